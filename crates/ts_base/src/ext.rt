@@ -1,0 +1,28 @@
+//! Whole numbers with the two infinities.
+
+ghost use Rattle.std.specs.Prelude.{◌≡◌};
+ghost use Rattle.ts_base.specs.Numbers.{ext_plus};
+
+/// A whole number or an infinity, in their usual order.
+#[derive(Clone, Copy, Debug, PartialEq, Eq, PartialOrd, Ord)]
+pub enum Ext {
+    NegInf,
+    Int(i64),
+    PosInf,
+}
+
+/// The sum of two numbers is held within -`CLAMP` and `CLAMP`.
+const CLAMP: i64 = 100_000_000_000_000_000;
+
+impl Ext {
+    /// The sum, numbers held within -10^17 and 10^17; `NegInf` is stronger than `PosInf`, and that than numbers.
+    pub fn plus(self, other: Ext) -> Ext
+        ensures { result ≡ ext_plus self other }
+    {
+        match (self, other) {
+            (Ext::NegInf, _) | (_, Ext::NegInf) => Ext::NegInf,
+            (Ext::PosInf, _) | (_, Ext::PosInf) => Ext::PosInf,
+            (Ext::Int(x), Ext::Int(y)) => Ext::Int(x.saturating_add(y).clamp(-CLAMP, CLAMP)),
+        }
+    }
+}

@@ -1,0 +1,25 @@
+//! The letters of a signature: how a cell compares with the next one.
+
+ghost use Rattle.std.specs.Prelude.{◌≡◌};
+ghost use Rattle.ts_base.specs.Signature.{letter_of};
+
+/// A letter of a signature, the present cell on its left (Global Constraint Catalog, Volume II).
+#[derive(Clone, Copy, Debug, PartialEq, Eq, PartialOrd, Ord)]
+pub enum Letter {
+    Less,
+    Equal,
+    Greater,
+}
+
+/// How `x` compares with `y`, the cell after it.
+pub fn letter_of(x: i64, y: i64) -> Letter
+    ensures { result ≡ letter_of x y }
+{
+    if x < y {
+        Letter::Less
+    } else if x == y {
+        Letter::Equal
+    } else {
+        Letter::Greater
+    }
+}
