@@ -18,6 +18,8 @@ pub mod memory;
 pub mod outside;
 pub mod range;
 pub mod standard;
+#[cfg(test)]
+mod tests;
 pub mod text;
 pub mod whole;
 

@@ -1,4 +1,4 @@
-use Rattle.std.proofs.Common.{◌≡◌, ◌≤◌, ◌+◌, ◌-◌, take, length, vec_len}
+use Rattle.std.proofs.Common.{◌≡◌, ◌≤◌, ◌+◌, ◌-◌, take, vec_len}
 use Rattle.ts_base.specs.Outside.{put_back}
 use Rattle.ts_base.proofs.whole.read_all.Given as goal
 

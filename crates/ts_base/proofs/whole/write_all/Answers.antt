@@ -1,4 +1,4 @@
-use Rattle.std.proofs.Common.{arith, ◌≤◌, ◌-◌, take, drop, length}
+use Rattle.std.proofs.Common.{arith}
 use Rattle.std.proofs.lemmas.List.{take_rest}
 use Rattle.ts_base.proofs.Pieces.{taken_further}
 use Rattle.ts_base.proofs.whole.write_all.Goals as goal
