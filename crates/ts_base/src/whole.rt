@@ -1,6 +1,6 @@
 //! The whole of a source, and the whole of a text to a sink.
 
-ghost use Rattle.std.specs.Prelude.{ℕ, ◌≡◌, ◌<◌, ◌≤◌, ◌+◌, ◌++◌, length, take, drop, Err, IfOk, OnOk, OnErr, IsErrOf, vec_len};
+ghost use Rattle.std.specs.Prelude.{ℕ, ◌≡◌, ◌<◌, ◌≤◌, ◌+◌, ◌++◌, length, take, drop, Err, IfOk, IfSome, OnOk, OnErr, IsErrOf, vec_len};
 ghost use Rattle.ts_base.specs.Outside.{AtEnd, GaveAtMost, HasMoreThan, Prefix, Rose, left_after, put_back, taken_more};
 ghost use Rattle.ts_base.specs.declared.whole.ReadStop.TheVariants.{ReadFault as FaultOfReading, Memory as NoMemory};
 
@@ -45,7 +45,8 @@ const PIECE: usize = 65_536;
 /// only where a read failed. At most `limit + 1` bytes are taken in every case.
 pub fn read_all<S: Source>(alloc: Global, source: &mut S, limit: usize) -> Result<Vec<u8>, ReadStop>
     requires { limit < 4000000000 }
-    ensures all { IfOk result (λ bytes. S.left source.old ≡ put_back bytes.items (S.left source.new)) }
+    ensures all { IfOk result (λ bytes. IfSome (S.left source.old) (λ left. left ≡ bytes.items)) }
+    ensures gave_all { IfOk result (λ bytes. S.left source.old ≡ put_back bytes.items (S.left source.new)) }
     ensures end { OnOk result (AtEnd (S.left source.new)) }
     ensures within { IfOk result (λ bytes. length bytes.items ≤ limit) }
 
