@@ -4,3 +4,5 @@ mod WordLaws
 mod RowLaws
 mod HalfLaws
 mod NumberLaws
+mod SliceLaws
+mod NumberTexts
