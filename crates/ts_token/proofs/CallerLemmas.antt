@@ -1,5 +1,5 @@
 -- Lines and words of a text that is known byte by byte, for the readers above.
-use Rattle.std.proofs.Common.{◌≡◌, ℕ, suc, ◌+◌, ◌<◌, ◌≤◌, ◌==◌, Bool, true, false, cond, ◌&&◌, List, [], ◌∷◌, ◌++◌, length, refl, sym, ap, subst, ◌∙◌, arith}
+use Rattle.std.proofs.Common.{◌≡◌, ℕ, ◌+◌, ◌==◌, Bool, true, false, cond, ◌&&◌, List, [], ◌∷◌, ◌++◌, length, refl, sym, ap, ◌∙◌, arith}
 use Rattle.std.proofs.lemmas.Bool.{eqb-true}
 use Rattle.std.specs.List.{list_all, AllByRecursion}
 use Rattle.ts_token.specs.Text.{is_lf, is_blank, is_plain, ends_here, stops_here, onto_line, onto_word, lines_of, is_text, Piece, words_from, words_of, is_skipped, Row, row_onto, rows_from, cut_of}
