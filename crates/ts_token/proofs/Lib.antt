@@ -5,4 +5,5 @@ mod RowLaws
 mod HalfLaws
 mod NumberLaws
 mod SliceLaws
-mod NumberTexts
+pub mod NumberTexts
+pub mod CallerLemmas
