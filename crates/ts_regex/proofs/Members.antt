@@ -58,8 +58,8 @@ pub after_member : (r : Shape) (xs : List Regex) (k : ℕ) (x : Regex) → k < l
 after_member r xs k x p q h e =
     subst (λ n. Passed r (map shape_of xs) n) (let n : suc k ≡ k + 1 = omega arith in n)
     (compared r xs k x After p q h (sym e)
-     ∙ sym (append_assoc (take k (map shape_of xs)) (shape_of x ∷ []) (inserted r (drop (suc k) (map shape_of xs))))
-     ∙ ap (λ z. z ++ inserted r (drop (suc k) (map shape_of xs))) (sym (front_at xs k x p q)))
+    ∙ sym (append_assoc (take k (map shape_of xs)) (shape_of x ∷ []) (inserted r (drop (suc k) (map shape_of xs))))
+    ∙ ap (λ z. z ++ inserted r (drop (suc k) (map shape_of xs))) (sym (front_at xs k x p q)))
 
 pub map_insert : (xs : List Regex) (k : ℕ) (r : Regex) → map shape_of (insert xs k r) ≡ insert (map shape_of xs) k (shape_of r)
 map_insert xs k r =

@@ -1,19 +1,17 @@
 //! Normal forms: expressions that differ in brackets, order and repeats alone get one form, so that a word read
 //! letter by letter leaves expressions of bounded size.
 
-use std::alloc::Global;
-use std::cmp::Ordering;
-
-use ts_base::Memory;
-
-use crate::regex::{Regex, alt, cat, star};
-
 ghost use Rattle.std.specs.Prelude.{◌≡◌, ◌↔◌, ◌≤◌, List, map, length, IfOk, OnOk, MatchResult};
 ghost use Rattle.std.specs.List.{insert};
 ghost use Rattle.ts_base.specs.declared.letter.Letter.{Letter};
 ghost use Rattle.ts_regex.specs.Shape.{shape_of};
 ghost use Rattle.ts_regex.specs.Language.{InLanguage};
 ghost use Rattle.ts_regex.specs.NormalForm.{chained, followed, normal_concat, members, inserted, inserted_all, nested, normal_union, normal_repeat, normal_form};
+
+use crate::regex::{Regex, alt, cat, star};
+use std::alloc::Global;
+use std::cmp::Ordering;
+use ts_base::Memory;
 
 /// The normal form, of the same language (Brzozowski 1964, similar expressions).
 #[tactic(auto, using(crate::proofs::Laws::normal_law))]
@@ -81,7 +79,10 @@ fn chain(alloc: Global, r: Regex, t: Regex) -> Result<Regex, Memory>
     ensures { IfOk result (λ n. shape_of n ≡ chained (shape_of r) (shape_of t)) }
 {
     match r {
-        Regex::Cat(first, rest) => Ok(Regex::Cat(first, Box::new(alloc, chain(alloc, Box::into_inner(rest), t)?)?)),
+        Regex::Cat(first, rest) => Ok(Regex::Cat(
+            first,
+            Box::new(alloc, chain(alloc, Box::into_inner(rest), t)?)?,
+        )),
         first => Ok(cat(alloc, first, t)?),
     }
 }

@@ -1,11 +1,10 @@
 //! The expressions.
 
-use std::alloc::Global;
-
-use ts_base::{Letter, Memory};
-
 ghost use Rattle.std.specs.Prelude.{◌≡◌, IfOk};
 ghost use Rattle.ts_regex.specs.Shape.{shape_of, Concat, Union, Repeat};
+
+use std::alloc::Global;
+use ts_base::{Letter, Memory};
 
 /// A regular expression over the letters of a signature.
 #[derive(Debug, Drop)]
