@@ -3,7 +3,7 @@ use Rattle.std.specs.Prelude.{◌≡◌, ℕ, suc, ◌+◌, ◌<◌, List, [], �
 use Rattle.std.specs.declared.cmp.Ordering.{Ordering}
 use Rattle.std.specs.declared.cmp.Ordering.TheVariants.{Less as Before, Equal as Same, Greater as After}
 use Rattle.std.specs.List.{insert}
-use Rattle.std.proofs.Common.{sym, ◌∙◌, ap, subst, append_assoc, add-one, arith}
+use Rattle.std.proofs.Common.{sym, ◌∙◌, ap, subst, append_assoc, arith}
 use Rattle.std.proofs.lemmas.List.{map-append, length-map, get_or-map, take-append-drop}
 use Rattle.std.specs.List.{take-map, drop-map}
 use Rattle.std.proofs.Math.Seq.{drop-cons, take-suc}

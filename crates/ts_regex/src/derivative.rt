@@ -1,6 +1,7 @@
 //! What is left of a language after a letter, and the tests that read it off an expression.
 //!
-//! Each call goes down the expression once by a method of its name's meaning, and adds what that says of the language.
+//! A private method goes down the expression as the definition does; the public call adds what that says of the
+//! language.
 
 ghost use Rattle.std.specs.Prelude.{◌≡◌, ◌↔◌, List, [], ◌∷◌, IfOk, IsTrue};
 ghost use Rattle.ts_base.specs.declared.letter.Letter.{Letter};

@@ -97,8 +97,9 @@ fn normal_alt(alloc: Global, r: Regex, s: Regex) -> Result<Regex, Memory>
     Ok(nest(alloc, found)?)
 }
 
-// Puts `r` into its place among sorted members, unless it stands there. The place is found from the front: the
-// members of a residual are few (at most six in the catalogue's patterns), and those of a sorted part come last first.
+// Puts `r` into its place among sorted members, unless it stands there. The place is found from the front, so m members
+// may take m * m / 2 comparisons. That doesn't matter: a residual of the catalogue's patterns has at most three members,
+// and those of a part, which are sorted, come last first, with one comparison each where they stand before all others.
 fn insert_member(found: &mut Vec<Regex>, r: Regex) -> Result<(), Memory>
     ensures { OnOk result (map shape_of found.new.items ≡ inserted (shape_of r) (map shape_of found.old.items)) }
 {

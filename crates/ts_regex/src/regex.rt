@@ -24,7 +24,7 @@ pub enum Regex {
 }
 
 impl Regex {
-    /// Another expression of the same form.
+    /// Another expression of the same form; `Memory` where none is left.
     pub fn copy(&self, alloc: Global) -> Result<Regex, Memory>
         ensures { IfOk result (λ r. shape_of r ≡ shape_of self.now) }
     {
