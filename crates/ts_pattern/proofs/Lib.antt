@@ -1,1 +1,4 @@
 pub mod OneLetter
+pub mod Entries
+pub mod LiveEntries
+pub mod Ends

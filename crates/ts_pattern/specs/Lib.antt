@@ -1,1 +1,4 @@
 pub mod Occurrences
+pub mod Entries
+pub mod Closed
+pub mod Plans

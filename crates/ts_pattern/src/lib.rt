@@ -2,5 +2,7 @@
 #![tactic(auto)]
 
 pub mod pattern;
+pub mod plan;
 
 pub use pattern::Pattern;
+pub use plan::{Configuration, Live, Plan, Tag};
