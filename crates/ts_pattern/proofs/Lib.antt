@@ -1,2 +1,5 @@
 pub mod Names
 pub mod OneLetter
+pub mod Entries
+pub mod LiveEntries
+pub mod Ends

@@ -1,2 +1,5 @@
 pub mod Names
 pub mod Occurrences
+pub mod Entries
+pub mod Closed
+pub mod Plans

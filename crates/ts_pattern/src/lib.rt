@@ -3,10 +3,12 @@
 
 pub mod name;
 pub mod pattern;
+pub mod plan;
 pub mod term;
 
 pub use name::{
     Aggregator, Feature, PatternId, aggregator_of, feature_of, pattern_name, pattern_of,
 };
 pub use pattern::Pattern;
+pub use plan::{Configuration, Live, Plan, Tag};
 pub use term::Term;

@@ -1,0 +1,4 @@
+pub mod Booleans
+pub mod Derivatives
+pub mod NormalForms
+pub mod Laws
