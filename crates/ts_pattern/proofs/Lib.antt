@@ -3,3 +3,4 @@ pub mod OneLetter
 pub mod Entries
 pub mod LiveEntries
 pub mod Ends
+pub mod LeastLength

@@ -1,4 +1,6 @@
 pub mod Names
+pub mod PatternTable
+pub mod Trims
 pub mod Occurrences
 pub mod Entries
 pub mod Closed

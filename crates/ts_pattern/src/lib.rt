@@ -4,6 +4,7 @@
 pub mod name;
 pub mod pattern;
 pub mod plan;
+pub mod table;
 pub mod term;
 
 pub use name::{
@@ -11,4 +12,5 @@ pub use name::{
 };
 pub use pattern::Pattern;
 pub use plan::{Configuration, Live, Plan, Tag};
+pub use table::pattern_by_id;
 pub use term::Term;
