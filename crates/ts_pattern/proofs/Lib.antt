@@ -2,3 +2,4 @@ pub mod OneLetter
 pub mod Entries
 pub mod LiveEntries
 pub mod Ends
+pub mod Places
