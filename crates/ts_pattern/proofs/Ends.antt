@@ -6,9 +6,10 @@ use Rattle.ts_base.specs.declared.letter.Letter.{Letter}
 use Rattle.ts_regex.specs.Shape.{Shape}
 use Rattle.ts_regex.specs.Language.{InLanguage}
 use Rattle.ts_pattern.specs.Occurrences.{IsMatch}
+use Rattle.ts_pattern.specs.EachOf.{Each, OneOf}
 use Rattle.ts_pattern.specs.Entries.{Entry, Residuals, survivors}
 use Rattle.ts_pattern.proofs.OneLetter.{NoneEnds, IsLeastStart}
-use Rattle.ts_pattern.proofs.Entries.{Each, OneOf, Rising, AreRight, Covers, rising_lower}
+use Rattle.ts_pattern.proofs.Entries.{Rising, AreRight, Covers, rising_lower}
 use Rattle.ts_pattern.proofs.LiveEntries.{Follows, AreLive, drop_more, follows_step, each_survivor, rising_survivors, covers_survivors}
 
 pub each_and : {A : Type 0} (p q : A → Type 0) (es : List A) → Each p es → Each q es → Each (λ x. p x × q x) es

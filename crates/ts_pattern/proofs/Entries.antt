@@ -7,20 +7,8 @@ use Rattle.ts_base.specs.declared.letter.Letter.{Letter}
 use Rattle.ts_regex.specs.Shape.{Shape}
 use Rattle.ts_regex.specs.Language.{InLanguage}
 use Rattle.ts_regex.proofs.Laws.{residual_law, no_word, same_law}
+use Rattle.ts_pattern.specs.EachOf.{Each, OneOf}
 use Rattle.ts_pattern.specs.Entries.{Entry, Residuals, shapes, alive, without, keep}
-
--- P holds of each, of some, of the first
-abbrev pub Each : {A : Type 0} → (A → Type 0) → List A → Type 0
-Each p [] = Unit {0}
-Each p (e ∷ es) = p e × Each p es
-
-abbrev pub OneOf : {A : Type 0} → (A → Type 0) → List A → Type 0
-OneOf p [] = ⊥
-OneOf p (e ∷ es) = p e ⊎ OneOf p es
-
-abbrev pub First : {A : Type 0} → (A → Type 0) → List A → Type 0
-First p [] = ⊥
-First p (e ∷ es) = p e
 
 -- the starts rise strictly, from low on
 abbrev pub Rising : {T : Type 0} → ℕ → List (Entry ℕ Shape T) → Type 0

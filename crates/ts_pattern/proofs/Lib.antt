@@ -3,4 +3,5 @@ pub mod OneLetter
 pub mod Entries
 pub mod LiveEntries
 pub mod Ends
+pub mod Places
 pub mod LeastLength

@@ -7,8 +7,9 @@ use Rattle.std.proofs.lemmas.List.{drop-append-le}
 use Rattle.ts_base.specs.declared.letter.Letter.{Letter}
 use Rattle.ts_regex.specs.Shape.{Shape}
 use Rattle.ts_regex.specs.Language.{InLanguage}
+use Rattle.ts_pattern.specs.EachOf.{Each, OneOf}
 use Rattle.ts_pattern.specs.Entries.{Entry, Residuals, derive_entry, derived, alive, survivors}
-use Rattle.ts_pattern.proofs.Entries.{Each, OneOf, Rising, AreRight, Covers, each_filter, each_keep, rising_filter, rising_keep, some_alive, some_keep}
+use Rattle.ts_pattern.proofs.Entries.{Rising, AreRight, Covers, each_filter, each_keep, rising_filter, rising_keep, some_alive, some_keep}
 
 -- lists with one more at the end
 pub each_push : {A : Type 0} (p : A → Type 0) (es : List A) (e : A) → Each p es → p e → Each p (es ++ e ∷ [])

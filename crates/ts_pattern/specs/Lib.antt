@@ -2,6 +2,8 @@ pub mod Names
 pub mod PatternTable
 pub mod Trims
 pub mod Occurrences
+pub mod EachOf
+pub mod OccurrenceList
 pub mod Entries
 pub mod Closed
 pub mod Plans
