@@ -5,3 +5,4 @@ pub mod LiveEntries
 pub mod Ends
 pub mod Places
 pub mod LeastLength
+pub mod AllOccurrences

@@ -4,6 +4,7 @@ pub mod Trims
 pub mod Occurrences
 pub mod EachOf
 pub mod OccurrenceList
+pub mod AllOccurrences
 pub mod Entries
 pub mod Closed
 pub mod Plans
