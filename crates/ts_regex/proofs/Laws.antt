@@ -1,6 +1,6 @@
 -- The laws of expressions that the crates above stand on, one for each call and test.
-use Rattle.std.specs.Prelude.{◌≡◌, ◌↔◌, Bool, true, false, List, [], ◌∷◌, refl}
-use Rattle.std.proofs.Common.{sym, ◌∙◌, ap, subst}
+use Rattle.std.specs.Prelude.{◌≡◌, ◌↔◌, true, false, List, [], ◌∷◌, refl}
+use Rattle.std.proofs.Common.{sym, subst}
 use Rattle.std.specs.Ordering.{is_eq}
 use Rattle.ts_base.specs.declared.letter.Letter.{Letter}
 use Rattle.ts_regex.specs.Shape.{Shape}
@@ -9,7 +9,7 @@ use Rattle.ts_regex.specs.Derivative.{nullable, derivative, has_word, has_longer
 use Rattle.ts_regex.specs.NormalForm.{shape_cmp, same_shape, normal_form, residual}
 use Rattle.ts_regex.specs.Membership.{is_word}
 use Rattle.ts_regex.proofs.Booleans.{refuted}
-use Rattle.ts_regex.proofs.Derivatives.{HasLonger, nullable_to, nullable_back, derivative_to, derivative_back, word_to, word_back, longer_to, longer_back}
+use Rattle.ts_regex.proofs.Derivatives.{nullable_to, nullable_back, derivative_to, derivative_back, word_to, word_back, longer_to, longer_back}
 use Rattle.ts_regex.proofs.NormalForms.{cmp_equal, cmp_itself, is_same, normal_to, normal_back}
 
 pub nullable_law : (r : Shape) → (nullable r ≡ true) ↔ InLanguage r []

@@ -3,7 +3,7 @@ use Rattle.std.specs.Prelude.{◌≡◌, ℕ, suc, ◌+◌, ◌<◌, List, [], �
 use Rattle.std.specs.declared.cmp.Ordering.{Ordering}
 use Rattle.std.specs.declared.cmp.Ordering.TheVariants.{Less as Before, Equal as Same, Greater as After}
 use Rattle.std.specs.List.{insert}
-use Rattle.std.proofs.Common.{sym, ◌∙◌, ap, subst, append_assoc, add-one, arith}
+use Rattle.std.proofs.Common.{sym, ◌∙◌, ap, subst, append_assoc, arith}
 use Rattle.std.proofs.lemmas.List.{map-append, length-map, get_or-map, take-append-drop}
 use Rattle.std.specs.List.{take-map, drop-map}
 use Rattle.std.proofs.Math.Seq.{drop-cons, take-suc}
@@ -58,8 +58,8 @@ pub after_member : (r : Shape) (xs : List Regex) (k : ℕ) (x : Regex) → k < l
 after_member r xs k x p q h e =
     subst (λ n. Passed r (map shape_of xs) n) (let n : suc k ≡ k + 1 = omega arith in n)
     (compared r xs k x After p q h (sym e)
-     ∙ sym (append_assoc (take k (map shape_of xs)) (shape_of x ∷ []) (inserted r (drop (suc k) (map shape_of xs))))
-     ∙ ap (λ z. z ++ inserted r (drop (suc k) (map shape_of xs))) (sym (front_at xs k x p q)))
+    ∙ sym (append_assoc (take k (map shape_of xs)) (shape_of x ∷ []) (inserted r (drop (suc k) (map shape_of xs))))
+    ∙ ap (λ z. z ++ inserted r (drop (suc k) (map shape_of xs))) (sym (front_at xs k x p q)))
 
 pub map_insert : (xs : List Regex) (k : ℕ) (r : Regex) → map shape_of (insert xs k r) ≡ insert (map shape_of xs) k (shape_of r)
 map_insert xs k r =

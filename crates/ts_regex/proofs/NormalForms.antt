@@ -1,5 +1,5 @@
 -- The order of expressions tells different ones apart, and normal forms keep the language.
-use Rattle.std.specs.Prelude.{◌≡◌, ◌⊎◌, ◌↔◌, Bool, true, false, List, [], ◌∷◌, ◌++◌, refl}
+use Rattle.std.specs.Prelude.{◌≡◌, ◌⊎◌, true, false, List, [], ◌∷◌, ◌++◌, refl}
 use Rattle.std.specs.declared.cmp.Ordering.{Ordering}
 use Rattle.std.specs.declared.cmp.Ordering.TheVariants.{Less as Before, Equal as Same, Greater as After}
 use Rattle.std.specs.Ordering.{nat_cmp, ordering_then, is_eq}
@@ -11,7 +11,7 @@ use Rattle.ts_base.specs.declared.letter.Letter.TheVariants.{Less, Equal, Greate
 use Rattle.ts_regex.specs.Shape.{Shape, NoWord, EmptyWord, OneLetter, Concat, Union, Repeat}
 use Rattle.ts_regex.specs.Language.{IsRepeated, NoMore, OnceMore, InLanguage}
 use Rattle.ts_regex.specs.Derivative.{letter_rank}
-use Rattle.ts_regex.specs.NormalForm.{shape_cmp, same_shape, chained, followed, normal_concat, members, inserted, inserted_all, nested, normal_union, normal_repeat, normal_form}
+use Rattle.ts_regex.specs.NormalForm.{shape_cmp, chained, followed, normal_concat, members, inserted, inserted_all, nested, normal_union, normal_repeat, normal_form}
 use Rattle.ts_regex.proofs.Derivatives.{nil_cons}
 
 -- ---- the order

@@ -1,18 +1,17 @@
 //! What is left of a language after a letter, and the tests that read it off an expression.
 //!
-//! Each call goes down the expression once by a method of its name's meaning, and adds what that says of the language.
-
-use std::alloc::Global;
-
-use ts_base::{Letter, Memory};
-
-use crate::regex::{Regex, alt, cat};
+//! A private method goes down the expression as the definition does; the public call adds what that says of the
+//! language.
 
 ghost use Rattle.std.specs.Prelude.{◌≡◌, ◌↔◌, List, [], ◌∷◌, IfOk, IsTrue};
 ghost use Rattle.ts_base.specs.declared.letter.Letter.{Letter};
 ghost use Rattle.ts_regex.specs.Shape.{shape_of};
 ghost use Rattle.ts_regex.specs.Language.{InLanguage};
 ghost use Rattle.ts_regex.specs.Derivative.{nullable, derivative, has_word, has_longer};
+
+use crate::regex::{Regex, alt, cat};
+use std::alloc::Global;
+use ts_base::{Letter, Memory};
 
 /// Whether the empty word is in the language.
 #[tactic(auto, using(crate::proofs::Laws::nullable_law))]
@@ -79,7 +78,8 @@ impl Regex {
         match self {
             Regex::Empty | Regex::Eps => false,
             Regex::One(_) => true,
-            Regex::Cat(r, s) => (r.accepts_longer() && s.accepts_some()) || (r.accepts_some() && s.accepts_longer()),
+            Regex::Cat(r, s) => (r.accepts_longer() && s.accepts_some())
+                || (r.accepts_some() && s.accepts_longer()),
             Regex::Alt(r, s) => r.accepts_longer() || s.accepts_longer(),
             Regex::Star(r) => r.accepts_longer(),
         }

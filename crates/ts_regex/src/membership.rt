@@ -1,16 +1,14 @@
 //! Membership of a word in a language.
 
-use std::alloc::Global;
-
-use ts_base::{Letter, Memory};
+ghost use Rattle.std.specs.Prelude.{◌↔◌, IfOk, IsTrue};
+ghost use Rattle.ts_regex.specs.Shape.{shape_of};
+ghost use Rattle.ts_regex.specs.Language.{InLanguage};
 
 use crate::derivative::{derive, nullable};
 use crate::normal_form::normal;
 use crate::regex::Regex;
-
-ghost use Rattle.std.specs.Prelude.{◌↔◌, IfOk, IsTrue};
-ghost use Rattle.ts_regex.specs.Shape.{shape_of};
-ghost use Rattle.ts_regex.specs.Language.{InLanguage};
+use std::alloc::Global;
+use ts_base::{Letter, Memory};
 
 /// Whether `w` is in the language. Each letter is read once; what is left is simplified after it, so that it stays small.
 pub fn member(alloc: Global, r: &Regex, w: &[Letter]) -> Result<bool, Memory>

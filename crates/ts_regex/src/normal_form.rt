@@ -1,19 +1,17 @@
 //! Normal forms: expressions that differ in brackets, order and repeats alone get one form, so that a word read
 //! letter by letter leaves expressions of bounded size.
 
-use std::alloc::Global;
-use std::cmp::Ordering;
-
-use ts_base::Memory;
-
-use crate::regex::{Regex, alt, cat, star};
-
 ghost use Rattle.std.specs.Prelude.{◌≡◌, ◌↔◌, ◌≤◌, List, map, length, IfOk, OnOk, MatchResult};
 ghost use Rattle.std.specs.List.{insert};
 ghost use Rattle.ts_base.specs.declared.letter.Letter.{Letter};
 ghost use Rattle.ts_regex.specs.Shape.{shape_of};
 ghost use Rattle.ts_regex.specs.Language.{InLanguage};
 ghost use Rattle.ts_regex.specs.NormalForm.{chained, followed, normal_concat, members, inserted, inserted_all, nested, normal_union, normal_repeat, normal_form};
+
+use crate::regex::{Regex, alt, cat, star};
+use std::alloc::Global;
+use std::cmp::Ordering;
+use ts_base::Memory;
 
 /// The normal form, of the same language (Brzozowski 1964, similar expressions).
 #[tactic(auto, using(crate::proofs::Laws::normal_law))]
@@ -81,7 +79,10 @@ fn chain(alloc: Global, r: Regex, t: Regex) -> Result<Regex, Memory>
     ensures { IfOk result (λ n. shape_of n ≡ chained (shape_of r) (shape_of t)) }
 {
     match r {
-        Regex::Cat(first, rest) => Ok(Regex::Cat(first, Box::new(alloc, chain(alloc, Box::into_inner(rest), t)?)?)),
+        Regex::Cat(first, rest) => Ok(Regex::Cat(
+            first,
+            Box::new(alloc, chain(alloc, Box::into_inner(rest), t)?)?,
+        )),
         first => Ok(cat(alloc, first, t)?),
     }
 }
@@ -96,8 +97,9 @@ fn normal_alt(alloc: Global, r: Regex, s: Regex) -> Result<Regex, Memory>
     Ok(nest(alloc, found)?)
 }
 
-// Puts `r` into its place among sorted members, unless it stands there. The place is found from the front: the
-// members of a residual are few (at most six in the catalogue's patterns), and those of a sorted part come last first.
+// Puts `r` into its place among sorted members, unless it stands there. The place is found from the front, so m members
+// may take m * m / 2 comparisons. That doesn't matter: a residual of the catalogue's patterns has at most three members,
+// and those of a part, which are sorted, come last first, with one comparison each where they stand before all others.
 fn insert_member(found: &mut Vec<Regex>, r: Regex) -> Result<(), Memory>
     ensures { OnOk result (map shape_of found.new.items ≡ inserted (shape_of r) (map shape_of found.old.items)) }
 {

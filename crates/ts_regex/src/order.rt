@@ -1,12 +1,11 @@
 //! The order of expressions: by the variant as declared, then by the parts from left to right.
 
-use std::cmp::Ordering;
-
-use crate::regex::Regex;
-
 ghost use Rattle.std.specs.Prelude.{◌≡◌, ◌↔◌, IsTrue};
 ghost use Rattle.ts_regex.specs.Shape.{shape_of};
 ghost use Rattle.ts_regex.specs.NormalForm.{shape_rank, shape_cmp, same_shape};
+
+use crate::regex::Regex;
+use std::cmp::Ordering;
 
 impl Regex {
     /// Whether the two have the same form; their pointers don't count.
@@ -24,10 +23,11 @@ impl Regex {
     {
         match (self, other) {
             (Regex::One(l), Regex::One(m)) => l.cmp(m),
-            (Regex::Cat(r, s), Regex::Cat(t, u)) | (Regex::Alt(r, s), Regex::Alt(t, u)) => match r.compare(t) {
-                Ordering::Equal => s.compare(u),
-                different => different,
-            },
+            (Regex::Cat(r, s), Regex::Cat(t, u)) | (Regex::Alt(r, s), Regex::Alt(t, u)) =>
+                match r.compare(t) {
+                    Ordering::Equal => s.compare(u),
+                    different => different,
+                },
             (Regex::Star(r), Regex::Star(s)) => r.compare(s),
             _ => self.rank().cmp(&other.rank()),
         }

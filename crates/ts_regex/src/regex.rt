@@ -1,11 +1,10 @@
 //! The expressions.
 
-use std::alloc::Global;
-
-use ts_base::{Letter, Memory};
-
 ghost use Rattle.std.specs.Prelude.{◌≡◌, IfOk};
 ghost use Rattle.ts_regex.specs.Shape.{shape_of, Concat, Union, Repeat};
+
+use std::alloc::Global;
+use ts_base::{Letter, Memory};
 
 /// A regular expression over the letters of a signature.
 #[derive(Debug, Drop)]
@@ -25,7 +24,7 @@ pub enum Regex {
 }
 
 impl Regex {
-    /// Another expression of the same form.
+    /// Another expression of the same form; `Memory` where none is left.
     pub fn copy(&self, alloc: Global) -> Result<Regex, Memory>
         ensures { IfOk result (λ r. shape_of r ≡ shape_of self.now) }
     {

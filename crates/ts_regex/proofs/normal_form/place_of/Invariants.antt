@@ -1,6 +1,5 @@
-use Rattle.std.proofs.Common.{◌≡◌, ◌++◌, map, take, drop}
-use Rattle.ts_regex.specs.Shape.{Shape, shape_of}
-use Rattle.ts_regex.specs.NormalForm.{inserted}
+use Rattle.std.proofs.Common.{map}
+use Rattle.ts_regex.specs.Shape.{shape_of}
 use Rattle.ts_regex.proofs.Members.{Passed}
 use Rattle.ts_regex.proofs.normal_form.place_of.Given as goal
 
