@@ -3,3 +3,4 @@ pub mod Entries
 pub mod LiveEntries
 pub mod Ends
 pub mod Places
+pub mod Renamed

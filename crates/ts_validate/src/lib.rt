@@ -1,0 +1,2 @@
+//! Transducers against patterns.
+#![tactic(auto)]
