@@ -11,7 +11,7 @@ use Rattle.ts_base.specs.declared.letter.Letter.TheVariants.{Less, Equal, Greate
 use Rattle.ts_regex.specs.Shape.{Shape, NoWord, EmptyWord, OneLetter, Concat, Union, Repeat}
 use Rattle.ts_regex.specs.Language.{IsRepeated, NoMore, OnceMore, InLanguage}
 use Rattle.ts_regex.specs.Derivative.{letter_rank}
-use Rattle.ts_regex.specs.NormalForm.{shape_cmp, same_shape, chained, followed, normal_concat, members, inserted, sorted_once, nested, normal_union, normal_repeat, normal_form}
+use Rattle.ts_regex.specs.NormalForm.{shape_cmp, same_shape, chained, followed, normal_concat, members, inserted, inserted_all, nested, normal_union, normal_repeat, normal_form}
 use Rattle.ts_regex.proofs.Derivatives.{nil_cons}
 
 -- ---- the order
@@ -146,13 +146,13 @@ pub inserted_back : (r : Shape) (ss : List Shape) (w : List Letter) → InLangua
 inserted_back r [] w h = h
 inserted_back r (s ∷ ss) w h = placed_back (shape_cmp r s) r s ss w refl (λ k. inserted_back r ss w k) h
 
-pub sorted_to : (rs : List Shape) (w : List Letter) → HasMember (sorted_once rs) w → HasMember rs w
-sorted_to [] w h = h
-sorted_to (r ∷ rs) w h = ⊎_elim (λ a. inl a) (λ a. inr (sorted_to rs w a)) (inserted_to r (sorted_once rs) w h)
+pub all_to : (rs : List Shape) (w : List Letter) → HasMember (inserted_all rs []) w → HasMember rs w
+all_to [] w h = h
+all_to (r ∷ rs) w h = ⊎_elim (λ a. inl a) (λ a. inr (all_to rs w a)) (inserted_to r (inserted_all rs []) w h)
 
-pub sorted_back : (rs : List Shape) (w : List Letter) → HasMember rs w → HasMember (sorted_once rs) w
-sorted_back [] w h = h
-sorted_back (r ∷ rs) w h = inserted_back r (sorted_once rs) w (⊎_elim (λ a. inl a) (λ a. inr (sorted_back rs w a)) h)
+pub all_back : (rs : List Shape) (w : List Letter) → HasMember rs w → HasMember (inserted_all rs []) w
+all_back [] w h = h
+all_back (r ∷ rs) w h = inserted_back r (inserted_all rs []) w (⊎_elim (λ a. inl a) (λ a. inr (all_back rs w a)) h)
 
 pub nested_to : (rs : List Shape) (w : List Letter) → InLanguage (nested rs) w → HasMember rs w
 nested_to [] w h = h
@@ -165,10 +165,10 @@ nested_back (r ∷ []) w h = ⊎_elim (λ a. a) (λ a. absurd a) h
 nested_back (r ∷ s ∷ ss) w h = ⊎_elim (λ a. inl a) (λ a. inr (nested_back (s ∷ ss) w a)) h
 
 pub union_to : (r s : Shape) (w : List Letter) → InLanguage (normal_union r s) w → InLanguage (Union r s) w
-union_to r s w h = members_to (Union r s) w (sorted_to (members r ++ members s) w (nested_to (sorted_once (members r ++ members s)) w h))
+union_to r s w h = members_to (Union r s) w (all_to (members r ++ members s) w (nested_to (inserted_all (members r ++ members s) []) w h))
 
 pub union_back : (r s : Shape) (w : List Letter) → InLanguage (Union r s) w → InLanguage (normal_union r s) w
-union_back r s w h = nested_back (sorted_once (members r ++ members s)) w (sorted_back (members r ++ members s) w (members_back (Union r s) w h))
+union_back r s w h = nested_back (inserted_all (members r ++ members s) []) w (all_back (members r ++ members s) w (members_back (Union r s) w h))
 
 -- ---- Repeat
 

@@ -55,10 +55,10 @@ abbrev pub inserted : Shape → List Shape → List Shape
 inserted r [] = r ∷ []
 inserted r (s ∷ ss) = elim (shape_cmp r s) as (λ o. List Shape) [ Before ↦ r ∷ s ∷ ss | Same ↦ s ∷ ss | After ↦ s ∷ inserted r ss ]
 
--- sorted, each member once
-abbrev pub sorted_once : List Shape → List Shape
-sorted_once [] = []
-sorted_once (r ∷ rs) = inserted r (sorted_once rs)
+-- each in its place among sorted members
+abbrev pub inserted_all : List Shape → List Shape → List Shape
+inserted_all [] ss = ss
+inserted_all (r ∷ rs) ss = inserted r (inserted_all rs ss)
 
 -- the union of the members, nested to the right
 abbrev pub nested : List Shape → Shape
@@ -66,9 +66,9 @@ nested [] = NoWord
 nested (r ∷ []) = r
 nested (r ∷ s ∷ ss) = Union r (nested (s ∷ ss))
 
--- a Union of two normal forms
+-- a Union of two normal forms: its members sorted, each once
 abbrev pub normal_union : Shape → Shape → Shape
-normal_union r s = nested (sorted_once (members r ++ members s))
+normal_union r s = nested (inserted_all (members r ++ members s) [])
 
 -- a Repeat of a normal form
 abbrev pub normal_repeat : Shape → Shape
