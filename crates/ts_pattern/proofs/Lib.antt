@@ -4,3 +4,4 @@ pub mod LiveEntries
 pub mod Ends
 pub mod Places
 pub mod Renamed
+pub mod Tested
