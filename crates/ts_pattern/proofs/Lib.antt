@@ -1,3 +1,4 @@
+pub mod Names
 pub mod OneLetter
 pub mod Entries
 pub mod LiveEntries
@@ -5,3 +6,5 @@ pub mod Ends
 pub mod Places
 pub mod Renamed
 pub mod Tested
+pub mod LeastLength
+pub mod AllOccurrences
