@@ -20,6 +20,7 @@ use Rattle.ts_pattern.specs.OccurrenceList.{Place, e_range, AreRanges}
 use Rattle.ts_pattern.specs.Entries.{Entry, shapes, survivors}
 use Rattle.ts_pattern.specs.Closed.{PlainConfiguration, Subject, first_tag, no_ind, retag, appended, stepped, entries_agree, step_listed, meets_checks, LeadsTo, FromStart, OneStepOn, Reached, IsClosed}
 use Rattle.ts_pattern.specs.Plans.{PlainPlan, subject}
+use Rattle.ts_pattern.proofs.AllOccurrences.{ranges_are}
 use Rattle.ts_pattern.proofs.Entries.{shapes_right}
 use Rattle.ts_pattern.proofs.Renamed.{renamed, NextAgrees, WordsAgree, survivors_renamed, retag_renamed, no_ind_renamed, map_append, agree_renamed}
 use Rattle.ts_validate.specs.Valid.{IsValid}
@@ -127,4 +128,4 @@ pub closed_valid : (rows : List Row) → is_typed rows ≡ true → (p : Shape) 
 closed_valid rows ty p b a plan cl w =
     let x : Trace = run rows (normal_form p) a b 0 0 no_trace w in
     let h : IsTraced p a b w x = traced_run rows ty p b a plan cl w [] 0 0 no_trace refl (sym (idle_kind (kind_at rows 0) (start_idle rows ty))) ([], FromStart [] (record { state = 0; live = [] }) refl refl) (traced_start p a b) in
-    (x.done ++ listed x.pair, h.places, sym (run_decodes rows (normal_form p) a b 0 0 no_trace w) ∙ decoded_is p a b w x h)
+    ranges_are p b a w (decode rows a w) (x.done ++ listed x.pair, h.places, sym (run_decodes rows (normal_form p) a b 0 0 no_trace w) ∙ decoded_is p a b w x h)

@@ -4,3 +4,6 @@ pub mod OneMore
 pub mod Step
 pub mod Checks
 pub mod Law
+pub mod Younger
+pub mod Numbering
+pub mod Transfer

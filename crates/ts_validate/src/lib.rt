@@ -1,2 +1,5 @@
 //! Transducers against patterns.
 #![tactic(auto)]
+
+pub mod known;
+pub mod tags;
