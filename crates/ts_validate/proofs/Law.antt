@@ -26,7 +26,7 @@ use Rattle.ts_pattern.proofs.Renamed.{renamed, NextAgrees, WordsAgree, survivors
 use Rattle.ts_validate.specs.Valid.{IsValid}
 use Rattle.ts_validate.proofs.Keeps.{Typed, both_true, typed_move, idle_kind}
 use Rattle.ts_validate.proofs.Traces.{MeetsChecks, Trace, IsTraced, trace_step}
-use Rattle.ts_validate.proofs.Step.{traced_step, traced_start, no_trace, decoded, decoded_is}
+use Rattle.ts_validate.proofs.TraceStep.{traced_step, traced_start, no_trace, decoded, decoded_is}
 use Rattle.ts_validate.proofs.Checks.{checks_met}
 
 abbrev phase_at : List Row → ℕ → Letter → Phase

@@ -1,7 +1,7 @@
 -- The residuals of a plan by their numbers: the tests on them read a table. The number of all residuals stands for one
 -- without a word, and that plus 1 for one that the plan doesn't list.
-use Rattle.std.specs.Prelude.{ℕ, ◌+◌, ◌==◌, nat_le, Bool, false, not, if◌then◌else◌, List, [], ◌∷◌, Option, None, Some, map, length, slice_get}
-use Rattle.std.specs.List.{list_all}
+use Rattle.std.specs.Prelude.{ℕ, ◌+◌, ◌==◌, nat_le, Bool, false, not, ◌&&◌, if◌then◌else◌, List, [], ◌∷◌, ◌++◌, Option, None, Some, is_some, map, length, slice_get}
+use Rattle.std.specs.List.{list_all, list_any, position}
 use Rattle.ts_base.specs.declared.letter.Letter.{Letter}
 use Rattle.ts_base.specs.declared.letter.Letter.TheVariants.{Less, Equal, Greater}
 use Rattle.ts_regex.specs.Shape.{Shape}
@@ -9,8 +9,9 @@ use Rattle.ts_regex.specs.Derivative.{nullable, has_word, has_longer}
 use Rattle.ts_regex.specs.NormalForm.{residual, same_shape}
 use Rattle.ts_transducer.specs.declared.row.Row.{Row}
 use Rattle.ts_pattern.specs.declared.plan.Tag.{Tag}
-use Rattle.ts_pattern.specs.Entries.{Entry, Residuals}
-use Rattle.ts_pattern.specs.Closed.{PlainConfiguration, Subject}
+use Rattle.ts_pattern.specs.Entries.{Entry, Residuals, derive_entry}
+use Rattle.ts_pattern.specs.Closed.{PlainConfiguration, Subject, no_ind, move_of, before, kept, stepped, entries_agree, same_configuration}
+use Rattle.ts_transducer.specs.Decode.{row_at}
 use Rattle.ts_validate.specs.declared.known.Known.{Known}
 
 -- the least number of a residual, or the number of all plus 1
@@ -62,3 +63,17 @@ numbered rows table b configurations =
 -- each residual after the letter that has a word is listed
 abbrev pub all_listed : {X T : Type 0} → List Known → Letter → List (Entry X ℕ T) → Bool
 all_listed table l es = list_all (λ e. nat_le (next_on l (known_at table e.residual)) (length table)) es
+
+-- what is left of one more entry, beside those that are left of the entries before it
+abbrev pub joined : {X R T : Type 0} → Residuals R → Letter → Entry X R T → List (Entry X R T) → List (Entry X R T)
+joined t l e ks =
+    if t.has_word (t.next e.residual l) && not (list_any (λ k. t.same k.residual (t.next e.residual l)) ks) then ks ++ derive_entry t l e ∷ [] else ks
+
+-- where the step of x is listed first, if each residual after it is listed
+abbrev pub next_place : List Known → Subject ℕ → PlainConfiguration ℕ → Letter → Option ℕ
+next_place table s x l =
+    if all_listed table l (before s x) then position (λ y. same_configuration s.on y (stepped s x l)) s.configurations else None
+
+abbrev pub number_meets : List Known → Subject ℕ → PlainConfiguration ℕ → Letter → Bool
+number_meets table s x l =
+    is_some (next_place table s x l) && entries_agree s.on (move_of s x l).phase (row_at s.rows (move_of s x l).next).kind (no_ind (before s x)) (kept s x l)
