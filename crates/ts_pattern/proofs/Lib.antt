@@ -4,5 +4,7 @@ pub mod Entries
 pub mod LiveEntries
 pub mod Ends
 pub mod Places
+pub mod Renamed
+pub mod Tested
 pub mod LeastLength
 pub mod AllOccurrences
