@@ -1,0 +1,4 @@
+pub mod Valid
+pub mod Numbers
+pub mod Facts
+pub mod Looks

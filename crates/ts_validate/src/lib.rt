@@ -1,0 +1,7 @@
+//! Transducers against patterns.
+#![tactic(auto)]
+
+pub mod facts;
+pub mod known;
+pub mod step;
+pub mod tags;
