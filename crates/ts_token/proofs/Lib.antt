@@ -1,0 +1,8 @@
+mod Fronts
+mod LineLaws
+mod WordLaws
+mod RowLaws
+mod HalfLaws
+mod NumberLaws
+mod SliceLaws
+mod NumberTexts
