@@ -1,0 +1,5 @@
+pub mod Survivors
+pub mod Noted
+pub mod Cut
+pub mod Reading
+pub mod Pairs

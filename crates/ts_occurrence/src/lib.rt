@@ -1,0 +1,9 @@
+//! The occurrences of a pattern in a series, and the value of a term on it.
+#![tactic(auto)]
+
+mod live;
+mod occurrence;
+mod series;
+
+pub use occurrence::occurrences;
+pub use series::{part, signature};
