@@ -1,3 +1,4 @@
 pub mod Endings
 pub mod OutsideLaws
 pub mod PieceLaws
+pub mod SeriesLaws

@@ -3,7 +3,10 @@ use Rattle.std.specs.Prelude.{ℕ, ◌+◌, ℤ, pos, Bool, List, [], ◌∷◌,
 use Rattle.std.specs.List.{list_all}
 use Rattle.std.specs.Fmt.{decimal}
 use Rattle.ts_base.specs.declared.ext.Ext.{Ext}
-use Rattle.ts_base.specs.declared.ext.Ext.TheVariants.{Int}
+use Rattle.ts_pattern.specs.declared.name.Aggregator.TheVariants.{Sum}
+use Rattle.ts_pattern.specs.declared.name.Feature.TheVariants.{Width}
+use Rattle.ts_pattern.specs.declared.name.PatternId.TheVariants.{Peak}
+use Rattle.ts_pattern.specs.TermValue.{value_of}
 use Rattle.ts_base.specs.Text.{ext_text}
 use Rattle.ts_run.specs.Commands.{byte_limit}
 use Rattle.ts_run.specs.FixedForm.{Form, fixed_form, is_between}
@@ -39,8 +42,9 @@ outside_lines low high k (x ∷ xs) = outside_line low high k x ++ outside_lines
 abbrev pub value_line : List ℕ → Ext → List ℕ
 value_line name value = line (codes "value " ++ name ++ codes " " ++ ext_text value)
 
+-- the sum of the widths of all peaks
 abbrev pub series_value : List ℤ → Ext
-series_value xs = Int (pos 4)
+series_value xs = value_of Sum Width Peak xs
 
 -- `meets` or `fails`, what is at fault, and the value of the term
 abbrev pub checked : Form → Reply

@@ -15,28 +15,19 @@ pub record Form : Type 0 where
 abbrev pub is_between : ℤ → ℤ → ℤ → Bool
 is_between low high x = int_le low x && int_le x high
 
--- the number, where it lies between these
-abbrev pub held_number : ℤ → ℤ → Option ℤ → Option ℤ
-held_number low high None = None
-held_number low high (Some x) = if is_between low high x then Some x else None
-
--- a number from -1,000,000 to 1,000,000
-abbrev pub value_of : List ℕ → Option ℤ
-value_of word = held_number (neg_ℤ (pos 1000000)) (pos 1000000) (number_of word)
-
--- `cells N`, N from 1 to 512
+-- `cells N`
 abbrev pub cells_of : List (List ℕ) → Option ℤ
 cells_of words =
-    if (length words == 2) && bytes_eq (piece_at words 0) (codes "cells") then held_number (pos 1) (pos 512) (number_of (piece_at words 1)) else None
+    if (length words == 2) && bytes_eq (piece_at words 0) (codes "cells") then number_of (piece_at words 1) else None
 
 abbrev pub ordered : Option ℤ → Option ℤ → Option (ℤ × ℤ)
 ordered None high = None
 ordered (Some low) None = None
-ordered (Some low) (Some high) = if int_le low high then Some (low, high) else None
+ordered (Some low) (Some high) = if int_le (neg_ℤ (pos 1000000)) low && (int_le low high && int_le high (pos 1000000)) then Some (low, high) else None
 
--- A..B, A at most B
+-- A..B, A at most B, within the limits of values
 abbrev pub range_of : List (List ℕ) → Option (ℤ × ℤ)
-range_of ends = if (length ends == 3) && (length (piece_at ends 1) == 0) then ordered (value_of (piece_at ends 0)) (value_of (piece_at ends 2)) else None
+range_of ends = if (length ends == 3) && (length (piece_at ends 1) == 0) then ordered (number_of (piece_at ends 0)) (number_of (piece_at ends 2)) else None
 
 -- `domain A..B`
 abbrev pub domain_of : List (List ℕ) → Option (ℤ × ℤ)
@@ -66,12 +57,16 @@ put_first (Some x) (Some xs) = Some (x ∷ xs)
 
 abbrev pub values_of : List (List ℕ) → Option (List ℤ)
 values_of [] = Some []
-values_of (w ∷ ws) = put_first (value_of w) (values_of ws)
+values_of (w ∷ ws) = put_first (number_of w) (values_of ws)
 
 -- `series v_1 .. v_N`
 abbrev pub series_of : List (List ℕ) → Option (List ℤ)
 series_of [] = None
 series_of (w ∷ ws) = if bytes_eq w (codes "series") then values_of ws else None
+
+-- 1 to 512 values, each from -1,000,000 to 1,000,000
+abbrev pub is_series : List ℤ → Bool
+is_series xs = nat_lt 0 (length xs) && (nat_le (length xs) 512 && list_all (is_between (neg_ℤ (pos 1000000)) (pos 1000000)) xs)
 
 abbrev pub form_of : Option ℤ → Option (ℤ × ℤ) → Option (List ℕ) → Option (List ℤ) → Option Form
 form_of None domain name series = None
@@ -79,7 +74,7 @@ form_of (Some cells) None name series = None
 form_of (Some cells) (Some domain) None series = None
 form_of (Some cells) (Some domain) (Some name) None = None
 form_of (Some cells) (Some domain) (Some name) (Some series) =
-    if is_between cells cells (pos (length series)) then Some (record { low = domain.0; high = domain.1; name = name; series = series }) else None
+    if is_between cells cells (pos (length series)) && is_series series then Some (record { low = domain.0; high = domain.1; name = name; series = series }) else None
 
 -- five lines and nothing behind them, the fourth of them `%%`
 abbrev pub is_framed : List (List ℕ) → Bool

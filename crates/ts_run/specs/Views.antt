@@ -2,7 +2,7 @@
 use Rattle.std.specs.Prelude.{ℕ, List, map}
 use Rattle.std.specs.Borrow.{Bor}
 use Rattle.ts_run.specs.declared.answer.Answer.{Answer}
-use Rattle.ts_run.specs.declared.form.Form as declared
+use Rattle.ts_run.specs.declared.stated.Form as declared
 use Rattle.ts_run.specs.FixedForm
 use Rattle.ts_run.specs.Reply.{Reply}
 

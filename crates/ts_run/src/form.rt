@@ -1,25 +1,17 @@
 //! The one form of an input of `check`.
 
-ghost use Rattle.std.specs.Prelude.{ℕ, ◌≡◌, ◌<◌, ◌≤◌, ℤ, pos, length, map, IfOk, Option};
+ghost use Rattle.std.specs.Prelude.{ℕ, ◌≡◌, ◌<◌, ◌≤◌, ℤ, pos, length, map, IfOk, IsTrue, Option};
 ghost use Rattle.std.specs.Option.{option_map};
 ghost use Rattle.std.specs.List.{list_all};
-ghost use Rattle.ts_run.specs.FixedForm.{cells_of, domain_of, fixed_form, form_in, form_of, held_number, is_between, is_framed, is_letter, is_name, is_name_byte, name_of, ordered, range_of, series_of, value_of, values_of};
+ghost use Rattle.ts_run.specs.FixedForm.{cells_of, domain_of, fixed_form, form_in, form_of, is_between, is_framed, is_letter, is_name, is_name_byte, is_series, name_of, range_of, series_of, values_of};
 ghost use Rattle.ts_run.specs.Views.{form, texts};
-ghost use Rattle.ts_token.specs.Number.{number_of};
+ghost use Rattle.ts_pattern.specs.Limits.{IsSeries};
 
 use crate::pieces::{piece_at, piece_count, pieces};
+use crate::stated::Form;
 use std::alloc::Global;
 use ts_base::Memory;
 use ts_token::number;
-
-/// What an input states: the values that are allowed, the name of the term, and the series.
-#[derive(Debug, Drop)]
-pub struct Form<'a> {
-    pub low: i64,
-    pub high: i64,
-    pub name: &'a [u8],
-    pub series: Vec<i64>,
-}
 
 /// Values lie from -`LIMIT` to `LIMIT`.
 const LIMIT: i64 = 1_000_000;
@@ -30,24 +22,11 @@ pub(crate) fn is_between(low: i64, high: i64, x: i64) -> bool
     low <= x && x <= high
 }
 
-/// The number that a word is, where it lies between these.
-fn held_number(low: i64, high: i64, word: &[u8]) -> Option<i64>
-    ensures { result ≡ held_number low high (number_of word.now) }
-{
-    number(word).filter(|x| is_between(low, high, *x))
-}
-
-fn value_of(word: &[u8]) -> Option<i64>
-    ensures { result ≡ value_of word.now }
-{
-    held_number(-LIMIT, LIMIT, word)
-}
-
 fn cells_of(words: &[&[u8]]) -> Option<i64>
     ensures { result ≡ cells_of (texts words.now) }
 {
     if piece_count(words) == 2 && piece_at(words, 0) == b"cells".as_slice() {
-        held_number(1, 512, piece_at(words, 1))
+        number(piece_at(words, 1))
     } else {
         None
     }
@@ -59,8 +38,10 @@ fn range_of(ends: &[&[u8]]) -> Option<(i64, i64)>
     if piece_count(ends) != 3 || !piece_at(ends, 1).is_empty() {
         return None;
     }
-    match (value_of(piece_at(ends, 0)), value_of(piece_at(ends, 2))) {
-        (Some(low), Some(high)) if low <= high => Some((low, high)),
+    match (number(piece_at(ends, 0)), number(piece_at(ends, 2))) {
+        (Some(low), Some(high)) if -LIMIT <= low && low <= high && high <= LIMIT => {
+            Some((low, high))
+        }
         _ => None,
     }
 }
@@ -123,7 +104,7 @@ fn values_of(alloc: Global, words: &[&[u8]]) -> Result<Option<Vec<i64>>, Memory>
 {
     let mut values = Vec::new(alloc);
     for word in words {
-        match value_of(word) {
+        match number(word) {
             Some(x) => values.push(x)?,
             None => return Ok(None),
         }
@@ -152,8 +133,13 @@ fn form_of<'a>(cells: Option<i64>, domain: Option<(i64, i64)>, name: Option<&'a 
     ensures { option_map form result ≡ form_of cells domain (option_map (λ n. n.now) name.entry) (option_map (λ v. v.items) series) }
 {
     match (cells, domain, name, series) {
-        (Some(cells), Some((low, high)), Some(name), Some(series)) if is_count(cells, &series) => {
-            Some(Form { low, high, name, series })
+        (Some(cells), Some((low, high)), Some(name), Some(series)) if is_count(cells, &series) && is_series(&series) => {
+            Some(Form {
+                low,
+                high,
+                name,
+                series,
+            })
         }
         _ => None,
     }
@@ -164,6 +150,22 @@ fn is_count(cells: i64, series: &[i64]) -> bool
     ensures { result ≡ is_between cells cells (pos (length series.now)) }
 {
     i128::from(cells) == series.len() as i128
+}
+
+/// Whether these are 1 to 512 values within the limits.
+#[tactic(auto, using(crate::proofs::SeriesLaws::series_fits))]
+fn is_series(series: &[i64]) -> bool
+    ensures value { result ≡ is_series series.now }
+    ensures fits { IsTrue result → IsSeries series.now }
+{
+    !series.is_empty() && series.len() <= 512 && stays_between(-LIMIT, LIMIT, series)
+}
+
+/// Whether all values lie from `low` to `high`.
+pub(crate) fn stays_between(low: i64, high: i64, series: &[i64]) -> bool
+    ensures { result ≡ list_all (is_between low high) series.now }
+{
+    series.iter().all(|x| is_between(low, high, *x))
 }
 
 /// What the lines state; None exactly where they have another form.
