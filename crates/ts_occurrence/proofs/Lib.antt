@@ -3,3 +3,5 @@ pub mod Noted
 pub mod Cut
 pub mod Reading
 pub mod Pairs
+pub mod Totals
+pub mod Values

@@ -4,6 +4,8 @@
 mod live;
 mod occurrence;
 mod series;
+mod term_value;
 
 pub use occurrence::occurrences;
 pub use series::{part, signature};
+pub use term_value::{value, value_with};

@@ -8,18 +8,15 @@ use std::alloc::Global;
 use ts_base::{Letter, Memory, Range, letter_of};
 
 /// How each cell of the series compares with the next one: `n - 1` letters for `n` cells, `n` at least 1.
-#[tactic(auto, using(crate::proofs::Pairs::pairs_are_signature))]
 pub fn signature(alloc: Global, series: &[i64]) -> Result<Vec<Letter>, Memory>
     requires { 1 ≤ length series.now }
     ensures { IfOk result (λ v. v.items ≡ signature_of series.now) }
 {
-    Ok(
-        series
-            .iter()
-            .zip(&series[1..])
-            .map(|(x, y)| letter_of(*x, *y))
-            .collect(alloc)?,
-    )
+    let mut letters = Vec::new(alloc);
+    for k in 1..series.len() {
+        letters.push(letter_of(series[k - 1], series[k]))?;
+    }
+    Ok(letters)
 }
 
 /// The cells of the range, which lies in the series.
