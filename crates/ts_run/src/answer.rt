@@ -15,6 +15,8 @@ use crate::stated::Form;
 use crate::status::Status;
 use std::alloc::Global;
 use ts_base::{Ext, Memory, push_ext, push_number};
+use ts_occurrence::value;
+use ts_pattern::{Aggregator, Feature, PatternId, Term};
 
 /// A text, and the status with which the call ends once it is written.
 #[derive(Debug, Drop)]
@@ -57,9 +59,12 @@ fn peak_widths(alloc: Global, series: &[i64]) -> Result<Ext, Memory>
     requires { IsSeries series.now }
     ensures { IfOk result (λ value. value ≡ series_value series.now) }
 {
-    let _alloc = alloc;
-    let _series = series;
-    Err(Memory)
+    let term = Term {
+        aggregator: Aggregator::Sum,
+        feature: Feature::Width,
+        pattern: PatternId::Peak,
+    };
+    value(alloc, &term, series)
 }
 
 /// A line for each cell whose value isn't in the domain.

@@ -13,6 +13,7 @@ const TOO_HIGH: &[u8] = b"cells 3\ndomain 0..9\nterm w = sum width peak\n%%\nser
 
 /// The words, the input, the step of the source and the call at which it fails, the same of the sink, what is taken, and
 /// the status. No call is call 0.
+#[derive(Clone, Copy)]
 struct Row {
     words: &'static str,
     input: &'static [u8],
