@@ -11,3 +11,5 @@ pub mod LeftOver
 pub mod Looking
 pub mod Numbering
 pub mod Transfer
+pub mod Values
+pub mod Seeing

@@ -2,6 +2,7 @@
 use Rattle.std.specs.Prelude.{◌≡◌, ℕ, zero, suc, ◌+◌, ◌==◌, nat_le, nat_lt, Bool, true, false, cond, not, ◌&&◌, List, [], ◌∷◌, ◌++◌, Option, None, Some, is_some, map, length, slice_get, refl}
 use Rattle.std.specs.List.{list_all, position, position_or_len, zip}
 use Rattle.std.proofs.Common.{sym, ◌∙◌, ap}
+use Rattle.std.proofs.Math.Dec.{eqb-suc-zero, eqb-zero-suc, eqb-suc-suc}
 use Rattle.ts_base.specs.declared.letter.Letter.{Letter}
 use Rattle.ts_base.specs.declared.range.Kind.{Kind}
 use Rattle.ts_transducer.specs.declared.row.Phase.{Phase}
@@ -44,10 +45,11 @@ swap false false c = refl
 zip_same : (table : List Known) (f : Phase) (free : Bool) (xs es : List Live) →
     (length xs == length es) && list_all (λ p. entry_same table f free p.0 p.1) (zip xs es) ≡ same_live (numbers table) (map (λ e. plain_live e) xs) (retag f free (map (λ e. plain_live e) es))
 zip_same table f free [] [] = refl
-zip_same table f free [] (e ∷ es) = refl
-zip_same table f free (x ∷ xs) [] = refl
+zip_same table f free [] (e ∷ es) = ap (λ z. z && true) (eqb-zero-suc (length es))
+zip_same table f free (x ∷ xs) [] = ap (λ z. z && true) (eqb-suc-zero (length xs))
 zip_same table f free (x ∷ xs) (e ∷ es) =
-    swap (length xs == length es) (entry_same table f free x e) (list_all (λ p. entry_same table f free p.0 p.1) (zip xs es))
+    ap (λ z. z && (entry_same table f free x e && list_all (λ p. entry_same table f free p.0 p.1) (zip xs es))) (eqb-suc-suc (length xs) (length es))
+    ∙ swap (length xs == length es) (entry_same table f free x e) (list_all (λ p. entry_same table f free p.0 p.1) (zip xs es))
     ∙ ap (λ z. entry_same table f free x e && z) (zip_same table f free xs es)
     ∙ assoc ((known_at table x.residual).own == (known_at table e.residual).own) (same_tag x.tag (tag_after f free e.tag)) (same_live (numbers table) (map (λ e. plain_live e) xs) (retag f free (map (λ e. plain_live e) es)))
 

@@ -2,3 +2,4 @@ pub mod Valid
 pub mod Numbers
 pub mod Facts
 pub mod Looks
+pub mod Reaches

@@ -1,6 +1,7 @@
 //! Transducers against patterns.
 #![tactic(auto)]
 
+pub mod arrival;
 pub mod facts;
 pub mod known;
 pub mod step;
