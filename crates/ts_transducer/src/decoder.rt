@@ -78,7 +78,8 @@ impl Decoder {
         ensures start { self.new.start ≡ None }
         ensures held { self.new.held ≡ None }
     {
-        self.start = None;
-        self.held.take()
+        let last = self.held;
+        *self = Decoder::new();
+        last
     }
 }
