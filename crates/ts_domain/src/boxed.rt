@@ -2,7 +2,7 @@
 
 ghost use Rattle.std.specs.Prelude.{◌≡◌, ◌≢◌, ◌-◌, ◌<◌, ◌≤◌, [], ◌∷◌, ◌++◌, length, IfOk, OnOk, OnErr, slice_get, Some};
 ghost use Rattle.ts_domain.specs.Kept.{kept, values_up_to, values_above, values_without};
-ghost use Rattle.ts_domain.specs.BoxSeries.{IsBox, IsCell, all_boxes, cell_of, narrowed, back_to};
+ghost use Rattle.ts_domain.specs.BoxSeries.{IsBox, IsCell, cell_of, narrowed, back_to};
 ghost use Rattle.ts_domain.specs.Values.{IsDomain};
 
 use crate::domain::Domain;
@@ -140,10 +140,10 @@ impl Boxed {
     // Back to the box before.
     fn undo_one(&mut self)
         requires { 0 < length self.old.earlier }
-        ensures { all_boxes self.old ≡ all_boxes self.new ++ self.old.present ∷ [] }
+        ensures { self.new ≡ back_to (length self.old.earlier - 1) self.old }
     {
         if let Some(step) = self.trail.pop() {
-            self.cells[step.cell as usize] = step.before;
+            drop(mem::replace(&mut self.cells[step.cell as usize], step.before));
         }
     }
 }

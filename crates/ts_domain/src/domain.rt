@@ -63,11 +63,10 @@ impl Domain {
         ensures empty { (result ≡ Err DomainStop.Empty)
             ↔ ((lows.now ≡ []) ⊎ SomeEmpty lows.now highs.now) }
     {
-        if lows.is_empty() || has_empty(lows, highs) {
+        if has_no_union(lows, highs) {
             return Err(DomainStop::Empty);
         }
-        let sorted = sorted_ranges(alloc, lows, highs)?;
-        Ok(joined(alloc, &sorted)?)
+        Ok(union_of(alloc, lows, highs)?)
     }
 
     /// The same set once more.
@@ -120,7 +119,7 @@ impl Domain {
         ensures { IsTrue result ↔ (length self.now ≡ 1) }
     {
         match self.ranges.as_slice() {
-            [only] => only.low == only.high,
+            [only] => only.is_single(),
             _ => false,
         }
     }
@@ -172,6 +171,14 @@ fn has_empty(lows: &[i64], highs: &[i64]) -> bool
     lows.iter().zip(highs).any(|(low, high)| low > high)
 }
 
+// Whether there is no range, or some low is above its high.
+fn has_no_union(lows: &[i64], highs: &[i64]) -> bool
+    requires { length lows.now ≡ length highs.now }
+    ensures { IsTrue result ↔ ((lows.now ≡ []) ⊎ SomeEmpty lows.now highs.now) }
+{
+    lows.is_empty() || has_empty(lows, highs)
+}
+
 // The two lists as one list of ranges.
 fn ranges_of(alloc: Global, lows: &[i64], highs: &[i64]) -> Result<Vec<Interval>, Memory>
     ensures { IfOk result (λ v. v.items ≡ paired lows.now highs.now) }
@@ -200,6 +207,19 @@ fn sorted_ranges(alloc: Global, lows: &[i64], highs: &[i64]) -> Result<Vec<Inter
     let mut ranges = ranges_of(alloc, lows, highs)?;
     ranges.as_mut_slice().sort_unstable();
     Ok(ranges)
+}
+
+// The union of ranges of which none is empty.
+fn union_of(alloc: Global, lows: &[i64], highs: &[i64]) -> Result<Domain, Memory>
+    requires pairs { length lows.now ≡ length highs.now }
+    requires lows_within { All WithinLimits lows.now }
+    requires highs_within { All WithinLimits highs.now }
+    requires usable { ((lows.now ≡ []) ⊎ SomeEmpty lows.now highs.now) → ⊥ }
+    ensures union { IfOk result (λ d. (v : ℤ) → Contains d v ↔ InSomeRange lows.now highs.now v) }
+    ensures domain { IfOk result IsDomain }
+{
+    let sorted = sorted_ranges(alloc, lows, highs)?;
+    joined(alloc, &sorted)
 }
 
 // The union of ranges that come by rising lows: each is joined with the last one where no gap lies between them.

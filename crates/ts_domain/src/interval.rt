@@ -22,6 +22,13 @@ impl Interval {
         (self.high - self.low) as u64 + 1
     }
 
+    /// Whether it has one number alone.
+    pub fn is_single(self) -> bool
+        ensures { IsTrue result ↔ (self.low ≡ self.high) }
+    {
+        self.low == self.high
+    }
+
     /// The numbers up to `t`, `None` for none.
     pub(crate) fn up_to(self, t: i64) -> Option<Interval>
         ensures { result ≡ up_to t self }
