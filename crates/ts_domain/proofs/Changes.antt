@@ -1,5 +1,5 @@
 -- What a change leaves of ranges: exactly the values that it keeps, in ranges that stand apart.
-use Rattle.std.proofs.Common.{◌≡◌, ℕ, zero, suc, ◌+◌, ◌-◌, ◌<◌, ◌≤◌, ℤ, pos, neg_ℤ, ◌+ℤ◌, ◌-ℤ◌, ◌≤ℤ◌, ◌<ℤ◌, Bool, true, false, not, cond, Option, Some, None, List, [], ◌∷◌, ◌++◌, length, drop, refl, sym, ap, ◌∙◌, subst, arith, append_assoc}
+use Rattle.std.proofs.Common.{◌≡◌, ℕ, zero, suc, ◌≤◌, ℤ, pos, neg_ℤ, ◌+ℤ◌, ◌-ℤ◌, ◌≤ℤ◌, ◌<ℤ◌, Bool, true, false, not, cond, Option, Some, None, List, [], ◌∷◌, ◌++◌, length, drop, refl, sym, ap, ◌∙◌, subst, arith, append_assoc}
 use Rattle.std.proofs.lemmas.Int.{ints, by_lt_z}
 use Rattle.std.proofs.lemmas.Bool.Decides.{Decides-int_eq}
 use Rattle.std.proofs.lemmas.List.Elements.{filter-append}
@@ -12,9 +12,9 @@ use Rattle.ts_domain.specs.declared.interval.Interval.{Interval}
 use Rattle.ts_domain.specs.declared.keep.Keep.{Keep}
 use Rattle.ts_domain.specs.declared.keep.Keep.TheVariants.{UpTo, Above, AllBut}
 use Rattle.ts_domain.specs.Values.{natural, run, values_between, values_of, RangesFrom, AreRanges}
-use Rattle.ts_domain.specs.Kept.{kept, values_up_to, values_above, values_without}
+use Rattle.ts_domain.specs.Kept.{kept}
 use Rattle.ts_domain.specs.Parts.{up_to, above, lower_part, upper_part}
-use Rattle.ts_domain.proofs.Runs.{natural_is, between_split, all_between, none_between, none_pass, same_pass}
+use Rattle.ts_domain.proofs.Runs.{between_split, all_between, none_between, none_pass, same_pass}
 use Rattle.ts_domain.proofs.Ranges.{values-append, from_earlier}
 
 -- the tests of a change

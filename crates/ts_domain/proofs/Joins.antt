@@ -1,5 +1,5 @@
 -- Joining ranges that come by rising low ends: what is done and what is left have the numbers of all of them.
-use Rattle.std.proofs.Common.{◌≡◌, ℕ, zero, suc, ◌+◌, ◌<◌, ◌≤◌, ℤ, pos, negsuc, neg_ℤ, ◌+ℤ◌, ◌≤ℤ◌, ◌<ℤ◌, ◌⊎◌, inl, inr, ◌↔◌, List, [], ◌∷◌, ◌++◌, length, get_or, drop, refl, sym, ap, ◌∙◌, subst, arith}
+use Rattle.std.proofs.Common.{◌≡◌, ℕ, zero, suc, ◌+◌, ◌<◌, ◌≤◌, ℤ, pos, negsuc, neg_ℤ, ◌+ℤ◌, ◌≤ℤ◌, ◌<ℤ◌, ◌⊎◌, inl, inr, ◌↔◌, List, [], ◌∷◌, ◌++◌, length, get_or, drop, sym, ap, ◌∙◌, subst, arith}
 use Rattle.std.proofs.lemmas.Int.{ints, by_lt_z, to_z-of_z}
 use mir.Val.{SFits, to_z, of_z}
 use mir.Syntax.{w64}
@@ -7,9 +7,9 @@ use Rattle.std.proofs.Math.Seq.{drop-cons}
 use Rattle.std.specs.Prelude.{Contains}
 use Rattle.std.specs.Int.{int_max}
 use Rattle.ts_domain.specs.declared.interval.Interval.{Interval}
-use Rattle.ts_domain.specs.Values.{values_of, RangesFrom, AreRanges, IsDomain}
+use Rattle.ts_domain.specs.Values.{values_of, RangesFrom, AreRanges}
 use Rattle.ts_domain.specs.Union.{InSome, LowsRise}
-use Rattle.ts_domain.proofs.Ranges.{value_in_some, some_has_value, ranges_are_domain}
+use Rattle.ts_domain.proofs.Ranges.{value_in_some, some_has_value}
 use Rattle.ts_domain.proofs.Unions.{rises_from, last_range, last_grown, one_more_range, in_append, in_left, in_right}
 
 -- the ranges done stand apart, the last of them may still grow, and the next one begins no earlier than it does

@@ -1,11 +1,11 @@
 -- The numbers of ranges that stand apart: they rise, they are within the limits, and each is in one of the ranges.
-use Rattle.std.proofs.Common.{◌≡◌, ℕ, zero, suc, ◌+◌, ◌-◌, ◌<◌, ◌≤◌, ℤ, pos, neg_ℤ, ◌+ℤ◌, ◌-ℤ◌, ◌≤ℤ◌, ◌<ℤ◌, ◌⊎◌, inl, inr, List, [], ◌∷◌, ◌++◌, length, get_or, refl, sym, ap, ◌∙◌, arith, length-append, append_assoc}
+use Rattle.std.proofs.Common.{◌≡◌, ℕ, zero, suc, ◌<◌, ℤ, pos, neg_ℤ, ◌+ℤ◌, ◌-ℤ◌, ◌≤ℤ◌, inl, inr, List, [], ◌∷◌, ◌++◌, length, get_or, refl, sym, ap, ◌∙◌, arith, length-append, append_assoc}
 use Rattle.std.proofs.lemmas.Int.{ints}
 use Rattle.std.proofs.lemmas.List.Elements.{Contains-append_cases, Contains-append_left, Contains-append_right}
 use Rattle.std.specs.Prelude.{Contains}
 use Rattle.std.specs.List.{AllByRecursion}
 use Rattle.ts_domain.specs.declared.interval.Interval.{Interval}
-use Rattle.ts_domain.specs.Values.{natural, run, values_between, values_of, Rising, RangesFrom, AreRanges, IsDomain, WithinLimits}
+use Rattle.ts_domain.specs.Values.{natural, values_between, values_of, Rising, RangesFrom, AreRanges, IsDomain}
 use Rattle.ts_domain.specs.Union.{InSome}
 use Rattle.ts_domain.proofs.Runs.{natural_is, length-between, in_between, between_has, rising_run, all_run}
 

@@ -2,9 +2,8 @@
 use Rattle.std.proofs.Common.{◌≡◌, ℕ, zero, suc, ◌+◌, ◌-◌, ◌<◌, ◌≤◌, ℤ, List, [], ◌∷◌, ◌++◌, length, get_or, set, take, refl, sym, ap, ◌∙◌, subst, arith, length-append, append_assoc, Fits, w32}
 use Rattle.std.proofs.lemmas.List.{set-set, set-get_or, length-set, get_or_default, take_more, take_all, get_or-take, take-take, length-take-le}
 use Rattle.std.proofs.Math.Seq.{take-append_seam, get_or-append_seam}
-use Rattle.std.specs.List.{AllByRecursion}
 use Rattle.ts_domain.specs.declared.boxed.Step.{Step}
-use Rattle.ts_domain.specs.BoxSeries.{Boxes, IsBox, IsCell, all_boxes, cell_of, narrowed, back_to}
+use Rattle.ts_domain.specs.BoxSeries.{Boxes, IsBox, IsCell, all_boxes, narrowed, back_to}
 use Rattle.ts_domain.specs.Trail.{first_box, earlier_boxes, StepsFit}
 use Rattle.ts_domain.specs.Values.{IsDomain}
 

@@ -1,5 +1,5 @@
 -- Which values of a cell a change keeps: those up to a number, those above it, or all but one.
-use Rattle.std.specs.Prelude.{Bool, not, ℤ, int_le, int_lt, List, filter}
+use Rattle.std.specs.Prelude.{not, ℤ, int_le, int_lt, List, filter}
 use Rattle.std.specs.Ordering.{int_eq}
 use Rattle.ts_domain.specs.declared.keep.Keep.{Keep}
 use Rattle.ts_domain.specs.declared.keep.Keep.TheVariants.{UpTo, Above, AllBut}

@@ -1,5 +1,5 @@
 -- How the trail keeps the earlier boxes: each step has the place of the cell that was changed and its set before.
-use Rattle.std.specs.Prelude.{◌<◌, ◌≤◌, ℤ, List, [], ◌∷◌, length, set}
+use Rattle.std.specs.Prelude.{◌<◌, ℤ, List, [], ◌∷◌, length, set}
 use Rattle.ts_domain.specs.declared.boxed.Step.{Step}
 use Rattle.ts_domain.specs.BoxSeries.{IsBox}
 use Rattle.ts_domain.specs.Values.{IsDomain}

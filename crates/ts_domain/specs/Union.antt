@@ -1,5 +1,5 @@
 -- The union of ranges that are given by two lists of one length, the low ends and the high ends.
-use Rattle.std.specs.Prelude.{◌≡◌, ◌≢◌, ℕ, ◌<◌, ℤ, pos, ◌≤ℤ◌, ◌<ℤ◌, ◌⊎◌, List, [], ◌∷◌, length, get_or, map}
+use Rattle.std.specs.Prelude.{ℕ, ◌<◌, ℤ, pos, ◌≤ℤ◌, ◌<ℤ◌, ◌⊎◌, List, [], ◌∷◌, length, get_or, map}
 use Rattle.std.specs.List.{zip}
 use Rattle.ts_domain.specs.declared.interval.Interval.{Interval}
 

@@ -1,4 +1,4 @@
-use Rattle.std.proofs.Common.{pos, sym, ap, ◌∙◌, arith}
+use Rattle.std.proofs.Common.{pos, ap, ◌∙◌, arith}
 use Rattle.std.proofs.lemmas.Int.{ints}
 use Rattle.ts_domain.proofs.Ranges.{ranges_are_domain}
 use Rattle.ts_domain.proofs.Joins.{joining_none, joining_grown, joining_more, joined_ranges, joined_numbers, last_within, next_within, max_is}

@@ -1,6 +1,5 @@
-use Rattle.std.proofs.Common.{◌≡◌, ℤ, pos, neg_ℤ, List, length, sym, ap, ◌∙◌, subst}
-use Rattle.ts_domain.specs.declared.interval.Interval.{Interval}
-use Rattle.ts_domain.specs.Union.{InSome, InSomeRange, LowsRise}
+use Rattle.std.proofs.Common.{pos, neg_ℤ, length, sym, ap, ◌∙◌, subst}
+use Rattle.ts_domain.specs.Union.{InSome, LowsRise}
 use Rattle.ts_domain.proofs.Unions.{sorted_rise, sorted_same, written_back, length-sorted}
 use Rattle.ts_domain.proofs.domain.sorted_ranges.Goals as goal
 

@@ -1,4 +1,4 @@
-use Rattle.std.proofs.Common.{ℤ, List, ◌↔◌, ◌∙◌, subst, sym}
+use Rattle.std.proofs.Common.{ℤ, ◌↔◌, subst, sym}
 use Rattle.std.specs.Prelude.{Contains}
 use Rattle.std.proofs.lemmas.Result.{IfOk-weaker}
 use Rattle.ts_domain.specs.Union.{InSome, InSomeRange}
