@@ -5,6 +5,8 @@ mod live;
 mod occurrence;
 mod series;
 mod term_value;
+#[cfg(test)]
+mod tests;
 
 pub use occurrence::occurrences;
 pub use series::{part, signature};
