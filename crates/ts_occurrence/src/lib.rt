@@ -1,10 +1,27 @@
-//! The occurrences of a pattern in a series, and the value of a term on it.
+//! The occurrences of a pattern in a series, and the value of a term on it: what every layer above is measured by.
+//!
+//! One series goes through the house by four calls: `signature` makes its letters, `occurrences` finds the e-ranges of
+//! the maximal matches, `part` lends the cells of a range, and `value` aggregates their features. The promise to the
+//! layers above: on every series within the limits `value` answers the term's value by the definition over all places,
+//! whatever the pattern; only want of memory is answered otherwise. `value_with` takes the signature from its caller,
+//! so that all terms of a model share one.
+//!
+//! The search reads one letter at a time and keeps, for each start at which a match may begin or grow, what is left to
+//! read of the expression, in normal form. A series costs its length times its live starts, and no two places are
+//! compared.
+//!
+//! ```text
+//! let width = Term::new(Aggregator::Sum, Feature::Width, PatternId::Peak); // Some(term)
+//! value(alloc, &term, &[1, 3, 3, 2, 2, 1, 4])?; // Ext::Int(4), the width of the peak in cells 2 to 5
+//! ```
 #![tactic(auto)]
 
 mod live;
 mod occurrence;
 mod series;
 mod term_value;
+#[cfg(test)]
+mod tests;
 
 pub use occurrence::occurrences;
 pub use series::{part, signature};

@@ -15,7 +15,7 @@ use ts_base::{Letter, Memory};
 use ts_regex::{Regex, derive, has_word, normal, nullable};
 
 /// The number of signs before the start, and the residual of the expression in normal form.
-#[derive(Debug, Drop)]
+#[derive(Drop)]
 pub struct LiveStart {
     pub start: u32,
     pub residual: Regex,

@@ -16,6 +16,16 @@ use Rattle.ts_pattern.proofs.Entries.{each_filter}
 use Rattle.ts_pattern.proofs.LiveEntries.{one_left, one_right}
 use Rattle.ts_pattern.proofs.Places.{place_is, each_map, each_both, each_left, each_right, same_start_same, occurrences_unique}
 
+same_number : (a b : ℕ) → a == b ≡ true → a ≡ b
+same_number a b h = grind arith
+
+other_number : (a b : ℕ) → a == b ≡ false → a ≡ b → ⊥
+other_number a b h q = grind arith
+
+each_append : {A : Type 0} (p : A → Type 0) (xs ys : List A) → Each p xs → Each p ys → Each p (xs ++ ys)
+each_append p [] ys h k = k
+each_append p (x ∷ xs) ys h k = (h.0, each_append p xs ys h.1 k)
+
 -- what passes the filter passes the test
 pub each_passes : {A : Type 0} (q : A → Bool) (es : List A) → Each (λ x. q x ≡ true) (filter q es)
 each_passes q [] = tt
@@ -55,11 +65,7 @@ ordered_filter q (x ∷ xs) h =
 
 pub ordered_append : (xs ys : List Place) → Ordered xs → Ordered ys → Each (λ x. Each (After x) ys) xs → Ordered (xs ++ ys)
 ordered_append [] ys h k a = k
-ordered_append (x ∷ xs) ys h k a = (both (After x) xs ys h.0 a.0, ordered_append xs ys h.1 k a.1)
-  where
-    both : (p : Place → Type 0) (xs ys : List Place) → Each p xs → Each p ys → Each p (xs ++ ys)
-    both p [] ys h k = k
-    both p (x ∷ xs) ys h k = (h.0, both p xs ys h.1 k)
+ordered_append (x ∷ xs) ys h k a = (each_append (After x) xs ys h.0 a.0, ordered_append xs ys h.1 k a.1)
 
 -- the places from one start
 pub from_starts : (s e c : ℕ) → Each (λ x. (x.start ≡ s) × (e ≤ x.end)) (places_from s e c)
@@ -83,43 +89,29 @@ from_has s e (suc c) k p q =
       | true ↦ λ h. inl (refl, sym (same_number k e h))
       | false ↦ λ h. inr (from_has s (e + 1) c k (let d = other_number k e h in omega arith) (omega arith))
     ] refl
-  where
-    same_number : (a b : ℕ) → a == b ≡ true → a ≡ b
-    same_number a b h = grind arith
-
-    other_number : (a b : ℕ) → a == b ≡ false → a ≡ b → ⊥
-    other_number a b h q = grind arith
 
 -- all places
 pub after_starts : (s c : ℕ) → Each (λ x. s ≤ x.start) (places_after s c)
 after_starts s zero = tt
 after_starts s (suc c) =
-    both (λ x. s ≤ x.start) (places_from s (s + 1) (suc c)) (places_after (s + 1) c)
+    each_append (λ x. s ≤ x.start) (places_from s (s + 1) (suc c)) (places_after (s + 1) c)
     (each_map (λ x. (x.start ≡ s) × (s + 1 ≤ x.end)) (λ x. s ≤ x.start) (λ x h. let k = h.0 in omega arith) (places_from s (s + 1) (suc c)) (from_starts s (s + 1) (suc c)))
     (each_map (λ x. s + 1 ≤ x.start) (λ x. s ≤ x.start) (λ x h. omega arith) (places_after (s + 1) c) (after_starts (s + 1) c))
-  where
-    both : (p : Place → Type 0) (xs ys : List Place) → Each p xs → Each p ys → Each p (xs ++ ys)
-    both p [] ys h k = k
-    both p (x ∷ xs) ys h k = (h.0, both p xs ys h.1 k)
 
 pub after_inside : (s c n : ℕ) → s + c ≤ n → Each (λ x. (x.start < x.end) × (x.end ≤ n)) (places_after s c)
 after_inside s zero n p = tt
 after_inside s (suc c) n p =
-    both (λ x. (x.start < x.end) × (x.end ≤ n)) (places_from s (s + 1) (suc c)) (places_after (s + 1) c)
+    each_append (λ x. (x.start < x.end) × (x.end ≤ n)) (places_from s (s + 1) (suc c)) (places_after (s + 1) c)
     (from_inside s (s + 1) (suc c) n (omega arith) (omega arith))
     (after_inside (s + 1) c n (omega arith))
-  where
-    both : (p : Place → Type 0) (xs ys : List Place) → Each p xs → Each p ys → Each p (xs ++ ys)
-    both p [] ys h k = k
-    both p (x ∷ xs) ys h k = (h.0, both p xs ys h.1 k)
 
 pub after_ordered : (s c : ℕ) → Ordered (places_after s c)
 after_ordered s zero = tt
 after_ordered s (suc c) =
     ordered_append (places_from s (s + 1) (suc c)) (places_after (s + 1) c) (from_ordered s (s + 1) (suc c)) (after_ordered (s + 1) c)
     (each_map (λ x. (x.start ≡ s) × (s + 1 ≤ x.end)) (λ x. Each (After x) (places_after (s + 1) c))
-      (λ x h. each_map (λ y. s + 1 ≤ y.start) (After x) (λ y k. inl (let z = h.0 in omega arith)) (places_after (s + 1) c) (after_starts (s + 1) c))
-      (places_from s (s + 1) (suc c)) (from_starts s (s + 1) (suc c)))
+    (λ x h. each_map (λ y. s + 1 ≤ y.start) (After x) (λ y k. inl (let z = h.0 in omega arith)) (places_after (s + 1) c) (after_starts (s + 1) c))
+    (places_from s (s + 1) (suc c)) (from_starts s (s + 1) (suc c)))
 
 pub after_has : (s c i k : ℕ) → s ≤ i → i < k → k ≤ s + c → OneOf (IsPlace i k) (places_after s c)
 after_has s zero i k p q r = absurd (omega arith)
@@ -130,12 +122,6 @@ after_has s (suc c) i k p q r =
       | false ↦ λ h. one_right (IsPlace i k) (places_from s (s + 1) (suc c)) (places_after (s + 1) c)
           (after_has (s + 1) c i k (let d = other_number i s h in omega arith) q (omega arith))
     ] refl
-  where
-    same_number : (a b : ℕ) → a == b ≡ true → a ≡ b
-    same_number a b h = grind arith
-
-    other_number : (a b : ℕ) → a == b ≡ false → a ≡ b → ⊥
-    other_number a b h q = grind arith
 
 -- the matches
 pub each_match : (p : Shape) (w : List Letter) → Each (λ x. IsMatch p w x.start x.end) (match_places p w)
@@ -145,8 +131,8 @@ each_match p w =
     (λ x h. record { some = h.0.0; inside = h.0.1; word = is_word_to p (slice_range w x.start x.end) h.1 })
     (filter (λ x. is_word p (slice_range w x.start x.end)) (places_after 0 (length w)))
     (each_both (λ x. (x.start < x.end) × (x.end ≤ length w)) (λ x. is_word p (slice_range w x.start x.end) ≡ true) (filter (λ x. is_word p (slice_range w x.start x.end)) (places_after 0 (length w)))
-      (each_filter (λ x. (x.start < x.end) × (x.end ≤ length w)) (λ x. is_word p (slice_range w x.start x.end)) (places_after 0 (length w)) (after_inside 0 (length w) (length w) (omega arith)))
-      (each_passes (λ x. is_word p (slice_range w x.start x.end)) (places_after 0 (length w))))
+    (each_filter (λ x. (x.start < x.end) × (x.end ≤ length w)) (λ x. is_word p (slice_range w x.start x.end)) (places_after 0 (length w)) (after_inside 0 (length w) (length w) (omega arith)))
+    (each_passes (λ x. is_word p (slice_range w x.start x.end)) (places_after 0 (length w))))
 
 pub has_match : (p : Shape) (w : List Letter) (s e : ℕ) → IsMatch p w s e → OneOf (IsPlace s e) (match_places p w)
 unfolding match_places
@@ -199,18 +185,18 @@ each_occurrence p w =
     })
     (filter (λ x. list_all (is_not_wider x) (match_places p w)) (match_places p w))
     (each_both (λ x. IsMatch p w x.start x.end) (λ x. list_all (is_not_wider x) (match_places p w) ≡ true)
-      (filter (λ x. list_all (is_not_wider x) (match_places p w)) (match_places p w))
-      (each_filter (λ x. IsMatch p w x.start x.end) (λ x. list_all (is_not_wider x) (match_places p w)) (match_places p w) (each_match p w))
-      (each_passes (λ x. list_all (is_not_wider x) (match_places p w)) (match_places p w)))
+    (filter (λ x. list_all (is_not_wider x) (match_places p w)) (match_places p w))
+    (each_filter (λ x. IsMatch p w x.start x.end) (λ x. list_all (is_not_wider x) (match_places p w)) (match_places p w) (each_match p w))
+    (each_passes (λ x. list_all (is_not_wider x) (match_places p w)) (match_places p w)))
 
 pub has_occurrence : (p : Shape) (w : List Letter) (s e : ℕ) → IsOccurrence p w s e → OneOf (IsPlace s e) (occurrence_places p w)
 unfolding occurrence_places
 has_occurrence p w s e o =
     one_filter (λ x. list_all (is_not_wider x) (match_places p w)) s e (match_places p w)
     (all_test (is_not_wider (record { start = s; end = e })) (match_places p w)
-      (each_map (λ y. IsMatch p w y.start y.end) (λ y. is_not_wider (record { start = s; end = e }) y ≡ true)
-        (λ y m. is_widest (record { start = s; end = e }) y (λ a b. o.maximal y.start y.end m a b))
-        (match_places p w) (each_match p w)))
+    (each_map (λ y. IsMatch p w y.start y.end) (λ y. is_not_wider (record { start = s; end = e }) y ≡ true)
+    (λ y m. is_widest (record { start = s; end = e }) y (λ a b. o.maximal y.start y.end m a b))
+    (match_places p w) (each_match p w)))
     (has_match p w s e o.is)
 
 pub ordered_occurrences : (p : Shape) (w : List Letter) → Ordered (occurrence_places p w)
@@ -222,11 +208,13 @@ ordered_occurrences p w =
 -- two occurrences with one start are one
 pub rising_ordered : (p : Shape) (w : List Letter) (low : ℕ) (xs : List Place) → Each (λ x. low ≤ x.start) xs → Ordered xs → Each (λ x. IsOccurrence p w x.start x.end) xs → RisingPlaces low xs
 rising_ordered p w low [] l h o = tt
-rising_ordered p w low (x ∷ xs) l h o =
-    (l.0, rising_ordered p w (x.start + 1) xs
+rising_ordered p w low (x ∷ xs) l h o = (
+  l.0,
+  rising_ordered p w (x.start + 1) xs
       (each_map (λ y. After x y × IsOccurrence p w y.start y.end) (λ y. x.start + 1 ≤ y.start) (λ y k. later x y o.0 k.1 k.0) xs
-        (each_both (After x) (λ y. IsOccurrence p w y.start y.end) xs h.0 o.1))
-      h.1 o.1)
+      (each_both (After x) (λ y. IsOccurrence p w y.start y.end) xs h.0 o.1))
+      h.1 o.1,
+)
   where
     later : (x y : Place) → IsOccurrence p w x.start x.end → IsOccurrence p w y.start y.end → After x y → x.start + 1 ≤ y.start
     later x y o q h =

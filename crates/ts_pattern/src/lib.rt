@@ -1,4 +1,15 @@
 //! Patterns: an expression and the cells that an occurrence leaves out at its ends.
+//!
+//! A term of a model is an aggregator over a feature of a pattern's occurrences, each known by its name. This crate
+//! has the table of the 22 patterns, says what an occurrence is and what a term is worth on a series, and holds the
+//! plans by which a transducer is shown to find the occurrences. It promises to the layers above that a name is read
+//! as exactly the pattern, feature or aggregator of that name, that a `Term` never joins `one` with another aggregator
+//! than `sum`, and that no word of a pattern is shorter than its two trims together.
+//!
+//! ```text
+//! let peak = pattern_by_id(alloc, PatternId::Peak)?; // <(=|<)*(>|=)*>, one cell trimmed at each end
+//! let term = Term::new(Aggregator::Sum, Feature::Width, PatternId::Peak); // Some(..)
+//! ```
 #![tactic(auto)]
 
 pub mod name;
@@ -6,6 +17,8 @@ pub mod pattern;
 pub mod plan;
 pub mod table;
 pub mod term;
+#[cfg(test)]
+mod tests;
 
 pub use name::{
     Aggregator, Feature, PatternId, aggregator_of, feature_of, pattern_name, pattern_of,
