@@ -7,7 +7,8 @@ use ts_base::{MemorySink, MemorySource};
 
 const MODEL: &[u8] = b"cells 7\ndomain 0..9\nterm w = sum width peak\n%%\nseries 1 3 3 2 2 1 4\n";
 
-const THREE_TERMS: &[u8] = b"cells 4\ndomain 0..9\nterm a = sum surf peak\nterm b = max min valley\nterm c = sum one plateau\n%%\nseries 1 2 1 2\n";
+const THREE_TERMS: &[u8] =
+    b"cells 4\ndomain 0..9\nterm a = sum surf peak\nterm b = max min valley\nterm c = sum one plateau\n%%\nseries 1 2 1 2\n";
 
 const TOO_HIGH: &[u8] = b"cells 3\ndomain 0..9\nterm w = sum width peak\n%%\nseries 1 10 -2\n";
 
