@@ -125,15 +125,23 @@ fn series_of(alloc: Global, words: &[&[u8]]) -> Result<Option<Vec<i64>>, Memory>
 fn is_framed(lines: &[&[u8]]) -> bool
     ensures { result ≡ is_framed (texts lines.now) }
 {
-    piece_count(lines) == 6 && piece_at(lines, 3) == b"%%".as_slice() && piece_at(lines, 5).is_empty()
+    piece_count(lines) == 6
+        && piece_at(lines, 3) == b"%%".as_slice()
+        && piece_at(lines, 5).is_empty()
 }
 
 /// What the parts state together: the series has as many values as the cells say.
-fn form_of<'a>(cells: Option<i64>, domain: Option<(i64, i64)>, name: Option<&'a [u8]>, series: Option<Vec<i64>>) -> Option<Form<'a>>
+fn form_of<'a>(
+    cells: Option<i64>,
+    domain: Option<(i64, i64)>,
+    name: Option<&'a [u8]>,
+    series: Option<Vec<i64>>,
+) -> Option<Form<'a>>
     ensures { option_map form result ≡ form_of cells domain (option_map (λ n. n.now) name.entry) (option_map (λ v. v.items) series) }
 {
     match (cells, domain, name, series) {
-        (Some(cells), Some((low, high)), Some(name), Some(series)) if is_count(cells, &series) && is_series(&series) => {
+        (Some(cells), Some((low, high)), Some(name), Some(series))
+            if is_count(cells, &series) && is_series(&series) => {
             Some(Form {
                 low,
                 high,

@@ -18,7 +18,12 @@ use ts_base::{Memory, ReadStop, Sink, Source, read_all};
 /// Words that are no command's are refused with the source unread. Where a read failed, which a count tells, the
 /// answer is `fault read`; else it is what the command answers to the bytes that the source had left. After `Memory`
 /// the sink has taken nothing, and after `WriteFault`, which comes only where a count tells it, a front of the answer.
-pub fn run<S: Source, K: Sink>(alloc: Global, words: &Vec<String>, source: &mut S, sink: &mut K) -> Status
+pub fn run<S: Source, K: Sink>(
+    alloc: Global,
+    words: &Vec<String>,
+    source: &mut S,
+    sink: &mut K,
+) -> Status
     ensures refused_words { command_of (map string_bytes words.now.items) ≡ None → Ends refused_words (K.taken sink.old) (K.taken sink.new) result }
     ensures unread { command_of (map string_bytes words.now.items) ≡ None → source.new ≡ source.old }
 
