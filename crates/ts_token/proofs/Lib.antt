@@ -1,0 +1,6 @@
+mod Fronts
+mod LineLaws
+mod WordLaws
+mod RowLaws
+mod HalfLaws
+mod NumberLaws

@@ -1,0 +1,5 @@
+pub mod Text
+pub mod Number
+pub mod Halves
+pub mod Views
+pub mod Steps

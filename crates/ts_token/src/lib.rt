@@ -1,0 +1,23 @@
+//! The words of a text, borrowed from it.
+//!
+//! `cut_tokens` cuts a text into lines and words, and `cut_parts` cuts it at the line `%%`; both lend slices
+//! of the text and copy no byte. `number` reads a word. What stands above reads words and never bytes: it knows
+//! of each word its bytes, its column and the number of its line, and which line first isn't text.
+//!
+//! ```text
+//! let parts = cut_parts(b"cells 4 # four\r\n%%\nseries 1 2 3 4\n");
+//! let tokens = cut_tokens(alloc, parts.model)?;
+//! number(tokens.lines[0].words[1].text) // Some(4)
+//! ```
+#![tactic(auto)]
+
+pub mod lines;
+pub mod numbers;
+pub mod parts;
+pub mod tokens;
+pub mod words;
+
+pub use numbers::number;
+pub use parts::{Parts, cut_parts};
+pub use tokens::{Line, Tokens, cut_tokens};
+pub use words::Word;

@@ -1,0 +1,65 @@
+//! Numbers in words.
+
+ghost use Rattle.std.specs.Prelude.{◌≡◌};
+ghost use Rattle.ts_token.specs.Number.{is_digit, digits_from, natural, upto, negative, number_of};
+
+fn is_digit(b: u8) -> bool
+    ensures { result ≡ is_digit b }
+{
+    b >= b'0' && b <= b'9'
+}
+
+/// The number of the digits, if they are digits and it is at most the limit.
+fn digits_value(digits: &[u8], limit: u64) -> Option<u64>
+    ensures { result ≡ upto limit (digits_from 0 digits.now) }
+{
+    let mut value: u64 = 0;
+    for b in digits {
+        if !is_digit(*b) {
+            return None;
+        }
+        let next = u128::from(value) * 10 + u128::from(*b - b'0');
+        if next > u128::from(limit) {
+            return None;
+        }
+        value = next as u64;
+    }
+    Some(value)
+}
+
+/// The same of one digit or more, without a leading zero.
+fn natural(digits: &[u8], limit: u64) -> Option<u64>
+    ensures { result ≡ upto limit (natural digits.now) }
+{
+    if digits.is_empty() || digits.len() > 1 && digits[0] == b'0' {
+        return None;
+    }
+    digits_value(digits, limit)
+}
+
+/// The number whose digits these are after a `-`; there is no `-0`.
+fn negative(digits: &[u8]) -> Option<i64>
+    ensures { result ≡ negative (upto 9223372036854775808 (natural digits.now)) }
+{
+    match natural(digits, 9223372036854775808) {
+        Some(n) if n > 0 => Some((0 - i128::from(n)) as i64),
+        _ => None,
+    }
+}
+
+/// The number that a word is: an optional `-` and decimal digits without a leading zero, within 64 signed bits;
+/// None where the word is something else.
+pub fn number(word: &[u8]) -> Option<i64>
+    ensures { result ≡ number_of word.now }
+{
+    if word.is_empty() {
+        return None;
+    }
+    if word[0] == b'-' {
+        return negative(&word[1..]);
+    }
+    match natural(word, 9223372036854775807) {
+        Some(n) => Some(n as i64),
+        None => None,
+    }
+}

@@ -1,0 +1,67 @@
+//! A text before and after its first line `%%`.
+
+ghost use Rattle.std.specs.Prelude.{◌≡◌, ◌<◌, ◌≤◌, ◌∷◌, length, take, drop};
+ghost use Rattle.ts_token.specs.Halves.{chunks, is_separator, halves_of};
+ghost use Rattle.ts_token.specs.Views.{parts};
+
+use crate::lines::{first_line, lf_at};
+use crate::words::next_word;
+
+/// The bytes before the first line whose only word is `%%`, and those after it, if it stands.
+#[derive(Clone, Copy, Debug)]
+pub struct Parts<'a> {
+    pub model: &'a [u8],
+    pub rest: Option<&'a [u8]>,
+}
+
+/// How many bytes the first line has with its end.
+fn line_end(text: &[u8]) -> usize
+    requires { 0 < length text.now }
+    ensures within { result ≤ length text.now }
+    ensures some { 0 < result }
+    ensures cut { chunks text.now ≡ take result text.now ∷ chunks (drop result text.now) }
+{
+    match lf_at(text) {
+        Some(n) => n + 1,
+        None => text.len(),
+    }
+}
+
+/// The only word of a line, given with its end, is `%%`.
+fn is_separator(chunk: &[u8]) -> bool
+    requires some { 0 < length chunk.now }
+    requires short { length chunk.now < 4000000000 }
+    ensures { result ≡ is_separator chunk.now }
+{
+    let (line, _) = first_line(chunk);
+    match next_word(line, 1) {
+        None => false,
+        Some(first) => match next_word(first.rest, first.column) {
+            Some(_) => false,
+            None => first.word.text == b"%%".as_slice(),
+        },
+    }
+}
+
+/// The parts of a text of fewer than 4,000,000,000 bytes: all of it is the first where no line `%%` stands.
+pub fn cut_parts<'a>(text: &'a [u8]) -> Parts<'a>
+    requires { length text.now < 4000000000 }
+    ensures { parts result ≡ halves_of text.now }
+{
+    let mut at = 0;
+    while at < text.len() {
+        let (model, left) = text.split_at(at);
+        let (line, rest) = left.split_at(line_end(left));
+        if is_separator(line) {
+            return Parts {
+                model,
+                rest: Some(rest),
+            };
+        }
+        at += line.len();
+    }
+    Parts {
+        model: text,
+        rest: None,
+    }
+}

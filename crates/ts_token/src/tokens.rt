@@ -1,0 +1,87 @@
+//! The lines of a text, with their numbers and words.
+
+ghost use Rattle.std.specs.Prelude.{◌≡◌, ◌<◌, ◌≤◌, length, IfOk, OnOk};
+ghost use Rattle.ts_token.specs.Text.{is_text, is_skipped, cut_of};
+ghost use Rattle.ts_token.specs.Views.{pieces, cut};
+ghost use Rattle.ts_token.specs.Steps.{with_line};
+
+use crate::lines::first_line;
+use crate::words::{Word, cut_words};
+use std::alloc::Global;
+use ts_base::Memory;
+
+/// A line by its number, counted from 1, with its words; it has one at least.
+#[derive(Drop)]
+pub struct Line<'a> {
+    pub number: u32,
+    pub words: Vec<Word<'a>>,
+}
+
+/// The unskipped lines before the first line that isn't text, the number of all lines, and that line's number.
+#[derive(Drop)]
+pub struct Tokens<'a> {
+    pub lines: Vec<Line<'a>>,
+    pub count: u32,
+    pub not_text: Option<u32>,
+}
+
+#[tactic(auto, unfolding(crate::specs::Text::is_plain))]
+fn is_text(line: &[u8]) -> bool
+    ensures { result ≡ is_text line.now }
+{
+    line.iter().all(|b| *b >= b' ' && *b <= b'~' || *b == b'\t')
+}
+
+/// No word stands in the line, or the first one begins with `#`.
+fn is_skipped(words: &[Word]) -> bool
+    ensures { result ≡ is_skipped (pieces words.now) }
+{
+    match words.first() {
+        None => true,
+        Some(word) => word.text.first() == Some(&b'#'),
+    }
+}
+
+/// Counts one more line, and keeps it if it belongs to the tokens.
+fn take_line<'a>(alloc: Global, tokens: &mut Tokens<'a>, line: &'a [u8]) -> Result<(), Memory>
+    requires short { length line.now < 4000000000 }
+    requires room { tokens.old.count < 4000000000 }
+    ensures { OnOk result (cut tokens.new ≡ with_line (cut tokens.old) line.now) }
+{
+    tokens.count += 1;
+    if tokens.not_text.is_some() {
+        return Ok(());
+    }
+    if !is_text(line) {
+        tokens.not_text = Some(tokens.count);
+        return Ok(());
+    }
+    let words = cut_words(alloc, line)?;
+    if !is_skipped(&words) {
+        tokens.lines.push(Line {
+            number: tokens.count,
+            words,
+        })?;
+    }
+    Ok(())
+}
+
+/// The lines and words of a text of fewer than 4,000,000,000 bytes, in one pass; each word is lent from the text.
+pub fn cut_tokens<'a>(alloc: Global, text: &'a [u8]) -> Result<Tokens<'a>, Memory>
+    requires { length text.now < 4000000000 }
+    ensures tokens { IfOk result (λ tokens. cut tokens ≡ cut_of text.now) }
+    ensures counted { IfOk result (λ tokens. tokens.count ≤ length text.now) }
+{
+    let mut tokens = Tokens {
+        lines: Vec::new(alloc),
+        count: 0,
+        not_text: None,
+    };
+    let mut rest = text;
+    while !rest.is_empty() {
+        let (line, after) = first_line(rest);
+        take_line(alloc, &mut tokens, line)?;
+        rest = after;
+    }
+    Ok(tokens)
+}

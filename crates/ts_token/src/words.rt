@@ -1,0 +1,83 @@
+//! The words of a line: its bytes between blanks.
+
+ghost use Rattle.std.specs.Prelude.{◌≡◌, ◌+◌, ◌<◌, ◌^◌, [], ◌∷◌, length, IfOk, IfNone, IfSome};
+ghost use Rattle.std.specs.List.{position, position_or_len};
+ghost use Rattle.ts_token.specs.Text.{is_blank, words_of, words_from};
+ghost use Rattle.ts_token.specs.Views.{piece, pieces};
+ghost use Rattle.ts_token.specs.Steps.{is_solid, IsNext};
+
+use std::alloc::Global;
+use ts_base::Memory;
+
+/// A word, and the number of bytes before it in its line plus 1.
+#[derive(Clone, Copy, Debug)]
+pub struct Word<'a> {
+    pub text: &'a [u8],
+    pub column: u32,
+}
+
+/// A word, and the bytes after it with their column.
+#[derive(Clone, Copy)]
+pub(crate) struct NextWord<'a> {
+    pub word: Word<'a>,
+    pub rest: &'a [u8],
+    pub column: u32,
+}
+
+#[tactic(auto, unfolding(crate::specs::Text::is_blank))]
+fn is_blank(b: u8) -> bool
+    ensures { result ≡ is_blank b }
+{
+    b == b' ' || b == b'\t'
+}
+
+/// Where the first byte that is no blank stands.
+fn solid_at(text: &[u8]) -> Option<usize>
+    ensures { result ≡ position is_solid text.now }
+{
+    text.iter().position(|b| !is_blank(*b))
+}
+
+/// Where the first blank stands.
+fn blank_at(text: &[u8]) -> Option<usize>
+    ensures { result ≡ position is_blank text.now }
+{
+    text.iter().position(|b| is_blank(*b))
+}
+
+/// The first word of the bytes from a column on.
+pub(crate) fn next_word<'a>(rest: &'a [u8], column: u32) -> Option<NextWord<'a>>
+    requires { column + length rest.now < 2 ^ 32 }
+    ensures none { IfNone result (words_from column rest.now ≡ []) }
+    ensures some { IfSome result (λ next. IsNext column rest.now next) }
+{
+    let blanks = solid_at(rest).unwrap_or(rest.len());
+    let (_, rest) = rest.split_at(blanks);
+    if rest.is_empty() {
+        return None;
+    }
+    let column = column + blanks as u32;
+    let len = blank_at(rest).unwrap_or(rest.len());
+    let (text, rest) = rest.split_at(len);
+    Some(NextWord {
+        word: Word { text, column },
+        rest,
+        column: column + len as u32,
+    })
+}
+
+/// All words of a line.
+pub(crate) fn cut_words<'a>(alloc: Global, line: &'a [u8]) -> Result<Vec<Word<'a>>, Memory>
+    requires { length line.now < 4000000000 }
+    ensures { IfOk result (λ words. pieces words.items ≡ words_of line.now) }
+{
+    let mut words = Vec::new(alloc);
+    let mut rest = line;
+    let mut column = 1;
+    while let Some(next) = next_word(rest, column) {
+        words.push(next.word)?;
+        rest = next.rest;
+        column = next.column;
+    }
+    Ok(words)
+}
