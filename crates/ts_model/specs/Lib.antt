@@ -1,0 +1,7 @@
+pub mod Words
+pub mod Statement
+pub mod Stated
+pub mod ModelReading
+pub mod Series
+pub mod Compares
+pub mod Views

@@ -1,0 +1,14 @@
+//! The model text and the series text.
+#![tactic(auto)]
+
+pub mod cells;
+pub mod draft;
+pub mod error;
+pub mod model;
+pub mod names;
+pub mod parse;
+pub mod statement;
+pub mod words;
+
+pub use error::{ModelKind, ModelStop, SeriesStop};
+pub use model::{Model, Need, Op, Require, satisfies};
