@@ -1,6 +1,12 @@
 //! Patterns: an expression and the cells that an occurrence leaves out at its ends.
 #![tactic(auto)]
 
+pub mod name;
 pub mod pattern;
+pub mod term;
 
+pub use name::{
+    Aggregator, Feature, PatternId, aggregator_of, feature_of, pattern_name, pattern_of,
+};
 pub use pattern::Pattern;
+pub use term::Term;
