@@ -1,1 +1,6 @@
 mod AsciiNames
+mod TableNames
+mod RangeLaws
+mod UnionLaws
+mod CellLaws
+mod TermLaws

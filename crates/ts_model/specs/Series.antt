@@ -1,10 +1,10 @@
 -- The one line `series v_1 .. v_n` of a text, or the first kind that holds of the text.
-use Rattle.std.specs.Prelude.{ℕ, codes, ◌==◌, ℤ, Bool, false, not, ◌&&◌, List, [], ◌∷◌, length, if◌then◌else◌, Option, Some, None, Result, Ok, Err, is_none, unwrap_or}
+use Rattle.std.specs.Prelude.{◌≡◌, ℕ, codes, ◌==◌, ℤ, Bool, false, not, ◌&&◌, List, [], ◌∷◌, length, if◌then◌else◌, Option, Some, None, Result, Ok, Err, is_none, unwrap_or}
 use Rattle.std.specs.Str.{bytes_eq}
 use Rattle.ts_token.specs.Text.{Row, Cut}
 use Rattle.ts_token.specs.Number.{number_of}
 use Rattle.ts_model.specs.declared.error.SeriesStop.{SeriesStop}
-use Rattle.ts_model.specs.declared.error.SeriesStop.TheVariants.{Shape, Number, Length}
+use Rattle.ts_model.specs.declared.error.SeriesStop.TheVariants.{Shape, Number, Length, Memory}
 use Rattle.ts_model.specs.Stated.{is_value}
 use Rattle.ts_model.specs.ModelReading.{texts_of}
 
@@ -58,3 +58,11 @@ words_give n (Some words) = numbers_give n (values_of words)
 -- the series, or the first of `shape`, `number` and `length` that holds
 abbrev pub series_reading : ℕ → Cut → Result (List ℤ) SeriesStop
 series_reading n c = words_give n (series_words c c.not_text)
+
+-- the result is what the text reads as, unless memory ran out
+abbrev pub ReadsSeries : {X : Type 0} → (X → List ℤ) → Result X SeriesStop → Result (List ℤ) SeriesStop → Type 0
+ReadsSeries view (Ok x) read = read ≡ Ok (view x)
+ReadsSeries view (Err Shape) read = read ≡ Err Shape
+ReadsSeries view (Err Number) read = read ≡ Err Number
+ReadsSeries view (Err Length) read = read ≡ Err Length
+ReadsSeries view (Err Memory) read = Unit {0}

@@ -45,6 +45,13 @@ abbrev pub count_of : ℤ → ℕ
 count_of (pos n) = n
 count_of (negsuc n) = 0
 
+-- of count cells, this one stands at the place
+pub record IsPlace (cell : ℤ) (count place : ℕ) : Type 0 where
+  pub within : is_between (pos 1) cell (pos count) ≡ true
+  pub place_is : count_of cell - 1 ≡ place
+  pub there : place < count
+
+-- the domain of a cell that no line sets: 0 to 9
 abbrev pub digits : List Interval
 digits = record { low = pos 0; high = pos 9 } ∷ []
 
@@ -169,6 +176,11 @@ passes_limit lists m (SaysCell k rs) = if list_any is_outside rs then true else 
 passes_limit lists m (SaysTerm name parts) = nat_lt 31 (length m.terms)
 passes_limit lists m (SaysRequire name op bound) = if is_bound bound then nat_lt 63 (length m.requirements) else true
 passes_limit lists m (SaysObjective name) = false
+
+-- the parts of a term, or the kind of bad names
+abbrev pub term_made : Option TermParts → Result TermParts ModelKind
+term_made None = Err UnknownName
+term_made (Some parts) = if is_pair parts.aggregator parts.feature then Ok parts else Err BadPair
 
 -- the kinds in their order, each with its test
 abbrev pub kinds : Bool → Stated → Said → List (Bool × ModelKind)

@@ -11,18 +11,15 @@ use Rattle.ts_model.specs.declared.statement.Statement.TheVariants.{Cells as Cel
 use Rattle.ts_model.specs.declared.statement.TermParts.{TermParts}
 use Rattle.ts_model.specs.declared.model.Model.{Model}
 use Rattle.ts_model.specs.declared.model.Need.{Need}
-use Rattle.ts_model.specs.declared.cells.Own.{Own}
-use Rattle.ts_model.specs.declared.cells.Cells.{Cells}
 use Rattle.ts_model.specs.declared.draft.Draft.{Draft}
 use Rattle.ts_model.specs.declared.error.ModelKind.{ModelKind}
 use Rattle.ts_model.specs.declared.error.LineStop.{LineStop}
 use Rattle.ts_model.specs.declared.error.LineStop.TheVariants.{Bad, NoMemory}
 use Rattle.ts_model.specs.declared.error.ModelStop.{ModelStop}
 use Rattle.ts_model.specs.declared.error.ModelStop.TheVariants.{Refused, Memory}
-use Rattle.ts_model.specs.declared.error.SeriesStop.{SeriesStop}
-use Rattle.ts_model.specs.declared.error.SeriesStop.TheVariants.{Shape, Number, Length, Memory as SeriesMemory}
 use Rattle.ts_model.specs.Statement.{Said, SaysCells, SaysDomain, SaysCell, SaysTerm, SaysRequire, SaysObjective}
-use Rattle.ts_model.specs.Stated.{Stated, total_of}
+use Rattle.ts_model.specs.Stated.{Stated}
+use Rattle.ts_model.specs.Cells.{domains, IsKept}
 use Rattle.ts_model.specs.ModelReading.{IsModel, IsRefused}
 
 abbrev pub texts : List Word → List (List ℕ)
@@ -50,14 +47,6 @@ stated m = record {
   requirements = m.requirements.items;
   objective = m.objective;
 }
-
--- the domain of a cell: its own one if that is newer than the common one
-abbrev pub in_force : ℕ → List ℤ → Option Own → List ℤ
-in_force since common None = common
-in_force since common (Some own) = if nat_lt since own.line then own.domain else common
-
-abbrev pub domains : Cells → List (List ℤ)
-domains c = map (in_force c.common_line c.common) c.own.items
 
 abbrev pub drafted : Draft → Stated
 drafted d = record {
@@ -91,13 +80,10 @@ Tells need c (Ok m) = IsModel need c (stated m)
 Tells need c (Err (Refused line kind)) = IsRefused need c line kind
 Tells need c (Err Memory) = Unit {0}
 
--- a series, or the kind of its text, unless memory ran out
-abbrev pub ReadsSeries : Result (List ℤ) SeriesStop → Result (List ℤ) SeriesStop → Type 0
-ReadsSeries (Ok values) read = read ≡ Ok values
-ReadsSeries (Err Shape) read = read ≡ Err Shape
-ReadsSeries (Err Number) read = read ≡ Err Number
-ReadsSeries (Err Length) read = read ≡ Err Length
-ReadsSeries (Err SeriesMemory) read = Unit {0}
+-- what is kept beside a draft before the line with this number is read
+pub record IsSound (lists : Bool) (line : ℕ) (d : Draft) : Type 0 where
+  pub cells : IsKept lists line d.cells
+  pub terms : length d.terms.entries ≤ 32
 
 abbrev pub at_line : ℕ → LineStop → ModelStop
 at_line line (Bad kind) = Refused line kind

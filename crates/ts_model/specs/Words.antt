@@ -1,7 +1,7 @@
 -- What a single word of a model text is: a first word, a comparison, a name, a bound, a range.
 use Rattle.std.specs.Prelude.{ℕ, codes, ◌+◌, ◌==◌, ℤ, Bool, true, false, ◌&&◌, List, [], ◌∷◌, length, take, drop, if◌then◌else◌, nat_le, Option, Some, None}
 use Rattle.std.specs.Option.{option_map}
-use Rattle.std.specs.List.{list_all, position}
+use Rattle.std.specs.List.{find, list_all, position}
 use Rattle.std.specs.Str.{bytes_eq}
 use Rattle.ts_base.specs.declared.ext.Ext.{Ext}
 use Rattle.ts_base.specs.declared.ext.Ext.TheVariants.{NegInf, Int, PosInf}
@@ -12,8 +12,7 @@ use Rattle.ts_pattern.specs.declared.name.Aggregator.TheVariants.{Sum, Max, Min}
 use Rattle.ts_pattern.specs.declared.name.Feature.{Feature}
 use Rattle.ts_pattern.specs.declared.name.Feature.TheVariants.{One, Width, Surf, Max as MaxFeature, Min as MinFeature}
 use Rattle.ts_pattern.specs.declared.name.PatternId.{PatternId}
-use Rattle.ts_pattern.specs.declared.name.PatternId.TheVariants.{Increasing, Decreasing, Steady, IncreasingSequence, DecreasingSequence, StrictlyIncreasingSequence, StrictlyDecreasingSequence, SteadySequence, IncreasingTerrace, DecreasingTerrace, Inflexion, Peak, Valley, Plateau, Plain, ProperPlateau, ProperPlain, Summit, Gorge, Zigzag, DipOnIncreasingSequence, BumpOnDecreasingSequence}
-use Rattle.ts_pattern.specs.Names.{aggregator_name, feature_name, pattern_name}
+use Rattle.ts_pattern.specs.Names.{aggregator_name, feature_name, pattern_name, all_patterns}
 use Rattle.ts_model.specs.declared.words.Form.{Form}
 use Rattle.ts_model.specs.declared.words.Form.TheVariants.{Cells, Domain, Cell, Term, Require, Objective}
 use Rattle.ts_model.specs.declared.model.Op.{Op}
@@ -96,29 +95,13 @@ abbrev pub ranges_of : List (List ℕ) → Option (List Interval)
 ranges_of [] = Some []
 ranges_of (word ∷ words) = onto_ranges (range_of word) (ranges_of words)
 
--- the first of the values whose name is the word
-unfoldable pub named : {A : Type 0} → (A → List ℕ) → List A → List ℕ → Option A
-named name [] word = None
-named name (x ∷ xs) word = if bytes_eq (name x) word then Some x else named name xs word
+-- the name of the table that the word is
 
-unfoldable pub aggregators : List Aggregator
-aggregators = Sum ∷ Max ∷ Min ∷ []
+unfoldable pub aggregator_of : List ℕ → Option Aggregator
+aggregator_of word = find (λ x. bytes_eq (aggregator_name x) word) (Sum ∷ Max ∷ Min ∷ [])
 
-unfoldable pub features : List Feature
-features = One ∷ Width ∷ Surf ∷ MaxFeature ∷ MinFeature ∷ []
+unfoldable pub feature_of : List ℕ → Option Feature
+feature_of word = find (λ x. bytes_eq (feature_name x) word) (One ∷ Width ∷ Surf ∷ MaxFeature ∷ MinFeature ∷ [])
 
-unfoldable pub patterns : List PatternId
-patterns =
-    Increasing ∷ Decreasing ∷ Steady ∷ IncreasingSequence ∷ DecreasingSequence ∷ StrictlyIncreasingSequence
-    ∷ StrictlyDecreasingSequence ∷ SteadySequence ∷ IncreasingTerrace ∷ DecreasingTerrace ∷ Inflexion ∷ Peak ∷ Valley
-    ∷ Plateau ∷ Plain ∷ ProperPlateau ∷ ProperPlain ∷ Summit ∷ Gorge ∷ Zigzag ∷ DipOnIncreasingSequence
-    ∷ BumpOnDecreasingSequence ∷ []
-
-abbrev pub aggregator_of : List ℕ → Option Aggregator
-aggregator_of word = named aggregator_name aggregators word
-
-abbrev pub feature_of : List ℕ → Option Feature
-feature_of word = named feature_name features word
-
-abbrev pub pattern_of : List ℕ → Option PatternId
-pattern_of word = named pattern_name patterns word
+unfoldable pub pattern_of : List ℕ → Option PatternId
+pattern_of word = find (λ x. bytes_eq (pattern_name x) word) all_patterns

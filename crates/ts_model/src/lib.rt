@@ -6,8 +6,10 @@ pub mod draft;
 pub mod error;
 pub mod model;
 pub mod names;
+pub mod own;
 pub mod parse;
 pub mod statement;
+pub mod take;
 pub mod words;
 
 pub use error::{ModelKind, ModelStop, SeriesStop};
