@@ -1,0 +1,7 @@
+pub mod Runs
+pub mod Ranges
+pub mod Unions
+pub mod Joins
+pub mod Readings
+pub mod Changes
+pub mod Trails

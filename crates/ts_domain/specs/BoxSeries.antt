@@ -1,0 +1,45 @@
+-- A box has one set of numbers per cell, each as its rising list; its series take each value from the set of its cell.
+use Rattle.std.specs.Prelude.{◌≡◌, ℕ, ◌*◌, ◌-◌, ◌<◌, ◌≤◌, ℤ, List, [], ◌∷◌, ◌++◌, length, take, get_or, set}
+use Rattle.std.specs.List.{Contains, AllByRecursion}
+use Rattle.ts_domain.specs.Values.{IsDomain}
+
+-- the series is one of the box
+abbrev pub InBox : List ℤ → List (List ℤ) → Type 0
+InBox [] [] = Unit {0}
+InBox [] (d ∷ ds) = ⊥
+InBox (v ∷ vs) [] = ⊥
+InBox (v ∷ vs) (d ∷ ds) = Contains d v × InBox vs ds
+
+-- the number of its series
+abbrev pub series_count : List (List ℤ) → ℕ
+series_count [] = 1
+series_count (d ∷ ds) = length d * series_count ds
+
+-- each cell has a non-empty set within the limits
+abbrev pub IsBox : List (List ℤ) → Type 0
+IsBox cells = AllByRecursion IsDomain cells
+
+-- the boxes so far, the present one last
+pub record Boxes : Type 0 where
+  pub earlier : List (List (List ℤ))
+  pub present : List (List ℤ)
+
+-- all of them in one list
+abbrev pub all_boxes : Boxes → List (List (List ℤ))
+all_boxes b = b.earlier ++ b.present ∷ []
+
+-- k is the number of a cell, counted from 1
+abbrev pub IsCell : ℕ → Boxes → Type 0
+IsCell k b = (1 ≤ k) × (k ≤ length b.present)
+
+-- the set of cell k in the present box
+abbrev pub cell_of : ℕ → Boxes → List ℤ
+cell_of k b = get_or b.present (k - 1) []
+
+-- one more box: the present one, of which cell k keeps what `keep` leaves
+abbrev pub narrowed : ℕ → (List ℤ → List ℤ) → Boxes → Boxes
+narrowed k keep b = record { earlier = all_boxes b; present = set b.present (k - 1) (keep (cell_of k b)) }
+
+-- back to the box at a place, counted from 0
+abbrev pub back_to : ℕ → Boxes → Boxes
+back_to mark b = record { earlier = take mark (all_boxes b); present = get_or (all_boxes b) mark [] }

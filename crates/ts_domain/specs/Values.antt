@@ -1,0 +1,48 @@
+-- Sets of numbers as their rising lists, and the ranges that keep them.
+use Rattle.std.specs.Prelude.{◌≡◌, ◌≢◌, ℕ, zero, suc, ℤ, pos, negsuc, neg_ℤ, ◌+ℤ◌, ◌-ℤ◌, ◌≤ℤ◌, ◌<ℤ◌, List, [], ◌∷◌, ◌++◌}
+use Rattle.std.specs.List.{AllByRecursion}
+use Rattle.ts_domain.specs.declared.interval.Interval.{Interval}
+
+-- a number of a domain or of a series
+abbrev pub WithinLimits : ℤ → Type 0
+WithinLimits v = (neg_ℤ (pos 1000000) ≤ℤ v) × (v ≤ℤ pos 1000000)
+
+-- each number is below the later ones
+unfoldable pub Rising : List ℤ → Type 0
+Rising [] = Unit {0}
+Rising (x ∷ xs) = AllByRecursion (λ y. x <ℤ y) xs × Rising xs
+
+-- a non-empty set of numbers within the limits, as its rising list
+pub record IsDomain (values : List ℤ) : Type 0 where
+  pub rising : Rising values
+  pub some : values ≢ []
+  pub within : AllByRecursion WithinLimits values
+
+-- a number from 0 on, and 0 for those below
+abbrev pub natural : ℤ → ℕ
+natural (pos n) = n
+natural (negsuc n) = 0
+
+-- so many numbers from `low` on
+unfoldable pub run : ℤ → ℕ → List ℤ
+run low zero = []
+run low (suc n) = low ∷ run (low +ℤ pos 1) n
+
+-- the numbers from `low` to `high`
+unfoldable pub values_between : ℤ → ℤ → List ℤ
+values_between low high = run low (natural ((high +ℤ pos 1) -ℤ low))
+
+-- the numbers of the ranges, one range after the other
+unfoldable pub values_of : List Interval → List ℤ
+values_of [] = []
+values_of (r ∷ rs) = values_between r.low r.high ++ values_of rs
+
+-- no range is empty, each begins at `from` or later and ends within the limits, and a gap lies before the next one
+unfoldable pub RangesFrom : ℤ → List Interval → Type 0
+RangesFrom from [] = Unit {0}
+RangesFrom from (r ∷ rs) = (from ≤ℤ r.low) × (r.low ≤ℤ r.high) × (r.high ≤ℤ pos 1000000) × RangesFrom (r.high +ℤ pos 2) rs
+
+-- the ranges of a set in its one form
+pub record AreRanges (ranges : List Interval) : Type 0 where
+  pub apart : RangesFrom (neg_ℤ (pos 1000000)) ranges
+  pub some : ranges ≢ []

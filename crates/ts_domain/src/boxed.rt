@@ -1,0 +1,149 @@
+//! One domain per cell, with a trail that leads back to every earlier box.
+
+ghost use Rattle.std.specs.Prelude.{◌≡◌, ◌≢◌, ◌-◌, ◌<◌, ◌≤◌, [], ◌∷◌, ◌++◌, length, IfOk, OnOk, OnErr, slice_get, Some};
+ghost use Rattle.ts_domain.specs.Kept.{kept, values_up_to, values_above, values_without};
+ghost use Rattle.ts_domain.specs.BoxSeries.{IsBox, IsCell, cell_of, narrowed, back_to};
+ghost use Rattle.ts_domain.specs.Values.{IsDomain};
+
+use crate::domain::Domain;
+use crate::keep::Keep;
+use std::alloc::Global;
+use std::marker::Model;
+use std::mem;
+use ts_base::Memory;
+
+/// A change: the place of the cell, and its domain before.
+#[derive(Drop)]
+struct Step {
+    cell: u32,
+    before: Domain,
+}
+
+/// One domain per cell, and the boxes before the present one. Contracts see the list of the boxes, the present one last.
+#[derive(Drop)]
+pub struct Boxed {
+    alloc: Global,
+    cells: Vec<Domain>,
+    trail: Vec<Step>,
+}
+
+impl Model for Boxed {
+    ghost use Rattle.ts_domain.specs.BoxSeries.{Boxes};
+
+    ghost Value = { Boxes };
+
+    ghost use Rattle.ts_domain.specs.Trail.{earlier_boxes, StepsFit};
+
+    ghost view = { λ b. record { earlier = earlier_boxes b.trail.items b.cells.items; present = b.cells.items } };
+
+    ghost invariant = { λ b. StepsFit b.trail.items b.cells.items };
+}
+
+impl Boxed {
+    /// The box of these domains, with no box before it.
+    pub fn new(alloc: Global, cells: &[Domain]) -> Result<Boxed, Memory>
+        requires { length cells.now < 4000000000 }
+        ensures { IfOk result (λ b. b ≡ record { earlier = []; present = cells.now }) }
+    {
+        let mut copies = Vec::new(alloc);
+        for domain in cells {
+            copies.reserve(1)?;
+            copies.push_reserved(domain.try_clone(alloc)?);
+        }
+        Ok(Boxed {
+            alloc,
+            cells: copies,
+            trail: Vec::new(alloc),
+        })
+    }
+
+    /// The number of cells.
+    pub fn cells(&self) -> u32
+        ensures count { result ≡ length self.now.present }
+        ensures domains { IsBox self.now.present }
+    {
+        self.cells.len() as u32
+    }
+
+    /// The domain of cell `k`, counted from 1, in the present box.
+    pub fn cell(&self, k: u32) -> &Domain
+        requires { IsCell k self.now }
+        ensures { slice_get self.now.present (k - 1) ≡ Some result.now }
+    {
+        &self.cells[k as usize - 1]
+    }
+
+    /// Leaves the values of cell `k` up to `t`; one of them has to be there. After `Memory` nothing has changed.
+    pub fn keep_low(&mut self, k: u32, t: i64) -> Result<(), Memory>
+        requires cell { IsCell k self.old }
+        requires stays { values_up_to t (cell_of k self.old) ≢ [] }
+        ensures ok { OnOk result (self.new ≡ narrowed k (values_up_to t) self.old) }
+        ensures err { OnErr result (self.new ≡ self.old) }
+    {
+        self.change(k, Keep::UpTo(t))
+    }
+
+    /// Leaves the values of cell `k` above `t`; one of them has to be there. After `Memory` nothing has changed.
+    pub fn keep_high(&mut self, k: u32, t: i64) -> Result<(), Memory>
+        requires cell { IsCell k self.old }
+        requires stays { values_above t (cell_of k self.old) ≢ [] }
+        ensures ok { OnOk result (self.new ≡ narrowed k (values_above t) self.old) }
+        ensures err { OnErr result (self.new ≡ self.old) }
+    {
+        self.change(k, Keep::Above(t))
+    }
+
+    /// Leaves all values of cell `k` but `v`; another one has to be there. After `Memory` nothing has changed.
+    pub fn remove(&mut self, k: u32, v: i64) -> Result<(), Memory>
+        requires cell { IsCell k self.old }
+        requires stays { values_without v (cell_of k self.old) ≢ [] }
+        ensures ok { OnOk result (self.new ≡ narrowed k (values_without v) self.old) }
+        ensures err { OnErr result (self.new ≡ self.old) }
+    {
+        self.change(k, Keep::AllBut(v))
+    }
+
+    /// The number of boxes before the present one, by which `undo` finds the present one again.
+    pub fn mark(&self) -> usize
+        ensures { result ≡ length self.now.earlier }
+    {
+        self.trail.len()
+    }
+
+    /// Goes back to the box at place `mark`, counted from 0 at the first one; the boxes after it are forgotten.
+    pub fn undo(&mut self, mark: usize)
+        requires { mark ≤ length self.old.earlier }
+        ensures { self.new ≡ back_to mark self.old }
+    {
+        while self.mark() > mark {
+            self.undo_one();
+        }
+    }
+}
+
+impl Boxed {
+    // One more box, in which cell `k` has the values that `keep` keeps; the memory is taken before the first change.
+    fn change(&mut self, k: u32, keep: Keep) -> Result<(), Memory>
+        requires cell { IsCell k self.old }
+        requires stays { kept keep (cell_of k self.old) ≢ [] }
+        ensures ok { OnOk result (self.new ≡ narrowed k (kept keep) self.old) }
+        ensures err { OnErr result (self.new ≡ self.old) }
+    {
+        let at = k - 1;
+        self.trail.reserve(1)?;
+        let left = self.cells[at as usize].kept(self.alloc, keep)?;
+        let before = mem::replace(&mut self.cells[at as usize], left);
+        self.trail.push_reserved(Step { cell: at, before });
+        Ok(())
+    }
+
+    // Back to the box before.
+    fn undo_one(&mut self)
+        requires { 0 < length self.old.earlier }
+        ensures { self.new ≡ back_to (length self.old.earlier - 1) self.old }
+    {
+        if let Some(step) = self.trail.pop() {
+            drop(mem::replace(&mut self.cells[step.cell as usize], step.before));
+        }
+    }
+}

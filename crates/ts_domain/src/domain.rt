@@ -1,0 +1,244 @@
+//! Non-empty finite sets of numbers.
+
+ghost use Rattle.std.specs.Prelude.{◌≡◌, ◌≢◌, ℕ, ◌<◌, ◌↔◌, ℤ, pos, neg_ℤ, ◌⊎◌, [], ◌++◌, length, slice_get, Some, IsTrue, IfOk, OnOk, All, Contains, int_le, int_lt, ◌&&◌};
+ghost use Rattle.std.specs.List.{list_any, zip};
+ghost use Rattle.std.specs.Option.{option_to_list};
+ghost use Rattle.ts_domain.specs.Kept.{kept};
+ghost use Rattle.ts_domain.specs.Union.{InSomeRange, SomeEmpty, InSome, LowsRise, paired};
+ghost use Rattle.ts_domain.specs.Values.{IsDomain, WithinLimits, values_of, AreRanges};
+
+use crate::interval::Interval;
+use crate::keep::Keep;
+use smallvec::SmallVec;
+use std::alloc::Global;
+use std::marker::Model;
+use thiserror::Error;
+use ts_base::Memory;
+
+/// A non-empty set of numbers from -1,000,000 to 1,000,000, which contracts see as its rising list.
+#[derive(Debug, Drop)]
+pub struct Domain {
+    ranges: SmallVec<Interval, 2>,
+}
+
+/// Why ranges make no domain: there is none, or one is empty; or there was no memory.
+#[derive(Clone, Copy, Debug, PartialEq, Eq, Error)]
+pub enum DomainStop {
+    #[error("a range is empty, or there is none")]
+    Empty,
+    #[error("out of memory")]
+    Memory,
+}
+
+ghost use Rattle.ts_domain.specs.declared.domain.DomainStop.TheVariants.{Memory as OutOfMemory};
+
+impl From<Memory> for DomainStop {
+    ghost from_gives = { λ _ stop. stop ≡ OutOfMemory };
+
+    fn from(_error: Memory) -> DomainStop {
+        DomainStop::Memory
+    }
+}
+
+impl Model for Domain {
+    ghost use Rattle.std.specs.Prelude.{ℤ, List};
+    ghost use Rattle.ts_domain.specs.Values.{values_of, AreRanges};
+
+    ghost Value = { List ℤ };
+
+    ghost view = { λ d. values_of d.ranges.items };
+
+    ghost invariant = { λ d. AreRanges d.ranges.items };
+}
+
+impl Domain {
+    /// The union of the ranges from `lows[i]` to `highs[i]`, whose numbers are from -1,000,000 to 1,000,000.
+    /// `Empty` comes exactly where there is no range or some low is above its high.
+    pub fn from_ranges(alloc: Global, lows: &[i64], highs: &[i64]) -> Result<Domain, DomainStop>
+        requires pairs { length lows.now ≡ length highs.now }
+        requires lows_within { All WithinLimits lows.now }
+        requires highs_within { All WithinLimits highs.now }
+        ensures union { IfOk result (λ d. (v : ℤ) → Contains d v ↔ InSomeRange lows.now highs.now v) }
+        ensures domain { IfOk result IsDomain }
+        ensures empty { (result ≡ Err DomainStop.Empty)
+            ↔ ((lows.now ≡ []) ⊎ SomeEmpty lows.now highs.now) }
+    {
+        if has_no_union(lows, highs) {
+            return Err(DomainStop::Empty);
+        }
+        Ok(union_of(alloc, lows, highs)?)
+    }
+
+    /// The same set once more.
+    pub fn try_clone(&self, alloc: Global) -> Result<Domain, Memory>
+        ensures same { IfOk result (λ d. d ≡ self.now) }
+        ensures domain { IfOk result IsDomain }
+    {
+        Ok(Domain {
+            ranges: SmallVec::from_slice(alloc, self.ranges.as_slice())?,
+        })
+    }
+
+    /// Whether `v` is one of the numbers.
+    pub fn contains(&self, v: i64) -> bool
+        ensures { IsTrue result ↔ Contains self.now v }
+    {
+        some_has(self.ranges.as_slice(), v)
+    }
+
+    /// How many numbers there are.
+    pub fn size(&self) -> u64
+        ensures size { result ≡ length self.now }
+        ensures domain { IsDomain self.now }
+    {
+        let mut size = 0;
+        for range in self.ranges.as_slice() {
+            size += range.count();
+        }
+        size
+    }
+
+    /// The number at place `i` in rising order, counted from 0.
+    pub fn nth(&self, i: u64) -> i64
+        requires { i < length self.now }
+        ensures { slice_get self.now i ≡ Some result }
+    {
+        let mut left = i;
+        for range in self.ranges.as_slice() {
+            let count = range.count();
+            if left < count {
+                return range.low + left as i64;
+            }
+            left -= count;
+        }
+        unreachable!()
+    }
+
+    /// Whether there is one number alone.
+    pub fn is_single(&self) -> bool
+        ensures { IsTrue result ↔ (length self.now ≡ 1) }
+    {
+        match self.ranges.as_slice() {
+            [only] => only.is_single(),
+            _ => false,
+        }
+    }
+
+    /// The ranges in rising order, a gap between each two.
+    pub fn ranges(&self) -> &[Interval]
+        ensures values { values_of result.now ≡ self.now }
+        ensures ranges { AreRanges result.now }
+    {
+        self.ranges.as_slice()
+    }
+
+    /// The set of the values that `keep` keeps.
+    pub(crate) fn kept(&self, alloc: Global, keep: Keep) -> Result<Domain, Memory>
+        requires { kept keep self.now ≢ [] }
+        ensures kept { IfOk result (λ d. d ≡ kept keep self.now) }
+        ensures domain { IfOk result IsDomain }
+    {
+        let mut left = SmallVec::new(alloc);
+        for range in self.ranges.as_slice() {
+            push_part(&mut left, keep.lower_part(*range))?;
+            push_part(&mut left, keep.upper_part(*range))?;
+        }
+        Ok(Domain { ranges: left })
+    }
+}
+
+// Appends a range, if there is one.
+fn push_part(ranges: &mut SmallVec<Interval, 2>, part: Option<Interval>) -> Result<(), Memory>
+    ensures { OnOk result (ranges.new.items ≡ ranges.old.items ++ option_to_list part) }
+{
+    if let Some(range) = part {
+        ranges.push(range)?;
+    }
+    Ok(())
+}
+
+// Whether some range has the number.
+fn some_has(ranges: &[Interval], v: i64) -> bool
+    ensures { result ≡ list_any (λ r. int_le r.low v && int_le v r.high) ranges.now }
+{
+    ranges.iter().any(|range| range.low <= v && v <= range.high)
+}
+
+// Whether some low is above its high.
+fn has_empty(lows: &[i64], highs: &[i64]) -> bool
+    ensures { result ≡ list_any (λ p. int_lt p.1 p.0) (zip lows.now highs.now) }
+{
+    lows.iter().zip(highs).any(|(low, high)| low > high)
+}
+
+// Whether there is no range, or some low is above its high.
+fn has_no_union(lows: &[i64], highs: &[i64]) -> bool
+    requires { length lows.now ≡ length highs.now }
+    ensures { IsTrue result ↔ ((lows.now ≡ []) ⊎ SomeEmpty lows.now highs.now) }
+{
+    lows.is_empty() || has_empty(lows, highs)
+}
+
+// The two lists as one list of ranges.
+fn ranges_of(alloc: Global, lows: &[i64], highs: &[i64]) -> Result<Vec<Interval>, Memory>
+    ensures { IfOk result (λ v. v.items ≡ paired lows.now highs.now) }
+{
+    let ranges = lows
+        .iter()
+        .zip(highs)
+        .map(|(low, high)| Interval {
+            low: *low,
+            high: *high,
+        })
+        .collect(alloc)?;
+    Ok(ranges)
+}
+
+// The ranges by rising lows.
+fn sorted_ranges(alloc: Global, lows: &[i64], highs: &[i64]) -> Result<Vec<Interval>, Memory>
+    requires pairs { length lows.now ≡ length highs.now }
+    requires lows_within { All WithinLimits lows.now }
+    requires highs_within { All WithinLimits highs.now }
+    requires ordered { SomeEmpty lows.now highs.now → ⊥ }
+    ensures sorted { IfOk result (λ v. LowsRise (neg_ℤ (pos 1000000)) v.items) }
+    ensures same { IfOk result (λ v. (n : ℤ) → InSome v.items n ↔ InSomeRange lows.now highs.now n) }
+    ensures len { IfOk result (λ v. length v.items ≡ length lows.now) }
+{
+    let mut ranges = ranges_of(alloc, lows, highs)?;
+    ranges.as_mut_slice().sort_unstable();
+    Ok(ranges)
+}
+
+// The union of ranges of which none is empty.
+fn union_of(alloc: Global, lows: &[i64], highs: &[i64]) -> Result<Domain, Memory>
+    requires pairs { length lows.now ≡ length highs.now }
+    requires lows_within { All WithinLimits lows.now }
+    requires highs_within { All WithinLimits highs.now }
+    requires usable { ((lows.now ≡ []) ⊎ SomeEmpty lows.now highs.now) → ⊥ }
+    ensures union { IfOk result (λ d. (v : ℤ) → Contains d v ↔ InSomeRange lows.now highs.now v) }
+    ensures domain { IfOk result IsDomain }
+{
+    let sorted = sorted_ranges(alloc, lows, highs)?;
+    joined(alloc, &sorted)
+}
+
+// The union of ranges that come by rising lows: each is joined with the last one where no gap lies between them.
+fn joined(alloc: Global, sorted: &[Interval]) -> Result<Domain, Memory>
+    requires some { 0 < length sorted.now }
+    requires sorted { LowsRise (neg_ℤ (pos 1000000)) sorted.now }
+    ensures union { IfOk result (λ d. (v : ℤ) → Contains d v ↔ InSome sorted.now v) }
+    ensures domain { IfOk result IsDomain }
+{
+    let mut ranges = SmallVec::new(alloc);
+    let mut last = sorted[0];
+    for next in sorted {
+        if next.low <= last.high + 1 {
+            last.high = last.high.max(next.high);
+        } else {
+            ranges.push(last)?;
+            last = *next;
+        }
+    }
+    ranges.push(last)?;
+    Ok(Domain { ranges })
+}

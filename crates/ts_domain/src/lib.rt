@@ -1,0 +1,25 @@
+//! Finite sets of numbers, and boxes of them that remember how they came about.
+//!
+//! A [`Domain`] is a non-empty set of numbers from -1,000,000 to 1,000,000, kept as sorted ranges with gaps between
+//! them, so that one set has one form. To the layer above it is the rising list of its numbers. A [`Boxed`] has one
+//! domain per cell and a trail of earlier domains: to the layer above it is the list of its boxes, the present one last.
+//! Each change leaves exactly the named values of one cell and adds a box, and `undo` goes back to any earlier box
+//! without memory. After want of memory the value is as it was.
+//!
+//! ```text
+//! let digits = Domain::from_ranges(alloc, &[0, 7], &[4, 9])?;
+//! let mut cells = Boxed::new(alloc, &[digits])?;
+//! let mark = cells.mark();
+//! cells.keep_low(1, 5)?; // 0..4
+//! cells.undo(mark); // 0..4 and 7..9
+//! ```
+#![tactic(auto)]
+
+pub mod boxed;
+pub mod domain;
+pub mod interval;
+pub mod keep;
+
+pub use boxed::Boxed;
+pub use domain::{Domain, DomainStop};
+pub use interval::Interval;
