@@ -4,3 +4,6 @@ mod WordLaws
 mod RowLaws
 mod HalfLaws
 mod NumberLaws
+mod SliceLaws
+pub mod NumberTexts
+pub mod CallerLemmas

@@ -3,3 +3,4 @@ pub mod Number
 pub mod Halves
 pub mod Views
 pub mod Steps
+pub mod Slices

@@ -21,3 +21,6 @@ pub use numbers::number;
 pub use parts::{Parts, cut_parts};
 pub use tokens::{Line, Tokens, cut_tokens};
 pub use words::Word;
+
+#[cfg(test)]
+mod tests;

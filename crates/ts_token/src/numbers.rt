@@ -1,6 +1,8 @@
 //! Numbers in words.
 
-ghost use Rattle.std.specs.Prelude.{◌≡◌};
+ghost use Rattle.std.specs.Prelude.{◌≡◌, ◌≢◌, ℤ, IfSome, IfNone, FitsSigned};
+ghost use Rattle.std.specs.Int.{w64};
+ghost use Rattle.std.specs.Fmt.{signed_decimal};
 ghost use Rattle.ts_token.specs.Number.{is_digit, digits_from, natural, upto, negative, number_of};
 
 fn is_digit(b: u8) -> bool
@@ -47,9 +49,8 @@ fn negative(digits: &[u8]) -> Option<i64>
     }
 }
 
-/// The number that a word is: an optional `-` and decimal digits without a leading zero, within 64 signed bits;
-/// None where the word is something else.
-pub fn number(word: &[u8]) -> Option<i64>
+/// The number of an optional `-` and digits.
+fn signed(word: &[u8]) -> Option<i64>
     ensures { result ≡ number_of word.now }
 {
     if word.is_empty() {
@@ -62,4 +63,15 @@ pub fn number(word: &[u8]) -> Option<i64>
         Some(n) => Some(n as i64),
         None => None,
     }
+}
+
+/// The number that a word is: an optional `-` and decimal digits without a leading zero, within 64 signed bits.
+/// None where the word is something else, and so exactly where it isn't what `{}` writes for an `i64`.
+#[tactic(auto, using(crate::proofs::NumberTexts::read_is_written, crate::proofs::NumberTexts::none_is_written))]
+pub fn number(word: &[u8]) -> Option<i64>
+    ensures value { result ≡ number_of word.now }
+    ensures written { IfSome result (λ n. word.now ≡ signed_decimal n) }
+    ensures none { IfNone result ((n : ℤ) → FitsSigned w64 n → word.now ≢ signed_decimal n) }
+{
+    signed(word)
 }

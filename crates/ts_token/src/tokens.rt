@@ -2,7 +2,8 @@
 
 ghost use Rattle.std.specs.Prelude.{◌≡◌, ◌<◌, ◌≤◌, length, IfOk, OnOk};
 ghost use Rattle.ts_token.specs.Text.{is_text, is_skipped, cut_of};
-ghost use Rattle.ts_token.specs.Views.{pieces, cut};
+ghost use Rattle.ts_token.specs.Views.{pieces, rows, cut};
+ghost use Rattle.ts_token.specs.Slices.{AreSlices};
 ghost use Rattle.ts_token.specs.Steps.{with_line};
 
 use crate::lines::first_line;
@@ -70,6 +71,7 @@ fn take_line<'a>(alloc: Global, tokens: &mut Tokens<'a>, line: &'a [u8]) -> Resu
 pub fn cut_tokens<'a>(alloc: Global, text: &'a [u8]) -> Result<Tokens<'a>, Memory>
     requires { length text.now < 4000000000 }
     ensures tokens { IfOk result (λ tokens. cut tokens ≡ cut_of text.now) }
+    ensures slices { IfOk result (λ tokens. AreSlices text.now (rows tokens.lines.items)) }
     ensures counted { IfOk result (λ tokens. tokens.count ≤ length text.now) }
 {
     let mut tokens = Tokens {
