@@ -4,3 +4,9 @@ mod RangeLaws
 mod UnionLaws
 mod CellLaws
 mod TermLaws
+mod Takes
+mod LineLaws
+mod ReadingLaws
+mod OnlyLaws
+mod Told
+mod ValueLaws

@@ -3,6 +3,7 @@ pub mod Statement
 pub mod Stated
 pub mod Cells
 pub mod ModelReading
+pub mod Promise
 pub mod Series
 pub mod Compares
 pub mod Views
