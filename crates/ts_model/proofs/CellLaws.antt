@@ -9,8 +9,8 @@ use Rattle.std.proofs.lemmas.List.Folds.{sum_by-replicate}
 use Rattle.std.proofs.lemmas.Simd.{splat_is_map}
 use Rattle.ts_domain.specs.Values.{IsDomain}
 use Rattle.ts_domain.specs.BoxSeries.{IsBox}
-use Rattle.ts_model.specs.declared.own.Own.{Own}
-use Rattle.ts_model.specs.declared.own.Cells.{Cells}
+use Rattle.ts_model.specs.declared.cells.Own.{Own}
+use Rattle.ts_model.specs.declared.cells.Cells.{Cells}
 use Rattle.ts_model.specs.declared.error.ModelKind.{ModelKind}
 use Rattle.ts_model.specs.declared.error.ModelKind.TheVariants.{Limit}
 use Rattle.ts_model.specs.Stated.{total_of, union_of, digits}

@@ -10,3 +10,4 @@ mod ReadingLaws
 mod OnlyLaws
 mod Told
 mod ValueLaws
+mod FitLaws

@@ -13,7 +13,8 @@ use Rattle.ts_model.specs.Stated.{Stated}
 use Rattle.ts_model.specs.ModelReading.{texts_of, line_gives, onward, read_rows}
 use Rattle.ts_model.specs.Views.{texts, at_line, Gives, Drafts}
 
-texts_pieces : (ws : List Word) → texts_of (pieces ws) ≡ texts ws
+-- the words of a row
+pub texts_pieces : (ws : List Word) → texts_of (pieces ws) ≡ texts ws
 texts_pieces [] = refl
 texts_pieces (w ∷ ws) = ap (λ (x : List (List ℕ)). w.text.now ∷ x) (texts_pieces ws)
 

@@ -2,6 +2,8 @@
 use Rattle.std.proofs.Common.{◌≡◌, ℕ, ◌+◌, ◌<◌, ◌≤◌, Bool, true, false, cond, ◌&&◌, Some, None, Ok, Err, List, [], ◌∷◌, ◌++◌, length, map, set, replicate, ℤ, pos, refl, sym, ap, subst, ◌∙◌, arith, nat_lt, String, Global}
 use Rattle.std.specs.Prelude.{Option, is_some, Result}
 use Rattle.std.specs.List.{list_any}
+use Rattle.std.proofs.lemmas.Bool.Decides.{nat_tests}
+use Rattle.std.proofs.lemmas.List.{length-map}
 use Rattle.std.specs.String.{string_bytes, string_eq}
 use Rattle.indexmap.specs.IndexMap.{insert_entry, index_map_len}
 use Rattle.ts_domain.specs.declared.interval.Interval.{Interval}
@@ -46,3 +48,9 @@ sound_term lists line d new old n sound few count added cells = sound_on lists l
   fits : (b : Bool) (k m n : ℕ) → n ≤ 31 → n ≡ m → k ≡ m + cond b 0 1 → k ≤ 32
   fits true k m n a e f = omega arith
   fits false k m n a e f = omega arith
+
+pub few_terms : (es : List (String Global × Term)) (n : ℕ) → n ≤ 31 → n ≡ length es → nat_lt 31 (length (map term_of es)) ≡ false
+few_terms es n few count = let e : length (map term_of es) ≡ length es = simp length-map in below (length (map term_of es)) (omega (arith, e, count, few))
+  where
+  below : (k : ℕ) → k ≤ 31 → nat_lt 31 k ≡ false
+  below k h = grind (arith, nat_tests)

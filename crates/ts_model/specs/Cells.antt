@@ -1,8 +1,8 @@
 -- The domains of the cells while lines are read, as rising lists, and what is kept beside them.
 use Rattle.std.specs.Prelude.{◌≡◌, ℕ, ◌+◌, ◌-◌, ◌<◌, ◌≤◌, ℤ, Bool, true, false, ◌&&◌, List, [], map, if◌then◌else◌, nat_lt, get_or, length, Option, Some, None, Result, Ok, Err}
 use Rattle.std.specs.List.{AllByRecursion}
-use Rattle.ts_model.specs.declared.own.Own.{Own}
-use Rattle.ts_model.specs.declared.own.Cells.{Cells}
+use Rattle.ts_model.specs.declared.cells.Own.{Own}
+use Rattle.ts_model.specs.declared.cells.Cells.{Cells}
 use Rattle.ts_model.specs.declared.error.ModelKind.{ModelKind}
 use Rattle.ts_model.specs.declared.error.ModelKind.TheVariants.{Limit}
 use Rattle.ts_model.specs.Stated.{total_of}

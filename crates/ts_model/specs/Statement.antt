@@ -58,8 +58,7 @@ parts_said ws =
 
 abbrev pub said_cell : Option ℤ → Option (List Interval) → Option Said
 said_cell None rs = None
-said_cell (Some k) None = None
-said_cell (Some k) (Some rs) = Some (SaysCell k rs)
+said_cell (Some k) rs = option_map (SaysCell k) rs
 
 abbrev pub said_require : List ℕ → Option Op → Option Ext → Option Said
 said_require name None bound = None

@@ -8,10 +8,28 @@ ghost use Rattle.ts_model.specs.Cells.{in_force, domains, IsKept, IsTotal, total
 ghost use Rattle.ts_model.specs.Views.{Gives};
 
 use crate::error::{LineStop, ModelKind};
-use crate::own::{Cells, Own};
 use std::alloc::Global;
 use ts_base::Memory;
 use ts_domain::{Domain, DomainStop, Interval};
+
+/// The domain that a `cell` line gave a cell, and the number of that line.
+#[derive(Drop)]
+pub(crate) struct Own {
+    pub line: usize,
+    pub domain: Domain,
+}
+
+/// The domains of the cells so far. The common one is that of the `cells` line or of the last `domain` line; an own
+/// one is in force where its line came later. So a `domain` line takes the time of its ranges, however many cells
+/// there are, and the copies for the cells are made once, when the text is read.
+#[derive(Drop)]
+pub(crate) struct Cells {
+    pub own: Vec<Option<Own>>,
+    pub common: Domain,
+    pub common_line: usize,
+    /// The number of all values, kept where it has a limit.
+    pub total: u64,
+}
 
 /// How many values all domains have together at most, where that has a limit.
 const ALL_VALUES: u64 = 65_536;

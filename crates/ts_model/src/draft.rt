@@ -1,6 +1,6 @@
 //! The model while lines are read.
 
-use crate::own::Cells;
+use crate::cells::Cells;
 use crate::model::Require;
 use indexmap::IndexMap;
 use ts_pattern::Term;

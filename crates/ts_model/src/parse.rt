@@ -10,10 +10,10 @@ ghost use Rattle.ts_model.specs.Views.{texts, said, Gives};
 use crate::error::{LineStop, ModelKind};
 use crate::statement::{Ranges, Statement, TermParts};
 use crate::names::{aggregator_named, feature_named, pattern_named};
-use crate::words::{Form, bound_of, form_of, is_count, is_equals, name_of, op_of, range_of, text_at, word_count};
+use crate::words::{Form, bound_of, form_of, is_count, is_equals, name_of, number_at, op_of, range_of, text_at, word_count};
 use std::alloc::Global;
 use ts_pattern::{Aggregator, Feature, PatternId};
-use ts_token::{Word, number};
+use ts_token::Word;
 
 fn ranges_of(alloc: Global, words: &[Word]) -> Result<Ranges, LineStop>
     requires { 0 < length words.now }
@@ -35,7 +35,7 @@ fn parse_cells<'a>(words: &[Word<'a>]) -> Result<Statement<'a>, LineStop>
     if word_count(words) != 1 {
         return Err(LineStop::Bad(ModelKind::Shape));
     }
-    match number(text_at(words, 0)) {
+    match number_at(words, 0) {
         Some(count) => Ok(Statement::Cells(count)),
         None => Err(LineStop::Bad(ModelKind::Number)),
     }
@@ -57,7 +57,7 @@ fn parse_cell<'a>(alloc: Global, words: &[Word<'a>]) -> Result<Statement<'a>, Li
     if word_count(words) < 2 {
         return Err(LineStop::Bad(ModelKind::Shape));
     }
-    match number(text_at(words, 0)) {
+    match number_at(words, 0) {
         Some(cell) => {
             let ranges = ranges_of(alloc, &words[1..])?;
             Ok(Statement::Cell(cell, ranges))

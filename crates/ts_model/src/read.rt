@@ -14,7 +14,7 @@ ghost use Rattle.ts_model.specs.Views.{texts, stated, drafted, IsSound, Gives, D
 use crate::draft::Draft;
 use crate::error::{LineStop, ModelKind, ModelStop, at_line};
 use crate::model::{Model, Need};
-use crate::own::Cells;
+use crate::cells::Cells;
 use crate::parse::parse;
 use crate::take::take;
 use indexmap::IndexMap;
@@ -45,7 +45,8 @@ fn empty_draft(alloc: Global) -> Result<Draft, Memory>
 }
 
 fn take_lines(alloc: Global, lists: bool, lines: &[Line]) -> Result<Draft, ModelStop>
-    ensures { Drafts result (read_rows lists nothing (rows lines.now)) }
+    ensures rows { Drafts result (read_rows lists nothing (rows lines.now)) }
+    ensures few { IfOk result (λ draft. length draft.cells.own.items ≤ 512) }
 {
     let mut draft = empty_draft(alloc)?;
     for (place, line) in lines.iter().enumerate() {
@@ -71,7 +72,8 @@ fn needs_objective(need: Need) -> bool
 
 fn read_draft(alloc: Global, tokens: &Tokens, need: Need) -> Result<Draft, ModelStop>
     requires { tokens.now.count < 4000000000 }
-    ensures { Drafts result (reading need (cut tokens.now)) }
+    ensures reading { Drafts result (reading need (cut tokens.now)) }
+    ensures few { IfOk result (λ draft. length draft.cells.own.items ≤ 512) }
 {
     let draft = take_lines(alloc, needs_lists(need), &tokens.lines)?;
     if let Some(line) = tokens.not_text {
@@ -112,6 +114,17 @@ fn model_of(alloc: Global, draft: Draft) -> Result<Model, Memory>
     })
 }
 
+fn read_counted(alloc: Global, tokens: &Tokens, need: Need) -> Result<Model, ModelStop>
+    requires { tokens.now.count < 4000000000 }
+    ensures exact { Reads result (reading need (cut tokens.now)) }
+    ensures counted { IfOk result (λ m. m.n ≡ vec_len m.cells) }
+    ensures boxed { IfOk result (λ m. IsBox m.cells.items) }
+{
+    let draft = read_draft(alloc, tokens, need)?;
+    let model = model_of(alloc, draft)?;
+    Ok(model)
+}
+
 /// The model that a text states, in the limits of the need, or its first bad line, counted from 1, with the first
 /// kind that holds of it; a missing `cells` line or objective is told at the number of the lines plus 1.
 pub fn read_model(alloc: Global, tokens: &Tokens<'_>, need: Need) -> Result<Model, ModelStop>
@@ -121,9 +134,7 @@ pub fn read_model(alloc: Global, tokens: &Tokens<'_>, need: Need) -> Result<Mode
     ensures whole { IfOk result IsWhole }
     ensures limits { IfOk result (KeepsLimits need) }
 {
-    let draft = read_draft(alloc, tokens, need)?;
-    let model = model_of(alloc, draft)?;
-    Ok(model)
+    read_counted(alloc, tokens, need)
 }
 
 /// The reading is the model that the lines state, or the first bad line with the first kind that holds of it.

@@ -4,7 +4,7 @@ ghost use Rattle.std.specs.Prelude.{◌≡◌, length, ok_or};
 ghost use Rattle.std.specs.Option.{option_map};
 ghost use Rattle.ts_token.specs.Views.{cut};
 ghost use Rattle.ts_model.specs.declared.error.SeriesStop.{SeriesStop};
-ghost use Rattle.ts_model.specs.Series.{is_series, value_of, values_of, series_words, series_reading, ReadsSeries};
+ghost use Rattle.ts_model.specs.Series.{is_series, after_series, value_of, values_of, series_words, series_reading, ReadsSeries};
 ghost use Rattle.ts_model.specs.Views.{texts};
 
 use crate::error::SeriesStop;
@@ -29,15 +29,26 @@ fn value_of(word: &[u8]) -> Option<i64>
     }
 }
 
+/// The words after a first word `series`.
+fn after_series<'t, 'a>(words: &'t [Word<'a>]) -> Option<&'t [Word<'a>]>
+    ensures { option_map (λ ws. texts ws.now) result ≡ after_series (texts words.now) }
+{
+    match words.split_first() {
+        Some((first, rest)) if is_series(first.text) => Some(rest),
+        _ => None,
+    }
+}
+
 /// The words after `series`, if the text is that one line.
+#[tactic(auto, using(crate::proofs::LineLaws::texts_pieces))]
 fn series_words<'t, 'a>(tokens: &'t Tokens<'a>) -> Option<&'t [Word<'a>]>
     ensures { option_map (λ ws. texts ws.now) result ≡ series_words (cut tokens.now) (cut tokens.now).not_text }
 {
-    if tokens.not_text.is_some() || tokens.lines.len() != 1 {
+    if tokens.not_text.is_some() {
         return None;
     }
-    match tokens.lines[0].words.split_first() {
-        Some((first, rest)) if is_series(first.text) => Some(rest),
+    match tokens.lines.as_slice() {
+        [line] => after_series(&line.words),
         _ => None,
     }
 }

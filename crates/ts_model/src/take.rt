@@ -6,11 +6,10 @@ ghost use Rattle.ts_model.specs.Statement.{SaysCells, SaysDomain, SaysCell, Says
 ghost use Rattle.ts_model.specs.Stated.{term_at, has_cells, is_between, is_backward, is_outside, is_bound, taken, term_made, IsPlace};
 ghost use Rattle.ts_model.specs.Views.{said, parts_of, drafted, Gives, IsSound};
 
-use crate::cells::union_of;
 use crate::draft::Draft;
 use crate::error::{LineStop, ModelKind};
 use crate::model::{Op, Require};
-use crate::own::Cells;
+use crate::cells::{Cells, union_of};
 use crate::statement::{Ranges, Statement, TermParts};
 use std::alloc::Global;
 use ts_base::Ext;

@@ -2,6 +2,7 @@
 
 ghost use Rattle.std.specs.Prelude.{◌≡◌, ◌<◌, true, false, length, MatchOption};
 ghost use Rattle.std.specs.List.{list_all, position};
+ghost use Rattle.ts_token.specs.Number.{number_of};
 ghost use Rattle.ts_model.specs.Words.{form_of, op_of, is_equals, is_count, is_letter, is_name_byte, is_name, bound_of, made_range, is_dot, range_of};
 ghost use Rattle.ts_model.specs.Statement.{word_at};
 ghost use Rattle.ts_model.specs.Views.{texts};
@@ -179,4 +180,12 @@ pub(crate) fn text_at<'a>(words: &[Word<'a>], k: usize) -> &'a [u8]
     ensures { result.now ≡ word_at (texts words.now) k }
 {
     words[k].text
+}
+
+/// The number that the word at a place is.
+pub(crate) fn number_at(words: &[Word], k: usize) -> Option<i64>
+    requires { k < length (texts words.now) }
+    ensures { result ≡ number_of (word_at (texts words.now) k) }
+{
+    number(text_at(words, k))
 }

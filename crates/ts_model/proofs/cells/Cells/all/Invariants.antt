@@ -1,7 +1,7 @@
 use Rattle.std.proofs.Common.{◌≡◌, take}
 use Rattle.ts_domain.specs.BoxSeries.{IsBox}
 use Rattle.ts_model.specs.Cells.{domains}
-use Rattle.ts_model.proofs.own.Cells.all.Given as goal
+use Rattle.ts_model.proofs.cells.Cells.all.Given as goal
 
 abbrev pub invariant-loop-place : goal.invariant-loop-place
 invariant-loop-place l = record {

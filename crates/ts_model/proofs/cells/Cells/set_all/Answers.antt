@@ -1,6 +1,6 @@
 use Rattle.std.proofs.Common.{refl, rules}
 use Rattle.ts_model.proofs.CellLaws.{over_all, set_all, kept_all}
-use Rattle.ts_model.proofs.own.Cells.set_all.Goals as goal
+use Rattle.ts_model.proofs.cells.Cells.set_all.Goals as goal
 
 pub returns-in-None-clause-set : goal.returns-in-None-clause-set
 returns-in-None-clause-set c = over_all c.args.lists c.args.self.now c.args.domain c.len.result c.size.result (search rules) c.size.ensures.size c.in-None.ensures.none

@@ -1,6 +1,6 @@
 use Rattle.std.proofs.Common.{refl, rules}
 use Rattle.ts_model.proofs.CellLaws.{set_one, kept_one}
-use Rattle.ts_model.proofs.own.Cells.set_one.Goals as goal
+use Rattle.ts_model.proofs.cells.Cells.set_one.Goals as goal
 
 pub returns-in-Some-clause-set : goal.returns-in-Some-clause-set
 returns-in-Some-clause-set c = set_one c.args.lists c.args.line c.args.place c.args.self.now c.args.domain c.size.result c.requires.kept c.requires.there c.size.ensures.size c.in-Some.ensures.room
