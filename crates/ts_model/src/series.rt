@@ -40,7 +40,6 @@ fn after_series<'t, 'a>(words: &'t [Word<'a>]) -> Option<&'t [Word<'a>]>
 }
 
 /// The words after `series`, if the text is that one line.
-#[tactic(auto, using(crate::proofs::LineLaws::texts_pieces))]
 fn series_words<'t, 'a>(tokens: &'t Tokens<'a>) -> Option<&'t [Word<'a>]>
     ensures { option_map (λ ws. texts ws.now) result ≡ series_words (cut tokens.now) (cut tokens.now).not_text }
 {
