@@ -1,2 +1,5 @@
+pub mod InMemory
 pub mod Numbers
+pub mod Outside
 pub mod Signature
+pub mod Text

@@ -1,5 +1,5 @@
 -- Whole numbers with -∞ and +∞, their order and their sum.
-use Rattle.std.specs.Prelude.{ℤ, pos, neg_ℤ, ◌+ℤ◌, Bool, true, false, int_le}
+use Rattle.std.specs.Prelude.{ℤ, pos, neg_ℤ, ◌+ℤ◌, Bool, true, false, int_le, if◌then◌else◌}
 use Rattle.std.specs.Int.{int_max, int_min}
 use Rattle.ts_base.specs.declared.ext.Ext.{Ext}
 use Rattle.ts_base.specs.declared.ext.Ext.TheVariants.{NegInf, Int, PosInf}
@@ -27,3 +27,11 @@ ext_plus (Int x) PosInf = PosInf
 ext_plus PosInf NegInf = NegInf
 ext_plus PosInf (Int y) = PosInf
 ext_plus PosInf PosInf = PosInf
+
+-- the greater of two
+abbrev pub ext_max : Ext → Ext → Ext
+ext_max a b = if ext_le a b then b else a
+
+-- the lesser of two
+abbrev pub ext_min : Ext → Ext → Ext
+ext_min a b = if ext_le a b then a else b

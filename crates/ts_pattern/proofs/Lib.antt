@@ -1,2 +1,10 @@
 pub mod Names
 pub mod OneLetter
+pub mod Entries
+pub mod LiveEntries
+pub mod Ends
+pub mod Places
+pub mod Renamed
+pub mod Tested
+pub mod LeastLength
+pub mod AllOccurrences

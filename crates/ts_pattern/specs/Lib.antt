@@ -1,2 +1,13 @@
 pub mod Names
+pub mod PatternTable
+pub mod Trims
 pub mod Occurrences
+pub mod EachOf
+pub mod OccurrenceList
+pub mod AllOccurrences
+pub mod Limits
+pub mod FeatureValue
+pub mod TermValue
+pub mod Entries
+pub mod Closed
+pub mod Plans

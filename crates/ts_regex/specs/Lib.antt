@@ -1,2 +1,5 @@
 pub mod Shape
 pub mod Language
+pub mod Derivative
+pub mod NormalForm
+pub mod Membership

@@ -1,6 +1,10 @@
 //! The expressions.
 
-use ts_base::Letter;
+ghost use Rattle.std.specs.Prelude.{◌≡◌, IfOk};
+ghost use Rattle.ts_regex.specs.Shape.{shape_of, Concat, Union, Repeat};
+
+use std::alloc::Global;
+use ts_base::{Letter, Memory};
 
 /// A regular expression over the letters of a signature.
 #[derive(Debug, Drop)]
@@ -17,4 +21,41 @@ pub enum Regex {
     Alt(Box<Regex>, Box<Regex>),
     /// Any number of words of the inner one.
     Star(Box<Regex>),
+}
+
+impl Regex {
+    /// Another expression of the same form; `Memory` where none is left.
+    pub fn copy(&self, alloc: Global) -> Result<Regex, Memory>
+        ensures { IfOk result (λ r. shape_of r ≡ shape_of self.now) }
+    {
+        match self {
+            Regex::Empty => Ok(Regex::Empty),
+            Regex::Eps => Ok(Regex::Eps),
+            Regex::One(l) => Ok(Regex::One(*l)),
+            Regex::Cat(r, s) => Ok(cat(alloc, r.copy(alloc)?, s.copy(alloc)?)?),
+            Regex::Alt(r, s) => Ok(alt(alloc, r.copy(alloc)?, s.copy(alloc)?)?),
+            Regex::Star(r) => Ok(star(alloc, r.copy(alloc)?)?),
+        }
+    }
+}
+
+/// The first followed by the second.
+pub fn cat(alloc: Global, r: Regex, s: Regex) -> Result<Regex, Memory>
+    ensures { IfOk result (λ t. shape_of t ≡ Concat (shape_of r) (shape_of s)) }
+{
+    Ok(Regex::Cat(Box::new(alloc, r)?, Box::new(alloc, s)?))
+}
+
+/// One of the two.
+pub fn alt(alloc: Global, r: Regex, s: Regex) -> Result<Regex, Memory>
+    ensures { IfOk result (λ t. shape_of t ≡ Union (shape_of r) (shape_of s)) }
+{
+    Ok(Regex::Alt(Box::new(alloc, r)?, Box::new(alloc, s)?))
+}
+
+/// The inner one, any number of times.
+pub fn star(alloc: Global, r: Regex) -> Result<Regex, Memory>
+    ensures { IfOk result (λ t. shape_of t ≡ Repeat (shape_of r)) }
+{
+    Ok(Regex::Star(Box::new(alloc, r)?))
 }

@@ -5,7 +5,7 @@
 //! of each word its bytes, its column and the number of its line, and which line first isn't text.
 //!
 //! ```text
-//! let parts = cut_parts(b"cells 4 # four\r\n%%\nseries 1 2 3 4\n");
+//! let parts = cut_parts(b"cells 4\r\n%%\nseries 1 2 3 4\n");
 //! let tokens = cut_tokens(alloc, parts.model)?;
 //! number(tokens.lines[0].words[1].text) // Some(4)
 //! ```

@@ -1,0 +1,13 @@
+use Rattle.std.proofs.Common.{◌≡◌, ◌≤◌, ◌-◌, take, length}
+use Rattle.ts_base.specs.Outside.{taken_more}
+use Rattle.ts_base.proofs.whole.write_all.Given as goal
+
+abbrev pub invariant-loop-done : goal.invariant-loop-done
+invariant-loop-done g l = record {
+  took : g.K.Sink.taken l.sink ≡ taken_more (g.K.Sink.taken l.fn.sink) (take l.done l.bytes);
+  within : l.done ≤ length l.bytes;
+  later : g.K.Sink.sink_faults l.fn.sink ≤ g.K.Sink.sink_faults l.sink;
+}
+
+abbrev pub decreases-loop-done : goal.decreases-loop-done
+decreases-loop-done g l = length l.bytes - l.done

@@ -1,0 +1,41 @@
+-- What a source has left and what a sink has taken, where they tell it, and when a count of faults rose.
+use Rattle.std.specs.Prelude.{ℕ, ◌≡◌, ◌<◌, ◌≤◌, ◌+◌, ◌⊎◌, List, [], ◌++◌, length, take, drop, min, Option, Some, None, IfSome}
+
+-- a count rose in a call: it is greater afterwards, or stands at the last value of 64 bits
+abbrev pub Rose : ℕ → ℕ → Type 0
+Rose before after = (before < after) ⊎ (18446744073709551615 ≤ after)
+
+-- the count after one more, which stays at the last value of 64 bits
+abbrev pub counted : ℕ → ℕ
+counted n = min (n + 1) 18446744073709551615
+
+-- what was told before a piece was given, by what is told after it
+abbrev pub put_back : List ℕ → Option (List ℕ) → Option (List ℕ)
+put_back piece None = None
+put_back piece (Some left) = Some (piece ++ left)
+
+-- nothing is left, where it is told
+abbrev pub AtEnd : Option (List ℕ) → Type 0
+AtEnd left = IfSome left (λ bytes. bytes ≡ [])
+
+-- what is left after n bytes
+abbrev pub left_after : ℕ → Option (List ℕ) → Option (List ℕ)
+left_after n None = None
+left_after n (Some left) = Some (drop n left)
+
+-- at most n bytes were given
+abbrev pub GaveAtMost : ℕ → Option (List ℕ) → Option (List ℕ) → Type 0
+GaveAtMost n before after = (m : ℕ) × (m ≤ n) × (after ≡ left_after m before)
+
+-- more than n bytes are left, where it is told
+abbrev pub HasMoreThan : ℕ → Option (List ℕ) → Type 0
+HasMoreThan n left = IfSome left (λ bytes. n < length bytes)
+
+-- what was taken, with a piece behind it
+abbrev pub taken_more : Option (List ℕ) → List ℕ → Option (List ℕ)
+taken_more None piece = None
+taken_more (Some taken) piece = Some (taken ++ piece)
+
+-- a front of the text was taken
+abbrev pub Prefix : List ℕ → Option (List ℕ) → Option (List ℕ) → Type 0
+Prefix text before after = (n : ℕ) × (n ≤ length text) × (after ≡ taken_more before (take n text))

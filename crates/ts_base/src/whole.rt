@@ -1,0 +1,116 @@
+//! The whole of a source, and the whole of a text to a sink.
+
+ghost use Rattle.std.specs.Prelude.{ℕ, ◌≡◌, ◌<◌, ◌≤◌, ◌+◌, ◌++◌, length, take, drop, Err, IfOk, IfSome, OnOk, OnErr, IsErrOf, vec_len};
+ghost use Rattle.ts_base.specs.Outside.{AtEnd, GaveAtMost, HasMoreThan, Prefix, Rose, left_after, put_back, taken_more};
+ghost use Rattle.ts_base.specs.declared.whole.ReadStop.TheVariants.{ReadFault as FaultOfReading, Memory as NoMemory};
+
+use crate::error::{Failed, Memory};
+use crate::outside::{Sink, Source};
+use std::alloc::{AllocError, Global};
+use thiserror::Error;
+
+/// Why a source was not read to its end.
+#[derive(Clone, Copy, Debug, PartialEq, Eq, Error)]
+pub enum ReadStop {
+    #[error("a read failed")]
+    ReadFault,
+    #[error("there is more than was asked for")]
+    TooLong,
+    #[error("out of memory")]
+    Memory,
+}
+
+impl From<Failed> for ReadStop {
+    ghost from_gives = { λ _ e. e ≡ FaultOfReading };
+
+    fn from(_error: Failed) -> ReadStop {
+        ReadStop::ReadFault
+    }
+}
+
+impl From<Memory> for ReadStop {
+    ghost from_gives = { λ _ e. e ≡ NoMemory };
+
+    fn from(_error: Memory) -> ReadStop {
+        ReadStop::Memory
+    }
+}
+
+/// A read asks for at most this many bytes.
+const PIECE: usize = 65_536;
+
+/// All bytes that `source` has left, where they are at most `limit`.
+///
+/// `TooLong` comes exactly where there are more, and then one byte more than `limit` was taken. `ReadFault` comes
+/// only where a read failed. At most `limit + 1` bytes are taken in every case.
+pub fn read_all<S: Source>(alloc: Global, source: &mut S, limit: usize) -> Result<Vec<u8>, ReadStop>
+    requires { limit < 4000000000 }
+    ensures all { IfOk result (λ bytes. IfSome (S.left source.old) (λ left. left ≡ bytes.items)) }
+    ensures gave_all { IfOk result (λ bytes. S.left source.old ≡ put_back bytes.items (S.left source.new)) }
+    ensures end { OnOk result (AtEnd (S.left source.new)) }
+    ensures within { IfOk result (λ bytes. length bytes.items ≤ limit) }
+
+    ensures too_long { result ≡ Err ReadStop.TooLong → HasMoreThan limit (S.left source.old) }
+    ensures one_more { result ≡ Err ReadStop.TooLong → S.left source.new ≡ left_after (limit + 1) (S.left source.old) }
+    ensures gave { GaveAtMost (limit + 1) (S.left source.old) (S.left source.new) }
+
+    ensures cause { result ≡ Err ReadStop.ReadFault → Rose (S.faults source.old) (S.faults source.new) }
+    ensures later { S.faults source.old ≤ S.faults source.new }
+{
+    let mut bytes = Vec::new(alloc);
+    let mut count = 0;
+    while count <= limit {
+        make_room(&mut bytes, count, limit)?;
+        let more = read_behind(source, &mut bytes, count)?;
+        if more == 0 {
+            bytes.truncate(count);
+            return Ok(bytes);
+        }
+        count += more;
+    }
+    Err(ReadStop::TooLong)
+}
+
+/// Makes room behind the first `count` bytes, which stay, and never for more than `limit + 1` bytes in all.
+fn make_room(bytes: &mut Vec<u8>, count: usize, limit: usize) -> Result<(), Memory>
+    requires limit { limit < 4000000000 }
+    requires within { (count ≤ limit) × (count ≤ vec_len bytes.old) }
+    requires fewer { vec_len bytes.old ≤ limit + 1 }
+    ensures front { OnOk result (take count bytes.new.items ≡ take count bytes.old.items) }
+    ensures room { OnOk result (count < vec_len bytes.new) }
+    ensures few { OnOk result (vec_len bytes.new ≤ limit + 1) }
+{
+    if count == bytes.len() {
+        let room = (limit + 1).min(count + PIECE);
+        bytes.resize(room, 0)?;
+    }
+    Ok(())
+}
+
+/// Reads behind the first `count` bytes, which stay.
+fn read_behind<S: Source>(source: &mut S, bytes: &mut [u8], count: usize) -> Result<usize, Failed>
+    requires { count < length bytes.old }
+    ensures front { take count bytes.new ≡ take count bytes.old }
+    ensures within { IfOk result (λ m. count + m ≤ length bytes.new) }
+    ensures gave { IfOk result (λ m. S.left source.old ≡ put_back (take m (drop count bytes.new)) (S.left source.new)) }
+    ensures end { IfOk result (λ m. m ≡ 0 → AtEnd (S.left source.old)) }
+    ensures kept { OnErr result (S.left source.new ≡ S.left source.old) }
+    ensures cause { OnErr result (Rose (S.faults source.old) (S.faults source.new)) }
+    ensures later { S.faults source.old ≤ S.faults source.new }
+{
+    source.read(&mut bytes[count..])
+}
+
+/// Gives all of `bytes` to `sink`. After `Failed`, which comes only where a write failed, it has taken a front of them.
+pub fn write_all<K: Sink>(sink: &mut K, bytes: &[u8]) -> Result<(), Failed>
+    ensures all { OnOk result (K.taken sink.new ≡ taken_more (K.taken sink.old) bytes.now) }
+    ensures front { OnErr result (Prefix bytes.now (K.taken sink.old) (K.taken sink.new)) }
+    ensures cause { OnErr result (Rose (K.sink_faults sink.old) (K.sink_faults sink.new)) }
+    ensures later { K.sink_faults sink.old ≤ K.sink_faults sink.new }
+{
+    let mut done = 0;
+    while done < bytes.len() {
+        done += sink.write(&bytes[done..])?;
+    }
+    Ok(())
+}

@@ -1,0 +1,29 @@
+-- The live starts of a search as entries: the signs before each start, and the expression that is left to read.
+use Rattle.std.specs.Prelude.{ℕ, Bool, not, ◌&&◌, List, [], ◌∷◌, ◌++◌, map, Option, None, Some, if◌then◌else◌}
+use Rattle.std.specs.List.{list_any}
+use Rattle.ts_regex.specs.Shape.{Shape, shape_of}
+use Rattle.ts_regex.specs.Derivative.{nullable, has_word}
+use Rattle.ts_regex.specs.NormalForm.{same_shape}
+use Rattle.ts_pattern.specs.Entries.{Entry}
+use Rattle.ts_occurrence.specs.declared.live.LiveStart.{LiveStart}
+
+abbrev pub Start : Type 0
+Start = Entry ℕ Shape (Unit {0})
+
+abbrev pub entry : ℕ → Shape → Start
+entry start residual = record { mark = start; residual = residual; tag = tt }
+
+abbrev pub entry_of : LiveStart → Start
+entry_of e = entry e.start (shape_of e.residual)
+
+abbrev pub entries_of : List LiveStart → List Start
+entries_of es = map (λ e. entry_of e) es
+
+-- the entry comes last, unless it has no word or an earlier one has its residual
+abbrev pub kept_with : List Start → Start → List Start
+kept_with es e = if has_word e.residual && not (list_any (λ x. same_shape x.residual e.residual) es) then es ++ e ∷ [] else es
+
+-- the first start from which a match ends at the sign just read
+abbrev pub first_ending : List Start → Option ℕ
+first_ending [] = None
+first_ending (e ∷ es) = if nullable e.residual then Some e.mark else first_ending es

@@ -1,0 +1,76 @@
+//! The occurrences of a pattern in a signature, found one letter at a time.
+//!
+//! Take the starts of the matches that end at the letter just read. Without one the occurrences stay. Else the match
+//! from the least of them contains each match that starts there or later: those go, and it comes last. So the
+//! occurrences stand on a stack, and no two places are ever compared.
+
+ghost use Rattle.std.specs.Prelude.{◌≡◌, ◌<◌, ◌≤◌, ◌+◌, length, IfOk, IfSome};
+ghost use Rattle.ts_regex.specs.Shape.{shape_of};
+ghost use Rattle.ts_pattern.specs.EachOf.{Each};
+ghost use Rattle.ts_pattern.specs.Trims.{FitsTrims};
+ghost use Rattle.ts_pattern.specs.OccurrenceList.{AreRanges};
+ghost use Rattle.ts_pattern.specs.AllOccurrences.{occurrence_ranges};
+ghost use Rattle.ts_pattern.specs.FeatureValue.{IsInside};
+ghost use Rattle.ts_occurrence.specs.Noted.{IsCut, IsNoted};
+
+use crate::live::{after_letter, first_ending};
+use std::alloc::Global;
+use ts_base::{Letter, Memory, Range};
+use ts_pattern::Pattern;
+use ts_regex::normal;
+
+/// The e-ranges of all maximal matches of the pattern and of no others, by rising start: the cells `i+b` to `j+1-a`
+/// of the signs `i` to `j` (Global Constraint Catalog, Volume II). Each word of the pattern with a letter has at least
+/// `b + a` letters, so that each e-range has a cell and lies in the series.
+pub fn occurrences(alloc: Global, p: &Pattern, w: &[Letter]) -> Result<Vec<Range>, Memory>
+    requires few { length w.now < 4000000000 }
+    requires fits { FitsTrims (shape_of p.now.regex) p.now.b p.now.a }
+    ensures exact { IfOk result (λ v. v.items ≡ occurrence_ranges (shape_of p.now.regex) p.now.b p.now.a w.now) }
+    ensures listed { IfOk result (λ v. AreRanges (shape_of p.now.regex) p.now.b p.now.a w.now v.items) }
+    ensures inside { IfOk result (λ v. Each (λ r. IsInside (length w.now + 1) r) v.items) }
+{
+    Ok(maximal_matches(alloc, p, w)?)
+}
+
+fn maximal_matches(alloc: Global, p: &Pattern, w: &[Letter]) -> Result<Vec<Range>, Memory>
+    requires { length w.now < 4000000000 }
+    ensures { IfOk result (λ v. AreRanges (shape_of p.now.regex) p.now.b p.now.a w.now v.items) }
+{
+    let whole = normal(alloc, &p.regex)?;
+    let mut live = Vec::new(alloc);
+    let mut found = Vec::new(alloc);
+    for k in 0..w.len() {
+        live = after_letter(alloc, live, &whole, k as u32, w[k])?;
+        note(&mut found, first_ending(&live), k as u32, p.b, p.a)?;
+    }
+    Ok(found)
+}
+
+/// Notes the match from `ending`, the least start of one that ends at the sign number `read + 1`.
+fn note(found: &mut Vec<Range>, ending: Option<u32>, read: u32, b: u8, a: u8) -> Result<(), Memory>
+    requires few { read < 4000000000 }
+    requires earlier { IfSome ending (λ start. start ≤ read) }
+    ensures { IfOk result (λ _. IsNoted b a read ending found.old.items found.new.items) }
+{
+    if let Some(start) = ending {
+        let first = start + 1 + u32::from(b);
+        let kept = begun_before(found, first);
+        found.truncate(kept);
+        found.push(Range {
+            first,
+            last: (read + 2).saturating_sub(u32::from(a)),
+        })?;
+    }
+    Ok(())
+}
+
+/// The number of the first ranges, up to the last one that begins before the cell.
+fn begun_before(found: &Vec<Range>, cell: u32) -> usize
+    ensures { IsCut found.now.items cell result }
+{
+    let mut kept = found.len();
+    while kept > 0 && found[kept - 1].first >= cell {
+        kept -= 1;
+    }
+    kept
+}

@@ -1,0 +1,138 @@
+//! The value of a term on a series: its aggregator over the features of the occurrences.
+//!
+//! Sums are whole numbers within 512 * 512 * 1,000,000, far from the ends of an `i64` and from the clamp of `Ext::plus`.
+
+ghost use Rattle.std.specs.Prelude.{◌≡◌, ◌≤◌, ℤ, pos, neg_ℤ, ◌+ℤ◌, ◌≤ℤ◌, List, map, length, IfOk, IfSome};
+ghost use Rattle.std.specs.List.{All, fold};
+ghost use Rattle.std.specs.Int.{int_max, int_min};
+ghost use Rattle.ts_base.specs.Signature.{signature_of};
+ghost use Rattle.ts_pattern.specs.EachOf.{Each};
+ghost use Rattle.ts_pattern.specs.Limits.{IsCell, IsSeries};
+ghost use Rattle.ts_pattern.specs.FeatureValue.{IsInside, over, or_zero, feature_of_cells, feature_value};
+ghost use Rattle.ts_occurrence.specs.Total.{IsWithin, with_one};
+ghost use Rattle.ts_pattern.specs.TermValue.{joined, value_of_none, aggregate_of_ranges, term_value};
+
+use crate::occurrence::occurrences;
+use crate::series::{part, signature};
+use std::alloc::Global;
+use ts_base::{Ext, Letter, Memory, Range};
+use ts_pattern::{Aggregator, Feature, Term, pattern_by_id};
+
+/// The value of the term on a series of 1 to 512 cells from -1,000,000 to 1,000,000.
+pub fn value(alloc: Global, t: &Term, series: &[i64]) -> Result<Ext, Memory>
+    requires { IsSeries series.now }
+    ensures { IfOk result (λ v. v ≡ term_value t.now series.now) }
+{
+    let letters = signature(alloc, series)?;
+    value_with(alloc, t, series, &letters)
+}
+
+/// The value of the term on a series whose signature is at hand: one signature serves all terms of a model.
+pub fn value_with(
+    alloc: Global,
+    t: &Term,
+    series: &[i64],
+    letters: &[Letter],
+) -> Result<Ext, Memory>
+    requires series { IsSeries series.now }
+    requires letters { letters.now ≡ signature_of series.now }
+    ensures { IfOk result (λ v. v ≡ term_value t.now series.now) }
+{
+    let pattern = pattern_by_id(alloc, t.pattern)?;
+    let ranges = occurrences(alloc, &pattern, letters)?;
+    Ok(aggregate(t.aggregator, t.feature, &ranges, series))
+}
+
+// The aggregator over the features of the ranges.
+fn aggregate(g: Aggregator, f: Feature, ranges: &[Range], series: &[i64]) -> Ext
+    requires series { IsSeries series.now }
+    requires few { length ranges.now ≤ 512 }
+    requires inside { Each (λ r. IsInside (length series.now) r) ranges.now }
+    ensures { result ≡ aggregate_of_ranges g f ranges.now series.now }
+{
+    match total(g, f, ranges, series) {
+        Some(x) => Ext::Int(x),
+        None => value_of_none(g, f, series.len()),
+    }
+}
+
+fn total(g: Aggregator, f: Feature, ranges: &[Range], series: &[i64]) -> Option<i64>
+    requires series { IsSeries series.now }
+    requires few { length ranges.now ≤ 512 }
+    requires inside { Each (λ r. IsInside (length series.now) r) ranges.now }
+    ensures { result ≡ over (joined g) (map (λ r. feature_value f r series.now) ranges.now) }
+{
+    let mut total = None;
+    for k in 0..ranges.len() {
+        let x = feature_at(f, ranges[k], series);
+        total = Some(join(g, total, x));
+    }
+    total
+}
+
+// The total joined with one more feature.
+fn join(g: Aggregator, total: Option<i64>, x: i64) -> i64
+    requires total { IfSome total (λ t. IsWithin 1000000000000 t) }
+    requires feature { IsWithin 512000000 x }
+    ensures { result ≡ with_one (joined g) total x }
+{
+    match (g, total) {
+        (_, None) => x,
+        (Aggregator::Sum, Some(t)) => t + x,
+        (Aggregator::Max, Some(t)) => t.max(x),
+        (Aggregator::Min, Some(t)) => t.min(x),
+    }
+}
+
+// The value without an occurrence, in a series of `n` cells.
+fn value_of_none(g: Aggregator, f: Feature, n: usize) -> Ext
+    requires { n ≤ 512 }
+    ensures { result ≡ value_of_none g f n }
+{
+    match (g, f) {
+        (Aggregator::Sum, _) | (Aggregator::Max, Feature::Width) => Ext::Int(0),
+        (Aggregator::Max, _) => Ext::NegInf,
+        (Aggregator::Min, Feature::Width) => Ext::Int(n as i64),
+        (Aggregator::Min, _) => Ext::PosInf,
+    }
+}
+
+fn feature_at(f: Feature, r: Range, series: &[i64]) -> i64
+    requires series { IsSeries series.now }
+    requires inside { IsInside (length series.now) r }
+    ensures exact { result ≡ feature_value f r series.now }
+    ensures within { IsWithin 512000000 result }
+{
+    feature(f, part(r, series))
+}
+
+// The feature of an e-range with those cells.
+fn feature(f: Feature, cells: &[i64]) -> i64
+    requires few { length cells.now ≤ 512 }
+    requires cells { All IsCell cells.now }
+    ensures exact { result ≡ feature_of_cells f cells.now }
+    ensures within { IsWithin 512000000 result }
+{
+    match f {
+        Feature::One => 1,
+        Feature::Width => cells.len() as i64,
+        Feature::Surf => over(Aggregator::Sum, cells),
+        Feature::Max => over(Aggregator::Max, cells),
+        Feature::Min => over(Aggregator::Min, cells),
+    }
+}
+
+// The sum, the greatest or the least of the cells; 0 where there is none.
+fn over(g: Aggregator, cells: &[i64]) -> i64
+    requires few { length cells.now ≤ 512 }
+    requires cells { All IsCell cells.now }
+    ensures exact { result ≡ or_zero (over (joined g) cells.now) }
+    ensures within { IsWithin 512000000 result }
+{
+    let mut total = None;
+    for k in 0..cells.len() {
+        let x = cells[k];
+        total = Some(join(g, total, x));
+    }
+    total.unwrap_or(0)
+}

@@ -1,0 +1,64 @@
+-- The least length of a word, computed from the expression.
+use Rattle.std.specs.Prelude.{◌≡◌, ℕ, ◌+◌, ◌≤◌, ◌<◌, min, List, [], ◌∷◌, ◌++◌, length, refl}
+use Rattle.std.proofs.Common.{sym, ◌∙◌, ap, subst, arith, length-append, ⊎_elim}
+use Rattle.ts_base.specs.declared.letter.Letter.{Letter}
+use Rattle.ts_regex.specs.Shape.{Shape, NoWord, EmptyWord, OneLetter, Concat, Union, Repeat}
+use Rattle.ts_regex.specs.Language.{InLanguage}
+use Rattle.ts_pattern.specs.declared.name.PatternId.{PatternId}
+use Rattle.ts_pattern.specs.declared.name.PatternId.TheVariants.{Increasing, Decreasing, Steady, IncreasingSequence, DecreasingSequence, StrictlyIncreasingSequence, StrictlyDecreasingSequence, SteadySequence, IncreasingTerrace, DecreasingTerrace, Inflexion, Peak, Valley, Plateau, Plain, ProperPlateau, ProperPlain, Summit, Gorge, Zigzag, DipOnIncreasingSequence, BumpOnDecreasingSequence}
+use Rattle.ts_pattern.specs.PatternTable.{pattern_shape, pattern_b, pattern_a}
+use Rattle.ts_pattern.specs.Trims.{HasLongWords}
+
+abbrev pub least_length : Shape → ℕ
+least_length NoWord = 0
+least_length EmptyWord = 0
+least_length (OneLetter l) = 1
+least_length (Concat r s) = least_length r + least_length s
+least_length (Union r s) = min (least_length r) (least_length s)
+least_length (Repeat r) = 0
+
+pub no_shorter : (r : Shape) (w : List Letter) → InLanguage r w → least_length r ≤ length w
+no_shorter NoWord w h = absurd h
+no_shorter EmptyWord w h = omega arith
+no_shorter (OneLetter l) w h = subst (λ v. 1 ≤ length v) (sym h) (omega arith)
+no_shorter (Concat r s) w h =
+    let x = no_shorter r h.0 h.3 in
+    let y = no_shorter s h.1 h.4 in
+    let n = length-append h.0 h.1 in
+    subst (λ v. least_length r + least_length s ≤ length v) (sym h.2) (omega arith)
+no_shorter (Union r s) w h =
+    ⊎_elim (λ a. let x = no_shorter r w a in omega arith) (λ a. let x = no_shorter s w a in omega arith) h
+no_shorter (Repeat r) w h = omega arith
+
+-- the least word of each pattern covers its trims, and isn't empty
+pub long_enough : (id : PatternId) → (pattern_b id + pattern_a id ≤ least_length (pattern_shape id)) × (1 ≤ least_length (pattern_shape id))
+long_enough Increasing = (omega arith, omega arith)
+long_enough Decreasing = (omega arith, omega arith)
+long_enough Steady = (omega arith, omega arith)
+long_enough IncreasingSequence = (omega arith, omega arith)
+long_enough DecreasingSequence = (omega arith, omega arith)
+long_enough StrictlyIncreasingSequence = (omega arith, omega arith)
+long_enough StrictlyDecreasingSequence = (omega arith, omega arith)
+long_enough SteadySequence = (omega arith, omega arith)
+long_enough IncreasingTerrace = (omega arith, omega arith)
+long_enough DecreasingTerrace = (omega arith, omega arith)
+long_enough Inflexion = (omega arith, omega arith)
+long_enough Peak = (omega arith, omega arith)
+long_enough Valley = (omega arith, omega arith)
+long_enough Plateau = (omega arith, omega arith)
+long_enough Plain = (omega arith, omega arith)
+long_enough ProperPlateau = (omega arith, omega arith)
+long_enough ProperPlain = (omega arith, omega arith)
+long_enough Summit = (omega arith, omega arith)
+long_enough Gorge = (omega arith, omega arith)
+long_enough Zigzag = (omega arith, omega arith)
+long_enough DipOnIncreasingSequence = (omega arith, omega arith)
+long_enough BumpOnDecreasingSequence = (omega arith, omega arith)
+
+pub has_long_words : (id : PatternId) → HasLongWords (pattern_shape id) (pattern_b id) (pattern_a id)
+has_long_words id w h =
+    let n = no_shorter (pattern_shape id) w h in
+    let k = long_enough id in
+    let k0 = k.0 in
+    let k1 = k.1 in
+    (omega arith, omega arith)

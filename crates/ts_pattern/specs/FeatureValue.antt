@@ -1,0 +1,36 @@
+-- What an e-range of a series is worth (Global Constraint Catalog, Volume II: features).
+use Rattle.std.specs.Prelude.{ℕ, ◌-◌, ◌≤◌, ℤ, pos, ◌+ℤ◌, List, [], ◌∷◌, length, slice_range, Option, None, Some}
+use Rattle.std.specs.List.{fold}
+use Rattle.std.specs.Option.{option_map_or}
+use Rattle.std.specs.Int.{int_max, int_min}
+use Rattle.ts_base.specs.declared.range.Range.{Range}
+use Rattle.ts_pattern.specs.declared.name.Feature.{Feature}
+use Rattle.ts_pattern.specs.declared.name.Feature.TheVariants.{One, Width, Surf, Max, Min}
+
+-- the cells of a range, whose ends are counted from 1
+abbrev pub cells_of : Range → List ℤ → List ℤ
+cells_of r xs = slice_range xs (r.first - 1) r.last
+
+-- the range has a cell, and lies in a series of n cells
+abbrev pub IsInside : ℕ → Range → Type 0
+IsInside n r = (1 ≤ r.first) × (r.first ≤ r.last) × (r.last ≤ n)
+
+-- the first number, joined with each further one; nothing where there is none
+abbrev pub over : (ℤ → ℤ → ℤ) → List ℤ → Option ℤ
+over op [] = None
+over op (x ∷ xs) = Some (fold op x xs)
+
+abbrev pub or_zero : Option ℤ → ℤ
+or_zero None = pos 0
+or_zero (Some x) = x
+
+-- 1, the number of the cells, or the sum, the greatest or the least of them; an e-range has a cell
+abbrev pub feature_of_cells : Feature → List ℤ → ℤ
+feature_of_cells One cells = pos 1
+feature_of_cells Width cells = pos (length cells)
+feature_of_cells Surf cells = fold ◌+ℤ◌ (pos 0) cells
+feature_of_cells Max cells = or_zero (over int_max cells)
+feature_of_cells Min cells = or_zero (over int_min cells)
+
+abbrev pub feature_value : Feature → Range → List ℤ → ℤ
+feature_value f r xs = feature_of_cells f (cells_of r xs)

@@ -1,0 +1,131 @@
+-- The patterns (Global Constraint Catalog, Volume II): the expression of each name, and the cells trimmed before and
+-- after an occurrence.
+use Rattle.std.specs.Prelude.{ℕ}
+use Rattle.ts_base.specs.declared.letter.Letter.{Letter}
+use Rattle.ts_base.specs.declared.letter.Letter.TheVariants.{Less, Equal, Greater}
+use Rattle.ts_regex.specs.Shape.{Shape, OneLetter, Concat, Union, Repeat}
+use Rattle.ts_pattern.specs.declared.name.PatternId.{PatternId}
+use Rattle.ts_pattern.specs.declared.name.PatternId.TheVariants.{Increasing, Decreasing, Steady, IncreasingSequence, DecreasingSequence, StrictlyIncreasingSequence, StrictlyDecreasingSequence, SteadySequence, IncreasingTerrace, DecreasingTerrace, Inflexion, Peak, Valley, Plateau, Plain, ProperPlateau, ProperPlain, Summit, Gorge, Zigzag, DipOnIncreasingSequence, BumpOnDecreasingSequence}
+
+-- In the comments u and d stand for the two letters given: `<` and `>`, or `>` and `<` in the mirrored pattern.
+
+-- r+, that is r r*
+abbrev pub plus : Shape → Shape
+plus r = Concat r (Repeat r)
+
+-- u(u|=)*u|u
+abbrev pub sequence : Letter → Shape
+sequence u = Union (Concat (OneLetter u) (Concat (Repeat (Union (OneLetter u) (OneLetter Equal))) (OneLetter u))) (OneLetter u)
+
+-- u=+u
+abbrev pub terrace : Letter → Shape
+terrace u = Concat (OneLetter u) (Concat (plus (OneLetter Equal)) (OneLetter u))
+
+-- u(u|=)*d
+abbrev pub turn : Letter → Letter → Shape
+turn u d = Concat (OneLetter u) (Concat (Repeat (Union (OneLetter u) (OneLetter Equal))) (OneLetter d))
+
+-- u(=|u)*(d|=)*d
+abbrev pub peak : Letter → Letter → Shape
+peak u d =
+    Concat (OneLetter u) (Concat (Repeat (Union (OneLetter Equal) (OneLetter u))) (Concat (Repeat (Union (OneLetter d) (OneLetter Equal))) (OneLetter d)))
+
+-- u=*d
+abbrev pub plateau : Letter → Letter → Shape
+plateau u d = Concat (OneLetter u) (Concat (Repeat (OneLetter Equal)) (OneLetter d))
+
+-- u=+d
+abbrev pub proper_plateau : Letter → Letter → Shape
+proper_plateau u d = Concat (OneLetter u) (Concat (plus (OneLetter Equal)) (OneLetter d))
+
+-- u|u(=|u)*u
+abbrev pub slope : Letter → Shape
+slope u = Union (OneLetter u) (Concat (OneLetter u) (Concat (Repeat (Union (OneLetter Equal) (OneLetter u))) (OneLetter u)))
+
+-- (u|u(=|u)*u)(d|d(=|d)*d)
+abbrev pub summit : Letter → Letter → Shape
+summit u d = Concat (slope u) (slope d)
+
+-- (ud)+(u|ud)
+abbrev pub alternation : Letter → Letter → Shape
+alternation u d =
+    Concat (plus (Concat (OneLetter u) (OneLetter d))) (Union (OneLetter u) (Concat (OneLetter u) (OneLetter d)))
+
+-- uuduu
+abbrev pub dip : Letter → Letter → Shape
+dip u d =
+    Concat (OneLetter u) (Concat (OneLetter u) (Concat (OneLetter d) (Concat (OneLetter u) (OneLetter u))))
+
+abbrev pub pattern_shape : PatternId → Shape
+pattern_shape Increasing = OneLetter Less
+pattern_shape Decreasing = OneLetter Greater
+pattern_shape Steady = OneLetter Equal
+pattern_shape IncreasingSequence = sequence Less
+pattern_shape DecreasingSequence = sequence Greater
+pattern_shape StrictlyIncreasingSequence = plus (OneLetter Less)
+pattern_shape StrictlyDecreasingSequence = plus (OneLetter Greater)
+pattern_shape SteadySequence = plus (OneLetter Equal)
+pattern_shape IncreasingTerrace = terrace Less
+pattern_shape DecreasingTerrace = terrace Greater
+pattern_shape Inflexion = Union (turn Less Greater) (turn Greater Less)
+pattern_shape Peak = peak Less Greater
+pattern_shape Valley = peak Greater Less
+pattern_shape Plateau = plateau Less Greater
+pattern_shape Plain = plateau Greater Less
+pattern_shape ProperPlateau = proper_plateau Less Greater
+pattern_shape ProperPlain = proper_plateau Greater Less
+pattern_shape Summit = summit Less Greater
+pattern_shape Gorge = summit Greater Less
+pattern_shape Zigzag = Union (alternation Less Greater) (alternation Greater Less)
+pattern_shape DipOnIncreasingSequence = dip Less Greater
+pattern_shape BumpOnDecreasingSequence = dip Greater Less
+
+-- the cells trimmed before an occurrence
+abbrev pub pattern_b : PatternId → ℕ
+pattern_b Increasing = 0
+pattern_b Decreasing = 0
+pattern_b Steady = 0
+pattern_b IncreasingSequence = 0
+pattern_b DecreasingSequence = 0
+pattern_b StrictlyIncreasingSequence = 0
+pattern_b StrictlyDecreasingSequence = 0
+pattern_b SteadySequence = 0
+pattern_b IncreasingTerrace = 1
+pattern_b DecreasingTerrace = 1
+pattern_b Inflexion = 1
+pattern_b Peak = 1
+pattern_b Valley = 1
+pattern_b Plateau = 1
+pattern_b Plain = 1
+pattern_b ProperPlateau = 1
+pattern_b ProperPlain = 1
+pattern_b Summit = 1
+pattern_b Gorge = 1
+pattern_b Zigzag = 1
+pattern_b DipOnIncreasingSequence = 2
+pattern_b BumpOnDecreasingSequence = 2
+
+-- the cells trimmed after it
+abbrev pub pattern_a : PatternId → ℕ
+pattern_a Increasing = 0
+pattern_a Decreasing = 0
+pattern_a Steady = 0
+pattern_a IncreasingSequence = 0
+pattern_a DecreasingSequence = 0
+pattern_a StrictlyIncreasingSequence = 0
+pattern_a StrictlyDecreasingSequence = 0
+pattern_a SteadySequence = 0
+pattern_a IncreasingTerrace = 1
+pattern_a DecreasingTerrace = 1
+pattern_a Inflexion = 1
+pattern_a Peak = 1
+pattern_a Valley = 1
+pattern_a Plateau = 1
+pattern_a Plain = 1
+pattern_a ProperPlateau = 1
+pattern_a ProperPlain = 1
+pattern_a Summit = 1
+pattern_a Gorge = 1
+pattern_a Zigzag = 1
+pattern_a DipOnIncreasingSequence = 1
+pattern_a BumpOnDecreasingSequence = 1

@@ -1,0 +1,5 @@
+pub mod Booleans
+pub mod Derivatives
+pub mod NormalForms
+pub mod Members
+pub mod Laws

@@ -1,0 +1,22 @@
+//! Membership of a word in a language.
+
+ghost use Rattle.std.specs.Prelude.{◌↔◌, IfOk, IsTrue};
+ghost use Rattle.ts_regex.specs.Shape.{shape_of};
+ghost use Rattle.ts_regex.specs.Language.{InLanguage};
+
+use crate::derivative::{derive, nullable};
+use crate::normal_form::normal;
+use crate::regex::Regex;
+use std::alloc::Global;
+use ts_base::{Letter, Memory};
+
+/// Whether `w` is in the language. Each letter is read once; what is left is simplified after it, so that it stays small.
+pub fn member(alloc: Global, r: &Regex, w: &[Letter]) -> Result<bool, Memory>
+    ensures { IfOk result (λ b. IsTrue b ↔ InLanguage (shape_of r.now) w.now) }
+{
+    let mut rest = normal(alloc, r)?;
+    for l in w {
+        rest = normal(alloc, &derive(alloc, &rest, *l)?)?;
+    }
+    Ok(nullable(&rest))
+}

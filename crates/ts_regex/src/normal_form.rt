@@ -1,0 +1,150 @@
+//! Normal forms: expressions that differ in brackets, order and repeats alone get one form, so that a word read
+//! letter by letter leaves expressions of bounded size.
+
+ghost use Rattle.std.specs.Prelude.{◌≡◌, ◌↔◌, ◌≤◌, List, map, length, IfOk, OnOk, MatchResult};
+ghost use Rattle.std.specs.List.{insert};
+ghost use Rattle.ts_base.specs.declared.letter.Letter.{Letter};
+ghost use Rattle.ts_regex.specs.Shape.{shape_of};
+ghost use Rattle.ts_regex.specs.Language.{InLanguage};
+ghost use Rattle.ts_regex.specs.NormalForm.{chained, followed, normal_concat, members, inserted, inserted_all, nested, normal_union, normal_repeat, normal_form};
+
+use crate::regex::{Regex, alt, cat, star};
+use std::alloc::Global;
+use std::cmp::Ordering;
+use ts_base::Memory;
+
+/// The normal form, of the same language (Brzozowski 1964, similar expressions).
+#[tactic(auto, using(crate::proofs::Laws::normal_law))]
+pub fn normal(alloc: Global, r: &Regex) -> Result<Regex, Memory>
+    ensures exact { IfOk result (λ n. shape_of n ≡ normal_form (shape_of r.now)) }
+    ensures language { IfOk result (λ n. (w : List Letter) → InLanguage (shape_of n) w ↔ InLanguage (shape_of r.now) w) }
+{
+    Ok(r.simplified(alloc)?)
+}
+
+impl Regex {
+    fn simplified(&self, alloc: Global) -> Result<Regex, Memory>
+        ensures { IfOk result (λ n. shape_of n ≡ normal_form (shape_of self.now)) }
+    {
+        match self {
+            Regex::Empty => Ok(Regex::Empty),
+            Regex::Eps => Ok(Regex::Eps),
+            Regex::One(l) => Ok(Regex::One(*l)),
+            Regex::Cat(r, s) => Ok(normal_cat(alloc, r.simplified(alloc)?, s.simplified(alloc)?)?),
+            Regex::Alt(r, s) => Ok(normal_alt(alloc, r.simplified(alloc)?, s.simplified(alloc)?)?),
+            Regex::Star(r) => Ok(normal_star(alloc, r.simplified(alloc)?)?),
+        }
+    }
+
+    // Puts the members that aren't unions into their places.
+    #[tactic(auto, using(crate::proofs::Members::all_append))]
+    fn collect_members(self, found: &mut Vec<Regex>) -> Result<(), Memory>
+        ensures { OnOk result (map shape_of found.new.items ≡ inserted_all (members (shape_of self)) (map shape_of found.old.items)) }
+    {
+        match self {
+            Regex::Empty => Ok(()),
+            Regex::Alt(r, s) => {
+                Box::into_inner(s).collect_members(found)?;
+                Box::into_inner(r).collect_members(found)
+            }
+            member => Ok(insert_member(found, member)?),
+        }
+    }
+}
+
+// The Cat of two normal forms.
+fn normal_cat(alloc: Global, r: Regex, s: Regex) -> Result<Regex, Memory>
+    ensures { IfOk result (λ n. shape_of n ≡ normal_concat (shape_of r) (shape_of s)) }
+{
+    match r {
+        Regex::Empty => Ok(Regex::Empty),
+        Regex::Eps => Ok(s),
+        first => Ok(follow(alloc, first, s)?),
+    }
+}
+
+// `r`, which is neither Empty nor Eps, followed by `s`.
+fn follow(alloc: Global, r: Regex, s: Regex) -> Result<Regex, Memory>
+    ensures { IfOk result (λ n. shape_of n ≡ followed (shape_of r) (shape_of s)) }
+{
+    match s {
+        Regex::Empty => Ok(Regex::Empty),
+        Regex::Eps => Ok(r),
+        second => Ok(chain(alloc, r, second)?),
+    }
+}
+
+// `r` followed by `t`, nested to the right.
+fn chain(alloc: Global, r: Regex, t: Regex) -> Result<Regex, Memory>
+    ensures { IfOk result (λ n. shape_of n ≡ chained (shape_of r) (shape_of t)) }
+{
+    match r {
+        Regex::Cat(first, rest) => Ok(Regex::Cat(
+            first,
+            Box::new(alloc, chain(alloc, Box::into_inner(rest), t)?)?,
+        )),
+        first => Ok(cat(alloc, first, t)?),
+    }
+}
+
+// The Alt of two normal forms.
+fn normal_alt(alloc: Global, r: Regex, s: Regex) -> Result<Regex, Memory>
+    ensures { IfOk result (λ n. shape_of n ≡ normal_union (shape_of r) (shape_of s)) }
+{
+    let mut found = Vec::new(alloc);
+    s.collect_members(&mut found)?;
+    r.collect_members(&mut found)?;
+    Ok(nest(alloc, found)?)
+}
+
+// Puts `r` into its place among sorted members, unless it stands there. The place is found from the front, so m members
+// may take m * m / 2 comparisons. That doesn't matter: a residual of the catalogue's patterns has at most three members,
+// and those of a part, which are sorted, come last first, with one comparison each where they stand before all others.
+fn insert_member(found: &mut Vec<Regex>, r: Regex) -> Result<(), Memory>
+    ensures { OnOk result (map shape_of found.new.items ≡ inserted (shape_of r) (map shape_of found.old.items)) }
+{
+    if let Err(place) = place_of(found, &r) {
+        found.insert(place, r)?;
+    }
+    Ok(())
+}
+
+// Where `r` stands among sorted members, or else where it belongs.
+fn place_of(found: &[Regex], r: &Regex) -> Result<usize, usize>
+    ensures { MatchResult result (λ k. inserted (shape_of r.now) (map shape_of found.now) ≡ map shape_of found.now)
+        (λ k. (k ≤ length found.now) × (inserted (shape_of r.now) (map shape_of found.now) ≡ insert (map shape_of found.now) k (shape_of r.now))) }
+{
+    for k in 0..found.len() {
+        match r.compare(&found[k]) {
+            Ordering::Less => return Err(k),
+            Ordering::Equal => return Ok(k),
+            Ordering::Greater => {}
+        }
+    }
+    Err(found.len())
+}
+
+// The union of the members, nested to the right.
+fn nest(alloc: Global, mut found: Vec<Regex>) -> Result<Regex, Memory>
+    ensures { IfOk result (λ n. shape_of n ≡ nested (map shape_of found.items)) }
+{
+    let mut union = match found.pop() {
+        None => return Ok(Regex::Empty),
+        Some(last) => last,
+    };
+    while let Some(member) = found.pop() {
+        union = alt(alloc, member, union)?;
+    }
+    Ok(union)
+}
+
+// The Star of a normal form.
+fn normal_star(alloc: Global, r: Regex) -> Result<Regex, Memory>
+    ensures { IfOk result (λ n. shape_of n ≡ normal_repeat (shape_of r)) }
+{
+    match r {
+        Regex::Empty | Regex::Eps => Ok(Regex::Eps),
+        Regex::Star(inner) => Ok(Regex::Star(inner)),
+        once => Ok(star(alloc, once)?),
+    }
+}

@@ -1,0 +1,4 @@
+pub mod Endings
+pub mod OutsideLaws
+pub mod PieceLaws
+pub mod SeriesLaws

@@ -1,0 +1,85 @@
+//! The decoder: from phase letters to the ranges of cells that the occurrences leave.
+
+ghost use Rattle.std.specs.Prelude.{◌≡◌, ◌<◌, ◌≤◌};
+ghost use Rattle.ts_transducer.specs.Decode.{start_after, held_after, emitted_at};
+
+use crate::row::Phase;
+use ts_base::Range;
+
+/// The start that is kept and the range that is held, while a signature is read.
+#[derive(Clone, Copy, Debug, PartialEq, Eq)]
+pub struct Decoder {
+    pub start: Option<u32>,
+    pub held: Option<Range>,
+}
+
+impl Decoder {
+    /// Keeps no start and holds no range.
+    pub fn new() -> Decoder
+        ensures start { result.start ≡ None }
+        ensures held { result.held ≡ None }
+    {
+        Decoder {
+            start: None,
+            held: None,
+        }
+    }
+
+    /// Reads the phase letter of sign `k`, counted from 1, and gives the range emitted, in cells counted from
+    /// 1. `a` is 1 where an occurrence leaves its last cell out, else 0.
+    pub fn step(&mut self, k: u32, phase: Phase, a: u8) -> Option<Range>
+        requires sign { 1 ≤ k }
+        requires few { k ≤ 4000000000 }
+        requires trim { a ≤ 1 }
+        ensures emitted { result ≡ emitted_at phase a k self.old.start self.old.held }
+        ensures start { self.new.start ≡ start_after phase k self.old.start }
+        ensures held { self.new.held ≡ held_after phase a k self.old.start self.old.held }
+    {
+        let found = Range {
+            first: self.start.unwrap_or(k),
+            last: k + 1 - a as u32,
+        };
+        match phase {
+            Phase::Out | Phase::MaybeA => None,
+            Phase::OutR => {
+                self.start = None;
+                None
+            }
+            Phase::OutA => {
+                self.start = None;
+                self.held.take()
+            }
+            Phase::MaybeB => {
+                self.start = Some(found.first);
+                None
+            }
+            Phase::Found => {
+                self.start = None;
+                self.held = Some(found);
+                None
+            }
+            Phase::FoundE => {
+                self.start = None;
+                Some(found)
+            }
+            Phase::Inside => {
+                self.held = self.held.map(|range| Range {
+                    last: found.last,
+                    ..range
+                });
+                None
+            }
+        }
+    }
+
+    /// The range emitted at the end of the signature; none is held and no start is kept after it.
+    pub fn finish(&mut self) -> Option<Range>
+        ensures emitted { result ≡ self.old.held }
+        ensures start { self.new.start ≡ None }
+        ensures held { self.new.held ≡ None }
+    {
+        let last = self.held;
+        *self = Decoder::new();
+        last
+    }
+}

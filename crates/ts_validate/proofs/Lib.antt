@@ -1,0 +1,15 @@
+pub mod Keeps
+pub mod Traces
+pub mod OneMore
+pub mod TraceStep
+pub mod Checks
+pub mod Law
+pub mod Younger
+pub mod Plain
+pub mod FactsOf
+pub mod LeftOver
+pub mod Looking
+pub mod Numbering
+pub mod Transfer
+pub mod Values
+pub mod Seeing

@@ -1,0 +1,5 @@
+pub mod Valid
+pub mod Numbers
+pub mod Facts
+pub mod Looks
+pub mod Reaches
