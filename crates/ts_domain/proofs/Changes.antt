@@ -24,7 +24,7 @@ at_most t v = int_le v t
 abbrev beyond : ℤ → ℤ → Bool
 beyond t v = int_lt t v
 
-abbrev other_than : ℤ → ℤ → Bool
+abbrev pub other_than : ℤ → ℤ → Bool
 other_than gone v = not (int_eq v gone)
 
 split_at : (p : ℤ → Bool) (low t high : ℤ) → low ≤ℤ (t +ℤ pos 1) → t ≤ℤ high →
@@ -43,44 +43,44 @@ values-none o e = ap (λ o. values_of (option_to_list o)) e
 up_to_values : (t : ℤ) (r : Interval) → r.low ≤ℤ r.high → values_of (option_to_list (up_to t r)) ≡ filter (at_most t) (values_between r.low r.high)
 up_to_values t r h = by_test (int_le r.low t) refl
   where
-  by_test : (b : Bool) → int_le r.low t ≡ b → values_of (option_to_list (up_to t r)) ≡ filter (at_most t) (values_between r.low r.high)
-  by_test true e =
-      let m = int_min r.high t in
-      let from : r.low ≤ℤ m = grind (arith, ints) in let to : m ≤ℤ r.high = grind (arith, ints) in
-      values-one (up_to t r) r.low m (ap (λ b. cond b (Some (record { low = r.low; high = m })) None) e) ∙
-      sym (split_at (at_most t) r.low m r.high (omega (arith, ints, from)) to ∙
-      ap (λ l. l ++ filter (at_most t) (values_between (m +ℤ pos 1) r.high)) (all_between (at_most t) r.low m (omega (arith, ints, from)) (λ v f g. grind (arith, ints))) ∙
-      ap (λ l. values_between r.low m ++ l) (none_between (at_most t) (m +ℤ pos 1) r.high (omega (arith, ints, to)) (λ v f g. grind (arith, ints))) ∙ append-nil (values_between r.low m))
-  by_test false e =
-      values-none (up_to t r) (ap (λ b. cond b (Some (record { low = r.low; high = int_min r.high t })) None) e) ∙
-      sym (none_between (at_most t) r.low r.high (omega (arith, ints, h)) (λ v f g. grind (arith, ints)))
+    by_test : (b : Bool) → int_le r.low t ≡ b → values_of (option_to_list (up_to t r)) ≡ filter (at_most t) (values_between r.low r.high)
+    by_test true e =
+        let m = int_min r.high t in
+        let from : r.low ≤ℤ m = grind (arith, ints) in let to : m ≤ℤ r.high = grind (arith, ints) in
+        values-one (up_to t r) r.low m (ap (λ b. cond b (Some (record { low = r.low; high = m })) None) e) ∙
+        sym (split_at (at_most t) r.low m r.high (omega (arith, ints, from)) to ∙
+        ap (λ l. l ++ filter (at_most t) (values_between (m +ℤ pos 1) r.high)) (all_between (at_most t) r.low m (omega (arith, ints, from)) (λ v f g. grind (arith, ints))) ∙
+        ap (λ l. values_between r.low m ++ l) (none_between (at_most t) (m +ℤ pos 1) r.high (omega (arith, ints, to)) (λ v f g. grind (arith, ints))) ∙ append-nil (values_between r.low m))
+    by_test false e =
+        values-none (up_to t r) (ap (λ b. cond b (Some (record { low = r.low; high = int_min r.high t })) None) e) ∙
+        sym (none_between (at_most t) r.low r.high (omega (arith, ints, h)) (λ v f g. grind (arith, ints)))
 
 above_values : (t : ℤ) (r : Interval) → r.low ≤ℤ r.high → values_of (option_to_list (above t r)) ≡ filter (beyond t) (values_between r.low r.high)
 above_values t r h = by_test (int_lt t r.high) refl
   where
-  by_test : (b : Bool) → int_lt t r.high ≡ b → values_of (option_to_list (above t r)) ≡ filter (beyond t) (values_between r.low r.high)
-  by_test true e =
-      let m = int_max r.low (t +ℤ pos 1) in
-      let from : r.low ≤ℤ m = grind (arith, ints) in let to : m ≤ℤ r.high = grind (arith, ints) in
-      let back : (m -ℤ pos 1) +ℤ pos 1 ≡ m = omega (arith, ints) in
-      values-one (above t r) m r.high (ap (λ b. cond b (Some (record { low = m; high = r.high })) None) e) ∙
-      sym (split_at (beyond t) r.low (m -ℤ pos 1) r.high (omega (arith, ints, from)) (omega (arith, ints, to)) ∙
-      ap (λ l. l ++ filter (beyond t) (values_between ((m -ℤ pos 1) +ℤ pos 1) r.high)) (none_between (beyond t) r.low (m -ℤ pos 1) (omega (arith, ints, from)) (λ v f g. grind (arith, ints))) ∙
-      ap (λ n. filter (beyond t) (values_between n r.high)) back ∙
-      all_between (beyond t) m r.high (omega (arith, ints, to)) (λ v f g. grind (arith, ints)))
-  by_test false e =
-      values-none (above t r) (ap (λ b. cond b (Some (record { low = int_max r.low (t +ℤ pos 1); high = r.high })) None) e) ∙
-      sym (none_between (beyond t) r.low r.high (omega (arith, ints, h)) (λ v f g. grind (arith, ints)))
+    by_test : (b : Bool) → int_lt t r.high ≡ b → values_of (option_to_list (above t r)) ≡ filter (beyond t) (values_between r.low r.high)
+    by_test true e =
+        let m = int_max r.low (t +ℤ pos 1) in
+        let from : r.low ≤ℤ m = grind (arith, ints) in let to : m ≤ℤ r.high = grind (arith, ints) in
+        let back : (m -ℤ pos 1) +ℤ pos 1 ≡ m = omega (arith, ints) in
+        values-one (above t r) m r.high (ap (λ b. cond b (Some (record { low = m; high = r.high })) None) e) ∙
+        sym (split_at (beyond t) r.low (m -ℤ pos 1) r.high (omega (arith, ints, from)) (omega (arith, ints, to)) ∙
+        ap (λ l. l ++ filter (beyond t) (values_between ((m -ℤ pos 1) +ℤ pos 1) r.high)) (none_between (beyond t) r.low (m -ℤ pos 1) (omega (arith, ints, from)) (λ v f g. grind (arith, ints))) ∙
+        ap (λ n. filter (beyond t) (values_between n r.high)) back ∙
+        all_between (beyond t) m r.high (omega (arith, ints, to)) (λ v f g. grind (arith, ints)))
+    by_test false e =
+        values-none (above t r) (ap (λ b. cond b (Some (record { low = int_max r.low (t +ℤ pos 1); high = r.high })) None) e) ∙
+        sym (none_between (beyond t) r.low r.high (omega (arith, ints, h)) (λ v f g. grind (arith, ints)))
 
 -- all but one: those below it, and those above it
-differs : (gone v : ℤ) → (v ≡ gone → ⊥) → other_than gone v ≡ true
+pub differs : (gone v : ℤ) → (v ≡ gone → ⊥) → other_than gone v ≡ true
 differs gone v n = by_test (int_eq v gone) refl
   where
-  by_test : (b : Bool) → int_eq v gone ≡ b → not b ≡ true
-  by_test true e = absurd (n ((Decides-int_eq v gone).0 e))
-  by_test false e = refl
+    by_test : (b : Bool) → int_eq v gone ≡ b → not b ≡ true
+    by_test true e = absurd (n ((Decides-int_eq v gone).0 e))
+    by_test false e = refl
 
-itself : (gone v : ℤ) → v ≡ gone → other_than gone v ≡ false
+pub itself : (gone v : ℤ) → v ≡ gone → other_than gone v ≡ false
 itself gone v e = ap not ((Decides-int_eq v gone).1 e)
 
 two_heads : (p q r : Bool) (x : ℤ) (a b c : List ℤ) (t : Bool) → p ≡ t → q ≡ t → r ≡ false → a ≡ b ++ c → cond p (x ∷ a) a ≡ cond q (x ∷ b) b ++ cond r (x ∷ c) c
@@ -95,11 +95,11 @@ above_gone gone low n h =
     same_pass (other_than gone) (beyond gone) low n (λ v f. differs gone v (λ e. below_itself v (omega (arith, ints, h, f, e))) ∙ sym (lt_test gone v (omega (arith, ints, h, f)))) ∙
     ap (λ l. l ++ filter (beyond gone) (run low n)) (sym (none_pass (at_most (gone -ℤ pos 1)) low n (λ v f g. grind (arith, ints))))
   where
-  below_itself : (v : ℤ) → v <ℤ v → ⊥
-  below_itself v h = omega (arith, ints, h)
+    below_itself : (v : ℤ) → v <ℤ v → ⊥
+    below_itself v h = omega (arith, ints, h)
 
-  lt_test : (a b : ℤ) → a <ℤ b → int_lt a b ≡ true
-  lt_test a b h = grind (arith, ints)
+    lt_test : (a b : ℤ) → a <ℤ b → int_lt a b ≡ true
+    lt_test a b h = grind (arith, ints)
 
 two_sides : (gone low : ℤ) (n : ℕ) → filter (other_than gone) (run low n) ≡ filter (at_most (gone -ℤ pos 1)) (run low n) ++ filter (beyond gone) (run low n)
 unfolding run
@@ -110,22 +110,22 @@ two_sides gone low (suc n) =
     by_lt_z low gone (λ lt. head low gone (run (low +ℤ pos 1) n) true (differs gone low (λ e. not_below low gone lt e)) (below_test low gone lt) (le_test low gone le) rest)
     (λ ge. head low gone (run (low +ℤ pos 1) n) false (itself gone low (omega (arith, ints, le, ge))) (above_test low gone ge) (le_test low gone le) rest))
   where
-  not_below : (a b : ℤ) → a <ℤ b → a ≡ b → ⊥
-  not_below a b h e = omega (arith, ints, h, e)
+    not_below : (a b : ℤ) → a <ℤ b → a ≡ b → ⊥
+    not_below a b h e = omega (arith, ints, h, e)
 
-  below_test : (a b : ℤ) → a <ℤ b → int_le a (b -ℤ pos 1) ≡ true
-  below_test a b h = grind (arith, ints)
+    below_test : (a b : ℤ) → a <ℤ b → int_le a (b -ℤ pos 1) ≡ true
+    below_test a b h = grind (arith, ints)
 
-  above_test : (a b : ℤ) → b ≤ℤ a → int_le a (b -ℤ pos 1) ≡ false
-  above_test a b h = grind (arith, ints)
+    above_test : (a b : ℤ) → b ≤ℤ a → int_le a (b -ℤ pos 1) ≡ false
+    above_test a b h = grind (arith, ints)
 
-  le_test : (a b : ℤ) → a ≤ℤ b → int_lt b a ≡ false
-  le_test a b h = grind (arith, ints)
+    le_test : (a b : ℤ) → a ≤ℤ b → int_lt b a ≡ false
+    le_test a b h = grind (arith, ints)
 
-  head : (low gone : ℤ) (l : List ℤ) (t : Bool) → other_than gone low ≡ t → at_most (gone -ℤ pos 1) low ≡ t → beyond gone low ≡ false →
-      filter (other_than gone) l ≡ filter (at_most (gone -ℤ pos 1)) l ++ filter (beyond gone) l →
-      filter (other_than gone) (low ∷ l) ≡ filter (at_most (gone -ℤ pos 1)) (low ∷ l) ++ filter (beyond gone) (low ∷ l)
-  head low gone l t p q r e = two_heads (other_than gone low) (at_most (gone -ℤ pos 1) low) (beyond gone low) low (filter (other_than gone) l) (filter (at_most (gone -ℤ pos 1)) l) (filter (beyond gone) l) t p q r e
+    head : (low gone : ℤ) (l : List ℤ) (t : Bool) → other_than gone low ≡ t → at_most (gone -ℤ pos 1) low ≡ t → beyond gone low ≡ false →
+        filter (other_than gone) l ≡ filter (at_most (gone -ℤ pos 1)) l ++ filter (beyond gone) l →
+        filter (other_than gone) (low ∷ l) ≡ filter (at_most (gone -ℤ pos 1)) (low ∷ l) ++ filter (beyond gone) (low ∷ l)
+    head low gone l t p q r e = two_heads (other_than gone low) (at_most (gone -ℤ pos 1) low) (beyond gone low) low (filter (other_than gone) l) (filter (at_most (gone -ℤ pos 1)) l) (filter (beyond gone) l) t p q r e
 
 both_values : (gone : ℤ) (r : Interval) → filter (other_than gone) (values_between r.low r.high) ≡ filter (at_most (gone -ℤ pos 1)) (values_between r.low r.high) ++ filter (beyond gone) (values_between r.low r.high)
 unfolding values_between
@@ -173,17 +173,17 @@ lower_fits : (t f to : ℤ) (r : Interval) → f ≤ℤ r.low → r.low ≤ℤ r
     IfSome {T = Interval} (up_to t r) (λ p. (f ≤ℤ p.low) × (p.low ≤ℤ p.high) × (p.high ≤ℤ pos 1000000) × ((p.high +ℤ pos 2) ≤ℤ to))
 lower_fits t f to r from ordered within gap = by_test (int_le r.low t) refl
   where
-  by_test : (b : Bool) → int_le r.low t ≡ b → IfSome {T = Interval} (cond b (Some (record { low = r.low; high = int_min r.high t })) None) (λ p. (f ≤ℤ p.low) × (p.low ≤ℤ p.high) × (p.high ≤ℤ pos 1000000) × ((p.high +ℤ pos 2) ≤ℤ to))
-  by_test true e = (from, grind (arith, ints), grind (arith, ints), gap (grind (arith, ints)))
-  by_test false e = tt
+    by_test : (b : Bool) → int_le r.low t ≡ b → IfSome {T = Interval} (cond b (Some (record { low = r.low; high = int_min r.high t })) None) (λ p. (f ≤ℤ p.low) × (p.low ≤ℤ p.high) × (p.high ≤ℤ pos 1000000) × ((p.high +ℤ pos 2) ≤ℤ to))
+    by_test true e = (from, grind (arith, ints), grind (arith, ints), gap (grind (arith, ints)))
+    by_test false e = tt
 
 upper_fits : (t f : ℤ) (r : Interval) → r.low ≤ℤ r.high → r.high ≤ℤ pos 1000000 → (t <ℤ r.high → f ≤ℤ int_max r.low (t +ℤ pos 1)) →
     IfSome {T = Interval} (above t r) (λ p. (f ≤ℤ p.low) × (p.low ≤ℤ p.high) × (p.high ≤ℤ pos 1000000) × ((p.high +ℤ pos 2) ≤ℤ (r.high +ℤ pos 2)))
 upper_fits t f r ordered within from = by_test (int_lt t r.high) refl
   where
-  by_test : (b : Bool) → int_lt t r.high ≡ b → IfSome {T = Interval} (cond b (Some (record { low = int_max r.low (t +ℤ pos 1); high = r.high })) None) (λ p. (f ≤ℤ p.low) × (p.low ≤ℤ p.high) × (p.high ≤ℤ pos 1000000) × ((p.high +ℤ pos 2) ≤ℤ (r.high +ℤ pos 2)))
-  by_test true e = (from (grind (arith, ints)), grind (arith, ints), within, omega (arith, ints))
-  by_test false e = tt
+    by_test : (b : Bool) → int_lt t r.high ≡ b → IfSome {T = Interval} (cond b (Some (record { low = int_max r.low (t +ℤ pos 1); high = r.high })) None) (λ p. (f ≤ℤ p.low) × (p.low ≤ℤ p.high) × (p.high ≤ℤ pos 1000000) × ((p.high +ℤ pos 2) ≤ℤ (r.high +ℤ pos 2)))
+    by_test true e = (from (grind (arith, ints)), grind (arith, ints), within, omega (arith, ints))
+    by_test false e = tt
 
 -- where the upper part may begin, at the latest
 middle : ℤ → Interval → ℤ

@@ -27,8 +27,8 @@ joining_none (r ∷ rs) done d h a e = record {
   same = λ v. (λ w. elim w [ inl p ↦ first_has r rs v (subst (λ l. InSome (l ++ r ∷ []) v) e p) | inr q ↦ q ], λ q. inr q);
 }
   where
-  first_has : (r : Interval) (rs : List Interval) (v : ℤ) → ((r.low ≤ℤ v) × (v ≤ℤ r.high)) ⊎ ⊥ → ((r.low ≤ℤ v) × (v ≤ℤ r.high)) ⊎ InSome rs v
-  first_has r rs v p = elim p [ inl here ↦ inl here | inr never ↦ absurd never ]
+    first_has : (r : Interval) (rs : List Interval) (v : ℤ) → ((r.low ≤ℤ v) × (v ≤ℤ r.high)) ⊎ ⊥ → ((r.low ≤ℤ v) × (v ≤ℤ r.high)) ⊎ InSome rs v
+    first_has r rs v p = elim p [ inl here ↦ inl here | inr never ↦ absurd never ]
 
 -- the next range, taken off what is left
 next_off : (sorted : List Interval) (i : ℕ) (d : Interval) → i < length sorted → drop i sorted ≡ get_or sorted i d ∷ drop (i + 1) sorted
@@ -57,28 +57,32 @@ next_in r rs v h = h
 -- no gap lies before the next range: the last one grows
 grown_numbers : (done : List Interval) (last next grown : Interval) (rest : List Interval) (v : ℤ) → grown.low ≡ last.low → grown.high ≡ int_max last.high next.high → last.low ≤ℤ next.low → next.low ≤ℤ (last.high +ℤ pos 1) →
     (InSome (done ++ grown ∷ []) v ⊎ InSome rest v) ↔ (InSome (done ++ last ∷ []) v ⊎ InSome (next ∷ rest) v)
-grown_numbers done last next grown rest v low high from touch = (λ w. elim w [ inl p ↦ elim (in_append done (grown ∷ []) v p) [ inl a ↦ inl (in_left done (last ∷ []) v a) | inr b ↦ old (one_in grown v b) ] | inr q ↦ inr (next_in next rest v (inr q)) ],
-    λ w. elim w [ inl p ↦ inl (elim (in_append done (last ∷ []) v p) [ inl a ↦ in_left done (grown ∷ []) v a | inr b ↦ in_right done (grown ∷ []) v (new_last (one_in last v b)) ])
-                | inr q ↦ elim (in_next next rest v q) [ inl here ↦ inl (in_right done (grown ∷ []) v (new_next here)) | inr there ↦ inr there ] ])
+grown_numbers done last next grown rest v low high from touch = (
+  λ w. elim w [ inl p ↦ elim (in_append done (grown ∷ []) v p) [ inl a ↦ inl (in_left done (last ∷ []) v a) | inr b ↦ old (one_in grown v b) ] | inr q ↦ inr (next_in next rest v (inr q)) ],
+  λ w. elim w [
+    | inl p ↦ inl (elim (in_append done (last ∷ []) v p) [ inl a ↦ in_left done (grown ∷ []) v a | inr b ↦ in_right done (grown ∷ []) v (new_last (one_in last v b)) ])
+    | inr q ↦ elim (in_next next rest v q) [ inl here ↦ inl (in_right done (grown ∷ []) v (new_next here)) | inr there ↦ inr there ]
+  ],
+)
   where
-  in_max : (a b m w : ℤ) → m ≡ int_max a b → w ≤ℤ m → a <ℤ w → w ≤ℤ b
-  in_max a b m w e h k = grind (arith, ints)
+    in_max : (a b m w : ℤ) → m ≡ int_max a b → w ≤ℤ m → a <ℤ w → w ≤ℤ b
+    in_max a b m w e h k = grind (arith, ints)
 
-  left_max : (a b m w : ℤ) → m ≡ int_max a b → w ≤ℤ a → w ≤ℤ m
-  left_max a b m w e h = grind (arith, ints)
+    left_max : (a b m w : ℤ) → m ≡ int_max a b → w ≤ℤ a → w ≤ℤ m
+    left_max a b m w e h = grind (arith, ints)
 
-  right_max : (a b m w : ℤ) → m ≡ int_max a b → w ≤ℤ b → w ≤ℤ m
-  right_max a b m w e h = grind (arith, ints)
+    right_max : (a b m w : ℤ) → m ≡ int_max a b → w ≤ℤ b → w ≤ℤ m
+    right_max a b m w e h = grind (arith, ints)
 
-  old : (grown.low ≤ℤ v) × (v ≤ℤ grown.high) → InSome (done ++ last ∷ []) v ⊎ InSome (next ∷ rest) v
-  old b = by_lt_z last.high v (λ beyond. inr (next_in next rest v (inl (omega (arith, ints, touch, beyond), in_max last.high next.high grown.high v high b.1 beyond))))
-      (λ within. inl (in_right done (last ∷ []) v (in_one last v (omega (arith, ints, b.0, low)) within)))
+    old : (grown.low ≤ℤ v) × (v ≤ℤ grown.high) → InSome (done ++ last ∷ []) v ⊎ InSome (next ∷ rest) v
+    old b = by_lt_z last.high v (λ beyond. inr (next_in next rest v (inl (omega (arith, ints, touch, beyond), in_max last.high next.high grown.high v high b.1 beyond))))
+        (λ within. inl (in_right done (last ∷ []) v (in_one last v (omega (arith, ints, b.0, low)) within)))
 
-  new_last : (last.low ≤ℤ v) × (v ≤ℤ last.high) → InSome (grown ∷ []) v
-  new_last b = in_one grown v (omega (arith, ints, b.0, low)) (left_max last.high next.high grown.high v high b.1)
+    new_last : (last.low ≤ℤ v) × (v ≤ℤ last.high) → InSome (grown ∷ []) v
+    new_last b = in_one grown v (omega (arith, ints, b.0, low)) (left_max last.high next.high grown.high v high b.1)
 
-  new_next : (next.low ≤ℤ v) × (v ≤ℤ next.high) → InSome (grown ∷ []) v
-  new_next b = in_one grown v (omega (arith, ints, b.0, low, from)) (right_max last.high next.high grown.high v high b.1)
+    new_next : (next.low ≤ℤ v) × (v ≤ℤ next.high) → InSome (grown ∷ []) v
+    new_next b = in_one grown v (omega (arith, ints, b.0, low, from)) (right_max last.high next.high grown.high v high b.1)
 
 pub joining_grown : (sorted done done' : List Interval) (last grown : Interval) (i : ℕ) (d : Interval) → i < length sorted → Joining sorted done last i → (get_or sorted i d).low ≤ℤ (last.high +ℤ pos 1) →
     done' ≡ done → grown.low ≡ last.low → grown.high ≡ int_max last.high (get_or sorted i d).high → Joining sorted done' grown (i + 1)
@@ -92,11 +96,11 @@ joining_grown sorted done done' last grown i d h j touch kept low high =
           (λ w. s.0 (subst (λ l. InSome (done ++ last ∷ []) v ⊎ InSome l v) (sym off) (g.0 w)), λ w. g.1 (subst (λ l. InSome (done ++ last ∷ []) v ⊎ InSome l v) off (s.1 w)));
     })
   where
-  ordered : (a b c l m : ℤ) → l ≡ a → m ≡ int_max b c → a ≤ℤ b → l ≤ℤ m
-  ordered a b c l m e f h = grind (arith, ints)
+    ordered : (a b c l m : ℤ) → l ≡ a → m ≡ int_max b c → a ≤ℤ b → l ≤ℤ m
+    ordered a b c l m e f h = grind (arith, ints)
 
-  within : (a b m : ℤ) → m ≡ int_max a b → a ≤ℤ pos 1000000 → b ≤ℤ pos 1000000 → m ≤ℤ pos 1000000
-  within a b m e h k = grind (arith, ints)
+    within : (a b m : ℤ) → m ≡ int_max a b → a ≤ℤ pos 1000000 → b ≤ℤ pos 1000000 → m ≤ℤ pos 1000000
+    within a b m e h k = grind (arith, ints)
 
 -- a gap lies before it: it is the last one now
 pub joining_more : (sorted done done' : List Interval) (last next : Interval) (i : ℕ) (d : Interval) → i < length sorted → Joining sorted done last i → (last.high +ℤ pos 1) <ℤ (get_or sorted i d).low →
@@ -107,13 +111,14 @@ joining_more sorted done done' last next i d h j gap grown is =
     subst (λ x. Joining sorted x next (i + 1)) (sym grown) (record {
       rest = r.3;
       apart = one_more_range (neg_ℤ (pos 1000000)) done last next j.apart (omega (arith, ints, apart)) r.1 r.2;
-      same = λ v. let s = j.same v in
-          (λ w. s.0 (elim w [ inl p ↦ elim (in_append (done ++ last ∷ []) (next ∷ []) v p) [ inl a ↦ inl a | inr b ↦ inr (subst (λ l. InSome l v) (sym off) (next_in next rest v (inl (one_in next v b)))) ] | inr q ↦ inr (subst (λ l. InSome l v) (sym off) (next_in next rest v (inr q))) ]),
-          λ w. elim (s.1 w) [ inl a ↦ inl (in_left (done ++ last ∷ []) (next ∷ []) v a) | inr q ↦ left_over v (in_next next rest v (subst (λ l. InSome l v) off q)) ]);
+      same = λ v. let s = j.same v in (
+        λ w. s.0 (elim w [ inl p ↦ elim (in_append (done ++ last ∷ []) (next ∷ []) v p) [ inl a ↦ inl a | inr b ↦ inr (subst (λ l. InSome l v) (sym off) (next_in next rest v (inl (one_in next v b)))) ] | inr q ↦ inr (subst (λ l. InSome l v) (sym off) (next_in next rest v (inr q))) ]),
+        λ w. elim (s.1 w) [ inl a ↦ inl (in_left (done ++ last ∷ []) (next ∷ []) v a) | inr q ↦ left_over v (in_next next rest v (subst (λ l. InSome l v) off q)) ],
+      );
     })
   where
-  left_over : (v : ℤ) → ((next.low ≤ℤ v) × (v ≤ℤ next.high)) ⊎ InSome (drop (i + 1) sorted) v → InSome ((done ++ last ∷ []) ++ next ∷ []) v ⊎ InSome (drop (i + 1) sorted) v
-  left_over v w = elim w [ inl here ↦ inl (in_right (done ++ last ∷ []) (next ∷ []) v (in_one next v here.0 here.1)) | inr there ↦ inr there ]
+    left_over : (v : ℤ) → ((next.low ≤ℤ v) × (v ≤ℤ next.high)) ⊎ InSome (drop (i + 1) sorted) v → InSome ((done ++ last ∷ []) ++ next ∷ []) v ⊎ InSome (drop (i + 1) sorted) v
+    left_over v w = elim w [ inl here ↦ inl (in_right (done ++ last ∷ []) (next ∷ []) v (in_one next v here.0 here.1)) | inr there ↦ inr there ]
 
 none_left : (sorted : List Interval) (i : ℕ) (v : ℤ) → length sorted ≤ i → InSome (drop i sorted) v → ⊥
 unfolding InSome
@@ -131,9 +136,10 @@ joined_ranges sorted done all last i j e = subst AreRanges (sym e) (record { apa
 
 pub joined_numbers : (sorted done all : List Interval) (last : Interval) (i : ℕ) → Joining sorted done last i → all ≡ done ++ last ∷ [] → length sorted ≤ i → (v : ℤ) → Contains (values_of all) v ↔ InSome sorted v
 joined_numbers sorted done all last i j e past v =
-    let are = joined_ranges sorted done all last i j e in
-    (λ has. (j.same v).0 (inl (subst (λ l. InSome l v) e (value_in_some (neg_ℤ (pos 1000000)) all v are.apart has))),
-    λ some. some_has_value all v (subst (λ l. InSome l v) (sym e) (elim ((j.same v).1 some) [ inl here ↦ here | inr left ↦ absurd (none_left sorted i v past left) ])))
+    let are = joined_ranges sorted done all last i j e in (
+      λ has. (j.same v).0 (inl (subst (λ l. InSome l v) e (value_in_some (neg_ℤ (pos 1000000)) all v are.apart has))),
+      λ some. some_has_value all v (subst (λ l. InSome l v) (sym e) (elim ((j.same v).1 some) [ inl here ↦ here | inr left ↦ absurd (none_left sorted i v past left) ])),
+    )
 
 -- the bounds of the next range and of the last one, so that machine numbers hold them
 pub next_within : (sorted done : List Interval) (last : Interval) (i : ℕ) (d : Interval) → Joining sorted done last i → i < length sorted →

@@ -5,3 +5,4 @@ pub mod Joins
 pub mod Readings
 pub mod Changes
 pub mod Trails
+pub mod BoxLaws

@@ -14,9 +14,10 @@ use Rattle.ts_domain.proofs.Ranges.{value_in_some, some_has_value, ranges_are_do
 use Rattle.ts_domain.proofs.Unions.{has_number, any_in_some, in_some_any}
 
 pub contains_is : (rs items : List Interval) (values : List ℤ) (v : ℤ) (b : Bool) → values_of rs ≡ values → AreRanges rs → items ≡ rs → b ≡ list_any (has_number v) items → IsTrue b ↔ Contains values v
-contains_is rs items values v b view are same test =
-    (λ yes. subst (λ l. Contains l v) view (some_has_value rs v (any_in_some rs v (sym (test ∙ ap (list_any (has_number v)) same) ∙ yes))),
-    λ has. test ∙ ap (list_any (has_number v)) same ∙ in_some_any rs v (value_in_some (neg_ℤ (pos 1000000)) rs v are.apart (subst (λ l. Contains l v) (sym view) has)))
+contains_is rs items values v b view are same test = (
+  λ yes. subst (λ l. Contains l v) view (some_has_value rs v (any_in_some rs v (sym (test ∙ ap (list_any (has_number v)) same) ∙ yes))),
+  λ has. test ∙ ap (list_any (has_number v)) same ∙ in_some_any rs v (value_in_some (neg_ℤ (pos 1000000)) rs v are.apart (subst (λ l. Contains l v) (sym view) has)),
+)
 
 -- the range at a place, and those behind it
 pub values-drop : (rs : List Interval) (i : ℕ) (d : Interval) → i < length rs →
@@ -62,9 +63,10 @@ pub nth_later : (rs : List Interval) (i : ℕ) (d : Interval) (left count at : �
     (left - count < length (values_of (drop (i + 1) rs))) × (get_or (values_of (drop (i + 1) rs)) (left - count) (pos 0) ≡ get_or (values_of rs) at (pos 0))
 nth_later rs i d left count at h is beyond below same =
     let here = values_between (get_or rs i d).low (get_or rs i d).high in let rest = values_of (drop (i + 1) rs) in
-    let parts = values-drop rs i d h in let sizes = ap length parts ∙ length-append here rest in
-    (omega (arith, sizes, is, beyond, below),
-    ap (λ n. get_or rest (left - n) (pos 0)) is ∙ sym (get_or-append_right here rest left (pos 0) (omega (arith, is, beyond))) ∙ ap (λ l. get_or l left (pos 0)) (sym parts) ∙ same)
+    let parts = values-drop rs i d h in let sizes = ap length parts ∙ length-append here rest in (
+      omega (arith, sizes, is, beyond, below),
+      ap (λ n. get_or rest (left - n) (pos 0)) is ∙ sym (get_or-append_right here rest left (pos 0) (omega (arith, is, beyond))) ∙ ap (λ l. get_or l left (pos 0)) (sym parts) ∙ same,
+    )
 
 at_between : (low high : ℤ) (k : ℕ) → low ≤ℤ high → k < length (values_between low high) → get_or (values_between low high) k (pos 0) ≡ low +ℤ pos k
 unfolding values_between
@@ -83,6 +85,7 @@ nth_here rs items values i d left count at view are same h is within below inv v
     let whole : values_of items ≡ values = ap values_of same ∙ view in
     slice_get_read values (length values) at v refl below
     (sym read ∙ sym (get_or-append here rest (pos 0) left (omega (arith, is, within))) ∙ ap (λ l. get_or l left (pos 0)) (sym parts) ∙ inv ∙ ap (λ l. get_or l at (pos 0)) whole ∙ get_or_default values at (pos 0) v below)
+
 -- a place within a range is small
 pub few_left : (rs items : List Interval) (i : ℕ) (d : Interval) (left count : ℕ) → AreRanges rs → items ≡ rs → i < length items → count ≡ length (values_between (get_or items i d).low (get_or items i d).high) → left < count →
     (left ≤ 2000000) × (neg_ℤ (pos 1000000) ≤ℤ (get_or items i d).low) × ((get_or items i d).low ≤ℤ pos 1000000)
@@ -115,7 +118,6 @@ unfolding RangesFrom values_of
 at_least_two r q qs a =
     let n = length-between r.low r.high (omega (arith, ints, a.1)) in let more = some_values (r.high +ℤ pos 2) q qs a.3 in
     omega (arith, ints, n, a.1, more, length-append (values_between r.low r.high) (values_of (q ∷ qs)))
-
 
 pub single_more : (rs items : List Interval) (values : List ℤ) → values_of rs ≡ values → AreRanges rs → items ≡ rs → 2 ≤ length items → length values ≡ 1 → ⊥
 single_more rs [] values view are same more one = omega (arith, more)

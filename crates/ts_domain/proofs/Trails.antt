@@ -87,8 +87,8 @@ changed ss mid ss' cells b k at read left lent old dest keep view place below sa
     let present : set cells at dest ≡ set cells (k - 1) (keep (get_or cells (k - 1) [])) = ap (set cells at) kept ∙ ap (λ i. set cells i (keep (get_or cells i []))) place in
     ap (λ e. boxes e (set cells at dest)) earlier ∙ ap (boxes (all_boxes (boxes_of ss cells))) present ∙ ap (narrowed k keep) view
   where
-  boxes : List (List (List ℤ)) → List (List ℤ) → Boxes
-  boxes e p = record { earlier = e; present = p }
+    boxes : List (List (List ℤ)) → List (List ℤ) → Boxes
+    boxes e p = record { earlier = e; present = p }
 
 pub place_below : (ss : List Step) (cells : List (List ℤ)) (b : Boxes) (k : ℕ) → boxes_of ss cells ≡ b → IsCell k b → k - 1 < length cells
 place_below ss cells b k view cell = let same : length cells ≡ length b.present = ap (λ b. length b.present) view in omega (arith, same, cell.0, cell.1)
@@ -154,15 +154,16 @@ pub begun_boxes : (ss : List Step) (cells given : List (List ℤ)) → ss ≡ []
 unfolding earlier_boxes
 begun_boxes ss cells given none is = ap (λ s. boxes_of s cells) none ∙ no_steps cells ∙ ap (λ c. present_only c) is
   where
-  present_only : List (List ℤ) → Boxes
-  present_only c = record { earlier = []; present = c }
-  no_steps : (c : List (List ℤ)) → boxes_of [] c ≡ present_only c
-  no_steps c = refl
+    present_only : List (List ℤ) → Boxes
+    present_only c = record { earlier = []; present = c }
+
+    no_steps : (c : List (List ℤ)) → boxes_of [] c ≡ present_only c
+    no_steps c = refl
 
 -- a copied domain is one more of a box
 pub box_push : (cells copies : List (List ℤ)) (d : List ℤ) → copies ≡ cells ++ d ∷ [] → IsBox cells → IsDomain d → IsBox copies
 box_push cells copies d is box domain = subst IsBox (sym is) (more cells box)
   where
-  more : (cells : List (List ℤ)) → IsBox cells → IsBox (cells ++ d ∷ [])
-  more [] h = (domain, tt)
-  more (c ∷ cs) h = (h.0, more cs h.1)
+    more : (cells : List (List ℤ)) → IsBox cells → IsBox (cells ++ d ∷ [])
+    more [] h = (domain, tt)
+    more (c ∷ cs) h = (h.0, more cs h.1)

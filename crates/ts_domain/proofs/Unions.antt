@@ -21,11 +21,12 @@ unfolding InSome
 any_in_some [] v h = cc
 any_in_some (r ∷ rs) v h =
     elim (or_cases (has_number v r) (list_any (has_number v) rs) h) [
-      inl here ↦ inl (from_test r v here)
-    | inr there ↦ inr (any_in_some rs v there) ]
+      | inl here ↦ inl (from_test r v here)
+      | inr there ↦ inr (any_in_some rs v there)
+    ]
   where
-  from_test : (r : Interval) (v : ℤ) → has_number v r ≡ true → (r.low ≤ℤ v) × (v ≤ℤ r.high)
-  from_test r v h = (grind (arith, ints), grind (arith, ints))
+    from_test : (r : Interval) (v : ℤ) → has_number v r ≡ true → (r.low ≤ℤ v) × (v ≤ℤ r.high)
+    from_test r v h = (grind (arith, ints), grind (arith, ints))
 
 pub in_some_any : (rs : List Interval) (v : ℤ) → InSome rs v → list_any (has_number v) rs ≡ true
 unfolding InSome
@@ -33,16 +34,16 @@ in_some_any [] v h = absurd h
 in_some_any (r ∷ rs) v h =
     elim h [ inl here ↦ either_left (has_number v r) (list_any (has_number v) rs) (to_test r v here.0 here.1) | inr there ↦ either_right (has_number v r) (list_any (has_number v) rs) (in_some_any rs v there) ]
   where
-  to_test : (r : Interval) (v : ℤ) → r.low ≤ℤ v → v ≤ℤ r.high → has_number v r ≡ true
-  to_test r v from to = grind (arith, ints)
+    to_test : (r : Interval) (v : ℤ) → r.low ≤ℤ v → v ≤ℤ r.high → has_number v r ≡ true
+    to_test r v from to = grind (arith, ints)
 
-  either_left : (a b : Bool) → a ≡ true → (a || b) ≡ true
-  either_left true b h = refl
-  either_left false b h = cc
+    either_left : (a b : Bool) → a ≡ true → (a || b) ≡ true
+    either_left true b h = refl
+    either_left false b h = cc
 
-  either_right : (a b : Bool) → b ≡ true → (a || b) ≡ true
-  either_right true b h = refl
-  either_right false b h = h
+    either_right : (a b : Bool) → b ≡ true → (a || b) ≡ true
+    either_right true b h = refl
+    either_right false b h = h
 
 -- in the ranges of two lists
 pub in_paired : (lows highs : List ℤ) (v : ℤ) → length lows ≡ length highs → InSome (paired lows highs) v → InSomeRange lows highs v
@@ -51,11 +52,12 @@ in_paired [] highs v e h = absurd h
 in_paired (l ∷ ls) [] v e h = absurd h
 in_paired (l ∷ ls) (r ∷ hs) v e h =
     elim h [
-      inl here ↦ (0, omega arith, here.0, here.1)
-    | inr there ↦ later l r ls hs v (in_paired ls hs v (omega (arith, e)) there) ]
+      | inl here ↦ (0, omega arith, here.0, here.1)
+      | inr there ↦ later l r ls hs v (in_paired ls hs v (omega (arith, e)) there)
+    ]
   where
-  later : (l r : ℤ) (ls hs : List ℤ) (v : ℤ) → InSomeRange ls hs v → InSomeRange (l ∷ ls) (r ∷ hs) v
-  later l r ls hs v h = (suc h.0, omega (arith, h.1), h.2, h.3)
+    later : (l r : ℤ) (ls hs : List ℤ) (v : ℤ) → InSomeRange ls hs v → InSomeRange (l ∷ ls) (r ∷ hs) v
+    later l r ls hs v h = (suc h.0, omega (arith, h.1), h.2, h.3)
 
 pub paired_has : (lows highs : List ℤ) (v : ℤ) → length lows ≡ length highs → InSomeRange lows highs v → InSome (paired lows highs) v
 unfolding InSome
@@ -63,10 +65,10 @@ paired_has [] highs v e h = absurd (omega (arith, h.1))
 paired_has (l ∷ ls) [] v e h = absurd (omega (arith, e))
 paired_has (l ∷ ls) (r ∷ hs) v e h = here_or_later l r ls hs v h.0 h.1 h.2 h.3 (paired_has ls hs v (omega (arith, e)))
   where
-  here_or_later : (l r : ℤ) (ls hs : List ℤ) (v : ℤ) (i : ℕ) → i < length (l ∷ ls) → get_or (l ∷ ls) i (pos 0) ≤ℤ v → v ≤ℤ get_or (r ∷ hs) i (pos 0) →
-      (InSomeRange ls hs v → InSome (paired ls hs) v) → ((l ≤ℤ v) × (v ≤ℤ r)) ⊎ InSome (paired ls hs) v
-  here_or_later l r ls hs v zero below from to rest = inl (from, to)
-  here_or_later l r ls hs v (suc i) below from to rest = inr (rest (i, omega (arith, below), from, to))
+    here_or_later : (l r : ℤ) (ls hs : List ℤ) (v : ℤ) (i : ℕ) → i < length (l ∷ ls) → get_or (l ∷ ls) i (pos 0) ≤ℤ v → v ≤ℤ get_or (r ∷ hs) i (pos 0) →
+        (InSomeRange ls hs v → InSome (paired ls hs) v) → ((l ≤ℤ v) × (v ≤ℤ r)) ⊎ InSome (paired ls hs) v
+    here_or_later l r ls hs v zero below from to rest = inl (from, to)
+    here_or_later l r ls hs v (suc i) below from to rest = inr (rest (i, omega (arith, below), from, to))
 
 -- the test that some range is empty
 pub any_empty : (lows highs : List ℤ) → list_any (λ p. int_lt p.1 p.0) (zip lows highs) ≡ true → SomeEmpty lows highs
@@ -74,21 +76,22 @@ any_empty [] highs h = cc
 any_empty (l ∷ ls) [] h = cc
 any_empty (l ∷ ls) (r ∷ hs) h =
     elim (or_cases (int_lt r l) (list_any (λ p. int_lt p.1 p.0) (zip ls hs)) h) [
-      inl here ↦ (0, omega arith, grind (arith, ints))
-    | inr there ↦ later l r ls hs (any_empty ls hs there) ]
+      | inl here ↦ (0, omega arith, grind (arith, ints))
+      | inr there ↦ later l r ls hs (any_empty ls hs there)
+    ]
   where
-  later : (l r : ℤ) (ls hs : List ℤ) → SomeEmpty ls hs → SomeEmpty (l ∷ ls) (r ∷ hs)
-  later l r ls hs h = (suc h.0, omega (arith, h.1), h.2)
+    later : (l r : ℤ) (ls hs : List ℤ) → SomeEmpty ls hs → SomeEmpty (l ∷ ls) (r ∷ hs)
+    later l r ls hs h = (suc h.0, omega (arith, h.1), h.2)
 
 pub empty_any : (lows highs : List ℤ) → length lows ≡ length highs → SomeEmpty lows highs → list_any (λ p. int_lt p.1 p.0) (zip lows highs) ≡ true
 empty_any [] highs e h = absurd (omega (arith, h.1))
 empty_any (l ∷ ls) [] e h = absurd (omega (arith, e))
 empty_any (l ∷ ls) (r ∷ hs) e h = here_or_later l r ls hs h.0 h.1 h.2 (empty_any ls hs (omega (arith, e)))
   where
-  here_or_later : (l r : ℤ) (ls hs : List ℤ) (i : ℕ) → i < length (l ∷ ls) → get_or (r ∷ hs) i (pos 0) <ℤ get_or (l ∷ ls) i (pos 0) →
-      (SomeEmpty ls hs → list_any (λ p. int_lt p.1 p.0) (zip ls hs) ≡ true) → (int_lt r l || list_any (λ p. int_lt p.1 p.0) (zip ls hs)) ≡ true
-  here_or_later l r ls hs zero below h rest = grind (arith, ints)
-  here_or_later l r ls hs (suc i) below h rest = let t = rest (i, omega (arith, below), h) in grind (arith, ints)
+    here_or_later : (l r : ℤ) (ls hs : List ℤ) (i : ℕ) → i < length (l ∷ ls) → get_or (r ∷ hs) i (pos 0) <ℤ get_or (l ∷ ls) i (pos 0) →
+        (SomeEmpty ls hs → list_any (λ p. int_lt p.1 p.0) (zip ls hs) ≡ true) → (int_lt r l || list_any (λ p. int_lt p.1 p.0) (zip ls hs)) ≡ true
+    here_or_later l r ls hs zero below h rest = grind (arith, ints)
+    here_or_later l r ls hs (suc i) below h rest = let t = rest (i, omega (arith, below), h) in grind (arith, ints)
 
 pub length-paired : (lows highs : List ℤ) → length lows ≡ length highs → length (paired lows highs) ≡ length lows
 length-paired [] highs e = refl
@@ -113,8 +116,8 @@ usable_paired lows highs e a b full i d below =
     let la = a i (pos 0) here in let hb = b i (pos 0) (omega (arith, here, e)) in
     rw (get_or-paired lows highs i d e here) (la.0, not_below (get_or lows i (pos 0)) (get_or highs i (pos 0)) (λ lt. full (i, here, lt)), hb.1)
   where
-  not_below : (l h : ℤ) → (h <ℤ l → ⊥) → l ≤ℤ h
-  not_below l h n = grind (arith, ints)
+    not_below : (l h : ℤ) → (h <ℤ l → ⊥) → l ≤ℤ h
+    not_below l h n = grind (arith, ints)
 
 -- usable ranges whose neighbours rise by their low ends
 pub lows_rise : (from : ℤ) (rs : List Interval) → ((d : Interval) → 0 < length rs → from ≤ℤ (get_or rs 0 d).low) →
@@ -122,17 +125,20 @@ pub lows_rise : (from : ℤ) (rs : List Interval) → ((d : Interval) → 0 < le
 unfolding LowsRise
 lows_rise from [] first next usable = tt
 lows_rise from (r ∷ rs) first next usable =
-    let here = usable 0 r (omega arith) in
-    (first r (omega arith), here.1, here.2,
-    lows_rise r.low rs (λ d below. next 0 d (omega (arith, below))) (λ k d below. next (suc k) d (omega (arith, below))) (λ k d below. usable (suc k) d (omega (arith, below))))
+    let here = usable 0 r (omega arith) in (
+      first r (omega arith),
+      here.1,
+      here.2,
+      lows_rise r.low rs (λ d below. next 0 d (omega (arith, below))) (λ k d below. next (suc k) d (omega (arith, below))) (λ k d below. usable (suc k) d (omega (arith, below))),
+    )
 
 -- the order of a sort puts the lower low end first
 low_first : (r s : Interval) → is_lt (ordering_then (int_cmp s.low r.low) (int_cmp s.high r.high)) ≡ false → r.low ≤ℤ s.low
 low_first r s h = by_test (int_lt s.low r.low) refl
   where
-  by_test : (b : Bool) → int_lt s.low r.low ≡ b → r.low ≤ℤ s.low
-  by_test true e = absurd (both_ways (is_lt (ordering_then (int_cmp s.low r.low) (int_cmp s.high r.high))) h (ap (λ b. is_lt (ordering_then (cond b Less (cond (int_lt r.low s.low) Greater Equal)) (int_cmp s.high r.high))) e))
-  by_test false e = grind (arith, ints)
+    by_test : (b : Bool) → int_lt s.low r.low ≡ b → r.low ≤ℤ s.low
+    by_test true e = absurd (both_ways (is_lt (ordering_then (int_cmp s.low r.low) (int_cmp s.high r.high))) h (ap (λ b. is_lt (ordering_then (cond b Less (cond (int_lt r.low s.low) Greater Equal)) (int_cmp s.high r.high))) e))
+    by_test false e = grind (arith, ints)
 
 pub sorted_rise : (lows highs : List ℤ) (given ys : List Interval) → length lows ≡ length highs → All WithinLimits lows → All WithinLimits highs → (SomeEmpty lows highs → ⊥) → given ≡ paired lows highs → IsPermutation given ys →
     ((k : ℕ) (d : Interval) → 0 ≤ k → k + 1 < length ys → is_lt (ordering_then (int_cmp (get_or ys (k + 1) d).low (get_or ys k d).low) (int_cmp (get_or ys (k + 1) d).high (get_or ys k d).high)) ≡ false) → LowsRise (neg_ℤ (pos 1000000)) ys
@@ -140,14 +146,15 @@ sorted_rise lows highs given ys e a b full is moved sorted =
     let usable : All IsUsable ys = All-permutation IsUsable given ys moved (subst (All IsUsable) (sym is) (usable_paired lows highs e a b full)) in
     lows_rise (neg_ℤ (pos 1000000)) ys (λ d below. (usable 0 d below).0) (λ k d below. next k d (sorted k d (omega arith) (omega (arith, below)))) usable
   where
-  next : (k : ℕ) (d : Interval) → is_lt (ordering_then (int_cmp (get_or ys (k + 1) d).low (get_or ys k d).low) (int_cmp (get_or ys (k + 1) d).high (get_or ys k d).high)) ≡ false → (get_or ys k d).low ≤ℤ (get_or ys (suc k) d).low
-  next k d h = let s : k + 1 ≡ suc k = omega arith in subst (λ n. (get_or ys k d).low ≤ℤ (get_or ys n d).low) s (low_first (get_or ys k d) (get_or ys (k + 1) d) h)
+    next : (k : ℕ) (d : Interval) → is_lt (ordering_then (int_cmp (get_or ys (k + 1) d).low (get_or ys k d).low) (int_cmp (get_or ys (k + 1) d).high (get_or ys k d).high)) ≡ false → (get_or ys k d).low ≤ℤ (get_or ys (suc k) d).low
+    next k d h = let s : k + 1 ≡ suc k = omega arith in subst (λ n. (get_or ys k d).low ≤ℤ (get_or ys n d).low) s (low_first (get_or ys k d) (get_or ys (k + 1) d) h)
 
 pub sorted_same : (lows highs : List ℤ) (given ys : List Interval) (v : ℤ) → length lows ≡ length highs → given ≡ paired lows highs → IsPermutation given ys → InSome ys v ↔ InSomeRange lows highs v
 sorted_same lows highs given ys v e is moved =
-    let alike : list_any (has_number v) (paired lows highs) ≡ list_any (has_number v) ys = ap (list_any (has_number v)) (sym is) ∙ list_any-IsPermutation (has_number v) given ys moved in
-    (λ h. in_paired lows highs v e (any_in_some (paired lows highs) v (alike ∙ in_some_any ys v h)),
-    λ h. any_in_some ys v (sym alike ∙ in_some_any (paired lows highs) v (paired_has lows highs v e h)))
+    let alike : list_any (has_number v) (paired lows highs) ≡ list_any (has_number v) ys = ap (list_any (has_number v)) (sym is) ∙ list_any-IsPermutation (has_number v) given ys moved in (
+      λ h. in_paired lows highs v e (any_in_some (paired lows highs) v (alike ∙ in_some_any ys v h)),
+      λ h. any_in_some ys v (sym alike ∙ in_some_any (paired lows highs) v (paired_has lows highs v e h)),
+    )
 
 -- a list that a sort wrote back over the items of a vector
 pub written_back : (items ys : List Interval) (n : ℕ) → n ≡ length items → length ys ≡ length items → take n (ys ++ drop (length ys) items) ≡ ys

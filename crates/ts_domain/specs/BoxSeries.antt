@@ -1,6 +1,6 @@
 -- A box has one set of numbers per cell, each as its rising list; its series take each value from the set of its cell.
-use Rattle.std.specs.Prelude.{◌≡◌, ℕ, ◌*◌, ◌-◌, ◌<◌, ◌≤◌, ℤ, List, [], ◌∷◌, ◌++◌, length, take, get_or, set}
-use Rattle.std.specs.List.{Contains, AllByRecursion}
+use Rattle.std.specs.Prelude.{ℕ, ◌-◌, ◌≤◌, ℤ, List, [], ◌∷◌, ◌++◌, length, map, take, get_or, set}
+use Rattle.std.specs.List.{Contains, AllByRecursion, flat_map}
 use Rattle.ts_domain.specs.Values.{IsDomain}
 
 -- the series is one of the box
@@ -10,10 +10,14 @@ InBox [] (d ∷ ds) = ⊥
 InBox (v ∷ vs) [] = ⊥
 InBox (v ∷ vs) (d ∷ ds) = Contains d v × InBox vs ds
 
--- the number of its series
+-- its series, in lexicographic order
+unfoldable pub all_series : List (List ℤ) → List (List ℤ)
+all_series [] = [] ∷ []
+all_series (d ∷ ds) = flat_map (λ v. map (λ vs. v ∷ vs) (all_series ds)) d
+
+-- how many they are
 abbrev pub series_count : List (List ℤ) → ℕ
-series_count [] = 1
-series_count (d ∷ ds) = length d * series_count ds
+series_count cells = length (all_series cells)
 
 -- each cell has a non-empty set within the limits
 abbrev pub IsBox : List (List ℤ) → Type 0

@@ -18,8 +18,11 @@
 pub mod boxed;
 pub mod domain;
 pub mod interval;
-pub mod keep;
+mod keep;
 
 pub use boxed::Boxed;
 pub use domain::{Domain, DomainStop};
 pub use interval::Interval;
+
+#[cfg(test)]
+mod tests;
