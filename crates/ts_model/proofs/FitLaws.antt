@@ -1,0 +1,216 @@
+-- What every stated model keeps of the limits, line by line.
+use Rattle.std.proofs.Common.{◌≡◌, ℕ, zero, suc, ◌+◌, ◌<◌, ◌≤◌, Bool, true, false, cond, not, ◌&&◌, Some, None, Ok, Err, List, [], ◌∷◌, ◌++◌, length, map, set, replicate, ℤ, pos, negsuc, refl, sym, ap, subst, ◌∙◌, arith, nat_lt, length-append, vec_len, rules}
+use Rattle.std.specs.Prelude.{Option, Result, IfOk, IfSome, IsSome, is_none, unwrap_or}
+use Rattle.std.specs.List.{AllByRecursion, list_any}
+use Rattle.std.specs.Str.{bytes_eq}
+use Rattle.std.proofs.lemmas.Int.{ints}
+use Rattle.std.proofs.lemmas.Bool.Decides.{nat_tests}
+use Rattle.std.proofs.lemmas.List.{length-map, length-set}
+use Rattle.std.proofs.lemmas.List.Quantifiers.{position-Some}
+use Rattle.ts_base.specs.declared.ext.Ext.{Ext}
+use Rattle.ts_domain.specs.BoxSeries.{IsBox}
+use Rattle.ts_token.specs.Text.{Row, Cut}
+use Rattle.ts_model.specs.declared.model.Need.{Need}
+use Rattle.ts_model.specs.declared.model.Model.{Model}
+use Rattle.ts_model.specs.declared.model.Require.{Require}
+use Rattle.ts_model.specs.declared.statement.TermParts.{TermParts}
+use Rattle.ts_model.specs.declared.error.ModelKind.{ModelKind}
+use Rattle.ts_model.specs.declared.error.ModelKind.TheVariants.{NoCells, NoObjective}
+use Rattle.ts_model.specs.Statement.{Said, SaysCells, SaysDomain, SaysCell, SaysTerm, SaysRequire, SaysObjective, parsed}
+use Rattle.ts_model.specs.Stated.{Stated, nothing, with_said, count_of, is_between, is_outside, is_bound, has_cells, over_total, term_at, total_of, union_of, digits, some_parts, first_kind, kinds, unless_kind}
+use Rattle.ts_model.specs.ModelReading.{needs_lists, needs_objective, texts_of, taken_as, onward, read_rows, ended, ended_text, reading}
+use Rattle.ts_model.specs.Promise.{IsWhole, KeepsLimits}
+use Rattle.ts_model.specs.declared.error.ModelStop.{ModelStop}
+use Rattle.ts_model.specs.Views.{term_of, stated, Reads}
+
+record IsFit (lists : Bool) (m : Stated) : Type 0 where
+  few : length m.cells ≤ 512
+  total : lists ≡ true → total_of m.cells ≤ 65536
+  terms : length m.terms ≤ 32
+  requirements : length m.requirements ≤ 64
+  each : AllByRecursion (λ r. r.term < length m.terms) m.requirements
+  bounds : AllByRecursion (λ r. is_bound r.bound ≡ true) m.requirements
+  objective : IfSome m.objective (λ t. t < length m.terms)
+
+abbrev Fails : Bool × ModelKind → Type 0
+Fails k = k.0 ≡ false
+
+fails_step : (k : Bool × ModelKind) (ks : List (Bool × ModelKind)) (b : Bool) → k.0 ≡ b → (first_kind ks ≡ None → AllByRecursion Fails ks) → cond b (Some k.1) (first_kind ks) ≡ None → Fails k × AllByRecursion Fails ks
+fails_step k ks true e later h = cc
+fails_step k ks false e later h = (e, later h)
+
+-- where no kind is the first, each test fails
+all_fail : (ks : List (Bool × ModelKind)) → first_kind ks ≡ None → AllByRecursion Fails ks
+all_fail [] h = tt
+all_fail (k ∷ ks) h = fails_step k ks k.0 refl (all_fail ks) h
+
+under : (lists : Bool) (n : ℕ) → (lists && nat_lt 65536 n) ≡ false → lists ≡ true → n ≤ 65536
+under true n h e = grind (arith, nat_tests)
+under false n h e = cc
+
+second : (a b : Bool) → cond a true b ≡ false → b ≡ false
+second true b h = cc
+second false b h = h
+
+at_most : (k n : ℕ) → nat_lt k n ≡ false → n ≤ k
+at_most k n h = grind (arith, nat_tests)
+
+counted : (n : ℤ) → not (is_between (pos 1) n (pos 512)) ≡ false → count_of n ≤ 512
+counted (pos k) h = grind (arith, ints, nat_tests)
+counted (negsuc k) h = omega arith
+
+length_replicate : (n : ℕ) (x : List ℤ) → length (replicate n x) ≡ n
+length_replicate zero x = refl
+length_replicate (suc n) x = omega (arith, length_replicate n x)
+
+lifted : (n k : ℕ) → n ≤ k → (rs : List Require) → AllByRecursion (λ r. r.term < n) rs → AllByRecursion (λ r. r.term < k) rs
+lifted n k h [] all = tt
+lifted n k h (r ∷ rs) all = (omega (arith, all.0, h), lifted n k h rs all.1)
+
+lifted_objective : (n k : ℕ) → n ≤ k → (o : Option ℕ) → IfSome o (λ t. t < n) → IfSome o (λ t. t < k)
+lifted_objective n k h None all = tt
+lifted_objective n k h (Some t) all = omega (arith, all, h)
+
+pushed : (P : Require → Type 0) (rs : List Require) (r : Require) → AllByRecursion P rs → P r → AllByRecursion P (rs ++ r ∷ [])
+pushed P [] r all p = (p, tt)
+pushed P (x ∷ xs) r all p = (all.0, pushed P xs r all.1 p)
+
+term_there : (name : List ℕ) (terms : List (List ℕ × TermParts)) (o : Option ℕ) → term_at name terms ≡ o → IfSome o (λ t. t < length terms)
+term_there name terms None e = tt
+term_there name terms (Some t) e = (position-Some (λ (x : List ℕ × TermParts). bytes_eq name x.0) terms t (name, some_parts) e).0
+
+known_there : (n : ℕ) (o : Option ℕ) → is_none o ≡ false → IfSome o (λ t. t < n) → unwrap_or o 0 < n
+known_there n None h all = cc
+known_there n (Some t) h all = all
+
+bound_test : (a b : Bool) → cond a b true ≡ false → (a ≡ true) × (b ≡ false)
+bound_test true b h = (refl, h)
+bound_test false b h = cc
+
+-- a line of which no kind holds keeps the limits
+fit_after : (lists : Bool) (m : Stated) (s : Said) → IsFit lists m → first_kind (kinds lists m s) ≡ None → IsFit lists (with_said m s)
+fit_after lists m (SaysCells n) fit none =
+    let all = all_fail (kinds lists m (SaysCells n)) none in record {
+      few = let e = length_replicate (count_of n) (union_of digits) in omega (arith, e, counted n all.1.1.0);
+      total = under lists (total_of (replicate (count_of n) (union_of digits))) all.1.1.1.1.1.1.1.1.1.0;
+      terms = fit.terms; requirements = fit.requirements; each = fit.each; bounds = fit.bounds; objective = fit.objective;
+    }
+fit_after lists m (SaysDomain rs) fit none =
+    let all = all_fail (kinds lists m (SaysDomain rs)) none in record {
+      few = let e : length (map (λ _. union_of rs) m.cells) ≡ length m.cells = simp length-map in omega (arith, e, fit.few);
+      total = under lists (total_of (map (λ _. union_of rs) m.cells)) (second (list_any is_outside rs) (over_total lists (with_said m (SaysDomain rs))) all.1.1.1.1.1.1.1.1.1.0);
+      terms = fit.terms; requirements = fit.requirements; each = fit.each; bounds = fit.bounds; objective = fit.objective;
+    }
+fit_after lists m (SaysCell k rs) fit none =
+    let all = all_fail (kinds lists m (SaysCell k rs)) none in record {
+      few = let e : length (with_said m (SaysCell k rs)).cells ≡ length m.cells = simp length-set in omega (arith, e, fit.few);
+      total = under lists (total_of (with_said m (SaysCell k rs)).cells) (second (list_any is_outside rs) (over_total lists (with_said m (SaysCell k rs))) all.1.1.1.1.1.1.1.1.1.0);
+      terms = fit.terms; requirements = fit.requirements; each = fit.each; bounds = fit.bounds; objective = fit.objective;
+    }
+fit_after lists m (SaysTerm name parts) fit none =
+    let all = all_fail (kinds lists m (SaysTerm name parts)) none in
+    let more : length (with_said m (SaysTerm name parts)).terms ≡ length m.terms + 1 = simp length-append in record {
+      few = fit.few; total = fit.total;
+      terms = omega (arith, more, at_most 31 (length m.terms) all.1.1.1.1.1.1.1.1.1.0);
+      requirements = fit.requirements;
+      each = lifted (length m.terms) (length (with_said m (SaysTerm name parts)).terms) (omega (arith, more)) m.requirements fit.each;
+      bounds = fit.bounds;
+      objective = lifted_objective (length m.terms) (length (with_said m (SaysTerm name parts)).terms) (omega (arith, more)) m.objective fit.objective;
+    }
+fit_after lists m (SaysRequire name op bound) fit none =
+    let all = all_fail (kinds lists m (SaysRequire name op bound)) none in
+    let tests = bound_test (is_bound bound) (nat_lt 63 (length m.requirements)) all.1.1.1.1.1.1.1.1.1.0 in
+    let more : length (with_said m (SaysRequire name op bound)).requirements ≡ length m.requirements + 1 = simp length-append in record {
+      few = fit.few; total = fit.total; terms = fit.terms;
+      requirements = omega (arith, more, at_most 63 (length m.requirements) tests.1);
+      each = pushed (λ r. r.term < length m.terms) m.requirements _ fit.each (known_there (length m.terms) (term_at name m.terms) all.1.1.1.1.1.1.0 (term_there name m.terms (term_at name m.terms) refl));
+      bounds = pushed (λ r. is_bound r.bound ≡ true) m.requirements _ fit.bounds tests.0;
+      objective = fit.objective;
+    }
+fit_after lists m (SaysObjective name) fit none = record {
+  few = fit.few; total = fit.total; terms = fit.terms; requirements = fit.requirements; each = fit.each; bounds = fit.bounds;
+  objective = term_there name m.terms (term_at name m.terms) refl;
+}
+
+fit_taken : (lists : Bool) (m after : Stated) (number : ℕ) (rows : List Row) (s : Said) (k : Option ModelKind) → first_kind (kinds lists m s) ≡ k → IsFit lists m → ((next : Stated) → IsFit lists next → read_rows lists next rows ≡ Ok after → IsFit lists after) →
+    onward number (unless_kind k (with_said m s)) (λ a. read_rows lists a rows) ≡ Ok after → IsFit lists after
+fit_taken lists m after number rows s None e fit later h = later (with_said m s) (fit_after lists m s fit e) h
+fit_taken lists m after number rows s (Some k) e fit later h = cc
+
+fit_said : (lists : Bool) (m after : Stated) (number : ℕ) (rows : List Row) (p : Result Said ModelKind) → IsFit lists m → ((next : Stated) → IsFit lists next → read_rows lists next rows ≡ Ok after → IsFit lists after) →
+    onward number (taken_as lists m p) (λ a. read_rows lists a rows) ≡ Ok after → IsFit lists after
+fit_said lists m after number rows (Err k) fit later h = cc
+fit_said lists m after number rows (Ok s) fit later h = fit_taken lists m after number rows s (first_kind (kinds lists m s)) refl fit later h
+
+fit_rows : (lists : Bool) (m after : Stated) (rows : List Row) → IsFit lists m → read_rows lists m rows ≡ Ok after → IsFit lists after
+fit_rows lists m after [] fit h = let same : m ≡ after = cc in subst (IsFit lists) same fit
+fit_rows lists m after (row ∷ rows) fit h = fit_said lists m after row.number rows (parsed (texts_of row.words)) fit (λ next fit' h'. fit_rows lists next after rows fit' h') h
+
+record IsEnded (need : Need) (c : Cut) (m : Stated) : Type 0 where
+  rows : read_rows (needs_lists need) nothing c.rows ≡ Ok m
+  some : has_cells m ≡ true
+  objective : (needs_objective need && is_none m.objective) ≡ false
+
+ended_ok : (need : Need) (c : Cut) (n m : Stated) (some aim : Bool) → read_rows (needs_lists need) nothing c.rows ≡ Ok n → has_cells n ≡ some → (needs_objective need && is_none n.objective) ≡ aim →
+    ◌≡◌ {A = Result Stated (ℕ × ModelKind)} (cond (not some) (Err (c.count + 1, NoCells)) (cond aim (Err (c.count + 1, NoObjective)) (Ok n))) (Ok m) → IsEnded need c m
+ended_ok need c n m false aim rows has obj h = cc
+ended_ok need c n m true true rows has obj h = cc
+ended_ok need c n m true false rows has obj h = let same : n ≡ m = cc in subst (IsEnded need c) same (record { rows = rows; some = has; objective = obj })
+
+text_ok : (need : Need) (c : Cut) (n m : Stated) (bad : Option ℕ) → read_rows (needs_lists need) nothing c.rows ≡ Ok n → ended_text need c n bad ≡ Ok m → IsEnded need c m
+text_ok need c n m (Some line) rows h = cc
+text_ok need c n m None rows h = ended_ok need c n m (has_cells n) (needs_objective need && is_none n.objective) rows refl refl h
+
+rows_ok : (need : Need) (c : Cut) (m : Stated) (r : Result Stated (ℕ × ModelKind)) → read_rows (needs_lists need) nothing c.rows ≡ r → ended need c r ≡ Ok m → IsEnded need c m
+rows_ok need c m (Err e) rows h = cc
+rows_ok need c m (Ok n) rows h = text_ok need c n m c.not_text rows h
+
+nothing_fits : (lists : Bool) → IsFit lists nothing
+nothing_fits lists = record { few = omega arith; total = λ _. omega arith; terms = omega arith; requirements = omega arith; each = tt; bounds = tt; objective = tt }
+
+ended_is : (need : Need) (c : Cut) (m : Stated) → reading need c ≡ Ok m → IsEnded need c m
+ended_is need c m h = rows_ok need c m (read_rows (needs_lists need) nothing c.rows) refl h
+
+fits : (need : Need) (c : Cut) (m : Stated) → reading need c ≡ Ok m → IsFit (needs_lists need) m
+fits need c m h = fit_rows (needs_lists need) nothing m c.rows (nothing_fits (needs_lists need)) (ended_is need c m h).rows
+
+some_cells : (m : Stated) → has_cells m ≡ true → 1 ≤ length m.cells
+some_cells m h = grind (arith, nat_tests)
+
+asked : (need : Bool) (o : Option ℕ) → (need && is_none o) ≡ false → need ≡ true → IsSome o
+asked true None h e = cc
+asked true (Some t) h e = search rules
+asked false o h e = cc
+
+whole_model : (need : Need) (c : Cut) (m : Model) → reading need c ≡ Ok (stated m) → m.n ≡ vec_len m.cells → IsWhole m
+whole_model need c m read counted =
+    let fit = fits need c (stated m) read in
+    let len : vec_len m.cells ≡ length m.cells.items = search rules in
+    let terms : length (map term_of m.terms.entries) ≡ length m.terms.entries = simp length-map in record {
+      counted = counted;
+      some = omega (arith, counted, len, some_cells (stated m) (ended_is need c (stated m) read).some);
+      few = omega (arith, counted, len, fit.few);
+      requirements = lifted (length (map term_of m.terms.entries)) (length m.terms.entries) (omega (arith, terms)) m.requirements.items fit.each;
+      objective = lifted_objective (length (map term_of m.terms.entries)) (length m.terms.entries) (omega (arith, terms)) m.objective fit.objective;
+    }
+
+limits_model : (need : Need) (c : Cut) (m : Model) → reading need c ≡ Ok (stated m) → IsBox m.cells.items → KeepsLimits need m
+limits_model need c m read box =
+    let fit = fits need c (stated m) read in
+    let terms : length (map term_of m.terms.entries) ≡ length m.terms.entries = simp length-map in
+    let len : vec_len m.requirements ≡ length m.requirements.items = search rules in record {
+      box = box;
+      total = fit.total;
+      terms = omega (arith, terms, fit.terms);
+      requirements = omega (arith, len, fit.requirements);
+      bounds = fit.bounds;
+      objective = asked (needs_objective need) m.objective (ended_is need c (stated m) read).objective;
+    }
+
+pub whole_told : (need : Need) (c : Cut) (r : Result Model ModelStop) → Reads r (reading need c) → IfOk r (λ m. m.n ≡ vec_len m.cells) → IfOk r IsWhole
+whole_told need c (Ok m) read counted = whole_model need c m read counted
+whole_told need c (Err e) read counted = tt
+
+pub limits_told : (need : Need) (c : Cut) (r : Result Model ModelStop) → Reads r (reading need c) → IfOk r (λ m. IsBox m.cells.items) → IfOk r (KeepsLimits need)
+limits_told need c (Ok m) read box = limits_model need c m read box
+limits_told need c (Err e) read box = tt

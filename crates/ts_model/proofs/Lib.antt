@@ -1,0 +1,13 @@
+mod AsciiNames
+mod TableNames
+mod RangeLaws
+mod UnionLaws
+mod CellLaws
+mod TermLaws
+mod Takes
+mod LineLaws
+mod ReadingLaws
+mod OnlyLaws
+mod Told
+mod ValueLaws
+mod FitLaws

@@ -1,0 +1,180 @@
+-- The union of ranges is the one rising list of the numbers that some range has.
+use Rattle.std.proofs.Common.{◌≡◌, ℕ, zero, suc, ◌+◌, ◌<◌, ℤ, pos, neg_ℤ, ◌+ℤ◌, ◌-ℤ◌, ◌≤ℤ◌, ◌<ℤ◌, ◌⊎◌, inl, inr, ◌↔◌, Bool, true, false, cond, not, ◌&&◌, ◌||◌, List, [], ◌∷◌, ◌++◌, length, get_or, map, refl, sym, ap, subst, ◌∙◌, arith, append-nil}
+use Rattle.std.proofs.lemmas.Int.{ints, by_lt_z}
+use Rattle.std.proofs.lemmas.List.{length-map}
+use Rattle.std.proofs.lemmas.List.Elements.{recursion_from_All, All-from_recursion, Contains-get_or, filter-append}
+use Rattle.std.specs.Prelude.{filter, Contains, All, int_lt}
+use Rattle.std.specs.List.{AllByRecursion, list_any, zip}
+use Rattle.ts_domain.specs.declared.interval.Interval.{Interval}
+use Rattle.ts_domain.specs.Values.{WithinLimits, Rising, IsDomain, run, values_between}
+use Rattle.ts_domain.specs.Union.{InSomeRange, SomeEmpty, paired}
+use Rattle.ts_domain.proofs.Runs.{length-between, between_split, all_between, none_between}
+use Rattle.ts_domain.proofs.Unions.{has_number, any_in_some, in_some_any, in_paired, paired_has, empty_any}
+use Rattle.ts_model.specs.Stated.{is_between, is_backward, is_value, is_outside, union_of, digits}
+
+abbrev Among : ℤ → List ℤ → Type 0
+Among v [] = ⊥
+Among v (x ∷ xs) = (x ≡ v) ⊎ Among v xs
+
+among_at : (xs : List ℤ) (v : ℤ) (k : ℕ) → k < length xs → get_or xs k v ≡ v → Among v xs
+among_at [] v k h e = absurd (omega (arith, h))
+among_at (x ∷ xs) v zero h e = inl e
+among_at (x ∷ xs) v (suc k) h e = inr (among_at xs v k (omega (arith, h)) e)
+
+both_all : (P Q R : ℤ → Type 0) → ((v : ℤ) → P v → Q v → R v) → (xs : List ℤ) → AllByRecursion P xs → AllByRecursion Q xs → AllByRecursion R xs
+both_all P Q R f [] p q = tt
+both_all P Q R f (x ∷ xs) p q = (f x p.0 q.0, both_all P Q R f xs p.1 q.1)
+
+above_among : (b : ℤ) (xs : List ℤ) (v : ℤ) → AllByRecursion (λ y. b <ℤ y) xs → Among v xs → b <ℤ v
+above_among b [] v all h = absurd h
+above_among b (x ∷ xs) v all (inl e) = let P : ℤ → Type 0 = λ y. b <ℤ y in subst P e all.0
+above_among b (x ∷ xs) v all (inr h) = above_among b xs v all.1 h
+
+abbrev IsIn : ℤ → ℕ → ℤ → Type 0
+IsIn low n v = (low ≤ℤ v) × (v <ℤ (low +ℤ pos n))
+
+next_in : (low x : ℤ) (n : ℕ) → low ≤ℤ x → (v : ℤ) → x <ℤ v → IsIn low (suc n) v → IsIn (low +ℤ pos 1) n v
+next_in low x n h v above within = (omega (arith, ints, h, above), omega (arith, ints, within.1))
+
+module _ (test : ℤ → Bool) where
+  keep_or_skip : (low : ℤ) (rest d : List ℤ) → (test low ≡ true → low ∷ filter test rest ≡ d) → (test low ≡ false → filter test rest ≡ d) → filter test (low ∷ rest) ≡ d
+  keep_or_skip low rest d pass fail = go (test low) refl
+    where
+    go : (b : Bool) → test low ≡ b → cond b (low ∷ filter test rest) (filter test rest) ≡ d
+    go true e = pass e
+    go false e = fail e
+
+  -- the first number of a rising list is the least number that it may have, if that one is in it
+  head_is : (low x : ℤ) (xs : List ℤ) → low ≤ℤ x → AllByRecursion (λ y. x <ℤ y) xs → Among low (x ∷ xs) → x ≡ low
+  head_is low x xs from rest (inl e) = e
+  head_is low x xs from rest (inr h) = absurd (omega (arith, ints, above_among x xs low rest h, from))
+
+  -- a number beyond the head is in the rest
+  rest_has : (low x v : ℤ) (xs : List ℤ) → x ≡ low → (low +ℤ pos 1) ≤ℤ v → Among v (x ∷ xs) → Among v xs
+  rest_has low x v xs same from (inl e) = absurd (omega (arith, ints, same, e, from))
+  rest_has low x v xs same from (inr h) = h
+
+  -- the head is beyond a number that isn't in the list
+  head_beyond : (low x : ℤ) → low ≤ℤ x → test low ≡ false → test x ≡ true → (low +ℤ pos 1) ≤ℤ x
+  head_beyond low x from fail pass = by_lt_z low x (λ lt. omega (arith, ints, lt)) (λ le. let same : x ≡ low = omega (arith, ints, le, from) in let e : test x ≡ test low = ap test same in absurd (cc))
+
+  -- what a test leaves of the numbers of a range is the rising list of those that pass it
+  pub all_left : (low : ℤ) (n : ℕ) (d : List ℤ) → Rising d → AllByRecursion (IsIn low n) d → AllByRecursion (λ v. test v ≡ true) d → ((v : ℤ) → low ≤ℤ v → v <ℤ (low +ℤ pos n) → test v ≡ true → Among v d) → filter test (run low n) ≡ d
+  unfolding run Rising
+  all_left low zero [] rising within each only = refl
+  all_left low zero (x ∷ xs) rising within each only = let a = within.0.0 in let b = within.0.1 in absurd (omega (arith, ints, a, b))
+  all_left low (suc n) [] rising within each only =
+      keep_or_skip low (run (low +ℤ pos 1) n) [] (λ pass. absurd (only low (omega (arith, ints)) (omega (arith, ints)) pass)) (λ fail. all_left (low +ℤ pos 1) n [] tt tt tt (λ v from to pass. only v (omega (arith, ints, from)) (omega (arith, ints, to)) pass))
+  all_left low (suc n) (x ∷ xs) rising within each only =
+      keep_or_skip low (run (low +ℤ pos 1) n) (x ∷ xs)
+      (λ pass. let same : x ≡ low = head_is low x xs within.0.0 rising.0 (only low (omega (arith, ints)) (omega (arith, ints)) pass) in
+      ap (λ (l : List ℤ). low ∷ l) (all_left (low +ℤ pos 1) n xs rising.1 (both_all (λ y. x <ℤ y) (IsIn low (suc n)) (IsIn (low +ℤ pos 1) n) (next_in low x n within.0.0) xs rising.0 within.1) each.1
+        (λ v from to t. rest_has low x v xs same from (only v (omega (arith, ints, from)) (omega (arith, ints, to)) t)))
+      ∙ ap (λ (y : ℤ). y ∷ xs) (sym same))
+      (λ fail. all_left (low +ℤ pos 1) n (x ∷ xs) rising ((head_beyond low x within.0.0 fail each.0, omega (arith, ints, within.0.1)), both_all (λ y. x <ℤ y) (IsIn low (suc n)) (IsIn (low +ℤ pos 1) n) (next_in low x n within.0.0) xs rising.0 within.1) each
+        (λ v from to t. only v (omega (arith, ints, from)) (omega (arith, ints, to)) t))
+
+abbrev low_of : Interval → ℤ
+low_of r = r.low
+
+abbrev high_of : Interval → ℤ
+high_of r = r.high
+
+paired_parts : (rs : List Interval) → paired (map low_of rs) (map high_of rs) ≡ rs
+paired_parts [] = refl
+paired_parts (r ∷ rs) = ap (λ (xs : List Interval). r ∷ xs) (paired_parts rs)
+
+same_length : (rs : List Interval) → length (map low_of rs) ≡ length (map high_of rs)
+same_length rs = simp length-map
+
+passes : (rs : List Interval) (v : ℤ) → InSomeRange (map low_of rs) (map high_of rs) v → list_any (has_number v) rs ≡ true
+passes rs v h = subst (λ (xs : List Interval). list_any (has_number v) xs ≡ true) (paired_parts rs) (in_some_any (paired (map low_of rs) (map high_of rs)) v (paired_has (map low_of rs) (map high_of rs) v (same_length rs) h))
+
+passed : (rs : List Interval) (v : ℤ) → list_any (has_number v) rs ≡ true → InSomeRange (map low_of rs) (map high_of rs) v
+passed rs v h = in_paired (map low_of rs) (map high_of rs) v (same_length rs) (any_in_some (paired (map low_of rs) (map high_of rs)) v (subst (λ (xs : List Interval). list_any (has_number v) xs ≡ true) (sym (paired_parts rs)) h))
+
+within_limits : (v : ℤ) → WithinLimits v → WithinLimits v → IsIn (neg_ℤ (pos 1000000)) 2000001 v
+within_limits v h h' = (h.0, omega (arith, ints, h.1))
+
+union_is : (rs : List Interval) (d : List ℤ) → IsDomain d → ((v : ℤ) → Contains d v ↔ InSomeRange (map low_of rs) (map high_of rs) v) → d ≡ union_of rs
+unfolding union_of values_between
+union_is rs d dom has =
+    sym (all_left (λ v. list_any (has_number v) rs) (neg_ℤ (pos 1000000)) 2000001 d dom.rising
+      (both_all WithinLimits WithinLimits (IsIn (neg_ℤ (pos 1000000)) 2000001) within_limits d dom.within dom.within)
+      (recursion_from_All (λ v. list_any (has_number v) rs ≡ true) d (λ k e below. passes rs (get_or d k e) ((has (get_or d k e)).0 (Contains-get_or d k e below))))
+      (λ v from to t. let c = (has v).1 (passed rs v t) in among_at d v c.0 c.1 c.2))
+
+pub union_made : (rs : List Interval) (d lows highs : List ℤ) → lows ≡ map (λ r. r.low) rs → highs ≡ map (λ r. r.high) rs → IsDomain d → ((v : ℤ) → Contains d v ↔ InSomeRange lows highs v) → d ≡ union_of rs
+union_made rs d lows highs lows_are highs_are dom has =
+    union_is rs d dom (subst (λ (ls : List ℤ). (v : ℤ) → Contains d v ↔ InSomeRange ls (map high_of rs) v) lows_are (subst (λ (hs : List ℤ). (v : ℤ) → Contains d v ↔ InSomeRange lows hs v) highs_are has))
+
+-- no range is empty
+backward_parts : (rs : List Interval) → list_any (λ p. int_lt p.1 p.0) (zip (map low_of rs) (map high_of rs)) ≡ list_any is_backward rs
+backward_parts [] = refl
+backward_parts (r ∷ rs) = ap (λ (b : Bool). is_backward r || b) (backward_parts rs)
+
+none_empty : (rs : List Interval) → 0 < length rs → list_any is_backward rs ≡ false → ((map low_of rs ≡ []) ⊎ SomeEmpty (map low_of rs) (map high_of rs)) → ⊥
+none_empty [] some forward h = omega (arith, some)
+none_empty (r ∷ rs) some forward (inl e) = cc
+none_empty (r ∷ rs) some forward (inr e) =
+    let back = empty_any (map low_of (r ∷ rs)) (map high_of (r ∷ rs)) (same_length (r ∷ rs)) e in
+    let same = backward_parts (r ∷ rs) in
+    let both : ◌≡◌ {A = Bool} true false = sym back ∙ same ∙ forward in cc
+
+pub never_empty : (rs : List Interval) (lows highs : List ℤ) → lows ≡ map (λ r. r.low) rs → highs ≡ map (λ r. r.high) rs → 0 < length rs → list_any is_backward rs ≡ false → ((lows ≡ []) ⊎ SomeEmpty lows highs) → ⊥
+never_empty rs lows highs lows_are highs_are some forward h =
+    none_empty rs some forward (subst (λ (ls : List ℤ). (ls ≡ []) ⊎ SomeEmpty ls (map high_of rs)) lows_are (subst (λ (hs : List ℤ). (lows ≡ []) ⊎ SomeEmpty lows hs) highs_are h))
+
+-- the ends of ranges of which none passes the limits
+is_within : (v : ℤ) → is_value v ≡ true → WithinLimits v
+is_within v h = (grind (arith, ints), grind (arith, ints))
+
+inside_parts : (a b rest : Bool) → (not (a && b) || rest) ≡ false → (a ≡ true) × (b ≡ true) × (rest ≡ false)
+inside_parts true true rest h = (refl, refl, h)
+inside_parts true false rest h = cc
+inside_parts false b rest h = cc
+
+inside_low : (rs : List Interval) → list_any is_outside rs ≡ false → AllByRecursion WithinLimits (map low_of rs)
+inside_low [] h = tt
+inside_low (r ∷ rs) h = let p = inside_parts (is_value r.low) (is_value r.high) (list_any is_outside rs) h in (is_within r.low p.0, inside_low rs p.2)
+
+inside_high : (rs : List Interval) → list_any is_outside rs ≡ false → AllByRecursion WithinLimits (map high_of rs)
+inside_high [] h = tt
+inside_high (r ∷ rs) h = let p = inside_parts (is_value r.low) (is_value r.high) (list_any is_outside rs) h in (is_within r.high p.1, inside_high rs p.2)
+
+pub lows_within : (rs : List Interval) (lows : List ℤ) → lows ≡ map (λ r. r.low) rs → list_any is_outside rs ≡ false → All WithinLimits lows
+lows_within rs lows are inside = subst (All WithinLimits) (sym are) (All-from_recursion WithinLimits (map low_of rs) (inside_low rs inside))
+
+pub highs_within : (rs : List Interval) (highs : List ℤ) → highs ≡ map (λ r. r.high) rs → list_any is_outside rs ≡ false → All WithinLimits highs
+highs_within rs highs are inside = subst (All WithinLimits) (sym are) (All-from_recursion WithinLimits (map high_of rs) (inside_high rs inside))
+
+-- the digits
+digit_test : (v : ℤ) → list_any (λ r. is_between r.low v r.high) digits ≡ is_between (pos 0) v (pos 9)
+digit_test v = or_false (is_between (pos 0) v (pos 9))
+  where
+  or_false : (b : Bool) → (b || false) ≡ b
+  or_false true = refl
+  or_false false = refl
+
+pub ten_digits : length (union_of digits) ≡ 10
+unfolding union_of
+ten_digits =
+    let test : ℤ → Bool = λ v. list_any (λ r. is_between r.low v r.high) digits in
+    let low = neg_ℤ (pos 1000000) in let high = pos 1000000 in
+    let first = between_split low (neg_ℤ (pos 1)) high (omega (arith, ints)) (omega (arith, ints)) in
+    let second = between_split (pos 0) (pos 9) high (omega (arith, ints)) (omega (arith, ints)) in
+    let below = none_between test low (neg_ℤ (pos 1)) (omega (arith, ints)) (λ v from to. digit_test v ∙ outside v (inl (omega (arith, ints, to)))) in
+    let here = all_between test (pos 0) (pos 9) (omega (arith, ints)) (λ v from to. digit_test v ∙ inside v from to) in
+    let above = none_between test (pos 10) high (omega (arith, ints)) (λ v from to. digit_test v ∙ outside v (inr (omega (arith, ints, from)))) in
+    let a = values_between low (neg_ℤ (pos 1)) in let b = values_between (pos 0) (pos 9) in let c = values_between (pos 10) high in let rest = values_between (pos 0) high in
+    let whole : filter test (values_between low high) ≡ b =
+      ap (filter test) first ∙ filter-append test a rest ∙ ap (λ (l : List ℤ). l ++ filter test rest) below ∙ ap (filter test) second ∙ filter-append test b c ∙ ap (λ (l : List ℤ). l ++ filter test c) here ∙ ap (λ (l : List ℤ). b ++ l) above ∙ append-nil b in
+    let ten = length-between (pos 0) (pos 9) (omega (arith, ints)) in
+    ap length whole ∙ omega (arith, ints, ten)
+  where
+  inside : (v : ℤ) → pos 0 ≤ℤ v → v ≤ℤ pos 9 → is_between (pos 0) v (pos 9) ≡ true
+  inside v from to = grind (arith, ints)
+
+  outside : (v : ℤ) → (v <ℤ pos 0) ⊎ (pos 9 <ℤ v) → is_between (pos 0) v (pos 9) ≡ false
+  outside v (inl h) = grind (arith, ints)
+  outside v (inr h) = grind (arith, ints)

@@ -1,0 +1,9 @@
+pub mod Words
+pub mod Statement
+pub mod Stated
+pub mod Cells
+pub mod ModelReading
+pub mod Promise
+pub mod Series
+pub mod Compares
+pub mod Views

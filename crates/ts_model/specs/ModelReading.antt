@@ -1,0 +1,161 @@
+-- The model that a text states, or its first bad line with the first kind that holds of it.
+use Rattle.std.specs.Prelude.{◌≡◌, ℕ, ◌<◌, Bool, false, true, not, ◌&&◌, List, [], ◌∷◌, ◌+◌, ◌⊎◌, map, take, slice_get, if◌then◌else◌, Option, Some, None, Result, Ok, Err, is_none}
+use Rattle.ts_token.specs.Text.{Piece, Row, Cut, cut_of}
+use Rattle.ts_model.specs.declared.words.Form.{Form}
+use Rattle.ts_model.specs.declared.model.Need.{Need}
+use Rattle.ts_model.specs.declared.model.Need.TheVariants.{Values, List as Listing, Best}
+use Rattle.ts_model.specs.declared.error.ModelKind.{ModelKind}
+use Rattle.ts_model.specs.declared.error.ModelKind.TheVariants.{NotText, UnknownLine, Shape, Number, NoCells, CellsTwice, CellRange, Empty, UnknownName, BadPair, UnknownTerm, TermTwice, ObjectiveTwice, Limit, NoObjective}
+use Rattle.ts_model.specs.Words.{form_of}
+use Rattle.ts_model.specs.Statement.{Said, has_shape, said_by, parsed}
+use Rattle.ts_model.specs.Stated.{Stated, nothing, with_said, first_kind, no_cells, cells_twice, cell_range, empty_range, unknown_name, bad_pair, unknown_term, term_twice, objective_twice, passes_limit, has_cells, taken}
+
+-- all domains together have a limit
+abbrev pub needs_lists : Need → Bool
+needs_lists Values = false
+needs_lists Listing = true
+needs_lists Best = true
+
+abbrev pub needs_objective : Need → Bool
+needs_objective Values = false
+needs_objective Listing = false
+needs_objective Best = true
+
+abbrev pub texts_of : List Piece → List (List ℕ)
+texts_of ws = map (λ w. w.text) ws
+
+-- The first bad line, by one test for each kind over a line's words and what the lines before it state.
+
+abbrev pub said_onto : Result Said ModelKind → List Said → List Said
+said_onto (Err k) rest = rest
+said_onto (Ok s) rest = s ∷ rest
+
+-- what lines say
+abbrev pub said_lines : List Row → List Said
+said_lines [] = []
+said_lines (row ∷ rows) = said_onto (parsed (texts_of row.words)) (said_lines rows)
+
+abbrev pub stated_after : Stated → List Said → Stated
+stated_after m [] = m
+stated_after m (s ∷ ss) = stated_after (with_said m s) ss
+
+-- what lines state
+abbrev pub so_far : List Row → Stated
+so_far rows = stated_after nothing (said_lines rows)
+
+abbrev pub form_at : List (List ℕ) → Option Form
+form_at [] = None
+form_at (first ∷ ws) = form_of first
+
+abbrev pub rest_at : List (List ℕ) → List (List ℕ)
+rest_at [] = []
+rest_at (first ∷ ws) = ws
+
+abbrev pub bad_shape : Option Form → List (List ℕ) → Bool
+bad_shape None ws = false
+bad_shape (Some form) ws = not (has_shape form ws)
+
+abbrev pub bad_number : Option Form → List (List ℕ) → Bool
+bad_number None ws = false
+bad_number (Some form) ws = is_none (said_by form ws)
+
+-- a test of what a line says; it holds of no line that says nothing
+abbrev pub of_said : (Said → Bool) → Result Said ModelKind → Bool
+of_said test (Err k) = false
+of_said test (Ok s) = test s
+
+-- the kinds in their order, each with its test of a line with these words after lines that state m
+abbrev pub kinds_of : Bool → Stated → List (List ℕ) → List (Bool × ModelKind)
+kinds_of lists m words =
+    (is_none (form_at words), UnknownLine)
+    ∷ (bad_shape (form_at words) (rest_at words), Shape)
+    ∷ (bad_number (form_at words) (rest_at words), Number)
+    ∷ (of_said (no_cells m) (parsed words), NoCells)
+    ∷ (of_said (cells_twice m) (parsed words), CellsTwice)
+    ∷ (of_said (cell_range m) (parsed words), CellRange)
+    ∷ (of_said empty_range (parsed words), Empty)
+    ∷ (of_said unknown_name (parsed words), UnknownName)
+    ∷ (of_said bad_pair (parsed words), BadPair)
+    ∷ (of_said (unknown_term m) (parsed words), UnknownTerm)
+    ∷ (of_said (term_twice m) (parsed words), TermTwice)
+    ∷ (of_said (objective_twice m) (parsed words), ObjectiveTwice)
+    ∷ (of_said (passes_limit lists m) (parsed words), Limit)
+    ∷ []
+
+-- the first kind that holds of a line after these lines
+abbrev pub kind_at : Bool → List Row → Row → Option ModelKind
+kind_at lists before row = first_kind (kinds_of lists (so_far before) (texts_of row.words))
+
+-- no kind holds of any of the lines
+abbrev pub AreGood : Bool → List Row → Type 0
+AreGood lists rows = (i : ℕ) (row : Row) → slice_get rows i ≡ Some row → kind_at lists (take i rows) row ≡ None
+
+-- the first bad line has this number, and the first kind that holds of it is this one
+pub record FirstBad (lists : Bool) (rows : List Row) (line : ℕ) (kind : ModelKind) : Type 0 where
+  pub place : ℕ
+  pub row : Row
+  pub is_there : slice_get rows place ≡ Some row
+  pub number : row.number ≡ line
+  pub kind_is : kind_at lists (take place rows) row ≡ Some kind
+  pub first : (i : ℕ) (earlier : Row) → i < place → slice_get rows i ≡ Some earlier → kind_at lists (take i rows) earlier ≡ None
+
+-- a text whose lines before the first that isn't text are good, and its number, if there is one
+abbrev pub IsEnd : Need → Cut → Option ℕ → ℕ → ModelKind → Type 0
+IsEnd need c (Some bad) line kind = (line ≡ bad) × (kind ≡ NotText)
+IsEnd need c None line kind =
+    ((has_cells (so_far c.rows) ≡ false) × (line ≡ c.count + 1) × (kind ≡ NoCells))
+    ⊎ ((has_cells (so_far c.rows) ≡ true) × (needs_objective need ≡ true) × ((so_far c.rows).objective ≡ None) × (line ≡ c.count + 1) × (kind ≡ NoObjective))
+
+-- a text is refused so
+abbrev pub IsRefused : Need → Cut → ℕ → ModelKind → Type 0
+IsRefused need c line kind = FirstBad (needs_lists need) c.rows line kind ⊎ (AreGood (needs_lists need) c.rows × IsEnd need c c.not_text line kind)
+
+-- a text states this model
+abbrev pub IsModel : Need → Cut → Stated → Type 0
+IsModel need c m = AreGood (needs_lists need) c.rows × (c.not_text ≡ None) × (has_cells m ≡ true) × ((needs_objective need && is_none m.objective) ≡ false) × (m ≡ so_far c.rows)
+
+-- what a text reads as
+abbrev pub IsReading : Need → Cut → Result Stated (ℕ × ModelKind) → Type 0
+IsReading need c (Ok m) = IsModel need c m
+IsReading need c (Err e) = IsRefused need c e.0 e.1
+
+-- The same reading as a function, from line to line.
+
+abbrev pub taken_as : Bool → Stated → Result Said ModelKind → Result Stated ModelKind
+taken_as lists m (Err k) = Err k
+taken_as lists m (Ok s) = taken lists m s
+
+abbrev pub line_gives : Bool → Stated → List (List ℕ) → Result Stated ModelKind
+line_gives lists m words = taken_as lists m (parsed words)
+
+-- the line's number beside its kind, or on with what is stated after it
+abbrev pub onward : ℕ → Result Stated ModelKind → (Stated → Result Stated (ℕ × ModelKind)) → Result Stated (ℕ × ModelKind)
+onward number (Err k) next = Err (number, k)
+onward number (Ok m) next = next m
+
+-- what rows state after m, or the number of the first bad one with its first kind
+abbrev pub read_rows : Bool → Stated → List Row → Result Stated (ℕ × ModelKind)
+read_rows lists m [] = Ok m
+read_rows lists m (row ∷ rows) = onward row.number (line_gives lists m (texts_of row.words)) (λ after. read_rows lists after rows)
+
+abbrev pub ended_model : Need → Cut → Stated → Result Stated (ℕ × ModelKind)
+ended_model need c m =
+    if not (has_cells m) then Err (c.count + 1, NoCells)
+    else (if needs_objective need && is_none m.objective then Err (c.count + 1, NoObjective)
+    else Ok m)
+
+abbrev pub ended_text : Need → Cut → Stated → Option ℕ → Result Stated (ℕ × ModelKind)
+ended_text need c m (Some line) = Err (line, NotText)
+ended_text need c m None = ended_model need c m
+
+abbrev pub ended : Need → Cut → Result Stated (ℕ × ModelKind) → Result Stated (ℕ × ModelKind)
+ended need c (Err e) = Err e
+ended need c (Ok m) = ended_text need c m c.not_text
+
+-- the model that the lines of a text state, or the first bad line with the first kind that holds of it
+abbrev pub reading : Need → Cut → Result Stated (ℕ × ModelKind)
+reading need c = ended need c (read_rows (needs_lists need) nothing c.rows)
+
+-- the same of the bytes of a text
+abbrev pub model_reading : Need → List ℕ → Result Stated (ℕ × ModelKind)
+model_reading need bytes = reading need (cut_of bytes)

@@ -1,0 +1,68 @@
+-- The one line `series v_1 .. v_n` of a text, or the first kind that holds of the text.
+use Rattle.std.specs.Prelude.{◌≡◌, ℕ, codes, ◌==◌, ℤ, Bool, false, not, ◌&&◌, List, [], ◌∷◌, length, if◌then◌else◌, Option, Some, None, Result, Ok, Err, is_none, unwrap_or}
+use Rattle.std.specs.Str.{bytes_eq}
+use Rattle.ts_token.specs.Text.{Row, Cut}
+use Rattle.ts_token.specs.Number.{number_of}
+use Rattle.ts_model.specs.declared.error.SeriesStop.{SeriesStop}
+use Rattle.ts_model.specs.declared.error.SeriesStop.TheVariants.{Shape, Number, Length, Memory}
+use Rattle.ts_model.specs.Stated.{is_value}
+use Rattle.ts_model.specs.ModelReading.{texts_of}
+
+unfoldable pub is_series : List ℕ → Bool
+is_series word = bytes_eq word (codes "series")
+
+abbrev pub within : Option ℤ → Option ℤ
+within None = None
+within (Some v) = if is_value v then Some v else None
+
+-- a number from -1,000,000 to 1,000,000
+unfoldable pub value_of : List ℕ → Option ℤ
+value_of word = within (number_of word)
+
+abbrev pub onto_values : Option ℤ → Option (List ℤ) → Option (List ℤ)
+onto_values None rest = None
+onto_values (Some v) None = None
+onto_values (Some v) (Some vs) = Some (v ∷ vs)
+
+-- the numbers that the words are, if each is one
+abbrev pub values_of : List (List ℕ) → Option (List ℤ)
+values_of [] = Some []
+values_of (word ∷ words) = onto_values (value_of word) (values_of words)
+
+-- the words after `series`, if this is the one line
+abbrev pub after_series : List (List ℕ) → Option (List (List ℕ))
+after_series [] = None
+after_series (first ∷ ws) = if is_series first then Some ws else None
+
+abbrev pub only_row : List Row → Option (List (List ℕ))
+only_row [] = None
+only_row (row ∷ []) = after_series (texts_of row.words)
+only_row (row ∷ other ∷ rows) = None
+
+-- every line is text, and one is unskipped and begins with `series`
+abbrev pub series_words : Cut → Option ℕ → Option (List (List ℕ))
+series_words c (Some line) = None
+series_words c None = only_row c.rows
+
+abbrev pub of_length : ℕ → List ℤ → Result (List ℤ) SeriesStop
+of_length n values = if length values == n then Ok values else Err Length
+
+abbrev pub numbers_give : ℕ → Option (List ℤ) → Result (List ℤ) SeriesStop
+numbers_give n None = Err Number
+numbers_give n (Some values) = of_length n values
+
+abbrev pub words_give : ℕ → Option (List (List ℕ)) → Result (List ℤ) SeriesStop
+words_give n None = Err Shape
+words_give n (Some words) = numbers_give n (values_of words)
+
+-- the series, or the first of `shape`, `number` and `length` that holds
+abbrev pub series_reading : ℕ → Cut → Result (List ℤ) SeriesStop
+series_reading n c = words_give n (series_words c c.not_text)
+
+-- the result is what the text reads as, unless memory ran out
+abbrev pub ReadsSeries : {X : Type 0} → (X → List ℤ) → Result X SeriesStop → Result (List ℤ) SeriesStop → Type 0
+ReadsSeries view (Ok x) read = read ≡ Ok (view x)
+ReadsSeries view (Err Shape) read = read ≡ Err Shape
+ReadsSeries view (Err Number) read = read ≡ Err Number
+ReadsSeries view (Err Length) read = read ≡ Err Length
+ReadsSeries view (Err Memory) read = Unit {0}

@@ -1,0 +1,210 @@
+-- What lines state together, and the kinds of bad lines from `nocells` on: one test for each, of what a line says
+-- after the lines that state m.
+use Rattle.std.specs.Prelude.{ℕ, ◌≡◌, ◌<◌, ◌+◌, ◌-◌, ℤ, pos, negsuc, neg_ℤ, int_le, int_lt, Bool, true, false, not, ◌&&◌, List, [], ◌∷◌, ◌++◌, length, map, filter, set, replicate, if◌then◌else◌, nat_lt, get_or, Option, Some, None, Result, Ok, Err, is_some, is_none, unwrap_or}
+use Rattle.std.specs.List.{list_any, position, sum_by}
+use Rattle.std.specs.Str.{bytes_eq}
+use Rattle.ts_base.specs.declared.ext.Ext.{Ext}
+use Rattle.ts_base.specs.declared.ext.Ext.TheVariants.{NegInf, Int, PosInf}
+use Rattle.ts_domain.specs.declared.interval.Interval.{Interval}
+use Rattle.ts_domain.specs.Values.{values_between}
+use Rattle.ts_pattern.specs.declared.name.Aggregator.TheVariants.{Sum}
+use Rattle.ts_pattern.specs.declared.name.Feature.TheVariants.{One}
+use Rattle.ts_pattern.specs.declared.name.PatternId.TheVariants.{Increasing}
+use Rattle.ts_pattern.specs.Names.{is_pair}
+use Rattle.ts_model.specs.declared.model.Op.{Op}
+use Rattle.ts_model.specs.declared.model.Require.{Require}
+use Rattle.ts_model.specs.declared.statement.TermParts.{TermParts}
+use Rattle.ts_model.specs.declared.error.ModelKind.{ModelKind}
+use Rattle.ts_model.specs.declared.error.ModelKind.TheVariants.{NoCells, CellsTwice, CellRange, Empty, UnknownName, BadPair, UnknownTerm, TermTwice, ObjectiveTwice, Limit}
+use Rattle.ts_model.specs.Statement.{Said, SaysCells, SaysDomain, SaysCell, SaysTerm, SaysRequire, SaysObjective}
+
+abbrev pub is_between : ℤ → ℤ → ℤ → Bool
+is_between low x high = int_le low x && int_le x high
+
+-- the numbers from -1,000,000 to 1,000,000 that some range has, in rising order
+unfoldable pub union_of : List Interval → List ℤ
+union_of ranges = filter (λ v. list_any (λ r. is_between r.low v r.high) ranges) (values_between (neg_ℤ (pos 1000000)) (pos 1000000))
+
+-- what stands in a model: the numbers of each cell in rising order (no cells before the `cells` line), the terms by
+-- name, and the number of the objective's term
+pub record Stated : Type 0 where
+  pub cells : List (List ℤ)
+  pub terms : List (List ℕ × TermParts)
+  pub requirements : List Require
+  pub objective : Option ℕ
+
+abbrev pub nothing : Stated
+nothing = record { cells = []; terms = []; requirements = []; objective = None }
+
+-- the place of the term with this name
+abbrev pub term_at : List ℕ → List (List ℕ × TermParts) → Option ℕ
+term_at name terms = position (λ t. bytes_eq name t.0) terms
+
+-- the number as a count; 0 where it is negative
+abbrev pub count_of : ℤ → ℕ
+count_of (pos n) = n
+count_of (negsuc n) = 0
+
+-- of count cells, this one stands at the place
+pub record IsPlace (cell : ℤ) (count place : ℕ) : Type 0 where
+  pub within : is_between (pos 1) cell (pos count) ≡ true
+  pub place_is : count_of cell - 1 ≡ place
+  pub there : place < count
+
+-- the domain of a cell that no line sets: 0 to 9
+abbrev pub digits : List Interval
+digits = record { low = pos 0; high = pos 9 } ∷ []
+
+abbrev pub some_parts : TermParts
+some_parts = record { aggregator = Sum; feature = One; pattern = Increasing }
+
+-- what is stated with one more line, of which no kind holds
+abbrev pub with_said : Stated → Said → Stated
+with_said m (SaysCells n) = record m { cells = replicate (count_of n) (union_of digits) }
+with_said m (SaysDomain rs) = record m { cells = map (λ _. union_of rs) m.cells }
+with_said m (SaysCell k rs) = record m { cells = set m.cells (count_of k - 1) (union_of rs) }
+with_said m (SaysTerm name parts) = record m { terms = m.terms ++ (name, unwrap_or parts some_parts) ∷ [] }
+with_said m (SaysRequire name op bound) = record m { requirements = m.requirements ++ record { term = unwrap_or (term_at name m.terms) 0; op = op; bound = bound } ∷ [] }
+with_said m (SaysObjective name) = record m { objective = term_at name m.terms }
+
+abbrev pub is_cells : Said → Bool
+is_cells (SaysCells n) = true
+is_cells (SaysDomain rs) = false
+is_cells (SaysCell k rs) = false
+is_cells (SaysTerm name parts) = false
+is_cells (SaysRequire name op bound) = false
+is_cells (SaysObjective name) = false
+
+abbrev pub has_cells : Stated → Bool
+has_cells m = nat_lt 0 (length m.cells)
+
+abbrev pub no_cells : Stated → Said → Bool
+no_cells m s = not (is_cells s) && not (has_cells m)
+
+abbrev pub cells_twice : Stated → Said → Bool
+cells_twice m s = is_cells s && has_cells m
+
+abbrev pub cell_range : Stated → Said → Bool
+cell_range m (SaysCells n) = not (is_between (pos 1) n (pos 512))
+cell_range m (SaysDomain rs) = false
+cell_range m (SaysCell k rs) = not (is_between (pos 1) k (pos (length m.cells)))
+cell_range m (SaysTerm name parts) = false
+cell_range m (SaysRequire name op bound) = false
+cell_range m (SaysObjective name) = false
+
+abbrev pub is_backward : Interval → Bool
+is_backward r = int_lt r.high r.low
+
+abbrev pub empty_range : Said → Bool
+empty_range (SaysCells n) = false
+empty_range (SaysDomain rs) = list_any is_backward rs
+empty_range (SaysCell k rs) = list_any is_backward rs
+empty_range (SaysTerm name parts) = false
+empty_range (SaysRequire name op bound) = false
+empty_range (SaysObjective name) = false
+
+abbrev pub unknown_name : Said → Bool
+unknown_name (SaysCells n) = false
+unknown_name (SaysDomain rs) = false
+unknown_name (SaysCell k rs) = false
+unknown_name (SaysTerm name parts) = is_none parts
+unknown_name (SaysRequire name op bound) = false
+unknown_name (SaysObjective name) = false
+
+abbrev pub is_bad : Option TermParts → Bool
+is_bad None = false
+is_bad (Some parts) = not (is_pair parts.aggregator parts.feature)
+
+abbrev pub bad_pair : Said → Bool
+bad_pair (SaysCells n) = false
+bad_pair (SaysDomain rs) = false
+bad_pair (SaysCell k rs) = false
+bad_pair (SaysTerm name parts) = is_bad parts
+bad_pair (SaysRequire name op bound) = false
+bad_pair (SaysObjective name) = false
+
+abbrev pub unknown_term : Stated → Said → Bool
+unknown_term m (SaysCells n) = false
+unknown_term m (SaysDomain rs) = false
+unknown_term m (SaysCell k rs) = false
+unknown_term m (SaysTerm name parts) = false
+unknown_term m (SaysRequire name op bound) = is_none (term_at name m.terms)
+unknown_term m (SaysObjective name) = is_none (term_at name m.terms)
+
+abbrev pub term_twice : Stated → Said → Bool
+term_twice m (SaysCells n) = false
+term_twice m (SaysDomain rs) = false
+term_twice m (SaysCell k rs) = false
+term_twice m (SaysTerm name parts) = is_some (term_at name m.terms)
+term_twice m (SaysRequire name op bound) = false
+term_twice m (SaysObjective name) = false
+
+abbrev pub is_objective : Said → Bool
+is_objective (SaysCells n) = false
+is_objective (SaysDomain rs) = false
+is_objective (SaysCell k rs) = false
+is_objective (SaysTerm name parts) = false
+is_objective (SaysRequire name op bound) = false
+is_objective (SaysObjective name) = true
+
+abbrev pub objective_twice : Stated → Said → Bool
+objective_twice m s = is_objective s && is_some m.objective
+
+abbrev pub is_value : ℤ → Bool
+is_value v = is_between (neg_ℤ (pos 1000000)) v (pos 1000000)
+
+abbrev pub is_outside : Interval → Bool
+is_outside r = not (is_value r.low && is_value r.high)
+
+abbrev pub is_bound : Ext → Bool
+is_bound NegInf = true
+is_bound (Int b) = is_between (neg_ℤ (pos 1000000000000)) b (pos 1000000000000)
+is_bound PosInf = true
+
+-- how many values all domains have together
+abbrev pub total_of : List (List ℤ) → ℕ
+total_of cells = sum_by length cells
+
+abbrev pub over_total : Bool → Stated → Bool
+over_total lists m = lists && nat_lt 65536 (total_of m.cells)
+
+-- a limit is passed by the line; lists says whether all domains together have one
+abbrev pub passes_limit : Bool → Stated → Said → Bool
+passes_limit lists m (SaysCells n) = over_total lists (with_said m (SaysCells n))
+passes_limit lists m (SaysDomain rs) = if list_any is_outside rs then true else over_total lists (with_said m (SaysDomain rs))
+passes_limit lists m (SaysCell k rs) = if list_any is_outside rs then true else over_total lists (with_said m (SaysCell k rs))
+passes_limit lists m (SaysTerm name parts) = nat_lt 31 (length m.terms)
+passes_limit lists m (SaysRequire name op bound) = if is_bound bound then nat_lt 63 (length m.requirements) else true
+passes_limit lists m (SaysObjective name) = false
+
+-- the parts of a term, or the kind of bad names
+abbrev pub term_made : Option TermParts → Result TermParts ModelKind
+term_made None = Err UnknownName
+term_made (Some parts) = if is_pair parts.aggregator parts.feature then Ok parts else Err BadPair
+
+-- the kinds in their order, each with its test
+abbrev pub kinds : Bool → Stated → Said → List (Bool × ModelKind)
+kinds lists m s =
+    (no_cells m s, NoCells)
+    ∷ (cells_twice m s, CellsTwice)
+    ∷ (cell_range m s, CellRange)
+    ∷ (empty_range s, Empty)
+    ∷ (unknown_name s, UnknownName)
+    ∷ (bad_pair s, BadPair)
+    ∷ (unknown_term m s, UnknownTerm)
+    ∷ (term_twice m s, TermTwice)
+    ∷ (objective_twice m s, ObjectiveTwice)
+    ∷ (passes_limit lists m s, Limit)
+    ∷ []
+
+abbrev pub first_kind : List (Bool × ModelKind) → Option ModelKind
+first_kind [] = None
+first_kind (k ∷ ks) = if k.0 then Some k.1 else first_kind ks
+
+abbrev pub unless_kind : Option ModelKind → Stated → Result Stated ModelKind
+unless_kind None m = Ok m
+unless_kind (Some k) m = Err k
+
+-- what is stated after the line, or its first kind
+abbrev pub taken : Bool → Stated → Said → Result Stated ModelKind
+taken lists m s = unless_kind (first_kind (kinds lists m s)) (with_said m s)

@@ -1,0 +1,87 @@
+-- What a line says, from its words alone; or the first of the kinds `unknownline`, `shape` and `number` that holds.
+use Rattle.std.specs.Prelude.{ℕ, ◌==◌, ℤ, Bool, ◌&&◌, List, [], ◌∷◌, length, drop, if◌then◌else◌, nat_lt, Option, Some, None, Result, Err, is_some, unwrap_or, ok_or, slice_get}
+use Rattle.std.specs.Option.{option_map}
+use Rattle.ts_base.specs.declared.ext.Ext.{Ext}
+use Rattle.ts_domain.specs.declared.interval.Interval.{Interval}
+use Rattle.ts_token.specs.Number.{number_of}
+use Rattle.ts_pattern.specs.declared.name.Aggregator.{Aggregator}
+use Rattle.ts_pattern.specs.declared.name.Aggregator.TheVariants.{Sum}
+use Rattle.ts_pattern.specs.declared.name.Feature.{Feature}
+use Rattle.ts_pattern.specs.declared.name.Feature.TheVariants.{One}
+use Rattle.ts_pattern.specs.declared.name.PatternId.{PatternId}
+use Rattle.ts_model.specs.declared.words.Form.{Form}
+use Rattle.ts_model.specs.declared.words.Form.TheVariants.{Cells, Domain, Cell, Term, Require, Objective}
+use Rattle.ts_model.specs.declared.model.Op.{Op}
+use Rattle.ts_model.specs.declared.statement.TermParts.{TermParts}
+use Rattle.ts_model.specs.declared.error.ModelKind.{ModelKind}
+use Rattle.ts_model.specs.declared.error.ModelKind.TheVariants.{UnknownLine, Shape, Number}
+use Rattle.ts_model.specs.Words.{form_of, op_of, is_equals, is_count, is_name, bound_of, ranges_of, aggregator_of, feature_of, pattern_of}
+
+-- what a line says: `cells`, `domain`, `cell`, `term`, `require` or `objective` with their arguments. A term has no
+-- parts where its aggregator, its feature or its pattern has a name that isn't in the tables.
+pub data Said : Type 0 where
+  SaysCells : ℤ → Said
+  SaysDomain : List Interval → Said
+  SaysCell : ℤ → List Interval → Said
+  SaysTerm : List ℕ → Option TermParts → Said
+  SaysRequire : List ℕ → Op → Ext → Said
+  SaysObjective : List ℕ → Said
+
+-- the word at a place, from 0
+abbrev pub word_at : List (List ℕ) → ℕ → List ℕ
+word_at words k = unwrap_or (slice_get words k) []
+
+-- how many words stand after `term`
+abbrev pub term_length : List (List ℕ) → ℕ
+term_length ws = if is_count (word_at ws 2) then 4 else 5
+
+-- the words after the first fit the form
+abbrev pub has_shape : Form → List (List ℕ) → Bool
+has_shape Cells ws = length ws == 1
+has_shape Domain ws = nat_lt 0 (length ws)
+has_shape Cell ws = nat_lt 1 (length ws)
+has_shape Term ws = (length ws == term_length ws) && (is_name (word_at ws 0) && is_equals (word_at ws 1))
+has_shape Require ws = (length ws == 3) && (is_name (word_at ws 0) && is_some (op_of (word_at ws 1)))
+has_shape Objective ws = (length ws == 1) && is_name (word_at ws 0)
+
+abbrev pub made_parts : Option Aggregator → Option Feature → Option PatternId → Option TermParts
+made_parts None f p = None
+made_parts (Some a) None p = None
+made_parts (Some a) (Some f) None = None
+made_parts (Some a) (Some f) (Some p) = Some (record { aggregator = a; feature = f; pattern = p })
+
+-- `count PATTERN` is `sum one PATTERN`
+abbrev pub parts_said : List (List ℕ) → Option TermParts
+parts_said ws =
+    if is_count (word_at ws 2) then made_parts (Some Sum) (Some One) (pattern_of (word_at ws 3))
+    else made_parts (aggregator_of (word_at ws 2)) (feature_of (word_at ws 3)) (pattern_of (word_at ws 4))
+
+abbrev pub said_cell : Option ℤ → Option (List Interval) → Option Said
+said_cell None rs = None
+said_cell (Some k) rs = option_map (SaysCell k) rs
+
+abbrev pub said_require : List ℕ → Option Op → Option Ext → Option Said
+said_require name None bound = None
+said_require name (Some op) None = None
+said_require name (Some op) (Some bound) = Some (SaysRequire name op bound)
+
+-- what a line of this shape says; None where a word in the place of a number, range or bound isn't one
+abbrev pub said_by : Form → List (List ℕ) → Option Said
+said_by Cells ws = option_map SaysCells (number_of (word_at ws 0))
+said_by Domain ws = option_map SaysDomain (ranges_of ws)
+said_by Cell ws = said_cell (number_of (word_at ws 0)) (ranges_of (drop 1 ws))
+said_by Term ws = Some (SaysTerm (word_at ws 0) (parts_said ws))
+said_by Require ws = said_require (word_at ws 0) (op_of (word_at ws 1)) (bound_of (word_at ws 2))
+said_by Objective ws = Some (SaysObjective (word_at ws 0))
+
+abbrev pub parsed_by : Form → List (List ℕ) → Result Said ModelKind
+parsed_by form ws = if has_shape form ws then ok_or (said_by form ws) Number else Err Shape
+
+abbrev pub parsed_as : Option Form → List (List ℕ) → Result Said ModelKind
+parsed_as None ws = Err UnknownLine
+parsed_as (Some form) ws = parsed_by form ws
+
+-- what the words of a line say, or the first kind of `unknownline`, `shape`, `number` that holds
+abbrev pub parsed : List (List ℕ) → Result Said ModelKind
+parsed [] = Err UnknownLine
+parsed (first ∷ ws) = parsed_as (form_of first) ws

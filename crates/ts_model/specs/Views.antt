@@ -1,0 +1,90 @@
+-- Statements, drafts, models and errors without their places in memory.
+use Rattle.std.specs.Prelude.{◌≡◌, ℕ, ◌≤◌, ◌<◌, ℤ, Bool, true, false, List, map, if◌then◌else◌, nat_lt, Option, Some, None, Result, Ok, Err, String, length}
+use Rattle.std.specs.Global.{Global}
+use Rattle.std.specs.List.{AllByRecursion}
+use Rattle.std.specs.String.{string_bytes}
+use Rattle.ts_token.specs.Text.{Cut}
+use Rattle.ts_token.specs.declared.words.Word.{Word}
+use Rattle.ts_pattern.specs.declared.term.Term.{Term}
+use Rattle.ts_model.specs.declared.statement.Statement.{Statement}
+use Rattle.ts_model.specs.declared.statement.Statement.TheVariants.{Cells as CellsLine, Domain as DomainLine, Cell as CellLine, Term as TermLine, Require as RequireLine, Objective as ObjectiveLine}
+use Rattle.ts_model.specs.declared.statement.TermParts.{TermParts}
+use Rattle.ts_model.specs.declared.model.Model.{Model}
+use Rattle.ts_model.specs.declared.model.Need.{Need}
+use Rattle.ts_model.specs.declared.draft.Draft.{Draft}
+use Rattle.ts_model.specs.declared.error.ModelKind.{ModelKind}
+use Rattle.ts_model.specs.declared.error.LineStop.{LineStop}
+use Rattle.ts_model.specs.declared.error.LineStop.TheVariants.{Bad, NoMemory}
+use Rattle.ts_model.specs.declared.error.ModelStop.{ModelStop}
+use Rattle.ts_model.specs.declared.error.ModelStop.TheVariants.{Refused, Memory}
+use Rattle.ts_model.specs.Statement.{Said, SaysCells, SaysDomain, SaysCell, SaysTerm, SaysRequire, SaysObjective}
+use Rattle.ts_model.specs.Stated.{Stated}
+use Rattle.ts_model.specs.Cells.{domains, IsKept}
+use Rattle.ts_model.specs.ModelReading.{IsModel, IsRefused}
+
+abbrev pub texts : List Word → List (List ℕ)
+texts ws = map (λ w. w.text.now) ws
+
+abbrev pub said : Statement → Said
+said (CellsLine n) = SaysCells n
+said (DomainLine rs) = SaysDomain rs.items.items
+said (CellLine k rs) = SaysCell k rs.items.items
+said (TermLine name parts) = SaysTerm name.now parts
+said (RequireLine name op bound) = SaysRequire name.now op bound
+said (ObjectiveLine name) = SaysObjective name.now
+
+abbrev pub parts_of : Term → TermParts
+parts_of t = record { aggregator = t.aggregator; feature = t.feature; pattern = t.pattern }
+
+abbrev pub term_of : String Global × Term → List ℕ × TermParts
+term_of e = (string_bytes e.0, parts_of e.1)
+
+-- a model as lists
+abbrev pub stated : Model → Stated
+stated m = record {
+  cells = m.cells.items;
+  terms = map term_of m.terms.entries;
+  requirements = m.requirements.items;
+  objective = m.objective;
+}
+
+abbrev pub drafted : Draft → Stated
+drafted d = record {
+  cells = domains d.cells;
+  terms = map term_of d.terms.entries;
+  requirements = d.requirements.items;
+  objective = d.objective;
+}
+
+-- the result is what reading gives, unless memory ran out
+abbrev pub Gives : {X Y : Type 0} → (X → Y) → Result X LineStop → Result Y ModelKind → Type 0
+Gives view (Ok x) read = read ≡ Ok (view x)
+Gives view (Err (Bad k)) read = read ≡ Err k
+Gives view (Err NoMemory) read = Unit {0}
+
+-- a model, or a line with its kind, unless memory ran out
+abbrev pub Reads : Result Model ModelStop → Result Stated (ℕ × ModelKind) → Type 0
+Reads (Ok m) read = read ≡ Ok (stated m)
+Reads (Err (Refused line kind)) read = read ≡ Err (line, kind)
+Reads (Err Memory) read = Unit {0}
+
+-- the same of a draft
+abbrev pub Drafts : Result Draft ModelStop → Result Stated (ℕ × ModelKind) → Type 0
+Drafts (Ok d) read = read ≡ Ok (drafted d)
+Drafts (Err (Refused line kind)) read = read ≡ Err (line, kind)
+Drafts (Err Memory) read = Unit {0}
+
+-- what was told of a text is its reading, unless memory ran out
+abbrev pub Tells : Need → Cut → Result Model ModelStop → Type 0
+Tells need c (Ok m) = IsModel need c (stated m)
+Tells need c (Err (Refused line kind)) = IsRefused need c line kind
+Tells need c (Err Memory) = Unit {0}
+
+-- what is kept beside a draft before the line with this number is read
+pub record IsSound (lists : Bool) (line : ℕ) (d : Draft) : Type 0 where
+  pub cells : IsKept lists line d.cells
+  pub terms : length d.terms.entries ≤ 32
+
+abbrev pub at_line : ℕ → LineStop → ModelStop
+at_line line (Bad kind) = Refused line kind
+at_line line NoMemory = Memory

@@ -1,0 +1,197 @@
+//! The domains of the cells while lines are read.
+
+ghost use Rattle.std.specs.Prelude.{◌≡◌, ◌+◌, ◌*◌, ◌<◌, ◌≤◌, Bool, true, false, [], length, map, set, replicate, nat_lt, get_or, ◌&&◌, IfOk, OnOk, OnSome, IfNone, IfSome, pos};
+ghost use Rattle.std.specs.List.{list_any};
+ghost use Rattle.ts_domain.specs.BoxSeries.{IsBox};
+ghost use Rattle.ts_model.specs.Stated.{is_backward, is_outside, union_of, digits};
+ghost use Rattle.ts_model.specs.Cells.{in_force, domains, IsKept, IsTotal, total_set, within_total};
+ghost use Rattle.ts_model.specs.Views.{Gives};
+
+use crate::error::{LineStop, ModelKind};
+use std::alloc::Global;
+use ts_base::Memory;
+use ts_domain::{Domain, DomainStop, Interval};
+
+/// The domain that a `cell` line gave a cell, and the number of that line.
+#[derive(Drop)]
+pub(crate) struct Own {
+    pub line: usize,
+    pub domain: Domain,
+}
+
+/// The domains of the cells so far. The common one is that of the `cells` line or of the last `domain` line; an own
+/// one is in force where its line came later. So a `domain` line takes the time of its ranges, however many cells
+/// there are, and the copies for the cells are made once, when the text is read.
+#[derive(Drop)]
+pub(crate) struct Cells {
+    pub own: Vec<Option<Own>>,
+    pub common: Domain,
+    pub common_line: usize,
+    /// The number of all values, kept where it has a limit.
+    pub total: u64,
+}
+
+/// How many values all domains have together at most, where that has a limit.
+const ALL_VALUES: u64 = 65_536;
+
+fn lows(alloc: Global, ranges: &[Interval]) -> Result<Vec<i64>, Memory>
+    ensures { IfOk result (λ lows. lows.items ≡ map (λ r. r.low) ranges.now) }
+{
+    let lows = ranges.iter().map(|range| range.low).collect(alloc)?;
+    Ok(lows)
+}
+
+fn highs(alloc: Global, ranges: &[Interval]) -> Result<Vec<i64>, Memory>
+    ensures { IfOk result (λ highs. highs.items ≡ map (λ r. r.high) ranges.now) }
+{
+    let highs = ranges.iter().map(|range| range.high).collect(alloc)?;
+    Ok(highs)
+}
+
+/// The union of ranges, none of them empty or beyond the limits.
+pub(crate) fn union_of(alloc: Global, ranges: &[Interval]) -> Result<Domain, Memory>
+    requires some { 0 < length ranges.now }
+    requires forward { list_any is_backward ranges.now ≡ false }
+    requires inside { list_any is_outside ranges.now ≡ false }
+    ensures { IfOk result (λ d. d ≡ union_of ranges.now) }
+{
+    let lows = lows(alloc, ranges)?;
+    let highs = highs(alloc, ranges)?;
+    match Domain::from_ranges(alloc, &lows, &highs) {
+        Ok(domain) => Ok(domain),
+        Err(DomainStop::Memory) => Err(Memory),
+        Err(DomainStop::Empty) => unreachable!(),
+    }
+}
+
+fn digits(alloc: Global) -> Result<Domain, Memory>
+    ensures { IfOk result (λ d. d ≡ union_of digits) }
+{
+    union_of(alloc, &[Interval { low: 0, high: 9 }])
+}
+
+/// No cell has a domain of its own.
+fn no_own(alloc: Global, count: usize) -> Result<Vec<Option<Own>>, Memory>
+    ensures { IfOk result (λ own. own.items ≡ replicate count None) }
+{
+    let mut own = Vec::new(alloc);
+    for _ in 0..count {
+        own.push(None)?;
+    }
+    Ok(own)
+}
+
+/// The number of all values, where each of `count` domains has `size` values; None where it passes the limit.
+fn total_of_all(lists: bool, count: usize, size: u64) -> Option<u64>
+    ensures none { IfNone result ((lists && nat_lt 65536 (count * size)) ≡ true) }
+    ensures room { OnSome result ((lists && nat_lt 65536 (count * size)) ≡ false) }
+    ensures total { IfSome result (λ total. IsTotal lists total (count * size)) }
+{
+    if !lists {
+        return Some(0);
+    }
+    let total = count as u128 * u128::from(size);
+    if total > u128::from(ALL_VALUES) {
+        return None;
+    }
+    Some(total as u64)
+}
+
+impl Cells {
+    /// So many cells, each with the domain 0..9, by the line with this number.
+    pub(crate) fn new(alloc: Global, count: usize, line: usize) -> Result<Cells, Memory>
+        requires { count ≤ 512 }
+        ensures domains { IfOk result (λ cells. domains cells ≡ replicate count (union_of digits)) }
+        ensures kept { IfOk result (λ cells. (lists : Bool) → IsKept lists (line + 1) cells) }
+    {
+        Ok(Cells {
+            own: no_own(alloc, count)?,
+            common: digits(alloc)?,
+            common_line: line,
+            total: count as u64 * 10,
+        })
+    }
+
+    /// How many cells there are.
+    pub(crate) fn len(&self) -> usize
+        ensures { result ≡ length (domains self.now) }
+    {
+        self.own.len()
+    }
+
+    fn in_force<'a>(&'a self, place: usize) -> &'a Domain
+        requires { place < length (domains self.now) }
+        ensures { result.now ≡ get_or (domains self.now) place [] }
+    {
+        match &self.own[place] {
+            Some(own) if own.line > self.common_line => &own.domain,
+            _ => &self.common,
+        }
+    }
+
+    /// The number of all values, where the domain at a place has `size` values from now on; None where it passes
+    /// the limit.
+    fn total_with(&self, lists: bool, line: usize, place: usize, size: u64) -> Option<u64>
+        requires kept { IsKept lists line self.now }
+        requires there { place < length (domains self.now) }
+        ensures none { IfNone result ((lists && nat_lt 65536 (total_set (domains self.now) place size)) ≡ true) }
+        ensures room { OnSome result ((lists && nat_lt 65536 (total_set (domains self.now) place size)) ≡ false) }
+        ensures total { IfSome result (λ total. IsTotal lists total (total_set (domains self.now) place size)) }
+    {
+        if !lists {
+            return Some(0);
+        }
+        let others = self.total - self.in_force(place).size();
+        let total = u128::from(others) + u128::from(size);
+        if total > u128::from(ALL_VALUES) {
+            return None;
+        }
+        Some(total as u64)
+    }
+
+    /// Every cell has this domain from the line with this number on.
+    pub(crate) fn set_all(&mut self, lists: bool, line: usize, domain: Domain) -> Result<(), LineStop>
+        requires { IsKept lists line self.old }
+        ensures set { Gives (λ _. domains self.new) result (within_total lists (map (λ _. domain) (domains self.old))) }
+        ensures kept { OnOk result (IsKept lists (line + 1) self.new) }
+    {
+        match total_of_all(lists, self.own.len(), domain.size()) {
+            None => Err(LineStop::Bad(ModelKind::Limit)),
+            Some(total) => {
+                self.common = domain;
+                self.common_line = line;
+                self.total = total;
+                Ok(())
+            }
+        }
+    }
+
+    /// The cell at this place has this domain from the line with this number on.
+    pub(crate) fn set_one(&mut self, lists: bool, line: usize, place: usize, domain: Domain) -> Result<(), LineStop>
+        requires kept { IsKept lists line self.old }
+        requires there { place < length (domains self.old) }
+        ensures set { Gives (λ _. domains self.new) result (within_total lists (set (domains self.old) place domain)) }
+        ensures kept { OnOk result (IsKept lists (line + 1) self.new) }
+    {
+        match self.total_with(lists, line, place, domain.size()) {
+            None => Err(LineStop::Bad(ModelKind::Limit)),
+            Some(total) => {
+                self.own[place] = Some(Own { line, domain });
+                self.total = total;
+                Ok(())
+            }
+        }
+    }
+
+    /// The domain of each cell.
+    pub(crate) fn all(&self, alloc: Global) -> Result<Vec<Domain>, Memory>
+        ensures all { IfOk result (λ all. all.items ≡ domains self.now) }
+        ensures boxed { IfOk result (λ all. IsBox all.items) }
+    {
+        let mut all = Vec::new(alloc);
+        for place in 0..self.own.len() {
+            all.push(self.in_force(place).try_clone(alloc)?)?;
+        }
+        Ok(all)
+    }
+}

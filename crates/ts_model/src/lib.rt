@@ -1,0 +1,38 @@
+//! Models and series, read from their texts.
+//!
+//! A model text has one statement a line: how many cells a series has, which values they may take, the terms of
+//! the series (Global Constraint Catalog, Volume II), what is required of their values, and which term is the
+//! objective. `read_model` gives the model that the lines state together, or the first bad line with the first of
+//! fifteen kinds that holds of it; `read_series` gives the numbers of a `series` line. Each is an exact reading:
+//! every text has one answer, want of memory aside. What stands above knows of a model that its numbers of cells
+//! and terms exist and that it keeps the limits of its need.
+//!
+//! A text is read in one pass: a line costs its words, a name is looked up in the map of the terms, and a `domain`
+//! line doesn't touch the cells one by one.
+//!
+//! ```text
+//! let text = b"cells 3\ndomain 0..1\nterm c = count peak\nrequire c >= 1\nobjective c\n";
+//! let model = read_model(alloc, &cut_tokens(alloc, text)?, Need::Best)?;
+//! satisfies(model.requirements[0].op, model.requirements[0].bound, Ext::Int(1)) // true
+//! ```
+#![tactic(auto)]
+
+pub mod cells;
+pub mod draft;
+pub mod error;
+pub mod model;
+pub mod names;
+pub mod parse;
+pub mod read;
+pub mod series;
+pub mod statement;
+pub mod take;
+pub mod words;
+
+pub use error::{ModelKind, ModelStop, SeriesStop};
+pub use model::{Model, Need, Op, Require, satisfies};
+pub use read::{one_reading, read_model, reading_is_first};
+pub use series::read_series;
+
+#[cfg(test)]
+mod tests;

@@ -1,0 +1,148 @@
+//! The model of a text, or the first bad line with the first kind that holds of it.
+
+ghost use Rattle.std.specs.Prelude.{◌≡◌, ℕ, ◌+◌, ◌<◌, ◌≤◌, Bool, Result, length, vec_len, IfOk, OnOk};
+ghost use Rattle.ts_token.specs.Text.{Cut};
+ghost use Rattle.ts_model.specs.declared.model.Need.{Need};
+ghost use Rattle.ts_model.specs.declared.error.ModelKind.{ModelKind};
+ghost use Rattle.ts_domain.specs.BoxSeries.{IsBox};
+ghost use Rattle.ts_token.specs.Views.{rows, cut};
+ghost use Rattle.ts_model.specs.Stated.{Stated, nothing};
+ghost use Rattle.ts_model.specs.ModelReading.{needs_lists, needs_objective, IsReading, line_gives, read_rows, reading};
+ghost use Rattle.ts_model.specs.Promise.{IsWhole, KeepsLimits};
+ghost use Rattle.ts_model.specs.Views.{texts, stated, drafted, IsSound, Gives, Drafts, Reads, Tells};
+
+use crate::draft::Draft;
+use crate::error::{LineStop, ModelKind, ModelStop, at_line};
+use crate::model::{Model, Need};
+use crate::cells::Cells;
+use crate::parse::parse;
+use crate::take::take;
+use indexmap::IndexMap;
+use std::alloc::Global;
+use ts_base::Memory;
+use ts_token::{Line, Tokens, Word};
+
+/// What the line with this number, counted from 1 among those with words, adds to the draft.
+fn take_line(alloc: Global, draft: &mut Draft, lists: bool, line: usize, words: &[Word]) -> Result<(), LineStop>
+    requires { IsSound lists line draft.old }
+    ensures taken { Gives (λ _. drafted draft.new) result (line_gives lists (drafted draft.old) (texts words.now)) }
+    ensures sound { OnOk result (IsSound lists (line + 1) draft.new) }
+{
+    let statement = parse(alloc, words)?;
+    take(alloc, draft, lists, line, statement)
+}
+
+fn empty_draft(alloc: Global) -> Result<Draft, Memory>
+    ensures empty { IfOk result (λ draft. drafted draft ≡ nothing) }
+    ensures sound { IfOk result (λ draft. (lists : Bool) → IsSound lists 1 draft) }
+{
+    Ok(Draft {
+        cells: Cells::new(alloc, 0, 0)?,
+        terms: IndexMap::new(alloc),
+        requirements: Vec::new(alloc),
+        objective: None,
+    })
+}
+
+fn take_lines(alloc: Global, lists: bool, lines: &[Line]) -> Result<Draft, ModelStop>
+    ensures rows { Drafts result (read_rows lists nothing (rows lines.now)) }
+    ensures few { IfOk result (λ draft. length draft.cells.own.items ≤ 512) }
+{
+    let mut draft = empty_draft(alloc)?;
+    for (place, line) in lines.iter().enumerate() {
+        match take_line(alloc, &mut draft, lists, place + 1, &line.words) {
+            Ok(()) => {}
+            Err(stop) => return Err(at_line(line.number, stop)),
+        }
+    }
+    Ok(draft)
+}
+
+fn needs_lists(need: Need) -> bool
+    ensures { result ≡ needs_lists need }
+{
+    need != Need::Values
+}
+
+fn needs_objective(need: Need) -> bool
+    ensures { result ≡ needs_objective need }
+{
+    need == Need::Best
+}
+
+fn read_draft(alloc: Global, tokens: &Tokens, need: Need) -> Result<Draft, ModelStop>
+    requires { tokens.now.count < 4000000000 }
+    ensures reading { Drafts result (reading need (cut tokens.now)) }
+    ensures few { IfOk result (λ draft. length draft.cells.own.items ≤ 512) }
+{
+    let draft = take_lines(alloc, needs_lists(need), &tokens.lines)?;
+    if let Some(line) = tokens.not_text {
+        return Err(ModelStop::Refused {
+            line,
+            kind: ModelKind::NotText,
+        });
+    }
+    if draft.cells.len() == 0 {
+        return Err(ModelStop::Refused {
+            line: tokens.count + 1,
+            kind: ModelKind::NoCells,
+        });
+    }
+    if needs_objective(need) && draft.objective.is_none() {
+        return Err(ModelStop::Refused {
+            line: tokens.count + 1,
+            kind: ModelKind::NoObjective,
+        });
+    }
+    Ok(draft)
+}
+
+/// The model of a draft, each cell with a copy of its domain.
+fn model_of(alloc: Global, draft: Draft) -> Result<Model, Memory>
+    requires { length draft.cells.own.items ≤ 512 }
+    ensures same { IfOk result (λ m. stated m ≡ drafted draft) }
+    ensures counted { IfOk result (λ m. m.n ≡ vec_len m.cells) }
+    ensures boxed { IfOk result (λ m. IsBox m.cells.items) }
+{
+    let cells = draft.cells.all(alloc)?;
+    Ok(Model {
+        n: cells.len() as u32,
+        cells,
+        terms: draft.terms,
+        requirements: draft.requirements,
+        objective: draft.objective,
+    })
+}
+
+fn read_counted(alloc: Global, tokens: &Tokens, need: Need) -> Result<Model, ModelStop>
+    requires { tokens.now.count < 4000000000 }
+    ensures exact { Reads result (reading need (cut tokens.now)) }
+    ensures counted { IfOk result (λ m. m.n ≡ vec_len m.cells) }
+    ensures boxed { IfOk result (λ m. IsBox m.cells.items) }
+{
+    let draft = read_draft(alloc, tokens, need)?;
+    let model = model_of(alloc, draft)?;
+    Ok(model)
+}
+
+/// The model that a text states, in the limits of the need, or its first bad line, counted from 1, with the first
+/// kind that holds of it; a missing `cells` line or objective is told at the number of the lines plus 1.
+pub fn read_model(alloc: Global, tokens: &Tokens<'_>, need: Need) -> Result<Model, ModelStop>
+    requires { tokens.now.count < 4000000000 }
+    ensures exact { Reads result (reading need (cut tokens.now)) }
+    ensures first { Tells need (cut tokens.now) result }
+    ensures whole { IfOk result IsWhole }
+    ensures limits { IfOk result (KeepsLimits need) }
+{
+    read_counted(alloc, tokens, need)
+}
+
+/// The reading is the model that the lines state, or the first bad line with the first kind that holds of it.
+pub fn reading_is_first()
+    ensures { (need : Need) (c : Cut) → IsReading need c (reading need c) }
+{}
+
+/// A text has one reading.
+pub fn one_reading()
+    ensures { (need : Need) (c : Cut) (r s : Result Stated (ℕ × ModelKind)) → IsReading need c r → IsReading need c s → r ≡ s }
+{}

@@ -1,0 +1,191 @@
+//! Single words of a model text: first words, comparisons, names, bounds and ranges.
+
+ghost use Rattle.std.specs.Prelude.{◌≡◌, ◌<◌, true, false, length, MatchOption};
+ghost use Rattle.std.specs.List.{list_all, position};
+ghost use Rattle.ts_token.specs.Number.{number_of};
+ghost use Rattle.ts_model.specs.Words.{form_of, op_of, is_equals, is_count, is_letter, is_name_byte, is_name, bound_of, made_range, is_dot, range_of};
+ghost use Rattle.ts_model.specs.Statement.{word_at};
+ghost use Rattle.ts_model.specs.Views.{texts};
+
+use crate::model::Op;
+use std::str::from_utf8;
+use ts_base::Ext;
+use ts_domain::Interval;
+use ts_token::{Word, number};
+
+/// The form of a line, told by its first word.
+#[derive(Clone, Copy, Debug, PartialEq, Eq)]
+pub(crate) enum Form {
+    Cells,
+    Domain,
+    Cell,
+    Term,
+    Require,
+    Objective,
+}
+
+#[tactic(auto, unfolding(crate::specs::Words::form_of))]
+pub(crate) fn form_of(word: &[u8]) -> Option<Form>
+    ensures { result ≡ form_of word.now }
+{
+    if word == b"cells".as_slice() {
+        Some(Form::Cells)
+    } else if word == b"domain".as_slice() {
+        Some(Form::Domain)
+    } else if word == b"cell".as_slice() {
+        Some(Form::Cell)
+    } else if word == b"term".as_slice() {
+        Some(Form::Term)
+    } else if word == b"require".as_slice() {
+        Some(Form::Require)
+    } else if word == b"objective".as_slice() {
+        Some(Form::Objective)
+    } else {
+        None
+    }
+}
+
+#[tactic(auto, unfolding(crate::specs::Words::op_of))]
+pub(crate) fn op_of(word: &[u8]) -> Option<Op>
+    ensures { result ≡ op_of word.now }
+{
+    if word == b"=".as_slice() {
+        Some(Op::Equal)
+    } else if word == b"!=".as_slice() {
+        Some(Op::Unequal)
+    } else if word == b"<=".as_slice() {
+        Some(Op::AtMost)
+    } else if word == b">=".as_slice() {
+        Some(Op::AtLeast)
+    } else if word == b"<".as_slice() {
+        Some(Op::Below)
+    } else if word == b">".as_slice() {
+        Some(Op::Above)
+    } else {
+        None
+    }
+}
+
+#[tactic(auto, unfolding(crate::specs::Words::is_equals))]
+pub(crate) fn is_equals(word: &[u8]) -> bool
+    ensures { result ≡ is_equals word.now }
+{
+    word == b"=".as_slice()
+}
+
+#[tactic(auto, unfolding(crate::specs::Words::is_count))]
+pub(crate) fn is_count(word: &[u8]) -> bool
+    ensures { result ≡ is_count word.now }
+{
+    word == b"count".as_slice()
+}
+
+#[tactic(auto, unfolding(crate::specs::Words::is_letter))]
+fn is_letter(b: u8) -> bool
+    ensures { result ≡ is_letter b }
+{
+    b >= b'a' && b <= b'z'
+}
+
+#[tactic(auto, unfolding(crate::specs::Words::is_name_byte))]
+fn is_name_byte(b: u8) -> bool
+    ensures { result ≡ is_name_byte b }
+{
+    is_letter(b) || b >= b'0' && b <= b'9' || b == b'_'
+}
+
+fn are_name_bytes(bytes: &[u8]) -> bool
+    ensures { result ≡ list_all is_name_byte bytes.now }
+{
+    bytes.iter().all(|b| is_name_byte(*b))
+}
+
+#[tactic(auto, unfolding(crate::specs::Words::is_name))]
+fn is_name(word: &[u8]) -> bool
+    ensures { result ≡ is_name word.now }
+{
+    match word.split_first() {
+        None => false,
+        Some((b, rest)) => is_letter(*b) && are_name_bytes(rest) && rest.len() <= 31,
+    }
+}
+
+/// The word as a name, if it is one.
+#[tactic(auto, using(crate::proofs::AsciiNames::name_is_text))]
+pub(crate) fn name_of<'a>(word: &'a [u8]) -> Option<&'a str>
+    ensures { MatchOption result (is_name word.now ≡ false) (λ name. (is_name word.now ≡ true) × (name.now ≡ word.now)) }
+{
+    if !is_name(word) {
+        return None;
+    }
+    match from_utf8(word) {
+        Ok(name) => Some(name),
+        Err(_) => None,
+    }
+}
+
+#[tactic(auto, unfolding(crate::specs::Words::bound_of))]
+pub(crate) fn bound_of(word: &[u8]) -> Option<Ext>
+    ensures { result ≡ bound_of word.now }
+{
+    if word == b"-inf".as_slice() {
+        Some(Ext::NegInf)
+    } else if word == b"+inf".as_slice() {
+        Some(Ext::PosInf)
+    } else {
+        number(word).map(Ext::Int)
+    }
+}
+
+fn dot_at(word: &[u8]) -> Option<usize>
+    ensures { result ≡ position is_dot word.now }
+{
+    word.iter().position(|b| *b == b'.')
+}
+
+fn made_range(low: Option<i64>, high: Option<i64>) -> Option<Interval>
+    ensures { result ≡ made_range low high }
+{
+    match (low, high) {
+        (Some(low), Some(high)) => Some(Interval { low, high }),
+        _ => None,
+    }
+}
+
+/// The range that the word is: a number, or two numbers with `..` between them.
+#[tactic(auto, unfolding(crate::specs::Words::range_of))]
+pub(crate) fn range_of(word: &[u8]) -> Option<Interval>
+    ensures { result ≡ range_of word.now }
+{
+    match dot_at(word) {
+        None => made_range(number(word), number(word)),
+        Some(n) => {
+            let rest = &word[n + 1..];
+            if rest.is_empty() || rest[0] != b'.' {
+                return None;
+            }
+            made_range(number(&word[..n]), number(&word[n + 2..]))
+        }
+    }
+}
+
+pub(crate) fn word_count(words: &[Word]) -> usize
+    ensures { result ≡ length (texts words.now) }
+{
+    words.len()
+}
+
+pub(crate) fn text_at<'a>(words: &[Word<'a>], k: usize) -> &'a [u8]
+    requires { k < length (texts words.now) }
+    ensures { result.now ≡ word_at (texts words.now) k }
+{
+    words[k].text
+}
+
+/// The number that the word at a place is.
+pub(crate) fn number_at(words: &[Word], k: usize) -> Option<i64>
+    requires { k < length (texts words.now) }
+    ensures { result ≡ number_of (word_at (texts words.now) k) }
+{
+    number(text_at(words, k))
+}
