@@ -1,5 +1,0 @@
-pub mod Valid
-pub mod Numbers
-pub mod Facts
-pub mod Looks
-pub mod Reaches

@@ -1,8 +1,0 @@
-//! Transducers against patterns.
-#![tactic(auto)]
-
-pub mod arrival;
-pub mod facts;
-pub mod known;
-pub mod step;
-pub mod tags;
