@@ -13,3 +13,4 @@ pub mod Numbering
 pub mod Transfer
 pub mod Values
 pub mod Seeing
+pub mod Tours

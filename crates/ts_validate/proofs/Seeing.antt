@@ -235,3 +235,12 @@ sees_at rows p b rs cs table f t i d here q e l k n m =
     (sees rows p b rs xs g x (numbers_at rs xs i g.numbers short) l k
       (n ∙ ap (λ z. next_place z (numbered rows z b xs) (plain_configuration here) l) t ∙ ap (λ z. next_place (knowns rs) (numbered rows (knowns rs) b xs) z l) is)
       (m ∙ ap (λ z. number_meets z (numbered rows z b xs) (plain_configuration here) l) t ∙ ap (λ z. number_meets (knowns rs) (numbered rows (knowns rs) b xs) z l) is))
+
+pub sees_plan : (rows : List Row) (p : Shape) (b : ℕ) (rs : List Shape) (slice cs : List Configuration) (table : List Known) → slice ≡ cs → is_plan_of p (plan_of rs (map (λ x. plain_configuration x) cs)) ≡ true → table ≡ knowns rs →
+    (i : ℕ) (here : Configuration) → i < length cs → here ≡ get_or slice i here → (l : Letter) (k : Look) →
+    k.next ≡ next_place table (numbered rows table b (map (λ x. plain_configuration x) slice)) (plain_configuration here) l →
+    k.meets ≡ number_meets table (numbered rows table b (map (λ x. plain_configuration x) slice)) (plain_configuration here) l →
+    Sees (subject rows p b (plan_of rs (map (λ x. plain_configuration x) cs))) (value_at (subject rows p b (plan_of rs (map (λ x. plain_configuration x) cs))) i) l k
+sees_plan rows p b rs slice cs table e f t i here q g l k n m =
+    subst (λ z. Sees (subject rows p b (plan_of rs (map (λ x. plain_configuration x) z))) (value_at (subject rows p b (plan_of rs (map (λ x. plain_configuration x) z))) i) l k) e
+    (sees_at rows p b rs slice table (subst (λ z. is_plan_of p (plan_of rs (map (λ x. plain_configuration x) z)) ≡ true) (sym e) f) t i here here (subst (λ z. i < length z) (sym e) q) g l k n m)

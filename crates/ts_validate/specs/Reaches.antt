@@ -1,9 +1,13 @@
 -- What a search for the reached configurations of a plan has found: each arrival, and at each number the place of its
 -- arrival.
-use Rattle.std.specs.Prelude.{◌≡◌, ℕ, zero, suc, ◌+◌, ◌<◌, Bool, true, false, List, [], ◌∷◌, ◌++◌, Option, None, Some, length}
+use Rattle.std.specs.Prelude.{◌≡◌, ℕ, zero, suc, ◌+◌, ◌<◌, Bool, true, false, List, [], ◌∷◌, ◌++◌, Option, None, Some, length, slice_index_or}
 use Rattle.ts_base.specs.declared.letter.Letter.{Letter}
 use Rattle.ts_base.specs.declared.letter.Letter.TheVariants.{Less, Equal, Greater}
-use Rattle.ts_regex.specs.Shape.{Shape}
+use Rattle.ts_regex.specs.Shape.{Shape, shape_of}
+use Rattle.ts_transducer.specs.declared.row.Row.{Row}
+use Rattle.ts_pattern.specs.declared.pattern.Pattern.{Pattern}
+use Rattle.ts_pattern.specs.declared.plan.Plan.{Plan}
+use Rattle.ts_pattern.specs.Plans.{plain_plan, subject}
 use Rattle.ts_pattern.specs.Closed.{PlainConfiguration, Subject, stepped, step_listed, meets_checks}
 use Rattle.ts_validate.specs.declared.step.Look.{Look}
 use Rattle.ts_validate.specs.declared.arrival.Arrival.{Arrival}
@@ -17,6 +21,10 @@ configuration_at (x ∷ xs) (suc i) = configuration_at xs i
 abbrev pub value_at : Subject Shape → ℕ → PlainConfiguration Shape
 value_at s i = configuration_at s.configurations i
 
+-- a pattern and a plan against a transducer's rows
+abbrev pub against : List Row → Pattern → Plan → Subject Shape
+against rows p plan = subject rows (shape_of p.regex) p.b (plain_plan plan)
+
 -- i is the least number of x
 abbrev pub IsFirst : Subject Shape → PlainConfiguration Shape → ℕ → Type 0
 IsFirst s x i = (i < length s.configurations) × (value_at s i ≡ x) × ((j : ℕ) → j < i → value_at s j ≡ x → ⊥)
@@ -27,15 +35,12 @@ pub record Sees (s : Subject Shape) (x : PlainConfiguration Shape) (l : Letter) 
   pub some : (j : ℕ) → k.next ≡ Some j → (step_listed s x l ≡ true) × IsFirst s (stepped s x l) j
   pub meets : k.meets ≡ meets_checks s x l
 
+-- arrival k, and the place at number c
 abbrev pub arrived : List Arrival → ℕ → Arrival
-arrived [] k = record { configuration = 0; from = 0; letter = Less }
-arrived (a ∷ arrivals) zero = a
-arrived (a ∷ arrivals) (suc k) = arrived arrivals k
+arrived arrivals k = slice_index_or arrivals k (record { configuration = 0; from = 0; letter = Less })
 
 abbrev pub place_at : List (Option ℕ) → ℕ → Option ℕ
-place_at [] c = None
-place_at (o ∷ places) zero = o
-place_at (o ∷ places) (suc c) = place_at places c
+place_at places c = slice_index_or places c None
 
 -- how many places are none
 abbrev pub open_places : List (Option ℕ) → ℕ
@@ -72,6 +77,10 @@ Follows s arrivals k l =
 -- the steps of the first arrivals have all arrived
 abbrev pub Followed : Subject Shape → List Arrival → ℕ → Type 0
 Followed s arrivals done = (k : ℕ) → k < done → (l : Letter) → Follows s arrivals k l
+
+-- what was there stays in its place
+abbrev pub Grows : List Arrival → List Arrival → Type 0
+Grows old new = (more : List Arrival) × (new ≡ old ++ more)
 
 -- the letters from the start to arrival k
 pub data IsPath (arrivals : List Arrival) : ℕ → List Letter → Type 0 where
