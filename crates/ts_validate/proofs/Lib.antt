@@ -14,3 +14,4 @@ pub mod Transfer
 pub mod Values
 pub mod Seeing
 pub mod Tours
+pub mod Failing

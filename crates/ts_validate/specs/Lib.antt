@@ -3,3 +3,5 @@ pub mod Numbers
 pub mod Facts
 pub mod Looks
 pub mod Reaches
+pub mod Refusals
+pub mod FirstFalse

@@ -100,3 +100,7 @@ MeetsBefore s i Greater = (meets_checks s (value_at s i) Less ≡ true) × (meet
 -- l is the first letter on which a check of configuration i fails
 abbrev pub FailsFirst : Subject Shape → ℕ → Letter → Type 0
 FailsFirst s i l = (meets_checks s (value_at s i) l ≡ false) × MeetsBefore s i l
+
+-- the checks hold at each configuration below n that has arrived
+abbrev pub AllMeetBelow : Subject Shape → List (Option ℕ) → ℕ → Type 0
+AllMeetBelow s places n = (c k : ℕ) → c < n → place_at places c ≡ Some k → AllMeet s c

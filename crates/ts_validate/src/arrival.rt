@@ -14,7 +14,7 @@ ghost use Rattle.ts_base.specs.declared.letter.Letter.{Letter};
 ghost use Rattle.ts_regex.specs.Shape.{shape_of};
 ghost use Rattle.ts_pattern.specs.Plans.{plain_plan, is_plan_of};
 ghost use Rattle.ts_validate.specs.Numbers.{knowns};
-ghost use Rattle.ts_validate.specs.Reaches.{against, value_at, Sees, arrived, place_at, Reaches, Follows, Followed, Grows};
+ghost use Rattle.ts_validate.specs.Reaches.{against, value_at, Sees, arrived, place_at, Reaches, Follows, Followed, Grows, IsPath};
 
 /// A configuration, and the arrival from which it was reached on a letter; the first one has none.
 #[derive(Clone, Copy, Debug, PartialEq, Eq)]
@@ -69,7 +69,8 @@ impl Tour {
         Ok(Tour { arrivals, places })
     }
 
-    fn place(&self, c: usize) -> Option<usize>
+    /// The place of the arrival at configuration `c`, if it was reached.
+    pub fn place(&self, c: usize) -> Option<usize>
         requires { c < length self.now.places.items }
         ensures { result ≡ place_at self.now.places.items c }
     {
@@ -130,4 +131,65 @@ impl Tour {
             },
         }
     }
+
+    /// Takes the steps of an arrival on all letters.
+    fn expand_all(
+        &mut self,
+        alloc: Global,
+        rows: &[Row],
+        p: &Pattern,
+        plan: &Plan,
+        table: &[Known],
+        from: usize,
+    ) -> Result<(), Memory>
+        requires fits { IsTrue (is_plan_of (shape_of p.now.regex) (plain_plan plan.now)) }
+        requires known { table.now ≡ knowns (plain_plan plan.now).residuals }
+        requires reaches { Reaches (against rows.now p.now plan.now) self.old.arrivals.items self.old.places.items }
+        requires there { from < length self.old.arrivals.items }
+        ensures reaches { IfOk result (λ _. Reaches (against rows.now p.now plan.now) self.new.arrivals.items self.new.places.items) }
+        ensures grows { IfOk result (λ _. Grows self.old.arrivals.items self.new.arrivals.items) }
+        ensures follows { IfOk result (λ _. (l : Letter) → Follows (against rows.now p.now plan.now) self.new.arrivals.items from l) }
+    {
+        self.expand(alloc, rows, p, plan, table, from, Letter::Less)?;
+        self.expand(alloc, rows, p, plan, table, from, Letter::Equal)?;
+        self.expand(alloc, rows, p, plan, table, from, Letter::Greater)?;
+        Ok(())
+    }
+
+    /// The letters from the start to an arrival.
+    pub fn signature(&self, alloc: Global, k: usize) -> Result<Vec<Letter>, Memory>
+        requires there { k < length self.now.arrivals.items }
+        requires back { (j : ℕ) → 0 < j → j < length self.now.arrivals.items → (arrived self.now.arrivals.items j).from < j }
+        ensures { IfOk result (λ w. IsPath self.now.arrivals.items k w.items) }
+    {
+        if k == 0 {
+            return Ok(Vec::new(alloc));
+        }
+        let last = self.arrival(k);
+        let mut signature = self.signature(alloc, last.from)?;
+        signature.push(last.letter)?;
+        Ok(signature)
+    }
+}
+
+/// All configurations that are reached, by listed steps from the first.
+pub fn reach(
+    alloc: Global,
+    rows: &[Row],
+    p: &Pattern,
+    plan: &Plan,
+    table: &[Known],
+) -> Result<Tour, Memory>
+    requires fits { IsTrue (is_plan_of (shape_of p.now.regex) (plain_plan plan.now)) }
+    requires known { table.now ≡ knowns (plain_plan plan.now).residuals }
+    ensures reaches { IfOk result (λ t. Reaches (against rows.now p.now plan.now) t.arrivals.items t.places.items) }
+    ensures followed { IfOk result (λ t. Followed (against rows.now p.now plan.now) t.arrivals.items (length t.arrivals.items)) }
+{
+    let mut tour = Tour::start(alloc, plan.configurations.len())?;
+    let mut done = 0;
+    while done < tour.arrivals.len() {
+        tour.expand_all(alloc, rows, p, plan, table, done)?;
+        done += 1;
+    }
+    Ok(tour)
 }

@@ -3,6 +3,8 @@
 
 pub mod arrival;
 pub mod facts;
+pub mod failure;
 pub mod known;
 pub mod step;
+pub mod stop;
 pub mod tags;
