@@ -15,3 +15,4 @@ pub mod Values
 pub mod Seeing
 pub mod Tours
 pub mod Failing
+pub mod Verdict

@@ -5,3 +5,4 @@ pub mod Looks
 pub mod Reaches
 pub mod Refusals
 pub mod FirstFalse
+pub mod Validations

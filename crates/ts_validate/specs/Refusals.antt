@@ -19,7 +19,7 @@ pub record IsRefusal (s : Subject Shape) (configuration : ℕ) (letter : Letter)
   pub leads : LeadsTo s signature (value_at s configuration)
   pub fails : FailsFirst s configuration letter
   pub least : (i : ℕ) → i < configuration → Reached s (value_at s i) → AllMeet s i
-  pub open : IsClosed s → ⊥
+  pub refutes : IsClosed s → ⊥
 
 abbrev pub IsStop : Subject Shape → ValidateStop → Type 0
 IsStop s (Refused configuration letter signature) = IsRefusal s configuration letter signature.items

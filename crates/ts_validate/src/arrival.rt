@@ -185,7 +185,8 @@ pub fn reach(
     ensures reaches { IfOk result (λ t. Reaches (against rows.now p.now plan.now) t.arrivals.items t.places.items) }
     ensures followed { IfOk result (λ t. Followed (against rows.now p.now plan.now) t.arrivals.items (length t.arrivals.items)) }
 {
-    let mut tour = Tour::start(alloc, plan.configurations.len())?;
+    let configurations = plan.configurations.as_slice();
+    let mut tour = Tour::start(alloc, configurations.len())?;
     let mut done = 0;
     while done < tour.arrivals.len() {
         tour.expand_all(alloc, rows, p, plan, table, done)?;

@@ -101,9 +101,11 @@ pub fn first_failure(
     requires size { length tour.now.places.items ≡ length plan.now.configurations.items }
     ensures { IfOk result (λ o. MatchOption o (AllMeetBelow (against rows.now p.now plan.now) tour.now.places.items (length tour.now.places.items)) (λ f. (f.configuration < length tour.now.places.items) × (place_at tour.now.places.items f.configuration ≡ Some f.place) × FailsFirst (against rows.now p.now plan.now) f.configuration f.letter × AllMeetBelow (against rows.now p.now plan.now) tour.now.places.items f.configuration)) }
 {
-    for i in 0..plan.configurations.len() {
-        if let Some(failure) = failure_at(alloc, rows, p, plan, table, tour, i)? {
-            return Ok(Some(failure));
+    let configurations = plan.configurations.as_slice();
+    for i in 0..configurations.len() {
+        match failure_at(alloc, rows, p, plan, table, tour, i)? {
+            Some(failure) => return Ok(Some(failure)),
+            None => {}
         }
     }
     Ok(None)

@@ -8,3 +8,4 @@ pub mod known;
 pub mod step;
 pub mod stop;
 pub mod tags;
+pub mod validate;

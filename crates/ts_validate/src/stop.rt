@@ -21,7 +21,9 @@ pub enum ValidateStop {
 }
 
 impl From<NoMemory> for ValidateStop {
-    ghost from_gives = { λ _ e. e ≡ ValidateStop.Memory };
+    ghost use Rattle.ts_validate.specs.declared.stop.ValidateStop.TheVariants.{Memory as OutOfMemory};
+
+    ghost from_gives = { λ _ e. e ≡ OutOfMemory };
 
     fn from(_error: NoMemory) -> ValidateStop {
         ValidateStop::Memory
