@@ -16,3 +16,4 @@ pub mod Seeing
 pub mod Tours
 pub mod Failing
 pub mod Verdict
+pub mod Made

@@ -1,5 +1,5 @@
 -- How the tour of the reached configurations grows.
-use Rattle.std.specs.Prelude.{◌≡◌, ◌⊎◌, ℕ, zero, suc, ◌+◌, ◌<◌, ◌≤◌, nat_lt, Bool, true, false, ◌&&◌, List, [], ◌∷◌, ◌++◌, Option, None, Some, map, length, get_or, set, replicate, refl}
+use Rattle.std.specs.Prelude.{◌≡◌, ◌⊎◌, ℕ, zero, suc, ◌+◌, ◌<◌, ◌≤◌, nat_lt, Bool, true, false, ◌&&◌, List, [], ◌∷◌, ◌++◌, Option, None, Some, MatchOption, map, length, get_or, set, replicate, refl}
 use Rattle.std.proofs.Common.{sym, ◌∙◌, ap, subst, inl, inr, arith, ⊎_elim, length-append, append_assoc}
 use Rattle.std.proofs.Math.Nat.{eq-or-lt_of_le}
 use Rattle.std.proofs.lemmas.Bool.Decides.{eqb_tells}
@@ -16,7 +16,7 @@ use Rattle.ts_pattern.specs.Plans.{plain_plan, plain_configuration, valued, is_b
 use Rattle.ts_pattern.specs.Closed.{PlainConfiguration, Subject, first_passes, stepped, step_listed}
 use Rattle.ts_validate.specs.declared.step.Look.{Look}
 use Rattle.ts_validate.specs.declared.arrival.Arrival.{Arrival}
-use Rattle.ts_validate.specs.Reaches.{against, value_at, value_of, IsFirst, Sees, arrived, place_at, open_places, GoesOn, Reaches, Follows, Followed, Grows}
+use Rattle.ts_validate.specs.Reaches.{against, value_at, value_of, IsFirst, Sees, arrived, place_at, open_places, GoesOn, Reaches, Follows, Followed, Grows, IsPath, PathOn}
 use Rattle.ts_validate.proofs.Keeps.{differs, both_true, none_some}
 
 -- lists
@@ -81,7 +81,7 @@ start_count n q = fewer_open (replicate n None) 0 0 (subst (λ z. 0 < z) (sym (r
 pub started : (s : Subject Shape) (n : ℕ) (arrivals : List Arrival) (places : List (Option ℕ)) → n ≡ length s.configurations → 0 < n → arrivals ≡ record { configuration = 0; from = 0; letter = Less } ∷ [] → places ≡ set (replicate n None) 0 (Some 0) → Reaches s arrivals places
 started s n arrivals places e q a o =
     let only : Arrival = record { configuration = 0; from = 0; letter = Less } in
-    let size : length (set (replicate n None) 0 (Some 0)) ≡ n = set_size (replicate n None) 0 (Some 0) ∙ replicated n in
+    let size : length (set (replicate {A = Option ℕ} n None) 0 (Some 0)) ≡ n = set_size (replicate n None) 0 (Some 0) ∙ replicated n in
     let room : 0 < length (replicate {A = Option ℕ} n None) = (let r = replicated n in omega arith) in
     subst (λ z. Reaches s z places) (sym a) (subst (λ z. Reaches s (only ∷ []) z) (sym o) (record {
       size = size ∙ e;
@@ -252,3 +252,19 @@ started_plan rows p plan n arrivals places f e a o =
 -- a tour never has more arrivals than there are configurations
 pub few_arrivals : (rows : List Row) (p : Pattern) (plan : Plan) (xs : List Arrival) (os : List (Option ℕ)) → Reaches (against rows p plan) xs os → length xs ≤ length plan.configurations.items
 few_arrivals rows p plan xs os h = let c = h.count in let z = h.size in let n = plan_size rows p plan in omega arith
+
+-- one letter more on a path
+pub path_on : (xs : List Arrival) (k : ℕ) (v w : List Letter) (last : Arrival) → last ≡ arrived xs k → 0 < k → IsPath xs last.from v → w ≡ v ++ last.letter ∷ [] → IsPath xs k w
+path_on xs k v w last e q g u =
+    PathOn k v w q (subst (λ (z : Arrival). IsPath xs z.from v) e g) (u ∙ ap (λ (z : Arrival). v ++ z.letter ∷ []) e)
+
+pub match_none : {A : Type 0} (o : Option A) (P : Type 0) (Q : A → Type 0) → MatchOption o P Q → o ≡ None → P
+match_none None P Q m q = m
+match_none (Some x) P Q m q = absurd (none_some x (sym q))
+
+pub match_some : {A : Type 0} (o : Option A) (P : Type 0) (Q : A → Type 0) (x : A) → MatchOption o P Q → o ≡ Some x → Q x
+match_some None P Q x m q = absurd (none_some x q)
+match_some {A} (Some y) P Q x m q = subst (λ z. Q z) (same x y q) m
+  where
+    same : (x y : A) → Some y ≡ Some x → y ≡ x
+    same x y q = cc

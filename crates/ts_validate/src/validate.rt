@@ -10,6 +10,7 @@ use crate::arrival::reach;
 use crate::failure::first_failure;
 use crate::known::know_all;
 use crate::stop::ValidateStop;
+use crate::validated::Validated;
 
 ghost use Rattle.std.specs.Prelude.{◌≡◌, ◌<◌, IsTrue, IfOk, IfErr, OnOk, length};
 ghost use Rattle.ts_regex.specs.Shape.{shape_of};
@@ -18,34 +19,8 @@ ghost use Rattle.ts_pattern.specs.Closed.{IsClosed};
 ghost use Rattle.ts_pattern.specs.Plans.{plain_plan, is_plan_of};
 ghost use Rattle.ts_validate.specs.Valid.{IsValid};
 ghost use Rattle.ts_validate.specs.Reaches.{against};
+ghost use Rattle.ts_validate.specs.Validations.{transducer_of, pattern_of};
 ghost use Rattle.ts_validate.specs.Refusals.{IsStop};
-
-/// A transducer and a pattern: for every signature the ranges that it decodes are the e-ranges of the occurrences
-/// of the pattern.
-#[derive(Drop)]
-pub struct Validated {
-    transducer: Transducer,
-    pattern: Pattern,
-    ghost valid: { IsValid (rows_of transducer) (shape_of pattern.regex) pattern.b pattern.a },
-}
-
-impl Validated {
-    ghost use Rattle.ts_validate.specs.Validations.{transducer_of, pattern_of};
-
-    /// The transducer.
-    pub fn transducer(&self) -> &Transducer
-        ensures { result.now ≡ transducer_of self.now }
-    {
-        &self.transducer
-    }
-
-    /// The pattern that it was validated against.
-    pub fn pattern(&self) -> &Pattern
-        ensures { result.now ≡ pattern_of self.now }
-    {
-        &self.pattern
-    }
-}
 
 /// Whether each reached configuration of the plan meets the checks.
 fn check(alloc: Global, rows: &[Row], p: &Pattern, plan: &Plan) -> Result<(), ValidateStop>
@@ -69,4 +44,44 @@ fn check(alloc: Global, rows: &[Row], p: &Pattern, plan: &Plan) -> Result<(), Va
             })
         }
     }
+}
+
+fn copied(alloc: Global, p: &Pattern) -> Result<Pattern, Memory>
+    ensures regex { IfOk result (λ q. shape_of q.regex ≡ shape_of p.now.regex) }
+    ensures b { IfOk result (λ q. q.b ≡ p.now.b) }
+    ensures a { IfOk result (λ q. q.a ≡ p.now.a) }
+{
+    Ok(Pattern {
+        regex: p.regex.copy(alloc)?,
+        b: p.b,
+        a: p.a,
+    })
+}
+
+/// The transducer as one that finds the occurrences of the pattern. Ok exactly where each configuration of the
+/// plan that is reached meets the six checks of Closed on each letter; else `Refused` names the reached
+/// configuration with the least number at which a check fails, the first letter there in the order `<`, `=`,
+/// `>`, and a signature that leads to it. The plan is one of this pattern, with fewer than 4,000,000,000
+/// residuals and configurations.
+pub fn validate(
+    alloc: Global,
+    t: Transducer,
+    p: &Pattern,
+    plan: &Plan,
+) -> Result<Validated, ValidateStop>
+    requires fits { IsTrue (is_plan_of (shape_of p.now.regex) (plain_plan plan.now)) }
+    requires residuals { length plan.now.residuals.items < 4000000000 }
+    requires configurations { length plan.now.configurations.items < 4000000000 }
+    ensures closed { OnOk result (IsClosed (against (rows_of t) p.now plan.now)) }
+    ensures valid { OnOk result (IsValid (rows_of t) (shape_of p.now.regex) p.now.b p.now.a) }
+    ensures transducer { IfOk result (λ v. rows_of (transducer_of v) ≡ rows_of t) }
+    ensures pattern { IfOk result (λ v. (shape_of (pattern_of v).regex ≡ shape_of p.now.regex) × ((pattern_of v).b ≡ p.now.b) × ((pattern_of v).a ≡ p.now.a)) }
+    ensures refused { IfErr result (λ e. IsStop (against (rows_of t) p.now plan.now) e) }
+{
+    check(alloc, t.rows(), p, plan)?;
+    let pattern = copied(alloc, p)?;
+    Ok(Validated {
+        transducer: t,
+        pattern,
+    })
 }

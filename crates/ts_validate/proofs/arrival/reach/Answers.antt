@@ -1,4 +1,4 @@
-use Rattle.std.proofs.Common.{◌∙◌, ap, length, arith}
+use Rattle.std.proofs.Common.{ap, length, arith}
 use Rattle.ts_validate.specs.Reaches.{against}
 use Rattle.ts_validate.proofs.Tours.{started_plan, followed_more, grown_length}
 use Rattle.ts_validate.proofs.arrival.reach.Goals as goal
@@ -6,7 +6,7 @@ use Rattle.ts_validate.proofs.arrival.reach.Goals as goal
 pub loop-done-init : goal.loop-done-init
 loop-done-init c =
     record {
-      reaches = started_plan c.args.rows.now c.args.p.now c.args.plan.now c.len.result c.in_ok-tour.tour.arrivals.items c.in_ok-tour.tour.places.items c.requires.fits (c.len.ensures ∙ ap (λ z. length z) c.as_slice-configurations.ensures.value) c.in_ok-tour.ensures.arrivals c.in_ok-tour.ensures.places;
+      reaches = started_plan c.args.rows.now c.args.p.now c.args.plan.now (length c.as_slice-configurations.result.now) c.in_ok-tour.tour.arrivals.items c.in_ok-tour.tour.places.items c.requires.fits (ap (λ z. length z) c.as_slice-configurations.ensures.value) c.in_ok-tour.ensures.arrivals c.in_ok-tour.ensures.places;
       followed = λ k q. absurd (omega (arith, q));
       inside = omega arith;
     }
