@@ -181,11 +181,14 @@ sees rows p b rs xs i x h l k q m = go (all_listed (knowns rs) l (appended tt 0 
         let yes : step_listed s (valued rs x) l ≡ true = any_at same s.configurations m short there in
         record {
           none = λ q. absurd (none_some m (sym q ∙ u));
-          some = λ j q. let z : m ≡ j = some_is m j (sym u ∙ q) in (yes, subst (λ n. IsFirst s to n) z (
-            short,
-            configuration_is shapes shapes_right.equal (value_at s m) to there,
-            λ n c t. differs (sym (none_before test same rs xs each n (subst (λ w. n < w) f.0 c)) ∙ ap (λ w. same w) t ∙ configuration_itself to),
-          ));
+          some = λ j q. let z : m ≡ j = some_is m j (sym u ∙ q) in (
+            yes,
+            subst (λ n. IsFirst s to n) z (
+              short,
+              configuration_is shapes shapes_right.equal (value_at s m) to there,
+              λ n c t. differs (sym (none_before test same rs xs each n (subst (λ w. n < w) f.0 c)) ∙ ap (λ w. same w) t ∙ configuration_itself to),
+            ),
+          );
           meets = agree (Some m) a true yes refl v;
         }
 
@@ -233,8 +236,8 @@ sees_at rows p b rs cs table f t i d here q e l k n m =
     let is : plain_configuration here ≡ x = ap (λ z. plain_configuration z) e ∙ sym (plain_is cs i d q) in
     subst (λ z. Sees (subject rows p b (plan_of rs xs)) z l k) (sym (value_is rs xs i short))
     (sees rows p b rs xs g x (numbers_at rs xs i g.numbers short) l k
-      (n ∙ ap (λ z. next_place z (numbered rows z b xs) (plain_configuration here) l) t ∙ ap (λ z. next_place (knowns rs) (numbered rows (knowns rs) b xs) z l) is)
-      (m ∙ ap (λ z. number_meets z (numbered rows z b xs) (plain_configuration here) l) t ∙ ap (λ z. number_meets (knowns rs) (numbered rows (knowns rs) b xs) z l) is))
+    (n ∙ ap (λ z. next_place z (numbered rows z b xs) (plain_configuration here) l) t ∙ ap (λ z. next_place (knowns rs) (numbered rows (knowns rs) b xs) z l) is)
+    (m ∙ ap (λ z. number_meets z (numbered rows z b xs) (plain_configuration here) l) t ∙ ap (λ z. number_meets (knowns rs) (numbered rows (knowns rs) b xs) z l) is))
 
 pub sees_plan : (rows : List Row) (p : Shape) (b : ℕ) (rs : List Shape) (slice cs : List Configuration) (table : List Known) → slice ≡ cs → is_plan_of p (plan_of rs (map (λ x. plain_configuration x) cs)) ≡ true → table ≡ knowns rs →
     (i : ℕ) (here : Configuration) → i < length cs → here ≡ get_or slice i here → (l : Letter) (k : Look) →

@@ -189,21 +189,26 @@ follows_new s xs ys from next l f i u =
     let a : Arrival = record { configuration = next; from = from; letter = l } in
     let n : length (xs ++ a ∷ []) ≡ length xs + 1 = length-append xs (a ∷ []) in
     subst (λ z. Follows s z from l) (sym u)
-    (λ t. (length xs, omega arith,
+    (λ t. (
+      length xs,
+      omega arith,
       subst (λ (z : Arrival). IsFirst s (stepped s (value_of s (xs ++ a ∷ []) from) l) z.configuration) (sym (last_at xs a))
-      (subst (λ (z : Arrival). IsFirst s (stepped s (value_at s z.configuration) l) next) (sym (kept_at xs (a ∷ []) from f)) i)))
+          (subst (λ (z : Arrival). IsFirst s (stepped s (value_at s z.configuration) l) next) (sym (kept_at xs (a ∷ []) from f)) i),
+    ))
 
 -- what followed still follows in a longer tour
 pub follows_grown : (s : Subject Shape) (xs ys : List Arrival) (k : ℕ) (l : Letter) → k < length xs → Grows xs ys → Follows s xs k l → Follows s ys k l
 follows_grown s xs ys k l q g h =
     subst (λ z. Follows s z k l) (sym g.1) (λ t.
-      let old = kept_at xs g.0 k q in
-      let m = h (subst (λ (z : Arrival). step_listed s (value_at s z.configuration) l ≡ true) old t) in
-      let n : length (xs ++ g.0) ≡ length xs + length g.0 = length-append xs g.0 in
-      let c = m.1 in
-      (m.0, omega arith,
-        subst (λ (z : Arrival). IsFirst s (stepped s (value_of s (xs ++ g.0) k) l) z.configuration) (sym (kept_at xs g.0 m.0 m.1))
-        (subst (λ (z : Arrival). IsFirst s (stepped s (value_at s z.configuration) l) (arrived xs m.0).configuration) (sym old) m.2)))
+    let old = kept_at xs g.0 k q in
+    let m = h (subst (λ (z : Arrival). step_listed s (value_at s z.configuration) l ≡ true) old t) in
+    let n : length (xs ++ g.0) ≡ length xs + length g.0 = length-append xs g.0 in
+    let c = m.1 in (
+      m.0,
+      omega arith,
+      subst (λ (z : Arrival). IsFirst s (stepped s (value_of s (xs ++ g.0) k) l) z.configuration) (sym (kept_at xs g.0 m.0 m.1))
+          (subst (λ (z : Arrival). IsFirst s (stepped s (value_at s z.configuration) l) (arrived xs m.0).configuration) (sym old) m.2),
+    ))
 
 pub grown_twice : (xs ys zs : List Arrival) → Grows xs ys → Grows ys zs → Grows xs zs
 grown_twice xs ys zs g h = (g.0 ++ h.0, h.1 ∙ ap (λ z. z ++ h.0) g.1 ∙ append_assoc xs g.0 h.0)

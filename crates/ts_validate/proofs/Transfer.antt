@@ -89,9 +89,9 @@ numbers_same rs i j p q =
     ap (λ z. z.own == (known_at (knowns rs) j).own) (known_is rs i p) ∙ ap (λ z. number_of rs (shape_at rs i) == z.own) (known_is rs j q)
     ∙ bools_same (number_of rs (shape_at rs i) == number_of rs (shape_at rs j)) (same_shape (shape_at rs i) (shape_at rs j))
     (λ e. (same_law (shape_at rs i) (shape_at rs j)).1 (
-      sym (number_at rs (shape_at rs i) (let h = number_small rs i p in omega arith))
-      ∙ ap (λ z. shape_at rs z) (eqb-true (number_of rs (shape_at rs i)) (number_of rs (shape_at rs j)) e)
-      ∙ number_at rs (shape_at rs j) (let h = number_small rs j q in omega arith)))
+    sym (number_at rs (shape_at rs i) (let h = number_small rs i p in omega arith))
+    ∙ ap (λ z. shape_at rs z) (eqb-true (number_of rs (shape_at rs i)) (number_of rs (shape_at rs j)) e)
+    ∙ number_at rs (shape_at rs j) (let h = number_small rs j q in omega arith)))
     (λ e. eq-eqb (number_of rs (shape_at rs i)) (number_of rs (shape_at rs j)) (ap (λ z. number_of rs z) ((same_law (shape_at rs i) (shape_at rs j)).0 e)))
 
 -- after the letter

@@ -176,7 +176,7 @@ not_listed rows p b rs xs i x h l a =
     let m = missing rs l (appended tt 0 b x.live) (numbers_before rs b x.live i.some h) a in
     let o : OneOf (λ e. e.residual ≡ m.0) to.live =
     one_retagged (move_of s (valued rs x) l).phase (no_ind (before s (valued rs x))) m.0 (kept s (valued rs x) l)
-        (one_kept m.0 (alive shapes (derived shapes l (before s (valued rs x)))) (one_alive l m.0 (before s (valued rs x)) m.1 (subst (λ z. OneOf (λ e. residual e.residual l ≡ m.0) z) (before_valued rs p b x.live i.whole) m.3))) in
+    (one_kept m.0 (alive shapes (derived shapes l (before s (valued rs x)))) (one_alive l m.0 (before s (valued rs x)) m.1 (subst (λ z. OneOf (λ e. residual e.residual l ≡ m.0) z) (before_valued rs p b x.live i.whole) m.3))) in
     not_true (step_listed s (valued rs x) l) (λ q.
-      let y = some_same (λ y. same_configuration shapes y to) (λ y. valued rs y) (HasNumbers rs) xs i.numbers q in
-      not_in rs m.0 y.0.live m.2 y.1 (subst (λ (z : PlainConfiguration Shape). OneOf (λ e. e.residual ≡ m.0) z.live) (sym (configuration_is shapes shapes_right.equal (valued rs y.0) to y.2)) o))
+    let y = some_same (λ y. same_configuration shapes y to) (λ y. valued rs y) (HasNumbers rs) xs i.numbers q in
+    not_in rs m.0 y.0.live m.2 y.1 (subst (λ (z : PlainConfiguration Shape). OneOf (λ e. e.residual ≡ m.0) z.live) (sym (configuration_is shapes shapes_right.equal (valued rs y.0) to y.2)) o))

@@ -1,20 +1,18 @@
 //! The configurations of a plan that are reached, and how.
 
-use std::alloc::Global;
-
-use ts_base::{Letter, Memory};
-use ts_pattern::{Pattern, Plan};
-use ts_transducer::Row;
-
-use crate::known::Known;
-use crate::step::{Look, look_at};
-
 ghost use Rattle.std.specs.Prelude.{◌≡◌, ◌<◌, ◌++◌, [], ◌∷◌, ℕ, Option, IsTrue, IfOk, length, replicate, slice_set};
 ghost use Rattle.ts_base.specs.declared.letter.Letter.{Letter};
 ghost use Rattle.ts_regex.specs.Shape.{shape_of};
 ghost use Rattle.ts_pattern.specs.Plans.{plain_plan, is_plan_of};
 ghost use Rattle.ts_validate.specs.Numbers.{knowns};
 ghost use Rattle.ts_validate.specs.Reaches.{against, value_at, Sees, arrived, place_at, Reaches, Follows, Followed, Grows, IsPath};
+
+use crate::known::Known;
+use crate::step::{Look, look_at};
+use std::alloc::Global;
+use ts_base::{Letter, Memory};
+use ts_pattern::{Pattern, Plan};
+use ts_transducer::Row;
 
 /// A configuration, and the arrival from which it was reached on a letter; the first one has none.
 #[derive(Clone, Copy, Debug, PartialEq, Eq)]

@@ -1,18 +1,17 @@
 //! What the checks ask of the entries that a step keeps, and the checks themselves.
 
-use ts_base::Kind;
-use ts_pattern::Live;
-use ts_transducer::Phase;
-
-use crate::known::{Known, look_up};
-use crate::tags::{is_inc, is_ind, starts, tag_after};
-
 ghost use Rattle.std.specs.Prelude.{◌≡◌, ◌&&◌, ◌||◌, not, map};
 ghost use Rattle.std.specs.List.{list_any};
 ghost use Rattle.ts_pattern.specs.Closed.{is_due, is_ind, is_inc, tag_after, implies, first_passes, is_match, is_find, entries_agree};
 ghost use Rattle.ts_pattern.specs.Plans.{plain_live};
 ghost use Rattle.ts_validate.specs.Numbers.{known_at, numbers};
 ghost use Rattle.ts_validate.specs.Facts.{facts_of, facts_agree};
+
+use crate::known::{Known, look_up};
+use crate::tags::{is_inc, is_ind, starts, tag_after};
+use ts_base::Kind;
+use ts_pattern::Live;
+use ts_transducer::Phase;
 
 /// The answers that the checks of one step need. Of an entry the tag before the step counts, unless said.
 #[derive(Clone, Copy, Debug, PartialEq, Eq)]
@@ -53,10 +52,12 @@ impl Facts {
     pub fn agree(&self, phase: Phase, kind: Kind) -> bool
         ensures { result ≡ facts_agree self.now phase kind }
     {
-        let accepted = implied(self.some_nullable, is_match(phase)) && implied(is_match(phase), self.first_nullable);
+        let accepted = implied(self.some_nullable, is_match(phase))
+            && implied(is_match(phase), self.first_nullable);
         let begun = implied(is_find(phase), self.first_starts);
         let ended = implied(phase == Phase::FoundE, self.first_ends);
-        let held = implied(kind == Kind::Held, self.first_holds) && implied(phase == Phase::OutA, !self.some_held);
+        let held = implied(kind == Kind::Held, self.first_holds)
+            && implied(phase == Phase::OutA, !self.some_held);
         let kept = implied(phase == Phase::MaybeB, self.some_keeps);
         accepted && begun && ended && held && kept
     }
@@ -82,7 +83,8 @@ fn is_find(phase: Phase) -> bool
 {
     match phase {
         Phase::Found | Phase::FoundE => true,
-        Phase::Out | Phase::OutR | Phase::OutA | Phase::MaybeB | Phase::MaybeA | Phase::Inside => false,
+        Phase::Out | Phase::OutR | Phase::OutA | Phase::MaybeB | Phase::MaybeA | Phase::Inside =>
+            false,
     }
 }
 

@@ -1,20 +1,18 @@
 //! The least configuration that is reached and fails a check.
 
-use std::alloc::Global;
-
-use ts_base::{Letter, Memory};
-use ts_pattern::{Pattern, Plan};
-use ts_transducer::Row;
-
-use crate::arrival::{Tour, look};
-use crate::known::Known;
-
 ghost use Rattle.std.specs.Prelude.{◌≡◌, ◌<◌, ℕ, Some, IsTrue, IfOk, MatchOption, length};
 ghost use Rattle.ts_regex.specs.Shape.{shape_of};
 ghost use Rattle.ts_pattern.specs.Plans.{plain_plan, is_plan_of};
 ghost use Rattle.ts_validate.specs.FirstFalse.{first_false};
 ghost use Rattle.ts_validate.specs.Numbers.{knowns};
 ghost use Rattle.ts_validate.specs.Reaches.{against, place_at, AllMeet, FailsFirst, AllMeetBelow};
+
+use crate::arrival::{Tour, look};
+use crate::known::Known;
+use std::alloc::Global;
+use ts_base::{Letter, Memory};
+use ts_pattern::{Pattern, Plan};
+use ts_transducer::Row;
 
 /// A configuration, the place of its arrival, and the first letter on which a check fails.
 #[derive(Clone, Copy, Debug, PartialEq, Eq)]

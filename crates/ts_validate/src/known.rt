@@ -1,15 +1,14 @@
 //! What is known of a plan's residuals, by their numbers, so that a step compares numbers alone.
 
-use std::alloc::Global;
-
-use ts_base::{Letter, Memory};
-use ts_regex::{Regex, derive, has_longer, has_word, normal, nullable};
-
 ghost use Rattle.std.specs.Prelude.{◌≡◌, ◌<◌, length, map, IfOk};
 ghost use Rattle.std.specs.List.{position};
 ghost use Rattle.ts_regex.specs.NormalForm.{same_shape};
 ghost use Rattle.ts_regex.specs.Shape.{shape_of};
 ghost use Rattle.ts_validate.specs.Numbers.{number_of, next_number, known_of, knowns, known_at, next_on};
+
+use std::alloc::Global;
+use ts_base::{Letter, Memory};
+use ts_regex::{Regex, derive, has_longer, has_word, normal, nullable};
 
 /// A residual: the numbers of the residuals after each letter, the least number with its value, and what the
 /// checks ask of its words.

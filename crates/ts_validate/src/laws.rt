@@ -12,11 +12,9 @@ ghost use Rattle.ts_validate.specs.Valid.{IsValid};
 /// e-ranges of the occurrences, of every signature.
 pub fn closed_is_valid()
     ensures { (rows : List Row) (p : Shape) (b a : ℕ) (plan : PlainPlan) → IsTrue (is_typed rows) → IsClosed (subject rows p b plan) → IsValid rows p b a }
-{
-}
+{}
 
 /// The test of Closed that computes is enough for it.
 pub fn test_is_closed()
     ensures { (rows : List Row) (p : Shape) (b : ℕ) (plan : PlainPlan) → IsTrue (is_closed rows p b plan) → IsClosed (subject rows p b plan) }
-{
-}
+{}

@@ -15,6 +15,7 @@
 #![tactic(auto)]
 
 pub mod arrival;
+pub mod closure;
 pub mod facts;
 pub mod failure;
 pub mod known;
@@ -22,9 +23,8 @@ pub mod laws;
 pub mod step;
 pub mod stop;
 pub mod tags;
-pub mod validate;
 pub mod validated;
 
+pub use closure::validate;
 pub use stop::ValidateStop;
-pub use validate::validate;
 pub use validated::Validated;

@@ -1,15 +1,5 @@
 //! The step of a configuration by the numbers of its residuals.
 
-use std::alloc::Global;
-
-use ts_base::{Letter, Memory};
-use ts_pattern::{Configuration, Live};
-use ts_transducer::{Arrow, Phase, Row};
-
-use crate::facts::answers;
-use crate::known::{Known, look_up};
-use crate::tags::{first_tag, none_kept, same_tag, tag_after};
-
 ghost use Rattle.std.specs.Prelude.{◌≡◌, ◌==◌, ◌&&◌, ◌<◌, ◌++◌, [], ◌∷◌, not, nat_le, map, length, slice_get, IfOk};
 ghost use Rattle.std.specs.List.{list_all, list_any, position, zip};
 ghost use Rattle.ts_pattern.specs.Entries.{survivors};
@@ -17,6 +7,14 @@ ghost use Rattle.ts_pattern.specs.Closed.{same_tag, tag_after, retag, appended, 
 ghost use Rattle.ts_pattern.specs.Plans.{plain_live, plain_configuration};
 ghost use Rattle.ts_validate.specs.Looks.{look_of, row_or};
 ghost use Rattle.ts_validate.specs.Numbers.{known_at, next_on, numbers, numbered, all_listed, joined, next_place, number_meets};
+
+use crate::facts::answers;
+use crate::known::{Known, look_up};
+use crate::tags::{first_tag, none_kept, same_tag, tag_after};
+use std::alloc::Global;
+use ts_base::{Letter, Memory};
+use ts_pattern::{Configuration, Live};
+use ts_transducer::{Arrow, Phase, Row};
 
 /// Whether an entry that is kept has the residual of this number.
 fn stands(table: &[Known], residual: u32, kept: &[Live]) -> bool
@@ -33,7 +31,12 @@ fn is_new(table: &[Known], residual: u32, kept: &[Live]) -> bool
 }
 
 /// Adds what the letter leaves of an entry: nothing where its residual has no word, or is that of an earlier one.
-fn add_left(table: &[Known], letter: Letter, entry: Live, kept: &mut Vec<Live>) -> Result<(), Memory>
+fn add_left(
+    table: &[Known],
+    letter: Letter,
+    entry: Live,
+    kept: &mut Vec<Live>,
+) -> Result<(), Memory>
     ensures { IfOk result (λ _. map (λ e. plain_live e) kept.new.items ≡ joined (numbers table.now) letter (plain_live entry) (map (λ e. plain_live e) kept.old.items)) }
 {
     let residual = look_up(table, entry.residual).next(letter);
@@ -48,7 +51,13 @@ fn add_left(table: &[Known], letter: Letter, entry: Live, kept: &mut Vec<Live>) 
 }
 
 /// The entries that the letter leaves, with their tags before it.
-fn left(alloc: Global, table: &[Known], letter: Letter, b: u8, live: &[Live]) -> Result<Vec<Live>, Memory>
+fn left(
+    alloc: Global,
+    table: &[Known],
+    letter: Letter,
+    b: u8,
+    live: &[Live],
+) -> Result<Vec<Live>, Memory>
     ensures { IfOk result (λ v. map (λ e. plain_live e) v.items ≡ survivors (numbers table.now) letter (appended tt 0 b (map (λ e. plain_live e) live.now))) }
 {
     let mut kept = Vec::new(alloc);
@@ -85,7 +94,10 @@ fn same_entry(table: &[Known], phase: Phase, free: bool, listed: Live, kept: Liv
 fn each_same(table: &[Known], phase: Phase, free: bool, listed: &[Live], kept: &[Live]) -> bool
     ensures { result ≡ list_all (λ p. ((known_at table.now p.0.residual).own == (known_at table.now p.1.residual).own) && same_tag p.0.tag (tag_after phase free p.1.tag)) (zip listed.now kept.now) }
 {
-    listed.iter().zip(kept).all(|(x, e)| same_entry(table, phase, free, *x, *e))
+    listed
+        .iter()
+        .zip(kept)
+        .all(|(x, e)| same_entry(table, phase, free, *x, *e))
 }
 
 fn both(a: bool, b: bool) -> bool
@@ -111,10 +123,18 @@ fn is_same(table: &[Known], arrow: Arrow, free: bool, kept: &[Live], listed: &Co
     both(states, both(lengths, lives))
 }
 
-fn place(table: &[Known], arrow: Arrow, free: bool, kept: &[Live], configurations: &[Configuration]) -> Option<usize>
+fn place(
+    table: &[Known],
+    arrow: Arrow,
+    free: bool,
+    kept: &[Live],
+    configurations: &[Configuration],
+) -> Option<usize>
     ensures { result ≡ position (λ y. same_configuration (numbers table.now) (plain_configuration y) (record { state = arrow.next; live = retag arrow.phase free (map (λ e. plain_live e) kept.now) })) configurations.now }
 {
-    configurations.iter().position(|listed| is_same(table, arrow, free, kept, listed))
+    configurations
+        .iter()
+        .position(|listed| is_same(table, arrow, free, kept, listed))
 }
 
 fn row(rows: &[Row], state: u8) -> Row

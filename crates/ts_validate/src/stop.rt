@@ -1,9 +1,9 @@
 //! What `validate` answers where it doesn't find a plan closed.
 
+ghost use Rattle.std.specs.Prelude.{◌≡◌};
+
 use thiserror::Error;
 use ts_base::{Letter, Memory as NoMemory};
-
-ghost use Rattle.std.specs.Prelude.{◌≡◌};
 
 /// Why a transducer isn't validated.
 #[derive(Debug, Drop, Error)]

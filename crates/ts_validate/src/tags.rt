@@ -1,11 +1,11 @@
 //! The tags of live entries, before and after a step.
 
-use ts_pattern::{Live, Tag};
-use ts_transducer::Phase;
-
 ghost use Rattle.std.specs.Prelude.{◌≡◌, ◌&&◌, ◌||◌, not};
 ghost use Rattle.std.specs.List.{list_all};
 ghost use Rattle.ts_pattern.specs.Closed.{is_due, is_ind, is_inc, first_tag, younger, due_after, ind_after, inc_after, tag_after, same_tag};
+
+use ts_pattern::{Live, Tag};
+use ts_transducer::Phase;
 
 /// The tag of a start at the sign now read.
 #[tactic(auto, using(crate::proofs::Younger::first_young))]
@@ -26,21 +26,10 @@ fn due_after(phase: Phase, free: bool) -> Tag
     ensures { result ≡ due_after phase free }
 {
     match phase {
-        Phase::MaybeB => {
-            if free {
-                Tag::InD
-            } else {
-                Tag::Loose
-            }
-        }
-        Phase::Found => {
-            if free {
-                Tag::InC
-            } else {
-                Tag::Loose
-            }
-        }
-        Phase::Out | Phase::OutR | Phase::OutA | Phase::MaybeA | Phase::FoundE | Phase::Inside => Tag::Loose,
+        Phase::MaybeB => { if free { Tag::InD } else { Tag::Loose } }
+        Phase::Found => { if free { Tag::InC } else { Tag::Loose } }
+        Phase::Out | Phase::OutR | Phase::OutA | Phase::MaybeA | Phase::FoundE | Phase::Inside =>
+            Tag::Loose,
     }
 }
 
@@ -50,7 +39,8 @@ fn ind_after(phase: Phase) -> Tag
     match phase {
         Phase::MaybeB => Tag::InD,
         Phase::Found => Tag::InC,
-        Phase::Out | Phase::OutR | Phase::OutA | Phase::MaybeA | Phase::FoundE | Phase::Inside => Tag::Loose,
+        Phase::Out | Phase::OutR | Phase::OutA | Phase::MaybeA | Phase::FoundE | Phase::Inside =>
+            Tag::Loose,
     }
 }
 
@@ -59,7 +49,13 @@ fn inc_after(phase: Phase) -> Tag
 {
     match phase {
         Phase::OutA => Tag::Loose,
-        Phase::Out | Phase::OutR | Phase::MaybeB | Phase::MaybeA | Phase::Found | Phase::FoundE | Phase::Inside => Tag::InC,
+        Phase::Out
+        | Phase::OutR
+        | Phase::MaybeB
+        | Phase::MaybeA
+        | Phase::Found
+        | Phase::FoundE
+        | Phase::Inside => Tag::InC,
     }
 }
 
@@ -110,7 +106,10 @@ pub fn same_tag(x: Tag, y: Tag) -> bool
 {
     match (x, y) {
         (Tag::Young(m), Tag::Young(n)) => m == n,
-        (Tag::Due, Tag::Due) | (Tag::InD, Tag::InD) | (Tag::InC, Tag::InC) | (Tag::Loose, Tag::Loose) => true,
+        (Tag::Due, Tag::Due)
+        | (Tag::InD, Tag::InD)
+        | (Tag::InC, Tag::InC)
+        | (Tag::Loose, Tag::Loose) => true,
         _ => false,
     }
 }

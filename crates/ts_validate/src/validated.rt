@@ -1,12 +1,12 @@
 //! A transducer that is known to find the occurrences of a pattern.
 
-use ts_pattern::Pattern;
-use ts_transducer::Transducer;
-
 ghost use Rattle.std.specs.Prelude.{◌≡◌};
 ghost use Rattle.ts_regex.specs.Shape.{shape_of};
 ghost use Rattle.ts_transducer.specs.Rows.{rows_of};
 ghost use Rattle.ts_validate.specs.Valid.{IsValid};
+
+use ts_pattern::Pattern;
+use ts_transducer::Transducer;
 
 /// A transducer and a pattern: for every signature the ranges that it decodes are the e-ranges of the occurrences
 /// of the pattern.

@@ -26,7 +26,7 @@ pub returns-in_ok-add-in-None-place-clause-reaches : goal.returns-in_ok-add-in-N
 returns-in_ok-add-in-None-place-clause-reaches c =
     let f = seen_first (against c.args.rows.now c.args.p.now c.args.plan.now) c.args.self.now.arrivals.items c.args.from c.arrival-here.result c.args.letter c.in_ok-seen.seen c.in-Some.next c.arrival-here.ensures c.in_ok-seen.ensures c.in-Some.is in
     add_reached (against c.args.rows.now c.args.p.now c.args.plan.now) c.args.self.now.arrivals.items c.add.new.self.arrivals.items c.args.self.now.places.items c.add.new.self.places.items c.requires.reaches c.in-Some.next c.args.from c.args.letter c.requires.there f.1 f.0 c.in-None-place.ensures
-        c.in_ok-add-in-None-place.ensures.arrivals c.in_ok-add-in-None-place.ensures.places
+    c.in_ok-add-in-None-place.ensures.arrivals c.in_ok-add-in-None-place.ensures.places
 
 pub returns-in_ok-add-in-None-place-clause-follows : goal.returns-in_ok-add-in-None-place-clause-follows
 returns-in_ok-add-in-None-place-clause-follows c =

@@ -1,6 +1,6 @@
 use Rattle.ts_transducer.specs.Rows.{rows_of}
 use Rattle.ts_validate.proofs.Made.{valid_made, valid_copy}
-use Rattle.ts_validate.proofs.validate.validate.Goals as goal
+use Rattle.ts_validate.proofs.closure.validate.Goals as goal
 
 pub invariant_of-result : goal.invariant_of-result
 invariant_of-result c =

@@ -1,17 +1,5 @@
 //! The whole test: a transducer that a plan shows to find the occurrences of a pattern.
 
-use std::alloc::Global;
-
-use ts_base::Memory;
-use ts_pattern::{Pattern, Plan};
-use ts_transducer::{Row, Transducer};
-
-use crate::arrival::reach;
-use crate::failure::first_failure;
-use crate::known::know_all;
-use crate::stop::ValidateStop;
-use crate::validated::Validated;
-
 ghost use Rattle.std.specs.Prelude.{◌≡◌, ◌<◌, IsTrue, IfOk, IfErr, OnOk, length};
 ghost use Rattle.ts_regex.specs.Shape.{shape_of};
 ghost use Rattle.ts_transducer.specs.Rows.{rows_of};
@@ -21,6 +9,16 @@ ghost use Rattle.ts_validate.specs.Valid.{IsValid};
 ghost use Rattle.ts_validate.specs.Reaches.{against};
 ghost use Rattle.ts_validate.specs.Validations.{transducer_of, pattern_of};
 ghost use Rattle.ts_validate.specs.Refusals.{IsStop};
+
+use crate::arrival::reach;
+use crate::failure::first_failure;
+use crate::known::know_all;
+use crate::stop::ValidateStop;
+use crate::validated::Validated;
+use std::alloc::Global;
+use ts_base::Memory;
+use ts_pattern::{Pattern, Plan};
+use ts_transducer::{Row, Transducer};
 
 /// Whether each reached configuration of the plan meets the checks.
 fn check(alloc: Global, rows: &[Row], p: &Pattern, plan: &Plan) -> Result<(), ValidateStop>
