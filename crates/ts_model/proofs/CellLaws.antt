@@ -37,16 +37,16 @@ new_kept lists line n own common c few own_is common_is a b l t = record {
   few = let e = ap length (a ∙ own_is) in let f = length_replicate n in omega (arith, e, f, few);
 }
   where
-  length_replicate : (n : ℕ) → length (replicate {A = Option Own} n None) ≡ n
-  length_replicate zero = refl
-  length_replicate (suc n) = omega (arith, length_replicate n)
+    length_replicate : (n : ℕ) → length (replicate {A = Option Own} n None) ≡ n
+    length_replicate zero = refl
+    length_replicate (suc n) = omega (arith, length_replicate n)
 
-  are : domains c ≡ replicate n (union_of digits)
-  are = ap (λ (xs : List (Option Own)). map (in_force c.common_line c.common) xs) (a ∙ own_is) ∙ none_own c.common_line n c.common ∙ ap (replicate n) (b ∙ common_is)
+    are : domains c ≡ replicate n (union_of digits)
+    are = ap (λ (xs : List (Option Own)). map (in_force c.common_line c.common) xs) (a ∙ own_is) ∙ none_own c.common_line n c.common ∙ ap (replicate n) (b ∙ common_is)
 
-  is_total : (lists : Bool) → IsTotal lists c.total (total_of (domains c))
-  is_total false = tt
-  is_total true = let e = ap total_of are ∙ digits_total n in (t ∙ sym e, omega (arith, t, few))
+    is_total : (lists : Bool) → IsTotal lists c.total (total_of (domains c))
+    is_total false = tt
+    is_total true = let e = ap total_of are ∙ digits_total n in (t ∙ sym e, omega (arith, t, few))
 
 -- no line is as new as the next one
 older_on : (line : ℕ) (own : List (Option Own)) → AllByRecursion (IsOlder line) own → AllByRecursion (IsOlder (line + 1)) own
@@ -65,8 +65,8 @@ all_common line old d common (Some o ∷ os) h =
     let older : nat_lt line o.line ≡ false = not_newer line o.line h.0 in
     ap (λ (b : Bool). cond b o.domain d ∷ map (in_force line d) os) older ∙ ap (λ (l : List (List ℤ)). d ∷ l) (all_common line old d common os h.1)
   where
-  not_newer : (m n : ℕ) → n < m → nat_lt m n ≡ false
-  not_newer m n h = grind (arith, nat_tests)
+    not_newer : (m n : ℕ) → n < m → nat_lt m n ≡ false
+    not_newer m n h = grind (arith, nat_tests)
 
 total_common : (d : List ℤ) (cells : List (List ℤ)) (n : ℕ) → n ≡ length cells → total_of (map (λ _. d) cells) ≡ n * length d
 total_common d cells n count = ap total_of (sym (splat_is_map cells n d (sym count))) ∙ sum_by-replicate length n d
@@ -93,13 +93,13 @@ kept_all lists line c new d n size total kept count size_is is own common at tot
   few = let e = ap (λ o. length o.items) own in omega (arith, e, kept.few);
 }
   where
-  all_total : total_of (domains new) ≡ n * size
-  all_total =
-      let older = subst (λ (o : List (Option Own)). AllByRecursion (IsOlder line) o) (sym (ap (λ o. o.items) own)) kept.own in
-      let same : domains new ≡ map (λ _. d) (map (in_force 0 []) new.own.items) =
+    all_total : total_of (domains new) ≡ n * size
+    all_total =
+        let older = subst (λ (o : List (Option Own)). AllByRecursion (IsOlder line) o) (sym (ap (λ o. o.items) own)) kept.own in
+        let same : domains new ≡ map (λ _. d) (map (in_force 0 []) new.own.items) =
         ap (λ (l : ℕ). map (in_force l new.common) new.own.items) at ∙ ap (λ (e : List ℤ). map (in_force line e) new.own.items) common ∙ all_common line 0 d [] new.own.items older in
-      let count' : n ≡ length (map (in_force 0 []) new.own.items) = count ∙ ap (λ o. length o.items) (sym own) ∙ simp length-map in
-      ap total_of same ∙ total_common d (map (in_force 0 []) new.own.items) n count' ∙ ap (λ (k : ℕ). n * k) (sym size_is)
+        let count' : n ≡ length (map (in_force 0 []) new.own.items) = count ∙ ap (λ o. length o.items) (sym own) ∙ simp length-map in
+        ap total_of same ∙ total_common d (map (in_force 0 []) new.own.items) n count' ∙ ap (λ (k : ℕ). n * k) (sym size_is)
 
 -- one domain has no more values than all
 old_within : (cells : List (List ℤ)) (i : ℕ) → length (get_or cells i []) ≤ total_of cells
@@ -126,8 +126,8 @@ one_set lists line place c d kept =
     map-set (in_force c.common_line c.common) c.own.items place (Some (record { line = line; domain = d }))
     ∙ ap (λ (b : Bool). set (domains c) place (cond b d c.common)) newer
   where
-  is_newer : (m n : ℕ) → m < n → nat_lt m n ≡ true
-  is_newer m n h = grind (arith, nat_tests)
+    is_newer : (m n : ℕ) → m < n → nat_lt m n ≡ true
+    is_newer m n h = grind (arith, nat_tests)
 
 pub over_one : (lists : Bool) (cells : List (List ℤ)) (place : ℕ) (d : List ℤ) (size : ℕ) → place < length cells → size ≡ length d → (lists && nat_lt 65536 (total_set cells place size)) ≡ true → within_total lists (set cells place d) ≡ Err Limit
 over_one lists cells place d size there size_is over =
@@ -148,13 +148,13 @@ kept_one lists line place c new d size total kept there size_is is own common at
   few = let e = ap length own in let f : length (set c.own.items place (Some (record { line = line; domain = d }))) ≡ length c.own.items = simp length-set in omega (arith, e, f, kept.few);
 }
   where
-  same_force : (l : ℕ) (e : List ℤ) (xs : List (Option Own)) → l ≡ c.common_line → e ≡ c.common → xs ≡ set c.own.items place (Some (record { line = line; domain = d })) → map (in_force l e) xs ≡ map (in_force c.common_line c.common) (set c.own.items place (Some (record { line = line; domain = d })))
-  same_force l e xs p q r = ap (λ (k : ℕ). map (in_force k e) xs) p ∙ ap (λ (k : List ℤ). map (in_force c.common_line k) xs) q ∙ ap (map (in_force c.common_line c.common)) r
+    same_force : (l : ℕ) (e : List ℤ) (xs : List (Option Own)) → l ≡ c.common_line → e ≡ c.common → xs ≡ set c.own.items place (Some (record { line = line; domain = d })) → map (in_force l e) xs ≡ map (in_force c.common_line c.common) (set c.own.items place (Some (record { line = line; domain = d })))
+    same_force l e xs p q r = ap (λ (k : ℕ). map (in_force k e) xs) p ∙ ap (λ (k : List ℤ). map (in_force c.common_line k) xs) q ∙ ap (map (in_force c.common_line c.common)) r
 
-  all_total : total_of (domains new) ≡ total_set (domains c) place size
-  all_total =
-      ap total_of (same_force new.common_line new.common new.own.items at common own ∙ one_set lists line place c d kept)
-      ∙ sym (ap (total_set (domains c) place) size_is ∙ total_at (domains c) place d there)
+    all_total : total_of (domains new) ≡ total_set (domains c) place size
+    all_total =
+        ap total_of (same_force new.common_line new.common new.own.items at common own ∙ one_set lists line place c d kept)
+        ∙ sym (ap (total_set (domains c) place) size_is ∙ total_at (domains c) place d there)
 
 -- the copies of the domains, cell by cell
 pub box_more : (cells : List (List ℤ)) (d : List ℤ) → IsBox cells → IsDomain d → IsBox (cells ++ d ∷ [])

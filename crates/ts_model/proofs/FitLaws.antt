@@ -93,24 +93,37 @@ fit_after lists m (SaysCells n) fit none =
     let all = all_fail (kinds lists m (SaysCells n)) none in record {
       few = let e = length_replicate (count_of n) (union_of digits) in omega (arith, e, counted n all.1.1.0);
       total = under lists (total_of (replicate (count_of n) (union_of digits))) all.1.1.1.1.1.1.1.1.1.0;
-      terms = fit.terms; requirements = fit.requirements; each = fit.each; bounds = fit.bounds; objective = fit.objective;
+      terms = fit.terms;
+      requirements = fit.requirements;
+      each = fit.each;
+      bounds = fit.bounds;
+      objective = fit.objective;
     }
 fit_after lists m (SaysDomain rs) fit none =
     let all = all_fail (kinds lists m (SaysDomain rs)) none in record {
       few = let e : length (map (λ _. union_of rs) m.cells) ≡ length m.cells = simp length-map in omega (arith, e, fit.few);
       total = under lists (total_of (map (λ _. union_of rs) m.cells)) (second (list_any is_outside rs) (over_total lists (with_said m (SaysDomain rs))) all.1.1.1.1.1.1.1.1.1.0);
-      terms = fit.terms; requirements = fit.requirements; each = fit.each; bounds = fit.bounds; objective = fit.objective;
+      terms = fit.terms;
+      requirements = fit.requirements;
+      each = fit.each;
+      bounds = fit.bounds;
+      objective = fit.objective;
     }
 fit_after lists m (SaysCell k rs) fit none =
     let all = all_fail (kinds lists m (SaysCell k rs)) none in record {
       few = let e : length (with_said m (SaysCell k rs)).cells ≡ length m.cells = simp length-set in omega (arith, e, fit.few);
       total = under lists (total_of (with_said m (SaysCell k rs)).cells) (second (list_any is_outside rs) (over_total lists (with_said m (SaysCell k rs))) all.1.1.1.1.1.1.1.1.1.0);
-      terms = fit.terms; requirements = fit.requirements; each = fit.each; bounds = fit.bounds; objective = fit.objective;
+      terms = fit.terms;
+      requirements = fit.requirements;
+      each = fit.each;
+      bounds = fit.bounds;
+      objective = fit.objective;
     }
 fit_after lists m (SaysTerm name parts) fit none =
     let all = all_fail (kinds lists m (SaysTerm name parts)) none in
     let more : length (with_said m (SaysTerm name parts)).terms ≡ length m.terms + 1 = simp length-append in record {
-      few = fit.few; total = fit.total;
+      few = fit.few;
+      total = fit.total;
       terms = omega (arith, more, at_most 31 (length m.terms) all.1.1.1.1.1.1.1.1.1.0);
       requirements = fit.requirements;
       each = lifted (length m.terms) (length (with_said m (SaysTerm name parts)).terms) (omega (arith, more)) m.requirements fit.each;
@@ -121,14 +134,21 @@ fit_after lists m (SaysRequire name op bound) fit none =
     let all = all_fail (kinds lists m (SaysRequire name op bound)) none in
     let tests = bound_test (is_bound bound) (nat_lt 63 (length m.requirements)) all.1.1.1.1.1.1.1.1.1.0 in
     let more : length (with_said m (SaysRequire name op bound)).requirements ≡ length m.requirements + 1 = simp length-append in record {
-      few = fit.few; total = fit.total; terms = fit.terms;
+      few = fit.few;
+      total = fit.total;
+      terms = fit.terms;
       requirements = omega (arith, more, at_most 63 (length m.requirements) tests.1);
       each = pushed (λ r. r.term < length m.terms) m.requirements _ fit.each (known_there (length m.terms) (term_at name m.terms) all.1.1.1.1.1.1.0 (term_there name m.terms (term_at name m.terms) refl));
       bounds = pushed (λ r. is_bound r.bound ≡ true) m.requirements _ fit.bounds tests.0;
       objective = fit.objective;
     }
 fit_after lists m (SaysObjective name) fit none = record {
-  few = fit.few; total = fit.total; terms = fit.terms; requirements = fit.requirements; each = fit.each; bounds = fit.bounds;
+  few = fit.few;
+  total = fit.total;
+  terms = fit.terms;
+  requirements = fit.requirements;
+  each = fit.each;
+  bounds = fit.bounds;
   objective = term_there name m.terms (term_at name m.terms) refl;
 }
 

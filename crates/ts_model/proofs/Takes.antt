@@ -45,12 +45,12 @@ took_term lists d name parts term key entries some made new room key_is entries_
 pub sound_term : (lists : Bool) (line : ℕ) (d new : Draft) (old : Option Term) (n : ℕ) → IsSound lists line d → n ≤ 31 → n ≡ index_map_len d.terms → index_map_len new.terms ≡ index_map_len d.terms + cond (is_some old) 0 1 → new.cells ≡ d.cells → IsSound lists (line + 1) new
 sound_term lists line d new old n sound few count added cells = sound_on lists line d new sound cells (fits (is_some old) (length new.terms.entries) (length d.terms.entries) n few count added)
   where
-  fits : (b : Bool) (k m n : ℕ) → n ≤ 31 → n ≡ m → k ≡ m + cond b 0 1 → k ≤ 32
-  fits true k m n a e f = omega arith
-  fits false k m n a e f = omega arith
+    fits : (b : Bool) (k m n : ℕ) → n ≤ 31 → n ≡ m → k ≡ m + cond b 0 1 → k ≤ 32
+    fits true k m n a e f = omega arith
+    fits false k m n a e f = omega arith
 
 pub few_terms : (es : List (String Global × Term)) (n : ℕ) → n ≤ 31 → n ≡ length es → nat_lt 31 (length (map term_of es)) ≡ false
 few_terms es n few count = let e : length (map term_of es) ≡ length es = simp length-map in below (length (map term_of es)) (omega (arith, e, count, few))
   where
-  below : (k : ℕ) → k ≤ 31 → nat_lt 31 k ≡ false
-  below k h = grind (arith, nat_tests)
+    below : (k : ℕ) → k ≤ 31 → nat_lt 31 k ≡ false
+    below k h = grind (arith, nat_tests)

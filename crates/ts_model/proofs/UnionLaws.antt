@@ -40,9 +40,9 @@ module _ (test : ℤ → Bool) where
   keep_or_skip : (low : ℤ) (rest d : List ℤ) → (test low ≡ true → low ∷ filter test rest ≡ d) → (test low ≡ false → filter test rest ≡ d) → filter test (low ∷ rest) ≡ d
   keep_or_skip low rest d pass fail = go (test low) refl
     where
-    go : (b : Bool) → test low ≡ b → cond b (low ∷ filter test rest) (filter test rest) ≡ d
-    go true e = pass e
-    go false e = fail e
+      go : (b : Bool) → test low ≡ b → cond b (low ∷ filter test rest) (filter test rest) ≡ d
+      go true e = pass e
+      go false e = fail e
 
   -- the first number of a rising list is the least number that it may have, if that one is in it
   head_is : (low x : ℤ) (xs : List ℤ) → low ≤ℤ x → AllByRecursion (λ y. x <ℤ y) xs → Among low (x ∷ xs) → x ≡ low
@@ -69,10 +69,10 @@ module _ (test : ℤ → Bool) where
       keep_or_skip low (run (low +ℤ pos 1) n) (x ∷ xs)
       (λ pass. let same : x ≡ low = head_is low x xs within.0.0 rising.0 (only low (omega (arith, ints)) (omega (arith, ints)) pass) in
       ap (λ (l : List ℤ). low ∷ l) (all_left (low +ℤ pos 1) n xs rising.1 (both_all (λ y. x <ℤ y) (IsIn low (suc n)) (IsIn (low +ℤ pos 1) n) (next_in low x n within.0.0) xs rising.0 within.1) each.1
-        (λ v from to t. rest_has low x v xs same from (only v (omega (arith, ints, from)) (omega (arith, ints, to)) t)))
+      (λ v from to t. rest_has low x v xs same from (only v (omega (arith, ints, from)) (omega (arith, ints, to)) t)))
       ∙ ap (λ (y : ℤ). y ∷ xs) (sym same))
       (λ fail. all_left (low +ℤ pos 1) n (x ∷ xs) rising ((head_beyond low x within.0.0 fail each.0, omega (arith, ints, within.0.1)), both_all (λ y. x <ℤ y) (IsIn low (suc n)) (IsIn (low +ℤ pos 1) n) (next_in low x n within.0.0) xs rising.0 within.1) each
-        (λ v from to t. only v (omega (arith, ints, from)) (omega (arith, ints, to)) t))
+      (λ v from to t. only v (omega (arith, ints, from)) (omega (arith, ints, to)) t))
 
 abbrev low_of : Interval → ℤ
 low_of r = r.low
@@ -100,9 +100,9 @@ union_is : (rs : List Interval) (d : List ℤ) → IsDomain d → ((v : ℤ) →
 unfolding union_of values_between
 union_is rs d dom has =
     sym (all_left (λ v. list_any (has_number v) rs) (neg_ℤ (pos 1000000)) 2000001 d dom.rising
-      (both_all WithinLimits WithinLimits (IsIn (neg_ℤ (pos 1000000)) 2000001) within_limits d dom.within dom.within)
-      (recursion_from_All (λ v. list_any (has_number v) rs ≡ true) d (λ k e below. passes rs (get_or d k e) ((has (get_or d k e)).0 (Contains-get_or d k e below))))
-      (λ v from to t. let c = (has v).1 (passed rs v t) in among_at d v c.0 c.1 c.2))
+    (both_all WithinLimits WithinLimits (IsIn (neg_ℤ (pos 1000000)) 2000001) within_limits d dom.within dom.within)
+    (recursion_from_All (λ v. list_any (has_number v) rs ≡ true) d (λ k e below. passes rs (get_or d k e) ((has (get_or d k e)).0 (Contains-get_or d k e below))))
+    (λ v from to t. let c = (has v).1 (passed rs v t) in among_at d v c.0 c.1 c.2))
 
 pub union_made : (rs : List Interval) (d lows highs : List ℤ) → lows ≡ map (λ r. r.low) rs → highs ≡ map (λ r. r.high) rs → IsDomain d → ((v : ℤ) → Contains d v ↔ InSomeRange lows highs v) → d ≡ union_of rs
 union_made rs d lows highs lows_are highs_are dom has =
@@ -152,9 +152,9 @@ highs_within rs highs are inside = subst (All WithinLimits) (sym are) (All-from_
 digit_test : (v : ℤ) → list_any (λ r. is_between r.low v r.high) digits ≡ is_between (pos 0) v (pos 9)
 digit_test v = or_false (is_between (pos 0) v (pos 9))
   where
-  or_false : (b : Bool) → (b || false) ≡ b
-  or_false true = refl
-  or_false false = refl
+    or_false : (b : Bool) → (b || false) ≡ b
+    or_false true = refl
+    or_false false = refl
 
 pub ten_digits : length (union_of digits) ≡ 10
 unfolding union_of
@@ -168,13 +168,13 @@ ten_digits =
     let above = none_between test (pos 10) high (omega (arith, ints)) (λ v from to. digit_test v ∙ outside v (inr (omega (arith, ints, from)))) in
     let a = values_between low (neg_ℤ (pos 1)) in let b = values_between (pos 0) (pos 9) in let c = values_between (pos 10) high in let rest = values_between (pos 0) high in
     let whole : filter test (values_between low high) ≡ b =
-      ap (filter test) first ∙ filter-append test a rest ∙ ap (λ (l : List ℤ). l ++ filter test rest) below ∙ ap (filter test) second ∙ filter-append test b c ∙ ap (λ (l : List ℤ). l ++ filter test c) here ∙ ap (λ (l : List ℤ). b ++ l) above ∙ append-nil b in
+    ap (filter test) first ∙ filter-append test a rest ∙ ap (λ (l : List ℤ). l ++ filter test rest) below ∙ ap (filter test) second ∙ filter-append test b c ∙ ap (λ (l : List ℤ). l ++ filter test c) here ∙ ap (λ (l : List ℤ). b ++ l) above ∙ append-nil b in
     let ten = length-between (pos 0) (pos 9) (omega (arith, ints)) in
     ap length whole ∙ omega (arith, ints, ten)
   where
-  inside : (v : ℤ) → pos 0 ≤ℤ v → v ≤ℤ pos 9 → is_between (pos 0) v (pos 9) ≡ true
-  inside v from to = grind (arith, ints)
+    inside : (v : ℤ) → pos 0 ≤ℤ v → v ≤ℤ pos 9 → is_between (pos 0) v (pos 9) ≡ true
+    inside v from to = grind (arith, ints)
 
-  outside : (v : ℤ) → (v <ℤ pos 0) ⊎ (pos 9 <ℤ v) → is_between (pos 0) v (pos 9) ≡ false
-  outside v (inl h) = grind (arith, ints)
-  outside v (inr h) = grind (arith, ints)
+    outside : (v : ℤ) → (v <ℤ pos 0) ⊎ (pos 9 <ℤ v) → is_between (pos 0) v (pos 9) ≡ false
+    outside v (inl h) = grind (arith, ints)
+    outside v (inr h) = grind (arith, ints)

@@ -6,4 +6,5 @@ pub mod ModelReading
 pub mod Promise
 pub mod Series
 pub mod Compares
+pub mod Meets
 pub mod Views

@@ -150,7 +150,12 @@ impl Cells {
     }
 
     /// Every cell has this domain from the line with this number on.
-    pub(crate) fn set_all(&mut self, lists: bool, line: usize, domain: Domain) -> Result<(), LineStop>
+    pub(crate) fn set_all(
+        &mut self,
+        lists: bool,
+        line: usize,
+        domain: Domain,
+    ) -> Result<(), LineStop>
         requires { IsKept lists line self.old }
         ensures set { Gives (λ _. domains self.new) result (within_total lists (map (λ _. domain) (domains self.old))) }
         ensures kept { OnOk result (IsKept lists (line + 1) self.new) }
@@ -167,7 +172,13 @@ impl Cells {
     }
 
     /// The cell at this place has this domain from the line with this number on.
-    pub(crate) fn set_one(&mut self, lists: bool, line: usize, place: usize, domain: Domain) -> Result<(), LineStop>
+    pub(crate) fn set_one(
+        &mut self,
+        lists: bool,
+        line: usize,
+        place: usize,
+        domain: Domain,
+    ) -> Result<(), LineStop>
         requires kept { IsKept lists line self.old }
         requires there { place < length (domains self.old) }
         ensures set { Gives (λ _. domains self.new) result (within_total lists (set (domains self.old) place domain)) }

@@ -8,9 +8,12 @@ ghost use Rattle.ts_model.specs.Statement.{term_length, made_parts, parts_said, 
 ghost use Rattle.ts_model.specs.Views.{texts, said, Gives};
 
 use crate::error::{LineStop, ModelKind};
-use crate::statement::{Ranges, Statement, TermParts};
 use crate::names::{aggregator_named, feature_named, pattern_named};
-use crate::words::{Form, bound_of, form_of, is_count, is_equals, name_of, number_at, op_of, range_of, text_at, word_count};
+use crate::statement::{Ranges, Statement, TermParts};
+use crate::words::{
+    Form, bound_of, form_of, is_count, is_equals, name_of, number_at, op_of, range_of, text_at,
+    word_count,
+};
 use std::alloc::Global;
 use ts_pattern::{Aggregator, Feature, PatternId};
 use ts_token::Word;

@@ -11,10 +11,10 @@ ghost use Rattle.ts_model.specs.ModelReading.{needs_lists, needs_objective, IsRe
 ghost use Rattle.ts_model.specs.Promise.{IsWhole, KeepsLimits};
 ghost use Rattle.ts_model.specs.Views.{texts, stated, drafted, IsSound, Gives, Drafts, Reads, Tells};
 
+use crate::cells::Cells;
 use crate::draft::Draft;
 use crate::error::{LineStop, ModelKind, ModelStop, at_line};
 use crate::model::{Model, Need};
-use crate::cells::Cells;
 use crate::parse::parse;
 use crate::take::take;
 use indexmap::IndexMap;
@@ -23,7 +23,13 @@ use ts_base::Memory;
 use ts_token::{Line, Tokens, Word};
 
 /// What the line with this number, counted from 1 among those with words, adds to the draft.
-fn take_line(alloc: Global, draft: &mut Draft, lists: bool, line: usize, words: &[Word]) -> Result<(), LineStop>
+fn take_line(
+    alloc: Global,
+    draft: &mut Draft,
+    lists: bool,
+    line: usize,
+    words: &[Word],
+) -> Result<(), LineStop>
     requires { IsSound lists line draft.old }
     ensures taken { Gives (λ _. drafted draft.new) result (line_gives lists (drafted draft.old) (texts words.now)) }
     ensures sound { OnOk result (IsSound lists (line + 1) draft.new) }

@@ -6,10 +6,10 @@ ghost use Rattle.ts_model.specs.Statement.{SaysCells, SaysDomain, SaysCell, Says
 ghost use Rattle.ts_model.specs.Stated.{term_at, has_cells, is_between, is_backward, is_outside, is_bound, taken, term_made, IsPlace};
 ghost use Rattle.ts_model.specs.Views.{said, parts_of, drafted, Gives, IsSound};
 
+use crate::cells::{Cells, union_of};
 use crate::draft::Draft;
 use crate::error::{LineStop, ModelKind};
 use crate::model::{Op, Require};
-use crate::cells::{Cells, union_of};
 use crate::statement::{Ranges, Statement, TermParts};
 use std::alloc::Global;
 use ts_base::Ext;
@@ -42,7 +42,10 @@ fn has_backward(ranges: &[Interval]) -> bool
 fn is_outside(range: Interval) -> bool
     ensures { result ≡ is_outside range }
 {
-    range.low < -1_000_000 || range.low > 1_000_000 || range.high < -1_000_000 || range.high > 1_000_000
+    range.low < -1_000_000
+        || range.low > 1_000_000
+        || range.high < -1_000_000
+        || range.high > 1_000_000
 }
 
 fn has_outside(ranges: &[Interval]) -> bool
@@ -60,7 +63,13 @@ fn is_bound(bound: Ext) -> bool
     }
 }
 
-fn take_cells(alloc: Global, draft: &mut Draft, lists: bool, line: usize, count: i64) -> Result<(), LineStop>
+fn take_cells(
+    alloc: Global,
+    draft: &mut Draft,
+    lists: bool,
+    line: usize,
+    count: i64,
+) -> Result<(), LineStop>
     requires { IsSound lists line draft.old }
     ensures taken { Gives (λ _. drafted draft.new) result (taken lists (drafted draft.old) (SaysCells count)) }
     ensures sound { OnOk result (IsSound lists (line + 1) draft.new) }
@@ -75,7 +84,13 @@ fn take_cells(alloc: Global, draft: &mut Draft, lists: bool, line: usize, count:
     Ok(())
 }
 
-fn take_domain(alloc: Global, draft: &mut Draft, lists: bool, line: usize, ranges: &Ranges) -> Result<(), LineStop>
+fn take_domain(
+    alloc: Global,
+    draft: &mut Draft,
+    lists: bool,
+    line: usize,
+    ranges: &Ranges,
+) -> Result<(), LineStop>
     requires { IsSound lists line draft.old }
     ensures taken { Gives (λ _. drafted draft.new) result (taken lists (drafted draft.old) (SaysDomain ranges.now.items.items)) }
     ensures sound { OnOk result (IsSound lists (line + 1) draft.new) }
@@ -104,7 +119,14 @@ fn place_of(draft: &Draft, cell: i64) -> Option<usize>
     Some(cell as usize - 1)
 }
 
-fn take_cell(alloc: Global, draft: &mut Draft, lists: bool, line: usize, cell: i64, ranges: &Ranges) -> Result<(), LineStop>
+fn take_cell(
+    alloc: Global,
+    draft: &mut Draft,
+    lists: bool,
+    line: usize,
+    cell: i64,
+    ranges: &Ranges,
+) -> Result<(), LineStop>
     requires { IsSound lists line draft.old }
     ensures taken { Gives (λ _. drafted draft.new) result (taken lists (drafted draft.old) (SaysCell cell ranges.now.items.items)) }
     ensures sound { OnOk result (IsSound lists (line + 1) draft.new) }
@@ -140,7 +162,14 @@ fn term_of(parts: Option<TermParts>) -> Result<Term, LineStop>
     }
 }
 
-fn take_term(alloc: Global, draft: &mut Draft, lists: bool, line: usize, name: &str, parts: Option<TermParts>) -> Result<(), LineStop>
+fn take_term(
+    alloc: Global,
+    draft: &mut Draft,
+    lists: bool,
+    line: usize,
+    name: &str,
+    parts: Option<TermParts>,
+) -> Result<(), LineStop>
     requires { IsSound lists line draft.old }
     ensures taken { Gives (λ _. drafted draft.new) result (taken lists (drafted draft.old) (SaysTerm name.now parts)) }
     ensures sound { OnOk result (IsSound lists (line + 1) draft.new) }
@@ -160,7 +189,14 @@ fn take_term(alloc: Global, draft: &mut Draft, lists: bool, line: usize, name: &
     Ok(())
 }
 
-fn take_require(draft: &mut Draft, lists: bool, line: usize, name: &str, op: Op, bound: Ext) -> Result<(), LineStop>
+fn take_require(
+    draft: &mut Draft,
+    lists: bool,
+    line: usize,
+    name: &str,
+    op: Op,
+    bound: Ext,
+) -> Result<(), LineStop>
     requires { IsSound lists line draft.old }
     ensures taken { Gives (λ _. drafted draft.new) result (taken lists (drafted draft.old) (SaysRequire name.now op bound)) }
     ensures sound { OnOk result (IsSound lists (line + 1) draft.new) }
@@ -201,7 +237,13 @@ fn take_objective(draft: &mut Draft, lists: bool, line: usize, name: &str) -> Re
 }
 
 /// What the statement of the line with this number, counted from 1 among those with words, adds to the draft.
-pub(crate) fn take(alloc: Global, draft: &mut Draft, lists: bool, line: usize, statement: Statement) -> Result<(), LineStop>
+pub(crate) fn take(
+    alloc: Global,
+    draft: &mut Draft,
+    lists: bool,
+    line: usize,
+    statement: Statement,
+) -> Result<(), LineStop>
     requires { IsSound lists line draft.old }
     ensures taken { Gives (λ _. drafted draft.new) result (taken lists (drafted draft.old) (said statement.entry)) }
     ensures sound { OnOk result (IsSound lists (line + 1) draft.new) }

@@ -15,20 +15,68 @@ static MODELS: [(Need, &str, &str); 116] = [
     (Need::Values, "cells 2\r\n\tdomain  0..1 \r\n", "ok"),
     (Need::Values, "cells 1\ndomain -1000000..1000000\n", "ok"),
     (Need::Values, "cells 2\ncell 2 0 3..5 -7..-6 4\n", "ok"),
-    (Need::Values, "cells 2\ncell 1 5\ndomain 0 1\ncell 1 2\n", "ok"),
-    (Need::Values, "cells 2\nterm a_1 = sum width peak\nrequire a_1 >= 3\n", "ok"),
-    (Need::Values, "cells 2\nterm count = count peak\nobjective count\n", "ok"),
-    (Need::Values, "cells 2\nterm a = sum one peak\nterm b = count peak\n", "ok"),
-    (Need::Values, "cells 2\nterm a = max min bump_on_decreasing_sequence\n", "ok"),
-    (Need::Values, "cells 2\nterm a = min surf dip_on_increasing_sequence\n", "ok"),
-    (Need::Values, "cells 2\nterm a = count zigzag\nrequire a = -inf\nrequire a != +inf\n", "ok"),
-    (Need::Values, "cells 2\nterm a = count gorge\nrequire a < 1\nrequire a > 0\nrequire a <= 0\n", "ok"),
-    (Need::Values, "cells 2\nterm a = count steady\nrequire a >= -1000000000000\n", "ok"),
-    (Need::Values, "cells 2\nterm a = count steady\nrequire a = 1000000000000\n", "ok"),
-    (Need::Values, "cells 2\nterm abcdefghijklmnopqrstuvwxyz_01234 = count plain\n", "ok"),
+    (
+        Need::Values,
+        "cells 2\ncell 1 5\ndomain 0 1\ncell 1 2\n",
+        "ok",
+    ),
+    (
+        Need::Values,
+        "cells 2\nterm a_1 = sum width peak\nrequire a_1 >= 3\n",
+        "ok",
+    ),
+    (
+        Need::Values,
+        "cells 2\nterm count = count peak\nobjective count\n",
+        "ok",
+    ),
+    (
+        Need::Values,
+        "cells 2\nterm a = sum one peak\nterm b = count peak\n",
+        "ok",
+    ),
+    (
+        Need::Values,
+        "cells 2\nterm a = max min bump_on_decreasing_sequence\n",
+        "ok",
+    ),
+    (
+        Need::Values,
+        "cells 2\nterm a = min surf dip_on_increasing_sequence\n",
+        "ok",
+    ),
+    (
+        Need::Values,
+        "cells 2\nterm a = count zigzag\nrequire a = -inf\nrequire a != +inf\n",
+        "ok",
+    ),
+    (
+        Need::Values,
+        "cells 2\nterm a = count gorge\nrequire a < 1\nrequire a > 0\nrequire a <= 0\n",
+        "ok",
+    ),
+    (
+        Need::Values,
+        "cells 2\nterm a = count steady\nrequire a >= -1000000000000\n",
+        "ok",
+    ),
+    (
+        Need::Values,
+        "cells 2\nterm a = count steady\nrequire a = 1000000000000\n",
+        "ok",
+    ),
+    (
+        Need::Values,
+        "cells 2\nterm abcdefghijklmnopqrstuvwxyz_01234 = count plain\n",
+        "ok",
+    ),
     (Need::Values, "cells 512\ndomain 0..128\n", "ok"),
     (Need::List, "cells 512\ndomain 0..127\n", "ok"),
-    (Need::Best, "cells 2\nterm a = count peak\nobjective a\n", "ok"),
+    (
+        Need::Best,
+        "cells 2\nterm a = count peak\nobjective a\n",
+        "ok",
+    ),
     // a line that isn't text
     (Need::Values, "cells 2\nx\u{1}", "2 NotText"),
     (Need::Values, "cells 2\n# \u{7f}\n", "2 NotText"),
@@ -53,7 +101,11 @@ static MODELS: [(Need, &str, &str); 116] = [
     (Need::Values, "term 1a = count peak\n", "1 Shape"),
     (Need::Values, "term a = count sum peak\n", "1 Shape"),
     (Need::Values, "term a = count\n", "1 Shape"),
-    (Need::Values, "term abcdefghijklmnopqrstuvwxyz_012345 = count plain\n", "1 Shape"),
+    (
+        Need::Values,
+        "term abcdefghijklmnopqrstuvwxyz_012345 = count plain\n",
+        "1 Shape",
+    ),
     (Need::Values, "require a => 1\n", "1 Shape"),
     (Need::Values, "require a = 1 2\n", "1 Shape"),
     (Need::Values, "require a- = 1\n", "1 Shape"),
@@ -88,48 +140,148 @@ static MODELS: [(Need, &str, &str); 116] = [
     (Need::Values, "cells -1\n", "1 CellRange"),
     (Need::Values, "cells 2\ncell 3 1\n", "2 CellRange"),
     (Need::Values, "cells 2\ncell 0 5..4\n", "2 CellRange"),
-    (Need::Values, "cells 2\ncell 9223372036854775807 1\n", "2 CellRange"),
+    (
+        Need::Values,
+        "cells 2\ncell 9223372036854775807 1\n",
+        "2 CellRange",
+    ),
     // empty ranges
     (Need::Values, "cells 3\ndomain 5..4\n", "2 Empty"),
     (Need::Values, "cells 3\ncell 2 0 1..0\n", "2 Empty"),
     (Need::Values, "cells 3\ndomain 2000000..1\n", "2 Empty"),
     // unknown names, bad pairs
-    (Need::Values, "cells 3\nterm m = max surf hill\n", "2 UnknownName"),
-    (Need::Values, "cells 3\nterm m = avg surf peak\n", "2 UnknownName"),
-    (Need::Values, "cells 3\nterm m = max area peak\n", "2 UnknownName"),
-    (Need::Values, "cells 3\nterm m = count hill\n", "2 UnknownName"),
-    (Need::Values, "cells 3\nterm m = max one hill\n", "2 UnknownName"),
-    (Need::Values, "cells 3\nterm m = count peak\nterm m = sum one peaks\n", "3 UnknownName"),
-    (Need::Values, "cells 3\nterm m = max one peak\n", "2 BadPair"),
-    (Need::Values, "cells 3\nterm m = count peak\nterm m = min one peak\n", "3 BadPair"),
+    (
+        Need::Values,
+        "cells 3\nterm m = max surf hill\n",
+        "2 UnknownName",
+    ),
+    (
+        Need::Values,
+        "cells 3\nterm m = avg surf peak\n",
+        "2 UnknownName",
+    ),
+    (
+        Need::Values,
+        "cells 3\nterm m = max area peak\n",
+        "2 UnknownName",
+    ),
+    (
+        Need::Values,
+        "cells 3\nterm m = count hill\n",
+        "2 UnknownName",
+    ),
+    (
+        Need::Values,
+        "cells 3\nterm m = max one hill\n",
+        "2 UnknownName",
+    ),
+    (
+        Need::Values,
+        "cells 3\nterm m = count peak\nterm m = sum one peaks\n",
+        "3 UnknownName",
+    ),
+    (
+        Need::Values,
+        "cells 3\nterm m = max one peak\n",
+        "2 BadPair",
+    ),
+    (
+        Need::Values,
+        "cells 3\nterm m = count peak\nterm m = min one peak\n",
+        "3 BadPair",
+    ),
     // terms
-    (Need::Values, "cells 2\nrequire a = 1\nterm a = count peak\n", "2 UnknownTerm"),
-    (Need::Values, "cells 2\nterm a = count peak\nrequire b = 2000000000000\n", "3 UnknownTerm"),
-    (Need::Values, "cells 2\nterm a = count peak\nobjective a\nobjective aa\n", "4 UnknownTerm"),
-    (Need::Values, "cells 2\nterm a = count peak\nterm a = sum width peak\n", "3 TermTwice"),
-    (Need::Values, "cells 2\nterm a = count peak\nobjective a\nobjective a\n", "4 ObjectiveTwice"),
+    (
+        Need::Values,
+        "cells 2\nrequire a = 1\nterm a = count peak\n",
+        "2 UnknownTerm",
+    ),
+    (
+        Need::Values,
+        "cells 2\nterm a = count peak\nrequire b = 2000000000000\n",
+        "3 UnknownTerm",
+    ),
+    (
+        Need::Values,
+        "cells 2\nterm a = count peak\nobjective a\nobjective aa\n",
+        "4 UnknownTerm",
+    ),
+    (
+        Need::Values,
+        "cells 2\nterm a = count peak\nterm a = sum width peak\n",
+        "3 TermTwice",
+    ),
+    (
+        Need::Values,
+        "cells 2\nterm a = count peak\nobjective a\nobjective a\n",
+        "4 ObjectiveTwice",
+    ),
     (Need::Best, "cells 2\n", "2 NoObjective"),
-    (Need::Best, "cells 2\nterm a = count peak\n\n", "4 NoObjective"),
+    (
+        Need::Best,
+        "cells 2\nterm a = count peak\n\n",
+        "4 NoObjective",
+    ),
     (Need::List, "cells 2\n", "ok"),
     // limits of values and bounds
     (Need::Values, "cells 1\ndomain 1000001\n", "2 Limit"),
     (Need::Values, "cells 1\ndomain 0 -1000001..5\n", "2 Limit"),
     (Need::Values, "cells 1\ncell 1 0..1000001\n", "2 Limit"),
-    (Need::Values, "cells 1\nterm a = count peak\nrequire a = 1000000000001\n", "3 Limit"),
-    (Need::Values, "cells 1\nterm a = count peak\nrequire a = -1000000000001\n", "3 Limit"),
+    (
+        Need::Values,
+        "cells 1\nterm a = count peak\nrequire a = 1000000000001\n",
+        "3 Limit",
+    ),
+    (
+        Need::Values,
+        "cells 1\nterm a = count peak\nrequire a = -1000000000001\n",
+        "3 Limit",
+    ),
     // the limit of all domains together
     (Need::List, "cells 512\ndomain 0..128\n", "2 Limit"),
     (Need::Best, "cells 512\ndomain 0..128\n", "2 Limit"),
     (Need::List, "cells 1\ndomain 0..65535 7 0..65535\n", "ok"),
     (Need::List, "cells 1\ndomain 0..65536\n", "2 Limit"),
-    (Need::List, "cells 512\ndomain 0..127\ncell 1 0..128\n", "3 Limit"),
-    (Need::List, "cells 512\ndomain 0..127\ncell 1 0\ncell 2 0..254\n", "ok"),
-    (Need::List, "cells 512\ndomain 0..127\ncell 1 0\ncell 2 0..255\n", "4 Limit"),
-    (Need::List, "cells 2\ncell 1 0..60000\ndomain 0..9\ncell 2 0..65525\n", "ok"),
-    (Need::List, "cells 2\ncell 1 0..60000\ndomain 0..9\ncell 2 0..65526\n", "4 Limit"),
-    (Need::List, "cells 2\ncell 1 0..60000\ncell 1 0..65525\n", "ok"),
-    (Need::List, "cells 2\ncell 1 0..65525\ncell 2 0..10\n", "3 Limit"),
-    (Need::List, "cells 512\ndomain 0..128\ndomain 0\n", "2 Limit"),
+    (
+        Need::List,
+        "cells 512\ndomain 0..127\ncell 1 0..128\n",
+        "3 Limit",
+    ),
+    (
+        Need::List,
+        "cells 512\ndomain 0..127\ncell 1 0\ncell 2 0..254\n",
+        "ok",
+    ),
+    (
+        Need::List,
+        "cells 512\ndomain 0..127\ncell 1 0\ncell 2 0..255\n",
+        "4 Limit",
+    ),
+    (
+        Need::List,
+        "cells 2\ncell 1 0..60000\ndomain 0..9\ncell 2 0..65525\n",
+        "ok",
+    ),
+    (
+        Need::List,
+        "cells 2\ncell 1 0..60000\ndomain 0..9\ncell 2 0..65526\n",
+        "4 Limit",
+    ),
+    (
+        Need::List,
+        "cells 2\ncell 1 0..60000\ncell 1 0..65525\n",
+        "ok",
+    ),
+    (
+        Need::List,
+        "cells 2\ncell 1 0..65525\ncell 2 0..10\n",
+        "3 Limit",
+    ),
+    (
+        Need::List,
+        "cells 512\ndomain 0..128\ndomain 0\n",
+        "2 Limit",
+    ),
     // two bad lines
     (Need::Values, "cells 2\ndomain 5..4\nfoo\n", "2 Empty"),
     (Need::Values, "cells 2\nfoo\n\u{1}\n", "2 UnknownLine"),
@@ -137,13 +289,21 @@ static MODELS: [(Need, &str, &str); 116] = [
     (Need::Best, "foo\ncells 2\n", "1 UnknownLine"),
     (Need::Values, "cells 2\ncell 3 0\ncells 2\n", "2 CellRange"),
     (Need::Values, "domain 0\n\u{1}\n", "1 NoCells"),
-    (Need::Values, "cells 2\nrequire a = 1\nobjective a\n", "2 UnknownTerm"),
+    (
+        Need::Values,
+        "cells 2\nrequire a = 1\nobjective a\n",
+        "2 UnknownTerm",
+    ),
 ];
 
 /// A text, a number of cells, and the answer.
 static SERIES: [(&str, u32, &str); 18] = [
     ("series 1 2\n", 2, "Ok([1, 2])"),
-    ("# a\n\n\tseries  -1000000 1000000", 2, "Ok([-1000000, 1000000])"),
+    (
+        "# a\n\n\tseries  -1000000 1000000",
+        2,
+        "Ok([-1000000, 1000000])",
+    ),
     ("series\n", 0, "Ok([])"),
     ("series 1\n", 2, "Err(Length)"),
     ("series 1 2 3\n", 2, "Err(Length)"),
@@ -197,7 +357,8 @@ fn many(alloc: Global, terms: usize, requirements: usize) -> Result<String, Fail
 
 /// The domains' sizes, the term numbers, and what else a model has, by one text.
 fn read_one(alloc: Global, rt: &impl Abort) -> Result<(), Fail> {
-    let text = "cells 3\ndomain 0..1\nterm w = sum width peak\nterm c = count peak\ncell 2 7 5..6 6\n\
+    let text =
+        "cells 3\ndomain 0..1\nterm w = sum width peak\nterm c = count peak\ncell 2 7 5..6 6\n\
                 require c <= -inf\nrequire w > 4\nobjective c\n";
     let tokens = cut_tokens(alloc, text.as_bytes())?;
     match read_model(alloc, &tokens, Need::Best) {
@@ -205,8 +366,14 @@ fn read_one(alloc: Global, rt: &impl Abort) -> Result<(), Fail> {
             assert_eq!(rt; sizes(alloc, &model)?.as_slice(), [2, 3, 2].as_slice());
             assert_eq!(rt; model.n, 3);
             assert_eq!(rt; model.objective, Some(1));
-            assert_eq!(rt; format!(in alloc; "{:?}", model.requirements)?.as_str(), "[Require { term: 1, op: AtMost, bound: NegInf }, Require { term: 0, op: Above, bound: Int(4) }]");
-            assert_eq!(rt; format!(in alloc; "{:?}", model.terms)?.as_str(), "{\"w\": Term { aggregator: Sum, feature: Width, pattern: Peak }, \"c\": Term { aggregator: Sum, feature: One, pattern: Peak }}");
+            assert_eq!(rt;
+                format!(in alloc; "{:?}", model.requirements)?.as_str(),
+                "[Require { term: 1, op: AtMost, bound: NegInf }, Require { term: 0, op: Above, bound: Int(4) }]"
+            );
+            assert_eq!(rt;
+                format!(in alloc; "{:?}", model.terms)?.as_str(),
+                "{\"w\": Term { aggregator: Sum, feature: Width, pattern: Peak }, \"c\": Term { aggregator: Sum, feature: One, pattern: Peak }}"
+            );
         }
         Err(_) => assert!(rt; false, "refused"),
     }

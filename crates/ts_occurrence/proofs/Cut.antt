@@ -1,6 +1,6 @@
 -- Where a stack of ranges is cut: one more range from the end that begins at the cell or behind it, or the first that
 -- begins before it.
-use Rattle.std.specs.Prelude.{◌≡◌, ℕ, ◌+◌, ◌-◌, ◌<◌, ◌≤◌, List, ◌∷◌, length, drop, slice_get, Some}
+use Rattle.std.specs.Prelude.{◌≡◌, ℕ, ◌+◌, ◌-◌, ◌<◌, ◌≤◌, List, ◌∷◌, length, drop, Some}
 use Rattle.std.proofs.Common.{sym, ◌∙◌, ap, subst, arith, get_or, add-one, drop-cons}
 use Rattle.std.proofs.lemmas.Option.{slice_get-get_or}
 use Rattle.ts_base.specs.declared.range.Range.{Range}

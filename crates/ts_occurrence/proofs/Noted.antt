@@ -1,6 +1,6 @@
 -- What is noted at a letter keeps the list the list of the occurrences.
-use Rattle.std.specs.Prelude.{◌≡◌, ℕ, zero, suc, ◌+◌, ◌-◌, ◌<◌, ◌≤◌, Bool, true, false, cond, List, [], ◌∷◌, ◌++◌, map, length, take, drop, slice_get, Option, None, Some, refl}
-use Rattle.std.proofs.Common.{sym, ◌∙◌, ap, subst, inl, inr, arith, ⊎_elim, length-append, length-drop, append-nil}
+use Rattle.std.specs.Prelude.{◌≡◌, ℕ, zero, suc, ◌+◌, ◌-◌, ◌<◌, ◌≤◌, true, false, cond, List, [], ◌∷◌, ◌++◌, map, length, take, drop, slice_get, Option, None, Some, refl}
+use Rattle.std.proofs.Common.{sym, ◌∙◌, ap, subst, arith, ⊎_elim, length-append, length-drop, append-nil}
 use Rattle.std.proofs.lemmas.List.{map-append, length-take}
 use Rattle.ts_base.specs.declared.letter.Letter.{Letter}
 use Rattle.ts_base.specs.declared.range.Range.{Range}
@@ -11,15 +11,13 @@ use Rattle.ts_regex.proofs.Laws.{nullable_law}
 use Rattle.ts_pattern.specs.EachOf.{Each, OneOf}
 use Rattle.ts_pattern.specs.Occurrences.{IsMatch, IsOccurrence}
 use Rattle.ts_pattern.specs.OccurrenceList.{Place, RisingPlaces, AreOccurrences, e_range, AreRanges}
-use Rattle.ts_pattern.specs.AllOccurrences.{occurrence_ranges}
 use Rattle.ts_pattern.specs.FeatureValue.{IsInside}
 use Rattle.ts_pattern.specs.Trims.{FitsTrims}
-use Rattle.ts_pattern.proofs.OneLetter.{NoneEnds, IsLeastStart}
+use Rattle.ts_pattern.proofs.OneLetter.{IsLeastStart}
 use Rattle.ts_pattern.proofs.Entries.{Rising, Covers}
 use Rattle.ts_pattern.proofs.LiveEntries.{Follows, AreLive}
 use Rattle.ts_pattern.proofs.Ends.{Accepts, match_kept, none_ends, to_the_end, each_and}
 use Rattle.ts_pattern.proofs.Places.{each_map, occurrences_none, occurrences_some}
-use Rattle.ts_pattern.proofs.AllOccurrences.{ranges_are}
 use Rattle.ts_occurrence.specs.Live.{Start, first_ending}
 use Rattle.ts_occurrence.specs.Noted.{IsCut, IsNoted}
 

@@ -1,7 +1,7 @@
 -- The survivors of one more entry: it comes last, unless it has no word or an earlier one has its residual.
-use Rattle.std.specs.Prelude.{◌≡◌, ℕ, ◌+◌, ◌<◌, Bool, true, false, cond, not, ◌&&◌, ◌||◌, List, [], ◌∷◌, ◌++◌, map, length, take, Option, None, Some, refl}
-use Rattle.std.specs.List.{filter, list_any}
-use Rattle.std.proofs.Common.{sym, ◌∙◌, ap, subst, arith, get_or, append-nil, append_assoc}
+use Rattle.std.specs.Prelude.{◌≡◌, ℕ, ◌+◌, ◌<◌, Bool, true, false, cond, not, ◌&&◌, ◌||◌, List, [], ◌∷◌, ◌++◌, length, take, refl}
+use Rattle.std.specs.List.{list_any}
+use Rattle.std.proofs.Common.{sym, ◌∙◌, ap, subst, get_or, append-nil}
 use Rattle.std.proofs.lemmas.List.{map-append, take_more}
 use Rattle.std.proofs.lemmas.Option.{slice_get-get_or}
 use Rattle.std.proofs.lemmas.List.Elements.{filter-append}
@@ -10,7 +10,7 @@ use Rattle.ts_regex.specs.Shape.{Shape, shape_of}
 use Rattle.ts_regex.specs.Derivative.{has_word}
 use Rattle.ts_regex.specs.NormalForm.{residual, same_shape}
 use Rattle.ts_regex.proofs.Laws.{same_law}
-use Rattle.ts_pattern.specs.Entries.{Entry, shapes, derive_entry, derived, alive, without, keep, survivors}
+use Rattle.ts_pattern.specs.Entries.{shapes, derive_entry, derived, alive, without, keep, survivors}
 use Rattle.ts_occurrence.specs.declared.live.LiveStart.{LiveStart}
 use Rattle.ts_occurrence.specs.Live.{Start, entry, entry_of, entries_of, kept_with}
 

@@ -1,15 +1,13 @@
 -- A total over a list with one more number, for any way to join numbers; and how large totals are.
-use Rattle.std.specs.Prelude.{◌≡◌, ℕ, zero, suc, ◌+◌, ◌*◌, ◌<◌, ◌≤◌, ℤ, pos, negsuc, neg_ℤ, ◌+ℤ◌, ◌≤ℤ◌, int_lt, Bool, true, false, cond, List, [], ◌∷◌, ◌++◌, map, length, take, drop, Option, None, Some, IfSome, slice_get, slice_range, refl}
-use Rattle.std.specs.List.{All, fold}
-use Rattle.std.specs.Int.{int_max, int_min}
-use Rattle.std.proofs.Common.{sym, ◌∙◌, ap, subst, arith, get_or, length-drop}
+use Rattle.std.specs.Prelude.{◌≡◌, ℕ, zero, suc, ◌+◌, ◌*◌, ◌<◌, ◌≤◌, ℤ, pos, ◌+ℤ◌, List, [], ◌∷◌, ◌++◌, map, length, take, Option, None, Some, IfSome, refl}
+use Rattle.std.specs.List.{fold}
+use Rattle.std.proofs.Common.{sym, ◌∙◌, ap, subst, arith, get_or}
 use Rattle.std.proofs.lemmas.Int.{ints, clamps}
-use Rattle.std.proofs.lemmas.List.{take_more, map-append, length-take}
-use Rattle.ts_base.specs.declared.range.Range.{Range}
+use Rattle.std.proofs.lemmas.List.{take_more, map-append}
 use Rattle.ts_pattern.specs.declared.name.Aggregator.{Aggregator}
 use Rattle.ts_pattern.specs.declared.name.Aggregator.TheVariants.{Sum, Max, Min}
 use Rattle.ts_pattern.specs.EachOf.{Each}
-use Rattle.ts_pattern.specs.FeatureValue.{IsInside, over, or_zero}
+use Rattle.ts_pattern.specs.FeatureValue.{over, or_zero}
 use Rattle.ts_pattern.specs.TermValue.{joined}
 use Rattle.ts_occurrence.specs.Total.{IsWithin, with_one}
 

@@ -1,5 +1,5 @@
 -- How many occurrences a series has, and the value of a term from the parts that the code has.
-use Rattle.std.specs.Prelude.{◌≡◌, ℕ, ◌+◌, ◌-◌, ◌<◌, ◌≤◌, ℤ, List, [], ◌∷◌, map, length, refl}
+use Rattle.std.specs.Prelude.{◌≡◌, ℕ, ◌+◌, ◌<◌, ◌≤◌, ℤ, List, [], ◌∷◌, map, length, refl}
 use Rattle.std.proofs.Common.{sym, ◌∙◌, ap, subst, arith}
 use Rattle.ts_base.specs.declared.ext.Ext.{Ext}
 use Rattle.ts_base.specs.declared.letter.Letter.{Letter}
@@ -11,9 +11,8 @@ use Rattle.ts_pattern.specs.declared.name.Feature.{Feature}
 use Rattle.ts_pattern.specs.declared.name.PatternId.{PatternId}
 use Rattle.ts_pattern.specs.EachOf.{Each}
 use Rattle.ts_pattern.specs.Occurrences.{IsOccurrence}
-use Rattle.ts_pattern.specs.OccurrenceList.{Place, RisingPlaces, AreOccurrences, e_range, AreRanges}
+use Rattle.ts_pattern.specs.OccurrenceList.{Place, RisingPlaces, e_range, AreRanges}
 use Rattle.ts_pattern.specs.AllOccurrences.{occurrence_ranges}
-use Rattle.ts_pattern.specs.FeatureValue.{IsInside}
 use Rattle.ts_pattern.specs.PatternTable.{pattern_shape, pattern_b, pattern_a}
 use Rattle.ts_pattern.specs.TermValue.{aggregate_of_ranges, value_of}
 use Rattle.ts_pattern.proofs.Places.{each_map}

@@ -78,8 +78,8 @@ impl Decoder {
         ensures start { self.new.start ≡ None }
         ensures held { self.new.held ≡ None }
     {
-        let last = self.held;
-        *self = Decoder::new();
+        let last = self.held.take();
+        self.start = None;
         last
     }
 }

@@ -15,8 +15,6 @@
 
 pub mod decoder;
 pub mod row;
-#[cfg(test)]
-mod tests;
 pub mod transducer;
 
 pub use decoder::Decoder;

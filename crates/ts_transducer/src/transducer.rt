@@ -85,3 +85,68 @@ fn table_typed(rows: &[Row]) -> bool
         [] => false,
     }
 }
+
+#[cfg(test)]
+mod tests {
+    use super::*;
+    use crate::decoder::Decoder;
+    use std::test::Fail;
+    use ts_base::Range;
+
+    fn row(kind: Kind, less: Arrow, equal: Arrow, greater: Arrow) -> Row {
+        Row {
+            kind,
+            less,
+            equal,
+            greater,
+        }
+    }
+
+    fn to(phase: Phase, next: u8) -> Arrow {
+        Arrow { phase, next }
+    }
+
+    // The peak of the series 1 2 2 1 0 0 1 has the cells 2 to 4.
+    #[test]
+    fn peak(rt: HostRuntime) -> Result<(), Fail> {
+        let start = row(
+            Kind::Idle,
+            to(Phase::Out, 1),
+            to(Phase::Out, 0),
+            to(Phase::Out, 0),
+        );
+        let up = row(
+            Kind::Pending,
+            to(Phase::MaybeB, 1),
+            to(Phase::MaybeB, 1),
+            to(Phase::Found, 2),
+        );
+        let down = row(
+            Kind::Held,
+            to(Phase::OutA, 1),
+            to(Phase::MaybeA, 2),
+            to(Phase::Inside, 2),
+        );
+        let mut rows: ArrayVec<Row, 8> = ArrayVec::new();
+        rows.push(start);
+        rows.push(up);
+        rows.push(down);
+        let peak = Transducer::new(rows).ok_or("typed")?;
+        assert_eq!(rt; peak.rows().len(), 3);
+        let mut held: ArrayVec<Row, 8> = ArrayVec::new();
+        held.push(down);
+        assert!(rt; Transducer::new(held).is_none());
+        let mut decoder = Decoder::new();
+        assert_eq!(rt; decoder.step(1, Phase::Out, 1), None);
+        assert_eq!(rt; decoder.step(2, Phase::MaybeB, 1), None);
+        assert_eq!(rt; decoder.step(3, Phase::Found, 1), None);
+        assert_eq!(rt; decoder.step(4, Phase::Inside, 1), None);
+        assert_eq!(rt; decoder.step(5, Phase::MaybeA, 1), None);
+        assert_eq!(rt;
+            decoder.step(6, Phase::OutA, 1),
+            Some(Range { first: 2, last: 4 })
+        );
+        assert_eq!(rt; decoder.finish(), None);
+        Ok(())
+    }
+}

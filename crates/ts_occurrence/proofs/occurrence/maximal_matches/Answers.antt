@@ -1,4 +1,4 @@
-use Rattle.std.proofs.Common.{◌≡◌, ◌+◌, length, take}
+use Rattle.std.proofs.Common.{◌+◌, length, take}
 use Rattle.ts_base.specs.declared.letter.Letter.TheVariants.{Less}
 use Rattle.ts_regex.specs.Shape.{shape_of}
 use Rattle.ts_pattern.proofs.LiveEntries.{AreLive}

@@ -1,4 +1,4 @@
-use Rattle.std.proofs.Common.{◌≡◌, ◌≤◌, length, take}
+use Rattle.std.proofs.Common.{◌≡◌, length, take}
 use Rattle.ts_regex.specs.Shape.{shape_of}
 use Rattle.ts_regex.specs.NormalForm.{normal_form}
 use Rattle.ts_pattern.specs.OccurrenceList.{AreRanges}

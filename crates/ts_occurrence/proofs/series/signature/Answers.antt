@@ -1,4 +1,4 @@
-use Rattle.std.proofs.Common.{◌≡◌, ◌-◌, ℤ, pos, get_or, arith, rules, to_z, of_z, w64}
+use Rattle.std.proofs.Common.{◌-◌, pos, get_or, arith, rules, to_z, of_z, w64}
 use Rattle.std.proofs.lemmas.Int.{to_z-of_z}
 use mir.Val.{SFits}
 use Rattle.ts_occurrence.proofs.Pairs.{signature_step}

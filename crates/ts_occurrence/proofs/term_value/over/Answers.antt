@@ -1,11 +1,11 @@
-use Rattle.std.proofs.Common.{◌≡◌, ◌+◌, ◌*◌, ℤ, pos, Some, take, get_or, sym, subst, arith, rules, to_z, of_z, w64}
+use Rattle.std.proofs.Common.{◌≡◌, ◌+◌, ◌*◌, pos, Some, take, get_or, sym, subst, rules, to_z, of_z, w64}
 use Rattle.std.proofs.lemmas.Int.{to_z-of_z}
 use mir.Val.{SFits}
 use Rattle.ts_pattern.specs.FeatureValue.{over}
 use Rattle.ts_pattern.specs.TermValue.{joined}
 use Rattle.ts_pattern.specs.Limits.{IsCell}
 use Rattle.ts_occurrence.specs.Total.{IsWithin}
-use Rattle.ts_occurrence.proofs.Totals.{over_more, within_more, some_within, or_zero_within}
+use Rattle.ts_occurrence.proofs.Totals.{over_more, within_more}
 use Rattle.ts_occurrence.proofs.term_value.over.Goals as goal
 
 pub loop-k-preserved : goal.loop-k-preserved

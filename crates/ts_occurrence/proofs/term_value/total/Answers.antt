@@ -1,4 +1,4 @@
-use Rattle.std.proofs.Common.{◌≡◌, ◌+◌, ◌*◌, ℤ, Some, map, take, sym, ◌∙◌, subst, rules, to_z, of_z, w64}
+use Rattle.std.proofs.Common.{◌≡◌, ◌+◌, ◌*◌, Some, map, take, sym, ◌∙◌, subst, rules, to_z, of_z, w64}
 use Rattle.std.proofs.lemmas.Int.{to_z-of_z}
 use mir.Val.{SFits}
 use Rattle.ts_pattern.specs.FeatureValue.{over, feature_value}

@@ -1,5 +1,4 @@
-use Rattle.std.proofs.Common.{◌≡◌, ◌+◌, ◌<◌, ◌≤◌, length, sym, ap, subst, arith}
-use Rattle.ts_base.specs.Signature.{signature_of}
+use Rattle.std.proofs.Common.{◌≡◌, ◌+◌, length, sym, ap, subst, arith}
 use Rattle.ts_regex.specs.Shape.{shape_of}
 use Rattle.ts_pattern.specs.EachOf.{Each}
 use Rattle.ts_pattern.specs.FeatureValue.{IsInside}

@@ -1,0 +1,11 @@
+pub mod Table
+pub mod Sequences
+pub mod Terraces
+pub mod Plateaus
+pub mod Peaks
+pub mod Summits
+pub mod Zigzags
+pub mod Dips
+pub mod SeedTable
+pub mod Written
+pub mod Seeds

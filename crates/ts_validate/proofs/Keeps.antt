@@ -1,0 +1,210 @@
+-- What the decoder keeps, by the kind of the state and the tags of the live entries, over one letter.
+use Rattle.std.specs.Prelude.{◌≡◌, ℕ, zero, suc, ◌+◌, ◌-◌, ◌≤◌, Bool, true, false, ◌&&◌, List, [], ◌∷◌, ◌++◌, Option, None, Some, refl}
+use Rattle.std.proofs.Common.{sym, ◌∙◌, ap, subst, arith}
+use Rattle.ts_base.specs.declared.letter.Letter.{Letter}
+use Rattle.ts_base.specs.declared.range.Range.{Range}
+use Rattle.ts_base.specs.declared.range.Kind.{Kind}
+use Rattle.ts_base.specs.declared.range.Kind.TheVariants.{Idle, Pending, Held}
+use Rattle.ts_regex.specs.Shape.{Shape}
+use Rattle.ts_transducer.specs.declared.row.Phase.{Phase}
+use Rattle.ts_transducer.specs.declared.row.Phase.TheVariants.{Out, OutR, OutA, MaybeB, MaybeA, Found, FoundE, Inside}
+use Rattle.ts_pattern.specs.declared.plan.Tag.{Tag}
+use Rattle.ts_pattern.specs.declared.plan.Tag.TheVariants.{Young, Due, InD, InC, Loose}
+use Rattle.ts_transducer.specs.Typing.{is_idle, is_pending, is_held, is_free, may_move}
+use Rattle.ts_transducer.specs.Decode.{begins, ends_at, start_after, held_after, listed}
+use Rattle.ts_pattern.specs.Entries.{Entry}
+use Rattle.ts_pattern.specs.OccurrenceList.{Place, e_range}
+use Rattle.ts_pattern.specs.Closed.{younger, due_after, ind_after, inc_after, tag_after, first_tag}
+
+-- the typing of moves, as facts
+
+abbrev pub IsFree : Kind → Type 0
+IsFree Idle = Unit {0}
+IsFree Pending = Unit {0}
+IsFree Held = ⊥
+
+abbrev pub Typed : Kind → Phase → Kind → Type 0
+Typed k Out k' = (k ≡ Idle) × IsFree k'
+Typed k OutR k' = (k ≡ Pending) × IsFree k'
+Typed k MaybeB k' = IsFree k × (k' ≡ Pending)
+Typed k FoundE k' = IsFree k × IsFree k'
+Typed k Found k' = IsFree k × (k' ≡ Held)
+Typed k MaybeA k' = (k ≡ Held) × (k' ≡ Held)
+Typed k Inside k' = (k ≡ Held) × (k' ≡ Held)
+Typed k OutA k' = (k ≡ Held) × IsFree k'
+
+abbrev pub IsYes : Bool → Type 0
+IsYes true = Unit {0}
+IsYes false = ⊥
+
+pub differs : false ≡ true → ⊥
+differs h = subst (λ x. IsYes x) (sym h) tt
+
+pub both_true : (x y : Bool) → x && y ≡ true → (x ≡ true) × (y ≡ true)
+both_true true y q = (refl, q)
+both_true false y q = absurd (differs q)
+
+pub free_kind : (k : Kind) → is_free k ≡ true → IsFree k
+free_kind Idle q = tt
+free_kind Pending q = tt
+free_kind Held q = differs q
+
+pub idle_kind : (k : Kind) → is_idle k ≡ true → k ≡ Idle
+idle_kind Idle q = refl
+idle_kind Pending q = absurd (differs q)
+idle_kind Held q = absurd (differs q)
+
+pub pending_kind : (k : Kind) → is_pending k ≡ true → k ≡ Pending
+pending_kind Idle q = absurd (differs q)
+pending_kind Pending q = refl
+pending_kind Held q = absurd (differs q)
+
+pub held_kind : (k : Kind) → is_held k ≡ true → k ≡ Held
+held_kind Idle q = absurd (differs q)
+held_kind Pending q = absurd (differs q)
+held_kind Held q = refl
+
+pub typed_move : (k : Kind) (f : Phase) (k' : Kind) → may_move k f k' ≡ true → Typed k f k'
+typed_move k Out k' q = let h = both_true (is_idle k) (is_free k') q in (idle_kind k h.0, free_kind k' h.1)
+typed_move k OutR k' q = let h = both_true (is_pending k) (is_free k') q in (pending_kind k h.0, free_kind k' h.1)
+typed_move k OutA k' q = let h = both_true (is_held k) (is_free k') q in (held_kind k h.0, free_kind k' h.1)
+typed_move k MaybeB k' q = let h = both_true (is_free k) (is_pending k') q in (free_kind k h.0, pending_kind k' h.1)
+typed_move k MaybeA k' q = let h = both_true (is_held k) (is_held k') q in (held_kind k h.0, held_kind k' h.1)
+typed_move k Found k' q = let h = both_true (is_free k) (is_held k') q in (free_kind k h.0, held_kind k' h.1)
+typed_move k FoundE k' q = let h = both_true (is_free k) (is_free k') q in (free_kind k h.0, free_kind k' h.1)
+typed_move k Inside k' q = let h = both_true (is_held k) (is_held k') q in (held_kind k h.0, held_kind k' h.1)
+
+abbrev pub IsNo : {A : Type 0} → Option A → Type 0
+IsNo None = Unit {0}
+IsNo (Some x) = ⊥
+
+pub none_some : {A : Type 0} (x : A) → None ≡ Some x → ⊥
+none_some {A} x h = let P : Option A → Type 0 = λ o. IsNo o in subst P h tt
+
+abbrev pub first_of : Option Range → ℕ
+first_of None = 0
+first_of (Some r) = r.first
+
+abbrev pub held_range : ℕ → ℕ → Option Place → Option Range
+held_range a b None = None
+held_range a b (Some x) = Some (e_range b a x)
+
+abbrev pub first_mark : List (Entry ℕ Shape Tag) → ℕ
+first_mark [] = 0
+first_mark (e ∷ es) = e.mark
+
+-- the ghost part of the step: which occurrence each range is
+abbrev pub done_after : Phase → ℕ → List (Entry ℕ Shape Tag) → List Place → Option Place → List Place
+done_after Out n sv ps x = ps
+done_after OutR n sv ps x = ps
+done_after OutA n sv ps x = ps ++ listed x
+done_after MaybeB n sv ps x = ps
+done_after MaybeA n sv ps x = ps
+done_after Found n sv ps x = ps
+done_after FoundE n sv ps x = ps ++ record { start = first_mark sv; end = n } ∷ []
+done_after Inside n sv ps x = ps
+
+abbrev pub pair_after : Phase → ℕ → List (Entry ℕ Shape Tag) → Option Place → Option Place
+pair_after Out n sv x = x
+pair_after OutR n sv x = x
+pair_after OutA n sv x = None
+pair_after MaybeB n sv x = x
+pair_after MaybeA n sv x = x
+pair_after Found n sv x = Some (record { start = first_mark sv; end = n })
+pair_after FoundE n sv x = x
+pair_after Inside n sv x = Some (record { start = first_mark sv; end = n })
+
+abbrev pub KindHolds : Kind → Option ℕ → Option Place → Type 0
+KindHolds Idle d x = (d ≡ None) × (x ≡ None)
+KindHolds Pending d x = x ≡ None
+KindHolds Held d x = (d ≡ None) × ((y : Place) × (x ≡ Some y))
+
+pub free_holds : (k : Kind) (d : Option ℕ) (x : Option Place) → IsFree k → d ≡ None → x ≡ None → KindHolds k d x
+free_holds Idle d x f p q = (p, q)
+free_holds Pending d x f p q = q
+free_holds Held d x f p q = absurd f
+
+pub free_pair : (k : Kind) (d : Option ℕ) (x : Option Place) → IsFree k → KindHolds k d x → x ≡ None
+free_pair Idle d x f h = h.1
+free_pair Pending d x f h = h
+free_pair Held d x f h = absurd f
+
+pub kinds_step : (f : Phase) (k k' : Kind) (n : ℕ) (sv : List (Entry ℕ Shape Tag)) (d : Option ℕ) (x : Option Place) → Typed k f k' → KindHolds k d x → KindHolds k' (start_after f n d) (pair_after f n sv x)
+kinds_step Out k k' n sv d x t h = let g = subst (λ z. KindHolds z d x) t.0 h in free_holds k' d x t.1 g.0 g.1
+kinds_step OutR k k' n sv d x t h = free_holds k' None x t.1 refl (subst (λ z. KindHolds z d x) t.0 h)
+kinds_step OutA k k' n sv d x t h = free_holds k' None None t.1 refl refl
+kinds_step MaybeB k k' n sv d x t h = subst (λ z. KindHolds z (Some (begins n d)) x) (sym t.1) (free_pair k d x t.0 h)
+kinds_step MaybeA k k' n sv d x t h = subst (λ z. KindHolds z d x) (t.0 ∙ sym t.1) h
+kinds_step Found k k' n sv d x t h = subst (λ z. KindHolds z None (Some (record { start = first_mark sv; end = n }))) (sym t.1) (refl, (record { start = first_mark sv; end = n }, refl))
+kinds_step FoundE k k' n sv d x t h = free_holds k' None x t.1 refl (free_pair k d x t.0 h)
+kinds_step Inside k k' n sv d x t h =
+    let g = subst (λ z. KindHolds z d x) t.0 h in
+    subst (λ z. KindHolds z d (Some (record { start = first_mark sv; end = n }))) (sym t.1) (g.0, (record { start = first_mark sv; end = n }, refl))
+
+-- d is set after a letter only where the phase is MaybeB
+pub pending_only : (f : Phase) (k k' : Kind) (n : ℕ) (d : Option ℕ) (x : Option Place) (y : ℕ) → Typed k f k' → KindHolds k d x → start_after f n d ≡ Some y → f ≡ MaybeB
+pending_only Out k k' n d x y t h q = let g = subst (λ z. KindHolds z d x) t.0 h in absurd (none_some y (sym g.0 ∙ q))
+pending_only OutR k k' n d x y t h q = absurd (none_some y q)
+pending_only OutA k k' n d x y t h q = absurd (none_some y q)
+pending_only MaybeB k k' n d x y t h q = refl
+pending_only MaybeA k k' n d x y t h q = let g = subst (λ z. KindHolds z d x) t.0 h in absurd (none_some y (sym g.0 ∙ q))
+pending_only Found k k' n d x y t h q = absurd (none_some y q)
+pending_only FoundE k k' n d x y t h q = absurd (none_some y q)
+pending_only Inside k k' n d x y t h q = let g = subst (λ z. KindHolds z d x) t.0 h in absurd (none_some y (sym g.0 ∙ q))
+
+-- what a tag says, after k signs, of the start s
+abbrev pub TagHolds : ℕ → ℕ → Option ℕ → Option Range → ℕ → Tag → Type 0
+TagHolds k b d c s (Young m) = (1 ≤ m) × (s + b ≡ k + m)
+TagHolds k b d c s Due = s + b ≡ k
+TagHolds k b d c s InD = d ≡ Some (s + 1 + b)
+TagHolds k b d c s InC = (z : ℕ) × (c ≡ Some (record { first = s + 1 + b; last = z }))
+TagHolds k b d c s Loose = Unit {0}
+
+pub young_step : (k b : ℕ) (d : Option ℕ) (c : Option Range) (s m : ℕ) → 1 ≤ m → s + b ≡ k + m → TagHolds (k + 1) b d c s (younger m)
+young_step k b d c s zero p q = absurd (omega (arith, p))
+young_step k b d c s (suc zero) p q = q
+young_step k b d c s (suc (suc m)) p q = (omega arith, omega arith)
+
+pub due_step : (f : Phase) (free : Bool) (k b a : ℕ) (d : Option ℕ) (c : Option Range) (s : ℕ) → (free ≡ true → d ≡ None) → s + b ≡ k → TagHolds (k + 1) b (start_after f (k + 1) d) (held_after f a (k + 1) d c) s (due_after f free)
+due_step Out free k b a d c s g q = tt
+due_step OutR free k b a d c s g q = tt
+due_step OutA free k b a d c s g q = tt
+due_step MaybeA free k b a d c s g q = tt
+due_step FoundE free k b a d c s g q = tt
+due_step Inside free k b a d c s g q = tt
+due_step MaybeB false k b a d c s g q = tt
+due_step MaybeB true k b a d c s g q = ap (λ z. Some (begins (k + 1) z)) (g refl) ∙ ap (λ z. Some z) (let x : k + 1 ≡ s + 1 + b = omega arith in x)
+due_step Found false k b a d c s g q = tt
+due_step Found true k b a d c s g q =
+    (k + 1 + 1 - a, ap (λ z. Some (record { first = begins (k + 1) z; last = k + 1 + 1 - a })) (g refl) ∙ ap (λ z. Some (record { first = z; last = k + 1 + 1 - a })) (let x : k + 1 ≡ s + 1 + b = omega arith in x))
+
+pub ind_step : (f : Phase) (k b a : ℕ) (d : Option ℕ) (c : Option Range) (s : ℕ) → d ≡ Some (s + 1 + b) → TagHolds (k + 1) b (start_after f (k + 1) d) (held_after f a (k + 1) d c) s (ind_after f)
+ind_step Out k b a d c s q = tt
+ind_step OutR k b a d c s q = tt
+ind_step OutA k b a d c s q = tt
+ind_step MaybeB k b a d c s q = ap (λ z. Some (begins (k + 1) z)) q
+ind_step MaybeA k b a d c s q = tt
+ind_step Found k b a d c s q = (k + 1 + 1 - a, ap (λ z. Some (record { first = begins (k + 1) z; last = k + 1 + 1 - a })) q)
+ind_step FoundE k b a d c s q = tt
+ind_step Inside k b a d c s q = tt
+
+pub inc_step : (f : Phase) (k b a : ℕ) (d : Option ℕ) (c : Option Range) (s : ℕ) → (f ≡ Found → c ≡ None) → (z : ℕ) → c ≡ Some (record { first = s + 1 + b; last = z }) → TagHolds (k + 1) b (start_after f (k + 1) d) (held_after f a (k + 1) d c) s (inc_after f)
+inc_step Out k b a d c s g z q = (z, q)
+inc_step OutR k b a d c s g z q = (z, q)
+inc_step OutA k b a d c s g z q = tt
+inc_step MaybeB k b a d c s g z q = (z, q)
+inc_step MaybeA k b a d c s g z q = (z, q)
+inc_step Found k b a d c s g z q = absurd (none_some (record { first = s + 1 + b; last = z }) (sym (g refl) ∙ q))
+inc_step FoundE k b a d c s g z q = (z, q)
+inc_step Inside k b a d c s g z q = (k + 1 + 1 - a, ap (λ y. ends_at (k + 1 + 1 - a) y) q)
+
+pub tag_step : (f : Phase) (free : Bool) (k b a : ℕ) (d : Option ℕ) (c : Option Range) (s : ℕ) (g : Tag) → (free ≡ true → d ≡ None) → (f ≡ Found → c ≡ None) → TagHolds k b d c s g → TagHolds (k + 1) b (start_after f (k + 1) d) (held_after f a (k + 1) d c) s (tag_after f free g)
+tag_step f free k b a d c s (Young m) u v h = young_step k b (start_after f (k + 1) d) (held_after f a (k + 1) d c) s m h.0 h.1
+tag_step f free k b a d c s Due u v h = due_step f free k b a d c s u h
+tag_step f free k b a d c s InD u v h = ind_step f k b a d c s h
+tag_step f free k b a d c s InC u v h = inc_step f k b a d c s v h.0 h.1
+tag_step f free k b a d c s Loose u v h = tt
+
+pub first_tag_holds : (k b : ℕ) (d : Option ℕ) (c : Option Range) → TagHolds k b d c k (first_tag b)
+first_tag_holds k zero d c = omega arith
+first_tag_holds k (suc b) d c = (omega arith, refl)

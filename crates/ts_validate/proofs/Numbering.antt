@@ -1,0 +1,52 @@
+-- The numbers of residuals: what the search for a residual gives, and what the table says.
+use Rattle.std.specs.Prelude.{◌≡◌, ℕ, zero, suc, ◌+◌, ◌≤◌, nat_lt, Bool, true, false, cond, not, List, [], ◌∷◌, ◌++◌, Option, None, Some, map, take, length, refl}
+use Rattle.std.specs.List.{position, position_or_len, prefix_len}
+use Rattle.std.proofs.Common.{sym, ◌∙◌, ap, arith, take_all}
+use Rattle.ts_regex.specs.Shape.{Shape, shape_of}
+use Rattle.ts_regex.specs.NormalForm.{same_shape}
+use Rattle.ts_regex.specs.declared.regex.Regex.{Regex}
+use Rattle.ts_validate.specs.declared.known.Known.{Known}
+use Rattle.ts_validate.specs.Numbers.{number_of, known_of}
+use Rattle.ts_validate.proofs.Keeps.{none_some}
+
+-- the first place of a test, with one more for "nowhere"
+number_place : (xs : List Regex) (r : Shape) → number_of (map (λ s. shape_of s) xs) r ≡ cond (nat_lt (position_or_len (λ s. same_shape (shape_of s) r) xs) (length xs)) (position_or_len (λ s. same_shape (shape_of s) r) xs) (length xs + 1)
+number_place [] r = refl
+number_place (x ∷ xs) r = go (same_shape (shape_of x) r) (number_place xs r)
+  where
+    go : (b : Bool) → number_of (map (λ s. shape_of s) xs) r ≡ cond (nat_lt (position_or_len (λ s. same_shape (shape_of s) r) xs) (length xs)) (position_or_len (λ s. same_shape (shape_of s) r) xs) (length xs + 1) →
+        cond b 0 (number_of (map (λ s. shape_of s) xs) r + 1) ≡ cond (nat_lt (cond (not b) (1 + position_or_len (λ s. same_shape (shape_of s) r) xs) 0) (suc (length xs))) (cond (not b) (1 + position_or_len (λ s. same_shape (shape_of s) r) xs) 0) (suc (length xs) + 1)
+    go true h = grind arith
+    go false h = grind (arith, h)
+
+some_is : (m n : ℕ) → Some m ≡ Some n → m ≡ n
+some_is m n q = cc
+
+number_of_option : (n len i : ℕ) → Some i ≡ cond (nat_lt n len) (Some n) None → i ≡ cond (nat_lt n len) n (len + 1)
+number_of_option n len i q = go (nat_lt n len) q
+  where
+    go : (b : Bool) → Some i ≡ cond b (Some n) None → i ≡ cond b n (len + 1)
+    go true q = some_is i n q
+    go false q = absurd (none_some i (sym q))
+
+none_of_option : (n len : ℕ) → None ≡ cond (nat_lt n len) (Some n) None → len + 1 ≡ cond (nat_lt n len) n (len + 1)
+none_of_option n len q = go (nat_lt n len) q
+  where
+    go : (b : Bool) → None ≡ cond b (Some n) None → len + 1 ≡ cond b n (len + 1)
+    go true q = absurd (none_some n q)
+    go false q = refl
+
+pub number_some : (xs : List Regex) (r : Shape) (i : ℕ) → Some i ≡ position (λ s. same_shape (shape_of s) r) xs → i ≡ number_of (map (λ s. shape_of s) xs) r
+number_some xs r i q = number_of_option (position_or_len (λ s. same_shape (shape_of s) r) xs) (length xs) i q ∙ sym (number_place xs r)
+
+pub number_none : (xs : List Regex) (r : Shape) → None ≡ position (λ s. same_shape (shape_of s) r) xs → length xs + 1 ≡ number_of (map (λ s. shape_of s) xs) r
+number_none xs r q = none_of_option (position_or_len (λ s. same_shape (shape_of s) r) xs) (length xs) q ∙ sym (number_place xs r)
+
+map_twice : {A B C : Type 0} (f : A → B) (g : B → C) (xs : List A) → map g (map f xs) ≡ map (λ x. g (f x)) xs
+map_twice f g [] = refl
+map_twice f g (x ∷ xs) = ap (λ z. g (f x) ∷ z) (map_twice f g xs)
+
+-- a table that was filled to the end
+pub filled : (rs : List Shape) (xs : List Regex) (i : ℕ) (table : List Known) → length xs ≤ i → table ≡ map (λ r. known_of rs (shape_of r)) (take i xs) → table ≡ map (λ r. known_of rs r) (map (λ s. shape_of s) xs)
+filled rs xs i table q h =
+    h ∙ ap (λ z. map (λ r. known_of rs (shape_of r)) z) (take_all i xs q) ∙ sym (map_twice (λ s. shape_of s) (λ r. known_of rs r) xs)

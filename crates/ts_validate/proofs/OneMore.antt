@@ -1,0 +1,149 @@
+-- Over one letter: the places found, the ranges kept and emitted, and the starts that are still to come.
+use Rattle.std.specs.Prelude.{◌≡◌, ℕ, zero, suc, ◌+◌, ◌-◌, ◌<◌, ◌≤◌, Bool, true, false, List, [], ◌∷◌, ◌++◌, length, map, Option, None, Some, refl}
+use Rattle.std.proofs.Common.{sym, ◌∙◌, ap, subst, arith, append-nil}
+use Rattle.ts_base.specs.declared.letter.Letter.{Letter}
+use Rattle.ts_base.specs.declared.range.Range.{Range}
+use Rattle.ts_base.specs.declared.range.Kind.{Kind}
+use Rattle.ts_base.specs.declared.range.Kind.TheVariants.{Idle, Pending, Held}
+use Rattle.ts_regex.specs.Shape.{Shape}
+use Rattle.ts_regex.specs.Language.{InLanguage}
+use Rattle.ts_transducer.specs.declared.row.Phase.{Phase}
+use Rattle.ts_transducer.specs.declared.row.Phase.TheVariants.{Out, OutR, OutA, MaybeB, MaybeA, Found, FoundE, Inside}
+use Rattle.ts_pattern.specs.declared.plan.Tag.{Tag}
+use Rattle.ts_pattern.specs.declared.plan.Tag.TheVariants.{Young, Due, InD, InC, Loose}
+use Rattle.ts_transducer.specs.Decode.{begins, ends_at, held_after, emitted_at, listed}
+use Rattle.ts_pattern.specs.EachOf.{Each, OneOf, First}
+use Rattle.ts_pattern.specs.OccurrenceList.{Place, AreOccurrences, e_range}
+use Rattle.ts_pattern.specs.Entries.{Entry}
+use Rattle.ts_pattern.specs.Closed.{tag_after, retag, is_match, is_find}
+use Rattle.ts_pattern.proofs.OneLetter.{IsLeastStart}
+use Rattle.ts_pattern.proofs.LiveEntries.{each_push, AreLive}
+use Rattle.ts_pattern.proofs.Ends.{Accepts, none_ends, least_ends}
+use Rattle.ts_pattern.proofs.Places.{each_map, before_last, occurrences_none, occurrences_some}
+use Rattle.ts_validate.proofs.Keeps.{Typed, first_of, held_range, first_mark, done_after, pair_after, KindHolds, free_pair, TagHolds}
+use Rattle.ts_validate.proofs.Traces.{After, Strictly, early_old}
+
+pub least_first : (p : Shape) (w : List Letter) (l : Letter) (sv : List (Entry ℕ Shape Tag)) → AreLive p (w ++ l ∷ []) (length (w ++ l ∷ [])) sv → First Accepts sv → IsLeastStart p w l (first_mark sv)
+least_first p w l [] h x = absurd x
+least_first p w l (e ∷ es) h x = least_ends p w l e es h x
+
+abbrev pub IsInc : Tag → Type 0
+IsInc (Young m) = ⊥
+IsInc Due = ⊥
+IsInc InD = ⊥
+IsInc InC = Unit {0}
+IsInc Loose = ⊥
+
+pub is_inc : (g : Tag) → g ≡ InC → IsInc g
+is_inc g q = subst (λ z. IsInc z) (sym q) tt
+
+pub inside_inc : (free : Bool) (g : Tag) → tag_after Inside free g ≡ InC → g ≡ InC
+inside_inc free (Young zero) q = absurd (is_inc Due q)
+inside_inc free (Young (suc zero)) q = absurd (is_inc Due q)
+inside_inc free (Young (suc (suc m))) q = absurd (is_inc (Young (suc m)) q)
+inside_inc free Due q = absurd (is_inc Loose q)
+inside_inc free InD q = absurd (is_inc Loose q)
+inside_inc free InC q = refl
+inside_inc free Loose q = absurd (is_inc Loose q)
+
+-- at `in` the first survivor starts where the held pair does
+pub same_start : (k a b : ℕ) (d : Option ℕ) (c : Option Range) (free : Bool) (y : Place) (sv : List (Entry ℕ Shape Tag)) → c ≡ Some (e_range b a y) → Each (λ e. TagHolds k b d c e.mark e.tag) sv → First (λ e. e.tag ≡ InC) (retag Inside free sv) → first_mark sv ≡ y.start
+same_start k a b d c free y [] q h x = absurd x
+same_start k a b d c free y (e ∷ es) q h x =
+    let g = subst (λ u. TagHolds k b d c e.mark u) (inside_inc free e.tag x) h.0 in
+    let i : e.mark + 1 + b ≡ y.start + 1 + b = ap (λ u. first_of u) (sym g.1 ∙ q) in
+    omega arith
+
+-- the pair that is held, in a held state
+pub held_pair : (k : Kind) (d : Option ℕ) (x : Option Place) → k ≡ Held → KindHolds k d x → (y : Place) × (x ≡ Some y)
+held_pair k d x q h = (subst (λ z. KindHolds z d x) q h).1
+
+pub found_step : (p : Shape) (w : List Letter) (l : Letter) (f : Phase) (k k' : Kind) (d : Option ℕ) (sv : List (Entry ℕ Shape Tag)) (ps : List Place) (x : Option Place) →
+    Typed k f k' → KindHolds k d x → AreLive p (w ++ l ∷ []) (length (w ++ l ∷ [])) sv →
+    (is_match f ≡ true → First Accepts sv) → (is_match f ≡ false → OneOf Accepts sv → ⊥) →
+    (is_match f ≡ true → Each (λ y. y.start < first_mark sv) ps) →
+    (f ≡ Inside → (y : Place) → x ≡ Some y → first_mark sv ≡ y.start) →
+    AreOccurrences p w (ps ++ listed x) →
+    AreOccurrences p (w ++ l ∷ []) (done_after f (length w + 1) sv ps x ++ listed (pair_after f (length w + 1) sv x))
+found_step p w l Out k k' d sv ps x t h v head nil low same o = occurrences_none p w l (ps ++ listed x) (none_ends p w l sv v (nil refl)) o
+found_step p w l OutR k k' d sv ps x t h v head nil low same o = occurrences_none p w l (ps ++ listed x) (none_ends p w l sv v (nil refl)) o
+found_step p w l MaybeB k k' d sv ps x t h v head nil low same o = occurrences_none p w l (ps ++ listed x) (none_ends p w l sv v (nil refl)) o
+found_step p w l MaybeA k k' d sv ps x t h v head nil low same o = occurrences_none p w l (ps ++ listed x) (none_ends p w l sv v (nil refl)) o
+found_step p w l OutA k k' d sv ps x t h v head nil low same o =
+    subst (λ z. AreOccurrences p (w ++ l ∷ []) z) (sym (append-nil (ps ++ listed x))) (occurrences_none p w l (ps ++ listed x) (none_ends p w l sv v (nil refl)) o)
+found_step p w l Found k k' d sv ps x t h v head nil low same o =
+    occurrences_some p w l (first_mark sv) ps [] (least_first p w l sv v (head refl))
+    (subst (λ z. AreOccurrences p w (ps ++ listed z)) (free_pair k d x t.0 h) o) (low refl) tt
+found_step p w l FoundE k k' d sv ps x t h v head nil low same o =
+    let q = free_pair k d x t.0 h in
+    let n = ps ++ record { start = first_mark sv; end = length w + 1 } ∷ [] in
+    subst (λ z. AreOccurrences p (w ++ l ∷ []) (n ++ listed z)) (sym q)
+    (subst (λ z. AreOccurrences p (w ++ l ∷ []) z) (sym (append-nil n))
+    (occurrences_some p w l (first_mark sv) ps [] (least_first p w l sv v (head refl))
+    (subst (λ z. AreOccurrences p w (ps ++ listed z)) q o) (low refl) tt))
+found_step p w l Inside k k' d sv ps x t h v head nil low same o =
+    let y = held_pair k d x t.0 h in
+    let s = same refl y.0 y.1 in
+    let o' = subst (λ z. AreOccurrences p w (ps ++ listed z)) y.1 o in
+    let b = before_last 0 ps y.0 o'.rising in
+    occurrences_some p w l (first_mark sv) ps (y.0 ∷ []) (least_first p w l sv v (head refl)) o'
+    (each_map (λ z. z.start < y.0.start) (λ z. z.start < first_mark sv) (λ z q. omega arith) ps b.1)
+    ((let z : first_mark sv ≤ y.0.start = omega arith in z), tt)
+
+pub ranges_step : (a b n : ℕ) (f : Phase) (k k' : Kind) (d : Option ℕ) (c : Option Range) (sv : List (Entry ℕ Shape Tag)) (x : Option Place) →
+    Typed k f k' → KindHolds k d x → c ≡ held_range a b x →
+    (is_find f ≡ true → begins n d ≡ first_mark sv + 1 + b) →
+    (f ≡ Inside → (y : Place) → x ≡ Some y → first_mark sv ≡ y.start) →
+    held_after f a n d c ≡ held_range a b (pair_after f n sv x)
+ranges_step a b n Out k k' d c sv x t h r g same = r
+ranges_step a b n OutR k k' d c sv x t h r g same = r
+ranges_step a b n OutA k k' d c sv x t h r g same = refl
+ranges_step a b n MaybeB k k' d c sv x t h r g same = r
+ranges_step a b n MaybeA k k' d c sv x t h r g same = r
+ranges_step a b n Found k k' d c sv x t h r g same = ap (λ z. Some (record { first = z; last = n + 1 - a })) (g refl)
+ranges_step a b n FoundE k k' d c sv x t h r g same = r
+ranges_step a b n Inside k k' d c sv x t h r g same =
+    let y = held_pair k d x t.0 h in
+    let e : c ≡ Some (e_range b a y.0) = r ∙ ap (λ z. held_range a b z) y.1 in
+    ap (λ z. ends_at (n + 1 - a) z) e ∙ ap (λ z. Some (record { first = z + 1 + b; last = n + 1 - a })) (sym (same refl y.0 y.1))
+
+pub map_append : {A B : Type 0} (f : A → B) (xs ys : List A) → map f (xs ++ ys) ≡ map f xs ++ map f ys
+map_append f [] ys = refl
+map_append f (x ∷ xs) ys = ap (λ z. f x ∷ z) (map_append f xs ys)
+
+pub listed_held : (a b : ℕ) (x : Option Place) → listed (held_range a b x) ≡ map (λ x. e_range b a x) (listed x)
+listed_held a b None = refl
+listed_held a b (Some x) = refl
+
+pub emitted_step : (a b n : ℕ) (f : Phase) (d : Option ℕ) (c : Option Range) (sv : List (Entry ℕ Shape Tag)) (ps : List Place) (x : Option Place) (rs : List Range) →
+    c ≡ held_range a b x → (is_find f ≡ true → begins n d ≡ first_mark sv + 1 + b) → rs ≡ map (λ x. e_range b a x) ps →
+    rs ++ listed (emitted_at f a n d c) ≡ map (λ x. e_range b a x) (done_after f n sv ps x)
+emitted_step a b n Out d c sv ps x rs r g h = append-nil rs ∙ h
+emitted_step a b n OutR d c sv ps x rs r g h = append-nil rs ∙ h
+emitted_step a b n OutA d c sv ps x rs r g h =
+    ap (λ z. z ++ listed c) h ∙ ap (λ z. map (λ x. e_range b a x) ps ++ z) (ap (λ z. listed z) r ∙ listed_held a b x) ∙ sym (map_append (e_range b a) ps (listed x))
+emitted_step a b n MaybeB d c sv ps x rs r g h = append-nil rs ∙ h
+emitted_step a b n MaybeA d c sv ps x rs r g h = append-nil rs ∙ h
+emitted_step a b n Found d c sv ps x rs r g h = append-nil rs ∙ h
+emitted_step a b n FoundE d c sv ps x rs r g h =
+    ap (λ z. z ++ record { first = begins n d; last = n + 1 - a } ∷ []) h
+    ∙ ap (λ z. map (λ x. e_range b a x) ps ++ record { first = z; last = n + 1 - a } ∷ []) (g refl)
+    ∙ sym (map_append (e_range b a) ps (record { start = first_mark sv; end = n } ∷ []))
+emitted_step a b n Inside d c sv ps x rs r g h = append-nil rs ∙ h
+
+pub early_step : (n : ℕ) (f : Phase) (free : Bool) (sv : List (Entry ℕ Shape Tag)) (ps : List Place) (x : Option Place) →
+    Each (λ y. Each (Strictly y.start) sv) ps → (f ≡ FoundE → Each (After (first_mark sv)) (retag f free sv)) →
+    (f ≡ OutA → Each (λ y. Each (After y.start) (retag f free sv)) (listed x)) →
+    Each (λ y. Each (After y.start) (retag f free sv)) (done_after f n sv ps x)
+early_step n Out free sv ps x h u v = early_old Out free sv ps h
+early_step n OutR free sv ps x h u v = early_old OutR free sv ps h
+early_step n OutA free sv ps x h u v = each_joined (λ y. Each (After y.start) (retag OutA free sv)) ps (listed x) (early_old OutA free sv ps h) (v refl)
+  where
+    each_joined : {A : Type 0} (p : A → Type 0) (es fs : List A) → Each p es → Each p fs → Each p (es ++ fs)
+    each_joined p [] fs h k = k
+    each_joined p (e ∷ es) fs h k = (h.0, each_joined p es fs h.1 k)
+early_step n MaybeB free sv ps x h u v = early_old MaybeB free sv ps h
+early_step n MaybeA free sv ps x h u v = early_old MaybeA free sv ps h
+early_step n Found free sv ps x h u v = early_old Found free sv ps h
+early_step n FoundE free sv ps x h u v = each_push (λ y. Each (After y.start) (retag FoundE free sv)) ps (record { start = first_mark sv; end = n }) (early_old FoundE free sv ps h) (u refl)
+early_step n Inside free sv ps x h u v = early_old Inside free sv ps h

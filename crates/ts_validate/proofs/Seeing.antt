@@ -1,0 +1,249 @@
+-- A look by numbers shows the step by the residuals themselves.
+use Rattle.std.specs.Prelude.{◌≡◌, ℕ, zero, suc, ◌+◌, ◌<◌, ◌≤◌, ◌==◌, nat_lt, Bool, true, false, cond, not, ◌&&◌, ◌||◌, List, [], ◌∷◌, ◌++◌, Option, None, Some, is_some, map, length, get_or, refl}
+use Rattle.std.specs.List.{list_all, list_any, position, position_or_len}
+use Rattle.std.proofs.Common.{sym, ◌∙◌, ap, subst, arith, ⊎_elim}
+use Rattle.std.proofs.lemmas.Bool.{eq-eqb}
+use Rattle.ts_base.specs.declared.letter.Letter.{Letter}
+use Rattle.ts_regex.specs.Shape.{Shape, shape_of}
+use Rattle.ts_regex.specs.NormalForm.{normal_form, same_shape}
+use Rattle.ts_regex.proofs.Laws.{same_law}
+use Rattle.ts_transducer.specs.declared.row.Row.{Row}
+use Rattle.ts_transducer.specs.Decode.{row_at}
+use Rattle.ts_pattern.specs.declared.plan.Tag.{Tag}
+use Rattle.ts_pattern.specs.declared.plan.Tag.TheVariants.{Young, Due, InD, InC, Loose}
+use Rattle.ts_pattern.specs.declared.plan.Configuration.{Configuration}
+use Rattle.ts_pattern.specs.EachOf.{Each}
+use Rattle.ts_pattern.specs.Entries.{Entry, shapes, survivors}
+use Rattle.ts_pattern.specs.Closed.{PlainConfiguration, Subject, no_ind, appended, move_of, before, kept, stepped, first_passes, entries_agree, same_tag, same_live, same_configuration, step_listed, meets_checks}
+use Rattle.ts_pattern.specs.Plans.{PlainPlan, shape_at, valued, subject, plain_configuration, is_plan_of, is_blank}
+use Rattle.ts_pattern.proofs.Entries.{shapes_right}
+use Rattle.ts_pattern.proofs.Tested.{configuration_is}
+use Rattle.ts_validate.specs.declared.known.Known.{Known}
+use Rattle.ts_validate.specs.declared.step.Look.{Look}
+use Rattle.ts_validate.specs.Numbers.{knowns, numbers, numbered, all_listed, next_place, number_meets}
+use Rattle.ts_validate.specs.Reaches.{configuration_at, value_at, IsFirst, Sees}
+use Rattle.ts_validate.proofs.Keeps.{differs, both_true, none_some}
+use Rattle.ts_validate.proofs.Values.{AreNumbers, HasNumbers, IsFor, plan_of, same_valued, agree_valued, stepped_valued, not_listed}
+
+-- what a plan of the pattern is
+
+number_below : (i n : ℕ) → nat_lt i n ≡ true → i < n
+number_below i n q = grind (arith, q)
+
+entries_below : (rs : List Shape) (es : List (Entry (Unit {0}) ℕ Tag)) → list_all (λ e. nat_lt e.residual (length rs)) es ≡ true → AreNumbers rs es
+entries_below rs [] q = tt
+entries_below rs (e ∷ es) q =
+    let h = both_true (nat_lt e.residual (length rs)) (list_all (λ e. nat_lt e.residual (length rs)) es) q in
+    (number_below e.residual (length rs) h.0, entries_below rs es h.1)
+
+all_below : (rs : List Shape) (xs : List (PlainConfiguration ℕ)) → list_all (λ x. list_all (λ e. nat_lt e.residual (length rs)) x.live) xs ≡ true → Each (HasNumbers rs) xs
+all_below rs [] q = tt
+all_below rs (x ∷ xs) q =
+    let h = both_true (list_all (λ e. nat_lt e.residual (length rs)) x.live) (list_all (λ x. list_all (λ e. nat_lt e.residual (length rs)) x.live) xs) q in
+    (entries_below rs x.live h.0, all_below rs xs h.1)
+
+first_whole : (rs : List Shape) (n : Shape) → first_passes (λ r. same_shape r n) rs ≡ true → (0 < length rs) × (shape_at rs 0 ≡ n)
+first_whole [] n q = absurd (differs q)
+first_whole (r ∷ rs) n q = (omega arith, (same_law r n).0 q)
+
+pub plan_for : (p : Shape) (rs : List Shape) (xs : List (PlainConfiguration ℕ)) → is_plan_of p (plan_of rs xs) ≡ true → IsFor p rs xs
+plan_for p rs xs q =
+    let h = both_true (first_passes (λ r. same_shape r (normal_form p)) rs) (first_passes (λ x. is_blank x) xs && list_all (λ x. list_all (λ e. nat_lt e.residual (length rs)) x.live) xs) q in
+    let k = both_true (first_passes (λ x. is_blank x) xs) (list_all (λ x. list_all (λ e. nat_lt e.residual (length rs)) x.live) xs) h.1 in
+    let w = first_whole rs (normal_form p) h.0 in
+    record { some = w.0; whole = w.1; numbers = all_below rs xs k.1 }
+
+-- the first place of a test
+
+pub place_some : {A : Type 0} (p : A → Bool) (xs : List A) (j : ℕ) → position p xs ≡ Some j → (j ≡ position_or_len p xs) × (position_or_len p xs < length xs)
+place_some p xs j q = go (nat_lt (position_or_len p xs) (length xs)) refl q
+  where
+    below : (m n : ℕ) → nat_lt m n ≡ true → m < n
+    below m n q = grind (arith, q)
+
+    go : (b : Bool) → nat_lt (position_or_len p xs) (length xs) ≡ b → cond b (Some (position_or_len p xs)) None ≡ Some j → (j ≡ position_or_len p xs) × (position_or_len p xs < length xs)
+    go true e s = (cc, below (position_or_len p xs) (length xs) e)
+    go false e s = absurd (none_some j s)
+
+pub place_none : {A : Type 0} (p : A → Bool) (xs : List A) → position p xs ≡ None → length xs ≤ position_or_len p xs
+place_none p xs q = go (nat_lt (position_or_len p xs) (length xs)) refl q
+  where
+    above : (m n : ℕ) → nat_lt m n ≡ false → n ≤ m
+    above m n q = grind (arith, q)
+
+    go : (b : Bool) → nat_lt (position_or_len p xs) (length xs) ≡ b → cond b (Some (position_or_len p xs)) None ≡ None → length xs ≤ position_or_len p xs
+    go true e s = absurd (none_some (position_or_len p xs) (sym s))
+    go false e s = above (position_or_len p xs) (length xs) e
+
+-- where a test of numbers and one of values agree
+
+found_at : (p : PlainConfiguration ℕ → Bool) (q : PlainConfiguration Shape → Bool) (rs : List Shape) (xs : List (PlainConfiguration ℕ)) → Each (λ x. p x ≡ q (valued rs x)) xs → position_or_len p xs < length xs → q (configuration_at (map (λ x. valued rs x) xs) (position_or_len p xs)) ≡ true
+found_at p q rs [] e h = absurd (omega (arith, h))
+found_at p q rs (x ∷ xs) e h = go (p x) refl e.0 (found_at p q rs xs e.1) h
+  where
+    on : (n : ℕ) → q (configuration_at (map (λ x. valued rs x) xs) n) ≡ true → q (configuration_at (map (λ x. valued rs x) (x ∷ xs)) (1 + n)) ≡ true
+    on n t = ap (λ z. q (configuration_at (map (λ x. valued rs x) (x ∷ xs)) z)) (let u : 1 + n ≡ suc n = omega arith in u) ∙ t
+
+    go : (b : Bool) → p x ≡ b → p x ≡ q (valued rs x) → (position_or_len p xs < length xs → q (configuration_at (map (λ x. valued rs x) xs) (position_or_len p xs)) ≡ true) → cond (not b) (1 + position_or_len p xs) 0 < suc (length xs) → q (configuration_at (map (λ x. valued rs x) (x ∷ xs)) (cond (not b) (1 + position_or_len p xs) 0)) ≡ true
+    go true t u m s = sym u ∙ t
+    go false t u m s = on (position_or_len p xs) (m (omega (arith, s)))
+
+none_before : (p : PlainConfiguration ℕ → Bool) (q : PlainConfiguration Shape → Bool) (rs : List Shape) (xs : List (PlainConfiguration ℕ)) → Each (λ x. p x ≡ q (valued rs x)) xs → (i : ℕ) → i < position_or_len p xs → q (configuration_at (map (λ x. valued rs x) xs) i) ≡ false
+none_before p q rs [] e i h = absurd (omega (arith, h))
+none_before p q rs (x ∷ xs) e zero h = go (p x) refl e.0 h
+  where
+    go : (b : Bool) → p x ≡ b → p x ≡ q (valued rs x) → 0 < cond (not b) (1 + position_or_len p xs) 0 → q (valued rs x) ≡ false
+    go true t u s = absurd (omega (arith, s))
+    go false t u s = sym u ∙ t
+none_before p q rs (x ∷ xs) e (suc i) h = go (p x) (none_before p q rs xs e.1 i) h
+  where
+    go : (b : Bool) → (i < position_or_len p xs → q (configuration_at (map (λ x. valued rs x) xs) i) ≡ false) → suc i < cond (not b) (1 + position_or_len p xs) 0 → q (configuration_at (map (λ x. valued rs x) xs) i) ≡ false
+    go true m s = absurd (omega (arith, s))
+    go false m s = m (omega (arith, s))
+
+any_at : (q : PlainConfiguration Shape → Bool) (xs : List (PlainConfiguration Shape)) (i : ℕ) → i < length xs → q (configuration_at xs i) ≡ true → list_any q xs ≡ true
+any_at q [] i h t = absurd (omega (arith, h))
+any_at q (x ∷ xs) zero h t = ap (λ z. z || list_any q xs) t
+any_at q (x ∷ xs) (suc i) h t = last (q x) (list_any q xs) (any_at q xs i (omega (arith, h)) t)
+  where
+    last : (a b : Bool) → b ≡ true → a || b ≡ true
+    last true b s = refl
+    last false b s = s
+
+none_any : (p : PlainConfiguration ℕ → Bool) (q : PlainConfiguration Shape → Bool) (rs : List Shape) (xs : List (PlainConfiguration ℕ)) → Each (λ x. p x ≡ q (valued rs x)) xs → length xs ≤ position_or_len p xs → list_any q (map (λ x. valued rs x) xs) ≡ false
+none_any p q rs [] e h = refl
+none_any p q rs (x ∷ xs) e h = go (p x) refl e.0 (none_any p q rs xs e.1) h
+  where
+    go : (b : Bool) → p x ≡ b → p x ≡ q (valued rs x) → (length xs ≤ position_or_len p xs → list_any q (map (λ x. valued rs x) xs) ≡ false) → suc (length xs) ≤ cond (not b) (1 + position_or_len p xs) 0 → q (valued rs x) || list_any q (map (λ x. valued rs x) xs) ≡ false
+    go true t u m s = absurd (omega (arith, s))
+    go false t u m s = ap (λ z. z || list_any q (map (λ x. valued rs x) xs)) (sym u ∙ t) ∙ m (omega (arith, s))
+
+map_length : {A B : Type 0} (f : A → B) (xs : List A) → length (map f xs) ≡ length xs
+map_length f [] = refl
+map_length f (x ∷ xs) = ap (λ n. suc n) (map_length f xs)
+
+each_same : (rows : List Row) (p : Shape) (b : ℕ) (rs : List Shape) (all xs : List (PlainConfiguration ℕ)) → IsFor p rs all → (x : PlainConfiguration ℕ) → HasNumbers rs x → (l : Letter) → all_listed (knowns rs) l (appended tt 0 b x.live) ≡ true → Each (HasNumbers rs) xs →
+    Each (λ y. same_configuration (numbers (knowns rs)) y (stepped (numbered rows (knowns rs) b all) x l) ≡ same_configuration shapes (valued rs y) (stepped (subject rows p b (plan_of rs all)) (valued rs x) l)) xs
+each_same rows p b rs all [] i x h l a k = tt
+each_same rows p b rs all (y ∷ xs) i x h l a k = (same_valued rows p b rs all i x y h k.0 l a, each_same rows p b rs all xs i x h l a k.1)
+
+-- a configuration is the same as itself
+
+tag_itself : (g : Tag) → same_tag g g ≡ true
+tag_itself (Young m) = eq-eqb m m refl
+tag_itself Due = refl
+tag_itself InD = refl
+tag_itself InC = refl
+tag_itself Loose = refl
+
+live_itself : (es : List (Entry (Unit {0}) Shape Tag)) → same_live shapes es es ≡ true
+live_itself [] = refl
+live_itself (e ∷ es) =
+    ap (λ z. z && (same_tag e.tag e.tag && same_live shapes es es)) ((same_law e.residual e.residual).1 refl) ∙ ap (λ z. z && same_live shapes es es) (tag_itself e.tag) ∙ live_itself es
+
+configuration_itself : (x : PlainConfiguration Shape) → same_configuration shapes x x ≡ true
+configuration_itself x = ap (λ z. z && same_live shapes x.live x.live) (eq-eqb x.state x.state refl) ∙ live_itself x.live
+
+some_is : (m j : ℕ) → Some m ≡ Some j → m ≡ j
+some_is m j q = cc
+
+pub sees : (rows : List Row) (p : Shape) (b : ℕ) (rs : List Shape) (xs : List (PlainConfiguration ℕ)) → IsFor p rs xs → (x : PlainConfiguration ℕ) → HasNumbers rs x → (l : Letter) (k : Look) →
+    k.next ≡ next_place (knowns rs) (numbered rows (knowns rs) b xs) x l → k.meets ≡ number_meets (knowns rs) (numbered rows (knowns rs) b xs) x l →
+    Sees (subject rows p b (plan_of rs xs)) (valued rs x) l k
+sees rows p b rs xs i x h l k q m = go (all_listed (knowns rs) l (appended tt 0 b x.live)) refl q m
+  where
+    agree : (o : Option ℕ) → all_listed (knowns rs) l (appended tt 0 b x.live) ≡ true → (b' : Bool) → step_listed (subject rows p b (plan_of rs xs)) (valued rs x) l ≡ b' → is_some o ≡ b' →
+        k.meets ≡ (is_some o && entries_agree (numbers (knowns rs)) (move_of (numbered rows (knowns rs) b xs) x l).phase (row_at rows (move_of (numbered rows (knowns rs) b xs) x l).next).kind (no_ind (before (numbered rows (knowns rs) b xs) x)) (kept (numbered rows (knowns rs) b xs) x l)) →
+        k.meets ≡ meets_checks (subject rows p b (plan_of rs xs)) (valued rs x) l
+    agree o a b' t u v =
+        v ∙ ap (λ z. is_some o && z) (agree_valued rows p b rs xs i x h l a)
+        ∙ ap (λ z. z && entries_agree shapes (move_of (numbered rows (knowns rs) b xs) x l).phase (row_at rows (move_of (numbered rows (knowns rs) b xs) x l).next).kind (no_ind (before (subject rows p b (plan_of rs xs)) (valued rs x))) (kept (subject rows p b (plan_of rs xs)) (valued rs x) l)) (u ∙ sym t)
+
+    inner : all_listed (knowns rs) l (appended tt 0 b x.live) ≡ true → (o : Option ℕ) → position (λ y. same_configuration (numbers (knowns rs)) y (stepped (numbered rows (knowns rs) b xs) x l)) xs ≡ o → k.next ≡ o →
+        k.meets ≡ (is_some o && entries_agree (numbers (knowns rs)) (move_of (numbered rows (knowns rs) b xs) x l).phase (row_at rows (move_of (numbered rows (knowns rs) b xs) x l).next).kind (no_ind (before (numbered rows (knowns rs) b xs) x)) (kept (numbered rows (knowns rs) b xs) x l)) →
+        Sees (subject rows p b (plan_of rs xs)) (valued rs x) l k
+    inner a None e u v =
+        let s : Subject Shape = subject rows p b (plan_of rs xs) in
+        let to : PlainConfiguration Shape = stepped s (valued rs x) l in
+        let no : step_listed s (valued rs x) l ≡ false =
+        none_any (λ y. same_configuration (numbers (knowns rs)) y (stepped (numbered rows (knowns rs) b xs) x l)) (λ y. same_configuration shapes y to) rs xs (each_same rows p b rs xs xs i x h l a i.numbers) (place_none (λ y. same_configuration (numbers (knowns rs)) y (stepped (numbered rows (knowns rs) b xs) x l)) xs e) in
+        record { none = λ q. no; some = λ j q. absurd (none_some j (sym u ∙ q)); meets = agree None a false no refl v }
+    inner a (Some m) e u v =
+        let s : Subject Shape = subject rows p b (plan_of rs xs) in
+        let to : PlainConfiguration Shape = stepped s (valued rs x) l in
+        let test : PlainConfiguration ℕ → Bool = (λ y. same_configuration (numbers (knowns rs)) y (stepped (numbered rows (knowns rs) b xs) x l)) in
+        let same : PlainConfiguration Shape → Bool = (λ y. same_configuration shapes y to) in
+        let each : Each (λ y. test y ≡ same (valued rs y)) xs = each_same rows p b rs xs xs i x h l a i.numbers in
+        let f = place_some test xs m e in
+        let size : length s.configurations ≡ length xs = map_length (λ y. valued rs y) xs in
+        let there : same (value_at s m) ≡ true = subst (λ z. same (value_at s z) ≡ true) (sym f.0) (found_at test same rs xs each f.1) in
+        let short : m < length s.configurations = (let g0 = f.0 in let g1 = f.1 in omega arith) in
+        let yes : step_listed s (valued rs x) l ≡ true = any_at same s.configurations m short there in
+        record {
+          none = λ q. absurd (none_some m (sym q ∙ u));
+          some = λ j q. let z : m ≡ j = some_is m j (sym u ∙ q) in (
+            yes,
+            subst (λ n. IsFirst s to n) z (
+              short,
+              configuration_is shapes shapes_right.equal (value_at s m) to there,
+              λ n c t. differs (sym (none_before test same rs xs each n (subst (λ w. n < w) f.0 c)) ∙ ap (λ w. same w) t ∙ configuration_itself to),
+            ),
+          );
+          meets = agree (Some m) a true yes refl v;
+        }
+
+    go : (a : Bool) → all_listed (knowns rs) l (appended tt 0 b x.live) ≡ a →
+        k.next ≡ cond a (position (λ y. same_configuration (numbers (knowns rs)) y (stepped (numbered rows (knowns rs) b xs) x l)) xs) None →
+        k.meets ≡ (is_some (cond a (position (λ y. same_configuration (numbers (knowns rs)) y (stepped (numbered rows (knowns rs) b xs) x l)) xs) None) && entries_agree (numbers (knowns rs)) (move_of (numbered rows (knowns rs) b xs) x l).phase (row_at rows (move_of (numbered rows (knowns rs) b xs) x l).next).kind (no_ind (before (numbered rows (knowns rs) b xs) x)) (kept (numbered rows (knowns rs) b xs) x l)) →
+        Sees (subject rows p b (plan_of rs xs)) (valued rs x) l k
+    go true e u v = inner e (position (λ y. same_configuration (numbers (knowns rs)) y (stepped (numbered rows (knowns rs) b xs) x l)) xs) refl u v
+    go false e u v =
+        let s : Subject Shape = subject rows p b (plan_of rs xs) in
+        let no : step_listed s (valued rs x) l ≡ false = not_listed rows p b rs xs i x h l e in
+        record {
+          none = λ q. no;
+          some = λ j q. absurd (none_some j (sym u ∙ q));
+          meets = v ∙ sym (ap (λ z. z && entries_agree shapes (move_of s (valued rs x) l).phase (row_at rows (move_of s (valued rs x) l).next).kind (no_ind (before s (valued rs x))) (kept s (valued rs x) l)) no);
+        }
+
+-- configuration i of a plan
+
+value_is : (rs : List Shape) (xs : List (PlainConfiguration ℕ)) (i : ℕ) → i < length xs → configuration_at (map (λ x. valued rs x) xs) i ≡ valued rs (configuration_at xs i)
+value_is rs [] i q = absurd (omega (arith, q))
+value_is rs (x ∷ xs) zero q = refl
+value_is rs (x ∷ xs) (suc i) q = value_is rs xs i (omega (arith, q))
+
+plain_is : (cs : List Configuration) (i : ℕ) (d : Configuration) → i < length cs → configuration_at (map (λ x. plain_configuration x) cs) i ≡ plain_configuration (get_or cs i d)
+plain_is [] i d q = absurd (omega (arith, q))
+plain_is (c ∷ cs) zero d q = refl
+plain_is (c ∷ cs) (suc i) d q = plain_is cs i d (omega (arith, q))
+
+numbers_at : (rs : List Shape) (xs : List (PlainConfiguration ℕ)) (i : ℕ) → Each (HasNumbers rs) xs → i < length xs → HasNumbers rs (configuration_at xs i)
+numbers_at rs [] i h q = absurd (omega (arith, q))
+numbers_at rs (x ∷ xs) zero h q = h.0
+numbers_at rs (x ∷ xs) (suc i) h q = numbers_at rs xs i h.1 (omega (arith, q))
+
+pub sees_at : (rows : List Row) (p : Shape) (b : ℕ) (rs : List Shape) (cs : List Configuration) (table : List Known) → is_plan_of p (plan_of rs (map (λ x. plain_configuration x) cs)) ≡ true → table ≡ knowns rs →
+    (i : ℕ) (d here : Configuration) → i < length cs → here ≡ get_or cs i d → (l : Letter) (k : Look) →
+    k.next ≡ next_place table (numbered rows table b (map (λ x. plain_configuration x) cs)) (plain_configuration here) l →
+    k.meets ≡ number_meets table (numbered rows table b (map (λ x. plain_configuration x) cs)) (plain_configuration here) l →
+    Sees (subject rows p b (plan_of rs (map (λ x. plain_configuration x) cs))) (value_at (subject rows p b (plan_of rs (map (λ x. plain_configuration x) cs))) i) l k
+sees_at rows p b rs cs table f t i d here q e l k n m =
+    let xs : List (PlainConfiguration ℕ) = map (λ x. plain_configuration x) cs in
+    let g : IsFor p rs xs = plan_for p rs xs f in
+    let short : i < length xs = (let z = map_length (λ (x : Configuration). plain_configuration x) cs in omega arith) in
+    let x : PlainConfiguration ℕ = configuration_at xs i in
+    let is : plain_configuration here ≡ x = ap (λ z. plain_configuration z) e ∙ sym (plain_is cs i d q) in
+    subst (λ z. Sees (subject rows p b (plan_of rs xs)) z l k) (sym (value_is rs xs i short))
+    (sees rows p b rs xs g x (numbers_at rs xs i g.numbers short) l k
+    (n ∙ ap (λ z. next_place z (numbered rows z b xs) (plain_configuration here) l) t ∙ ap (λ z. next_place (knowns rs) (numbered rows (knowns rs) b xs) z l) is)
+    (m ∙ ap (λ z. number_meets z (numbered rows z b xs) (plain_configuration here) l) t ∙ ap (λ z. number_meets (knowns rs) (numbered rows (knowns rs) b xs) z l) is))
+
+pub sees_plan : (rows : List Row) (p : Shape) (b : ℕ) (rs : List Shape) (slice cs : List Configuration) (table : List Known) → slice ≡ cs → is_plan_of p (plan_of rs (map (λ x. plain_configuration x) cs)) ≡ true → table ≡ knowns rs →
+    (i : ℕ) (here : Configuration) → i < length cs → here ≡ get_or slice i here → (l : Letter) (k : Look) →
+    k.next ≡ next_place table (numbered rows table b (map (λ x. plain_configuration x) slice)) (plain_configuration here) l →
+    k.meets ≡ number_meets table (numbered rows table b (map (λ x. plain_configuration x) slice)) (plain_configuration here) l →
+    Sees (subject rows p b (plan_of rs (map (λ x. plain_configuration x) cs))) (value_at (subject rows p b (plan_of rs (map (λ x. plain_configuration x) cs))) i) l k
+sees_plan rows p b rs slice cs table e f t i here q g l k n m =
+    subst (λ z. Sees (subject rows p b (plan_of rs (map (λ x. plain_configuration x) z))) (value_at (subject rows p b (plan_of rs (map (λ x. plain_configuration x) z))) i) l k) e
+    (sees_at rows p b rs slice table (subst (λ z. is_plan_of p (plan_of rs (map (λ x. plain_configuration x) z)) ≡ true) (sym e) f) t i here here (subst (λ z. i < length z) (sym e) q) g l k n m)

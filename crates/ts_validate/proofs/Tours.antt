@@ -1,0 +1,275 @@
+-- How the tour of the reached configurations grows.
+use Rattle.std.specs.Prelude.{◌≡◌, ◌⊎◌, ℕ, zero, suc, ◌+◌, ◌<◌, ◌≤◌, nat_lt, Bool, true, false, ◌&&◌, List, [], ◌∷◌, ◌++◌, Option, None, Some, MatchOption, map, length, get_or, set, replicate, refl}
+use Rattle.std.proofs.Common.{sym, ◌∙◌, ap, subst, inl, inr, arith, ⊎_elim, length-append, append_assoc}
+use Rattle.std.proofs.Math.Nat.{eq-or-lt_of_le}
+use Rattle.std.proofs.lemmas.Bool.Decides.{eqb_tells}
+use Rattle.ts_base.specs.declared.letter.Letter.{Letter}
+use Rattle.ts_base.specs.declared.letter.Letter.TheVariants.{Less, Equal, Greater}
+use Rattle.std.specs.List.{list_all}
+use Rattle.ts_regex.specs.Shape.{Shape, shape_of}
+use Rattle.ts_regex.specs.NormalForm.{normal_form, same_shape}
+use Rattle.ts_transducer.specs.declared.row.Row.{Row}
+use Rattle.ts_pattern.specs.declared.pattern.Pattern.{Pattern}
+use Rattle.ts_pattern.specs.declared.plan.Plan.{Plan}
+use Rattle.ts_pattern.specs.declared.plan.Configuration.{Configuration}
+use Rattle.ts_pattern.specs.Plans.{plain_plan, plain_configuration, valued, is_blank, is_plan_of}
+use Rattle.ts_pattern.specs.Closed.{PlainConfiguration, Subject, first_passes, stepped, step_listed}
+use Rattle.ts_validate.specs.declared.step.Look.{Look}
+use Rattle.ts_validate.specs.declared.arrival.Arrival.{Arrival}
+use Rattle.ts_validate.specs.Reaches.{against, value_at, value_of, IsFirst, Sees, arrived, place_at, open_places, GoesOn, Reaches, Follows, Followed, Grows, IsPath, PathOn}
+use Rattle.ts_validate.proofs.Keeps.{differs, both_true, none_some}
+
+-- lists
+
+pub kept_at : (xs ys : List Arrival) (k : ℕ) → k < length xs → arrived (xs ++ ys) k ≡ arrived xs k
+kept_at [] ys k q = absurd (omega (arith, q))
+kept_at (x ∷ xs) ys zero q = refl
+kept_at (x ∷ xs) ys (suc k) q = kept_at xs ys k (omega (arith, q))
+
+last_at : (xs : List Arrival) (a : Arrival) → arrived (xs ++ a ∷ []) (length xs) ≡ a
+last_at [] a = refl
+last_at (x ∷ xs) a = last_at xs a
+
+set_size : (os : List (Option ℕ)) (i : ℕ) (o : Option ℕ) → length (set os i o) ≡ length os
+set_size [] i o = refl
+set_size (p ∷ os) zero o = refl
+set_size (p ∷ os) (suc i) o = ap (λ n. suc n) (set_size os i o)
+
+set_same : (os : List (Option ℕ)) (i : ℕ) (o : Option ℕ) → i < length os → place_at (set os i o) i ≡ o
+set_same [] i o q = absurd (omega (arith, q))
+set_same (p ∷ os) zero o q = refl
+set_same (p ∷ os) (suc i) o q = set_same os i o (omega (arith, q))
+
+set_other : (os : List (Option ℕ)) (i j : ℕ) (o : Option ℕ) → (i ≡ j → ⊥) → place_at (set os i o) j ≡ place_at os j
+set_other [] i j o n = refl
+set_other (p ∷ os) zero zero o n = absurd (n refl)
+set_other (p ∷ os) zero (suc j) o n = refl
+set_other (p ∷ os) (suc i) zero o n = refl
+set_other (p ∷ os) (suc i) (suc j) o n = set_other os i j o (λ q. n (ap (λ z. suc z) q))
+
+fewer_open : (os : List (Option ℕ)) (i m : ℕ) → i < length os → place_at os i ≡ None → open_places (set os i (Some m)) + 1 ≡ open_places os
+fewer_open [] i m q e = absurd (omega (arith, q))
+fewer_open (None ∷ os) zero m q e = refl
+fewer_open (Some k ∷ os) zero m q e = absurd (none_some k (sym e))
+fewer_open (None ∷ os) (suc i) m q e = ap (λ n. n + 1) (fewer_open os i m (omega (arith, q)) e)
+fewer_open (Some k ∷ os) (suc i) m q e = fewer_open os i m (omega (arith, q)) e
+
+all_open : (n : ℕ) → open_places (replicate n None) ≡ n
+all_open zero = refl
+all_open (suc n) = let h = all_open n in omega (arith, h)
+
+replicated : (n : ℕ) → length (replicate {A = Option ℕ} n None) ≡ n
+replicated zero = refl
+replicated (suc n) = ap (λ z. suc z) (replicated n)
+
+none_there : (n c : ℕ) → place_at (replicate n None) c ≡ None
+none_there zero c = refl
+none_there (suc n) zero = refl
+none_there (suc n) (suc c) = none_there n c
+
+some_is : (m j : ℕ) → Some m ≡ Some j → m ≡ j
+some_is m j q = cc
+
+eq_or_not : (m n : ℕ) → (m ≡ n) ⊎ (m ≡ n → ⊥)
+eq_or_not m n = ⊎_elim (λ q. inl q.1) (λ q. inr (λ z. q.1 z)) (eqb_tells m n)
+
+-- the start
+
+start_count : (n : ℕ) → 0 < n → open_places (set (replicate n None) 0 (Some 0)) + 1 ≡ n
+start_count n q = fewer_open (replicate n None) 0 0 (subst (λ z. 0 < z) (sym (replicated n)) q) (none_there n 0) ∙ all_open n
+
+pub started : (s : Subject Shape) (n : ℕ) (arrivals : List Arrival) (places : List (Option ℕ)) → n ≡ length s.configurations → 0 < n → arrivals ≡ record { configuration = 0; from = 0; letter = Less } ∷ [] → places ≡ set (replicate n None) 0 (Some 0) → Reaches s arrivals places
+started s n arrivals places e q a o =
+    let only : Arrival = record { configuration = 0; from = 0; letter = Less } in
+    let size : length (set (replicate {A = Option ℕ} n None) 0 (Some 0)) ≡ n = set_size (replicate n None) 0 (Some 0) ∙ replicated n in
+    let room : 0 < length (replicate {A = Option ℕ} n None) = (let r = replicated n in omega arith) in
+    subst (λ z. Reaches s z places) (sym a) (subst (λ z. Reaches s (only ∷ []) z) (sym o) (record {
+      size = size ∙ e;
+      count = start_count n q ∙ sym size;
+      some = omega arith;
+      start = refl;
+      steps = λ k c d. absurd (omega (arith, c, d));
+      inside = λ k d. one k d (λ z. z.configuration < length s.configurations) (omega (arith, q, e));
+      there = λ c k t. go c k t;
+      back = λ k d. one_back k d room;
+    }))
+  where
+    one : (k : ℕ) → k < 1 → (P : Arrival → Type 0) → P (record { configuration = 0; from = 0; letter = Less }) → P (arrived (record { configuration = 0; from = 0; letter = Less } ∷ []) k)
+    one zero d P h = h
+    one (suc k) d P h = absurd (omega (arith, d))
+
+    one_back : (k : ℕ) → k < 1 → 0 < length (replicate {A = Option ℕ} n None) → place_at (set (replicate n None) 0 (Some 0)) (arrived (record { configuration = 0; from = 0; letter = Less } ∷ []) k).configuration ≡ Some k
+    one_back zero d r = set_same (replicate n None) 0 (Some 0) r
+    one_back (suc k) d r = absurd (omega (arith, d))
+
+    go : (c k : ℕ) → place_at (set (replicate n None) 0 (Some 0)) c ≡ Some k → (k < 1) × ((arrived (record { configuration = 0; from = 0; letter = Less } ∷ []) k).configuration ≡ c)
+    go zero k t = go_zero k (sym (set_same (replicate n None) 0 (Some 0) (let r = replicated n in omega (arith, r, q))) ∙ t)
+      where
+        go_zero : (k : ℕ) → Some 0 ≡ Some k → (k < 1) × ((arrived (record { configuration = 0; from = 0; letter = Less } ∷ []) k).configuration ≡ 0)
+        go_zero k t = subst (λ z. (z < 1) × ((arrived (record { configuration = 0; from = 0; letter = Less } ∷ []) z).configuration ≡ 0)) (some_is 0 k t) (omega arith, refl)
+    go (suc c) k t = absurd (none_some k (sym (set_other (replicate n None) 0 (suc c) (Some 0) (λ z. omega (arith, z)) ∙ none_there n (suc c)) ∙ t))
+
+-- one more arrival
+
+pub more_reached : (s : Subject Shape) (xs : List Arrival) (os : List (Option ℕ)) → Reaches s xs os → (next from : ℕ) (l : Letter) → from < length xs → next < length s.configurations → place_at os next ≡ None →
+    step_listed s (value_of s xs from) l ≡ true → value_at s next ≡ stepped s (value_of s xs from) l →
+    Reaches s (xs ++ record { configuration = next; from = from; letter = l } ∷ []) (set os next (Some (length xs)))
+more_reached s xs os h next from l f i e t v =
+    let a : Arrival = record { configuration = next; from = from; letter = l } in
+    let ys : List Arrival = xs ++ a ∷ [] in
+    let n : length ys ≡ length xs + 1 = length-append xs (a ∷ []) in
+    let room : next < length os = (let z = h.size in omega arith) in
+    let last : arrived ys (length xs) ≡ a = last_at xs a in
+    let old : (k : ℕ) → k < length xs → arrived ys k ≡ arrived xs k = (λ k q. kept_at xs (a ∷ []) k q) in
+    record {
+      size = set_size os next (Some (length xs)) ∙ h.size;
+      count = (let c = h.count in let d = fewer_open os next (length xs) room e in let z = set_size os next (Some (length xs)) in omega arith);
+      some = omega arith;
+      start = ap (λ (z : Arrival). z.configuration) (old 0 h.some) ∙ h.start;
+      steps = λ k c d. ⊎_elim
+          (λ q. subst (λ z. GoesOn s ys z) (sym q) (goes_last last (old from f) f))
+          (λ q. goes_old k q (old k q) (h.steps k c q))
+          (eq-or-lt_of_le (let z : k ≤ length xs = omega arith in z));
+      inside = λ k d. ⊎_elim
+          (λ q. subst (λ z. (arrived ys z).configuration < length s.configurations) (sym q) (subst (λ (z : Arrival). z.configuration < length s.configurations) (sym last) i))
+          (λ q. subst (λ (z : Arrival). z.configuration < length s.configurations) (sym (old k q)) (h.inside k q))
+          (eq-or-lt_of_le (let z : k ≤ length xs = omega arith in z));
+      there = λ c k q. there_more c k q room last;
+      back = λ k d. ⊎_elim
+          (λ q. subst (λ z. place_at (set os next (Some (length xs))) (arrived ys z).configuration ≡ Some z) (sym q) (ap (λ (z : Arrival). place_at (set os next (Some (length xs))) z.configuration) last ∙ set_same os next (Some (length xs)) room))
+          (λ q. ap (λ (z : Arrival). place_at (set os next (Some (length xs))) z.configuration) (old k q)
+          ∙ set_other os next (arrived xs k).configuration (Some (length xs)) (λ z. none_some k (sym e ∙ ap (λ y. place_at os y) z ∙ h.back k q))
+          ∙ h.back k q)
+          (eq-or-lt_of_le (let z : k ≤ length xs = omega arith in z));
+    }
+  where
+    goes_last : arrived (xs ++ record { configuration = next; from = from; letter = l } ∷ []) (length xs) ≡ record { configuration = next; from = from; letter = l } → arrived (xs ++ record { configuration = next; from = from; letter = l } ∷ []) from ≡ arrived xs from → from < length xs → GoesOn s (xs ++ record { configuration = next; from = from; letter = l } ∷ []) (length xs)
+    goes_last u w q =
+        subst (λ (z : Arrival). (z.from < length xs) × (step_listed s (value_of s (xs ++ record { configuration = next; from = from; letter = l } ∷ []) z.from) z.letter ≡ true) × (value_at s z.configuration ≡ stepped s (value_of s (xs ++ record { configuration = next; from = from; letter = l } ∷ []) z.from) z.letter)) (sym u)
+        (q, subst (λ (z : Arrival). step_listed s (value_at s z.configuration) l ≡ true) (sym w) t, subst (λ (z : Arrival). value_at s next ≡ stepped s (value_at s z.configuration) l) (sym w) v)
+
+    goes_old : (k : ℕ) → k < length xs → arrived (xs ++ record { configuration = next; from = from; letter = l } ∷ []) k ≡ arrived xs k → GoesOn s xs k → GoesOn s (xs ++ record { configuration = next; from = from; letter = l } ∷ []) k
+    goes_old k q u g =
+        let w : arrived (xs ++ record { configuration = next; from = from; letter = l } ∷ []) (arrived xs k).from ≡ arrived xs (arrived xs k).from = kept_at xs (record { configuration = next; from = from; letter = l } ∷ []) (arrived xs k).from (let z = g.0 in omega arith) in
+        subst (λ (z : Arrival). (z.from < k) × (step_listed s (value_of s (xs ++ record { configuration = next; from = from; letter = l } ∷ []) z.from) z.letter ≡ true) × (value_at s z.configuration ≡ stepped s (value_of s (xs ++ record { configuration = next; from = from; letter = l } ∷ []) z.from) z.letter)) (sym u)
+        (g.0, subst (λ (z : Arrival). step_listed s (value_at s z.configuration) (arrived xs k).letter ≡ true) (sym w) g.1, subst (λ (z : Arrival). value_of s xs k ≡ stepped s (value_at s z.configuration) (arrived xs k).letter) (sym w) g.2)
+
+    apart : (c k : ℕ) → (next ≡ c → ⊥) → place_at (set os next (Some (length xs))) c ≡ Some k → (k < length (xs ++ record { configuration = next; from = from; letter = l } ∷ [])) × ((arrived (xs ++ record { configuration = next; from = from; letter = l } ∷ []) k).configuration ≡ c)
+    apart c k n q =
+        let g = h.there c k (sym (set_other os next c (Some (length xs)) n) ∙ q) in
+        ((let z = length-append xs (record { configuration = next; from = from; letter = l } ∷ []) in let y = g.0 in omega arith), ap (λ (z : Arrival). z.configuration) (kept_at xs (record { configuration = next; from = from; letter = l } ∷ []) k g.0) ∙ g.1)
+
+    same : (k : ℕ) → next < length os → arrived (xs ++ record { configuration = next; from = from; letter = l } ∷ []) (length xs) ≡ record { configuration = next; from = from; letter = l } → place_at (set os next (Some (length xs))) next ≡ Some k → (k < length (xs ++ record { configuration = next; from = from; letter = l } ∷ [])) × ((arrived (xs ++ record { configuration = next; from = from; letter = l } ∷ []) k).configuration ≡ next)
+    same k r u q =
+        subst (λ z. (z < length (xs ++ record { configuration = next; from = from; letter = l } ∷ [])) × ((arrived (xs ++ record { configuration = next; from = from; letter = l } ∷ []) z).configuration ≡ next)) (some_is (length xs) k (sym (set_same os next (Some (length xs)) r) ∙ q))
+        ((let z = length-append xs (record { configuration = next; from = from; letter = l } ∷ []) in omega arith), ap (λ (z : Arrival). z.configuration) u)
+
+    there_more : (c k : ℕ) → place_at (set os next (Some (length xs))) c ≡ Some k → next < length os → arrived (xs ++ record { configuration = next; from = from; letter = l } ∷ []) (length xs) ≡ record { configuration = next; from = from; letter = l } → (k < length (xs ++ record { configuration = next; from = from; letter = l } ∷ [])) × ((arrived (xs ++ record { configuration = next; from = from; letter = l } ∷ []) k).configuration ≡ c)
+    there_more c k q r u = ⊎_elim
+        (λ e. subst (λ z. (k < length (xs ++ record { configuration = next; from = from; letter = l } ∷ [])) × ((arrived (xs ++ record { configuration = next; from = from; letter = l } ∷ []) k).configuration ≡ z)) e (same k r u (subst (λ z. place_at (set os next (Some (length xs))) z ≡ Some k) (sym e) q)))
+        (λ n. apart c k n q)
+        (eq_or_not next c)
+
+pub add_reached : (s : Subject Shape) (xs ys : List Arrival) (os ps : List (Option ℕ)) → Reaches s xs os → (next from : ℕ) (l : Letter) → from < length xs → IsFirst s (stepped s (value_of s xs from) l) next → step_listed s (value_of s xs from) l ≡ true → None ≡ place_at os next →
+    ys ≡ xs ++ record { configuration = next; from = from; letter = l } ∷ [] → ps ≡ set os next (Some (length xs)) → Reaches s ys ps
+add_reached s xs ys os ps h next from l f i t e u v =
+    subst (λ z. Reaches s z ps) (sym u) (subst (λ z. Reaches s (xs ++ record { configuration = next; from = from; letter = l } ∷ []) z) (sym v) (more_reached s xs os h next from l f i.0 (sym e) t i.1))
+
+-- what a look shows of arrival `from`
+pub seen_first : (s : Subject Shape) (xs : List Arrival) (from : ℕ) (here : Arrival) (l : Letter) (k : Look) (j : ℕ) → here ≡ arrived xs from → Sees s (value_at s here.configuration) l k → k.next ≡ Some j → (step_listed s (value_of s xs from) l ≡ true) × IsFirst s (stepped s (value_of s xs from) l) j
+seen_first s xs from here l k j e h q =
+    subst (λ (z : Arrival). (step_listed s (value_at s z.configuration) l ≡ true) × IsFirst s (stepped s (value_at s z.configuration) l) j) e (h.some j q)
+
+pub follows_old : (s : Subject Shape) (xs : List Arrival) (os : List (Option ℕ)) → Reaches s xs os → (from next k : ℕ) (l : Letter) → IsFirst s (stepped s (value_of s xs from) l) next → Some k ≡ place_at os next → Follows s xs from l
+follows_old s xs os h from next k l i e =
+    let g = h.there next k (sym e) in (λ t. (k, g.0, subst (λ z. IsFirst s (stepped s (value_of s xs from) l) z) (sym g.1) i))
+
+pub follows_new : (s : Subject Shape) (xs ys : List Arrival) (from next : ℕ) (l : Letter) → from < length xs → IsFirst s (stepped s (value_of s xs from) l) next → ys ≡ xs ++ record { configuration = next; from = from; letter = l } ∷ [] → Follows s ys from l
+follows_new s xs ys from next l f i u =
+    let a : Arrival = record { configuration = next; from = from; letter = l } in
+    let n : length (xs ++ a ∷ []) ≡ length xs + 1 = length-append xs (a ∷ []) in
+    subst (λ z. Follows s z from l) (sym u)
+    (λ t. (
+      length xs,
+      omega arith,
+      subst (λ (z : Arrival). IsFirst s (stepped s (value_of s (xs ++ a ∷ []) from) l) z.configuration) (sym (last_at xs a))
+          (subst (λ (z : Arrival). IsFirst s (stepped s (value_at s z.configuration) l) next) (sym (kept_at xs (a ∷ []) from f)) i),
+    ))
+
+-- what followed still follows in a longer tour
+pub follows_grown : (s : Subject Shape) (xs ys : List Arrival) (k : ℕ) (l : Letter) → k < length xs → Grows xs ys → Follows s xs k l → Follows s ys k l
+follows_grown s xs ys k l q g h =
+    subst (λ z. Follows s z k l) (sym g.1) (λ t.
+    let old = kept_at xs g.0 k q in
+    let m = h (subst (λ (z : Arrival). step_listed s (value_at s z.configuration) l ≡ true) old t) in
+    let n : length (xs ++ g.0) ≡ length xs + length g.0 = length-append xs g.0 in
+    let c = m.1 in (
+      m.0,
+      omega arith,
+      subst (λ (z : Arrival). IsFirst s (stepped s (value_of s (xs ++ g.0) k) l) z.configuration) (sym (kept_at xs g.0 m.0 m.1))
+          (subst (λ (z : Arrival). IsFirst s (stepped s (value_at s z.configuration) l) (arrived xs m.0).configuration) (sym old) m.2),
+    ))
+
+pub grown_twice : (xs ys zs : List Arrival) → Grows xs ys → Grows ys zs → Grows xs zs
+grown_twice xs ys zs g h = (g.0 ++ h.0, h.1 ∙ ap (λ z. z ++ h.0) g.1 ∙ append_assoc xs g.0 h.0)
+
+pub grown_length : (xs ys : List Arrival) → Grows xs ys → length xs ≤ length ys
+grown_length xs ys g = let e = ap (λ (z : List Arrival). length z) g.1 in let n = length-append xs g.0 in omega arith
+
+pub follows_each : (s : Subject Shape) (xs : List Arrival) (k : ℕ) → Follows s xs k Less → Follows s xs k Equal → Follows s xs k Greater → (l : Letter) → Follows s xs k l
+follows_each s xs k a b c Less = a
+follows_each s xs k a b c Equal = b
+follows_each s xs k a b c Greater = c
+
+pub followed_more : (s : Subject Shape) (xs ys : List Arrival) (done : ℕ) → done < length xs → Followed s xs done → Grows xs ys → ((l : Letter) → Follows s ys done l) → Followed s ys (done + 1)
+followed_more s xs ys done q f g h k c l = ⊎_elim
+    (λ e. subst (λ z. Follows s ys z l) (sym e) (h l))
+    (λ e. follows_grown s xs ys k l (omega arith) g (f k e l))
+    (eq-or-lt_of_le (let z : k ≤ done = omega arith in z))
+
+-- the start of a plan
+
+sizes : (rs : List Shape) (cs : List Configuration) → length cs ≡ length (map (λ x. valued rs x) (map (λ x. plain_configuration x) cs))
+sizes rs [] = refl
+sizes rs (c ∷ cs) = ap (λ n. suc n) (sizes rs cs)
+
+some_first : (xs : List (PlainConfiguration ℕ)) → first_passes (λ x. is_blank x) xs ≡ true → 0 < length xs
+some_first [] q = absurd (differs q)
+some_first (x ∷ xs) q = omega arith
+
+plain_size : (cs : List Configuration) → length (map (λ x. plain_configuration x) cs) ≡ length cs
+plain_size [] = refl
+plain_size (c ∷ cs) = ap (λ n. suc n) (plain_size cs)
+
+pub plan_some : (p : Shape) (plan : Plan) → is_plan_of p (plain_plan plan) ≡ true → 0 < length plan.configurations.items
+plan_some p plan q =
+    let h = both_true (first_passes (λ r. same_shape r (normal_form p)) (plain_plan plan).residuals) (first_passes (λ x. is_blank x) (plain_plan plan).configurations && list_all (λ x. list_all (λ e. nat_lt e.residual (length (plain_plan plan).residuals)) x.live) (plain_plan plan).configurations) q in
+    let k = both_true (first_passes (λ x. is_blank x) (plain_plan plan).configurations) (list_all (λ x. list_all (λ e. nat_lt e.residual (length (plain_plan plan).residuals)) x.live) (plain_plan plan).configurations) h.1 in
+    subst (λ z. 0 < z) (plain_size plan.configurations.items) (some_first (plain_plan plan).configurations k.0)
+
+pub plan_size : (rows : List Row) (p : Pattern) (plan : Plan) → length plan.configurations.items ≡ length (against rows p plan).configurations
+plan_size rows p plan = sizes (plain_plan plan).residuals plan.configurations.items
+
+pub started_plan : (rows : List Row) (p : Pattern) (plan : Plan) (n : ℕ) (arrivals : List Arrival) (places : List (Option ℕ)) → is_plan_of (shape_of p.regex) (plain_plan plan) ≡ true → n ≡ length plan.configurations.items → arrivals ≡ record { configuration = 0; from = 0; letter = Less } ∷ [] → places ≡ set (replicate n None) 0 (Some 0) → Reaches (against rows p plan) arrivals places
+started_plan rows p plan n arrivals places f e a o =
+    started (against rows p plan) n arrivals places (e ∙ plan_size rows p plan) (subst (λ z. 0 < z) (sym e) (plan_some (shape_of p.regex) plan f)) a o
+
+-- a tour never has more arrivals than there are configurations
+pub few_arrivals : (rows : List Row) (p : Pattern) (plan : Plan) (xs : List Arrival) (os : List (Option ℕ)) → Reaches (against rows p plan) xs os → length xs ≤ length plan.configurations.items
+few_arrivals rows p plan xs os h = let c = h.count in let z = h.size in let n = plan_size rows p plan in omega arith
+
+-- one letter more on a path
+pub path_on : (xs : List Arrival) (k : ℕ) (v w : List Letter) (last : Arrival) → last ≡ arrived xs k → 0 < k → IsPath xs last.from v → w ≡ v ++ last.letter ∷ [] → IsPath xs k w
+path_on xs k v w last e q g u =
+    PathOn k v w q (subst (λ (z : Arrival). IsPath xs z.from v) e g) (u ∙ ap (λ (z : Arrival). v ++ z.letter ∷ []) e)
+
+pub match_none : {A : Type 0} (o : Option A) (P : Type 0) (Q : A → Type 0) → MatchOption o P Q → o ≡ None → P
+match_none None P Q m q = m
+match_none (Some x) P Q m q = absurd (none_some x (sym q))
+
+pub match_some : {A : Type 0} (o : Option A) (P : Type 0) (Q : A → Type 0) (x : A) → MatchOption o P Q → o ≡ Some x → Q x
+match_some None P Q x m q = absurd (none_some x q)
+match_some {A} (Some y) P Q x m q = subst (λ z. Q z) (same x y q) m
+  where
+    same : (x y : A) → Some y ≡ Some x → y ≡ x
+    same x y q = cc

@@ -1,0 +1,189 @@
+-- The trace of a run: the decoder, the live entries, and which occurrence each emitted range is; its invariant, and
+-- what the checks of a step say of it.
+use Rattle.std.specs.Prelude.{◌≡◌, ◌⊎◌, ℕ, ◌+◌, ◌<◌, ◌≤◌, Bool, true, false, not, ◌&&◌, List, [], ◌∷◌, ◌++◌, length, map, Option, None, Some, refl}
+use Rattle.std.proofs.Common.{sym, ◌∙◌, ap, subst, inl, inr, arith, ⊎_elim}
+use Rattle.ts_base.specs.declared.letter.Letter.{Letter}
+use Rattle.ts_base.specs.declared.range.Range.{Range}
+use Rattle.ts_base.specs.declared.range.Kind.{Kind}
+use Rattle.ts_base.specs.declared.range.Kind.TheVariants.{Idle, Pending, Held}
+use Rattle.ts_regex.specs.Shape.{Shape}
+use Rattle.ts_regex.specs.Language.{InLanguage}
+use Rattle.ts_transducer.specs.declared.row.Phase.{Phase}
+use Rattle.ts_transducer.specs.declared.row.Phase.TheVariants.{Out, OutR, OutA, MaybeB, MaybeA, Found, FoundE, Inside}
+use Rattle.ts_pattern.specs.declared.plan.Tag.{Tag}
+use Rattle.ts_pattern.specs.declared.plan.Tag.TheVariants.{Young, Due, InD, InC, Loose}
+use Rattle.ts_transducer.specs.Decode.{begins, start_after, held_after, emitted_at, listed}
+use Rattle.ts_pattern.specs.EachOf.{Each, OneOf, First}
+use Rattle.ts_pattern.specs.Occurrences.{IsOccurrence}
+use Rattle.ts_pattern.specs.OccurrenceList.{Place, AreOccurrences, e_range}
+use Rattle.ts_pattern.specs.Entries.{Entry, Residuals, survivors}
+use Rattle.ts_pattern.specs.Closed.{tag_after, is_ind, first_tag, no_ind, retag, appended, is_match, is_find}
+use Rattle.ts_pattern.proofs.Entries.{Rising, AreRight, Covers}
+use Rattle.ts_pattern.proofs.LiveEntries.{each_push, one_left, Follows, AreLive, each_survivor}
+use Rattle.ts_pattern.proofs.Ends.{rising_each, Accepts}
+use Rattle.ts_pattern.proofs.Places.{each_map, each_both, each_left}
+use Rattle.ts_validate.proofs.Keeps.{differs, first_of, held_range, first_mark, done_after, pair_after, KindHolds, TagHolds}
+
+abbrev pub IsShort : {X : Type 0} → Entry X Shape Tag → Type 0
+IsShort e = (l : Letter) (v : List Letter) → InLanguage e.residual (l ∷ v) → ⊥
+
+-- the checks, but for "step is listed", of the survivors of a step with the phase f into a state of the kind k'
+pub record MeetsChecks {X : Type 0} (f : Phase) (k' : Kind) (free : Bool) (sv : List (Entry X Shape Tag)) : Type 0 where
+  pub some : is_match f ≡ true → OneOf Accepts sv
+  pub nil : is_match f ≡ false → OneOf Accepts sv → ⊥
+  pub first : OneOf Accepts sv → First Accepts sv
+  pub begin : is_find f ≡ true → First (λ e. (e.tag ≡ InD) ⊎ ((e.tag ≡ Due) × (free ≡ true))) sv
+  pub ends : f ≡ FoundE → First IsShort sv
+  pub holds : k' ≡ Held → First (λ e. e.tag ≡ InC) (retag f free sv)
+  pub leaves : f ≡ OutA → OneOf (λ e. e.tag ≡ InC) sv → ⊥
+  pub pends : f ≡ MaybeB → OneOf (λ e. e.tag ≡ InD) (retag f free sv)
+
+-- the pair starts before each entry that still has a non-empty word
+abbrev pub After : ℕ → Entry ℕ Shape Tag → Type 0
+After s e = (l : Letter) (v : List Letter) → InLanguage e.residual (l ∷ v) → s < e.mark
+
+-- the same for any word
+abbrev pub Strictly : ℕ → Entry ℕ Shape Tag → Type 0
+Strictly s e = (v : List Letter) → InLanguage e.residual v → s < e.mark
+
+pub record Trace : Type 0 where
+  pub state : Kind
+  pub d : Option ℕ
+  pub c : Option Range
+  pub emitted : List Range
+  pub live : List (Entry ℕ Shape Tag)
+  pub done : List Place
+  pub pair : Option Place
+
+pub record IsTraced (p : Shape) (a b : ℕ) (w : List Letter) (t : Trace) : Type 0 where
+  pub kinds : KindHolds t.state t.d t.pair
+  pub live : AreLive p w (length w) t.live
+  pub tags : Each (λ e. TagHolds (length w) b t.d t.c e.mark e.tag) t.live
+  pub pending : (x : ℕ) → t.d ≡ Some x → OneOf (λ e. e.tag ≡ InD) t.live
+  pub first_held : t.state ≡ Held → First (λ e. e.tag ≡ InC) t.live
+  pub early : Each (λ x. Each (After x.start) t.live) t.done
+  pub ranges : t.c ≡ held_range a b t.pair
+  pub emitted : t.emitted ≡ map (λ x. e_range b a x) t.done
+  pub places : AreOccurrences p w (t.done ++ listed t.pair)
+
+-- one letter: the phase f of the move, and the kind k' of the state that it leads to
+abbrev pub trace_step : Residuals Shape → Shape → ℕ → ℕ → ℕ → Letter → Phase → Kind → Trace → Trace
+trace_step t p0 a b k l f k' x =
+    let before = appended k p0 b x.live in
+    let sv = survivors t l before in
+    record {
+      state = k';
+      d = start_after f (k + 1) x.d;
+      c = held_after f a (k + 1) x.d x.c;
+      emitted = x.emitted ++ listed (emitted_at f a (k + 1) x.d x.c);
+      live = retag f (no_ind before) sv;
+      done = done_after f (k + 1) sv x.done x.pair;
+      pair = pair_after f (k + 1) sv x.pair;
+    }
+
+-- lists that change their tags alone
+pub each_retag : (f : Phase) (free : Bool) (p q : Entry ℕ Shape Tag → Type 0) → ((e : Entry ℕ Shape Tag) → p e → q (record { mark = e.mark; residual = e.residual; tag = tag_after f free e.tag })) → (es : List (Entry ℕ Shape Tag)) → Each p es → Each q (retag f free es)
+each_retag f free p q g [] h = tt
+each_retag f free p q g (e ∷ es) h = (g e h.0, each_retag f free p q g es h.1)
+
+pub one_retag : (f : Phase) (free : Bool) (p q : Entry ℕ Shape Tag → Type 0) → ((e : Entry ℕ Shape Tag) → p e → q (record { mark = e.mark; residual = e.residual; tag = tag_after f free e.tag })) → (es : List (Entry ℕ Shape Tag)) → OneOf p es → OneOf q (retag f free es)
+one_retag f free p q g [] h = h
+one_retag f free p q g (e ∷ es) h = ⊎_elim (λ a. inl (g e a)) (λ a. inr (one_retag f free p q g es a)) h
+
+pub rising_retag : (f : Phase) (free : Bool) (a : ℕ) (es : List (Entry ℕ Shape Tag)) → Rising a es → Rising a (retag f free es)
+rising_retag f free a [] h = tt
+rising_retag f free a (e ∷ es) h = (h.0, rising_retag f free (e.mark + 1) es h.1)
+
+pub live_retag : (f : Phase) (free : Bool) (p : Shape) (w : List Letter) (k : ℕ) (es : List (Entry ℕ Shape Tag)) → AreLive p w k es → AreLive p w k (retag f free es)
+live_retag f free p w k es h =
+    record {
+      rising = rising_retag f free 0 es h.rising;
+      below = each_retag f free (λ e. e.mark < k) (λ e. e.mark < k) (λ e q. q) es h.below;
+      follows = each_retag f free (Follows p w) (Follows p w) (λ e q. record { to = q.to; back = q.back }) es h.follows;
+      covered = λ s v q x. one_retag f free (Covers s v) (Covers s v) (λ e y. y) es (h.covered s v q x);
+    }
+
+-- where no entry has InD, d is none
+pub no_ind_one : (es : List (Entry ℕ Shape Tag)) → no_ind es ≡ true → OneOf (λ e. e.tag ≡ InD) es → ⊥
+no_ind_one [] q h = h
+no_ind_one (e ∷ es) q h =
+    ⊎_elim (λ a. differs (subst (λ g. not (is_ind g) && no_ind es ≡ true) a q)) (λ a. no_ind_one es (right e.tag (no_ind es) q) a) h
+  where
+    right : (g : Tag) (x : Bool) → not (is_ind g) && x ≡ true → x ≡ true
+    right (Young m) x q = q
+    right Due x q = q
+    right InD x q = absurd (differs q)
+    right InC x q = q
+    right Loose x q = q
+
+pub is_none : (d : Option ℕ) → ((x : ℕ) → d ≡ Some x → ⊥) → d ≡ None
+is_none None h = refl
+is_none (Some x) h = absurd (h x refl)
+
+pub one_last_not : (es : List (Entry ℕ Shape Tag)) (e : Entry ℕ Shape Tag) → OneOf (λ x. x.tag ≡ InD) es → OneOf (λ x. x.tag ≡ InD) (es ++ e ∷ [])
+one_last_not es e h = one_left (λ x. x.tag ≡ InD) es (e ∷ []) h
+
+-- where the range of a find begins
+pub begins_at : (k b : ℕ) (d : Option ℕ) (c : Option Range) (free : Bool) (sv : List (Entry ℕ Shape Tag)) → (free ≡ true → d ≡ None) → Each (λ e. TagHolds k b d c e.mark e.tag) sv → First (λ e. (e.tag ≡ InD) ⊎ ((e.tag ≡ Due) × (free ≡ true))) sv → begins (k + 1) d ≡ first_mark sv + 1 + b
+begins_at k b d c free [] g h x = absurd x
+begins_at k b d c free (e ∷ es) g h x =
+    ⊎_elim
+    (λ q. let y : d ≡ Some (e.mark + 1 + b) = subst (λ z. TagHolds k b d c e.mark z) q h.0 in ap (λ z. begins (k + 1) z) y)
+    (λ q. let y : e.mark + b ≡ k = subst (λ z. TagHolds k b d c e.mark z) q.0 h.0 in ap (λ z. begins (k + 1) z) (g q.1) ∙ (let z : k + 1 ≡ e.mark + 1 + b = omega arith in z))
+    x
+
+-- early, before the letter, with the new start
+pub early_before : (p p0 : Shape) (a b : ℕ) (w : List Letter) (t : Trace) → IsTraced p a b w t → Each (λ x. Each (After x.start) (appended (length w) p0 b t.live)) t.done
+early_before p p0 a b w t h =
+    let occ = each_left (λ x. IsOccurrence p w x.start x.end) t.done (listed t.pair) h.places.each in
+    each_map (λ x. Each (After x.start) t.live × IsOccurrence p w x.start x.end) (λ x. Each (After x.start) (appended (length w) p0 b t.live))
+    (λ x q. each_push (After x.start) t.live (record { mark = length w; residual = p0; tag = first_tag b }) q.0 (λ l v y. let i = q.1.is.some in let j = q.1.is.inside in omega arith))
+    t.done (each_both (λ x. Each (After x.start) t.live) (λ x. IsOccurrence p w x.start x.end) t.done h.early occ)
+
+-- each pair that is done starts before each survivor with a word
+pub strictly_after : (t : Residuals Shape) → AreRight t → (l : Letter) (before : List (Entry ℕ Shape Tag)) (ps : List Place) → Each (λ x. Each (After x.start) before) ps → Each (λ x. Each (Strictly x.start) (survivors t l before)) ps
+strictly_after t f l before ps h =
+    each_map (λ x. Each (After x.start) before) (λ x. Each (Strictly x.start) (survivors t l before))
+    (λ x q. each_survivor t l (After x.start) (Strictly x.start) (λ e y v z. y l v (f.quotient e.residual l v z)) before q) ps h
+
+pub below_first : (ps : List Place) (sv : List (Entry ℕ Shape Tag)) → Each (λ x. Each (Strictly x.start) sv) ps → First Accepts sv → Each (λ x. x.start < first_mark sv) ps
+below_first ps [] h x = absurd x
+below_first ps (e ∷ es) h x = each_map (λ y. Each (Strictly y.start) (e ∷ es)) (λ y. y.start < e.mark) (λ y q. q.0 [] x) ps h
+
+pub early_old : (f : Phase) (free : Bool) (sv : List (Entry ℕ Shape Tag)) (ps : List Place) → Each (λ x. Each (Strictly x.start) sv) ps → Each (λ x. Each (After x.start) (retag f free sv)) ps
+early_old f free sv ps h =
+    each_map (λ x. Each (Strictly x.start) sv) (λ x. Each (After x.start) (retag f free sv))
+    (λ x q. each_retag f free (Strictly x.start) (After x.start) (λ e y l v z. y (l ∷ v) z) sv q) ps h
+
+-- an early find: what comes after the first survivor starts later, and the first has no longer word
+pub early_find : (f : Phase) (free : Bool) (sv : List (Entry ℕ Shape Tag)) → Rising 0 sv → First IsShort sv → Each (After (first_mark sv)) (retag f free sv)
+early_find f free [] r x = absurd x
+early_find f free (e ∷ es) r x = (
+  (λ l v y. absurd (x l v y)),
+  each_retag f free (λ z. e.mark + 1 ≤ z.mark) (After e.mark) (λ z q l v y. omega (arith, q)) es (rising_each (e.mark + 1) es r.1),
+)
+
+-- a release: the held start is no survivor, and all others start later
+pub early_release : (t : Residuals Shape) (f : Phase) (free : Bool) (l : Letter) (s : ℕ) (before : List (Entry ℕ Shape Tag)) → Each (λ e. (e.tag ≡ InC → ⊥) → s < e.mark) before → (OneOf (λ e. e.tag ≡ InC) (survivors t l before) → ⊥) → Each (After s) (retag f free (survivors t l before))
+early_release t f free l s before h g =
+    each_retag f free (λ e. ((e.tag ≡ InC → ⊥) → s < e.mark) × (e.tag ≡ InC → ⊥)) (After s) (λ e q l' v y. q.0 q.1) (survivors t l before)
+    (each_both (λ e. (e.tag ≡ InC → ⊥) → s < e.mark) (λ e. e.tag ≡ InC → ⊥) (survivors t l before)
+    (each_survivor t l (λ e. (e.tag ≡ InC → ⊥) → s < e.mark) (λ e. (e.tag ≡ InC → ⊥) → s < e.mark) (λ e q. q) before h)
+    (not_one (survivors t l before) g))
+  where
+    not_one : (es : List (Entry ℕ Shape Tag)) → (OneOf (λ e. e.tag ≡ InC) es → ⊥) → Each (λ e. e.tag ≡ InC → ⊥) es
+    not_one [] g = tt
+    not_one (e ∷ es) g = ((λ q. g (inl q)), not_one es (λ q. g (inr q)))
+
+pub held_before : (k b : ℕ) (d : Option ℕ) (c : Option Range) (s z : ℕ) (es : List (Entry ℕ Shape Tag)) (fresh : Entry ℕ Shape Tag) → c ≡ Some (record { first = s + 1 + b; last = z }) → Rising 0 es → Each (λ e. e.mark < k) es → Each (λ e. TagHolds k b d c e.mark e.tag) es → First (λ e. e.tag ≡ InC) es → fresh.mark ≡ k → Each (λ e. (e.tag ≡ InC → ⊥) → s < e.mark) (es ++ fresh ∷ [])
+held_before k b d c s z [] fresh q r m h x y = absurd x
+held_before k b d c s z (e ∷ es) fresh q r m h x y =
+    let g = subst (λ u. TagHolds k b d c e.mark u) x h.0 in
+    let i : e.mark + 1 + b ≡ s + 1 + b = ap (λ u. first_of u) (sym g.1 ∙ q) in
+    let j : e.mark ≡ s = omega arith in
+    let m0 = m.0 in (
+      (λ u. absurd (u x)),
+      each_push (λ u. (u.tag ≡ InC → ⊥) → s < u.mark) es fresh
+          (each_map (λ u. e.mark + 1 ≤ u.mark) (λ u. (u.tag ≡ InC → ⊥) → s < u.mark) (λ u v t. omega arith) es (rising_each (e.mark + 1) es r.1))
+          (λ u. omega arith),
+    )

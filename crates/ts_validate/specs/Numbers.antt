@@ -1,0 +1,79 @@
+-- The residuals of a plan by their numbers: the tests on them read a table. The number of all residuals stands for one
+-- without a word, and that plus 1 for one that the plan doesn't list.
+use Rattle.std.specs.Prelude.{ℕ, ◌+◌, ◌==◌, nat_le, Bool, false, not, ◌&&◌, if◌then◌else◌, List, [], ◌∷◌, ◌++◌, Option, None, Some, is_some, map, length, slice_get}
+use Rattle.std.specs.List.{list_all, list_any, position}
+use Rattle.ts_base.specs.declared.letter.Letter.{Letter}
+use Rattle.ts_base.specs.declared.letter.Letter.TheVariants.{Less, Equal, Greater}
+use Rattle.ts_regex.specs.Shape.{Shape}
+use Rattle.ts_regex.specs.Derivative.{nullable, has_word, has_longer}
+use Rattle.ts_regex.specs.NormalForm.{residual, same_shape}
+use Rattle.ts_transducer.specs.declared.row.Row.{Row}
+use Rattle.ts_pattern.specs.declared.plan.Tag.{Tag}
+use Rattle.ts_pattern.specs.Entries.{Entry, Residuals, derive_entry}
+use Rattle.ts_pattern.specs.Closed.{PlainConfiguration, Subject, no_ind, move_of, before, kept, stepped, entries_agree, same_configuration}
+use Rattle.ts_transducer.specs.Decode.{row_at}
+use Rattle.ts_validate.specs.declared.known.Known.{Known}
+
+-- the least number of a residual, or the number of all plus 1
+abbrev pub number_of : List Shape → Shape → ℕ
+number_of [] r = 1
+number_of (s ∷ rs) r = if same_shape s r then 0 else number_of rs r + 1
+
+abbrev pub next_number : List Shape → Shape → Letter → ℕ
+next_number rs r l = if has_word (residual r l) then number_of rs (residual r l) else length rs
+
+abbrev pub known_of : List Shape → Shape → Known
+known_of rs r =
+    record { less = next_number rs r Less; equal = next_number rs r Equal; greater = next_number rs r Greater; own = number_of rs r; nullable = nullable r; longer = has_longer r }
+
+abbrev pub knowns : List Shape → List Known
+knowns rs = map (λ r. known_of rs r) rs
+
+abbrev pub unknown : Known
+unknown = record { less = 0; equal = 0; greater = 0; own = 0; nullable = false; longer = false }
+
+abbrev pub known_or : Option Known → Known
+known_or None = unknown
+known_or (Some k) = k
+
+abbrev pub known_at : List Known → ℕ → Known
+known_at table i = known_or (slice_get table i)
+
+abbrev pub next_on : Letter → Known → ℕ
+next_on Less k = k.less
+next_on Equal k = k.equal
+next_on Greater k = k.greater
+
+-- numbers as residuals, by the table
+abbrev pub numbers : List Known → Residuals ℕ
+numbers table =
+    record {
+      next = λ i l. next_on l (known_at table i);
+      has_word = λ i. not (i == length table);
+      nullable = λ i. (known_at table i).nullable;
+      has_longer = λ i. (known_at table i).longer;
+      same = λ i j. (known_at table i).own == (known_at table j).own;
+    }
+
+-- rows against a plan by numbers; the whole pattern is residual 0
+abbrev pub numbered : List Row → List Known → ℕ → List (PlainConfiguration ℕ) → Subject ℕ
+numbered rows table b configurations =
+    record { rows = rows; trim = b; whole = 0; configurations = configurations; on = numbers table }
+
+-- each residual after the letter that has a word is listed
+abbrev pub all_listed : {X T : Type 0} → List Known → Letter → List (Entry X ℕ T) → Bool
+all_listed table l es = list_all (λ e. nat_le (next_on l (known_at table e.residual)) (length table)) es
+
+-- what is left of one more entry, beside those that are left of the entries before it
+abbrev pub joined : {X R T : Type 0} → Residuals R → Letter → Entry X R T → List (Entry X R T) → List (Entry X R T)
+joined t l e ks =
+    if t.has_word (t.next e.residual l) && not (list_any (λ k. t.same k.residual (t.next e.residual l)) ks) then ks ++ derive_entry t l e ∷ [] else ks
+
+-- where the step of x is listed first, if each residual after it is listed
+abbrev pub next_place : List Known → Subject ℕ → PlainConfiguration ℕ → Letter → Option ℕ
+next_place table s x l =
+    if all_listed table l (before s x) then position (λ y. same_configuration s.on y (stepped s x l)) s.configurations else None
+
+abbrev pub number_meets : List Known → Subject ℕ → PlainConfiguration ℕ → Letter → Bool
+number_meets table s x l =
+    is_some (next_place table s x l) && entries_agree s.on (move_of s x l).phase (row_at s.rows (move_of s x l).next).kind (no_ind (before s x)) (kept s x l)

@@ -1,0 +1,106 @@
+-- What a search for the reached configurations of a plan has found: each arrival, and at each number the place of its
+-- arrival.
+use Rattle.std.specs.Prelude.{◌≡◌, ℕ, zero, suc, ◌+◌, ◌<◌, Bool, true, false, List, [], ◌∷◌, ◌++◌, Option, None, Some, length, slice_index_or}
+use Rattle.ts_base.specs.declared.letter.Letter.{Letter}
+use Rattle.ts_base.specs.declared.letter.Letter.TheVariants.{Less, Equal, Greater}
+use Rattle.ts_regex.specs.Shape.{Shape, shape_of}
+use Rattle.ts_transducer.specs.declared.row.Row.{Row}
+use Rattle.ts_pattern.specs.declared.pattern.Pattern.{Pattern}
+use Rattle.ts_pattern.specs.declared.plan.Plan.{Plan}
+use Rattle.ts_pattern.specs.Plans.{plain_plan, subject}
+use Rattle.ts_pattern.specs.Closed.{PlainConfiguration, Subject, stepped, step_listed, meets_checks}
+use Rattle.ts_validate.specs.declared.step.Look.{Look}
+use Rattle.ts_validate.specs.declared.arrival.Arrival.{Arrival}
+
+abbrev pub configuration_at : {R : Type 0} → List (PlainConfiguration R) → ℕ → PlainConfiguration R
+configuration_at [] i = record { state = 0; live = [] }
+configuration_at (x ∷ xs) zero = x
+configuration_at (x ∷ xs) (suc i) = configuration_at xs i
+
+-- configuration i, by its residuals themselves
+abbrev pub value_at : Subject Shape → ℕ → PlainConfiguration Shape
+value_at s i = configuration_at s.configurations i
+
+-- a pattern and a plan against a transducer's rows
+abbrev pub against : List Row → Pattern → Plan → Subject Shape
+against rows p plan = subject rows (shape_of p.regex) p.b (plain_plan plan)
+
+-- i is the least number of x
+abbrev pub IsFirst : Subject Shape → PlainConfiguration Shape → ℕ → Type 0
+IsFirst s x i = (i < length s.configurations) × (value_at s i ≡ x) × ((j : ℕ) → j < i → value_at s j ≡ x → ⊥)
+
+-- what a look at the step of x on l shows
+pub record Sees (s : Subject Shape) (x : PlainConfiguration Shape) (l : Letter) (k : Look) : Type 0 where
+  pub none : k.next ≡ None → step_listed s x l ≡ false
+  pub some : (j : ℕ) → k.next ≡ Some j → (step_listed s x l ≡ true) × IsFirst s (stepped s x l) j
+  pub meets : k.meets ≡ meets_checks s x l
+
+-- arrival k, and the place at number c
+abbrev pub arrived : List Arrival → ℕ → Arrival
+arrived arrivals k = slice_index_or arrivals k (record { configuration = 0; from = 0; letter = Less })
+
+abbrev pub place_at : List (Option ℕ) → ℕ → Option ℕ
+place_at places c = slice_index_or places c None
+
+-- how many places are none
+abbrev pub open_places : List (Option ℕ) → ℕ
+open_places [] = 0
+open_places (None ∷ places) = open_places places + 1
+open_places (Some k ∷ places) = open_places places
+
+-- the configuration of arrival k
+abbrev pub value_of : Subject Shape → List Arrival → ℕ → PlainConfiguration Shape
+value_of s arrivals k = value_at s (arrived arrivals k).configuration
+
+-- arrival k goes on from an earlier one by its letter
+abbrev pub GoesOn : Subject Shape → List Arrival → ℕ → Type 0
+GoesOn s arrivals k =
+    ((arrived arrivals k).from < k)
+    × (step_listed s (value_of s arrivals (arrived arrivals k).from) (arrived arrivals k).letter ≡ true)
+    × (value_of s arrivals k ≡ stepped s (value_of s arrivals (arrived arrivals k).from) (arrived arrivals k).letter)
+
+pub record Reaches (s : Subject Shape) (arrivals : List Arrival) (places : List (Option ℕ)) : Type 0 where
+  pub size : length places ≡ length s.configurations
+  pub count : open_places places + length arrivals ≡ length places
+  pub some : 0 < length arrivals
+  pub start : (arrived arrivals 0).configuration ≡ 0
+  pub steps : (k : ℕ) → 0 < k → k < length arrivals → GoesOn s arrivals k
+  pub inside : (k : ℕ) → k < length arrivals → (arrived arrivals k).configuration < length s.configurations
+  pub there : (c k : ℕ) → place_at places c ≡ Some k → (k < length arrivals) × ((arrived arrivals k).configuration ≡ c)
+  pub back : (k : ℕ) → k < length arrivals → place_at places (arrived arrivals k).configuration ≡ Some k
+
+-- where the step of arrival k on l is listed, its first number has arrived
+abbrev pub Follows : Subject Shape → List Arrival → ℕ → Letter → Type 0
+Follows s arrivals k l =
+    step_listed s (value_of s arrivals k) l ≡ true → (m : ℕ) × (m < length arrivals) × IsFirst s (stepped s (value_of s arrivals k) l) (arrived arrivals m).configuration
+
+-- the steps of the first arrivals have all arrived
+abbrev pub Followed : Subject Shape → List Arrival → ℕ → Type 0
+Followed s arrivals done = (k : ℕ) → k < done → (l : Letter) → Follows s arrivals k l
+
+-- what was there stays in its place
+abbrev pub Grows : List Arrival → List Arrival → Type 0
+Grows old new = (more : List Arrival) × (new ≡ old ++ more)
+
+-- the letters from the start to arrival k
+pub data IsPath (arrivals : List Arrival) : ℕ → List Letter → Type 0 where
+  PathStart : (k : ℕ) (w : List Letter) → k ≡ 0 → w ≡ [] → IsPath arrivals k w
+  PathOn : (k : ℕ) (v w : List Letter) → 0 < k → IsPath arrivals (arrived arrivals k).from v → w ≡ v ++ (arrived arrivals k).letter ∷ [] → IsPath arrivals k w
+
+-- the checks hold on each letter
+abbrev pub AllMeet : Subject Shape → ℕ → Type 0
+AllMeet s i = (l : Letter) → meets_checks s (value_at s i) l ≡ true
+
+-- the checks hold on each letter before l
+abbrev pub MeetsBefore : Subject Shape → ℕ → Letter → Type 0
+MeetsBefore s i Less = Unit {0}
+MeetsBefore s i Equal = meets_checks s (value_at s i) Less ≡ true
+MeetsBefore s i Greater = (meets_checks s (value_at s i) Less ≡ true) × (meets_checks s (value_at s i) Equal ≡ true)
+
+-- l is the first letter on which a check of configuration i fails
+abbrev pub FailsFirst : Subject Shape → ℕ → Letter → Type 0
+FailsFirst s i l = (meets_checks s (value_at s i) l ≡ false) × MeetsBefore s i l
+
+-- the checks hold at each configuration below n that has arrived
+abbrev pub AllMeetBelow : Subject Shape → List (Option ℕ) → ℕ → Type 0
+AllMeetBelow s places n = (c k : ℕ) → c < n → place_at places c ≡ Some k → AllMeet s c

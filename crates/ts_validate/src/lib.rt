@@ -1,0 +1,30 @@
+//! Transducers against patterns: does a transducer find the occurrences of a pattern, in every signature?
+//!
+//! A plan lists the configurations in which the transducer and the live starts of the pattern's matches can stand
+//! together. `validate` walks over those that are reached and looks at the six checks of each step; where all hold,
+//! the plan is closed, and that is proof enough: for every signature the ranges that the transducer decodes are the
+//! e-ranges of the occurrences, in their order. `Validated` carries that fact to the layers above.
+//!
+//! The plan's residuals are compared once, when their numbers are looked up; each step then compares numbers alone,
+//! so that a plan takes as many comparisons of entries as it has configurations times steps.
+//!
+//! ```text
+//! let validated = validate(alloc, seed.transducer, &peak, &seed.plan)?;
+//! let rows = validated.transducer().rows();
+//! ```
+#![tactic(auto)]
+
+pub mod arrival;
+pub mod closure;
+pub mod facts;
+pub mod failure;
+pub mod known;
+pub mod laws;
+pub mod step;
+pub mod stop;
+pub mod tags;
+pub mod validated;
+
+pub use closure::validate;
+pub use stop::ValidateStop;
+pub use validated::Validated;

@@ -1,0 +1,197 @@
+//! The step of a configuration by the numbers of its residuals.
+
+ghost use Rattle.std.specs.Prelude.{◌≡◌, ◌==◌, ◌&&◌, ◌<◌, ◌++◌, [], ◌∷◌, not, nat_le, map, length, slice_get, IfOk};
+ghost use Rattle.std.specs.List.{list_all, list_any, position, zip};
+ghost use Rattle.ts_pattern.specs.Entries.{survivors};
+ghost use Rattle.ts_pattern.specs.Closed.{same_tag, tag_after, retag, appended, same_configuration};
+ghost use Rattle.ts_pattern.specs.Plans.{plain_live, plain_configuration};
+ghost use Rattle.ts_validate.specs.Looks.{look_of, row_or};
+ghost use Rattle.ts_validate.specs.Numbers.{known_at, next_on, numbers, numbered, all_listed, joined, next_place, number_meets};
+
+use crate::facts::answers;
+use crate::known::{Known, look_up};
+use crate::tags::{first_tag, none_kept, same_tag, tag_after};
+use std::alloc::Global;
+use ts_base::{Letter, Memory};
+use ts_pattern::{Configuration, Live};
+use ts_transducer::{Arrow, Phase, Row};
+
+/// Whether an entry that is kept has the residual of this number.
+fn stands(table: &[Known], residual: u32, kept: &[Live]) -> bool
+    ensures { result ≡ list_any (λ k. (known_at table.now k.residual).own == (known_at table.now residual).own) kept.now }
+{
+    kept.iter().any(|k| look_up(table, k.residual).own == look_up(table, residual).own)
+}
+
+/// Whether the residual has a word and no entry that is kept has it.
+fn is_new(table: &[Known], residual: u32, kept: &[Live]) -> bool
+    ensures { result ≡ (not (residual == length table.now) && not (list_any (λ k. (known_at table.now k.residual).own == (known_at table.now residual).own) kept.now)) }
+{
+    residual as usize != table.len() && !stands(table, residual, kept)
+}
+
+/// Adds what the letter leaves of an entry: nothing where its residual has no word, or is that of an earlier one.
+fn add_left(
+    table: &[Known],
+    letter: Letter,
+    entry: Live,
+    kept: &mut Vec<Live>,
+) -> Result<(), Memory>
+    ensures { IfOk result (λ _. map (λ e. plain_live e) kept.new.items ≡ joined (numbers table.now) letter (plain_live entry) (map (λ e. plain_live e) kept.old.items)) }
+{
+    let residual = look_up(table, entry.residual).next(letter);
+    let new = is_new(table, residual, kept);
+    if new {
+        kept.push(Live {
+            residual,
+            tag: entry.tag,
+        })?;
+    }
+    Ok(())
+}
+
+/// The entries that the letter leaves, with their tags before it.
+fn left(
+    alloc: Global,
+    table: &[Known],
+    letter: Letter,
+    b: u8,
+    live: &[Live],
+) -> Result<Vec<Live>, Memory>
+    ensures { IfOk result (λ v. map (λ e. plain_live e) v.items ≡ survivors (numbers table.now) letter (appended tt 0 b (map (λ e. plain_live e) live.now))) }
+{
+    let mut kept = Vec::new(alloc);
+    for entry in live {
+        add_left(table, letter, *entry, &mut kept)?;
+    }
+    let new = Live {
+        residual: 0,
+        tag: first_tag(b),
+    };
+    add_left(table, letter, new, &mut kept)?;
+    Ok(kept)
+}
+
+fn one_listed(table: &[Known], letter: Letter, residual: u32) -> bool
+    ensures { result ≡ nat_le (next_on letter (known_at table.now residual)) (length table.now) }
+{
+    look_up(table, residual).next(letter) as usize <= table.len()
+}
+
+fn each_listed(table: &[Known], letter: Letter, live: &[Live]) -> bool
+    ensures { result ≡ list_all (λ e. nat_le (next_on letter (known_at table.now e.residual)) (length table.now)) live.now }
+{
+    live.iter().all(|e| one_listed(table, letter, e.residual))
+}
+
+fn same_entry(table: &[Known], phase: Phase, free: bool, listed: Live, kept: Live) -> bool
+    ensures { result ≡ (((known_at table.now listed.residual).own == (known_at table.now kept.residual).own) && same_tag listed.tag (tag_after phase free kept.tag)) }
+{
+    look_up(table, listed.residual).own == look_up(table, kept.residual).own
+        && same_tag(listed.tag, tag_after(phase, free, kept.tag))
+}
+
+fn each_same(table: &[Known], phase: Phase, free: bool, listed: &[Live], kept: &[Live]) -> bool
+    ensures { result ≡ list_all (λ p. ((known_at table.now p.0.residual).own == (known_at table.now p.1.residual).own) && same_tag p.0.tag (tag_after phase free p.1.tag)) (zip listed.now kept.now) }
+{
+    listed
+        .iter()
+        .zip(kept)
+        .all(|(x, e)| same_entry(table, phase, free, *x, *e))
+}
+
+fn both(a: bool, b: bool) -> bool
+    ensures { result ≡ (a && b) }
+{
+    a && b
+}
+
+fn equal(m: usize, n: usize) -> bool
+    ensures { result ≡ (m == n) }
+{
+    m == n
+}
+
+/// Whether a listed configuration is the state with the kept entries, with their tags after the step.
+fn is_same(table: &[Known], arrow: Arrow, free: bool, kept: &[Live], listed: &Configuration) -> bool
+    ensures { result ≡ same_configuration (numbers table.now) (plain_configuration listed.now) (record { state = arrow.next; live = retag arrow.phase free (map (λ e. plain_live e) kept.now) }) }
+{
+    let live = listed.live.as_slice();
+    let lives = each_same(table, arrow.phase, free, live, kept);
+    let lengths = equal(live.len(), kept.len());
+    let states = equal(listed.state as usize, arrow.next as usize);
+    both(states, both(lengths, lives))
+}
+
+fn place(
+    table: &[Known],
+    arrow: Arrow,
+    free: bool,
+    kept: &[Live],
+    configurations: &[Configuration],
+) -> Option<usize>
+    ensures { result ≡ position (λ y. same_configuration (numbers table.now) (plain_configuration y) (record { state = arrow.next; live = retag arrow.phase free (map (λ e. plain_live e) kept.now) })) configurations.now }
+{
+    configurations
+        .iter()
+        .position(|listed| is_same(table, arrow, free, kept, listed))
+}
+
+fn row(rows: &[Row], state: u8) -> Row
+    ensures { result ≡ row_or (slice_get rows.now state) }
+{
+    match rows.get(state as usize) {
+        Some(row) => *row,
+        None => Row::default(),
+    }
+}
+
+/// What a step shows: the place at which it is listed first, if it is, and whether the six checks hold.
+#[derive(Clone, Copy, Debug, PartialEq, Eq)]
+pub struct Look {
+    pub next: Option<usize>,
+    pub meets: bool,
+}
+
+/// The step of a configuration on a letter.
+pub fn look_at(
+    alloc: Global,
+    rows: &[Row],
+    table: &[Known],
+    b: u8,
+    configurations: &[Configuration],
+    here: &Configuration,
+    letter: Letter,
+) -> Result<Look, Memory>
+    ensures next { IfOk result (λ k. k.next ≡ next_place table.now (numbered rows.now table.now b (map (λ x. plain_configuration x) configurations.now)) (plain_configuration here.now) letter) }
+    ensures meets { IfOk result (λ k. k.meets ≡ number_meets table.now (numbered rows.now table.now b (map (λ x. plain_configuration x) configurations.now)) (plain_configuration here.now) letter) }
+{
+    let live = here.live.as_slice();
+    let arrow = row(rows, here.state).arrow(letter);
+    let kept = left(alloc, table, letter, b, live)?;
+    let free = none_kept(live);
+    let olds = each_listed(table, letter, live);
+    let new = one_listed(table, letter, 0);
+    let listed = both(olds, new);
+    let facts = answers(table, arrow.phase, free, kept.as_slice());
+    let kind = row(rows, arrow.next).kind;
+    let agree = facts.agree(arrow.phase, kind);
+    let next = place(table, arrow, free, kept.as_slice(), configurations);
+    Ok(looked(listed, next, agree))
+}
+
+fn looked(listed: bool, next: Option<usize>, agree: bool) -> Look
+    ensures { result ≡ look_of listed next agree }
+{
+    if listed {
+        Look {
+            next,
+            meets: next.is_some() && agree,
+        }
+    } else {
+        Look {
+            next: None,
+            meets: false,
+        }
+    }
+}
