@@ -1,5 +1,5 @@
 -- The commands by their words, and the most bytes that each reads.
-use Rattle.std.specs.Prelude.{ℕ, ◌==◌, ◌&&◌, Bool, List, length, codes, Option, Some, None, if◌then◌else◌}
+use Rattle.std.specs.Prelude.{ℕ, ◌==◌, ◌&&◌, List, length, codes, Option, Some, None, if◌then◌else◌}
 use Rattle.std.specs.Str.{bytes_eq}
 use Rattle.ts_run.specs.Pieces.{piece_at}
 use Rattle.ts_run.specs.declared.command.Command.{Command}

@@ -1,5 +1,5 @@
 -- The one form of an input of `check`: five lines, each ended by one LF, with single spaces between words.
-use Rattle.std.specs.Prelude.{ℕ, ◌==◌, ◌&&◌, ◌||◌, nat_le, nat_lt, ℤ, pos, neg_ℤ, int_le, Bool, slice_index, List, [], ◌∷◌, length, take, drop, codes, Option, Some, None, if◌then◌else◌}
+use Rattle.std.specs.Prelude.{ℕ, ◌==◌, ◌&&◌, ◌||◌, nat_le, nat_lt, ℤ, pos, neg_ℤ, int_le, Bool, slice_index, List, [], ◌∷◌, length, codes, Option, Some, None, if◌then◌else◌}
 use Rattle.std.specs.List.{list_all}
 use Rattle.std.specs.Str.{bytes_eq}
 use Rattle.ts_token.specs.Number.{number_of, is_digit}
