@@ -99,7 +99,8 @@ pub record FirstBad (lists : Bool) (rows : List Row) (line : ℕ) (kind : ModelK
   pub kind_is : kind_at lists (take place rows) row ≡ Some kind
   pub first : (i : ℕ) (earlier : Row) → i < place → slice_get rows i ≡ Some earlier → kind_at lists (take i rows) earlier ≡ None
 
--- a text whose lines before the first that isn't text are good, and its number, if there is one
+-- how a text is refused of which every line of words is good: by its first line that isn't text, if there is one,
+-- else for want of cells, else for want of an objective that is needed
 abbrev pub IsEnd : Need → Cut → Option ℕ → ℕ → ModelKind → Type 0
 IsEnd need c (Some bad) line kind = (line ≡ bad) × (kind ≡ NotText)
 IsEnd need c None line kind =
