@@ -1,4 +1,4 @@
 pub mod Endings
-pub mod OutsideLaws
-pub mod PieceLaws
-pub mod SeriesLaws
+pub mod Entries
+pub mod Inputs
+pub mod VerdictLaws

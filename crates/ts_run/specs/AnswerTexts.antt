@@ -1,22 +1,22 @@
 -- What each command answers to the bytes of its input.
-use Rattle.std.specs.Prelude.{ℕ, ◌+◌, ℤ, List, [], ◌∷◌, ◌++◌, length, codes, nat_le, Option, Some, None, if◌then◌else◌}
-use Rattle.std.specs.List.{list_all}
+use Rattle.std.specs.Prelude.{ℕ, ◌+◌, ℤ, Bool, List, [], ◌∷◌, ◌++◌, length, codes, nat_le, Option, Some, None, unwrap_or, Result, Ok, Err, if◌then◌else◌}
 use Rattle.std.specs.Fmt.{decimal}
-use Rattle.ts_base.specs.declared.ext.Ext.{Ext}
-use Rattle.ts_pattern.specs.declared.name.Aggregator.TheVariants.{Sum}
-use Rattle.ts_pattern.specs.declared.name.Feature.TheVariants.{Width}
-use Rattle.ts_pattern.specs.declared.name.PatternId.TheVariants.{Peak}
-use Rattle.ts_pattern.specs.TermValue.{value_of}
-use Rattle.ts_base.specs.Text.{ext_text}
+use Rattle.ts_token.specs.Text.{cut_of}
+use Rattle.ts_token.specs.Halves.{halves_of, Halves}
+use Rattle.ts_model.specs.declared.error.ModelKind.{ModelKind}
+use Rattle.ts_model.specs.declared.error.ModelKind.TheVariants.{NotText, UnknownLine, Shape, Number, NoCells, CellsTwice, CellRange, Empty, UnknownName, BadPair, UnknownTerm, TermTwice, ObjectiveTwice, Limit, NoObjective}
+use Rattle.ts_model.specs.declared.error.SeriesStop.{SeriesStop}
+use Rattle.ts_model.specs.declared.error.SeriesStop.TheVariants.{Shape as NoSeries, Number as NoNumber, Length, Memory as NoMemory}
+use Rattle.ts_model.specs.declared.model.Need.TheVariants.{Values}
+use Rattle.ts_model.specs.ModelReading.{model_reading}
+use Rattle.ts_model.specs.Series.{series_reading}
+use Rattle.ts_model.specs.Stated.{Stated}
 use Rattle.ts_run.specs.Commands.{byte_limit}
-use Rattle.ts_run.specs.FixedForm.{Form, fixed_form, is_between}
 use Rattle.ts_run.specs.Reply.{Reply}
+use Rattle.ts_run.specs.Verdict.{line, verdict}
 use Rattle.ts_run.specs.declared.command.Command.{Command}
 use Rattle.ts_run.specs.declared.command.Command.TheVariants.{Check}
-use Rattle.ts_run.specs.declared.status.Status.TheVariants.{Done, No, Refused, ReadFault}
-
-abbrev pub line : List ℕ → List ℕ
-line text = text ++ 10 ∷ []
+use Rattle.ts_run.specs.declared.status.Status.TheVariants.{Refused, ReadFault}
 
 abbrev pub refused_words : Reply
 refused_words = record { text = codes "refused words\n"; status = Refused }
@@ -27,41 +27,52 @@ fault_read = record { text = codes "fault read\n"; status = ReadFault }
 abbrev pub refused_length : Reply
 refused_length = record { text = codes "refused length\n"; status = Refused }
 
-abbrev pub refused_form : Reply
-refused_form = record { text = codes "refused form\n"; status = Refused }
+-- the kind of a bad line, as it is printed
+abbrev pub kind_word : ModelKind → List ℕ
+kind_word NotText = codes "nottext"
+kind_word UnknownLine = codes "unknownline"
+kind_word Shape = codes "shape"
+kind_word Number = codes "number"
+kind_word NoCells = codes "nocells"
+kind_word CellsTwice = codes "cellstwice"
+kind_word CellRange = codes "cellrange"
+kind_word Empty = codes "empty"
+kind_word UnknownName = codes "unknownname"
+kind_word BadPair = codes "badpair"
+kind_word UnknownTerm = codes "unknownterm"
+kind_word TermTwice = codes "termtwice"
+kind_word ObjectiveTwice = codes "objectivetwice"
+kind_word Limit = codes "limit"
+kind_word NoObjective = codes "noobjective"
 
--- the line of cell k, where its value isn't between low and high
-abbrev pub outside_line : ℤ → ℤ → ℕ → ℤ → List ℕ
-outside_line low high k x = if is_between low high x then [] else line (codes "outside " ++ decimal k)
+abbrev pub refused_model : ℕ → ModelKind → Reply
+refused_model number kind = record { text = line (codes "refused model line " ++ decimal number ++ codes " " ++ kind_word kind); status = Refused }
 
--- the lines of the cells from cell k on
-abbrev pub outside_lines : ℤ → ℤ → ℕ → List ℤ → List ℕ
-outside_lines low high k [] = []
-outside_lines low high k (x ∷ xs) = outside_line low high k x ++ outside_lines low high (k + 1) xs
+-- what is wrong with a series, as it is printed
+abbrev pub stop_word : SeriesStop → List ℕ
+stop_word NoSeries = codes "shape"
+stop_word NoNumber = codes "number"
+stop_word Length = codes "length"
+stop_word NoMemory = []
 
-abbrev pub value_line : List ℕ → Ext → List ℕ
-value_line name value = line (codes "value " ++ name ++ codes " " ++ ext_text value)
+abbrev pub refused_series : SeriesStop → Reply
+refused_series stop = record { text = line (codes "refused series " ++ stop_word stop); status = Refused }
 
--- the sum of the widths of all peaks
-abbrev pub series_value : List ℤ → Ext
-series_value xs = value_of Sum Width Peak xs
+abbrev pub series_reply : Stated → Result (List ℤ) SeriesStop → Reply
+series_reply m (Err stop) = refused_series stop
+series_reply m (Ok xs) = verdict m xs
 
--- `meets` or `fails`, what is at fault, and the value of the term
-abbrev pub checked : Form → Reply
-checked form =
-    let good = list_all (is_between form.low form.high) form.series in
-    record {
-      text = (if good then codes "meets\n" else codes "fails\n") ++ outside_lines form.low form.high 1 form.series ++ value_line form.name (series_value form.series);
-      status = if good then Done else No;
-    }
+-- the answer to a model that was read so, and the text of its series
+abbrev pub model_reply : List ℕ → Result Stated (ℕ × ModelKind) → Reply
+model_reply rest (Err bad) = refused_model bad.0 bad.1
+model_reply rest (Ok m) = series_reply m (series_reading (length m.cells) (cut_of rest))
 
-abbrev pub check_reply : Option Form → Reply
-check_reply None = refused_form
-check_reply (Some form) = checked form
+abbrev pub halves_reply : Halves → Reply
+halves_reply h = model_reply (unwrap_or h.rest []) (model_reading Values h.model)
 
 -- the answer to a command whose input fits its limit
 abbrev pub answer : Command → List ℕ → Reply
-answer Check bytes = check_reply (fixed_form bytes)
+answer Check bytes = halves_reply (halves_of bytes)
 
 -- the answer to a command that finds these bytes
 abbrev pub reply_to : Command → List ℕ → Reply

@@ -14,10 +14,9 @@ impl Command {
     pub fn of(words: &Vec<String>) -> Option<Command>
         ensures { result ≡ command_of (map string_bytes words.now.items) }
     {
-        if words.len() == 1 && words[0].as_str() == "check" {
-            Some(Command::Check)
-        } else {
-            None
+        match words.as_slice() {
+            [word] if word.as_str() == "check" => Some(Command::Check),
+            _ => None,
         }
     }
 

@@ -8,18 +8,19 @@
 //! status.code()   // 0 to 6
 //! ```
 //!
-//! A command is one function from bytes to a text and a status, in `answer`; it knows of no source and no sink. One
+//! A command is one function from bytes to a text and a status, as `check`; it knows of no source and no sink. One
 //! function, `told`, writes. So a new command touches neither of the two proofs.
 #![tactic(auto)]
 
 pub mod answer;
+pub mod check;
 pub mod command;
-pub mod form;
-pub mod pieces;
-pub mod stated;
+pub mod refusal;
+pub mod reply;
 pub mod status;
 pub mod told;
 pub mod top;
+pub mod verdict;
 
 pub use status::Status;
 pub use top::run;
