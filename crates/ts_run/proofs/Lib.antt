@@ -1,4 +1,5 @@
 pub mod Endings
 pub mod Entries
 pub mod Inputs
+pub mod MeetsLaw
 pub mod VerdictLaws

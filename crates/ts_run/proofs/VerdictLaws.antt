@@ -34,7 +34,7 @@ module _ (word : List ℕ) (tests : List Bool) (k : ℕ) (text all : List ℕ) w
   pub faults_end : length tests ≤ k → text ++ fault_lines word (k + 1) (drop k tests) ≡ all → text ≡ all
   faults_end h e = sym (append-nil text) ∙ ap (λ rest. text ++ fault_lines word (k + 1) rest) (sym (drop_all k tests h)) ∙ e
 
-int_same : (x y : ℤ) → int_eq x y ≡ true → x ≡ y
+pub int_same : (x y : ℤ) → int_eq x y ≡ true → x ≡ y
 int_same x y e = grind (arith, ints)
 
 -- a test that says whether x is one of the values says what the definition says

@@ -1,14 +1,16 @@
 //! What `check` says of a series that has as many cells as its model.
 
-ghost use Rattle.std.specs.Prelude.{ℕ, ◌≡◌, ◌≤◌, ◌<◌, ◌+◌, ◌++◌, [], length, vec_len, pos, string_bytes, IfOk, OnOk};
+ghost use Rattle.std.specs.Prelude.{ℕ, ◌≡◌, ◌≤◌, ◌<◌, ◌+◌, ◌++◌, [], length, vec_len, pos, string_bytes, IfOk, OnOk, ◌↔◌};
 ghost use Rattle.std.specs.List.{AllByRecursion, list_all, slice_index_or, zip};
 ghost use Rattle.ts_base.specs.Signature.{signature_of};
 ghost use Rattle.ts_pattern.specs.Limits.{IsSeries};
+ghost use Rattle.ts_model.specs.Meets.{Meets};
 ghost use Rattle.ts_model.specs.Promise.{IsWhole};
 ghost use Rattle.ts_model.specs.Views.{stated};
 ghost use Rattle.ts_run.specs.Reply.{IsAnswer};
 ghost use Rattle.ts_run.specs.Verdict.{fault_line, fault_lines, holdings, holds, insides, is_among, is_true, names_of, value_line, value_lines, values_on, verdict};
 ghost use Rattle.ts_run.specs.Views.{reply};
+ghost use Rattle.ts_run.specs.declared.status.Status.TheVariants.{Done};
 
 use crate::reply::Answer;
 use crate::status::Status;
@@ -18,8 +20,21 @@ use ts_domain::Domain;
 use ts_model::{Model, Require, satisfies};
 use ts_occurrence::{signature, value_with};
 
-/// Whether the series meets the model, each cell and requirement at fault, and the value of each term.
+/// Whether the series meets the model, each cell and requirement at fault, and the value of each term. The status is
+/// `Done` exactly where the series meets the model, else `No`.
 pub fn verdict(alloc: Global, model: &Model, series: &[i64]) -> Result<Answer, Memory>
+    requires whole { IsWhole model.now }
+    requires series { IsSeries series.now }
+    requires cells { length series.now ≡ vec_len model.now.cells }
+    ensures text { IfOk result (λ given. reply given ≡ verdict (stated model.now) series.now) }
+    ensures status { IfOk result (λ given. IsAnswer given.status) }
+    ensures meets { IfOk result (λ given. (given.status ≡ Done) ↔ Meets model.now series.now) }
+{
+    Ok(worded(alloc, model, series)?)
+}
+
+/// The verdict in words.
+fn worded(alloc: Global, model: &Model, series: &[i64]) -> Result<Answer, Memory>
     requires whole { IsWhole model.now }
     requires series { IsSeries series.now }
     requires cells { length series.now ≡ vec_len model.now.cells }
