@@ -5,6 +5,7 @@ ghost use Rattle.std.specs.Prelude.{◌≤◌, ◌<◌, length, vec_len, IfOk};
 ghost use Rattle.ts_regex.specs.Shape.{shape_of};
 ghost use Rattle.ts_pattern.specs.Trims.{FitsTrims};
 
+mod plans;
 mod validation;
 
 use std::alloc::Global;

@@ -8,11 +8,12 @@ ghost use Rattle.ts_pattern.specs.Limits.{IsSeries};
 use crate::{occurrences, part, signature, value};
 use std::alloc::Global;
 use ts_base::{Ext, Letter, Memory, Range};
-use ts_pattern::{PatternId, Term, aggregator_of, feature_of, pattern_by_id, pattern_of};
+use ts_pattern::{Pattern, PatternId, Term, aggregator_of, feature_of, pattern_by_id, pattern_of};
+use ts_regex::Regex;
+use ts_regex::regex::star;
 
 // Signs and the e-ranges of peak in them; a dot stands for no sign.
-fn peaks() -> &'static str {
-    ". none
+static PEAKS: &str = ". none
      < none
      > none
      = none
@@ -49,12 +50,14 @@ fn peaks() -> &'static str {
      <<<<<<<<> 2-9
      <>>>>>>>> 2-9
      <>=<=<= 2-2
-     =<=<=>=>= 3-8"
+     =<=<=>=>= 3-8";
+
+fn peaks() -> &'static str {
+    PEAKS
 }
 
 // A pattern, a series, and the e-ranges: at both ends, overlapping, none, with equal neighbours.
-fn ranges() -> &'static str {
-    "increasing 0242 1-2,2-3
+static RANGES: &str = "increasing 0242 1-2,2-3
      increasing 102101 2-3,5-6
      increasing 2210 none
      increasing 1003 3-4
@@ -151,6 +154,7 @@ fn ranges() -> &'static str {
      proper_plateau 202211 3-4
      proper_plateau 0220330 2-3,5-6
      proper_plateau 10222210 3-6
+     proper_plateau 01221 3-4
      proper_plain 1001 2-3
      proper_plain 01001 3-4
      proper_plain 051100 none
@@ -163,6 +167,7 @@ fn ranges() -> &'static str {
      summit 10102111 3-3,5-5
      summit 20254210 3-7
      summit 301311120 3-4,8-8
+     summit 01121 2-4
      gorge 10111121 2-6
      gorge 0013104 5-6
      gorge 340022 none
@@ -181,17 +186,20 @@ fn ranges() -> &'static str {
      dip_on_increasing_sequence 124012023 3-5,6-8
      dip_on_increasing_sequence 050130122 5-7
      dip_on_increasing_sequence 0120131 3-5
+     dip_on_increasing_sequence 0121123 none
      bump_on_decreasing_sequence 320320 3-5
      bump_on_decreasing_sequence 12021 none
      bump_on_decreasing_sequence 321320210 3-5,6-8
      bump_on_decreasing_sequence 022105320 5-7
      bump_on_decreasing_sequence 121043212 4-6
-     bump_on_decreasing_sequence 233103213 5-7"
+     bump_on_decreasing_sequence 233103213 5-7";
+
+fn ranges() -> &'static str {
+    RANGES
 }
 
 // A term, a series, and the value.
-fn values() -> &'static str {
-    "sum width peak 1332214 4
+static VALUES: &str = "sum width peak 1332214 4
      max surf peak 222 -inf
      min width peak 222 3
      max width peak 222 0
@@ -262,7 +270,12 @@ fn values() -> &'static str {
      min min peak 1332214121 2
      min min peak BACCA3BB -1
      min min peak 22 +inf
-     min min decreasing 531 1"
+     min min decreasing 531 1
+     max max peak 12531 5
+     min min valley 53124 1";
+
+fn values() -> &'static str {
+    VALUES
 }
 
 fn letters(alloc: Global, signs: &str) -> Result<Vec<Letter>, Memory> {
@@ -300,6 +313,19 @@ fn is_series(series: &[i64]) -> bool
 
 fn ranges_of(alloc: Global, id: PatternId, w: &[Letter]) -> Result<Vec<Range>, Memory> {
     let pattern = pattern_by_id(alloc, id)?;
+    if w.len() > 1000 {
+        return Ok(Vec::new(alloc));
+    }
+    occurrences(alloc, &pattern, w)
+}
+
+// Any number of `=`, without the first cell: the empty word is one of its words, and yet no match.
+fn levels_of(alloc: Global, w: &[Letter]) -> Result<Vec<Range>, Memory> {
+    let pattern = Pattern {
+        regex: star(alloc, Regex::One(Letter::Equal))?,
+        b: 1,
+        a: 0,
+    };
     if w.len() > 1000 {
         return Ok(Vec::new(alloc));
     }
@@ -366,6 +392,8 @@ fn peaks_in_signatures(rt: HostRuntime) -> Result<(), Memory> {
         }
     }
     assert_eq!(rt; words.len(), 76);
+    let levels = levels_of(alloc, &letters(alloc, "<==<=")?)?;
+    assert!(rt; shown(alloc, &levels)?.as_str() == "3-4,6-6");
     let mut equal = Vec::new(alloc);
     let mut alternating = Vec::new(alloc);
     for k in 0..511 {
@@ -401,7 +429,7 @@ fn ranges_of_all_patterns(rt: HostRuntime) -> Result<(), Memory> {
             );
         }
     }
-    assert_eq!(rt; words.len(), 399);
+    assert_eq!(rt; words.len(), 408);
     Ok(())
 }
 
@@ -418,10 +446,14 @@ fn values_of_terms(rt: HostRuntime) -> Result<(), Memory> {
             );
         }
     }
-    assert_eq!(rt; words.len(), 360);
+    assert_eq!(rt; words.len(), 370);
     assert_eq!(rt;
         part(Range { first: 2, last: 3 }, &[4, 5, 6, 7]),
         [5, 6].as_slice()
+    );
+    assert_eq!(rt;
+        part(Range { first: 4, last: 4 }, &[4, 5, 6, 7]),
+        [7].as_slice()
     );
     Ok(())
 }

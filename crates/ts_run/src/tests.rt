@@ -13,7 +13,7 @@ struct Case {
     status: Status,
 }
 
-static CASES: [Case; 32] = [
+static CASES: [Case; 34] = [
     Case {
         input: b"cells 7\ndomain 0..9\nterm w = sum width peak\n%%\nseries 1 3 3 2 2 1 4\n",
         taken: b"meets\nvalue w 4\n",
@@ -125,6 +125,16 @@ static CASES: [Case; 32] = [
         status: Status::No,
     },
     Case {
+        input: b"cells 3\ndomain 0 2..3\n%%\nseries 0 1 3\n",
+        taken: b"fails\noutside 2\n",
+        status: Status::No,
+    },
+    Case {
+        input: b"cells 2\nterm m = min surf peak\nrequire m = +inf\nrequire m <= 1000000000000\n%%\nseries 1 1\n",
+        taken: b"fails\nbroken 2\nvalue m +inf\n",
+        status: Status::No,
+    },
+    Case {
         input: b"cells 2\nterm w = sum width peak\nrequire w = 0\nobjective w\n%%\nseries 3 3",
         taken: b"meets\nvalue w 0\n",
         status: Status::Done,
@@ -180,20 +190,22 @@ fn cases() -> &'static [Case] {
     &CASES
 }
 
-/// The words, the step of the source and the call at which it fails, the same of the sink, what is taken of the first
-/// case's answer, and the status. No call is call 0.
+/// The words, the spaces in front of the first case's input, the step of the source and the call at which it fails, the
+/// same of the sink, what is taken of the answer, and the status. No call is call 0.
 #[derive(Clone, Copy)]
 struct Fault {
     words: &'static str,
+    spaces: usize,
     source: (usize, u64),
     sink: (usize, u64),
     taken: &'static [u8],
     status: Status,
 }
 
-static FAULTS: [Fault; 7] = [
+static FAULTS: [Fault; 13] = [
     Fault {
         words: "check",
+        spaces: 0,
         source: (3, 0),
         sink: (5, 0),
         taken: b"meets\nvalue w 4\n",
@@ -201,6 +213,7 @@ static FAULTS: [Fault; 7] = [
     },
     Fault {
         words: "check",
+        spaces: 0,
         source: (16, 2),
         sink: (4096, 0),
         taken: b"fault read\n",
@@ -208,6 +221,7 @@ static FAULTS: [Fault; 7] = [
     },
     Fault {
         words: "check",
+        spaces: 0,
         source: (4096, 0),
         sink: (10, 2),
         taken: b"meets\nvalu",
@@ -215,6 +229,7 @@ static FAULTS: [Fault; 7] = [
     },
     Fault {
         words: "",
+        spaces: 0,
         source: (4096, 0),
         sink: (4096, 0),
         taken: b"refused words\n",
@@ -222,6 +237,7 @@ static FAULTS: [Fault; 7] = [
     },
     Fault {
         words: "maximise --budget 0",
+        spaces: 0,
         source: (4096, 0),
         sink: (4096, 0),
         taken: b"refused words\n",
@@ -229,6 +245,7 @@ static FAULTS: [Fault; 7] = [
     },
     Fault {
         words: "verify now",
+        spaces: 0,
         source: (4096, 0),
         sink: (4096, 0),
         taken: b"refused words\n",
@@ -236,6 +253,55 @@ static FAULTS: [Fault; 7] = [
     },
     Fault {
         words: "check check",
+        spaces: 0,
+        source: (4096, 0),
+        sink: (4096, 0),
+        taken: b"refused words\n",
+        status: Status::Refused,
+    },
+    Fault {
+        words: "check",
+        spaces: 2_097_083,
+        source: (65536, 0),
+        sink: (4096, 0),
+        taken: b"meets\nvalue w 4\n",
+        status: Status::Done,
+    },
+    Fault {
+        words: "check",
+        spaces: 2_097_084,
+        source: (65536, 0),
+        sink: (4096, 0),
+        taken: b"refused length\n",
+        status: Status::Refused,
+    },
+    Fault {
+        words: "check",
+        spaces: 0,
+        source: (4096, 0),
+        sink: (4096, 2),
+        taken: b"meets\nvalue w 4\n",
+        status: Status::WriteFault,
+    },
+    Fault {
+        words: "check",
+        spaces: 0,
+        source: (16, 2),
+        sink: (4, 2),
+        taken: b"faul",
+        status: Status::WriteFault,
+    },
+    Fault {
+        words: "checks",
+        spaces: 0,
+        source: (4096, 0),
+        sink: (4096, 0),
+        taken: b"refused words\n",
+        status: Status::Refused,
+    },
+    Fault {
+        words: "Check",
+        spaces: 0,
         source: (4096, 0),
         sink: (4096, 0),
         taken: b"refused words\n",
@@ -245,6 +311,31 @@ static FAULTS: [Fault; 7] = [
 
 fn faults() -> &'static [Fault] {
     &FAULTS
+}
+
+/// The status of a call, and the exit status of the program.
+static CODES: [(Status, u8); 7] = [
+    (Status::Done, 0),
+    (Status::No, 1),
+    (Status::Refused, 2),
+    (Status::Budget, 3),
+    (Status::ReadFault, 4),
+    (Status::WriteFault, 5),
+    (Status::Memory, 6),
+];
+
+fn codes() -> &'static [(Status, u8)] {
+    &CODES
+}
+
+/// The input behind a line of so many spaces.
+fn behind(alloc: Global, spaces: usize, input: &[u8]) -> Result<Vec<u8>, AllocError> {
+    let mut bytes = vec![in alloc; b' '; spaces]?;
+    if spaces > 0 {
+        bytes.push(b'\n')?;
+    }
+    bytes.extend_from_slice(input)?;
+    Ok(bytes)
 }
 
 fn words_of(alloc: Global, words: &str) -> Result<Vec<String>, AllocError> {
@@ -281,7 +372,7 @@ fn words_and_faults(rt: HostRuntime) -> Result<(), Fail> {
         assert!(rt; 0 < fault.source.0 && 0 < fault.sink.0);
         let words = words_of(alloc, fault.words)?;
         let mut source = MemorySource::new(
-            Vec::from_slice(alloc, input)?,
+            behind(alloc, fault.spaces, input)?,
             fault.source.0,
             vec![in alloc; fault.source.1]?,
         );
@@ -289,6 +380,9 @@ fn words_and_faults(rt: HostRuntime) -> Result<(), Fail> {
         let status = run(alloc, &words, &mut source, &mut sink);
         assert_eq!(rt; sink.bytes(), fault.taken, "{}", fault.words);
         assert_eq!(rt; status, fault.status, "{}", fault.words);
+    }
+    for (status, code) in codes() {
+        assert_eq!(rt; status.code(), *code);
     }
     Ok(())
 }

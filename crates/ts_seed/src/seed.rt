@@ -111,41 +111,97 @@ fn partner_of(id: PatternId) -> Option<PatternId>
 mod tests {
     use super::*;
     use std::test::Fail;
+    use ts_base::Kind;
+    use ts_pattern::{pattern_name, pattern_of};
+    use ts_transducer::Row;
 
-    /// Of each pattern the numbers of rows, residuals, configurations and joins, counted in the tables.
-    const SIZES: [(PatternId, usize, usize, usize, usize); 22] = [
-        (PatternId::Increasing, 1, 2, 2, 0),
-        (PatternId::Decreasing, 1, 2, 2, 0),
-        (PatternId::Steady, 1, 2, 2, 0),
-        (PatternId::IncreasingSequence, 2, 3, 3, 1),
-        (PatternId::DecreasingSequence, 2, 3, 3, 1),
-        (PatternId::StrictlyIncreasingSequence, 2, 2, 2, 1),
-        (PatternId::StrictlyDecreasingSequence, 2, 2, 2, 1),
-        (PatternId::SteadySequence, 2, 2, 2, 1),
-        (PatternId::IncreasingTerrace, 3, 4, 4, 3),
-        (PatternId::DecreasingTerrace, 3, 4, 4, 3),
-        (PatternId::Inflexion, 3, 4, 7, 0),
-        (PatternId::Peak, 3, 5, 6, 3),
-        (PatternId::Valley, 3, 5, 6, 3),
-        (PatternId::Plateau, 3, 3, 4, 4),
-        (PatternId::Plain, 3, 3, 4, 4),
-        (PatternId::ProperPlateau, 3, 4, 4, 3),
-        (PatternId::ProperPlain, 3, 4, 4, 3),
-        (PatternId::Summit, 4, 6, 8, 5),
-        (PatternId::Gorge, 4, 6, 8, 5),
-        (PatternId::Zigzag, 7, 9, 11, 16),
-        (PatternId::DipOnIncreasingSequence, 5, 6, 6, 0),
-        (PatternId::BumpOnDecreasingSequence, 5, 6, 6, 0),
-    ];
+    // A pattern, the kinds of its states, the numbers of its residuals and configurations, its partner, and its joins by
+    // the places of the states; counted in the tables.
+    static SEEDS: &str = "increasing I 2 2 decreasing none
+         decreasing I 2 2 increasing none
+         steady I 2 2 steady none
+         increasing_sequence IH 3 3 decreasing_sequence 11
+         decreasing_sequence IH 3 3 increasing_sequence 11
+         strictly_increasing_sequence IH 2 2 strictly_decreasing_sequence 11
+         strictly_decreasing_sequence IH 2 2 strictly_increasing_sequence 11
+         steady_sequence IH 2 2 steady_sequence 11
+         increasing_terrace IIP 4 4 decreasing_terrace 12,21,22
+         decreasing_terrace IIP 4 4 increasing_terrace 12,21,22
+         inflexion IPP 4 7 none none
+         peak IPH 5 6 peak 11,12,21
+         valley IPH 5 6 valley 11,12,21
+         plateau IIP 3 4 plateau 11,12,21,22
+         plain IIP 3 4 plain 11,12,21,22
+         proper_plateau IIP 4 4 proper_plateau 12,21,22
+         proper_plain IIP 4 4 proper_plain 12,21,22
+         summit IPPH 6 8 summit 11,13,23,31,32
+         gorge IPPH 6 8 gorge 11,13,23,31,32
+         zigzag IIIPPHH 9 11 zigzag 14,15,23,26,32,33,36,41,44,45,51,54,55,62,63,66
+         dip_on_increasing_sequence IIIPP 6 6 none none
+         bump_on_decreasing_sequence IIIPP 6 6 none none";
+
+    fn seeds() -> &'static str {
+        SEEDS
+    }
+
+    /// The kinds of the states, by their first letters.
+    fn kinds(alloc: Global, rows: &[Row]) -> Result<String, Memory> {
+        let mut text = String::new(alloc);
+        for row in rows {
+            text.push_str(match row.kind {
+                Kind::Idle => "I",
+                Kind::Pending => "P",
+                Kind::Held => "H",
+            })?;
+        }
+        Ok(text)
+    }
+
+    fn pairs(alloc: Global, joins: &[Join]) -> Result<String, Memory> {
+        let mut text = String::new(alloc);
+        for join in joins {
+            if !text.is_empty() {
+                text.push_str(",")?;
+            }
+            text.push_str(format!(in alloc; "{}{}", join.forward, join.reverse)?.as_str())?;
+        }
+        if text.is_empty() {
+            text.push_str("none")?;
+        }
+        Ok(text)
+    }
+
+    fn name(id: Option<PatternId>) -> &'static [u8] {
+        match id {
+            Some(id) => pattern_name(id),
+            None => b"none",
+        }
+    }
 
     #[test]
-    fn sizes_of_the_seeds(rt: HostRuntime) -> Result<(), Fail> {
-        for (id, rows, residuals, configurations, joins) in SIZES {
-            let seed = seed_by_id(rt.alloc(), id)?;
-            assert_eq!(rt; seed.transducer.rows().len(), rows);
-            assert_eq!(rt; seed.plan.residuals.len(), residuals);
-            assert_eq!(rt; seed.plan.configurations.len(), configurations);
-            assert_eq!(rt; seed.joins.len(), joins);
+    fn seeds_of_all_patterns(rt: HostRuntime) -> Result<(), Fail> {
+        let alloc = rt.alloc();
+        let words: Vec<&str> = seeds().split_whitespace().collect(alloc)?;
+        assert_eq!(rt; words.len(), 132);
+        for row in words.chunks(6) {
+            if let [pattern, states, residuals, configurations, partner, joins] = row {
+                let seed = seed_by_id(alloc, pattern_of(pattern.as_bytes()).ok_or("a name")?)?;
+                let plan = &seed.plan;
+                let counted = format!(in alloc;
+                    "{} {}",
+                    plan.residuals.len(),
+                    plan.configurations.len()
+                )?;
+                let stated = format!(in alloc; "{} {}", residuals, configurations)?;
+                assert_eq!(rt;
+                    kinds(alloc, seed.transducer.rows())?.as_str(),
+                    *states,
+                    "{pattern}"
+                );
+                assert_eq!(rt; counted.as_str(), stated.as_str(), "{pattern}");
+                assert_eq!(rt; name(seed.partner), partner.as_bytes(), "{pattern}");
+                assert_eq!(rt; pairs(alloc, &seed.joins)?.as_str(), *joins, "{pattern}");
+            }
         }
         Ok(())
     }

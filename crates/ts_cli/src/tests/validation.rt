@@ -1,18 +1,16 @@
-//! Each seed validates against its pattern, and a peak whose fall ends at the start doesn't.
+//! Each seed validates against its pattern.
 
 ghost use Rattle.std.specs.Prelude.{◌≡◌, IfOk, IsTrue};
 ghost use Rattle.ts_regex.specs.Shape.{shape_of};
 ghost use Rattle.ts_pattern.specs.Plans.{plain_plan, is_plan_of};
 
 use super::patterns;
-use arrayvec::ArrayVec;
 use std::alloc::Global;
 use std::test::Fail;
-use ts_base::{Letter, Memory};
+use ts_base::Memory;
 use ts_pattern::{Pattern, PatternId, pattern_by_id};
 use ts_seed::{Seed, seed_by_id};
-use ts_transducer::{Row, Transducer};
-use ts_validate::{ValidateStop, Validated, validate};
+use ts_validate::validate;
 
 #[derive(Drop)]
 struct Case {
@@ -28,35 +26,6 @@ fn made_case(alloc: Global, id: PatternId) -> Result<Case, Memory>
     Ok(Case { seed, pattern })
 }
 
-/// The rows with the third one's move on `<` led to the start.
-fn led_to_the_start(rows: &[Row]) -> ArrayVec<Row, 8> {
-    let mut led = ArrayVec::new();
-    for (place, row) in rows.iter().enumerate() {
-        let mut row = *row;
-        if place == 2 {
-            row.less.next = 0;
-        }
-        if !led.is_full() {
-            led.push(row);
-        }
-    }
-    led
-}
-
-/// The letter at which a check fails, and the signature that leads there.
-fn refusal(answer: Result<Validated, ValidateStop>) -> Option<(Letter, Vec<Letter>)> {
-    match answer {
-        Err(
-            ValidateStop::Refused {
-                configuration: _,
-                letter,
-                signature,
-            },
-        ) => Some((letter, signature)),
-        _ => None,
-    }
-}
-
 #[test]
 fn seeds_validate(rt: HostRuntime) -> Result<(), Fail> {
     for id in patterns() {
@@ -65,22 +34,9 @@ fn seeds_validate(rt: HostRuntime) -> Result<(), Fail> {
         let rows = seed.transducer.rows().len();
         let validated = validate(rt.alloc(), seed.transducer, &pattern, &seed.plan)?;
         assert_eq!(rt; validated.transducer().rows().len(), rows);
+        let kept = validated.pattern();
+        assert!(rt; kept.regex.same(&pattern.regex));
+        assert!(rt; kept.b == pattern.b && kept.a == pattern.a);
     }
-    Ok(())
-}
-
-#[test]
-fn broken_peak_is_refused(rt: HostRuntime) -> Result<(), Fail> {
-    let Case { seed, pattern } = made_case(rt.alloc(), PatternId::Peak)?;
-    assert!(rt; seed.plan.residuals.len() < 1000 && seed.plan.configurations.len() < 1000);
-    let broken = Transducer::new(led_to_the_start(seed.transducer.rows())).ok_or("typed")?;
-    let (letter, signature) = refusal(validate(rt.alloc(), broken, &pattern, &seed.plan)).ok_or(
-        "refused",
-    )?;
-    assert_eq!(rt; letter, Letter::Less);
-    assert_eq!(rt;
-        signature.as_slice(),
-        [Letter::Less, Letter::Greater].as_slice()
-    );
     Ok(())
 }
