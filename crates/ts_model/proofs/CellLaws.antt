@@ -1,6 +1,6 @@
 -- The domains of the cells, line by line.
-use Rattle.std.proofs.Common.{◌≡◌, ℕ, zero, suc, ◌+◌, ◌*◌, ◌-◌, ◌<◌, ◌≤◌, Bool, true, false, cond, ◌&&◌, Some, None, Ok, Err, List, [], ◌∷◌, ◌++◌, length, map, set, take, get_or, replicate, ℤ, refl, sym, ap, subst, ◌∙◌, arith, nat_lt}
-use Rattle.std.specs.Prelude.{Option, Result}
+use Rattle.std.proofs.Common.{◌≡◌, ℕ, zero, suc, ◌+◌, ◌*◌, ◌<◌, ◌≤◌, Bool, true, false, cond, ◌&&◌, Some, None, Ok, Err, List, [], ◌∷◌, ◌++◌, length, map, set, get_or, replicate, ℤ, refl, sym, ap, subst, ◌∙◌, arith, nat_lt}
+use Rattle.std.specs.Prelude.{Option}
 use Rattle.std.specs.List.{AllByRecursion}
 use Rattle.std.proofs.lemmas.Bool.Decides.{nat_tests}
 use Rattle.std.proofs.lemmas.List.{map-set, length-map, length-set}
@@ -11,7 +11,6 @@ use Rattle.ts_domain.specs.Values.{IsDomain}
 use Rattle.ts_domain.specs.BoxSeries.{IsBox}
 use Rattle.ts_model.specs.declared.cells.Own.{Own}
 use Rattle.ts_model.specs.declared.cells.Cells.{Cells}
-use Rattle.ts_model.specs.declared.error.ModelKind.{ModelKind}
 use Rattle.ts_model.specs.declared.error.ModelKind.TheVariants.{Limit}
 use Rattle.ts_model.specs.Stated.{total_of, union_of, digits}
 use Rattle.ts_model.specs.Cells.{in_force, domains, within_total, total_set, IsTotal, IsOlder, IsKept}

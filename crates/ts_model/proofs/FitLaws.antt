@@ -1,5 +1,5 @@
 -- What every stated model keeps of the limits, line by line.
-use Rattle.std.proofs.Common.{◌≡◌, ℕ, zero, suc, ◌+◌, ◌<◌, ◌≤◌, Bool, true, false, cond, not, ◌&&◌, Some, None, Ok, Err, List, [], ◌∷◌, ◌++◌, length, map, set, replicate, ℤ, pos, negsuc, refl, sym, ap, subst, ◌∙◌, arith, nat_lt, length-append, vec_len, rules}
+use Rattle.std.proofs.Common.{◌≡◌, ℕ, zero, suc, ◌+◌, ◌<◌, ◌≤◌, Bool, true, false, cond, not, ◌&&◌, Some, None, Ok, Err, List, [], ◌∷◌, ◌++◌, length, map, replicate, ℤ, pos, negsuc, refl, subst, arith, nat_lt, length-append, vec_len, rules}
 use Rattle.std.specs.Prelude.{Option, Result, IfOk, IfSome, IsSome, is_none, unwrap_or}
 use Rattle.std.specs.List.{AllByRecursion, list_any}
 use Rattle.std.specs.Str.{bytes_eq}
@@ -7,7 +7,6 @@ use Rattle.std.proofs.lemmas.Int.{ints}
 use Rattle.std.proofs.lemmas.Bool.Decides.{nat_tests}
 use Rattle.std.proofs.lemmas.List.{length-map, length-set}
 use Rattle.std.proofs.lemmas.List.Quantifiers.{position-Some}
-use Rattle.ts_base.specs.declared.ext.Ext.{Ext}
 use Rattle.ts_domain.specs.BoxSeries.{IsBox}
 use Rattle.ts_token.specs.Text.{Row, Cut}
 use Rattle.ts_model.specs.declared.model.Need.{Need}

@@ -1,5 +1,5 @@
 -- What is found by its name, where no two names are the same.
-use Rattle.std.proofs.Common.{◌≡◌, ◌↔◌, List, [], ◌∷◌, ℕ, Bool, true, false, cond, Option, None, Some, refl, sym, ◌∙◌, ap, subst}
+use Rattle.std.proofs.Common.{◌≡◌, ◌↔◌, List, [], ◌∷◌, ℕ, Bool, true, false, cond, Option, None, Some, refl, sym, subst}
 use Rattle.std.specs.List.{find}
 use Rattle.std.specs.Str.{bytes_eq}
 use Rattle.std.proofs.lemmas.Slice.Eq.{bytes_eq-Decides}
@@ -8,7 +8,7 @@ use Rattle.ts_pattern.specs.declared.name.Aggregator.TheVariants.{Sum, Max, Min}
 use Rattle.ts_pattern.specs.declared.name.Feature.{Feature}
 use Rattle.ts_pattern.specs.declared.name.Feature.TheVariants.{One, Width, Surf, Max as MaxFeature, Min as MinFeature}
 use Rattle.ts_pattern.specs.declared.name.PatternId.{PatternId}
-use Rattle.ts_pattern.specs.Names.{aggregator_name, feature_name, pattern_name, all_patterns}
+use Rattle.ts_pattern.specs.Names.{aggregator_name, feature_name, pattern_name}
 use Rattle.ts_pattern.proofs.Names.{found_name}
 use Rattle.ts_model.specs.Words.{aggregator_of, feature_of, pattern_of}
 

@@ -1,21 +1,18 @@
 -- A line of which no kind holds.
-use Rattle.std.proofs.Common.{◌≡◌, ℕ, ◌+◌, ◌<◌, ◌≤◌, Bool, true, false, cond, ◌&&◌, Some, None, Ok, Err, List, [], ◌∷◌, ◌++◌, length, map, set, replicate, ℤ, pos, refl, sym, ap, subst, ◌∙◌, arith, nat_lt, String, Global}
-use Rattle.std.specs.Prelude.{Option, is_some, Result}
-use Rattle.std.specs.List.{list_any}
+use Rattle.std.proofs.Common.{◌≡◌, ℕ, ◌+◌, ◌≤◌, Bool, true, false, cond, Some, None, Ok, Err, List, [], ◌∷◌, ◌++◌, length, map, refl, sym, ap, subst, ◌∙◌, arith, nat_lt, String, Global}
+use Rattle.std.specs.Prelude.{Option, is_some}
 use Rattle.std.proofs.lemmas.Bool.Decides.{nat_tests}
 use Rattle.std.proofs.lemmas.List.{length-map}
 use Rattle.std.specs.String.{string_bytes, string_eq}
 use Rattle.indexmap.specs.IndexMap.{insert_entry, index_map_len}
-use Rattle.ts_domain.specs.declared.interval.Interval.{Interval}
 use Rattle.ts_pattern.specs.declared.term.Term.{Term}
 use Rattle.ts_pattern.specs.Names.{is_pair}
 use Rattle.ts_model.specs.declared.statement.TermParts.{TermParts}
 use Rattle.ts_model.specs.declared.draft.Draft.{Draft}
-use Rattle.ts_model.specs.declared.error.ModelKind.{ModelKind}
-use Rattle.ts_model.specs.declared.error.ModelKind.TheVariants.{UnknownName, BadPair, Limit}
-use Rattle.ts_model.specs.Statement.{SaysCells, SaysDomain, SaysCell, SaysTerm}
-use Rattle.ts_model.specs.Stated.{Stated, has_cells, is_between, is_backward, is_outside, taken, term_made, term_at, total_of, union_of, with_said, over_total, IsPlace}
-use Rattle.ts_model.specs.Cells.{domains, within_total, IsKept}
+use Rattle.ts_model.specs.declared.error.ModelKind.TheVariants.{BadPair}
+use Rattle.ts_model.specs.Statement.{SaysTerm}
+use Rattle.ts_model.specs.Stated.{Stated, has_cells, taken, term_made, term_at}
+use Rattle.ts_model.specs.Cells.{IsKept}
 use Rattle.ts_model.specs.Views.{parts_of, term_of, drafted, IsSound}
 use Rattle.ts_model.proofs.CellLaws.{kept_on}
 use Rattle.ts_model.proofs.TermLaws.{term_added}

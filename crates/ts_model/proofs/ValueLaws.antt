@@ -2,7 +2,7 @@
 use Rattle.std.proofs.Common.{◌≡◌, ℕ, ◌<◌, ◌≤◌, false, Option, Some, None, List, [], ◌∷◌, ◌++◌, length, get_or, ℤ, sym, ap, ◌∙◌, arith}
 use Rattle.std.specs.Prelude.{is_some}
 use Rattle.ts_token.specs.Text.{Cut}
-use Rattle.ts_token.specs.Views.{pieces, rows}
+use Rattle.ts_token.specs.Views.{rows}
 use Rattle.ts_token.specs.declared.words.Word.{Word}
 use Rattle.ts_token.specs.declared.tokens.Line.{Line}
 use Rattle.ts_model.specs.Series.{after_series, only_row, series_words}

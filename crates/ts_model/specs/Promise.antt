@@ -1,10 +1,10 @@
 -- What every model that was read keeps: its numbers of cells and terms exist, and the limits of its need.
-use Rattle.std.specs.Prelude.{◌≡◌, ℕ, ◌<◌, ◌≤◌, Bool, true, vec_len, length, IfSome, IsSome}
+use Rattle.std.specs.Prelude.{◌≡◌, ◌<◌, ◌≤◌, true, vec_len, length, IfSome, IsSome}
 use Rattle.std.specs.List.{AllByRecursion}
 use Rattle.ts_domain.specs.BoxSeries.{IsBox}
 use Rattle.ts_model.specs.declared.model.Model.{Model}
 use Rattle.ts_model.specs.declared.model.Need.{Need}
-use Rattle.ts_model.specs.Stated.{Stated, is_bound, total_of}
+use Rattle.ts_model.specs.Stated.{is_bound, total_of}
 use Rattle.ts_model.specs.ModelReading.{needs_lists, needs_objective}
 
 -- n is the number of cells, and each term that is named by its number exists

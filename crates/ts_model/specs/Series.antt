@@ -1,5 +1,5 @@
 -- The one line `series v_1 .. v_n` of a text, or the first kind that holds of the text.
-use Rattle.std.specs.Prelude.{◌≡◌, ℕ, codes, ◌==◌, ℤ, Bool, false, not, ◌&&◌, List, [], ◌∷◌, length, if◌then◌else◌, Option, Some, None, Result, Ok, Err, is_none, unwrap_or}
+use Rattle.std.specs.Prelude.{◌≡◌, ℕ, codes, ◌==◌, ℤ, Bool, List, [], ◌∷◌, length, if◌then◌else◌, Option, Some, None, Result, Ok, Err}
 use Rattle.std.specs.Str.{bytes_eq}
 use Rattle.ts_token.specs.Text.{Row, Cut}
 use Rattle.ts_token.specs.Number.{number_of}

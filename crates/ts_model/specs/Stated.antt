@@ -1,6 +1,6 @@
 -- What lines state together, and the kinds of bad lines from `nocells` on: one test for each, of what a line says
 -- after the lines that state m.
-use Rattle.std.specs.Prelude.{ℕ, ◌≡◌, ◌<◌, ◌+◌, ◌-◌, ℤ, pos, negsuc, neg_ℤ, int_le, int_lt, Bool, true, false, not, ◌&&◌, List, [], ◌∷◌, ◌++◌, length, map, filter, set, replicate, if◌then◌else◌, nat_lt, get_or, Option, Some, None, Result, Ok, Err, is_some, is_none, unwrap_or}
+use Rattle.std.specs.Prelude.{ℕ, ◌≡◌, ◌<◌, ◌-◌, ℤ, pos, negsuc, neg_ℤ, int_le, int_lt, Bool, true, false, not, ◌&&◌, List, [], ◌∷◌, ◌++◌, length, map, filter, set, replicate, if◌then◌else◌, nat_lt, Option, Some, None, Result, Ok, Err, is_some, is_none, unwrap_or}
 use Rattle.std.specs.List.{list_any, position, sum_by}
 use Rattle.std.specs.Str.{bytes_eq}
 use Rattle.ts_base.specs.declared.ext.Ext.{Ext}
@@ -11,7 +11,6 @@ use Rattle.ts_pattern.specs.declared.name.Aggregator.TheVariants.{Sum}
 use Rattle.ts_pattern.specs.declared.name.Feature.TheVariants.{One}
 use Rattle.ts_pattern.specs.declared.name.PatternId.TheVariants.{Increasing}
 use Rattle.ts_pattern.specs.Names.{is_pair}
-use Rattle.ts_model.specs.declared.model.Op.{Op}
 use Rattle.ts_model.specs.declared.model.Require.{Require}
 use Rattle.ts_model.specs.declared.statement.TermParts.{TermParts}
 use Rattle.ts_model.specs.declared.error.ModelKind.{ModelKind}
@@ -181,6 +180,10 @@ passes_limit lists m (SaysObjective name) = false
 abbrev pub term_made : Option TermParts → Result TermParts ModelKind
 term_made None = Err UnknownName
 term_made (Some parts) = if is_pair parts.aggregator parts.feature then Ok parts else Err BadPair
+
+-- the union of ranges, or the kind of bad ones
+abbrev pub union_given : List Interval → Result (List ℤ) ModelKind
+union_given rs = if list_any is_backward rs then Err Empty else (if list_any is_outside rs then Err Limit else Ok (union_of rs))
 
 -- the kinds in their order, each with its test
 abbrev pub kinds : Bool → Stated → Said → List (Bool × ModelKind)

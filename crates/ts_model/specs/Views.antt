@@ -1,7 +1,6 @@
 -- Statements, drafts, models and errors without their places in memory.
-use Rattle.std.specs.Prelude.{◌≡◌, ℕ, ◌≤◌, ◌<◌, ℤ, Bool, true, false, List, map, if◌then◌else◌, nat_lt, Option, Some, None, Result, Ok, Err, String, length}
+use Rattle.std.specs.Prelude.{◌≡◌, ℕ, ◌≤◌, Bool, List, map, Result, Ok, Err, String, length}
 use Rattle.std.specs.Global.{Global}
-use Rattle.std.specs.List.{AllByRecursion}
 use Rattle.std.specs.String.{string_bytes}
 use Rattle.ts_token.specs.Text.{Cut}
 use Rattle.ts_token.specs.declared.words.Word.{Word}

@@ -3,7 +3,7 @@
 ghost use Rattle.std.specs.Prelude.{◌≡◌, ◌+◌, ◌<◌, ◌≤◌, length, pos, false, OnOk, IfNone, IfSome, vec_len};
 ghost use Rattle.std.specs.List.{list_any};
 ghost use Rattle.ts_model.specs.Statement.{SaysCells, SaysDomain, SaysCell, SaysTerm, SaysRequire, SaysObjective};
-ghost use Rattle.ts_model.specs.Stated.{term_at, has_cells, is_between, is_backward, is_outside, is_bound, taken, term_made, IsPlace};
+ghost use Rattle.ts_model.specs.Stated.{term_at, has_cells, is_between, is_backward, is_outside, is_bound, taken, term_made, union_given, IsPlace};
 ghost use Rattle.ts_model.specs.Views.{said, parts_of, drafted, Gives, IsSound};
 
 use crate::cells::{Cells, union_of};
@@ -13,7 +13,7 @@ use crate::model::{Op, Require};
 use crate::statement::{Ranges, Statement, TermParts};
 use std::alloc::Global;
 use ts_base::Ext;
-use ts_domain::Interval;
+use ts_domain::{Domain, Interval};
 use ts_pattern::Term;
 
 /// The number of the term with a name.
@@ -52,6 +52,19 @@ fn has_outside(ranges: &[Interval]) -> bool
     ensures { result ≡ list_any is_outside ranges.now }
 {
     ranges.iter().any(|range| is_outside(*range))
+}
+
+/// The union of the ranges, or the kind of bad ones.
+fn domain_of(alloc: Global, ranges: &Ranges) -> Result<Domain, LineStop>
+    ensures { Gives (λ d. d) result (union_given ranges.now.items.items) }
+{
+    if has_backward(&ranges.items) {
+        return Err(LineStop::Bad(ModelKind::Empty));
+    }
+    if has_outside(&ranges.items) {
+        return Err(LineStop::Bad(ModelKind::Limit));
+    }
+    Ok(union_of(alloc, &ranges.items)?)
 }
 
 fn is_bound(bound: Ext) -> bool
@@ -98,13 +111,7 @@ fn take_domain(
     if !has_cells(draft) {
         return Err(LineStop::Bad(ModelKind::NoCells));
     }
-    if has_backward(&ranges.items) {
-        return Err(LineStop::Bad(ModelKind::Empty));
-    }
-    if has_outside(&ranges.items) {
-        return Err(LineStop::Bad(ModelKind::Limit));
-    }
-    let domain = union_of(alloc, &ranges.items)?;
+    let domain = domain_of(alloc, ranges)?;
     draft.cells.set_all(lists, line, domain)
 }
 
@@ -137,13 +144,7 @@ fn take_cell(
     match place_of(draft, cell) {
         None => Err(LineStop::Bad(ModelKind::CellRange)),
         Some(place) => {
-            if has_backward(&ranges.items) {
-                return Err(LineStop::Bad(ModelKind::Empty));
-            }
-            if has_outside(&ranges.items) {
-                return Err(LineStop::Bad(ModelKind::Limit));
-            }
-            let domain = union_of(alloc, &ranges.items)?;
+            let domain = domain_of(alloc, ranges)?;
             draft.cells.set_one(lists, line, place, domain)
         }
     }

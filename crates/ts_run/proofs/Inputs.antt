@@ -1,7 +1,7 @@
 -- What is read is within the limits: the parts of an input are no longer than it, and a series that was read has cells
 -- from -1,000,000 to 1,000,000.
-use Rattle.std.proofs.Common.{◌≡◌, ℕ, ◌+◌, ◌<◌, ◌≤◌, ℤ, pos, Bool, true, false, cond, IsTrue, Option, Some, None, Result, Ok, Err, List, [], ◌∷◌, ◌++◌, length, refl, sym, ◌∙◌, ap, subst, arith, length-append}
-use Rattle.std.specs.Prelude.{◌==◌, ◌&&◌, neg_ℤ, unwrap_or}
+use Rattle.std.proofs.Common.{◌≡◌, ℕ, ◌≤◌, ℤ, Bool, true, false, cond, Option, Some, None, Ok, Err, List, [], ◌∷◌, ◌++◌, length, refl, ◌∙◌, ap, subst, arith, length-append}
+use Rattle.std.specs.Prelude.{◌==◌, unwrap_or}
 use Rattle.std.specs.Option.{option_map}
 use Rattle.std.specs.Borrow.{Bor}
 use Rattle.std.specs.List.{AllByRecursion}
@@ -12,10 +12,9 @@ use Rattle.ts_pattern.specs.Limits.{IsCell, IsSeries}
 use Rattle.ts_token.specs.Text.{Cut, is_lf, onto_line}
 use Rattle.ts_token.specs.Number.{number_of}
 use Rattle.ts_token.specs.Halves.{chunks, joined, is_separator, Halves, after_front, halves, halves_of}
-use Rattle.ts_model.specs.declared.error.SeriesStop.{SeriesStop}
 use Rattle.ts_model.specs.declared.error.SeriesStop.TheVariants.{Length}
 use Rattle.ts_model.specs.Stated.{is_value}
-use Rattle.ts_model.specs.Series.{within, value_of, onto_values, values_of, of_length, numbers_give, words_give, series_words, series_reading}
+use Rattle.ts_model.specs.Series.{within, value_of, onto_values, values_of, numbers_give, words_give, series_words, series_reading}
 
 joined_onto : (b : ℕ) (cs : List (List ℕ)) → joined (onto_line b cs) ≡ b ∷ joined cs
 joined_onto b [] = refl

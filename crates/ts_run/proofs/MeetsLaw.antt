@@ -1,13 +1,14 @@
 -- The verdict is `meets` exactly where the series meets the model.
-use Rattle.std.proofs.Common.{◌≡◌, ℕ, suc, ◌+◌, ◌<◌, ℤ, Bool, true, false, cond, IsTrue, Option, Some, None, List, [], ◌∷◌, length, get_or, map, refl, sym, ◌∙◌, ap, subst, arith, String}
-use Rattle.std.specs.Prelude.{◌&&◌, ◌↔◌, slice_get, vec_len, IfSome}
+use Rattle.std.proofs.Common.{◌≡◌, ℕ, ◌<◌, ℤ, Bool, true, false, cond, IsTrue, Option, Some, None, List, [], ◌∷◌, length, get_or, map, refl, sym, ◌∙◌, ap, subst, arith, String}
+use Rattle.std.specs.Prelude.{◌↔◌, slice_get, vec_len, IfSome}
 use Rattle.std.specs.Global.{Global}
-use Rattle.std.specs.List.{AllByRecursion, Contains, list_all}
+use Rattle.std.specs.List.{AllByRecursion, list_all}
 use Rattle.std.specs.Option.{option_map}
 use Rattle.std.proofs.lemmas.Cmp.{int_eq_equiv}
 use Rattle.std.proofs.lemmas.List.{length-map}
 use Rattle.std.proofs.lemmas.Map.Views.{list_any-from_Contains, Contains-from_any}
 use Rattle.std.proofs.lemmas.Option.{get_or_from_slice_get, slice_get-get_or, slice_get-map}
+use Rattle.std.proofs.lemmas.Bool.{and_from, and_parts}
 use Rattle.ts_base.specs.declared.ext.Ext.{Ext}
 use Rattle.ts_base.specs.declared.ext.Ext.TheVariants.{NegInf}
 use Rattle.ts_domain.specs.BoxSeries.{InBox}
@@ -20,19 +21,11 @@ use Rattle.ts_model.specs.Meets.{IsMet, Meets}
 use Rattle.ts_model.specs.Promise.{IsWhole}
 use Rattle.ts_model.specs.Views.{stated, term_of}
 use Rattle.ts_run.specs.declared.reply.Answer.{Answer}
-use Rattle.ts_run.specs.declared.status.Status.{Status}
 use Rattle.ts_run.specs.declared.status.Status.TheVariants.{Done, No}
 use Rattle.ts_run.specs.Verdict.{holdings, holds, insides, is_among, is_true, values_on, verdict}
 use Rattle.ts_run.specs.Views.{reply}
 use Rattle.ts_run.proofs.Entries.{value_at}
 use Rattle.ts_run.proofs.VerdictLaws.{int_same}
-
-both : (a b : Bool) → a && b ≡ true → (a ≡ true) × (b ≡ true)
-both true b e = (refl, e)
-both false b e = cc
-
-from_both : (a b : Bool) → a ≡ true → b ≡ true → a && b ≡ true
-from_both a b p q = ap (λ x. x && b) p ∙ q
 
 -- the cells
 
@@ -41,14 +34,14 @@ insides_box [] [] n h = tt
 insides_box [] (x ∷ xs) n h = absurd (grind (arith, n))
 insides_box (d ∷ ds) [] n h = absurd (grind (arith, n))
 insides_box (d ∷ ds) (x ∷ xs) n h =
-    let p = both (is_among d x) (list_all is_true (insides ds xs)) h in
+    let p = and_parts (is_among d x) (list_all is_true (insides ds xs)) h in
     (Contains-from_any int_same x d p.0, insides_box ds xs (omega (arith, n)) p.1)
 
 box_insides : (cells : List (List ℤ)) (xs : List ℤ) → InBox xs cells → list_all is_true (insides cells xs) ≡ true
 box_insides [] [] b = refl
 box_insides [] (x ∷ xs) b = absurd b
 box_insides (d ∷ ds) [] b = absurd b
-box_insides (d ∷ ds) (x ∷ xs) b = from_both (is_among d x) (list_all is_true (insides ds xs)) (list_any-from_Contains int_eq_equiv x d b.0) (box_insides ds xs b.1)
+box_insides (d ∷ ds) (x ∷ xs) b = and_from (is_among d x) (list_all is_true (insides ds xs)) (list_any-from_Contains int_eq_equiv x d b.0) (box_insides ds xs b.1)
 
 -- the requirements
 
@@ -78,12 +71,12 @@ module _ (m : Model) (xs : List ℤ) where
   all_met : (rs : List Require) → list_all is_true (holdings values rs) ≡ true → AllByRecursion (IsMet m xs) rs
   all_met [] h = tt
   all_met (r ∷ rs) h =
-      let p = both (holds values r) (list_all is_true (holdings values rs)) h in
+      let p = and_parts (holds values r) (list_all is_true (holdings values rs)) h in
       (holds_of r (slice_get m.terms.entries r.term) refl p.0, all_met rs p.1)
 
   all_held : (rs : List Require) → AllByRecursion (λ r. r.term < length values) rs → AllByRecursion (IsMet m xs) rs → list_all is_true (holdings values rs) ≡ true
   all_held [] w a = refl
-  all_held (r ∷ rs) w a = from_both (holds values r) (list_all is_true (holdings values rs)) (held r (slice_get m.terms.entries r.term) refl w.0 a.0) (all_held rs w.1 a.1)
+  all_held (r ∷ rs) w a = and_from (holds values r) (list_all is_true (holdings values rs)) (held r (slice_get m.terms.entries r.term) refl w.0 a.0) (all_held rs w.1 a.1)
 
 done_true : (b : Bool) → cond b Done No ≡ Done → b ≡ true
 done_true true e = refl
@@ -105,13 +98,13 @@ verdict_meets m xs whole cells = (there, back)
   where
     there : (verdict (stated m) xs).status ≡ Done → Meets m xs
     there e =
-        let p = both (list_all is_true (insides m.cells.items xs)) (list_all is_true (holdings (values_on (stated m) xs) m.requirements.items)) (done_true _ e) in
+        let p = and_parts (list_all is_true (insides m.cells.items xs)) (list_all is_true (holdings (values_on (stated m) xs) m.requirements.items)) (done_true _ e) in
         record { cells = omega (arith, cells, whole.counted, m.cells.ok); inside = insides_box m.cells.items xs cells p.0; requirements = all_met m xs m.requirements.items p.1 }
 
     back : Meets m xs → (verdict (stated m) xs).status ≡ Done
     back w =
         true_done _
-        (from_both (list_all is_true (insides m.cells.items xs)) (list_all is_true (holdings (values_on (stated m) xs) m.requirements.items))
+        (and_from (list_all is_true (insides m.cells.items xs)) (list_all is_true (holdings (values_on (stated m) xs) m.requirements.items))
         (box_insides m.cells.items xs w.inside)
         (all_held m xs m.requirements.items (terms_below m xs m.requirements.items whole.requirements) w.requirements))
 

@@ -1,5 +1,5 @@
 -- What each command answers to the bytes of its input.
-use Rattle.std.specs.Prelude.{ℕ, ◌+◌, ℤ, Bool, List, [], ◌∷◌, ◌++◌, length, codes, nat_le, Option, Some, None, unwrap_or, Result, Ok, Err, if◌then◌else◌}
+use Rattle.std.specs.Prelude.{ℕ, ℤ, List, [], ◌++◌, length, codes, nat_le, unwrap_or, Result, Ok, Err, if◌then◌else◌}
 use Rattle.std.specs.Fmt.{decimal}
 use Rattle.ts_token.specs.Text.{cut_of}
 use Rattle.ts_token.specs.Halves.{halves_of, Halves}

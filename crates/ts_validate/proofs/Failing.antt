@@ -1,7 +1,8 @@
 -- The first letter on which a check fails.
-use Rattle.std.specs.Prelude.{◌≡◌, ℕ, zero, suc, ◌+◌, ◌<◌, ◌≤◌, Bool, true, false, List, Option, None, Some, MatchOption, length, refl}
-use Rattle.std.proofs.Common.{sym, ◌∙◌, subst, arith, ⊎_elim}
+use Rattle.std.specs.Prelude.{◌≡◌, ℕ, ◌+◌, ◌<◌, ◌≤◌, Bool, true, false, List, Option, None, Some, MatchOption, length}
+use Rattle.std.proofs.Common.{sym, subst, arith, ⊎_elim}
 use Rattle.std.proofs.Math.Nat.{eq-or-lt_of_le}
+use Rattle.std.proofs.lemmas.Option.{none-some, same_Some}
 use Rattle.ts_base.specs.declared.letter.Letter.{Letter}
 use Rattle.ts_base.specs.declared.letter.Letter.TheVariants.{Less, Equal, Greater}
 use Rattle.ts_regex.specs.Shape.{Shape}
@@ -9,7 +10,6 @@ use Rattle.ts_pattern.specs.Closed.{Subject, meets_checks}
 use Rattle.ts_validate.specs.declared.failure.Failure.{Failure}
 use Rattle.ts_validate.specs.FirstFalse.{first_false}
 use Rattle.ts_validate.specs.Reaches.{value_at, place_at, AllMeet, AllMeetBelow, FailsFirst}
-use Rattle.ts_validate.proofs.Keeps.{none_some}
 
 three : (s : Subject Shape) (i : ℕ) → meets_checks s (value_at s i) Less ≡ true → meets_checks s (value_at s i) Equal ≡ true → meets_checks s (value_at s i) Greater ≡ true → AllMeet s i
 three s i p q r Less = p
@@ -33,16 +33,13 @@ meet_more s places n h g c k q e = ⊎_elim
 
 pub meet_on : (s : Subject Shape) (places : List (Option ℕ)) (n : ℕ) (o : Option Failure) → AllMeetBelow s places n → MatchOption o ((k : ℕ) → place_at places n ≡ Some k → AllMeet s n) (λ f. (f.configuration ≡ n) × (place_at places n ≡ Some f.place) × FailsFirst s n f.letter) → o ≡ None → AllMeetBelow s places (n + 1)
 meet_on s places n None h m q = meet_more s places n h m
-meet_on s places n (Some f) h m q = absurd (none_some f (sym q))
-
-some_is : (f g : Failure) → Some f ≡ Some g → f ≡ g
-some_is f g q = cc
+meet_on s places n (Some f) h m q = absurd (none-some f (sym q))
 
 pub failure_is : (s : Subject Shape) (places : List (Option ℕ)) (n : ℕ) (o : Option Failure) (f : Failure) → n < length places → AllMeetBelow s places n → MatchOption o ((k : ℕ) → place_at places n ≡ Some k → AllMeet s n) (λ f. (f.configuration ≡ n) × (place_at places n ≡ Some f.place) × FailsFirst s n f.letter) → o ≡ Some f →
     (f.configuration < length places) × (place_at places f.configuration ≡ Some f.place) × FailsFirst s f.configuration f.letter × AllMeetBelow s places f.configuration
-failure_is s places n None f c h m q = absurd (none_some f q)
+failure_is s places n None f c h m q = absurd (none-some f q)
 failure_is s places n (Some g) f c h m q =
-    subst (λ (z : Failure). (z.configuration < length places) × (place_at places z.configuration ≡ Some z.place) × FailsFirst s z.configuration z.letter × AllMeetBelow s places z.configuration) (some_is g f q)
+    subst (λ (z : Failure). (z.configuration < length places) × (place_at places z.configuration ≡ Some z.place) × FailsFirst s z.configuration z.letter × AllMeetBelow s places z.configuration) (same_Some g f q)
     (subst (λ z. (z < length places) × (place_at places z ≡ Some g.place) × FailsFirst s z g.letter × AllMeetBelow s places z) (sym m.0) (c, m.1, m.2, h))
 
 pub meet_down : (s : Subject Shape) (places : List (Option ℕ)) (n m : ℕ) → m ≤ n → AllMeetBelow s places n → AllMeetBelow s places m

@@ -1,7 +1,8 @@
 -- What the decoder keeps, by the kind of the state and the tags of the live entries, over one letter.
-use Rattle.std.specs.Prelude.{◌≡◌, ℕ, zero, suc, ◌+◌, ◌-◌, ◌≤◌, Bool, true, false, ◌&&◌, List, [], ◌∷◌, ◌++◌, Option, None, Some, refl}
+use Rattle.std.specs.Prelude.{◌≡◌, ℕ, zero, suc, ◌+◌, ◌-◌, ◌≤◌, Bool, true, false, List, [], ◌∷◌, ◌++◌, Option, None, Some, refl}
 use Rattle.std.proofs.Common.{sym, ◌∙◌, ap, subst, arith}
-use Rattle.ts_base.specs.declared.letter.Letter.{Letter}
+use Rattle.std.proofs.lemmas.Bool.{and_parts, false≢true}
+use Rattle.std.proofs.lemmas.Option.{none-some}
 use Rattle.ts_base.specs.declared.range.Range.{Range}
 use Rattle.ts_base.specs.declared.range.Kind.{Kind}
 use Rattle.ts_base.specs.declared.range.Kind.TheVariants.{Idle, Pending, Held}
@@ -33,53 +34,35 @@ Typed k MaybeA k' = (k ≡ Held) × (k' ≡ Held)
 Typed k Inside k' = (k ≡ Held) × (k' ≡ Held)
 Typed k OutA k' = (k ≡ Held) × IsFree k'
 
-abbrev pub IsYes : Bool → Type 0
-IsYes true = Unit {0}
-IsYes false = ⊥
-
-pub differs : false ≡ true → ⊥
-differs h = subst (λ x. IsYes x) (sym h) tt
-
-pub both_true : (x y : Bool) → x && y ≡ true → (x ≡ true) × (y ≡ true)
-both_true true y q = (refl, q)
-both_true false y q = absurd (differs q)
-
 pub free_kind : (k : Kind) → is_free k ≡ true → IsFree k
 free_kind Idle q = tt
 free_kind Pending q = tt
-free_kind Held q = differs q
+free_kind Held q = false≢true q
 
 pub idle_kind : (k : Kind) → is_idle k ≡ true → k ≡ Idle
 idle_kind Idle q = refl
-idle_kind Pending q = absurd (differs q)
-idle_kind Held q = absurd (differs q)
+idle_kind Pending q = absurd (false≢true q)
+idle_kind Held q = absurd (false≢true q)
 
 pub pending_kind : (k : Kind) → is_pending k ≡ true → k ≡ Pending
-pending_kind Idle q = absurd (differs q)
+pending_kind Idle q = absurd (false≢true q)
 pending_kind Pending q = refl
-pending_kind Held q = absurd (differs q)
+pending_kind Held q = absurd (false≢true q)
 
 pub held_kind : (k : Kind) → is_held k ≡ true → k ≡ Held
-held_kind Idle q = absurd (differs q)
-held_kind Pending q = absurd (differs q)
+held_kind Idle q = absurd (false≢true q)
+held_kind Pending q = absurd (false≢true q)
 held_kind Held q = refl
 
 pub typed_move : (k : Kind) (f : Phase) (k' : Kind) → may_move k f k' ≡ true → Typed k f k'
-typed_move k Out k' q = let h = both_true (is_idle k) (is_free k') q in (idle_kind k h.0, free_kind k' h.1)
-typed_move k OutR k' q = let h = both_true (is_pending k) (is_free k') q in (pending_kind k h.0, free_kind k' h.1)
-typed_move k OutA k' q = let h = both_true (is_held k) (is_free k') q in (held_kind k h.0, free_kind k' h.1)
-typed_move k MaybeB k' q = let h = both_true (is_free k) (is_pending k') q in (free_kind k h.0, pending_kind k' h.1)
-typed_move k MaybeA k' q = let h = both_true (is_held k) (is_held k') q in (held_kind k h.0, held_kind k' h.1)
-typed_move k Found k' q = let h = both_true (is_free k) (is_held k') q in (free_kind k h.0, held_kind k' h.1)
-typed_move k FoundE k' q = let h = both_true (is_free k) (is_free k') q in (free_kind k h.0, free_kind k' h.1)
-typed_move k Inside k' q = let h = both_true (is_held k) (is_held k') q in (held_kind k h.0, held_kind k' h.1)
-
-abbrev pub IsNo : {A : Type 0} → Option A → Type 0
-IsNo None = Unit {0}
-IsNo (Some x) = ⊥
-
-pub none_some : {A : Type 0} (x : A) → None ≡ Some x → ⊥
-none_some {A} x h = let P : Option A → Type 0 = λ o. IsNo o in subst P h tt
+typed_move k Out k' q = let h = and_parts (is_idle k) (is_free k') q in (idle_kind k h.0, free_kind k' h.1)
+typed_move k OutR k' q = let h = and_parts (is_pending k) (is_free k') q in (pending_kind k h.0, free_kind k' h.1)
+typed_move k OutA k' q = let h = and_parts (is_held k) (is_free k') q in (held_kind k h.0, free_kind k' h.1)
+typed_move k MaybeB k' q = let h = and_parts (is_free k) (is_pending k') q in (free_kind k h.0, pending_kind k' h.1)
+typed_move k MaybeA k' q = let h = and_parts (is_held k) (is_held k') q in (held_kind k h.0, held_kind k' h.1)
+typed_move k Found k' q = let h = and_parts (is_free k) (is_held k') q in (free_kind k h.0, held_kind k' h.1)
+typed_move k FoundE k' q = let h = and_parts (is_free k) (is_free k') q in (free_kind k h.0, free_kind k' h.1)
+typed_move k Inside k' q = let h = and_parts (is_held k) (is_held k') q in (held_kind k h.0, held_kind k' h.1)
 
 abbrev pub first_of : Option Range → ℕ
 first_of None = 0
@@ -143,14 +126,14 @@ kinds_step Inside k k' n sv d x t h =
 
 -- d is set after a letter only where the phase is MaybeB
 pub pending_only : (f : Phase) (k k' : Kind) (n : ℕ) (d : Option ℕ) (x : Option Place) (y : ℕ) → Typed k f k' → KindHolds k d x → start_after f n d ≡ Some y → f ≡ MaybeB
-pending_only Out k k' n d x y t h q = let g = subst (λ z. KindHolds z d x) t.0 h in absurd (none_some y (sym g.0 ∙ q))
-pending_only OutR k k' n d x y t h q = absurd (none_some y q)
-pending_only OutA k k' n d x y t h q = absurd (none_some y q)
+pending_only Out k k' n d x y t h q = let g = subst (λ z. KindHolds z d x) t.0 h in absurd (none-some y (sym g.0 ∙ q))
+pending_only OutR k k' n d x y t h q = absurd (none-some y q)
+pending_only OutA k k' n d x y t h q = absurd (none-some y q)
 pending_only MaybeB k k' n d x y t h q = refl
-pending_only MaybeA k k' n d x y t h q = let g = subst (λ z. KindHolds z d x) t.0 h in absurd (none_some y (sym g.0 ∙ q))
-pending_only Found k k' n d x y t h q = absurd (none_some y q)
-pending_only FoundE k k' n d x y t h q = absurd (none_some y q)
-pending_only Inside k k' n d x y t h q = let g = subst (λ z. KindHolds z d x) t.0 h in absurd (none_some y (sym g.0 ∙ q))
+pending_only MaybeA k k' n d x y t h q = let g = subst (λ z. KindHolds z d x) t.0 h in absurd (none-some y (sym g.0 ∙ q))
+pending_only Found k k' n d x y t h q = absurd (none-some y q)
+pending_only FoundE k k' n d x y t h q = absurd (none-some y q)
+pending_only Inside k k' n d x y t h q = let g = subst (λ z. KindHolds z d x) t.0 h in absurd (none-some y (sym g.0 ∙ q))
 
 -- what a tag says, after k signs, of the start s
 abbrev pub TagHolds : ℕ → ℕ → Option ℕ → Option Range → ℕ → Tag → Type 0
@@ -194,7 +177,7 @@ inc_step OutR k b a d c s g z q = (z, q)
 inc_step OutA k b a d c s g z q = tt
 inc_step MaybeB k b a d c s g z q = (z, q)
 inc_step MaybeA k b a d c s g z q = (z, q)
-inc_step Found k b a d c s g z q = absurd (none_some (record { first = s + 1 + b; last = z }) (sym (g refl) ∙ q))
+inc_step Found k b a d c s g z q = absurd (none-some (record { first = s + 1 + b; last = z }) (sym (g refl) ∙ q))
 inc_step FoundE k b a d c s g z q = (z, q)
 inc_step Inside k b a d c s g z q = (k + 1 + 1 - a, ap (λ y. ends_at (k + 1 + 1 - a) y) q)
 

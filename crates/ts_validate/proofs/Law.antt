@@ -1,31 +1,30 @@
 -- Closed implies Valid: the trace of each signature stands at a reached configuration of the plan, and so each of its
 -- steps meets the checks.
-use Rattle.std.specs.Prelude.{◌≡◌, ℕ, ◌+◌, Bool, true, ◌&&◌, List, [], ◌∷◌, ◌++◌, length, map, Option, None, refl}
+use Rattle.std.specs.Prelude.{◌≡◌, ℕ, ◌+◌, Bool, true, List, [], ◌∷◌, ◌++◌, length, map, refl}
 use Rattle.std.proofs.Common.{sym, ◌∙◌, ap, subst, arith, length-append, append-nil, append_assoc}
+use Rattle.std.proofs.lemmas.Bool.{and_parts}
+use Rattle.std.proofs.lemmas.List.{map-append}
 use Rattle.ts_base.specs.declared.letter.Letter.{Letter}
 use Rattle.ts_base.specs.declared.range.Kind.{Kind}
-use Rattle.ts_base.specs.declared.range.Range.{Range}
 use Rattle.ts_regex.specs.Shape.{Shape}
-use Rattle.ts_regex.specs.Language.{InLanguage}
 use Rattle.ts_regex.specs.NormalForm.{normal_form}
 use Rattle.ts_regex.proofs.Laws.{normal_law}
 use Rattle.ts_transducer.specs.declared.row.Phase.{Phase}
 use Rattle.ts_transducer.specs.declared.row.Row.{Row}
 use Rattle.ts_transducer.specs.Typing.{is_typed}
-use Rattle.ts_transducer.specs.Decode.{start_after, held_after, emitted_at, listed, row_at, arrow_on, decode_from, decode}
+use Rattle.ts_transducer.specs.Decode.{emitted_at, listed, row_at, arrow_on, decode_from, decode}
 use Rattle.ts_transducer.proofs.Moves.{move_typed, start_idle}
 use Rattle.ts_pattern.specs.declared.plan.Tag.{Tag}
 use Rattle.ts_pattern.specs.EachOf.{Each}
-use Rattle.ts_pattern.specs.OccurrenceList.{Place, e_range, AreRanges}
 use Rattle.ts_pattern.specs.Entries.{Entry, shapes, survivors}
-use Rattle.ts_pattern.specs.Closed.{PlainConfiguration, Subject, first_tag, no_ind, retag, appended, stepped, entries_agree, step_listed, meets_checks, LeadsTo, FromStart, OneStepOn, Reached, IsClosed}
+use Rattle.ts_pattern.specs.Closed.{PlainConfiguration, first_tag, no_ind, retag, appended, stepped, entries_agree, step_listed, FromStart, OneStepOn, Reached, IsClosed}
 use Rattle.ts_pattern.specs.Plans.{PlainPlan, subject}
 use Rattle.ts_pattern.proofs.AllOccurrences.{ranges_are}
 use Rattle.ts_pattern.proofs.Entries.{shapes_right}
-use Rattle.ts_pattern.proofs.Renamed.{renamed, NextAgrees, WordsAgree, survivors_renamed, retag_renamed, no_ind_renamed, map_append, agree_renamed}
+use Rattle.ts_pattern.proofs.Renamed.{renamed, NextAgrees, WordsAgree, survivors_renamed, retag_renamed, no_ind_renamed, agree_renamed}
 use Rattle.ts_validate.specs.Valid.{IsValid}
-use Rattle.ts_validate.proofs.Keeps.{Typed, both_true, typed_move, idle_kind}
-use Rattle.ts_validate.proofs.Traces.{MeetsChecks, Trace, IsTraced, trace_step}
+use Rattle.ts_validate.proofs.Keeps.{Typed, typed_move, idle_kind}
+use Rattle.ts_validate.proofs.Traces.{Trace, IsTraced, trace_step}
 use Rattle.ts_validate.proofs.TraceStep.{traced_step, traced_start, no_trace, decoded, decoded_is}
 use Rattle.ts_validate.proofs.Checks.{checks_met}
 
@@ -61,7 +60,7 @@ bare_agree f k free es = agree_renamed shapes shapes (λ (x : ℕ). tt) (λ r. r
     words (e ∷ es) = (record { nullable = refl; longer = refl }, words es)
 
 bare_appended : (k : ℕ) (p : Shape) (b : ℕ) (es : List (Entry ℕ Shape Tag)) → bare (appended k p b es) ≡ appended tt p b (bare es)
-bare_appended k p b es = map_append (λ e. bare_entry e) es (record { mark = k; residual = p; tag = first_tag b } ∷ [])
+bare_appended k p b es = map-append (λ e. bare_entry e) es (record { mark = k; residual = p; tag = first_tag b } ∷ [])
 
 bare_free : (k : ℕ) (p : Shape) (b : ℕ) (es : List (Entry ℕ Shape Tag)) → no_ind (appended k p b es) ≡ no_ind (appended tt p b (bare es))
 bare_free k p b es = sym (no_ind_renamed (λ (x : ℕ). tt) (λ (r : Shape). r) (appended k p b es)) ∙ ap (λ z. no_ind z) (bare_appended k p b es)
@@ -107,7 +106,7 @@ traced_run rows ty p b a plan cl [] w k q x e s g h = subst (λ z. IsTraced p a 
 traced_run rows ty p b a plan cl (l ∷ ls) w k q x e s g h =
     let y : Trace = trace_step shapes (normal_form p) a b k l (phase_at rows q l) (kind_at rows (next_at rows q l)) x in
     let at : PlainConfiguration Shape = record { state = q; live = bare x.live } in
-    let fine = both_true (step_listed (subject rows p b plan) at l) (entries_agree shapes (phase_at rows q l) (kind_at rows (next_at rows q l)) (no_ind (appended tt (normal_form p) b (bare x.live))) (survivors shapes l (appended tt (normal_form p) b (bare x.live)))) (cl at g l) in
+    let fine = and_parts (step_listed (subject rows p b plan) at l) (entries_agree shapes (phase_at rows q l) (kind_at rows (next_at rows q l)) (no_ind (appended tt (normal_form p) b (bare x.live))) (survivors shapes l (appended tt (normal_form p) b (bare x.live)))) (cl at g l) in
     let typed : Typed x.state (phase_at rows q l) (kind_at rows (next_at rows q l)) =
     subst (λ z. Typed z (phase_at rows q l) (kind_at rows (next_at rows q l))) (sym s) (typed_move (kind_at rows q) (phase_at rows q l) (kind_at rows (next_at rows q l)) (move_typed rows ty q l)) in
     let ch = checks_met (phase_at rows q l) (kind_at rows (next_at rows q l)) (no_ind (appended (length w) (normal_form p) b x.live)) (survivors shapes l (appended (length w) (normal_form p) b x.live))

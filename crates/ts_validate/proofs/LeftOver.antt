@@ -1,25 +1,24 @@
 -- What a letter leaves of entries, one entry after the other: each is added where it has a word and stands not yet.
 use Rattle.std.specs.Prelude.{◌≡◌, ℕ, zero, suc, ◌+◌, ◌<◌, ◌≤◌, ◌==◌, Bool, true, false, cond, not, ◌&&◌, ◌||◌, List, [], ◌∷◌, ◌++◌, map, take, length, get_or, refl}
 use Rattle.std.specs.List.{filter, list_any}
-use Rattle.std.proofs.Common.{sym, ◌∙◌, ap, arith, append-nil, take_all, add-one}
-use Rattle.std.proofs.lemmas.Bool.{eqb-true, eq-eqb}
+use Rattle.std.proofs.Common.{sym, ◌∙◌, ap, arith, append-nil, take_all}
+use Rattle.std.proofs.lemmas.Bool.{eqb-true, eq-eqb, false≢true}
+use Rattle.std.proofs.lemmas.List.{map-append}
 use Rattle.ts_base.specs.declared.letter.Letter.{Letter}
 use Rattle.ts_pattern.specs.declared.plan.Tag.{Tag}
 use Rattle.ts_pattern.specs.declared.plan.Live.{Live}
 use Rattle.ts_pattern.specs.Entries.{Entry, Residuals, derive_entry, derived, alive, without, keep, survivors}
 use Rattle.ts_pattern.specs.Closed.{first_tag, appended}
 use Rattle.ts_pattern.specs.Plans.{plain_live}
-use Rattle.ts_pattern.proofs.Renamed.{map_append}
 use Rattle.ts_validate.specs.declared.known.Known.{Known}
 use Rattle.ts_validate.specs.Numbers.{known_at, next_on, numbers, joined}
-use Rattle.ts_validate.proofs.Keeps.{differs}
 use Rattle.ts_validate.proofs.Plain.{any_mapped}
 
 abbrev SameFollows : {R : Type 0} → Residuals R → Type 0
 SameFollows {R} t = (x k d : R) → t.same x k ≡ true → t.same k d ≡ true → t.same x d ≡ true
 
 any_without : {X R T : Type 0} (t : Residuals R) → SameFollows t → (x d : R) (ks : List (Entry X R T)) → list_any (λ k. t.same k.residual d) ks ≡ true → t.same x d || list_any (λ k. t.same k.residual d) (without t x ks) ≡ true
-any_without t f x d [] h = absurd (differs h)
+any_without t f x d [] h = absurd (false≢true h)
 any_without {X} {R} {T} t f x d (k ∷ ks) h = go (t.same x k.residual) (t.same k.residual d) refl (list_any (λ k. t.same k.residual d) ks) (f x k.residual d) (any_without t f x d ks) h
   where
     three : (a b e : Bool) → b ≡ true → a || (b || e) ≡ true
@@ -41,7 +40,7 @@ any_filter p q [] h = h
 any_filter p q (x ∷ xs) h = go (q x) (p x) refl h (any_filter p q xs)
   where
     go : (a b : Bool) → p x ≡ b → b || list_any p xs ≡ false → (list_any p xs ≡ false → list_any p (filter q xs) ≡ false) → list_any p (cond a (x ∷ filter q xs) (filter q xs)) ≡ false
-    go a true e h i = absurd (differs (sym h))
+    go a true e h i = absurd (false≢true (sym h))
     go true false e h i = ap (λ z. z || list_any p (filter q xs)) e ∙ i h
     go false false e h i = i h
 
@@ -78,7 +77,7 @@ keep_push {X} {R} {T} t f (x ∷ xs) d =
 
 pub survivors_push : {X R T : Type 0} (t : Residuals R) → SameFollows t → (l : Letter) (es : List (Entry X R T)) (e : Entry X R T) → survivors t l (es ++ e ∷ []) ≡ joined t l e (survivors t l es)
 survivors_push {X} {R} {T} t f l es e =
-    ap (λ z. keep t (alive t z)) (map_append (λ x. derive_entry t l x) es (e ∷ []))
+    ap (λ z. keep t (alive t z)) (map-append (λ x. derive_entry t l x) es (e ∷ []))
     ∙ ap (λ z. keep t z) (filter_push (λ x. t.has_word x.residual) (derived t l es) (derive_entry t l e))
     ∙ go (t.has_word (t.next e.residual l)) (alive t (derived t l es)) (keep_push t f (alive t (derived t l es)) (derive_entry t l e))
   where
@@ -111,7 +110,7 @@ pub left_more : (table : List Known) (l : Letter) (live : List Live) (i : ℕ) (
 left_more table l live i d old new q h k =
     k ∙ ap (λ z. joined (numbers table) l (plain_live (get_or live i d)) z) h
     ∙ sym (survivors_push (numbers table) (numbers_follow table) l (plains (take i live)) (plain_live (get_or live i d)))
-    ∙ ap (λ z. survivors (numbers table) l z) (sym (map_append (λ e. plain_live e) (take i live) (get_or live i d ∷ [])))
+    ∙ ap (λ z. survivors (numbers table) l z) (sym (map-append (λ e. plain_live e) (take i live) (get_or live i d ∷ [])))
     ∙ ap (λ z. survivors (numbers table) l (plains z)) (sym (take_more live i d q))
 
 pub left_last : (table : List Known) (l : Letter) (b : ℕ) (live : List Live) (i : ℕ) (g : Tag) (old new : List Live) → length live ≤ i → g ≡ first_tag b →
@@ -135,7 +134,7 @@ pub join_yes : (table : List Known) (l : Letter) (e : Live) (old new slice : Lis
 join_yes table l e old new slice r b q s t u n =
     let yes : (not (r == length table) && not (list_any (λ (k : Live). (known_at table k.residual).own == (known_at table r).own) old)) ≡ true =
     ap (λ z. not (r == length table) && not (list_any (λ (k : Live). (known_at table k.residual).own == (known_at table r).own) z)) (sym s) ∙ sym t ∙ u in
-    ap (λ z. plains z) n ∙ map_append (λ e. plain_live e) old (record { residual = r; tag = e.tag } ∷ [])
+    ap (λ z. plains z) n ∙ map-append (λ e. plain_live e) old (record { residual = r; tag = e.tag } ∷ [])
     ∙ ap (λ z. plains old ++ record { mark = tt; residual = z; tag = e.tag } ∷ []) q
     ∙ ap (λ z. cond z (plains old ++ derive_entry (numbers table) l (plain_live e) ∷ []) (plains old)) (sym (sym (join_test table l e old r q) ∙ yes))
 

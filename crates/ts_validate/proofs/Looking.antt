@@ -3,6 +3,7 @@ use Rattle.std.specs.Prelude.{◌≡◌, ℕ, zero, suc, ◌+◌, ◌==◌, nat_
 use Rattle.std.specs.List.{list_all, position, position_or_len, zip}
 use Rattle.std.proofs.Common.{sym, ◌∙◌, ap}
 use Rattle.std.proofs.Math.Dec.{eqb-suc-zero, eqb-zero-suc, eqb-suc-suc}
+use Rattle.std.proofs.lemmas.List.{length-map}
 use Rattle.ts_base.specs.declared.letter.Letter.{Letter}
 use Rattle.ts_base.specs.declared.range.Kind.{Kind}
 use Rattle.ts_transducer.specs.declared.row.Phase.{Phase}
@@ -96,13 +97,9 @@ len_mapped : {A B : Type 0} (p : B → Bool) (h : A → B) (xs : List A) → pos
 len_mapped p h [] = refl
 len_mapped p h (x ∷ xs) = ap (λ z. cond (not (p (h x))) (1 + z) 0) (len_mapped p h xs)
 
-size_mapped : {A B : Type 0} (h : A → B) (xs : List A) → length xs ≡ length (map h xs)
-size_mapped h [] = refl
-size_mapped h (x ∷ xs) = ap (λ z. suc z) (size_mapped h xs)
-
 place_mapped : {A B : Type 0} (p : B → Bool) (h : A → B) (xs : List A) → position (λ x. p (h x)) xs ≡ position p (map h xs)
 place_mapped p h xs =
-    ap (λ z. cond (nat_lt z (length xs)) (Some z) None) (len_mapped p h xs) ∙ ap (λ z. cond (nat_lt (position_or_len p (map h xs)) z) (Some (position_or_len p (map h xs))) None) (size_mapped h xs)
+    ap (λ z. cond (nat_lt z (length xs)) (Some z) None) (len_mapped p h xs) ∙ ap (λ z. cond (nat_lt (position_or_len p (map h xs)) z) (Some (position_or_len p (map h xs))) None) (sym (length-map xs h))
 
 look_next : (c : Bool) (n : Option ℕ) (a : Bool) → (look_of c n a).next ≡ cond c n None
 look_next true n a = refl

@@ -1,13 +1,13 @@
 -- The numbers of residuals: what the search for a residual gives, and what the table says.
-use Rattle.std.specs.Prelude.{◌≡◌, ℕ, zero, suc, ◌+◌, ◌≤◌, nat_lt, Bool, true, false, cond, not, List, [], ◌∷◌, ◌++◌, Option, None, Some, map, take, length, refl}
-use Rattle.std.specs.List.{position, position_or_len, prefix_len}
+use Rattle.std.specs.Prelude.{◌≡◌, ℕ, suc, ◌+◌, ◌≤◌, nat_lt, Bool, true, false, cond, not, List, [], ◌∷◌, None, Some, map, take, length, refl}
+use Rattle.std.specs.List.{position, position_or_len}
 use Rattle.std.proofs.Common.{sym, ◌∙◌, ap, arith, take_all}
+use Rattle.std.proofs.lemmas.Option.{none-some, same_Some}
 use Rattle.ts_regex.specs.Shape.{Shape, shape_of}
 use Rattle.ts_regex.specs.NormalForm.{same_shape}
 use Rattle.ts_regex.specs.declared.regex.Regex.{Regex}
 use Rattle.ts_validate.specs.declared.known.Known.{Known}
 use Rattle.ts_validate.specs.Numbers.{number_of, known_of}
-use Rattle.ts_validate.proofs.Keeps.{none_some}
 
 -- the first place of a test, with one more for "nowhere"
 number_place : (xs : List Regex) (r : Shape) → number_of (map (λ s. shape_of s) xs) r ≡ cond (nat_lt (position_or_len (λ s. same_shape (shape_of s) r) xs) (length xs)) (position_or_len (λ s. same_shape (shape_of s) r) xs) (length xs + 1)
@@ -19,21 +19,18 @@ number_place (x ∷ xs) r = go (same_shape (shape_of x) r) (number_place xs r)
     go true h = grind arith
     go false h = grind (arith, h)
 
-some_is : (m n : ℕ) → Some m ≡ Some n → m ≡ n
-some_is m n q = cc
-
 number_of_option : (n len i : ℕ) → Some i ≡ cond (nat_lt n len) (Some n) None → i ≡ cond (nat_lt n len) n (len + 1)
 number_of_option n len i q = go (nat_lt n len) q
   where
     go : (b : Bool) → Some i ≡ cond b (Some n) None → i ≡ cond b n (len + 1)
-    go true q = some_is i n q
-    go false q = absurd (none_some i (sym q))
+    go true q = same_Some i n q
+    go false q = absurd (none-some i (sym q))
 
 none_of_option : (n len : ℕ) → None ≡ cond (nat_lt n len) (Some n) None → len + 1 ≡ cond (nat_lt n len) n (len + 1)
 none_of_option n len q = go (nat_lt n len) q
   where
     go : (b : Bool) → None ≡ cond b (Some n) None → len + 1 ≡ cond b n (len + 1)
-    go true q = absurd (none_some n q)
+    go true q = absurd (none-some n q)
     go false q = refl
 
 pub number_some : (xs : List Regex) (r : Shape) (i : ℕ) → Some i ≡ position (λ s. same_shape (shape_of s) r) xs → i ≡ number_of (map (λ s. shape_of s) xs) r

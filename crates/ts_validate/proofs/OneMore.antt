@@ -1,12 +1,12 @@
 -- Over one letter: the places found, the ranges kept and emitted, and the starts that are still to come.
 use Rattle.std.specs.Prelude.{◌≡◌, ℕ, zero, suc, ◌+◌, ◌-◌, ◌<◌, ◌≤◌, Bool, true, false, List, [], ◌∷◌, ◌++◌, length, map, Option, None, Some, refl}
 use Rattle.std.proofs.Common.{sym, ◌∙◌, ap, subst, arith, append-nil}
+use Rattle.std.proofs.lemmas.List.{map-append}
 use Rattle.ts_base.specs.declared.letter.Letter.{Letter}
 use Rattle.ts_base.specs.declared.range.Range.{Range}
 use Rattle.ts_base.specs.declared.range.Kind.{Kind}
-use Rattle.ts_base.specs.declared.range.Kind.TheVariants.{Idle, Pending, Held}
+use Rattle.ts_base.specs.declared.range.Kind.TheVariants.{Held}
 use Rattle.ts_regex.specs.Shape.{Shape}
-use Rattle.ts_regex.specs.Language.{InLanguage}
 use Rattle.ts_transducer.specs.declared.row.Phase.{Phase}
 use Rattle.ts_transducer.specs.declared.row.Phase.TheVariants.{Out, OutR, OutA, MaybeB, MaybeA, Found, FoundE, Inside}
 use Rattle.ts_pattern.specs.declared.plan.Tag.{Tag}
@@ -107,10 +107,6 @@ ranges_step a b n Inside k k' d c sv x t h r g same =
     let e : c ≡ Some (e_range b a y.0) = r ∙ ap (λ z. held_range a b z) y.1 in
     ap (λ z. ends_at (n + 1 - a) z) e ∙ ap (λ z. Some (record { first = z + 1 + b; last = n + 1 - a })) (sym (same refl y.0 y.1))
 
-pub map_append : {A B : Type 0} (f : A → B) (xs ys : List A) → map f (xs ++ ys) ≡ map f xs ++ map f ys
-map_append f [] ys = refl
-map_append f (x ∷ xs) ys = ap (λ z. f x ∷ z) (map_append f xs ys)
-
 pub listed_held : (a b : ℕ) (x : Option Place) → listed (held_range a b x) ≡ map (λ x. e_range b a x) (listed x)
 listed_held a b None = refl
 listed_held a b (Some x) = refl
@@ -121,14 +117,14 @@ pub emitted_step : (a b n : ℕ) (f : Phase) (d : Option ℕ) (c : Option Range)
 emitted_step a b n Out d c sv ps x rs r g h = append-nil rs ∙ h
 emitted_step a b n OutR d c sv ps x rs r g h = append-nil rs ∙ h
 emitted_step a b n OutA d c sv ps x rs r g h =
-    ap (λ z. z ++ listed c) h ∙ ap (λ z. map (λ x. e_range b a x) ps ++ z) (ap (λ z. listed z) r ∙ listed_held a b x) ∙ sym (map_append (e_range b a) ps (listed x))
+    ap (λ z. z ++ listed c) h ∙ ap (λ z. map (λ x. e_range b a x) ps ++ z) (ap (λ z. listed z) r ∙ listed_held a b x) ∙ sym (map-append (e_range b a) ps (listed x))
 emitted_step a b n MaybeB d c sv ps x rs r g h = append-nil rs ∙ h
 emitted_step a b n MaybeA d c sv ps x rs r g h = append-nil rs ∙ h
 emitted_step a b n Found d c sv ps x rs r g h = append-nil rs ∙ h
 emitted_step a b n FoundE d c sv ps x rs r g h =
     ap (λ z. z ++ record { first = begins n d; last = n + 1 - a } ∷ []) h
     ∙ ap (λ z. map (λ x. e_range b a x) ps ++ record { first = z; last = n + 1 - a } ∷ []) (g refl)
-    ∙ sym (map_append (e_range b a) ps (record { start = first_mark sv; end = n } ∷ []))
+    ∙ sym (map-append (e_range b a) ps (record { start = first_mark sv; end = n } ∷ []))
 emitted_step a b n Inside d c sv ps x rs r g h = append-nil rs ∙ h
 
 pub early_step : (n : ℕ) (f : Phase) (free : Bool) (sv : List (Entry ℕ Shape Tag)) (ps : List Place) (x : Option Place) →

@@ -1,10 +1,12 @@
 -- A look by numbers shows the step by the residuals themselves.
-use Rattle.std.specs.Prelude.{◌≡◌, ℕ, zero, suc, ◌+◌, ◌<◌, ◌≤◌, ◌==◌, nat_lt, Bool, true, false, cond, not, ◌&&◌, ◌||◌, List, [], ◌∷◌, ◌++◌, Option, None, Some, is_some, map, length, get_or, refl}
+use Rattle.std.specs.Prelude.{◌≡◌, ℕ, zero, suc, ◌+◌, ◌<◌, ◌≤◌, nat_lt, Bool, true, false, cond, not, ◌&&◌, ◌||◌, List, [], ◌∷◌, Option, None, Some, is_some, map, length, get_or, refl}
 use Rattle.std.specs.List.{list_all, list_any, position, position_or_len}
-use Rattle.std.proofs.Common.{sym, ◌∙◌, ap, subst, arith, ⊎_elim}
-use Rattle.std.proofs.lemmas.Bool.{eq-eqb}
+use Rattle.std.proofs.Common.{sym, ◌∙◌, ap, subst, arith}
+use Rattle.std.proofs.lemmas.Bool.{eq-eqb, and_parts, false≢true}
+use Rattle.std.proofs.lemmas.Option.{none-some, same_Some}
+use Rattle.std.proofs.lemmas.List.{length-map}
 use Rattle.ts_base.specs.declared.letter.Letter.{Letter}
-use Rattle.ts_regex.specs.Shape.{Shape, shape_of}
+use Rattle.ts_regex.specs.Shape.{Shape}
 use Rattle.ts_regex.specs.NormalForm.{normal_form, same_shape}
 use Rattle.ts_regex.proofs.Laws.{same_law}
 use Rattle.ts_transducer.specs.declared.row.Row.{Row}
@@ -13,17 +15,16 @@ use Rattle.ts_pattern.specs.declared.plan.Tag.{Tag}
 use Rattle.ts_pattern.specs.declared.plan.Tag.TheVariants.{Young, Due, InD, InC, Loose}
 use Rattle.ts_pattern.specs.declared.plan.Configuration.{Configuration}
 use Rattle.ts_pattern.specs.EachOf.{Each}
-use Rattle.ts_pattern.specs.Entries.{Entry, shapes, survivors}
+use Rattle.ts_pattern.specs.Entries.{Entry, shapes}
 use Rattle.ts_pattern.specs.Closed.{PlainConfiguration, Subject, no_ind, appended, move_of, before, kept, stepped, first_passes, entries_agree, same_tag, same_live, same_configuration, step_listed, meets_checks}
-use Rattle.ts_pattern.specs.Plans.{PlainPlan, shape_at, valued, subject, plain_configuration, is_plan_of, is_blank}
+use Rattle.ts_pattern.specs.Plans.{shape_at, valued, subject, plain_configuration, is_plan_of, is_blank}
 use Rattle.ts_pattern.proofs.Entries.{shapes_right}
 use Rattle.ts_pattern.proofs.Tested.{configuration_is}
 use Rattle.ts_validate.specs.declared.known.Known.{Known}
 use Rattle.ts_validate.specs.declared.step.Look.{Look}
 use Rattle.ts_validate.specs.Numbers.{knowns, numbers, numbered, all_listed, next_place, number_meets}
 use Rattle.ts_validate.specs.Reaches.{configuration_at, value_at, IsFirst, Sees}
-use Rattle.ts_validate.proofs.Keeps.{differs, both_true, none_some}
-use Rattle.ts_validate.proofs.Values.{AreNumbers, HasNumbers, IsFor, plan_of, same_valued, agree_valued, stepped_valued, not_listed}
+use Rattle.ts_validate.proofs.Values.{AreNumbers, HasNumbers, IsFor, plan_of, same_valued, agree_valued, not_listed}
 
 -- what a plan of the pattern is
 
@@ -33,23 +34,23 @@ number_below i n q = grind (arith, q)
 entries_below : (rs : List Shape) (es : List (Entry (Unit {0}) ℕ Tag)) → list_all (λ e. nat_lt e.residual (length rs)) es ≡ true → AreNumbers rs es
 entries_below rs [] q = tt
 entries_below rs (e ∷ es) q =
-    let h = both_true (nat_lt e.residual (length rs)) (list_all (λ e. nat_lt e.residual (length rs)) es) q in
+    let h = and_parts (nat_lt e.residual (length rs)) (list_all (λ e. nat_lt e.residual (length rs)) es) q in
     (number_below e.residual (length rs) h.0, entries_below rs es h.1)
 
 all_below : (rs : List Shape) (xs : List (PlainConfiguration ℕ)) → list_all (λ x. list_all (λ e. nat_lt e.residual (length rs)) x.live) xs ≡ true → Each (HasNumbers rs) xs
 all_below rs [] q = tt
 all_below rs (x ∷ xs) q =
-    let h = both_true (list_all (λ e. nat_lt e.residual (length rs)) x.live) (list_all (λ x. list_all (λ e. nat_lt e.residual (length rs)) x.live) xs) q in
+    let h = and_parts (list_all (λ e. nat_lt e.residual (length rs)) x.live) (list_all (λ x. list_all (λ e. nat_lt e.residual (length rs)) x.live) xs) q in
     (entries_below rs x.live h.0, all_below rs xs h.1)
 
 first_whole : (rs : List Shape) (n : Shape) → first_passes (λ r. same_shape r n) rs ≡ true → (0 < length rs) × (shape_at rs 0 ≡ n)
-first_whole [] n q = absurd (differs q)
+first_whole [] n q = absurd (false≢true q)
 first_whole (r ∷ rs) n q = (omega arith, (same_law r n).0 q)
 
 pub plan_for : (p : Shape) (rs : List Shape) (xs : List (PlainConfiguration ℕ)) → is_plan_of p (plan_of rs xs) ≡ true → IsFor p rs xs
 plan_for p rs xs q =
-    let h = both_true (first_passes (λ r. same_shape r (normal_form p)) rs) (first_passes (λ x. is_blank x) xs && list_all (λ x. list_all (λ e. nat_lt e.residual (length rs)) x.live) xs) q in
-    let k = both_true (first_passes (λ x. is_blank x) xs) (list_all (λ x. list_all (λ e. nat_lt e.residual (length rs)) x.live) xs) h.1 in
+    let h = and_parts (first_passes (λ r. same_shape r (normal_form p)) rs) (first_passes (λ x. is_blank x) xs && list_all (λ x. list_all (λ e. nat_lt e.residual (length rs)) x.live) xs) q in
+    let k = and_parts (first_passes (λ x. is_blank x) xs) (list_all (λ x. list_all (λ e. nat_lt e.residual (length rs)) x.live) xs) h.1 in
     let w = first_whole rs (normal_form p) h.0 in
     record { some = w.0; whole = w.1; numbers = all_below rs xs k.1 }
 
@@ -63,7 +64,7 @@ place_some p xs j q = go (nat_lt (position_or_len p xs) (length xs)) refl q
 
     go : (b : Bool) → nat_lt (position_or_len p xs) (length xs) ≡ b → cond b (Some (position_or_len p xs)) None ≡ Some j → (j ≡ position_or_len p xs) × (position_or_len p xs < length xs)
     go true e s = (cc, below (position_or_len p xs) (length xs) e)
-    go false e s = absurd (none_some j s)
+    go false e s = absurd (none-some j s)
 
 pub place_none : {A : Type 0} (p : A → Bool) (xs : List A) → position p xs ≡ None → length xs ≤ position_or_len p xs
 place_none p xs q = go (nat_lt (position_or_len p xs) (length xs)) refl q
@@ -72,7 +73,7 @@ place_none p xs q = go (nat_lt (position_or_len p xs) (length xs)) refl q
     above m n q = grind (arith, q)
 
     go : (b : Bool) → nat_lt (position_or_len p xs) (length xs) ≡ b → cond b (Some (position_or_len p xs)) None ≡ None → length xs ≤ position_or_len p xs
-    go true e s = absurd (none_some (position_or_len p xs) (sym s))
+    go true e s = absurd (none-some (position_or_len p xs) (sym s))
     go false e s = above (position_or_len p xs) (length xs) e
 
 -- where a test of numbers and one of values agree
@@ -118,10 +119,6 @@ none_any p q rs (x ∷ xs) e h = go (p x) refl e.0 (none_any p q rs xs e.1) h
     go true t u m s = absurd (omega (arith, s))
     go false t u m s = ap (λ z. z || list_any q (map (λ x. valued rs x) xs)) (sym u ∙ t) ∙ m (omega (arith, s))
 
-map_length : {A B : Type 0} (f : A → B) (xs : List A) → length (map f xs) ≡ length xs
-map_length f [] = refl
-map_length f (x ∷ xs) = ap (λ n. suc n) (map_length f xs)
-
 each_same : (rows : List Row) (p : Shape) (b : ℕ) (rs : List Shape) (all xs : List (PlainConfiguration ℕ)) → IsFor p rs all → (x : PlainConfiguration ℕ) → HasNumbers rs x → (l : Letter) → all_listed (knowns rs) l (appended tt 0 b x.live) ≡ true → Each (HasNumbers rs) xs →
     Each (λ y. same_configuration (numbers (knowns rs)) y (stepped (numbered rows (knowns rs) b all) x l) ≡ same_configuration shapes (valued rs y) (stepped (subject rows p b (plan_of rs all)) (valued rs x) l)) xs
 each_same rows p b rs all [] i x h l a k = tt
@@ -144,9 +141,6 @@ live_itself (e ∷ es) =
 configuration_itself : (x : PlainConfiguration Shape) → same_configuration shapes x x ≡ true
 configuration_itself x = ap (λ z. z && same_live shapes x.live x.live) (eq-eqb x.state x.state refl) ∙ live_itself x.live
 
-some_is : (m j : ℕ) → Some m ≡ Some j → m ≡ j
-some_is m j q = cc
-
 pub sees : (rows : List Row) (p : Shape) (b : ℕ) (rs : List Shape) (xs : List (PlainConfiguration ℕ)) → IsFor p rs xs → (x : PlainConfiguration ℕ) → HasNumbers rs x → (l : Letter) (k : Look) →
     k.next ≡ next_place (knowns rs) (numbered rows (knowns rs) b xs) x l → k.meets ≡ number_meets (knowns rs) (numbered rows (knowns rs) b xs) x l →
     Sees (subject rows p b (plan_of rs xs)) (valued rs x) l k
@@ -167,7 +161,7 @@ sees rows p b rs xs i x h l k q m = go (all_listed (knowns rs) l (appended tt 0 
         let to : PlainConfiguration Shape = stepped s (valued rs x) l in
         let no : step_listed s (valued rs x) l ≡ false =
         none_any (λ y. same_configuration (numbers (knowns rs)) y (stepped (numbered rows (knowns rs) b xs) x l)) (λ y. same_configuration shapes y to) rs xs (each_same rows p b rs xs xs i x h l a i.numbers) (place_none (λ y. same_configuration (numbers (knowns rs)) y (stepped (numbered rows (knowns rs) b xs) x l)) xs e) in
-        record { none = λ q. no; some = λ j q. absurd (none_some j (sym u ∙ q)); meets = agree None a false no refl v }
+        record { none = λ q. no; some = λ j q. absurd (none-some j (sym u ∙ q)); meets = agree None a false no refl v }
     inner a (Some m) e u v =
         let s : Subject Shape = subject rows p b (plan_of rs xs) in
         let to : PlainConfiguration Shape = stepped s (valued rs x) l in
@@ -175,18 +169,18 @@ sees rows p b rs xs i x h l k q m = go (all_listed (knowns rs) l (appended tt 0 
         let same : PlainConfiguration Shape → Bool = (λ y. same_configuration shapes y to) in
         let each : Each (λ y. test y ≡ same (valued rs y)) xs = each_same rows p b rs xs xs i x h l a i.numbers in
         let f = place_some test xs m e in
-        let size : length s.configurations ≡ length xs = map_length (λ y. valued rs y) xs in
+        let size : length s.configurations ≡ length xs = length-map xs (λ y. valued rs y) in
         let there : same (value_at s m) ≡ true = subst (λ z. same (value_at s z) ≡ true) (sym f.0) (found_at test same rs xs each f.1) in
         let short : m < length s.configurations = (let g0 = f.0 in let g1 = f.1 in omega arith) in
         let yes : step_listed s (valued rs x) l ≡ true = any_at same s.configurations m short there in
         record {
-          none = λ q. absurd (none_some m (sym q ∙ u));
-          some = λ j q. let z : m ≡ j = some_is m j (sym u ∙ q) in (
+          none = λ q. absurd (none-some m (sym q ∙ u));
+          some = λ j q. let z : m ≡ j = same_Some m j (sym u ∙ q) in (
             yes,
             subst (λ n. IsFirst s to n) z (
               short,
               configuration_is shapes shapes_right.equal (value_at s m) to there,
-              λ n c t. differs (sym (none_before test same rs xs each n (subst (λ w. n < w) f.0 c)) ∙ ap (λ w. same w) t ∙ configuration_itself to),
+              λ n c t. false≢true (sym (none_before test same rs xs each n (subst (λ w. n < w) f.0 c)) ∙ ap (λ w. same w) t ∙ configuration_itself to),
             ),
           );
           meets = agree (Some m) a true yes refl v;
@@ -202,7 +196,7 @@ sees rows p b rs xs i x h l k q m = go (all_listed (knowns rs) l (appended tt 0 
         let no : step_listed s (valued rs x) l ≡ false = not_listed rows p b rs xs i x h l e in
         record {
           none = λ q. no;
-          some = λ j q. absurd (none_some j (sym u ∙ q));
+          some = λ j q. absurd (none-some j (sym u ∙ q));
           meets = v ∙ sym (ap (λ z. z && entries_agree shapes (move_of s (valued rs x) l).phase (row_at rows (move_of s (valued rs x) l).next).kind (no_ind (before s (valued rs x))) (kept s (valued rs x) l)) no);
         }
 
@@ -231,7 +225,7 @@ pub sees_at : (rows : List Row) (p : Shape) (b : ℕ) (rs : List Shape) (cs : Li
 sees_at rows p b rs cs table f t i d here q e l k n m =
     let xs : List (PlainConfiguration ℕ) = map (λ x. plain_configuration x) cs in
     let g : IsFor p rs xs = plan_for p rs xs f in
-    let short : i < length xs = (let z = map_length (λ (x : Configuration). plain_configuration x) cs in omega arith) in
+    let short : i < length xs = (let z = length-map cs (λ (x : Configuration). plain_configuration x) in omega arith) in
     let x : PlainConfiguration ℕ = configuration_at xs i in
     let is : plain_configuration here ≡ x = ap (λ z. plain_configuration z) e ∙ sym (plain_is cs i d q) in
     subst (λ z. Sees (subject rows p b (plan_of rs xs)) z l k) (sym (value_is rs xs i short))

@@ -1,11 +1,13 @@
 -- How the tour of the reached configurations grows.
-use Rattle.std.specs.Prelude.{◌≡◌, ◌⊎◌, ℕ, zero, suc, ◌+◌, ◌<◌, ◌≤◌, nat_lt, Bool, true, false, ◌&&◌, List, [], ◌∷◌, ◌++◌, Option, None, Some, MatchOption, map, length, get_or, set, replicate, refl}
+use Rattle.std.specs.Prelude.{◌≡◌, ◌⊎◌, ℕ, zero, suc, ◌+◌, ◌<◌, ◌≤◌, nat_lt, true, ◌&&◌, List, [], ◌∷◌, ◌++◌, Option, None, Some, MatchOption, map, length, set, replicate, refl}
 use Rattle.std.proofs.Common.{sym, ◌∙◌, ap, subst, inl, inr, arith, ⊎_elim, length-append, append_assoc}
 use Rattle.std.proofs.Math.Nat.{eq-or-lt_of_le}
 use Rattle.std.proofs.lemmas.Bool.Decides.{eqb_tells}
 use Rattle.ts_base.specs.declared.letter.Letter.{Letter}
 use Rattle.ts_base.specs.declared.letter.Letter.TheVariants.{Less, Equal, Greater}
 use Rattle.std.specs.List.{list_all}
+use Rattle.std.proofs.lemmas.Bool.{and_parts, false≢true}
+use Rattle.std.proofs.lemmas.Option.{none-some, same_Some}
 use Rattle.ts_regex.specs.Shape.{Shape, shape_of}
 use Rattle.ts_regex.specs.NormalForm.{normal_form, same_shape}
 use Rattle.ts_transducer.specs.declared.row.Row.{Row}
@@ -17,7 +19,6 @@ use Rattle.ts_pattern.specs.Closed.{PlainConfiguration, Subject, first_passes, s
 use Rattle.ts_validate.specs.declared.step.Look.{Look}
 use Rattle.ts_validate.specs.declared.arrival.Arrival.{Arrival}
 use Rattle.ts_validate.specs.Reaches.{against, value_at, value_of, IsFirst, Sees, arrived, place_at, open_places, GoesOn, Reaches, Follows, Followed, Grows, IsPath, PathOn}
-use Rattle.ts_validate.proofs.Keeps.{differs, both_true, none_some}
 
 -- lists
 
@@ -50,7 +51,7 @@ set_other (p ∷ os) (suc i) (suc j) o n = set_other os i j o (λ q. n (ap (λ z
 fewer_open : (os : List (Option ℕ)) (i m : ℕ) → i < length os → place_at os i ≡ None → open_places (set os i (Some m)) + 1 ≡ open_places os
 fewer_open [] i m q e = absurd (omega (arith, q))
 fewer_open (None ∷ os) zero m q e = refl
-fewer_open (Some k ∷ os) zero m q e = absurd (none_some k (sym e))
+fewer_open (Some k ∷ os) zero m q e = absurd (none-some k (sym e))
 fewer_open (None ∷ os) (suc i) m q e = ap (λ n. n + 1) (fewer_open os i m (omega (arith, q)) e)
 fewer_open (Some k ∷ os) (suc i) m q e = fewer_open os i m (omega (arith, q)) e
 
@@ -66,9 +67,6 @@ none_there : (n c : ℕ) → place_at (replicate n None) c ≡ None
 none_there zero c = refl
 none_there (suc n) zero = refl
 none_there (suc n) (suc c) = none_there n c
-
-some_is : (m j : ℕ) → Some m ≡ Some j → m ≡ j
-some_is m j q = cc
 
 eq_or_not : (m n : ℕ) → (m ≡ n) ⊎ (m ≡ n → ⊥)
 eq_or_not m n = ⊎_elim (λ q. inl q.1) (λ q. inr (λ z. q.1 z)) (eqb_tells m n)
@@ -106,8 +104,8 @@ started s n arrivals places e q a o =
     go zero k t = go_zero k (sym (set_same (replicate n None) 0 (Some 0) (let r = replicated n in omega (arith, r, q))) ∙ t)
       where
         go_zero : (k : ℕ) → Some 0 ≡ Some k → (k < 1) × ((arrived (record { configuration = 0; from = 0; letter = Less } ∷ []) k).configuration ≡ 0)
-        go_zero k t = subst (λ z. (z < 1) × ((arrived (record { configuration = 0; from = 0; letter = Less } ∷ []) z).configuration ≡ 0)) (some_is 0 k t) (omega arith, refl)
-    go (suc c) k t = absurd (none_some k (sym (set_other (replicate n None) 0 (suc c) (Some 0) (λ z. omega (arith, z)) ∙ none_there n (suc c)) ∙ t))
+        go_zero k t = subst (λ z. (z < 1) × ((arrived (record { configuration = 0; from = 0; letter = Less } ∷ []) z).configuration ≡ 0)) (same_Some 0 k t) (omega arith, refl)
+    go (suc c) k t = absurd (none-some k (sym (set_other (replicate n None) 0 (suc c) (Some 0) (λ z. omega (arith, z)) ∙ none_there n (suc c)) ∙ t))
 
 -- one more arrival
 
@@ -138,7 +136,7 @@ more_reached s xs os h next from l f i e t v =
       back = λ k d. ⊎_elim
           (λ q. subst (λ z. place_at (set os next (Some (length xs))) (arrived ys z).configuration ≡ Some z) (sym q) (ap (λ (z : Arrival). place_at (set os next (Some (length xs))) z.configuration) last ∙ set_same os next (Some (length xs)) room))
           (λ q. ap (λ (z : Arrival). place_at (set os next (Some (length xs))) z.configuration) (old k q)
-          ∙ set_other os next (arrived xs k).configuration (Some (length xs)) (λ z. none_some k (sym e ∙ ap (λ y. place_at os y) z ∙ h.back k q))
+          ∙ set_other os next (arrived xs k).configuration (Some (length xs)) (λ z. none-some k (sym e ∙ ap (λ y. place_at os y) z ∙ h.back k q))
           ∙ h.back k q)
           (eq-or-lt_of_le (let z : k ≤ length xs = omega arith in z));
     }
@@ -161,7 +159,7 @@ more_reached s xs os h next from l f i e t v =
 
     same : (k : ℕ) → next < length os → arrived (xs ++ record { configuration = next; from = from; letter = l } ∷ []) (length xs) ≡ record { configuration = next; from = from; letter = l } → place_at (set os next (Some (length xs))) next ≡ Some k → (k < length (xs ++ record { configuration = next; from = from; letter = l } ∷ [])) × ((arrived (xs ++ record { configuration = next; from = from; letter = l } ∷ []) k).configuration ≡ next)
     same k r u q =
-        subst (λ z. (z < length (xs ++ record { configuration = next; from = from; letter = l } ∷ [])) × ((arrived (xs ++ record { configuration = next; from = from; letter = l } ∷ []) z).configuration ≡ next)) (some_is (length xs) k (sym (set_same os next (Some (length xs)) r) ∙ q))
+        subst (λ z. (z < length (xs ++ record { configuration = next; from = from; letter = l } ∷ [])) × ((arrived (xs ++ record { configuration = next; from = from; letter = l } ∷ []) z).configuration ≡ next)) (same_Some (length xs) k (sym (set_same os next (Some (length xs)) r) ∙ q))
         ((let z = length-append xs (record { configuration = next; from = from; letter = l } ∷ []) in omega arith), ap (λ (z : Arrival). z.configuration) u)
 
     there_more : (c k : ℕ) → place_at (set os next (Some (length xs))) c ≡ Some k → next < length os → arrived (xs ++ record { configuration = next; from = from; letter = l } ∷ []) (length xs) ≡ record { configuration = next; from = from; letter = l } → (k < length (xs ++ record { configuration = next; from = from; letter = l } ∷ [])) × ((arrived (xs ++ record { configuration = next; from = from; letter = l } ∷ []) k).configuration ≡ c)
@@ -234,7 +232,7 @@ sizes rs [] = refl
 sizes rs (c ∷ cs) = ap (λ n. suc n) (sizes rs cs)
 
 some_first : (xs : List (PlainConfiguration ℕ)) → first_passes (λ x. is_blank x) xs ≡ true → 0 < length xs
-some_first [] q = absurd (differs q)
+some_first [] q = absurd (false≢true q)
 some_first (x ∷ xs) q = omega arith
 
 plain_size : (cs : List Configuration) → length (map (λ x. plain_configuration x) cs) ≡ length cs
@@ -243,8 +241,8 @@ plain_size (c ∷ cs) = ap (λ n. suc n) (plain_size cs)
 
 pub plan_some : (p : Shape) (plan : Plan) → is_plan_of p (plain_plan plan) ≡ true → 0 < length plan.configurations.items
 plan_some p plan q =
-    let h = both_true (first_passes (λ r. same_shape r (normal_form p)) (plain_plan plan).residuals) (first_passes (λ x. is_blank x) (plain_plan plan).configurations && list_all (λ x. list_all (λ e. nat_lt e.residual (length (plain_plan plan).residuals)) x.live) (plain_plan plan).configurations) q in
-    let k = both_true (first_passes (λ x. is_blank x) (plain_plan plan).configurations) (list_all (λ x. list_all (λ e. nat_lt e.residual (length (plain_plan plan).residuals)) x.live) (plain_plan plan).configurations) h.1 in
+    let h = and_parts (first_passes (λ r. same_shape r (normal_form p)) (plain_plan plan).residuals) (first_passes (λ x. is_blank x) (plain_plan plan).configurations && list_all (λ x. list_all (λ e. nat_lt e.residual (length (plain_plan plan).residuals)) x.live) (plain_plan plan).configurations) q in
+    let k = and_parts (first_passes (λ x. is_blank x) (plain_plan plan).configurations) (list_all (λ x. list_all (λ e. nat_lt e.residual (length (plain_plan plan).residuals)) x.live) (plain_plan plan).configurations) h.1 in
     subst (λ z. 0 < z) (plain_size plan.configurations.items) (some_first (plain_plan plan).configurations k.0)
 
 pub plan_size : (rows : List Row) (p : Pattern) (plan : Plan) → length plan.configurations.items ≡ length (against rows p plan).configurations
@@ -265,10 +263,10 @@ path_on xs k v w last e q g u =
 
 pub match_none : {A : Type 0} (o : Option A) (P : Type 0) (Q : A → Type 0) → MatchOption o P Q → o ≡ None → P
 match_none None P Q m q = m
-match_none (Some x) P Q m q = absurd (none_some x (sym q))
+match_none (Some x) P Q m q = absurd (none-some x (sym q))
 
 pub match_some : {A : Type 0} (o : Option A) (P : Type 0) (Q : A → Type 0) (x : A) → MatchOption o P Q → o ≡ Some x → Q x
-match_some None P Q x m q = absurd (none_some x q)
+match_some None P Q x m q = absurd (none-some x q)
 match_some {A} (Some y) P Q x m q = subst (λ z. Q z) (same x y q) m
   where
     same : (x y : A) → Some y ≡ Some x → y ≡ x

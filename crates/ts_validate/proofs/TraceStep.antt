@@ -1,16 +1,18 @@
 -- The invariant of the trace goes over one letter where the step meets its checks, and holds of the empty word.
 use Rattle.std.specs.Prelude.{◌≡◌, ℕ, ◌+◌, ◌-◌, Bool, true, List, [], ◌∷◌, ◌++◌, length, map, None, Some, refl}
 use Rattle.std.proofs.Common.{sym, ◌∙◌, ap, subst, arith, length-append}
+use Rattle.std.proofs.lemmas.Option.{none-some}
+use Rattle.std.proofs.lemmas.List.{map-append}
 use Rattle.ts_base.specs.declared.letter.Letter.{Letter}
 use Rattle.ts_base.specs.declared.range.Range.{Range}
 use Rattle.ts_base.specs.declared.range.Kind.{Kind}
-use Rattle.ts_base.specs.declared.range.Kind.TheVariants.{Idle, Pending, Held}
+use Rattle.ts_base.specs.declared.range.Kind.TheVariants.{Idle, Held}
 use Rattle.ts_regex.specs.Shape.{Shape}
 use Rattle.ts_regex.specs.Language.{InLanguage}
 use Rattle.ts_transducer.specs.declared.row.Phase.{Phase}
-use Rattle.ts_transducer.specs.declared.row.Phase.TheVariants.{Out, OutR, OutA, MaybeB, MaybeA, Found, FoundE, Inside}
+use Rattle.ts_transducer.specs.declared.row.Phase.TheVariants.{OutA, Found, Inside}
 use Rattle.ts_pattern.specs.declared.plan.Tag.{Tag}
-use Rattle.ts_pattern.specs.declared.plan.Tag.TheVariants.{Young, Due, InD, InC, Loose}
+use Rattle.ts_pattern.specs.declared.plan.Tag.TheVariants.{InD, InC}
 use Rattle.ts_transducer.specs.Decode.{begins, start_after, held_after, listed}
 use Rattle.ts_pattern.specs.EachOf.{Each, First}
 use Rattle.ts_pattern.specs.OccurrenceList.{Place, e_range}
@@ -19,9 +21,9 @@ use Rattle.ts_pattern.specs.Closed.{tag_after, first_tag, no_ind, retag, appende
 use Rattle.ts_pattern.proofs.Entries.{AreRight}
 use Rattle.ts_pattern.proofs.LiveEntries.{each_push, one_left, AreLive, live_appended, each_survivor}
 use Rattle.ts_pattern.proofs.Ends.{live_step}
-use Rattle.ts_validate.proofs.Keeps.{IsFree, Typed, none_some, held_range, first_mark, free_pair, kinds_step, pending_only, tag_step, first_tag_holds, TagHolds}
+use Rattle.ts_validate.proofs.Keeps.{IsFree, Typed, held_range, first_mark, free_pair, kinds_step, pending_only, tag_step, first_tag_holds, TagHolds}
 use Rattle.ts_validate.proofs.Traces.{MeetsChecks, After, Strictly, Trace, IsTraced, trace_step, each_retag, live_retag, no_ind_one, is_none, begins_at, early_before, strictly_after, below_first, early_find, early_release, held_before}
-use Rattle.ts_validate.proofs.OneMore.{found_step, ranges_step, emitted_step, early_step, same_start, held_pair, map_append, listed_held}
+use Rattle.ts_validate.proofs.OneMore.{found_step, ranges_step, emitted_step, early_step, same_start, held_pair, listed_held}
 
 pub found_free : (f : Phase) (k k' : Kind) → Typed k f k' → f ≡ Found → IsFree k
 found_free f k k' t q = (subst (λ z. Typed k z k') q t).0
@@ -84,7 +86,7 @@ traced_start p a b =
       kinds = (refl, refl);
       live = record { rising = tt; below = tt; follows = tt; covered = λ s v q x. absurd (omega (arith, q)) };
       tags = tt;
-      pending = λ x q. absurd (none_some x q);
+      pending = λ x q. absurd (none-some x q);
       first_held = λ q. absurd (idle_held q);
       early = tt;
       ranges = refl;
@@ -103,4 +105,4 @@ pub decoded_is : (p : Shape) (a b : ℕ) (w : List Letter) (x : Trace) → IsTra
 decoded_is p a b w x h =
     ap (λ z. z ++ listed x.c) h.emitted
     ∙ ap (λ z. map (λ x. e_range b a x) x.done ++ z) (ap (λ z. listed z) h.ranges ∙ listed_held a b x.pair)
-    ∙ sym (map_append (e_range b a) x.done (listed x.pair))
+    ∙ sym (map-append (e_range b a) x.done (listed x.pair))

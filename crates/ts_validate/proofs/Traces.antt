@@ -2,14 +2,15 @@
 -- what the checks of a step say of it.
 use Rattle.std.specs.Prelude.{◌≡◌, ◌⊎◌, ℕ, ◌+◌, ◌<◌, ◌≤◌, Bool, true, false, not, ◌&&◌, List, [], ◌∷◌, ◌++◌, length, map, Option, None, Some, refl}
 use Rattle.std.proofs.Common.{sym, ◌∙◌, ap, subst, inl, inr, arith, ⊎_elim}
+use Rattle.std.proofs.lemmas.Bool.{false≢true}
 use Rattle.ts_base.specs.declared.letter.Letter.{Letter}
 use Rattle.ts_base.specs.declared.range.Range.{Range}
 use Rattle.ts_base.specs.declared.range.Kind.{Kind}
-use Rattle.ts_base.specs.declared.range.Kind.TheVariants.{Idle, Pending, Held}
+use Rattle.ts_base.specs.declared.range.Kind.TheVariants.{Held}
 use Rattle.ts_regex.specs.Shape.{Shape}
 use Rattle.ts_regex.specs.Language.{InLanguage}
 use Rattle.ts_transducer.specs.declared.row.Phase.{Phase}
-use Rattle.ts_transducer.specs.declared.row.Phase.TheVariants.{Out, OutR, OutA, MaybeB, MaybeA, Found, FoundE, Inside}
+use Rattle.ts_transducer.specs.declared.row.Phase.TheVariants.{OutA, MaybeB, FoundE}
 use Rattle.ts_pattern.specs.declared.plan.Tag.{Tag}
 use Rattle.ts_pattern.specs.declared.plan.Tag.TheVariants.{Young, Due, InD, InC, Loose}
 use Rattle.ts_transducer.specs.Decode.{begins, start_after, held_after, emitted_at, listed}
@@ -22,7 +23,7 @@ use Rattle.ts_pattern.proofs.Entries.{Rising, AreRight, Covers}
 use Rattle.ts_pattern.proofs.LiveEntries.{each_push, one_left, Follows, AreLive, each_survivor}
 use Rattle.ts_pattern.proofs.Ends.{rising_each, Accepts}
 use Rattle.ts_pattern.proofs.Places.{each_map, each_both, each_left}
-use Rattle.ts_validate.proofs.Keeps.{differs, first_of, held_range, first_mark, done_after, pair_after, KindHolds, TagHolds}
+use Rattle.ts_validate.proofs.Keeps.{first_of, held_range, first_mark, done_after, pair_after, KindHolds, TagHolds}
 
 abbrev pub IsShort : {X : Type 0} → Entry X Shape Tag → Type 0
 IsShort e = (l : Letter) (v : List Letter) → InLanguage e.residual (l ∷ v) → ⊥
@@ -107,12 +108,12 @@ live_retag f free p w k es h =
 pub no_ind_one : (es : List (Entry ℕ Shape Tag)) → no_ind es ≡ true → OneOf (λ e. e.tag ≡ InD) es → ⊥
 no_ind_one [] q h = h
 no_ind_one (e ∷ es) q h =
-    ⊎_elim (λ a. differs (subst (λ g. not (is_ind g) && no_ind es ≡ true) a q)) (λ a. no_ind_one es (right e.tag (no_ind es) q) a) h
+    ⊎_elim (λ a. false≢true (subst (λ g. not (is_ind g) && no_ind es ≡ true) a q)) (λ a. no_ind_one es (right e.tag (no_ind es) q) a) h
   where
     right : (g : Tag) (x : Bool) → not (is_ind g) && x ≡ true → x ≡ true
     right (Young m) x q = q
     right Due x q = q
-    right InD x q = absurd (differs q)
+    right InD x q = absurd (false≢true q)
     right InC x q = q
     right Loose x q = q
 

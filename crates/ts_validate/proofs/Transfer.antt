@@ -1,23 +1,20 @@
 -- A step by numbers is the step by the residuals themselves, where each residual after the letter that has a word is
 -- listed; and where one isn't, the step isn't listed.
-use Rattle.std.specs.Prelude.{◌≡◌, ◌⊎◌, ℕ, zero, suc, ◌+◌, ◌<◌, ◌≤◌, ◌==◌, nat_le, Bool, true, false, cond, not, ◌&&◌, if◌then◌else◌, List, [], ◌∷◌, ◌++◌, map, length, slice_get, refl}
-use Rattle.std.specs.List.{list_all}
+use Rattle.std.specs.Prelude.{◌≡◌, ◌⊎◌, ℕ, zero, suc, ◌+◌, ◌<◌, ◌≤◌, ◌==◌, nat_le, Bool, true, false, cond, not, List, [], ◌∷◌, map, length, refl}
 use Rattle.std.proofs.Common.{sym, ◌∙◌, ap, subst, inl, inr, arith, ⊎_elim, add-one}
-use Rattle.std.proofs.lemmas.Bool.{eqb-true, eq-eqb, eqb-false}
+use Rattle.std.proofs.lemmas.Bool.{eqb-true, eq-eqb, false≢true}
+use Rattle.std.proofs.lemmas.List.{length-map}
 use Rattle.ts_base.specs.declared.letter.Letter.{Letter}
 use Rattle.ts_base.specs.declared.letter.Letter.TheVariants.{Less, Equal, Greater}
 use Rattle.ts_regex.specs.Shape.{Shape}
-use Rattle.ts_regex.specs.Derivative.{nullable, has_word, has_longer}
+use Rattle.ts_regex.specs.Derivative.{has_word}
 use Rattle.ts_regex.specs.NormalForm.{residual, same_shape}
 use Rattle.ts_regex.proofs.Laws.{same_law}
-use Rattle.ts_pattern.specs.declared.plan.Tag.{Tag}
-use Rattle.ts_pattern.specs.EachOf.{Each, OneOf}
-use Rattle.ts_pattern.specs.Entries.{Entry, shapes}
+use Rattle.ts_pattern.specs.Entries.{shapes}
 use Rattle.ts_pattern.specs.Plans.{shape_at}
 use Rattle.ts_pattern.proofs.Renamed.{NextAgrees, WordsAgree, SameAgrees}
 use Rattle.ts_validate.specs.declared.known.Known.{Known}
-use Rattle.ts_validate.specs.Numbers.{number_of, next_number, known_of, knowns, known_or, known_at, next_on, numbers, all_listed}
-use Rattle.ts_validate.proofs.Keeps.{differs, both_true}
+use Rattle.ts_validate.specs.Numbers.{number_of, next_number, known_of, knowns, known_at, next_on, numbers}
 
 -- the number of a residual is that of its least place
 
@@ -38,7 +35,7 @@ number_small (s ∷ rs) zero q = go (same_shape s s) ((same_law s s).1 refl)
   where
     go : (b : Bool) → b ≡ true → cond b 0 (number_of rs s + 1) ≤ 0
     go true e = omega arith
-    go false e = absurd (differs e)
+    go false e = absurd (false≢true e)
 number_small (s ∷ rs) (suc i) q = go (same_shape s (shape_at rs i)) (number_small rs i (omega (arith, q)))
   where
     go : (b : Bool) → number_of rs (shape_at rs i) ≤ i → cond b 0 (number_of rs (shape_at rs i) + 1) ≤ suc i
@@ -62,10 +59,6 @@ map_place all (r ∷ rs) (suc i) q = map_place all rs i (omega (arith, q))
 
 pub known_is : (rs : List Shape) (i : ℕ) → i < length rs → known_at (knowns rs) i ≡ known_of rs (shape_at rs i)
 known_is rs i q = map_place rs rs i q
-
-pub table_length : {A B : Type 0} (f : A → B) (xs : List A) → length (map f xs) ≡ length xs
-table_length f [] = refl
-table_length f (x ∷ xs) = ap (λ n. suc n) (table_length f xs)
 
 next_on_known : (rs : List Shape) (l : Letter) (r : Shape) → next_on l (known_of rs r) ≡ next_number rs r l
 next_on_known rs Less r = refl
@@ -101,7 +94,7 @@ le_true a b q = grind (arith, q)
 
 next_cases : (rs : List Shape) (r : Shape) → (b : Bool) → has_word r ≡ b → cond b (number_of rs r) (length rs) ≤ length rs →
     (not (cond b (number_of rs r) (length rs) == length rs) ≡ b) × ((b ≡ true) → shape_at rs (cond b (number_of rs r) (length rs)) ≡ r) × ((b ≡ true) → cond b (number_of rs r) (length rs) < length rs)
-next_cases rs r false e q = (ap (λ z. not z) (eq-eqb (length rs) (length rs) refl), λ h. absurd (differs h), λ h. absurd (differs h))
+next_cases rs r false e q = (ap (λ z. not z) (eq-eqb (length rs) (length rs) refl), λ h. absurd (false≢true h), λ h. absurd (false≢true h))
 next_cases rs r true e q =
     ⊎_elim
     (λ h. (not_equal (number_of rs r) (length rs) h, λ i. number_at rs r h, λ i. h))
@@ -118,7 +111,7 @@ next_cases rs r true e q =
 pub numbers_agree : (rs : List Shape) (l : Letter) (i : ℕ) → IsNumber rs i → nat_le (next_on l (known_at (knowns rs) i)) (length (knowns rs)) ≡ true → NextAgrees (numbers (knowns rs)) shapes (λ i. shape_at rs i) (λ i. IsNumber rs i) l i
 numbers_agree rs l i p q =
     let e : next_on l (known_at (knowns rs) i) ≡ next_number rs (shape_at rs i) l = next_is rs i l p in
-    let n : length (knowns rs) ≡ length rs = table_length (λ r. known_of rs r) rs in
+    let n : length (knowns rs) ≡ length rs = length-map rs (λ r. known_of rs r) in
     let r : Shape = residual (shape_at rs i) l in
     let h = next_cases rs r (has_word r) refl (subst (λ z. z ≤ length rs) e (subst (λ z. next_on l (known_at (knowns rs) i) ≤ z) n (le_true (next_on l (known_at (knowns rs) i)) (length (knowns rs)) q))) in
     let has : not (next_on l (known_at (knowns rs) i) == length (knowns rs)) ≡ has_word r = ap (λ z. not (z == length (knowns rs))) e ∙ ap (λ z. not (next_number rs (shape_at rs i) l == z)) n ∙ h.0 in
@@ -136,7 +129,7 @@ words_agree rs i p =
 pub unlisted : (rs : List Shape) (l : Letter) (i : ℕ) → IsNumber rs i → nat_le (next_on l (known_at (knowns rs) i)) (length (knowns rs)) ≡ false → (has_word (residual (shape_at rs i) l) ≡ true) × ((j : ℕ) → j < length rs → shape_at rs j ≡ residual (shape_at rs i) l → ⊥)
 unlisted rs l i p q =
     let e : next_on l (known_at (knowns rs) i) ≡ next_number rs (shape_at rs i) l = next_is rs i l p in
-    let n : length (knowns rs) ≡ length rs = table_length (λ r. known_of rs r) rs in
+    let n : length (knowns rs) ≡ length rs = length-map rs (λ r. known_of rs r) in
     let r : Shape = residual (shape_at rs i) l in
     go r (has_word r) refl (sym (ap (λ z. nat_le z (length (knowns rs))) e ∙ ap (λ z. nat_le (next_number rs (shape_at rs i) l) z) n) ∙ q)
   where

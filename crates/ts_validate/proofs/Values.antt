@@ -1,8 +1,10 @@
 -- The step by numbers stands for the step by the residuals themselves: it is listed at the same places, and meets the
 -- same checks.
-use Rattle.std.specs.Prelude.{◌≡◌, ◌⊎◌, ℕ, zero, suc, ◌+◌, ◌<◌, ◌≤◌, ◌==◌, nat_le, nat_lt, Bool, true, false, cond, not, ◌&&◌, ◌||◌, List, [], ◌∷◌, ◌++◌, Option, None, Some, is_some, map, length, refl}
-use Rattle.std.specs.List.{list_all, list_any, position, position_or_len}
-use Rattle.std.proofs.Common.{sym, ◌∙◌, ap, subst, inl, inr, arith, ⊎_elim}
+use Rattle.std.specs.Prelude.{◌≡◌, ◌⊎◌, ℕ, ◌<◌, ◌==◌, nat_le, Bool, true, false, cond, not, ◌&&◌, ◌||◌, List, [], ◌∷◌, ◌++◌, map, length, refl}
+use Rattle.std.specs.List.{list_any}
+use Rattle.std.proofs.Common.{sym, ◌∙◌, ap, subst, inl, inr, ⊎_elim}
+use Rattle.std.proofs.lemmas.Bool.{and_parts, false_from_ne_true, false≢true}
+use Rattle.std.proofs.lemmas.List.{map-append}
 use Rattle.ts_base.specs.declared.letter.Letter.{Letter}
 use Rattle.ts_regex.specs.Shape.{Shape}
 use Rattle.ts_regex.specs.Derivative.{has_word}
@@ -14,14 +16,12 @@ use Rattle.ts_transducer.specs.Decode.{row_at}
 use Rattle.ts_pattern.specs.declared.plan.Tag.{Tag}
 use Rattle.ts_pattern.specs.EachOf.{Each, OneOf}
 use Rattle.ts_pattern.specs.Entries.{Entry, shapes, derive_entry, derived, alive, without, keep, survivors}
-use Rattle.ts_pattern.specs.Closed.{PlainConfiguration, Subject, first_tag, tag_after, no_ind, retag, appended, move_of, before, kept, stepped, first_passes, entries_agree, same_tag, same_live, same_configuration, step_listed, meets_checks}
-use Rattle.ts_pattern.specs.Plans.{PlainPlan, shape_at, valued_entry, valued, subject, is_plan_of, is_blank}
+use Rattle.ts_pattern.specs.Closed.{PlainConfiguration, Subject, first_tag, no_ind, retag, appended, move_of, before, kept, stepped, entries_agree, same_tag, same_live, same_configuration, step_listed}
+use Rattle.ts_pattern.specs.Plans.{PlainPlan, shape_at, valued_entry, valued, subject}
 use Rattle.ts_pattern.proofs.Entries.{shapes_right}
-use Rattle.ts_pattern.proofs.Renamed.{renamed, NextAgrees, WordsAgree, survivors_renamed, survivors_left, retag_renamed, no_ind_renamed, map_append, agree_renamed}
+use Rattle.ts_pattern.proofs.Renamed.{NextAgrees, WordsAgree, survivors_renamed, survivors_left, retag_renamed, no_ind_renamed, agree_renamed}
 use Rattle.ts_pattern.proofs.Tested.{configuration_is}
-use Rattle.ts_validate.specs.declared.known.Known.{Known}
-use Rattle.ts_validate.specs.Numbers.{knowns, known_at, next_on, numbers, numbered, all_listed, next_place, number_meets}
-use Rattle.ts_validate.proofs.Keeps.{differs, both_true, none_some}
+use Rattle.ts_validate.specs.Numbers.{knowns, known_at, next_on, numbers, numbered, all_listed}
 use Rattle.ts_validate.proofs.Transfer.{IsNumber, numbers_same, numbers_agree, words_agree, unlisted}
 
 -- each entry has the number of a residual
@@ -43,7 +43,7 @@ numbers_before rs b (e ∷ es) q h = (h.0, numbers_before rs b es q h.1)
 each_agrees : (rs : List Shape) (l : Letter) (es : List (Entry (Unit {0}) ℕ Tag)) → AreNumbers rs es → all_listed (knowns rs) l es ≡ true → Each (λ e. NextAgrees (numbers (knowns rs)) shapes (λ i. shape_at rs i) (λ i. IsNumber rs i) l e.residual) es
 each_agrees rs l [] h q = tt
 each_agrees rs l (e ∷ es) h q =
-    let k = both_true (nat_le (next_on l (known_at (knowns rs) e.residual)) (length (knowns rs))) (all_listed (knowns rs) l es) q in
+    let k = and_parts (nat_le (next_on l (known_at (knowns rs) e.residual)) (length (knowns rs))) (all_listed (knowns rs) l es) q in
     (numbers_agree rs l e.residual h.0 k.0, each_agrees rs l es h.1 k.1)
 
 each_words : (rs : List Shape) (es : List (Entry (Unit {0}) ℕ Tag)) → AreNumbers rs es → Each (λ e. WordsAgree (numbers (knowns rs)) shapes (λ i. shape_at rs i) e.residual) es
@@ -73,7 +73,7 @@ plan_of rs xs = record { residuals = rs; configurations = xs }
 
 before_valued : (rs : List Shape) (p : Shape) (b : ℕ) (es : List (Entry (Unit {0}) ℕ Tag)) → shape_at rs 0 ≡ normal_form p → valued_entries rs (appended tt 0 b es) ≡ appended tt (normal_form p) b (valued_entries rs es)
 before_valued rs p b es q =
-    map_append (λ e. valued_entry rs e) es (record { mark = tt; residual = 0; tag = first_tag b } ∷ [])
+    map-append (λ e. valued_entry rs e) es (record { mark = tt; residual = 0; tag = first_tag b } ∷ [])
     ∙ ap (λ z. valued_entries rs es ++ record { mark = tt; residual = z; tag = first_tag b } ∷ []) q
 
 free_valued : (rs : List Shape) (p : Shape) (b : ℕ) (es : List (Entry (Unit {0}) ℕ Tag)) → shape_at rs 0 ≡ normal_form p → no_ind (appended tt 0 b es) ≡ no_ind (appended tt (normal_form p) b (valued_entries rs es))
@@ -122,7 +122,7 @@ one_alive l d (e ∷ es) w h =
   where
     go : (a : Bool) → has_word (residual e.residual l) ≡ a → (residual e.residual l ≡ d) ⊎ OneOf (λ e. e.residual ≡ d) (alive shapes (derived shapes l es)) → OneOf (λ e. e.residual ≡ d) (cond a (derive_entry shapes l e ∷ alive shapes (derived shapes l es)) (alive shapes (derived shapes l es)))
     go true t k = k
-    go false t k = ⊎_elim (λ q. absurd (differs (sym t ∙ ap (λ z. has_word z) q ∙ w))) (λ q. q) k
+    go false t k = ⊎_elim (λ q. absurd (false≢true (sym t ∙ ap (λ z. has_word z) q ∙ w))) (λ q. q) k
 
 one_without : (r d : Shape) (es : List (Entry (Unit {0}) Shape Tag)) → OneOf (λ e. e.residual ≡ d) es → (r ≡ d) ⊎ OneOf (λ e. e.residual ≡ d) (without shapes r es)
 one_without r d [] h = absurd h
@@ -147,7 +147,7 @@ not_in rs d (e ∷ es) n h o = ⊎_elim (λ q. n e.residual h.0 q) (λ q. not_in
 -- an entry whose residual after the letter is d, a word of no listed residual
 missing : (rs : List Shape) (l : Letter) (es : List (Entry (Unit {0}) ℕ Tag)) → AreNumbers rs es → all_listed (knowns rs) l es ≡ false →
     (d : Shape) × (has_word d ≡ true) × ((j : ℕ) → j < length rs → shape_at rs j ≡ d → ⊥) × OneOf (λ e. residual e.residual l ≡ d) (valued_entries rs es)
-missing rs l [] h q = absurd (differs (sym q))
+missing rs l [] h q = absurd (false≢true (sym q))
 missing rs l (e ∷ es) h q = go (nat_le (next_on l (known_at (knowns rs) e.residual)) (length (knowns rs))) (unlisted rs l e.residual h.0) (missing rs l es h.1) q
   where
     go : (a : Bool) → (a ≡ false → (has_word (residual (shape_at rs e.residual) l) ≡ true) × ((j : ℕ) → j < length rs → shape_at rs j ≡ residual (shape_at rs e.residual) l → ⊥)) →
@@ -156,12 +156,8 @@ missing rs l (e ∷ es) h q = go (nat_le (next_on l (known_at (knowns rs) e.resi
     go true u m s = let k = m s in (k.0, k.1, k.2, inr k.3)
     go false u m s = (residual (shape_at rs e.residual) l, (u refl).0, (u refl).1, inl refl)
 
-not_true : (a : Bool) → (a ≡ true → ⊥) → a ≡ false
-not_true true h = absurd (h refl)
-not_true false h = refl
-
 some_same : {A B : Type 0} (p : B → Bool) (h : A → B) (Q : A → Type 0) (xs : List A) → Each Q xs → list_any p (map h xs) ≡ true → (x : A) × Q x × (p (h x) ≡ true)
-some_same {A} p h Q [] e q = absurd (differs q)
+some_same {A} p h Q [] e q = absurd (false≢true q)
 some_same {A} p h Q (x ∷ xs) e q = go (p (h x)) refl (some_same p h Q xs e.1) q
   where
     go : (a : Bool) → p (h x) ≡ a → (list_any p (map h xs) ≡ true → (y : A) × Q y × (p (h y) ≡ true)) → a || list_any p (map h xs) ≡ true → (y : A) × Q y × (p (h y) ≡ true)
@@ -177,6 +173,6 @@ not_listed rows p b rs xs i x h l a =
     let o : OneOf (λ e. e.residual ≡ m.0) to.live =
     one_retagged (move_of s (valued rs x) l).phase (no_ind (before s (valued rs x))) m.0 (kept s (valued rs x) l)
     (one_kept m.0 (alive shapes (derived shapes l (before s (valued rs x)))) (one_alive l m.0 (before s (valued rs x)) m.1 (subst (λ z. OneOf (λ e. residual e.residual l ≡ m.0) z) (before_valued rs p b x.live i.whole) m.3))) in
-    not_true (step_listed s (valued rs x) l) (λ q.
+    false_from_ne_true (step_listed s (valued rs x) l) (λ q.
     let y = some_same (λ y. same_configuration shapes y to) (λ y. valued rs y) (HasNumbers rs) xs i.numbers q in
     not_in rs m.0 y.0.live m.2 y.1 (subst (λ (z : PlainConfiguration Shape). OneOf (λ e. e.residual ≡ m.0) z.live) (sym (configuration_is shapes shapes_right.equal (valued rs y.0) to y.2)) o))

@@ -1,9 +1,8 @@
 -- The tour reaches each reached configuration, and so its verdict is that of Closed.
-use Rattle.std.specs.Prelude.{◌≡◌, ◌⊎◌, ℕ, zero, suc, ◌+◌, ◌<◌, ◌≤◌, ◌==◌, nat_lt, Bool, true, false, ◌&&◌, List, [], ◌∷◌, ◌++◌, Option, None, Some, map, length, refl}
+use Rattle.std.specs.Prelude.{◌≡◌, ℕ, ◌<◌, ◌≤◌, ◌==◌, nat_lt, true, ◌&&◌, List, [], ◌∷◌, Option, Some, map, length, refl}
 use Rattle.std.specs.List.{list_all}
-use Rattle.std.proofs.Common.{sym, ◌∙◌, ap, subst, arith, ⊎_elim}
-use Rattle.std.proofs.Math.Nat.{eq-or-lt_of_le}
-use Rattle.std.proofs.lemmas.Bool.{eqb-true}
+use Rattle.std.proofs.Common.{sym, ◌∙◌, ap, subst, arith}
+use Rattle.std.proofs.lemmas.Bool.{eqb-true, and_parts, false≢true}
 use Rattle.ts_base.specs.declared.letter.Letter.{Letter}
 use Rattle.ts_regex.specs.Shape.{Shape, shape_of}
 use Rattle.ts_regex.specs.NormalForm.{normal_form, same_shape}
@@ -12,13 +11,12 @@ use Rattle.ts_pattern.specs.declared.pattern.Pattern.{Pattern}
 use Rattle.ts_pattern.specs.declared.plan.Plan.{Plan}
 use Rattle.ts_pattern.specs.declared.plan.Tag.{Tag}
 use Rattle.ts_pattern.specs.Entries.{Entry}
-use Rattle.ts_pattern.specs.Closed.{PlainConfiguration, Subject, first_passes, stepped, step_listed, meets_checks, LeadsTo, FromStart, OneStepOn, Reached, IsClosed}
+use Rattle.ts_pattern.specs.Closed.{PlainConfiguration, Subject, first_passes, stepped, step_listed, meets_checks, LeadsTo, FromStart, OneStepOn, IsClosed}
 use Rattle.ts_pattern.specs.Plans.{plain_plan, valued, is_empty, is_blank, is_plan_of}
 use Rattle.ts_validate.specs.declared.arrival.Arrival.{Arrival}
 use Rattle.ts_validate.specs.declared.failure.Failure.{Failure}
-use Rattle.ts_validate.specs.Reaches.{configuration_at, against, value_at, value_of, IsFirst, arrived, place_at, GoesOn, Reaches, Follows, Followed, IsPath, PathStart, PathOn, AllMeet, AllMeetBelow, FailsFirst}
+use Rattle.ts_validate.specs.Reaches.{configuration_at, against, value_at, value_of, IsFirst, arrived, place_at, Reaches, Followed, IsPath, PathStart, PathOn, AllMeetBelow, FailsFirst}
 use Rattle.ts_validate.specs.Refusals.{IsRefusal}
-use Rattle.ts_validate.proofs.Keeps.{differs, both_true}
 
 abbrev blank : PlainConfiguration Shape
 blank = record { state = 0; live = [] }
@@ -27,18 +25,18 @@ blank = record { state = 0; live = [] }
 
 gone : (rs : List Shape) (n : ℕ) (es : List (Entry (Unit {0}) ℕ Tag)) → is_empty es ≡ true → (valued rs (record { state = n; live = es })).live ≡ []
 gone rs n [] q = refl
-gone rs n (e ∷ es) q = absurd (differs q)
+gone rs n (e ∷ es) q = absurd (false≢true q)
 
 first_value : (rs : List Shape) (xs : List (PlainConfiguration ℕ)) → first_passes (λ x. is_blank x) xs ≡ true → configuration_at (map (λ x. valued rs x) xs) 0 ≡ blank
-first_value rs [] q = absurd (differs q)
+first_value rs [] q = absurd (false≢true q)
 first_value rs (x ∷ xs) q =
-    let h = both_true (x.state == 0) (is_empty x.live) q in
+    let h = and_parts (x.state == 0) (is_empty x.live) q in
     ap (λ z. record { state = z; live = (valued rs x).live }) (eqb-true x.state 0 h.0) ∙ ap (λ z. record { state = 0; live = z }) (gone rs x.state x.live h.1)
 
 pub start_value : (rows : List Row) (p : Pattern) (plan : Plan) → is_plan_of (shape_of p.regex) (plain_plan plan) ≡ true → value_at (against rows p plan) 0 ≡ blank
 start_value rows p plan q =
-    let h = both_true (first_passes (λ r. same_shape r (normal_form (shape_of p.regex))) (plain_plan plan).residuals) (first_passes (λ x. is_blank x) (plain_plan plan).configurations && list_all (λ x. list_all (λ e. nat_lt e.residual (length (plain_plan plan).residuals)) x.live) (plain_plan plan).configurations) q in
-    let k = both_true (first_passes (λ x. is_blank x) (plain_plan plan).configurations) (list_all (λ x. list_all (λ e. nat_lt e.residual (length (plain_plan plan).residuals)) x.live) (plain_plan plan).configurations) h.1 in
+    let h = and_parts (first_passes (λ r. same_shape r (normal_form (shape_of p.regex))) (plain_plan plan).residuals) (first_passes (λ x. is_blank x) (plain_plan plan).configurations && list_all (λ x. list_all (λ e. nat_lt e.residual (length (plain_plan plan).residuals)) x.live) (plain_plan plan).configurations) q in
+    let k = and_parts (first_passes (λ x. is_blank x) (plain_plan plan).configurations) (list_all (λ x. list_all (λ e. nat_lt e.residual (length (plain_plan plan).residuals)) x.live) (plain_plan plan).configurations) h.1 in
     first_value (plain_plan plan).residuals (plain_plan plan).configurations k.0
 
 -- each reached configuration has arrived, by its least number
@@ -93,5 +91,5 @@ refusal_is rows p plan q xs os h g f m w path =
           let a = complete s xs os h g b r.0 (value_at s i) r.1 in
           let n : (arrived xs a.0).configuration ≤ i = before i (arrived xs a.0).configuration (λ z. a.2.2 i z refl) in
           arrives_meets s xs os h f.configuration m.3 (value_at s i) a (omega arith) l;
-      refutes = λ c. differs (sym m.2.0 ∙ c (value_at s f.configuration) (w, leads) f.letter);
+      refutes = λ c. false≢true (sym m.2.0 ∙ c (value_at s f.configuration) (w, leads) f.letter);
     }

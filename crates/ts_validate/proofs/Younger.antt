@@ -1,7 +1,6 @@
 -- Tags of a number of signs still to come.
 use Rattle.std.specs.Prelude.{◌≡◌, ℕ, zero, suc, ◌-◌, ◌<◌, ◌≤◌, refl}
-use Rattle.std.proofs.Common.{arith, ap, sym}
-use Rattle.ts_pattern.specs.declared.plan.Tag.{Tag}
+use Rattle.std.proofs.Common.{arith, ap}
 use Rattle.ts_pattern.specs.declared.plan.Tag.TheVariants.{Young, Due}
 use Rattle.ts_pattern.specs.Closed.{first_tag, younger}
 

@@ -8,7 +8,6 @@ use Rattle.ts_regex.specs.Shape.{Shape}
 use Rattle.ts_regex.specs.Derivative.{nullable, has_word, has_longer}
 use Rattle.ts_regex.specs.NormalForm.{residual, same_shape}
 use Rattle.ts_transducer.specs.declared.row.Row.{Row}
-use Rattle.ts_pattern.specs.declared.plan.Tag.{Tag}
 use Rattle.ts_pattern.specs.Entries.{Entry, Residuals, derive_entry}
 use Rattle.ts_pattern.specs.Closed.{PlainConfiguration, Subject, no_ind, move_of, before, kept, stepped, entries_agree, same_configuration}
 use Rattle.ts_transducer.specs.Decode.{row_at}

@@ -25,12 +25,7 @@ fn younger(m: u8) -> Tag
 fn due_after(phase: Phase, free: bool) -> Tag
     ensures { result ≡ due_after phase free }
 {
-    match phase {
-        Phase::MaybeB => { if free { Tag::InD } else { Tag::Loose } }
-        Phase::Found => { if free { Tag::InC } else { Tag::Loose } }
-        Phase::Out | Phase::OutR | Phase::OutA | Phase::MaybeA | Phase::FoundE | Phase::Inside =>
-            Tag::Loose,
-    }
+    if free { ind_after(phase) } else { Tag::Loose }
 }
 
 fn ind_after(phase: Phase) -> Tag

@@ -1,4 +1,3 @@
-use Rattle.std.proofs.Common.{arith}
 use Rattle.ts_validate.proofs.Tours.{match_none, match_some}
 use Rattle.ts_validate.proofs.Verdict.{closed_is, refusal_is}
 use Rattle.ts_validate.proofs.closure.check.Goals as goal

@@ -1,5 +1,5 @@
-use Rattle.std.proofs.Common.{arith, ◌≡◌, ◌≤◌, ◌<◌, length, ap, ◌∙◌}
-use Rattle.ts_validate.specs.Reaches.{against, AllMeetBelow}
+use Rattle.std.proofs.Common.{arith, length, ap}
+use Rattle.ts_validate.specs.Reaches.{against}
 use Rattle.ts_validate.proofs.Failing.{meet_on, failure_is, meet_down}
 use Rattle.ts_validate.proofs.failure.first_failure.Goals as goal
 

@@ -1,4 +1,4 @@
-use Rattle.std.proofs.Common.{refl, rules}
+use Rattle.std.proofs.Common.{refl}
 use Rattle.ts_model.proofs.CellLaws.{set_one, kept_one}
 use Rattle.ts_model.proofs.cells.Cells.set_one.Goals as goal
 

@@ -1,4 +1,4 @@
-use Rattle.std.proofs.Common.{sym, ◌∙◌, arith}
+use Rattle.std.proofs.Common.{arith}
 use Rattle.ts_validate.specs.Reaches.{against}
 use Rattle.ts_validate.proofs.Tours.{seen_first, follows_old, follows_new, add_reached}
 use Rattle.ts_validate.proofs.arrival.Tour.expand.Goals as goal
