@@ -1,37 +1,21 @@
 -- What is found by its name, where no two names are the same.
-use Rattle.std.proofs.Common.{◌≡◌, ◌↔◌, List, [], ◌∷◌, ℕ, Bool, true, false, cond, Option, None, Some, refl, sym, subst}
+use Rattle.std.proofs.Common.{◌≡◌, ◌↔◌, List, [], ◌∷◌, ℕ, Option, None, Some, refl, sym}
 use Rattle.std.specs.List.{find}
 use Rattle.std.specs.Str.{bytes_eq}
-use Rattle.std.proofs.lemmas.Slice.Eq.{bytes_eq-Decides}
 use Rattle.ts_pattern.specs.declared.name.Aggregator.{Aggregator}
 use Rattle.ts_pattern.specs.declared.name.Aggregator.TheVariants.{Sum, Max, Min}
 use Rattle.ts_pattern.specs.declared.name.Feature.{Feature}
 use Rattle.ts_pattern.specs.declared.name.Feature.TheVariants.{One, Width, Surf, Max as MaxFeature, Min as MinFeature}
 use Rattle.ts_pattern.specs.declared.name.PatternId.{PatternId}
 use Rattle.ts_pattern.specs.Names.{aggregator_name, feature_name, pattern_name}
-use Rattle.ts_pattern.proofs.Names.{found_name}
+use Rattle.ts_pattern.proofs.Names.{found_name, found_by_name}
 use Rattle.ts_model.specs.Words.{aggregator_of, feature_of, pattern_of}
-
--- what is found passes the test
-found_passes : {A : Type 0} (p : A → Bool) (xs : List A) (x : A) → find p xs ≡ Some x → p x ≡ true
-found_passes p [] x h = cc
-found_passes p (y ∷ ys) x h =
-    elim (p y) as (λ b. p y ≡ b → cond b (Some y) (find p ys) ≡ Some x → p x ≡ true) [
-      | true ↦ λ q e. let same : y ≡ x = cc in subst (λ z. p z ≡ true) same q
-      | false ↦ λ q e. found_passes p ys x e
-    ] refl h
 
 -- two options of which the same is known are one
 same_by : {A : Type 0} (P : A → Type 0) (r s : Option A) → ((x : A) → (r ≡ Some x) ↔ P x) → ((x : A) → (s ≡ Some x) ↔ P x) → r ≡ s
 same_by P None None f g = refl
 same_by P (Some x) s f g = sym ((g x).1 ((f x).0 refl))
 same_by P None (Some y) f g = (f y).1 ((g y).0 refl)
-
-found : {A : Type 0} (name : A → List ℕ) (all : List A) → ((x : A) → find (λ y. bytes_eq (name y) (name x)) all ≡ Some x) → (word : List ℕ) (x : A) → (find (λ y. bytes_eq (name y) word) all ≡ Some x) ↔ (name x ≡ word)
-found name all own word x = (
-  λ h. (bytes_eq-Decides (name x) word).0 (found_passes (λ y. bytes_eq (name y) word) all x h),
-  λ h. subst (λ w. find (λ y. bytes_eq (name y) w) all ≡ Some x) h (own x),
-)
 
 own_aggregator : (x : Aggregator) → find (λ y. bytes_eq (aggregator_name y) (aggregator_name x)) (Sum ∷ Max ∷ Min ∷ []) ≡ Some x
 own_aggregator Sum = refl
@@ -47,11 +31,11 @@ own_feature MinFeature = refl
 
 pub aggregator_is : (word : List ℕ) (r : Option Aggregator) → ((x : Aggregator) → (r ≡ Some x) ↔ (aggregator_name x ≡ word)) → r ≡ aggregator_of word
 unfolding aggregator_of
-aggregator_is word r h = same_by (λ x. aggregator_name x ≡ word) r _ h (found aggregator_name (Sum ∷ Max ∷ Min ∷ []) own_aggregator word)
+aggregator_is word r h = same_by (λ x. aggregator_name x ≡ word) r _ h (found_by_name aggregator_name (Sum ∷ Max ∷ Min ∷ []) own_aggregator word)
 
 pub feature_is : (word : List ℕ) (r : Option Feature) → ((x : Feature) → (r ≡ Some x) ↔ (feature_name x ≡ word)) → r ≡ feature_of word
 unfolding feature_of
-feature_is word r h = same_by (λ x. feature_name x ≡ word) r _ h (found feature_name (One ∷ Width ∷ Surf ∷ MaxFeature ∷ MinFeature ∷ []) own_feature word)
+feature_is word r h = same_by (λ x. feature_name x ≡ word) r _ h (found_by_name feature_name (One ∷ Width ∷ Surf ∷ MaxFeature ∷ MinFeature ∷ []) own_feature word)
 
 pub pattern_is : (word : List ℕ) (r : Option PatternId) → ((x : PatternId) → (r ≡ Some x) ↔ (pattern_name x ≡ word)) → r ≡ pattern_of word
 unfolding pattern_of

@@ -5,6 +5,7 @@ use Rattle.ts_token.specs.Text.{Row, Cut}
 use Rattle.ts_token.specs.Number.{number_of}
 use Rattle.ts_model.specs.declared.error.SeriesStop.{SeriesStop}
 use Rattle.ts_model.specs.declared.error.SeriesStop.TheVariants.{Shape, Number, Length, Memory}
+use Rattle.ts_model.specs.Words.{onto}
 use Rattle.ts_model.specs.Stated.{is_value}
 use Rattle.ts_model.specs.ModelReading.{texts_of}
 
@@ -19,15 +20,10 @@ within (Some v) = if is_value v then Some v else None
 unfoldable pub value_of : List ℕ → Option ℤ
 value_of word = within (number_of word)
 
-abbrev pub onto_values : Option ℤ → Option (List ℤ) → Option (List ℤ)
-onto_values None rest = None
-onto_values (Some v) None = None
-onto_values (Some v) (Some vs) = Some (v ∷ vs)
-
 -- the numbers that the words are, if each is one
 abbrev pub values_of : List (List ℕ) → Option (List ℤ)
 values_of [] = Some []
-values_of (word ∷ words) = onto_values (value_of word) (values_of words)
+values_of (word ∷ words) = onto (value_of word) (values_of words)
 
 -- the words after `series`, if this is the one line
 abbrev pub after_series : List (List ℕ) → Option (List (List ℕ))

@@ -85,15 +85,16 @@ range_cut word (Some n) =
 unfoldable pub range_of : List ℕ → Option Interval
 range_of word = range_cut word (position is_dot word)
 
-abbrev pub onto_ranges : Option Interval → Option (List Interval) → Option (List Interval)
-onto_ranges None rest = None
-onto_ranges (Some r) None = None
-onto_ranges (Some r) (Some rs) = Some (r ∷ rs)
+-- one more in front, if it and all others are there
+abbrev pub onto : {A : Type 0} → Option A → Option (List A) → Option (List A)
+onto None rest = None
+onto (Some x) None = None
+onto (Some x) (Some xs) = Some (x ∷ xs)
 
 -- the ranges that the words are, if each is one
 abbrev pub ranges_of : List (List ℕ) → Option (List Interval)
 ranges_of [] = Some []
-ranges_of (word ∷ words) = onto_ranges (range_of word) (ranges_of words)
+ranges_of (word ∷ words) = onto (range_of word) (ranges_of words)
 
 -- the name of the table that the word is
 

@@ -1,11 +1,10 @@
 -- The list of all occurrences is the one list that stands in the relation.
-use Rattle.std.specs.Prelude.{◌≡◌, ◌⊎◌, ℕ, zero, suc, ◌+◌, ◌-◌, ◌==◌, ◌<◌, ◌≤◌, nat_le, Bool, true, false, cond, not, ◌&&◌, ◌||◌, List, [], ◌∷◌, ◌++◌, map, length, slice_range, refl}
+use Rattle.std.specs.Prelude.{◌≡◌, ◌⊎◌, ℕ, zero, suc, ◌+◌, ◌==◌, ◌<◌, ◌≤◌, nat_le, Bool, true, false, cond, not, ◌&&◌, ◌||◌, List, [], ◌∷◌, ◌++◌, map, length, slice_range, refl}
 use Rattle.std.specs.List.{filter, list_all}
 use Rattle.std.proofs.Common.{sym, ◌∙◌, ap, subst, inl, inr, arith, ⊎_elim}
 use Rattle.ts_base.specs.declared.letter.Letter.{Letter}
 use Rattle.ts_base.specs.declared.range.Range.{Range}
 use Rattle.ts_regex.specs.Shape.{Shape}
-use Rattle.ts_regex.specs.Language.{InLanguage}
 use Rattle.ts_regex.specs.Membership.{is_word}
 use Rattle.ts_regex.proofs.Laws.{is_word_to, is_word_back}
 use Rattle.ts_pattern.specs.Occurrences.{IsMatch, IsOccurrence}
@@ -14,7 +13,8 @@ use Rattle.ts_pattern.specs.OccurrenceList.{Place, RisingPlaces, IsPlace, AreOcc
 use Rattle.ts_pattern.specs.AllOccurrences.{places_from, places_after, match_places, is_not_wider, occurrence_places, occurrence_ranges}
 use Rattle.ts_pattern.proofs.Entries.{each_filter}
 use Rattle.ts_pattern.proofs.LiveEntries.{one_left, one_right}
-use Rattle.ts_pattern.proofs.Places.{place_is, each_map, each_both, each_left, each_right, same_start_same, occurrences_unique}
+use Rattle.ts_pattern.proofs.Ends.{each_and}
+use Rattle.ts_pattern.proofs.Places.{place_is, each_map, same_start_same, occurrences_unique}
 
 same_number : (a b : ℕ) → a == b ≡ true → a ≡ b
 same_number a b h = grind arith
@@ -130,7 +130,7 @@ each_match p w =
     each_map (λ x. ((x.start < x.end) × (x.end ≤ length w)) × (is_word p (slice_range w x.start x.end) ≡ true)) (λ x. IsMatch p w x.start x.end)
     (λ x h. record { some = h.0.0; inside = h.0.1; word = is_word_to p (slice_range w x.start x.end) h.1 })
     (filter (λ x. is_word p (slice_range w x.start x.end)) (places_after 0 (length w)))
-    (each_both (λ x. (x.start < x.end) × (x.end ≤ length w)) (λ x. is_word p (slice_range w x.start x.end) ≡ true) (filter (λ x. is_word p (slice_range w x.start x.end)) (places_after 0 (length w)))
+    (each_and (λ x. (x.start < x.end) × (x.end ≤ length w)) (λ x. is_word p (slice_range w x.start x.end) ≡ true) (filter (λ x. is_word p (slice_range w x.start x.end)) (places_after 0 (length w)))
     (each_filter (λ x. (x.start < x.end) × (x.end ≤ length w)) (λ x. is_word p (slice_range w x.start x.end)) (places_after 0 (length w)) (after_inside 0 (length w) (length w) (omega arith)))
     (each_passes (λ x. is_word p (slice_range w x.start x.end)) (places_after 0 (length w))))
 
@@ -184,7 +184,7 @@ each_occurrence p w =
           a b;
     })
     (filter (λ x. list_all (is_not_wider x) (match_places p w)) (match_places p w))
-    (each_both (λ x. IsMatch p w x.start x.end) (λ x. list_all (is_not_wider x) (match_places p w) ≡ true)
+    (each_and (λ x. IsMatch p w x.start x.end) (λ x. list_all (is_not_wider x) (match_places p w) ≡ true)
     (filter (λ x. list_all (is_not_wider x) (match_places p w)) (match_places p w))
     (each_filter (λ x. IsMatch p w x.start x.end) (λ x. list_all (is_not_wider x) (match_places p w)) (match_places p w) (each_match p w))
     (each_passes (λ x. list_all (is_not_wider x) (match_places p w)) (match_places p w)))
@@ -212,7 +212,7 @@ rising_ordered p w low (x ∷ xs) l h o = (
   l.0,
   rising_ordered p w (x.start + 1) xs
       (each_map (λ y. After x y × IsOccurrence p w y.start y.end) (λ y. x.start + 1 ≤ y.start) (λ y k. later x y o.0 k.1 k.0) xs
-      (each_both (After x) (λ y. IsOccurrence p w y.start y.end) xs h.0 o.1))
+      (each_and (After x) (λ y. IsOccurrence p w y.start y.end) xs h.0 o.1))
       h.1 o.1,
 )
   where

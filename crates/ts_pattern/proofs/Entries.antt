@@ -1,6 +1,6 @@
 -- What becomes of entries at a letter, for any language and any tag: what holds of each entry holds of each that is
 -- kept, the starts keep rising, and no entry with a word is lost to one that starts later.
-use Rattle.std.specs.Prelude.{◌≡◌, ◌⊎◌, ℕ, ◌+◌, ◌<◌, ◌≤◌, Bool, true, false, cond, not, List, [], ◌∷◌, refl}
+use Rattle.std.specs.Prelude.{◌≡◌, ◌⊎◌, ℕ, ◌+◌, ◌≤◌, Bool, true, false, cond, not, List, [], ◌∷◌, refl}
 use Rattle.std.specs.List.{filter}
 use Rattle.std.proofs.Common.{sym, subst, inl, inr, arith, ⊎_elim}
 use Rattle.ts_base.specs.declared.letter.Letter.{Letter}

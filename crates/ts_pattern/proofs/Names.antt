@@ -1,8 +1,8 @@
 -- A word is found in the table of names exactly where it is a name.
-use Rattle.std.specs.Prelude.{◌≡◌, ◌↔◌, List, [], ◌∷◌, ℕ, Bool, true, false, cond, Option, None, Some, refl}
+use Rattle.std.specs.Prelude.{◌≡◌, ◌↔◌, List, [], ◌∷◌, ℕ, Bool, true, false, cond, Some, refl}
 use Rattle.std.specs.List.{find}
 use Rattle.std.specs.Str.{bytes_eq}
-use Rattle.std.proofs.Common.{sym, ◌∙◌, ap, subst}
+use Rattle.std.proofs.Common.{subst}
 use Rattle.std.proofs.lemmas.Slice.Eq.{bytes_eq-Decides}
 use Rattle.ts_pattern.specs.Names.{pattern_name, all_patterns}
 use Rattle.ts_pattern.specs.declared.name.PatternId.{PatternId}
@@ -42,8 +42,12 @@ own_name Zigzag = refl
 own_name DipOnIncreasingSequence = refl
 own_name BumpOnDecreasingSequence = refl
 
-pub found_name : (word : List ℕ) (id : PatternId) → (find (λ x. bytes_eq (pattern_name x) word) all_patterns ≡ Some id) ↔ (pattern_name id ≡ word)
-found_name word id = (
-  λ h. (bytes_eq-Decides (pattern_name id) word).0 (found_passes (λ x. bytes_eq (pattern_name x) word) all_patterns id h),
-  λ h. subst (λ w. find (λ x. bytes_eq (pattern_name x) w) all_patterns ≡ Some id) h (own_name id),
+-- what a search by name finds has that name, where each finds itself by its own
+pub found_by_name : {A : Type 0} (name : A → List ℕ) (all : List A) → ((x : A) → find (λ y. bytes_eq (name y) (name x)) all ≡ Some x) → (word : List ℕ) (x : A) → (find (λ y. bytes_eq (name y) word) all ≡ Some x) ↔ (name x ≡ word)
+found_by_name name all own word x = (
+  λ h. (bytes_eq-Decides (name x) word).0 (found_passes (λ y. bytes_eq (name y) word) all x h),
+  λ h. subst (λ w. find (λ y. bytes_eq (name y) w) all ≡ Some x) h (own x),
 )
+
+pub found_name : (word : List ℕ) (id : PatternId) → (find (λ x. bytes_eq (pattern_name x) word) all_patterns ≡ Some id) ↔ (pattern_name id ≡ word)
+found_name word id = found_by_name pattern_name all_patterns own_name word id

@@ -8,14 +8,11 @@ use Rattle.ts_pattern.specs.Occurrences.{IsOccurrence}
 use Rattle.ts_pattern.specs.OccurrenceList.{Place, RisingPlaces, IsPlace, AreOccurrences}
 use Rattle.ts_pattern.proofs.OneLetter.{NoneEnds, IsLeastStart, none_up, none_down, some_last, some_up, some_down}
 use Rattle.ts_pattern.proofs.LiveEntries.{each_push, one_left, one_right}
+use Rattle.ts_pattern.proofs.Ends.{each_and}
 
 pub each_map : {A : Type 0} (p q : A → Type 0) → ((x : A) → p x → q x) → (es : List A) → Each p es → Each q es
 each_map p q f [] h = tt
 each_map p q f (x ∷ es) h = (f x h.0, each_map p q f es h.1)
-
-pub each_both : {A : Type 0} (p q : A → Type 0) (es : List A) → Each p es → Each q es → Each (λ x. p x × q x) es
-each_both p q [] h k = tt
-each_both p q (x ∷ es) h k = ((h.0, k.0), each_both p q es h.1 k.1)
 
 pub each_left : {A : Type 0} (p : A → Type 0) (es fs : List A) → Each p (es ++ fs) → Each p es
 each_left p [] fs h = tt
@@ -60,7 +57,7 @@ occurrences_some p w l m old rest k h b c =
       rising = rising_to 0 m (length w + 1) old (rising_left 0 old rest h.rising) (omega arith) b;
       each = each_push (λ x. IsOccurrence p (w ++ l ∷ []) x.start x.end) old (record { start = m; end = length w + 1 })
           (each_map (λ x. (x.start < m) × IsOccurrence p w x.start x.end) (λ x. IsOccurrence p (w ++ l ∷ []) x.start x.end) (λ x o. some_up p w l m k x.start x.end o.0 o.1) old
-          (each_both (λ x. x.start < m) (λ x. IsOccurrence p w x.start x.end) old b (each_left (λ x. IsOccurrence p w x.start x.end) old rest h.each)))
+          (each_and (λ x. x.start < m) (λ x. IsOccurrence p w x.start x.end) old b (each_left (λ x. IsOccurrence p w x.start x.end) old rest h.each)))
           (some_last p w l m k);
       all = λ s e o. ⊎_elim
           (λ q. one_right (IsPlace s e) old (record { start = m; end = length w + 1 } ∷ []) (inl (sym q.0, sym q.1)))

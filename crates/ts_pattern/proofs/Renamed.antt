@@ -1,8 +1,8 @@
 -- The step of entries asks for nothing but what their residuals' tests say: it goes through a change of the marks and
 -- of the residuals that keeps the tests' answers.
-use Rattle.std.specs.Prelude.{◌≡◌, Bool, true, false, cond, not, ◌&&◌, ◌||◌, List, [], ◌∷◌, ◌++◌, map, refl}
-use Rattle.std.specs.List.{filter, list_all, list_any}
-use Rattle.std.proofs.Common.{sym, ◌∙◌, ap}
+use Rattle.std.specs.Prelude.{◌≡◌, Bool, true, false, cond, not, ◌&&◌, ◌||◌, List, [], ◌∷◌, map, refl}
+use Rattle.std.specs.List.{list_any}
+use Rattle.std.proofs.Common.{◌∙◌, ap}
 use Rattle.ts_base.specs.declared.letter.Letter.{Letter}
 use Rattle.ts_base.specs.declared.range.Kind.{Kind}
 use Rattle.ts_transducer.specs.declared.row.Phase.{Phase}
@@ -11,7 +11,7 @@ use Rattle.ts_pattern.specs.declared.plan.Tag.{Tag}
 use Rattle.ts_pattern.specs.EachOf.{Each}
 use Rattle.ts_pattern.specs.Entries.{Entry, Residuals, derive_entry, derived, alive, without, keep, survivors}
 use Rattle.ts_pattern.specs.Closed.{is_due, is_ind, is_inc, tag_after, no_ind, retag, implies, is_find, is_match, is_found_e, is_out_a, is_maybe_b, first_passes, acceptance_agrees, find_starts_right, early_find_ends, held_start_first, pending_keeps_start, entries_agree}
-use Rattle.ts_pattern.proofs.Entries.{each_filter, each_keep}
+use Rattle.ts_pattern.proofs.Entries.{each_keep}
 
 abbrev pub renamed : {X Y R S T : Type 0} → (X → Y) → (R → S) → Entry X R T → Entry Y S T
 renamed f g e = record { mark = f e.mark; residual = g e.residual; tag = e.tag }
@@ -80,10 +80,6 @@ retag_renamed f g p free (e ∷ es) = ap (λ z. record { mark = f e.mark; residu
 pub no_ind_renamed : {X Y R S : Type 0} (f : X → Y) (g : R → S) (es : List (Entry X R Tag)) → no_ind (map (λ e. renamed f g e) es) ≡ no_ind es
 no_ind_renamed f g [] = refl
 no_ind_renamed f g (e ∷ es) = ap (λ z. not (is_ind e.tag) && z) (no_ind_renamed f g es)
-
-pub map_append : {A B : Type 0} (f : A → B) (xs ys : List A) → map f (xs ++ ys) ≡ map f xs ++ map f ys
-map_append f [] ys = refl
-map_append f (x ∷ xs) ys = ap (λ z. f x ∷ z) (map_append f xs ys)
 
 any_renamed : {A B : Type 0} (p : A → Bool) (q : B → Bool) (h : A → B) (xs : List A) → Each (λ x. p x ≡ q (h x)) xs → list_any p xs ≡ list_any q (map h xs)
 any_renamed p q h [] e = refl

@@ -1,7 +1,6 @@
 -- What an e-range of a series is worth (Global Constraint Catalog, Volume II: features).
 use Rattle.std.specs.Prelude.{ℕ, ◌-◌, ◌≤◌, ℤ, pos, ◌+ℤ◌, List, [], ◌∷◌, length, slice_range, Option, None, Some}
 use Rattle.std.specs.List.{fold}
-use Rattle.std.specs.Option.{option_map_or}
 use Rattle.std.specs.Int.{int_max, int_min}
 use Rattle.ts_base.specs.declared.range.Range.{Range}
 use Rattle.ts_pattern.specs.declared.name.Feature.{Feature}

@@ -1,5 +1,5 @@
 -- Series within the limits: 1 to 512 cells, each from -1,000,000 to 1,000,000.
-use Rattle.std.specs.Prelude.{ℕ, ◌≤◌, ℤ, pos, neg_ℤ, ◌≤ℤ◌, List, length}
+use Rattle.std.specs.Prelude.{◌≤◌, ℤ, pos, neg_ℤ, ◌≤ℤ◌, List, length}
 use Rattle.std.specs.List.{All}
 
 abbrev pub IsCell : ℤ → Type 0

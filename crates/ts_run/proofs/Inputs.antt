@@ -14,7 +14,8 @@ use Rattle.ts_token.specs.Number.{number_of}
 use Rattle.ts_token.specs.Halves.{chunks, joined, is_separator, Halves, after_front, halves, halves_of}
 use Rattle.ts_model.specs.declared.error.SeriesStop.TheVariants.{Length}
 use Rattle.ts_model.specs.Stated.{is_value}
-use Rattle.ts_model.specs.Series.{within, value_of, onto_values, values_of, numbers_give, words_give, series_words, series_reading}
+use Rattle.ts_model.specs.Words.{onto}
+use Rattle.ts_model.specs.Series.{within, value_of, values_of, numbers_give, words_give, series_words, series_reading}
 
 joined_onto : (b : ℕ) (cs : List (List ℕ)) → joined (onto_line b cs) ≡ b ∷ joined cs
 joined_onto b [] = refl
@@ -72,7 +73,7 @@ unfolding value_of
 word_cell word x e = within_cell (number_of word) x e
 
 more_cells : (first : Option ℤ) (rest : Option (List ℤ)) (xs : List ℤ) → ((x : ℤ) → first ≡ Some x → IsCell x) →
-    ((ys : List ℤ) → rest ≡ Some ys → AllByRecursion IsCell ys) → onto_values first rest ≡ Some xs → AllByRecursion IsCell xs
+    ((ys : List ℤ) → rest ≡ Some ys → AllByRecursion IsCell ys) → onto first rest ≡ Some xs → AllByRecursion IsCell xs
 more_cells None rest xs f r e = cc
 more_cells (Some x) None xs f r e = cc
 more_cells (Some x) (Some ys) xs f r e = let same : x ∷ ys ≡ xs = cc in subst (λ (z : List ℤ). AllByRecursion IsCell z) same (f x refl, r ys refl)

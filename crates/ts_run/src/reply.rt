@@ -1,4 +1,4 @@
-//! What a command answers: a text, and the status with which the call ends once it is written.
+//! What a command answers.
 
 use crate::status::Status;
 

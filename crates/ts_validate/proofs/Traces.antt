@@ -21,8 +21,8 @@ use Rattle.ts_pattern.specs.Entries.{Entry, Residuals, survivors}
 use Rattle.ts_pattern.specs.Closed.{tag_after, is_ind, first_tag, no_ind, retag, appended, is_match, is_find}
 use Rattle.ts_pattern.proofs.Entries.{Rising, AreRight, Covers}
 use Rattle.ts_pattern.proofs.LiveEntries.{each_push, one_left, Follows, AreLive, each_survivor}
-use Rattle.ts_pattern.proofs.Ends.{rising_each, Accepts}
-use Rattle.ts_pattern.proofs.Places.{each_map, each_both, each_left}
+use Rattle.ts_pattern.proofs.Ends.{rising_each, Accepts, each_and}
+use Rattle.ts_pattern.proofs.Places.{each_map, each_left}
 use Rattle.ts_validate.proofs.Keeps.{first_of, held_range, first_mark, done_after, pair_after, KindHolds, TagHolds}
 
 abbrev pub IsShort : {X : Type 0} → Entry X Shape Tag → Type 0
@@ -139,7 +139,7 @@ early_before p p0 a b w t h =
     let occ = each_left (λ x. IsOccurrence p w x.start x.end) t.done (listed t.pair) h.places.each in
     each_map (λ x. Each (After x.start) t.live × IsOccurrence p w x.start x.end) (λ x. Each (After x.start) (appended (length w) p0 b t.live))
     (λ x q. each_push (After x.start) t.live (record { mark = length w; residual = p0; tag = first_tag b }) q.0 (λ l v y. let i = q.1.is.some in let j = q.1.is.inside in omega arith))
-    t.done (each_both (λ x. Each (After x.start) t.live) (λ x. IsOccurrence p w x.start x.end) t.done h.early occ)
+    t.done (each_and (λ x. Each (After x.start) t.live) (λ x. IsOccurrence p w x.start x.end) t.done h.early occ)
 
 -- each pair that is done starts before each survivor with a word
 pub strictly_after : (t : Residuals Shape) → AreRight t → (l : Letter) (before : List (Entry ℕ Shape Tag)) (ps : List Place) → Each (λ x. Each (After x.start) before) ps → Each (λ x. Each (Strictly x.start) (survivors t l before)) ps
@@ -168,7 +168,7 @@ early_find f free (e ∷ es) r x = (
 pub early_release : (t : Residuals Shape) (f : Phase) (free : Bool) (l : Letter) (s : ℕ) (before : List (Entry ℕ Shape Tag)) → Each (λ e. (e.tag ≡ InC → ⊥) → s < e.mark) before → (OneOf (λ e. e.tag ≡ InC) (survivors t l before) → ⊥) → Each (After s) (retag f free (survivors t l before))
 early_release t f free l s before h g =
     each_retag f free (λ e. ((e.tag ≡ InC → ⊥) → s < e.mark) × (e.tag ≡ InC → ⊥)) (After s) (λ e q l' v y. q.0 q.1) (survivors t l before)
-    (each_both (λ e. (e.tag ≡ InC → ⊥) → s < e.mark) (λ e. e.tag ≡ InC → ⊥) (survivors t l before)
+    (each_and (λ e. (e.tag ≡ InC → ⊥) → s < e.mark) (λ e. e.tag ≡ InC → ⊥) (survivors t l before)
     (each_survivor t l (λ e. (e.tag ≡ InC → ⊥) → s < e.mark) (λ e. (e.tag ≡ InC → ⊥) → s < e.mark) (λ e q. q) before h)
     (not_one (survivors t l before) g))
   where
