@@ -5,7 +5,60 @@ use crate::{
     letter_of, push_ext, push_number, read_all, write_all,
 };
 use std::io;
+use std::process::Abort;
 use std::test::Fail;
+
+/// Two cells, and their letter.
+static LETTERS: [(i64, i64, Letter); 5] = [
+    (3, 1, Letter::Greater),
+    (1, 3, Letter::Less),
+    (2, 2, Letter::Equal),
+    (-1, 0, Letter::Less),
+    (i64::MAX, i64::MIN, Letter::Greater),
+];
+
+/// Two numbers, and their sum.
+static SUMS: [(Ext, Ext, Ext); 14] = [
+    (Ext::Int(7), Ext::Int(-5), Ext::Int(2)),
+    (Ext::NegInf, Ext::PosInf, Ext::NegInf),
+    (Ext::PosInf, Ext::NegInf, Ext::NegInf),
+    (Ext::NegInf, Ext::Int(5), Ext::NegInf),
+    (Ext::Int(5), Ext::NegInf, Ext::NegInf),
+    (Ext::PosInf, Ext::Int(-5), Ext::PosInf),
+    (Ext::Int(-5), Ext::PosInf, Ext::PosInf),
+    (Ext::Int(LARGE), Ext::Int(-1), Ext::Int(LARGE - 1)),
+    (Ext::Int(LARGE), Ext::Int(1), Ext::Int(LARGE)),
+    (Ext::Int(-LARGE), Ext::Int(-1), Ext::Int(-LARGE)),
+    (
+        Ext::Int(3 * LARGE),
+        Ext::Int(-2 * LARGE - 5),
+        Ext::Int(LARGE - 5),
+    ),
+    (Ext::Int(3 * LARGE), Ext::Int(0), Ext::Int(LARGE)),
+    (Ext::Int(i64::MAX), Ext::Int(i64::MAX), Ext::Int(LARGE)),
+    (Ext::Int(i64::MIN), Ext::Int(-1), Ext::Int(-LARGE)),
+];
+
+/// 10^17.
+const LARGE: i64 = 100_000_000_000_000_000;
+
+// Each table behind a function, so that the proof of the test doesn't read it.
+fn letters() -> &'static [(i64, i64, Letter)] {
+    &LETTERS
+}
+
+fn sums() -> &'static [(Ext, Ext, Ext)] {
+    &SUMS
+}
+
+fn expect_letters_and_sums(rt: &impl Abort) {
+    for (x, y, letter) in letters() {
+        assert_eq!(rt; letter_of(*x, *y), *letter, "{x} {y}");
+    }
+    for (a, b, sum) in sums() {
+        assert_eq!(rt; a.plus(*b), *sum, "{a:?} {b:?}");
+    }
+}
 
 #[test]
 fn calls_succeed(rt: HostRuntime) -> Result<(), Fail> {
@@ -16,7 +69,7 @@ fn calls_succeed(rt: HostRuntime) -> Result<(), Fail> {
     push_ext(&mut text, Ext::Int(7).plus(Ext::Int(-5)))?;
     push_ext(&mut text, Ext::PosInf)?;
     assert_eq!(rt; text.as_slice(), b"x -120-inf2+inf".as_slice());
-    assert_eq!(rt; letter_of(3, 1), Letter::Greater);
+    expect_letters_and_sums(&rt);
 
     let mut source = MemorySource::new(text, 4, vec![in alloc; 7]?);
     let mut into = [0; 3];
@@ -26,10 +79,11 @@ fn calls_succeed(rt: HostRuntime) -> Result<(), Fail> {
     assert_eq!(rt; rest.as_slice(), b"-inf2+inf".as_slice());
     assert_eq!(rt; source.read(&mut into), Err(Failed));
 
-    let mut sink = MemorySink::new(alloc, 4, vec![in alloc; 3]?);
+    let mut sink = MemorySink::new(alloc, 4, vec![in alloc; 3, 5]?);
     assert_eq!(rt; write_all(&mut sink, &rest), Err(Failed));
     assert_eq!(rt; sink.bytes(), b"-inf2+in".as_slice());
     assert_eq!(rt; sink.finish(), Ok(()));
+    assert_eq!(rt; sink.finish(), Err(Failed));
 
     let mut input = StdIn::new(rest.as_slice());
     assert_eq!(rt; input.read(&mut into), Ok(3));

@@ -9,23 +9,25 @@ use std::alloc::Global;
 use std::process::Abort;
 use std::test::Fail;
 
-/// Low ends, high ends, and the ranges of the union; none where it is refused.
-static UNIONS: [(&[i64], &[i64], &[(i64, i64)]); 12] = [
-    (&[5], &[4], &[]),
-    (&[], &[], &[]),
-    (&[0, 9, 3], &[2, 8, 4], &[]),
-    (&[3], &[3], &[(3, 3)]),
-    (&[1, 3], &[4, 6], &[(1, 6)]),
-    (&[4, 1], &[6, 3], &[(1, 6)]),
-    (&[5, 1], &[6, 3], &[(1, 3), (5, 6)]),
-    (&[1, 2], &[9, 3], &[(1, 9)]),
-    (&[2, 2], &[5, 5], &[(2, 5)]),
-    (&[7, -3, 0], &[9, -1, 0], &[(-3, 0), (7, 9)]),
-    (&[1, 5, 2, 8], &[1, 6, 3, 8], &[(1, 3), (5, 6), (8, 8)]),
+/// Low ends, high ends, the ranges of the union, and how many numbers it has; none where it is refused.
+static UNIONS: [(&[i64], &[i64], &[(i64, i64)], u64); 13] = [
+    (&[5], &[4], &[], 0),
+    (&[], &[], &[], 0),
+    (&[0, 9, 3], &[2, 8, 4], &[], 0),
+    (&[3], &[3], &[(3, 3)], 1),
+    (&[3], &[4], &[(3, 4)], 2),
+    (&[1, 3], &[4, 6], &[(1, 6)], 6),
+    (&[4, 1], &[6, 3], &[(1, 6)], 6),
+    (&[5, 1], &[6, 3], &[(1, 3), (5, 6)], 5),
+    (&[1, 2], &[9, 3], &[(1, 9)], 9),
+    (&[2, 2], &[5, 5], &[(2, 5)], 4),
+    (&[7, -3, 0], &[9, -1, 0], &[(-3, 0), (7, 9)], 7),
+    (&[1, 5, 2, 8], &[1, 6, 3, 8], &[(1, 3), (5, 6), (8, 8)], 6),
     (
         &[999_999, -1_000_000],
         &[1_000_000, -1_000_000],
         &[(-1_000_000, -1_000_000), (999_999, 1_000_000)],
+        3,
     ),
 ];
 
@@ -50,7 +52,7 @@ static CHANGES: [(Keep, i64, &[(i64, i64)]); 16] = [
 ];
 
 // Each table behind a function, so that the proof of the test doesn't read it.
-fn unions() -> &'static [(&'static [i64], &'static [i64], &'static [(i64, i64)])] {
+fn unions() -> &'static [(&'static [i64], &'static [i64], &'static [(i64, i64)], u64)] {
     &UNIONS
 }
 
@@ -87,42 +89,88 @@ fn expect_ranges(rt: &impl Abort, domain: &Domain, wanted: &[(i64, i64)]) {
     }
 }
 
-fn change(rt: &impl Abort, cells: &mut Boxed, keep: Keep, stays: i64) -> Result<(), Fail> {
-    assert!(rt; cells.cells() == 2);
-    assert!(rt; cells.cell(2).contains(stays));
+/// The set has these ranges, so many numbers, and the ends of the ranges as its first and last number.
+fn expect_union(rt: &impl Abort, domain: &Domain, wanted: &[(i64, i64)], count: u64) {
+    expect_ranges(rt, domain, wanted);
+    let size = domain.size();
+    assert_eq!(rt; size, count);
+    assert_eq!(rt; domain.is_single(), count == 1);
+    assert!(rt; 0 < size);
+    let (first, last) = (domain.nth(0), domain.nth(size - 1));
+    assert_eq!(rt; wanted.first().map(|range| range.0), Some(first));
+    assert_eq!(rt; wanted.last().map(|range| range.1), Some(last));
+    assert!(rt; -2_000_000 < first && last < 2_000_000);
+    assert!(rt; !domain.contains(first - 1) && !domain.contains(last + 1));
+}
+
+/// Changes cell `k`, where the value `stays`.
+fn change(rt: &impl Abort, cells: &mut Boxed, k: u32, keep: Keep, stays: i64) -> Result<(), Fail> {
+    assert!(rt; 1 <= k && k <= cells.cells());
+    assert!(rt; cells.cell(k).contains(stays));
     match keep {
         Keep::UpTo(t) => {
             assert!(rt; stays <= t);
-            cells.keep_low(2, t)?;
+            cells.keep_low(k, t)?;
         }
         Keep::Above(t) => {
             assert!(rt; t < stays);
-            cells.keep_high(2, t)?;
+            cells.keep_high(k, t)?;
         }
         Keep::AllBut(gone) => {
             assert!(rt; stays != gone);
-            cells.remove(2, gone)?;
+            cells.remove(k, gone)?;
         }
     }
     Ok(())
 }
 
-fn expect_cell(rt: &impl Abort, cells: &Boxed, wanted: &[(i64, i64)]) {
+fn expect_cells(rt: &impl Abort, cells: &Boxed, first: &[(i64, i64)], second: &[(i64, i64)]) {
     assert!(rt; cells.cells() == 2);
-    expect_ranges(rt, cells.cell(2), wanted);
+    expect_ranges(rt, cells.cell(1), first);
+    expect_ranges(rt, cells.cell(2), second);
 }
 
 fn back(rt: &impl Abort, cells: &mut Boxed, mark: usize) {
     assert!(rt; mark <= cells.mark());
     cells.undo(mark);
+    assert_eq!(rt; cells.mark(), mark);
+}
+
+fn changes_and_ways_back(rt: &impl Abort, cells: &mut Boxed) -> Result<(), Fail> {
+    let both = [(3, 3), (5, 5)];
+    let whole = [(0, 4), (7, 9), (12, 12)];
+    for (keep, stays, wanted) in changes() {
+        let mark = cells.mark();
+        change(rt, cells, 2, *keep, *stays)?;
+        expect_cells(rt, cells, &both, wanted);
+        back(rt, cells, mark);
+        expect_cells(rt, cells, &both, &whole);
+    }
+    change(rt, cells, 2, Keep::UpTo(8), 3)?;
+    change(rt, cells, 1, Keep::AllBut(3), 5)?;
+    change(rt, cells, 2, Keep::AllBut(3), 1)?;
+    let mark = cells.mark();
+    change(rt, cells, 2, Keep::Above(2), 4)?;
+    change(rt, cells, 1, Keep::UpTo(5), 5)?;
+    change(rt, cells, 2, Keep::Above(7), 8)?;
+    expect_cells(rt, cells, &[(5, 5)], &[(8, 8)]);
+    for _ in 0..2 {
+        back(rt, cells, mark);
+        expect_cells(rt, cells, &[(5, 5)], &[(0, 2), (4, 4), (7, 8)]);
+    }
+    back(rt, cells, 1);
+    expect_cells(rt, cells, &both, &[(0, 4), (7, 8)]);
+    back(rt, cells, 0);
+    expect_cells(rt, cells, &both, &whole);
+    Ok(())
 }
 
 #[test]
 fn unions_changes_and_ways_back(rt: HostRuntime) -> Result<(), Fail> {
     let alloc = rt.alloc();
-    for (lows, highs, wanted) in unions() {
+    for (lows, highs, wanted, count) in unions() {
         match union(&rt, alloc, lows, highs) {
-            Ok(domain) => expect_ranges(&rt, &domain, wanted),
+            Ok(domain) => expect_union(&rt, &domain, wanted, *count),
             Err(stop) => {
                 assert_eq!(rt; stop, DomainStop::Empty);
                 assert!(rt; wanted.is_empty());
@@ -134,24 +182,7 @@ fn unions_changes_and_ways_back(rt: HostRuntime) -> Result<(), Fail> {
     assert!(rt; 5 < numbers.size());
     assert_eq!(rt; numbers.nth(5), 7);
     assert!(rt; !numbers.contains(6) && !numbers.is_single());
-    let mut cells = Boxed::new(alloc, &[union(&rt, alloc, &[3], &[3])?, numbers])?;
-    let whole = [(0, 4), (7, 9), (12, 12)];
-    for (keep, stays, wanted) in changes() {
-        let mark = cells.mark();
-        change(&rt, &mut cells, *keep, *stays)?;
-        expect_cell(&rt, &cells, wanted);
-        back(&rt, &mut cells, mark);
-        expect_cell(&rt, &cells, &whole);
-    }
-    change(&rt, &mut cells, Keep::UpTo(8), 3)?;
-    change(&rt, &mut cells, Keep::AllBut(3), 1)?;
-    let mark = cells.mark();
-    change(&rt, &mut cells, Keep::Above(2), 4)?;
-    change(&rt, &mut cells, Keep::Above(7), 8)?;
-    expect_cell(&rt, &cells, &[(8, 8)]);
-    back(&rt, &mut cells, mark);
-    expect_cell(&rt, &cells, &[(0, 2), (4, 4), (7, 8)]);
-    back(&rt, &mut cells, 0);
-    expect_cell(&rt, &cells, &whole);
-    Ok(())
+    let both = union(&rt, alloc, &[3, 5], &[3, 5])?;
+    let mut cells = Boxed::new(alloc, &[both, numbers])?;
+    changes_and_ways_back(&rt, &mut cells)
 }

@@ -2,13 +2,14 @@
 
 use crate::{Model, ModelStop, Need, Op, SeriesStop, read_model, read_series, satisfies};
 use std::alloc::Global;
+use std::cmp::Ordering;
 use std::process::Abort;
 use std::test::Fail;
 use ts_base::Ext;
 use ts_token::cut_tokens;
 
 /// A need, a text, and `ok` or the line and kind of its refusal.
-static MODELS: [(Need, &str, &str); 116] = [
+static MODELS: [(Need, &str, &str); 133] = [
     // taken
     (Need::Values, "cells 3\n", "ok"),
     (Need::Values, "# no\n\n \t\ncells 512", "ok"),
@@ -30,6 +31,7 @@ static MODELS: [(Need, &str, &str); 116] = [
         "cells 2\nterm count = count peak\nobjective count\n",
         "ok",
     ),
+    (Need::Values, "cells 2\nterm count = sum width peak\n", "ok"),
     (
         Need::Values,
         "cells 2\nterm a = sum one peak\nterm b = count peak\n",
@@ -99,6 +101,8 @@ static MODELS: [(Need, &str, &str); 116] = [
     (Need::Values, "term a : sum width peak\n", "1 Shape"),
     (Need::Values, "term A = sum width peak\n", "1 Shape"),
     (Need::Values, "term 1a = count peak\n", "1 Shape"),
+    (Need::Values, "term _a = count peak\n", "1 Shape"),
+    (Need::Values, "term a <= sum width peak\n", "1 Shape"),
     (Need::Values, "term a = count sum peak\n", "1 Shape"),
     (Need::Values, "term a = count\n", "1 Shape"),
     (
@@ -107,6 +111,8 @@ static MODELS: [(Need, &str, &str); 116] = [
         "1 Shape",
     ),
     (Need::Values, "require a => 1\n", "1 Shape"),
+    (Need::Values, "require a == 1\n", "1 Shape"),
+    (Need::Values, "require a <> 1\n", "1 Shape"),
     (Need::Values, "require a = 1 2\n", "1 Shape"),
     (Need::Values, "require a- = 1\n", "1 Shape"),
     (Need::Values, "objective\n", "1 Shape"),
@@ -120,6 +126,9 @@ static MODELS: [(Need, &str, &str); 116] = [
     (Need::Values, "domain 0 1.2\n", "1 Number"),
     (Need::Values, "domain 0..1..2\n", "1 Number"),
     (Need::Values, "domain ..1\n", "1 Number"),
+    (Need::Values, "domain 1..\n", "1 Number"),
+    (Need::Values, "cells 3\ncells x\n", "2 Number"),
+    (Need::Values, "cells 2\ncell 1..2 0\n", "2 Number"),
     (Need::Values, "cells 2\ncell 02 9..1\n", "2 Number"),
     (Need::Values, "cells 2\nrequire a = inf\n", "2 Number"),
     // no cells
@@ -130,15 +139,23 @@ static MODELS: [(Need, &str, &str); 116] = [
     (Need::Values, "domain 5..4\ncells 2\n", "1 NoCells"),
     (Need::Values, "cell 0 1\r\ncells 2\n", "1 NoCells"),
     (Need::Values, "term m = max one hill\n", "1 NoCells"),
+    (Need::Values, "term m = max one peak\n", "1 NoCells"),
+    (Need::Values, "domain 0..2000000\n", "1 NoCells"),
     (Need::Values, "require a = 1\n", "1 NoCells"),
     (Need::Values, "objective a\n", "1 NoCells"),
     // cells twice, cells out of range
     (Need::Values, "cells 3\ncells 3\n", "2 CellsTwice"),
     (Need::Values, "cells 3\n\ncells 0\n", "3 CellsTwice"),
+    (
+        Need::Values,
+        "cells 3\nterm a = count peak\ncells 3\n",
+        "3 CellsTwice",
+    ),
     (Need::Values, "cells 0\n", "1 CellRange"),
     (Need::Values, "cells 513\n", "1 CellRange"),
     (Need::Values, "cells -1\n", "1 CellRange"),
     (Need::Values, "cells 2\ncell 3 1\n", "2 CellRange"),
+    (Need::Values, "cells 2\ncell 3 2000000\n", "2 CellRange"),
     (Need::Values, "cells 2\ncell 0 5..4\n", "2 CellRange"),
     (
         Need::Values,
@@ -148,6 +165,7 @@ static MODELS: [(Need, &str, &str); 116] = [
     // empty ranges
     (Need::Values, "cells 3\ndomain 5..4\n", "2 Empty"),
     (Need::Values, "cells 3\ncell 2 0 1..0\n", "2 Empty"),
+    (Need::Values, "cells 3\ndomain 1..0 0\n", "2 Empty"),
     (Need::Values, "cells 3\ndomain 2000000..1\n", "2 Empty"),
     // unknown names, bad pairs
     (
@@ -168,6 +186,11 @@ static MODELS: [(Need, &str, &str); 116] = [
     (
         Need::Values,
         "cells 3\nterm m = count hill\n",
+        "2 UnknownName",
+    ),
+    (
+        Need::Values,
+        "cells 3\nterm m = sum count peak\n",
         "2 UnknownName",
     ),
     (
@@ -213,8 +236,23 @@ static MODELS: [(Need, &str, &str); 116] = [
     ),
     (
         Need::Values,
+        "cells 2\nterm a = count peak\nterm b = count plain\nterm b = count peak\n",
+        "4 TermTwice",
+    ),
+    (
+        Need::Values,
+        "cells 2\nterm a = count peak\nterm b = count plain\nrequire a = 1\nterm a = count zigzag\n",
+        "5 TermTwice",
+    ),
+    (
+        Need::Values,
         "cells 2\nterm a = count peak\nobjective a\nobjective a\n",
         "4 ObjectiveTwice",
+    ),
+    (
+        Need::Values,
+        "cells 2\nterm a = count peak\nterm b = count plain\nobjective a\nobjective b\n",
+        "5 ObjectiveTwice",
     ),
     (Need::Best, "cells 2\n", "2 NoObjective"),
     (
@@ -297,7 +335,7 @@ static MODELS: [(Need, &str, &str); 116] = [
 ];
 
 /// A text, a number of cells, and the answer.
-static SERIES: [(&str, u32, &str); 18] = [
+static SERIES: [(&str, u32, &str); 19] = [
     ("series 1 2\n", 2, "Ok([1, 2])"),
     (
         "# a\n\n\tseries  -1000000 1000000",
@@ -315,11 +353,46 @@ static SERIES: [(&str, u32, &str); 18] = [
     ("series 1 -1000001\n", 2, "Err(Number)"),
     ("row 1 2\n", 2, "Err(Shape)"),
     ("row x\n", 2, "Err(Shape)"),
+    ("series1 2 3\n", 2, "Err(Shape)"),
     ("", 2, "Err(Shape)"),
     ("# series 1 2\n", 2, "Err(Shape)"),
     ("series 1 2\nseries 1 2\n", 2, "Err(Shape)"),
     ("series 1 2\n\u{1}\n", 2, "Err(Shape)"),
     ("series 1 x\n# \u{1}\n", 2, "Err(Shape)"),
+];
+
+/// A model, and the ranges of each cell's domain.
+static DOMAINS: [(&str, &str); 7] = [
+    ("cells 2\n", "0..9 0..9 "),
+    ("cells 3\ncell 1 5\n", "5..5 0..9 0..9 "),
+    (
+        "cells 2\ncell 2 0 3..5 -7..-6 4\n",
+        "0..9 -7..-6,0..0,3..5 ",
+    ),
+    ("cells 3\ndomain 0..3\ncell 2 2..5\n", "0..3 2..5 0..3 "),
+    ("cells 2\ncell 1 5\ndomain 0 1\n", "0..1 0..1 "),
+    ("cells 2\ncell 1 5\ncell 1 2\n", "2..2 0..9 "),
+    ("cells 2\ndomain 0..3\ndomain 5..6\n", "5..6 5..6 "),
+];
+
+/// Values and bounds, each below those after it.
+static RISING: [Ext; 6] = [
+    Ext::NegInf,
+    Ext::Int(-1_000_000_000_000),
+    Ext::Int(-3),
+    Ext::Int(0),
+    Ext::Int(4),
+    Ext::PosInf,
+];
+
+/// A comparison, and whether it holds of a value below the bound, of the bound itself, and of a value above it.
+static COMPARISONS: [(Op, bool, bool, bool); 6] = [
+    (Op::Equal, false, true, false),
+    (Op::Unequal, true, false, true),
+    (Op::AtMost, true, true, false),
+    (Op::AtLeast, false, true, true),
+    (Op::Below, true, false, false),
+    (Op::Above, false, false, true),
 ];
 
 // Each table behind a function, so that the proof of the test doesn't read it.
@@ -329,6 +402,18 @@ fn models() -> &'static [(Need, &'static str, &'static str)] {
 
 fn series() -> &'static [(&'static str, u32, &'static str)] {
     &SERIES
+}
+
+fn domains() -> &'static [(&'static str, &'static str)] {
+    &DOMAINS
+}
+
+fn rising() -> &'static [Ext] {
+    &RISING
+}
+
+fn comparisons() -> &'static [(Op, bool, bool, bool)] {
+    &COMPARISONS
 }
 
 /// What is told of a model text.
@@ -358,7 +443,7 @@ fn many(alloc: Global, terms: usize, requirements: usize) -> Result<String, Fail
 /// The domains' sizes, the term numbers, and what else a model has, by one text.
 fn read_one(alloc: Global, rt: &impl Abort) -> Result<(), Fail> {
     let text =
-        "cells 3\ndomain 0..1\nterm w = sum width peak\nterm c = count peak\ncell 2 7 5..6 6\n\
+        "cells 3\ndomain 0..1\nterm w = sum width peak\nterm c = count peak\nterm a = max min valley\ncell 2 7 5..6 6\n\
                 require c <= -inf\nrequire w > 4\nobjective c\n";
     let tokens = cut_tokens(alloc, text.as_bytes())?;
     match read_model(alloc, &tokens, Need::Best) {
@@ -372,7 +457,7 @@ fn read_one(alloc: Global, rt: &impl Abort) -> Result<(), Fail> {
             );
             assert_eq!(rt;
                 format!(in alloc; "{:?}", model.terms)?.as_str(),
-                "{\"w\": Term { aggregator: Sum, feature: Width, pattern: Peak }, \"c\": Term { aggregator: Sum, feature: One, pattern: Peak }}"
+                "{\"w\": Term { aggregator: Sum, feature: Width, pattern: Peak }, \"c\": Term { aggregator: Sum, feature: One, pattern: Peak }, \"a\": Term { aggregator: Max, feature: Min, pattern: Valley }}"
             );
         }
         Err(_) => assert!(rt; false, "refused"),
@@ -388,14 +473,64 @@ fn sizes(alloc: Global, model: &Model) -> Result<Vec<u64>, Fail> {
     Ok(sizes)
 }
 
+/// The ranges of each cell's domain, a blank behind each cell.
+fn ranges(alloc: Global, model: &Model) -> Result<String, Fail> {
+    let mut text = String::new(alloc);
+    for cell in &model.cells {
+        let mut between = "";
+        for range in cell.ranges() {
+            text.push_str(&format!(in alloc; "{between}{}..{}", range.low, range.high)?)?;
+            between = ",";
+        }
+        text.push_str(" ")?;
+    }
+    Ok(text)
+}
+
+fn expect_domains(alloc: Global, rt: &impl Abort) -> Result<(), Fail> {
+    for (text, want) in domains() {
+        assert!(rt; text.len() < 1000);
+        match read_model(alloc, &cut_tokens(alloc, text.as_bytes())?, Need::Values) {
+            Ok(model) => assert_eq!(rt; ranges(alloc, &model)?.as_str(), *want, "{text}"),
+            Err(_) => assert!(rt; false, "refused {text}"),
+        }
+    }
+    Ok(())
+}
+
+fn expect_comparisons(rt: &impl Abort) {
+    for (op, below, same, above) in comparisons() {
+        for (place, bound) in rising().iter().enumerate() {
+            for (other, value) in rising().iter().enumerate() {
+                let want = match other.cmp(&place) {
+                    Ordering::Less => below,
+                    Ordering::Equal => same,
+                    Ordering::Greater => above,
+                };
+                assert_eq!(rt;
+                    satisfies(*op, *bound, *value),
+                    *want,
+                    "{value:?} {op:?} {bound:?}"
+                );
+            }
+        }
+    }
+}
+
 #[test]
 fn models_and_series(rt: HostRuntime) -> Result<(), Fail> {
     let alloc = rt.alloc();
     for (need, text, want) in models() {
         assert_eq!(rt; told(alloc, &rt, *need, text)?.as_str(), *want, "{text}");
     }
-    for (terms, requirements, want) in [(32, 64, "ok"), (33, 0, "34 Limit"), (1, 65, "67 Limit")] {
-        let text = many(alloc, terms, requirements)?;
+    for (terms, requirements, last, want) in [
+        (32, 64, "", "ok"),
+        (33, 0, "", "34 Limit"),
+        (1, 65, "", "67 Limit"),
+        (32, 0, "term t0 = count peak\n", "34 TermTwice"),
+    ] {
+        let mut text = many(alloc, terms, requirements)?;
+        text.push_str(last)?;
         assert_eq!(rt; told(alloc, &rt, Need::Values, &text)?.as_str(), want);
     }
     for (text, n, want) in series() {
@@ -405,18 +540,7 @@ fn models_and_series(rt: HostRuntime) -> Result<(), Fail> {
         assert_eq!(rt; format!(in alloc; "{found:?}")?.as_str(), *want, "{text}");
     }
     read_one(alloc, &rt)?;
-    for (op, below, same, above) in [
-        (Op::Equal, false, true, false),
-        (Op::Unequal, true, false, true),
-        (Op::AtMost, true, true, false),
-        (Op::AtLeast, false, true, true),
-        (Op::Below, true, false, false),
-        (Op::Above, false, false, true),
-    ] {
-        let bound = Ext::Int(-3);
-        assert_eq!(rt; satisfies(op, bound, Ext::NegInf), below);
-        assert_eq!(rt; satisfies(op, bound, Ext::Int(-3)), same);
-        assert_eq!(rt; satisfies(op, bound, Ext::PosInf), above);
-    }
+    expect_domains(alloc, &rt)?;
+    expect_comparisons(&rt);
     Ok(())
 }

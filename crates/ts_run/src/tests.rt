@@ -13,7 +13,7 @@ struct Case {
     status: Status,
 }
 
-static CASES: [Case; 34] = [
+static CASES: [Case; 35] = [
     Case {
         input: b"cells 7\ndomain 0..9\nterm w = sum width peak\n%%\nseries 1 3 3 2 2 1 4\n",
         taken: b"meets\nvalue w 4\n",
@@ -132,6 +132,11 @@ static CASES: [Case; 34] = [
     Case {
         input: b"cells 2\nterm m = min surf peak\nrequire m = +inf\nrequire m <= 1000000000000\n%%\nseries 1 1\n",
         taken: b"fails\nbroken 2\nvalue m +inf\n",
+        status: Status::No,
+    },
+    Case {
+        input: b"cells 2\ncell 2 3..4\nterm c = count peak\nrequire c = 0\n%%\nseries 0 5\n",
+        taken: b"fails\noutside 2\nvalue c 0\n",
         status: Status::No,
     },
     Case {

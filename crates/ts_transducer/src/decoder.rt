@@ -1,7 +1,7 @@
 //! The decoder: from phase letters to the ranges of cells that the occurrences leave.
 
-ghost use Rattle.std.specs.Prelude.{◌≡◌, ◌<◌, ◌≤◌};
-ghost use Rattle.ts_transducer.specs.Decode.{start_after, held_after, emitted_at};
+ghost use Rattle.std.specs.Prelude.{◌≡◌, ◌<◌, ◌≤◌, ◌+◌, ◌-◌};
+ghost use Rattle.ts_transducer.specs.Decode.{begins, ends_at, start_after, held_after, emitted_at};
 
 use crate::row::Phase;
 use ts_base::Range;
@@ -35,10 +35,7 @@ impl Decoder {
         ensures start { self.new.start ≡ start_after phase k self.old.start }
         ensures held { self.new.held ≡ held_after phase a k self.old.start self.old.held }
     {
-        let found = Range {
-            first: self.start.unwrap_or(k),
-            last: k + 1 - a as u32,
-        };
+        let found = self.found_at(k, a);
         match phase {
             Phase::Out | Phase::MaybeA => None,
             Phase::OutR => {
@@ -63,13 +60,34 @@ impl Decoder {
                 Some(found)
             }
             Phase::Inside => {
-                self.held = self.held.map(|range| Range {
-                    last: found.last,
-                    ..range
-                });
+                self.grow(found);
                 None
             }
         }
+    }
+
+    // The range of an occurrence that ends at the sign `k` now read: from the start that is kept, else from `k`.
+    fn found_at(&self, k: u32, a: u8) -> Range
+        requires few { k ≤ 4000000000 }
+        requires trim { a ≤ 1 }
+        ensures first { result.first ≡ begins k self.now.start }
+        ensures last { result.last ≡ k + 1 - a }
+    {
+        Range {
+            first: self.start.unwrap_or(k),
+            last: k + 1 - a as u32,
+        }
+    }
+
+    // Moves the end of the held range, if there is one, to that of the range now found.
+    fn grow(&mut self, found: Range)
+        ensures start { self.new.start ≡ self.old.start }
+        ensures held { self.new.held ≡ ends_at found.last self.old.held }
+    {
+        self.held = self.held.map(|range| Range {
+            last: found.last,
+            ..range
+        });
     }
 
     /// The range emitted at the end of the signature; none is held and no start is kept after it.

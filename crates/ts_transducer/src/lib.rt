@@ -15,6 +15,8 @@
 
 pub mod decoder;
 pub mod row;
+#[cfg(test)]
+mod tests;
 pub mod transducer;
 
 pub use decoder::Decoder;
