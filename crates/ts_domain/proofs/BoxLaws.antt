@@ -15,7 +15,7 @@ use Rattle.ts_domain.specs.BoxSeries.{Boxes, InBox, IsBox, all_series, series_co
 use Rattle.ts_domain.proofs.Changes.{differs, itself}
 
 -- the first of a list, or one of the others
-pub contains_cons : (x : ℤ) (xs : List ℤ) (v : ℤ) → Contains (x ∷ xs) v ↔ ((x ≡ v) ⊎ Contains xs v)
+pub contains_cons : {A : Type 0} (x : A) (xs : List A) (v : A) → Contains (x ∷ xs) v ↔ ((x ≡ v) ⊎ Contains xs v)
 contains_cons x xs v = (λ h. split h.0 h.1 h.2, λ w. elim w [ inl e ↦ (0, omega arith, e) | inr h ↦ (suc h.0, omega (arith, h.1), h.2) ])
   where
     split : (k : ℕ) → k < length (x ∷ xs) → get_or (x ∷ xs) k v ≡ v → (x ≡ v) ⊎ Contains xs v

@@ -6,3 +6,4 @@ pub mod Readings
 pub mod Changes
 pub mod Trails
 pub mod BoxLaws
+pub mod SeriesLaws

@@ -1,5 +1,5 @@
 -- A box has one set of numbers per cell, each as its rising list; its series take each value from the set of its cell.
-use Rattle.std.specs.Prelude.{ℕ, ◌-◌, ◌≤◌, ℤ, List, [], ◌∷◌, ◌++◌, length, map, take, get_or, set}
+use Rattle.std.specs.Prelude.{◌≡◌, ◌⊎◌, ℕ, ◌-◌, ◌≤◌, ℤ, ◌<ℤ◌, List, [], ◌∷◌, ◌++◌, length, map, take, get_or, set}
 use Rattle.std.specs.List.{Contains, AllByRecursion, flat_map}
 use Rattle.ts_domain.specs.Values.{IsDomain}
 
@@ -14,6 +14,12 @@ InBox (v ∷ vs) (d ∷ ds) = Contains d v × InBox vs ds
 unfoldable pub all_series : List (List ℤ) → List (List ℤ)
 all_series [] = [] ∷ []
 all_series (d ∷ ds) = flat_map (λ v. map (λ vs. v ∷ vs) (all_series ds)) d
+
+-- lexicographic order of lists of one length
+abbrev pub IsBefore : List ℤ → List ℤ → Type 0
+IsBefore [] ws = ⊥
+IsBefore (v ∷ vs) [] = ⊥
+IsBefore (v ∷ vs) (w ∷ ws) = (v <ℤ w) ⊎ ((v ≡ w) × IsBefore vs ws)
 
 -- how many they are
 abbrev pub series_count : List (List ℤ) → ℕ
