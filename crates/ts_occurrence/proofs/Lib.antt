@@ -5,3 +5,4 @@ pub mod Reading
 pub mod Pairs
 pub mod Totals
 pub mod Values
+pub mod Known

@@ -1,3 +1,4 @@
 pub mod Live
 pub mod Noted
+pub mod Residuals
 pub mod Total

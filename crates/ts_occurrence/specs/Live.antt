@@ -1,10 +1,12 @@
 -- The live starts of a search as entries: the signs before each start, and the expression that is left to read.
-use Rattle.std.specs.Prelude.{ℕ, not, ◌&&◌, List, [], ◌∷◌, ◌++◌, map, Option, None, Some, if◌then◌else◌}
+-- A live start has the number of its residual among those that the search has met.
+use Rattle.std.specs.Prelude.{ℕ, ◌<◌, not, ◌&&◌, List, [], ◌∷◌, ◌++◌, map, length, get_or, Option, None, Some, if◌then◌else◌}
 use Rattle.std.specs.List.{list_any}
-use Rattle.ts_regex.specs.Shape.{Shape, shape_of}
+use Rattle.ts_regex.specs.Shape.{Shape, NoWord}
 use Rattle.ts_regex.specs.Derivative.{nullable, has_word}
 use Rattle.ts_regex.specs.NormalForm.{same_shape}
 use Rattle.ts_pattern.specs.Entries.{Entry}
+use Rattle.ts_pattern.specs.EachOf.{Each}
 use Rattle.ts_occurrence.specs.declared.live.LiveStart.{LiveStart}
 
 abbrev pub Start : Type 0
@@ -13,11 +15,15 @@ Start = Entry ℕ Shape (Unit {0})
 abbrev pub entry : ℕ → Shape → Start
 entry start residual = record { mark = start; residual = residual; tag = tt }
 
-abbrev pub entry_of : LiveStart → Start
-entry_of e = entry e.start (shape_of e.residual)
+abbrev pub entry_of : List Shape → LiveStart → Start
+entry_of rs e = entry e.start (get_or rs e.residual NoWord)
 
-abbrev pub entries_of : List LiveStart → List Start
-entries_of es = map (λ e. entry_of e) es
+abbrev pub entries_of : List Shape → List LiveStart → List Start
+entries_of rs es = map (λ e. entry_of rs e) es
+
+-- the residuals of all are among those met
+abbrev pub AreKnown : List Shape → List LiveStart → Type 0
+AreKnown rs es = Each (λ e. e.residual < length rs) es
 
 -- the entry comes last, unless it has no word or an earlier one has its residual
 abbrev pub kept_with : List Start → Start → List Start

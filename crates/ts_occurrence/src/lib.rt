@@ -7,8 +7,8 @@
 //! so that all terms of a model share one.
 //!
 //! The search reads one letter at a time and keeps, for each start at which a match may begin or grow, what is left to
-//! read of the expression, in normal form. A series costs its length times its live starts, and no two places are
-//! compared.
+//! read of the expression, in normal form. What is left is kept by its number among the few residuals that are met, so
+//! that a letter costs a look at a table for each live start, and no two places are compared.
 //!
 //! ```text
 //! let width = Term::new(Aggregator::Sum, Feature::Width, PatternId::Peak); // Some(term)
@@ -18,6 +18,7 @@
 
 mod live;
 mod occurrence;
+mod residuals;
 mod series;
 mod term_value;
 #[cfg(test)]

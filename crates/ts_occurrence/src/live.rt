@@ -3,64 +3,86 @@
 //! Of equal residuals only the earliest start is kept, since what follows can't tell them apart and the match from
 //! the earlier start contains the other. So there are never more live starts than the expression has residuals.
 
-ghost use Rattle.std.specs.Prelude.{◌≡◌, List, [], ◌∷◌, ◌++◌, IfOk};
+ghost use Rattle.std.specs.Prelude.{◌≡◌, ◌<◌, ◌==◌, ◌&&◌, not, [], ◌∷◌, ◌++◌, length, get_or, IfOk, OnOk};
 ghost use Rattle.std.specs.List.{list_any};
-ghost use Rattle.ts_regex.specs.Shape.{shape_of};
-ghost use Rattle.ts_regex.specs.NormalForm.{residual, same_shape};
+ghost use Rattle.ts_regex.specs.Shape.{NoWord};
+ghost use Rattle.ts_regex.specs.Derivative.{has_word};
 ghost use Rattle.ts_pattern.specs.Entries.{shapes, survivors};
-ghost use Rattle.ts_occurrence.specs.Live.{entry, entries_of, kept_with, first_ending};
+ghost use Rattle.ts_occurrence.specs.Residuals.{known, AreRight, Grows};
+ghost use Rattle.ts_occurrence.specs.Live.{entry, entries_of, AreKnown, kept_with, first_ending};
 
+use crate::residuals::Residuals;
 use std::alloc::Global;
 use ts_base::{Letter, Memory};
-use ts_regex::{Regex, derive, has_word, normal, nullable};
+use ts_regex::{has_word, nullable};
 
-/// The number of signs before the start, and the residual of the expression in normal form.
-#[derive(Drop)]
+/// The number of signs before the start, and the number of its residual.
+#[derive(Clone, Copy, Drop)]
 pub struct LiveStart {
     pub start: u32,
-    pub residual: Regex,
+    pub residual: usize,
 }
 
 /// The live starts after the letter `l`, which is the sign number `read + 1`: a match may begin at it, too.
 pub fn after_letter(
     alloc: Global,
+    residuals: &mut Residuals,
     mut live: Vec<LiveStart>,
-    whole: &Regex,
     read: u32,
     l: Letter,
 ) -> Result<Vec<LiveStart>, Memory>
-    ensures { IfOk result (λ v. entries_of v.items ≡ survivors shapes l (entries_of live.items ++ entry read (shape_of whole.now) ∷ [])) }
+    requires whole { 0 < length residuals.old.met.items }
+    requires right { AreRight residuals.old.met.items }
+    requires known { AreKnown (known residuals.old.met.items) live.items }
+    ensures right { OnOk result (AreRight residuals.new.met.items) }
+    ensures grown { OnOk result (Grows (known residuals.old.met.items) (known residuals.new.met.items)) }
+    ensures known { IfOk result (λ v. AreKnown (known residuals.new.met.items) v.items) }
+    ensures exact { IfOk result (λ v. entries_of (known residuals.new.met.items) v.items
+        ≡ survivors shapes l (entries_of (known residuals.old.met.items) live.items ++ entry read (get_or (known residuals.old.met.items) 0 NoWord) ∷ [])) }
 {
     live.push(LiveStart {
         start: read,
-        residual: whole.copy(alloc)?,
+        residual: 0,
     })?;
-    survivors(alloc, &live, l)
+    survivors(alloc, residuals, &live, l)
 }
 
-fn survivors(alloc: Global, live: &Vec<LiveStart>, l: Letter) -> Result<Vec<LiveStart>, Memory>
-    ensures { IfOk result (λ v. entries_of v.items ≡ survivors shapes l (entries_of live.now.items)) }
+fn survivors(
+    alloc: Global,
+    residuals: &mut Residuals,
+    live: &[LiveStart],
+    l: Letter,
+) -> Result<Vec<LiveStart>, Memory>
+    requires right { AreRight residuals.old.met.items }
+    requires known { AreKnown (known residuals.old.met.items) live.now }
+    ensures right { OnOk result (AreRight residuals.new.met.items) }
+    ensures grown { OnOk result (Grows (known residuals.old.met.items) (known residuals.new.met.items)) }
+    ensures known { IfOk result (λ v. AreKnown (known residuals.new.met.items) v.items) }
+    ensures exact { IfOk result (λ v. entries_of (known residuals.new.met.items) v.items ≡ survivors shapes l (entries_of (known residuals.old.met.items) live.now)) }
 {
     let mut kept = Vec::new(alloc);
     for k in 0..live.len() {
         let start = live[k].start;
-        let rest = residual(alloc, &live[k].residual, l)?;
-        keep(&mut kept, start, rest)?;
+        let rest = residuals.after(alloc, live[k].residual, l)?;
+        keep(&mut kept, residuals, start, rest)?;
     }
     Ok(kept)
 }
 
-fn residual(alloc: Global, r: &Regex, l: Letter) -> Result<Regex, Memory>
-    ensures { IfOk result (λ d. shape_of d ≡ residual (shape_of r.now) l) }
+fn keep(
+    kept: &mut Vec<LiveStart>,
+    residuals: &Residuals,
+    start: u32,
+    rest: usize,
+) -> Result<(), Memory>
+    requires there { rest < length residuals.now.met.items }
+    requires right { AreRight residuals.now.met.items }
+    requires known { AreKnown (known residuals.now.met.items) kept.old.items }
+    ensures known { OnOk result (AreKnown (known residuals.now.met.items) kept.new.items) }
+    ensures exact { OnOk result (entries_of (known residuals.now.met.items) kept.new.items
+        ≡ kept_with (entries_of (known residuals.now.met.items) kept.old.items) (entry start (get_or (known residuals.now.met.items) rest NoWord))) }
 {
-    let rest = derive(alloc, r, l)?;
-    normal(alloc, &rest)
-}
-
-fn keep(kept: &mut Vec<LiveStart>, start: u32, rest: Regex) -> Result<(), Memory>
-    ensures { IfOk result (λ _. entries_of kept.new.items ≡ kept_with (entries_of kept.old.items) (entry start (shape_of rest))) }
-{
-    if has_word(&rest) && !stands(kept, &rest) {
+    if is_new(kept, residuals, rest) {
         kept.push(LiveStart {
             start,
             residual: rest,
@@ -69,23 +91,27 @@ fn keep(kept: &mut Vec<LiveStart>, start: u32, rest: Regex) -> Result<(), Memory
     Ok(())
 }
 
-fn stands(kept: &Vec<LiveStart>, rest: &Regex) -> bool
-    ensures { result ≡ list_any (λ x. same_shape x.residual (shape_of rest.now)) (entries_of kept.now.items) }
+// Whether the residual has a word, and no earlier start has it.
+fn is_new(kept: &[LiveStart], residuals: &Residuals, rest: usize) -> bool
+    requires { rest < length residuals.now.met.items }
+    ensures { result ≡ (has_word (get_or (known residuals.now.met.items) rest NoWord) && not (list_any (λ x. x.residual == rest) kept.now)) }
 {
-    for x in kept {
-        if x.residual.same(rest) {
-            return true;
-        }
-    }
-    false
+    has_word(residuals.get(rest)) && !stands(kept, rest)
+}
+
+fn stands(kept: &[LiveStart], rest: usize) -> bool
+    ensures { result ≡ list_any (λ x. x.residual == rest) kept.now }
+{
+    kept.iter().any(|x| x.residual == rest)
 }
 
 /// The first start from which a match ends at the sign just read.
-pub fn first_ending(live: &Vec<LiveStart>) -> Option<u32>
-    ensures { result ≡ first_ending (entries_of live.now.items) }
+pub fn first_ending(residuals: &Residuals, live: &[LiveStart]) -> Option<u32>
+    requires { AreKnown (known residuals.now.met.items) live.now }
+    ensures { result ≡ first_ending (entries_of (known residuals.now.met.items) live.now) }
 {
     for x in live {
-        if nullable(&x.residual) {
+        if nullable(residuals.get(x.residual)) {
             return Some(x.start);
         }
     }

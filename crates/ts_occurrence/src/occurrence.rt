@@ -14,6 +14,7 @@ ghost use Rattle.ts_pattern.specs.FeatureValue.{IsInside};
 ghost use Rattle.ts_occurrence.specs.Noted.{IsCut, IsNoted};
 
 use crate::live::{after_letter, first_ending};
+use crate::residuals::Residuals;
 use std::alloc::Global;
 use ts_base::{Letter, Memory, Range};
 use ts_pattern::Pattern;
@@ -36,12 +37,13 @@ fn maximal_matches(alloc: Global, p: &Pattern, w: &[Letter]) -> Result<Vec<Range
     requires { length w.now < 4000000000 }
     ensures { IfOk result (λ v. AreRanges (shape_of p.now.regex) p.now.b p.now.a w.now v.items) }
 {
-    let whole = normal(alloc, &p.regex)?;
+    let mut residuals = Residuals::of(alloc, normal(alloc, &p.regex)?)?;
     let mut live = Vec::new(alloc);
     let mut found = Vec::new(alloc);
     for k in 0..w.len() {
-        live = after_letter(alloc, live, &whole, k as u32, w[k])?;
-        note(&mut found, first_ending(&live), k as u32, p.b, p.a)?;
+        live = after_letter(alloc, &mut residuals, live, k as u32, w[k])?;
+        let ending = first_ending(&residuals, &live);
+        note(&mut found, ending, k as u32, p.b, p.a)?;
     }
     Ok(found)
 }

@@ -1,0 +1,129 @@
+//! The residuals that a search meets, by numbers. There are few of them, however long the signature is (Brzozowski
+//! 1964), so each is kept once, with the number of what a letter leaves of it, and nothing is derived twice.
+
+ghost use Rattle.std.specs.Prelude.{◌≡◌, ◌<◌, [], ◌∷◌, Option, None, Some, length, get_or, IfOk, OnOk};
+ghost use Rattle.std.specs.List.{position};
+ghost use Rattle.ts_regex.specs.Shape.{shape_of, NoWord};
+ghost use Rattle.ts_regex.specs.NormalForm.{residual, same_shape};
+ghost use Rattle.ts_occurrence.specs.Residuals.{known, number_after, with_number_after, IsNumber, AreRight, Grows};
+
+use std::alloc::Global;
+use ts_base::{Letter, Memory};
+use ts_regex::{Regex, derive, normal};
+
+/// A residual in normal form, and the number of what each letter leaves of it, where that was asked for.
+#[derive(Drop)]
+pub struct Met {
+    residual: Regex,
+    less: Option<usize>,
+    equal: Option<usize>,
+    greater: Option<usize>,
+}
+
+/// The residuals met so far. A number stays that of its residual.
+#[derive(Drop)]
+pub struct Residuals {
+    met: Vec<Met>,
+}
+
+impl Residuals {
+    /// The whole expression alone, in normal form; its number is 0.
+    pub fn of(alloc: Global, whole: Regex) -> Result<Residuals, Memory>
+        ensures known { IfOk result (λ t. known t.met.items ≡ shape_of whole ∷ []) }
+        ensures right { IfOk result (λ t. AreRight t.met.items) }
+    {
+        let mut met = Vec::new(alloc);
+        met.push(Met::new(whole))?;
+        Ok(Residuals { met })
+    }
+
+    /// The residual of a number.
+    pub fn get(&self, number: usize) -> &Regex
+        requires { number < length self.now.met.items }
+        ensures { shape_of result.now ≡ get_or (known self.now.met.items) number NoWord }
+    {
+        &self.met[number].residual
+    }
+
+    /// The number of what a letter leaves of the residual of a number.
+    pub fn after(&mut self, alloc: Global, number: usize, l: Letter) -> Result<usize, Memory>
+        requires there { number < length self.old.met.items }
+        requires right { AreRight self.old.met.items }
+        ensures right { OnOk result (AreRight self.new.met.items) }
+        ensures grown { OnOk result (Grows (known self.old.met.items) (known self.new.met.items)) }
+        ensures exact { IfOk result (λ n. IsNumber (known self.new.met.items) (residual (get_or (known self.old.met.items) number NoWord) l) n) }
+    {
+        match self.met[number].after(l) {
+            Some(next) => Ok(next),
+            None => {
+                let rest = left_of(alloc, self.get(number), l)?;
+                let next = self.number_of(rest)?;
+                self.met[number].set_after(l, next);
+                Ok(next)
+            }
+        }
+    }
+
+    // The number of a residual, which is met now if it wasn't before.
+    fn number_of(&mut self, rest: Regex) -> Result<usize, Memory>
+        requires { AreRight self.old.met.items }
+        ensures right { OnOk result (AreRight self.new.met.items) }
+        ensures grown { OnOk result (Grows (known self.old.met.items) (known self.new.met.items)) }
+        ensures exact { IfOk result (λ n. IsNumber (known self.new.met.items) (shape_of rest) n) }
+    {
+        match self.find(&rest) {
+            Some(number) => Ok(number),
+            None => {
+                let number = self.met.len();
+                self.met.push(Met::new(rest))?;
+                Ok(number)
+            }
+        }
+    }
+
+    fn find(&self, rest: &Regex) -> Option<usize>
+        ensures { result ≡ position (λ m. same_shape (shape_of m.residual) (shape_of rest.now)) self.now.met.items }
+    {
+        self.met.iter().position(|m| m.residual.same(rest))
+    }
+}
+
+impl Met {
+    fn new(residual: Regex) -> Met
+        ensures { result ≡ record { residual = residual; less = None; equal = None; greater = None } }
+    {
+        Met {
+            residual,
+            less: None,
+            equal: None,
+            greater: None,
+        }
+    }
+
+    fn after(&self, l: Letter) -> Option<usize>
+        ensures { result ≡ number_after self.now l }
+    {
+        match l {
+            Letter::Less => self.less,
+            Letter::Equal => self.equal,
+            Letter::Greater => self.greater,
+        }
+    }
+
+    fn set_after(&mut self, l: Letter, number: usize)
+        ensures { self.new ≡ with_number_after self.old l number }
+    {
+        match l {
+            Letter::Less => self.less = Some(number),
+            Letter::Equal => self.equal = Some(number),
+            Letter::Greater => self.greater = Some(number),
+        }
+    }
+}
+
+fn left_of(alloc: Global, r: &Regex, l: Letter) -> Result<Regex, Memory>
+    ensures { IfOk result (λ d. shape_of d ≡ residual (shape_of r.now) l) }
+{
+    let rest = derive(alloc, r, l)?;
+    normal(alloc, &rest)
+}
