@@ -7,7 +7,7 @@ use Rattle.std.proofs.lemmas.Grind.{common_steps}
 use Rattle.std.proofs.lemmas.List.{map-append, length-map}
 use Rattle.std.proofs.lemmas.List.Quantifiers.{position-Some}
 use Rattle.std.proofs.lemmas.List.Sums.{fails_before_first}
-use Rattle.std.proofs.lemmas.Option.{slice_get-map, slice_get-get_or, slice_get_within, get_or_from_slice_get}
+use Rattle.std.proofs.lemmas.Option.{same_Some, none-some, slice_get-map, slice_get-get_or, slice_get_within, get_or_from_slice_get}
 use Rattle.std.proofs.Math.Seq.{map-set_same}
 use Rattle.ts_base.specs.declared.letter.Letter.{Letter}
 use Rattle.ts_base.specs.declared.letter.Letter.TheVariants.{Less, Equal, Greater}
@@ -20,18 +20,8 @@ use Rattle.ts_occurrence.specs.Residuals.{known, number_after, with_number_after
 
 -- lists
 
-some_is : {A : Type 0} (x y : A) → Some x ≡ Some y → x ≡ y
-some_is x y q = cc
-
-abbrev IsNo : {A : Type 0} → Option A → Type 0
-IsNo None = Unit {0}
-IsNo (Some x) = ⊥
-
-none_some : {A : Type 0} (x : A) → None ≡ Some x → ⊥
-none_some {A} x h = let P : Option A → Type 0 = λ o. IsNo o in subst P h tt
-
 front : {A : Type 0} (xs ys : List A) (k : ℕ) (x : A) → slice_get xs k ≡ Some x → slice_get (xs ++ ys) k ≡ Some x
-front [] ys k x q = absurd (none_some x q)
+front [] ys k x q = absurd (none-some x q)
 front (y ∷ xs) ys zero x q = q
 front (y ∷ xs) ys (suc k) x q = front xs ys k x q
 
@@ -41,8 +31,8 @@ last (y ∷ xs) x = last xs x
 
 -- what stands in a list with one more element
 front_or_last : {A : Type 0} (xs : List A) (y : A) (k : ℕ) (x : A) → slice_get (xs ++ y ∷ []) k ≡ Some x → (slice_get xs k ≡ Some x) ⊎ ((k ≡ length xs) × (y ≡ x))
-front_or_last [] y zero x q = inr (refl, some_is y x q)
-front_or_last [] y (suc k) x q = absurd (none_some x q)
+front_or_last [] y zero x q = inr (refl, same_Some y x q)
+front_or_last [] y (suc k) x q = absurd (none-some x q)
 front_or_last (z ∷ xs) y zero x q = inl q
 front_or_last (z ∷ xs) y (suc k) x q = ⊎_elim (λ h. inl h) (λ h. inr (ap (λ n. suc n) h.0, h.1)) (front_or_last xs y k x q)
 
@@ -101,7 +91,7 @@ right_with_one ms m h lacks none =
       once = λ i j r p q. once i j r (split i r p) (split j r q);
       after = λ k n x l p q. ⊎_elim
           (λ c. grown_by_one ms m n (residual (shape_of x.residual) l) (h.after k n x l c q))
-          (λ c. absurd (none_some n (sym (none l) ∙ ap (λ (z : Met). number_after z l) c.1 ∙ q)))
+          (λ c. absurd (none-some n (sym (none l) ∙ ap (λ (z : Met). number_after z l) c.1 ∙ q)))
           (front_or_last ms m k x p);
     }
   where
@@ -117,7 +107,7 @@ right_with_one ms m h lacks none =
 
 pub right_alone : (m : Met) → ((l : Letter) → number_after m l ≡ None) → AreRight (m ∷ [])
 right_alone m none =
-    right_with_one [] m (record { once = λ i j r p q. absurd (none_some r p); after = λ k n x l p q. absurd (none_some x p) }) (λ n p. absurd (none_some (shape_of m.residual) p)) none
+    right_with_one [] m (record { once = λ i j r p q. absurd (none-some r p); after = λ k n x l p q. absurd (none-some x p) }) (λ n p. absurd (none-some (shape_of m.residual) p)) none
 
 -- one more number noted
 
@@ -131,20 +121,20 @@ known_kept ms k n m d l e = map-set_same (λ x. shape_of x.residual) ms k (with_
 
 -- a number after m is that of before or the one noted
 noted : (m : Met) (n i : ℕ) (l k : Letter) → number_after (with_number_after m l n) k ≡ Some i → (number_after m k ≡ Some i) ⊎ ((l ≡ k) × (n ≡ i))
-noted m n i Less Less q = inr (refl, some_is n i q)
+noted m n i Less Less q = inr (refl, same_Some n i q)
 noted m n i Less Equal q = inl q
 noted m n i Less Greater q = inl q
 noted m n i Equal Less q = inl q
-noted m n i Equal Equal q = inr (refl, some_is n i q)
+noted m n i Equal Equal q = inr (refl, same_Some n i q)
 noted m n i Equal Greater q = inl q
 noted m n i Greater Less q = inl q
 noted m n i Greater Equal q = inl q
-noted m n i Greater Greater q = inr (refl, some_is n i q)
+noted m n i Greater Greater q = inr (refl, same_Some n i q)
 
 -- what stands in a list with one element changed
 set_or_old : {A : Type 0} (xs : List A) (i k : ℕ) (y x : A) → slice_get (set xs i y) k ≡ Some x → ((k ≡ i) × (y ≡ x)) ⊎ (slice_get xs k ≡ Some x)
-set_or_old [] i k y x q = absurd (none_some x q)
-set_or_old (z ∷ xs) zero zero y x q = inl (refl, some_is y x q)
+set_or_old [] i k y x q = absurd (none-some x q)
+set_or_old (z ∷ xs) zero zero y x q = inl (refl, same_Some y x q)
 set_or_old (z ∷ xs) zero (suc k) y x q = inr q
 set_or_old (z ∷ xs) (suc i) zero y x q = inr q
 set_or_old (z ∷ xs) (suc i) (suc k) y x q = ⊎_elim (λ h. inl (ap (λ n. suc n) h.0, h.1)) (λ h. inr h) (set_or_old xs i k y x q)
@@ -173,7 +163,7 @@ pub noted_right : (old now : List Met) (k n : ℕ) (l : Letter) (m d new : Met) 
 noted_right old now k n l m d new r rest q er es g h number em en =
     let here : k < length (known old) = (let z = known_length old in omega arith) in
     let inside : k < length now = within_grown (known old) now k g here in
-    let kept : r ≡ shape_of m.residual = some_is r (shape_of m.residual) (sym (subst (λ z. IsNumber (known now) z k) (sym er) (g k (get_or (known old) k NoWord) (slice_get-get_or (known old) k NoWord here))) ∙ known_get now k m (at now k m d inside em)) in
+    let kept : r ≡ shape_of m.residual = same_Some r (shape_of m.residual) (sym (subst (λ z. IsNumber (known now) z k) (sym er) (g k (get_or (known old) k NoWord) (slice_get-get_or (known old) k NoWord here))) ∙ known_get now k m (at now k m d inside em)) in
     let is : rest ≡ residual (shape_of m.residual) l = es ∙ ap (λ z. residual z l) kept in
     let same : known (set now k new) ≡ known now = ap (λ z. known (set now k z)) en ∙ known_kept now k n m d l em in (
       subst (λ z. AreRight (set now k z)) (sym en) (right_with_number now k n m d l inside em (subst (λ z. IsNumber (known now) z n) is number) h),
@@ -184,7 +174,7 @@ noted_right old now k n l m d new r rest q er es g h number em en =
 -- looking one up
 
 pub found_is : (ms : List Met) (r : Shape) (n : ℕ) → position (λ m. same_shape (shape_of m.residual) r) ms ≡ Some n → IsNumber (known ms) r n
-found_is [] r n q = absurd (none_some n q)
+found_is [] r n q = absurd (none-some n q)
 found_is (d ∷ ms) r n q =
     let there = position-Some (λ m. same_shape (shape_of m.residual) r) (d ∷ ms) n d q in
     known_get (d ∷ ms) n (get_or (d ∷ ms) n d) (slice_get-get_or (d ∷ ms) n d there.0) ∙ ap (λ z. Some z) ((same_law (shape_of (get_or (d ∷ ms) n d).residual) r).0 there.1)
@@ -193,13 +183,13 @@ not_found : (ms : List Met) (r : Shape) → position (λ m. same_shape (shape_of
 not_found ms r q n p = there (slice_get ms n) refl
   where
     there : (o : Option Met) → slice_get ms n ≡ o → ⊥
-    there None e = absurd (none_some r (sym (slice_get-map (λ x. shape_of x.residual) ms n ∙ ap (λ o. option_map (λ (x : Met). shape_of x.residual) o) e) ∙ p))
+    there None e = absurd (none-some r (sym (slice_get-map (λ x. shape_of x.residual) ms n ∙ ap (λ o. option_map (λ (x : Met). shape_of x.residual) o) e) ∙ p))
     there (Some m) e =
         let inside : n < length ms = slice_get_within ms n m e in
         let past : length ms ≤ position_or_len (λ m. same_shape (shape_of m.residual) r) ms = grind (arith, common_steps) in
         let no : same_shape (shape_of (get_or ms n m).residual) r ≡ false = fails_before_first (λ m. same_shape (shape_of m.residual) r) ms n m (omega arith) in
         let is : get_or ms n m ≡ m = get_or_from_slice_get ms n m m e in
-        let shape : shape_of m.residual ≡ r = some_is (shape_of m.residual) r (sym (known_get ms n m e) ∙ p) in
+        let shape : shape_of m.residual ≡ r = same_Some (shape_of m.residual) r (sym (known_get ms n m e) ∙ p) in
         let yes : same_shape (shape_of (get_or ms n m).residual) r ≡ true = (same_law (shape_of (get_or ms n m).residual) r).1 (ap (λ (z : Met). shape_of z.residual) is ∙ shape) in
         absurd (true≢false (sym yes ∙ no))
 

@@ -9,7 +9,7 @@ ghost use Rattle.ts_occurrence.specs.Residuals.{known, number_after, with_number
 
 use std::alloc::Global;
 use ts_base::{Letter, Memory};
-use ts_regex::{Regex, derive, normal};
+use ts_regex::{Regex, residual};
 
 /// A residual in normal form, and the number of what each letter leaves of it, where that was asked for.
 #[derive(Drop)]
@@ -56,7 +56,7 @@ impl Residuals {
         match self.met[number].after(l) {
             Some(next) => Ok(next),
             None => {
-                let rest = left_of(alloc, self.get(number), l)?;
+                let rest = residual(alloc, self.get(number), l)?;
                 let next = self.number_of(rest)?;
                 self.met[number].set_after(l, next);
                 Ok(next)
@@ -119,11 +119,4 @@ impl Met {
             Letter::Greater => self.greater = Some(number),
         }
     }
-}
-
-fn left_of(alloc: Global, r: &Regex, l: Letter) -> Result<Regex, Memory>
-    ensures { IfOk result (λ d. shape_of d ≡ residual (shape_of r.now) l) }
-{
-    let rest = derive(alloc, r, l)?;
-    normal(alloc, &rest)
 }

@@ -1,13 +1,13 @@
 -- The tests `nullable`, `has_word` and `has_longer` and the derivative say what they say of the language.
 use Rattle.std.specs.Prelude.{◌≡◌, ◌⊎◌, Bool, true, false, cond, ◌&&◌, List, [], ◌∷◌, ◌++◌, refl}
 use Rattle.std.proofs.Common.{sym, ◌∙◌, ap, subst, inl, inr, ⊎_elim}
-use Rattle.std.proofs.lemmas.Bool.{false≢true}
+use Rattle.std.proofs.lemmas.Bool.{false≢true, and_parts, and_from, or_left, or_right}
 use Rattle.ts_base.specs.declared.letter.Letter.{Letter}
 use Rattle.ts_base.specs.declared.letter.Letter.TheVariants.{Less, Equal, Greater}
 use Rattle.ts_regex.specs.Shape.{Shape, NoWord, EmptyWord, OneLetter, Concat, Union, Repeat}
 use Rattle.ts_regex.specs.Language.{IsRepeated, NoMore, OnceMore, InLanguage}
 use Rattle.ts_regex.specs.Derivative.{same_letter, nullable, derivative, has_word, has_longer}
-use Rattle.ts_regex.proofs.Booleans.{both_true, either_true, and_true, or_left, or_right}
+use Rattle.ts_regex.proofs.Booleans.{either_true}
 
 pub letters_equal : (l m : Letter) → same_letter l m ≡ true → l ≡ m
 letters_equal Less Less q = refl
@@ -44,7 +44,7 @@ pub nullable_to : (r : Shape) → nullable r ≡ true → InLanguage r []
 nullable_to NoWord q = absurd (false≢true q)
 nullable_to EmptyWord q = refl
 nullable_to (OneLetter l) q = absurd (false≢true q)
-nullable_to (Concat r s) q = let h = both_true (nullable r) (nullable s) q in ([], [], refl, nullable_to r h.0, nullable_to s h.1)
+nullable_to (Concat r s) q = let h = and_parts (nullable r) (nullable s) q in ([], [], refl, nullable_to r h.0, nullable_to s h.1)
 nullable_to (Union r s) q = ⊎_elim (λ a. inl (nullable_to r a)) (λ a. inr (nullable_to s a)) (either_true (nullable r) (nullable s) q)
 nullable_to (Repeat r) q = NoMore [] refl
 
@@ -54,7 +54,7 @@ nullable_back EmptyWord h = refl
 nullable_back (OneLetter l) h = absurd (nil_cons l [] h)
 nullable_back (Concat r s) h =
     let e = nil_append h.0 h.1 h.2 in
-    and_true (nullable r) (nullable s) (nullable_back r (subst (λ z. InLanguage r z) e.0 h.3)) (nullable_back s (subst (λ z. InLanguage s z) e.1 h.4))
+    and_from (nullable r) (nullable s) (nullable_back r (subst (λ z. InLanguage r z) e.0 h.3)) (nullable_back s (subst (λ z. InLanguage s z) e.1 h.4))
 nullable_back (Union r s) h = ⊎_elim (λ a. or_left (nullable r) (nullable s) (nullable_back r a)) (λ a. or_right (nullable r) (nullable s) (nullable_back s a)) h
 nullable_back (Repeat r) h = refl
 
@@ -119,7 +119,7 @@ word_to NoWord q = absurd (false≢true q)
 word_to EmptyWord q = ([], refl)
 word_to (OneLetter l) q = (l ∷ [], refl)
 word_to (Concat r s) q =
-    let h = both_true (has_word r) (has_word s) q in
+    let h = and_parts (has_word r) (has_word s) q in
     let x = word_to r h.0 in
     let y = word_to s h.1 in
     (x.0 ++ y.0, (x.0, y.0, refl, x.1, y.1))
@@ -131,7 +131,7 @@ pub word_back : (r : Shape) (v : List Letter) → InLanguage r v → has_word r 
 word_back NoWord v h = absurd h
 word_back EmptyWord v h = refl
 word_back (OneLetter l) v h = refl
-word_back (Concat r s) v h = and_true (has_word r) (has_word s) (word_back r h.0 h.3) (word_back s h.1 h.4)
+word_back (Concat r s) v h = and_from (has_word r) (has_word s) (word_back r h.0 h.3) (word_back s h.1 h.4)
 word_back (Union r s) v h = ⊎_elim (λ a. or_left (has_word r) (has_word s) (word_back r v a)) (λ a. or_right (has_word r) (has_word s) (word_back s v a)) h
 word_back (Repeat r) v h = refl
 
@@ -151,12 +151,12 @@ longer_to (OneLetter l) q = (l, [], refl)
 longer_to (Concat r s) q =
     ⊎_elim
     (λ a.
-    let h = both_true (has_longer r) (has_word s) a in
+    let h = and_parts (has_longer r) (has_word s) a in
     let x = longer_to r h.0 in
     let y = word_to s h.1 in
     (x.0, x.1 ++ y.0, (x.0 ∷ x.1, y.0, refl, x.2, y.1)))
     (λ a.
-    let h = both_true (has_word r) (has_longer s) a in
+    let h = and_parts (has_word r) (has_longer s) a in
     let x = word_to r h.0 in
     let y = longer_to s h.1 in
     longer_second r s x.0 y.0 y.1 x.1 y.2)
@@ -170,9 +170,9 @@ longer_to (Repeat r) q =
 pub longer_cut : (r s : Shape) (l : Letter) (v : List Letter) → ((m : Letter) (x : List Letter) → InLanguage r (m ∷ x) → has_longer r ≡ true) → (InLanguage s (l ∷ v) → has_longer s ≡ true) → (x y : List Letter) → l ∷ v ≡ x ++ y → InLanguage r x → InLanguage s y → has_longer (Concat r s) ≡ true
 longer_cut r s l v fr fs [] y e px py =
     or_right (has_longer r && has_word s) (has_word r && has_longer s)
-    (and_true (has_word r) (has_longer s) (word_back r [] px) (fs (subst (λ z. InLanguage s z) (sym e) py)))
+    (and_from (has_word r) (has_longer s) (word_back r [] px) (fs (subst (λ z. InLanguage s z) (sym e) py)))
 longer_cut r s l v fr fs (m ∷ x) y e px py =
-    or_left (has_longer r && has_word s) (has_word r && has_longer s) (and_true (has_longer r) (has_word s) (fr m x px) (word_back s y py))
+    or_left (has_longer r && has_word s) (has_word r && has_longer s) (and_from (has_longer r) (has_word s) (fr m x px) (word_back s y py))
 
 pub longer_back : (r : Shape) (l : Letter) (v : List Letter) → InLanguage r (l ∷ v) → has_longer r ≡ true
 longer_back NoWord l v h = absurd h

@@ -14,7 +14,7 @@
 //! form after each one. It removes the repeats, and what is left keeps its size:
 //!
 //! ```text
-//! let left = normal(alloc, &derive(alloc, &pattern, Letter::Less)?)?;
+//! let left = residual(alloc, &pattern, Letter::Less)?;
 //! let ends_here = nullable(&left);
 //! ```
 #![tactic(auto)]
@@ -27,7 +27,7 @@ pub mod regex;
 
 pub use derivative::{derive, has_longer, has_word, nullable};
 pub use membership::member;
-pub use normal_form::normal;
+pub use normal_form::{normal, residual};
 pub use regex::Regex;
 
 #[cfg(test)]

@@ -4,8 +4,8 @@ ghost use Rattle.std.specs.Prelude.{◌↔◌, IfOk, IsTrue};
 ghost use Rattle.ts_regex.specs.Shape.{shape_of};
 ghost use Rattle.ts_regex.specs.Language.{InLanguage};
 
-use crate::derivative::{derive, nullable};
-use crate::normal_form::normal;
+use crate::derivative::nullable;
+use crate::normal_form::{normal, residual};
 use crate::regex::Regex;
 use std::alloc::Global;
 use ts_base::{Letter, Memory};
@@ -16,7 +16,7 @@ pub fn member(alloc: Global, r: &Regex, w: &[Letter]) -> Result<bool, Memory>
 {
     let mut rest = normal(alloc, r)?;
     for l in w {
-        rest = normal(alloc, &derive(alloc, &rest, *l)?)?;
+        rest = residual(alloc, &rest, *l)?;
     }
     Ok(nullable(&rest))
 }

@@ -1,17 +1,18 @@
 //! Normal forms: expressions that differ in brackets, order and repeats alone get one form, so that a word read
 //! letter by letter leaves expressions of bounded size.
 
-ghost use Rattle.std.specs.Prelude.{◌≡◌, ◌↔◌, ◌≤◌, List, map, length, IfOk, OnOk, MatchResult};
+ghost use Rattle.std.specs.Prelude.{◌≡◌, ◌↔◌, ◌≤◌, List, ◌∷◌, map, length, IfOk, OnOk, MatchResult};
 ghost use Rattle.std.specs.List.{insert};
 ghost use Rattle.ts_base.specs.declared.letter.Letter.{Letter};
 ghost use Rattle.ts_regex.specs.Shape.{shape_of};
 ghost use Rattle.ts_regex.specs.Language.{InLanguage};
-ghost use Rattle.ts_regex.specs.NormalForm.{chained, followed, normal_concat, members, inserted, inserted_all, nested, normal_union, normal_repeat, normal_form};
+ghost use Rattle.ts_regex.specs.NormalForm.{chained, followed, normal_concat, members, inserted, inserted_all, nested, normal_union, normal_repeat, normal_form, residual};
 
+use crate::derivative::derive;
 use crate::regex::{Regex, alt, cat, star};
 use std::alloc::Global;
 use std::cmp::Ordering;
-use ts_base::Memory;
+use ts_base::{Letter, Memory};
 
 /// The normal form, of the same language (Brzozowski 1964, similar expressions).
 #[tactic(auto, using(crate::proofs::Laws::normal_law))]
@@ -20,6 +21,17 @@ pub fn normal(alloc: Global, r: &Regex) -> Result<Regex, Memory>
     ensures language { IfOk result (λ n. (w : List Letter) → InLanguage (shape_of n) w ↔ InLanguage (shape_of r.now) w) }
 {
     Ok(r.simplified(alloc)?)
+}
+
+/// What a letter leaves of an expression, in normal form: its words are those that with `l` before them are words of
+/// `r` (Brzozowski 1964). It is also called the residual of `r` after `l`.
+#[tactic(auto, using(crate::proofs::Laws::residual_law))]
+pub fn residual(alloc: Global, r: &Regex, l: Letter) -> Result<Regex, Memory>
+    ensures exact { IfOk result (λ d. shape_of d ≡ residual (shape_of r.now) l) }
+    ensures language { IfOk result (λ d. (w : List Letter) → InLanguage (shape_of d) w ↔ InLanguage (shape_of r.now) (l ∷ w)) }
+{
+    let rest = derive(alloc, r, l)?;
+    normal(alloc, &rest)
 }
 
 impl Regex {

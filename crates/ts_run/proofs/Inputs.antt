@@ -11,24 +11,12 @@ use Rattle.std.proofs.lemmas.List.Elements.{All-from_recursion}
 use Rattle.ts_pattern.specs.Limits.{IsCell, IsSeries}
 use Rattle.ts_token.specs.Text.{Cut, is_lf, onto_line}
 use Rattle.ts_token.specs.Number.{number_of}
+use Rattle.ts_token.proofs.HalfLaws.{joined_chunks}
 use Rattle.ts_token.specs.Halves.{chunks, joined, is_separator, Halves, after_front, halves, halves_of}
 use Rattle.ts_model.specs.declared.error.SeriesStop.TheVariants.{Length}
 use Rattle.ts_model.specs.Stated.{is_value}
 use Rattle.ts_model.specs.Words.{onto}
 use Rattle.ts_model.specs.Series.{within, value_of, values_of, numbers_give, words_give, series_words, series_reading}
-
-joined_onto : (b : ℕ) (cs : List (List ℕ)) → joined (onto_line b cs) ≡ b ∷ joined cs
-joined_onto b [] = refl
-joined_onto b (c ∷ cs) = refl
-
-chunks_more : (t : Bool) (b : ℕ) (cs : List (List ℕ)) (bs : List ℕ) → joined cs ≡ bs → joined (cond t ((b ∷ []) ∷ cs) (onto_line b cs)) ≡ b ∷ bs
-chunks_more true b cs bs e = ap (λ z. b ∷ z) e
-chunks_more false b cs bs e = joined_onto b cs ∙ ap (λ z. b ∷ z) e
-
--- the lines with their ends, in a row, are the text
-joined_chunks : (text : List ℕ) → joined (chunks text) ≡ text
-joined_chunks [] = refl
-joined_chunks (b ∷ bs) = chunks_more (is_lf b) b (chunks bs) bs (joined_chunks bs)
 
 -- neither part is longer than n
 pub record AreWithin (n : ℕ) (h : Halves) : Type 0 where

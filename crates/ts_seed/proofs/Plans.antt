@@ -1,12 +1,11 @@
 -- What a plan is made of, one line of its table at a time.
 use Rattle.std.proofs.Common.{◌≡◌, ℕ, zero, suc, ◌+◌, ◌<◌, nat_lt, IsTrue, List, [], ◌∷◌, ◌++◌, length, map, drop, get_or, refl, sym, ◌∙◌, ap, subst, arith, length-append}
 use Rattle.std.proofs.lemmas.List.{drop_more, map_push}
-use Rattle.std.proofs.lemmas.Bool.{ltb-true}
+use Rattle.std.proofs.lemmas.Bool.{ltb-true, and_parts}
 use Rattle.ts_base.specs.declared.letter.Letter.{Letter}
 use Rattle.ts_regex.specs.declared.regex.Regex.{Regex}
 use Rattle.ts_regex.specs.Shape.{Shape, shape_of}
 use Rattle.ts_regex.specs.NormalForm.{residual}
-use Rattle.ts_regex.proofs.Booleans.{both_true}
 use Rattle.ts_pattern.specs.declared.plan.Tag.{Tag}
 use Rattle.ts_pattern.specs.Plans.{shape_at, plain_live}
 use Rattle.ts_seed.specs.declared.table.Reading.{Reading}
@@ -30,7 +29,7 @@ pub record Leads (reading : Reading) (rs : List Regex) (os : List (ℕ × Letter
 
 one_read : (reading : Reading) (rs : List Regex) (o : ℕ × Letter) (os : List (ℕ × Letter)) (all : List Shape) (x y : Regex) → Leads reading rs (o ∷ os) all → x ≡ get_or rs o.0 x → shape_of y ≡ residual (shape_of x) (letter_read reading o.1) → Leads reading (rs ++ y ∷ []) os all
 one_read reading rs o os all x y h e q =
-    let t = both_true (nat_lt o.0 (length rs)) (from_earlier (length rs + 1) os) h.earlier in
+    let t = and_parts (nat_lt o.0 (length rs)) (from_earlier (length rs + 1) os) h.earlier in
     let at_o : shape_at (map (λ r. shape_of r) rs) o.0 ≡ shape_of x = shape_at_map rs o.0 x (ltb-true o.0 (length rs) t.0) e in
     let left : residual (shape_at (map (λ r. shape_of r) rs) o.0) (letter_read reading o.1) ≡ shape_of y = ap (λ s. residual s (letter_read reading o.1)) at_o ∙ sym q in
     record {

@@ -5,7 +5,7 @@
 
 ghost use Rattle.std.specs.Prelude.{◌≡◌, ◌≤◌, IsTrue, IfOk, map, length, [], ◌∷◌};
 ghost use Rattle.ts_regex.specs.Shape.{shape_of};
-ghost use Rattle.ts_regex.specs.NormalForm.{normal_form, residual};
+ghost use Rattle.ts_regex.specs.NormalForm.{normal_form};
 ghost use Rattle.ts_transducer.specs.Typing.{is_typed};
 ghost use Rattle.ts_transducer.specs.Rows.{rows_of};
 ghost use Rattle.ts_pattern.specs.Plans.{plain_configuration, plain_plan};
@@ -16,7 +16,7 @@ use arrayvec::ArrayVec;
 use std::alloc::Global;
 use ts_base::{Join, Kind, Letter, Memory};
 use ts_pattern::{Configuration, Live, Plan, Tag};
-use ts_regex::{Regex, derive, normal};
+use ts_regex::{Regex, normal, residual};
 use ts_transducer::{Arrow, Phase, Row, Transducer};
 
 /// The row of a state: its kind, and its moves on `<`, `=` and `>`, each a phase letter and the next state.
@@ -133,18 +133,10 @@ fn residuals(
     let mut residuals = Vec::new(alloc);
     residuals.push(normal(alloc, regex)?)?;
     for &(from, letter) in origins {
-        let left = left_by(alloc, &residuals[from], reading.letter(letter))?;
+        let left = residual(alloc, &residuals[from], reading.letter(letter))?;
         residuals.push(left)?;
     }
     Ok(residuals)
-}
-
-/// What the letter leaves of an expression, in normal form.
-fn left_by(alloc: Global, regex: &Regex, letter: Letter) -> Result<Regex, Memory>
-    ensures { IfOk result (λ r. shape_of r ≡ residual (shape_of regex.now) letter) }
-{
-    let left = derive(alloc, regex, letter)?;
-    normal(alloc, &left)
 }
 
 /// The configurations of a plan.

@@ -2,7 +2,7 @@ mod Fronts
 mod LineLaws
 mod WordLaws
 mod RowLaws
-mod HalfLaws
+pub mod HalfLaws
 mod NumberLaws
 mod SliceLaws
 pub mod NumberTexts

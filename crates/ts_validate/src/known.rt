@@ -8,7 +8,7 @@ ghost use Rattle.ts_validate.specs.Numbers.{number_of, next_number, known_of, kn
 
 use std::alloc::Global;
 use ts_base::{Letter, Memory};
-use ts_regex::{Regex, derive, has_longer, has_word, normal, nullable};
+use ts_regex::{Regex, has_longer, has_word, nullable, residual};
 
 /// A residual: the numbers of the residuals after each letter, the least number with its value, and what the
 /// checks ask of its words.
@@ -77,7 +77,7 @@ fn next(alloc: Global, residuals: &[Regex], r: &Regex, letter: Letter) -> Result
     requires { length residuals.now < 4000000000 }
     ensures { IfOk result (λ n. n ≡ next_number (map (λ s. shape_of s) residuals.now) (shape_of r.now) letter) }
 {
-    let rest = normal(alloc, &derive(alloc, r, letter)?)?;
+    let rest = residual(alloc, r, letter)?;
     if has_word(&rest) {
         Ok(number(residuals, &rest))
     } else {
