@@ -3,7 +3,7 @@ use Rattle.std.specs.Prelude.{ℕ, ◌≡◌, ◌<◌, ◌≤◌, ◌+◌, ◌�
 
 -- a count rose in a call: it is greater afterwards, or stands at the last value of 64 bits
 abbrev pub Rose : ℕ → ℕ → Type 0
-Rose before after = (before < after) ⊎ (18446744073709551615 ≤ after)
+Rose before after = (before < after) ⊎ (after ≡ 18446744073709551615)
 
 -- the count after one more, which stays at the last value of 64 bits
 abbrev pub counted : ℕ → ℕ
