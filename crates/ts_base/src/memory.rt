@@ -1,6 +1,6 @@
 //! A source and a sink in memory, for tests: they go in steps, and fail at the calls that they are told to fail at.
 
-ghost use Rattle.std.specs.Prelude.{ℕ, ◌≡◌, ◌<◌, ◌≤◌, ◌+◌, ◌⊎◌, ◌↔◌, [], ◌++◌, length, take, drop, min, Some, Contains, IfOk, IsErr, OnErr, MatchResult};
+ghost use Rattle.std.specs.Prelude.{ℕ, ◌≡◌, ◌<◌, ◌≤◌, ◌+◌, ◌⊎◌, ◌↔◌, [], ◌++◌, length, take, drop, min, Some, true, Contains, IfOk, IsErr, OnErr, MatchResult};
 ghost use Rattle.ts_base.specs.Outside.{AtEnd, Rose, counted, put_back, taken_more};
 
 use crate::error::Failed;
@@ -126,6 +126,9 @@ impl Sink for MemorySink {
     ghost taken = { λ s. Some s.taken };
 
     ghost sink_faults = { λ s. s.faults };
+
+    // it doesn't tell
+    ghost ended = { λ _. true };
 
     fn write(&mut self, piece: &[u8]) -> Result<usize, Failed>
         ensures fails { Contains self.old.fails (counted self.old.calls) → IsErr result }

@@ -1,6 +1,6 @@
 //! Where bytes come from and where they go.
 
-ghost use Rattle.std.specs.Prelude.{ℕ, ◌≡◌, ◌<◌, ◌≤◌, List, length, take, Option, IfOk, OnErr};
+ghost use Rattle.std.specs.Prelude.{ℕ, ◌≡◌, ◌<◌, ◌≤◌, Bool, List, length, take, Option, IfOk, IsTrue, OnErr};
 ghost use Rattle.ts_base.specs.Outside.{AtEnd, Rose, put_back, taken_more};
 
 use crate::error::Failed;
@@ -24,11 +24,14 @@ pub trait Source {
         ensures later { faults self.old ≤ faults self.new };
 }
 
-/// Takes bytes: `taken` are those that it has taken, where it tells them, and `sink_faults` counts its failed calls.
+/// Takes bytes: `taken` are those that it has taken, where it tells them, `sink_faults` counts its failed calls, and
+/// `ended` holds where the writing was ended, which nothing but a `finish` that went well promises.
 pub trait Sink {
     ghost taken: { Self → Option (List ℕ) };
 
     ghost sink_faults: { Self → ℕ };
+
+    ghost ended: { Self → Bool };
 
     /// Takes the first bytes of `piece` and says how many: of a piece that isn't empty at least one.
     ///
@@ -46,6 +49,7 @@ pub trait Sink {
     /// `Failed` comes only where the count of faults rose. The count never falls.
     fn finish(&mut self) -> Result<(), Failed>
         ensures kept { taken self.new ≡ taken self.old }
+        ensures ended { IfOk result (λ _. IsTrue (ended self.new)) }
         ensures cause { OnErr result (Rose (sink_faults self.old) (sink_faults self.new)) }
         ensures later { sink_faults self.old ≤ sink_faults self.new };
 }

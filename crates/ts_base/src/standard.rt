@@ -1,6 +1,6 @@
 //! Standard input and output, the trusted edge: no clause says which bytes the system gives or takes.
 
-ghost use Rattle.std.specs.Prelude.{ℕ, ◌≡◌, ◌<◌, ◌≤◌, length, IfOk, MatchResult, None};
+ghost use Rattle.std.specs.Prelude.{ℕ, ◌≡◌, ◌<◌, ◌≤◌, length, IfOk, MatchResult, None, true};
 ghost use Rattle.ts_base.specs.Outside.{counted};
 
 use crate::error::Failed;
@@ -76,6 +76,9 @@ impl<W: Write + Drop> Sink for StdOut<W> {
     ghost taken = { λ _. None };
 
     ghost sink_faults = { λ s. s };
+
+    // it doesn't tell
+    ghost ended = { λ _. true };
 
     fn write(&mut self, piece: &[u8]) -> Result<usize, Failed>
         ensures count { MatchResult result (λ _. self.new ≡ self.old) (λ _. self.new ≡ counted self.old) }
