@@ -17,7 +17,7 @@ use ts_base::{Kind, Letter, Memory};
 use ts_pattern::Tag::{Due, InC, InD, Loose, Young};
 use ts_pattern::{Configuration, Live, Pattern, Plan, Tag};
 use ts_regex::regex::{alt, cat, star};
-use ts_regex::{Regex, derive, normal};
+use ts_regex::{Regex, normal, residual};
 use ts_transducer::Phase::{Found, FoundE, Inside, MaybeA, MaybeB, Out, OutA, OutR};
 use ts_transducer::{Arrow, Phase, Row, Transducer};
 use ts_validate::{ValidateStop, Validated, validate};
@@ -417,7 +417,7 @@ fn residuals(alloc: Global, whole: &Regex, small: &Small) -> Result<Vec<Regex>, 
     residuals.push(normal(alloc, whole)?)?;
     for &(from, letter) in small.residuals {
         if let Some(earlier) = residuals.get(from) {
-            let left = normal(alloc, &derive(alloc, earlier, letter)?)?;
+            let left = residual(alloc, earlier, letter)?;
             residuals.push(left)?;
         }
     }
