@@ -1,6 +1,6 @@
 -- Which moves a transducer may have, by the kinds of their states and their phase letter.
 -- An Idle state keeps nothing, a Pending one perhaps a start, a Held one a range that may still grow.
-use Rattle.std.specs.Prelude.{ℕ, Bool, true, false, ◌&&◌, List, [], ◌∷◌, Option, None, Some, slice_get}
+use Rattle.std.specs.Prelude.{Bool, true, false, ◌&&◌, List, [], ◌∷◌, Option, None, Some, slice_get}
 use Rattle.std.specs.List.{list_all}
 use Rattle.ts_base.specs.declared.range.Kind.{Kind}
 use Rattle.ts_base.specs.declared.range.Kind.TheVariants.{Idle, Pending, Held}
