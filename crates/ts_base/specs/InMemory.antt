@@ -1,5 +1,5 @@
 -- A source and a sink in memory, which fail at the calls that they were told to fail at.
-use Rattle.std.specs.Prelude.{ℕ, List, drop}
+use Rattle.std.specs.Prelude.{ℕ, Bool, List, drop}
 use Rattle.ts_base.specs.Outside.{counted}
 
 -- the bytes left, the most that a call gives, the numbers of the calls that fail, the calls and faults so far
@@ -27,3 +27,4 @@ pub record Taking : Type 0 where
   pub fails : List ℕ
   pub calls : ℕ
   pub faults : ℕ
+  pub finished : Bool

@@ -1,6 +1,6 @@
 //! A source and a sink in memory, for tests: they go in steps, and fail at the calls that they are told to fail at.
 
-ghost use Rattle.std.specs.Prelude.{ℕ, ◌≡◌, ◌<◌, ◌≤◌, ◌+◌, ◌⊎◌, ◌↔◌, [], ◌++◌, length, take, drop, min, Some, true, Contains, IfOk, IsErr, OnErr, MatchResult};
+ghost use Rattle.std.specs.Prelude.{ℕ, ◌≡◌, ◌<◌, ◌≤◌, ◌+◌, ◌⊎◌, ◌↔◌, [], ◌++◌, length, take, drop, min, Some, Contains, IfOk, IsErr, OnOk, OnErr, IsTrue, MatchResult};
 ghost use Rattle.ts_base.specs.Outside.{AtEnd, Rose, counted, put_back, taken_more};
 
 use crate::error::Failed;
@@ -83,6 +83,7 @@ pub struct MemorySink {
     fails: Vec<u64>,
     calls: u64,
     faults: u64,
+    finished: bool,
 }
 
 impl Model for MemorySink {
@@ -92,7 +93,7 @@ impl Model for MemorySink {
 
     ghost Value = { Taking };
 
-    ghost view = { λ s. record { taken = s.bytes.items; room = vec_capacity s.bytes; step = s.step; fails = s.fails.items; calls = s.calls; faults = s.faults } };
+    ghost view = { λ s. record { taken = s.bytes.items; room = vec_capacity s.bytes; step = s.step; fails = s.fails.items; calls = s.calls; faults = s.faults; finished = s.finished } };
 
     ghost invariant = { λ s. 0 < s.step };
 }
@@ -111,6 +112,7 @@ impl MemorySink {
             fails,
             calls: 0,
             faults: 0,
+            finished: false,
         }
     }
 
@@ -127,8 +129,7 @@ impl Sink for MemorySink {
 
     ghost sink_faults = { λ s. s.faults };
 
-    // it doesn't tell
-    ghost ended = { λ _. true };
+    ghost finished = { λ s. s.finished };
 
     fn write(&mut self, piece: &[u8]) -> Result<usize, Failed>
         ensures fails { Contains self.old.fails (counted self.old.calls) → IsErr result }
@@ -140,6 +141,7 @@ impl Sink for MemorySink {
         ensures some { IfOk result (λ m. 0 < length piece.now → 0 < m) }
         ensures later { self.old.faults ≤ self.new.faults }
     {
+        self.finished = false;
         self.calls = self.calls.saturating_add(1);
         let count = self.step.min(piece.len());
         let refused = self.fails.contains(&self.calls);
@@ -155,6 +157,7 @@ impl Sink for MemorySink {
         ensures after { (self.new.step ≡ self.old.step) × (self.new.fails ≡ self.old.fails) × (self.new.calls ≡ counted self.old.calls) }
         ensures count { MatchResult result (λ _. self.new.faults ≡ self.old.faults) (λ _. self.new.faults ≡ counted self.old.faults) }
         ensures kept { self.new.taken ≡ self.old.taken }
+        ensures done { OnOk result (IsTrue self.new.finished) }
         ensures later { self.old.faults ≤ self.new.faults }
     {
         self.calls = self.calls.saturating_add(1);
@@ -162,6 +165,7 @@ impl Sink for MemorySink {
             self.faults = self.faults.saturating_add(1);
             return Err(Failed);
         }
+        self.finished = true;
         Ok(())
     }
 }

@@ -1,6 +1,6 @@
 //! Where bytes come from and where they go.
 
-ghost use Rattle.std.specs.Prelude.{ℕ, ◌≡◌, ◌<◌, ◌≤◌, Bool, List, length, take, Option, IfOk, IsTrue, OnErr};
+ghost use Rattle.std.specs.Prelude.{ℕ, ◌≡◌, ◌<◌, ◌≤◌, Bool, IsTrue, List, length, take, Option, IfOk, OnOk, OnErr};
 ghost use Rattle.ts_base.specs.Outside.{AtEnd, Rose, put_back, taken_more};
 
 use crate::error::Failed;
@@ -13,7 +13,7 @@ pub trait Source {
 
     /// Moves the first of the bytes left to the front of `into` and says how many.
     ///
-    /// Into a buffer with room it gives none only at the end. `Failed` comes only where the count of faults rose,
+    /// Into a buffer with room it gives none only at the end. `Failed` comes exactly where the count of faults rose,
     /// and leaves the bytes as they were. The count never falls.
     fn read(&mut self, into: &mut [u8]) -> Result<usize, Failed>
         ensures within { IfOk result (λ m. m ≤ length into.new) }
@@ -21,35 +21,38 @@ pub trait Source {
         ensures end { IfOk result (λ m. m ≡ 0 → 0 < length into.new → AtEnd (left self.old)) }
         ensures kept { OnErr result (left self.new ≡ left self.old) }
         ensures cause { OnErr result (Rose (faults self.old) (faults self.new)) }
+        ensures calm { OnOk result (faults self.new ≡ faults self.old) }
         ensures later { faults self.old ≤ faults self.new };
 }
 
 /// Takes bytes: `taken` are those that it has taken, where it tells them, `sink_faults` counts its failed calls, and
-/// `ended` holds where the writing was ended, which nothing but a `finish` that went well promises.
+/// `finished` holds after a `finish` that went well, until more is written.
 pub trait Sink {
     ghost taken: { Self → Option (List ℕ) };
 
     ghost sink_faults: { Self → ℕ };
 
-    ghost ended: { Self → Bool };
+    ghost finished: { Self → Bool };
 
     /// Takes the first bytes of `piece` and says how many: of a piece that isn't empty at least one.
     ///
-    /// `Failed` comes only where the count of faults rose, and nothing was taken then. The count never falls.
+    /// `Failed` comes exactly where the count of faults rose, and nothing was taken then. The count never falls.
     fn write(&mut self, piece: &[u8]) -> Result<usize, Failed>
         ensures within { IfOk result (λ m. m ≤ length piece.now) }
         ensures took { IfOk result (λ m. taken self.new ≡ taken_more (taken self.old) (take m piece.now)) }
         ensures some { IfOk result (λ m. 0 < length piece.now → 0 < m) }
         ensures kept { OnErr result (taken self.new ≡ taken self.old) }
         ensures cause { OnErr result (Rose (sink_faults self.old) (sink_faults self.new)) }
+        ensures calm { OnOk result (sink_faults self.new ≡ sink_faults self.old) }
         ensures later { sink_faults self.old ≤ sink_faults self.new };
 
     /// Ends the writing, and changes nothing that was taken.
     ///
-    /// `Failed` comes only where the count of faults rose. The count never falls.
+    /// `Failed` comes exactly where the count of faults rose. The count never falls.
     fn finish(&mut self) -> Result<(), Failed>
         ensures kept { taken self.new ≡ taken self.old }
-        ensures ended { IfOk result (λ _. IsTrue (ended self.new)) }
         ensures cause { OnErr result (Rose (sink_faults self.old) (sink_faults self.new)) }
+        ensures calm { OnOk result (sink_faults self.new ≡ sink_faults self.old) }
+        ensures done { OnOk result (IsTrue (finished self.new)) }
         ensures later { sink_faults self.old ≤ sink_faults self.new };
 }

@@ -1,6 +1,6 @@
 //! The whole of a source, and the whole of a text to a sink.
 
-ghost use Rattle.std.specs.Prelude.{ℕ, ◌≡◌, ◌<◌, ◌≤◌, ◌+◌, ◌++◌, length, take, drop, Err, IfOk, IfSome, OnOk, OnErr, IsErrOf, vec_len};
+ghost use Rattle.std.specs.Prelude.{ℕ, ◌≡◌, ◌≢◌, ◌<◌, ◌≤◌, ◌+◌, ◌++◌, length, take, drop, Err, IfOk, IfSome, OnOk, OnErr, IsErrOf, vec_len};
 ghost use Rattle.ts_base.specs.Outside.{AtEnd, GaveAtMost, HasMoreThan, Prefix, Rose, left_after, put_back, taken_more};
 ghost use Rattle.ts_base.specs.declared.whole.ReadStop.TheVariants.{ReadFault as FaultOfReading, Memory as NoMemory};
 
@@ -55,6 +55,8 @@ pub fn read_all<S: Source>(alloc: Global, source: &mut S, limit: usize) -> Resul
     ensures gave { GaveAtMost (limit + 1) (S.left source.old) (S.left source.new) }
 
     ensures cause { result ≡ Err ReadStop.ReadFault → Rose (S.faults source.old) (S.faults source.new) }
+    ensures calm { result ≢ Err ReadStop.ReadFault → S.faults source.new ≡ S.faults source.old }
+    ensures want { result ≡ Err ReadStop.Memory → GaveAtMost limit (S.left source.old) (S.left source.new) }
     ensures later { S.faults source.old ≤ S.faults source.new }
 {
     let mut bytes = Vec::new(alloc);
@@ -96,6 +98,7 @@ fn read_behind<S: Source>(source: &mut S, bytes: &mut [u8], count: usize) -> Res
     ensures end { IfOk result (λ m. m ≡ 0 → AtEnd (S.left source.old)) }
     ensures kept { OnErr result (S.left source.new ≡ S.left source.old) }
     ensures cause { OnErr result (Rose (S.faults source.old) (S.faults source.new)) }
+    ensures calm { OnOk result (S.faults source.new ≡ S.faults source.old) }
     ensures later { S.faults source.old ≤ S.faults source.new }
 {
     source.read(&mut bytes[count..])
@@ -106,6 +109,7 @@ pub fn write_all<K: Sink>(sink: &mut K, bytes: &[u8]) -> Result<(), Failed>
     ensures all { OnOk result (K.taken sink.new ≡ taken_more (K.taken sink.old) bytes.now) }
     ensures front { OnErr result (Prefix bytes.now (K.taken sink.old) (K.taken sink.new)) }
     ensures cause { OnErr result (Rose (K.sink_faults sink.old) (K.sink_faults sink.new)) }
+    ensures calm { OnOk result (K.sink_faults sink.new ≡ K.sink_faults sink.old) }
     ensures later { K.sink_faults sink.old ≤ K.sink_faults sink.new }
 {
     let mut done = 0;

@@ -1,10 +1,10 @@
 //! The top call.
 
-ghost use Rattle.std.specs.Prelude.{ℕ, ◌≡◌, ◌≢◌, ◌<◌, ◌≤◌, ◌+◌, ◌⊎◌, map, string_bytes, None, IfSome, IsTrue};
+ghost use Rattle.std.specs.Prelude.{ℕ, ◌≡◌, ◌≢◌, ◌<◌, ◌≤◌, ◌+◌, ◌⊎◌, map, string_bytes, IsTrue, None, IfSome};
 ghost use Rattle.ts_base.specs.Outside.{GaveAtMost, Rose, taken_more};
 ghost use Rattle.ts_run.specs.AnswerTexts.{fault_read, refused_words, reply_to};
 ghost use Rattle.ts_run.specs.Commands.{byte_limit, command_of};
-ghost use Rattle.ts_run.specs.Reply.{Ends, IsWritten};
+ghost use Rattle.ts_run.specs.Reply.{Ends, IsAnswer, IsWritten};
 
 use crate::answer::answered;
 use crate::command::Command;
@@ -18,7 +18,7 @@ use ts_base::{Memory, ReadStop, Sink, Source, read_all};
 /// Words that are no command's are refused with the source unread. Where a read failed, which a count tells, the
 /// answer is `fault read`; else it is what the command answers to the bytes that the source had left. After `Memory`
 /// the sink has taken nothing, and after `WriteFault`, which comes only where a count tells it, a front of the answer.
-/// After every other status the answer was taken whole and the sink's `finish` went well.
+/// After every other status the answer was taken whole, the sink is finished, and no fault of its own was counted.
 pub fn run<S: Source, K: Sink>(
     alloc: Global,
     words: &Vec<String>,
@@ -37,7 +37,9 @@ pub fn run<S: Source, K: Sink>(
     ensures read_fault { result ≡ Status.ReadFault → Rose (S.faults source.old) (S.faults source.new) }
     ensures fault_told { result ≡ Status.ReadFault → Ends fault_read (K.taken sink.old) (K.taken sink.new) result }
     ensures write_fault { result ≡ Status.WriteFault → Rose (K.sink_faults sink.old) (K.sink_faults sink.new) }
-    ensures ended { IsWritten result → IsTrue (K.ended sink.new) }
+    ensures calm_read { IsAnswer result → S.faults source.new ≡ S.faults source.old }
+    ensures calm_write { IsWritten result → K.sink_faults sink.new ≡ K.sink_faults sink.old }
+    ensures done { IsWritten result → IsTrue (K.finished sink.new) }
     ensures memory { result ≡ Status.Memory → K.taken sink.new ≡ K.taken sink.old }
     ensures reads_later { S.faults source.old ≤ S.faults source.new }
     ensures writes_later { K.sink_faults sink.old ≤ K.sink_faults sink.new }

@@ -6,6 +6,7 @@ abbrev pub invariant-loop-done : goal.invariant-loop-done
 invariant-loop-done g l = record {
   took : g.K.Sink.taken l.sink ≡ taken_more (g.K.Sink.taken l.fn.sink) (take l.done l.bytes);
   within : l.done ≤ length l.bytes;
+  calm : g.K.Sink.sink_faults l.sink ≡ g.K.Sink.sink_faults l.fn.sink;
   later : g.K.Sink.sink_faults l.fn.sink ≤ g.K.Sink.sink_faults l.sink;
 }
 
