@@ -1,7 +1,7 @@
 -- Pieces given and taken one after the other.
-use Rattle.std.proofs.Common.{◌≡◌, ℕ, ◌+◌, List, ◌++◌, length, take, drop, refl, ap, sym, ◌∙◌, append_assoc}
-use Rattle.std.proofs.lemmas.List.{take_at}
-use Rattle.std.proofs.Math.Seq.{take-add}
+use Rattle.std.proofs.Common.{◌≡◌, ℕ, ◌≤◌, ◌+◌, ◌-◌, List, ◌++◌, length, take, drop, min, refl, ap, sym, ◌∙◌, append_assoc, arith}
+use Rattle.std.proofs.lemmas.List.{take_at, take_min}
+use Rattle.std.proofs.Math.Seq.{take-add, take-append-add}
 use Rattle.std.specs.Prelude.{Option, Some, None}
 use Rattle.ts_base.specs.Outside.{put_back, taken_more}
 
@@ -33,3 +33,10 @@ pub given_behind : (n m room : ℕ) (old grown lent new rest : List ℕ) (first 
 given_behind n m room old grown lent new rest first before after grew is same size e f =
     given_more n m old new first before after (same ∙ ap (take n) is ∙ grew) e f
     ∙ ap (λ all. put_back (take (n + m) all) after) (sym (take_at new rest room size))
+
+-- what fits of a piece behind the bytes kept
+pub kept_in_room : (kept piece : List ℕ) (room : ℕ) → length kept ≤ room → kept ++ take (min (room - length kept) (length piece)) piece ≡ take room (kept ++ piece)
+kept_in_room kept piece room within =
+    ap (λ front. kept ++ front) (take_min (room - length kept) piece)
+    ∙ sym (take-append-add kept piece (room - length kept))
+    ∙ ap (λ n. take n (kept ++ piece)) (omega (arith, within))

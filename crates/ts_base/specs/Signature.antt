@@ -12,3 +12,9 @@ abbrev pub signature_of : List ℤ → List Letter
 signature_of [] = []
 signature_of (x ∷ []) = []
 signature_of (x ∷ y ∷ ys) = letter_of x y ∷ signature_of (y ∷ ys)
+
+-- the letter between the same two cells, read from the last cell to the first
+abbrev pub flip_of : Letter → Letter
+flip_of Less = Greater
+flip_of Equal = Equal
+flip_of Greater = Less

@@ -1,7 +1,7 @@
 //! Whole numbers with the two infinities.
 
 ghost use Rattle.std.specs.Prelude.{◌≡◌};
-ghost use Rattle.ts_base.specs.Numbers.{ext_plus};
+ghost use Rattle.ts_base.specs.Numbers.{ext_max, ext_min, ext_plus};
 
 /// A whole number or an infinity, in their usual order.
 #[derive(Clone, Copy, Debug, PartialEq, Eq, PartialOrd, Ord)]
@@ -24,5 +24,19 @@ impl Ext {
             (Ext::PosInf, _) | (_, Ext::PosInf) => Ext::PosInf,
             (Ext::Int(x), Ext::Int(y)) => Ext::Int(x.saturating_add(y).clamp(-CLAMP, CLAMP)),
         }
+    }
+
+    /// The greater of the two.
+    pub fn greater(self, other: Ext) -> Ext
+        ensures { result ≡ ext_max self other }
+    {
+        if self <= other { other } else { self }
+    }
+
+    /// The lesser of the two.
+    pub fn lesser(self, other: Ext) -> Ext
+        ensures { result ≡ ext_min self other }
+    {
+        if self <= other { self } else { other }
     }
 }

@@ -1,5 +1,5 @@
-//! The ground that every crate stands on: numbers with infinities, the letters of a signature, ranges of cells, and
-//! the outside.
+//! The ground that every crate stands on: numbers with infinities and spans of them, the letters of a signature, ranges
+//! of cells, limits, and the outside.
 //!
 //! A crate above reads and writes through `Source` and `Sink`, and learns by their clauses which bytes were given and
 //! taken, and that a fault comes only where one was counted:
@@ -11,24 +11,31 @@
 //! ```
 #![tactic(auto)]
 
-pub mod error;
-pub mod ext;
-pub mod letter;
-pub mod memory;
-pub mod outside;
-pub mod range;
-pub mod standard;
+mod error;
+mod ext;
+mod goal;
+mod in_memory;
+mod letter;
+pub mod limits;
+mod never;
+mod outside;
+mod range;
+mod read_write;
+mod span;
+mod standard;
 #[cfg(test)]
 mod tests;
-pub mod text;
-pub mod whole;
+mod text;
 
 pub use error::{Failed, Memory};
 pub use ext::Ext;
-pub use letter::{Letter, letter_of};
-pub use memory::{MemorySink, MemorySource};
+pub use goal::Goal;
+pub use in_memory::{MemorySink, MemorySource};
+pub use letter::{Letter, flip, letter_of};
+pub use never::{NeverSink, NeverSource};
 pub use outside::{Sink, Source};
 pub use range::{Join, Kind, Range};
+pub use read_write::{ReadStop, read_all, write_all};
+pub use span::Span;
 pub use standard::{StdIn, StdOut};
 pub use text::{push_ext, push_number};
-pub use whole::{ReadStop, read_all, write_all};

@@ -1,6 +1,6 @@
 use Rattle.std.proofs.Common.{◌≡◌, ◌≤◌, ◌+◌, ◌-◌, take, vec_len}
 use Rattle.ts_base.specs.Outside.{put_back}
-use Rattle.ts_base.proofs.whole.read_all.Given as goal
+use Rattle.ts_base.proofs.read_write.read_all.Given as goal
 
 abbrev pub invariant-loop-count : goal.invariant-loop-count
 invariant-loop-count g l = record {

@@ -1,6 +1,6 @@
 use Rattle.std.proofs.Common.{◌≡◌, ◌≤◌, ◌-◌, take, length}
 use Rattle.ts_base.specs.Outside.{taken_more}
-use Rattle.ts_base.proofs.whole.write_all.Given as goal
+use Rattle.ts_base.proofs.read_write.write_all.Given as goal
 
 abbrev pub invariant-loop-done : goal.invariant-loop-done
 invariant-loop-done g l = record {

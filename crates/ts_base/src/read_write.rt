@@ -2,7 +2,7 @@
 
 ghost use Rattle.std.specs.Prelude.{ℕ, ◌≡◌, ◌≢◌, ◌<◌, ◌≤◌, ◌+◌, ◌++◌, length, take, drop, Err, IfOk, IfSome, OnOk, OnErr, IsErrOf, vec_len};
 ghost use Rattle.ts_base.specs.Outside.{AtEnd, GaveAtMost, HasMoreThan, Prefix, Rose, left_after, put_back, taken_more};
-ghost use Rattle.ts_base.specs.declared.whole.ReadStop.TheVariants.{ReadFault as FaultOfReading, Memory as NoMemory};
+ghost use Rattle.ts_base.specs.declared.read_write.ReadStop.TheVariants.{ReadFault as FaultOfReading, Memory as NoMemory};
 
 use crate::error::{Failed, Memory};
 use crate::outside::{Sink, Source};

@@ -1,7 +1,7 @@
 use Rattle.std.proofs.Common.{arith, ◌∙◌}
 use Rattle.std.proofs.lemmas.List.{take_rest}
 use Rattle.ts_base.proofs.Pieces.{taken_further}
-use Rattle.ts_base.proofs.whole.write_all.Goals as goal
+use Rattle.ts_base.proofs.read_write.write_all.Goals as goal
 
 pub loop-done-preserved : goal.loop-done-preserved
 loop-done-preserved g c = record {

@@ -1,6 +1,6 @@
 use Rattle.std.proofs.Common.{arith, ◌∙◌}
 use Rattle.ts_base.proofs.Pieces.{given_behind}
-use Rattle.ts_base.proofs.whole.read_all.Goals as goal
+use Rattle.ts_base.proofs.read_write.read_all.Goals as goal
 
 pub loop-count-preserved : goal.loop-count-preserved
 loop-count-preserved g c = record {

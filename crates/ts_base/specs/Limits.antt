@@ -1,0 +1,30 @@
+-- How large a model may be.
+use Rattle.std.specs.Prelude.{ℕ, ℤ, pos, neg_ℤ, ◌≤ℤ◌}
+
+-- the most cells of a series
+abbrev pub most_cells : ℕ
+most_cells = 512
+
+-- the greatest value of a cell; the least is its opposite
+abbrev pub greatest_value : ℤ
+greatest_value = pos 1000000
+
+-- a value that a cell may have
+abbrev pub IsCellValue : ℤ → Type 0
+IsCellValue x = (neg_ℤ greatest_value ≤ℤ x) × (x ≤ℤ greatest_value)
+
+-- the most terms of a model
+abbrev pub most_terms : ℕ
+most_terms = 32
+
+-- the most requirements of a model
+abbrev pub most_requirements : ℕ
+most_requirements = 64
+
+-- the greatest bound of a requirement that is a number; the least is its opposite
+abbrev pub greatest_bound : ℤ
+greatest_bound = pos 1000000000000
+
+-- the most values that all domains of a model have together, where it is solved
+abbrev pub most_domain_values : ℕ
+most_domain_values = 65536
