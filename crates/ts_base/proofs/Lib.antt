@@ -1,2 +1,4 @@
 pub mod Order
 pub mod Pieces
+mod WordCuts
+pub mod WordLaws

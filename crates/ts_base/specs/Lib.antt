@@ -6,3 +6,4 @@ pub mod Outside
 pub mod Signature
 pub mod Spans
 pub mod Text
+pub mod Words

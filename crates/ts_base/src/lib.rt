@@ -26,6 +26,7 @@ mod standard;
 #[cfg(test)]
 mod tests;
 mod text;
+mod words;
 
 pub use error::{Failed, Memory};
 pub use ext::Ext;
@@ -39,3 +40,4 @@ pub use read_write::{ReadStop, read_all, write_all};
 pub use span::Span;
 pub use standard::{StdIn, StdOut};
 pub use text::{push_ext, push_number};
+pub use words::{Words, first_line, without_lf, words_of};
