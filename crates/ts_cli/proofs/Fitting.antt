@@ -53,18 +53,24 @@ plan_fits id s p e q =
     (subst (λ (t : SeedTable). IsTrue (is_plan_of (pattern_shape id) t.plan)) (sym e) (tested id))
 
 -- each residual number is below n, in plain configurations
-known_is : (n : ℕ) (xs : List Configuration) → list_all (λ x. list_all (λ e. nat_lt e.residual n) x.live.items) xs ≡ list_all (λ (x : PlainConfiguration ℕ). list_all (λ (e : Entry (Unit {0}) ℕ Tag). nat_lt e.residual n) x.live) (map (λ x. plain_configuration x) xs)
+known_is : (n : ℕ) (xs : List Configuration) → list_all (λ x. list_all (λ e. nat_lt e.residual n) x.live.items) xs
+    ≡ list_all (λ (x : PlainConfiguration ℕ). list_all (λ (e : Entry (Unit {0}) ℕ Tag). nat_lt e.residual n) x.live) (map (λ x. plain_configuration x) xs)
 known_is n [] = refl
 known_is n (x ∷ xs) =
-    ap (λ z. z && list_all (λ x. list_all (λ e. nat_lt e.residual n) x.live.items) xs) (sym (list_all-map (λ (e : Entry (Unit {0}) ℕ Tag). nat_lt e.residual n) (λ e. plain_live e) x.live.items))
+    ap (λ z. z && list_all (λ x. list_all (λ e. nat_lt e.residual n) x.live.items) xs)
+    (sym (list_all-map (λ (e : Entry (Unit {0}) ℕ Tag). nat_lt e.residual n) (λ e. plain_live e) x.live.items))
     ∙ ap (λ z. list_all (λ (e : Entry (Unit {0}) ℕ Tag). nat_lt e.residual n) (map (λ e. plain_live e) x.live.items) && z) (known_is n xs)
 
 -- the three tests of a plan are the whole test
-pub fits_is : (plan : Plan) (p whole : Shape) (n : ℕ) (a b c : Bool) → whole ≡ normal_form p → n ≡ length plan.residuals.items → a ≡ first_passes (λ r. same_shape r whole) (map (λ r. shape_of r) plan.residuals.items) → b ≡ first_passes (λ x. is_blank x) (map (λ x. plain_configuration x) plan.configurations.items) → c ≡ list_all (λ x. list_all (λ e. nat_lt e.residual n) x.live.items) plan.configurations.items → (a && (b && c)) ≡ is_plan_of p (plain_plan plan)
+pub fits_is : (plan : Plan) (p whole : Shape) (n : ℕ) (a b c : Bool) → whole ≡ normal_form p → n ≡ length plan.residuals.items →
+    a ≡ first_passes (λ r. same_shape r whole) (map (λ r. shape_of r) plan.residuals.items) →
+    b ≡ first_passes (λ x. is_blank x) (map (λ x. plain_configuration x) plan.configurations.items) →
+    c ≡ list_all (λ x. list_all (λ e. nat_lt e.residual n) x.live.items) plan.configurations.items → (a && (b && c)) ≡ is_plan_of p (plain_plan plan)
 fits_is plan p whole n a b c normal size first blank known =
     let residuals = map (λ r. shape_of r) plan.residuals.items in
     let configurations = map (λ x. plain_configuration x) plan.configurations.items in
     let all = λ (n : ℕ). list_all (λ (x : PlainConfiguration ℕ). list_all (λ (e : Entry (Unit {0}) ℕ Tag). nat_lt e.residual n) x.live) configurations in
     ap (λ z. z && (b && c)) (first ∙ ap (λ (w : Shape). first_passes (λ r. same_shape r w) residuals) normal)
     ∙ ap (λ z. first_passes (λ r. same_shape r (normal_form p)) residuals && (z && c)) blank
-    ∙ ap (λ z. first_passes (λ r. same_shape r (normal_form p)) residuals && (first_passes (λ x. is_blank x) configurations && z)) (known ∙ known_is n plan.configurations.items ∙ ap all (size ∙ sym (length-map plan.residuals.items (λ r. shape_of r))))
+    ∙ ap (λ z. first_passes (λ r. same_shape r (normal_form p)) residuals && (first_passes (λ x. is_blank x) configurations && z))
+    (known ∙ known_is n plan.configurations.items ∙ ap all (size ∙ sym (length-map plan.residuals.items (λ r. shape_of r))))

@@ -7,7 +7,8 @@ use Rattle.ts_base.specs.declared.range.Range.{Range}
 use Rattle.ts_pattern.specs.EachOf.{Each}
 use Rattle.ts_occurrence.specs.Noted.{IsCut}
 
-pub cut_more : (cell k : ℕ) (xs : List Range) (x : Range) → 0 < k → k ≤ length xs → x ≡ get_or xs (k - 1) x → cell ≤ x.first → Each (λ r. cell ≤ r.first) (drop k xs) → Each (λ r. cell ≤ r.first) (drop (k - 1) xs)
+pub cut_more : (cell k : ℕ) (xs : List Range) (x : Range) → 0 < k → k ≤ length xs → x ≡ get_or xs (k - 1) x → cell ≤ x.first →
+    Each (λ r. cell ≤ r.first) (drop k xs) → Each (λ r. cell ≤ r.first) (drop (k - 1) xs)
 cut_more cell k xs x p q e c h =
     let inside : k - 1 < length xs = omega arith in
     let next : k - 1 + 1 ≡ k = omega arith in
@@ -15,7 +16,8 @@ cut_more cell k xs x p q e c h =
     subst (λ z. Each (λ r. cell ≤ r.first) z) (sym (parts ∙ ap (λ z. get_or xs (k - 1) x ∷ drop z xs) next))
     (subst (λ (z : Range). cell ≤ z.first) e c, h)
 
-pub cut_done : (cell k : ℕ) (xs : List Range) (x : Range) → k ≤ length xs → x ≡ get_or xs (k - 1) x → x.first < cell → Each (λ r. cell ≤ r.first) (drop k xs) → IsCut xs cell k
+pub cut_done : (cell k : ℕ) (xs : List Range) (x : Range) → k ≤ length xs → x ≡ get_or xs (k - 1) x → x.first < cell → Each (λ r. cell ≤ r.first) (drop k xs) →
+    IsCut xs cell k
 cut_done cell k xs x q e c h =
     record {
       inside = q;

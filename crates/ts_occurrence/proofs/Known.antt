@@ -30,7 +30,8 @@ last [] x = refl
 last (y ∷ xs) x = last xs x
 
 -- what stands in a list with one more element
-front_or_last : {A : Type 0} (xs : List A) (y : A) (k : ℕ) (x : A) → slice_get (xs ++ y ∷ []) k ≡ Some x → (slice_get xs k ≡ Some x) ⊎ ((k ≡ length xs) × (y ≡ x))
+front_or_last : {A : Type 0} (xs : List A) (y : A) (k : ℕ) (x : A) → slice_get (xs ++ y ∷ []) k ≡ Some x →
+    (slice_get xs k ≡ Some x) ⊎ ((k ≡ length xs) × (y ≡ x))
 front_or_last [] y zero x q = inr (refl, same_Some y x q)
 front_or_last [] y (suc k) x q = absurd (none-some x q)
 front_or_last (z ∷ xs) y zero x q = inl q
@@ -59,10 +60,12 @@ within_grown old new k g q =
 pub grows_on : (xs ys zs : List Shape) → Grows xs ys → Grows ys zs → Grows xs zs
 grows_on xs ys zs g h n r q = h n r (g n r q)
 
-pub same_grown : (old new : List Met) (k : ℕ) (r : Shape) → Grows (known old) (known new) → k < length old → get_or (known old) k NoWord ≡ r → get_or (known new) k NoWord ≡ r
+pub same_grown : (old new : List Met) (k : ℕ) (r : Shape) → Grows (known old) (known new) → k < length old → get_or (known old) k NoWord ≡ r →
+    get_or (known new) k NoWord ≡ r
 same_grown old new k r g q e =
     let inside : k < length (known old) = (let z = known_length old in omega arith) in
-    get_or_from_slice_get (known new) k (get_or (known old) k NoWord) NoWord (g k (get_or (known old) k NoWord) (slice_get-get_or (known old) k NoWord inside)) ∙ e
+    get_or_from_slice_get (known new) k (get_or (known old) k NoWord) NoWord (g k (get_or (known old) k NoWord) (slice_get-get_or (known old) k NoWord inside))
+    ∙ e
 
 pub stays_within : (old new : List Met) (k : ℕ) → Grows (known old) (known new) → k < length old → k < length new
 stays_within old new k g q = within_grown (known old) new k g (let z = known_length old in omega arith)
@@ -76,7 +79,8 @@ number_within ms n r q =
 -- one more residual
 
 grown_by_one : (ms : List Met) (m : Met) → Grows (known ms) (known (ms ++ m ∷ []))
-grown_by_one ms m n r q = subst (λ z. IsNumber z r n) (sym (map-append (λ x. shape_of x.residual) ms (m ∷ []))) (front (known ms) (shape_of m.residual ∷ []) n r q)
+grown_by_one ms m n r q = subst (λ z. IsNumber z r n) (sym (map-append (λ x. shape_of x.residual) ms (m ∷ [])))
+    (front (known ms) (shape_of m.residual ∷ []) n r q)
 
 last_is : (ms : List Met) (m : Met) → IsNumber (known (ms ++ m ∷ [])) (shape_of m.residual) (length ms)
 last_is ms m = known_get (ms ++ m ∷ []) (length ms) m (last ms m)
@@ -98,7 +102,8 @@ right_with_one ms m h lacks none =
     split : (i : ℕ) (r : Shape) → IsNumber (known (ms ++ m ∷ [])) r i → IsNumber (known ms) r i ⊎ ((i ≡ length (known ms)) × (shape_of m.residual ≡ r))
     split i r p = front_or_last (known ms) (shape_of m.residual) i r (subst (λ z. IsNumber z r i) (map-append (λ x. shape_of x.residual) ms (m ∷ [])) p)
 
-    once : (i j : ℕ) (r : Shape) → IsNumber (known ms) r i ⊎ ((i ≡ length (known ms)) × (shape_of m.residual ≡ r)) → IsNumber (known ms) r j ⊎ ((j ≡ length (known ms)) × (shape_of m.residual ≡ r)) → i ≡ j
+    once : (i j : ℕ) (r : Shape) → IsNumber (known ms) r i ⊎ ((i ≡ length (known ms)) × (shape_of m.residual ≡ r)) →
+        IsNumber (known ms) r j ⊎ ((j ≡ length (known ms)) × (shape_of m.residual ≡ r)) → i ≡ j
     once i j r p q =
         ⊎_elim
         (λ a. ⊎_elim (λ b. h.once i j r a b) (λ b. absurd (lacks i (subst (λ z. IsNumber (known ms) z i) (sym b.1) a))) q)
@@ -107,7 +112,8 @@ right_with_one ms m h lacks none =
 
 pub right_alone : (m : Met) → ((l : Letter) → number_after m l ≡ None) → AreRight (m ∷ [])
 right_alone m none =
-    right_with_one [] m (record { once = λ i j r p q. absurd (none-some r p); after = λ k n x l p q. absurd (none-some x p) }) (λ n p. absurd (none-some (shape_of m.residual) p)) none
+    right_with_one [] m (record { once = λ i j r p q. absurd (none-some r p); after = λ k n x l p q. absurd (none-some x p) })
+    (λ n p. absurd (none-some (shape_of m.residual) p)) none
 
 -- one more number noted
 
@@ -117,7 +123,8 @@ kept_residual m n Equal = refl
 kept_residual m n Greater = refl
 
 known_kept : (ms : List Met) (k n : ℕ) (m d : Met) (l : Letter) → m ≡ get_or ms k d → known (set ms k (with_number_after m l n)) ≡ known ms
-known_kept ms k n m d l e = map-set_same (λ x. shape_of x.residual) ms k (with_number_after m l n) d (kept_residual m n l ∙ ap (λ (z : Met). shape_of z.residual) e)
+known_kept ms k n m d l e = map-set_same (λ x. shape_of x.residual) ms k (with_number_after m l n) d
+    (kept_residual m n l ∙ ap (λ (z : Met). shape_of z.residual) e)
 
 -- a number after m is that of before or the one noted
 noted : (m : Met) (n i : ℕ) (l k : Letter) → number_after (with_number_after m l n) k ≡ Some i → (number_after m k ≡ Some i) ⊎ ((l ≡ k) × (n ≡ i))
@@ -139,7 +146,8 @@ set_or_old (z ∷ xs) zero (suc k) y x q = inr q
 set_or_old (z ∷ xs) (suc i) zero y x q = inr q
 set_or_old (z ∷ xs) (suc i) (suc k) y x q = ⊎_elim (λ h. inl (ap (λ n. suc n) h.0, h.1)) (λ h. inr h) (set_or_old xs i k y x q)
 
-right_with_number : (ms : List Met) (i n : ℕ) (m d : Met) (l : Letter) → i < length ms → m ≡ get_or ms i d → IsNumber (known ms) (residual (shape_of m.residual) l) n → AreRight ms → AreRight (set ms i (with_number_after m l n))
+right_with_number : (ms : List Met) (i n : ℕ) (m d : Met) (l : Letter) → i < length ms → m ≡ get_or ms i d →
+    IsNumber (known ms) (residual (shape_of m.residual) l) n → AreRight ms → AreRight (set ms i (with_number_after m l n))
 right_with_number ms i n m d l inside e number h =
     let same : known (set ms i (with_number_after m l n)) ≡ known ms = known_kept ms i n m d l e in
     record {
@@ -148,27 +156,33 @@ right_with_number ms i n m d l inside e number h =
           (⊎_elim (λ g. changed x c j (sym g.1) q) (λ g. h.after k j x c g q) (set_or_old ms i k (with_number_after m l n) x p));
     }
   where
-    changed : (x : Met) (c : Letter) (j : ℕ) → x ≡ with_number_after m l n → number_after x c ≡ Some j → IsNumber (known ms) (residual (shape_of x.residual) c) j
+    changed : (x : Met) (c : Letter) (j : ℕ) → x ≡ with_number_after m l n → number_after x c ≡ Some j →
+        IsNumber (known ms) (residual (shape_of x.residual) c) j
     changed x c j same q =
         let shape : shape_of x.residual ≡ shape_of m.residual = ap (λ (z : Met). shape_of z.residual) same ∙ kept_residual m n l in
         subst (λ z. IsNumber (known ms) (residual z c) j) (sym shape)
         (⊎_elim
         (λ g. h.after i j m c (at ms i m d inside e) g)
-        (λ g. subst (λ z. IsNumber (known ms) (residual (shape_of m.residual) z) j) g.0 (subst (λ z. IsNumber (known ms) (residual (shape_of m.residual) l) z) g.1 number))
+        (λ g. subst (λ z. IsNumber (known ms) (residual (shape_of m.residual) z) j) g.0
+        (subst (λ z. IsNumber (known ms) (residual (shape_of m.residual) l) z) g.1 number))
         (noted m n j l c (ap (λ (z : Met). number_after z c) (sym same) ∙ q)))
 
 -- the number of what a letter leaves of residual k, noted
-pub noted_right : (old now : List Met) (k n : ℕ) (l : Letter) (m d new : Met) (r rest : Shape) → k < length old → r ≡ get_or (known old) k NoWord → rest ≡ residual r l → Grows (known old) (known now) → AreRight now → IsNumber (known now) rest n → m ≡ get_or now k d → new ≡ with_number_after m l n →
+pub noted_right : (old now : List Met) (k n : ℕ) (l : Letter) (m d new : Met) (r rest : Shape) → k < length old → r ≡ get_or (known old) k NoWord →
+    rest ≡ residual r l → Grows (known old) (known now) → AreRight now → IsNumber (known now) rest n → m ≡ get_or now k d → new ≡ with_number_after m l n →
     AreRight (set now k new) × Grows (known old) (known (set now k new)) × IsNumber (known (set now k new)) (residual (get_or (known old) k NoWord) l) n
 noted_right old now k n l m d new r rest q er es g h number em en =
     let here : k < length (known old) = (let z = known_length old in omega arith) in
     let inside : k < length now = within_grown (known old) now k g here in
-    let kept : r ≡ shape_of m.residual = same_Some r (shape_of m.residual) (sym (subst (λ z. IsNumber (known now) z k) (sym er) (g k (get_or (known old) k NoWord) (slice_get-get_or (known old) k NoWord here))) ∙ known_get now k m (at now k m d inside em)) in
+    let kept : r ≡ shape_of m.residual = same_Some r (shape_of m.residual)
+    (sym (subst (λ z. IsNumber (known now) z k) (sym er) (g k (get_or (known old) k NoWord) (slice_get-get_or (known old) k NoWord here)))
+    ∙ known_get now k m (at now k m d inside em)) in
     let is : rest ≡ residual (shape_of m.residual) l = es ∙ ap (λ z. residual z l) kept in
     let same : known (set now k new) ≡ known now = ap (λ z. known (set now k z)) en ∙ known_kept now k n m d l em in (
       subst (λ z. AreRight (set now k z)) (sym en) (right_with_number now k n m d l inside em (subst (λ z. IsNumber (known now) z n) is number) h),
       subst (λ z. Grows (known old) z) (sym same) g,
-      subst (λ z. IsNumber z (residual (get_or (known old) k NoWord) l) n) (sym same) (subst (λ z. IsNumber (known now) z n) (es ∙ ap (λ z. residual z l) er) number),
+      subst (λ z. IsNumber z (residual (get_or (known old) k NoWord) l) n) (sym same)
+          (subst (λ z. IsNumber (known now) z n) (es ∙ ap (λ z. residual z l) er) number),
     )
 
 -- looking one up
@@ -177,7 +191,8 @@ pub found_is : (ms : List Met) (r : Shape) (n : ℕ) → position (λ m. same_sh
 found_is [] r n q = absurd (none-some n q)
 found_is (d ∷ ms) r n q =
     let there = position-Some (λ m. same_shape (shape_of m.residual) r) (d ∷ ms) n d q in
-    known_get (d ∷ ms) n (get_or (d ∷ ms) n d) (slice_get-get_or (d ∷ ms) n d there.0) ∙ ap (λ z. Some z) ((same_law (shape_of (get_or (d ∷ ms) n d).residual) r).0 there.1)
+    known_get (d ∷ ms) n (get_or (d ∷ ms) n d) (slice_get-get_or (d ∷ ms) n d there.0)
+    ∙ ap (λ z. Some z) ((same_law (shape_of (get_or (d ∷ ms) n d).residual) r).0 there.1)
 
 not_found : (ms : List Met) (r : Shape) → position (λ m. same_shape (shape_of m.residual) r) ms ≡ None → Lacks ms r
 not_found ms r q n p = there (slice_get ms n) refl
@@ -190,17 +205,23 @@ not_found ms r q n p = there (slice_get ms n) refl
         let no : same_shape (shape_of (get_or ms n m).residual) r ≡ false = fails_before_first (λ m. same_shape (shape_of m.residual) r) ms n m (omega arith) in
         let is : get_or ms n m ≡ m = get_or_from_slice_get ms n m m e in
         let shape : shape_of m.residual ≡ r = same_Some (shape_of m.residual) r (sym (known_get ms n m e) ∙ p) in
-        let yes : same_shape (shape_of (get_or ms n m).residual) r ≡ true = (same_law (shape_of (get_or ms n m).residual) r).1 (ap (λ (z : Met). shape_of z.residual) is ∙ shape) in
+        let yes : same_shape (shape_of (get_or ms n m).residual) r ≡ true =
+        (same_law (shape_of (get_or ms n m).residual) r).1 (ap (λ (z : Met). shape_of z.residual) is ∙ shape) in
         absurd (true≢false (sym yes ∙ no))
 
 -- a residual that wasn't met before comes last
-pub pushed_right : (old new : List Met) (m : Met) (r : Regex) (n : ℕ) → AreRight old → position (λ x. same_shape (shape_of x.residual) (shape_of r)) old ≡ None → m ≡ record { residual = r; less = None; equal = None; greater = None } → new ≡ old ++ m ∷ [] → n ≡ length old →
+pub pushed_right : (old new : List Met) (m : Met) (r : Regex) (n : ℕ) → AreRight old →
+    position (λ x. same_shape (shape_of x.residual) (shape_of r)) old ≡ None → m ≡ record { residual = r; less = None; equal = None; greater = None } →
+    new ≡ old ++ m ∷ [] → n ≡ length old →
     AreRight new × Grows (known old) (known new) × IsNumber (known new) (shape_of r) n
 pushed_right old new m r n h none em en el =
     let shape : shape_of m.residual ≡ shape_of r = ap (λ (z : Met). shape_of z.residual) em in (
-      subst (λ z. AreRight z) (sym en) (right_with_one old m h (subst (λ z. Lacks old z) (sym shape) (not_found old (shape_of r) none)) (λ l. ap (λ (z : Met). number_after z l) em ∙ nowhere l)),
+      subst (λ z. AreRight z) (sym en) (right_with_one old m h (subst (λ z. Lacks old z) (sym shape) (not_found old (shape_of r) none))
+          (λ l. ap (λ (z : Met). number_after z l) em ∙ nowhere l)),
       subst (λ z. Grows (known old) (known z)) (sym en) (grown_by_one old m),
-      subst (λ z. IsNumber (known z) (shape_of r) n) (sym en) (subst (λ z. IsNumber (known (old ++ m ∷ [])) (shape_of r) z) (sym el) (subst (λ z. IsNumber (known (old ++ m ∷ [])) z (length old)) shape (last_is old m))),
+      subst (λ z. IsNumber (known z) (shape_of r) n) (sym en)
+          (subst (λ z. IsNumber (known (old ++ m ∷ [])) (shape_of r) z) (sym el)
+          (subst (λ z. IsNumber (known (old ++ m ∷ [])) z (length old)) shape (last_is old m))),
     )
   where
     nowhere : (l : Letter) → number_after (record { residual = r; less = None; equal = None; greater = None }) l ≡ None

@@ -19,7 +19,8 @@ over_last : (op : ℤ → ℤ → ℤ) (y : ℤ) (xs : List ℤ) → over op (xs
 over_last op y [] = refl
 over_last op y (x ∷ xs) = ap (λ z. Some z) (fold_last op x y xs)
 
-pub over_more : (op : ℤ → ℤ → ℤ) (xs : List ℤ) (k : ℕ) (d x t : ℤ) (o : Option ℤ) → k < length xs → x ≡ get_or xs k d → o ≡ over op (take k xs) → t ≡ with_one op o x → Some t ≡ over op (take (k + 1) xs)
+pub over_more : (op : ℤ → ℤ → ℤ) (xs : List ℤ) (k : ℕ) (d x t : ℤ) (o : Option ℤ) → k < length xs → x ≡ get_or xs k d → o ≡ over op (take k xs) →
+    t ≡ with_one op o x → Some t ≡ over op (take (k + 1) xs)
 over_more op xs k d x t o q e b h =
     ap (λ z. Some z) h
     ∙ ap (λ z. Some (with_one op z x)) b
@@ -28,7 +29,8 @@ over_more op xs k d x t o q e b h =
     ∙ ap (λ z. over op z) (sym (take_more xs k d q))
 
 -- the same over what a list is mapped to
-pub over_map_more : {A : Type 0} (op : ℤ → ℤ → ℤ) (f : A → ℤ) (xs : List A) (k : ℕ) (d : A) (x t : ℤ) (o : Option ℤ) → k < length xs → x ≡ f (get_or xs k d) → o ≡ over op (map f (take k xs)) → t ≡ with_one op o x → Some t ≡ over op (map f (take (k + 1) xs))
+pub over_map_more : {A : Type 0} (op : ℤ → ℤ → ℤ) (f : A → ℤ) (xs : List A) (k : ℕ) (d : A) (x t : ℤ) (o : Option ℤ) → k < length xs → x ≡ f (get_or xs k d) →
+    o ≡ over op (map f (take k xs)) → t ≡ with_one op o x → Some t ≡ over op (map f (take (k + 1) xs))
 over_map_more op f xs k d x t o q e b h =
     ap (λ z. Some z) h
     ∙ ap (λ z. Some (with_one op z x)) b
@@ -42,13 +44,15 @@ joined_within Sum m n t x h k = let h0 = h.0 in let h1 = h.1 in let k0 = k.0 in 
 joined_within Max m n t x h k = let h0 = h.0 in let h1 = h.1 in let k0 = k.0 in let k1 = k.1 in (omega (arith, ints, clamps), omega (arith, ints, clamps))
 joined_within Min m n t x h k = let h0 = h.0 in let h1 = h.1 in let k0 = k.0 in let k1 = k.1 in (omega (arith, ints, clamps), omega (arith, ints, clamps))
 
-pub within_more : (g : Aggregator) (n k : ℕ) (x t : ℤ) (o : Option ℤ) → IfSome o (λ s. IsWithin (n * k) s) → IsWithin n x → t ≡ with_one (joined g) o x → IsWithin (n * (k + 1)) t
+pub within_more : (g : Aggregator) (n k : ℕ) (x t : ℤ) (o : Option ℤ) → IfSome o (λ s. IsWithin (n * k) s) → IsWithin n x → t ≡ with_one (joined g) o x →
+    IsWithin (n * (k + 1)) t
 within_more g n k x t None h b e = let b0 = b.0 in let b1 = b.1 in subst (λ s. IsWithin (n * (k + 1)) s) (sym e) (wider n (n * (k + 1)) x (omega arith) b)
   where
     wider : (m n : ℕ) (x : ℤ) → m ≤ n → IsWithin m x → IsWithin n x
     wider m n x q h = let h0 = h.0 in let h1 = h.1 in (omega (arith, ints), omega (arith, ints))
 within_more g n k x t (Some s) h b e =
-    subst (λ m. IsWithin m t) (let q : n * k + n ≡ n * (k + 1) = omega arith in q) (subst (λ z. IsWithin (n * k + n) z) (sym e) (joined_within g (n * k) n s x h b))
+    subst (λ m. IsWithin m t) (let q : n * k + n ≡ n * (k + 1) = omega arith in q)
+    (subst (λ z. IsWithin (n * k + n) z) (sym e) (joined_within g (n * k) n s x h b))
 
 -- a total of few is within
 pub some_within : (m n : ℕ) (o : Option ℤ) → m ≤ n → IfSome o (λ s. IsWithin m s) → IfSome o (λ s. IsWithin n s)

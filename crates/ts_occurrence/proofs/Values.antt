@@ -42,7 +42,9 @@ few_ranges p b a w ranges h =
     let n = length_map b a h.0 in
     subst (λ z. length z ≤ length w) (sym h.2) (omega arith)
 
-pub value_is : (g : Aggregator) (f : Feature) (id : PatternId) (xs : List ℤ) (letters : List Letter) (p : Shape) (b a : ℕ) (ranges given : List Range) (v : Ext) → p ≡ pattern_shape id → b ≡ pattern_b id → a ≡ pattern_a id → letters ≡ signature_of xs → ranges ≡ occurrence_ranges p b a letters → given ≡ ranges → v ≡ aggregate_of_ranges g f given xs → v ≡ value_of g f id xs
+pub value_is : (g : Aggregator) (f : Feature) (id : PatternId) (xs : List ℤ) (letters : List Letter) (p : Shape) (b a : ℕ) (ranges given : List Range)
+    (v : Ext) → p ≡ pattern_shape id → b ≡ pattern_b id → a ≡ pattern_a id → letters ≡ signature_of xs → ranges ≡ occurrence_ranges p b a letters →
+    given ≡ ranges → v ≡ aggregate_of_ranges g f given xs → v ≡ value_of g f id xs
 unfolding value_of
 value_is g f id xs letters p b a ranges given v ep eb ea el er eg ev =
     let all : given ≡ occurrence_ranges (pattern_shape id) (pattern_b id) (pattern_a id) (signature_of xs) =

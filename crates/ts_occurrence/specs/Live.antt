@@ -27,7 +27,8 @@ AreKnown rs es = Each (λ e. e.residual < length rs) es
 
 -- the entry comes last, unless it has no word or an earlier one has its residual
 abbrev pub kept_with : List Start → Start → List Start
-kept_with es e = if has_word e.residual && not (list_any (λ x. same_shape x.residual e.residual) es) then es ++ e ∷ [] else es
+kept_with es e = if has_word e.residual && not (list_any (λ x. same_shape x.residual e.residual) es) then es ++ e
+    ∷ [] else es
 
 -- the first start from which a match ends at the sign just read
 abbrev pub first_ending : List Start → Option ℕ

@@ -14,4 +14,5 @@ pub record IsCut (ranges : List Range) (cell kept : ℕ) : Type 0 where
 abbrev pub IsNoted : ℕ → ℕ → ℕ → Option ℕ → List Range → List Range → Type 0
 IsNoted b a read None old new = new ≡ old
 IsNoted b a read (Some start) old new =
-    (kept : ℕ) × IsCut old (start + 1 + b) kept × (new ≡ take kept old ++ e_range b a (record { start = start; end = read + 1 }) ∷ [])
+    (kept : ℕ) × IsCut old (start + 1 + b) kept
+    × (new ≡ take kept old ++ e_range b a (record { start = start; end = read + 1 }) ∷ [])

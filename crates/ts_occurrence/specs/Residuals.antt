@@ -26,7 +26,8 @@ IsNumber rs r n = slice_get rs n ≡ Some r
 -- each residual stands once, and a number noted after it is that of what the letter leaves
 pub record AreRight (ms : List Met) : Type 0 where
   pub once : (i j : ℕ) (r : Shape) → IsNumber (known ms) r i → IsNumber (known ms) r j → i ≡ j
-  pub after : (k n : ℕ) (m : Met) (l : Letter) → slice_get ms k ≡ Some m → number_after m l ≡ Some n → IsNumber (known ms) (residual (shape_of m.residual) l) n
+  pub after : (k n : ℕ) (m : Met) (l : Letter) → slice_get ms k ≡ Some m → number_after m l ≡ Some n →
+      IsNumber (known ms) (residual (shape_of m.residual) l) n
 
 -- what has a number keeps it
 abbrev pub Grows : List Shape → List Shape → Type 0

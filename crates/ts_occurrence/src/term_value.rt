@@ -1,6 +1,7 @@
 //! The value of a term on a series: its aggregator over the features of the occurrences.
 //!
-//! Sums are whole numbers within 512 * 512 * 1,000,000, far from the ends of an `i64` and from the clamp of `Ext::plus`.
+//! Sums are whole numbers within 512 * 512 * 1,000,000, far from the ends of an `i64` and from the clamp of
+//! `Ext::plus`.
 
 ghost use Rattle.std.specs.Prelude.{◌≡◌, ◌≤◌, ℤ, pos, neg_ℤ, ◌+ℤ◌, ◌≤ℤ◌, List, map, length, IfOk, IfSome};
 ghost use Rattle.std.specs.List.{All, fold};

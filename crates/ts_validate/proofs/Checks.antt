@@ -75,38 +75,54 @@ starts InC free q = absurd (false≢true q)
 starts Loose free q = absurd (false≢true q)
 
 -- a fact on the tag after the step, of an entry, is one on the entry with its new tag
-one_retagged : {X : Type 0} (f : Phase) (free : Bool) (P : Tag → Type 0) (es : List (Entry X Shape Tag)) → OneOf (λ e. P (tag_after f free e.tag)) es → OneOf (λ e. P e.tag) (retag f free es)
+one_retagged : {X : Type 0} (f : Phase) (free : Bool) (P : Tag → Type 0) (es : List (Entry X Shape Tag)) → OneOf (λ e. P (tag_after f free e.tag)) es →
+    OneOf (λ e. P e.tag) (retag f free es)
 one_retagged f free P [] h = h
 one_retagged f free P (e ∷ es) h = ⊎_elim (λ a. inl a) (λ a. inr (one_retagged f free P es a)) h
 
-first_retagged : {X : Type 0} (f : Phase) (free : Bool) (P : Tag → Type 0) (es : List (Entry X Shape Tag)) → First (λ e. P (tag_after f free e.tag)) es → First (λ e. P e.tag) (retag f free es)
+first_retagged : {X : Type 0} (f : Phase) (free : Bool) (P : Tag → Type 0) (es : List (Entry X Shape Tag)) → First (λ e. P (tag_after f free e.tag)) es →
+    First (λ e. P e.tag) (retag f free es)
 first_retagged f free P [] h = h
 first_retagged f free P (e ∷ es) h = h
 
-pub checks_met : {X : Type 0} (f : Phase) (k : Kind) (free : Bool) (sv : List (Entry X Shape Tag)) → entries_agree shapes f k free sv ≡ true → MeetsChecks f k free sv
+pub checks_met : {X : Type 0} (f : Phase) (k : Kind) (free : Bool) (sv : List (Entry X Shape Tag)) → entries_agree shapes f k free sv ≡ true →
+    MeetsChecks f k free sv
 checks_met {X} f k free sv h =
-    let h0 = and_parts (acceptance_agrees shapes f sv) (find_starts_right f free sv && (early_find_ends shapes f sv && (held_start_first f k free sv && pending_keeps_start f free sv))) h in
+    let h0 = and_parts (acceptance_agrees shapes f sv)
+    (find_starts_right f free sv && (early_find_ends shapes f sv && (held_start_first f k free sv && pending_keeps_start f free sv))) h in
     let h1 = and_parts (find_starts_right f free sv) (early_find_ends shapes f sv && (held_start_first f k free sv && pending_keeps_start f free sv)) h0.1 in
     let h2 = and_parts (early_find_ends shapes f sv) (held_start_first f k free sv && pending_keeps_start f free sv) h1.1 in
     let h3 = and_parts (held_start_first f k free sv) (pending_keeps_start f free sv) h2.1 in
-    let accept = and_parts (implies (list_any (λ (e : Entry X Shape Tag). nullable e.residual) sv) (is_match f)) (implies (is_match f) (first_passes (λ (e : Entry X Shape Tag). nullable e.residual) sv)) h0.0 in
-    let hold = and_parts (implies (is_held k) (first_passes (λ (e : Entry X Shape Tag). is_inc (tag_after f free e.tag)) sv)) (implies (is_out_a f) (not (list_any (λ (e : Entry X Shape Tag). is_inc e.tag) sv))) h3.0 in
-    let matches : OneOf Accepts sv → is_match f ≡ true = (λ o. implied (list_any (λ (e : Entry X Shape Tag). nullable e.residual) sv) (is_match f) accept.0 (one_any (λ (e : Entry X Shape Tag). nullable e.residual) Accepts (λ e a. (nullable_law e.residual).1 a) sv o)) in
-    let head : is_match f ≡ true → First Accepts sv = (λ q. first_first (λ (e : Entry X Shape Tag). nullable e.residual) Accepts (λ e a. (nullable_law e.residual).0 a) sv (implied (is_match f) (first_passes (λ (e : Entry X Shape Tag). nullable e.residual) sv) accept.1 q)) in
+    let accept = and_parts (implies (list_any (λ (e : Entry X Shape Tag). nullable e.residual) sv) (is_match f))
+    (implies (is_match f) (first_passes (λ (e : Entry X Shape Tag). nullable e.residual) sv)) h0.0 in
+    let hold = and_parts (implies (is_held k) (first_passes (λ (e : Entry X Shape Tag). is_inc (tag_after f free e.tag)) sv))
+    (implies (is_out_a f) (not (list_any (λ (e : Entry X Shape Tag). is_inc e.tag) sv))) h3.0 in
+    let matches : OneOf Accepts sv → is_match f ≡ true =
+    (λ o. implied (list_any (λ (e : Entry X Shape Tag). nullable e.residual) sv) (is_match f) accept.0
+    (one_any (λ (e : Entry X Shape Tag). nullable e.residual) Accepts (λ e a. (nullable_law e.residual).1 a) sv o)) in
+    let head : is_match f ≡ true → First Accepts sv =
+    (λ q. first_first (λ (e : Entry X Shape Tag). nullable e.residual) Accepts (λ e a. (nullable_law e.residual).0 a) sv
+    (implied (is_match f) (first_passes (λ (e : Entry X Shape Tag). nullable e.residual) sv) accept.1 q)) in
     record {
       some = λ q. first_one Accepts sv (head q);
       nil = λ q o. false≢true (sym q ∙ matches o);
       first = λ o. head (matches o);
-      begin = λ q. first_first (λ (e : Entry X Shape Tag). is_ind e.tag || (is_due e.tag && free)) (λ e. (e.tag ≡ InD) ⊎ ((e.tag ≡ Due) × (free ≡ true))) (λ e a. starts e.tag free a) sv
+      begin = λ q. first_first (λ (e : Entry X Shape Tag). is_ind e.tag || (is_due e.tag && free)) (λ e. (e.tag ≡ InD) ⊎ ((e.tag ≡ Due) × (free ≡ true)))
+          (λ e a. starts e.tag free a) sv
           (implied (is_find f) (first_passes (λ (e : Entry X Shape Tag). is_ind e.tag || (is_due e.tag && free)) sv) h1.0 q);
-      ends = λ q. first_first (λ (e : Entry X Shape Tag). not (has_longer e.residual)) IsShort (λ e a l v. no_longer e.residual (not-true (has_longer e.residual) a) l v) sv
+      ends = λ q. first_first (λ (e : Entry X Shape Tag). not (has_longer e.residual)) IsShort
+          (λ e a l v. no_longer e.residual (not-true (has_longer e.residual) a) l v) sv
           (implied (is_found_e f) (first_passes (λ (e : Entry X Shape Tag). not (has_longer e.residual)) sv) h2.0 (ap (λ z. is_found_e z) q));
       holds = λ q. first_retagged f free (λ g. g ≡ InC) sv
-          (first_first (λ (e : Entry X Shape Tag). is_inc (tag_after f free e.tag)) (λ e. tag_after f free e.tag ≡ InC) (λ e a. inc_tag (tag_after f free e.tag) a) sv
+          (first_first (λ (e : Entry X Shape Tag). is_inc (tag_after f free e.tag)) (λ e. tag_after f free e.tag ≡ InC)
+          (λ e a. inc_tag (tag_after f free e.tag) a) sv
           (implied (is_held k) (first_passes (λ (e : Entry X Shape Tag). is_inc (tag_after f free e.tag)) sv) hold.0 (ap (λ z. is_held z) q)));
-      leaves = λ q o. false≢true (sym (not-true (list_any (λ (e : Entry X Shape Tag). is_inc e.tag) sv) (implied (is_out_a f) (not (list_any (λ (e : Entry X Shape Tag). is_inc e.tag) sv)) hold.1 (ap (λ z. is_out_a z) q)))
+      leaves = λ q o. false≢true
+          (sym (not-true (list_any (λ (e : Entry X Shape Tag). is_inc e.tag) sv)
+          (implied (is_out_a f) (not (list_any (λ (e : Entry X Shape Tag). is_inc e.tag) sv)) hold.1 (ap (λ z. is_out_a z) q)))
           ∙ one_any (λ (e : Entry X Shape Tag). is_inc e.tag) (λ e. e.tag ≡ InC) (λ e a. ap (λ z. is_inc z) a) sv o);
       pends = λ q. one_retagged f free (λ g. g ≡ InD) sv
-          (any_one (λ (e : Entry X Shape Tag). is_ind (tag_after f free e.tag)) (λ e. tag_after f free e.tag ≡ InD) (λ e a. ind_tag (tag_after f free e.tag) a) sv
+          (any_one (λ (e : Entry X Shape Tag). is_ind (tag_after f free e.tag)) (λ e. tag_after f free e.tag ≡ InD) (λ e a. ind_tag (tag_after f free e.tag) a)
+          sv
           (implied (is_maybe_b f) (list_any (λ (e : Entry X Shape Tag). is_ind (tag_after f free e.tag)) sv) h3.1 (ap (λ z. is_maybe_b z) q)));
     }

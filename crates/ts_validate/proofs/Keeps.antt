@@ -112,20 +112,23 @@ free_pair Idle d x f h = h.1
 free_pair Pending d x f h = h
 free_pair Held d x f h = absurd f
 
-pub kinds_step : (f : Phase) (k k' : Kind) (n : ℕ) (sv : List (Entry ℕ Shape Tag)) (d : Option ℕ) (x : Option Place) → Typed k f k' → KindHolds k d x → KindHolds k' (start_after f n d) (pair_after f n sv x)
+pub kinds_step : (f : Phase) (k k' : Kind) (n : ℕ) (sv : List (Entry ℕ Shape Tag)) (d : Option ℕ) (x : Option Place) → Typed k f k' → KindHolds k d x →
+    KindHolds k' (start_after f n d) (pair_after f n sv x)
 kinds_step Out k k' n sv d x t h = let g = subst (λ z. KindHolds z d x) t.0 h in free_holds k' d x t.1 g.0 g.1
 kinds_step OutR k k' n sv d x t h = free_holds k' None x t.1 refl (subst (λ z. KindHolds z d x) t.0 h)
 kinds_step OutA k k' n sv d x t h = free_holds k' None None t.1 refl refl
 kinds_step MaybeB k k' n sv d x t h = subst (λ z. KindHolds z (Some (begins n d)) x) (sym t.1) (free_pair k d x t.0 h)
 kinds_step MaybeA k k' n sv d x t h = subst (λ z. KindHolds z d x) (t.0 ∙ sym t.1) h
-kinds_step Found k k' n sv d x t h = subst (λ z. KindHolds z None (Some (record { start = first_mark sv; end = n }))) (sym t.1) (refl, (record { start = first_mark sv; end = n }, refl))
+kinds_step Found k k' n sv d x t h = subst (λ z. KindHolds z None (Some (record { start = first_mark sv; end = n }))) (sym t.1)
+    (refl, (record { start = first_mark sv; end = n }, refl))
 kinds_step FoundE k k' n sv d x t h = free_holds k' None x t.1 refl (free_pair k d x t.0 h)
 kinds_step Inside k k' n sv d x t h =
     let g = subst (λ z. KindHolds z d x) t.0 h in
     subst (λ z. KindHolds z d (Some (record { start = first_mark sv; end = n }))) (sym t.1) (g.0, (record { start = first_mark sv; end = n }, refl))
 
 -- d is set after a letter only where the phase is MaybeB
-pub pending_only : (f : Phase) (k k' : Kind) (n : ℕ) (d : Option ℕ) (x : Option Place) (y : ℕ) → Typed k f k' → KindHolds k d x → start_after f n d ≡ Some y → f ≡ MaybeB
+pub pending_only : (f : Phase) (k k' : Kind) (n : ℕ) (d : Option ℕ) (x : Option Place) (y : ℕ) → Typed k f k' → KindHolds k d x → start_after f n d ≡ Some y →
+    f ≡ MaybeB
 pending_only Out k k' n d x y t h q = let g = subst (λ z. KindHolds z d x) t.0 h in absurd (none-some y (sym g.0 ∙ q))
 pending_only OutR k k' n d x y t h q = absurd (none-some y q)
 pending_only OutA k k' n d x y t h q = absurd (none-some y q)
@@ -148,7 +151,8 @@ young_step k b d c s zero p q = absurd (omega (arith, p))
 young_step k b d c s (suc zero) p q = q
 young_step k b d c s (suc (suc m)) p q = (omega arith, omega arith)
 
-pub due_step : (f : Phase) (free : Bool) (k b a : ℕ) (d : Option ℕ) (c : Option Range) (s : ℕ) → (free ≡ true → d ≡ None) → s + b ≡ k → TagHolds (k + 1) b (start_after f (k + 1) d) (held_after f a (k + 1) d c) s (due_after f free)
+pub due_step : (f : Phase) (free : Bool) (k b a : ℕ) (d : Option ℕ) (c : Option Range) (s : ℕ) → (free ≡ true → d ≡ None) → s + b ≡ k →
+    TagHolds (k + 1) b (start_after f (k + 1) d) (held_after f a (k + 1) d c) s (due_after f free)
 due_step Out free k b a d c s g q = tt
 due_step OutR free k b a d c s g q = tt
 due_step OutA free k b a d c s g q = tt
@@ -158,10 +162,14 @@ due_step Inside free k b a d c s g q = tt
 due_step MaybeB false k b a d c s g q = tt
 due_step MaybeB true k b a d c s g q = ap (λ z. Some (begins (k + 1) z)) (g refl) ∙ ap (λ z. Some z) (let x : k + 1 ≡ s + 1 + b = omega arith in x)
 due_step Found false k b a d c s g q = tt
-due_step Found true k b a d c s g q =
-    (k + 1 + 1 - a, ap (λ z. Some (record { first = begins (k + 1) z; last = k + 1 + 1 - a })) (g refl) ∙ ap (λ z. Some (record { first = z; last = k + 1 + 1 - a })) (let x : k + 1 ≡ s + 1 + b = omega arith in x))
+due_step Found true k b a d c s g q = (
+  k + 1 + 1 - a,
+  ap (λ z. Some (record { first = begins (k + 1) z; last = k + 1 + 1 - a })) (g refl)
+      ∙ ap (λ z. Some (record { first = z; last = k + 1 + 1 - a })) (let x : k + 1 ≡ s + 1 + b = omega arith in x),
+)
 
-pub ind_step : (f : Phase) (k b a : ℕ) (d : Option ℕ) (c : Option Range) (s : ℕ) → d ≡ Some (s + 1 + b) → TagHolds (k + 1) b (start_after f (k + 1) d) (held_after f a (k + 1) d c) s (ind_after f)
+pub ind_step : (f : Phase) (k b a : ℕ) (d : Option ℕ) (c : Option Range) (s : ℕ) → d ≡ Some (s + 1 + b) →
+    TagHolds (k + 1) b (start_after f (k + 1) d) (held_after f a (k + 1) d c) s (ind_after f)
 ind_step Out k b a d c s q = tt
 ind_step OutR k b a d c s q = tt
 ind_step OutA k b a d c s q = tt
@@ -171,7 +179,8 @@ ind_step Found k b a d c s q = (k + 1 + 1 - a, ap (λ z. Some (record { first = 
 ind_step FoundE k b a d c s q = tt
 ind_step Inside k b a d c s q = tt
 
-pub inc_step : (f : Phase) (k b a : ℕ) (d : Option ℕ) (c : Option Range) (s : ℕ) → (f ≡ Found → c ≡ None) → (z : ℕ) → c ≡ Some (record { first = s + 1 + b; last = z }) → TagHolds (k + 1) b (start_after f (k + 1) d) (held_after f a (k + 1) d c) s (inc_after f)
+pub inc_step : (f : Phase) (k b a : ℕ) (d : Option ℕ) (c : Option Range) (s : ℕ) → (f ≡ Found → c ≡ None) → (z : ℕ) →
+    c ≡ Some (record { first = s + 1 + b; last = z }) → TagHolds (k + 1) b (start_after f (k + 1) d) (held_after f a (k + 1) d c) s (inc_after f)
 inc_step Out k b a d c s g z q = (z, q)
 inc_step OutR k b a d c s g z q = (z, q)
 inc_step OutA k b a d c s g z q = tt
@@ -181,7 +190,8 @@ inc_step Found k b a d c s g z q = absurd (none-some (record { first = s + 1 + b
 inc_step FoundE k b a d c s g z q = (z, q)
 inc_step Inside k b a d c s g z q = (k + 1 + 1 - a, ap (λ y. ends_at (k + 1 + 1 - a) y) q)
 
-pub tag_step : (f : Phase) (free : Bool) (k b a : ℕ) (d : Option ℕ) (c : Option Range) (s : ℕ) (g : Tag) → (free ≡ true → d ≡ None) → (f ≡ Found → c ≡ None) → TagHolds k b d c s g → TagHolds (k + 1) b (start_after f (k + 1) d) (held_after f a (k + 1) d c) s (tag_after f free g)
+pub tag_step : (f : Phase) (free : Bool) (k b a : ℕ) (d : Option ℕ) (c : Option Range) (s : ℕ) (g : Tag) → (free ≡ true → d ≡ None) → (f ≡ Found → c ≡ None) →
+    TagHolds k b d c s g → TagHolds (k + 1) b (start_after f (k + 1) d) (held_after f a (k + 1) d c) s (tag_after f free g)
 tag_step f free k b a d c s (Young m) u v h = young_step k b (start_after f (k + 1) d) (held_after f a (k + 1) d c) s m h.0 h.1
 tag_step f free k b a d c s Due u v h = due_step f free k b a d c s u h
 tag_step f free k b a d c s InD u v h = ind_step f k b a d c s h

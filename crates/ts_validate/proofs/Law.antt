@@ -65,12 +65,14 @@ bare_appended k p b es = map-append (λ e. bare_entry e) es (record { mark = k; 
 bare_free : (k : ℕ) (p : Shape) (b : ℕ) (es : List (Entry ℕ Shape Tag)) → no_ind (appended k p b es) ≡ no_ind (appended tt p b (bare es))
 bare_free k p b es = sym (no_ind_renamed (λ (x : ℕ). tt) (λ (r : Shape). r) (appended k p b es)) ∙ ap (λ z. no_ind z) (bare_appended k p b es)
 
-bare_kept : (k : ℕ) (p : Shape) (b : ℕ) (l : Letter) (es : List (Entry ℕ Shape Tag)) → bare (survivors shapes l (appended k p b es)) ≡ survivors shapes l (appended tt p b (bare es))
+bare_kept : (k : ℕ) (p : Shape) (b : ℕ) (l : Letter) (es : List (Entry ℕ Shape Tag)) →
+    bare (survivors shapes l (appended k p b es)) ≡ survivors shapes l (appended tt p b (bare es))
 bare_kept k p b l es = bare_survivors l (appended k p b es) ∙ ap (λ z. survivors shapes l z) (bare_appended k p b es)
 
 -- the entries of the trace make the step of the plan
 bare_step : (k : ℕ) (p : Shape) (b : ℕ) (l : Letter) (f : Phase) (es : List (Entry ℕ Shape Tag)) →
-    bare (retag f (no_ind (appended k p b es)) (survivors shapes l (appended k p b es))) ≡ retag f (no_ind (appended tt p b (bare es))) (survivors shapes l (appended tt p b (bare es)))
+    bare (retag f (no_ind (appended k p b es)) (survivors shapes l (appended k p b es)))
+    ≡ retag f (no_ind (appended tt p b (bare es))) (survivors shapes l (appended tt p b (bare es)))
 bare_step k p b l f es =
     retag_renamed (λ (x : ℕ). tt) (λ (r : Shape). r) f (no_ind (appended k p b es)) (survivors shapes l (appended k p b es))
     ∙ ap (λ z. retag f z (bare (survivors shapes l (appended k p b es)))) (bare_free k p b es)
@@ -89,9 +91,11 @@ agree_traced k p b l f k' es h =
 -- the run of the trace over the signs, from the state q after k signs
 abbrev pub run : List Row → Shape → ℕ → ℕ → ℕ → ℕ → Trace → List Letter → Trace
 run rows p0 a b k q x [] = x
-run rows p0 a b k q x (l ∷ ls) = run rows p0 a b (k + 1) (next_at rows q l) (trace_step shapes p0 a b k l (phase_at rows q l) (kind_at rows (next_at rows q l)) x) ls
+run rows p0 a b k q x (l ∷ ls) = run rows p0 a b (k + 1) (next_at rows q l)
+    (trace_step shapes p0 a b k l (phase_at rows q l) (kind_at rows (next_at rows q l)) x) ls
 
-run_decodes : (rows : List Row) (p0 : Shape) (a b k q : ℕ) (x : Trace) (ls : List Letter) → decoded (run rows p0 a b k q x ls) ≡ x.emitted ++ decode_from rows a k q x.d x.c ls
+run_decodes : (rows : List Row) (p0 : Shape) (a b k q : ℕ) (x : Trace) (ls : List Letter) →
+    decoded (run rows p0 a b k q x ls) ≡ x.emitted ++ decode_from rows a k q x.d x.c ls
 run_decodes rows p0 a b k q x [] = refl
 run_decodes rows p0 a b k q x (l ∷ ls) =
     let y : Trace = trace_step shapes p0 a b k l (phase_at rows q l) (kind_at rows (next_at rows q l)) x in
@@ -100,20 +104,26 @@ run_decodes rows p0 a b k q x (l ∷ ls) =
 
 -- the trace after more signs, where the plan is closed
 traced_run : (rows : List Row) → is_typed rows ≡ true → (p : Shape) (b a : ℕ) (plan : PlainPlan) → IsClosed (subject rows p b plan) →
-    (ls w : List Letter) (k q : ℕ) (x : Trace) → k ≡ length w → x.state ≡ kind_at rows q → Reached (subject rows p b plan) (record { state = q; live = bare x.live }) → IsTraced p a b w x →
+    (ls w : List Letter) (k q : ℕ) (x : Trace) → k ≡ length w → x.state ≡ kind_at rows q →
+    Reached (subject rows p b plan) (record { state = q; live = bare x.live }) → IsTraced p a b w x →
     IsTraced p a b (w ++ ls) (run rows (normal_form p) a b k q x ls)
 traced_run rows ty p b a plan cl [] w k q x e s g h = subst (λ z. IsTraced p a b z x) (sym (append-nil w)) h
 traced_run rows ty p b a plan cl (l ∷ ls) w k q x e s g h =
     let y : Trace = trace_step shapes (normal_form p) a b k l (phase_at rows q l) (kind_at rows (next_at rows q l)) x in
     let at : PlainConfiguration Shape = record { state = q; live = bare x.live } in
-    let fine = and_parts (step_listed (subject rows p b plan) at l) (entries_agree shapes (phase_at rows q l) (kind_at rows (next_at rows q l)) (no_ind (appended tt (normal_form p) b (bare x.live))) (survivors shapes l (appended tt (normal_form p) b (bare x.live)))) (cl at g l) in
+    let fine = and_parts (step_listed (subject rows p b plan) at l)
+    (entries_agree shapes (phase_at rows q l) (kind_at rows (next_at rows q l)) (no_ind (appended tt (normal_form p) b (bare x.live)))
+    (survivors shapes l (appended tt (normal_form p) b (bare x.live)))) (cl at g l) in
     let typed : Typed x.state (phase_at rows q l) (kind_at rows (next_at rows q l)) =
-    subst (λ z. Typed z (phase_at rows q l) (kind_at rows (next_at rows q l))) (sym s) (typed_move (kind_at rows q) (phase_at rows q l) (kind_at rows (next_at rows q l)) (move_typed rows ty q l)) in
-    let ch = checks_met (phase_at rows q l) (kind_at rows (next_at rows q l)) (no_ind (appended (length w) (normal_form p) b x.live)) (survivors shapes l (appended (length w) (normal_form p) b x.live))
+    subst (λ z. Typed z (phase_at rows q l) (kind_at rows (next_at rows q l))) (sym s)
+    (typed_move (kind_at rows q) (phase_at rows q l) (kind_at rows (next_at rows q l)) (move_typed rows ty q l)) in
+    let ch = checks_met (phase_at rows q l) (kind_at rows (next_at rows q l)) (no_ind (appended (length w) (normal_form p) b x.live))
+    (survivors shapes l (appended (length w) (normal_form p) b x.live))
     (agree_traced (length w) (normal_form p) b l (phase_at rows q l) (kind_at rows (next_at rows q l)) x.live fine.1) in
     let one : IsTraced p a b (w ++ l ∷ []) y =
     subst (λ z. IsTraced p a b (w ++ l ∷ []) (trace_step shapes (normal_form p) a b z l (phase_at rows q l) (kind_at rows (next_at rows q l)) x)) (sym e)
-    (traced_step shapes shapes_right p (normal_form p) (λ v i. (normal_law p v).0 i) (λ v i. (normal_law p v).1 i) a b w l (phase_at rows q l) (kind_at rows (next_at rows q l)) x typed ch h) in
+    (traced_step shapes shapes_right p (normal_form p) (λ v i. (normal_law p v).0 i) (λ v i. (normal_law p v).1 i) a b w l (phase_at rows q l)
+    (kind_at rows (next_at rows q l)) x typed ch h) in
     let long : k + 1 ≡ length (w ++ l ∷ []) = (let n = length-append w (l ∷ []) in omega arith) in
     let same : record { state = next_at rows q l; live = bare y.live } ≡ stepped (subject rows p b plan) at l =
     ap (λ z. record { state = next_at rows q l; live = z }) (bare_step k (normal_form p) b l (phase_at rows q l) x.live) in
@@ -126,5 +136,6 @@ traced_run rows ty p b a plan cl (l ∷ ls) w k q x e s g h =
 pub closed_valid : (rows : List Row) → is_typed rows ≡ true → (p : Shape) (b a : ℕ) (plan : PlainPlan) → IsClosed (subject rows p b plan) → IsValid rows p b a
 closed_valid rows ty p b a plan cl w =
     let x : Trace = run rows (normal_form p) a b 0 0 no_trace w in
-    let h : IsTraced p a b w x = traced_run rows ty p b a plan cl w [] 0 0 no_trace refl (sym (idle_kind (kind_at rows 0) (start_idle rows ty))) ([], FromStart [] (record { state = 0; live = [] }) refl refl) (traced_start p a b) in
+    let h : IsTraced p a b w x = traced_run rows ty p b a plan cl w [] 0 0 no_trace refl (sym (idle_kind (kind_at rows 0) (start_idle rows ty)))
+    ([], FromStart [] (record { state = 0; live = [] }) refl refl) (traced_start p a b) in
     ranges_are p b a w (decode rows a w) (x.done ++ listed x.pair, h.places, sym (run_decodes rows (normal_form p) a b 0 0 no_trace w) ∙ decoded_is p a b w x h)

@@ -10,12 +10,17 @@ use Rattle.ts_validate.specs.declared.known.Known.{Known}
 use Rattle.ts_validate.specs.Numbers.{number_of, known_of}
 
 -- the first place of a test, with one more for "nowhere"
-number_place : (xs : List Regex) (r : Shape) → number_of (map (λ s. shape_of s) xs) r ≡ cond (nat_lt (position_or_len (λ s. same_shape (shape_of s) r) xs) (length xs)) (position_or_len (λ s. same_shape (shape_of s) r) xs) (length xs + 1)
+number_place : (xs : List Regex) (r : Shape) → number_of (map (λ s. shape_of s) xs) r
+    ≡ cond (nat_lt (position_or_len (λ s. same_shape (shape_of s) r) xs) (length xs)) (position_or_len (λ s. same_shape (shape_of s) r) xs) (length xs + 1)
 number_place [] r = refl
 number_place (x ∷ xs) r = go (same_shape (shape_of x) r) (number_place xs r)
   where
-    go : (b : Bool) → number_of (map (λ s. shape_of s) xs) r ≡ cond (nat_lt (position_or_len (λ s. same_shape (shape_of s) r) xs) (length xs)) (position_or_len (λ s. same_shape (shape_of s) r) xs) (length xs + 1) →
-        cond b 0 (number_of (map (λ s. shape_of s) xs) r + 1) ≡ cond (nat_lt (cond (not b) (1 + position_or_len (λ s. same_shape (shape_of s) r) xs) 0) (suc (length xs))) (cond (not b) (1 + position_or_len (λ s. same_shape (shape_of s) r) xs) 0) (suc (length xs) + 1)
+    go : (b : Bool) → number_of (map (λ s. shape_of s) xs) r
+        ≡ cond (nat_lt (position_or_len (λ s. same_shape (shape_of s) r) xs) (length xs)) (position_or_len (λ s. same_shape (shape_of s) r) xs)
+        (length xs + 1) →
+        cond b 0 (number_of (map (λ s. shape_of s) xs) r + 1)
+        ≡ cond (nat_lt (cond (not b) (1 + position_or_len (λ s. same_shape (shape_of s) r) xs) 0) (suc (length xs)))
+        (cond (not b) (1 + position_or_len (λ s. same_shape (shape_of s) r) xs) 0) (suc (length xs) + 1)
     go true h = grind arith
     go false h = grind (arith, h)
 
@@ -44,6 +49,7 @@ map_twice f g [] = refl
 map_twice f g (x ∷ xs) = ap (λ z. g (f x) ∷ z) (map_twice f g xs)
 
 -- a table that was filled to the end
-pub filled : (rs : List Shape) (xs : List Regex) (i : ℕ) (table : List Known) → length xs ≤ i → table ≡ map (λ r. known_of rs (shape_of r)) (take i xs) → table ≡ map (λ r. known_of rs r) (map (λ s. shape_of s) xs)
+pub filled : (rs : List Shape) (xs : List Regex) (i : ℕ) (table : List Known) → length xs ≤ i → table ≡ map (λ r. known_of rs (shape_of r)) (take i xs) →
+    table ≡ map (λ r. known_of rs r) (map (λ s. shape_of s) xs)
 filled rs xs i table q h =
     h ∙ ap (λ z. map (λ r. known_of rs (shape_of r)) z) (take_all i xs q) ∙ sym (map_twice (λ s. shape_of s) (λ r. known_of rs r) xs)

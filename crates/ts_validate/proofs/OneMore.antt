@@ -23,7 +23,8 @@ use Rattle.ts_pattern.proofs.Places.{each_map, before_last, occurrences_none, oc
 use Rattle.ts_validate.proofs.Keeps.{Typed, first_of, held_range, first_mark, done_after, pair_after, KindHolds, free_pair, TagHolds}
 use Rattle.ts_validate.proofs.Traces.{After, Strictly, early_old}
 
-pub least_first : (p : Shape) (w : List Letter) (l : Letter) (sv : List (Entry ℕ Shape Tag)) → AreLive p (w ++ l ∷ []) (length (w ++ l ∷ [])) sv → First Accepts sv → IsLeastStart p w l (first_mark sv)
+pub least_first : (p : Shape) (w : List Letter) (l : Letter) (sv : List (Entry ℕ Shape Tag)) → AreLive p (w ++ l ∷ []) (length (w ++ l ∷ [])) sv →
+    First Accepts sv → IsLeastStart p w l (first_mark sv)
 least_first p w l [] h x = absurd x
 least_first p w l (e ∷ es) h x = least_ends p w l e es h x
 
@@ -47,7 +48,8 @@ inside_inc free InC q = refl
 inside_inc free Loose q = absurd (is_inc Loose q)
 
 -- at `in` the first survivor starts where the held pair does
-pub same_start : (k a b : ℕ) (d : Option ℕ) (c : Option Range) (free : Bool) (y : Place) (sv : List (Entry ℕ Shape Tag)) → c ≡ Some (e_range b a y) → Each (λ e. TagHolds k b d c e.mark e.tag) sv → First (λ e. e.tag ≡ InC) (retag Inside free sv) → first_mark sv ≡ y.start
+pub same_start : (k a b : ℕ) (d : Option ℕ) (c : Option Range) (free : Bool) (y : Place) (sv : List (Entry ℕ Shape Tag)) → c ≡ Some (e_range b a y) →
+    Each (λ e. TagHolds k b d c e.mark e.tag) sv → First (λ e. e.tag ≡ InC) (retag Inside free sv) → first_mark sv ≡ y.start
 same_start k a b d c free y [] q h x = absurd x
 same_start k a b d c free y (e ∷ es) q h x =
     let g = subst (λ u. TagHolds k b d c e.mark u) (inside_inc free e.tag x) h.0 in
@@ -58,7 +60,8 @@ same_start k a b d c free y (e ∷ es) q h x =
 pub held_pair : (k : Kind) (d : Option ℕ) (x : Option Place) → k ≡ Held → KindHolds k d x → (y : Place) × (x ≡ Some y)
 held_pair k d x q h = (subst (λ z. KindHolds z d x) q h).1
 
-pub found_step : (p : Shape) (w : List Letter) (l : Letter) (f : Phase) (k k' : Kind) (d : Option ℕ) (sv : List (Entry ℕ Shape Tag)) (ps : List Place) (x : Option Place) →
+pub found_step : (p : Shape) (w : List Letter) (l : Letter) (f : Phase) (k k' : Kind) (d : Option ℕ) (sv : List (Entry ℕ Shape Tag)) (ps : List Place)
+    (x : Option Place) →
     Typed k f k' → KindHolds k d x → AreLive p (w ++ l ∷ []) (length (w ++ l ∷ [])) sv →
     (is_match f ≡ true → First Accepts sv) → (is_match f ≡ false → OneOf Accepts sv → ⊥) →
     (is_match f ≡ true → Each (λ y. y.start < first_mark sv) ps) →
@@ -70,7 +73,8 @@ found_step p w l OutR k k' d sv ps x t h v head nil low same o = occurrences_non
 found_step p w l MaybeB k k' d sv ps x t h v head nil low same o = occurrences_none p w l (ps ++ listed x) (none_ends p w l sv v (nil refl)) o
 found_step p w l MaybeA k k' d sv ps x t h v head nil low same o = occurrences_none p w l (ps ++ listed x) (none_ends p w l sv v (nil refl)) o
 found_step p w l OutA k k' d sv ps x t h v head nil low same o =
-    subst (λ z. AreOccurrences p (w ++ l ∷ []) z) (sym (append-nil (ps ++ listed x))) (occurrences_none p w l (ps ++ listed x) (none_ends p w l sv v (nil refl)) o)
+    subst (λ z. AreOccurrences p (w ++ l ∷ []) z) (sym (append-nil (ps ++ listed x)))
+    (occurrences_none p w l (ps ++ listed x) (none_ends p w l sv v (nil refl)) o)
 found_step p w l Found k k' d sv ps x t h v head nil low same o =
     occurrences_some p w l (first_mark sv) ps [] (least_first p w l sv v (head refl))
     (subst (λ z. AreOccurrences p w (ps ++ listed z)) (free_pair k d x t.0 h) o) (low refl) tt
@@ -111,13 +115,15 @@ pub listed_held : (a b : ℕ) (x : Option Place) → listed (held_range a b x) �
 listed_held a b None = refl
 listed_held a b (Some x) = refl
 
-pub emitted_step : (a b n : ℕ) (f : Phase) (d : Option ℕ) (c : Option Range) (sv : List (Entry ℕ Shape Tag)) (ps : List Place) (x : Option Place) (rs : List Range) →
+pub emitted_step : (a b n : ℕ) (f : Phase) (d : Option ℕ) (c : Option Range) (sv : List (Entry ℕ Shape Tag)) (ps : List Place) (x : Option Place)
+    (rs : List Range) →
     c ≡ held_range a b x → (is_find f ≡ true → begins n d ≡ first_mark sv + 1 + b) → rs ≡ map (λ x. e_range b a x) ps →
     rs ++ listed (emitted_at f a n d c) ≡ map (λ x. e_range b a x) (done_after f n sv ps x)
 emitted_step a b n Out d c sv ps x rs r g h = append-nil rs ∙ h
 emitted_step a b n OutR d c sv ps x rs r g h = append-nil rs ∙ h
 emitted_step a b n OutA d c sv ps x rs r g h =
-    ap (λ z. z ++ listed c) h ∙ ap (λ z. map (λ x. e_range b a x) ps ++ z) (ap (λ z. listed z) r ∙ listed_held a b x) ∙ sym (map-append (e_range b a) ps (listed x))
+    ap (λ z. z ++ listed c) h ∙ ap (λ z. map (λ x. e_range b a x) ps ++ z) (ap (λ z. listed z) r ∙ listed_held a b x)
+    ∙ sym (map-append (e_range b a) ps (listed x))
 emitted_step a b n MaybeB d c sv ps x rs r g h = append-nil rs ∙ h
 emitted_step a b n MaybeA d c sv ps x rs r g h = append-nil rs ∙ h
 emitted_step a b n Found d c sv ps x rs r g h = append-nil rs ∙ h
@@ -141,5 +147,6 @@ early_step n OutA free sv ps x h u v = each_joined (λ y. Each (After y.start) (
 early_step n MaybeB free sv ps x h u v = early_old MaybeB free sv ps h
 early_step n MaybeA free sv ps x h u v = early_old MaybeA free sv ps h
 early_step n Found free sv ps x h u v = early_old Found free sv ps h
-early_step n FoundE free sv ps x h u v = each_push (λ y. Each (After y.start) (retag FoundE free sv)) ps (record { start = first_mark sv; end = n }) (early_old FoundE free sv ps h) (u refl)
+early_step n FoundE free sv ps x h u v = each_push (λ y. Each (After y.start) (retag FoundE free sv)) ps (record { start = first_mark sv; end = n })
+    (early_old FoundE free sv ps h) (u refl)
 early_step n Inside free sv ps x h u v = early_old Inside free sv ps h

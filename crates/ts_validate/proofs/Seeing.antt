@@ -37,7 +37,8 @@ entries_below rs (e ∷ es) q =
     let h = and_parts (nat_lt e.residual (length rs)) (list_all (λ e. nat_lt e.residual (length rs)) es) q in
     (number_below e.residual (length rs) h.0, entries_below rs es h.1)
 
-all_below : (rs : List Shape) (xs : List (PlainConfiguration ℕ)) → list_all (λ x. list_all (λ e. nat_lt e.residual (length rs)) x.live) xs ≡ true → Each (HasNumbers rs) xs
+all_below : (rs : List Shape) (xs : List (PlainConfiguration ℕ)) → list_all (λ x. list_all (λ e. nat_lt e.residual (length rs)) x.live) xs ≡ true →
+    Each (HasNumbers rs) xs
 all_below rs [] q = tt
 all_below rs (x ∷ xs) q =
     let h = and_parts (list_all (λ e. nat_lt e.residual (length rs)) x.live) (list_all (λ x. list_all (λ e. nat_lt e.residual (length rs)) x.live) xs) q in
@@ -49,7 +50,8 @@ first_whole (r ∷ rs) n q = (omega arith, (same_law r n).0 q)
 
 pub plan_for : (p : Shape) (rs : List Shape) (xs : List (PlainConfiguration ℕ)) → is_plan_of p (plan_of rs xs) ≡ true → IsFor p rs xs
 plan_for p rs xs q =
-    let h = and_parts (first_passes (λ r. same_shape r (normal_form p)) rs) (first_passes (λ x. is_blank x) xs && list_all (λ x. list_all (λ e. nat_lt e.residual (length rs)) x.live) xs) q in
+    let h = and_parts (first_passes (λ r. same_shape r (normal_form p)) rs)
+    (first_passes (λ x. is_blank x) xs && list_all (λ x. list_all (λ e. nat_lt e.residual (length rs)) x.live) xs) q in
     let k = and_parts (first_passes (λ x. is_blank x) xs) (list_all (λ x. list_all (λ e. nat_lt e.residual (length rs)) x.live) xs) h.1 in
     let w = first_whole rs (normal_form p) h.0 in
     record { some = w.0; whole = w.1; numbers = all_below rs xs k.1 }
@@ -62,7 +64,8 @@ place_some p xs j q = go (nat_lt (position_or_len p xs) (length xs)) refl q
     below : (m n : ℕ) → nat_lt m n ≡ true → m < n
     below m n q = grind (arith, q)
 
-    go : (b : Bool) → nat_lt (position_or_len p xs) (length xs) ≡ b → cond b (Some (position_or_len p xs)) None ≡ Some j → (j ≡ position_or_len p xs) × (position_or_len p xs < length xs)
+    go : (b : Bool) → nat_lt (position_or_len p xs) (length xs) ≡ b → cond b (Some (position_or_len p xs)) None ≡ Some j →
+        (j ≡ position_or_len p xs) × (position_or_len p xs < length xs)
     go true e s = (cc, below (position_or_len p xs) (length xs) e)
     go false e s = absurd (none-some j s)
 
@@ -78,18 +81,23 @@ place_none p xs q = go (nat_lt (position_or_len p xs) (length xs)) refl q
 
 -- where a test of numbers and one of values agree
 
-found_at : (p : PlainConfiguration ℕ → Bool) (q : PlainConfiguration Shape → Bool) (rs : List Shape) (xs : List (PlainConfiguration ℕ)) → Each (λ x. p x ≡ q (valued rs x)) xs → position_or_len p xs < length xs → q (configuration_at (map (λ x. valued rs x) xs) (position_or_len p xs)) ≡ true
+found_at : (p : PlainConfiguration ℕ → Bool) (q : PlainConfiguration Shape → Bool) (rs : List Shape) (xs : List (PlainConfiguration ℕ)) →
+    Each (λ x. p x ≡ q (valued rs x)) xs → position_or_len p xs < length xs → q (configuration_at (map (λ x. valued rs x) xs) (position_or_len p xs)) ≡ true
 found_at p q rs [] e h = absurd (omega (arith, h))
 found_at p q rs (x ∷ xs) e h = go (p x) refl e.0 (found_at p q rs xs e.1) h
   where
     on : (n : ℕ) → q (configuration_at (map (λ x. valued rs x) xs) n) ≡ true → q (configuration_at (map (λ x. valued rs x) (x ∷ xs)) (1 + n)) ≡ true
     on n t = ap (λ z. q (configuration_at (map (λ x. valued rs x) (x ∷ xs)) z)) (let u : 1 + n ≡ suc n = omega arith in u) ∙ t
 
-    go : (b : Bool) → p x ≡ b → p x ≡ q (valued rs x) → (position_or_len p xs < length xs → q (configuration_at (map (λ x. valued rs x) xs) (position_or_len p xs)) ≡ true) → cond (not b) (1 + position_or_len p xs) 0 < suc (length xs) → q (configuration_at (map (λ x. valued rs x) (x ∷ xs)) (cond (not b) (1 + position_or_len p xs) 0)) ≡ true
+    go : (b : Bool) → p x ≡ b → p x ≡ q (valued rs x) →
+        (position_or_len p xs < length xs → q (configuration_at (map (λ x. valued rs x) xs) (position_or_len p xs)) ≡ true) →
+        cond (not b) (1 + position_or_len p xs) 0 < suc (length xs) →
+        q (configuration_at (map (λ x. valued rs x) (x ∷ xs)) (cond (not b) (1 + position_or_len p xs) 0)) ≡ true
     go true t u m s = sym u ∙ t
     go false t u m s = on (position_or_len p xs) (m (omega (arith, s)))
 
-none_before : (p : PlainConfiguration ℕ → Bool) (q : PlainConfiguration Shape → Bool) (rs : List Shape) (xs : List (PlainConfiguration ℕ)) → Each (λ x. p x ≡ q (valued rs x)) xs → (i : ℕ) → i < position_or_len p xs → q (configuration_at (map (λ x. valued rs x) xs) i) ≡ false
+none_before : (p : PlainConfiguration ℕ → Bool) (q : PlainConfiguration Shape → Bool) (rs : List Shape) (xs : List (PlainConfiguration ℕ)) →
+    Each (λ x. p x ≡ q (valued rs x)) xs → (i : ℕ) → i < position_or_len p xs → q (configuration_at (map (λ x. valued rs x) xs) i) ≡ false
 none_before p q rs [] e i h = absurd (omega (arith, h))
 none_before p q rs (x ∷ xs) e zero h = go (p x) refl e.0 h
   where
@@ -98,11 +106,13 @@ none_before p q rs (x ∷ xs) e zero h = go (p x) refl e.0 h
     go false t u s = sym u ∙ t
 none_before p q rs (x ∷ xs) e (suc i) h = go (p x) (none_before p q rs xs e.1 i) h
   where
-    go : (b : Bool) → (i < position_or_len p xs → q (configuration_at (map (λ x. valued rs x) xs) i) ≡ false) → suc i < cond (not b) (1 + position_or_len p xs) 0 → q (configuration_at (map (λ x. valued rs x) xs) i) ≡ false
+    go : (b : Bool) → (i < position_or_len p xs → q (configuration_at (map (λ x. valued rs x) xs) i) ≡ false) →
+        suc i < cond (not b) (1 + position_or_len p xs) 0 → q (configuration_at (map (λ x. valued rs x) xs) i) ≡ false
     go true m s = absurd (omega (arith, s))
     go false m s = m (omega (arith, s))
 
-any_at : (q : PlainConfiguration Shape → Bool) (xs : List (PlainConfiguration Shape)) (i : ℕ) → i < length xs → q (configuration_at xs i) ≡ true → list_any q xs ≡ true
+any_at : (q : PlainConfiguration Shape → Bool) (xs : List (PlainConfiguration Shape)) (i : ℕ) → i < length xs → q (configuration_at xs i) ≡ true →
+    list_any q xs ≡ true
 any_at q [] i h t = absurd (omega (arith, h))
 any_at q (x ∷ xs) zero h t = ap (λ z. z || list_any q xs) t
 any_at q (x ∷ xs) (suc i) h t = last (q x) (list_any q xs) (any_at q xs i (omega (arith, h)) t)
@@ -111,16 +121,20 @@ any_at q (x ∷ xs) (suc i) h t = last (q x) (list_any q xs) (any_at q xs i (ome
     last true b s = refl
     last false b s = s
 
-none_any : (p : PlainConfiguration ℕ → Bool) (q : PlainConfiguration Shape → Bool) (rs : List Shape) (xs : List (PlainConfiguration ℕ)) → Each (λ x. p x ≡ q (valued rs x)) xs → length xs ≤ position_or_len p xs → list_any q (map (λ x. valued rs x) xs) ≡ false
+none_any : (p : PlainConfiguration ℕ → Bool) (q : PlainConfiguration Shape → Bool) (rs : List Shape) (xs : List (PlainConfiguration ℕ)) →
+    Each (λ x. p x ≡ q (valued rs x)) xs → length xs ≤ position_or_len p xs → list_any q (map (λ x. valued rs x) xs) ≡ false
 none_any p q rs [] e h = refl
 none_any p q rs (x ∷ xs) e h = go (p x) refl e.0 (none_any p q rs xs e.1) h
   where
-    go : (b : Bool) → p x ≡ b → p x ≡ q (valued rs x) → (length xs ≤ position_or_len p xs → list_any q (map (λ x. valued rs x) xs) ≡ false) → suc (length xs) ≤ cond (not b) (1 + position_or_len p xs) 0 → q (valued rs x) || list_any q (map (λ x. valued rs x) xs) ≡ false
+    go : (b : Bool) → p x ≡ b → p x ≡ q (valued rs x) → (length xs ≤ position_or_len p xs → list_any q (map (λ x. valued rs x) xs) ≡ false) →
+        suc (length xs) ≤ cond (not b) (1 + position_or_len p xs) 0 → q (valued rs x) || list_any q (map (λ x. valued rs x) xs) ≡ false
     go true t u m s = absurd (omega (arith, s))
     go false t u m s = ap (λ z. z || list_any q (map (λ x. valued rs x) xs)) (sym u ∙ t) ∙ m (omega (arith, s))
 
-each_same : (rows : List Row) (p : Shape) (b : ℕ) (rs : List Shape) (all xs : List (PlainConfiguration ℕ)) → IsFor p rs all → (x : PlainConfiguration ℕ) → HasNumbers rs x → (l : Letter) → all_listed (knowns rs) l (appended tt 0 b x.live) ≡ true → Each (HasNumbers rs) xs →
-    Each (λ y. same_configuration (numbers (knowns rs)) y (stepped (numbered rows (knowns rs) b all) x l) ≡ same_configuration shapes (valued rs y) (stepped (subject rows p b (plan_of rs all)) (valued rs x) l)) xs
+each_same : (rows : List Row) (p : Shape) (b : ℕ) (rs : List Shape) (all xs : List (PlainConfiguration ℕ)) → IsFor p rs all → (x : PlainConfiguration ℕ) →
+    HasNumbers rs x → (l : Letter) → all_listed (knowns rs) l (appended tt 0 b x.live) ≡ true → Each (HasNumbers rs) xs →
+    Each (λ y. same_configuration (numbers (knowns rs)) y (stepped (numbered rows (knowns rs) b all) x l)
+    ≡ same_configuration shapes (valued rs y) (stepped (subject rows p b (plan_of rs all)) (valued rs x) l)) xs
 each_same rows p b rs all [] i x h l a k = tt
 each_same rows p b rs all (y ∷ xs) i x h l a k = (same_valued rows p b rs all i x y h k.0 l a, each_same rows p b rs all xs i x h l a k.1)
 
@@ -136,31 +150,43 @@ tag_itself Loose = refl
 live_itself : (es : List (Entry (Unit {0}) Shape Tag)) → same_live shapes es es ≡ true
 live_itself [] = refl
 live_itself (e ∷ es) =
-    ap (λ z. z && (same_tag e.tag e.tag && same_live shapes es es)) ((same_law e.residual e.residual).1 refl) ∙ ap (λ z. z && same_live shapes es es) (tag_itself e.tag) ∙ live_itself es
+    ap (λ z. z && (same_tag e.tag e.tag && same_live shapes es es)) ((same_law e.residual e.residual).1 refl)
+    ∙ ap (λ z. z && same_live shapes es es) (tag_itself e.tag) ∙ live_itself es
 
 configuration_itself : (x : PlainConfiguration Shape) → same_configuration shapes x x ≡ true
 configuration_itself x = ap (λ z. z && same_live shapes x.live x.live) (eq-eqb x.state x.state refl) ∙ live_itself x.live
 
-pub sees : (rows : List Row) (p : Shape) (b : ℕ) (rs : List Shape) (xs : List (PlainConfiguration ℕ)) → IsFor p rs xs → (x : PlainConfiguration ℕ) → HasNumbers rs x → (l : Letter) (k : Look) →
+pub sees : (rows : List Row) (p : Shape) (b : ℕ) (rs : List Shape) (xs : List (PlainConfiguration ℕ)) → IsFor p rs xs → (x : PlainConfiguration ℕ) →
+    HasNumbers rs x → (l : Letter) (k : Look) →
     k.next ≡ next_place (knowns rs) (numbered rows (knowns rs) b xs) x l → k.meets ≡ number_meets (knowns rs) (numbered rows (knowns rs) b xs) x l →
     Sees (subject rows p b (plan_of rs xs)) (valued rs x) l k
 sees rows p b rs xs i x h l k q m = go (all_listed (knowns rs) l (appended tt 0 b x.live)) refl q m
   where
-    agree : (o : Option ℕ) → all_listed (knowns rs) l (appended tt 0 b x.live) ≡ true → (b' : Bool) → step_listed (subject rows p b (plan_of rs xs)) (valued rs x) l ≡ b' → is_some o ≡ b' →
-        k.meets ≡ (is_some o && entries_agree (numbers (knowns rs)) (move_of (numbered rows (knowns rs) b xs) x l).phase (row_at rows (move_of (numbered rows (knowns rs) b xs) x l).next).kind (no_ind (before (numbered rows (knowns rs) b xs) x)) (kept (numbered rows (knowns rs) b xs) x l)) →
+    agree : (o : Option ℕ) → all_listed (knowns rs) l (appended tt 0 b x.live) ≡ true → (b' : Bool) →
+        step_listed (subject rows p b (plan_of rs xs)) (valued rs x) l ≡ b' → is_some o ≡ b' →
+        k.meets ≡ (is_some o && entries_agree (numbers (knowns rs)) (move_of (numbered rows (knowns rs) b xs) x l).phase
+        (row_at rows (move_of (numbered rows (knowns rs) b xs) x l).next).kind (no_ind (before (numbered rows (knowns rs) b xs) x))
+        (kept (numbered rows (knowns rs) b xs) x l)) →
         k.meets ≡ meets_checks (subject rows p b (plan_of rs xs)) (valued rs x) l
     agree o a b' t u v =
         v ∙ ap (λ z. is_some o && z) (agree_valued rows p b rs xs i x h l a)
-        ∙ ap (λ z. z && entries_agree shapes (move_of (numbered rows (knowns rs) b xs) x l).phase (row_at rows (move_of (numbered rows (knowns rs) b xs) x l).next).kind (no_ind (before (subject rows p b (plan_of rs xs)) (valued rs x))) (kept (subject rows p b (plan_of rs xs)) (valued rs x) l)) (u ∙ sym t)
+        ∙ ap (λ z. z && entries_agree shapes (move_of (numbered rows (knowns rs) b xs) x l).phase
+        (row_at rows (move_of (numbered rows (knowns rs) b xs) x l).next).kind (no_ind (before (subject rows p b (plan_of rs xs)) (valued rs x)))
+        (kept (subject rows p b (plan_of rs xs)) (valued rs x) l)) (u ∙ sym t)
 
-    inner : all_listed (knowns rs) l (appended tt 0 b x.live) ≡ true → (o : Option ℕ) → position (λ y. same_configuration (numbers (knowns rs)) y (stepped (numbered rows (knowns rs) b xs) x l)) xs ≡ o → k.next ≡ o →
-        k.meets ≡ (is_some o && entries_agree (numbers (knowns rs)) (move_of (numbered rows (knowns rs) b xs) x l).phase (row_at rows (move_of (numbered rows (knowns rs) b xs) x l).next).kind (no_ind (before (numbered rows (knowns rs) b xs) x)) (kept (numbered rows (knowns rs) b xs) x l)) →
+    inner : all_listed (knowns rs) l (appended tt 0 b x.live) ≡ true → (o : Option ℕ) →
+        position (λ y. same_configuration (numbers (knowns rs)) y (stepped (numbered rows (knowns rs) b xs) x l)) xs ≡ o → k.next ≡ o →
+        k.meets ≡ (is_some o && entries_agree (numbers (knowns rs)) (move_of (numbered rows (knowns rs) b xs) x l).phase
+        (row_at rows (move_of (numbered rows (knowns rs) b xs) x l).next).kind (no_ind (before (numbered rows (knowns rs) b xs) x))
+        (kept (numbered rows (knowns rs) b xs) x l)) →
         Sees (subject rows p b (plan_of rs xs)) (valued rs x) l k
     inner a None e u v =
         let s : Subject Shape = subject rows p b (plan_of rs xs) in
         let to : PlainConfiguration Shape = stepped s (valued rs x) l in
         let no : step_listed s (valued rs x) l ≡ false =
-        none_any (λ y. same_configuration (numbers (knowns rs)) y (stepped (numbered rows (knowns rs) b xs) x l)) (λ y. same_configuration shapes y to) rs xs (each_same rows p b rs xs xs i x h l a i.numbers) (place_none (λ y. same_configuration (numbers (knowns rs)) y (stepped (numbered rows (knowns rs) b xs) x l)) xs e) in
+        none_any (λ y. same_configuration (numbers (knowns rs)) y (stepped (numbered rows (knowns rs) b xs) x l)) (λ y. same_configuration shapes y to) rs xs
+        (each_same rows p b rs xs xs i x h l a i.numbers)
+        (place_none (λ y. same_configuration (numbers (knowns rs)) y (stepped (numbered rows (knowns rs) b xs) x l)) xs e) in
         record { none = λ q. no; some = λ j q. absurd (none-some j (sym u ∙ q)); meets = agree None a false no refl v }
     inner a (Some m) e u v =
         let s : Subject Shape = subject rows p b (plan_of rs xs) in
@@ -188,7 +214,10 @@ sees rows p b rs xs i x h l k q m = go (all_listed (knowns rs) l (appended tt 0 
 
     go : (a : Bool) → all_listed (knowns rs) l (appended tt 0 b x.live) ≡ a →
         k.next ≡ cond a (position (λ y. same_configuration (numbers (knowns rs)) y (stepped (numbered rows (knowns rs) b xs) x l)) xs) None →
-        k.meets ≡ (is_some (cond a (position (λ y. same_configuration (numbers (knowns rs)) y (stepped (numbered rows (knowns rs) b xs) x l)) xs) None) && entries_agree (numbers (knowns rs)) (move_of (numbered rows (knowns rs) b xs) x l).phase (row_at rows (move_of (numbered rows (knowns rs) b xs) x l).next).kind (no_ind (before (numbered rows (knowns rs) b xs) x)) (kept (numbered rows (knowns rs) b xs) x l)) →
+        k.meets ≡ (is_some (cond a (position (λ y. same_configuration (numbers (knowns rs)) y (stepped (numbered rows (knowns rs) b xs) x l)) xs) None)
+        && entries_agree (numbers (knowns rs)) (move_of (numbered rows (knowns rs) b xs) x l).phase
+        (row_at rows (move_of (numbered rows (knowns rs) b xs) x l).next).kind (no_ind (before (numbered rows (knowns rs) b xs) x))
+        (kept (numbered rows (knowns rs) b xs) x l)) →
         Sees (subject rows p b (plan_of rs xs)) (valued rs x) l k
     go true e u v = inner e (position (λ y. same_configuration (numbers (knowns rs)) y (stepped (numbered rows (knowns rs) b xs) x l)) xs) refl u v
     go false e u v =
@@ -197,17 +226,21 @@ sees rows p b rs xs i x h l k q m = go (all_listed (knowns rs) l (appended tt 0 
         record {
           none = λ q. no;
           some = λ j q. absurd (none-some j (sym u ∙ q));
-          meets = v ∙ sym (ap (λ z. z && entries_agree shapes (move_of s (valued rs x) l).phase (row_at rows (move_of s (valued rs x) l).next).kind (no_ind (before s (valued rs x))) (kept s (valued rs x) l)) no);
+          meets = v ∙ sym
+              (ap (λ z. z && entries_agree shapes (move_of s (valued rs x) l).phase (row_at rows (move_of s (valued rs x) l).next).kind
+              (no_ind (before s (valued rs x))) (kept s (valued rs x) l)) no);
         }
 
 -- configuration i of a plan
 
-value_is : (rs : List Shape) (xs : List (PlainConfiguration ℕ)) (i : ℕ) → i < length xs → configuration_at (map (λ x. valued rs x) xs) i ≡ valued rs (configuration_at xs i)
+value_is : (rs : List Shape) (xs : List (PlainConfiguration ℕ)) (i : ℕ) → i < length xs →
+    configuration_at (map (λ x. valued rs x) xs) i ≡ valued rs (configuration_at xs i)
 value_is rs [] i q = absurd (omega (arith, q))
 value_is rs (x ∷ xs) zero q = refl
 value_is rs (x ∷ xs) (suc i) q = value_is rs xs i (omega (arith, q))
 
-plain_is : (cs : List Configuration) (i : ℕ) (d : Configuration) → i < length cs → configuration_at (map (λ x. plain_configuration x) cs) i ≡ plain_configuration (get_or cs i d)
+plain_is : (cs : List Configuration) (i : ℕ) (d : Configuration) → i < length cs →
+    configuration_at (map (λ x. plain_configuration x) cs) i ≡ plain_configuration (get_or cs i d)
 plain_is [] i d q = absurd (omega (arith, q))
 plain_is (c ∷ cs) zero d q = refl
 plain_is (c ∷ cs) (suc i) d q = plain_is cs i d (omega (arith, q))
@@ -217,11 +250,13 @@ numbers_at rs [] i h q = absurd (omega (arith, q))
 numbers_at rs (x ∷ xs) zero h q = h.0
 numbers_at rs (x ∷ xs) (suc i) h q = numbers_at rs xs i h.1 (omega (arith, q))
 
-pub sees_at : (rows : List Row) (p : Shape) (b : ℕ) (rs : List Shape) (cs : List Configuration) (table : List Known) → is_plan_of p (plan_of rs (map (λ x. plain_configuration x) cs)) ≡ true → table ≡ knowns rs →
+pub sees_at : (rows : List Row) (p : Shape) (b : ℕ) (rs : List Shape) (cs : List Configuration) (table : List Known) →
+    is_plan_of p (plan_of rs (map (λ x. plain_configuration x) cs)) ≡ true → table ≡ knowns rs →
     (i : ℕ) (d here : Configuration) → i < length cs → here ≡ get_or cs i d → (l : Letter) (k : Look) →
     k.next ≡ next_place table (numbered rows table b (map (λ x. plain_configuration x) cs)) (plain_configuration here) l →
     k.meets ≡ number_meets table (numbered rows table b (map (λ x. plain_configuration x) cs)) (plain_configuration here) l →
-    Sees (subject rows p b (plan_of rs (map (λ x. plain_configuration x) cs))) (value_at (subject rows p b (plan_of rs (map (λ x. plain_configuration x) cs))) i) l k
+    Sees (subject rows p b (plan_of rs (map (λ x. plain_configuration x) cs)))
+    (value_at (subject rows p b (plan_of rs (map (λ x. plain_configuration x) cs))) i) l k
 sees_at rows p b rs cs table f t i d here q e l k n m =
     let xs : List (PlainConfiguration ℕ) = map (λ x. plain_configuration x) cs in
     let g : IsFor p rs xs = plan_for p rs xs f in
@@ -230,14 +265,20 @@ sees_at rows p b rs cs table f t i d here q e l k n m =
     let is : plain_configuration here ≡ x = ap (λ z. plain_configuration z) e ∙ sym (plain_is cs i d q) in
     subst (λ z. Sees (subject rows p b (plan_of rs xs)) z l k) (sym (value_is rs xs i short))
     (sees rows p b rs xs g x (numbers_at rs xs i g.numbers short) l k
-    (n ∙ ap (λ z. next_place z (numbered rows z b xs) (plain_configuration here) l) t ∙ ap (λ z. next_place (knowns rs) (numbered rows (knowns rs) b xs) z l) is)
-    (m ∙ ap (λ z. number_meets z (numbered rows z b xs) (plain_configuration here) l) t ∙ ap (λ z. number_meets (knowns rs) (numbered rows (knowns rs) b xs) z l) is))
+    (n ∙ ap (λ z. next_place z (numbered rows z b xs) (plain_configuration here) l) t
+    ∙ ap (λ z. next_place (knowns rs) (numbered rows (knowns rs) b xs) z l) is)
+    (m ∙ ap (λ z. number_meets z (numbered rows z b xs) (plain_configuration here) l) t
+    ∙ ap (λ z. number_meets (knowns rs) (numbered rows (knowns rs) b xs) z l) is))
 
-pub sees_plan : (rows : List Row) (p : Shape) (b : ℕ) (rs : List Shape) (slice cs : List Configuration) (table : List Known) → slice ≡ cs → is_plan_of p (plan_of rs (map (λ x. plain_configuration x) cs)) ≡ true → table ≡ knowns rs →
+pub sees_plan : (rows : List Row) (p : Shape) (b : ℕ) (rs : List Shape) (slice cs : List Configuration) (table : List Known) → slice ≡ cs →
+    is_plan_of p (plan_of rs (map (λ x. plain_configuration x) cs)) ≡ true → table ≡ knowns rs →
     (i : ℕ) (here : Configuration) → i < length cs → here ≡ get_or slice i here → (l : Letter) (k : Look) →
     k.next ≡ next_place table (numbered rows table b (map (λ x. plain_configuration x) slice)) (plain_configuration here) l →
     k.meets ≡ number_meets table (numbered rows table b (map (λ x. plain_configuration x) slice)) (plain_configuration here) l →
-    Sees (subject rows p b (plan_of rs (map (λ x. plain_configuration x) cs))) (value_at (subject rows p b (plan_of rs (map (λ x. plain_configuration x) cs))) i) l k
+    Sees (subject rows p b (plan_of rs (map (λ x. plain_configuration x) cs)))
+    (value_at (subject rows p b (plan_of rs (map (λ x. plain_configuration x) cs))) i) l k
 sees_plan rows p b rs slice cs table e f t i here q g l k n m =
-    subst (λ z. Sees (subject rows p b (plan_of rs (map (λ x. plain_configuration x) z))) (value_at (subject rows p b (plan_of rs (map (λ x. plain_configuration x) z))) i) l k) e
-    (sees_at rows p b rs slice table (subst (λ z. is_plan_of p (plan_of rs (map (λ x. plain_configuration x) z)) ≡ true) (sym e) f) t i here here (subst (λ z. i < length z) (sym e) q) g l k n m)
+    subst (λ z. Sees (subject rows p b (plan_of rs (map (λ x. plain_configuration x) z)))
+    (value_at (subject rows p b (plan_of rs (map (λ x. plain_configuration x) z))) i) l k) e
+    (sees_at rows p b rs slice table (subst (λ z. is_plan_of p (plan_of rs (map (λ x. plain_configuration x) z)) ≡ true) (sym e) f) t i here here
+    (subst (λ z. i < length z) (sym e) q) g l k n m)

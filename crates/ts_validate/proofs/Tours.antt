@@ -76,7 +76,8 @@ eq_or_not m n = ⊎_elim (λ q. inl q.1) (λ q. inr (λ z. q.1 z)) (eqb_tells m 
 start_count : (n : ℕ) → 0 < n → open_places (set (replicate n None) 0 (Some 0)) + 1 ≡ n
 start_count n q = fewer_open (replicate n None) 0 0 (subst (λ z. 0 < z) (sym (replicated n)) q) (none_there n 0) ∙ all_open n
 
-pub started : (s : Subject Shape) (n : ℕ) (arrivals : List Arrival) (places : List (Option ℕ)) → n ≡ length s.configurations → 0 < n → arrivals ≡ record { configuration = 0; from = 0; letter = Less } ∷ [] → places ≡ set (replicate n None) 0 (Some 0) → Reaches s arrivals places
+pub started : (s : Subject Shape) (n : ℕ) (arrivals : List Arrival) (places : List (Option ℕ)) → n ≡ length s.configurations → 0 < n →
+    arrivals ≡ record { configuration = 0; from = 0; letter = Less } ∷ [] → places ≡ set (replicate n None) 0 (Some 0) → Reaches s arrivals places
 started s n arrivals places e q a o =
     let only : Arrival = record { configuration = 0; from = 0; letter = Less } in
     let size : length (set (replicate {A = Option ℕ} n None) 0 (Some 0)) ≡ n = set_size (replicate n None) 0 (Some 0) ∙ replicated n in
@@ -92,24 +93,29 @@ started s n arrivals places e q a o =
       back = λ k d. one_back k d room;
     }))
   where
-    one : (k : ℕ) → k < 1 → (P : Arrival → Type 0) → P (record { configuration = 0; from = 0; letter = Less }) → P (arrived (record { configuration = 0; from = 0; letter = Less } ∷ []) k)
+    one : (k : ℕ) → k < 1 → (P : Arrival → Type 0) → P (record { configuration = 0; from = 0; letter = Less }) →
+        P (arrived (record { configuration = 0; from = 0; letter = Less } ∷ []) k)
     one zero d P h = h
     one (suc k) d P h = absurd (omega (arith, d))
 
-    one_back : (k : ℕ) → k < 1 → 0 < length (replicate {A = Option ℕ} n None) → place_at (set (replicate n None) 0 (Some 0)) (arrived (record { configuration = 0; from = 0; letter = Less } ∷ []) k).configuration ≡ Some k
+    one_back : (k : ℕ) → k < 1 → 0 < length (replicate {A = Option ℕ} n None) →
+        place_at (set (replicate n None) 0 (Some 0)) (arrived (record { configuration = 0; from = 0; letter = Less } ∷ []) k).configuration ≡ Some k
     one_back zero d r = set_same (replicate n None) 0 (Some 0) r
     one_back (suc k) d r = absurd (omega (arith, d))
 
-    go : (c k : ℕ) → place_at (set (replicate n None) 0 (Some 0)) c ≡ Some k → (k < 1) × ((arrived (record { configuration = 0; from = 0; letter = Less } ∷ []) k).configuration ≡ c)
+    go : (c k : ℕ) → place_at (set (replicate n None) 0 (Some 0)) c ≡ Some k →
+        (k < 1) × ((arrived (record { configuration = 0; from = 0; letter = Less } ∷ []) k).configuration ≡ c)
     go zero k t = go_zero k (sym (set_same (replicate n None) 0 (Some 0) (let r = replicated n in omega (arith, r, q))) ∙ t)
       where
         go_zero : (k : ℕ) → Some 0 ≡ Some k → (k < 1) × ((arrived (record { configuration = 0; from = 0; letter = Less } ∷ []) k).configuration ≡ 0)
-        go_zero k t = subst (λ z. (z < 1) × ((arrived (record { configuration = 0; from = 0; letter = Less } ∷ []) z).configuration ≡ 0)) (same_Some 0 k t) (omega arith, refl)
+        go_zero k t = subst (λ z. (z < 1) × ((arrived (record { configuration = 0; from = 0; letter = Less } ∷ []) z).configuration ≡ 0)) (same_Some 0 k t)
+            (omega arith, refl)
     go (suc c) k t = absurd (none-some k (sym (set_other (replicate n None) 0 (suc c) (Some 0) (λ z. omega (arith, z)) ∙ none_there n (suc c)) ∙ t))
 
 -- one more arrival
 
-pub more_reached : (s : Subject Shape) (xs : List Arrival) (os : List (Option ℕ)) → Reaches s xs os → (next from : ℕ) (l : Letter) → from < length xs → next < length s.configurations → place_at os next ≡ None →
+pub more_reached : (s : Subject Shape) (xs : List Arrival) (os : List (Option ℕ)) → Reaches s xs os → (next from : ℕ) (l : Letter) → from < length xs →
+    next < length s.configurations → place_at os next ≡ None →
     step_listed s (value_of s xs from) l ≡ true → value_at s next ≡ stepped s (value_of s xs from) l →
     Reaches s (xs ++ record { configuration = next; from = from; letter = l } ∷ []) (set os next (Some (length xs)))
 more_reached s xs os h next from l f i e t v =
@@ -129,60 +135,99 @@ more_reached s xs os h next from l f i e t v =
           (λ q. goes_old k q (old k q) (h.steps k c q))
           (eq-or-lt_of_le (let z : k ≤ length xs = omega arith in z));
       inside = λ k d. ⊎_elim
-          (λ q. subst (λ z. (arrived ys z).configuration < length s.configurations) (sym q) (subst (λ (z : Arrival). z.configuration < length s.configurations) (sym last) i))
+          (λ q. subst (λ z. (arrived ys z).configuration < length s.configurations) (sym q)
+          (subst (λ (z : Arrival). z.configuration < length s.configurations) (sym last) i))
           (λ q. subst (λ (z : Arrival). z.configuration < length s.configurations) (sym (old k q)) (h.inside k q))
           (eq-or-lt_of_le (let z : k ≤ length xs = omega arith in z));
       there = λ c k q. there_more c k q room last;
       back = λ k d. ⊎_elim
-          (λ q. subst (λ z. place_at (set os next (Some (length xs))) (arrived ys z).configuration ≡ Some z) (sym q) (ap (λ (z : Arrival). place_at (set os next (Some (length xs))) z.configuration) last ∙ set_same os next (Some (length xs)) room))
+          (λ q. subst (λ z. place_at (set os next (Some (length xs))) (arrived ys z).configuration ≡ Some z) (sym q)
+          (ap (λ (z : Arrival). place_at (set os next (Some (length xs))) z.configuration) last ∙ set_same os next (Some (length xs)) room))
           (λ q. ap (λ (z : Arrival). place_at (set os next (Some (length xs))) z.configuration) (old k q)
           ∙ set_other os next (arrived xs k).configuration (Some (length xs)) (λ z. none-some k (sym e ∙ ap (λ y. place_at os y) z ∙ h.back k q))
           ∙ h.back k q)
           (eq-or-lt_of_le (let z : k ≤ length xs = omega arith in z));
     }
   where
-    goes_last : arrived (xs ++ record { configuration = next; from = from; letter = l } ∷ []) (length xs) ≡ record { configuration = next; from = from; letter = l } → arrived (xs ++ record { configuration = next; from = from; letter = l } ∷ []) from ≡ arrived xs from → from < length xs → GoesOn s (xs ++ record { configuration = next; from = from; letter = l } ∷ []) (length xs)
+    goes_last : arrived (xs ++ record { configuration = next; from = from; letter = l } ∷ []) (length xs)
+        ≡ record { configuration = next; from = from; letter = l } →
+        arrived (xs ++ record { configuration = next; from = from; letter = l } ∷ []) from ≡ arrived xs from → from < length xs →
+        GoesOn s (xs ++ record { configuration = next; from = from; letter = l } ∷ []) (length xs)
     goes_last u w q =
-        subst (λ (z : Arrival). (z.from < length xs) × (step_listed s (value_of s (xs ++ record { configuration = next; from = from; letter = l } ∷ []) z.from) z.letter ≡ true) × (value_at s z.configuration ≡ stepped s (value_of s (xs ++ record { configuration = next; from = from; letter = l } ∷ []) z.from) z.letter)) (sym u)
-        (q, subst (λ (z : Arrival). step_listed s (value_at s z.configuration) l ≡ true) (sym w) t, subst (λ (z : Arrival). value_at s next ≡ stepped s (value_at s z.configuration) l) (sym w) v)
+        subst (λ (z : Arrival). (z.from < length xs)
+        × (step_listed s (value_of s (xs ++ record { configuration = next; from = from; letter = l } ∷ []) z.from) z.letter ≡ true)
+        × (value_at s z.configuration ≡ stepped s (value_of s (xs ++ record { configuration = next; from = from; letter = l } ∷ []) z.from) z.letter))
+        (sym u) (
+          q,
+          subst (λ (z : Arrival). step_listed s (value_at s z.configuration) l ≡ true) (sym w) t,
+          subst (λ (z : Arrival). value_at s next ≡ stepped s (value_at s z.configuration) l) (sym w) v,
+        )
 
-    goes_old : (k : ℕ) → k < length xs → arrived (xs ++ record { configuration = next; from = from; letter = l } ∷ []) k ≡ arrived xs k → GoesOn s xs k → GoesOn s (xs ++ record { configuration = next; from = from; letter = l } ∷ []) k
+    goes_old : (k : ℕ) → k < length xs → arrived (xs ++ record { configuration = next; from = from; letter = l } ∷ []) k ≡ arrived xs k → GoesOn s xs k →
+        GoesOn s (xs ++ record { configuration = next; from = from; letter = l } ∷ []) k
     goes_old k q u g =
-        let w : arrived (xs ++ record { configuration = next; from = from; letter = l } ∷ []) (arrived xs k).from ≡ arrived xs (arrived xs k).from = kept_at xs (record { configuration = next; from = from; letter = l } ∷ []) (arrived xs k).from (let z = g.0 in omega arith) in
-        subst (λ (z : Arrival). (z.from < k) × (step_listed s (value_of s (xs ++ record { configuration = next; from = from; letter = l } ∷ []) z.from) z.letter ≡ true) × (value_at s z.configuration ≡ stepped s (value_of s (xs ++ record { configuration = next; from = from; letter = l } ∷ []) z.from) z.letter)) (sym u)
-        (g.0, subst (λ (z : Arrival). step_listed s (value_at s z.configuration) (arrived xs k).letter ≡ true) (sym w) g.1, subst (λ (z : Arrival). value_of s xs k ≡ stepped s (value_at s z.configuration) (arrived xs k).letter) (sym w) g.2)
+        let w : arrived (xs ++ record { configuration = next; from = from; letter = l } ∷ []) (arrived xs k).from ≡ arrived xs (arrived xs k).from =
+        kept_at xs (record { configuration = next; from = from; letter = l } ∷ []) (arrived xs k).from (let z = g.0 in omega arith) in
+        subst (λ (z : Arrival). (z.from < k)
+        × (step_listed s (value_of s (xs ++ record { configuration = next; from = from; letter = l } ∷ []) z.from) z.letter ≡ true)
+        × (value_at s z.configuration ≡ stepped s (value_of s (xs ++ record { configuration = next; from = from; letter = l } ∷ []) z.from) z.letter))
+        (sym u) (
+          g.0,
+          subst (λ (z : Arrival). step_listed s (value_at s z.configuration) (arrived xs k).letter ≡ true) (sym w) g.1,
+          subst (λ (z : Arrival). value_of s xs k ≡ stepped s (value_at s z.configuration) (arrived xs k).letter) (sym w) g.2,
+        )
 
-    apart : (c k : ℕ) → (next ≡ c → ⊥) → place_at (set os next (Some (length xs))) c ≡ Some k → (k < length (xs ++ record { configuration = next; from = from; letter = l } ∷ [])) × ((arrived (xs ++ record { configuration = next; from = from; letter = l } ∷ []) k).configuration ≡ c)
+    apart : (c k : ℕ) → (next ≡ c → ⊥) → place_at (set os next (Some (length xs))) c ≡ Some k →
+        (k < length (xs ++ record { configuration = next; from = from; letter = l } ∷ []))
+        × ((arrived (xs ++ record { configuration = next; from = from; letter = l } ∷ []) k).configuration ≡ c)
     apart c k n q =
-        let g = h.there c k (sym (set_other os next c (Some (length xs)) n) ∙ q) in
-        ((let z = length-append xs (record { configuration = next; from = from; letter = l } ∷ []) in let y = g.0 in omega arith), ap (λ (z : Arrival). z.configuration) (kept_at xs (record { configuration = next; from = from; letter = l } ∷ []) k g.0) ∙ g.1)
+        let g = h.there c k (sym (set_other os next c (Some (length xs)) n) ∙ q) in (
+          (let z = length-append xs (record { configuration = next; from = from; letter = l } ∷ []) in let y = g.0 in omega arith),
+          ap (λ (z : Arrival). z.configuration) (kept_at xs (record { configuration = next; from = from; letter = l } ∷ []) k g.0) ∙ g.1,
+        )
 
-    same : (k : ℕ) → next < length os → arrived (xs ++ record { configuration = next; from = from; letter = l } ∷ []) (length xs) ≡ record { configuration = next; from = from; letter = l } → place_at (set os next (Some (length xs))) next ≡ Some k → (k < length (xs ++ record { configuration = next; from = from; letter = l } ∷ [])) × ((arrived (xs ++ record { configuration = next; from = from; letter = l } ∷ []) k).configuration ≡ next)
+    same : (k : ℕ) → next < length os → arrived (xs ++ record { configuration = next; from = from; letter = l } ∷ []) (length xs)
+        ≡ record { configuration = next; from = from; letter = l } → place_at (set os next (Some (length xs))) next ≡ Some k →
+        (k < length (xs ++ record { configuration = next; from = from; letter = l } ∷ []))
+        × ((arrived (xs ++ record { configuration = next; from = from; letter = l } ∷ []) k).configuration ≡ next)
     same k r u q =
-        subst (λ z. (z < length (xs ++ record { configuration = next; from = from; letter = l } ∷ [])) × ((arrived (xs ++ record { configuration = next; from = from; letter = l } ∷ []) z).configuration ≡ next)) (same_Some (length xs) k (sym (set_same os next (Some (length xs)) r) ∙ q))
+        subst (λ z. (z < length (xs ++ record { configuration = next; from = from; letter = l } ∷ []))
+        × ((arrived (xs ++ record { configuration = next; from = from; letter = l } ∷ []) z).configuration ≡ next))
+        (same_Some (length xs) k (sym (set_same os next (Some (length xs)) r) ∙ q))
         ((let z = length-append xs (record { configuration = next; from = from; letter = l } ∷ []) in omega arith), ap (λ (z : Arrival). z.configuration) u)
 
-    there_more : (c k : ℕ) → place_at (set os next (Some (length xs))) c ≡ Some k → next < length os → arrived (xs ++ record { configuration = next; from = from; letter = l } ∷ []) (length xs) ≡ record { configuration = next; from = from; letter = l } → (k < length (xs ++ record { configuration = next; from = from; letter = l } ∷ [])) × ((arrived (xs ++ record { configuration = next; from = from; letter = l } ∷ []) k).configuration ≡ c)
+    there_more : (c k : ℕ) → place_at (set os next (Some (length xs))) c ≡ Some k → next < length os →
+        arrived (xs ++ record { configuration = next; from = from; letter = l } ∷ []) (length xs) ≡ record { configuration = next; from = from; letter = l } →
+        (k < length (xs ++ record { configuration = next; from = from; letter = l } ∷ []))
+        × ((arrived (xs ++ record { configuration = next; from = from; letter = l } ∷ []) k).configuration ≡ c)
     there_more c k q r u = ⊎_elim
-        (λ e. subst (λ z. (k < length (xs ++ record { configuration = next; from = from; letter = l } ∷ [])) × ((arrived (xs ++ record { configuration = next; from = from; letter = l } ∷ []) k).configuration ≡ z)) e (same k r u (subst (λ z. place_at (set os next (Some (length xs))) z ≡ Some k) (sym e) q)))
+        (λ e. subst (λ z. (k < length (xs ++ record { configuration = next; from = from; letter = l } ∷ []))
+        × ((arrived (xs ++ record { configuration = next; from = from; letter = l } ∷ []) k).configuration ≡ z)) e
+        (same k r u (subst (λ z. place_at (set os next (Some (length xs))) z ≡ Some k) (sym e) q)))
         (λ n. apart c k n q)
         (eq_or_not next c)
 
-pub add_reached : (s : Subject Shape) (xs ys : List Arrival) (os ps : List (Option ℕ)) → Reaches s xs os → (next from : ℕ) (l : Letter) → from < length xs → IsFirst s (stepped s (value_of s xs from) l) next → step_listed s (value_of s xs from) l ≡ true → None ≡ place_at os next →
+pub add_reached : (s : Subject Shape) (xs ys : List Arrival) (os ps : List (Option ℕ)) → Reaches s xs os → (next from : ℕ) (l : Letter) → from < length xs →
+    IsFirst s (stepped s (value_of s xs from) l) next → step_listed s (value_of s xs from) l ≡ true → None ≡ place_at os next →
     ys ≡ xs ++ record { configuration = next; from = from; letter = l } ∷ [] → ps ≡ set os next (Some (length xs)) → Reaches s ys ps
 add_reached s xs ys os ps h next from l f i t e u v =
-    subst (λ z. Reaches s z ps) (sym u) (subst (λ z. Reaches s (xs ++ record { configuration = next; from = from; letter = l } ∷ []) z) (sym v) (more_reached s xs os h next from l f i.0 (sym e) t i.1))
+    subst (λ z. Reaches s z ps) (sym u) (subst (λ z. Reaches s (xs ++ record { configuration = next; from = from; letter = l } ∷ []) z) (sym v)
+    (more_reached s xs os h next from l f i.0 (sym e) t i.1))
 
 -- what a look shows of arrival `from`
-pub seen_first : (s : Subject Shape) (xs : List Arrival) (from : ℕ) (here : Arrival) (l : Letter) (k : Look) (j : ℕ) → here ≡ arrived xs from → Sees s (value_at s here.configuration) l k → k.next ≡ Some j → (step_listed s (value_of s xs from) l ≡ true) × IsFirst s (stepped s (value_of s xs from) l) j
+pub seen_first : (s : Subject Shape) (xs : List Arrival) (from : ℕ) (here : Arrival) (l : Letter) (k : Look) (j : ℕ) → here ≡ arrived xs from →
+    Sees s (value_at s here.configuration) l k → k.next ≡ Some j →
+    (step_listed s (value_of s xs from) l ≡ true) × IsFirst s (stepped s (value_of s xs from) l) j
 seen_first s xs from here l k j e h q =
     subst (λ (z : Arrival). (step_listed s (value_at s z.configuration) l ≡ true) × IsFirst s (stepped s (value_at s z.configuration) l) j) e (h.some j q)
 
-pub follows_old : (s : Subject Shape) (xs : List Arrival) (os : List (Option ℕ)) → Reaches s xs os → (from next k : ℕ) (l : Letter) → IsFirst s (stepped s (value_of s xs from) l) next → Some k ≡ place_at os next → Follows s xs from l
+pub follows_old : (s : Subject Shape) (xs : List Arrival) (os : List (Option ℕ)) → Reaches s xs os → (from next k : ℕ) (l : Letter) →
+    IsFirst s (stepped s (value_of s xs from) l) next → Some k ≡ place_at os next → Follows s xs from l
 follows_old s xs os h from next k l i e =
     let g = h.there next k (sym e) in (λ t. (k, g.0, subst (λ z. IsFirst s (stepped s (value_of s xs from) l) z) (sym g.1) i))
 
-pub follows_new : (s : Subject Shape) (xs ys : List Arrival) (from next : ℕ) (l : Letter) → from < length xs → IsFirst s (stepped s (value_of s xs from) l) next → ys ≡ xs ++ record { configuration = next; from = from; letter = l } ∷ [] → Follows s ys from l
+pub follows_new : (s : Subject Shape) (xs ys : List Arrival) (from next : ℕ) (l : Letter) → from < length xs →
+    IsFirst s (stepped s (value_of s xs from) l) next → ys ≡ xs ++ record { configuration = next; from = from; letter = l } ∷ [] → Follows s ys from l
 follows_new s xs ys from next l f i u =
     let a : Arrival = record { configuration = next; from = from; letter = l } in
     let n : length (xs ++ a ∷ []) ≡ length xs + 1 = length-append xs (a ∷ []) in
@@ -214,12 +259,14 @@ grown_twice xs ys zs g h = (g.0 ++ h.0, h.1 ∙ ap (λ z. z ++ h.0) g.1 ∙ appe
 pub grown_length : (xs ys : List Arrival) → Grows xs ys → length xs ≤ length ys
 grown_length xs ys g = let e = ap (λ (z : List Arrival). length z) g.1 in let n = length-append xs g.0 in omega arith
 
-pub follows_each : (s : Subject Shape) (xs : List Arrival) (k : ℕ) → Follows s xs k Less → Follows s xs k Equal → Follows s xs k Greater → (l : Letter) → Follows s xs k l
+pub follows_each : (s : Subject Shape) (xs : List Arrival) (k : ℕ) → Follows s xs k Less → Follows s xs k Equal → Follows s xs k Greater → (l : Letter) →
+    Follows s xs k l
 follows_each s xs k a b c Less = a
 follows_each s xs k a b c Equal = b
 follows_each s xs k a b c Greater = c
 
-pub followed_more : (s : Subject Shape) (xs ys : List Arrival) (done : ℕ) → done < length xs → Followed s xs done → Grows xs ys → ((l : Letter) → Follows s ys done l) → Followed s ys (done + 1)
+pub followed_more : (s : Subject Shape) (xs ys : List Arrival) (done : ℕ) → done < length xs → Followed s xs done → Grows xs ys →
+    ((l : Letter) → Follows s ys done l) → Followed s ys (done + 1)
 followed_more s xs ys done q f g h k c l = ⊎_elim
     (λ e. subst (λ z. Follows s ys z l) (sym e) (h l))
     (λ e. follows_grown s xs ys k l (omega arith) g (f k e l))
@@ -241,23 +288,31 @@ plain_size (c ∷ cs) = ap (λ n. suc n) (plain_size cs)
 
 pub plan_some : (p : Shape) (plan : Plan) → is_plan_of p (plain_plan plan) ≡ true → 0 < length plan.configurations.items
 plan_some p plan q =
-    let h = and_parts (first_passes (λ r. same_shape r (normal_form p)) (plain_plan plan).residuals) (first_passes (λ x. is_blank x) (plain_plan plan).configurations && list_all (λ x. list_all (λ e. nat_lt e.residual (length (plain_plan plan).residuals)) x.live) (plain_plan plan).configurations) q in
-    let k = and_parts (first_passes (λ x. is_blank x) (plain_plan plan).configurations) (list_all (λ x. list_all (λ e. nat_lt e.residual (length (plain_plan plan).residuals)) x.live) (plain_plan plan).configurations) h.1 in
+    let h = and_parts (first_passes (λ r. same_shape r (normal_form p)) (plain_plan plan).residuals)
+    (first_passes (λ x. is_blank x) (plain_plan plan).configurations
+    && list_all (λ x. list_all (λ e. nat_lt e.residual (length (plain_plan plan).residuals)) x.live) (plain_plan plan).configurations) q in
+    let k = and_parts (first_passes (λ x. is_blank x) (plain_plan plan).configurations)
+    (list_all (λ x. list_all (λ e. nat_lt e.residual (length (plain_plan plan).residuals)) x.live) (plain_plan plan).configurations) h.1 in
     subst (λ z. 0 < z) (plain_size plan.configurations.items) (some_first (plain_plan plan).configurations k.0)
 
 pub plan_size : (rows : List Row) (p : Pattern) (plan : Plan) → length plan.configurations.items ≡ length (against rows p plan).configurations
 plan_size rows p plan = sizes (plain_plan plan).residuals plan.configurations.items
 
-pub started_plan : (rows : List Row) (p : Pattern) (plan : Plan) (n : ℕ) (arrivals : List Arrival) (places : List (Option ℕ)) → is_plan_of (shape_of p.regex) (plain_plan plan) ≡ true → n ≡ length plan.configurations.items → arrivals ≡ record { configuration = 0; from = 0; letter = Less } ∷ [] → places ≡ set (replicate n None) 0 (Some 0) → Reaches (against rows p plan) arrivals places
+pub started_plan : (rows : List Row) (p : Pattern) (plan : Plan) (n : ℕ) (arrivals : List Arrival) (places : List (Option ℕ)) →
+    is_plan_of (shape_of p.regex) (plain_plan plan) ≡ true → n ≡ length plan.configurations.items →
+    arrivals ≡ record { configuration = 0; from = 0; letter = Less } ∷ [] → places ≡ set (replicate n None) 0 (Some 0) →
+    Reaches (against rows p plan) arrivals places
 started_plan rows p plan n arrivals places f e a o =
     started (against rows p plan) n arrivals places (e ∙ plan_size rows p plan) (subst (λ z. 0 < z) (sym e) (plan_some (shape_of p.regex) plan f)) a o
 
 -- a tour never has more arrivals than there are configurations
-pub few_arrivals : (rows : List Row) (p : Pattern) (plan : Plan) (xs : List Arrival) (os : List (Option ℕ)) → Reaches (against rows p plan) xs os → length xs ≤ length plan.configurations.items
+pub few_arrivals : (rows : List Row) (p : Pattern) (plan : Plan) (xs : List Arrival) (os : List (Option ℕ)) → Reaches (against rows p plan) xs os →
+    length xs ≤ length plan.configurations.items
 few_arrivals rows p plan xs os h = let c = h.count in let z = h.size in let n = plan_size rows p plan in omega arith
 
 -- one letter more on a path
-pub path_on : (xs : List Arrival) (k : ℕ) (v w : List Letter) (last : Arrival) → last ≡ arrived xs k → 0 < k → IsPath xs last.from v → w ≡ v ++ last.letter ∷ [] → IsPath xs k w
+pub path_on : (xs : List Arrival) (k : ℕ) (v w : List Letter) (last : Arrival) → last ≡ arrived xs k → 0 < k → IsPath xs last.from v →
+    w ≡ v ++ last.letter ∷ [] → IsPath xs k w
 path_on xs k v w last e q g u =
     PathOn k v w q (subst (λ (z : Arrival). IsPath xs z.from v) e g) (u ∙ ap (λ (z : Arrival). v ++ z.letter ∷ []) e)
 

@@ -35,7 +35,8 @@ pub out_a_held : (f : Phase) (k k' : Kind) → Typed k f k' → f ≡ OutA → k
 out_a_held f k k' t q = (subst (λ z. Typed k z k') q t).0
 
 -- the law's step: the invariant goes over one letter
-pub traced_step : (t : Residuals Shape) → AreRight t → (p p0 : Shape) → ((v : List Letter) → InLanguage p0 v → InLanguage p v) → ((v : List Letter) → InLanguage p v → InLanguage p0 v) →
+pub traced_step : (t : Residuals Shape) → AreRight t → (p p0 : Shape) → ((v : List Letter) → InLanguage p0 v → InLanguage p v) →
+    ((v : List Letter) → InLanguage p v → InLanguage p0 v) →
     (a b : ℕ) (w : List Letter) (l : Letter) (f : Phase) (k' : Kind) (x : Trace) → Typed x.state f k' →
     MeetsChecks f k' (no_ind (appended (length w) p0 b x.live)) (survivors t l (appended (length w) p0 b x.live)) →
     IsTraced p a b w x → IsTraced p a b (w ++ l ∷ []) (trace_step t p0 a b (length w) l f k' x)
@@ -46,19 +47,28 @@ traced_step t r p p0 there back a b w l f k' x ty ch h =
     let more : length (w ++ l ∷ []) ≡ length w + 1 = length-append w (l ∷ []) in
     let lived : AreLive p w (length w + 1) before = live_appended p p0 there back w (first_tag b) x.live h.live in
     let left : AreLive p (w ++ l ∷ []) (length (w ++ l ∷ [])) sv = live_step t r p w l before lived in
-    let tags_before : Each (λ e. TagHolds (length w) b x.d x.c e.mark e.tag) before = each_push (λ e. TagHolds (length w) b x.d x.c e.mark e.tag) x.live (record { mark = length w; residual = p0; tag = first_tag b }) h.tags (first_tag_holds (length w) b x.d x.c) in
-    let tags_left : Each (λ e. TagHolds (length w) b x.d x.c e.mark e.tag) sv = each_survivor t l (λ e. TagHolds (length w) b x.d x.c e.mark e.tag) (λ e. TagHolds (length w) b x.d x.c e.mark e.tag) (λ e q. q) before tags_before in
-    let unset : free ≡ true → x.d ≡ None = (λ q. is_none x.d (λ y e. no_ind_one before q (one_left (λ e. e.tag ≡ InD) x.live (record { mark = length w; residual = p0; tag = first_tag b } ∷ []) (h.pending y e)))) in
+    let tags_before : Each (λ e. TagHolds (length w) b x.d x.c e.mark e.tag) before =
+    each_push (λ e. TagHolds (length w) b x.d x.c e.mark e.tag) x.live (record { mark = length w; residual = p0; tag = first_tag b }) h.tags
+    (first_tag_holds (length w) b x.d x.c) in
+    let tags_left : Each (λ e. TagHolds (length w) b x.d x.c e.mark e.tag) sv =
+    each_survivor t l (λ e. TagHolds (length w) b x.d x.c e.mark e.tag) (λ e. TagHolds (length w) b x.d x.c e.mark e.tag) (λ e q. q) before tags_before in
+    let unset : free ≡ true → x.d ≡ None = (λ q. is_none x.d
+    (λ y e. no_ind_one before q
+    (one_left (λ e. e.tag ≡ InD) x.live (record { mark = length w; residual = p0; tag = first_tag b } ∷ []) (h.pending y e)))) in
     let unheld : f ≡ Found → x.c ≡ None = (λ q. h.ranges ∙ ap (λ z. held_range a b z) (free_pair x.state x.d x.pair (found_free f x.state k' ty q) h.kinds)) in
     let strict : Each (λ y. Each (Strictly y.start) sv) x.done = strictly_after t r l before x.done (early_before p p0 a b w x h) in
-    let begin : is_find f ≡ true → begins (length w + 1) x.d ≡ first_mark sv + 1 + b = (λ q. begins_at (length w) b x.d x.c free sv unset tags_left (ch.begin q)) in
+    let begin : is_find f ≡ true → begins (length w + 1) x.d ≡ first_mark sv + 1 + b =
+    (λ q. begins_at (length w) b x.d x.c free sv unset tags_left (ch.begin q)) in
     let same : f ≡ Inside → (y : Place) → x.pair ≡ Some y → first_mark sv ≡ y.start =
-    (λ q y e. same_start (length w) a b x.d x.c free y sv (h.ranges ∙ ap (λ z. held_range a b z) e) tags_left (subst (λ z. First (λ e. e.tag ≡ InC) (retag z free sv)) q (ch.holds (inside_held f x.state k' ty q).1))) in
+    (λ q y e. same_start (length w) a b x.d x.c free y sv (h.ranges ∙ ap (λ z. held_range a b z) e) tags_left
+    (subst (λ z. First (λ e. e.tag ≡ InC) (retag z free sv)) q (ch.holds (inside_held f x.state k' ty q).1))) in
     record {
       kinds = kinds_step f x.state k' (length w + 1) sv x.d x.pair ty h.kinds;
       live = live_retag f free p (w ++ l ∷ []) (length (w ++ l ∷ [])) sv left;
-      tags = each_retag f free (λ e. TagHolds (length w) b x.d x.c e.mark e.tag) (λ e. TagHolds (length (w ++ l ∷ [])) b (start_after f (length w + 1) x.d) (held_after f a (length w + 1) x.d x.c) e.mark e.tag)
-          (λ e q. subst (λ z. TagHolds z b (start_after f (length w + 1) x.d) (held_after f a (length w + 1) x.d x.c) e.mark (tag_after f free e.tag)) (sym more) (tag_step f free (length w) b a x.d x.c e.mark e.tag unset unheld q)) sv tags_left;
+      tags = each_retag f free (λ e. TagHolds (length w) b x.d x.c e.mark e.tag)
+          (λ e. TagHolds (length (w ++ l ∷ [])) b (start_after f (length w + 1) x.d) (held_after f a (length w + 1) x.d x.c) e.mark e.tag)
+          (λ e q. subst (λ z. TagHolds z b (start_after f (length w + 1) x.d) (held_after f a (length w + 1) x.d x.c) e.mark (tag_after f free e.tag))
+          (sym more) (tag_step f free (length w) b a x.d x.c e.mark e.tag unset unheld q)) sv tags_left;
       pending = λ y q. ch.pends (pending_only f x.state k' (length w + 1) x.d x.pair y ty h.kinds q);
       first_held = λ q. ch.holds q;
       early = early_step (length w + 1) f free sv x.done x.pair strict
@@ -74,7 +84,8 @@ traced_step t r p p0 there back a b w l f k' x ty ch h =
           ));
       ranges = ranges_step a b (length w + 1) f x.state k' x.d x.c sv x.pair ty h.kinds h.ranges begin same;
       emitted = emitted_step a b (length w + 1) f x.d x.c sv x.done x.pair x.emitted h.ranges begin h.emitted;
-      places = found_step p w l f x.state k' x.d sv x.done x.pair ty h.kinds left (λ q. ch.first (ch.some q)) ch.nil (λ q. below_first x.done sv strict (ch.first (ch.some q))) same h.places;
+      places = found_step p w l f x.state k' x.d sv x.done x.pair ty h.kinds left (λ q. ch.first (ch.some q)) ch.nil
+          (λ q. below_first x.done sv strict (ch.first (ch.some q))) same h.places;
     }
 
 abbrev pub no_trace : Trace

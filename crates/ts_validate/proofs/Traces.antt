@@ -83,11 +83,15 @@ trace_step t p0 a b k l f k' x =
     }
 
 -- lists that change their tags alone
-pub each_retag : (f : Phase) (free : Bool) (p q : Entry ℕ Shape Tag → Type 0) → ((e : Entry ℕ Shape Tag) → p e → q (record { mark = e.mark; residual = e.residual; tag = tag_after f free e.tag })) → (es : List (Entry ℕ Shape Tag)) → Each p es → Each q (retag f free es)
+pub each_retag : (f : Phase) (free : Bool) (p q : Entry ℕ Shape Tag → Type 0) →
+    ((e : Entry ℕ Shape Tag) → p e → q (record { mark = e.mark; residual = e.residual; tag = tag_after f free e.tag })) → (es : List (Entry ℕ Shape Tag)) →
+    Each p es → Each q (retag f free es)
 each_retag f free p q g [] h = tt
 each_retag f free p q g (e ∷ es) h = (g e h.0, each_retag f free p q g es h.1)
 
-pub one_retag : (f : Phase) (free : Bool) (p q : Entry ℕ Shape Tag → Type 0) → ((e : Entry ℕ Shape Tag) → p e → q (record { mark = e.mark; residual = e.residual; tag = tag_after f free e.tag })) → (es : List (Entry ℕ Shape Tag)) → OneOf p es → OneOf q (retag f free es)
+pub one_retag : (f : Phase) (free : Bool) (p q : Entry ℕ Shape Tag → Type 0) →
+    ((e : Entry ℕ Shape Tag) → p e → q (record { mark = e.mark; residual = e.residual; tag = tag_after f free e.tag })) → (es : List (Entry ℕ Shape Tag)) →
+    OneOf p es → OneOf q (retag f free es)
 one_retag f free p q g [] h = h
 one_retag f free p q g (e ∷ es) h = ⊎_elim (λ a. inl (g e a)) (λ a. inr (one_retag f free p q g es a)) h
 
@@ -95,7 +99,8 @@ pub rising_retag : (f : Phase) (free : Bool) (a : ℕ) (es : List (Entry ℕ Sha
 rising_retag f free a [] h = tt
 rising_retag f free a (e ∷ es) h = (h.0, rising_retag f free (e.mark + 1) es h.1)
 
-pub live_retag : (f : Phase) (free : Bool) (p : Shape) (w : List Letter) (k : ℕ) (es : List (Entry ℕ Shape Tag)) → AreLive p w k es → AreLive p w k (retag f free es)
+pub live_retag : (f : Phase) (free : Bool) (p : Shape) (w : List Letter) (k : ℕ) (es : List (Entry ℕ Shape Tag)) → AreLive p w k es →
+    AreLive p w k (retag f free es)
 live_retag f free p w k es h =
     record {
       rising = rising_retag f free 0 es h.rising;
@@ -125,33 +130,40 @@ pub one_last_not : (es : List (Entry ℕ Shape Tag)) (e : Entry ℕ Shape Tag) �
 one_last_not es e h = one_left (λ x. x.tag ≡ InD) es (e ∷ []) h
 
 -- where the range of a find begins
-pub begins_at : (k b : ℕ) (d : Option ℕ) (c : Option Range) (free : Bool) (sv : List (Entry ℕ Shape Tag)) → (free ≡ true → d ≡ None) → Each (λ e. TagHolds k b d c e.mark e.tag) sv → First (λ e. (e.tag ≡ InD) ⊎ ((e.tag ≡ Due) × (free ≡ true))) sv → begins (k + 1) d ≡ first_mark sv + 1 + b
+pub begins_at : (k b : ℕ) (d : Option ℕ) (c : Option Range) (free : Bool) (sv : List (Entry ℕ Shape Tag)) → (free ≡ true → d ≡ None) →
+    Each (λ e. TagHolds k b d c e.mark e.tag) sv → First (λ e. (e.tag ≡ InD) ⊎ ((e.tag ≡ Due) × (free ≡ true))) sv → begins (k + 1) d ≡ first_mark sv + 1 + b
 begins_at k b d c free [] g h x = absurd x
 begins_at k b d c free (e ∷ es) g h x =
     ⊎_elim
     (λ q. let y : d ≡ Some (e.mark + 1 + b) = subst (λ z. TagHolds k b d c e.mark z) q h.0 in ap (λ z. begins (k + 1) z) y)
-    (λ q. let y : e.mark + b ≡ k = subst (λ z. TagHolds k b d c e.mark z) q.0 h.0 in ap (λ z. begins (k + 1) z) (g q.1) ∙ (let z : k + 1 ≡ e.mark + 1 + b = omega arith in z))
+    (λ q. let y : e.mark + b ≡ k = subst (λ z. TagHolds k b d c e.mark z) q.0 h.0 in
+    ap (λ z. begins (k + 1) z) (g q.1) ∙ (let z : k + 1 ≡ e.mark + 1 + b = omega arith in z))
     x
 
 -- early, before the letter, with the new start
-pub early_before : (p p0 : Shape) (a b : ℕ) (w : List Letter) (t : Trace) → IsTraced p a b w t → Each (λ x. Each (After x.start) (appended (length w) p0 b t.live)) t.done
+pub early_before : (p p0 : Shape) (a b : ℕ) (w : List Letter) (t : Trace) → IsTraced p a b w t →
+    Each (λ x. Each (After x.start) (appended (length w) p0 b t.live)) t.done
 early_before p p0 a b w t h =
     let occ = each_left (λ x. IsOccurrence p w x.start x.end) t.done (listed t.pair) h.places.each in
     each_map (λ x. Each (After x.start) t.live × IsOccurrence p w x.start x.end) (λ x. Each (After x.start) (appended (length w) p0 b t.live))
-    (λ x q. each_push (After x.start) t.live (record { mark = length w; residual = p0; tag = first_tag b }) q.0 (λ l v y. let i = q.1.is.some in let j = q.1.is.inside in omega arith))
+    (λ x q. each_push (After x.start) t.live (record { mark = length w; residual = p0; tag = first_tag b }) q.0
+    (λ l v y. let i = q.1.is.some in let j = q.1.is.inside in omega arith))
     t.done (each_and (λ x. Each (After x.start) t.live) (λ x. IsOccurrence p w x.start x.end) t.done h.early occ)
 
 -- each pair that is done starts before each survivor with a word
-pub strictly_after : (t : Residuals Shape) → AreRight t → (l : Letter) (before : List (Entry ℕ Shape Tag)) (ps : List Place) → Each (λ x. Each (After x.start) before) ps → Each (λ x. Each (Strictly x.start) (survivors t l before)) ps
+pub strictly_after : (t : Residuals Shape) → AreRight t → (l : Letter) (before : List (Entry ℕ Shape Tag)) (ps : List Place) →
+    Each (λ x. Each (After x.start) before) ps → Each (λ x. Each (Strictly x.start) (survivors t l before)) ps
 strictly_after t f l before ps h =
     each_map (λ x. Each (After x.start) before) (λ x. Each (Strictly x.start) (survivors t l before))
     (λ x q. each_survivor t l (After x.start) (Strictly x.start) (λ e y v z. y l v (f.quotient e.residual l v z)) before q) ps h
 
-pub below_first : (ps : List Place) (sv : List (Entry ℕ Shape Tag)) → Each (λ x. Each (Strictly x.start) sv) ps → First Accepts sv → Each (λ x. x.start < first_mark sv) ps
+pub below_first : (ps : List Place) (sv : List (Entry ℕ Shape Tag)) → Each (λ x. Each (Strictly x.start) sv) ps → First Accepts sv →
+    Each (λ x. x.start < first_mark sv) ps
 below_first ps [] h x = absurd x
 below_first ps (e ∷ es) h x = each_map (λ y. Each (Strictly y.start) (e ∷ es)) (λ y. y.start < e.mark) (λ y q. q.0 [] x) ps h
 
-pub early_old : (f : Phase) (free : Bool) (sv : List (Entry ℕ Shape Tag)) (ps : List Place) → Each (λ x. Each (Strictly x.start) sv) ps → Each (λ x. Each (After x.start) (retag f free sv)) ps
+pub early_old : (f : Phase) (free : Bool) (sv : List (Entry ℕ Shape Tag)) (ps : List Place) → Each (λ x. Each (Strictly x.start) sv) ps →
+    Each (λ x. Each (After x.start) (retag f free sv)) ps
 early_old f free sv ps h =
     each_map (λ x. Each (Strictly x.start) sv) (λ x. Each (After x.start) (retag f free sv))
     (λ x q. each_retag f free (Strictly x.start) (After x.start) (λ e y l v z. y (l ∷ v) z) sv q) ps h
@@ -165,7 +177,9 @@ early_find f free (e ∷ es) r x = (
 )
 
 -- a release: the held start is no survivor, and all others start later
-pub early_release : (t : Residuals Shape) (f : Phase) (free : Bool) (l : Letter) (s : ℕ) (before : List (Entry ℕ Shape Tag)) → Each (λ e. (e.tag ≡ InC → ⊥) → s < e.mark) before → (OneOf (λ e. e.tag ≡ InC) (survivors t l before) → ⊥) → Each (After s) (retag f free (survivors t l before))
+pub early_release : (t : Residuals Shape) (f : Phase) (free : Bool) (l : Letter) (s : ℕ) (before : List (Entry ℕ Shape Tag)) →
+    Each (λ e. (e.tag ≡ InC → ⊥) → s < e.mark) before → (OneOf (λ e. e.tag ≡ InC) (survivors t l before) → ⊥) →
+    Each (After s) (retag f free (survivors t l before))
 early_release t f free l s before h g =
     each_retag f free (λ e. ((e.tag ≡ InC → ⊥) → s < e.mark) × (e.tag ≡ InC → ⊥)) (After s) (λ e q l' v y. q.0 q.1) (survivors t l before)
     (each_and (λ e. (e.tag ≡ InC → ⊥) → s < e.mark) (λ e. e.tag ≡ InC → ⊥) (survivors t l before)
@@ -176,7 +190,9 @@ early_release t f free l s before h g =
     not_one [] g = tt
     not_one (e ∷ es) g = ((λ q. g (inl q)), not_one es (λ q. g (inr q)))
 
-pub held_before : (k b : ℕ) (d : Option ℕ) (c : Option Range) (s z : ℕ) (es : List (Entry ℕ Shape Tag)) (fresh : Entry ℕ Shape Tag) → c ≡ Some (record { first = s + 1 + b; last = z }) → Rising 0 es → Each (λ e. e.mark < k) es → Each (λ e. TagHolds k b d c e.mark e.tag) es → First (λ e. e.tag ≡ InC) es → fresh.mark ≡ k → Each (λ e. (e.tag ≡ InC → ⊥) → s < e.mark) (es ++ fresh ∷ [])
+pub held_before : (k b : ℕ) (d : Option ℕ) (c : Option Range) (s z : ℕ) (es : List (Entry ℕ Shape Tag)) (fresh : Entry ℕ Shape Tag) →
+    c ≡ Some (record { first = s + 1 + b; last = z }) → Rising 0 es → Each (λ e. e.mark < k) es → Each (λ e. TagHolds k b d c e.mark e.tag) es →
+    First (λ e. e.tag ≡ InC) es → fresh.mark ≡ k → Each (λ e. (e.tag ≡ InC → ⊥) → s < e.mark) (es ++ fresh ∷ [])
 held_before k b d c s z [] fresh q r m h x y = absurd x
 held_before k b d c s z (e ∷ es) fresh q r m h x y =
     let g = subst (λ u. TagHolds k b d c e.mark u) x h.0 in

@@ -25,7 +25,8 @@ number_at (s ∷ rs) r q = go (same_shape s r) refl (number_at rs r) q
     one_on : (n : ℕ) → shape_at rs n ≡ r → shape_at (s ∷ rs) (n + 1) ≡ r
     one_on n h = ap (λ z. shape_at (s ∷ rs) z) (add-one n) ∙ h
 
-    go : (b : Bool) → same_shape s r ≡ b → (number_of rs r < length rs → shape_at rs (number_of rs r) ≡ r) → cond b 0 (number_of rs r + 1) < length (s ∷ rs) → shape_at (s ∷ rs) (cond b 0 (number_of rs r + 1)) ≡ r
+    go : (b : Bool) → same_shape s r ≡ b → (number_of rs r < length rs → shape_at rs (number_of rs r) ≡ r) → cond b 0 (number_of rs r + 1) < length (s ∷ rs) →
+        shape_at (s ∷ rs) (cond b 0 (number_of rs r + 1)) ≡ r
     go true e h q = (same_law s r).0 e
     go false e h q = one_on (number_of rs r) (h (omega (arith, q)))
 
@@ -46,7 +47,8 @@ pub number_bound : (rs : List Shape) (r : Shape) → (number_of rs r < length rs
 number_bound [] r = inr refl
 number_bound (s ∷ rs) r = go (same_shape s r) (number_bound rs r)
   where
-    go : (b : Bool) → (number_of rs r < length rs) ⊎ (number_of rs r ≡ length rs + 1) → (cond b 0 (number_of rs r + 1) < suc (length rs)) ⊎ (cond b 0 (number_of rs r + 1) ≡ suc (length rs) + 1)
+    go : (b : Bool) → (number_of rs r < length rs) ⊎ (number_of rs r ≡ length rs + 1) →
+        (cond b 0 (number_of rs r + 1) < suc (length rs)) ⊎ (cond b 0 (number_of rs r + 1) ≡ suc (length rs) + 1)
     go true h = inl (omega arith)
     go false h = ⊎_elim (λ q. inl (omega (arith, q))) (λ q. inr (omega (arith, q))) h
 
@@ -93,7 +95,8 @@ le_true : (a b : ℕ) → nat_le a b ≡ true → a ≤ b
 le_true a b q = grind (arith, q)
 
 next_cases : (rs : List Shape) (r : Shape) → (b : Bool) → has_word r ≡ b → cond b (number_of rs r) (length rs) ≤ length rs →
-    (not (cond b (number_of rs r) (length rs) == length rs) ≡ b) × ((b ≡ true) → shape_at rs (cond b (number_of rs r) (length rs)) ≡ r) × ((b ≡ true) → cond b (number_of rs r) (length rs) < length rs)
+    (not (cond b (number_of rs r) (length rs) == length rs) ≡ b) × ((b ≡ true) → shape_at rs (cond b (number_of rs r) (length rs)) ≡ r)
+    × ((b ≡ true) → cond b (number_of rs r) (length rs) < length rs)
 next_cases rs r false e q = (ap (λ z. not z) (eq-eqb (length rs) (length rs) refl), λ h. absurd (false≢true h), λ h. absurd (false≢true h))
 next_cases rs r true e q =
     ⊎_elim
@@ -108,13 +111,16 @@ next_cases rs r true e q =
         go true e = absurd (let h = eqb-true m n e in omega (arith, q))
         go false e = refl
 
-pub numbers_agree : (rs : List Shape) (l : Letter) (i : ℕ) → IsNumber rs i → nat_le (next_on l (known_at (knowns rs) i)) (length (knowns rs)) ≡ true → NextAgrees (numbers (knowns rs)) shapes (λ i. shape_at rs i) (λ i. IsNumber rs i) l i
+pub numbers_agree : (rs : List Shape) (l : Letter) (i : ℕ) → IsNumber rs i → nat_le (next_on l (known_at (knowns rs) i)) (length (knowns rs)) ≡ true →
+    NextAgrees (numbers (knowns rs)) shapes (λ i. shape_at rs i) (λ i. IsNumber rs i) l i
 numbers_agree rs l i p q =
     let e : next_on l (known_at (knowns rs) i) ≡ next_number rs (shape_at rs i) l = next_is rs i l p in
     let n : length (knowns rs) ≡ length rs = length-map rs (λ r. known_of rs r) in
     let r : Shape = residual (shape_at rs i) l in
-    let h = next_cases rs r (has_word r) refl (subst (λ z. z ≤ length rs) e (subst (λ z. next_on l (known_at (knowns rs) i) ≤ z) n (le_true (next_on l (known_at (knowns rs) i)) (length (knowns rs)) q))) in
-    let has : not (next_on l (known_at (knowns rs) i) == length (knowns rs)) ≡ has_word r = ap (λ z. not (z == length (knowns rs))) e ∙ ap (λ z. not (next_number rs (shape_at rs i) l == z)) n ∙ h.0 in
+    let h = next_cases rs r (has_word r) refl (subst (λ z. z ≤ length rs) e
+    (subst (λ z. next_on l (known_at (knowns rs) i) ≤ z) n (le_true (next_on l (known_at (knowns rs) i)) (length (knowns rs)) q))) in
+    let has : not (next_on l (known_at (knowns rs) i) == length (knowns rs)) ≡ has_word r = ap (λ z. not (z == length (knowns rs))) e
+    ∙ ap (λ z. not (next_number rs (shape_at rs i) l == z)) n ∙ h.0 in
     record {
       has = has;
       value = λ t. ap (λ z. shape_at rs z) e ∙ h.1 (sym has ∙ t);
@@ -126,7 +132,8 @@ words_agree rs i p =
     record { nullable = ap (λ (k : Known). k.nullable) (known_is rs i p); longer = ap (λ (k : Known). k.longer) (known_is rs i p) }
 
 -- a residual after the letter that has a word and isn't listed
-pub unlisted : (rs : List Shape) (l : Letter) (i : ℕ) → IsNumber rs i → nat_le (next_on l (known_at (knowns rs) i)) (length (knowns rs)) ≡ false → (has_word (residual (shape_at rs i) l) ≡ true) × ((j : ℕ) → j < length rs → shape_at rs j ≡ residual (shape_at rs i) l → ⊥)
+pub unlisted : (rs : List Shape) (l : Letter) (i : ℕ) → IsNumber rs i → nat_le (next_on l (known_at (knowns rs) i)) (length (knowns rs)) ≡ false →
+    (has_word (residual (shape_at rs i) l) ≡ true) × ((j : ℕ) → j < length rs → shape_at rs j ≡ residual (shape_at rs i) l → ⊥)
 unlisted rs l i p q =
     let e : next_on l (known_at (knowns rs) i) ≡ next_number rs (shape_at rs i) l = next_is rs i l p in
     let n : length (knowns rs) ≡ length rs = length-map rs (λ r. known_of rs r) in
@@ -136,6 +143,11 @@ unlisted rs l i p q =
     above : (a b : ℕ) → nat_le a b ≡ false → b < a
     above a b q = grind (arith, q)
 
-    go : (r : Shape) (b : Bool) → has_word r ≡ b → nat_le (cond b (number_of rs r) (length rs)) (length rs) ≡ false → (has_word r ≡ true) × ((j : ℕ) → j < length rs → shape_at rs j ≡ r → ⊥)
+    go : (r : Shape) (b : Bool) → has_word r ≡ b → nat_le (cond b (number_of rs r) (length rs)) (length rs) ≡ false →
+        (has_word r ≡ true) × ((j : ℕ) → j < length rs → shape_at rs j ≡ r → ⊥)
     go r false e q = absurd (let h = above (length rs) (length rs) q in omega arith)
-    go r true e q = (e, λ j s h. let a = above (number_of rs r) (length rs) q in let k : number_of rs r ≤ j = subst (λ z. number_of rs z ≤ j) h (number_small rs j s) in omega arith)
+    go r true e q = (
+      e,
+      λ j s h. let a = above (number_of rs r) (length rs) q in
+          let k : number_of rs r ≤ j = subst (λ z. number_of rs z ≤ j) h (number_small rs j s) in omega arith,
+    )

@@ -40,13 +40,15 @@ numbers_before : (rs : List Shape) (b : ℕ) (es : List (Entry (Unit {0}) ℕ Ta
 numbers_before rs b [] q h = (q, tt)
 numbers_before rs b (e ∷ es) q h = (h.0, numbers_before rs b es q h.1)
 
-each_agrees : (rs : List Shape) (l : Letter) (es : List (Entry (Unit {0}) ℕ Tag)) → AreNumbers rs es → all_listed (knowns rs) l es ≡ true → Each (λ e. NextAgrees (numbers (knowns rs)) shapes (λ i. shape_at rs i) (λ i. IsNumber rs i) l e.residual) es
+each_agrees : (rs : List Shape) (l : Letter) (es : List (Entry (Unit {0}) ℕ Tag)) → AreNumbers rs es → all_listed (knowns rs) l es ≡ true →
+    Each (λ e. NextAgrees (numbers (knowns rs)) shapes (λ i. shape_at rs i) (λ i. IsNumber rs i) l e.residual) es
 each_agrees rs l [] h q = tt
 each_agrees rs l (e ∷ es) h q =
     let k = and_parts (nat_le (next_on l (known_at (knowns rs) e.residual)) (length (knowns rs))) (all_listed (knowns rs) l es) q in
     (numbers_agree rs l e.residual h.0 k.0, each_agrees rs l es h.1 k.1)
 
-each_words : (rs : List Shape) (es : List (Entry (Unit {0}) ℕ Tag)) → AreNumbers rs es → Each (λ e. WordsAgree (numbers (knowns rs)) shapes (λ i. shape_at rs i) e.residual) es
+each_words : (rs : List Shape) (es : List (Entry (Unit {0}) ℕ Tag)) → AreNumbers rs es →
+    Each (λ e. WordsAgree (numbers (knowns rs)) shapes (λ i. shape_at rs i) e.residual) es
 each_words rs [] h = tt
 each_words rs (e ∷ es) h = (words_agree rs e.residual h.0, each_words rs es h.1)
 
@@ -54,7 +56,8 @@ retag_numbers : (rs : List Shape) (f : Phase) (free : Bool) (es : List (Entry (U
 retag_numbers rs f free [] h = tt
 retag_numbers rs f free (e ∷ es) h = (h.0, retag_numbers rs f free es h.1)
 
-same_live_valued : (rs : List Shape) (es fs : List (Entry (Unit {0}) ℕ Tag)) → AreNumbers rs es → AreNumbers rs fs → same_live (numbers (knowns rs)) es fs ≡ same_live shapes (valued_entries rs es) (valued_entries rs fs)
+same_live_valued : (rs : List Shape) (es fs : List (Entry (Unit {0}) ℕ Tag)) → AreNumbers rs es → AreNumbers rs fs →
+    same_live (numbers (knowns rs)) es fs ≡ same_live shapes (valued_entries rs es) (valued_entries rs fs)
 same_live_valued rs [] [] h k = refl
 same_live_valued rs [] (f ∷ fs) h k = refl
 same_live_valued rs (e ∷ es) [] h k = refl
@@ -71,64 +74,87 @@ pub record IsFor (p : Shape) (rs : List Shape) (xs : List (PlainConfiguration �
 abbrev pub plan_of : List Shape → List (PlainConfiguration ℕ) → PlainPlan
 plan_of rs xs = record { residuals = rs; configurations = xs }
 
-before_valued : (rs : List Shape) (p : Shape) (b : ℕ) (es : List (Entry (Unit {0}) ℕ Tag)) → shape_at rs 0 ≡ normal_form p → valued_entries rs (appended tt 0 b es) ≡ appended tt (normal_form p) b (valued_entries rs es)
+before_valued : (rs : List Shape) (p : Shape) (b : ℕ) (es : List (Entry (Unit {0}) ℕ Tag)) → shape_at rs 0 ≡ normal_form p →
+    valued_entries rs (appended tt 0 b es) ≡ appended tt (normal_form p) b (valued_entries rs es)
 before_valued rs p b es q =
     map-append (λ e. valued_entry rs e) es (record { mark = tt; residual = 0; tag = first_tag b } ∷ [])
     ∙ ap (λ z. valued_entries rs es ++ record { mark = tt; residual = z; tag = first_tag b } ∷ []) q
 
-free_valued : (rs : List Shape) (p : Shape) (b : ℕ) (es : List (Entry (Unit {0}) ℕ Tag)) → shape_at rs 0 ≡ normal_form p → no_ind (appended tt 0 b es) ≡ no_ind (appended tt (normal_form p) b (valued_entries rs es))
+free_valued : (rs : List Shape) (p : Shape) (b : ℕ) (es : List (Entry (Unit {0}) ℕ Tag)) → shape_at rs 0 ≡ normal_form p →
+    no_ind (appended tt 0 b es) ≡ no_ind (appended tt (normal_form p) b (valued_entries rs es))
 free_valued rs p b es q =
     sym (no_ind_renamed (λ (u : Unit {0}). u) (λ i. shape_at rs i) (appended tt 0 b es)) ∙ ap (λ z. no_ind z) (before_valued rs p b es q)
 
-kept_valued : (rs : List Shape) (p : Shape) (b : ℕ) (l : Letter) (es : List (Entry (Unit {0}) ℕ Tag)) → 0 < length rs → shape_at rs 0 ≡ normal_form p → AreNumbers rs es → all_listed (knowns rs) l (appended tt 0 b es) ≡ true →
+kept_valued : (rs : List Shape) (p : Shape) (b : ℕ) (l : Letter) (es : List (Entry (Unit {0}) ℕ Tag)) → 0 < length rs → shape_at rs 0 ≡ normal_form p →
+    AreNumbers rs es → all_listed (knowns rs) l (appended tt 0 b es) ≡ true →
     valued_entries rs (survivors (numbers (knowns rs)) l (appended tt 0 b es)) ≡ survivors shapes l (appended tt (normal_form p) b (valued_entries rs es))
 kept_valued rs p b l es s q h a =
-    survivors_renamed (numbers (knowns rs)) shapes (λ (u : Unit {0}). u) (λ i. shape_at rs i) (λ i. IsNumber rs i) (numbers_same rs) l (appended tt 0 b es) (each_agrees rs l (appended tt 0 b es) (numbers_before rs b es s h) a)
+    survivors_renamed (numbers (knowns rs)) shapes (λ (u : Unit {0}). u) (λ i. shape_at rs i) (λ i. IsNumber rs i) (numbers_same rs) l (appended tt 0 b es)
+    (each_agrees rs l (appended tt 0 b es) (numbers_before rs b es s h) a)
     ∙ ap (λ z. survivors shapes l z) (before_valued rs p b es q)
 
-pub stepped_valued : (rows : List Row) (p : Shape) (b : ℕ) (rs : List Shape) (xs : List (PlainConfiguration ℕ)) → IsFor p rs xs → (x : PlainConfiguration ℕ) → HasNumbers rs x → (l : Letter) → all_listed (knowns rs) l (appended tt 0 b x.live) ≡ true →
+pub stepped_valued : (rows : List Row) (p : Shape) (b : ℕ) (rs : List Shape) (xs : List (PlainConfiguration ℕ)) → IsFor p rs xs → (x : PlainConfiguration ℕ) →
+    HasNumbers rs x → (l : Letter) → all_listed (knowns rs) l (appended tt 0 b x.live) ≡ true →
     valued rs (stepped (numbered rows (knowns rs) b xs) x l) ≡ stepped (subject rows p b (plan_of rs xs)) (valued rs x) l
 stepped_valued rows p b rs xs i x h l a =
     let s : Subject ℕ = numbered rows (knowns rs) b xs in
     ap (λ z. record { state = (move_of s x l).next; live = z })
     (retag_renamed (λ (u : Unit {0}). u) (λ i. shape_at rs i) (move_of s x l).phase (no_ind (before s x)) (kept s x l)
     ∙ ap (λ z. retag (move_of s x l).phase z (valued_entries rs (kept s x l))) (free_valued rs p b x.live i.whole)
-    ∙ ap (λ z. retag (move_of s x l).phase (no_ind (appended tt (normal_form p) b (valued_entries rs x.live))) z) (kept_valued rs p b l x.live i.some i.whole h a))
+    ∙ ap (λ z. retag (move_of s x l).phase (no_ind (appended tt (normal_form p) b (valued_entries rs x.live))) z)
+    (kept_valued rs p b l x.live i.some i.whole h a))
 
-pub agree_valued : (rows : List Row) (p : Shape) (b : ℕ) (rs : List Shape) (xs : List (PlainConfiguration ℕ)) → IsFor p rs xs → (x : PlainConfiguration ℕ) → HasNumbers rs x → (l : Letter) → all_listed (knowns rs) l (appended tt 0 b x.live) ≡ true →
-    entries_agree (numbers (knowns rs)) (move_of (numbered rows (knowns rs) b xs) x l).phase (row_at rows (move_of (numbered rows (knowns rs) b xs) x l).next).kind (no_ind (before (numbered rows (knowns rs) b xs) x)) (kept (numbered rows (knowns rs) b xs) x l)
-    ≡ entries_agree shapes (move_of (numbered rows (knowns rs) b xs) x l).phase (row_at rows (move_of (numbered rows (knowns rs) b xs) x l).next).kind (no_ind (appended tt (normal_form p) b (valued_entries rs x.live))) (survivors shapes l (appended tt (normal_form p) b (valued_entries rs x.live)))
+pub agree_valued : (rows : List Row) (p : Shape) (b : ℕ) (rs : List Shape) (xs : List (PlainConfiguration ℕ)) → IsFor p rs xs → (x : PlainConfiguration ℕ) →
+    HasNumbers rs x → (l : Letter) → all_listed (knowns rs) l (appended tt 0 b x.live) ≡ true →
+    entries_agree (numbers (knowns rs)) (move_of (numbered rows (knowns rs) b xs) x l).phase
+    (row_at rows (move_of (numbered rows (knowns rs) b xs) x l).next).kind (no_ind (before (numbered rows (knowns rs) b xs) x))
+    (kept (numbered rows (knowns rs) b xs) x l)
+    ≡ entries_agree shapes (move_of (numbered rows (knowns rs) b xs) x l).phase (row_at rows (move_of (numbered rows (knowns rs) b xs) x l).next).kind
+    (no_ind (appended tt (normal_form p) b (valued_entries rs x.live))) (survivors shapes l (appended tt (normal_form p) b (valued_entries rs x.live)))
 agree_valued rows p b rs xs i x h l a =
     let s : Subject ℕ = numbered rows (knowns rs) b xs in
-    let left : AreNumbers rs (kept s x l) = survivors_left (numbers (knowns rs)) shapes (λ i. shape_at rs i) (λ i. IsNumber rs i) l (before s x) (each_agrees rs l (before s x) (numbers_before rs b x.live i.some h) a) in
-    agree_renamed (numbers (knowns rs)) shapes (λ (u : Unit {0}). u) (λ i. shape_at rs i) (move_of s x l).phase (row_at rows (move_of s x l).next).kind (no_ind (before s x)) (kept s x l) (each_words rs (kept s x l) left)
-    ∙ ap (λ z. entries_agree shapes (move_of s x l).phase (row_at rows (move_of s x l).next).kind z (valued_entries rs (kept s x l))) (free_valued rs p b x.live i.whole)
-    ∙ ap (λ z. entries_agree shapes (move_of s x l).phase (row_at rows (move_of s x l).next).kind (no_ind (appended tt (normal_form p) b (valued_entries rs x.live))) z) (kept_valued rs p b l x.live i.some i.whole h a)
+    let left : AreNumbers rs (kept s x l) = survivors_left (numbers (knowns rs)) shapes (λ i. shape_at rs i) (λ i. IsNumber rs i) l (before s x)
+    (each_agrees rs l (before s x) (numbers_before rs b x.live i.some h) a) in
+    agree_renamed (numbers (knowns rs)) shapes (λ (u : Unit {0}). u) (λ i. shape_at rs i) (move_of s x l).phase (row_at rows (move_of s x l).next).kind
+    (no_ind (before s x)) (kept s x l) (each_words rs (kept s x l) left)
+    ∙ ap (λ z. entries_agree shapes (move_of s x l).phase (row_at rows (move_of s x l).next).kind z (valued_entries rs (kept s x l)))
+    (free_valued rs p b x.live i.whole)
+    ∙ ap (λ z. entries_agree shapes (move_of s x l).phase (row_at rows (move_of s x l).next).kind
+    (no_ind (appended tt (normal_form p) b (valued_entries rs x.live))) z) (kept_valued rs p b l x.live i.some i.whole h a)
 
-pub same_valued : (rows : List Row) (p : Shape) (b : ℕ) (rs : List Shape) (xs : List (PlainConfiguration ℕ)) → IsFor p rs xs → (x y : PlainConfiguration ℕ) → HasNumbers rs x → HasNumbers rs y → (l : Letter) → all_listed (knowns rs) l (appended tt 0 b x.live) ≡ true →
-    same_configuration (numbers (knowns rs)) y (stepped (numbered rows (knowns rs) b xs) x l) ≡ same_configuration shapes (valued rs y) (stepped (subject rows p b (plan_of rs xs)) (valued rs x) l)
+pub same_valued : (rows : List Row) (p : Shape) (b : ℕ) (rs : List Shape) (xs : List (PlainConfiguration ℕ)) → IsFor p rs xs → (x y : PlainConfiguration ℕ) →
+    HasNumbers rs x → HasNumbers rs y → (l : Letter) → all_listed (knowns rs) l (appended tt 0 b x.live) ≡ true →
+    same_configuration (numbers (knowns rs)) y (stepped (numbered rows (knowns rs) b xs) x l)
+    ≡ same_configuration shapes (valued rs y) (stepped (subject rows p b (plan_of rs xs)) (valued rs x) l)
 same_valued rows p b rs xs i x y h k l a =
     let s : Subject ℕ = numbered rows (knowns rs) b xs in
-    let left : AreNumbers rs (kept s x l) = survivors_left (numbers (knowns rs)) shapes (λ i. shape_at rs i) (λ i. IsNumber rs i) l (before s x) (each_agrees rs l (before s x) (numbers_before rs b x.live i.some h) a) in
-    ap (λ z. (y.state == (stepped s x l).state) && z) (same_live_valued rs y.live (stepped s x l).live k (retag_numbers rs (move_of s x l).phase (no_ind (before s x)) (kept s x l) left))
+    let left : AreNumbers rs (kept s x l) = survivors_left (numbers (knowns rs)) shapes (λ i. shape_at rs i) (λ i. IsNumber rs i) l (before s x)
+    (each_agrees rs l (before s x) (numbers_before rs b x.live i.some h) a) in
+    ap (λ z. (y.state == (stepped s x l).state) && z)
+    (same_live_valued rs y.live (stepped s x l).live k (retag_numbers rs (move_of s x l).phase (no_ind (before s x)) (kept s x l) left))
     ∙ ap (λ z. same_configuration shapes (valued rs y) z) (stepped_valued rows p b rs xs i x h l a)
 
 -- where a residual after the letter isn't listed, the step isn't
 
-one_alive : (l : Letter) (d : Shape) (es : List (Entry (Unit {0}) Shape Tag)) → has_word d ≡ true → OneOf (λ e. residual e.residual l ≡ d) es → OneOf (λ e. e.residual ≡ d) (alive shapes (derived shapes l es))
+one_alive : (l : Letter) (d : Shape) (es : List (Entry (Unit {0}) Shape Tag)) → has_word d ≡ true → OneOf (λ e. residual e.residual l ≡ d) es →
+    OneOf (λ e. e.residual ≡ d) (alive shapes (derived shapes l es))
 one_alive l d [] w h = h
 one_alive l d (e ∷ es) w h =
     go (has_word (residual e.residual l)) refl (⊎_elim (λ q. inl q) (λ q. inr (one_alive l d es w q)) h)
   where
-    go : (a : Bool) → has_word (residual e.residual l) ≡ a → (residual e.residual l ≡ d) ⊎ OneOf (λ e. e.residual ≡ d) (alive shapes (derived shapes l es)) → OneOf (λ e. e.residual ≡ d) (cond a (derive_entry shapes l e ∷ alive shapes (derived shapes l es)) (alive shapes (derived shapes l es)))
+    go : (a : Bool) → has_word (residual e.residual l) ≡ a → (residual e.residual l ≡ d) ⊎ OneOf (λ e. e.residual ≡ d) (alive shapes (derived shapes l es)) →
+        OneOf (λ e. e.residual ≡ d) (cond a (derive_entry shapes l e ∷ alive shapes (derived shapes l es)) (alive shapes (derived shapes l es)))
     go true t k = k
     go false t k = ⊎_elim (λ q. absurd (false≢true (sym t ∙ ap (λ z. has_word z) q ∙ w))) (λ q. q) k
 
-one_without : (r d : Shape) (es : List (Entry (Unit {0}) Shape Tag)) → OneOf (λ e. e.residual ≡ d) es → (r ≡ d) ⊎ OneOf (λ e. e.residual ≡ d) (without shapes r es)
+one_without : (r d : Shape) (es : List (Entry (Unit {0}) Shape Tag)) → OneOf (λ e. e.residual ≡ d) es →
+    (r ≡ d) ⊎ OneOf (λ e. e.residual ≡ d) (without shapes r es)
 one_without r d [] h = absurd h
 one_without r d (e ∷ es) h = go (same_shape r e.residual) ((same_law r e.residual).0) h (one_without r d es)
   where
-    go : (a : Bool) → (a ≡ true → r ≡ e.residual) → (e.residual ≡ d) ⊎ OneOf (λ e. e.residual ≡ d) es → (OneOf (λ e. e.residual ≡ d) es → (r ≡ d) ⊎ OneOf (λ e. e.residual ≡ d) (without shapes r es)) → (r ≡ d) ⊎ OneOf (λ e. e.residual ≡ d) (cond (not a) (e ∷ without shapes r es) (without shapes r es))
+    go : (a : Bool) → (a ≡ true → r ≡ e.residual) → (e.residual ≡ d) ⊎ OneOf (λ e. e.residual ≡ d) es →
+        (OneOf (λ e. e.residual ≡ d) es → (r ≡ d) ⊎ OneOf (λ e. e.residual ≡ d) (without shapes r es)) →
+        (r ≡ d) ⊎ OneOf (λ e. e.residual ≡ d) (cond (not a) (e ∷ without shapes r es) (without shapes r es))
     go true s k m = ⊎_elim (λ q. inl (s refl ∙ q)) (λ q. m q) k
     go false s k m = ⊎_elim (λ q. inr (inl q)) (λ q. ⊎_elim (λ u. inl u) (λ u. inr (inr u)) (m q)) k
 
@@ -136,11 +162,13 @@ one_kept : (d : Shape) (es : List (Entry (Unit {0}) Shape Tag)) → OneOf (λ e.
 one_kept d [] h = h
 one_kept d (e ∷ es) h = ⊎_elim (λ q. inl q) (λ q. one_without e.residual d (keep shapes es) (one_kept d es q)) h
 
-one_retagged : (f : Phase) (free : Bool) (d : Shape) (es : List (Entry (Unit {0}) Shape Tag)) → OneOf (λ e. e.residual ≡ d) es → OneOf (λ e. e.residual ≡ d) (retag f free es)
+one_retagged : (f : Phase) (free : Bool) (d : Shape) (es : List (Entry (Unit {0}) Shape Tag)) → OneOf (λ e. e.residual ≡ d) es →
+    OneOf (λ e. e.residual ≡ d) (retag f free es)
 one_retagged f free d [] h = h
 one_retagged f free d (e ∷ es) h = ⊎_elim (λ q. inl q) (λ q. inr (one_retagged f free d es q)) h
 
-not_in : (rs : List Shape) (d : Shape) (es : List (Entry (Unit {0}) ℕ Tag)) → ((j : ℕ) → j < length rs → shape_at rs j ≡ d → ⊥) → AreNumbers rs es → OneOf (λ e. e.residual ≡ d) (valued_entries rs es) → ⊥
+not_in : (rs : List Shape) (d : Shape) (es : List (Entry (Unit {0}) ℕ Tag)) → ((j : ℕ) → j < length rs → shape_at rs j ≡ d → ⊥) → AreNumbers rs es →
+    OneOf (λ e. e.residual ≡ d) (valued_entries rs es) → ⊥
 not_in rs d [] n h o = o
 not_in rs d (e ∷ es) n h o = ⊎_elim (λ q. n e.residual h.0 q) (λ q. not_in rs d es n h.1 q) o
 
@@ -148,23 +176,30 @@ not_in rs d (e ∷ es) n h o = ⊎_elim (λ q. n e.residual h.0 q) (λ q. not_in
 missing : (rs : List Shape) (l : Letter) (es : List (Entry (Unit {0}) ℕ Tag)) → AreNumbers rs es → all_listed (knowns rs) l es ≡ false →
     (d : Shape) × (has_word d ≡ true) × ((j : ℕ) → j < length rs → shape_at rs j ≡ d → ⊥) × OneOf (λ e. residual e.residual l ≡ d) (valued_entries rs es)
 missing rs l [] h q = absurd (false≢true (sym q))
-missing rs l (e ∷ es) h q = go (nat_le (next_on l (known_at (knowns rs) e.residual)) (length (knowns rs))) (unlisted rs l e.residual h.0) (missing rs l es h.1) q
+missing rs l (e ∷ es) h q = go (nat_le (next_on l (known_at (knowns rs) e.residual)) (length (knowns rs))) (unlisted rs l e.residual h.0) (missing rs l es h.1)
+    q
   where
-    go : (a : Bool) → (a ≡ false → (has_word (residual (shape_at rs e.residual) l) ≡ true) × ((j : ℕ) → j < length rs → shape_at rs j ≡ residual (shape_at rs e.residual) l → ⊥)) →
-        (all_listed (knowns rs) l es ≡ false → (d : Shape) × (has_word d ≡ true) × ((j : ℕ) → j < length rs → shape_at rs j ≡ d → ⊥) × OneOf (λ e. residual e.residual l ≡ d) (valued_entries rs es)) → a && all_listed (knowns rs) l es ≡ false →
-        (d : Shape) × (has_word d ≡ true) × ((j : ℕ) → j < length rs → shape_at rs j ≡ d → ⊥) × OneOf (λ e. residual e.residual l ≡ d) (valued_entries rs (e ∷ es))
+    go : (a : Bool) → (a ≡ false → (has_word (residual (shape_at rs e.residual) l) ≡ true)
+        × ((j : ℕ) → j < length rs → shape_at rs j ≡ residual (shape_at rs e.residual) l → ⊥)) →
+        (all_listed (knowns rs) l es ≡ false → (d : Shape) × (has_word d ≡ true) × ((j : ℕ) → j < length rs → shape_at rs j ≡ d → ⊥)
+        × OneOf (λ e. residual e.residual l ≡ d) (valued_entries rs es)) → a && all_listed (knowns rs) l es ≡ false →
+        (d : Shape) × (has_word d ≡ true) × ((j : ℕ) → j < length rs → shape_at rs j ≡ d → ⊥)
+        × OneOf (λ e. residual e.residual l ≡ d) (valued_entries rs (e ∷ es))
     go true u m s = let k = m s in (k.0, k.1, k.2, inr k.3)
     go false u m s = (residual (shape_at rs e.residual) l, (u refl).0, (u refl).1, inl refl)
 
-some_same : {A B : Type 0} (p : B → Bool) (h : A → B) (Q : A → Type 0) (xs : List A) → Each Q xs → list_any p (map h xs) ≡ true → (x : A) × Q x × (p (h x) ≡ true)
+some_same : {A B : Type 0} (p : B → Bool) (h : A → B) (Q : A → Type 0) (xs : List A) → Each Q xs → list_any p (map h xs) ≡ true →
+    (x : A) × Q x × (p (h x) ≡ true)
 some_same {A} p h Q [] e q = absurd (false≢true q)
 some_same {A} p h Q (x ∷ xs) e q = go (p (h x)) refl (some_same p h Q xs e.1) q
   where
-    go : (a : Bool) → p (h x) ≡ a → (list_any p (map h xs) ≡ true → (y : A) × Q y × (p (h y) ≡ true)) → a || list_any p (map h xs) ≡ true → (y : A) × Q y × (p (h y) ≡ true)
+    go : (a : Bool) → p (h x) ≡ a → (list_any p (map h xs) ≡ true → (y : A) × Q y × (p (h y) ≡ true)) → a || list_any p (map h xs) ≡ true →
+        (y : A) × Q y × (p (h y) ≡ true)
     go true t m s = (x, e.0, t)
     go false t m s = m s
 
-pub not_listed : (rows : List Row) (p : Shape) (b : ℕ) (rs : List Shape) (xs : List (PlainConfiguration ℕ)) → IsFor p rs xs → (x : PlainConfiguration ℕ) → HasNumbers rs x → (l : Letter) → all_listed (knowns rs) l (appended tt 0 b x.live) ≡ false →
+pub not_listed : (rows : List Row) (p : Shape) (b : ℕ) (rs : List Shape) (xs : List (PlainConfiguration ℕ)) → IsFor p rs xs → (x : PlainConfiguration ℕ) →
+    HasNumbers rs x → (l : Letter) → all_listed (knowns rs) l (appended tt 0 b x.live) ≡ false →
     step_listed (subject rows p b (plan_of rs xs)) (valued rs x) l ≡ false
 not_listed rows p b rs xs i x h l a =
     let s : Subject Shape = subject rows p b (plan_of rs xs) in
@@ -172,7 +207,9 @@ not_listed rows p b rs xs i x h l a =
     let m = missing rs l (appended tt 0 b x.live) (numbers_before rs b x.live i.some h) a in
     let o : OneOf (λ e. e.residual ≡ m.0) to.live =
     one_retagged (move_of s (valued rs x) l).phase (no_ind (before s (valued rs x))) m.0 (kept s (valued rs x) l)
-    (one_kept m.0 (alive shapes (derived shapes l (before s (valued rs x)))) (one_alive l m.0 (before s (valued rs x)) m.1 (subst (λ z. OneOf (λ e. residual e.residual l ≡ m.0) z) (before_valued rs p b x.live i.whole) m.3))) in
+    (one_kept m.0 (alive shapes (derived shapes l (before s (valued rs x))))
+    (one_alive l m.0 (before s (valued rs x)) m.1 (subst (λ z. OneOf (λ e. residual e.residual l ≡ m.0) z) (before_valued rs p b x.live i.whole) m.3))) in
     false_from_ne_true (step_listed s (valued rs x) l) (λ q.
     let y = some_same (λ y. same_configuration shapes y to) (λ y. valued rs y) (HasNumbers rs) xs i.numbers q in
-    not_in rs m.0 y.0.live m.2 y.1 (subst (λ (z : PlainConfiguration Shape). OneOf (λ e. e.residual ≡ m.0) z.live) (sym (configuration_is shapes shapes_right.equal (valued rs y.0) to y.2)) o))
+    not_in rs m.0 y.0.live m.2 y.1 (subst (λ (z : PlainConfiguration Shape). OneOf (λ e. e.residual ≡ m.0) z.live)
+    (sym (configuration_is shapes shapes_right.equal (valued rs y.0) to y.2)) o))

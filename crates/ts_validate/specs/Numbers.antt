@@ -23,7 +23,14 @@ next_number rs r l = if has_word (residual r l) then number_of rs (residual r l)
 
 abbrev pub known_of : List Shape → Shape → Known
 known_of rs r =
-    record { less = next_number rs r Less; equal = next_number rs r Equal; greater = next_number rs r Greater; own = number_of rs r; nullable = nullable r; longer = has_longer r }
+    record {
+      less = next_number rs r Less;
+      equal = next_number rs r Equal;
+      greater = next_number rs r Greater;
+      own = number_of rs r;
+      nullable = nullable r;
+      longer = has_longer r;
+    }
 
 abbrev pub knowns : List Shape → List Known
 knowns rs = map (λ r. known_of rs r) rs
@@ -66,13 +73,17 @@ all_listed table l es = list_all (λ e. nat_le (next_on l (known_at table e.resi
 -- what is left of one more entry, beside those that are left of the entries before it
 abbrev pub joined : {X R T : Type 0} → Residuals R → Letter → Entry X R T → List (Entry X R T) → List (Entry X R T)
 joined t l e ks =
-    if t.has_word (t.next e.residual l) && not (list_any (λ k. t.same k.residual (t.next e.residual l)) ks) then ks ++ derive_entry t l e ∷ [] else ks
+    if t.has_word (t.next e.residual l) && not (list_any (λ k. t.same k.residual (t.next e.residual l)) ks) then ks
+    ++ derive_entry t l e ∷ [] else ks
 
 -- where the step of x is listed first, if each residual after it is listed
 abbrev pub next_place : List Known → Subject ℕ → PlainConfiguration ℕ → Letter → Option ℕ
 next_place table s x l =
-    if all_listed table l (before s x) then position (λ y. same_configuration s.on y (stepped s x l)) s.configurations else None
+    if all_listed table l (before s x) then position (λ y. same_configuration s.on y (stepped s x l))
+    s.configurations else None
 
 abbrev pub number_meets : List Known → Subject ℕ → PlainConfiguration ℕ → Letter → Bool
 number_meets table s x l =
-    is_some (next_place table s x l) && entries_agree s.on (move_of s x l).phase (row_at s.rows (move_of s x l).next).kind (no_ind (before s x)) (kept s x l)
+    is_some (next_place table s x l)
+    && entries_agree s.on (move_of s x l).phase (row_at s.rows (move_of s x l).next).kind (no_ind (before s x))
+    (kept s x l)

@@ -72,7 +72,9 @@ pub record Reaches (s : Subject Shape) (arrivals : List Arrival) (places : List 
 -- where the step of arrival k on l is listed, its first number has arrived
 abbrev pub Follows : Subject Shape → List Arrival → ℕ → Letter → Type 0
 Follows s arrivals k l =
-    step_listed s (value_of s arrivals k) l ≡ true → (m : ℕ) × (m < length arrivals) × IsFirst s (stepped s (value_of s arrivals k) l) (arrived arrivals m).configuration
+    step_listed s (value_of s arrivals k) l ≡ true →
+    (m : ℕ) × (m < length arrivals)
+    × IsFirst s (stepped s (value_of s arrivals k) l) (arrived arrivals m).configuration
 
 -- the steps of the first arrivals have all arrived
 abbrev pub Followed : Subject Shape → List Arrival → ℕ → Type 0
@@ -85,7 +87,8 @@ Grows old new = (more : List Arrival) × (new ≡ old ++ more)
 -- the letters from the start to arrival k
 pub data IsPath (arrivals : List Arrival) : ℕ → List Letter → Type 0 where
   PathStart : (k : ℕ) (w : List Letter) → k ≡ 0 → w ≡ [] → IsPath arrivals k w
-  PathOn : (k : ℕ) (v w : List Letter) → 0 < k → IsPath arrivals (arrived arrivals k).from v → w ≡ v ++ (arrived arrivals k).letter ∷ [] → IsPath arrivals k w
+  PathOn : (k : ℕ) (v w : List Letter) → 0 < k → IsPath arrivals (arrived arrivals k).from v →
+      w ≡ v ++ (arrived arrivals k).letter ∷ [] → IsPath arrivals k w
 
 -- the checks hold on each letter
 abbrev pub AllMeet : Subject Shape → ℕ → Type 0

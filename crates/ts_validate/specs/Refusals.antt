@@ -12,7 +12,8 @@ use Rattle.ts_validate.specs.Reaches.{value_at, place_at, AllMeet, AllMeetBelow,
 -- what the search for it finds
 abbrev pub IsFailure : Subject Shape → List (Option ℕ) → Failure → Type 0
 IsFailure s places f =
-    (f.configuration < length places) × (place_at places f.configuration ≡ Some f.place) × FailsFirst s f.configuration f.letter × AllMeetBelow s places f.configuration
+    (f.configuration < length places) × (place_at places f.configuration ≡ Some f.place)
+    × FailsFirst s f.configuration f.letter × AllMeetBelow s places f.configuration
 
 pub record IsRefusal (s : Subject Shape) (configuration : ℕ) (letter : Letter) (signature : List Letter) : Type 0 where
   pub listed : configuration < length s.configurations

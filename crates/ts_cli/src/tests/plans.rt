@@ -1,5 +1,5 @@
-//! Small plans, worked out by hand: one is closed, and of the others each is refused at the configuration and the letter
-//! where a check fails, mostly one check alone.
+//! Small plans, worked out by hand: one is closed, and of the others each is refused at the configuration and the
+//! letter where a check fails, mostly one check alone.
 
 ghost use Rattle.std.specs.Prelude.{◌≡◌, ◌&&◌, IfOk, map, nat_lt};
 ghost use Rattle.std.specs.List.{list_all};
@@ -39,7 +39,8 @@ struct Small {
 }
 
 static SMALL: [Small; 22] = [
-    // Closed: a residual goes by its value, whatever its number, and a configuration that isn't reached may be anything.
+    // Closed: a residual goes by its value, whatever its number, and a configuration that isn't reached may be
+    // anything.
     Small {
         pattern: ">",
         b: 0,
@@ -440,7 +441,8 @@ fn plan(alloc: Global, whole: &Regex, small: &Small) -> Result<Plan, Memory> {
 }
 
 fn is_whole(residuals: &Vec<Regex>, whole: &Regex) -> bool
-    ensures { result ≡ first_passes (λ r. same_shape r (shape_of whole.now)) (map (λ r. shape_of r) residuals.now.items) }
+    ensures { result ≡ first_passes (λ r. same_shape r (shape_of whole.now))
+        (map (λ r. shape_of r) residuals.now.items) }
 {
     match residuals.as_slice() {
         [first, ..] => first.same(whole),

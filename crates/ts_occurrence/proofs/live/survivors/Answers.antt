@@ -7,7 +7,8 @@ use Rattle.ts_occurrence.proofs.live.survivors.Goals as goal
 pub after-requires-clause-there : goal.after-requires-clause-there
 after-requires-clause-there c =
     within_grown (known c.args.residuals.now.met.items) c.loop-k.residuals.met.items _ c.loop-k.invariant.grown
-    (known_at (known c.args.residuals.now.met.items) c.args.live.now c.loop-k.k (get_or c.args.live.now c.loop-k.k (record { start = 0; residual = 0 })) (record { start = 0; residual = 0 }) c.requires.known c.loop-k-test.true refl)
+    (known_at (known c.args.residuals.now.met.items) c.args.live.now c.loop-k.k (get_or c.args.live.now c.loop-k.k (record { start = 0; residual = 0 }))
+    (record { start = 0; residual = 0 }) c.requires.known c.loop-k-test.true refl)
 
 pub keep-requires-clause-there : goal.keep-requires-clause-there
 keep-requires-clause-there c = number_within c.after.new.self.met.items c.in_ok-rest.rest _ c.in_ok-rest.ensures.exact
@@ -19,7 +20,11 @@ pub loop-k-preserved : goal.loop-k-preserved
 loop-k-preserved c =
     record {
       right = c.in_ok-rest.ensures.right;
-      grown = grows_on (known c.args.residuals.now.met.items) (known c.loop-k.residuals.met.items) (known c.after.new.self.met.items) c.loop-k.invariant.grown c.in_ok-rest.ensures.grown;
+      grown = grows_on (known c.args.residuals.now.met.items) (known c.loop-k.residuals.met.items) (known c.after.new.self.met.items) c.loop-k.invariant.grown
+          c.in_ok-rest.ensures.grown;
       met = c.in_ok-keep.ensures.known;
-      exact = survivors_step c.args.l (known c.args.residuals.now.met.items) (known c.loop-k.residuals.met.items) (known c.after.new.self.met.items) c.args.live.now c.loop-k.kept.items c.keep.new.kept.items c.loop-k.k c.in_ok-rest.rest _ _ (record { start = 0; residual = 0 }) (record { start = 0; residual = 0 }) c.loop-k-test.true refl refl c.requires.known c.loop-k.invariant.grown c.in_ok-rest.ensures.grown c.loop-k.invariant.met c.in_ok-rest.ensures.exact c.loop-k.invariant.exact c.in_ok-keep.ensures.exact;
+      exact = survivors_step c.args.l (known c.args.residuals.now.met.items) (known c.loop-k.residuals.met.items) (known c.after.new.self.met.items)
+          c.args.live.now c.loop-k.kept.items c.keep.new.kept.items c.loop-k.k c.in_ok-rest.rest _ _ (record { start = 0; residual = 0 })
+          (record { start = 0; residual = 0 }) c.loop-k-test.true refl refl c.requires.known c.loop-k.invariant.grown c.in_ok-rest.ensures.grown
+          c.loop-k.invariant.met c.in_ok-rest.ensures.exact c.loop-k.invariant.exact c.in_ok-keep.ensures.exact;
     }

@@ -9,4 +9,5 @@ returns-clause-exact c =
 
 pub returns-clause-inside : goal.returns-clause-inside
 returns-clause-inside c =
-    inside_series (shape_of c.args.p.now.regex) c.args.p.now.b c.args.p.now.a c.args.w.now c.in_ok-maximal_matches.field-0.items c.requires.fits c.in_ok-maximal_matches.ensures
+    inside_series (shape_of c.args.p.now.regex) c.args.p.now.b c.args.p.now.a c.args.w.now c.in_ok-maximal_matches.field-0.items c.requires.fits
+    c.in_ok-maximal_matches.ensures

@@ -17,8 +17,10 @@ loop-k-preserved c =
     to_z-of_z w64 (get_or c.args.cells.now c.loop-k.k (pos 0)) cell_fits in
     record {
       so_far = subst (λ z. Some z ≡ over (joined c.args.g) (take (c.loop-k.k + 1) c.args.cells.now)) (sym back)
-          (over_more (joined c.args.g) c.args.cells.now c.loop-k.k (pos 0) (to_z w64 (of_z w64 (get_or c.args.cells.now c.loop-k.k (pos 0)))) c.join.result c.loop-k.total c.loop-k-test.true cell c.loop-k.invariant.so_far c.join.ensures);
+          (over_more (joined c.args.g) c.args.cells.now c.loop-k.k (pos 0) (to_z w64 (of_z w64 (get_or c.args.cells.now c.loop-k.k (pos 0)))) c.join.result
+          c.loop-k.total c.loop-k-test.true cell c.loop-k.invariant.so_far c.join.ensures);
       within = subst (λ z. IsWithin (1000000 * (c.loop-k.k + 1)) z) (sym back)
-          (within_more c.args.g 1000000 c.loop-k.k (to_z w64 (of_z w64 (get_or c.args.cells.now c.loop-k.k (pos 0)))) c.join.result c.loop-k.total c.loop-k.invariant.within
+          (within_more c.args.g 1000000 c.loop-k.k (to_z w64 (of_z w64 (get_or c.args.cells.now c.loop-k.k (pos 0)))) c.join.result c.loop-k.total
+          c.loop-k.invariant.within
           (subst IsCell (sym cell) (c.requires.cells c.loop-k.k (pos 0) c.loop-k-test.true)) c.join.ensures);
     }

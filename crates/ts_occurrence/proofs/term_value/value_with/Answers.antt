@@ -17,7 +17,8 @@ aggregate-requires-clause-few c =
     let n = signature_length c.args.series.now c.requires.series.some in
     let same = ap length c.requires.letters in
     let given = ap length c.deref.ensures.value in
-    let count = few_ranges (shape_of c.in_ok-pattern.pattern.regex) c.in_ok-pattern.pattern.b c.in_ok-pattern.pattern.a c.args.letters.now c.in_ok-ranges.ranges.items c.in_ok-ranges.ensures.listed in
+    let count = few_ranges (shape_of c.in_ok-pattern.pattern.regex) c.in_ok-pattern.pattern.b c.in_ok-pattern.pattern.a c.args.letters.now
+    c.in_ok-ranges.ranges.items c.in_ok-ranges.ensures.listed in
     let few = c.requires.series.few in
     omega arith
 
@@ -31,5 +32,7 @@ aggregate-requires-clause-inside c =
 
 pub returns : goal.returns
 returns c =
-    value_is c.args.t.now.aggregator c.args.t.now.feature c.args.t.now.pattern c.args.series.now c.args.letters.now (shape_of c.in_ok-pattern.pattern.regex) c.in_ok-pattern.pattern.b c.in_ok-pattern.pattern.a c.in_ok-ranges.ranges.items c.deref.result.now c.aggregate.result
-    c.in_ok-pattern.ensures.shape c.in_ok-pattern.ensures.before c.in_ok-pattern.ensures.after c.requires.letters c.in_ok-ranges.ensures.exact c.deref.ensures.value c.aggregate.ensures
+    value_is c.args.t.now.aggregator c.args.t.now.feature c.args.t.now.pattern c.args.series.now c.args.letters.now (shape_of c.in_ok-pattern.pattern.regex)
+    c.in_ok-pattern.pattern.b c.in_ok-pattern.pattern.a c.in_ok-ranges.ranges.items c.deref.result.now c.aggregate.result
+    c.in_ok-pattern.ensures.shape c.in_ok-pattern.ensures.before c.in_ok-pattern.ensures.after c.requires.letters c.in_ok-ranges.ensures.exact
+    c.deref.ensures.value c.aggregate.ensures

@@ -6,7 +6,9 @@ use Rattle.ts_validate.proofs.arrival.reach.Goals as goal
 pub loop-done-init : goal.loop-done-init
 loop-done-init c =
     record {
-      reaches = started_plan c.args.rows.now c.args.p.now c.args.plan.now (length c.as_slice-configurations.result.now) c.in_ok-tour.tour.arrivals.items c.in_ok-tour.tour.places.items c.requires.fits (ap (λ z. length z) c.as_slice-configurations.ensures.value) c.in_ok-tour.ensures.arrivals c.in_ok-tour.ensures.places;
+      reaches = started_plan c.args.rows.now c.args.p.now c.args.plan.now (length c.as_slice-configurations.result.now) c.in_ok-tour.tour.arrivals.items
+          c.in_ok-tour.tour.places.items c.requires.fits (ap (λ z. length z) c.as_slice-configurations.ensures.value) c.in_ok-tour.ensures.arrivals
+          c.in_ok-tour.ensures.places;
       followed = λ k q. absurd (omega (arith, q));
       inside = omega arith;
     }
@@ -16,6 +18,7 @@ loop-done-preserved c =
     let g = grown_length c.loop-done.tour.arrivals.items c.expand_all.new.self.arrivals.items c.in_ok-expand_all.ensures.grows in
     record {
       reaches = c.in_ok-expand_all.ensures.reaches;
-      followed = followed_more (against c.args.rows.now c.args.p.now c.args.plan.now) c.loop-done.tour.arrivals.items c.expand_all.new.self.arrivals.items c.loop-done.done (omega arith) c.loop-done.invariant.followed c.in_ok-expand_all.ensures.grows c.in_ok-expand_all.ensures.follows;
+      followed = followed_more (against c.args.rows.now c.args.p.now c.args.plan.now) c.loop-done.tour.arrivals.items c.expand_all.new.self.arrivals.items
+          c.loop-done.done (omega arith) c.loop-done.invariant.followed c.in_ok-expand_all.ensures.grows c.in_ok-expand_all.ensures.follows;
       inside = omega arith;
     }

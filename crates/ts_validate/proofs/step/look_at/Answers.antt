@@ -8,15 +8,24 @@ use Rattle.ts_validate.proofs.step.look_at.Goals as goal
 
 pub returns-clause-next : goal.returns-clause-next
 returns-clause-next c =
-    let h = computed c.args.rows.now c.args.table.now c.args.b c.args.configurations.now c.args.here.now c.args.letter c.arrow-arrow.result c.in_ok-kept.kept.items c.as_slice-live.result.now c.none_kept-free.result c.each_listed-olds.result c.one_listed-new.result c.both-listed.result c.place-next.result c.row.result c.as_slice-2.result.now
-    c.as_slice-live.ensures.value c.row.ensures c.arrow-arrow.ensures c.in_ok-kept.ensures c.none_kept-free.ensures c.each_listed-olds.ensures c.one_listed-new.ensures c.both-listed.ensures c.as_slice-2.ensures.value c.place-next.ensures in
-    next_seen c.args.rows.now c.args.table.now c.args.b c.args.configurations.now c.args.here.now c.args.letter c.arrow-arrow.result c.in_ok-kept.kept.items c.none_kept-free.result c.both-listed.result c.place-next.result c.agree-agree.result c.looked.result h c.looked.ensures
+    let h = computed c.args.rows.now c.args.table.now c.args.b c.args.configurations.now c.args.here.now c.args.letter c.arrow-arrow.result
+    c.in_ok-kept.kept.items c.as_slice-live.result.now c.none_kept-free.result c.each_listed-olds.result c.one_listed-new.result c.both-listed.result
+    c.place-next.result c.row.result c.as_slice-2.result.now
+    c.as_slice-live.ensures.value c.row.ensures c.arrow-arrow.ensures c.in_ok-kept.ensures c.none_kept-free.ensures c.each_listed-olds.ensures
+    c.one_listed-new.ensures c.both-listed.ensures c.as_slice-2.ensures.value c.place-next.ensures in
+    next_seen c.args.rows.now c.args.table.now c.args.b c.args.configurations.now c.args.here.now c.args.letter c.arrow-arrow.result c.in_ok-kept.kept.items
+    c.none_kept-free.result c.both-listed.result c.place-next.result c.agree-agree.result c.looked.result h c.looked.ensures
 
 pub returns-clause-meets : goal.returns-clause-meets
 returns-clause-meets c =
-    let h = computed c.args.rows.now c.args.table.now c.args.b c.args.configurations.now c.args.here.now c.args.letter c.arrow-arrow.result c.in_ok-kept.kept.items c.as_slice-live.result.now c.none_kept-free.result c.each_listed-olds.result c.one_listed-new.result c.both-listed.result c.place-next.result c.row.result c.as_slice-2.result.now
-    c.as_slice-live.ensures.value c.row.ensures c.arrow-arrow.ensures c.in_ok-kept.ensures c.none_kept-free.ensures c.each_listed-olds.ensures c.one_listed-new.ensures c.both-listed.ensures c.as_slice-2.ensures.value c.place-next.ensures in
-    meets_seen c.args.rows.now c.args.table.now c.args.b c.args.configurations.now c.args.here.now c.args.letter c.arrow-arrow.result c.in_ok-kept.kept.items c.none_kept-free.result c.both-listed.result c.place-next.result c.agree-agree.result c.looked.result h c.looked.ensures
+    let h = computed c.args.rows.now c.args.table.now c.args.b c.args.configurations.now c.args.here.now c.args.letter c.arrow-arrow.result
+    c.in_ok-kept.kept.items c.as_slice-live.result.now c.none_kept-free.result c.each_listed-olds.result c.one_listed-new.result c.both-listed.result
+    c.place-next.result c.row.result c.as_slice-2.result.now
+    c.as_slice-live.ensures.value c.row.ensures c.arrow-arrow.ensures c.in_ok-kept.ensures c.none_kept-free.ensures c.each_listed-olds.ensures
+    c.one_listed-new.ensures c.both-listed.ensures c.as_slice-2.ensures.value c.place-next.ensures in
+    meets_seen c.args.rows.now c.args.table.now c.args.b c.args.configurations.now c.args.here.now c.args.letter c.arrow-arrow.result c.in_ok-kept.kept.items
+    c.none_kept-free.result c.both-listed.result c.place-next.result c.agree-agree.result c.looked.result h c.looked.ensures
     c.answers-facts.result c.row-kind.result.kind
-    (c.answers-facts.ensures ∙ ap (λ z. facts_of (numbers c.args.table.now) c.arrow-arrow.result.phase c.none_kept-free.result (map (λ e. plain_live e) z)) c.as_slice.ensures.value)
+    (c.answers-facts.ensures ∙ ap (λ z. facts_of (numbers c.args.table.now) c.arrow-arrow.result.phase c.none_kept-free.result (map (λ e. plain_live e) z))
+    c.as_slice.ensures.value)
     (ap (λ (z : Row). z.kind) (c.row-kind.ensures ∙ row_is c.args.rows.now c.arrow-arrow.result.next)) c.agree-agree.ensures

@@ -8,4 +8,5 @@ returns-then-k-eq0 t c = PathStart c.args.k c.new.result.items c.if-k-eq0.true c
 
 pub returns : goal.returns
 returns t c =
-    path_on c.args.self.now.arrivals.items c.args.k c.in_ok-signature.signature.items c.push.new.self.items c.arrival-last.result c.arrival-last.ensures (omega (arith, c.if-k-eq0.false)) c.in_ok-signature.ensures c.in_ok-push.ensures.items
+    path_on c.args.self.now.arrivals.items c.args.k c.in_ok-signature.signature.items c.push.new.self.items c.arrival-last.result c.arrival-last.ensures
+    (omega (arith, c.if-k-eq0.false)) c.in_ok-signature.ensures c.in_ok-push.ensures.items

@@ -15,6 +15,7 @@ returns-clause-follows c =
     let one = grown_length xs ys c.in_ok-expand.ensures.grows in
     let two = grown_length ys zs c.in_ok-expand-2.ensures.grows in
     follows_each s ws c.args.from
-    (follows_grown s ys ws c.args.from Less (omega arith) (grown_twice ys zs ws c.in_ok-expand-2.ensures.grows c.in_ok-expand-3.ensures.grows) c.in_ok-expand.ensures.follows)
+    (follows_grown s ys ws c.args.from Less (omega arith) (grown_twice ys zs ws c.in_ok-expand-2.ensures.grows c.in_ok-expand-3.ensures.grows)
+    c.in_ok-expand.ensures.follows)
     (follows_grown s zs ws c.args.from Equal (omega arith) c.in_ok-expand-3.ensures.grows c.in_ok-expand-2.ensures.follows)
     c.in_ok-expand-3.ensures.follows
