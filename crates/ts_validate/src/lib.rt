@@ -14,16 +14,16 @@
 //! ```
 #![tactic(auto)]
 
-pub mod arrival;
-pub mod closure;
-pub mod facts;
-pub mod failure;
-pub mod known;
+mod arrival;
+mod closure;
+mod facts;
+mod failure;
+mod known;
 pub mod laws;
-pub mod step;
-pub mod stop;
-pub mod tags;
-pub mod validated;
+mod step;
+mod stop;
+mod tags;
+mod validated;
 
 pub use closure::validate;
 pub use stop::ValidateStop;

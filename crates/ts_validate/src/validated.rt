@@ -14,7 +14,7 @@ use ts_transducer::Transducer;
 pub struct Validated {
     pub(crate) transducer: Transducer,
     pub(crate) pattern: Pattern,
-    ghost valid: { IsValid (rows_of transducer) (shape_of pattern.regex) pattern.b pattern.a },
+    pub ghost valid: { IsValid (rows_of transducer) (shape_of pattern.regex) pattern.b pattern.a },
 }
 
 impl Validated {
