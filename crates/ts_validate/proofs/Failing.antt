@@ -1,15 +1,17 @@
--- The first letter on which a check fails.
-use Rattle.std.specs.Prelude.{◌≡◌, ℕ, ◌+◌, ◌<◌, ◌≤◌, Bool, true, false, List, Option, None, Some, MatchOption, length}
-use Rattle.std.proofs.Common.{sym, subst, arith, ⊎_elim}
-use Rattle.std.proofs.Math.Nat.{eq-or-lt_of_le}
-use Rattle.std.proofs.lemmas.Option.{none-some, same_Some}
+-- The first letter on which a check fails, at each arrival whose steps were taken.
+use Rattle.std.specs.Prelude.{◌≡◌, ◌⊎◌, ℕ, zero, suc, ◌+◌, ◌<◌, ◌≤◌, Bool, true, false, List, [], ◌∷◌, ◌++◌, Option, None, Some, MatchOption, length, refl}
+use Rattle.std.specs.List.{slice_get}
+use Rattle.std.proofs.Common.{sym, ◌∙◌, ap, subst, inl, inr, arith, ⊎_elim, length-append}
+use Rattle.std.proofs.lemmas.Option.{none-some, same_Some, slice_get_within}
 use Rattle.ts_base.specs.declared.letter.Letter.{Letter}
 use Rattle.ts_base.specs.declared.letter.Letter.TheVariants.{Less, Equal, Greater}
 use Rattle.ts_regex.specs.Shape.{Shape}
 use Rattle.ts_pattern.specs.Closed.{Subject, meets_checks}
-use Rattle.ts_validate.specs.declared.failure.Failure.{Failure}
+use Rattle.ts_validate.specs.declared.arrival.Arrival.{Arrival}
+use Rattle.ts_validate.specs.declared.arrival.Tour.{Tour}
 use Rattle.ts_validate.specs.FirstFalse.{first_false}
-use Rattle.ts_validate.specs.Reaches.{value_at, place_at, AllMeet, AllMeetBelow, FailsFirst}
+use Rattle.ts_validate.specs.Reaches.{value_at, value_of, arrived, Follows, Followed, Grows, AllMeet, FailsFirst, Judged, IsTour}
+use Rattle.ts_validate.proofs.Tours.{arrived_grown, follows_each, follows_grown, followed_more, grown_twice, grown_length}
 
 three : (s : Subject Shape) (i : ℕ) → meets_checks s (value_at s i) Less ≡ true → meets_checks s (value_at s i) Equal ≡ true →
     meets_checks s (value_at s i) Greater ≡ true → AllMeet s i
@@ -28,29 +30,63 @@ pub failing_is : (s : Subject Shape) (i : ℕ) (a b c : Bool) (o : Option Letter
     b ≡ meets_checks s (value_at s i) Equal → c ≡ meets_checks s (value_at s i) Greater → MatchOption o (AllMeet s i) (λ l. FailsFirst s i l)
 failing_is s i a b c o e p q r = subst (λ z. MatchOption z (AllMeet s i) (λ l. FailsFirst s i l)) (sym e) (by_cases s i a b c p q r)
 
-pub meet_more : (s : Subject Shape) (places : List (Option ℕ)) (n : ℕ) → AllMeetBelow s places n → ((k : ℕ) → place_at places n ≡ Some k → AllMeet s n) →
-    AllMeetBelow s places (n + 1)
-meet_more s places n h g c k q e = ⊎_elim
-    (λ z. subst (λ y. AllMeet s y) (sym z) (g k (subst (λ y. place_at places y ≡ Some k) z e)))
-    (λ z. h c k z e)
-    (eq-or-lt_of_le (let y : c ≤ n = omega arith in y))
+-- what stands in a list with one more element
+front_or_last : {A : Type 0} (xs : List A) (y : A) (k : ℕ) (x : A) → slice_get (xs ++ y ∷ []) k ≡ Some x →
+    (slice_get xs k ≡ Some x) ⊎ ((k ≡ length xs) × (y ≡ x))
+front_or_last [] y zero x q = inr (refl, same_Some y x q)
+front_or_last [] y (suc k) x q = absurd (none-some x q)
+front_or_last (z ∷ xs) y zero x q = inl q
+front_or_last (z ∷ xs) y (suc k) x q = ⊎_elim (λ h. inl h) (λ h. inr (ap (λ n. suc n) h.0, h.1)) (front_or_last xs y k x q)
 
-pub meet_on : (s : Subject Shape) (places : List (Option ℕ)) (n : ℕ) (o : Option Failure) → AllMeetBelow s places n →
-    MatchOption o ((k : ℕ) → place_at places n ≡ Some k → AllMeet s n)
-    (λ f. (f.configuration ≡ n) × (place_at places n ≡ Some f.place) × FailsFirst s n f.letter) → o ≡ None → AllMeetBelow s places (n + 1)
-meet_on s places n None h m q = meet_more s places n h m
-meet_on s places n (Some f) h m q = absurd (none-some f (sym q))
+-- the answer for one arrival
+abbrev Answers : Subject Shape → Arrival → Option Letter → Type 0
+Answers s a o = MatchOption o (AllMeet s a.configuration) (λ l. FailsFirst s a.configuration l)
 
-pub failure_is : (s : Subject Shape) (places : List (Option ℕ)) (n : ℕ) (o : Option Failure) (f : Failure) → n < length places → AllMeetBelow s places n →
-    MatchOption o ((k : ℕ) → place_at places n ≡ Some k → AllMeet s n)
-    (λ f. (f.configuration ≡ n) × (place_at places n ≡ Some f.place) × FailsFirst s n f.letter) → o ≡ Some f →
-    (f.configuration < length places) × (place_at places f.configuration ≡ Some f.place) × FailsFirst s f.configuration f.letter
-    × AllMeetBelow s places f.configuration
-failure_is s places n None f c h m q = absurd (none-some f q)
-failure_is s places n (Some g) f c h m q =
-    subst (λ (z : Failure). (z.configuration < length places) × (place_at places z.configuration ≡ Some z.place) × FailsFirst s z.configuration z.letter
-    × AllMeetBelow s places z.configuration) (same_Some g f q)
-    (subst (λ z. (z < length places) × (place_at places z ≡ Some g.place) × FailsFirst s z g.letter × AllMeetBelow s places z) (sym m.0) (c, m.1, m.2, h))
+-- what was judged stays so in a longer tour
+pub judged_grown : (s : Subject Shape) (xs ys : List Arrival) (failing : List (Option Letter)) → length failing ≤ length xs → Grows xs ys →
+    Judged s xs failing → Judged s ys failing
+judged_grown s xs ys failing q g h k o e =
+    let i : k < length failing = slice_get_within failing k o e in
+    let old : arrived ys k ≡ arrived xs k = arrived_grown xs ys g k (omega arith) in
+    subst (λ (z : Arrival). Answers s z o) (sym old) (h k o e)
 
-pub meet_down : (s : Subject Shape) (places : List (Option ℕ)) (n m : ℕ) → m ≤ n → AllMeetBelow s places n → AllMeetBelow s places m
-meet_down s places n m q h c k d e = h c k (omega (arith, q, d)) e
+pub judged_more : (s : Subject Shape) (xs : List Arrival) (failing : List (Option Letter)) (o : Option Letter) → Judged s xs failing →
+    Answers s (arrived xs (length failing)) o → Judged s xs (failing ++ o ∷ [])
+judged_more s xs failing o h a k p e = ⊎_elim
+    (λ q. h k p q)
+    (λ q. subst (λ z. Answers s (arrived xs k) z) q.1 (subst (λ z. Answers s (arrived xs z) o) (sym q.0) a))
+    (front_or_last failing o k p e)
+
+-- the three steps of the next arrival, taken and judged
+pub expanded : (s : Subject Shape) (t : Tour) (ys zs ws : List Arrival) (failing more : List (Option Letter)) (from : ℕ) (a b c : Bool)
+    (o : Option Letter) → IsTour s t → from ≡ length t.failing.items → from < length t.arrivals.items →
+    Grows t.arrivals.items ys → Grows ys zs → Grows zs ws → Follows s ys from Less → Follows s zs from Equal → Follows s ws from Greater →
+    a ≡ meets_checks s (value_of s t.arrivals.items from) Less → b ≡ meets_checks s (value_of s ys from) Equal →
+    c ≡ meets_checks s (value_of s zs from) Greater → o ≡ first_false a b c → failing ≡ t.failing.items → more ≡ failing ++ o ∷ [] →
+    Followed s ws (length more) × Judged s ws more × (length more ≤ length ws)
+expanded s t ys zs ws failing more from a b c o h e q g1 g2 g3 f1 f2 f3 m1 m2 m3 first same push =
+    let xs : List Arrival = t.arrivals.items in
+    let done : List (Option Letter) = t.failing.items in
+    let to_ws : Grows xs ws = grown_twice xs ys ws g1 (grown_twice ys zs ws g2 g3) in
+    let long1 = grown_length xs ys g1 in
+    let long2 = grown_length ys zs g2 in
+    let long3 = grown_length zs ws g3 in
+    let at_ys : arrived ys from ≡ arrived xs from = arrived_grown xs ys g1 from q in
+    let at_zs : arrived zs from ≡ arrived xs from = arrived_grown ys zs g2 from (omega (arith, q, long1)) ∙ at_ys in
+    let at_ws : arrived ws from ≡ arrived xs from = arrived_grown xs ws to_ws from q in
+    let all : (l : Letter) → Follows s ws from l =
+    follows_each s ws from (follows_grown s ys ws from Less (omega (arith, q, long1)) (grown_twice ys zs ws g2 g3) f1)
+    (follows_grown s zs ws from Equal (omega (arith, q, long1, long2)) g3 f2) f3 in
+    let is : more ≡ done ++ o ∷ [] = push ∙ ap (λ z. z ++ o ∷ []) same in
+    let size : length more ≡ length done + 1 = ap (λ (z : List (Option Letter)). length z) is ∙ length-append done (o ∷ []) in
+    let answer : Answers s (arrived xs from) o =
+    failing_is s (arrived xs from).configuration a b c o first m1
+    (m2 ∙ ap (λ (z : Arrival). meets_checks s (value_at s z.configuration) Equal) at_ys)
+    (m3 ∙ ap (λ (z : Arrival). meets_checks s (value_at s z.configuration) Greater) at_zs) in (
+      subst (λ z. Followed s ws z) (sym size)
+          (followed_more s xs ws (length done) (omega (arith, q, e)) h.followed to_ws (subst (λ z. (l : Letter) → Follows s ws z l) e all)),
+      subst (λ z. Judged s ws z) (sym is)
+          (judged_more s ws done o (judged_grown s xs ws done h.inside to_ws h.judged)
+          (subst (λ z. Answers s (arrived ws z) o) e (subst (λ z. Answers s z o) (sym at_ws) answer))),
+      omega (arith, size, q, e, long1, long2, long3),
+    )

@@ -1,12 +1,13 @@
 -- How the tour of the reached configurations grows.
-use Rattle.std.specs.Prelude.{◌≡◌, ◌⊎◌, ℕ, zero, suc, ◌+◌, ◌<◌, ◌≤◌, nat_lt, true, ◌&&◌, List, [], ◌∷◌, ◌++◌, Option, None, Some, MatchOption, map, length, set, replicate, refl}
-use Rattle.std.proofs.Common.{sym, ◌∙◌, ap, subst, inl, inr, arith, ⊎_elim, length-append, append_assoc}
+use Rattle.std.specs.Prelude.{◌≡◌, ◌⊎◌, ℕ, zero, suc, ◌+◌, ◌<◌, ◌≤◌, nat_lt, true, ◌&&◌, List, [], ◌∷◌, ◌++◌, Option, None, Some, MatchOption, map, length, set, replicate, reverse, refl}
+use Rattle.std.proofs.Common.{sym, ◌∙◌, ap, subst, inl, inr, arith, ⊎_elim, length-append, append_assoc, append-nil}
 use Rattle.std.proofs.Math.Nat.{eq-or-lt_of_le}
 use Rattle.std.proofs.lemmas.Bool.Decides.{eqb_tells}
 use Rattle.ts_base.specs.declared.letter.Letter.{Letter}
 use Rattle.ts_base.specs.declared.letter.Letter.TheVariants.{Less, Equal, Greater}
-use Rattle.std.specs.List.{list_all}
+use Rattle.std.specs.List.{list_all, slice_get}
 use Rattle.std.proofs.lemmas.Bool.{and_parts, false≢true}
+use Rattle.std.proofs.lemmas.List.{reverse-append}
 use Rattle.std.proofs.lemmas.Option.{none-some, same_Some}
 use Rattle.ts_regex.specs.Shape.{Shape, shape_of}
 use Rattle.ts_regex.specs.NormalForm.{normal_form, same_shape}
@@ -18,7 +19,8 @@ use Rattle.ts_pattern.specs.Plans.{plain_plan, plain_configuration, valued, is_b
 use Rattle.ts_pattern.specs.Closed.{PlainConfiguration, Subject, first_passes, stepped, step_listed}
 use Rattle.ts_validate.specs.declared.step.Look.{Look}
 use Rattle.ts_validate.specs.declared.arrival.Arrival.{Arrival}
-use Rattle.ts_validate.specs.Reaches.{against, value_at, value_of, IsFirst, Sees, arrived, place_at, open_places, GoesOn, Reaches, Follows, Followed, Grows, IsPath, PathOn}
+use Rattle.ts_validate.specs.declared.arrival.Tour.{Tour}
+use Rattle.ts_validate.specs.Reaches.{against, value_at, value_of, IsFirst, Sees, arrival, arrived, place_at, open_places, GoesOn, Reaches, Follows, Followed, Grows, IsTour, IsPath, PathStart, PathOn}
 
 -- lists
 
@@ -77,9 +79,9 @@ start_count : (n : ℕ) → 0 < n → open_places (set (replicate n None) 0 (Som
 start_count n q = fewer_open (replicate n None) 0 0 (subst (λ z. 0 < z) (sym (replicated n)) q) (none_there n 0) ∙ all_open n
 
 pub started : (s : Subject Shape) (n : ℕ) (arrivals : List Arrival) (places : List (Option ℕ)) → n ≡ length s.configurations → 0 < n →
-    arrivals ≡ record { configuration = 0; from = 0; letter = Less } ∷ [] → places ≡ set (replicate n None) 0 (Some 0) → Reaches s arrivals places
+    arrivals ≡ arrival 0 0 Less ∷ [] → places ≡ set (replicate n None) 0 (Some 0) → Reaches s arrivals places
 started s n arrivals places e q a o =
-    let only : Arrival = record { configuration = 0; from = 0; letter = Less } in
+    let only : Arrival = arrival 0 0 Less in
     let size : length (set (replicate {A = Option ℕ} n None) 0 (Some 0)) ≡ n = set_size (replicate n None) 0 (Some 0) ∙ replicated n in
     let room : 0 < length (replicate {A = Option ℕ} n None) = (let r = replicated n in omega arith) in
     subst (λ z. Reaches s z places) (sym a) (subst (λ z. Reaches s (only ∷ []) z) (sym o) (record {
@@ -93,22 +95,22 @@ started s n arrivals places e q a o =
       back = λ k d. one_back k d room;
     }))
   where
-    one : (k : ℕ) → k < 1 → (P : Arrival → Type 0) → P (record { configuration = 0; from = 0; letter = Less }) →
-        P (arrived (record { configuration = 0; from = 0; letter = Less } ∷ []) k)
+    one : (k : ℕ) → k < 1 → (P : Arrival → Type 0) → P (arrival 0 0 Less) →
+        P (arrived (arrival 0 0 Less ∷ []) k)
     one zero d P h = h
     one (suc k) d P h = absurd (omega (arith, d))
 
     one_back : (k : ℕ) → k < 1 → 0 < length (replicate {A = Option ℕ} n None) →
-        place_at (set (replicate n None) 0 (Some 0)) (arrived (record { configuration = 0; from = 0; letter = Less } ∷ []) k).configuration ≡ Some k
+        place_at (set (replicate n None) 0 (Some 0)) (arrived (arrival 0 0 Less ∷ []) k).configuration ≡ Some k
     one_back zero d r = set_same (replicate n None) 0 (Some 0) r
     one_back (suc k) d r = absurd (omega (arith, d))
 
     go : (c k : ℕ) → place_at (set (replicate n None) 0 (Some 0)) c ≡ Some k →
-        (k < 1) × ((arrived (record { configuration = 0; from = 0; letter = Less } ∷ []) k).configuration ≡ c)
+        (k < 1) × ((arrived (arrival 0 0 Less ∷ []) k).configuration ≡ c)
     go zero k t = go_zero k (sym (set_same (replicate n None) 0 (Some 0) (let r = replicated n in omega (arith, r, q))) ∙ t)
       where
-        go_zero : (k : ℕ) → Some 0 ≡ Some k → (k < 1) × ((arrived (record { configuration = 0; from = 0; letter = Less } ∷ []) k).configuration ≡ 0)
-        go_zero k t = subst (λ z. (z < 1) × ((arrived (record { configuration = 0; from = 0; letter = Less } ∷ []) z).configuration ≡ 0)) (same_Some 0 k t)
+        go_zero : (k : ℕ) → Some 0 ≡ Some k → (k < 1) × ((arrived (arrival 0 0 Less ∷ []) k).configuration ≡ 0)
+        go_zero k t = subst (λ z. (z < 1) × ((arrived (arrival 0 0 Less ∷ []) z).configuration ≡ 0)) (same_Some 0 k t)
             (omega arith, refl)
     go (suc c) k t = absurd (none-some k (sym (set_other (replicate n None) 0 (suc c) (Some 0) (λ z. omega (arith, z)) ∙ none_there n (suc c)) ∙ t))
 
@@ -117,9 +119,9 @@ started s n arrivals places e q a o =
 pub more_reached : (s : Subject Shape) (xs : List Arrival) (os : List (Option ℕ)) → Reaches s xs os → (next from : ℕ) (l : Letter) → from < length xs →
     next < length s.configurations → place_at os next ≡ None →
     step_listed s (value_of s xs from) l ≡ true → value_at s next ≡ stepped s (value_of s xs from) l →
-    Reaches s (xs ++ record { configuration = next; from = from; letter = l } ∷ []) (set os next (Some (length xs)))
+    Reaches s (xs ++ arrival next from l ∷ []) (set os next (Some (length xs)))
 more_reached s xs os h next from l f i e t v =
-    let a : Arrival = record { configuration = next; from = from; letter = l } in
+    let a : Arrival = arrival next from l in
     let ys : List Arrival = xs ++ a ∷ [] in
     let n : length ys ≡ length xs + 1 = length-append xs (a ∷ []) in
     let room : next < length os = (let z = h.size in omega arith) in
@@ -149,28 +151,28 @@ more_reached s xs os h next from l f i e t v =
           (eq-or-lt_of_le (let z : k ≤ length xs = omega arith in z));
     }
   where
-    goes_last : arrived (xs ++ record { configuration = next; from = from; letter = l } ∷ []) (length xs)
-        ≡ record { configuration = next; from = from; letter = l } →
-        arrived (xs ++ record { configuration = next; from = from; letter = l } ∷ []) from ≡ arrived xs from → from < length xs →
-        GoesOn s (xs ++ record { configuration = next; from = from; letter = l } ∷ []) (length xs)
+    goes_last : arrived (xs ++ arrival next from l ∷ []) (length xs)
+        ≡ arrival next from l →
+        arrived (xs ++ arrival next from l ∷ []) from ≡ arrived xs from → from < length xs →
+        GoesOn s (xs ++ arrival next from l ∷ []) (length xs)
     goes_last u w q =
         subst (λ (z : Arrival). (z.from < length xs)
-        × (step_listed s (value_of s (xs ++ record { configuration = next; from = from; letter = l } ∷ []) z.from) z.letter ≡ true)
-        × (value_at s z.configuration ≡ stepped s (value_of s (xs ++ record { configuration = next; from = from; letter = l } ∷ []) z.from) z.letter))
+        × (step_listed s (value_of s (xs ++ arrival next from l ∷ []) z.from) z.letter ≡ true)
+        × (value_at s z.configuration ≡ stepped s (value_of s (xs ++ arrival next from l ∷ []) z.from) z.letter))
         (sym u) (
           q,
           subst (λ (z : Arrival). step_listed s (value_at s z.configuration) l ≡ true) (sym w) t,
           subst (λ (z : Arrival). value_at s next ≡ stepped s (value_at s z.configuration) l) (sym w) v,
         )
 
-    goes_old : (k : ℕ) → k < length xs → arrived (xs ++ record { configuration = next; from = from; letter = l } ∷ []) k ≡ arrived xs k → GoesOn s xs k →
-        GoesOn s (xs ++ record { configuration = next; from = from; letter = l } ∷ []) k
+    goes_old : (k : ℕ) → k < length xs → arrived (xs ++ arrival next from l ∷ []) k ≡ arrived xs k → GoesOn s xs k →
+        GoesOn s (xs ++ arrival next from l ∷ []) k
     goes_old k q u g =
-        let w : arrived (xs ++ record { configuration = next; from = from; letter = l } ∷ []) (arrived xs k).from ≡ arrived xs (arrived xs k).from =
-        kept_at xs (record { configuration = next; from = from; letter = l } ∷ []) (arrived xs k).from (let z = g.0 in omega arith) in
+        let w : arrived (xs ++ arrival next from l ∷ []) (arrived xs k).from ≡ arrived xs (arrived xs k).from =
+        kept_at xs (arrival next from l ∷ []) (arrived xs k).from (let z = g.0 in omega arith) in
         subst (λ (z : Arrival). (z.from < k)
-        × (step_listed s (value_of s (xs ++ record { configuration = next; from = from; letter = l } ∷ []) z.from) z.letter ≡ true)
-        × (value_at s z.configuration ≡ stepped s (value_of s (xs ++ record { configuration = next; from = from; letter = l } ∷ []) z.from) z.letter))
+        × (step_listed s (value_of s (xs ++ arrival next from l ∷ []) z.from) z.letter ≡ true)
+        × (value_at s z.configuration ≡ stepped s (value_of s (xs ++ arrival next from l ∷ []) z.from) z.letter))
         (sym u) (
           g.0,
           subst (λ (z : Arrival). step_listed s (value_at s z.configuration) (arrived xs k).letter ≡ true) (sym w) g.1,
@@ -178,40 +180,40 @@ more_reached s xs os h next from l f i e t v =
         )
 
     apart : (c k : ℕ) → (next ≡ c → ⊥) → place_at (set os next (Some (length xs))) c ≡ Some k →
-        (k < length (xs ++ record { configuration = next; from = from; letter = l } ∷ []))
-        × ((arrived (xs ++ record { configuration = next; from = from; letter = l } ∷ []) k).configuration ≡ c)
+        (k < length (xs ++ arrival next from l ∷ []))
+        × ((arrived (xs ++ arrival next from l ∷ []) k).configuration ≡ c)
     apart c k n q =
         let g = h.there c k (sym (set_other os next c (Some (length xs)) n) ∙ q) in (
-          (let z = length-append xs (record { configuration = next; from = from; letter = l } ∷ []) in let y = g.0 in omega arith),
-          ap (λ (z : Arrival). z.configuration) (kept_at xs (record { configuration = next; from = from; letter = l } ∷ []) k g.0) ∙ g.1,
+          (let z = length-append xs (arrival next from l ∷ []) in let y = g.0 in omega arith),
+          ap (λ (z : Arrival). z.configuration) (kept_at xs (arrival next from l ∷ []) k g.0) ∙ g.1,
         )
 
-    same : (k : ℕ) → next < length os → arrived (xs ++ record { configuration = next; from = from; letter = l } ∷ []) (length xs)
-        ≡ record { configuration = next; from = from; letter = l } → place_at (set os next (Some (length xs))) next ≡ Some k →
-        (k < length (xs ++ record { configuration = next; from = from; letter = l } ∷ []))
-        × ((arrived (xs ++ record { configuration = next; from = from; letter = l } ∷ []) k).configuration ≡ next)
+    same : (k : ℕ) → next < length os → arrived (xs ++ arrival next from l ∷ []) (length xs)
+        ≡ arrival next from l → place_at (set os next (Some (length xs))) next ≡ Some k →
+        (k < length (xs ++ arrival next from l ∷ []))
+        × ((arrived (xs ++ arrival next from l ∷ []) k).configuration ≡ next)
     same k r u q =
-        subst (λ z. (z < length (xs ++ record { configuration = next; from = from; letter = l } ∷ []))
-        × ((arrived (xs ++ record { configuration = next; from = from; letter = l } ∷ []) z).configuration ≡ next))
+        subst (λ z. (z < length (xs ++ arrival next from l ∷ []))
+        × ((arrived (xs ++ arrival next from l ∷ []) z).configuration ≡ next))
         (same_Some (length xs) k (sym (set_same os next (Some (length xs)) r) ∙ q))
-        ((let z = length-append xs (record { configuration = next; from = from; letter = l } ∷ []) in omega arith), ap (λ (z : Arrival). z.configuration) u)
+        ((let z = length-append xs (arrival next from l ∷ []) in omega arith), ap (λ (z : Arrival). z.configuration) u)
 
     there_more : (c k : ℕ) → place_at (set os next (Some (length xs))) c ≡ Some k → next < length os →
-        arrived (xs ++ record { configuration = next; from = from; letter = l } ∷ []) (length xs) ≡ record { configuration = next; from = from; letter = l } →
-        (k < length (xs ++ record { configuration = next; from = from; letter = l } ∷ []))
-        × ((arrived (xs ++ record { configuration = next; from = from; letter = l } ∷ []) k).configuration ≡ c)
+        arrived (xs ++ arrival next from l ∷ []) (length xs) ≡ arrival next from l →
+        (k < length (xs ++ arrival next from l ∷ []))
+        × ((arrived (xs ++ arrival next from l ∷ []) k).configuration ≡ c)
     there_more c k q r u = ⊎_elim
-        (λ e. subst (λ z. (k < length (xs ++ record { configuration = next; from = from; letter = l } ∷ []))
-        × ((arrived (xs ++ record { configuration = next; from = from; letter = l } ∷ []) k).configuration ≡ z)) e
+        (λ e. subst (λ z. (k < length (xs ++ arrival next from l ∷ []))
+        × ((arrived (xs ++ arrival next from l ∷ []) k).configuration ≡ z)) e
         (same k r u (subst (λ z. place_at (set os next (Some (length xs))) z ≡ Some k) (sym e) q)))
         (λ n. apart c k n q)
         (eq_or_not next c)
 
 pub add_reached : (s : Subject Shape) (xs ys : List Arrival) (os ps : List (Option ℕ)) → Reaches s xs os → (next from : ℕ) (l : Letter) → from < length xs →
     IsFirst s (stepped s (value_of s xs from) l) next → step_listed s (value_of s xs from) l ≡ true → None ≡ place_at os next →
-    ys ≡ xs ++ record { configuration = next; from = from; letter = l } ∷ [] → ps ≡ set os next (Some (length xs)) → Reaches s ys ps
+    ys ≡ xs ++ arrival next from l ∷ [] → ps ≡ set os next (Some (length xs)) → Reaches s ys ps
 add_reached s xs ys os ps h next from l f i t e u v =
-    subst (λ z. Reaches s z ps) (sym u) (subst (λ z. Reaches s (xs ++ record { configuration = next; from = from; letter = l } ∷ []) z) (sym v)
+    subst (λ z. Reaches s z ps) (sym u) (subst (λ z. Reaches s (xs ++ arrival next from l ∷ []) z) (sym v)
     (more_reached s xs os h next from l f i.0 (sym e) t i.1))
 
 -- what a look shows of arrival `from`
@@ -227,9 +229,9 @@ follows_old s xs os h from next k l i e =
     let g = h.there next k (sym e) in (λ t. (k, g.0, subst (λ z. IsFirst s (stepped s (value_of s xs from) l) z) (sym g.1) i))
 
 pub follows_new : (s : Subject Shape) (xs ys : List Arrival) (from next : ℕ) (l : Letter) → from < length xs →
-    IsFirst s (stepped s (value_of s xs from) l) next → ys ≡ xs ++ record { configuration = next; from = from; letter = l } ∷ [] → Follows s ys from l
+    IsFirst s (stepped s (value_of s xs from) l) next → ys ≡ xs ++ arrival next from l ∷ [] → Follows s ys from l
 follows_new s xs ys from next l f i u =
-    let a : Arrival = record { configuration = next; from = from; letter = l } in
+    let a : Arrival = arrival next from l in
     let n : length (xs ++ a ∷ []) ≡ length xs + 1 = length-append xs (a ∷ []) in
     subst (λ z. Follows s z from l) (sym u)
     (λ t. (
@@ -272,6 +274,9 @@ followed_more s xs ys done q f g h k c l = ⊎_elim
     (λ e. follows_grown s xs ys k l (omega arith) g (f k e l))
     (eq-or-lt_of_le (let z : k ≤ done = omega arith in z))
 
+pub arrived_grown : (xs ys : List Arrival) → Grows xs ys → (k : ℕ) → k < length xs → arrived ys k ≡ arrived xs k
+arrived_grown xs ys g k q = ap (λ z. arrived z k) g.1 ∙ kept_at xs g.0 k q
+
 -- the start of a plan
 
 sizes : (rs : List Shape) (cs : List Configuration) → length cs ≡ length (map (λ x. valued rs x) (map (λ x. plain_configuration x) cs))
@@ -298,31 +303,45 @@ plan_some p plan q =
 pub plan_size : (rows : List Row) (p : Pattern) (plan : Plan) → length plan.configurations.items ≡ length (against rows p plan).configurations
 plan_size rows p plan = sizes (plain_plan plan).residuals plan.configurations.items
 
-pub started_plan : (rows : List Row) (p : Pattern) (plan : Plan) (n : ℕ) (arrivals : List Arrival) (places : List (Option ℕ)) →
-    is_plan_of (shape_of p.regex) (plain_plan plan) ≡ true → n ≡ length plan.configurations.items →
-    arrivals ≡ record { configuration = 0; from = 0; letter = Less } ∷ [] → places ≡ set (replicate n None) 0 (Some 0) →
-    Reaches (against rows p plan) arrivals places
-started_plan rows p plan n arrivals places f e a o =
-    started (against rows p plan) n arrivals places (e ∙ plan_size rows p plan) (subst (λ z. 0 < z) (sym e) (plan_some (shape_of p.regex) plan f)) a o
+pub started_tour : (rows : List Row) (p : Pattern) (plan : Plan) (n : ℕ) (t : Tour) → is_plan_of (shape_of p.regex) (plain_plan plan) ≡ true →
+    n ≡ length plan.configurations.items → t.arrivals.items ≡ arrival 0 0 Less ∷ [] → t.places.items ≡ set (replicate n None) 0 (Some 0) →
+    t.failing.items ≡ [] → IsTour (against rows p plan) t
+started_tour rows p plan n t f e a o none =
+    let no : length t.failing.items ≡ 0 = ap (λ (z : List (Option Letter)). length z) none in
+    record {
+      reaches = started (against rows p plan) n t.arrivals.items t.places.items (e ∙ plan_size rows p plan)
+          (subst (λ z. 0 < z) (sym e) (plan_some (shape_of p.regex) plan f)) a o;
+      followed = λ k q. absurd (omega (arith, q, no));
+      judged = λ k x q. absurd (none-some x (subst (λ (z : List (Option Letter)). slice_get z k ≡ Some x) none q));
+      inside = omega (arith, no);
+    }
 
 -- a tour never has more arrivals than there are configurations
 pub few_arrivals : (rows : List Row) (p : Pattern) (plan : Plan) (xs : List Arrival) (os : List (Option ℕ)) → Reaches (against rows p plan) xs os →
     length xs ≤ length plan.configurations.items
 few_arrivals rows p plan xs os h = let c = h.count in let z = h.size in let n = plan_size rows p plan in omega arith
 
--- one letter more on a path
-pub path_on : (xs : List Arrival) (k : ℕ) (v w : List Letter) (last : Arrival) → last ≡ arrived xs k → 0 < k → IsPath xs last.from v →
-    w ≡ v ++ last.letter ∷ [] → IsPath xs k w
-path_on xs k v w last e q g u =
-    PathOn k v w q (subst (λ (z : Arrival). IsPath xs z.from v) e g) (u ∙ ap (λ (z : Arrival). v ++ z.letter ∷ []) e)
+-- each path to arrival `at` goes on by the letters w to arrival k
+abbrev pub Continues : List Arrival → ℕ → ℕ → List Letter → Type 0
+Continues xs k at w = (v : List Letter) → IsPath xs at v → IsPath xs k (v ++ w)
 
-pub match_none : {A : Type 0} (o : Option A) (P : Type 0) (Q : A → Type 0) → MatchOption o P Q → o ≡ None → P
-match_none None P Q m q = m
-match_none (Some x) P Q m q = absurd (none-some x (sym q))
+pub continues_here : (xs : List Arrival) (k : ℕ) → Continues xs k k []
+continues_here xs k v h = subst (λ z. IsPath xs k z) (sym (append-nil v)) h
 
-pub match_some : {A : Type 0} (o : Option A) (P : Type 0) (Q : A → Type 0) (x : A) → MatchOption o P Q → o ≡ Some x → Q x
-match_some None P Q x m q = absurd (none-some x q)
-match_some {A} (Some y) P Q x m q = subst (λ z. Q z) (same x y q) m
-  where
-    same : (x y : A) → Some y ≡ Some x → y ≡ x
-    same x y q = cc
+-- the letters are collected from the last to the first
+pub continues_back : (xs : List Arrival) (k at : ℕ) (back more : List Letter) (last : Arrival) → 0 < at → last ≡ arrived xs at →
+    more ≡ back ++ last.letter ∷ [] → Continues xs k at (reverse back) → Continues xs k last.from (reverse more)
+continues_back xs k at back more last q e u h v path =
+    let on : IsPath xs at (v ++ last.letter ∷ []) =
+    PathOn at v (v ++ last.letter ∷ []) q (subst (λ (z : Arrival). IsPath xs z.from v) e path) (ap (λ (z : Arrival). v ++ z.letter ∷ []) e) in
+    let all : (v ++ last.letter ∷ []) ++ reverse back ≡ v ++ reverse more =
+    append_assoc v (last.letter ∷ []) (reverse back)
+    ∙ ap (λ z. v ++ z) (sym (ap (λ z. reverse z) u ∙ reverse-append back (last.letter ∷ []))) in
+    subst (λ z. IsPath xs k z) all (h (v ++ last.letter ∷ []) on)
+
+pub earlier : (xs : List Arrival) (at : ℕ) (last : Arrival) → last ≡ arrived xs at → 0 < at → at < length xs →
+    ((j : ℕ) → 0 < j → j < length xs → (arrived xs j).from < j) → last.from < length xs
+earlier xs at last e q i back = subst (λ (z : Arrival). z.from < length xs) (sym e) (let b = back at q i in omega (arith, b, i))
+
+pub path_done : (xs : List Arrival) (k at : ℕ) (back w : List Letter) → at ≡ 0 → w ≡ reverse back → Continues xs k at (reverse back) → IsPath xs k w
+path_done xs k at back w q e h = subst (λ z. IsPath xs k z) (sym e) (h [] (PathStart at [] q refl))

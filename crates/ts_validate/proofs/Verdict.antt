@@ -1,8 +1,9 @@
 -- The tour reaches each reached configuration, and so its verdict is that of Closed.
-use Rattle.std.specs.Prelude.{◌≡◌, ℕ, ◌<◌, ◌≤◌, ◌==◌, nat_lt, true, ◌&&◌, List, [], ◌∷◌, Option, Some, map, length, refl}
-use Rattle.std.specs.List.{list_all}
+use Rattle.std.specs.Prelude.{◌≡◌, ℕ, ◌<◌, ◌≤◌, ◌==◌, nat_lt, true, ◌&&◌, List, [], ◌∷◌, Option, None, Some, map, length, get_or, refl}
+use Rattle.std.specs.List.{list_all, slice_get}
 use Rattle.std.proofs.Common.{sym, ◌∙◌, ap, subst, arith}
 use Rattle.std.proofs.lemmas.Bool.{eqb-true, and_parts, false≢true}
+use Rattle.std.proofs.lemmas.Option.{none-some, same_Some, slice_get-get_or}
 use Rattle.ts_base.specs.declared.letter.Letter.{Letter}
 use Rattle.ts_regex.specs.Shape.{Shape, shape_of}
 use Rattle.ts_regex.specs.NormalForm.{normal_form, same_shape}
@@ -14,8 +15,10 @@ use Rattle.ts_pattern.specs.Entries.{Entry}
 use Rattle.ts_pattern.specs.Closed.{PlainConfiguration, Subject, first_passes, stepped, step_listed, meets_checks, LeadsTo, FromStart, OneStepOn, IsClosed}
 use Rattle.ts_pattern.specs.Plans.{plain_plan, valued, is_empty, is_blank, is_plan_of}
 use Rattle.ts_validate.specs.declared.arrival.Arrival.{Arrival}
+use Rattle.ts_validate.specs.declared.arrival.Tour.{Tour}
 use Rattle.ts_validate.specs.declared.failure.Failure.{Failure}
-use Rattle.ts_validate.specs.Reaches.{configuration_at, against, value_at, value_of, IsFirst, arrived, place_at, Reaches, Followed, IsPath, PathStart, PathOn, AllMeetBelow, FailsFirst}
+use Rattle.ts_validate.specs.Reaches.{configuration_at, against, value_at, value_of, IsFirst, arrived, place_at, Reaches, IsTour, IsPath, PathStart, PathOn, AllMeet, FailsFirst}
+use Rattle.ts_validate.specs.Failures.{failure_on, failure_from, failure_at}
 use Rattle.ts_validate.specs.Refusals.{IsRefusal}
 
 abbrev blank : PlainConfiguration Shape
@@ -49,32 +52,51 @@ start_value rows p plan q =
 abbrev Arrives : Subject Shape → List Arrival → PlainConfiguration Shape → Type 0
 Arrives s xs x = (m : ℕ) × (m < length xs) × IsFirst s x (arrived xs m).configuration
 
-complete : (s : Subject Shape) (xs : List Arrival) (os : List (Option ℕ)) → Reaches s xs os → Followed s xs (length xs) → value_at s 0 ≡ blank →
-    (w : List Letter) (x : PlainConfiguration Shape) → LeadsTo s w x → Arrives s xs x
-complete s xs os h f b w x (FromStart w' x' e q) = (
+complete : (s : Subject Shape) (t : Tour) → IsTour s t → length t.failing.items ≡ length t.arrivals.items → value_at s 0 ≡ blank →
+    (w : List Letter) (x : PlainConfiguration Shape) → LeadsTo s w x → Arrives s t.arrivals.items x
+complete s t h full b w x (FromStart w' x' e q) = (
   0,
-  h.some,
-  subst (λ z. IsFirst s x z) (sym h.start)
-      ((let i = h.inside 0 h.some in let t = h.start in omega arith), b ∙ sym q, λ j c d. absurd (omega (arith, c))),
+  h.reaches.some,
+  subst (λ z. IsFirst s x z) (sym h.reaches.start)
+      ((let i = h.reaches.inside 0 h.reaches.some in let z = h.reaches.start in omega arith), b ∙ sym q, λ j c d. absurd (omega (arith, c))),
 )
-complete s xs os h f b w x (OneStepOn v w' y x' l g t e q) = go (complete s xs os h f b v y g) t q
+complete s t h full b w x (OneStepOn v w' y x' l g u e q) = go (complete s t h full b v y g) u q
   where
-    go : Arrives s xs y → step_listed s y l ≡ true → x ≡ stepped s y l → Arrives s xs x
-    go a t q =
-        let same : value_of s xs a.0 ≡ y = a.2.1 in
-        let m = f a.0 a.1 l (subst (λ z. step_listed s z l ≡ true) (sym same) t) in
-        (m.0, m.1, subst (λ z. IsFirst s z (arrived xs m.0).configuration) (ap (λ z. stepped s z l) same ∙ sym q) m.2)
+    go : Arrives s t.arrivals.items y → step_listed s y l ≡ true → x ≡ stepped s y l → Arrives s t.arrivals.items x
+    go a u q =
+        let same : value_of s t.arrivals.items a.0 ≡ y = a.2.1 in
+        let m = h.followed a.0 (let i = a.1 in omega (arith, i, full)) l (subst (λ z. step_listed s z l ≡ true) (sym same) u) in
+        (m.0, m.1, subst (λ z. IsFirst s z (arrived t.arrivals.items m.0).configuration) (ap (λ z. stepped s z l) same ∙ sym q) m.2)
 
-arrives_meets : (s : Subject Shape) (xs : List Arrival) (os : List (Option ℕ)) → Reaches s xs os → (n : ℕ) → AllMeetBelow s os n →
-    (x : PlainConfiguration Shape) (a : Arrives s xs x) → (arrived xs a.0).configuration < n → (l : Letter) → meets_checks s x l ≡ true
-arrives_meets s xs os h n m x a c l = subst (λ z. meets_checks s z l ≡ true) a.2.1 (m (arrived xs a.0).configuration a.0 c (h.back a.0 a.1) l)
+-- where no failure is found at an arrival, the checks hold there
+meets_there : (s : Subject Shape) (t : Tour) → IsTour s t → length t.failing.items ≡ length t.arrivals.items → (k : ℕ) → k < length t.arrivals.items →
+    failure_at t (arrived t.arrivals.items k).configuration ≡ None → AllMeet s (arrived t.arrivals.items k).configuration
+meets_there s t h full k q none =
+    go (get_or t.failing.items k None) (slice_get-get_or t.failing.items k None (omega (arith, q, full)))
+    (sym (ap (λ z. failure_from t (arrived t.arrivals.items k).configuration z) (h.reaches.back k q)) ∙ none)
+  where
+    go : (o : Option Letter) → slice_get t.failing.items k ≡ Some o →
+        failure_on (arrived t.arrivals.items k).configuration k (slice_get t.failing.items k) ≡ None →
+        AllMeet s (arrived t.arrivals.items k).configuration
+    go None e n = h.judged k None e
+    go (Some l) e n =
+        let c = (arrived t.arrivals.items k).configuration in
+        absurd (none-some (record { configuration = c; place = k; letter = l }) (sym n ∙ ap (λ z. failure_on c k z) e))
 
-pub closed_is : (rows : List Row) (p : Pattern) (plan : Plan) → is_plan_of (shape_of p.regex) (plain_plan plan) ≡ true →
-    (xs : List Arrival) (os : List (Option ℕ)) → Reaches (against rows p plan) xs os → Followed (against rows p plan) xs (length xs) →
-    AllMeetBelow (against rows p plan) os (length os) → IsClosed (against rows p plan)
-closed_is rows p plan f xs os h g m x r l =
-    let a = complete (against rows p plan) xs os h g (start_value rows p plan f) r.0 x r.1 in
-    arrives_meets (against rows p plan) xs os h (length os) m x a (let i = h.inside a.0 a.1 in let z = h.size in omega arith) l
+-- the checks hold at each reached configuration that arrived below a number without a failure
+arrives_meets : (s : Subject Shape) (t : Tour) → IsTour s t → length t.failing.items ≡ length t.arrivals.items → (n : ℕ) →
+    ((i : ℕ) → i < n → failure_at t i ≡ None) → (x : PlainConfiguration Shape) (a : Arrives s t.arrivals.items x) →
+    (arrived t.arrivals.items a.0).configuration < n → (l : Letter) → meets_checks s x l ≡ true
+arrives_meets s t h full n none x a c l =
+    subst (λ z. meets_checks s z l ≡ true) a.2.1 (meets_there s t h full a.0 a.1 (none (arrived t.arrivals.items a.0).configuration c) l)
+
+pub closed_is : (rows : List Row) (p : Pattern) (plan : Plan) → is_plan_of (shape_of p.regex) (plain_plan plan) ≡ true → (t : Tour) →
+    IsTour (against rows p plan) t → length t.failing.items ≡ length t.arrivals.items →
+    ((i : ℕ) → i < length t.places.items → failure_at t i ≡ None) → IsClosed (against rows p plan)
+closed_is rows p plan f t h full none x r l =
+    let s : Subject Shape = against rows p plan in
+    let a = complete s t h full (start_value rows p plan f) r.0 x r.1 in
+    arrives_meets s t h full (length t.places.items) none x a (let i = h.reaches.inside a.0 a.1 in let z = h.reaches.size in omega arith) l
 
 -- the path to an arrival
 
@@ -90,23 +112,43 @@ path_leads s xs os h b k w (PathOn k' v w' d g e) c =
 before : (m n : ℕ) → (m < n → ⊥) → n ≤ m
 before m n h = omega (arith, h)
 
-pub refusal_is : (rows : List Row) (p : Pattern) (plan : Plan) → is_plan_of (shape_of p.regex) (plain_plan plan) ≡ true →
-    (xs : List Arrival) (os : List (Option ℕ)) → Reaches (against rows p plan) xs os → Followed (against rows p plan) xs (length xs) →
-    (f : Failure) → (f.configuration < length os) × (place_at os f.configuration ≡ Some f.place) × FailsFirst (against rows p plan) f.configuration f.letter
-    × AllMeetBelow (against rows p plan) os f.configuration →
-    (w : List Letter) → IsPath xs f.place w → IsRefusal (against rows p plan) f.configuration f.letter w
-refusal_is rows p plan q xs os h g f m w path =
+-- a failure stands at an arrival, and the checks fail there
+pub failure_tells : (s : Subject Shape) (t : Tour) → IsTour s t → (i : ℕ) (f : Failure) → failure_at t i ≡ Some f →
+    (place_at t.places.items i ≡ Some f.place) × FailsFirst s i f.letter
+failure_tells s t h i f q = from (place_at t.places.items i) refl q
+  where
+    on : (k : ℕ) → place_at t.places.items i ≡ Some k → (o : Option (Option Letter)) → slice_get t.failing.items k ≡ o → failure_on i k o ≡ Some f →
+        (place_at t.places.items i ≡ Some f.place) × FailsFirst s i f.letter
+    on k p None e q = absurd (none-some f q)
+    on k p (Some None) e q = absurd (none-some f q)
+    on k p (Some (Some l)) e q =
+        subst (λ (z : Failure). (place_at t.places.items i ≡ Some z.place) × FailsFirst s i z.letter)
+        (same_Some (record { configuration = i; place = k; letter = l }) f q)
+        (p, subst (λ z. FailsFirst s z l) (h.reaches.there i k p).1 (h.judged k (Some l) e))
+
+    from : (o : Option ℕ) → place_at t.places.items i ≡ o → failure_from t i o ≡ Some f →
+        (place_at t.places.items i ≡ Some f.place) × FailsFirst s i f.letter
+    from None e q = absurd (none-some f q)
+    from (Some k) e q = on k e (slice_get t.failing.items k) refl q
+
+pub refusal_is : (rows : List Row) (p : Pattern) (plan : Plan) → is_plan_of (shape_of p.regex) (plain_plan plan) ≡ true → (t : Tour) →
+    IsTour (against rows p plan) t → length t.failing.items ≡ length t.arrivals.items → (f : Failure) → f.configuration < length t.places.items →
+    failure_at t f.configuration ≡ Some f → ((i : ℕ) → i < f.configuration → failure_at t i ≡ None) →
+    (w : List Letter) → IsPath t.arrivals.items f.place w → IsRefusal (against rows p plan) f.configuration f.letter w
+refusal_is rows p plan q t h full f room at none w path =
     let s : Subject Shape = against rows p plan in
     let b : value_at s 0 ≡ blank = start_value rows p plan q in
-    let t = h.there f.configuration f.place m.1 in
-    let leads : LeadsTo s w (value_at s f.configuration) = subst (λ z. LeadsTo s w (value_at s z)) t.1 (path_leads s xs os h b f.place w path t.0) in
+    let m = failure_tells s t h f.configuration f at in
+    let there = h.reaches.there f.configuration f.place m.0 in
+    let leads : LeadsTo s w (value_at s f.configuration) =
+    subst (λ z. LeadsTo s w (value_at s z)) there.1 (path_leads s t.arrivals.items t.places.items h.reaches b f.place w path there.0) in
     record {
-      listed = (let z = h.size in let c = m.0 in omega arith);
+      listed = (let z = h.reaches.size in omega (arith, room));
       leads = leads;
-      fails = m.2;
+      fails = m.1;
       least = λ i c r l.
-          let a = complete s xs os h g b r.0 (value_at s i) r.1 in
-          let n : (arrived xs a.0).configuration ≤ i = before i (arrived xs a.0).configuration (λ z. a.2.2 i z refl) in
-          arrives_meets s xs os h f.configuration m.3 (value_at s i) a (omega arith) l;
-      refutes = λ c. false≢true (sym m.2.0 ∙ c (value_at s f.configuration) (w, leads) f.letter);
+          let a = complete s t h full b r.0 (value_at s i) r.1 in
+          let n : (arrived t.arrivals.items a.0).configuration ≤ i = before i (arrived t.arrivals.items a.0).configuration (λ z. a.2.2 i z refl) in
+          arrives_meets s t h full f.configuration none (value_at s i) a (omega (arith, n, c)) l;
+      refutes = λ c. false≢true (sym m.1.0 ∙ c (value_at s f.configuration) (w, leads) f.letter);
     }

@@ -4,5 +4,7 @@ pub mod Facts
 pub mod Looks
 pub mod Reaches
 pub mod Refusals
+pub mod Failures
+pub mod Trials
 pub mod FirstFalse
 pub mod Validations

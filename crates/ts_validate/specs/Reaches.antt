@@ -1,6 +1,6 @@
 -- What a search for the reached configurations of a plan has found: each arrival, and at each number the place of its
 -- arrival.
-use Rattle.std.specs.Prelude.{◌≡◌, ℕ, zero, suc, ◌+◌, ◌<◌, true, false, List, [], ◌∷◌, ◌++◌, Option, None, Some, length, slice_index_or}
+use Rattle.std.specs.Prelude.{◌≡◌, ℕ, zero, suc, ◌+◌, ◌<◌, ◌≤◌, true, false, List, [], ◌∷◌, ◌++◌, Option, None, Some, MatchOption, length, slice_get, slice_index_or}
 use Rattle.ts_base.specs.declared.letter.Letter.{Letter}
 use Rattle.ts_base.specs.declared.letter.Letter.TheVariants.{Less, Equal, Greater}
 use Rattle.ts_regex.specs.Shape.{Shape, shape_of}
@@ -11,6 +11,7 @@ use Rattle.ts_pattern.specs.Plans.{plain_plan, subject}
 use Rattle.ts_pattern.specs.Closed.{PlainConfiguration, Subject, stepped, step_listed, meets_checks}
 use Rattle.ts_validate.specs.declared.step.Look.{Look}
 use Rattle.ts_validate.specs.declared.arrival.Arrival.{Arrival}
+use Rattle.ts_validate.specs.declared.arrival.Tour.{Tour}
 
 abbrev pub configuration_at : {R : Type 0} → List (PlainConfiguration R) → ℕ → PlainConfiguration R
 configuration_at [] i = record { state = 0; live = [] }
@@ -35,9 +36,13 @@ pub record Sees (s : Subject Shape) (x : PlainConfiguration Shape) (l : Letter) 
   pub some : (j : ℕ) → k.next ≡ Some j → (step_listed s x l ≡ true) × IsFirst s (stepped s x l) j
   pub meets : k.meets ≡ meets_checks s x l
 
+-- one more arrival
+abbrev pub arrival : ℕ → ℕ → Letter → Arrival
+arrival configuration from l = record { configuration = configuration; from = from; letter = l }
+
 -- arrival k, and the place at number c
 abbrev pub arrived : List Arrival → ℕ → Arrival
-arrived arrivals k = slice_index_or arrivals k (record { configuration = 0; from = 0; letter = Less })
+arrived arrivals k = slice_index_or arrivals k (arrival 0 0 Less)
 
 abbrev pub place_at : List (Option ℕ) → ℕ → Option ℕ
 place_at places c = slice_index_or places c None
@@ -104,6 +109,15 @@ MeetsBefore s i Greater = (meets_checks s (value_at s i) Less ≡ true) × (meet
 abbrev pub FailsFirst : Subject Shape → ℕ → Letter → Type 0
 FailsFirst s i l = (meets_checks s (value_at s i) l ≡ false) × MeetsBefore s i l
 
--- the checks hold at each configuration below n that has arrived
-abbrev pub AllMeetBelow : Subject Shape → List (Option ℕ) → ℕ → Type 0
-AllMeetBelow s places n = (c k : ℕ) → c < n → place_at places c ≡ Some k → AllMeet s c
+-- of each arrival whose steps were taken: the first letter on which a check fails there, if one does
+abbrev pub Judged : Subject Shape → List Arrival → List (Option Letter) → Type 0
+Judged s arrivals failing =
+    (k : ℕ) (o : Option Letter) → slice_get failing k ≡ Some o →
+    MatchOption o (AllMeet s (arrived arrivals k).configuration) (λ l. FailsFirst s (arrived arrivals k).configuration l)
+
+-- a tour: its arrivals are reached, and the steps of the first of them were taken and judged
+pub record IsTour (s : Subject Shape) (t : Tour) : Type 0 where
+  pub reaches : Reaches s t.arrivals.items t.places.items
+  pub followed : Followed s t.arrivals.items (length t.failing.items)
+  pub judged : Judged s t.arrivals.items t.failing.items
+  pub inside : length t.failing.items ≤ length t.arrivals.items

@@ -1,19 +1,12 @@
 -- Why a plan isn't closed: the least reached configuration at which a check fails, the first letter there, and the signs
 -- that lead to it.
-use Rattle.std.specs.Prelude.{◌≡◌, ℕ, ◌<◌, List, Option, Some, length}
+use Rattle.std.specs.Prelude.{◌≡◌, ℕ, ◌<◌, List, length}
 use Rattle.ts_base.specs.declared.letter.Letter.{Letter}
 use Rattle.ts_regex.specs.Shape.{Shape}
 use Rattle.ts_pattern.specs.Closed.{Subject, LeadsTo, Reached, IsClosed}
-use Rattle.ts_validate.specs.declared.failure.Failure.{Failure}
 use Rattle.ts_validate.specs.declared.stop.ValidateStop.{ValidateStop}
 use Rattle.ts_validate.specs.declared.stop.ValidateStop.TheVariants.{Refused, Memory}
-use Rattle.ts_validate.specs.Reaches.{value_at, place_at, AllMeet, AllMeetBelow, FailsFirst}
-
--- what the search for it finds
-abbrev pub IsFailure : Subject Shape → List (Option ℕ) → Failure → Type 0
-IsFailure s places f =
-    (f.configuration < length places) × (place_at places f.configuration ≡ Some f.place)
-    × FailsFirst s f.configuration f.letter × AllMeetBelow s places f.configuration
+use Rattle.ts_validate.specs.Reaches.{value_at, AllMeet, FailsFirst}
 
 pub record IsRefusal (s : Subject Shape) (configuration : ℕ) (letter : Letter) (signature : List Letter) : Type 0 where
   pub listed : configuration < length s.configurations

@@ -1,18 +1,14 @@
-//! The configurations of a plan that are reached, and how.
+//! The configurations of a plan that are reached, how they are reached, and whether the checks hold there.
 
-ghost use Rattle.std.specs.Prelude.{◌≡◌, ◌<◌, ◌++◌, [], ◌∷◌, ℕ, Option, IsTrue, IfOk, length, replicate, slice_set};
-ghost use Rattle.ts_base.specs.declared.letter.Letter.{Letter};
-ghost use Rattle.ts_regex.specs.Shape.{shape_of};
-ghost use Rattle.ts_pattern.specs.Plans.{plain_plan, is_plan_of};
-ghost use Rattle.ts_validate.specs.Numbers.{knowns};
-ghost use Rattle.ts_validate.specs.Reaches.{against, value_at, Sees, arrived, place_at, Reaches, Follows, Followed, Grows, IsPath};
+ghost use Rattle.std.specs.Prelude.{◌≡◌, ◌<◌, ◌+◌, ◌++◌, [], ◌∷◌, ℕ, Option, IfOk, length, replicate, slice_set};
+ghost use Rattle.ts_pattern.specs.Closed.{meets_checks};
+ghost use Rattle.ts_validate.specs.Trials.{subject_of};
+ghost use Rattle.ts_validate.specs.FirstFalse.{first_false};
+ghost use Rattle.ts_validate.specs.Reaches.{value_of, arrival, arrived, place_at, Reaches, Follows, Grows, IsTour, IsPath};
 
-use crate::known::Known;
-use crate::step::{Look, look_at};
+use crate::trial::Trial;
 use std::alloc::Global;
 use ts_base::{Letter, Memory};
-use ts_pattern::{Pattern, Plan};
-use ts_transducer::Row;
 
 /// A configuration, and the arrival from which it was reached on a letter; the first one has none.
 #[derive(Clone, Copy, Debug, PartialEq, Eq)]
@@ -22,39 +18,22 @@ pub struct Arrival {
     pub letter: Letter,
 }
 
-/// The arrivals in their order, and of each configuration the place of its arrival.
+/// The arrivals in their order, of each configuration the place of its arrival, and of each arrival whose steps were
+/// taken the first letter on which a check fails.
 #[derive(Debug, Drop)]
 pub struct Tour {
     pub arrivals: Vec<Arrival>,
     pub places: Vec<Option<usize>>,
-}
-
-/// The step of configuration `i` on a letter.
-pub fn look(
-    alloc: Global,
-    rows: &[Row],
-    p: &Pattern,
-    plan: &Plan,
-    table: &[Known],
-    i: usize,
-    letter: Letter,
-) -> Result<Look, Memory>
-    requires fits { IsTrue (is_plan_of (shape_of p.now.regex) (plain_plan plan.now)) }
-    requires known { table.now ≡ knowns (plain_plan plan.now).residuals }
-    requires place { i < length plan.now.configurations.items }
-    ensures { IfOk result (λ k. Sees (against rows.now p.now plan.now) (value_at (against rows.now p.now plan.now) i) letter k) }
-{
-    let configurations = plan.configurations.as_slice();
-    let here = &configurations[i];
-    Ok(look_at(alloc, rows, table, p.b, configurations, here, letter)?)
+    pub failing: Vec<Option<Letter>>,
 }
 
 impl Tour {
     /// Of so many configurations the first has arrived.
     fn start(alloc: Global, n: usize) -> Result<Tour, Memory>
         requires { 0 < n }
-        ensures arrivals { IfOk result (λ t. t.arrivals.items ≡ record { configuration = 0; from = 0; letter = Letter.Less } ∷ []) }
+        ensures arrivals { IfOk result (λ t. t.arrivals.items ≡ arrival 0 0 Letter.Less ∷ []) }
         ensures places { IfOk result (λ t. t.places.items ≡ slice_set (replicate n None) 0 (Some 0)) }
+        ensures failing { IfOk result (λ t. t.failing.items ≡ []) }
     {
         let mut places: Vec<Option<usize>> = vec![in alloc; None; n]?;
         places[0] = Some(0);
@@ -64,7 +43,12 @@ impl Tour {
             from: 0,
             letter: Letter::Less,
         })?;
-        Ok(Tour { arrivals, places })
+        let failing = Vec::new(alloc);
+        Ok(Tour {
+            arrivals,
+            places,
+            failing,
+        })
     }
 
     /// The place of the arrival at configuration `c`, if it was reached.
@@ -84,8 +68,11 @@ impl Tour {
 
     fn add(&mut self, configuration: usize, from: usize, letter: Letter) -> Result<(), Memory>
         requires { configuration < length self.old.places.items }
-        ensures arrivals { IfOk result (λ _. self.new.arrivals.items ≡ self.old.arrivals.items ++ record { configuration = configuration; from = from; letter = letter } ∷ []) }
-        ensures places { IfOk result (λ _. self.new.places.items ≡ slice_set self.old.places.items configuration (Some (length self.old.arrivals.items))) }
+        ensures arrivals { IfOk result (λ _. self.new.arrivals.items
+            ≡ self.old.arrivals.items ++ arrival configuration from letter ∷ []) }
+        ensures places { IfOk result (λ _. self.new.places.items
+            ≡ slice_set self.old.places.items configuration (Some (length self.old.arrivals.items))) }
+        ensures failing { IfOk result (λ _. self.new.failing.items ≡ self.old.failing.items) }
     {
         let place = self.arrivals.len();
         self.arrivals.push(Arrival {
@@ -97,98 +84,93 @@ impl Tour {
         Ok(())
     }
 
-    /// Takes the step of an arrival on a letter.
+    /// Takes the step of an arrival on a letter; whether the checks hold there.
     fn expand(
         &mut self,
         alloc: Global,
-        rows: &[Row],
-        p: &Pattern,
-        plan: &Plan,
-        table: &[Known],
+        trial: &Trial,
         from: usize,
         letter: Letter,
-    ) -> Result<(), Memory>
-        requires fits { IsTrue (is_plan_of (shape_of p.now.regex) (plain_plan plan.now)) }
-        requires known { table.now ≡ knowns (plain_plan plan.now).residuals }
-        requires reaches { Reaches (against rows.now p.now plan.now) self.old.arrivals.items self.old.places.items }
+    ) -> Result<bool, Memory>
+        requires reaches { Reaches (subject_of trial.now) self.old.arrivals.items self.old.places.items }
         requires there { from < length self.old.arrivals.items }
-        ensures reaches { IfOk result (λ _. Reaches (against rows.now p.now plan.now) self.new.arrivals.items self.new.places.items) }
+        ensures reaches { IfOk result (λ _. Reaches (subject_of trial.now) self.new.arrivals.items self.new.places.items) }
         ensures grows { IfOk result (λ _. Grows self.old.arrivals.items self.new.arrivals.items) }
-        ensures follows { IfOk result (λ _. Follows (against rows.now p.now plan.now) self.new.arrivals.items from letter) }
+        ensures follows { IfOk result (λ _. Follows (subject_of trial.now) self.new.arrivals.items from letter) }
+        ensures failing { IfOk result (λ _. self.new.failing.items ≡ self.old.failing.items) }
+        ensures meets { IfOk result (λ b. b
+            ≡ meets_checks (subject_of trial.now) (value_of (subject_of trial.now) self.old.arrivals.items from) letter) }
     {
         let here = self.arrival(from).configuration;
-        let seen = look(alloc, rows, p, plan, table, here, letter)?;
+        let seen = trial.look(alloc, here, letter)?;
         match seen.next {
-            None => Ok(()),
+            None => Ok(seen.meets),
             Some(next) => match self.place(next) {
-                Some(_) => Ok(()),
+                Some(_) => Ok(seen.meets),
                 None => {
                     self.add(next, from, letter)?;
-                    Ok(())
+                    Ok(seen.meets)
                 }
             },
         }
     }
 
-    /// Takes the steps of an arrival on all letters.
-    fn expand_all(
-        &mut self,
-        alloc: Global,
-        rows: &[Row],
-        p: &Pattern,
-        plan: &Plan,
-        table: &[Known],
-        from: usize,
-    ) -> Result<(), Memory>
-        requires fits { IsTrue (is_plan_of (shape_of p.now.regex) (plain_plan plan.now)) }
-        requires known { table.now ≡ knowns (plain_plan plan.now).residuals }
-        requires reaches { Reaches (against rows.now p.now plan.now) self.old.arrivals.items self.old.places.items }
-        requires there { from < length self.old.arrivals.items }
-        ensures reaches { IfOk result (λ _. Reaches (against rows.now p.now plan.now) self.new.arrivals.items self.new.places.items) }
-        ensures grows { IfOk result (λ _. Grows self.old.arrivals.items self.new.arrivals.items) }
-        ensures follows { IfOk result (λ _. (l : Letter) → Follows (against rows.now p.now plan.now) self.new.arrivals.items from l) }
+    /// Takes the steps of the next arrival on all letters.
+    fn expand_next(&mut self, alloc: Global, trial: &Trial) -> Result<(), Memory>
+        requires tour { IsTour (subject_of trial.now) self.old }
+        requires more { length self.old.failing.items < length self.old.arrivals.items }
+        ensures tour { IfOk result (λ _. IsTour (subject_of trial.now) self.new) }
+        ensures one { IfOk result (λ _. length self.new.failing.items ≡ length self.old.failing.items + 1) }
     {
-        self.expand(alloc, rows, p, plan, table, from, Letter::Less)?;
-        self.expand(alloc, rows, p, plan, table, from, Letter::Equal)?;
-        self.expand(alloc, rows, p, plan, table, from, Letter::Greater)?;
+        let from = self.failing.len();
+        let less = self.expand(alloc, trial, from, Letter::Less)?;
+        let equal = self.expand(alloc, trial, from, Letter::Equal)?;
+        let greater = self.expand(alloc, trial, from, Letter::Greater)?;
+        self.failing.push(first_false(less, equal, greater))?;
         Ok(())
     }
 
     /// The letters from the start to an arrival.
     pub fn signature(&self, alloc: Global, k: usize) -> Result<Vec<Letter>, Memory>
         requires there { k < length self.now.arrivals.items }
-        requires back { (j : ℕ) → 0 < j → j < length self.now.arrivals.items → (arrived self.now.arrivals.items j).from < j }
+        requires back { (j : ℕ) → 0 < j → j < length self.now.arrivals.items
+            → (arrived self.now.arrivals.items j).from < j }
         ensures { IfOk result (λ w. IsPath self.now.arrivals.items k w.items) }
     {
-        if k == 0 {
-            return Ok(Vec::new(alloc));
+        let mut at = k;
+        let mut signature = Vec::new(alloc);
+        while at != 0 {
+            let last = self.arrival(at);
+            signature.push(last.letter)?;
+            at = last.from;
         }
-        let last = self.arrival(k);
-        let mut signature = self.signature(alloc, last.from)?;
-        signature.push(last.letter)?;
+        signature.reverse();
         Ok(signature)
     }
 }
 
-/// All configurations that are reached, by listed steps from the first.
-pub fn reach(
-    alloc: Global,
-    rows: &[Row],
-    p: &Pattern,
-    plan: &Plan,
-    table: &[Known],
-) -> Result<Tour, Memory>
-    requires fits { IsTrue (is_plan_of (shape_of p.now.regex) (plain_plan plan.now)) }
-    requires known { table.now ≡ knowns (plain_plan plan.now).residuals }
-    ensures reaches { IfOk result (λ t. Reaches (against rows.now p.now plan.now) t.arrivals.items t.places.items) }
-    ensures followed { IfOk result (λ t. Followed (against rows.now p.now plan.now) t.arrivals.items (length t.arrivals.items)) }
+fn first_false(less: bool, equal: bool, greater: bool) -> Option<Letter>
+    ensures { result ≡ first_false less equal greater }
 {
-    let configurations = plan.configurations.as_slice();
-    let mut tour = Tour::start(alloc, configurations.len())?;
-    let mut done = 0;
-    while done < tour.arrivals.len() {
-        tour.expand_all(alloc, rows, p, plan, table, done)?;
-        done += 1;
+    if !less {
+        Some(Letter::Less)
+    } else if !equal {
+        Some(Letter::Equal)
+    } else if !greater {
+        Some(Letter::Greater)
+    } else {
+        None
+    }
+}
+
+/// All configurations that are reached, by listed steps from the first.
+pub fn reach(alloc: Global, trial: &Trial) -> Result<Tour, Memory>
+    ensures tour { IfOk result (λ t. IsTour (subject_of trial.now) t) }
+    ensures full { IfOk result (λ t. length t.failing.items ≡ length t.arrivals.items) }
+{
+    let mut tour = Tour::start(alloc, trial.plan.configurations.len())?;
+    while tour.failing.len() < tour.arrivals.len() {
+        tour.expand_next(alloc, trial)?;
     }
     Ok(tour)
 }

@@ -12,8 +12,8 @@ ghost use Rattle.ts_validate.specs.Refusals.{IsStop};
 
 use crate::arrival::reach;
 use crate::failure::first_failure;
-use crate::known::know_all;
 use crate::stop::ValidateStop;
+use crate::trial::Trial;
 use crate::validated::Validated;
 use std::alloc::Global;
 use ts_base::Memory;
@@ -28,10 +28,9 @@ fn check(alloc: Global, rows: &[Row], p: &Pattern, plan: &Plan) -> Result<(), Va
     ensures closed { OnOk result (IsClosed (against rows.now p.now plan.now)) }
     ensures refused { IfErr result (λ e. IsStop (against rows.now p.now plan.now) e) }
 {
-    let table = know_all(alloc, plan.residuals.as_slice())?;
-    let known = table.as_slice();
-    let tour = reach(alloc, rows, p, plan, known)?;
-    match first_failure(alloc, rows, p, plan, known, &tour)? {
+    let trial = Trial::new(alloc, rows, p, plan)?;
+    let tour = reach(alloc, &trial)?;
+    match first_failure(&tour) {
         None => Ok(()),
         Some(failure) => {
             let signature = tour.signature(alloc, failure.place)?;
@@ -73,7 +72,8 @@ pub fn validate(
     ensures closed { OnOk result (IsClosed (against (rows_of t) p.now plan.now)) }
     ensures valid { OnOk result (IsValid (rows_of t) (shape_of p.now.regex) p.now.b p.now.a) }
     ensures transducer { IfOk result (λ v. rows_of (transducer_of v) ≡ rows_of t) }
-    ensures pattern { IfOk result (λ v. (shape_of (pattern_of v).regex ≡ shape_of p.now.regex) × ((pattern_of v).b ≡ p.now.b) × ((pattern_of v).a ≡ p.now.a)) }
+    ensures pattern { IfOk result (λ v. (shape_of (pattern_of v).regex ≡ shape_of p.now.regex)
+        × ((pattern_of v).b ≡ p.now.b) × ((pattern_of v).a ≡ p.now.a)) }
     ensures refused { IfErr result (λ e. IsStop (against (rows_of t) p.now plan.now) e) }
 {
     check(alloc, t.rows(), p, plan)?;

@@ -23,6 +23,7 @@ pub mod laws;
 mod step;
 mod stop;
 mod tags;
+mod trial;
 mod validated;
 
 pub use closure::validate;
