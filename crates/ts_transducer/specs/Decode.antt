@@ -1,6 +1,7 @@
 -- The ranges that a transducer makes of a signature by the phase letters of its moves (Global Constraint Catalog, Volume II).
 -- A start d and a range c may be kept; both are empty at first. a is 1 where the last cell of an occurrence is left out, else 0.
 use Rattle.std.specs.Prelude.{ℕ, zero, suc, ◌+◌, ◌-◌, List, [], ◌∷◌, ◌++◌, Option, None, Some}
+use Rattle.std.specs.Option.{option_to_list}
 use Rattle.ts_base.specs.declared.letter.Letter.{Letter}
 use Rattle.ts_base.specs.declared.letter.Letter.TheVariants.{Less, Equal, Greater}
 use Rattle.ts_base.specs.declared.range.Range.{Range}
@@ -53,18 +54,17 @@ emitted_at Found a k d c = None
 emitted_at FoundE a k d c = Some (record { first = begins k d; last = k + 1 - a })
 emitted_at Inside a k d c = None
 
--- a list of one or none
-abbrev pub listed : {X : Type 0} → Option X → List X
-listed None = []
-listed (Some x) = x ∷ []
+-- a move that does nothing and leads to the start
+abbrev pub resting_arrow : Arrow
+resting_arrow = record { phase = Out; next = 0 }
 
 -- a row that stays at the start and does nothing
-abbrev pub resting : Row
-resting =
-    record { kind = Idle; less = record { phase = Out; next = 0 }; equal = record { phase = Out; next = 0 }; greater = record { phase = Out; next = 0 } }
+abbrev pub resting_row : Row
+resting_row = record { kind = Idle; less = resting_arrow; equal = resting_arrow; greater = resting_arrow }
 
+-- the row of a state; one that rests where there is none
 abbrev pub row_at : List Row → ℕ → Row
-row_at [] q = resting
+row_at [] q = resting_row
 row_at (r ∷ rows) zero = r
 row_at (r ∷ rows) (suc q) = row_at rows q
 
@@ -74,12 +74,19 @@ arrow_on Less r = r.less
 arrow_on Equal r = r.equal
 arrow_on Greater r = r.greater
 
+-- the move of the state q on a letter
+abbrev pub arrow_at : List Row → ℕ → Letter → Arrow
+arrow_at rows q l = arrow_on l (row_at rows q)
+
 -- what is emitted by the signs w, from the state q, after k signs
 abbrev pub decode_from : List Row → ℕ → ℕ → ℕ → Option ℕ → Option Range → List Letter → List Range
-decode_from rows a k q d c [] = listed c
+decode_from rows a k q d c [] = option_to_list c
 decode_from rows a k q d c (l ∷ w) =
-    listed (emitted_at (arrow_on l (row_at rows q)).phase a (k + 1) d c)
-    ++ decode_from rows a (k + 1) (arrow_on l (row_at rows q)).next (start_after (arrow_on l (row_at rows q)).phase (k + 1) d) (held_after (arrow_on l (row_at rows q)).phase a (k + 1) d c) w
+    option_to_list (emitted_at (arrow_at rows q l).phase a (k + 1) d c)
+    ++ decode_from rows a (k + 1) (arrow_at rows q l).next
+    (start_after (arrow_at rows q l).phase (k + 1) d)
+    (held_after (arrow_at rows q l).phase a (k + 1) d c)
+    w
 
 -- the ranges emitted over a whole signature, the one emitted at the end among them
 abbrev pub decode : List Row → ℕ → List Letter → List Range

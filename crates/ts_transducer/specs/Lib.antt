@@ -1,3 +1,5 @@
 pub mod Typing
 pub mod Decode
 pub mod Rows
+pub mod Inside
+pub mod Keeps

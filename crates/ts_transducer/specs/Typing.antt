@@ -11,24 +11,20 @@ use Rattle.ts_transducer.specs.declared.row.Row.{Row}
 
 abbrev pub is_idle : Kind → Bool
 is_idle Idle = true
-is_idle Pending = false
-is_idle Held = false
+is_idle k = false
 
 abbrev pub is_pending : Kind → Bool
-is_pending Idle = false
 is_pending Pending = true
-is_pending Held = false
+is_pending k = false
 
 abbrev pub is_held : Kind → Bool
-is_held Idle = false
-is_held Pending = false
 is_held Held = true
+is_held k = false
 
 -- no range is held
 abbrev pub is_free : Kind → Bool
-is_free Idle = true
-is_free Pending = true
 is_free Held = false
+is_free k = true
 
 -- from, letter, to
 abbrev pub may_move : Kind → Phase → Kind → Bool
@@ -50,7 +46,8 @@ abbrev pub arrow_is_typed : List Row → Kind → Arrow → Bool
 arrow_is_typed rows k m = leads_well k m.phase (slice_get rows m.next)
 
 abbrev pub row_is_typed : List Row → Row → Bool
-row_is_typed rows r = arrow_is_typed rows r.kind r.less && arrow_is_typed rows r.kind r.equal && arrow_is_typed rows r.kind r.greater
+row_is_typed rows r =
+    arrow_is_typed rows r.kind r.less && arrow_is_typed rows r.kind r.equal && arrow_is_typed rows r.kind r.greater
 
 -- there is a first row, and it is Idle
 abbrev pub starts_idle : List Row → Bool

@@ -66,7 +66,7 @@ impl Decoder {
         }
     }
 
-    // The range of an occurrence that ends at the sign `k` now read: from the start that is kept, else from `k`.
+    /// The range of an occurrence that ends at the sign `k` now read: from the start that is kept, else from `k`.
     fn found_at(&self, k: u32, a: u8) -> Range
         requires few { k ≤ 4000000000 }
         requires trim { a ≤ 1 }
@@ -79,7 +79,7 @@ impl Decoder {
         }
     }
 
-    // Moves the end of the held range, if there is one, to that of the range now found.
+    /// Moves the end of the held range, if there is one, to that of the range now found.
     fn grow(&mut self, found: Range)
         ensures start { self.new.start ≡ self.old.start }
         ensures held { self.new.held ≡ ends_at found.last self.old.held }

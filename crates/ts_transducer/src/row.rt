@@ -1,7 +1,7 @@
 //! The rows of a transducer's table: one per state, with a move for each letter.
 
 ghost use Rattle.std.specs.Prelude.{◌≡◌};
-ghost use Rattle.ts_transducer.specs.Decode.{arrow_on, resting};
+ghost use Rattle.ts_transducer.specs.Decode.{arrow_on, resting_row};
 
 use ts_base::{Kind, Letter};
 
@@ -14,9 +14,9 @@ pub enum Phase {
     OutR,
     /// The held range is complete.
     OutA,
-    /// Perhaps before the end of the first match.
+    /// The sign may stand before the end of a first match.
     MaybeB,
-    /// Perhaps inside, after a first match.
+    /// The sign may lie inside a longer match than the one held.
     MaybeA,
     /// A first match, which may still grow.
     Found,
@@ -56,7 +56,7 @@ impl Row {
 }
 
 impl Default for Row {
-    ghost is_default = { λ r. r ≡ resting };
+    ghost is_default = { λ r. r ≡ resting_row };
 
     /// A row that stays at the start and does nothing: what fills the unused places of a table.
     fn default() -> Row {

@@ -2,11 +2,14 @@
 
 ghost use Rattle.std.specs.Prelude.{◌≤◌, ◌<◌, length};
 
-use crate::{Arrow, Decoder, Phase, Row, Transducer};
+use crate::Phase::{Found, FoundE, Inside, MaybeA, MaybeB, Out, OutA, OutR};
+use crate::{Arrow, Decoder, Phase, Row, Transducer, decoded};
 use arrayvec::ArrayVec;
 use std::alloc::Global;
 use std::test::Fail;
-use ts_base::{Kind, Letter, Memory};
+use ts_base::Kind::{Held, Idle, Pending};
+use ts_base::Letter::{Equal, Greater, Less};
+use ts_base::{Kind, Letter, Memory, Range};
 
 /// The letter, counted from 1, after which a range is emitted, and its first and last cell. The end of the letters
 /// counts as one letter more.
@@ -15,138 +18,63 @@ type Emitted = (u32, u32, u32);
 /// Phase letters, 1 where an occurrence leaves its last cell out, and what is emitted.
 static RUNS: [(&[Phase], u8, &[Emitted]); 22] = [
     (&[], 1, &[]),
-    (
-        &[
-            Phase::Out,
-            Phase::MaybeB,
-            Phase::Found,
-            Phase::Inside,
-            Phase::MaybeA,
-            Phase::OutA,
-        ],
-        1,
-        &[(6, 2, 4)],
-    ),
-    (
-        &[
-            Phase::Out,
-            Phase::MaybeB,
-            Phase::Found,
-            Phase::Inside,
-            Phase::MaybeA,
-            Phase::OutA,
-        ],
-        0,
-        &[(6, 2, 5)],
-    ),
-    (&[Phase::Found], 1, &[(2, 1, 1)]),
-    (&[Phase::Found], 0, &[(2, 1, 2)]),
-    (&[Phase::FoundE], 1, &[(1, 1, 1)]),
-    (&[Phase::FoundE], 0, &[(1, 1, 2)]),
-    (&[Phase::MaybeB], 1, &[]),
-    (&[Phase::OutA], 1, &[]),
-    (&[Phase::Inside], 1, &[]),
+    (&[Out, MaybeB, Found, Inside, MaybeA, OutA], 1, &[(6, 2, 4)]),
+    (&[Out, MaybeB, Found, Inside, MaybeA, OutA], 0, &[(6, 2, 5)]),
+    (&[Found], 1, &[(2, 1, 1)]),
+    (&[Found], 0, &[(2, 1, 2)]),
+    (&[FoundE], 1, &[(1, 1, 1)]),
+    (&[FoundE], 0, &[(1, 1, 2)]),
+    (&[MaybeB], 1, &[]),
+    (&[OutA], 1, &[]),
+    (&[Inside], 1, &[]),
     // the start: the first one is kept, until a letter forgets it
-    (
-        &[Phase::MaybeB, Phase::MaybeB, Phase::Found],
-        1,
-        &[(4, 1, 3)],
-    ),
-    (&[Phase::MaybeB, Phase::Out, Phase::Found], 1, &[(4, 1, 3)]),
-    (
-        &[Phase::MaybeB, Phase::MaybeA, Phase::Found],
-        1,
-        &[(4, 1, 3)],
-    ),
-    (
-        &[Phase::MaybeB, Phase::Inside, Phase::Found],
-        1,
-        &[(4, 1, 3)],
-    ),
-    (&[Phase::MaybeB, Phase::OutR, Phase::Found], 1, &[(4, 3, 3)]),
-    (&[Phase::MaybeB, Phase::OutA, Phase::Found], 1, &[(4, 3, 3)]),
-    (
-        &[Phase::MaybeB, Phase::Found, Phase::Found],
-        1,
-        &[(4, 3, 3)],
-    ),
-    (
-        &[Phase::MaybeB, Phase::FoundE, Phase::FoundE],
-        1,
-        &[(2, 1, 2), (3, 3, 3)],
-    ),
+    (&[MaybeB, MaybeB, Found], 1, &[(4, 1, 3)]),
+    (&[MaybeB, Out, Found], 1, &[(4, 1, 3)]),
+    (&[MaybeB, MaybeA, Found], 1, &[(4, 1, 3)]),
+    (&[MaybeB, Inside, Found], 1, &[(4, 1, 3)]),
+    (&[MaybeB, OutR, Found], 1, &[(4, 3, 3)]),
+    (&[MaybeB, OutA, Found], 1, &[(4, 3, 3)]),
+    (&[MaybeB, Found, Found], 1, &[(4, 3, 3)]),
+    (&[MaybeB, FoundE, FoundE], 1, &[(2, 1, 2), (3, 3, 3)]),
     // the held range: it stays until it is complete
-    (
-        &[
-            Phase::Found,
-            Phase::MaybeB,
-            Phase::OutR,
-            Phase::Out,
-            Phase::MaybeA,
-        ],
-        1,
-        &[(6, 1, 1)],
-    ),
-    (
-        &[Phase::Found, Phase::MaybeA, Phase::Inside],
-        0,
-        &[(4, 1, 4)],
-    ),
-    (&[Phase::Found, Phase::FoundE], 1, &[(2, 2, 2), (3, 1, 1)]),
-    (
-        &[Phase::Found, Phase::OutA, Phase::Found],
-        1,
-        &[(2, 1, 1), (4, 3, 3)],
-    ),
+    (&[Found, MaybeB, OutR, Out, MaybeA], 1, &[(6, 1, 1)]),
+    (&[Found, MaybeA, Inside], 0, &[(4, 1, 4)]),
+    (&[Found, FoundE], 1, &[(2, 2, 2), (3, 1, 1)]),
+    (&[Found, OutA, Found], 1, &[(2, 1, 1), (4, 3, 3)]),
 ];
 
 /// A phase letter, and the kinds of states from which and to which it may lead.
 static MOVES: [(Phase, &[(Kind, Kind)]); 8] = [
+    (Out, &[(Idle, Idle), (Idle, Pending)]),
+    (OutR, &[(Pending, Idle), (Pending, Pending)]),
+    (OutA, &[(Held, Idle), (Held, Pending)]),
+    (MaybeB, &[(Idle, Pending), (Pending, Pending)]),
+    (MaybeA, &[(Held, Held)]),
+    (Found, &[(Idle, Held), (Pending, Held)]),
     (
-        Phase::Out,
-        &[(Kind::Idle, Kind::Idle), (Kind::Idle, Kind::Pending)],
-    ),
-    (
-        Phase::OutR,
-        &[(Kind::Pending, Kind::Idle), (Kind::Pending, Kind::Pending)],
-    ),
-    (
-        Phase::OutA,
-        &[(Kind::Held, Kind::Idle), (Kind::Held, Kind::Pending)],
-    ),
-    (
-        Phase::MaybeB,
-        &[(Kind::Idle, Kind::Pending), (Kind::Pending, Kind::Pending)],
-    ),
-    (Phase::MaybeA, &[(Kind::Held, Kind::Held)]),
-    (
-        Phase::Found,
-        &[(Kind::Idle, Kind::Held), (Kind::Pending, Kind::Held)],
-    ),
-    (
-        Phase::FoundE,
+        FoundE,
         &[
-            (Kind::Idle, Kind::Idle),
-            (Kind::Idle, Kind::Pending),
-            (Kind::Pending, Kind::Idle),
-            (Kind::Pending, Kind::Pending),
+            (Idle, Idle),
+            (Idle, Pending),
+            (Pending, Idle),
+            (Pending, Pending),
         ],
     ),
-    (Phase::Inside, &[(Kind::Held, Kind::Held)]),
+    (Inside, &[(Held, Held)]),
 ];
 
-const LETTERS: [Letter; 3] = [Letter::Less, Letter::Equal, Letter::Greater];
+const LETTERS: [Letter; 3] = [Less, Equal, Greater];
 
 const KIND_PAIRS: [(Kind, Kind); 9] = [
-    (Kind::Idle, Kind::Idle),
-    (Kind::Idle, Kind::Pending),
-    (Kind::Idle, Kind::Held),
-    (Kind::Pending, Kind::Idle),
-    (Kind::Pending, Kind::Pending),
-    (Kind::Pending, Kind::Held),
-    (Kind::Held, Kind::Idle),
-    (Kind::Held, Kind::Pending),
-    (Kind::Held, Kind::Held),
+    (Idle, Idle),
+    (Idle, Pending),
+    (Idle, Held),
+    (Pending, Idle),
+    (Pending, Pending),
+    (Pending, Held),
+    (Held, Idle),
+    (Held, Pending),
+    (Held, Held),
 ];
 
 // Each table behind a function, so that the proof of the test doesn't read it.
@@ -174,9 +102,9 @@ fn row(kind: Kind, less: Arrow, equal: Arrow, greater: Arrow) -> Row {
 /// A row of this kind that goes to the start on each letter.
 fn homing(kind: Kind) -> Row {
     let home = match kind {
-        Kind::Idle => to(Phase::Out, 0),
-        Kind::Pending => to(Phase::OutR, 0),
-        Kind::Held => to(Phase::OutA, 0),
+        Idle => to(Out, 0),
+        Pending => to(OutR, 0),
+        Held => to(OutA, 0),
     };
     row(kind, home, home, home)
 }
@@ -185,9 +113,9 @@ fn homing(kind: Kind) -> Row {
 fn moving(kind: Kind, letter: Letter, own: Arrow) -> Row {
     let home = homing(kind);
     match letter {
-        Letter::Less => row(kind, own, home.equal, home.greater),
-        Letter::Equal => row(kind, home.less, own, home.greater),
-        Letter::Greater => row(kind, home.less, home.equal, own),
+        Less => row(kind, own, home.equal, home.greater),
+        Equal => row(kind, home.less, own, home.greater),
+        Greater => row(kind, home.less, home.equal, own),
     }
 }
 
@@ -204,7 +132,7 @@ fn eighth(last: Row) -> ArrayVec<Row, 8> {
     let mut rows = ArrayVec::new();
     for _ in 0..7 {
         if !rows.is_full() {
-            rows.push(homing(Kind::Idle));
+            rows.push(homing(Idle));
         }
     }
     if !rows.is_full() {
@@ -232,21 +160,6 @@ fn emitted(alloc: Global, phases: &[Phase], a: u8) -> Result<Vec<Emitted>, Memor
     Ok(ranges)
 }
 
-/// The phase letters of the moves on these signs, from the first row on.
-fn phases_on(alloc: Global, rows: &[Row], signs: &[Letter]) -> Result<Vec<Phase>, Memory> {
-    let mut phases = Vec::new(alloc);
-    let mut state = 0;
-    for sign in signs {
-        let Some(row) = rows.get(state) else {
-            return Ok(phases);
-        };
-        let arrow = row.arrow(*sign);
-        phases.push(arrow.phase)?;
-        state = arrow.next as usize;
-    }
-    Ok(phases)
-}
-
 #[test]
 fn runs_of_the_decoder(rt: HostRuntime) -> Result<(), Fail> {
     for (phases, a, wanted) in runs() {
@@ -255,8 +168,8 @@ fn runs_of_the_decoder(rt: HostRuntime) -> Result<(), Fail> {
         assert_eq!(rt; ranges.as_slice(), *wanted, "{phases:?} {a}");
     }
     let mut decoder = Decoder::new();
-    assert_eq!(rt; decoder.step(1, Phase::Found, 1), None);
-    assert_eq!(rt; decoder.step(2, Phase::MaybeB, 1), None);
+    assert_eq!(rt; decoder.step(1, Found, 1), None);
+    assert_eq!(rt; decoder.step(2, MaybeB, 1), None);
     assert!(rt; decoder.finish().is_some());
     assert_eq!(rt; decoder, Decoder::new());
     Ok(())
@@ -265,7 +178,7 @@ fn runs_of_the_decoder(rt: HostRuntime) -> Result<(), Fail> {
 /// Whether a table is taken in which a state moves so on the letter.
 fn is_taken(from: Kind, letter: Letter, phase: Phase, end: Kind) -> bool {
     let moved = moving(from, letter, to(phase, 1));
-    Transducer::new(table(homing(Kind::Idle), homing(end), moved)).is_some()
+    Transducer::new(table(homing(Idle), homing(end), moved)).is_some()
 }
 
 #[test]
@@ -283,54 +196,36 @@ fn typed_moves(rt: HostRuntime) {
 
 #[test]
 fn typed_tables(rt: HostRuntime) {
-    let idle = homing(Kind::Idle);
+    let idle = homing(Idle);
     for letter in LETTERS {
-        let astray = moving(Kind::Idle, letter, to(Phase::Out, 3));
+        let astray = moving(Idle, letter, to(Out, 3));
         assert!(rt; Transducer::new(table(idle, idle, astray)).is_none());
-        let last = moving(Kind::Idle, letter, to(Phase::Out, 7));
+        let last = moving(Idle, letter, to(Out, 7));
         assert!(rt; Transducer::new(eighth(last)).is_some());
-        let beyond = moving(Kind::Idle, letter, to(Phase::Out, 8));
+        let beyond = moving(Idle, letter, to(Out, 8));
         assert!(rt; Transducer::new(eighth(beyond)).is_none());
     }
     assert!(rt; Transducer::new(ArrayVec::new()).is_none());
-    assert!(rt; Transducer::new(table(homing(Kind::Pending), idle, idle)).is_none());
-    assert!(rt; Transducer::new(table(homing(Kind::Held), idle, idle)).is_none());
+    assert!(rt; Transducer::new(table(homing(Pending), idle, idle)).is_none());
+    assert!(rt; Transducer::new(table(homing(Held), idle, idle)).is_none());
 }
 
 // The peak of the series 1 2 2 1 0 0 1 has the cells 2 to 4.
 #[test]
 fn peak(rt: HostRuntime) -> Result<(), Fail> {
-    let start = row(
-        Kind::Idle,
-        to(Phase::Out, 1),
-        to(Phase::Out, 0),
-        to(Phase::Out, 0),
-    );
-    let up = row(
-        Kind::Pending,
-        to(Phase::MaybeB, 1),
-        to(Phase::MaybeB, 1),
-        to(Phase::Found, 2),
-    );
-    let down = row(
-        Kind::Held,
-        to(Phase::OutA, 1),
-        to(Phase::MaybeA, 2),
-        to(Phase::Inside, 2),
-    );
+    let start = row(Idle, to(Out, 1), to(Out, 0), to(Out, 0));
+    let up = row(Pending, to(MaybeB, 1), to(MaybeB, 1), to(Found, 2));
+    let down = row(Held, to(OutA, 1), to(MaybeA, 2), to(Inside, 2));
     let peak = Transducer::new(table(start, up, down)).ok_or("typed")?;
     assert_eq!(rt; peak.rows().len(), 3);
-    let signs = [
-        Letter::Less,
-        Letter::Equal,
-        Letter::Greater,
-        Letter::Greater,
-        Letter::Equal,
-        Letter::Less,
-    ];
-    let phases = phases_on(rt.alloc(), peak.rows(), &signs)?;
-    assert!(rt; phases.len() < 1000);
-    let ranges = emitted(rt.alloc(), &phases, 1)?;
-    assert_eq!(rt; ranges.as_slice(), [(6, 2, 4)].as_slice());
+    let signs = [Less, Equal, Greater, Greater, Equal, Less];
+    let ranges = decoded(rt.alloc(), &peak, 1, &signs)?;
+    assert_eq!(rt; ranges.as_slice(), [Range { first: 2, last: 4 }].as_slice());
+    let untrimmed = decoded(rt.alloc(), &peak, 0, &signs)?;
+    assert_eq!(rt;
+        untrimmed.as_slice(),
+        [Range { first: 2, last: 5 }].as_slice()
+    );
+    assert!(rt; decoded(rt.alloc(), &peak, 1, &signs[..2])?.is_empty());
     Ok(())
 }

@@ -1,6 +1,6 @@
 //! A well typed table of rows.
 
-ghost use Rattle.std.specs.Prelude.{◌≡◌, ◌↔◌, IsTrue, IsSome, IfSome};
+ghost use Rattle.std.specs.Prelude.{◌≡◌, ◌↔◌, ◌<◌, ◌≤◌, IsTrue, IsSome, IfSome, length};
 ghost use Rattle.std.specs.List.{list_all};
 ghost use Rattle.ts_transducer.specs.Typing.{may_move, arrow_is_typed, row_is_typed, is_typed};
 
@@ -12,7 +12,7 @@ use ts_base::Kind;
 #[derive(Drop)]
 pub struct Transducer {
     rows: ArrayVec<Row, 8>,
-    ghost typed: { IsTrue (is_typed rows.items) },
+    pub ghost typed: { IsTrue (is_typed rows.items) },
 }
 
 impl Transducer {
@@ -31,9 +31,11 @@ impl Transducer {
         }
     }
 
-    /// Its rows; the first is the start.
+    /// Its rows, one to eight; the first is the start.
     pub fn rows(&self) -> &[Row]
-        ensures { result.now ≡ rows_of self.now }
+        ensures rows { result.now ≡ rows_of self.now }
+        ensures some { 0 < length result.now }
+        ensures few { length result.now ≤ 8 }
     {
         self.rows.as_slice()
     }
@@ -54,6 +56,7 @@ fn fits(from: Kind, phase: Phase, to: Kind) -> bool
     }
 }
 
+/// Whether the move leads to a row, from a state of this kind, and fits both kinds.
 fn arrow_typed(rows: &[Row], kind: Kind, arrow: Arrow) -> bool
     ensures { result ≡ arrow_is_typed rows.now kind arrow }
 {
@@ -63,6 +66,7 @@ fn arrow_typed(rows: &[Row], kind: Kind, arrow: Arrow) -> bool
     }
 }
 
+/// Whether each move of the row does.
 fn row_typed(rows: &[Row], row: &Row) -> bool
     ensures { result ≡ row_is_typed rows.now row.now }
 {
@@ -71,12 +75,14 @@ fn row_typed(rows: &[Row], row: &Row) -> bool
         && arrow_typed(rows, row.kind, row.greater)
 }
 
+/// Whether each row's moves do.
 fn each_typed(rows: &[Row]) -> bool
     ensures { result ≡ list_all (λ r. row_is_typed rows.now r) rows.now }
 {
     rows.iter().all(|row| row_typed(rows, row))
 }
 
+/// Whether these are the rows of a transducer.
 fn table_typed(rows: &[Row]) -> bool
     ensures { result ≡ is_typed rows.now }
 {
