@@ -1,0 +1,62 @@
+-- Kinds of values, and the kind of an expression: the same meaning of an expression, over kinds in place of numbers.
+use Rattle.std.specs.Prelude.{◌≡◌, Bool, true, false, IsTrue, pos, Option, None, Some}
+use Rattle.ts_base.specs.declared.ext.Ext.{Ext}
+use Rattle.ts_base.specs.declared.ext.Ext.TheVariants.{NegInf, Int as Number, PosInf}
+use Rattle.ts_base.specs.declared.span.Span.{Span}
+use Rattle.ts_base.specs.Spans.{has_some}
+use Rattle.ts_automaton.specs.declared.kind.RegKind.{RegKind}
+use Rattle.ts_automaton.specs.declared.kind.RegKind.TheVariants.{Int, Low, High}
+use Rattle.ts_automaton.specs.declared.expr.Op.{Op}
+use Rattle.ts_automaton.specs.declared.expr.Op.TheVariants.{Add, Max, Min}
+use Rattle.ts_automaton.specs.Formula.{Formula}
+use Rattle.ts_automaton.specs.Registers.{EachOf, map_each, Values, value_in}
+
+-- the narrowest kind of a value: numbers; numbers and -inf; numbers and +inf
+abbrev pub kind_of : Ext → RegKind
+kind_of NegInf = Low
+kind_of (Number x) = Int
+kind_of PosInf = High
+
+-- each value of the first kind is one of the second
+abbrev pub is_within : RegKind → RegKind → Bool
+is_within Int k = true
+is_within Low Int = false
+is_within Low Low = true
+is_within Low High = false
+is_within High Int = false
+is_within High Low = false
+is_within High High = true
+
+-- the value is one of the kind
+abbrev pub HasKind : RegKind → Ext → Type 0
+HasKind k e = IsTrue (is_within (kind_of e) k)
+
+-- the span isn't none, and both its ends are of the kind
+abbrev pub SpanHasKind : RegKind → Span → Type 0
+SpanHasKind k s = IsTrue (has_some s) × HasKind k s.lo × HasKind k s.hi
+
+-- what an operator makes of two kinds; none where it doesn't take them
+abbrev pub op_kind : Op → RegKind → RegKind → Option RegKind
+op_kind Add Int Int = Some Int
+op_kind Max Int Int = Some Int
+op_kind Max Low Int = Some Int
+op_kind Max Int Low = Some Int
+op_kind Max Low Low = Some Low
+op_kind Min Int Int = Some Int
+op_kind Min High Int = Some Int
+op_kind Min Int High = Some Int
+op_kind Min High High = Some High
+op_kind o a b = None
+
+-- of expressions that may be against the typing
+abbrev pub join_kind : Op → Option RegKind → Option RegKind → Option RegKind
+join_kind o None b = None
+join_kind o (Some a) None = None
+join_kind o (Some a) (Some b) = op_kind o a b
+
+abbrev pub kinds : Values (Option RegKind)
+kinds = record { constant = λ e. Some (kind_of e); join = join_kind }
+
+-- the kind of an expression where the registers have these kinds; none where it is against the typing
+abbrev pub formula_kind : EachOf RegKind → Formula → Option RegKind
+formula_kind k f = value_in kinds (map_each (λ j. Some j) k) (pos 0) (pos 0) f

@@ -1,0 +1,53 @@
+//! Kinds of registers: which infinity may stand in one.
+
+ghost use Rattle.std.specs.Prelude.{◌≡◌};
+ghost use Rattle.ts_automaton.specs.Kinds.{is_within, kind_of, op_kind};
+
+use crate::expr::Op;
+use ts_base::Ext;
+
+/// What a register or an expression may be: numbers; numbers and -inf; numbers and +inf.
+#[derive(Clone, Copy, Debug, PartialEq, Eq)]
+pub enum RegKind {
+    Int,
+    Low,
+    High,
+}
+
+impl RegKind {
+    /// The narrowest kind of a value.
+    pub(crate) fn of(e: Ext) -> RegKind
+        ensures { result ≡ kind_of e }
+    {
+        match e {
+            Ext::NegInf => RegKind::Low,
+            Ext::Int(_) => RegKind::Int,
+            Ext::PosInf => RegKind::High,
+        }
+    }
+
+    /// Whether each value of this kind is one of the other.
+    pub(crate) fn is_within(self, wider: RegKind) -> bool
+        ensures { result ≡ is_within self wider }
+    {
+        self == RegKind::Int || self == wider
+    }
+
+    /// The kind of what an operator makes of two kinds. None where it doesn't take them.
+    pub(crate) fn joined(op: Op, a: RegKind, b: RegKind) -> Option<RegKind>
+        ensures { result ≡ op_kind op a b }
+    {
+        match (op, a, b) {
+            (_, RegKind::Int, RegKind::Int) => Some(RegKind::Int),
+            (Op::Max, RegKind::Low, RegKind::Low) => Some(RegKind::Low),
+            (Op::Max, RegKind::Int, RegKind::Low) | (Op::Max, RegKind::Low, RegKind::Int) => Some(
+                RegKind::Int,
+            ),
+            (Op::Min, RegKind::High, RegKind::High) => Some(RegKind::High),
+            (Op::Min, RegKind::Int, RegKind::High) | (Op::Min, RegKind::High, RegKind::Int) => Some(
+                RegKind::Int,
+            ),
+            _ => None,
+        }
+    }
+}

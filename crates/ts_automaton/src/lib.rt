@@ -1,0 +1,27 @@
+//! Automata with three typed registers over a series of cells, and their runs on numbers and on spans.
+//!
+//! An automaton reads a series two neighbouring cells at a time. Each move gives the registers C, D and R new values
+//! by expressions over the old ones and the two cells, and at the end the finish expression gives the answer. The
+//! layer above may rely on this: the states and expressions of an `Automaton` are well typed, so no operator ever
+//! meets an operand that it doesn't take; a run over spans holds every run over numbers within them.
+//!
+//! ```text
+//! let peak = Automaton::new(states, start, finish, Mark::Same)?;
+//! let mut at = peak.start();
+//! for pair in series.windows(2) {
+//!     at = peak.step(at, pair[0], pair[1]);
+//! }
+//! let answer = peak.finish(at, 7);
+//! ```
+#![tactic(auto)]
+
+mod expr;
+mod kind;
+mod regs;
+mod state;
+mod typing;
+
+pub use expr::{Atom, Expr, Op};
+pub use kind::RegKind;
+pub use regs::{At, Hull, HullAt, Regs};
+pub use state::{Mark, State, Turn};
