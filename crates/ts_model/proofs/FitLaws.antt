@@ -16,7 +16,7 @@ use Rattle.ts_model.specs.declared.statement.TermParts.{TermParts}
 use Rattle.ts_model.specs.declared.error.ModelKind.{ModelKind}
 use Rattle.ts_model.specs.declared.error.ModelKind.TheVariants.{NoCells, NoObjective}
 use Rattle.ts_model.specs.Statement.{Said, SaysCells, SaysDomain, SaysCell, SaysTerm, SaysRequire, SaysObjective, parsed}
-use Rattle.ts_model.specs.Stated.{Stated, nothing, with_said, count_of, is_between, is_outside, is_bound, has_cells, over_total, term_at, total_of, union_of, digits, some_parts, first_kind, kinds, unless_kind}
+use Rattle.ts_model.specs.Stated.{Stated, nothing, with_said, count_of, is_between, is_outside, is_bound, has_cells, over_total, term_at, total_of, union_of, digits, unused_parts, first_kind, kinds, unless_kind}
 use Rattle.ts_model.specs.ModelReading.{needs_lists, needs_objective, texts_of, taken_as, onward, read_rows, ended, ended_text, reading}
 use Rattle.ts_model.specs.Promise.{IsWhole, KeepsLimits}
 use Rattle.ts_model.specs.declared.error.ModelStop.{ModelStop}
@@ -76,7 +76,7 @@ pushed P (x ∷ xs) r all p = (all.0, pushed P xs r all.1 p)
 
 term_there : (name : List ℕ) (terms : List (List ℕ × TermParts)) (o : Option ℕ) → term_at name terms ≡ o → IfSome o (λ t. t < length terms)
 term_there name terms None e = tt
-term_there name terms (Some t) e = (position-Some (λ (x : List ℕ × TermParts). bytes_eq name x.0) terms t (name, some_parts) e).0
+term_there name terms (Some t) e = (position-Some (λ (x : List ℕ × TermParts). bytes_eq name x.0) terms t (name, unused_parts) e).0
 
 known_there : (n : ℕ) (o : Option ℕ) → is_none o ≡ false → IfSome o (λ t. t < n) → unwrap_or o 0 < n
 known_there n None h all = cc
@@ -201,35 +201,23 @@ asked true None h e = cc
 asked true (Some t) h e = search rules
 asked false o h e = cc
 
-whole_model : (need : Need) (c : Cut) (m : Model) → reading need c ≡ Ok (stated m) → m.n ≡ vec_len m.cells → IsWhole m
-whole_model need c m read counted =
-    let fit = fits need c (stated m) read in
-    let len : vec_len m.cells ≡ length m.cells.items = search rules in
-    let terms : length (map term_of m.terms.entries) ≡ length m.terms.entries = simp length-map in record {
-      counted = counted;
-      some = omega (arith, counted, len, some_cells (stated m) (ended_is need c (stated m) read).some);
-      few = omega (arith, counted, len, fit.few);
-      requirements = lifted (length (map term_of m.terms.entries)) (length m.terms.entries) (omega (arith, terms)) m.requirements.items fit.each;
-      objective = lifted_objective (length (map term_of m.terms.entries)) (length m.terms.entries) (omega (arith, terms)) m.objective fit.objective;
+-- what a text states is whole
+pub whole_stated : (need : Need) (c : Cut) (m : Stated) → reading need c ≡ Ok m → IsWhole m
+whole_stated need c m read =
+    let fit = fits need c m read in record {
+      some = some_cells m (ended_is need c m read).some;
+      few = fit.few;
+      requirements = fit.each;
+      objective = fit.objective;
     }
 
-limits_model : (need : Need) (c : Cut) (m : Model) → reading need c ≡ Ok (stated m) → IsBox m.cells.items → KeepsLimits need m
-limits_model need c m read box =
-    let fit = fits need c (stated m) read in
-    let terms : length (map term_of m.terms.entries) ≡ length m.terms.entries = simp length-map in
-    let len : vec_len m.requirements ≡ length m.requirements.items = search rules in record {
+pub limits_stated : (need : Need) (c : Cut) (m : Stated) → reading need c ≡ Ok m → IsBox m.cells → KeepsLimits need m
+limits_stated need c m read box =
+    let fit = fits need c m read in record {
       box = box;
       total = fit.total;
-      terms = omega (arith, terms, fit.terms);
-      requirements = omega (arith, len, fit.requirements);
+      terms = fit.terms;
+      requirements = fit.requirements;
       bounds = fit.bounds;
-      objective = asked (needs_objective need) m.objective (ended_is need c (stated m) read).objective;
+      objective = asked (needs_objective need) m.objective (ended_is need c m read).objective;
     }
-
-pub whole_told : (need : Need) (c : Cut) (r : Result Model ModelStop) → Reads r (reading need c) → IfOk r (λ m. m.n ≡ vec_len m.cells) → IfOk r IsWhole
-whole_told need c (Ok m) read counted = whole_model need c m read counted
-whole_told need c (Err e) read counted = tt
-
-pub limits_told : (need : Need) (c : Cut) (r : Result Model ModelStop) → Reads r (reading need c) → IfOk r (λ m. IsBox m.cells.items) → IfOk r (KeepsLimits need)
-limits_told need c (Ok m) read box = limits_model need c m read box
-limits_told need c (Err e) read box = tt

@@ -5,39 +5,24 @@ use Rattle.std.proofs.lemmas.Option.{same_Some}
 use Rattle.ts_token.specs.Text.{Row, Cut}
 use Rattle.ts_model.specs.declared.words.Form.{Form}
 use Rattle.ts_model.specs.declared.error.ModelKind.{ModelKind}
-use Rattle.ts_model.specs.declared.error.ModelKind.TheVariants.{NotText, UnknownLine, Shape, Number, NoCells, CellsTwice, CellRange, Empty, UnknownName, BadPair, UnknownTerm, TermTwice, ObjectiveTwice, Limit, NoObjective}
+use Rattle.ts_model.specs.declared.error.ModelKind.TheVariants.{NotText, UnknownLine, Shape, Number, NoCells, NoObjective}
 use Rattle.ts_model.specs.declared.model.Need.{Need}
 use Rattle.ts_model.specs.Words.{form_of}
 use Rattle.ts_model.specs.Statement.{Said, has_shape, said_by, parsed_as, parsed}
-use Rattle.ts_model.specs.Stated.{Stated, nothing, with_said, first_kind, kinds, no_cells, cells_twice, cell_range, empty_range, unknown_name, bad_pair, unknown_term, term_twice, objective_twice, passes_limit, has_cells, unless_kind}
-use Rattle.ts_model.specs.ModelReading.{needs_lists, needs_objective, said_onto, said_lines, stated_after, so_far, bad_shape, bad_number, of_said, kinds_of, kind_at, AreGood, FirstBad, IsEnd, IsReading, texts_of, taken_as, line_gives, onward, read_rows, ended_text, ended, reading}
-
--- the kinds from `nocells` on
-abbrev later : Bool → Stated → Result Said ModelKind → List (Bool × ModelKind)
-later lists m p =
-    (of_said (no_cells m) p, NoCells)
-    ∷ (of_said (cells_twice m) p, CellsTwice)
-    ∷ (of_said (cell_range m) p, CellRange)
-    ∷ (of_said empty_range p, Empty)
-    ∷ (of_said unknown_name p, UnknownName)
-    ∷ (of_said bad_pair p, BadPair)
-    ∷ (of_said (unknown_term m) p, UnknownTerm)
-    ∷ (of_said (term_twice m) p, TermTwice)
-    ∷ (of_said (objective_twice m) p, ObjectiveTwice)
-    ∷ (of_said (passes_limit lists m) p, Limit)
-    ∷ []
+use Rattle.ts_model.specs.Stated.{Stated, nothing, with_said, first_kind, kinds, has_cells, unless_kind}
+use Rattle.ts_model.specs.ModelReading.{needs_lists, needs_objective, said_onto, said_lines, stated_after, so_far, bad_shape, bad_number, kinds_said, kinds_of, kind_at, AreGood, FirstBad, IsEnd, IsReading, texts_of, taken_as, line_gives, onward, read_rows, ended_text, ended, reading}
 
 -- the first of all kinds is that of the words, or the first of those of what they say
 abbrev Joins : Bool → Stated → Result Said ModelKind → Option ModelKind → Type 0
 Joins lists m (Err k) first = first ≡ Some k
 Joins lists m (Ok s) first = first ≡ first_kind (kinds lists m s)
 
-by_shape : (lists : Bool) (m : Stated) (shape : Bool) (s : Option Said) → Joins lists m (cond shape (ok_or s Number) (Err Shape)) (first_kind ((not shape, Shape) ∷ (is_none s, Number) ∷ later lists m (cond shape (ok_or s Number) (Err Shape))))
+by_shape : (lists : Bool) (m : Stated) (shape : Bool) (s : Option Said) → Joins lists m (cond shape (ok_or s Number) (Err Shape)) (first_kind ((not shape, Shape) ∷ (is_none s, Number) ∷ kinds_said lists m (cond shape (ok_or s Number) (Err Shape))))
 by_shape lists m true None = refl
 by_shape lists m true (Some s) = refl
 by_shape lists m false s = refl
 
-by_form : (lists : Bool) (m : Stated) (form : Option Form) (ws : List (List ℕ)) → Joins lists m (parsed_as form ws) (first_kind ((is_none form, UnknownLine) ∷ (bad_shape form ws, Shape) ∷ (bad_number form ws, Number) ∷ later lists m (parsed_as form ws)))
+by_form : (lists : Bool) (m : Stated) (form : Option Form) (ws : List (List ℕ)) → Joins lists m (parsed_as form ws) (first_kind ((is_none form, UnknownLine) ∷ (bad_shape form ws, Shape) ∷ (bad_number form ws, Number) ∷ kinds_said lists m (parsed_as form ws)))
 by_form lists m None ws = refl
 by_form lists m (Some form) ws = by_shape lists m (has_shape form ws) (said_by form ws)
 

@@ -7,4 +7,5 @@ pub mod Promise
 pub mod Series
 pub mod Compares
 pub mod Meets
+pub mod Judgement
 pub mod Views

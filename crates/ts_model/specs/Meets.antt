@@ -1,17 +1,28 @@
--- A series meets a model: it has as many cells, each in its domain, and every requirement holds of its term's value.
-use Rattle.std.specs.Prelude.{◌≡◌, ℤ, List, length, IsTrue, IfSome, slice_get}
+-- A series meets what a model text states: it has as many cells, each in its domain, and every requirement holds of the
+-- value of its term.
+use Rattle.std.specs.Prelude.{ℕ, ◌≡◌, ℤ, List, length, map, IsTrue, Option, Some, slice_get}
 use Rattle.std.specs.List.{AllByRecursion}
+use Rattle.ts_base.specs.declared.ext.Ext.{Ext}
 use Rattle.ts_domain.specs.BoxSeries.{InBox}
-use Rattle.ts_pattern.specs.TermValue.{term_value}
-use Rattle.ts_model.specs.declared.model.Model.{Model}
+use Rattle.ts_pattern.specs.TermValue.{value_of}
 use Rattle.ts_model.specs.declared.model.Require.{Require}
 use Rattle.ts_model.specs.Compares.{compares}
+use Rattle.ts_model.specs.Stated.{Stated}
 
--- the value of the requirement's term on the series compares so with the bound
-abbrev pub IsMet : Model → List ℤ → Require → Type 0
-IsMet m xs r = IfSome (slice_get m.terms.entries r.term) (λ term. IsTrue (compares r.op r.bound (term_value term.1 xs)))
+-- the value of each term on a series, in the order of the text
+abbrev pub values_on : Stated → List ℤ → List Ext
+values_on m xs = map (λ t. value_of t.1.aggregator t.1.feature t.1.pattern xs) m.terms
 
-pub record Meets (m : Model) (xs : List ℤ) : Type 0 where
-  pub cells : length xs ≡ m.n
-  pub inside : InBox xs m.cells.items
-  pub requirements : AllByRecursion (IsMet m xs) m.requirements.items
+-- the value of the term at a place, counted from 0; none where no term stands there
+abbrev pub value_at : Stated → List ℤ → ℕ → Option Ext
+value_at m xs place = slice_get (values_on m xs) place
+
+-- the requirement's term stands, and its value on the series compares so with the bound
+abbrev pub IsMet : Stated → List ℤ → Require → Type 0
+IsMet m xs r = (v : Ext) × (value_at m xs r.term ≡ Some v) × IsTrue (compares r.op r.bound v)
+
+-- the series meets what is stated
+pub record Meets (m : Stated) (xs : List ℤ) : Type 0 where
+  pub cells : length xs ≡ length m.cells
+  pub inside : InBox xs m.cells
+  pub requirements : AllByRecursion (IsMet m xs) m.requirements

@@ -5,10 +5,10 @@ use Rattle.ts_model.specs.declared.words.Form.{Form}
 use Rattle.ts_model.specs.declared.model.Need.{Need}
 use Rattle.ts_model.specs.declared.model.Need.TheVariants.{Values, List as Listing, Best}
 use Rattle.ts_model.specs.declared.error.ModelKind.{ModelKind}
-use Rattle.ts_model.specs.declared.error.ModelKind.TheVariants.{NotText, UnknownLine, Shape, Number, NoCells, CellsTwice, CellRange, Empty, UnknownName, BadPair, UnknownTerm, TermTwice, ObjectiveTwice, Limit, NoObjective}
+use Rattle.ts_model.specs.declared.error.ModelKind.TheVariants.{NotText, UnknownLine, Shape, Number, NoCells, NoObjective}
 use Rattle.ts_model.specs.Words.{form_of}
 use Rattle.ts_model.specs.Statement.{Said, has_shape, said_by, parsed}
-use Rattle.ts_model.specs.Stated.{Stated, nothing, with_said, first_kind, no_cells, cells_twice, cell_range, empty_range, unknown_name, bad_pair, unknown_term, term_twice, objective_twice, passes_limit, has_cells, taken}
+use Rattle.ts_model.specs.Stated.{Stated, nothing, with_said, first_kind, kinds, has_cells, taken}
 
 -- all domains together have a limit
 abbrev pub needs_lists : Need → Bool
@@ -59,10 +59,10 @@ abbrev pub bad_number : Option Form → List (List ℕ) → Bool
 bad_number None ws = false
 bad_number (Some form) ws = is_none (said_by form ws)
 
--- a test of what a line says; it holds of no line that says nothing
-abbrev pub of_said : (Said → Bool) → Result Said ModelKind → Bool
-of_said test (Err k) = false
-of_said test (Ok s) = test s
+-- the kinds of a line that says something; none of another line, which one of the first three kinds holds of
+abbrev pub kinds_said : Bool → Stated → Result Said ModelKind → List (Bool × ModelKind)
+kinds_said lists m (Err k) = []
+kinds_said lists m (Ok s) = kinds lists m s
 
 -- the kinds in their order, each with its test of a line with these words after lines that state m
 abbrev pub kinds_of : Bool → Stated → List (List ℕ) → List (Bool × ModelKind)
@@ -70,17 +70,7 @@ kinds_of lists m words =
     (is_none (form_at words), UnknownLine)
     ∷ (bad_shape (form_at words) (rest_at words), Shape)
     ∷ (bad_number (form_at words) (rest_at words), Number)
-    ∷ (of_said (no_cells m) (parsed words), NoCells)
-    ∷ (of_said (cells_twice m) (parsed words), CellsTwice)
-    ∷ (of_said (cell_range m) (parsed words), CellRange)
-    ∷ (of_said empty_range (parsed words), Empty)
-    ∷ (of_said unknown_name (parsed words), UnknownName)
-    ∷ (of_said bad_pair (parsed words), BadPair)
-    ∷ (of_said (unknown_term m) (parsed words), UnknownTerm)
-    ∷ (of_said (term_twice m) (parsed words), TermTwice)
-    ∷ (of_said (objective_twice m) (parsed words), ObjectiveTwice)
-    ∷ (of_said (passes_limit lists m) (parsed words), Limit)
-    ∷ []
+    ∷ kinds_said lists m (parsed words)
 
 -- the first kind that holds of a line after these lines
 abbrev pub kind_at : Bool → List Row → Row → Option ModelKind

@@ -54,25 +54,22 @@ pub record IsPlace (cell : ℤ) (count place : ℕ) : Type 0 where
 abbrev pub digits : List Interval
 digits = record { low = pos 0; high = pos 9 } ∷ []
 
-abbrev pub some_parts : TermParts
-some_parts = record { aggregator = Sum; feature = One; pattern = Increasing }
+-- what stands in for the parts of a term with an unknown name, which no model has
+abbrev pub unused_parts : TermParts
+unused_parts = record { aggregator = Sum; feature = One; pattern = Increasing }
 
 -- what is stated with one more line, of which no kind holds
 abbrev pub with_said : Stated → Said → Stated
 with_said m (SaysCells n) = record m { cells = replicate (count_of n) (union_of digits) }
 with_said m (SaysDomain rs) = record m { cells = map (λ _. union_of rs) m.cells }
 with_said m (SaysCell k rs) = record m { cells = set m.cells (count_of k - 1) (union_of rs) }
-with_said m (SaysTerm name parts) = record m { terms = m.terms ++ (name, unwrap_or parts some_parts) ∷ [] }
+with_said m (SaysTerm name parts) = record m { terms = m.terms ++ (name, unwrap_or parts unused_parts) ∷ [] }
 with_said m (SaysRequire name op bound) = record m { requirements = m.requirements ++ record { term = unwrap_or (term_at name m.terms) 0; op = op; bound = bound } ∷ [] }
 with_said m (SaysObjective name) = record m { objective = term_at name m.terms }
 
 abbrev pub is_cells : Said → Bool
 is_cells (SaysCells n) = true
-is_cells (SaysDomain rs) = false
-is_cells (SaysCell k rs) = false
-is_cells (SaysTerm name parts) = false
-is_cells (SaysRequire name op bound) = false
-is_cells (SaysObjective name) = false
+is_cells _ = false
 
 abbrev pub has_cells : Stated → Bool
 has_cells m = nat_lt 0 (length m.cells)
@@ -85,66 +82,41 @@ cells_twice m s = is_cells s && has_cells m
 
 abbrev pub cell_range : Stated → Said → Bool
 cell_range m (SaysCells n) = not (is_between (pos 1) n (pos 512))
-cell_range m (SaysDomain rs) = false
 cell_range m (SaysCell k rs) = not (is_between (pos 1) k (pos (length m.cells)))
-cell_range m (SaysTerm name parts) = false
-cell_range m (SaysRequire name op bound) = false
-cell_range m (SaysObjective name) = false
+cell_range m _ = false
 
 abbrev pub is_backward : Interval → Bool
 is_backward r = int_lt r.high r.low
 
 abbrev pub empty_range : Said → Bool
-empty_range (SaysCells n) = false
 empty_range (SaysDomain rs) = list_any is_backward rs
 empty_range (SaysCell k rs) = list_any is_backward rs
-empty_range (SaysTerm name parts) = false
-empty_range (SaysRequire name op bound) = false
-empty_range (SaysObjective name) = false
+empty_range _ = false
 
 abbrev pub unknown_name : Said → Bool
-unknown_name (SaysCells n) = false
-unknown_name (SaysDomain rs) = false
-unknown_name (SaysCell k rs) = false
 unknown_name (SaysTerm name parts) = is_none parts
-unknown_name (SaysRequire name op bound) = false
-unknown_name (SaysObjective name) = false
+unknown_name _ = false
 
 abbrev pub is_bad : Option TermParts → Bool
 is_bad None = false
 is_bad (Some parts) = not (is_pair parts.aggregator parts.feature)
 
 abbrev pub bad_pair : Said → Bool
-bad_pair (SaysCells n) = false
-bad_pair (SaysDomain rs) = false
-bad_pair (SaysCell k rs) = false
 bad_pair (SaysTerm name parts) = is_bad parts
-bad_pair (SaysRequire name op bound) = false
-bad_pair (SaysObjective name) = false
+bad_pair _ = false
 
 abbrev pub unknown_term : Stated → Said → Bool
-unknown_term m (SaysCells n) = false
-unknown_term m (SaysDomain rs) = false
-unknown_term m (SaysCell k rs) = false
-unknown_term m (SaysTerm name parts) = false
 unknown_term m (SaysRequire name op bound) = is_none (term_at name m.terms)
 unknown_term m (SaysObjective name) = is_none (term_at name m.terms)
+unknown_term m _ = false
 
 abbrev pub term_twice : Stated → Said → Bool
-term_twice m (SaysCells n) = false
-term_twice m (SaysDomain rs) = false
-term_twice m (SaysCell k rs) = false
 term_twice m (SaysTerm name parts) = is_some (term_at name m.terms)
-term_twice m (SaysRequire name op bound) = false
-term_twice m (SaysObjective name) = false
+term_twice m _ = false
 
 abbrev pub is_objective : Said → Bool
-is_objective (SaysCells n) = false
-is_objective (SaysDomain rs) = false
-is_objective (SaysCell k rs) = false
-is_objective (SaysTerm name parts) = false
-is_objective (SaysRequire name op bound) = false
 is_objective (SaysObjective name) = true
+is_objective _ = false
 
 abbrev pub objective_twice : Stated → Said → Bool
 objective_twice m s = is_objective s && is_some m.objective

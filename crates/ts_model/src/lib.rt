@@ -17,21 +17,23 @@
 //! ```
 #![tactic(auto)]
 
-pub mod cells;
-pub mod draft;
-pub mod error;
-pub mod model;
-pub mod names;
-pub mod parse;
-pub mod read;
-pub mod series;
-pub mod statement;
-pub mod take;
-pub mod words;
+mod cells;
+mod draft;
+mod error;
+mod laws;
+mod model;
+mod names;
+mod parse;
+mod read;
+mod series;
+mod statement;
+mod take;
+mod words;
 
 pub use error::{ModelKind, ModelStop, SeriesStop};
+pub use laws::{judged_is_met, model_is_whole, one_reading, reading_is_first};
 pub use model::{Model, Need, Op, Require, satisfies};
-pub use read::{one_reading, read_model, reading_is_first};
+pub use read::read_model;
 pub use series::read_series;
 
 #[cfg(test)]

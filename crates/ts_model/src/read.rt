@@ -7,7 +7,7 @@ ghost use Rattle.ts_model.specs.declared.error.ModelKind.{ModelKind};
 ghost use Rattle.ts_domain.specs.BoxSeries.{IsBox};
 ghost use Rattle.ts_token.specs.Views.{rows, cut};
 ghost use Rattle.ts_model.specs.Stated.{Stated, nothing};
-ghost use Rattle.ts_model.specs.ModelReading.{needs_lists, needs_objective, IsReading, line_gives, read_rows, reading};
+ghost use Rattle.ts_model.specs.ModelReading.{needs_lists, needs_objective, line_gives, read_rows, reading};
 ghost use Rattle.ts_model.specs.Promise.{IsWhole, KeepsLimits};
 ghost use Rattle.ts_model.specs.Views.{texts, stated, drafted, IsSound, Gives, Drafts, Reads, Tells};
 
@@ -120,35 +120,16 @@ fn model_of(alloc: Global, draft: Draft) -> Result<Model, Memory>
     })
 }
 
-fn read_counted(alloc: Global, tokens: &Tokens, need: Need) -> Result<Model, ModelStop>
-    requires { tokens.now.count < 4000000000 }
-    ensures exact { Reads result (reading need (cut tokens.now)) }
-    ensures counted { IfOk result (λ m. m.n ≡ vec_len m.cells) }
-    ensures boxed { IfOk result (λ m. IsBox m.cells.items) }
-{
-    let draft = read_draft(alloc, tokens, need)?;
-    let model = model_of(alloc, draft)?;
-    Ok(model)
-}
-
 /// The model that a text states, in the limits of the need, or its first bad line, counted from 1, with the first
 /// kind that holds of it; a missing `cells` line or objective is told at the number of the lines plus 1.
 pub fn read_model(alloc: Global, tokens: &Tokens<'_>, need: Need) -> Result<Model, ModelStop>
     requires { tokens.now.count < 4000000000 }
     ensures exact { Reads result (reading need (cut tokens.now)) }
     ensures first { Tells need (cut tokens.now) result }
-    ensures whole { IfOk result IsWhole }
-    ensures limits { IfOk result (KeepsLimits need) }
+    ensures counted { IfOk result (λ m. m.n ≡ vec_len m.cells) }
+    ensures whole { IfOk result (λ m. IsWhole (stated m)) }
+    ensures limits { IfOk result (λ m. KeepsLimits need (stated m)) }
 {
-    read_counted(alloc, tokens, need)
+    let draft = read_draft(alloc, tokens, need)?;
+    Ok(model_of(alloc, draft)?)
 }
-
-/// The reading is the model that the lines state, or the first bad line with the first kind that holds of it.
-pub fn reading_is_first()
-    ensures { (need : Need) (c : Cut) → IsReading need c (reading need c) }
-{}
-
-/// A text has one reading.
-pub fn one_reading()
-    ensures { (need : Need) (c : Cut) (r s : Result Stated (ℕ × ModelKind)) → IsReading need c r → IsReading need c s → r ≡ s }
-{}

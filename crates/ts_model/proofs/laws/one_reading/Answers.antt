@@ -1,5 +1,5 @@
 use Rattle.ts_model.proofs.OnlyLaws as laws
-use Rattle.ts_model.proofs.read.one_reading.Goals as goal
+use Rattle.ts_model.proofs.laws.one_reading.Goals as goal
 
 pub returns : goal.returns
 returns c = laws.one_reading
