@@ -2,6 +2,7 @@
 use Rattle.std.proofs.Common.{◌≡◌, ◌⊎◌, Bool, true, false, cond, IsTrue, inl, inr, refl, ap, rules, arith}
 use Rattle.std.proofs.lemmas.Int.{ints}
 use Rattle.ts_base.specs.Numbers.{ext_le, ext_max, ext_min}
+use Rattle.ts_base.specs.Orders.{IsTotalOrder, IsGreater, IsLesser}
 use Rattle.ts_base.specs.declared.ext.Ext.{Ext}
 use Rattle.ts_base.specs.declared.ext.Ext.TheVariants.{NegInf, Int, PosInf}
 
@@ -84,3 +85,12 @@ min_right a b = min_under (ext_le a b) a b refl
 
 pub min_greatest : (a b c : Ext) → IsTrue (ext_le c a) → IsTrue (ext_le c b) → IsTrue (ext_le c (ext_min a b))
 min_greatest a b c p q = elim (ext_le a b) as (λ v. IsTrue (ext_le c (cond v a b))) [ true ↦ p | false ↦ q ]
+
+pub total_order : IsTotalOrder ext_le
+total_order = record { same = le_refl; chain = le_trans; equal = le_antisym; either = le_total }
+
+pub max_is_greater : IsGreater ext_max
+max_is_greater = record { first = max_left; second = max_right; least = max_least }
+
+pub min_is_lesser : IsLesser ext_min
+min_is_lesser = record { first = min_left; second = min_right; greatest = min_greatest }

@@ -2,8 +2,11 @@ pub mod InMemory
 pub mod Limits
 pub mod Never
 pub mod Numbers
+pub mod Orders
 pub mod Outside
 pub mod Signature
+pub mod SpanLayer
 pub mod Spans
+pub mod Standard
 pub mod Text
 pub mod Words

@@ -1,16 +1,18 @@
 -- A sink in memory that never fails.
 use Rattle.std.specs.Prelude.{ℕ, Bool, List, ◌++◌, take, false, true}
+use Rattle.ts_base.specs.Outside.{one_more}
 
--- the bytes kept, how many are kept at the most, and whether the writing was ended
-pub record Keeping : Type 0 where
+-- the bytes kept, how many are kept at the most, whether it is finished, and the calls of `finish` so far
+pub record RoomState : Type 0 where
   pub kept : List ℕ
-  pub room : ℕ
+  pub most : ℕ
   pub finished : Bool
+  pub finishes : ℕ
 
 -- after a piece was taken, of which those bytes are kept for which there is room
-abbrev pub after_keeping : List ℕ → Keeping → Keeping
-after_keeping piece k = record k { kept = take k.room (k.kept ++ piece); finished = false }
+abbrev pub after_keeping : List ℕ → RoomState → RoomState
+after_keeping piece s = record s { kept = take s.most (s.kept ++ piece); finished = false }
 
 -- after the writing was ended
-abbrev pub after_ending : Keeping → Keeping
-after_ending k = record k { finished = true }
+abbrev pub after_ending : RoomState → RoomState
+after_ending s = record s { finished = true; finishes = one_more s.finishes }

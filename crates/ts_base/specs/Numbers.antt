@@ -14,15 +14,15 @@ ext_le PosInf NegInf = false
 ext_le PosInf (Int y) = false
 ext_le PosInf PosInf = true
 
--- the number itself, held within -10^17 and 10^17
-abbrev pub held : ℤ → ℤ
-held x = int_max (neg_ℤ (pos 100000000000000000)) (int_min x (pos 100000000000000000))
+-- the number, or the nearer of -10^17 and 10^17 where it is beyond them
+abbrev pub clamp : ℤ → ℤ
+clamp x = int_max (neg_ℤ (pos 100000000000000000)) (int_min x (pos 100000000000000000))
 
--- -∞ is stronger than +∞, and +∞ than every number
+-- the sum: -∞ where an operand is -∞, else +∞ where one is +∞, else that of the numbers, clamped
 abbrev pub ext_plus : Ext → Ext → Ext
 ext_plus NegInf b = NegInf
 ext_plus (Int x) NegInf = NegInf
-ext_plus (Int x) (Int y) = Int (held (x +ℤ y))
+ext_plus (Int x) (Int y) = Int (clamp (x +ℤ y))
 ext_plus (Int x) PosInf = PosInf
 ext_plus PosInf NegInf = NegInf
 ext_plus PosInf (Int y) = PosInf

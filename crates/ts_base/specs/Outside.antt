@@ -1,13 +1,23 @@
--- What a source has left and what a sink has taken, where they tell it, and when a count of faults rose.
-use Rattle.std.specs.Prelude.{ℕ, ◌≡◌, ◌<◌, ◌≤◌, ◌+◌, ◌⊎◌, List, [], ◌++◌, length, take, drop, min, Option, Some, None, IfSome}
+-- What a source has left and what a sink has taken, where they tell it, and how faults and calls are counted.
+use Rattle.std.specs.Prelude.{ℕ, ◌≡◌, ◌<◌, ◌≤◌, ◌+◌, ◌⊎◌, Bool, nat_lt, min, List, [], ◌++◌, length, take, drop}
+use Rattle.std.specs.Prelude.{Option, Some, None, IfSome, Result, Ok, Err}
 
 -- a count rose in a call: it is greater afterwards, or stands at the last value of 64 bits
 abbrev pub Rose : ℕ → ℕ → Type 0
 Rose before after = (before < after) ⊎ (after ≡ 18446744073709551615)
 
 -- the count after one more, which stays at the last value of 64 bits
-abbrev pub counted : ℕ → ℕ
-counted n = min (n + 1) 18446744073709551615
+abbrev pub one_more : ℕ → ℕ
+one_more n = min (n + 1) 18446744073709551615
+
+-- the count of faults after a call with this result
+abbrev pub faults_after : {A E : Type 0} → Result A E → ℕ → ℕ
+faults_after (Ok a) faults = faults
+faults_after (Err e) faults = one_more faults
+
+-- a fault was counted
+abbrev pub has_faults : ℕ → Bool
+has_faults faults = nat_lt 0 faults
 
 -- what was told before a piece was given, by what is told after it
 abbrev pub put_back : List ℕ → Option (List ℕ) → Option (List ℕ)

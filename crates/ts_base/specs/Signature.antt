@@ -1,5 +1,5 @@
 -- The signature of a series: how each cell compares with the next one (Global Constraint Catalog, Volume II).
-use Rattle.std.specs.Prelude.{ℤ, List, [], ◌∷◌, int_lt, if◌then◌else◌}
+use Rattle.std.specs.Prelude.{ℕ, ℤ, List, [], ◌∷◌, int_lt, if◌then◌else◌}
 use Rattle.ts_base.specs.declared.letter.Letter.{Letter}
 use Rattle.ts_base.specs.declared.letter.Letter.TheVariants.{Less, Equal, Greater}
 
@@ -18,3 +18,9 @@ abbrev pub flip_of : Letter → Letter
 flip_of Less = Greater
 flip_of Equal = Equal
 flip_of Greater = Less
+
+-- the place of a letter in the order of letters
+abbrev pub letter_rank : Letter → ℕ
+letter_rank Less = 0
+letter_rank Equal = 1
+letter_rank Greater = 2

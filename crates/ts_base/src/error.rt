@@ -3,7 +3,7 @@
 use std::alloc::{AllocError, AllocFailed};
 use thiserror::Error;
 
-/// No memory was to be had.
+/// An allocation failed.
 #[derive(Clone, Copy, Debug, PartialEq, Eq, Error)]
 #[error("out of memory")]
 pub struct Memory;

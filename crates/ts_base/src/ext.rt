@@ -11,11 +11,11 @@ pub enum Ext {
     PosInf,
 }
 
-/// The sum of two numbers is held within -`CLAMP` and `CLAMP`.
+/// The sum of two numbers lies from -`CLAMP` to `CLAMP`.
 const CLAMP: i64 = 100_000_000_000_000_000;
 
 impl Ext {
-    /// The sum, numbers held within -10^17 and 10^17; `NegInf` is stronger than `PosInf`, and that than numbers.
+    /// `NegInf` where one is `NegInf`, else `PosInf` where one is `PosInf`, else the sum, clamped at -10^17 and 10^17.
     pub fn plus(self, other: Ext) -> Ext
         ensures { result ≡ ext_plus self other }
     {

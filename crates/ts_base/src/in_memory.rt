@@ -1,7 +1,8 @@
 //! A source and a sink in memory, for tests: they go in steps, and fail at the calls that they are told to fail at.
 
-ghost use Rattle.std.specs.Prelude.{ℕ, ◌≡◌, ◌<◌, ◌≤◌, ◌+◌, ◌⊎◌, ◌↔◌, [], ◌++◌, length, take, drop, min, Some, Contains, IfOk, IsErr, OnOk, OnErr, IsTrue, MatchResult};
-ghost use Rattle.ts_base.specs.Outside.{AtEnd, Rose, counted, put_back, taken_more};
+ghost use Rattle.std.specs.Prelude.{ℕ, ◌≡◌, ◌<◌, ◌≤◌, ◌+◌, ◌⊎◌, ◌↔◌, [], length, take, min, Contains, false, IsTrue};
+ghost use Rattle.std.specs.Prelude.{Some, IfOk, IsErr, OnErr, MatchResult};
+ghost use Rattle.ts_base.specs.Outside.{has_faults, one_more};
 
 use crate::error::Failed;
 use crate::outside::{Sink, Source};
@@ -21,11 +22,18 @@ pub struct MemorySource {
 
 impl Model for MemorySource {
     ghost use Rattle.std.specs.Prelude.{◌≤◌, ◌<◌, drop, vec_len};
-    ghost use Rattle.ts_base.specs.InMemory.{Giving};
+    ghost use Rattle.ts_base.specs.InMemory.{SourceState};
 
-    ghost Value = { Giving };
+    ghost Value = { SourceState };
 
-    ghost view = { λ s. record { left = drop s.at s.bytes.items; step = s.step; fails = s.fails.items; calls = s.calls; faults = s.faults } };
+    ghost view = { λ s.
+        record {
+          left = drop s.at s.bytes.items;
+          step = s.step;
+          fails = s.fails.items;
+          calls = s.calls;
+          faults = s.faults;
+        } };
 
     ghost invariant = { λ s. (s.at ≤ vec_len s.bytes) × (0 < s.step) };
 }
@@ -52,14 +60,18 @@ impl Source for MemorySource {
 
     ghost left = { λ s. Some s.left };
 
-    ghost faults = { λ s. s.faults };
+    ghost source_faults = { λ s. s.faults };
+
+    ghost source_broken = { λ s. has_faults s.faults };
 
     fn read(&mut self, into: &mut [u8]) -> Result<usize, Failed>
-        ensures fails { IsErr result ↔ Contains self.old.fails (counted self.old.calls) }
+        ensures fails { IsErr result ↔ Contains self.old.fails (one_more self.old.calls) }
         ensures amount { IfOk result (λ m. m ≡ min (min self.old.step (length into.new)) (length self.old.left)) }
         ensures bytes { IfOk result (λ m. take m into.new ≡ take m self.old.left) }
-        ensures after { MatchResult result (λ m. self.new ≡ after_giving m self.old) (λ _. self.new ≡ after_refusing self.old) }
+        ensures after { MatchResult result (λ m. self.new ≡ after_giving m self.old)
+            (λ _. self.new ≡ after_refusing self.old) }
         ensures end { IfOk result (λ m. m ≡ 0 → 0 < length into.new → self.old.left ≡ []) }
+        ensures broken { OnErr result (IsTrue (has_faults self.new.faults)) }
         ensures later { self.old.faults ≤ self.new.faults }
     {
         self.calls = self.calls.saturating_add(1);
@@ -84,16 +96,27 @@ pub struct MemorySink {
     calls: u64,
     faults: u64,
     finished: bool,
+    finishes: u64,
 }
 
 impl Model for MemorySink {
     ghost use Rattle.std.specs.Prelude.{◌<◌};
     ghost use Rattle.std.specs.Vec.{vec_capacity};
-    ghost use Rattle.ts_base.specs.InMemory.{Taking};
+    ghost use Rattle.ts_base.specs.InMemory.{SinkState};
 
-    ghost Value = { Taking };
+    ghost Value = { SinkState };
 
-    ghost view = { λ s. record { taken = s.bytes.items; room = vec_capacity s.bytes; step = s.step; fails = s.fails.items; calls = s.calls; faults = s.faults; finished = s.finished } };
+    ghost view = { λ s.
+        record {
+          taken = s.bytes.items;
+          room = vec_capacity s.bytes;
+          step = s.step;
+          fails = s.fails.items;
+          calls = s.calls;
+          faults = s.faults;
+          finished = s.finished;
+          finishes = s.finishes;
+        } };
 
     ghost invariant = { λ s. 0 < s.step };
 }
@@ -102,9 +125,16 @@ impl MemorySink {
     /// Takes at most `step` bytes in a call, and fails at the calls whose numbers, from 1, are in `fails`.
     pub fn new(alloc: Global, step: usize, fails: Vec<u64>) -> MemorySink
         requires { 0 < step }
-        ensures taken { result.taken ≡ [] }
-        ensures given { (result.step ≡ step) × (result.fails ≡ fails.items) }
-        ensures counts { (result.calls ≡ 0) × (result.faults ≡ 0) }
+        ensures { result ≡ record {
+          taken = [];
+          room = 0;
+          step = step;
+          fails = fails.items;
+          calls = 0;
+          faults = 0;
+          finished = false;
+          finishes = 0;
+        } }
     {
         MemorySink {
             bytes: Vec::new(alloc),
@@ -113,6 +143,7 @@ impl MemorySink {
             calls: 0,
             faults: 0,
             finished: false,
+            finishes: 0,
         }
     }
 
@@ -125,20 +156,27 @@ impl MemorySink {
 }
 
 impl Sink for MemorySink {
+    ghost use Rattle.ts_base.specs.InMemory.{after_failed_finish, after_failed_write, after_finish, after_taking};
+
     ghost taken = { λ s. Some s.taken };
 
     ghost sink_faults = { λ s. s.faults };
 
+    ghost sink_broken = { λ s. has_faults s.faults };
+
     ghost finished = { λ s. s.finished };
 
+    ghost finishes = { λ s. s.finishes };
+
     fn write(&mut self, piece: &[u8]) -> Result<usize, Failed>
-        ensures fails { Contains self.old.fails (counted self.old.calls) → IsErr result }
-        ensures full { OnErr result (Contains self.old.fails (counted self.old.calls) ⊎ (self.old.room < length self.old.taken + min self.old.step (length piece.now))) }
+        ensures fails { Contains self.old.fails (one_more self.old.calls) → IsErr result }
+        ensures full { OnErr result (Contains self.old.fails (one_more self.old.calls)
+            ⊎ (self.old.room < length self.old.taken + min self.old.step (length piece.now))) }
         ensures amount { IfOk result (λ m. m ≡ min self.old.step (length piece.now)) }
-        ensures after { (self.new.step ≡ self.old.step) × (self.new.fails ≡ self.old.fails) × (self.new.calls ≡ counted self.old.calls) }
-        ensures count { MatchResult result (λ _. self.new.faults ≡ self.old.faults) (λ _. self.new.faults ≡ counted self.old.faults) }
-        ensures took { MatchResult result (λ m. self.new.taken ≡ self.old.taken ++ take m piece.now) (λ _. self.new.taken ≡ self.old.taken) }
+        ensures after { MatchResult result (λ m. self.new ≡ after_taking (take m piece.now) self.new.room self.old)
+            (λ _. self.new ≡ after_failed_write self.new.room self.old) }
         ensures some { IfOk result (λ m. 0 < length piece.now → 0 < m) }
+        ensures broken { OnErr result (IsTrue (has_faults self.new.faults)) }
         ensures later { self.old.faults ≤ self.new.faults }
     {
         self.finished = false;
@@ -153,19 +191,19 @@ impl Sink for MemorySink {
     }
 
     fn finish(&mut self) -> Result<(), Failed>
-        ensures fails { IsErr result ↔ Contains self.old.fails (counted self.old.calls) }
-        ensures after { (self.new.step ≡ self.old.step) × (self.new.fails ≡ self.old.fails) × (self.new.calls ≡ counted self.old.calls) }
-        ensures count { MatchResult result (λ _. self.new.faults ≡ self.old.faults) (λ _. self.new.faults ≡ counted self.old.faults) }
-        ensures kept { self.new.taken ≡ self.old.taken }
-        ensures done { OnOk result (IsTrue self.new.finished) }
+        ensures fails { IsErr result ↔ Contains self.old.fails (one_more self.old.calls) }
+        ensures after { MatchResult result (λ _. self.new ≡ after_finish self.old)
+            (λ _. self.new ≡ after_failed_finish self.old) }
+        ensures broken { OnErr result (IsTrue (has_faults self.new.faults)) }
         ensures later { self.old.faults ≤ self.new.faults }
     {
         self.calls = self.calls.saturating_add(1);
-        if self.fails.contains(&self.calls) {
+        self.finishes = self.finishes.saturating_add(1);
+        self.finished = !self.fails.contains(&self.calls);
+        if !self.finished {
             self.faults = self.faults.saturating_add(1);
             return Err(Failed);
         }
-        self.finished = true;
         Ok(())
     }
 }

@@ -5,8 +5,9 @@
 //! taken, and that a fault comes only where one was counted:
 //!
 //! ```text
-//! let input = read_all(alloc, source, 1_048_576)?;
-//! push_ext(&mut text, Ext::Int(4).plus(Ext::NegInf))?;
+//! let values = Span::one(Ext::Int(4)).hull(Span::one(Ext::Int(7)));
+//! let sums = values.plus(Span::one(Ext::Int(-1)));
+//! push_ext(&mut text, sums.hi)?; // 6
 //! write_all(sink, &text)?;
 //! ```
 #![tactic(auto)]
@@ -15,6 +16,7 @@ mod error;
 mod ext;
 mod goal;
 mod in_memory;
+mod laws;
 mod letter;
 pub mod limits;
 mod never;
@@ -32,6 +34,10 @@ pub use error::{Failed, Memory};
 pub use ext::Ext;
 pub use goal::Goal;
 pub use in_memory::{MemorySink, MemorySource};
+pub use laws::{
+    count_rises, derived_orders_are_meant, hull_is_least, limits_agree, none_holds_nothing,
+    numbers_are_in_order, spans_hold_results,
+};
 pub use letter::{Letter, flip, letter_of};
 pub use never::{NeverSink, NeverSource};
 pub use outside::{Sink, Source};

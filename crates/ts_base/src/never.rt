@@ -36,7 +36,9 @@ impl NeverSource {
 impl Source for NeverSource {
     ghost left = { λ s. Some s };
 
-    ghost faults = { λ _. 0 };
+    ghost source_faults = { λ _. 0 };
+
+    ghost source_broken = { λ _. false };
 
     fn read(&mut self, into: &mut [u8]) -> Result<usize, Failed>
         ensures never { IsOk result }
@@ -59,16 +61,18 @@ pub struct NeverSink {
     kept: Vec<u8>,
     most: usize,
     finished: bool,
+    finishes: u64,
 }
 
 impl Model for NeverSink {
     ghost use Rattle.std.specs.Prelude.{◌≤◌, vec_len};
     ghost use Rattle.std.specs.Vec.{vec_capacity};
-    ghost use Rattle.ts_base.specs.Never.{Keeping};
+    ghost use Rattle.ts_base.specs.Never.{RoomState};
 
-    ghost Value = { Keeping };
+    ghost Value = { RoomState };
 
-    ghost view = { λ s. record { kept = s.kept.items; room = s.most; finished = s.finished } };
+    ghost view = { λ s.
+        record { kept = s.kept.items; most = s.most; finished = s.finished; finishes = s.finishes } };
 
     ghost invariant = { λ s. (vec_len s.kept ≤ s.most) × (s.most ≤ vec_capacity s.kept) };
 }
@@ -76,13 +80,14 @@ impl Model for NeverSink {
 impl NeverSink {
     /// Keeps bytes behind those in `room`, and none beyond its capacity.
     pub fn new(room: Vec<u8>) -> NeverSink
-        ensures { result ≡ record { kept = room.items; room = vec_capacity room; finished = false } }
+        ensures { result ≡ record { kept = room.items; most = vec_capacity room; finished = false; finishes = 0 } }
     {
         let most = room.capacity();
         NeverSink {
             kept: room,
             most,
             finished: false,
+            finishes: 0,
         }
     }
 
@@ -101,7 +106,11 @@ impl Sink for NeverSink {
 
     ghost sink_faults = { λ _. 0 };
 
+    ghost sink_broken = { λ _. false };
+
     ghost finished = { λ s. s.finished };
+
+    ghost finishes = { λ s. s.finishes };
 
     fn write(&mut self, piece: &[u8]) -> Result<usize, Failed>
         ensures never { IsOk result }
@@ -118,6 +127,7 @@ impl Sink for NeverSink {
         ensures never { IsOk result }
         ensures after { self.new ≡ after_ending self.old }
     {
+        self.finishes = self.finishes.saturating_add(1);
         self.finished = true;
         Ok(())
     }

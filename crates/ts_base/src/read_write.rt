@@ -1,12 +1,15 @@
 //! The whole of a source, and the whole of a text to a sink.
 
-ghost use Rattle.std.specs.Prelude.{ℕ, ◌≡◌, ◌≢◌, ◌<◌, ◌≤◌, ◌+◌, ◌++◌, length, take, drop, Err, IfOk, IfSome, OnOk, OnErr, IsErrOf, vec_len};
-ghost use Rattle.ts_base.specs.Outside.{AtEnd, GaveAtMost, HasMoreThan, Prefix, Rose, left_after, put_back, taken_more};
-ghost use Rattle.ts_base.specs.declared.read_write.ReadStop.TheVariants.{ReadFault as FaultOfReading, Memory as NoMemory};
+ghost use Rattle.std.specs.Prelude.{◌≡◌, ◌≢◌, ◌<◌, ◌≤◌, ◌+◌, length, take, drop, vec_len, false, IsTrue};
+ghost use Rattle.std.specs.Prelude.{Err, IfOk, IfSome, OnOk, OnErr};
+ghost use Rattle.ts_base.specs.Outside.{AtEnd, GaveAtMost, HasMoreThan, Prefix, Rose};
+ghost use Rattle.ts_base.specs.Outside.{left_after, put_back, taken_more};
+ghost use Rattle.ts_base.specs.declared.read_write.ReadStop.TheVariants.{ReadFault as FaultOfReading};
+ghost use Rattle.ts_base.specs.declared.read_write.ReadStop.TheVariants.{Memory as NoMemory};
 
 use crate::error::{Failed, Memory};
 use crate::outside::{Sink, Source};
-use std::alloc::{AllocError, Global};
+use std::alloc::Global;
 use thiserror::Error;
 
 /// Why a source was not read to its end.
@@ -42,7 +45,7 @@ const PIECE: usize = 65_536;
 /// All bytes that `source` has left, where they are at most `limit`.
 ///
 /// `TooLong` comes exactly where there are more, and then one byte more than `limit` was taken. `ReadFault` comes
-/// only where a read failed. At most `limit + 1` bytes are taken in every case.
+/// only where a read failed, and the source isn't read again then. At most `limit + 1` bytes are taken in every case.
 pub fn read_all<S: Source>(alloc: Global, source: &mut S, limit: usize) -> Result<Vec<u8>, ReadStop>
     requires { limit < 4000000000 }
     ensures all { IfOk result (λ bytes. IfSome (S.left source.old) (λ left. left ≡ bytes.items)) }
@@ -54,10 +57,11 @@ pub fn read_all<S: Source>(alloc: Global, source: &mut S, limit: usize) -> Resul
     ensures one_more { result ≡ Err ReadStop.TooLong → S.left source.new ≡ left_after (limit + 1) (S.left source.old) }
     ensures gave { GaveAtMost (limit + 1) (S.left source.old) (S.left source.new) }
 
-    ensures cause { result ≡ Err ReadStop.ReadFault → Rose (S.faults source.old) (S.faults source.new) }
-    ensures calm { result ≢ Err ReadStop.ReadFault → S.faults source.new ≡ S.faults source.old }
+    ensures cause { result ≡ Err ReadStop.ReadFault → Rose (S.source_faults source.old) (S.source_faults source.new) }
+    ensures broken { result ≡ Err ReadStop.ReadFault → IsTrue (S.source_broken source.new) }
+    ensures calm { result ≢ Err ReadStop.ReadFault → S.source_faults source.new ≡ S.source_faults source.old }
     ensures want { result ≡ Err ReadStop.Memory → GaveAtMost limit (S.left source.old) (S.left source.new) }
-    ensures later { S.faults source.old ≤ S.faults source.new }
+    ensures later { S.source_faults source.old ≤ S.source_faults source.new }
 {
     let mut bytes = Vec::new(alloc);
     let mut count = 0;
@@ -97,19 +101,25 @@ fn read_behind<S: Source>(source: &mut S, bytes: &mut [u8], count: usize) -> Res
     ensures gave { IfOk result (λ m. S.left source.old ≡ put_back (take m (drop count bytes.new)) (S.left source.new)) }
     ensures end { IfOk result (λ m. m ≡ 0 → AtEnd (S.left source.old)) }
     ensures kept { OnErr result (S.left source.new ≡ S.left source.old) }
-    ensures cause { OnErr result (Rose (S.faults source.old) (S.faults source.new)) }
-    ensures calm { OnOk result (S.faults source.new ≡ S.faults source.old) }
-    ensures later { S.faults source.old ≤ S.faults source.new }
+    ensures cause { OnErr result (Rose (S.source_faults source.old) (S.source_faults source.new)) }
+    ensures broken { OnErr result (IsTrue (S.source_broken source.new)) }
+    ensures calm { OnOk result (S.source_faults source.new ≡ S.source_faults source.old) }
+    ensures later { S.source_faults source.old ≤ S.source_faults source.new }
 {
     source.read(&mut bytes[count..])
 }
 
-/// Gives all of `bytes` to `sink`. After `Failed`, which comes only where a write failed, it has taken a front of them.
+/// Gives all of `bytes` to `sink`.
+///
+/// `Failed` comes only where a write failed: the sink has then taken a front of them, and is not called again.
 pub fn write_all<K: Sink>(sink: &mut K, bytes: &[u8]) -> Result<(), Failed>
     ensures all { OnOk result (K.taken sink.new ≡ taken_more (K.taken sink.old) bytes.now) }
     ensures front { OnErr result (Prefix bytes.now (K.taken sink.old) (K.taken sink.new)) }
     ensures cause { OnErr result (Rose (K.sink_faults sink.old) (K.sink_faults sink.new)) }
+    ensures broken { OnErr result (IsTrue (K.sink_broken sink.new)) }
     ensures calm { OnOk result (K.sink_faults sink.new ≡ K.sink_faults sink.old) }
+    ensures unfinished { 0 < length bytes.now → K.finished sink.new ≡ false }
+    ensures writes { K.finishes sink.new ≡ K.finishes sink.old }
     ensures later { K.sink_faults sink.old ≤ K.sink_faults sink.new }
 {
     let mut done = 0;

@@ -1,6 +1,6 @@
 //! Spans of numbers.
 
-ghost use Rattle.std.specs.Prelude.{◌≡◌, ◌↔◌, IsTrue, not};
+ghost use Rattle.std.specs.Prelude.{◌≡◌, ◌↔◌, ◌&&◌, IsTrue, not, if◌then◌else◌};
 ghost use Rattle.ts_base.specs.Spans.{Holds, has_some, none_span, one_span};
 ghost use Rattle.ts_base.specs.Spans.{span_greatest, span_hull, span_least, span_plus};
 
@@ -64,38 +64,34 @@ impl Span {
     pub fn plus(self, other: Span) -> Span
         ensures { result ≡ span_plus self other }
     {
-        if self.is_none() || other.is_none() {
-            return Span::none();
-        }
-        Span {
-            lo: self.lo.plus(other.lo),
-            hi: self.hi.plus(other.hi),
-        }
+        let (lo, hi) = (self.lo.plus(other.lo), self.hi.plus(other.hi));
+        self.with_ends(other, lo, hi)
     }
 
     /// The greater of a number of each; none where one is none.
     pub fn greatest(self, other: Span) -> Span
         ensures { result ≡ span_greatest self other }
     {
-        if self.is_none() || other.is_none() {
-            return Span::none();
-        }
-        Span {
-            lo: self.lo.greater(other.lo),
-            hi: self.hi.greater(other.hi),
-        }
+        let (lo, hi) = (self.lo.greater(other.lo), self.hi.greater(other.hi));
+        self.with_ends(other, lo, hi)
     }
 
     /// The lesser of a number of each; none where one is none.
     pub fn least(self, other: Span) -> Span
         ensures { result ≡ span_least self other }
     {
+        let (lo, hi) = (self.lo.lesser(other.lo), self.hi.lesser(other.hi));
+        self.with_ends(other, lo, hi)
+    }
+
+    /// The span of these ends; none where one of the two is none.
+    fn with_ends(self, other: Span, lo: Ext, hi: Ext) -> Span
+        ensures { result ≡ (if has_some self && has_some other then record { lo = lo; hi = hi } else none_span) }
+    {
         if self.is_none() || other.is_none() {
-            return Span::none();
-        }
-        Span {
-            lo: self.lo.lesser(other.lo),
-            hi: self.hi.lesser(other.hi),
+            Span::none()
+        } else {
+            Span { lo, hi }
         }
     }
 }

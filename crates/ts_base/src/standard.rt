@@ -1,12 +1,16 @@
 //! Standard input and output, the trusted edge: no clause says which bytes the system gives or takes.
 
-ghost use Rattle.std.specs.Prelude.{ℕ, ◌≡◌, ◌<◌, ◌≤◌, length, IfOk, OnOk, IsTrue, MatchResult, None, false};
+ghost use Rattle.std.specs.Prelude.{ℕ, ◌≡◌, ◌<◌, ◌≤◌, length, false, IsTrue, is_ok, ⊤, Ok, None};
+ghost use Rattle.std.specs.Prelude.{IfOk, IsErr, OnErr, MatchResult};
 ghost use Rattle.std.specs.Io.KnownBytes.{Keeps, ReadConsumes, WriteAppends};
-ghost use Rattle.ts_base.specs.Outside.{counted};
+ghost use Rattle.ts_base.specs.Outside.{faults_after, has_faults, one_more};
+
+#[cfg(test)]
+mod tests;
 
 use crate::error::Failed;
 use crate::outside::{Sink, Source};
-use std::io::{Read, Write};
+use std::io::{self, ErrorKind, Read, Write};
 use std::marker::Model;
 
 /// A source over a reader. It counts the reader's errors, up to the last value of its counter.
@@ -17,17 +21,17 @@ pub struct StdIn<R> {
 }
 
 impl<R> Model for StdIn<R> {
-    ghost use Rattle.std.specs.Prelude.{ℕ};
+    ghost use Rattle.ts_base.specs.Standard.{InputState};
 
-    ghost Value = { R × ℕ };
+    ghost Value = { InputState R };
 
-    ghost view = { λ s. (s.inner, s.faults) };
+    ghost view = { λ s. record { inner = s.inner; faults = s.faults } };
 }
 
 impl<R: Read + Drop> StdIn<R> {
     /// Reads from `inner`; no read has failed yet.
     pub fn new(inner: R) -> StdIn<R>
-        ensures { result ≡ (inner, 0) }
+        ensures { result ≡ record { inner = inner; faults = 0 } }
     {
         StdIn { inner, faults: 0 }
     }
@@ -36,21 +40,19 @@ impl<R: Read + Drop> StdIn<R> {
 impl<R: Read + Drop> Source for StdIn<R> {
     ghost left = { λ _. None };
 
-    ghost faults = { λ s. s.1 };
+    ghost source_faults = { λ s. s.faults };
+
+    ghost source_broken = { λ s. has_faults s.faults };
 
     fn read(&mut self, into: &mut [u8]) -> Result<usize, Failed>
-        ensures count { MatchResult result (λ _. self.new.1 ≡ self.old.1) (λ _. self.new.1 ≡ counted self.old.1) }
-        ensures bytes { ReadConsumes (R.remaining self.old.0) (R.remaining self.new.0) result into.new }
+        ensures count { self.new.faults ≡ faults_after result self.old.faults }
+        ensures bytes { ReadConsumes (R.remaining self.old.inner) (R.remaining self.new.inner) result into.new }
         ensures within { IfOk result (λ m. m ≤ length into.new) }
-        ensures later { self.old.1 ≤ self.new.1 }
+        ensures broken { OnErr result (IsTrue (has_faults self.new.faults)) }
+        ensures later { self.old.faults ≤ self.new.faults }
     {
-        match self.inner.read(into) {
-            Ok(count) => Ok(count),
-            Err(_) => {
-                self.faults = self.faults.saturating_add(1);
-                Err(Failed)
-            }
-        }
+        let got = self.inner.read(into);
+        counted_result(got, &mut self.faults)
     }
 }
 
@@ -60,25 +62,28 @@ pub struct StdOut<W> {
     inner: W,
     faults: u64,
     finished: bool,
+    finishes: u64,
 }
 
 impl<W> Model for StdOut<W> {
-    ghost use Rattle.std.specs.Prelude.{ℕ, Bool};
+    ghost use Rattle.ts_base.specs.Standard.{OutputState};
 
-    ghost Value = { W × ℕ × Bool };
+    ghost Value = { OutputState W };
 
-    ghost view = { λ s. (s.inner, s.faults, s.finished) };
+    ghost view = { λ s.
+        record { inner = s.inner; faults = s.faults; finished = s.finished; finishes = s.finishes } };
 }
 
 impl<W: Write + Drop> StdOut<W> {
     /// Writes to `inner`; no call has failed yet.
     pub fn new(inner: W) -> StdOut<W>
-        ensures { result ≡ (inner, 0, false) }
+        ensures { result ≡ record { inner = inner; faults = 0; finished = false; finishes = 0 } }
     {
         StdOut {
             inner,
             faults: 0,
             finished: false,
+            finishes: 0,
         }
     }
 }
@@ -86,42 +91,67 @@ impl<W: Write + Drop> StdOut<W> {
 impl<W: Write + Drop> Sink for StdOut<W> {
     ghost taken = { λ _. None };
 
-    ghost sink_faults = { λ s. s.1 };
+    ghost sink_faults = { λ s. s.faults };
 
-    ghost finished = { λ s. s.2 };
+    ghost sink_broken = { λ s. has_faults s.faults };
+
+    ghost finished = { λ s. s.finished };
+
+    ghost finishes = { λ s. s.finishes };
 
     fn write(&mut self, piece: &[u8]) -> Result<usize, Failed>
-        ensures count { MatchResult result (λ _. self.new.1 ≡ self.old.1) (λ _. self.new.1 ≡ counted self.old.1) }
-        ensures bytes { WriteAppends (W.contents self.old.0) (W.contents self.new.0) result piece.now }
+        ensures count { self.new.faults ≡ faults_after result self.old.faults }
+        ensures bytes { WriteAppends (W.contents self.old.inner) (W.contents self.new.inner) result piece.now }
         ensures within { IfOk result (λ m. m ≤ length piece.now) }
         ensures some { IfOk result (λ m. 0 < length piece.now → 0 < m) }
-        ensures later { self.old.1 ≤ self.new.1 }
+        ensures broken { OnErr result (IsTrue (has_faults self.new.faults)) }
+        ensures unfinished { self.new.finished ≡ false }
+        ensures writes { self.new.finishes ≡ self.old.finishes }
+        ensures later { self.old.faults ≤ self.new.faults }
     {
         self.finished = false;
-        match self.inner.write(piece) {
-            Ok(count) if 0 < count || piece.is_empty() => Ok(count),
-            _ => {
-                self.faults = self.faults.saturating_add(1);
-                Err(Failed)
-            }
-        }
+        let got = some_taken(self.inner.write(piece), piece.len());
+        counted_result(got, &mut self.faults)
     }
 
     fn finish(&mut self) -> Result<(), Failed>
-        ensures bytes { Keeps (W.contents self.old.0) (W.contents self.new.0) }
-        ensures done { OnOk result (IsTrue self.new.2) }
-        ensures count { MatchResult result (λ _. self.new.1 ≡ self.old.1) (λ _. self.new.1 ≡ counted self.old.1) }
-        ensures later { self.old.1 ≤ self.new.1 }
+        ensures count { self.new.faults ≡ faults_after result self.old.faults }
+        ensures bytes { Keeps (W.contents self.old.inner) (W.contents self.new.inner) }
+        ensures broken { OnErr result (IsTrue (has_faults self.new.faults)) }
+        ensures done { self.new.finished ≡ is_ok result }
+        ensures once { self.new.finishes ≡ one_more self.old.finishes }
+        ensures later { self.old.faults ≤ self.new.faults }
     {
-        match self.inner.flush() {
-            Ok(()) => {
-                self.finished = true;
-                Ok(())
-            }
-            Err(_) => {
-                self.faults = self.faults.saturating_add(1);
-                Err(Failed)
-            }
+        self.finishes = self.finishes.saturating_add(1);
+        let flushed = counted_result(self.inner.flush(), &mut self.faults);
+        self.finished = flushed.is_ok();
+        flushed
+    }
+}
+
+/// What a call inside gave, its error counted as a fault, up to the last value of the counter.
+fn counted_result<T: Drop>(got: io::Result<T>, faults: &mut u64) -> Result<T, Failed>
+    ensures value { MatchResult got (λ given. result ≡ Ok given) (λ _. IsErr result) }
+    ensures count { faults.new ≡ faults_after result faults.old }
+    ensures broken { OnErr result (IsTrue (has_faults faults.new)) }
+    ensures later { faults.old ≤ faults.new }
+{
+    match got {
+        Ok(given) => Ok(given),
+        Err(_) => {
+            *faults = faults.saturating_add(1);
+            Err(Failed)
         }
+    }
+}
+
+/// What a write of `asked` bytes gave; it is an error too where nothing was taken of some.
+fn some_taken(got: io::Result<usize>, asked: usize) -> io::Result<usize>
+    ensures some { IfOk result (λ m. (got ≡ Ok m) × (0 < asked → 0 < m)) }
+    ensures error { OnErr result (MatchResult got (λ m. (m ≡ 0) × (0 < asked)) (λ _. ⊤)) }
+{
+    match got {
+        Ok(0) if 0 < asked => Err(ErrorKind::WriteZero.into()),
+        given => given,
     }
 }

@@ -1,8 +1,8 @@
 //! What no clause says: that calls succeed where there is memory, and that the system's input and output are reached.
 
 use crate::{
-    Ext, Failed, Letter, MemorySink, MemorySource, ReadStop, Sink, Source, StdIn, StdOut,
-    letter_of, push_ext, push_number, read_all, write_all,
+    Ext, Failed, Letter, MemorySink, MemorySource, NeverSink, NeverSource, ReadStop, Sink, Source,
+    Span, StdIn, StdOut, flip, letter_of, push_ext, push_number, read_all, write_all,
 };
 use std::io;
 use std::process::Abort;
@@ -39,6 +39,27 @@ static SUMS: [(Ext, Ext, Ext); 14] = [
     (Ext::Int(i64::MIN), Ext::Int(-1), Ext::Int(-LARGE)),
 ];
 
+/// The ends of two spans, and those of their hull, sum, greatest and least.
+static SPANS: [[(i64, i64); 6]; 4] = [
+    [(1, 3), (5, 9), (1, 9), (6, 12), (5, 9), (1, 3)],
+    [(-2, 8), (0, 1), (-2, 8), (-2, 9), (0, 8), (-2, 1)],
+    [(1, 3), (7, 5), (1, 3), NONE, NONE, NONE],
+    [(2, 1), (7, 5), NONE, NONE, NONE, NONE],
+];
+
+/// The ends that stand for the form of a span that is none.
+const NONE: (i64, i64) = (1, 0);
+
+fn span(ends: (i64, i64)) -> Span {
+    if ends == NONE {
+        return Span::none();
+    }
+    Span {
+        lo: Ext::Int(ends.0),
+        hi: Ext::Int(ends.1),
+    }
+}
+
 /// 10^17.
 const LARGE: i64 = 100_000_000_000_000_000;
 
@@ -51,13 +72,32 @@ fn sums() -> &'static [(Ext, Ext, Ext)] {
     &SUMS
 }
 
+fn spans() -> &'static [[(i64, i64); 6]] {
+    &SPANS
+}
+
 fn expect_letters_and_sums(rt: &impl Abort) {
     for (x, y, letter) in letters() {
         assert_eq!(rt; letter_of(*x, *y), *letter, "{x} {y}");
+        assert_eq!(rt; letter_of(*y, *x), flip(*letter), "{x} {y}");
     }
     for (a, b, sum) in sums() {
         assert_eq!(rt; a.plus(*b), *sum, "{a:?} {b:?}");
     }
+}
+
+fn expect_spans(rt: &impl Abort) {
+    for row in spans() {
+        let [s, t, hull, sum, greatest, least] = row.map(span);
+        assert_eq!(rt; s.hull(t), hull);
+        assert_eq!(rt; s.plus(t), sum);
+        assert_eq!(rt; s.greatest(t), greatest);
+        assert_eq!(rt; s.least(t), least);
+        assert_eq!(rt; hull.is_none(), hull == Span::none());
+    }
+    let four = Span::one(Ext::Int(4));
+    assert!(rt; four.contains(Ext::Int(4)) && !four.contains(Ext::Int(5)));
+    assert!(rt; !Span::none().contains(Ext::PosInf) && !Span::none().contains(Ext::NegInf));
 }
 
 #[test]
@@ -70,6 +110,12 @@ fn calls_succeed(rt: HostRuntime) -> Result<(), Fail> {
     push_ext(&mut text, Ext::PosInf)?;
     assert_eq!(rt; text.as_slice(), b"x -120-inf2+inf".as_slice());
     expect_letters_and_sums(&rt);
+    expect_spans(&rt);
+
+    let mut source = MemorySource::new(text.clone()?, 4, vec![in alloc; 2]?);
+    assert_eq!(rt; read_all(alloc, &mut source, 99), Err(ReadStop::ReadFault));
+    let rest = read_all(alloc, &mut source, 99)?;
+    assert_eq!(rt; rest.as_slice(), b"20-inf2+inf".as_slice());
 
     let mut source = MemorySource::new(text, 4, vec![in alloc; 7]?);
     let mut into = [0; 3];
@@ -84,6 +130,19 @@ fn calls_succeed(rt: HostRuntime) -> Result<(), Fail> {
     assert_eq!(rt; sink.bytes(), b"-inf2+in".as_slice());
     assert_eq!(rt; sink.finish(), Ok(()));
     assert_eq!(rt; sink.finish(), Err(Failed));
+
+    let mut never = NeverSource::new(rest.clone()?);
+    let all = read_all(alloc, &mut never, 9)?;
+    let mut kept = NeverSink::new(Vec::with_capacity(alloc, 4)?);
+    assert_eq!(rt; write_all(&mut kept, &all), Ok(()));
+    assert_eq!(rt; kept.finish(), Ok(()));
+    assert_eq!(rt; kept.kept(), b"-inf".as_slice());
+
+    let mut large = Vec::new(alloc);
+    large.resize(5_000, b'x')?;
+    let mut sink = MemorySink::new(alloc, 4_999, Vec::new(alloc));
+    assert_eq!(rt; write_all(&mut sink, &large), Ok(()));
+    assert_eq!(rt; sink.bytes(), large.as_slice());
 
     let mut input = StdIn::new(rest.as_slice());
     assert_eq!(rt; input.read(&mut into), Ok(3));

@@ -7,8 +7,8 @@ invariant-loop-count g l = record {
   gave : g.S.Source.left l.fn.source ≡ put_back (take l.count l.bytes.items) (g.S.Source.left l.source);
   filled : l.count ≤ vec_len l.bytes;
   few : vec_len l.bytes ≤ l.limit + 1;
-  calm : g.S.Source.faults l.source ≡ g.S.Source.faults l.fn.source;
-  later : g.S.Source.faults l.fn.source ≤ g.S.Source.faults l.source;
+  calm : g.S.Source.source_faults l.source ≡ g.S.Source.source_faults l.fn.source;
+  later : g.S.Source.source_faults l.fn.source ≤ g.S.Source.source_faults l.source;
 }
 
 abbrev pub decreases-loop-count : goal.decreases-loop-count

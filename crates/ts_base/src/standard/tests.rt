@@ -1,0 +1,97 @@
+//! What no clause can say, since a reader and a writer tell nothing of their errors: each call makes one call inside
+//! and ends as that one did, whatever the size of the piece.
+
+use super::{StdIn, StdOut};
+use crate::{Failed, Sink, Source};
+use std::alloc::{AllocError, Global};
+use std::io::{self, ErrorKind, Read, Write};
+use std::test::Fail;
+
+/// Fails at one call of all, by its number from 1, and counts its calls.
+#[derive(Drop)]
+struct Device {
+    fails_at: u64,
+    calls: u64,
+    flushes: u64,
+}
+
+impl Device {
+    fn new(fails_at: u64) -> Device {
+        Device {
+            fails_at,
+            calls: 0,
+            flushes: 0,
+        }
+    }
+
+    fn call(&mut self) -> io::Result<()> {
+        self.calls = self.calls.saturating_add(1);
+        if self.calls == self.fails_at {
+            return Err(ErrorKind::Other.into());
+        }
+        Ok(())
+    }
+}
+
+impl Read for Device {
+    fn read(&mut self, buf: &mut [u8]) -> io::Result<usize> {
+        self.call()?;
+        Ok(buf.len())
+    }
+}
+
+impl Write for Device {
+    fn write(&mut self, buf: &[u8]) -> io::Result<usize> {
+        self.call()?;
+        Ok(buf.len())
+    }
+
+    fn flush(&mut self) -> io::Result<()> {
+        self.flushes = self.flushes.saturating_add(1);
+        self.call()
+    }
+}
+
+fn zeros(alloc: Global, count: usize) -> Result<Vec<u8>, AllocError> {
+    let mut bytes = Vec::new(alloc);
+    bytes.resize(count, 0)?;
+    Ok(bytes)
+}
+
+#[test]
+fn one_call_inside(rt: HostRuntime) -> Result<(), Fail> {
+    let mut large = zeros(rt.alloc(), 5_000)?;
+
+    let mut input = StdIn::new(Device::new(3));
+    assert_eq!(rt; input.read(&mut large[..1]), Ok(1));
+    assert_eq!(rt; input.read(&mut large), Ok(5_000));
+    assert_eq!(rt; input.read(&mut large[..1]), Err(Failed));
+    assert_eq!(rt; (input.inner.calls, input.faults), (3, 1));
+
+    let mut output = StdOut::new(Device::new(3));
+    assert_eq!(rt; output.write(b"x"), Ok(1));
+    assert_eq!(rt; output.write(&large), Ok(5_000));
+    assert_eq!(rt; output.write(b"x"), Err(Failed));
+    assert_eq!(rt;
+        (output.inner.calls, output.inner.flushes, output.faults),
+        (3, 0, 1)
+    );
+    assert_eq!(rt; output.finish(), Ok(()));
+    assert_eq!(rt;
+        (output.inner.calls, output.inner.flushes, output.finished),
+        (4, 1, true)
+    );
+
+    let mut unflushed = StdOut::new(Device::new(2));
+    assert_eq!(rt; unflushed.write(b"x"), Ok(1));
+    assert_eq!(rt; unflushed.finish(), Err(Failed));
+    assert_eq!(rt;
+        (
+            unflushed.inner.calls,
+            unflushed.inner.flushes,
+            unflushed.finished
+        ),
+        (2, 1, false)
+    );
+    Ok(())
+}
