@@ -1,5 +1,5 @@
 -- The least length of a word, computed from the expression.
-use Rattle.std.specs.Prelude.{ℕ, ◌+◌, ◌≤◌, min, List, length}
+use Rattle.std.specs.Prelude.{ℕ, ◌+◌, ◌<◌, ◌≤◌, min, List, length}
 use Rattle.std.proofs.Common.{sym, subst, arith, length-append, ⊎_elim}
 use Rattle.ts_base.specs.declared.letter.Letter.{Letter}
 use Rattle.ts_regex.specs.Shape.{Shape, NoWord, EmptyWord, OneLetter, Concat, Union, Repeat}
@@ -7,7 +7,7 @@ use Rattle.ts_regex.specs.Language.{InLanguage}
 use Rattle.ts_pattern.specs.declared.name.PatternId.{PatternId}
 use Rattle.ts_pattern.specs.declared.name.PatternId.TheVariants.{Increasing, Decreasing, Steady, IncreasingSequence, DecreasingSequence, StrictlyIncreasingSequence, StrictlyDecreasingSequence, SteadySequence, IncreasingTerrace, DecreasingTerrace, Inflexion, Peak, Valley, Plateau, Plain, ProperPlateau, ProperPlain, Summit, Gorge, Zigzag, DipOnIncreasingSequence, BumpOnDecreasingSequence}
 use Rattle.ts_pattern.specs.PatternTable.{pattern_shape, pattern_b, pattern_a}
-use Rattle.ts_pattern.specs.Trims.{HasLongWords}
+use Rattle.ts_pattern.specs.Trims.{FitsTrims, HasLongWords}
 
 abbrev pub least_length : Shape → ℕ
 least_length NoWord = 0
@@ -62,3 +62,36 @@ has_long_words id w h =
     let k0 = k.0 in
     let k1 = k.1 in
     (omega arith, omega arith)
+
+pub fits_trims : (id : PatternId) → FitsTrims (pattern_shape id) (pattern_b id) (pattern_a id)
+fits_trims id w h some = (has_long_words id w h).0
+
+small_trims : (id : PatternId) → (pattern_b id ≤ 2) × (pattern_a id ≤ 1)
+small_trims Increasing = (omega arith, omega arith)
+small_trims Decreasing = (omega arith, omega arith)
+small_trims Steady = (omega arith, omega arith)
+small_trims IncreasingSequence = (omega arith, omega arith)
+small_trims DecreasingSequence = (omega arith, omega arith)
+small_trims StrictlyIncreasingSequence = (omega arith, omega arith)
+small_trims StrictlyDecreasingSequence = (omega arith, omega arith)
+small_trims SteadySequence = (omega arith, omega arith)
+small_trims IncreasingTerrace = (omega arith, omega arith)
+small_trims DecreasingTerrace = (omega arith, omega arith)
+small_trims Inflexion = (omega arith, omega arith)
+small_trims Peak = (omega arith, omega arith)
+small_trims Valley = (omega arith, omega arith)
+small_trims Plateau = (omega arith, omega arith)
+small_trims Plain = (omega arith, omega arith)
+small_trims ProperPlateau = (omega arith, omega arith)
+small_trims ProperPlain = (omega arith, omega arith)
+small_trims Summit = (omega arith, omega arith)
+small_trims Gorge = (omega arith, omega arith)
+small_trims Zigzag = (omega arith, omega arith)
+small_trims DipOnIncreasingSequence = (omega arith, omega arith)
+small_trims BumpOnDecreasingSequence = (omega arith, omega arith)
+
+pub small_before : (id : PatternId) → pattern_b id ≤ 2
+small_before id = (small_trims id).0
+
+pub small_after : (id : PatternId) → pattern_a id ≤ 1
+small_after id = (small_trims id).1

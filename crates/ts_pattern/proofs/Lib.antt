@@ -8,3 +8,5 @@ pub mod Renamed
 pub mod Tested
 pub mod LeastLength
 pub mod AllOccurrences
+pub mod OneMoreEntry
+pub mod PlanTest

@@ -1,5 +1,6 @@
 -- A plan against a transducer: the step of a configuration on a letter, the six checks of that step, and Closed.
--- Where a plan is closed, the transducer finds the occurrences of the pattern.
+-- Where a plan is closed, the transducer finds the occurrences of the pattern. R is what a residual is: an expression in
+-- every contract, and its number in the plan where a plan is tested; X is what an entry says of its start.
 use Rattle.std.specs.Prelude.{◌≡◌, ℕ, zero, suc, Bool, true, false, not, ◌&&◌, ◌||◌, ◌==◌, IsTrue, List, [], ◌∷◌, ◌++◌, map}
 use Rattle.std.specs.List.{list_all, list_any}
 use Rattle.ts_base.specs.declared.letter.Letter.{Letter}
@@ -14,7 +15,7 @@ use Rattle.ts_pattern.specs.declared.plan.Tag.{Tag}
 use Rattle.ts_pattern.specs.declared.plan.Tag.TheVariants.{Young, Due, InD, InC, Loose}
 use Rattle.ts_pattern.specs.Entries.{Entry, Residuals, survivors}
 
--- a state, and its live entries; they have no start
+-- a state, and its live entries, which say nothing of where their starts stand
 pub record PlainConfiguration (R : Type 0) : Type 0 where
   pub state : ℕ
   pub live : List (Entry (Unit {0}) R Tag)
@@ -30,25 +31,16 @@ pub record Subject (R : Type 0) : Type 0 where
 -- tags
 
 abbrev pub is_due : Tag → Bool
-is_due (Young m) = false
 is_due Due = true
-is_due InD = false
-is_due InC = false
-is_due Loose = false
+is_due g = false
 
 abbrev pub is_ind : Tag → Bool
-is_ind (Young m) = false
-is_ind Due = false
 is_ind InD = true
-is_ind InC = false
-is_ind Loose = false
+is_ind g = false
 
 abbrev pub is_inc : Tag → Bool
-is_inc (Young m) = false
-is_inc Due = false
-is_inc InD = false
 is_inc InC = true
-is_inc Loose = false
+is_inc g = false
 
 -- the tag of a start at the sign now read
 abbrev pub first_tag : ℕ → Tag
@@ -63,36 +55,18 @@ younger (suc (suc m)) = Young (suc m)
 
 -- free says that no entry had the tag InD
 abbrev pub due_after : Phase → Bool → Tag
-due_after Out free = Loose
-due_after OutR free = Loose
-due_after OutA free = Loose
 due_after MaybeB true = InD
-due_after MaybeB false = Loose
-due_after MaybeA free = Loose
 due_after Found true = InC
-due_after Found false = Loose
-due_after FoundE free = Loose
-due_after Inside free = Loose
+due_after f free = Loose
 
 abbrev pub ind_after : Phase → Tag
-ind_after Out = Loose
-ind_after OutR = Loose
-ind_after OutA = Loose
 ind_after MaybeB = InD
-ind_after MaybeA = Loose
 ind_after Found = InC
-ind_after FoundE = Loose
-ind_after Inside = Loose
+ind_after f = Loose
 
 abbrev pub inc_after : Phase → Tag
-inc_after Out = InC
-inc_after OutR = InC
 inc_after OutA = Loose
-inc_after MaybeB = InC
-inc_after MaybeA = InC
-inc_after Found = InC
-inc_after FoundE = InC
-inc_after Inside = InC
+inc_after f = InC
 
 abbrev pub tag_after : Phase → Bool → Tag → Tag
 tag_after f free (Young m) = younger m
@@ -128,63 +102,36 @@ abbrev pub kept : {R : Type 0} → Subject R → PlainConfiguration R → Letter
 kept s x l = survivors s.on l (before s x)
 
 abbrev pub stepped : {R : Type 0} → Subject R → PlainConfiguration R → Letter → PlainConfiguration R
-stepped s x l = record { state = (move_of s x l).next; live = retag (move_of s x l).phase (no_ind (before s x)) (kept s x l) }
+stepped s x l =
+    record { state = (move_of s x l).next; live = retag (move_of s x l).phase (no_ind (before s x)) (kept s x l) }
 
 -- the checks
 
 abbrev pub implies : Bool → Bool → Bool
 implies a b = not a || b
 
+-- a match is found
 abbrev pub is_find : Phase → Bool
-is_find Out = false
-is_find OutR = false
-is_find OutA = false
-is_find MaybeB = false
-is_find MaybeA = false
 is_find Found = true
 is_find FoundE = true
-is_find Inside = false
+is_find f = false
 
 -- a match ends at the sign
 abbrev pub is_match : Phase → Bool
-is_match Out = false
-is_match OutR = false
-is_match OutA = false
-is_match MaybeB = false
-is_match MaybeA = false
-is_match Found = true
-is_match FoundE = true
 is_match Inside = true
+is_match f = is_find f
 
 abbrev pub is_found_e : Phase → Bool
-is_found_e Out = false
-is_found_e OutR = false
-is_found_e OutA = false
-is_found_e MaybeB = false
-is_found_e MaybeA = false
-is_found_e Found = false
 is_found_e FoundE = true
-is_found_e Inside = false
+is_found_e f = false
 
 abbrev pub is_out_a : Phase → Bool
-is_out_a Out = false
-is_out_a OutR = false
 is_out_a OutA = true
-is_out_a MaybeB = false
-is_out_a MaybeA = false
-is_out_a Found = false
-is_out_a FoundE = false
-is_out_a Inside = false
+is_out_a f = false
 
 abbrev pub is_maybe_b : Phase → Bool
-is_maybe_b Out = false
-is_maybe_b OutR = false
-is_maybe_b OutA = false
 is_maybe_b MaybeB = true
-is_maybe_b MaybeA = false
-is_maybe_b Found = false
-is_maybe_b FoundE = false
-is_maybe_b Inside = false
+is_maybe_b f = false
 
 -- there is a first entry, and it passes the test
 abbrev pub first_passes : {A : Type 0} → (A → Bool) → List A → Bool
@@ -193,28 +140,39 @@ first_passes test (e ∷ es) = test e
 
 -- some entry's residual has the empty word exactly at a match, and then the first one's has it
 abbrev pub acceptance_agrees : {X R : Type 0} → Residuals R → Phase → List (Entry X R Tag) → Bool
-acceptance_agrees t f es = implies (list_any (λ e. t.nullable e.residual) es) (is_match f) && implies (is_match f) (first_passes (λ e. t.nullable e.residual) es)
+acceptance_agrees t f es =
+    implies (list_any (λ e. t.nullable e.residual) es) (is_match f)
+    && implies (is_match f) (first_passes (λ e. t.nullable e.residual) es)
 
 -- at a find the first entry was kept as the decoder's start, or it is due and none was
 abbrev pub find_starts_right : {X R : Type 0} → Phase → Bool → List (Entry X R Tag) → Bool
-find_starts_right f free es = implies (is_find f) (first_passes (λ e. is_ind e.tag || (is_due e.tag && free)) es)
+find_starts_right f free es =
+    implies (is_find f) (first_passes (λ e. is_ind e.tag || (is_due e.tag && free)) es)
 
 -- after a find that is complete at once the first entry's residual has no longer word
 abbrev pub early_find_ends : {X R : Type 0} → Residuals R → Phase → List (Entry X R Tag) → Bool
-early_find_ends t f es = implies (is_found_e f) (first_passes (λ e. not (t.has_longer e.residual)) es)
+early_find_ends t f es =
+    implies (is_found_e f) (first_passes (λ e. not (t.has_longer e.residual)) es)
 
 -- in a held state the first entry is the start of the held range, and where it is released no entry was
 abbrev pub held_start_first : {X R : Type 0} → Phase → Kind → Bool → List (Entry X R Tag) → Bool
-held_start_first f k free es = implies (is_held k) (first_passes (λ e. is_inc (tag_after f free e.tag)) es) && implies (is_out_a f) (not (list_any (λ e. is_inc e.tag) es))
+held_start_first f k free es =
+    implies (is_held k) (first_passes (λ e. is_inc (tag_after f free e.tag)) es)
+    && implies (is_out_a f) (not (list_any (λ e. is_inc e.tag) es))
 
 -- at a sign that may lie before a match some entry is kept as the decoder's start
 abbrev pub pending_keeps_start : {X R : Type 0} → Phase → Bool → List (Entry X R Tag) → Bool
-pending_keeps_start f free es = implies (is_maybe_b f) (list_any (λ e. is_ind (tag_after f free e.tag)) es)
+pending_keeps_start f free es =
+    implies (is_maybe_b f) (list_any (λ e. is_ind (tag_after f free e.tag)) es)
 
 -- the five checks of the kept entries, with the kind of the next state
 abbrev pub entries_agree : {X R : Type 0} → Residuals R → Phase → Kind → Bool → List (Entry X R Tag) → Bool
 entries_agree t f k free es =
-    acceptance_agrees t f es && (find_starts_right f free es && (early_find_ends t f es && (held_start_first f k free es && pending_keeps_start f free es)))
+    acceptance_agrees t f es
+    && (find_starts_right f free es
+    && (early_find_ends t f es
+    && (held_start_first f k free es
+    && pending_keeps_start f free es)))
 
 -- the check of the step: it is listed, whatever the numbers of its residuals
 
@@ -226,11 +184,11 @@ same_tag InC InC = true
 same_tag Loose Loose = true
 same_tag g h = false
 
-abbrev pub same_live : {R : Type 0} → Residuals R → List (Entry (Unit {0}) R Tag) → List (Entry (Unit {0}) R Tag) → Bool
+abbrev pub same_live : {R : Type 0} → Residuals R →
+    List (Entry (Unit {0}) R Tag) → List (Entry (Unit {0}) R Tag) → Bool
 same_live t [] [] = true
-same_live t [] (f ∷ fs) = false
-same_live t (e ∷ es) [] = false
 same_live t (e ∷ es) (f ∷ fs) = t.same e.residual f.residual && (same_tag e.tag f.tag && same_live t es fs)
+same_live t es fs = false
 
 abbrev pub same_configuration : {R : Type 0} → Residuals R → PlainConfiguration R → PlainConfiguration R → Bool
 same_configuration t x y = (x.state == y.state) && same_live t x.live y.live
@@ -241,12 +199,15 @@ step_listed s x l = list_any (λ y. same_configuration s.on y (stepped s x l)) s
 -- all six
 abbrev pub meets_checks : {R : Type 0} → Subject R → PlainConfiguration R → Letter → Bool
 meets_checks s x l =
-    step_listed s x l && entries_agree s.on (move_of s x l).phase (row_at s.rows (move_of s x l).next).kind (no_ind (before s x)) (kept s x l)
+    step_listed s x l
+    && entries_agree s.on (move_of s x l).phase (row_at s.rows (move_of s x l).next).kind (no_ind (before s x))
+    (kept s x l)
 
 -- the signs w lead from the start, over listed steps, to x
 pub data LeadsTo {R : Type 0} (s : Subject R) : List Letter → PlainConfiguration R → Type 0 where
   FromStart : (w : List Letter) (x : PlainConfiguration R) → w ≡ [] → x ≡ record { state = 0; live = [] } → LeadsTo s w x
-  OneStepOn : (v w : List Letter) (x y : PlainConfiguration R) (l : Letter) → LeadsTo s v x → IsTrue (step_listed s x l) → w ≡ v ++ l ∷ [] → y ≡ stepped s x l → LeadsTo s w y
+  OneStepOn : (v w : List Letter) (x y : PlainConfiguration R) (l : Letter) →
+      LeadsTo s v x → IsTrue (step_listed s x l) → w ≡ v ++ l ∷ [] → y ≡ stepped s x l → LeadsTo s w y
 
 abbrev pub Reached : {R : Type 0} → Subject R → PlainConfiguration R → Type 0
 Reached s x = (w : List Letter) × LeadsTo s w x

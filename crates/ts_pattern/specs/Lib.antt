@@ -11,3 +11,4 @@ pub mod TermValue
 pub mod Entries
 pub mod Closed
 pub mod Plans
+pub mod Valid

@@ -1,11 +1,14 @@
--- Series within the limits: 1 to 512 cells, each from -1,000,000 to 1,000,000.
-use Rattle.std.specs.Prelude.{◌≤◌, ℤ, pos, neg_ℤ, ◌≤ℤ◌, List, length}
+-- Series within the limits.
+use Rattle.std.specs.Prelude.{ℕ, ◌≤◌, ℤ, List, length}
 use Rattle.std.specs.List.{All}
+use Rattle.ts_base.specs.Limits.{most_cells, IsCellValue}
 
-abbrev pub IsCell : ℤ → Type 0
-IsCell x = (neg_ℤ (pos 1000000) ≤ℤ x) × (x ≤ℤ pos 1000000)
-
-pub record IsSeries (xs : List ℤ) : Type 0 where
+-- a series of 1 to so many cells
+pub record IsSeriesUpTo (most : ℕ) (xs : List ℤ) : Type 0 where
   pub some : 1 ≤ length xs
-  pub few : length xs ≤ 512
-  pub cells : All IsCell xs
+  pub few : length xs ≤ most
+  pub cells : All IsCellValue xs
+
+-- a series of a model
+abbrev pub IsSeries : List ℤ → Type 0
+IsSeries xs = IsSeriesUpTo most_cells xs

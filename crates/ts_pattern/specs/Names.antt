@@ -48,16 +48,16 @@ aggregator_name Sum = codes "sum"
 aggregator_name Max = codes "max"
 aggregator_name Min = codes "min"
 
+-- the features in their order
+abbrev pub all_features : List Feature
+all_features = One ∷ Width ∷ Surf ∷ MaxFeature ∷ MinFeature ∷ []
+
+-- the aggregators in their order
+abbrev pub all_aggregators : List Aggregator
+all_aggregators = Sum ∷ Max ∷ Min ∷ []
+
 -- the feature `one` goes with `sum` alone
 abbrev pub is_pair : Aggregator → Feature → Bool
 is_pair Sum f = true
-is_pair Max One = false
-is_pair Max Width = true
-is_pair Max Surf = true
-is_pair Max MaxFeature = true
-is_pair Max MinFeature = true
-is_pair Min One = false
-is_pair Min Width = true
-is_pair Min Surf = true
-is_pair Min MaxFeature = true
-is_pair Min MinFeature = true
+is_pair g One = false
+is_pair g f = true

@@ -12,11 +12,12 @@
 //! ```
 #![tactic(auto)]
 
-pub mod name;
-pub mod pattern;
-pub mod plan;
-pub mod table;
-pub mod term;
+pub mod laws;
+mod name;
+mod pattern;
+mod plan;
+mod table;
+mod term;
 #[cfg(test)]
 mod tests;
 

@@ -50,31 +50,33 @@ pub enum Aggregator {
     Min,
 }
 
-/// The patterns in their order.
-const PATTERNS: [PatternId; 22] = [
-    PatternId::Increasing,
-    PatternId::Decreasing,
-    PatternId::Steady,
-    PatternId::IncreasingSequence,
-    PatternId::DecreasingSequence,
-    PatternId::StrictlyIncreasingSequence,
-    PatternId::StrictlyDecreasingSequence,
-    PatternId::SteadySequence,
-    PatternId::IncreasingTerrace,
-    PatternId::DecreasingTerrace,
-    PatternId::Inflexion,
-    PatternId::Peak,
-    PatternId::Valley,
-    PatternId::Plateau,
-    PatternId::Plain,
-    PatternId::ProperPlateau,
-    PatternId::ProperPlain,
-    PatternId::Summit,
-    PatternId::Gorge,
-    PatternId::Zigzag,
-    PatternId::DipOnIncreasingSequence,
-    PatternId::BumpOnDecreasingSequence,
-];
+impl PatternId {
+    /// The patterns in their order.
+    pub const ALL: [PatternId; 22] = [
+        PatternId::Increasing,
+        PatternId::Decreasing,
+        PatternId::Steady,
+        PatternId::IncreasingSequence,
+        PatternId::DecreasingSequence,
+        PatternId::StrictlyIncreasingSequence,
+        PatternId::StrictlyDecreasingSequence,
+        PatternId::SteadySequence,
+        PatternId::IncreasingTerrace,
+        PatternId::DecreasingTerrace,
+        PatternId::Inflexion,
+        PatternId::Peak,
+        PatternId::Valley,
+        PatternId::Plateau,
+        PatternId::Plain,
+        PatternId::ProperPlateau,
+        PatternId::ProperPlain,
+        PatternId::Summit,
+        PatternId::Gorge,
+        PatternId::Zigzag,
+        PatternId::DipOnIncreasingSequence,
+        PatternId::BumpOnDecreasingSequence,
+    ];
+}
 
 /// The name of a pattern, as it stands in a text.
 pub fn pattern_name(id: PatternId) -> &'static [u8]
@@ -117,7 +119,7 @@ pub fn pattern_of(word: &[u8]) -> Option<PatternId>
 fn find_name(word: &[u8]) -> Option<PatternId>
     ensures { result ≡ find (λ id. bytes_eq (pattern_name id) word.now) all_patterns }
 {
-    PATTERNS
+    PatternId::ALL
         .iter()
         .copied()
         .find(|id| pattern_name(*id) == word)

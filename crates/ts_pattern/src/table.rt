@@ -2,10 +2,11 @@
 //!
 //! A pattern and its mirror, in which `<` and `>` are exchanged, have one function with the letters as parameters.
 
-ghost use Rattle.std.specs.Prelude.{◌≡◌, IfOk};
+ghost use Rattle.std.specs.Prelude.{◌≡◌, ◌≤◌, IfOk};
 ghost use Rattle.ts_regex.specs.Shape.{shape_of, OneLetter, Concat, Union, Repeat};
-ghost use Rattle.ts_pattern.specs.PatternTable.{plus, sequence, terrace, turn, peak, plateau, proper_plateau, slope, summit, alternation, dip, pattern_shape, pattern_b, pattern_a};
-ghost use Rattle.ts_pattern.specs.Trims.{HasLongWords};
+ghost use Rattle.ts_pattern.specs.PatternTable.{plus, sequence, terrace, turn, peak, plateau, proper_plateau};
+ghost use Rattle.ts_pattern.specs.PatternTable.{slope, summit, alternation, dip, pattern_shape, pattern_b, pattern_a};
+ghost use Rattle.ts_pattern.specs.Trims.{FitsTrims, HasLongWords};
 
 use crate::name::PatternId;
 use crate::pattern::Pattern;
@@ -15,13 +16,16 @@ use ts_regex::Regex;
 use ts_regex::regex::{alt, cat, star};
 
 /// The pattern of that name: its expression and trims (Global Constraint Catalog, Volume II).
-/// Each of its words has at least `b + a` letters, and at least one.
-#[tactic(auto, using(crate::proofs::LeastLength::has_long_words))]
+/// Each of its words has at least `b + a` letters, and at least one; `b` is at most 2, and `a` at most 1.
+#[tactic(auto, using(crate::proofs::LeastLength::has_long_words, crate::proofs::LeastLength::fits_trims, crate::proofs::LeastLength::small_before, crate::proofs::LeastLength::small_after))]
 pub fn pattern_by_id(alloc: Global, id: PatternId) -> Result<Pattern, Memory>
     ensures shape { IfOk result (λ p. shape_of p.regex ≡ pattern_shape id) }
     ensures before { IfOk result (λ p. p.b ≡ pattern_b id) }
     ensures after { IfOk result (λ p. p.a ≡ pattern_a id) }
     ensures long { IfOk result (λ p. HasLongWords (shape_of p.regex) p.b p.a) }
+    ensures fits { IfOk result (λ p. FitsTrims (shape_of p.regex) p.b p.a) }
+    ensures small_before { IfOk result (λ p. p.b ≤ 2) }
+    ensures small_after { IfOk result (λ p. p.a ≤ 1) }
 {
     Ok(Pattern {
         regex: expression(alloc, id)?,
@@ -101,7 +105,7 @@ fn plus(alloc: Global, letter: Letter) -> Result<Regex, Memory>
     cat(alloc, Regex::One(letter), star(alloc, Regex::One(letter))?)
 }
 
-// Any number of the two letters.
+/// Any number of the two letters.
 fn any_of(alloc: Global, one: Letter, other: Letter) -> Result<Regex, Memory>
     ensures { IfOk result (λ r. shape_of r ≡ Repeat (Union (OneLetter one) (OneLetter other))) }
 {
@@ -110,7 +114,8 @@ fn any_of(alloc: Global, one: Letter, other: Letter) -> Result<Regex, Memory>
 
 // The first letter, the middle part, the last letter.
 fn between(alloc: Global, first: Letter, middle: Regex, last: Letter) -> Result<Regex, Memory>
-    ensures { IfOk result (λ r. shape_of r ≡ Concat (OneLetter first) (Concat (shape_of middle) (OneLetter last))) }
+    ensures { IfOk result (λ r. shape_of r ≡
+        Concat (OneLetter first) (Concat (shape_of middle) (OneLetter last))) }
 {
     cat(
         alloc,
@@ -119,7 +124,7 @@ fn between(alloc: Global, first: Letter, middle: Regex, last: Letter) -> Result<
     )
 }
 
-// up(up|=)*up|up
+/// up(up|=)*up|up
 fn sequence(alloc: Global, up: Letter) -> Result<Regex, Memory>
     ensures { IfOk result (λ r. shape_of r ≡ sequence up) }
 {
@@ -127,7 +132,7 @@ fn sequence(alloc: Global, up: Letter) -> Result<Regex, Memory>
     alt(alloc, between(alloc, up, middle, up)?, Regex::One(up))
 }
 
-// up=+up
+/// up=+up
 fn terrace(alloc: Global, up: Letter) -> Result<Regex, Memory>
     ensures { IfOk result (λ r. shape_of r ≡ terrace up) }
 {
@@ -135,7 +140,7 @@ fn terrace(alloc: Global, up: Letter) -> Result<Regex, Memory>
     between(alloc, up, middle, up)
 }
 
-// up(up|=)*down
+/// up(up|=)*down
 fn turn(alloc: Global, up: Letter, down: Letter) -> Result<Regex, Memory>
     ensures { IfOk result (λ r. shape_of r ≡ turn up down) }
 {
@@ -144,13 +149,13 @@ fn turn(alloc: Global, up: Letter, down: Letter) -> Result<Regex, Memory>
 }
 
 fn inflexion(alloc: Global) -> Result<Regex, Memory>
-    ensures { IfOk result (λ r. shape_of r ≡ Union (turn Letter.Less Letter.Greater) (turn Letter.Greater Letter.Less)) }
+    ensures { IfOk result (λ r. shape_of r ≡ pattern_shape PatternId.Inflexion) }
 {
     let rise = turn(alloc, Letter::Less, Letter::Greater)?;
     alt(alloc, rise, turn(alloc, Letter::Greater, Letter::Less)?)
 }
 
-// up(=|up)*(down|=)*down
+/// up(=|up)*(down|=)*down
 fn peak(alloc: Global, up: Letter, down: Letter) -> Result<Regex, Memory>
     ensures { IfOk result (λ r. shape_of r ≡ peak up down) }
 {
@@ -163,7 +168,7 @@ fn peak(alloc: Global, up: Letter, down: Letter) -> Result<Regex, Memory>
     )
 }
 
-// up=*down
+/// up=*down
 fn plateau(alloc: Global, up: Letter, down: Letter) -> Result<Regex, Memory>
     ensures { IfOk result (λ r. shape_of r ≡ plateau up down) }
 {
@@ -171,7 +176,7 @@ fn plateau(alloc: Global, up: Letter, down: Letter) -> Result<Regex, Memory>
     between(alloc, up, middle, down)
 }
 
-// up=+down
+/// up=+down
 fn proper_plateau(alloc: Global, up: Letter, down: Letter) -> Result<Regex, Memory>
     ensures { IfOk result (λ r. shape_of r ≡ proper_plateau up down) }
 {
@@ -179,7 +184,7 @@ fn proper_plateau(alloc: Global, up: Letter, down: Letter) -> Result<Regex, Memo
     between(alloc, up, middle, down)
 }
 
-// up|up(=|up)*up
+/// up|up(=|up)*up
 fn slope(alloc: Global, up: Letter) -> Result<Regex, Memory>
     ensures { IfOk result (λ r. shape_of r ≡ slope up) }
 {
@@ -187,7 +192,7 @@ fn slope(alloc: Global, up: Letter) -> Result<Regex, Memory>
     alt(alloc, Regex::One(up), between(alloc, up, middle, up)?)
 }
 
-// (up|up(=|up)*up)(down|down(=|down)*down)
+/// (up|up(=|up)*up)(down|down(=|down)*down)
 fn summit(alloc: Global, up: Letter, down: Letter) -> Result<Regex, Memory>
     ensures { IfOk result (λ r. shape_of r ≡ summit up down) }
 {
@@ -195,7 +200,7 @@ fn summit(alloc: Global, up: Letter, down: Letter) -> Result<Regex, Memory>
     cat(alloc, ascent, slope(alloc, down)?)
 }
 
-// (up down)+(up|up down)
+/// (up down)+(up|up down)
 fn alternation(alloc: Global, up: Letter, down: Letter) -> Result<Regex, Memory>
     ensures { IfOk result (λ r. shape_of r ≡ alternation up down) }
 {
@@ -208,7 +213,7 @@ fn alternation(alloc: Global, up: Letter, down: Letter) -> Result<Regex, Memory>
     )
 }
 
-// One letter, then the other.
+/// One letter, then the other.
 fn both(alloc: Global, one: Letter, other: Letter) -> Result<Regex, Memory>
     ensures { IfOk result (λ r. shape_of r ≡ Concat (OneLetter one) (OneLetter other)) }
 {
@@ -216,7 +221,7 @@ fn both(alloc: Global, one: Letter, other: Letter) -> Result<Regex, Memory>
 }
 
 fn zigzag(alloc: Global) -> Result<Regex, Memory>
-    ensures { IfOk result (λ r. shape_of r ≡ Union (alternation Letter.Less Letter.Greater) (alternation Letter.Greater Letter.Less)) }
+    ensures { IfOk result (λ r. shape_of r ≡ pattern_shape PatternId.Zigzag) }
 {
     let rise = alternation(alloc, Letter::Less, Letter::Greater)?;
     alt(
@@ -226,7 +231,7 @@ fn zigzag(alloc: Global) -> Result<Regex, Memory>
     )
 }
 
-// up up down up up
+/// up up down up up
 fn dip(alloc: Global, up: Letter, down: Letter) -> Result<Regex, Memory>
     ensures { IfOk result (λ r. shape_of r ≡ dip up down) }
 {

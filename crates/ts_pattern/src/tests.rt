@@ -1,11 +1,12 @@
-//! Each public call once: names, terms and a pattern.
+//! Each public call once: names, terms, a pattern, and a plan.
 
 use crate::{
-    Aggregator, Feature, PatternId, Term, aggregator_of, feature_of, pattern_by_id, pattern_name,
-    pattern_of,
+    Aggregator, Configuration, Feature, Live, PatternId, Plan, Tag, Term, aggregator_of,
+    feature_of, pattern_by_id, pattern_name, pattern_of,
 };
+use std::alloc::Global;
 use ts_base::{Letter, Memory};
-use ts_regex::member;
+use ts_regex::{Regex, member};
 
 #[test]
 fn names_terms_and_patterns(rt: HostRuntime) -> Result<(), Memory> {
@@ -33,5 +34,38 @@ fn names_terms_and_patterns(rt: HostRuntime) -> Result<(), Memory> {
     ];
     assert!(rt; member(alloc, &dip.regex, &word)?);
     assert!(rt; !member(alloc, &dip.regex, &word[1..])?);
+    let copy = dip.try_clone(alloc)?;
+    assert!(rt; copy.b == 2 && copy.a == 1 && copy.regex.same(&dip.regex));
+    for id in PatternId::ALL {
+        assert!(rt; pattern_of(pattern_name(id)) == Some(id));
+    }
+    Ok(())
+}
+
+/// A plan of one residual and two configurations, the second with one entry.
+fn plan(alloc: Global, letter: Letter, state: u8, residual: u32) -> Result<Plan, Memory> {
+    let mut residuals = Vec::new(alloc);
+    residuals.push(Regex::One(letter))?;
+    let mut live = Vec::new(alloc);
+    let tag = Tag::Due;
+    live.push(Live { residual, tag })?;
+    let mut configurations = Vec::new(alloc);
+    let none = Vec::new(alloc);
+    configurations.push(Configuration { state, live: none })?;
+    configurations.push(Configuration { state: 1, live })?;
+    Ok(Plan {
+        residuals,
+        configurations,
+    })
+}
+
+#[test]
+fn plans_of_a_pattern(rt: HostRuntime) -> Result<(), Memory> {
+    let alloc = rt.alloc();
+    let increasing = pattern_by_id(alloc, PatternId::Increasing)?;
+    assert!(rt; plan(alloc, Letter::Less, 0, 0)?.is_of(alloc, &increasing)?);
+    assert!(rt; !plan(alloc, Letter::Equal, 0, 0)?.is_of(alloc, &increasing)?);
+    assert!(rt; !plan(alloc, Letter::Less, 1, 0)?.is_of(alloc, &increasing)?);
+    assert!(rt; !plan(alloc, Letter::Less, 0, 1)?.is_of(alloc, &increasing)?);
     Ok(())
 }

@@ -1,0 +1,25 @@
+//! Laws of the definitions: what the list of occurrences holds, and what the test of a plan shows.
+
+ghost use Rattle.std.specs.Prelude.{◌≡◌, ℕ, List, IsTrue};
+ghost use Rattle.ts_base.specs.declared.letter.Letter.{Letter};
+ghost use Rattle.ts_base.specs.declared.range.Range.{Range};
+ghost use Rattle.ts_regex.specs.Shape.{Shape};
+ghost use Rattle.ts_transducer.specs.declared.row.Row.{Row};
+ghost use Rattle.ts_pattern.specs.OccurrenceList.{AreRanges};
+ghost use Rattle.ts_pattern.specs.AllOccurrences.{occurrence_ranges};
+ghost use Rattle.ts_pattern.specs.Closed.{IsClosed};
+ghost use Rattle.ts_pattern.specs.Plans.{PlainPlan, subject, is_closed};
+
+/// For all expressions, trims and signatures the list of occurrences has the maximal matches over words, by rising
+/// start, and no others; it is the one list of this kind.
+pub fn all_occurrences()
+    ensures all { (p : Shape) (b a : ℕ) (w : List Letter) → AreRanges p b a w (occurrence_ranges p b a w) }
+    ensures one { (p : Shape) (b a : ℕ) (w : List Letter) (ranges : List Range) →
+        AreRanges p b a w ranges → ranges ≡ occurrence_ranges p b a w }
+{}
+
+/// Where the test that computes is true, the plan is closed.
+pub fn test_is_closed()
+    ensures { (rows : List Row) (p : Shape) (b : ℕ) (plan : PlainPlan) →
+        IsTrue (is_closed rows p b plan) → IsClosed (subject rows p b plan) }
+{}
