@@ -11,7 +11,7 @@ use Rattle.ts_regex.proofs.Laws.{nullable_law}
 use Rattle.ts_pattern.specs.EachOf.{Each, OneOf}
 use Rattle.ts_pattern.specs.Occurrences.{IsMatch, IsOccurrence}
 use Rattle.ts_pattern.specs.OccurrenceList.{Place, RisingPlaces, AreOccurrences, e_range, AreRanges}
-use Rattle.ts_pattern.specs.FeatureValue.{IsInside}
+use Rattle.ts_transducer.specs.Inside.{IsInside}
 use Rattle.ts_pattern.specs.Trims.{FitsTrims}
 use Rattle.ts_pattern.proofs.OneLetter.{IsLeastStart}
 use Rattle.ts_pattern.proofs.Entries.{Rising, Covers}

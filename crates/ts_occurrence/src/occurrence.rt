@@ -10,7 +10,7 @@ ghost use Rattle.ts_pattern.specs.EachOf.{Each};
 ghost use Rattle.ts_pattern.specs.Trims.{FitsTrims};
 ghost use Rattle.ts_pattern.specs.OccurrenceList.{AreRanges};
 ghost use Rattle.ts_pattern.specs.AllOccurrences.{occurrence_ranges};
-ghost use Rattle.ts_pattern.specs.FeatureValue.{IsInside};
+ghost use Rattle.ts_transducer.specs.Inside.{IsInside};
 ghost use Rattle.ts_occurrence.specs.Noted.{IsCut, IsNoted};
 
 use crate::live::{after_letter, first_ending};

@@ -2,7 +2,8 @@
 
 ghost use Rattle.std.specs.Prelude.{◌≡◌, ◌≤◌, length, IfOk};
 ghost use Rattle.ts_base.specs.Signature.{signature_of};
-ghost use Rattle.ts_pattern.specs.FeatureValue.{IsInside, cells_of};
+ghost use Rattle.ts_pattern.specs.FeatureValue.{cells_of};
+ghost use Rattle.ts_transducer.specs.Inside.{IsInside};
 
 use std::alloc::Global;
 use ts_base::{Letter, Memory, Range, letter_of};

@@ -8,8 +8,10 @@ ghost use Rattle.std.specs.List.{All, fold};
 ghost use Rattle.std.specs.Int.{int_max, int_min};
 ghost use Rattle.ts_base.specs.Signature.{signature_of};
 ghost use Rattle.ts_pattern.specs.EachOf.{Each};
-ghost use Rattle.ts_pattern.specs.Limits.{IsCell, IsSeries};
-ghost use Rattle.ts_pattern.specs.FeatureValue.{IsInside, over, or_zero, feature_of_cells, feature_value};
+ghost use Rattle.ts_pattern.specs.Limits.{IsSeries};
+ghost use Rattle.ts_base.specs.Limits.{IsCellValue};
+ghost use Rattle.ts_pattern.specs.FeatureValue.{over, or_zero, feature_of_cells, feature_value};
+ghost use Rattle.ts_transducer.specs.Inside.{IsInside};
 ghost use Rattle.ts_occurrence.specs.Total.{IsWithin, with_one};
 ghost use Rattle.ts_pattern.specs.TermValue.{joined, value_of_none, aggregate_of_ranges, term_value};
 
@@ -110,7 +112,7 @@ fn feature_at(f: Feature, r: Range, series: &[i64]) -> i64
 // The feature of an e-range with those cells.
 fn feature(f: Feature, cells: &[i64]) -> i64
     requires few { length cells.now ≤ 512 }
-    requires cells { All IsCell cells.now }
+    requires cells { All IsCellValue cells.now }
     ensures exact { result ≡ feature_of_cells f cells.now }
     ensures within { IsWithin 512000000 result }
 {
@@ -126,7 +128,7 @@ fn feature(f: Feature, cells: &[i64]) -> i64
 // The sum, the greatest or the least of the cells; 0 where there is none.
 fn over(g: Aggregator, cells: &[i64]) -> i64
     requires few { length cells.now ≤ 512 }
-    requires cells { All IsCell cells.now }
+    requires cells { All IsCellValue cells.now }
     ensures exact { result ≡ or_zero (over (joined g) cells.now) }
     ensures within { IsWithin 512000000 result }
 {

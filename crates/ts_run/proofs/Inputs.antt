@@ -8,7 +8,8 @@ use Rattle.std.specs.List.{AllByRecursion}
 use Rattle.std.proofs.lemmas.Bool.Decides.{nat_tests}
 use Rattle.std.proofs.lemmas.Int.{ints}
 use Rattle.std.proofs.lemmas.List.Elements.{All-from_recursion}
-use Rattle.ts_pattern.specs.Limits.{IsCell, IsSeries}
+use Rattle.ts_pattern.specs.Limits.{IsSeries}
+use Rattle.ts_base.specs.Limits.{IsCellValue}
 use Rattle.ts_token.specs.Text.{Cut, is_lf, onto_line}
 use Rattle.ts_token.specs.Number.{number_of}
 use Rattle.ts_token.proofs.HalfLaws.{joined_chunks}
@@ -45,42 +46,42 @@ pub rest_now : (rest : Option (Bor (List ℕ))) (none : Bor (List ℕ)) → none
 rest_now None none e = e
 rest_now (Some r) none e = refl
 
-value_cell : (v : ℤ) → is_value v ≡ true → IsCell v
+value_cell : (v : ℤ) → is_value v ≡ true → IsCellValue v
 value_cell v h = grind (arith, ints)
 
-chosen : (b : Bool) (v x : ℤ) → (b ≡ true → IsCell v) → cond b (Some v) None ≡ Some x → IsCell x
-chosen true v x h e = let same : v ≡ x = cc in subst (λ (z : ℤ). IsCell z) same (h refl)
+chosen : (b : Bool) (v x : ℤ) → (b ≡ true → IsCellValue v) → cond b (Some v) None ≡ Some x → IsCellValue x
+chosen true v x h e = let same : v ≡ x = cc in subst (λ (z : ℤ). IsCellValue z) same (h refl)
 chosen false v x h e = cc
 
-within_cell : (o : Option ℤ) (x : ℤ) → within o ≡ Some x → IsCell x
+within_cell : (o : Option ℤ) (x : ℤ) → within o ≡ Some x → IsCellValue x
 within_cell None x e = cc
 within_cell (Some v) x e = chosen (is_value v) v x (λ h. value_cell v h) e
 
-word_cell : (word : List ℕ) (x : ℤ) → value_of word ≡ Some x → IsCell x
+word_cell : (word : List ℕ) (x : ℤ) → value_of word ≡ Some x → IsCellValue x
 unfolding value_of
 word_cell word x e = within_cell (number_of word) x e
 
-more_cells : (first : Option ℤ) (rest : Option (List ℤ)) (xs : List ℤ) → ((x : ℤ) → first ≡ Some x → IsCell x) →
-    ((ys : List ℤ) → rest ≡ Some ys → AllByRecursion IsCell ys) → onto first rest ≡ Some xs → AllByRecursion IsCell xs
+more_cells : (first : Option ℤ) (rest : Option (List ℤ)) (xs : List ℤ) → ((x : ℤ) → first ≡ Some x → IsCellValue x) →
+    ((ys : List ℤ) → rest ≡ Some ys → AllByRecursion IsCellValue ys) → onto first rest ≡ Some xs → AllByRecursion IsCellValue xs
 more_cells None rest xs f r e = cc
 more_cells (Some x) None xs f r e = cc
-more_cells (Some x) (Some ys) xs f r e = let same : x ∷ ys ≡ xs = cc in subst (λ (z : List ℤ). AllByRecursion IsCell z) same (f x refl, r ys refl)
+more_cells (Some x) (Some ys) xs f r e = let same : x ∷ ys ≡ xs = cc in subst (λ (z : List ℤ). AllByRecursion IsCellValue z) same (f x refl, r ys refl)
 
-words_cells : (words : List (List ℕ)) (xs : List ℤ) → values_of words ≡ Some xs → AllByRecursion IsCell xs
-words_cells [] xs e = let same : [] ≡ xs = cc in subst (λ (z : List ℤ). AllByRecursion IsCell z) same tt
+words_cells : (words : List (List ℕ)) (xs : List ℤ) → values_of words ≡ Some xs → AllByRecursion IsCellValue xs
+words_cells [] xs e = let same : [] ≡ xs = cc in subst (λ (z : List ℤ). AllByRecursion IsCellValue z) same tt
 words_cells (w ∷ ws) xs e = more_cells (value_of w) (values_of ws) xs (λ x h. word_cell w x h) (λ ys h. words_cells ws ys h) e
 
 record Fits (n : ℕ) (xs : List ℤ) : Type 0 where
   count : length xs ≡ n
-  cells : AllByRecursion IsCell xs
+  cells : AllByRecursion IsCellValue xs
 
-counted : (b : Bool) (n : ℕ) (vs xs : List ℤ) → length vs == n ≡ b → AllByRecursion IsCell vs → cond b (Ok vs) (Err Length) ≡ Ok xs → Fits n xs
+counted : (b : Bool) (n : ℕ) (vs xs : List ℤ) → length vs == n ≡ b → AllByRecursion IsCellValue vs → cond b (Ok vs) (Err Length) ≡ Ok xs → Fits n xs
 counted true n vs xs t cells e =
     let same : vs ≡ xs = cc in
     subst (λ (z : List ℤ). Fits n z) same (record { count = grind (arith, nat_tests, t); cells = cells })
 counted false n vs xs t cells e = cc
 
-numbers_fit : (n : ℕ) (o : Option (List ℤ)) (xs : List ℤ) → ((ys : List ℤ) → o ≡ Some ys → AllByRecursion IsCell ys) → numbers_give n o ≡ Ok xs → Fits n xs
+numbers_fit : (n : ℕ) (o : Option (List ℤ)) (xs : List ℤ) → ((ys : List ℤ) → o ≡ Some ys → AllByRecursion IsCellValue ys) → numbers_give n o ≡ Ok xs → Fits n xs
 numbers_fit n None xs f e = cc
 numbers_fit n (Some vs) xs f e = counted (length vs == n) n vs xs refl (f vs refl) e
 
@@ -93,4 +94,4 @@ pub series_fits : (n : ℕ) (c : Cut) (xs : List ℤ) → series_reading n c ≡
 series_fits n c xs e some few =
     let f = words_fit n (series_words c c.not_text) xs e in
     let count = f.count in
-    record { some = omega arith; few = omega arith; cells = All-from_recursion IsCell xs f.cells }
+    record { some = omega arith; few = omega arith; cells = All-from_recursion IsCellValue xs f.cells }

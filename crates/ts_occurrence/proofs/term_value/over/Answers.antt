@@ -3,7 +3,7 @@ use Rattle.std.proofs.lemmas.Int.{to_z-of_z}
 use mir.Val.{SFits}
 use Rattle.ts_pattern.specs.FeatureValue.{over}
 use Rattle.ts_pattern.specs.TermValue.{joined}
-use Rattle.ts_pattern.specs.Limits.{IsCell}
+use Rattle.ts_base.specs.Limits.{IsCellValue}
 use Rattle.ts_occurrence.specs.Total.{IsWithin}
 use Rattle.ts_occurrence.proofs.Totals.{over_more, within_more}
 use Rattle.ts_occurrence.proofs.term_value.over.Goals as goal
@@ -22,5 +22,5 @@ loop-k-preserved c =
       within = subst (λ z. IsWithin (1000000 * (c.loop-k.k + 1)) z) (sym back)
           (within_more c.args.g 1000000 c.loop-k.k (to_z w64 (of_z w64 (get_or c.args.cells.now c.loop-k.k (pos 0)))) c.join.result c.loop-k.total
           c.loop-k.invariant.within
-          (subst IsCell (sym cell) (c.requires.cells c.loop-k.k (pos 0) c.loop-k-test.true)) c.join.ensures);
+          (subst IsCellValue (sym cell) (c.requires.cells c.loop-k.k (pos 0) c.loop-k-test.true)) c.join.ensures);
     }

@@ -1,7 +1,7 @@
 use Rattle.std.proofs.Common.{◌≡◌, ◌+◌, length, sym, ap, subst, arith}
 use Rattle.ts_regex.specs.Shape.{shape_of}
 use Rattle.ts_pattern.specs.EachOf.{Each}
-use Rattle.ts_pattern.specs.FeatureValue.{IsInside}
+use Rattle.ts_transducer.specs.Inside.{IsInside}
 use Rattle.ts_occurrence.proofs.Values.{signature_length, few_ranges, value_is}
 use Rattle.ts_occurrence.proofs.term_value.value_with.Goals as goal
 
