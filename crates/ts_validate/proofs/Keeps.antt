@@ -1,68 +1,22 @@
 -- What the decoder keeps, by the kind of the state and the tags of the live entries, over one letter.
 use Rattle.std.specs.Prelude.{◌≡◌, ℕ, zero, suc, ◌+◌, ◌-◌, ◌≤◌, Bool, true, false, List, [], ◌∷◌, ◌++◌, Option, None, Some, refl}
 use Rattle.std.proofs.Common.{sym, ◌∙◌, ap, subst, arith}
-use Rattle.std.proofs.lemmas.Bool.{and_parts, false≢true}
 use Rattle.std.proofs.lemmas.Option.{none-some}
+use Rattle.std.specs.Option.{option_to_list}
 use Rattle.ts_base.specs.declared.range.Range.{Range}
 use Rattle.ts_base.specs.declared.range.Kind.{Kind}
-use Rattle.ts_base.specs.declared.range.Kind.TheVariants.{Idle, Pending, Held}
+use Rattle.ts_base.specs.declared.range.Kind.TheVariants.{Held}
 use Rattle.ts_regex.specs.Shape.{Shape}
 use Rattle.ts_transducer.specs.declared.row.Phase.{Phase}
 use Rattle.ts_transducer.specs.declared.row.Phase.TheVariants.{Out, OutR, OutA, MaybeB, MaybeA, Found, FoundE, Inside}
 use Rattle.ts_pattern.specs.declared.plan.Tag.{Tag}
 use Rattle.ts_pattern.specs.declared.plan.Tag.TheVariants.{Young, Due, InD, InC, Loose}
-use Rattle.ts_transducer.specs.Typing.{is_idle, is_pending, is_held, is_free, may_move}
-use Rattle.ts_transducer.specs.Decode.{begins, ends_at, start_after, held_after, listed}
+use Rattle.ts_transducer.specs.Keeps.{KindHolds}
+use Rattle.ts_transducer.proofs.CallerLemmas.{IsFree, Typed, free_range}
+use Rattle.ts_transducer.specs.Decode.{begins, ends_at, start_after, held_after}
 use Rattle.ts_pattern.specs.Entries.{Entry}
 use Rattle.ts_pattern.specs.OccurrenceList.{Place, e_range}
 use Rattle.ts_pattern.specs.Closed.{younger, due_after, ind_after, inc_after, tag_after, first_tag}
-
--- the typing of moves, as facts
-
-abbrev pub IsFree : Kind → Type 0
-IsFree Idle = Unit {0}
-IsFree Pending = Unit {0}
-IsFree Held = ⊥
-
-abbrev pub Typed : Kind → Phase → Kind → Type 0
-Typed k Out k' = (k ≡ Idle) × IsFree k'
-Typed k OutR k' = (k ≡ Pending) × IsFree k'
-Typed k MaybeB k' = IsFree k × (k' ≡ Pending)
-Typed k FoundE k' = IsFree k × IsFree k'
-Typed k Found k' = IsFree k × (k' ≡ Held)
-Typed k MaybeA k' = (k ≡ Held) × (k' ≡ Held)
-Typed k Inside k' = (k ≡ Held) × (k' ≡ Held)
-Typed k OutA k' = (k ≡ Held) × IsFree k'
-
-pub free_kind : (k : Kind) → is_free k ≡ true → IsFree k
-free_kind Idle q = tt
-free_kind Pending q = tt
-free_kind Held q = false≢true q
-
-pub idle_kind : (k : Kind) → is_idle k ≡ true → k ≡ Idle
-idle_kind Idle q = refl
-idle_kind Pending q = absurd (false≢true q)
-idle_kind Held q = absurd (false≢true q)
-
-pub pending_kind : (k : Kind) → is_pending k ≡ true → k ≡ Pending
-pending_kind Idle q = absurd (false≢true q)
-pending_kind Pending q = refl
-pending_kind Held q = absurd (false≢true q)
-
-pub held_kind : (k : Kind) → is_held k ≡ true → k ≡ Held
-held_kind Idle q = absurd (false≢true q)
-held_kind Pending q = absurd (false≢true q)
-held_kind Held q = refl
-
-pub typed_move : (k : Kind) (f : Phase) (k' : Kind) → may_move k f k' ≡ true → Typed k f k'
-typed_move k Out k' q = let h = and_parts (is_idle k) (is_free k') q in (idle_kind k h.0, free_kind k' h.1)
-typed_move k OutR k' q = let h = and_parts (is_pending k) (is_free k') q in (pending_kind k h.0, free_kind k' h.1)
-typed_move k OutA k' q = let h = and_parts (is_held k) (is_free k') q in (held_kind k h.0, free_kind k' h.1)
-typed_move k MaybeB k' q = let h = and_parts (is_free k) (is_pending k') q in (free_kind k h.0, pending_kind k' h.1)
-typed_move k MaybeA k' q = let h = and_parts (is_held k) (is_held k') q in (held_kind k h.0, held_kind k' h.1)
-typed_move k Found k' q = let h = and_parts (is_free k) (is_held k') q in (free_kind k h.0, held_kind k' h.1)
-typed_move k FoundE k' q = let h = and_parts (is_free k) (is_free k') q in (free_kind k h.0, free_kind k' h.1)
-typed_move k Inside k' q = let h = and_parts (is_held k) (is_held k') q in (held_kind k h.0, held_kind k' h.1)
 
 abbrev pub first_of : Option Range → ℕ
 first_of None = 0
@@ -80,7 +34,7 @@ first_mark (e ∷ es) = e.mark
 abbrev pub done_after : Phase → ℕ → List (Entry ℕ Shape Tag) → List Place → Option Place → List Place
 done_after Out n sv ps x = ps
 done_after OutR n sv ps x = ps
-done_after OutA n sv ps x = ps ++ listed x
+done_after OutA n sv ps x = ps ++ option_to_list x
 done_after MaybeB n sv ps x = ps
 done_after MaybeA n sv ps x = ps
 done_after Found n sv ps x = ps
@@ -97,37 +51,27 @@ pair_after Found n sv x = Some (record { start = first_mark sv; end = n })
 pair_after FoundE n sv x = x
 pair_after Inside n sv x = Some (record { start = first_mark sv; end = n })
 
-abbrev pub KindHolds : Kind → Option ℕ → Option Place → Type 0
-KindHolds Idle d x = (d ≡ None) × (x ≡ None)
-KindHolds Pending d x = x ≡ None
-KindHolds Held d x = (d ≡ None) × ((y : Place) × (x ≡ Some y))
+-- a pair is held exactly where a range is
 
-pub free_holds : (k : Kind) (d : Option ℕ) (x : Option Place) → IsFree k → d ≡ None → x ≡ None → KindHolds k d x
-free_holds Idle d x f p q = (p, q)
-free_holds Pending d x f p q = q
-free_holds Held d x f p q = absurd f
+no_range : (a b : ℕ) (x : Option Place) → held_range a b x ≡ None → x ≡ None
+no_range a b None q = refl
+no_range a b (Some x) q = absurd (none-some (e_range b a x) (sym q))
 
-pub free_pair : (k : Kind) (d : Option ℕ) (x : Option Place) → IsFree k → KindHolds k d x → x ≡ None
-free_pair Idle d x f h = h.1
-free_pair Pending d x f h = h
-free_pair Held d x f h = absurd f
+some_range : (a b : ℕ) (x : Option Place) (r : Range) → held_range a b x ≡ Some r → (y : Place) × (x ≡ Some y)
+some_range a b None r q = absurd (none-some r q)
+some_range a b (Some x) r q = (x, refl)
 
-pub kinds_step : (f : Phase) (k k' : Kind) (n : ℕ) (sv : List (Entry ℕ Shape Tag)) (d : Option ℕ) (x : Option Place) → Typed k f k' → KindHolds k d x →
-    KindHolds k' (start_after f n d) (pair_after f n sv x)
-kinds_step Out k k' n sv d x t h = let g = subst (λ z. KindHolds z d x) t.0 h in free_holds k' d x t.1 g.0 g.1
-kinds_step OutR k k' n sv d x t h = free_holds k' None x t.1 refl (subst (λ z. KindHolds z d x) t.0 h)
-kinds_step OutA k k' n sv d x t h = free_holds k' None None t.1 refl refl
-kinds_step MaybeB k k' n sv d x t h = subst (λ z. KindHolds z (Some (begins n d)) x) (sym t.1) (free_pair k d x t.0 h)
-kinds_step MaybeA k k' n sv d x t h = subst (λ z. KindHolds z d x) (t.0 ∙ sym t.1) h
-kinds_step Found k k' n sv d x t h = subst (λ z. KindHolds z None (Some (record { start = first_mark sv; end = n }))) (sym t.1)
-    (refl, (record { start = first_mark sv; end = n }, refl))
-kinds_step FoundE k k' n sv d x t h = free_holds k' None x t.1 refl (free_pair k d x t.0 h)
-kinds_step Inside k k' n sv d x t h =
-    let g = subst (λ z. KindHolds z d x) t.0 h in
-    subst (λ z. KindHolds z d (Some (record { start = first_mark sv; end = n }))) (sym t.1) (g.0, (record { start = first_mark sv; end = n }, refl))
+pub free_pair : (a b : ℕ) (k : Kind) (d : Option ℕ) (c : Option Range) (x : Option Place) → KindHolds k d c → c ≡ held_range a b x → IsFree k → x ≡ None
+free_pair a b k d c x h e f = no_range a b x (sym e ∙ free_range k d c f h)
+
+pub held_pair : (a b : ℕ) (k : Kind) (d : Option ℕ) (c : Option Range) (x : Option Place) → KindHolds k d c → c ≡ held_range a b x → k ≡ Held →
+    (y : Place) × (x ≡ Some y)
+held_pair a b k d c x h e q =
+    let g = (subst (λ z. KindHolds z d c) q h).1 in
+    some_range a b x g.0 (sym e ∙ g.1)
 
 -- d is set after a letter only where the phase is MaybeB
-pub pending_only : (f : Phase) (k k' : Kind) (n : ℕ) (d : Option ℕ) (x : Option Place) (y : ℕ) → Typed k f k' → KindHolds k d x → start_after f n d ≡ Some y →
+pub pending_only : (f : Phase) (k k' : Kind) (n : ℕ) (d : Option ℕ) (x : Option Range) (y : ℕ) → Typed k f k' → KindHolds k d x → start_after f n d ≡ Some y →
     f ≡ MaybeB
 pending_only Out k k' n d x y t h q = let g = subst (λ z. KindHolds z d x) t.0 h in absurd (none-some y (sym g.0 ∙ q))
 pending_only OutR k k' n d x y t h q = absurd (none-some y q)

@@ -4,6 +4,7 @@ use Rattle.std.specs.Prelude.{◌≡◌, ℕ, ◌+◌, Bool, true, List, [], ◌
 use Rattle.std.proofs.Common.{sym, ◌∙◌, ap, subst, arith, length-append, append-nil, append_assoc}
 use Rattle.std.proofs.lemmas.Bool.{and_parts}
 use Rattle.std.proofs.lemmas.List.{map-append}
+use Rattle.std.specs.Option.{option_to_list}
 use Rattle.ts_base.specs.declared.letter.Letter.{Letter}
 use Rattle.ts_base.specs.declared.range.Kind.{Kind}
 use Rattle.ts_regex.specs.Shape.{Shape}
@@ -12,8 +13,8 @@ use Rattle.ts_regex.proofs.Laws.{normal_law}
 use Rattle.ts_transducer.specs.declared.row.Phase.{Phase}
 use Rattle.ts_transducer.specs.declared.row.Row.{Row}
 use Rattle.ts_transducer.specs.Typing.{is_typed}
-use Rattle.ts_transducer.specs.Decode.{emitted_at, listed, row_at, arrow_on, decode_from, decode}
-use Rattle.ts_transducer.proofs.Moves.{move_typed, start_idle}
+use Rattle.ts_transducer.specs.Decode.{emitted_at, row_at, arrow_on, decode_from, decode}
+use Rattle.ts_transducer.proofs.CallerLemmas.{Typed, move_typed, start_idle}
 use Rattle.ts_pattern.specs.declared.plan.Tag.{Tag}
 use Rattle.ts_pattern.specs.EachOf.{Each}
 use Rattle.ts_pattern.specs.Entries.{Entry, shapes, survivors}
@@ -23,7 +24,6 @@ use Rattle.ts_pattern.proofs.AllOccurrences.{ranges_are}
 use Rattle.ts_pattern.proofs.Entries.{shapes_right}
 use Rattle.ts_pattern.proofs.Renamed.{renamed, NextAgrees, WordsAgree, survivors_renamed, retag_renamed, no_ind_renamed, agree_renamed}
 use Rattle.ts_validate.specs.Valid.{IsValid}
-use Rattle.ts_validate.proofs.Keeps.{Typed, typed_move, idle_kind}
 use Rattle.ts_validate.proofs.Traces.{Trace, IsTraced, trace_step}
 use Rattle.ts_validate.proofs.TraceStep.{traced_step, traced_start, no_trace, decoded, decoded_is}
 use Rattle.ts_validate.proofs.Checks.{checks_met}
@@ -100,7 +100,7 @@ run_decodes rows p0 a b k q x [] = refl
 run_decodes rows p0 a b k q x (l ∷ ls) =
     let y : Trace = trace_step shapes p0 a b k l (phase_at rows q l) (kind_at rows (next_at rows q l)) x in
     run_decodes rows p0 a b (k + 1) (next_at rows q l) y ls
-    ∙ append_assoc x.emitted (listed (emitted_at (phase_at rows q l) a (k + 1) x.d x.c)) (decode_from rows a (k + 1) (next_at rows q l) y.d y.c ls)
+    ∙ append_assoc x.emitted (option_to_list (emitted_at (phase_at rows q l) a (k + 1) x.d x.c)) (decode_from rows a (k + 1) (next_at rows q l) y.d y.c ls)
 
 -- the trace after more signs, where the plan is closed
 traced_run : (rows : List Row) → is_typed rows ≡ true → (p : Shape) (b a : ℕ) (plan : PlainPlan) → IsClosed (subject rows p b plan) →
@@ -116,7 +116,7 @@ traced_run rows ty p b a plan cl (l ∷ ls) w k q x e s g h =
     (survivors shapes l (appended tt (normal_form p) b (bare x.live)))) (cl at g l) in
     let typed : Typed x.state (phase_at rows q l) (kind_at rows (next_at rows q l)) =
     subst (λ z. Typed z (phase_at rows q l) (kind_at rows (next_at rows q l))) (sym s)
-    (typed_move (kind_at rows q) (phase_at rows q l) (kind_at rows (next_at rows q l)) (move_typed rows ty q l)) in
+    (move_typed rows ty q l) in
     let ch = checks_met (phase_at rows q l) (kind_at rows (next_at rows q l)) (no_ind (appended (length w) (normal_form p) b x.live))
     (survivors shapes l (appended (length w) (normal_form p) b x.live))
     (agree_traced (length w) (normal_form p) b l (phase_at rows q l) (kind_at rows (next_at rows q l)) x.live fine.1) in
@@ -136,6 +136,11 @@ traced_run rows ty p b a plan cl (l ∷ ls) w k q x e s g h =
 pub closed_valid : (rows : List Row) → is_typed rows ≡ true → (p : Shape) (b a : ℕ) (plan : PlainPlan) → IsClosed (subject rows p b plan) → IsValid rows p b a
 closed_valid rows ty p b a plan cl w =
     let x : Trace = run rows (normal_form p) a b 0 0 no_trace w in
-    let h : IsTraced p a b w x = traced_run rows ty p b a plan cl w [] 0 0 no_trace refl (sym (idle_kind (kind_at rows 0) (start_idle rows ty)))
+    let h : IsTraced p a b w x = traced_run rows ty p b a plan cl w [] 0 0 no_trace refl (sym (start_idle rows ty))
     ([], FromStart [] (record { state = 0; live = [] }) refl refl) (traced_start p a b) in
-    ranges_are p b a w (decode rows a w) (x.done ++ listed x.pair, h.places, sym (run_decodes rows (normal_form p) a b 0 0 no_trace w) ∙ decoded_is p a b w x h)
+    ranges_are p b a w (decode rows a w) (
+      x.done ++ option_to_list x.pair,
+      h.places,
+      sym (run_decodes rows (normal_form p) a b 0 0 no_trace w)
+          ∙ decoded_is p a b w x h,
+    )

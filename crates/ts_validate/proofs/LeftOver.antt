@@ -1,9 +1,10 @@
 -- What a letter leaves of entries, one entry after the other: each is added where it has a word and stands not yet.
-use Rattle.std.specs.Prelude.{◌≡◌, ℕ, zero, suc, ◌+◌, ◌<◌, ◌≤◌, ◌==◌, Bool, true, false, cond, not, ◌&&◌, ◌||◌, List, [], ◌∷◌, ◌++◌, map, take, length, get_or, refl}
+use Rattle.std.specs.Prelude.{◌≡◌, ℕ, ◌+◌, ◌<◌, ◌≤◌, ◌==◌, Bool, true, false, cond, not, ◌&&◌, ◌||◌, List, [], ◌∷◌, ◌++◌, take, length, get_or, refl}
 use Rattle.std.specs.List.{filter, list_any}
-use Rattle.std.proofs.Common.{sym, ◌∙◌, ap, arith, append-nil, take_all}
+use Rattle.std.proofs.Common.{sym, ◌∙◌, ap, append-nil, take_all}
 use Rattle.std.proofs.lemmas.Bool.{eqb-true, eq-eqb, false≢true}
-use Rattle.std.proofs.lemmas.List.{map-append}
+use Rattle.std.proofs.lemmas.List.{map-append, take_more}
+use Rattle.std.proofs.lemmas.List.Elements.{filter-append}
 use Rattle.ts_base.specs.declared.letter.Letter.{Letter}
 use Rattle.ts_pattern.specs.declared.plan.Tag.{Tag}
 use Rattle.ts_pattern.specs.declared.plan.Live.{Live}
@@ -11,7 +12,7 @@ use Rattle.ts_pattern.specs.Entries.{Entry, Residuals, derive_entry, derived, al
 use Rattle.ts_pattern.specs.Closed.{first_tag, appended}
 use Rattle.ts_pattern.specs.Plans.{plain_live}
 use Rattle.ts_validate.specs.declared.known.Known.{Known}
-use Rattle.ts_validate.specs.Numbers.{known_at, next_on, numbers, joined}
+use Rattle.ts_validate.specs.Numbers.{known_at, next_on, plain_lives, numbers, joined}
 use Rattle.ts_validate.proofs.Plain.{any_mapped}
 
 abbrev SameFollows : {R : Type 0} → Residuals R → Type 0
@@ -49,13 +50,7 @@ any_filter p q (x ∷ xs) h = go (q x) (p x) refl h (any_filter p q xs)
     go false false e h i = i h
 
 filter_push : {A : Type 0} (q : A → Bool) (xs : List A) (d : A) → filter q (xs ++ d ∷ []) ≡ filter q xs ++ cond (q d) (d ∷ []) []
-filter_push q [] d = refl
-filter_push q (x ∷ xs) d = go (q x) (filter_push q xs d)
-  where
-    go : (a : Bool) → filter q (xs ++ d ∷ []) ≡ filter q xs ++ cond (q d) (d ∷ []) [] →
-        cond a (x ∷ filter q (xs ++ d ∷ [])) (filter q (xs ++ d ∷ [])) ≡ cond a (x ∷ filter q xs) (filter q xs) ++ cond (q d) (d ∷ []) []
-    go true h = ap (λ z. x ∷ z) h
-    go false h = h
+filter_push q xs d = filter-append q xs (d ∷ [])
 
 keep_push : {X R T : Type 0} (t : Residuals R) → SameFollows t → (xs : List (Entry X R T)) (d : Entry X R T) →
     keep t (xs ++ d ∷ []) ≡ cond (list_any (λ k. t.same k.residual d.residual) (keep t xs)) (keep t xs) (keep t xs ++ d ∷ [])
@@ -111,62 +106,54 @@ numbers_follow table x k d p q =
     eq-eqb (known_at table x).own (known_at table d).own
     (eqb-true (known_at table x).own (known_at table k).own p ∙ eqb-true (known_at table k).own (known_at table d).own q)
 
-take_more : {A : Type 0} (xs : List A) (i : ℕ) (d : A) → i < length xs → take (i + 1) xs ≡ take i xs ++ get_or xs i d ∷ []
-take_more [] i d q = absurd (omega (arith, q))
-take_more (x ∷ xs) zero d q = refl
-take_more (x ∷ xs) (suc i) d q =
-    ap (λ z. take z (x ∷ xs)) (let h : suc i + 1 ≡ suc (i + 1) = omega arith in h) ∙ ap (λ z. x ∷ z) (take_more xs i d (omega (arith, q)))
-
-abbrev plains : List Live → List (Entry (Unit {0}) ℕ Tag)
-plains es = map (λ e. plain_live e) es
-
 pub left_more : (table : List Known) (l : Letter) (live : List Live) (i : ℕ) (d : Live) (old new : List Live) → i < length live →
-    plains old ≡ survivors (numbers table) l (plains (take i live)) → plains new ≡ joined (numbers table) l (plain_live (get_or live i d)) (plains old) →
-    plains new ≡ survivors (numbers table) l (plains (take (i + 1) live))
+    plain_lives old ≡ survivors (numbers table) l (plain_lives (take i live)) →
+    plain_lives new ≡ joined (numbers table) l (plain_live (get_or live i d)) (plain_lives old) →
+    plain_lives new ≡ survivors (numbers table) l (plain_lives (take (i + 1) live))
 left_more table l live i d old new q h k =
     k ∙ ap (λ z. joined (numbers table) l (plain_live (get_or live i d)) z) h
-    ∙ sym (survivors_push (numbers table) (numbers_follow table) l (plains (take i live)) (plain_live (get_or live i d)))
+    ∙ sym (survivors_push (numbers table) (numbers_follow table) l (plain_lives (take i live)) (plain_live (get_or live i d)))
     ∙ ap (λ z. survivors (numbers table) l z) (sym (map-append (λ e. plain_live e) (take i live) (get_or live i d ∷ [])))
-    ∙ ap (λ z. survivors (numbers table) l (plains z)) (sym (take_more live i d q))
+    ∙ ap (λ z. survivors (numbers table) l (plain_lives z)) (sym (take_more live i d q))
 
 pub left_last : (table : List Known) (l : Letter) (b : ℕ) (live : List Live) (i : ℕ) (g : Tag) (old new : List Live) → length live ≤ i → g ≡ first_tag b →
-    plains old ≡ survivors (numbers table) l (plains (take i live)) →
-    plains new ≡ joined (numbers table) l (plain_live (record { residual = 0; tag = g })) (plains old) →
-    plains new ≡ survivors (numbers table) l (appended tt 0 b (plains live))
+    plain_lives old ≡ survivors (numbers table) l (plain_lives (take i live)) →
+    plain_lives new ≡ joined (numbers table) l (plain_live (record { residual = 0; tag = g })) (plain_lives old) →
+    plain_lives new ≡ survivors (numbers table) l (appended tt 0 b (plain_lives live))
 left_last table l b live i g old new q t h k =
-    k ∙ ap (λ z. joined (numbers table) l (plain_live (record { residual = 0; tag = z })) (plains old)) t
+    k ∙ ap (λ z. joined (numbers table) l (plain_live (record { residual = 0; tag = z })) (plain_lives old)) t
     ∙ ap (λ z. joined (numbers table) l (plain_live (record { residual = 0; tag = first_tag b })) z)
-    (h ∙ ap (λ z. survivors (numbers table) l (plains z)) (take_all i live q))
-    ∙ sym (survivors_push (numbers table) (numbers_follow table) l (plains live) (plain_live (record { residual = 0; tag = first_tag b })))
+    (h ∙ ap (λ z. survivors (numbers table) l (plain_lives z)) (take_all i live q))
+    ∙ sym (survivors_push (numbers table) (numbers_follow table) l (plain_lives live) (plain_live (record { residual = 0; tag = first_tag b })))
 
 -- an entry that is added, and one that isn't
 join_test : (table : List Known) (l : Letter) (e : Live) (old : List Live) (r : ℕ) → r ≡ next_on l (known_at table e.residual) →
     (not (r == length table) && not (list_any (λ k. (known_at table k.residual).own == (known_at table r).own) old))
     ≡ ((numbers table).has_word ((numbers table).next e.residual l)
-    && not (list_any (λ (k : Entry (Unit {0}) ℕ Tag). (numbers table).same k.residual ((numbers table).next e.residual l)) (plains old)))
+    && not (list_any (λ (k : Entry (Unit {0}) ℕ Tag). (numbers table).same k.residual ((numbers table).next e.residual l)) (plain_lives old)))
 join_test table l e old r q =
     ap (λ z. not (r == length table) && not z) (any_mapped (λ (k : Entry (Unit {0}) ℕ Tag). (known_at table k.residual).own == (known_at table r).own)
     (λ e. plain_live e) old)
     ∙ ap (λ z. not (z == length table)
-    && not (list_any (λ (k : Entry (Unit {0}) ℕ Tag). (known_at table k.residual).own == (known_at table z).own) (plains old))) q
+    && not (list_any (λ (k : Entry (Unit {0}) ℕ Tag). (known_at table k.residual).own == (known_at table z).own) (plain_lives old))) q
 
 pub join_yes : (table : List Known) (l : Letter) (e : Live) (old new slice : List Live) (r : ℕ) (b : Bool) → r ≡ next_on l (known_at table e.residual) →
     slice ≡ old →
     b ≡ (not (r == length table) && not (list_any (λ k. (known_at table k.residual).own == (known_at table r).own) slice)) → b ≡ true →
     new ≡ old ++ record { residual = r; tag = e.tag } ∷ [] →
-    plains new ≡ joined (numbers table) l (plain_live e) (plains old)
+    plain_lives new ≡ joined (numbers table) l (plain_live e) (plain_lives old)
 join_yes table l e old new slice r b q s t u n =
     let yes : (not (r == length table) && not (list_any (λ (k : Live). (known_at table k.residual).own == (known_at table r).own) old)) ≡ true =
     ap (λ z. not (r == length table) && not (list_any (λ (k : Live). (known_at table k.residual).own == (known_at table r).own) z)) (sym s) ∙ sym t ∙ u in
-    ap (λ z. plains z) n ∙ map-append (λ e. plain_live e) old (record { residual = r; tag = e.tag } ∷ [])
-    ∙ ap (λ z. plains old ++ record { mark = tt; residual = z; tag = e.tag } ∷ []) q
-    ∙ ap (λ z. cond z (plains old ++ derive_entry (numbers table) l (plain_live e) ∷ []) (plains old)) (sym (sym (join_test table l e old r q) ∙ yes))
+    ap (λ z. plain_lives z) n ∙ map-append (λ e. plain_live e) old (record { residual = r; tag = e.tag } ∷ [])
+    ∙ ap (λ z. plain_lives old ++ record { mark = tt; residual = z; tag = e.tag } ∷ []) q
+    ∙ ap (λ z. cond z (plain_lives old ++ derive_entry (numbers table) l (plain_live e) ∷ []) (plain_lives old)) (sym (sym (join_test table l e old r q) ∙ yes))
 
 pub join_no : (table : List Known) (l : Letter) (e : Live) (old slice : List Live) (r : ℕ) (b : Bool) → r ≡ next_on l (known_at table e.residual) →
     slice ≡ old →
     b ≡ (not (r == length table) && not (list_any (λ k. (known_at table k.residual).own == (known_at table r).own) slice)) → b ≡ false →
-    plains old ≡ joined (numbers table) l (plain_live e) (plains old)
+    plain_lives old ≡ joined (numbers table) l (plain_live e) (plain_lives old)
 join_no table l e old slice r b q s t u =
     let no : (not (r == length table) && not (list_any (λ (k : Live). (known_at table k.residual).own == (known_at table r).own) old)) ≡ false =
     ap (λ z. not (r == length table) && not (list_any (λ (k : Live). (known_at table k.residual).own == (known_at table r).own) z)) (sym s) ∙ sym t ∙ u in
-    ap (λ z. cond z (plains old ++ derive_entry (numbers table) l (plain_live e) ∷ []) (plains old)) (sym (sym (join_test table l e old r q) ∙ no))
+    ap (λ z. cond z (plain_lives old ++ derive_entry (numbers table) l (plain_live e) ∷ []) (plain_lives old)) (sym (sym (join_test table l e old r q) ∙ no))

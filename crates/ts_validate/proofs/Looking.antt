@@ -1,9 +1,12 @@
 -- What a look at a step computes is the step by numbers.
-use Rattle.std.specs.Prelude.{◌≡◌, ℕ, zero, suc, ◌+◌, ◌==◌, nat_le, nat_lt, Bool, true, false, cond, not, ◌&&◌, List, [], ◌∷◌, ◌++◌, Option, None, Some, is_some, map, length, slice_get, refl}
+use Rattle.std.specs.Prelude.{◌≡◌, ℕ, zero, suc, ◌+◌, ◌==◌, nat_lt, Bool, true, false, cond, not, ◌&&◌, List, [], ◌∷◌, ◌++◌, Option, None, Some, is_some, map, length, slice_get, refl}
 use Rattle.std.specs.List.{list_all, position, position_or_len, zip}
-use Rattle.std.proofs.Common.{sym, ◌∙◌, ap}
+use Rattle.std.proofs.Common.{sym, ◌∙◌, ap, ⊎_elim}
+use Rattle.std.proofs.lemmas.Bool.{eq-eqb}
+use Rattle.std.proofs.lemmas.Bool.Decides.{eqb_tells}
 use Rattle.std.proofs.Math.Dec.{eqb-suc-zero, eqb-zero-suc, eqb-suc-suc}
 use Rattle.std.proofs.lemmas.List.{length-map}
+use Rattle.std.proofs.lemmas.List.Folds.{list_all-append}
 use Rattle.ts_base.specs.declared.letter.Letter.{Letter}
 use Rattle.ts_base.specs.declared.range.Kind.{Kind}
 use Rattle.ts_transducer.specs.declared.row.Phase.{Phase}
@@ -19,7 +22,7 @@ use Rattle.ts_pattern.specs.Plans.{plain_live, plain_configuration}
 use Rattle.ts_validate.specs.declared.known.Known.{Known}
 use Rattle.ts_validate.specs.declared.facts.Facts.{Facts}
 use Rattle.ts_validate.specs.declared.step.Look.{Look}
-use Rattle.ts_validate.specs.Numbers.{known_at, next_on, numbers, numbered, all_listed, next_place, number_meets}
+use Rattle.ts_validate.specs.Numbers.{known_at, plain_lives, plain_configurations, moved, numbers, numbered, is_listed, all_listed, next_place, number_meets}
 use Rattle.ts_validate.specs.Facts.{facts_of, facts_agree}
 use Rattle.ts_validate.specs.Looks.{look_of, row_or}
 use Rattle.ts_validate.proofs.Plain.{all_mapped}
@@ -45,7 +48,7 @@ swap false false c = refl
 
 zip_same : (table : List Known) (f : Phase) (free : Bool) (xs es : List Live) →
     (length xs == length es) && list_all (λ p. entry_same table f free p.0 p.1) (zip xs es)
-    ≡ same_live (numbers table) (map (λ e. plain_live e) xs) (retag f free (map (λ e. plain_live e) es))
+    ≡ same_live (numbers table) (plain_lives xs) (retag f free (plain_lives es))
 zip_same table f free [] [] = refl
 zip_same table f free [] (e ∷ es) = ap (λ z. z && true) (eqb-zero-suc (length es))
 zip_same table f free (x ∷ xs) [] = ap (λ z. z && true) (eqb-suc-zero (length xs))
@@ -54,52 +57,47 @@ zip_same table f free (x ∷ xs) (e ∷ es) =
     ∙ swap (length xs == length es) (entry_same table f free x e) (list_all (λ p. entry_same table f free p.0 p.1) (zip xs es))
     ∙ ap (λ z. entry_same table f free x e && z) (zip_same table f free xs es)
     ∙ assoc ((known_at table x.residual).own == (known_at table e.residual).own) (same_tag x.tag (tag_after f free e.tag))
-    (same_live (numbers table) (map (λ e. plain_live e) xs) (retag f free (map (λ e. plain_live e) es)))
+    (same_live (numbers table) (plain_lives xs) (retag f free (plain_lives es)))
 
-pub same_is : (table : List Known) (arrow : Arrow) (free : Bool) (kept live : List Live) (listed : Configuration) (r s a b c : Bool) (m n : ℕ) →
-    live ≡ listed.live.items → m ≡ length live → n ≡ length kept →
-    c ≡ list_all (λ p. entry_same table arrow.phase free p.0 p.1) (zip live kept) → b ≡ (m == n) → a ≡ (listed.state == arrow.next) → s ≡ (b && c) →
-    r ≡ (a && s) →
-    r ≡ same_configuration (numbers table) (plain_configuration listed)
-    (record { state = arrow.next; live = retag arrow.phase free (map (λ e. plain_live e) kept) })
-same_is table arrow free kept live listed r s a b c m n l u v hc hb ha hs hr =
-    let lives : s ≡ same_live (numbers table) (map (λ e. plain_live e) listed.live.items) (retag arrow.phase free (map (λ e. plain_live e) kept)) =
-    hs ∙ ap (λ z. z && c) (hb ∙ ap (λ z. z == n) u ∙ ap (λ z. length live == z) v) ∙ ap (λ z. (length live == length kept) && z) hc
-    ∙ zip_same table arrow.phase free live kept
-    ∙ ap (λ z. same_live (numbers table) (map (λ e. plain_live e) z) (retag arrow.phase free (map (λ e. plain_live e) kept))) l in
-    hr ∙ ap (λ z. z && s) ha ∙ ap (λ z. (listed.state == arrow.next) && z) lives
+pub same_yes : (table : List Known) (f : Phase) (free : Bool) (xs es : List Live) (r : Bool) →
+    r ≡ list_all (λ p. entry_same table f free p.0 p.1) (zip xs es) → length xs ≡ length es →
+    r ≡ same_live (numbers table) (plain_lives xs) (retag f free (plain_lives es))
+same_yes table f free xs es r e q =
+    e ∙ ap (λ z. z && list_all (λ p. entry_same table f free p.0 p.1) (zip xs es)) (sym (eq-eqb (length xs) (length es) q)) ∙ zip_same table f free xs es
+
+pub same_no : (table : List Known) (f : Phase) (free : Bool) (xs es : List Live) → (length xs ≡ length es → ⊥) →
+    (length xs == length es) ≡ same_live (numbers table) (plain_lives xs) (retag f free (plain_lives es))
+same_no table f free xs es q = ⊎_elim
+    (λ c. absurd (q c.1))
+    (λ c. c.0 ∙ ap (λ z. z && list_all (λ p. entry_same table f free p.0 p.1) (zip xs es)) (sym c.0) ∙ zip_same table f free xs es)
+    (eqb_tells (length xs) (length es))
 
 -- the new entry counts too
-
-all_push : {A : Type 0} (p : A → Bool) (xs : List A) (d : A) → list_all p (xs ++ d ∷ []) ≡ list_all p xs && p d
-all_push p [] d = last (p d)
-  where
-    last : (b : Bool) → b && true ≡ true && b
-    last true = refl
-    last false = refl
-all_push p (x ∷ xs) d = ap (λ z. p x && z) (all_push p xs d) ∙ sym (assoc (p x) (list_all p xs) (p d))
 
 and_true : (a b : Bool) → b ≡ true → a && b ≡ a
 and_true true b q = q
 and_true false b q = refl
 
+all_push : {A : Type 0} (p : A → Bool) (xs : List A) (d : A) → list_all p (xs ++ d ∷ []) ≡ list_all p xs && p d
+all_push p xs d = list_all-append p xs (d ∷ []) ∙ ap (λ z. list_all p xs && z) (and_true (p d) true refl)
+
 new_free : (b : ℕ) → not (is_ind (first_tag b)) ≡ true
 new_free zero = refl
 new_free (suc b) = refl
 
-free_is : (b : ℕ) (live : List Live) → list_all (λ e. not (is_ind e.tag)) live ≡ no_ind (appended tt 0 b (map (λ e. plain_live e) live))
+free_is : (b : ℕ) (live : List Live) → list_all (λ e. not (is_ind e.tag)) live ≡ no_ind (appended tt 0 b (plain_lives live))
 free_is b live =
     all_mapped (λ (e : Entry (Unit {0}) ℕ Tag). not (is_ind e.tag)) (λ e. plain_live e) live
-    ∙ sym (and_true (list_all (λ (e : Entry (Unit {0}) ℕ Tag). not (is_ind e.tag)) (map (λ e. plain_live e) live)) (not (is_ind (first_tag b))) (new_free b))
-    ∙ sym (all_push (λ (e : Entry (Unit {0}) ℕ Tag). not (is_ind e.tag)) (map (λ e. plain_live e) live) (record { mark = tt; residual = 0; tag = first_tag b }))
+    ∙ sym (and_true (list_all (λ (e : Entry (Unit {0}) ℕ Tag). not (is_ind e.tag)) (plain_lives live)) (not (is_ind (first_tag b))) (new_free b))
+    ∙ sym (all_push (λ (e : Entry (Unit {0}) ℕ Tag). not (is_ind e.tag)) (plain_lives live) (record { mark = tt; residual = 0; tag = first_tag b }))
 
 listed_is : (table : List Known) (l : Letter) (b : ℕ) (live : List Live) →
-    list_all (λ e. nat_le (next_on l (known_at table e.residual)) (length table)) live && nat_le (next_on l (known_at table 0)) (length table)
-    ≡ all_listed table l (appended tt 0 b (map (λ e. plain_live e) live))
+    list_all (λ e. is_listed table l e.residual) live && is_listed table l 0
+    ≡ all_listed table l (appended tt 0 b (plain_lives live))
 listed_is table l b live =
-    ap (λ z. z && nat_le (next_on l (known_at table 0)) (length table))
-    (all_mapped (λ (e : Entry (Unit {0}) ℕ Tag). nat_le (next_on l (known_at table e.residual)) (length table)) (λ e. plain_live e) live)
-    ∙ sym (all_push (λ (e : Entry (Unit {0}) ℕ Tag). nat_le (next_on l (known_at table e.residual)) (length table)) (map (λ e. plain_live e) live)
+    ap (λ z. z && is_listed table l 0)
+    (all_mapped (λ (e : Entry (Unit {0}) ℕ Tag). is_listed table l e.residual) (λ e. plain_live e) live)
+    ∙ sym (all_push (λ (e : Entry (Unit {0}) ℕ Tag). is_listed table l e.residual) (plain_lives live)
     (record { mark = tt; residual = 0; tag = first_tag b }))
 
 len_mapped : {A B : Type 0} (p : B → Bool) (h : A → B) (xs : List A) → position_or_len (λ x. p (h x)) xs ≡ position_or_len p (map h xs)
@@ -123,22 +121,22 @@ look_meets false n a = refl
 pub record Computed (rows : List Row) (table : List Known) (b : ℕ) (cs : List Configuration) (here : Configuration) (l : Letter) (arrow : Arrow)
     (left : List Live) (free listed : Bool) (next : Option ℕ) : Type 0 where
   pub arrow_is : arrow ≡ arrow_on l (row_at rows here.state)
-  pub left_is : map (λ e. plain_live e) left ≡ survivors (numbers table) l (appended tt 0 b (map (λ e. plain_live e) here.live.items))
-  pub free_is : free ≡ no_ind (appended tt 0 b (map (λ e. plain_live e) here.live.items))
-  pub listed_is : listed ≡ all_listed table l (appended tt 0 b (map (λ e. plain_live e) here.live.items))
+  pub left_is : plain_lives left ≡ survivors (numbers table) l (appended tt 0 b (plain_lives here.live.items))
+  pub free_is : free ≡ no_ind (appended tt 0 b (plain_lives here.live.items))
+  pub listed_is : listed ≡ all_listed table l (appended tt 0 b (plain_lives here.live.items))
   pub next_is : next ≡ position (λ y. same_configuration (numbers table) (plain_configuration y)
-      (record { state = arrow.next; live = retag arrow.phase free (map (λ e. plain_live e) left) })) cs
+      (moved arrow free left)) cs
 
 next_of : (rows : List Row) (table : List Known) (b : ℕ) (cs : List Configuration) (here : Configuration) (l : Letter) (arrow : Arrow) (left : List Live)
     (free listed : Bool) (next : Option ℕ) → Computed rows table b cs here l arrow left free listed next →
-    cond listed next None ≡ next_place table (numbered rows table b (map (λ x. plain_configuration x) cs)) (plain_configuration here) l
+    cond listed next None ≡ next_place table (numbered rows table b (plain_configurations cs)) (plain_configuration here) l
 next_of rows table b cs here l arrow left free listed next h =
-    let s : Subject ℕ = numbered rows table b (map (λ x. plain_configuration x) cs) in
+    let s : Subject ℕ = numbered rows table b (plain_configurations cs) in
     let x : PlainConfiguration ℕ = plain_configuration here in
     let to : PlainConfiguration ℕ = stepped s x l in
-    let same : record { state = arrow.next; live = retag arrow.phase free (map (λ e. plain_live e) left) } ≡ to =
-    ap (λ (z : Arrow). record { state = z.next; live = retag z.phase free (map (λ e. plain_live e) left) }) h.arrow_is
-    ∙ ap (λ z. record { state = (move_of s x l).next; live = retag (move_of s x l).phase z (map (λ e. plain_live e) left) }) h.free_is
+    let same : moved arrow free left ≡ to =
+    ap (λ (z : Arrow). record { state = z.next; live = retag z.phase free (plain_lives left) }) h.arrow_is
+    ∙ ap (λ z. record { state = (move_of s x l).next; live = retag (move_of s x l).phase z (plain_lives left) }) h.free_is
     ∙ ap (λ z. record { state = (move_of s x l).next; live = retag (move_of s x l).phase (no_ind (before s x)) z }) h.left_is in
     ap (λ z. cond z next None) h.listed_is
     ∙ ap (λ z. cond (all_listed table l (before s x)) z None)
@@ -147,45 +145,44 @@ next_of rows table b cs here l arrow left free listed next h =
 
 pub next_seen : (rows : List Row) (table : List Known) (b : ℕ) (cs : List Configuration) (here : Configuration) (l : Letter) (arrow : Arrow) (left : List Live)
     (free listed : Bool) (next : Option ℕ) (agree : Bool) (look : Look) → Computed rows table b cs here l arrow left free listed next →
-    look ≡ look_of listed next agree → look.next ≡ next_place table (numbered rows table b (map (λ x. plain_configuration x) cs)) (plain_configuration here) l
+    look ≡ look_of listed next agree → look.next ≡ next_place table (numbered rows table b (plain_configurations cs)) (plain_configuration here) l
 next_seen rows table b cs here l arrow left free listed next agree look h q =
     ap (λ (z : Look). z.next) q ∙ look_next listed next agree ∙ next_of rows table b cs here l arrow left free listed next h
 
 pub meets_seen : (rows : List Row) (table : List Known) (b : ℕ) (cs : List Configuration) (here : Configuration) (l : Letter) (arrow : Arrow) (left : List Live)
     (free listed : Bool) (next : Option ℕ) (agree : Bool) (look : Look) → Computed rows table b cs here l arrow left free listed next →
-    look ≡ look_of listed next agree → (facts : Facts) (kind : Kind) → facts ≡ facts_of (numbers table) arrow.phase free (map (λ e. plain_live e) left) →
+    look ≡ look_of listed next agree → (facts : Facts) (kind : Kind) → facts ≡ facts_of (numbers table) arrow.phase free (plain_lives left) →
     kind ≡ (row_at rows arrow.next).kind → agree ≡ facts_agree facts arrow.phase kind →
-    look.meets ≡ number_meets table (numbered rows table b (map (λ x. plain_configuration x) cs)) (plain_configuration here) l
+    look.meets ≡ number_meets table (numbered rows table b (plain_configurations cs)) (plain_configuration here) l
 meets_seen rows table b cs here l arrow left free listed next agree look h q facts kind u v w =
-    let s : Subject ℕ = numbered rows table b (map (λ x. plain_configuration x) cs) in
+    let s : Subject ℕ = numbered rows table b (plain_configurations cs) in
     let x : PlainConfiguration ℕ = plain_configuration here in
     let agreed : agree ≡ entries_agree (numbers table) (move_of s x l).phase (row_at rows (move_of s x l).next).kind (no_ind (before s x)) (kept s x l) =
-    w ∙ ap (λ z. facts_agree z arrow.phase kind) u ∙ ap (λ z. entries_agree (numbers table) arrow.phase z free (map (λ e. plain_live e) left)) v
-    ∙ ap (λ (z : Arrow). entries_agree (numbers table) z.phase (row_at rows z.next).kind free (map (λ e. plain_live e) left)) h.arrow_is
-    ∙ ap (λ z. entries_agree (numbers table) (move_of s x l).phase (row_at rows (move_of s x l).next).kind z (map (λ e. plain_live e) left)) h.free_is
+    w ∙ ap (λ z. facts_agree z arrow.phase kind) u ∙ ap (λ z. entries_agree (numbers table) arrow.phase z free (plain_lives left)) v
+    ∙ ap (λ (z : Arrow). entries_agree (numbers table) z.phase (row_at rows z.next).kind free (plain_lives left)) h.arrow_is
+    ∙ ap (λ z. entries_agree (numbers table) (move_of s x l).phase (row_at rows (move_of s x l).next).kind z (plain_lives left)) h.free_is
     ∙ ap (λ z. entries_agree (numbers table) (move_of s x l).phase (row_at rows (move_of s x l).next).kind (no_ind (before s x)) z) h.left_is in
     ap (λ (z : Look). z.meets) q ∙ look_meets listed next agree
     ∙ ap (λ z. is_some z && agree) (next_of rows table b cs here l arrow left free listed next h)
     ∙ ap (λ z. is_some (next_place table s x l) && z) agreed
 
 pub computed : (rows : List Row) (table : List Known) (b : ℕ) (cs : List Configuration) (here : Configuration) (l : Letter) (arrow : Arrow)
-    (left live : List Live) (free olds new listed : Bool) (next : Option ℕ) (row : Row) (slice : List Live) →
+    (left live : List Live) (free listed : Bool) (next : Option ℕ) (row : Row) (slice : List Live) →
     live ≡ here.live.items → row ≡ row_or (slice_get rows here.state) → arrow ≡ arrow_on l row →
-    map (λ e. plain_live e) left ≡ survivors (numbers table) l (appended tt 0 b (map (λ e. plain_live e) live)) →
-    free ≡ list_all (λ e. not (is_ind e.tag)) live → olds ≡ list_all (λ e. nat_le (next_on l (known_at table e.residual)) (length table)) live →
-    new ≡ nat_le (next_on l (known_at table 0)) (length table) → listed ≡ (olds && new) → slice ≡ left →
+    plain_lives left ≡ survivors (numbers table) l (appended tt 0 b (plain_lives live)) →
+    free ≡ list_all (λ e. not (is_ind e.tag)) live →
+    listed ≡ (list_all (λ e. is_listed table l e.residual) live && is_listed table l 0) → slice ≡ left →
     next ≡ position (λ y. same_configuration (numbers table) (plain_configuration y)
-    (record { state = arrow.next; live = retag arrow.phase free (map (λ e. plain_live e) slice) })) cs →
+    (moved arrow free slice)) cs →
     Computed rows table b cs here l arrow left free listed next
-computed rows table b cs here l arrow left live free olds new listed next row slice hl hr ha hk hf ho hn hi hs hp =
+computed rows table b cs here l arrow left live free listed next row slice hl hr ha hk hf hi hs hp =
     record {
       arrow_is = ha ∙ ap (λ z. arrow_on l z) (hr ∙ row_is rows here.state);
-      left_is = hk ∙ ap (λ z. survivors (numbers table) l (appended tt 0 b (map (λ e. plain_live e) z))) hl;
-      free_is = hf ∙ free_is b live ∙ ap (λ z. no_ind (appended tt 0 b (map (λ e. plain_live e) z))) hl;
-      listed_is = hi ∙ ap (λ z. z && new) ho ∙ ap (λ z. list_all (λ e. nat_le (next_on l (known_at table e.residual)) (length table)) live && z) hn
-          ∙ listed_is table l b live ∙ ap (λ z. all_listed table l (appended tt 0 b (map (λ e. plain_live e) z))) hl;
+      left_is = hk ∙ ap (λ z. survivors (numbers table) l (appended tt 0 b (plain_lives z))) hl;
+      free_is = hf ∙ free_is b live ∙ ap (λ z. no_ind (appended tt 0 b (plain_lives z))) hl;
+      listed_is = hi ∙ listed_is table l b live ∙ ap (λ z. all_listed table l (appended tt 0 b (plain_lives z))) hl;
       next_is = hp ∙ ap
           (λ z. position
           (λ y. same_configuration (numbers table) (plain_configuration y)
-          (record { state = arrow.next; live = retag arrow.phase free (map (λ e. plain_live e) z) })) cs) hs;
+          (moved arrow free z)) cs) hs;
     }

@@ -3,6 +3,7 @@ use Rattle.std.specs.Prelude.{◌≡◌, ℕ, suc, ◌+◌, ◌≤◌, nat_lt, B
 use Rattle.std.specs.List.{position, position_or_len}
 use Rattle.std.proofs.Common.{sym, ◌∙◌, ap, arith, take_all}
 use Rattle.std.proofs.lemmas.Option.{none-some, same_Some}
+use Rattle.std.proofs.lemmas.Simd.{map-map}
 use Rattle.ts_regex.specs.Shape.{Shape, shape_of}
 use Rattle.ts_regex.specs.NormalForm.{same_shape}
 use Rattle.ts_regex.specs.declared.regex.Regex.{Regex}
@@ -44,12 +45,8 @@ number_some xs r i q = number_of_option (position_or_len (λ s. same_shape (shap
 pub number_none : (xs : List Regex) (r : Shape) → None ≡ position (λ s. same_shape (shape_of s) r) xs → length xs + 1 ≡ number_of (map (λ s. shape_of s) xs) r
 number_none xs r q = none_of_option (position_or_len (λ s. same_shape (shape_of s) r) xs) (length xs) q ∙ sym (number_place xs r)
 
-map_twice : {A B C : Type 0} (f : A → B) (g : B → C) (xs : List A) → map g (map f xs) ≡ map (λ x. g (f x)) xs
-map_twice f g [] = refl
-map_twice f g (x ∷ xs) = ap (λ z. g (f x) ∷ z) (map_twice f g xs)
-
 -- a table that was filled to the end
 pub filled : (rs : List Shape) (xs : List Regex) (i : ℕ) (table : List Known) → length xs ≤ i → table ≡ map (λ r. known_of rs (shape_of r)) (take i xs) →
     table ≡ map (λ r. known_of rs r) (map (λ s. shape_of s) xs)
 filled rs xs i table q h =
-    h ∙ ap (λ z. map (λ r. known_of rs (shape_of r)) z) (take_all i xs q) ∙ sym (map_twice (λ s. shape_of s) (λ r. known_of rs r) xs)
+    h ∙ ap (λ z. map (λ r. known_of rs (shape_of r)) z) (take_all i xs q) ∙ sym (map-map (λ r. known_of rs r) (λ s. shape_of s) xs)

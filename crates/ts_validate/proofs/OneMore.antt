@@ -2,6 +2,7 @@
 use Rattle.std.specs.Prelude.{◌≡◌, ℕ, zero, suc, ◌+◌, ◌-◌, ◌<◌, ◌≤◌, Bool, true, false, List, [], ◌∷◌, ◌++◌, length, map, Option, None, Some, refl}
 use Rattle.std.proofs.Common.{sym, ◌∙◌, ap, subst, arith, append-nil}
 use Rattle.std.proofs.lemmas.List.{map-append}
+use Rattle.std.specs.Option.{option_to_list}
 use Rattle.ts_base.specs.declared.letter.Letter.{Letter}
 use Rattle.ts_base.specs.declared.range.Range.{Range}
 use Rattle.ts_base.specs.declared.range.Kind.{Kind}
@@ -11,7 +12,7 @@ use Rattle.ts_transducer.specs.declared.row.Phase.{Phase}
 use Rattle.ts_transducer.specs.declared.row.Phase.TheVariants.{Out, OutR, OutA, MaybeB, MaybeA, Found, FoundE, Inside}
 use Rattle.ts_pattern.specs.declared.plan.Tag.{Tag}
 use Rattle.ts_pattern.specs.declared.plan.Tag.TheVariants.{Young, Due, InD, InC, Loose}
-use Rattle.ts_transducer.specs.Decode.{begins, ends_at, held_after, emitted_at, listed}
+use Rattle.ts_transducer.specs.Decode.{begins, ends_at, held_after, emitted_at}
 use Rattle.ts_pattern.specs.EachOf.{Each, OneOf, First}
 use Rattle.ts_pattern.specs.OccurrenceList.{Place, AreOccurrences, e_range}
 use Rattle.ts_pattern.specs.Entries.{Entry}
@@ -20,7 +21,8 @@ use Rattle.ts_pattern.proofs.OneLetter.{IsLeastStart}
 use Rattle.ts_pattern.proofs.LiveEntries.{each_push, AreLive}
 use Rattle.ts_pattern.proofs.Ends.{Accepts, none_ends, least_ends}
 use Rattle.ts_pattern.proofs.Places.{each_map, before_last, occurrences_none, occurrences_some}
-use Rattle.ts_validate.proofs.Keeps.{Typed, first_of, held_range, first_mark, done_after, pair_after, KindHolds, free_pair, TagHolds}
+use Rattle.ts_transducer.proofs.CallerLemmas.{IsFree, Typed}
+use Rattle.ts_validate.proofs.Keeps.{first_of, held_range, first_mark, done_after, pair_after, TagHolds}
 use Rattle.ts_validate.proofs.Traces.{After, Strictly, early_old}
 
 pub least_first : (p : Shape) (w : List Letter) (l : Letter) (sv : List (Entry ℕ Shape Tag)) → AreLive p (w ++ l ∷ []) (length (w ++ l ∷ [])) sv →
@@ -56,46 +58,42 @@ same_start k a b d c free y (e ∷ es) q h x =
     let i : e.mark + 1 + b ≡ y.start + 1 + b = ap (λ u. first_of u) (sym g.1 ∙ q) in
     omega arith
 
--- the pair that is held, in a held state
-pub held_pair : (k : Kind) (d : Option ℕ) (x : Option Place) → k ≡ Held → KindHolds k d x → (y : Place) × (x ≡ Some y)
-held_pair k d x q h = (subst (λ z. KindHolds z d x) q h).1
-
-pub found_step : (p : Shape) (w : List Letter) (l : Letter) (f : Phase) (k k' : Kind) (d : Option ℕ) (sv : List (Entry ℕ Shape Tag)) (ps : List Place)
+pub found_step : (p : Shape) (w : List Letter) (l : Letter) (f : Phase) (k k' : Kind) (sv : List (Entry ℕ Shape Tag)) (ps : List Place)
     (x : Option Place) →
-    Typed k f k' → KindHolds k d x → AreLive p (w ++ l ∷ []) (length (w ++ l ∷ [])) sv →
+    Typed k f k' → (IsFree k → x ≡ None) → (k ≡ Held → (y : Place) × (x ≡ Some y)) → AreLive p (w ++ l ∷ []) (length (w ++ l ∷ [])) sv →
     (is_match f ≡ true → First Accepts sv) → (is_match f ≡ false → OneOf Accepts sv → ⊥) →
     (is_match f ≡ true → Each (λ y. y.start < first_mark sv) ps) →
     (f ≡ Inside → (y : Place) → x ≡ Some y → first_mark sv ≡ y.start) →
-    AreOccurrences p w (ps ++ listed x) →
-    AreOccurrences p (w ++ l ∷ []) (done_after f (length w + 1) sv ps x ++ listed (pair_after f (length w + 1) sv x))
-found_step p w l Out k k' d sv ps x t h v head nil low same o = occurrences_none p w l (ps ++ listed x) (none_ends p w l sv v (nil refl)) o
-found_step p w l OutR k k' d sv ps x t h v head nil low same o = occurrences_none p w l (ps ++ listed x) (none_ends p w l sv v (nil refl)) o
-found_step p w l MaybeB k k' d sv ps x t h v head nil low same o = occurrences_none p w l (ps ++ listed x) (none_ends p w l sv v (nil refl)) o
-found_step p w l MaybeA k k' d sv ps x t h v head nil low same o = occurrences_none p w l (ps ++ listed x) (none_ends p w l sv v (nil refl)) o
-found_step p w l OutA k k' d sv ps x t h v head nil low same o =
-    subst (λ z. AreOccurrences p (w ++ l ∷ []) z) (sym (append-nil (ps ++ listed x)))
-    (occurrences_none p w l (ps ++ listed x) (none_ends p w l sv v (nil refl)) o)
-found_step p w l Found k k' d sv ps x t h v head nil low same o =
+    AreOccurrences p w (ps ++ option_to_list x) →
+    AreOccurrences p (w ++ l ∷ []) (done_after f (length w + 1) sv ps x ++ option_to_list (pair_after f (length w + 1) sv x))
+found_step p w l Out k k' sv ps x t none some v head nil low same o = occurrences_none p w l (ps ++ option_to_list x) (none_ends p w l sv v (nil refl)) o
+found_step p w l OutR k k' sv ps x t none some v head nil low same o = occurrences_none p w l (ps ++ option_to_list x) (none_ends p w l sv v (nil refl)) o
+found_step p w l MaybeB k k' sv ps x t none some v head nil low same o = occurrences_none p w l (ps ++ option_to_list x) (none_ends p w l sv v (nil refl)) o
+found_step p w l MaybeA k k' sv ps x t none some v head nil low same o = occurrences_none p w l (ps ++ option_to_list x) (none_ends p w l sv v (nil refl)) o
+found_step p w l OutA k k' sv ps x t none some v head nil low same o =
+    subst (λ z. AreOccurrences p (w ++ l ∷ []) z) (sym (append-nil (ps ++ option_to_list x)))
+    (occurrences_none p w l (ps ++ option_to_list x) (none_ends p w l sv v (nil refl)) o)
+found_step p w l Found k k' sv ps x t none some v head nil low same o =
     occurrences_some p w l (first_mark sv) ps [] (least_first p w l sv v (head refl))
-    (subst (λ z. AreOccurrences p w (ps ++ listed z)) (free_pair k d x t.0 h) o) (low refl) tt
-found_step p w l FoundE k k' d sv ps x t h v head nil low same o =
-    let q = free_pair k d x t.0 h in
+    (subst (λ z. AreOccurrences p w (ps ++ option_to_list z)) (none t.0) o) (low refl) tt
+found_step p w l FoundE k k' sv ps x t none some v head nil low same o =
+    let q = none t.0 in
     let n = ps ++ record { start = first_mark sv; end = length w + 1 } ∷ [] in
-    subst (λ z. AreOccurrences p (w ++ l ∷ []) (n ++ listed z)) (sym q)
+    subst (λ z. AreOccurrences p (w ++ l ∷ []) (n ++ option_to_list z)) (sym q)
     (subst (λ z. AreOccurrences p (w ++ l ∷ []) z) (sym (append-nil n))
     (occurrences_some p w l (first_mark sv) ps [] (least_first p w l sv v (head refl))
-    (subst (λ z. AreOccurrences p w (ps ++ listed z)) q o) (low refl) tt))
-found_step p w l Inside k k' d sv ps x t h v head nil low same o =
-    let y = held_pair k d x t.0 h in
+    (subst (λ z. AreOccurrences p w (ps ++ option_to_list z)) q o) (low refl) tt))
+found_step p w l Inside k k' sv ps x t none some v head nil low same o =
+    let y = some t.0 in
     let s = same refl y.0 y.1 in
-    let o' = subst (λ z. AreOccurrences p w (ps ++ listed z)) y.1 o in
+    let o' = subst (λ z. AreOccurrences p w (ps ++ option_to_list z)) y.1 o in
     let b = before_last 0 ps y.0 o'.rising in
     occurrences_some p w l (first_mark sv) ps (y.0 ∷ []) (least_first p w l sv v (head refl)) o'
     (each_map (λ z. z.start < y.0.start) (λ z. z.start < first_mark sv) (λ z q. omega arith) ps b.1)
     ((let z : first_mark sv ≤ y.0.start = omega arith in z), tt)
 
 pub ranges_step : (a b n : ℕ) (f : Phase) (k k' : Kind) (d : Option ℕ) (c : Option Range) (sv : List (Entry ℕ Shape Tag)) (x : Option Place) →
-    Typed k f k' → KindHolds k d x → c ≡ held_range a b x →
+    Typed k f k' → (k ≡ Held → (y : Place) × (x ≡ Some y)) → c ≡ held_range a b x →
     (is_find f ≡ true → begins n d ≡ first_mark sv + 1 + b) →
     (f ≡ Inside → (y : Place) → x ≡ Some y → first_mark sv ≡ y.start) →
     held_after f a n d c ≡ held_range a b (pair_after f n sv x)
@@ -107,23 +105,23 @@ ranges_step a b n MaybeA k k' d c sv x t h r g same = r
 ranges_step a b n Found k k' d c sv x t h r g same = ap (λ z. Some (record { first = z; last = n + 1 - a })) (g refl)
 ranges_step a b n FoundE k k' d c sv x t h r g same = r
 ranges_step a b n Inside k k' d c sv x t h r g same =
-    let y = held_pair k d x t.0 h in
+    let y = h t.0 in
     let e : c ≡ Some (e_range b a y.0) = r ∙ ap (λ z. held_range a b z) y.1 in
     ap (λ z. ends_at (n + 1 - a) z) e ∙ ap (λ z. Some (record { first = z + 1 + b; last = n + 1 - a })) (sym (same refl y.0 y.1))
 
-pub listed_held : (a b : ℕ) (x : Option Place) → listed (held_range a b x) ≡ map (λ x. e_range b a x) (listed x)
+pub listed_held : (a b : ℕ) (x : Option Place) → option_to_list (held_range a b x) ≡ map (λ x. e_range b a x) (option_to_list x)
 listed_held a b None = refl
 listed_held a b (Some x) = refl
 
 pub emitted_step : (a b n : ℕ) (f : Phase) (d : Option ℕ) (c : Option Range) (sv : List (Entry ℕ Shape Tag)) (ps : List Place) (x : Option Place)
     (rs : List Range) →
     c ≡ held_range a b x → (is_find f ≡ true → begins n d ≡ first_mark sv + 1 + b) → rs ≡ map (λ x. e_range b a x) ps →
-    rs ++ listed (emitted_at f a n d c) ≡ map (λ x. e_range b a x) (done_after f n sv ps x)
+    rs ++ option_to_list (emitted_at f a n d c) ≡ map (λ x. e_range b a x) (done_after f n sv ps x)
 emitted_step a b n Out d c sv ps x rs r g h = append-nil rs ∙ h
 emitted_step a b n OutR d c sv ps x rs r g h = append-nil rs ∙ h
 emitted_step a b n OutA d c sv ps x rs r g h =
-    ap (λ z. z ++ listed c) h ∙ ap (λ z. map (λ x. e_range b a x) ps ++ z) (ap (λ z. listed z) r ∙ listed_held a b x)
-    ∙ sym (map-append (e_range b a) ps (listed x))
+    ap (λ z. z ++ option_to_list c) h ∙ ap (λ z. map (λ x. e_range b a x) ps ++ z) (ap (λ z. option_to_list z) r ∙ listed_held a b x)
+    ∙ sym (map-append (e_range b a) ps (option_to_list x))
 emitted_step a b n MaybeB d c sv ps x rs r g h = append-nil rs ∙ h
 emitted_step a b n MaybeA d c sv ps x rs r g h = append-nil rs ∙ h
 emitted_step a b n Found d c sv ps x rs r g h = append-nil rs ∙ h
@@ -135,11 +133,11 @@ emitted_step a b n Inside d c sv ps x rs r g h = append-nil rs ∙ h
 
 pub early_step : (n : ℕ) (f : Phase) (free : Bool) (sv : List (Entry ℕ Shape Tag)) (ps : List Place) (x : Option Place) →
     Each (λ y. Each (Strictly y.start) sv) ps → (f ≡ FoundE → Each (After (first_mark sv)) (retag f free sv)) →
-    (f ≡ OutA → Each (λ y. Each (After y.start) (retag f free sv)) (listed x)) →
+    (f ≡ OutA → Each (λ y. Each (After y.start) (retag f free sv)) (option_to_list x)) →
     Each (λ y. Each (After y.start) (retag f free sv)) (done_after f n sv ps x)
 early_step n Out free sv ps x h u v = early_old Out free sv ps h
 early_step n OutR free sv ps x h u v = early_old OutR free sv ps h
-early_step n OutA free sv ps x h u v = each_joined (λ y. Each (After y.start) (retag OutA free sv)) ps (listed x) (early_old OutA free sv ps h) (v refl)
+early_step n OutA free sv ps x h u v = each_joined (λ y. Each (After y.start) (retag OutA free sv)) ps (option_to_list x) (early_old OutA free sv ps h) (v refl)
   where
     each_joined : {A : Type 0} (p : A → Type 0) (es fs : List A) → Each p es → Each p fs → Each p (es ++ fs)
     each_joined p [] fs h k = k

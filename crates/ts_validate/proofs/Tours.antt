@@ -1,5 +1,5 @@
 -- How the tour of the reached configurations grows.
-use Rattle.std.specs.Prelude.{◌≡◌, ◌⊎◌, ℕ, zero, suc, ◌+◌, ◌<◌, ◌≤◌, nat_lt, true, ◌&&◌, List, [], ◌∷◌, ◌++◌, Option, None, Some, MatchOption, map, length, set, replicate, reverse, refl}
+use Rattle.std.specs.Prelude.{◌≡◌, ◌⊎◌, ℕ, zero, suc, ◌+◌, ◌<◌, ◌≤◌, nat_lt, true, ◌&&◌, List, [], ◌∷◌, ◌++◌, Option, None, Some, map, length, set, replicate, reverse, refl}
 use Rattle.std.proofs.Common.{sym, ◌∙◌, ap, subst, inl, inr, arith, ⊎_elim, length-append, append_assoc, append-nil}
 use Rattle.std.proofs.Math.Nat.{eq-or-lt_of_le}
 use Rattle.std.proofs.lemmas.Bool.Decides.{eqb_tells}
@@ -7,7 +7,7 @@ use Rattle.ts_base.specs.declared.letter.Letter.{Letter}
 use Rattle.ts_base.specs.declared.letter.Letter.TheVariants.{Less, Equal, Greater}
 use Rattle.std.specs.List.{list_all, slice_get}
 use Rattle.std.proofs.lemmas.Bool.{and_parts, false≢true}
-use Rattle.std.proofs.lemmas.List.{reverse-append}
+use Rattle.std.proofs.lemmas.List.{reverse-append, length-map, length-set, length-replicate, get_or-set_same, get_or-set_other}
 use Rattle.std.proofs.lemmas.Option.{none-some, same_Some}
 use Rattle.ts_regex.specs.Shape.{Shape, shape_of}
 use Rattle.ts_regex.specs.NormalForm.{normal_form, same_shape}
@@ -34,21 +34,13 @@ last_at [] a = refl
 last_at (x ∷ xs) a = last_at xs a
 
 set_size : (os : List (Option ℕ)) (i : ℕ) (o : Option ℕ) → length (set os i o) ≡ length os
-set_size [] i o = refl
-set_size (p ∷ os) zero o = refl
-set_size (p ∷ os) (suc i) o = ap (λ n. suc n) (set_size os i o)
+set_size os i o = length-set os i o
 
 set_same : (os : List (Option ℕ)) (i : ℕ) (o : Option ℕ) → i < length os → place_at (set os i o) i ≡ o
-set_same [] i o q = absurd (omega (arith, q))
-set_same (p ∷ os) zero o q = refl
-set_same (p ∷ os) (suc i) o q = set_same os i o (omega (arith, q))
+set_same os i o q = get_or-set_same os i o None q
 
 set_other : (os : List (Option ℕ)) (i j : ℕ) (o : Option ℕ) → (i ≡ j → ⊥) → place_at (set os i o) j ≡ place_at os j
-set_other [] i j o n = refl
-set_other (p ∷ os) zero zero o n = absurd (n refl)
-set_other (p ∷ os) zero (suc j) o n = refl
-set_other (p ∷ os) (suc i) zero o n = refl
-set_other (p ∷ os) (suc i) (suc j) o n = set_other os i j o (λ q. n (ap (λ z. suc z) q))
+set_other os i j o n = get_or-set_other os i j o None (λ q. n (sym q))
 
 fewer_open : (os : List (Option ℕ)) (i m : ℕ) → i < length os → place_at os i ≡ None → open_places (set os i (Some m)) + 1 ≡ open_places os
 fewer_open [] i m q e = absurd (omega (arith, q))
@@ -62,8 +54,7 @@ all_open zero = refl
 all_open (suc n) = let h = all_open n in omega (arith, h)
 
 replicated : (n : ℕ) → length (replicate {A = Option ℕ} n None) ≡ n
-replicated zero = refl
-replicated (suc n) = ap (λ z. suc z) (replicated n)
+replicated n = length-replicate n None
 
 none_there : (n c : ℕ) → place_at (replicate n None) c ≡ None
 none_there zero c = refl
@@ -288,8 +279,7 @@ some_first [] q = absurd (false≢true q)
 some_first (x ∷ xs) q = omega arith
 
 plain_size : (cs : List Configuration) → length (map (λ x. plain_configuration x) cs) ≡ length cs
-plain_size [] = refl
-plain_size (c ∷ cs) = ap (λ n. suc n) (plain_size cs)
+plain_size cs = length-map cs (λ x. plain_configuration x)
 
 pub plan_some : (p : Shape) (plan : Plan) → is_plan_of p (plain_plan plan) ≡ true → 0 < length plan.configurations.items
 plan_some p plan q =

@@ -3,6 +3,7 @@ use Rattle.std.specs.Prelude.{◌≡◌, ℕ, ◌+◌, ◌-◌, Bool, true, List
 use Rattle.std.proofs.Common.{sym, ◌∙◌, ap, subst, arith, length-append}
 use Rattle.std.proofs.lemmas.Option.{none-some}
 use Rattle.std.proofs.lemmas.List.{map-append}
+use Rattle.std.specs.Option.{option_to_list}
 use Rattle.ts_base.specs.declared.letter.Letter.{Letter}
 use Rattle.ts_base.specs.declared.range.Range.{Range}
 use Rattle.ts_base.specs.declared.range.Kind.{Kind}
@@ -13,7 +14,7 @@ use Rattle.ts_transducer.specs.declared.row.Phase.{Phase}
 use Rattle.ts_transducer.specs.declared.row.Phase.TheVariants.{OutA, Found, Inside}
 use Rattle.ts_pattern.specs.declared.plan.Tag.{Tag}
 use Rattle.ts_pattern.specs.declared.plan.Tag.TheVariants.{InD, InC}
-use Rattle.ts_transducer.specs.Decode.{begins, start_after, held_after, listed}
+use Rattle.ts_transducer.specs.Decode.{begins, start_after, held_after}
 use Rattle.ts_pattern.specs.EachOf.{Each, First}
 use Rattle.ts_pattern.specs.OccurrenceList.{Place, e_range}
 use Rattle.ts_pattern.specs.Entries.{Entry, Residuals, survivors}
@@ -21,9 +22,10 @@ use Rattle.ts_pattern.specs.Closed.{tag_after, first_tag, no_ind, retag, appende
 use Rattle.ts_pattern.proofs.Entries.{AreRight}
 use Rattle.ts_pattern.proofs.LiveEntries.{each_push, one_left, AreLive, live_appended, each_survivor}
 use Rattle.ts_pattern.proofs.Ends.{live_step}
-use Rattle.ts_validate.proofs.Keeps.{IsFree, Typed, held_range, first_mark, free_pair, kinds_step, pending_only, tag_step, first_tag_holds, TagHolds}
+use Rattle.ts_transducer.proofs.CallerLemmas.{IsFree, Typed, free_range, kinds_step}
+use Rattle.ts_validate.proofs.Keeps.{held_range, first_mark, free_pair, held_pair, pending_only, tag_step, first_tag_holds, TagHolds}
 use Rattle.ts_validate.proofs.Traces.{MeetsChecks, After, Strictly, Trace, IsTraced, trace_step, each_retag, live_retag, no_ind_one, is_none, begins_at, early_before, strictly_after, below_first, early_find, early_release, held_before}
-use Rattle.ts_validate.proofs.OneMore.{found_step, ranges_step, emitted_step, early_step, same_start, held_pair, listed_held}
+use Rattle.ts_validate.proofs.OneMore.{found_step, ranges_step, emitted_step, early_step, same_start, listed_held}
 
 pub found_free : (f : Phase) (k k' : Kind) → Typed k f k' → f ≡ Found → IsFree k
 found_free f k k' t q = (subst (λ z. Typed k z k') q t).0
@@ -55,7 +57,9 @@ traced_step t r p p0 there back a b w l f k' x ty ch h =
     let unset : free ≡ true → x.d ≡ None = (λ q. is_none x.d
     (λ y e. no_ind_one before q
     (one_left (λ e. e.tag ≡ InD) x.live (record { mark = length w; residual = p0; tag = first_tag b } ∷ []) (h.pending y e)))) in
-    let unheld : f ≡ Found → x.c ≡ None = (λ q. h.ranges ∙ ap (λ z. held_range a b z) (free_pair x.state x.d x.pair (found_free f x.state k' ty q) h.kinds)) in
+    let unheld : f ≡ Found → x.c ≡ None = (λ q. free_range x.state x.d x.c (found_free f x.state k' ty q) h.kinds) in
+    let unpaired : IsFree x.state → x.pair ≡ None = free_pair a b x.state x.d x.c x.pair h.kinds h.ranges in
+    let paired : x.state ≡ Held → (y : Place) × (x.pair ≡ Some y) = held_pair a b x.state x.d x.c x.pair h.kinds h.ranges in
     let strict : Each (λ y. Each (Strictly y.start) sv) x.done = strictly_after t r l before x.done (early_before p p0 a b w x h) in
     let begin : is_find f ≡ true → begins (length w + 1) x.d ≡ first_mark sv + 1 + b =
     (λ q. begins_at (length w) b x.d x.c free sv unset tags_left (ch.begin q)) in
@@ -63,28 +67,28 @@ traced_step t r p p0 there back a b w l f k' x ty ch h =
     (λ q y e. same_start (length w) a b x.d x.c free y sv (h.ranges ∙ ap (λ z. held_range a b z) e) tags_left
     (subst (λ z. First (λ e. e.tag ≡ InC) (retag z free sv)) q (ch.holds (inside_held f x.state k' ty q).1))) in
     record {
-      kinds = kinds_step f x.state k' (length w + 1) sv x.d x.pair ty h.kinds;
+      kinds = kinds_step f a (length w + 1) x.state k' x.d x.c ty h.kinds;
       live = live_retag f free p (w ++ l ∷ []) (length (w ++ l ∷ [])) sv left;
       tags = each_retag f free (λ e. TagHolds (length w) b x.d x.c e.mark e.tag)
           (λ e. TagHolds (length (w ++ l ∷ [])) b (start_after f (length w + 1) x.d) (held_after f a (length w + 1) x.d x.c) e.mark e.tag)
           (λ e q. subst (λ z. TagHolds z b (start_after f (length w + 1) x.d) (held_after f a (length w + 1) x.d x.c) e.mark (tag_after f free e.tag))
           (sym more) (tag_step f free (length w) b a x.d x.c e.mark e.tag unset unheld q)) sv tags_left;
-      pending = λ y q. ch.pends (pending_only f x.state k' (length w + 1) x.d x.pair y ty h.kinds q);
+      pending = λ y q. ch.pends (pending_only f x.state k' (length w + 1) x.d x.c y ty h.kinds q);
       first_held = λ q. ch.holds q;
       early = early_step (length w + 1) f free sv x.done x.pair strict
           (λ q. early_find f free sv left.rising (ch.ends q))
           (λ q.
-          let y = held_pair x.state x.d x.pair (out_a_held f x.state k' ty q) h.kinds in
-          subst (λ z. Each (λ y. Each (After y.start) (retag f free sv)) (listed z)) (sym y.1) (
+          let y = paired (out_a_held f x.state k' ty q) in
+          subst (λ z. Each (λ y. Each (After y.start) (retag f free sv)) (option_to_list z)) (sym y.1) (
             early_release t f free l y.0.start before
                 (held_before (length w) b x.d x.c y.0.start (y.0.end + 1 - a) x.live (record { mark = length w; residual = p0; tag = first_tag b })
                 (h.ranges ∙ ap (λ z. held_range a b z) y.1) h.live.rising h.live.below h.tags (h.first_held (out_a_held f x.state k' ty q)) refl)
                 (ch.leaves q),
             tt,
           ));
-      ranges = ranges_step a b (length w + 1) f x.state k' x.d x.c sv x.pair ty h.kinds h.ranges begin same;
+      ranges = ranges_step a b (length w + 1) f x.state k' x.d x.c sv x.pair ty paired h.ranges begin same;
       emitted = emitted_step a b (length w + 1) f x.d x.c sv x.done x.pair x.emitted h.ranges begin h.emitted;
-      places = found_step p w l f x.state k' x.d sv x.done x.pair ty h.kinds left (λ q. ch.first (ch.some q)) ch.nil
+      places = found_step p w l f x.state k' sv x.done x.pair ty unpaired paired left (λ q. ch.first (ch.some q)) ch.nil
           (λ q. below_first x.done sv strict (ch.first (ch.some q))) same h.places;
     }
 
@@ -110,10 +114,11 @@ traced_start p a b =
 
 -- what Decode gives at the end
 abbrev pub decoded : Trace → List Range
-decoded x = x.emitted ++ listed x.c
+decoded x = x.emitted ++ option_to_list x.c
 
-pub decoded_is : (p : Shape) (a b : ℕ) (w : List Letter) (x : Trace) → IsTraced p a b w x → decoded x ≡ map (λ x. e_range b a x) (x.done ++ listed x.pair)
+pub decoded_is : (p : Shape) (a b : ℕ) (w : List Letter) (x : Trace) → IsTraced p a b w x →
+    decoded x ≡ map (λ x. e_range b a x) (x.done ++ option_to_list x.pair)
 decoded_is p a b w x h =
-    ap (λ z. z ++ listed x.c) h.emitted
-    ∙ ap (λ z. map (λ x. e_range b a x) x.done ++ z) (ap (λ z. listed z) h.ranges ∙ listed_held a b x.pair)
-    ∙ sym (map-append (e_range b a) x.done (listed x.pair))
+    ap (λ z. z ++ option_to_list x.c) h.emitted
+    ∙ ap (λ z. map (λ x. e_range b a x) x.done ++ z) (ap (λ z. option_to_list z) h.ranges ∙ listed_held a b x.pair)
+    ∙ sym (map-append (e_range b a) x.done (option_to_list x.pair))

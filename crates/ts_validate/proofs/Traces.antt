@@ -3,6 +3,7 @@
 use Rattle.std.specs.Prelude.{◌≡◌, ◌⊎◌, ℕ, ◌+◌, ◌<◌, ◌≤◌, Bool, true, false, not, ◌&&◌, List, [], ◌∷◌, ◌++◌, length, map, Option, None, Some, refl}
 use Rattle.std.proofs.Common.{sym, ◌∙◌, ap, subst, inl, inr, arith, ⊎_elim}
 use Rattle.std.proofs.lemmas.Bool.{false≢true}
+use Rattle.std.specs.Option.{option_to_list}
 use Rattle.ts_base.specs.declared.letter.Letter.{Letter}
 use Rattle.ts_base.specs.declared.range.Range.{Range}
 use Rattle.ts_base.specs.declared.range.Kind.{Kind}
@@ -13,7 +14,8 @@ use Rattle.ts_transducer.specs.declared.row.Phase.{Phase}
 use Rattle.ts_transducer.specs.declared.row.Phase.TheVariants.{OutA, MaybeB, FoundE}
 use Rattle.ts_pattern.specs.declared.plan.Tag.{Tag}
 use Rattle.ts_pattern.specs.declared.plan.Tag.TheVariants.{Young, Due, InD, InC, Loose}
-use Rattle.ts_transducer.specs.Decode.{begins, start_after, held_after, emitted_at, listed}
+use Rattle.ts_transducer.specs.Decode.{begins, start_after, held_after, emitted_at}
+use Rattle.ts_transducer.specs.Keeps.{KindHolds}
 use Rattle.ts_pattern.specs.EachOf.{Each, OneOf, First}
 use Rattle.ts_pattern.specs.Occurrences.{IsOccurrence}
 use Rattle.ts_pattern.specs.OccurrenceList.{Place, AreOccurrences, e_range}
@@ -23,12 +25,12 @@ use Rattle.ts_pattern.proofs.Entries.{Rising, AreRight, Covers}
 use Rattle.ts_pattern.proofs.LiveEntries.{each_push, one_left, Follows, AreLive, each_survivor}
 use Rattle.ts_pattern.proofs.Ends.{rising_each, Accepts, each_and}
 use Rattle.ts_pattern.proofs.Places.{each_map, each_left}
-use Rattle.ts_validate.proofs.Keeps.{first_of, held_range, first_mark, done_after, pair_after, KindHolds, TagHolds}
+use Rattle.ts_validate.proofs.Keeps.{first_of, held_range, first_mark, done_after, pair_after, TagHolds}
 
 abbrev pub IsShort : {X : Type 0} → Entry X Shape Tag → Type 0
 IsShort e = (l : Letter) (v : List Letter) → InLanguage e.residual (l ∷ v) → ⊥
 
--- the checks, but for "step is listed", of the survivors of a step with the phase f into a state of the kind k'
+-- the checks, but for "step is option_to_list", of the survivors of a step with the phase f into a state of the kind k'
 pub record MeetsChecks {X : Type 0} (f : Phase) (k' : Kind) (free : Bool) (sv : List (Entry X Shape Tag)) : Type 0 where
   pub some : is_match f ≡ true → OneOf Accepts sv
   pub nil : is_match f ≡ false → OneOf Accepts sv → ⊥
@@ -57,7 +59,7 @@ pub record Trace : Type 0 where
   pub pair : Option Place
 
 pub record IsTraced (p : Shape) (a b : ℕ) (w : List Letter) (t : Trace) : Type 0 where
-  pub kinds : KindHolds t.state t.d t.pair
+  pub kinds : KindHolds t.state t.d t.c
   pub live : AreLive p w (length w) t.live
   pub tags : Each (λ e. TagHolds (length w) b t.d t.c e.mark e.tag) t.live
   pub pending : (x : ℕ) → t.d ≡ Some x → OneOf (λ e. e.tag ≡ InD) t.live
@@ -65,7 +67,7 @@ pub record IsTraced (p : Shape) (a b : ℕ) (w : List Letter) (t : Trace) : Type
   pub early : Each (λ x. Each (After x.start) t.live) t.done
   pub ranges : t.c ≡ held_range a b t.pair
   pub emitted : t.emitted ≡ map (λ x. e_range b a x) t.done
-  pub places : AreOccurrences p w (t.done ++ listed t.pair)
+  pub places : AreOccurrences p w (t.done ++ option_to_list t.pair)
 
 -- one letter: the phase f of the move, and the kind k' of the state that it leads to
 abbrev pub trace_step : Residuals Shape → Shape → ℕ → ℕ → ℕ → Letter → Phase → Kind → Trace → Trace
@@ -76,7 +78,7 @@ trace_step t p0 a b k l f k' x =
       state = k';
       d = start_after f (k + 1) x.d;
       c = held_after f a (k + 1) x.d x.c;
-      emitted = x.emitted ++ listed (emitted_at f a (k + 1) x.d x.c);
+      emitted = x.emitted ++ option_to_list (emitted_at f a (k + 1) x.d x.c);
       live = retag f (no_ind before) sv;
       done = done_after f (k + 1) sv x.done x.pair;
       pair = pair_after f (k + 1) sv x.pair;
@@ -144,7 +146,7 @@ begins_at k b d c free (e ∷ es) g h x =
 pub early_before : (p p0 : Shape) (a b : ℕ) (w : List Letter) (t : Trace) → IsTraced p a b w t →
     Each (λ x. Each (After x.start) (appended (length w) p0 b t.live)) t.done
 early_before p p0 a b w t h =
-    let occ = each_left (λ x. IsOccurrence p w x.start x.end) t.done (listed t.pair) h.places.each in
+    let occ = each_left (λ x. IsOccurrence p w x.start x.end) t.done (option_to_list t.pair) h.places.each in
     each_map (λ x. Each (After x.start) t.live × IsOccurrence p w x.start x.end) (λ x. Each (After x.start) (appended (length w) p0 b t.live))
     (λ x q. each_push (After x.start) t.live (record { mark = length w; residual = p0; tag = first_tag b }) q.0
     (λ l v y. let i = q.1.is.some in let j = q.1.is.inside in omega arith))

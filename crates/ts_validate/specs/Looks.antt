@@ -1,7 +1,7 @@
 -- What a step shows: where it is listed first, and whether the checks hold; nothing of it is where a residual isn't listed.
 use Rattle.std.specs.Prelude.{ℕ, Bool, true, false, ◌&&◌, Option, None, Some, is_some}
 use Rattle.ts_transducer.specs.declared.row.Row.{Row}
-use Rattle.ts_transducer.specs.Decode.{resting}
+use Rattle.ts_transducer.specs.Decode.{resting_row}
 use Rattle.ts_validate.specs.declared.step.Look.{Look}
 
 abbrev pub look_of : Bool → Option ℕ → Bool → Look
@@ -9,5 +9,5 @@ look_of true next agree = record { next = next; meets = is_some next && agree }
 look_of false next agree = record { next = None; meets = false }
 
 abbrev pub row_or : Option Row → Row
-row_or None = resting
+row_or None = resting_row
 row_or (Some r) = r

@@ -7,9 +7,14 @@ use Rattle.ts_base.specs.declared.letter.Letter.TheVariants.{Less, Equal, Greate
 use Rattle.ts_regex.specs.Shape.{Shape}
 use Rattle.ts_regex.specs.Derivative.{nullable, has_word, has_longer}
 use Rattle.ts_regex.specs.NormalForm.{residual, same_shape}
+use Rattle.ts_transducer.specs.declared.row.Arrow.{Arrow}
 use Rattle.ts_transducer.specs.declared.row.Row.{Row}
+use Rattle.ts_pattern.specs.declared.plan.Tag.{Tag}
+use Rattle.ts_pattern.specs.declared.plan.Live.{Live}
+use Rattle.ts_pattern.specs.declared.plan.Configuration.{Configuration}
+use Rattle.ts_pattern.specs.Plans.{plain_live, plain_configuration}
 use Rattle.ts_pattern.specs.Entries.{Entry, Residuals, derive_entry}
-use Rattle.ts_pattern.specs.Closed.{PlainConfiguration, Subject, no_ind, move_of, before, kept, stepped, entries_agree, same_configuration}
+use Rattle.ts_pattern.specs.Closed.{PlainConfiguration, Subject, no_ind, retag, move_of, before, kept, stepped, entries_agree, same_configuration}
 use Rattle.ts_transducer.specs.Decode.{row_at}
 use Rattle.ts_validate.specs.declared.known.Known.{Known}
 
@@ -50,6 +55,17 @@ next_on Less k = k.less
 next_on Equal k = k.equal
 next_on Greater k = k.greater
 
+-- live entries and configurations in plain form
+abbrev pub plain_lives : List Live → List (Entry (Unit {0}) ℕ Tag)
+plain_lives es = map (λ e. plain_live e) es
+
+abbrev pub plain_configurations : List Configuration → List (PlainConfiguration ℕ)
+plain_configurations xs = map (λ x. plain_configuration x) xs
+
+-- the configuration of a move's state and of the entries that are kept, with their tags after the step
+abbrev pub moved : Arrow → Bool → List Live → PlainConfiguration ℕ
+moved arrow free es = record { state = arrow.next; live = retag arrow.phase free (plain_lives es) }
+
 -- numbers as residuals, by the table
 abbrev pub numbers : List Known → Residuals ℕ
 numbers table =
@@ -66,9 +82,13 @@ abbrev pub numbered : List Row → List Known → ℕ → List (PlainConfigurati
 numbered rows table b configurations =
     record { rows = rows; trim = b; whole = 0; configurations = configurations; on = numbers table }
 
+-- residual i after the letter is listed, or has no word
+abbrev pub is_listed : List Known → Letter → ℕ → Bool
+is_listed table l i = nat_le (next_on l (known_at table i)) (length table)
+
 -- each residual after the letter that has a word is listed
 abbrev pub all_listed : {X T : Type 0} → List Known → Letter → List (Entry X ℕ T) → Bool
-all_listed table l es = list_all (λ e. nat_le (next_on l (known_at table e.residual)) (length table)) es
+all_listed table l es = list_all (λ e. is_listed table l e.residual) es
 
 -- what is left of one more entry, beside those that are left of the entries before it
 abbrev pub joined : {X R T : Type 0} → Residuals R → Letter → Entry X R T → List (Entry X R T) → List (Entry X R T)

@@ -113,7 +113,8 @@ FailsFirst s i l = (meets_checks s (value_at s i) l ≡ false) × MeetsBefore s 
 abbrev pub Judged : Subject Shape → List Arrival → List (Option Letter) → Type 0
 Judged s arrivals failing =
     (k : ℕ) (o : Option Letter) → slice_get failing k ≡ Some o →
-    MatchOption o (AllMeet s (arrived arrivals k).configuration) (λ l. FailsFirst s (arrived arrivals k).configuration l)
+    MatchOption o (AllMeet s (arrived arrivals k).configuration)
+    (λ l. FailsFirst s (arrived arrivals k).configuration l)
 
 -- a tour: its arrivals are reached, and the steps of the first of them were taken and judged
 pub record IsTour (s : Subject Shape) (t : Tour) : Type 0 where

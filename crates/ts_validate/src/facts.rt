@@ -63,29 +63,25 @@ impl Facts {
     }
 }
 
+/// Whether `b` holds where `a` does.
 fn implied(a: bool, b: bool) -> bool
     ensures { result ≡ implies a b }
 {
     !a || b
 }
 
+/// Whether a match ends at the sign.
 fn is_match(phase: Phase) -> bool
     ensures { result ≡ is_match phase }
 {
-    match phase {
-        Phase::Found | Phase::FoundE | Phase::Inside => true,
-        Phase::Out | Phase::OutR | Phase::OutA | Phase::MaybeB | Phase::MaybeA => false,
-    }
+    matches!(phase, Phase::Found | Phase::FoundE | Phase::Inside)
 }
 
+/// Whether a range is found at the sign.
 fn is_find(phase: Phase) -> bool
     ensures { result ≡ is_find phase }
 {
-    match phase {
-        Phase::Found | Phase::FoundE => true,
-        Phase::Out | Phase::OutR | Phase::OutA | Phase::MaybeB | Phase::MaybeA | Phase::Inside =>
-            false,
-    }
+    matches!(phase, Phase::Found | Phase::FoundE)
 }
 
 fn some_nullable(table: &[Known], kept: &[Live]) -> bool

@@ -1,12 +1,13 @@
 //! The step of a configuration by the numbers of its residuals.
 
-ghost use Rattle.std.specs.Prelude.{◌≡◌, ◌==◌, ◌&&◌, ◌<◌, ◌++◌, [], ◌∷◌, not, nat_le, map, length, slice_get, IfOk};
+ghost use Rattle.std.specs.Prelude.{◌≡◌, ◌&&◌, not, map, slice_get, IfOk};
 ghost use Rattle.std.specs.List.{list_all, list_any, position, zip};
 ghost use Rattle.ts_pattern.specs.Entries.{survivors};
-ghost use Rattle.ts_pattern.specs.Closed.{same_tag, tag_after, retag, appended, same_configuration};
+ghost use Rattle.ts_pattern.specs.Closed.{same_tag, tag_after, retag, appended, same_live, same_configuration};
 ghost use Rattle.ts_pattern.specs.Plans.{plain_live, plain_configuration};
 ghost use Rattle.ts_validate.specs.Looks.{look_of, row_or};
-ghost use Rattle.ts_validate.specs.Numbers.{known_at, next_on, numbers, numbered, all_listed, joined, next_place, number_meets};
+ghost use Rattle.ts_validate.specs.Numbers.{numbers, numbered, is_listed, joined, moved, next_place, number_meets};
+ghost use Rattle.ts_validate.specs.Numbers.{plain_lives, plain_configurations};
 
 use crate::facts::answers;
 use crate::known::{Known, look_up};
@@ -18,14 +19,15 @@ use ts_transducer::{Arrow, Phase, Row};
 
 /// Whether an entry that is kept has the residual of this number.
 fn stands(table: &[Known], residual: u32, kept: &[Live]) -> bool
-    ensures { result ≡ list_any (λ k. (known_at table.now k.residual).own == (known_at table.now residual).own) kept.now }
+    ensures { result ≡ list_any (λ k. (numbers table.now).same k.residual residual) kept.now }
 {
     kept.iter().any(|k| look_up(table, k.residual).own == look_up(table, residual).own)
 }
 
 /// Whether the residual has a word and no entry that is kept has it.
 fn is_new(table: &[Known], residual: u32, kept: &[Live]) -> bool
-    ensures { result ≡ (not (residual == length table.now) && not (list_any (λ k. (known_at table.now k.residual).own == (known_at table.now residual).own) kept.now)) }
+    ensures { result ≡ ((numbers table.now).has_word residual
+        && not (list_any (λ k. (numbers table.now).same k.residual residual) kept.now)) }
 {
     residual as usize != table.len() && !stands(table, residual, kept)
 }
@@ -37,7 +39,8 @@ fn add_left(
     entry: Live,
     kept: &mut Vec<Live>,
 ) -> Result<(), Memory>
-    ensures { IfOk result (λ _. map (λ e. plain_live e) kept.new.items ≡ joined (numbers table.now) letter (plain_live entry) (map (λ e. plain_live e) kept.old.items)) }
+    ensures { IfOk result (λ _. plain_lives kept.new.items
+        ≡ joined (numbers table.now) letter (plain_live entry) (plain_lives kept.old.items)) }
 {
     let residual = look_up(table, entry.residual).next(letter);
     let new = is_new(table, residual, kept);
@@ -58,7 +61,8 @@ fn left(
     b: u8,
     live: &[Live],
 ) -> Result<Vec<Live>, Memory>
-    ensures { IfOk result (λ v. map (λ e. plain_live e) v.items ≡ survivors (numbers table.now) letter (appended tt 0 b (map (λ e. plain_live e) live.now))) }
+    ensures { IfOk result (λ v. plain_lives v.items
+        ≡ survivors (numbers table.now) letter (appended tt 0 b (plain_lives live.now))) }
 {
     let mut kept = Vec::new(alloc);
     for entry in live {
@@ -72,27 +76,40 @@ fn left(
     Ok(kept)
 }
 
-fn one_listed(table: &[Known], letter: Letter, residual: u32) -> bool
-    ensures { result ≡ nat_le (next_on letter (known_at table.now residual)) (length table.now) }
+/// Whether a residual after the letter is listed, or has no word.
+fn is_listed(table: &[Known], letter: Letter, residual: u32) -> bool
+    ensures { result ≡ is_listed table.now letter residual }
 {
     look_up(table, residual).next(letter) as usize <= table.len()
 }
 
+/// The same of each entry.
 fn each_listed(table: &[Known], letter: Letter, live: &[Live]) -> bool
-    ensures { result ≡ list_all (λ e. nat_le (next_on letter (known_at table.now e.residual)) (length table.now)) live.now }
+    ensures { result ≡ list_all (λ e. is_listed table.now letter e.residual) live.now }
 {
-    live.iter().all(|e| one_listed(table, letter, e.residual))
+    live.iter().all(|e| is_listed(table, letter, e.residual))
 }
 
+/// The same of each entry, and of the start at the sign now read.
+fn all_listed(table: &[Known], letter: Letter, live: &[Live]) -> bool
+    ensures { result ≡ (list_all (λ e. is_listed table.now letter e.residual) live.now
+        && is_listed table.now letter 0) }
+{
+    each_listed(table, letter, live) && is_listed(table, letter, 0)
+}
+
+/// Whether a listed entry is the one that is kept, with its tag after the step.
 fn same_entry(table: &[Known], phase: Phase, free: bool, listed: Live, kept: Live) -> bool
-    ensures { result ≡ (((known_at table.now listed.residual).own == (known_at table.now kept.residual).own) && same_tag listed.tag (tag_after phase free kept.tag)) }
+    ensures { result ≡ ((numbers table.now).same listed.residual kept.residual
+        && same_tag listed.tag (tag_after phase free kept.tag)) }
 {
     look_up(table, listed.residual).own == look_up(table, kept.residual).own
         && same_tag(listed.tag, tag_after(phase, free, kept.tag))
 }
 
 fn each_same(table: &[Known], phase: Phase, free: bool, listed: &[Live], kept: &[Live]) -> bool
-    ensures { result ≡ list_all (λ p. ((known_at table.now p.0.residual).own == (known_at table.now p.1.residual).own) && same_tag p.0.tag (tag_after phase free p.1.tag)) (zip listed.now kept.now) }
+    ensures { result ≡ list_all (λ p. (numbers table.now).same p.0.residual p.1.residual
+        && same_tag p.0.tag (tag_after phase free p.1.tag)) (zip listed.now kept.now) }
 {
     listed
         .iter()
@@ -100,29 +117,24 @@ fn each_same(table: &[Known], phase: Phase, free: bool, listed: &[Live], kept: &
         .all(|(x, e)| same_entry(table, phase, free, *x, *e))
 }
 
-fn both(a: bool, b: bool) -> bool
-    ensures { result ≡ (a && b) }
+/// Whether the listed entries are those that are kept.
+fn same_live(table: &[Known], phase: Phase, free: bool, listed: &[Live], kept: &[Live]) -> bool
+    ensures { result
+        ≡ same_live (numbers table.now) (plain_lives listed.now) (retag phase free (plain_lives kept.now)) }
 {
-    a && b
-}
-
-fn equal(m: usize, n: usize) -> bool
-    ensures { result ≡ (m == n) }
-{
-    m == n
+    listed.len() == kept.len() && each_same(table, phase, free, listed, kept)
 }
 
 /// Whether a listed configuration is the state with the kept entries, with their tags after the step.
 fn is_same(table: &[Known], arrow: Arrow, free: bool, kept: &[Live], listed: &Configuration) -> bool
-    ensures { result ≡ same_configuration (numbers table.now) (plain_configuration listed.now) (record { state = arrow.next; live = retag arrow.phase free (map (λ e. plain_live e) kept.now) }) }
+    ensures { result
+        ≡ same_configuration (numbers table.now) (plain_configuration listed.now) (moved arrow free kept.now) }
 {
     let live = listed.live.as_slice();
-    let lives = each_same(table, arrow.phase, free, live, kept);
-    let lengths = equal(live.len(), kept.len());
-    let states = equal(listed.state as usize, arrow.next as usize);
-    both(states, both(lengths, lives))
+    listed.state == arrow.next && same_live(table, arrow.phase, free, live, kept)
 }
 
+/// Where the step is listed first.
 fn place(
     table: &[Known],
     arrow: Arrow,
@@ -130,13 +142,16 @@ fn place(
     kept: &[Live],
     configurations: &[Configuration],
 ) -> Option<usize>
-    ensures { result ≡ position (λ y. same_configuration (numbers table.now) (plain_configuration y) (record { state = arrow.next; live = retag arrow.phase free (map (λ e. plain_live e) kept.now) })) configurations.now }
+    ensures { result ≡ position
+        (λ y. same_configuration (numbers table.now) (plain_configuration y) (moved arrow free kept.now))
+        configurations.now }
 {
     configurations
         .iter()
         .position(|listed| is_same(table, arrow, free, kept, listed))
 }
 
+/// The row of a state.
 fn row(rows: &[Row], state: u8) -> Row
     ensures { result ≡ row_or (slice_get rows.now state) }
 {
@@ -163,16 +178,18 @@ pub fn look_at(
     here: &Configuration,
     letter: Letter,
 ) -> Result<Look, Memory>
-    ensures next { IfOk result (λ k. k.next ≡ next_place table.now (numbered rows.now table.now b (map (λ x. plain_configuration x) configurations.now)) (plain_configuration here.now) letter) }
-    ensures meets { IfOk result (λ k. k.meets ≡ number_meets table.now (numbered rows.now table.now b (map (λ x. plain_configuration x) configurations.now)) (plain_configuration here.now) letter) }
+    ensures next { IfOk result (λ k. k.next
+        ≡ next_place table.now (numbered rows.now table.now b (plain_configurations configurations.now))
+        (plain_configuration here.now) letter) }
+    ensures meets { IfOk result (λ k. k.meets
+        ≡ number_meets table.now (numbered rows.now table.now b (plain_configurations configurations.now))
+        (plain_configuration here.now) letter) }
 {
     let live = here.live.as_slice();
     let arrow = row(rows, here.state).arrow(letter);
     let kept = left(alloc, table, letter, b, live)?;
     let free = none_kept(live);
-    let olds = each_listed(table, letter, live);
-    let new = one_listed(table, letter, 0);
-    let listed = both(olds, new);
+    let listed = all_listed(table, letter, live);
     let facts = answers(table, arrow.phase, free, kept.as_slice());
     let kind = row(rows, arrow.next).kind;
     let agree = facts.agree(arrow.phase, kind);
@@ -180,6 +197,7 @@ pub fn look_at(
     Ok(looked(listed, next, agree))
 }
 
+/// The step shows nothing where a residual that has a word isn't listed.
 fn looked(listed: bool, next: Option<usize>, agree: bool) -> Look
     ensures { result ≡ look_of listed next agree }
 {

@@ -15,6 +15,7 @@ pub fn first_tag(b: u8) -> Tag
     if b == 0 { Tag::Due } else { Tag::Young(b) }
 }
 
+/// The tag with one sign fewer to come.
 #[tactic(auto, using(crate::proofs::Younger::younger_is))]
 fn younger(m: u8) -> Tag
     ensures { result ≡ younger m }
@@ -22,35 +23,31 @@ fn younger(m: u8) -> Tag
     if m < 2 { Tag::Due } else { Tag::Young(m - 1) }
 }
 
+/// The tag after Due.
 fn due_after(phase: Phase, free: bool) -> Tag
     ensures { result ≡ due_after phase free }
 {
     if free { ind_after(phase) } else { Tag::Loose }
 }
 
+/// The tag after InD.
 fn ind_after(phase: Phase) -> Tag
     ensures { result ≡ ind_after phase }
 {
     match phase {
         Phase::MaybeB => Tag::InD,
         Phase::Found => Tag::InC,
-        Phase::Out | Phase::OutR | Phase::OutA | Phase::MaybeA | Phase::FoundE | Phase::Inside =>
-            Tag::Loose,
+        _ => Tag::Loose,
     }
 }
 
+/// The tag after InC.
 fn inc_after(phase: Phase) -> Tag
     ensures { result ≡ inc_after phase }
 {
     match phase {
         Phase::OutA => Tag::Loose,
-        Phase::Out
-        | Phase::OutR
-        | Phase::MaybeB
-        | Phase::MaybeA
-        | Phase::Found
-        | Phase::FoundE
-        | Phase::Inside => Tag::InC,
+        _ => Tag::InC,
     }
 }
 
@@ -71,42 +68,28 @@ pub fn tag_after(phase: Phase, free: bool, tag: Tag) -> Tag
 pub fn starts(free: bool, tag: Tag) -> bool
     ensures { result ≡ (is_ind tag || (is_due tag && free)) }
 {
-    match tag {
-        Tag::InD => true,
-        Tag::Due => free,
-        Tag::Young(_) | Tag::InC | Tag::Loose => false,
-    }
+    tag == Tag::InD || (tag == Tag::Due && free)
 }
 
+/// Whether the decoder keeps the start.
 pub fn is_ind(tag: Tag) -> bool
     ensures { result ≡ is_ind tag }
 {
-    match tag {
-        Tag::InD => true,
-        Tag::Young(_) | Tag::Due | Tag::InC | Tag::Loose => false,
-    }
+    tag == Tag::InD
 }
 
+/// Whether the held range begins with the start.
 pub fn is_inc(tag: Tag) -> bool
     ensures { result ≡ is_inc tag }
 {
-    match tag {
-        Tag::InC => true,
-        Tag::Young(_) | Tag::Due | Tag::InD | Tag::Loose => false,
-    }
+    tag == Tag::InC
 }
 
+/// Whether two tags are the same.
 pub fn same_tag(x: Tag, y: Tag) -> bool
     ensures { result ≡ same_tag x y }
 {
-    match (x, y) {
-        (Tag::Young(m), Tag::Young(n)) => m == n,
-        (Tag::Due, Tag::Due)
-        | (Tag::InD, Tag::InD)
-        | (Tag::InC, Tag::InC)
-        | (Tag::Loose, Tag::Loose) => true,
-        _ => false,
-    }
+    x == y
 }
 
 /// Whether no entry has InD.

@@ -1,4 +1,4 @@
-use Rattle.std.proofs.Common.{◌≡◌, ◌∙◌, length, rules, subst, arith}
+use Rattle.std.proofs.Common.{◌≡◌, ◌∙◌, length, rules, arith}
 use Rattle.ts_validate.specs.Trials.{subject_of}
 use Rattle.ts_validate.proofs.Failing.{expanded}
 use Rattle.ts_validate.proofs.arrival.Tour.expand_next.Goals as goal

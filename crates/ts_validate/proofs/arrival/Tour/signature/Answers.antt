@@ -1,4 +1,4 @@
-use Rattle.std.proofs.Common.{◌<◌, arith, sym, ◌∙◌}
+use Rattle.std.proofs.Common.{◌<◌, arith}
 use Rattle.ts_validate.proofs.Tours.{earlier, continues_back, path_done}
 use Rattle.ts_validate.proofs.arrival.Tour.signature.Goals as goal
 
