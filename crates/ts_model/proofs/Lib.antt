@@ -11,4 +11,4 @@ mod OnlyLaws
 mod Told
 mod ValueLaws
 mod FitLaws
-mod MeetsLaw
+pub mod MeetsLaw

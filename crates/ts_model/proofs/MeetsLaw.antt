@@ -1,6 +1,6 @@
 -- All that is judged of a series is so exactly where it meets what is stated.
 use Rattle.std.proofs.Common.{◌≡◌, ℕ, ℤ, Bool, true, false, List, [], ◌∷◌, length, refl, sym, ◌∙◌, subst, arith}
-use Rattle.std.specs.Prelude.{Option, Some, None}
+use Rattle.std.specs.Prelude.{◌↔◌, IsTrue, Option, Some, None}
 use Rattle.std.specs.List.{AllByRecursion}
 use Rattle.std.specs.Ordering.{int_eq}
 use Rattle.std.proofs.lemmas.Bool.{and_from, and_parts}
@@ -12,7 +12,7 @@ use Rattle.ts_base.specs.declared.ext.Ext.{Ext}
 use Rattle.ts_domain.specs.BoxSeries.{InBox}
 use Rattle.ts_model.specs.declared.model.Require.{Require}
 use Rattle.ts_model.specs.Compares.{compares}
-use Rattle.ts_model.specs.Judgement.{all_true, holdings, holds, holds_of, insides, is_among, is_met, JudgedIsMet}
+use Rattle.ts_model.specs.Judgement.{all_hold, all_true, holdings, holds, holds_of, insides, is_among, is_met, JudgedIsMet}
 use Rattle.ts_model.specs.Meets.{IsMet, Meets, value_at, values_on}
 use Rattle.ts_model.specs.Stated.{Stated}
 
@@ -69,3 +69,9 @@ judged_is_met m xs cells = (there, back)
     back w =
         and_from (all_true (insides m.cells xs)) (all_true (holdings (values_on m xs) m.requirements))
         (box_insides m.cells xs w.inside) (all_held m xs m.requirements w.requirements)
+
+-- the same of what was judged
+pub met_by : (m : Stated) (xs : List ℤ) (inside holding : List Bool) → length xs ≡ length m.cells → inside ≡ insides m.cells xs → holding ≡ holdings (values_on m xs) m.requirements →
+    IsTrue (all_hold inside holding) ↔ Meets m xs
+met_by m xs inside holding cells inside_is holding_is =
+    subst (λ (b : Bool). IsTrue b ↔ Meets m xs) (sym (λ i. all_hold (inside_is i) (holding_is i))) (judged_is_met m xs cells)

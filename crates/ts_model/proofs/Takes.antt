@@ -8,18 +8,22 @@ use Rattle.indexmap.specs.IndexMap.{insert_entry, index_map_len}
 use Rattle.ts_pattern.specs.declared.term.Term.{Term}
 use Rattle.ts_pattern.specs.Names.{is_pair}
 use Rattle.ts_model.specs.declared.statement.TermParts.{TermParts}
+use Rattle.ts_model.specs.declared.cells.Cells.{Cells}
 use Rattle.ts_model.specs.declared.draft.Draft.{Draft}
 use Rattle.ts_model.specs.declared.error.ModelKind.TheVariants.{BadPair}
 use Rattle.ts_model.specs.Statement.{SaysTerm}
 use Rattle.ts_model.specs.Stated.{Stated, has_cells, taken, term_made, term_at}
 use Rattle.ts_model.specs.Cells.{IsKept}
-use Rattle.ts_model.specs.Views.{parts_of, term_of, drafted, IsSound}
-use Rattle.ts_model.proofs.CellLaws.{kept_on}
+use Rattle.ts_model.specs.Views.{parts_of, term_of, drafted, Follows, IsSound}
 use Rattle.ts_model.proofs.TermLaws.{term_added}
 
 -- a line that leaves the cells as they are
-pub sound_on : (lists : Bool) (line : ℕ) (d new : Draft) → IsSound lists line d → new.cells ≡ d.cells → length new.terms.entries ≤ 32 → IsSound lists (line + 1) new
-sound_on lists line d new sound cells few = record { cells = subst (IsKept lists (line + 1)) (sym cells) (kept_on lists line d.cells sound.cells); terms = few }
+follows_on : (d new : Draft) → IsSound d → new.cells ≡ d.cells → length new.terms.entries ≤ 32 → Follows d new
+follows_on d new sound cells few = record {
+  sound = record { cells = subst IsKept (sym cells) sound.cells; terms = few };
+  limited = ap (λ (c : Cells). c.limited) cells;
+  turn = let e = ap (λ (c : Cells). c.turn) cells in omega (arith, e);
+}
 
 clear_pair : (lists : Bool) (m : Stated) (name : List ℕ) (p q : TermParts) (pair : Bool) → is_pair p.aggregator p.feature ≡ pair → cond pair (Ok p) (Err BadPair) ≡ Ok q →
     has_cells m ≡ true → is_some (term_at name m.terms) ≡ false → nat_lt 31 (length m.terms) ≡ false → taken lists m (SaysTerm name (Some p)) ≡ Ok (record m { terms = m.terms ++ (name, q) ∷ [] })
@@ -39,8 +43,8 @@ took_term lists d name parts term key entries some made new room key_is entries_
     clear_term lists (drafted d) name parts (parts_of term) made some new room
     ∙ ap (λ (x : List (List ℕ × TermParts)). Ok (record (drafted d) { terms = x })) (sym (ap (map term_of) entries_is ∙ term_added name term key d.terms.entries key_is new))
 
-pub sound_term : (lists : Bool) (line : ℕ) (d new : Draft) (old : Option Term) (n : ℕ) → IsSound lists line d → n ≤ 31 → n ≡ index_map_len d.terms → index_map_len new.terms ≡ index_map_len d.terms + cond (is_some old) 0 1 → new.cells ≡ d.cells → IsSound lists (line + 1) new
-sound_term lists line d new old n sound few count added cells = sound_on lists line d new sound cells (fits (is_some old) (length new.terms.entries) (length d.terms.entries) n few count added)
+pub follows_term : (d new : Draft) (old : Option Term) (n : ℕ) → IsSound d → n ≤ 31 → n ≡ index_map_len d.terms → index_map_len new.terms ≡ index_map_len d.terms + cond (is_some old) 0 1 → new.cells ≡ d.cells → Follows d new
+follows_term d new old n sound few count added cells = follows_on d new sound cells (fits (is_some old) (length new.terms.entries) (length d.terms.entries) n few count added)
   where
     fits : (b : Bool) (k m n : ℕ) → n ≤ 31 → n ≡ m → k ≡ m + cond b 0 1 → k ≤ 32
     fits true k m n a e f = omega arith

@@ -7,17 +7,17 @@ use Rattle.ts_model.specs.declared.error.ModelKind.{ModelKind}
 use Rattle.ts_model.specs.declared.error.ModelKind.TheVariants.{Limit}
 use Rattle.ts_model.specs.Stated.{total_of}
 
--- the domain of a cell: its own one if its line came after that of the common one
+-- the domain of a cell: its own one if it was set after the common one
 abbrev pub in_force : ℕ → List ℤ → Option Own → List ℤ
-in_force line common None = common
-in_force line common (Some own) = if nat_lt line own.line then own.domain else common
+in_force turn common None = common
+in_force turn common (Some own) = if nat_lt turn own.turn then own.domain else common
 
 abbrev pub domains : Cells → List (List ℤ)
-domains c = map (in_force c.common_line c.common) c.own.items
+domains c = map (in_force c.common_turn c.common) c.own.items
 
 -- the cells, if all domains together keep their limit
 abbrev pub within_total : Bool → List (List ℤ) → Result (List (List ℤ)) ModelKind
-within_total lists cells = if lists && nat_lt 65536 (total_of cells) then Err Limit else Ok cells
+within_total limited cells = if limited && nat_lt 65536 (total_of cells) then Err Limit else Ok cells
 
 -- how many values all domains have, where the one at a place has this many from now on
 abbrev pub total_set : List (List ℤ) → ℕ → ℕ → ℕ
@@ -28,14 +28,14 @@ abbrev pub IsTotal : Bool → ℕ → ℕ → Type 0
 IsTotal false total n = Unit {0}
 IsTotal true total n = (total ≡ n) × (total ≤ 65536)
 
--- it came by an earlier line
+-- it was set at this turn or before
 abbrev pub IsOlder : ℕ → Option Own → Type 0
-IsOlder line None = Unit {0}
-IsOlder line (Some own) = own.line < line
+IsOlder turn None = Unit {0}
+IsOlder turn (Some own) = own.turn ≤ turn
 
--- what is kept before the line with this number is read
-pub record IsKept (lists : Bool) (line : ℕ) (c : Cells) : Type 0 where
-  pub total : IsTotal lists c.total (total_of (domains c))
-  pub own : AllByRecursion (IsOlder line) c.own.items
-  pub common : c.common_line < line
+-- what is kept beside the domains
+pub record IsKept (c : Cells) : Type 0 where
+  pub total : IsTotal c.limited c.total (total_of (domains c))
+  pub own : AllByRecursion (IsOlder c.turn) c.own.items
+  pub common : c.common_turn ≤ c.turn
   pub few : length c.own.items ≤ 512

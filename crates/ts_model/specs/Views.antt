@@ -1,5 +1,5 @@
 -- Statements, drafts, models and errors without their places in memory.
-use Rattle.std.specs.Prelude.{◌≡◌, ℕ, ◌≤◌, Bool, List, map, Result, Ok, Err, String, length}
+use Rattle.std.specs.Prelude.{◌≡◌, ℕ, ◌+◌, ◌≤◌, List, map, Result, Ok, Err, String, length}
 use Rattle.std.specs.Global.{Global}
 use Rattle.std.specs.String.{string_bytes}
 use Rattle.ts_token.specs.Text.{Cut}
@@ -79,10 +79,16 @@ Tells need c (Ok m) = IsModel need c (stated m)
 Tells need c (Err (Refused line kind)) = IsRefused need c line kind
 Tells need c (Err Memory) = Unit {0}
 
--- what is kept beside a draft before the line with this number is read
-pub record IsSound (lists : Bool) (line : ℕ) (d : Draft) : Type 0 where
-  pub cells : IsKept lists line d.cells
+-- what is kept beside a draft
+pub record IsSound (d : Draft) : Type 0 where
+  pub cells : IsKept d.cells
   pub terms : length d.terms.entries ≤ 32
+
+-- a draft after one more line, sound and with the same limits
+pub record Follows (before after : Draft) : Type 0 where
+  pub sound : IsSound after
+  pub limited : after.cells.limited ≡ before.cells.limited
+  pub turn : after.cells.turn ≤ before.cells.turn + 1
 
 abbrev pub at_line : ℕ → LineStop → ModelStop
 at_line line (Bad kind) = Refused line kind

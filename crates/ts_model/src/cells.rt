@@ -12,21 +12,25 @@ use std::alloc::Global;
 use ts_base::Memory;
 use ts_domain::{Domain, DomainStop, Interval};
 
-/// The domain that a `cell` line gave a cell, and the number of that line.
+/// The domain that a `cell` line gave a cell, and the turn at which it did.
 #[derive(Drop)]
 pub(crate) struct Own {
-    pub line: usize,
+    pub turn: usize,
     pub domain: Domain,
 }
 
 /// The domains of the cells so far. The common one is that of the `cells` line or of the last `domain` line; an own
-/// one is in force where its line came later. So a `domain` line takes the time of its ranges, however many cells
-/// there are, and the copies for the cells are made once, when the text is read.
+/// one is in force where it came later. So a `domain` line takes the time of its ranges, however many cells there are,
+/// and the copies for the cells are made once, when the text is read.
 #[derive(Drop)]
 pub(crate) struct Cells {
     pub own: Vec<Option<Own>>,
     pub common: Domain,
-    pub common_line: usize,
+    pub common_turn: usize,
+    /// How often a domain was set.
+    pub turn: usize,
+    /// Whether all domains together have a limit.
+    pub limited: bool,
     /// The number of all values, kept where it has a limit.
     pub total: u64,
 }
@@ -34,6 +38,7 @@ pub(crate) struct Cells {
 /// How many values all domains have together at most, where that has a limit.
 const ALL_VALUES: u64 = 65_536;
 
+/// The lower ends.
 fn lows(alloc: Global, ranges: &[Interval]) -> Result<Vec<i64>, Memory>
     ensures { IfOk result (λ lows. lows.items ≡ map (λ r. r.low) ranges.now) }
 {
@@ -41,6 +46,7 @@ fn lows(alloc: Global, ranges: &[Interval]) -> Result<Vec<i64>, Memory>
     Ok(lows)
 }
 
+/// The upper ends.
 fn highs(alloc: Global, ranges: &[Interval]) -> Result<Vec<i64>, Memory>
     ensures { IfOk result (λ highs. highs.items ≡ map (λ r. r.high) ranges.now) }
 {
@@ -64,6 +70,7 @@ pub(crate) fn union_of(alloc: Global, ranges: &[Interval]) -> Result<Domain, Mem
     }
 }
 
+/// The domain that no line sets: 0 to 9.
 fn digits(alloc: Global) -> Result<Domain, Memory>
     ensures { IfOk result (λ d. d ≡ union_of digits) }
 {
@@ -82,12 +89,12 @@ fn no_own(alloc: Global, count: usize) -> Result<Vec<Option<Own>>, Memory>
 }
 
 /// The number of all values, where each of `count` domains has `size` values; None where it passes the limit.
-fn total_of_all(lists: bool, count: usize, size: u64) -> Option<u64>
-    ensures none { IfNone result ((lists && nat_lt 65536 (count * size)) ≡ true) }
-    ensures room { OnSome result ((lists && nat_lt 65536 (count * size)) ≡ false) }
-    ensures total { IfSome result (λ total. IsTotal lists total (count * size)) }
+fn total_of_all(limited: bool, count: usize, size: u64) -> Option<u64>
+    ensures none { IfNone result ((limited && nat_lt 65536 (count * size)) ≡ true) }
+    ensures room { OnSome result ((limited && nat_lt 65536 (count * size)) ≡ false) }
+    ensures total { IfSome result (λ total. IsTotal limited total (count * size)) }
 {
-    if !lists {
+    if !limited {
         return Some(0);
     }
     let total = count as u128 * u128::from(size);
@@ -98,16 +105,20 @@ fn total_of_all(lists: bool, count: usize, size: u64) -> Option<u64>
 }
 
 impl Cells {
-    /// So many cells, each with the domain 0..9, by the line with this number.
-    pub(crate) fn new(alloc: Global, count: usize, line: usize) -> Result<Cells, Memory>
+    /// So many cells, each with the domain 0..9.
+    pub(crate) fn new(alloc: Global, count: usize, limited: bool) -> Result<Cells, Memory>
         requires { count ≤ 512 }
         ensures domains { IfOk result (λ cells. domains cells ≡ replicate count (union_of digits)) }
-        ensures kept { IfOk result (λ cells. (lists : Bool) → IsKept lists (line + 1) cells) }
+        ensures kept { IfOk result IsKept }
+        ensures limited { IfOk result (λ cells. cells.limited ≡ limited) }
+        ensures turn { IfOk result (λ cells. cells.turn ≡ 0) }
     {
         Ok(Cells {
             own: no_own(alloc, count)?,
             common: digits(alloc)?,
-            common_line: line,
+            common_turn: 0,
+            turn: 0,
+            limited,
             total: count as u64 * 10,
         })
     }
@@ -119,26 +130,27 @@ impl Cells {
         self.own.len()
     }
 
+    /// The domain of the cell at this place.
     fn in_force<'a>(&'a self, place: usize) -> &'a Domain
         requires { place < length (domains self.now) }
         ensures { result.now ≡ get_or (domains self.now) place [] }
     {
         match &self.own[place] {
-            Some(own) if own.line > self.common_line => &own.domain,
+            Some(own) if own.turn > self.common_turn => &own.domain,
             _ => &self.common,
         }
     }
 
     /// The number of all values, where the domain at a place has `size` values from now on; None where it passes
     /// the limit.
-    fn total_with(&self, lists: bool, line: usize, place: usize, size: u64) -> Option<u64>
-        requires kept { IsKept lists line self.now }
+    fn total_with(&self, place: usize, size: u64) -> Option<u64>
+        requires kept { IsKept self.now }
         requires there { place < length (domains self.now) }
-        ensures none { IfNone result ((lists && nat_lt 65536 (total_set (domains self.now) place size)) ≡ true) }
-        ensures room { OnSome result ((lists && nat_lt 65536 (total_set (domains self.now) place size)) ≡ false) }
-        ensures total { IfSome result (λ total. IsTotal lists total (total_set (domains self.now) place size)) }
+        ensures none { IfNone result ((self.now.limited && nat_lt 65536 (total_set (domains self.now) place size)) ≡ true) }
+        ensures room { OnSome result ((self.now.limited && nat_lt 65536 (total_set (domains self.now) place size)) ≡ false) }
+        ensures total { IfSome result (λ total. IsTotal self.now.limited total (total_set (domains self.now) place size)) }
     {
-        if !lists {
+        if !self.limited {
             return Some(0);
         }
         let others = self.total - self.in_force(place).size();
@@ -149,45 +161,47 @@ impl Cells {
         Some(total as u64)
     }
 
-    /// Every cell has this domain from the line with this number on.
-    pub(crate) fn set_all(
-        &mut self,
-        lists: bool,
-        line: usize,
-        domain: Domain,
-    ) -> Result<(), LineStop>
-        requires { IsKept lists line self.old }
-        ensures set { Gives (λ _. domains self.new) result (within_total lists (map (λ _. domain) (domains self.old))) }
-        ensures kept { OnOk result (IsKept lists (line + 1) self.new) }
+    /// Every cell has this domain from now on.
+    pub(crate) fn set_all(&mut self, domain: Domain) -> Result<(), LineStop>
+        requires kept { IsKept self.old }
+        requires room { self.old.turn < usize.MAX }
+        ensures set { Gives (λ _. domains self.new) result
+            (within_total self.old.limited (map (λ _. domain) (domains self.old))) }
+        ensures kept { OnOk result (IsKept self.new) }
+        ensures limited { OnOk result (self.new.limited ≡ self.old.limited) }
+        ensures turn { OnOk result (self.new.turn ≤ self.old.turn + 1) }
     {
-        match total_of_all(lists, self.own.len(), domain.size()) {
+        match total_of_all(self.limited, self.own.len(), domain.size()) {
             None => Err(LineStop::Bad(ModelKind::Limit)),
             Some(total) => {
+                self.turn += 1;
                 self.common = domain;
-                self.common_line = line;
+                self.common_turn = self.turn;
                 self.total = total;
                 Ok(())
             }
         }
     }
 
-    /// The cell at this place has this domain from the line with this number on.
-    pub(crate) fn set_one(
-        &mut self,
-        lists: bool,
-        line: usize,
-        place: usize,
-        domain: Domain,
-    ) -> Result<(), LineStop>
-        requires kept { IsKept lists line self.old }
+    /// The cell at this place has this domain from now on.
+    pub(crate) fn set_one(&mut self, place: usize, domain: Domain) -> Result<(), LineStop>
+        requires kept { IsKept self.old }
+        requires room { self.old.turn < usize.MAX }
         requires there { place < length (domains self.old) }
-        ensures set { Gives (λ _. domains self.new) result (within_total lists (set (domains self.old) place domain)) }
-        ensures kept { OnOk result (IsKept lists (line + 1) self.new) }
+        ensures set { Gives (λ _. domains self.new) result
+            (within_total self.old.limited (set (domains self.old) place domain)) }
+        ensures kept { OnOk result (IsKept self.new) }
+        ensures limited { OnOk result (self.new.limited ≡ self.old.limited) }
+        ensures turn { OnOk result (self.new.turn ≤ self.old.turn + 1) }
     {
-        match self.total_with(lists, line, place, domain.size()) {
+        match self.total_with(place, domain.size()) {
             None => Err(LineStop::Bad(ModelKind::Limit)),
             Some(total) => {
-                self.own[place] = Some(Own { line, domain });
+                self.turn += 1;
+                self.own[place] = Some(Own {
+                    turn: self.turn,
+                    domain,
+                });
                 self.total = total;
                 Ok(())
             }

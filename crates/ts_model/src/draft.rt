@@ -1,9 +1,23 @@
 //! The model while lines are read.
 
+ghost use Rattle.std.specs.Prelude.{◌≡◌, ◌+◌, ◌<◌, ◌≤◌, length, pos, false, OnOk, IfOk, IfNone, IfSome};
+ghost use Rattle.std.specs.List.{list_any};
+ghost use Rattle.ts_model.specs.Statement.{SaysCells, SaysDomain, SaysCell, SaysTerm, SaysRequire, SaysObjective};
+ghost use Rattle.ts_model.specs.Stated.{nothing, term_at, has_cells, is_between, taken, IsPlace};
+ghost use Rattle.ts_model.specs.ModelReading.{line_gives};
+ghost use Rattle.ts_model.specs.Views.{texts, said, drafted, Gives, IsSound, Follows};
+
 use crate::cells::Cells;
-use crate::model::Require;
+use crate::error::{LineStop, ModelKind};
+use crate::model::{Op, Require};
+use crate::parse::parse;
+use crate::statement::{Ranges, Statement, TermParts};
+use crate::take::{domain_of, is_bound, term_of};
 use indexmap::IndexMap;
+use std::alloc::Global;
+use ts_base::{Ext, Memory};
 use ts_pattern::Term;
+use ts_token::Word;
 
 /// What the lines so far state.
 #[derive(Drop)]
@@ -12,4 +26,203 @@ pub(crate) struct Draft {
     pub terms: IndexMap<String, Term>,
     pub requirements: Vec<Require>,
     pub objective: Option<u32>,
+}
+
+impl Draft {
+    /// Nothing is stated; `limited` says whether all domains together have a limit.
+    pub(crate) fn new(alloc: Global, limited: bool) -> Result<Draft, Memory>
+        ensures empty { IfOk result (λ draft. drafted draft ≡ nothing) }
+        ensures sound { IfOk result IsSound }
+        ensures limited { IfOk result (λ draft. draft.cells.limited ≡ limited) }
+        ensures turn { IfOk result (λ draft. draft.cells.turn ≡ 0) }
+    {
+        Ok(Draft {
+            cells: Cells::new(alloc, 0, limited)?,
+            terms: IndexMap::new(alloc),
+            requirements: Vec::new(alloc),
+            objective: None,
+        })
+    }
+
+    /// Adds what one line says, or gives the first kind that holds of the line.
+    pub(crate) fn read_line(&mut self, alloc: Global, words: &[Word]) -> Result<(), LineStop>
+        requires sound { IsSound self.old }
+        requires room { self.old.cells.turn < usize.MAX }
+        ensures taken { Gives (λ _. drafted self.new) result
+            (line_gives self.old.cells.limited (drafted self.old) (texts words.now)) }
+        ensures follows { OnOk result (Follows self.old self.new) }
+    {
+        let statement = parse(alloc, words)?;
+        self.take(alloc, statement)
+    }
+
+    /// Adds what a line says, or gives the first kind that holds of it.
+    fn take(&mut self, alloc: Global, statement: Statement) -> Result<(), LineStop>
+        requires sound { IsSound self.old }
+        requires room { self.old.cells.turn < usize.MAX }
+        ensures taken { Gives (λ _. drafted self.new) result
+            (taken self.old.cells.limited (drafted self.old) (said statement.entry)) }
+        ensures follows { OnOk result (Follows self.old self.new) }
+    {
+        match statement {
+            Statement::Cells(count) => self.take_cells(alloc, count),
+            Statement::Domain(ranges) => self.take_domain(alloc, &ranges),
+            Statement::Cell(cell, ranges) => self.take_cell(alloc, cell, &ranges),
+            Statement::Term(name, parts) => self.take_term(alloc, name, parts),
+            Statement::Require(name, op, bound) => self.take_require(name, op, bound),
+            Statement::Objective(name) => self.take_objective(name),
+        }
+    }
+
+    /// Whether a `cells` line stands.
+    pub(crate) fn has_cells(&self) -> bool
+        ensures { result ≡ has_cells (drafted self.now) }
+    {
+        self.cells.len() > 0
+    }
+
+    /// The number of the term with a name.
+    fn term_at(&self, name: &str) -> Option<u32>
+        requires { length self.now.terms.entries ≤ 32 }
+        ensures { result ≡ term_at name.now (drafted self.now).terms }
+    {
+        match self.terms.get_index_of(name) {
+            Some(place) => Some(place as u32),
+            None => None,
+        }
+    }
+
+    /// The place of a cell, from 0.
+    fn place_of(&self, cell: i64) -> Option<usize>
+        ensures none { IfNone result (is_between (pos 1) cell (pos (length (drafted self.now).cells)) ≡ false) }
+        ensures some { IfSome result (λ place. IsPlace cell (length (drafted self.now).cells) place) }
+    {
+        if cell < 1 || cell as u64 > self.cells.len() as u64 {
+            return None;
+        }
+        Some(cell as usize - 1)
+    }
+
+    /// Takes a `cells` line.
+    fn take_cells(&mut self, alloc: Global, count: i64) -> Result<(), LineStop>
+        requires sound { IsSound self.old }
+        ensures taken { Gives (λ _. drafted self.new) result
+            (taken self.old.cells.limited (drafted self.old) (SaysCells count)) }
+        ensures follows { OnOk result (Follows self.old self.new) }
+    {
+        if self.has_cells() {
+            return Err(LineStop::Bad(ModelKind::CellsTwice));
+        }
+        if count < 1 || count > 512 {
+            return Err(LineStop::Bad(ModelKind::CellRange));
+        }
+        self.cells = Cells::new(alloc, count as usize, self.cells.limited)?;
+        Ok(())
+    }
+
+    /// Takes a `domain` line.
+    fn take_domain(&mut self, alloc: Global, ranges: &Ranges) -> Result<(), LineStop>
+        requires sound { IsSound self.old }
+        requires room { self.old.cells.turn < usize.MAX }
+        ensures taken { Gives (λ _. drafted self.new) result
+            (taken self.old.cells.limited (drafted self.old) (SaysDomain ranges.now.items.items)) }
+        ensures follows { OnOk result (Follows self.old self.new) }
+    {
+        if !self.has_cells() {
+            return Err(LineStop::Bad(ModelKind::NoCells));
+        }
+        let domain = domain_of(alloc, ranges)?;
+        self.cells.set_all(domain)
+    }
+
+    /// Takes a `cell` line.
+    fn take_cell(&mut self, alloc: Global, cell: i64, ranges: &Ranges) -> Result<(), LineStop>
+        requires sound { IsSound self.old }
+        requires room { self.old.cells.turn < usize.MAX }
+        ensures taken { Gives (λ _. drafted self.new) result
+            (taken self.old.cells.limited (drafted self.old) (SaysCell cell ranges.now.items.items)) }
+        ensures follows { OnOk result (Follows self.old self.new) }
+    {
+        if !self.has_cells() {
+            return Err(LineStop::Bad(ModelKind::NoCells));
+        }
+        match self.place_of(cell) {
+            None => Err(LineStop::Bad(ModelKind::CellRange)),
+            Some(place) => {
+                let domain = domain_of(alloc, ranges)?;
+                self.cells.set_one(place, domain)
+            }
+        }
+    }
+
+    /// Takes a `term` line.
+    fn take_term(
+        &mut self,
+        alloc: Global,
+        name: &str,
+        parts: Option<TermParts>,
+    ) -> Result<(), LineStop>
+        requires sound { IsSound self.old }
+        ensures taken { Gives (λ _. drafted self.new) result
+            (taken self.old.cells.limited (drafted self.old) (SaysTerm name.now parts)) }
+        ensures follows { OnOk result (Follows self.old self.new) }
+    {
+        if !self.has_cells() {
+            return Err(LineStop::Bad(ModelKind::NoCells));
+        }
+        let term = term_of(parts)?;
+        if self.term_at(name).is_some() {
+            return Err(LineStop::Bad(ModelKind::TermTwice));
+        }
+        if self.terms.len() > 31 {
+            return Err(LineStop::Bad(ModelKind::Limit));
+        }
+        let name = String::from_str(alloc, name)?;
+        self.terms.insert(name, term)?;
+        Ok(())
+    }
+
+    /// Takes a `require` line.
+    fn take_require(&mut self, name: &str, op: Op, bound: Ext) -> Result<(), LineStop>
+        requires sound { IsSound self.old }
+        ensures taken { Gives (λ _. drafted self.new) result
+            (taken self.old.cells.limited (drafted self.old) (SaysRequire name.now op bound)) }
+        ensures follows { OnOk result (Follows self.old self.new) }
+    {
+        if !self.has_cells() {
+            return Err(LineStop::Bad(ModelKind::NoCells));
+        }
+        match self.term_at(name) {
+            None => Err(LineStop::Bad(ModelKind::UnknownTerm)),
+            Some(term) => {
+                if !is_bound(bound) || self.requirements.len() > 63 {
+                    return Err(LineStop::Bad(ModelKind::Limit));
+                }
+                self.requirements.push(Require { term, op, bound })?;
+                Ok(())
+            }
+        }
+    }
+
+    /// Takes an `objective` line.
+    fn take_objective(&mut self, name: &str) -> Result<(), LineStop>
+        requires sound { IsSound self.old }
+        ensures taken { Gives (λ _. drafted self.new) result
+            (taken self.old.cells.limited (drafted self.old) (SaysObjective name.now)) }
+        ensures follows { OnOk result (Follows self.old self.new) }
+    {
+        if !self.has_cells() {
+            return Err(LineStop::Bad(ModelKind::NoCells));
+        }
+        match self.term_at(name) {
+            None => Err(LineStop::Bad(ModelKind::UnknownTerm)),
+            Some(term) => {
+                if self.objective.is_some() {
+                    return Err(LineStop::Bad(ModelKind::ObjectiveTwice));
+                }
+                self.objective = Some(term);
+                Ok(())
+            }
+        }
+    }
 }

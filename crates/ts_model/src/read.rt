@@ -11,52 +11,21 @@ ghost use Rattle.ts_model.specs.ModelReading.{needs_lists, needs_objective, line
 ghost use Rattle.ts_model.specs.Promise.{IsWhole, KeepsLimits};
 ghost use Rattle.ts_model.specs.Views.{texts, stated, drafted, IsSound, Gives, Drafts, Reads, Tells};
 
-use crate::cells::Cells;
 use crate::draft::Draft;
 use crate::error::{LineStop, ModelKind, ModelStop, at_line};
 use crate::model::{Model, Need};
-use crate::parse::parse;
-use crate::take::take;
-use indexmap::IndexMap;
 use std::alloc::Global;
 use ts_base::Memory;
-use ts_token::{Line, Tokens, Word};
+use ts_token::{Line, Tokens};
 
-/// What the line with this number, counted from 1 among those with words, adds to the draft.
-fn take_line(
-    alloc: Global,
-    draft: &mut Draft,
-    lists: bool,
-    line: usize,
-    words: &[Word],
-) -> Result<(), LineStop>
-    requires { IsSound lists line draft.old }
-    ensures taken { Gives (λ _. drafted draft.new) result (line_gives lists (drafted draft.old) (texts words.now)) }
-    ensures sound { OnOk result (IsSound lists (line + 1) draft.new) }
-{
-    let statement = parse(alloc, words)?;
-    take(alloc, draft, lists, line, statement)
-}
-
-fn empty_draft(alloc: Global) -> Result<Draft, Memory>
-    ensures empty { IfOk result (λ draft. drafted draft ≡ nothing) }
-    ensures sound { IfOk result (λ draft. (lists : Bool) → IsSound lists 1 draft) }
-{
-    Ok(Draft {
-        cells: Cells::new(alloc, 0, 0)?,
-        terms: IndexMap::new(alloc),
-        requirements: Vec::new(alloc),
-        objective: None,
-    })
-}
-
-fn take_lines(alloc: Global, lists: bool, lines: &[Line]) -> Result<Draft, ModelStop>
-    ensures rows { Drafts result (read_rows lists nothing (rows lines.now)) }
+/// What the lines state, or the first bad one.
+fn read_lines(alloc: Global, limited: bool, lines: &[Line]) -> Result<Draft, ModelStop>
+    ensures rows { Drafts result (read_rows limited nothing (rows lines.now)) }
     ensures few { IfOk result (λ draft. length draft.cells.own.items ≤ 512) }
 {
-    let mut draft = empty_draft(alloc)?;
-    for (place, line) in lines.iter().enumerate() {
-        match take_line(alloc, &mut draft, lists, place + 1, &line.words) {
+    let mut draft = Draft::new(alloc, limited)?;
+    for line in lines {
+        match draft.read_line(alloc, &line.words) {
             Ok(()) => {}
             Err(stop) => return Err(at_line(line.number, stop)),
         }
@@ -64,31 +33,34 @@ fn take_lines(alloc: Global, lists: bool, lines: &[Line]) -> Result<Draft, Model
     Ok(draft)
 }
 
+/// Whether all domains together have a limit.
 fn needs_lists(need: Need) -> bool
     ensures { result ≡ needs_lists need }
 {
     need != Need::Values
 }
 
+/// Whether an objective is needed.
 fn needs_objective(need: Need) -> bool
     ensures { result ≡ needs_objective need }
 {
     need == Need::Best
 }
 
+/// What the whole text states, or why it is refused.
 fn read_draft(alloc: Global, tokens: &Tokens, need: Need) -> Result<Draft, ModelStop>
     requires { tokens.now.count < 4000000000 }
     ensures reading { Drafts result (reading need (cut tokens.now)) }
     ensures few { IfOk result (λ draft. length draft.cells.own.items ≤ 512) }
 {
-    let draft = take_lines(alloc, needs_lists(need), &tokens.lines)?;
+    let draft = read_lines(alloc, needs_lists(need), &tokens.lines)?;
     if let Some(line) = tokens.not_text {
         return Err(ModelStop::Refused {
             line,
             kind: ModelKind::NotText,
         });
     }
-    if draft.cells.len() == 0 {
+    if !draft.has_cells() {
         return Err(ModelStop::Refused {
             line: tokens.count + 1,
             kind: ModelKind::NoCells,
