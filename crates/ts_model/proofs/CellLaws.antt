@@ -73,12 +73,15 @@ total_common : (d : List ℤ) (cells : List (List ℤ)) (n : ℕ) → n ≡ leng
 total_common d cells n count = ap total_of (sym (splat_is_map cells n d (sym count))) ∙ sum_by-replicate length n d
 
 -- every cell has one domain
-pub over_all : (lists : Bool) (c : Cells) (d : List ℤ) (n size : ℕ) → n ≡ length c.own.items → size ≡ length d → (lists && nat_lt 65536 (n * size)) ≡ true → within_total lists (map (λ _. d) (domains c)) ≡ Err Limit
+pub over_all : (lists : Bool) (c : Cells) (d : List ℤ) (n size : ℕ) → n ≡ length c.own.items → size ≡ length d → (lists && nat_lt 65536 (n * size)) ≡ true →
+    within_total lists (map (λ _. d) (domains c)) ≡ Err Limit
 over_all lists c d n size count size_is over =
     let count' : n ≡ length (domains c) = count ∙ simp length-map in
-    ap (λ (b : Bool). cond b (Err Limit) (Ok (map (λ _. d) (domains c)))) (ap (λ (k : ℕ). lists && nat_lt 65536 k) (total_common d (domains c) n count' ∙ ap (λ (k : ℕ). n * k) (sym size_is)) ∙ over)
+    ap (λ (b : Bool). cond b (Err Limit) (Ok (map (λ _. d) (domains c))))
+    (ap (λ (k : ℕ). lists && nat_lt 65536 k) (total_common d (domains c) n count' ∙ ap (λ (k : ℕ). n * k) (sym size_is)) ∙ over)
 
-pub set_all : (limited : Bool) (c : Cells) (d : List ℤ) (n size : ℕ) → IsKept c → n ≡ length c.own.items → size ≡ length d → (limited && nat_lt 65536 (n * size)) ≡ false →
+pub set_all : (limited : Bool) (c : Cells) (d : List ℤ) (n size : ℕ) → IsKept c → n ≡ length c.own.items → size ≡ length d →
+    (limited && nat_lt 65536 (n * size)) ≡ false →
     within_total limited (map (λ _. d) (domains c)) ≡ Ok (map (in_force (c.turn + 1) d) c.own.items)
 set_all limited c d n size kept count size_is room =
     let count' : n ≡ length (domains c) = count ∙ simp length-map in
@@ -103,15 +106,20 @@ kept_all c new d n size total kept count size_is is own common at now limit tota
     all_total : total_of (domains new) ≡ n * size
     all_total =
         let same : domains new ≡ map (λ _. d) (map (in_force 0 []) new.own.items) =
-        ap (λ (l : ℕ). map (in_force l new.common) new.own.items) at ∙ ap (λ (e : List ℤ). map (in_force (c.turn + 1) e) new.own.items) common ∙ all_common c.turn 0 d [] new.own.items older in
+        ap (λ (l : ℕ). map (in_force l new.common) new.own.items) at ∙ ap (λ (e : List ℤ). map (in_force (c.turn + 1) e) new.own.items) common
+        ∙ all_common c.turn 0 d [] new.own.items older in
         let count' : n ≡ length (map (in_force 0 []) new.own.items) = count ∙ ap (λ o. length o.items) (sym own) ∙ simp length-map in
         ap total_of same ∙ total_common d (map (in_force 0 []) new.own.items) n count' ∙ ap (λ (k : ℕ). n * k) (sym size_is)
 
 -- one domain has no more values than all
 old_within : (cells : List (List ℤ)) (i : ℕ) → length (get_or cells i []) ≤ total_of cells
 old_within [] i = omega arith
-old_within (c ∷ cs) zero = let all : total_of (c ∷ cs) ≡ length c + total_of cs = sum_by-cons length c cs in let first : length (get_or (c ∷ cs) zero []) ≡ length c = refl in omega arith
-old_within (c ∷ cs) (suc i) = let all : total_of (c ∷ cs) ≡ length c + total_of cs = sum_by-cons length c cs in let same : length (get_or (c ∷ cs) (suc i) []) ≡ length (get_or cs i []) = refl in omega (arith, old_within cs i)
+old_within (c ∷ cs) zero =
+    let all : total_of (c ∷ cs) ≡ length c + total_of cs =
+    sum_by-cons length c cs in let first : length (get_or (c ∷ cs) zero []) ≡ length c = refl in omega arith
+old_within (c ∷ cs) (suc i) =
+    let all : total_of (c ∷ cs) ≡ length c + total_of cs =
+    sum_by-cons length c cs in let same : length (get_or (c ∷ cs) (suc i) []) ≡ length (get_or cs i []) = refl in omega (arith, old_within cs i)
 
 pub place_within : (place : ℕ) (c : Cells) → IsKept c → c.limited ≡ true → length (get_or (domains c) place []) ≤ c.total
 place_within place c kept limit =
@@ -137,19 +145,25 @@ one_set place c d kept =
     is_newer : (m n : ℕ) → m ≤ n → nat_lt m (n + 1) ≡ true
     is_newer m n h = grind (arith, nat_tests)
 
-pub over_one : (lists : Bool) (cells : List (List ℤ)) (place : ℕ) (d : List ℤ) (size : ℕ) → place < length cells → size ≡ length d → (lists && nat_lt 65536 (total_set cells place size)) ≡ true → within_total lists (set cells place d) ≡ Err Limit
+pub over_one : (lists : Bool) (cells : List (List ℤ)) (place : ℕ) (d : List ℤ) (size : ℕ) → place < length cells → size ≡ length d →
+    (lists && nat_lt 65536 (total_set cells place size)) ≡ true → within_total lists (set cells place d) ≡ Err Limit
 over_one lists cells place d size there size_is over =
-    ap (λ (b : Bool). cond b (Err Limit) (Ok (set cells place d))) (ap (λ (k : ℕ). lists && nat_lt 65536 k) (sym (ap (total_set cells place) size_is ∙ total_at cells place d there)) ∙ over)
+    ap (λ (b : Bool). cond b (Err Limit) (Ok (set cells place d)))
+    (ap (λ (k : ℕ). lists && nat_lt 65536 k) (sym (ap (total_set cells place) size_is ∙ total_at cells place d there)) ∙ over)
 
-pub set_one : (limited : Bool) (place : ℕ) (c : Cells) (d : List ℤ) (size : ℕ) → IsKept c → place < length (domains c) → size ≡ length d → (limited && nat_lt 65536 (total_set (domains c) place size)) ≡ false →
-    within_total limited (set (domains c) place d) ≡ Ok (map (in_force c.common_turn c.common) (set c.own.items place (Some (record { turn = c.turn + 1; domain = d }))))
+pub set_one : (limited : Bool) (place : ℕ) (c : Cells) (d : List ℤ) (size : ℕ) → IsKept c → place < length (domains c) → size ≡ length d →
+    (limited && nat_lt 65536 (total_set (domains c) place size)) ≡ false →
+    within_total limited (set (domains c) place d) ≡ Ok
+    (map (in_force c.common_turn c.common) (set c.own.items place (Some (record { turn = c.turn + 1; domain = d }))))
 set_one limited place c d size kept there size_is room =
     ap (λ (b : Bool). cond b (Err Limit) (Ok (set (domains c) place d)))
     (ap (λ (k : ℕ). limited && nat_lt 65536 k) (sym (ap (total_set (domains c) place) size_is ∙ total_at (domains c) place d there)) ∙ room)
     ∙ ap (λ (x : List (List ℤ)). Ok x) (sym (one_set place c d kept))
 
-pub kept_one : (place : ℕ) (c new : Cells) (d : List ℤ) (size total : ℕ) → IsKept c → place < length (domains c) → size ≡ length d → IsTotal c.limited total (total_set (domains c) place size) →
-    new.own.items ≡ set c.own.items place (Some (record { turn = c.turn + 1; domain = d })) → new.common ≡ c.common → new.common_turn ≡ c.common_turn → new.turn ≡ c.turn + 1 → new.limited ≡ c.limited → new.total ≡ total → IsKept new
+pub kept_one : (place : ℕ) (c new : Cells) (d : List ℤ) (size total : ℕ) → IsKept c → place < length (domains c) → size ≡ length d →
+    IsTotal c.limited total (total_set (domains c) place size) →
+    new.own.items ≡ set c.own.items place (Some (record { turn = c.turn + 1; domain = d })) → new.common ≡ c.common → new.common_turn ≡ c.common_turn → new.turn
+    ≡ c.turn + 1 → new.limited ≡ c.limited → new.total ≡ total → IsKept new
 kept_one place c new d size total kept there size_is is own common at now limit total_is = record {
   total =
       subst (IsTotal new.limited new.total) (sym all_total)
@@ -160,10 +174,12 @@ kept_one place c new d size total kept there size_is is own common at now limit 
       (subst (AllByRecursion (IsOlder (c.turn + 1))) (sym own)
       (all_set (IsOlder (c.turn + 1)) c.own.items place (Some (record { turn = c.turn + 1; domain = d })) (omega arith) (older_on c.turn c.own.items kept.own)));
   common = omega (arith, at, now, kept.common);
-  few = let e = ap length own in let f : length (set c.own.items place (Some (record { turn = c.turn + 1; domain = d }))) ≡ length c.own.items = simp length-set in omega (arith, e, f, kept.few);
+  few = let e = ap length own in let f : length
+      (set c.own.items place (Some (record { turn = c.turn + 1; domain = d }))) ≡ length c.own.items = simp length-set in omega (arith, e, f, kept.few);
 }
   where
-    same_force : (l : ℕ) (e : List ℤ) (xs : List (Option Own)) → l ≡ c.common_turn → e ≡ c.common → xs ≡ set c.own.items place (Some (record { turn = c.turn + 1; domain = d })) →
+    same_force : (l : ℕ) (e : List ℤ) (xs : List (Option Own)) → l ≡ c.common_turn → e ≡ c.common →
+        xs ≡ set c.own.items place (Some (record { turn = c.turn + 1; domain = d })) →
         map (in_force l e) xs ≡ map (in_force c.common_turn c.common) (set c.own.items place (Some (record { turn = c.turn + 1; domain = d })))
     same_force l e xs p q r =
         ap (λ (k : ℕ). map (in_force k e) xs) p

@@ -34,7 +34,8 @@ record IsFit (lists : Bool) (m : Stated) : Type 0 where
 abbrev Fails : Bool × ModelKind → Type 0
 Fails k = k.0 ≡ false
 
-fails_step : (k : Bool × ModelKind) (ks : List (Bool × ModelKind)) (b : Bool) → k.0 ≡ b → (first_kind ks ≡ None → AllByRecursion Fails ks) → cond b (Some k.1) (first_kind ks) ≡ None → Fails k × AllByRecursion Fails ks
+fails_step : (k : Bool × ModelKind) (ks : List (Bool × ModelKind)) (b : Bool) → k.0 ≡ b → (first_kind ks ≡ None → AllByRecursion Fails ks) →
+    cond b (Some k.1) (first_kind ks) ≡ None → Fails k × AllByRecursion Fails ks
 fails_step k ks true e later h = cc
 fails_step k ks false e later h = (e, later h)
 
@@ -101,7 +102,8 @@ fit_after lists m (SaysCells n) fit none =
 fit_after lists m (SaysDomain rs) fit none =
     let all = all_fail (kinds lists m (SaysDomain rs)) none in record {
       few = let e : length (map (λ _. union_of rs) m.cells) ≡ length m.cells = simp length-map in omega (arith, e, fit.few);
-      total = under lists (total_of (map (λ _. union_of rs) m.cells)) (second (list_any is_outside rs) (over_total lists (with_said m (SaysDomain rs))) all.1.1.1.1.1.1.1.1.1.0);
+      total = under lists (total_of (map (λ _. union_of rs) m.cells))
+          (second (list_any is_outside rs) (over_total lists (with_said m (SaysDomain rs))) all.1.1.1.1.1.1.1.1.1.0);
       terms = fit.terms;
       requirements = fit.requirements;
       each = fit.each;
@@ -111,7 +113,8 @@ fit_after lists m (SaysDomain rs) fit none =
 fit_after lists m (SaysCell k rs) fit none =
     let all = all_fail (kinds lists m (SaysCell k rs)) none in record {
       few = let e : length (with_said m (SaysCell k rs)).cells ≡ length m.cells = simp length-set in omega (arith, e, fit.few);
-      total = under lists (total_of (with_said m (SaysCell k rs)).cells) (second (list_any is_outside rs) (over_total lists (with_said m (SaysCell k rs))) all.1.1.1.1.1.1.1.1.1.0);
+      total = under lists (total_of (with_said m (SaysCell k rs)).cells)
+          (second (list_any is_outside rs) (over_total lists (with_said m (SaysCell k rs))) all.1.1.1.1.1.1.1.1.1.0);
       terms = fit.terms;
       requirements = fit.requirements;
       each = fit.each;
@@ -137,7 +140,8 @@ fit_after lists m (SaysRequire name op bound) fit none =
       total = fit.total;
       terms = fit.terms;
       requirements = omega (arith, more, at_most 63 (length m.requirements) tests.1);
-      each = pushed (λ r. r.term < length m.terms) m.requirements _ fit.each (known_there (length m.terms) (term_at name m.terms) all.1.1.1.1.1.1.0 (term_there name m.terms (term_at name m.terms) refl));
+      each = pushed (λ r. r.term < length m.terms) m.requirements _ fit.each
+          (known_there (length m.terms) (term_at name m.terms) all.1.1.1.1.1.1.0 (term_there name m.terms (term_at name m.terms) refl));
       bounds = pushed (λ r. is_bound r.bound ≡ true) m.requirements _ fit.bounds tests.0;
       objective = fit.objective;
     }
@@ -151,41 +155,49 @@ fit_after lists m (SaysObjective name) fit none = record {
   objective = term_there name m.terms (term_at name m.terms) refl;
 }
 
-fit_taken : (lists : Bool) (m after : Stated) (number : ℕ) (rows : List Row) (s : Said) (k : Option ModelKind) → first_kind (kinds lists m s) ≡ k → IsFit lists m → ((next : Stated) → IsFit lists next → read_rows lists next rows ≡ Ok after → IsFit lists after) →
+fit_taken : (lists : Bool) (m after : Stated) (number : ℕ) (rows : List Row) (s : Said) (k : Option ModelKind) → first_kind (kinds lists m s) ≡ k →
+    IsFit lists m → ((next : Stated) → IsFit lists next → read_rows lists next rows ≡ Ok after → IsFit lists after) →
     onward number (unless_kind k (with_said m s)) (λ a. read_rows lists a rows) ≡ Ok after → IsFit lists after
 fit_taken lists m after number rows s None e fit later h = later (with_said m s) (fit_after lists m s fit e) h
 fit_taken lists m after number rows s (Some k) e fit later h = cc
 
-fit_said : (lists : Bool) (m after : Stated) (number : ℕ) (rows : List Row) (p : Result Said ModelKind) → IsFit lists m → ((next : Stated) → IsFit lists next → read_rows lists next rows ≡ Ok after → IsFit lists after) →
+fit_said : (lists : Bool) (m after : Stated) (number : ℕ) (rows : List Row) (p : Result Said ModelKind) → IsFit lists m →
+    ((next : Stated) → IsFit lists next → read_rows lists next rows ≡ Ok after → IsFit lists after) →
     onward number (taken_as lists m p) (λ a. read_rows lists a rows) ≡ Ok after → IsFit lists after
 fit_said lists m after number rows (Err k) fit later h = cc
 fit_said lists m after number rows (Ok s) fit later h = fit_taken lists m after number rows s (first_kind (kinds lists m s)) refl fit later h
 
 fit_rows : (lists : Bool) (m after : Stated) (rows : List Row) → IsFit lists m → read_rows lists m rows ≡ Ok after → IsFit lists after
 fit_rows lists m after [] fit h = let same : m ≡ after = cc in subst (IsFit lists) same fit
-fit_rows lists m after (row ∷ rows) fit h = fit_said lists m after row.number rows (parsed (texts_of row.words)) fit (λ next fit' h'. fit_rows lists next after rows fit' h') h
+fit_rows lists m after (row ∷ rows) fit h =
+    fit_said lists m after row.number rows (parsed (texts_of row.words)) fit (λ next fit' h'. fit_rows lists next after rows fit' h') h
 
 record IsEnded (need : Need) (c : Cut) (m : Stated) : Type 0 where
   rows : read_rows (needs_lists need) nothing c.rows ≡ Ok m
   some : has_cells m ≡ true
   objective : (needs_objective need && is_none m.objective) ≡ false
 
-ended_ok : (need : Need) (c : Cut) (n m : Stated) (some aim : Bool) → read_rows (needs_lists need) nothing c.rows ≡ Ok n → has_cells n ≡ some → (needs_objective need && is_none n.objective) ≡ aim →
-    ◌≡◌ {A = Result Stated (ℕ × ModelKind)} (cond (not some) (Err (c.count + 1, NoCells)) (cond aim (Err (c.count + 1, NoObjective)) (Ok n))) (Ok m) → IsEnded need c m
+ended_ok : (need : Need) (c : Cut) (n m : Stated) (some aim : Bool) → read_rows (needs_lists need) nothing c.rows ≡ Ok n → has_cells n ≡ some →
+    (needs_objective need && is_none n.objective) ≡ aim →
+    ◌≡◌ {A = Result Stated (ℕ × ModelKind)} (cond (not some) (Err (c.count + 1, NoCells)) (cond aim (Err (c.count + 1, NoObjective)) (Ok n)))
+    (Ok m) → IsEnded need c m
 ended_ok need c n m false aim rows has obj h = cc
 ended_ok need c n m true true rows has obj h = cc
 ended_ok need c n m true false rows has obj h = let same : n ≡ m = cc in subst (IsEnded need c) same (record { rows = rows; some = has; objective = obj })
 
-text_ok : (need : Need) (c : Cut) (n m : Stated) (bad : Option ℕ) → read_rows (needs_lists need) nothing c.rows ≡ Ok n → ended_text need c n bad ≡ Ok m → IsEnded need c m
+text_ok : (need : Need) (c : Cut) (n m : Stated) (bad : Option ℕ) → read_rows (needs_lists need) nothing c.rows ≡ Ok n → ended_text need c n bad ≡ Ok m →
+    IsEnded need c m
 text_ok need c n m (Some line) rows h = cc
 text_ok need c n m None rows h = ended_ok need c n m (has_cells n) (needs_objective need && is_none n.objective) rows refl refl h
 
-rows_ok : (need : Need) (c : Cut) (m : Stated) (r : Result Stated (ℕ × ModelKind)) → read_rows (needs_lists need) nothing c.rows ≡ r → ended need c r ≡ Ok m → IsEnded need c m
+rows_ok : (need : Need) (c : Cut) (m : Stated) (r : Result Stated (ℕ × ModelKind)) → read_rows (needs_lists need) nothing c.rows ≡ r → ended need c r ≡ Ok m →
+    IsEnded need c m
 rows_ok need c m (Err e) rows h = cc
 rows_ok need c m (Ok n) rows h = text_ok need c n m c.not_text rows h
 
 nothing_fits : (lists : Bool) → IsFit lists nothing
-nothing_fits lists = record { few = omega arith; total = λ _. omega arith; terms = omega arith; requirements = omega arith; each = tt; bounds = tt; objective = tt }
+nothing_fits lists =
+    record { few = omega arith; total = λ _. omega arith; terms = omega arith; requirements = omega arith; each = tt; bounds = tt; objective = tt }
 
 ended_is : (need : Need) (c : Cut) (m : Stated) → reading need c ≡ Ok m → IsEnded need c m
 ended_is need c m h = rows_ok need c m (read_rows (needs_lists need) nothing c.rows) refl h

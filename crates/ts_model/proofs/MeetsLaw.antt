@@ -71,7 +71,8 @@ judged_is_met m xs cells = (there, back)
         (box_insides m.cells xs w.inside) (all_held m xs m.requirements w.requirements)
 
 -- the same of what was judged
-pub met_by : (m : Stated) (xs : List ℤ) (inside holding : List Bool) → length xs ≡ length m.cells → inside ≡ insides m.cells xs → holding ≡ holdings (values_on m xs) m.requirements →
+pub met_by : (m : Stated) (xs : List ℤ) (inside holding : List Bool) → length xs ≡ length m.cells → inside ≡ insides m.cells xs →
+    holding ≡ holdings (values_on m xs) m.requirements →
     IsTrue (all_hold inside holding) ↔ Meets m xs
 met_by m xs inside holding cells inside_is holding_is =
     subst (λ (b : Bool). IsTrue b ↔ Meets m xs) (sym (λ i. all_hold (inside_is i) (holding_is i))) (judged_is_met m xs cells)

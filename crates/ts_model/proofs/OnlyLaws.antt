@@ -33,7 +33,8 @@ one_bad : (lists : Bool) (rows : List Row) (l k : ℕ) (a b : ModelKind) → Fir
 one_bad lists rows l k a b x y =
     let place = one_place lists rows l k a b x y in
     let row : x.row ≡ y.row = same_Some x.row y.row (sym x.is_there ∙ ap (slice_get rows) place ∙ y.is_there) in
-    let kind : ◌≡◌ {A = Option ModelKind} (Some a) (Some b) = sym x.kind_is ∙ ap (λ (n : ℕ). kind_at lists (take n rows) x.row) place ∙ ap (kind_at lists (take y.place rows)) row ∙ y.kind_is in
+    let kind : ◌≡◌ {A = Option ModelKind} (Some a) (Some b) =
+    sym x.kind_is ∙ ap (λ (n : ℕ). kind_at lists (take n rows) x.row) place ∙ ap (kind_at lists (take y.place rows)) row ∙ y.kind_is in
     (sym x.number ∙ ap (λ (r : Row). r.number) row ∙ y.number, same_Some a b kind)
 
 one_end : (need : Need) (c : Cut) (bad : Option ℕ) (l k : ℕ) (a b : ModelKind) → IsEnd need c bad l a → IsEnd need c bad k b → (l ≡ k) × (a ≡ b)
@@ -49,10 +50,12 @@ one_refusal need c l k a b (inl x) (inr y) = absurd (good_bad (needs_lists need)
 one_refusal need c l k a b (inr x) (inl y) = absurd (good_bad (needs_lists need) c.rows k b x.0 y)
 one_refusal need c l k a b (inr x) (inr y) = one_end need c c.not_text l k a b x.1 y.1
 
-not_both_end : (need : Need) (c : Cut) (m : Stated) (bad : Option ℕ) (l : ℕ) (a : ModelKind) → bad ≡ None → has_cells m ≡ true → (needs_objective need && is_none m.objective) ≡ false → m ≡ so_far c.rows → IsEnd need c bad l a → ⊥
+not_both_end : (need : Need) (c : Cut) (m : Stated) (bad : Option ℕ) (l : ℕ) (a : ModelKind) → bad ≡ None → has_cells m ≡ true →
+    (needs_objective need && is_none m.objective) ≡ false → m ≡ so_far c.rows → IsEnd need c bad l a → ⊥
 not_both_end need c m (Some line) l a text has aim is e = cc
 not_both_end need c m None l a text has aim is (inl x) = let p = x.0 in let q = ap has_cells is in cc
-not_both_end need c m None l a text has aim is (inr x) = let p : (needs_objective need && is_none m.objective) ≡ true = (λ i. x.1 i && is_none ((ap (λ (s : Stated). s.objective) is ∙ x.2) i)) in cc
+not_both_end need c m None l a text has aim is (inr x) =
+    let p : (needs_objective need && is_none m.objective) ≡ true = (λ i. x.1 i && is_none ((ap (λ (s : Stated). s.objective) is ∙ x.2) i)) in cc
 
 not_both : (need : Need) (c : Cut) (m : Stated) (l : ℕ) (a : ModelKind) → IsModel need c m → IsRefused need c l a → ⊥
 not_both need c m l a good (inl bad) = good_bad (needs_lists need) c.rows l a good.0 bad

@@ -17,12 +17,14 @@ abbrev Joins : Bool → Stated → Result Said ModelKind → Option ModelKind �
 Joins lists m (Err k) first = first ≡ Some k
 Joins lists m (Ok s) first = first ≡ first_kind (kinds lists m s)
 
-by_shape : (lists : Bool) (m : Stated) (shape : Bool) (s : Option Said) → Joins lists m (cond shape (ok_or s Number) (Err Shape)) (first_kind ((not shape, Shape) ∷ (is_none s, Number) ∷ kinds_said lists m (cond shape (ok_or s Number) (Err Shape))))
+by_shape : (lists : Bool) (m : Stated) (shape : Bool) (s : Option Said) → Joins lists m (cond shape (ok_or s Number) (Err Shape))
+    (first_kind ((not shape, Shape) ∷ (is_none s, Number) ∷ kinds_said lists m (cond shape (ok_or s Number) (Err Shape))))
 by_shape lists m true None = refl
 by_shape lists m true (Some s) = refl
 by_shape lists m false s = refl
 
-by_form : (lists : Bool) (m : Stated) (form : Option Form) (ws : List (List ℕ)) → Joins lists m (parsed_as form ws) (first_kind ((is_none form, UnknownLine) ∷ (bad_shape form ws, Shape) ∷ (bad_number form ws, Number) ∷ kinds_said lists m (parsed_as form ws)))
+by_form : (lists : Bool) (m : Stated) (form : Option Form) (ws : List (List ℕ)) → Joins lists m (parsed_as form ws)
+    (first_kind ((is_none form, UnknownLine) ∷ (bad_shape form ws, Shape) ∷ (bad_number form ws, Number) ∷ kinds_said lists m (parsed_as form ws)))
 by_form lists m None ws = refl
 by_form lists m (Some form) ws = by_shape lists m (has_shape form ws) (said_by form ws)
 
@@ -39,11 +41,13 @@ step_taken : (lists : Bool) (m : Stated) (s : Said) (first kind : Option ModelKi
 step_taken lists m s first None e = (e, refl)
 step_taken lists m s first (Some k) e = e
 
-step_parsed : (lists : Bool) (m : Stated) (p : Result Said ModelKind) (first : Option ModelKind) → Joins lists m p first → Steps m (said_onto p []) first (taken_as lists m p)
+step_parsed : (lists : Bool) (m : Stated) (p : Result Said ModelKind) (first : Option ModelKind) → Joins lists m p first →
+    Steps m (said_onto p []) first (taken_as lists m p)
 step_parsed lists m (Err k) first e = e
 step_parsed lists m (Ok s) first e = step_taken lists m s first (first_kind (kinds lists m s)) e
 
-line_step : (lists : Bool) (m : Stated) (row : Row) → Steps m (said_lines (row ∷ [])) (first_kind (kinds_of lists m (texts_of row.words))) (line_gives lists m (texts_of row.words))
+line_step : (lists : Bool) (m : Stated) (row : Row) →
+    Steps m (said_lines (row ∷ [])) (first_kind (kinds_of lists m (texts_of row.words))) (line_gives lists m (texts_of row.words))
 line_step lists m row = step_parsed lists m (parsed (texts_of row.words)) _ (all_kinds lists m (texts_of row.words))
 
 onto_append : (p : Result Said ModelKind) (xs ys : List Said) → said_onto p (xs ++ ys) ≡ said_onto p xs ++ ys
@@ -52,7 +56,8 @@ onto_append (Ok s) xs ys = refl
 
 said_append : (xs ys : List Row) → said_lines (xs ++ ys) ≡ said_lines xs ++ said_lines ys
 said_append [] ys = refl
-said_append (x ∷ xs) ys = ap (said_onto (parsed (texts_of x.words))) (said_append xs ys) ∙ onto_append (parsed (texts_of x.words)) (said_lines xs) (said_lines ys)
+said_append (x ∷ xs) ys =
+    ap (said_onto (parsed (texts_of x.words))) (said_append xs ys) ∙ onto_append (parsed (texts_of x.words)) (said_lines xs) (said_lines ys)
 
 stated_append : (m : Stated) (xs ys : List Said) → stated_after m (xs ++ ys) ≡ stated_after (stated_after m xs) ys
 stated_append m [] ys = refl
@@ -78,7 +83,8 @@ module _ (lists : Bool) where
   Found done rows (Ok m) = GoodFrom done rows × (so_far (done ++ rows) ≡ m)
   Found done rows (Err e) = BadFrom done rows e.0 e.1
 
-  here : (done rs : List Row) (r row : Row) (kind : Option ModelKind) → kind_at lists done r ≡ kind → Some r ≡ Some row → kind_at lists (done ++ take 0 (r ∷ rs)) row ≡ kind
+  here : (done rs : List Row) (r row : Row) (kind : Option ModelKind) → kind_at lists done r ≡ kind → Some r ≡ Some row →
+      kind_at lists (done ++ take 0 (r ∷ rs)) row ≡ kind
   here done rs r row kind k e = ap (λ (x : List Row). kind_at lists x row) (append-nil done) ∙ ap (kind_at lists done) (sym (same_Some r row e)) ∙ k
 
   moved : (done rs : List Row) (r row : Row) (i : ℕ) → kind_at lists ((done ++ r ∷ []) ++ take i rs) row ≡ kind_at lists (done ++ take (suc i) (r ∷ rs)) row
@@ -88,12 +94,14 @@ module _ (lists : Bool) where
   good_more done rs r none good zero row e = here done rs r row None none e
   good_more done rs r none good (suc i) row e = sym (moved done rs r row i) ∙ good i row e
 
-  first_more : (done rs : List Row) (r : Row) (place : ℕ) → kind_at lists done r ≡ None → ((i : ℕ) (earlier : Row) → i < place → slice_get rs i ≡ Some earlier → kind_at lists ((done ++ r ∷ []) ++ take i rs) earlier ≡ None) →
+  first_more : (done rs : List Row) (r : Row) (place : ℕ) → kind_at lists done r ≡ None →
+      ((i : ℕ) (earlier : Row) → i < place → slice_get rs i ≡ Some earlier → kind_at lists ((done ++ r ∷ []) ++ take i rs) earlier ≡ None) →
       (i : ℕ) (earlier : Row) → i < suc place → slice_get (r ∷ rs) i ≡ Some earlier → kind_at lists (done ++ take i (r ∷ rs)) earlier ≡ None
   first_more done rs r place none first zero earlier h e = here done rs r earlier None none e
   first_more done rs r place none first (suc i) earlier h e = sym (moved done rs r earlier i) ∙ first i earlier (omega arith) e
 
-  found_more : (done rs : List Row) (r : Row) (read : Result Stated (ℕ × ModelKind)) → kind_at lists done r ≡ None → Found (done ++ r ∷ []) rs read → Found done (r ∷ rs) read
+  found_more : (done rs : List Row) (r : Row) (read : Result Stated (ℕ × ModelKind)) → kind_at lists done r ≡ None → Found (done ++ r ∷ []) rs read →
+      Found done (r ∷ rs) read
   found_more done rs r (Ok m) none found = (good_more done rs r none found.0, ap so_far (sym (append_assoc done (r ∷ []) rs)) ∙ found.1)
   found_more done rs r (Err e) none found = record {
     place = suc found.place;
@@ -104,7 +112,8 @@ module _ (lists : Bool) where
     first = first_more done rs r found.place none found.first;
   }
 
-  found_step : (done rs : List Row) (r : Row) (g : Result Stated ModelKind) → Steps (so_far done) (said_lines (r ∷ [])) (kind_at lists done r) g → Found (done ++ r ∷ []) rs (read_rows lists (so_far (done ++ r ∷ [])) rs) → Found done (r ∷ rs) (onward r.number g (λ a. read_rows lists a rs))
+  found_step : (done rs : List Row) (r : Row) (g : Result Stated ModelKind) → Steps (so_far done) (said_lines (r ∷ [])) (kind_at lists done r) g →
+      Found (done ++ r ∷ []) rs (read_rows lists (so_far (done ++ r ∷ [])) rs) → Found done (r ∷ rs) (onward r.number g (λ a. read_rows lists a rs))
   found_step done rs r (Err k) step later = record {
     place = 0;
     row = r;
@@ -114,11 +123,13 @@ module _ (lists : Bool) where
     first = λ i earlier h e. absurd (omega arith);
   }
   found_step done rs r (Ok after) step later =
-      found_more done rs r (read_rows lists after rs) step.0 (subst (λ (m : Stated). Found (done ++ r ∷ []) rs (read_rows lists m rs)) (so_far_more done r ∙ step.1) later)
+      found_more done rs r (read_rows lists after rs) step.0
+      (subst (λ (m : Stated). Found (done ++ r ∷ []) rs (read_rows lists m rs)) (so_far_more done r ∙ step.1) later)
 
   found_rows : (done rows : List Row) → Found done rows (read_rows lists (so_far done) rows)
   found_rows done [] = (λ i row e. cc, ap so_far (append-nil done))
-  found_rows done (r ∷ rs) = found_step done rs r (line_gives lists (so_far done) (texts_of r.words)) (line_step lists (so_far done) r) (found_rows (done ++ r ∷ []) rs)
+  found_rows done (r ∷ rs) =
+      found_step done rs r (line_gives lists (so_far done) (texts_of r.words)) (line_step lists (so_far done) r) (found_rows (done ++ r ∷ []) rs)
 
   bad_first : (rows : List Row) (line : ℕ) (kind : ModelKind) → BadFrom [] rows line kind → FirstBad lists rows line kind
   bad_first rows line kind bad = record {
@@ -130,7 +141,8 @@ module _ (lists : Bool) where
     first = bad.first;
   }
 
-end_aim : (need : Need) (c : Cut) (m : Stated) (none : Bool) → AreGood (needs_lists need) c.rows → so_far c.rows ≡ m → c.not_text ≡ None → has_cells m ≡ true → (needs_objective need && is_none m.objective) ≡ none → IsReading need c (cond none (Err (c.count + 1, NoObjective)) (Ok m))
+end_aim : (need : Need) (c : Cut) (m : Stated) (none : Bool) → AreGood (needs_lists need) c.rows → so_far c.rows ≡ m → c.not_text ≡ None → has_cells m ≡ true →
+    (needs_objective need && is_none m.objective) ≡ none → IsReading need c (cond none (Err (c.count + 1, NoObjective)) (Ok m))
 end_aim need c m false good is text has aim = (good, text, has, aim, sym is)
 end_aim need c m true good is text has aim =
     let both : (needs_objective need ≡ true) × (m.objective ≡ None) = parts (needs_objective need) m.objective aim in
@@ -141,11 +153,14 @@ end_aim need c m true good is text has aim =
     parts true (Some x) e = cc
     parts false o e = cc
 
-end_cells : (need : Need) (c : Cut) (m : Stated) (some : Bool) → AreGood (needs_lists need) c.rows → so_far c.rows ≡ m → c.not_text ≡ None → has_cells m ≡ some → IsReading need c (cond (not some) (Err (c.count + 1, NoCells)) (cond (needs_objective need && is_none m.objective) (Err (c.count + 1, NoObjective)) (Ok m)))
+end_cells : (need : Need) (c : Cut) (m : Stated) (some : Bool) → AreGood (needs_lists need) c.rows → so_far c.rows ≡ m → c.not_text ≡ None →
+    has_cells m ≡ some →
+    IsReading need c (cond (not some) (Err (c.count + 1, NoCells)) (cond (needs_objective need && is_none m.objective) (Err (c.count + 1, NoObjective)) (Ok m)))
 end_cells need c m true good is text has = end_aim need c m (needs_objective need && is_none m.objective) good is text has refl
 end_cells need c m false good is text has = inr (good, subst (λ t. IsEnd need c t (c.count + 1) NoCells) (sym text) (inl (ap has_cells is ∙ has, refl, refl)))
 
-end_text : (need : Need) (c : Cut) (m : Stated) (bad : Option ℕ) → AreGood (needs_lists need) c.rows → so_far c.rows ≡ m → c.not_text ≡ bad → IsReading need c (ended_text need c m bad)
+end_text : (need : Need) (c : Cut) (m : Stated) (bad : Option ℕ) → AreGood (needs_lists need) c.rows → so_far c.rows ≡ m → c.not_text ≡ bad →
+    IsReading need c (ended_text need c m bad)
 end_text need c m None good is text = end_cells need c m (has_cells m) good is text refl
 end_text need c m (Some line) good is text = inr (good, subst (λ t. IsEnd need c t line NotText) (sym text) (refl, refl))
 

@@ -35,7 +35,8 @@ aggregator_is word r h = same_by (λ x. aggregator_name x ≡ word) r _ h (found
 
 pub feature_is : (word : List ℕ) (r : Option Feature) → ((x : Feature) → (r ≡ Some x) ↔ (feature_name x ≡ word)) → r ≡ feature_of word
 unfolding feature_of
-feature_is word r h = same_by (λ x. feature_name x ≡ word) r _ h (found_by_name feature_name (One ∷ Width ∷ Surf ∷ MaxFeature ∷ MinFeature ∷ []) own_feature word)
+feature_is word r h =
+    same_by (λ x. feature_name x ≡ word) r _ h (found_by_name feature_name (One ∷ Width ∷ Surf ∷ MaxFeature ∷ MinFeature ∷ []) own_feature word)
 
 pub pattern_is : (word : List ℕ) (r : Option PatternId) → ((x : PatternId) → (r ≡ Some x) ↔ (pattern_name x ≡ word)) → r ≡ pattern_of word
 unfolding pattern_of

@@ -25,26 +25,34 @@ follows_on d new sound cells few = record {
   turn = let e = ap (λ (c : Cells). c.turn) cells in omega (arith, e);
 }
 
-clear_pair : (lists : Bool) (m : Stated) (name : List ℕ) (p q : TermParts) (pair : Bool) → is_pair p.aggregator p.feature ≡ pair → cond pair (Ok p) (Err BadPair) ≡ Ok q →
-    has_cells m ≡ true → is_some (term_at name m.terms) ≡ false → nat_lt 31 (length m.terms) ≡ false → taken lists m (SaysTerm name (Some p)) ≡ Ok (record m { terms = m.terms ++ (name, q) ∷ [] })
+clear_pair : (lists : Bool) (m : Stated) (name : List ℕ) (p q : TermParts) (pair : Bool) → is_pair p.aggregator p.feature ≡ pair →
+    cond pair (Ok p) (Err BadPair) ≡ Ok q →
+    has_cells m ≡ true → is_some (term_at name m.terms) ≡ false → nat_lt 31 (length m.terms) ≡ false → taken lists m (SaysTerm name (Some p)) ≡ Ok
+    (record m { terms = m.terms ++ (name, q) ∷ [] })
 clear_pair lists m name p q false is made some new room = cc
 clear_pair lists m name p q true is made some new room =
     let same : p ≡ q = cc in rw (some, is, new, room) (ap (λ (x : TermParts). Ok (record m { terms = m.terms ++ (name, x) ∷ [] })) same)
 
-clear_term : (lists : Bool) (m : Stated) (name : List ℕ) (parts : Option TermParts) (q : TermParts) → term_made parts ≡ Ok q → has_cells m ≡ true → is_some (term_at name m.terms) ≡ false → nat_lt 31 (length m.terms) ≡ false →
+clear_term : (lists : Bool) (m : Stated) (name : List ℕ) (parts : Option TermParts) (q : TermParts) → term_made parts ≡ Ok q → has_cells m ≡ true →
+    is_some (term_at name m.terms) ≡ false → nat_lt 31 (length m.terms) ≡ false →
     taken lists m (SaysTerm name parts) ≡ Ok (record m { terms = m.terms ++ (name, q) ∷ [] })
 clear_term lists m name None q made some new room = cc
 clear_term lists m name (Some p) q made some new room = clear_pair lists m name p q (is_pair p.aggregator p.feature) refl made some new room
 
-pub took_term : (lists : Bool) (d : Draft) (name : List ℕ) (parts : Option TermParts) (term : Term) (key : String Global) (entries : List (String Global × Term)) → has_cells (drafted d) ≡ true → term_made parts ≡ Ok (parts_of term) →
-    is_some (term_at name (drafted d).terms) ≡ false → nat_lt 31 (length (drafted d).terms) ≡ false → string_bytes key ≡ name → entries ≡ insert_entry string_eq d.terms.entries key term →
+pub took_term : (lists : Bool) (d : Draft) (name : List ℕ) (parts : Option TermParts) (term : Term) (key : String Global)
+    (entries : List (String Global × Term)) → has_cells (drafted d) ≡ true → term_made parts ≡ Ok (parts_of term) →
+    is_some (term_at name (drafted d).terms) ≡ false → nat_lt 31
+    (length (drafted d).terms) ≡ false → string_bytes key ≡ name → entries ≡ insert_entry string_eq d.terms.entries key term →
     taken lists (drafted d) (SaysTerm name parts) ≡ Ok (record (drafted d) { terms = map term_of entries })
 took_term lists d name parts term key entries some made new room key_is entries_is =
     clear_term lists (drafted d) name parts (parts_of term) made some new room
-    ∙ ap (λ (x : List (List ℕ × TermParts)). Ok (record (drafted d) { terms = x })) (sym (ap (map term_of) entries_is ∙ term_added name term key d.terms.entries key_is new))
+    ∙ ap (λ (x : List (List ℕ × TermParts)). Ok (record (drafted d) { terms = x }))
+    (sym (ap (map term_of) entries_is ∙ term_added name term key d.terms.entries key_is new))
 
-pub follows_term : (d new : Draft) (old : Option Term) (n : ℕ) → IsSound d → n ≤ 31 → n ≡ index_map_len d.terms → index_map_len new.terms ≡ index_map_len d.terms + cond (is_some old) 0 1 → new.cells ≡ d.cells → Follows d new
-follows_term d new old n sound few count added cells = follows_on d new sound cells (fits (is_some old) (length new.terms.entries) (length d.terms.entries) n few count added)
+pub follows_term : (d new : Draft) (old : Option Term) (n : ℕ) → IsSound d → n ≤ 31 → n ≡ index_map_len d.terms →
+    index_map_len new.terms ≡ index_map_len d.terms + cond (is_some old) 0 1 → new.cells ≡ d.cells → Follows d new
+follows_term d new old n sound few count added cells =
+    follows_on d new sound cells (fits (is_some old) (length new.terms.entries) (length d.terms.entries) n few count added)
   where
     fits : (b : Bool) (k m n : ℕ) → n ≤ 31 → n ≡ m → k ≡ m + cond b 0 1 → k ≤ 32
     fits true k m n a e f = omega arith

@@ -25,36 +25,45 @@ module _ {A B : Type 0} (p : A → Bool) (q : B → Bool) (f : A → B) (same : 
       ∙ ap (λ (k : ℕ). cond (nat_lt (position_or_len q (map f xs)) k) (Some (position_or_len q (map f xs))) None) same_length
 
 -- the map's own place of a name is the place of its term
-pub found_term : (name : List ℕ) (es : List (String Global × Term)) → position (λ (k : String Global). bytes_eq name (string_bytes k)) (map (λ e. e.0) es) ≡ term_at name (map term_of es)
+pub found_term : (name : List ℕ) (es : List (String Global × Term)) →
+    position (λ (k : String Global). bytes_eq name (string_bytes k)) (map (λ e. e.0) es) ≡ term_at name (map term_of es)
 found_term name es =
     sym (position_map (λ (e : String Global × Term). bytes_eq name (string_bytes e.0)) (λ (k : String Global). bytes_eq name (string_bytes k)) (λ e. e.0) (λ _. refl) es)
     ∙ position_map (λ (e : String Global × Term). bytes_eq name (string_bytes e.0)) (λ (t : List ℕ × TermParts). bytes_eq name t.0) term_of (λ _. refl) es
 
 absent : {A : Type 0} (p : A → Bool) (xs : List A) → is_some (position p xs) ≡ false → length xs ≤ position_or_len p xs
 absent p xs h = go (nat_lt (position_or_len p xs) (length xs)) refl h where
-  go : (t : Bool) → nat_lt (position_or_len p xs) (length xs) ≡ t → is_some (cond t (Some (position_or_len p xs)) None) ≡ false → length xs ≤ position_or_len p xs
+  go : (t : Bool) → nat_lt (position_or_len p xs) (length xs) ≡ t → is_some (cond t (Some (position_or_len p xs)) None) ≡ false →
+      length xs ≤ position_or_len p xs
   go true e f = cc
   go false e f = ltb-false _ _ e
 
-inserted_step : (eq : String Global → String Global → Bool) (k : String Global) (v : Term) (e : String Global × Term) (es : List (String Global × Term)) (t : Bool) →
+inserted_step : (eq : String Global → String Global → Bool) (k : String Global) (v : Term) (e : String Global × Term) (es : List (String Global × Term))
+    (t : Bool) →
     (length es ≤ position_or_len (λ (e : String Global × Term). eq k e.0) es → insert_entry eq es k v ≡ es ++ (k, v) ∷ []) →
-    suc (length es) ≤ cond (not t) (1 + position_or_len (λ (e : String Global × Term). eq k e.0) es) 0 → cond t ((e.0, v) ∷ es) (e ∷ insert_entry eq es k v) ≡ e ∷ (es ++ (k, v) ∷ [])
+    suc (length es) ≤ cond (not t) (1 + position_or_len (λ (e : String Global × Term). eq k e.0) es) 0 →
+    cond t ((e.0, v) ∷ es) (e ∷ insert_entry eq es k v) ≡ e ∷ (es ++ (k, v) ∷ [])
 inserted_step eq k v e es true later h = absurd (omega arith)
 inserted_step eq k v e es false later h = ap (λ (x : List (String Global × Term)). e ∷ x) (later (omega arith))
 
-inserted : (eq : String Global → String Global → Bool) (k : String Global) (v : Term) (es : List (String Global × Term)) → length es ≤ position_or_len (λ (e : String Global × Term). eq k e.0) es → insert_entry eq es k v ≡ es ++ (k, v) ∷ []
+inserted : (eq : String Global → String Global → Bool) (k : String Global) (v : Term) (es : List (String Global × Term)) →
+    length es ≤ position_or_len (λ (e : String Global × Term). eq k e.0) es → insert_entry eq es k v ≡ es ++ (k, v) ∷ []
 inserted eq k v [] h = refl
 inserted eq k v (e ∷ es) h = inserted_step eq k v e es (eq k e.0) (inserted eq k v es) h
 
 -- a new name goes to the end
-pub term_added : (name : List ℕ) (v : Term) (k : String Global) (es : List (String Global × Term)) → string_bytes k ≡ name → is_some (term_at name (map term_of es)) ≡ false →
+pub term_added : (name : List ℕ) (v : Term) (k : String Global) (es : List (String Global × Term)) → string_bytes k ≡ name →
+    is_some (term_at name (map term_of es)) ≡ false →
     map term_of (insert_entry string_eq es k v) ≡ map term_of es ++ (name, parts_of v) ∷ []
 term_added name v k es key new =
-    let same = position_map (λ (e : String Global × Term). string_eq k e.0) (λ (t : List ℕ × TermParts). bytes_eq name t.0) term_of (λ e. ap (λ (x : List ℕ). bytes_eq x (string_bytes e.0)) key) es in
+    let same =
+    position_map (λ (e : String Global × Term). string_eq k e.0) (λ (t : List ℕ × TermParts). bytes_eq name t.0) term_of
+    (λ e. ap (λ (x : List ℕ). bytes_eq x (string_bytes e.0)) key) es in
     ap (map term_of) (inserted string_eq k v es (absent (λ (e : String Global × Term). string_eq k e.0) es (ap is_some same ∙ new)))
     ∙ simp map-append (ap (λ (x : List ℕ). map term_of es ++ (x, parts_of v) ∷ []) key)
 
 -- one more entry
-pub count_added : (name : List ℕ) (v : Term) (k : String Global) (es : List (String Global × Term)) → string_bytes k ≡ name → is_some (term_at name (map term_of es)) ≡ false → length (insert_entry string_eq es k v) ≡ length es + 1
+pub count_added : (name : List ℕ) (v : Term) (k : String Global) (es : List (String Global × Term)) → string_bytes k ≡ name →
+    is_some (term_at name (map term_of es)) ≡ false → length (insert_entry string_eq es k v) ≡ length es + 1
 count_added name v k es key new =
     let e = ap length (term_added name v k es key new) in simp (length-map, length-append) at e

@@ -37,7 +37,8 @@ next_in : (low x : ℤ) (n : ℕ) → low ≤ℤ x → (v : ℤ) → x <ℤ v �
 next_in low x n h v above within = (omega (arith, ints, h, above), omega (arith, ints, within.1))
 
 module _ (test : ℤ → Bool) where
-  keep_or_skip : (low : ℤ) (rest d : List ℤ) → (test low ≡ true → low ∷ filter test rest ≡ d) → (test low ≡ false → filter test rest ≡ d) → filter test (low ∷ rest) ≡ d
+  keep_or_skip : (low : ℤ) (rest d : List ℤ) → (test low ≡ true → low ∷ filter test rest ≡ d) → (test low ≡ false → filter test rest ≡ d) →
+      filter test (low ∷ rest) ≡ d
   keep_or_skip low rest d pass fail = go (test low) refl
     where
       go : (b : Bool) → test low ≡ b → cond b (low ∷ filter test rest) (filter test rest) ≡ d
@@ -56,15 +57,19 @@ module _ (test : ℤ → Bool) where
 
   -- the head is beyond a number that isn't in the list
   head_beyond : (low x : ℤ) → low ≤ℤ x → test low ≡ false → test x ≡ true → (low +ℤ pos 1) ≤ℤ x
-  head_beyond low x from fail pass = by_lt_z low x (λ lt. omega (arith, ints, lt)) (λ le. let same : x ≡ low = omega (arith, ints, le, from) in let e : test x ≡ test low = ap test same in absurd (cc))
+  head_beyond low x from fail pass =
+      by_lt_z low x (λ lt. omega (arith, ints, lt))
+      (λ le. let same : x ≡ low = omega (arith, ints, le, from) in let e : test x ≡ test low = ap test same in absurd (cc))
 
   -- what a test leaves of the numbers of a range is the rising list of those that pass it
-  pub all_left : (low : ℤ) (n : ℕ) (d : List ℤ) → Rising d → AllByRecursion (IsIn low n) d → AllByRecursion (λ v. test v ≡ true) d → ((v : ℤ) → low ≤ℤ v → v <ℤ (low +ℤ pos n) → test v ≡ true → Among v d) → filter test (run low n) ≡ d
+  pub all_left : (low : ℤ) (n : ℕ) (d : List ℤ) → Rising d → AllByRecursion (IsIn low n) d → AllByRecursion (λ v. test v ≡ true) d →
+      ((v : ℤ) → low ≤ℤ v → v <ℤ (low +ℤ pos n) → test v ≡ true → Among v d) → filter test (run low n) ≡ d
   unfolding run Rising
   all_left low zero [] rising within each only = refl
   all_left low zero (x ∷ xs) rising within each only = let a = within.0.0 in let b = within.0.1 in absurd (omega (arith, ints, a, b))
   all_left low (suc n) [] rising within each only =
-      keep_or_skip low (run (low +ℤ pos 1) n) [] (λ pass. absurd (only low (omega (arith, ints)) (omega (arith, ints)) pass)) (λ fail. all_left (low +ℤ pos 1) n [] tt tt tt (λ v from to pass. only v (omega (arith, ints, from)) (omega (arith, ints, to)) pass))
+      keep_or_skip low (run (low +ℤ pos 1) n) [] (λ pass. absurd (only low (omega (arith, ints)) (omega (arith, ints)) pass))
+      (λ fail. all_left (low +ℤ pos 1) n [] tt tt tt (λ v from to pass. only v (omega (arith, ints, from)) (omega (arith, ints, to)) pass))
   all_left low (suc n) (x ∷ xs) rising within each only =
       keep_or_skip low (run (low +ℤ pos 1) n) (x ∷ xs)
       (λ pass. let same : x ≡ low = head_is low x xs within.0.0 rising.0 (only low (omega (arith, ints)) (omega (arith, ints)) pass) in
@@ -88,10 +93,14 @@ same_length : (rs : List Interval) → length (map low_of rs) ≡ length (map hi
 same_length rs = simp length-map
 
 passes : (rs : List Interval) (v : ℤ) → InSomeRange (map low_of rs) (map high_of rs) v → list_any (has_number v) rs ≡ true
-passes rs v h = subst (λ (xs : List Interval). list_any (has_number v) xs ≡ true) (paired_parts rs) (in_some_any (paired (map low_of rs) (map high_of rs)) v (paired_has (map low_of rs) (map high_of rs) v (same_length rs) h))
+passes rs v h =
+    subst (λ (xs : List Interval). list_any (has_number v) xs ≡ true) (paired_parts rs)
+    (in_some_any (paired (map low_of rs) (map high_of rs)) v (paired_has (map low_of rs) (map high_of rs) v (same_length rs) h))
 
 passed : (rs : List Interval) (v : ℤ) → list_any (has_number v) rs ≡ true → InSomeRange (map low_of rs) (map high_of rs) v
-passed rs v h = in_paired (map low_of rs) (map high_of rs) v (same_length rs) (any_in_some (paired (map low_of rs) (map high_of rs)) v (subst (λ (xs : List Interval). list_any (has_number v) xs ≡ true) (sym (paired_parts rs)) h))
+passed rs v h =
+    in_paired (map low_of rs) (map high_of rs) v (same_length rs)
+    (any_in_some (paired (map low_of rs) (map high_of rs)) v (subst (λ (xs : List Interval). list_any (has_number v) xs ≡ true) (sym (paired_parts rs)) h))
 
 within_limits : (v : ℤ) → WithinLimits v → WithinLimits v → IsIn (neg_ℤ (pos 1000000)) 2000001 v
 within_limits v h h' = (h.0, omega (arith, ints, h.1))
@@ -104,7 +113,8 @@ union_is rs d dom has =
     (recursion_from_All (λ v. list_any (has_number v) rs ≡ true) d (λ k e below. passes rs (get_or d k e) ((has (get_or d k e)).0 (Contains-get_or d k e below))))
     (λ v from to t. let c = (has v).1 (passed rs v t) in among_at d v c.0 c.1 c.2))
 
-pub union_made : (rs : List Interval) (d lows highs : List ℤ) → lows ≡ map (λ r. r.low) rs → highs ≡ map (λ r. r.high) rs → IsDomain d → ((v : ℤ) → Contains d v ↔ InSomeRange lows highs v) → d ≡ union_of rs
+pub union_made : (rs : List Interval) (d lows highs : List ℤ) → lows ≡ map (λ r. r.low) rs → highs ≡ map (λ r. r.high) rs → IsDomain d →
+    ((v : ℤ) → Contains d v ↔ InSomeRange lows highs v) → d ≡ union_of rs
 union_made rs d lows highs lows_are highs_are dom has =
     union_is rs d dom (subst (λ (ls : List ℤ). (v : ℤ) → Contains d v ↔ InSomeRange ls (map high_of rs) v) lows_are (subst (λ (hs : List ℤ). (v : ℤ) → Contains d v ↔ InSomeRange lows hs v) highs_are has))
 
@@ -121,9 +131,11 @@ none_empty (r ∷ rs) some forward (inr e) =
     let same = backward_parts (r ∷ rs) in
     let both : ◌≡◌ {A = Bool} true false = sym back ∙ same ∙ forward in cc
 
-pub never_empty : (rs : List Interval) (lows highs : List ℤ) → lows ≡ map (λ r. r.low) rs → highs ≡ map (λ r. r.high) rs → 0 < length rs → list_any is_backward rs ≡ false → ((lows ≡ []) ⊎ SomeEmpty lows highs) → ⊥
+pub never_empty : (rs : List Interval) (lows highs : List ℤ) → lows ≡ map (λ r. r.low) rs → highs ≡ map (λ r. r.high) rs → 0 < length rs →
+    list_any is_backward rs ≡ false → ((lows ≡ []) ⊎ SomeEmpty lows highs) → ⊥
 never_empty rs lows highs lows_are highs_are some forward h =
-    none_empty rs some forward (subst (λ (ls : List ℤ). (ls ≡ []) ⊎ SomeEmpty ls (map high_of rs)) lows_are (subst (λ (hs : List ℤ). (lows ≡ []) ⊎ SomeEmpty lows hs) highs_are h))
+    none_empty rs some forward
+    (subst (λ (ls : List ℤ). (ls ≡ []) ⊎ SomeEmpty ls (map high_of rs)) lows_are (subst (λ (hs : List ℤ). (lows ≡ []) ⊎ SomeEmpty lows hs) highs_are h))
 
 -- the ends of ranges of which none passes the limits
 is_within : (v : ℤ) → is_value v ≡ true → WithinLimits v
@@ -166,9 +178,12 @@ ten_digits =
     let below = none_between test low (neg_ℤ (pos 1)) (omega (arith, ints)) (λ v from to. digit_test v ∙ outside v (inl (omega (arith, ints, to)))) in
     let here = all_between test (pos 0) (pos 9) (omega (arith, ints)) (λ v from to. digit_test v ∙ inside v from to) in
     let above = none_between test (pos 10) high (omega (arith, ints)) (λ v from to. digit_test v ∙ outside v (inr (omega (arith, ints, from)))) in
-    let a = values_between low (neg_ℤ (pos 1)) in let b = values_between (pos 0) (pos 9) in let c = values_between (pos 10) high in let rest = values_between (pos 0) high in
+    let a =
+    values_between low (neg_ℤ (pos 1)) in let b =
+    values_between (pos 0) (pos 9) in let c = values_between (pos 10) high in let rest = values_between (pos 0) high in
     let whole : filter test (values_between low high) ≡ b =
-    ap (filter test) first ∙ filter-append test a rest ∙ ap (λ (l : List ℤ). l ++ filter test rest) below ∙ ap (filter test) second ∙ filter-append test b c ∙ ap (λ (l : List ℤ). l ++ filter test c) here ∙ ap (λ (l : List ℤ). b ++ l) above ∙ append-nil b in
+    ap (filter test) first ∙ filter-append test a rest ∙ ap (λ (l : List ℤ). l ++ filter test rest) below ∙ ap (filter test) second ∙ filter-append test b c
+    ∙ ap (λ (l : List ℤ). l ++ filter test c) here ∙ ap (λ (l : List ℤ). b ++ l) above ∙ append-nil b in
     let ten = length-between (pos 0) (pos 9) (omega (arith, ints)) in
     ap length whole ∙ omega (arith, ints, ten)
   where

@@ -15,7 +15,8 @@ values_ahead vs None = None
 values_ahead vs (Some more) = Some (vs ++ more)
 
 -- a text of one line
-pub one_row : (not_text : Option ℕ) (lines : List Line) (line : Line) (words : List Word) (c : Cut) → is_some not_text ≡ false → 1 ≤ length lines → length lines < 2 → line ≡ get_or lines 0 line → words ≡ line.words.items → c.rows ≡ rows lines →
+pub one_row : (not_text : Option ℕ) (lines : List Line) (line : Line) (words : List Word) (c : Cut) → is_some not_text ≡ false → 1 ≤ length lines →
+    length lines < 2 → line ≡ get_or lines 0 line → words ≡ line.words.items → c.rows ≡ rows lines →
     after_series (texts words) ≡ series_words c not_text
 one_row (Some bad) lines line words c text some few line_is words_is rows_are = cc
 one_row None [] line words c text some few line_is words_is rows_are = absurd (omega (arith, some))

@@ -87,7 +87,8 @@ pub record FirstBad (lists : Bool) (rows : List Row) (line : ℕ) (kind : ModelK
   pub is_there : slice_get rows place ≡ Some row
   pub number : row.number ≡ line
   pub kind_is : kind_at lists (take place rows) row ≡ Some kind
-  pub first : (i : ℕ) (earlier : Row) → i < place → slice_get rows i ≡ Some earlier → kind_at lists (take i rows) earlier ≡ None
+  pub first : (i : ℕ) (earlier : Row) → i < place → slice_get rows i ≡ Some earlier →
+      kind_at lists (take i rows) earlier ≡ None
 
 -- how a text is refused of which every line of words is good: by its first line that isn't text, if there is one,
 -- else for want of cells, else for want of an objective that is needed
@@ -99,11 +100,15 @@ IsEnd need c None line kind =
 
 -- a text is refused so
 abbrev pub IsRefused : Need → Cut → ℕ → ModelKind → Type 0
-IsRefused need c line kind = FirstBad (needs_lists need) c.rows line kind ⊎ (AreGood (needs_lists need) c.rows × IsEnd need c c.not_text line kind)
+IsRefused need c line kind =
+    FirstBad (needs_lists need) c.rows line kind ⊎
+    (AreGood (needs_lists need) c.rows × IsEnd need c c.not_text line kind)
 
 -- a text states this model
 abbrev pub IsModel : Need → Cut → Stated → Type 0
-IsModel need c m = AreGood (needs_lists need) c.rows × (c.not_text ≡ None) × (has_cells m ≡ true) × ((needs_objective need && is_none m.objective) ≡ false) × (m ≡ so_far c.rows)
+IsModel need c m =
+    AreGood (needs_lists need) c.rows × (c.not_text ≡ None) × (has_cells m ≡ true) ×
+    ((needs_objective need && is_none m.objective) ≡ false) × (m ≡ so_far c.rows)
 
 -- what a text reads as
 abbrev pub IsReading : Need → Cut → Result Stated (ℕ × ModelKind) → Type 0
@@ -120,14 +125,16 @@ abbrev pub line_gives : Bool → Stated → List (List ℕ) → Result Stated Mo
 line_gives lists m words = taken_as lists m (parsed words)
 
 -- the line's number beside its kind, or on with what is stated after it
-abbrev pub onward : ℕ → Result Stated ModelKind → (Stated → Result Stated (ℕ × ModelKind)) → Result Stated (ℕ × ModelKind)
+abbrev pub onward : ℕ → Result Stated ModelKind → (Stated → Result Stated (ℕ × ModelKind)) →
+    Result Stated (ℕ × ModelKind)
 onward number (Err k) next = Err (number, k)
 onward number (Ok m) next = next m
 
 -- what rows state after m, or the number of the first bad one with its first kind
 abbrev pub read_rows : Bool → Stated → List Row → Result Stated (ℕ × ModelKind)
 read_rows lists m [] = Ok m
-read_rows lists m (row ∷ rows) = onward row.number (line_gives lists m (texts_of row.words)) (λ after. read_rows lists after rows)
+read_rows lists m (row ∷ rows) =
+    onward row.number (line_gives lists m (texts_of row.words)) (λ after. read_rows lists after rows)
 
 abbrev pub ended_model : Need → Cut → Stated → Result Stated (ℕ × ModelKind)
 ended_model need c m =

@@ -11,6 +11,7 @@ use Rattle.ts_pattern.specs.declared.name.Aggregator.TheVariants.{Sum}
 use Rattle.ts_pattern.specs.declared.name.Feature.TheVariants.{One}
 use Rattle.ts_pattern.specs.declared.name.PatternId.TheVariants.{Increasing}
 use Rattle.ts_pattern.specs.Names.{is_pair}
+use Rattle.ts_model.specs.declared.model.Op.{Op}
 use Rattle.ts_model.specs.declared.model.Require.{Require}
 use Rattle.ts_model.specs.declared.statement.TermParts.{TermParts}
 use Rattle.ts_model.specs.declared.error.ModelKind.{ModelKind}
@@ -22,7 +23,8 @@ is_between low x high = int_le low x && int_le x high
 
 -- the numbers from -1,000,000 to 1,000,000 that some range has, in rising order
 unfoldable pub union_of : List Interval → List ℤ
-union_of ranges = filter (λ v. list_any (λ r. is_between r.low v r.high) ranges) (values_between (neg_ℤ (pos 1000000)) (pos 1000000))
+union_of ranges =
+    filter (λ v. list_any (λ r. is_between r.low v r.high) ranges) (values_between (neg_ℤ (pos 1000000)) (pos 1000000))
 
 -- what stands in a model: the numbers of each cell in rising order (no cells before the `cells` line), the terms by
 -- name, and the number of the objective's term
@@ -58,13 +60,18 @@ digits = record { low = pos 0; high = pos 9 } ∷ []
 abbrev pub unused_parts : TermParts
 unused_parts = record { aggregator = Sum; feature = One; pattern = Increasing }
 
+-- a requirement of the term at this place, which a line of which no kind holds has
+abbrev pub requirement : Option ℕ → Op → Ext → Require
+requirement place op bound = record { term = unwrap_or place 0; op = op; bound = bound }
+
 -- what is stated with one more line, of which no kind holds
 abbrev pub with_said : Stated → Said → Stated
 with_said m (SaysCells n) = record m { cells = replicate (count_of n) (union_of digits) }
 with_said m (SaysDomain rs) = record m { cells = map (λ _. union_of rs) m.cells }
 with_said m (SaysCell k rs) = record m { cells = set m.cells (count_of k - 1) (union_of rs) }
 with_said m (SaysTerm name parts) = record m { terms = m.terms ++ (name, unwrap_or parts unused_parts) ∷ [] }
-with_said m (SaysRequire name op bound) = record m { requirements = m.requirements ++ record { term = unwrap_or (term_at name m.terms) 0; op = op; bound = bound } ∷ [] }
+with_said m (SaysRequire name op bound) =
+    record m { requirements = m.requirements ++ requirement (term_at name m.terms) op bound ∷ [] }
 with_said m (SaysObjective name) = record m { objective = term_at name m.terms }
 
 abbrev pub is_cells : Said → Bool
@@ -142,8 +149,10 @@ over_total lists m = lists && nat_lt 65536 (total_of m.cells)
 -- a limit is passed by the line; lists says whether all domains together have one
 abbrev pub passes_limit : Bool → Stated → Said → Bool
 passes_limit lists m (SaysCells n) = over_total lists (with_said m (SaysCells n))
-passes_limit lists m (SaysDomain rs) = if list_any is_outside rs then true else over_total lists (with_said m (SaysDomain rs))
-passes_limit lists m (SaysCell k rs) = if list_any is_outside rs then true else over_total lists (with_said m (SaysCell k rs))
+passes_limit lists m (SaysDomain rs) =
+    if list_any is_outside rs then true else over_total lists (with_said m (SaysDomain rs))
+passes_limit lists m (SaysCell k rs) =
+    if list_any is_outside rs then true else over_total lists (with_said m (SaysCell k rs))
 passes_limit lists m (SaysTerm name parts) = nat_lt 31 (length m.terms)
 passes_limit lists m (SaysRequire name op bound) = if is_bound bound then nat_lt 63 (length m.requirements) else true
 passes_limit lists m (SaysObjective name) = false
@@ -155,7 +164,8 @@ term_made (Some parts) = if is_pair parts.aggregator parts.feature then Ok parts
 
 -- the union of ranges, or the kind of bad ones
 abbrev pub union_given : List Interval → Result (List ℤ) ModelKind
-union_given rs = if list_any is_backward rs then Err Empty else (if list_any is_outside rs then Err Limit else Ok (union_of rs))
+union_given rs =
+    if list_any is_backward rs then Err Empty else (if list_any is_outside rs then Err Limit else Ok (union_of rs))
 
 -- the kinds in their order, each with its test
 abbrev pub kinds : Bool → Stated → Said → List (Bool × ModelKind)

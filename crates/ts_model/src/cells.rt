@@ -146,9 +146,12 @@ impl Cells {
     fn total_with(&self, place: usize, size: u64) -> Option<u64>
         requires kept { IsKept self.now }
         requires there { place < length (domains self.now) }
-        ensures none { IfNone result ((self.now.limited && nat_lt 65536 (total_set (domains self.now) place size)) ≡ true) }
-        ensures room { OnSome result ((self.now.limited && nat_lt 65536 (total_set (domains self.now) place size)) ≡ false) }
-        ensures total { IfSome result (λ total. IsTotal self.now.limited total (total_set (domains self.now) place size)) }
+        ensures none { IfNone result
+            ((self.now.limited && nat_lt 65536 (total_set (domains self.now) place size)) ≡ true) }
+        ensures room { OnSome result
+            ((self.now.limited && nat_lt 65536 (total_set (domains self.now) place size)) ≡ false) }
+        ensures total { IfSome result (λ total.
+            IsTotal self.now.limited total (total_set (domains self.now) place size)) }
     {
         if !self.limited {
             return Some(0);

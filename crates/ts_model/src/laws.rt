@@ -16,7 +16,8 @@ pub fn reading_is_first()
 
 /// A text has one reading.
 pub fn one_reading()
-    ensures { (need : Need) (c : Cut) (r s : Result Stated (ℕ × ModelKind)) → IsReading need c r → IsReading need c s → r ≡ s }
+    ensures { (need : Need) (c : Cut) (r s : Result Stated (ℕ × ModelKind)) →
+        IsReading need c r → IsReading need c s → r ≡ s }
 {}
 
 /// A model that is read has cells, and each term that it names by a number stands.

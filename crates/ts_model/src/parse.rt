@@ -4,7 +4,7 @@ ghost use Rattle.std.specs.Prelude.{◌≡◌, ◌==◌, ◌<◌, length, ok_or}
 ghost use Rattle.ts_model.specs.declared.error.ModelKind.{ModelKind};
 ghost use Rattle.ts_model.specs.declared.words.Form.{Form};
 ghost use Rattle.ts_model.specs.Words.{ranges_of};
-ghost use Rattle.ts_model.specs.Statement.{term_length, made_parts, parts_said, parsed_by, parsed};
+ghost use Rattle.ts_model.specs.Statement.{term_length, parts_said, parsed_by, parsed};
 ghost use Rattle.ts_model.specs.Views.{texts, said, Gives};
 
 use crate::error::{LineStop, ModelKind};
@@ -15,9 +15,10 @@ use crate::words::{
     word_count,
 };
 use std::alloc::Global;
-use ts_pattern::{Aggregator, Feature, PatternId};
+use ts_pattern::{Aggregator, Feature};
 use ts_token::Word;
 
+/// The ranges that the words are.
 fn ranges_of(alloc: Global, words: &[Word]) -> Result<Ranges, LineStop>
     requires { 0 < length words.now }
     ensures { Gives (λ rs. rs.items.items) result (ok_or (ranges_of (texts words.now)) ModelKind.Number) }
@@ -32,6 +33,7 @@ fn ranges_of(alloc: Global, words: &[Word]) -> Result<Ranges, LineStop>
     Ok(Ranges { items })
 }
 
+/// What a `cells` line says.
 fn parse_cells<'a>(words: &[Word<'a>]) -> Result<Statement<'a>, LineStop>
     ensures { Gives said result (parsed_by Form.Cells (texts words.now)) }
 {
@@ -44,6 +46,7 @@ fn parse_cells<'a>(words: &[Word<'a>]) -> Result<Statement<'a>, LineStop>
     }
 }
 
+/// What a `domain` line says.
 fn parse_domain<'a>(alloc: Global, words: &[Word<'a>]) -> Result<Statement<'a>, LineStop>
     ensures { Gives said result (parsed_by Form.Domain (texts words.now)) }
 {
@@ -54,6 +57,7 @@ fn parse_domain<'a>(alloc: Global, words: &[Word<'a>]) -> Result<Statement<'a>, 
     Ok(Statement::Domain(ranges))
 }
 
+/// What a `cell` line says.
 fn parse_cell<'a>(alloc: Global, words: &[Word<'a>]) -> Result<Statement<'a>, LineStop>
     ensures { Gives said result (parsed_by Form.Cell (texts words.now)) }
 {
@@ -69,37 +73,23 @@ fn parse_cell<'a>(alloc: Global, words: &[Word<'a>]) -> Result<Statement<'a>, Li
     }
 }
 
-fn made_parts(
-    aggregator: Option<Aggregator>,
-    feature: Option<Feature>,
-    pattern: Option<PatternId>,
-) -> Option<TermParts>
-    ensures { result ≡ made_parts aggregator feature pattern }
-{
-    match (aggregator, feature, pattern) {
-        (Some(aggregator), Some(feature), Some(pattern)) => Some(TermParts {
-            aggregator,
-            feature,
-            pattern,
-        }),
-        _ => None,
-    }
-}
-
-/// The parts of a term, whose words have its shape; `count` stands for `sum one`.
+/// The parts of a term, whose words have its shape; `count` stands for `sum one`. None where a name is unknown.
 fn parts_said(words: &[Word]) -> Option<TermParts>
     requires { length (texts words.now) ≡ term_length (texts words.now) }
     ensures { result ≡ parts_said (texts words.now) }
 {
     if is_count(text_at(words, 2)) {
-        let pattern = pattern_named(text_at(words, 3));
-        return made_parts(Some(Aggregator::Sum), Some(Feature::One), pattern);
+        return Some(TermParts {
+            aggregator: Aggregator::Sum,
+            feature: Feature::One,
+            pattern: pattern_named(text_at(words, 3))?,
+        });
     }
-    made_parts(
-        aggregator_named(text_at(words, 2)),
-        feature_named(text_at(words, 3)),
-        pattern_named(text_at(words, 4)),
-    )
+    Some(TermParts {
+        aggregator: aggregator_named(text_at(words, 2))?,
+        feature: feature_named(text_at(words, 3))?,
+        pattern: pattern_named(text_at(words, 4))?,
+    })
 }
 
 /// The words after `term` are as many as its form has.
@@ -114,6 +104,7 @@ fn has_term_length(words: &[Word]) -> bool
     }
 }
 
+/// What a `term` line says.
 fn parse_term<'a>(words: &[Word<'a>]) -> Result<Statement<'a>, LineStop>
     ensures { Gives said result (parsed_by Form.Term (texts words.now)) }
 {
@@ -128,6 +119,7 @@ fn parse_term<'a>(words: &[Word<'a>]) -> Result<Statement<'a>, LineStop>
     }
 }
 
+/// What a `require` line says.
 fn parse_require<'a>(words: &[Word<'a>]) -> Result<Statement<'a>, LineStop>
     ensures { Gives said result (parsed_by Form.Require (texts words.now)) }
 {
@@ -143,6 +135,7 @@ fn parse_require<'a>(words: &[Word<'a>]) -> Result<Statement<'a>, LineStop>
     }
 }
 
+/// What an `objective` line says.
 fn parse_objective<'a>(words: &[Word<'a>]) -> Result<Statement<'a>, LineStop>
     ensures { Gives said result (parsed_by Form.Objective (texts words.now)) }
 {

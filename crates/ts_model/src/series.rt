@@ -11,6 +11,7 @@ use crate::error::SeriesStop;
 use std::alloc::Global;
 use ts_token::{Tokens, Word, number};
 
+/// Whether the word is `series`.
 #[tactic(auto, unfolding(crate::specs::Series::is_series))]
 fn is_series(word: &[u8]) -> bool
     ensures { result ≡ is_series word.now }
@@ -52,6 +53,7 @@ fn series_words<'t, 'a>(tokens: &'t Tokens<'a>) -> Option<&'t [Word<'a>]>
     }
 }
 
+/// The numbers that the words are.
 fn values_of(alloc: Global, words: &[Word]) -> Result<Vec<i64>, SeriesStop>
     ensures { ReadsSeries (λ v. v.items) result (ok_or (values_of (texts words.now)) SeriesStop.Number) }
 {

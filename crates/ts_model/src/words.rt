@@ -24,6 +24,7 @@ pub(crate) enum Form {
     Objective,
 }
 
+/// The form of a line that begins with this word.
 #[tactic(auto, unfolding(crate::specs::Words::form_of))]
 pub(crate) fn form_of(word: &[u8]) -> Option<Form>
     ensures { result ≡ form_of word.now }
@@ -45,6 +46,7 @@ pub(crate) fn form_of(word: &[u8]) -> Option<Form>
     }
 }
 
+/// The comparison that the word is.
 #[tactic(auto, unfolding(crate::specs::Words::op_of))]
 pub(crate) fn op_of(word: &[u8]) -> Option<Op>
     ensures { result ≡ op_of word.now }
@@ -66,6 +68,7 @@ pub(crate) fn op_of(word: &[u8]) -> Option<Op>
     }
 }
 
+/// Whether the word is `=`.
 #[tactic(auto, unfolding(crate::specs::Words::is_equals))]
 pub(crate) fn is_equals(word: &[u8]) -> bool
     ensures { result ≡ is_equals word.now }
@@ -73,6 +76,7 @@ pub(crate) fn is_equals(word: &[u8]) -> bool
     word == b"=".as_slice()
 }
 
+/// Whether the word is `count`.
 #[tactic(auto, unfolding(crate::specs::Words::is_count))]
 pub(crate) fn is_count(word: &[u8]) -> bool
     ensures { result ≡ is_count word.now }
@@ -80,6 +84,7 @@ pub(crate) fn is_count(word: &[u8]) -> bool
     word == b"count".as_slice()
 }
 
+/// Whether the byte is one of a to z.
 #[tactic(auto, unfolding(crate::specs::Words::is_letter))]
 fn is_letter(b: u8) -> bool
     ensures { result ≡ is_letter b }
@@ -87,6 +92,7 @@ fn is_letter(b: u8) -> bool
     b >= b'a' && b <= b'z'
 }
 
+/// Whether the byte may stand in a name.
 #[tactic(auto, unfolding(crate::specs::Words::is_name_byte))]
 fn is_name_byte(b: u8) -> bool
     ensures { result ≡ is_name_byte b }
@@ -94,12 +100,14 @@ fn is_name_byte(b: u8) -> bool
     is_letter(b) || b >= b'0' && b <= b'9' || b == b'_'
 }
 
+/// Whether all bytes may stand in a name.
 fn are_name_bytes(bytes: &[u8]) -> bool
     ensures { result ≡ list_all is_name_byte bytes.now }
 {
     bytes.iter().all(|b| is_name_byte(*b))
 }
 
+/// Whether the word is 1 to 32 of a to z, 0 to 9 and `_`, a letter first.
 #[tactic(auto, unfolding(crate::specs::Words::is_name))]
 fn is_name(word: &[u8]) -> bool
     ensures { result ≡ is_name word.now }
@@ -113,7 +121,8 @@ fn is_name(word: &[u8]) -> bool
 /// The word as a name, if it is one.
 #[tactic(auto, using(crate::proofs::AsciiNames::name_is_text))]
 pub(crate) fn name_of<'a>(word: &'a [u8]) -> Option<&'a str>
-    ensures { MatchOption result (is_name word.now ≡ false) (λ name. (is_name word.now ≡ true) × (name.now ≡ word.now)) }
+    ensures { MatchOption result (is_name word.now ≡ false)
+        (λ name. (is_name word.now ≡ true) × (name.now ≡ word.now)) }
 {
     if !is_name(word) {
         return None;
@@ -124,6 +133,7 @@ pub(crate) fn name_of<'a>(word: &'a [u8]) -> Option<&'a str>
     }
 }
 
+/// The bound that the word is: `-inf`, `+inf` or a number.
 #[tactic(auto, unfolding(crate::specs::Words::bound_of))]
 pub(crate) fn bound_of(word: &[u8]) -> Option<Ext>
     ensures { result ≡ bound_of word.now }
@@ -137,12 +147,14 @@ pub(crate) fn bound_of(word: &[u8]) -> Option<Ext>
     }
 }
 
+/// The place of the first dot.
 fn dot_at(word: &[u8]) -> Option<usize>
     ensures { result ≡ position is_dot word.now }
 {
     word.iter().position(|b| *b == b'.')
 }
 
+/// The range of two ends, if both are numbers.
 fn made_range(low: Option<i64>, high: Option<i64>) -> Option<Interval>
     ensures { result ≡ made_range low high }
 {
@@ -169,12 +181,14 @@ pub(crate) fn range_of(word: &[u8]) -> Option<Interval>
     }
 }
 
+/// How many words there are.
 pub(crate) fn word_count(words: &[Word]) -> usize
     ensures { result ≡ length (texts words.now) }
 {
     words.len()
 }
 
+/// The bytes of the word at a place.
 pub(crate) fn text_at<'a>(words: &[Word<'a>], k: usize) -> &'a [u8]
     requires { k < length (texts words.now) }
     ensures { result.now ≡ word_at (texts words.now) k }

@@ -12,7 +12,8 @@ loop-line-preserved c =
     let follows = c.in-Ok.ensures.follows in
     record {
       read =
-          line_taken c.args.limited before after c.args.lines.now c.loop-line.line-index c.line-item.result c.deref.result.now _ (omega arith) c.line-item.is c.deref.ensures.value
+          line_taken c.args.limited before after c.args.lines.now c.loop-line.line-index c.line-item.result c.deref.result.now _
+          (omega arith) c.line-item.is c.deref.ensures.value
           (subst (λ (b : Bool). line_gives b before (texts c.deref.result.now) ≡ Ok after) kept.limited c.in-Ok.ensures.taken) kept.read;
       sound = follows.sound;
       limited = follows.limited ∙ kept.limited;
@@ -23,7 +24,8 @@ pub returns-in-Err-clause-rows : goal.returns-in-Err-clause-rows
 returns-in-Err-clause-rows c =
     let before = drafted c.loop-line.draft in
     let after = drafted c.read_line.new.self in
-    line_stopped c.args.limited before after c.args.lines.now c.loop-line.line-index c.line-item.result c.deref.result.now c.in-Err.stop c.at_line.result _ c.at_line.ensures (omega arith)
+    line_stopped c.args.limited before after c.args.lines.now c.loop-line.line-index c.line-item.result c.deref.result.now c.in-Err.stop c.at_line.result _
+    c.at_line.ensures (omega arith)
     c.line-item.is c.deref.ensures.value
     (subst (λ (b : Bool). Gives {X = Unit {0}} (λ _. after) (Err c.in-Err.stop) (line_gives b before (texts c.deref.result.now))) c.loop-line.invariant.limited c.in-Err.ensures.taken)
     c.loop-line.invariant.read

@@ -10,4 +10,5 @@ returns-clause-domains c =
     ∙ ap (replicate c.args.count) c.in_ok-digits.ensures
 
 pub returns-clause-kept : goal.returns-clause-kept
-returns-clause-kept c = new_kept c.args.count c.in_ok-no_own.field-0.items c.in_ok-digits.field-0 _ c.requires c.in_ok-no_own.ensures c.in_ok-digits.ensures refl refl refl refl
+returns-clause-kept c =
+    new_kept c.args.count c.in_ok-no_own.field-0.items c.in_ok-digits.field-0 _ c.requires c.in_ok-no_own.ensures c.in_ok-digits.ensures refl refl refl refl

@@ -10,4 +10,5 @@ returns-clause-taken c =
     (few_terms c.args.self.now.terms.entries c.len.result (omega arith) c.len.ensures.len) c.in_ok-name.ensures.ok c.in_ok-insert.ensures.entries
 
 pub returns-clause-follows : goal.returns-clause-follows
-returns-clause-follows c = follows_term c.args.self.now _ c.in_ok-insert.field-0 c.len.result c.requires.sound (omega arith) c.len.ensures.len c.in_ok-insert.ensures.len refl
+returns-clause-follows c =
+    follows_term c.args.self.now _ c.in_ok-insert.field-0 c.len.result c.requires.sound (omega arith) c.len.ensures.len c.in_ok-insert.ensures.len refl
