@@ -1,44 +1,117 @@
--- How a call ends that was given a command: the answer to the bytes told, or to too many of them.
-use Rattle.std.proofs.Common.{◌≡◌, ℕ, ◌≤◌, ◌⊎◌, inl, Bool, true, false, cond, Option, Some, None, List, length, sym, ◌∙◌, ap, subst, arith, nat_le}
+-- How a call ends that takes its whole input, by what came of reading it.
+use Rattle.std.proofs.Common.{◌≡◌, ℕ, ◌+◌, ◌<◌, ◌≤◌, ◌⊎◌, inl, inr, Option, Some, None, List, ◌++◌, length, drop, refl, sym, ◌∙◌, ap, subst}
 use Rattle.std.specs.Prelude.{IfSome}
-use Rattle.std.proofs.lemmas.Bool.Decides.{nat_tests}
-use Rattle.ts_base.specs.Outside.{HasMoreThan}
-use Rattle.ts_run.specs.AnswerTexts.{answer, refused_length, reply_to}
-use Rattle.ts_run.specs.Commands.{byte_limit}
-use Rattle.ts_run.specs.Reply.{Ends, Reply}
+use Rattle.std.proofs.Math.Seq.{drop-append_seam}
+use Rattle.ts_base.specs.Outside.{AtEnd, GaveAtMost, HasMoreThan, Rose, left_after, put_back}
+use Rattle.ts_run.specs.AnswerTexts.{IsReply, fault_read, refused_length}
+use Rattle.ts_run.specs.Endings.{IsRead, RepliesWithin, Responds, WholeEnds, WholeTakes}
+use Rattle.ts_run.specs.Reply.{ComesOfInput, Ends, EndsWritten, Reply, TellsNoFault}
 use Rattle.ts_run.specs.declared.command.Command.{Command}
 use Rattle.ts_run.specs.declared.status.Status.{Status}
+use Rattle.ts_run.specs.declared.status.Status.TheVariants.{Done, No, Refused, Budget, ReadFault, WriteFault, Memory}
 
-module _ (Fault : Type 0) (before after : Option (List ℕ)) (status : Status) where
-  abbrev Replied : Option (List ℕ) → Command → Type 0
-  Replied left command = IfSome left (λ bytes. Ends (reply_to command bytes) before after status ⊎ Fault)
+-- a reply that was written, whose status is given, or a write that failed
 
-  for_command : (given : Option Command) (command : Command) (left : Option (List ℕ)) → given ≡ Some command → Replied left command → IfSome given (Replied left)
-  for_command None command left e p = cc
-  for_command (Some c) command left e p = let same : command ≡ c = cc in subst (λ (x : Command). Replied left x) same p
+pub no_input : (status : Status) → (EndsWritten status → status ≡ ReadFault) → ComesOfInput status → ⊥
+no_input Done written h = let same = written tt in cc
+no_input No written h = let same = written tt in cc
+no_input Refused written h = let same = written tt in cc
+no_input Budget written h = let same = written tt in cc
+no_input ReadFault written h = h
+no_input WriteFault written h = h
+no_input Memory written h = h
 
-  over : (t : Bool) (fits : Reply) → t ≡ false → Ends refused_length before after status → Ends (cond t fits refused_length) before after status
-  over true fits e p = cc
-  over false fits e p = p
+pub no_fault : (status given : Status) → (EndsWritten status → status ≡ given) → ComesOfInput given → status ≡ ReadFault → ⊥
+no_fault status given written input e =
+    let same : given ≡ ReadFault = sym (written (subst EndsWritten (sym e) tt)) ∙ e in
+    subst ComesOfInput same input
 
-  within : (t : Bool) (fits given : Reply) → t ≡ true → given ≡ fits → Ends given before after status → Ends (cond t fits refused_length) before after status
-  within true fits given e same p = subst (λ (x : Reply). Ends x before after status) same p
-  within false fits given e same p = cc
+-- what is left is what a piece was put back before
+given_after : (bytes : List ℕ) (before after : Option (List ℕ)) → before ≡ put_back bytes after → after ≡ left_after (length bytes) before
+given_after bytes before None e = sym (ap (left_after (length bytes)) e)
+given_after bytes before (Some left) e =
+    ap (λ (rest : List ℕ). Some rest) (sym (drop-append_seam bytes left)) ∙ sym (ap (left_after (length bytes)) e)
 
-  too_many : (command : Command) (left : Option (List ℕ)) → HasMoreThan (byte_limit command) left → Ends refused_length before after status → Replied left command
-  too_many command None h p = tt
-  too_many command (Some bytes) h p = inl (over (nat_le (length bytes) (byte_limit command)) (answer command bytes) (grind (arith, nat_tests)) p)
+pub gave_bytes : (limit : ℕ) (bytes : List ℕ) (before after : Option (List ℕ)) → length bytes ≤ limit → before ≡ put_back bytes after →
+    GaveAtMost limit before after
+gave_bytes limit bytes before after few e = (length bytes, few, given_after bytes before after e)
+
+-- what was read
+
+module _ (limit : ℕ) (left left_now : Option (List ℕ)) (status : Status) where
+  pub takes_fault : GaveAtMost (limit + 1) left left_now → (EndsWritten status → status ≡ ReadFault) → (status ≡ Memory → ⊥) →
+      WholeTakes limit left left_now status
+  takes_fault most written some = record {
+    most = most;
+    whole = λ h. absurd (no_input status written h);
+    memory = λ e. absurd (some e);
+  }
+
+  pub takes_over : GaveAtMost (limit + 1) left left_now → HasMoreThan limit left → left_now ≡ left_after (limit + 1) left → (status ≡ Memory → ⊥) →
+      WholeTakes limit left left_now status
+  takes_over most more one some = record { most = most; whole = λ h. inr (more, one); memory = λ e. absurd (some e) }
+
+  pub takes_all : (bytes : List ℕ) → GaveAtMost (limit + 1) left left_now → length bytes ≤ limit → left ≡ put_back bytes left_now → AtEnd left_now →
+      WholeTakes limit left left_now status
+  takes_all bytes most few gave end = record {
+    most = most;
+    whole = λ h. inl (end, gave_bytes limit bytes left left_now few gave);
+    memory = λ e. gave_bytes limit bytes left left_now few gave;
+  }
+
+pub takes_want : (limit : ℕ) (left left_now : Option (List ℕ)) → GaveAtMost (limit + 1) left left_now → GaveAtMost limit left left_now →
+    WholeTakes limit left left_now Memory
+takes_want limit left left_now most want = record { most = most; whole = λ h. absurd h; memory = λ e. want }
+
+-- what was written
+
+module _ (limit : ℕ) (command : Command) (faults faults_now : ℕ) (before after : Option (List ℕ)) (status : Status) where
+  abbrev Replied : Option (List ℕ) → Type 0
+  Replied left = IfSome left (λ bytes. Responds (RepliesWithin limit command bytes) faults faults_now before after status)
+
+  fault_reply : (left : Option (List ℕ)) → Rose faults faults_now → Ends fault_read before after status → Replied left
+  fault_reply None rose ends = tt
+  fault_reply (Some bytes) rose ends = inr (rose, inr (fault_read, refl, ends))
+
+  -- a read failed
+  pub ends_fault : (left : Option (List ℕ)) → Rose faults faults_now → Ends fault_read before after status →
+      WholeEnds limit command left faults faults_now before after status
+  ends_fault left rose ends = record { reply = fault_reply left rose ends; fault = λ e. ends }
+
+  over_reply : (left : Option (List ℕ)) → faults_now ≡ faults → HasMoreThan limit left → Ends refused_length before after status → Replied left
+  over_reply None calm more ends = tt
+  over_reply (Some bytes) calm more ends = inl (calm, inr (refused_length, inr (more, refl), ends))
 
   -- there were more bytes than the command reads
-  pub ended_over : (given : Option Command) (command : Command) (limit : ℕ) (left : Option (List ℕ)) → given ≡ Some command → limit ≡ byte_limit command → HasMoreThan limit left → Ends refused_length before after status → IfSome given (Replied left)
-  ended_over given command limit left e same h p = for_command given command left e (too_many command left (subst (λ (n : ℕ). HasMoreThan n left) same h) p)
+  pub ends_over : (left : Option (List ℕ)) → faults_now ≡ faults → HasMoreThan limit left → Ends refused_length before after status →
+      (EndsWritten status → status ≡ Refused) → WholeEnds limit command left faults faults_now before after status
+  ends_over left calm more ends written = record {
+    reply = over_reply left calm more ends;
+    fault = λ e. absurd (no_fault status Refused written tt e);
+  }
 
-  fitting : (command : Command) (left : Option (List ℕ)) (bytes : List ℕ) (given : Reply) → IfSome left (λ told. told ≡ bytes) → length bytes ≤ byte_limit command → given ≡ answer command bytes → Ends given before after status → Replied left command
-  fitting command None bytes given h few same p = tt
-  fitting command (Some told) bytes given h few same p =
-      let fits : nat_le (length told) (byte_limit command) ≡ true = grind (arith, nat_tests, ap length h) in
-      inl (within (nat_le (length told) (byte_limit command)) (answer command told) given fits (same ∙ ap (answer command) (sym h)) p)
+  given_reply : (left : Option (List ℕ)) (bytes : List ℕ) (r : Reply) → faults_now ≡ faults → IfSome left (λ told. told ≡ bytes) → length bytes ≤ limit →
+      IsReply command bytes r → Ends r before after status → Replied left
+  given_reply None bytes r calm told few is ends = tt
+  given_reply (Some found) bytes r calm told few is ends =
+      subst (λ (xs : List ℕ). Responds (RepliesWithin limit command xs) faults faults_now before after status) (sym told)
+      (inl (calm, inr (r, inl (few, is), ends)))
 
-  -- the command answered the bytes
-  pub ended_within : (found : Option Command) (command : Command) (limit : ℕ) (left : Option (List ℕ)) (bytes : List ℕ) (given : Reply) → found ≡ Some command → limit ≡ byte_limit command → IfSome left (λ told. told ≡ bytes) → length bytes ≤ limit → given ≡ answer command bytes → Ends given before after status → IfSome found (Replied left)
-  ended_within found command limit left bytes given e size h few same p = for_command found command left e (fitting command left bytes given h (omega (arith, size)) same p)
+  -- the command replied to the bytes
+  pub ends_given : (left : Option (List ℕ)) (bytes : List ℕ) (r : Reply) → faults_now ≡ faults → IfSome left (λ told. told ≡ bytes) → length bytes ≤ limit →
+      IsReply command bytes r →
+      ComesOfInput r.status →
+      (EndsWritten status → status ≡ r.status) → Ends r before after status → WholeEnds limit command left faults faults_now before after status
+  ends_given left bytes r calm told few is input written ends = record {
+    reply = given_reply left bytes r calm told few is ends;
+    fault = λ e. absurd (no_fault status r.status written input e);
+  }
+
+module _ (limit : ℕ) (command : Command) (faults faults_now : ℕ) (before : Option (List ℕ)) where
+  want_reply : (left : Option (List ℕ)) → faults_now ≡ faults → Replied limit command faults faults_now before before Memory left
+  want_reply None calm = tt
+  want_reply (Some bytes) calm = inl (calm, inl (refl, refl))
+
+  -- there was no memory
+  pub ends_want : (left : Option (List ℕ)) → faults_now ≡ faults → WholeEnds limit command left faults faults_now before before Memory
+  ends_want left calm = record { reply = want_reply left calm; fault = λ e. cc }

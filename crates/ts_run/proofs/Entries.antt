@@ -33,8 +33,10 @@ name_at (x ∷ es) zero name e = let same : x.0 ≡ name = cc in ap (λ z. Some 
 name_at (x ∷ es) (suc k) name e = name_at es k name e
 
 -- one more of the values is made
-pub taken : {B : Type 0} (all made more : List B) (k : ℕ) (x : B) → slice_get all k ≡ Some x → made ++ drop k all ≡ all → more ≡ made ++ x ∷ [] → more ++ drop (k + 1) all ≡ all
-taken all made more k x e p q = ap (λ z. z ++ drop (k + 1) all) q ∙ append_assoc made (x ∷ []) (drop (k + 1) all) ∙ ap (λ z. made ++ z) (sym (drop_at all k x e)) ∙ p
+pub taken : {B : Type 0} (all made more : List B) (k : ℕ) (x : B) → slice_get all k ≡ Some x → made ++ drop k all ≡ all → more ≡ made ++ x ∷ [] →
+    more ++ drop (k + 1) all ≡ all
+taken all made more k x e p q =
+    ap (λ z. z ++ drop (k + 1) all) q ∙ append_assoc made (x ∷ []) (drop (k + 1) all) ∙ ap (λ z. made ++ z) (sym (drop_at all k x e)) ∙ p
 
 -- one more of the value lines is written
 pub line_taken : (names : List (List ℕ)) (values : List Ext) (k : ℕ) (name : List ℕ) (value : Ext) (text more all : List ℕ) →

@@ -89,6 +89,10 @@ words_fit : (n : ℕ) (o : Option (List (List ℕ))) (xs : List ℤ) → words_g
 words_fit n None xs e = cc
 words_fit n (Some words) xs e = numbers_fit n (values_of words) xs (λ ys h. words_cells words ys h) e
 
+-- a series that was read has as many values as were asked for
+pub series_count : (n : ℕ) (c : Cut) (xs : List ℤ) → series_reading n c ≡ Ok xs → length xs ≡ n
+series_count n c xs e = (words_fit n (series_words c c.not_text) xs e).count
+
 -- a series that was read for a model of 1 to 512 cells
 pub series_fits : (n : ℕ) (c : Cut) (xs : List ℤ) → series_reading n c ≡ Ok xs → 1 ≤ n → n ≤ 512 → IsSeries xs
 series_fits n c xs e some few =

@@ -1,5 +1,6 @@
-pub mod Endings
-pub mod Entries
-pub mod Inputs
-pub mod MeetsLaw
-pub mod VerdictLaws
+mod Endings
+mod Entries
+mod Inputs
+mod Steps
+mod CheckLaws
+mod VerdictLaws

@@ -2,13 +2,13 @@
 use Rattle.std.proofs.Common.{◌≡◌, ℕ, ◌+◌, ◌<◌, ◌≤◌, ℤ, Bool, true, false, IsTrue, List, [], ◌∷◌, ◌++◌, length, get_or, drop, map, refl, sym, ◌∙◌, ap, append_assoc, arith}
 use Rattle.std.proofs.lemmas.List.{append-nil, at_drop_more, drop_all}
 use Rattle.std.proofs.lemmas.Cmp.{int_eq_equiv}
-use Rattle.std.proofs.lemmas.Int.{ints}
 use Rattle.std.proofs.lemmas.Map.Views.{list_any-from_Contains, Contains-from_any}
 use Rattle.std.proofs.lemmas.Option.{get_or_from_slice_get, slice_get-get_or}
 use Rattle.std.specs.List.{Contains}
-use Rattle.std.specs.Ordering.{int_eq}
 use Rattle.std.specs.Prelude.{◌↔◌}
-use Rattle.ts_run.specs.Verdict.{fault_line, fault_lines, is_among}
+use Rattle.ts_model.specs.Judgement.{is_among}
+use Rattle.ts_model.proofs.MeetsLaw.{int_same}
+use Rattle.ts_run.specs.Verdict.{fault_line, fault_lines}
 
 module _ {A B : Type 0} (f : A → B) (xs : List A) (k : ℕ) (made all : List B) where
   -- one more is made
@@ -33,9 +33,6 @@ module _ (word : List ℕ) (tests : List Bool) (k : ℕ) (text all : List ℕ) w
 
   pub faults_end : length tests ≤ k → text ++ fault_lines word (k + 1) (drop k tests) ≡ all → text ≡ all
   faults_end h e = sym (append-nil text) ∙ ap (λ rest. text ++ fault_lines word (k + 1) rest) (sym (drop_all k tests h)) ∙ e
-
-pub int_same : (x y : ℤ) → int_eq x y ≡ true → x ≡ y
-int_same x y e = grind (arith, ints)
 
 -- a test that says whether x is one of the values says what the definition says
 pub contains_is : (b : Bool) (values : List ℤ) (x : ℤ) → (IsTrue b ↔ Contains values x) → b ≡ is_among values x

@@ -1,22 +1,23 @@
--- What each command answers to the bytes of its input.
-use Rattle.std.specs.Prelude.{ℕ, ℤ, List, [], ◌++◌, length, codes, nat_le, unwrap_or, Result, Ok, Err, if◌then◌else◌}
+-- What each command replies to the bytes of its input.
+use Rattle.std.specs.Prelude.{ℕ, ◌≡◌, ◌↔◌, ℤ, List, [], ◌++◌, length, codes, unwrap_or, Result, Ok, Err}
 use Rattle.std.specs.Fmt.{decimal}
 use Rattle.ts_token.specs.Text.{cut_of}
-use Rattle.ts_token.specs.Halves.{halves_of, Halves}
+use Rattle.ts_token.specs.Halves.{halves_of}
 use Rattle.ts_model.specs.declared.error.ModelKind.{ModelKind}
 use Rattle.ts_model.specs.declared.error.ModelKind.TheVariants.{NotText, UnknownLine, Shape, Number, NoCells, CellsTwice, CellRange, Empty, UnknownName, BadPair, UnknownTerm, TermTwice, ObjectiveTwice, Limit, NoObjective}
 use Rattle.ts_model.specs.declared.error.SeriesStop.{SeriesStop}
 use Rattle.ts_model.specs.declared.error.SeriesStop.TheVariants.{Shape as NoSeries, Number as NoNumber, Length, Memory as NoMemory}
+use Rattle.ts_model.specs.declared.model.Need.{Need}
 use Rattle.ts_model.specs.declared.model.Need.TheVariants.{Values}
+use Rattle.ts_model.specs.Meets.{Meets}
 use Rattle.ts_model.specs.ModelReading.{model_reading}
 use Rattle.ts_model.specs.Series.{series_reading}
 use Rattle.ts_model.specs.Stated.{Stated}
-use Rattle.ts_run.specs.Commands.{byte_limit}
 use Rattle.ts_run.specs.Reply.{Reply}
 use Rattle.ts_run.specs.Verdict.{line, verdict}
 use Rattle.ts_run.specs.declared.command.Command.{Command}
 use Rattle.ts_run.specs.declared.command.Command.TheVariants.{Check}
-use Rattle.ts_run.specs.declared.status.Status.TheVariants.{Refused, ReadFault}
+use Rattle.ts_run.specs.declared.status.Status.TheVariants.{Done, Refused, ReadFault}
 
 abbrev pub refused_words : Reply
 refused_words = record { text = codes "refused words\n"; status = Refused }
@@ -46,34 +47,66 @@ kind_word Limit = codes "limit"
 kind_word NoObjective = codes "noobjective"
 
 abbrev pub refused_model : ℕ → ModelKind → Reply
-refused_model number kind = record { text = line (codes "refused model line " ++ decimal number ++ codes " " ++ kind_word kind); status = Refused }
+refused_model number kind = record {
+  text = line (codes "refused model line " ++ decimal number ++ codes " " ++ kind_word kind);
+  status = Refused;
+}
 
--- what is wrong with a series, as it is printed
-abbrev pub stop_word : SeriesStop → List ℕ
-stop_word NoSeries = codes "shape"
-stop_word NoNumber = codes "number"
-stop_word Length = codes "length"
-stop_word NoMemory = []
+abbrev pub refused_series : List ℕ → Reply
+refused_series word = record { text = line (codes "refused series " ++ word); status = Refused }
 
-abbrev pub refused_series : SeriesStop → Reply
-refused_series stop = record { text = line (codes "refused series " ++ stop_word stop); status = Refused }
+-- a text that was read so is refused, or the reply is one to the model that it states
+abbrev pub OnReading : Result Stated (ℕ × ModelKind) → (Stated → Reply → Type 0) → Reply → Type 0
+OnReading (Err bad) next r = r ≡ refused_model bad.0 bad.1
+OnReading (Ok m) next r = next m r
 
-abbrev pub series_reply : Stated → Result (List ℤ) SeriesStop → Reply
-series_reply m (Err stop) = refused_series stop
-series_reply m (Ok xs) = verdict m xs
+-- the refusal of the model in the text, in the limits of the need, or on with it
+abbrev pub OnModel : Need → List ℕ → (Stated → Reply → Type 0) → Reply → Type 0
+OnModel need text next r = OnReading (model_reading need text) next r
 
--- the answer to a model that was read so, and the text of its series
-abbrev pub model_reply : List ℕ → Result Stated (ℕ × ModelKind) → Reply
-model_reply rest (Err bad) = refused_model bad.0 bad.1
-model_reply rest (Ok m) = series_reply m (series_reading (length m.cells) (cut_of rest))
+-- the refusal of a series, or on with it; no reading is want of memory
+abbrev pub OnSeries : Result (List ℤ) SeriesStop → (List ℤ → Reply → Type 0) → Reply → Type 0
+OnSeries (Ok xs) next r = next xs r
+OnSeries (Err NoSeries) next r = r ≡ refused_series (codes "shape")
+OnSeries (Err NoNumber) next r = r ≡ refused_series (codes "number")
+OnSeries (Err Length) next r = r ≡ refused_series (codes "length")
+OnSeries (Err NoMemory) next r = ⊥
 
-abbrev pub halves_reply : Halves → Reply
-halves_reply h = model_reply (unwrap_or h.rest []) (model_reading Values h.model)
+-- the first part of an input
+abbrev pub model_part : List ℕ → List ℕ
+model_part bytes = (halves_of bytes).model
 
--- the answer to a command whose input fits its limit
-abbrev pub answer : Command → List ℕ → Reply
-answer Check bytes = halves_reply (halves_of bytes)
+-- the second part, empty where there is none
+abbrev pub rest_part : List ℕ → List ℕ
+rest_part bytes = unwrap_or (halves_of bytes).rest []
 
--- the answer to a command that finds these bytes
-abbrev pub reply_to : Command → List ℕ → Reply
-reply_to command bytes = if nat_le (length bytes) (byte_limit command) then answer command bytes else refused_length
+-- the series in a text, as many numbers as the model has cells
+abbrev pub series_in : Stated → List ℕ → Result (List ℤ) SeriesStop
+series_in m text = series_reading (length m.cells) (cut_of text)
+
+-- the refusal of the series in the text, or the verdict on it
+abbrev pub SeriesReply : List ℕ → Stated → Reply → Type 0
+SeriesReply text m r = OnSeries (series_in m text) (λ xs s. s ≡ verdict m xs) r
+
+-- what `check` replies: the refusal of the model, that of the series, or the verdict
+abbrev pub CheckReply : List ℕ → Reply → Type 0
+CheckReply bytes r = OnModel Values (model_part bytes) (SeriesReply (rest_part bytes)) r
+
+-- what a command replies to its input
+abbrev pub IsReply : Command → List ℕ → Reply → Type 0
+IsReply Check bytes r = CheckReply bytes r
+
+-- an input of `check` states this model and this series
+pub record IsAsked (bytes : List ℕ) (m : Stated) (xs : List ℤ) : Type 0 where
+  pub model : model_reading Values (model_part bytes) ≡ Ok m
+  pub series : series_in m (rest_part bytes) ≡ Ok xs
+
+-- `check` has one reply to an input
+abbrev pub OneCheckReply : Type 0
+OneCheckReply = (bytes : List ℕ) (r s : Reply) → CheckReply bytes r → CheckReply bytes s → r ≡ s
+
+-- its status is `Done` exactly where the series meets the model
+abbrev pub DoneIsMeets : Type 0
+DoneIsMeets =
+    (bytes : List ℕ) (m : Stated) (xs : List ℤ) (r : Reply) → IsAsked bytes m xs → CheckReply bytes r →
+    (r.status ≡ Done) ↔ Meets m xs

@@ -1,8 +1,15 @@
--- The commands by their words, and the most bytes that each reads.
-use Rattle.std.specs.Prelude.{ℕ, List, [], ◌∷◌, codes, Option, Some, None, if◌then◌else◌}
+-- The commands by their words, and how each takes its input.
+use Rattle.std.specs.Prelude.{ℕ, ◌<◌, List, [], ◌∷◌, codes, map, Option, Some, None, if◌then◌else◌, string_bytes, String}
+use Rattle.std.specs.Global.{Global}
 use Rattle.std.specs.Str.{bytes_eq}
 use Rattle.ts_run.specs.declared.command.Command.{Command}
 use Rattle.ts_run.specs.declared.command.Command.TheVariants.{Check}
+use Rattle.ts_run.specs.declared.command.Input.{Input}
+use Rattle.ts_run.specs.declared.command.Input.TheVariants.{Whole}
+
+-- the words as bytes
+abbrev pub words_in : List (String Global) → List (List ℕ)
+words_in words = map string_bytes words
 
 -- the command that these words are
 abbrev pub command_of : List (List ℕ) → Option Command
@@ -10,5 +17,10 @@ command_of [] = None
 command_of (word ∷ []) = if bytes_eq word (codes "check") then Some Check else None
 command_of (word ∷ other ∷ words) = None
 
-abbrev pub byte_limit : Command → ℕ
-byte_limit Check = 2097152
+-- how a command takes its input: `check` takes the whole, at most 2,097,152 bytes
+abbrev pub input_of : Command → Input
+input_of Check = Whole 2097152
+
+-- no input is longer than what memory is counted in
+abbrev pub IsShort : Input → Type 0
+IsShort (Whole limit) = limit < 4000000000

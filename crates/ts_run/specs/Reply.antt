@@ -1,6 +1,7 @@
--- What a command answers, and what its sink took when the call ended.
-use Rattle.std.specs.Prelude.{ℕ, ◌≡◌, List, Option}
+-- What a command replies, and what its sink took when the call ended.
+use Rattle.std.specs.Prelude.{ℕ, ◌≡◌, ◌⊎◌, List, Option}
 use Rattle.ts_base.specs.Outside.{taken_more, Prefix}
+use Rattle.ts_run.specs.declared.reply.Reply.{Reply as GivenReply}
 use Rattle.ts_run.specs.declared.status.Status.{Status}
 use Rattle.ts_run.specs.declared.status.Status.TheVariants.{Done, No, Refused, Budget, ReadFault, WriteFault, Memory}
 
@@ -19,34 +20,38 @@ pub record Reply : Type 0 where
   pub text : List ℕ
   pub status : Status
 
--- a status that stands beside a text
-abbrev pub IsWritten : Status → Type 0
-IsWritten Done = Unit {0}
-IsWritten No = Unit {0}
-IsWritten Refused = Unit {0}
-IsWritten Budget = Unit {0}
-IsWritten ReadFault = Unit {0}
-IsWritten WriteFault = ⊥
-IsWritten Memory = ⊥
+-- the program's reply, its text as a list
+abbrev pub reply_of : GivenReply → Reply
+reply_of r = record { text = r.text.items; status = r.status }
+
+-- a status with which a call ends that has written a reply
+abbrev pub EndsWritten : Status → Type 0
+EndsWritten WriteFault = ⊥
+EndsWritten Memory = ⊥
+EndsWritten _ = Unit {0}
 
 -- a status that comes of the input alone
-abbrev pub IsAnswer : Status → Type 0
-IsAnswer Done = Unit {0}
-IsAnswer No = Unit {0}
-IsAnswer Refused = Unit {0}
-IsAnswer Budget = Unit {0}
-IsAnswer ReadFault = ⊥
-IsAnswer WriteFault = ⊥
-IsAnswer Memory = ⊥
+abbrev pub ComesOfInput : Status → Type 0
+ComesOfInput ReadFault = ⊥
+ComesOfInput WriteFault = ⊥
+ComesOfInput Memory = ⊥
+ComesOfInput _ = Unit {0}
+
+-- a status that tells of no fault
+abbrev pub TellsNoFault : Status → Type 0
+TellsNoFault ReadFault = ⊥
+TellsNoFault WriteFault = ⊥
+TellsNoFault _ = Unit {0}
 
 -- how a call ends that has this reply to give: what the sink took before and after it, and the call's status. The text
 -- was taken whole and the status is the reply's; or a write failed, and a front of the text was taken; or there was no
 -- memory, and nothing was taken.
 abbrev pub Ends : Reply → Option (List ℕ) → Option (List ℕ) → Status → Type 0
-Ends reply before after Done = (after ≡ taken_more before reply.text) × (reply.status ≡ Done)
-Ends reply before after No = (after ≡ taken_more before reply.text) × (reply.status ≡ No)
-Ends reply before after Refused = (after ≡ taken_more before reply.text) × (reply.status ≡ Refused)
-Ends reply before after Budget = (after ≡ taken_more before reply.text) × (reply.status ≡ Budget)
-Ends reply before after ReadFault = (after ≡ taken_more before reply.text) × (reply.status ≡ ReadFault)
 Ends reply before after WriteFault = Prefix reply.text before after
 Ends reply before after Memory = after ≡ before
+Ends reply before after status = (after ≡ taken_more before reply.text) × (reply.status ≡ status)
+
+-- how a call ends that has some reply of this kind to give: without memory there is none, and nothing was taken
+abbrev pub EndsWith : (Reply → Type 0) → Option (List ℕ) → Option (List ℕ) → Status → Type 0
+EndsWith Is before after status =
+    ((status ≡ Memory) × (after ≡ before)) ⊎ ((r : Reply) × Is r × Ends r before after status)

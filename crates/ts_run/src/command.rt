@@ -1,7 +1,7 @@
-//! The commands: their words, and how much each reads.
+//! The commands: their words, and how each takes its input.
 
-ghost use Rattle.std.specs.Prelude.{ℕ, ◌≡◌, map, string_bytes};
-ghost use Rattle.ts_run.specs.Commands.{command_of, byte_limit};
+ghost use Rattle.std.specs.Prelude.{◌≡◌};
+ghost use Rattle.ts_run.specs.Commands.{IsShort, command_of, input_of, words_in};
 
 /// What the program is asked to do.
 #[derive(Clone, Copy, Debug, PartialEq, Eq)]
@@ -9,10 +9,17 @@ pub enum Command {
     Check,
 }
 
+/// How a command takes its input.
+#[derive(Clone, Copy, Debug, PartialEq, Eq)]
+pub enum Input {
+    /// The whole, of at most `limit` bytes, before anything is written.
+    Whole { limit: usize },
+}
+
 impl Command {
-    /// The command that these words are; None where they are no command's.
+    /// The command that these words are; None if they aren't a command.
     pub fn of(words: &Vec<String>) -> Option<Command>
-        ensures { result ≡ command_of (map string_bytes words.now.items) }
+        ensures { result ≡ command_of (words_in words.now.items) }
     {
         match words.as_slice() {
             [word] if word.as_str() == "check" => Some(Command::Check),
@@ -20,12 +27,13 @@ impl Command {
         }
     }
 
-    /// The most bytes that it reads.
-    pub fn limit(self) -> usize
-        ensures { result ≡ byte_limit self }
+    /// How it takes its input.
+    pub fn input(self) -> Input
+        ensures input { result ≡ input_of self }
+        ensures short { IsShort result }
     {
         match self {
-            Command::Check => 2_097_152,
+            Command::Check => Input::Whole { limit: 2_097_152 },
         }
     }
 }

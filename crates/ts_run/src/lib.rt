@@ -1,29 +1,33 @@
 //! The top of the program: from the words of a command and the bytes of its input to a text and a status.
 //!
-//! `run` reads the whole input through a `Source`, makes the whole answer in memory, and writes it through a `Sink`. What
-//! it answers is a definition over the bytes; a fault comes only where a count tells it.
+//! `run` reads its input through a `Source`, makes the whole reply in memory, and writes it through a `Sink`. What is
+//! replied is a definition over the bytes; a fault comes only where a count tells it.
 //!
 //! ```text
 //! let status = run(alloc, &words, &mut StdIn::new(reader), &mut StdOut::new(writer));
 //! status.code()   // 0 to 6
 //! ```
 //!
-//! A command is one function from bytes to a text and a status, as `check`; it knows of no source and no sink. One
-//! function, `told`, writes. So a new command touches neither of the two proofs.
+//! A command says how it takes its input. One that takes the whole is a function from bytes to a reply, as `check`, and
+//! knows of no source and no sink: a new one is a word, a relation between bytes and reply, and that function.
 #![tactic(auto)]
 
-pub mod answer;
-pub mod check;
-pub mod command;
-pub mod refusal;
-pub mod reply;
-pub mod status;
-pub mod told;
-pub mod top;
-pub mod verdict;
+mod call;
+mod check;
+mod command;
+mod judge;
+mod laws;
+mod model_part;
+mod refusal;
+mod reply;
+mod reply_to;
+mod status;
+mod verdict;
+mod write;
 
+pub use call::run;
+pub use laws::{done_is_meets, one_check_reply};
 pub use status::Status;
-pub use top::run;
 
 #[cfg(test)]
 mod tests;

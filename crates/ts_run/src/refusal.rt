@@ -1,15 +1,16 @@
 //! The texts of the refusals.
 
 ghost use Rattle.std.specs.Prelude.{ℕ, ◌≡◌, ◌++◌, IfOk};
-ghost use Rattle.ts_run.specs.AnswerTexts.{kind_word, refused_model, refused_series, stop_word};
-ghost use Rattle.ts_run.specs.Views.{reply};
+ghost use Rattle.ts_run.specs.AnswerTexts.{kind_word, refused_model, refused_series};
+ghost use Rattle.ts_run.specs.Reply.{reply_of};
 
-use crate::reply::Answer;
+use crate::reply::Reply;
 use crate::status::Status;
 use std::alloc::Global;
 use ts_base::{Memory, push_number};
-use ts_model::{ModelKind, SeriesStop};
+use ts_model::ModelKind;
 
+/// The kind of a bad line, as it is printed.
 fn kind_word(kind: ModelKind) -> &'static [u8]
     ensures { result.now ≡ kind_word kind }
 {
@@ -33,8 +34,8 @@ fn kind_word(kind: ModelKind) -> &'static [u8]
 }
 
 /// The refusal of a model at its first bad line.
-pub fn refused_model(alloc: Global, line: u32, kind: ModelKind) -> Result<Answer, Memory>
-    ensures { IfOk result (λ given. reply given ≡ refused_model line kind) }
+pub fn refused_model(alloc: Global, line: u32, kind: ModelKind) -> Result<Reply, Memory>
+    ensures { IfOk result (λ r. reply_of r ≡ refused_model line kind) }
 {
     let mut text = Vec::from_slice(alloc, b"refused model line ")?;
     push_number(&mut text, i64::from(line))?;
@@ -42,27 +43,16 @@ pub fn refused_model(alloc: Global, line: u32, kind: ModelKind) -> Result<Answer
     text.extend_from_slice(kind_word(kind))?;
     text.push(b'\n')?;
     let status = Status::Refused;
-    Ok(Answer { text, status })
+    Ok(Reply { text, status })
 }
 
-fn stop_word(stop: SeriesStop) -> &'static [u8]
-    ensures { result.now ≡ stop_word stop }
-{
-    match stop {
-        SeriesStop::Shape => b"shape",
-        SeriesStop::Number => b"number",
-        SeriesStop::Length => b"length",
-        SeriesStop::Memory => b"",
-    }
-}
-
-/// The refusal of a series.
-pub fn refused_series(alloc: Global, stop: SeriesStop) -> Result<Answer, Memory>
-    ensures { IfOk result (λ given. reply given ≡ refused_series stop) }
+/// The refusal of a series, by the word for what is wrong with it.
+pub fn refused_series(alloc: Global, word: &[u8]) -> Result<Reply, Memory>
+    ensures { IfOk result (λ r. reply_of r ≡ refused_series word.now) }
 {
     let mut text = Vec::from_slice(alloc, b"refused series ")?;
-    text.extend_from_slice(stop_word(stop))?;
+    text.extend_from_slice(word)?;
     text.push(b'\n')?;
     let status = Status::Refused;
-    Ok(Answer { text, status })
+    Ok(Reply { text, status })
 }

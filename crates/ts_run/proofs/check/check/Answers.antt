@@ -2,22 +2,21 @@ use Rattle.std.proofs.Common.{◌∙◌, ap, arith, length, refl, []}
 use Rattle.std.specs.Prelude.{unwrap_or}
 use Rattle.ts_token.specs.Halves.{Halves}
 use Rattle.ts_run.proofs.Inputs.{parts_within, rest_now}
+use Rattle.ts_run.proofs.Steps.{check_fails}
 use Rattle.ts_run.proofs.check.check.Goals as goal
 
-pub cut_tokens-requires : goal.cut_tokens-requires
-cut_tokens-requires c =
+pub model_of-requires : goal.model_of-requires
+model_of-requires c =
     let within = (parts_within c.args.bytes.now).model in
     let same = ap (λ (h : Halves). length h.model) c.cut_parts-parts.ensures in
     let few = c.requires in
     omega (arith, same)
 
-pub read_model-requires : goal.read_model-requires
-read_model-requires c =
-    let within = (parts_within c.args.bytes.now).model in
-    let same = ap (λ (h : Halves). length h.model) c.cut_parts-parts.ensures in
-    let counted = c.in_ok-tokens.ensures.counted in
-    let few = c.requires in
-    omega (arith, same)
+pub returns-in_err-model : goal.returns-in_err-model
+returns-in_err-model c =
+    check_fails c.args.bytes.now c.cut_parts-parts.result.model.now c.in_err-model.field-0.0 c.from_residual.result
+    (ap (λ (h : Halves). h.model) c.cut_parts-parts.ensures)
+    c.in_err-model.ensures.gives c.from_residual.ensures.1
 
 pub check_series-requires-clause-few : goal.check_series-requires-clause-few
 check_series-requires-clause-few c =

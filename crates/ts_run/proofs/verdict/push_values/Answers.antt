@@ -9,6 +9,9 @@ use Rattle.ts_run.proofs.verdict.push_values.Goals as goal
 
 pub loop-k-preserved : goal.loop-k-preserved
 loop-k-preserved c =
-    let named = name_at c.args.model.now.terms.entries c.loop-k.k c.index.result.now (ap (λ names. slice_get names c.loop-k.k) (sym c.keys-names.ensures.rest) ∙ c.index.ensures) in
-    line_taken (names_of (stated c.args.model.now)) c.args.values.now c.loop-k.k (string_bytes c.index.result.now) _ c.loop-k.text.items c.push_value.new.text.items _
+    let named =
+    name_at c.args.model.now.terms.entries c.loop-k.k c.index.result.now
+    (ap (λ names. slice_get names c.loop-k.k) (sym c.keys-names.ensures.rest) ∙ c.index.ensures) in
+    line_taken (names_of (stated c.args.model.now)) c.args.values.now c.loop-k.k
+    (string_bytes c.index.result.now) _ c.loop-k.text.items c.push_value.new.text.items _
     named (slice_get-get_or c.args.values.now c.loop-k.k _ c.loop-k-test.true) c.loop-k.invariant c.in_ok-push_value.ensures

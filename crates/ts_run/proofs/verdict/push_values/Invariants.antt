@@ -5,4 +5,6 @@ use Rattle.ts_run.specs.Verdict.{names_of, value_lines}
 use Rattle.ts_run.proofs.verdict.push_values.Given as goal
 
 abbrev pub invariant-loop-k : goal.invariant-loop-k
-invariant-loop-k l = l.text.items ++ value_lines (zip (drop l.k (names_of (stated l.model))) (drop l.k l.values)) ≡ l.initial.text.items ++ value_lines (zip (names_of (stated l.model)) l.values)
+invariant-loop-k l =
+    l.text.items ++ value_lines (zip (drop l.k (names_of (stated l.model))) (drop l.k l.values)) ≡ l.initial.text.items ++ value_lines
+    (zip (names_of (stated l.model)) l.values)

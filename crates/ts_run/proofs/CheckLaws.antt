@@ -1,0 +1,99 @@
+-- The reply of `check`: there is one, and it is `meets` exactly where the series meets the model.
+use Rattle.std.proofs.Common.{◌≡◌, ℕ, ℤ, Bool, true, false, cond, refl, inl, inr, Option, Some, None, Ok, Err, List, length, sym, ◌∙◌, ap, subst}
+use Rattle.std.specs.Prelude.{Result, ◌↔◌, IfSome}
+use Rattle.ts_model.specs.declared.error.ModelKind.{ModelKind}
+use Rattle.ts_model.specs.declared.error.SeriesStop.{SeriesStop}
+use Rattle.ts_model.specs.declared.error.SeriesStop.TheVariants.{Shape as NoSeries, Number as NoNumber, Length, Memory as NoMemory}
+use Rattle.ts_token.specs.Text.{cut_of}
+use Rattle.ts_model.specs.Judgement.{is_met}
+use Rattle.ts_model.specs.Meets.{Meets}
+use Rattle.ts_model.specs.Stated.{Stated}
+use Rattle.ts_model.proofs.MeetsLaw.{judged_is_met}
+use Rattle.ts_run.specs.AnswerTexts.{CheckReply, DoneIsMeets, IsAsked, OneCheckReply, OnReading, OnSeries, SeriesReply, fault_read, refused_length, rest_part, series_in}
+use Rattle.ts_run.specs.Endings.{CallEnds, RepliesWithin, Responds, TellsMeets}
+use Rattle.ts_run.specs.Reply.{Ends, EndsWith, Reply}
+use Rattle.ts_run.specs.Verdict.{verdict}
+use Rattle.ts_run.specs.declared.command.Command.{Command}
+use Rattle.ts_run.specs.declared.command.Command.TheVariants.{Check}
+use Rattle.ts_run.specs.declared.status.Status.{Status}
+use Rattle.ts_run.specs.declared.status.Status.TheVariants.{Done, No, Refused, ReadFault, Memory}
+use Rattle.ts_run.proofs.Inputs.{series_count}
+
+-- there is one reply
+
+one_reading_reply : (reading : Result Stated (ℕ × ModelKind)) (next : Stated → Reply → Type 0) → ((m : Stated) (r s : Reply) → next m r → next m s → r ≡ s) →
+    (r s : Reply) → OnReading reading next r → OnReading reading next s → r ≡ s
+one_reading_reply (Ok m) next only r s h k = only m r s h k
+one_reading_reply (Err bad) next only r s h k = h ∙ sym k
+
+one_series_reply : (reading : Result (List ℤ) SeriesStop) (m : Stated) (r s : Reply) → OnSeries reading (λ xs x. x ≡ verdict m xs) r →
+    OnSeries reading (λ xs x. x ≡ verdict m xs) s → r ≡ s
+one_series_reply (Ok xs) m r s h k = h ∙ sym k
+one_series_reply (Err NoSeries) m r s h k = h ∙ sym k
+one_series_reply (Err NoNumber) m r s h k = h ∙ sym k
+one_series_reply (Err Length) m r s h k = h ∙ sym k
+one_series_reply (Err NoMemory) m r s h k = absurd h
+
+pub one_check_reply : OneCheckReply
+one_check_reply bytes r s h k =
+    one_reading_reply _ (SeriesReply (rest_part bytes)) (λ m x y p q. one_series_reply (series_in m (rest_part bytes)) m x y p q) r s h k
+
+-- the status
+
+verdict_given : (bytes : List ℕ) (m : Stated) (xs : List ℤ) (r : Reply) → IsAsked bytes m xs → CheckReply bytes r → r ≡ verdict m xs
+verdict_given bytes m xs r asked h =
+    subst (λ (x : Result (List ℤ) SeriesStop). OnSeries x (λ ys s. s ≡ verdict m ys) r) asked.series
+    (subst (λ (x : Result Stated (ℕ × ModelKind)). OnReading x (SeriesReply (rest_part bytes)) r) asked.model h)
+
+done_true : (b : Bool) → cond b Done No ≡ Done → b ≡ true
+done_true true e = refl
+done_true false e = cc
+
+true_done : (b : Bool) → b ≡ true → cond b Done No ≡ Done
+true_done b e = ap (λ (t : Bool). cond t Done No) e
+
+pub done_is_meets : DoneIsMeets
+done_is_meets bytes m xs r asked h =
+    let same = ap (λ (x : Reply). x.status) (verdict_given bytes m xs r asked h) in
+    let law = judged_is_met m xs (series_count (length m.cells) (cut_of (rest_part bytes)) xs asked.series) in
+    (λ e. law.0 (done_true (is_met m xs) (sym same ∙ e)), λ w. same ∙ true_done (is_met m xs) (law.1 w))
+
+-- the status that a call tells
+
+module _ (Is : Reply → Type 0) (before after : Option (List ℕ)) (status given : Status) where
+  replied : (given ≡ Memory → ⊥) → ((r : Reply) → Ends r before after given → r.status ≡ given) → EndsWith Is before after status → status ≡ given →
+      (r : Reply) × Is r × (r.status ≡ given)
+  replied want ends (inl h) e = absurd (want (sym e ∙ h.0))
+  replied want ends (inr h) e = (h.0, h.1, ends h.0 (subst (Ends h.0 before after) e h.2))
+
+module _ (bytes : List ℕ) (limit faults faults_now : ℕ) (before after : Option (List ℕ)) (status given : Status) where
+  -- a status that isn't that of a refusal or a fault is that of a reply of `check`
+  check_replied : (given ≡ Memory → ⊥) → (Refused ≡ given → ⊥) → (ReadFault ≡ given → ⊥) → ((r : Reply) → Ends r before after given → r.status ≡ given) →
+      Responds (RepliesWithin limit Check bytes) faults faults_now before after status → status ≡ given → (r : Reply) × CheckReply bytes r × (r.status ≡ given)
+  check_replied want refused fault ends (inl h) e = within (replied (RepliesWithin limit Check bytes) before after status given want ends h.1 e)
+    where
+      within : ((r : Reply) × RepliesWithin limit Check bytes r × (r.status ≡ given)) → (r : Reply) × CheckReply bytes r × (r.status ≡ given)
+      within p = by p.1
+        where
+          by : RepliesWithin limit Check bytes p.0 → (r : Reply) × CheckReply bytes r × (r.status ≡ given)
+          by (inl q) = (p.0, q.1, p.2)
+          by (inr q) = absurd (refused (sym (ap (λ (x : Reply). x.status) q.1) ∙ p.2))
+  check_replied want refused fault ends (inr h) e =
+      let p = replied (λ r. r ≡ fault_read) before after status given want ends h.1 e in
+      absurd (fault (sym (ap (λ (x : Reply). x.status) p.1) ∙ p.2))
+
+pub meets_told : (given : Option Command) (left : Option (List ℕ)) (faults faults_now : ℕ) (before after : Option (List ℕ)) (status : Status) →
+    CallEnds given left faults faults_now before after status → IfSome left (λ bytes. TellsMeets given bytes status)
+meets_told given None faults faults_now before after status h = tt
+meets_told None (Some bytes) faults faults_now before after status h = tt
+meets_told (Some Check) (Some bytes) faults faults_now before after status h = λ m xs asked. (done m xs asked, no m xs asked)
+  where
+    done : (m : Stated) (xs : List ℤ) → IsAsked bytes m xs → status ≡ Done → Meets m xs
+    done m xs asked e =
+        let p = check_replied bytes 2097152 faults faults_now before after status Done (λ x. cc) (λ x. cc) (λ x. cc) (λ r x. x.1) h.reply e in
+        (done_is_meets bytes m xs p.0 asked p.1).0 p.2
+
+    no : (m : Stated) (xs : List ℤ) → IsAsked bytes m xs → status ≡ No → Meets m xs → ⊥
+    no m xs asked e w =
+        let p = check_replied bytes 2097152 faults faults_now before after status No (λ x. cc) (λ x. cc) (λ x. cc) (λ r x. x.1) h.reply e in
+        let both = sym p.2 ∙ (done_is_meets bytes m xs p.0 asked p.1).1 w in cc

@@ -1,0 +1,36 @@
+-- What the steps of a command give: a part of the input that was read, a reply, or why there is none.
+use Rattle.std.specs.Prelude.{ℕ, ◌≡◌, ℤ, List, Result, Ok, Err}
+use Rattle.ts_model.specs.declared.error.ModelKind.{ModelKind}
+use Rattle.ts_model.specs.declared.error.SeriesStop.{SeriesStop}
+use Rattle.ts_model.specs.declared.model.Model.{Model}
+use Rattle.ts_model.specs.Stated.{Stated}
+use Rattle.ts_model.specs.Views.{stated}
+use Rattle.ts_run.specs.AnswerTexts.{OnReading, OnSeries}
+use Rattle.ts_run.specs.Reply.{ComesOfInput, Reply, reply_of}
+use Rattle.ts_run.specs.declared.reply.Reply.{Reply as GivenReply}
+use Rattle.ts_run.specs.declared.reply.Stop.{Stop}
+use Rattle.ts_run.specs.declared.reply.Stop.TheVariants.{Refused, Memory}
+
+-- a refusal of this kind, unless there was no memory
+abbrev pub StopsWith : (Reply → Type 0) → Stop → Type 0
+StopsWith Is (Refused r) = Is (reply_of r) × ComesOfInput r.status
+StopsWith Is Memory = Unit {0}
+
+-- a reply of this kind, unless there was no memory
+abbrev pub Gives : (Reply → Type 0) → Result GivenReply Stop → Type 0
+Gives Is (Ok r) = Is (reply_of r) × ComesOfInput r.status
+Gives Is (Err stop) = StopsWith Is stop
+
+-- no reply to what was read
+abbrev pub NoMore : {A : Type 0} → A → Reply → Type 0
+NoMore x r = ⊥
+
+-- the model of a text that was read so, or its refusal
+abbrev pub GivesModel : Result Stated (ℕ × ModelKind) → Result Model Stop → Type 0
+GivesModel reading (Ok m) = reading ≡ Ok (stated m)
+GivesModel reading (Err stop) = StopsWith (OnReading reading NoMore) stop
+
+-- the series of a text that was read so, or its refusal
+abbrev pub GivesSeries : {X : Type 0} → (X → List ℤ) → Result (List ℤ) SeriesStop → Result X Stop → Type 0
+GivesSeries view reading (Ok xs) = reading ≡ Ok (view xs)
+GivesSeries view reading (Err stop) = StopsWith (OnSeries reading NoMore) stop

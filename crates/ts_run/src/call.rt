@@ -1,0 +1,91 @@
+//! The top call.
+
+ghost use Rattle.std.specs.Prelude.{ℕ, ◌≡◌, ◌≢◌, ◌<◌, ◌≤◌, ◌⊎◌, IsTrue, IfSome};
+ghost use Rattle.ts_base.specs.Outside.{Rose};
+ghost use Rattle.ts_run.specs.AnswerTexts.{fault_read};
+ghost use Rattle.ts_run.specs.Commands.{command_of, words_in};
+ghost use Rattle.ts_run.specs.Endings.{CallEnds, CallSpares, CallTakes, TellsMeets, WholeEnds, WholeTakes};
+ghost use Rattle.ts_run.specs.Reply.{EndsWritten, TellsNoFault};
+
+use crate::command::{Command, Input};
+use crate::reply_to::reply_to;
+use crate::status::Status;
+use crate::write::write_reply;
+use std::alloc::Global;
+use ts_base::{Memory, ReadStop, Sink, Source, read_all};
+
+/// Does what the words ask for: reads the source, writes the reply to the sink, and says how it ended.
+///
+/// Words that aren't a command are refused and the source stays unread. If a read failed, which shows in the count of
+/// faults, the reply is `fault read`; else it is what the command replies to the bytes that the source had left. After
+/// `Memory` the sink is as it was and no read failed; after `WriteFault`, which comes only where a count tells it, it
+/// has taken a front of the reply. After every other status the reply was taken whole, the sink was finished once, and
+/// no fault of its own was counted.
+pub fn run<S: Source, K: Sink>(
+    alloc: Global,
+    words: &Vec<String>,
+    source: &mut S,
+    sink: &mut K,
+) -> Status
+    // What is written, read and told of the series, by the command that the words are.
+    ensures ends { CallEnds (command_of (words_in words.now.items)) (S.left source.old)
+        (S.faults source.old) (S.faults source.new) (K.taken sink.old) (K.taken sink.new) result }
+    ensures takes { CallTakes (command_of (words_in words.now.items)) S.left source.old source.new result }
+    ensures meets { IfSome (S.left source.old) (λ bytes.
+        TellsMeets (command_of (words_in words.now.items)) bytes result) }
+
+    // A fault is told only where one was counted, and none is passed over.
+    ensures read_fault { result ≡ Status.ReadFault → Rose (S.faults source.old) (S.faults source.new) }
+    ensures calm_read { TellsNoFault result → S.faults source.new ≡ S.faults source.old }
+    ensures write_fault { result ≡ Status.WriteFault → Rose (K.sink_faults sink.old) (K.sink_faults sink.new) }
+    ensures calm_write { EndsWritten result → K.sink_faults sink.new ≡ K.sink_faults sink.old }
+
+    // What was written is finished, once.
+    ensures done { EndsWritten result → IsTrue (K.finished sink.new) }
+
+    ensures memory { result ≡ Status.Memory → CallSpares (command_of (words_in words.now.items)) sink.old sink.new }
+    ensures reads_later { S.faults source.old ≤ S.faults source.new }
+    ensures writes_later { K.sink_faults sink.old ≤ K.sink_faults sink.new }
+{
+    let Some(command) = Command::of(words) else {
+        return write_reply(sink, b"refused words\n", Status::Refused);
+    };
+    match command.input() {
+        Input::Whole { limit } => run_whole(alloc, command, limit, source, sink),
+    }
+}
+
+/// The call of a command that takes its whole input, of at most `limit` bytes, before it writes.
+fn run_whole<S: Source, K: Sink>(
+    alloc: Global,
+    command: Command,
+    limit: usize,
+    source: &mut S,
+    sink: &mut K,
+) -> Status
+    requires { limit < 4000000000 }
+    ensures ends { WholeEnds limit command (S.left source.old)
+        (S.faults source.old) (S.faults source.new) (K.taken sink.old) (K.taken sink.new) result }
+    ensures takes { WholeTakes limit (S.left source.old) (S.left source.new) result }
+
+    ensures read_fault { result ≡ Status.ReadFault → Rose (S.faults source.old) (S.faults source.new) }
+    ensures calm_read { TellsNoFault result → S.faults source.new ≡ S.faults source.old }
+    ensures write_fault { result ≡ Status.WriteFault → Rose (K.sink_faults sink.old) (K.sink_faults sink.new) }
+    ensures calm_write { EndsWritten result → K.sink_faults sink.new ≡ K.sink_faults sink.old }
+
+    ensures done { EndsWritten result → IsTrue (K.finished sink.new) }
+
+    ensures memory { result ≡ Status.Memory → sink.new ≡ sink.old }
+    ensures reads_later { S.faults source.old ≤ S.faults source.new }
+    ensures writes_later { K.sink_faults sink.old ≤ K.sink_faults sink.new }
+{
+    match read_all(alloc, source, limit) {
+        Err(ReadStop::ReadFault) => write_reply(sink, b"fault read\n", Status::ReadFault),
+        Err(ReadStop::TooLong) => write_reply(sink, b"refused length\n", Status::Refused),
+        Err(ReadStop::Memory) => Status::Memory,
+        Ok(bytes) => match reply_to(alloc, command, &bytes) {
+            Ok(reply) => write_reply(sink, &reply.text, reply.status),
+            Err(Memory) => Status::Memory,
+        },
+    }
+}

@@ -1,0 +1,53 @@
+//! The parts of an input: its model and its series, or the refusal of a bad one.
+
+ghost use Rattle.std.specs.Prelude.{ℕ, ◌≡◌, ◌<◌, ◌≤◌, length, map, IfOk, vec_len};
+ghost use Rattle.ts_pattern.specs.Limits.{IsSeries};
+ghost use Rattle.ts_token.specs.Text.{cut_of};
+ghost use Rattle.ts_model.specs.ModelReading.{model_reading};
+ghost use Rattle.ts_model.specs.Promise.{IsWhole};
+ghost use Rattle.ts_model.specs.Series.{series_reading};
+ghost use Rattle.ts_model.specs.Views.{stated};
+ghost use Rattle.ts_run.specs.Replies.{GivesModel, GivesSeries};
+
+use crate::refusal::{refused_model, refused_series};
+use crate::reply::Stop;
+use std::alloc::Global;
+use ts_model::{Model, ModelStop, Need, SeriesStop, read_model, read_series};
+use ts_token::cut_tokens;
+
+/// The model that the text states, in the limits of the need, or its refusal: the first step of each command that has
+/// a model.
+pub fn model_of(alloc: Global, text: &[u8], need: Need) -> Result<Model, Stop>
+    requires { length text.now < 4000000000 }
+    ensures gives { GivesModel (model_reading need text.now) result }
+    ensures counted { IfOk result (λ m. m.n ≡ vec_len m.cells) }
+    ensures whole { IfOk result (λ m. IsWhole (stated m)) }
+{
+    let tokens = cut_tokens(alloc, text)?;
+    match read_model(alloc, &tokens, need) {
+        Ok(model) => Ok(model),
+        Err(ModelStop::Refused { line, kind }) => {
+            Err(Stop::Refused(refused_model(alloc, line, kind)?))
+        }
+        Err(ModelStop::Memory) => Err(Stop::Memory),
+    }
+}
+
+/// The series of `n` values that the text states, or its refusal.
+pub fn series_of(alloc: Global, text: &[u8], n: u32) -> Result<Vec<i64>, Stop>
+    requires few { length text.now < 4000000000 }
+    requires cells { (1 ≤ n) × (n ≤ 512) }
+    ensures gives { GivesSeries (λ xs. xs.items) (series_reading n (cut_of text.now)) result }
+    ensures count { IfOk result (λ xs. length xs.items ≡ n) }
+    ensures series { IfOk result (λ xs. IsSeries xs.items) }
+{
+    let tokens = cut_tokens(alloc, text)?;
+    let word = match read_series(alloc, &tokens, n) {
+        Ok(series) => return Ok(series),
+        Err(SeriesStop::Shape) => b"shape".as_slice(),
+        Err(SeriesStop::Number) => b"number".as_slice(),
+        Err(SeriesStop::Length) => b"length".as_slice(),
+        Err(SeriesStop::Memory) => return Err(Stop::Memory),
+    };
+    Err(Stop::Refused(refused_series(alloc, word)?))
+}

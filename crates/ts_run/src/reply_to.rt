@@ -1,0 +1,22 @@
+//! What a command replies to the bytes of its input.
+
+ghost use Rattle.std.specs.Prelude.{ℕ, ◌≡◌, ◌<◌, length, IfOk};
+ghost use Rattle.ts_run.specs.AnswerTexts.{IsReply};
+ghost use Rattle.ts_run.specs.Reply.{ComesOfInput, reply_of};
+
+use crate::check::check;
+use crate::command::Command;
+use crate::reply::{Reply, or_refusal};
+use std::alloc::Global;
+use ts_base::Memory;
+
+/// What the command replies to the bytes of its input.
+pub fn reply_to(alloc: Global, command: Command, bytes: &[u8]) -> Result<Reply, Memory>
+    requires { length bytes.now < 4000000000 }
+    ensures reply { IfOk result (λ r. IsReply command bytes.now (reply_of r)) }
+    ensures status { IfOk result (λ r. ComesOfInput r.status) }
+{
+    match command {
+        Command::Check => or_refusal(check(alloc, bytes)),
+    }
+}
