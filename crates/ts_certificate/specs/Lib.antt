@@ -1,0 +1,11 @@
+pub mod WordCounts
+pub mod Ranges
+pub mod TreeLines
+pub mod HeadLines
+pub mod Grammar
+pub mod LineOf
+pub mod Reading
+pub mod FirstStop
+pub mod Certificate
+pub mod Seen
+pub mod Laws

@@ -1,0 +1,73 @@
+//! The lines of a tree.
+
+ghost use Rattle.std.specs.Prelude.{◌≡◌};
+ghost use Rattle.ts_base.specs.Words.{words_seen, more_seen};
+ghost use Rattle.ts_certificate.specs.TreeLines.{split_of, remove_of, no_of, worse_of, tree_of};
+
+use crate::certificate::TreeLine;
+use crate::numbers::{cell_of, requirement_of, value_of};
+use crate::words::{alone, one_word, three_words, two_words};
+use ts_base::Words;
+
+/// The words behind `split`: a cell, and the greatest value of the lower side.
+fn split_of(rest: Option<&[u8]>) -> Option<TreeLine>
+    ensures { result ≡ split_of (more_seen rest.entry) }
+{
+    let (k, t) = two_words(rest)?;
+    Some(TreeLine::Split {
+        k: cell_of(k)?,
+        t: value_of(t)?,
+    })
+}
+
+/// The words behind `drop`: a cell, the value that it loses, and the requirement that refutes it.
+fn remove_of(rest: Option<&[u8]>) -> Option<TreeLine>
+    ensures { result ≡ remove_of (more_seen rest.entry) }
+{
+    let (k, v, j) = three_words(rest)?;
+    Some(TreeLine::Remove {
+        k: cell_of(k)?,
+        v: value_of(v)?,
+        j: requirement_of(j)?,
+    })
+}
+
+/// The words behind `no`: a requirement, and the cell at which it is refuted.
+fn no_of(rest: Option<&[u8]>) -> Option<TreeLine>
+    ensures { result ≡ no_of (more_seen rest.entry) }
+{
+    let (j, p) = two_words(rest)?;
+    Some(TreeLine::No {
+        j: requirement_of(j)?,
+        p: cell_of(p)?,
+    })
+}
+
+/// The word behind `worse`: the cell at which the objective is no better.
+fn worse_of(rest: Option<&[u8]>) -> Option<TreeLine>
+    ensures { result ≡ worse_of (more_seen rest.entry) }
+{
+    let p = cell_of(one_word(rest)?)?;
+    Some(TreeLine::Worse { p })
+}
+
+/// The line of the tree that these words are.
+pub(crate) fn tree_of(words: &Words<'_>) -> Option<TreeLine>
+    ensures { result ≡ tree_of (words_seen words.now) }
+{
+    if words.first == b"split".as_slice() {
+        split_of(words.rest)
+    } else if words.first == b"no".as_slice() {
+        no_of(words.rest)
+    } else if words.first == b"worse".as_slice() {
+        worse_of(words.rest)
+    } else if words.first == b"drop".as_slice() {
+        remove_of(words.rest)
+    } else if words.first == b"yes".as_slice() {
+        alone(words.rest, TreeLine::Yes)
+    } else if words.first == b"open".as_slice() {
+        alone(words.rest, TreeLine::Unsearched)
+    } else {
+        None
+    }
+}

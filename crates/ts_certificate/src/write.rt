@@ -1,0 +1,205 @@
+//! The text of a certificate.
+
+ghost use Rattle.std.specs.Prelude.{◌≡◌, ◌+◌, ◌++◌, ◌∷◌, ◌<◌, ◌^◌, length, map, OnOk, IfOk};
+ghost use Rattle.std.specs.Fmt.{signed_decimal};
+ghost use Rattle.ts_base.specs.Text.{ext_text};
+ghost use Rattle.ts_base.specs.Words.{behind, full_line};
+ghost use Rattle.ts_certificate.specs.Certificate.{cert_seen, certificate_text, lines_text};
+ghost use Rattle.ts_certificate.specs.Certificate.{checked_count, open_count, end_line};
+ghost use Rattle.ts_certificate.specs.Grammar.{SaysSeries, SaysTree, line_text};
+ghost use Rattle.ts_certificate.specs.HeadLines.{aim_words, claim_words, series_words};
+ghost use Rattle.ts_certificate.specs.Ranges.{count_text};
+ghost use Rattle.ts_certificate.specs.TreeLines.{tree_words};
+
+use crate::certificate::{Aim, Certificate, Claim, TreeLine};
+use crate::state::is_open;
+use std::alloc::Global;
+use ts_base::{Ext, Goal, Memory, push_ext, push_number};
+
+/// Puts a space and a number behind `text`.
+fn push_spaced(text: &mut Vec<u8>, n: i64) -> Result<(), Memory>
+    ensures { OnOk result (text.new.items ≡ text.old.items ++ (32 ∷ signed_decimal n)) }
+{
+    text.push(b' ')?;
+    push_number(text, n)
+}
+
+/// Puts a space and a count behind `text`.
+fn push_count(text: &mut Vec<u8>, n: u32) -> Result<(), Memory>
+    ensures { OnOk result (text.new.items ≡ text.old.items ++ (32 ∷ count_text n)) }
+{
+    push_spaced(text, i64::from(n))
+}
+
+/// Puts a tree line behind `text`.
+fn push_tree_line(text: &mut Vec<u8>, line: TreeLine) -> Result<(), Memory>
+    ensures { OnOk result (text.new.items ≡ text.old.items ++ full_line (tree_words line)) }
+{
+    match line {
+        TreeLine::Split { k, t } => {
+            text.extend_from_slice(b"split")?;
+            push_count(text, k)?;
+            push_spaced(text, t)?;
+        }
+        TreeLine::Remove { k, v, j } => {
+            text.extend_from_slice(b"drop")?;
+            push_count(text, k)?;
+            push_spaced(text, v)?;
+            push_count(text, j)?;
+        }
+        TreeLine::No { j, p } => {
+            text.extend_from_slice(b"no")?;
+            push_count(text, j)?;
+            push_count(text, p)?;
+        }
+        TreeLine::Worse { p } => {
+            text.extend_from_slice(b"worse")?;
+            push_count(text, p)?;
+        }
+        TreeLine::Yes => text.extend_from_slice(b"yes")?,
+        TreeLine::Unsearched => text.extend_from_slice(b"open")?,
+    }
+    text.push(b'\n')?;
+    Ok(())
+}
+
+/// Puts the aim line behind `text`.
+fn push_aim(text: &mut Vec<u8>, aim: Aim) -> Result<(), Memory>
+    ensures { OnOk result (text.new.items ≡ text.old.items ++ full_line (aim_words aim)) }
+{
+    match aim {
+        Aim::Best(Goal::Maximise) => text.extend_from_slice(b"maximise")?,
+        Aim::Best(Goal::Minimise) => text.extend_from_slice(b"minimise")?,
+        Aim::List(count) => {
+            text.extend_from_slice(b"generate")?;
+            push_count(text, count)?;
+        }
+    }
+    text.push(b'\n')?;
+    Ok(())
+}
+
+/// Puts a space and a value behind `text`.
+fn push_value(text: &mut Vec<u8>, value: Ext) -> Result<(), Memory>
+    ensures { OnOk result (text.new.items ≡ text.old.items ++ (32 ∷ ext_text value)) }
+{
+    text.push(b' ')?;
+    push_ext(text, value)
+}
+
+/// Puts the claim line behind `text`.
+fn push_claim(text: &mut Vec<u8>, claim: Claim) -> Result<(), Memory>
+    ensures { OnOk result (text.new.items ≡ text.old.items ++ full_line (claim_words claim)) }
+{
+    match claim {
+        Claim::Best(value) => {
+            text.extend_from_slice(b"best")?;
+            push_value(text, value)?;
+        }
+        Claim::Infeasible => text.extend_from_slice(b"infeasible")?,
+        Claim::BudgetBest(value) => {
+            text.extend_from_slice(b"budget")?;
+            push_value(text, value)?;
+        }
+        Claim::BudgetNone => text.extend_from_slice(b"budget none")?,
+        Claim::Full(count) => {
+            text.extend_from_slice(b"full")?;
+            push_count(text, count)?;
+        }
+        Claim::All(count) => {
+            text.extend_from_slice(b"all")?;
+            push_count(text, count)?;
+        }
+        Claim::BudgetList(count) => {
+            text.extend_from_slice(b"budget")?;
+            push_count(text, count)?;
+        }
+    }
+    text.push(b'\n')?;
+    Ok(())
+}
+
+/// Puts a series line behind `text`.
+fn push_series(text: &mut Vec<u8>, values: &[i64]) -> Result<(), Memory>
+    ensures { OnOk result (text.new.items ≡ text.old.items ++ full_line (series_words values.now)) }
+{
+    text.extend_from_slice(b"series")?;
+    push_values(text, values)?;
+    text.push(b'\n')?;
+    Ok(())
+}
+
+/// Puts numbers behind `text`, each after a space.
+fn push_values(text: &mut Vec<u8>, values: &[i64]) -> Result<(), Memory>
+    ensures { OnOk result (text.new.items ≡ text.old.items ++ behind (map signed_decimal values.now)) }
+{
+    for v in values {
+        push_spaced(text, *v)?;
+    }
+    Ok(())
+}
+
+/// Puts the series lines behind `text`.
+fn push_all_series(text: &mut Vec<u8>, series: &[Vec<i64>]) -> Result<(), Memory>
+    ensures { OnOk result (text.new.items ≡ text.old.items ++ lines_text (map SaysSeries (map (λ v. v.items) series.now))) }
+{
+    for values in series {
+        push_series(text, values)?;
+    }
+    Ok(())
+}
+
+/// Puts the tree lines behind `text`.
+fn push_tree(text: &mut Vec<u8>, tree: &[TreeLine]) -> Result<(), Memory>
+    ensures { OnOk result (text.new.items ≡ text.old.items ++ lines_text (map SaysTree tree.now)) }
+{
+    for line in tree {
+        push_tree_line(text, *line)?;
+    }
+    Ok(())
+}
+
+/// The number of tree lines other than `open`, and that of the `open` lines.
+fn counts_of(tree: &[TreeLine]) -> (usize, usize)
+    ensures checked { result.0 ≡ checked_count tree.now }
+    ensures unsearched { result.1 ≡ open_count tree.now }
+    ensures few { result.0 + result.1 ≡ length tree.now }
+{
+    let mut checked = 0;
+    let mut unsearched = 0;
+    for line in tree {
+        if is_open(*line) {
+            unsearched += 1;
+        } else {
+            checked += 1;
+        }
+    }
+    (checked, unsearched)
+}
+
+/// Puts the end line with the counts of the tree behind `text`.
+fn push_end(text: &mut Vec<u8>, tree: &[TreeLine]) -> Result<(), Memory>
+    requires { length tree.now < 2 ^ 63 }
+    ensures { OnOk result (text.new.items ≡ text.old.items ++ line_text (end_line tree.now)) }
+{
+    let (checked, unsearched) = counts_of(tree);
+    text.extend_from_slice(b"end")?;
+    push_spaced(text, checked as i64)?;
+    push_spaced(text, unsearched as i64)?;
+    text.push(b'\n')?;
+    Ok(())
+}
+
+/// The one text of a certificate: a line for its aim, its claim, each of its series and each line of its tree, and the
+/// end line with the counts of its tree.
+pub fn write_certificate(alloc: Global, c: &Certificate) -> Result<Vec<u8>, Memory>
+    ensures { IfOk result (λ text. text.items ≡ certificate_text (cert_seen c.now)) }
+{
+    let mut text = Vec::new(alloc);
+    push_aim(&mut text, c.aim)?;
+    push_claim(&mut text, c.claim)?;
+    push_all_series(&mut text, &c.series)?;
+    push_tree(&mut text, &c.tree)?;
+    push_end(&mut text, &c.tree)?;
+    Ok(text)
+}
