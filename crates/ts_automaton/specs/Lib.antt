@@ -5,3 +5,8 @@ pub mod Body
 pub mod Typing
 pub mod AutomatonRun
 pub mod SpanRun
+pub mod FormulaText
+pub mod AutomatonText
+pub mod Grammar
+pub mod Lines
+pub mod Reading

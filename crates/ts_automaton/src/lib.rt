@@ -15,13 +15,23 @@
 //! ```
 #![tactic(auto)]
 
+mod draft;
 mod expr;
+mod expr_text;
 mod kind;
+mod line_words;
+mod lines;
+mod move_lines;
+mod reader;
 mod regs;
 mod state;
+mod stop;
+mod text_laws;
 mod typing;
 
+pub use draft::{StateLine, Way};
 pub use expr::{Atom, Expr, Op};
 pub use kind::RegKind;
 pub use regs::{At, Hull, HullAt, Regs};
 pub use state::{Mark, State, Turn};
+pub use stop::AutoStop;

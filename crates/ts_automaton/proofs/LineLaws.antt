@@ -1,0 +1,241 @@
+-- The words of a line are read as what they spell, and what is read from words is spelled by them.
+use Rattle.std.proofs.Common.{◌≡◌, ℕ, zero, suc, ◌<◌, ◌≤◌, ◌-◌, ◌/◌, ◌%◌, Bool, true, false, cond, Option, Some, None, List, [], ◌∷◌, ◌++◌, length, take, drop}
+use Rattle.std.proofs.Common.{refl, sym, ap, subst, ◌∙◌, ◌&&◌, codes, arith, nat_le, nat_lt}
+use Rattle.std.specs.Prelude.{ℤ, pos, ◌==◌, ◌||◌}
+use Rattle.std.specs.Ordering.{int_eq}
+use Rattle.std.specs.Cmp.Derive.{both_true}
+use Rattle.std.specs.List.{position, AllByRecursion}
+use Rattle.std.specs.Str.{bytes_eq}
+use Rattle.std.proofs.lemmas.Slice.Eq.{bytes_eq-Decides}
+use Rattle.std.proofs.lemmas.Bool.{eqb-true}
+use Rattle.std.proofs.lemmas.Bool.Decides.{nat_tests, Decides-int_eq}
+use Rattle.std.proofs.lemmas.List.Quantifiers.{position-Some}
+use Rattle.ts_base.specs.declared.ext.Ext.{Ext}
+use Rattle.ts_base.specs.declared.ext.Ext.TheVariants.{NegInf, Int, PosInf}
+use Rattle.ts_base.proofs.WordLaws.{and_parts, keyword_or}
+use Rattle.ts_automaton.specs.declared.draft.Way.{Way}
+use Rattle.ts_automaton.specs.declared.draft.Way.TheVariants.{Forward, Reverse}
+use Rattle.ts_automaton.specs.declared.draft.StateLine.{StateLine}
+use Rattle.ts_automaton.specs.declared.state.Mark.{Mark}
+use Rattle.ts_automaton.specs.declared.state.Mark.TheVariants.{Same, Zero as ZeroMark, Cells}
+use Rattle.ts_automaton.specs.declared.expr.Atom.{Atom}
+use Rattle.ts_automaton.specs.declared.expr.Atom.TheVariants.{C as AtomC, D as AtomD, R as AtomR, This as AtomThis, Next as AtomNext, Zero as AtomZero, Unit as AtomUnit, NegInf as AtomNegInf, PosInf as AtomPosInf}
+use Rattle.ts_automaton.specs.declared.expr.Op.{Op}
+use Rattle.ts_automaton.specs.declared.expr.Op.TheVariants.{Add as OpAdd, Max as OpMax, Min as OpMin}
+use Rattle.ts_automaton.specs.Formula.{Formula, Leaf, Join, words_in}
+use Rattle.ts_automaton.specs.Registers.{EachOf, each}
+use Rattle.ts_automaton.specs.Body.{Move}
+use Rattle.ts_automaton.specs.Typing.{each_is, is_constant, is_short}
+use Rattle.ts_automaton.specs.FormulaText.{atom_word, op_word, formula_words, formula_of}
+use Rattle.ts_automaton.specs.AutomatonText.{no_state, name_at, way_word, held_word, mark_word, sign_word, semi, state_words, constant_word, start_words, three_words, turn_words, move_words, finish_words}
+use Rattle.ts_automaton.specs.Grammar.{is_new, is_move}
+use Rattle.ts_automaton.specs.Lines.{word_at, way_of, read_way, held_of, letter_of, new_name, state_made, read_state, constant_of, all_three, read_start, is_semi, onto_cut, cut_of, place_by, place_of, move_made, last_two, three_of, is_move_head, read_move, mark_of, finish_made, finish_of, read_finish, is_end}
+use Rattle.ts_automaton.proofs.FormulaLaws.{formula_only, formula_again, words_count}
+
+-- a list of words
+abbrev pub W : Type 0
+W = List (List ℕ)
+
+pub equal : (w text : List ℕ) → bytes_eq w text ≡ true → w ≡ text
+equal w text e = (bytes_eq-Decides w text).0 e
+
+pub same : (w : List ℕ) → bytes_eq w w ≡ true
+same w = (bytes_eq-Decides w w).1 refl
+
+-- as many words as that
+one_word : (ws : W) → length ws == 1 ≡ true → ws ≡ word_at ws 0 ∷ []
+one_word [] h = cc
+one_word (a ∷ []) h = refl
+one_word (a ∷ b ∷ ws) h = let e = eqb-true (length (a ∷ b ∷ ws)) 1 h in absurd (omega (arith, e))
+
+three : (ws : W) → length ws == 3 ≡ true → ws ≡ word_at ws 0 ∷ word_at ws 1 ∷ word_at ws 2 ∷ []
+three [] h = cc
+three (a ∷ []) h = cc
+three (a ∷ b ∷ []) h = cc
+three (a ∷ b ∷ c ∷ []) h = refl
+three (a ∷ b ∷ c ∷ d ∷ ws) h = let e = eqb-true (length (a ∷ b ∷ c ∷ d ∷ ws)) 3 h in absurd (omega (arith, e))
+
+four : (ws : W) → length ws == 4 ≡ true → ws ≡ word_at ws 0 ∷ word_at ws 1 ∷ word_at ws 2 ∷ word_at ws 3 ∷ []
+four [] h = cc
+four (a ∷ []) h = cc
+four (a ∷ b ∷ []) h = cc
+four (a ∷ b ∷ c ∷ []) h = cc
+four (a ∷ b ∷ c ∷ d ∷ []) h = refl
+four (a ∷ b ∷ c ∷ d ∷ e ∷ ws) h = let k = eqb-true (length (a ∷ b ∷ c ∷ d ∷ e ∷ ws)) 4 h in absurd (omega (arith, k))
+
+pub le : (m n : ℕ) → nat_le m n ≡ true → m ≤ n
+le m n h = grind (arith, nat_tests)
+
+pub lt : (m n : ℕ) → m < n → nat_lt m n ≡ true
+lt m n h = grind (arith, nat_tests)
+
+pub five : (ws : W) → 5 ≤ length ws → ws ≡ word_at ws 0 ∷ word_at ws 1 ∷ word_at ws 2 ∷ word_at ws 3 ∷ word_at ws 4 ∷ drop 5 ws
+five [] h = absurd (omega arith)
+five (a ∷ []) h = absurd (omega arith)
+five (a ∷ b ∷ []) h = absurd (omega arith)
+five (a ∷ b ∷ c ∷ []) h = absurd (omega arith)
+five (a ∷ b ∷ c ∷ d ∷ []) h = absurd (omega arith)
+five (a ∷ b ∷ c ∷ d ∷ e ∷ ws) h = refl
+
+-- a test before a choice
+pub pass : {X : Type 0} (t : Bool) (o : Option X) (x : X) → cond t o None ≡ Some x → (t ≡ true) × (o ≡ Some x)
+pass true o x h = (refl, h)
+pass false o x h = cc
+
+pub go_on : {X : Type 0} (t : Bool) (o : Option X) (x : X) → t ≡ true → o ≡ Some x → cond t o None ≡ Some x
+go_on true o x e h = h
+go_on false o x e h = cc
+
+-- three tests
+pub three_parts : (a b c : Bool) → (a && b && c) ≡ true → (a ≡ true) × (b ≡ true) × (c ≡ true)
+three_parts true true c h = (refl, refl, h)
+three_parts true false c h = cc
+three_parts false b c h = cc
+
+pub three_true : (a b c : Bool) → a ≡ true → b ≡ true → c ≡ true → (a && b && c) ≡ true
+three_true true true c e f g = g
+three_true true false c e f g = cc
+three_true false b c e f g = cc
+
+-- heads
+way_word_only : (w : List ℕ) (x : Way) → way_of w ≡ Some x → w ≡ way_word x
+way_word_only w x h =
+    keyword_or (w ≡ way_word x) w (codes "forward") (Some Forward) _ x (λ is k. let e : Forward ≡ x = cc in is ∙ ap way_word e)
+    (keyword_or (w ≡ way_word x) w (codes "reverse") (Some Reverse) None x (λ is k. let e : Reverse ≡ x = cc in is ∙ ap way_word e)
+    (λ k. cc))
+    h
+
+pub way_only : (ws : W) (x : Way) → read_way ws ≡ Some x → ws ≡ way_word x ∷ []
+way_only ws x h =
+    let p = pass (length ws == 1) (way_of (word_at ws 0)) x h in
+    one_word ws p.0 ∙ ap (λ (w : List ℕ). w ∷ []) (way_word_only (word_at ws 0) x p.1)
+
+pub way_again : (x : Way) → read_way (way_word x ∷ []) ≡ Some x
+way_again Forward = refl
+way_again Reverse = refl
+
+-- states
+held_only : (w : List ℕ) (h : Bool) → held_of w ≡ Some h → w ≡ held_word h
+held_only w h e =
+    keyword_or (w ≡ held_word h) w (codes "free") (Some false) _ h (λ is k. let e : false ≡ h = cc in is ∙ ap held_word e)
+    (keyword_or (w ≡ held_word h) w (codes "held") (Some true) None h (λ is k. let e : true ≡ h = cc in is ∙ ap held_word e)
+    (λ k. cc))
+    e
+
+held_again : (h : Bool) → held_of (held_word h) ≡ Some h
+held_again true = refl
+held_again false = refl
+
+pub letter_only : (w : List ℕ) (b : ℕ) → letter_of w ≡ Some b → w ≡ b ∷ []
+letter_only [] b h = cc
+letter_only (a ∷ []) b h = let e : a ≡ b = cc in ap (λ (x : ℕ). x ∷ []) e
+letter_only (a ∷ c ∷ w) b h = cc
+
+new_only : (states : List StateLine) (o : Option ℕ) (b : ℕ) → new_name states o ≡ Some b → (o ≡ Some b) × (is_new states b ≡ true)
+new_only states None b h = cc
+new_only states (Some a) b h =
+    let p = pass (is_new states a) (Some a) b h in
+    let e : a ≡ b = (let q = p.1 in cc) in
+    (p.1, ap (is_new states) (sym e) ∙ p.0)
+
+abbrev IsState : List StateLine → List ℕ → List ℕ → StateLine → Type 0
+IsState states v w n = (v ≡ n.name ∷ []) × (w ≡ held_word n.held) × (is_new states n.name ≡ true)
+
+state_parts : (states : List StateLine) (v w : List ℕ) (o : Option ℕ) (h : Option Bool) (n : StateLine) →
+    new_name states (letter_of v) ≡ o → held_of w ≡ h → state_made o h ≡ Some n → IsState states v w n
+state_parts states v w None h n e f k = cc
+state_parts states v w (Some b) None n e f k = cc
+state_parts states v w (Some b) (Some h) n e f k =
+    let is : record { name = b; held = h } ≡ n = cc in
+    let read = new_only states (letter_of v) b e in
+    let here : IsState states v w (record { name = b; held = h }) = (letter_only v b read.0, held_only w h f, read.1) in
+    subst (IsState states v w) is here
+
+pub state_only : (states : List StateLine) (ws : W) (n : StateLine) → read_state states ws ≡ Some n → (ws ≡ state_words n) × (is_new states n.name ≡ true)
+state_only states ws n h =
+    let name = new_name states (letter_of (word_at ws 1)) in
+    let held = held_of (word_at ws 2) in
+    let p = pass (length ws == 3) (cond (bytes_eq (word_at ws 0) (codes "state")) (state_made name held) None) n h in
+    let q = pass (bytes_eq (word_at ws 0) (codes "state")) (state_made name held) n p.1 in
+    let s = state_parts states (word_at ws 1) (word_at ws 2) name held n refl refl q.1 in
+    let keyword = equal (word_at ws 0) (codes "state") q.0 in
+    (cc (three ws p.0, keyword, s.0, s.1), s.2)
+
+pub state_again : (states : List StateLine) (n : StateLine) → is_new states n.name ≡ true → read_state states (state_words n) ≡ Some n
+state_again states n h =
+    ap (λ t. state_made (cond t (Some n.name) None) (held_of (held_word n.held))) h
+    ∙ ap (state_made (Some n.name)) (held_again n.held)
+
+-- start constants
+abbrev IsConstant : List ℕ → Ext → Type 0
+IsConstant w e = (w ≡ constant_word e) × (is_constant e ≡ true)
+
+module _ (w : List ℕ) (e : Ext) where
+  one_constant : (f : Ext) (text : List ℕ) → text ≡ constant_word f → is_constant f ≡ true → w ≡ text → Some f ≡ Some e → IsConstant w e
+  one_constant f text t test is k =
+      let here : IsConstant w f = (is ∙ t, test) in
+      let are : f ≡ e = cc in
+      subst (IsConstant w) are here
+
+  constant_only : constant_of w ≡ Some e → IsConstant w e
+  constant_only h =
+      keyword_or (IsConstant w e) w (codes "0") (Some (Int (pos 0))) _ e (λ is k. one_constant (Int (pos 0)) (codes "0") refl refl is k)
+      (keyword_or (IsConstant w e) w (codes "1") (Some (Int (pos 1))) _ e (λ is k. one_constant (Int (pos 1)) (codes "1") refl refl is k)
+      (keyword_or (IsConstant w e) w (codes "-inf") (Some NegInf) _ e (λ is k. one_constant NegInf (codes "-inf") refl refl is k)
+      (keyword_or (IsConstant w e) w (codes "+inf") (Some PosInf) None e (λ is k. one_constant PosInf (codes "+inf") refl refl is k)
+      (λ k. cc))))
+      h
+
+-- the constants are four
+pub constants_four : (P : Ext → Type 0) → P (Int (pos 0)) → P (Int (pos 1)) → P NegInf → P PosInf → (e : Ext) → is_constant e ≡ true → P e
+constants_four P a b c d NegInf h = c
+constants_four P a b c d PosInf h = d
+constants_four P a b c d (Int x) h = go (int_eq x (pos 0)) (int_eq x (pos 1)) refl refl h where
+  go : (s t : Bool) → int_eq x (pos 0) ≡ s → int_eq x (pos 1) ≡ t → (s || t) ≡ true → P (Int x)
+  go true t e f k = subst (λ (y : ℤ). P (Int y)) (sym ((Decides-int_eq x (pos 0)).0 e)) a
+  go false true e f k = subst (λ (y : ℤ). P (Int y)) (sym ((Decides-int_eq x (pos 1)).0 f)) b
+  go false false e f k = cc
+
+constant_again : (e : Ext) → is_constant e ≡ true → constant_of (constant_word e) ≡ Some e
+constant_again e h = constants_four (λ (x : Ext). constant_of (constant_word x) ≡ Some x) refl refl refl refl e h
+
+abbrev AreConstants : List ℕ → List ℕ → List ℕ → EachOf Ext → Type 0
+AreConstants u v w r = (u ≡ constant_word r.c) × (v ≡ constant_word r.d) × (w ≡ constant_word r.r) × (each_is is_constant r ≡ true)
+
+start_parts : (u v w : List ℕ) (c d e : Option Ext) (r : EachOf Ext) → constant_of u ≡ c → constant_of v ≡ d → constant_of w ≡ e →
+    all_three c d e ≡ Some r → AreConstants u v w r
+start_parts u v w None d e r f g h k = cc
+start_parts u v w (Some c) None e r f g h k = cc
+start_parts u v w (Some c) (Some d) None r f g h k = cc
+start_parts u v w (Some c) (Some d) (Some e) r f g h k =
+    let is : each c d e ≡ r = cc in
+    let first = constant_only u c f in
+    let second = constant_only v d g in
+    let third = constant_only w e h in
+    let all = three_true (is_constant c) (is_constant d) (is_constant e) first.1 second.1 third.1 in
+    let here : AreConstants u v w (each c d e) = (first.0, second.0, third.0, all) in
+    subst (AreConstants u v w) is here
+
+pub start_only : (ws : W) (r : EachOf Ext) → read_start ws ≡ Some r → (ws ≡ start_words r) × (each_is is_constant r ≡ true)
+start_only ws r h =
+    let c = constant_of (word_at ws 1) in
+    let d = constant_of (word_at ws 2) in
+    let e = constant_of (word_at ws 3) in
+    let p = pass (length ws == 4) (cond (bytes_eq (word_at ws 0) (codes "start")) (all_three c d e) None) r h in
+    let q = pass (bytes_eq (word_at ws 0) (codes "start")) (all_three c d e) r p.1 in
+    let s = start_parts (word_at ws 1) (word_at ws 2) (word_at ws 3) c d e r refl refl refl q.1 in
+    let keyword = equal (word_at ws 0) (codes "start") q.0 in
+    (cc (four ws p.0, keyword, s.0, s.1, s.2), s.3)
+
+pub start_again : (r : EachOf Ext) → each_is is_constant r ≡ true → read_start (start_words r) ≡ Some r
+start_again r h =
+    let all = three_parts (is_constant r.c) (is_constant r.d) (is_constant r.r) h in
+    ap (λ o. all_three o (constant_of (constant_word r.d)) (constant_of (constant_word r.r))) (constant_again r.c all.0)
+    ∙ ap (λ o. all_three (Some r.c) o (constant_of (constant_word r.r))) (constant_again r.d all.1)
+    ∙ ap (λ o. all_three (Some r.c) (Some r.d) o) (constant_again r.r all.2)
+
+-- end lines
+pub end_only : (ws : W) → is_end ws ≡ true → ws ≡ codes "end" ∷ []
+end_only ws h =
+    let p = and_parts (length ws == 1) (bytes_eq (word_at ws 0) (codes "end")) h in
+    one_word ws p.0 ∙ ap (λ (w : List ℕ). w ∷ []) (equal (word_at ws 0) (codes "end") p.1)

@@ -1,0 +1,212 @@
+-- A text is read as a block exactly where it is the text of the block, and else refused at its first bad line.
+use Rattle.std.proofs.Common.{◌≡◌, ◌≢◌, inl, inr, ℕ, zero, suc, ◌<◌, ◌≤◌, ◌+◌, ◌*◌, ◌/◌, Bool, true, false, not, cond, Option, Some, None, Ok, Err, List, [], ◌∷◌, ◌++◌, length, map, take, get_or, refl, sym, ap, subst, ◌∙◌, ◌&&◌, codes, append_assoc, append-nil, arith, nat_lt}
+use Rattle.std.specs.Prelude.{Result, ◌==◌}
+use Rattle.std.specs.Option.{option_map}
+use Rattle.std.specs.List.{list_all, concat}
+use Rattle.std.specs.Cmp.Derive.{both_true}
+use Rattle.std.proofs.lemmas.Bool.{not-true}
+use Rattle.std.specs.Str.{bytes_eq}
+use Rattle.std.proofs.lemmas.Bool.Decides.{nat_tests}
+use Rattle.std.proofs.lemmas.List.{length-append}
+use Rattle.std.proofs.lemmas.List.Folds.{list_all-append, list_any_at}
+use Rattle.std.proofs.lemmas.List.Sums.{position_or_len_is}
+use Rattle.ts_base.specs.declared.ext.Ext.{Ext}
+use Rattle.ts_base.specs.Words.{Words, strict_lines, without_lf, words_of, all_words, behind, plain_line}
+use Rattle.ts_base.proofs.WordLaws.{and_parts, AreSolid, words_again, text_is, text_again, words_no_lf, line_first, lines_are}
+use Rattle.ts_automaton.specs.declared.draft.Way.{Way}
+use Rattle.ts_automaton.specs.declared.state.Mark.{Mark}
+use Rattle.ts_automaton.specs.declared.draft.StateLine.{StateLine}
+use Rattle.ts_automaton.specs.Formula.{Formula}
+use Rattle.ts_automaton.specs.Registers.{EachOf}
+use Rattle.ts_automaton.specs.Body.{Move}
+use Rattle.ts_automaton.specs.Typing.{each_is, is_name, is_constant, is_short}
+use Rattle.ts_automaton.specs.AutomatonText.{Sheet, no_state, name_at, way_word, state_words, start_words, move_words, finish_words, moves_words, words_text, lines_text, block_lines}
+use Rattle.ts_automaton.specs.Grammar.{is_named, is_new, are_new, is_move, IsFront, IsSheet, Part, AtHead, AtStates, AtMoves, AtEnd, Whole, front_words, open_words, part_words, IsStates, IsMoves, IsPart, IsFirstBad, IsCutShort, IsOpen, IsAgainstGrammar}
+use Rattle.ts_automaton.specs.Lines.{word_at, read_way, read_state, read_start, place_by, read_move, read_finish, is_end}
+use Rattle.ts_automaton.specs.Reading.{with_state, with_start, with_move, with_finish, with_words, with_text, with_line, onward, with_lines, ended, sheet_reading}
+use Rattle.ts_automaton.proofs.LineLaws.{W, lt, way_only, way_again, state_only, state_again, start_only, start_again, end_only}
+use Rattle.ts_automaton.proofs.MoveLaws.{move_only, move_again, finish_only, finish_again}
+use Rattle.ts_automaton.proofs.SolidLaws.{way_solid, state_solid, start_solid, move_solid, finish_solid, end_solid}
+use Rattle.ts_automaton.proofs.GrowLaws.{map_more, length_more, grows, no_words}
+use Rattle.ts_automaton.proofs.FollowLaws.{Follows, follow, whole_follows}
+
+-- the text of a line has its words
+line_read : (d e : Part) (l : W) → with_words d l ≡ Some e → AreSolid l → with_line d (words_text l) ≡ Some e
+line_read d e [] h solid = absurd (no_words d e h)
+line_read d e (w ∷ ws) h solid =
+    let words : Words = record { first = w; more = ws } in
+    ap (with_text d) (text_again words) ∙ ap (λ (x : Words). with_words d (all_words x)) (words_again words solid) ∙ h
+
+follows_read : (d e : Part) (n : ℕ) (ls : List W) → Follows d ls e → with_lines d n (map words_text ls) ≡ Ok e
+follows_read d e n [] h = ap (λ (x : Part). Ok x) h
+follows_read d e n (l ∷ ls) h =
+    ap (λ o. onward n o (λ f. with_lines f (n + 1) (map words_text ls))) (line_read d h.0 l h.1 h.2) ∙ follows_read h.0 e (n + 1) ls h.3
+
+-- what was read is read from its text
+pub text_read : (e : Part) → IsPart e → with_lines AtHead 1 (map words_text (part_words e)) ≡ Ok e
+text_read e is = follows_read AtHead e 1 (part_words e) (follow e is)
+
+follows_chunks : (d e : Part) (ls : List W) → Follows d ls e → strict_lines (lines_text ls) ≡ map words_text ls
+follows_chunks d e [] h = refl
+follows_chunks d e ([] ∷ ls) h = absurd (no_words d h.0 h.1)
+follows_chunks d e ((w ∷ ws) ∷ ls) h =
+    line_first (w ++ behind ws) (lines_text ls) (words_no_lf (record { first = w; more = ws }) h.2)
+    ∙ ap (λ (x : List (List ℕ)). words_text (w ∷ ws) ∷ x) (follows_chunks h.0 e ls h.3)
+
+-- a line that is read is the text of its words
+abbrev IsLineOf : Part → List ℕ → Part → Type 0
+IsLineOf d text e = (ws : W) × (text ≡ words_text ws) × (with_words d ws ≡ Some e)
+
+line_words : (d e : Part) (text : List ℕ) (o : Option (List ℕ)) → without_lf text ≡ o → with_text d o ≡ Some e → IsLineOf d text e
+line_words d e text None f h = cc
+line_words d e text (Some line) f h = (all_words (words_of line), text_is text line f, h)
+
+-- a line that is read is one more line, and the part stays in the grammar
+pub line_grows : (d e : Part) (text : List ℕ) → IsPart d → with_line d text ≡ Some e → IsPart e × (length (part_words e) ≡ length (part_words d) + 1)
+line_grows d e text is h =
+    let line = line_words d e text (without_lf text) refl h in
+    let more = grows d line.0 e is line.2 in
+    (more.1, ap length more.0 ∙ length_more (part_words d) line.0)
+
+-- lines that are read are those of what was read
+record AreRead (d : Part) (texts : List (List ℕ)) (e : Part) : Type 0 where
+  pub lines : List W
+  pub are : texts ≡ map words_text lines
+  pub words : part_words e ≡ part_words d ++ lines
+  pub is : IsPart e
+
+read_step : (d e : Part) (n : ℕ) (text : List ℕ) (texts : List (List ℕ)) (o : Option Part) → IsPart d → with_line d text ≡ o → ((f : Part) →
+    IsPart f → with_lines f (n + 1) texts ≡ Ok e → AreRead f texts e) → onward n o (λ f. with_lines f (n + 1) texts) ≡ Ok e → AreRead d (text ∷ texts) e
+read_step d e n text texts None is f later h = cc
+read_step d e n text texts (Some g) is f later h =
+    let line = line_words d g text (without_lf text) refl f in
+    let more = grows d line.0 g is line.2 in
+    let rest = later g more.1 h in
+    record {
+      lines = line.0 ∷ rest.lines;
+      are = ap (λ (x : List ℕ). x ∷ texts) line.1 ∙ ap (λ (x : List (List ℕ)). words_text line.0 ∷ x) rest.are;
+      words = rest.words ∙ ap (λ (x : List W). x ++ rest.lines) more.0 ∙ append_assoc (part_words d) (line.0 ∷ []) rest.lines;
+      is = rest.is;
+    }
+
+lines_read : (d e : Part) (n : ℕ) (texts : List (List ℕ)) → IsPart d → with_lines d n texts ≡ Ok e → AreRead d texts e
+lines_read d e n [] is h = let same : d ≡ e = cc in record { lines = []; are = refl; words = ap part_words (sym same) ∙ sym (append-nil (part_words d)); is = subst IsPart same is }
+lines_read d e n (text ∷ texts) is h = read_step d e n text texts (with_line d text) is refl (λ f is_f k. lines_read f e (n + 1) texts is_f k) h
+
+-- where the reading stops
+record Stops (d : Part) (n : ℕ) (texts : List (List ℕ)) (k : ℕ) : Type 0 where
+  pub lines : List W
+  pub before : Part
+  pub text : List ℕ
+  pub after : List (List ℕ)
+  pub parts : texts ≡ map words_text lines ++ (text ∷ after)
+  pub words : part_words before ≡ part_words d ++ lines
+  pub is : IsPart before
+  pub against : with_line before text ≡ None
+  pub place : k ≡ n + length lines
+
+stop_step : (d : Part) (n k : ℕ) (text : List ℕ) (texts : List (List ℕ)) (o : Option Part) → IsPart d → with_line d text ≡ o → ((f : Part) →
+    IsPart f → with_lines f (n + 1) texts ≡ Err k → Stops f (n + 1) texts k) → onward n o (λ f. with_lines f (n + 1) texts) ≡ Err k → Stops d n (text ∷ texts) k
+stop_step d n k text texts None is f later h =
+    let same : n ≡ k = cc in
+    record { lines = []; before = d; text = text; after = texts; parts = refl; words = sym (append-nil (part_words d)); is = is; against = f; place = omega (arith, same) }
+stop_step d n k text texts (Some g) is f later h =
+    let line = line_words d g text (without_lf text) refl f in
+    let more = grows d line.0 g is line.2 in
+    let rest = later g more.1 h in
+    let count = rest.place in
+    record {
+      lines = line.0 ∷ rest.lines;
+      before = rest.before;
+      text = rest.text;
+      after = rest.after;
+      parts = ap (λ (x : List ℕ). x ∷ texts) line.1 ∙ ap (λ (x : List (List ℕ)). words_text line.0 ∷ x) rest.parts;
+      words = rest.words ∙ ap (λ (x : List W). x ++ rest.lines) more.0 ∙ append_assoc (part_words d) (line.0 ∷ []) rest.lines;
+      is = rest.is;
+      against = rest.against;
+      place = omega (arith, count);
+    }
+
+stops : (d : Part) (n k : ℕ) (texts : List (List ℕ)) → IsPart d → with_lines d n texts ≡ Err k → Stops d n texts k
+stops d n k [] is h = cc
+stops d n k (text ∷ texts) is h = stop_step d n k text texts (with_line d text) is refl (λ f is_f e. stops f (n + 1) k texts is_f e) h
+
+-- no line that may come there has that text
+onward_append : (n : ℕ) (o : Option Part) (f : Part) (xs ys : List (List ℕ)) → ((d : Part) → with_lines d (n + 1) xs ≡ Ok f →
+    (m : ℕ) × (with_lines d (n + 1) (xs ++ ys) ≡ with_lines f m ys)) → onward n o (λ d. with_lines d (n + 1) xs) ≡ Ok f →
+    (m : ℕ) × (onward n o (λ d. with_lines d (n + 1) (xs ++ ys)) ≡ with_lines f m ys)
+onward_append n None f xs ys later h = cc
+onward_append n (Some d) f xs ys later h = later d h
+
+lines_append : (d f : Part) (n : ℕ) (xs ys : List (List ℕ)) → with_lines d n xs ≡ Ok f → (m : ℕ) × (with_lines d n (xs ++ ys) ≡ with_lines f m ys)
+lines_append d f n [] ys h = let same : d ≡ f = cc in (n, ap (λ (x : Part). with_lines x n ys) same)
+lines_append d f n (x ∷ xs) ys h = onward_append n (with_line d x) f xs ys (λ g k. lines_append g f (n + 1) xs ys k) h
+
+against_all : (d : Part) (text : List ℕ) → IsPart d → with_line d text ≡ None → (e : Part) (ws : W) → IsPart e →
+    part_words e ≡ part_words d ++ (ws ∷ []) → text ≢ words_text ws
+against_all d text is none e ws is_e words same =
+    let whole = text_read e is_e in
+    let front = text_read d is in
+    let cut = lines_append AtHead d 1 (map words_text (part_words d)) (words_text ws ∷ []) front in
+    let parts : map words_text (part_words e) ≡ map words_text (part_words d) ++ (words_text ws ∷ []) = ap (map words_text) words ∙ map_more words_text (part_words d) ws in
+    let stop : with_lines d cut.0 (words_text ws ∷ []) ≡ Err cut.0 = ap (λ o. onward cut.0 o (λ f. Ok f)) (ap (with_line d) (sym same) ∙ none) in
+    let wrong : Ok e ≡ Err cut.0 = sym whole ∙ ap (with_lines AtHead 1) parts ∙ cut.1 ∙ stop in
+    cc
+
+pub first_bad : (texts : List (List ℕ)) (k : ℕ) → with_lines AtHead 1 texts ≡ Err k → IsFirstBad texts k
+first_bad texts k h =
+    let stop = stops AtHead 1 k texts tt h in
+    let count = stop.place in
+    let same : stop.lines ≡ part_words stop.before = sym stop.words in
+    record {
+      before = stop.before;
+      text = stop.text;
+      after = stop.after;
+      is = stop.is;
+      parts = stop.parts ∙ ap (λ (x : List W). map words_text x ++ (stop.text ∷ stop.after)) same;
+      place = count ∙ ap (λ (x : List W). 1 + length x) same ∙ one_more (length (part_words stop.before));
+      against = against_all stop.before stop.text stop.is stop.against;
+    }
+  where
+    one_more : (n : ℕ) → 1 + n ≡ n + 1
+    one_more n = omega arith
+
+-- whole blocks
+pub written_read : (b : Sheet) → IsSheet b → sheet_reading (lines_text (block_lines b)) ≡ Ok b
+written_read b is =
+    let cut = follows_chunks AtHead (Whole b) (part_words (Whole b)) (whole_follows b is) in
+    ap (λ (x : List (List ℕ)). ended (length x + 1) (with_lines AtHead 1 x)) cut ∙ ap (ended (length (map words_text (part_words (Whole b))) + 1)) (text_read (Whole b) is)
+
+ended_only : (n : ℕ) (r : Result Part ℕ) (b : Sheet) → ended n r ≡ Ok b → r ≡ Ok (Whole b)
+ended_only n (Err k) b h = cc
+ended_only n (Ok AtHead) b h = cc
+ended_only n (Ok (AtStates way states)) b h = cc
+ended_only n (Ok (AtMoves way states start moves)) b h = cc
+ended_only n (Ok (AtEnd c)) b h = cc
+ended_only n (Ok (Whole c)) b h = let same : c ≡ b = cc in ap (λ (x : Sheet). Ok (Whole x)) same
+
+lines_joined : (ls : List W) → concat (map words_text ls) ≡ lines_text ls
+lines_joined [] = refl
+lines_joined (l ∷ ls) = ap (λ (x : List ℕ). words_text l ++ x) (lines_joined ls)
+
+pub read_written : (text : List ℕ) (b : Sheet) → sheet_reading text ≡ Ok b → IsSheet b × (text ≡ lines_text (block_lines b))
+read_written text b h =
+    let whole = ended_only (length (strict_lines text) + 1) (with_lines AtHead 1 (strict_lines text)) b h in
+    let read = lines_read AtHead (Whole b) 1 (strict_lines text) tt whole in
+    (read.is, sym (lines_are text) ∙ ap concat read.are ∙ lines_joined read.lines ∙ ap lines_text (sym read.words))
+
+ended_refused : (texts : List (List ℕ)) (r : Result Part ℕ) (k : ℕ) → with_lines AtHead 1 texts ≡ r → ended (length texts + 1) r ≡ Err k →
+    IsAgainstGrammar texts k
+ended_refused texts (Err j) k e h = let same : j ≡ k = cc in inl (first_bad texts k (e ∙ ap (λ (x : ℕ). Err x) same))
+ended_refused texts (Ok AtHead) k e h = let same : length texts + 1 ≡ k = cc in let read = lines_read AtHead AtHead 1 texts tt e in
+    inr (record { part = AtHead; is = read.is; open_still = tt; are = read.are ∙ ap (map words_text) (sym read.words); place = sym same })
+ended_refused texts (Ok (AtStates way states)) k e h = let same : length texts + 1 ≡ k = cc in let read = lines_read AtHead (AtStates way states) 1 texts tt e in
+    inr (record { part = AtStates way states; is = read.is; open_still = tt; are = read.are ∙ ap (map words_text) (sym read.words); place = sym same })
+ended_refused texts (Ok (AtMoves way states start moves)) k e h = let same : length texts + 1 ≡ k = cc in let read = lines_read AtHead (AtMoves way states start moves) 1 texts tt e in
+    inr (record { part = AtMoves way states start moves; is = read.is; open_still = tt; are = read.are ∙ ap (map words_text) (sym read.words); place = sym same })
+ended_refused texts (Ok (AtEnd b)) k e h = let same : length texts + 1 ≡ k = cc in let read = lines_read AtHead (AtEnd b) 1 texts tt e in
+    inr (record { part = AtEnd b; is = read.is; open_still = tt; are = read.are ∙ ap (map words_text) (sym read.words); place = sym same })
+ended_refused texts (Ok (Whole b)) k e h = cc
+
+pub refused : (text : List ℕ) (k : ℕ) → sheet_reading text ≡ Err k → IsAgainstGrammar (strict_lines text) k
+refused text k h = ended_refused (strict_lines text) (with_lines AtHead 1 (strict_lines text)) k refl h

@@ -1,0 +1,156 @@
+//! What the words of a head, state, start or end line say.
+
+ghost use Rattle.std.specs.Prelude.{◌≡◌, ◌==◌, option_map};
+ghost use Rattle.std.specs.List.{list_any};
+ghost use Rattle.ts_automaton.specs.FormulaText.{texts};
+ghost use Rattle.ts_automaton.specs.Registers.{regs_of};
+ghost use Rattle.ts_automaton.specs.Typing.{is_name};
+ghost use Rattle.ts_automaton.specs.AutomatonText.{name_at};
+ghost use Rattle.ts_automaton.specs.Grammar.{is_named};
+ghost use Rattle.ts_automaton.specs.Lines.{way_of, read_way, held_of, letter_of, new_name, read_state, constant_of, read_start, is_end};
+
+use crate::draft::{StateLine, Way};
+use crate::line_words::{word_at, word_count};
+use crate::regs::Regs;
+use ts_base::Ext;
+
+/// The way that a word names.
+fn way_of(word: &[u8]) -> Option<Way>
+    ensures { result ≡ way_of word.now }
+{
+    if word == b"forward".as_slice() {
+        Some(Way::Forward)
+    } else if word == b"reverse".as_slice() {
+        Some(Way::Reverse)
+    } else {
+        None
+    }
+}
+
+/// The way that a head line names.
+pub(crate) fn read_way(words: &[&[u8]]) -> Option<Way>
+    ensures { result ≡ read_way (texts words.now) }
+{
+    if word_count(words) == 1 {
+        way_of(word_at(words, 0))
+    } else {
+        None
+    }
+}
+
+/// Whether a state is held, by the last word of its line.
+fn held_of(word: &[u8]) -> Option<bool>
+    ensures { result ≡ held_of word.now }
+{
+    if word == b"free".as_slice() {
+        Some(false)
+    } else if word == b"held".as_slice() {
+        Some(true)
+    } else {
+        None
+    }
+}
+
+/// The letter of a word of one letter.
+pub(crate) fn letter_of(word: &[u8]) -> Option<u8>
+    ensures { result ≡ letter_of word.now }
+{
+    match word {
+        [b] => Some(*b),
+        _ => None,
+    }
+}
+
+/// A letter from `a` to `z`.
+fn is_name(b: u8) -> bool
+    ensures { result ≡ is_name b }
+{
+    b >= b'a' && b <= b'z'
+}
+
+/// Some state has this letter.
+fn is_named(states: &[StateLine], b: u8) -> bool
+    ensures { result ≡ is_named states.now b }
+{
+    states.iter().any(|n| n.name == b)
+}
+
+/// The letter that a word is, if it is a name and no state has it.
+fn new_name(states: &[StateLine], word: &[u8]) -> Option<u8>
+    ensures { result ≡ new_name states.now (letter_of word.now) }
+{
+    match letter_of(word) {
+        Some(b) if is_name(b) && !is_named(states, b) => Some(b),
+        _ => None,
+    }
+}
+
+/// The state that a line names after these states.
+pub(crate) fn read_state(states: &[StateLine], words: &[&[u8]]) -> Option<StateLine>
+    ensures { result ≡ read_state states.now (texts words.now) }
+{
+    if word_count(words) != 3 {
+        return None;
+    }
+    if word_at(words, 0) != b"state".as_slice() {
+        return None;
+    }
+    match (
+        new_name(states, word_at(words, 1)),
+        held_of(word_at(words, 2)),
+    ) {
+        (Some(name), Some(held)) => Some(StateLine { name, held }),
+        _ => None,
+    }
+}
+
+/// The constant that a word is: 0, 1 or an infinity.
+fn constant_of(word: &[u8]) -> Option<Ext>
+    ensures { result ≡ constant_of word.now }
+{
+    if word == b"0".as_slice() {
+        Some(Ext::Int(0))
+    } else if word == b"1".as_slice() {
+        Some(Ext::Int(1))
+    } else if word == b"-inf".as_slice() {
+        Some(Ext::NegInf)
+    } else if word == b"+inf".as_slice() {
+        Some(Ext::PosInf)
+    } else {
+        None
+    }
+}
+
+/// The constants of a start line, for C, D and R.
+pub(crate) fn read_start(words: &[&[u8]]) -> Option<Regs>
+    ensures { option_map regs_of result ≡ read_start (texts words.now) }
+{
+    if word_count(words) != 4 {
+        return None;
+    }
+    if word_at(words, 0) != b"start".as_slice() {
+        return None;
+    }
+    match (
+        constant_of(word_at(words, 1)),
+        constant_of(word_at(words, 2)),
+        constant_of(word_at(words, 3)),
+    ) {
+        (Some(c), Some(d), Some(r)) => Some(Regs { c, d, r }),
+        _ => None,
+    }
+}
+
+/// The letter of the state at a place, or 0 where there is none.
+pub(crate) fn name_at(states: &[StateLine], k: usize) -> u8
+    ensures { result ≡ name_at states.now k }
+{
+    if k < states.len() { states[k].name } else { 0 }
+}
+
+/// The words are those of the end line.
+pub(crate) fn is_end(words: &[&[u8]]) -> bool
+    ensures { result ≡ is_end (texts words.now) }
+{
+    word_count(words) == 1 && word_at(words, 0) == b"end".as_slice()
+}

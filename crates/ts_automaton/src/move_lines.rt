@@ -1,0 +1,153 @@
+//! What the words of a move or finish line say.
+
+ghost use Rattle.std.specs.Prelude.{◌≡◌, ◌<◌, ◌≤◌, ◌==◌, ◌/◌, ◌%◌, length, Some, IfOk, option_map};
+ghost use Rattle.std.specs.List.{position};
+ghost use Rattle.ts_automaton.specs.Formula.{formula};
+ghost use Rattle.ts_automaton.specs.FormulaText.{texts, formula_of};
+ghost use Rattle.ts_automaton.specs.Body.{move_of};
+ghost use Rattle.ts_automaton.specs.AutomatonText.{sign_word};
+ghost use Rattle.ts_automaton.specs.Lines.{place_of, is_move_head, all_three, move_made, three_of, cut_of, read_move};
+ghost use Rattle.ts_automaton.specs.Lines.{mark_of, finish_of, read_finish};
+
+use crate::draft::StateLine;
+use crate::expr::Expr;
+use crate::expr_text::read_expr;
+use crate::line_words::{cut_at_semi, is_semi, word_at, word_count, words_from, words_up_to};
+use crate::lines::{letter_of, name_at};
+use crate::state::{Mark, Turn};
+use std::alloc::Global;
+use ts_base::Memory;
+
+/// The sign of the first, the second and the third move of a state.
+pub(crate) fn sign_word(k: usize) -> &'static [u8]
+    ensures { result.now ≡ sign_word k }
+{
+    if k == 0 {
+        b"<"
+    } else if k == 1 {
+        b"="
+    } else {
+        b">"
+    }
+}
+
+/// The place of the state with a letter.
+fn place_at(states: &[StateLine], b: u8) -> Option<usize>
+    ensures { result ≡ position (λ n. n.name == b) states.now }
+{
+    states.iter().position(|n| n.name == b)
+}
+
+/// The place of the state that a word names.
+fn place_of(states: &[StateLine], word: &[u8]) -> Option<usize>
+    ensures { result ≡ place_of states.now word.now }
+{
+    match letter_of(word) {
+        None => None,
+        Some(b) => place_at(states, b),
+    }
+}
+
+/// The words begin move `k` of these states; the word of its target isn't looked at.
+fn is_move_head(states: &[StateLine], k: usize, words: &[&[u8]]) -> bool
+    requires { 5 ≤ length (texts words.now) }
+    ensures { result ≡ is_move_head states.now k (texts words.now) }
+{
+    let from = [name_at(states, k / 3)];
+    word_at(words, 0) == b"move".as_slice()
+        && word_at(words, 1) == from.as_slice()
+        && word_at(words, 2) == sign_word(k % 3)
+        && is_semi(word_at(words, 4))
+}
+
+/// A move with these expressions, if there are all.
+fn turn_of(next: u8, c: Option<Expr>, d: Option<Expr>, r: Option<Expr>) -> Option<Turn>
+    ensures { let to = all_three (option_map formula c) (option_map formula d) (option_map formula r) in
+        option_map move_of result ≡ move_made (Some next) to }
+{
+    match (c, d, r) {
+        (Some(c), Some(d), Some(r)) => Some(Turn { next, c, d, r }),
+        _ => None,
+    }
+}
+
+/// The move to a state by the three expressions of these words, `;` between them.
+fn read_turn(alloc: Global, next: u8, words: &[&[u8]]) -> Result<Option<Turn>, Memory>
+    ensures { IfOk result (λ t. option_map move_of t ≡ move_made (Some next) (three_of (cut_of (texts words.now)))) }
+{
+    match cut_at_semi(words) {
+        None => Ok(None),
+        Some((c, rest)) => match cut_at_semi(rest) {
+            None => Ok(None),
+            Some((d, r)) => {
+                let c = read_expr(alloc, c)?;
+                let d = read_expr(alloc, d)?;
+                let r = read_expr(alloc, r)?;
+                Ok(turn_of(next, c, d, r))
+            }
+        },
+    }
+}
+
+/// Move `k`, counted from 0, of an automaton with these states.
+pub(crate) fn read_move(
+    alloc: Global,
+    states: &[StateLine],
+    k: usize,
+    words: &[&[u8]],
+) -> Result<Option<Turn>, Memory>
+    requires { length states.now ≤ 8 }
+    ensures { IfOk result (λ t. option_map move_of t ≡ read_move states.now k (texts words.now)) }
+{
+    if word_count(words) < 5 {
+        return Ok(None);
+    }
+    if !is_move_head(states, k, words) {
+        return Ok(None);
+    }
+    match place_of(states, word_at(words, 3)) {
+        None => Ok(None),
+        Some(next) => read_turn(alloc, next as u8, words_from(words, 5)),
+    }
+}
+
+/// The mark that a word names.
+fn mark_of(word: &[u8]) -> Option<Mark>
+    ensures { result ≡ mark_of word.now }
+{
+    if word == b"same".as_slice() {
+        Some(Mark::Same)
+    } else if word == b"zero".as_slice() {
+        Some(Mark::Zero)
+    } else if word == b"cells".as_slice() {
+        Some(Mark::Cells)
+    } else {
+        None
+    }
+}
+
+/// An expression, and the mark that is the last word.
+fn finish_of(alloc: Global, words: &[&[u8]]) -> Result<Option<(Expr, Mark)>, Memory>
+    requires { 1 ≤ length (texts words.now) }
+    ensures { IfOk result (λ f. option_map (λ p. (formula p.0, p.1)) f ≡ finish_of (texts words.now)) }
+{
+    let last = word_count(words) - 1;
+    let finish = read_expr(alloc, words_up_to(words, last))?;
+    match (finish, mark_of(word_at(words, last))) {
+        (Some(finish), Some(mark)) => Ok(Some((finish, mark))),
+        _ => Ok(None),
+    }
+}
+
+/// What a finish line says.
+pub(crate) fn read_finish(alloc: Global, words: &[&[u8]]) -> Result<Option<(Expr, Mark)>, Memory>
+    ensures { IfOk result (λ f. option_map (λ p. (formula p.0, p.1)) f ≡ read_finish (texts words.now)) }
+{
+    if word_count(words) < 2 {
+        return Ok(None);
+    }
+    if word_at(words, 0) != b"finish".as_slice() {
+        return Ok(None);
+    }
+    finish_of(alloc, words_from(words, 1))
+}
