@@ -60,12 +60,13 @@ fn zeros(alloc: Global, count: usize) -> Result<Vec<u8>, AllocError> {
 
 #[test]
 fn one_call_inside(rt: HostRuntime) -> Result<(), Fail> {
+    let mut small = [0];
     let mut large = zeros(rt.alloc(), 5_000)?;
 
     let mut input = StdIn::new(Device::new(3));
-    assert_eq!(rt; input.read(&mut large[..1]), Ok(1));
+    assert_eq!(rt; input.read(&mut small), Ok(1));
     assert_eq!(rt; input.read(&mut large), Ok(5_000));
-    assert_eq!(rt; input.read(&mut large[..1]), Err(Failed));
+    assert_eq!(rt; input.read(&mut small), Err(Failed));
     assert_eq!(rt; (input.inner.calls, input.faults), (3, 1));
 
     let mut output = StdOut::new(Device::new(3));
