@@ -27,19 +27,25 @@ pub record Leads (reading : Reading) (rs : List Regex) (os : List (ℕ × Letter
   pub earlier : IsTrue (from_earlier (length rs) os)
   pub rest : residuals_from (map (λ r. shape_of r) rs) (map (λ o. origin_read reading o) os) ≡ all
 
-one_read : (reading : Reading) (rs : List Regex) (o : ℕ × Letter) (os : List (ℕ × Letter)) (all : List Shape) (x y : Regex) → Leads reading rs (o ∷ os) all → x ≡ get_or rs o.0 x → shape_of y ≡ residual (shape_of x) (letter_read reading o.1) → Leads reading (rs ++ y ∷ []) os all
+one_read : (reading : Reading) (rs : List Regex) (o : ℕ × Letter) (os : List (ℕ × Letter)) (all : List Shape) (x y : Regex) →
+    Leads reading rs (o ∷ os) all → x ≡ get_or rs o.0 x → shape_of y ≡ residual (shape_of x) (letter_read reading o.1) → Leads reading (rs ++ y ∷ []) os all
 one_read reading rs o os all x y h e q =
     let t = and_parts (nat_lt o.0 (length rs)) (from_earlier (length rs + 1) os) h.earlier in
     let at_o : shape_at (map (λ r. shape_of r) rs) o.0 ≡ shape_of x = shape_at_map rs o.0 x (ltb-true o.0 (length rs) t.0) e in
-    let left : residual (shape_at (map (λ r. shape_of r) rs) o.0) (letter_read reading o.1) ≡ shape_of y = ap (λ s. residual s (letter_read reading o.1)) at_o ∙ sym q in
+    let left : residual (shape_at (map (λ r. shape_of r) rs) o.0) (letter_read reading o.1) ≡ shape_of y =
+    ap (λ s. residual s (letter_read reading o.1)) at_o ∙ sym q in
     record {
       earlier = subst (λ n. IsTrue (from_earlier n os)) (sym (length-append rs (y ∷ []))) t.1;
-      rest = ap (λ ss. residuals_from ss (map (λ o. origin_read reading o) os)) (map_push (λ r. shape_of r) rs y ∙ ap (λ s. map (λ r. shape_of r) rs ++ s ∷ []) (sym left)) ∙ h.rest;
+      rest = ap (λ ss. residuals_from ss (map (λ o. origin_read reading o) os)) (map_push (λ r. shape_of r) rs y ∙ ap (λ s. map (λ r. shape_of r) rs ++ s ∷ [])
+          (sym left)) ∙ h.rest;
     }
 
--- the line at place k is read
-pub line_read : (reading : Reading) (rs new : List Regex) (origins : List (ℕ × Letter)) (k : ℕ) (d : ℕ × Letter) (all : List Shape) (x y : Regex) (l : Letter) → k < length origins → IsTrue (from_earlier (length rs) (drop k origins)) → residuals_from (map (λ r. shape_of r) rs) (map (λ o. origin_read reading o) (drop k origins)) ≡ all → x ≡ get_or rs (get_or origins k d).0 x → l ≡ letter_read reading (get_or origins k d).1 → shape_of y ≡ residual (shape_of x) l → new ≡ rs ++ y ∷ [] → Leads reading new (drop (k + 1) origins) all
-line_read reading rs new origins k d all x y l p earlier rest e m q grown =
-    let cut = drop_more origins k d p in
-    let h : Leads reading rs (get_or origins k d ∷ drop (k + 1) origins) all = subst (λ os. Leads reading rs os all) cut (record { earlier = earlier; rest = rest }) in
-    subst (λ ns. Leads reading ns (drop (k + 1) origins) all) (sym grown) (one_read reading rs (get_or origins k d) (drop (k + 1) origins) all x y h e (q ∙ ap (λ z. residual (shape_of x) z) m))
+-- the line at place k is read, with its letter l: the residual x, and y, which the letter leaves of it
+pub line_read : (reading : Reading) (rs new : List Regex) (origins : List (ℕ × Letter)) (k : ℕ) (d : ℕ × Letter) (all : List Shape) (x y : Regex) (l : Letter) →
+    k < length origins → Leads reading rs (drop k origins) all → x ≡ get_or rs (get_or origins k d).0 x → l ≡ letter_read reading (get_or origins k d).1 →
+    shape_of y ≡ residual (shape_of x) l → new ≡ rs ++ y ∷ [] → Leads reading new (drop (k + 1) origins) all
+line_read reading rs new origins k d all x y l p before e m q grown =
+    let here = get_or origins k d in
+    let h : Leads reading rs (here ∷ drop (k + 1) origins) all = subst (λ os. Leads reading rs os all) (drop_more origins k d p) before in
+    subst (λ ns. Leads reading ns (drop (k + 1) origins) all) (sym grown)
+    (one_read reading rs here (drop (k + 1) origins) all x y h e (q ∙ ap (λ z. residual (shape_of x) z) m))

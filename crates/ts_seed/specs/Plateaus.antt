@@ -1,4 +1,5 @@
--- Plateaus: a rise and a fall, with at most a level part between; mirrored, plains (Global Constraint Catalog, Volume II).
+-- Plateaus: a rise and a fall, with at most a level part between; mirrored, plains (Global Constraint Catalog,
+-- Volume II).
 use Rattle.std.specs.Prelude.{ℕ, [], ◌∷◌}
 use Rattle.ts_base.specs.declared.letter.Letter.TheVariants.{Less, Greater}
 use Rattle.ts_base.specs.declared.range.Kind.TheVariants.{Idle, Pending}

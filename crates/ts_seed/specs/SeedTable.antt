@@ -7,7 +7,7 @@ use Rattle.ts_pattern.specs.declared.name.PatternId.{PatternId}
 use Rattle.ts_pattern.specs.declared.name.PatternId.TheVariants.{Increasing, Decreasing, Steady, IncreasingSequence, DecreasingSequence, StrictlyIncreasingSequence, StrictlyDecreasingSequence, SteadySequence, IncreasingTerrace, DecreasingTerrace, Inflexion, Peak, Valley, Plateau, Plain, ProperPlateau, ProperPlain, Summit, Gorge, Zigzag, DipOnIncreasingSequence, BumpOnDecreasingSequence}
 use Rattle.ts_pattern.specs.PatternTable.{pattern_shape}
 use Rattle.ts_pattern.specs.Plans.{PlainPlan}
-use Rattle.ts_seed.specs.Table.{Table, mirrored, plan_of}
+use Rattle.ts_seed.specs.Table.{Table, mirror_of, plan_of}
 use Rattle.ts_seed.specs.Sequences.{increasing, steady, increasing_sequence, strictly_increasing_sequence, steady_sequence}
 use Rattle.ts_seed.specs.Terraces.{increasing_terrace, proper_plateau}
 use Rattle.ts_seed.specs.Plateaus.{plateau}
@@ -19,52 +19,42 @@ use Rattle.ts_seed.specs.Dips.{dip_on_increasing_sequence}
 -- the table of the pattern; `<` and `>` are exchanged in the mirrored ones
 abbrev pub table_of : PatternId → Table
 table_of Increasing = increasing
-table_of Decreasing = mirrored increasing
+table_of Decreasing = mirror_of increasing
 table_of Steady = steady
 table_of IncreasingSequence = increasing_sequence
-table_of DecreasingSequence = mirrored increasing_sequence
+table_of DecreasingSequence = mirror_of increasing_sequence
 table_of StrictlyIncreasingSequence = strictly_increasing_sequence
-table_of StrictlyDecreasingSequence = mirrored strictly_increasing_sequence
+table_of StrictlyDecreasingSequence = mirror_of strictly_increasing_sequence
 table_of SteadySequence = steady_sequence
 table_of IncreasingTerrace = increasing_terrace
-table_of DecreasingTerrace = mirrored increasing_terrace
+table_of DecreasingTerrace = mirror_of increasing_terrace
 table_of Inflexion = inflexion
 table_of Peak = peak
-table_of Valley = mirrored peak
+table_of Valley = mirror_of peak
 table_of Plateau = plateau
-table_of Plain = mirrored plateau
+table_of Plain = mirror_of plateau
 table_of ProperPlateau = proper_plateau
-table_of ProperPlain = mirrored proper_plateau
+table_of ProperPlain = mirror_of proper_plateau
 table_of Summit = summit
-table_of Gorge = mirrored summit
+table_of Gorge = mirror_of summit
 table_of Zigzag = zigzag
 table_of DipOnIncreasingSequence = dip_on_increasing_sequence
-table_of BumpOnDecreasingSequence = mirrored dip_on_increasing_sequence
+table_of BumpOnDecreasingSequence = mirror_of dip_on_increasing_sequence
 
 -- the pattern that finds the same occurrences where the series is read from its end, if there is one
 abbrev pub partner_of : PatternId → Option PatternId
 partner_of Increasing = Some Decreasing
 partner_of Decreasing = Some Increasing
-partner_of Steady = Some Steady
 partner_of IncreasingSequence = Some DecreasingSequence
 partner_of DecreasingSequence = Some IncreasingSequence
 partner_of StrictlyIncreasingSequence = Some StrictlyDecreasingSequence
 partner_of StrictlyDecreasingSequence = Some StrictlyIncreasingSequence
-partner_of SteadySequence = Some SteadySequence
 partner_of IncreasingTerrace = Some DecreasingTerrace
 partner_of DecreasingTerrace = Some IncreasingTerrace
 partner_of Inflexion = None
-partner_of Peak = Some Peak
-partner_of Valley = Some Valley
-partner_of Plateau = Some Plateau
-partner_of Plain = Some Plain
-partner_of ProperPlateau = Some ProperPlateau
-partner_of ProperPlain = Some ProperPlain
-partner_of Summit = Some Summit
-partner_of Gorge = Some Gorge
-partner_of Zigzag = Some Zigzag
 partner_of DipOnIncreasingSequence = None
 partner_of BumpOnDecreasingSequence = None
+partner_of itself = Some itself
 
 pub record SeedTable : Type 0 where
   pub rows : List Row
@@ -74,4 +64,9 @@ pub record SeedTable : Type 0 where
 
 abbrev pub seed_table : PatternId → SeedTable
 seed_table id =
-    record { rows = (table_of id).rows; plan = plan_of (pattern_shape id) (table_of id); partner = partner_of id; joins = (table_of id).joins }
+    record {
+      rows = (table_of id).rows;
+      plan = plan_of (pattern_shape id) (table_of id);
+      partner = partner_of id;
+      joins = (table_of id).joins;
+    }

@@ -1,4 +1,5 @@
--- Steps and sequences: one sign, or a run of signs that rise or stay; mirrored, those that fall (Global Constraint Catalog, Volume II).
+-- Steps and sequences: one sign, or a run of signs that rise or stay; mirrored, those that fall (Global Constraint
+-- Catalog, Volume II).
 use Rattle.std.specs.Prelude.{ℕ, [], ◌∷◌}
 use Rattle.ts_base.specs.declared.letter.Letter.TheVariants.{Less, Equal}
 use Rattle.ts_base.specs.declared.range.Kind.TheVariants.{Idle, Held}

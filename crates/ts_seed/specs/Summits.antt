@@ -1,4 +1,5 @@
--- Summits: a rise up to the last sign before the top, and a fall from the first sign after it; mirrored, gorges (Global Constraint Catalog, Volume II).
+-- Summits: a rise up to the last sign before the top, and a fall from the first sign after it; mirrored, gorges
+-- (Global Constraint Catalog, Volume II).
 use Rattle.std.specs.Prelude.{ℕ, [], ◌∷◌}
 use Rattle.ts_base.specs.declared.letter.Letter.TheVariants.{Less, Equal, Greater}
 use Rattle.ts_base.specs.declared.range.Kind.TheVariants.{Idle, Pending, Held}

@@ -3,7 +3,7 @@
 -- between which one occurrence goes on.
 use Rattle.std.specs.Prelude.{ℕ, List, [], ◌∷◌, ◌++◌, map}
 use Rattle.ts_base.specs.declared.letter.Letter.{Letter}
-use Rattle.ts_base.specs.declared.letter.Letter.TheVariants.{Less, Equal, Greater}
+use Rattle.ts_base.specs.Signature.{flip_of}
 use Rattle.ts_base.specs.declared.range.Kind.{Kind}
 use Rattle.ts_base.specs.declared.range.Join.{Join}
 use Rattle.ts_regex.specs.Shape.{Shape}
@@ -25,7 +25,12 @@ pub record Table : Type 0 where
 -- a row: the kind of its state, and its moves on `<`, `=` and `>`
 abbrev pub row : Kind → Phase × ℕ → Phase × ℕ → Phase × ℕ → Row
 row k x y z =
-    record { kind = k; less = record { phase = x.0; next = x.1 }; equal = record { phase = y.0; next = y.1 }; greater = record { phase = z.0; next = z.1 } }
+    record {
+      kind = k;
+      less = record { phase = x.0; next = x.1 };
+      equal = record { phase = y.0; next = y.1 };
+      greater = record { phase = z.0; next = z.1 };
+    }
 
 abbrev pub entry : ℕ × Tag → Entry (Unit {0}) ℕ Tag
 entry e = record { mark = tt; residual = e.0; tag = e.1 }
@@ -48,14 +53,14 @@ plan_of p t = record { residuals = residuals_from (normal_form p ∷ []) t.resid
 
 -- `<` and `>` exchanged throughout; states, kinds and phase letters stay
 
-abbrev pub mirrored_letter : Letter → Letter
-mirrored_letter Less = Greater
-mirrored_letter Equal = Equal
-mirrored_letter Greater = Less
+abbrev pub mirror_row : Row → Row
+mirror_row r = record { kind = r.kind; less = r.greater; equal = r.equal; greater = r.less }
 
-abbrev pub mirrored_row : Row → Row
-mirrored_row r = record { kind = r.kind; less = r.greater; equal = r.equal; greater = r.less }
-
-abbrev pub mirrored : Table → Table
-mirrored t =
-    record { rows = map (λ r. mirrored_row r) t.rows; residuals = map (λ o. (o.0, mirrored_letter o.1)) t.residuals; configurations = t.configurations; joins = t.joins }
+abbrev pub mirror_of : Table → Table
+mirror_of t =
+    record {
+      rows = map (λ r. mirror_row r) t.rows;
+      residuals = map (λ o. (o.0, flip_of o.1)) t.residuals;
+      configurations = t.configurations;
+      joins = t.joins;
+    }

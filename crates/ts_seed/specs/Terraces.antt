@@ -1,4 +1,5 @@
--- Terraces and proper plateaus: a level part of at least one sign between two others (Global Constraint Catalog, Volume II).
+-- Terraces and proper plateaus: a level part of at least one sign between two others (Global Constraint Catalog,
+-- Volume II).
 use Rattle.std.specs.Prelude.{ℕ, [], ◌∷◌}
 use Rattle.ts_base.specs.declared.letter.Letter.TheVariants.{Less, Equal, Greater}
 use Rattle.ts_base.specs.declared.range.Kind.TheVariants.{Idle, Pending}

@@ -1,6 +1,6 @@
 //! Dips on a rise; mirrored, bumps on a fall.
 
-use crate::table::Table;
+use crate::table::PrintedTable;
 use ts_base::Kind::{Idle, Pending};
 use ts_base::Letter::{Greater, Less};
 use ts_pattern::Tag::{Due, InD, Loose, Young};
@@ -18,7 +18,7 @@ const C: u8 = 3;
 const D: u8 = 4;
 
 /// `dip_on_increasing_sequence`, `<<><<`; mirrored, `bump_on_decreasing_sequence`.
-pub const DIP_ON_INCREASING_SEQUENCE: Table = Table {
+pub const DIP_ON_INCREASING_SEQUENCE: PrintedTable = PrintedTable {
     rows: &[
         (Idle, (Out, A), (Out, S), (Out, S)), // s
         (Idle, (Out, B), (Out, S), (Out, S)), // a

@@ -2,8 +2,9 @@
 //!
 //! Each seed is a table of the catalogue: a row a state, with its kind and a move on `<`, `=` and `>`. Beside it
 //! stands a plan, a table by which a reader who trusts no table can validate the transducer against the pattern's
-//! expression. The layer above may rely on this: `seed_by_id` gives exactly the tables, and each seed with its plan
-//! is closed. One file holds the tables of one family of patterns; their states have the letters of the catalogue.
+//! expression. The layer above may rely on this: `seed_by_id` gives exactly the tables, each plan is one of its
+//! pattern, and each seed with its plan is closed; `transducer_by_id` gives the transducer alone, without memory. One
+//! file holds the tables of one family of patterns; their states have the letters of the catalogue.
 //!
 //! ```text
 //! let seed = seed_by_id(alloc, PatternId::Peak)?;
@@ -14,11 +15,11 @@
 mod dips;
 mod peaks;
 mod plateaus;
-pub mod seed;
+mod seed;
 mod sequences;
 mod summits;
 mod table;
 mod terraces;
 mod zigzags;
 
-pub use seed::{Seed, seed_by_id};
+pub use seed::{Seed, seed_by_id, transducer_by_id};

@@ -1,6 +1,6 @@
 //! Inflexions and peaks: where a series turns.
 
-use crate::table::Table;
+use crate::table::PrintedTable;
 use ts_base::Kind::{Held, Idle, Pending};
 use ts_base::Letter::{Equal, Greater, Less};
 use ts_pattern::Tag::{Due, InC, InD, Loose};
@@ -14,7 +14,7 @@ const R: u8 = 1;
 const T: u8 = 2;
 
 /// `inflexion`, `<(<|=)*>|>(>|=)*<`.
-pub const INFLEXION: Table = Table {
+pub const INFLEXION: PrintedTable = PrintedTable {
     rows: &[
         (Idle, (Out, R), (Out, S), (Out, T)), // s
         (Pending, (MaybeB, R), (MaybeB, R), (FoundE, T)), // r
@@ -38,7 +38,7 @@ pub const INFLEXION: Table = Table {
 };
 
 /// `peak`, `<(=|<)*(>|=)*>`; mirrored, `valley`.
-pub const PEAK: Table = Table {
+pub const PEAK: PrintedTable = PrintedTable {
     rows: &[
         (Idle, (Out, R), (Out, S), (Out, S)), // s
         (Pending, (MaybeB, R), (MaybeB, R), (Found, T)), // r

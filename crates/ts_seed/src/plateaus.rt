@@ -1,6 +1,6 @@
 //! Plateaus: a rise and a fall, with at most a level part between; mirrored, plains.
 
-use crate::table::Table;
+use crate::table::PrintedTable;
 use ts_base::Kind::{Idle, Pending};
 use ts_base::Letter::{Greater, Less};
 use ts_pattern::Tag::{Due, InD, Loose};
@@ -14,7 +14,7 @@ const R: u8 = 1;
 const T: u8 = 2;
 
 /// `plateau`, `<=*>`; mirrored, `plain`.
-pub const PLATEAU: Table = Table {
+pub const PLATEAU: PrintedTable = PrintedTable {
     rows: &[
         (Idle, (Out, R), (Out, S), (Out, S)), // s
         (Idle, (Out, R), (MaybeB, T), (FoundE, S)), // r

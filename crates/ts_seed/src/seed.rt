@@ -6,7 +6,7 @@ ghost use Rattle.std.specs.Prelude.{◌≡◌, ◌≤◌, IsTrue, IfOk, length};
 ghost use Rattle.ts_transducer.specs.Rows.{rows_of};
 ghost use Rattle.ts_transducer.specs.Typing.{is_typed};
 ghost use Rattle.ts_pattern.specs.PatternTable.{pattern_shape, pattern_b};
-ghost use Rattle.ts_pattern.specs.Plans.{subject, plain_plan};
+ghost use Rattle.ts_pattern.specs.Plans.{subject, plain_plan, is_plan_of};
 ghost use Rattle.ts_pattern.specs.Closed.{IsClosed};
 ghost use Rattle.ts_seed.specs.SeedTable.{table_of, partner_of, seed_table};
 ghost use Rattle.ts_seed.specs.Seeds.{seed_of};
@@ -19,7 +19,7 @@ use crate::sequences::{
     INCREASING, INCREASING_SEQUENCE, STEADY, STEADY_SEQUENCE, STRICTLY_INCREASING_SEQUENCE,
 };
 use crate::summits::SUMMIT;
-use crate::table::{Reading, Table};
+use crate::table::{PrintedTable, Reading};
 use crate::terraces::{INCREASING_TERRACE, PROPER_PLATEAU};
 use crate::zigzags::ZIGZAG;
 use std::alloc::Global;
@@ -38,11 +38,15 @@ pub struct Seed {
     pub joins: Vec<Join>,
 }
 
-/// The seed of that pattern (Global Constraint Catalog, Volume II). Its plan is closed, so that on every signature
-/// the decoded ranges are the occurrences of the pattern.
+/// The seed of that pattern (Global Constraint Catalog, Volume II). Its plan is one of the pattern and closed, so that
+/// on every signature the decoded ranges are the occurrences of the pattern.
 pub fn seed_by_id(alloc: Global, id: PatternId) -> Result<Seed, Memory>
     ensures table { IfOk result (λ s. seed_of s ≡ seed_table id) }
-    ensures closed { IfOk result (λ s. IsClosed (subject (rows_of s.transducer) (pattern_shape id) (pattern_b id) (plain_plan s.plan))) }
+    ensures closed { IfOk result (λ s. IsClosed
+        (subject (rows_of s.transducer) (pattern_shape id) (pattern_b id) (plain_plan s.plan))) }
+    ensures fits { IfOk result (λ s. IsTrue (is_plan_of (pattern_shape id) (plain_plan s.plan))) }
+    ensures few_residuals { IfOk result (λ s. length s.plan.residuals.items ≤ 9) }
+    ensures few_configurations { IfOk result (λ s. length s.plan.configurations.items ≤ 11) }
 {
     let (table, reading) = table_of(id);
     let pattern = pattern_by_id(alloc, id)?;
@@ -54,8 +58,18 @@ pub fn seed_by_id(alloc: Global, id: PatternId) -> Result<Seed, Memory>
     })
 }
 
+/// The transducer of that pattern's seed alone, which costs no memory: for a caller who decodes many series. It is
+/// closed by the plan of the seed.
+pub fn transducer_by_id(id: PatternId) -> Transducer
+    ensures table { rows_of result ≡ (seed_table id).rows }
+    ensures closed { IsClosed (subject (rows_of result) (pattern_shape id) (pattern_b id) (seed_table id).plan) }
+{
+    let (printed, reading) = table_of(id);
+    printed.transducer(reading)
+}
+
 /// The table of that pattern, and how it is read.
-fn table_of(id: PatternId) -> (Table, Reading)
+fn table_of(id: PatternId) -> (PrintedTable, Reading)
     ensures table { table_read result.1 result.0 ≡ table_of id }
     ensures few { length result.0.rows.now ≤ 8 }
     ensures typed { IsTrue (is_typed (table_of id).rows) }
@@ -115,8 +129,8 @@ mod tests {
     use ts_pattern::{pattern_name, pattern_of};
     use ts_transducer::Row;
 
-    // A pattern, the kinds of its states, the numbers of its residuals and configurations, its partner, and its joins by
-    // the places of the states; counted in the tables.
+    /// A pattern, the kinds of its states, how many residuals and configurations its plan has, its partner, and its
+    /// joins by the places of the states; counted in the tables.
     static SEEDS: &str = "increasing I 2 2 decreasing none
          decreasing I 2 2 increasing none
          steady I 2 2 steady none
@@ -185,7 +199,13 @@ mod tests {
         assert_eq!(rt; words.len(), 132);
         for row in words.chunks(6) {
             if let [pattern, states, residuals, configurations, partner, joins] = row {
-                let seed = seed_by_id(alloc, pattern_of(pattern.as_bytes()).ok_or("a name")?)?;
+                let id = pattern_of(pattern.as_bytes()).ok_or("a name")?;
+                assert_eq!(rt;
+                    transducer_by_id(id).rows().len(),
+                    states.len(),
+                    "{pattern}"
+                );
+                let seed = seed_by_id(alloc, id)?;
                 let plan = &seed.plan;
                 let counted = format!(in alloc;
                     "{} {}",

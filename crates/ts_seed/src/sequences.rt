@@ -1,6 +1,6 @@
 //! Steps and sequences: one sign, or a run of signs that rise or stay; mirrored, those that fall.
 
-use crate::table::Table;
+use crate::table::PrintedTable;
 use ts_base::Kind::{Held, Idle};
 use ts_base::Letter::{Equal, Less};
 use ts_pattern::Tag::{InC, Loose};
@@ -12,7 +12,7 @@ const S: u8 = 0;
 const T: u8 = 1;
 
 /// `increasing`, `<`; mirrored, `decreasing`.
-pub const INCREASING: Table = Table {
+pub const INCREASING: PrintedTable = PrintedTable {
     rows: &[
         (Idle, (FoundE, S), (Out, S), (Out, S)), // s
     ],
@@ -24,7 +24,7 @@ pub const INCREASING: Table = Table {
 };
 
 /// `steady`, `=`.
-pub const STEADY: Table = Table {
+pub const STEADY: PrintedTable = PrintedTable {
     rows: &[
         (Idle, (Out, S), (FoundE, S), (Out, S)), // s
     ],
@@ -36,7 +36,7 @@ pub const STEADY: Table = Table {
 };
 
 /// `increasing_sequence`, `<(<|=)*<|<`; mirrored, `decreasing_sequence`.
-pub const INCREASING_SEQUENCE: Table = Table {
+pub const INCREASING_SEQUENCE: PrintedTable = PrintedTable {
     rows: &[
         (Idle, (Found, T), (Out, S), (Out, S)), // s
         (Held, (Inside, T), (MaybeA, T), (OutA, S)), // t
@@ -50,7 +50,7 @@ pub const INCREASING_SEQUENCE: Table = Table {
 };
 
 /// `strictly_increasing_sequence`, `<+`; mirrored, `strictly_decreasing_sequence`.
-pub const STRICTLY_INCREASING_SEQUENCE: Table = Table {
+pub const STRICTLY_INCREASING_SEQUENCE: PrintedTable = PrintedTable {
     rows: &[
         (Idle, (Found, T), (Out, S), (Out, S)), // s
         (Held, (Inside, T), (OutA, S), (OutA, S)), // t
@@ -63,7 +63,7 @@ pub const STRICTLY_INCREASING_SEQUENCE: Table = Table {
 };
 
 /// `steady_sequence`, `=+`.
-pub const STEADY_SEQUENCE: Table = Table {
+pub const STEADY_SEQUENCE: PrintedTable = PrintedTable {
     rows: &[
         (Idle, (Out, S), (Found, T), (Out, S)), // s
         (Held, (OutA, S), (Inside, T), (OutA, S)), // t

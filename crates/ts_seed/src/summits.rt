@@ -1,6 +1,6 @@
 //! Summits: a rise up to the last sign before the top, and a fall from the first sign after it; mirrored, gorges.
 
-use crate::table::Table;
+use crate::table::PrintedTable;
 use ts_base::Kind::{Held, Idle, Pending};
 use ts_base::Letter::{Equal, Greater, Less};
 use ts_pattern::Tag::{Due, InC, InD, Loose};
@@ -16,7 +16,7 @@ const U: u8 = 2;
 const T: u8 = 3;
 
 /// `summit`, `(<|<(=|<)*<)(>|>(=|>)*>)`; mirrored, `gorge`.
-pub const SUMMIT: Table = Table {
+pub const SUMMIT: PrintedTable = PrintedTable {
     rows: &[
         (Idle, (Out, R), (Out, S), (Out, S)), // s
         (Pending, (MaybeB, R), (MaybeB, U), (Found, T)), // r

@@ -9,12 +9,13 @@ ghost use Rattle.ts_regex.specs.NormalForm.{normal_form};
 ghost use Rattle.ts_transducer.specs.Typing.{is_typed};
 ghost use Rattle.ts_transducer.specs.Rows.{rows_of};
 ghost use Rattle.ts_pattern.specs.Plans.{plain_configuration, plain_plan};
-ghost use Rattle.ts_seed.specs.Written.{row_read, letter_read, origin_read, configuration_of, from_earlier, live_of, table_read};
+ghost use Rattle.ts_seed.specs.Written.{row_read, letter_read, origin_read, configuration_of, from_earlier};
+ghost use Rattle.ts_seed.specs.Written.{live_of, table_read};
 ghost use Rattle.ts_seed.specs.Table.{at, join, plan_of, residuals_from};
 
 use arrayvec::ArrayVec;
 use std::alloc::Global;
-use ts_base::{Join, Kind, Letter, Memory};
+use ts_base::{Join, Kind, Letter, Memory, flip};
 use ts_pattern::{Configuration, Live, Plan, Tag};
 use ts_regex::{Regex, normal, residual};
 use ts_transducer::{Arrow, Phase, Row, Transducer};
@@ -24,7 +25,7 @@ pub type Line = (Kind, (Phase, u8), (Phase, u8), (Phase, u8));
 
 /// A seed as the catalogue prints it, and its plan.
 #[derive(Clone, Copy)]
-pub struct Table {
+pub struct PrintedTable {
     /// One for each state; the first is the start.
     pub rows: &'static [Line],
     /// For each residual but the first, which is the whole pattern: the earlier one and the letter that leave it.
@@ -45,17 +46,17 @@ pub enum Reading {
 }
 
 impl Reading {
+    /// The letter as it is read.
     fn letter(self, letter: Letter) -> Letter
         ensures { result ≡ letter_read self letter }
     {
-        match (self, letter) {
-            (Reading::Printed, letter) => letter,
-            (Reading::Mirrored, Letter::Less) => Letter::Greater,
-            (Reading::Mirrored, Letter::Equal) => Letter::Equal,
-            (Reading::Mirrored, Letter::Greater) => Letter::Less,
+        match self {
+            Reading::Printed => letter,
+            Reading::Mirrored => flip(letter),
         }
     }
 
+    /// The row of a state as it is read.
     fn row(self, line: Line) -> Row
         ensures { result ≡ row_read self line }
     {
@@ -73,6 +74,7 @@ impl Reading {
     }
 }
 
+/// A move as it is written: its phase letter and the next state.
 fn arrow(written: (Phase, u8)) -> Arrow
     ensures { result ≡ record { phase = written.0; next = written.1 } }
 {
@@ -82,7 +84,7 @@ fn arrow(written: (Phase, u8)) -> Arrow
     }
 }
 
-impl Table {
+impl PrintedTable {
     /// The transducer of its rows.
     pub fn transducer(&self, reading: Reading) -> Transducer
         requires few { length self.now.rows.now ≤ 8 }
@@ -128,7 +130,8 @@ fn residuals(
     reading: Reading,
 ) -> Result<Vec<Regex>, Memory>
     requires { IsTrue (from_earlier 1 origins.now) }
-    ensures { IfOk result (λ rs. map (λ r. shape_of r) rs.items ≡ residuals_from (normal_form (shape_of regex.now) ∷ []) (map (λ o. origin_read reading o) origins.now)) }
+    ensures { IfOk result (λ rs. map (λ r. shape_of r) rs.items ≡
+        residuals_from (normal_form (shape_of regex.now) ∷ []) (map (λ o. origin_read reading o) origins.now)) }
 {
     let mut residuals = Vec::new(alloc);
     residuals.push(normal(alloc, regex)?)?;
@@ -153,6 +156,7 @@ fn configurations(
     Ok(configurations)
 }
 
+/// One configuration.
 fn configuration(alloc: Global, state: u8, entries: &[(u32, Tag)]) -> Result<Configuration, Memory>
     ensures { IfOk result (λ c. plain_configuration c ≡ at state entries.now) }
 {
@@ -163,6 +167,7 @@ fn configuration(alloc: Global, state: u8, entries: &[(u32, Tag)]) -> Result<Con
     })
 }
 
+/// The live entries of a configuration.
 fn live(alloc: Global, entries: &[(u32, Tag)]) -> Result<Vec<Live>, Memory>
     ensures { IfOk result (λ es. es.items ≡ map (λ e. live_of e) entries.now) }
 {

@@ -1,6 +1,6 @@
 //! Terraces and proper plateaus: a level part of at least one sign between two others.
 
-use crate::table::Table;
+use crate::table::PrintedTable;
 use ts_base::Kind::{Idle, Pending};
 use ts_base::Letter::{Equal, Greater, Less};
 use ts_pattern::Tag::{Due, InD, Loose};
@@ -14,7 +14,7 @@ const R: u8 = 1;
 const T: u8 = 2;
 
 /// `increasing_terrace`, `<=+<`; mirrored, `decreasing_terrace`.
-pub const INCREASING_TERRACE: Table = Table {
+pub const INCREASING_TERRACE: PrintedTable = PrintedTable {
     rows: &[
         (Idle, (Out, R), (Out, S), (Out, S)), // s
         (Idle, (Out, R), (MaybeB, T), (Out, S)), // r
@@ -35,7 +35,7 @@ pub const INCREASING_TERRACE: Table = Table {
 };
 
 /// `proper_plateau`, `<=+>`; mirrored, `proper_plain`.
-pub const PROPER_PLATEAU: Table = Table {
+pub const PROPER_PLATEAU: PrintedTable = PrintedTable {
     rows: &[
         (Idle, (Out, R), (Out, S), (Out, S)), // s
         (Idle, (Out, R), (MaybeB, T), (Out, S)), // r

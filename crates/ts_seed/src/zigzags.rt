@@ -1,6 +1,6 @@
 //! Zigzags: at least three signs, in turn rising and falling.
 
-use crate::table::Table;
+use crate::table::PrintedTable;
 use ts_base::Kind::{Held, Idle, Pending};
 use ts_base::Letter::{Greater, Less};
 use ts_pattern::Tag::{Due, InC, InD, Loose};
@@ -22,7 +22,7 @@ const E: u8 = 5;
 const F: u8 = 6;
 
 /// `zigzag`, `(<>)+(<|<>)|(><)+(>|><)`.
-pub const ZIGZAG: Table = Table {
+pub const ZIGZAG: PrintedTable = PrintedTable {
     rows: &[
         (Idle, (Out, A), (Out, S), (Out, B)), // s
         (Idle, (Out, A), (Out, S), (MaybeB, C)), // a
