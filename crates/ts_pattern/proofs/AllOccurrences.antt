@@ -36,13 +36,15 @@ each_passes q (e ∷ es) =
     ] refl
 
 -- a place that passes the test stays in the list
-pub one_filter : (q : Place → Bool) (s e : ℕ) (xs : List Place) → q (record { start = s; end = e }) ≡ true → OneOf (IsPlace s e) xs → OneOf (IsPlace s e) (filter q xs)
+pub one_filter : (q : Place → Bool) (s e : ℕ) (xs : List Place) → q (record { start = s; end = e }) ≡ true → OneOf (IsPlace s e) xs →
+    OneOf (IsPlace s e) (filter q xs)
 one_filter q s e [] t h = h
 one_filter q s e (x ∷ xs) t h =
     elim (q x) as (λ b. q x ≡ b → OneOf (IsPlace s e) (cond b (x ∷ filter q xs) (filter q xs))) [
       | true ↦ λ u. ⊎_elim (λ a. inl a) (λ a. inr (one_filter q s e xs t a)) h
       | false ↦ λ u. ⊎_elim
-          (λ a. absurd (let same : x ≡ record { start = s; end = e } = place_is x (record { start = s; end = e }) a.0 a.1 in let v : q x ≡ true = ap q same ∙ t in let bad : true ≡ false = sym v ∙ u in cc))
+          (λ a. absurd (let same : x ≡ record { start = s; end = e } = place_is x (record { start = s; end = e }) a.0 a.1 in let v : q x ≡ true = ap q same
+          ∙ t in let bad : true ≡ false = sym v ∙ u in cc))
           (λ a. one_filter q s e xs t a)
           h
     ] refl
@@ -70,8 +72,11 @@ ordered_append (x ∷ xs) ys h k a = (each_append (After x) xs ys h.0 a.0, order
 -- the places from one start
 pub from_starts : (s e c : ℕ) → Each (λ x. (x.start ≡ s) × (e ≤ x.end)) (places_from s e c)
 from_starts s e zero = tt
-from_starts s e (suc c) =
-    ((refl, omega arith), each_map (λ x. (x.start ≡ s) × (e + 1 ≤ x.end)) (λ x. (x.start ≡ s) × (e ≤ x.end)) (λ x h. (h.0, let k = h.1 in omega arith)) (places_from s (e + 1) c) (from_starts s (e + 1) c))
+from_starts s e (suc c) = (
+  (refl, omega arith),
+  each_map (λ x. (x.start ≡ s) × (e + 1 ≤ x.end)) (λ x. (x.start ≡ s) × (e ≤ x.end)) (λ x h. (h.0, let k = h.1 in omega arith))
+      (places_from s (e + 1) c) (from_starts s (e + 1) c),
+)
 
 pub from_inside : (s e c n : ℕ) → s < e → e + c ≤ n + 1 → Each (λ x. (x.start < x.end) × (x.end ≤ n)) (places_from s e c)
 from_inside s e zero n p q = tt
@@ -79,8 +84,11 @@ from_inside s e (suc c) n p q = ((p, omega arith), from_inside s (e + 1) c n (om
 
 pub from_ordered : (s e c : ℕ) → Ordered (places_from s e c)
 from_ordered s e zero = tt
-from_ordered s e (suc c) =
-    (each_map (λ x. (x.start ≡ s) × (e + 1 ≤ x.end)) (After (record { start = s; end = e })) (λ x h. inr (sym h.0, let k = h.1 in omega arith)) (places_from s (e + 1) c) (from_starts s (e + 1) c), from_ordered s (e + 1) c)
+from_ordered s e (suc c) = (
+  each_map (λ x. (x.start ≡ s) × (e + 1 ≤ x.end)) (After (record { start = s; end = e })) (λ x h. inr (sym h.0, let k = h.1 in omega arith))
+      (places_from s (e + 1) c) (from_starts s (e + 1) c),
+  from_ordered s (e + 1) c,
+)
 
 pub from_has : (s e c k : ℕ) → e ≤ k → k < e + c → OneOf (IsPlace s k) (places_from s e c)
 from_has s e zero k p q = absurd (omega arith)
@@ -95,7 +103,8 @@ pub after_starts : (s c : ℕ) → Each (λ x. s ≤ x.start) (places_after s c)
 after_starts s zero = tt
 after_starts s (suc c) =
     each_append (λ x. s ≤ x.start) (places_from s (s + 1) (suc c)) (places_after (s + 1) c)
-    (each_map (λ x. (x.start ≡ s) × (s + 1 ≤ x.end)) (λ x. s ≤ x.start) (λ x h. let k = h.0 in omega arith) (places_from s (s + 1) (suc c)) (from_starts s (s + 1) (suc c)))
+    (each_map (λ x. (x.start ≡ s) × (s + 1 ≤ x.end)) (λ x. s ≤ x.start) (λ x h. let k = h.0 in omega arith) (places_from s (s + 1) (suc c))
+    (from_starts s (s + 1) (suc c)))
     (each_map (λ x. s + 1 ≤ x.start) (λ x. s ≤ x.start) (λ x h. omega arith) (places_after (s + 1) c) (after_starts (s + 1) c))
 
 pub after_inside : (s c n : ℕ) → s + c ≤ n → Each (λ x. (x.start < x.end) × (x.end ≤ n)) (places_after s c)
@@ -118,7 +127,8 @@ after_has s zero i k p q r = absurd (omega arith)
 after_has s (suc c) i k p q r =
     elim (i == s) as (λ b. i == s ≡ b → OneOf (IsPlace i k) (places_after s (suc c))) [
       | true ↦ λ h. one_left (IsPlace i k) (places_from s (s + 1) (suc c)) (places_after (s + 1) c)
-          (subst (λ j. OneOf (IsPlace j k) (places_from s (s + 1) (suc c))) (sym (same_number i s h)) (from_has s (s + 1) (suc c) k (omega arith) (omega arith)))
+          (subst (λ j. OneOf (IsPlace j k) (places_from s (s + 1) (suc c))) (sym (same_number i s h))
+          (from_has s (s + 1) (suc c) k (omega arith) (omega arith)))
       | false ↦ λ h. one_right (IsPlace i k) (places_from s (s + 1) (suc c)) (places_after (s + 1) c)
           (after_has (s + 1) c i k (let d = other_number i s h in omega arith) q (omega arith))
     ] refl
@@ -130,8 +140,10 @@ each_match p w =
     each_map (λ x. ((x.start < x.end) × (x.end ≤ length w)) × (is_word p (slice_range w x.start x.end) ≡ true)) (λ x. IsMatch p w x.start x.end)
     (λ x h. record { some = h.0.0; inside = h.0.1; word = is_word_to p (slice_range w x.start x.end) h.1 })
     (filter (λ x. is_word p (slice_range w x.start x.end)) (places_after 0 (length w)))
-    (each_and (λ x. (x.start < x.end) × (x.end ≤ length w)) (λ x. is_word p (slice_range w x.start x.end) ≡ true) (filter (λ x. is_word p (slice_range w x.start x.end)) (places_after 0 (length w)))
-    (each_filter (λ x. (x.start < x.end) × (x.end ≤ length w)) (λ x. is_word p (slice_range w x.start x.end)) (places_after 0 (length w)) (after_inside 0 (length w) (length w) (omega arith)))
+    (each_and (λ x. (x.start < x.end) × (x.end ≤ length w)) (λ x. is_word p (slice_range w x.start x.end) ≡ true)
+    (filter (λ x. is_word p (slice_range w x.start x.end)) (places_after 0 (length w)))
+    (each_filter (λ x. (x.start < x.end) × (x.end ≤ length w)) (λ x. is_word p (slice_range w x.start x.end)) (places_after 0 (length w))
+    (after_inside 0 (length w) (length w) (omega arith)))
     (each_passes (λ x. is_word p (slice_range w x.start x.end)) (places_after 0 (length w))))
 
 pub has_match : (p : Shape) (w : List Letter) (s e : ℕ) → IsMatch p w s e → OneOf (IsPlace s e) (match_places p w)
@@ -206,7 +218,8 @@ ordered_occurrences p w =
     (ordered_filter (λ x. is_word p (slice_range w x.start x.end)) (places_after 0 (length w)) (after_ordered 0 (length w)))
 
 -- two occurrences with one start are one
-pub rising_ordered : (p : Shape) (w : List Letter) (low : ℕ) (xs : List Place) → Each (λ x. low ≤ x.start) xs → Ordered xs → Each (λ x. IsOccurrence p w x.start x.end) xs → RisingPlaces low xs
+pub rising_ordered : (p : Shape) (w : List Letter) (low : ℕ) (xs : List Place) → Each (λ x. low ≤ x.start) xs → Ordered xs →
+    Each (λ x. IsOccurrence p w x.start x.end) xs → RisingPlaces low xs
 rising_ordered p w low [] l h o = tt
 rising_ordered p w low (x ∷ xs) l h o = (
   l.0,
@@ -219,14 +232,16 @@ rising_ordered p w low (x ∷ xs) l h o = (
     later : (x y : Place) → IsOccurrence p w x.start x.end → IsOccurrence p w y.start y.end → After x y → x.start + 1 ≤ y.start
     later x y o q h =
         ⊎_elim (λ a. omega arith)
-        (λ a. absurd (let e = same_start_same p w x.start x.end y.end o (subst (λ s. IsOccurrence p w s y.end) (sym a.0) q) (let b = a.1 in omega arith) in let b = a.1 in omega arith))
+        (λ a. absurd (let e = same_start_same p w x.start x.end y.end o (subst (λ s. IsOccurrence p w s y.end) (sym a.0) q) (let b = a.1 in omega arith) in
+        let b = a.1 in omega arith))
         h
 
 -- the list stands in the relation
 pub are_occurrences : (p : Shape) (w : List Letter) → AreOccurrences p w (occurrence_places p w)
 are_occurrences p w =
     record {
-      rising = rising_ordered p w 0 (occurrence_places p w) (each_map (λ x. IsOccurrence p w x.start x.end) (λ x. 0 ≤ x.start) (λ x o. omega arith) (occurrence_places p w) (each_occurrence p w)) (ordered_occurrences p w) (each_occurrence p w);
+      rising = rising_ordered p w 0 (occurrence_places p w) (each_map (λ x. IsOccurrence p w x.start x.end) (λ x. 0 ≤ x.start) (λ x o. omega arith)
+          (occurrence_places p w) (each_occurrence p w)) (ordered_occurrences p w) (each_occurrence p w);
       each = each_occurrence p w;
       all = λ s e o. has_occurrence p w s e o;
     }

@@ -25,14 +25,17 @@ rising_each a [] h = tt
 rising_each a (e ∷ es) h = (h.0, rising_each a es (rising_lower (e.mark + 1) a es (let x = h.0 in omega arith) h.1))
 
 -- the survivors are live after the letter
-pub live_step : {T : Type 0} (t : Residuals Shape) → AreRight t → (p : Shape) (w : List Letter) (l : Letter) (es : List (Entry ℕ Shape T)) → AreLive p w (length w + 1) es → AreLive p (w ++ l ∷ []) (length (w ++ l ∷ [])) (survivors t l es)
+pub live_step : {T : Type 0} (t : Residuals Shape) → AreRight t → (p : Shape) (w : List Letter) (l : Letter) (es : List (Entry ℕ Shape T)) →
+    AreLive p w (length w + 1) es → AreLive p (w ++ l ∷ []) (length (w ++ l ∷ [])) (survivors t l es)
 live_step t f p w l es h =
     let n = length-append w (l ∷ []) in
     record {
       rising = rising_survivors t l 0 es h.rising;
       below = each_survivor t l (λ e. e.mark < length w + 1) (λ e. e.mark < length (w ++ l ∷ [])) (λ e q. omega arith) es h.below;
-      follows = each_survivor t l (λ e. (e.mark < length w + 1) × Follows p w e) (Follows p (w ++ l ∷ [])) (λ e q. follows_step t f p w l e (let x = q.0 in omega arith) q.1) es (each_and (λ e. e.mark < length w + 1) (Follows p w) es h.below h.follows);
-      covered = λ s v q x. covers_survivors t f l s v 0 es h.rising (h.covered s (l ∷ v) (omega arith) (subst (λ y. InLanguage p y) (drop_more w l v s (omega arith)) x));
+      follows = each_survivor t l (λ e. (e.mark < length w + 1) × Follows p w e) (Follows p (w ++ l ∷ []))
+          (λ e q. follows_step t f p w l e (let x = q.0 in omega arith) q.1) es (each_and (λ e. e.mark < length w + 1) (Follows p w) es h.below h.follows);
+      covered = λ s v q x. covers_survivors t f l s v 0 es h.rising (h.covered s (l ∷ v) (omega arith)
+          (subst (λ y. InLanguage p y) (drop_more w l v s (omega arith)) x));
     }
 
 -- the word of a match that ends at the end
@@ -43,21 +46,24 @@ abbrev pub Accepts : {X T : Type 0} → Entry X Shape T → Type 0
 Accepts e = InLanguage e.residual []
 
 -- a match that ends at the last sign leaves an entry that accepts and starts no later
-pub match_kept : {T : Type 0} (p : Shape) (w : List Letter) (l : Letter) (es : List (Entry ℕ Shape T)) → AreLive p (w ++ l ∷ []) (length (w ++ l ∷ [])) es → (s : ℕ) → IsMatch p (w ++ l ∷ []) s (length w + 1) → OneOf (Covers s []) es
+pub match_kept : {T : Type 0} (p : Shape) (w : List Letter) (l : Letter) (es : List (Entry ℕ Shape T)) → AreLive p (w ++ l ∷ []) (length (w ++ l ∷ [])) es →
+    (s : ℕ) → IsMatch p (w ++ l ∷ []) s (length w + 1) → OneOf (Covers s []) es
 match_kept p w l es h s m =
     let n = length-append w (l ∷ []) in
     let c = m.some in
     h.covered s [] (omega arith)
     (subst (λ y. InLanguage p y) (to_the_end (w ++ l ∷ []) s (length w + 1) (omega arith) ∙ sym (append-nil (drop s (w ++ l ∷ [])))) m.word)
 
-pub none_ends : {T : Type 0} (p : Shape) (w : List Letter) (l : Letter) (es : List (Entry ℕ Shape T)) → AreLive p (w ++ l ∷ []) (length (w ++ l ∷ [])) es → (OneOf Accepts es → ⊥) → NoneEnds p w l
+pub none_ends : {T : Type 0} (p : Shape) (w : List Letter) (l : Letter) (es : List (Entry ℕ Shape T)) → AreLive p (w ++ l ∷ []) (length (w ++ l ∷ [])) es →
+    (OneOf Accepts es → ⊥) → NoneEnds p w l
 none_ends p w l es h nil s m = nil (weaken s es (match_kept p w l es h s m))
   where
     weaken : {T : Type 0} (s : ℕ) (es : List (Entry ℕ Shape T)) → OneOf (Covers s []) es → OneOf Accepts es
     weaken s [] h = h
     weaken s (e ∷ es) h = ⊎_elim (λ a. inl a.1) (λ a. inr (weaken s es a)) h
 
-pub least_ends : {T : Type 0} (p : Shape) (w : List Letter) (l : Letter) (e : Entry ℕ Shape T) (es : List (Entry ℕ Shape T)) → AreLive p (w ++ l ∷ []) (length (w ++ l ∷ [])) (e ∷ es) → Accepts e → IsLeastStart p w l e.mark
+pub least_ends : {T : Type 0} (p : Shape) (w : List Letter) (l : Letter) (e : Entry ℕ Shape T) (es : List (Entry ℕ Shape T)) →
+    AreLive p (w ++ l ∷ []) (length (w ++ l ∷ [])) (e ∷ es) → Accepts e → IsLeastStart p w l e.mark
 least_ends p w l e es h a =
     let n = length-append w (l ∷ []) in
     let b = h.below.0 in
@@ -65,7 +71,8 @@ least_ends p w l e es h a =
       is = record {
         some = omega arith;
         inside = omega arith;
-        word = subst (λ y. InLanguage p y) (append-nil (drop e.mark (w ++ l ∷ [])) ∙ sym (to_the_end (w ++ l ∷ []) e.mark (length w + 1) (omega arith))) (h.follows.0.to [] a);
+        word = subst (λ y. InLanguage p y) (append-nil (drop e.mark (w ++ l ∷ [])) ∙ sym (to_the_end (w ++ l ∷ []) e.mark (length w + 1) (omega arith)))
+            (h.follows.0.to [] a);
       };
       least = λ s m. first e s es h.rising.1 (match_kept p w l (e ∷ es) h s m);
     }

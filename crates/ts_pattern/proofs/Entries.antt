@@ -54,7 +54,8 @@ abbrev pub Covers : {T : Type 0} → ℕ → List Letter → Entry ℕ Shape T �
 Covers s v e = (e.mark ≤ s) × InLanguage e.residual v
 
 -- (iii) an entry with a word isn't lost: one that covers as much stays
-pub some_alive : {T : Type 0} (t : Residuals Shape) → AreRight t → (s : ℕ) (v : List Letter) (es : List (Entry ℕ Shape T)) → OneOf (Covers s v) es → OneOf (Covers s v) (alive t es)
+pub some_alive : {T : Type 0} (t : Residuals Shape) → AreRight t → (s : ℕ) (v : List Letter) (es : List (Entry ℕ Shape T)) → OneOf (Covers s v) es →
+    OneOf (Covers s v) (alive t es)
 some_alive t f s v [] h = h
 some_alive t f s v (e ∷ es) h =
     ⊎_elim
@@ -68,25 +69,29 @@ some_alive t f s v (e ∷ es) h =
     ])
     h
 
-pub some_without : {T : Type 0} (t : Residuals Shape) → AreRight t → (s : ℕ) (v : List Letter) (d : Entry ℕ Shape T) (es : List (Entry ℕ Shape T)) → Rising (d.mark + 1) es → OneOf (Covers s v) es → Covers s v d ⊎ OneOf (Covers s v) (without t d.residual es)
+pub some_without : {T : Type 0} (t : Residuals Shape) → AreRight t → (s : ℕ) (v : List Letter) (d : Entry ℕ Shape T) (es : List (Entry ℕ Shape T)) →
+    Rising (d.mark + 1) es → OneOf (Covers s v) es → Covers s v d ⊎ OneOf (Covers s v) (without t d.residual es)
 some_without t f s v d [] r h = inr h
 some_without t f s v d (e ∷ es) r h =
     let deeper : Rising (d.mark + 1) es = rising_lower (e.mark + 1) (d.mark + 1) es (let x = r.0 in omega arith) r.1 in
     ⊎_elim
-    (λ c. elim (t.same d.residual e.residual) as (λ b. t.same d.residual e.residual ≡ b → Covers s v d ⊎ OneOf (Covers s v) (cond (not b) (e ∷ without t d.residual es) (without t d.residual es))) [
+    (λ c. elim (t.same d.residual e.residual) as (λ b. t.same d.residual e.residual ≡ b →
+    Covers s v d ⊎ OneOf (Covers s v) (cond (not b) (e ∷ without t d.residual es) (without t d.residual es))) [
       | true ↦ λ q. inl ((let x = r.0 in let y = c.0 in omega arith), subst (λ z. InLanguage z v) (sym (f.equal d.residual e.residual q)) c.1)
       | false ↦ λ q. inr (inl c)
     ] refl)
     (λ c. ⊎_elim
     (λ k. inl k)
-    (λ k. elim (t.same d.residual e.residual) as (λ b. Covers s v d ⊎ OneOf (Covers s v) (cond (not b) (e ∷ without t d.residual es) (without t d.residual es))) [
+    (λ k. elim (t.same d.residual e.residual) as (λ b. Covers s v d ⊎ OneOf (Covers s v)
+    (cond (not b) (e ∷ without t d.residual es) (without t d.residual es))) [
       | true ↦ inr k
       | false ↦ inr (inr k)
     ])
     (some_without t f s v d es deeper c))
     h
 
-pub some_keep : {T : Type 0} (t : Residuals Shape) → AreRight t → (s : ℕ) (v : List Letter) (a : ℕ) (es : List (Entry ℕ Shape T)) → Rising a es → OneOf (Covers s v) es → OneOf (Covers s v) (keep t es)
+pub some_keep : {T : Type 0} (t : Residuals Shape) → AreRight t → (s : ℕ) (v : List Letter) (a : ℕ) (es : List (Entry ℕ Shape T)) → Rising a es →
+    OneOf (Covers s v) es → OneOf (Covers s v) (keep t es)
 some_keep t f s v a [] r h = h
 some_keep t f s v a (e ∷ es) r h =
     ⊎_elim

@@ -95,3 +95,6 @@ small_before id = (small_trims id).0
 
 pub small_after : (id : PatternId) → pattern_a id ≤ 1
 small_after id = (small_trims id).1
+
+-- what the table of patterns keeps
+pub ruleset of_the_table = (has_long_words, fits_trims, small_before, small_after)

@@ -43,7 +43,8 @@ own_name DipOnIncreasingSequence = refl
 own_name BumpOnDecreasingSequence = refl
 
 -- what a search by name finds has that name, where each finds itself by its own
-pub found_by_name : {A : Type 0} (name : A → List ℕ) (all : List A) → ((x : A) → find (λ y. bytes_eq (name y) (name x)) all ≡ Some x) → (word : List ℕ) (x : A) → (find (λ y. bytes_eq (name y) word) all ≡ Some x) ↔ (name x ≡ word)
+pub found_by_name : {A : Type 0} (name : A → List ℕ) (all : List A) → ((x : A) → find (λ y. bytes_eq (name y) (name x)) all ≡ Some x) →
+    (word : List ℕ) (x : A) → (find (λ y. bytes_eq (name y) word) all ≡ Some x) ↔ (name x ≡ word)
 found_by_name name all own word x = (
   λ h. (bytes_eq-Decides (name x) word).0 (found_passes (λ y. bytes_eq (name y) word) all x h),
   λ h. subst (λ w. find (λ y. bytes_eq (name y) w) all ≡ Some x) h (own x),

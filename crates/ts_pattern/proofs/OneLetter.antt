@@ -76,7 +76,8 @@ some_last p w l m h =
     }
 
 -- an occurrence that begins before it stays one
-pub some_up : (p : Shape) (w : List Letter) (l : Letter) (m : ℕ) → IsLeastStart p w l m → (s e : ℕ) → s < m → IsOccurrence p w s e → IsOccurrence p (w ++ l ∷ []) s e
+pub some_up : (p : Shape) (w : List Letter) (l : Letter) (m : ℕ) → IsLeastStart p w l m → (s e : ℕ) → s < m → IsOccurrence p w s e →
+    IsOccurrence p (w ++ l ∷ []) s e
 some_up p w l m h s e c o =
     record {
       is = match_up p w l s e o.is;
@@ -87,14 +88,16 @@ some_up p w l m h s e c o =
     }
 
 -- each other occurrence of the longer word is one of the word, and begins before it
-pub some_down : (p : Shape) (w : List Letter) (l : Letter) (m : ℕ) → IsLeastStart p w l m → (s e : ℕ) → IsOccurrence p (w ++ l ∷ []) s e → ((s ≡ m) × (e ≡ length w + 1)) ⊎ ((s < m) × IsOccurrence p w s e)
+pub some_down : (p : Shape) (w : List Letter) (l : Letter) (m : ℕ) → IsLeastStart p w l m → (s e : ℕ) → IsOccurrence p (w ++ l ∷ []) s e →
+    ((s ≡ m) × (e ≡ length w + 1)) ⊎ ((s < m) × IsOccurrence p w s e)
 some_down p w l m h s e o =
     ⊎_elim
     (λ q. inr (
       (let n : (m ≤ s) → ⊥ = λ z. (let y = o.maximal m (length w + 1) h.is z (omega arith) in let y1 = y.1 in omega arith) in before m s n),
       record { is = match_down p w l s e q o.is; maximal = λ s' e' x a b. o.maximal s' e' (match_up p w l s' e' x) a b },
     ))
-    (λ q. inl (let k = h.least s (subst (λ y. IsMatch p (w ++ l ∷ []) s y) q o.is) in let y = o.maximal m (length w + 1) h.is k (omega arith) in let y0 = y.0 in (omega arith, q)))
+    (λ q. inl (let k = h.least s (subst (λ y. IsMatch p (w ++ l ∷ []) s y) q o.is) in let y = o.maximal m (length w + 1) h.is k (omega arith) in
+    let y0 = y.0 in (omega arith, q)))
     (old_or_last p w l s e o.is)
   where
     before : (m s : ℕ) → ((m ≤ s) → ⊥) → s < m

@@ -26,7 +26,8 @@ pub rising_left : (a : ℕ) (es fs : List Place) → RisingPlaces a (es ++ fs) �
 rising_left a [] fs h = tt
 rising_left a (x ∷ es) fs h = (h.0, rising_left (x.start + 1) es fs h.1)
 
-pub rising_to : (a m n : ℕ) (es : List Place) → RisingPlaces a es → a ≤ m → Each (λ x. x.start < m) es → RisingPlaces a (es ++ record { start = m; end = n } ∷ [])
+pub rising_to : (a m n : ℕ) (es : List Place) → RisingPlaces a es → a ≤ m → Each (λ x. x.start < m) es →
+    RisingPlaces a (es ++ record { start = m; end = n } ∷ [])
 rising_to a m n [] h q b = (q, tt)
 rising_to a m n (x ∷ es) h q b = (h.0, rising_to (x.start + 1) m n es h.1 (let y = b.0 in omega arith) b.1)
 
@@ -47,16 +48,19 @@ pub occurrences_none : (p : Shape) (w : List Letter) (l : Letter) (ps : List Pla
 occurrences_none p w l ps nil h =
     record {
       rising = h.rising;
-      each = each_map (λ x. IsOccurrence p w x.start x.end) (λ x. IsOccurrence p (w ++ l ∷ []) x.start x.end) (λ x o. none_up p w l nil x.start x.end o) ps h.each;
+      each = each_map (λ x. IsOccurrence p w x.start x.end) (λ x. IsOccurrence p (w ++ l ∷ []) x.start x.end)
+          (λ x o. none_up p w l nil x.start x.end o) ps h.each;
       all = λ s e o. h.all s e (none_down p w l nil s e o);
     }
 
-pub occurrences_some : (p : Shape) (w : List Letter) (l : Letter) (m : ℕ) (old rest : List Place) → IsLeastStart p w l m → AreOccurrences p w (old ++ rest) → Each (λ x. x.start < m) old → Each (λ x. m ≤ x.start) rest → AreOccurrences p (w ++ l ∷ []) (old ++ record { start = m; end = length w + 1 } ∷ [])
+pub occurrences_some : (p : Shape) (w : List Letter) (l : Letter) (m : ℕ) (old rest : List Place) → IsLeastStart p w l m → AreOccurrences p w (old ++ rest) →
+    Each (λ x. x.start < m) old → Each (λ x. m ≤ x.start) rest → AreOccurrences p (w ++ l ∷ []) (old ++ record { start = m; end = length w + 1 } ∷ [])
 occurrences_some p w l m old rest k h b c =
     record {
       rising = rising_to 0 m (length w + 1) old (rising_left 0 old rest h.rising) (omega arith) b;
       each = each_push (λ x. IsOccurrence p (w ++ l ∷ []) x.start x.end) old (record { start = m; end = length w + 1 })
-          (each_map (λ x. (x.start < m) × IsOccurrence p w x.start x.end) (λ x. IsOccurrence p (w ++ l ∷ []) x.start x.end) (λ x o. some_up p w l m k x.start x.end o.0 o.1) old
+          (each_map (λ x. (x.start < m) × IsOccurrence p w x.start x.end) (λ x. IsOccurrence p (w ++ l ∷ []) x.start x.end)
+          (λ x o. some_up p w l m k x.start x.end o.0 o.1) old
           (each_and (λ x. x.start < m) (λ x. IsOccurrence p w x.start x.end) old b (each_left (λ x. IsOccurrence p w x.start x.end) old rest h.each)))
           (some_last p w l m k);
       all = λ s e o. ⊎_elim
@@ -81,19 +85,25 @@ place_is x y q r = ap (λ z. record { start = z; end = x.end }) q ∙ ap (λ z. 
 
 pub later_places : (a : ℕ) (xs : List Place) → RisingPlaces a xs → Each (λ x. a ≤ x.start) xs
 later_places a [] h = tt
-later_places a (x ∷ xs) h = (h.0, each_map (λ y. x.start + 1 ≤ y.start) (λ y. a ≤ y.start) (λ y q. let z = h.0 in omega arith) xs (later_places (x.start + 1) xs h.1))
+later_places a (x ∷ xs) h = (
+  h.0,
+  each_map (λ y. x.start + 1 ≤ y.start) (λ y. a ≤ y.start) (λ y q. let z = h.0 in omega arith) xs
+      (later_places (x.start + 1) xs h.1),
+)
 
 pub is_later : (a s e : ℕ) (xs : List Place) → Each (λ x. a ≤ x.start) xs → OneOf (IsPlace s e) xs → a ≤ s
 is_later a s e [] h k = absurd k
 is_later a s e (x ∷ xs) h k = ⊎_elim (λ q. let y = h.0 in let z = q.0 in omega arith) (λ q. is_later a s e xs h.1 q) k
 
 -- each pair of the one list, all of them above a, stands in the other without its first
-pub in_the_rest : (a : ℕ) (y : Place) (xs ys : List Place) → y.start < a → Each (λ x. a ≤ x.start) xs → Each (λ x. OneOf (IsPlace x.start x.end) (y ∷ ys)) xs → Each (λ x. OneOf (IsPlace x.start x.end) ys) xs
+pub in_the_rest : (a : ℕ) (y : Place) (xs ys : List Place) → y.start < a → Each (λ x. a ≤ x.start) xs → Each (λ x. OneOf (IsPlace x.start x.end) (y ∷ ys)) xs →
+    Each (λ x. OneOf (IsPlace x.start x.end) ys) xs
 in_the_rest a y [] ys q h k = tt
 in_the_rest a y (x ∷ xs) ys q h k =
     (⊎_elim (λ z. absurd (let u = z.0 in let v = h.0 in omega arith)) (λ z. z) k.0, in_the_rest a y xs ys q h.1 k.1)
 
-pub rising_same : (a b : ℕ) (xs ys : List Place) → RisingPlaces a xs → RisingPlaces b ys → Each (λ x. OneOf (IsPlace x.start x.end) ys) xs → Each (λ y. OneOf (IsPlace y.start y.end) xs) ys → xs ≡ ys
+pub rising_same : (a b : ℕ) (xs ys : List Place) → RisingPlaces a xs → RisingPlaces b ys → Each (λ x. OneOf (IsPlace x.start x.end) ys) xs →
+    Each (λ y. OneOf (IsPlace y.start y.end) xs) ys → xs ≡ ys
 rising_same a b [] [] r q h k = refl
 rising_same a b [] (y ∷ ys) r q h k = absurd k.0
 rising_same a b (x ∷ xs) [] r q h k = absurd h.0

@@ -40,31 +40,39 @@ pub alive_renamed : {X Y R S T : Type 0} (t : Residuals R) (u : Residuals S) (f 
 alive_renamed t u f g P l [] h = refl
 alive_renamed t u f g P l (e ∷ es) h =
     map_cond (λ e. renamed f g e) (t.has_word (t.next e.residual l)) (derive_entry t l e) (alive t (derived t l es))
-    ∙ cons_cond (t.has_word (t.next e.residual l)) (u.has_word (u.next (g e.residual) l)) (renamed f g (derive_entry t l e)) (derive_entry u l (renamed f g e)) (map (λ e. renamed f g e) (alive t (derived t l es))) (alive u (derived u l (map (λ e. renamed f g e) es))) h.0.has (λ q. ap (λ z. record { mark = f e.mark; residual = z; tag = e.tag }) (h.0.value q)) (alive_renamed t u f g P l es h.1)
+    ∙ cons_cond (t.has_word (t.next e.residual l)) (u.has_word (u.next (g e.residual) l)) (renamed f g (derive_entry t l e)) (derive_entry u l (renamed f g e))
+    (map (λ e. renamed f g e) (alive t (derived t l es))) (alive u (derived u l (map (λ e. renamed f g e) es))) h.0.has
+    (λ q. ap (λ z. record { mark = f e.mark; residual = z; tag = e.tag }) (h.0.value q)) (alive_renamed t u f g P l es h.1)
 
 pub alive_left : {X R S T : Type 0} (t : Residuals R) (u : Residuals S) (g : R → S) (P : R → Type 0) (l : Letter) (es : List (Entry X R T)) →
     Each (λ e. NextAgrees t u g P l e.residual) es → Each (λ e. P e.residual) (alive t (derived t l es))
 alive_left t u g P l [] h = tt
 alive_left t u g P l (e ∷ es) h = at P (t.has_word (t.next e.residual l)) (derive_entry t l e) (alive t (derived t l es)) h.0.left (alive_left t u g P l es h.1)
   where
-    at : {X R T : Type 0} (P : R → Type 0) (b : Bool) (e : Entry X R T) (es : List (Entry X R T)) → (b ≡ true → P e.residual) → Each (λ e. P e.residual) es → Each (λ e. P e.residual) (cond b (e ∷ es) es)
+    at : {X R T : Type 0} (P : R → Type 0) (b : Bool) (e : Entry X R T) (es : List (Entry X R T)) → (b ≡ true → P e.residual) → Each (λ e. P e.residual) es →
+        Each (λ e. P e.residual) (cond b (e ∷ es) es)
     at P true e es p h = (p refl, h)
     at P false e es p h = h
 
-pub without_renamed : {X Y R S T : Type 0} (t : Residuals R) (u : Residuals S) (f : X → Y) (g : R → S) (P : R → Type 0) → SameAgrees t u g P → (r : R) → P r → (es : List (Entry X R T)) → Each (λ e. P e.residual) es →
+pub without_renamed : {X Y R S T : Type 0} (t : Residuals R) (u : Residuals S) (f : X → Y) (g : R → S) (P : R → Type 0) → SameAgrees t u g P → (r : R) → P r →
+    (es : List (Entry X R T)) → Each (λ e. P e.residual) es →
     map (λ e. renamed f g e) (without t r es) ≡ without u (g r) (map (λ e. renamed f g e) es)
 without_renamed t u f g P s r p [] h = refl
 without_renamed t u f g P s r p (e ∷ es) h =
     map_cond (λ e. renamed f g e) (not (t.same r e.residual)) e (without t r es)
-    ∙ cons_cond (not (t.same r e.residual)) (not (u.same (g r) (g e.residual))) (renamed f g e) (renamed f g e) (map (λ e. renamed f g e) (without t r es)) (without u (g r) (map (λ e. renamed f g e) es)) (ap (λ b. not b) (s r e.residual p h.0)) (λ q. refl) (without_renamed t u f g P s r p es h.1)
+    ∙ cons_cond (not (t.same r e.residual)) (not (u.same (g r) (g e.residual))) (renamed f g e) (renamed f g e) (map (λ e. renamed f g e) (without t r es))
+    (without u (g r) (map (λ e. renamed f g e) es)) (ap (λ b. not b) (s r e.residual p h.0)) (λ q. refl) (without_renamed t u f g P s r p es h.1)
 
-pub keep_renamed : {X Y R S T : Type 0} (t : Residuals R) (u : Residuals S) (f : X → Y) (g : R → S) (P : R → Type 0) → SameAgrees t u g P → (es : List (Entry X R T)) → Each (λ e. P e.residual) es →
+pub keep_renamed : {X Y R S T : Type 0} (t : Residuals R) (u : Residuals S) (f : X → Y) (g : R → S) (P : R → Type 0) → SameAgrees t u g P →
+    (es : List (Entry X R T)) → Each (λ e. P e.residual) es →
     map (λ e. renamed f g e) (keep t es) ≡ keep u (map (λ e. renamed f g e) es)
 keep_renamed t u f g P s [] h = refl
 keep_renamed t u f g P s (e ∷ es) h =
-    ap (λ z. renamed f g e ∷ z) (without_renamed t u f g P s e.residual h.0 (keep t es) (each_keep t (λ e. P e.residual) es h.1) ∙ ap (λ z. without u (g e.residual) z) (keep_renamed t u f g P s es h.1))
+    ap (λ z. renamed f g e ∷ z) (without_renamed t u f g P s e.residual h.0 (keep t es) (each_keep t (λ e. P e.residual) es h.1)
+    ∙ ap (λ z. without u (g e.residual) z) (keep_renamed t u f g P s es h.1))
 
-pub survivors_renamed : {X Y R S T : Type 0} (t : Residuals R) (u : Residuals S) (f : X → Y) (g : R → S) (P : R → Type 0) → SameAgrees t u g P → (l : Letter) (es : List (Entry X R T)) →
+pub survivors_renamed : {X Y R S T : Type 0} (t : Residuals R) (u : Residuals S) (f : X → Y) (g : R → S) (P : R → Type 0) → SameAgrees t u g P →
+    (l : Letter) (es : List (Entry X R T)) →
     Each (λ e. NextAgrees t u g P l e.residual) es → map (λ e. renamed f g e) (survivors t l es) ≡ survivors u l (map (λ e. renamed f g e) es)
 survivors_renamed t u f g P s l es h =
     keep_renamed t u f g P s (alive t (derived t l es)) (alive_left t u g P l es h) ∙ ap (λ z. keep u z) (alive_renamed t u f g P l es h)
@@ -73,9 +81,11 @@ pub survivors_left : {X R S T : Type 0} (t : Residuals R) (u : Residuals S) (g :
     Each (λ e. NextAgrees t u g P l e.residual) es → Each (λ e. P e.residual) (survivors t l es)
 survivors_left t u g P l es h = each_keep t (λ e. P e.residual) (alive t (derived t l es)) (alive_left t u g P l es h)
 
-pub retag_renamed : {X Y R S : Type 0} (f : X → Y) (g : R → S) (p : Phase) (free : Bool) (es : List (Entry X R Tag)) → map (λ e. renamed f g e) (retag p free es) ≡ retag p free (map (λ e. renamed f g e) es)
+pub retag_renamed : {X Y R S : Type 0} (f : X → Y) (g : R → S) (p : Phase) (free : Bool) (es : List (Entry X R Tag)) →
+    map (λ e. renamed f g e) (retag p free es) ≡ retag p free (map (λ e. renamed f g e) es)
 retag_renamed f g p free [] = refl
-retag_renamed f g p free (e ∷ es) = ap (λ z. record { mark = f e.mark; residual = g e.residual; tag = tag_after p free e.tag } ∷ z) (retag_renamed f g p free es)
+retag_renamed f g p free (e ∷ es) = ap (λ z. record { mark = f e.mark; residual = g e.residual; tag = tag_after p free e.tag } ∷ z)
+    (retag_renamed f g p free es)
 
 pub no_ind_renamed : {X Y R S : Type 0} (f : X → Y) (g : R → S) (es : List (Entry X R Tag)) → no_ind (map (λ e. renamed f g e) es) ≡ no_ind es
 no_ind_renamed f g [] = refl
@@ -85,7 +95,8 @@ any_renamed : {A B : Type 0} (p : A → Bool) (q : B → Bool) (h : A → B) (xs
 any_renamed p q h [] e = refl
 any_renamed p q h (x ∷ xs) e = ap (λ z. z || list_any p xs) e.0 ∙ ap (λ z. q (h x) || z) (any_renamed p q h xs e.1)
 
-first_renamed : {A B : Type 0} (p : A → Bool) (q : B → Bool) (h : A → B) (xs : List A) → Each (λ x. p x ≡ q (h x)) xs → first_passes p xs ≡ first_passes q (map h xs)
+first_renamed : {A B : Type 0} (p : A → Bool) (q : B → Bool) (h : A → B) (xs : List A) → Each (λ x. p x ≡ q (h x)) xs →
+    first_passes p xs ≡ first_passes q (map h xs)
 first_renamed p q h [] e = refl
 first_renamed p q h (x ∷ xs) e = e.0
 
@@ -98,29 +109,42 @@ pub record WordsAgree {R S : Type 0} (t : Residuals R) (u : Residuals S) (g : R 
   pub nullable : t.nullable r ≡ u.nullable (g r)
   pub longer : t.has_longer r ≡ u.has_longer (g r)
 
-pub agree_renamed : {X Y R S : Type 0} (t : Residuals R) (u : Residuals S) (f : X → Y) (g : R → S) (p : Phase) (k : Kind) (free : Bool) (es : List (Entry X R Tag)) →
+pub agree_renamed : {X Y R S : Type 0} (t : Residuals R) (u : Residuals S) (f : X → Y) (g : R → S) (p : Phase) (k : Kind) (free : Bool)
+    (es : List (Entry X R Tag)) →
     Each (λ e. WordsAgree t u g e.residual) es → entries_agree t p k free es ≡ entries_agree u p k free (map (λ e. renamed f g e) es)
 agree_renamed {X} {Y} {R} {S} t u f g p k free es h =
     let ren : Entry X R Tag → Entry Y S Tag = λ e. renamed f g e in
     let fs = map ren es in
-    let nullable_any : list_any (λ (e : Entry X R Tag). t.nullable e.residual) es ≡ list_any (λ (e : Entry Y S Tag). u.nullable e.residual) fs = any_renamed (λ e. t.nullable e.residual) (λ e. u.nullable e.residual) ren es (words_nullable t u g es h) in
-    let nullable_first : first_passes (λ (e : Entry X R Tag). t.nullable e.residual) es ≡ first_passes (λ (e : Entry Y S Tag). u.nullable e.residual) fs = first_renamed (λ e. t.nullable e.residual) (λ e. u.nullable e.residual) ren es (words_nullable t u g es h) in
+    let nullable_any : list_any (λ (e : Entry X R Tag). t.nullable e.residual) es ≡ list_any (λ (e : Entry Y S Tag). u.nullable e.residual) fs =
+    any_renamed (λ e. t.nullable e.residual) (λ e. u.nullable e.residual) ren es (words_nullable t u g es h) in
+    let nullable_first : first_passes (λ (e : Entry X R Tag). t.nullable e.residual) es ≡ first_passes (λ (e : Entry Y S Tag). u.nullable e.residual) fs =
+    first_renamed (λ e. t.nullable e.residual) (λ e. u.nullable e.residual) ren es (words_nullable t u g es h) in
     let a : acceptance_agrees t p es ≡ acceptance_agrees u p fs =
     ap (λ z. implies z (is_match p) && implies (is_match p) (first_passes (λ e. t.nullable e.residual) es)) nullable_any
     ∙ ap (λ z. implies (list_any (λ e. u.nullable e.residual) fs) (is_match p) && implies (is_match p) z) nullable_first in
-    let b : find_starts_right p free es ≡ find_starts_right p free fs = ap (λ z. implies (is_find p) z) (first_renamed (λ e. is_ind e.tag || (is_due e.tag && free)) (λ e. is_ind e.tag || (is_due e.tag && free)) ren es (each_same (λ e. is_ind e.tag || (is_due e.tag && free)) es)) in
-    let c : early_find_ends t p es ≡ early_find_ends u p fs = ap (λ z. implies (is_found_e p) z) (first_renamed (λ e. not (t.has_longer e.residual)) (λ e. not (u.has_longer e.residual)) ren es (words_longer t u g es h)) in
+    let b : find_starts_right p free es ≡ find_starts_right p free fs = ap (λ z. implies (is_find p) z)
+    (first_renamed (λ e. is_ind e.tag || (is_due e.tag && free)) (λ e. is_ind e.tag || (is_due e.tag && free)) ren es
+    (each_same (λ e. is_ind e.tag || (is_due e.tag && free)) es)) in
+    let c : early_find_ends t p es ≡ early_find_ends u p fs = ap (λ z. implies (is_found_e p) z)
+    (first_renamed (λ e. not (t.has_longer e.residual)) (λ e. not (u.has_longer e.residual)) ren es (words_longer t u g es h)) in
     let d : held_start_first p k free es ≡ held_start_first p k free fs =
-    ap (λ z. implies (is_held k) z && implies (is_out_a p) (not (list_any (λ e. is_inc e.tag) es))) (first_renamed (λ e. is_inc (tag_after p free e.tag)) (λ e. is_inc (tag_after p free e.tag)) ren es (each_same (λ e. is_inc (tag_after p free e.tag)) es))
-    ∙ ap (λ z. implies (is_held k) (first_passes (λ e. is_inc (tag_after p free e.tag)) fs) && implies (is_out_a p) (not z)) (any_renamed (λ e. is_inc e.tag) (λ e. is_inc e.tag) ren es (each_same (λ e. is_inc e.tag) es)) in
-    let i : pending_keeps_start p free es ≡ pending_keeps_start p free fs = ap (λ z. implies (is_maybe_b p) z) (any_renamed (λ e. is_ind (tag_after p free e.tag)) (λ e. is_ind (tag_after p free e.tag)) ren es (each_same (λ e. is_ind (tag_after p free e.tag)) es)) in
+    ap (λ z. implies (is_held k) z && implies (is_out_a p) (not (list_any (λ e. is_inc e.tag) es)))
+    (first_renamed (λ e. is_inc (tag_after p free e.tag)) (λ e. is_inc (tag_after p free e.tag)) ren es
+    (each_same (λ e. is_inc (tag_after p free e.tag)) es))
+    ∙ ap (λ z. implies (is_held k) (first_passes (λ e. is_inc (tag_after p free e.tag)) fs) && implies (is_out_a p) (not z))
+    (any_renamed (λ e. is_inc e.tag) (λ e. is_inc e.tag) ren es (each_same (λ e. is_inc e.tag) es)) in
+    let i : pending_keeps_start p free es ≡ pending_keeps_start p free fs =
+    ap (λ z. implies (is_maybe_b p) z) (any_renamed (λ e. is_ind (tag_after p free e.tag)) (λ e. is_ind (tag_after p free e.tag)) ren es
+    (each_same (λ e. is_ind (tag_after p free e.tag)) es)) in
     five a b c d i
   where
-    words_nullable : {X R S : Type 0} (t : Residuals R) (u : Residuals S) (g : R → S) (es : List (Entry X R Tag)) → Each (λ e. WordsAgree t u g e.residual) es → Each (λ e. t.nullable e.residual ≡ u.nullable (g e.residual)) es
+    words_nullable : {X R S : Type 0} (t : Residuals R) (u : Residuals S) (g : R → S) (es : List (Entry X R Tag)) →
+        Each (λ e. WordsAgree t u g e.residual) es → Each (λ e. t.nullable e.residual ≡ u.nullable (g e.residual)) es
     words_nullable t u g [] h = tt
     words_nullable t u g (e ∷ es) h = (h.0.nullable, words_nullable t u g es h.1)
 
-    words_longer : {X R S : Type 0} (t : Residuals R) (u : Residuals S) (g : R → S) (es : List (Entry X R Tag)) → Each (λ e. WordsAgree t u g e.residual) es → Each (λ e. not (t.has_longer e.residual) ≡ not (u.has_longer (g e.residual))) es
+    words_longer : {X R S : Type 0} (t : Residuals R) (u : Residuals S) (g : R → S) (es : List (Entry X R Tag)) → Each (λ e. WordsAgree t u g e.residual) es →
+        Each (λ e. not (t.has_longer e.residual) ≡ not (u.has_longer (g e.residual))) es
     words_longer t u g [] h = tt
     words_longer t u g (e ∷ es) h = (ap (λ z. not z) h.0.longer, words_longer t u g es h.1)
 

@@ -44,7 +44,8 @@ tag_is Loose InD q = absurd (false≢true q)
 tag_is Loose InC q = absurd (false≢true q)
 
 -- what the test of residuals says of two entries
-pub live_is : {R : Type 0} (t : Residuals R) → ((r s : R) → t.same r s ≡ true → r ≡ s) → (es fs : List (Entry (Unit {0}) R Tag)) → same_live t es fs ≡ true → es ≡ fs
+pub live_is : {R : Type 0} (t : Residuals R) → ((r s : R) → t.same r s ≡ true → r ≡ s) → (es fs : List (Entry (Unit {0}) R Tag)) → same_live t es fs ≡ true →
+    es ≡ fs
 live_is t r [] [] q = refl
 live_is t r [] (f ∷ fs) q = absurd (false≢true q)
 live_is t r (e ∷ es) [] q = absurd (false≢true q)
@@ -55,22 +56,28 @@ live_is t r (e ∷ es) (f ∷ fs) q =
     ∙ ap (λ z. record { mark = tt; residual = f.residual; tag = z } ∷ es) (tag_is e.tag f.tag k.0)
     ∙ ap (λ z. f ∷ z) (live_is t r es fs k.1)
 
-pub configuration_is : {R : Type 0} (t : Residuals R) → ((r s : R) → t.same r s ≡ true → r ≡ s) → (x y : PlainConfiguration R) → same_configuration t x y ≡ true → x ≡ y
+pub configuration_is : {R : Type 0} (t : Residuals R) → ((r s : R) → t.same r s ≡ true → r ≡ s) → (x y : PlainConfiguration R) →
+    same_configuration t x y ≡ true → x ≡ y
 configuration_is t r x y q =
     let h = and_parts (x.state == y.state) (same_live t x.live y.live) q in
-    ap (λ z. record { state = z; live = x.live }) (eqb-true x.state y.state h.0) ∙ ap (λ z. record { state = y.state; live = z }) (live_is t r x.live y.live h.1)
+    ap (λ z. record { state = z; live = x.live }) (eqb-true x.state y.state h.0)
+    ∙ ap (λ z. record { state = y.state; live = z }) (live_is t r x.live y.live h.1)
 
 -- some configuration of the list is y
-listed_one : {R : Type 0} (t : Residuals R) → ((r s : R) → t.same r s ≡ true → r ≡ s) → (xs : List (PlainConfiguration R)) (y : PlainConfiguration R) → list_any (λ x. same_configuration t x y) xs ≡ true → OneOf (λ x. x ≡ y) xs
+listed_one : {R : Type 0} (t : Residuals R) → ((r s : R) → t.same r s ≡ true → r ≡ s) → (xs : List (PlainConfiguration R)) (y : PlainConfiguration R) →
+    list_any (λ x. same_configuration t x y) xs ≡ true → OneOf (λ x. x ≡ y) xs
 listed_one t r [] y q = absurd (false≢true q)
-listed_one t r (x ∷ xs) y q = go (same_configuration t x y) (list_any (λ x. same_configuration t x y) xs) (configuration_is t r x y) (listed_one t r xs y) refl q
+listed_one t r (x ∷ xs) y q = go (same_configuration t x y) (list_any (λ x. same_configuration t x y) xs) (configuration_is t r x y)
+    (listed_one t r xs y) refl q
   where
-    go : (b c : Bool) → (same_configuration t x y ≡ true → x ≡ y) → (c ≡ true → OneOf (λ x. x ≡ y) xs) → same_configuration t x y ≡ b → b || c ≡ true → (x ≡ y) ⊎ OneOf (λ x. x ≡ y) xs
+    go : (b c : Bool) → (same_configuration t x y ≡ true → x ≡ y) → (c ≡ true → OneOf (λ x. x ≡ y) xs) → same_configuration t x y ≡ b → b || c ≡ true →
+        (x ≡ y) ⊎ OneOf (λ x. x ≡ y) xs
     go true c here there p h = inl (here p)
     go false c here there p h = inr (there h)
 
 -- the first configuration is the start with no entry
-first_blank : (rs : List Shape) (xs : List (PlainConfiguration ℕ)) → first_passes (λ x. is_blank x) xs ≡ true → OneOf (λ y. y ≡ record { state = 0; live = [] }) (map (λ x. valued rs x) xs)
+first_blank : (rs : List Shape) (xs : List (PlainConfiguration ℕ)) → first_passes (λ x. is_blank x) xs ≡ true →
+    OneOf (λ y. y ≡ record { state = 0; live = [] }) (map (λ x. valued rs x) xs)
 first_blank rs [] q = false≢true q
 first_blank rs (x ∷ xs) q =
     let h = and_parts (x.state == 0) (is_empty x.live) q in
@@ -81,22 +88,31 @@ first_blank rs (x ∷ xs) q =
     gone (e ∷ es) q = absurd (false≢true q)
 
 -- each reached configuration is listed
-reached_listed : (rows : List Row) (p : Shape) (b : ℕ) (plan : PlainPlan) → is_plan_of p plan ≡ true → (w : List Letter) (x : PlainConfiguration Shape) → LeadsTo (subject rows p b plan) w x → OneOf (λ y. y ≡ x) (subject rows p b plan).configurations
+reached_listed : (rows : List Row) (p : Shape) (b : ℕ) (plan : PlainPlan) → is_plan_of p plan ≡ true → (w : List Letter) (x : PlainConfiguration Shape) →
+    LeadsTo (subject rows p b plan) w x → OneOf (λ y. y ≡ x) (subject rows p b plan).configurations
 reached_listed rows p b plan f w x (FromStart w' x' e q) =
-    subst (λ z. OneOf (λ y. y ≡ z) (subject rows p b plan).configurations) (sym q) (first_blank plan.residuals plan.configurations (and_parts (first_passes (λ x. is_blank x) plan.configurations) _ (and_parts _ _ f).1).0)
+    subst (λ z. OneOf (λ y. y ≡ z) (subject rows p b plan).configurations) (sym q)
+    (first_blank plan.residuals plan.configurations (and_parts (first_passes (λ x. is_blank x) plan.configurations) _ (and_parts _ _ f).1).0)
 reached_listed rows p b plan f w x (OneStepOn v w' y x' l h s e q) =
-    subst (λ z. OneOf (λ y. y ≡ z) (subject rows p b plan).configurations) (sym q) (listed_one shapes shapes_right.equal (subject rows p b plan).configurations (stepped (subject rows p b plan) y l) s)
+    subst (λ z. OneOf (λ y. y ≡ z) (subject rows p b plan).configurations) (sym q)
+    (listed_one shapes shapes_right.equal (subject rows p b plan).configurations (stepped (subject rows p b plan) y l) s)
 
-meets_one : {R : Type 0} (s : Subject R) (xs : List (PlainConfiguration R)) → list_all (λ x. meets_checks s x Less && (meets_checks s x Equal && meets_checks s x Greater)) xs ≡ true → (x : PlainConfiguration R) → OneOf (λ y. y ≡ x) xs → (l : Letter) → meets_checks s x l ≡ true
+meets_one : {R : Type 0} (s : Subject R) (xs : List (PlainConfiguration R)) →
+    list_all (λ x. meets_checks s x Less && (meets_checks s x Equal && meets_checks s x Greater)) xs ≡ true → (x : PlainConfiguration R) →
+    OneOf (λ y. y ≡ x) xs → (l : Letter) → meets_checks s x l ≡ true
 meets_one s [] h x o l = absurd o
 meets_one {R} s (y ∷ xs) h x o l =
-    let k = and_parts (meets_checks s y Less && (meets_checks s y Equal && meets_checks s y Greater)) (list_all (λ x. meets_checks s x Less && (meets_checks s x Equal && meets_checks s x Greater)) xs) h in
+    let k = and_parts (meets_checks s y Less && (meets_checks s y Equal && meets_checks s y Greater))
+    (list_all (λ x. meets_checks s x Less && (meets_checks s x Equal && meets_checks s x Greater)) xs) h in
     ⊎_elim (λ q. subst (λ z. meets_checks s z l ≡ true) q (three y k.0 l)) (λ q. meets_one s xs k.1 x q l) o
   where
-    three : (y : PlainConfiguration R) → meets_checks s y Less && (meets_checks s y Equal && meets_checks s y Greater) ≡ true → (l : Letter) → meets_checks s y l ≡ true
+    three : (y : PlainConfiguration R) → meets_checks s y Less && (meets_checks s y Equal && meets_checks s y Greater) ≡ true → (l : Letter) →
+        meets_checks s y l ≡ true
     three y h Less = (and_parts (meets_checks s y Less) (meets_checks s y Equal && meets_checks s y Greater) h).0
-    three y h Equal = (and_parts (meets_checks s y Equal) (meets_checks s y Greater) (and_parts (meets_checks s y Less) (meets_checks s y Equal && meets_checks s y Greater) h).1).0
-    three y h Greater = (and_parts (meets_checks s y Equal) (meets_checks s y Greater) (and_parts (meets_checks s y Less) (meets_checks s y Equal && meets_checks s y Greater) h).1).1
+    three y h Equal = (and_parts (meets_checks s y Equal) (meets_checks s y Greater)
+        (and_parts (meets_checks s y Less) (meets_checks s y Equal && meets_checks s y Greater) h).1).0
+    three y h Greater = (and_parts (meets_checks s y Equal) (meets_checks s y Greater)
+        (and_parts (meets_checks s y Less) (meets_checks s y Equal && meets_checks s y Greater) h).1).1
 
 -- the test implies Closed
 pub closed_by_test : (rows : List Row) (p : Shape) (b : ℕ) (plan : PlainPlan) → is_closed rows p b plan ≡ true → IsClosed (subject rows p b plan)

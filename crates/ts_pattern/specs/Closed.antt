@@ -1,6 +1,6 @@
 -- A plan against a transducer: the step of a configuration on a letter, the six checks of that step, and Closed.
--- Where a plan is closed, the transducer finds the occurrences of the pattern. R is what a residual is: an expression in
--- every contract, and its number in the plan where a plan is tested; X is what an entry says of its start.
+-- Where a plan is closed, the transducer finds the occurrences of the pattern. R is what a residual is: an expression
+-- in every contract, and its number in the plan where a plan is tested; X is what an entry says of its start.
 use Rattle.std.specs.Prelude.{◌≡◌, ℕ, zero, suc, Bool, true, false, not, ◌&&◌, ◌||◌, ◌==◌, IsTrue, List, [], ◌∷◌, ◌++◌, map}
 use Rattle.std.specs.List.{list_all, list_any}
 use Rattle.ts_base.specs.declared.letter.Letter.{Letter}
@@ -205,7 +205,8 @@ meets_checks s x l =
 
 -- the signs w lead from the start, over listed steps, to x
 pub data LeadsTo {R : Type 0} (s : Subject R) : List Letter → PlainConfiguration R → Type 0 where
-  FromStart : (w : List Letter) (x : PlainConfiguration R) → w ≡ [] → x ≡ record { state = 0; live = [] } → LeadsTo s w x
+  FromStart : (w : List Letter) (x : PlainConfiguration R) →
+      w ≡ [] → x ≡ record { state = 0; live = [] } → LeadsTo s w x
   OneStepOn : (v w : List Letter) (x y : PlainConfiguration R) (l : Letter) →
       LeadsTo s v x → IsTrue (step_listed s x l) → w ≡ v ++ l ∷ [] → y ≡ stepped s x l → LeadsTo s w y
 

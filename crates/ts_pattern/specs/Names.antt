@@ -34,7 +34,11 @@ pattern_name BumpOnDecreasingSequence = codes "bump_on_decreasing_sequence"
 
 -- the patterns in their order
 abbrev pub all_patterns : List PatternId
-all_patterns = Increasing ∷ Decreasing ∷ Steady ∷ IncreasingSequence ∷ DecreasingSequence ∷ StrictlyIncreasingSequence ∷ StrictlyDecreasingSequence ∷ SteadySequence ∷ IncreasingTerrace ∷ DecreasingTerrace ∷ Inflexion ∷ Peak ∷ Valley ∷ Plateau ∷ Plain ∷ ProperPlateau ∷ ProperPlain ∷ Summit ∷ Gorge ∷ Zigzag ∷ DipOnIncreasingSequence ∷ BumpOnDecreasingSequence ∷ []
+all_patterns =
+    Increasing ∷ Decreasing ∷ Steady
+    ∷ IncreasingSequence ∷ DecreasingSequence ∷ StrictlyIncreasingSequence ∷ StrictlyDecreasingSequence ∷ SteadySequence
+    ∷ IncreasingTerrace ∷ DecreasingTerrace ∷ Inflexion ∷ Peak ∷ Valley ∷ Plateau ∷ Plain ∷ ProperPlateau ∷ ProperPlain
+    ∷ Summit ∷ Gorge ∷ Zigzag ∷ DipOnIncreasingSequence ∷ BumpOnDecreasingSequence ∷ []
 
 abbrev pub feature_name : Feature → List ℕ
 feature_name One = codes "one"

@@ -32,4 +32,5 @@ e_range b a x = record { first = x.start + 1 + b; last = x.end + 1 - a }
 
 -- the e-ranges of the occurrences, by rising start
 abbrev pub AreRanges : Shape → ℕ → ℕ → List Letter → List Range → Type 0
-AreRanges p b a w ranges = (places : List Place) × AreOccurrences p w places × (ranges ≡ map (λ x. e_range b a x) places)
+AreRanges p b a w ranges =
+    (places : List Place) × AreOccurrences p w places × (ranges ≡ map (λ x. e_range b a x) places)

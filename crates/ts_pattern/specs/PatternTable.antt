@@ -15,7 +15,8 @@ plus r = Concat r (Repeat r)
 
 -- u(u|=)*u|u
 abbrev pub sequence : Letter → Shape
-sequence u = Union (Concat (OneLetter u) (Concat (Repeat (Union (OneLetter u) (OneLetter Equal))) (OneLetter u))) (OneLetter u)
+sequence u =
+    Union (Concat (OneLetter u) (Concat (Repeat (Union (OneLetter u) (OneLetter Equal))) (OneLetter u))) (OneLetter u)
 
 -- u=+u
 abbrev pub terrace : Letter → Shape
@@ -28,7 +29,9 @@ turn u d = Concat (OneLetter u) (Concat (Repeat (Union (OneLetter u) (OneLetter 
 -- u(=|u)*(d|=)*d
 abbrev pub peak : Letter → Letter → Shape
 peak u d =
-    Concat (OneLetter u) (Concat (Repeat (Union (OneLetter Equal) (OneLetter u))) (Concat (Repeat (Union (OneLetter d) (OneLetter Equal))) (OneLetter d)))
+    Concat (OneLetter u)
+    (Concat (Repeat (Union (OneLetter Equal) (OneLetter u)))
+    (Concat (Repeat (Union (OneLetter d) (OneLetter Equal))) (OneLetter d)))
 
 -- u=*d
 abbrev pub plateau : Letter → Letter → Shape
@@ -40,7 +43,8 @@ proper_plateau u d = Concat (OneLetter u) (Concat (plus (OneLetter Equal)) (OneL
 
 -- u|u(=|u)*u
 abbrev pub slope : Letter → Shape
-slope u = Union (OneLetter u) (Concat (OneLetter u) (Concat (Repeat (Union (OneLetter Equal) (OneLetter u))) (OneLetter u)))
+slope u =
+    Union (OneLetter u) (Concat (OneLetter u) (Concat (Repeat (Union (OneLetter Equal) (OneLetter u))) (OneLetter u)))
 
 -- (u|u(=|u)*u)(d|d(=|d)*d)
 abbrev pub summit : Letter → Letter → Shape

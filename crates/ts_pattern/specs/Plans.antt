@@ -23,7 +23,11 @@ abbrev pub plain_configuration : Configuration → PlainConfiguration ℕ
 plain_configuration x = record { state = x.state; live = map (λ e. plain_live e) x.live.items }
 
 abbrev pub plain_plan : Plan → PlainPlan
-plain_plan plan = record { residuals = map (λ r. shape_of r) plan.residuals.items; configurations = map (λ x. plain_configuration x) plan.configurations.items }
+plain_plan plan =
+    record {
+      residuals = map (λ r. shape_of r) plan.residuals.items;
+      configurations = map (λ x. plain_configuration x) plan.configurations.items;
+    }
 
 -- the residual of a number
 abbrev pub shape_at : List Shape → ℕ → Shape
@@ -41,7 +45,13 @@ valued rs x = record { state = x.state; live = map (λ e. valued_entry rs e) x.l
 -- rows against a pattern (its expression p and its trim b) by a plan
 abbrev pub subject : List Row → Shape → ℕ → PlainPlan → Subject Shape
 subject rows p b plan =
-    record { rows = rows; trim = b; whole = normal_form p; configurations = map (λ x. valued plan.residuals x) plan.configurations; on = shapes }
+    record {
+      rows = rows;
+      trim = b;
+      whole = normal_form p;
+      configurations = map (λ x. valued plan.residuals x) plan.configurations;
+      on = shapes;
+    }
 
 abbrev pub is_empty : {A : Type 0} → List A → Bool
 is_empty [] = true
@@ -59,7 +69,8 @@ is_plan_of p plan =
 
 -- each configuration that is listed meets the checks
 abbrev pub all_meet : {R : Type 0} → Subject R → Bool
-all_meet s = list_all (λ x. meets_checks s x Less && (meets_checks s x Equal && meets_checks s x Greater)) s.configurations
+all_meet s =
+    list_all (λ x. meets_checks s x Less && (meets_checks s x Equal && meets_checks s x Greater)) s.configurations
 
 -- a test of Closed that computes
 abbrev pub is_closed : List Row → Shape → ℕ → PlainPlan → Bool

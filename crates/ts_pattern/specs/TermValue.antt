@@ -9,7 +9,7 @@ use Rattle.ts_base.specs.Signature.{signature_of}
 use Rattle.ts_pattern.specs.declared.name.Aggregator.{Aggregator}
 use Rattle.ts_pattern.specs.declared.name.Aggregator.TheVariants.{Sum, Max, Min}
 use Rattle.ts_pattern.specs.declared.name.Feature.{Feature}
-use Rattle.ts_pattern.specs.declared.name.Feature.TheVariants.{One, Width, Surf, Max as MaxFeature, Min as MinFeature}
+use Rattle.ts_pattern.specs.declared.name.Feature.TheVariants.{Width}
 use Rattle.ts_pattern.specs.declared.name.PatternId.{PatternId}
 use Rattle.ts_pattern.specs.declared.term.Term.{Term}
 use Rattle.ts_pattern.specs.PatternTable.{pattern_shape, pattern_b, pattern_a}
@@ -24,16 +24,10 @@ joined Min x y = int_min x y
 -- the value without an occurrence, in a series of n cells
 abbrev pub value_of_none : Aggregator → Feature → ℕ → Ext
 value_of_none Sum f n = Int (pos 0)
-value_of_none Max One n = NegInf
 value_of_none Max Width n = Int (pos 0)
-value_of_none Max Surf n = NegInf
-value_of_none Max MaxFeature n = NegInf
-value_of_none Max MinFeature n = NegInf
-value_of_none Min One n = PosInf
+value_of_none Max f n = NegInf
 value_of_none Min Width n = Int (pos n)
-value_of_none Min Surf n = PosInf
-value_of_none Min MaxFeature n = PosInf
-value_of_none Min MinFeature n = PosInf
+value_of_none Min f n = PosInf
 
 -- a number, or in its place the value for none
 abbrev pub or_none : Ext → Option ℤ → Ext
@@ -46,10 +40,12 @@ aggregate g none_value values = or_none none_value (over (joined g) values)
 
 -- of the e-ranges of all occurrences
 abbrev pub aggregate_of_ranges : Aggregator → Feature → List Range → List ℤ → Ext
-aggregate_of_ranges g f ranges xs = aggregate g (value_of_none g f (length xs)) (map (λ r. feature_value f r xs) ranges)
+aggregate_of_ranges g f ranges xs =
+    aggregate g (value_of_none g f (length xs)) (map (λ r. feature_value f r xs) ranges)
 
 unfoldable pub value_of : Aggregator → Feature → PatternId → List ℤ → Ext
-value_of g f id xs = aggregate_of_ranges g f (occurrence_ranges (pattern_shape id) (pattern_b id) (pattern_a id) (signature_of xs)) xs
+value_of g f id xs =
+    aggregate_of_ranges g f (occurrence_ranges (pattern_shape id) (pattern_b id) (pattern_a id) (signature_of xs)) xs
 
 abbrev pub term_value : Term → List ℤ → Ext
 term_value t xs = value_of t.aggregator t.feature t.pattern xs

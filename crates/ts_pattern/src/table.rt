@@ -17,7 +17,7 @@ use ts_regex::regex::{alt, cat, star};
 
 /// The pattern of that name: its expression and trims (Global Constraint Catalog, Volume II).
 /// Each of its words has at least `b + a` letters, and at least one; `b` is at most 2, and `a` at most 1.
-#[tactic(auto, using(crate::proofs::LeastLength::has_long_words, crate::proofs::LeastLength::fits_trims, crate::proofs::LeastLength::small_before, crate::proofs::LeastLength::small_after))]
+#[tactic(auto, using(crate::proofs::LeastLength::of_the_table))]
 pub fn pattern_by_id(alloc: Global, id: PatternId) -> Result<Pattern, Memory>
     ensures shape { IfOk result (λ p. shape_of p.regex ≡ pattern_shape id) }
     ensures before { IfOk result (λ p. p.b ≡ pattern_b id) }

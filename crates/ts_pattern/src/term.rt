@@ -18,7 +18,8 @@ pub struct Term {
 impl Term {
     /// The term; None exactly for the feature `one` with another aggregator than `sum`.
     pub fn new(aggregator: Aggregator, feature: Feature, pattern: PatternId) -> Option<Term>
-        ensures { MatchOption result (is_pair aggregator feature ≡ false) (λ t. (t.aggregator ≡ aggregator) × (t.feature ≡ feature) × (t.pattern ≡ pattern)) }
+        ensures { MatchOption result (is_pair aggregator feature ≡ false)
+            (λ t. (t.aggregator ≡ aggregator) × (t.feature ≡ feature) × (t.pattern ≡ pattern)) }
     {
         match (aggregator, feature) {
             (Aggregator::Max | Aggregator::Min, Feature::One) => None,

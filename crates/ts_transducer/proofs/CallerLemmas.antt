@@ -155,7 +155,8 @@ start_step Inside k d h = start_more k d h
 find_in : (a k : ℕ) (d : Option ℕ) → a ≤ 1 → StartIn k d → IsInside (k + 1 + 1 - a) (record { first = begins (k + 1) d; last = k + 1 + 1 - a })
 find_in a k d o h = let b = begins_in k d h in (b.0, (let x = b.1 in omega arith), omega arith)
 
-module _ (a k : ℕ) (o : a ≤ 1) (d : Option ℕ) (c : Option Range) (start : IfSome d (λ s. (1 ≤ s) × (s ≤ k))) (range : IfSome c (λ r. IsInside (k + 1 - a) r)) where
+module _ (a k : ℕ) (o : a ≤ 1) (d : Option ℕ) (c : Option Range) (start : IfSome d (λ s. (1 ≤ s) × (s ≤ k)))
+    (range : IfSome c (λ r. IsInside (k + 1 - a) r)) where
   range_stays : IfSome c (λ r. IsInside (k + 1 + 1 - a) r)
   range_stays = range_more (k + 1 - a) (k + 1 + 1 - a) c (omega arith) range
 

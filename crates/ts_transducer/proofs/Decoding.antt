@@ -22,12 +22,15 @@ arrow_read rows seen q l d m h s e =
     e ∙ ap (λ rs. arrow_on l (get_or rs q d)) s ∙ ap (λ r. arrow_on l r) (row_read rows q d h)
 
 -- the letter at place k is read: its move is m, and the decoder emits e and goes on with d' and c'
-pub letter_read : (rows : List Row) (a k q : ℕ) (d d' : Option ℕ) (c c' e : Option Range) (w : List Letter) (old new all : List Range) (x : Letter) (m : Arrow) →
-    k < length w → m ≡ arrow_at rows q (get_or w k x) → e ≡ emitted_at m.phase a (k + 1) d c → d' ≡ start_after m.phase (k + 1) d → c' ≡ held_after m.phase a (k + 1) d c →
+pub letter_read : (rows : List Row) (a k q : ℕ) (d d' : Option ℕ) (c c' e : Option Range) (w : List Letter) (old new all : List Range) (x : Letter)
+    (m : Arrow) →
+    k < length w → m ≡ arrow_at rows q (get_or w k x) → e ≡ emitted_at m.phase a (k + 1) d c → d' ≡ start_after m.phase (k + 1) d →
+    c' ≡ held_after m.phase a (k + 1) d c →
     new ≡ old ++ option_to_list e → old ++ decode_from rows a k q d c (drop k w) ≡ all → new ++ decode_from rows a (k + 1) m.next d' c' (drop (k + 1) w) ≡ all
 letter_read rows a k q d d' c c' e w old new all x m h is_move is_emitted is_start is_held grown before =
     let rest : ℕ → Option ℕ → Option Range → List Range = λ n s r. decode_from rows a (k + 1) n s r (drop (k + 1) w) in
-    let step : Arrow → List Range = λ y. option_to_list (emitted_at y.phase a (k + 1) d c) ++ rest y.next (start_after y.phase (k + 1) d) (held_after y.phase a (k + 1) d c) in
+    let step : Arrow → List Range = λ y. option_to_list (emitted_at y.phase a (k + 1) d c) ++ rest y.next (start_after y.phase (k + 1) d)
+    (held_after y.phase a (k + 1) d c) in
     ap (λ z. z ++ rest m.next d' c') grown ∙ append_assoc old (option_to_list e) (rest m.next d' c')
     ∙ ap (λ z. old ++ (option_to_list z ++ rest m.next d' c')) is_emitted
     ∙ ap (λ z. old ++ (option_to_list (emitted_at m.phase a (k + 1) d c) ++ rest m.next z c')) is_start

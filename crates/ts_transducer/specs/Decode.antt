@@ -1,5 +1,6 @@
--- The ranges that a transducer makes of a signature by the phase letters of its moves (Global Constraint Catalog, Volume II).
--- A start d and a range c may be kept; both are empty at first. a is 1 where the last cell of an occurrence is left out, else 0.
+-- The ranges that a transducer makes of a signature by the phase letters of its moves (Global Constraint Catalog,
+-- Volume II). A start d and a range c may be kept; both are empty at first. a is 1 where the last cell of an occurrence
+-- is left out, else 0.
 use Rattle.std.specs.Prelude.{ℕ, zero, suc, ◌+◌, ◌-◌, List, [], ◌∷◌, ◌++◌, Option, None, Some}
 use Rattle.std.specs.Option.{option_to_list}
 use Rattle.ts_base.specs.declared.letter.Letter.{Letter}

@@ -23,6 +23,7 @@ pub fn places_are_kept()
 
 /// Every range that is decoded has a cell and lies in the series, and there is at most one for each sign.
 pub fn decoded_ranges()
-    ensures inside { (rows : List Row) (a : ℕ) (w : List Letter) → a ≤ 1 → All (IsInside (length w + 1)) (decode rows a w) }
+    ensures inside { (rows : List Row) (a : ℕ) (w : List Letter) → a ≤ 1 →
+        All (IsInside (length w + 1)) (decode rows a w) }
     ensures count { (rows : List Row) (a : ℕ) (w : List Letter) → length (decode rows a w) ≤ length w }
 {}
