@@ -10,7 +10,7 @@ use Rattle.ts_pattern.specs.Closed.{Subject, meets_checks}
 use Rattle.ts_validate.specs.declared.arrival.Arrival.{Arrival}
 use Rattle.ts_validate.specs.declared.arrival.Tour.{Tour}
 use Rattle.ts_validate.specs.FirstFalse.{first_false}
-use Rattle.ts_validate.specs.Reaches.{value_at, value_of, arrived, Follows, Followed, Grows, AllMeet, FailsFirst, Judged, IsTour}
+use Rattle.ts_validate.specs.Reaches.{value_at, value_of, arrival_at, Follows, Followed, Grows, AllMeet, FailsFirst, Judged, IsTour}
 use Rattle.ts_validate.proofs.Tours.{arrived_grown, follows_each, follows_grown, followed_more, grown_twice, grown_length}
 
 three : (s : Subject Shape) (i : ℕ) → meets_checks s (value_at s i) Less ≡ true → meets_checks s (value_at s i) Equal ≡ true →
@@ -47,14 +47,14 @@ pub judged_grown : (s : Subject Shape) (xs ys : List Arrival) (failing : List (O
     Judged s xs failing → Judged s ys failing
 judged_grown s xs ys failing q g h k o e =
     let i : k < length failing = slice_get_within failing k o e in
-    let old : arrived ys k ≡ arrived xs k = arrived_grown xs ys g k (omega arith) in
+    let old : arrival_at ys k ≡ arrival_at xs k = arrived_grown xs ys g k (omega arith) in
     subst (λ (z : Arrival). Answers s z o) (sym old) (h k o e)
 
 pub judged_more : (s : Subject Shape) (xs : List Arrival) (failing : List (Option Letter)) (o : Option Letter) → Judged s xs failing →
-    Answers s (arrived xs (length failing)) o → Judged s xs (failing ++ o ∷ [])
+    Answers s (arrival_at xs (length failing)) o → Judged s xs (failing ++ o ∷ [])
 judged_more s xs failing o h a k p e = ⊎_elim
     (λ q. h k p q)
-    (λ q. subst (λ z. Answers s (arrived xs k) z) q.1 (subst (λ z. Answers s (arrived xs z) o) (sym q.0) a))
+    (λ q. subst (λ z. Answers s (arrival_at xs k) z) q.1 (subst (λ z. Answers s (arrival_at xs z) o) (sym q.0) a))
     (front_or_last failing o k p e)
 
 -- the three steps of the next arrival, taken and judged
@@ -71,22 +71,22 @@ expanded s t ys zs ws failing more from a b c o h e q g1 g2 g3 f1 f2 f3 m1 m2 m3
     let long1 = grown_length xs ys g1 in
     let long2 = grown_length ys zs g2 in
     let long3 = grown_length zs ws g3 in
-    let at_ys : arrived ys from ≡ arrived xs from = arrived_grown xs ys g1 from q in
-    let at_zs : arrived zs from ≡ arrived xs from = arrived_grown ys zs g2 from (omega (arith, q, long1)) ∙ at_ys in
-    let at_ws : arrived ws from ≡ arrived xs from = arrived_grown xs ws to_ws from q in
+    let at_ys : arrival_at ys from ≡ arrival_at xs from = arrived_grown xs ys g1 from q in
+    let at_zs : arrival_at zs from ≡ arrival_at xs from = arrived_grown ys zs g2 from (omega (arith, q, long1)) ∙ at_ys in
+    let at_ws : arrival_at ws from ≡ arrival_at xs from = arrived_grown xs ws to_ws from q in
     let all : (l : Letter) → Follows s ws from l =
     follows_each s ws from (follows_grown s ys ws from Less (omega (arith, q, long1)) (grown_twice ys zs ws g2 g3) f1)
     (follows_grown s zs ws from Equal (omega (arith, q, long1, long2)) g3 f2) f3 in
     let is : more ≡ done ++ o ∷ [] = push ∙ ap (λ z. z ++ o ∷ []) same in
     let size : length more ≡ length done + 1 = ap (λ (z : List (Option Letter)). length z) is ∙ length-append done (o ∷ []) in
-    let answer : Answers s (arrived xs from) o =
-    failing_is s (arrived xs from).configuration a b c o first m1
+    let answer : Answers s (arrival_at xs from) o =
+    failing_is s (arrival_at xs from).configuration a b c o first m1
     (m2 ∙ ap (λ (z : Arrival). meets_checks s (value_at s z.configuration) Equal) at_ys)
     (m3 ∙ ap (λ (z : Arrival). meets_checks s (value_at s z.configuration) Greater) at_zs) in (
       subst (λ z. Followed s ws z) (sym size)
           (followed_more s xs ws (length done) (omega (arith, q, e)) h.followed to_ws (subst (λ z. (l : Letter) → Follows s ws z l) e all)),
       subst (λ z. Judged s ws z) (sym is)
           (judged_more s ws done o (judged_grown s xs ws done h.inside to_ws h.judged)
-          (subst (λ z. Answers s (arrived ws z) o) e (subst (λ z. Answers s z o) (sym at_ws) answer))),
+          (subst (λ z. Answers s (arrival_at ws z) o) e (subst (λ z. Answers s z o) (sym at_ws) answer))),
       omega (arith, size, q, e, long1, long2, long3),
     )

@@ -18,12 +18,13 @@ use Rattle.ts_transducer.proofs.CallerLemmas.{Typed, move_typed, start_idle}
 use Rattle.ts_pattern.specs.declared.plan.Tag.{Tag}
 use Rattle.ts_pattern.specs.EachOf.{Each}
 use Rattle.ts_pattern.specs.Entries.{Entry, shapes, survivors}
+use Rattle.ts_pattern.specs.OccurrenceList.{AreRanges}
 use Rattle.ts_pattern.specs.Closed.{PlainConfiguration, first_tag, no_ind, retag, appended, stepped, entries_agree, step_listed, FromStart, OneStepOn, Reached, IsClosed}
 use Rattle.ts_pattern.specs.Plans.{PlainPlan, subject}
-use Rattle.ts_pattern.proofs.AllOccurrences.{ranges_are}
+use Rattle.ts_pattern.proofs.AllOccurrences.{ranges_are, are_ranges}
 use Rattle.ts_pattern.proofs.Entries.{shapes_right}
 use Rattle.ts_pattern.proofs.Renamed.{renamed, NextAgrees, WordsAgree, survivors_renamed, retag_renamed, no_ind_renamed, agree_renamed}
-use Rattle.ts_validate.specs.Valid.{IsValid}
+use Rattle.ts_pattern.specs.Valid.{IsValid}
 use Rattle.ts_validate.proofs.Traces.{Trace, IsTraced, trace_step}
 use Rattle.ts_validate.proofs.TraceStep.{traced_step, traced_start, no_trace, decoded, decoded_is}
 use Rattle.ts_validate.proofs.Checks.{checks_met}
@@ -144,3 +145,8 @@ closed_valid rows ty p b a plan cl w =
       sym (run_decodes rows (normal_form p) a b 0 0 no_trace w)
           ∙ decoded_is p a b w x h,
     )
+
+-- in words of maximal matches
+pub closed_matches : (rows : List Row) → is_typed rows ≡ true → (p : Shape) (b a : ℕ) (plan : PlainPlan) → IsClosed (subject rows p b plan) →
+    (w : List Letter) → AreRanges p b a w (decode rows a w)
+closed_matches rows ty p b a plan cl w = subst (λ z. AreRanges p b a w z) (sym (closed_valid rows ty p b a plan cl w)) (are_ranges p b a w)

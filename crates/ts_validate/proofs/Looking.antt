@@ -22,7 +22,7 @@ use Rattle.ts_pattern.specs.Plans.{plain_live, plain_configuration}
 use Rattle.ts_validate.specs.declared.known.Known.{Known}
 use Rattle.ts_validate.specs.declared.facts.Facts.{Facts}
 use Rattle.ts_validate.specs.declared.step.Look.{Look}
-use Rattle.ts_validate.specs.Numbers.{known_at, plain_lives, plain_configurations, moved, numbers, numbered, is_listed, all_listed, next_place, number_meets}
+use Rattle.ts_validate.specs.Numbers.{known_at, plain_lives, plain_configurations, configuration_after, numbers, numbered_subject, is_listed, all_listed, next_place, number_meets}
 use Rattle.ts_validate.specs.Facts.{facts_of, facts_agree}
 use Rattle.ts_validate.specs.Looks.{look_of, row_or}
 use Rattle.ts_validate.proofs.Plain.{all_mapped}
@@ -125,16 +125,16 @@ pub record Computed (rows : List Row) (table : List Known) (b : ℕ) (cs : List 
   pub free_is : free ≡ no_ind (appended tt 0 b (plain_lives here.live.items))
   pub listed_is : listed ≡ all_listed table l (appended tt 0 b (plain_lives here.live.items))
   pub next_is : next ≡ position (λ y. same_configuration (numbers table) (plain_configuration y)
-      (moved arrow free left)) cs
+      (configuration_after arrow free left)) cs
 
 next_of : (rows : List Row) (table : List Known) (b : ℕ) (cs : List Configuration) (here : Configuration) (l : Letter) (arrow : Arrow) (left : List Live)
     (free listed : Bool) (next : Option ℕ) → Computed rows table b cs here l arrow left free listed next →
-    cond listed next None ≡ next_place table (numbered rows table b (plain_configurations cs)) (plain_configuration here) l
+    cond listed next None ≡ next_place table (numbered_subject rows table b (plain_configurations cs)) (plain_configuration here) l
 next_of rows table b cs here l arrow left free listed next h =
-    let s : Subject ℕ = numbered rows table b (plain_configurations cs) in
+    let s : Subject ℕ = numbered_subject rows table b (plain_configurations cs) in
     let x : PlainConfiguration ℕ = plain_configuration here in
     let to : PlainConfiguration ℕ = stepped s x l in
-    let same : moved arrow free left ≡ to =
+    let same : configuration_after arrow free left ≡ to =
     ap (λ (z : Arrow). record { state = z.next; live = retag z.phase free (plain_lives left) }) h.arrow_is
     ∙ ap (λ z. record { state = (move_of s x l).next; live = retag (move_of s x l).phase z (plain_lives left) }) h.free_is
     ∙ ap (λ z. record { state = (move_of s x l).next; live = retag (move_of s x l).phase (no_ind (before s x)) z }) h.left_is in
@@ -145,7 +145,7 @@ next_of rows table b cs here l arrow left free listed next h =
 
 pub next_seen : (rows : List Row) (table : List Known) (b : ℕ) (cs : List Configuration) (here : Configuration) (l : Letter) (arrow : Arrow) (left : List Live)
     (free listed : Bool) (next : Option ℕ) (agree : Bool) (look : Look) → Computed rows table b cs here l arrow left free listed next →
-    look ≡ look_of listed next agree → look.next ≡ next_place table (numbered rows table b (plain_configurations cs)) (plain_configuration here) l
+    look ≡ look_of listed next agree → look.next ≡ next_place table (numbered_subject rows table b (plain_configurations cs)) (plain_configuration here) l
 next_seen rows table b cs here l arrow left free listed next agree look h q =
     ap (λ (z : Look). z.next) q ∙ look_next listed next agree ∙ next_of rows table b cs here l arrow left free listed next h
 
@@ -153,9 +153,9 @@ pub meets_seen : (rows : List Row) (table : List Known) (b : ℕ) (cs : List Con
     (free listed : Bool) (next : Option ℕ) (agree : Bool) (look : Look) → Computed rows table b cs here l arrow left free listed next →
     look ≡ look_of listed next agree → (facts : Facts) (kind : Kind) → facts ≡ facts_of (numbers table) arrow.phase free (plain_lives left) →
     kind ≡ (row_at rows arrow.next).kind → agree ≡ facts_agree facts arrow.phase kind →
-    look.meets ≡ number_meets table (numbered rows table b (plain_configurations cs)) (plain_configuration here) l
+    look.meets ≡ number_meets table (numbered_subject rows table b (plain_configurations cs)) (plain_configuration here) l
 meets_seen rows table b cs here l arrow left free listed next agree look h q facts kind u v w =
-    let s : Subject ℕ = numbered rows table b (plain_configurations cs) in
+    let s : Subject ℕ = numbered_subject rows table b (plain_configurations cs) in
     let x : PlainConfiguration ℕ = plain_configuration here in
     let agreed : agree ≡ entries_agree (numbers table) (move_of s x l).phase (row_at rows (move_of s x l).next).kind (no_ind (before s x)) (kept s x l) =
     w ∙ ap (λ z. facts_agree z arrow.phase kind) u ∙ ap (λ z. entries_agree (numbers table) arrow.phase z free (plain_lives left)) v
@@ -173,7 +173,7 @@ pub computed : (rows : List Row) (table : List Known) (b : ℕ) (cs : List Confi
     free ≡ list_all (λ e. not (is_ind e.tag)) live →
     listed ≡ (list_all (λ e. is_listed table l e.residual) live && is_listed table l 0) → slice ≡ left →
     next ≡ position (λ y. same_configuration (numbers table) (plain_configuration y)
-    (moved arrow free slice)) cs →
+    (configuration_after arrow free slice)) cs →
     Computed rows table b cs here l arrow left free listed next
 computed rows table b cs here l arrow left live free listed next row slice hl hr ha hk hf hi hs hp =
     record {
@@ -184,5 +184,5 @@ computed rows table b cs here l arrow left live free listed next row slice hl hr
       next_is = hp ∙ ap
           (λ z. position
           (λ y. same_configuration (numbers table) (plain_configuration y)
-          (moved arrow free z)) cs) hs;
+          (configuration_after arrow free z)) cs) hs;
     }

@@ -8,7 +8,7 @@ use Rattle.ts_pattern.specs.declared.pattern.Pattern.{Pattern}
 use Rattle.ts_pattern.specs.declared.plan.Plan.{Plan}
 use Rattle.ts_pattern.specs.Closed.{IsClosed}
 use Rattle.ts_pattern.specs.Plans.{plain_plan}
-use Rattle.ts_validate.specs.Valid.{IsValid}
+use Rattle.ts_pattern.specs.Valid.{IsValid}
 use Rattle.ts_validate.specs.Reaches.{against}
 use Rattle.ts_validate.proofs.Law.{closed_valid}
 

@@ -22,7 +22,7 @@ use Rattle.ts_pattern.proofs.Entries.{shapes_right}
 use Rattle.ts_pattern.proofs.Tested.{configuration_is}
 use Rattle.ts_validate.specs.declared.known.Known.{Known}
 use Rattle.ts_validate.specs.declared.step.Look.{Look}
-use Rattle.ts_validate.specs.Numbers.{knowns, numbers, numbered, all_listed, next_place, number_meets}
+use Rattle.ts_validate.specs.Numbers.{table_of, numbers, numbered_subject, all_listed, next_place, number_meets}
 use Rattle.ts_validate.specs.Reaches.{configuration_at, value_at, IsFirst, Sees}
 use Rattle.ts_validate.proofs.Values.{AreNumbers, HasNumbers, IsFor, plan_of, same_valued, agree_valued, not_listed}
 
@@ -132,8 +132,8 @@ none_any p q rs (x ∷ xs) e h = go (p x) refl e.0 (none_any p q rs xs e.1) h
     go false t u m s = ap (λ z. z || list_any q (map (λ x. valued rs x) xs)) (sym u ∙ t) ∙ m (omega (arith, s))
 
 each_same : (rows : List Row) (p : Shape) (b : ℕ) (rs : List Shape) (all xs : List (PlainConfiguration ℕ)) → IsFor p rs all → (x : PlainConfiguration ℕ) →
-    HasNumbers rs x → (l : Letter) → all_listed (knowns rs) l (appended tt 0 b x.live) ≡ true → Each (HasNumbers rs) xs →
-    Each (λ y. same_configuration (numbers (knowns rs)) y (stepped (numbered rows (knowns rs) b all) x l)
+    HasNumbers rs x → (l : Letter) → all_listed (table_of rs) l (appended tt 0 b x.live) ≡ true → Each (HasNumbers rs) xs →
+    Each (λ y. same_configuration (numbers (table_of rs)) y (stepped (numbered_subject rows (table_of rs) b all) x l)
     ≡ same_configuration shapes (valued rs y) (stepped (subject rows p b (plan_of rs all)) (valued rs x) l)) xs
 each_same rows p b rs all [] i x h l a k = tt
 each_same rows p b rs all (y ∷ xs) i x h l a k = (same_valued rows p b rs all i x y h k.0 l a, each_same rows p b rs all xs i x h l a k.1)
@@ -158,40 +158,42 @@ configuration_itself x = ap (λ z. z && same_live shapes x.live x.live) (eq-eqb 
 
 pub sees : (rows : List Row) (p : Shape) (b : ℕ) (rs : List Shape) (xs : List (PlainConfiguration ℕ)) → IsFor p rs xs → (x : PlainConfiguration ℕ) →
     HasNumbers rs x → (l : Letter) (k : Look) →
-    k.next ≡ next_place (knowns rs) (numbered rows (knowns rs) b xs) x l → k.meets ≡ number_meets (knowns rs) (numbered rows (knowns rs) b xs) x l →
+    k.next ≡ next_place (table_of rs) (numbered_subject rows (table_of rs) b xs) x l →
+    k.meets ≡ number_meets (table_of rs) (numbered_subject rows (table_of rs) b xs) x l →
     Sees (subject rows p b (plan_of rs xs)) (valued rs x) l k
-sees rows p b rs xs i x h l k q m = go (all_listed (knowns rs) l (appended tt 0 b x.live)) refl q m
+sees rows p b rs xs i x h l k q m = go (all_listed (table_of rs) l (appended tt 0 b x.live)) refl q m
   where
-    agree : (o : Option ℕ) → all_listed (knowns rs) l (appended tt 0 b x.live) ≡ true → (b' : Bool) →
+    agree : (o : Option ℕ) → all_listed (table_of rs) l (appended tt 0 b x.live) ≡ true → (b' : Bool) →
         step_listed (subject rows p b (plan_of rs xs)) (valued rs x) l ≡ b' → is_some o ≡ b' →
-        k.meets ≡ (is_some o && entries_agree (numbers (knowns rs)) (move_of (numbered rows (knowns rs) b xs) x l).phase
-        (row_at rows (move_of (numbered rows (knowns rs) b xs) x l).next).kind (no_ind (before (numbered rows (knowns rs) b xs) x))
-        (kept (numbered rows (knowns rs) b xs) x l)) →
+        k.meets ≡ (is_some o && entries_agree (numbers (table_of rs)) (move_of (numbered_subject rows (table_of rs) b xs) x l).phase
+        (row_at rows (move_of (numbered_subject rows (table_of rs) b xs) x l).next).kind (no_ind (before (numbered_subject rows (table_of rs) b xs) x))
+        (kept (numbered_subject rows (table_of rs) b xs) x l)) →
         k.meets ≡ meets_checks (subject rows p b (plan_of rs xs)) (valued rs x) l
     agree o a b' t u v =
         v ∙ ap (λ z. is_some o && z) (agree_valued rows p b rs xs i x h l a)
-        ∙ ap (λ z. z && entries_agree shapes (move_of (numbered rows (knowns rs) b xs) x l).phase
-        (row_at rows (move_of (numbered rows (knowns rs) b xs) x l).next).kind (no_ind (before (subject rows p b (plan_of rs xs)) (valued rs x)))
+        ∙ ap (λ z. z && entries_agree shapes (move_of (numbered_subject rows (table_of rs) b xs) x l).phase
+        (row_at rows (move_of (numbered_subject rows (table_of rs) b xs) x l).next).kind (no_ind (before (subject rows p b (plan_of rs xs)) (valued rs x)))
         (kept (subject rows p b (plan_of rs xs)) (valued rs x) l)) (u ∙ sym t)
 
-    inner : all_listed (knowns rs) l (appended tt 0 b x.live) ≡ true → (o : Option ℕ) →
-        position (λ y. same_configuration (numbers (knowns rs)) y (stepped (numbered rows (knowns rs) b xs) x l)) xs ≡ o → k.next ≡ o →
-        k.meets ≡ (is_some o && entries_agree (numbers (knowns rs)) (move_of (numbered rows (knowns rs) b xs) x l).phase
-        (row_at rows (move_of (numbered rows (knowns rs) b xs) x l).next).kind (no_ind (before (numbered rows (knowns rs) b xs) x))
-        (kept (numbered rows (knowns rs) b xs) x l)) →
+    inner : all_listed (table_of rs) l (appended tt 0 b x.live) ≡ true → (o : Option ℕ) →
+        position (λ y. same_configuration (numbers (table_of rs)) y (stepped (numbered_subject rows (table_of rs) b xs) x l)) xs ≡ o → k.next ≡ o →
+        k.meets ≡ (is_some o && entries_agree (numbers (table_of rs)) (move_of (numbered_subject rows (table_of rs) b xs) x l).phase
+        (row_at rows (move_of (numbered_subject rows (table_of rs) b xs) x l).next).kind (no_ind (before (numbered_subject rows (table_of rs) b xs) x))
+        (kept (numbered_subject rows (table_of rs) b xs) x l)) →
         Sees (subject rows p b (plan_of rs xs)) (valued rs x) l k
     inner a None e u v =
         let s : Subject Shape = subject rows p b (plan_of rs xs) in
         let to : PlainConfiguration Shape = stepped s (valued rs x) l in
         let no : step_listed s (valued rs x) l ≡ false =
-        none_any (λ y. same_configuration (numbers (knowns rs)) y (stepped (numbered rows (knowns rs) b xs) x l)) (λ y. same_configuration shapes y to) rs xs
+        none_any (λ y. same_configuration (numbers (table_of rs)) y (stepped (numbered_subject rows (table_of rs) b xs) x l))
+        (λ y. same_configuration shapes y to) rs xs
         (each_same rows p b rs xs xs i x h l a i.numbers)
-        (place_none (λ y. same_configuration (numbers (knowns rs)) y (stepped (numbered rows (knowns rs) b xs) x l)) xs e) in
+        (place_none (λ y. same_configuration (numbers (table_of rs)) y (stepped (numbered_subject rows (table_of rs) b xs) x l)) xs e) in
         record { none = λ q. no; some = λ j q. absurd (none-some j (sym u ∙ q)); meets = agree None a false no refl v }
     inner a (Some m) e u v =
         let s : Subject Shape = subject rows p b (plan_of rs xs) in
         let to : PlainConfiguration Shape = stepped s (valued rs x) l in
-        let test : PlainConfiguration ℕ → Bool = (λ y. same_configuration (numbers (knowns rs)) y (stepped (numbered rows (knowns rs) b xs) x l)) in
+        let test : PlainConfiguration ℕ → Bool = (λ y. same_configuration (numbers (table_of rs)) y (stepped (numbered_subject rows (table_of rs) b xs) x l)) in
         let same : PlainConfiguration Shape → Bool = (λ y. same_configuration shapes y to) in
         let each : Each (λ y. test y ≡ same (valued rs y)) xs = each_same rows p b rs xs xs i x h l a i.numbers in
         let f = place_some test xs m e in
@@ -212,14 +214,15 @@ sees rows p b rs xs i x h l k q m = go (all_listed (knowns rs) l (appended tt 0 
           meets = agree (Some m) a true yes refl v;
         }
 
-    go : (a : Bool) → all_listed (knowns rs) l (appended tt 0 b x.live) ≡ a →
-        k.next ≡ cond a (position (λ y. same_configuration (numbers (knowns rs)) y (stepped (numbered rows (knowns rs) b xs) x l)) xs) None →
-        k.meets ≡ (is_some (cond a (position (λ y. same_configuration (numbers (knowns rs)) y (stepped (numbered rows (knowns rs) b xs) x l)) xs) None)
-        && entries_agree (numbers (knowns rs)) (move_of (numbered rows (knowns rs) b xs) x l).phase
-        (row_at rows (move_of (numbered rows (knowns rs) b xs) x l).next).kind (no_ind (before (numbered rows (knowns rs) b xs) x))
-        (kept (numbered rows (knowns rs) b xs) x l)) →
+    go : (a : Bool) → all_listed (table_of rs) l (appended tt 0 b x.live) ≡ a →
+        k.next ≡ cond a (position (λ y. same_configuration (numbers (table_of rs)) y (stepped (numbered_subject rows (table_of rs) b xs) x l)) xs) None →
+        k.meets ≡ (is_some
+        (cond a (position (λ y. same_configuration (numbers (table_of rs)) y (stepped (numbered_subject rows (table_of rs) b xs) x l)) xs) None)
+        && entries_agree (numbers (table_of rs)) (move_of (numbered_subject rows (table_of rs) b xs) x l).phase
+        (row_at rows (move_of (numbered_subject rows (table_of rs) b xs) x l).next).kind (no_ind (before (numbered_subject rows (table_of rs) b xs) x))
+        (kept (numbered_subject rows (table_of rs) b xs) x l)) →
         Sees (subject rows p b (plan_of rs xs)) (valued rs x) l k
-    go true e u v = inner e (position (λ y. same_configuration (numbers (knowns rs)) y (stepped (numbered rows (knowns rs) b xs) x l)) xs) refl u v
+    go true e u v = inner e (position (λ y. same_configuration (numbers (table_of rs)) y (stepped (numbered_subject rows (table_of rs) b xs) x l)) xs) refl u v
     go false e u v =
         let s : Subject Shape = subject rows p b (plan_of rs xs) in
         let no : step_listed s (valued rs x) l ≡ false = not_listed rows p b rs xs i x h l e in
@@ -251,10 +254,10 @@ numbers_at rs (x ∷ xs) zero h q = h.0
 numbers_at rs (x ∷ xs) (suc i) h q = numbers_at rs xs i h.1 (omega (arith, q))
 
 pub sees_at : (rows : List Row) (p : Shape) (b : ℕ) (rs : List Shape) (cs : List Configuration) (table : List Known) →
-    is_plan_of p (plan_of rs (map (λ x. plain_configuration x) cs)) ≡ true → table ≡ knowns rs →
+    is_plan_of p (plan_of rs (map (λ x. plain_configuration x) cs)) ≡ true → table ≡ table_of rs →
     (i : ℕ) (d here : Configuration) → i < length cs → here ≡ get_or cs i d → (l : Letter) (k : Look) →
-    k.next ≡ next_place table (numbered rows table b (map (λ x. plain_configuration x) cs)) (plain_configuration here) l →
-    k.meets ≡ number_meets table (numbered rows table b (map (λ x. plain_configuration x) cs)) (plain_configuration here) l →
+    k.next ≡ next_place table (numbered_subject rows table b (map (λ x. plain_configuration x) cs)) (plain_configuration here) l →
+    k.meets ≡ number_meets table (numbered_subject rows table b (map (λ x. plain_configuration x) cs)) (plain_configuration here) l →
     Sees (subject rows p b (plan_of rs (map (λ x. plain_configuration x) cs)))
     (value_at (subject rows p b (plan_of rs (map (λ x. plain_configuration x) cs))) i) l k
 sees_at rows p b rs cs table f t i d here q e l k n m =
@@ -265,16 +268,16 @@ sees_at rows p b rs cs table f t i d here q e l k n m =
     let is : plain_configuration here ≡ x = ap (λ z. plain_configuration z) e ∙ sym (plain_is cs i d q) in
     subst (λ z. Sees (subject rows p b (plan_of rs xs)) z l k) (sym (value_is rs xs i short))
     (sees rows p b rs xs g x (numbers_at rs xs i g.numbers short) l k
-    (n ∙ ap (λ z. next_place z (numbered rows z b xs) (plain_configuration here) l) t
-    ∙ ap (λ z. next_place (knowns rs) (numbered rows (knowns rs) b xs) z l) is)
-    (m ∙ ap (λ z. number_meets z (numbered rows z b xs) (plain_configuration here) l) t
-    ∙ ap (λ z. number_meets (knowns rs) (numbered rows (knowns rs) b xs) z l) is))
+    (n ∙ ap (λ z. next_place z (numbered_subject rows z b xs) (plain_configuration here) l) t
+    ∙ ap (λ z. next_place (table_of rs) (numbered_subject rows (table_of rs) b xs) z l) is)
+    (m ∙ ap (λ z. number_meets z (numbered_subject rows z b xs) (plain_configuration here) l) t
+    ∙ ap (λ z. number_meets (table_of rs) (numbered_subject rows (table_of rs) b xs) z l) is))
 
 pub sees_plan : (rows : List Row) (p : Shape) (b : ℕ) (rs : List Shape) (slice cs : List Configuration) (table : List Known) → slice ≡ cs →
-    is_plan_of p (plan_of rs (map (λ x. plain_configuration x) cs)) ≡ true → table ≡ knowns rs →
+    is_plan_of p (plan_of rs (map (λ x. plain_configuration x) cs)) ≡ true → table ≡ table_of rs →
     (i : ℕ) (here : Configuration) → i < length cs → here ≡ get_or slice i here → (l : Letter) (k : Look) →
-    k.next ≡ next_place table (numbered rows table b (map (λ x. plain_configuration x) slice)) (plain_configuration here) l →
-    k.meets ≡ number_meets table (numbered rows table b (map (λ x. plain_configuration x) slice)) (plain_configuration here) l →
+    k.next ≡ next_place table (numbered_subject rows table b (map (λ x. plain_configuration x) slice)) (plain_configuration here) l →
+    k.meets ≡ number_meets table (numbered_subject rows table b (map (λ x. plain_configuration x) slice)) (plain_configuration here) l →
     Sees (subject rows p b (plan_of rs (map (λ x. plain_configuration x) cs)))
     (value_at (subject rows p b (plan_of rs (map (λ x. plain_configuration x) cs))) i) l k
 sees_plan rows p b rs slice cs table e f t i here q g l k n m =

@@ -20,16 +20,16 @@ use Rattle.ts_pattern.specs.Closed.{PlainConfiguration, Subject, first_passes, s
 use Rattle.ts_validate.specs.declared.step.Look.{Look}
 use Rattle.ts_validate.specs.declared.arrival.Arrival.{Arrival}
 use Rattle.ts_validate.specs.declared.arrival.Tour.{Tour}
-use Rattle.ts_validate.specs.Reaches.{against, value_at, value_of, IsFirst, Sees, arrival, arrived, place_at, open_places, GoesOn, Reaches, Follows, Followed, Grows, IsTour, IsPath, PathStart, PathOn}
+use Rattle.ts_validate.specs.Reaches.{against, value_at, value_of, IsFirst, Sees, arrival, arrival_at, place_at, open_places, GoesOn, Reaches, Follows, Followed, Grows, IsTour, IsPath, PathStart, PathOn}
 
 -- lists
 
-pub kept_at : (xs ys : List Arrival) (k : ℕ) → k < length xs → arrived (xs ++ ys) k ≡ arrived xs k
+pub kept_at : (xs ys : List Arrival) (k : ℕ) → k < length xs → arrival_at (xs ++ ys) k ≡ arrival_at xs k
 kept_at [] ys k q = absurd (omega (arith, q))
 kept_at (x ∷ xs) ys zero q = refl
 kept_at (x ∷ xs) ys (suc k) q = kept_at xs ys k (omega (arith, q))
 
-last_at : (xs : List Arrival) (a : Arrival) → arrived (xs ++ a ∷ []) (length xs) ≡ a
+last_at : (xs : List Arrival) (a : Arrival) → arrival_at (xs ++ a ∷ []) (length xs) ≡ a
 last_at [] a = refl
 last_at (x ∷ xs) a = last_at xs a
 
@@ -87,21 +87,21 @@ started s n arrivals places e q a o =
     }))
   where
     one : (k : ℕ) → k < 1 → (P : Arrival → Type 0) → P (arrival 0 0 Less) →
-        P (arrived (arrival 0 0 Less ∷ []) k)
+        P (arrival_at (arrival 0 0 Less ∷ []) k)
     one zero d P h = h
     one (suc k) d P h = absurd (omega (arith, d))
 
     one_back : (k : ℕ) → k < 1 → 0 < length (replicate {A = Option ℕ} n None) →
-        place_at (set (replicate n None) 0 (Some 0)) (arrived (arrival 0 0 Less ∷ []) k).configuration ≡ Some k
+        place_at (set (replicate n None) 0 (Some 0)) (arrival_at (arrival 0 0 Less ∷ []) k).configuration ≡ Some k
     one_back zero d r = set_same (replicate n None) 0 (Some 0) r
     one_back (suc k) d r = absurd (omega (arith, d))
 
     go : (c k : ℕ) → place_at (set (replicate n None) 0 (Some 0)) c ≡ Some k →
-        (k < 1) × ((arrived (arrival 0 0 Less ∷ []) k).configuration ≡ c)
+        (k < 1) × ((arrival_at (arrival 0 0 Less ∷ []) k).configuration ≡ c)
     go zero k t = go_zero k (sym (set_same (replicate n None) 0 (Some 0) (let r = replicated n in omega (arith, r, q))) ∙ t)
       where
-        go_zero : (k : ℕ) → Some 0 ≡ Some k → (k < 1) × ((arrived (arrival 0 0 Less ∷ []) k).configuration ≡ 0)
-        go_zero k t = subst (λ z. (z < 1) × ((arrived (arrival 0 0 Less ∷ []) z).configuration ≡ 0)) (same_Some 0 k t)
+        go_zero : (k : ℕ) → Some 0 ≡ Some k → (k < 1) × ((arrival_at (arrival 0 0 Less ∷ []) k).configuration ≡ 0)
+        go_zero k t = subst (λ z. (z < 1) × ((arrival_at (arrival 0 0 Less ∷ []) z).configuration ≡ 0)) (same_Some 0 k t)
             (omega arith, refl)
     go (suc c) k t = absurd (none-some k (sym (set_other (replicate n None) 0 (suc c) (Some 0) (λ z. omega (arith, z)) ∙ none_there n (suc c)) ∙ t))
 
@@ -116,8 +116,8 @@ more_reached s xs os h next from l f i e t v =
     let ys : List Arrival = xs ++ a ∷ [] in
     let n : length ys ≡ length xs + 1 = length-append xs (a ∷ []) in
     let room : next < length os = (let z = h.size in omega arith) in
-    let last : arrived ys (length xs) ≡ a = last_at xs a in
-    let old : (k : ℕ) → k < length xs → arrived ys k ≡ arrived xs k = (λ k q. kept_at xs (a ∷ []) k q) in
+    let last : arrival_at ys (length xs) ≡ a = last_at xs a in
+    let old : (k : ℕ) → k < length xs → arrival_at ys k ≡ arrival_at xs k = (λ k q. kept_at xs (a ∷ []) k q) in
     record {
       size = set_size os next (Some (length xs)) ∙ h.size;
       count = (let c = h.count in let d = fewer_open os next (length xs) room e in let z = set_size os next (Some (length xs)) in omega arith);
@@ -128,23 +128,23 @@ more_reached s xs os h next from l f i e t v =
           (λ q. goes_old k q (old k q) (h.steps k c q))
           (eq-or-lt_of_le (let z : k ≤ length xs = omega arith in z));
       inside = λ k d. ⊎_elim
-          (λ q. subst (λ z. (arrived ys z).configuration < length s.configurations) (sym q)
+          (λ q. subst (λ z. (arrival_at ys z).configuration < length s.configurations) (sym q)
           (subst (λ (z : Arrival). z.configuration < length s.configurations) (sym last) i))
           (λ q. subst (λ (z : Arrival). z.configuration < length s.configurations) (sym (old k q)) (h.inside k q))
           (eq-or-lt_of_le (let z : k ≤ length xs = omega arith in z));
       there = λ c k q. there_more c k q room last;
       back = λ k d. ⊎_elim
-          (λ q. subst (λ z. place_at (set os next (Some (length xs))) (arrived ys z).configuration ≡ Some z) (sym q)
+          (λ q. subst (λ z. place_at (set os next (Some (length xs))) (arrival_at ys z).configuration ≡ Some z) (sym q)
           (ap (λ (z : Arrival). place_at (set os next (Some (length xs))) z.configuration) last ∙ set_same os next (Some (length xs)) room))
           (λ q. ap (λ (z : Arrival). place_at (set os next (Some (length xs))) z.configuration) (old k q)
-          ∙ set_other os next (arrived xs k).configuration (Some (length xs)) (λ z. none-some k (sym e ∙ ap (λ y. place_at os y) z ∙ h.back k q))
+          ∙ set_other os next (arrival_at xs k).configuration (Some (length xs)) (λ z. none-some k (sym e ∙ ap (λ y. place_at os y) z ∙ h.back k q))
           ∙ h.back k q)
           (eq-or-lt_of_le (let z : k ≤ length xs = omega arith in z));
     }
   where
-    goes_last : arrived (xs ++ arrival next from l ∷ []) (length xs)
+    goes_last : arrival_at (xs ++ arrival next from l ∷ []) (length xs)
         ≡ arrival next from l →
-        arrived (xs ++ arrival next from l ∷ []) from ≡ arrived xs from → from < length xs →
+        arrival_at (xs ++ arrival next from l ∷ []) from ≡ arrival_at xs from → from < length xs →
         GoesOn s (xs ++ arrival next from l ∷ []) (length xs)
     goes_last u w q =
         subst (λ (z : Arrival). (z.from < length xs)
@@ -156,46 +156,46 @@ more_reached s xs os h next from l f i e t v =
           subst (λ (z : Arrival). value_at s next ≡ stepped s (value_at s z.configuration) l) (sym w) v,
         )
 
-    goes_old : (k : ℕ) → k < length xs → arrived (xs ++ arrival next from l ∷ []) k ≡ arrived xs k → GoesOn s xs k →
+    goes_old : (k : ℕ) → k < length xs → arrival_at (xs ++ arrival next from l ∷ []) k ≡ arrival_at xs k → GoesOn s xs k →
         GoesOn s (xs ++ arrival next from l ∷ []) k
     goes_old k q u g =
-        let w : arrived (xs ++ arrival next from l ∷ []) (arrived xs k).from ≡ arrived xs (arrived xs k).from =
-        kept_at xs (arrival next from l ∷ []) (arrived xs k).from (let z = g.0 in omega arith) in
+        let w : arrival_at (xs ++ arrival next from l ∷ []) (arrival_at xs k).from ≡ arrival_at xs (arrival_at xs k).from =
+        kept_at xs (arrival next from l ∷ []) (arrival_at xs k).from (let z = g.0 in omega arith) in
         subst (λ (z : Arrival). (z.from < k)
         × (step_listed s (value_of s (xs ++ arrival next from l ∷ []) z.from) z.letter ≡ true)
         × (value_at s z.configuration ≡ stepped s (value_of s (xs ++ arrival next from l ∷ []) z.from) z.letter))
         (sym u) (
           g.0,
-          subst (λ (z : Arrival). step_listed s (value_at s z.configuration) (arrived xs k).letter ≡ true) (sym w) g.1,
-          subst (λ (z : Arrival). value_of s xs k ≡ stepped s (value_at s z.configuration) (arrived xs k).letter) (sym w) g.2,
+          subst (λ (z : Arrival). step_listed s (value_at s z.configuration) (arrival_at xs k).letter ≡ true) (sym w) g.1,
+          subst (λ (z : Arrival). value_of s xs k ≡ stepped s (value_at s z.configuration) (arrival_at xs k).letter) (sym w) g.2,
         )
 
     apart : (c k : ℕ) → (next ≡ c → ⊥) → place_at (set os next (Some (length xs))) c ≡ Some k →
         (k < length (xs ++ arrival next from l ∷ []))
-        × ((arrived (xs ++ arrival next from l ∷ []) k).configuration ≡ c)
+        × ((arrival_at (xs ++ arrival next from l ∷ []) k).configuration ≡ c)
     apart c k n q =
         let g = h.there c k (sym (set_other os next c (Some (length xs)) n) ∙ q) in (
           (let z = length-append xs (arrival next from l ∷ []) in let y = g.0 in omega arith),
           ap (λ (z : Arrival). z.configuration) (kept_at xs (arrival next from l ∷ []) k g.0) ∙ g.1,
         )
 
-    same : (k : ℕ) → next < length os → arrived (xs ++ arrival next from l ∷ []) (length xs)
+    same : (k : ℕ) → next < length os → arrival_at (xs ++ arrival next from l ∷ []) (length xs)
         ≡ arrival next from l → place_at (set os next (Some (length xs))) next ≡ Some k →
         (k < length (xs ++ arrival next from l ∷ []))
-        × ((arrived (xs ++ arrival next from l ∷ []) k).configuration ≡ next)
+        × ((arrival_at (xs ++ arrival next from l ∷ []) k).configuration ≡ next)
     same k r u q =
         subst (λ z. (z < length (xs ++ arrival next from l ∷ []))
-        × ((arrived (xs ++ arrival next from l ∷ []) z).configuration ≡ next))
+        × ((arrival_at (xs ++ arrival next from l ∷ []) z).configuration ≡ next))
         (same_Some (length xs) k (sym (set_same os next (Some (length xs)) r) ∙ q))
         ((let z = length-append xs (arrival next from l ∷ []) in omega arith), ap (λ (z : Arrival). z.configuration) u)
 
     there_more : (c k : ℕ) → place_at (set os next (Some (length xs))) c ≡ Some k → next < length os →
-        arrived (xs ++ arrival next from l ∷ []) (length xs) ≡ arrival next from l →
+        arrival_at (xs ++ arrival next from l ∷ []) (length xs) ≡ arrival next from l →
         (k < length (xs ++ arrival next from l ∷ []))
-        × ((arrived (xs ++ arrival next from l ∷ []) k).configuration ≡ c)
+        × ((arrival_at (xs ++ arrival next from l ∷ []) k).configuration ≡ c)
     there_more c k q r u = ⊎_elim
         (λ e. subst (λ z. (k < length (xs ++ arrival next from l ∷ []))
-        × ((arrived (xs ++ arrival next from l ∷ []) k).configuration ≡ z)) e
+        × ((arrival_at (xs ++ arrival next from l ∷ []) k).configuration ≡ z)) e
         (same k r u (subst (λ z. place_at (set os next (Some (length xs))) z ≡ Some k) (sym e) q)))
         (λ n. apart c k n q)
         (eq_or_not next c)
@@ -208,7 +208,7 @@ add_reached s xs ys os ps h next from l f i t e u v =
     (more_reached s xs os h next from l f i.0 (sym e) t i.1))
 
 -- what a look shows of arrival `from`
-pub seen_first : (s : Subject Shape) (xs : List Arrival) (from : ℕ) (here : Arrival) (l : Letter) (k : Look) (j : ℕ) → here ≡ arrived xs from →
+pub seen_first : (s : Subject Shape) (xs : List Arrival) (from : ℕ) (here : Arrival) (l : Letter) (k : Look) (j : ℕ) → here ≡ arrival_at xs from →
     Sees s (value_at s here.configuration) l k → k.next ≡ Some j →
     (step_listed s (value_of s xs from) l ≡ true) × IsFirst s (stepped s (value_of s xs from) l) j
 seen_first s xs from here l k j e h q =
@@ -243,7 +243,7 @@ follows_grown s xs ys k l q g h =
       m.0,
       omega arith,
       subst (λ (z : Arrival). IsFirst s (stepped s (value_of s (xs ++ g.0) k) l) z.configuration) (sym (kept_at xs g.0 m.0 m.1))
-          (subst (λ (z : Arrival). IsFirst s (stepped s (value_at s z.configuration) l) (arrived xs m.0).configuration) (sym old) m.2),
+          (subst (λ (z : Arrival). IsFirst s (stepped s (value_at s z.configuration) l) (arrival_at xs m.0).configuration) (sym old) m.2),
     ))
 
 pub grown_twice : (xs ys zs : List Arrival) → Grows xs ys → Grows ys zs → Grows xs zs
@@ -265,8 +265,8 @@ followed_more s xs ys done q f g h k c l = ⊎_elim
     (λ e. follows_grown s xs ys k l (omega arith) g (f k e l))
     (eq-or-lt_of_le (let z : k ≤ done = omega arith in z))
 
-pub arrived_grown : (xs ys : List Arrival) → Grows xs ys → (k : ℕ) → k < length xs → arrived ys k ≡ arrived xs k
-arrived_grown xs ys g k q = ap (λ z. arrived z k) g.1 ∙ kept_at xs g.0 k q
+pub arrived_grown : (xs ys : List Arrival) → Grows xs ys → (k : ℕ) → k < length xs → arrival_at ys k ≡ arrival_at xs k
+arrived_grown xs ys g k q = ap (λ z. arrival_at z k) g.1 ∙ kept_at xs g.0 k q
 
 -- the start of a plan
 
@@ -319,7 +319,7 @@ pub continues_here : (xs : List Arrival) (k : ℕ) → Continues xs k k []
 continues_here xs k v h = subst (λ z. IsPath xs k z) (sym (append-nil v)) h
 
 -- the letters are collected from the last to the first
-pub continues_back : (xs : List Arrival) (k at : ℕ) (back more : List Letter) (last : Arrival) → 0 < at → last ≡ arrived xs at →
+pub continues_back : (xs : List Arrival) (k at : ℕ) (back more : List Letter) (last : Arrival) → 0 < at → last ≡ arrival_at xs at →
     more ≡ back ++ last.letter ∷ [] → Continues xs k at (reverse back) → Continues xs k last.from (reverse more)
 continues_back xs k at back more last q e u h v path =
     let on : IsPath xs at (v ++ last.letter ∷ []) =
@@ -329,8 +329,8 @@ continues_back xs k at back more last q e u h v path =
     ∙ ap (λ z. v ++ z) (sym (ap (λ z. reverse z) u ∙ reverse-append back (last.letter ∷ []))) in
     subst (λ z. IsPath xs k z) all (h (v ++ last.letter ∷ []) on)
 
-pub earlier : (xs : List Arrival) (at : ℕ) (last : Arrival) → last ≡ arrived xs at → 0 < at → at < length xs →
-    ((j : ℕ) → 0 < j → j < length xs → (arrived xs j).from < j) → last.from < length xs
+pub earlier : (xs : List Arrival) (at : ℕ) (last : Arrival) → last ≡ arrival_at xs at → 0 < at → at < length xs →
+    ((j : ℕ) → 0 < j → j < length xs → (arrival_at xs j).from < j) → last.from < length xs
 earlier xs at last e q i back = subst (λ (z : Arrival). z.from < length xs) (sym e) (let b = back at q i in omega (arith, b, i))
 
 pub path_done : (xs : List Arrival) (k at : ℕ) (back w : List Letter) → at ≡ 0 → w ≡ reverse back → Continues xs k at (reverse back) → IsPath xs k w

@@ -1,5 +1,26 @@
--- The trace of a run: the decoder, the live entries, and which occurrence each emitted range is; its invariant, and
--- what the checks of a step say of it.
+-- Why a closed plan is enough: the trace of a run, and what stays true of it over one letter.
+--
+-- A trace is the decoder with the live starts of the pattern's matches beside it, and with the occurrence that each
+-- range stands for (`done`, `pair`), which no transducer knows. `IsTraced` holds of it after each word w:
+-- - live: each start keeps what is left to read from it, and of equal residuals the earliest start is kept, which covers
+--   the later ones. This is so in any step, whatever the transducer does.
+-- - places: a match ends at the letter where some survivor's residual has the empty word, and then the first survivor is
+--   the least start of one. Without a match the occurrences stay; else the new one drops those that start there or later.
+-- - early: what is done starts before each start that has still a letter to read, so a find drops none of it; and in a
+--   held state the first entry is the held start, so that "in" drops the held occurrence alone.
+-- - tags, pending: where d is set, its start is live with the tag InD; where a range is held, its start has InC. So the
+--   range of a find begins at the cell of the first survivor, which is what `ranges` and `emitted` say.
+-- - kinds: the typing of the moves says in which states d and c are set.
+-- At the end what was emitted and what is held are the e-ranges of all occurrences, by rising start.
+--
+-- check                                  field of MeetsChecks   used in
+-- step is listed                         (none)                 the configuration is reached (Law)
+-- acceptance agrees                      some, nil, first       places: which start a match has, or that none ends here
+-- the find starts at the pending start   begin                  ranges, emitted (begins_at)
+-- an early find ends                     ends                   early (early_find)
+-- held start is the first entry          holds                  first_held; places and ranges at "in" (same_start)
+-- a release leaves none                  leaves                 early (early_release)
+-- a pending sign keeps a start           pends                  pending
 use Rattle.std.specs.Prelude.{◌≡◌, ◌⊎◌, ℕ, ◌+◌, ◌<◌, ◌≤◌, Bool, true, false, not, ◌&&◌, List, [], ◌∷◌, ◌++◌, length, map, Option, None, Some, refl}
 use Rattle.std.proofs.Common.{sym, ◌∙◌, ap, subst, inl, inr, arith, ⊎_elim}
 use Rattle.std.proofs.lemmas.Bool.{false≢true}
@@ -30,15 +51,22 @@ use Rattle.ts_validate.proofs.Keeps.{first_of, held_range, first_mark, done_afte
 abbrev pub IsShort : {X : Type 0} → Entry X Shape Tag → Type 0
 IsShort e = (l : Letter) (v : List Letter) → InLanguage e.residual (l ∷ v) → ⊥
 
--- the checks, but for "step is option_to_list", of the survivors of a step with the phase f into a state of the kind k'
+-- the checks, but for "step is listed", of the survivors of a step with the phase f into a state of the kind k'
 pub record MeetsChecks {X : Type 0} (f : Phase) (k' : Kind) (free : Bool) (sv : List (Entry X Shape Tag)) : Type 0 where
+  -- at a match some survivor has the empty word, and else none has it
   pub some : is_match f ≡ true → OneOf Accepts sv
   pub nil : is_match f ≡ false → OneOf Accepts sv → ⊥
+  -- where one has it the first one has it
   pub first : OneOf Accepts sv → First Accepts sv
+  -- a find begins at the first survivor
   pub begin : is_find f ≡ true → First (λ e. (e.tag ≡ InD) ⊎ ((e.tag ≡ Due) × (free ≡ true))) sv
+  -- and where it is complete at once, its start has nothing left to read
   pub ends : f ≡ FoundE → First IsShort sv
+  -- in a held state the first entry is the held start
   pub holds : k' ≡ Held → First (λ e. e.tag ≡ InC) (retag f free sv)
+  -- which is live no more where the range is released
   pub leaves : f ≡ OutA → OneOf (λ e. e.tag ≡ InC) sv → ⊥
+  -- the start that the decoder keeps is live
   pub pends : f ≡ MaybeB → OneOf (λ e. e.tag ≡ InD) (retag f free sv)
 
 -- the pair starts before each entry that still has a non-empty word
@@ -49,6 +77,8 @@ After s e = (l : Letter) (v : List Letter) → InLanguage e.residual (l ∷ v) �
 abbrev pub Strictly : ℕ → Entry ℕ Shape Tag → Type 0
 Strictly s e = (v : List Letter) → InLanguage e.residual v → s < e.mark
 
+-- the decoder (the kind of its state, its start d, its range c and what it emitted), the live starts, and the places in
+-- the word of the occurrences that were emitted (`done`) and that is held (`pair`)
 pub record Trace : Type 0 where
   pub state : Kind
   pub d : Option ℕ
@@ -58,15 +88,24 @@ pub record Trace : Type 0 where
   pub done : List Place
   pub pair : Option Place
 
+-- after the signs w
 pub record IsTraced (p : Shape) (a b : ℕ) (w : List Letter) (t : Trace) : Type 0 where
+  -- the kind of the state says what of d and c is set
   pub kinds : KindHolds t.state t.d t.c
+  -- starts rise, each has what is left to read from it, and each start that a match may have is covered
   pub live : AreLive p w (length w) t.live
+  -- each tag says how the start's first cell stands to d and c
   pub tags : Each (λ e. TagHolds (length w) b t.d t.c e.mark e.tag) t.live
+  -- the start d is that of a live entry
   pub pending : (x : ℕ) → t.d ≡ Some x → OneOf (λ e. e.tag ≡ InD) t.live
+  -- the held start is the first live entry
   pub first_held : t.state ≡ Held → First (λ e. e.tag ≡ InC) t.live
+  -- what is done starts before each entry that has a letter to read
   pub early : Each (λ x. Each (After x.start) t.live) t.done
+  -- c and what was emitted are the e-ranges of `pair` and `done`
   pub ranges : t.c ≡ held_range a b t.pair
   pub emitted : t.emitted ≡ map (λ x. e_range b a x) t.done
+  -- and these are all occurrences, by rising start
   pub places : AreOccurrences p w (t.done ++ option_to_list t.pair)
 
 -- one letter: the phase f of the move, and the kind k' of the state that it leads to

@@ -14,7 +14,7 @@ use Rattle.ts_pattern.specs.Entries.{shapes}
 use Rattle.ts_pattern.specs.Plans.{shape_at}
 use Rattle.ts_pattern.proofs.Renamed.{NextAgrees, WordsAgree, SameAgrees}
 use Rattle.ts_validate.specs.declared.known.Known.{Known}
-use Rattle.ts_validate.specs.Numbers.{number_of, next_number, known_of, knowns, known_at, next_on, numbers}
+use Rattle.ts_validate.specs.Numbers.{number_of, next_number, known_of, table_of, known_at, next_on, numbers}
 
 -- the number of a residual is that of its least place
 
@@ -59,7 +59,7 @@ map_place all [] i q = absurd (omega (arith, q))
 map_place all (r ∷ rs) zero q = refl
 map_place all (r ∷ rs) (suc i) q = map_place all rs i (omega (arith, q))
 
-pub known_is : (rs : List Shape) (i : ℕ) → i < length rs → known_at (knowns rs) i ≡ known_of rs (shape_at rs i)
+pub known_is : (rs : List Shape) (i : ℕ) → i < length rs → known_at (table_of rs) i ≡ known_of rs (shape_at rs i)
 known_is rs i q = map_place rs rs i q
 
 next_on_known : (rs : List Shape) (l : Letter) (r : Shape) → next_on l (known_of rs r) ≡ next_number rs r l
@@ -67,7 +67,7 @@ next_on_known rs Less r = refl
 next_on_known rs Equal r = refl
 next_on_known rs Greater r = refl
 
-pub next_is : (rs : List Shape) (i : ℕ) (l : Letter) → i < length rs → next_on l (known_at (knowns rs) i) ≡ next_number rs (shape_at rs i) l
+pub next_is : (rs : List Shape) (i : ℕ) (l : Letter) → i < length rs → next_on l (known_at (table_of rs) i) ≡ next_number rs (shape_at rs i) l
 next_is rs i l q = ap (λ k. next_on l k) (known_is rs i q) ∙ next_on_known rs l (shape_at rs i)
 
 -- a number of a residual
@@ -79,9 +79,9 @@ bools_same true b f g = sym (f refl)
 bools_same false true f g = g refl
 bools_same false false f g = refl
 
-pub numbers_same : (rs : List Shape) → SameAgrees (numbers (knowns rs)) shapes (λ i. shape_at rs i) (λ i. IsNumber rs i)
+pub numbers_same : (rs : List Shape) → SameAgrees (numbers (table_of rs)) shapes (λ i. shape_at rs i) (λ i. IsNumber rs i)
 numbers_same rs i j p q =
-    ap (λ z. z.own == (known_at (knowns rs) j).own) (known_is rs i p) ∙ ap (λ z. number_of rs (shape_at rs i) == z.own) (known_is rs j q)
+    ap (λ z. z.own == (known_at (table_of rs) j).own) (known_is rs i p) ∙ ap (λ z. number_of rs (shape_at rs i) == z.own) (known_is rs j q)
     ∙ bools_same (number_of rs (shape_at rs i) == number_of rs (shape_at rs j)) (same_shape (shape_at rs i) (shape_at rs j))
     (λ e. (same_law (shape_at rs i) (shape_at rs j)).1 (
     sym (number_at rs (shape_at rs i) (let h = number_small rs i p in omega arith))
@@ -111,15 +111,15 @@ next_cases rs r true e q =
         go true e = absurd (let h = eqb-true m n e in omega (arith, q))
         go false e = refl
 
-pub numbers_agree : (rs : List Shape) (l : Letter) (i : ℕ) → IsNumber rs i → nat_le (next_on l (known_at (knowns rs) i)) (length (knowns rs)) ≡ true →
-    NextAgrees (numbers (knowns rs)) shapes (λ i. shape_at rs i) (λ i. IsNumber rs i) l i
+pub numbers_agree : (rs : List Shape) (l : Letter) (i : ℕ) → IsNumber rs i → nat_le (next_on l (known_at (table_of rs) i)) (length (table_of rs)) ≡ true →
+    NextAgrees (numbers (table_of rs)) shapes (λ i. shape_at rs i) (λ i. IsNumber rs i) l i
 numbers_agree rs l i p q =
-    let e : next_on l (known_at (knowns rs) i) ≡ next_number rs (shape_at rs i) l = next_is rs i l p in
-    let n : length (knowns rs) ≡ length rs = length-map rs (λ r. known_of rs r) in
+    let e : next_on l (known_at (table_of rs) i) ≡ next_number rs (shape_at rs i) l = next_is rs i l p in
+    let n : length (table_of rs) ≡ length rs = length-map rs (λ r. known_of rs r) in
     let r : Shape = residual (shape_at rs i) l in
     let h = next_cases rs r (has_word r) refl (subst (λ z. z ≤ length rs) e
-    (subst (λ z. next_on l (known_at (knowns rs) i) ≤ z) n (le_true (next_on l (known_at (knowns rs) i)) (length (knowns rs)) q))) in
-    let has : not (next_on l (known_at (knowns rs) i) == length (knowns rs)) ≡ has_word r = ap (λ z. not (z == length (knowns rs))) e
+    (subst (λ z. next_on l (known_at (table_of rs) i) ≤ z) n (le_true (next_on l (known_at (table_of rs) i)) (length (table_of rs)) q))) in
+    let has : not (next_on l (known_at (table_of rs) i) == length (table_of rs)) ≡ has_word r = ap (λ z. not (z == length (table_of rs))) e
     ∙ ap (λ z. not (next_number rs (shape_at rs i) l == z)) n ∙ h.0 in
     record {
       has = has;
@@ -127,18 +127,18 @@ numbers_agree rs l i p q =
       left = λ t. subst (λ z. z < length rs) (sym e) (h.2 (sym has ∙ t));
     }
 
-pub words_agree : (rs : List Shape) (i : ℕ) → IsNumber rs i → WordsAgree (numbers (knowns rs)) shapes (λ i. shape_at rs i) i
+pub words_agree : (rs : List Shape) (i : ℕ) → IsNumber rs i → WordsAgree (numbers (table_of rs)) shapes (λ i. shape_at rs i) i
 words_agree rs i p =
     record { nullable = ap (λ (k : Known). k.nullable) (known_is rs i p); longer = ap (λ (k : Known). k.longer) (known_is rs i p) }
 
 -- a residual after the letter that has a word and isn't listed
-pub unlisted : (rs : List Shape) (l : Letter) (i : ℕ) → IsNumber rs i → nat_le (next_on l (known_at (knowns rs) i)) (length (knowns rs)) ≡ false →
+pub unlisted : (rs : List Shape) (l : Letter) (i : ℕ) → IsNumber rs i → nat_le (next_on l (known_at (table_of rs) i)) (length (table_of rs)) ≡ false →
     (has_word (residual (shape_at rs i) l) ≡ true) × ((j : ℕ) → j < length rs → shape_at rs j ≡ residual (shape_at rs i) l → ⊥)
 unlisted rs l i p q =
-    let e : next_on l (known_at (knowns rs) i) ≡ next_number rs (shape_at rs i) l = next_is rs i l p in
-    let n : length (knowns rs) ≡ length rs = length-map rs (λ r. known_of rs r) in
+    let e : next_on l (known_at (table_of rs) i) ≡ next_number rs (shape_at rs i) l = next_is rs i l p in
+    let n : length (table_of rs) ≡ length rs = length-map rs (λ r. known_of rs r) in
     let r : Shape = residual (shape_at rs i) l in
-    go r (has_word r) refl (sym (ap (λ z. nat_le z (length (knowns rs))) e ∙ ap (λ z. nat_le (next_number rs (shape_at rs i) l) z) n) ∙ q)
+    go r (has_word r) refl (sym (ap (λ z. nat_le z (length (table_of rs))) e ∙ ap (λ z. nat_le (next_number rs (shape_at rs i) l) z) n) ∙ q)
   where
     above : (a b : ℕ) → nat_le a b ≡ false → b < a
     above a b q = grind (arith, q)

@@ -21,7 +21,7 @@ use Rattle.ts_pattern.specs.Plans.{PlainPlan, shape_at, valued_entry, valued, su
 use Rattle.ts_pattern.proofs.Entries.{shapes_right}
 use Rattle.ts_pattern.proofs.Renamed.{NextAgrees, WordsAgree, survivors_renamed, survivors_left, retag_renamed, no_ind_renamed, agree_renamed}
 use Rattle.ts_pattern.proofs.Tested.{configuration_is}
-use Rattle.ts_validate.specs.Numbers.{knowns, known_at, next_on, numbers, numbered, all_listed}
+use Rattle.ts_validate.specs.Numbers.{table_of, known_at, next_on, numbers, numbered_subject, all_listed}
 use Rattle.ts_validate.proofs.Transfer.{IsNumber, numbers_same, numbers_agree, words_agree, unlisted}
 
 -- each entry has the number of a residual
@@ -40,15 +40,15 @@ numbers_before : (rs : List Shape) (b : ℕ) (es : List (Entry (Unit {0}) ℕ Ta
 numbers_before rs b [] q h = (q, tt)
 numbers_before rs b (e ∷ es) q h = (h.0, numbers_before rs b es q h.1)
 
-each_agrees : (rs : List Shape) (l : Letter) (es : List (Entry (Unit {0}) ℕ Tag)) → AreNumbers rs es → all_listed (knowns rs) l es ≡ true →
-    Each (λ e. NextAgrees (numbers (knowns rs)) shapes (λ i. shape_at rs i) (λ i. IsNumber rs i) l e.residual) es
+each_agrees : (rs : List Shape) (l : Letter) (es : List (Entry (Unit {0}) ℕ Tag)) → AreNumbers rs es → all_listed (table_of rs) l es ≡ true →
+    Each (λ e. NextAgrees (numbers (table_of rs)) shapes (λ i. shape_at rs i) (λ i. IsNumber rs i) l e.residual) es
 each_agrees rs l [] h q = tt
 each_agrees rs l (e ∷ es) h q =
-    let k = and_parts (nat_le (next_on l (known_at (knowns rs) e.residual)) (length (knowns rs))) (all_listed (knowns rs) l es) q in
+    let k = and_parts (nat_le (next_on l (known_at (table_of rs) e.residual)) (length (table_of rs))) (all_listed (table_of rs) l es) q in
     (numbers_agree rs l e.residual h.0 k.0, each_agrees rs l es h.1 k.1)
 
 each_words : (rs : List Shape) (es : List (Entry (Unit {0}) ℕ Tag)) → AreNumbers rs es →
-    Each (λ e. WordsAgree (numbers (knowns rs)) shapes (λ i. shape_at rs i) e.residual) es
+    Each (λ e. WordsAgree (numbers (table_of rs)) shapes (λ i. shape_at rs i) e.residual) es
 each_words rs [] h = tt
 each_words rs (e ∷ es) h = (words_agree rs e.residual h.0, each_words rs es h.1)
 
@@ -57,12 +57,12 @@ retag_numbers rs f free [] h = tt
 retag_numbers rs f free (e ∷ es) h = (h.0, retag_numbers rs f free es h.1)
 
 same_live_valued : (rs : List Shape) (es fs : List (Entry (Unit {0}) ℕ Tag)) → AreNumbers rs es → AreNumbers rs fs →
-    same_live (numbers (knowns rs)) es fs ≡ same_live shapes (valued_entries rs es) (valued_entries rs fs)
+    same_live (numbers (table_of rs)) es fs ≡ same_live shapes (valued_entries rs es) (valued_entries rs fs)
 same_live_valued rs [] [] h k = refl
 same_live_valued rs [] (f ∷ fs) h k = refl
 same_live_valued rs (e ∷ es) [] h k = refl
 same_live_valued rs (e ∷ es) (f ∷ fs) h k =
-    ap (λ z. z && (same_tag e.tag f.tag && same_live (numbers (knowns rs)) es fs)) (numbers_same rs e.residual f.residual h.0 k.0)
+    ap (λ z. z && (same_tag e.tag f.tag && same_live (numbers (table_of rs)) es fs)) (numbers_same rs e.residual f.residual h.0 k.0)
     ∙ ap (λ z. same_shape (shape_at rs e.residual) (shape_at rs f.residual) && (same_tag e.tag f.tag && z)) (same_live_valued rs es fs h.1 k.1)
 
 -- rows, the pattern's expression, its trim, and a plan of it whose residuals and configurations are these
@@ -86,18 +86,18 @@ free_valued rs p b es q =
     sym (no_ind_renamed (λ (u : Unit {0}). u) (λ i. shape_at rs i) (appended tt 0 b es)) ∙ ap (λ z. no_ind z) (before_valued rs p b es q)
 
 kept_valued : (rs : List Shape) (p : Shape) (b : ℕ) (l : Letter) (es : List (Entry (Unit {0}) ℕ Tag)) → 0 < length rs → shape_at rs 0 ≡ normal_form p →
-    AreNumbers rs es → all_listed (knowns rs) l (appended tt 0 b es) ≡ true →
-    valued_entries rs (survivors (numbers (knowns rs)) l (appended tt 0 b es)) ≡ survivors shapes l (appended tt (normal_form p) b (valued_entries rs es))
+    AreNumbers rs es → all_listed (table_of rs) l (appended tt 0 b es) ≡ true →
+    valued_entries rs (survivors (numbers (table_of rs)) l (appended tt 0 b es)) ≡ survivors shapes l (appended tt (normal_form p) b (valued_entries rs es))
 kept_valued rs p b l es s q h a =
-    survivors_renamed (numbers (knowns rs)) shapes (λ (u : Unit {0}). u) (λ i. shape_at rs i) (λ i. IsNumber rs i) (numbers_same rs) l (appended tt 0 b es)
+    survivors_renamed (numbers (table_of rs)) shapes (λ (u : Unit {0}). u) (λ i. shape_at rs i) (λ i. IsNumber rs i) (numbers_same rs) l (appended tt 0 b es)
     (each_agrees rs l (appended tt 0 b es) (numbers_before rs b es s h) a)
     ∙ ap (λ z. survivors shapes l z) (before_valued rs p b es q)
 
 pub stepped_valued : (rows : List Row) (p : Shape) (b : ℕ) (rs : List Shape) (xs : List (PlainConfiguration ℕ)) → IsFor p rs xs → (x : PlainConfiguration ℕ) →
-    HasNumbers rs x → (l : Letter) → all_listed (knowns rs) l (appended tt 0 b x.live) ≡ true →
-    valued rs (stepped (numbered rows (knowns rs) b xs) x l) ≡ stepped (subject rows p b (plan_of rs xs)) (valued rs x) l
+    HasNumbers rs x → (l : Letter) → all_listed (table_of rs) l (appended tt 0 b x.live) ≡ true →
+    valued rs (stepped (numbered_subject rows (table_of rs) b xs) x l) ≡ stepped (subject rows p b (plan_of rs xs)) (valued rs x) l
 stepped_valued rows p b rs xs i x h l a =
-    let s : Subject ℕ = numbered rows (knowns rs) b xs in
+    let s : Subject ℕ = numbered_subject rows (table_of rs) b xs in
     ap (λ z. record { state = (move_of s x l).next; live = z })
     (retag_renamed (λ (u : Unit {0}). u) (λ i. shape_at rs i) (move_of s x l).phase (no_ind (before s x)) (kept s x l)
     ∙ ap (λ z. retag (move_of s x l).phase z (valued_entries rs (kept s x l))) (free_valued rs p b x.live i.whole)
@@ -105,17 +105,18 @@ stepped_valued rows p b rs xs i x h l a =
     (kept_valued rs p b l x.live i.some i.whole h a))
 
 pub agree_valued : (rows : List Row) (p : Shape) (b : ℕ) (rs : List Shape) (xs : List (PlainConfiguration ℕ)) → IsFor p rs xs → (x : PlainConfiguration ℕ) →
-    HasNumbers rs x → (l : Letter) → all_listed (knowns rs) l (appended tt 0 b x.live) ≡ true →
-    entries_agree (numbers (knowns rs)) (move_of (numbered rows (knowns rs) b xs) x l).phase
-    (row_at rows (move_of (numbered rows (knowns rs) b xs) x l).next).kind (no_ind (before (numbered rows (knowns rs) b xs) x))
-    (kept (numbered rows (knowns rs) b xs) x l)
-    ≡ entries_agree shapes (move_of (numbered rows (knowns rs) b xs) x l).phase (row_at rows (move_of (numbered rows (knowns rs) b xs) x l).next).kind
+    HasNumbers rs x → (l : Letter) → all_listed (table_of rs) l (appended tt 0 b x.live) ≡ true →
+    entries_agree (numbers (table_of rs)) (move_of (numbered_subject rows (table_of rs) b xs) x l).phase
+    (row_at rows (move_of (numbered_subject rows (table_of rs) b xs) x l).next).kind (no_ind (before (numbered_subject rows (table_of rs) b xs) x))
+    (kept (numbered_subject rows (table_of rs) b xs) x l)
+    ≡ entries_agree shapes (move_of (numbered_subject rows (table_of rs) b xs) x l).phase
+    (row_at rows (move_of (numbered_subject rows (table_of rs) b xs) x l).next).kind
     (no_ind (appended tt (normal_form p) b (valued_entries rs x.live))) (survivors shapes l (appended tt (normal_form p) b (valued_entries rs x.live)))
 agree_valued rows p b rs xs i x h l a =
-    let s : Subject ℕ = numbered rows (knowns rs) b xs in
-    let left : AreNumbers rs (kept s x l) = survivors_left (numbers (knowns rs)) shapes (λ i. shape_at rs i) (λ i. IsNumber rs i) l (before s x)
+    let s : Subject ℕ = numbered_subject rows (table_of rs) b xs in
+    let left : AreNumbers rs (kept s x l) = survivors_left (numbers (table_of rs)) shapes (λ i. shape_at rs i) (λ i. IsNumber rs i) l (before s x)
     (each_agrees rs l (before s x) (numbers_before rs b x.live i.some h) a) in
-    agree_renamed (numbers (knowns rs)) shapes (λ (u : Unit {0}). u) (λ i. shape_at rs i) (move_of s x l).phase (row_at rows (move_of s x l).next).kind
+    agree_renamed (numbers (table_of rs)) shapes (λ (u : Unit {0}). u) (λ i. shape_at rs i) (move_of s x l).phase (row_at rows (move_of s x l).next).kind
     (no_ind (before s x)) (kept s x l) (each_words rs (kept s x l) left)
     ∙ ap (λ z. entries_agree shapes (move_of s x l).phase (row_at rows (move_of s x l).next).kind z (valued_entries rs (kept s x l)))
     (free_valued rs p b x.live i.whole)
@@ -123,12 +124,12 @@ agree_valued rows p b rs xs i x h l a =
     (no_ind (appended tt (normal_form p) b (valued_entries rs x.live))) z) (kept_valued rs p b l x.live i.some i.whole h a)
 
 pub same_valued : (rows : List Row) (p : Shape) (b : ℕ) (rs : List Shape) (xs : List (PlainConfiguration ℕ)) → IsFor p rs xs → (x y : PlainConfiguration ℕ) →
-    HasNumbers rs x → HasNumbers rs y → (l : Letter) → all_listed (knowns rs) l (appended tt 0 b x.live) ≡ true →
-    same_configuration (numbers (knowns rs)) y (stepped (numbered rows (knowns rs) b xs) x l)
+    HasNumbers rs x → HasNumbers rs y → (l : Letter) → all_listed (table_of rs) l (appended tt 0 b x.live) ≡ true →
+    same_configuration (numbers (table_of rs)) y (stepped (numbered_subject rows (table_of rs) b xs) x l)
     ≡ same_configuration shapes (valued rs y) (stepped (subject rows p b (plan_of rs xs)) (valued rs x) l)
 same_valued rows p b rs xs i x y h k l a =
-    let s : Subject ℕ = numbered rows (knowns rs) b xs in
-    let left : AreNumbers rs (kept s x l) = survivors_left (numbers (knowns rs)) shapes (λ i. shape_at rs i) (λ i. IsNumber rs i) l (before s x)
+    let s : Subject ℕ = numbered_subject rows (table_of rs) b xs in
+    let left : AreNumbers rs (kept s x l) = survivors_left (numbers (table_of rs)) shapes (λ i. shape_at rs i) (λ i. IsNumber rs i) l (before s x)
     (each_agrees rs l (before s x) (numbers_before rs b x.live i.some h) a) in
     ap (λ z. (y.state == (stepped s x l).state) && z)
     (same_live_valued rs y.live (stepped s x l).live k (retag_numbers rs (move_of s x l).phase (no_ind (before s x)) (kept s x l) left))
@@ -173,16 +174,17 @@ not_in rs d [] n h o = o
 not_in rs d (e ∷ es) n h o = ⊎_elim (λ q. n e.residual h.0 q) (λ q. not_in rs d es n h.1 q) o
 
 -- an entry whose residual after the letter is d, a word of no listed residual
-missing : (rs : List Shape) (l : Letter) (es : List (Entry (Unit {0}) ℕ Tag)) → AreNumbers rs es → all_listed (knowns rs) l es ≡ false →
+missing : (rs : List Shape) (l : Letter) (es : List (Entry (Unit {0}) ℕ Tag)) → AreNumbers rs es → all_listed (table_of rs) l es ≡ false →
     (d : Shape) × (has_word d ≡ true) × ((j : ℕ) → j < length rs → shape_at rs j ≡ d → ⊥) × OneOf (λ e. residual e.residual l ≡ d) (valued_entries rs es)
 missing rs l [] h q = absurd (false≢true (sym q))
-missing rs l (e ∷ es) h q = go (nat_le (next_on l (known_at (knowns rs) e.residual)) (length (knowns rs))) (unlisted rs l e.residual h.0) (missing rs l es h.1)
+missing rs l (e ∷ es) h q = go (nat_le (next_on l (known_at (table_of rs) e.residual)) (length (table_of rs))) (unlisted rs l e.residual h.0)
+    (missing rs l es h.1)
     q
   where
     go : (a : Bool) → (a ≡ false → (has_word (residual (shape_at rs e.residual) l) ≡ true)
         × ((j : ℕ) → j < length rs → shape_at rs j ≡ residual (shape_at rs e.residual) l → ⊥)) →
-        (all_listed (knowns rs) l es ≡ false → (d : Shape) × (has_word d ≡ true) × ((j : ℕ) → j < length rs → shape_at rs j ≡ d → ⊥)
-        × OneOf (λ e. residual e.residual l ≡ d) (valued_entries rs es)) → a && all_listed (knowns rs) l es ≡ false →
+        (all_listed (table_of rs) l es ≡ false → (d : Shape) × (has_word d ≡ true) × ((j : ℕ) → j < length rs → shape_at rs j ≡ d → ⊥)
+        × OneOf (λ e. residual e.residual l ≡ d) (valued_entries rs es)) → a && all_listed (table_of rs) l es ≡ false →
         (d : Shape) × (has_word d ≡ true) × ((j : ℕ) → j < length rs → shape_at rs j ≡ d → ⊥)
         × OneOf (λ e. residual e.residual l ≡ d) (valued_entries rs (e ∷ es))
     go true u m s = let k = m s in (k.0, k.1, k.2, inr k.3)
@@ -199,7 +201,7 @@ some_same {A} p h Q (x ∷ xs) e q = go (p (h x)) refl (some_same p h Q xs e.1) 
     go false t m s = m s
 
 pub not_listed : (rows : List Row) (p : Shape) (b : ℕ) (rs : List Shape) (xs : List (PlainConfiguration ℕ)) → IsFor p rs xs → (x : PlainConfiguration ℕ) →
-    HasNumbers rs x → (l : Letter) → all_listed (knowns rs) l (appended tt 0 b x.live) ≡ false →
+    HasNumbers rs x → (l : Letter) → all_listed (table_of rs) l (appended tt 0 b x.live) ≡ false →
     step_listed (subject rows p b (plan_of rs xs)) (valued rs x) l ≡ false
 not_listed rows p b rs xs i x h l a =
     let s : Subject Shape = subject rows p b (plan_of rs xs) in

@@ -17,7 +17,7 @@ use Rattle.ts_pattern.specs.Plans.{plain_plan, valued, is_empty, is_blank, is_pl
 use Rattle.ts_validate.specs.declared.arrival.Arrival.{Arrival}
 use Rattle.ts_validate.specs.declared.arrival.Tour.{Tour}
 use Rattle.ts_validate.specs.declared.failure.Failure.{Failure}
-use Rattle.ts_validate.specs.Reaches.{configuration_at, against, value_at, value_of, IsFirst, arrived, place_at, Reaches, IsTour, IsPath, PathStart, PathOn, AllMeet, FailsFirst}
+use Rattle.ts_validate.specs.Reaches.{configuration_at, against, value_at, value_of, IsFirst, arrival_at, place_at, Reaches, IsTour, IsPath, PathStart, PathOn, AllMeet, FailsFirst}
 use Rattle.ts_validate.specs.Failures.{failure_on, failure_from, failure_at}
 use Rattle.ts_validate.specs.Refusals.{IsRefusal}
 
@@ -47,10 +47,10 @@ start_value rows p plan q =
     (list_all (λ x. list_all (λ e. nat_lt e.residual (length (plain_plan plan).residuals)) x.live) (plain_plan plan).configurations) h.1 in
     first_value (plain_plan plan).residuals (plain_plan plan).configurations k.0
 
--- each reached configuration has arrived, by its least number
+-- each reached configuration has arrival_at, by its least number
 
 abbrev Arrives : Subject Shape → List Arrival → PlainConfiguration Shape → Type 0
-Arrives s xs x = (m : ℕ) × (m < length xs) × IsFirst s x (arrived xs m).configuration
+Arrives s xs x = (m : ℕ) × (m < length xs) × IsFirst s x (arrival_at xs m).configuration
 
 complete : (s : Subject Shape) (t : Tour) → IsTour s t → length t.failing.items ≡ length t.arrivals.items → value_at s 0 ≡ blank →
     (w : List Letter) (x : PlainConfiguration Shape) → LeadsTo s w x → Arrives s t.arrivals.items x
@@ -66,29 +66,29 @@ complete s t h full b w x (OneStepOn v w' y x' l g u e q) = go (complete s t h f
     go a u q =
         let same : value_of s t.arrivals.items a.0 ≡ y = a.2.1 in
         let m = h.followed a.0 (let i = a.1 in omega (arith, i, full)) l (subst (λ z. step_listed s z l ≡ true) (sym same) u) in
-        (m.0, m.1, subst (λ z. IsFirst s z (arrived t.arrivals.items m.0).configuration) (ap (λ z. stepped s z l) same ∙ sym q) m.2)
+        (m.0, m.1, subst (λ z. IsFirst s z (arrival_at t.arrivals.items m.0).configuration) (ap (λ z. stepped s z l) same ∙ sym q) m.2)
 
 -- where no failure is found at an arrival, the checks hold there
 meets_there : (s : Subject Shape) (t : Tour) → IsTour s t → length t.failing.items ≡ length t.arrivals.items → (k : ℕ) → k < length t.arrivals.items →
-    failure_at t (arrived t.arrivals.items k).configuration ≡ None → AllMeet s (arrived t.arrivals.items k).configuration
+    failure_at t (arrival_at t.arrivals.items k).configuration ≡ None → AllMeet s (arrival_at t.arrivals.items k).configuration
 meets_there s t h full k q none =
     go (get_or t.failing.items k None) (slice_get-get_or t.failing.items k None (omega (arith, q, full)))
-    (sym (ap (λ z. failure_from t (arrived t.arrivals.items k).configuration z) (h.reaches.back k q)) ∙ none)
+    (sym (ap (λ z. failure_from t (arrival_at t.arrivals.items k).configuration z) (h.reaches.back k q)) ∙ none)
   where
     go : (o : Option Letter) → slice_get t.failing.items k ≡ Some o →
-        failure_on (arrived t.arrivals.items k).configuration k (slice_get t.failing.items k) ≡ None →
-        AllMeet s (arrived t.arrivals.items k).configuration
+        failure_on (arrival_at t.arrivals.items k).configuration k (slice_get t.failing.items k) ≡ None →
+        AllMeet s (arrival_at t.arrivals.items k).configuration
     go None e n = h.judged k None e
     go (Some l) e n =
-        let c = (arrived t.arrivals.items k).configuration in
+        let c = (arrival_at t.arrivals.items k).configuration in
         absurd (none-some (record { configuration = c; place = k; letter = l }) (sym n ∙ ap (λ z. failure_on c k z) e))
 
--- the checks hold at each reached configuration that arrived below a number without a failure
+-- the checks hold at each reached configuration that arrival_at below a number without a failure
 arrives_meets : (s : Subject Shape) (t : Tour) → IsTour s t → length t.failing.items ≡ length t.arrivals.items → (n : ℕ) →
     ((i : ℕ) → i < n → failure_at t i ≡ None) → (x : PlainConfiguration Shape) (a : Arrives s t.arrivals.items x) →
-    (arrived t.arrivals.items a.0).configuration < n → (l : Letter) → meets_checks s x l ≡ true
+    (arrival_at t.arrivals.items a.0).configuration < n → (l : Letter) → meets_checks s x l ≡ true
 arrives_meets s t h full n none x a c l =
-    subst (λ z. meets_checks s z l ≡ true) a.2.1 (meets_there s t h full a.0 a.1 (none (arrived t.arrivals.items a.0).configuration c) l)
+    subst (λ z. meets_checks s z l ≡ true) a.2.1 (meets_there s t h full a.0 a.1 (none (arrival_at t.arrivals.items a.0).configuration c) l)
 
 pub closed_is : (rows : List Row) (p : Pattern) (plan : Plan) → is_plan_of (shape_of p.regex) (plain_plan plan) ≡ true → (t : Tour) →
     IsTour (against rows p plan) t → length t.failing.items ≡ length t.arrivals.items →
@@ -106,8 +106,8 @@ path_leads s xs os h b k w (PathStart k' w' e q) c =
     FromStart w (value_of s xs k) q (ap (λ z. value_of s xs z) e ∙ ap (λ z. value_at s z) h.start ∙ b)
 path_leads s xs os h b k w (PathOn k' v w' d g e) c =
     let t = h.steps k d c in
-    OneStepOn v w (value_of s xs (arrived xs k).from) (value_of s xs k) (arrived xs k).letter
-    (path_leads s xs os h b (arrived xs k).from v g (let z = t.0 in omega arith)) t.1 e t.2
+    OneStepOn v w (value_of s xs (arrival_at xs k).from) (value_of s xs k) (arrival_at xs k).letter
+    (path_leads s xs os h b (arrival_at xs k).from v g (let z = t.0 in omega arith)) t.1 e t.2
 
 before : (m n : ℕ) → (m < n → ⊥) → n ≤ m
 before m n h = omega (arith, h)
@@ -148,7 +148,7 @@ refusal_is rows p plan q t h full f room at none w path =
       fails = m.1;
       least = λ i c r l.
           let a = complete s t h full b r.0 (value_at s i) r.1 in
-          let n : (arrived t.arrivals.items a.0).configuration ≤ i = before i (arrived t.arrivals.items a.0).configuration (λ z. a.2.2 i z refl) in
+          let n : (arrival_at t.arrivals.items a.0).configuration ≤ i = before i (arrival_at t.arrivals.items a.0).configuration (λ z. a.2.2 i z refl) in
           arrives_meets s t h full f.configuration none (value_at s i) a (omega (arith, n, c)) l;
       refutes = λ c. false≢true (sym m.1.0 ∙ c (value_at s f.configuration) (w, leads) f.letter);
     }

@@ -1,4 +1,3 @@
-pub mod Valid
 pub mod Numbers
 pub mod Facts
 pub mod Looks

@@ -1,4 +1,5 @@
--- What a step shows: where it is listed first, and whether the checks hold; nothing of it is where a residual isn't listed.
+-- What a step shows: where it is listed first, and whether the checks hold. It is listed nowhere, and fails, where a
+-- residual after the letter that has a word isn't listed.
 use Rattle.std.specs.Prelude.{ℕ, Bool, true, false, ◌&&◌, Option, None, Some, is_some}
 use Rattle.ts_transducer.specs.declared.row.Row.{Row}
 use Rattle.ts_transducer.specs.Decode.{resting_row}

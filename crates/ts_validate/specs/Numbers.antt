@@ -1,7 +1,7 @@
 -- The residuals of a plan by their numbers: the tests on them read a table. The number of all residuals stands for one
 -- without a word, and that plus 1 for one that the plan doesn't list.
-use Rattle.std.specs.Prelude.{ℕ, ◌+◌, ◌==◌, nat_le, Bool, false, not, ◌&&◌, if◌then◌else◌, List, [], ◌∷◌, ◌++◌, Option, None, Some, is_some, map, length, slice_get}
-use Rattle.std.specs.List.{list_all, list_any, position}
+use Rattle.std.specs.Prelude.{ℕ, ◌+◌, ◌==◌, nat_le, Bool, false, not, ◌&&◌, if◌then◌else◌, List, [], ◌∷◌, Option, None, Some, is_some, map, length, slice_get}
+use Rattle.std.specs.List.{list_all, position}
 use Rattle.ts_base.specs.declared.letter.Letter.{Letter}
 use Rattle.ts_base.specs.declared.letter.Letter.TheVariants.{Less, Equal, Greater}
 use Rattle.ts_regex.specs.Shape.{Shape}
@@ -13,7 +13,7 @@ use Rattle.ts_pattern.specs.declared.plan.Tag.{Tag}
 use Rattle.ts_pattern.specs.declared.plan.Live.{Live}
 use Rattle.ts_pattern.specs.declared.plan.Configuration.{Configuration}
 use Rattle.ts_pattern.specs.Plans.{plain_live, plain_configuration}
-use Rattle.ts_pattern.specs.Entries.{Entry, Residuals, derive_entry}
+use Rattle.ts_pattern.specs.Entries.{Entry, Residuals}
 use Rattle.ts_pattern.specs.Closed.{PlainConfiguration, Subject, no_ind, retag, move_of, before, kept, stepped, entries_agree, same_configuration}
 use Rattle.ts_transducer.specs.Decode.{row_at}
 use Rattle.ts_validate.specs.declared.known.Known.{Known}
@@ -37,8 +37,8 @@ known_of rs r =
       longer = has_longer r;
     }
 
-abbrev pub knowns : List Shape → List Known
-knowns rs = map (λ r. known_of rs r) rs
+abbrev pub table_of : List Shape → List Known
+table_of rs = map (λ r. known_of rs r) rs
 
 abbrev pub unknown : Known
 unknown = record { less = 0; equal = 0; greater = 0; own = 0; nullable = false; longer = false }
@@ -63,8 +63,8 @@ abbrev pub plain_configurations : List Configuration → List (PlainConfiguratio
 plain_configurations xs = map (λ x. plain_configuration x) xs
 
 -- the configuration of a move's state and of the entries that are kept, with their tags after the step
-abbrev pub moved : Arrow → Bool → List Live → PlainConfiguration ℕ
-moved arrow free es = record { state = arrow.next; live = retag arrow.phase free (plain_lives es) }
+abbrev pub configuration_after : Arrow → Bool → List Live → PlainConfiguration ℕ
+configuration_after arrow free es = record { state = arrow.next; live = retag arrow.phase free (plain_lives es) }
 
 -- numbers as residuals, by the table
 abbrev pub numbers : List Known → Residuals ℕ
@@ -78,8 +78,8 @@ numbers table =
     }
 
 -- rows against a plan by numbers; the whole pattern is residual 0
-abbrev pub numbered : List Row → List Known → ℕ → List (PlainConfiguration ℕ) → Subject ℕ
-numbered rows table b configurations =
+abbrev pub numbered_subject : List Row → List Known → ℕ → List (PlainConfiguration ℕ) → Subject ℕ
+numbered_subject rows table b configurations =
     record { rows = rows; trim = b; whole = 0; configurations = configurations; on = numbers table }
 
 -- residual i after the letter is listed, or has no word
@@ -89,12 +89,6 @@ is_listed table l i = nat_le (next_on l (known_at table i)) (length table)
 -- each residual after the letter that has a word is listed
 abbrev pub all_listed : {X T : Type 0} → List Known → Letter → List (Entry X ℕ T) → Bool
 all_listed table l es = list_all (λ e. is_listed table l e.residual) es
-
--- what is left of one more entry, beside those that are left of the entries before it
-abbrev pub joined : {X R T : Type 0} → Residuals R → Letter → Entry X R T → List (Entry X R T) → List (Entry X R T)
-joined t l e ks =
-    if t.has_word (t.next e.residual l) && not (list_any (λ k. t.same k.residual (t.next e.residual l)) ks) then ks
-    ++ derive_entry t l e ∷ [] else ks
 
 -- where the step of x is listed first, if each residual after it is listed
 abbrev pub next_place : List Known → Subject ℕ → PlainConfiguration ℕ → Letter → Option ℕ

@@ -41,8 +41,8 @@ abbrev pub arrival : ℕ → ℕ → Letter → Arrival
 arrival configuration from l = record { configuration = configuration; from = from; letter = l }
 
 -- arrival k, and the place at number c
-abbrev pub arrived : List Arrival → ℕ → Arrival
-arrived arrivals k = slice_index_or arrivals k (arrival 0 0 Less)
+abbrev pub arrival_at : List Arrival → ℕ → Arrival
+arrival_at arrivals k = slice_index_or arrivals k (arrival 0 0 Less)
 
 abbrev pub place_at : List (Option ℕ) → ℕ → Option ℕ
 place_at places c = slice_index_or places c None
@@ -55,31 +55,33 @@ open_places (Some k ∷ places) = open_places places
 
 -- the configuration of arrival k
 abbrev pub value_of : Subject Shape → List Arrival → ℕ → PlainConfiguration Shape
-value_of s arrivals k = value_at s (arrived arrivals k).configuration
+value_of s arrivals k = value_at s (arrival_at arrivals k).configuration
 
 -- arrival k goes on from an earlier one by its letter
 abbrev pub GoesOn : Subject Shape → List Arrival → ℕ → Type 0
 GoesOn s arrivals k =
-    ((arrived arrivals k).from < k)
-    × (step_listed s (value_of s arrivals (arrived arrivals k).from) (arrived arrivals k).letter ≡ true)
-    × (value_of s arrivals k ≡ stepped s (value_of s arrivals (arrived arrivals k).from) (arrived arrivals k).letter)
+    ((arrival_at arrivals k).from < k)
+    × (step_listed s (value_of s arrivals (arrival_at arrivals k).from) (arrival_at arrivals k).letter ≡ true)
+    × (value_of s arrivals k ≡ stepped s (value_of s arrivals (arrival_at arrivals k).from)
+    (arrival_at arrivals k).letter)
 
 pub record Reaches (s : Subject Shape) (arrivals : List Arrival) (places : List (Option ℕ)) : Type 0 where
   pub size : length places ≡ length s.configurations
   pub count : open_places places + length arrivals ≡ length places
   pub some : 0 < length arrivals
-  pub start : (arrived arrivals 0).configuration ≡ 0
+  pub start : (arrival_at arrivals 0).configuration ≡ 0
   pub steps : (k : ℕ) → 0 < k → k < length arrivals → GoesOn s arrivals k
-  pub inside : (k : ℕ) → k < length arrivals → (arrived arrivals k).configuration < length s.configurations
-  pub there : (c k : ℕ) → place_at places c ≡ Some k → (k < length arrivals) × ((arrived arrivals k).configuration ≡ c)
-  pub back : (k : ℕ) → k < length arrivals → place_at places (arrived arrivals k).configuration ≡ Some k
+  pub inside : (k : ℕ) → k < length arrivals → (arrival_at arrivals k).configuration < length s.configurations
+  pub there : (c k : ℕ) → place_at places c ≡ Some k →
+      (k < length arrivals) × ((arrival_at arrivals k).configuration ≡ c)
+  pub back : (k : ℕ) → k < length arrivals → place_at places (arrival_at arrivals k).configuration ≡ Some k
 
 -- where the step of arrival k on l is listed, its first number has arrived
 abbrev pub Follows : Subject Shape → List Arrival → ℕ → Letter → Type 0
 Follows s arrivals k l =
     step_listed s (value_of s arrivals k) l ≡ true →
     (m : ℕ) × (m < length arrivals)
-    × IsFirst s (stepped s (value_of s arrivals k) l) (arrived arrivals m).configuration
+    × IsFirst s (stepped s (value_of s arrivals k) l) (arrival_at arrivals m).configuration
 
 -- the steps of the first arrivals have all arrived
 abbrev pub Followed : Subject Shape → List Arrival → ℕ → Type 0
@@ -92,8 +94,8 @@ Grows old new = (more : List Arrival) × (new ≡ old ++ more)
 -- the letters from the start to arrival k
 pub data IsPath (arrivals : List Arrival) : ℕ → List Letter → Type 0 where
   PathStart : (k : ℕ) (w : List Letter) → k ≡ 0 → w ≡ [] → IsPath arrivals k w
-  PathOn : (k : ℕ) (v w : List Letter) → 0 < k → IsPath arrivals (arrived arrivals k).from v →
-      w ≡ v ++ (arrived arrivals k).letter ∷ [] → IsPath arrivals k w
+  PathOn : (k : ℕ) (v w : List Letter) → 0 < k → IsPath arrivals (arrival_at arrivals k).from v →
+      w ≡ v ++ (arrival_at arrivals k).letter ∷ [] → IsPath arrivals k w
 
 -- the checks hold on each letter
 abbrev pub AllMeet : Subject Shape → ℕ → Type 0
@@ -113,8 +115,8 @@ FailsFirst s i l = (meets_checks s (value_at s i) l ≡ false) × MeetsBefore s 
 abbrev pub Judged : Subject Shape → List Arrival → List (Option Letter) → Type 0
 Judged s arrivals failing =
     (k : ℕ) (o : Option Letter) → slice_get failing k ≡ Some o →
-    MatchOption o (AllMeet s (arrived arrivals k).configuration)
-    (λ l. FailsFirst s (arrived arrivals k).configuration l)
+    MatchOption o (AllMeet s (arrival_at arrivals k).configuration)
+    (λ l. FailsFirst s (arrival_at arrivals k).configuration l)
 
 -- a tour: its arrivals are reached, and the steps of the first of them were taken and judged
 pub record IsTour (s : Subject Shape) (t : Tour) : Type 0 where

@@ -1,5 +1,5 @@
--- Why a plan isn't closed: the least reached configuration at which a check fails, the first letter there, and the signs
--- that lead to it.
+-- Why a plan isn't closed: the least reached configuration at which a check fails, the first letter there, and the
+-- signs that lead to it.
 use Rattle.std.specs.Prelude.{ℕ, ◌<◌, List, length}
 use Rattle.ts_base.specs.declared.letter.Letter.{Letter}
 use Rattle.ts_regex.specs.Shape.{Shape}

@@ -4,7 +4,7 @@ ghost use Rattle.std.specs.Prelude.{◌≡◌, ◌<◌, ◌+◌, ◌++◌, [], �
 ghost use Rattle.ts_pattern.specs.Closed.{meets_checks};
 ghost use Rattle.ts_validate.specs.Trials.{subject_of};
 ghost use Rattle.ts_validate.specs.FirstFalse.{first_false};
-ghost use Rattle.ts_validate.specs.Reaches.{value_of, arrival, arrived, place_at, Reaches, Follows, Grows, IsTour, IsPath};
+ghost use Rattle.ts_validate.specs.Reaches.{value_of, arrival, arrival_at, place_at, Reaches, Follows, Grows, IsTour, IsPath};
 
 use crate::trial::Trial;
 use std::alloc::Global;
@@ -61,7 +61,7 @@ impl Tour {
 
     fn arrival(&self, k: usize) -> Arrival
         requires { k < length self.now.arrivals.items }
-        ensures { result ≡ arrived self.now.arrivals.items k }
+        ensures { result ≡ arrival_at self.now.arrivals.items k }
     {
         self.arrivals[k]
     }
@@ -94,12 +94,13 @@ impl Tour {
     ) -> Result<bool, Memory>
         requires reaches { Reaches (subject_of trial.now) self.old.arrivals.items self.old.places.items }
         requires there { from < length self.old.arrivals.items }
-        ensures reaches { IfOk result (λ _. Reaches (subject_of trial.now) self.new.arrivals.items self.new.places.items) }
+        ensures reaches { IfOk result (λ _.
+            Reaches (subject_of trial.now) self.new.arrivals.items self.new.places.items) }
         ensures grows { IfOk result (λ _. Grows self.old.arrivals.items self.new.arrivals.items) }
         ensures follows { IfOk result (λ _. Follows (subject_of trial.now) self.new.arrivals.items from letter) }
         ensures failing { IfOk result (λ _. self.new.failing.items ≡ self.old.failing.items) }
-        ensures meets { IfOk result (λ b. b
-            ≡ meets_checks (subject_of trial.now) (value_of (subject_of trial.now) self.old.arrivals.items from) letter) }
+        ensures meets { IfOk result (λ b. b ≡ meets_checks (subject_of trial.now)
+            (value_of (subject_of trial.now) self.old.arrivals.items from) letter) }
     {
         let here = self.arrival(from).configuration;
         let seen = trial.look(alloc, here, letter)?;
@@ -134,7 +135,7 @@ impl Tour {
     pub fn signature(&self, alloc: Global, k: usize) -> Result<Vec<Letter>, Memory>
         requires there { k < length self.now.arrivals.items }
         requires back { (j : ℕ) → 0 < j → j < length self.now.arrivals.items
-            → (arrived self.now.arrivals.items j).from < j }
+            → (arrival_at self.now.arrivals.items j).from < j }
         ensures { IfOk result (λ w. IsPath self.now.arrivals.items k w.items) }
     {
         let mut at = k;

@@ -5,7 +5,7 @@ ghost use Rattle.ts_regex.specs.Shape.{shape_of};
 ghost use Rattle.ts_transducer.specs.Rows.{rows_of};
 ghost use Rattle.ts_pattern.specs.Closed.{IsClosed};
 ghost use Rattle.ts_pattern.specs.Plans.{plain_plan, is_plan_of};
-ghost use Rattle.ts_validate.specs.Valid.{IsValid};
+ghost use Rattle.ts_pattern.specs.Valid.{IsValid};
 ghost use Rattle.ts_validate.specs.Reaches.{against};
 ghost use Rattle.ts_validate.specs.Validations.{transducer_of, pattern_of};
 ghost use Rattle.ts_validate.specs.Refusals.{IsStop};
@@ -16,7 +16,6 @@ use crate::stop::ValidateStop;
 use crate::trial::Trial;
 use crate::validated::Validated;
 use std::alloc::Global;
-use ts_base::Memory;
 use ts_pattern::{Pattern, Plan};
 use ts_transducer::{Row, Transducer};
 
@@ -43,18 +42,6 @@ fn check(alloc: Global, rows: &[Row], p: &Pattern, plan: &Plan) -> Result<(), Va
     }
 }
 
-fn copied(alloc: Global, p: &Pattern) -> Result<Pattern, Memory>
-    ensures regex { IfOk result (λ q. shape_of q.regex ≡ shape_of p.now.regex) }
-    ensures b { IfOk result (λ q. q.b ≡ p.now.b) }
-    ensures a { IfOk result (λ q. q.a ≡ p.now.a) }
-{
-    Ok(Pattern {
-        regex: p.regex.copy(alloc)?,
-        b: p.b,
-        a: p.a,
-    })
-}
-
 /// The transducer as one that finds the occurrences of the pattern. Ok exactly where each configuration of the
 /// plan that is reached meets the six checks of Closed on each letter; else `Refused` names the reached
 /// configuration with the least number at which a check fails, the first letter there in the order `<`, `=`,
@@ -77,7 +64,7 @@ pub fn validate(
     ensures refused { IfErr result (λ e. IsStop (against (rows_of t) p.now plan.now) e) }
 {
     check(alloc, t.rows(), p, plan)?;
-    let pattern = copied(alloc, p)?;
+    let pattern = p.try_clone(alloc)?;
     Ok(Validated {
         transducer: t,
         pattern,

@@ -4,7 +4,7 @@ ghost use Rattle.std.specs.Prelude.{◌≡◌, ◌<◌, length, map, IfOk};
 ghost use Rattle.std.specs.List.{position};
 ghost use Rattle.ts_regex.specs.NormalForm.{same_shape};
 ghost use Rattle.ts_regex.specs.Shape.{shape_of};
-ghost use Rattle.ts_validate.specs.Numbers.{number_of, next_number, known_of, knowns, known_at, next_on};
+ghost use Rattle.ts_validate.specs.Numbers.{number_of, next_number, known_of, table_of, known_at, next_on};
 
 use std::alloc::Global;
 use ts_base::{Letter, Memory};
@@ -102,7 +102,7 @@ fn know(alloc: Global, residuals: &[Regex], r: &Regex) -> Result<Known, Memory>
 /// What is known of each residual.
 pub fn know_all(alloc: Global, residuals: &[Regex]) -> Result<Vec<Known>, Memory>
     requires { length residuals.now < 4000000000 }
-    ensures { IfOk result (λ table. table.items ≡ knowns (map (λ s. shape_of s) residuals.now)) }
+    ensures { IfOk result (λ table. table.items ≡ table_of (map (λ s. shape_of s) residuals.now)) }
 {
     let mut table = Vec::new(alloc);
     for r in residuals {

@@ -2,11 +2,12 @@
 
 ghost use Rattle.std.specs.Prelude.{◌≡◌, ◌&&◌, not, map, slice_get, IfOk};
 ghost use Rattle.std.specs.List.{list_all, list_any, position, zip};
-ghost use Rattle.ts_pattern.specs.Entries.{survivors};
+ghost use Rattle.ts_pattern.specs.Entries.{derive_entry, survivors, with_entry};
 ghost use Rattle.ts_pattern.specs.Closed.{same_tag, tag_after, retag, appended, same_live, same_configuration};
 ghost use Rattle.ts_pattern.specs.Plans.{plain_live, plain_configuration};
 ghost use Rattle.ts_validate.specs.Looks.{look_of, row_or};
-ghost use Rattle.ts_validate.specs.Numbers.{numbers, numbered, is_listed, joined, moved, next_place, number_meets};
+ghost use Rattle.ts_validate.specs.Numbers.{numbers, numbered_subject, is_listed, configuration_after};
+ghost use Rattle.ts_validate.specs.Numbers.{next_place, number_meets};
 ghost use Rattle.ts_validate.specs.Numbers.{plain_lives, plain_configurations};
 
 use crate::facts::answers;
@@ -40,7 +41,8 @@ fn add_left(
     kept: &mut Vec<Live>,
 ) -> Result<(), Memory>
     ensures { IfOk result (λ _. plain_lives kept.new.items
-        ≡ joined (numbers table.now) letter (plain_live entry) (plain_lives kept.old.items)) }
+        ≡ with_entry (numbers table.now) (plain_lives kept.old.items)
+        (derive_entry (numbers table.now) letter (plain_live entry))) }
 {
     let residual = look_up(table, entry.residual).next(letter);
     let new = is_new(table, residual, kept);
@@ -127,8 +129,8 @@ fn same_live(table: &[Known], phase: Phase, free: bool, listed: &[Live], kept: &
 
 /// Whether a listed configuration is the state with the kept entries, with their tags after the step.
 fn is_same(table: &[Known], arrow: Arrow, free: bool, kept: &[Live], listed: &Configuration) -> bool
-    ensures { result
-        ≡ same_configuration (numbers table.now) (plain_configuration listed.now) (moved arrow free kept.now) }
+    ensures { result ≡ same_configuration (numbers table.now) (plain_configuration listed.now)
+        (configuration_after arrow free kept.now) }
 {
     let live = listed.live.as_slice();
     listed.state == arrow.next && same_live(table, arrow.phase, free, live, kept)
@@ -143,7 +145,8 @@ fn place(
     configurations: &[Configuration],
 ) -> Option<usize>
     ensures { result ≡ position
-        (λ y. same_configuration (numbers table.now) (plain_configuration y) (moved arrow free kept.now))
+        (λ y. same_configuration (numbers table.now) (plain_configuration y)
+        (configuration_after arrow free kept.now))
         configurations.now }
 {
     configurations
@@ -179,10 +182,10 @@ pub fn look_at(
     letter: Letter,
 ) -> Result<Look, Memory>
     ensures next { IfOk result (λ k. k.next
-        ≡ next_place table.now (numbered rows.now table.now b (plain_configurations configurations.now))
+        ≡ next_place table.now (numbered_subject rows.now table.now b (plain_configurations configurations.now))
         (plain_configuration here.now) letter) }
     ensures meets { IfOk result (λ k. k.meets
-        ≡ number_meets table.now (numbered rows.now table.now b (plain_configurations configurations.now))
+        ≡ number_meets table.now (numbered_subject rows.now table.now b (plain_configurations configurations.now))
         (plain_configuration here.now) letter) }
 {
     let live = here.live.as_slice();

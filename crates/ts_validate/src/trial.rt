@@ -3,7 +3,7 @@
 ghost use Rattle.std.specs.Prelude.{◌≡◌, ◌<◌, IsTrue, IfOk, length};
 ghost use Rattle.ts_regex.specs.Shape.{shape_of};
 ghost use Rattle.ts_pattern.specs.Plans.{plain_plan, is_plan_of};
-ghost use Rattle.ts_validate.specs.Numbers.{knowns};
+ghost use Rattle.ts_validate.specs.Numbers.{table_of};
 
 use crate::known::{Known, know_all};
 use crate::step::{Look, look_at};
@@ -20,7 +20,7 @@ pub struct Trial<'a> {
     pub plan: &'a Plan,
     pub table: Vec<Known>,
     pub ghost fits: { IsTrue (is_plan_of (shape_of pattern.now.regex) (plain_plan plan.now)) },
-    pub ghost known: { table.items ≡ knowns (plain_plan plan.now).residuals },
+    pub ghost known: { table.items ≡ table_of (plain_plan plan.now).residuals },
 }
 
 impl<'a> Trial<'a> {

@@ -3,7 +3,7 @@
 ghost use Rattle.std.specs.Prelude.{◌≡◌};
 ghost use Rattle.ts_regex.specs.Shape.{shape_of};
 ghost use Rattle.ts_transducer.specs.Rows.{rows_of};
-ghost use Rattle.ts_validate.specs.Valid.{IsValid};
+ghost use Rattle.ts_pattern.specs.Valid.{IsValid};
 
 use ts_pattern::Pattern;
 use ts_transducer::Transducer;
