@@ -27,7 +27,7 @@ each_append p [] ys h k = k
 each_append p (x ∷ xs) ys h k = (h.0, each_append p xs ys h.1 k)
 
 -- what passes the filter passes the test
-pub each_passes : {A : Type 0} (q : A → Bool) (es : List A) → Each (λ x. q x ≡ true) (filter q es)
+each_passes : {A : Type 0} (q : A → Bool) (es : List A) → Each (λ x. q x ≡ true) (filter q es)
 each_passes q [] = tt
 each_passes q (e ∷ es) =
     elim (q e) as (λ b. q e ≡ b → Each (λ x. q x ≡ true) (cond b (e ∷ filter q es) (filter q es))) [
@@ -36,7 +36,7 @@ each_passes q (e ∷ es) =
     ] refl
 
 -- a place that passes the test stays in the list
-pub one_filter : (q : Place → Bool) (s e : ℕ) (xs : List Place) → q (record { start = s; end = e }) ≡ true → OneOf (IsPlace s e) xs →
+one_filter : (q : Place → Bool) (s e : ℕ) (xs : List Place) → q (record { start = s; end = e }) ≡ true → OneOf (IsPlace s e) xs →
     OneOf (IsPlace s e) (filter q xs)
 one_filter q s e [] t h = h
 one_filter q s e (x ∷ xs) t h =
@@ -50,14 +50,14 @@ one_filter q s e (x ∷ xs) t h =
     ] refl
 
 -- by rising start, then by rising end
-abbrev pub After : Place → Place → Type 0
+abbrev After : Place → Place → Type 0
 After x y = (x.start < y.start) ⊎ ((x.start ≡ y.start) × (x.end < y.end))
 
-abbrev pub Ordered : List Place → Type 0
+abbrev Ordered : List Place → Type 0
 Ordered [] = Unit {0}
 Ordered (x ∷ xs) = Each (After x) xs × Ordered xs
 
-pub ordered_filter : (q : Place → Bool) (xs : List Place) → Ordered xs → Ordered (filter q xs)
+ordered_filter : (q : Place → Bool) (xs : List Place) → Ordered xs → Ordered (filter q xs)
 ordered_filter q [] h = tt
 ordered_filter q (x ∷ xs) h =
     elim (q x) as (λ b. Ordered (cond b (x ∷ filter q xs) (filter q xs))) [
@@ -65,12 +65,12 @@ ordered_filter q (x ∷ xs) h =
       | false ↦ ordered_filter q xs h.1
     ]
 
-pub ordered_append : (xs ys : List Place) → Ordered xs → Ordered ys → Each (λ x. Each (After x) ys) xs → Ordered (xs ++ ys)
+ordered_append : (xs ys : List Place) → Ordered xs → Ordered ys → Each (λ x. Each (After x) ys) xs → Ordered (xs ++ ys)
 ordered_append [] ys h k a = k
 ordered_append (x ∷ xs) ys h k a = (each_append (After x) xs ys h.0 a.0, ordered_append xs ys h.1 k a.1)
 
 -- the places from one start
-pub from_starts : (s e c : ℕ) → Each (λ x. (x.start ≡ s) × (e ≤ x.end)) (places_from s e c)
+from_starts : (s e c : ℕ) → Each (λ x. (x.start ≡ s) × (e ≤ x.end)) (places_from s e c)
 from_starts s e zero = tt
 from_starts s e (suc c) = (
   (refl, omega arith),
@@ -78,11 +78,11 @@ from_starts s e (suc c) = (
       (places_from s (e + 1) c) (from_starts s (e + 1) c),
 )
 
-pub from_inside : (s e c n : ℕ) → s < e → e + c ≤ n + 1 → Each (λ x. (x.start < x.end) × (x.end ≤ n)) (places_from s e c)
+from_inside : (s e c n : ℕ) → s < e → e + c ≤ n + 1 → Each (λ x. (x.start < x.end) × (x.end ≤ n)) (places_from s e c)
 from_inside s e zero n p q = tt
 from_inside s e (suc c) n p q = ((p, omega arith), from_inside s (e + 1) c n (omega arith) (omega arith))
 
-pub from_ordered : (s e c : ℕ) → Ordered (places_from s e c)
+from_ordered : (s e c : ℕ) → Ordered (places_from s e c)
 from_ordered s e zero = tt
 from_ordered s e (suc c) = (
   each_map (λ x. (x.start ≡ s) × (e + 1 ≤ x.end)) (After (record { start = s; end = e })) (λ x h. inr (sym h.0, let k = h.1 in omega arith))
@@ -90,7 +90,7 @@ from_ordered s e (suc c) = (
   from_ordered s (e + 1) c,
 )
 
-pub from_has : (s e c k : ℕ) → e ≤ k → k < e + c → OneOf (IsPlace s k) (places_from s e c)
+from_has : (s e c k : ℕ) → e ≤ k → k < e + c → OneOf (IsPlace s k) (places_from s e c)
 from_has s e zero k p q = absurd (omega arith)
 from_has s e (suc c) k p q =
     elim (k == e) as (λ b. k == e ≡ b → OneOf (IsPlace s k) (places_from s e (suc c))) [
@@ -99,7 +99,7 @@ from_has s e (suc c) k p q =
     ] refl
 
 -- all places
-pub after_starts : (s c : ℕ) → Each (λ x. s ≤ x.start) (places_after s c)
+after_starts : (s c : ℕ) → Each (λ x. s ≤ x.start) (places_after s c)
 after_starts s zero = tt
 after_starts s (suc c) =
     each_append (λ x. s ≤ x.start) (places_from s (s + 1) (suc c)) (places_after (s + 1) c)
@@ -107,14 +107,14 @@ after_starts s (suc c) =
     (from_starts s (s + 1) (suc c)))
     (each_map (λ x. s + 1 ≤ x.start) (λ x. s ≤ x.start) (λ x h. omega arith) (places_after (s + 1) c) (after_starts (s + 1) c))
 
-pub after_inside : (s c n : ℕ) → s + c ≤ n → Each (λ x. (x.start < x.end) × (x.end ≤ n)) (places_after s c)
+after_inside : (s c n : ℕ) → s + c ≤ n → Each (λ x. (x.start < x.end) × (x.end ≤ n)) (places_after s c)
 after_inside s zero n p = tt
 after_inside s (suc c) n p =
     each_append (λ x. (x.start < x.end) × (x.end ≤ n)) (places_from s (s + 1) (suc c)) (places_after (s + 1) c)
     (from_inside s (s + 1) (suc c) n (omega arith) (omega arith))
     (after_inside (s + 1) c n (omega arith))
 
-pub after_ordered : (s c : ℕ) → Ordered (places_after s c)
+after_ordered : (s c : ℕ) → Ordered (places_after s c)
 after_ordered s zero = tt
 after_ordered s (suc c) =
     ordered_append (places_from s (s + 1) (suc c)) (places_after (s + 1) c) (from_ordered s (s + 1) (suc c)) (after_ordered (s + 1) c)
@@ -122,7 +122,7 @@ after_ordered s (suc c) =
     (λ x h. each_map (λ y. s + 1 ≤ y.start) (After x) (λ y k. inl (let z = h.0 in omega arith)) (places_after (s + 1) c) (after_starts (s + 1) c))
     (places_from s (s + 1) (suc c)) (from_starts s (s + 1) (suc c)))
 
-pub after_has : (s c i k : ℕ) → s ≤ i → i < k → k ≤ s + c → OneOf (IsPlace i k) (places_after s c)
+after_has : (s c i k : ℕ) → s ≤ i → i < k → k ≤ s + c → OneOf (IsPlace i k) (places_after s c)
 after_has s zero i k p q r = absurd (omega arith)
 after_has s (suc c) i k p q r =
     elim (i == s) as (λ b. i == s ≡ b → OneOf (IsPlace i k) (places_after s (suc c))) [
@@ -134,7 +134,7 @@ after_has s (suc c) i k p q r =
     ] refl
 
 -- the matches
-pub each_match : (p : Shape) (w : List Letter) → Each (λ x. IsMatch p w x.start x.end) (match_places p w)
+each_match : (p : Shape) (w : List Letter) → Each (λ x. IsMatch p w x.start x.end) (match_places p w)
 unfolding match_places
 each_match p w =
     each_map (λ x. ((x.start < x.end) × (x.end ≤ length w)) × (is_word p (slice_range w x.start x.end) ≡ true)) (λ x. IsMatch p w x.start x.end)
@@ -146,7 +146,7 @@ each_match p w =
     (after_inside 0 (length w) (length w) (omega arith)))
     (each_passes (λ x. is_word p (slice_range w x.start x.end)) (places_after 0 (length w))))
 
-pub has_match : (p : Shape) (w : List Letter) (s e : ℕ) → IsMatch p w s e → OneOf (IsPlace s e) (match_places p w)
+has_match : (p : Shape) (w : List Letter) (s e : ℕ) → IsMatch p w s e → OneOf (IsPlace s e) (match_places p w)
 unfolding match_places
 has_match p w s e m =
     let i = m.inside in
@@ -154,11 +154,11 @@ has_match p w s e m =
     (after_has 0 (length w) s e (omega arith) m.some (omega arith))
 
 -- the test of the widest
-pub all_test : (q : Place → Bool) (xs : List Place) → Each (λ x. q x ≡ true) xs → list_all q xs ≡ true
+all_test : (q : Place → Bool) (xs : List Place) → Each (λ x. q x ≡ true) xs → list_all q xs ≡ true
 all_test q [] h = refl
 all_test q (x ∷ xs) h = ap (λ b. b && list_all q xs) h.0 ∙ all_test q xs h.1
 
-pub test_all : (q : Place → Bool) (xs : List Place) → list_all q xs ≡ true → Each (λ x. q x ≡ true) xs
+test_all : (q : Place → Bool) (xs : List Place) → list_all q xs ≡ true → Each (λ x. q x ≡ true) xs
 test_all q [] h = tt
 test_all q (x ∷ xs) h = let k = split (q x) (list_all q xs) h in (k.0, test_all q xs k.1)
   where
@@ -166,25 +166,25 @@ test_all q (x ∷ xs) h = let k = split (q x) (list_all q xs) h in (k.0, test_al
     split true b h = (refl, h)
     split false b h = cc
 
-pub not_wider : (x y : Place) → is_not_wider x y ≡ true → y.start ≤ x.start → x.end ≤ y.end → (y.start ≡ x.start) × (y.end ≡ x.end)
+not_wider : (x y : Place) → is_not_wider x y ≡ true → y.start ≤ x.start → x.end ≤ y.end → (y.start ≡ x.start) × (y.end ≡ x.end)
 not_wider x y h p q = numbers x.start x.end y.start y.end h p q
   where
     numbers : (a b c d : ℕ) → ((a == c) && (b == d)) || not (nat_le c a && nat_le b d) ≡ true → c ≤ a → b ≤ d → (c ≡ a) × (d ≡ b)
     numbers a b c d h p q = grind arith
 
-pub is_widest : (x y : Place) → (y.start ≤ x.start → x.end ≤ y.end → (y.start ≡ x.start) × (y.end ≡ x.end)) → is_not_wider x y ≡ true
+is_widest : (x y : Place) → (y.start ≤ x.start → x.end ≤ y.end → (y.start ≡ x.start) × (y.end ≡ x.end)) → is_not_wider x y ≡ true
 is_widest x y h = numbers x.start x.end y.start y.end h
   where
     numbers : (a b c d : ℕ) → (c ≤ a → b ≤ d → (c ≡ a) × (d ≡ b)) → ((a == c) && (b == d)) || not (nat_le c a && nat_le b d) ≡ true
     numbers a b c d h = grind arith
 
 -- what holds of each place of a list, holds of a place that is in it
-pub at_place : (P : Place → Type 0) (s e : ℕ) (xs : List Place) → Each P xs → OneOf (IsPlace s e) xs → P (record { start = s; end = e })
+at_place : (P : Place → Type 0) (s e : ℕ) (xs : List Place) → Each P xs → OneOf (IsPlace s e) xs → P (record { start = s; end = e })
 at_place P s e [] h k = absurd k
 at_place P s e (x ∷ xs) h k =
     ⊎_elim (λ a. subst P (place_is x (record { start = s; end = e }) a.0 a.1) h.0) (λ a. at_place P s e xs h.1 a) k
 
-pub each_occurrence : (p : Shape) (w : List Letter) → Each (λ x. IsOccurrence p w x.start x.end) (occurrence_places p w)
+each_occurrence : (p : Shape) (w : List Letter) → Each (λ x. IsOccurrence p w x.start x.end) (occurrence_places p w)
 unfolding occurrence_places
 each_occurrence p w =
     each_map (λ x. IsMatch p w x.start x.end × (list_all (is_not_wider x) (match_places p w) ≡ true)) (λ x. IsOccurrence p w x.start x.end)
@@ -201,7 +201,7 @@ each_occurrence p w =
     (each_filter (λ x. IsMatch p w x.start x.end) (λ x. list_all (is_not_wider x) (match_places p w)) (match_places p w) (each_match p w))
     (each_passes (λ x. list_all (is_not_wider x) (match_places p w)) (match_places p w)))
 
-pub has_occurrence : (p : Shape) (w : List Letter) (s e : ℕ) → IsOccurrence p w s e → OneOf (IsPlace s e) (occurrence_places p w)
+has_occurrence : (p : Shape) (w : List Letter) (s e : ℕ) → IsOccurrence p w s e → OneOf (IsPlace s e) (occurrence_places p w)
 unfolding occurrence_places
 has_occurrence p w s e o =
     one_filter (λ x. list_all (is_not_wider x) (match_places p w)) s e (match_places p w)
@@ -211,14 +211,14 @@ has_occurrence p w s e o =
     (match_places p w) (each_match p w)))
     (has_match p w s e o.is)
 
-pub ordered_occurrences : (p : Shape) (w : List Letter) → Ordered (occurrence_places p w)
+ordered_occurrences : (p : Shape) (w : List Letter) → Ordered (occurrence_places p w)
 unfolding occurrence_places match_places
 ordered_occurrences p w =
     ordered_filter (λ x. list_all (is_not_wider x) (match_places p w)) (match_places p w)
     (ordered_filter (λ x. is_word p (slice_range w x.start x.end)) (places_after 0 (length w)) (after_ordered 0 (length w)))
 
 -- two occurrences with one start are one
-pub rising_ordered : (p : Shape) (w : List Letter) (low : ℕ) (xs : List Place) → Each (λ x. low ≤ x.start) xs → Ordered xs →
+rising_ordered : (p : Shape) (w : List Letter) (low : ℕ) (xs : List Place) → Each (λ x. low ≤ x.start) xs → Ordered xs →
     Each (λ x. IsOccurrence p w x.start x.end) xs → RisingPlaces low xs
 rising_ordered p w low [] l h o = tt
 rising_ordered p w low (x ∷ xs) l h o = (
@@ -237,7 +237,7 @@ rising_ordered p w low (x ∷ xs) l h o = (
         h
 
 -- the list stands in the relation
-pub are_occurrences : (p : Shape) (w : List Letter) → AreOccurrences p w (occurrence_places p w)
+are_occurrences : (p : Shape) (w : List Letter) → AreOccurrences p w (occurrence_places p w)
 are_occurrences p w =
     record {
       rising = rising_ordered p w 0 (occurrence_places p w) (each_map (λ x. IsOccurrence p w x.start x.end) (λ x. 0 ≤ x.start) (λ x o. omega arith)

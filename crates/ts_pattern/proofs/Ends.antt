@@ -16,7 +16,7 @@ pub each_and : {A : Type 0} (p q : A → Type 0) (es : List A) → Each p es →
 each_and p q [] h k = tt
 each_and p q (x ∷ es) h k = ((h.0, k.0), each_and p q es h.1 k.1)
 
-pub each_one : {A : Type 0} (p q r : A → Type 0) → ((x : A) → p x → q x → r x) → (es : List A) → Each p es → OneOf q es → OneOf r es
+each_one : {A : Type 0} (p q r : A → Type 0) → ((x : A) → p x → q x → r x) → (es : List A) → Each p es → OneOf q es → OneOf r es
 each_one p q r f [] h k = k
 each_one p q r f (x ∷ es) h k = ⊎_elim (λ a. inl (f x h.0 a)) (λ a. inr (each_one p q r f es h.1 a)) k
 

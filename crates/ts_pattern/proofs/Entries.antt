@@ -69,7 +69,7 @@ some_alive t f s v (e ∷ es) h =
     ])
     h
 
-pub some_without : {T : Type 0} (t : Residuals Shape) → AreRight t → (s : ℕ) (v : List Letter) (d : Entry ℕ Shape T) (es : List (Entry ℕ Shape T)) →
+some_without : {T : Type 0} (t : Residuals Shape) → AreRight t → (s : ℕ) (v : List Letter) (d : Entry ℕ Shape T) (es : List (Entry ℕ Shape T)) →
     Rising (d.mark + 1) es → OneOf (Covers s v) es → Covers s v d ⊎ OneOf (Covers s v) (without t d.residual es)
 some_without t f s v d [] r h = inr h
 some_without t f s v d (e ∷ es) r h =

@@ -24,7 +24,7 @@ pub one_right : {A : Type 0} (p : A → Type 0) (es fs : List A) → OneOf p fs 
 one_right p [] fs h = h
 one_right p (x ∷ es) fs h = inr (one_right p es fs h)
 
-pub rising_push : {T : Type 0} (a k : ℕ) (es : List (Entry ℕ Shape T)) (e : Entry ℕ Shape T) → Rising a es → a ≤ k → Each (λ x. x.mark < k) es → e.mark ≡ k →
+rising_push : {T : Type 0} (a k : ℕ) (es : List (Entry ℕ Shape T)) (e : Entry ℕ Shape T) → Rising a es → a ≤ k → Each (λ x. x.mark < k) es → e.mark ≡ k →
     Rising a (es ++ e ∷ [])
 rising_push a k [] e r q b m = (omega arith, tt)
 rising_push a k (x ∷ es) e r q b m = (r.0, rising_push (x.mark + 1) k es e r.1 (let y = b.0 in omega arith) b.1 m)
@@ -48,16 +48,16 @@ follows_step t f p w l e q h =
       back = λ v x. f.quotient_back e.residual l v (h.back (l ∷ v) (subst (λ y. InLanguage p y) (drop_more w l v e.mark q) x));
     }
 
-pub each_derived : {X R T : Type 0} (t : Residuals R) (l : Letter) (p q : Entry X R T → Type 0) → ((e : Entry X R T) → p e → q (derive_entry t l e)) →
+each_derived : {X R T : Type 0} (t : Residuals R) (l : Letter) (p q : Entry X R T → Type 0) → ((e : Entry X R T) → p e → q (derive_entry t l e)) →
     (es : List (Entry X R T)) → Each p es → Each q (derived t l es)
 each_derived t l p q f [] h = tt
 each_derived t l p q f (e ∷ es) h = (f e h.0, each_derived t l p q f es h.1)
 
-pub rising_derived : {T : Type 0} (t : Residuals Shape) (l : Letter) (a : ℕ) (es : List (Entry ℕ Shape T)) → Rising a es → Rising a (derived t l es)
+rising_derived : {T : Type 0} (t : Residuals Shape) (l : Letter) (a : ℕ) (es : List (Entry ℕ Shape T)) → Rising a es → Rising a (derived t l es)
 rising_derived t l a [] h = tt
 rising_derived t l a (e ∷ es) h = (h.0, rising_derived t l (e.mark + 1) es h.1)
 
-pub covers_derived : {T : Type 0} (t : Residuals Shape) → AreRight t → (l : Letter) (s : ℕ) (v : List Letter) (es : List (Entry ℕ Shape T)) →
+covers_derived : {T : Type 0} (t : Residuals Shape) → AreRight t → (l : Letter) (s : ℕ) (v : List Letter) (es : List (Entry ℕ Shape T)) →
     OneOf (Covers s (l ∷ v)) es → OneOf (Covers s v) (derived t l es)
 covers_derived t f l s v [] h = h
 covers_derived t f l s v (e ∷ es) h = ⊎_elim (λ c. inl (c.0, f.quotient_back e.residual l v c.1)) (λ c. inr (covers_derived t f l s v es c)) h

@@ -11,17 +11,17 @@ use Rattle.ts_regex.specs.Shape.{Shape}
 use Rattle.ts_regex.specs.Language.{InLanguage}
 use Rattle.ts_pattern.specs.Occurrences.{IsMatch, IsOccurrence}
 
-pub slice_append : (w : List Letter) (l : Letter) (s e : ℕ) → s < e → e ≤ length w → slice_range (w ++ l ∷ []) s e ≡ slice_range w s e
+slice_append : (w : List Letter) (l : Letter) (s e : ℕ) → s < e → e ≤ length w → slice_range (w ++ l ∷ []) s e ≡ slice_range w s e
 slice_append w l s e p q =
     ap (λ v. take (e - s) v) (drop-append-le s w (l ∷ []) (omega arith))
     ∙ take-append-le (e - s) (drop s w) (l ∷ []) (let n = length-drop s w in omega arith)
 
-pub match_up : (p : Shape) (w : List Letter) (l : Letter) (s e : ℕ) → IsMatch p w s e → IsMatch p (w ++ l ∷ []) s e
+match_up : (p : Shape) (w : List Letter) (l : Letter) (s e : ℕ) → IsMatch p w s e → IsMatch p (w ++ l ∷ []) s e
 match_up p w l s e m =
     let n = length-append w (l ∷ []) in
     record { some = m.some; inside = (let i = m.inside in omega arith); word = subst (λ v. InLanguage p v) (sym (slice_append w l s e m.some m.inside)) m.word }
 
-pub match_down : (p : Shape) (w : List Letter) (l : Letter) (s e : ℕ) → e ≤ length w → IsMatch p (w ++ l ∷ []) s e → IsMatch p w s e
+match_down : (p : Shape) (w : List Letter) (l : Letter) (s e : ℕ) → e ≤ length w → IsMatch p (w ++ l ∷ []) s e → IsMatch p w s e
 match_down p w l s e q m =
     record { some = m.some; inside = q; word = subst (λ v. InLanguage p v) (slice_append w l s e m.some q) m.word }
 
@@ -35,7 +35,7 @@ pub record IsLeastStart (p : Shape) (w : List Letter) (l : Letter) (m : ℕ) : T
   pub least : (s : ℕ) → IsMatch p (w ++ l ∷ []) s (length w + 1) → m ≤ s
 
 -- a match of the longer word is one of the word, or ends at the last sign
-pub old_or_last : (p : Shape) (w : List Letter) (l : Letter) (s e : ℕ) → IsMatch p (w ++ l ∷ []) s e → (e ≤ length w) ⊎ (e ≡ length w + 1)
+old_or_last : (p : Shape) (w : List Letter) (l : Letter) (s e : ℕ) → IsMatch p (w ++ l ∷ []) s e → (e ≤ length w) ⊎ (e ≡ length w + 1)
 old_or_last p w l s e m =
     let n = length-append w (l ∷ []) in
     let i = m.inside in

@@ -18,15 +18,15 @@ pub each_left : {A : Type 0} (p : A → Type 0) (es fs : List A) → Each p (es 
 each_left p [] fs h = tt
 each_left p (x ∷ es) fs h = (h.0, each_left p es fs h.1)
 
-pub each_right : {A : Type 0} (p : A → Type 0) (es fs : List A) → Each p (es ++ fs) → Each p fs
+each_right : {A : Type 0} (p : A → Type 0) (es fs : List A) → Each p (es ++ fs) → Each p fs
 each_right p [] fs h = h
 each_right p (x ∷ es) fs h = each_right p es fs h.1
 
-pub rising_left : (a : ℕ) (es fs : List Place) → RisingPlaces a (es ++ fs) → RisingPlaces a es
+rising_left : (a : ℕ) (es fs : List Place) → RisingPlaces a (es ++ fs) → RisingPlaces a es
 rising_left a [] fs h = tt
 rising_left a (x ∷ es) fs h = (h.0, rising_left (x.start + 1) es fs h.1)
 
-pub rising_to : (a m n : ℕ) (es : List Place) → RisingPlaces a es → a ≤ m → Each (λ x. x.start < m) es →
+rising_to : (a m n : ℕ) (es : List Place) → RisingPlaces a es → a ≤ m → Each (λ x. x.start < m) es →
     RisingPlaces a (es ++ record { start = m; end = n } ∷ [])
 rising_to a m n [] h q b = (q, tt)
 rising_to a m n (x ∷ es) h q b = (h.0, rising_to (x.start + 1) m n es h.1 (let y = b.0 in omega arith) b.1)
@@ -40,7 +40,7 @@ before_last a (y ∷ es) x h =
     let h0 = h.0 in
     (omega arith, (omega arith, k.1))
 
-pub split_one : {A : Type 0} (p : A → Type 0) (es fs : List A) → OneOf p (es ++ fs) → OneOf p es ⊎ OneOf p fs
+split_one : {A : Type 0} (p : A → Type 0) (es fs : List A) → OneOf p (es ++ fs) → OneOf p es ⊎ OneOf p fs
 split_one p [] fs h = inr h
 split_one p (x ∷ es) fs h = ⊎_elim (λ a. inl (inl a)) (λ a. ⊎_elim (λ b. inl (inr b)) (λ b. inr b) (split_one p es fs a)) h
 
@@ -83,7 +83,7 @@ same_start_same p w s e e' o o' q = (o.maximal s e' o'.is (omega arith) q).1
 pub place_is : (x y : Place) → x.start ≡ y.start → x.end ≡ y.end → x ≡ y
 place_is x y q r = ap (λ z. record { start = z; end = x.end }) q ∙ ap (λ z. record { start = y.start; end = z }) r
 
-pub later_places : (a : ℕ) (xs : List Place) → RisingPlaces a xs → Each (λ x. a ≤ x.start) xs
+later_places : (a : ℕ) (xs : List Place) → RisingPlaces a xs → Each (λ x. a ≤ x.start) xs
 later_places a [] h = tt
 later_places a (x ∷ xs) h = (
   h.0,
@@ -91,18 +91,18 @@ later_places a (x ∷ xs) h = (
       (later_places (x.start + 1) xs h.1),
 )
 
-pub is_later : (a s e : ℕ) (xs : List Place) → Each (λ x. a ≤ x.start) xs → OneOf (IsPlace s e) xs → a ≤ s
+is_later : (a s e : ℕ) (xs : List Place) → Each (λ x. a ≤ x.start) xs → OneOf (IsPlace s e) xs → a ≤ s
 is_later a s e [] h k = absurd k
 is_later a s e (x ∷ xs) h k = ⊎_elim (λ q. let y = h.0 in let z = q.0 in omega arith) (λ q. is_later a s e xs h.1 q) k
 
 -- each pair of the one list, all of them above a, stands in the other without its first
-pub in_the_rest : (a : ℕ) (y : Place) (xs ys : List Place) → y.start < a → Each (λ x. a ≤ x.start) xs → Each (λ x. OneOf (IsPlace x.start x.end) (y ∷ ys)) xs →
+in_the_rest : (a : ℕ) (y : Place) (xs ys : List Place) → y.start < a → Each (λ x. a ≤ x.start) xs → Each (λ x. OneOf (IsPlace x.start x.end) (y ∷ ys)) xs →
     Each (λ x. OneOf (IsPlace x.start x.end) ys) xs
 in_the_rest a y [] ys q h k = tt
 in_the_rest a y (x ∷ xs) ys q h k =
     (⊎_elim (λ z. absurd (let u = z.0 in let v = h.0 in omega arith)) (λ z. z) k.0, in_the_rest a y xs ys q h.1 k.1)
 
-pub rising_same : (a b : ℕ) (xs ys : List Place) → RisingPlaces a xs → RisingPlaces b ys → Each (λ x. OneOf (IsPlace x.start x.end) ys) xs →
+rising_same : (a b : ℕ) (xs ys : List Place) → RisingPlaces a xs → RisingPlaces b ys → Each (λ x. OneOf (IsPlace x.start x.end) ys) xs →
     Each (λ y. OneOf (IsPlace y.start y.end) xs) ys → xs ≡ ys
 rising_same a b [] [] r q h k = refl
 rising_same a b [] (y ∷ ys) r q h k = absurd k.0

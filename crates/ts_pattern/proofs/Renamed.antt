@@ -35,7 +35,7 @@ map_cond : {A B : Type 0} (f : A → B) (b : Bool) (x : A) (xs : List A) → map
 map_cond f true x xs = refl
 map_cond f false x xs = refl
 
-pub alive_renamed : {X Y R S T : Type 0} (t : Residuals R) (u : Residuals S) (f : X → Y) (g : R → S) (P : R → Type 0) (l : Letter) (es : List (Entry X R T)) →
+alive_renamed : {X Y R S T : Type 0} (t : Residuals R) (u : Residuals S) (f : X → Y) (g : R → S) (P : R → Type 0) (l : Letter) (es : List (Entry X R T)) →
     Each (λ e. NextAgrees t u g P l e.residual) es → map (λ e. renamed f g e) (alive t (derived t l es)) ≡ alive u (derived u l (map (λ e. renamed f g e) es))
 alive_renamed t u f g P l [] h = refl
 alive_renamed t u f g P l (e ∷ es) h =
@@ -44,7 +44,7 @@ alive_renamed t u f g P l (e ∷ es) h =
     (map (λ e. renamed f g e) (alive t (derived t l es))) (alive u (derived u l (map (λ e. renamed f g e) es))) h.0.has
     (λ q. ap (λ z. record { mark = f e.mark; residual = z; tag = e.tag }) (h.0.value q)) (alive_renamed t u f g P l es h.1)
 
-pub alive_left : {X R S T : Type 0} (t : Residuals R) (u : Residuals S) (g : R → S) (P : R → Type 0) (l : Letter) (es : List (Entry X R T)) →
+alive_left : {X R S T : Type 0} (t : Residuals R) (u : Residuals S) (g : R → S) (P : R → Type 0) (l : Letter) (es : List (Entry X R T)) →
     Each (λ e. NextAgrees t u g P l e.residual) es → Each (λ e. P e.residual) (alive t (derived t l es))
 alive_left t u g P l [] h = tt
 alive_left t u g P l (e ∷ es) h = at P (t.has_word (t.next e.residual l)) (derive_entry t l e) (alive t (derived t l es)) h.0.left (alive_left t u g P l es h.1)
@@ -54,7 +54,7 @@ alive_left t u g P l (e ∷ es) h = at P (t.has_word (t.next e.residual l)) (der
     at P true e es p h = (p refl, h)
     at P false e es p h = h
 
-pub without_renamed : {X Y R S T : Type 0} (t : Residuals R) (u : Residuals S) (f : X → Y) (g : R → S) (P : R → Type 0) → SameAgrees t u g P → (r : R) → P r →
+without_renamed : {X Y R S T : Type 0} (t : Residuals R) (u : Residuals S) (f : X → Y) (g : R → S) (P : R → Type 0) → SameAgrees t u g P → (r : R) → P r →
     (es : List (Entry X R T)) → Each (λ e. P e.residual) es →
     map (λ e. renamed f g e) (without t r es) ≡ without u (g r) (map (λ e. renamed f g e) es)
 without_renamed t u f g P s r p [] h = refl
@@ -63,7 +63,7 @@ without_renamed t u f g P s r p (e ∷ es) h =
     ∙ cons_cond (not (t.same r e.residual)) (not (u.same (g r) (g e.residual))) (renamed f g e) (renamed f g e) (map (λ e. renamed f g e) (without t r es))
     (without u (g r) (map (λ e. renamed f g e) es)) (ap (λ b. not b) (s r e.residual p h.0)) (λ q. refl) (without_renamed t u f g P s r p es h.1)
 
-pub keep_renamed : {X Y R S T : Type 0} (t : Residuals R) (u : Residuals S) (f : X → Y) (g : R → S) (P : R → Type 0) → SameAgrees t u g P →
+keep_renamed : {X Y R S T : Type 0} (t : Residuals R) (u : Residuals S) (f : X → Y) (g : R → S) (P : R → Type 0) → SameAgrees t u g P →
     (es : List (Entry X R T)) → Each (λ e. P e.residual) es →
     map (λ e. renamed f g e) (keep t es) ≡ keep u (map (λ e. renamed f g e) es)
 keep_renamed t u f g P s [] h = refl

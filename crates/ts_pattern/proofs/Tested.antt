@@ -16,7 +16,7 @@ use Rattle.ts_pattern.specs.Closed.{PlainConfiguration, Subject, first_passes, s
 use Rattle.ts_pattern.specs.Plans.{PlainPlan, valued, subject, is_empty, is_blank, is_plan_of, all_meet, is_closed}
 use Rattle.ts_pattern.proofs.Entries.{shapes_right}
 
-pub tag_is : (g h : Tag) → same_tag g h ≡ true → g ≡ h
+tag_is : (g h : Tag) → same_tag g h ≡ true → g ≡ h
 tag_is (Young m) (Young n) q = ap (λ z. Young z) (eqb-true m n q)
 tag_is Due Due q = refl
 tag_is InD InD q = refl
@@ -44,7 +44,7 @@ tag_is Loose InD q = absurd (false≢true q)
 tag_is Loose InC q = absurd (false≢true q)
 
 -- what the test of residuals says of two entries
-pub live_is : {R : Type 0} (t : Residuals R) → ((r s : R) → t.same r s ≡ true → r ≡ s) → (es fs : List (Entry (Unit {0}) R Tag)) → same_live t es fs ≡ true →
+live_is : {R : Type 0} (t : Residuals R) → ((r s : R) → t.same r s ≡ true → r ≡ s) → (es fs : List (Entry (Unit {0}) R Tag)) → same_live t es fs ≡ true →
     es ≡ fs
 live_is t r [] [] q = refl
 live_is t r [] (f ∷ fs) q = absurd (false≢true q)

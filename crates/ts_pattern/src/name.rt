@@ -5,7 +5,7 @@ ghost use Rattle.std.specs.List.{find};
 ghost use Rattle.std.specs.Str.{bytes_eq};
 ghost use Rattle.ts_pattern.specs.Names.{all_patterns, pattern_name, feature_name, aggregator_name};
 
-/// The 22 patterns (Global Constraint Catalog, Volume II).
+/// The 22 patterns.
 #[derive(Clone, Copy, Debug, PartialEq, Eq, PartialOrd, Ord)]
 pub enum PatternId {
     Increasing,

@@ -7,8 +7,7 @@ use std::alloc::Global;
 use ts_base::Memory;
 use ts_regex::Regex;
 
-/// A pattern (Global Constraint Catalog, Volume II): the expression of its words, and the cells trimmed
-/// before (`b`) and after (`a`).
+/// A pattern: the expression of its words, and the cells trimmed before (`b`) and after (`a`).
 #[derive(Debug, Drop)]
 pub struct Pattern {
     pub regex: Regex,

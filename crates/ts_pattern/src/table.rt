@@ -15,7 +15,7 @@ use ts_base::{Letter, Memory};
 use ts_regex::Regex;
 use ts_regex::regex::{alt, cat, star};
 
-/// The pattern of that name: its expression and trims (Global Constraint Catalog, Volume II).
+/// The pattern of that name: its expression and trims.
 /// Each of its words has at least `b + a` letters, and at least one; `b` is at most 2, and `a` at most 1.
 #[tactic(auto, using(crate::proofs::LeastLength::of_the_table))]
 pub fn pattern_by_id(alloc: Global, id: PatternId) -> Result<Pattern, Memory>

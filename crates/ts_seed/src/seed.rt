@@ -38,8 +38,8 @@ pub struct Seed {
     pub joins: Vec<Join>,
 }
 
-/// The seed of that pattern (Global Constraint Catalog, Volume II). Its plan is one of the pattern and closed, so that
-/// on every signature the decoded ranges are the occurrences of the pattern.
+/// The seed of that pattern. Its plan is one of the pattern and closed, so that on every signature the decoded ranges
+/// are the occurrences of the pattern.
 pub fn seed_by_id(alloc: Global, id: PatternId) -> Result<Seed, Memory>
     ensures table { IfOk result (λ s. seed_of s ≡ seed_table id) }
     ensures closed { IfOk result (λ s. IsClosed

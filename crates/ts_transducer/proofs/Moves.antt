@@ -70,7 +70,3 @@ pub next_exists : (rows : List Row) (n : ℕ) (k : Kind) (f : Phase) → leads_w
 next_exists [] n k f h = absurd (false≢true h)
 next_exists (r ∷ rows) zero k f h = omega arith
 next_exists (r ∷ rows) (suc n) k f h = let i = next_exists rows n k f h in omega arith
-
-pub some_row : (rows : List Row) → is_typed rows ≡ true → 0 < length rows
-some_row [] h = absurd (false≢true h)
-some_row (r ∷ rows) h = omega arith

@@ -5,7 +5,7 @@ ghost use Rattle.ts_transducer.specs.Decode.{arrow_on, resting_row};
 
 use ts_base::{Kind, Letter};
 
-/// What a sign does to the occurrence at hand (Global Constraint Catalog, Volume II).
+/// What a sign does to the occurrence at hand.
 #[derive(Clone, Copy, Debug, PartialEq, Eq)]
 pub enum Phase {
     /// Outside of every occurrence.
