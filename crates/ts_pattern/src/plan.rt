@@ -46,8 +46,7 @@ pub struct Configuration {
 }
 
 /// The residuals, the first of them the whole pattern in normal form, and the configurations, the first of them
-/// the start state with no live entry. In the plans of the seeds a residual has a number as it first stands in a
-/// configuration.
+/// the start state with no live entry. A seed's plan numbers its residuals in the order in which they first stand.
 #[derive(Debug, Drop)]
 pub struct Plan {
     pub residuals: Vec<Regex>,
