@@ -6,3 +6,10 @@ mod SolidLaws
 mod GrowLaws
 mod FollowLaws
 mod ReadLaws
+pub mod Lists
+pub mod Listed
+pub mod Evaluation
+pub mod Rules
+pub mod Tables
+pub mod KindLaws
+pub mod StepLaws

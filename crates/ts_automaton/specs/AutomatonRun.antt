@@ -1,6 +1,6 @@
 -- The run of an automaton over a series: it starts at the first state with the start constants, makes the move of each
 -- pair of neighbours, and answers its finish expression under its mark.
-use Rattle.std.specs.Prelude.{◌≤◌, ℕ, ℤ, pos, IsTrue, List, [], ◌∷◌, length}
+use Rattle.std.specs.Prelude.{◌<◌, ◌≤◌, ℕ, ℤ, pos, IsTrue, List, [], ◌∷◌, length}
 use Rattle.ts_base.specs.declared.ext.Ext.{Ext}
 use Rattle.ts_base.specs.declared.ext.Ext.TheVariants.{NegInf, Int, PosInf}
 use Rattle.ts_base.specs.Limits.{most_cells, IsCellValue}
@@ -9,7 +9,9 @@ use Rattle.ts_base.specs.Signature.{letter_of}
 use Rattle.ts_automaton.specs.declared.state.Mark.{Mark}
 use Rattle.ts_automaton.specs.declared.state.Mark.TheVariants.{Same, Zero, Cells}
 use Rattle.ts_automaton.specs.declared.regs.At.{At}
-use Rattle.ts_automaton.specs.Registers.{EachOf, map_each, regs_of, Values, numbers, value_in}
+use Rattle.ts_automaton.specs.Registers.{EachOf, map_each, Each, regs_of, Values, numbers, value_in}
+use Rattle.ts_automaton.specs.Kinds.{HasKind}
+use Rattle.ts_automaton.specs.Typing.{kinds_at}
 use Rattle.ts_automaton.specs.Body.{Move, Body, move_on, node_at}
 
 -- a state, by its place, and something for each register
@@ -28,6 +30,11 @@ move_between b q x y = move_on (letter_of x y) (node_at b.states q)
 -- the new registers of a move
 abbrev pub moved : {A : Type 0} → Values A → EachOf A → ℤ → ℤ → Move → EachOf A
 moved m s x y t = map_each (value_in m s x y) t.to
+
+-- the state exists, and the registers have the kinds that they have there
+pub record Stands (b : Body) (s : Standing Ext) : Type 0 where
+  pub exists : s.state < length b.states
+  pub kinds : Each HasKind (kinds_at b s.state) s.regs
 
 abbrev pub start_of : Body → Standing Ext
 start_of b = record { state = 0; regs = b.start }

@@ -1,10 +1,11 @@
 -- What contracts see of an automaton: its states with their moves, start constants, finish expression and mark.
-use Rattle.std.specs.Prelude.{ℕ, zero, suc, ℤ, Bool, false, List, [], ◌∷◌, map}
+use Rattle.std.specs.Prelude.{ℕ, Bool, false, List, map, get_or}
 use Rattle.ts_base.specs.declared.ext.Ext.{Ext}
 use Rattle.ts_base.specs.declared.letter.Letter.{Letter}
 use Rattle.ts_base.specs.declared.letter.Letter.TheVariants.{Less, Equal, Greater}
 use Rattle.ts_automaton.specs.declared.expr.Expr.{Expr}
 use Rattle.ts_automaton.specs.declared.expr.Atom.TheVariants.{C, D, R}
+use Rattle.ts_automaton.specs.declared.parts.Parts.{Parts}
 use Rattle.ts_automaton.specs.declared.regs.Regs.{Regs}
 use Rattle.ts_automaton.specs.declared.state.Mark.{Mark}
 use Rattle.ts_automaton.specs.declared.state.Turn.{Turn}
@@ -52,6 +53,8 @@ resting =
     record { name = 0; held = false; less = stay; equal = stay; greater = stay }
 
 abbrev pub node_at : List Node → ℕ → Node
-node_at [] q = resting
-node_at (s ∷ ss) zero = s
-node_at (s ∷ ss) (suc q) = node_at ss q
+node_at ss q = get_or ss q resting
+
+-- what contracts see of the parts of an automaton
+abbrev pub parts_of : Parts → Body
+parts_of p = body_of p.states.items p.start p.finish p.mark

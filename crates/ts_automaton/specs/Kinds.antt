@@ -1,21 +1,26 @@
 -- Kinds of values, and the kind of an expression: the same meaning of an expression, over kinds in place of numbers.
-use Rattle.std.specs.Prelude.{◌≡◌, Bool, true, false, IsTrue, pos, Option, None, Some}
+use Rattle.std.specs.Prelude.{◌≡◌, Bool, true, false, IsTrue, pos, is_some, Option, None, Some}
 use Rattle.ts_base.specs.declared.ext.Ext.{Ext}
 use Rattle.ts_base.specs.declared.ext.Ext.TheVariants.{NegInf, Int as Number, PosInf}
 use Rattle.ts_base.specs.declared.span.Span.{Span}
 use Rattle.ts_base.specs.Spans.{has_some}
+use Rattle.ts_automaton.specs.declared.kind.Kinds.{Kinds}
 use Rattle.ts_automaton.specs.declared.kind.RegKind.{RegKind}
 use Rattle.ts_automaton.specs.declared.kind.RegKind.TheVariants.{Int, Low, High}
 use Rattle.ts_automaton.specs.declared.expr.Op.{Op}
 use Rattle.ts_automaton.specs.declared.expr.Op.TheVariants.{Add, Max, Min}
 use Rattle.ts_automaton.specs.Formula.{Formula}
-use Rattle.ts_automaton.specs.Registers.{EachOf, map_each, Values, value_in}
+use Rattle.ts_automaton.specs.Registers.{EachOf, each, map_each, Values, value_in}
 
 -- the narrowest kind of a value: numbers; numbers and -inf; numbers and +inf
 abbrev pub kind_of : Ext → RegKind
 kind_of NegInf = Low
 kind_of (Number x) = Int
 kind_of PosInf = High
+
+-- what contracts see of the kinds of all registers
+abbrev pub kinds_of : Kinds → EachOf RegKind
+kinds_of k = each k.c k.d k.r
 
 -- each value of the first kind is one of the second
 abbrev pub is_within : RegKind → RegKind → Bool
@@ -56,6 +61,14 @@ join_kind o (Some a) (Some b) = op_kind o a b
 
 abbrev pub kinds : Values (Option RegKind)
 kinds = record { constant = λ e. Some (kind_of e); join = join_kind }
+
+-- an operator takes two values where it takes their kinds
+abbrev pub Fits : Op → Ext → Ext → Type 0
+Fits o a b = IsTrue (is_some (op_kind o (kind_of a) (kind_of b)))
+
+-- two spans that aren't none, where it takes their lower and their upper ends
+abbrev pub SpansFit : Op → Span → Span → Type 0
+SpansFit o s t = IsTrue (has_some s) × IsTrue (has_some t) × Fits o s.lo t.lo × Fits o s.hi t.hi
 
 -- the kind of an expression where the registers have these kinds; none where it is against the typing
 abbrev pub formula_kind : EachOf RegKind → Formula → Option RegKind

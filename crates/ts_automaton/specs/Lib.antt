@@ -1,5 +1,6 @@
 pub mod Formula
 pub mod Registers
+pub mod Codes
 pub mod Kinds
 pub mod Body
 pub mod Typing

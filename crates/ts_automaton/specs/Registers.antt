@@ -73,3 +73,7 @@ value_in m s x y (Join o f g) = m.join o (value_in m s x y f) (value_in m s x y 
 abbrev pub Takes : {A : Type 0} → (Op → A → A → Type 0) → Values A → EachOf A → ℤ → ℤ → Formula → Type 0
 Takes P m s x y (Leaf a) = Unit {0}
 Takes P m s x y (Join o f g) = Takes P m s x y f × Takes P m s x y g × P o (value_in m s x y f) (value_in m s x y g)
+
+-- so in each of the three expressions of a move
+abbrev pub TakesAll : {A : Type 0} → (Op → A → A → Type 0) → Values A → EachOf A → ℤ → ℤ → EachOf Formula → Type 0
+TakesAll P m s x y to = Takes P m s x y to.c × Takes P m s x y to.d × Takes P m s x y to.r

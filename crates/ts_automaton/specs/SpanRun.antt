@@ -1,5 +1,5 @@
 -- Moves and finish expressions on a hull: a span for each register, or none at all.
-use Rattle.std.specs.Prelude.{◌≡◌, ◌⊎◌, ℕ, ℤ, Bool, ◌&&◌, if◌then◌else◌}
+use Rattle.std.specs.Prelude.{◌≡◌, ◌<◌, ◌⊎◌, ℕ, ℤ, Bool, ◌&&◌, length, if◌then◌else◌}
 use Rattle.ts_base.specs.declared.ext.Ext.{Ext}
 use Rattle.ts_base.specs.declared.span.Span.{Span}
 use Rattle.ts_base.specs.Spans.{none_span, one_span, has_some, Holds, span_hull}
@@ -8,7 +8,8 @@ use Rattle.ts_automaton.specs.declared.state.Mark.{Mark}
 use Rattle.ts_automaton.specs.declared.regs.HullAt.{HullAt}
 use Rattle.ts_automaton.specs.Registers.{EachOf, each, map_each, Each, spans_of, spans}
 use Rattle.ts_automaton.specs.Kinds.{SpanHasKind}
-use Rattle.ts_automaton.specs.Body.{Body}
+use Rattle.ts_automaton.specs.Typing.{kinds_at}
+use Rattle.ts_automaton.specs.Body.{Body, Move}
 use Rattle.ts_automaton.specs.AutomatonRun.{Standing, move_between, moved, marked, finished}
 
 -- the one form of a hull that holds no registers
@@ -35,11 +36,20 @@ HullHasKinds k h = (h ≡ none_hull) ⊎ Each SpanHasKind k h
 abbrev pub hull_standing : HullAt → Standing Span
 hull_standing at = record { state = at.state; regs = spans_of at.hull }
 
--- the step on a hull: the registers' new spans; none stays none
+-- the state exists, and the hull is none or has the kinds that the registers have there
+pub record HullStands (b : Body) (s : Standing Span) : Type 0 where
+  pub exists : s.state < length b.states
+  pub kinds : HullHasKinds (kinds_at b s.state) s.regs
+
+-- the new spans of a move; none stays none
+abbrev pub moved_hull : EachOf Span → ℤ → ℤ → Move → EachOf Span
+moved_hull h x y m = if has_registers h then moved spans h x y m else none_hull
+
+-- the step on a hull
 abbrev pub span_step : Body → Standing Span → ℤ → ℤ → Standing Span
 span_step b s x y =
     let m = move_between b s.state x y in
-    record { state = m.next; regs = if has_registers s.regs then moved spans s.regs x y m else none_hull }
+    record { state = m.next; regs = moved_hull s.regs x y m }
 
 -- the finish span before the mark
 abbrev pub finished_span : Body → EachOf Span → Span
@@ -49,5 +59,5 @@ finished_span b h = if has_registers h then finished spans b h else none_span
 abbrev pub marked_span : Mark → ℕ → Span → Span
 marked_span k n s = if has_some s then span_hull (one_span (marked k n s.lo)) (one_span (marked k n s.hi)) else none_span
 
-abbrev pub finish_span_of : Body → EachOf Span → ℕ → Span
-finish_span_of b h n = marked_span b.mark n (finished_span b h)
+abbrev pub finish_span_of : Body → Standing Span → ℕ → Span
+finish_span_of b s n = marked_span b.mark n (finished_span b s.regs)

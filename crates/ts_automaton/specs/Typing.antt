@@ -29,13 +29,14 @@ has_few_states b = nat_le 1 (length b.states) && nat_le (length b.states) 8
 abbrev pub is_name : ℕ → Bool
 is_name n = nat_le 97 n && nat_le n 122
 
-abbrev pub are_different : List ℕ → Bool
+-- no two of the states have one name
+abbrev pub are_different : List Node → Bool
 are_different [] = true
-are_different (n ∷ ns) = not (list_any (λ m. nat_eq m n) ns) && are_different ns
+are_different (s ∷ ss) = not (list_any (λ t. nat_eq t.name s.name) ss) && are_different ss
 
 -- the states have different names, each a letter
 abbrev pub has_names : Body → Bool
-has_names b = list_all is_name (map (λ s. s.name) b.states) && are_different (map (λ s. s.name) b.states)
+has_names b = list_all (λ s. is_name s.name) b.states && are_different b.states
 
 -- 0, 1, -inf or +inf
 abbrev pub is_constant : Ext → Bool
@@ -46,20 +47,26 @@ is_constant PosInf = true
 abbrev pub has_constants : Body → Bool
 has_constants b = each_is is_constant b.start
 
--- a test holds for each move
-abbrev pub each_move : (Move → Bool) → Body → Bool
-each_move test b = list_all (λ s. test s.less && test s.equal && test s.greater) b.states
+-- a test holds for each move of a state
+abbrev pub each_move_is : (Move → Bool) → Node → Bool
+each_move_is test s = test s.less && test s.equal && test s.greater
 
 -- each move leads to a state
+abbrev pub leads_below : ℕ → Node → Bool
+leads_below n s = each_move_is (λ m. nat_lt m.next n) s
+
 abbrev pub has_targets : Body → Bool
-has_targets b = each_move (λ m. nat_lt m.next (length b.states)) b
+has_targets b = list_all (leads_below (length b.states)) b.states
 
 -- an expression of at most 15 words
 abbrev pub is_short : Formula → Bool
 is_short f = nat_le (words_in f) 15
 
+abbrev pub has_short_moves : Node → Bool
+has_short_moves s = each_move_is (λ m. each_is is_short m.to) s
+
 abbrev pub has_short_expressions : Body → Bool
-has_short_expressions b = each_move (λ m. each_is is_short m.to) b && is_short b.finish
+has_short_expressions b = list_all has_short_moves b.states && is_short b.finish
 
 -- the kinds of the registers: those of the start constants, but for C in a held state, which is a number
 abbrev pub kinds_where : Body → Bool → EachOf RegKind
@@ -94,11 +101,12 @@ reads_registers (Leaf LowAtom) = true
 reads_registers (Leaf HighAtom) = true
 reads_registers (Join o f g) = reads_registers f && reads_registers g
 
+abbrev pub is_finish_typed_where_held : Body → Bool
+is_finish_typed_where_held b = not (list_any (λ s. s.held) b.states) || is_some (formula_kind (kinds_where b true) b.finish)
+
 -- the finish expression reads no cell, and has a kind with the C of free states, and with that of held ones if there are any
 abbrev pub is_finish_typed : Body → Bool
-is_finish_typed b =
-    reads_registers b.finish && is_some (formula_kind (kinds_where b false) b.finish)
-    && (not (list_any (λ s. s.held) b.states) || is_some (formula_kind (kinds_where b true) b.finish))
+is_finish_typed b = reads_registers b.finish && is_some (formula_kind (kinds_where b false) b.finish) && is_finish_typed_where_held b
 
 -- the places that are typed, in the order of the text: the first state, each move, and the finish expression
 abbrev pub moves_from : ℕ → ℕ → List Place
@@ -113,6 +121,10 @@ abbrev pub is_typed_at : Body → Place → Bool
 is_typed_at b Start = not (node_at b.states 0).held
 is_typed_at b (Moving q l) = is_move_typed b q (move_on l (node_at b.states q))
 is_typed_at b Finish = is_finish_typed b
+
+-- the first move against the typing, of n states from the state q on
+abbrev pub move_fault : Body → ℕ → ℕ → Option Place
+move_fault b q n = find (λ p. not (is_typed_at b p)) (moves_from q n)
 
 -- the first place against the typing
 abbrev pub typing_fault : Body → Option Place

@@ -14,6 +14,14 @@ pub enum RegKind {
     High,
 }
 
+/// The kind of each register.
+#[derive(Clone, Copy, Debug, PartialEq, Eq)]
+pub(crate) struct Kinds {
+    pub(crate) c: RegKind,
+    pub(crate) d: RegKind,
+    pub(crate) r: RegKind,
+}
+
 impl RegKind {
     /// The narrowest kind of a value.
     pub(crate) fn of(e: Ext) -> RegKind

@@ -15,6 +15,7 @@
 //! ```
 #![tactic(auto)]
 
+mod automaton;
 mod draft;
 mod expr;
 mod expr_text;
@@ -22,13 +23,17 @@ mod kind;
 mod line_words;
 mod lines;
 mod move_lines;
+mod parts;
 mod reader;
 mod regs;
+mod run;
+mod span_run;
 mod state;
 mod stop;
 mod text_laws;
 mod typing;
 
+pub use automaton::Automaton;
 pub use draft::{StateLine, Way};
 pub use expr::{Atom, Expr, Op};
 pub use kind::RegKind;

@@ -1,0 +1,79 @@
+-- Typing is right about values: numbers and spans of a kind, and what operators make of them.
+use Rattle.std.proofs.Common.{◌≡◌, Bool, true, false, cond, ◌&&◌, ℤ, refl, sym, ◌∙◌, ap, subst}
+use Rattle.std.specs.Prelude.{IsTrue, int_le, is_some, Option, None, Some}
+use Rattle.ts_base.specs.declared.ext.Ext.{Ext}
+use Rattle.ts_base.specs.declared.ext.Ext.TheVariants.{NegInf, Int as Number, PosInf}
+use Rattle.ts_base.specs.declared.span.Span.{Span}
+use Rattle.ts_base.specs.Numbers.{ext_le}
+use Rattle.ts_base.specs.Spans.{none_span, one_span, has_some, end_by_end}
+use Rattle.ts_base.proofs.Order.{le_refl}
+use Rattle.ts_base.proofs.SpanLaws.{max_mono, min_mono, plus_mono, one_some}
+use Rattle.ts_automaton.specs.declared.kind.RegKind.{RegKind}
+use Rattle.ts_automaton.specs.declared.expr.Op.{Op}
+use Rattle.ts_automaton.specs.declared.expr.Op.TheVariants.{Add, Max, Min}
+use Rattle.ts_automaton.specs.Registers.{Values, numbers, spans, ext_op}
+use Rattle.ts_automaton.specs.Kinds.{kind_of, is_within, HasKind, SpanHasKind, op_kind, Fits, SpansFit}
+use Rattle.ts_automaton.proofs.Tables.{within_refl, within_trans, narrower, made_kind, within_any, made_within}
+
+-- values of a kind: an operator that takes two kinds takes their values, and makes a value of its kind
+pub record TypedValues {A : Type 0} (m : Values A) (Has : RegKind → A → Type 0) (P : Op → A → A → Type 0) : Type 0 where
+  pub constant : (e : Ext) → Has (kind_of e) (m.constant e)
+  pub taken : (o : Op) (j k : RegKind) (a b : A) → IsTrue (is_some (op_kind o j k)) → Has j a → Has k b → P o a b
+  pub made : (o : Op) (j k i : RegKind) (a b : A) → op_kind o j k ≡ Some i → Has j a → Has k b → Has i (m.join o a b)
+  pub widened : (j k : RegKind) (a : A) → IsTrue (is_within j k) → Has j a → Has k a
+
+kind_made : (o : Op) (a b : Ext) → kind_of (ext_op o a b) ≡ made_kind o (kind_of a) (kind_of b)
+kind_made Add NegInf b = refl
+kind_made Add (Number x) NegInf = refl
+kind_made Add (Number x) (Number y) = refl
+kind_made Add (Number x) PosInf = refl
+kind_made Add PosInf NegInf = refl
+kind_made Add PosInf (Number y) = refl
+kind_made Add PosInf PosInf = refl
+kind_made Max NegInf b = refl
+kind_made Max (Number x) NegInf = refl
+kind_made Max (Number x) (Number y) = elim (int_le x y) as (λ v. kind_of (cond v (Number y) (Number x)) ≡ kind_of (Number x)) [ true ↦ refl | false ↦ refl ]
+kind_made Max (Number x) PosInf = refl
+kind_made Max PosInf NegInf = refl
+kind_made Max PosInf (Number y) = refl
+kind_made Max PosInf PosInf = refl
+kind_made Min NegInf b = refl
+kind_made Min (Number x) NegInf = refl
+kind_made Min (Number x) (Number y) = elim (int_le x y) as (λ v. kind_of (cond v (Number x) (Number y)) ≡ kind_of (Number x)) [ true ↦ refl | false ↦ refl ]
+kind_made Min (Number x) PosInf = refl
+kind_made Min PosInf NegInf = refl
+kind_made Min PosInf (Number y) = refl
+kind_made Min PosInf PosInf = refl
+
+made_number : (o : Op) (j k i : RegKind) (a b : Ext) → op_kind o j k ≡ Some i → HasKind j a → HasKind k b → HasKind i (ext_op o a b)
+made_number o j k i a b e h g =
+    subst (λ l. IsTrue (is_within l i)) (sym (kind_made o a b)) (subst (λ u. IsTrue (within_any (made_kind o (kind_of a) (kind_of b)) u)) e (made_within o j k (kind_of a) (kind_of b) h g))
+
+pub numbers_typed : TypedValues numbers HasKind Fits
+numbers_typed = record {
+  constant = λ e. within_refl (kind_of e);
+  taken = λ o j k a b t h g. narrower o j k (kind_of a) (kind_of b) t h g;
+  made = made_number;
+  widened = λ j k a w h. within_trans (kind_of a) j k h w;
+}
+
+op_mono : (o : Op) (a b c d : Ext) → IsTrue (ext_le a b) → IsTrue (ext_le c d) → IsTrue (ext_le (ext_op o a c) (ext_op o b d))
+op_mono Add = plus_mono
+op_mono Max = max_mono
+op_mono Min = min_mono
+
+pub lifted_ends : (o : Op) (s t : Span) → has_some s ≡ true → has_some t ≡ true → end_by_end (ext_op o) s t ≡ record { lo = ext_op o s.lo t.lo; hi = ext_op o s.hi t.hi }
+lifted_ends o s t p q = ap (λ v. cond (v && has_some t) (record { lo = ext_op o s.lo t.lo; hi = ext_op o s.hi t.hi }) none_span) p ∙ ap (λ v. cond v (record { lo = ext_op o s.lo t.lo; hi = ext_op o s.hi t.hi }) none_span) q
+
+made_span : (o : Op) (j k i : RegKind) (s t : Span) → op_kind o j k ≡ Some i → SpanHasKind j s → SpanHasKind k t → SpanHasKind i (end_by_end (ext_op o) s t)
+made_span o j k i s t e h g =
+    subst (SpanHasKind i) (sym (lifted_ends o s t h.0 g.0))
+    (op_mono o s.lo s.hi t.lo t.hi h.0 g.0, made_number o j k i s.lo t.lo e h.1 g.1, made_number o j k i s.hi t.hi e h.2 g.2)
+
+pub spans_typed : TypedValues spans SpanHasKind SpansFit
+spans_typed = record {
+  constant = λ e. (le_refl e, within_refl (kind_of e), within_refl (kind_of e));
+  taken = λ o j k s t p h g. (h.0, g.0, narrower o j k (kind_of s.lo) (kind_of t.lo) p h.1 g.1, narrower o j k (kind_of s.hi) (kind_of t.hi) p h.2 g.2);
+  made = made_span;
+  widened = λ j k s w h. (h.0, within_trans (kind_of s.lo) j k h.1 w, within_trans (kind_of s.hi) j k h.2 w);
+}

@@ -1,0 +1,125 @@
+//! Runs over numbers.
+
+ghost use Rattle.std.specs.Prelude.{◌≡◌, ◌<◌, IsTrue, is_some, length};
+ghost use Rattle.ts_automaton.specs.AutomatonRun.{Stands, finish_of, marked, moved, standing_of, start_of, step_of};
+ghost use Rattle.ts_automaton.specs.Body.{move_of, move_on, node_at};
+ghost use Rattle.ts_automaton.specs.Formula.{formula};
+ghost use Rattle.ts_automaton.specs.Kinds.{Fits};
+ghost use Rattle.ts_automaton.specs.Registers.{Takes, TakesAll, ext_op, numbers, regs_of, value_in};
+ghost use Rattle.ts_automaton.specs.Typing.{is_automaton};
+
+use crate::automaton::Automaton;
+use crate::expr::{Expr, Op};
+use crate::regs::{At, Regs};
+use crate::state::{Mark, Turn};
+use ts_base::{Ext, letter_of};
+
+impl Automaton {
+    /// The first state with the start constants.
+    #[tactic(auto, using(crate::proofs::StepLaws::start_stands))]
+    pub fn start(&self) -> At
+        ensures value { standing_of result ≡ start_of self.now }
+        ensures stands { Stands self.now (standing_of result) }
+    {
+        At {
+            state: 0,
+            regs: self.start_regs(),
+        }
+    }
+
+    /// The move of two neighbouring cells.
+    pub fn step(&self, at: At, this: i64, next: i64) -> At
+        requires { Stands self.now (standing_of at) }
+        ensures value { standing_of result ≡ step_of self.now (standing_of at) this next }
+        ensures stands { Stands self.now (standing_of result) }
+    {
+        let turn = self.turn(at.state, letter_of(this, next));
+        At {
+            state: turn.next,
+            regs: turn.moved(&at.regs, this, next),
+        }
+    }
+
+    /// The answer after a series of `n` cells, under the mark.
+    pub fn finish(&self, at: At, n: u32) -> Ext
+        requires { Stands self.now (standing_of at) }
+        ensures { result ≡ finish_of self.now (standing_of at) n }
+    {
+        self.mark()
+            .applied(self.finish_expr().value(&at.regs, 0, 0), n)
+    }
+}
+
+impl Turn {
+    /// The registers after the move.
+    fn moved(&self, regs: &Regs, this: i64, next: i64) -> Regs
+        requires { TakesAll Fits numbers (regs_of regs.now) this next (move_of self.now).to }
+        ensures { regs_of result ≡ moved numbers (regs_of regs.now) this next (move_of self.now) }
+    {
+        Regs {
+            c: self.c.value(regs, this, next),
+            d: self.d.value(regs, this, next),
+            r: self.r.value(regs, this, next),
+        }
+    }
+}
+
+impl Expr {
+    /// Its value; each operator in it meets two values that it takes.
+    fn value(&self, regs: &Regs, this: i64, next: i64) -> Ext
+        requires { Takes Fits numbers (regs_of regs.now) this next (formula self.now) }
+        ensures { result ≡ value_in numbers (regs_of regs.now) this next (formula self.now) }
+    {
+        match self {
+            Expr::C => regs.c,
+            Expr::D => regs.d,
+            Expr::R => regs.r,
+            Expr::This => Ext::Int(this),
+            Expr::Next => Ext::Int(next),
+            Expr::Zero => Ext::Int(0),
+            Expr::Unit => Ext::Int(1),
+            Expr::NegInf => Ext::NegInf,
+            Expr::PosInf => Ext::PosInf,
+            Expr::Add(a, b) => Op::Add.applied(
+                a.value(regs, this, next),
+                b.value(regs, this, next),
+            ),
+            Expr::Max(a, b) => Op::Max.applied(
+                a.value(regs, this, next),
+                b.value(regs, this, next),
+            ),
+            Expr::Min(a, b) => Op::Min.applied(
+                a.value(regs, this, next),
+                b.value(regs, this, next),
+            ),
+        }
+    }
+}
+
+impl Op {
+    /// What it makes of two values that it takes.
+    pub(crate) fn applied(self, a: Ext, b: Ext) -> Ext
+        requires { Fits self a b }
+        ensures { result ≡ ext_op self a b }
+    {
+        match (self, a, b) {
+            (Op::Add, Ext::Int(_), Ext::Int(_)) => a.plus(b),
+            (Op::Max, Ext::NegInf | Ext::Int(_), Ext::NegInf | Ext::Int(_)) => a.greater(b),
+            (Op::Min, Ext::PosInf | Ext::Int(_), Ext::PosInf | Ext::Int(_)) => a.lesser(b),
+            _ => unreachable!(),
+        }
+    }
+}
+
+impl Mark {
+    /// What becomes of an answer after `n` cells.
+    pub(crate) fn applied(self, answer: Ext, n: u32) -> Ext
+        ensures { result ≡ marked self n answer }
+    {
+        match (self, answer) {
+            (Mark::Zero, Ext::NegInf) => Ext::Int(0),
+            (Mark::Cells, Ext::PosInf) => Ext::Int(n as i64),
+            _ => answer,
+        }
+    }
+}
