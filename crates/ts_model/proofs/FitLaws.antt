@@ -1,5 +1,5 @@
 -- What every stated model keeps of the limits, line by line.
-use Rattle.std.proofs.Common.{◌≡◌, ℕ, zero, suc, ◌+◌, ◌<◌, ◌≤◌, Bool, true, false, cond, not, ◌&&◌, Some, None, Ok, Err, List, [], ◌∷◌, ◌++◌, length, map, replicate, ℤ, pos, negsuc, refl, subst, arith, nat_lt, length-append, vec_len, rules}
+use Rattle.std.proofs.Common.{◌≡◌, ℕ, zero, suc, ◌+◌, ◌<◌, ◌≤◌, Bool, true, false, cond, not, ◌&&◌, Some, None, Ok, Err, List, [], ◌∷◌, ◌++◌, length, map, replicate, ℤ, pos, negsuc, refl, subst, arith, nat_le, nat_lt, length-append, vec_len, rules}
 use Rattle.std.specs.Prelude.{Option, Result, IfOk, IfSome, IsSome, is_none, unwrap_or}
 use Rattle.std.specs.List.{AllByRecursion, list_any}
 use Rattle.std.specs.Str.{bytes_eq}
@@ -52,8 +52,8 @@ second : (a b : Bool) → cond a true b ≡ false → b ≡ false
 second true b h = cc
 second false b h = h
 
-at_most : (k n : ℕ) → nat_lt k n ≡ false → n ≤ k
-at_most k n h = grind (arith, nat_tests)
+under_most : (k n : ℕ) → nat_le k n ≡ false → n < k
+under_most k n h = grind (arith, nat_tests)
 
 counted : (n : ℤ) → not (is_between (pos 1) n (pos 512)) ≡ false → count_of n ≤ 512
 counted (pos k) h = grind (arith, ints, nat_tests)
@@ -126,7 +126,7 @@ fit_after lists m (SaysTerm name parts) fit none =
     let more : length (with_said m (SaysTerm name parts)).terms ≡ length m.terms + 1 = simp length-append in record {
       few = fit.few;
       total = fit.total;
-      terms = omega (arith, more, at_most 31 (length m.terms) all.1.1.1.1.1.1.1.1.1.0);
+      terms = omega (arith, more, under_most 32 (length m.terms) all.1.1.1.1.1.1.1.1.1.0);
       requirements = fit.requirements;
       each = lifted (length m.terms) (length (with_said m (SaysTerm name parts)).terms) (omega (arith, more)) m.requirements fit.each;
       bounds = fit.bounds;
@@ -134,12 +134,12 @@ fit_after lists m (SaysTerm name parts) fit none =
     }
 fit_after lists m (SaysRequire name op bound) fit none =
     let all = all_fail (kinds lists m (SaysRequire name op bound)) none in
-    let tests = bound_test (is_bound bound) (nat_lt 63 (length m.requirements)) all.1.1.1.1.1.1.1.1.1.0 in
+    let tests = bound_test (is_bound bound) (nat_le 64 (length m.requirements)) all.1.1.1.1.1.1.1.1.1.0 in
     let more : length (with_said m (SaysRequire name op bound)).requirements ≡ length m.requirements + 1 = simp length-append in record {
       few = fit.few;
       total = fit.total;
       terms = fit.terms;
-      requirements = omega (arith, more, at_most 63 (length m.requirements) tests.1);
+      requirements = omega (arith, more, under_most 64 (length m.requirements) tests.1);
       each = pushed (λ r. r.term < length m.terms) m.requirements _ fit.each
           (known_there (length m.terms) (term_at name m.terms) all.1.1.1.1.1.1.0 (term_there name m.terms (term_at name m.terms) refl));
       bounds = pushed (λ r. is_bound r.bound ≡ true) m.requirements _ fit.bounds tests.0;

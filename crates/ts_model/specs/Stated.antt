@@ -1,10 +1,11 @@
 -- What lines state together, and the kinds of bad lines from `nocells` on: one test for each, of what a line says
 -- after the lines that state m.
-use Rattle.std.specs.Prelude.{ℕ, ◌≡◌, ◌<◌, ◌-◌, ℤ, pos, negsuc, neg_ℤ, int_le, int_lt, Bool, true, false, not, ◌&&◌, List, [], ◌∷◌, ◌++◌, length, map, filter, set, replicate, if◌then◌else◌, nat_lt, Option, Some, None, Result, Ok, Err, is_some, is_none, unwrap_or}
+use Rattle.std.specs.Prelude.{ℕ, ◌≡◌, ◌<◌, ◌-◌, ℤ, pos, negsuc, neg_ℤ, int_le, int_lt, Bool, true, false, not, ◌&&◌, List, [], ◌∷◌, ◌++◌, length, map, filter, set, replicate, if◌then◌else◌, nat_le, nat_lt, Option, Some, None, Result, Ok, Err, is_some, is_none, unwrap_or}
 use Rattle.std.specs.List.{list_any, position, sum_by}
 use Rattle.std.specs.Str.{bytes_eq}
 use Rattle.ts_base.specs.declared.ext.Ext.{Ext}
 use Rattle.ts_base.specs.declared.ext.Ext.TheVariants.{NegInf, Int, PosInf}
+use Rattle.ts_base.specs.Limits.{greatest_bound, greatest_value, most_cells, most_domain_values, most_requirements, most_terms}
 use Rattle.ts_domain.specs.declared.interval.Interval.{Interval}
 use Rattle.ts_domain.specs.Values.{values_between}
 use Rattle.ts_pattern.specs.declared.name.Aggregator.TheVariants.{Sum}
@@ -24,7 +25,7 @@ is_between low x high = int_le low x && int_le x high
 -- the numbers from -1,000,000 to 1,000,000 that some range has, in rising order
 unfoldable pub union_of : List Interval → List ℤ
 union_of ranges =
-    filter (λ v. list_any (λ r. is_between r.low v r.high) ranges) (values_between (neg_ℤ (pos 1000000)) (pos 1000000))
+    filter (λ v. list_any (λ r. is_between r.low v r.high) ranges) (values_between (neg_ℤ greatest_value) greatest_value)
 
 -- what stands in a model: the numbers of each cell in rising order (no cells before the `cells` line), the terms by
 -- name, and the number of the objective's term
@@ -88,7 +89,7 @@ abbrev pub cells_twice : Stated → Said → Bool
 cells_twice m s = is_cells s && has_cells m
 
 abbrev pub cell_range : Stated → Said → Bool
-cell_range m (SaysCells n) = not (is_between (pos 1) n (pos 512))
+cell_range m (SaysCells n) = not (is_between (pos 1) n (pos most_cells))
 cell_range m (SaysCell k rs) = not (is_between (pos 1) k (pos (length m.cells)))
 cell_range m _ = false
 
@@ -129,14 +130,14 @@ abbrev pub objective_twice : Stated → Said → Bool
 objective_twice m s = is_objective s && is_some m.objective
 
 abbrev pub is_value : ℤ → Bool
-is_value v = is_between (neg_ℤ (pos 1000000)) v (pos 1000000)
+is_value v = is_between (neg_ℤ greatest_value) v greatest_value
 
 abbrev pub is_outside : Interval → Bool
 is_outside r = not (is_value r.low && is_value r.high)
 
 abbrev pub is_bound : Ext → Bool
 is_bound NegInf = true
-is_bound (Int b) = is_between (neg_ℤ (pos 1000000000000)) b (pos 1000000000000)
+is_bound (Int b) = is_between (neg_ℤ greatest_bound) b greatest_bound
 is_bound PosInf = true
 
 -- how many values all domains have together
@@ -144,7 +145,7 @@ abbrev pub total_of : List (List ℤ) → ℕ
 total_of cells = sum_by length cells
 
 abbrev pub over_total : Bool → Stated → Bool
-over_total lists m = lists && nat_lt 65536 (total_of m.cells)
+over_total lists m = lists && nat_lt most_domain_values (total_of m.cells)
 
 -- a limit is passed by the line; lists says whether all domains together have one
 abbrev pub passes_limit : Bool → Stated → Said → Bool
@@ -153,8 +154,8 @@ passes_limit lists m (SaysDomain rs) =
     if list_any is_outside rs then true else over_total lists (with_said m (SaysDomain rs))
 passes_limit lists m (SaysCell k rs) =
     if list_any is_outside rs then true else over_total lists (with_said m (SaysCell k rs))
-passes_limit lists m (SaysTerm name parts) = nat_lt 31 (length m.terms)
-passes_limit lists m (SaysRequire name op bound) = if is_bound bound then nat_lt 63 (length m.requirements) else true
+passes_limit lists m (SaysTerm name parts) = nat_le most_terms (length m.terms)
+passes_limit lists m (SaysRequire name op bound) = if is_bound bound then nat_le most_requirements (length m.requirements) else true
 passes_limit lists m (SaysObjective name) = false
 
 -- the parts of a term, or the kind of bad names

@@ -2,6 +2,7 @@
 use Rattle.std.specs.Prelude.{◌≡◌, ℕ, ◌+◌, ◌≤◌, List, map, Result, Ok, Err, String, length}
 use Rattle.std.specs.Global.{Global}
 use Rattle.std.specs.String.{string_bytes}
+use Rattle.ts_base.specs.Limits.{most_terms}
 use Rattle.ts_token.specs.Text.{Cut}
 use Rattle.ts_token.specs.declared.words.Word.{Word}
 use Rattle.ts_pattern.specs.declared.term.Term.{Term}
@@ -82,7 +83,7 @@ Tells need c (Err Memory) = Unit {0}
 -- what is kept beside a draft
 pub record IsSound (d : Draft) : Type 0 where
   pub cells : IsKept d.cells
-  pub terms : length d.terms.entries ≤ 32
+  pub terms : length d.terms.entries ≤ most_terms
 
 -- a draft after one more line, sound and with the same limits
 pub record Follows (before after : Draft) : Type 0 where

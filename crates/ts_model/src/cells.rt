@@ -2,6 +2,7 @@
 
 ghost use Rattle.std.specs.Prelude.{◌≡◌, ◌+◌, ◌*◌, ◌<◌, ◌≤◌, Bool, true, false, [], length, map, set, replicate, nat_lt, get_or, ◌&&◌, IfOk, OnOk, OnSome, IfNone, IfSome, pos};
 ghost use Rattle.std.specs.List.{list_any};
+ghost use Rattle.ts_base.specs.Limits.{most_cells, most_domain_values};
 ghost use Rattle.ts_domain.specs.BoxSeries.{IsBox};
 ghost use Rattle.ts_model.specs.Stated.{is_backward, is_outside, union_of, digits};
 ghost use Rattle.ts_model.specs.Cells.{in_force, domains, IsKept, IsTotal, total_set, within_total};
@@ -10,6 +11,7 @@ ghost use Rattle.ts_model.specs.Views.{Gives};
 use crate::error::{LineStop, ModelKind};
 use std::alloc::Global;
 use ts_base::Memory;
+use ts_base::limits::DOMAIN_VALUES;
 use ts_domain::{Domain, DomainStop, Interval};
 
 /// The domain that a `cell` line gave a cell, and the turn at which it did.
@@ -34,9 +36,6 @@ pub(crate) struct Cells {
     /// The number of all values, kept where it has a limit.
     pub total: u64,
 }
-
-/// How many values all domains have together at most, where that has a limit.
-const ALL_VALUES: u64 = 65_536;
 
 /// The lower ends.
 fn lows(alloc: Global, ranges: &[Interval]) -> Result<Vec<i64>, Memory>
@@ -90,15 +89,15 @@ fn no_own(alloc: Global, count: usize) -> Result<Vec<Option<Own>>, Memory>
 
 /// The number of all values, where each of `count` domains has `size` values; None where it passes the limit.
 fn total_of_all(limited: bool, count: usize, size: u64) -> Option<u64>
-    ensures none { IfNone result ((limited && nat_lt 65536 (count * size)) ≡ true) }
-    ensures room { OnSome result ((limited && nat_lt 65536 (count * size)) ≡ false) }
+    ensures none { IfNone result ((limited && nat_lt most_domain_values (count * size)) ≡ true) }
+    ensures room { OnSome result ((limited && nat_lt most_domain_values (count * size)) ≡ false) }
     ensures total { IfSome result (λ total. IsTotal limited total (count * size)) }
 {
     if !limited {
         return Some(0);
     }
     let total = count as u128 * u128::from(size);
-    if total > u128::from(ALL_VALUES) {
+    if total > u128::from(DOMAIN_VALUES) {
         return None;
     }
     Some(total as u64)
@@ -107,7 +106,7 @@ fn total_of_all(limited: bool, count: usize, size: u64) -> Option<u64>
 impl Cells {
     /// So many cells, each with the domain 0..9.
     pub(crate) fn new(alloc: Global, count: usize, limited: bool) -> Result<Cells, Memory>
-        requires { count ≤ 512 }
+        requires { count ≤ most_cells }
         ensures domains { IfOk result (λ cells. domains cells ≡ replicate count (union_of digits)) }
         ensures kept { IfOk result IsKept }
         ensures limited { IfOk result (λ cells. cells.limited ≡ limited) }
@@ -147,9 +146,9 @@ impl Cells {
         requires kept { IsKept self.now }
         requires there { place < length (domains self.now) }
         ensures none { IfNone result
-            ((self.now.limited && nat_lt 65536 (total_set (domains self.now) place size)) ≡ true) }
+            ((self.now.limited && nat_lt most_domain_values (total_set (domains self.now) place size)) ≡ true) }
         ensures room { OnSome result
-            ((self.now.limited && nat_lt 65536 (total_set (domains self.now) place size)) ≡ false) }
+            ((self.now.limited && nat_lt most_domain_values (total_set (domains self.now) place size)) ≡ false) }
         ensures total { IfSome result (λ total.
             IsTotal self.now.limited total (total_set (domains self.now) place size)) }
     {
@@ -158,7 +157,7 @@ impl Cells {
         }
         let others = self.total - self.in_force(place).size();
         let total = u128::from(others) + u128::from(size);
-        if total > u128::from(ALL_VALUES) {
+        if total > u128::from(DOMAIN_VALUES) {
             return None;
         }
         Some(total as u64)

@@ -1,7 +1,7 @@
 //! The model while lines are read.
 
 ghost use Rattle.std.specs.Prelude.{◌≡◌, ◌+◌, ◌<◌, ◌≤◌, length, pos, false, OnOk, IfOk, IfNone, IfSome};
-ghost use Rattle.std.specs.List.{list_any};
+ghost use Rattle.ts_base.specs.Limits.{most_terms};
 ghost use Rattle.ts_model.specs.Statement.{SaysCells, SaysDomain, SaysCell, SaysTerm, SaysRequire, SaysObjective};
 ghost use Rattle.ts_model.specs.Stated.{nothing, term_at, has_cells, is_between, taken, IsPlace};
 ghost use Rattle.ts_model.specs.ModelReading.{line_gives};
@@ -15,6 +15,7 @@ use crate::statement::{Ranges, Statement, TermParts};
 use crate::take::{domain_of, is_bound, term_of};
 use indexmap::IndexMap;
 use std::alloc::Global;
+use ts_base::limits::{CELLS, REQUIREMENTS, TERMS};
 use ts_base::{Ext, Memory};
 use ts_pattern::Term;
 use ts_token::Word;
@@ -83,7 +84,7 @@ impl Draft {
 
     /// The number of the term with a name.
     fn term_at(&self, name: &str) -> Option<u32>
-        requires { length self.now.terms.entries ≤ 32 }
+        requires { length self.now.terms.entries ≤ most_terms }
         ensures { result ≡ term_at name.now (drafted self.now).terms }
     {
         match self.terms.get_index_of(name) {
@@ -113,7 +114,7 @@ impl Draft {
         if self.has_cells() {
             return Err(LineStop::Bad(ModelKind::CellsTwice));
         }
-        if count < 1 || count > 512 {
+        if count < 1 || count > CELLS as i64 {
             return Err(LineStop::Bad(ModelKind::CellRange));
         }
         self.cells = Cells::new(alloc, count as usize, self.cells.limited)?;
@@ -174,7 +175,7 @@ impl Draft {
         if self.term_at(name).is_some() {
             return Err(LineStop::Bad(ModelKind::TermTwice));
         }
-        if self.terms.len() > 31 {
+        if self.terms.len() >= TERMS {
             return Err(LineStop::Bad(ModelKind::Limit));
         }
         let name = String::from_str(alloc, name)?;
@@ -195,7 +196,7 @@ impl Draft {
         match self.term_at(name) {
             None => Err(LineStop::Bad(ModelKind::UnknownTerm)),
             Some(term) => {
-                if !is_bound(bound) || self.requirements.len() > 63 {
+                if !is_bound(bound) || self.requirements.len() >= REQUIREMENTS {
                     return Err(LineStop::Bad(ModelKind::Limit));
                 }
                 self.requirements.push(Require { term, op, bound })?;

@@ -1,7 +1,7 @@
 //! The model of a text, or the first bad line with the first kind that holds of it.
 
 ghost use Rattle.std.specs.Prelude.{◌≡◌, ℕ, ◌+◌, ◌<◌, ◌≤◌, Bool, Result, length, vec_len, IfOk, OnOk};
-ghost use Rattle.ts_token.specs.Text.{Cut};
+ghost use Rattle.ts_base.specs.Limits.{most_cells};
 ghost use Rattle.ts_model.specs.declared.model.Need.{Need};
 ghost use Rattle.ts_model.specs.declared.error.ModelKind.{ModelKind};
 ghost use Rattle.ts_domain.specs.BoxSeries.{IsBox};
@@ -21,7 +21,7 @@ use ts_token::{Line, Tokens};
 /// What the lines state, or the first bad one.
 fn read_lines(alloc: Global, limited: bool, lines: &[Line]) -> Result<Draft, ModelStop>
     ensures rows { Drafts result (read_rows limited nothing (rows lines.now)) }
-    ensures few { IfOk result (λ draft. length draft.cells.own.items ≤ 512) }
+    ensures few { IfOk result (λ draft. length draft.cells.own.items ≤ most_cells) }
 {
     let mut draft = Draft::new(alloc, limited)?;
     for line in lines {
@@ -51,7 +51,7 @@ fn needs_objective(need: Need) -> bool
 fn read_draft(alloc: Global, tokens: &Tokens, need: Need) -> Result<Draft, ModelStop>
     requires { tokens.now.count < 4000000000 }
     ensures reading { Drafts result (reading need (cut tokens.now)) }
-    ensures few { IfOk result (λ draft. length draft.cells.own.items ≤ 512) }
+    ensures few { IfOk result (λ draft. length draft.cells.own.items ≤ most_cells) }
 {
     let draft = read_lines(alloc, needs_lists(need), &tokens.lines)?;
     if let Some(line) = tokens.not_text {
@@ -77,7 +77,7 @@ fn read_draft(alloc: Global, tokens: &Tokens, need: Need) -> Result<Draft, Model
 
 /// The model of a draft, each cell with a copy of its domain.
 fn model_of(alloc: Global, draft: Draft) -> Result<Model, Memory>
-    requires { length draft.cells.own.items ≤ 512 }
+    requires { length draft.cells.own.items ≤ most_cells }
     ensures same { IfOk result (λ m. stated m ≡ drafted draft) }
     ensures counted { IfOk result (λ m. m.n ≡ vec_len m.cells) }
     ensures boxed { IfOk result (λ m. IsBox m.cells.items) }

@@ -9,6 +9,7 @@ ghost use Rattle.ts_model.specs.Views.{texts};
 
 use crate::error::SeriesStop;
 use std::alloc::Global;
+use ts_base::limits::CELL_VALUE;
 use ts_token::{Tokens, Word, number};
 
 /// Whether the word is `series`.
@@ -25,7 +26,7 @@ fn value_of(word: &[u8]) -> Option<i64>
     ensures { result ≡ value_of word.now }
 {
     match number(word) {
-        Some(v) if v >= -1_000_000 && v <= 1_000_000 => Some(v),
+        Some(v) if v >= -CELL_VALUE && v <= CELL_VALUE => Some(v),
         _ => None,
     }
 }

@@ -10,6 +10,7 @@ use crate::error::{LineStop, ModelKind};
 use crate::statement::{Ranges, TermParts};
 use std::alloc::Global;
 use ts_base::Ext;
+use ts_base::limits::{BOUND, CELL_VALUE};
 use ts_domain::{Domain, Interval};
 use ts_pattern::Term;
 
@@ -24,10 +25,10 @@ fn has_backward(ranges: &[Interval]) -> bool
 fn is_outside(range: Interval) -> bool
     ensures { result ≡ is_outside range }
 {
-    range.low < -1_000_000
-        || range.low > 1_000_000
-        || range.high < -1_000_000
-        || range.high > 1_000_000
+    range.low < -CELL_VALUE
+        || range.low > CELL_VALUE
+        || range.high < -CELL_VALUE
+        || range.high > CELL_VALUE
 }
 
 /// Whether some range is.
@@ -68,7 +69,7 @@ pub(crate) fn is_bound(bound: Ext) -> bool
     ensures { result ≡ is_bound bound }
 {
     match bound {
-        Ext::Int(bound) => bound >= -1_000_000_000_000 && bound <= 1_000_000_000_000,
+        Ext::Int(bound) => bound >= -BOUND && bound <= BOUND,
         _ => true,
     }
 }
