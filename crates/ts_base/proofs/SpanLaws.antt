@@ -1,14 +1,14 @@
 -- Spans hold the results of what they hold. For crates above: all that is `pub` here.
-use Rattle.std.proofs.Common.{◌≡◌, ◌∙◌, ◌&&◌, ◌↔◌, Bool, true, false, cond, IsTrue, ℤ, ◌+ℤ◌, int_le, refl, ap, sym, rules, arith}
+use Rattle.std.proofs.Common.{◌≡◌, ◌∙◌, ◌&&◌, ◌↔◌, Bool, true, false, cond, IsTrue, ℤ, ◌+ℤ◌, int_le, refl, ap, arith}
 use Rattle.std.proofs.lemmas.Int.{ints}
 use Rattle.ts_base.specs.declared.ext.Ext.{Ext}
 use Rattle.ts_base.specs.declared.ext.Ext.TheVariants.{NegInf, Int, PosInf}
 use Rattle.ts_base.specs.declared.span.Span.{Span}
-use Rattle.ts_base.specs.Numbers.{ext_le, ext_max, ext_min, ext_plus, clamp}
+use Rattle.ts_base.specs.Numbers.{ext_max, ext_min, ext_plus, clamp}
 use Rattle.ts_base.specs.Orders.{IsMonotone}
-use Rattle.ts_base.specs.Spans.{none_span, one_span, has_some, Holds, end_by_end, span_hull, span_plus, span_greatest, span_least}
+use Rattle.ts_base.specs.Spans.{none_span, one_span, has_some, Holds, end_by_end, span_hull}
 use Rattle.ts_base.specs.SpanLayer.{IsWithin, IsEndByEnd, IsLeastHull}
-use Rattle.ts_base.proofs.Order.{le_refl, le_trans, le_antisym, max_left, max_right, max_least, min_left, min_right, min_greatest}
+use Rattle.ts_base.proofs.Order.{le_refl, le_trans, max_left, max_right, max_least, min_left, min_right, min_greatest}
 
 -- operations on numbers are monotone
 pub max_mono : IsMonotone ext_max
@@ -62,7 +62,7 @@ none_held s = (λ none e h. clash (has_some s) none (holds_some s e h), back (ha
     back true some none = elim (none s.lo (le_refl s.lo, some)) [ ]
     back false some none = refl
 
-none_empty : (e : Ext) → Holds none_span e → ⊥
+pub none_empty : (e : Ext) → Holds none_span e → ⊥
 none_empty NegInf h = grind arith
 none_empty (Int x) h = grind arith
 none_empty PosInf h = grind arith
@@ -126,7 +126,7 @@ module _ (op : Ext → Ext → Ext) (m : IsMonotone op) where
   no_second true s t = refl
   no_second false s t = refl
 
-  lifted_within : (s t u v : Span) → IsWithin s u → IsWithin t v → IsWithin (end_by_end op s t) (end_by_end op u v)
+  pub lifted_within : (s t u v : Span) → IsWithin s u → IsWithin t v → IsWithin (end_by_end op s t) (end_by_end op u v)
   lifted_within s t u v p q e = go (has_some s) (has_some t) refl refl
     where
       go : (a b : Bool) → has_some s ≡ a → has_some t ≡ b → Holds (ends_of a b s t) e → Holds (end_by_end op u v) e

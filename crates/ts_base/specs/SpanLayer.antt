@@ -1,8 +1,8 @@
 -- What the layers above know of operations on spans.
-use Rattle.std.specs.Prelude.{◌≡◌, IsTrue, true, false}
+use Rattle.std.specs.Prelude.{◌≡◌, IsTrue, false}
 use Rattle.ts_base.specs.declared.ext.Ext.{Ext}
 use Rattle.ts_base.specs.declared.span.Span.{Span}
-use Rattle.ts_base.specs.Spans.{none_span, has_some, Holds, span_hull}
+use Rattle.ts_base.specs.Spans.{none_span, has_some, Holds}
 
 -- every number of s is one of t
 abbrev pub IsWithin : Span → Span → Type 0

@@ -1,4 +1,4 @@
-use Rattle.std.proofs.Common.{rules, arith, ◌+◌, ◌≡◌, ◌∙◌, ap, sym, ◌++◌, take, min, ◌-◌, ◌≤◌, length, vec_len, IsOk, false}
+use Rattle.std.proofs.Common.{rules, arith, ◌+◌, ◌≡◌, ◌∙◌, ap, ◌++◌, take, min, ◌-◌, ◌≤◌, length, vec_len, IsOk, false}
 use Rattle.std.proofs.lemmas.Grind.{common_steps}
 use Rattle.std.proofs.lemmas.List.{length-take}
 use Rattle.std.specs.Vec.{vec_capacity}
