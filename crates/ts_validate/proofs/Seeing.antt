@@ -10,21 +10,20 @@ use Rattle.ts_regex.specs.Shape.{Shape}
 use Rattle.ts_regex.specs.NormalForm.{normal_form, same_shape}
 use Rattle.ts_regex.proofs.Laws.{same_law}
 use Rattle.ts_transducer.specs.declared.row.Row.{Row}
-use Rattle.ts_transducer.specs.Decode.{row_at}
 use Rattle.ts_pattern.specs.declared.plan.Tag.{Tag}
 use Rattle.ts_pattern.specs.declared.plan.Tag.TheVariants.{Young, Due, InD, InC, Loose}
 use Rattle.ts_pattern.specs.declared.plan.Configuration.{Configuration}
 use Rattle.ts_pattern.specs.EachOf.{Each}
 use Rattle.ts_pattern.specs.Entries.{Entry, shapes}
-use Rattle.ts_pattern.specs.Closed.{PlainConfiguration, Subject, no_ind, appended, move_of, before, kept, stepped, first_passes, entries_agree, same_tag, same_live, same_configuration, step_listed, meets_checks}
+use Rattle.ts_pattern.specs.Closed.{PlainConfiguration, Subject, stepped, first_passes, same_tag, same_live, same_configuration, step_listed, meets_checks}
 use Rattle.ts_pattern.specs.Plans.{shape_at, valued, subject, plain_configuration, is_plan_of, is_blank}
 use Rattle.ts_pattern.proofs.Entries.{shapes_right}
 use Rattle.ts_pattern.proofs.Tested.{configuration_is}
 use Rattle.ts_validate.specs.declared.known.Known.{Known}
 use Rattle.ts_validate.specs.declared.step.Look.{Look}
-use Rattle.ts_validate.specs.Numbers.{table_of, numbers, numbered_subject, all_listed, next_place, number_meets}
+use Rattle.ts_validate.specs.Numbers.{table_of, numbered_subject, next_place, number_meets}
 use Rattle.ts_validate.specs.Reaches.{configuration_at, value_at, IsFirst, Sees}
-use Rattle.ts_validate.proofs.Values.{AreNumbers, HasNumbers, IsFor, plan_of, same_valued, agree_valued, not_listed}
+use Rattle.ts_validate.proofs.Values.{AreNumbers, HasNumbers, IsFor, plan_of, by_number, by_value, is_listed_after, is_step, agrees, same_valued, agree_valued, not_listed}
 
 -- what a plan of the pattern is
 
@@ -132,9 +131,9 @@ none_any p q rs (x ∷ xs) e h = go (p x) refl e.0 (none_any p q rs xs e.1) h
     go false t u m s = ap (λ z. z || list_any q (map (λ x. valued rs x) xs)) (sym u ∙ t) ∙ m (omega (arith, s))
 
 each_same : (rows : List Row) (p : Shape) (b : ℕ) (rs : List Shape) (all xs : List (PlainConfiguration ℕ)) → IsFor p rs all → (x : PlainConfiguration ℕ) →
-    HasNumbers rs x → (l : Letter) → all_listed (table_of rs) l (appended tt 0 b x.live) ≡ true → Each (HasNumbers rs) xs →
-    Each (λ y. same_configuration (numbers (table_of rs)) y (stepped (numbered_subject rows (table_of rs) b all) x l)
-    ≡ same_configuration shapes (valued rs y) (stepped (subject rows p b (plan_of rs all)) (valued rs x) l)) xs
+    HasNumbers rs x → (l : Letter) → is_listed_after rs b x l ≡ true → Each (HasNumbers rs) xs →
+    Each (λ y. is_step rows b rs all x l y
+    ≡ same_configuration shapes (valued rs y) (stepped (by_value rows p b rs all) (valued rs x) l)) xs
 each_same rows p b rs all [] i x h l a k = tt
 each_same rows p b rs all (y ∷ xs) i x h l a k = (same_valued rows p b rs all i x y h k.0 l a, each_same rows p b rs all xs i x h l a k.1)
 
@@ -158,42 +157,36 @@ configuration_itself x = ap (λ z. z && same_live shapes x.live x.live) (eq-eqb 
 
 pub sees : (rows : List Row) (p : Shape) (b : ℕ) (rs : List Shape) (xs : List (PlainConfiguration ℕ)) → IsFor p rs xs → (x : PlainConfiguration ℕ) →
     HasNumbers rs x → (l : Letter) (k : Look) →
-    k.next ≡ next_place (table_of rs) (numbered_subject rows (table_of rs) b xs) x l →
-    k.meets ≡ number_meets (table_of rs) (numbered_subject rows (table_of rs) b xs) x l →
-    Sees (subject rows p b (plan_of rs xs)) (valued rs x) l k
-sees rows p b rs xs i x h l k q m = go (all_listed (table_of rs) l (appended tt 0 b x.live)) refl q m
+    k.next ≡ next_place (table_of rs) (by_number rows b rs xs) x l →
+    k.meets ≡ number_meets (table_of rs) (by_number rows b rs xs) x l →
+    Sees (by_value rows p b rs xs) (valued rs x) l k
+sees rows p b rs xs i x h l k q m = go (is_listed_after rs b x l) refl q m
   where
-    agree : (o : Option ℕ) → all_listed (table_of rs) l (appended tt 0 b x.live) ≡ true → (b' : Bool) →
-        step_listed (subject rows p b (plan_of rs xs)) (valued rs x) l ≡ b' → is_some o ≡ b' →
-        k.meets ≡ (is_some o && entries_agree (numbers (table_of rs)) (move_of (numbered_subject rows (table_of rs) b xs) x l).phase
-        (row_at rows (move_of (numbered_subject rows (table_of rs) b xs) x l).next).kind (no_ind (before (numbered_subject rows (table_of rs) b xs) x))
-        (kept (numbered_subject rows (table_of rs) b xs) x l)) →
-        k.meets ≡ meets_checks (subject rows p b (plan_of rs xs)) (valued rs x) l
+    agree : (o : Option ℕ) → is_listed_after rs b x l ≡ true → (b' : Bool) →
+        step_listed (by_value rows p b rs xs) (valued rs x) l ≡ b' → is_some o ≡ b' →
+        k.meets ≡ (is_some o && agrees (by_number rows b rs xs) x l) →
+        k.meets ≡ meets_checks (by_value rows p b rs xs) (valued rs x) l
     agree o a b' t u v =
         v ∙ ap (λ z. is_some o && z) (agree_valued rows p b rs xs i x h l a)
-        ∙ ap (λ z. z && entries_agree shapes (move_of (numbered_subject rows (table_of rs) b xs) x l).phase
-        (row_at rows (move_of (numbered_subject rows (table_of rs) b xs) x l).next).kind (no_ind (before (subject rows p b (plan_of rs xs)) (valued rs x)))
-        (kept (subject rows p b (plan_of rs xs)) (valued rs x) l)) (u ∙ sym t)
+        ∙ ap (λ z. z && agrees (by_value rows p b rs xs) (valued rs x) l) (u ∙ sym t)
 
-    inner : all_listed (table_of rs) l (appended tt 0 b x.live) ≡ true → (o : Option ℕ) →
-        position (λ y. same_configuration (numbers (table_of rs)) y (stepped (numbered_subject rows (table_of rs) b xs) x l)) xs ≡ o → k.next ≡ o →
-        k.meets ≡ (is_some o && entries_agree (numbers (table_of rs)) (move_of (numbered_subject rows (table_of rs) b xs) x l).phase
-        (row_at rows (move_of (numbered_subject rows (table_of rs) b xs) x l).next).kind (no_ind (before (numbered_subject rows (table_of rs) b xs) x))
-        (kept (numbered_subject rows (table_of rs) b xs) x l)) →
-        Sees (subject rows p b (plan_of rs xs)) (valued rs x) l k
+    inner : is_listed_after rs b x l ≡ true → (o : Option ℕ) →
+        position (λ y. is_step rows b rs xs x l y) xs ≡ o → k.next ≡ o →
+        k.meets ≡ (is_some o && agrees (by_number rows b rs xs) x l) →
+        Sees (by_value rows p b rs xs) (valued rs x) l k
     inner a None e u v =
-        let s : Subject Shape = subject rows p b (plan_of rs xs) in
+        let s : Subject Shape = by_value rows p b rs xs in
         let to : PlainConfiguration Shape = stepped s (valued rs x) l in
         let no : step_listed s (valued rs x) l ≡ false =
-        none_any (λ y. same_configuration (numbers (table_of rs)) y (stepped (numbered_subject rows (table_of rs) b xs) x l))
+        none_any (λ y. is_step rows b rs xs x l y)
         (λ y. same_configuration shapes y to) rs xs
         (each_same rows p b rs xs xs i x h l a i.numbers)
-        (place_none (λ y. same_configuration (numbers (table_of rs)) y (stepped (numbered_subject rows (table_of rs) b xs) x l)) xs e) in
+        (place_none (λ y. is_step rows b rs xs x l y) xs e) in
         record { none = λ q. no; some = λ j q. absurd (none-some j (sym u ∙ q)); meets = agree None a false no refl v }
     inner a (Some m) e u v =
-        let s : Subject Shape = subject rows p b (plan_of rs xs) in
+        let s : Subject Shape = by_value rows p b rs xs in
         let to : PlainConfiguration Shape = stepped s (valued rs x) l in
-        let test : PlainConfiguration ℕ → Bool = (λ y. same_configuration (numbers (table_of rs)) y (stepped (numbered_subject rows (table_of rs) b xs) x l)) in
+        let test : PlainConfiguration ℕ → Bool = (λ y. is_step rows b rs xs x l y) in
         let same : PlainConfiguration Shape → Bool = (λ y. same_configuration shapes y to) in
         let each : Each (λ y. test y ≡ same (valued rs y)) xs = each_same rows p b rs xs xs i x h l a i.numbers in
         let f = place_some test xs m e in
@@ -214,24 +207,21 @@ sees rows p b rs xs i x h l k q m = go (all_listed (table_of rs) l (appended tt 
           meets = agree (Some m) a true yes refl v;
         }
 
-    go : (a : Bool) → all_listed (table_of rs) l (appended tt 0 b x.live) ≡ a →
-        k.next ≡ cond a (position (λ y. same_configuration (numbers (table_of rs)) y (stepped (numbered_subject rows (table_of rs) b xs) x l)) xs) None →
+    go : (a : Bool) → is_listed_after rs b x l ≡ a →
+        k.next ≡ cond a (position (λ y. is_step rows b rs xs x l y) xs) None →
         k.meets ≡ (is_some
-        (cond a (position (λ y. same_configuration (numbers (table_of rs)) y (stepped (numbered_subject rows (table_of rs) b xs) x l)) xs) None)
-        && entries_agree (numbers (table_of rs)) (move_of (numbered_subject rows (table_of rs) b xs) x l).phase
-        (row_at rows (move_of (numbered_subject rows (table_of rs) b xs) x l).next).kind (no_ind (before (numbered_subject rows (table_of rs) b xs) x))
-        (kept (numbered_subject rows (table_of rs) b xs) x l)) →
-        Sees (subject rows p b (plan_of rs xs)) (valued rs x) l k
-    go true e u v = inner e (position (λ y. same_configuration (numbers (table_of rs)) y (stepped (numbered_subject rows (table_of rs) b xs) x l)) xs) refl u v
+        (cond a (position (λ y. is_step rows b rs xs x l y) xs) None)
+        && agrees (by_number rows b rs xs) x l) →
+        Sees (by_value rows p b rs xs) (valued rs x) l k
+    go true e u v = inner e (position (λ y. is_step rows b rs xs x l y) xs) refl u v
     go false e u v =
-        let s : Subject Shape = subject rows p b (plan_of rs xs) in
+        let s : Subject Shape = by_value rows p b rs xs in
         let no : step_listed s (valued rs x) l ≡ false = not_listed rows p b rs xs i x h l e in
         record {
           none = λ q. no;
           some = λ j q. absurd (none-some j (sym u ∙ q));
           meets = v ∙ sym
-              (ap (λ z. z && entries_agree shapes (move_of s (valued rs x) l).phase (row_at rows (move_of s (valued rs x) l).next).kind
-              (no_ind (before s (valued rs x))) (kept s (valued rs x) l)) no);
+              (ap (λ z. z && agrees s (valued rs x) l) no);
         }
 
 -- configuration i of a plan
@@ -266,12 +256,12 @@ sees_at rows p b rs cs table f t i d here q e l k n m =
     let short : i < length xs = (let z = length-map cs (λ (x : Configuration). plain_configuration x) in omega arith) in
     let x : PlainConfiguration ℕ = configuration_at xs i in
     let is : plain_configuration here ≡ x = ap (λ z. plain_configuration z) e ∙ sym (plain_is cs i d q) in
-    subst (λ z. Sees (subject rows p b (plan_of rs xs)) z l k) (sym (value_is rs xs i short))
+    subst (λ z. Sees (by_value rows p b rs xs) z l k) (sym (value_is rs xs i short))
     (sees rows p b rs xs g x (numbers_at rs xs i g.numbers short) l k
     (n ∙ ap (λ z. next_place z (numbered_subject rows z b xs) (plain_configuration here) l) t
-    ∙ ap (λ z. next_place (table_of rs) (numbered_subject rows (table_of rs) b xs) z l) is)
+    ∙ ap (λ z. next_place (table_of rs) (by_number rows b rs xs) z l) is)
     (m ∙ ap (λ z. number_meets z (numbered_subject rows z b xs) (plain_configuration here) l) t
-    ∙ ap (λ z. number_meets (table_of rs) (numbered_subject rows (table_of rs) b xs) z l) is))
+    ∙ ap (λ z. number_meets (table_of rs) (by_number rows b rs xs) z l) is))
 
 pub sees_plan : (rows : List Row) (p : Shape) (b : ℕ) (rs : List Shape) (slice cs : List Configuration) (table : List Known) → slice ≡ cs →
     is_plan_of p (plan_of rs (map (λ x. plain_configuration x) cs)) ≡ true → table ≡ table_of rs →

@@ -74,6 +74,23 @@ pub record IsFor (p : Shape) (rs : List Shape) (xs : List (PlainConfiguration �
 abbrev pub plan_of : List Shape → List (PlainConfiguration ℕ) → PlainPlan
 plan_of rs xs = record { residuals = rs; configurations = xs }
 
+-- a plan against rows, by the numbers of its residuals and by the residuals themselves
+abbrev pub by_number : List Row → ℕ → List Shape → List (PlainConfiguration ℕ) → Subject ℕ
+by_number rows b rs xs = numbered_subject rows (table_of rs) b xs
+
+abbrev pub by_value : List Row → Shape → ℕ → List Shape → List (PlainConfiguration ℕ) → Subject Shape
+by_value rows p b rs xs = subject rows p b (plan_of rs xs)
+
+-- each residual after the letter that has a word is listed, y is the step by numbers, and the entries of a step agree
+abbrev pub is_listed_after : List Shape → ℕ → PlainConfiguration ℕ → Letter → Bool
+is_listed_after rs b x l = all_listed (table_of rs) l (appended tt 0 b x.live)
+
+abbrev pub is_step : List Row → ℕ → List Shape → List (PlainConfiguration ℕ) → PlainConfiguration ℕ → Letter → PlainConfiguration ℕ → Bool
+is_step rows b rs xs x l y = same_configuration (numbers (table_of rs)) y (stepped (by_number rows b rs xs) x l)
+
+abbrev pub agrees : {R : Type 0} → Subject R → PlainConfiguration R → Letter → Bool
+agrees s x l = entries_agree s.on (move_of s x l).phase (row_at s.rows (move_of s x l).next).kind (no_ind (before s x)) (kept s x l)
+
 before_valued : (rs : List Shape) (p : Shape) (b : ℕ) (es : List (Entry (Unit {0}) ℕ Tag)) → shape_at rs 0 ≡ normal_form p →
     valued_entries rs (appended tt 0 b es) ≡ appended tt (normal_form p) b (valued_entries rs es)
 before_valued rs p b es q =
@@ -94,10 +111,10 @@ kept_valued rs p b l es s q h a =
     ∙ ap (λ z. survivors shapes l z) (before_valued rs p b es q)
 
 pub stepped_valued : (rows : List Row) (p : Shape) (b : ℕ) (rs : List Shape) (xs : List (PlainConfiguration ℕ)) → IsFor p rs xs → (x : PlainConfiguration ℕ) →
-    HasNumbers rs x → (l : Letter) → all_listed (table_of rs) l (appended tt 0 b x.live) ≡ true →
-    valued rs (stepped (numbered_subject rows (table_of rs) b xs) x l) ≡ stepped (subject rows p b (plan_of rs xs)) (valued rs x) l
+    HasNumbers rs x → (l : Letter) → is_listed_after rs b x l ≡ true →
+    valued rs (stepped (by_number rows b rs xs) x l) ≡ stepped (by_value rows p b rs xs) (valued rs x) l
 stepped_valued rows p b rs xs i x h l a =
-    let s : Subject ℕ = numbered_subject rows (table_of rs) b xs in
+    let s : Subject ℕ = by_number rows b rs xs in
     ap (λ z. record { state = (move_of s x l).next; live = z })
     (retag_renamed (λ (u : Unit {0}). u) (λ i. shape_at rs i) (move_of s x l).phase (no_ind (before s x)) (kept s x l)
     ∙ ap (λ z. retag (move_of s x l).phase z (valued_entries rs (kept s x l))) (free_valued rs p b x.live i.whole)
@@ -105,15 +122,11 @@ stepped_valued rows p b rs xs i x h l a =
     (kept_valued rs p b l x.live i.some i.whole h a))
 
 pub agree_valued : (rows : List Row) (p : Shape) (b : ℕ) (rs : List Shape) (xs : List (PlainConfiguration ℕ)) → IsFor p rs xs → (x : PlainConfiguration ℕ) →
-    HasNumbers rs x → (l : Letter) → all_listed (table_of rs) l (appended tt 0 b x.live) ≡ true →
-    entries_agree (numbers (table_of rs)) (move_of (numbered_subject rows (table_of rs) b xs) x l).phase
-    (row_at rows (move_of (numbered_subject rows (table_of rs) b xs) x l).next).kind (no_ind (before (numbered_subject rows (table_of rs) b xs) x))
-    (kept (numbered_subject rows (table_of rs) b xs) x l)
-    ≡ entries_agree shapes (move_of (numbered_subject rows (table_of rs) b xs) x l).phase
-    (row_at rows (move_of (numbered_subject rows (table_of rs) b xs) x l).next).kind
-    (no_ind (appended tt (normal_form p) b (valued_entries rs x.live))) (survivors shapes l (appended tt (normal_form p) b (valued_entries rs x.live)))
+    HasNumbers rs x → (l : Letter) → is_listed_after rs b x l ≡ true →
+    agrees (by_number rows b rs xs) x l
+    ≡ agrees (by_value rows p b rs xs) (valued rs x) l
 agree_valued rows p b rs xs i x h l a =
-    let s : Subject ℕ = numbered_subject rows (table_of rs) b xs in
+    let s : Subject ℕ = by_number rows b rs xs in
     let left : AreNumbers rs (kept s x l) = survivors_left (numbers (table_of rs)) shapes (λ i. shape_at rs i) (λ i. IsNumber rs i) l (before s x)
     (each_agrees rs l (before s x) (numbers_before rs b x.live i.some h) a) in
     agree_renamed (numbers (table_of rs)) shapes (λ (u : Unit {0}). u) (λ i. shape_at rs i) (move_of s x l).phase (row_at rows (move_of s x l).next).kind
@@ -124,11 +137,11 @@ agree_valued rows p b rs xs i x h l a =
     (no_ind (appended tt (normal_form p) b (valued_entries rs x.live))) z) (kept_valued rs p b l x.live i.some i.whole h a)
 
 pub same_valued : (rows : List Row) (p : Shape) (b : ℕ) (rs : List Shape) (xs : List (PlainConfiguration ℕ)) → IsFor p rs xs → (x y : PlainConfiguration ℕ) →
-    HasNumbers rs x → HasNumbers rs y → (l : Letter) → all_listed (table_of rs) l (appended tt 0 b x.live) ≡ true →
-    same_configuration (numbers (table_of rs)) y (stepped (numbered_subject rows (table_of rs) b xs) x l)
-    ≡ same_configuration shapes (valued rs y) (stepped (subject rows p b (plan_of rs xs)) (valued rs x) l)
+    HasNumbers rs x → HasNumbers rs y → (l : Letter) → is_listed_after rs b x l ≡ true →
+    is_step rows b rs xs x l y
+    ≡ same_configuration shapes (valued rs y) (stepped (by_value rows p b rs xs) (valued rs x) l)
 same_valued rows p b rs xs i x y h k l a =
-    let s : Subject ℕ = numbered_subject rows (table_of rs) b xs in
+    let s : Subject ℕ = by_number rows b rs xs in
     let left : AreNumbers rs (kept s x l) = survivors_left (numbers (table_of rs)) shapes (λ i. shape_at rs i) (λ i. IsNumber rs i) l (before s x)
     (each_agrees rs l (before s x) (numbers_before rs b x.live i.some h) a) in
     ap (λ z. (y.state == (stepped s x l).state) && z)
@@ -201,10 +214,10 @@ some_same {A} p h Q (x ∷ xs) e q = go (p (h x)) refl (some_same p h Q xs e.1) 
     go false t m s = m s
 
 pub not_listed : (rows : List Row) (p : Shape) (b : ℕ) (rs : List Shape) (xs : List (PlainConfiguration ℕ)) → IsFor p rs xs → (x : PlainConfiguration ℕ) →
-    HasNumbers rs x → (l : Letter) → all_listed (table_of rs) l (appended tt 0 b x.live) ≡ false →
-    step_listed (subject rows p b (plan_of rs xs)) (valued rs x) l ≡ false
+    HasNumbers rs x → (l : Letter) → is_listed_after rs b x l ≡ false →
+    step_listed (by_value rows p b rs xs) (valued rs x) l ≡ false
 not_listed rows p b rs xs i x h l a =
-    let s : Subject Shape = subject rows p b (plan_of rs xs) in
+    let s : Subject Shape = by_value rows p b rs xs in
     let to : PlainConfiguration Shape = stepped s (valued rs x) l in
     let m = missing rs l (appended tt 0 b x.live) (numbers_before rs b x.live i.some h) a in
     let o : OneOf (λ e. e.residual ≡ m.0) to.live =
