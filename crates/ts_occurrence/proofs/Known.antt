@@ -13,10 +13,11 @@ use Rattle.ts_base.specs.declared.letter.Letter.{Letter}
 use Rattle.ts_base.specs.declared.letter.Letter.TheVariants.{Less, Equal, Greater}
 use Rattle.ts_regex.specs.declared.regex.Regex.{Regex}
 use Rattle.ts_regex.specs.Shape.{Shape, NoWord, shape_of}
+use Rattle.ts_regex.specs.Derivative.{nullable, has_word}
 use Rattle.ts_regex.specs.NormalForm.{residual, same_shape}
 use Rattle.ts_regex.proofs.Laws.{same_law}
 use Rattle.ts_occurrence.specs.declared.residuals.Met.{Met}
-use Rattle.ts_occurrence.specs.Residuals.{known, number_after, with_number_after, IsNumber, AreRight, Grows}
+use Rattle.ts_occurrence.specs.Residuals.{shapes_met, number_after, with_number_after, met_of, IsNumber, AnswersRight, AreRight, Grows}
 
 -- lists
 
@@ -37,83 +38,102 @@ front_or_last [] y (suc k) x q = absurd (none-some x q)
 front_or_last (z ∷ xs) y zero x q = inl q
 front_or_last (z ∷ xs) y (suc k) x q = ⊎_elim (λ h. inl h) (λ h. inr (ap (λ n. suc n) h.0, h.1)) (front_or_last xs y k x q)
 
-pub known_get : (ms : List Met) (k : ℕ) (m : Met) → slice_get ms k ≡ Some m → IsNumber (known ms) (shape_of m.residual) k
+pub known_get : (ms : List Met) (k : ℕ) (m : Met) → slice_get ms k ≡ Some m → IsNumber (shapes_met ms) (shape_of m.residual) k
 known_get ms k m q = slice_get-map (λ x. shape_of x.residual) ms k ∙ ap (λ o. option_map (λ (x : Met). shape_of x.residual) o) q
 
-pub known_length : (ms : List Met) → length (known ms) ≡ length ms
+pub known_length : (ms : List Met) → length (shapes_met ms) ≡ length ms
 known_length ms = length-map ms (λ x. shape_of x.residual)
 
 -- what stands at a place
 at : {A : Type 0} (xs : List A) (k : ℕ) (x d : A) → k < length xs → x ≡ get_or xs k d → slice_get xs k ≡ Some x
 at xs k x d q e = slice_get-get_or xs k d q ∙ ap (λ z. Some z) (sym e)
 
-pub residual_is : (ms : List Met) (k : ℕ) (m d : Met) → k < length ms → m ≡ get_or ms k d → shape_of m.residual ≡ get_or (known ms) k NoWord
-residual_is ms k m d q e = sym (get_or_from_slice_get (known ms) k (shape_of m.residual) NoWord (known_get ms k m (at ms k m d q e)))
+pub residual_is : (ms : List Met) (k : ℕ) (m d : Met) → k < length ms → m ≡ get_or ms k d → shape_of m.residual ≡ get_or (shapes_met ms) k NoWord
+residual_is ms k m d q e = sym (get_or_from_slice_get (shapes_met ms) k (shape_of m.residual) NoWord (known_get ms k m (at ms k m d q e)))
+
+-- the answers at a number
+pub answers_at : (ms : List Met) → AreRight ms → (k : ℕ) (m d : Met) → k < length ms → m ≡ get_or ms k d →
+    (m.has_word ≡ has_word (get_or (shapes_met ms) k NoWord)) × (m.nullable ≡ nullable (get_or (shapes_met ms) k NoWord))
+answers_at ms h k m d q e =
+    let a = h.answers k m (at ms k m d q e) in
+    let s = residual_is ms k m d q e in
+    (a.0 ∙ ap (λ z. has_word z) s, a.1 ∙ ap (λ z. nullable z) s)
 
 -- a number stays one
-pub within_grown : (old : List Shape) (new : List Met) (k : ℕ) → Grows old (known new) → k < length old → k < length new
+pub within_grown : (old : List Shape) (new : List Met) (k : ℕ) → Grows old (shapes_met new) → k < length old → k < length new
 within_grown old new k g q =
-    let there = slice_get_within (known new) k (get_or old k NoWord) (g k (get_or old k NoWord) (slice_get-get_or old k NoWord q)) in
+    let there = slice_get_within (shapes_met new) k (get_or old k NoWord) (g k (get_or old k NoWord) (slice_get-get_or old k NoWord q)) in
     let z = known_length new in
     omega arith
 
 pub grows_on : (xs ys zs : List Shape) → Grows xs ys → Grows ys zs → Grows xs zs
 grows_on xs ys zs g h n r q = h n r (g n r q)
 
-pub same_grown : (old new : List Met) (k : ℕ) (r : Shape) → Grows (known old) (known new) → k < length old → get_or (known old) k NoWord ≡ r →
-    get_or (known new) k NoWord ≡ r
+pub same_grown : (old new : List Met) (k : ℕ) (r : Shape) → Grows (shapes_met old) (shapes_met new) → k < length old → get_or (shapes_met old) k NoWord ≡ r →
+    get_or (shapes_met new) k NoWord ≡ r
 same_grown old new k r g q e =
-    let inside : k < length (known old) = (let z = known_length old in omega arith) in
-    get_or_from_slice_get (known new) k (get_or (known old) k NoWord) NoWord (g k (get_or (known old) k NoWord) (slice_get-get_or (known old) k NoWord inside))
+    let inside : k < length (shapes_met old) = (let z = known_length old in omega arith) in
+    get_or_from_slice_get (shapes_met new) k (get_or (shapes_met old) k NoWord) NoWord
+    (g k (get_or (shapes_met old) k NoWord) (slice_get-get_or (shapes_met old) k NoWord inside))
     ∙ e
 
-pub stays_within : (old new : List Met) (k : ℕ) → Grows (known old) (known new) → k < length old → k < length new
-stays_within old new k g q = within_grown (known old) new k g (let z = known_length old in omega arith)
+pub stays_within : (old new : List Met) (k : ℕ) → Grows (shapes_met old) (shapes_met new) → k < length old → k < length new
+stays_within old new k g q = within_grown (shapes_met old) new k g (let z = known_length old in omega arith)
 
-pub number_within : (ms : List Met) (n : ℕ) (r : Shape) → IsNumber (known ms) r n → n < length ms
+pub number_within : (ms : List Met) (n : ℕ) (r : Shape) → IsNumber (shapes_met ms) r n → n < length ms
 number_within ms n r q =
-    let inside = slice_get_within (known ms) n r q in
+    let inside = slice_get_within (shapes_met ms) n r q in
     let z = known_length ms in
     omega arith
 
 -- one more residual
 
-grown_by_one : (ms : List Met) (m : Met) → Grows (known ms) (known (ms ++ m ∷ []))
+grown_by_one : (ms : List Met) (m : Met) → Grows (shapes_met ms) (shapes_met (ms ++ m ∷ []))
 grown_by_one ms m n r q = subst (λ z. IsNumber z r n) (sym (map-append (λ x. shape_of x.residual) ms (m ∷ [])))
-    (front (known ms) (shape_of m.residual ∷ []) n r q)
+    (front (shapes_met ms) (shape_of m.residual ∷ []) n r q)
 
-last_is : (ms : List Met) (m : Met) → IsNumber (known (ms ++ m ∷ [])) (shape_of m.residual) (length ms)
+last_is : (ms : List Met) (m : Met) → IsNumber (shapes_met (ms ++ m ∷ [])) (shape_of m.residual) (length ms)
 last_is ms m = known_get (ms ++ m ∷ []) (length ms) m (last ms m)
 
 -- the residual stands nowhere
 abbrev Lacks : List Met → Shape → Type 0
-Lacks ms r = (n : ℕ) → IsNumber (known ms) r n → ⊥
+Lacks ms r = (n : ℕ) → IsNumber (shapes_met ms) r n → ⊥
 
-right_with_one : (ms : List Met) (m : Met) → AreRight ms → Lacks ms (shape_of m.residual) → ((l : Letter) → number_after m l ≡ None) → AreRight (ms ++ m ∷ [])
-right_with_one ms m h lacks none =
+right_with_one : (ms : List Met) (m : Met) → AreRight ms → Lacks ms (shape_of m.residual) → AnswersRight m → ((l : Letter) → number_after m l ≡ None) →
+    AreRight (ms ++ m ∷ [])
+right_with_one ms m h lacks right none =
     record {
       once = λ i j r p q. once i j r (split i r p) (split j r q);
+      answers = λ k x p. ⊎_elim (λ c. h.answers k x c) (λ c. subst (λ z. AnswersRight z) c.1 right) (front_or_last ms m k x p);
       after = λ k n x l p q. ⊎_elim
           (λ c. grown_by_one ms m n (residual (shape_of x.residual) l) (h.after k n x l c q))
           (λ c. absurd (none-some n (sym (none l) ∙ ap (λ (z : Met). number_after z l) c.1 ∙ q)))
           (front_or_last ms m k x p);
     }
   where
-    split : (i : ℕ) (r : Shape) → IsNumber (known (ms ++ m ∷ [])) r i → IsNumber (known ms) r i ⊎ ((i ≡ length (known ms)) × (shape_of m.residual ≡ r))
-    split i r p = front_or_last (known ms) (shape_of m.residual) i r (subst (λ z. IsNumber z r i) (map-append (λ x. shape_of x.residual) ms (m ∷ [])) p)
+    split : (i : ℕ) (r : Shape) → IsNumber (shapes_met (ms ++ m ∷ [])) r i →
+        IsNumber (shapes_met ms) r i ⊎ ((i ≡ length (shapes_met ms)) × (shape_of m.residual ≡ r))
+    split i r p = front_or_last (shapes_met ms) (shape_of m.residual) i r (subst (λ z. IsNumber z r i) (map-append (λ x. shape_of x.residual) ms (m ∷ [])) p)
 
-    once : (i j : ℕ) (r : Shape) → IsNumber (known ms) r i ⊎ ((i ≡ length (known ms)) × (shape_of m.residual ≡ r)) →
-        IsNumber (known ms) r j ⊎ ((j ≡ length (known ms)) × (shape_of m.residual ≡ r)) → i ≡ j
+    once : (i j : ℕ) (r : Shape) → IsNumber (shapes_met ms) r i ⊎ ((i ≡ length (shapes_met ms)) × (shape_of m.residual ≡ r)) →
+        IsNumber (shapes_met ms) r j ⊎ ((j ≡ length (shapes_met ms)) × (shape_of m.residual ≡ r)) → i ≡ j
     once i j r p q =
         ⊎_elim
-        (λ a. ⊎_elim (λ b. h.once i j r a b) (λ b. absurd (lacks i (subst (λ z. IsNumber (known ms) z i) (sym b.1) a))) q)
-        (λ a. ⊎_elim (λ b. absurd (lacks j (subst (λ z. IsNumber (known ms) z j) (sym a.1) b))) (λ b. a.0 ∙ sym b.0) q)
+        (λ a. ⊎_elim (λ b. h.once i j r a b) (λ b. absurd (lacks i (subst (λ z. IsNumber (shapes_met ms) z i) (sym b.1) a))) q)
+        (λ a. ⊎_elim (λ b. absurd (lacks j (subst (λ z. IsNumber (shapes_met ms) z j) (sym a.1) b))) (λ b. a.0 ∙ sym b.0) q)
         p
 
-pub right_alone : (m : Met) → ((l : Letter) → number_after m l ≡ None) → AreRight (m ∷ [])
-right_alone m none =
-    right_with_one [] m (record { once = λ i j r p q. absurd (none-some r p); after = λ k n x l p q. absurd (none-some x p) })
-    (λ n p. absurd (none-some (shape_of m.residual) p)) none
+pub right_alone : (m : Met) → AnswersRight m → ((l : Letter) → number_after m l ≡ None) → AreRight (m ∷ [])
+right_alone m right none =
+    right_with_one [] m nothing (λ n p. absurd (none-some (shape_of m.residual) p)) right none
+  where
+    nothing : AreRight []
+    nothing =
+        record {
+          once = λ i j r p q. absurd (none-some r p);
+          answers = λ k m p. absurd (none-some m p);
+          after = λ k n x l p q. absurd (none-some x p);
+        }
 
 -- one more number noted
 
@@ -122,7 +142,12 @@ kept_residual m n Less = refl
 kept_residual m n Equal = refl
 kept_residual m n Greater = refl
 
-known_kept : (ms : List Met) (k n : ℕ) (m d : Met) (l : Letter) → m ≡ get_or ms k d → known (set ms k (with_number_after m l n)) ≡ known ms
+kept_answers : (m : Met) (n : ℕ) (l : Letter) → AnswersRight m → AnswersRight (with_number_after m l n)
+kept_answers m n Less h = h
+kept_answers m n Equal h = h
+kept_answers m n Greater h = h
+
+known_kept : (ms : List Met) (k n : ℕ) (m d : Met) (l : Letter) → m ≡ get_or ms k d → shapes_met (set ms k (with_number_after m l n)) ≡ shapes_met ms
 known_kept ms k n m d l e = map-set_same (λ x. shape_of x.residual) ms k (with_number_after m l n) d
     (kept_residual m n l ∙ ap (λ (z : Met). shape_of z.residual) e)
 
@@ -147,47 +172,53 @@ set_or_old (z ∷ xs) (suc i) zero y x q = inr q
 set_or_old (z ∷ xs) (suc i) (suc k) y x q = ⊎_elim (λ h. inl (ap (λ n. suc n) h.0, h.1)) (λ h. inr h) (set_or_old xs i k y x q)
 
 right_with_number : (ms : List Met) (i n : ℕ) (m d : Met) (l : Letter) → i < length ms → m ≡ get_or ms i d →
-    IsNumber (known ms) (residual (shape_of m.residual) l) n → AreRight ms → AreRight (set ms i (with_number_after m l n))
+    IsNumber (shapes_met ms) (residual (shape_of m.residual) l) n → AreRight ms → AreRight (set ms i (with_number_after m l n))
 right_with_number ms i n m d l inside e number h =
-    let same : known (set ms i (with_number_after m l n)) ≡ known ms = known_kept ms i n m d l e in
+    let same : shapes_met (set ms i (with_number_after m l n)) ≡ shapes_met ms = known_kept ms i n m d l e in
     record {
       once = λ a b r p q. h.once a b r (subst (λ z. IsNumber z r a) same p) (subst (λ z. IsNumber z r b) same q);
+      answers = λ k x p. ⊎_elim
+          (λ g. subst (λ z. AnswersRight z) g.1 (kept_answers m n l (h.answers i m (at ms i m d inside e))))
+          (λ g. h.answers k x g)
+          (set_or_old ms i k (with_number_after m l n) x p);
       after = λ k j x c p q. subst (λ z. IsNumber z (residual (shape_of x.residual) c) j) (sym same)
           (⊎_elim (λ g. changed x c j (sym g.1) q) (λ g. h.after k j x c g q) (set_or_old ms i k (with_number_after m l n) x p));
     }
   where
     changed : (x : Met) (c : Letter) (j : ℕ) → x ≡ with_number_after m l n → number_after x c ≡ Some j →
-        IsNumber (known ms) (residual (shape_of x.residual) c) j
+        IsNumber (shapes_met ms) (residual (shape_of x.residual) c) j
     changed x c j same q =
         let shape : shape_of x.residual ≡ shape_of m.residual = ap (λ (z : Met). shape_of z.residual) same ∙ kept_residual m n l in
-        subst (λ z. IsNumber (known ms) (residual z c) j) (sym shape)
+        subst (λ z. IsNumber (shapes_met ms) (residual z c) j) (sym shape)
         (⊎_elim
         (λ g. h.after i j m c (at ms i m d inside e) g)
-        (λ g. subst (λ z. IsNumber (known ms) (residual (shape_of m.residual) z) j) g.0
-        (subst (λ z. IsNumber (known ms) (residual (shape_of m.residual) l) z) g.1 number))
+        (λ g. subst (λ z. IsNumber (shapes_met ms) (residual (shape_of m.residual) z) j) g.0
+        (subst (λ z. IsNumber (shapes_met ms) (residual (shape_of m.residual) l) z) g.1 number))
         (noted m n j l c (ap (λ (z : Met). number_after z c) (sym same) ∙ q)))
 
 -- the number of what a letter leaves of residual k, noted
-pub noted_right : (old now : List Met) (k n : ℕ) (l : Letter) (m d new : Met) (r rest : Shape) → k < length old → r ≡ get_or (known old) k NoWord →
-    rest ≡ residual r l → Grows (known old) (known now) → AreRight now → IsNumber (known now) rest n → m ≡ get_or now k d → new ≡ with_number_after m l n →
-    AreRight (set now k new) × Grows (known old) (known (set now k new)) × IsNumber (known (set now k new)) (residual (get_or (known old) k NoWord) l) n
+pub noted_right : (old now : List Met) (k n : ℕ) (l : Letter) (m d new : Met) (r rest : Shape) → k < length old → r ≡ get_or (shapes_met old) k NoWord →
+    rest ≡ residual r l → Grows (shapes_met old) (shapes_met now) → AreRight now → IsNumber (shapes_met now) rest n → m ≡ get_or now k d →
+    new ≡ with_number_after m l n →
+    AreRight (set now k new) × Grows (shapes_met old) (shapes_met (set now k new))
+    × IsNumber (shapes_met (set now k new)) (residual (get_or (shapes_met old) k NoWord) l) n
 noted_right old now k n l m d new r rest q er es g h number em en =
-    let here : k < length (known old) = (let z = known_length old in omega arith) in
-    let inside : k < length now = within_grown (known old) now k g here in
+    let here : k < length (shapes_met old) = (let z = known_length old in omega arith) in
+    let inside : k < length now = within_grown (shapes_met old) now k g here in
     let kept : r ≡ shape_of m.residual = same_Some r (shape_of m.residual)
-    (sym (subst (λ z. IsNumber (known now) z k) (sym er) (g k (get_or (known old) k NoWord) (slice_get-get_or (known old) k NoWord here)))
+    (sym (subst (λ z. IsNumber (shapes_met now) z k) (sym er) (g k (get_or (shapes_met old) k NoWord) (slice_get-get_or (shapes_met old) k NoWord here)))
     ∙ known_get now k m (at now k m d inside em)) in
     let is : rest ≡ residual (shape_of m.residual) l = es ∙ ap (λ z. residual z l) kept in
-    let same : known (set now k new) ≡ known now = ap (λ z. known (set now k z)) en ∙ known_kept now k n m d l em in (
-      subst (λ z. AreRight (set now k z)) (sym en) (right_with_number now k n m d l inside em (subst (λ z. IsNumber (known now) z n) is number) h),
-      subst (λ z. Grows (known old) z) (sym same) g,
-      subst (λ z. IsNumber z (residual (get_or (known old) k NoWord) l) n) (sym same)
-          (subst (λ z. IsNumber (known now) z n) (es ∙ ap (λ z. residual z l) er) number),
+    let same : shapes_met (set now k new) ≡ shapes_met now = ap (λ z. shapes_met (set now k z)) en ∙ known_kept now k n m d l em in (
+      subst (λ z. AreRight (set now k z)) (sym en) (right_with_number now k n m d l inside em (subst (λ z. IsNumber (shapes_met now) z n) is number) h),
+      subst (λ z. Grows (shapes_met old) z) (sym same) g,
+      subst (λ z. IsNumber z (residual (get_or (shapes_met old) k NoWord) l) n) (sym same)
+          (subst (λ z. IsNumber (shapes_met now) z n) (es ∙ ap (λ z. residual z l) er) number),
     )
 
 -- looking one up
 
-pub found_is : (ms : List Met) (r : Shape) (n : ℕ) → position (λ m. same_shape (shape_of m.residual) r) ms ≡ Some n → IsNumber (known ms) r n
+pub found_is : (ms : List Met) (r : Shape) (n : ℕ) → position (λ m. same_shape (shape_of m.residual) r) ms ≡ Some n → IsNumber (shapes_met ms) r n
 found_is [] r n q = absurd (none-some n q)
 found_is (d ∷ ms) r n q =
     let there = position-Some (λ m. same_shape (shape_of m.residual) r) (d ∷ ms) n d q in
@@ -211,20 +242,20 @@ not_found ms r q n p = there (slice_get ms n) refl
 
 -- a residual that wasn't met before comes last
 pub pushed_right : (old new : List Met) (m : Met) (r : Regex) (n : ℕ) → AreRight old →
-    position (λ x. same_shape (shape_of x.residual) (shape_of r)) old ≡ None → m ≡ record { residual = r; less = None; equal = None; greater = None } →
+    position (λ x. same_shape (shape_of x.residual) (shape_of r)) old ≡ None → m ≡ met_of r →
     new ≡ old ++ m ∷ [] → n ≡ length old →
-    AreRight new × Grows (known old) (known new) × IsNumber (known new) (shape_of r) n
+    AreRight new × Grows (shapes_met old) (shapes_met new) × IsNumber (shapes_met new) (shape_of r) n
 pushed_right old new m r n h none em en el =
     let shape : shape_of m.residual ≡ shape_of r = ap (λ (z : Met). shape_of z.residual) em in (
       subst (λ z. AreRight z) (sym en) (right_with_one old m h (subst (λ z. Lacks old z) (sym shape) (not_found old (shape_of r) none))
-          (λ l. ap (λ (z : Met). number_after z l) em ∙ nowhere l)),
-      subst (λ z. Grows (known old) (known z)) (sym en) (grown_by_one old m),
-      subst (λ z. IsNumber (known z) (shape_of r) n) (sym en)
-          (subst (λ z. IsNumber (known (old ++ m ∷ [])) (shape_of r) z) (sym el)
-          (subst (λ z. IsNumber (known (old ++ m ∷ [])) z (length old)) shape (last_is old m))),
+          (subst (λ z. AnswersRight z) (sym em) (refl, refl)) (λ l. ap (λ (z : Met). number_after z l) em ∙ nowhere l)),
+      subst (λ z. Grows (shapes_met old) (shapes_met z)) (sym en) (grown_by_one old m),
+      subst (λ z. IsNumber (shapes_met z) (shape_of r) n) (sym en)
+          (subst (λ z. IsNumber (shapes_met (old ++ m ∷ [])) (shape_of r) z) (sym el)
+          (subst (λ z. IsNumber (shapes_met (old ++ m ∷ [])) z (length old)) shape (last_is old m))),
     )
   where
-    nowhere : (l : Letter) → number_after (record { residual = r; less = None; equal = None; greater = None }) l ≡ None
+    nowhere : (l : Letter) → number_after (met_of r) l ≡ None
     nowhere Less = refl
     nowhere Equal = refl
     nowhere Greater = refl

@@ -1,10 +1,8 @@
 -- The live starts of a search as entries: the signs before each start, and the expression that is left to read.
 -- A live start has the number of its residual among those that the search has met.
-use Rattle.std.specs.Prelude.{ℕ, ◌<◌, not, ◌&&◌, List, [], ◌∷◌, ◌++◌, map, length, get_or, Option, None, Some, if◌then◌else◌}
-use Rattle.std.specs.List.{list_any}
+use Rattle.std.specs.Prelude.{ℕ, ◌<◌, List, [], ◌∷◌, map, length, get_or, Option, None, Some, if◌then◌else◌}
 use Rattle.ts_regex.specs.Shape.{Shape, NoWord}
-use Rattle.ts_regex.specs.Derivative.{nullable, has_word}
-use Rattle.ts_regex.specs.NormalForm.{same_shape}
+use Rattle.ts_regex.specs.Derivative.{nullable}
 use Rattle.ts_pattern.specs.Entries.{Entry}
 use Rattle.ts_pattern.specs.EachOf.{Each}
 use Rattle.ts_occurrence.specs.declared.live.LiveStart.{LiveStart}
@@ -24,11 +22,6 @@ entries_of rs es = map (λ e. entry_of rs e) es
 -- the residuals of all are among those met
 abbrev pub AreKnown : List Shape → List LiveStart → Type 0
 AreKnown rs es = Each (λ e. e.residual < length rs) es
-
--- the entry comes last, unless it has no word or an earlier one has its residual
-abbrev pub kept_with : List Start → Start → List Start
-kept_with es e = if has_word e.residual && not (list_any (λ x. same_shape x.residual e.residual) es) then es ++ e
-    ∷ [] else es
 
 -- the first start from which a match ends at the sign just read
 abbrev pub first_ending : List Start → Option ℕ

@@ -1,10 +1,11 @@
-//! The occurrences of a pattern in a series, and the value of a term on it: what every layer above is measured by.
+//! The occurrences of a pattern in a series, and the value of a term on it: the definitions as code. The layers above
+//! compute values in other ways, and are proved to agree with them.
 //!
-//! One series goes through the house by four calls: `signature` makes its letters, `occurrences` finds the e-ranges of
+//! A series is worked on by four calls: `signature` makes its letters, `occurrences` finds the e-ranges of
 //! the maximal matches, `part` lends the cells of a range, and `value` aggregates their features. The promise to the
 //! layers above: on every series within the limits `value` answers the term's value by the definition over all places,
 //! whatever the pattern; only want of memory is answered otherwise. `value_with` takes the signature from its caller,
-//! so that all terms of a model share one.
+//! so that all terms of a model share one; `aggregate` takes the ranges, for who has them from elsewhere.
 //!
 //! The search reads one letter at a time and keeps, for each start at which a match may begin or grow, what is left to
 //! read of the expression, in normal form. What is left is kept by its number among the few residuals that are met, so
@@ -26,4 +27,4 @@ mod tests;
 
 pub use occurrence::occurrences;
 pub use series::{part, signature};
-pub use term_value::{value, value_with};
+pub use term_value::{aggregate, value, value_with};

@@ -7,14 +7,13 @@ ghost use Rattle.std.specs.Prelude.{◌≡◌, ◌<◌, ◌==◌, ◌&&◌, not,
 ghost use Rattle.std.specs.List.{list_any};
 ghost use Rattle.ts_regex.specs.Shape.{NoWord};
 ghost use Rattle.ts_regex.specs.Derivative.{has_word};
-ghost use Rattle.ts_pattern.specs.Entries.{shapes, survivors};
-ghost use Rattle.ts_occurrence.specs.Residuals.{known, AreRight, Grows};
-ghost use Rattle.ts_occurrence.specs.Live.{entry, entries_of, AreKnown, kept_with, first_ending};
+ghost use Rattle.ts_pattern.specs.Entries.{shapes, survivors, with_entry};
+ghost use Rattle.ts_occurrence.specs.Residuals.{shapes_met, AreRight, Grows};
+ghost use Rattle.ts_occurrence.specs.Live.{entry, entries_of, AreKnown, first_ending};
 
 use crate::residuals::Residuals;
 use std::alloc::Global;
 use ts_base::{Letter, Memory};
-use ts_regex::{has_word, nullable};
 
 /// The number of signs before the start, and the number of its residual.
 #[derive(Clone, Copy, Drop)]
@@ -33,12 +32,13 @@ pub fn after_letter(
 ) -> Result<Vec<LiveStart>, Memory>
     requires whole { 0 < length residuals.old.met.items }
     requires right { AreRight residuals.old.met.items }
-    requires known { AreKnown (known residuals.old.met.items) live.items }
+    requires known { AreKnown (shapes_met residuals.old.met.items) live.items }
     ensures right { OnOk result (AreRight residuals.new.met.items) }
-    ensures grown { OnOk result (Grows (known residuals.old.met.items) (known residuals.new.met.items)) }
-    ensures known { IfOk result (λ v. AreKnown (known residuals.new.met.items) v.items) }
-    ensures exact { IfOk result (λ v. entries_of (known residuals.new.met.items) v.items
-        ≡ survivors shapes l (entries_of (known residuals.old.met.items) live.items ++ entry read (get_or (known residuals.old.met.items) 0 NoWord) ∷ [])) }
+    ensures grown { OnOk result (Grows (shapes_met residuals.old.met.items) (shapes_met residuals.new.met.items)) }
+    ensures known { IfOk result (λ v. AreKnown (shapes_met residuals.new.met.items) v.items) }
+    ensures exact { IfOk result (λ v. entries_of (shapes_met residuals.new.met.items) v.items
+        ≡ survivors shapes l (entries_of (shapes_met residuals.old.met.items) live.items
+        ++ entry read (get_or (shapes_met residuals.old.met.items) 0 NoWord) ∷ [])) }
 {
     live.push(LiveStart {
         start: read,
@@ -47,6 +47,7 @@ pub fn after_letter(
     survivors(alloc, residuals, &live, l)
 }
 
+/// What the letter leaves of the live starts.
 fn survivors(
     alloc: Global,
     residuals: &mut Residuals,
@@ -54,11 +55,12 @@ fn survivors(
     l: Letter,
 ) -> Result<Vec<LiveStart>, Memory>
     requires right { AreRight residuals.old.met.items }
-    requires known { AreKnown (known residuals.old.met.items) live.now }
+    requires known { AreKnown (shapes_met residuals.old.met.items) live.now }
     ensures right { OnOk result (AreRight residuals.new.met.items) }
-    ensures grown { OnOk result (Grows (known residuals.old.met.items) (known residuals.new.met.items)) }
-    ensures known { IfOk result (λ v. AreKnown (known residuals.new.met.items) v.items) }
-    ensures exact { IfOk result (λ v. entries_of (known residuals.new.met.items) v.items ≡ survivors shapes l (entries_of (known residuals.old.met.items) live.now)) }
+    ensures grown { OnOk result (Grows (shapes_met residuals.old.met.items) (shapes_met residuals.new.met.items)) }
+    ensures known { IfOk result (λ v. AreKnown (shapes_met residuals.new.met.items) v.items) }
+    ensures exact { IfOk result (λ v. entries_of (shapes_met residuals.new.met.items) v.items
+        ≡ survivors shapes l (entries_of (shapes_met residuals.old.met.items) live.now)) }
 {
     let mut kept = Vec::new(alloc);
     for k in 0..live.len() {
@@ -69,6 +71,7 @@ fn survivors(
     Ok(kept)
 }
 
+/// Keeps a start with what is left to read from it, where that has a word and no earlier start has it.
 fn keep(
     kept: &mut Vec<LiveStart>,
     residuals: &Residuals,
@@ -77,10 +80,11 @@ fn keep(
 ) -> Result<(), Memory>
     requires there { rest < length residuals.now.met.items }
     requires right { AreRight residuals.now.met.items }
-    requires known { AreKnown (known residuals.now.met.items) kept.old.items }
-    ensures known { OnOk result (AreKnown (known residuals.now.met.items) kept.new.items) }
-    ensures exact { OnOk result (entries_of (known residuals.now.met.items) kept.new.items
-        ≡ kept_with (entries_of (known residuals.now.met.items) kept.old.items) (entry start (get_or (known residuals.now.met.items) rest NoWord))) }
+    requires known { AreKnown (shapes_met residuals.now.met.items) kept.old.items }
+    ensures known { OnOk result (AreKnown (shapes_met residuals.now.met.items) kept.new.items) }
+    ensures exact { OnOk result (entries_of (shapes_met residuals.now.met.items) kept.new.items
+        ≡ with_entry shapes (entries_of (shapes_met residuals.now.met.items) kept.old.items)
+        (entry start (get_or (shapes_met residuals.now.met.items) rest NoWord))) }
 {
     if is_new(kept, residuals, rest) {
         kept.push(LiveStart {
@@ -91,14 +95,17 @@ fn keep(
     Ok(())
 }
 
-// Whether the residual has a word, and no earlier start has it.
+/// Whether the residual has a word, and no earlier start has it.
 fn is_new(kept: &[LiveStart], residuals: &Residuals, rest: usize) -> bool
-    requires { rest < length residuals.now.met.items }
-    ensures { result ≡ (has_word (get_or (known residuals.now.met.items) rest NoWord) && not (list_any (λ x. x.residual == rest) kept.now)) }
+    requires there { rest < length residuals.now.met.items }
+    requires right { AreRight residuals.now.met.items }
+    ensures { result ≡ (has_word (get_or (shapes_met residuals.now.met.items) rest NoWord)
+        && not (list_any (λ x. x.residual == rest) kept.now)) }
 {
-    has_word(residuals.get(rest)) && !stands(kept, rest)
+    residuals.has_word(rest) && !stands(kept, rest)
 }
 
+/// Whether a start is kept with this residual.
 fn stands(kept: &[LiveStart], rest: usize) -> bool
     ensures { result ≡ list_any (λ x. x.residual == rest) kept.now }
 {
@@ -107,11 +114,12 @@ fn stands(kept: &[LiveStart], rest: usize) -> bool
 
 /// The first start from which a match ends at the sign just read.
 pub fn first_ending(residuals: &Residuals, live: &[LiveStart]) -> Option<u32>
-    requires { AreKnown (known residuals.now.met.items) live.now }
-    ensures { result ≡ first_ending (entries_of (known residuals.now.met.items) live.now) }
+    requires right { AreRight residuals.now.met.items }
+    requires known { AreKnown (shapes_met residuals.now.met.items) live.now }
+    ensures { result ≡ first_ending (entries_of (shapes_met residuals.now.met.items) live.now) }
 {
     for x in live {
-        if nullable(residuals.get(x.residual)) {
+        if residuals.nullable(x.residual) {
             return Some(x.start);
         }
     }

@@ -1,20 +1,24 @@
 //! The residuals that a search meets, by numbers. There are few of them, however long the signature is (Brzozowski
 //! 1964), so each is kept once, with the number of what a letter leaves of it, and nothing is derived twice.
 
-ghost use Rattle.std.specs.Prelude.{◌≡◌, ◌<◌, [], ◌∷◌, Option, None, Some, length, get_or, IfOk, OnOk};
+ghost use Rattle.std.specs.Prelude.{◌≡◌, ◌<◌, [], ◌∷◌, length, get_or, IfOk, OnOk};
 ghost use Rattle.std.specs.List.{position};
 ghost use Rattle.ts_regex.specs.Shape.{shape_of, NoWord};
+ghost use Rattle.ts_regex.specs.Derivative.{nullable, has_word};
 ghost use Rattle.ts_regex.specs.NormalForm.{residual, same_shape};
-ghost use Rattle.ts_occurrence.specs.Residuals.{known, number_after, with_number_after, IsNumber, AreRight, Grows};
+ghost use Rattle.ts_occurrence.specs.Residuals.{shapes_met, number_after, with_number_after, met_of, IsNumber, AreRight, Grows};
 
 use std::alloc::Global;
 use ts_base::{Letter, Memory};
-use ts_regex::{Regex, residual};
+use ts_regex::{Regex, has_word, nullable, residual};
 
-/// A residual in normal form, and the number of what each letter leaves of it, where that was asked for.
+/// A residual in normal form, whether it has a word and the empty word, and the number of what each letter leaves of
+/// it, where that was asked for.
 #[derive(Drop)]
 pub struct Met {
     residual: Regex,
+    has_word: bool,
+    nullable: bool,
     less: Option<usize>,
     equal: Option<usize>,
     greater: Option<usize>,
@@ -29,7 +33,7 @@ pub struct Residuals {
 impl Residuals {
     /// The whole expression alone, in normal form; its number is 0.
     pub fn of(alloc: Global, whole: Regex) -> Result<Residuals, Memory>
-        ensures known { IfOk result (λ t. known t.met.items ≡ shape_of whole ∷ []) }
+        ensures known { IfOk result (λ t. shapes_met t.met.items ≡ shape_of whole ∷ []) }
         ensures right { IfOk result (λ t. AreRight t.met.items) }
     {
         let mut met = Vec::new(alloc);
@@ -38,11 +42,29 @@ impl Residuals {
     }
 
     /// The residual of a number.
-    pub fn get(&self, number: usize) -> &Regex
+    fn get(&self, number: usize) -> &Regex
         requires { number < length self.now.met.items }
-        ensures { shape_of result.now ≡ get_or (known self.now.met.items) number NoWord }
+        ensures { shape_of result.now ≡ get_or (shapes_met self.now.met.items) number NoWord }
     {
         &self.met[number].residual
+    }
+
+    /// Whether the residual of a number has a word.
+    pub fn has_word(&self, number: usize) -> bool
+        requires there { number < length self.now.met.items }
+        requires right { AreRight self.now.met.items }
+        ensures { result ≡ has_word (get_or (shapes_met self.now.met.items) number NoWord) }
+    {
+        self.met[number].has_word
+    }
+
+    /// Whether the residual of a number has the empty word.
+    pub fn nullable(&self, number: usize) -> bool
+        requires there { number < length self.now.met.items }
+        requires right { AreRight self.now.met.items }
+        ensures { result ≡ nullable (get_or (shapes_met self.now.met.items) number NoWord) }
+    {
+        self.met[number].nullable
     }
 
     /// The number of what a letter leaves of the residual of a number.
@@ -50,8 +72,9 @@ impl Residuals {
         requires there { number < length self.old.met.items }
         requires right { AreRight self.old.met.items }
         ensures right { OnOk result (AreRight self.new.met.items) }
-        ensures grown { OnOk result (Grows (known self.old.met.items) (known self.new.met.items)) }
-        ensures exact { IfOk result (λ n. IsNumber (known self.new.met.items) (residual (get_or (known self.old.met.items) number NoWord) l) n) }
+        ensures grown { OnOk result (Grows (shapes_met self.old.met.items) (shapes_met self.new.met.items)) }
+        ensures exact { IfOk result (λ n. IsNumber (shapes_met self.new.met.items)
+            (residual (get_or (shapes_met self.old.met.items) number NoWord) l) n) }
     {
         match self.met[number].after(l) {
             Some(next) => Ok(next),
@@ -64,12 +87,12 @@ impl Residuals {
         }
     }
 
-    // The number of a residual, which is met now if it wasn't before.
+    /// The number of a residual, which is met now if it wasn't before.
     fn number_of(&mut self, rest: Regex) -> Result<usize, Memory>
         requires { AreRight self.old.met.items }
         ensures right { OnOk result (AreRight self.new.met.items) }
-        ensures grown { OnOk result (Grows (known self.old.met.items) (known self.new.met.items)) }
-        ensures exact { IfOk result (λ n. IsNumber (known self.new.met.items) (shape_of rest) n) }
+        ensures grown { OnOk result (Grows (shapes_met self.old.met.items) (shapes_met self.new.met.items)) }
+        ensures exact { IfOk result (λ n. IsNumber (shapes_met self.new.met.items) (shape_of rest) n) }
     {
         match self.find(&rest) {
             Some(number) => Ok(number),
@@ -81,6 +104,7 @@ impl Residuals {
         }
     }
 
+    /// The number of a residual, if it was met.
     fn find(&self, rest: &Regex) -> Option<usize>
         ensures { result ≡ position (λ m. same_shape (shape_of m.residual) (shape_of rest.now)) self.now.met.items }
     {
@@ -89,10 +113,13 @@ impl Residuals {
 }
 
 impl Met {
+    /// A residual of which nothing was asked yet.
     fn new(residual: Regex) -> Met
-        ensures { result ≡ record { residual = residual; less = None; equal = None; greater = None } }
+        ensures { result ≡ met_of residual }
     {
         Met {
+            has_word: has_word(&residual),
+            nullable: nullable(&residual),
             residual,
             less: None,
             equal: None,
@@ -100,6 +127,7 @@ impl Met {
         }
     }
 
+    /// The number of what a letter leaves, if that was asked for.
     fn after(&self, l: Letter) -> Option<usize>
         ensures { result ≡ number_after self.now l }
     {
@@ -110,6 +138,7 @@ impl Met {
         }
     }
 
+    /// Notes the number of what a letter leaves.
     fn set_after(&mut self, l: Letter, number: usize)
         ensures { self.new ≡ with_number_after self.old l number }
     {

@@ -46,8 +46,8 @@ pub fn value_with(
     Ok(aggregate(t.aggregator, t.feature, &ranges, series))
 }
 
-// The aggregator over the features of the ranges.
-fn aggregate(g: Aggregator, f: Feature, ranges: &[Range], series: &[i64]) -> Ext
+/// The aggregator over the features of at most 512 ranges inside of the series, as a transducer decodes them.
+pub fn aggregate(g: Aggregator, f: Feature, ranges: &[Range], series: &[i64]) -> Ext
     requires series { IsSeries series.now }
     requires few { length ranges.now ≤ 512 }
     requires inside { Each (λ r. IsInside (length series.now) r) ranges.now }
@@ -73,7 +73,7 @@ fn total(g: Aggregator, f: Feature, ranges: &[Range], series: &[i64]) -> Option<
     total
 }
 
-// The total joined with one more feature.
+/// The total joined with one more feature.
 fn join(g: Aggregator, total: Option<i64>, x: i64) -> i64
     requires total { IfSome total (λ t. IsWithin 1000000000000 t) }
     requires feature { IsWithin 512000000 x }
@@ -87,7 +87,7 @@ fn join(g: Aggregator, total: Option<i64>, x: i64) -> i64
     }
 }
 
-// The value without an occurrence, in a series of `n` cells.
+/// The value without an occurrence, in a series of `n` cells.
 fn value_of_none(g: Aggregator, f: Feature, n: usize) -> Ext
     requires { n ≤ 512 }
     ensures { result ≡ value_of_none g f n }
@@ -109,7 +109,7 @@ fn feature_at(f: Feature, r: Range, series: &[i64]) -> i64
     feature(f, part(r, series))
 }
 
-// The feature of an e-range with those cells.
+/// The feature of an e-range with those cells.
 fn feature(f: Feature, cells: &[i64]) -> i64
     requires few { length cells.now ≤ 512 }
     requires cells { All IsCellValue cells.now }
@@ -125,7 +125,7 @@ fn feature(f: Feature, cells: &[i64]) -> i64
     }
 }
 
-// The sum, the greatest or the least of the cells; 0 where there is none.
+/// The sum, the greatest or the least of the cells; 0 where there is none.
 fn over(g: Aggregator, cells: &[i64]) -> i64
     requires few { length cells.now ≤ 512 }
     requires cells { All IsCellValue cells.now }

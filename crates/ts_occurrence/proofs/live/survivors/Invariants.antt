@@ -1,6 +1,6 @@
 use Rattle.std.proofs.Common.{◌≡◌, take}
 use Rattle.ts_pattern.specs.Entries.{shapes, survivors}
-use Rattle.ts_occurrence.specs.Residuals.{known, AreRight, Grows}
+use Rattle.ts_occurrence.specs.Residuals.{shapes_met, AreRight, Grows}
 use Rattle.ts_occurrence.specs.Live.{entries_of, AreKnown}
 use Rattle.ts_occurrence.proofs.live.survivors.Given as goal
 
@@ -8,7 +8,8 @@ abbrev pub invariant-loop-k : goal.invariant-loop-k
 invariant-loop-k l =
     record {
       right : AreRight l.residuals.met.items;
-      grown : Grows (known l.fn.residuals.met.items) (known l.residuals.met.items);
-      met : AreKnown (known l.residuals.met.items) l.kept.items;
-      exact : entries_of (known l.residuals.met.items) l.kept.items ≡ survivors shapes l.l (entries_of (known l.fn.residuals.met.items) (take l.k l.live));
+      grown : Grows (shapes_met l.fn.residuals.met.items) (shapes_met l.residuals.met.items);
+      met : AreKnown (shapes_met l.residuals.met.items) l.kept.items;
+      exact : entries_of (shapes_met l.residuals.met.items) l.kept.items
+          ≡ survivors shapes l.l (entries_of (shapes_met l.fn.residuals.met.items) (take l.k l.live));
     }
