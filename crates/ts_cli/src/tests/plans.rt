@@ -1,13 +1,6 @@
 //! Small plans, worked out by hand: one is closed, and of the others each is refused at the configuration and the
 //! letter where a check fails, mostly one check alone.
 
-ghost use Rattle.std.specs.Prelude.{◌≡◌, ◌&&◌, IfOk, map, nat_lt};
-ghost use Rattle.std.specs.List.{list_all};
-ghost use Rattle.ts_regex.specs.NormalForm.{same_shape};
-ghost use Rattle.ts_regex.specs.Shape.{shape_of};
-ghost use Rattle.ts_pattern.specs.Closed.{first_passes};
-ghost use Rattle.ts_pattern.specs.Plans.{is_blank, is_plan_of, plain_configuration, plain_plan};
-
 use arrayvec::ArrayVec;
 use std::alloc::Global;
 use std::test::Fail;
@@ -22,13 +15,14 @@ use ts_transducer::Phase::{Found, FoundE, Inside, MaybeA, MaybeB, Out, OutA, Out
 use ts_transducer::{Arrow, Phase, Row, Transducer};
 use ts_validate::{ValidateStop, Validated, validate};
 
-/// A pattern without a trim after, a transducer, and a plan.
+/// A pattern, a transducer, and a plan.
 #[derive(Clone, Copy)]
 struct Small {
     /// The expression, with `.` for a chain, `|` for a union and `*` for a star behind their parts.
     pattern: &'static str,
-    /// The trim before.
+    /// The trims before and after.
     b: u8,
+    a: u8,
     /// The kind of each state, and its moves on `<`, `=` and `>`.
     rows: &'static [(Kind, (Phase, u8), (Phase, u8), (Phase, u8))],
     /// For each residual but the first, which is the whole pattern: the earlier one and the letter that leave it.
@@ -38,12 +32,13 @@ struct Small {
     refused: Option<(u32, Letter, &'static [Letter])>,
 }
 
-static SMALL: [Small; 22] = [
+static SMALL: [Small; 23] = [
     // Closed: a residual goes by its value, whatever its number, and a configuration that isn't reached may be
     // anything.
     Small {
         pattern: ">",
         b: 0,
+        a: 0,
         rows: &[(Idle, (Out, 0), (Out, 0), (FoundE, 0))],
         residuals: &[(0, Greater), (0, Greater)],
         configurations: &[(0, &[]), (0, &[(2, Loose)]), (0, &[(0, InC)])],
@@ -53,6 +48,7 @@ static SMALL: [Small; 22] = [
     Small {
         pattern: ">=.",
         b: 0,
+        a: 0,
         rows: &[(Idle, (Out, 0), (Out, 0), (Out, 0))],
         residuals: &[(0, Greater), (1, Equal)],
         configurations: &[
@@ -68,6 +64,7 @@ static SMALL: [Small; 22] = [
     Small {
         pattern: ">=.",
         b: 0,
+        a: 0,
         rows: &[(Idle, (Out, 0), (Out, 0), (Out, 0))],
         residuals: &[],
         configurations: &[(0, &[])],
@@ -77,6 +74,7 @@ static SMALL: [Small; 22] = [
     Small {
         pattern: ">=>..",
         b: 1,
+        a: 0,
         rows: &[
             (Idle, (Out, 0), (Out, 0), (Out, 1)),
             (Idle, (Out, 0), (MaybeB, 2), (Out, 1)),
@@ -95,6 +93,7 @@ static SMALL: [Small; 22] = [
     Small {
         pattern: ">>>>...",
         b: 3,
+        a: 0,
         rows: &[(Idle, (Out, 0), (Out, 0), (Out, 0))],
         residuals: &[(0, Greater)],
         configurations: &[(0, &[]), (0, &[(1, Young(1))])],
@@ -104,6 +103,7 @@ static SMALL: [Small; 22] = [
     Small {
         pattern: "<=<|*>=|*>...",
         b: 1,
+        a: 0,
         rows: &[
             (Idle, (Out, 1), (Out, 0), (Out, 0)),
             (Pending, (MaybeB, 1), (MaybeB, 1), (Found, 2)),
@@ -124,6 +124,7 @@ static SMALL: [Small; 22] = [
     Small {
         pattern: "<=.>=.|",
         b: 0,
+        a: 0,
         rows: &[
             (Idle, (Out, 1), (Out, 0), (Out, 2)),
             (Idle, (Out, 1), (Out, 0), (Out, 2)),
@@ -142,6 +143,7 @@ static SMALL: [Small; 22] = [
     Small {
         pattern: ">",
         b: 0,
+        a: 0,
         rows: &[(Idle, (Out, 0), (Out, 0), (Out, 0))],
         residuals: &[(0, Greater)],
         configurations: &[(0, &[]), (0, &[(1, Loose)])],
@@ -151,6 +153,7 @@ static SMALL: [Small; 22] = [
     Small {
         pattern: ">>=>..|",
         b: 0,
+        a: 0,
         rows: &[
             (Idle, (Out, 0), (Out, 0), (Found, 1)),
             (Held, (OutA, 0), (Inside, 1), (OutA, 0)),
@@ -163,6 +166,7 @@ static SMALL: [Small; 22] = [
     Small {
         pattern: ">>.*>.",
         b: 0,
+        a: 0,
         rows: &[
             (Idle, (Out, 0), (Out, 0), (Found, 1)),
             (Held, (OutA, 0), (OutA, 0), (Inside, 2)),
@@ -181,6 +185,7 @@ static SMALL: [Small; 22] = [
     Small {
         pattern: ">>.*>.",
         b: 0,
+        a: 0,
         rows: &[
             (Idle, (Out, 0), (Out, 0), (Found, 1)),
             (Held, (OutA, 0), (OutA, 0), (MaybeA, 2)),
@@ -199,6 +204,7 @@ static SMALL: [Small; 22] = [
     Small {
         pattern: ">",
         b: 1,
+        a: 0,
         rows: &[(Idle, (Out, 0), (Out, 0), (FoundE, 0))],
         residuals: &[(0, Greater)],
         configurations: &[(0, &[]), (0, &[(1, Due)])],
@@ -208,6 +214,7 @@ static SMALL: [Small; 22] = [
     Small {
         pattern: "=>.>>*.|",
         b: 0,
+        a: 0,
         rows: &[
             (Idle, (Out, 0), (Out, 1), (Found, 2)),
             (Idle, (Out, 0), (Out, 1), (FoundE, 0)),
@@ -226,6 +233,7 @@ static SMALL: [Small; 22] = [
     Small {
         pattern: "<=.>|",
         b: 0,
+        a: 0,
         rows: &[
             (Idle, (MaybeB, 1), (Out, 0), (FoundE, 0)),
             (Pending, (OutR, 0), (FoundE, 0), (FoundE, 0)),
@@ -243,6 +251,7 @@ static SMALL: [Small; 22] = [
     Small {
         pattern: "<=*>..",
         b: 1,
+        a: 0,
         rows: &[
             (Idle, (Out, 1), (Out, 0), (Out, 0)),
             (Idle, (Out, 1), (MaybeB, 2), (FoundE, 0)),
@@ -262,6 +271,7 @@ static SMALL: [Small; 22] = [
     Small {
         pattern: ">>*.",
         b: 0,
+        a: 0,
         rows: &[(Idle, (Out, 0), (Out, 0), (FoundE, 0))],
         residuals: &[(0, Greater)],
         configurations: &[(0, &[]), (0, &[(1, Loose)])],
@@ -271,6 +281,7 @@ static SMALL: [Small; 22] = [
     Small {
         pattern: "=>>*..>|",
         b: 0,
+        a: 0,
         rows: &[
             (Idle, (Out, 0), (MaybeB, 1), (FoundE, 0)),
             (Pending, (OutR, 0), (OutR, 0), (FoundE, 0)),
@@ -289,6 +300,7 @@ static SMALL: [Small; 22] = [
     Small {
         pattern: ">",
         b: 0,
+        a: 0,
         rows: &[
             (Idle, (Out, 0), (Out, 0), (Found, 1)),
             (Held, (MaybeA, 1), (OutA, 0), (Inside, 1)),
@@ -301,6 +313,7 @@ static SMALL: [Small; 22] = [
     Small {
         pattern: ">>=>..|",
         b: 0,
+        a: 0,
         rows: &[
             (Idle, (Out, 0), (Out, 0), (Found, 1)),
             (Held, (OutA, 0), (OutA, 0), (OutA, 0)),
@@ -313,6 +326,7 @@ static SMALL: [Small; 22] = [
     Small {
         pattern: ">",
         b: 0,
+        a: 0,
         rows: &[
             (Idle, (MaybeB, 1), (Out, 0), (FoundE, 0)),
             (Pending, (OutR, 0), (OutR, 0), (FoundE, 0)),
@@ -325,6 +339,7 @@ static SMALL: [Small; 22] = [
     Small {
         pattern: "<=*>..",
         b: 0,
+        a: 0,
         rows: &[
             (Idle, (MaybeB, 1), (Out, 0), (Out, 0)),
             (Pending, (MaybeB, 1), (MaybeB, 1), (FoundE, 0)),
@@ -342,6 +357,7 @@ static SMALL: [Small; 22] = [
     Small {
         pattern: "==>..",
         b: 0,
+        a: 0,
         rows: &[
             (Idle, (Out, 0), (Out, 1), (Out, 0)),
             (Idle, (Out, 0), (MaybeB, 2), (Out, 0)),
@@ -356,6 +372,25 @@ static SMALL: [Small; 22] = [
             (0, &[(3, Loose)]),
         ],
         refused: Some((2, Greater, &[Equal, Equal])),
+    },
+    // The plateau that keeps its start where a rise breaks the level part: only the last check sees it.
+    Small {
+        pattern: "<=*>..",
+        b: 1,
+        a: 1,
+        rows: &[
+            (Idle, (Out, 1), (Out, 0), (Out, 0)),
+            (Pending, (OutR, 1), (MaybeB, 2), (FoundE, 0)),
+            (Pending, (MaybeB, 1), (MaybeB, 2), (FoundE, 0)),
+        ],
+        residuals: &[(0, Less), (1, Greater)],
+        configurations: &[
+            (0, &[]),
+            (1, &[(1, Due)]),
+            (2, &[(1, InD)]),
+            (0, &[(2, Loose)]),
+        ],
+        refused: Some((2, Less, &[Less, Equal])),
     },
 ];
 
@@ -440,55 +475,6 @@ fn plan(alloc: Global, whole: &Regex, small: &Small) -> Result<Plan, Memory> {
     })
 }
 
-fn is_whole(residuals: &Vec<Regex>, whole: &Regex) -> bool
-    ensures { result ≡ first_passes (λ r. same_shape r (shape_of whole.now))
-        (map (λ r. shape_of r) residuals.now.items) }
-{
-    match residuals.as_slice() {
-        [first, ..] => first.same(whole),
-        [] => false,
-    }
-}
-
-fn starts_blank(configurations: &Vec<Configuration>) -> bool
-    ensures { result ≡ first_passes (λ x. is_blank x) (map (λ x. plain_configuration x) configurations.now.items) }
-{
-    match configurations.as_slice() {
-        [first, ..] => first.state == 0 && first.live.is_empty(),
-        [] => false,
-    }
-}
-
-fn each_known(live: &[Live], count: usize) -> bool
-    ensures { result ≡ list_all (λ e. nat_lt e.residual count) live.now }
-{
-    live.iter().all(|e| (e.residual as usize) < count)
-}
-
-fn all_known(configurations: &Vec<Configuration>, count: usize) -> bool
-    ensures { result ≡ list_all (λ x. list_all (λ e. nat_lt e.residual count) x.live.items) configurations.now.items }
-{
-    configurations.iter().all(|x| each_known(&x.live, count))
-}
-
-fn all_three(a: bool, b: bool, c: bool) -> bool
-    ensures { result ≡ (a && (b && c)) }
-{
-    a && b && c
-}
-
-/// Whether the plan is one of the pattern.
-fn fits(alloc: Global, pattern: &Pattern, plan: &Plan) -> Result<bool, Memory>
-    ensures { IfOk result (λ test. test ≡ is_plan_of (shape_of pattern.now.regex) (plain_plan plan.now)) }
-{
-    let whole = normal(alloc, &pattern.regex)?;
-    let first = is_whole(&plan.residuals, &whole);
-    let blank = starts_blank(&plan.configurations);
-    let residuals = plan.residuals.as_slice();
-    let known = all_known(&plan.configurations, residuals.len());
-    Ok(all_three(first, blank, known))
-}
-
 /// Whether the plan is found closed, or refused, as it is said.
 fn agrees(
     answer: Result<Validated, ValidateStop>,
@@ -517,11 +503,11 @@ fn plans_are_refused_where_a_check_fails(rt: HostRuntime) -> Result<(), Fail> {
         let pattern = Pattern {
             regex: regex(alloc, small.pattern)?,
             b: small.b,
-            a: 0,
+            a: small.a,
         };
         let plan = plan(alloc, &pattern.regex, small)?;
         assert!(rt; plan.residuals.len() < 1000 && plan.configurations.len() < 1000);
-        let fitting = fits(alloc, &pattern, &plan)?;
+        let fitting = plan.is_of(alloc, &pattern)?;
         assert!(rt; fitting);
         let transducer = transducer(small).ok_or("typed")?;
         let answer = validate(alloc, transducer, &pattern, &plan);

@@ -1,7 +1,7 @@
-use Rattle.ts_regex.specs.Shape.{shape_of}
-use Rattle.ts_cli.proofs.Fitting.{plan_fits}
+use Rattle.std.proofs.Common.{IsTrue, sym, subst}
+use Rattle.ts_pattern.specs.Plans.{plain_plan, is_plan_of}
 use Rattle.ts_cli.proofs.tests.validation.made_case.Goals as goal
 
-pub returns : goal.returns
-returns c =
-    plan_fits c.args.id c.in_ok-seed.seed (shape_of c.in_ok-pattern.pattern.regex) c.in_ok-seed.ensures.table c.in_ok-pattern.ensures.shape
+pub returns-clause-fits : goal.returns-clause-fits
+returns-clause-fits c =
+    subst (λ z. IsTrue (is_plan_of z (plain_plan c.in_ok-seed.seed.plan))) (sym c.in_ok-pattern.ensures.shape) c.in_ok-seed.ensures.fits
