@@ -1,7 +1,7 @@
 //! The top call.
 
 ghost use Rattle.std.specs.Prelude.{ℕ, ◌≡◌, ◌≢◌, ◌<◌, ◌≤◌, ◌⊎◌, IsTrue, IfSome};
-ghost use Rattle.ts_base.specs.Outside.{Rose};
+ghost use Rattle.ts_base.specs.Outside.{Rose, one_more};
 ghost use Rattle.ts_run.specs.AnswerTexts.{fault_read};
 ghost use Rattle.ts_run.specs.Commands.{command_of, words_in};
 ghost use Rattle.ts_run.specs.Endings.{CallEnds, CallSpares, CallTakes, TellsMeets, WholeEnds, WholeTakes};
@@ -29,22 +29,25 @@ pub fn run<S: Source, K: Sink>(
 ) -> Status
     // What is written, read and told of the series, by the command that the words are.
     ensures ends { CallEnds (command_of (words_in words.now.items)) (S.left source.old)
-        (S.faults source.old) (S.faults source.new) (K.taken sink.old) (K.taken sink.new) result }
+        (S.source_faults source.old) (S.source_faults source.new) (K.taken sink.old) (K.taken sink.new) result }
     ensures takes { CallTakes (command_of (words_in words.now.items)) S.left source.old source.new result }
     ensures meets { IfSome (S.left source.old) (λ bytes.
         TellsMeets (command_of (words_in words.now.items)) bytes result) }
 
     // A fault is told only where one was counted, and none is passed over.
-    ensures read_fault { result ≡ Status.ReadFault → Rose (S.faults source.old) (S.faults source.new) }
-    ensures calm_read { TellsNoFault result → S.faults source.new ≡ S.faults source.old }
+    ensures read_fault { result ≡ Status.ReadFault → Rose (S.source_faults source.old) (S.source_faults source.new) }
+    ensures read_broken { result ≡ Status.ReadFault → IsTrue (S.source_broken source.new) }
+    ensures calm_read { TellsNoFault result → S.source_faults source.new ≡ S.source_faults source.old }
     ensures write_fault { result ≡ Status.WriteFault → Rose (K.sink_faults sink.old) (K.sink_faults sink.new) }
+    ensures write_broken { result ≡ Status.WriteFault → IsTrue (K.sink_broken sink.new) }
     ensures calm_write { EndsWritten result → K.sink_faults sink.new ≡ K.sink_faults sink.old }
 
     // What was written is finished, once.
     ensures done { EndsWritten result → IsTrue (K.finished sink.new) }
+    ensures once { EndsWritten result → K.finishes sink.new ≡ one_more (K.finishes sink.old) }
 
     ensures memory { result ≡ Status.Memory → CallSpares (command_of (words_in words.now.items)) sink.old sink.new }
-    ensures reads_later { S.faults source.old ≤ S.faults source.new }
+    ensures reads_later { S.source_faults source.old ≤ S.source_faults source.new }
     ensures writes_later { K.sink_faults sink.old ≤ K.sink_faults sink.new }
 {
     let Some(command) = Command::of(words) else {
@@ -65,18 +68,21 @@ fn run_whole<S: Source, K: Sink>(
 ) -> Status
     requires { limit < 4000000000 }
     ensures ends { WholeEnds limit command (S.left source.old)
-        (S.faults source.old) (S.faults source.new) (K.taken sink.old) (K.taken sink.new) result }
+        (S.source_faults source.old) (S.source_faults source.new) (K.taken sink.old) (K.taken sink.new) result }
     ensures takes { WholeTakes limit (S.left source.old) (S.left source.new) result }
 
-    ensures read_fault { result ≡ Status.ReadFault → Rose (S.faults source.old) (S.faults source.new) }
-    ensures calm_read { TellsNoFault result → S.faults source.new ≡ S.faults source.old }
+    ensures read_fault { result ≡ Status.ReadFault → Rose (S.source_faults source.old) (S.source_faults source.new) }
+    ensures read_broken { result ≡ Status.ReadFault → IsTrue (S.source_broken source.new) }
+    ensures calm_read { TellsNoFault result → S.source_faults source.new ≡ S.source_faults source.old }
     ensures write_fault { result ≡ Status.WriteFault → Rose (K.sink_faults sink.old) (K.sink_faults sink.new) }
+    ensures write_broken { result ≡ Status.WriteFault → IsTrue (K.sink_broken sink.new) }
     ensures calm_write { EndsWritten result → K.sink_faults sink.new ≡ K.sink_faults sink.old }
 
     ensures done { EndsWritten result → IsTrue (K.finished sink.new) }
+    ensures once { EndsWritten result → K.finishes sink.new ≡ one_more (K.finishes sink.old) }
 
     ensures memory { result ≡ Status.Memory → sink.new ≡ sink.old }
-    ensures reads_later { S.faults source.old ≤ S.faults source.new }
+    ensures reads_later { S.source_faults source.old ≤ S.source_faults source.new }
     ensures writes_later { K.sink_faults sink.old ≤ K.sink_faults sink.new }
 {
     match read_all(alloc, source, limit) {
