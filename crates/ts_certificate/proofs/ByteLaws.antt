@@ -201,7 +201,8 @@ missing_end texts few none before =
     ap (end_stop_unless r) none ∙ open_end r.next r.state before ∙ ap (λ (k : ℕ). Some (Text k)) place
 
 -- a stop stays
-pub stop_kept : (r : Reading) (stop : CertStop) (text : List ℕ) → r.stop ≡ Some stop → (answer_to r text ≡ Err stop) × (reading_with r text ≡ r) × (end_stop r ≡ Some stop)
+pub stop_kept : (r : Reading) (stop : CertStop) (text : List ℕ) → r.stop ≡ Some stop →
+    (answer_to r text ≡ Err stop) × (reading_with r text ≡ r) × (end_stop r ≡ Some stop)
 stop_kept r stop text h = (
   ap (λ (o : Option CertStop). answer_unless r o text) h,
   ap (λ (o : Option CertStop). reading_unless r o text) h,

@@ -20,7 +20,7 @@ use Rattle.ts_certificate.specs.declared.certificate.Claim.{Claim}
 use Rattle.ts_certificate.specs.declared.certificate.Claim.TheVariants.{Best as BestIs, Infeasible, BudgetBest, BudgetNone, Full, All, BudgetList}
 use Rattle.ts_certificate.specs.declared.certificate.TreeLine.{TreeLine}
 use Rattle.ts_certificate.specs.declared.certificate.TreeLine.TheVariants.{Split, Remove, No, Worse, Yes, Unsearched}
-use Rattle.ts_certificate.specs.Certificate.{Cert, checked_count, open_count, end_line, lines_text, certificate_text}
+use Rattle.ts_certificate.specs.Certificate.{Cert, checked_count, open_count, end_line, lines_text, certificate_text, series_text, tree_text}
 use Rattle.ts_certificate.specs.Grammar.{SaysAim, SaysClaim, SaysSeries, SaysTree, SaysEnd, line_text, series_count, is_open}
 use Rattle.ts_certificate.specs.HeadLines.{is_aim, is_best_claim, is_list_claim, is_claim, is_series}
 use Rattle.ts_certificate.specs.Laws.{most_checked, IsWithinLimits}
@@ -31,7 +31,9 @@ use Rattle.ts_certificate.proofs.TextLaws.{lines_text-append}
 
 -- numbers
 count_short : (low high k n : ℕ) → 0 < k → high < 10 ^ k → high < 2 ^ 64 → is_count low high n ≡ true → length (count_text n) ≤ k
-count_short low high k n some fits wide h = let small = count_small low high n h in length-decimal-le k n some (omega (arith, small, fits)) (omega (arith, small, wide))
+count_short low high k n some fits wide h =
+    let small = count_small low high n h in
+    length-decimal-le k n some (omega (arith, small, fits)) (omega (arith, small, wide))
 
 cell_short : (k : ℕ) → is_cell k ≡ true → length (count_text k) ≤ 3
 cell_short k h = count_short 1 512 3 k (lit< tt) (lit< tt) (lit< tt) h
@@ -155,7 +157,8 @@ end_short checked unsearched few less =
     omega (arith, size, a, b)
 
 -- texts
-tree_step : (l : TreeLine) (rest checked unsearched : ℕ) (t : Bool) → is_open l ≡ t → length (line_text (SaysTree l)) ≤ 21 → rest ≤ 21 * checked + 5 * unsearched →
+tree_step : (l : TreeLine) (rest checked unsearched : ℕ) (t : Bool) → is_open l ≡ t → length (line_text (SaysTree l)) ≤ 21 →
+    rest ≤ 21 * checked + 5 * unsearched →
     length (line_text (SaysTree l)) + rest ≤ 21 * cond t checked (checked + 1) + 5 * cond t (unsearched + 1) unsearched
 tree_step l rest checked unsearched false e size later = omega (arith, size, later)
 tree_step l rest checked unsearched true e size later = let five = open_size l e in omega (arith, five, later)
@@ -164,34 +167,36 @@ tree_step l rest checked unsearched true e size later = let five = open_size l e
     open_size Unsearched e = lit< tt
     open_size l e = cc
 
-tree_short : (ls : List TreeLine) → list_all is_tree_line ls ≡ true → length (lines_text (map SaysTree ls)) ≤ 21 * checked_count ls + 5 * open_count ls
+tree_short : (ls : List TreeLine) → list_all is_tree_line ls ≡ true → length (tree_text ls) ≤ 21 * checked_count ls + 5 * open_count ls
 tree_short [] h = omega arith
 tree_short (l ∷ ls) h =
     let each = and_parts (is_tree_line l) (list_all is_tree_line ls) h in
-    let size = length-append (line_text (SaysTree l)) (lines_text (map SaysTree ls)) in
-    let step = tree_step l (length (lines_text (map SaysTree ls))) (checked_count ls) (open_count ls) (is_open l) refl (checked_short l each.0) (tree_short ls each.1) in
+    let size = length-append (line_text (SaysTree l)) (tree_text ls) in
+    let step = tree_step l (length (tree_text ls)) (checked_count ls) (open_count ls) (is_open l) refl (checked_short l each.0) (tree_short ls each.1) in
     omega (arith, size, step)
 
 all_series_short : (xs : List (List ℤ)) → list_all is_series xs ≡ true → AllByRecursion (λ (values : List ℤ). length values ≤ most_cells) xs →
-    length (lines_text (map SaysSeries xs)) ≤ 4615 * length xs
+    length (series_text xs) ≤ 4615 * length xs
 all_series_short [] h few = omega arith
 all_series_short (x ∷ xs) h few =
     let each = and_parts (is_series x) (list_all is_series xs) h in
-    let size = length-append (line_text (SaysSeries x)) (lines_text (map SaysSeries xs)) in
+    let size = length-append (line_text (SaysSeries x)) (series_text xs) in
     let one = series_short x each.0 few.0 in
     let more = all_series_short xs each.1 few.1 in
     omega (arith, size, one, more)
 
 text_length : (c : Cert) → length (certificate_text c) ≡
-    length (line_text (SaysAim c.aim)) + length (line_text (SaysClaim c.claim)) + length (lines_text (map SaysSeries c.series)) + length (lines_text (map SaysTree c.tree)) + length (line_text (end_line c.tree))
+    length (line_text (SaysAim c.aim)) + length (line_text (SaysClaim c.claim)) + length (series_text c.series) + length (tree_text c.tree)
+    + length (line_text (end_line c.tree))
 text_length c =
     let end = lines_text (end_line c.tree ∷ []) in
     let tree = lines_text (map SaysTree c.tree ++ end_line c.tree ∷ []) in
     let series = lines_text (map SaysSeries c.series ++ (map SaysTree c.tree ++ end_line c.tree ∷ [])) in
     let a = length-append (line_text (SaysAim c.aim)) (line_text (SaysClaim c.claim) ++ series) in
     let b = length-append (line_text (SaysClaim c.claim)) series in
-    let d = ap length (lines_text-append (map SaysSeries c.series) (map SaysTree c.tree ++ end_line c.tree ∷ [])) ∙ length-append (lines_text (map SaysSeries c.series)) tree in
-    let e = ap length (lines_text-append (map SaysTree c.tree) (end_line c.tree ∷ [])) ∙ length-append (lines_text (map SaysTree c.tree)) end in
+    let last = map SaysTree c.tree ++ end_line c.tree ∷ [] in
+    let d = ap length (lines_text-append (map SaysSeries c.series) last) ∙ length-append (series_text c.series) tree in
+    let e = ap length (lines_text-append (map SaysTree c.tree) (end_line c.tree ∷ [])) ∙ length-append (tree_text c.tree) end in
     let f = length-append (line_text (end_line c.tree)) [] in
     omega (arith, a, b, d, e, f)
 

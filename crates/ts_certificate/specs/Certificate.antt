@@ -42,6 +42,12 @@ cert_lines c =
 abbrev pub lines_text : List CertLine → List ℕ
 lines_text ls = concat (map line_text ls)
 
+abbrev pub series_text : List (List ℤ) → List ℕ
+series_text xs = lines_text (map SaysSeries xs)
+
+abbrev pub tree_text : List TreeLine → List ℕ
+tree_text ls = lines_text (map SaysTree ls)
+
 abbrev pub certificate_text : Cert → List ℕ
 certificate_text c = lines_text (cert_lines c)
 

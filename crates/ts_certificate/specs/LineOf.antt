@@ -39,7 +39,9 @@ end_or_stop c u (Some e) =
     else Err (Counts e.0 c))
 
 abbrev pub tree_or_end : ℕ → ℕ → Words → Result CertLine LineStop
-tree_or_end c u w = if bytes_eq w.first (codes "end") then end_or_stop c u (end_of w.more) else as_line SaysTree (tree_of w)
+tree_or_end c u w =
+    if bytes_eq w.first (codes "end") then end_or_stop c u (end_of w.more)
+    else as_line SaysTree (tree_of w)
 
 abbrev pub line_of_words : State → Words → Result CertLine LineStop
 line_of_words Start w = as_line SaysAim (aim_of w)

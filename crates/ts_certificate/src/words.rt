@@ -8,7 +8,8 @@ use ts_base::words_of;
 
 /// The word, if there is exactly one.
 pub(crate) fn one_word<'a>(rest: Option<&'a [u8]>) -> Option<&'a [u8]>
-    ensures { MatchOption result (one_of (more_seen rest.entry) ≡ None) (λ w. one_of (more_seen rest.entry) ≡ Some w.now) }
+    ensures { MatchOption result (one_of (more_seen rest.entry) ≡ None)
+        (λ w. one_of (more_seen rest.entry) ≡ Some w.now) }
 {
     let words = words_of(rest?);
     match words.rest {
@@ -19,7 +20,8 @@ pub(crate) fn one_word<'a>(rest: Option<&'a [u8]>) -> Option<&'a [u8]>
 
 /// The words, if there are exactly two.
 pub(crate) fn two_words<'a>(rest: Option<&'a [u8]>) -> Option<(&'a [u8], &'a [u8])>
-    ensures { MatchOption result (two_of (more_seen rest.entry) ≡ None) (λ p. two_of (more_seen rest.entry) ≡ Some (p.0.now, p.1.now)) }
+    ensures { MatchOption result (two_of (more_seen rest.entry) ≡ None)
+        (λ p. two_of (more_seen rest.entry) ≡ Some (p.0.now, p.1.now)) }
 {
     let words = words_of(rest?);
     let second = one_word(words.rest)?;
@@ -28,7 +30,8 @@ pub(crate) fn two_words<'a>(rest: Option<&'a [u8]>) -> Option<(&'a [u8], &'a [u8
 
 /// The words, if there are exactly three.
 pub(crate) fn three_words<'a>(rest: Option<&'a [u8]>) -> Option<(&'a [u8], &'a [u8], &'a [u8])>
-    ensures { MatchOption result (three_of (more_seen rest.entry) ≡ None) (λ p. three_of (more_seen rest.entry) ≡ Some (p.0.now, p.1.now, p.2.now)) }
+    ensures { MatchOption result (three_of (more_seen rest.entry) ≡ None)
+        (λ p. three_of (more_seen rest.entry) ≡ Some (p.0.now, p.1.now, p.2.now)) }
 {
     let words = words_of(rest?);
     let (second, third) = two_words(words.rest)?;

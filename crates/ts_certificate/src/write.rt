@@ -4,9 +4,9 @@ ghost use Rattle.std.specs.Prelude.{◌≡◌, ◌+◌, ◌++◌, ◌∷◌, ◌
 ghost use Rattle.std.specs.Fmt.{signed_decimal};
 ghost use Rattle.ts_base.specs.Text.{ext_text};
 ghost use Rattle.ts_base.specs.Words.{behind, full_line};
-ghost use Rattle.ts_certificate.specs.Certificate.{cert_seen, certificate_text, lines_text};
+ghost use Rattle.ts_certificate.specs.Certificate.{cert_seen, certificate_text, series_text, tree_text};
 ghost use Rattle.ts_certificate.specs.Certificate.{checked_count, open_count, end_line};
-ghost use Rattle.ts_certificate.specs.Grammar.{SaysSeries, SaysTree, line_text};
+ghost use Rattle.ts_certificate.specs.Grammar.{line_text};
 ghost use Rattle.ts_certificate.specs.HeadLines.{aim_words, claim_words, series_words};
 ghost use Rattle.ts_certificate.specs.Ranges.{count_text};
 ghost use Rattle.ts_certificate.specs.TreeLines.{tree_words};
@@ -141,7 +141,7 @@ fn push_values(text: &mut Vec<u8>, values: &[i64]) -> Result<(), Memory>
 
 /// Puts the series lines behind `text`.
 fn push_all_series(text: &mut Vec<u8>, series: &[Vec<i64>]) -> Result<(), Memory>
-    ensures { OnOk result (text.new.items ≡ text.old.items ++ lines_text (map SaysSeries (map (λ v. v.items) series.now))) }
+    ensures { OnOk result (text.new.items ≡ text.old.items ++ series_text (map (λ v. v.items) series.now)) }
 {
     for values in series {
         push_series(text, values)?;
@@ -151,7 +151,7 @@ fn push_all_series(text: &mut Vec<u8>, series: &[Vec<i64>]) -> Result<(), Memory
 
 /// Puts the tree lines behind `text`.
 fn push_tree(text: &mut Vec<u8>, tree: &[TreeLine]) -> Result<(), Memory>
-    ensures { OnOk result (text.new.items ≡ text.old.items ++ lines_text (map SaysTree tree.now)) }
+    ensures { OnOk result (text.new.items ≡ text.old.items ++ tree_text tree.now) }
 {
     for line in tree {
         push_tree_line(text, *line)?;

@@ -7,4 +7,9 @@ use Rattle.ts_certificate.proofs.ValueLaws.{value_taken}
 use Rattle.ts_certificate.proofs.head.values_of.Goals as goal
 
 pub loop-rest-preserved : goal.loop-rest-preserved
-loop-rest-preserved c = value_taken c.loop-rest.values.items c.push.new.self.items c.in-Some-value_of.v _ c.words_of-words.result.first.now (more_seen c.loop-rest.rest) (more_seen c.words_of-words.result.rest) _ (ap more_seen c.in-Some.is ∙ sym (ap all_words c.words_of-words.ensures.words)) c.in-Some-value_of.ensures (let fits : SFits w64 c.in-Some-value_of.v = search rules in omega (arith, ints)) c.in_ok-push-in-Some-value_of.ensures.items c.loop-rest.invariant
+loop-rest-preserved c =
+    let words = c.words_of-words.result in
+    let fits : SFits w64 c.in-Some-value_of.v = search rules in
+    value_taken c.loop-rest.values.items c.push.new.self.items c.in-Some-value_of.v _ words.first.now (more_seen c.loop-rest.rest) (more_seen words.rest) _
+    (ap more_seen c.in-Some.is ∙ sym (ap all_words c.words_of-words.ensures.words)) c.in-Some-value_of.ensures (omega (arith, ints))
+    c.in_ok-push-in-Some-value_of.ensures.items c.loop-rest.invariant
