@@ -2,7 +2,8 @@
 
 use crate::{
     Ext, Failed, Letter, MemorySink, MemorySource, NeverSink, NeverSource, ReadStop, Sink, Source,
-    Span, StdIn, StdOut, flip, letter_of, push_ext, push_number, read_all, write_all,
+    Span, StdIn, StdOut, first_line, flip, letter_of, push_ext, push_number, read_all, without_lf,
+    words_of, write_all,
 };
 use std::io;
 use std::process::Abort;
@@ -150,5 +151,19 @@ fn calls_succeed(rt: HostRuntime) -> Result<(), Fail> {
     let mut output = StdOut::new(io::sink());
     assert_eq!(rt; output.write(b"text"), Ok(4));
     assert_eq!(rt; output.finish(), Ok(()));
+    Ok(())
+}
+
+#[test]
+fn lines_and_words_are_strict(rt: HostRuntime) -> Result<(), Fail> {
+    let (line, rest) = first_line(b"no  1\nyes");
+    assert_eq!(rt; line, b"no  1\n".as_slice());
+    assert_eq!(rt; without_lf(line), Some(b"no  1".as_slice()));
+    assert_eq!(rt; without_lf(rest), None);
+
+    let words = words_of(b"no  1");
+    assert_eq!(rt; words.first, b"no".as_slice());
+    assert_eq!(rt; words.rest, Some(b" 1".as_slice()));
+    assert_eq!(rt; words_of(rest).rest, None);
     Ok(())
 }
