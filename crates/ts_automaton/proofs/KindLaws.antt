@@ -57,7 +57,7 @@ numbers_typed = record {
   widened = λ j k a w h. within_trans (kind_of a) j k h w;
 }
 
-op_mono : (o : Op) (a b c d : Ext) → IsTrue (ext_le a b) → IsTrue (ext_le c d) → IsTrue (ext_le (ext_op o a c) (ext_op o b d))
+pub op_mono : (o : Op) (a b c d : Ext) → IsTrue (ext_le a b) → IsTrue (ext_le c d) → IsTrue (ext_le (ext_op o a c) (ext_op o b d))
 op_mono Add = plus_mono
 op_mono Max = max_mono
 op_mono Min = min_mono

@@ -13,3 +13,4 @@ pub mod Rules
 pub mod Tables
 pub mod KindLaws
 pub mod StepLaws
+pub mod RunLaws

@@ -86,4 +86,5 @@ AreCellValues (x ∷ xs) = IsCellValue x × AreCellValues xs
 
 -- the mark's promise holds of the answer on every series within the limits
 abbrev pub Marked : Body → Type 0
-Marked b = (xs : List ℤ) → 1 ≤ length xs → length xs ≤ most_cells → AreCellValues xs → IsInMark b.mark (length xs) (answer b xs)
+Marked b =
+    (xs : List ℤ) → 1 ≤ length xs → length xs ≤ most_cells → AreCellValues xs → IsInMark b.mark (length xs) (answer b xs)

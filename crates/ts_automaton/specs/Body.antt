@@ -35,10 +35,12 @@ abbrev pub move_of : Turn → Move
 move_of t = record { next = t.next; to = each (formula t.c) (formula t.d) (formula t.r) }
 
 abbrev pub node_of : State → Node
-node_of s = record { name = s.name; held = s.held; less = move_of s.less; equal = move_of s.equal; greater = move_of s.greater }
+node_of s =
+    record { name = s.name; held = s.held; less = move_of s.less; equal = move_of s.equal; greater = move_of s.greater }
 
 abbrev pub body_of : List State → Regs → Expr → Mark → Body
-body_of states start finish mark = record { states = map node_of states; start = regs_of start; finish = formula finish; mark = mark }
+body_of states start finish mark =
+    record { states = map node_of states; start = regs_of start; finish = formula finish; mark = mark }
 
 -- the move of a state on a letter
 abbrev pub move_on : Letter → Node → Move

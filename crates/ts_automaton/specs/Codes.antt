@@ -29,7 +29,8 @@ abbrev pub first_of_them : List Formula → Formula
 first_of_them [] = Leaf C
 first_of_them (f ∷ fs) = f
 
-pub read_again : (f : Formula) (ws : List (Op ⊎ Atom)) (fs : List Formula) → read_from (postfix f ws) fs ≡ read_from ws (f ∷ fs)
+pub read_again : (f : Formula) (ws : List (Op ⊎ Atom)) (fs : List Formula) →
+    read_from (postfix f ws) fs ≡ read_from ws (f ∷ fs)
 read_again (Leaf a) ws fs = refl
 read_again (Join o f g) ws fs = read_again f (postfix g (inl o ∷ ws)) fs ∙ read_again g (inl o ∷ ws) (f ∷ fs)
 
@@ -38,4 +39,5 @@ same_again f = ap first_of_them (read_again f [] [])
 
 abbrev pub formula_code : Coded Formula
 formula_code =
-    code_by (List (Op ⊎ Atom)) (coded_list (coded⊎ op.the_row.coded atom.the_row.coded)) (λ f. postfix f []) (λ ws. first_of_them (read_from ws [])) same_again
+    code_by (List (Op ⊎ Atom)) (coded_list (coded⊎ op.the_row.coded atom.the_row.coded))
+    (λ f. postfix f []) (λ ws. first_of_them (read_from ws [])) same_again

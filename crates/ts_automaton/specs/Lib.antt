@@ -11,3 +11,4 @@ pub mod AutomatonText
 pub mod Grammar
 pub mod Lines
 pub mod Reading
+pub mod Laws

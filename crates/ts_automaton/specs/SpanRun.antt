@@ -57,7 +57,8 @@ finished_span b h = if has_registers h then finished spans b h else none_span
 
 -- a mark on both ends, and the hull of the two; none stays none
 abbrev pub marked_span : Mark → ℕ → Span → Span
-marked_span k n s = if has_some s then span_hull (one_span (marked k n s.lo)) (one_span (marked k n s.hi)) else none_span
+marked_span k n s =
+    if has_some s then span_hull (one_span (marked k n s.lo)) (one_span (marked k n s.hi)) else none_span
 
 abbrev pub finish_span_of : Body → Standing Span → ℕ → Span
 finish_span_of b s n = marked_span b.mark n (finished_span b s.regs)

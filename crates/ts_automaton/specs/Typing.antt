@@ -82,7 +82,9 @@ fits_kind (Some j) k = is_within j k
 
 abbrev pub fits_kinds : EachOf RegKind → EachOf Formula → EachOf RegKind → Bool
 fits_kinds old to new =
-    fits_kind (formula_kind old to.c) new.c && fits_kind (formula_kind old to.d) new.d && fits_kind (formula_kind old to.r) new.r
+    fits_kind (formula_kind old to.c) new.c
+    && fits_kind (formula_kind old to.d) new.d
+    && fits_kind (formula_kind old to.r) new.r
 
 -- with the kinds of the state that is left, the new values have those of the state that is reached
 abbrev pub is_move_typed : Body → ℕ → Move → Bool
@@ -102,11 +104,16 @@ reads_registers (Leaf HighAtom) = true
 reads_registers (Join o f g) = reads_registers f && reads_registers g
 
 abbrev pub is_finish_typed_where_held : Body → Bool
-is_finish_typed_where_held b = not (list_any (λ s. s.held) b.states) || is_some (formula_kind (kinds_where b true) b.finish)
+is_finish_typed_where_held b =
+    not (list_any (λ s. s.held) b.states) || is_some (formula_kind (kinds_where b true) b.finish)
 
--- the finish expression reads no cell, and has a kind with the C of free states, and with that of held ones if there are any
+-- the finish expression has a kind with the C of held states, if there are any
+-- it reads no cell, and has a kind with the C of free states too
 abbrev pub is_finish_typed : Body → Bool
-is_finish_typed b = reads_registers b.finish && is_some (formula_kind (kinds_where b false) b.finish) && is_finish_typed_where_held b
+is_finish_typed b =
+    reads_registers b.finish
+    && is_some (formula_kind (kinds_where b false) b.finish)
+    && is_finish_typed_where_held b
 
 -- the places that are typed, in the order of the text: the first state, each move, and the finish expression
 abbrev pub moves_from : ℕ → ℕ → List Place

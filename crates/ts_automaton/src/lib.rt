@@ -20,6 +20,7 @@ mod draft;
 mod expr;
 mod expr_text;
 mod kind;
+pub mod laws;
 mod line_words;
 mod lines;
 mod move_lines;
@@ -30,6 +31,8 @@ mod run;
 mod span_run;
 mod state;
 mod stop;
+#[cfg(test)]
+mod tests;
 mod text_laws;
 mod typing;
 

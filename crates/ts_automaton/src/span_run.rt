@@ -78,7 +78,8 @@ impl Automaton {
 impl Turn {
     /// The hull after the move. A hull that is none stays none.
     fn moved_hull(&self, hull: &Hull, this: i64, next: i64) -> Hull
-        requires { IsTrue (has_registers (spans_of hull.now)) → TakesAll SpansFit spans (spans_of hull.now) this next (move_of self.now).to }
+        requires { let h = spans_of hull.now in
+            IsTrue (has_registers h) → TakesAll SpansFit spans h this next (move_of self.now).to }
         ensures { spans_of result ≡ moved_hull (spans_of hull.now) this next (move_of self.now) }
     {
         if hull.is_none() {
@@ -140,7 +141,7 @@ impl Op {
 
 impl Mark {
     /// What becomes of a span of answers after `n` cells.
-    fn applied_to_span(self, answers: Span, n: u32) -> Span
+    pub(crate) fn applied_to_span(self, answers: Span, n: u32) -> Span
         ensures { result ≡ marked_span self n answers }
     {
         if answers.is_none() {

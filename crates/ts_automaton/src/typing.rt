@@ -93,7 +93,8 @@ impl Parts {
 
     /// Whether the new values of a move have the kinds of the state that is reached.
     fn is_turn_typed(&self, held: bool, turn: &Turn) -> bool
-        ensures { result ≡ fits_kinds (kinds_where (parts_of self.now) held) (move_of turn.now).to (kinds_at (parts_of self.now) turn.now.next) }
+        ensures { let b = parts_of self.now in
+            result ≡ fits_kinds (kinds_where b held) (move_of turn.now).to (kinds_at b turn.now.next) }
     {
         let reaches_held = match self.states.get(turn.next as usize) {
             Some(state) => state.held,

@@ -1,0 +1,122 @@
+//! Runs of the automaton of peaks, on numbers and on spans, and marks on spans.
+
+ghost use Rattle.std.specs.Prelude.{◌≡◌, ◌<◌, length};
+ghost use Rattle.ts_automaton.specs.AutomatonRun.{Stands, standing_of};
+
+use super::{Change, ZERO, changed, changed_finish};
+use crate::{At, Automaton, Hull, HullAt, Mark};
+use std::test::Fail;
+use ts_base::{Ext, Span};
+
+/// A series, and the sum of the widths of its peaks.
+static RUNS: [(&[i64], i64); 8] = [
+    (&[5], 0),
+    (&[1, 2], 0),
+    (&[1, 2, 1], 1),
+    (&[3, 2, 1], 0),
+    (&[1, 3, 3, 2, 2, 1, 4], 4),
+    (&[0, 3, 5, 5, 2, 1, 1, 4, 6, 2, 2, 1], 8),
+    (&[1, 2, 1, 2, 1], 2),
+    (&[0, 1, 1, 0, 0, 1, 0, 0, 2], 3),
+];
+
+fn runs() -> &'static [(&'static [i64], i64)] {
+    &RUNS
+}
+
+/// Where the automaton stands after the series.
+fn after(automaton: &Automaton, series: &[i64]) -> At
+    ensures { Stands automaton.now (standing_of result) }
+{
+    let mut at = automaton.start();
+    for k in 1..series.len() {
+        at = automaton.step(at, series[k - 1], series[k]);
+    }
+    at
+}
+
+/// The span of the answers on this series alone, by steps of hulls.
+#[tactic(auto, using(crate::proofs::RunLaws::single_stands))]
+fn span_of(automaton: &Automaton, series: &[i64]) -> Span {
+    let start = automaton.start();
+    let mut at = HullAt {
+        state: start.state,
+        hull: Hull::one(start.regs),
+    };
+    for k in 1..series.len() {
+        at = automaton.eval_span(at, series[k - 1], series[k]);
+    }
+    automaton.finish_span(at, 9)
+}
+
+#[test]
+fn widths_of_peaks(rt: HostRuntime) -> Result<(), Fail> {
+    let peak = changed(rt.alloc(), Change::Nothing)?.ok_or("typed")?;
+    assert_eq!(rt; peak.states(), 3);
+    assert_eq!(rt; peak.mark(), Mark::Same);
+    assert_eq!(rt;
+        *peak.finish_expr(),
+        changed_finish(rt.alloc(), Change::Nothing)?
+    );
+    for (series, width) in runs() {
+        let answer = peak.finish(after(&peak, series), 9);
+        assert_eq!(rt; answer, Ext::Int(*width), "{series:?}");
+        assert_eq!(rt;
+            span_of(&peak, series),
+            Span::one(Ext::Int(*width)),
+            "{series:?}"
+        );
+    }
+    Ok(())
+}
+
+/// A mark, the span of the values before it, and that after it; the series has three cells.
+static MARKED: [(Mark, Ext, Ext, Ext, Ext); 7] = [
+    (
+        Mark::Same,
+        Ext::NegInf,
+        Ext::PosInf,
+        Ext::NegInf,
+        Ext::PosInf,
+    ),
+    (Mark::Zero, Ext::NegInf, Ext::Int(2), ZERO, Ext::Int(2)),
+    (Mark::Zero, Ext::NegInf, Ext::Int(-4), Ext::Int(-4), ZERO),
+    (Mark::Zero, Ext::NegInf, Ext::NegInf, ZERO, ZERO),
+    (
+        Mark::Cells,
+        Ext::Int(1),
+        Ext::PosInf,
+        Ext::Int(1),
+        Ext::Int(3),
+    ),
+    (
+        Mark::Cells,
+        Ext::Int(5),
+        Ext::PosInf,
+        Ext::Int(3),
+        Ext::Int(5),
+    ),
+    (
+        Mark::Cells,
+        Ext::PosInf,
+        Ext::NegInf,
+        Ext::PosInf,
+        Ext::NegInf,
+    ),
+];
+
+fn marked() -> &'static [(Mark, Ext, Ext, Ext, Ext)] {
+    &MARKED
+}
+
+#[test]
+fn spans_under_marks(rt: HostRuntime) {
+    for (mark, lo, hi, marked_lo, marked_hi) in marked() {
+        let span = mark.applied_to_span(Span { lo: *lo, hi: *hi }, 3);
+        assert_eq!(rt;
+            (span.lo, span.hi),
+            (*marked_lo, *marked_hi),
+            "{mark:?} {lo:?} {hi:?}"
+        );
+    }
+}
