@@ -10,7 +10,7 @@ use Rattle.ts_transducer.specs.Typing.{is_held}
 use Rattle.ts_pattern.specs.declared.plan.Tag.{Tag}
 use Rattle.ts_pattern.specs.EachOf.{Each}
 use Rattle.ts_pattern.specs.Entries.{Entry, Residuals, derive_entry, derived, alive, without, keep, survivors}
-use Rattle.ts_pattern.specs.Closed.{is_due, is_ind, is_inc, tag_after, no_ind, retag, implies, is_find, is_match, is_found_e, is_out_a, is_maybe_b, first_passes, acceptance_agrees, find_starts_right, early_find_ends, held_start_first, pending_keeps_start, entries_agree}
+use Rattle.ts_pattern.specs.Closed.{is_due, is_ind, is_inc, tag_after, no_ind, retag_entries, implies, is_find, is_match, is_found_e, is_out_a, is_maybe_b, first_passes, acceptance_agrees, find_starts_right, early_find_ends, held_start_first, pending_keeps_start, entries_agree}
 use Rattle.ts_pattern.proofs.Entries.{each_keep}
 
 abbrev pub renamed : {X Y R S T : Type 0} → (X → Y) → (R → S) → Entry X R T → Entry Y S T
@@ -82,7 +82,7 @@ pub survivors_left : {X R S T : Type 0} (t : Residuals R) (u : Residuals S) (g :
 survivors_left t u g P l es h = each_keep t (λ e. P e.residual) (alive t (derived t l es)) (alive_left t u g P l es h)
 
 pub retag_renamed : {X Y R S : Type 0} (f : X → Y) (g : R → S) (p : Phase) (free : Bool) (es : List (Entry X R Tag)) →
-    map (λ e. renamed f g e) (retag p free es) ≡ retag p free (map (λ e. renamed f g e) es)
+    map (λ e. renamed f g e) (retag_entries p free es) ≡ retag_entries p free (map (λ e. renamed f g e) es)
 retag_renamed f g p free [] = refl
 retag_renamed f g p free (e ∷ es) = ap (λ z. record { mark = f e.mark; residual = g e.residual; tag = tag_after p free e.tag } ∷ z)
     (retag_renamed f g p free es)

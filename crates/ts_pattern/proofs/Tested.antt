@@ -12,8 +12,8 @@ use Rattle.ts_pattern.specs.declared.plan.Tag.{Tag}
 use Rattle.ts_pattern.specs.declared.plan.Tag.TheVariants.{Young, Due, InD, InC, Loose}
 use Rattle.ts_pattern.specs.EachOf.{OneOf}
 use Rattle.ts_pattern.specs.Entries.{Entry, Residuals, shapes}
-use Rattle.ts_pattern.specs.Closed.{PlainConfiguration, Subject, first_passes, same_tag, same_live, same_configuration, stepped, meets_checks, LeadsTo, FromStart, OneStepOn, IsClosed}
-use Rattle.ts_pattern.specs.Plans.{PlainPlan, valued, subject, is_empty, is_blank, is_plan_of, all_meet, is_closed}
+use Rattle.ts_pattern.specs.Closed.{PlainConfiguration, Subject, first_passes, same_tag, same_live, same_configuration, step_of, meets_checks, LeadsTo, FromStart, OneStepOn, IsClosed}
+use Rattle.ts_pattern.specs.Plans.{PlainPlan, configuration_value, subject, is_empty, is_blank, is_plan_of, all_meet, is_closed}
 use Rattle.ts_pattern.proofs.Entries.{shapes_right}
 
 tag_is : (g h : Tag) → same_tag g h ≡ true → g ≡ h
@@ -77,13 +77,14 @@ listed_one t r (x ∷ xs) y q = go (same_configuration t x y) (list_any (λ x. s
 
 -- the first configuration is the start with no entry
 first_blank : (rs : List Shape) (xs : List (PlainConfiguration ℕ)) → first_passes (λ x. is_blank x) xs ≡ true →
-    OneOf (λ y. y ≡ record { state = 0; live = [] }) (map (λ x. valued rs x) xs)
+    OneOf (λ y. y ≡ record { state = 0; live = [] }) (map (λ x. configuration_value rs x) xs)
 first_blank rs [] q = false≢true q
 first_blank rs (x ∷ xs) q =
     let h = and_parts (x.state == 0) (is_empty x.live) q in
-    inl (ap (λ z. record { state = z; live = (valued rs x).live }) (eqb-true x.state 0 h.0) ∙ ap (λ z. record { state = 0; live = z }) (gone x.live h.1))
+    inl (ap (λ z. record { state = z; live = (configuration_value rs x).live }) (eqb-true x.state 0 h.0)
+    ∙ ap (λ z. record { state = 0; live = z }) (gone x.live h.1))
   where
-    gone : (es : List (Entry (Unit {0}) ℕ Tag)) → is_empty es ≡ true → (valued rs (record { state = 0; live = es })).live ≡ []
+    gone : (es : List (Entry (Unit {0}) ℕ Tag)) → is_empty es ≡ true → (configuration_value rs (record { state = 0; live = es })).live ≡ []
     gone [] q = refl
     gone (e ∷ es) q = absurd (false≢true q)
 
@@ -95,7 +96,7 @@ reached_listed rows p b plan f w x (FromStart w' x' e q) =
     (first_blank plan.residuals plan.configurations (and_parts (first_passes (λ x. is_blank x) plan.configurations) _ (and_parts _ _ f).1).0)
 reached_listed rows p b plan f w x (OneStepOn v w' y x' l h s e q) =
     subst (λ z. OneOf (λ y. y ≡ z) (subject rows p b plan).configurations) (sym q)
-    (listed_one shapes shapes_right.equal (subject rows p b plan).configurations (stepped (subject rows p b plan) y l) s)
+    (listed_one shapes shapes_right.equal (subject rows p b plan).configurations (step_of (subject rows p b plan) y l) s)
 
 meets_one : {R : Type 0} (s : Subject R) (xs : List (PlainConfiguration R)) →
     list_all (λ x. meets_checks s x Less && (meets_checks s x Equal && meets_checks s x Greater)) xs ≡ true → (x : PlainConfiguration R) →

@@ -84,26 +84,29 @@ no_ind es = list_all (λ e. not (is_ind e.tag)) es
 abbrev pub retag_entry : {X R : Type 0} → Phase → Bool → Entry X R Tag → Entry X R Tag
 retag_entry f free e = record { mark = e.mark; residual = e.residual; tag = tag_after f free e.tag }
 
-abbrev pub retag : {X R : Type 0} → Phase → Bool → List (Entry X R Tag) → List (Entry X R Tag)
-retag f free es = map (λ e. retag_entry f free e) es
+abbrev pub retag_entries : {X R : Type 0} → Phase → Bool → List (Entry X R Tag) → List (Entry X R Tag)
+retag_entries f free es = map (λ e. retag_entry f free e) es
 
 -- with a start at the sign now read
-abbrev pub appended : {X R : Type 0} → X → R → ℕ → List (Entry X R Tag) → List (Entry X R Tag)
-appended x whole b es = es ++ record { mark = x; residual = whole; tag = first_tag b } ∷ []
+abbrev pub with_start : {X R : Type 0} → X → R → ℕ → List (Entry X R Tag) → List (Entry X R Tag)
+with_start x whole b es = es ++ record { mark = x; residual = whole; tag = first_tag b } ∷ []
 
 abbrev pub move_of : {R : Type 0} → Subject R → PlainConfiguration R → Letter → Arrow
 move_of s x l = arrow_on l (row_at s.rows x.state)
 
-abbrev pub before : {R : Type 0} → Subject R → PlainConfiguration R → List (Entry (Unit {0}) R Tag)
-before s x = appended tt s.whole s.trim x.live
+abbrev pub entries_before : {R : Type 0} → Subject R → PlainConfiguration R → List (Entry (Unit {0}) R Tag)
+entries_before s x = with_start tt s.whole s.trim x.live
 
 -- the entries that are kept, with their tags before the step
-abbrev pub kept : {R : Type 0} → Subject R → PlainConfiguration R → Letter → List (Entry (Unit {0}) R Tag)
-kept s x l = survivors s.on l (before s x)
+abbrev pub kept_entries : {R : Type 0} → Subject R → PlainConfiguration R → Letter → List (Entry (Unit {0}) R Tag)
+kept_entries s x l = survivors s.on l (entries_before s x)
 
-abbrev pub stepped : {R : Type 0} → Subject R → PlainConfiguration R → Letter → PlainConfiguration R
-stepped s x l =
-    record { state = (move_of s x l).next; live = retag (move_of s x l).phase (no_ind (before s x)) (kept s x l) }
+abbrev pub step_of : {R : Type 0} → Subject R → PlainConfiguration R → Letter → PlainConfiguration R
+step_of s x l =
+    record {
+      state = (move_of s x l).next;
+      live = retag_entries (move_of s x l).phase (no_ind (entries_before s x)) (kept_entries s x l);
+    }
 
 -- the checks
 
@@ -194,21 +197,21 @@ abbrev pub same_configuration : {R : Type 0} → Residuals R → PlainConfigurat
 same_configuration t x y = (x.state == y.state) && same_live t x.live y.live
 
 abbrev pub step_listed : {R : Type 0} → Subject R → PlainConfiguration R → Letter → Bool
-step_listed s x l = list_any (λ y. same_configuration s.on y (stepped s x l)) s.configurations
+step_listed s x l = list_any (λ y. same_configuration s.on y (step_of s x l)) s.configurations
 
 -- all six
 abbrev pub meets_checks : {R : Type 0} → Subject R → PlainConfiguration R → Letter → Bool
 meets_checks s x l =
     step_listed s x l
-    && entries_agree s.on (move_of s x l).phase (row_at s.rows (move_of s x l).next).kind (no_ind (before s x))
-    (kept s x l)
+    && entries_agree s.on (move_of s x l).phase (row_at s.rows (move_of s x l).next).kind (no_ind (entries_before s x))
+    (kept_entries s x l)
 
 -- the signs w lead from the start, over listed steps, to x
 pub data LeadsTo {R : Type 0} (s : Subject R) : List Letter → PlainConfiguration R → Type 0 where
   FromStart : (w : List Letter) (x : PlainConfiguration R) →
       w ≡ [] → x ≡ record { state = 0; live = [] } → LeadsTo s w x
   OneStepOn : (v w : List Letter) (x y : PlainConfiguration R) (l : Letter) →
-      LeadsTo s v x → IsTrue (step_listed s x l) → w ≡ v ++ l ∷ [] → y ≡ stepped s x l → LeadsTo s w y
+      LeadsTo s v x → IsTrue (step_listed s x l) → w ≡ v ++ l ∷ [] → y ≡ step_of s x l → LeadsTo s w y
 
 abbrev pub Reached : {R : Type 0} → Subject R → PlainConfiguration R → Type 0
 Reached s x = (w : List Letter) × LeadsTo s w x

@@ -35,12 +35,12 @@ shape_at [] i = NoWord
 shape_at (r ∷ rs) zero = r
 shape_at (r ∷ rs) (suc i) = shape_at rs i
 
-abbrev pub valued_entry : {X : Type 0} → List Shape → Entry X ℕ Tag → Entry X Shape Tag
-valued_entry rs e = record { mark = e.mark; residual = shape_at rs e.residual; tag = e.tag }
+abbrev pub entry_value : {X : Type 0} → List Shape → Entry X ℕ Tag → Entry X Shape Tag
+entry_value rs e = record { mark = e.mark; residual = shape_at rs e.residual; tag = e.tag }
 
 -- a configuration with its residuals themselves
-abbrev pub valued : List Shape → PlainConfiguration ℕ → PlainConfiguration Shape
-valued rs x = record { state = x.state; live = map (λ e. valued_entry rs e) x.live }
+abbrev pub configuration_value : List Shape → PlainConfiguration ℕ → PlainConfiguration Shape
+configuration_value rs x = record { state = x.state; live = map (λ e. entry_value rs e) x.live }
 
 -- rows against a pattern (its expression p and its trim b) by a plan
 abbrev pub subject : List Row → Shape → ℕ → PlainPlan → Subject Shape
@@ -49,7 +49,7 @@ subject rows p b plan =
       rows = rows;
       trim = b;
       whole = normal_form p;
-      configurations = map (λ x. valued plan.residuals x) plan.configurations;
+      configurations = map (λ x. configuration_value plan.residuals x) plan.configurations;
       on = shapes;
     }
 

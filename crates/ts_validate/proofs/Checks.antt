@@ -13,7 +13,7 @@ use Rattle.ts_pattern.specs.declared.plan.Tag.{Tag}
 use Rattle.ts_pattern.specs.declared.plan.Tag.TheVariants.{Young, Due, InD, InC, Loose}
 use Rattle.ts_pattern.specs.EachOf.{OneOf, First}
 use Rattle.ts_pattern.specs.Entries.{Entry, shapes}
-use Rattle.ts_pattern.specs.Closed.{is_due, is_ind, is_inc, tag_after, retag, implies, is_find, is_match, is_found_e, is_out_a, is_maybe_b, first_passes, acceptance_agrees, find_starts_right, early_find_ends, held_start_first, pending_keeps_start, entries_agree}
+use Rattle.ts_pattern.specs.Closed.{is_due, is_ind, is_inc, tag_after, retag_entries, implies, is_find, is_match, is_found_e, is_out_a, is_maybe_b, first_passes, acceptance_agrees, find_starts_right, early_find_ends, held_start_first, pending_keeps_start, entries_agree}
 use Rattle.ts_pattern.proofs.Ends.{Accepts}
 use Rattle.ts_validate.proofs.Traces.{IsShort, MeetsChecks}
 
@@ -76,12 +76,12 @@ starts Loose free q = absurd (false≢true q)
 
 -- a fact on the tag after the step, of an entry, is one on the entry with its new tag
 one_retagged : {X : Type 0} (f : Phase) (free : Bool) (P : Tag → Type 0) (es : List (Entry X Shape Tag)) → OneOf (λ e. P (tag_after f free e.tag)) es →
-    OneOf (λ e. P e.tag) (retag f free es)
+    OneOf (λ e. P e.tag) (retag_entries f free es)
 one_retagged f free P [] h = h
 one_retagged f free P (e ∷ es) h = ⊎_elim (λ a. inl a) (λ a. inr (one_retagged f free P es a)) h
 
 first_retagged : {X : Type 0} (f : Phase) (free : Bool) (P : Tag → Type 0) (es : List (Entry X Shape Tag)) → First (λ e. P (tag_after f free e.tag)) es →
-    First (λ e. P e.tag) (retag f free es)
+    First (λ e. P e.tag) (retag_entries f free es)
 first_retagged f free P [] h = h
 first_retagged f free P (e ∷ es) h = h
 

@@ -19,7 +19,7 @@ use Rattle.ts_pattern.specs.declared.plan.Tag.{Tag}
 use Rattle.ts_pattern.specs.EachOf.{Each}
 use Rattle.ts_pattern.specs.Entries.{Entry, shapes, survivors}
 use Rattle.ts_pattern.specs.OccurrenceList.{AreRanges}
-use Rattle.ts_pattern.specs.Closed.{PlainConfiguration, first_tag, no_ind, retag, appended, stepped, entries_agree, step_listed, FromStart, OneStepOn, Reached, IsClosed}
+use Rattle.ts_pattern.specs.Closed.{PlainConfiguration, first_tag, no_ind, retag_entries, with_start, step_of, entries_agree, step_listed, FromStart, OneStepOn, Reached, IsClosed}
 use Rattle.ts_pattern.specs.Plans.{PlainPlan, subject}
 use Rattle.ts_pattern.proofs.AllOccurrences.{ranges_are, are_ranges}
 use Rattle.ts_pattern.proofs.Entries.{shapes_right}
@@ -60,33 +60,33 @@ bare_agree f k free es = agree_renamed shapes shapes (λ (x : ℕ). tt) (λ r. r
     words [] = tt
     words (e ∷ es) = (record { nullable = refl; longer = refl }, words es)
 
-bare_appended : (k : ℕ) (p : Shape) (b : ℕ) (es : List (Entry ℕ Shape Tag)) → bare (appended k p b es) ≡ appended tt p b (bare es)
+bare_appended : (k : ℕ) (p : Shape) (b : ℕ) (es : List (Entry ℕ Shape Tag)) → bare (with_start k p b es) ≡ with_start tt p b (bare es)
 bare_appended k p b es = map-append (λ e. bare_entry e) es (record { mark = k; residual = p; tag = first_tag b } ∷ [])
 
-bare_free : (k : ℕ) (p : Shape) (b : ℕ) (es : List (Entry ℕ Shape Tag)) → no_ind (appended k p b es) ≡ no_ind (appended tt p b (bare es))
-bare_free k p b es = sym (no_ind_renamed (λ (x : ℕ). tt) (λ (r : Shape). r) (appended k p b es)) ∙ ap (λ z. no_ind z) (bare_appended k p b es)
+bare_free : (k : ℕ) (p : Shape) (b : ℕ) (es : List (Entry ℕ Shape Tag)) → no_ind (with_start k p b es) ≡ no_ind (with_start tt p b (bare es))
+bare_free k p b es = sym (no_ind_renamed (λ (x : ℕ). tt) (λ (r : Shape). r) (with_start k p b es)) ∙ ap (λ z. no_ind z) (bare_appended k p b es)
 
 bare_kept : (k : ℕ) (p : Shape) (b : ℕ) (l : Letter) (es : List (Entry ℕ Shape Tag)) →
-    bare (survivors shapes l (appended k p b es)) ≡ survivors shapes l (appended tt p b (bare es))
-bare_kept k p b l es = bare_survivors l (appended k p b es) ∙ ap (λ z. survivors shapes l z) (bare_appended k p b es)
+    bare (survivors shapes l (with_start k p b es)) ≡ survivors shapes l (with_start tt p b (bare es))
+bare_kept k p b l es = bare_survivors l (with_start k p b es) ∙ ap (λ z. survivors shapes l z) (bare_appended k p b es)
 
 -- the entries of the trace make the step of the plan
 bare_step : (k : ℕ) (p : Shape) (b : ℕ) (l : Letter) (f : Phase) (es : List (Entry ℕ Shape Tag)) →
-    bare (retag f (no_ind (appended k p b es)) (survivors shapes l (appended k p b es)))
-    ≡ retag f (no_ind (appended tt p b (bare es))) (survivors shapes l (appended tt p b (bare es)))
+    bare (retag_entries f (no_ind (with_start k p b es)) (survivors shapes l (with_start k p b es)))
+    ≡ retag_entries f (no_ind (with_start tt p b (bare es))) (survivors shapes l (with_start tt p b (bare es)))
 bare_step k p b l f es =
-    retag_renamed (λ (x : ℕ). tt) (λ (r : Shape). r) f (no_ind (appended k p b es)) (survivors shapes l (appended k p b es))
-    ∙ ap (λ z. retag f z (bare (survivors shapes l (appended k p b es)))) (bare_free k p b es)
-    ∙ ap (λ z. retag f (no_ind (appended tt p b (bare es))) z) (bare_kept k p b l es)
+    retag_renamed (λ (x : ℕ). tt) (λ (r : Shape). r) f (no_ind (with_start k p b es)) (survivors shapes l (with_start k p b es))
+    ∙ ap (λ z. retag_entries f z (bare (survivors shapes l (with_start k p b es)))) (bare_free k p b es)
+    ∙ ap (λ z. retag_entries f (no_ind (with_start tt p b (bare es))) z) (bare_kept k p b l es)
 
 -- and meet the plan's checks
 agree_traced : (k : ℕ) (p : Shape) (b : ℕ) (l : Letter) (f : Phase) (k' : Kind) (es : List (Entry ℕ Shape Tag)) →
-    entries_agree shapes f k' (no_ind (appended tt p b (bare es))) (survivors shapes l (appended tt p b (bare es))) ≡ true →
-    entries_agree shapes f k' (no_ind (appended k p b es)) (survivors shapes l (appended k p b es)) ≡ true
+    entries_agree shapes f k' (no_ind (with_start tt p b (bare es))) (survivors shapes l (with_start tt p b (bare es))) ≡ true →
+    entries_agree shapes f k' (no_ind (with_start k p b es)) (survivors shapes l (with_start k p b es)) ≡ true
 agree_traced k p b l f k' es h =
-    bare_agree f k' (no_ind (appended k p b es)) (survivors shapes l (appended k p b es))
-    ∙ ap (λ z. entries_agree shapes f k' z (bare (survivors shapes l (appended k p b es)))) (bare_free k p b es)
-    ∙ ap (λ z. entries_agree shapes f k' (no_ind (appended tt p b (bare es))) z) (bare_kept k p b l es)
+    bare_agree f k' (no_ind (with_start k p b es)) (survivors shapes l (with_start k p b es))
+    ∙ ap (λ z. entries_agree shapes f k' z (bare (survivors shapes l (with_start k p b es)))) (bare_free k p b es)
+    ∙ ap (λ z. entries_agree shapes f k' (no_ind (with_start tt p b (bare es))) z) (bare_kept k p b l es)
     ∙ h
 
 -- the run of the trace over the signs, from the state q after k signs
@@ -113,20 +113,20 @@ traced_run rows ty p b a plan cl (l ∷ ls) w k q x e s g h =
     let y : Trace = trace_step shapes (normal_form p) a b k l (phase_at rows q l) (kind_at rows (next_at rows q l)) x in
     let at : PlainConfiguration Shape = record { state = q; live = bare x.live } in
     let fine = and_parts (step_listed (subject rows p b plan) at l)
-    (entries_agree shapes (phase_at rows q l) (kind_at rows (next_at rows q l)) (no_ind (appended tt (normal_form p) b (bare x.live)))
-    (survivors shapes l (appended tt (normal_form p) b (bare x.live)))) (cl at g l) in
+    (entries_agree shapes (phase_at rows q l) (kind_at rows (next_at rows q l)) (no_ind (with_start tt (normal_form p) b (bare x.live)))
+    (survivors shapes l (with_start tt (normal_form p) b (bare x.live)))) (cl at g l) in
     let typed : Typed x.state (phase_at rows q l) (kind_at rows (next_at rows q l)) =
     subst (λ z. Typed z (phase_at rows q l) (kind_at rows (next_at rows q l))) (sym s)
     (move_typed rows ty q l) in
-    let ch = checks_met (phase_at rows q l) (kind_at rows (next_at rows q l)) (no_ind (appended (length w) (normal_form p) b x.live))
-    (survivors shapes l (appended (length w) (normal_form p) b x.live))
+    let ch = checks_met (phase_at rows q l) (kind_at rows (next_at rows q l)) (no_ind (with_start (length w) (normal_form p) b x.live))
+    (survivors shapes l (with_start (length w) (normal_form p) b x.live))
     (agree_traced (length w) (normal_form p) b l (phase_at rows q l) (kind_at rows (next_at rows q l)) x.live fine.1) in
     let one : IsTraced p a b (w ++ l ∷ []) y =
     subst (λ z. IsTraced p a b (w ++ l ∷ []) (trace_step shapes (normal_form p) a b z l (phase_at rows q l) (kind_at rows (next_at rows q l)) x)) (sym e)
     (traced_step shapes shapes_right p (normal_form p) (λ v i. (normal_law p v).0 i) (λ v i. (normal_law p v).1 i) a b w l (phase_at rows q l)
     (kind_at rows (next_at rows q l)) x typed ch h) in
     let long : k + 1 ≡ length (w ++ l ∷ []) = (let n = length-append w (l ∷ []) in omega arith) in
-    let same : record { state = next_at rows q l; live = bare y.live } ≡ stepped (subject rows p b plan) at l =
+    let same : record { state = next_at rows q l; live = bare y.live } ≡ step_of (subject rows p b plan) at l =
     ap (λ z. record { state = next_at rows q l; live = z }) (bare_step k (normal_form p) b l (phase_at rows q l) x.live) in
     let on : Reached (subject rows p b plan) (record { state = next_at rows q l; live = bare y.live }) =
     (g.0 ++ l ∷ [], OneStepOn g.0 (g.0 ++ l ∷ []) at (record { state = next_at rows q l; live = bare y.live }) l g.1 fine.0 refl same) in

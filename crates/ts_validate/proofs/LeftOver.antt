@@ -8,7 +8,7 @@ use Rattle.ts_base.specs.declared.letter.Letter.{Letter}
 use Rattle.ts_pattern.specs.declared.plan.Tag.{Tag}
 use Rattle.ts_pattern.specs.declared.plan.Live.{Live}
 use Rattle.ts_pattern.specs.Entries.{Entry, derive_entry, survivors, with_entry}
-use Rattle.ts_pattern.specs.Closed.{first_tag, appended}
+use Rattle.ts_pattern.specs.Closed.{first_tag, with_start}
 use Rattle.ts_pattern.specs.Plans.{plain_live}
 use Rattle.ts_validate.specs.declared.known.Known.{Known}
 use Rattle.ts_validate.specs.Numbers.{known_at, next_on, plain_lives, numbers}
@@ -37,7 +37,7 @@ left_more table l live i d old new q h k =
 pub left_last : (table : List Known) (l : Letter) (b : ℕ) (live : List Live) (i : ℕ) (g : Tag) (old new : List Live) → length live ≤ i → g ≡ first_tag b →
     plain_lives old ≡ survivors (numbers table) l (plain_lives (take i live)) →
     plain_lives new ≡ with_entry (numbers table) (plain_lives old) (left_entry table l (record { residual = 0; tag = g })) →
-    plain_lives new ≡ survivors (numbers table) l (appended tt 0 b (plain_lives live))
+    plain_lives new ≡ survivors (numbers table) l (with_start tt 0 b (plain_lives live))
 left_last table l b live i g old new q t h k =
     k ∙ ap (λ z. with_entry (numbers table) (plain_lives old) (left_entry table l (record { residual = 0; tag = z }))) t
     ∙ ap (λ z. with_entry (numbers table) z (left_entry table l (record { residual = 0; tag = first_tag b })))

@@ -17,7 +17,7 @@ use Rattle.ts_pattern.specs.declared.plan.Tag.{Tag}
 use Rattle.ts_pattern.specs.declared.plan.Live.{Live}
 use Rattle.ts_pattern.specs.declared.plan.Configuration.{Configuration}
 use Rattle.ts_pattern.specs.Entries.{Entry, survivors}
-use Rattle.ts_pattern.specs.Closed.{PlainConfiguration, Subject, is_ind, first_tag, tag_after, no_ind, retag, appended, move_of, before, kept, stepped, entries_agree, same_tag, same_live, same_configuration}
+use Rattle.ts_pattern.specs.Closed.{PlainConfiguration, Subject, is_ind, first_tag, tag_after, no_ind, retag_entries, with_start, move_of, entries_before, kept_entries, step_of, entries_agree, same_tag, same_live, same_configuration}
 use Rattle.ts_pattern.specs.Plans.{plain_live, plain_configuration}
 use Rattle.ts_validate.specs.declared.known.Known.{Known}
 use Rattle.ts_validate.specs.declared.facts.Facts.{Facts}
@@ -48,7 +48,7 @@ swap false false c = refl
 
 zip_same : (table : List Known) (f : Phase) (free : Bool) (xs es : List Live) →
     (length xs == length es) && list_all (λ p. entry_same table f free p.0 p.1) (zip xs es)
-    ≡ same_live (numbers table) (plain_lives xs) (retag f free (plain_lives es))
+    ≡ same_live (numbers table) (plain_lives xs) (retag_entries f free (plain_lives es))
 zip_same table f free [] [] = refl
 zip_same table f free [] (e ∷ es) = ap (λ z. z && true) (eqb-zero-suc (length es))
 zip_same table f free (x ∷ xs) [] = ap (λ z. z && true) (eqb-suc-zero (length xs))
@@ -57,16 +57,16 @@ zip_same table f free (x ∷ xs) (e ∷ es) =
     ∙ swap (length xs == length es) (entry_same table f free x e) (list_all (λ p. entry_same table f free p.0 p.1) (zip xs es))
     ∙ ap (λ z. entry_same table f free x e && z) (zip_same table f free xs es)
     ∙ assoc ((known_at table x.residual).own == (known_at table e.residual).own) (same_tag x.tag (tag_after f free e.tag))
-    (same_live (numbers table) (plain_lives xs) (retag f free (plain_lives es)))
+    (same_live (numbers table) (plain_lives xs) (retag_entries f free (plain_lives es)))
 
 pub same_yes : (table : List Known) (f : Phase) (free : Bool) (xs es : List Live) (r : Bool) →
     r ≡ list_all (λ p. entry_same table f free p.0 p.1) (zip xs es) → length xs ≡ length es →
-    r ≡ same_live (numbers table) (plain_lives xs) (retag f free (plain_lives es))
+    r ≡ same_live (numbers table) (plain_lives xs) (retag_entries f free (plain_lives es))
 same_yes table f free xs es r e q =
     e ∙ ap (λ z. z && list_all (λ p. entry_same table f free p.0 p.1) (zip xs es)) (sym (eq-eqb (length xs) (length es) q)) ∙ zip_same table f free xs es
 
 pub same_no : (table : List Known) (f : Phase) (free : Bool) (xs es : List Live) → (length xs ≡ length es → ⊥) →
-    (length xs == length es) ≡ same_live (numbers table) (plain_lives xs) (retag f free (plain_lives es))
+    (length xs == length es) ≡ same_live (numbers table) (plain_lives xs) (retag_entries f free (plain_lives es))
 same_no table f free xs es q = ⊎_elim
     (λ c. absurd (q c.1))
     (λ c. c.0 ∙ ap (λ z. z && list_all (λ p. entry_same table f free p.0 p.1) (zip xs es)) (sym c.0) ∙ zip_same table f free xs es)
@@ -85,7 +85,7 @@ new_free : (b : ℕ) → not (is_ind (first_tag b)) ≡ true
 new_free zero = refl
 new_free (suc b) = refl
 
-free_is : (b : ℕ) (live : List Live) → list_all (λ e. not (is_ind e.tag)) live ≡ no_ind (appended tt 0 b (plain_lives live))
+free_is : (b : ℕ) (live : List Live) → list_all (λ e. not (is_ind e.tag)) live ≡ no_ind (with_start tt 0 b (plain_lives live))
 free_is b live =
     all_mapped (λ (e : Entry (Unit {0}) ℕ Tag). not (is_ind e.tag)) (λ e. plain_live e) live
     ∙ sym (and_true (list_all (λ (e : Entry (Unit {0}) ℕ Tag). not (is_ind e.tag)) (plain_lives live)) (not (is_ind (first_tag b))) (new_free b))
@@ -93,7 +93,7 @@ free_is b live =
 
 listed_is : (table : List Known) (l : Letter) (b : ℕ) (live : List Live) →
     list_all (λ e. is_listed table l e.residual) live && is_listed table l 0
-    ≡ all_listed table l (appended tt 0 b (plain_lives live))
+    ≡ all_listed table l (with_start tt 0 b (plain_lives live))
 listed_is table l b live =
     ap (λ z. z && is_listed table l 0)
     (all_mapped (λ (e : Entry (Unit {0}) ℕ Tag). is_listed table l e.residual) (λ e. plain_live e) live)
@@ -121,9 +121,9 @@ look_meets false n a = refl
 pub record Computed (rows : List Row) (table : List Known) (b : ℕ) (cs : List Configuration) (here : Configuration) (l : Letter) (arrow : Arrow)
     (left : List Live) (free listed : Bool) (next : Option ℕ) : Type 0 where
   pub arrow_is : arrow ≡ arrow_on l (row_at rows here.state)
-  pub left_is : plain_lives left ≡ survivors (numbers table) l (appended tt 0 b (plain_lives here.live.items))
-  pub free_is : free ≡ no_ind (appended tt 0 b (plain_lives here.live.items))
-  pub listed_is : listed ≡ all_listed table l (appended tt 0 b (plain_lives here.live.items))
+  pub left_is : plain_lives left ≡ survivors (numbers table) l (with_start tt 0 b (plain_lives here.live.items))
+  pub free_is : free ≡ no_ind (with_start tt 0 b (plain_lives here.live.items))
+  pub listed_is : listed ≡ all_listed table l (with_start tt 0 b (plain_lives here.live.items))
   pub next_is : next ≡ position (λ y. same_configuration (numbers table) (plain_configuration y)
       (configuration_after arrow free left)) cs
 
@@ -133,13 +133,13 @@ next_of : (rows : List Row) (table : List Known) (b : ℕ) (cs : List Configurat
 next_of rows table b cs here l arrow left free listed next h =
     let s : Subject ℕ = numbered_subject rows table b (plain_configurations cs) in
     let x : PlainConfiguration ℕ = plain_configuration here in
-    let to : PlainConfiguration ℕ = stepped s x l in
+    let to : PlainConfiguration ℕ = step_of s x l in
     let same : configuration_after arrow free left ≡ to =
-    ap (λ (z : Arrow). record { state = z.next; live = retag z.phase free (plain_lives left) }) h.arrow_is
-    ∙ ap (λ z. record { state = (move_of s x l).next; live = retag (move_of s x l).phase z (plain_lives left) }) h.free_is
-    ∙ ap (λ z. record { state = (move_of s x l).next; live = retag (move_of s x l).phase (no_ind (before s x)) z }) h.left_is in
+    ap (λ (z : Arrow). record { state = z.next; live = retag_entries z.phase free (plain_lives left) }) h.arrow_is
+    ∙ ap (λ z. record { state = (move_of s x l).next; live = retag_entries (move_of s x l).phase z (plain_lives left) }) h.free_is
+    ∙ ap (λ z. record { state = (move_of s x l).next; live = retag_entries (move_of s x l).phase (no_ind (entries_before s x)) z }) h.left_is in
     ap (λ z. cond z next None) h.listed_is
-    ∙ ap (λ z. cond (all_listed table l (before s x)) z None)
+    ∙ ap (λ z. cond (all_listed table l (entries_before s x)) z None)
     (h.next_is ∙ ap (λ z. position (λ y. same_configuration (numbers table) (plain_configuration y) z) cs) same
     ∙ place_mapped (λ y. same_configuration (numbers table) y to) (λ y. plain_configuration y) cs)
 
@@ -157,11 +157,12 @@ pub meets_seen : (rows : List Row) (table : List Known) (b : ℕ) (cs : List Con
 meets_seen rows table b cs here l arrow left free listed next agree look h q facts kind u v w =
     let s : Subject ℕ = numbered_subject rows table b (plain_configurations cs) in
     let x : PlainConfiguration ℕ = plain_configuration here in
-    let agreed : agree ≡ entries_agree (numbers table) (move_of s x l).phase (row_at rows (move_of s x l).next).kind (no_ind (before s x)) (kept s x l) =
+    let agreed : agree ≡ entries_agree (numbers table) (move_of s x l).phase (row_at rows (move_of s x l).next).kind (no_ind (entries_before s x))
+    (kept_entries s x l) =
     w ∙ ap (λ z. facts_agree z arrow.phase kind) u ∙ ap (λ z. entries_agree (numbers table) arrow.phase z free (plain_lives left)) v
     ∙ ap (λ (z : Arrow). entries_agree (numbers table) z.phase (row_at rows z.next).kind free (plain_lives left)) h.arrow_is
     ∙ ap (λ z. entries_agree (numbers table) (move_of s x l).phase (row_at rows (move_of s x l).next).kind z (plain_lives left)) h.free_is
-    ∙ ap (λ z. entries_agree (numbers table) (move_of s x l).phase (row_at rows (move_of s x l).next).kind (no_ind (before s x)) z) h.left_is in
+    ∙ ap (λ z. entries_agree (numbers table) (move_of s x l).phase (row_at rows (move_of s x l).next).kind (no_ind (entries_before s x)) z) h.left_is in
     ap (λ (z : Look). z.meets) q ∙ look_meets listed next agree
     ∙ ap (λ z. is_some z && agree) (next_of rows table b cs here l arrow left free listed next h)
     ∙ ap (λ z. is_some (next_place table s x l) && z) agreed
@@ -169,7 +170,7 @@ meets_seen rows table b cs here l arrow left free listed next agree look h q fac
 pub computed : (rows : List Row) (table : List Known) (b : ℕ) (cs : List Configuration) (here : Configuration) (l : Letter) (arrow : Arrow)
     (left live : List Live) (free listed : Bool) (next : Option ℕ) (row : Row) (slice : List Live) →
     live ≡ here.live.items → row ≡ row_or (slice_get rows here.state) → arrow ≡ arrow_on l row →
-    plain_lives left ≡ survivors (numbers table) l (appended tt 0 b (plain_lives live)) →
+    plain_lives left ≡ survivors (numbers table) l (with_start tt 0 b (plain_lives live)) →
     free ≡ list_all (λ e. not (is_ind e.tag)) live →
     listed ≡ (list_all (λ e. is_listed table l e.residual) live && is_listed table l 0) → slice ≡ left →
     next ≡ position (λ y. same_configuration (numbers table) (plain_configuration y)
@@ -178,9 +179,9 @@ pub computed : (rows : List Row) (table : List Known) (b : ℕ) (cs : List Confi
 computed rows table b cs here l arrow left live free listed next row slice hl hr ha hk hf hi hs hp =
     record {
       arrow_is = ha ∙ ap (λ z. arrow_on l z) (hr ∙ row_is rows here.state);
-      left_is = hk ∙ ap (λ z. survivors (numbers table) l (appended tt 0 b (plain_lives z))) hl;
-      free_is = hf ∙ free_is b live ∙ ap (λ z. no_ind (appended tt 0 b (plain_lives z))) hl;
-      listed_is = hi ∙ listed_is table l b live ∙ ap (λ z. all_listed table l (appended tt 0 b (plain_lives z))) hl;
+      left_is = hk ∙ ap (λ z. survivors (numbers table) l (with_start tt 0 b (plain_lives z))) hl;
+      free_is = hf ∙ free_is b live ∙ ap (λ z. no_ind (with_start tt 0 b (plain_lives z))) hl;
+      listed_is = hi ∙ listed_is table l b live ∙ ap (λ z. all_listed table l (with_start tt 0 b (plain_lives z))) hl;
       next_is = hp ∙ ap
           (λ z. position
           (λ y. same_configuration (numbers table) (plain_configuration y)

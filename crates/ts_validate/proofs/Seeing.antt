@@ -15,8 +15,8 @@ use Rattle.ts_pattern.specs.declared.plan.Tag.TheVariants.{Young, Due, InD, InC,
 use Rattle.ts_pattern.specs.declared.plan.Configuration.{Configuration}
 use Rattle.ts_pattern.specs.EachOf.{Each}
 use Rattle.ts_pattern.specs.Entries.{Entry, shapes}
-use Rattle.ts_pattern.specs.Closed.{PlainConfiguration, Subject, stepped, first_passes, same_tag, same_live, same_configuration, step_listed, meets_checks}
-use Rattle.ts_pattern.specs.Plans.{shape_at, valued, subject, plain_configuration, is_plan_of, is_blank}
+use Rattle.ts_pattern.specs.Closed.{PlainConfiguration, Subject, step_of, first_passes, same_tag, same_live, same_configuration, step_listed, meets_checks}
+use Rattle.ts_pattern.specs.Plans.{shape_at, configuration_value, subject, plain_configuration, is_plan_of, is_blank}
 use Rattle.ts_pattern.proofs.Entries.{shapes_right}
 use Rattle.ts_pattern.proofs.Tested.{configuration_is}
 use Rattle.ts_validate.specs.declared.known.Known.{Known}
@@ -81,32 +81,35 @@ place_none p xs q = go (nat_lt (position_or_len p xs) (length xs)) refl q
 -- where a test of numbers and one of values agree
 
 found_at : (p : PlainConfiguration ℕ → Bool) (q : PlainConfiguration Shape → Bool) (rs : List Shape) (xs : List (PlainConfiguration ℕ)) →
-    Each (λ x. p x ≡ q (valued rs x)) xs → position_or_len p xs < length xs → q (configuration_at (map (λ x. valued rs x) xs) (position_or_len p xs)) ≡ true
+    Each (λ x. p x ≡ q (configuration_value rs x)) xs → position_or_len p xs < length xs →
+    q (configuration_at (map (λ x. configuration_value rs x) xs) (position_or_len p xs)) ≡ true
 found_at p q rs [] e h = absurd (omega (arith, h))
 found_at p q rs (x ∷ xs) e h = go (p x) refl e.0 (found_at p q rs xs e.1) h
   where
-    on : (n : ℕ) → q (configuration_at (map (λ x. valued rs x) xs) n) ≡ true → q (configuration_at (map (λ x. valued rs x) (x ∷ xs)) (1 + n)) ≡ true
-    on n t = ap (λ z. q (configuration_at (map (λ x. valued rs x) (x ∷ xs)) z)) (let u : 1 + n ≡ suc n = omega arith in u) ∙ t
+    on : (n : ℕ) → q (configuration_at (map (λ x. configuration_value rs x) xs) n) ≡ true →
+        q (configuration_at (map (λ x. configuration_value rs x) (x ∷ xs)) (1 + n)) ≡ true
+    on n t = ap (λ z. q (configuration_at (map (λ x. configuration_value rs x) (x ∷ xs)) z)) (let u : 1 + n ≡ suc n = omega arith in u) ∙ t
 
-    go : (b : Bool) → p x ≡ b → p x ≡ q (valued rs x) →
-        (position_or_len p xs < length xs → q (configuration_at (map (λ x. valued rs x) xs) (position_or_len p xs)) ≡ true) →
+    go : (b : Bool) → p x ≡ b → p x ≡ q (configuration_value rs x) →
+        (position_or_len p xs < length xs → q (configuration_at (map (λ x. configuration_value rs x) xs) (position_or_len p xs)) ≡ true) →
         cond (not b) (1 + position_or_len p xs) 0 < suc (length xs) →
-        q (configuration_at (map (λ x. valued rs x) (x ∷ xs)) (cond (not b) (1 + position_or_len p xs) 0)) ≡ true
+        q (configuration_at (map (λ x. configuration_value rs x) (x ∷ xs)) (cond (not b) (1 + position_or_len p xs) 0)) ≡ true
     go true t u m s = sym u ∙ t
     go false t u m s = on (position_or_len p xs) (m (omega (arith, s)))
 
 none_before : (p : PlainConfiguration ℕ → Bool) (q : PlainConfiguration Shape → Bool) (rs : List Shape) (xs : List (PlainConfiguration ℕ)) →
-    Each (λ x. p x ≡ q (valued rs x)) xs → (i : ℕ) → i < position_or_len p xs → q (configuration_at (map (λ x. valued rs x) xs) i) ≡ false
+    Each (λ x. p x ≡ q (configuration_value rs x)) xs → (i : ℕ) → i < position_or_len p xs →
+    q (configuration_at (map (λ x. configuration_value rs x) xs) i) ≡ false
 none_before p q rs [] e i h = absurd (omega (arith, h))
 none_before p q rs (x ∷ xs) e zero h = go (p x) refl e.0 h
   where
-    go : (b : Bool) → p x ≡ b → p x ≡ q (valued rs x) → 0 < cond (not b) (1 + position_or_len p xs) 0 → q (valued rs x) ≡ false
+    go : (b : Bool) → p x ≡ b → p x ≡ q (configuration_value rs x) → 0 < cond (not b) (1 + position_or_len p xs) 0 → q (configuration_value rs x) ≡ false
     go true t u s = absurd (omega (arith, s))
     go false t u s = sym u ∙ t
 none_before p q rs (x ∷ xs) e (suc i) h = go (p x) (none_before p q rs xs e.1 i) h
   where
-    go : (b : Bool) → (i < position_or_len p xs → q (configuration_at (map (λ x. valued rs x) xs) i) ≡ false) →
-        suc i < cond (not b) (1 + position_or_len p xs) 0 → q (configuration_at (map (λ x. valued rs x) xs) i) ≡ false
+    go : (b : Bool) → (i < position_or_len p xs → q (configuration_at (map (λ x. configuration_value rs x) xs) i) ≡ false) →
+        suc i < cond (not b) (1 + position_or_len p xs) 0 → q (configuration_at (map (λ x. configuration_value rs x) xs) i) ≡ false
     go true m s = absurd (omega (arith, s))
     go false m s = m (omega (arith, s))
 
@@ -121,19 +124,21 @@ any_at q (x ∷ xs) (suc i) h t = last (q x) (list_any q xs) (any_at q xs i (ome
     last false b s = s
 
 none_any : (p : PlainConfiguration ℕ → Bool) (q : PlainConfiguration Shape → Bool) (rs : List Shape) (xs : List (PlainConfiguration ℕ)) →
-    Each (λ x. p x ≡ q (valued rs x)) xs → length xs ≤ position_or_len p xs → list_any q (map (λ x. valued rs x) xs) ≡ false
+    Each (λ x. p x ≡ q (configuration_value rs x)) xs → length xs ≤ position_or_len p xs → list_any q (map (λ x. configuration_value rs x) xs) ≡ false
 none_any p q rs [] e h = refl
 none_any p q rs (x ∷ xs) e h = go (p x) refl e.0 (none_any p q rs xs e.1) h
   where
-    go : (b : Bool) → p x ≡ b → p x ≡ q (valued rs x) → (length xs ≤ position_or_len p xs → list_any q (map (λ x. valued rs x) xs) ≡ false) →
-        suc (length xs) ≤ cond (not b) (1 + position_or_len p xs) 0 → q (valued rs x) || list_any q (map (λ x. valued rs x) xs) ≡ false
+    go : (b : Bool) → p x ≡ b → p x ≡ q (configuration_value rs x) → (length xs ≤ position_or_len p xs →
+        list_any q (map (λ x. configuration_value rs x) xs) ≡ false) →
+        suc (length xs) ≤ cond (not b) (1 + position_or_len p xs) 0 → q (configuration_value rs x) || list_any q
+        (map (λ x. configuration_value rs x) xs) ≡ false
     go true t u m s = absurd (omega (arith, s))
-    go false t u m s = ap (λ z. z || list_any q (map (λ x. valued rs x) xs)) (sym u ∙ t) ∙ m (omega (arith, s))
+    go false t u m s = ap (λ z. z || list_any q (map (λ x. configuration_value rs x) xs)) (sym u ∙ t) ∙ m (omega (arith, s))
 
 each_same : (rows : List Row) (p : Shape) (b : ℕ) (rs : List Shape) (all xs : List (PlainConfiguration ℕ)) → IsFor p rs all → (x : PlainConfiguration ℕ) →
     HasNumbers rs x → (l : Letter) → is_listed_after rs b x l ≡ true → Each (HasNumbers rs) xs →
     Each (λ y. is_step rows b rs all x l y
-    ≡ same_configuration shapes (valued rs y) (stepped (by_value rows p b rs all) (valued rs x) l)) xs
+    ≡ same_configuration shapes (configuration_value rs y) (step_of (by_value rows p b rs all) (configuration_value rs x) l)) xs
 each_same rows p b rs all [] i x h l a k = tt
 each_same rows p b rs all (y ∷ xs) i x h l a k = (same_valued rows p b rs all i x y h k.0 l a, each_same rows p b rs all xs i x h l a k.1)
 
@@ -159,25 +164,25 @@ pub sees : (rows : List Row) (p : Shape) (b : ℕ) (rs : List Shape) (xs : List 
     HasNumbers rs x → (l : Letter) (k : Look) →
     k.next ≡ next_place (table_of rs) (by_number rows b rs xs) x l →
     k.meets ≡ number_meets (table_of rs) (by_number rows b rs xs) x l →
-    Sees (by_value rows p b rs xs) (valued rs x) l k
+    Sees (by_value rows p b rs xs) (configuration_value rs x) l k
 sees rows p b rs xs i x h l k q m = go (is_listed_after rs b x l) refl q m
   where
     agree : (o : Option ℕ) → is_listed_after rs b x l ≡ true → (b' : Bool) →
-        step_listed (by_value rows p b rs xs) (valued rs x) l ≡ b' → is_some o ≡ b' →
+        step_listed (by_value rows p b rs xs) (configuration_value rs x) l ≡ b' → is_some o ≡ b' →
         k.meets ≡ (is_some o && agrees (by_number rows b rs xs) x l) →
-        k.meets ≡ meets_checks (by_value rows p b rs xs) (valued rs x) l
+        k.meets ≡ meets_checks (by_value rows p b rs xs) (configuration_value rs x) l
     agree o a b' t u v =
         v ∙ ap (λ z. is_some o && z) (agree_valued rows p b rs xs i x h l a)
-        ∙ ap (λ z. z && agrees (by_value rows p b rs xs) (valued rs x) l) (u ∙ sym t)
+        ∙ ap (λ z. z && agrees (by_value rows p b rs xs) (configuration_value rs x) l) (u ∙ sym t)
 
     inner : is_listed_after rs b x l ≡ true → (o : Option ℕ) →
         position (λ y. is_step rows b rs xs x l y) xs ≡ o → k.next ≡ o →
         k.meets ≡ (is_some o && agrees (by_number rows b rs xs) x l) →
-        Sees (by_value rows p b rs xs) (valued rs x) l k
+        Sees (by_value rows p b rs xs) (configuration_value rs x) l k
     inner a None e u v =
         let s : Subject Shape = by_value rows p b rs xs in
-        let to : PlainConfiguration Shape = stepped s (valued rs x) l in
-        let no : step_listed s (valued rs x) l ≡ false =
+        let to : PlainConfiguration Shape = step_of s (configuration_value rs x) l in
+        let no : step_listed s (configuration_value rs x) l ≡ false =
         none_any (λ y. is_step rows b rs xs x l y)
         (λ y. same_configuration shapes y to) rs xs
         (each_same rows p b rs xs xs i x h l a i.numbers)
@@ -185,15 +190,15 @@ sees rows p b rs xs i x h l k q m = go (is_listed_after rs b x l) refl q m
         record { none = λ q. no; some = λ j q. absurd (none-some j (sym u ∙ q)); meets = agree None a false no refl v }
     inner a (Some m) e u v =
         let s : Subject Shape = by_value rows p b rs xs in
-        let to : PlainConfiguration Shape = stepped s (valued rs x) l in
+        let to : PlainConfiguration Shape = step_of s (configuration_value rs x) l in
         let test : PlainConfiguration ℕ → Bool = (λ y. is_step rows b rs xs x l y) in
         let same : PlainConfiguration Shape → Bool = (λ y. same_configuration shapes y to) in
-        let each : Each (λ y. test y ≡ same (valued rs y)) xs = each_same rows p b rs xs xs i x h l a i.numbers in
+        let each : Each (λ y. test y ≡ same (configuration_value rs y)) xs = each_same rows p b rs xs xs i x h l a i.numbers in
         let f = place_some test xs m e in
-        let size : length s.configurations ≡ length xs = length-map xs (λ y. valued rs y) in
+        let size : length s.configurations ≡ length xs = length-map xs (λ y. configuration_value rs y) in
         let there : same (value_at s m) ≡ true = subst (λ z. same (value_at s z) ≡ true) (sym f.0) (found_at test same rs xs each f.1) in
         let short : m < length s.configurations = (let g0 = f.0 in let g1 = f.1 in omega arith) in
-        let yes : step_listed s (valued rs x) l ≡ true = any_at same s.configurations m short there in
+        let yes : step_listed s (configuration_value rs x) l ≡ true = any_at same s.configurations m short there in
         record {
           none = λ q. absurd (none-some m (sym q ∙ u));
           some = λ j q. let z : m ≡ j = same_Some m j (sym u ∙ q) in (
@@ -212,22 +217,22 @@ sees rows p b rs xs i x h l k q m = go (is_listed_after rs b x l) refl q m
         k.meets ≡ (is_some
         (cond a (position (λ y. is_step rows b rs xs x l y) xs) None)
         && agrees (by_number rows b rs xs) x l) →
-        Sees (by_value rows p b rs xs) (valued rs x) l k
+        Sees (by_value rows p b rs xs) (configuration_value rs x) l k
     go true e u v = inner e (position (λ y. is_step rows b rs xs x l y) xs) refl u v
     go false e u v =
         let s : Subject Shape = by_value rows p b rs xs in
-        let no : step_listed s (valued rs x) l ≡ false = not_listed rows p b rs xs i x h l e in
+        let no : step_listed s (configuration_value rs x) l ≡ false = not_listed rows p b rs xs i x h l e in
         record {
           none = λ q. no;
           some = λ j q. absurd (none-some j (sym u ∙ q));
           meets = v ∙ sym
-              (ap (λ z. z && agrees s (valued rs x) l) no);
+              (ap (λ z. z && agrees s (configuration_value rs x) l) no);
         }
 
 -- configuration i of a plan
 
 value_is : (rs : List Shape) (xs : List (PlainConfiguration ℕ)) (i : ℕ) → i < length xs →
-    configuration_at (map (λ x. valued rs x) xs) i ≡ valued rs (configuration_at xs i)
+    configuration_at (map (λ x. configuration_value rs x) xs) i ≡ configuration_value rs (configuration_at xs i)
 value_is rs [] i q = absurd (omega (arith, q))
 value_is rs (x ∷ xs) zero q = refl
 value_is rs (x ∷ xs) (suc i) q = value_is rs xs i (omega (arith, q))

@@ -15,8 +15,8 @@ use Rattle.ts_transducer.specs.declared.row.Row.{Row}
 use Rattle.ts_pattern.specs.declared.pattern.Pattern.{Pattern}
 use Rattle.ts_pattern.specs.declared.plan.Plan.{Plan}
 use Rattle.ts_pattern.specs.declared.plan.Configuration.{Configuration}
-use Rattle.ts_pattern.specs.Plans.{plain_plan, plain_configuration, valued, is_blank, is_plan_of}
-use Rattle.ts_pattern.specs.Closed.{PlainConfiguration, Subject, first_passes, stepped, step_listed}
+use Rattle.ts_pattern.specs.Plans.{plain_plan, plain_configuration, configuration_value, is_blank, is_plan_of}
+use Rattle.ts_pattern.specs.Closed.{PlainConfiguration, Subject, first_passes, step_of, step_listed}
 use Rattle.ts_validate.specs.declared.step.Look.{Look}
 use Rattle.ts_validate.specs.declared.arrival.Arrival.{Arrival}
 use Rattle.ts_validate.specs.declared.arrival.Tour.{Tour}
@@ -109,7 +109,7 @@ started s n arrivals places e q a o =
 
 pub more_reached : (s : Subject Shape) (xs : List Arrival) (os : List (Option ℕ)) → Reaches s xs os → (next from : ℕ) (l : Letter) → from < length xs →
     next < length s.configurations → place_at os next ≡ None →
-    step_listed s (value_of s xs from) l ≡ true → value_at s next ≡ stepped s (value_of s xs from) l →
+    step_listed s (value_of s xs from) l ≡ true → value_at s next ≡ step_of s (value_of s xs from) l →
     Reaches s (xs ++ arrival next from l ∷ []) (set os next (Some (length xs)))
 more_reached s xs os h next from l f i e t v =
     let a : Arrival = arrival next from l in
@@ -149,11 +149,11 @@ more_reached s xs os h next from l f i e t v =
     goes_last u w q =
         subst (λ (z : Arrival). (z.from < length xs)
         × (step_listed s (value_of s (xs ++ arrival next from l ∷ []) z.from) z.letter ≡ true)
-        × (value_at s z.configuration ≡ stepped s (value_of s (xs ++ arrival next from l ∷ []) z.from) z.letter))
+        × (value_at s z.configuration ≡ step_of s (value_of s (xs ++ arrival next from l ∷ []) z.from) z.letter))
         (sym u) (
           q,
           subst (λ (z : Arrival). step_listed s (value_at s z.configuration) l ≡ true) (sym w) t,
-          subst (λ (z : Arrival). value_at s next ≡ stepped s (value_at s z.configuration) l) (sym w) v,
+          subst (λ (z : Arrival). value_at s next ≡ step_of s (value_at s z.configuration) l) (sym w) v,
         )
 
     goes_old : (k : ℕ) → k < length xs → arrival_at (xs ++ arrival next from l ∷ []) k ≡ arrival_at xs k → GoesOn s xs k →
@@ -163,11 +163,11 @@ more_reached s xs os h next from l f i e t v =
         kept_at xs (arrival next from l ∷ []) (arrival_at xs k).from (let z = g.0 in omega arith) in
         subst (λ (z : Arrival). (z.from < k)
         × (step_listed s (value_of s (xs ++ arrival next from l ∷ []) z.from) z.letter ≡ true)
-        × (value_at s z.configuration ≡ stepped s (value_of s (xs ++ arrival next from l ∷ []) z.from) z.letter))
+        × (value_at s z.configuration ≡ step_of s (value_of s (xs ++ arrival next from l ∷ []) z.from) z.letter))
         (sym u) (
           g.0,
           subst (λ (z : Arrival). step_listed s (value_at s z.configuration) (arrival_at xs k).letter ≡ true) (sym w) g.1,
-          subst (λ (z : Arrival). value_of s xs k ≡ stepped s (value_at s z.configuration) (arrival_at xs k).letter) (sym w) g.2,
+          subst (λ (z : Arrival). value_of s xs k ≡ step_of s (value_at s z.configuration) (arrival_at xs k).letter) (sym w) g.2,
         )
 
     apart : (c k : ℕ) → (next ≡ c → ⊥) → place_at (set os next (Some (length xs))) c ≡ Some k →
@@ -201,7 +201,7 @@ more_reached s xs os h next from l f i e t v =
         (eq_or_not next c)
 
 pub add_reached : (s : Subject Shape) (xs ys : List Arrival) (os ps : List (Option ℕ)) → Reaches s xs os → (next from : ℕ) (l : Letter) → from < length xs →
-    IsFirst s (stepped s (value_of s xs from) l) next → step_listed s (value_of s xs from) l ≡ true → None ≡ place_at os next →
+    IsFirst s (step_of s (value_of s xs from) l) next → step_listed s (value_of s xs from) l ≡ true → None ≡ place_at os next →
     ys ≡ xs ++ arrival next from l ∷ [] → ps ≡ set os next (Some (length xs)) → Reaches s ys ps
 add_reached s xs ys os ps h next from l f i t e u v =
     subst (λ z. Reaches s z ps) (sym u) (subst (λ z. Reaches s (xs ++ arrival next from l ∷ []) z) (sym v)
@@ -210,17 +210,17 @@ add_reached s xs ys os ps h next from l f i t e u v =
 -- what a look shows of arrival `from`
 pub seen_first : (s : Subject Shape) (xs : List Arrival) (from : ℕ) (here : Arrival) (l : Letter) (k : Look) (j : ℕ) → here ≡ arrival_at xs from →
     Sees s (value_at s here.configuration) l k → k.next ≡ Some j →
-    (step_listed s (value_of s xs from) l ≡ true) × IsFirst s (stepped s (value_of s xs from) l) j
+    (step_listed s (value_of s xs from) l ≡ true) × IsFirst s (step_of s (value_of s xs from) l) j
 seen_first s xs from here l k j e h q =
-    subst (λ (z : Arrival). (step_listed s (value_at s z.configuration) l ≡ true) × IsFirst s (stepped s (value_at s z.configuration) l) j) e (h.some j q)
+    subst (λ (z : Arrival). (step_listed s (value_at s z.configuration) l ≡ true) × IsFirst s (step_of s (value_at s z.configuration) l) j) e (h.some j q)
 
 pub follows_old : (s : Subject Shape) (xs : List Arrival) (os : List (Option ℕ)) → Reaches s xs os → (from next k : ℕ) (l : Letter) →
-    IsFirst s (stepped s (value_of s xs from) l) next → Some k ≡ place_at os next → Follows s xs from l
+    IsFirst s (step_of s (value_of s xs from) l) next → Some k ≡ place_at os next → Follows s xs from l
 follows_old s xs os h from next k l i e =
-    let g = h.there next k (sym e) in (λ t. (k, g.0, subst (λ z. IsFirst s (stepped s (value_of s xs from) l) z) (sym g.1) i))
+    let g = h.there next k (sym e) in (λ t. (k, g.0, subst (λ z. IsFirst s (step_of s (value_of s xs from) l) z) (sym g.1) i))
 
 pub follows_new : (s : Subject Shape) (xs ys : List Arrival) (from next : ℕ) (l : Letter) → from < length xs →
-    IsFirst s (stepped s (value_of s xs from) l) next → ys ≡ xs ++ arrival next from l ∷ [] → Follows s ys from l
+    IsFirst s (step_of s (value_of s xs from) l) next → ys ≡ xs ++ arrival next from l ∷ [] → Follows s ys from l
 follows_new s xs ys from next l f i u =
     let a : Arrival = arrival next from l in
     let n : length (xs ++ a ∷ []) ≡ length xs + 1 = length-append xs (a ∷ []) in
@@ -228,8 +228,8 @@ follows_new s xs ys from next l f i u =
     (λ t. (
       length xs,
       omega arith,
-      subst (λ (z : Arrival). IsFirst s (stepped s (value_of s (xs ++ a ∷ []) from) l) z.configuration) (sym (last_at xs a))
-          (subst (λ (z : Arrival). IsFirst s (stepped s (value_at s z.configuration) l) next) (sym (kept_at xs (a ∷ []) from f)) i),
+      subst (λ (z : Arrival). IsFirst s (step_of s (value_of s (xs ++ a ∷ []) from) l) z.configuration) (sym (last_at xs a))
+          (subst (λ (z : Arrival). IsFirst s (step_of s (value_at s z.configuration) l) next) (sym (kept_at xs (a ∷ []) from f)) i),
     ))
 
 -- what followed still follows in a longer tour
@@ -242,8 +242,8 @@ follows_grown s xs ys k l q g h =
     let c = m.1 in (
       m.0,
       omega arith,
-      subst (λ (z : Arrival). IsFirst s (stepped s (value_of s (xs ++ g.0) k) l) z.configuration) (sym (kept_at xs g.0 m.0 m.1))
-          (subst (λ (z : Arrival). IsFirst s (stepped s (value_at s z.configuration) l) (arrival_at xs m.0).configuration) (sym old) m.2),
+      subst (λ (z : Arrival). IsFirst s (step_of s (value_of s (xs ++ g.0) k) l) z.configuration) (sym (kept_at xs g.0 m.0 m.1))
+          (subst (λ (z : Arrival). IsFirst s (step_of s (value_at s z.configuration) l) (arrival_at xs m.0).configuration) (sym old) m.2),
     ))
 
 pub grown_twice : (xs ys zs : List Arrival) → Grows xs ys → Grows ys zs → Grows xs zs
@@ -270,7 +270,7 @@ arrived_grown xs ys g k q = ap (λ z. arrival_at z k) g.1 ∙ kept_at xs g.0 k q
 
 -- the start of a plan
 
-sizes : (rs : List Shape) (cs : List Configuration) → length cs ≡ length (map (λ x. valued rs x) (map (λ x. plain_configuration x) cs))
+sizes : (rs : List Shape) (cs : List Configuration) → length cs ≡ length (map (λ x. configuration_value rs x) (map (λ x. plain_configuration x) cs))
 sizes rs [] = refl
 sizes rs (c ∷ cs) = ap (λ n. suc n) (sizes rs cs)
 

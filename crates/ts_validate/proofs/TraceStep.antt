@@ -18,7 +18,7 @@ use Rattle.ts_transducer.specs.Decode.{begins, start_after, held_after}
 use Rattle.ts_pattern.specs.EachOf.{Each, First}
 use Rattle.ts_pattern.specs.OccurrenceList.{Place, e_range}
 use Rattle.ts_pattern.specs.Entries.{Entry, Residuals, survivors}
-use Rattle.ts_pattern.specs.Closed.{tag_after, first_tag, no_ind, retag, appended, is_find}
+use Rattle.ts_pattern.specs.Closed.{tag_after, first_tag, no_ind, retag_entries, with_start, is_find}
 use Rattle.ts_pattern.proofs.Entries.{AreRight}
 use Rattle.ts_pattern.proofs.LiveEntries.{each_push, one_left, AreLive, live_appended, each_survivor}
 use Rattle.ts_pattern.proofs.Ends.{live_step}
@@ -40,10 +40,10 @@ out_a_held f k k' t q = (subst (λ z. Typed k z k') q t).0
 pub traced_step : (t : Residuals Shape) → AreRight t → (p p0 : Shape) → ((v : List Letter) → InLanguage p0 v → InLanguage p v) →
     ((v : List Letter) → InLanguage p v → InLanguage p0 v) →
     (a b : ℕ) (w : List Letter) (l : Letter) (f : Phase) (k' : Kind) (x : Trace) → Typed x.state f k' →
-    MeetsChecks f k' (no_ind (appended (length w) p0 b x.live)) (survivors t l (appended (length w) p0 b x.live)) →
+    MeetsChecks f k' (no_ind (with_start (length w) p0 b x.live)) (survivors t l (with_start (length w) p0 b x.live)) →
     IsTraced p a b w x → IsTraced p a b (w ++ l ∷ []) (trace_step t p0 a b (length w) l f k' x)
 traced_step t r p p0 there back a b w l f k' x ty ch h =
-    let before : List (Entry ℕ Shape Tag) = appended (length w) p0 b x.live in
+    let before : List (Entry ℕ Shape Tag) = with_start (length w) p0 b x.live in
     let free : Bool = no_ind before in
     let sv : List (Entry ℕ Shape Tag) = survivors t l before in
     let more : length (w ++ l ∷ []) ≡ length w + 1 = length-append w (l ∷ []) in
@@ -65,7 +65,7 @@ traced_step t r p p0 there back a b w l f k' x ty ch h =
     (λ q. begins_at (length w) b x.d x.c free sv unset tags_left (ch.begin q)) in
     let same : f ≡ Inside → (y : Place) → x.pair ≡ Some y → first_mark sv ≡ y.start =
     (λ q y e. same_start (length w) a b x.d x.c free y sv (h.ranges ∙ ap (λ z. held_range a b z) e) tags_left
-    (subst (λ z. First (λ e. e.tag ≡ InC) (retag z free sv)) q (ch.holds (inside_held f x.state k' ty q).1))) in
+    (subst (λ z. First (λ e. e.tag ≡ InC) (retag_entries z free sv)) q (ch.holds (inside_held f x.state k' ty q).1))) in
     record {
       kinds = kinds_step f a (length w + 1) x.state k' x.d x.c ty h.kinds;
       live = live_retag f free p (w ++ l ∷ []) (length (w ++ l ∷ [])) sv left;
@@ -79,7 +79,7 @@ traced_step t r p p0 there back a b w l f k' x ty ch h =
           (λ q. early_find f free sv left.rising (ch.ends q))
           (λ q.
           let y = paired (out_a_held f x.state k' ty q) in
-          subst (λ z. Each (λ y. Each (After y.start) (retag f free sv)) (option_to_list z)) (sym y.1) (
+          subst (λ z. Each (λ y. Each (After y.start) (retag_entries f free sv)) (option_to_list z)) (sym y.1) (
             early_release t f free l y.0.start before
                 (held_before (length w) b x.d x.c y.0.start (y.0.end + 1 - a) x.live (record { mark = length w; residual = p0; tag = first_tag b })
                 (h.ranges ∙ ap (λ z. held_range a b z) y.1) h.live.rising h.live.below h.tags (h.first_held (out_a_held f x.state k' ty q)) refl)

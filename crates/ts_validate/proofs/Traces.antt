@@ -41,7 +41,7 @@ use Rattle.ts_pattern.specs.EachOf.{Each, OneOf, First}
 use Rattle.ts_pattern.specs.Occurrences.{IsOccurrence}
 use Rattle.ts_pattern.specs.OccurrenceList.{Place, AreOccurrences, e_range}
 use Rattle.ts_pattern.specs.Entries.{Entry, Residuals, survivors}
-use Rattle.ts_pattern.specs.Closed.{tag_after, is_ind, first_tag, no_ind, retag, appended, is_match, is_find}
+use Rattle.ts_pattern.specs.Closed.{tag_after, is_ind, first_tag, no_ind, retag_entries, with_start, is_match, is_find}
 use Rattle.ts_pattern.proofs.Entries.{Rising, AreRight, Covers}
 use Rattle.ts_pattern.proofs.LiveEntries.{each_push, one_left, Follows, AreLive, each_survivor}
 use Rattle.ts_pattern.proofs.Ends.{rising_each, Accepts, each_and}
@@ -63,11 +63,11 @@ pub record MeetsChecks {X : Type 0} (f : Phase) (k' : Kind) (free : Bool) (sv : 
   -- and where it is complete at once, its start has nothing left to read
   pub ends : f ≡ FoundE → First IsShort sv
   -- in a held state the first entry is the held start
-  pub holds : k' ≡ Held → First (λ e. e.tag ≡ InC) (retag f free sv)
+  pub holds : k' ≡ Held → First (λ e. e.tag ≡ InC) (retag_entries f free sv)
   -- which is live no more where the range is released
   pub leaves : f ≡ OutA → OneOf (λ e. e.tag ≡ InC) sv → ⊥
   -- the start that the decoder keeps is live
-  pub pends : f ≡ MaybeB → OneOf (λ e. e.tag ≡ InD) (retag f free sv)
+  pub pends : f ≡ MaybeB → OneOf (λ e. e.tag ≡ InD) (retag_entries f free sv)
 
 -- the pair starts before each entry that still has a non-empty word
 abbrev pub After : ℕ → Entry ℕ Shape Tag → Type 0
@@ -111,14 +111,14 @@ pub record IsTraced (p : Shape) (a b : ℕ) (w : List Letter) (t : Trace) : Type
 -- one letter: the phase f of the move, and the kind k' of the state that it leads to
 abbrev pub trace_step : Residuals Shape → Shape → ℕ → ℕ → ℕ → Letter → Phase → Kind → Trace → Trace
 trace_step t p0 a b k l f k' x =
-    let before = appended k p0 b x.live in
+    let before = with_start k p0 b x.live in
     let sv = survivors t l before in
     record {
       state = k';
       d = start_after f (k + 1) x.d;
       c = held_after f a (k + 1) x.d x.c;
       emitted = x.emitted ++ option_to_list (emitted_at f a (k + 1) x.d x.c);
-      live = retag f (no_ind before) sv;
+      live = retag_entries f (no_ind before) sv;
       done = done_after f (k + 1) sv x.done x.pair;
       pair = pair_after f (k + 1) sv x.pair;
     }
@@ -126,22 +126,22 @@ trace_step t p0 a b k l f k' x =
 -- lists that change their tags alone
 pub each_retag : (f : Phase) (free : Bool) (p q : Entry ℕ Shape Tag → Type 0) →
     ((e : Entry ℕ Shape Tag) → p e → q (record { mark = e.mark; residual = e.residual; tag = tag_after f free e.tag })) → (es : List (Entry ℕ Shape Tag)) →
-    Each p es → Each q (retag f free es)
+    Each p es → Each q (retag_entries f free es)
 each_retag f free p q g [] h = tt
 each_retag f free p q g (e ∷ es) h = (g e h.0, each_retag f free p q g es h.1)
 
 pub one_retag : (f : Phase) (free : Bool) (p q : Entry ℕ Shape Tag → Type 0) →
     ((e : Entry ℕ Shape Tag) → p e → q (record { mark = e.mark; residual = e.residual; tag = tag_after f free e.tag })) → (es : List (Entry ℕ Shape Tag)) →
-    OneOf p es → OneOf q (retag f free es)
+    OneOf p es → OneOf q (retag_entries f free es)
 one_retag f free p q g [] h = h
 one_retag f free p q g (e ∷ es) h = ⊎_elim (λ a. inl (g e a)) (λ a. inr (one_retag f free p q g es a)) h
 
-pub rising_retag : (f : Phase) (free : Bool) (a : ℕ) (es : List (Entry ℕ Shape Tag)) → Rising a es → Rising a (retag f free es)
+pub rising_retag : (f : Phase) (free : Bool) (a : ℕ) (es : List (Entry ℕ Shape Tag)) → Rising a es → Rising a (retag_entries f free es)
 rising_retag f free a [] h = tt
 rising_retag f free a (e ∷ es) h = (h.0, rising_retag f free (e.mark + 1) es h.1)
 
 pub live_retag : (f : Phase) (free : Bool) (p : Shape) (w : List Letter) (k : ℕ) (es : List (Entry ℕ Shape Tag)) → AreLive p w k es →
-    AreLive p w k (retag f free es)
+    AreLive p w k (retag_entries f free es)
 live_retag f free p w k es h =
     record {
       rising = rising_retag f free 0 es h.rising;
@@ -183,10 +183,10 @@ begins_at k b d c free (e ∷ es) g h x =
 
 -- early, before the letter, with the new start
 pub early_before : (p p0 : Shape) (a b : ℕ) (w : List Letter) (t : Trace) → IsTraced p a b w t →
-    Each (λ x. Each (After x.start) (appended (length w) p0 b t.live)) t.done
+    Each (λ x. Each (After x.start) (with_start (length w) p0 b t.live)) t.done
 early_before p p0 a b w t h =
     let occ = each_left (λ x. IsOccurrence p w x.start x.end) t.done (option_to_list t.pair) h.places.each in
-    each_map (λ x. Each (After x.start) t.live × IsOccurrence p w x.start x.end) (λ x. Each (After x.start) (appended (length w) p0 b t.live))
+    each_map (λ x. Each (After x.start) t.live × IsOccurrence p w x.start x.end) (λ x. Each (After x.start) (with_start (length w) p0 b t.live))
     (λ x q. each_push (After x.start) t.live (record { mark = length w; residual = p0; tag = first_tag b }) q.0
     (λ l v y. let i = q.1.is.some in let j = q.1.is.inside in omega arith))
     t.done (each_and (λ x. Each (After x.start) t.live) (λ x. IsOccurrence p w x.start x.end) t.done h.early occ)
@@ -204,13 +204,14 @@ below_first ps [] h x = absurd x
 below_first ps (e ∷ es) h x = each_map (λ y. Each (Strictly y.start) (e ∷ es)) (λ y. y.start < e.mark) (λ y q. q.0 [] x) ps h
 
 pub early_old : (f : Phase) (free : Bool) (sv : List (Entry ℕ Shape Tag)) (ps : List Place) → Each (λ x. Each (Strictly x.start) sv) ps →
-    Each (λ x. Each (After x.start) (retag f free sv)) ps
+    Each (λ x. Each (After x.start) (retag_entries f free sv)) ps
 early_old f free sv ps h =
-    each_map (λ x. Each (Strictly x.start) sv) (λ x. Each (After x.start) (retag f free sv))
+    each_map (λ x. Each (Strictly x.start) sv) (λ x. Each (After x.start) (retag_entries f free sv))
     (λ x q. each_retag f free (Strictly x.start) (After x.start) (λ e y l v z. y (l ∷ v) z) sv q) ps h
 
 -- an early find: what comes after the first survivor starts later, and the first has no longer word
-pub early_find : (f : Phase) (free : Bool) (sv : List (Entry ℕ Shape Tag)) → Rising 0 sv → First IsShort sv → Each (After (first_mark sv)) (retag f free sv)
+pub early_find : (f : Phase) (free : Bool) (sv : List (Entry ℕ Shape Tag)) → Rising 0 sv → First IsShort sv →
+    Each (After (first_mark sv)) (retag_entries f free sv)
 early_find f free [] r x = absurd x
 early_find f free (e ∷ es) r x = (
   (λ l v y. absurd (x l v y)),
@@ -220,7 +221,7 @@ early_find f free (e ∷ es) r x = (
 -- a release: the held start is no survivor, and all others start later
 pub early_release : (t : Residuals Shape) (f : Phase) (free : Bool) (l : Letter) (s : ℕ) (before : List (Entry ℕ Shape Tag)) →
     Each (λ e. (e.tag ≡ InC → ⊥) → s < e.mark) before → (OneOf (λ e. e.tag ≡ InC) (survivors t l before) → ⊥) →
-    Each (After s) (retag f free (survivors t l before))
+    Each (After s) (retag_entries f free (survivors t l before))
 early_release t f free l s before h g =
     each_retag f free (λ e. ((e.tag ≡ InC → ⊥) → s < e.mark) × (e.tag ≡ InC → ⊥)) (After s) (λ e q l' v y. q.0 q.1) (survivors t l before)
     (each_and (λ e. (e.tag ≡ InC → ⊥) → s < e.mark) (λ e. e.tag ≡ InC → ⊥) (survivors t l before)

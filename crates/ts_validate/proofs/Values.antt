@@ -16,8 +16,8 @@ use Rattle.ts_transducer.specs.Decode.{row_at}
 use Rattle.ts_pattern.specs.declared.plan.Tag.{Tag}
 use Rattle.ts_pattern.specs.EachOf.{Each, OneOf}
 use Rattle.ts_pattern.specs.Entries.{Entry, shapes, derive_entry, derived, alive, without, keep, survivors}
-use Rattle.ts_pattern.specs.Closed.{PlainConfiguration, Subject, first_tag, no_ind, retag, appended, move_of, before, kept, stepped, entries_agree, same_tag, same_live, same_configuration, step_listed}
-use Rattle.ts_pattern.specs.Plans.{PlainPlan, shape_at, valued_entry, valued, subject}
+use Rattle.ts_pattern.specs.Closed.{PlainConfiguration, Subject, first_tag, no_ind, retag_entries, with_start, move_of, entries_before, kept_entries, step_of, entries_agree, same_tag, same_live, same_configuration, step_listed}
+use Rattle.ts_pattern.specs.Plans.{PlainPlan, shape_at, entry_value, configuration_value, subject}
 use Rattle.ts_pattern.proofs.Entries.{shapes_right}
 use Rattle.ts_pattern.proofs.Renamed.{NextAgrees, WordsAgree, survivors_renamed, survivors_left, retag_renamed, no_ind_renamed, agree_renamed}
 use Rattle.ts_pattern.proofs.Tested.{configuration_is}
@@ -32,11 +32,11 @@ abbrev pub HasNumbers : List Shape → PlainConfiguration ℕ → Type 0
 HasNumbers rs x = AreNumbers rs x.live
 
 abbrev valued_entries : List Shape → List (Entry (Unit {0}) ℕ Tag) → List (Entry (Unit {0}) Shape Tag)
-valued_entries rs es = map (λ e. valued_entry rs e) es
+valued_entries rs es = map (λ e. entry_value rs e) es
 
 -- the entries before the step
 
-numbers_before : (rs : List Shape) (b : ℕ) (es : List (Entry (Unit {0}) ℕ Tag)) → 0 < length rs → AreNumbers rs es → AreNumbers rs (appended tt 0 b es)
+numbers_before : (rs : List Shape) (b : ℕ) (es : List (Entry (Unit {0}) ℕ Tag)) → 0 < length rs → AreNumbers rs es → AreNumbers rs (with_start tt 0 b es)
 numbers_before rs b [] q h = (q, tt)
 numbers_before rs b (e ∷ es) q h = (h.0, numbers_before rs b es q h.1)
 
@@ -52,7 +52,7 @@ each_words : (rs : List Shape) (es : List (Entry (Unit {0}) ℕ Tag)) → AreNum
 each_words rs [] h = tt
 each_words rs (e ∷ es) h = (words_agree rs e.residual h.0, each_words rs es h.1)
 
-retag_numbers : (rs : List Shape) (f : Phase) (free : Bool) (es : List (Entry (Unit {0}) ℕ Tag)) → AreNumbers rs es → AreNumbers rs (retag f free es)
+retag_numbers : (rs : List Shape) (f : Phase) (free : Bool) (es : List (Entry (Unit {0}) ℕ Tag)) → AreNumbers rs es → AreNumbers rs (retag_entries f free es)
 retag_numbers rs f free [] h = tt
 retag_numbers rs f free (e ∷ es) h = (h.0, retag_numbers rs f free es h.1)
 
@@ -83,70 +83,72 @@ by_value rows p b rs xs = subject rows p b (plan_of rs xs)
 
 -- each residual after the letter that has a word is listed, y is the step by numbers, and the entries of a step agree
 abbrev pub is_listed_after : List Shape → ℕ → PlainConfiguration ℕ → Letter → Bool
-is_listed_after rs b x l = all_listed (table_of rs) l (appended tt 0 b x.live)
+is_listed_after rs b x l = all_listed (table_of rs) l (with_start tt 0 b x.live)
 
 abbrev pub is_step : List Row → ℕ → List Shape → List (PlainConfiguration ℕ) → PlainConfiguration ℕ → Letter → PlainConfiguration ℕ → Bool
-is_step rows b rs xs x l y = same_configuration (numbers (table_of rs)) y (stepped (by_number rows b rs xs) x l)
+is_step rows b rs xs x l y = same_configuration (numbers (table_of rs)) y (step_of (by_number rows b rs xs) x l)
 
 abbrev pub agrees : {R : Type 0} → Subject R → PlainConfiguration R → Letter → Bool
-agrees s x l = entries_agree s.on (move_of s x l).phase (row_at s.rows (move_of s x l).next).kind (no_ind (before s x)) (kept s x l)
+agrees s x l = entries_agree s.on (move_of s x l).phase (row_at s.rows (move_of s x l).next).kind (no_ind (entries_before s x)) (kept_entries s x l)
 
 before_valued : (rs : List Shape) (p : Shape) (b : ℕ) (es : List (Entry (Unit {0}) ℕ Tag)) → shape_at rs 0 ≡ normal_form p →
-    valued_entries rs (appended tt 0 b es) ≡ appended tt (normal_form p) b (valued_entries rs es)
+    valued_entries rs (with_start tt 0 b es) ≡ with_start tt (normal_form p) b (valued_entries rs es)
 before_valued rs p b es q =
-    map-append (λ e. valued_entry rs e) es (record { mark = tt; residual = 0; tag = first_tag b } ∷ [])
+    map-append (λ e. entry_value rs e) es (record { mark = tt; residual = 0; tag = first_tag b } ∷ [])
     ∙ ap (λ z. valued_entries rs es ++ record { mark = tt; residual = z; tag = first_tag b } ∷ []) q
 
 free_valued : (rs : List Shape) (p : Shape) (b : ℕ) (es : List (Entry (Unit {0}) ℕ Tag)) → shape_at rs 0 ≡ normal_form p →
-    no_ind (appended tt 0 b es) ≡ no_ind (appended tt (normal_form p) b (valued_entries rs es))
+    no_ind (with_start tt 0 b es) ≡ no_ind (with_start tt (normal_form p) b (valued_entries rs es))
 free_valued rs p b es q =
-    sym (no_ind_renamed (λ (u : Unit {0}). u) (λ i. shape_at rs i) (appended tt 0 b es)) ∙ ap (λ z. no_ind z) (before_valued rs p b es q)
+    sym (no_ind_renamed (λ (u : Unit {0}). u) (λ i. shape_at rs i) (with_start tt 0 b es)) ∙ ap (λ z. no_ind z) (before_valued rs p b es q)
 
 kept_valued : (rs : List Shape) (p : Shape) (b : ℕ) (l : Letter) (es : List (Entry (Unit {0}) ℕ Tag)) → 0 < length rs → shape_at rs 0 ≡ normal_form p →
-    AreNumbers rs es → all_listed (table_of rs) l (appended tt 0 b es) ≡ true →
-    valued_entries rs (survivors (numbers (table_of rs)) l (appended tt 0 b es)) ≡ survivors shapes l (appended tt (normal_form p) b (valued_entries rs es))
+    AreNumbers rs es → all_listed (table_of rs) l (with_start tt 0 b es) ≡ true →
+    valued_entries rs (survivors (numbers (table_of rs)) l (with_start tt 0 b es)) ≡ survivors shapes l (with_start tt (normal_form p) b (valued_entries rs es))
 kept_valued rs p b l es s q h a =
-    survivors_renamed (numbers (table_of rs)) shapes (λ (u : Unit {0}). u) (λ i. shape_at rs i) (λ i. IsNumber rs i) (numbers_same rs) l (appended tt 0 b es)
-    (each_agrees rs l (appended tt 0 b es) (numbers_before rs b es s h) a)
+    survivors_renamed (numbers (table_of rs)) shapes (λ (u : Unit {0}). u) (λ i. shape_at rs i) (λ i. IsNumber rs i) (numbers_same rs) l (with_start tt 0 b es)
+    (each_agrees rs l (with_start tt 0 b es) (numbers_before rs b es s h) a)
     ∙ ap (λ z. survivors shapes l z) (before_valued rs p b es q)
 
 pub stepped_valued : (rows : List Row) (p : Shape) (b : ℕ) (rs : List Shape) (xs : List (PlainConfiguration ℕ)) → IsFor p rs xs → (x : PlainConfiguration ℕ) →
     HasNumbers rs x → (l : Letter) → is_listed_after rs b x l ≡ true →
-    valued rs (stepped (by_number rows b rs xs) x l) ≡ stepped (by_value rows p b rs xs) (valued rs x) l
+    configuration_value rs (step_of (by_number rows b rs xs) x l) ≡ step_of (by_value rows p b rs xs) (configuration_value rs x) l
 stepped_valued rows p b rs xs i x h l a =
     let s : Subject ℕ = by_number rows b rs xs in
     ap (λ z. record { state = (move_of s x l).next; live = z })
-    (retag_renamed (λ (u : Unit {0}). u) (λ i. shape_at rs i) (move_of s x l).phase (no_ind (before s x)) (kept s x l)
-    ∙ ap (λ z. retag (move_of s x l).phase z (valued_entries rs (kept s x l))) (free_valued rs p b x.live i.whole)
-    ∙ ap (λ z. retag (move_of s x l).phase (no_ind (appended tt (normal_form p) b (valued_entries rs x.live))) z)
+    (retag_renamed (λ (u : Unit {0}). u) (λ i. shape_at rs i) (move_of s x l).phase (no_ind (entries_before s x)) (kept_entries s x l)
+    ∙ ap (λ z. retag_entries (move_of s x l).phase z (valued_entries rs (kept_entries s x l))) (free_valued rs p b x.live i.whole)
+    ∙ ap (λ z. retag_entries (move_of s x l).phase (no_ind (with_start tt (normal_form p) b (valued_entries rs x.live))) z)
     (kept_valued rs p b l x.live i.some i.whole h a))
 
 pub agree_valued : (rows : List Row) (p : Shape) (b : ℕ) (rs : List Shape) (xs : List (PlainConfiguration ℕ)) → IsFor p rs xs → (x : PlainConfiguration ℕ) →
     HasNumbers rs x → (l : Letter) → is_listed_after rs b x l ≡ true →
     agrees (by_number rows b rs xs) x l
-    ≡ agrees (by_value rows p b rs xs) (valued rs x) l
+    ≡ agrees (by_value rows p b rs xs) (configuration_value rs x) l
 agree_valued rows p b rs xs i x h l a =
     let s : Subject ℕ = by_number rows b rs xs in
-    let left : AreNumbers rs (kept s x l) = survivors_left (numbers (table_of rs)) shapes (λ i. shape_at rs i) (λ i. IsNumber rs i) l (before s x)
-    (each_agrees rs l (before s x) (numbers_before rs b x.live i.some h) a) in
+    let left : AreNumbers rs (kept_entries s x l) = survivors_left (numbers (table_of rs)) shapes (λ i. shape_at rs i) (λ i. IsNumber rs i) l
+    (entries_before s x)
+    (each_agrees rs l (entries_before s x) (numbers_before rs b x.live i.some h) a) in
     agree_renamed (numbers (table_of rs)) shapes (λ (u : Unit {0}). u) (λ i. shape_at rs i) (move_of s x l).phase (row_at rows (move_of s x l).next).kind
-    (no_ind (before s x)) (kept s x l) (each_words rs (kept s x l) left)
-    ∙ ap (λ z. entries_agree shapes (move_of s x l).phase (row_at rows (move_of s x l).next).kind z (valued_entries rs (kept s x l)))
+    (no_ind (entries_before s x)) (kept_entries s x l) (each_words rs (kept_entries s x l) left)
+    ∙ ap (λ z. entries_agree shapes (move_of s x l).phase (row_at rows (move_of s x l).next).kind z (valued_entries rs (kept_entries s x l)))
     (free_valued rs p b x.live i.whole)
     ∙ ap (λ z. entries_agree shapes (move_of s x l).phase (row_at rows (move_of s x l).next).kind
-    (no_ind (appended tt (normal_form p) b (valued_entries rs x.live))) z) (kept_valued rs p b l x.live i.some i.whole h a)
+    (no_ind (with_start tt (normal_form p) b (valued_entries rs x.live))) z) (kept_valued rs p b l x.live i.some i.whole h a)
 
 pub same_valued : (rows : List Row) (p : Shape) (b : ℕ) (rs : List Shape) (xs : List (PlainConfiguration ℕ)) → IsFor p rs xs → (x y : PlainConfiguration ℕ) →
     HasNumbers rs x → HasNumbers rs y → (l : Letter) → is_listed_after rs b x l ≡ true →
     is_step rows b rs xs x l y
-    ≡ same_configuration shapes (valued rs y) (stepped (by_value rows p b rs xs) (valued rs x) l)
+    ≡ same_configuration shapes (configuration_value rs y) (step_of (by_value rows p b rs xs) (configuration_value rs x) l)
 same_valued rows p b rs xs i x y h k l a =
     let s : Subject ℕ = by_number rows b rs xs in
-    let left : AreNumbers rs (kept s x l) = survivors_left (numbers (table_of rs)) shapes (λ i. shape_at rs i) (λ i. IsNumber rs i) l (before s x)
-    (each_agrees rs l (before s x) (numbers_before rs b x.live i.some h) a) in
-    ap (λ z. (y.state == (stepped s x l).state) && z)
-    (same_live_valued rs y.live (stepped s x l).live k (retag_numbers rs (move_of s x l).phase (no_ind (before s x)) (kept s x l) left))
-    ∙ ap (λ z. same_configuration shapes (valued rs y) z) (stepped_valued rows p b rs xs i x h l a)
+    let left : AreNumbers rs (kept_entries s x l) = survivors_left (numbers (table_of rs)) shapes (λ i. shape_at rs i) (λ i. IsNumber rs i) l
+    (entries_before s x)
+    (each_agrees rs l (entries_before s x) (numbers_before rs b x.live i.some h) a) in
+    ap (λ z. (y.state == (step_of s x l).state) && z)
+    (same_live_valued rs y.live (step_of s x l).live k (retag_numbers rs (move_of s x l).phase (no_ind (entries_before s x)) (kept_entries s x l) left))
+    ∙ ap (λ z. same_configuration shapes (configuration_value rs y) z) (stepped_valued rows p b rs xs i x h l a)
 
 -- where a residual after the letter isn't listed, the step isn't
 
@@ -177,7 +179,7 @@ one_kept d [] h = h
 one_kept d (e ∷ es) h = ⊎_elim (λ q. inl q) (λ q. one_without e.residual d (keep shapes es) (one_kept d es q)) h
 
 one_retagged : (f : Phase) (free : Bool) (d : Shape) (es : List (Entry (Unit {0}) Shape Tag)) → OneOf (λ e. e.residual ≡ d) es →
-    OneOf (λ e. e.residual ≡ d) (retag f free es)
+    OneOf (λ e. e.residual ≡ d) (retag_entries f free es)
 one_retagged f free d [] h = h
 one_retagged f free d (e ∷ es) h = ⊎_elim (λ q. inl q) (λ q. inr (one_retagged f free d es q)) h
 
@@ -215,16 +217,18 @@ some_same {A} p h Q (x ∷ xs) e q = go (p (h x)) refl (some_same p h Q xs e.1) 
 
 pub not_listed : (rows : List Row) (p : Shape) (b : ℕ) (rs : List Shape) (xs : List (PlainConfiguration ℕ)) → IsFor p rs xs → (x : PlainConfiguration ℕ) →
     HasNumbers rs x → (l : Letter) → is_listed_after rs b x l ≡ false →
-    step_listed (by_value rows p b rs xs) (valued rs x) l ≡ false
+    step_listed (by_value rows p b rs xs) (configuration_value rs x) l ≡ false
 not_listed rows p b rs xs i x h l a =
     let s : Subject Shape = by_value rows p b rs xs in
-    let to : PlainConfiguration Shape = stepped s (valued rs x) l in
-    let m = missing rs l (appended tt 0 b x.live) (numbers_before rs b x.live i.some h) a in
+    let to : PlainConfiguration Shape = step_of s (configuration_value rs x) l in
+    let m = missing rs l (with_start tt 0 b x.live) (numbers_before rs b x.live i.some h) a in
     let o : OneOf (λ e. e.residual ≡ m.0) to.live =
-    one_retagged (move_of s (valued rs x) l).phase (no_ind (before s (valued rs x))) m.0 (kept s (valued rs x) l)
-    (one_kept m.0 (alive shapes (derived shapes l (before s (valued rs x))))
-    (one_alive l m.0 (before s (valued rs x)) m.1 (subst (λ z. OneOf (λ e. residual e.residual l ≡ m.0) z) (before_valued rs p b x.live i.whole) m.3))) in
-    false_from_ne_true (step_listed s (valued rs x) l) (λ q.
-    let y = some_same (λ y. same_configuration shapes y to) (λ y. valued rs y) (HasNumbers rs) xs i.numbers q in
+    one_retagged (move_of s (configuration_value rs x) l).phase (no_ind (entries_before s (configuration_value rs x))) m.0
+    (kept_entries s (configuration_value rs x) l)
+    (one_kept m.0 (alive shapes (derived shapes l (entries_before s (configuration_value rs x))))
+    (one_alive l m.0 (entries_before s (configuration_value rs x)) m.1 (subst (λ z. OneOf (λ e. residual e.residual l ≡ m.0) z)
+    (before_valued rs p b x.live i.whole) m.3))) in
+    false_from_ne_true (step_listed s (configuration_value rs x) l) (λ q.
+    let y = some_same (λ y. same_configuration shapes y to) (λ y. configuration_value rs y) (HasNumbers rs) xs i.numbers q in
     not_in rs m.0 y.0.live m.2 y.1 (subst (λ (z : PlainConfiguration Shape). OneOf (λ e. e.residual ≡ m.0) z.live)
-    (sym (configuration_is shapes shapes_right.equal (valued rs y.0) to y.2)) o))
+    (sym (configuration_is shapes shapes_right.equal (configuration_value rs y.0) to y.2)) o))

@@ -12,8 +12,8 @@ use Rattle.ts_pattern.specs.declared.pattern.Pattern.{Pattern}
 use Rattle.ts_pattern.specs.declared.plan.Plan.{Plan}
 use Rattle.ts_pattern.specs.declared.plan.Tag.{Tag}
 use Rattle.ts_pattern.specs.Entries.{Entry}
-use Rattle.ts_pattern.specs.Closed.{PlainConfiguration, Subject, first_passes, stepped, step_listed, meets_checks, LeadsTo, FromStart, OneStepOn, IsClosed}
-use Rattle.ts_pattern.specs.Plans.{plain_plan, valued, is_empty, is_blank, is_plan_of}
+use Rattle.ts_pattern.specs.Closed.{PlainConfiguration, Subject, first_passes, step_of, step_listed, meets_checks, LeadsTo, FromStart, OneStepOn, IsClosed}
+use Rattle.ts_pattern.specs.Plans.{plain_plan, configuration_value, is_empty, is_blank, is_plan_of}
 use Rattle.ts_validate.specs.declared.arrival.Arrival.{Arrival}
 use Rattle.ts_validate.specs.declared.arrival.Tour.{Tour}
 use Rattle.ts_validate.specs.declared.failure.Failure.{Failure}
@@ -26,16 +26,18 @@ blank = record { state = 0; live = [] }
 
 -- configuration 0 is the start
 
-gone : (rs : List Shape) (n : ℕ) (es : List (Entry (Unit {0}) ℕ Tag)) → is_empty es ≡ true → (valued rs (record { state = n; live = es })).live ≡ []
+gone : (rs : List Shape) (n : ℕ) (es : List (Entry (Unit {0}) ℕ Tag)) → is_empty es ≡ true →
+    (configuration_value rs (record { state = n; live = es })).live ≡ []
 gone rs n [] q = refl
 gone rs n (e ∷ es) q = absurd (false≢true q)
 
 first_value : (rs : List Shape) (xs : List (PlainConfiguration ℕ)) → first_passes (λ x. is_blank x) xs ≡ true →
-    configuration_at (map (λ x. valued rs x) xs) 0 ≡ blank
+    configuration_at (map (λ x. configuration_value rs x) xs) 0 ≡ blank
 first_value rs [] q = absurd (false≢true q)
 first_value rs (x ∷ xs) q =
     let h = and_parts (x.state == 0) (is_empty x.live) q in
-    ap (λ z. record { state = z; live = (valued rs x).live }) (eqb-true x.state 0 h.0) ∙ ap (λ z. record { state = 0; live = z }) (gone rs x.state x.live h.1)
+    ap (λ z. record { state = z; live = (configuration_value rs x).live }) (eqb-true x.state 0 h.0)
+    ∙ ap (λ z. record { state = 0; live = z }) (gone rs x.state x.live h.1)
 
 pub start_value : (rows : List Row) (p : Pattern) (plan : Plan) → is_plan_of (shape_of p.regex) (plain_plan plan) ≡ true →
     value_at (against rows p plan) 0 ≡ blank
@@ -62,11 +64,11 @@ complete s t h full b w x (FromStart w' x' e q) = (
 )
 complete s t h full b w x (OneStepOn v w' y x' l g u e q) = go (complete s t h full b v y g) u q
   where
-    go : Arrives s t.arrivals.items y → step_listed s y l ≡ true → x ≡ stepped s y l → Arrives s t.arrivals.items x
+    go : Arrives s t.arrivals.items y → step_listed s y l ≡ true → x ≡ step_of s y l → Arrives s t.arrivals.items x
     go a u q =
         let same : value_of s t.arrivals.items a.0 ≡ y = a.2.1 in
         let m = h.followed a.0 (let i = a.1 in omega (arith, i, full)) l (subst (λ z. step_listed s z l ≡ true) (sym same) u) in
-        (m.0, m.1, subst (λ z. IsFirst s z (arrival_at t.arrivals.items m.0).configuration) (ap (λ z. stepped s z l) same ∙ sym q) m.2)
+        (m.0, m.1, subst (λ z. IsFirst s z (arrival_at t.arrivals.items m.0).configuration) (ap (λ z. step_of s z l) same ∙ sym q) m.2)
 
 -- where no failure is found at an arrival, the checks hold there
 meets_there : (s : Subject Shape) (t : Tour) → IsTour s t → length t.failing.items ≡ length t.arrivals.items → (k : ℕ) → k < length t.arrivals.items →

@@ -14,7 +14,7 @@ use Rattle.ts_pattern.specs.declared.plan.Live.{Live}
 use Rattle.ts_pattern.specs.declared.plan.Configuration.{Configuration}
 use Rattle.ts_pattern.specs.Plans.{plain_live, plain_configuration}
 use Rattle.ts_pattern.specs.Entries.{Entry, Residuals}
-use Rattle.ts_pattern.specs.Closed.{PlainConfiguration, Subject, no_ind, retag, move_of, before, kept, stepped, entries_agree, same_configuration}
+use Rattle.ts_pattern.specs.Closed.{PlainConfiguration, Subject, no_ind, retag_entries, move_of, entries_before, kept_entries, step_of, entries_agree, same_configuration}
 use Rattle.ts_transducer.specs.Decode.{row_at}
 use Rattle.ts_validate.specs.declared.known.Known.{Known}
 
@@ -64,7 +64,8 @@ plain_configurations xs = map (λ x. plain_configuration x) xs
 
 -- the configuration of a move's state and of the entries that are kept, with their tags after the step
 abbrev pub configuration_after : Arrow → Bool → List Live → PlainConfiguration ℕ
-configuration_after arrow free es = record { state = arrow.next; live = retag arrow.phase free (plain_lives es) }
+configuration_after arrow free es =
+    record { state = arrow.next; live = retag_entries arrow.phase free (plain_lives es) }
 
 -- numbers as residuals, by the table
 abbrev pub numbers : List Known → Residuals ℕ
@@ -93,11 +94,11 @@ all_listed table l es = list_all (λ e. is_listed table l e.residual) es
 -- where the step of x is listed first, if each residual after it is listed
 abbrev pub next_place : List Known → Subject ℕ → PlainConfiguration ℕ → Letter → Option ℕ
 next_place table s x l =
-    if all_listed table l (before s x) then position (λ y. same_configuration s.on y (stepped s x l))
+    if all_listed table l (entries_before s x) then position (λ y. same_configuration s.on y (step_of s x l))
     s.configurations else None
 
 abbrev pub number_meets : List Known → Subject ℕ → PlainConfiguration ℕ → Letter → Bool
 number_meets table s x l =
     is_some (next_place table s x l)
-    && entries_agree s.on (move_of s x l).phase (row_at s.rows (move_of s x l).next).kind (no_ind (before s x))
-    (kept s x l)
+    && entries_agree s.on (move_of s x l).phase (row_at s.rows (move_of s x l).next).kind
+    (no_ind (entries_before s x)) (kept_entries s x l)

@@ -8,7 +8,7 @@ use Rattle.ts_transducer.specs.declared.row.Row.{Row}
 use Rattle.ts_pattern.specs.declared.pattern.Pattern.{Pattern}
 use Rattle.ts_pattern.specs.declared.plan.Plan.{Plan}
 use Rattle.ts_pattern.specs.Plans.{plain_plan, subject}
-use Rattle.ts_pattern.specs.Closed.{PlainConfiguration, Subject, stepped, step_listed, meets_checks}
+use Rattle.ts_pattern.specs.Closed.{PlainConfiguration, Subject, step_of, step_listed, meets_checks}
 use Rattle.ts_validate.specs.declared.step.Look.{Look}
 use Rattle.ts_validate.specs.declared.arrival.Arrival.{Arrival}
 use Rattle.ts_validate.specs.declared.arrival.Tour.{Tour}
@@ -33,7 +33,7 @@ IsFirst s x i = (i < length s.configurations) × (value_at s i ≡ x) × ((j : �
 -- what a look at the step of x on l shows
 pub record Sees (s : Subject Shape) (x : PlainConfiguration Shape) (l : Letter) (k : Look) : Type 0 where
   pub none : k.next ≡ None → step_listed s x l ≡ false
-  pub some : (j : ℕ) → k.next ≡ Some j → (step_listed s x l ≡ true) × IsFirst s (stepped s x l) j
+  pub some : (j : ℕ) → k.next ≡ Some j → (step_listed s x l ≡ true) × IsFirst s (step_of s x l) j
   pub meets : k.meets ≡ meets_checks s x l
 
 -- one more arrival
@@ -62,7 +62,7 @@ abbrev pub GoesOn : Subject Shape → List Arrival → ℕ → Type 0
 GoesOn s arrivals k =
     ((arrival_at arrivals k).from < k)
     × (step_listed s (value_of s arrivals (arrival_at arrivals k).from) (arrival_at arrivals k).letter ≡ true)
-    × (value_of s arrivals k ≡ stepped s (value_of s arrivals (arrival_at arrivals k).from)
+    × (value_of s arrivals k ≡ step_of s (value_of s arrivals (arrival_at arrivals k).from)
     (arrival_at arrivals k).letter)
 
 pub record Reaches (s : Subject Shape) (arrivals : List Arrival) (places : List (Option ℕ)) : Type 0 where
@@ -81,7 +81,7 @@ abbrev pub Follows : Subject Shape → List Arrival → ℕ → Letter → Type 
 Follows s arrivals k l =
     step_listed s (value_of s arrivals k) l ≡ true →
     (m : ℕ) × (m < length arrivals)
-    × IsFirst s (stepped s (value_of s arrivals k) l) (arrival_at arrivals m).configuration
+    × IsFirst s (step_of s (value_of s arrivals k) l) (arrival_at arrivals m).configuration
 
 -- the steps of the first arrivals have all arrived
 abbrev pub Followed : Subject Shape → List Arrival → ℕ → Type 0

@@ -3,7 +3,7 @@
 ghost use Rattle.std.specs.Prelude.{◌≡◌, ◌&&◌, not, map, slice_get, IfOk};
 ghost use Rattle.std.specs.List.{list_all, list_any, position, zip};
 ghost use Rattle.ts_pattern.specs.Entries.{derive_entry, survivors, with_entry};
-ghost use Rattle.ts_pattern.specs.Closed.{same_tag, tag_after, retag, appended, same_live, same_configuration};
+ghost use Rattle.ts_pattern.specs.Closed.{same_tag, tag_after, retag_entries, with_start, same_live, same_configuration};
 ghost use Rattle.ts_pattern.specs.Plans.{plain_live, plain_configuration};
 ghost use Rattle.ts_validate.specs.Looks.{look_of, row_or};
 ghost use Rattle.ts_validate.specs.Numbers.{numbers, numbered_subject, is_listed, configuration_after};
@@ -64,7 +64,7 @@ fn left(
     live: &[Live],
 ) -> Result<Vec<Live>, Memory>
     ensures { IfOk result (λ v. plain_lives v.items
-        ≡ survivors (numbers table.now) letter (appended tt 0 b (plain_lives live.now))) }
+        ≡ survivors (numbers table.now) letter (with_start tt 0 b (plain_lives live.now))) }
 {
     let mut kept = Vec::new(alloc);
     for entry in live {
@@ -122,7 +122,7 @@ fn each_same(table: &[Known], phase: Phase, free: bool, listed: &[Live], kept: &
 /// Whether the listed entries are those that are kept.
 fn same_live(table: &[Known], phase: Phase, free: bool, listed: &[Live], kept: &[Live]) -> bool
     ensures { result
-        ≡ same_live (numbers table.now) (plain_lives listed.now) (retag phase free (plain_lives kept.now)) }
+        ≡ same_live (numbers table.now) (plain_lives listed.now) (retag_entries phase free (plain_lives kept.now)) }
 {
     listed.len() == kept.len() && each_same(table, phase, free, listed, kept)
 }
