@@ -65,14 +65,6 @@ contains_without gone xs v = let f = contains_filter (λ v. not (int_eq v gone))
 pub some_stay : (xs : List ℤ) (v : ℤ) → Contains xs v → xs ≡ [] → ⊥
 some_stay xs v h none = omega (arith, h.1, ap length none)
 
-pub cell_is : (b : Boxes) (k : ℕ) (d : List ℤ) → slice_get b.present (k - 1) ≡ Some d → cell_of k b ≡ d
-cell_is b k d h = read b.present (k - 1) h
-  where
-    read : (cells : List (List ℤ)) (i : ℕ) → slice_get cells i ≡ Some d → get_or cells i [] ≡ d
-    read [] i h = cc
-    read (c ∷ cs) zero h = cc
-    read (c ∷ cs) (suc i) h = read cs i h
-
 -- a series of a box, and of the box with another set at one place
 pub in_box_at : (xs : List ℤ) (cells : List (List ℤ)) (i : ℕ) → InBox xs cells → i < length cells → Contains (get_or cells i []) (get_or xs i (pos 0))
 in_box_at [] [] i h below = absurd (omega (arith, below))
@@ -174,11 +166,11 @@ series_count-split (c ∷ cs) (suc i) a b below parts =
     omega (arith, series_count-cons c (set cs i a), series_count-cons c (set cs i b), series_count-cons c cs, e, f)
 
 -- when a value stays in a cell that is read
-pub low_stays : (b : Boxes) (k : ℕ) (d : List ℤ) (v t : ℤ) → slice_get b.present (k - 1) ≡ Some d → Contains d v → v ≤ℤ t → values_up_to t (cell_of k b) ≡ [] → ⊥
-low_stays b k d v t is has h none = some_stay (values_up_to t d) v ((contains_up_to t d v).1 (has, h)) (ap (values_up_to t) (sym (cell_is b k d is)) ∙ none)
+pub low_stays : (b : Boxes) (k : ℕ) (d : List ℤ) (v t : ℤ) → d ≡ cell_of k b → Contains d v → v ≤ℤ t → values_up_to t (cell_of k b) ≡ [] → ⊥
+low_stays b k d v t is has h none = some_stay (values_up_to t d) v ((contains_up_to t d v).1 (has, h)) (ap (values_up_to t) is ∙ none)
 
-pub high_stays : (b : Boxes) (k : ℕ) (d : List ℤ) (v t : ℤ) → slice_get b.present (k - 1) ≡ Some d → Contains d v → t <ℤ v → values_above t (cell_of k b) ≡ [] → ⊥
-high_stays b k d v t is has h none = some_stay (values_above t d) v ((contains_above t d v).1 (has, h)) (ap (values_above t) (sym (cell_is b k d is)) ∙ none)
+pub high_stays : (b : Boxes) (k : ℕ) (d : List ℤ) (v t : ℤ) → d ≡ cell_of k b → Contains d v → t <ℤ v → values_above t (cell_of k b) ≡ [] → ⊥
+high_stays b k d v t is has h none = some_stay (values_above t d) v ((contains_above t d v).1 (has, h)) (ap (values_above t) is ∙ none)
 
-pub other_stays : (b : Boxes) (k : ℕ) (d : List ℤ) (v gone : ℤ) → slice_get b.present (k - 1) ≡ Some d → Contains d v → (v ≡ gone → ⊥) → values_without gone (cell_of k b) ≡ [] → ⊥
-other_stays b k d v gone is has h none = some_stay (values_without gone d) v ((contains_without gone d v).1 (has, h)) (ap (values_without gone) (sym (cell_is b k d is)) ∙ none)
+pub other_stays : (b : Boxes) (k : ℕ) (d : List ℤ) (v gone : ℤ) → d ≡ cell_of k b → Contains d v → (v ≡ gone → ⊥) → values_without gone (cell_of k b) ≡ [] → ⊥
+other_stays b k d v gone is has h none = some_stay (values_without gone d) v ((contains_without gone d v).1 (has, h)) (ap (values_without gone) is ∙ none)

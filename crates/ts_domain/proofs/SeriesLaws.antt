@@ -5,7 +5,7 @@ use Rattle.std.specs.List.{AllByRecursion, flat_map}
 use Rattle.std.proofs.Common.{sym, ◌∙◌, ap, subst, inl, inr, arith, ⊎_elim}
 use Rattle.std.proofs.lemmas.List.Elements.{Contains-append_left, Contains-append_right, Contains-append_cases}
 use Rattle.ts_domain.specs.Values.{Rising}
-use Rattle.ts_domain.specs.BoxSeries.{InBox, IsBox, IsBefore, all_series}
+use Rattle.ts_domain.specs.BoxSeries.{InBox, IsBox, IsBefore, AreRising, all_series}
 use Rattle.ts_domain.proofs.BoxLaws.{contains_cons}
 
 -- lists
@@ -63,10 +63,6 @@ series_of_box (d ∷ ds) (v ∷ vs) = (
 )
 
 -- in lexicographic order
-
-abbrev pub AreRising : List (List ℤ) → Type 0
-AreRising [] = Unit {0}
-AreRising (x ∷ xs) = AllByRecursion (λ y. IsBefore x y) xs × AreRising xs
 
 all_append : {A : Type 0} (P : A → Type 0) (xs ys : List A) → AllByRecursion P xs → AllByRecursion P ys → AllByRecursion P (xs ++ ys)
 all_append P [] ys h g = g

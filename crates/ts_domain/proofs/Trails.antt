@@ -3,7 +3,7 @@ use Rattle.std.proofs.Common.{◌≡◌, ℕ, zero, suc, ◌+◌, ◌-◌, ◌<�
 use Rattle.std.proofs.lemmas.List.{set-set, set-get_or, length-set, get_or_default, take_more, take_all, get_or-take, take-take, length-take-le}
 use Rattle.std.proofs.Math.Seq.{take-append_seam, get_or-append_seam}
 use Rattle.ts_domain.specs.declared.boxed.Step.{Step}
-use Rattle.ts_domain.specs.BoxSeries.{Boxes, IsBox, IsCell, all_boxes, narrowed, back_to}
+use Rattle.ts_domain.specs.BoxSeries.{Boxes, IsBox, IsCell, all_boxes, box_with, back_to}
 use Rattle.ts_domain.specs.Trail.{first_box, earlier_boxes, StepsFit}
 use Rattle.ts_domain.specs.Values.{IsDomain}
 
@@ -75,7 +75,7 @@ fit_more ss mid ss' cells s lent dest h same steps below is_lent is_old domain =
 
 pub changed : (ss mid ss' : List Step) (cells : List (List ℤ)) (b : Boxes) (k at : ℕ) (read left lent old dest : List ℤ) (keep : List ℤ → List ℤ) →
     boxes_of ss cells ≡ b → at ≡ k - 1 → at < length cells → mid ≡ ss → read ≡ get_or cells at read → left ≡ keep read → lent ≡ get_or cells at lent → old ≡ lent → dest ≡ left →
-    ss' ≡ mid ++ record { cell = at; before = old } ∷ [] → boxes_of ss' (set cells at dest) ≡ narrowed k keep b
+    ss' ≡ mid ++ record { cell = at; before = old } ∷ [] → boxes_of ss' (set cells at dest) ≡ box_with k keep b
 changed ss mid ss' cells b k at read left lent old dest keep view place below same is_read is_left is_lent is_old is_dest steps =
     let kept : dest ≡ keep (get_or cells at []) = is_dest ∙ is_left ∙ ap keep (is_read ∙ get_or_default cells at read [] below) in
     let is : get_or cells at [] ≡ old = get_or_default cells at [] lent below ∙ sym is_lent ∙ sym is_old in
@@ -84,7 +84,7 @@ changed ss mid ss' cells b k at read left lent old dest keep view place below sa
     ap (λ x. earlier_boxes x (set cells at dest)) (steps ∙ ap (λ x. x ++ record { cell = at; before = old } ∷ []) same) ∙
     earlier-snoc ss (record { cell = at; before = old }) (set cells at dest) ∙ ap (λ c. earlier_boxes ss c ++ c ∷ []) back in
     let present : set cells at dest ≡ set cells (k - 1) (keep (get_or cells (k - 1) [])) = ap (set cells at) kept ∙ ap (λ i. set cells i (keep (get_or cells i []))) place in
-    ap (λ e. boxes e (set cells at dest)) earlier ∙ ap (boxes (all_boxes (boxes_of ss cells))) present ∙ ap (narrowed k keep) view
+    ap (λ e. boxes e (set cells at dest)) earlier ∙ ap (boxes (all_boxes (boxes_of ss cells))) present ∙ ap (box_with k keep) view
   where
     boxes : List (List (List ℤ)) → List (List ℤ) → Boxes
     boxes e p = record { earlier = e; present = p }

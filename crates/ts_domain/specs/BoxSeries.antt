@@ -21,6 +21,11 @@ IsBefore [] ws = ⊥
 IsBefore (v ∷ vs) [] = ⊥
 IsBefore (v ∷ vs) (w ∷ ws) = (v <ℤ w) ⊎ ((v ≡ w) × IsBefore vs ws)
 
+-- each series is before the later ones
+abbrev pub AreRising : List (List ℤ) → Type 0
+AreRising [] = Unit {0}
+AreRising (x ∷ xs) = AllByRecursion (λ y. IsBefore x y) xs × AreRising xs
+
 -- how many they are
 abbrev pub series_count : List (List ℤ) → ℕ
 series_count cells = length (all_series cells)
@@ -47,8 +52,8 @@ abbrev pub cell_of : ℕ → Boxes → List ℤ
 cell_of k b = get_or b.present (k - 1) []
 
 -- one more box: the present one, of which cell k keeps what `keep` leaves
-abbrev pub narrowed : ℕ → (List ℤ → List ℤ) → Boxes → Boxes
-narrowed k keep b = record { earlier = all_boxes b; present = set b.present (k - 1) (keep (cell_of k b)) }
+abbrev pub box_with : ℕ → (List ℤ → List ℤ) → Boxes → Boxes
+box_with k keep b = record { earlier = all_boxes b; present = set b.present (k - 1) (keep (cell_of k b)) }
 
 -- back to the box at a place, counted from 0
 abbrev pub back_to : ℕ → Boxes → Boxes

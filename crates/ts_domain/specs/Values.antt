@@ -1,11 +1,12 @@
 -- Sets of numbers as their rising lists, and the ranges that keep them.
 use Rattle.std.specs.Prelude.{◌≢◌, ℕ, zero, suc, ℤ, pos, negsuc, neg_ℤ, ◌+ℤ◌, ◌-ℤ◌, ◌≤ℤ◌, ◌<ℤ◌, List, [], ◌∷◌, ◌++◌}
 use Rattle.std.specs.List.{AllByRecursion}
+use Rattle.ts_base.specs.Limits.{IsCellValue}
 use Rattle.ts_domain.specs.declared.interval.Interval.{Interval}
 
 -- a number of a domain or of a series
 abbrev pub WithinLimits : ℤ → Type 0
-WithinLimits v = (neg_ℤ (pos 1000000) ≤ℤ v) × (v ≤ℤ pos 1000000)
+WithinLimits v = IsCellValue v
 
 -- each number is below the later ones
 unfoldable pub Rising : List ℤ → Type 0
@@ -40,7 +41,8 @@ values_of (r ∷ rs) = values_between r.low r.high ++ values_of rs
 -- no range is empty, each begins at `from` or later and ends within the limits, and a gap lies before the next one
 unfoldable pub RangesFrom : ℤ → List Interval → Type 0
 RangesFrom from [] = Unit {0}
-RangesFrom from (r ∷ rs) = (from ≤ℤ r.low) × (r.low ≤ℤ r.high) × (r.high ≤ℤ pos 1000000) × RangesFrom (r.high +ℤ pos 2) rs
+RangesFrom from (r ∷ rs) =
+    (from ≤ℤ r.low) × (r.low ≤ℤ r.high) × (r.high ≤ℤ pos 1000000) × RangesFrom (r.high +ℤ pos 2) rs
 
 -- the ranges of a set in its one form
 pub record AreRanges (ranges : List Interval) : Type 0 where

@@ -2,7 +2,7 @@
 
 ghost use Rattle.std.specs.Prelude.{◌≡◌, ◌≢◌, ◌-◌, ◌<◌, ◌≤◌, [], ◌∷◌, ◌++◌, length, IfOk, OnOk, OnErr, slice_get, Some};
 ghost use Rattle.ts_domain.specs.Kept.{kept, values_up_to, values_above, values_without};
-ghost use Rattle.ts_domain.specs.BoxSeries.{IsBox, IsCell, cell_of, narrowed, back_to};
+ghost use Rattle.ts_domain.specs.BoxSeries.{IsBox, IsCell, cell_of, box_with, back_to};
 ghost use Rattle.ts_domain.specs.Values.{IsDomain};
 
 use crate::domain::Domain;
@@ -48,7 +48,7 @@ impl Boxed {
         let mut copies = Vec::new(alloc);
         for domain in cells {
             copies.reserve(1)?;
-            copies.push_reserved(domain.try_clone(alloc)?);
+            copies.push_reserved(domain.try_clone()?);
         }
         Ok(Boxed {
             alloc,
@@ -68,7 +68,7 @@ impl Boxed {
     /// The domain of cell `k`, counted from 1, in the present box.
     pub fn cell(&self, k: u32) -> &Domain
         requires { IsCell k self.now }
-        ensures { slice_get self.now.present (k - 1) ≡ Some result.now }
+        ensures { result.now ≡ cell_of k self.now }
     {
         &self.cells[k as usize - 1]
     }
@@ -77,7 +77,7 @@ impl Boxed {
     pub fn keep_low(&mut self, k: u32, t: i64) -> Result<(), Memory>
         requires cell { IsCell k self.old }
         requires stays { values_up_to t (cell_of k self.old) ≢ [] }
-        ensures ok { OnOk result (self.new ≡ narrowed k (values_up_to t) self.old) }
+        ensures ok { OnOk result (self.new ≡ box_with k (values_up_to t) self.old) }
         ensures err { OnErr result (self.new ≡ self.old) }
     {
         self.change(k, Keep::UpTo(t))
@@ -87,7 +87,7 @@ impl Boxed {
     pub fn keep_high(&mut self, k: u32, t: i64) -> Result<(), Memory>
         requires cell { IsCell k self.old }
         requires stays { values_above t (cell_of k self.old) ≢ [] }
-        ensures ok { OnOk result (self.new ≡ narrowed k (values_above t) self.old) }
+        ensures ok { OnOk result (self.new ≡ box_with k (values_above t) self.old) }
         ensures err { OnErr result (self.new ≡ self.old) }
     {
         self.change(k, Keep::Above(t))
@@ -97,7 +97,7 @@ impl Boxed {
     pub fn remove(&mut self, k: u32, v: i64) -> Result<(), Memory>
         requires cell { IsCell k self.old }
         requires stays { values_without v (cell_of k self.old) ≢ [] }
-        ensures ok { OnOk result (self.new ≡ narrowed k (values_without v) self.old) }
+        ensures ok { OnOk result (self.new ≡ box_with k (values_without v) self.old) }
         ensures err { OnErr result (self.new ≡ self.old) }
     {
         self.change(k, Keep::AllBut(v))
@@ -126,7 +126,7 @@ impl Boxed {
     fn change(&mut self, k: u32, keep: Keep) -> Result<(), Memory>
         requires cell { IsCell k self.old }
         requires stays { kept keep (cell_of k self.old) ≢ [] }
-        ensures ok { OnOk result (self.new ≡ narrowed k (kept keep) self.old) }
+        ensures ok { OnOk result (self.new ≡ box_with k (kept keep) self.old) }
         ensures err { OnErr result (self.new ≡ self.old) }
     {
         let at = k - 1;

@@ -12,13 +12,15 @@ use crate::keep::Keep;
 use smallvec::SmallVec;
 use std::alloc::Global;
 use std::marker::Model;
+use std::rc::Rc;
 use thiserror::Error;
 use ts_base::Memory;
 
-/// A non-empty set of numbers from -1,000,000 to 1,000,000, which contracts see as its rising list.
-#[derive(Debug, Drop)]
+/// A non-empty set of numbers from -1,000,000 to 1,000,000, which contracts see as its rising list. Its copies share the
+/// ranges.
+#[derive(Drop)]
 pub struct Domain {
-    ranges: SmallVec<Interval, 2>,
+    ranges: Rc<SmallVec<Interval, 2>, Global>,
 }
 
 /// Why ranges make no domain: there is none, or one is empty; or there was no memory.
@@ -46,9 +48,9 @@ impl Model for Domain {
 
     ghost Value = { List ℤ };
 
-    ghost view = { λ d. values_of d.ranges.items };
+    ghost view = { λ d. values_of d.ranges.value.items };
 
-    ghost invariant = { λ d. AreRanges d.ranges.items };
+    ghost invariant = { λ d. AreRanges d.ranges.value.items };
 }
 
 impl Domain {
@@ -69,13 +71,13 @@ impl Domain {
         Ok(union_of(alloc, lows, highs)?)
     }
 
-    /// The same set once more.
-    pub fn try_clone(&self, alloc: Global) -> Result<Domain, Memory>
+    /// The same set once more, on the same ranges: it costs a count.
+    pub fn try_clone(&self) -> Result<Domain, Memory>
         ensures same { IfOk result (λ d. d ≡ self.now) }
         ensures domain { IfOk result IsDomain }
     {
         Ok(Domain {
-            ranges: SmallVec::from_slice(alloc, self.ranges.as_slice())?,
+            ranges: self.ranges.clone()?,
         })
     }
 
@@ -143,7 +145,9 @@ impl Domain {
             push_part(&mut left, keep.lower_part(*range))?;
             push_part(&mut left, keep.upper_part(*range))?;
         }
-        Ok(Domain { ranges: left })
+        Ok(Domain {
+            ranges: Rc::new(alloc, left)?,
+        })
     }
 }
 
@@ -240,5 +244,7 @@ fn joined(alloc: Global, sorted: &[Interval]) -> Result<Domain, Memory>
         }
     }
     ranges.push(last)?;
-    Ok(Domain { ranges })
+    Ok(Domain {
+        ranges: Rc::new(alloc, ranges)?,
+    })
 }

@@ -12,8 +12,8 @@ pub struct Interval {
 }
 
 impl Interval {
-    /// The number of its numbers.
-    pub fn count(self) -> u64
+    /// How many numbers it has, of which none is beyond the limits.
+    pub(crate) fn count(self) -> u64
         requires from { neg_ℤ (pos 1000000) ≤ℤ self.low }
         requires ordered { self.low ≤ℤ self.high }
         requires to { self.high ≤ℤ pos 1000000 }
@@ -23,7 +23,7 @@ impl Interval {
     }
 
     /// Whether it has one number alone.
-    pub fn is_single(self) -> bool
+    pub(crate) fn is_single(self) -> bool
         ensures { IsTrue result ↔ (self.low ≡ self.high) }
     {
         self.low == self.high

@@ -6,6 +6,9 @@
 //! Each change leaves exactly the named values of one cell and adds a box, and `undo` goes back to any earlier box
 //! without memory. After want of memory the value is as it was.
 //!
+//! Copies of a domain share its ranges: one costs a count, so a box of many cells with one domain has its ranges once.
+//! A change makes the ranges of the one cell anew, and the trail keeps the earlier ones.
+//!
 //! ```text
 //! let digits = Domain::from_ranges(alloc, &[0, 7], &[4, 9])?;
 //! let mut cells = Boxed::new(alloc, &[digits])?;
@@ -15,10 +18,11 @@
 //! ```
 #![tactic(auto)]
 
-pub mod boxed;
-pub mod domain;
-pub mod interval;
+mod boxed;
+mod domain;
+mod interval;
 mod keep;
+pub mod laws;
 
 pub use boxed::Boxed;
 pub use domain::{Domain, DomainStop};

@@ -24,7 +24,7 @@ loop-next-preserved c =
     ]
 
 pub returns-clause-union : goal.returns-clause-union
-returns-clause-union c = joined_numbers c.args.sorted.now _ _ _ _ c.loop-next.invariant c.in_ok-push-2.ensures.ok c.loop-next-test.false
+returns-clause-union c = joined_numbers c.args.sorted.now _ _ _ _ c.loop-next.invariant (ap (λ v. v.items) c.in_ok-new.ensures.ok ∙ c.in_ok-push-2.ensures.ok) c.loop-next-test.false
 
 pub returns-clause-domain : goal.returns-clause-domain
-returns-clause-domain c = ranges_are_domain _ (joined_ranges c.args.sorted.now _ _ _ _ c.loop-next.invariant c.in_ok-push-2.ensures.ok)
+returns-clause-domain c = ranges_are_domain _ (joined_ranges c.args.sorted.now _ _ _ _ c.loop-next.invariant (ap (λ v. v.items) c.in_ok-new.ensures.ok ∙ c.in_ok-push-2.ensures.ok))
