@@ -217,7 +217,7 @@ impl Cells {
     {
         let mut all = Vec::new(alloc);
         for place in 0..self.own.len() {
-            all.push(self.in_force(place).try_clone(alloc)?)?;
+            all.push(self.in_force(place).try_clone()?)?;
         }
         Ok(all)
     }
