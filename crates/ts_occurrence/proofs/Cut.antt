@@ -4,19 +4,20 @@ use Rattle.std.specs.Prelude.{◌≡◌, ℕ, ◌+◌, ◌-◌, ◌<◌, ◌≤�
 use Rattle.std.proofs.Common.{sym, ◌∙◌, ap, subst, arith, get_or, add-one, drop-cons}
 use Rattle.std.proofs.lemmas.Option.{slice_get-get_or}
 use Rattle.ts_base.specs.declared.range.Range.{Range}
-use Rattle.ts_pattern.specs.EachOf.{Each}
+use Rattle.std.specs.List.{AllByRecursion}
 use Rattle.ts_occurrence.specs.Noted.{IsCut}
 
 pub cut_more : (cell k : ℕ) (xs : List Range) (x : Range) → 0 < k → k ≤ length xs → x ≡ get_or xs (k - 1) x → cell ≤ x.first →
-    Each (λ r. cell ≤ r.first) (drop k xs) → Each (λ r. cell ≤ r.first) (drop (k - 1) xs)
+    AllByRecursion (λ r. cell ≤ r.first) (drop k xs) → AllByRecursion (λ r. cell ≤ r.first) (drop (k - 1) xs)
 cut_more cell k xs x p q e c h =
     let inside : k - 1 < length xs = omega arith in
     let next : k - 1 + 1 ≡ k = omega arith in
     let parts : drop (k - 1) xs ≡ get_or xs (k - 1) x ∷ drop (k - 1 + 1) xs = rw (add-one, drop-cons xs (k - 1) x) in
-    subst (λ z. Each (λ r. cell ≤ r.first) z) (sym (parts ∙ ap (λ z. get_or xs (k - 1) x ∷ drop z xs) next))
+    subst (λ z. AllByRecursion (λ r. cell ≤ r.first) z) (sym (parts ∙ ap (λ z. get_or xs (k - 1) x ∷ drop z xs) next))
     (subst (λ (z : Range). cell ≤ z.first) e c, h)
 
-pub cut_done : (cell k : ℕ) (xs : List Range) (x : Range) → k ≤ length xs → x ≡ get_or xs (k - 1) x → x.first < cell → Each (λ r. cell ≤ r.first) (drop k xs) →
+pub cut_done : (cell k : ℕ) (xs : List Range) (x : Range) → k ≤ length xs → x ≡ get_or xs (k - 1) x → x.first < cell →
+    AllByRecursion (λ r. cell ≤ r.first) (drop k xs) →
     IsCut xs cell k
 cut_done cell k xs x q e c h =
     record {

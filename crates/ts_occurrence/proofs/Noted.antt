@@ -8,7 +8,8 @@ use Rattle.ts_regex.specs.Shape.{Shape}
 use Rattle.ts_regex.specs.Language.{InLanguage}
 use Rattle.ts_regex.specs.Derivative.{nullable}
 use Rattle.ts_regex.proofs.Laws.{nullable_law}
-use Rattle.ts_pattern.specs.EachOf.{Each, OneOf}
+use Rattle.ts_pattern.specs.EachOf.{OneOf}
+use Rattle.std.specs.List.{AllByRecursion}
 use Rattle.ts_pattern.specs.Occurrences.{IsMatch, IsOccurrence}
 use Rattle.ts_pattern.specs.OccurrenceList.{Place, RisingPlaces, AreOccurrences, e_range, AreRanges}
 use Rattle.ts_transducer.specs.Inside.{IsInside}
@@ -32,7 +33,7 @@ none_accepts (e ∷ es) q h =
     ] refl q
 
 -- what is found is the mark of an entry that accepts, and no entry that accepts is earlier
-found_accepts : (P : Start → Type 0) (m : ℕ) (es : List Start) → Each P es → first_ending es ≡ Some m → (e : Start) × P e × Accepts e × (e.mark ≡ m)
+found_accepts : (P : Start → Type 0) (m : ℕ) (es : List Start) → AllByRecursion P es → first_ending es ≡ Some m → (e : Start) × P e × Accepts e × (e.mark ≡ m)
 found_accepts P m [] h q = cc
 found_accepts P m (e ∷ es) h q =
     elim (nullable e.residual) as (λ b. nullable e.residual ≡ b → cond b (Some e.mark) (first_ending es) ≡ Some m →
@@ -79,7 +80,7 @@ least_found p w l es m h q =
         })
 
 -- what is found is a start before the signs read
-pub found_below : (k m : ℕ) (es : List Start) → Each (λ e. e.mark < k) es → first_ending es ≡ Some m → m < k
+pub found_below : (k m : ℕ) (es : List Start) → AllByRecursion (λ e. e.mark < k) es → first_ending es ≡ Some m → m < k
 found_below k m es h q =
     let f = found_accepts (λ e. e.mark < k) m es h q in
     let x = f.1 in
@@ -107,24 +108,24 @@ get_map f n [] x q = cc
 get_map f zero (y ∷ xs) x q = ap (λ z. Some (f z)) (let e : y ≡ x = cc in e)
 get_map f (suc n) (y ∷ xs) x q = get_map f n xs x q
 
-each_of_map : {A B : Type 0} (P : B → Type 0) (f : A → B) (xs : List A) → Each P (map f xs) → Each (λ x. P (f x)) xs
+each_of_map : {A B : Type 0} (P : B → Type 0) (f : A → B) (xs : List A) → AllByRecursion P (map f xs) → AllByRecursion (λ x. P (f x)) xs
 each_of_map P f [] h = tt
 each_of_map P f (x ∷ xs) h = (h.0, each_of_map P f xs h.1)
 
-each_to_map : {A B : Type 0} (P : B → Type 0) (f : A → B) (xs : List A) → Each (λ x. P (f x)) xs → Each P (map f xs)
+each_to_map : {A B : Type 0} (P : B → Type 0) (f : A → B) (xs : List A) → AllByRecursion (λ x. P (f x)) xs → AllByRecursion P (map f xs)
 each_to_map P f [] h = tt
 each_to_map P f (x ∷ xs) h = (h.0, each_to_map P f xs h.1)
 
 -- the places before a start rise, so it is enough to know the last of them
 before_start : (m low n : ℕ) (xs : List Place) → RisingPlaces low xs → n ≤ length xs →
-    ((x : Place) (k : ℕ) → n ≡ suc k → slice_get xs k ≡ Some x → x.start < m) → Each (λ x. x.start < m) (take n xs)
+    ((x : Place) (k : ℕ) → n ≡ suc k → slice_get xs k ≡ Some x → x.start < m) → AllByRecursion (λ x. x.start < m) (take n xs)
 before_start m low zero xs r q h = tt
 before_start m low (suc zero) [] r q h = tt
 before_start m low (suc zero) (x ∷ xs) r q h = (h x 0 refl refl, tt)
 before_start m low (suc (suc n)) [] r q h = tt
 before_start m low (suc (suc n)) (x ∷ []) r q h = absurd (omega arith)
 before_start m low (suc (suc n)) (x ∷ y ∷ xs) r q h =
-    let rest : Each (λ z. z.start < m) (take (suc n) (y ∷ xs)) =
+    let rest : AllByRecursion (λ z. z.start < m) (take (suc n) (y ∷ xs)) =
     before_start m (x.start + 1) (suc n) (y ∷ xs) r.1 (omega arith) (λ z k a b. h z (suc k) (ap suc a) b) in
     ((let a = rest.0 in let b = r.1.0 in omega arith), rest)
 
@@ -149,7 +150,7 @@ noted_step p b a w l es old new h n r = go (first_ending es) refl n
               (get_map (λ x. e_range b a x) (kept - 1) places x (subst (λ j. slice_get places j ≡ Some x) (sym i) g)) in omega arith))
               (each_map (λ x. m + 1 + b ≤ (e_range b a x).first) (λ x. m ≤ x.start) (λ x k. omega arith) (drop kept places)
               (each_of_map (λ g. m + 1 + b ≤ g.first) (λ x. e_range b a x) (drop kept places)
-              (subst (λ z. Each (λ g. m + 1 + b ≤ g.first) z) (drop_map (λ x. e_range b a x) kept places) cut.behind))),
+              (subst (λ z. AllByRecursion (λ g. m + 1 + b ≤ g.first) z) (drop_map (λ x. e_range b a x) kept places) cut.behind))),
           e
               ∙ ap (λ z. take kept z ++ e_range b a last ∷ []) r.2
               ∙ ap (λ z. z ++ e_range b a last ∷ []) (take_map (λ x. e_range b a x) kept places)
@@ -169,9 +170,9 @@ noted_step p b a w l es old new h n r = go (first_ending es) refl n
 
 -- with fitting trims each range has a cell and lies in the series
 pub inside_series : (p : Shape) (b a : ℕ) (w : List Letter) (ranges : List Range) → FitsTrims p b a → AreRanges p b a w ranges →
-    Each (λ r. IsInside (length w + 1) r) ranges
+    AllByRecursion (λ r. IsInside (length w + 1) r) ranges
 inside_series p b a w ranges f h =
-    subst (λ z. Each (λ r. IsInside (length w + 1) r) z) (sym h.2)
+    subst (λ z. AllByRecursion (λ r. IsInside (length w + 1) r) z) (sym h.2)
     (each_to_map (λ r. IsInside (length w + 1) r) (λ x. e_range b a x) h.0
     (each_map (λ x. IsOccurrence p w x.start x.end) (λ x. IsInside (length w + 1) (e_range b a x)) (λ x o. one x o) h.0 h.1.each))
   where

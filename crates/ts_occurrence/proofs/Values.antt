@@ -9,7 +9,7 @@ use Rattle.ts_regex.specs.Shape.{Shape}
 use Rattle.ts_pattern.specs.declared.name.Aggregator.{Aggregator}
 use Rattle.ts_pattern.specs.declared.name.Feature.{Feature}
 use Rattle.ts_pattern.specs.declared.name.PatternId.{PatternId}
-use Rattle.ts_pattern.specs.EachOf.{Each}
+use Rattle.std.specs.List.{AllByRecursion}
 use Rattle.ts_pattern.specs.Occurrences.{IsOccurrence}
 use Rattle.ts_pattern.specs.OccurrenceList.{Place, RisingPlaces, e_range, AreRanges}
 use Rattle.ts_pattern.specs.AllOccurrences.{occurrence_ranges}
@@ -23,7 +23,7 @@ signature_length (x ∷ []) q = refl
 signature_length (x ∷ y ∷ xs) q = let h = signature_length (y ∷ xs) (omega arith) in omega arith
 
 -- rising starts below n are at most n
-rising_count : (low n : ℕ) (xs : List Place) → low ≤ n → RisingPlaces low xs → Each (λ x. x.start < n) xs → low + length xs ≤ n
+rising_count : (low n : ℕ) (xs : List Place) → low ≤ n → RisingPlaces low xs → AllByRecursion (λ x. x.start < n) xs → low + length xs ≤ n
 rising_count low n [] q r h = omega arith
 rising_count low n (x ∷ xs) q r h =
     let a = r.0 in

@@ -4,7 +4,7 @@ use Rattle.std.specs.Prelude.{ℕ, ◌<◌, List, [], ◌∷◌, map, length, ge
 use Rattle.ts_regex.specs.Shape.{Shape, NoWord}
 use Rattle.ts_regex.specs.Derivative.{nullable}
 use Rattle.ts_pattern.specs.Entries.{Entry}
-use Rattle.ts_pattern.specs.EachOf.{Each}
+use Rattle.std.specs.List.{AllByRecursion}
 use Rattle.ts_occurrence.specs.declared.live.LiveStart.{LiveStart}
 
 abbrev pub Start : Type 0
@@ -21,7 +21,7 @@ entries_of rs es = map (λ e. entry_of rs e) es
 
 -- the residuals of all are among those met
 abbrev pub AreKnown : List Shape → List LiveStart → Type 0
-AreKnown rs es = Each (λ e. e.residual < length rs) es
+AreKnown rs es = AllByRecursion (λ e. e.residual < length rs) es
 
 -- the first start from which a match ends at the sign just read
 abbrev pub first_ending : List Start → Option ℕ

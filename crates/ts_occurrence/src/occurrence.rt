@@ -6,7 +6,7 @@
 
 ghost use Rattle.std.specs.Prelude.{◌≡◌, ◌<◌, ◌≤◌, ◌+◌, length, IfOk, IfSome};
 ghost use Rattle.ts_regex.specs.Shape.{shape_of};
-ghost use Rattle.ts_pattern.specs.EachOf.{Each};
+ghost use Rattle.std.specs.List.{AllByRecursion};
 ghost use Rattle.ts_pattern.specs.Trims.{FitsTrims};
 ghost use Rattle.ts_pattern.specs.OccurrenceList.{AreRanges};
 ghost use Rattle.ts_pattern.specs.AllOccurrences.{occurrence_ranges};
@@ -28,7 +28,7 @@ pub fn occurrences(alloc: Global, p: &Pattern, w: &[Letter]) -> Result<Vec<Range
     requires fits { FitsTrims (shape_of p.now.regex) p.now.b p.now.a }
     ensures exact { IfOk result (λ v. v.items ≡ occurrence_ranges (shape_of p.now.regex) p.now.b p.now.a w.now) }
     ensures listed { IfOk result (λ v. AreRanges (shape_of p.now.regex) p.now.b p.now.a w.now v.items) }
-    ensures inside { IfOk result (λ v. Each (λ r. IsInside (length w.now + 1) r) v.items) }
+    ensures inside { IfOk result (λ v. AllByRecursion (λ r. IsInside (length w.now + 1) r) v.items) }
 {
     Ok(maximal_matches(alloc, p, w)?)
 }

@@ -4,16 +4,15 @@
 //! `Ext::plus`.
 
 ghost use Rattle.std.specs.Prelude.{◌≡◌, ◌≤◌, ℤ, pos, neg_ℤ, ◌+ℤ◌, ◌≤ℤ◌, List, map, length, IfOk, IfSome};
-ghost use Rattle.std.specs.List.{All, fold};
+ghost use Rattle.std.specs.List.{All, fold, AllByRecursion};
 ghost use Rattle.std.specs.Int.{int_max, int_min};
 ghost use Rattle.ts_base.specs.Signature.{signature_of};
-ghost use Rattle.ts_pattern.specs.EachOf.{Each};
 ghost use Rattle.ts_pattern.specs.Limits.{IsSeries};
 ghost use Rattle.ts_base.specs.Limits.{IsCellValue};
 ghost use Rattle.ts_pattern.specs.FeatureValue.{over, or_zero, feature_of_cells, feature_value};
 ghost use Rattle.ts_transducer.specs.Inside.{IsInside};
 ghost use Rattle.ts_occurrence.specs.Total.{IsWithin, with_one};
-ghost use Rattle.ts_pattern.specs.TermValue.{joined, value_of_none, aggregate_of_ranges, term_value};
+ghost use Rattle.ts_pattern.specs.TermValue.{combine, value_of_none, aggregate_of_ranges, term_value};
 
 use crate::occurrence::occurrences;
 use crate::series::{part, signature};
@@ -50,7 +49,7 @@ pub fn value_with(
 pub fn aggregate(g: Aggregator, f: Feature, ranges: &[Range], series: &[i64]) -> Ext
     requires series { IsSeries series.now }
     requires few { length ranges.now ≤ 512 }
-    requires inside { Each (λ r. IsInside (length series.now) r) ranges.now }
+    requires inside { AllByRecursion (λ r. IsInside (length series.now) r) ranges.now }
     ensures { result ≡ aggregate_of_ranges g f ranges.now series.now }
 {
     match total(g, f, ranges, series) {
@@ -62,8 +61,8 @@ pub fn aggregate(g: Aggregator, f: Feature, ranges: &[Range], series: &[i64]) ->
 fn total(g: Aggregator, f: Feature, ranges: &[Range], series: &[i64]) -> Option<i64>
     requires series { IsSeries series.now }
     requires few { length ranges.now ≤ 512 }
-    requires inside { Each (λ r. IsInside (length series.now) r) ranges.now }
-    ensures { result ≡ over (joined g) (map (λ r. feature_value f r series.now) ranges.now) }
+    requires inside { AllByRecursion (λ r. IsInside (length series.now) r) ranges.now }
+    ensures { result ≡ over (combine g) (map (λ r. feature_value f r series.now) ranges.now) }
 {
     let mut total = None;
     for k in 0..ranges.len() {
@@ -77,7 +76,7 @@ fn total(g: Aggregator, f: Feature, ranges: &[Range], series: &[i64]) -> Option<
 fn join(g: Aggregator, total: Option<i64>, x: i64) -> i64
     requires total { IfSome total (λ t. IsWithin 1000000000000 t) }
     requires feature { IsWithin 512000000 x }
-    ensures { result ≡ with_one (joined g) total x }
+    ensures { result ≡ with_one (combine g) total x }
 {
     match (g, total) {
         (_, None) => x,
@@ -129,7 +128,7 @@ fn feature(f: Feature, cells: &[i64]) -> i64
 fn over(g: Aggregator, cells: &[i64]) -> i64
     requires few { length cells.now ≤ 512 }
     requires cells { All IsCellValue cells.now }
-    ensures exact { result ≡ or_zero (over (joined g) cells.now) }
+    ensures exact { result ≡ or_zero (over (combine g) cells.now) }
     ensures within { IsWithin 512000000 result }
 {
     let mut total = None;

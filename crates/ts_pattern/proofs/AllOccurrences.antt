@@ -1,6 +1,6 @@
 -- The list of all occurrences is the one list that stands in the relation.
 use Rattle.std.specs.Prelude.{◌≡◌, ◌⊎◌, ℕ, zero, suc, ◌+◌, ◌==◌, ◌<◌, ◌≤◌, nat_le, Bool, true, false, cond, not, ◌&&◌, ◌||◌, List, [], ◌∷◌, ◌++◌, map, length, slice_range, refl}
-use Rattle.std.specs.List.{filter, list_all}
+use Rattle.std.specs.List.{filter, list_all, AllByRecursion}
 use Rattle.std.proofs.Common.{sym, ◌∙◌, ap, subst, inl, inr, arith, ⊎_elim}
 use Rattle.ts_base.specs.declared.letter.Letter.{Letter}
 use Rattle.ts_base.specs.declared.range.Range.{Range}
@@ -8,7 +8,7 @@ use Rattle.ts_regex.specs.Shape.{Shape}
 use Rattle.ts_regex.specs.Membership.{is_word}
 use Rattle.ts_regex.proofs.Laws.{is_word_to, is_word_back}
 use Rattle.ts_pattern.specs.Occurrences.{IsMatch, IsOccurrence}
-use Rattle.ts_pattern.specs.EachOf.{Each, OneOf}
+use Rattle.ts_pattern.specs.EachOf.{OneOf}
 use Rattle.ts_pattern.specs.OccurrenceList.{Place, RisingPlaces, IsPlace, AreOccurrences, e_range, AreRanges}
 use Rattle.ts_pattern.specs.AllOccurrences.{places_from, places_after, match_places, is_not_wider, occurrence_places, occurrence_ranges}
 use Rattle.ts_pattern.proofs.Entries.{each_filter}
@@ -22,15 +22,15 @@ same_number a b h = grind arith
 other_number : (a b : ℕ) → a == b ≡ false → a ≡ b → ⊥
 other_number a b h q = grind arith
 
-each_append : {A : Type 0} (p : A → Type 0) (xs ys : List A) → Each p xs → Each p ys → Each p (xs ++ ys)
+each_append : {A : Type 0} (p : A → Type 0) (xs ys : List A) → AllByRecursion p xs → AllByRecursion p ys → AllByRecursion p (xs ++ ys)
 each_append p [] ys h k = k
 each_append p (x ∷ xs) ys h k = (h.0, each_append p xs ys h.1 k)
 
 -- what passes the filter passes the test
-each_passes : {A : Type 0} (q : A → Bool) (es : List A) → Each (λ x. q x ≡ true) (filter q es)
+each_passes : {A : Type 0} (q : A → Bool) (es : List A) → AllByRecursion (λ x. q x ≡ true) (filter q es)
 each_passes q [] = tt
 each_passes q (e ∷ es) =
-    elim (q e) as (λ b. q e ≡ b → Each (λ x. q x ≡ true) (cond b (e ∷ filter q es) (filter q es))) [
+    elim (q e) as (λ b. q e ≡ b → AllByRecursion (λ x. q x ≡ true) (cond b (e ∷ filter q es) (filter q es))) [
       | true ↦ λ h. (h, each_passes q es)
       | false ↦ λ h. each_passes q es
     ] refl
@@ -55,7 +55,7 @@ After x y = (x.start < y.start) ⊎ ((x.start ≡ y.start) × (x.end < y.end))
 
 abbrev Ordered : List Place → Type 0
 Ordered [] = Unit {0}
-Ordered (x ∷ xs) = Each (After x) xs × Ordered xs
+Ordered (x ∷ xs) = AllByRecursion (After x) xs × Ordered xs
 
 ordered_filter : (q : Place → Bool) (xs : List Place) → Ordered xs → Ordered (filter q xs)
 ordered_filter q [] h = tt
@@ -65,12 +65,12 @@ ordered_filter q (x ∷ xs) h =
       | false ↦ ordered_filter q xs h.1
     ]
 
-ordered_append : (xs ys : List Place) → Ordered xs → Ordered ys → Each (λ x. Each (After x) ys) xs → Ordered (xs ++ ys)
+ordered_append : (xs ys : List Place) → Ordered xs → Ordered ys → AllByRecursion (λ x. AllByRecursion (After x) ys) xs → Ordered (xs ++ ys)
 ordered_append [] ys h k a = k
 ordered_append (x ∷ xs) ys h k a = (each_append (After x) xs ys h.0 a.0, ordered_append xs ys h.1 k a.1)
 
 -- the places from one start
-from_starts : (s e c : ℕ) → Each (λ x. (x.start ≡ s) × (e ≤ x.end)) (places_from s e c)
+from_starts : (s e c : ℕ) → AllByRecursion (λ x. (x.start ≡ s) × (e ≤ x.end)) (places_from s e c)
 from_starts s e zero = tt
 from_starts s e (suc c) = (
   (refl, omega arith),
@@ -78,7 +78,7 @@ from_starts s e (suc c) = (
       (places_from s (e + 1) c) (from_starts s (e + 1) c),
 )
 
-from_inside : (s e c n : ℕ) → s < e → e + c ≤ n + 1 → Each (λ x. (x.start < x.end) × (x.end ≤ n)) (places_from s e c)
+from_inside : (s e c n : ℕ) → s < e → e + c ≤ n + 1 → AllByRecursion (λ x. (x.start < x.end) × (x.end ≤ n)) (places_from s e c)
 from_inside s e zero n p q = tt
 from_inside s e (suc c) n p q = ((p, omega arith), from_inside s (e + 1) c n (omega arith) (omega arith))
 
@@ -99,7 +99,7 @@ from_has s e (suc c) k p q =
     ] refl
 
 -- all places
-after_starts : (s c : ℕ) → Each (λ x. s ≤ x.start) (places_after s c)
+after_starts : (s c : ℕ) → AllByRecursion (λ x. s ≤ x.start) (places_after s c)
 after_starts s zero = tt
 after_starts s (suc c) =
     each_append (λ x. s ≤ x.start) (places_from s (s + 1) (suc c)) (places_after (s + 1) c)
@@ -107,7 +107,7 @@ after_starts s (suc c) =
     (from_starts s (s + 1) (suc c)))
     (each_map (λ x. s + 1 ≤ x.start) (λ x. s ≤ x.start) (λ x h. omega arith) (places_after (s + 1) c) (after_starts (s + 1) c))
 
-after_inside : (s c n : ℕ) → s + c ≤ n → Each (λ x. (x.start < x.end) × (x.end ≤ n)) (places_after s c)
+after_inside : (s c n : ℕ) → s + c ≤ n → AllByRecursion (λ x. (x.start < x.end) × (x.end ≤ n)) (places_after s c)
 after_inside s zero n p = tt
 after_inside s (suc c) n p =
     each_append (λ x. (x.start < x.end) × (x.end ≤ n)) (places_from s (s + 1) (suc c)) (places_after (s + 1) c)
@@ -118,7 +118,7 @@ after_ordered : (s c : ℕ) → Ordered (places_after s c)
 after_ordered s zero = tt
 after_ordered s (suc c) =
     ordered_append (places_from s (s + 1) (suc c)) (places_after (s + 1) c) (from_ordered s (s + 1) (suc c)) (after_ordered (s + 1) c)
-    (each_map (λ x. (x.start ≡ s) × (s + 1 ≤ x.end)) (λ x. Each (After x) (places_after (s + 1) c))
+    (each_map (λ x. (x.start ≡ s) × (s + 1 ≤ x.end)) (λ x. AllByRecursion (After x) (places_after (s + 1) c))
     (λ x h. each_map (λ y. s + 1 ≤ y.start) (After x) (λ y k. inl (let z = h.0 in omega arith)) (places_after (s + 1) c) (after_starts (s + 1) c))
     (places_from s (s + 1) (suc c)) (from_starts s (s + 1) (suc c)))
 
@@ -134,7 +134,7 @@ after_has s (suc c) i k p q r =
     ] refl
 
 -- the matches
-each_match : (p : Shape) (w : List Letter) → Each (λ x. IsMatch p w x.start x.end) (match_places p w)
+each_match : (p : Shape) (w : List Letter) → AllByRecursion (λ x. IsMatch p w x.start x.end) (match_places p w)
 unfolding match_places
 each_match p w =
     each_map (λ x. ((x.start < x.end) × (x.end ≤ length w)) × (is_word p (slice_range w x.start x.end) ≡ true)) (λ x. IsMatch p w x.start x.end)
@@ -154,11 +154,11 @@ has_match p w s e m =
     (after_has 0 (length w) s e (omega arith) m.some (omega arith))
 
 -- the test of the widest
-all_test : (q : Place → Bool) (xs : List Place) → Each (λ x. q x ≡ true) xs → list_all q xs ≡ true
+all_test : (q : Place → Bool) (xs : List Place) → AllByRecursion (λ x. q x ≡ true) xs → list_all q xs ≡ true
 all_test q [] h = refl
 all_test q (x ∷ xs) h = ap (λ b. b && list_all q xs) h.0 ∙ all_test q xs h.1
 
-test_all : (q : Place → Bool) (xs : List Place) → list_all q xs ≡ true → Each (λ x. q x ≡ true) xs
+test_all : (q : Place → Bool) (xs : List Place) → list_all q xs ≡ true → AllByRecursion (λ x. q x ≡ true) xs
 test_all q [] h = tt
 test_all q (x ∷ xs) h = let k = split (q x) (list_all q xs) h in (k.0, test_all q xs k.1)
   where
@@ -179,12 +179,12 @@ is_widest x y h = numbers x.start x.end y.start y.end h
     numbers a b c d h = grind arith
 
 -- what holds of each place of a list, holds of a place that is in it
-at_place : (P : Place → Type 0) (s e : ℕ) (xs : List Place) → Each P xs → OneOf (IsPlace s e) xs → P (record { start = s; end = e })
+at_place : (P : Place → Type 0) (s e : ℕ) (xs : List Place) → AllByRecursion P xs → OneOf (IsPlace s e) xs → P (record { start = s; end = e })
 at_place P s e [] h k = absurd k
 at_place P s e (x ∷ xs) h k =
     ⊎_elim (λ a. subst P (place_is x (record { start = s; end = e }) a.0 a.1) h.0) (λ a. at_place P s e xs h.1 a) k
 
-each_occurrence : (p : Shape) (w : List Letter) → Each (λ x. IsOccurrence p w x.start x.end) (occurrence_places p w)
+each_occurrence : (p : Shape) (w : List Letter) → AllByRecursion (λ x. IsOccurrence p w x.start x.end) (occurrence_places p w)
 unfolding occurrence_places
 each_occurrence p w =
     each_map (λ x. IsMatch p w x.start x.end × (list_all (is_not_wider x) (match_places p w) ≡ true)) (λ x. IsOccurrence p w x.start x.end)
@@ -218,8 +218,8 @@ ordered_occurrences p w =
     (ordered_filter (λ x. is_word p (slice_range w x.start x.end)) (places_after 0 (length w)) (after_ordered 0 (length w)))
 
 -- two occurrences with one start are one
-rising_ordered : (p : Shape) (w : List Letter) (low : ℕ) (xs : List Place) → Each (λ x. low ≤ x.start) xs → Ordered xs →
-    Each (λ x. IsOccurrence p w x.start x.end) xs → RisingPlaces low xs
+rising_ordered : (p : Shape) (w : List Letter) (low : ℕ) (xs : List Place) → AllByRecursion (λ x. low ≤ x.start) xs → Ordered xs →
+    AllByRecursion (λ x. IsOccurrence p w x.start x.end) xs → RisingPlaces low xs
 rising_ordered p w low [] l h o = tt
 rising_ordered p w low (x ∷ xs) l h o = (
   l.0,

@@ -6,21 +6,22 @@ use Rattle.ts_base.specs.declared.letter.Letter.{Letter}
 use Rattle.ts_regex.specs.Shape.{Shape}
 use Rattle.ts_regex.specs.Language.{InLanguage}
 use Rattle.ts_pattern.specs.Occurrences.{IsMatch}
-use Rattle.ts_pattern.specs.EachOf.{Each, OneOf}
+use Rattle.ts_pattern.specs.EachOf.{OneOf}
+use Rattle.std.specs.List.{AllByRecursion}
 use Rattle.ts_pattern.specs.Entries.{Entry, Residuals, survivors}
 use Rattle.ts_pattern.proofs.OneLetter.{NoneEnds, IsLeastStart}
 use Rattle.ts_pattern.proofs.Entries.{Rising, AreRight, Covers, rising_lower}
 use Rattle.ts_pattern.proofs.LiveEntries.{Follows, AreLive, drop_more, follows_step, each_survivor, rising_survivors, covers_survivors}
 
-pub each_and : {A : Type 0} (p q : A → Type 0) (es : List A) → Each p es → Each q es → Each (λ x. p x × q x) es
+pub each_and : {A : Type 0} (p q : A → Type 0) (es : List A) → AllByRecursion p es → AllByRecursion q es → AllByRecursion (λ x. p x × q x) es
 each_and p q [] h k = tt
 each_and p q (x ∷ es) h k = ((h.0, k.0), each_and p q es h.1 k.1)
 
-each_one : {A : Type 0} (p q r : A → Type 0) → ((x : A) → p x → q x → r x) → (es : List A) → Each p es → OneOf q es → OneOf r es
+each_one : {A : Type 0} (p q r : A → Type 0) → ((x : A) → p x → q x → r x) → (es : List A) → AllByRecursion p es → OneOf q es → OneOf r es
 each_one p q r f [] h k = k
 each_one p q r f (x ∷ es) h k = ⊎_elim (λ a. inl (f x h.0 a)) (λ a. inr (each_one p q r f es h.1 a)) k
 
-pub rising_each : {T : Type 0} (a : ℕ) (es : List (Entry ℕ Shape T)) → Rising a es → Each (λ e. a ≤ e.mark) es
+pub rising_each : {T : Type 0} (a : ℕ) (es : List (Entry ℕ Shape T)) → Rising a es → AllByRecursion (λ e. a ≤ e.mark) es
 rising_each a [] h = tt
 rising_each a (e ∷ es) h = (h.0, rising_each a es (rising_lower (e.mark + 1) a es (let x = h.0 in omega arith) h.1))
 

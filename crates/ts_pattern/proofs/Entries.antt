@@ -1,13 +1,13 @@
 -- What becomes of entries at a letter, for any language and any tag: what holds of each entry holds of each that is
 -- kept, the starts keep rising, and no entry with a word is lost to one that starts later.
 use Rattle.std.specs.Prelude.{◌≡◌, ◌⊎◌, ℕ, ◌+◌, ◌≤◌, Bool, true, false, cond, not, List, [], ◌∷◌, refl}
-use Rattle.std.specs.List.{filter}
+use Rattle.std.specs.List.{filter, AllByRecursion}
 use Rattle.std.proofs.Common.{sym, subst, inl, inr, arith, ⊎_elim}
 use Rattle.ts_base.specs.declared.letter.Letter.{Letter}
 use Rattle.ts_regex.specs.Shape.{Shape}
 use Rattle.ts_regex.specs.Language.{InLanguage}
 use Rattle.ts_regex.proofs.Laws.{residual_law, no_word, same_law}
-use Rattle.ts_pattern.specs.EachOf.{Each, OneOf}
+use Rattle.ts_pattern.specs.EachOf.{OneOf}
 use Rattle.ts_pattern.specs.Entries.{Entry, Residuals, shapes, alive, without, keep}
 
 -- the starts rise strictly, from low on
@@ -23,12 +23,12 @@ pub record AreRight (t : Residuals Shape) : Type 0 where
   pub equal : (r s : Shape) → t.same r s ≡ true → r ≡ s
 
 -- (i) what holds of each entry holds of each that is kept
-pub each_filter : {A : Type 0} (p : A → Type 0) (q : A → Bool) (es : List A) → Each p es → Each p (filter q es)
+pub each_filter : {A : Type 0} (p : A → Type 0) (q : A → Bool) (es : List A) → AllByRecursion p es → AllByRecursion p (filter q es)
 each_filter p q [] h = tt
 each_filter p q (e ∷ es) h =
-    elim (q e) as (λ b. Each p (cond b (e ∷ filter q es) (filter q es))) [ true ↦ (h.0, each_filter p q es h.1) | false ↦ each_filter p q es h.1 ]
+    elim (q e) as (λ b. AllByRecursion p (cond b (e ∷ filter q es) (filter q es))) [ true ↦ (h.0, each_filter p q es h.1) | false ↦ each_filter p q es h.1 ]
 
-pub each_keep : {X R T : Type 0} (t : Residuals R) (p : Entry X R T → Type 0) (es : List (Entry X R T)) → Each p es → Each p (keep t es)
+pub each_keep : {X R T : Type 0} (t : Residuals R) (p : Entry X R T → Type 0) (es : List (Entry X R T)) → AllByRecursion p es → AllByRecursion p (keep t es)
 each_keep t p [] h = tt
 each_keep t p (e ∷ es) h = (h.0, each_filter p (λ x. not (t.same e.residual x.residual)) (keep t es) (each_keep t p es h.1))
 

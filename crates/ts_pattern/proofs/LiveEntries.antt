@@ -7,12 +7,13 @@ use Rattle.std.proofs.lemmas.List.{drop-append-le}
 use Rattle.ts_base.specs.declared.letter.Letter.{Letter}
 use Rattle.ts_regex.specs.Shape.{Shape}
 use Rattle.ts_regex.specs.Language.{InLanguage}
-use Rattle.ts_pattern.specs.EachOf.{Each, OneOf}
-use Rattle.ts_pattern.specs.Entries.{Entry, Residuals, derive_entry, derived, alive, survivors}
+use Rattle.ts_pattern.specs.EachOf.{OneOf}
+use Rattle.std.specs.List.{AllByRecursion}
+use Rattle.ts_pattern.specs.Entries.{Entry, Residuals, derive_entry, derive_entries, alive, survivors}
 use Rattle.ts_pattern.proofs.Entries.{Rising, AreRight, Covers, each_filter, each_keep, rising_filter, rising_keep, some_alive, some_keep}
 
 -- lists with one more at the end
-pub each_push : {A : Type 0} (p : A → Type 0) (es : List A) (e : A) → Each p es → p e → Each p (es ++ e ∷ [])
+pub each_push : {A : Type 0} (p : A → Type 0) (es : List A) (e : A) → AllByRecursion p es → p e → AllByRecursion p (es ++ e ∷ [])
 each_push p [] e h k = (k, tt)
 each_push p (x ∷ es) e h k = (h.0, each_push p es e h.1 k)
 
@@ -24,7 +25,8 @@ pub one_right : {A : Type 0} (p : A → Type 0) (es fs : List A) → OneOf p fs 
 one_right p [] fs h = h
 one_right p (x ∷ es) fs h = inr (one_right p es fs h)
 
-rising_push : {T : Type 0} (a k : ℕ) (es : List (Entry ℕ Shape T)) (e : Entry ℕ Shape T) → Rising a es → a ≤ k → Each (λ x. x.mark < k) es → e.mark ≡ k →
+rising_push : {T : Type 0} (a k : ℕ) (es : List (Entry ℕ Shape T)) (e : Entry ℕ Shape T) → Rising a es → a ≤ k → AllByRecursion (λ x. x.mark < k) es →
+    e.mark ≡ k →
     Rising a (es ++ e ∷ [])
 rising_push a k [] e r q b m = (omega arith, tt)
 rising_push a k (x ∷ es) e r q b m = (r.0, rising_push (x.mark + 1) k es e r.1 (let y = b.0 in omega arith) b.1 m)
@@ -49,40 +51,40 @@ follows_step t f p w l e q h =
     }
 
 each_derived : {X R T : Type 0} (t : Residuals R) (l : Letter) (p q : Entry X R T → Type 0) → ((e : Entry X R T) → p e → q (derive_entry t l e)) →
-    (es : List (Entry X R T)) → Each p es → Each q (derived t l es)
+    (es : List (Entry X R T)) → AllByRecursion p es → AllByRecursion q (derive_entries t l es)
 each_derived t l p q f [] h = tt
 each_derived t l p q f (e ∷ es) h = (f e h.0, each_derived t l p q f es h.1)
 
-rising_derived : {T : Type 0} (t : Residuals Shape) (l : Letter) (a : ℕ) (es : List (Entry ℕ Shape T)) → Rising a es → Rising a (derived t l es)
+rising_derived : {T : Type 0} (t : Residuals Shape) (l : Letter) (a : ℕ) (es : List (Entry ℕ Shape T)) → Rising a es → Rising a (derive_entries t l es)
 rising_derived t l a [] h = tt
 rising_derived t l a (e ∷ es) h = (h.0, rising_derived t l (e.mark + 1) es h.1)
 
 covers_derived : {T : Type 0} (t : Residuals Shape) → AreRight t → (l : Letter) (s : ℕ) (v : List Letter) (es : List (Entry ℕ Shape T)) →
-    OneOf (Covers s (l ∷ v)) es → OneOf (Covers s v) (derived t l es)
+    OneOf (Covers s (l ∷ v)) es → OneOf (Covers s v) (derive_entries t l es)
 covers_derived t f l s v [] h = h
 covers_derived t f l s v (e ∷ es) h = ⊎_elim (λ c. inl (c.0, f.quotient_back e.residual l v c.1)) (λ c. inr (covers_derived t f l s v es c)) h
 
 -- what holds of each entry before the letter, holds of each survivor, by the derived entry
 pub each_survivor : {X R T : Type 0} (t : Residuals R) (l : Letter) (p q : Entry X R T → Type 0) → ((e : Entry X R T) → p e → q (derive_entry t l e)) →
-    (es : List (Entry X R T)) → Each p es → Each q (survivors t l es)
-each_survivor t l p q f es h = each_keep t q (alive t (derived t l es)) (each_filter q (λ e. t.has_word e.residual) (derived t l es)
+    (es : List (Entry X R T)) → AllByRecursion p es → AllByRecursion q (survivors t l es)
+each_survivor t l p q f es h = each_keep t q (alive t (derive_entries t l es)) (each_filter q (λ e. t.has_word e.residual) (derive_entries t l es)
     (each_derived t l p q f es h))
 
 pub rising_survivors : {T : Type 0} (t : Residuals Shape) (l : Letter) (a : ℕ) (es : List (Entry ℕ Shape T)) → Rising a es → Rising a (survivors t l es)
-rising_survivors t l a es h = rising_keep t a (alive t (derived t l es))
-    (rising_filter (λ e. t.has_word e.residual) a (derived t l es) (rising_derived t l a es h))
+rising_survivors t l a es h = rising_keep t a (alive t (derive_entries t l es))
+    (rising_filter (λ e. t.has_word e.residual) a (derive_entries t l es) (rising_derived t l a es h))
 
 pub covers_survivors : {T : Type 0} (t : Residuals Shape) → AreRight t → (l : Letter) (s : ℕ) (v : List Letter) (a : ℕ) (es : List (Entry ℕ Shape T)) →
     Rising a es → OneOf (Covers s (l ∷ v)) es → OneOf (Covers s v) (survivors t l es)
 covers_survivors t f l s v a es r h =
-    some_keep t f s v a (alive t (derived t l es)) (rising_filter (λ e. t.has_word e.residual) a (derived t l es) (rising_derived t l a es r))
-    (some_alive t f s v (derived t l es) (covers_derived t f l s v es h))
+    some_keep t f s v a (alive t (derive_entries t l es)) (rising_filter (λ e. t.has_word e.residual) a (derive_entries t l es) (rising_derived t l a es r))
+    (some_alive t f s v (derive_entries t l es) (covers_derived t f l s v es h))
 
 -- Rising, Residual and Cover, after the signs w, of entries that start below k
 pub record AreLive {T : Type 0} (p : Shape) (w : List Letter) (k : ℕ) (es : List (Entry ℕ Shape T)) : Type 0 where
   pub rising : Rising 0 es
-  pub below : Each (λ e. e.mark < k) es
-  pub follows : Each (Follows p w) es
+  pub below : AllByRecursion (λ e. e.mark < k) es
+  pub follows : AllByRecursion (Follows p w) es
   pub covered : AreCovered p w k es
 
 pub live_appended : {T : Type 0} (p p0 : Shape) → ((v : List Letter) → InLanguage p0 v → InLanguage p v) →
@@ -114,6 +116,6 @@ live_appended {T} p p0 there back w g es h =
     all_dropped [] = refl
     all_dropped (x ∷ w) = all_dropped w
 
-    each_more : {A : Type 0} (p q : A → Type 0) → ((x : A) → p x → q x) → (es : List A) → Each p es → Each q es
+    each_more : {A : Type 0} (p q : A → Type 0) → ((x : A) → p x → q x) → (es : List A) → AllByRecursion p es → AllByRecursion q es
     each_more p q f [] h = tt
     each_more p q f (x ∷ es) h = (f x h.0, each_more p q f es h.1)

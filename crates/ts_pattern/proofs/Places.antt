@@ -3,22 +3,23 @@ use Rattle.std.specs.Prelude.{◌≡◌, ◌⊎◌, ℕ, ◌+◌, ◌<◌, ◌�
 use Rattle.std.proofs.Common.{sym, ◌∙◌, ap, inl, inr, arith, ⊎_elim}
 use Rattle.ts_base.specs.declared.letter.Letter.{Letter}
 use Rattle.ts_regex.specs.Shape.{Shape}
-use Rattle.ts_pattern.specs.EachOf.{Each, OneOf}
+use Rattle.ts_pattern.specs.EachOf.{OneOf}
+use Rattle.std.specs.List.{AllByRecursion}
 use Rattle.ts_pattern.specs.Occurrences.{IsOccurrence}
 use Rattle.ts_pattern.specs.OccurrenceList.{Place, RisingPlaces, IsPlace, AreOccurrences}
 use Rattle.ts_pattern.proofs.OneLetter.{NoneEnds, IsLeastStart, none_up, none_down, some_last, some_up, some_down}
 use Rattle.ts_pattern.proofs.LiveEntries.{each_push, one_left, one_right}
 use Rattle.ts_pattern.proofs.Ends.{each_and}
 
-pub each_map : {A : Type 0} (p q : A → Type 0) → ((x : A) → p x → q x) → (es : List A) → Each p es → Each q es
+pub each_map : {A : Type 0} (p q : A → Type 0) → ((x : A) → p x → q x) → (es : List A) → AllByRecursion p es → AllByRecursion q es
 each_map p q f [] h = tt
 each_map p q f (x ∷ es) h = (f x h.0, each_map p q f es h.1)
 
-pub each_left : {A : Type 0} (p : A → Type 0) (es fs : List A) → Each p (es ++ fs) → Each p es
+pub each_left : {A : Type 0} (p : A → Type 0) (es fs : List A) → AllByRecursion p (es ++ fs) → AllByRecursion p es
 each_left p [] fs h = tt
 each_left p (x ∷ es) fs h = (h.0, each_left p es fs h.1)
 
-each_right : {A : Type 0} (p : A → Type 0) (es fs : List A) → Each p (es ++ fs) → Each p fs
+each_right : {A : Type 0} (p : A → Type 0) (es fs : List A) → AllByRecursion p (es ++ fs) → AllByRecursion p fs
 each_right p [] fs h = h
 each_right p (x ∷ es) fs h = each_right p es fs h.1
 
@@ -26,13 +27,13 @@ rising_left : (a : ℕ) (es fs : List Place) → RisingPlaces a (es ++ fs) → R
 rising_left a [] fs h = tt
 rising_left a (x ∷ es) fs h = (h.0, rising_left (x.start + 1) es fs h.1)
 
-rising_to : (a m n : ℕ) (es : List Place) → RisingPlaces a es → a ≤ m → Each (λ x. x.start < m) es →
+rising_to : (a m n : ℕ) (es : List Place) → RisingPlaces a es → a ≤ m → AllByRecursion (λ x. x.start < m) es →
     RisingPlaces a (es ++ record { start = m; end = n } ∷ [])
 rising_to a m n [] h q b = (q, tt)
 rising_to a m n (x ∷ es) h q b = (h.0, rising_to (x.start + 1) m n es h.1 (let y = b.0 in omega arith) b.1)
 
 -- the pairs before the last one start before it
-pub before_last : (a : ℕ) (es : List Place) (x : Place) → RisingPlaces a (es ++ x ∷ []) → (a ≤ x.start) × Each (λ y. y.start < x.start) es
+pub before_last : (a : ℕ) (es : List Place) (x : Place) → RisingPlaces a (es ++ x ∷ []) → (a ≤ x.start) × AllByRecursion (λ y. y.start < x.start) es
 before_last a [] x h = (h.0, tt)
 before_last a (y ∷ es) x h =
     let k = before_last (y.start + 1) es x h.1 in
@@ -54,7 +55,8 @@ occurrences_none p w l ps nil h =
     }
 
 pub occurrences_some : (p : Shape) (w : List Letter) (l : Letter) (m : ℕ) (old rest : List Place) → IsLeastStart p w l m → AreOccurrences p w (old ++ rest) →
-    Each (λ x. x.start < m) old → Each (λ x. m ≤ x.start) rest → AreOccurrences p (w ++ l ∷ []) (old ++ record { start = m; end = length w + 1 } ∷ [])
+    AllByRecursion (λ x. x.start < m) old → AllByRecursion (λ x. m ≤ x.start) rest →
+    AreOccurrences p (w ++ l ∷ []) (old ++ record { start = m; end = length w + 1 } ∷ [])
 occurrences_some p w l m old rest k h b c =
     record {
       rising = rising_to 0 m (length w + 1) old (rising_left 0 old rest h.rising) (omega arith) b;
@@ -72,7 +74,7 @@ occurrences_some p w l m old rest k h b c =
           (some_down p w l m k s e o);
     }
   where
-    apart : (s e m : ℕ) (rest : List Place) → s < m → Each (λ x. m ≤ x.start) rest → OneOf (IsPlace s e) rest → ⊥
+    apart : (s e m : ℕ) (rest : List Place) → s < m → AllByRecursion (λ x. m ≤ x.start) rest → OneOf (IsPlace s e) rest → ⊥
     apart s e m [] q c a = a
     apart s e m (x ∷ rest) q c a = ⊎_elim (λ z. let y = z.0 in let u = c.0 in omega arith) (λ z. apart s e m rest q c.1 z) a
 
@@ -83,7 +85,7 @@ same_start_same p w s e e' o o' q = (o.maximal s e' o'.is (omega arith) q).1
 pub place_is : (x y : Place) → x.start ≡ y.start → x.end ≡ y.end → x ≡ y
 place_is x y q r = ap (λ z. record { start = z; end = x.end }) q ∙ ap (λ z. record { start = y.start; end = z }) r
 
-later_places : (a : ℕ) (xs : List Place) → RisingPlaces a xs → Each (λ x. a ≤ x.start) xs
+later_places : (a : ℕ) (xs : List Place) → RisingPlaces a xs → AllByRecursion (λ x. a ≤ x.start) xs
 later_places a [] h = tt
 later_places a (x ∷ xs) h = (
   h.0,
@@ -91,25 +93,26 @@ later_places a (x ∷ xs) h = (
       (later_places (x.start + 1) xs h.1),
 )
 
-is_later : (a s e : ℕ) (xs : List Place) → Each (λ x. a ≤ x.start) xs → OneOf (IsPlace s e) xs → a ≤ s
+is_later : (a s e : ℕ) (xs : List Place) → AllByRecursion (λ x. a ≤ x.start) xs → OneOf (IsPlace s e) xs → a ≤ s
 is_later a s e [] h k = absurd k
 is_later a s e (x ∷ xs) h k = ⊎_elim (λ q. let y = h.0 in let z = q.0 in omega arith) (λ q. is_later a s e xs h.1 q) k
 
 -- each pair of the one list, all of them above a, stands in the other without its first
-in_the_rest : (a : ℕ) (y : Place) (xs ys : List Place) → y.start < a → Each (λ x. a ≤ x.start) xs → Each (λ x. OneOf (IsPlace x.start x.end) (y ∷ ys)) xs →
-    Each (λ x. OneOf (IsPlace x.start x.end) ys) xs
+in_the_rest : (a : ℕ) (y : Place) (xs ys : List Place) → y.start < a → AllByRecursion (λ x. a ≤ x.start) xs →
+    AllByRecursion (λ x. OneOf (IsPlace x.start x.end) (y ∷ ys)) xs →
+    AllByRecursion (λ x. OneOf (IsPlace x.start x.end) ys) xs
 in_the_rest a y [] ys q h k = tt
 in_the_rest a y (x ∷ xs) ys q h k =
     (⊎_elim (λ z. absurd (let u = z.0 in let v = h.0 in omega arith)) (λ z. z) k.0, in_the_rest a y xs ys q h.1 k.1)
 
-rising_same : (a b : ℕ) (xs ys : List Place) → RisingPlaces a xs → RisingPlaces b ys → Each (λ x. OneOf (IsPlace x.start x.end) ys) xs →
-    Each (λ y. OneOf (IsPlace y.start y.end) xs) ys → xs ≡ ys
+rising_same : (a b : ℕ) (xs ys : List Place) → RisingPlaces a xs → RisingPlaces b ys → AllByRecursion (λ x. OneOf (IsPlace x.start x.end) ys) xs →
+    AllByRecursion (λ y. OneOf (IsPlace y.start y.end) xs) ys → xs ≡ ys
 rising_same a b [] [] r q h k = refl
 rising_same a b [] (y ∷ ys) r q h k = absurd k.0
 rising_same a b (x ∷ xs) [] r q h k = absurd h.0
 rising_same a b (x ∷ xs) (y ∷ ys) r q h k =
-    let xl : Each (λ z. x.start + 1 ≤ z.start) xs = later_places (x.start + 1) xs r.1 in
-    let yl : Each (λ z. y.start + 1 ≤ z.start) ys = later_places (y.start + 1) ys q.1 in
+    let xl : AllByRecursion (λ z. x.start + 1 ≤ z.start) xs = later_places (x.start + 1) xs r.1 in
+    let yl : AllByRecursion (λ z. y.start + 1 ≤ z.start) ys = later_places (y.start + 1) ys q.1 in
     let same : x ≡ y = ⊎_elim
     (λ z. sym (place_is y x z.0 z.1))
     (λ z. ⊎_elim

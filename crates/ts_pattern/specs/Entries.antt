@@ -34,8 +34,8 @@ shapes =
 abbrev pub derive_entry : {X R T : Type 0} → Residuals R → Letter → Entry X R T → Entry X R T
 derive_entry t l e = record { mark = e.mark; residual = t.next e.residual l; tag = e.tag }
 
-abbrev pub derived : {X R T : Type 0} → Residuals R → Letter → List (Entry X R T) → List (Entry X R T)
-derived t l es = map (λ e. derive_entry t l e) es
+abbrev pub derive_entries : {X R T : Type 0} → Residuals R → Letter → List (Entry X R T) → List (Entry X R T)
+derive_entries t l es = map (λ e. derive_entry t l e) es
 
 -- without those whose residual has no word
 abbrev pub alive : {X R T : Type 0} → Residuals R → List (Entry X R T) → List (Entry X R T)
@@ -51,7 +51,7 @@ keep t (e ∷ es) = e ∷ without t e.residual (keep t es)
 
 -- what is left of the entries after the letter
 abbrev pub survivors : {X R T : Type 0} → Residuals R → Letter → List (Entry X R T) → List (Entry X R T)
-survivors t l before = keep t (alive t (derived t l before))
+survivors t l before = keep t (alive t (derive_entries t l before))
 
 -- the entry comes last, unless its residual has no word or is that of an earlier one
 abbrev pub with_entry : {X R T : Type 0} → Residuals R → List (Entry X R T) → Entry X R T → List (Entry X R T)

@@ -5,7 +5,8 @@ use Rattle.ts_base.specs.declared.letter.Letter.{Letter}
 use Rattle.ts_base.specs.declared.range.Range.{Range}
 use Rattle.ts_regex.specs.Shape.{Shape}
 use Rattle.ts_pattern.specs.Occurrences.{IsOccurrence}
-use Rattle.ts_pattern.specs.EachOf.{Each, OneOf}
+use Rattle.ts_pattern.specs.EachOf.{OneOf}
+use Rattle.std.specs.List.{AllByRecursion}
 
 -- the signs start+1 to end, counted from 1
 pub record Place : Type 0 where
@@ -23,7 +24,7 @@ IsPlace s e x = (x.start ≡ s) × (x.end ≡ e)
 -- these are the occurrences, and there are no others
 pub record AreOccurrences (p : Shape) (w : List Letter) (places : List Place) : Type 0 where
   pub rising : RisingPlaces 0 places
-  pub each : Each (λ x. IsOccurrence p w x.start x.end) places
+  pub each : AllByRecursion (λ x. IsOccurrence p w x.start x.end) places
   pub all : (s e : ℕ) → IsOccurrence p w s e → OneOf (IsPlace s e) places
 
 -- the cells of an occurrence, counted from 1, without the b first and the a last of its signs' cells

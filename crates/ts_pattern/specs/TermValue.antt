@@ -16,10 +16,10 @@ use Rattle.ts_pattern.specs.PatternTable.{pattern_shape, pattern_b, pattern_a}
 use Rattle.ts_pattern.specs.AllOccurrences.{occurrence_ranges}
 use Rattle.ts_pattern.specs.FeatureValue.{over, feature_value}
 
-abbrev pub joined : Aggregator → ℤ → ℤ → ℤ
-joined Sum x y = x +ℤ y
-joined Max x y = int_max x y
-joined Min x y = int_min x y
+abbrev pub combine : Aggregator → ℤ → ℤ → ℤ
+combine Sum x y = x +ℤ y
+combine Max x y = int_max x y
+combine Min x y = int_min x y
 
 -- the value without an occurrence, in a series of n cells
 abbrev pub value_of_none : Aggregator → Feature → ℕ → Ext
@@ -36,7 +36,7 @@ or_none none_value (Some x) = Int x
 
 -- the aggregate of the features, each a whole number
 abbrev pub aggregate : Aggregator → Ext → List ℤ → Ext
-aggregate g none_value values = or_none none_value (over (joined g) values)
+aggregate g none_value values = or_none none_value (over (combine g) values)
 
 -- of the e-ranges of all occurrences
 abbrev pub aggregate_of_ranges : Aggregator → Feature → List Range → List ℤ → Ext

@@ -1,10 +1,10 @@
 -- For the crates above: the moves of a typed table as facts, what the decoder keeps over them, and where its ranges lie.
 use Rattle.std.specs.Prelude.{◌≡◌, ℕ, ◌+◌, ◌-◌, ◌<◌, ◌≤◌, true, List, [], ◌∷◌, ◌++◌, length, Option, None, Some, IfSome, refl}
-use Rattle.std.specs.List.{All}
+use Rattle.std.specs.List.{All, AllByRecursion}
 use Rattle.std.specs.Option.{option_to_list}
 use Rattle.std.proofs.Common.{sym, ◌∙◌, ap, subst, arith, length-append}
 use Rattle.std.proofs.lemmas.Bool.{and_parts, false≢true}
-use Rattle.std.proofs.lemmas.List.Elements.{All-nil, All-cons, All-append}
+use Rattle.std.proofs.lemmas.List.Elements.{All-nil, All-cons, All-append, recursion_from_All}
 use Rattle.ts_base.specs.declared.letter.Letter.{Letter}
 use Rattle.ts_base.specs.declared.range.Range.{Range}
 use Rattle.ts_base.specs.declared.range.Kind.{Kind}
@@ -203,6 +203,10 @@ inside_from rows a o (l ∷ w) n k q d c p h =
 
 pub decode_inside : (rows : List Row) (a : ℕ) (w : List Letter) → a ≤ 1 → All (λ r. IsInside (length w + 1) r) (decode rows a w)
 decode_inside rows a w o = inside_from rows a o w (length w + 1) 0 0 None None (omega arith) (start_placed a)
+
+-- the same by recursion on the list
+pub decode_inside_each : (rows : List Row) (a : ℕ) (w : List Letter) → a ≤ 1 → AllByRecursion (λ r. IsInside (length w + 1) r) (decode rows a w)
+decode_inside_each rows a w o = recursion_from_All (λ r. IsInside (length w + 1) r) (decode rows a w) (decode_inside rows a w o)
 
 -- how many ranges there are
 

@@ -16,7 +16,7 @@ use Rattle.ts_transducer.specs.Typing.{is_typed}
 use Rattle.ts_transducer.specs.Decode.{emitted_at, row_at, arrow_on, decode_from, decode}
 use Rattle.ts_transducer.proofs.CallerLemmas.{Typed, move_typed, start_idle}
 use Rattle.ts_pattern.specs.declared.plan.Tag.{Tag}
-use Rattle.ts_pattern.specs.EachOf.{Each}
+use Rattle.std.specs.List.{AllByRecursion}
 use Rattle.ts_pattern.specs.Entries.{Entry, shapes, survivors}
 use Rattle.ts_pattern.specs.OccurrenceList.{AreRanges}
 use Rattle.ts_pattern.specs.Closed.{PlainConfiguration, first_tag, no_ind, retag_entries, with_start, step_of, entries_agree, step_listed, FromStart, OneStepOn, Reached, IsClosed}
@@ -49,14 +49,14 @@ bare es = map (λ e. bare_entry e) es
 bare_survivors : (l : Letter) (es : List (Entry ℕ Shape Tag)) → bare (survivors shapes l es) ≡ survivors shapes l (bare es)
 bare_survivors l es = survivors_renamed shapes shapes (λ (x : ℕ). tt) (λ r. r) (λ r. Unit {0}) (λ r s p q. refl) l es (agrees es)
   where
-    agrees : (es : List (Entry ℕ Shape Tag)) → Each (λ e. NextAgrees shapes shapes (λ r. r) (λ r. Unit {0}) l e.residual) es
+    agrees : (es : List (Entry ℕ Shape Tag)) → AllByRecursion (λ e. NextAgrees shapes shapes (λ r. r) (λ r. Unit {0}) l e.residual) es
     agrees [] = tt
     agrees (e ∷ es) = (record { has = refl; value = λ q. refl; left = λ q. tt }, agrees es)
 
 bare_agree : (f : Phase) (k : Kind) (free : Bool) (es : List (Entry ℕ Shape Tag)) → entries_agree shapes f k free es ≡ entries_agree shapes f k free (bare es)
 bare_agree f k free es = agree_renamed shapes shapes (λ (x : ℕ). tt) (λ r. r) f k free es (words es)
   where
-    words : (es : List (Entry ℕ Shape Tag)) → Each (λ e. WordsAgree shapes shapes (λ r. r) e.residual) es
+    words : (es : List (Entry ℕ Shape Tag)) → AllByRecursion (λ e. WordsAgree shapes shapes (λ r. r) e.residual) es
     words [] = tt
     words (e ∷ es) = (record { nullable = refl; longer = refl }, words es)
 

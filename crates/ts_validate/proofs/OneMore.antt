@@ -13,7 +13,8 @@ use Rattle.ts_transducer.specs.declared.row.Phase.TheVariants.{Out, OutR, OutA, 
 use Rattle.ts_pattern.specs.declared.plan.Tag.{Tag}
 use Rattle.ts_pattern.specs.declared.plan.Tag.TheVariants.{Young, Due, InD, InC, Loose}
 use Rattle.ts_transducer.specs.Decode.{begins, ends_at, held_after, emitted_at}
-use Rattle.ts_pattern.specs.EachOf.{Each, OneOf, First}
+use Rattle.ts_pattern.specs.EachOf.{OneOf, First}
+use Rattle.std.specs.List.{AllByRecursion}
 use Rattle.ts_pattern.specs.OccurrenceList.{Place, AreOccurrences, e_range}
 use Rattle.ts_pattern.specs.Entries.{Entry}
 use Rattle.ts_pattern.specs.Closed.{tag_after, retag_entries, is_match, is_find}
@@ -51,7 +52,7 @@ inside_inc free Loose q = absurd (is_inc Loose q)
 
 -- at `in` the first survivor starts where the held pair does
 pub same_start : (k a b : ℕ) (d : Option ℕ) (c : Option Range) (free : Bool) (y : Place) (sv : List (Entry ℕ Shape Tag)) → c ≡ Some (e_range b a y) →
-    Each (λ e. TagHolds k b d c e.mark e.tag) sv → First (λ e. e.tag ≡ InC) (retag_entries Inside free sv) → first_mark sv ≡ y.start
+    AllByRecursion (λ e. TagHolds k b d c e.mark e.tag) sv → First (λ e. e.tag ≡ InC) (retag_entries Inside free sv) → first_mark sv ≡ y.start
 same_start k a b d c free y [] q h x = absurd x
 same_start k a b d c free y (e ∷ es) q h x =
     let g = subst (λ u. TagHolds k b d c e.mark u) (inside_inc free e.tag x) h.0 in
@@ -62,7 +63,7 @@ pub found_step : (p : Shape) (w : List Letter) (l : Letter) (f : Phase) (k k' : 
     (x : Option Place) →
     Typed k f k' → (IsFree k → x ≡ None) → (k ≡ Held → (y : Place) × (x ≡ Some y)) → AreLive p (w ++ l ∷ []) (length (w ++ l ∷ [])) sv →
     (is_match f ≡ true → First Accepts sv) → (is_match f ≡ false → OneOf Accepts sv → ⊥) →
-    (is_match f ≡ true → Each (λ y. y.start < first_mark sv) ps) →
+    (is_match f ≡ true → AllByRecursion (λ y. y.start < first_mark sv) ps) →
     (f ≡ Inside → (y : Place) → x ≡ Some y → first_mark sv ≡ y.start) →
     AreOccurrences p w (ps ++ option_to_list x) →
     AreOccurrences p (w ++ l ∷ []) (done_after f (length w + 1) sv ps x ++ option_to_list (pair_after f (length w + 1) sv x))
@@ -132,20 +133,22 @@ emitted_step a b n FoundE d c sv ps x rs r g h =
 emitted_step a b n Inside d c sv ps x rs r g h = append-nil rs ∙ h
 
 pub early_step : (n : ℕ) (f : Phase) (free : Bool) (sv : List (Entry ℕ Shape Tag)) (ps : List Place) (x : Option Place) →
-    Each (λ y. Each (Strictly y.start) sv) ps → (f ≡ FoundE → Each (After (first_mark sv)) (retag_entries f free sv)) →
-    (f ≡ OutA → Each (λ y. Each (After y.start) (retag_entries f free sv)) (option_to_list x)) →
-    Each (λ y. Each (After y.start) (retag_entries f free sv)) (done_after f n sv ps x)
+    AllByRecursion (λ y. AllByRecursion (Strictly y.start) sv) ps → (f ≡ FoundE → AllByRecursion (After (first_mark sv)) (retag_entries f free sv)) →
+    (f ≡ OutA → AllByRecursion (λ y. AllByRecursion (After y.start) (retag_entries f free sv)) (option_to_list x)) →
+    AllByRecursion (λ y. AllByRecursion (After y.start) (retag_entries f free sv)) (done_after f n sv ps x)
 early_step n Out free sv ps x h u v = early_old Out free sv ps h
 early_step n OutR free sv ps x h u v = early_old OutR free sv ps h
-early_step n OutA free sv ps x h u v = each_joined (λ y. Each (After y.start) (retag_entries OutA free sv)) ps (option_to_list x) (early_old OutA free sv ps h)
+early_step n OutA free sv ps x h u v = each_joined (λ y. AllByRecursion (After y.start) (retag_entries OutA free sv)) ps (option_to_list x)
+    (early_old OutA free sv ps h)
     (v refl)
   where
-    each_joined : {A : Type 0} (p : A → Type 0) (es fs : List A) → Each p es → Each p fs → Each p (es ++ fs)
+    each_joined : {A : Type 0} (p : A → Type 0) (es fs : List A) → AllByRecursion p es → AllByRecursion p fs → AllByRecursion p (es ++ fs)
     each_joined p [] fs h k = k
     each_joined p (e ∷ es) fs h k = (h.0, each_joined p es fs h.1 k)
 early_step n MaybeB free sv ps x h u v = early_old MaybeB free sv ps h
 early_step n MaybeA free sv ps x h u v = early_old MaybeA free sv ps h
 early_step n Found free sv ps x h u v = early_old Found free sv ps h
-early_step n FoundE free sv ps x h u v = each_push (λ y. Each (After y.start) (retag_entries FoundE free sv)) ps (record { start = first_mark sv; end = n })
+early_step n FoundE free sv ps x h u v = each_push (λ y. AllByRecursion (After y.start) (retag_entries FoundE free sv)) ps
+    (record { start = first_mark sv; end = n })
     (early_old FoundE free sv ps h) (u refl)
 early_step n Inside free sv ps x h u v = early_old Inside free sv ps h

@@ -1,6 +1,6 @@
 -- A look by numbers shows the step by the residuals themselves.
 use Rattle.std.specs.Prelude.{◌≡◌, ℕ, zero, suc, ◌+◌, ◌<◌, ◌≤◌, nat_lt, Bool, true, false, cond, not, ◌&&◌, ◌||◌, List, [], ◌∷◌, Option, None, Some, is_some, map, length, get_or, refl}
-use Rattle.std.specs.List.{list_all, list_any, position, position_or_len}
+use Rattle.std.specs.List.{list_all, list_any, position, position_or_len, AllByRecursion}
 use Rattle.std.proofs.Common.{sym, ◌∙◌, ap, subst, arith}
 use Rattle.std.proofs.lemmas.Bool.{eq-eqb, and_parts, false≢true}
 use Rattle.std.proofs.lemmas.Option.{none-some, same_Some}
@@ -13,7 +13,6 @@ use Rattle.ts_transducer.specs.declared.row.Row.{Row}
 use Rattle.ts_pattern.specs.declared.plan.Tag.{Tag}
 use Rattle.ts_pattern.specs.declared.plan.Tag.TheVariants.{Young, Due, InD, InC, Loose}
 use Rattle.ts_pattern.specs.declared.plan.Configuration.{Configuration}
-use Rattle.ts_pattern.specs.EachOf.{Each}
 use Rattle.ts_pattern.specs.Entries.{Entry, shapes}
 use Rattle.ts_pattern.specs.Closed.{PlainConfiguration, Subject, step_of, first_passes, same_tag, same_live, same_configuration, step_listed, meets_checks}
 use Rattle.ts_pattern.specs.Plans.{shape_at, configuration_value, subject, plain_configuration, is_plan_of, is_blank}
@@ -37,7 +36,7 @@ entries_below rs (e ∷ es) q =
     (number_below e.residual (length rs) h.0, entries_below rs es h.1)
 
 all_below : (rs : List Shape) (xs : List (PlainConfiguration ℕ)) → list_all (λ x. list_all (λ e. nat_lt e.residual (length rs)) x.live) xs ≡ true →
-    Each (HasNumbers rs) xs
+    AllByRecursion (HasNumbers rs) xs
 all_below rs [] q = tt
 all_below rs (x ∷ xs) q =
     let h = and_parts (list_all (λ e. nat_lt e.residual (length rs)) x.live) (list_all (λ x. list_all (λ e. nat_lt e.residual (length rs)) x.live) xs) q in
@@ -81,7 +80,7 @@ place_none p xs q = go (nat_lt (position_or_len p xs) (length xs)) refl q
 -- where a test of numbers and one of values agree
 
 found_at : (p : PlainConfiguration ℕ → Bool) (q : PlainConfiguration Shape → Bool) (rs : List Shape) (xs : List (PlainConfiguration ℕ)) →
-    Each (λ x. p x ≡ q (configuration_value rs x)) xs → position_or_len p xs < length xs →
+    AllByRecursion (λ x. p x ≡ q (configuration_value rs x)) xs → position_or_len p xs < length xs →
     q (configuration_at (map (λ x. configuration_value rs x) xs) (position_or_len p xs)) ≡ true
 found_at p q rs [] e h = absurd (omega (arith, h))
 found_at p q rs (x ∷ xs) e h = go (p x) refl e.0 (found_at p q rs xs e.1) h
@@ -98,7 +97,7 @@ found_at p q rs (x ∷ xs) e h = go (p x) refl e.0 (found_at p q rs xs e.1) h
     go false t u m s = on (position_or_len p xs) (m (omega (arith, s)))
 
 none_before : (p : PlainConfiguration ℕ → Bool) (q : PlainConfiguration Shape → Bool) (rs : List Shape) (xs : List (PlainConfiguration ℕ)) →
-    Each (λ x. p x ≡ q (configuration_value rs x)) xs → (i : ℕ) → i < position_or_len p xs →
+    AllByRecursion (λ x. p x ≡ q (configuration_value rs x)) xs → (i : ℕ) → i < position_or_len p xs →
     q (configuration_at (map (λ x. configuration_value rs x) xs) i) ≡ false
 none_before p q rs [] e i h = absurd (omega (arith, h))
 none_before p q rs (x ∷ xs) e zero h = go (p x) refl e.0 h
@@ -124,7 +123,7 @@ any_at q (x ∷ xs) (suc i) h t = last (q x) (list_any q xs) (any_at q xs i (ome
     last false b s = s
 
 none_any : (p : PlainConfiguration ℕ → Bool) (q : PlainConfiguration Shape → Bool) (rs : List Shape) (xs : List (PlainConfiguration ℕ)) →
-    Each (λ x. p x ≡ q (configuration_value rs x)) xs → length xs ≤ position_or_len p xs → list_any q (map (λ x. configuration_value rs x) xs) ≡ false
+    AllByRecursion (λ x. p x ≡ q (configuration_value rs x)) xs → length xs ≤ position_or_len p xs → list_any q (map (λ x. configuration_value rs x) xs) ≡ false
 none_any p q rs [] e h = refl
 none_any p q rs (x ∷ xs) e h = go (p x) refl e.0 (none_any p q rs xs e.1) h
   where
@@ -136,8 +135,8 @@ none_any p q rs (x ∷ xs) e h = go (p x) refl e.0 (none_any p q rs xs e.1) h
     go false t u m s = ap (λ z. z || list_any q (map (λ x. configuration_value rs x) xs)) (sym u ∙ t) ∙ m (omega (arith, s))
 
 each_same : (rows : List Row) (p : Shape) (b : ℕ) (rs : List Shape) (all xs : List (PlainConfiguration ℕ)) → IsFor p rs all → (x : PlainConfiguration ℕ) →
-    HasNumbers rs x → (l : Letter) → is_listed_after rs b x l ≡ true → Each (HasNumbers rs) xs →
-    Each (λ y. is_step rows b rs all x l y
+    HasNumbers rs x → (l : Letter) → is_listed_after rs b x l ≡ true → AllByRecursion (HasNumbers rs) xs →
+    AllByRecursion (λ y. is_step rows b rs all x l y
     ≡ same_configuration shapes (configuration_value rs y) (step_of (by_value rows p b rs all) (configuration_value rs x) l)) xs
 each_same rows p b rs all [] i x h l a k = tt
 each_same rows p b rs all (y ∷ xs) i x h l a k = (same_valued rows p b rs all i x y h k.0 l a, each_same rows p b rs all xs i x h l a k.1)
@@ -193,7 +192,7 @@ sees rows p b rs xs i x h l k q m = go (is_listed_after rs b x l) refl q m
         let to : PlainConfiguration Shape = step_of s (configuration_value rs x) l in
         let test : PlainConfiguration ℕ → Bool = (λ y. is_step rows b rs xs x l y) in
         let same : PlainConfiguration Shape → Bool = (λ y. same_configuration shapes y to) in
-        let each : Each (λ y. test y ≡ same (configuration_value rs y)) xs = each_same rows p b rs xs xs i x h l a i.numbers in
+        let each : AllByRecursion (λ y. test y ≡ same (configuration_value rs y)) xs = each_same rows p b rs xs xs i x h l a i.numbers in
         let f = place_some test xs m e in
         let size : length s.configurations ≡ length xs = length-map xs (λ y. configuration_value rs y) in
         let there : same (value_at s m) ≡ true = subst (λ z. same (value_at s z) ≡ true) (sym f.0) (found_at test same rs xs each f.1) in
@@ -243,7 +242,8 @@ plain_is [] i d q = absurd (omega (arith, q))
 plain_is (c ∷ cs) zero d q = refl
 plain_is (c ∷ cs) (suc i) d q = plain_is cs i d (omega (arith, q))
 
-numbers_at : (rs : List Shape) (xs : List (PlainConfiguration ℕ)) (i : ℕ) → Each (HasNumbers rs) xs → i < length xs → HasNumbers rs (configuration_at xs i)
+numbers_at : (rs : List Shape) (xs : List (PlainConfiguration ℕ)) (i : ℕ) → AllByRecursion (HasNumbers rs) xs → i < length xs →
+    HasNumbers rs (configuration_at xs i)
 numbers_at rs [] i h q = absurd (omega (arith, q))
 numbers_at rs (x ∷ xs) zero h q = h.0
 numbers_at rs (x ∷ xs) (suc i) h q = numbers_at rs xs i h.1 (omega (arith, q))

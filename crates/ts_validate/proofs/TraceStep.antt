@@ -15,7 +15,8 @@ use Rattle.ts_transducer.specs.declared.row.Phase.TheVariants.{OutA, Found, Insi
 use Rattle.ts_pattern.specs.declared.plan.Tag.{Tag}
 use Rattle.ts_pattern.specs.declared.plan.Tag.TheVariants.{InD, InC}
 use Rattle.ts_transducer.specs.Decode.{begins, start_after, held_after}
-use Rattle.ts_pattern.specs.EachOf.{Each, First}
+use Rattle.ts_pattern.specs.EachOf.{First}
+use Rattle.std.specs.List.{AllByRecursion}
 use Rattle.ts_pattern.specs.OccurrenceList.{Place, e_range}
 use Rattle.ts_pattern.specs.Entries.{Entry, Residuals, survivors}
 use Rattle.ts_pattern.specs.Closed.{tag_after, first_tag, no_ind, retag_entries, with_start, is_find}
@@ -49,10 +50,10 @@ traced_step t r p p0 there back a b w l f k' x ty ch h =
     let more : length (w ++ l ∷ []) ≡ length w + 1 = length-append w (l ∷ []) in
     let lived : AreLive p w (length w + 1) before = live_appended p p0 there back w (first_tag b) x.live h.live in
     let left : AreLive p (w ++ l ∷ []) (length (w ++ l ∷ [])) sv = live_step t r p w l before lived in
-    let tags_before : Each (λ e. TagHolds (length w) b x.d x.c e.mark e.tag) before =
+    let tags_before : AllByRecursion (λ e. TagHolds (length w) b x.d x.c e.mark e.tag) before =
     each_push (λ e. TagHolds (length w) b x.d x.c e.mark e.tag) x.live (record { mark = length w; residual = p0; tag = first_tag b }) h.tags
     (first_tag_holds (length w) b x.d x.c) in
-    let tags_left : Each (λ e. TagHolds (length w) b x.d x.c e.mark e.tag) sv =
+    let tags_left : AllByRecursion (λ e. TagHolds (length w) b x.d x.c e.mark e.tag) sv =
     each_survivor t l (λ e. TagHolds (length w) b x.d x.c e.mark e.tag) (λ e. TagHolds (length w) b x.d x.c e.mark e.tag) (λ e q. q) before tags_before in
     let unset : free ≡ true → x.d ≡ None = (λ q. is_none x.d
     (λ y e. no_ind_one before q
@@ -60,7 +61,7 @@ traced_step t r p p0 there back a b w l f k' x ty ch h =
     let unheld : f ≡ Found → x.c ≡ None = (λ q. free_range x.state x.d x.c (found_free f x.state k' ty q) h.kinds) in
     let unpaired : IsFree x.state → x.pair ≡ None = free_pair a b x.state x.d x.c x.pair h.kinds h.ranges in
     let paired : x.state ≡ Held → (y : Place) × (x.pair ≡ Some y) = held_pair a b x.state x.d x.c x.pair h.kinds h.ranges in
-    let strict : Each (λ y. Each (Strictly y.start) sv) x.done = strictly_after t r l before x.done (early_before p p0 a b w x h) in
+    let strict : AllByRecursion (λ y. AllByRecursion (Strictly y.start) sv) x.done = strictly_after t r l before x.done (early_before p p0 a b w x h) in
     let begin : is_find f ≡ true → begins (length w + 1) x.d ≡ first_mark sv + 1 + b =
     (λ q. begins_at (length w) b x.d x.c free sv unset tags_left (ch.begin q)) in
     let same : f ≡ Inside → (y : Place) → x.pair ≡ Some y → first_mark sv ≡ y.start =
@@ -79,7 +80,7 @@ traced_step t r p p0 there back a b w l f k' x ty ch h =
           (λ q. early_find f free sv left.rising (ch.ends q))
           (λ q.
           let y = paired (out_a_held f x.state k' ty q) in
-          subst (λ z. Each (λ y. Each (After y.start) (retag_entries f free sv)) (option_to_list z)) (sym y.1) (
+          subst (λ z. AllByRecursion (λ y. AllByRecursion (After y.start) (retag_entries f free sv)) (option_to_list z)) (sym y.1) (
             early_release t f free l y.0.start before
                 (held_before (length w) b x.d x.c y.0.start (y.0.end + 1 - a) x.live (record { mark = length w; residual = p0; tag = first_tag b })
                 (h.ranges ∙ ap (λ z. held_range a b z) y.1) h.live.rising h.live.below h.tags (h.first_held (out_a_held f x.state k' ty q)) refl)

@@ -37,7 +37,8 @@ use Rattle.ts_pattern.specs.declared.plan.Tag.{Tag}
 use Rattle.ts_pattern.specs.declared.plan.Tag.TheVariants.{Young, Due, InD, InC, Loose}
 use Rattle.ts_transducer.specs.Decode.{begins, start_after, held_after, emitted_at}
 use Rattle.ts_transducer.specs.Keeps.{KindHolds}
-use Rattle.ts_pattern.specs.EachOf.{Each, OneOf, First}
+use Rattle.ts_pattern.specs.EachOf.{OneOf, First}
+use Rattle.std.specs.List.{AllByRecursion}
 use Rattle.ts_pattern.specs.Occurrences.{IsOccurrence}
 use Rattle.ts_pattern.specs.OccurrenceList.{Place, AreOccurrences, e_range}
 use Rattle.ts_pattern.specs.Entries.{Entry, Residuals, survivors}
@@ -95,13 +96,13 @@ pub record IsTraced (p : Shape) (a b : ℕ) (w : List Letter) (t : Trace) : Type
   -- starts rise, each has what is left to read from it, and each start that a match may have is covered
   pub live : AreLive p w (length w) t.live
   -- each tag says how the start's first cell stands to d and c
-  pub tags : Each (λ e. TagHolds (length w) b t.d t.c e.mark e.tag) t.live
+  pub tags : AllByRecursion (λ e. TagHolds (length w) b t.d t.c e.mark e.tag) t.live
   -- the start d is that of a live entry
   pub pending : (x : ℕ) → t.d ≡ Some x → OneOf (λ e. e.tag ≡ InD) t.live
   -- the held start is the first live entry
   pub first_held : t.state ≡ Held → First (λ e. e.tag ≡ InC) t.live
   -- what is done starts before each entry that has a letter to read
-  pub early : Each (λ x. Each (After x.start) t.live) t.done
+  pub early : AllByRecursion (λ x. AllByRecursion (After x.start) t.live) t.done
   -- c and what was emitted are the e-ranges of `pair` and `done`
   pub ranges : t.c ≡ held_range a b t.pair
   pub emitted : t.emitted ≡ map (λ x. e_range b a x) t.done
@@ -126,7 +127,7 @@ trace_step t p0 a b k l f k' x =
 -- lists that change their tags alone
 pub each_retag : (f : Phase) (free : Bool) (p q : Entry ℕ Shape Tag → Type 0) →
     ((e : Entry ℕ Shape Tag) → p e → q (record { mark = e.mark; residual = e.residual; tag = tag_after f free e.tag })) → (es : List (Entry ℕ Shape Tag)) →
-    Each p es → Each q (retag_entries f free es)
+    AllByRecursion p es → AllByRecursion q (retag_entries f free es)
 each_retag f free p q g [] h = tt
 each_retag f free p q g (e ∷ es) h = (g e h.0, each_retag f free p q g es h.1)
 
@@ -172,7 +173,8 @@ one_last_not es e h = one_left (λ x. x.tag ≡ InD) es (e ∷ []) h
 
 -- where the range of a find begins
 pub begins_at : (k b : ℕ) (d : Option ℕ) (c : Option Range) (free : Bool) (sv : List (Entry ℕ Shape Tag)) → (free ≡ true → d ≡ None) →
-    Each (λ e. TagHolds k b d c e.mark e.tag) sv → First (λ e. (e.tag ≡ InD) ⊎ ((e.tag ≡ Due) × (free ≡ true))) sv → begins (k + 1) d ≡ first_mark sv + 1 + b
+    AllByRecursion (λ e. TagHolds k b d c e.mark e.tag) sv → First (λ e. (e.tag ≡ InD) ⊎ ((e.tag ≡ Due) × (free ≡ true))) sv →
+    begins (k + 1) d ≡ first_mark sv + 1 + b
 begins_at k b d c free [] g h x = absurd x
 begins_at k b d c free (e ∷ es) g h x =
     ⊎_elim
@@ -183,35 +185,36 @@ begins_at k b d c free (e ∷ es) g h x =
 
 -- early, before the letter, with the new start
 pub early_before : (p p0 : Shape) (a b : ℕ) (w : List Letter) (t : Trace) → IsTraced p a b w t →
-    Each (λ x. Each (After x.start) (with_start (length w) p0 b t.live)) t.done
+    AllByRecursion (λ x. AllByRecursion (After x.start) (with_start (length w) p0 b t.live)) t.done
 early_before p p0 a b w t h =
     let occ = each_left (λ x. IsOccurrence p w x.start x.end) t.done (option_to_list t.pair) h.places.each in
-    each_map (λ x. Each (After x.start) t.live × IsOccurrence p w x.start x.end) (λ x. Each (After x.start) (with_start (length w) p0 b t.live))
+    each_map (λ x. AllByRecursion (After x.start) t.live × IsOccurrence p w x.start x.end)
+    (λ x. AllByRecursion (After x.start) (with_start (length w) p0 b t.live))
     (λ x q. each_push (After x.start) t.live (record { mark = length w; residual = p0; tag = first_tag b }) q.0
     (λ l v y. let i = q.1.is.some in let j = q.1.is.inside in omega arith))
-    t.done (each_and (λ x. Each (After x.start) t.live) (λ x. IsOccurrence p w x.start x.end) t.done h.early occ)
+    t.done (each_and (λ x. AllByRecursion (After x.start) t.live) (λ x. IsOccurrence p w x.start x.end) t.done h.early occ)
 
 -- each pair that is done starts before each survivor with a word
 pub strictly_after : (t : Residuals Shape) → AreRight t → (l : Letter) (before : List (Entry ℕ Shape Tag)) (ps : List Place) →
-    Each (λ x. Each (After x.start) before) ps → Each (λ x. Each (Strictly x.start) (survivors t l before)) ps
+    AllByRecursion (λ x. AllByRecursion (After x.start) before) ps → AllByRecursion (λ x. AllByRecursion (Strictly x.start) (survivors t l before)) ps
 strictly_after t f l before ps h =
-    each_map (λ x. Each (After x.start) before) (λ x. Each (Strictly x.start) (survivors t l before))
+    each_map (λ x. AllByRecursion (After x.start) before) (λ x. AllByRecursion (Strictly x.start) (survivors t l before))
     (λ x q. each_survivor t l (After x.start) (Strictly x.start) (λ e y v z. y l v (f.quotient e.residual l v z)) before q) ps h
 
-pub below_first : (ps : List Place) (sv : List (Entry ℕ Shape Tag)) → Each (λ x. Each (Strictly x.start) sv) ps → First Accepts sv →
-    Each (λ x. x.start < first_mark sv) ps
+pub below_first : (ps : List Place) (sv : List (Entry ℕ Shape Tag)) → AllByRecursion (λ x. AllByRecursion (Strictly x.start) sv) ps → First Accepts sv →
+    AllByRecursion (λ x. x.start < first_mark sv) ps
 below_first ps [] h x = absurd x
-below_first ps (e ∷ es) h x = each_map (λ y. Each (Strictly y.start) (e ∷ es)) (λ y. y.start < e.mark) (λ y q. q.0 [] x) ps h
+below_first ps (e ∷ es) h x = each_map (λ y. AllByRecursion (Strictly y.start) (e ∷ es)) (λ y. y.start < e.mark) (λ y q. q.0 [] x) ps h
 
-pub early_old : (f : Phase) (free : Bool) (sv : List (Entry ℕ Shape Tag)) (ps : List Place) → Each (λ x. Each (Strictly x.start) sv) ps →
-    Each (λ x. Each (After x.start) (retag_entries f free sv)) ps
+pub early_old : (f : Phase) (free : Bool) (sv : List (Entry ℕ Shape Tag)) (ps : List Place) → AllByRecursion (λ x. AllByRecursion (Strictly x.start) sv) ps →
+    AllByRecursion (λ x. AllByRecursion (After x.start) (retag_entries f free sv)) ps
 early_old f free sv ps h =
-    each_map (λ x. Each (Strictly x.start) sv) (λ x. Each (After x.start) (retag_entries f free sv))
+    each_map (λ x. AllByRecursion (Strictly x.start) sv) (λ x. AllByRecursion (After x.start) (retag_entries f free sv))
     (λ x q. each_retag f free (Strictly x.start) (After x.start) (λ e y l v z. y (l ∷ v) z) sv q) ps h
 
 -- an early find: what comes after the first survivor starts later, and the first has no longer word
 pub early_find : (f : Phase) (free : Bool) (sv : List (Entry ℕ Shape Tag)) → Rising 0 sv → First IsShort sv →
-    Each (After (first_mark sv)) (retag_entries f free sv)
+    AllByRecursion (After (first_mark sv)) (retag_entries f free sv)
 early_find f free [] r x = absurd x
 early_find f free (e ∷ es) r x = (
   (λ l v y. absurd (x l v y)),
@@ -220,21 +223,22 @@ early_find f free (e ∷ es) r x = (
 
 -- a release: the held start is no survivor, and all others start later
 pub early_release : (t : Residuals Shape) (f : Phase) (free : Bool) (l : Letter) (s : ℕ) (before : List (Entry ℕ Shape Tag)) →
-    Each (λ e. (e.tag ≡ InC → ⊥) → s < e.mark) before → (OneOf (λ e. e.tag ≡ InC) (survivors t l before) → ⊥) →
-    Each (After s) (retag_entries f free (survivors t l before))
+    AllByRecursion (λ e. (e.tag ≡ InC → ⊥) → s < e.mark) before → (OneOf (λ e. e.tag ≡ InC) (survivors t l before) → ⊥) →
+    AllByRecursion (After s) (retag_entries f free (survivors t l before))
 early_release t f free l s before h g =
     each_retag f free (λ e. ((e.tag ≡ InC → ⊥) → s < e.mark) × (e.tag ≡ InC → ⊥)) (After s) (λ e q l' v y. q.0 q.1) (survivors t l before)
     (each_and (λ e. (e.tag ≡ InC → ⊥) → s < e.mark) (λ e. e.tag ≡ InC → ⊥) (survivors t l before)
     (each_survivor t l (λ e. (e.tag ≡ InC → ⊥) → s < e.mark) (λ e. (e.tag ≡ InC → ⊥) → s < e.mark) (λ e q. q) before h)
     (not_one (survivors t l before) g))
   where
-    not_one : (es : List (Entry ℕ Shape Tag)) → (OneOf (λ e. e.tag ≡ InC) es → ⊥) → Each (λ e. e.tag ≡ InC → ⊥) es
+    not_one : (es : List (Entry ℕ Shape Tag)) → (OneOf (λ e. e.tag ≡ InC) es → ⊥) → AllByRecursion (λ e. e.tag ≡ InC → ⊥) es
     not_one [] g = tt
     not_one (e ∷ es) g = ((λ q. g (inl q)), not_one es (λ q. g (inr q)))
 
 pub held_before : (k b : ℕ) (d : Option ℕ) (c : Option Range) (s z : ℕ) (es : List (Entry ℕ Shape Tag)) (fresh : Entry ℕ Shape Tag) →
-    c ≡ Some (record { first = s + 1 + b; last = z }) → Rising 0 es → Each (λ e. e.mark < k) es → Each (λ e. TagHolds k b d c e.mark e.tag) es →
-    First (λ e. e.tag ≡ InC) es → fresh.mark ≡ k → Each (λ e. (e.tag ≡ InC → ⊥) → s < e.mark) (es ++ fresh ∷ [])
+    c ≡ Some (record { first = s + 1 + b; last = z }) → Rising 0 es → AllByRecursion (λ e. e.mark < k) es →
+    AllByRecursion (λ e. TagHolds k b d c e.mark e.tag) es →
+    First (λ e. e.tag ≡ InC) es → fresh.mark ≡ k → AllByRecursion (λ e. (e.tag ≡ InC → ⊥) → s < e.mark) (es ++ fresh ∷ [])
 held_before k b d c s z [] fresh q r m h x y = absurd x
 held_before k b d c s z (e ∷ es) fresh q r m h x y =
     let g = subst (λ u. TagHolds k b d c e.mark u) x h.0 in

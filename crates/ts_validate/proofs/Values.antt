@@ -1,7 +1,7 @@
 -- The step by numbers stands for the step by the residuals themselves: it is listed at the same places, and meets the
 -- same checks.
 use Rattle.std.specs.Prelude.{◌≡◌, ◌⊎◌, ℕ, ◌<◌, ◌==◌, nat_le, Bool, true, false, cond, not, ◌&&◌, ◌||◌, List, [], ◌∷◌, ◌++◌, map, length, refl}
-use Rattle.std.specs.List.{list_any}
+use Rattle.std.specs.List.{list_any, AllByRecursion}
 use Rattle.std.proofs.Common.{sym, ◌∙◌, ap, subst, inl, inr, ⊎_elim}
 use Rattle.std.proofs.lemmas.Bool.{and_parts, false_from_ne_true, false≢true}
 use Rattle.std.proofs.lemmas.List.{map-append}
@@ -14,8 +14,8 @@ use Rattle.ts_transducer.specs.declared.row.Phase.{Phase}
 use Rattle.ts_transducer.specs.declared.row.Row.{Row}
 use Rattle.ts_transducer.specs.Decode.{row_at}
 use Rattle.ts_pattern.specs.declared.plan.Tag.{Tag}
-use Rattle.ts_pattern.specs.EachOf.{Each, OneOf}
-use Rattle.ts_pattern.specs.Entries.{Entry, shapes, derive_entry, derived, alive, without, keep, survivors}
+use Rattle.ts_pattern.specs.EachOf.{OneOf}
+use Rattle.ts_pattern.specs.Entries.{Entry, shapes, derive_entry, derive_entries, alive, without, keep, survivors}
 use Rattle.ts_pattern.specs.Closed.{PlainConfiguration, Subject, first_tag, no_ind, retag_entries, with_start, move_of, entries_before, kept_entries, step_of, entries_agree, same_tag, same_live, same_configuration, step_listed}
 use Rattle.ts_pattern.specs.Plans.{PlainPlan, shape_at, entry_value, configuration_value, subject}
 use Rattle.ts_pattern.proofs.Entries.{shapes_right}
@@ -26,7 +26,7 @@ use Rattle.ts_validate.proofs.Transfer.{IsNumber, numbers_same, numbers_agree, w
 
 -- each entry has the number of a residual
 abbrev pub AreNumbers : {X : Type 0} → List Shape → List (Entry X ℕ Tag) → Type 0
-AreNumbers rs es = Each (λ e. IsNumber rs e.residual) es
+AreNumbers rs es = AllByRecursion (λ e. IsNumber rs e.residual) es
 
 abbrev pub HasNumbers : List Shape → PlainConfiguration ℕ → Type 0
 HasNumbers rs x = AreNumbers rs x.live
@@ -41,14 +41,14 @@ numbers_before rs b [] q h = (q, tt)
 numbers_before rs b (e ∷ es) q h = (h.0, numbers_before rs b es q h.1)
 
 each_agrees : (rs : List Shape) (l : Letter) (es : List (Entry (Unit {0}) ℕ Tag)) → AreNumbers rs es → all_listed (table_of rs) l es ≡ true →
-    Each (λ e. NextAgrees (numbers (table_of rs)) shapes (λ i. shape_at rs i) (λ i. IsNumber rs i) l e.residual) es
+    AllByRecursion (λ e. NextAgrees (numbers (table_of rs)) shapes (λ i. shape_at rs i) (λ i. IsNumber rs i) l e.residual) es
 each_agrees rs l [] h q = tt
 each_agrees rs l (e ∷ es) h q =
     let k = and_parts (nat_le (next_on l (known_at (table_of rs) e.residual)) (length (table_of rs))) (all_listed (table_of rs) l es) q in
     (numbers_agree rs l e.residual h.0 k.0, each_agrees rs l es h.1 k.1)
 
 each_words : (rs : List Shape) (es : List (Entry (Unit {0}) ℕ Tag)) → AreNumbers rs es →
-    Each (λ e. WordsAgree (numbers (table_of rs)) shapes (λ i. shape_at rs i) e.residual) es
+    AllByRecursion (λ e. WordsAgree (numbers (table_of rs)) shapes (λ i. shape_at rs i) e.residual) es
 each_words rs [] h = tt
 each_words rs (e ∷ es) h = (words_agree rs e.residual h.0, each_words rs es h.1)
 
@@ -69,7 +69,7 @@ same_live_valued rs (e ∷ es) (f ∷ fs) h k =
 pub record IsFor (p : Shape) (rs : List Shape) (xs : List (PlainConfiguration ℕ)) : Type 0 where
   pub some : 0 < length rs
   pub whole : shape_at rs 0 ≡ normal_form p
-  pub numbers : Each (HasNumbers rs) xs
+  pub numbers : AllByRecursion (HasNumbers rs) xs
 
 abbrev pub plan_of : List Shape → List (PlainConfiguration ℕ) → PlainPlan
 plan_of rs xs = record { residuals = rs; configurations = xs }
@@ -153,13 +153,14 @@ same_valued rows p b rs xs i x y h k l a =
 -- where a residual after the letter isn't listed, the step isn't
 
 one_alive : (l : Letter) (d : Shape) (es : List (Entry (Unit {0}) Shape Tag)) → has_word d ≡ true → OneOf (λ e. residual e.residual l ≡ d) es →
-    OneOf (λ e. e.residual ≡ d) (alive shapes (derived shapes l es))
+    OneOf (λ e. e.residual ≡ d) (alive shapes (derive_entries shapes l es))
 one_alive l d [] w h = h
 one_alive l d (e ∷ es) w h =
     go (has_word (residual e.residual l)) refl (⊎_elim (λ q. inl q) (λ q. inr (one_alive l d es w q)) h)
   where
-    go : (a : Bool) → has_word (residual e.residual l) ≡ a → (residual e.residual l ≡ d) ⊎ OneOf (λ e. e.residual ≡ d) (alive shapes (derived shapes l es)) →
-        OneOf (λ e. e.residual ≡ d) (cond a (derive_entry shapes l e ∷ alive shapes (derived shapes l es)) (alive shapes (derived shapes l es)))
+    go : (a : Bool) → has_word (residual e.residual l) ≡ a → (residual e.residual l ≡ d) ⊎ OneOf (λ e. e.residual ≡ d)
+        (alive shapes (derive_entries shapes l es)) →
+        OneOf (λ e. e.residual ≡ d) (cond a (derive_entry shapes l e ∷ alive shapes (derive_entries shapes l es)) (alive shapes (derive_entries shapes l es)))
     go true t k = k
     go false t k = ⊎_elim (λ q. absurd (false≢true (sym t ∙ ap (λ z. has_word z) q ∙ w))) (λ q. q) k
 
@@ -205,7 +206,7 @@ missing rs l (e ∷ es) h q = go (nat_le (next_on l (known_at (table_of rs) e.re
     go true u m s = let k = m s in (k.0, k.1, k.2, inr k.3)
     go false u m s = (residual (shape_at rs e.residual) l, (u refl).0, (u refl).1, inl refl)
 
-some_same : {A B : Type 0} (p : B → Bool) (h : A → B) (Q : A → Type 0) (xs : List A) → Each Q xs → list_any p (map h xs) ≡ true →
+some_same : {A B : Type 0} (p : B → Bool) (h : A → B) (Q : A → Type 0) (xs : List A) → AllByRecursion Q xs → list_any p (map h xs) ≡ true →
     (x : A) × Q x × (p (h x) ≡ true)
 some_same {A} p h Q [] e q = absurd (false≢true q)
 some_same {A} p h Q (x ∷ xs) e q = go (p (h x)) refl (some_same p h Q xs e.1) q
@@ -225,7 +226,7 @@ not_listed rows p b rs xs i x h l a =
     let o : OneOf (λ e. e.residual ≡ m.0) to.live =
     one_retagged (move_of s (configuration_value rs x) l).phase (no_ind (entries_before s (configuration_value rs x))) m.0
     (kept_entries s (configuration_value rs x) l)
-    (one_kept m.0 (alive shapes (derived shapes l (entries_before s (configuration_value rs x))))
+    (one_kept m.0 (alive shapes (derive_entries shapes l (entries_before s (configuration_value rs x))))
     (one_alive l m.0 (entries_before s (configuration_value rs x)) m.1 (subst (λ z. OneOf (λ e. residual e.residual l ≡ m.0) z)
     (before_valued rs p b x.live i.whole) m.3))) in
     false_from_ne_true (step_listed s (configuration_value rs x) l) (λ q.

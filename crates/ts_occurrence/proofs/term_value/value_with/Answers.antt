@@ -1,6 +1,6 @@
 use Rattle.std.proofs.Common.{◌≡◌, ◌+◌, length, sym, ap, subst, arith}
 use Rattle.ts_regex.specs.Shape.{shape_of}
-use Rattle.ts_pattern.specs.EachOf.{Each}
+use Rattle.std.specs.List.{AllByRecursion}
 use Rattle.ts_transducer.specs.Inside.{IsInside}
 use Rattle.ts_occurrence.proofs.Values.{signature_length, few_ranges, value_is}
 use Rattle.ts_occurrence.proofs.term_value.value_with.Goals as goal
@@ -27,8 +27,8 @@ aggregate-requires-clause-inside c =
     let n = signature_length c.args.series.now c.requires.series.some in
     let same = ap length c.requires.letters in
     let cells : length c.args.letters.now + 1 ≡ length c.args.series.now = omega arith in
-    subst (λ z. Each (λ r. IsInside (length c.args.series.now) r) z) (sym c.deref.ensures.value)
-    (subst (λ z. Each (λ r. IsInside z r) c.in_ok-ranges.ranges.items) cells c.in_ok-ranges.ensures.inside)
+    subst (λ z. AllByRecursion (λ r. IsInside (length c.args.series.now) r) z) (sym c.deref.ensures.value)
+    (subst (λ z. AllByRecursion (λ r. IsInside z r) c.in_ok-ranges.ranges.items) cells c.in_ok-ranges.ensures.inside)
 
 pub returns : goal.returns
 returns c =
