@@ -26,7 +26,7 @@ by_cases s i true false c p q r = (sym q, sym p)
 by_cases s i true true false p q r = (sym r, (sym p, sym q))
 by_cases s i true true true p q r = three s i (sym p) (sym q) (sym r)
 
-pub failing_is : (s : Subject Shape) (i : ℕ) (a b c : Bool) (o : Option Letter) → o ≡ first_false a b c → a ≡ meets_checks s (value_at s i) Less →
+failing_is : (s : Subject Shape) (i : ℕ) (a b c : Bool) (o : Option Letter) → o ≡ first_false a b c → a ≡ meets_checks s (value_at s i) Less →
     b ≡ meets_checks s (value_at s i) Equal → c ≡ meets_checks s (value_at s i) Greater → MatchOption o (AllMeet s i) (λ l. FailsFirst s i l)
 failing_is s i a b c o e p q r = subst (λ z. MatchOption z (AllMeet s i) (λ l. FailsFirst s i l)) (sym e) (by_cases s i a b c p q r)
 
@@ -43,14 +43,14 @@ abbrev Answers : Subject Shape → Arrival → Option Letter → Type 0
 Answers s a o = MatchOption o (AllMeet s a.configuration) (λ l. FailsFirst s a.configuration l)
 
 -- what was judged stays so in a longer tour
-pub judged_grown : (s : Subject Shape) (xs ys : List Arrival) (failing : List (Option Letter)) → length failing ≤ length xs → Grows xs ys →
+judged_grown : (s : Subject Shape) (xs ys : List Arrival) (failing : List (Option Letter)) → length failing ≤ length xs → Grows xs ys →
     Judged s xs failing → Judged s ys failing
 judged_grown s xs ys failing q g h k o e =
     let i : k < length failing = slice_get_within failing k o e in
     let old : arrival_at ys k ≡ arrival_at xs k = arrived_grown xs ys g k (omega arith) in
     subst (λ (z : Arrival). Answers s z o) (sym old) (h k o e)
 
-pub judged_more : (s : Subject Shape) (xs : List Arrival) (failing : List (Option Letter)) (o : Option Letter) → Judged s xs failing →
+judged_more : (s : Subject Shape) (xs : List Arrival) (failing : List (Option Letter)) (o : Option Letter) → Judged s xs failing →
     Answers s (arrival_at xs (length failing)) o → Judged s xs (failing ++ o ∷ [])
 judged_more s xs failing o h a k p e = ⊎_elim
     (λ q. h k p q)

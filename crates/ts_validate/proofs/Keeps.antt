@@ -90,12 +90,12 @@ TagHolds k b d c s InD = d ≡ Some (s + 1 + b)
 TagHolds k b d c s InC = (z : ℕ) × (c ≡ Some (record { first = s + 1 + b; last = z }))
 TagHolds k b d c s Loose = Unit {0}
 
-pub young_step : (k b : ℕ) (d : Option ℕ) (c : Option Range) (s m : ℕ) → 1 ≤ m → s + b ≡ k + m → TagHolds (k + 1) b d c s (younger m)
+young_step : (k b : ℕ) (d : Option ℕ) (c : Option Range) (s m : ℕ) → 1 ≤ m → s + b ≡ k + m → TagHolds (k + 1) b d c s (younger m)
 young_step k b d c s zero p q = absurd (omega (arith, p))
 young_step k b d c s (suc zero) p q = q
 young_step k b d c s (suc (suc m)) p q = (omega arith, omega arith)
 
-pub due_step : (f : Phase) (free : Bool) (k b a : ℕ) (d : Option ℕ) (c : Option Range) (s : ℕ) → (free ≡ true → d ≡ None) → s + b ≡ k →
+due_step : (f : Phase) (free : Bool) (k b a : ℕ) (d : Option ℕ) (c : Option Range) (s : ℕ) → (free ≡ true → d ≡ None) → s + b ≡ k →
     TagHolds (k + 1) b (start_after f (k + 1) d) (held_after f a (k + 1) d c) s (due_after f free)
 due_step Out free k b a d c s g q = tt
 due_step OutR free k b a d c s g q = tt
@@ -112,7 +112,7 @@ due_step Found true k b a d c s g q = (
       ∙ ap (λ z. Some (record { first = z; last = k + 1 + 1 - a })) (let x : k + 1 ≡ s + 1 + b = omega arith in x),
 )
 
-pub ind_step : (f : Phase) (k b a : ℕ) (d : Option ℕ) (c : Option Range) (s : ℕ) → d ≡ Some (s + 1 + b) →
+ind_step : (f : Phase) (k b a : ℕ) (d : Option ℕ) (c : Option Range) (s : ℕ) → d ≡ Some (s + 1 + b) →
     TagHolds (k + 1) b (start_after f (k + 1) d) (held_after f a (k + 1) d c) s (ind_after f)
 ind_step Out k b a d c s q = tt
 ind_step OutR k b a d c s q = tt
@@ -123,7 +123,7 @@ ind_step Found k b a d c s q = (k + 1 + 1 - a, ap (λ z. Some (record { first = 
 ind_step FoundE k b a d c s q = tt
 ind_step Inside k b a d c s q = tt
 
-pub inc_step : (f : Phase) (k b a : ℕ) (d : Option ℕ) (c : Option Range) (s : ℕ) → (f ≡ Found → c ≡ None) → (z : ℕ) →
+inc_step : (f : Phase) (k b a : ℕ) (d : Option ℕ) (c : Option Range) (s : ℕ) → (f ≡ Found → c ≡ None) → (z : ℕ) →
     c ≡ Some (record { first = s + 1 + b; last = z }) → TagHolds (k + 1) b (start_after f (k + 1) d) (held_after f a (k + 1) d c) s (inc_after f)
 inc_step Out k b a d c s g z q = (z, q)
 inc_step OutR k b a d c s g z q = (z, q)

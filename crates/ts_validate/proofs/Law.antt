@@ -90,7 +90,7 @@ agree_traced k p b l f k' es h =
     ∙ h
 
 -- the run of the trace over the signs, from the state q after k signs
-abbrev pub run : List Row → Shape → ℕ → ℕ → ℕ → ℕ → Trace → List Letter → Trace
+abbrev run : List Row → Shape → ℕ → ℕ → ℕ → ℕ → Trace → List Letter → Trace
 run rows p0 a b k q x [] = x
 run rows p0 a b k q x (l ∷ ls) = run rows p0 a b (k + 1) (next_at rows q l)
     (trace_step shapes p0 a b k l (phase_at rows q l) (kind_at rows (next_at rows q l)) x) ls

@@ -16,7 +16,7 @@ use Rattle.ts_pattern.proofs.OneMoreEntry.{SameFollows, survivors_push}
 use Rattle.ts_validate.proofs.Plain.{any_mapped}
 
 -- what the letter leaves of an entry
-abbrev pub left_entry : List Known → Letter → Live → Entry (Unit {0}) ℕ Tag
+abbrev left_entry : List Known → Letter → Live → Entry (Unit {0}) ℕ Tag
 left_entry table l e = derive_entry (numbers table) l (plain_live e)
 
 numbers_follow : (table : List Known) → SameFollows (numbers table)

@@ -34,7 +34,7 @@ row_is (r ∷ rows) (suc q) = row_is rows q
 
 -- the two live lists, entry by entry
 
-abbrev pub entry_same : List Known → Phase → Bool → Live → Live → Bool
+abbrev entry_same : List Known → Phase → Bool → Live → Live → Bool
 entry_same table f free x e = ((known_at table x.residual).own == (known_at table e.residual).own) && same_tag x.tag (tag_after f free e.tag)
 
 assoc : (a b c : Bool) → (a && b) && c ≡ a && (b && c)

@@ -12,7 +12,7 @@ use Rattle.ts_pattern.specs.Valid.{IsValid}
 use Rattle.ts_validate.specs.Reaches.{against}
 use Rattle.ts_validate.proofs.Law.{closed_valid}
 
-pub closed_made : (lent rows : List Row) (p : Pattern) (plan : Plan) → lent ≡ rows → IsClosed (against lent p plan) → IsClosed (against rows p plan)
+closed_made : (lent rows : List Row) (p : Pattern) (plan : Plan) → lent ≡ rows → IsClosed (against lent p plan) → IsClosed (against rows p plan)
 closed_made lent rows p plan e c = subst (λ z. IsClosed (against z p plan)) e c
 
 pub valid_made : (lent rows : List Row) (p : Pattern) (plan : Plan) → lent ≡ rows → is_typed rows ≡ true → IsClosed (against lent p plan) →

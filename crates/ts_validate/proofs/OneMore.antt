@@ -26,22 +26,22 @@ use Rattle.ts_transducer.proofs.CallerLemmas.{IsFree, Typed}
 use Rattle.ts_validate.proofs.Keeps.{first_of, held_range, first_mark, done_after, pair_after, TagHolds}
 use Rattle.ts_validate.proofs.Traces.{After, Strictly, early_old}
 
-pub least_first : (p : Shape) (w : List Letter) (l : Letter) (sv : List (Entry ℕ Shape Tag)) → AreLive p (w ++ l ∷ []) (length (w ++ l ∷ [])) sv →
+least_first : (p : Shape) (w : List Letter) (l : Letter) (sv : List (Entry ℕ Shape Tag)) → AreLive p (w ++ l ∷ []) (length (w ++ l ∷ [])) sv →
     First Accepts sv → IsLeastStart p w l (first_mark sv)
 least_first p w l [] h x = absurd x
 least_first p w l (e ∷ es) h x = least_ends p w l e es h x
 
-abbrev pub IsInc : Tag → Type 0
+abbrev IsInc : Tag → Type 0
 IsInc (Young m) = ⊥
 IsInc Due = ⊥
 IsInc InD = ⊥
 IsInc InC = Unit {0}
 IsInc Loose = ⊥
 
-pub is_inc : (g : Tag) → g ≡ InC → IsInc g
+is_inc : (g : Tag) → g ≡ InC → IsInc g
 is_inc g q = subst (λ z. IsInc z) (sym q) tt
 
-pub inside_inc : (free : Bool) (g : Tag) → tag_after Inside free g ≡ InC → g ≡ InC
+inside_inc : (free : Bool) (g : Tag) → tag_after Inside free g ≡ InC → g ≡ InC
 inside_inc free (Young zero) q = absurd (is_inc Due q)
 inside_inc free (Young (suc zero)) q = absurd (is_inc Due q)
 inside_inc free (Young (suc (suc m))) q = absurd (is_inc (Young (suc m)) q)

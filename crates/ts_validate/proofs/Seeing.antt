@@ -46,7 +46,7 @@ first_whole : (rs : List Shape) (n : Shape) → first_passes (λ r. same_shape r
 first_whole [] n q = absurd (false≢true q)
 first_whole (r ∷ rs) n q = (omega arith, (same_law r n).0 q)
 
-pub plan_for : (p : Shape) (rs : List Shape) (xs : List (PlainConfiguration ℕ)) → is_plan_of p (plan_of rs xs) ≡ true → IsFor p rs xs
+plan_for : (p : Shape) (rs : List Shape) (xs : List (PlainConfiguration ℕ)) → is_plan_of p (plan_of rs xs) ≡ true → IsFor p rs xs
 plan_for p rs xs q =
     let h = and_parts (first_passes (λ r. same_shape r (normal_form p)) rs)
     (first_passes (λ x. is_blank x) xs && list_all (λ x. list_all (λ e. nat_lt e.residual (length rs)) x.live) xs) q in
@@ -56,7 +56,7 @@ plan_for p rs xs q =
 
 -- the first place of a test
 
-pub place_some : {A : Type 0} (p : A → Bool) (xs : List A) (j : ℕ) → position p xs ≡ Some j → (j ≡ position_or_len p xs) × (position_or_len p xs < length xs)
+place_some : {A : Type 0} (p : A → Bool) (xs : List A) (j : ℕ) → position p xs ≡ Some j → (j ≡ position_or_len p xs) × (position_or_len p xs < length xs)
 place_some p xs j q = go (nat_lt (position_or_len p xs) (length xs)) refl q
   where
     below : (m n : ℕ) → nat_lt m n ≡ true → m < n
@@ -67,7 +67,7 @@ place_some p xs j q = go (nat_lt (position_or_len p xs) (length xs)) refl q
     go true e s = (cc, below (position_or_len p xs) (length xs) e)
     go false e s = absurd (none-some j s)
 
-pub place_none : {A : Type 0} (p : A → Bool) (xs : List A) → position p xs ≡ None → length xs ≤ position_or_len p xs
+place_none : {A : Type 0} (p : A → Bool) (xs : List A) → position p xs ≡ None → length xs ≤ position_or_len p xs
 place_none p xs q = go (nat_lt (position_or_len p xs) (length xs)) refl q
   where
     above : (m n : ℕ) → nat_lt m n ≡ false → n ≤ m
@@ -159,7 +159,7 @@ live_itself (e ∷ es) =
 configuration_itself : (x : PlainConfiguration Shape) → same_configuration shapes x x ≡ true
 configuration_itself x = ap (λ z. z && same_live shapes x.live x.live) (eq-eqb x.state x.state refl) ∙ live_itself x.live
 
-pub sees : (rows : List Row) (p : Shape) (b : ℕ) (rs : List Shape) (xs : List (PlainConfiguration ℕ)) → IsFor p rs xs → (x : PlainConfiguration ℕ) →
+sees : (rows : List Row) (p : Shape) (b : ℕ) (rs : List Shape) (xs : List (PlainConfiguration ℕ)) → IsFor p rs xs → (x : PlainConfiguration ℕ) →
     HasNumbers rs x → (l : Letter) (k : Look) →
     k.next ≡ next_place (table_of rs) (by_number rows b rs xs) x l →
     k.meets ≡ number_meets (table_of rs) (by_number rows b rs xs) x l →
@@ -248,7 +248,7 @@ numbers_at rs [] i h q = absurd (omega (arith, q))
 numbers_at rs (x ∷ xs) zero h q = h.0
 numbers_at rs (x ∷ xs) (suc i) h q = numbers_at rs xs i h.1 (omega (arith, q))
 
-pub sees_at : (rows : List Row) (p : Shape) (b : ℕ) (rs : List Shape) (cs : List Configuration) (table : List Known) →
+sees_at : (rows : List Row) (p : Shape) (b : ℕ) (rs : List Shape) (cs : List Configuration) (table : List Known) →
     is_plan_of p (plan_of rs (map (λ x. plain_configuration x) cs)) ≡ true → table ≡ table_of rs →
     (i : ℕ) (d here : Configuration) → i < length cs → here ≡ get_or cs i d → (l : Letter) (k : Look) →
     k.next ≡ next_place table (numbered_subject rows table b (map (λ x. plain_configuration x) cs)) (plain_configuration here) l →

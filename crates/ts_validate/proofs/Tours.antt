@@ -24,7 +24,7 @@ use Rattle.ts_validate.specs.Reaches.{against, value_at, value_of, IsFirst, Sees
 
 -- lists
 
-pub kept_at : (xs ys : List Arrival) (k : ℕ) → k < length xs → arrival_at (xs ++ ys) k ≡ arrival_at xs k
+kept_at : (xs ys : List Arrival) (k : ℕ) → k < length xs → arrival_at (xs ++ ys) k ≡ arrival_at xs k
 kept_at [] ys k q = absurd (omega (arith, q))
 kept_at (x ∷ xs) ys zero q = refl
 kept_at (x ∷ xs) ys (suc k) q = kept_at xs ys k (omega (arith, q))
@@ -69,7 +69,7 @@ eq_or_not m n = ⊎_elim (λ q. inl q.1) (λ q. inr (λ z. q.1 z)) (eqb_tells m 
 start_count : (n : ℕ) → 0 < n → open_places (set (replicate n None) 0 (Some 0)) + 1 ≡ n
 start_count n q = fewer_open (replicate n None) 0 0 (subst (λ z. 0 < z) (sym (replicated n)) q) (none_there n 0) ∙ all_open n
 
-pub started : (s : Subject Shape) (n : ℕ) (arrivals : List Arrival) (places : List (Option ℕ)) → n ≡ length s.configurations → 0 < n →
+started : (s : Subject Shape) (n : ℕ) (arrivals : List Arrival) (places : List (Option ℕ)) → n ≡ length s.configurations → 0 < n →
     arrivals ≡ arrival 0 0 Less ∷ [] → places ≡ set (replicate n None) 0 (Some 0) → Reaches s arrivals places
 started s n arrivals places e q a o =
     let only : Arrival = arrival 0 0 Less in
@@ -107,7 +107,7 @@ started s n arrivals places e q a o =
 
 -- one more arrival
 
-pub more_reached : (s : Subject Shape) (xs : List Arrival) (os : List (Option ℕ)) → Reaches s xs os → (next from : ℕ) (l : Letter) → from < length xs →
+more_reached : (s : Subject Shape) (xs : List Arrival) (os : List (Option ℕ)) → Reaches s xs os → (next from : ℕ) (l : Letter) → from < length xs →
     next < length s.configurations → place_at os next ≡ None →
     step_listed s (value_of s xs from) l ≡ true → value_at s next ≡ step_of s (value_of s xs from) l →
     Reaches s (xs ++ arrival next from l ∷ []) (set os next (Some (length xs)))
@@ -281,7 +281,7 @@ some_first (x ∷ xs) q = omega arith
 plain_size : (cs : List Configuration) → length (map (λ x. plain_configuration x) cs) ≡ length cs
 plain_size cs = length-map cs (λ x. plain_configuration x)
 
-pub plan_some : (p : Shape) (plan : Plan) → is_plan_of p (plain_plan plan) ≡ true → 0 < length plan.configurations.items
+plan_some : (p : Shape) (plan : Plan) → is_plan_of p (plain_plan plan) ≡ true → 0 < length plan.configurations.items
 plan_some p plan q =
     let h = and_parts (first_passes (λ r. same_shape r (normal_form p)) (plain_plan plan).residuals)
     (first_passes (λ x. is_blank x) (plain_plan plan).configurations
@@ -290,7 +290,7 @@ plan_some p plan q =
     (list_all (λ x. list_all (λ e. nat_lt e.residual (length (plain_plan plan).residuals)) x.live) (plain_plan plan).configurations) h.1 in
     subst (λ z. 0 < z) (plain_size plan.configurations.items) (some_first (plain_plan plan).configurations k.0)
 
-pub plan_size : (rows : List Row) (p : Pattern) (plan : Plan) → length plan.configurations.items ≡ length (against rows p plan).configurations
+plan_size : (rows : List Row) (p : Pattern) (plan : Plan) → length plan.configurations.items ≡ length (against rows p plan).configurations
 plan_size rows p plan = sizes (plain_plan plan).residuals plan.configurations.items
 
 pub started_tour : (rows : List Row) (p : Pattern) (plan : Plan) (n : ℕ) (t : Tour) → is_plan_of (shape_of p.regex) (plain_plan plan) ≡ true →

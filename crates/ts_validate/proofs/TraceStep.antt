@@ -28,13 +28,13 @@ use Rattle.ts_validate.proofs.Keeps.{held_range, first_mark, free_pair, held_pai
 use Rattle.ts_validate.proofs.Traces.{MeetsChecks, After, Strictly, Trace, IsTraced, trace_step, each_retag, live_retag, no_ind_one, is_none, begins_at, early_before, strictly_after, below_first, early_find, early_release, held_before}
 use Rattle.ts_validate.proofs.OneMore.{found_step, ranges_step, emitted_step, early_step, same_start, listed_held}
 
-pub found_free : (f : Phase) (k k' : Kind) → Typed k f k' → f ≡ Found → IsFree k
+found_free : (f : Phase) (k k' : Kind) → Typed k f k' → f ≡ Found → IsFree k
 found_free f k k' t q = (subst (λ z. Typed k z k') q t).0
 
-pub inside_held : (f : Phase) (k k' : Kind) → Typed k f k' → f ≡ Inside → (k ≡ Held) × (k' ≡ Held)
+inside_held : (f : Phase) (k k' : Kind) → Typed k f k' → f ≡ Inside → (k ≡ Held) × (k' ≡ Held)
 inside_held f k k' t q = subst (λ z. Typed k z k') q t
 
-pub out_a_held : (f : Phase) (k k' : Kind) → Typed k f k' → f ≡ OutA → k ≡ Held
+out_a_held : (f : Phase) (k k' : Kind) → Typed k f k' → f ≡ OutA → k ≡ Held
 out_a_held f k k' t q = (subst (λ z. Typed k z k') q t).0
 
 -- the law's step: the invariant goes over one letter

@@ -44,7 +44,7 @@ use Rattle.ts_pattern.specs.OccurrenceList.{Place, AreOccurrences, e_range}
 use Rattle.ts_pattern.specs.Entries.{Entry, Residuals, survivors}
 use Rattle.ts_pattern.specs.Closed.{tag_after, is_ind, first_tag, no_ind, retag_entries, with_start, is_match, is_find}
 use Rattle.ts_pattern.proofs.Entries.{Rising, AreRight, Covers}
-use Rattle.ts_pattern.proofs.LiveEntries.{each_push, one_left, Follows, AreLive, each_survivor}
+use Rattle.ts_pattern.proofs.LiveEntries.{each_push, Follows, AreLive, each_survivor}
 use Rattle.ts_pattern.proofs.Ends.{rising_each, Accepts, each_and}
 use Rattle.ts_pattern.proofs.Places.{each_map, each_left}
 use Rattle.ts_validate.proofs.Keeps.{first_of, held_range, first_mark, done_after, pair_after, TagHolds}
@@ -131,13 +131,13 @@ pub each_retag : (f : Phase) (free : Bool) (p q : Entry ℕ Shape Tag → Type 0
 each_retag f free p q g [] h = tt
 each_retag f free p q g (e ∷ es) h = (g e h.0, each_retag f free p q g es h.1)
 
-pub one_retag : (f : Phase) (free : Bool) (p q : Entry ℕ Shape Tag → Type 0) →
+one_retag : (f : Phase) (free : Bool) (p q : Entry ℕ Shape Tag → Type 0) →
     ((e : Entry ℕ Shape Tag) → p e → q (record { mark = e.mark; residual = e.residual; tag = tag_after f free e.tag })) → (es : List (Entry ℕ Shape Tag)) →
     OneOf p es → OneOf q (retag_entries f free es)
 one_retag f free p q g [] h = h
 one_retag f free p q g (e ∷ es) h = ⊎_elim (λ a. inl (g e a)) (λ a. inr (one_retag f free p q g es a)) h
 
-pub rising_retag : (f : Phase) (free : Bool) (a : ℕ) (es : List (Entry ℕ Shape Tag)) → Rising a es → Rising a (retag_entries f free es)
+rising_retag : (f : Phase) (free : Bool) (a : ℕ) (es : List (Entry ℕ Shape Tag)) → Rising a es → Rising a (retag_entries f free es)
 rising_retag f free a [] h = tt
 rising_retag f free a (e ∷ es) h = (h.0, rising_retag f free (e.mark + 1) es h.1)
 
@@ -167,9 +167,6 @@ no_ind_one (e ∷ es) q h =
 pub is_none : (d : Option ℕ) → ((x : ℕ) → d ≡ Some x → ⊥) → d ≡ None
 is_none None h = refl
 is_none (Some x) h = absurd (h x refl)
-
-pub one_last_not : (es : List (Entry ℕ Shape Tag)) (e : Entry ℕ Shape Tag) → OneOf (λ x. x.tag ≡ InD) es → OneOf (λ x. x.tag ≡ InD) (es ++ e ∷ [])
-one_last_not es e h = one_left (λ x. x.tag ≡ InD) es (e ∷ []) h
 
 -- where the range of a find begins
 pub begins_at : (k b : ℕ) (d : Option ℕ) (c : Option Range) (free : Bool) (sv : List (Entry ℕ Shape Tag)) → (free ≡ true → d ≡ None) →

@@ -18,7 +18,7 @@ use Rattle.ts_validate.specs.Numbers.{number_of, next_number, known_of, table_of
 
 -- the number of a residual is that of its least place
 
-pub number_at : (rs : List Shape) (r : Shape) → number_of rs r < length rs → shape_at rs (number_of rs r) ≡ r
+number_at : (rs : List Shape) (r : Shape) → number_of rs r < length rs → shape_at rs (number_of rs r) ≡ r
 number_at [] r q = absurd (omega (arith, q))
 number_at (s ∷ rs) r q = go (same_shape s r) refl (number_at rs r) q
   where
@@ -30,7 +30,7 @@ number_at (s ∷ rs) r q = go (same_shape s r) refl (number_at rs r) q
     go true e h q = (same_law s r).0 e
     go false e h q = one_on (number_of rs r) (h (omega (arith, q)))
 
-pub number_small : (rs : List Shape) (i : ℕ) → i < length rs → number_of rs (shape_at rs i) ≤ i
+number_small : (rs : List Shape) (i : ℕ) → i < length rs → number_of rs (shape_at rs i) ≤ i
 number_small [] i q = absurd (omega (arith, q))
 number_small (s ∷ rs) zero q = go (same_shape s s) ((same_law s s).1 refl)
   where
@@ -43,7 +43,7 @@ number_small (s ∷ rs) (suc i) q = go (same_shape s (shape_at rs i)) (number_sm
     go true h = omega arith
     go false h = omega (arith, h)
 
-pub number_bound : (rs : List Shape) (r : Shape) → (number_of rs r < length rs) ⊎ (number_of rs r ≡ length rs + 1)
+number_bound : (rs : List Shape) (r : Shape) → (number_of rs r < length rs) ⊎ (number_of rs r ≡ length rs + 1)
 number_bound [] r = inr refl
 number_bound (s ∷ rs) r = go (same_shape s r) (number_bound rs r)
   where
@@ -59,7 +59,7 @@ map_place all [] i q = absurd (omega (arith, q))
 map_place all (r ∷ rs) zero q = refl
 map_place all (r ∷ rs) (suc i) q = map_place all rs i (omega (arith, q))
 
-pub known_is : (rs : List Shape) (i : ℕ) → i < length rs → known_at (table_of rs) i ≡ known_of rs (shape_at rs i)
+known_is : (rs : List Shape) (i : ℕ) → i < length rs → known_at (table_of rs) i ≡ known_of rs (shape_at rs i)
 known_is rs i q = map_place rs rs i q
 
 next_on_known : (rs : List Shape) (l : Letter) (r : Shape) → next_on l (known_of rs r) ≡ next_number rs r l
@@ -67,7 +67,7 @@ next_on_known rs Less r = refl
 next_on_known rs Equal r = refl
 next_on_known rs Greater r = refl
 
-pub next_is : (rs : List Shape) (i : ℕ) (l : Letter) → i < length rs → next_on l (known_at (table_of rs) i) ≡ next_number rs (shape_at rs i) l
+next_is : (rs : List Shape) (i : ℕ) (l : Letter) → i < length rs → next_on l (known_at (table_of rs) i) ≡ next_number rs (shape_at rs i) l
 next_is rs i l q = ap (λ k. next_on l k) (known_is rs i q) ∙ next_on_known rs l (shape_at rs i)
 
 -- a number of a residual

@@ -110,7 +110,7 @@ kept_valued rs p b l es s q h a =
     (each_agrees rs l (with_start tt 0 b es) (numbers_before rs b es s h) a)
     ∙ ap (λ z. survivors shapes l z) (before_valued rs p b es q)
 
-pub stepped_valued : (rows : List Row) (p : Shape) (b : ℕ) (rs : List Shape) (xs : List (PlainConfiguration ℕ)) → IsFor p rs xs → (x : PlainConfiguration ℕ) →
+stepped_valued : (rows : List Row) (p : Shape) (b : ℕ) (rs : List Shape) (xs : List (PlainConfiguration ℕ)) → IsFor p rs xs → (x : PlainConfiguration ℕ) →
     HasNumbers rs x → (l : Letter) → is_listed_after rs b x l ≡ true →
     configuration_value rs (step_of (by_number rows b rs xs) x l) ≡ step_of (by_value rows p b rs xs) (configuration_value rs x) l
 stepped_valued rows p b rs xs i x h l a =

@@ -39,7 +39,7 @@ first_value rs (x ∷ xs) q =
     ap (λ z. record { state = z; live = (configuration_value rs x).live }) (eqb-true x.state 0 h.0)
     ∙ ap (λ z. record { state = 0; live = z }) (gone rs x.state x.live h.1)
 
-pub start_value : (rows : List Row) (p : Pattern) (plan : Plan) → is_plan_of (shape_of p.regex) (plain_plan plan) ≡ true →
+start_value : (rows : List Row) (p : Pattern) (plan : Plan) → is_plan_of (shape_of p.regex) (plain_plan plan) ≡ true →
     value_at (against rows p plan) 0 ≡ blank
 start_value rows p plan q =
     let h = and_parts (first_passes (λ r. same_shape r (normal_form (shape_of p.regex))) (plain_plan plan).residuals)
