@@ -1,14 +1,13 @@
 -- Laws of the meaning of an expression: what relates the operators of two kinds of values relates the values of each expression.
-use Rattle.std.specs.Prelude.{◌≡◌, Bool, true, false, IsTrue, ℤ, pos, is_some, Option, None, Some, refl}
-use Rattle.std.proofs.Common.{◌∙◌, ap, sym, subst}
+use Rattle.std.specs.Prelude.{◌≡◌, IsTrue, ℤ, pos, is_some, Option, None, Some, refl}
+use Rattle.std.proofs.Common.{ap, subst}
 use Rattle.ts_base.specs.declared.ext.Ext.{Ext}
 use Rattle.ts_base.specs.declared.ext.Ext.TheVariants.{NegInf, Int as Number, PosInf}
 use Rattle.ts_automaton.specs.declared.kind.RegKind.{RegKind}
-use Rattle.ts_automaton.specs.declared.expr.Atom.{Atom}
 use Rattle.ts_automaton.specs.declared.expr.Atom.TheVariants.{C, D, R, This, Next, Zero, Unit as UnitAtom, NegInf as LowAtom, PosInf as HighAtom}
 use Rattle.ts_automaton.specs.declared.expr.Op.{Op}
 use Rattle.ts_automaton.specs.Formula.{Formula, Leaf, Join}
-use Rattle.ts_automaton.specs.Registers.{EachOf, map_each, Each, Values, atom_in, value_in, Takes}
+use Rattle.ts_automaton.specs.Registers.{EachOf, map_each, Each, Values, value_in, Takes}
 use Rattle.ts_automaton.specs.Kinds.{kind_of, op_kind, join_kind, kinds, formula_kind}
 
 -- a relation of two kinds of values that constants and operators keep
@@ -65,7 +64,8 @@ module _ {A : Type 0} (m : Values A) (Has : RegKind → A → Type 0) (P : Op �
   -- a value has the kind of its expression
   pub value_has : (f : Formula) (k : EachOf RegKind) (s : EachOf A) (x y : ℤ) → Each Has k s → HasIfSome (value_in m s x y f) (formula_kind k f)
   value_has f k s x y h =
-      value_related m kinds HasIfSome constant joins f s (map_each (λ j. Some j) k) x y (pos 0) (pos 0) (constant (Number x)) (constant (Number y)) (h.0, h.1, h.2)
+      value_related m kinds HasIfSome constant joins f s (map_each (λ j. Some j) k) x y (pos 0) (pos 0) (constant (Number x)) (constant (Number y))
+      (h.0, h.1, h.2)
 
   -- in an expression with a kind each operator meets two values that it takes
   pub takes_typed : (f : Formula) (k : EachOf RegKind) (s : EachOf A) (x y : ℤ) → Each Has k s → IsTrue (is_some (formula_kind k f)) → Takes P m s x y f
@@ -74,5 +74,6 @@ module _ {A : Type 0} (m : Values A) (Has : RegKind → A → Type 0) (P : Op �
       let p = parted o (formula_kind k f) (formula_kind k g) e in (
         takes_typed f k s x y h (ap is_some p.left_is),
         takes_typed g k s x y h (ap is_some p.right_is),
-        taken o p.left p.right _ _ p.taken (subst (HasIfSome (value_in m s x y f)) p.left_is (value_has f k s x y h)) (subst (HasIfSome (value_in m s x y g)) p.right_is (value_has g k s x y h)),
+        taken o p.left p.right _ _ p.taken (subst (HasIfSome (value_in m s x y f)) p.left_is (value_has f k s x y h))
+            (subst (HasIfSome (value_in m s x y g)) p.right_is (value_has g k s x y h)),
       )

@@ -1,13 +1,13 @@
 -- Typing is right about values: numbers and spans of a kind, and what operators make of them.
-use Rattle.std.proofs.Common.{◌≡◌, Bool, true, false, cond, ◌&&◌, ℤ, refl, sym, ◌∙◌, ap, subst}
-use Rattle.std.specs.Prelude.{IsTrue, int_le, is_some, Option, None, Some}
+use Rattle.std.proofs.Common.{◌≡◌, true, false, cond, ◌&&◌, refl, sym, ◌∙◌, ap, subst}
+use Rattle.std.specs.Prelude.{IsTrue, int_le, is_some, Some}
 use Rattle.ts_base.specs.declared.ext.Ext.{Ext}
 use Rattle.ts_base.specs.declared.ext.Ext.TheVariants.{NegInf, Int as Number, PosInf}
 use Rattle.ts_base.specs.declared.span.Span.{Span}
 use Rattle.ts_base.specs.Numbers.{ext_le}
-use Rattle.ts_base.specs.Spans.{none_span, one_span, has_some, end_by_end}
+use Rattle.ts_base.specs.Spans.{none_span, has_some, end_by_end}
 use Rattle.ts_base.proofs.Order.{le_refl}
-use Rattle.ts_base.proofs.SpanLaws.{max_mono, min_mono, plus_mono, one_some}
+use Rattle.ts_base.proofs.SpanLaws.{max_mono, min_mono, plus_mono}
 use Rattle.ts_automaton.specs.declared.kind.RegKind.{RegKind}
 use Rattle.ts_automaton.specs.declared.expr.Op.{Op}
 use Rattle.ts_automaton.specs.declared.expr.Op.TheVariants.{Add, Max, Min}
@@ -47,7 +47,8 @@ kind_made Min PosInf PosInf = refl
 
 made_number : (o : Op) (j k i : RegKind) (a b : Ext) → op_kind o j k ≡ Some i → HasKind j a → HasKind k b → HasKind i (ext_op o a b)
 made_number o j k i a b e h g =
-    subst (λ l. IsTrue (is_within l i)) (sym (kind_made o a b)) (subst (λ u. IsTrue (within_any (made_kind o (kind_of a) (kind_of b)) u)) e (made_within o j k (kind_of a) (kind_of b) h g))
+    subst (λ l. IsTrue (is_within l i)) (sym (kind_made o a b))
+    (subst (λ u. IsTrue (within_any (made_kind o (kind_of a) (kind_of b)) u)) e (made_within o j k (kind_of a) (kind_of b) h g))
 
 pub numbers_typed : TypedValues numbers HasKind Fits
 numbers_typed = record {
@@ -62,8 +63,11 @@ op_mono Add = plus_mono
 op_mono Max = max_mono
 op_mono Min = min_mono
 
-pub lifted_ends : (o : Op) (s t : Span) → has_some s ≡ true → has_some t ≡ true → end_by_end (ext_op o) s t ≡ record { lo = ext_op o s.lo t.lo; hi = ext_op o s.hi t.hi }
-lifted_ends o s t p q = ap (λ v. cond (v && has_some t) (record { lo = ext_op o s.lo t.lo; hi = ext_op o s.hi t.hi }) none_span) p ∙ ap (λ v. cond v (record { lo = ext_op o s.lo t.lo; hi = ext_op o s.hi t.hi }) none_span) q
+pub lifted_ends : (o : Op) (s t : Span) → has_some s ≡ true → has_some t ≡ true →
+    end_by_end (ext_op o) s t ≡ record { lo = ext_op o s.lo t.lo; hi = ext_op o s.hi t.hi }
+lifted_ends o s t p q =
+    ap (λ v. cond (v && has_some t) (record { lo = ext_op o s.lo t.lo; hi = ext_op o s.hi t.hi }) none_span) p
+    ∙ ap (λ v. cond v (record { lo = ext_op o s.lo t.lo; hi = ext_op o s.hi t.hi }) none_span) q
 
 made_span : (o : Op) (j k i : RegKind) (s t : Span) → op_kind o j k ≡ Some i → SpanHasKind j s → SpanHasKind k t → SpanHasKind i (end_by_end (ext_op o) s t)
 made_span o j k i s t e h g =

@@ -1,5 +1,5 @@
 -- Rules over the states of the program and over what contracts see of them, and faults state by state.
-use Rattle.std.proofs.Common.{◌≡◌, ◌<◌, ◌≤◌, ℕ, suc, ◌+◌, ◌-◌, Bool, true, false, not, ◌&&◌, List, [], ◌∷◌, ◌++◌, map, length, drop, get_or, refl, sym, ◌∙◌, ap, subst, arith}
+use Rattle.std.proofs.Common.{◌≡◌, ◌<◌, ◌≤◌, ℕ, suc, ◌+◌, ◌-◌, Bool, true, false, not, ◌&&◌, List, [], ◌∷◌, ◌++◌, map, length, drop, get_or, refl, sym, ◌∙◌, ap, arith}
 use Rattle.std.specs.Prelude.{Option, None, Some, is_some, is_none, cond, nat_eq, nat_le}
 use Rattle.std.specs.List.{list_all, list_any, find}
 use Rattle.std.specs.Option.{option_or}
@@ -45,7 +45,8 @@ pub all_or_first : {X : Type 0} (test : X → Bool) (xs : List X) → list_all t
 all_or_first test [] = refl
 all_or_first test (x ∷ xs) = go (test x) (all_or_first test xs)
   where
-    go : (v : Bool) → list_all test xs ≡ is_none (find (λ y. not (test y)) xs) → v && list_all test xs ≡ is_none (cond (not v) (Some x) (find (λ y. not (test y)) xs))
+    go : (v : Bool) → list_all test xs ≡ is_none (find (λ y. not (test y)) xs) →
+        v && list_all test xs ≡ is_none (cond (not v) (Some x) (find (λ y. not (test y)) xs))
     go true h = h
     go false h = refl
 
@@ -60,15 +61,18 @@ after_start b n k h =
     ∙ find-append (λ p. not (is_typed_at b p)) (moves_from 0 (length b.states)) (Finish ∷ [])
     ∙ ap (λ m. option_or (move_fault b 0 m) (find (λ p. not (is_typed_at b p)) (Finish ∷ []))) (sym k)
 
-pub first_is_move : (b : Body) (n : ℕ) (r : Option Place) → n ≡ length b.states → (node_at b.states 0).held ≡ false → r ≡ move_fault b 0 n → is_some r ≡ true → r ≡ typing_fault b
+pub first_is_move : (b : Body) (n : ℕ) (r : Option Place) → n ≡ length b.states → (node_at b.states 0).held ≡ false → r ≡ move_fault b 0 n → is_some r ≡ true →
+    r ≡ typing_fault b
 first_is_move b n (Some p) k h e s = sym (after_start b n k h ∙ ap (λ o. option_or o (find (λ p. not (is_typed_at b p)) (Finish ∷ []))) (sym e))
 first_is_move b n None k h e s = cc
 
 -- no move is against the typing
-pub first_is_finish : (b : Body) (n : ℕ) (r : Option Place) (f : Bool) → n ≡ length b.states → (node_at b.states 0).held ≡ false → r ≡ move_fault b 0 n → is_some r ≡ false →
+pub first_is_finish : (b : Body) (n : ℕ) (r : Option Place) (f : Bool) → n ≡ length b.states → (node_at b.states 0).held ≡ false → r ≡ move_fault b 0 n →
+    is_some r ≡ false →
     f ≡ is_finish_typed b → cond f None (Some Finish) ≡ typing_fault b
 first_is_finish b n None f k h e s i =
-    sym (after_start b n k h ∙ ap (λ o. option_or o (find (λ p. not (is_typed_at b p)) (Finish ∷ []))) (sym e) ∙ ap (λ v. cond (not v) (Some Finish) None) (sym i) ∙ turned f)
+    sym (after_start b n k h ∙ ap (λ o. option_or o (find (λ p. not (is_typed_at b p)) (Finish ∷ []))) (sym e)
+    ∙ ap (λ v. cond (not v) (Some Finish) None) (sym i) ∙ turned f)
   where
     turned : (v : Bool) → cond (not v) (Some Finish) None ≡ cond v None (Some Finish)
     turned true = refl
@@ -79,7 +83,8 @@ pub different_more : (states rest : List State) (first : State) (r d : Bool) →
     r ≡ list_any (λ s. nat_eq s.name first.name) rest → d ≡ are_different (map node_of rest) → not r && d ≡ are_different (map node_of states)
 different_more [] rest first r d k u e h i = absurd (omega (arith, k))
 different_more (s ∷ ss) rest first r d k u e h i =
-    ap (λ v. not v && d) (h ∙ ap (λ l. list_any (λ u. nat_eq u.name first.name) l) u ∙ ap (λ t. list_any (λ u. nat_eq u.name t.name) ss) e ∙ sym (list_any_map (λ u. nat_eq u.name s.name) node_of ss))
+    ap (λ v. not v && d) (h ∙ ap (λ l. list_any (λ u. nat_eq u.name first.name) l) u ∙ ap (λ t. list_any (λ u. nat_eq u.name t.name) ss) e
+    ∙ sym (list_any_map (λ u. nat_eq u.name s.name) node_of ss))
     ∙ ap (λ v. not (list_any (λ u. nat_eq u.name s.name) (map node_of ss)) && v) (i ∙ ap (λ l. are_different (map node_of l)) u)
 
 pub has_name_already : (states rest : List State) (first : State) (r : Bool) → 1 ≤ length states → rest ≡ drop 1 states → first ≡ get_or states 0 first →

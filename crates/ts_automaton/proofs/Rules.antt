@@ -1,16 +1,15 @@
 -- What the rules of an automaton say of its states, moves and finish expression.
-use Rattle.std.proofs.Common.{inl, inr, ◌≡◌, ◌<◌, ◌≤◌, ◌⊎◌, ℕ, zero, suc, ◌+◌, Bool, true, false, not, ◌&&◌, ◌||◌, List, [], ◌∷◌, ◌++◌, map, length, get_or, refl, sym, ◌∙◌, ap, subst, arith}
-use Rattle.std.specs.Prelude.{IsTrue, is_some, nat_le, nat_lt, Option}
+use Rattle.std.proofs.Common.{inl, inr, ◌≡◌, ◌<◌, ◌≤◌, ℕ, zero, suc, ◌+◌, Bool, true, false, not, ◌&&◌, ◌||◌, List, [], ◌∷◌, ◌++◌, length, get_or, refl, sym, ◌∙◌, ap, subst, arith}
+use Rattle.std.specs.Prelude.{IsTrue, is_some, nat_le, nat_lt}
 use Rattle.std.specs.List.{list_all, list_any}
 use Rattle.std.proofs.lemmas.Bool.{and_parts, leb-true, ltb-true, not-true, cases_eq}
 use Rattle.std.proofs.lemmas.List.Folds.{list_all-append}
 use Rattle.ts_base.specs.declared.letter.Letter.{Letter}
 use Rattle.ts_base.specs.declared.letter.Letter.TheVariants.{Less, Equal, Greater}
-use Rattle.ts_automaton.specs.declared.typing.Place.{Place}
 use Rattle.ts_automaton.specs.declared.typing.Place.TheVariants.{Start, Moving, Finish}
 use Rattle.ts_automaton.specs.Kinds.{formula_kind}
-use Rattle.ts_automaton.specs.Body.{Move, Node, Body, move_on, node_at, resting}
-use Rattle.ts_automaton.specs.Typing.{has_few_states, has_names, has_constants, has_targets, has_short_expressions, is_formed, is_typed, is_automaton, leads_below, moves_from, places, is_typed_at, is_move_typed, is_finish_typed, is_finish_typed_where_held, reads_registers, kinds_where, kinds_at}
+use Rattle.ts_automaton.specs.Body.{Node, Body, move_on, node_at, resting}
+use Rattle.ts_automaton.specs.Typing.{has_few_states, has_names, has_constants, has_targets, has_short_expressions, is_formed, is_typed, is_automaton, leads_below, moves_from, is_typed_at, is_move_typed, is_finish_typed, is_finish_typed_where_held, reads_registers, kinds_where, kinds_at}
 
 -- the rules as facts
 pub record Rules (b : Body) : Type 0 where
@@ -57,7 +56,8 @@ typed_from : (b : Body) (p n q : ℕ) (l : Letter) → list_all (is_typed_at b) 
 typed_from b p zero q l h i j = absurd (omega (arith, i, j))
 typed_from b p (suc n) q l h i j = elim (cases_eq p q) [ inl e ↦ here e | inr d ↦ typed_from b (p + 1) n q l rest (omega (arith, i, d)) (omega (arith, j)) ]
   where
-    parts : (is_typed_at b (Moving p Less) ≡ true) × ((is_typed_at b (Moving p Equal) && (is_typed_at b (Moving p Greater) && list_all (is_typed_at b) (moves_from (p + 1) n))) ≡ true)
+    parts : (is_typed_at b (Moving p Less) ≡ true) ×
+        ((is_typed_at b (Moving p Equal) && (is_typed_at b (Moving p Greater) && list_all (is_typed_at b) (moves_from (p + 1) n))) ≡ true)
     parts = and_parts _ _ h
 
     parts2 : (is_typed_at b (Moving p Equal) ≡ true) × ((is_typed_at b (Moving p Greater) && list_all (is_typed_at b) (moves_from (p + 1) n)) ≡ true)

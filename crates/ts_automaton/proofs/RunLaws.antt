@@ -1,5 +1,5 @@
 -- Laws of runs over numbers and over spans, for the layers above.
-use Rattle.std.proofs.Common.{◌≡◌, ℕ, Bool, true, false, not, cond, ◌&&◌, ℤ, pos, refl, sym, ◌∙◌, ap, subst, inr, arith}
+use Rattle.std.proofs.Common.{◌≡◌, ℕ, true, false, not, cond, ◌&&◌, ℤ, pos, refl, sym, ◌∙◌, ap, subst, inr}
 use Rattle.std.specs.Prelude.{IsTrue}
 use Rattle.std.proofs.lemmas.Bool.{and_from}
 use Rattle.ts_base.specs.declared.ext.Ext.{Ext}
@@ -7,19 +7,19 @@ use Rattle.ts_base.specs.declared.ext.Ext.TheVariants.{NegInf, Int as Number, Po
 use Rattle.ts_base.specs.declared.span.Span.{Span}
 use Rattle.ts_base.specs.Numbers.{ext_le, ext_max, ext_min}
 use Rattle.ts_base.specs.Spans.{none_span, one_span, Holds, has_some, end_by_end, span_hull}
-use Rattle.ts_base.proofs.Order.{le_refl, le_trans, max_right, min_left}
+use Rattle.ts_base.proofs.Order.{le_trans, max_right, min_left}
 use Rattle.ts_base.proofs.SpanLaws.{holds_some, holds_one, one_some, lifted_holds, lifted_one, hull_left, hull_right}
 use Rattle.ts_base.specs.Signature.{letter_of}
 use Rattle.ts_automaton.specs.declared.kind.RegKind.{RegKind}
 use Rattle.ts_automaton.specs.declared.state.Mark.{Mark}
 use Rattle.ts_automaton.specs.declared.state.Mark.TheVariants.{Same, Zero, Cells}
 use Rattle.ts_automaton.specs.Formula.{Formula}
-use Rattle.ts_automaton.specs.Registers.{EachOf, each, Each, map_each, numbers, spans, ext_op, value_in}
-use Rattle.ts_automaton.specs.Kinds.{HasKind, SpanHasKind, Fits, kind_of}
+use Rattle.ts_automaton.specs.Registers.{EachOf, each, Each, numbers, spans, ext_op, value_in}
+use Rattle.ts_automaton.specs.Kinds.{HasKind, SpanHasKind, Fits}
 use Rattle.ts_automaton.specs.Body.{Body, Move}
-use Rattle.ts_automaton.specs.Typing.{is_automaton, kinds_at}
-use Rattle.ts_automaton.specs.AutomatonRun.{Standing, Stands, start_of, moved, finished, finish_of, marked, IsInMark, move_between}
-use Rattle.ts_automaton.specs.SpanRun.{none_hull, has_registers, one_hull, HoldsRegs, HullStands, moved_hull, finished_span, marked_span}
+use Rattle.ts_automaton.specs.Typing.{kinds_at}
+use Rattle.ts_automaton.specs.AutomatonRun.{Standing, Stands, moved, finished, marked, IsInMark, move_between}
+use Rattle.ts_automaton.specs.SpanRun.{none_hull, has_registers, one_hull, HoldsRegs, HullStands, moved_hull, marked_span}
 use Rattle.ts_automaton.specs.Laws.{StepsHold, FinishesHold, MarksHold, StepsStaySingle, FinishesStaySingle, NonesStay, KindsAreKept, OperandsFit}
 use Rattle.ts_automaton.proofs.Evaluation.{value_related}
 use Rattle.ts_automaton.proofs.KindLaws.{op_mono, numbers_typed}
@@ -33,7 +33,8 @@ value_holds f s h x y k =
 
 pub holds_registers : (h : EachOf Span) (s : EachOf Ext) → HoldsRegs h s → has_registers h ≡ true
 holds_registers h s k =
-    and_from (has_some h.c && has_some h.d) (has_some h.r) (and_from (has_some h.c) (has_some h.d) (holds_some h.c s.c k.0) (holds_some h.d s.d k.1)) (holds_some h.r s.r k.2)
+    and_from (has_some h.c && has_some h.d) (has_some h.r) (and_from (has_some h.c) (has_some h.d) (holds_some h.c s.c k.0) (holds_some h.d s.d k.1))
+    (holds_some h.r s.r k.2)
 
 moved_holds : (m : Move) (s : EachOf Ext) (h : EachOf Span) (x y : ℤ) → HoldsRegs h s → HoldsRegs (moved_hull h x y m) (moved numbers s x y m)
 moved_holds m s h x y k =
@@ -115,7 +116,8 @@ le_top (Number x) = refl
 le_top PosInf = refl
 
 between : (a b e : Ext) → IsTrue (ext_le a e) → IsTrue (ext_le e b) → Holds (span_hull (one_span a) (one_span b)) e
-between a b e p q = let i = one_some a in let j = one_some b in rw (i, j) (le_trans (ext_min a b) a e (min_left a b) p, le_trans e b (ext_max a b) q (max_right a b))
+between a b e p q =
+    let i = one_some a in let j = one_some b in rw (i, j) (le_trans (ext_min a b) a e (min_left a b) p, le_trans e b (ext_max a b) q (max_right a b))
 
 zero_holds : (n : ℕ) (lo hi v : Ext) → IsTrue (ext_le lo v) → IsTrue (ext_le v hi) → IsInMark Zero n (marked Zero n v) →
     Holds (span_hull (one_span (marked Zero n lo)) (one_span (marked Zero n hi))) (marked Zero n v)
@@ -148,6 +150,11 @@ cells_hold n lo NegInf PosInf h k i = cc
 cells_hold n lo (Number w) PosInf h k i = cc
 
 pub marks_hold : MarksHold
-marks_hold Zero n s e h i = subst (λ v. Holds (cond v (span_hull (one_span (marked Zero n s.lo)) (one_span (marked Zero n s.hi))) none_span) (marked Zero n e)) (sym (holds_some s e h)) (zero_holds n s.lo s.hi e h.0 h.1 i)
-marks_hold Cells n s e h i = subst (λ v. Holds (cond v (span_hull (one_span (marked Cells n s.lo)) (one_span (marked Cells n s.hi))) none_span) (marked Cells n e)) (sym (holds_some s e h)) (cells_hold n s.lo s.hi e h.0 h.1 i)
-marks_hold Same n s e h i = subst (λ v. Holds (cond v (span_hull (one_span s.lo) (one_span s.hi)) none_span) e) (sym (holds_some s e h)) (between s.lo s.hi e h.0 h.1)
+marks_hold Zero n s e h i =
+    subst (λ v. Holds (cond v (span_hull (one_span (marked Zero n s.lo)) (one_span (marked Zero n s.hi))) none_span) (marked Zero n e))
+    (sym (holds_some s e h)) (zero_holds n s.lo s.hi e h.0 h.1 i)
+marks_hold Cells n s e h i =
+    subst (λ v. Holds (cond v (span_hull (one_span (marked Cells n s.lo)) (one_span (marked Cells n s.hi))) none_span) (marked Cells n e))
+    (sym (holds_some s e h)) (cells_hold n s.lo s.hi e h.0 h.1 i)
+marks_hold Same n s e h i =
+    subst (λ v. Holds (cond v (span_hull (one_span s.lo) (one_span s.hi)) none_span) e) (sym (holds_some s e h)) (between s.lo s.hi e h.0 h.1)

@@ -1,5 +1,5 @@
 -- In an automaton each operator meets operands that it takes, and a move gives the registers the kinds of the state that it reaches.
-use Rattle.std.proofs.Common.{◌≡◌, ◌<◌, ℕ, Bool, true, false, not, cond, ◌&&◌, ℤ, length, inl, inr, refl, sym, ◌∙◌, ap, subst, arith}
+use Rattle.std.proofs.Common.{◌≡◌, ◌<◌, ℕ, Bool, true, false, not, cond, ℤ, length, inl, inr, refl, sym, ◌∙◌, subst, arith}
 use Rattle.std.specs.Prelude.{IsTrue, is_some, pos, Option, None, Some}
 use Rattle.std.proofs.lemmas.Bool.{and_parts, not-false}
 use Rattle.ts_base.specs.declared.ext.Ext.{Ext}
@@ -9,7 +9,7 @@ use Rattle.ts_automaton.specs.declared.kind.RegKind.{RegKind}
 use Rattle.ts_automaton.specs.declared.expr.Op.{Op}
 use Rattle.ts_automaton.specs.Formula.{Formula}
 use Rattle.ts_automaton.specs.Registers.{EachOf, Each, Values, numbers, spans, value_in, Takes, TakesAll}
-use Rattle.ts_automaton.specs.Kinds.{kind_of, is_within, HasKind, SpanHasKind, Fits, SpansFit, formula_kind}
+use Rattle.ts_automaton.specs.Kinds.{kind_of, HasKind, SpanHasKind, Fits, SpansFit, formula_kind}
 use Rattle.ts_automaton.specs.Body.{Body, Move, move_on, node_at}
 use Rattle.ts_automaton.specs.Typing.{fits_kind, kinds_where, kinds_at, is_move_typed, is_automaton}
 use Rattle.ts_automaton.specs.AutomatonRun.{Standing, Stands, start_of, moved}
@@ -28,10 +28,12 @@ module _ {A : Type 0} (m : Values A) (Has : RegKind → A → Type 0) (P : Op �
   within None k a h g = cc
   within (Some j) k a h g = t.widened j k a h g
 
-  takes_one : (f : Formula) (k : EachOf RegKind) (j : RegKind) (s : EachOf A) (x y : ℤ) → Each Has k s → IsTrue (fits_kind (formula_kind k f) j) → Takes P m s x y f
+  takes_one : (f : Formula) (k : EachOf RegKind) (j : RegKind) (s : EachOf A) (x y : ℤ) → Each Has k s → IsTrue (fits_kind (formula_kind k f) j) →
+      Takes P m s x y f
   takes_one f k j s x y h e = takes_typed m Has P t.constant t.taken t.made f k s x y h (fitted _ j e)
 
-  has_one : (f : Formula) (k : EachOf RegKind) (j : RegKind) (s : EachOf A) (x y : ℤ) → Each Has k s → IsTrue (fits_kind (formula_kind k f) j) → Has j (value_in m s x y f)
+  has_one : (f : Formula) (k : EachOf RegKind) (j : RegKind) (s : EachOf A) (x y : ℤ) → Each Has k s → IsTrue (fits_kind (formula_kind k f) j) →
+      Has j (value_in m s x y f)
   has_one f k j s x y h e = within _ j _ e (value_has m Has P t.constant t.taken t.made f k s x y h)
 
   -- u is the move of the state q on the letter l
@@ -49,11 +51,14 @@ module _ {A : Type 0} (m : Values A) (Has : RegKind → A → Type 0) (P : Op �
       let w = and_parts _ _ v.0 in
       (has_one _ _ _ s x y k w.0, has_one _ _ _ s x y k w.1, has_one _ _ _ s x y k v.1)
 
-  pub finish_takes : (b : Body) → IsTrue (is_automaton b) → (q : ℕ) (s : EachOf A) → Each Has (kinds_at b q) s → (f : Formula) → f ≡ b.finish → Takes P m s (pos 0) (pos 0) f
+  pub finish_takes : (b : Body) → IsTrue (is_automaton b) → (q : ℕ) (s : EachOf A) → Each Has (kinds_at b q) s → (f : Formula) → f ≡ b.finish →
+      Takes P m s (pos 0) (pos 0) f
   finish_takes b r q s k f e =
-      subst (Takes P m s (pos 0) (pos 0)) (sym e) (takes_typed m Has P t.constant t.taken t.made b.finish (kinds_at b q) s (pos 0) (pos 0) k (finish_typed b (rules_of b r) q))
+      subst (Takes P m s (pos 0) (pos 0)) (sym e)
+      (takes_typed m Has P t.constant t.taken t.made b.finish (kinds_at b q) s (pos 0) (pos 0) k (finish_typed b (rules_of b r) q))
 
-pub next_exists : (b : Body) → IsTrue (is_automaton b) → (q : ℕ) (l : Letter) → q < length b.states → (u : Move) → u ≡ move_on l (node_at b.states q) → u.next < length b.states
+pub next_exists : (b : Body) → IsTrue (is_automaton b) → (q : ℕ) (l : Letter) → q < length b.states → (u : Move) → u ≡ move_on l (node_at b.states q) →
+    u.next < length b.states
 next_exists b r q l h u e = subst (λ w. w.next < length b.states) (sym e) (target_exists b (rules_of b r) q l h)
 
 -- the step of numbers, and that of spans, from a state in which the registers have their kinds
@@ -72,16 +77,20 @@ spans_have k h (inl e) t = absurd (not_none (subst (λ g. has_registers g ≡ tr
     not_none q = cc
 spans_have k h (inr g) t = g
 
-pub hull_takes : (b : Body) → IsTrue (is_automaton b) → (s : Standing Span) → HullStands b s → (l : Letter) (u : Move) → u ≡ move_on l (node_at b.states s.state) →
+pub hull_takes : (b : Body) → IsTrue (is_automaton b) → (s : Standing Span) → HullStands b s → (l : Letter) (u : Move) →
+    u ≡ move_on l (node_at b.states s.state) →
     (x y : ℤ) → IsTrue (has_registers s.regs) → TakesAll SpansFit spans s.regs x y u.to
-hull_takes b a s h l u e x y t = move_takes spans SpanHasKind SpansFit spans_typed b a s.state l h.exists s.regs (spans_have (kinds_at b s.state) s.regs h.kinds t) u e x y
+hull_takes b a s h l u e x y t =
+    move_takes spans SpanHasKind SpansFit spans_typed b a s.state l h.exists s.regs (spans_have (kinds_at b s.state) s.regs h.kinds t) u e x y
 
 pub hull_finish_takes : (b : Body) → IsTrue (is_automaton b) → (s : Standing Span) → HullStands b s → (v : Bool) → v ≡ not (has_registers s.regs) → v ≡ false →
     (f : Formula) → f ≡ b.finish → Takes SpansFit spans s.regs (pos 0) (pos 0) f
 hull_finish_takes b a s h v e i f g =
-    finish_takes spans SpanHasKind SpansFit spans_typed b a s.state s.regs (spans_have (kinds_at b s.state) s.regs h.kinds (not-false (has_registers s.regs) (sym e ∙ i))) f g
+    finish_takes spans SpanHasKind SpansFit spans_typed b a s.state s.regs
+    (spans_have (kinds_at b s.state) s.regs h.kinds (not-false (has_registers s.regs) (sym e ∙ i))) f g
 
-pub hull_stands_after : (b : Body) → IsTrue (is_automaton b) → (s : Standing Span) → HullStands b s → (l : Letter) (u : Move) → u ≡ move_on l (node_at b.states s.state) →
+pub hull_stands_after : (b : Body) → IsTrue (is_automaton b) → (s : Standing Span) → HullStands b s → (l : Letter) (u : Move) →
+    u ≡ move_on l (node_at b.states s.state) →
     (x y : ℤ) (r : EachOf Span) → r ≡ moved_hull s.regs x y u → HullStands b (record { state = u.next; regs = r })
 hull_stands_after b a s h l u e x y r i = record {
   exists = next_exists b a s.state l h.exists u e;
@@ -98,5 +107,7 @@ start_stands b a =
     let r = rules_of b a in
     record {
       exists = omega (arith, r.some);
-      kinds = subst (λ v. Each HasKind (kinds_where b v) b.start) (sym (starts_free b r)) (within_refl (kind_of b.start.c), within_refl (kind_of b.start.d), within_refl (kind_of b.start.r));
+      kinds =
+          subst (λ v. Each HasKind (kinds_where b v) b.start) (sym (starts_free b r))
+          (within_refl (kind_of b.start.c), within_refl (kind_of b.start.d), within_refl (kind_of b.start.r));
     }

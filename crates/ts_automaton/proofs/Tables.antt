@@ -1,5 +1,5 @@
 -- Laws of kinds by computation over all of them.
-use Rattle.std.proofs.Common.{◌≡◌, Bool, true, false, not, ◌&&◌, ◌||◌, refl, sym, ap, subst}
+use Rattle.std.proofs.Common.{◌≡◌, Bool, true, not, ◌&&◌, ◌||◌, refl, subst}
 use Rattle.std.specs.Prelude.{IsTrue, is_some, Option, None, Some}
 use Rattle.std.proofs.lemmas.Bool.{and_parts}
 use Rattle.ts_automaton.specs.declared.kind.RegKind.{RegKind}
@@ -83,7 +83,8 @@ abbrev is_narrower : Op → RegKind → RegKind → RegKind → RegKind → Bool
 is_narrower o j k i l = if_within j k i l (implies (is_some (op_kind o j k)) (is_some (op_kind o i l)))
 
 -- an operator that takes two kinds takes narrower ones
-pub narrower : (o : Op) (j k i l : RegKind) → IsTrue (is_some (op_kind o j k)) → IsTrue (is_within i j) → IsTrue (is_within l k) → IsTrue (is_some (op_kind o i l))
+pub narrower : (o : Op) (j k i l : RegKind) → IsTrue (is_some (op_kind o j k)) → IsTrue (is_within i j) → IsTrue (is_within l k) →
+    IsTrue (is_some (op_kind o i l))
 narrower o j k i l h p q =
     implied (is_some (op_kind o j k)) (is_some (op_kind o i l))
     (since_within j k i l (implies (is_some (op_kind o j k)) (is_some (op_kind o i l))) (at_each is_narrower refl o j k i l) p q) h

@@ -1,5 +1,5 @@
 -- Kinds of values, and the kind of an expression: the same meaning of an expression, over kinds in place of numbers.
-use Rattle.std.specs.Prelude.{◌≡◌, Bool, true, false, IsTrue, pos, is_some, Option, None, Some}
+use Rattle.std.specs.Prelude.{Bool, true, false, IsTrue, pos, is_some, Option, None, Some}
 use Rattle.ts_base.specs.declared.ext.Ext.{Ext}
 use Rattle.ts_base.specs.declared.ext.Ext.TheVariants.{NegInf, Int as Number, PosInf}
 use Rattle.ts_base.specs.declared.span.Span.{Span}

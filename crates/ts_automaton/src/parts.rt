@@ -4,7 +4,6 @@ ghost use Rattle.std.specs.Prelude.{◌≡◌, length, map, min, nat_eq};
 ghost use Rattle.std.specs.List.{list_all, list_any};
 ghost use Rattle.ts_automaton.specs.Body.{move_of, node_of, parts_of};
 ghost use Rattle.ts_automaton.specs.Formula.{formula, words_in};
-ghost use Rattle.ts_automaton.specs.Registers.{regs_of, each};
 ghost use Rattle.ts_automaton.specs.Typing.{is_constant, is_name, is_short, each_is, are_different, leads_below, has_short_moves, has_few_states, has_names, has_constants, has_targets, has_short_expressions, is_formed};
 
 use crate::expr::Expr;
@@ -33,12 +32,14 @@ impl Parts {
             && self.has_short_expressions()
     }
 
+    /// Whether there are one to eight states.
     fn has_few_states(&self) -> bool
         ensures { result ≡ has_few_states (parts_of self.now) }
     {
         1 <= self.states.len() && self.states.len() <= 8
     }
 
+    /// Whether the states have different names, each a letter.
     #[tactic(auto, using(crate::proofs::Lists::mapped))]
     fn has_names(&self) -> bool
         ensures { result ≡ has_names (parts_of self.now) }
@@ -46,12 +47,14 @@ impl Parts {
         all_named(&self.states) && are_different(&self.states)
     }
 
+    /// Whether each start constant is 0, 1, -inf or +inf.
     fn has_constants(&self) -> bool
         ensures { result ≡ has_constants (parts_of self.now) }
     {
         is_constant(self.start.c) && is_constant(self.start.d) && is_constant(self.start.r)
     }
 
+    /// Whether each move leads to a state.
     #[tactic(auto, using(crate::proofs::Lists::mapped))]
     fn has_targets(&self) -> bool
         ensures { result ≡ has_targets (parts_of self.now) }
@@ -59,6 +62,7 @@ impl Parts {
         all_lead_within(&self.states)
     }
 
+    /// Whether each expression has at most 15 words.
     #[tactic(auto, using(crate::proofs::Lists::mapped))]
     fn has_short_expressions(&self) -> bool
         ensures { result ≡ has_short_expressions (parts_of self.now) }
@@ -67,6 +71,7 @@ impl Parts {
     }
 }
 
+/// Whether each name is a letter `a` to `z`.
 fn all_named(states: &[State]) -> bool
     ensures { result ≡ list_all (λ s. is_name s.name) states.now }
 {
@@ -86,12 +91,14 @@ fn are_different(states: &[State]) -> bool
     }
 }
 
+/// Whether one of the states has the name.
 fn has_name(states: &[State], name: u8) -> bool
     ensures { result ≡ list_any (λ s. nat_eq s.name name) states.now }
 {
     states.iter().any(|state| state.name == name)
 }
 
+/// Whether it is 0, 1, -inf or +inf.
 fn is_constant(e: Ext) -> bool
     ensures { result ≡ is_constant e }
 {
@@ -122,12 +129,14 @@ fn words(e: &Expr) -> usize
     }
 }
 
+/// Whether the expression has at most 15 words.
 fn is_short(e: &Expr) -> bool
     ensures { result ≡ is_short (formula e.now) }
 {
     words(e) <= 15
 }
 
+/// Whether each move of each state leads to one of them.
 fn all_lead_within(states: &[State]) -> bool
     ensures { result ≡ list_all (λ s. leads_below (length states.now) (node_of s)) states.now }
 {
@@ -135,18 +144,21 @@ fn all_lead_within(states: &[State]) -> bool
     states.iter().all(|s| leads_below(s, count))
 }
 
+/// Whether each expression of a move has at most 15 words.
 fn all_have_short_moves(states: &[State]) -> bool
     ensures { result ≡ list_all (λ s. has_short_moves (node_of s)) states.now }
 {
     states.iter().all(has_short_moves)
 }
 
+/// Whether the expressions of the moves of a state do.
 fn has_short_moves(state: &State) -> bool
     ensures { result ≡ has_short_moves (node_of state.now) }
 {
     is_short_turn(&state.less) && is_short_turn(&state.equal) && is_short_turn(&state.greater)
 }
 
+/// Whether the expressions of a move do.
 fn is_short_turn(turn: &Turn) -> bool
     ensures { result ≡ each_is is_short (move_of turn.now).to }
 {

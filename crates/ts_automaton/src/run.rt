@@ -1,12 +1,11 @@
 //! Runs over numbers.
 
-ghost use Rattle.std.specs.Prelude.{◌≡◌, ◌<◌, IsTrue, is_some, length};
+ghost use Rattle.std.specs.Prelude.{◌≡◌};
 ghost use Rattle.ts_automaton.specs.AutomatonRun.{Stands, finish_of, marked, moved, standing_of, start_of, step_of};
-ghost use Rattle.ts_automaton.specs.Body.{move_of, move_on, node_at};
+ghost use Rattle.ts_automaton.specs.Body.{move_of};
 ghost use Rattle.ts_automaton.specs.Formula.{formula};
 ghost use Rattle.ts_automaton.specs.Kinds.{Fits};
 ghost use Rattle.ts_automaton.specs.Registers.{Takes, TakesAll, ext_op, numbers, regs_of, value_in};
-ghost use Rattle.ts_automaton.specs.Typing.{is_automaton};
 
 use crate::automaton::Automaton;
 use crate::expr::{Expr, Op};

@@ -64,14 +64,17 @@ fn changes() -> &'static [(Change, bool)] {
 
 const ZERO: Ext = Ext::Int(0);
 
+/// The sum of two expressions.
 fn add(alloc: Global, a: Expr, b: Expr) -> Result<Expr, AllocError> {
     Ok(Expr::Add(Box::new(alloc, a)?, Box::new(alloc, b)?))
 }
 
+/// The greater of two.
 fn max(alloc: Global, a: Expr, b: Expr) -> Result<Expr, AllocError> {
     Ok(Expr::Max(Box::new(alloc, a)?, Box::new(alloc, b)?))
 }
 
+/// The lesser of two.
 fn min(alloc: Global, a: Expr, b: Expr) -> Result<Expr, AllocError> {
     Ok(Expr::Min(Box::new(alloc, a)?, Box::new(alloc, b)?))
 }
@@ -85,6 +88,7 @@ fn many(alloc: Global, times: u8) -> Result<Expr, AllocError> {
     Ok(sum)
 }
 
+/// The registers stay.
 fn keep(next: u8) -> Turn {
     Turn {
         next,
@@ -114,6 +118,7 @@ fn found(c: Expr) -> Turn {
     }
 }
 
+/// The state of the automaton of peaks at a place; further ones are like the first.
 fn peak_state(alloc: Global, place: u8) -> Result<State, AllocError> {
     let width = add(alloc, Expr::D, Expr::Unit)?;
     match place {
@@ -165,6 +170,7 @@ fn changed_state(alloc: Global, change: Change, place: u8) -> Result<State, Allo
     Ok(state)
 }
 
+/// The finish expression, with the change.
 fn changed_finish(alloc: Global, change: Change) -> Result<Expr, AllocError> {
     match change {
         Change::CellInFinish => add(alloc, Expr::R, Expr::This),
@@ -174,6 +180,7 @@ fn changed_finish(alloc: Global, change: Change) -> Result<Expr, AllocError> {
     }
 }
 
+/// The start constants, with the change.
 fn changed_start(change: Change) -> Regs {
     let zeros = Regs {
         c: ZERO,
@@ -197,6 +204,7 @@ fn changed_start(change: Change) -> Regs {
     }
 }
 
+/// The automaton of peaks with the change.
 fn changed(alloc: Global, change: Change) -> Result<Option<Automaton>, AllocError> {
     let count: u8 = match change {
         Change::NoState => 0,

@@ -2,7 +2,7 @@
 
 ghost use Rattle.std.specs.Prelude.{◌≡◌, ◌<◌, ◌≤◌, length};
 ghost use Rattle.std.specs.List.{list_any};
-ghost use Rattle.ts_automaton.specs.Body.{move_of, move_on, node_at, node_of, parts_of};
+ghost use Rattle.ts_automaton.specs.Body.{move_of, node_at, parts_of};
 ghost use Rattle.ts_automaton.specs.Formula.{formula};
 ghost use Rattle.ts_automaton.specs.Kinds.{formula_kind, kinds_of};
 ghost use Rattle.ts_automaton.specs.Typing.{fits_kind, fits_kinds, kinds_at, kinds_where, reads_registers, is_finish_typed, is_finish_typed_where_held, is_automaton, move_fault, typing_fault};
@@ -50,6 +50,7 @@ impl Parts {
         }
     }
 
+    /// Whether the first state is held.
     fn starts_held(&self) -> bool
         ensures { result ≡ (node_at (parts_of self.now).states 0).held }
     {
@@ -118,6 +119,7 @@ impl Parts {
         }
     }
 
+    /// Whether the finish expression reads no cell, and has a kind in free states and in held ones.
     #[tactic(auto, using(crate::proofs::Lists::mapped))]
     fn is_finish_typed(&self) -> bool
         ensures { result ≡ is_finish_typed (parts_of self.now) }
@@ -136,6 +138,7 @@ impl Parts {
     }
 }
 
+/// Whether a state is held.
 fn has_held(states: &[State]) -> bool
     ensures { result ≡ list_any (λ s. s.held) states.now }
 {

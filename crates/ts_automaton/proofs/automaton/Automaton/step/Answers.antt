@@ -8,9 +8,11 @@ use Rattle.ts_automaton.proofs.automaton.Automaton.step.Goals as goal
 
 pub moved-requires : goal.moved-requires
 moved-requires c =
-    move_takes numbers HasKind Fits numbers_typed c.args.self.now c.turn-turn.ensures.rules c.args.at.state c.letter_of.result c.requires.exists (regs_of c.args.at.regs) c.requires.kinds
+    move_takes numbers HasKind Fits numbers_typed c.args.self.now c.turn-turn.ensures.rules c.args.at.state c.letter_of.result c.requires.exists
+    (regs_of c.args.at.regs) c.requires.kinds
     (move_of c.turn-turn.result.now) c.turn-turn.ensures.value _ _
 
 pub returns-clause-stands : goal.returns-clause-stands
 returns-clause-stands c =
-    stands_after c.args.self.now c.turn-turn.ensures.rules (standing_of c.args.at) c.requires c.letter_of.result (move_of c.turn-turn.result.now) c.turn-turn.ensures.value _ _ _ c.moved.ensures
+    stands_after c.args.self.now c.turn-turn.ensures.rules (standing_of c.args.at) c.requires c.letter_of.result
+    (move_of c.turn-turn.result.now) c.turn-turn.ensures.value _ _ _ c.moved.ensures

@@ -13,11 +13,13 @@ returns-then-is_some c =
 pub returns-then-is_finish_typed : goal.returns-then-is_finish_typed
 returns-then-is_finish_typed c =
     ap (λ v. cond v None (Some Finish)) (sym c.if-is_finish_typed.true)
-    ∙ first_is_finish (parts_of c.args.self.now) _ _ _ (sym (length-map c.args.self.now.states.items node_of)) (sym c.starts_held.ensures ∙ c.if-starts_held.false)
+    ∙ first_is_finish (parts_of c.args.self.now) _ _ _ (sym (length-map c.args.self.now.states.items node_of))
+    (sym c.starts_held.ensures ∙ c.if-starts_held.false)
     c.first_move_fault-moving.ensures (sym c.is_some.ensures ∙ c.if-is_some.false) c.is_finish_typed.ensures
 
 pub returns-else-is_finish_typed : goal.returns-else-is_finish_typed
 returns-else-is_finish_typed c =
     ap (λ v. cond v None (Some Finish)) (sym c.if-is_finish_typed.false)
-    ∙ first_is_finish (parts_of c.args.self.now) _ _ _ (sym (length-map c.args.self.now.states.items node_of)) (sym c.starts_held.ensures ∙ c.if-starts_held.false)
+    ∙ first_is_finish (parts_of c.args.self.now) _ _ _ (sym (length-map c.args.self.now.states.items node_of))
+    (sym c.starts_held.ensures ∙ c.if-starts_held.false)
     c.first_move_fault-moving.ensures (sym c.is_some.ensures ∙ c.if-is_some.false) c.is_finish_typed.ensures
