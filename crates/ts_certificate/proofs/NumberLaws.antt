@@ -5,7 +5,6 @@ use Rattle.std.specs.Option.{option_map}
 use Rattle.std.specs.Int.Signed.{mag}
 use Rattle.std.specs.Fmt.{signed_decimal}
 use Rattle.std.specs.Str.{bytes_eq}
-use Rattle.std.proofs.lemmas.Slice.Eq.{bytes_eq-Decides}
 use Rattle.std.proofs.lemmas.Bool.{eqb-true}
 use Rattle.std.proofs.lemmas.Bool.Decides.{nat_tests}
 use Rattle.ts_base.specs.declared.ext.Ext.{Ext}
@@ -15,7 +14,7 @@ use Rattle.ts_token.specs.Number.{is_digit, digits_from, natural, upto, positive
 use Rattle.ts_base.specs.Words.{is_lf, is_space}
 use Rattle.ts_token.proofs.NumberTexts.{number_written, written_number}
 use Rattle.ts_certificate.specs.Ranges.{count_text, is_value, only_value, value_of, only_whole, whole_of, is_count, only_count, count_of, ext_of, is_ext}
-use Rattle.ts_base.proofs.WordLaws.{and_parts, is_inner, is_solid}
+use Rattle.ts_base.proofs.WordLaws.{and_parts, is_inner, is_solid, keyword_or, different}
 use Rattle.std.specs.Cmp.Derive.{both_true}
 
 -- a digit ends neither a word nor a line, nor does a minus
@@ -136,20 +135,6 @@ pub count_solid : (low high n : ℕ) → high < 2 ^ 63 → is_count low high n �
 count_solid low high n fits h =
     let small = count_small low high n h in
     decimal_solid (pos n) (omega arith)
-
--- a word that is one of two, or another
-pub keyword_or : {X : Type 0} (P : Type 0) (word text : List ℕ) (here there : Option X) (x : X) → (word ≡ text → here ≡ Some x → P) → (there ≡ Some x → P) →
-    cond (bytes_eq word text) here there ≡ Some x → P
-keyword_or P word text here there x f g h = go (bytes_eq word text) refl h where
-  go : (t : Bool) → bytes_eq word text ≡ t → cond t here there ≡ Some x → P
-  go true e k = f ((bytes_eq-Decides word text).0 e) k
-  go false e k = g k
-
-pub different : (word text : List ℕ) → (word ≡ text → ⊥) → bytes_eq word text ≡ false
-different word text h = go (bytes_eq word text) refl where
-  go : (t : Bool) → bytes_eq word text ≡ t → t ≡ false
-  go true e = absurd (h ((bytes_eq-Decides word text).0 e))
-  go false e = refl
 
 -- numbers and infinities
 abbrev IsExt : List ℕ → Ext → Type 0
