@@ -19,7 +19,7 @@ struct Step {
     before: Domain,
 }
 
-/// One domain per cell, and the boxes before the present one. Contracts see the list of the boxes, the present one last.
+/// One domain per cell, and the boxes before the present one. Contracts see the boxes, the present one last.
 #[derive(Drop)]
 pub struct Boxed {
     alloc: Global,

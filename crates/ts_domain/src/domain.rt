@@ -16,8 +16,8 @@ use std::rc::Rc;
 use thiserror::Error;
 use ts_base::Memory;
 
-/// A non-empty set of numbers from -1,000,000 to 1,000,000, which contracts see as its rising list. Its copies share the
-/// ranges.
+/// A non-empty set of numbers from -1,000,000 to 1,000,000, which contracts see as its rising list. Its copies share
+/// the ranges.
 #[derive(Drop)]
 pub struct Domain {
     ranges: Rc<SmallVec<Interval, 2>, Global>,

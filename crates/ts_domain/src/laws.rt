@@ -25,5 +25,6 @@ pub fn split_shares_series()
 
 /// A set without one of its values has one value less.
 pub fn one_value_less()
-    ensures { (gone : ℤ) (values : List ℤ) → Rising values → Contains values gone → length (values_without gone values) + 1 ≡ length values }
+    ensures { (gone : ℤ) (values : List ℤ) → Rising values → Contains values gone →
+        length (values_without gone values) + 1 ≡ length values }
 {}

@@ -2,7 +2,8 @@
 //!
 //! A [`Domain`] is a non-empty set of numbers from -1,000,000 to 1,000,000, kept as sorted ranges with gaps between
 //! them, so that one set has one form. To the layer above it is the rising list of its numbers. A [`Boxed`] has one
-//! domain per cell and a trail of earlier domains: to the layer above it is the list of its boxes, the present one last.
+//! domain per cell and a trail of earlier domains: to the layer above it is the list of its boxes, the present one
+//! last.
 //! Each change leaves exactly the named values of one cell and adds a box, and `undo` goes back to any earlier box
 //! without memory. After want of memory the value is as it was.
 //!
