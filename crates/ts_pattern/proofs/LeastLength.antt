@@ -1,5 +1,5 @@
 -- The least length of a word, computed from the expression.
-use Rattle.std.specs.Prelude.{ℕ, ◌+◌, ◌<◌, ◌≤◌, min, List, length}
+use Rattle.std.specs.Prelude.{ℕ, ◌+◌, ◌≤◌, min, List, length}
 use Rattle.std.proofs.Common.{sym, subst, arith, length-append, ⊎_elim}
 use Rattle.ts_base.specs.declared.letter.Letter.{Letter}
 use Rattle.ts_regex.specs.Shape.{Shape, NoWord, EmptyWord, OneLetter, Concat, Union, Repeat}

@@ -7,7 +7,6 @@ use Rattle.std.proofs.lemmas.List.{map-append}
 use Rattle.std.proofs.lemmas.List.Elements.{filter-append}
 use Rattle.ts_base.specs.declared.letter.Letter.{Letter}
 use Rattle.ts_regex.proofs.Laws.{same_law}
-use Rattle.ts_regex.specs.Shape.{Shape}
 use Rattle.ts_pattern.specs.Entries.{Entry, Residuals, shapes, derive_entry, derive_entries, alive, without, keep, survivors, with_entry}
 
 -- two residuals that are the same as a third one are the same

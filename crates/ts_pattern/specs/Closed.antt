@@ -6,7 +6,7 @@ use Rattle.std.specs.List.{list_all, list_any}
 use Rattle.ts_base.specs.declared.letter.Letter.{Letter}
 use Rattle.ts_base.specs.declared.range.Kind.{Kind}
 use Rattle.ts_transducer.specs.declared.row.Phase.{Phase}
-use Rattle.ts_transducer.specs.declared.row.Phase.TheVariants.{Out, OutR, OutA, MaybeB, MaybeA, Found, FoundE, Inside}
+use Rattle.ts_transducer.specs.declared.row.Phase.TheVariants.{OutA, MaybeB, Found, FoundE, Inside}
 use Rattle.ts_transducer.specs.declared.row.Arrow.{Arrow}
 use Rattle.ts_transducer.specs.declared.row.Row.{Row}
 use Rattle.ts_transducer.specs.Typing.{is_held}

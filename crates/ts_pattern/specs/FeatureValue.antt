@@ -1,5 +1,5 @@
 -- What an e-range of a series is worth (Global Constraint Catalog, Volume II: features).
-use Rattle.std.specs.Prelude.{ℕ, ◌-◌, ℤ, pos, ◌+ℤ◌, List, [], ◌∷◌, length, slice_range, Option, None, Some}
+use Rattle.std.specs.Prelude.{◌-◌, ℤ, pos, ◌+ℤ◌, List, [], ◌∷◌, length, slice_range, Option, None, Some}
 use Rattle.std.specs.List.{fold}
 use Rattle.std.specs.Int.{int_max, int_min}
 use Rattle.ts_base.specs.declared.range.Range.{Range}
