@@ -41,8 +41,11 @@ follows_append d e f (x ∷ xs) ys h k = (h.0, h.1, h.2, follows_append h.0 e f 
 -- letters that differ
 new_at : (before xs : List StateLine) (k : ℕ) → are_new before xs ≡ true → k < length xs → is_new (before ++ take k xs) (name_at xs k) ≡ true
 new_at before [] k h lt = absurd (omega arith)
-new_at before (x ∷ xs) zero h lt = ap (λ (y : List StateLine). is_new y x.name) (append-nil before) ∙ (and_parts (is_new before x.name) (are_new (before ++ x ∷ []) xs) h).0
-new_at before (x ∷ xs) (suc k) h lt = ap (λ (y : List StateLine). is_new y (name_at xs k)) (sym (append_assoc before (x ∷ []) (take k xs))) ∙ new_at (before ++ x ∷ []) xs k (and_parts (is_new before x.name) (are_new (before ++ x ∷ []) xs) h).1 (omega arith)
+new_at before (x ∷ xs) zero h lt =
+    ap (λ (y : List StateLine). is_new y x.name) (append-nil before) ∙ (and_parts (is_new before x.name) (are_new (before ++ x ∷ []) xs) h).0
+new_at before (x ∷ xs) (suc k) h lt =
+    ap (λ (y : List StateLine). is_new y (name_at xs k)) (sym (append_assoc before (x ∷ []) (take k xs)))
+    ∙ new_at (before ++ x ∷ []) xs k (and_parts (is_new before x.name) (are_new (before ++ x ∷ []) xs) h).1 (omega arith)
 
 letter_at : (states : List StateLine) (k : ℕ) → are_new [] states ≡ true → k < length states → is_name (name_at states k) ≡ true
 letter_at states k h lt = (and_parts (is_name (name_at states k)) (not (is_named (take k states) (name_at states k))) (new_at [] states k h lt)).0
@@ -64,9 +67,11 @@ differs states j k h below within = go (name_at states j == name_at states k) re
   go : (t : Bool) → name_at states j == name_at states k ≡ t → t ≡ false
   go false e = refl
   go true e =
-      let none = not-true (is_named (take k states) (name_at states k)) (and_parts (is_name (name_at states k)) (not (is_named (take k states) (name_at states k))) (new_at [] states k h within)).1 in
+      let none = not-true (is_named (take k states) (name_at states k))
+      (and_parts (is_name (name_at states k)) (not (is_named (take k states) (name_at states k))) (new_at [] states k h within)).1 in
       let size = length_front states k within in
-      let found = list_any_at (λ (n : StateLine). n.name == name_at states k) (take k states) j no_state (omega (arith, size, below)) (ap (λ (n : StateLine). n.name == name_at states k) (taken_at states j k below) ∙ e) in
+      let found = list_any_at (λ (n : StateLine). n.name == name_at states k) (take k states) j no_state (omega (arith, size, below))
+      (ap (λ (n : StateLine). n.name == name_at states k) (taken_at states j k below) ∙ e) in
       sym found ∙ none
 
 equal_self : (n : ℕ) → n == n ≡ true
@@ -74,7 +79,8 @@ equal_self n = grind (arith, nat_tests)
 
 place_again : (states : List StateLine) (k : ℕ) → are_new [] states ≡ true → k < length states → place_by states (Some (name_at states k)) ≡ Some k
 place_again states k h within =
-    let at = position_or_len_is (λ (n : StateLine). n.name == name_at states k) states k no_state (omega (arith, within)) (λ j below. differs states j k h below within) (λ here. equal_self (name_at states k)) in
+    let at = position_or_len_is (λ (n : StateLine). n.name == name_at states k) states k no_state (omega (arith, within))
+    (λ j below. differs states j k h below within) (λ here. equal_self (name_at states k)) in
     ap (λ (n : ℕ). cond (nat_lt n (length states)) (Some n) None) at ∙ ap (λ t. cond t (Some k) None) (lt k (length states) within)
 
 -- the lines of what was read follow one another
@@ -85,9 +91,11 @@ states_follow way (n ∷ more) before h few =
     let each = and_parts (is_new before n.name) (are_new (before ++ n ∷ []) more) h in
     let size = length_more before n in (
       AtStates way (before ++ n ∷ []),
-      ap (with_state way before) (state_again before n each.0) ∙ ap (λ t. cond t (Some (AtStates way (before ++ n ∷ []))) None) (lt (length before) 8 (omega (arith, few))),
+      ap (with_state way before) (state_again before n each.0)
+          ∙ ap (λ t. cond t (Some (AtStates way (before ++ n ∷ []))) None) (lt (length before) 8 (omega (arith, few))),
       state_solid n (and_parts (is_name n.name) (not (is_named before n.name)) each.0).0,
-      subst (λ (y : List StateLine). Follows (AtStates way (before ++ n ∷ [])) (map state_words more) (AtStates way y)) (append_assoc before (n ∷ []) more) (states_follow way more (before ++ n ∷ []) each.1 (omega (arith, few, size))),
+      subst (λ (y : List StateLine). Follows (AtStates way (before ++ n ∷ [])) (map state_words more) (AtStates way y)) (append_assoc before (n ∷ []) more)
+          (states_follow way more (before ++ n ∷ []) each.1 (omega (arith, few, size))),
     )
 
 third : (k n : ℕ) → k < 3 * n → k / 3 < n
@@ -104,16 +112,21 @@ moves_follow way states start (t ∷ more) before names h few =
     let size = length_more before t in
     let rest = moves_follow way states start more (before ++ t ∷ []) names each.1 (omega (arith, few, size)) in (
       AtMoves way states start (before ++ t ∷ []),
-      ap (λ b. cond b (with_move way states start before (read_move states (length before) (move_words states (length before) t))) (with_finish way states start before (read_finish (move_words states (length before) t)))) (lt (length before) (3 * length states) room)
+      ap (λ b. cond b (with_move way states start before (read_move states (length before) (move_words states (length before) t)))
+          (with_finish way states start before (read_finish (move_words states (length before) t)))) (lt (length before) (3 * length states) room)
           ∙ ap (with_move way states start before) (move_again states (length before) t (place_again states t.next names target) each.0),
-      move_solid states (length before) t (letter_at states (length before / 3) names (third (length before) (length states) room)) (letter_at states t.next names target),
-      subst (λ (y : List Move). Follows (AtMoves way states start (before ++ t ∷ [])) (moves_words states (length before + 1) more) (AtMoves way states start y)) (append_assoc before (t ∷ []) more)
-          (subst (λ (k : ℕ). Follows (AtMoves way states start (before ++ t ∷ [])) (moves_words states k more) (AtMoves way states start (before ++ t ∷ [] ++ more))) size rest),
+      move_solid states (length before) t (letter_at states (length before / 3) names (third (length before) (length states) room))
+          (letter_at states t.next names target),
+      subst (λ (y : List Move). Follows (AtMoves way states start (before ++ t ∷ [])) (moves_words states (length before + 1) more)
+          (AtMoves way states start y)) (append_assoc before (t ∷ []) more)
+          (subst (λ (k : ℕ). Follows (AtMoves way states start (before ++ t ∷ [])) (moves_words states k more)
+          (AtMoves way states start (before ++ t ∷ [] ++ more))) size rest),
     )
 
 states_lines_follow : (way : Way) (states : List StateLine) → are_new [] states ≡ true → length states ≤ 8 →
     Follows AtHead (part_words (AtStates way states)) (AtStates way states)
-states_lines_follow way states h few = (AtStates way [], ap (option_map (λ w. AtStates w [])) (way_again way), way_solid way, states_follow way states [] h (omega (arith, few)))
+states_lines_follow way states h few =
+    (AtStates way [], ap (option_map (λ w. AtStates w [])) (way_again way), way_solid way, states_follow way states [] h (omega (arith, few)))
 
 moving_follows : (way : Way) (states : List StateLine) (start : EachOf Ext) (moves : List Move) → IsFront states start moves →
     length moves ≤ 3 * length states → Follows AtHead (front_words way states start moves) (AtMoves way states start moves)
@@ -125,7 +138,8 @@ moving_follows way states start moves is count =
       start_solid start is.constants,
       moving,
     ) in
-    follows_append AtHead (AtStates way states) (AtMoves way states start moves) (part_words (AtStates way states)) (start_words start ∷ moves_words states 0 moves) (states_lines_follow way states is.names is.few) begun
+    follows_append AtHead (AtStates way states) (AtMoves way states start moves) (part_words (AtStates way states))
+    (start_words start ∷ moves_words states 0 moves) (states_lines_follow way states is.names is.few) begun
 
 closing_follows : (b : Sheet) → IsSheet b → Follows AtHead (open_words b) (AtEnd b)
 closing_follows b is =
@@ -134,12 +148,14 @@ closing_follows b is =
     let most : length b.moves ≤ 3 * length b.states = omega (arith, count) in
     let finish : Follows (AtMoves b.way b.states b.start b.moves) (finish_words b.finish b.mark ∷ []) (AtEnd b) = (
       AtEnd b,
-      ap (λ t. cond t (with_move b.way b.states b.start b.moves (read_move b.states (length b.moves) (finish_words b.finish b.mark))) (with_finish b.way b.states b.start b.moves (read_finish (finish_words b.finish b.mark)))) (not_lt (length b.moves) (3 * length b.states) full)
+      ap (λ t. cond t (with_move b.way b.states b.start b.moves (read_move b.states (length b.moves) (finish_words b.finish b.mark)))
+          (with_finish b.way b.states b.start b.moves (read_finish (finish_words b.finish b.mark)))) (not_lt (length b.moves) (3 * length b.states) full)
           ∙ ap (with_finish b.way b.states b.start b.moves) (finish_again b.finish b.mark is.finish),
       finish_solid b.finish b.mark,
       refl,
     ) in
-    follows_append AtHead (AtMoves b.way b.states b.start b.moves) (AtEnd b) (front_words b.way b.states b.start b.moves) (finish_words b.finish b.mark ∷ []) (moving_follows b.way b.states b.start b.moves is.front most) finish
+    follows_append AtHead (AtMoves b.way b.states b.start b.moves) (AtEnd b) (front_words b.way b.states b.start b.moves)
+    (finish_words b.finish b.mark ∷ []) (moving_follows b.way b.states b.start b.moves is.front most) finish
 
 pub whole_follows : (b : Sheet) → IsSheet b → Follows AtHead (part_words (Whole b)) (Whole b)
 whole_follows b is = follows_append AtHead (AtEnd b) (Whole b) (open_words b) ((codes "end" ∷ []) ∷ []) (closing_follows b is) (Whole b, refl, end_solid, refl)

@@ -1,4 +1,5 @@
 -- The words of an expression are read as it, and what is read as an expression is its words.
+use Rattle.std.specs.Prelude.{◌↔◌}
 use Rattle.std.proofs.Common.{◌≡◌, ℕ, ◌≤◌, Bool, true, false, cond, Option, Some, None, List, [], ◌∷◌, ◌++◌, length, refl, sym, ap, ◌∙◌, codes, append_assoc, append-nil, arith, nat_le}
 use Rattle.std.proofs.lemmas.Bool.Decides.{nat_tests}
 use Rattle.std.proofs.lemmas.List.{length-append}
@@ -95,7 +96,8 @@ abbrev stack_words : List Formula → List (List ℕ)
 stack_words [] = []
 stack_words (f ∷ fs) = formula_words f ++ stack_words fs
 
-stacked_only : (w : List ℕ) (a : Option Atom) (o : Option Op) (fs gs : List Formula) → atom_of w ≡ a → op_of w ≡ o → stacked_by a o fs ≡ Some gs → w ∷ stack_words fs ≡ stack_words gs
+stacked_only : (w : List ℕ) (a : Option Atom) (o : Option Op) (fs gs : List Formula) → atom_of w ≡ a → op_of w ≡ o → stacked_by a o fs ≡ Some gs →
+    w ∷ stack_words fs ≡ stack_words gs
 stacked_only w (Some a) o fs gs e f h =
     let same : Leaf a ∷ fs ≡ gs = cc in
     ap (λ (x : List ℕ). x ∷ stack_words fs) (atom_only w a e) ∙ ap stack_words same
@@ -108,7 +110,8 @@ stacked_only w None (Some o) (x ∷ y ∷ fs) gs e f h =
     ∙ ap (λ (v : List (List ℕ)). op_word o ∷ v) (sym (append_assoc (formula_words x) (formula_words y) (stack_words fs)))
     ∙ ap stack_words same
 
-onto_only : (w : List ℕ) (ws : List (List ℕ)) (s : Option (List Formula)) (gs : List Formula) → ((fs : List Formula) → s ≡ Some fs → ws ≡ stack_words fs) → onto_stack w s ≡ Some gs → w ∷ ws ≡ stack_words gs
+onto_only : (w : List ℕ) (ws : List (List ℕ)) (s : Option (List Formula)) (gs : List Formula) → ((fs : List Formula) → s ≡ Some fs → ws ≡ stack_words fs) →
+    onto_stack w s ≡ Some gs → w ∷ ws ≡ stack_words gs
 onto_only w ws None gs later h = cc
 onto_only w ws (Some fs) gs later h = ap (λ (x : List (List ℕ)). w ∷ x) (later fs refl) ∙ stacked_only w (atom_of w) (op_of w) fs gs refl refl h
 
@@ -122,7 +125,8 @@ one_step ws (Some []) f e h = cc
 one_step ws (Some (g ∷ [])) f e h = let same : g ≡ f = cc in stack_only ws (g ∷ []) e ∙ append-nil (formula_words g) ∙ ap formula_words same
 one_step ws (Some (g ∷ k ∷ gs)) f e h = cc
 
-few_words : (ws : List (List ℕ)) (f : Formula) (t : Bool) → nat_le (length ws) 15 ≡ t → cond t (only_one (stack_of ws)) None ≡ Some f → (ws ≡ formula_words f) × (length ws ≤ 15)
+few_words : (ws : List (List ℕ)) (f : Formula) (t : Bool) → nat_le (length ws) 15 ≡ t → cond t (only_one (stack_of ws)) None ≡ Some f →
+    (ws ≡ formula_words f) × (length ws ≤ 15)
 few_words ws f true e h = (one_step ws (stack_of ws) f refl h, grind (arith, nat_tests))
 few_words ws f false e h = cc
 
@@ -133,9 +137,10 @@ words_formula : (f : Formula) → only_one (stack_of (formula_words f)) ≡ Some
 words_formula f = ap (λ (x : List (List ℕ)). only_one (stack_of x)) (sym (append-nil (formula_words f))) ∙ ap only_one (words_pushed f [])
 
 pub formula_again : (f : Formula) (ws : List (List ℕ)) → ws ≡ formula_words f → length ws ≤ 15 → formula_of ws ≡ Some f
-formula_again f ws is few = ap (λ t. cond t (only_one (stack_of ws)) None) (small (length ws) few) ∙ ap (λ (x : List (List ℕ)). only_one (stack_of x)) is ∙ words_formula f where
-  small : (n : ℕ) → n ≤ 15 → nat_le n 15 ≡ true
-  small n h = grind (arith, nat_tests)
+formula_again f ws is few =
+    ap (λ t. cond t (only_one (stack_of ws)) None) (small (length ws) few) ∙ ap (λ (x : List (List ℕ)). only_one (stack_of x)) is ∙ words_formula f where
+      small : (n : ℕ) → n ≤ 15 → nat_le n 15 ≡ true
+      small n h = grind (arith, nat_tests)
 
 -- an expression has as many words as its count says
 pub words_count : (f : Formula) → length (formula_words f) ≡ words_in f
@@ -145,3 +150,14 @@ words_count (Join o f g) =
     let first = words_count f in
     let second = words_count g in
     omega (arith, both, first, second)
+
+pub formula_exactly : (f : Formula) (ws : List (List ℕ)) → formula_of ws ≡ Some f ↔ ((ws ≡ formula_words f) × (words_in f ≤ 15))
+formula_exactly f ws = (only, again) where
+  only : formula_of ws ≡ Some f → (ws ≡ formula_words f) × (words_in f ≤ 15)
+  only h =
+      let read = formula_only ws f h in
+      let count = ap length read.0 ∙ words_count f in
+      (read.0, omega (arith, read, count))
+
+  again : (ws ≡ formula_words f) × (words_in f ≤ 15) → formula_of ws ≡ Some f
+  again h = let count = ap length h.0 ∙ words_count f in formula_again f ws h.0 (omega (arith, h, count))

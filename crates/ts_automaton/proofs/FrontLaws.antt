@@ -14,9 +14,11 @@ use Rattle.ts_automaton.specs.FormulaText.{stacked, onto_stack, stack_of, only_o
 
 pub behind-append : (xs ys : List (List ℕ)) → behind (xs ++ ys) ≡ behind xs ++ behind ys
 behind-append [] ys = refl
-behind-append (x ∷ xs) ys = ap (λ (t : List ℕ). 32 ∷ (x ++ t)) (behind-append xs ys) ∙ ap (λ (t : List ℕ). 32 ∷ t) (sym (append_assoc x (behind xs) (behind ys)))
+behind-append (x ∷ xs) ys =
+    ap (λ (t : List ℕ). 32 ∷ (x ++ t)) (behind-append xs ys) ∙ ap (λ (t : List ℕ). 32 ∷ t) (sym (append_assoc x (behind xs) (behind ys)))
 
-pub two_operands : (old word : List ℕ) (fs gs : List (List ℕ)) (t1 t2 t3 : List ℕ) → t1 ≡ old ++ (32 ∷ word) → t2 ≡ t1 ++ behind fs → t3 ≡ t2 ++ behind gs → t3 ≡ old ++ behind (word ∷ (fs ++ gs))
+pub two_operands : (old word : List ℕ) (fs gs : List (List ℕ)) (t1 t2 t3 : List ℕ) → t1 ≡ old ++ (32 ∷ word) → t2 ≡ t1 ++ behind fs → t3 ≡ t2 ++ behind gs →
+    t3 ≡ old ++ behind (word ∷ (fs ++ gs))
 two_operands old word fs gs t1 t2 t3 e f g =
     g ∙ ap (λ (t : List ℕ). t ++ behind gs) (f ∙ ap (λ (t : List ℕ). t ++ behind fs) e)
     ∙ append_assoc (old ++ (32 ∷ word)) (behind fs) (behind gs)
@@ -29,7 +31,8 @@ stuck zero ws h = h
 stuck (suc i) [] h = h
 stuck (suc i) (w ∷ ws) h = ap (onto_stack w.now) (stuck i ws h)
 
-pub refused : (ws : List (Bor (List ℕ))) (left : ℕ) (d : Bor (List ℕ)) (fs : List Formula) → 0 < left → left ≤ length ws → stack_of (texts (drop left ws)) ≡ Some fs → stacked (get_or ws (left - 1) d).now fs ≡ None → None ≡ formula_of (texts ws)
+pub refused : (ws : List (Bor (List ℕ))) (left : ℕ) (d : Bor (List ℕ)) (fs : List Formula) → 0 < left → left ≤ length ws →
+    stack_of (texts (drop left ws)) ≡ Some fs → stacked (get_or ws (left - 1) d).now fs ≡ None → None ≡ formula_of (texts ws)
 refused ws left d fs some within read none =
     let back : suc (left - 1) ≡ left = omega arith in
     let here : stack_of (texts (drop (left - 1) ws)) ≡ None =
@@ -45,7 +48,8 @@ refused ws left d fs some within read none =
     either false = refl
 
 -- the parts of a line, written one after the other
-pub line_pushed : (old word : List ℕ) (fs gs : List (List ℕ)) (t1 t2 t3 t4 : List ℕ) → t1 ≡ old ++ word → t2 ≡ t1 ++ behind fs → t3 ≡ t2 ++ behind gs → t4 ≡ t3 ++ (10 ∷ []) → t4 ≡ old ++ full_line (record { first = word; more = fs ++ gs })
+pub line_pushed : (old word : List ℕ) (fs gs : List (List ℕ)) (t1 t2 t3 t4 : List ℕ) → t1 ≡ old ++ word → t2 ≡ t1 ++ behind fs → t3 ≡ t2 ++ behind gs →
+    t4 ≡ t3 ++ (10 ∷ []) → t4 ≡ old ++ full_line (record { first = word; more = fs ++ gs })
 line_pushed old word fs gs t1 t2 t3 t4 e f g h =
     h ∙ ap (λ (t : List ℕ). t ++ (10 ∷ [])) (g ∙ ap (λ (t : List ℕ). t ++ behind gs) (f ∙ ap (λ (t : List ℕ). t ++ behind fs) e)
     ∙ append_assoc (old ++ word) (behind fs) (behind gs)
@@ -53,21 +57,27 @@ line_pushed old word fs gs t1 t2 t3 t4 e f g h =
     ∙ append_assoc old word (behind (fs ++ gs)))
     ∙ append_assoc old (word ++ behind (fs ++ gs)) (10 ∷ [])
 
-pub move_pushed : (old word : List ℕ) (fs gs : List (List ℕ)) (t2 t3 t4 : List ℕ) → t2 ≡ old ++ (word ++ behind fs) → t3 ≡ t2 ++ behind gs → t4 ≡ t3 ++ (10 ∷ []) → t4 ≡ old ++ full_line (record { first = word; more = fs ++ gs })
+pub move_pushed : (old word : List ℕ) (fs gs : List (List ℕ)) (t2 t3 t4 : List ℕ) → t2 ≡ old ++ (word ++ behind fs) → t3 ≡ t2 ++ behind gs →
+    t4 ≡ t3 ++ (10 ∷ []) → t4 ≡ old ++ full_line (record { first = word; more = fs ++ gs })
 move_pushed old word fs gs t2 t3 t4 f g h = line_pushed old word fs gs (old ++ word) t2 t3 t4 refl (f ∙ sym (append_assoc old word (behind fs))) g h
 
-pub three_pushed : (old semi : List ℕ) (fs gs hs : List (List ℕ)) (t1 t2 t3 t4 t5 : List ℕ) → t1 ≡ old ++ behind fs → t2 ≡ t1 ++ (32 ∷ semi) → t3 ≡ t2 ++ behind gs → t4 ≡ t3 ++ (32 ∷ semi) → t5 ≡ t4 ++ behind hs → t5 ≡ old ++ behind (fs ++ (semi ∷ (gs ++ (semi ∷ hs))))
+pub three_pushed : (old semi : List ℕ) (fs gs hs : List (List ℕ)) (t1 t2 t3 t4 t5 : List ℕ) → t1 ≡ old ++ behind fs → t2 ≡ t1 ++ (32 ∷ semi) →
+    t3 ≡ t2 ++ behind gs → t4 ≡ t3 ++ (32 ∷ semi) → t5 ≡ t4 ++ behind hs → t5 ≡ old ++ behind (fs ++ (semi ∷ (gs ++ (semi ∷ hs))))
 three_pushed old semi fs gs hs t1 t2 t3 t4 t5 a b c d e =
     let last : t5 ≡ t3 ++ behind (semi ∷ hs) = e ∙ ap (λ (t : List ℕ). t ++ behind hs) d ∙ append_assoc t3 (32 ∷ semi) (behind hs) in
-    let next : t5 ≡ t2 ++ behind (gs ++ (semi ∷ hs)) = last ∙ ap (λ (t : List ℕ). t ++ behind (semi ∷ hs)) c ∙ append_assoc t2 (behind gs) (behind (semi ∷ hs)) ∙ ap (λ (t : List ℕ). t2 ++ t) (sym (behind-append gs (semi ∷ hs))) in
-    let more : t5 ≡ t1 ++ behind (semi ∷ (gs ++ (semi ∷ hs))) = next ∙ ap (λ (t : List ℕ). t ++ behind (gs ++ (semi ∷ hs))) b ∙ append_assoc t1 (32 ∷ semi) (behind (gs ++ (semi ∷ hs))) in
-    more ∙ ap (λ (t : List ℕ). t ++ behind (semi ∷ (gs ++ (semi ∷ hs)))) a ∙ append_assoc old (behind fs) (behind (semi ∷ (gs ++ (semi ∷ hs)))) ∙ ap (λ (t : List ℕ). old ++ t) (sym (behind-append fs (semi ∷ (gs ++ (semi ∷ hs)))))
+    let next : t5 ≡ t2 ++ behind (gs ++ (semi ∷ hs)) = last ∙ ap (λ (t : List ℕ). t ++ behind (semi ∷ hs)) c
+    ∙ append_assoc t2 (behind gs) (behind (semi ∷ hs)) ∙ ap (λ (t : List ℕ). t2 ++ t) (sym (behind-append gs (semi ∷ hs))) in
+    let more : t5 ≡ t1 ++ behind (semi ∷ (gs ++ (semi ∷ hs))) = next ∙ ap (λ (t : List ℕ). t ++ behind (gs ++ (semi ∷ hs))) b
+    ∙ append_assoc t1 (32 ∷ semi) (behind (gs ++ (semi ∷ hs))) in
+    more ∙ ap (λ (t : List ℕ). t ++ behind (semi ∷ (gs ++ (semi ∷ hs)))) a ∙ append_assoc old (behind fs) (behind (semi ∷ (gs ++ (semi ∷ hs))))
+    ∙ ap (λ (t : List ℕ). old ++ t) (sym (behind-append fs (semi ∷ (gs ++ (semi ∷ hs)))))
 
-lines_append : (xs ys : List (List (List ℕ))) → lines_text (xs ++ ys) ≡ lines_text xs ++ lines_text ys
+pub lines_append : (xs ys : List (List (List ℕ))) → lines_text (xs ++ ys) ≡ lines_text xs ++ lines_text ys
 lines_append [] ys = refl
 lines_append (x ∷ xs) ys = ap (λ (t : List ℕ). words_text x ++ t) (lines_append xs ys) ∙ sym (append_assoc (words_text x) (lines_text xs) (lines_text ys))
 
-pub body_pushed : (states : List (List (List ℕ))) (start : List (List ℕ)) (moves : List (List (List ℕ))) (finish last : List (List ℕ)) (old t2 t3 t4 t5 t6 : List ℕ) →
+pub body_pushed : (states : List (List (List ℕ))) (start : List (List ℕ)) (moves : List (List (List ℕ))) (finish last : List (List ℕ))
+    (old t2 t3 t4 t5 t6 : List ℕ) →
     t2 ≡ old ++ lines_text states → t3 ≡ t2 ++ words_text start → t4 ≡ t3 ++ lines_text moves → t5 ≡ t4 ++ words_text finish → t6 ≡ t5 ++ words_text last →
     t6 ≡ old ++ lines_text (states ++ (start ∷ moves) ++ (finish ∷ []) ++ (last ∷ []))
 body_pushed states start moves finish last old t2 t3 t4 t5 t6 b c d e f =
@@ -90,11 +100,14 @@ body_pushed states start moves finish last old t2 t3 t4 t5 t6 b c d e f =
 one_plus : (n : ℕ) → 1 + n ≡ suc n
 one_plus n = omega arith
 
-at_semi : (ws : List (Bor (List ℕ))) → position_or_len (λ w. is_semi w.now) ws < length ws → cut_of (texts ws) ≡ Some (texts (take (position_or_len (λ w. is_semi w.now) ws) ws), texts (drop (suc (position_or_len (λ w. is_semi w.now) ws)) ws))
+at_semi : (ws : List (Bor (List ℕ))) → position_or_len (λ w. is_semi w.now) ws < length ws →
+    cut_of (texts ws) ≡ Some (texts (take (position_or_len (λ w. is_semi w.now) ws) ws), texts (drop (suc (position_or_len (λ w. is_semi w.now) ws)) ws))
 at_semi [] h = absurd (omega arith)
 at_semi (w ∷ ws) h =
     let n : ℕ = position_or_len (λ (w : Bor (List ℕ)). is_semi w.now) ws in
-    let P : Bool → Type 0 = λ v. cond (not v) (1 + n) 0 < length (w ∷ ws) → cond v (Some ([], texts ws)) (onto_cut w.now (cut_of (texts ws))) ≡ Some (texts (take (cond (not v) (1 + n) 0) (w ∷ ws)), texts (drop (suc (cond (not v) (1 + n) 0)) (w ∷ ws))) in
+    let P : Bool → Type 0 = λ v. cond (not v) (1 + n) 0 < length (w ∷ ws) →
+    cond v (Some ([], texts ws)) (onto_cut w.now (cut_of (texts ws))) ≡ Some
+    (texts (take (cond (not v) (1 + n) 0) (w ∷ ws)), texts (drop (suc (cond (not v) (1 + n) 0)) (w ∷ ws))) in
     (elim (is_semi w.now) as P [ true ↦ λ k. refl | false ↦ λ k. rw (one_plus n) (ap (onto_cut w.now) (at_semi ws (omega arith))) ]) h
 
 no_semi : (ws : List (Bor (List ℕ))) → length ws ≤ position_or_len (λ w. is_semi w.now) ws → cut_of (texts ws) ≡ None
@@ -106,16 +119,20 @@ no_semi (w ∷ ws) h =
 
 pub uncut : (ws : List (Bor (List ℕ))) → None ≡ position (λ w. is_semi w.now) ws → cut_of (texts ws) ≡ None
 uncut ws h = go (nat_lt (position_or_len (λ (w : Bor (List ℕ)). is_semi w.now) ws) (length ws)) refl h where
-  go : (t : Bool) → nat_lt (position_or_len (λ (w : Bor (List ℕ)). is_semi w.now) ws) (length ws) ≡ t → None ≡ cond t (Some (position_or_len (λ (w : Bor (List ℕ)). is_semi w.now) ws)) None → cut_of (texts ws) ≡ None
+  go : (t : Bool) → nat_lt (position_or_len (λ (w : Bor (List ℕ)). is_semi w.now) ws) (length ws) ≡ t →
+      None ≡ cond t (Some (position_or_len (λ (w : Bor (List ℕ)). is_semi w.now) ws)) None → cut_of (texts ws) ≡ None
   go true e k = cc
   go false e k = no_semi ws (ltb-false _ _ e)
 
-pub semi_cut : (ws : List (Bor (List ℕ))) (n : ℕ) → Some n ≡ position (λ w. is_semi w.now) ws → cut_of (texts ws) ≡ Some (texts (take n ws), texts (take (length ws - (n + 1)) (drop (n + 1) ws)))
+pub semi_cut : (ws : List (Bor (List ℕ))) (n : ℕ) → Some n ≡ position (λ w. is_semi w.now) ws →
+    cut_of (texts ws) ≡ Some (texts (take n ws), texts (take (length ws - (n + 1)) (drop (n + 1) ws)))
 semi_cut ws n h = go (nat_lt (position_or_len (λ (w : Bor (List ℕ)). is_semi w.now) ws) (length ws)) refl h where
   next : (n : ℕ) → suc n ≡ n + 1
   next n = omega arith
 
-  go : (t : Bool) → nat_lt (position_or_len (λ (w : Bor (List ℕ)). is_semi w.now) ws) (length ws) ≡ t → Some n ≡ cond t (Some (position_or_len (λ (w : Bor (List ℕ)). is_semi w.now) ws)) None → cut_of (texts ws) ≡ Some (texts (take n ws), texts (take (length ws - (n + 1)) (drop (n + 1) ws)))
+  go : (t : Bool) → nat_lt (position_or_len (λ (w : Bor (List ℕ)). is_semi w.now) ws) (length ws) ≡ t →
+      Some n ≡ cond t (Some (position_or_len (λ (w : Bor (List ℕ)). is_semi w.now) ws)) None →
+      cut_of (texts ws) ≡ Some (texts (take n ws), texts (take (length ws - (n + 1)) (drop (n + 1) ws)))
   go false e k = cc
   go true e k =
       let same : position_or_len (λ (w : Bor (List ℕ)). is_semi w.now) ws ≡ n = cc in

@@ -57,7 +57,8 @@ moves_more states k [] t = ap (λ (n : ℕ). move_words states n t ∷ []) (none
   none : (k : ℕ) → k ≡ k + 0
   none k = omega arith
 moves_more states k (x ∷ ts) t =
-    ap (λ (y : List W). move_words states k x ∷ y) (moves_more states (k + 1) ts t ∙ ap (λ (n : ℕ). moves_words states (k + 1) ts ++ (move_words states n t ∷ [])) (count k (length ts)))
+    ap (λ (y : List W). move_words states k x ∷ y)
+    (moves_more states (k + 1) ts t ∙ ap (λ (n : ℕ). moves_words states (k + 1) ts ++ (move_words states n t ∷ [])) (count k (length ts)))
   where
     count : (k n : ℕ) → k + 1 + n ≡ k + suc n
     count k n = omega arith
@@ -65,8 +66,10 @@ moves_more states k (x ∷ ts) t =
 front_more : (way : Way) (states : List StateLine) (start : EachOf Ext) (moves : List Move) (t : Move) →
     front_words way states start (moves ++ t ∷ []) ≡ front_words way states start moves ++ (move_words states (length moves) t ∷ [])
 front_more way states start moves t =
-    ap (λ (y : List W). (way_word way ∷ []) ∷ (map state_words states ++ (start_words start ∷ y))) (moves_more states 0 moves t ∙ ap (λ (n : ℕ). moves_words states 0 moves ++ (move_words states n t ∷ [])) (zero_plus (length moves)))
-    ∙ ap (λ (y : List W). (way_word way ∷ []) ∷ y) (sym (append_assoc (map state_words states) (start_words start ∷ moves_words states 0 moves) (move_words states (length moves) t ∷ [])))
+    ap (λ (y : List W). (way_word way ∷ []) ∷ (map state_words states ++ (start_words start ∷ y)))
+    (moves_more states 0 moves t ∙ ap (λ (n : ℕ). moves_words states 0 moves ++ (move_words states n t ∷ [])) (zero_plus (length moves)))
+    ∙ ap (λ (y : List W). (way_word way ∷ []) ∷ y)
+    (sym (append_assoc (map state_words states) (start_words start ∷ moves_words states 0 moves) (move_words states (length moves) t ∷ [])))
   where
     zero_plus : (n : ℕ) → 0 + n ≡ n
     zero_plus n = omega arith
@@ -117,20 +120,26 @@ naming_grows way states ws true e is h = state_grows way states ws (read_state s
 naming_grows way states ws false e is h = start_grows way states ws (read_start ws) e is refl h
 
 move_grows : (way : Way) (states : List StateLine) (start : EachOf Ext) (moves : List Move) (ws : W) (o : Option Move) (e : Part) →
-    IsMoves states start moves → length moves < 3 * length states → read_move states (length moves) ws ≡ o → with_move way states start moves o ≡ Some e → Grows (AtMoves way states start moves) ws e
+    IsMoves states start moves → length moves < 3 * length states → read_move states (length moves) ws ≡ o → with_move way states start moves o ≡ Some e →
+    Grows (AtMoves way states start moves) ws e
 move_grows way states start moves ws None e is room f h = cc
 move_grows way states start moves ws (Some t) e is room f h =
     let same : AtMoves way states start (moves ++ t ∷ []) ≡ e = cc in
     let read = move_only states (length moves) ws t f in
     let more = length_more moves t in
     let all = list_all-append (is_move states) moves (t ∷ []) ∙ both_true is.front.turns (both_true {t = true} read.1 refl) in
+    let old = is.front in
     subst (Grows (AtMoves way states start moves) ws) same (
       front_more way states start moves t ∙ ap (λ (y : W). front_words way states start moves ++ (y ∷ [])) (sym read.0),
-      record { front = record { some = is.front.some; few = is.front.few; names = is.front.names; constants = is.front.constants; turns = all }; count = omega (arith, more, room) },
+      record {
+        front = record { some = old.some; few = old.few; names = old.names; constants = old.constants; turns = all };
+        count = omega (arith, more, room);
+      },
     )
 
 finish_grows : (way : Way) (states : List StateLine) (start : EachOf Ext) (moves : List Move) (ws : W) (o : Option (Formula × Mark)) (e : Part) →
-    IsMoves states start moves → 3 * length states ≤ length moves → read_finish ws ≡ o → with_finish way states start moves o ≡ Some e → Grows (AtMoves way states start moves) ws e
+    IsMoves states start moves → 3 * length states ≤ length moves → read_finish ws ≡ o → with_finish way states start moves o ≡ Some e →
+    Grows (AtMoves way states start moves) ws e
 finish_grows way states start moves ws None e is full f h = cc
 finish_grows way states start moves ws (Some x) e is full f h =
     let same : AtEnd (record { way = way; states = states; start = start; moves = moves; finish = x.0; mark = x.1 }) ≡ e = cc in
@@ -143,9 +152,12 @@ finish_grows way states start moves ws (Some x) e is full f h =
 
 moving_grows : (way : Way) (states : List StateLine) (start : EachOf Ext) (moves : List Move) (ws : W) (t : Bool) (e : Part) →
     IsMoves states start moves → nat_lt (length moves) (3 * length states) ≡ t →
-    cond t (with_move way states start moves (read_move states (length moves) ws)) (with_finish way states start moves (read_finish ws)) ≡ Some e → Grows (AtMoves way states start moves) ws e
-moving_grows way states start moves ws true e is f h = move_grows way states start moves ws (read_move states (length moves) ws) e is (less (length moves) (3 * length states) f) refl h
-moving_grows way states start moves ws false e is f h = finish_grows way states start moves ws (read_finish ws) e is (not_less (length moves) (3 * length states) f) refl h
+    cond t (with_move way states start moves (read_move states (length moves) ws)) (with_finish way states start moves (read_finish ws)) ≡ Some e →
+    Grows (AtMoves way states start moves) ws e
+moving_grows way states start moves ws true e is f h =
+    move_grows way states start moves ws (read_move states (length moves) ws) e is (less (length moves) (3 * length states) f) refl h
+moving_grows way states start moves ws false e is f h =
+    finish_grows way states start moves ws (read_finish ws) e is (not_less (length moves) (3 * length states) f) refl h
 
 end_grows : (b : Sheet) (ws : W) (t : Bool) (e : Part) → IsSheet b → is_end ws ≡ t → cond t (Some (Whole b)) None ≡ Some e → Grows (AtEnd b) ws e
 end_grows b ws false e is f h = cc
@@ -165,7 +177,8 @@ pub no_words : (d e : Part) → with_words d [] ≡ Some e → ⊥
 no_words AtHead e h = cc
 no_words (AtStates way states) e h = cc
 no_words (AtMoves way states start moves) e h = go (nat_lt (length moves) (3 * length states)) h where
-  go : (t : Bool) → cond t (with_move way states start moves (read_move states (length moves) [])) (with_finish way states start moves (read_finish [])) ≡ Some e → ⊥
+  go : (t : Bool) →
+      cond t (with_move way states start moves (read_move states (length moves) [])) (with_finish way states start moves (read_finish [])) ≡ Some e → ⊥
   go true k = cc
   go false k = cc
 no_words (AtEnd b) e h = cc

@@ -6,6 +6,9 @@ mod SolidLaws
 mod GrowLaws
 mod FollowLaws
 mod ReadLaws
+mod BodyLaws
+mod WriteLaws
+pub mod TextLaws
 pub mod Lists
 pub mod Listed
 pub mod Evaluation

@@ -33,7 +33,8 @@ use Rattle.ts_automaton.proofs.FormulaLaws.{formula_only, formula_again, words_c
 use Rattle.ts_automaton.proofs.LineLaws.{W, letter_only, equal, same, le, lt, five, pass, go_on, three_parts, three_true}
 
 -- words cut at the first `;`
-cut_step : (w : List ℕ) (ws : W) (t : Bool) (o : Option (W × W)) (p : W × W) → is_semi w ≡ t → ((q : W × W) → o ≡ Some q → ws ≡ q.0 ++ (semi ∷ q.1)) → cond t (Some ([], ws)) (onto_cut w o) ≡ Some p → w ∷ ws ≡ p.0 ++ (semi ∷ p.1)
+cut_step : (w : List ℕ) (ws : W) (t : Bool) (o : Option (W × W)) (p : W × W) → is_semi w ≡ t → ((q : W × W) → o ≡ Some q → ws ≡ q.0 ++ (semi ∷ q.1)) →
+    cond t (Some ([], ws)) (onto_cut w o) ≡ Some p → w ∷ ws ≡ p.0 ++ (semi ∷ p.1)
 cut_step w ws true o p e later h =
     let is : ◌≡◌ {A = W × W} ([], ws) p = cc in
     ap (λ (x : List ℕ). x ∷ ws) (equal w (codes ";") e) ∙ ap (λ (q : W × W). q.0 ++ (semi ∷ q.1)) is
@@ -87,7 +88,8 @@ named_at states b k h =
     let p = position-Some (λ (n : StateLine). n.name == b) states k no_state h in
     (p.0, eqb-true (name_at states k) b p.1)
 
-place_only : (states : List StateLine) (w : List ℕ) (o : Option ℕ) (k : ℕ) → letter_of w ≡ o → place_by states o ≡ Some k → (k < length states) × (w ≡ name_at states k ∷ [])
+place_only : (states : List StateLine) (w : List ℕ) (o : Option ℕ) (k : ℕ) → letter_of w ≡ o → place_by states o ≡ Some k →
+    (k < length states) × (w ≡ name_at states k ∷ [])
 place_only states w None k e h = cc
 place_only states w (Some b) k e h =
     let p = named_at states b k h in
@@ -148,7 +150,8 @@ turn_only states w rest (Some n) (Some to) t e f h =
     let here : IsTurn states w rest (record { next = n; to = to }) = (target.1, read.0, both_true (lt n (length states) target.0) read.1) in
     subst (IsTurn states w rest) is here
 
-pub move_only : (states : List StateLine) (k : ℕ) (ws : W) (t : Move) → read_move states k ws ≡ Some t → (ws ≡ move_words states k t) × (is_move states t ≡ true)
+pub move_only : (states : List StateLine) (k : ℕ) (ws : W) (t : Move) → read_move states k ws ≡ Some t →
+    (ws ≡ move_words states k t) × (is_move states t ≡ true)
 move_only states k ws t h =
     let made = move_made (place_of states (word_at ws 3)) (three_of (cut_of (drop 5 ws))) in
     let from = bytes_eq (word_at ws 1) (name_at states (k / 3) ∷ []) in
@@ -162,8 +165,11 @@ move_only states k ws t h =
     let first = equal (word_at ws 0) (codes "move") a.0 in
     let second = equal (word_at ws 1) (name_at states (k / 3) ∷ []) b.0 in
     let third = equal (word_at ws 2) (sign_word (k % 3)) c.0 in
-    let fifth = equal (word_at ws 4) (codes ";") c.1 in
-    (all_words (word_at ws 0) (word_at ws 1) (word_at ws 2) (word_at ws 3) (word_at ws 4) (drop 5 ws) (five ws (le 5 (length ws) p.0)) first second third s.0 fifth s.1, s.2)
+    let fifth = equal (word_at ws 4) (codes ";") c.1 in (
+      all_words (word_at ws 0) (word_at ws 1) (word_at ws 2) (word_at ws 3) (word_at ws 4) (drop 5 ws)
+          (five ws (le 5 (length ws) p.0)) first second third s.0 fifth s.1,
+      s.2,
+    )
   where
     all_words : (u v w x y : List ℕ) (rest : W) → ws ≡ u ∷ v ∷ w ∷ x ∷ y ∷ rest → u ≡ codes "move" → v ≡ name_at states (k / 3) ∷ [] →
         w ≡ sign_word (k % 3) → x ≡ name_at states t.next ∷ [] → y ≡ codes ";" → rest ≡ three_words t.to → ws ≡ move_words states k t
@@ -212,13 +218,15 @@ ends zero (w ∷ v ∷ ws) h = absurd (omega arith)
 ends (suc n) [] h = absurd (omega arith)
 ends (suc n) (w ∷ ws) h = ap (λ (x : W). w ∷ x) (ends n ws (omega arith))
 
-finish_parts : (u : W) (w : List ℕ) (f : Option Formula) (m : Option Mark) (x : Formula × Mark) → formula_of u ≡ f → mark_of w ≡ m → finish_made f m ≡ Some x → (u ++ (w ∷ []) ≡ formula_words x.0 ++ (mark_word x.1 ∷ [])) × (is_short x.0 ≡ true)
+finish_parts : (u : W) (w : List ℕ) (f : Option Formula) (m : Option Mark) (x : Formula × Mark) → formula_of u ≡ f → mark_of w ≡ m →
+    finish_made f m ≡ Some x → (u ++ (w ∷ []) ≡ formula_words x.0 ++ (mark_word x.1 ∷ [])) × (is_short x.0 ≡ true)
 finish_parts u w None m x e g h = cc
 finish_parts u w (Some f) None x e g h = cc
 finish_parts u w (Some f) (Some m) x e g h =
     let is : ◌≡◌ {A = Formula × Mark} (f, m) x = cc in
     let read = short u f e in
-    subst (λ (y : Formula × Mark). (u ++ (w ∷ []) ≡ formula_words y.0 ++ (mark_word y.1 ∷ [])) × (is_short y.0 ≡ true)) is (ap (λ (y : W). y ++ (w ∷ [])) read.0 ∙ ap (λ (y : List ℕ). formula_words f ++ (y ∷ [])) (mark_only w m g), read.1)
+    subst (λ (y : Formula × Mark). (u ++ (w ∷ []) ≡ formula_words y.0 ++ (mark_word y.1 ∷ [])) × (is_short y.0 ≡ true)) is
+    (ap (λ (y : W). y ++ (w ∷ [])) read.0 ∙ ap (λ (y : List ℕ). formula_words f ++ (y ∷ [])) (mark_only w m g), read.1)
 
 head_tail : (ws : W) → 2 ≤ length ws → (ws ≡ word_at ws 0 ∷ drop 1 ws) × (length (drop 1 ws) ≡ suc (length (drop 1 ws) - 1))
 head_tail [] h = absurd (omega arith)

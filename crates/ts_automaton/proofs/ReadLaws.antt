@@ -7,7 +7,7 @@ use Rattle.std.specs.Cmp.Derive.{both_true}
 use Rattle.std.proofs.lemmas.Bool.{not-true}
 use Rattle.std.specs.Str.{bytes_eq}
 use Rattle.std.proofs.lemmas.Bool.Decides.{nat_tests}
-use Rattle.std.proofs.lemmas.List.{length-append}
+use Rattle.std.proofs.lemmas.List.{length-append, length-map}
 use Rattle.std.proofs.lemmas.List.Folds.{list_all-append, list_any_at}
 use Rattle.std.proofs.lemmas.List.Sums.{position_or_len_is}
 use Rattle.ts_base.specs.declared.ext.Ext.{Ext}
@@ -90,7 +90,10 @@ read_step d e n text texts (Some g) is f later h =
     }
 
 lines_read : (d e : Part) (n : ℕ) (texts : List (List ℕ)) → IsPart d → with_lines d n texts ≡ Ok e → AreRead d texts e
-lines_read d e n [] is h = let same : d ≡ e = cc in record { lines = []; are = refl; words = ap part_words (sym same) ∙ sym (append-nil (part_words d)); is = subst IsPart same is }
+lines_read d e n [] is h =
+    let same : d ≡ e = cc in
+    let words = ap part_words (sym same) ∙ sym (append-nil (part_words d)) in
+    record { lines = []; are = refl; words = words; is = subst IsPart same is }
 lines_read d e n (text ∷ texts) is h = read_step d e n text texts (with_line d text) is refl (λ f is_f k. lines_read f e (n + 1) texts is_f k) h
 
 -- where the reading stops
@@ -109,7 +112,9 @@ stop_step : (d : Part) (n k : ℕ) (text : List ℕ) (texts : List (List ℕ)) (
     IsPart f → with_lines f (n + 1) texts ≡ Err k → Stops f (n + 1) texts k) → onward n o (λ f. with_lines f (n + 1) texts) ≡ Err k → Stops d n (text ∷ texts) k
 stop_step d n k text texts None is f later h =
     let same : n ≡ k = cc in
-    record { lines = []; before = d; text = text; after = texts; parts = refl; words = sym (append-nil (part_words d)); is = is; against = f; place = omega (arith, same) }
+    let words = sym (append-nil (part_words d)) in
+    let place : k ≡ n + 0 = omega (arith, same) in
+    record { lines = []; before = d; text = text; after = texts; parts = refl; words = words; is = is; against = f; place = place }
 stop_step d n k text texts (Some g) is f later h =
     let line = line_words d g text (without_lf text) refl f in
     let more = grows d line.0 g is line.2 in
@@ -148,7 +153,8 @@ against_all d text is none e ws is_e words same =
     let whole = text_read e is_e in
     let front = text_read d is in
     let cut = lines_append AtHead d 1 (map words_text (part_words d)) (words_text ws ∷ []) front in
-    let parts : map words_text (part_words e) ≡ map words_text (part_words d) ++ (words_text ws ∷ []) = ap (map words_text) words ∙ map_more words_text (part_words d) ws in
+    let parts : map words_text (part_words e) ≡ map words_text (part_words d) ++ (words_text ws ∷ []) = ap (map words_text) words
+    ∙ map_more words_text (part_words d) ws in
     let stop : with_lines d cut.0 (words_text ws ∷ []) ≡ Err cut.0 = ap (λ o. onward cut.0 o (λ f. Ok f)) (ap (with_line d) (sym same) ∙ none) in
     let wrong : Ok e ≡ Err cut.0 = sym whole ∙ ap (with_lines AtHead 1) parts ∙ cut.1 ∙ stop in
     cc
@@ -175,7 +181,8 @@ first_bad texts k h =
 pub written_read : (b : Sheet) → IsSheet b → sheet_reading (lines_text (block_lines b)) ≡ Ok b
 written_read b is =
     let cut = follows_chunks AtHead (Whole b) (part_words (Whole b)) (whole_follows b is) in
-    ap (λ (x : List (List ℕ)). ended (length x + 1) (with_lines AtHead 1 x)) cut ∙ ap (ended (length (map words_text (part_words (Whole b))) + 1)) (text_read (Whole b) is)
+    ap (λ (x : List (List ℕ)). ended (length x + 1) (with_lines AtHead 1 x)) cut
+    ∙ ap (ended (length (map words_text (part_words (Whole b))) + 1)) (text_read (Whole b) is)
 
 ended_only : (n : ℕ) (r : Result Part ℕ) (b : Sheet) → ended n r ≡ Ok b → r ≡ Ok (Whole b)
 ended_only n (Err k) b h = cc
@@ -195,18 +202,72 @@ read_written text b h =
     let read = lines_read AtHead (Whole b) 1 (strict_lines text) tt whole in
     (read.is, sym (lines_are text) ∙ ap concat read.are ∙ lines_joined read.lines ∙ ap lines_text (sym read.words))
 
+-- a reading that is not ended
+cut_short : (texts : List (List ℕ)) (d : Part) (n k : ℕ) → IsOpen d → with_lines AtHead 1 texts ≡ Ok d → ◌≡◌ {A = Result Sheet ℕ} (Err n) (Err k) →
+    n ≡ length texts + 1 → IsAgainstGrammar texts k
+cut_short texts d n k still e h place =
+    let same : n ≡ k = cc in
+    let read = lines_read AtHead d 1 texts tt e in
+    let are = read.are ∙ ap (map words_text) (sym read.words) in
+    inr (record { part = d; is = read.is; open_still = still; are = are; place = sym same ∙ place })
+
 ended_refused : (texts : List (List ℕ)) (r : Result Part ℕ) (k : ℕ) → with_lines AtHead 1 texts ≡ r → ended (length texts + 1) r ≡ Err k →
     IsAgainstGrammar texts k
 ended_refused texts (Err j) k e h = let same : j ≡ k = cc in inl (first_bad texts k (e ∙ ap (λ (x : ℕ). Err x) same))
-ended_refused texts (Ok AtHead) k e h = let same : length texts + 1 ≡ k = cc in let read = lines_read AtHead AtHead 1 texts tt e in
-    inr (record { part = AtHead; is = read.is; open_still = tt; are = read.are ∙ ap (map words_text) (sym read.words); place = sym same })
-ended_refused texts (Ok (AtStates way states)) k e h = let same : length texts + 1 ≡ k = cc in let read = lines_read AtHead (AtStates way states) 1 texts tt e in
-    inr (record { part = AtStates way states; is = read.is; open_still = tt; are = read.are ∙ ap (map words_text) (sym read.words); place = sym same })
-ended_refused texts (Ok (AtMoves way states start moves)) k e h = let same : length texts + 1 ≡ k = cc in let read = lines_read AtHead (AtMoves way states start moves) 1 texts tt e in
-    inr (record { part = AtMoves way states start moves; is = read.is; open_still = tt; are = read.are ∙ ap (map words_text) (sym read.words); place = sym same })
-ended_refused texts (Ok (AtEnd b)) k e h = let same : length texts + 1 ≡ k = cc in let read = lines_read AtHead (AtEnd b) 1 texts tt e in
-    inr (record { part = AtEnd b; is = read.is; open_still = tt; are = read.are ∙ ap (map words_text) (sym read.words); place = sym same })
+ended_refused texts (Ok AtHead) k e h = cut_short texts AtHead _ k tt e h refl
+ended_refused texts (Ok (AtStates way states)) k e h = cut_short texts (AtStates way states) _ k tt e h refl
+ended_refused texts (Ok (AtMoves way states start moves)) k e h = cut_short texts (AtMoves way states start moves) _ k tt e h refl
+ended_refused texts (Ok (AtEnd b)) k e h = cut_short texts (AtEnd b) _ k tt e h refl
 ended_refused texts (Ok (Whole b)) k e h = cc
 
 pub refused : (text : List ℕ) (k : ℕ) → sheet_reading text ≡ Err k → IsAgainstGrammar (strict_lines text) k
 refused text k h = ended_refused (strict_lines text) (with_lines AtHead 1 (strict_lines text)) k refl h
+
+-- and the line that is told is the first bad one
+refused_on : (o : Option Part) (m n : ℕ) (xs ys : List (List ℕ)) (e : Part) (text : List ℕ) →
+    ((f : Part) → with_lines f (n + 1) xs ≡ Ok e → with_lines f (n + 1) (xs ++ text ∷ ys) ≡ Err m) →
+    onward n o (λ f. with_lines f (n + 1) xs) ≡ Ok e → onward n o (λ f. with_lines f (n + 1) (xs ++ text ∷ ys)) ≡ Err m
+refused_on None m n xs ys e text later h = cc
+refused_on (Some f) m n xs ys e text later h = later f h
+
+lines_refused : (d : Part) (m n : ℕ) (xs ys : List (List ℕ)) (e : Part) (text : List ℕ) → with_lines d n xs ≡ Ok e → with_line e text ≡ None →
+    m ≡ n + length xs →
+    with_lines d n (xs ++ text ∷ ys) ≡ Err m
+lines_refused d m n [] ys e text h none place =
+    let same : d ≡ e = cc in
+    let here : n ≡ m = omega (arith, place) in
+    ap (λ o. onward n o (λ f. with_lines f (n + 1) ys)) (ap (λ (x : Part). with_line x text) same ∙ none) ∙ ap (λ (k : ℕ). Err k) here
+lines_refused d m n (x ∷ xs) ys e text h none place =
+    refused_on (with_line d x) m n xs ys e text (λ f k. lines_refused f m (n + 1) xs ys e text k none (omega (arith, place))) h
+
+none_or_line : (d : Part) (text : List ℕ) (o : Option Part) → IsPart d → with_line d text ≡ o →
+    ((e : Part) (ws : W) → IsPart e → part_words e ≡ part_words d ++ (ws ∷ []) → text ≢ words_text ws) → with_line d text ≡ None
+none_or_line d text None is h against = h
+none_or_line d text (Some e) is h against =
+    let line = line_words d e text (without_lf text) refl h in
+    let more = grows d line.0 e is line.2 in
+    absurd (against e line.0 more.1 more.0 line.1)
+
+bad_told : (texts : List (List ℕ)) (k : ℕ) → IsFirstBad texts k → with_lines AtHead 1 texts ≡ Err k
+bad_told texts k bad =
+    let none = none_or_line bad.before bad.text (with_line bad.before bad.text) bad.is refl bad.against in
+    let count : length (map words_text (part_words bad.before)) ≡ length (part_words bad.before) = simp length-map in
+    let place = bad.place in
+    ap (with_lines AtHead 1) bad.parts
+    ∙ lines_refused AtHead k 1 (map words_text (part_words bad.before)) bad.after bad.before bad.text (text_read bad.before bad.is) none
+    (omega (arith, count, place))
+
+open_told : (n : ℕ) (d : Part) → IsOpen d → ended n (Ok d) ≡ Err n
+open_told n AtHead h = refl
+open_told n (AtStates way states) h = refl
+open_told n (AtMoves way states start moves) h = refl
+open_told n (AtEnd b) h = refl
+open_told n (Whole b) h = absurd h
+
+pub refused_again : (text : List ℕ) (k : ℕ) → IsAgainstGrammar (strict_lines text) k → sheet_reading text ≡ Err k
+refused_again text k (inl bad) = ap (ended (length (strict_lines text) + 1)) (bad_told (strict_lines text) k bad)
+refused_again text k (inr short) =
+    let n = length (strict_lines text) + 1 in
+    ap (ended n) (ap (with_lines AtHead 1) short.are ∙ text_read short.part short.is)
+    ∙ open_told n short.part short.open_still
+    ∙ ap (λ (m : ℕ). Err m) (sym short.place)

@@ -12,3 +12,4 @@ pub mod Grammar
 pub mod Lines
 pub mod Reading
 pub mod Laws
+pub mod TextReading

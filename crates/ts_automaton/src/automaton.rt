@@ -65,6 +65,15 @@ impl Automaton {
         Automaton { parts }
     }
 
+    /// Its parts, lent.
+    #[tactic(auto, using(crate::proofs::Rules::few_states))]
+    pub(crate) fn parts(&self) -> &Parts
+        ensures same { parts_of result.now ≡ self.now }
+        ensures few { length result.now.states.items ≤ 8 }
+    {
+        &self.parts
+    }
+
     /// The number of its states, 1 to 8.
     #[tactic(auto, using(crate::proofs::Rules::few_states))]
     pub fn states(&self) -> u8

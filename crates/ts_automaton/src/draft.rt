@@ -3,6 +3,7 @@
 use crate::expr::Expr;
 use crate::regs::Regs;
 use crate::state::{Mark, Turn};
+use std::collections::VecDeque;
 
 /// The order in which the cells are read, which the head line of a block names. It isn't part of the automaton.
 #[derive(Clone, Copy, Debug, PartialEq, Eq)]
@@ -24,7 +25,7 @@ pub(crate) struct Sheet {
     pub(crate) way: Way,
     pub(crate) states: Vec<StateLine>,
     pub(crate) start: Regs,
-    pub(crate) moves: Vec<Turn>,
+    pub(crate) moves: VecDeque<Turn>,
     pub(crate) finish: Expr,
     pub(crate) mark: Mark,
 }
@@ -42,7 +43,7 @@ pub(crate) enum Draft {
         way: Way,
         states: Vec<StateLine>,
         start: Regs,
-        moves: Vec<Turn>,
+        moves: VecDeque<Turn>,
     },
     AtEnd(Sheet),
     Whole(Sheet),

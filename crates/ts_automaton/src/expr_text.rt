@@ -86,7 +86,8 @@ fn joined(alloc: Global, op: Op, e: Expr, f: Expr) -> Result<Expr, Memory>
 /// Puts the operand that the word is on the stack, or the operator's expression in place of the two upper ones. False
 /// where the word is neither, or an operator finds no two.
 fn stacked(alloc: Global, stack: &mut Vec<Expr>, word: &[u8]) -> Result<bool, Memory>
-    ensures taken { IfOk result (λ b. b ≡ true → stacked word.now (stack_seen stack.old.items) ≡ Some (stack_seen stack.new.items)) }
+    ensures taken { IfOk result (λ b.
+        b ≡ true → stacked word.now (stack_seen stack.old.items) ≡ Some (stack_seen stack.new.items)) }
     ensures refused { IfOk result (λ b. b ≡ false → stacked word.now (stack_seen stack.old.items) ≡ None) }
 {
     match atom_of(word) {

@@ -16,6 +16,7 @@
 #![tactic(auto)]
 
 mod automaton;
+mod automaton_text;
 mod draft;
 mod expr;
 mod expr_text;
@@ -33,13 +34,18 @@ mod state;
 mod stop;
 #[cfg(test)]
 mod tests;
-mod text_laws;
+pub mod text_laws;
+#[cfg(test)]
+mod text_tests;
 mod typing;
+mod writer;
 
 pub use automaton::Automaton;
+pub use automaton_text::read;
 pub use draft::{StateLine, Way};
 pub use expr::{Atom, Expr, Op};
 pub use kind::RegKind;
 pub use regs::{At, Hull, HullAt, Regs};
 pub use state::{Mark, State, Turn};
 pub use stop::AutoStop;
+pub use writer::{write, write_head};

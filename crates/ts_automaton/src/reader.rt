@@ -15,6 +15,7 @@ use crate::regs::Regs;
 use crate::state::Turn;
 use crate::stop::AutoStop;
 use std::alloc::Global;
+use std::collections::VecDeque;
 use ts_base::{Memory, first_line, without_lf};
 
 /// The words are those of a state line, by the first of them.
@@ -47,7 +48,7 @@ fn named(
                 way,
                 states,
                 start,
-                moves: Vec::new(alloc),
+                moves: VecDeque::new(alloc),
             })),
             _ => Ok(None),
         }
@@ -60,7 +61,7 @@ fn moved(
     way: Way,
     states: Vec<StateLine>,
     start: Regs,
-    mut moves: Vec<Turn>,
+    mut moves: VecDeque<Turn>,
     words: &[&[u8]],
 ) -> Result<Option<Draft>, Memory>
     requires { length states.items ≤ 8 }
@@ -71,7 +72,7 @@ fn moved(
         match read_move(alloc, &states, moves.len(), words)? {
             None => Ok(None),
             Some(turn) => {
-                moves.push(turn)?;
+                moves.push_back(turn)?;
                 Ok(Some(Draft::AtMoves {
                     way,
                     states,

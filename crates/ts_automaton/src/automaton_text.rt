@@ -1,0 +1,127 @@
+//! The automaton of a text.
+
+ghost use Rattle.std.specs.Prelude.{◌≡◌, ◌≤◌, ◌*◌, ◌++◌, [], ◌∷◌, map, length, IsSome, IfOk, IfSome};
+ghost use Rattle.ts_automaton.specs.Body.{move_of, node_of, parts_of};
+ghost use Rattle.ts_automaton.specs.AutomatonText.{state_lines, all_moves, sheet_of};
+ghost use Rattle.ts_automaton.specs.Grammar.{IsSheet};
+ghost use Rattle.ts_automaton.specs.Reading.{sheet_seen};
+ghost use Rattle.ts_automaton.specs.TextReading.{rank, line_at, Judges, Reads};
+
+use crate::automaton::Automaton;
+use crate::draft::{Sheet, StateLine};
+use crate::parts::Parts;
+use crate::reader::read_sheet;
+use crate::state::{State, Turn};
+use crate::stop::AutoStop;
+use crate::typing::Place;
+use std::alloc::Global;
+use std::collections::VecDeque;
+use ts_base::{Letter, Memory};
+
+/// The automaton of a text, which is its whole block under either head. `Text` tells the first line against the
+/// grammar, and else `Typing` the first line against the typing; lines are counted from 1.
+pub fn read(alloc: Global, text: &[u8]) -> Result<Automaton, AutoStop>
+    ensures { Reads text.now result }
+{
+    match read_sheet(alloc, text) {
+        Ok(sheet) => judged(alloc, sheet),
+        Err(stop) => Err(stop),
+    }
+}
+
+/// The automaton that has this block, or its first line against the typing.
+fn judged(alloc: Global, sheet: Sheet) -> Result<Automaton, AutoStop>
+    requires { IsSheet (sheet_seen sheet) }
+    ensures { Judges (sheet_seen sheet) result }
+{
+    let parts = parts_in(alloc, sheet)?;
+    match parts.first_fault() {
+        None => Ok(Automaton::from_parts(parts)),
+        Some(place) => Err(AutoStop::Typing(line_at(parts.states.len(), place))),
+    }
+}
+
+/// The parts of an automaton that has this block.
+fn parts_in(alloc: Global, sheet: Sheet) -> Result<Parts, Memory>
+    requires { length sheet.moves.items ≡ 3 * length sheet.states.items }
+    ensures { IfOk result (λ p. sheet_of sheet.way (parts_of p) ≡ sheet_seen sheet) }
+{
+    let Sheet {
+        way: _,
+        states: lines,
+        start,
+        moves,
+        finish,
+        mark,
+    } = sheet;
+    let states = grouped(alloc, &lines, moves)?;
+    Ok(Parts {
+        states,
+        start,
+        finish,
+        mark,
+    })
+}
+
+/// The states of these lines, each with the next three moves.
+fn grouped(
+    alloc: Global,
+    lines: &[StateLine],
+    mut moves: VecDeque<Turn>,
+) -> Result<Vec<State>, Memory>
+    requires { length moves.items ≡ 3 * length lines.now }
+    ensures lines { IfOk result (λ states. state_lines (map node_of states.items) ≡ lines.now) }
+    ensures moves { IfOk result (λ states. all_moves (map node_of states.items) ≡ map move_of moves.items) }
+{
+    let mut states = Vec::new(alloc);
+    for line in lines {
+        if let Some(state) = next_state(*line, &mut moves) {
+            states.push(state)?;
+        }
+    }
+    Ok(states)
+}
+
+/// The state of this line, with the next three moves.
+fn next_state(line: StateLine, moves: &mut VecDeque<Turn>) -> Option<State>
+    requires { 3 ≤ length moves.old.items }
+    ensures some { IsSome result }
+    ensures line { IfSome result (λ s. (s.name ≡ line.name) × (s.held ≡ line.held)) }
+    ensures moves { IfSome result (λ s.
+        map move_of moves.old.items ≡ all_moves (node_of s ∷ []) ++ map move_of moves.new.items) }
+{
+    match (moves.pop_front(), moves.pop_front(), moves.pop_front()) {
+        (Some(less), Some(equal), Some(greater)) => Some(State {
+            name: line.name,
+            held: line.held,
+            less,
+            equal,
+            greater,
+        }),
+        _ => None,
+    }
+}
+
+/// Which of the three moves of a state that on a letter is, counted from 0.
+fn rank(letter: Letter) -> u32
+    ensures { result ≡ rank letter }
+{
+    match letter {
+        Letter::Less => 0,
+        Letter::Equal => 1,
+        Letter::Greater => 2,
+    }
+}
+
+/// The line of a place in a block of so many states.
+fn line_at(states: usize, place: Place) -> u32
+    requires { states ≤ 8 }
+    ensures { result ≡ line_at states place }
+{
+    let states = states as u32;
+    match place {
+        Place::Start => 2,
+        Place::Moving { state, letter } => states + 3 + (3 * u32::from(state) + rank(letter)),
+        Place::Finish => states + 3 + 3 * states,
+    }
+}

@@ -1,0 +1,205 @@
+//! The text of an automaton: one body, the lines of its block behind the head.
+
+ghost use Rattle.std.specs.Prelude.{◌≡◌, ◌++◌, [], ◌∷◌, ◌+◌, ◌*◌, ◌<◌, ◌≤◌, ◌/◌, ◌%◌, codes, map, length, OnOk};
+ghost use Rattle.ts_base.specs.Words.{behind};
+ghost use Rattle.ts_automaton.specs.Formula.{formula};
+ghost use Rattle.ts_automaton.specs.Registers.{regs_of};
+ghost use Rattle.ts_automaton.specs.Body.{move_of, node_of, parts_of};
+ghost use Rattle.ts_automaton.specs.AutomatonText.{state_lines, all_moves, name_at, mark_word, constant_word, state_words, start_words, turn_words, three_words};
+ghost use Rattle.ts_automaton.specs.AutomatonText.{move_words, moves_words, finish_words, words_text, lines_text, head_text, body_text};
+
+use crate::automaton::Automaton;
+use crate::draft::Way;
+use crate::expr::Expr;
+use crate::expr_text::push_expr;
+use crate::move_lines::sign_word;
+use crate::parts::Parts;
+use crate::regs::Regs;
+use crate::state::{Mark, State, Turn};
+use ts_base::{Ext, Memory};
+
+/// Puts the head line of a block behind `text`.
+pub fn write_head(way: Way, text: &mut Vec<u8>) -> Result<(), Memory>
+    ensures { OnOk result (text.new.items ≡ text.old.items ++ head_text way) }
+{
+    match way {
+        Way::Forward => text.extend_from_slice(b"forward\n")?,
+        Way::Reverse => text.extend_from_slice(b"reverse\n")?,
+    }
+    Ok(())
+}
+
+/// Puts the one body of an automaton behind `text`.
+pub fn write(m: &Automaton, text: &mut Vec<u8>) -> Result<(), Memory>
+    ensures { OnOk result (text.new.items ≡ text.old.items ++ body_text m.now) }
+{
+    Ok(push_body(text, m.parts())?)
+}
+
+/// Puts the lines of a block but the head behind `text`.
+fn push_body(text: &mut Vec<u8>, parts: &Parts) -> Result<(), Memory>
+    requires { length parts.now.states.items ≤ 8 }
+    ensures { OnOk result (text.new.items ≡ text.old.items ++ body_text (parts_of parts.now)) }
+{
+    push_states(text, &parts.states)?;
+    push_start(text, parts.start)?;
+    push_moves(text, &parts.states)?;
+    push_finish(text, &parts.finish, parts.mark)?;
+    text.extend_from_slice(b"end\n")?;
+    Ok(())
+}
+
+/// Puts the line of a state behind `text`.
+fn push_state(text: &mut Vec<u8>, name: u8, held: bool) -> Result<(), Memory>
+    ensures { let line = state_words (record { name = name; held = held }) in
+        OnOk result (text.new.items ≡ text.old.items ++ words_text line) }
+{
+    text.extend_from_slice(b"state ")?;
+    text.push(name)?;
+    if held {
+        text.extend_from_slice(b" held\n")?;
+    } else {
+        text.extend_from_slice(b" free\n")?;
+    }
+    Ok(())
+}
+
+/// Puts the line of each state behind `text`.
+fn push_states(text: &mut Vec<u8>, states: &[State]) -> Result<(), Memory>
+    ensures { let lines = map state_words (state_lines (map node_of states.now)) in
+        OnOk result (text.new.items ≡ text.old.items ++ lines_text lines) }
+{
+    for state in states {
+        push_state(text, state.name, state.held)?;
+    }
+    Ok(())
+}
+
+/// Puts the word of a start constant behind `text`, with a space before it.
+fn push_constant(text: &mut Vec<u8>, e: Ext) -> Result<(), Memory>
+    ensures { OnOk result (text.new.items ≡ text.old.items ++ behind (constant_word e ∷ [])) }
+{
+    match e {
+        Ext::NegInf => text.extend_from_slice(b" -inf")?,
+        Ext::PosInf => text.extend_from_slice(b" +inf")?,
+        Ext::Int(n) => {
+            if n == 0 {
+                text.extend_from_slice(b" 0")?;
+            } else {
+                text.extend_from_slice(b" 1")?;
+            }
+        }
+    }
+    Ok(())
+}
+
+/// Puts the start line behind `text`.
+fn push_start(text: &mut Vec<u8>, start: Regs) -> Result<(), Memory>
+    ensures { OnOk result (text.new.items ≡ text.old.items ++ words_text (start_words (regs_of start))) }
+{
+    text.extend_from_slice(b"start")?;
+    push_constant(text, start.c)?;
+    push_constant(text, start.d)?;
+    push_constant(text, start.r)?;
+    text.push(b'\n')?;
+    Ok(())
+}
+
+/// The letter of the state at a place, or 0 where there is none.
+fn name_at(states: &[State], k: usize) -> u8
+    ensures { result ≡ name_at (state_lines (map node_of states.now)) k }
+{
+    if k < states.len() { states[k].name } else { 0 }
+}
+
+/// Puts the first words of move `k`, which leads to the state at place `next`, behind `text`.
+fn push_turn(text: &mut Vec<u8>, states: &[State], k: usize, next: u8) -> Result<(), Memory>
+    ensures { let words = turn_words (state_lines (map node_of states.now)) k next in
+        OnOk result (text.new.items ≡ text.old.items ++ (codes "move" ++ behind words)) }
+{
+    text.extend_from_slice(b"move ")?;
+    text.push(name_at(states, k / 3))?;
+    text.push(b' ')?;
+    text.extend_from_slice(sign_word(k % 3))?;
+    text.push(b' ')?;
+    text.push(name_at(states, next as usize))?;
+    text.extend_from_slice(b" ;")?;
+    Ok(())
+}
+
+/// Puts the three expressions of a move behind `text`.
+fn push_three(text: &mut Vec<u8>, turn: &Turn) -> Result<(), Memory>
+    ensures { OnOk result (text.new.items ≡ text.old.items ++ behind (three_words (move_of turn.now).to)) }
+{
+    push_expr(text, &turn.c)?;
+    text.extend_from_slice(b" ;")?;
+    push_expr(text, &turn.d)?;
+    text.extend_from_slice(b" ;")?;
+    push_expr(text, &turn.r)?;
+    Ok(())
+}
+
+/// Puts the line of move `k` behind `text`.
+fn push_move(text: &mut Vec<u8>, states: &[State], k: usize, turn: &Turn) -> Result<(), Memory>
+    ensures { let line = move_words (state_lines (map node_of states.now)) k (move_of turn.now) in
+        OnOk result (text.new.items ≡ text.old.items ++ words_text line) }
+{
+    push_turn(text, states, k, turn.next)?;
+    push_three(text, turn)?;
+    text.push(b'\n')?;
+    Ok(())
+}
+
+/// Puts the lines of the three moves of state `q` behind `text`.
+fn push_moves_of(
+    text: &mut Vec<u8>,
+    states: &[State],
+    q: usize,
+    state: &State,
+) -> Result<(), Memory>
+    requires { q < 8 }
+    ensures { let names = state_lines (map node_of states.now) in
+        let lines = moves_words names (3 * q) (all_moves (node_of state.now ∷ [])) in
+        OnOk result (text.new.items ≡ text.old.items ++ lines_text lines) }
+{
+    push_move(text, states, 3 * q, &state.less)?;
+    push_move(text, states, 3 * q + 1, &state.equal)?;
+    push_move(text, states, 3 * q + 2, &state.greater)?;
+    Ok(())
+}
+
+/// Puts the lines of all moves behind `text`, those of each state in order.
+fn push_moves(text: &mut Vec<u8>, states: &[State]) -> Result<(), Memory>
+    requires { length states.now ≤ 8 }
+    ensures { let nodes = map node_of states.now in
+        let lines = moves_words (state_lines nodes) 0 (all_moves nodes) in
+        OnOk result (text.new.items ≡ text.old.items ++ lines_text lines) }
+{
+    for q in 0..states.len() {
+        push_moves_of(text, states, q, &states[q])?;
+    }
+    Ok(())
+}
+
+/// Puts the mark's word behind `text`, with a space before it.
+fn push_mark(text: &mut Vec<u8>, mark: Mark) -> Result<(), Memory>
+    ensures { OnOk result (text.new.items ≡ text.old.items ++ behind (mark_word mark ∷ [])) }
+{
+    match mark {
+        Mark::Same => text.extend_from_slice(b" same")?,
+        Mark::Zero => text.extend_from_slice(b" zero")?,
+        Mark::Cells => text.extend_from_slice(b" cells")?,
+    }
+    Ok(())
+}
+
+/// Puts the finish line behind `text`.
+fn push_finish(text: &mut Vec<u8>, finish: &Expr, mark: Mark) -> Result<(), Memory>
+    ensures { OnOk result (text.new.items ≡ text.old.items ++ words_text (finish_words (formula finish.now) mark)) }
+{
+    text.extend_from_slice(b"finish")?;
+    push_expr(text, finish)?;
+    push_mark(text, mark)?;
+    text.push(b'\n')?;
+    Ok(())
+}
