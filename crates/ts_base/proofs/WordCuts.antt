@@ -23,7 +23,8 @@ after [] = []
 after (b ∷ bs) = cond (is_lf b) bs (after bs)
 
 line_step : (b c : ℕ) (cs : List ℕ) (t : Bool) → strict_lines (c ∷ cs) ≡ front (c ∷ cs) ∷ strict_lines (after (c ∷ cs)) →
-    cond t ((b ∷ []) ∷ strict_lines (c ∷ cs)) (onto_line b (strict_lines (c ∷ cs))) ≡ cond t (b ∷ []) (b ∷ front (c ∷ cs)) ∷ strict_lines (cond t (c ∷ cs) (after (c ∷ cs)))
+    cond t ((b ∷ []) ∷ strict_lines (c ∷ cs)) (onto_line b (strict_lines (c ∷ cs)))
+    ≡ cond t (b ∷ []) (b ∷ front (c ∷ cs)) ∷ strict_lines (cond t (c ∷ cs) (after (c ∷ cs)))
 line_step b c cs true ih = refl
 line_step b c cs false ih = ap (onto_line b) ih
 
@@ -74,8 +75,10 @@ last_line text h e = go (nat_lt (position_or_len is_lf text) (length text)) refl
   go false f =
       let past : length text ≤ position_or_len is_lf text + 1 = omega (arith, ltb-false _ _ f) in
       line_at text h
-      ∙ ap (λ (x : List ℕ). x ∷ strict_lines (drop (position_or_len is_lf text + 1) text)) (take_all (position_or_len is_lf text + 1) text past ∙ sym (take_all (length text) text (omega arith)))
-      ∙ ap (λ (x : List ℕ). take (length text) text ∷ strict_lines x) (drop_all (position_or_len is_lf text + 1) text past ∙ sym (drop_all (length text) text (omega arith)))
+      ∙ ap (λ (x : List ℕ). x ∷ strict_lines (drop (position_or_len is_lf text + 1) text))
+      (take_all (position_or_len is_lf text + 1) text past ∙ sym (take_all (length text) text (omega arith)))
+      ∙ ap (λ (x : List ℕ). take (length text) text ∷ strict_lines x)
+      (drop_all (position_or_len is_lf text + 1) text past ∙ sym (drop_all (length text) text (omega arith)))
 
 -- a line with a space at this place
 abbrev cut_at : List ℕ → ℕ → Words
@@ -98,7 +101,8 @@ no_space (b ∷ bs) h =
     let P : Bool → Type 0 = λ v. length (b ∷ bs) ≤ place v → cond v (after_space (words_of bs)) (onto_word b (words_of bs)) ≡ one_word (b ∷ bs) in
     (elim (is_space b) as P [ true ↦ λ k. absurd (omega arith) | false ↦ λ k. ap (onto_word b) (no_space bs (omega arith)) ]) h
 
-found : (line : List ℕ) (n : ℕ) (t : Bool) → nat_lt (position_or_len is_space line) (length line) ≡ t → Some n ≡ cond t (Some (position_or_len is_space line)) None →
+found : (line : List ℕ) (n : ℕ) (t : Bool) → nat_lt (position_or_len is_space line) (length line) ≡ t →
+    Some n ≡ cond t (Some (position_or_len is_space line)) None →
     words_of line ≡ cut_at line n
 found line n false e h = cc
 found line n true e h =
@@ -118,6 +122,7 @@ space_cut line n h =
 
 pub uncut : (line : List ℕ) → None ≡ position is_space line → words_of line ≡ one_word line
 uncut line h = go (nat_lt (position_or_len is_space line) (length line)) refl h where
-  go : (t : Bool) → nat_lt (position_or_len is_space line) (length line) ≡ t → None ≡ cond t (Some (position_or_len is_space line)) None → words_of line ≡ one_word line
+  go : (t : Bool) → nat_lt (position_or_len is_space line) (length line) ≡ t → None ≡ cond t (Some (position_or_len is_space line)) None →
+      words_of line ≡ one_word line
   go true e k = cc
   go false e k = no_space line (ltb-false _ _ e)

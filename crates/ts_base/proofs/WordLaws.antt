@@ -39,7 +39,8 @@ is_32 : is_space 32 ≡ true
 unfolding is_space
 is_32 = refl
 
-line_step : (b : ℕ) (bs : List ℕ) (t : Bool) → is_space b ≡ t → plain_line (words_of bs) ≡ bs → plain_line (cond t (after_space (words_of bs)) (onto_word b (words_of bs))) ≡ b ∷ bs
+line_step : (b : ℕ) (bs : List ℕ) (t : Bool) → is_space b ≡ t → plain_line (words_of bs) ≡ bs →
+    plain_line (cond t (after_space (words_of bs)) (onto_word b (words_of bs))) ≡ b ∷ bs
 line_step b bs true e h = ap (λ (x : List ℕ). 32 ∷ x) h ∙ ap (λ (x : ℕ). x ∷ bs) (sym (space_is b e))
 line_step b bs false e h = ap (λ (x : List ℕ). b ∷ x) h
 
@@ -64,11 +65,13 @@ inner_only b w h =
     let inner = and_parts (not (is_space b)) (not (is_lf b)) each.0 in
     (not-true (is_space b) inner.0, not-true (is_lf b) inner.1, each.1)
 
-word_again : (w : List ℕ) (ws : List (List ℕ)) → is_solid w ≡ true → words_of (behind ws) ≡ record { first = []; more = ws } → words_of (w ++ behind ws) ≡ record { first = w; more = ws }
+word_again : (w : List ℕ) (ws : List (List ℕ)) → is_solid w ≡ true → words_of (behind ws) ≡ record { first = []; more = ws } →
+    words_of (w ++ behind ws) ≡ record { first = w; more = ws }
 word_again [] ws h rest = rest
 word_again (b ∷ w) ws h rest =
     let inner = inner_only b w h in
-    ap (λ v. cond v (after_space (words_of (w ++ behind ws))) (onto_word b (words_of (w ++ behind ws)))) inner.0 ∙ ap (onto_word b) (word_again w ws inner.2 rest)
+    ap (λ v. cond v (after_space (words_of (w ++ behind ws))) (onto_word b (words_of (w ++ behind ws)))) inner.0
+    ∙ ap (onto_word b) (word_again w ws inner.2 rest)
 
 behind_again : (ws : List (List ℕ)) → AreSolid ws → words_of (behind ws) ≡ record { first = []; more = ws }
 behind_again [] h = refl
@@ -163,7 +166,8 @@ onto_concat : (b : ℕ) (cs : List (List ℕ)) → concat (onto_line b cs) ≡ b
 onto_concat b [] = refl
 onto_concat b (c ∷ cs) = refl
 
-lines_step : (b : ℕ) (bs : List ℕ) (t : Bool) → concat (strict_lines bs) ≡ bs → concat (cond t ((b ∷ []) ∷ strict_lines bs) (onto_line b (strict_lines bs))) ≡ b ∷ bs
+lines_step : (b : ℕ) (bs : List ℕ) (t : Bool) → concat (strict_lines bs) ≡ bs →
+    concat (cond t ((b ∷ []) ∷ strict_lines bs) (onto_line b (strict_lines bs))) ≡ b ∷ bs
 lines_step b bs true ih = ap (λ (x : List ℕ). b ∷ x) ih
 lines_step b bs false ih = onto_concat b (strict_lines bs) ∙ ap (λ (x : List ℕ). b ∷ x) ih
 

@@ -55,7 +55,8 @@ nullable_back (OneLetter l) h = absurd (nil_cons l [] h)
 nullable_back (Concat r s) h =
     let e = nil_append h.0 h.1 h.2 in
     and_from (nullable r) (nullable s) (nullable_back r (subst (λ z. InLanguage r z) e.0 h.3)) (nullable_back s (subst (λ z. InLanguage s z) e.1 h.4))
-nullable_back (Union r s) h = ⊎_elim (λ a. or_left (nullable r) (nullable s) (nullable_back r a)) (λ a. or_right (nullable r) (nullable s) (nullable_back s a)) h
+nullable_back (Union r s) h =
+    ⊎_elim (λ a. or_left (nullable r) (nullable s) (nullable_back r a)) (λ a. or_right (nullable r) (nullable s) (nullable_back s a)) h
 nullable_back (Repeat r) h = refl
 
 -- the derivative of a Concat: with a second member only where the empty word is in the first part
@@ -92,13 +93,16 @@ derivative_to (Union r s) l v h = ⊎_elim (λ a. inl (derivative_to r l v a)) (
 derivative_to (Repeat r) l v h = OnceMore l h.0 h.1 (l ∷ v) (ap (λ z. l ∷ z) h.2) (derivative_to r l h.0 h.3) h.4
 
 -- a non-empty word of a Repeat begins with a non-empty word of the inner one
-pub repeat_cut : (P : List Letter → Type 0) (l : Letter) (v w : List Letter) → IsRepeated P w → l ∷ v ≡ w → (x : List Letter) × (y : List Letter) × (v ≡ x ++ y) × P (l ∷ x) × IsRepeated P y
+pub repeat_cut : (P : List Letter → Type 0) (l : Letter) (v w : List Letter) → IsRepeated P w → l ∷ v ≡ w →
+    (x : List Letter) × (y : List Letter) × (v ≡ x ++ y) × P (l ∷ x) × IsRepeated P y
 repeat_cut P l v w (NoMore w' e) q = absurd (nil_cons l v (sym (q ∙ e)))
 repeat_cut P l v w (OnceMore m x y w' e px sy) q =
     let f : l ∷ v ≡ m ∷ (x ++ y) = q ∙ e in
     (x, y, ap (λ z. tail_of z) f, subst (λ z. P (z ∷ x)) (sym (ap (λ z. head_or l z) f)) px, sy)
 
-pub concat_back : (r s : Shape) (l : Letter) (v : List Letter) → ((x : List Letter) → InLanguage r (l ∷ x) → InLanguage (derivative r l) x) → (InLanguage s (l ∷ v) → InLanguage (derivative s l) v) → (x y : List Letter) → l ∷ v ≡ x ++ y → InLanguage r x → InLanguage s y → InLanguage (derivative (Concat r s) l) v
+pub concat_back : (r s : Shape) (l : Letter) (v : List Letter) → ((x : List Letter) → InLanguage r (l ∷ x) → InLanguage (derivative r l) x) →
+    (InLanguage s (l ∷ v) → InLanguage (derivative s l) v) → (x y : List Letter) → l ∷ v ≡ x ++ y → InLanguage r x → InLanguage s y →
+    InLanguage (derivative (Concat r s) l) v
 concat_back r s l v fr fs [] y e px py =
     cond_right (nullable r) (Concat (derivative r l) s) (derivative s l) v (nullable_back r px) (fs (subst (λ z. InLanguage s z) (sym e) py))
 concat_back r s l v fr fs (m ∷ x) y e px py =
@@ -167,7 +171,8 @@ longer_to (Repeat r) q =
     let x = longer_to r q in
     (x.0, x.1 ++ [], OnceMore x.0 x.1 [] (x.0 ∷ (x.1 ++ [])) refl x.2 (NoMore [] refl))
 
-pub longer_cut : (r s : Shape) (l : Letter) (v : List Letter) → ((m : Letter) (x : List Letter) → InLanguage r (m ∷ x) → has_longer r ≡ true) → (InLanguage s (l ∷ v) → has_longer s ≡ true) → (x y : List Letter) → l ∷ v ≡ x ++ y → InLanguage r x → InLanguage s y → has_longer (Concat r s) ≡ true
+pub longer_cut : (r s : Shape) (l : Letter) (v : List Letter) → ((m : Letter) (x : List Letter) → InLanguage r (m ∷ x) → has_longer r ≡ true) →
+    (InLanguage s (l ∷ v) → has_longer s ≡ true) → (x y : List Letter) → l ∷ v ≡ x ++ y → InLanguage r x → InLanguage s y → has_longer (Concat r s) ≡ true
 longer_cut r s l v fr fs [] y e px py =
     or_right (has_longer r && has_word s) (has_word r && has_longer s)
     (and_from (has_word r) (has_longer s) (word_back r [] px) (fs (subst (λ z. InLanguage s z) (sym e) py)))
@@ -179,5 +184,6 @@ longer_back NoWord l v h = absurd h
 longer_back EmptyWord l v h = absurd (nil_cons l v (sym h))
 longer_back (OneLetter m) l v h = refl
 longer_back (Concat r s) l v h = longer_cut r s l v (λ m x k. longer_back r m x k) (λ k. longer_back s l v k) h.0 h.1 h.2 h.3 h.4
-longer_back (Union r s) l v h = ⊎_elim (λ a. or_left (has_longer r) (has_longer s) (longer_back r l v a)) (λ a. or_right (has_longer r) (has_longer s) (longer_back s l v a)) h
+longer_back (Union r s) l v h =
+    ⊎_elim (λ a. or_left (has_longer r) (has_longer s) (longer_back r l v a)) (λ a. or_right (has_longer r) (has_longer s) (longer_back s l v a)) h
 longer_back (Repeat r) l v h = let c = repeat_cut (λ z. InLanguage r z) l v (l ∷ v) h refl in longer_back r l c.0 c.3

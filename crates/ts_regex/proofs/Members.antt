@@ -35,26 +35,32 @@ rest_at xs k x p q =
     ∙ ap (λ z. shape_of x ∷ z) (sym (drop-map shape_of (suc k) xs))
 
 -- and ends the members up to k
-pub front_at : (xs : List Regex) (k : ℕ) (x : Regex) → k < length xs → x ≡ get_or xs k x → take (suc k) (map shape_of xs) ≡ take k (map shape_of xs) ++ shape_of x ∷ []
+pub front_at : (xs : List Regex) (k : ℕ) (x : Regex) → k < length xs → x ≡ get_or xs k x →
+    take (suc k) (map shape_of xs) ≡ take k (map shape_of xs) ++ shape_of x ∷ []
 front_at xs k x p q =
     take-suc (map shape_of xs) k NoWord (let n = length-map xs shape_of in omega arith)
     ∙ ap (λ z. take k (map shape_of xs) ++ z ∷ []) (get_or-map shape_of xs k x NoWord p ∙ ap shape_of (sym q))
 
 -- where r is compared with member k
-pub compared : (r : Shape) (xs : List Regex) (k : ℕ) (x : Regex) (o : Ordering) → k < length xs → x ≡ get_or xs k x → Passed r (map shape_of xs) k → shape_cmp r (shape_of x) ≡ o → inserted r (map shape_of xs) ≡ take k (map shape_of xs) ++ placed o r (shape_of x) (drop (suc k) (map shape_of xs))
+pub compared : (r : Shape) (xs : List Regex) (k : ℕ) (x : Regex) (o : Ordering) → k < length xs → x ≡ get_or xs k x → Passed r (map shape_of xs) k →
+    shape_cmp r (shape_of x) ≡ o → inserted r (map shape_of xs) ≡ take k (map shape_of xs) ++ placed o r (shape_of x) (drop (suc k) (map shape_of xs))
 compared r xs k x o p q h e =
     h
-    ∙ ap (λ z. take k (map shape_of xs) ++ z) (ap (λ z. inserted r z) (rest_at xs k x p q) ∙ ap (λ z. placed z r (shape_of x) (drop (suc k) (map shape_of xs))) e)
+    ∙ ap (λ z. take k (map shape_of xs) ++ z)
+    (ap (λ z. inserted r z) (rest_at xs k x p q) ∙ ap (λ z. placed z r (shape_of x) (drop (suc k) (map shape_of xs))) e)
 
-pub before_member : (r : Shape) (xs : List Regex) (k : ℕ) (x : Regex) → k < length xs → x ≡ get_or xs k x → Passed r (map shape_of xs) k → Before ≡ shape_cmp r (shape_of x) → inserted r (map shape_of xs) ≡ insert (map shape_of xs) k r
+pub before_member : (r : Shape) (xs : List Regex) (k : ℕ) (x : Regex) → k < length xs → x ≡ get_or xs k x → Passed r (map shape_of xs) k →
+    Before ≡ shape_cmp r (shape_of x) → inserted r (map shape_of xs) ≡ insert (map shape_of xs) k r
 before_member r xs k x p q h e =
     compared r xs k x Before p q h (sym e) ∙ ap (λ z. take k (map shape_of xs) ++ r ∷ z) (sym (rest_at xs k x p q))
 
-pub same_member : (r : Shape) (xs : List Regex) (k : ℕ) (x : Regex) → k < length xs → x ≡ get_or xs k x → Passed r (map shape_of xs) k → Same ≡ shape_cmp r (shape_of x) → inserted r (map shape_of xs) ≡ map shape_of xs
+pub same_member : (r : Shape) (xs : List Regex) (k : ℕ) (x : Regex) → k < length xs → x ≡ get_or xs k x → Passed r (map shape_of xs) k →
+    Same ≡ shape_cmp r (shape_of x) → inserted r (map shape_of xs) ≡ map shape_of xs
 same_member r xs k x p q h e =
     compared r xs k x Same p q h (sym e) ∙ ap (λ z. take k (map shape_of xs) ++ z) (sym (rest_at xs k x p q)) ∙ take-append-drop k (map shape_of xs)
 
-pub after_member : (r : Shape) (xs : List Regex) (k : ℕ) (x : Regex) → k < length xs → x ≡ get_or xs k x → Passed r (map shape_of xs) k → After ≡ shape_cmp r (shape_of x) → Passed r (map shape_of xs) (k + 1)
+pub after_member : (r : Shape) (xs : List Regex) (k : ℕ) (x : Regex) → k < length xs → x ≡ get_or xs k x → Passed r (map shape_of xs) k →
+    After ≡ shape_cmp r (shape_of x) → Passed r (map shape_of xs) (k + 1)
 after_member r xs k x p q h e =
     subst (λ n. Passed r (map shape_of xs) n) (let n : suc k ≡ k + 1 = omega arith in n)
     (compared r xs k x After p q h (sym e)
@@ -68,12 +74,14 @@ map_insert xs k r =
     ∙ ap (λ z. take k (map shape_of xs) ++ shape_of r ∷ z) (sym (drop-map shape_of k xs))
 
 -- the members zs are xs with r in its place k, which was found in ys, that are xs
-pub member_put : (xs ys zs : List Regex) (k : ℕ) (r : Regex) → ys ≡ xs → zs ≡ insert xs k r → inserted (shape_of r) (map shape_of ys) ≡ insert (map shape_of ys) k (shape_of r) → map shape_of zs ≡ inserted (shape_of r) (map shape_of xs)
+pub member_put : (xs ys zs : List Regex) (k : ℕ) (r : Regex) → ys ≡ xs → zs ≡ insert xs k r →
+    inserted (shape_of r) (map shape_of ys) ≡ insert (map shape_of ys) k (shape_of r) → map shape_of zs ≡ inserted (shape_of r) (map shape_of xs)
 member_put xs ys zs k r p q h =
     ap (λ z. map shape_of z) q ∙ map_insert xs k r ∙ sym (subst (λ z. inserted (shape_of r) (map shape_of z) ≡ insert (map shape_of z) k (shape_of r)) p h)
 
 -- the members old were new and m, and v joins m with the last one, u
-pub nest_step : (all : Shape) (old new : List Regex) (m : Regex) (u v : Shape) → all ≡ nested (map shape_of old ++ u ∷ []) → old ≡ new ++ m ∷ [] → v ≡ Union (shape_of m) u → all ≡ nested (map shape_of new ++ v ∷ [])
+pub nest_step : (all : Shape) (old new : List Regex) (m : Regex) (u v : Shape) → all ≡ nested (map shape_of old ++ u ∷ []) → old ≡ new ++ m ∷ [] →
+    v ≡ Union (shape_of m) u → all ≡ nested (map shape_of new ++ v ∷ [])
 nest_step all old new m u v h e q =
     h
     ∙ ap (λ z. nested (map shape_of z ++ u ∷ [])) e
@@ -83,7 +91,9 @@ nest_step all old new m u v h e q =
     ∙ ap (λ z. nested (map shape_of new ++ z ∷ [])) (sym q)
 
 -- the members of s are put into an empty list, then those of r
-pub members_of_both : (none ss rs : List Regex) (r s n : Shape) → none ≡ [] → map shape_of ss ≡ inserted_all (members s) (map shape_of none) → map shape_of rs ≡ inserted_all (members r) (map shape_of ss) → n ≡ nested (map shape_of rs) → n ≡ normal_union r s
+pub members_of_both : (none ss rs : List Regex) (r s n : Shape) → none ≡ [] → map shape_of ss ≡ inserted_all (members s) (map shape_of none) →
+    map shape_of rs ≡ inserted_all (members r) (map shape_of ss) → n ≡ nested (map shape_of rs) → n ≡ normal_union r s
 members_of_both none ss rs r s n p q t h =
     h
-    ∙ ap nested (t ∙ ap (λ z. inserted_all (members r) z) (q ∙ ap (λ z. inserted_all (members s) (map shape_of z)) p) ∙ sym (all_append (members r) (members s) []))
+    ∙ ap nested (t ∙ ap (λ z. inserted_all (members r) z) (q ∙ ap (λ z. inserted_all (members s) (map shape_of z)) p)
+    ∙ sym (all_append (members r) (members s) []))

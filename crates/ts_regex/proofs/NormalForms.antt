@@ -128,12 +128,14 @@ members_back r w h = inl h
 abbrev pub placed : Ordering → Shape → Shape → List Shape → List Shape
 placed o r s ss = elim o as (λ o. List Shape) [ Before ↦ r ∷ s ∷ ss | Same ↦ s ∷ ss | After ↦ s ∷ inserted r ss ]
 
-pub placed_to : (o : Ordering) (r s : Shape) (ss : List Shape) (w : List Letter) → (HasMember (inserted r ss) w → InLanguage r w ⊎ HasMember ss w) → HasMember (placed o r s ss) w → InLanguage r w ⊎ HasMember (s ∷ ss) w
+pub placed_to : (o : Ordering) (r s : Shape) (ss : List Shape) (w : List Letter) → (HasMember (inserted r ss) w → InLanguage r w ⊎ HasMember ss w) →
+    HasMember (placed o r s ss) w → InLanguage r w ⊎ HasMember (s ∷ ss) w
 placed_to Before r s ss w k h = h
 placed_to Same r s ss w k h = inr h
 placed_to After r s ss w k h = ⊎_elim (λ a. inr (inl a)) (λ a. ⊎_elim (λ b. inl b) (λ b. inr (inr b)) (k a)) h
 
-pub placed_back : (o : Ordering) (r s : Shape) (ss : List Shape) (w : List Letter) → shape_cmp r s ≡ o → (InLanguage r w ⊎ HasMember ss w → HasMember (inserted r ss) w) → InLanguage r w ⊎ HasMember (s ∷ ss) w → HasMember (placed o r s ss) w
+pub placed_back : (o : Ordering) (r s : Shape) (ss : List Shape) (w : List Letter) → shape_cmp r s ≡ o →
+    (InLanguage r w ⊎ HasMember ss w → HasMember (inserted r ss) w) → InLanguage r w ⊎ HasMember (s ∷ ss) w → HasMember (placed o r s ss) w
 placed_back Before r s ss w q k h = h
 placed_back Same r s ss w q k h = ⊎_elim (λ a. inl (subst (λ z. InLanguage z w) (cmp_equal r s q) a)) (λ a. a) h
 placed_back After r s ss w q k h = ⊎_elim (λ a. inr (k (inl a))) (λ a. ⊎_elim (λ b. inl b) (λ b. inr (k (inr b))) a) h

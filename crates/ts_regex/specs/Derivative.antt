@@ -27,7 +27,8 @@ abbrev pub derivative : Shape → Letter → Shape
 derivative NoWord l = NoWord
 derivative EmptyWord l = NoWord
 derivative (OneLetter m) l = if same_letter m l then EmptyWord else NoWord
-derivative (Concat r s) l = if nullable r then Union (Concat (derivative r l) s) (derivative s l) else Concat (derivative r l) s
+derivative (Concat r s) l =
+    if nullable r then Union (Concat (derivative r l) s) (derivative s l) else Concat (derivative r l) s
 derivative (Union r s) l = Union (derivative r l) (derivative s l)
 derivative (Repeat r) l = Concat (derivative r l) (Repeat r)
 

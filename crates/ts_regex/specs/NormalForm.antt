@@ -53,7 +53,12 @@ members r = r ∷ []
 -- r in its place among sorted members, unless it stands there
 abbrev pub inserted : Shape → List Shape → List Shape
 inserted r [] = r ∷ []
-inserted r (s ∷ ss) = elim (shape_cmp r s) as (λ o. List Shape) [ Before ↦ r ∷ s ∷ ss | Same ↦ s ∷ ss | After ↦ s ∷ inserted r ss ]
+inserted r (s ∷ ss) =
+    elim (shape_cmp r s) as (λ o. List Shape) [
+      | Before ↦ r ∷ s ∷ ss
+      | Same ↦ s ∷ ss
+      | After ↦ s ∷ inserted r ss
+    ]
 
 -- each in its place among sorted members
 abbrev pub inserted_all : List Shape → List Shape → List Shape

@@ -20,11 +20,19 @@ module _ (p : ℕ → Bool) where
 
   pub take_front : (xs : List ℕ) → take (position_or_len p xs) xs ≡ front xs
   take_front [] = refl
-  take_front (b ∷ bs) = elim (p b) as (λ v. take (cond (not v) (1 + position_or_len p bs) 0) (b ∷ bs) ≡ cond v [] (b ∷ front bs)) [ true ↦ refl | false ↦ rw (one_plus (position_or_len p bs)) (ap (λ (x : List ℕ). b ∷ x) (take_front bs)) ]
+  take_front (b ∷ bs) =
+      elim (p b) as (λ v. take (cond (not v) (1 + position_or_len p bs) 0) (b ∷ bs) ≡ cond v [] (b ∷ front bs)) [
+        | true ↦ refl
+        | false ↦ rw (one_plus (position_or_len p bs)) (ap (λ (x : List ℕ). b ∷ x) (take_front bs))
+      ]
 
   pub drop_front : (xs : List ℕ) → drop (position_or_len p xs) xs ≡ ending xs
   drop_front [] = refl
-  drop_front (b ∷ bs) = elim (p b) as (λ v. drop (cond (not v) (1 + position_or_len p bs) 0) (b ∷ bs) ≡ cond v (b ∷ bs) (ending bs)) [ true ↦ refl | false ↦ rw (one_plus (position_or_len p bs)) (drop_front bs) ]
+  drop_front (b ∷ bs) =
+      elim (p b) as (λ v. drop (cond (not v) (1 + position_or_len p bs) 0) (b ∷ bs) ≡ cond v (b ∷ bs) (ending bs)) [
+        | true ↦ refl
+        | false ↦ rw (one_plus (position_or_len p bs)) (drop_front bs)
+      ]
 
   pub position_or_len-le : (xs : List ℕ) → position_or_len p xs ≤ length xs
   position_or_len-le xs = prefix_len-le-length (λ x. not (p x)) xs
@@ -36,7 +44,8 @@ module _ (p : ℕ → Bool) where
     go true e = refl
     go false e = omega (arith, position_or_len-le xs, ltb-false _ _ e)
 
-  passes_step : (b : ℕ) (bs : List ℕ) (t : Bool) → p b ≡ t → (0 < length (ending bs) → p (get_or (ending bs) 0 0) ≡ true) → 0 < length (cond t (b ∷ bs) (ending bs)) → p (get_or (cond t (b ∷ bs) (ending bs)) 0 0) ≡ true
+  passes_step : (b : ℕ) (bs : List ℕ) (t : Bool) → p b ≡ t → (0 < length (ending bs) → p (get_or (ending bs) 0 0) ≡ true) →
+      0 < length (cond t (b ∷ bs) (ending bs)) → p (get_or (cond t (b ∷ bs) (ending bs)) 0 0) ≡ true
   passes_step b bs true e later h = e
   passes_step b bs false e later h = later h
 

@@ -37,15 +37,25 @@ next_place n = omega arith
 
 take_chunk : (text : List ℕ) → take (position_or_len is_lf text + 1) text ≡ front text
 take_chunk [] = refl
-take_chunk (b ∷ bs) = elim (is_lf b) as (λ v. take (cond (not v) (1 + position_or_len is_lf bs) 0 + 1) (b ∷ bs) ≡ cond v (b ∷ []) (b ∷ front bs)) [ true ↦ refl | false ↦ rw (next_place (position_or_len is_lf bs)) (ap (λ (x : List ℕ). b ∷ x) (take_chunk bs)) ]
+take_chunk (b ∷ bs) =
+    elim (is_lf b) as (λ v. take (cond (not v) (1 + position_or_len is_lf bs) 0 + 1) (b ∷ bs) ≡ cond v (b ∷ []) (b ∷ front bs)) [
+      | true ↦ refl
+      | false ↦ rw (next_place (position_or_len is_lf bs)) (ap (λ (x : List ℕ). b ∷ x) (take_chunk bs))
+    ]
 
 drop_chunk : (text : List ℕ) → drop (position_or_len is_lf text + 1) text ≡ after text
 drop_chunk [] = refl
-drop_chunk (b ∷ bs) = elim (is_lf b) as (λ v. drop (cond (not v) (1 + position_or_len is_lf bs) 0 + 1) (b ∷ bs) ≡ cond v bs (after bs)) [ true ↦ refl | false ↦ rw (next_place (position_or_len is_lf bs)) (drop_chunk bs) ]
+drop_chunk (b ∷ bs) =
+    elim (is_lf b) as (λ v. drop (cond (not v) (1 + position_or_len is_lf bs) 0 + 1) (b ∷ bs) ≡ cond v bs (after bs)) [
+      | true ↦ refl
+      | false ↦ rw (next_place (position_or_len is_lf bs)) (drop_chunk bs)
+    ]
 
 chunk_at : (text : List ℕ) → 0 < length text → chunks text ≡ take (position_or_len is_lf text + 1) text ∷ chunks (drop (position_or_len is_lf text + 1) text)
 chunk_at [] h = absurd (omega arith)
-chunk_at (b ∷ bs) h = chunk_cut b bs ∙ ap (λ (x : List ℕ). x ∷ chunks (after (b ∷ bs))) (sym (take_chunk (b ∷ bs))) ∙ ap (λ (x : List ℕ). take (position_or_len is_lf (b ∷ bs) + 1) (b ∷ bs) ∷ chunks x) (sym (drop_chunk (b ∷ bs)))
+chunk_at (b ∷ bs) h =
+    chunk_cut b bs ∙ ap (λ (x : List ℕ). x ∷ chunks (after (b ∷ bs))) (sym (take_chunk (b ∷ bs)))
+    ∙ ap (λ (x : List ℕ). take (position_or_len is_lf (b ∷ bs) + 1) (b ∷ bs) ∷ chunks x) (sym (drop_chunk (b ∷ bs)))
 
 pub chunk_ended : (text : List ℕ) (n : ℕ) → 0 < length text → Some n ≡ position is_lf text → chunks text ≡ take (n + 1) text ∷ chunks (drop (n + 1) text)
 chunk_ended text n h e =
@@ -59,19 +69,23 @@ chunk_last text h e = go (nat_lt (position_or_len is_lf text) (length text)) ref
   go false f =
       let past : length text ≤ position_or_len is_lf text + 1 = omega (arith, ltb-false _ _ f) in
       chunk_at text h
-      ∙ ap (λ (x : List ℕ). x ∷ chunks (drop (position_or_len is_lf text + 1) text)) (take_all (position_or_len is_lf text + 1) text past ∙ sym (take_all (length text) text (omega arith)))
-      ∙ ap (λ (x : List ℕ). take (length text) text ∷ chunks x) (drop_all (position_or_len is_lf text + 1) text past ∙ sym (drop_all (length text) text (omega arith)))
+      ∙ ap (λ (x : List ℕ). x ∷ chunks (drop (position_or_len is_lf text + 1) text))
+      (take_all (position_or_len is_lf text + 1) text past ∙ sym (take_all (length text) text (omega arith)))
+      ∙ ap (λ (x : List ℕ). take (length text) text ∷ chunks x)
+      (drop_all (position_or_len is_lf text + 1) text past ∙ sym (drop_all (length text) text (omega arith)))
 
 -- a line by its words
 pub mark_none : (chunk line : List ℕ) (lines : List (List ℕ)) → lines_of chunk ≡ line ∷ lines → words_of line ≡ [] → is_separator chunk ≡ false
 unfolding is_separator
 mark_none chunk line lines cut none = rw (cut, none) refl
 
-pub mark_more : (chunk line : List ℕ) (lines : List (List ℕ)) (w v : Piece) (vs ws : List Piece) → lines_of chunk ≡ line ∷ lines → words_of line ≡ w ∷ ws → ws ≡ v ∷ vs → is_separator chunk ≡ false
+pub mark_more : (chunk line : List ℕ) (lines : List (List ℕ)) (w v : Piece) (vs ws : List Piece) → lines_of chunk ≡ line ∷ lines → words_of line ≡ w ∷ ws →
+    ws ≡ v ∷ vs → is_separator chunk ≡ false
 unfolding is_separator
 mark_more chunk line lines w v vs ws cut some more = rw (cut, some, more) refl
 
-pub mark_one : (chunk line : List ℕ) (lines : List (List ℕ)) (w : Piece) (ws : List Piece) → lines_of chunk ≡ line ∷ lines → words_of line ≡ w ∷ ws → ws ≡ [] → is_separator chunk ≡ bytes_eq w.text (codes "%%")
+pub mark_one : (chunk line : List ℕ) (lines : List (List ℕ)) (w : Piece) (ws : List Piece) → lines_of chunk ≡ line ∷ lines → words_of line ≡ w ∷ ws → ws ≡ [] →
+    is_separator chunk ≡ bytes_eq w.text (codes "%%")
 unfolding is_separator
 mark_one chunk line lines w ws cut some alone = rw (cut, some, alone) refl
 
@@ -92,10 +106,13 @@ abbrev made : List ℕ → Option (List ℕ) → Halves
 made model rest = record { model = model; rest = rest }
 
 -- the line at this place is the separator
-pub found : (text model left line rest : List ℕ) (at n : ℕ) (all : Halves) → model ≡ take at text → left ≡ drop at text → line ≡ take n left → rest ≡ drop n left →
-    chunks left ≡ take n left ∷ chunks (drop n left) → is_separator line ≡ true → after_front (take at text) (halves (chunks (drop at text))) ≡ all → made model (Some rest) ≡ all
+pub found : (text model left line rest : List ℕ) (at n : ℕ) (all : Halves) → model ≡ take at text → left ≡ drop at text → line ≡ take n left →
+    rest ≡ drop n left →
+    chunks left ≡ take n left ∷ chunks (drop n left) → is_separator line ≡ true → after_front (take at text) (halves (chunks (drop at text))) ≡ all →
+    made model (Some rest) ≡ all
 found text model left line rest at n all model_is left_is line_is rest_is cut mark kept =
-    let cut' : chunks left ≡ line ∷ chunks rest = cut ∙ ap (λ (x : List ℕ). x ∷ chunks (drop n left)) (sym line_is) ∙ ap (λ (x : List ℕ). line ∷ chunks x) (sym rest_is) in
+    let cut' : chunks left ≡ line ∷ chunks rest =
+    cut ∙ ap (λ (x : List ℕ). x ∷ chunks (drop n left)) (sym line_is) ∙ ap (λ (x : List ℕ). line ∷ chunks x) (sym rest_is) in
     ap (λ (x : List ℕ). made x (Some rest)) (model_is ∙ sym (append-nil (take at text)))
     ∙ ap (λ (x : List ℕ). made (take at text ++ []) (Some x)) (sym (joined_chunks rest))
     ∙ ap (λ v. after_front (take at text) (cond v (made [] (Some (joined (chunks rest)))) (after_front line (halves (chunks rest))))) (sym mark)
@@ -107,9 +124,12 @@ pub passed : (text left line rest : List ℕ) (at n : ℕ) (all : Halves) → le
     chunks left ≡ take n left ∷ chunks (drop n left) → is_separator line ≡ false → after_front (take at text) (halves (chunks (drop at text))) ≡ all →
     after_front (take (at + length line) text) (halves (chunks (drop (at + length line) text))) ≡ all
 passed text left line rest at n all left_is line_is rest_is len cut mark kept =
-    let cut' : chunks left ≡ line ∷ chunks rest = cut ∙ ap (λ (x : List ℕ). x ∷ chunks (drop n left)) (sym line_is) ∙ ap (λ (x : List ℕ). line ∷ chunks x) (sym rest_is) in
-    let front' : take (at + length line) text ≡ take at text ++ line = ap (λ (k : ℕ). take (at + k) text) len ∙ take-add at n text ∙ ap (λ (x : List ℕ). take at text ++ x) (ap (take n) (sym left_is) ∙ sym line_is) in
-    let rest' : drop (at + length line) text ≡ rest = ap (λ (k : ℕ). drop (at + k) text) len ∙ sym (drop-drop n at text) ∙ ap (drop n) (sym left_is) ∙ sym rest_is in
+    let cut' : chunks left ≡ line ∷ chunks rest =
+    cut ∙ ap (λ (x : List ℕ). x ∷ chunks (drop n left)) (sym line_is) ∙ ap (λ (x : List ℕ). line ∷ chunks x) (sym rest_is) in
+    let front' : take (at + length line) text ≡ take at text ++ line =
+    ap (λ (k : ℕ). take (at + k) text) len ∙ take-add at n text ∙ ap (λ (x : List ℕ). take at text ++ x) (ap (take n) (sym left_is) ∙ sym line_is) in
+    let rest' : drop (at + length line) text ≡ rest =
+    ap (λ (k : ℕ). drop (at + k) text) len ∙ sym (drop-drop n at text) ∙ ap (drop n) (sym left_is) ∙ sym rest_is in
     ap (λ (x : List ℕ). after_front x (halves (chunks (drop (at + length line) text)))) front'
     ∙ ap (λ (x : List ℕ). after_front (take at text ++ line) (halves (chunks x))) rest'
     ∙ ap (λ (x : List ℕ). made x (halves (chunks rest)).rest) (append_assoc (take at text) line (halves (chunks rest)).model)

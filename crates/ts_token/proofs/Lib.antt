@@ -6,4 +6,3 @@ pub mod HalfLaws
 mod NumberLaws
 mod SliceLaws
 pub mod NumberTexts
-pub mod CallerLemmas

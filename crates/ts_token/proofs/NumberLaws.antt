@@ -10,7 +10,9 @@ too_large limit n (b ∷ bs) h =
     let later = too_large limit (n * 10 + (b - 48)) bs (omega arith) in
     elim (is_digit b) as (λ v. upto limit (cond v (digits_from (n * 10 + (b - 48)) bs) None) ≡ None) [ true ↦ later | false ↦ refl ]
 
-pub over : (limit n i : ℕ) (digits : List ℕ) → i < length digits → is_digit (get_or digits i 0) ≡ true → limit < n * 10 + (get_or digits i 0 - 48) → digits_from n (drop i digits) ≡ digits_from 0 digits → upto limit (digits_from 0 digits) ≡ None
+pub over : (limit n i : ℕ) (digits : List ℕ) → i < length digits → is_digit (get_or digits i 0) ≡ true → limit < n * 10 + (get_or digits i 0 - 48) →
+    digits_from n (drop i digits) ≡ digits_from 0 digits → upto limit (digits_from 0 digits) ≡ None
 over limit n i digits within digit large kept =
-    ap (upto limit) (sym kept ∙ ap (digits_from n) (drop-cons digits i 0 within) ∙ ap (λ v. cond v (digits_from (n * 10 + (get_or digits i 0 - 48)) (drop (suc i) digits)) None) digit)
+    ap (upto limit) (sym kept ∙ ap (digits_from n) (drop-cons digits i 0 within)
+    ∙ ap (λ v. cond v (digits_from (n * 10 + (get_or digits i 0 - 48)) (drop (suc i) digits)) None) digit)
     ∙ too_large limit (n * 10 + (get_or digits i 0 - 48)) (drop (suc i) digits) large

@@ -29,7 +29,8 @@ folds = search rules
 numerals : IsNumeralModel AreDigits (value_from 0)
 numerals = numerals_by_fold AreDigits tells value_from folds
 
-digits_step : (n b : ℕ) (bs : List ℕ) (t : Bool) → (all_digits bs ≡ true → digits_from (n * 10 + (b - 48)) bs ≡ Some (value_from (n * 10 + (b - 48)) bs)) → cond t (all_digits bs) false ≡ true →
+digits_step : (n b : ℕ) (bs : List ℕ) (t : Bool) → (all_digits bs ≡ true → digits_from (n * 10 + (b - 48)) bs ≡ Some (value_from (n * 10 + (b - 48)) bs)) →
+    cond t (all_digits bs) false ≡ true →
     cond t (digits_from (n * 10 + (b - 48)) bs) None ≡ Some (value_from (n * 10 + (b - 48)) bs)
 digits_step n b bs true ih h = ih h
 digits_step n b bs false ih h = cc
@@ -41,7 +42,8 @@ digits_read n (b ∷ bs) h = digits_step n b bs (is_digit b) (digits_read (n * 1
 abbrev IsRead : ℕ → List ℕ → ℕ → Type 0
 IsRead n ds m = (all_digits ds ≡ true) × (value_from n ds ≡ m)
 
-only_step : (n b m : ℕ) (bs : List ℕ) (t : Bool) → (digits_from (n * 10 + (b - 48)) bs ≡ Some m → IsRead (n * 10 + (b - 48)) bs m) → cond t (digits_from (n * 10 + (b - 48)) bs) None ≡ Some m →
+only_step : (n b m : ℕ) (bs : List ℕ) (t : Bool) → (digits_from (n * 10 + (b - 48)) bs ≡ Some m → IsRead (n * 10 + (b - 48)) bs m) →
+    cond t (digits_from (n * 10 + (b - 48)) bs) None ≡ Some m →
     (cond t (all_digits bs) false ≡ true) × (value_from (n * 10 + (b - 48)) bs ≡ m)
 only_step n b m bs true ih h = ih h
 only_step n b m bs false ih h = cc
@@ -82,7 +84,9 @@ decimal_digits : (n : ℕ) → n < 2 ^ 64 → all_digits (decimal n) ≡ true
 decimal_digits n fits = digits_decimal numerals n fits
 
 natural_decimal : (n : ℕ) → n < 2 ^ 64 → natural (decimal n) ≡ Some n
-natural_decimal n fits = natural_read n (decimal n) (digits_read 0 (decimal n) (decimal_digits n fits) ∙ ap (λ (k : ℕ). Some k) (digits_value-decimal numerals n fits)) (decimal_nonempty n fits) (leads n fits)
+natural_decimal n fits =
+    natural_read n (decimal n) (digits_read 0 (decimal n) (decimal_digits n fits) ∙ ap (λ (k : ℕ). Some k) (digits_value-decimal numerals n fits))
+    (decimal_nonempty n fits) (leads n fits)
 
 decimal_natural : (n : ℕ) (ds : List ℕ) → n < 2 ^ 64 → natural ds ≡ Some n → ds ≡ decimal n
 decimal_natural n ds fits h =
@@ -101,7 +105,8 @@ kept limit n h = go (nat_le n limit) refl where
 plain : (n : ℕ) (ds : List ℕ) → n < 2 ^ 63 → all_digits ds ≡ true → natural ds ≡ Some n → number_of ds ≡ Some (pos n)
 plain n [] fits digits h = cc
 plain n (b ∷ bs) fits digits h = go (b == 45) refl where
-  go : (t : Bool) → b == 45 ≡ t → cond t (negative (upto 9223372036854775808 (natural bs))) (positive (upto 9223372036854775807 (natural (b ∷ bs)))) ≡ Some (pos n)
+  go : (t : Bool) → b == 45 ≡ t → cond t (negative (upto 9223372036854775808 (natural bs))) (positive (upto 9223372036854775807 (natural (b ∷ bs))))
+      ≡ Some (pos n)
   go true e =
       let minus : b ≡ 45 = grind arith in
       let wrong : false ≡ true = subst (λ (x : ℕ). all_digits (x ∷ bs) ≡ true) minus digits in
@@ -143,7 +148,8 @@ positive_only ds n (Some m) e h = go (nat_le m 9223372036854775807) refl h where
 pub written_number : (word : List ℕ) (n : ℤ) → number_of word ≡ Some n → (word ≡ signed_decimal n) × (mag n < 2 ^ 63)
 written_number [] n h = cc
 written_number (b ∷ bs) n h = go (b == 45) refl h where
-  go : (t : Bool) → b == 45 ≡ t → cond t (negative (upto 9223372036854775808 (natural bs))) (positive (upto 9223372036854775807 (natural (b ∷ bs)))) ≡ Some n → IsWritten (b ∷ bs) n
+  go : (t : Bool) → b == 45 ≡ t → cond t (negative (upto 9223372036854775808 (natural bs))) (positive (upto 9223372036854775807 (natural (b ∷ bs)))) ≡ Some n →
+      IsWritten (b ∷ bs) n
   go true e h =
       let minus : b ≡ 45 = grind arith in
       subst (λ (x : ℕ). IsWritten (x ∷ bs) n) (sym minus) (negative_only bs n (natural bs) refl h)

@@ -37,16 +37,20 @@ starts_step column b false later = starts_onto b column later
 starts : (column : ℕ) (bs : List ℕ) → stops_here bs ≡ false → StartsAt column (words_from column bs)
 starts column [] h = tt
 starts column (b ∷ bs) h =
-    let P : Bool → Type 0 = λ v. StartsAt column (cond v (words_from (column + 1) bs) (cond (stops_here bs) (word column (b ∷ []) ∷ words_from (column + 1) bs) (onto_word b column (words_from (column + 1) bs)))) in
+    let P : Bool → Type 0 =
+    λ v. StartsAt column (cond v (words_from (column + 1) bs)
+    (cond (stops_here bs) (word column (b ∷ []) ∷ words_from (column + 1) bs) (onto_word b column (words_from (column + 1) bs)))) in
     subst P (sym h) (starts_step column b (stops_here bs) (words_from (column + 1) bs))
 
-onto_placed : (column b : ℕ) (bs : List ℕ) (ws : List Piece) → StartsAt (column + 1) ws → AllByRecursion (IsPlaced (column + 1) bs) ws → AllByRecursion (IsPlaced column (b ∷ bs)) (onto_word b column ws)
+onto_placed : (column b : ℕ) (bs : List ℕ) (ws : List Piece) → StartsAt (column + 1) ws → AllByRecursion (IsPlaced (column + 1) bs) ws →
+    AllByRecursion (IsPlaced column (b ∷ bs)) (onto_word b column ws)
 onto_placed column b bs [] s h = h
 onto_placed column b bs (w ∷ ws) s h =
     let here : w.column - (column + 1) ≡ 0 = omega (arith, s) in
     let none : column - column ≡ 0 = omega arith in
     let text : w.text ≡ take (length w.text) bs = h.0.1 ∙ ap (λ (k : ℕ). take (length w.text) (drop k bs)) here in
-    let first : b ∷ w.text ≡ take (length (b ∷ w.text)) (drop (column - column) (b ∷ bs)) = ap (λ (x : List ℕ). b ∷ x) text ∙ ap (λ (k : ℕ). take (length (b ∷ w.text)) (drop k (b ∷ bs))) (sym none) in
+    let first : b ∷ w.text ≡ take (length (b ∷ w.text)) (drop (column - column) (b ∷ bs)) =
+    ap (λ (x : List ℕ). b ∷ x) text ∙ ap (λ (k : ℕ). take (length (b ∷ w.text)) (drop k (b ∷ bs))) (sym none) in
     ((omega arith, first), all_later column b bs ws h.1)
 
 one_placed : (column b : ℕ) (bs : List ℕ) → IsPlaced column (b ∷ bs) (word column (b ∷ []))
@@ -55,7 +59,9 @@ one_placed column b bs =
     (omega arith, ap (λ (k : ℕ). take 1 (drop k (b ∷ bs))) (sym none))
 
 word_step : (column b : ℕ) (bs : List ℕ) (blank stops : Bool) → stops_here bs ≡ stops → AllByRecursion (IsPlaced (column + 1) bs) (words_from (column + 1) bs) →
-    AllByRecursion (IsPlaced column (b ∷ bs)) (cond blank (words_from (column + 1) bs) (cond stops (word column (b ∷ []) ∷ words_from (column + 1) bs) (onto_word b column (words_from (column + 1) bs))))
+    AllByRecursion (IsPlaced column (b ∷ bs))
+    (cond blank (words_from (column + 1) bs)
+    (cond stops (word column (b ∷ []) ∷ words_from (column + 1) bs) (onto_word b column (words_from (column + 1) bs))))
 word_step column b bs true stops e later = all_later column b bs (words_from (column + 1) bs) later
 word_step column b bs false true e later = (one_placed column b bs, all_later column b bs (words_from (column + 1) bs) later)
 word_step column b bs false false e later = onto_placed column b bs (words_from (column + 1) bs) (starts (column + 1) bs e) later
@@ -80,7 +86,8 @@ onto_stands b bs (line ∷ lines) e h =
 cr_stands : (b : ℕ) (bs : List ℕ) → is_lf b ≡ false → ends_here bs ≡ true → StandIn bs (lines_of bs) → StandIn (b ∷ bs) (lines_of bs)
 cr_stands b [] e end h = tt
 cr_stands b (c ∷ cs) e end h =
-    let cut : lines_of (c ∷ cs) ≡ [] ∷ lines_of cs = ap (λ v. cond v ([] ∷ lines_of cs) (cond (cond (c == 13) (ends_here cs) false) (lines_of cs) (onto_line c (lines_of cs)))) end in
+    let cut : lines_of (c ∷ cs) ≡ [] ∷ lines_of cs =
+    ap (λ v. cond v ([] ∷ lines_of cs) (cond (cond (c == 13) (ends_here cs) false) (lines_of cs) (onto_line c (lines_of cs)))) end in
     let same : after_lf (b ∷ c ∷ cs) ≡ after_lf (c ∷ cs) = ap (λ v. cond v (c ∷ cs) (after_lf (c ∷ cs))) e in
     let both : StandIn (c ∷ cs) ([] ∷ lines_of cs) = subst (λ (x : List (List ℕ)). StandIn (c ∷ cs) x) cut h in
     let goal : StandIn (b ∷ c ∷ cs) ([] ∷ lines_of cs) = (refl, subst (λ (x : List ℕ). StandIn x (lines_of cs)) (sym same) both.1) in
@@ -114,24 +121,31 @@ part_of_part (b ∷ word) (suc k) zero text h = cc
 part_of_part word (suc k) (suc m) [] h = h
 part_of_part word (suc k) (suc m) (c ∷ cs) h = part_of_part word k m cs h
 
-slice : (text line whole : List ℕ) (number : ℕ) (w : Piece) → line ≡ take (length line) text → past_lines (number - 1) whole ≡ text → IsPlaced 1 line w → IsSlice whole number w
+slice : (text line whole : List ℕ) (number : ℕ) (w : Piece) → line ≡ take (length line) text → past_lines (number - 1) whole ≡ text → IsPlaced 1 line w →
+    IsSlice whole number w
 slice text line whole number w line_is text_is h =
-    let inside : w.text ≡ take (length w.text) (drop (w.column - 1) (take (length line) text)) = h.1 ∙ ap (λ (x : List ℕ). take (length w.text) (drop (w.column - 1) x)) line_is in
+    let inside : w.text ≡ take (length w.text) (drop (w.column - 1) (take (length line) text)) =
+    h.1 ∙ ap (λ (x : List ℕ). take (length w.text) (drop (w.column - 1) x)) line_is in
     part_of_part w.text (w.column - 1) (length line) text inside ∙ ap (λ (x : List ℕ). take (length w.text) (drop (w.column - 1) x)) (sym text_is)
 
-slices : (text line whole : List ℕ) (number : ℕ) (ws : List Piece) → line ≡ take (length line) text → past_lines (number - 1) whole ≡ text → AllByRecursion (IsPlaced 1 line) ws → AllByRecursion (IsSlice whole number) ws
+slices : (text line whole : List ℕ) (number : ℕ) (ws : List Piece) → line ≡ take (length line) text → past_lines (number - 1) whole ≡ text →
+    AllByRecursion (IsPlaced 1 line) ws → AllByRecursion (IsSlice whole number) ws
 slices text line whole number [] line_is text_is h = tt
-slices text line whole number (w ∷ ws) line_is text_is h = (slice text line whole number w line_is text_is h.0, slices text line whole number ws line_is text_is h.1)
+slices text line whole number (w ∷ ws) line_is text_is h =
+    (slice text line whole number w line_is text_is h.0, slices text line whole number ws line_is text_is h.1)
 
-row_step : (whole : List ℕ) (number : ℕ) (words : List Piece) (skipped : Bool) (later : List Row) → AllByRecursion (IsSlice whole number) words → AreSlices whole later → AreSlices whole (cond skipped later (record { number = number; words = words } ∷ later))
+row_step : (whole : List ℕ) (number : ℕ) (words : List Piece) (skipped : Bool) (later : List Row) → AllByRecursion (IsSlice whole number) words →
+    AreSlices whole later → AreSlices whole (cond skipped later (record { number = number; words = words } ∷ later))
 row_step whole number words true later h k = k
 row_step whole number words false later h k = (h, k)
 
-rows : (text whole : List ℕ) (number : ℕ) (lines : List (List ℕ)) → 1 ≤ number → past_lines (number - 1) whole ≡ text → StandIn text lines → AreSlices whole (rows_from number lines)
+rows : (text whole : List ℕ) (number : ℕ) (lines : List (List ℕ)) → 1 ≤ number → past_lines (number - 1) whole ≡ text → StandIn text lines →
+    AreSlices whole (rows_from number lines)
 rows text whole number [] some text_is h = tt
 rows text whole number (line ∷ lines) some text_is h =
     let later : number + 1 - 1 ≡ suc (number - 1) = omega (arith, some) in
-    let rest : AreSlices whole (rows_from (number + 1) lines) = rows (after_lf text) whole (number + 1) lines (omega arith) (ap (λ (k : ℕ). past_lines k whole) later ∙ ap after_lf text_is) h.1 in
+    let rest : AreSlices whole (rows_from (number + 1) lines) =
+    rows (after_lf text) whole (number + 1) lines (omega arith) (ap (λ (k : ℕ). past_lines k whole) later ∙ ap after_lf text_is) h.1 in
     let here : AllByRecursion (IsSlice whole number) (words_of line) = slices text line whole number (words_of line) h.0 text_is (placed 1 line) in
     elim (is_text line) as (λ v. AreSlices whole (cond v (row_onto number (words_of line) (rows_from (number + 1) lines)) [])) [
       | true ↦ row_step whole number (words_of line) (is_skipped (words_of line)) (rows_from (number + 1) lines) here rest

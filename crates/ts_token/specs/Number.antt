@@ -32,4 +32,6 @@ negative (Some (suc n)) = Some (negsuc n)
 -- an optional '-' and digits without a leading zero, within 64 signed bits
 abbrev pub number_of : List ℕ → Option ℤ
 number_of [] = None
-number_of (b ∷ bs) = if b == 45 then negative (upto 9223372036854775808 (natural bs)) else positive (upto 9223372036854775807 (natural (b ∷ bs)))
+number_of (b ∷ bs) =
+    if b == 45 then negative (upto 9223372036854775808 (natural bs))
+    else positive (upto 9223372036854775807 (natural (b ∷ bs)))

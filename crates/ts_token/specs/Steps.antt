@@ -22,7 +22,8 @@ pub record IsNext (column : ℕ) (rest : List ℕ) (next : NextWord) : Type 0 wh
 abbrev pub with_text : Cut → List ℕ → Option ℕ → Cut
 with_text c line (Some bad) = record { rows = c.rows; count = c.count + 1; not_text = Some bad }
 with_text c line None =
-    if is_text line then record { rows = c.rows ++ row_onto (c.count + 1) (words_of line) []; count = c.count + 1; not_text = None }
+    if is_text line
+    then record { rows = c.rows ++ row_onto (c.count + 1) (words_of line) []; count = c.count + 1; not_text = None }
     else record { rows = c.rows; count = c.count + 1; not_text = Some (c.count + 1) }
 
 -- the cut of one more line

@@ -80,7 +80,8 @@ row_onto number words rows = if is_skipped words then rows else record { number 
 -- the unskipped lines before the first that isn't text, where the first line has this number
 abbrev pub rows_from : ℕ → List (List ℕ) → List Row
 rows_from number [] = []
-rows_from number (line ∷ lines) = if is_text line then row_onto number (words_of line) (rows_from (number + 1) lines) else []
+rows_from number (line ∷ lines) =
+    if is_text line then row_onto number (words_of line) (rows_from (number + 1) lines) else []
 
 -- the number of the first line that isn't text
 abbrev pub not_text_from : ℕ → List (List ℕ) → Option ℕ

@@ -10,7 +10,8 @@ none_without : (text : List ℕ) (o : Option (List ℕ)) → without_lf text ≡
 none_without text None e h = e
 none_without text (Some line) e h = absurd (h line (lf_is text line e))
 
-is_stripped : (text lf : List ℕ) (r : Option (Bor (List ℕ))) → lf ≡ 10 ∷ [] → MatchOption r ((front : List ℕ) → text ≡ front ++ lf → ⊥) (λ x. text ≡ x.now ++ lf) →
+is_stripped : (text lf : List ℕ) (r : Option (Bor (List ℕ))) → lf ≡ 10 ∷ [] →
+    MatchOption r ((front : List ℕ) → text ≡ front ++ lf → ⊥) (λ x. text ≡ x.now ++ lf) →
     MatchOption r (without_lf text ≡ None) (λ line. without_lf text ≡ Some line.now)
 is_stripped text lf None is h = none_without text (without_lf text) refl (λ front e. h front (e ∙ ap (λ (x : List ℕ). front ++ x) (sym is)))
 is_stripped text lf (Some x) is h = ap without_lf (h ∙ ap (λ (y : List ℕ). x.now ++ y) is) ∙ lf_again x.now

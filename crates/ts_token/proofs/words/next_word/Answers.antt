@@ -13,7 +13,9 @@ returns-then-is_empty-clause-none c =
 
 pub returns-clause-some : goal.returns-clause-some
 returns-clause-some c = record {
-  words = next_found c.args.column c.unwrap_or-blanks.result c.unwrap_or-len.result c.args.rest.now c.split_at.result.1.now c.split_at-2.result.0.now c.split_at-2.result.1.now
+  words =
+      next_found c.args.column c.unwrap_or-blanks.result c.unwrap_or-len.result c.args.rest.now c.split_at.result.1.now c.split_at-2.result.0.now
+      c.split_at-2.result.1.now
       (c.unwrap_or-blanks.ensures ∙ ap (λ o. unwrap_or o (length c.args.rest.now)) c.solid_at.ensures)
       c.split_at.ensures.back
       (grind (arith, nat_tests))
