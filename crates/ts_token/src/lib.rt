@@ -11,11 +11,11 @@
 //! ```
 #![tactic(auto)]
 
-pub mod lines;
-pub mod numbers;
-pub mod parts;
-pub mod tokens;
-pub mod words;
+mod lines;
+mod numbers;
+mod parts;
+mod tokens;
+mod words;
 
 pub use numbers::number;
 pub use parts::{Parts, cut_parts};

@@ -5,13 +5,14 @@ ghost use Rattle.std.specs.Int.{w64};
 ghost use Rattle.std.specs.Fmt.{signed_decimal};
 ghost use Rattle.ts_token.specs.Number.{is_digit, digits_from, natural, upto, negative, number_of};
 
+/// From `0` to `9`.
 fn is_digit(b: u8) -> bool
     ensures { result ≡ is_digit b }
 {
     b >= b'0' && b <= b'9'
 }
 
-/// The number of the digits, if they are digits and it is at most the limit.
+/// The number that the bytes write, where all are digits and it is at most the limit.
 fn digits_value(digits: &[u8], limit: u64) -> Option<u64>
     ensures { result ≡ upto limit (digits_from 0 digits.now) }
 {
@@ -29,7 +30,7 @@ fn digits_value(digits: &[u8], limit: u64) -> Option<u64>
     Some(value)
 }
 
-/// The same of one digit or more, without a leading zero.
+/// The number that one digit or more write without a leading zero, where it is at most the limit.
 fn natural(digits: &[u8], limit: u64) -> Option<u64>
     ensures { result ≡ upto limit (natural digits.now) }
 {
@@ -49,7 +50,7 @@ fn negative(digits: &[u8]) -> Option<i64>
     }
 }
 
-/// The number of an optional `-` and digits.
+/// The number that an optional `-` and digits write.
 fn signed(word: &[u8]) -> Option<i64>
     ensures { result ≡ number_of word.now }
 {
@@ -59,7 +60,7 @@ fn signed(word: &[u8]) -> Option<i64>
     if word[0] == b'-' {
         return negative(&word[1..]);
     }
-    match natural(word, 9223372036854775807) {
+    match natural(word, i64::MAX as u64) {
         Some(n) => Some(n as i64),
         None => None,
     }

@@ -7,14 +7,15 @@ ghost use Rattle.ts_token.specs.Views.{parts};
 use crate::lines::{first_line, lf_at};
 use crate::words::next_word;
 
-/// The bytes before the first line whose only word is `%%`, and those after it, if it stands.
+/// The bytes before the first line whose only word is `%%`, and the bytes after that line. Where there is no such line,
+/// `model` is the whole text and `rest` is None.
 #[derive(Clone, Copy, Debug)]
 pub struct Parts<'a> {
     pub model: &'a [u8],
     pub rest: Option<&'a [u8]>,
 }
 
-/// How many bytes the first line has with its end.
+/// The number of bytes of the first line with its end.
 fn line_end(text: &[u8]) -> usize
     requires { 0 < length text.now }
     ensures within { result ≤ length text.now }
@@ -27,7 +28,7 @@ fn line_end(text: &[u8]) -> usize
     }
 }
 
-/// The only word of a line, given with its end, is `%%`.
+/// Whether `%%` is the only word of a line, which is given with its end.
 fn is_separator(chunk: &[u8]) -> bool
     requires some { 0 < length chunk.now }
     requires short { length chunk.now < 4000000000 }
@@ -43,7 +44,7 @@ fn is_separator(chunk: &[u8]) -> bool
     }
 }
 
-/// The parts of a text of fewer than 4,000,000,000 bytes: all of it is the first where no line `%%` stands.
+/// The parts of a text of fewer than 4,000,000,000 bytes.
 pub fn cut_parts<'a>(text: &'a [u8]) -> Parts<'a>
     requires { length text.now < 4000000000 }
     ensures { parts result ≡ halves_of text.now }

@@ -8,7 +8,7 @@ use std::test::Fail;
 type Place = (u32, u32, &'static str);
 
 /// A text, its words, the number of its lines, and the first line that isn't text.
-static TEXTS: [(&str, &[Place], u32, Option<u32>); 37] = [
+static TEXTS: [(&str, &[Place], u32, Option<u32>); 38] = [
     ("", &[], 0, None),
     ("a", &[(1, 1, "a")], 1, None),
     ("a\n", &[(1, 1, "a")], 1, None),
@@ -36,6 +36,7 @@ static TEXTS: [(&str, &[Place], u32, Option<u32>); 37] = [
     ("#\0\na", &[], 2, Some(1)),
     ("a #b", &[(1, 1, "a"), (1, 3, "#b")], 1, None),
     ("a#b", &[(1, 1, "a#b")], 1, None),
+    (";a\n", &[(1, 1, ";a")], 1, None),
     ("a\n\n \t\nb", &[(1, 1, "a"), (4, 1, "b")], 4, None),
     ("a\n\r\nb", &[(1, 1, "a"), (3, 1, "b")], 3, None),
     ("x %%\n", &[(1, 1, "x"), (1, 3, "%%")], 1, None),

@@ -26,6 +26,7 @@ pub struct Tokens<'a> {
     pub not_text: Option<u32>,
 }
 
+/// All bytes are from ` ` to `~`, or tabs.
 #[tactic(auto, unfolding(crate::specs::Text::is_plain))]
 fn is_text(line: &[u8]) -> bool
     ensures { result ≡ is_text line.now }
@@ -67,7 +68,8 @@ fn take_line<'a>(alloc: Global, tokens: &mut Tokens<'a>, line: &'a [u8]) -> Resu
     Ok(())
 }
 
-/// The lines and words of a text of fewer than 4,000,000,000 bytes, in one pass; each word is lent from the text.
+/// The lines and words of a text of fewer than 4,000,000,000 bytes, in time in proportion to it; each word is lent from
+/// the text.
 pub fn cut_tokens<'a>(alloc: Global, text: &'a [u8]) -> Result<Tokens<'a>, Memory>
     requires { length text.now < 4000000000 }
     ensures tokens { IfOk result (λ tokens. cut tokens ≡ cut_of text.now) }

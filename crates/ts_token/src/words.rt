@@ -24,6 +24,7 @@ pub(crate) struct NextWord<'a> {
     pub column: u32,
 }
 
+/// A space or a tab.
 #[tactic(auto, unfolding(crate::specs::Text::is_blank))]
 fn is_blank(b: u8) -> bool
     ensures { result ≡ is_blank b }
