@@ -44,12 +44,14 @@ pub fn has_longer(r: &Regex) -> bool
 #[tactic(auto, using(crate::proofs::Laws::derivative_law))]
 pub fn derive(alloc: Global, r: &Regex, l: Letter) -> Result<Regex, Memory>
     ensures exact { IfOk result (λ d. shape_of d ≡ derivative (shape_of r.now) l) }
-    ensures language { IfOk result (λ d. (w : List Letter) → InLanguage (shape_of d) w ↔ InLanguage (shape_of r.now) (l ∷ w)) }
+    ensures language { IfOk result (λ d. (w : List Letter) →
+        InLanguage (shape_of d) w ↔ InLanguage (shape_of r.now) (l ∷ w)) }
 {
-    Ok(r.after(alloc, l)?)
+    r.after(alloc, l)
 }
 
 impl Regex {
+    /// Whether the empty word is a word.
     fn accepts_empty(&self) -> bool
         ensures { result ≡ nullable (shape_of self.now) }
     {
@@ -61,6 +63,7 @@ impl Regex {
         }
     }
 
+    /// Whether there is a word.
     fn accepts_some(&self) -> bool
         ensures { result ≡ has_word (shape_of self.now) }
     {
@@ -72,6 +75,7 @@ impl Regex {
         }
     }
 
+    /// Whether there is a word of at least one letter.
     fn accepts_longer(&self) -> bool
         ensures { result ≡ has_longer (shape_of self.now) }
     {
@@ -85,7 +89,7 @@ impl Regex {
         }
     }
 
-    // What is left to read after `l`.
+    /// What is left to read after `l`.
     fn after(&self, alloc: Global, l: Letter) -> Result<Regex, Memory>
         ensures { IfOk result (λ d. shape_of d ≡ derivative (shape_of self.now) l) }
     {
@@ -95,13 +99,13 @@ impl Regex {
             Regex::Cat(r, s) => {
                 let first = cat(alloc, r.after(alloc, l)?, s.copy(alloc)?)?;
                 if r.accepts_empty() {
-                    Ok(alt(alloc, first, s.after(alloc, l)?)?)
+                    alt(alloc, first, s.after(alloc, l)?)
                 } else {
                     Ok(first)
                 }
             }
-            Regex::Alt(r, s) => Ok(alt(alloc, r.after(alloc, l)?, s.after(alloc, l)?)?),
-            Regex::Star(r) => Ok(cat(alloc, r.after(alloc, l)?, self.copy(alloc)?)?),
+            Regex::Alt(r, s) => alt(alloc, r.after(alloc, l)?, s.after(alloc, l)?),
+            Regex::Star(r) => cat(alloc, r.after(alloc, l)?, self.copy(alloc)?),
         }
     }
 }

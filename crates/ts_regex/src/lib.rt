@@ -11,24 +11,26 @@
 //! meant for callers stand in `proofs/Laws`.
 //!
 //! A derivative doubles a `Cat` whose first part has the empty word, so whoever reads many letters takes the normal
-//! form after each one. It removes the repeats, and what is left keeps its size:
+//! form after each one. It removes the repeats, and is meant to keep small what is left (its size is not proved):
 //!
 //! ```text
 //! let left = residual(alloc, &pattern, Letter::Less)?;
 //! let ends_here = nullable(&left);
 //! ```
+//!
+//! Each call, and the drop of an expression, goes as deep into the stack as the expression is nested.
 #![tactic(auto)]
 
-pub mod derivative;
-pub mod membership;
-pub mod normal_form;
-pub mod order;
+mod derivative;
+mod membership;
+mod normal_form;
+mod order;
 pub mod regex;
 
 pub use derivative::{derive, has_longer, has_word, nullable};
 pub use membership::member;
 pub use normal_form::{normal, residual};
-pub use regex::Regex;
+pub use regex::{Regex, alt, cat, star};
 
 #[cfg(test)]
 mod tests;

@@ -10,7 +10,7 @@ use crate::regex::Regex;
 use std::alloc::Global;
 use ts_base::{Letter, Memory};
 
-/// Whether `w` is in the language. Each letter is read once; what is left is simplified after it, so that it stays small.
+/// Whether `w` is in the language. Each letter is read once, and what is left is simplified after it.
 pub fn member(alloc: Global, r: &Regex, w: &[Letter]) -> Result<bool, Memory>
     ensures { IfOk result (λ b. IsTrue b ↔ InLanguage (shape_of r.now) w.now) }
 {

@@ -1,5 +1,5 @@
-//! Normal forms: expressions that differ in brackets, order and repeats alone get one form, so that a word read
-//! letter by letter leaves expressions of bounded size.
+//! Normal forms, of the same language: meant to give one form to expressions that differ in brackets, order and repeats
+//! alone, so that what a word leaves, read letter by letter, doesn't grow with it. Proved is the language.
 
 ghost use Rattle.std.specs.Prelude.{◌≡◌, ◌↔◌, ◌≤◌, List, ◌∷◌, map, length, IfOk, OnOk, MatchResult};
 ghost use Rattle.std.specs.List.{insert};
@@ -18,9 +18,10 @@ use ts_base::{Letter, Memory};
 #[tactic(auto, using(crate::proofs::Laws::normal_law))]
 pub fn normal(alloc: Global, r: &Regex) -> Result<Regex, Memory>
     ensures exact { IfOk result (λ n. shape_of n ≡ normal_form (shape_of r.now)) }
-    ensures language { IfOk result (λ n. (w : List Letter) → InLanguage (shape_of n) w ↔ InLanguage (shape_of r.now) w) }
+    ensures language { IfOk result (λ n. (w : List Letter) →
+        InLanguage (shape_of n) w ↔ InLanguage (shape_of r.now) w) }
 {
-    Ok(r.simplified(alloc)?)
+    r.simplified(alloc)
 }
 
 /// What a letter leaves of an expression, in normal form: its words are those that with `l` before them are words of
@@ -28,13 +29,15 @@ pub fn normal(alloc: Global, r: &Regex) -> Result<Regex, Memory>
 #[tactic(auto, using(crate::proofs::Laws::residual_law))]
 pub fn residual(alloc: Global, r: &Regex, l: Letter) -> Result<Regex, Memory>
     ensures exact { IfOk result (λ d. shape_of d ≡ residual (shape_of r.now) l) }
-    ensures language { IfOk result (λ d. (w : List Letter) → InLanguage (shape_of d) w ↔ InLanguage (shape_of r.now) (l ∷ w)) }
+    ensures language { IfOk result (λ d. (w : List Letter) →
+        InLanguage (shape_of d) w ↔ InLanguage (shape_of r.now) (l ∷ w)) }
 {
     let rest = derive(alloc, r, l)?;
     normal(alloc, &rest)
 }
 
 impl Regex {
+    /// The normal form.
     fn simplified(&self, alloc: Global) -> Result<Regex, Memory>
         ensures { IfOk result (λ n. shape_of n ≡ normal_form (shape_of self.now)) }
     {
@@ -42,16 +45,17 @@ impl Regex {
             Regex::Empty => Ok(Regex::Empty),
             Regex::Eps => Ok(Regex::Eps),
             Regex::One(l) => Ok(Regex::One(*l)),
-            Regex::Cat(r, s) => Ok(normal_cat(alloc, r.simplified(alloc)?, s.simplified(alloc)?)?),
-            Regex::Alt(r, s) => Ok(normal_alt(alloc, r.simplified(alloc)?, s.simplified(alloc)?)?),
-            Regex::Star(r) => Ok(normal_star(alloc, r.simplified(alloc)?)?),
+            Regex::Cat(r, s) => normal_cat(alloc, r.simplified(alloc)?, s.simplified(alloc)?),
+            Regex::Alt(r, s) => normal_alt(alloc, r.simplified(alloc)?, s.simplified(alloc)?),
+            Regex::Star(r) => normal_star(alloc, r.simplified(alloc)?),
         }
     }
 
-    // Puts the members that aren't unions into their places.
+    /// Puts the members that aren't unions into their places.
     #[tactic(auto, using(crate::proofs::Members::all_append))]
     fn collect_members(self, found: &mut Vec<Regex>) -> Result<(), Memory>
-        ensures { OnOk result (map shape_of found.new.items ≡ inserted_all (members (shape_of self)) (map shape_of found.old.items)) }
+        ensures { OnOk result (map shape_of found.new.items
+            ≡ inserted_all (members (shape_of self)) (map shape_of found.old.items)) }
     {
         match self {
             Regex::Empty => Ok(()),
@@ -59,34 +63,34 @@ impl Regex {
                 Box::into_inner(s).collect_members(found)?;
                 Box::into_inner(r).collect_members(found)
             }
-            member => Ok(insert_member(found, member)?),
+            member => insert_member(found, member),
         }
     }
 }
 
-// The Cat of two normal forms.
+/// The Cat of two normal forms.
 fn normal_cat(alloc: Global, r: Regex, s: Regex) -> Result<Regex, Memory>
     ensures { IfOk result (λ n. shape_of n ≡ normal_concat (shape_of r) (shape_of s)) }
 {
     match r {
         Regex::Empty => Ok(Regex::Empty),
         Regex::Eps => Ok(s),
-        first => Ok(follow(alloc, first, s)?),
+        first => follow(alloc, first, s),
     }
 }
 
-// `r`, which is neither Empty nor Eps, followed by `s`.
+/// `r`, which is neither Empty nor Eps, followed by `s`.
 fn follow(alloc: Global, r: Regex, s: Regex) -> Result<Regex, Memory>
     ensures { IfOk result (λ n. shape_of n ≡ followed (shape_of r) (shape_of s)) }
 {
     match s {
         Regex::Empty => Ok(Regex::Empty),
         Regex::Eps => Ok(r),
-        second => Ok(chain(alloc, r, second)?),
+        second => chain(alloc, r, second),
     }
 }
 
-// `r` followed by `t`, nested to the right.
+/// `r` followed by `t`, nested to the right.
 fn chain(alloc: Global, r: Regex, t: Regex) -> Result<Regex, Memory>
     ensures { IfOk result (λ n. shape_of n ≡ chained (shape_of r) (shape_of t)) }
 {
@@ -95,23 +99,23 @@ fn chain(alloc: Global, r: Regex, t: Regex) -> Result<Regex, Memory>
             first,
             Box::new(alloc, chain(alloc, Box::into_inner(rest), t)?)?,
         )),
-        first => Ok(cat(alloc, first, t)?),
+        first => cat(alloc, first, t),
     }
 }
 
-// The Alt of two normal forms.
+/// The Alt of two normal forms.
 fn normal_alt(alloc: Global, r: Regex, s: Regex) -> Result<Regex, Memory>
     ensures { IfOk result (λ n. shape_of n ≡ normal_union (shape_of r) (shape_of s)) }
 {
     let mut found = Vec::new(alloc);
     s.collect_members(&mut found)?;
     r.collect_members(&mut found)?;
-    Ok(nest(alloc, found)?)
+    nest(alloc, found)
 }
 
-// Puts `r` into its place among sorted members, unless it stands there. The place is found from the front, so m members
-// may take m * m / 2 comparisons. That doesn't matter: a residual of the catalogue's patterns has at most three members,
-// and those of a part, which are sorted, come last first, with one comparison each where they stand before all others.
+/// Puts `r` into its place among sorted members, unless it stands there. The place is found from the front, so m
+/// members may take m * m / 2 comparisons. That is quick enough: a residual has at most about as many members as the
+/// expression has letters.
 fn insert_member(found: &mut Vec<Regex>, r: Regex) -> Result<(), Memory>
     ensures { OnOk result (map shape_of found.new.items ≡ inserted (shape_of r) (map shape_of found.old.items)) }
 {
@@ -121,10 +125,12 @@ fn insert_member(found: &mut Vec<Regex>, r: Regex) -> Result<(), Memory>
     Ok(())
 }
 
-// Where `r` stands among sorted members, or else where it belongs.
+/// Where `r` stands among sorted members, or else where it belongs.
 fn place_of(found: &[Regex], r: &Regex) -> Result<usize, usize>
     ensures { MatchResult result (λ k. inserted (shape_of r.now) (map shape_of found.now) ≡ map shape_of found.now)
-        (λ k. (k ≤ length found.now) × (inserted (shape_of r.now) (map shape_of found.now) ≡ insert (map shape_of found.now) k (shape_of r.now))) }
+        (λ k. (k ≤ length found.now)
+        × (inserted (shape_of r.now) (map shape_of found.now)
+        ≡ insert (map shape_of found.now) k (shape_of r.now))) }
 {
     for k in 0..found.len() {
         match r.compare(&found[k]) {
@@ -136,7 +142,7 @@ fn place_of(found: &[Regex], r: &Regex) -> Result<usize, usize>
     Err(found.len())
 }
 
-// The union of the members, nested to the right.
+/// The union of the members, nested to the right.
 fn nest(alloc: Global, mut found: Vec<Regex>) -> Result<Regex, Memory>
     ensures { IfOk result (λ n. shape_of n ≡ nested (map shape_of found.items)) }
 {
@@ -150,13 +156,13 @@ fn nest(alloc: Global, mut found: Vec<Regex>) -> Result<Regex, Memory>
     Ok(union)
 }
 
-// The Star of a normal form.
+/// The Star of a normal form.
 fn normal_star(alloc: Global, r: Regex) -> Result<Regex, Memory>
     ensures { IfOk result (λ n. shape_of n ≡ normal_repeat (shape_of r)) }
 {
     match r {
         Regex::Empty | Regex::Eps => Ok(Regex::Eps),
         Regex::Star(inner) => Ok(Regex::Star(inner)),
-        once => Ok(star(alloc, once)?),
+        once => star(alloc, once),
     }
 }

@@ -33,6 +33,7 @@ impl Regex {
         }
     }
 
+    /// The place of the variant in the declaration.
     fn rank(&self) -> u8
         ensures { result ≡ shape_rank (shape_of self.now) }
     {

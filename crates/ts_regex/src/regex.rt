@@ -32,9 +32,9 @@ impl Regex {
             Regex::Empty => Ok(Regex::Empty),
             Regex::Eps => Ok(Regex::Eps),
             Regex::One(l) => Ok(Regex::One(*l)),
-            Regex::Cat(r, s) => Ok(cat(alloc, r.copy(alloc)?, s.copy(alloc)?)?),
-            Regex::Alt(r, s) => Ok(alt(alloc, r.copy(alloc)?, s.copy(alloc)?)?),
-            Regex::Star(r) => Ok(star(alloc, r.copy(alloc)?)?),
+            Regex::Cat(r, s) => cat(alloc, r.copy(alloc)?, s.copy(alloc)?),
+            Regex::Alt(r, s) => alt(alloc, r.copy(alloc)?, s.copy(alloc)?),
+            Regex::Star(r) => star(alloc, r.copy(alloc)?),
         }
     }
 }
