@@ -5,6 +5,7 @@ use crate::{
     Span, StdIn, StdOut, first_line, flip, letter_of, push_ext, push_number, read_all, without_lf,
     words_of, write_all,
 };
+use std::alloc::Global;
 use std::io;
 use std::process::Abort;
 use std::test::Fail;
@@ -101,18 +102,29 @@ fn expect_spans(rt: &impl Abort) {
     assert!(rt; !Span::none().contains(Ext::PosInf) && !Span::none().contains(Ext::NegInf));
 }
 
-#[test]
-fn calls_succeed(rt: HostRuntime) -> Result<(), Fail> {
-    let alloc = rt.alloc();
+/// The text that numbers write.
+fn written(alloc: Global) -> Result<Vec<u8>, Fail> {
     let mut text = Vec::from_slice(alloc, b"x ")?;
     push_number(&mut text, -120)?;
     push_ext(&mut text, Ext::NegInf)?;
     push_ext(&mut text, Ext::Int(7).plus(Ext::Int(-5)))?;
     push_ext(&mut text, Ext::PosInf)?;
+    Ok(text)
+}
+
+#[test]
+fn values_are_meant(rt: HostRuntime) -> Result<(), Fail> {
+    let text = written(rt.alloc())?;
     assert_eq!(rt; text.as_slice(), b"x -120-inf2+inf".as_slice());
     expect_letters_and_sums(&rt);
     expect_spans(&rt);
+    Ok(())
+}
 
+#[test]
+fn reads_succeed(rt: HostRuntime) -> Result<(), Fail> {
+    let alloc = rt.alloc();
+    let text = written(alloc)?;
     let mut source = MemorySource::new(text.clone()?, 4, vec![in alloc; 2]?);
     assert_eq!(rt; read_all(alloc, &mut source, 99), Err(ReadStop::ReadFault));
     let rest = read_all(alloc, &mut source, 99)?;
@@ -126,16 +138,28 @@ fn calls_succeed(rt: HostRuntime) -> Result<(), Fail> {
     assert_eq!(rt; rest.as_slice(), b"-inf2+inf".as_slice());
     assert_eq!(rt; source.read(&mut into), Err(Failed));
 
+    let mut never = NeverSource::new(rest.clone()?);
+    let all = read_all(alloc, &mut never, 9)?;
+    assert_eq!(rt; all.as_slice(), rest.as_slice());
+
+    let mut input = StdIn::new(rest.as_slice());
+    assert_eq!(rt; input.read(&mut into), Ok(3));
+    assert_eq!(rt; into.as_slice(), b"-in".as_slice());
+    Ok(())
+}
+
+#[test]
+fn writes_succeed(rt: HostRuntime) -> Result<(), Fail> {
+    let alloc = rt.alloc();
+    let text = b"-inf2+inf".as_slice();
     let mut sink = MemorySink::new(alloc, 4, vec![in alloc; 3, 5]?);
-    assert_eq!(rt; write_all(&mut sink, &rest), Err(Failed));
+    assert_eq!(rt; write_all(&mut sink, text), Err(Failed));
     assert_eq!(rt; sink.bytes(), b"-inf2+in".as_slice());
     assert_eq!(rt; sink.finish(), Ok(()));
     assert_eq!(rt; sink.finish(), Err(Failed));
 
-    let mut never = NeverSource::new(rest.clone()?);
-    let all = read_all(alloc, &mut never, 9)?;
     let mut kept = NeverSink::new(Vec::with_capacity(alloc, 4)?);
-    assert_eq!(rt; write_all(&mut kept, &all), Ok(()));
+    assert_eq!(rt; write_all(&mut kept, text), Ok(()));
     assert_eq!(rt; kept.finish(), Ok(()));
     assert_eq!(rt; kept.kept(), b"-inf".as_slice());
 
@@ -145,9 +169,6 @@ fn calls_succeed(rt: HostRuntime) -> Result<(), Fail> {
     assert_eq!(rt; write_all(&mut sink, &large), Ok(()));
     assert_eq!(rt; sink.bytes(), large.as_slice());
 
-    let mut input = StdIn::new(rest.as_slice());
-    assert_eq!(rt; input.read(&mut into), Ok(3));
-    assert_eq!(rt; into.as_slice(), b"-in".as_slice());
     let mut output = StdOut::new(io::sink());
     assert_eq!(rt; output.write(b"text"), Ok(4));
     assert_eq!(rt; output.finish(), Ok(()));
