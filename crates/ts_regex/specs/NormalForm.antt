@@ -1,5 +1,5 @@
--- One form for expressions that differ in brackets, order and repeats alone, so that derivatives are finitely many
--- (Brzozowski 1964, "similar" expressions).
+-- The normal form, meant to be one for expressions that differ in brackets, order and repeats alone (Brzozowski 1964,
+-- "similar" expressions).
 use Rattle.std.specs.Prelude.{ℕ, Bool, List, [], ◌∷◌, ◌++◌}
 use Rattle.std.specs.declared.cmp.Ordering.{Ordering}
 use Rattle.std.specs.declared.cmp.Ordering.TheVariants.{Less as Before, Equal as Same, Greater as After}
