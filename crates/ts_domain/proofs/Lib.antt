@@ -1,5 +1,6 @@
 pub mod Runs
 pub mod Ranges
+pub mod Steps
 pub mod Unions
 pub mod Joins
 pub mod Readings

@@ -4,3 +4,4 @@ pub mod Parts
 pub mod Trail
 pub mod Union
 pub mod Values
+pub mod Walk

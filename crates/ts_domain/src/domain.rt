@@ -9,6 +9,7 @@ ghost use Rattle.ts_domain.specs.Values.{IsDomain, WithinLimits, values_of, AreR
 
 use crate::interval::Interval;
 use crate::keep::Keep;
+use crate::values::{Values, walk};
 use smallvec::SmallVec;
 use std::alloc::Global;
 use std::marker::Model;
@@ -114,6 +115,13 @@ impl Domain {
             left -= count;
         }
         unreachable!()
+    }
+
+    /// The numbers in rising order, each at the same cost.
+    pub fn values<'a>(&'a self) -> Values<'a>
+        ensures { result ≡ self.now }
+    {
+        walk(self.ranges.as_slice())
     }
 
     /// Whether there is one number alone.

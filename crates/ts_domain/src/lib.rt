@@ -24,10 +24,12 @@ mod domain;
 mod interval;
 mod keep;
 pub mod laws;
+mod values;
 
 pub use boxed::Boxed;
 pub use domain::{Domain, DomainStop};
 pub use interval::Interval;
+pub use values::Values;
 
 #[cfg(test)]
 mod tests;

@@ -80,6 +80,19 @@ fn union(
     Domain::from_ranges(alloc, lows, highs)
 }
 
+/// The walk gives so many numbers, each of the set and above the one before.
+fn expect_walk(rt: &impl Abort, domain: &Domain, count: u64) {
+    let mut seen = 0_u64;
+    let mut last = None;
+    for value in domain.values() {
+        assert!(rt; domain.contains(value));
+        assert!(rt; last < Some(value));
+        last = Some(value);
+        seen = seen.saturating_add(1);
+    }
+    assert_eq!(rt; seen, count);
+}
+
 fn expect_ranges(rt: &impl Abort, domain: &Domain, wanted: &[(i64, i64)]) {
     let ranges = domain.ranges();
     assert_eq!(rt; ranges.len(), wanted.len());
@@ -95,6 +108,9 @@ fn expect_union(rt: &impl Abort, domain: &Domain, wanted: &[(i64, i64)], count: 
     let size = domain.size();
     assert_eq!(rt; size, count);
     assert_eq!(rt; domain.is_single(), count == 1);
+    if count < 10 {
+        expect_walk(rt, domain, count);
+    }
     assert!(rt; 0 < size);
     let (first, last) = (domain.nth(0), domain.nth(size - 1));
     assert_eq!(rt; wanted.first().map(|range| range.0), Some(first));
