@@ -27,9 +27,14 @@ pub contains_filter : (test : ℤ → Bool) (xs : List ℤ) (v : ℤ) → Contai
 contains_filter test [] v = (λ h. absurd (omega (arith, h.1)), λ h. absurd (omega (arith, h.0.1)))
 contains_filter test (x ∷ xs) v = by_test (contains_filter test xs v) (test x) refl
   where
-    by_test : Contains (filter test xs) v ↔ (Contains xs v × (test v ≡ true)) → (b : Bool) → test x ≡ b → Contains (cond b (x ∷ filter test xs) (filter test xs)) v ↔ (Contains (x ∷ xs) v × (test v ≡ true))
+    by_test : Contains (filter test xs) v ↔ (Contains xs v × (test v ≡ true)) → (b : Bool) → test x ≡ b →
+        Contains (cond b (x ∷ filter test xs) (filter test xs)) v ↔ (Contains (x ∷ xs) v × (test v ≡ true))
     by_test rest true e = (
-      λ h. elim ((contains_cons x (filter test xs) v).0 h) [ inl s ↦ ((contains_cons x xs v).1 (inl s), ap test (sym s) ∙ e) | inr t ↦ let r = rest.0 t in ((contains_cons x xs v).1 (inr r.0), r.1) ],
+      λ h. elim ((contains_cons x (filter test xs) v).0 h) [
+        | inl s ↦ ((contains_cons x xs v).1 (inl s), ap test (sym s) ∙ e)
+        | inr t ↦ let r = rest.0
+            t in ((contains_cons x xs v).1 (inr r.0), r.1)
+      ],
       λ h. (contains_cons x (filter test xs) v).1 (elim ((contains_cons x xs v).0 h.0) [ inl s ↦ inl s | inr t ↦ inr (rest.1 (t, h.1)) ]),
     )
     by_test rest false e = (
@@ -56,7 +61,8 @@ contains_above t xs v = let f = contains_filter (λ v. int_lt t v) xs v in (λ h
     to_test a b h = grind (arith, ints)
 
 pub contains_without : (gone : ℤ) (xs : List ℤ) (v : ℤ) → Contains (values_without gone xs) v ↔ (Contains xs v × (v ≡ gone → ⊥))
-contains_without gone xs v = let f = contains_filter (λ v. not (int_eq v gone)) xs v in (λ h. ((f.0 h).0, from_test v gone (f.0 h).1), λ h. f.1 (h.0, differs gone v h.1))
+contains_without gone xs v = let f = contains_filter (λ v. not (int_eq v gone)) xs v in
+    (λ h. ((f.0 h).0, from_test v gone (f.0 h).1), λ h. f.1 (h.0, differs gone v h.1))
   where
     from_test : (a b : ℤ) → not (int_eq a b) ≡ true → a ≡ b → ⊥
     from_test a b h e = both_ways (not (int_eq a b)) (ap not ((Decides-int_eq a b).1 e)) h
@@ -80,7 +86,8 @@ in_box_set (v ∷ vs) [] i d h has = absurd h
 in_box_set (v ∷ vs) (c ∷ cs) zero d h has = (has, h.1)
 in_box_set (v ∷ vs) (c ∷ cs) (suc i) d h has = (h.0, in_box_set vs cs i d h.1 has)
 
-pub from_box_set : (xs : List ℤ) (cells : List (List ℤ)) (i : ℕ) (d : List ℤ) → i < length cells → InBox xs (set cells i d) → ((v : ℤ) → Contains d v → Contains (get_or cells i []) v) → InBox xs cells × Contains d (get_or xs i (pos 0))
+pub from_box_set : (xs : List ℤ) (cells : List (List ℤ)) (i : ℕ) (d : List ℤ) → i < length cells → InBox xs (set cells i d) →
+    ((v : ℤ) → Contains d v → Contains (get_or cells i []) v) → InBox xs cells × Contains d (get_or xs i (pos 0))
 from_box_set xs [] i d below h part = absurd (omega (arith, below))
 from_box_set [] (c ∷ cs) zero d below h part = absurd h
 from_box_set [] (c ∷ cs) (suc i) d below h part = absurd h
@@ -90,12 +97,14 @@ from_box_set (v ∷ vs) (c ∷ cs) (suc i) d below h part = let r = from_box_set
 -- what stays of a domain is one, where a value stays
 each_filter : (P : ℤ → Type 0) (test : ℤ → Bool) (xs : List ℤ) → AllByRecursion P xs → AllByRecursion P (filter test xs)
 each_filter P test [] h = tt
-each_filter P test (x ∷ xs) h = elim (test x) as (λ b. AllByRecursion P (cond b (x ∷ filter test xs) (filter test xs))) [ true ↦ (h.0, each_filter P test xs h.1) | false ↦ each_filter P test xs h.1 ]
+each_filter P test (x ∷ xs) h = elim (test x) as (λ b. AllByRecursion P (cond b (x ∷ filter test xs) (filter test xs)))
+    [ true ↦ (h.0, each_filter P test xs h.1) | false ↦ each_filter P test xs h.1 ]
 
 rising_filter : (test : ℤ → Bool) (xs : List ℤ) → Rising xs → Rising (filter test xs)
 unfolding Rising
 rising_filter test [] h = tt
-rising_filter test (x ∷ xs) h = elim (test x) as (λ b. Rising (cond b (x ∷ filter test xs) (filter test xs))) [ true ↦ (each_filter (λ y. x <ℤ y) test xs h.0, rising_filter test xs h.1) | false ↦ rising_filter test xs h.1 ]
+rising_filter test (x ∷ xs) h = elim (test x) as (λ b. Rising (cond b (x ∷ filter test xs) (filter test xs)))
+    [ true ↦ (each_filter (λ y. x <ℤ y) test xs h.0, rising_filter test xs h.1) | false ↦ rising_filter test xs h.1 ]
 
 pub domain_filter : (test : ℤ → Bool) (d : List ℤ) → IsDomain d → (filter test d ≡ [] → ⊥) → IsDomain (filter test d)
 domain_filter test d h some = record { rising = rising_filter test d h.rising; some = some; within = each_filter WithinLimits test d h.within }
@@ -109,7 +118,8 @@ length-sides t xs = length-filter_both (λ v. int_le v t) (λ v. int_lt t v) (λ
 
 none_gone : (gone : ℤ) (xs : List ℤ) → AllByRecursion (λ y. gone <ℤ y) xs → values_without gone xs ≡ xs
 none_gone gone [] h = refl
-none_gone gone (x ∷ xs) h = ap (λ b. cond b (x ∷ values_without gone xs) (values_without gone xs)) (differs gone x (λ e. below_itself gone x h.0 e)) ∙ ap (λ l. x ∷ l) (none_gone gone xs h.1)
+none_gone gone (x ∷ xs) h = ap (λ b. cond b (x ∷ values_without gone xs) (values_without gone xs)) (differs gone x (λ e. below_itself gone x h.0 e))
+    ∙ ap (λ l. x ∷ l) (none_gone gone xs h.1)
   where
     below_itself : (a b : ℤ) → a <ℤ b → b ≡ a → ⊥
     below_itself a b h e = omega (arith, ints, h, e)
@@ -120,9 +130,11 @@ length-without gone [] h has = absurd (omega (arith, has.1))
 length-without gone (x ∷ xs) h has =
     elim ((contains_cons x xs gone).0 has) [
       | inl here ↦ let all = subst (λ y. AllByRecursion (λ z. y <ℤ z) xs) here h.0 in
-          let e = ap (λ b. length (cond b (x ∷ values_without gone xs) (values_without gone xs))) (itself gone x here) in let f = ap length (none_gone gone xs all) in omega (arith, e, f)
+          let e = ap (λ b. length (cond b (x ∷ values_without gone xs) (values_without gone xs))) (itself gone x here) in
+          let f = ap length (none_gone gone xs all) in omega (arith, e, f)
       | inr there ↦ let rest = length-without gone xs h.1 there in
-          let e = ap (λ b. length (cond b (x ∷ values_without gone xs) (values_without gone xs))) (differs gone x (λ s. below_later x xs gone h.0 there (sym s))) in omega (arith, e, rest)
+          let e = ap (λ b. length (cond b (x ∷ values_without gone xs) (values_without gone xs)))
+          (differs gone x (λ s. below_later x xs gone h.0 there (sym s))) in omega (arith, e, rest)
     ]
   where
     below_later : (x : ℤ) (xs : List ℤ) (v : ℤ) → AllByRecursion (λ y. x <ℤ y) xs → Contains xs v → v ≡ x → ⊥
@@ -142,7 +154,8 @@ series_count-cons d ds = same_lengths (λ v. map (λ vs. v ∷ vs) (all_series d
 pub some_series : (cells : List (List ℤ)) → IsBox cells → 0 < series_count cells
 unfolding all_series
 some_series [] h = omega arith
-some_series (d ∷ ds) h = product_positive (length d) (series_count ds) (series_count (d ∷ ds)) (series_count-cons d ds) (not_empty d h.0.some) (some_series ds h.1)
+some_series (d ∷ ds) h = product_positive (length d) (series_count ds) (series_count (d ∷ ds)) (series_count-cons d ds) (not_empty d h.0.some)
+    (some_series ds h.1)
   where
     not_empty : (d : List ℤ) → (d ≡ [] → ⊥) → 0 < length d
     not_empty [] some = absurd (some refl)
@@ -153,7 +166,8 @@ some_series (d ∷ ds) h = product_positive (length d) (series_count ds) (series
     product_positive (suc a) b c e h k = let f : suc a * b ≡ a * b + b = omega arith in omega (arith, e, f, k)
 
 -- two sets that share the values of a cell share its series
-pub series_count-split : (cells : List (List ℤ)) (i : ℕ) (a b : List ℤ) → i < length cells → length a + length b ≡ length (get_or cells i []) → series_count (set cells i a) + series_count (set cells i b) ≡ series_count cells
+pub series_count-split : (cells : List (List ℤ)) (i : ℕ) (a b : List ℤ) → i < length cells → length a + length b ≡ length (get_or cells i []) →
+    series_count (set cells i a) + series_count (set cells i b) ≡ series_count cells
 series_count-split [] i a b below parts = absurd (omega (arith, below))
 series_count-split (c ∷ cs) zero a b below parts =
     let e : (length a + length b) * series_count cs ≡ length a * series_count cs + length b * series_count cs = omega arith in
@@ -161,7 +175,8 @@ series_count-split (c ∷ cs) zero a b below parts =
     omega (arith, series_count-cons a cs, series_count-cons b cs, series_count-cons c cs, e, f)
 series_count-split (c ∷ cs) (suc i) a b below parts =
     let rest = series_count-split cs i a b (omega (arith, below)) parts in
-    let e : length c * (series_count (set cs i a) + series_count (set cs i b)) ≡ length c * series_count (set cs i a) + length c * series_count (set cs i b) = omega arith in
+    let e : length c * (series_count (set cs i a) + series_count (set cs i b)) ≡ length c * series_count (set cs i a) + length c * series_count
+    (set cs i b) = omega arith in
     let f = ap (λ n. length c * n) rest in
     omega (arith, series_count-cons c (set cs i a), series_count-cons c (set cs i b), series_count-cons c cs, e, f)
 

@@ -18,7 +18,8 @@ pub record Joining (sorted done : List Interval) (last : Interval) (i : ℕ) : T
   pub apart : RangesFrom (neg_ℤ (pos 1000000)) (done ++ last ∷ [])
   pub same : (v : ℤ) → (InSome (done ++ last ∷ []) v ⊎ InSome (drop i sorted) v) ↔ InSome sorted v
 
-pub joining_none : (sorted done : List Interval) (d : Interval) → 0 < length sorted → LowsRise (neg_ℤ (pos 1000000)) sorted → done ≡ [] → Joining sorted done (get_or sorted 0 d) 0
+pub joining_none : (sorted done : List Interval) (d : Interval) → 0 < length sorted → LowsRise (neg_ℤ (pos 1000000)) sorted → done ≡ [] →
+    Joining sorted done (get_or sorted 0 d) 0
 unfolding LowsRise RangesFrom InSome
 joining_none [] done d h a e = absurd (omega (arith, h))
 joining_none (r ∷ rs) done d h a e = record {
@@ -34,7 +35,8 @@ joining_none (r ∷ rs) done d h a e = record {
 next_off : (sorted : List Interval) (i : ℕ) (d : Interval) → i < length sorted → drop i sorted ≡ get_or sorted i d ∷ drop (i + 1) sorted
 next_off sorted i d h = let e : suc i ≡ i + 1 = omega arith in drop-cons sorted i d h ∙ ap (λ n. get_or sorted i d ∷ drop n sorted) e
 
-next_rises : (f : ℤ) (r : Interval) (rs ds : List Interval) → ds ≡ r ∷ rs → LowsRise f ds → (f ≤ℤ r.low) × (r.low ≤ℤ r.high) × (r.high ≤ℤ pos 1000000) × LowsRise r.low rs
+next_rises : (f : ℤ) (r : Interval) (rs ds : List Interval) → ds ≡ r ∷ rs → LowsRise f ds →
+    (f ≤ℤ r.low) × (r.low ≤ℤ r.high) × (r.high ≤ℤ pos 1000000) × LowsRise r.low rs
 unfolding LowsRise
 next_rises f r rs ds e a = subst (LowsRise f) e a
 
@@ -55,12 +57,21 @@ unfolding InSome
 next_in r rs v h = h
 
 -- no gap lies before the next range: the last one grows
-grown_numbers : (done : List Interval) (last next grown : Interval) (rest : List Interval) (v : ℤ) → grown.low ≡ last.low → grown.high ≡ int_max last.high next.high → last.low ≤ℤ next.low → next.low ≤ℤ (last.high +ℤ pos 1) →
+grown_numbers : (done : List Interval) (last next grown : Interval) (rest : List Interval) (v : ℤ) → grown.low ≡ last.low →
+    grown.high ≡ int_max last.high next.high → last.low ≤ℤ next.low → next.low ≤ℤ (last.high +ℤ pos 1) →
     (InSome (done ++ grown ∷ []) v ⊎ InSome rest v) ↔ (InSome (done ++ last ∷ []) v ⊎ InSome (next ∷ rest) v)
 grown_numbers done last next grown rest v low high from touch = (
-  λ w. elim w [ inl p ↦ elim (in_append done (grown ∷ []) v p) [ inl a ↦ inl (in_left done (last ∷ []) v a) | inr b ↦ old (one_in grown v b) ] | inr q ↦ inr (next_in next rest v (inr q)) ],
   λ w. elim w [
-    | inl p ↦ inl (elim (in_append done (last ∷ []) v p) [ inl a ↦ in_left done (grown ∷ []) v a | inr b ↦ in_right done (grown ∷ []) v (new_last (one_in last v b)) ])
+    | inl p ↦ elim (in_append done (grown ∷ []) v p) [ inl a ↦ inl (in_left done (last ∷ []) v a) | inr b ↦ old (one_in grown v b) ]
+    | inr q
+        ↦ inr (next_in next rest v (inr q))
+  ],
+  λ w. elim w [
+    | inl p ↦ inl (elim (in_append done (last ∷ []) v p) [
+      | inl a ↦ in_left done (grown ∷ []) v a
+      | inr b ↦ in_right done (grown ∷ []) v
+          (new_last (one_in last v b))
+    ])
     | inr q ↦ elim (in_next next rest v q) [ inl here ↦ inl (in_right done (grown ∷ []) v (new_next here)) | inr there ↦ inr there ]
   ],
 )
@@ -75,7 +86,8 @@ grown_numbers done last next grown rest v low high from touch = (
     right_max a b m w e h = grind (arith, ints)
 
     old : (grown.low ≤ℤ v) × (v ≤ℤ grown.high) → InSome (done ++ last ∷ []) v ⊎ InSome (next ∷ rest) v
-    old b = by_lt_z last.high v (λ beyond. inr (next_in next rest v (inl (omega (arith, ints, touch, beyond), in_max last.high next.high grown.high v high b.1 beyond))))
+    old b = by_lt_z last.high v (λ beyond. inr (next_in next rest v
+        (inl (omega (arith, ints, touch, beyond), in_max last.high next.high grown.high v high b.1 beyond))))
         (λ within. inl (in_right done (last ∷ []) v (in_one last v (omega (arith, ints, b.0, low)) within)))
 
     new_last : (last.low ≤ℤ v) × (v ≤ℤ last.high) → InSome (grown ∷ []) v
@@ -84,16 +96,22 @@ grown_numbers done last next grown rest v low high from touch = (
     new_next : (next.low ≤ℤ v) × (v ≤ℤ next.high) → InSome (grown ∷ []) v
     new_next b = in_one grown v (omega (arith, ints, b.0, low, from)) (right_max last.high next.high grown.high v high b.1)
 
-pub joining_grown : (sorted done done' : List Interval) (last grown : Interval) (i : ℕ) (d : Interval) → i < length sorted → Joining sorted done last i → (get_or sorted i d).low ≤ℤ (last.high +ℤ pos 1) →
+pub joining_grown : (sorted done done' : List Interval) (last grown : Interval) (i : ℕ) (d : Interval) → i < length sorted →
+    Joining sorted done last i → (get_or sorted i d).low ≤ℤ (last.high +ℤ pos 1) →
     done' ≡ done → grown.low ≡ last.low → grown.high ≡ int_max last.high (get_or sorted i d).high → Joining sorted done' grown (i + 1)
 joining_grown sorted done done' last grown i d h j touch kept low high =
     let next = get_or sorted i d in let rest = drop (i + 1) sorted in
-    let off = next_off sorted i d h in let r = next_rises last.low next rest (drop i sorted) off j.rest in let l = last_range (neg_ℤ (pos 1000000)) done last j.apart in
+    let off = next_off sorted i d h in let r = next_rises last.low next rest (drop i sorted) off j.rest in
+    let l = last_range (neg_ℤ (pos 1000000)) done last j.apart in
     subst (λ x. Joining sorted x grown (i + 1)) (sym kept) (record {
       rest = rises_from grown.low next.low rest (omega (arith, ints, low, r.0)) r.3;
-      apart = last_grown (neg_ℤ (pos 1000000)) done last grown j.apart (sym low) (ordered last.low last.high next.high grown.low grown.high low high l.1) (within last.high next.high grown.high high l.2 r.2);
-      same = λ v. let g = grown_numbers done last next grown rest v low high r.0 touch in let s = j.same v in
-          (λ w. s.0 (subst (λ l. InSome (done ++ last ∷ []) v ⊎ InSome l v) (sym off) (g.0 w)), λ w. g.1 (subst (λ l. InSome (done ++ last ∷ []) v ⊎ InSome l v) off (s.1 w)));
+      apart = last_grown (neg_ℤ (pos 1000000)) done last grown j.apart (sym low)
+          (ordered last.low last.high next.high grown.low grown.high low high l.1) (within last.high next.high grown.high high l.2 r.2);
+      same = λ v. let g = grown_numbers done last next grown rest v low high r.0 touch in let s = j.same v in (
+        λ w. s.0 (subst (λ l. InSome (done ++ last ∷ []) v ⊎ InSome l v) (sym off) (g.0 w)),
+        λ w. g.1
+            (subst (λ l. InSome (done ++ last ∷ []) v ⊎ InSome l v) off (s.1 w)),
+      );
     })
   where
     ordered : (a b c l m : ℤ) → l ≡ a → m ≡ int_max b c → a ≤ℤ b → l ≤ℤ m
@@ -103,7 +121,8 @@ joining_grown sorted done done' last grown i d h j touch kept low high =
     within a b m e h k = grind (arith, ints)
 
 -- a gap lies before it: it is the last one now
-pub joining_more : (sorted done done' : List Interval) (last next : Interval) (i : ℕ) (d : Interval) → i < length sorted → Joining sorted done last i → (last.high +ℤ pos 1) <ℤ (get_or sorted i d).low →
+pub joining_more : (sorted done done' : List Interval) (last next : Interval) (i : ℕ) (d : Interval) → i < length sorted → Joining sorted done last i →
+    (last.high +ℤ pos 1) <ℤ (get_or sorted i d).low →
     done' ≡ done ++ last ∷ [] → next ≡ get_or sorted i d → Joining sorted done' next (i + 1)
 joining_more sorted done done' last next i d h j gap grown is =
     let rest = drop (i + 1) sorted in let off = next_off sorted i d h ∙ ap (λ r. r ∷ rest) (sym is) in
@@ -112,12 +131,22 @@ joining_more sorted done done' last next i d h j gap grown is =
       rest = r.3;
       apart = one_more_range (neg_ℤ (pos 1000000)) done last next j.apart (omega (arith, ints, apart)) r.1 r.2;
       same = λ v. let s = j.same v in (
-        λ w. s.0 (elim w [ inl p ↦ elim (in_append (done ++ last ∷ []) (next ∷ []) v p) [ inl a ↦ inl a | inr b ↦ inr (subst (λ l. InSome l v) (sym off) (next_in next rest v (inl (one_in next v b)))) ] | inr q ↦ inr (subst (λ l. InSome l v) (sym off) (next_in next rest v (inr q))) ]),
-        λ w. elim (s.1 w) [ inl a ↦ inl (in_left (done ++ last ∷ []) (next ∷ []) v a) | inr q ↦ left_over v (in_next next rest v (subst (λ l. InSome l v) off q)) ],
+        λ w. s.0 (elim w [
+          | inl p ↦ elim (in_append (done ++ last ∷ []) (next ∷ []) v p)
+              [ inl a ↦ inl a | inr b ↦ inr (subst (λ l. InSome l v) (sym off) (next_in next rest v (inl (one_in next v b)))) ]
+          | inr q ↦ inr
+              (subst (λ l. InSome l v) (sym off) (next_in next rest v (inr q)))
+        ]),
+        λ w. elim (s.1 w) [
+          | inl a ↦ inl (in_left (done ++ last ∷ []) (next ∷ []) v a)
+          | inr q ↦ left_over v
+              (in_next next rest v (subst (λ l. InSome l v) off q))
+        ],
       );
     })
   where
-    left_over : (v : ℤ) → ((next.low ≤ℤ v) × (v ≤ℤ next.high)) ⊎ InSome (drop (i + 1) sorted) v → InSome ((done ++ last ∷ []) ++ next ∷ []) v ⊎ InSome (drop (i + 1) sorted) v
+    left_over : (v : ℤ) → ((next.low ≤ℤ v) × (v ≤ℤ next.high)) ⊎ InSome (drop (i + 1) sorted) v →
+        InSome ((done ++ last ∷ []) ++ next ∷ []) v ⊎ InSome (drop (i + 1) sorted) v
     left_over v w = elim w [ inl here ↦ inl (in_right (done ++ last ∷ []) (next ∷ []) v (in_one next v here.0 here.1)) | inr there ↦ inr there ]
 
 none_left : (sorted : List Interval) (i : ℕ) (v : ℤ) → length sorted ≤ i → InSome (drop i sorted) v → ⊥
@@ -134,16 +163,19 @@ some_range (r ∷ rs) last e = cc
 pub joined_ranges : (sorted done all : List Interval) (last : Interval) (i : ℕ) → Joining sorted done last i → all ≡ done ++ last ∷ [] → AreRanges all
 joined_ranges sorted done all last i j e = subst AreRanges (sym e) (record { apart = j.apart; some = some_range done last })
 
-pub joined_numbers : (sorted done all : List Interval) (last : Interval) (i : ℕ) → Joining sorted done last i → all ≡ done ++ last ∷ [] → length sorted ≤ i → (v : ℤ) → Contains (values_of all) v ↔ InSome sorted v
+pub joined_numbers : (sorted done all : List Interval) (last : Interval) (i : ℕ) → Joining sorted done last i → all ≡ done ++ last ∷ [] →
+    length sorted ≤ i → (v : ℤ) → Contains (values_of all) v ↔ InSome sorted v
 joined_numbers sorted done all last i j e past v =
     let are = joined_ranges sorted done all last i j e in (
       λ has. (j.same v).0 (inl (subst (λ l. InSome l v) e (value_in_some (neg_ℤ (pos 1000000)) all v are.apart has))),
-      λ some. some_has_value all v (subst (λ l. InSome l v) (sym e) (elim ((j.same v).1 some) [ inl here ↦ here | inr left ↦ absurd (none_left sorted i v past left) ])),
+      λ some. some_has_value all v (subst (λ l. InSome l v) (sym e)
+          (elim ((j.same v).1 some) [ inl here ↦ here | inr left ↦ absurd (none_left sorted i v past left) ])),
     )
 
 -- the bounds of the next range and of the last one, so that machine numbers hold them
 pub next_within : (sorted done : List Interval) (last : Interval) (i : ℕ) (d : Interval) → Joining sorted done last i → i < length sorted →
-    (neg_ℤ (pos 1000000) ≤ℤ (get_or sorted i d).low) × ((get_or sorted i d).low ≤ℤ pos 1000000) × (neg_ℤ (pos 1000000) ≤ℤ (get_or sorted i d).high) × ((get_or sorted i d).high ≤ℤ pos 1000000)
+    (neg_ℤ (pos 1000000) ≤ℤ (get_or sorted i d).low) × ((get_or sorted i d).low ≤ℤ pos 1000000) × (neg_ℤ (pos 1000000) ≤ℤ (get_or sorted i d).high) ×
+    ((get_or sorted i d).high ≤ℤ pos 1000000)
 next_within sorted done last i d j h =
     let l = last_range (neg_ℤ (pos 1000000)) done last j.apart in
     let r = next_rises last.low (get_or sorted i d) (drop (i + 1) sorted) (drop i sorted) (next_off sorted i d h) j.rest in
@@ -156,7 +188,9 @@ small_fits (negsuc n) from to = record { sfits = omega (arith, ints, from, to) }
 pub max_is : (a b m h : ℤ) → neg_ℤ (pos 1000000) ≤ℤ a → a ≤ℤ pos 1000000 → neg_ℤ (pos 1000000) ≤ℤ b → b ≤ℤ pos 1000000 → SFits w64 m →
     m ≡ int_max (to_z w64 (of_z w64 a)) (to_z w64 (of_z w64 b)) → h ≡ to_z w64 (of_z w64 m) → h ≡ int_max a b
 max_is a b m h a0 a1 b0 b1 fits e f =
-    f ∙ to_z-of_z w64 m fits ∙ e ∙ ap (λ x. int_max x (to_z w64 (of_z w64 b))) (to_z-of_z w64 a (small_fits a a0 a1)) ∙ ap (int_max a) (to_z-of_z w64 b (small_fits b b0 b1))
+    f ∙ to_z-of_z w64 m fits ∙ e ∙ ap (λ x. int_max x (to_z w64 (of_z w64 b))) (to_z-of_z w64 a (small_fits a a0 a1))
+    ∙ ap (int_max a) (to_z-of_z w64 b (small_fits b b0 b1))
 
-pub last_within : (sorted done : List Interval) (last : Interval) (i : ℕ) → Joining sorted done last i → (neg_ℤ (pos 1000000) ≤ℤ last.high) × (last.high ≤ℤ pos 1000000)
+pub last_within : (sorted done : List Interval) (last : Interval) (i : ℕ) → Joining sorted done last i →
+    (neg_ℤ (pos 1000000) ≤ℤ last.high) × (last.high ≤ℤ pos 1000000)
 last_within sorted done last i j = let l = last_range (neg_ℤ (pos 1000000)) done last j.apart in (omega (arith, ints, l.0, l.1), l.2)

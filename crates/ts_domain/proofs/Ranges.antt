@@ -12,7 +12,8 @@ use Rattle.ts_domain.proofs.Runs.{natural_is, length-between, in_between, betwee
 pub values-append : (xs ys : List Interval) → values_of (xs ++ ys) ≡ values_of xs ++ values_of ys
 unfolding values_of
 values-append [] ys = refl
-values-append (r ∷ rs) ys = ap (λ l. values_between r.low r.high ++ l) (values-append rs ys) ∙ sym (append_assoc (values_between r.low r.high) (values_of rs) (values_of ys))
+values-append (r ∷ rs) ys = ap (λ l. values_between r.low r.high ++ l) (values-append rs ys)
+    ∙ sym (append_assoc (values_between r.low r.high) (values_of rs) (values_of ys))
 
 pub from_earlier : (f g : ℤ) (rs : List Interval) → f ≤ℤ g → RangesFrom g rs → RangesFrom f rs
 unfolding RangesFrom

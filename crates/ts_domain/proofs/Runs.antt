@@ -18,7 +18,8 @@ pub get_or-run : (low : ℤ) (n i : ℕ) (d : ℤ) → i < n → get_or (run low
 unfolding run
 get_or-run low zero i d h = absurd (omega (arith, h))
 get_or-run low (suc n) zero d h = omega (arith, ints)
-get_or-run low (suc n) (suc i) d h = let e : (low +ℤ pos 1) +ℤ pos i ≡ low +ℤ pos (suc i) = omega (arith, ints) in get_or-run (low +ℤ pos 1) n i d (omega (arith, h)) ∙ e
+get_or-run low (suc n) (suc i) d h = let e : (low +ℤ pos 1) +ℤ pos i ≡ low +ℤ pos (suc i) = omega (arith, ints) in
+    get_or-run (low +ℤ pos 1) n i d (omega (arith, h)) ∙ e
 
 pub run_split : (low : ℤ) (a b : ℕ) → run low (a + b) ≡ run low a ++ run (low +ℤ pos a) b
 unfolding run
@@ -113,13 +114,15 @@ between_has low high v from to =
     let c = natural_is ((high +ℤ pos 1) -ℤ low) (omega (arith, ints, from, to)) in
     run_has low (natural ((high +ℤ pos 1) -ℤ low)) v from (omega (arith, ints, c, to))
 
-pub all_between : (test : ℤ → Bool) (low high : ℤ) → low ≤ℤ (high +ℤ pos 1) → ((v : ℤ) → low ≤ℤ v → v ≤ℤ high → test v ≡ true) → filter test (values_between low high) ≡ values_between low high
+pub all_between : (test : ℤ → Bool) (low high : ℤ) → low ≤ℤ (high +ℤ pos 1) → ((v : ℤ) → low ≤ℤ v → v ≤ℤ high → test v ≡ true) →
+    filter test (values_between low high) ≡ values_between low high
 unfolding values_between
 all_between test low high h each =
     let c = natural_is ((high +ℤ pos 1) -ℤ low) (omega (arith, ints, h)) in
     all_pass test low (natural ((high +ℤ pos 1) -ℤ low)) (λ v from to. each v from (omega (arith, ints, c, to)))
 
-pub none_between : (test : ℤ → Bool) (low high : ℤ) → low ≤ℤ (high +ℤ pos 1) → ((v : ℤ) → low ≤ℤ v → v ≤ℤ high → test v ≡ false) → filter test (values_between low high) ≡ []
+pub none_between : (test : ℤ → Bool) (low high : ℤ) → low ≤ℤ (high +ℤ pos 1) → ((v : ℤ) → low ≤ℤ v → v ≤ℤ high → test v ≡ false) →
+    filter test (values_between low high) ≡ []
 unfolding values_between
 none_between test low high h each =
     let c = natural_is ((high +ℤ pos 1) -ℤ low) (omega (arith, ints, h)) in

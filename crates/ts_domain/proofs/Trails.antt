@@ -50,12 +50,14 @@ count_fits ss cells n h e = let few = (cells_fit ss cells h).0 in omega (arith, 
 pub box_of : (ss : List Step) (cells : List (List ℤ)) (b : Boxes) → boxes_of ss cells ≡ b → StepsFit ss cells → IsBox b.present
 box_of ss cells b view h = subst (λ b. IsBox b.present) view (cells_fit ss cells h).1
 
-steps_push : (ss : List Step) (s : Step) (cells cells' : List (List ℤ)) → length cells' ≡ length cells → s.cell < length cells → IsDomain s.before → IsBox cells' → StepsFit ss cells → StepsFit (ss ++ s ∷ []) cells'
+steps_push : (ss : List Step) (s : Step) (cells cells' : List (List ℤ)) → length cells' ≡ length cells → s.cell < length cells → IsDomain s.before →
+    IsBox cells' → StepsFit ss cells → StepsFit (ss ++ s ∷ []) cells'
 unfolding StepsFit
 steps_push [] s cells cells' e below old box h = (omega (arith, e, below), old, (omega (arith, e, h.0), box))
 steps_push (t ∷ ss) s cells cells' e below old box h = (omega (arith, e, h.0), h.1, steps_push ss s cells cells' e below old box h.2)
 
-steps_pop : (ss : List Step) (s : Step) (cells cells' : List (List ℤ)) → length cells' ≡ length cells → IsBox cells' → StepsFit (ss ++ s ∷ []) cells → StepsFit ss cells'
+steps_pop : (ss : List Step) (s : Step) (cells cells' : List (List ℤ)) → length cells' ≡ length cells → IsBox cells' → StepsFit (ss ++ s ∷ []) cells →
+    StepsFit ss cells'
 unfolding StepsFit
 steps_pop [] s cells cells' e box h = (omega (arith, e, h.2.0), box)
 steps_pop (t ∷ ss) s cells cells' e box h = (omega (arith, e, h.0), h.1, steps_pop ss s cells cells' e box h.2)
@@ -66,15 +68,18 @@ newest_fits [] s cells h = (h.0, h.1)
 newest_fits (t ∷ ss) s cells h = newest_fits ss s cells h.2
 
 -- a change: the place of the cell, the domain read there, what stays of it, and the domain that goes onto the trail
-pub fit_more : (ss mid ss' : List Step) (cells : List (List ℤ)) (s : Step) (lent dest : List ℤ) → StepsFit ss cells → mid ≡ ss → ss' ≡ mid ++ s ∷ [] → s.cell < length cells → lent ≡ get_or cells s.cell lent → s.before ≡ lent → IsDomain dest →
+pub fit_more : (ss mid ss' : List Step) (cells : List (List ℤ)) (s : Step) (lent dest : List ℤ) → StepsFit ss cells → mid ≡ ss → ss' ≡ mid ++ s ∷ [] →
+    s.cell < length cells → lent ≡ get_or cells s.cell lent → s.before ≡ lent → IsDomain dest →
     StepsFit ss' (set cells s.cell dest)
 fit_more ss mid ss' cells s lent dest h same steps below is_lent is_old domain =
     let fit = cells_fit ss cells h in
     subst (λ x. StepsFit x (set cells s.cell dest)) (sym (steps ∙ ap (λ x. x ++ s ∷ []) same))
-    (steps_push ss s cells (set cells s.cell dest) (length-set cells s.cell dest) below (subst IsDomain (sym (is_old ∙ is_lent)) (box_at cells s.cell lent fit.1 below)) (box_set cells s.cell dest fit.1 domain) h)
+    (steps_push ss s cells (set cells s.cell dest) (length-set cells s.cell dest) below
+    (subst IsDomain (sym (is_old ∙ is_lent)) (box_at cells s.cell lent fit.1 below)) (box_set cells s.cell dest fit.1 domain) h)
 
 pub changed : (ss mid ss' : List Step) (cells : List (List ℤ)) (b : Boxes) (k at : ℕ) (read left lent old dest : List ℤ) (keep : List ℤ → List ℤ) →
-    boxes_of ss cells ≡ b → at ≡ k - 1 → at < length cells → mid ≡ ss → read ≡ get_or cells at read → left ≡ keep read → lent ≡ get_or cells at lent → old ≡ lent → dest ≡ left →
+    boxes_of ss cells ≡ b → at ≡ k - 1 → at < length cells → mid ≡ ss → read ≡ get_or cells at read → left ≡ keep read → lent ≡ get_or cells at lent →
+    old ≡ lent → dest ≡ left →
     ss' ≡ mid ++ record { cell = at; before = old } ∷ [] → boxes_of ss' (set cells at dest) ≡ box_with k keep b
 changed ss mid ss' cells b k at read left lent old dest keep view place below same is_read is_left is_lent is_old is_dest steps =
     let kept : dest ≡ keep (get_or cells at []) = is_dest ∙ is_left ∙ ap keep (is_read ∙ get_or_default cells at read [] below) in
@@ -83,7 +88,8 @@ changed ss mid ss' cells b k at read left lent old dest keep view place below sa
     let earlier : earlier_boxes ss' (set cells at dest) ≡ all_boxes (boxes_of ss cells) =
     ap (λ x. earlier_boxes x (set cells at dest)) (steps ∙ ap (λ x. x ++ record { cell = at; before = old } ∷ []) same) ∙
     earlier-snoc ss (record { cell = at; before = old }) (set cells at dest) ∙ ap (λ c. earlier_boxes ss c ++ c ∷ []) back in
-    let present : set cells at dest ≡ set cells (k - 1) (keep (get_or cells (k - 1) [])) = ap (set cells at) kept ∙ ap (λ i. set cells i (keep (get_or cells i []))) place in
+    let present : set cells at dest ≡ set cells (k - 1) (keep (get_or cells (k - 1) [])) = ap (set cells at) kept
+    ∙ ap (λ i. set cells i (keep (get_or cells i []))) place in
     ap (λ e. boxes e (set cells at dest)) earlier ∙ ap (boxes (all_boxes (boxes_of ss cells))) present ∙ ap (box_with k keep) view
   where
     boxes : List (List (List ℤ)) → List (List ℤ) → Boxes
@@ -102,12 +108,15 @@ newest_cell ss ss' s cells steps h = (newest_fits ss' s cells (subst (λ x. Step
 pub fit_less : (ss ss' : List Step) (s : Step) (cells : List (List ℤ)) → ss ≡ ss' ++ s ∷ [] → StepsFit ss cells → StepsFit ss' (set cells s.cell s.before)
 fit_less ss ss' s cells steps h =
     let all = subst (λ x. StepsFit x cells) steps h in
-    steps_pop ss' s cells (set cells s.cell s.before) (length-set cells s.cell s.before) (box_set cells s.cell s.before (cells_fit ss cells h).1 (newest_fits ss' s cells all).1) all
+    steps_pop ss' s cells (set cells s.cell s.before) (length-set cells s.cell s.before)
+    (box_set cells s.cell s.before (cells_fit ss cells h).1 (newest_fits ss' s cells all).1) all
 
-same_boxes : (e f : List (List (List ℤ))) (p q : List (List ℤ)) → e ≡ f → p ≡ q → let b : Boxes = record { earlier = e; present = p } in let c : Boxes = record { earlier = f; present = q } in b ≡ c
+same_boxes : (e f : List (List (List ℤ))) (p q : List (List ℤ)) → e ≡ f → p ≡ q →
+    let b : Boxes = record { earlier = e; present = p } in let c : Boxes = record { earlier = f; present = q } in b ≡ c
 same_boxes e f p q h k = cc
 
-pub one_back : (ss ss' : List Step) (s : Step) (cells : List (List ℤ)) (b : Boxes) → boxes_of ss cells ≡ b → ss ≡ ss' ++ s ∷ [] → boxes_of ss' (set cells s.cell s.before) ≡ back_to (length b.earlier - 1) b
+pub one_back : (ss ss' : List Step) (s : Step) (cells : List (List ℤ)) (b : Boxes) → boxes_of ss cells ≡ b → ss ≡ ss' ++ s ∷ [] →
+    boxes_of ss' (set cells s.cell s.before) ≡ back_to (length b.earlier - 1) b
 one_back ss ss' s cells b view steps =
     let old = set cells s.cell s.before in let before = earlier_boxes ss' old in
     let earlier : earlier_boxes ss cells ≡ before ++ old ∷ [] = ap (λ x. earlier_boxes x cells) steps ∙ earlier-snoc ss' s cells in
@@ -115,7 +124,8 @@ one_back ss ss' s cells b view steps =
     let all : all_boxes (boxes_of ss cells) ≡ before ++ (old ∷ cells ∷ []) = ap (λ e. e ++ cells ∷ []) earlier ∙ rw append_assoc refl in
     same_boxes before _ old _
     (sym (ap (λ k. take k (all_boxes (boxes_of ss cells))) n ∙ ap (take (length before)) all ∙ take-append_seam before (old ∷ cells ∷ [])))
-    (sym (ap (λ k. get_or (all_boxes (boxes_of ss cells)) k []) n ∙ ap (λ l. get_or l (length before) []) all ∙ get_or-append_seam before old (cells ∷ []) [])) ∙
+    (sym (ap (λ k. get_or (all_boxes (boxes_of ss cells)) k []) n ∙ ap (λ l. get_or l (length before) []) all ∙ get_or-append_seam before old
+    (cells ∷ []) [])) ∙
     ap (λ b. back_to (length b.earlier - 1) b) view
 
 pub back_to_itself : (b : Boxes) → b ≡ back_to (length b.earlier) b
@@ -134,7 +144,8 @@ pub length-back : (n : ℕ) (b : Boxes) → n ≤ length b.earlier → length (b
 length-back n b h = length-take-le n (all_boxes b) (omega (arith, h, length-append b.earlier (b.present ∷ [])))
 
 -- a loop's step back
-pub back_more : (now next first : Boxes) → now ≡ back_to (length now.earlier) first → length now.earlier ≤ length first.earlier → next ≡ back_to (length now.earlier - 1) now →
+pub back_more : (now next first : Boxes) → now ≡ back_to (length now.earlier) first → length now.earlier ≤ length first.earlier →
+    next ≡ back_to (length now.earlier - 1) now →
     (next ≡ back_to (length next.earlier) first) × (length next.earlier ≡ length now.earlier - 1)
 back_more now next first is within step =
     let n = length now.earlier in
@@ -149,7 +160,8 @@ pub begun_fit : (ss : List Step) (cells given : List (List ℤ)) → ss ≡ [] �
 unfolding StepsFit
 begun_fit ss cells given none is few box = let same = ap length is in subst (λ s. StepsFit s cells) (sym none) (omega (arith, same, few), box)
 
-pub begun_boxes : (ss : List Step) (cells given : List (List ℤ)) → ss ≡ [] → cells ≡ given → let b : Boxes = record { earlier = []; present = given } in boxes_of ss cells ≡ b
+pub begun_boxes : (ss : List Step) (cells given : List (List ℤ)) → ss ≡ [] → cells ≡ given →
+    let b : Boxes = record { earlier = []; present = given } in boxes_of ss cells ≡ b
 unfolding earlier_boxes
 begun_boxes ss cells given none is = ap (λ s. boxes_of s cells) none ∙ no_steps cells ∙ ap (λ c. present_only c) is
   where

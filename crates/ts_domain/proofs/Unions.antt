@@ -32,7 +32,11 @@ pub in_some_any : (rs : List Interval) (v : ℤ) → InSome rs v → list_any (h
 unfolding InSome
 in_some_any [] v h = absurd h
 in_some_any (r ∷ rs) v h =
-    elim h [ inl here ↦ either_left (has_number v r) (list_any (has_number v) rs) (to_test r v here.0 here.1) | inr there ↦ either_right (has_number v r) (list_any (has_number v) rs) (in_some_any rs v there) ]
+    elim h [
+      | inl here ↦ either_left (has_number v r) (list_any (has_number v) rs) (to_test r v here.0 here.1)
+      | inr there ↦ either_right
+          (has_number v r) (list_any (has_number v) rs) (in_some_any rs v there)
+    ]
   where
     to_test : (r : Interval) (v : ℤ) → r.low ≤ℤ v → v ≤ℤ r.high → has_number v r ≡ true
     to_test r v from to = grind (arith, ints)
@@ -110,7 +114,8 @@ get_or-paired (l ∷ ls) (r ∷ hs) (suc i) d e h = get_or-paired ls hs i d (ome
 abbrev pub IsUsable : Interval → Type 0
 IsUsable r = (neg_ℤ (pos 1000000) ≤ℤ r.low) × (r.low ≤ℤ r.high) × (r.high ≤ℤ pos 1000000)
 
-pub usable_paired : (lows highs : List ℤ) → length lows ≡ length highs → All WithinLimits lows → All WithinLimits highs → (SomeEmpty lows highs → ⊥) → All IsUsable (paired lows highs)
+pub usable_paired : (lows highs : List ℤ) → length lows ≡ length highs → All WithinLimits lows → All WithinLimits highs → (SomeEmpty lows highs → ⊥) →
+    All IsUsable (paired lows highs)
 usable_paired lows highs e a b full i d below =
     let here : i < length lows = omega (arith, below, length-paired lows highs e) in
     let la = a i (pos 0) here in let hb = b i (pos 0) (omega (arith, here, e)) in
@@ -129,7 +134,8 @@ lows_rise from (r ∷ rs) first next usable =
       first r (omega arith),
       here.1,
       here.2,
-      lows_rise r.low rs (λ d below. next 0 d (omega (arith, below))) (λ k d below. next (suc k) d (omega (arith, below))) (λ k d below. usable (suc k) d (omega (arith, below))),
+      lows_rise r.low rs (λ d below. next 0 d (omega (arith, below))) (λ k d below. next (suc k) d (omega (arith, below)))
+          (λ k d below. usable (suc k) d (omega (arith, below))),
     )
 
 -- the order of a sort puts the lower low end first
@@ -137,21 +143,29 @@ low_first : (r s : Interval) → is_lt (ordering_then (int_cmp s.low r.low) (int
 low_first r s h = by_test (int_lt s.low r.low) refl
   where
     by_test : (b : Bool) → int_lt s.low r.low ≡ b → r.low ≤ℤ s.low
-    by_test true e = absurd (both_ways (is_lt (ordering_then (int_cmp s.low r.low) (int_cmp s.high r.high))) h (ap (λ b. is_lt (ordering_then (cond b Less (cond (int_lt r.low s.low) Greater Equal)) (int_cmp s.high r.high))) e))
+    by_test true e = absurd (both_ways (is_lt (ordering_then (int_cmp s.low r.low) (int_cmp s.high r.high))) h
+        (ap (λ b. is_lt (ordering_then (cond b Less (cond (int_lt r.low s.low) Greater Equal)) (int_cmp s.high r.high))) e))
     by_test false e = grind (arith, ints)
 
-pub sorted_rise : (lows highs : List ℤ) (given ys : List Interval) → length lows ≡ length highs → All WithinLimits lows → All WithinLimits highs → (SomeEmpty lows highs → ⊥) → given ≡ paired lows highs → IsPermutation given ys →
-    ((k : ℕ) (d : Interval) → 0 ≤ k → k + 1 < length ys → is_lt (ordering_then (int_cmp (get_or ys (k + 1) d).low (get_or ys k d).low) (int_cmp (get_or ys (k + 1) d).high (get_or ys k d).high)) ≡ false) → LowsRise (neg_ℤ (pos 1000000)) ys
+pub sorted_rise : (lows highs : List ℤ) (given ys : List Interval) → length lows ≡ length highs → All WithinLimits lows → All WithinLimits highs →
+    (SomeEmpty lows highs → ⊥) → given ≡ paired lows highs → IsPermutation given ys →
+    ((k : ℕ) (d : Interval) → 0 ≤ k → k + 1 < length ys → is_lt
+    (ordering_then (int_cmp (get_or ys (k + 1) d).low (get_or ys k d).low) (int_cmp (get_or ys (k + 1) d).high (get_or ys k d).high)) ≡ false) →
+    LowsRise (neg_ℤ (pos 1000000)) ys
 sorted_rise lows highs given ys e a b full is moved sorted =
     let usable : All IsUsable ys = All-permutation IsUsable given ys moved (subst (All IsUsable) (sym is) (usable_paired lows highs e a b full)) in
     lows_rise (neg_ℤ (pos 1000000)) ys (λ d below. (usable 0 d below).0) (λ k d below. next k d (sorted k d (omega arith) (omega (arith, below)))) usable
   where
-    next : (k : ℕ) (d : Interval) → is_lt (ordering_then (int_cmp (get_or ys (k + 1) d).low (get_or ys k d).low) (int_cmp (get_or ys (k + 1) d).high (get_or ys k d).high)) ≡ false → (get_or ys k d).low ≤ℤ (get_or ys (suc k) d).low
-    next k d h = let s : k + 1 ≡ suc k = omega arith in subst (λ n. (get_or ys k d).low ≤ℤ (get_or ys n d).low) s (low_first (get_or ys k d) (get_or ys (k + 1) d) h)
+    next : (k : ℕ) (d : Interval) → is_lt (ordering_then (int_cmp (get_or ys (k + 1) d).low (get_or ys k d).low)
+        (int_cmp (get_or ys (k + 1) d).high (get_or ys k d).high)) ≡ false → (get_or ys k d).low ≤ℤ (get_or ys (suc k) d).low
+    next k d h = let s : k + 1 ≡ suc k = omega arith in subst (λ n. (get_or ys k d).low ≤ℤ (get_or ys n d).low) s
+        (low_first (get_or ys k d) (get_or ys (k + 1) d) h)
 
-pub sorted_same : (lows highs : List ℤ) (given ys : List Interval) (v : ℤ) → length lows ≡ length highs → given ≡ paired lows highs → IsPermutation given ys → InSome ys v ↔ InSomeRange lows highs v
+pub sorted_same : (lows highs : List ℤ) (given ys : List Interval) (v : ℤ) → length lows ≡ length highs → given ≡ paired lows highs →
+    IsPermutation given ys → InSome ys v ↔ InSomeRange lows highs v
 sorted_same lows highs given ys v e is moved =
-    let alike : list_any (has_number v) (paired lows highs) ≡ list_any (has_number v) ys = ap (list_any (has_number v)) (sym is) ∙ list_any-IsPermutation (has_number v) given ys moved in (
+    let alike : list_any (has_number v) (paired lows highs) ≡ list_any (has_number v) ys = ap (list_any (has_number v)) (sym is)
+    ∙ list_any-IsPermutation (has_number v) given ys moved in (
       λ h. in_paired lows highs v e (any_in_some (paired lows highs) v (alike ∙ in_some_any ys v h)),
       λ h. any_in_some ys v (sym alike ∙ in_some_any (paired lows highs) v (paired_has lows highs v e h)),
     )
@@ -160,11 +174,13 @@ sorted_same lows highs given ys v e is moved =
 pub written_back : (items ys : List Interval) (n : ℕ) → n ≡ length items → length ys ≡ length items → take n (ys ++ drop (length ys) items) ≡ ys
 written_back items ys n size same = ap (λ k. take k (ys ++ drop (length ys) items)) (size ∙ sym same) ∙ take-append_seam ys (drop (length ys) items)
 
-pub length-sorted : (lows highs : List ℤ) (given ys : List Interval) → length lows ≡ length highs → given ≡ paired lows highs → IsPermutation given ys → length ys ≡ length lows
+pub length-sorted : (lows highs : List ℤ) (given ys : List Interval) → length lows ≡ length highs → given ≡ paired lows highs → IsPermutation given ys →
+    length ys ≡ length lows
 length-sorted lows highs given ys e is moved = length_permutation given ys moved ∙ ap length is ∙ length-paired lows highs e
 
 -- some range is empty, as the test tells it
-pub some_empty : (lows highs : List ℤ) (b : Bool) → length lows ≡ length highs → b ≡ list_any (λ p. int_lt p.1 p.0) (zip lows highs) → IsTrue b ↔ SomeEmpty lows highs
+pub some_empty : (lows highs : List ℤ) (b : Bool) → length lows ≡ length highs → b ≡ list_any (λ p. int_lt p.1 p.0) (zip lows highs) →
+    IsTrue b ↔ SomeEmpty lows highs
 some_empty lows highs b e test = (λ yes. any_empty lows highs (sym test ∙ yes), λ h. test ∙ empty_any lows highs e h)
 
 pub rises_from : (f g : ℤ) (rs : List Interval) → f ≤ℤ g → LowsRise g rs → LowsRise f rs
@@ -179,13 +195,15 @@ last_range f [] l a = (a.0, a.1, a.2)
 last_range f (r ∷ rs) l a = let later = last_range (r.high +ℤ pos 2) rs l a.3 in (omega (arith, ints, a.0, a.1, later.0), later.1, later.2)
 
 -- the last one grows to a later end
-pub last_grown : (f : ℤ) (rs : List Interval) (l m : Interval) → RangesFrom f (rs ++ l ∷ []) → l.low ≡ m.low → m.low ≤ℤ m.high → m.high ≤ℤ pos 1000000 → RangesFrom f (rs ++ m ∷ [])
+pub last_grown : (f : ℤ) (rs : List Interval) (l m : Interval) → RangesFrom f (rs ++ l ∷ []) → l.low ≡ m.low → m.low ≤ℤ m.high → m.high ≤ℤ pos 1000000 →
+    RangesFrom f (rs ++ m ∷ [])
 unfolding RangesFrom
 last_grown f [] l m a same ordered within = (omega (arith, ints, a.0, same), ordered, within, tt)
 last_grown f (r ∷ rs) l m a same ordered within = (a.0, a.1, a.2, last_grown (r.high +ℤ pos 2) rs l m a.3 same ordered within)
 
 -- one more range behind a gap
-pub one_more_range : (f : ℤ) (rs : List Interval) (l m : Interval) → RangesFrom f (rs ++ l ∷ []) → (l.high +ℤ pos 2) ≤ℤ m.low → m.low ≤ℤ m.high → m.high ≤ℤ pos 1000000 → RangesFrom f ((rs ++ l ∷ []) ++ m ∷ [])
+pub one_more_range : (f : ℤ) (rs : List Interval) (l m : Interval) → RangesFrom f (rs ++ l ∷ []) → (l.high +ℤ pos 2) ≤ℤ m.low → m.low ≤ℤ m.high →
+    m.high ≤ℤ pos 1000000 → RangesFrom f ((rs ++ l ∷ []) ++ m ∷ [])
 unfolding RangesFrom
 one_more_range f [] l m a gap ordered within = (a.0, a.1, a.2, (gap, ordered, within, tt))
 one_more_range f (r ∷ rs) l m a gap ordered within = (a.0, a.1, a.2, one_more_range (r.high +ℤ pos 2) rs l m a.3 gap ordered within)

@@ -16,15 +16,20 @@ loop-next-preserved c =
     let l = last_within c.args.sorted.now _ _ _ c.loop-next.invariant in
     let n = next_within c.args.sorted.now _ _ _ (record { low = pos 0; high = pos 0 }) c.loop-next.invariant c.loop-next-test.true in
     elim c.if-next-last.branch [
-      | then-next-last w ↦ joining_grown c.args.sorted.now c.loop-next.ranges.items c.if-next-last.ranges.items c.loop-next.last c.if-next-last.last c.loop-next.next-index (record { low = pos 0; high = pos 0 }) c.loop-next-test.true c.loop-next.invariant
+      | then-next-last w ↦ joining_grown c.args.sorted.now c.loop-next.ranges.items c.if-next-last.ranges.items c.loop-next.last c.if-next-last.last
+          c.loop-next.next-index (record { low = pos 0; high = pos 0 }) c.loop-next-test.true c.loop-next.invariant
           (let t = w.if-next-last.true in grind (arith, ints)) (ap (λ v. v.items) w.ranges-is) (ap (λ r. r.low) w.last-is)
-          (max_is c.loop-next.last.high _ w.max.result c.if-next-last.last.high l.0 l.1 n.2 n.3 (record { sfits = w.max.type_inv }) w.max.ensures.value (ap (λ r. r.high) w.last-is))
-      | else-next-last+in_ok-push w ↦ joining_more c.args.sorted.now c.loop-next.ranges.items c.if-next-last.ranges.items c.loop-next.last c.if-next-last.last c.loop-next.next-index (record { low = pos 0; high = pos 0 }) c.loop-next-test.true c.loop-next.invariant
+          (max_is c.loop-next.last.high _ w.max.result c.if-next-last.last.high l.0 l.1 n.2 n.3 (record { sfits = w.max.type_inv })
+          w.max.ensures.value (ap (λ r. r.high) w.last-is))
+      | else-next-last+in_ok-push w ↦ joining_more c.args.sorted.now c.loop-next.ranges.items c.if-next-last.ranges.items c.loop-next.last
+          c.if-next-last.last c.loop-next.next-index (record { low = pos 0; high = pos 0 }) c.loop-next-test.true c.loop-next.invariant
           (let t = w.if-next-last.false in grind (arith, ints)) (ap (λ v. v.items) w.ranges-is ∙ w.in_ok-push.ensures.ok) w.last-is
     ]
 
 pub returns-clause-union : goal.returns-clause-union
-returns-clause-union c = joined_numbers c.args.sorted.now _ _ _ _ c.loop-next.invariant (ap (λ v. v.items) c.in_ok-new.ensures.ok ∙ c.in_ok-push-2.ensures.ok) c.loop-next-test.false
+returns-clause-union c = joined_numbers c.args.sorted.now _ _ _ _ c.loop-next.invariant (ap (λ v. v.items) c.in_ok-new.ensures.ok
+    ∙ c.in_ok-push-2.ensures.ok) c.loop-next-test.false
 
 pub returns-clause-domain : goal.returns-clause-domain
-returns-clause-domain c = ranges_are_domain _ (joined_ranges c.args.sorted.now _ _ _ _ c.loop-next.invariant (ap (λ v. v.items) c.in_ok-new.ensures.ok ∙ c.in_ok-push-2.ensures.ok))
+returns-clause-domain c = ranges_are_domain _ (joined_ranges c.args.sorted.now _ _ _ _ c.loop-next.invariant
+    (ap (λ v. v.items) c.in_ok-new.ensures.ok ∙ c.in_ok-push-2.ensures.ok))

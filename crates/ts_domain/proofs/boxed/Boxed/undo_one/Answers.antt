@@ -5,7 +5,8 @@ use Rattle.ts_domain.proofs.boxed.Boxed.undo_one.Goals as goal
 
 pub index_mut-requires : goal.index_mut-requires
 index_mut-requires c =
-    subst (λ n. c.in-Some.step.cell < n) (sym c.self.inside.cells.ok.0) (newest_cell c.self.inside.trail.items c.pop.new.self.items c.in-Some.step c.self.inside.cells.items c.in-Some.ensures.items c.self.invariant)
+    subst (λ n. c.in-Some.step.cell < n) (sym c.self.inside.cells.ok.0)
+    (newest_cell c.self.inside.trail.items c.pop.new.self.items c.in-Some.step c.self.inside.cells.items c.in-Some.ensures.items c.self.invariant)
 
 pub invariant_of-self : goal.invariant_of-self
 invariant_of-self c =
