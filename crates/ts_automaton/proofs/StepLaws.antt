@@ -71,10 +71,10 @@ stands_after b a s h l u e x y r i = record {
 
 -- where the hull isn't none, its spans have their kinds
 pub spans_have : (k : EachOf RegKind) (h : EachOf Span) → HullHasKinds k h → has_registers h ≡ true → Each SpanHasKind k h
-spans_have k h (inl e) t = absurd (not_none (subst (λ g. has_registers g ≡ true) e t))
+spans_have k h (inl e) t = absurd (not_both (has_registers h) e t)
   where
-    not_none : has_registers none_hull ≡ true → ⊥
-    not_none q = cc
+    not_both : (v : Bool) → v ≡ false → v ≡ true → ⊥
+    not_both v p q = cc
 spans_have k h (inr g) t = g
 
 pub hull_takes : (b : Body) → IsTrue (is_automaton b) → (s : Standing Span) → HullStands b s → (l : Letter) (u : Move) →

@@ -1,5 +1,5 @@
 -- Moves and finish expressions on a hull: a span for each register, or none at all.
-use Rattle.std.specs.Prelude.{◌≡◌, ◌<◌, ◌⊎◌, ℕ, ℤ, Bool, ◌&&◌, length, if◌then◌else◌}
+use Rattle.std.specs.Prelude.{false, ◌≡◌, ◌<◌, ◌⊎◌, ℕ, ℤ, Bool, ◌&&◌, length, if◌then◌else◌}
 use Rattle.ts_base.specs.declared.ext.Ext.{Ext}
 use Rattle.ts_base.specs.declared.span.Span.{Span}
 use Rattle.ts_base.specs.Spans.{none_span, one_span, has_some, Holds, span_hull}
@@ -30,7 +30,7 @@ HoldsRegs h s = Each Holds h s
 
 -- it is none, or each span has the kind of its register
 abbrev pub HullHasKinds : EachOf RegKind → EachOf Span → Type 0
-HullHasKinds k h = (h ≡ none_hull) ⊎ Each SpanHasKind k h
+HullHasKinds k h = (has_registers h ≡ false) ⊎ Each SpanHasKind k h
 
 -- what contracts see of a state with a hull
 abbrev pub hull_standing : HullAt → Standing Span

@@ -240,7 +240,7 @@ fn what_was_written_is_read(rt: HostRuntime) -> Result<(), Fail> {
                 assert_eq!(rt; written.as_slice(), text.as_bytes());
             }
             Err(stop) => {
-                assert_eq!(rt; stop, AutoStop::Memory);
+                assert_eq!(rt; stop, AutoStop::Text(0));
             }
         }
     }
@@ -253,7 +253,7 @@ fn the_first_bad_line_is_told(rt: HostRuntime) -> Result<(), Fail> {
     for (text, expected) in refused_texts() {
         match read(alloc, text.as_bytes()) {
             Ok(_) => {
-                assert_eq!(rt; AutoStop::Memory, *expected);
+                assert_eq!(rt; AutoStop::Text(0), *expected);
             }
             Err(stop) => {
                 assert_eq!(rt; stop, *expected);
