@@ -172,7 +172,8 @@ kept_one place c new d size total kept there size_is is own common at now limit 
   own =
       subst (λ (t : ℕ). AllByRecursion (IsOlder t) new.own.items) (sym now)
       (subst (AllByRecursion (IsOlder (c.turn + 1))) (sym own)
-      (all_set (IsOlder (c.turn + 1)) c.own.items place (Some (record { turn = c.turn + 1; domain = d })) (omega arith) (older_on c.turn c.own.items kept.own)));
+      (all_set (IsOlder (c.turn + 1)) c.own.items place (Some (record { turn = c.turn + 1; domain = d })) (omega arith)
+      (older_on c.turn c.own.items kept.own)));
   common = omega (arith, at, now, kept.common);
   few = let e = ap length own in let f : length
       (set c.own.items place (Some (record { turn = c.turn + 1; domain = d }))) ≡ length c.own.items = simp length-set in omega (arith, e, f, kept.few);

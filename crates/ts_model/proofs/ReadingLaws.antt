@@ -146,7 +146,11 @@ end_aim : (need : Need) (c : Cut) (m : Stated) (none : Bool) → AreGood (needs_
 end_aim need c m false good is text has aim = (good, text, has, aim, sym is)
 end_aim need c m true good is text has aim =
     let both : (needs_objective need ≡ true) × (m.objective ≡ None) = parts (needs_objective need) m.objective aim in
-    inr (good, subst (λ t. IsEnd need c t (c.count + 1) NoObjective) (sym text) (inr (ap has_cells is ∙ has, both.0, ap (λ (x : Stated). x.objective) is ∙ both.1, refl, refl)))
+    inr (
+      good,
+      subst (λ t. IsEnd need c t (c.count + 1) NoObjective) (sym text)
+          (inr (ap has_cells is ∙ has, both.0, ap (λ (x : Stated). x.objective) is ∙ both.1, refl, refl)),
+    )
   where
     parts : (b : Bool) (o : Option ℕ) → (b && is_none o) ≡ true → (b ≡ true) × (o ≡ None)
     parts true None e = (refl, refl)

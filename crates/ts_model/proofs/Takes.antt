@@ -26,9 +26,9 @@ follows_on d new sound cells few = record {
 }
 
 clear_pair : (lists : Bool) (m : Stated) (name : List ℕ) (p q : TermParts) (pair : Bool) → is_pair p.aggregator p.feature ≡ pair →
-    cond pair (Ok p) (Err BadPair) ≡ Ok q →
-    has_cells m ≡ true → is_some (term_at name m.terms) ≡ false → nat_le 32 (length m.terms) ≡ false → taken lists m (SaysTerm name (Some p)) ≡ Ok
-    (record m { terms = m.terms ++ (name, q) ∷ [] })
+    cond pair (Ok p) (Err BadPair) ≡ Ok q → has_cells m ≡ true →
+    is_some (term_at name m.terms) ≡ false → nat_le 32 (length m.terms) ≡ false →
+    taken lists m (SaysTerm name (Some p)) ≡ Ok (record m { terms = m.terms ++ (name, q) ∷ [] })
 clear_pair lists m name p q false is made some new room = cc
 clear_pair lists m name p q true is made some new room =
     let same : p ≡ q = cc in rw (some, is, new, room) (ap (λ (x : TermParts). Ok (record m { terms = m.terms ++ (name, x) ∷ [] })) same)
@@ -41,8 +41,8 @@ clear_term lists m name (Some p) q made some new room = clear_pair lists m name 
 
 pub took_term : (lists : Bool) (d : Draft) (name : List ℕ) (parts : Option TermParts) (term : Term) (key : String Global)
     (entries : List (String Global × Term)) → has_cells (drafted d) ≡ true → term_made parts ≡ Ok (parts_of term) →
-    is_some (term_at name (drafted d).terms) ≡ false → nat_le 32
-    (length (drafted d).terms) ≡ false → string_bytes key ≡ name → entries ≡ insert_entry string_eq d.terms.entries key term →
+    is_some (term_at name (drafted d).terms) ≡ false → nat_le 32 (length (drafted d).terms) ≡ false →
+    string_bytes key ≡ name → entries ≡ insert_entry string_eq d.terms.entries key term →
     taken lists (drafted d) (SaysTerm name parts) ≡ Ok (record (drafted d) { terms = map term_of entries })
 took_term lists d name parts term key entries some made new room key_is entries_is =
     clear_term lists (drafted d) name parts (parts_of term) made some new room
@@ -59,7 +59,9 @@ follows_term d new old n sound few count added cells =
     fits false k m n a e f = omega arith
 
 pub few_terms : (es : List (String Global × Term)) (n : ℕ) → n ≤ 31 → n ≡ length es → nat_le 32 (length (map term_of es)) ≡ false
-few_terms es n few count = let e : length (map term_of es) ≡ length es = simp length-map in below (length (map term_of es)) (omega (arith, e, count, few))
+few_terms es n few count =
+    let e : length (map term_of es) ≡ length es = simp length-map in
+    below (length (map term_of es)) (omega (arith, e, count, few))
   where
     below : (k : ℕ) → k ≤ 31 → nat_le 32 k ≡ false
     below k h = grind (arith, nat_tests)

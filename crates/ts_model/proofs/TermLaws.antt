@@ -28,7 +28,8 @@ module _ {A B : Type 0} (p : A → Bool) (q : B → Bool) (f : A → B) (same : 
 pub found_term : (name : List ℕ) (es : List (String Global × Term)) →
     position (λ (k : String Global). bytes_eq name (string_bytes k)) (map (λ e. e.0) es) ≡ term_at name (map term_of es)
 found_term name es =
-    sym (position_map (λ (e : String Global × Term). bytes_eq name (string_bytes e.0)) (λ (k : String Global). bytes_eq name (string_bytes k)) (λ e. e.0) (λ _. refl) es)
+    sym (position_map (λ (e : String Global × Term). bytes_eq name (string_bytes e.0))
+    (λ (k : String Global). bytes_eq name (string_bytes k)) (λ e. e.0) (λ _. refl) es)
     ∙ position_map (λ (e : String Global × Term). bytes_eq name (string_bytes e.0)) (λ (t : List ℕ × TermParts). bytes_eq name t.0) term_of (λ _. refl) es
 
 absent : {A : Type 0} (p : A → Bool) (xs : List A) → is_some (position p xs) ≡ false → length xs ≤ position_or_len p xs

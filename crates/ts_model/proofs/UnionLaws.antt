@@ -72,12 +72,18 @@ module _ (test : ℤ → Bool) where
       (λ fail. all_left (low +ℤ pos 1) n [] tt tt tt (λ v from to pass. only v (omega (arith, ints, from)) (omega (arith, ints, to)) pass))
   all_left low (suc n) (x ∷ xs) rising within each only =
       keep_or_skip low (run (low +ℤ pos 1) n) (x ∷ xs)
-      (λ pass. let same : x ≡ low = head_is low x xs within.0.0 rising.0 (only low (omega (arith, ints)) (omega (arith, ints)) pass) in
-      ap (λ (l : List ℤ). low ∷ l) (all_left (low +ℤ pos 1) n xs rising.1 (both_all (λ y. x <ℤ y) (IsIn low (suc n)) (IsIn (low +ℤ pos 1) n) (next_in low x n within.0.0) xs rising.0 within.1) each.1
+      (λ pass.
+      let same : x ≡ low = head_is low x xs within.0.0 rising.0 (only low (omega (arith, ints)) (omega (arith, ints)) pass) in
+      ap (λ (l : List ℤ). low ∷ l)
+      (all_left (low +ℤ pos 1) n xs rising.1 beyond each.1
       (λ v from to t. rest_has low x v xs same from (only v (omega (arith, ints, from)) (omega (arith, ints, to)) t)))
       ∙ ap (λ (y : ℤ). y ∷ xs) (sym same))
-      (λ fail. all_left (low +ℤ pos 1) n (x ∷ xs) rising ((head_beyond low x within.0.0 fail each.0, omega (arith, ints, within.0.1)), both_all (λ y. x <ℤ y) (IsIn low (suc n)) (IsIn (low +ℤ pos 1) n) (next_in low x n within.0.0) xs rising.0 within.1) each
+      (λ fail.
+      all_left (low +ℤ pos 1) n (x ∷ xs) rising ((head_beyond low x within.0.0 fail each.0, omega (arith, ints, within.0.1)), beyond) each
       (λ v from to t. only v (omega (arith, ints, from)) (omega (arith, ints, to)) t))
+    where
+      beyond : AllByRecursion (IsIn (low +ℤ pos 1) n) xs
+      beyond = both_all (λ y. x <ℤ y) (IsIn low (suc n)) (IsIn (low +ℤ pos 1) n) (next_in low x n within.0.0) xs rising.0 within.1
 
 abbrev low_of : Interval → ℤ
 low_of r = r.low
@@ -110,13 +116,16 @@ unfolding union_of values_between
 union_is rs d dom has =
     sym (all_left (λ v. list_any (has_number v) rs) (neg_ℤ (pos 1000000)) 2000001 d dom.rising
     (both_all WithinLimits WithinLimits (IsIn (neg_ℤ (pos 1000000)) 2000001) within_limits d dom.within dom.within)
-    (recursion_from_All (λ v. list_any (has_number v) rs ≡ true) d (λ k e below. passes rs (get_or d k e) ((has (get_or d k e)).0 (Contains-get_or d k e below))))
+    (recursion_from_All (λ v. list_any (has_number v) rs ≡ true) d
+    (λ k e below. passes rs (get_or d k e) ((has (get_or d k e)).0 (Contains-get_or d k e below))))
     (λ v from to t. let c = (has v).1 (passed rs v t) in among_at d v c.0 c.1 c.2))
 
 pub union_made : (rs : List Interval) (d lows highs : List ℤ) → lows ≡ map (λ r. r.low) rs → highs ≡ map (λ r. r.high) rs → IsDomain d →
     ((v : ℤ) → Contains d v ↔ InSomeRange lows highs v) → d ≡ union_of rs
 union_made rs d lows highs lows_are highs_are dom has =
-    union_is rs d dom (subst (λ (ls : List ℤ). (v : ℤ) → Contains d v ↔ InSomeRange ls (map high_of rs) v) lows_are (subst (λ (hs : List ℤ). (v : ℤ) → Contains d v ↔ InSomeRange lows hs v) highs_are has))
+    union_is rs d dom
+    (subst (λ (ls : List ℤ). (v : ℤ) → Contains d v ↔ InSomeRange ls (map high_of rs) v) lows_are
+    (subst (λ (hs : List ℤ). (v : ℤ) → Contains d v ↔ InSomeRange lows hs v) highs_are has))
 
 -- no range is empty
 backward_parts : (rs : List Interval) → list_any (λ p. int_lt p.1 p.0) (zip (map low_of rs) (map high_of rs)) ≡ list_any is_backward rs

@@ -96,7 +96,8 @@ abbrev pub IsEnd : Need → Cut → Option ℕ → ℕ → ModelKind → Type 0
 IsEnd need c (Some bad) line kind = (line ≡ bad) × (kind ≡ NotText)
 IsEnd need c None line kind =
     ((has_cells (so_far c.rows) ≡ false) × (line ≡ c.count + 1) × (kind ≡ NoCells))
-    ⊎ ((has_cells (so_far c.rows) ≡ true) × (needs_objective need ≡ true) × ((so_far c.rows).objective ≡ None) × (line ≡ c.count + 1) × (kind ≡ NoObjective))
+    ⊎ ((has_cells (so_far c.rows) ≡ true) × (needs_objective need ≡ true) × ((so_far c.rows).objective ≡ None)
+    × (line ≡ c.count + 1) × (kind ≡ NoObjective))
 
 -- a text is refused so
 abbrev pub IsRefused : Need → Cut → ℕ → ModelKind → Type 0

@@ -25,7 +25,8 @@ is_between low x high = int_le low x && int_le x high
 -- the numbers from -1,000,000 to 1,000,000 that some range has, in rising order
 unfoldable pub union_of : List Interval → List ℤ
 union_of ranges =
-    filter (λ v. list_any (λ r. is_between r.low v r.high) ranges) (values_between (neg_ℤ greatest_value) greatest_value)
+    filter (λ v. list_any (λ r. is_between r.low v r.high) ranges)
+    (values_between (neg_ℤ greatest_value) greatest_value)
 
 -- what stands in a model: the numbers of each cell in rising order (no cells before the `cells` line), the terms by
 -- name, and the number of the objective's term
@@ -155,7 +156,8 @@ passes_limit lists m (SaysDomain rs) =
 passes_limit lists m (SaysCell k rs) =
     if list_any is_outside rs then true else over_total lists (with_said m (SaysCell k rs))
 passes_limit lists m (SaysTerm name parts) = nat_le most_terms (length m.terms)
-passes_limit lists m (SaysRequire name op bound) = if is_bound bound then nat_le most_requirements (length m.requirements) else true
+passes_limit lists m (SaysRequire name op bound) =
+    if is_bound bound then nat_le most_requirements (length m.requirements) else true
 passes_limit lists m (SaysObjective name) = false
 
 -- the parts of a term, or the kind of bad names

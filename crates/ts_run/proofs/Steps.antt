@@ -47,7 +47,8 @@ check_stops : (bytes text : List ℕ) (stop : Stop) → text ≡ model_part byte
     StopsWith (CheckReply bytes) stop
 check_stops bytes text stop same h =
     stops_on (OnReading (model_reading Values text) NoMore) (CheckReply bytes)
-    (λ r k. subst (λ (t : List ℕ). OnReading (model_reading Values t) (SeriesReply (rest_part bytes)) r) same (model_refusal (model_reading Values text) (SeriesReply (rest_part bytes)) r k))
+    (λ r k. subst (λ (t : List ℕ). OnReading (model_reading Values t) (SeriesReply (rest_part bytes)) r) same
+    (model_refusal (model_reading Values text) (SeriesReply (rest_part bytes)) r k))
     stop h
 
 pub check_fails : (bytes text : List ℕ) (stop : Stop) (given : Result GivenReply Stop) → text ≡ model_part bytes →

@@ -27,5 +27,6 @@ returns-in-Err-clause-rows c =
     line_stopped c.args.limited before after c.args.lines.now c.loop-line.line-index c.line-item.result c.deref.result.now c.in-Err.stop c.at_line.result _
     c.at_line.ensures (omega arith)
     c.line-item.is c.deref.ensures.value
-    (subst (λ (b : Bool). Gives {X = Unit {0}} (λ _. after) (Err c.in-Err.stop) (line_gives b before (texts c.deref.result.now))) c.loop-line.invariant.limited c.in-Err.ensures.taken)
+    (subst (λ (b : Bool). Gives {X = Unit {0}} (λ _. after) (Err c.in-Err.stop) (line_gives b before (texts c.deref.result.now)))
+    c.loop-line.invariant.limited c.in-Err.ensures.taken)
     c.loop-line.invariant.read
