@@ -1,6 +1,6 @@
 -- What every stated model keeps of the limits, line by line.
-use Rattle.std.proofs.Common.{◌≡◌, ℕ, zero, suc, ◌+◌, ◌<◌, ◌≤◌, Bool, true, false, cond, not, ◌&&◌, Some, None, Ok, Err, List, [], ◌∷◌, ◌++◌, length, map, replicate, ℤ, pos, negsuc, refl, subst, arith, nat_le, nat_lt, length-append, vec_len, rules}
-use Rattle.std.specs.Prelude.{Option, Result, IfOk, IfSome, IsSome, is_none, unwrap_or}
+use Rattle.std.proofs.Common.{◌≡◌, ℕ, zero, suc, ◌+◌, ◌<◌, ◌≤◌, Bool, true, false, cond, not, ◌&&◌, Some, None, Ok, Err, List, [], ◌∷◌, ◌++◌, length, map, replicate, ℤ, pos, negsuc, refl, subst, arith, nat_le, nat_lt, length-append, rules}
+use Rattle.std.specs.Prelude.{Option, Result, IfSome, IsSome, is_none, unwrap_or}
 use Rattle.std.specs.List.{AllByRecursion, list_any}
 use Rattle.std.specs.Str.{bytes_eq}
 use Rattle.std.proofs.lemmas.Int.{ints}
@@ -10,7 +10,6 @@ use Rattle.std.proofs.lemmas.List.Quantifiers.{position-Some}
 use Rattle.ts_domain.specs.BoxSeries.{IsBox}
 use Rattle.ts_token.specs.Text.{Row, Cut}
 use Rattle.ts_model.specs.declared.model.Need.{Need}
-use Rattle.ts_model.specs.declared.model.Model.{Model}
 use Rattle.ts_model.specs.declared.model.Require.{Require}
 use Rattle.ts_model.specs.declared.statement.TermParts.{TermParts}
 use Rattle.ts_model.specs.declared.error.ModelKind.{ModelKind}
@@ -19,8 +18,6 @@ use Rattle.ts_model.specs.Statement.{Said, SaysCells, SaysDomain, SaysCell, Says
 use Rattle.ts_model.specs.Stated.{Stated, nothing, with_said, count_of, is_between, is_outside, is_bound, has_cells, over_total, term_at, total_of, union_of, digits, unused_parts, first_kind, kinds, unless_kind}
 use Rattle.ts_model.specs.ModelReading.{needs_lists, needs_objective, texts_of, taken_as, onward, read_rows, ended, ended_text, reading}
 use Rattle.ts_model.specs.Promise.{IsWhole, KeepsLimits}
-use Rattle.ts_model.specs.declared.error.ModelStop.{ModelStop}
-use Rattle.ts_model.specs.Views.{term_of, stated, Reads}
 
 record IsFit (lists : Bool) (m : Stated) : Type 0 where
   few : length m.cells ≤ 512

@@ -1,5 +1,5 @@
 -- The domains of the cells while lines are read, as rising lists, and what is kept beside them.
-use Rattle.std.specs.Prelude.{◌≡◌, ℕ, ◌+◌, ◌-◌, ◌<◌, ◌≤◌, ℤ, Bool, true, false, ◌&&◌, List, [], map, if◌then◌else◌, nat_lt, get_or, length, Option, Some, None, Result, Ok, Err}
+use Rattle.std.specs.Prelude.{◌≡◌, ℕ, ◌+◌, ◌-◌, ◌≤◌, ℤ, Bool, true, false, ◌&&◌, List, [], map, if◌then◌else◌, nat_lt, get_or, length, Option, Some, None, Result, Ok, Err}
 use Rattle.std.specs.List.{AllByRecursion}
 use Rattle.ts_base.specs.Limits.{most_cells, most_domain_values}
 use Rattle.ts_model.specs.declared.cells.Own.{Own}

@@ -8,11 +8,9 @@ use Rattle.ts_base.specs.declared.ext.Ext.TheVariants.{NegInf, Int, PosInf}
 use Rattle.ts_domain.specs.declared.interval.Interval.{Interval}
 use Rattle.ts_token.specs.Number.{number_of, is_digit}
 use Rattle.ts_pattern.specs.declared.name.Aggregator.{Aggregator}
-use Rattle.ts_pattern.specs.declared.name.Aggregator.TheVariants.{Sum, Max, Min}
 use Rattle.ts_pattern.specs.declared.name.Feature.{Feature}
-use Rattle.ts_pattern.specs.declared.name.Feature.TheVariants.{One, Width, Surf, Max as MaxFeature, Min as MinFeature}
 use Rattle.ts_pattern.specs.declared.name.PatternId.{PatternId}
-use Rattle.ts_pattern.specs.Names.{aggregator_name, feature_name, pattern_name, all_patterns}
+use Rattle.ts_pattern.specs.Names.{aggregator_name, all_aggregators, feature_name, all_features, pattern_name, all_patterns}
 use Rattle.ts_model.specs.declared.words.Form.{Form}
 use Rattle.ts_model.specs.declared.words.Form.TheVariants.{Cells, Domain, Cell, Term, Require, Objective}
 use Rattle.ts_model.specs.declared.model.Op.{Op}
@@ -99,10 +97,10 @@ ranges_of (word ∷ words) = onto (range_of word) (ranges_of words)
 -- the name of the table that the word is
 
 unfoldable pub aggregator_of : List ℕ → Option Aggregator
-aggregator_of word = find (λ x. bytes_eq (aggregator_name x) word) (Sum ∷ Max ∷ Min ∷ [])
+aggregator_of word = find (λ x. bytes_eq (aggregator_name x) word) all_aggregators
 
 unfoldable pub feature_of : List ℕ → Option Feature
-feature_of word = find (λ x. bytes_eq (feature_name x) word) (One ∷ Width ∷ Surf ∷ MaxFeature ∷ MinFeature ∷ [])
+feature_of word = find (λ x. bytes_eq (feature_name x) word) all_features
 
 unfoldable pub pattern_of : List ℕ → Option PatternId
 pattern_of word = find (λ x. bytes_eq (pattern_name x) word) all_patterns

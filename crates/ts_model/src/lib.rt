@@ -22,7 +22,6 @@ mod draft;
 mod error;
 mod laws;
 mod model;
-mod names;
 mod parse;
 mod read;
 mod series;

@@ -8,14 +8,12 @@ ghost use Rattle.ts_model.specs.Statement.{term_length, parts_said, parsed_by, p
 ghost use Rattle.ts_model.specs.Views.{texts, said, Gives};
 
 use crate::error::{LineStop, ModelKind};
-use crate::names::{aggregator_named, feature_named, pattern_named};
 use crate::statement::{Ranges, Statement, TermParts};
 use crate::words::{
     Form, bound_of, form_of, is_count, is_equals, name_of, number_at, op_of, range_of, text_at,
-    word_count,
 };
 use std::alloc::Global;
-use ts_pattern::{Aggregator, Feature};
+use ts_pattern::{Aggregator, Feature, aggregator_of, feature_of, pattern_of};
 use ts_token::Word;
 
 /// The ranges that the words are.
@@ -37,7 +35,7 @@ fn ranges_of(alloc: Global, words: &[Word]) -> Result<Ranges, LineStop>
 fn parse_cells<'a>(words: &[Word<'a>]) -> Result<Statement<'a>, LineStop>
     ensures { Gives said result (parsed_by Form.Cells (texts words.now)) }
 {
-    if word_count(words) != 1 {
+    if words.len() != 1 {
         return Err(LineStop::Bad(ModelKind::Shape));
     }
     match number_at(words, 0) {
@@ -50,7 +48,7 @@ fn parse_cells<'a>(words: &[Word<'a>]) -> Result<Statement<'a>, LineStop>
 fn parse_domain<'a>(alloc: Global, words: &[Word<'a>]) -> Result<Statement<'a>, LineStop>
     ensures { Gives said result (parsed_by Form.Domain (texts words.now)) }
 {
-    if word_count(words) == 0 {
+    if words.len() == 0 {
         return Err(LineStop::Bad(ModelKind::Shape));
     }
     let ranges = ranges_of(alloc, words)?;
@@ -61,7 +59,7 @@ fn parse_domain<'a>(alloc: Global, words: &[Word<'a>]) -> Result<Statement<'a>, 
 fn parse_cell<'a>(alloc: Global, words: &[Word<'a>]) -> Result<Statement<'a>, LineStop>
     ensures { Gives said result (parsed_by Form.Cell (texts words.now)) }
 {
-    if word_count(words) < 2 {
+    if words.len() < 2 {
         return Err(LineStop::Bad(ModelKind::Shape));
     }
     match number_at(words, 0) {
@@ -82,13 +80,13 @@ fn parts_said(words: &[Word]) -> Option<TermParts>
         return Some(TermParts {
             aggregator: Aggregator::Sum,
             feature: Feature::One,
-            pattern: pattern_named(text_at(words, 3))?,
+            pattern: pattern_of(text_at(words, 3))?,
         });
     }
     Some(TermParts {
-        aggregator: aggregator_named(text_at(words, 2))?,
-        feature: feature_named(text_at(words, 3))?,
-        pattern: pattern_named(text_at(words, 4))?,
+        aggregator: aggregator_of(text_at(words, 2))?,
+        feature: feature_of(text_at(words, 3))?,
+        pattern: pattern_of(text_at(words, 4))?,
     })
 }
 
@@ -96,7 +94,7 @@ fn parts_said(words: &[Word]) -> Option<TermParts>
 fn has_term_length(words: &[Word]) -> bool
     ensures { result ≡ (length (texts words.now) == term_length (texts words.now)) }
 {
-    let count = word_count(words);
+    let count = words.len();
     if count > 2 && is_count(text_at(words, 2)) {
         count == 4
     } else {
@@ -123,7 +121,7 @@ fn parse_term<'a>(words: &[Word<'a>]) -> Result<Statement<'a>, LineStop>
 fn parse_require<'a>(words: &[Word<'a>]) -> Result<Statement<'a>, LineStop>
     ensures { Gives said result (parsed_by Form.Require (texts words.now)) }
 {
-    if word_count(words) != 3 {
+    if words.len() != 3 {
         return Err(LineStop::Bad(ModelKind::Shape));
     }
     match (name_of(text_at(words, 0)), op_of(text_at(words, 1))) {
@@ -139,7 +137,7 @@ fn parse_require<'a>(words: &[Word<'a>]) -> Result<Statement<'a>, LineStop>
 fn parse_objective<'a>(words: &[Word<'a>]) -> Result<Statement<'a>, LineStop>
     ensures { Gives said result (parsed_by Form.Objective (texts words.now)) }
 {
-    if word_count(words) != 1 {
+    if words.len() != 1 {
         return Err(LineStop::Bad(ModelKind::Shape));
     }
     match name_of(text_at(words, 0)) {

@@ -3,7 +3,7 @@
 ghost use Rattle.std.specs.Prelude.{◌≡◌, ◌<◌, true, false, length, MatchOption};
 ghost use Rattle.std.specs.List.{list_all, position};
 ghost use Rattle.ts_token.specs.Number.{number_of};
-ghost use Rattle.ts_model.specs.Words.{form_of, op_of, is_equals, is_count, is_letter, is_name_byte, is_name, bound_of, made_range, is_dot, range_of};
+ghost use Rattle.ts_model.specs.Words.{form_of, op_of, is_equals, is_count, is_letter, is_name_byte, is_name, bound_of, is_dot, range_of};
 ghost use Rattle.ts_model.specs.Statement.{word_at};
 ghost use Rattle.ts_model.specs.Views.{texts};
 
@@ -154,38 +154,27 @@ fn dot_at(word: &[u8]) -> Option<usize>
     word.iter().position(|b| *b == b'.')
 }
 
-/// The range of two ends, if both are numbers.
-fn made_range(low: Option<i64>, high: Option<i64>) -> Option<Interval>
-    ensures { result ≡ made_range low high }
-{
-    match (low, high) {
-        (Some(low), Some(high)) => Some(Interval { low, high }),
-        _ => None,
-    }
-}
-
 /// The range that the word is: a number, or two numbers with `..` between them.
 #[tactic(auto, unfolding(crate::specs::Words::range_of))]
 pub(crate) fn range_of(word: &[u8]) -> Option<Interval>
     ensures { result ≡ range_of word.now }
 {
     match dot_at(word) {
-        None => made_range(number(word), number(word)),
+        None => Some(Interval {
+            low: number(word)?,
+            high: number(word)?,
+        }),
         Some(n) => {
             let rest = &word[n + 1..];
             if rest.is_empty() || rest[0] != b'.' {
                 return None;
             }
-            made_range(number(&word[..n]), number(&word[n + 2..]))
+            Some(Interval {
+                low: number(&word[..n])?,
+                high: number(&word[n + 2..])?,
+            })
         }
     }
-}
-
-/// How many words there are.
-pub(crate) fn word_count(words: &[Word]) -> usize
-    ensures { result ≡ length (texts words.now) }
-{
-    words.len()
 }
 
 /// The bytes of the word at a place.

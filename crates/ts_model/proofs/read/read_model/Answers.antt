@@ -1,7 +1,6 @@
-use Rattle.std.proofs.Common.{rules, ◌≡◌, Ok, sym, ap, ◌∙◌}
+use Rattle.std.proofs.Common.{rules, Ok, sym, ap, ◌∙◌}
 use Rattle.ts_token.specs.Views.{cut}
 use Rattle.ts_model.specs.Stated.{Stated}
-use Rattle.ts_model.specs.ModelReading.{reading}
 use Rattle.ts_model.specs.Views.{stated}
 use Rattle.ts_model.proofs.Told.{told}
 use Rattle.ts_model.proofs.FitLaws.{whole_stated, limits_stated}
