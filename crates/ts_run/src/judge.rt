@@ -2,8 +2,7 @@
 //!
 //! Nothing here speaks of texts or commands, so that a search and a checker may take it as it is.
 
-ghost use Rattle.std.specs.Prelude.{ℕ, ◌≡◌, ◌↔◌, ◌<◌, ◌++◌, [], length, pos, slice_get, IfOk, IsTrue};
-ghost use Rattle.std.specs.List.{slice_index_or};
+ghost use Rattle.std.specs.Prelude.{ℕ, ◌≡◌, ◌↔◌, ◌++◌, length, slice_get, IfOk, IsTrue};
 ghost use Rattle.ts_pattern.specs.Limits.{IsSeries};
 ghost use Rattle.ts_model.specs.Judgement.{all_hold, all_true, holdings, holds, insides, is_among};
 ghost use Rattle.ts_model.specs.Meets.{Meets, values_on};
@@ -61,21 +60,13 @@ fn insides(alloc: Global, cells: &[Domain], series: &[i64]) -> Result<Vec<bool>,
 {
     let mut inside = Vec::new(alloc);
     for k in 0..series.len() {
-        inside.push(is_inside(cells, series, k))?;
+        inside.push(has(&cells[k], series[k]))?;
     }
     Ok(inside)
 }
 
-/// Whether the value at place `k`, counted from 0, is in the domain of its cell.
-fn is_inside(cells: &[Domain], series: &[i64], k: usize) -> bool
-    requires cell { k < length cells.now }
-    requires value { k < length series.now }
-    ensures { result ≡ is_among (slice_index_or cells.now k []) (slice_index_or series.now k (pos 0)) }
-{
-    has(&cells[k], series[k])
-}
-
 /// Whether the domain has the value.
+// A call of its own, since an argument is known to lie within 64 bits and a place of a slice isn't.
 fn has(domain: &Domain, value: i64) -> bool
     ensures { result ≡ is_among domain.now value }
 {
