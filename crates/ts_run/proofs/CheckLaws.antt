@@ -1,6 +1,6 @@
 -- The reply of `check`: there is one, and it is `meets` exactly where the series meets the model.
 use Rattle.std.proofs.Common.{◌≡◌, ℕ, ℤ, Bool, true, false, cond, refl, inl, inr, Option, Some, None, Ok, Err, List, length, sym, ◌∙◌, ap, subst}
-use Rattle.std.specs.Prelude.{Result, ◌↔◌, IfSome}
+use Rattle.std.specs.Prelude.{Result, IfSome}
 use Rattle.ts_model.specs.declared.error.ModelKind.{ModelKind}
 use Rattle.ts_model.specs.declared.error.SeriesStop.{SeriesStop}
 use Rattle.ts_model.specs.declared.error.SeriesStop.TheVariants.{Shape as NoSeries, Number as NoNumber, Length, Memory as NoMemory}
@@ -9,7 +9,7 @@ use Rattle.ts_model.specs.Judgement.{is_met}
 use Rattle.ts_model.specs.Meets.{Meets}
 use Rattle.ts_model.specs.Stated.{Stated}
 use Rattle.ts_model.proofs.MeetsLaw.{judged_is_met}
-use Rattle.ts_run.specs.AnswerTexts.{CheckReply, DoneIsMeets, IsAsked, OneCheckReply, OnReading, OnSeries, SeriesReply, fault_read, refused_length, rest_part, series_in}
+use Rattle.ts_run.specs.AnswerTexts.{CheckReply, DoneIsMeets, IsAsked, OneCheckReply, OnReading, OnSeries, SeriesReply, fault_read, rest_part, series_in}
 use Rattle.ts_run.specs.Endings.{CallEnds, RepliesWithin, Responds, TellsMeets}
 use Rattle.ts_run.specs.Reply.{Ends, EndsWith, Reply}
 use Rattle.ts_run.specs.Verdict.{verdict}

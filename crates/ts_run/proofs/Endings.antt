@@ -1,11 +1,11 @@
 -- How a call ends that takes its whole input, by what came of reading it.
-use Rattle.std.proofs.Common.{◌≡◌, ℕ, ◌+◌, ◌<◌, ◌≤◌, ◌⊎◌, inl, inr, Option, Some, None, List, ◌++◌, length, drop, refl, sym, ◌∙◌, ap, subst}
+use Rattle.std.proofs.Common.{◌≡◌, ℕ, ◌+◌, ◌≤◌, inl, inr, Option, Some, None, List, length, refl, sym, ◌∙◌, ap, subst}
 use Rattle.std.specs.Prelude.{IfSome}
 use Rattle.std.proofs.Math.Seq.{drop-append_seam}
 use Rattle.ts_base.specs.Outside.{AtEnd, GaveAtMost, HasMoreThan, Rose, left_after, put_back}
 use Rattle.ts_run.specs.AnswerTexts.{IsReply, fault_read, refused_length}
-use Rattle.ts_run.specs.Endings.{IsRead, RepliesWithin, Responds, WholeEnds, WholeTakes}
-use Rattle.ts_run.specs.Reply.{ComesOfInput, Ends, EndsWritten, Reply, TellsNoFault}
+use Rattle.ts_run.specs.Endings.{RepliesWithin, Responds, WholeEnds, WholeTakes}
+use Rattle.ts_run.specs.Reply.{ComesOfInput, Ends, EndsWritten, Reply}
 use Rattle.ts_run.specs.declared.command.Command.{Command}
 use Rattle.ts_run.specs.declared.status.Status.{Status}
 use Rattle.ts_run.specs.declared.status.Status.TheVariants.{Done, No, Refused, Budget, ReadFault, WriteFault, Memory}

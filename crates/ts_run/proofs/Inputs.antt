@@ -1,6 +1,6 @@
 -- What is read is within the limits: the parts of an input are no longer than it, and a series that was read has cells
 -- from -1,000,000 to 1,000,000.
-use Rattle.std.proofs.Common.{◌≡◌, ℕ, ◌≤◌, ℤ, Bool, true, false, cond, Option, Some, None, Ok, Err, List, [], ◌∷◌, ◌++◌, length, refl, ◌∙◌, ap, subst, arith, length-append}
+use Rattle.std.proofs.Common.{◌≡◌, ℕ, ◌≤◌, ℤ, Bool, true, false, cond, Option, Some, None, Ok, Err, List, [], ◌∷◌, ◌++◌, length, refl, subst, arith, length-append}
 use Rattle.std.specs.Prelude.{◌==◌, unwrap_or}
 use Rattle.std.specs.Option.{option_map}
 use Rattle.std.specs.Borrow.{Bor}
@@ -10,7 +10,7 @@ use Rattle.std.proofs.lemmas.Int.{ints}
 use Rattle.std.proofs.lemmas.List.Elements.{All-from_recursion}
 use Rattle.ts_pattern.specs.Limits.{IsSeries}
 use Rattle.ts_base.specs.Limits.{IsCellValue}
-use Rattle.ts_token.specs.Text.{Cut, is_lf, onto_line}
+use Rattle.ts_token.specs.Text.{Cut}
 use Rattle.ts_token.specs.Number.{number_of}
 use Rattle.ts_token.proofs.HalfLaws.{joined_chunks}
 use Rattle.ts_token.specs.Halves.{chunks, joined, is_separator, Halves, after_front, halves, halves_of}

@@ -1,5 +1,5 @@
 -- The steps of `check`: a part that was read, or the refusal of a bad one.
-use Rattle.std.proofs.Common.{◌≡◌, ℕ, Bool, ℤ, Ok, Err, List, length, refl, sym, ◌∙◌, ap, subst}
+use Rattle.std.proofs.Common.{◌≡◌, ℕ, Bool, ℤ, Ok, Err, List, length, sym, ◌∙◌, ap, subst}
 use Rattle.std.specs.Prelude.{Result}
 use Rattle.std.specs.Result.{IsErrAnd}
 use Rattle.std.specs.List.{zip}
@@ -14,9 +14,9 @@ use Rattle.ts_model.specs.ModelReading.{model_reading}
 use Rattle.ts_model.specs.Series.{series_reading}
 use Rattle.ts_model.specs.Stated.{Stated}
 use Rattle.ts_base.specs.declared.ext.Ext.{Ext}
-use Rattle.ts_run.specs.AnswerTexts.{CheckReply, OnReading, OnSeries, SeriesReply, model_part, rest_part, series_in}
+use Rattle.ts_run.specs.AnswerTexts.{CheckReply, OnReading, OnSeries, SeriesReply, model_part, rest_part}
 use Rattle.ts_run.specs.Replies.{Gives, NoMore, StopsWith}
-use Rattle.ts_run.specs.Reply.{ComesOfInput, Reply, reply_of}
+use Rattle.ts_run.specs.Reply.{Reply, reply_of}
 use Rattle.ts_run.specs.Verdict.{names_of, verdict, verdict_of}
 use Rattle.ts_run.specs.declared.reply.Reply.{Reply as GivenReply}
 use Rattle.ts_run.specs.declared.reply.Stop.{Stop}
