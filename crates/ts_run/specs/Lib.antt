@@ -1,6 +1,7 @@
 pub mod AnswerTexts
 pub mod Commands
 pub mod Endings
+pub mod Quantities
 pub mod Replies
 pub mod Reply
 pub mod Verdict

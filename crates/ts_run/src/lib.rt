@@ -10,6 +10,9 @@
 //!
 //! A command says how it takes its input. One that takes the whole is a function from bytes to a reply, as `check`, and
 //! knows of no source and no sink: a new one is a word, a relation between bytes and reply, and that function.
+//!
+//! A number among the words of a command is a `Budget`, a `Count` or a number of `Cells`: each keeps its range, and is
+//! read from a word exactly where the word writes a number within it.
 #![tactic(auto)]
 
 mod call;
@@ -18,6 +21,7 @@ mod command;
 mod judge;
 mod laws;
 mod model_part;
+mod quantity;
 mod refusal;
 mod reply;
 mod reply_to;
@@ -27,6 +31,7 @@ mod write;
 
 pub use call::run;
 pub use laws::{done_is_meets, one_check_reply};
+pub use quantity::{Budget, Cells, Count};
 pub use status::Status;
 
 #[cfg(test)]
