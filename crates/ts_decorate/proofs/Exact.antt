@@ -1,0 +1,143 @@
+-- The operators of a term, with held and with exact sums, and the laws of the exact ones.
+use Rattle.std.specs.Prelude.{ℤ, pos, ◌+ℤ◌}
+use Rattle.std.proofs.Common.{◌≡◌, refl, sym, ◌∙◌, ap, arith}
+use Rattle.std.proofs.lemmas.Int.{ints}
+use Rattle.ts_base.specs.declared.ext.Ext.{Ext}
+use Rattle.ts_base.specs.declared.ext.Ext.TheVariants.{NegInf, Int, PosInf}
+use Rattle.ts_base.specs.Numbers.{ext_max, ext_min}
+use Rattle.ts_base.proofs.Order.{le_trans, le_antisym, max_left, max_right, max_least, min_left, min_right, min_greatest}
+use Rattle.ts_pattern.specs.declared.name.Aggregator.{Aggregator}
+use Rattle.ts_pattern.specs.declared.name.Aggregator.TheVariants.{Sum, Max as MaxOf, Min as MinOf}
+use Rattle.ts_pattern.specs.declared.name.Feature.{Feature}
+use Rattle.ts_pattern.specs.declared.name.Feature.TheVariants.{One, Width, Surf, Max as MaxFeature, Min as MinFeature}
+use Rattle.ts_automaton.specs.declared.expr.Op.{Op}
+use Rattle.ts_automaton.specs.declared.expr.Op.TheVariants.{Add, Max, Min}
+use Rattle.ts_automaton.specs.Registers.{ext_op}
+use Rattle.ts_decorate.specs.Operators.{Operators}
+use Rattle.ts_decorate.specs.Decoration.{cell_op, neutral_value, range_op, default_value}
+use Rattle.ts_decorate.proofs.Folds.{FoldLaws}
+
+-- the sum of numbers as it is
+abbrev pub exact_plus : Ext → Ext → Ext
+exact_plus NegInf b = NegInf
+exact_plus (Int x) NegInf = NegInf
+exact_plus (Int x) (Int y) = Int (x +ℤ y)
+exact_plus (Int x) PosInf = PosInf
+exact_plus PosInf NegInf = NegInf
+exact_plus PosInf (Int y) = PosInf
+exact_plus PosInf PosInf = PosInf
+
+abbrev pub exact_op : Op → Ext → Ext → Ext
+exact_op Add a b = exact_plus a b
+exact_op Max a b = ext_max a b
+exact_op Min a b = ext_min a b
+
+-- the operators of a term
+abbrev pub operators_by : (Op → Ext → Ext → Ext) → Aggregator → Feature → Operators Ext
+operators_by op g f = record { phi = op (cell_op f); neutral = neutral_value f; g = op (range_op g); default = default_value g }
+
+abbrev pub exact : Aggregator → Feature → Operators Ext
+exact g f = operators_by exact_op g f
+
+-- as the automaton computes them
+abbrev pub held_at_limit : Aggregator → Feature → Operators Ext
+held_at_limit g f = operators_by ext_op g f
+
+-- what a cell is worth
+abbrev pub cell_value : Feature → ℤ → Ext
+cell_value One x = Int (pos 1)
+cell_value Width x = Int (pos 1)
+cell_value Surf x = Int x
+cell_value MaxFeature x = Int x
+cell_value MinFeature x = Int x
+
+-- the values that the feature joins: those of `one` are 1, all others may be any
+abbrev pub IsGood : Feature → Ext → Type 0
+IsGood One u = u ≡ Int (pos 1)
+IsGood Width u = Unit {0}
+IsGood Surf u = Unit {0}
+IsGood MaxFeature u = Unit {0}
+IsGood MinFeature u = Unit {0}
+
+pub cell_good : (f : Feature) (x : ℤ) → IsGood f (cell_value f x)
+cell_good One x = refl
+cell_good Width x = tt
+cell_good Surf x = tt
+cell_good MaxFeature x = tt
+cell_good MinFeature x = tt
+
+pub max_assoc : (a b c : Ext) → ext_max (ext_max a b) c ≡ ext_max a (ext_max b c)
+max_assoc a b c =
+    let u = ext_max (ext_max a b) c in
+    let v = ext_max a (ext_max b c) in
+    le_antisym u v
+    (max_least (ext_max a b) c v
+    (max_least a b v (max_left a (ext_max b c)) (le_trans b (ext_max b c) v (max_left b c) (max_right a (ext_max b c))))
+    (le_trans c (ext_max b c) v (max_right b c) (max_right a (ext_max b c))))
+    (max_least a (ext_max b c) u (le_trans a (ext_max a b) u (max_left a b) (max_left (ext_max a b) c))
+    (max_least b c u (le_trans b (ext_max a b) u (max_right a b) (max_left (ext_max a b) c)) (max_right (ext_max a b) c)))
+
+pub min_assoc : (a b c : Ext) → ext_min (ext_min a b) c ≡ ext_min a (ext_min b c)
+min_assoc a b c =
+    let u = ext_min (ext_min a b) c in
+    let v = ext_min a (ext_min b c) in
+    le_antisym u v
+    (min_greatest a (ext_min b c) u (le_trans u (ext_min a b) a (min_left (ext_min a b) c) (min_left a b))
+    (min_greatest b c u (le_trans u (ext_min a b) b (min_left (ext_min a b) c) (min_right a b)) (min_right (ext_min a b) c)))
+    (min_greatest (ext_min a b) c v
+    (min_greatest a b v (min_left a (ext_min b c)) (le_trans v (ext_min b c) b (min_right a (ext_min b c)) (min_left b c)))
+    (le_trans v (ext_min b c) c (min_right a (ext_min b c)) (min_right b c)))
+
+pub plus_assoc : (a b c : Ext) → exact_plus (exact_plus a b) c ≡ exact_plus a (exact_plus b c)
+plus_assoc NegInf b c = refl
+plus_assoc (Int x) NegInf c = refl
+plus_assoc (Int x) (Int y) NegInf = refl
+plus_assoc (Int x) (Int y) (Int z) = ap Int (omega (arith, ints))
+plus_assoc (Int x) (Int y) PosInf = refl
+plus_assoc (Int x) PosInf NegInf = refl
+plus_assoc (Int x) PosInf (Int z) = refl
+plus_assoc (Int x) PosInf PosInf = refl
+plus_assoc PosInf NegInf c = refl
+plus_assoc PosInf (Int y) NegInf = refl
+plus_assoc PosInf (Int y) (Int z) = refl
+plus_assoc PosInf (Int y) PosInf = refl
+plus_assoc PosInf PosInf NegInf = refl
+plus_assoc PosInf PosInf (Int z) = refl
+plus_assoc PosInf PosInf PosInf = refl
+
+pub plus_zero : (a : Ext) → exact_plus a (Int (pos 0)) ≡ a
+plus_zero NegInf = refl
+plus_zero (Int x) = ap Int (omega (arith, ints))
+plus_zero PosInf = refl
+
+pub max_low : (a : Ext) → ext_max a NegInf ≡ a
+max_low NegInf = refl
+max_low (Int x) = refl
+max_low PosInf = refl
+
+pub min_high : (a : Ext) → ext_min a PosInf ≡ a
+min_high NegInf = refl
+min_high (Int x) = refl
+min_high PosInf = refl
+
+pub cell_laws : (f : Feature) → FoldLaws (exact_op (cell_op f)) (neutral_value f) (IsGood f)
+cell_laws One = record {
+  closed = λ x y p q. ap (λ z. ext_max z y) p ∙ ap (ext_max (Int (pos 1))) q;
+  neutral_good = refl;
+  assoc = λ x y z p q r. max_assoc x y z;
+  right = λ x p. ap (λ z. ext_max z (Int (pos 1))) p ∙ sym p;
+}
+cell_laws Width =
+    record { closed = λ x y p q. tt; neutral_good = tt; assoc = λ x y z p q r. plus_assoc x y z; right = λ x p. plus_zero x }
+cell_laws Surf =
+    record { closed = λ x y p q. tt; neutral_good = tt; assoc = λ x y z p q r. plus_assoc x y z; right = λ x p. plus_zero x }
+cell_laws MaxFeature =
+    record { closed = λ x y p q. tt; neutral_good = tt; assoc = λ x y z p q r. max_assoc x y z; right = λ x p. max_low x }
+cell_laws MinFeature =
+    record { closed = λ x y p q. tt; neutral_good = tt; assoc = λ x y z p q r. min_assoc x y z; right = λ x p. min_high x }
+
+-- where there is no range, g leaves the others as they are
+pub range_right : (g : Aggregator) (y : Ext) → exact_op (range_op g) y (default_value g) ≡ y
+range_right Sum y = plus_zero y
+range_right MaxOf y = max_low y
+range_right MinOf y = min_high y

@@ -1,0 +1,13 @@
+pub mod Folds
+pub mod Exact
+pub mod Runs
+pub mod Evaluation
+pub mod Sizes
+pub mod Registers
+pub mod Answers
+pub mod Features
+pub mod Typed
+pub mod Promises
+pub mod CallerLemmas
+pub mod States
+pub mod Made

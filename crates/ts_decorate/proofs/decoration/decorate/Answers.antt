@@ -1,0 +1,28 @@
+use Rattle.std.proofs.Common.{rules}
+use Rattle.ts_automaton.specs.declared.regs.Regs.{Regs}
+use Rattle.ts_automaton.specs.Body.{body_of}
+use Rattle.ts_transducer.specs.Rows.{rows_of}
+use Rattle.ts_decorate.proofs.Made.{is_made, answers, keeps, marks}
+use Rattle.ts_decorate.proofs.decoration.decorate.Goals as goal
+
+pub unwrap-requires : goal.unwrap-requires
+unwrap-requires c =
+    let start : Regs = record { c = c.default_value.result; d = c.neutral_value.result; r = c.default_value-2.result } in
+    c.new.ensures.exactly.1
+    (is_made (rows_of c.args.t.now) c.rows.result.now c.args.t.now.typed c.rows.ensures.rows c.rows.ensures.few c.args.a c.args.aggregator c.args.feature
+    (body_of c.in_ok-states.states.items start c.in_ok-finish.finish c.mark.result) (search rules))
+
+pub returns-clause-answer : goal.returns-clause-answer
+returns-clause-answer c =
+    answers (rows_of c.args.t.now) c.rows.result.now c.args.t.now.typed c.rows.ensures.rows c.rows.ensures.few c.args.a c.args.aggregator c.args.feature
+    c.unwrap.result (search rules) c.requires
+
+pub returns-clause-mark : goal.returns-clause-mark
+returns-clause-mark c =
+    keeps (rows_of c.args.t.now) c.rows.result.now c.args.t.now.typed c.rows.ensures.rows c.rows.ensures.few c.args.a c.args.aggregator c.args.feature
+    c.unwrap.result (search rules) c.requires
+
+pub returns-clause-marked : goal.returns-clause-marked
+returns-clause-marked c =
+    marks (rows_of c.args.t.now) c.rows.result.now c.args.t.now.typed c.rows.ensures.rows c.rows.ensures.few c.args.a c.args.aggregator c.args.feature
+    c.unwrap.result (search rules) c.requires

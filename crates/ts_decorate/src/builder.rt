@@ -1,0 +1,154 @@
+//! Builds the expressions, moves and states of a term's automaton.
+
+ghost use Rattle.std.specs.Prelude.{◌≡◌, IfOk};
+ghost use Rattle.ts_automaton.specs.Body.{move_of, node_of};
+ghost use Rattle.ts_automaton.specs.Formula.{Join, Leaf, formula};
+ghost use Rattle.ts_automaton.specs.declared.expr.Atom.TheVariants.{This as CellRead, Next as CellNext};
+ghost use Rattle.ts_decorate.specs.Decoration.{cell_op, default_atom, expression_operators, move_made, neutral_atom, node_made, range_op, registers, worth};
+ghost use Rattle.ts_decorate.specs.Operators.{with_all, with_last};
+
+use crate::table;
+use std::alloc::Global;
+use ts_automaton::{Expr, Op, State, Turn};
+use ts_base::{Kind, Memory};
+use ts_pattern::{Aggregator, Feature};
+use ts_transducer::{Arrow, Phase, Row};
+
+/// A term, and how many cells its occurrences leave out at their end.
+#[derive(Drop)]
+pub(crate) struct Builder {
+    pub(crate) alloc: Global,
+    pub(crate) a: u8,
+    pub(crate) aggregator: Aggregator,
+    pub(crate) feature: Feature,
+}
+
+impl Builder {
+    /// An operator over two expressions.
+    fn join(&self, op: Op, left: Expr, right: Expr) -> Result<Expr, Memory>
+        ensures { IfOk result (λ e. formula e ≡ Join op (formula left) (formula right)) }
+    {
+        let left = Box::new(self.alloc, left)?;
+        let right = Box::new(self.alloc, right)?;
+        Ok(match op {
+            Op::Add => Expr::Add(left, right),
+            Op::Max => Expr::Max(left, right),
+            Op::Min => Expr::Min(left, right),
+        })
+    }
+
+    /// Two parts of a range joined.
+    fn phi(&self, left: Expr, right: Expr) -> Result<Expr, Memory>
+        ensures { IfOk result (λ e. formula e ≡ Join (cell_op self.now.feature) (formula left) (formula right)) }
+    {
+        self.join(table::cell_op(self.feature), left, right)
+    }
+
+    /// Ranges joined with further ones.
+    pub(crate) fn g(&self, left: Expr, right: Expr) -> Result<Expr, Memory>
+        ensures { IfOk result (λ e. formula e ≡ Join (range_op self.now.aggregator) (formula left) (formula right)) }
+    {
+        self.join(table::range_op(self.aggregator), left, right)
+    }
+
+    /// The value of no cell.
+    fn neutral(&self) -> Expr
+        ensures { formula result ≡ Leaf (neutral_atom self.now.feature) }
+    {
+        table::neutral(self.feature)
+    }
+
+    /// The value of no range.
+    fn default(&self) -> Expr
+        ensures { formula result ≡ Leaf (default_atom self.now.aggregator) }
+    {
+        table::default(self.aggregator)
+    }
+
+    /// What the cell read is worth.
+    fn here(&self) -> Expr
+        ensures { formula result ≡ Leaf (worth self.now.feature CellRead) }
+    {
+        match self.feature {
+            Feature::One | Feature::Width => Expr::Unit,
+            Feature::Surf | Feature::Max | Feature::Min => Expr::This,
+        }
+    }
+
+    /// What the next cell is worth.
+    fn next(&self) -> Expr
+        ensures { formula result ≡ Leaf (worth self.now.feature CellNext) }
+    {
+        match self.feature {
+            Feature::One | Feature::Width => Expr::Unit,
+            Feature::Surf | Feature::Max | Feature::Min => Expr::Next,
+        }
+    }
+
+    /// D and the last cell that a range could now have.
+    fn with_last(&self) -> Result<Expr, Memory>
+        ensures { IfOk result (λ e. formula e
+            ≡ with_last (expression_operators self.now.aggregator self.now.feature) self.now.a registers.d
+            (Leaf (worth self.now.feature CellRead)) (Leaf (worth self.now.feature CellNext))) }
+    {
+        let last = if self.a == 0 {
+            self.next()
+        } else {
+            self.here()
+        };
+        self.phi(Expr::D, last)
+    }
+
+    /// D and all cells up to that one.
+    fn with_all(&self) -> Result<Expr, Memory>
+        ensures { IfOk result (λ e. formula e
+            ≡ with_all (expression_operators self.now.aggregator self.now.feature) self.now.a registers.d
+            (Leaf (worth self.now.feature CellRead)) (Leaf (worth self.now.feature CellNext))) }
+    {
+        let read = self.phi(Expr::D, self.here())?;
+        if self.a == 0 {
+            self.phi(read, self.next())
+        } else {
+            Ok(read)
+        }
+    }
+
+    /// The move with the expressions of its phase letter.
+    fn turn(&self, arrow: Arrow) -> Result<Turn, Memory>
+        ensures { IfOk result (λ t. move_of t ≡ move_made self.now.a self.now.aggregator self.now.feature arrow) }
+    {
+        let (c, d, r) = match arrow.phase {
+            Phase::Out => (Expr::C, Expr::D, Expr::R),
+            Phase::OutR => (Expr::C, self.neutral(), Expr::R),
+            Phase::OutA => (self.default(), self.neutral(), self.g(Expr::R, Expr::C)?),
+            Phase::MaybeB => (Expr::C, self.phi(Expr::D, self.here())?, Expr::R),
+            Phase::MaybeA => (Expr::C, self.with_last()?, Expr::R),
+            Phase::Found => (self.with_all()?, self.neutral(), Expr::R),
+            Phase::FoundE => (Expr::C, self.neutral(), self.g(Expr::R, self.with_all()?)?),
+            Phase::Inside => (
+                self.phi(Expr::C, self.with_last()?)?,
+                self.neutral(),
+                Expr::R,
+            ),
+        };
+        Ok(Turn {
+            next: arrow.next,
+            c,
+            d,
+            r,
+        })
+    }
+
+    /// The state of a row, with its name.
+    pub(crate) fn state(&self, name: u8, row: Row) -> Result<State, Memory>
+        ensures { IfOk result (λ s. node_of s ≡ node_made self.now.a self.now.aggregator self.now.feature name row) }
+    {
+        Ok(State {
+            name,
+            held: row.kind == Kind::Held,
+            less: self.turn(row.less)?,
+            equal: self.turn(row.equal)?,
+            greater: self.turn(row.greater)?,
+        })
+    }
+}
