@@ -18,9 +18,8 @@ use ts_transducer::{Row, Transducer};
 /// The names of the states, in the order of the rows.
 const STATE_NAMES: [u8; 8] = *b"srtuvwxy";
 
-/// The automaton of a transducer for the aggregator over the features of its ranges, where `a`, 0 or 1, cells are left
-/// out at the end of an occurrence. It answers their aggregate on every series of 1 to 100,000 cells from -1,000,000 to
-/// 1,000,000.
+/// The automaton that answers the aggregate over the ranges of `t`, where `a` cells, 0 or 1, are left out at their end,
+/// on every series of 1 to 100,000 cells from -1,000,000 to 1,000,000.
 pub fn decorate(
     alloc: Global,
     t: &Transducer,

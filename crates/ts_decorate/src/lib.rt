@@ -14,5 +14,7 @@ mod builder;
 mod decoration;
 pub mod laws;
 mod table;
+#[cfg(test)]
+mod tests;
 
 pub use decoration::decorate;
