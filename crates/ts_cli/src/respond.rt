@@ -34,8 +34,8 @@ impl NoWords {
     }
 }
 
-/// The words of the command line without the program's name. `Unreadable` comes exactly where the runtime gives an error
-/// in their place that isn't want of memory.
+/// The words of the command line without the program's name. `Unreadable` comes exactly where the runtime gives an
+/// error in their place that isn't want of memory.
 pub fn words_of(alloc: Global, args: io::Result<Args>) -> Result<Vec<String>, NoWords>
     ensures words { IfOk result (λ words.
         MatchResult args (λ given. words.items ≡ drop 1 (into_iter_items given)) (λ _. ⊥)) }
