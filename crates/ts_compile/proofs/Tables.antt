@@ -1,0 +1,53 @@
+-- The seeds' tables keep what a decorated table is asked for, and the machine of each term answers its value.
+use Rattle.std.specs.Prelude.{◌≡◌, ◌≤◌, true, length, refl}
+use Rattle.std.proofs.Common.{arith}
+use Rattle.ts_transducer.specs.Typing.{is_typed}
+use Rattle.ts_pattern.specs.declared.term.Term.{Term}
+use Rattle.ts_pattern.specs.declared.name.PatternId.{PatternId}
+use Rattle.ts_pattern.specs.declared.name.PatternId.TheVariants.{Increasing, Decreasing, Steady, IncreasingSequence, DecreasingSequence, StrictlyIncreasingSequence, StrictlyDecreasingSequence, SteadySequence, IncreasingTerrace, DecreasingTerrace, Inflexion, Peak, Valley, Plateau, Plain, ProperPlateau, ProperPlain, Summit, Gorge, Zigzag, DipOnIncreasingSequence, BumpOnDecreasingSequence}
+use Rattle.ts_pattern.specs.PatternTable.{pattern_a}
+use Rattle.ts_automaton.specs.AutomatonRun.{Marked}
+use Rattle.ts_seed.specs.SeedTable.{seed_table, table_of}
+use Rattle.ts_seed.proofs.Closed.{rows_closed}
+use Rattle.ts_decorate.proofs.CallerLemmas.{answers_ranges, is_marked}
+use Rattle.ts_compile.specs.Compiled.{AnswersTerm, machine_body}
+use Rattle.ts_compile.proofs.Answers.{answers_term}
+
+-- the rows are typed and at most eight, and the trim is 0 or 1
+table_fits : (id : PatternId) → (is_typed (seed_table id).rows ≡ true) × (length (seed_table id).rows ≤ 8) × (pattern_a id ≤ 1)
+table_fits Increasing = (refl, omega arith, omega arith)
+table_fits Decreasing = (refl, omega arith, omega arith)
+table_fits Steady = (refl, omega arith, omega arith)
+table_fits IncreasingSequence = (refl, omega arith, omega arith)
+table_fits DecreasingSequence = (refl, omega arith, omega arith)
+table_fits StrictlyIncreasingSequence = (refl, omega arith, omega arith)
+table_fits StrictlyDecreasingSequence = (refl, omega arith, omega arith)
+table_fits SteadySequence = (refl, omega arith, omega arith)
+table_fits IncreasingTerrace = (refl, omega arith, omega arith)
+table_fits DecreasingTerrace = (refl, omega arith, omega arith)
+table_fits Inflexion = (refl, omega arith, omega arith)
+table_fits Peak = (refl, omega arith, omega arith)
+table_fits Valley = (refl, omega arith, omega arith)
+table_fits Plateau = (refl, omega arith, omega arith)
+table_fits Plain = (refl, omega arith, omega arith)
+table_fits ProperPlateau = (refl, omega arith, omega arith)
+table_fits ProperPlain = (refl, omega arith, omega arith)
+table_fits Summit = (refl, omega arith, omega arith)
+table_fits Gorge = (refl, omega arith, omega arith)
+table_fits Zigzag = (refl, omega arith, omega arith)
+table_fits DipOnIncreasingSequence = (refl, omega arith, omega arith)
+table_fits BumpOnDecreasingSequence = (refl, omega arith, omega arith)
+
+pub compiled_answers : (t : Term) → AnswersTerm (machine_body t) t
+compiled_answers t =
+    let id = t.pattern in
+    let fits = table_fits id in
+    answers_term (machine_body t) t (seed_table id).rows (pattern_a id) (seed_table id).plan fits.0 refl
+    (rows_closed id (table_of id) (table_of id).rows refl refl)
+    (answers_ranges (seed_table id).rows fits.0 fits.1 (pattern_a id) fits.2 t.aggregator t.feature)
+
+pub compiled_marked : (t : Term) → Marked (machine_body t)
+compiled_marked t =
+    let id = t.pattern in
+    let fits = table_fits id in
+    is_marked (seed_table id).rows fits.0 fits.1 (pattern_a id) fits.2 t.aggregator t.feature

@@ -1,0 +1,45 @@
+-- The terms of a model by their places: their machines and their values on a series.
+use Rattle.std.proofs.Common.{◌≡◌, ℕ, zero, suc, ◌+◌, ℤ, Some, List, [], ◌∷◌, ◌++◌, drop, map, sym, ◌∙◌, ap, append_assoc, arith, String}
+use Rattle.std.specs.Prelude.{slice_get, Option, Result, Ok, Err, IfOk}
+use Rattle.ts_base.specs.declared.ext.Ext.{Ext}
+use Rattle.std.specs.Global.{Global}
+use Rattle.std.proofs.lemmas.List.{map-append}
+use Rattle.ts_pattern.specs.declared.term.Term.{Term}
+use Rattle.ts_pattern.specs.TermValue.{term_value, value_of}
+use Rattle.ts_glue.specs.declared.machine.Machine.{Machine}
+use Rattle.ts_glue.specs.Machines.{forward_of}
+use Rattle.ts_model.specs.Views.{term_of}
+use Rattle.ts_compile.specs.Compiled.{machine_body}
+
+-- an element and those behind it
+drop_at : {A : Type 0} (xs : List A) (k : ℕ) (x : A) → slice_get xs k ≡ Some x → drop k xs ≡ x ∷ drop (k + 1) xs
+drop_at [] k x e = grind arith
+drop_at (y ∷ ys) zero x e = let same : y ≡ x = cc in ap (λ z. z ∷ ys) same
+drop_at (y ∷ ys) (suc k) x e =
+    let more : suc k + 1 ≡ suc (k + 1) = omega arith in
+    drop_at ys k x e ∙ ap (λ n. x ∷ drop n (y ∷ ys)) (sym more)
+
+-- the value of the term at a place
+pub value_found : (xs : List ℤ) (entries : List (String Global × Term)) (k : ℕ) (t : Term) → slice_get (map (λ e. e.1) entries) k ≡ Some t →
+    slice_get (map (λ t. value_of t.1.aggregator t.1.feature t.1.pattern xs) (map term_of entries)) k ≡ Some (term_value t xs)
+value_found xs [] k t e = grind arith
+value_found xs (x ∷ es) zero t e = let same : x.1 ≡ t = cc in ap (λ z. Some (term_value z xs)) same
+value_found xs (x ∷ es) (suc k) t e = value_found xs es k t e
+
+-- one more machine is made
+pub machine_made : (terms : List Term) (made more : List Machine) (k : ℕ) (t : Term) (m : Machine) → slice_get terms k ≡ Some t →
+    forward_of m ≡ machine_body t → more ≡ made ++ m ∷ [] → map forward_of made ++ map machine_body (drop k terms) ≡ map machine_body terms →
+    map forward_of more ++ map machine_body (drop (k + 1) terms) ≡ map machine_body terms
+machine_made terms made more k t m e same pushed before =
+    let rest = map machine_body (drop (k + 1) terms) in
+    ap (λ z. map forward_of z ++ rest) pushed
+    ∙ ap (λ z. z ++ rest) (map-append forward_of made (m ∷ []))
+    ∙ append_assoc (map forward_of made) (forward_of m ∷ []) rest
+    ∙ ap (λ b. map forward_of made ++ b ∷ rest) same
+    ∙ ap (λ z. map forward_of made ++ map machine_body z) (sym (drop_at terms k t e))
+    ∙ before
+
+-- what is answered is the value found
+pub value_answered : {E : Type 0} (r : Result Ext E) (found : Option Ext) (v : Ext) → found ≡ Some v → IfOk r (λ x. x ≡ v) → IfOk r (λ x. found ≡ Some x)
+value_answered (Ok x) found v e h = e ∙ ap Some (sym h)
+value_answered (Err s) found v e h = tt
