@@ -12,7 +12,7 @@ use Rattle.std.proofs.Math.Seq.{map-set_same}
 use Rattle.ts_base.specs.declared.letter.Letter.{Letter}
 use Rattle.ts_base.specs.declared.letter.Letter.TheVariants.{Less, Equal, Greater}
 use Rattle.ts_regex.specs.declared.regex.Regex.{Regex}
-use Rattle.ts_regex.specs.Shape.{Shape, NoWord, shape_of}
+use Rattle.ts_regex.specs.Shape.{Shape, Empty, shape_of}
 use Rattle.ts_regex.specs.Derivative.{nullable, has_word}
 use Rattle.ts_regex.specs.NormalForm.{residual, same_shape}
 use Rattle.ts_regex.proofs.Laws.{same_law}
@@ -48,12 +48,12 @@ known_length ms = length-map ms (λ x. shape_of x.residual)
 at : {A : Type 0} (xs : List A) (k : ℕ) (x d : A) → k < length xs → x ≡ get_or xs k d → slice_get xs k ≡ Some x
 at xs k x d q e = slice_get-get_or xs k d q ∙ ap (λ z. Some z) (sym e)
 
-pub residual_is : (ms : List Met) (k : ℕ) (m d : Met) → k < length ms → m ≡ get_or ms k d → shape_of m.residual ≡ get_or (shapes_met ms) k NoWord
-residual_is ms k m d q e = sym (get_or_from_slice_get (shapes_met ms) k (shape_of m.residual) NoWord (known_get ms k m (at ms k m d q e)))
+pub residual_is : (ms : List Met) (k : ℕ) (m d : Met) → k < length ms → m ≡ get_or ms k d → shape_of m.residual ≡ get_or (shapes_met ms) k Empty
+residual_is ms k m d q e = sym (get_or_from_slice_get (shapes_met ms) k (shape_of m.residual) Empty (known_get ms k m (at ms k m d q e)))
 
 -- the answers at a number
 pub answers_at : (ms : List Met) → AreRight ms → (k : ℕ) (m d : Met) → k < length ms → m ≡ get_or ms k d →
-    (m.has_word ≡ has_word (get_or (shapes_met ms) k NoWord)) × (m.nullable ≡ nullable (get_or (shapes_met ms) k NoWord))
+    (m.has_word ≡ has_word (get_or (shapes_met ms) k Empty)) × (m.nullable ≡ nullable (get_or (shapes_met ms) k Empty))
 answers_at ms h k m d q e =
     let a = h.answers k m (at ms k m d q e) in
     let s = residual_is ms k m d q e in
@@ -62,19 +62,19 @@ answers_at ms h k m d q e =
 -- a number stays one
 pub within_grown : (old : List Shape) (new : List Met) (k : ℕ) → Grows old (shapes_met new) → k < length old → k < length new
 within_grown old new k g q =
-    let there = slice_get_within (shapes_met new) k (get_or old k NoWord) (g k (get_or old k NoWord) (slice_get-get_or old k NoWord q)) in
+    let there = slice_get_within (shapes_met new) k (get_or old k Empty) (g k (get_or old k Empty) (slice_get-get_or old k Empty q)) in
     let z = known_length new in
     omega arith
 
 pub grows_on : (xs ys zs : List Shape) → Grows xs ys → Grows ys zs → Grows xs zs
 grows_on xs ys zs g h n r q = h n r (g n r q)
 
-pub same_grown : (old new : List Met) (k : ℕ) (r : Shape) → Grows (shapes_met old) (shapes_met new) → k < length old → get_or (shapes_met old) k NoWord ≡ r →
-    get_or (shapes_met new) k NoWord ≡ r
+pub same_grown : (old new : List Met) (k : ℕ) (r : Shape) → Grows (shapes_met old) (shapes_met new) → k < length old → get_or (shapes_met old) k Empty ≡ r →
+    get_or (shapes_met new) k Empty ≡ r
 same_grown old new k r g q e =
     let inside : k < length (shapes_met old) = (let z = known_length old in omega arith) in
-    get_or_from_slice_get (shapes_met new) k (get_or (shapes_met old) k NoWord) NoWord
-    (g k (get_or (shapes_met old) k NoWord) (slice_get-get_or (shapes_met old) k NoWord inside))
+    get_or_from_slice_get (shapes_met new) k (get_or (shapes_met old) k Empty) Empty
+    (g k (get_or (shapes_met old) k Empty) (slice_get-get_or (shapes_met old) k Empty inside))
     ∙ e
 
 pub stays_within : (old new : List Met) (k : ℕ) → Grows (shapes_met old) (shapes_met new) → k < length old → k < length new
@@ -197,22 +197,22 @@ right_with_number ms i n m d l inside e number h =
         (noted m n j l c (ap (λ (z : Met). number_after z c) (sym same) ∙ q)))
 
 -- the number of what a letter leaves of residual k, noted
-pub noted_right : (old now : List Met) (k n : ℕ) (l : Letter) (m d new : Met) (r rest : Shape) → k < length old → r ≡ get_or (shapes_met old) k NoWord →
+pub noted_right : (old now : List Met) (k n : ℕ) (l : Letter) (m d new : Met) (r rest : Shape) → k < length old → r ≡ get_or (shapes_met old) k Empty →
     rest ≡ residual r l → Grows (shapes_met old) (shapes_met now) → AreRight now → IsNumber (shapes_met now) rest n → m ≡ get_or now k d →
     new ≡ with_number_after m l n →
     AreRight (set now k new) × Grows (shapes_met old) (shapes_met (set now k new))
-    × IsNumber (shapes_met (set now k new)) (residual (get_or (shapes_met old) k NoWord) l) n
+    × IsNumber (shapes_met (set now k new)) (residual (get_or (shapes_met old) k Empty) l) n
 noted_right old now k n l m d new r rest q er es g h number em en =
     let here : k < length (shapes_met old) = (let z = known_length old in omega arith) in
     let inside : k < length now = within_grown (shapes_met old) now k g here in
     let kept : r ≡ shape_of m.residual = same_Some r (shape_of m.residual)
-    (sym (subst (λ z. IsNumber (shapes_met now) z k) (sym er) (g k (get_or (shapes_met old) k NoWord) (slice_get-get_or (shapes_met old) k NoWord here)))
+    (sym (subst (λ z. IsNumber (shapes_met now) z k) (sym er) (g k (get_or (shapes_met old) k Empty) (slice_get-get_or (shapes_met old) k Empty here)))
     ∙ known_get now k m (at now k m d inside em)) in
     let is : rest ≡ residual (shape_of m.residual) l = es ∙ ap (λ z. residual z l) kept in
     let same : shapes_met (set now k new) ≡ shapes_met now = ap (λ z. shapes_met (set now k z)) en ∙ known_kept now k n m d l em in (
       subst (λ z. AreRight (set now k z)) (sym en) (right_with_number now k n m d l inside em (subst (λ z. IsNumber (shapes_met now) z n) is number) h),
       subst (λ z. Grows (shapes_met old) z) (sym same) g,
-      subst (λ z. IsNumber z (residual (get_or (shapes_met old) k NoWord) l) n) (sym same)
+      subst (λ z. IsNumber z (residual (get_or (shapes_met old) k Empty) l) n) (sym same)
           (subst (λ z. IsNumber (shapes_met now) z n) (es ∙ ap (λ z. residual z l) er) number),
     )
 

@@ -1,7 +1,7 @@
 -- The live starts of a search as entries: the signs before each start, and the expression that is left to read.
 -- A live start has the number of its residual among those that the search has met.
 use Rattle.std.specs.Prelude.{ℕ, ◌<◌, List, [], ◌∷◌, map, length, get_or, Option, None, Some, if◌then◌else◌}
-use Rattle.ts_regex.specs.Shape.{Shape, NoWord}
+use Rattle.ts_regex.specs.Shape.{Shape, Empty}
 use Rattle.ts_regex.specs.Derivative.{nullable}
 use Rattle.ts_pattern.specs.Entries.{Entry}
 use Rattle.std.specs.List.{AllByRecursion}
@@ -14,7 +14,7 @@ abbrev pub entry : ℕ → Shape → Start
 entry start residual = record { mark = start; residual = residual; tag = tt }
 
 abbrev pub entry_of : List Shape → LiveStart → Start
-entry_of rs e = entry e.start (get_or rs e.residual NoWord)
+entry_of rs e = entry e.start (get_or rs e.residual Empty)
 
 abbrev pub entries_of : List Shape → List LiveStart → List Start
 entries_of rs es = map (λ e. entry_of rs e) es

@@ -5,7 +5,7 @@
 
 ghost use Rattle.std.specs.Prelude.{◌≡◌, ◌<◌, ◌==◌, ◌&&◌, not, [], ◌∷◌, ◌++◌, length, get_or, IfOk, OnOk};
 ghost use Rattle.std.specs.List.{list_any};
-ghost use Rattle.ts_regex.specs.Shape.{NoWord};
+ghost use Rattle.ts_regex.specs.Shape.{Empty};
 ghost use Rattle.ts_regex.specs.Derivative.{has_word};
 ghost use Rattle.ts_pattern.specs.Entries.{shapes, survivors, with_entry};
 ghost use Rattle.ts_occurrence.specs.Residuals.{shapes_met, AreRight, Grows};
@@ -38,7 +38,7 @@ pub fn after_letter(
     ensures known { IfOk result (λ v. AreKnown (shapes_met residuals.new.met.items) v.items) }
     ensures exact { IfOk result (λ v. entries_of (shapes_met residuals.new.met.items) v.items
         ≡ survivors shapes l (entries_of (shapes_met residuals.old.met.items) live.items
-        ++ entry read (get_or (shapes_met residuals.old.met.items) 0 NoWord) ∷ [])) }
+        ++ entry read (get_or (shapes_met residuals.old.met.items) 0 Empty) ∷ [])) }
 {
     live.push(LiveStart {
         start: read,
@@ -84,7 +84,7 @@ fn keep(
     ensures known { OnOk result (AreKnown (shapes_met residuals.now.met.items) kept.new.items) }
     ensures exact { OnOk result (entries_of (shapes_met residuals.now.met.items) kept.new.items
         ≡ with_entry shapes (entries_of (shapes_met residuals.now.met.items) kept.old.items)
-        (entry start (get_or (shapes_met residuals.now.met.items) rest NoWord))) }
+        (entry start (get_or (shapes_met residuals.now.met.items) rest Empty))) }
 {
     if is_new(kept, residuals, rest) {
         kept.push(LiveStart {
@@ -99,7 +99,7 @@ fn keep(
 fn is_new(kept: &[LiveStart], residuals: &Residuals, rest: usize) -> bool
     requires there { rest < length residuals.now.met.items }
     requires right { AreRight residuals.now.met.items }
-    ensures { result ≡ (has_word (get_or (shapes_met residuals.now.met.items) rest NoWord)
+    ensures { result ≡ (has_word (get_or (shapes_met residuals.now.met.items) rest Empty)
         && not (list_any (λ x. x.residual == rest) kept.now)) }
 {
     residuals.has_word(rest) && !stands(kept, rest)

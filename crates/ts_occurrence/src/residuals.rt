@@ -3,7 +3,7 @@
 
 ghost use Rattle.std.specs.Prelude.{◌≡◌, ◌<◌, [], ◌∷◌, length, get_or, IfOk, OnOk};
 ghost use Rattle.std.specs.List.{position};
-ghost use Rattle.ts_regex.specs.Shape.{shape_of, NoWord};
+ghost use Rattle.ts_regex.specs.Shape.{shape_of, Empty};
 ghost use Rattle.ts_regex.specs.Derivative.{nullable, has_word};
 ghost use Rattle.ts_regex.specs.NormalForm.{residual, same_shape};
 ghost use Rattle.ts_occurrence.specs.Residuals.{shapes_met, number_after, with_number_after, met_of, IsNumber, AreRight, Grows};
@@ -44,7 +44,7 @@ impl Residuals {
     /// The residual of a number.
     fn get(&self, number: usize) -> &Regex
         requires { number < length self.now.met.items }
-        ensures { shape_of result.now ≡ get_or (shapes_met self.now.met.items) number NoWord }
+        ensures { shape_of result.now ≡ get_or (shapes_met self.now.met.items) number Empty }
     {
         &self.met[number].residual
     }
@@ -53,7 +53,7 @@ impl Residuals {
     pub fn has_word(&self, number: usize) -> bool
         requires there { number < length self.now.met.items }
         requires right { AreRight self.now.met.items }
-        ensures { result ≡ has_word (get_or (shapes_met self.now.met.items) number NoWord) }
+        ensures { result ≡ has_word (get_or (shapes_met self.now.met.items) number Empty) }
     {
         self.met[number].has_word
     }
@@ -62,7 +62,7 @@ impl Residuals {
     pub fn nullable(&self, number: usize) -> bool
         requires there { number < length self.now.met.items }
         requires right { AreRight self.now.met.items }
-        ensures { result ≡ nullable (get_or (shapes_met self.now.met.items) number NoWord) }
+        ensures { result ≡ nullable (get_or (shapes_met self.now.met.items) number Empty) }
     {
         self.met[number].nullable
     }
@@ -74,7 +74,7 @@ impl Residuals {
         ensures right { OnOk result (AreRight self.new.met.items) }
         ensures grown { OnOk result (Grows (shapes_met self.old.met.items) (shapes_met self.new.met.items)) }
         ensures exact { IfOk result (λ n. IsNumber (shapes_met self.new.met.items)
-            (residual (get_or (shapes_met self.old.met.items) number NoWord) l) n) }
+            (residual (get_or (shapes_met self.old.met.items) number Empty) l) n) }
     {
         match self.met[number].after(l) {
             Some(next) => Ok(next),

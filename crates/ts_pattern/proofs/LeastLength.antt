@@ -2,7 +2,7 @@
 use Rattle.std.specs.Prelude.{ℕ, ◌+◌, ◌≤◌, min, List, length}
 use Rattle.std.proofs.Common.{sym, subst, arith, length-append, ⊎_elim}
 use Rattle.ts_base.specs.declared.letter.Letter.{Letter}
-use Rattle.ts_regex.specs.Shape.{Shape, NoWord, EmptyWord, OneLetter, Concat, Union, Repeat}
+use Rattle.ts_regex.specs.Shape.{Shape, Empty, Eps, One, Cat, Alt, Star}
 use Rattle.ts_regex.specs.Language.{InLanguage}
 use Rattle.ts_pattern.specs.declared.name.PatternId.{PatternId}
 use Rattle.ts_pattern.specs.declared.name.PatternId.TheVariants.{Increasing, Decreasing, Steady, IncreasingSequence, DecreasingSequence, StrictlyIncreasingSequence, StrictlyDecreasingSequence, SteadySequence, IncreasingTerrace, DecreasingTerrace, Inflexion, Peak, Valley, Plateau, Plain, ProperPlateau, ProperPlain, Summit, Gorge, Zigzag, DipOnIncreasingSequence, BumpOnDecreasingSequence}
@@ -10,25 +10,25 @@ use Rattle.ts_pattern.specs.PatternTable.{pattern_shape, pattern_b, pattern_a}
 use Rattle.ts_pattern.specs.Trims.{FitsTrims, HasLongWords}
 
 abbrev pub least_length : Shape → ℕ
-least_length NoWord = 0
-least_length EmptyWord = 0
-least_length (OneLetter l) = 1
-least_length (Concat r s) = least_length r + least_length s
-least_length (Union r s) = min (least_length r) (least_length s)
-least_length (Repeat r) = 0
+least_length Empty = 0
+least_length Eps = 0
+least_length (One l) = 1
+least_length (Cat r s) = least_length r + least_length s
+least_length (Alt r s) = min (least_length r) (least_length s)
+least_length (Star r) = 0
 
 pub no_shorter : (r : Shape) (w : List Letter) → InLanguage r w → least_length r ≤ length w
-no_shorter NoWord w h = absurd h
-no_shorter EmptyWord w h = omega arith
-no_shorter (OneLetter l) w h = subst (λ v. 1 ≤ length v) (sym h) (omega arith)
-no_shorter (Concat r s) w h =
+no_shorter Empty w h = absurd h
+no_shorter Eps w h = omega arith
+no_shorter (One l) w h = subst (λ v. 1 ≤ length v) (sym h) (omega arith)
+no_shorter (Cat r s) w h =
     let x = no_shorter r h.0 h.3 in
     let y = no_shorter s h.1 h.4 in
     let n = length-append h.0 h.1 in
     subst (λ v. least_length r + least_length s ≤ length v) (sym h.2) (omega arith)
-no_shorter (Union r s) w h =
+no_shorter (Alt r s) w h =
     ⊎_elim (λ a. let x = no_shorter r w a in omega arith) (λ a. let x = no_shorter s w a in omega arith) h
-no_shorter (Repeat r) w h = omega arith
+no_shorter (Star r) w h = omega arith
 
 -- the least word of each pattern covers its trims, and isn't empty
 pub long_enough : (id : PatternId) → (pattern_b id + pattern_a id ≤ least_length (pattern_shape id)) × (1 ≤ least_length (pattern_shape id))

@@ -3,7 +3,7 @@
 use Rattle.std.specs.Prelude.{ℕ}
 use Rattle.ts_base.specs.declared.letter.Letter.{Letter}
 use Rattle.ts_base.specs.declared.letter.Letter.TheVariants.{Less, Equal, Greater}
-use Rattle.ts_regex.specs.Shape.{Shape, OneLetter, Concat, Union, Repeat}
+use Rattle.ts_regex.specs.Shape.{Shape, One, Cat, Alt, Star}
 use Rattle.ts_pattern.specs.declared.name.PatternId.{PatternId}
 use Rattle.ts_pattern.specs.declared.name.PatternId.TheVariants.{Increasing, Decreasing, Steady, IncreasingSequence, DecreasingSequence, StrictlyIncreasingSequence, StrictlyDecreasingSequence, SteadySequence, IncreasingTerrace, DecreasingTerrace, Inflexion, Peak, Valley, Plateau, Plain, ProperPlateau, ProperPlain, Summit, Gorge, Zigzag, DipOnIncreasingSequence, BumpOnDecreasingSequence}
 
@@ -11,67 +11,67 @@ use Rattle.ts_pattern.specs.declared.name.PatternId.TheVariants.{Increasing, Dec
 
 -- r+, that is r r*
 abbrev pub plus : Shape → Shape
-plus r = Concat r (Repeat r)
+plus r = Cat r (Star r)
 
 -- u(u|=)*u|u
 abbrev pub sequence : Letter → Shape
 sequence u =
-    Union (Concat (OneLetter u) (Concat (Repeat (Union (OneLetter u) (OneLetter Equal))) (OneLetter u))) (OneLetter u)
+    Alt (Cat (One u) (Cat (Star (Alt (One u) (One Equal))) (One u))) (One u)
 
 -- u=+u
 abbrev pub terrace : Letter → Shape
-terrace u = Concat (OneLetter u) (Concat (plus (OneLetter Equal)) (OneLetter u))
+terrace u = Cat (One u) (Cat (plus (One Equal)) (One u))
 
 -- u(u|=)*d
 abbrev pub turn : Letter → Letter → Shape
-turn u d = Concat (OneLetter u) (Concat (Repeat (Union (OneLetter u) (OneLetter Equal))) (OneLetter d))
+turn u d = Cat (One u) (Cat (Star (Alt (One u) (One Equal))) (One d))
 
 -- u(=|u)*(d|=)*d
 abbrev pub peak : Letter → Letter → Shape
 peak u d =
-    Concat (OneLetter u)
-    (Concat (Repeat (Union (OneLetter Equal) (OneLetter u)))
-    (Concat (Repeat (Union (OneLetter d) (OneLetter Equal))) (OneLetter d)))
+    Cat (One u)
+    (Cat (Star (Alt (One Equal) (One u)))
+    (Cat (Star (Alt (One d) (One Equal))) (One d)))
 
 -- u=*d
 abbrev pub plateau : Letter → Letter → Shape
-plateau u d = Concat (OneLetter u) (Concat (Repeat (OneLetter Equal)) (OneLetter d))
+plateau u d = Cat (One u) (Cat (Star (One Equal)) (One d))
 
 -- u=+d
 abbrev pub proper_plateau : Letter → Letter → Shape
-proper_plateau u d = Concat (OneLetter u) (Concat (plus (OneLetter Equal)) (OneLetter d))
+proper_plateau u d = Cat (One u) (Cat (plus (One Equal)) (One d))
 
 -- u|u(=|u)*u
 abbrev pub slope : Letter → Shape
 slope u =
-    Union (OneLetter u) (Concat (OneLetter u) (Concat (Repeat (Union (OneLetter Equal) (OneLetter u))) (OneLetter u)))
+    Alt (One u) (Cat (One u) (Cat (Star (Alt (One Equal) (One u))) (One u)))
 
 -- (u|u(=|u)*u)(d|d(=|d)*d)
 abbrev pub summit : Letter → Letter → Shape
-summit u d = Concat (slope u) (slope d)
+summit u d = Cat (slope u) (slope d)
 
 -- (ud)+(u|ud)
 abbrev pub alternation : Letter → Letter → Shape
 alternation u d =
-    Concat (plus (Concat (OneLetter u) (OneLetter d))) (Union (OneLetter u) (Concat (OneLetter u) (OneLetter d)))
+    Cat (plus (Cat (One u) (One d))) (Alt (One u) (Cat (One u) (One d)))
 
 -- uuduu
 abbrev pub dip : Letter → Letter → Shape
 dip u d =
-    Concat (OneLetter u) (Concat (OneLetter u) (Concat (OneLetter d) (Concat (OneLetter u) (OneLetter u))))
+    Cat (One u) (Cat (One u) (Cat (One d) (Cat (One u) (One u))))
 
 abbrev pub pattern_shape : PatternId → Shape
-pattern_shape Increasing = OneLetter Less
-pattern_shape Decreasing = OneLetter Greater
-pattern_shape Steady = OneLetter Equal
+pattern_shape Increasing = One Less
+pattern_shape Decreasing = One Greater
+pattern_shape Steady = One Equal
 pattern_shape IncreasingSequence = sequence Less
 pattern_shape DecreasingSequence = sequence Greater
-pattern_shape StrictlyIncreasingSequence = plus (OneLetter Less)
-pattern_shape StrictlyDecreasingSequence = plus (OneLetter Greater)
-pattern_shape SteadySequence = plus (OneLetter Equal)
+pattern_shape StrictlyIncreasingSequence = plus (One Less)
+pattern_shape StrictlyDecreasingSequence = plus (One Greater)
+pattern_shape SteadySequence = plus (One Equal)
 pattern_shape IncreasingTerrace = terrace Less
 pattern_shape DecreasingTerrace = terrace Greater
-pattern_shape Inflexion = Union (turn Less Greater) (turn Greater Less)
+pattern_shape Inflexion = Alt (turn Less Greater) (turn Greater Less)
 pattern_shape Peak = peak Less Greater
 pattern_shape Valley = peak Greater Less
 pattern_shape Plateau = plateau Less Greater
@@ -80,7 +80,7 @@ pattern_shape ProperPlateau = proper_plateau Less Greater
 pattern_shape ProperPlain = proper_plateau Greater Less
 pattern_shape Summit = summit Less Greater
 pattern_shape Gorge = summit Greater Less
-pattern_shape Zigzag = Union (alternation Less Greater) (alternation Greater Less)
+pattern_shape Zigzag = Alt (alternation Less Greater) (alternation Greater Less)
 pattern_shape DipOnIncreasingSequence = dip Less Greater
 pattern_shape BumpOnDecreasingSequence = dip Greater Less
 

@@ -2,7 +2,7 @@
 use Rattle.std.specs.Prelude.{ℕ, zero, suc, Bool, true, false, ◌&&◌, ◌==◌, nat_lt, List, [], ◌∷◌, map, length}
 use Rattle.std.specs.List.{list_all}
 use Rattle.ts_base.specs.declared.letter.Letter.TheVariants.{Less, Equal, Greater}
-use Rattle.ts_regex.specs.Shape.{Shape, NoWord, shape_of}
+use Rattle.ts_regex.specs.Shape.{Shape, Empty, shape_of}
 use Rattle.ts_regex.specs.NormalForm.{normal_form, same_shape}
 use Rattle.ts_transducer.specs.declared.row.Row.{Row}
 use Rattle.ts_pattern.specs.declared.plan.Tag.{Tag}
@@ -31,7 +31,7 @@ plain_plan plan =
 
 -- the residual of a number
 abbrev pub shape_at : List Shape → ℕ → Shape
-shape_at [] i = NoWord
+shape_at [] i = Empty
 shape_at (r ∷ rs) zero = r
 shape_at (r ∷ rs) (suc i) = shape_at rs i
 

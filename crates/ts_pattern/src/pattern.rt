@@ -23,7 +23,7 @@ impl Pattern {
         ensures a { IfOk result (λ p. p.a ≡ self.now.a) }
     {
         Ok(Pattern {
-            regex: self.regex.copy(alloc)?,
+            regex: self.regex.try_clone(alloc)?,
             b: self.b,
             a: self.a,
         })

@@ -3,7 +3,7 @@
 //! A pattern and its mirror, in which `<` and `>` are exchanged, have one function with the letters as parameters.
 
 ghost use Rattle.std.specs.Prelude.{◌≡◌, ◌≤◌, IfOk};
-ghost use Rattle.ts_regex.specs.Shape.{shape_of, OneLetter, Concat, Union, Repeat};
+ghost use Rattle.ts_regex.specs.Shape.{shape_of, One, Cat, Alt, Star};
 ghost use Rattle.ts_pattern.specs.PatternTable.{plus, sequence, terrace, turn, peak, plateau, proper_plateau};
 ghost use Rattle.ts_pattern.specs.PatternTable.{slope, summit, alternation, dip, pattern_shape, pattern_b, pattern_a};
 ghost use Rattle.ts_pattern.specs.Trims.{FitsTrims, HasLongWords};
@@ -100,14 +100,14 @@ fn trim_after(id: PatternId) -> u8
 
 // The letter, once or more often.
 fn plus(alloc: Global, letter: Letter) -> Result<Regex, Memory>
-    ensures { IfOk result (λ r. shape_of r ≡ plus (OneLetter letter)) }
+    ensures { IfOk result (λ r. shape_of r ≡ plus (One letter)) }
 {
     cat(alloc, Regex::One(letter), star(alloc, Regex::One(letter))?)
 }
 
 /// Any number of the two letters.
 fn any_of(alloc: Global, one: Letter, other: Letter) -> Result<Regex, Memory>
-    ensures { IfOk result (λ r. shape_of r ≡ Repeat (Union (OneLetter one) (OneLetter other))) }
+    ensures { IfOk result (λ r. shape_of r ≡ Star (Alt (One one) (One other))) }
 {
     star(alloc, alt(alloc, Regex::One(one), Regex::One(other))?)
 }
@@ -115,7 +115,7 @@ fn any_of(alloc: Global, one: Letter, other: Letter) -> Result<Regex, Memory>
 // The first letter, the middle part, the last letter.
 fn between(alloc: Global, first: Letter, middle: Regex, last: Letter) -> Result<Regex, Memory>
     ensures { IfOk result (λ r. shape_of r ≡
-        Concat (OneLetter first) (Concat (shape_of middle) (OneLetter last))) }
+        Cat (One first) (Cat (shape_of middle) (One last))) }
 {
     cat(
         alloc,
@@ -215,7 +215,7 @@ fn alternation(alloc: Global, up: Letter, down: Letter) -> Result<Regex, Memory>
 
 /// One letter, then the other.
 fn both(alloc: Global, one: Letter, other: Letter) -> Result<Regex, Memory>
-    ensures { IfOk result (λ r. shape_of r ≡ Concat (OneLetter one) (OneLetter other)) }
+    ensures { IfOk result (λ r. shape_of r ≡ Cat (One one) (One other)) }
 {
     cat(alloc, Regex::One(one), Regex::One(other))
 }

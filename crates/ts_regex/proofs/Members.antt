@@ -8,23 +8,23 @@ use Rattle.std.proofs.lemmas.List.{map-append, length-map, get_or-map, take-appe
 use Rattle.std.specs.List.{take-map, drop-map}
 use Rattle.std.proofs.Math.Seq.{drop-cons, take-suc}
 use Rattle.ts_regex.specs.declared.regex.Regex.{Regex}
-use Rattle.ts_regex.specs.Shape.{Shape, NoWord, Union, shape_of}
-use Rattle.ts_regex.specs.NormalForm.{shape_cmp, members, inserted, inserted_all, nested, normal_union}
+use Rattle.ts_regex.specs.Shape.{Shape, Empty, Alt, shape_of}
+use Rattle.ts_regex.specs.NormalForm.{shape_cmp, members, insert_member, insert_members, nest, normal_alt}
 use Rattle.ts_regex.proofs.NormalForms.{placed}
 
-pub all_append : (rs ts ss : List Shape) → inserted_all (rs ++ ts) ss ≡ inserted_all rs (inserted_all ts ss)
+pub all_append : (rs ts ss : List Shape) → insert_members (rs ++ ts) ss ≡ insert_members rs (insert_members ts ss)
 all_append [] ts ss = refl
-all_append (r ∷ rs) ts ss = ap (λ z. inserted r z) (all_append rs ts ss)
+all_append (r ∷ rs) ts ss = ap (λ z. insert_member r z) (all_append rs ts ss)
 
 -- the last two members may be joined
-pub nested_last : (rs : List Shape) (s t : Shape) → nested (rs ++ s ∷ t ∷ []) ≡ nested (rs ++ Union s t ∷ [])
-nested_last [] s t = refl
-nested_last (r ∷ []) s t = refl
-nested_last (r ∷ q ∷ rs) s t = ap (λ z. Union r z) (nested_last (q ∷ rs) s t)
+pub nest_last : (rs : List Shape) (s t : Shape) → nest (rs ++ s ∷ t ∷ []) ≡ nest (rs ++ Alt s t ∷ [])
+nest_last [] s t = refl
+nest_last (r ∷ []) s t = refl
+nest_last (r ∷ q ∷ rs) s t = ap (λ z. Alt r z) (nest_last (q ∷ rs) s t)
 
 -- r goes in behind the first k of the members
 abbrev pub Passed : Shape → List Shape → ℕ → Type 0
-Passed r ss k = inserted r ss ≡ take k ss ++ inserted r (drop k ss)
+Passed r ss k = insert_member r ss ≡ take k ss ++ insert_member r (drop k ss)
 
 -- member k begins the rest from k on
 pub rest_at : (xs : List Regex) (k : ℕ) (x : Regex) → k < length xs → x ≡ get_or xs k x → drop k (map shape_of xs) ≡ shape_of x ∷ drop (suc k) (map shape_of xs)
@@ -38,24 +38,24 @@ rest_at xs k x p q =
 pub front_at : (xs : List Regex) (k : ℕ) (x : Regex) → k < length xs → x ≡ get_or xs k x →
     take (suc k) (map shape_of xs) ≡ take k (map shape_of xs) ++ shape_of x ∷ []
 front_at xs k x p q =
-    take-suc (map shape_of xs) k NoWord (let n = length-map xs shape_of in omega arith)
-    ∙ ap (λ z. take k (map shape_of xs) ++ z ∷ []) (get_or-map shape_of xs k x NoWord p ∙ ap shape_of (sym q))
+    take-suc (map shape_of xs) k Empty (let n = length-map xs shape_of in omega arith)
+    ∙ ap (λ z. take k (map shape_of xs) ++ z ∷ []) (get_or-map shape_of xs k x Empty p ∙ ap shape_of (sym q))
 
 -- where r is compared with member k
 pub compared : (r : Shape) (xs : List Regex) (k : ℕ) (x : Regex) (o : Ordering) → k < length xs → x ≡ get_or xs k x → Passed r (map shape_of xs) k →
-    shape_cmp r (shape_of x) ≡ o → inserted r (map shape_of xs) ≡ take k (map shape_of xs) ++ placed o r (shape_of x) (drop (suc k) (map shape_of xs))
+    shape_cmp r (shape_of x) ≡ o → insert_member r (map shape_of xs) ≡ take k (map shape_of xs) ++ placed o r (shape_of x) (drop (suc k) (map shape_of xs))
 compared r xs k x o p q h e =
     h
     ∙ ap (λ z. take k (map shape_of xs) ++ z)
-    (ap (λ z. inserted r z) (rest_at xs k x p q) ∙ ap (λ z. placed z r (shape_of x) (drop (suc k) (map shape_of xs))) e)
+    (ap (λ z. insert_member r z) (rest_at xs k x p q) ∙ ap (λ z. placed z r (shape_of x) (drop (suc k) (map shape_of xs))) e)
 
 pub before_member : (r : Shape) (xs : List Regex) (k : ℕ) (x : Regex) → k < length xs → x ≡ get_or xs k x → Passed r (map shape_of xs) k →
-    Before ≡ shape_cmp r (shape_of x) → inserted r (map shape_of xs) ≡ insert (map shape_of xs) k r
+    Before ≡ shape_cmp r (shape_of x) → insert_member r (map shape_of xs) ≡ insert (map shape_of xs) k r
 before_member r xs k x p q h e =
     compared r xs k x Before p q h (sym e) ∙ ap (λ z. take k (map shape_of xs) ++ r ∷ z) (sym (rest_at xs k x p q))
 
 pub same_member : (r : Shape) (xs : List Regex) (k : ℕ) (x : Regex) → k < length xs → x ≡ get_or xs k x → Passed r (map shape_of xs) k →
-    Same ≡ shape_cmp r (shape_of x) → inserted r (map shape_of xs) ≡ map shape_of xs
+    Same ≡ shape_cmp r (shape_of x) → insert_member r (map shape_of xs) ≡ map shape_of xs
 same_member r xs k x p q h e =
     compared r xs k x Same p q h (sym e) ∙ ap (λ z. take k (map shape_of xs) ++ z) (sym (rest_at xs k x p q)) ∙ take-append-drop k (map shape_of xs)
 
@@ -64,8 +64,8 @@ pub after_member : (r : Shape) (xs : List Regex) (k : ℕ) (x : Regex) → k < l
 after_member r xs k x p q h e =
     subst (λ n. Passed r (map shape_of xs) n) (let n : suc k ≡ k + 1 = omega arith in n)
     (compared r xs k x After p q h (sym e)
-    ∙ sym (append_assoc (take k (map shape_of xs)) (shape_of x ∷ []) (inserted r (drop (suc k) (map shape_of xs))))
-    ∙ ap (λ z. z ++ inserted r (drop (suc k) (map shape_of xs))) (sym (front_at xs k x p q)))
+    ∙ sym (append_assoc (take k (map shape_of xs)) (shape_of x ∷ []) (insert_member r (drop (suc k) (map shape_of xs))))
+    ∙ ap (λ z. z ++ insert_member r (drop (suc k) (map shape_of xs))) (sym (front_at xs k x p q)))
 
 pub map_insert : (xs : List Regex) (k : ℕ) (r : Regex) → map shape_of (insert xs k r) ≡ insert (map shape_of xs) k (shape_of r)
 map_insert xs k r =
@@ -75,25 +75,25 @@ map_insert xs k r =
 
 -- the members zs are xs with r in its place k, which was found in ys, that are xs
 pub member_put : (xs ys zs : List Regex) (k : ℕ) (r : Regex) → ys ≡ xs → zs ≡ insert xs k r →
-    inserted (shape_of r) (map shape_of ys) ≡ insert (map shape_of ys) k (shape_of r) → map shape_of zs ≡ inserted (shape_of r) (map shape_of xs)
+    insert_member (shape_of r) (map shape_of ys) ≡ insert (map shape_of ys) k (shape_of r) → map shape_of zs ≡ insert_member (shape_of r) (map shape_of xs)
 member_put xs ys zs k r p q h =
-    ap (λ z. map shape_of z) q ∙ map_insert xs k r ∙ sym (subst (λ z. inserted (shape_of r) (map shape_of z) ≡ insert (map shape_of z) k (shape_of r)) p h)
+    ap (λ z. map shape_of z) q ∙ map_insert xs k r ∙ sym (subst (λ z. insert_member (shape_of r) (map shape_of z) ≡ insert (map shape_of z) k (shape_of r)) p h)
 
 -- the members old were new and m, and v joins m with the last one, u
-pub nest_step : (all : Shape) (old new : List Regex) (m : Regex) (u v : Shape) → all ≡ nested (map shape_of old ++ u ∷ []) → old ≡ new ++ m ∷ [] →
-    v ≡ Union (shape_of m) u → all ≡ nested (map shape_of new ++ v ∷ [])
+pub nest_step : (all : Shape) (old new : List Regex) (m : Regex) (u v : Shape) → all ≡ nest (map shape_of old ++ u ∷ []) → old ≡ new ++ m ∷ [] →
+    v ≡ Alt (shape_of m) u → all ≡ nest (map shape_of new ++ v ∷ [])
 nest_step all old new m u v h e q =
     h
-    ∙ ap (λ z. nested (map shape_of z ++ u ∷ [])) e
-    ∙ ap (λ z. nested (z ++ u ∷ [])) (map-append shape_of new (m ∷ []))
-    ∙ ap nested (append_assoc (map shape_of new) (shape_of m ∷ []) (u ∷ []))
-    ∙ nested_last (map shape_of new) (shape_of m) u
-    ∙ ap (λ z. nested (map shape_of new ++ z ∷ [])) (sym q)
+    ∙ ap (λ z. nest (map shape_of z ++ u ∷ [])) e
+    ∙ ap (λ z. nest (z ++ u ∷ [])) (map-append shape_of new (m ∷ []))
+    ∙ ap nest (append_assoc (map shape_of new) (shape_of m ∷ []) (u ∷ []))
+    ∙ nest_last (map shape_of new) (shape_of m) u
+    ∙ ap (λ z. nest (map shape_of new ++ z ∷ [])) (sym q)
 
 -- the members of s are put into an empty list, then those of r
-pub members_of_both : (none ss rs : List Regex) (r s n : Shape) → none ≡ [] → map shape_of ss ≡ inserted_all (members s) (map shape_of none) →
-    map shape_of rs ≡ inserted_all (members r) (map shape_of ss) → n ≡ nested (map shape_of rs) → n ≡ normal_union r s
+pub members_of_both : (none ss rs : List Regex) (r s n : Shape) → none ≡ [] → map shape_of ss ≡ insert_members (members s) (map shape_of none) →
+    map shape_of rs ≡ insert_members (members r) (map shape_of ss) → n ≡ nest (map shape_of rs) → n ≡ normal_alt r s
 members_of_both none ss rs r s n p q t h =
     h
-    ∙ ap nested (t ∙ ap (λ z. inserted_all (members r) z) (q ∙ ap (λ z. inserted_all (members s) (map shape_of z)) p)
+    ∙ ap nest (t ∙ ap (λ z. insert_members (members r) z) (q ∙ ap (λ z. insert_members (members s) (map shape_of z)) p)
     ∙ sym (all_append (members r) (members s) []))

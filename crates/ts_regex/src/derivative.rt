@@ -97,7 +97,7 @@ impl Regex {
             Regex::Empty | Regex::Eps => Ok(Regex::Empty),
             Regex::One(m) => Ok(if *m == l { Regex::Eps } else { Regex::Empty }),
             Regex::Cat(r, s) => {
-                let first = cat(alloc, r.after(alloc, l)?, s.copy(alloc)?)?;
+                let first = cat(alloc, r.after(alloc, l)?, s.try_clone(alloc)?)?;
                 if r.accepts_empty() {
                     alt(alloc, first, s.after(alloc, l)?)
                 } else {
@@ -105,7 +105,7 @@ impl Regex {
                 }
             }
             Regex::Alt(r, s) => alt(alloc, r.after(alloc, l)?, s.after(alloc, l)?),
-            Regex::Star(r) => cat(alloc, r.after(alloc, l)?, self.copy(alloc)?),
+            Regex::Star(r) => cat(alloc, r.after(alloc, l)?, self.try_clone(alloc)?),
         }
     }
 }

@@ -6,7 +6,7 @@ ghost use Rattle.std.specs.List.{insert};
 ghost use Rattle.ts_base.specs.declared.letter.Letter.{Letter};
 ghost use Rattle.ts_regex.specs.Shape.{shape_of};
 ghost use Rattle.ts_regex.specs.Language.{InLanguage};
-ghost use Rattle.ts_regex.specs.NormalForm.{chained, followed, normal_concat, members, inserted, inserted_all, nested, normal_union, normal_repeat, normal_form, residual};
+ghost use Rattle.ts_regex.specs.NormalForm.{chain, follow, normal_cat, members, insert_member, insert_members, nest, normal_alt, normal_star, normal_form, residual};
 
 use crate::derivative::derive;
 use crate::regex::{Regex, alt, cat, star};
@@ -55,7 +55,7 @@ impl Regex {
     #[tactic(auto, using(crate::proofs::Members::all_append))]
     fn collect_members(self, found: &mut Vec<Regex>) -> Result<(), Memory>
         ensures { OnOk result (map shape_of found.new.items
-            ≡ inserted_all (members (shape_of self)) (map shape_of found.old.items)) }
+            ≡ insert_members (members (shape_of self)) (map shape_of found.old.items)) }
     {
         match self {
             Regex::Empty => Ok(()),
@@ -70,7 +70,7 @@ impl Regex {
 
 /// The Cat of two normal forms.
 fn normal_cat(alloc: Global, r: Regex, s: Regex) -> Result<Regex, Memory>
-    ensures { IfOk result (λ n. shape_of n ≡ normal_concat (shape_of r) (shape_of s)) }
+    ensures { IfOk result (λ n. shape_of n ≡ normal_cat (shape_of r) (shape_of s)) }
 {
     match r {
         Regex::Empty => Ok(Regex::Empty),
@@ -81,7 +81,7 @@ fn normal_cat(alloc: Global, r: Regex, s: Regex) -> Result<Regex, Memory>
 
 /// `r`, which is neither Empty nor Eps, followed by `s`.
 fn follow(alloc: Global, r: Regex, s: Regex) -> Result<Regex, Memory>
-    ensures { IfOk result (λ n. shape_of n ≡ followed (shape_of r) (shape_of s)) }
+    ensures { IfOk result (λ n. shape_of n ≡ follow (shape_of r) (shape_of s)) }
 {
     match s {
         Regex::Empty => Ok(Regex::Empty),
@@ -92,7 +92,7 @@ fn follow(alloc: Global, r: Regex, s: Regex) -> Result<Regex, Memory>
 
 /// `r` followed by `t`, nested to the right.
 fn chain(alloc: Global, r: Regex, t: Regex) -> Result<Regex, Memory>
-    ensures { IfOk result (λ n. shape_of n ≡ chained (shape_of r) (shape_of t)) }
+    ensures { IfOk result (λ n. shape_of n ≡ chain (shape_of r) (shape_of t)) }
 {
     match r {
         Regex::Cat(first, rest) => Ok(Regex::Cat(
@@ -105,7 +105,7 @@ fn chain(alloc: Global, r: Regex, t: Regex) -> Result<Regex, Memory>
 
 /// The Alt of two normal forms.
 fn normal_alt(alloc: Global, r: Regex, s: Regex) -> Result<Regex, Memory>
-    ensures { IfOk result (λ n. shape_of n ≡ normal_union (shape_of r) (shape_of s)) }
+    ensures { IfOk result (λ n. shape_of n ≡ normal_alt (shape_of r) (shape_of s)) }
 {
     let mut found = Vec::new(alloc);
     s.collect_members(&mut found)?;
@@ -117,7 +117,7 @@ fn normal_alt(alloc: Global, r: Regex, s: Regex) -> Result<Regex, Memory>
 /// members may take m * m / 2 comparisons. That is quick enough: a residual has at most about as many members as the
 /// expression has letters.
 fn insert_member(found: &mut Vec<Regex>, r: Regex) -> Result<(), Memory>
-    ensures { OnOk result (map shape_of found.new.items ≡ inserted (shape_of r) (map shape_of found.old.items)) }
+    ensures { OnOk result (map shape_of found.new.items ≡ insert_member (shape_of r) (map shape_of found.old.items)) }
 {
     if let Err(place) = place_of(found, &r) {
         found.insert(place, r)?;
@@ -127,9 +127,9 @@ fn insert_member(found: &mut Vec<Regex>, r: Regex) -> Result<(), Memory>
 
 /// Where `r` stands among sorted members, or else where it belongs.
 fn place_of(found: &[Regex], r: &Regex) -> Result<usize, usize>
-    ensures { MatchResult result (λ k. inserted (shape_of r.now) (map shape_of found.now) ≡ map shape_of found.now)
+    ensures { MatchResult result (λ k. insert_member (shape_of r.now) (map shape_of found.now) ≡ map shape_of found.now)
         (λ k. (k ≤ length found.now)
-        × (inserted (shape_of r.now) (map shape_of found.now)
+        × (insert_member (shape_of r.now) (map shape_of found.now)
         ≡ insert (map shape_of found.now) k (shape_of r.now))) }
 {
     for k in 0..found.len() {
@@ -144,7 +144,7 @@ fn place_of(found: &[Regex], r: &Regex) -> Result<usize, usize>
 
 /// The union of the members, nested to the right.
 fn nest(alloc: Global, mut found: Vec<Regex>) -> Result<Regex, Memory>
-    ensures { IfOk result (λ n. shape_of n ≡ nested (map shape_of found.items)) }
+    ensures { IfOk result (λ n. shape_of n ≡ nest (map shape_of found.items)) }
 {
     let mut union = match found.pop() {
         None => return Ok(Regex::Empty),
@@ -158,7 +158,7 @@ fn nest(alloc: Global, mut found: Vec<Regex>) -> Result<Regex, Memory>
 
 /// The Star of a normal form.
 fn normal_star(alloc: Global, r: Regex) -> Result<Regex, Memory>
-    ensures { IfOk result (λ n. shape_of n ≡ normal_repeat (shape_of r)) }
+    ensures { IfOk result (λ n. shape_of n ≡ normal_star (shape_of r)) }
 {
     match r {
         Regex::Empty | Regex::Eps => Ok(Regex::Eps),

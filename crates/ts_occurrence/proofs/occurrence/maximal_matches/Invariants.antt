@@ -1,5 +1,5 @@
 use Rattle.std.proofs.Common.{◌≡◌, ◌<◌, length, take, get_or}
-use Rattle.ts_regex.specs.Shape.{shape_of, NoWord}
+use Rattle.ts_regex.specs.Shape.{shape_of, Empty}
 use Rattle.ts_regex.specs.NormalForm.{normal_form}
 use Rattle.ts_pattern.specs.OccurrenceList.{AreRanges}
 use Rattle.ts_pattern.proofs.LiveEntries.{AreLive}
@@ -11,7 +11,7 @@ abbrev pub invariant-loop-k : goal.invariant-loop-k
 invariant-loop-k l =
     record {
       some : 0 < length l.residuals.met.items;
-      whole : get_or (shapes_met l.residuals.met.items) 0 NoWord ≡ normal_form (shape_of l.p.regex);
+      whole : get_or (shapes_met l.residuals.met.items) 0 Empty ≡ normal_form (shape_of l.p.regex);
       right : AreRight l.residuals.met.items;
       met : AreKnown (shapes_met l.residuals.met.items) l.live.items;
       live : AreLive (shape_of l.p.regex) (take l.k l.w) (length (take l.k l.w)) (entries_of (shapes_met l.residuals.met.items) l.live.items);
