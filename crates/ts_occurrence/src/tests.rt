@@ -9,8 +9,7 @@ use crate::{occurrences, part, signature, value};
 use std::alloc::Global;
 use ts_base::{Ext, Letter, Memory, Range};
 use ts_pattern::{Pattern, PatternId, Term, aggregator_of, feature_of, pattern_by_id, pattern_of};
-use ts_regex::Regex;
-use ts_regex::regex::star;
+use ts_regex::{Regex, star};
 
 // Signs and the e-ranges of peak in them; a dot stands for no sign.
 static PEAKS: &str = ". none

@@ -12,8 +12,7 @@ use crate::name::PatternId;
 use crate::pattern::Pattern;
 use std::alloc::Global;
 use ts_base::{Letter, Memory};
-use ts_regex::Regex;
-use ts_regex::regex::{alt, cat, star};
+use ts_regex::{Regex, alt, cat, star};
 
 /// The pattern of that name: its expression and trims.
 /// Each of its words has at least `b + a` letters, and at least one; `b` is at most 2, and `a` at most 1.

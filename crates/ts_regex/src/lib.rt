@@ -25,7 +25,7 @@ mod derivative;
 mod membership;
 mod normal_form;
 mod order;
-pub mod regex;
+mod regex;
 
 pub use derivative::{derive, has_longer, has_word, nullable};
 pub use membership::member;

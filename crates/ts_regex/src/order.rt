@@ -18,7 +18,7 @@ impl Regex {
     }
 
     /// The variants in the order of their declaration, then the parts from left to right.
-    pub fn compare(&self, other: &Regex) -> Ordering
+    pub(crate) fn compare(&self, other: &Regex) -> Ordering
         ensures { result ≡ shape_cmp (shape_of self.now) (shape_of other.now) }
     {
         match (self, other) {
