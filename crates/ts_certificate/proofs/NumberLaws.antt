@@ -10,7 +10,7 @@ use Rattle.std.proofs.lemmas.Bool.Decides.{nat_tests}
 use Rattle.ts_base.specs.declared.ext.Ext.{Ext}
 use Rattle.ts_base.specs.declared.ext.Ext.TheVariants.{NegInf, Int, PosInf}
 use Rattle.ts_base.specs.Text.{ext_text}
-use Rattle.ts_token.specs.Number.{is_digit, digits_from, natural, upto, positive, negative, number_of}
+use Rattle.ts_token.specs.Number.{is_digit, digits_from, unsigned_number, at_most, nonnegative_number, negative_number, number_of}
 use Rattle.ts_base.specs.Words.{is_lf, is_space}
 use Rattle.ts_token.proofs.NumberTexts.{number_written, written_number}
 use Rattle.ts_certificate.specs.Ranges.{count_text, is_value, only_value, value_of, only_whole, whole_of, is_count, only_count, count_of, ext_of, is_ext}
@@ -44,10 +44,10 @@ digits_solid : (n m : ℕ) (ds : List ℕ) → digits_from n ds ≡ Some m → i
 digits_solid n m [] h = refl
 digits_solid n m (b ∷ bs) h = digits_step n m b bs (is_digit b) refl (digits_solid (n * 10 + (b - 48)) m bs) h
 
-natural_solid : (m : ℕ) (ds : List ℕ) → natural ds ≡ Some m → is_solid ds ≡ true
-natural_solid m [] h = cc
-natural_solid m (b ∷ []) h = digits_solid 0 m (b ∷ []) h
-natural_solid m (b ∷ c ∷ bs) h = go (b == 48) h where
+unsigned_solid : (m : ℕ) (ds : List ℕ) → unsigned_number ds ≡ Some m → is_solid ds ≡ true
+unsigned_solid m [] h = cc
+unsigned_solid m (b ∷ []) h = digits_solid 0 m (b ∷ []) h
+unsigned_solid m (b ∷ c ∷ bs) h = go (b == 48) h where
   go : (t : Bool) → cond t None (digits_from 0 (b ∷ c ∷ bs)) ≡ Some m → is_solid (b ∷ c ∷ bs) ≡ true
   go true k = cc
   go false k = digits_solid 0 m (b ∷ c ∷ bs) k
@@ -55,18 +55,19 @@ natural_solid m (b ∷ c ∷ bs) h = go (b == 48) h where
 number_solid : (word : List ℕ) (n : ℤ) → number_of word ≡ Some n → is_solid word ≡ true
 number_solid [] n h = cc
 number_solid (b ∷ bs) n h = go (b == 45) refl h where
-  minus : (o : Option ℕ) → natural bs ≡ o → b ≡ 45 → negative (upto 9223372036854775808 o) ≡ Some n → is_solid (b ∷ bs) ≡ true
+  minus : (o : Option ℕ) → unsigned_number bs ≡ o → b ≡ 45 → negative_number (at_most 9223372036854775808 o) ≡ Some n → is_solid (b ∷ bs) ≡ true
   minus None e is k = cc
-  minus (Some m) e is k = solid_more b bs (ap is_inner is ∙ minus_inner) (natural_solid m bs e)
+  minus (Some m) e is k = solid_more b bs (ap is_inner is ∙ minus_inner) (unsigned_solid m bs e)
 
-  plain : (o : Option ℕ) → natural (b ∷ bs) ≡ o → positive (upto 9223372036854775807 o) ≡ Some n → is_solid (b ∷ bs) ≡ true
+  plain : (o : Option ℕ) → unsigned_number (b ∷ bs) ≡ o → nonnegative_number (at_most 9223372036854775807 o) ≡ Some n → is_solid (b ∷ bs) ≡ true
   plain None e k = cc
-  plain (Some m) e k = natural_solid m (b ∷ bs) e
+  plain (Some m) e k = unsigned_solid m (b ∷ bs) e
 
-  go : (t : Bool) → b == 45 ≡ t → cond t (negative (upto 9223372036854775808 (natural bs))) (positive (upto 9223372036854775807 (natural (b ∷ bs)))) ≡ Some n →
+  go : (t : Bool) → b == 45 ≡ t → cond t (negative_number (at_most 9223372036854775808 (unsigned_number bs)))
+      (nonnegative_number (at_most 9223372036854775807 (unsigned_number (b ∷ bs)))) ≡ Some n →
       is_solid (b ∷ bs) ≡ true
-  go true e k = minus (natural bs) refl (eqb-true b 45 e) k
-  go false e k = plain (natural (b ∷ bs)) refl k
+  go true e k = minus (unsigned_number bs) refl (eqb-true b 45 e) k
+  go false e k = plain (unsigned_number (b ∷ bs)) refl k
 
 pub decimal_solid : (n : ℤ) → mag n < 2 ^ 63 → is_solid (signed_decimal n) ≡ true
 decimal_solid n fits = number_solid (signed_decimal n) n (number_written n fits)

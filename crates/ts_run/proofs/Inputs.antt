@@ -4,7 +4,7 @@ use Rattle.std.proofs.Common.{◌≡◌, ℕ, ◌≤◌, ℤ, Bool, true, false,
 use Rattle.std.specs.Prelude.{◌==◌, unwrap_or}
 use Rattle.std.specs.Option.{option_map}
 use Rattle.std.specs.Borrow.{Bor}
-use Rattle.std.specs.List.{AllByRecursion}
+use Rattle.std.specs.List.{AllByRecursion, concat}
 use Rattle.std.proofs.lemmas.Bool.Decides.{nat_tests}
 use Rattle.std.proofs.lemmas.Int.{ints}
 use Rattle.std.proofs.lemmas.List.Elements.{All-from_recursion}
@@ -12,8 +12,9 @@ use Rattle.ts_pattern.specs.Limits.{IsSeries}
 use Rattle.ts_base.specs.Limits.{IsCellValue}
 use Rattle.ts_token.specs.Text.{Cut}
 use Rattle.ts_token.specs.Number.{number_of}
-use Rattle.ts_token.proofs.HalfLaws.{joined_chunks}
-use Rattle.ts_token.specs.Halves.{chunks, joined, is_separator, Halves, after_front, halves, halves_of}
+use Rattle.ts_base.specs.Words.{strict_lines}
+use Rattle.ts_base.proofs.WordLaws.{lines_are}
+use Rattle.ts_token.specs.Halves.{is_separator, Halves, after_front, halves, halves_of}
 use Rattle.ts_model.specs.declared.error.SeriesStop.TheVariants.{Length}
 use Rattle.ts_model.specs.Stated.{is_value}
 use Rattle.ts_model.specs.Words.{onto}
@@ -24,22 +25,22 @@ pub record AreWithin (n : ℕ) (h : Halves) : Type 0 where
   pub model : length h.model ≤ n
   pub rest : length (unwrap_or h.rest []) ≤ n
 
-cut_here : (b : Bool) (c : List ℕ) (cs : List (List ℕ)) (h : Halves) → AreWithin (length (joined cs)) h →
-    AreWithin (length (c ++ joined cs)) (cond b (record { model = []; rest = Some (joined cs) }) (after_front c h))
-cut_here true c cs h w = let n = length-append c (joined cs) in record { model = omega arith; rest = omega arith }
+cut_here : (b : Bool) (c : List ℕ) (cs : List (List ℕ)) (h : Halves) → AreWithin (length (concat cs)) h →
+    AreWithin (length (c ++ concat cs)) (cond b (record { model = []; rest = Some (concat cs) }) (after_front c h))
+cut_here true c cs h w = let n = length-append c (concat cs) in record { model = omega arith; rest = omega arith }
 cut_here false c cs h w =
-    let n = length-append c (joined cs) in
+    let n = length-append c (concat cs) in
     let m = length-append c h.model in
     let wm = w.model in
     let wr = w.rest in
     record { model = omega arith; rest = omega arith }
 
-halves_within : (cs : List (List ℕ)) → AreWithin (length (joined cs)) (halves cs)
+halves_within : (cs : List (List ℕ)) → AreWithin (length (concat cs)) (halves cs)
 halves_within [] = record { model = omega arith; rest = omega arith }
 halves_within (c ∷ cs) = cut_here (is_separator c) c cs (halves cs) (halves_within cs)
 
 pub parts_within : (text : List ℕ) → AreWithin (length text) (halves_of text)
-parts_within text = subst (λ (bytes : List ℕ). AreWithin (length bytes) (halves_of text)) (joined_chunks text) (halves_within (chunks text))
+parts_within text = subst (λ (bytes : List ℕ). AreWithin (length bytes) (halves_of text)) (lines_are text) (halves_within (strict_lines text))
 
 -- the second part as it is lent, empty where there is none
 pub rest_now : (rest : Option (Bor (List ℕ))) (none : Bor (List ℕ)) → none.now ≡ [] → (unwrap_or rest none).now ≡ unwrap_or (option_map (λ r. r.now) rest) []

@@ -5,7 +5,8 @@ use Rattle.std.specs.Prelude.{◌==◌}
 use Rattle.std.specs.List.{position_or_len, position}
 use Rattle.std.proofs.lemmas.List.{drop-drop, length-drop, take_all, drop_all, take_rest}
 use Rattle.std.proofs.lemmas.Option.{cond_some}
-use Rattle.ts_token.specs.Text.{is_lf, onto_line, lines_of}
+use Rattle.ts_base.specs.Words.{is_lf, onto_line}
+use Rattle.ts_token.specs.Text.{lines_of}
 use Rattle.ts_token.specs.Steps.{without_cr}
 use Rattle.ts_token.proofs.Fronts.{front, ending, take_front, drop_front}
 

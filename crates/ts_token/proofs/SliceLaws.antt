@@ -1,7 +1,8 @@
 -- Each word of a text is the part of the text at its line and column.
 use Rattle.std.proofs.Common.{◌≡◌, ℕ, suc, zero, ◌+◌, ◌-◌, ◌≤◌, Bool, true, false, cond, List, [], ◌∷◌, length, take, drop, refl, sym, ap, subst, ◌∙◌, arith, get_or, ◌==◌}
 use Rattle.std.specs.List.{AllByRecursion}
-use Rattle.ts_token.specs.Text.{is_lf, is_blank, ends_here, stops_here, onto_line, onto_word, Piece, Row, words_of, words_from, lines_of, is_text, is_skipped, row_onto, rows_from, Cut, cut_of}
+use Rattle.ts_base.specs.Words.{is_lf, onto_line}
+use Rattle.ts_token.specs.Text.{is_blank, ends_here, stops_here, onto_word, Piece, Row, words_of, words_from, lines_of, is_text, is_skipped, row_onto, rows_from, Cut, cut_of}
 use Rattle.ts_token.proofs.RowLaws.{completed, finish}
 use Rattle.ts_token.specs.Slices.{after_lf, past_lines, IsSlice, AreSlices}
 

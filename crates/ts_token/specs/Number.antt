@@ -10,28 +10,28 @@ digits_from n [] = Some n
 digits_from n (b ∷ bs) = if is_digit b then digits_from (n * 10 + (b - 48)) bs else None
 
 -- digits without a leading zero
-abbrev pub natural : List ℕ → Option ℕ
-natural [] = None
-natural (b ∷ []) = digits_from 0 (b ∷ [])
-natural (b ∷ c ∷ bs) = if b == 48 then None else digits_from 0 (b ∷ c ∷ bs)
+abbrev pub unsigned_number : List ℕ → Option ℕ
+unsigned_number [] = None
+unsigned_number (b ∷ []) = digits_from 0 (b ∷ [])
+unsigned_number (b ∷ c ∷ bs) = if b == 48 then None else digits_from 0 (b ∷ c ∷ bs)
 
-abbrev pub upto : ℕ → Option ℕ → Option ℕ
-upto limit None = None
-upto limit (Some n) = if nat_le n limit then Some n else None
+abbrev pub at_most : ℕ → Option ℕ → Option ℕ
+at_most limit None = None
+at_most limit (Some n) = if nat_le n limit then Some n else None
 
-abbrev pub positive : Option ℕ → Option ℤ
-positive None = None
-positive (Some n) = Some (pos n)
+abbrev pub nonnegative_number : Option ℕ → Option ℤ
+nonnegative_number None = None
+nonnegative_number (Some n) = Some (pos n)
 
 -- 0 has no minus
-abbrev pub negative : Option ℕ → Option ℤ
-negative None = None
-negative (Some zero) = None
-negative (Some (suc n)) = Some (negsuc n)
+abbrev pub negative_number : Option ℕ → Option ℤ
+negative_number None = None
+negative_number (Some zero) = None
+negative_number (Some (suc n)) = Some (negsuc n)
 
 -- an optional '-' and digits without a leading zero, within 64 signed bits
 abbrev pub number_of : List ℕ → Option ℤ
 number_of [] = None
 number_of (b ∷ bs) =
-    if b == 45 then negative (upto 9223372036854775808 (natural bs))
-    else positive (upto 9223372036854775807 (natural (b ∷ bs)))
+    if b == 45 then negative_number (at_most 9223372036854775808 (unsigned_number bs))
+    else nonnegative_number (at_most 9223372036854775807 (unsigned_number (b ∷ bs)))

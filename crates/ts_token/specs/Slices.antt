@@ -1,7 +1,8 @@
 -- Each word of a text is the part of the text at its line and column.
 use Rattle.std.specs.Prelude.{ℕ, zero, suc, ◌≡◌, ◌-◌, List, [], ◌∷◌, length, take, drop, if◌then◌else◌}
 use Rattle.std.specs.List.{AllByRecursion}
-use Rattle.ts_token.specs.Text.{is_lf, Piece, Row}
+use Rattle.ts_base.specs.Words.{is_lf}
+use Rattle.ts_token.specs.Text.{Piece, Row}
 
 -- the bytes after the first LF
 abbrev pub after_lf : List ℕ → List ℕ

@@ -1,9 +1,7 @@
 -- A text as lines and words, over lists of bytes.
 use Rattle.std.specs.Prelude.{ℕ, ◌+◌, ◌==◌, Bool, true, false, List, [], ◌∷◌, length, if◌then◌else◌, nat_le, Option, Some, None}
 use Rattle.std.specs.List.{list_all}
-
-unfoldable pub is_lf : ℕ → Bool
-is_lf b = b == 10
+use Rattle.ts_base.specs.Words.{is_lf, onto_line}
 
 unfoldable pub is_blank : ℕ → Bool
 is_blank b = if b == 32 then true else b == 9
@@ -16,11 +14,6 @@ is_plain b = if nat_le 32 b then nat_le b 126 else b == 9
 abbrev pub ends_here : List ℕ → Bool
 ends_here [] = false
 ends_here (b ∷ bs) = is_lf b
-
--- the byte joins the first line, or is the only one of it
-abbrev pub onto_line : ℕ → List (List ℕ) → List (List ℕ)
-onto_line b [] = (b ∷ []) ∷ []
-onto_line b (line ∷ lines) = (b ∷ line) ∷ lines
 
 -- the lines without their ends: a line ends at each LF, and a CR directly before it belongs to the end
 abbrev pub lines_of : List ℕ → List (List ℕ)

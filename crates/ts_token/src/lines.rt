@@ -2,12 +2,13 @@
 
 ghost use Rattle.std.specs.Prelude.{◌≡◌, ◌<◌, ◌≤◌, ◌∷◌, length};
 ghost use Rattle.std.specs.List.{position, position_or_len};
-ghost use Rattle.ts_token.specs.Text.{is_lf, lines_of};
+ghost use Rattle.ts_base.specs.Words.{is_lf};
+ghost use Rattle.ts_token.specs.Text.{lines_of};
 ghost use Rattle.ts_token.specs.Steps.{without_cr};
 
 /// Where the first LF stands.
-#[tactic(auto, unfolding(crate::specs::Text::is_lf))]
-pub(crate) fn lf_at(text: &[u8]) -> Option<usize>
+#[tactic(auto, unfolding(ts_base::specs::Words::is_lf))]
+fn lf_at(text: &[u8]) -> Option<usize>
     ensures { result ≡ position is_lf text.now }
 {
     text.iter().position(|b| *b == b'\n')

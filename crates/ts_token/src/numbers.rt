@@ -3,7 +3,7 @@
 ghost use Rattle.std.specs.Prelude.{◌≡◌, ◌≢◌, ℤ, IfSome, IfNone, FitsSigned};
 ghost use Rattle.std.specs.Int.{w64};
 ghost use Rattle.std.specs.Fmt.{signed_decimal};
-ghost use Rattle.ts_token.specs.Number.{is_digit, digits_from, natural, upto, negative, number_of};
+ghost use Rattle.ts_token.specs.Number.{is_digit, digits_from, unsigned_number, at_most, negative_number, number_of};
 
 /// From `0` to `9`.
 fn is_digit(b: u8) -> bool
@@ -14,7 +14,7 @@ fn is_digit(b: u8) -> bool
 
 /// The number that the bytes write, where all are digits and it is at most the limit.
 fn digits_value(digits: &[u8], limit: u64) -> Option<u64>
-    ensures { result ≡ upto limit (digits_from 0 digits.now) }
+    ensures { result ≡ at_most limit (digits_from 0 digits.now) }
 {
     let mut value: u64 = 0;
     for b in digits {
@@ -31,8 +31,8 @@ fn digits_value(digits: &[u8], limit: u64) -> Option<u64>
 }
 
 /// The number that one digit or more write without a leading zero, where it is at most the limit.
-fn natural(digits: &[u8], limit: u64) -> Option<u64>
-    ensures { result ≡ upto limit (natural digits.now) }
+fn unsigned_number(digits: &[u8], limit: u64) -> Option<u64>
+    ensures { result ≡ at_most limit (unsigned_number digits.now) }
 {
     if digits.is_empty() || digits.len() > 1 && digits[0] == b'0' {
         return None;
@@ -41,26 +41,26 @@ fn natural(digits: &[u8], limit: u64) -> Option<u64>
 }
 
 /// The number whose digits these are after a `-`; there is no `-0`.
-fn negative(digits: &[u8]) -> Option<i64>
-    ensures { result ≡ negative (upto 9223372036854775808 (natural digits.now)) }
+fn negative_number(digits: &[u8]) -> Option<i64>
+    ensures { result ≡ negative_number (at_most 9223372036854775808 (unsigned_number digits.now)) }
 {
-    match natural(digits, 9223372036854775808) {
+    match unsigned_number(digits, 9223372036854775808) {
         Some(n) if n > 0 => Some((0 - i128::from(n)) as i64),
         _ => None,
     }
 }
 
 /// The number that an optional `-` and digits write.
-fn signed(word: &[u8]) -> Option<i64>
+fn signed_number(word: &[u8]) -> Option<i64>
     ensures { result ≡ number_of word.now }
 {
     if word.is_empty() {
         return None;
     }
     if word[0] == b'-' {
-        return negative(&word[1..]);
+        return negative_number(&word[1..]);
     }
-    match natural(word, i64::MAX as u64) {
+    match unsigned_number(word, i64::MAX as u64) {
         Some(n) => Some(n as i64),
         None => None,
     }
@@ -74,5 +74,5 @@ pub fn number(word: &[u8]) -> Option<i64>
     ensures written { IfSome result (λ n. word.now ≡ signed_decimal n) }
     ensures none { IfNone result ((n : ℤ) → FitsSigned w64 n → word.now ≢ signed_decimal n) }
 {
-    signed(word)
+    signed_number(word)
 }

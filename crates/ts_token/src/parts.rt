@@ -1,10 +1,10 @@
 //! A text before and after its first line `%%`.
 
-ghost use Rattle.std.specs.Prelude.{◌≡◌, ◌<◌, ◌≤◌, ◌∷◌, length, take, drop};
-ghost use Rattle.ts_token.specs.Halves.{chunks, is_separator, halves_of};
+ghost use Rattle.std.specs.Prelude.{◌≡◌, ◌<◌, length};
+ghost use Rattle.ts_token.specs.Halves.{is_separator, halves_of};
 ghost use Rattle.ts_token.specs.Views.{parts};
 
-use crate::lines::{first_line, lf_at};
+use crate::lines::first_line;
 use crate::words::next_word;
 
 /// The bytes before the first line whose only word is `%%`, and the bytes after that line. Where there is no such line,
@@ -15,27 +15,14 @@ pub struct Parts<'a> {
     pub rest: Option<&'a [u8]>,
 }
 
-/// The number of bytes of the first line with its end.
-fn line_end(text: &[u8]) -> usize
-    requires { 0 < length text.now }
-    ensures within { result ≤ length text.now }
-    ensures some { 0 < result }
-    ensures cut { chunks text.now ≡ take result text.now ∷ chunks (drop result text.now) }
-{
-    match lf_at(text) {
-        Some(n) => n + 1,
-        None => text.len(),
-    }
-}
-
 /// Whether `%%` is the only word of a line, which is given with its end.
-fn is_separator(chunk: &[u8]) -> bool
-    requires some { 0 < length chunk.now }
-    requires short { length chunk.now < 4000000000 }
-    ensures { result ≡ is_separator chunk.now }
+fn is_separator(line: &[u8]) -> bool
+    requires some { 0 < length line.now }
+    requires short { length line.now < 4000000000 }
+    ensures { result ≡ is_separator line.now }
 {
-    let (line, _) = first_line(chunk);
-    match next_word(line, 1) {
+    let (bare, _) = first_line(line);
+    match next_word(bare, 1) {
         None => false,
         Some(first) => match next_word(first.rest, first.column) {
             Some(_) => false,
@@ -52,7 +39,7 @@ pub fn cut_parts<'a>(text: &'a [u8]) -> Parts<'a>
     let mut at = 0;
     while at < text.len() {
         let (model, left) = text.split_at(at);
-        let (line, rest) = left.split_at(line_end(left));
+        let (line, rest) = ts_base::first_line(left);
         if is_separator(line) {
             return Parts {
                 model,

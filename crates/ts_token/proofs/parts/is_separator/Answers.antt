@@ -6,15 +6,15 @@ use Rattle.ts_token.proofs.parts.is_separator.Goals as goal
 
 pub returns-in-None : goal.returns-in-None
 returns-in-None c =
-    sym (mark_none c.args.chunk.now c.first_line.result.0.now (lines_of c.first_line.result.1.now) c.first_line.ensures.cut c.in-None.ensures.none)
+    sym (mark_none c.args.line.now c.first_line.result.0.now (lines_of c.first_line.result.1.now) c.first_line.ensures.cut c.in-None.ensures.none)
 
 pub returns-in-Some-next_word : goal.returns-in-Some-next_word
 returns-in-Some-next_word c =
-    sym (mark_more c.args.chunk.now c.first_line.result.0.now (lines_of c.first_line.result.1.now) (piece c.in-Some.first.word)
+    sym (mark_more c.args.line.now c.first_line.result.0.now (lines_of c.first_line.result.1.now) (piece c.in-Some.first.word)
     (piece c.in-Some-next_word.field-0.word) _ _ c.first_line.ensures.cut c.in-Some.ensures.some.words c.in-Some-next_word.ensures.some.words)
 
 pub returns-in-None-next_word : goal.returns-in-None-next_word
 returns-in-None-next_word c =
     grind (arith, c.eq.ensures, c.as_slice.ensures)
-    ∙ sym (mark_one c.args.chunk.now c.first_line.result.0.now (lines_of c.first_line.result.1.now) (piece c.in-Some.first.word) _ c.first_line.ensures.cut
+    ∙ sym (mark_one c.args.line.now c.first_line.result.0.now (lines_of c.first_line.result.1.now) (piece c.in-Some.first.word) _ c.first_line.ensures.cut
     c.in-Some.ensures.some.words c.in-None-next_word.ensures.none)
