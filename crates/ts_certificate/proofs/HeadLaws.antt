@@ -14,7 +14,8 @@ use Rattle.ts_certificate.specs.declared.certificate.Claim.{Claim}
 use Rattle.ts_certificate.specs.declared.certificate.Claim.TheVariants.{Best as BestIs, Infeasible, BudgetBest, BudgetNone, Full, All, BudgetList}
 use Rattle.ts_base.specs.Words.{is_lf, is_space, Words, all_words}
 use Rattle.ts_certificate.specs.WordCounts.{one_of, two_of, alone}
-use Rattle.ts_certificate.specs.Ranges.{count_text, is_value, is_ext, value_of, whole_of, ext_of, asked_of, is_listed}
+use Rattle.ts_token.specs.Number.{ext_of}
+use Rattle.ts_certificate.specs.Ranges.{count_text, is_value, is_ext, value_of, whole_of, asked_of, is_listed}
 use Rattle.ts_certificate.specs.HeadLines.{aim_words, is_aim, list_from, aim_of, claim_words, is_best_claim, is_list_claim, is_claim, best_from, budget_from, best_claim_of, count_from, list_claim_of, claim_of, series_words, is_series, onto_values, values_of, some_values, series_of}
 use Rattle.ts_certificate.specs.Grammar.{end_words}
 use Rattle.ts_certificate.specs.LineOf.{end_made, end_from, end_of}
@@ -162,6 +163,7 @@ claim_only (ListOf m) w c h = list_claim_only w c h
 
 -- no value is written `none`
 not_none : (v : Ext) → is_ext v ≡ true → bytes_eq (ext_text v) (codes "none") ≡ false
+unfolding ext_of
 not_none v h = different (ext_text v) (codes "none") (λ is. let wrong : Some v ≡ None = sym (ext_again v h) ∙ ap ext_of is in cc)
 
 best_claim_again : (c : Claim) → is_best_claim c ≡ true → best_claim_of (claim_words c) ≡ Some c

@@ -10,10 +10,10 @@ use Rattle.std.proofs.lemmas.Bool.Decides.{nat_tests}
 use Rattle.ts_base.specs.declared.ext.Ext.{Ext}
 use Rattle.ts_base.specs.declared.ext.Ext.TheVariants.{NegInf, Int, PosInf}
 use Rattle.ts_base.specs.Text.{ext_text}
-use Rattle.ts_token.specs.Number.{is_digit, digits_from, unsigned_number, at_most, nonnegative_number, negative_number, number_of}
+use Rattle.ts_token.specs.Number.{is_digit, digits_from, unsigned_number, at_most, nonnegative_number, negative_number, number_of, ext_of}
 use Rattle.ts_base.specs.Words.{is_lf, is_space}
 use Rattle.ts_token.proofs.NumberTexts.{number_written, written_number}
-use Rattle.ts_certificate.specs.Ranges.{count_text, is_value, only_value, value_of, only_whole, whole_of, is_count, only_count, count_of, ext_of, is_ext}
+use Rattle.ts_certificate.specs.Ranges.{count_text, is_value, only_value, value_of, only_whole, whole_of, is_count, only_count, count_of, is_ext}
 use Rattle.ts_base.proofs.WordLaws.{and_parts, is_inner, is_solid, keyword_or, different}
 use Rattle.std.specs.Cmp.Derive.{both_true}
 
@@ -153,6 +153,7 @@ ext_number word (Some n) e f h =
     subst (IsExt word) same here
 
 pub ext_only : (word : List ℕ) (e : Ext) → ext_of word ≡ Some e → (word ≡ ext_text e) × (is_ext e ≡ true)
+unfolding ext_of
 ext_only word e h =
     keyword_or (IsExt word e) word (codes "-inf") (Some NegInf) (cond (bytes_eq word (codes "+inf")) (Some PosInf) (option_map Int (number_of word))) e
     (λ is k. let same : NegInf ≡ e = cc in subst (IsExt word) same (is, refl))
@@ -168,6 +169,7 @@ pub fits_ext : (n : ℤ) → is_ext (Int n) ≡ true → mag n < 2 ^ 63
 fits_ext n h = grind (arith, nat_tests)
 
 pub ext_again : (e : Ext) → is_ext e ≡ true → ext_of (ext_text e) ≡ Some e
+unfolding ext_of
 ext_again NegInf h = refl
 ext_again PosInf h = refl
 ext_again (Int n) h =

@@ -13,7 +13,8 @@ use Rattle.ts_certificate.specs.declared.certificate.Claim.{Claim}
 use Rattle.ts_certificate.specs.declared.certificate.Claim.TheVariants.{Best as BestIs, Infeasible, BudgetBest, BudgetNone}
 use Rattle.ts_certificate.specs.declared.certificate.Claim.TheVariants.{Full, All, BudgetList}
 use Rattle.ts_certificate.specs.Ranges.{count_text, is_value, is_asked, is_listed, is_ext}
-use Rattle.ts_certificate.specs.Ranges.{value_of, asked_of, listed_of, ext_of}
+use Rattle.ts_token.specs.Number.{ext_of}
+use Rattle.ts_certificate.specs.Ranges.{value_of, asked_of, listed_of}
 use Rattle.ts_certificate.specs.WordCounts.{one_of, alone}
 
 abbrev pub aim_words : Aim → Words

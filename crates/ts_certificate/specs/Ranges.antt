@@ -1,9 +1,7 @@
 -- Numbers within their ranges, and the words that are written for them.
-use Rattle.std.specs.Prelude.{ℕ, codes, ℤ, pos, neg_ℤ, negsuc, Bool, ◌&&◌, List, if◌then◌else◌, nat_le, nat_lt, true}
+use Rattle.std.specs.Prelude.{ℕ, ℤ, pos, neg_ℤ, negsuc, Bool, ◌&&◌, List, if◌then◌else◌, nat_le, nat_lt, true}
 use Rattle.std.specs.Prelude.{int_le, Option, Some, None}
-use Rattle.std.specs.Option.{option_map}
 use Rattle.std.specs.Fmt.{signed_decimal}
-use Rattle.std.specs.Str.{bytes_eq}
 use Rattle.std.specs.Int.Signed.{mag}
 use Rattle.ts_base.specs.declared.ext.Ext.{Ext}
 use Rattle.ts_base.specs.declared.ext.Ext.TheVariants.{NegInf, Int, PosInf}
@@ -79,13 +77,6 @@ is_listed c = is_count 0 most_listed c
 
 abbrev pub listed_of : List ℕ → Option ℕ
 listed_of word = count_of 0 most_listed word
-
--- a number, -inf or +inf
-abbrev pub ext_of : List ℕ → Option Ext
-ext_of word =
-    if bytes_eq word (codes "-inf") then Some NegInf
-    else (if bytes_eq word (codes "+inf") then Some PosInf
-    else option_map Int (number_of word))
 
 -- a number within 64 signed bits, or an infinity
 abbrev pub is_ext : Ext → Bool

@@ -9,11 +9,12 @@ ghost use Rattle.ts_certificate.specs.Seen.{Gives};
 ghost use Rattle.ts_certificate.specs.WordCounts.{one_of};
 
 use crate::certificate::{Aim, Claim};
-use crate::numbers::{asked_of, ext_of, listed_of, value_of};
+use crate::numbers::{asked_of, listed_of, value_of};
 use crate::stop::LineStop;
 use crate::words::{alone, one_word};
 use std::alloc::Global;
 use ts_base::{Goal, Words, words_of};
+use ts_token::ext_of;
 
 /// The word behind `generate`: how many series are asked for.
 fn list_of(rest: Option<&[u8]>) -> Option<Aim>

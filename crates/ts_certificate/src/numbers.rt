@@ -2,9 +2,8 @@
 
 ghost use Rattle.std.specs.Prelude.{◌≡◌};
 ghost use Rattle.ts_certificate.specs.Ranges.{value_of, whole_of, count_of, cell_of, requirement_of};
-ghost use Rattle.ts_certificate.specs.Ranges.{asked_of, listed_of, ext_of};
+ghost use Rattle.ts_certificate.specs.Ranges.{asked_of, listed_of};
 
-use ts_base::Ext;
 use ts_base::limits::{CELL_VALUE, CELLS, REQUIREMENTS};
 use ts_token::number;
 
@@ -67,17 +66,4 @@ pub(crate) fn listed_of(word: &[u8]) -> Option<u32>
     ensures { result ≡ listed_of word.now }
 {
     count_of(0, LISTED, word)
-}
-
-/// A number, `-inf` or `+inf`.
-pub(crate) fn ext_of(word: &[u8]) -> Option<Ext>
-    ensures { result ≡ ext_of word.now }
-{
-    if word == b"-inf".as_slice() {
-        Some(Ext::NegInf)
-    } else if word == b"+inf".as_slice() {
-        Some(Ext::PosInf)
-    } else {
-        number(word).map(Ext::Int)
-    }
 }

@@ -3,7 +3,7 @@ use Rattle.std.specs.Prelude.{ℕ, ◌==◌, ℤ, Bool, ◌&&◌, List, [], ◌�
 use Rattle.std.specs.Option.{option_map}
 use Rattle.ts_base.specs.declared.ext.Ext.{Ext}
 use Rattle.ts_domain.specs.declared.interval.Interval.{Interval}
-use Rattle.ts_token.specs.Number.{number_of}
+use Rattle.ts_token.specs.Number.{number_of, ext_of}
 use Rattle.ts_pattern.specs.declared.name.Aggregator.{Aggregator}
 use Rattle.ts_pattern.specs.declared.name.Aggregator.TheVariants.{Sum}
 use Rattle.ts_pattern.specs.declared.name.Feature.{Feature}
@@ -15,7 +15,7 @@ use Rattle.ts_model.specs.declared.model.Op.{Op}
 use Rattle.ts_model.specs.declared.statement.TermParts.{TermParts}
 use Rattle.ts_model.specs.declared.error.ModelKind.{ModelKind}
 use Rattle.ts_model.specs.declared.error.ModelKind.TheVariants.{UnknownLine, Shape, Number}
-use Rattle.ts_model.specs.Words.{form_of, op_of, is_equals, is_count, is_name, bound_of, ranges_of, aggregator_of, feature_of, pattern_of}
+use Rattle.ts_model.specs.Words.{form_of, op_of, is_equals, is_count, is_name, ranges_of, aggregator_of, feature_of, pattern_of}
 
 -- what a line says: `cells`, `domain`, `cell`, `term`, `require` or `objective` with their arguments. A term has no
 -- parts where its aggregator, its feature or its pattern has a name that isn't in the tables.
@@ -72,7 +72,7 @@ said_by Cells ws = option_map SaysCells (number_of (word_at ws 0))
 said_by Domain ws = option_map SaysDomain (ranges_of ws)
 said_by Cell ws = said_cell (number_of (word_at ws 0)) (ranges_of (drop 1 ws))
 said_by Term ws = Some (SaysTerm (word_at ws 0) (parts_said ws))
-said_by Require ws = said_require (word_at ws 0) (op_of (word_at ws 1)) (bound_of (word_at ws 2))
+said_by Require ws = said_require (word_at ws 0) (op_of (word_at ws 1)) (ext_of (word_at ws 2))
 said_by Objective ws = Some (SaysObjective (word_at ws 0))
 
 abbrev pub parsed_by : Form → List (List ℕ) → Result Said ModelKind

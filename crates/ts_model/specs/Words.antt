@@ -1,10 +1,7 @@
 -- What a single word of a model text is: a first word, a comparison, a name, a bound, a range.
 use Rattle.std.specs.Prelude.{ℕ, codes, ◌+◌, ◌==◌, ℤ, Bool, true, false, ◌&&◌, List, [], ◌∷◌, length, take, drop, if◌then◌else◌, nat_le, Option, Some, None}
-use Rattle.std.specs.Option.{option_map}
 use Rattle.std.specs.List.{find, list_all, position}
 use Rattle.std.specs.Str.{bytes_eq}
-use Rattle.ts_base.specs.declared.ext.Ext.{Ext}
-use Rattle.ts_base.specs.declared.ext.Ext.TheVariants.{NegInf, Int, PosInf}
 use Rattle.ts_domain.specs.declared.interval.Interval.{Interval}
 use Rattle.ts_token.specs.Number.{number_of, is_digit}
 use Rattle.ts_pattern.specs.declared.name.Aggregator.{Aggregator}
@@ -53,13 +50,6 @@ is_name_byte b = if is_letter b then true else (if is_digit b then true else b =
 unfoldable pub is_name : List ℕ → Bool
 is_name [] = false
 is_name (b ∷ bs) = is_letter b && (list_all is_name_byte bs && nat_le (length bs) 31)
-
--- -inf, +inf or a number
-unfoldable pub bound_of : List ℕ → Option Ext
-bound_of word =
-    if bytes_eq word (codes "-inf") then Some NegInf
-    else (if bytes_eq word (codes "+inf") then Some PosInf
-    else option_map (λ n. Int n) (number_of word))
 
 abbrev pub made_range : Option ℤ → Option ℤ → Option Interval
 made_range None high = None

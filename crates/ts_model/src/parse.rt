@@ -10,11 +10,11 @@ ghost use Rattle.ts_model.specs.Views.{texts, said, Gives};
 use crate::error::{LineStop, ModelKind};
 use crate::statement::{Ranges, Statement, TermParts};
 use crate::words::{
-    Form, bound_of, form_of, is_count, is_equals, name_of, number_at, op_of, range_of, text_at,
+    Form, form_of, is_count, is_equals, name_of, number_at, op_of, range_of, text_at,
 };
 use std::alloc::Global;
 use ts_pattern::{Aggregator, Feature, aggregator_of, feature_of, pattern_of};
-use ts_token::Word;
+use ts_token::{Word, ext_of};
 
 /// The ranges that the words are.
 fn ranges_of(alloc: Global, words: &[Word]) -> Result<Ranges, LineStop>
@@ -125,7 +125,7 @@ fn parse_require<'a>(words: &[Word<'a>]) -> Result<Statement<'a>, LineStop>
         return Err(LineStop::Bad(ModelKind::Shape));
     }
     match (name_of(text_at(words, 0)), op_of(text_at(words, 1))) {
-        (Some(name), Some(op)) => match bound_of(text_at(words, 2)) {
+        (Some(name), Some(op)) => match ext_of(text_at(words, 2)) {
             Some(bound) => Ok(Statement::Require(name, op, bound)),
             None => Err(LineStop::Bad(ModelKind::Number)),
         },

@@ -3,13 +3,12 @@
 ghost use Rattle.std.specs.Prelude.{◌≡◌, ◌<◌, true, false, length, MatchOption};
 ghost use Rattle.std.specs.List.{list_all, position};
 ghost use Rattle.ts_token.specs.Number.{number_of};
-ghost use Rattle.ts_model.specs.Words.{form_of, op_of, is_equals, is_count, is_letter, is_name_byte, is_name, bound_of, is_dot, range_of};
+ghost use Rattle.ts_model.specs.Words.{form_of, op_of, is_equals, is_count, is_letter, is_name_byte, is_name, is_dot, range_of};
 ghost use Rattle.ts_model.specs.Statement.{word_at};
 ghost use Rattle.ts_model.specs.Views.{texts};
 
 use crate::model::Op;
 use std::str::from_utf8;
-use ts_base::Ext;
 use ts_domain::Interval;
 use ts_token::{Word, number};
 
@@ -130,20 +129,6 @@ pub(crate) fn name_of<'a>(word: &'a [u8]) -> Option<&'a str>
     match from_utf8(word) {
         Ok(name) => Some(name),
         Err(_) => None,
-    }
-}
-
-/// The bound that the word is: `-inf`, `+inf` or a number.
-#[tactic(auto, unfolding(crate::specs::Words::bound_of))]
-pub(crate) fn bound_of(word: &[u8]) -> Option<Ext>
-    ensures { result ≡ bound_of word.now }
-{
-    if word == b"-inf".as_slice() {
-        Some(Ext::NegInf)
-    } else if word == b"+inf".as_slice() {
-        Some(Ext::PosInf)
-    } else {
-        number(word).map(Ext::Int)
     }
 }
 

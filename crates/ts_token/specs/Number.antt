@@ -1,5 +1,9 @@
 -- Numbers in words.
-use Rattle.std.specs.Prelude.{ℕ, zero, suc, ◌+◌, ◌-◌, ◌*◌, ◌==◌, ℤ, pos, negsuc, List, [], ◌∷◌, if◌then◌else◌, nat_le, Option, Some, None, Bool, false}
+use Rattle.std.specs.Prelude.{ℕ, codes, zero, suc, ◌+◌, ◌-◌, ◌*◌, ◌==◌, ℤ, pos, negsuc, List, [], ◌∷◌, if◌then◌else◌, nat_le, Option, Some, None, Bool, false}
+use Rattle.std.specs.Option.{option_map}
+use Rattle.std.specs.Str.{bytes_eq}
+use Rattle.ts_base.specs.declared.ext.Ext.{Ext}
+use Rattle.ts_base.specs.declared.ext.Ext.TheVariants.{NegInf, Int, PosInf}
 
 abbrev pub is_digit : ℕ → Bool
 is_digit b = if nat_le 48 b then nat_le b 57 else false
@@ -35,3 +39,10 @@ number_of [] = None
 number_of (b ∷ bs) =
     if b == 45 then negative_number (at_most 9223372036854775808 (unsigned_number bs))
     else nonnegative_number (at_most 9223372036854775807 (unsigned_number (b ∷ bs)))
+
+-- '-inf', '+inf' or a number
+unfoldable pub ext_of : List ℕ → Option Ext
+ext_of word =
+    if bytes_eq word (codes "-inf") then Some NegInf
+    else (if bytes_eq word (codes "+inf") then Some PosInf
+    else option_map Int (number_of word))

@@ -1,8 +1,8 @@
 //! The words of a text, borrowed from it.
 //!
 //! `cut_tokens` cuts a text into lines and words, and `cut_parts` cuts it at the line `%%`; both lend slices
-//! of the text and copy no byte. `number` reads a word. What stands above reads words and never bytes: it knows
-//! of each word its bytes, its column and the number of its line, and which line first isn't text.
+//! of the text and copy no byte. `number` and `ext_of` read a word. What stands above reads words and never bytes: it
+//! knows of each word its bytes, its column and the number of its line, and which line first isn't text.
 //!
 //! ```text
 //! let parts = cut_parts(b"cells 4\r\n%%\nseries 1 2 3 4\n");
@@ -17,7 +17,7 @@ mod parts;
 mod tokens;
 mod words;
 
-pub use numbers::number;
+pub use numbers::{ext_of, number};
 pub use parts::{Parts, cut_parts};
 pub use tokens::{Line, Tokens, cut_tokens};
 pub use words::Word;

@@ -3,7 +3,9 @@
 ghost use Rattle.std.specs.Prelude.{◌≡◌, ◌≢◌, ℤ, IfSome, IfNone, FitsSigned};
 ghost use Rattle.std.specs.Int.{w64};
 ghost use Rattle.std.specs.Fmt.{signed_decimal};
-ghost use Rattle.ts_token.specs.Number.{is_digit, digits_from, unsigned_number, at_most, negative_number, number_of};
+ghost use Rattle.ts_token.specs.Number.{is_digit, digits_from, unsigned_number, at_most, negative_number, number_of, ext_of};
+
+use ts_base::Ext;
 
 /// From `0` to `9`.
 fn is_digit(b: u8) -> bool
@@ -75,4 +77,18 @@ pub fn number(word: &[u8]) -> Option<i64>
     ensures none { IfNone result ((n : ℤ) → FitsSigned w64 n → word.now ≢ signed_decimal n) }
 {
     signed_number(word)
+}
+
+/// The number or infinity that a word is: `-inf`, `+inf`, or what `number` reads.
+#[tactic(auto, unfolding(crate::specs::Number::ext_of))]
+pub fn ext_of(word: &[u8]) -> Option<Ext>
+    ensures { result ≡ ext_of word.now }
+{
+    if word == b"-inf".as_slice() {
+        Some(Ext::NegInf)
+    } else if word == b"+inf".as_slice() {
+        Some(Ext::PosInf)
+    } else {
+        number(word).map(Ext::Int)
+    }
 }

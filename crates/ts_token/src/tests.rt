@@ -1,8 +1,9 @@
 //! Texts with their words and parts, and words with their numbers, worked out by hand.
 
-use crate::{Parts, Tokens, cut_parts, cut_tokens, number};
+use crate::{Parts, Tokens, cut_parts, cut_tokens, ext_of, number};
 use std::process::Abort;
 use std::test::Fail;
+use ts_base::Ext;
 
 /// A line's number, a column and the word that stands there.
 type Place = (u32, u32, &'static str);
@@ -107,6 +108,22 @@ static NUMBERS: [(&str, Option<i64>); 26] = [
     ("inf", None),
 ];
 
+/// A word, and the number or infinity that it is.
+static EXTS: [(&str, Option<Ext>); 12] = [
+    ("-inf", Some(Ext::NegInf)),
+    ("+inf", Some(Ext::PosInf)),
+    ("0", Some(Ext::Int(0))),
+    ("-7", Some(Ext::Int(-7))),
+    ("-9223372036854775808", Some(Ext::Int(i64::MIN))),
+    ("9223372036854775807", Some(Ext::Int(i64::MAX))),
+    ("9223372036854775808", None),
+    ("inf", None),
+    ("-Inf", None),
+    ("+inf ", None),
+    ("+1", None),
+    ("", None),
+];
+
 // Each table behind a function, so that the proof of the test doesn't read it.
 fn texts() -> &'static [(&'static str, &'static [Place], u32, Option<u32>)] {
     &TEXTS
@@ -118,6 +135,10 @@ fn parts() -> &'static [(&'static str, &'static str, Option<&'static str>)] {
 
 fn numbers() -> &'static [(&'static str, Option<i64>)] {
     &NUMBERS
+}
+
+fn exts() -> &'static [(&'static str, Option<Ext>)] {
+    &EXTS
 }
 
 /// The words of the tokens are these, in order.
@@ -155,6 +176,9 @@ fn texts_and_numbers(rt: HostRuntime) -> Result<(), Fail> {
     }
     for (word, value) in numbers() {
         assert_eq!(rt; number(word.as_bytes()), *value, "at {word:?}");
+    }
+    for (word, value) in exts() {
+        assert_eq!(rt; ext_of(word.as_bytes()), *value, "at {word:?}");
     }
     Ok(())
 }
