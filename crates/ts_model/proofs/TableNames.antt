@@ -8,7 +8,7 @@ use Rattle.ts_pattern.specs.declared.name.Feature.{Feature}
 use Rattle.ts_pattern.specs.declared.name.Feature.TheVariants.{One, Width, Surf, Max as MaxFeature, Min as MinFeature}
 use Rattle.ts_pattern.specs.declared.name.PatternId.{PatternId}
 use Rattle.ts_pattern.specs.Names.{aggregator_name, all_aggregators, feature_name, all_features, pattern_name}
-use Rattle.ts_pattern.proofs.Names.{found_name, found_by_name}
+use Rattle.ts_pattern.proofs.CallerLemmas.{found_name, found_by_name}
 use Rattle.ts_model.specs.Words.{aggregator_of, feature_of, pattern_of}
 
 -- two options of which the same is known are one

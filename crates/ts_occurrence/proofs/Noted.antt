@@ -14,11 +14,7 @@ use Rattle.ts_pattern.specs.Occurrences.{IsMatch, IsOccurrence}
 use Rattle.ts_pattern.specs.OccurrenceList.{Place, RisingPlaces, AreOccurrences, e_range, AreRanges}
 use Rattle.ts_transducer.specs.Inside.{IsInside}
 use Rattle.ts_pattern.specs.Trims.{FitsTrims}
-use Rattle.ts_pattern.proofs.OneLetter.{IsLeastStart}
-use Rattle.ts_pattern.proofs.Entries.{Rising, Covers}
-use Rattle.ts_pattern.proofs.LiveEntries.{Follows, AreLive}
-use Rattle.ts_pattern.proofs.Ends.{Accepts, match_kept, none_ends, to_the_end, each_and}
-use Rattle.ts_pattern.proofs.Places.{each_map, occurrences_none, occurrences_some}
+use Rattle.ts_pattern.proofs.CallerLemmas.{IsLeastStart, Rising, Covers, Follows, AreLive, Accepts, match_kept, none_ends, to_the_end, each_and, each_map, occurrences_none, occurrences_some}
 use Rattle.ts_occurrence.specs.Live.{Start, first_ending}
 use Rattle.ts_occurrence.specs.Noted.{IsCut, IsNoted}
 

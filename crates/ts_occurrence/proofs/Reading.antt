@@ -9,9 +9,7 @@ use Rattle.ts_regex.specs.NormalForm.{normal_form}
 use Rattle.ts_regex.proofs.Laws.{normal_law}
 use Rattle.ts_pattern.specs.Entries.{shapes, survivors}
 use Rattle.ts_pattern.specs.OccurrenceList.{AreRanges}
-use Rattle.ts_pattern.proofs.Entries.{shapes_right}
-use Rattle.ts_pattern.proofs.LiveEntries.{AreLive, live_appended}
-use Rattle.ts_pattern.proofs.Ends.{live_step}
+use Rattle.ts_pattern.proofs.CallerLemmas.{shapes_right, AreLive, live_appended, live_step}
 use Rattle.ts_occurrence.specs.Live.{Start, entry, first_ending}
 use Rattle.ts_occurrence.specs.Noted.{IsNoted}
 use Rattle.ts_occurrence.proofs.Noted.{noted_step, found_below}

@@ -11,7 +11,7 @@ use Rattle.ts_regex.specs.Derivative.{has_word}
 use Rattle.ts_regex.specs.NormalForm.{residual, same_shape}
 use Rattle.ts_regex.proofs.Laws.{same_law}
 use Rattle.ts_pattern.specs.Entries.{shapes, survivors, with_entry}
-use Rattle.ts_pattern.proofs.OneMoreEntry.{survivors_push, shapes_follow}
+use Rattle.ts_pattern.proofs.CallerLemmas.{survivors_push, shapes_follow}
 use Rattle.ts_occurrence.specs.declared.live.LiveStart.{LiveStart}
 use Rattle.ts_occurrence.specs.declared.residuals.Met.{Met}
 use Rattle.ts_occurrence.specs.Residuals.{shapes_met, IsNumber, AreRight, Grows}

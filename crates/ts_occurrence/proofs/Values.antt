@@ -15,7 +15,7 @@ use Rattle.ts_pattern.specs.OccurrenceList.{Place, RisingPlaces, e_range, AreRan
 use Rattle.ts_pattern.specs.AllOccurrences.{occurrence_ranges}
 use Rattle.ts_pattern.specs.PatternTable.{pattern_shape, pattern_b, pattern_a}
 use Rattle.ts_pattern.specs.TermValue.{aggregate_of_ranges, value_of}
-use Rattle.ts_pattern.proofs.Places.{each_map}
+use Rattle.ts_pattern.proofs.CallerLemmas.{each_map}
 
 pub signature_length : (xs : List ℤ) → 1 ≤ length xs → length (signature_of xs) + 1 ≡ length xs
 signature_length [] q = absurd (omega arith)

@@ -10,3 +10,4 @@ pub mod LeastLength
 pub mod AllOccurrences
 pub mod OneMoreEntry
 pub mod PlanTest
+pub mod CallerLemmas

@@ -13,7 +13,7 @@ use Rattle.ts_pattern.specs.declared.name.PatternId.TheVariants.{Increasing, Dec
 use Rattle.ts_pattern.specs.PatternTable.{pattern_shape, pattern_b}
 use Rattle.ts_pattern.specs.Closed.{IsClosed}
 use Rattle.ts_pattern.specs.Plans.{PlainPlan, plain_configuration, plain_plan, shape_at, is_plan_of, all_meet, is_closed, subject}
-use Rattle.ts_pattern.proofs.Tested.{closed_by_test}
+use Rattle.ts_pattern.proofs.CallerLemmas.{closed_by_test}
 use Rattle.ts_seed.specs.SeedTable.{seed_table, table_of}
 use Rattle.ts_seed.specs.Table.{Table, residuals_from, plan_of}
 

@@ -14,7 +14,7 @@ use Rattle.ts_pattern.specs.declared.plan.Tag.TheVariants.{Young, Due, InD, InC,
 use Rattle.ts_pattern.specs.EachOf.{OneOf, First}
 use Rattle.ts_pattern.specs.Entries.{Entry, shapes}
 use Rattle.ts_pattern.specs.Closed.{is_due, is_ind, is_inc, tag_after, retag_entries, implies, is_find, is_match, is_found_e, is_out_a, is_maybe_b, first_passes, acceptance_agrees, find_starts_right, early_find_ends, held_start_first, pending_keeps_start, entries_agree}
-use Rattle.ts_pattern.proofs.Ends.{Accepts}
+use Rattle.ts_pattern.proofs.CallerLemmas.{Accepts}
 use Rattle.ts_validate.proofs.Traces.{IsShort, MeetsChecks}
 
 implied : (a b : Bool) → implies a b ≡ true → a ≡ true → b ≡ true

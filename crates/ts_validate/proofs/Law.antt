@@ -21,9 +21,7 @@ use Rattle.ts_pattern.specs.Entries.{Entry, shapes, survivors}
 use Rattle.ts_pattern.specs.OccurrenceList.{AreRanges}
 use Rattle.ts_pattern.specs.Closed.{PlainConfiguration, first_tag, no_ind, retag_entries, with_start, step_of, entries_agree, step_listed, FromStart, OneStepOn, Reached, IsClosed}
 use Rattle.ts_pattern.specs.Plans.{PlainPlan, subject}
-use Rattle.ts_pattern.proofs.AllOccurrences.{ranges_are, are_ranges}
-use Rattle.ts_pattern.proofs.Entries.{shapes_right}
-use Rattle.ts_pattern.proofs.Renamed.{renamed, NextAgrees, WordsAgree, survivors_renamed, retag_renamed, no_ind_renamed, agree_renamed}
+use Rattle.ts_pattern.proofs.CallerLemmas.{ranges_are, are_ranges, shapes_right, renamed, NextAgrees, WordsAgree, survivors_renamed, retag_renamed, no_ind_renamed, agree_renamed}
 use Rattle.ts_pattern.specs.Valid.{IsValid}
 use Rattle.ts_validate.proofs.Traces.{Trace, IsTraced, trace_step}
 use Rattle.ts_validate.proofs.TraceStep.{traced_step, traced_start, no_trace, decoded, decoded_is}

@@ -12,7 +12,7 @@ use Rattle.ts_pattern.specs.Closed.{first_tag, with_start}
 use Rattle.ts_pattern.specs.Plans.{plain_live}
 use Rattle.ts_validate.specs.declared.known.Known.{Known}
 use Rattle.ts_validate.specs.Numbers.{known_at, next_on, plain_lives, numbers}
-use Rattle.ts_pattern.proofs.OneMoreEntry.{SameFollows, survivors_push}
+use Rattle.ts_pattern.proofs.CallerLemmas.{SameFollows, survivors_push}
 use Rattle.ts_validate.proofs.Plain.{any_mapped}
 
 -- what the letter leaves of an entry

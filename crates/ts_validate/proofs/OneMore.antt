@@ -18,10 +18,7 @@ use Rattle.std.specs.List.{AllByRecursion}
 use Rattle.ts_pattern.specs.OccurrenceList.{Place, AreOccurrences, e_range}
 use Rattle.ts_pattern.specs.Entries.{Entry}
 use Rattle.ts_pattern.specs.Closed.{tag_after, retag_entries, is_match, is_find}
-use Rattle.ts_pattern.proofs.OneLetter.{IsLeastStart}
-use Rattle.ts_pattern.proofs.LiveEntries.{each_push, AreLive}
-use Rattle.ts_pattern.proofs.Ends.{Accepts, none_ends, least_ends}
-use Rattle.ts_pattern.proofs.Places.{each_map, before_last, occurrences_none, occurrences_some}
+use Rattle.ts_pattern.proofs.CallerLemmas.{IsLeastStart, each_push, AreLive, Accepts, none_ends, least_ends, each_map, before_last, occurrences_none, occurrences_some}
 use Rattle.ts_transducer.proofs.CallerLemmas.{IsFree, Typed}
 use Rattle.ts_validate.proofs.Keeps.{first_of, held_range, first_mark, done_after, pair_after, TagHolds}
 use Rattle.ts_validate.proofs.Traces.{After, Strictly, early_old}

@@ -16,8 +16,7 @@ use Rattle.ts_pattern.specs.declared.plan.Configuration.{Configuration}
 use Rattle.ts_pattern.specs.Entries.{Entry, shapes}
 use Rattle.ts_pattern.specs.Closed.{PlainConfiguration, Subject, step_of, first_passes, same_tag, same_live, same_configuration, step_listed, meets_checks}
 use Rattle.ts_pattern.specs.Plans.{shape_at, configuration_value, subject, plain_configuration, is_plan_of, is_blank}
-use Rattle.ts_pattern.proofs.Entries.{shapes_right}
-use Rattle.ts_pattern.proofs.Tested.{configuration_is}
+use Rattle.ts_pattern.proofs.CallerLemmas.{shapes_right, configuration_is}
 use Rattle.ts_validate.specs.declared.known.Known.{Known}
 use Rattle.ts_validate.specs.declared.step.Look.{Look}
 use Rattle.ts_validate.specs.Numbers.{table_of, numbered_subject, next_place, number_meets}

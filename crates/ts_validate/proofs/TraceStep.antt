@@ -20,9 +20,7 @@ use Rattle.std.specs.List.{AllByRecursion}
 use Rattle.ts_pattern.specs.OccurrenceList.{Place, e_range}
 use Rattle.ts_pattern.specs.Entries.{Entry, Residuals, survivors}
 use Rattle.ts_pattern.specs.Closed.{tag_after, first_tag, no_ind, retag_entries, with_start, is_find}
-use Rattle.ts_pattern.proofs.Entries.{AreRight}
-use Rattle.ts_pattern.proofs.LiveEntries.{each_push, one_left, AreLive, live_appended, each_survivor}
-use Rattle.ts_pattern.proofs.Ends.{live_step}
+use Rattle.ts_pattern.proofs.CallerLemmas.{AreRight, each_push, one_left, AreLive, live_appended, each_survivor, live_step}
 use Rattle.ts_transducer.proofs.CallerLemmas.{IsFree, Typed, free_range, kinds_step}
 use Rattle.ts_validate.proofs.Keeps.{held_range, first_mark, free_pair, held_pair, pending_only, tag_step, first_tag_holds, TagHolds}
 use Rattle.ts_validate.proofs.Traces.{MeetsChecks, After, Strictly, Trace, IsTraced, trace_step, each_retag, live_retag, no_ind_one, is_none, begins_at, early_before, strictly_after, below_first, early_find, early_release, held_before}

@@ -43,10 +43,7 @@ use Rattle.ts_pattern.specs.Occurrences.{IsOccurrence}
 use Rattle.ts_pattern.specs.OccurrenceList.{Place, AreOccurrences, e_range}
 use Rattle.ts_pattern.specs.Entries.{Entry, Residuals, survivors}
 use Rattle.ts_pattern.specs.Closed.{tag_after, is_ind, first_tag, no_ind, retag_entries, with_start, is_match, is_find}
-use Rattle.ts_pattern.proofs.Entries.{Rising, AreRight, Covers}
-use Rattle.ts_pattern.proofs.LiveEntries.{each_push, Follows, AreLive, each_survivor}
-use Rattle.ts_pattern.proofs.Ends.{rising_each, Accepts, each_and}
-use Rattle.ts_pattern.proofs.Places.{each_map, each_left}
+use Rattle.ts_pattern.proofs.CallerLemmas.{Rising, AreRight, Covers, each_push, Follows, AreLive, each_survivor, rising_each, Accepts, each_and, each_map, each_left}
 use Rattle.ts_validate.proofs.Keeps.{first_of, held_range, first_mark, done_after, pair_after, TagHolds}
 
 abbrev pub IsShort : {X : Type 0} → Entry X Shape Tag → Type 0

@@ -12,7 +12,7 @@ use Rattle.ts_regex.specs.NormalForm.{residual, same_shape}
 use Rattle.ts_regex.proofs.Laws.{same_law}
 use Rattle.ts_pattern.specs.Entries.{shapes}
 use Rattle.ts_pattern.specs.Plans.{shape_at}
-use Rattle.ts_pattern.proofs.Renamed.{NextAgrees, WordsAgree, SameAgrees}
+use Rattle.ts_pattern.proofs.CallerLemmas.{NextAgrees, WordsAgree, SameAgrees}
 use Rattle.ts_validate.specs.declared.known.Known.{Known}
 use Rattle.ts_validate.specs.Numbers.{number_of, next_number, known_of, table_of, known_at, next_on, numbers}
 

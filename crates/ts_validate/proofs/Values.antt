@@ -18,9 +18,7 @@ use Rattle.ts_pattern.specs.EachOf.{OneOf}
 use Rattle.ts_pattern.specs.Entries.{Entry, shapes, derive_entry, derive_entries, alive, without, keep, survivors}
 use Rattle.ts_pattern.specs.Closed.{PlainConfiguration, Subject, first_tag, no_ind, retag_entries, with_start, move_of, entries_before, kept_entries, step_of, entries_agree, same_tag, same_live, same_configuration, step_listed}
 use Rattle.ts_pattern.specs.Plans.{PlainPlan, shape_at, entry_value, configuration_value, subject}
-use Rattle.ts_pattern.proofs.Entries.{shapes_right}
-use Rattle.ts_pattern.proofs.Renamed.{NextAgrees, WordsAgree, survivors_renamed, survivors_left, retag_renamed, no_ind_renamed, agree_renamed}
-use Rattle.ts_pattern.proofs.Tested.{configuration_is}
+use Rattle.ts_pattern.proofs.CallerLemmas.{shapes_right, NextAgrees, WordsAgree, survivors_renamed, survivors_left, retag_renamed, no_ind_renamed, agree_renamed, configuration_is}
 use Rattle.ts_validate.specs.Numbers.{table_of, known_at, next_on, numbers, numbered_subject, all_listed}
 use Rattle.ts_validate.proofs.Transfer.{IsNumber, numbers_same, numbers_agree, words_agree, unlisted}
 

@@ -1,7 +1,7 @@
 use Rattle.std.proofs.Common.{◌+◌, ◌∙◌, ap, length, take}
 use Rattle.ts_base.specs.declared.letter.Letter.TheVariants.{Less}
 use Rattle.ts_regex.specs.Shape.{shape_of}
-use Rattle.ts_pattern.proofs.LiveEntries.{AreLive}
+use Rattle.ts_pattern.proofs.CallerLemmas.{AreLive}
 use Rattle.ts_occurrence.specs.Residuals.{shapes_met}
 use Rattle.ts_occurrence.specs.Live.{entries_of, first_ending}
 use Rattle.ts_occurrence.proofs.Known.{stays_within, same_grown}

@@ -2,7 +2,7 @@ use Rattle.std.proofs.Common.{◌≡◌, ◌<◌, length, take, get_or}
 use Rattle.ts_regex.specs.Shape.{shape_of, Empty}
 use Rattle.ts_regex.specs.NormalForm.{normal_form}
 use Rattle.ts_pattern.specs.OccurrenceList.{AreRanges}
-use Rattle.ts_pattern.proofs.LiveEntries.{AreLive}
+use Rattle.ts_pattern.proofs.CallerLemmas.{AreLive}
 use Rattle.ts_occurrence.specs.Residuals.{shapes_met, AreRight}
 use Rattle.ts_occurrence.specs.Live.{entries_of, AreKnown}
 use Rattle.ts_occurrence.proofs.occurrence.maximal_matches.Given as goal

@@ -1,5 +1,5 @@
 use Rattle.ts_regex.specs.Shape.{shape_of}
-use Rattle.ts_pattern.proofs.AllOccurrences.{ranges_are}
+use Rattle.ts_pattern.proofs.CallerLemmas.{ranges_are}
 use Rattle.ts_occurrence.proofs.Noted.{inside_series}
 use Rattle.ts_occurrence.proofs.occurrence.occurrences.Goals as goal
 
