@@ -52,7 +52,7 @@ module _ {A : Type 0} (m : Values A) (Has : RegKind → A → Type 0) (P : Op �
   HasIfSome a None = Unit {0}
   HasIfSome a (Some k) = Has k a
 
-  joins : (o : Op) (a a' : A) (b b' : Option RegKind) → HasIfSome a b → HasIfSome a' b' → HasIfSome (m.join o a a') (join_kind o b b')
+  pub joins : (o : Op) (a a' : A) (b b' : Option RegKind) → HasIfSome a b → HasIfSome a' b' → HasIfSome (m.join o a a') (join_kind o b b')
   joins o a a' None b' h i = tt
   joins o a a' (Some j) None h i = tt
   joins o a a' (Some j) (Some k) h i = go (op_kind o j k) refl

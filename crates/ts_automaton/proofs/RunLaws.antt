@@ -55,7 +55,7 @@ value_single f s x y =
     (λ o a a' t t' p q. ap (λ z. end_by_end (ext_op o) z t') p ∙ ap (end_by_end (ext_op o) (one_span a)) q ∙ lifted_one (ext_op o) a a')
     f s (one_hull s) x y x y refl refl (refl, refl, refl)
 
-one_registers : (s : EachOf Ext) → has_registers (one_hull s) ≡ true
+pub one_registers : (s : EachOf Ext) → has_registers (one_hull s) ≡ true
 one_registers s = holds_registers (one_hull s) s (holds_one s.c, holds_one s.d, holds_one s.r)
 
 each_same : (c d r c' d' r' : Span) → c ≡ c' → d ≡ d' → r ≡ r' → each c d r ≡ each c' d' r'

@@ -8,7 +8,7 @@ use Rattle.ts_automaton.specs.declared.expr.Op.{Op}
 use Rattle.ts_automaton.specs.declared.expr.Op.TheVariants.{Add, Max, Min}
 use Rattle.ts_automaton.specs.Kinds.{is_within, op_kind}
 
-abbrev on_kinds : (RegKind → Bool) → Bool
+abbrev pub on_kinds : (RegKind → Bool) → Bool
 on_kinds p = p Int && p Low && p High
 
 at_kind : (p : RegKind → Bool) → on_kinds p ≡ true → (k : RegKind) → p k ≡ true
@@ -16,7 +16,7 @@ at_kind p h Int = (and_parts (p Int) (p Low) (and_parts (p Int && p Low) (p High
 at_kind p h Low = (and_parts (p Int) (p Low) (and_parts (p Int && p Low) (p High) h).0).1
 at_kind p h High = (and_parts (p Int && p Low) (p High) h).1
 
-abbrev on_ops : (Op → Bool) → Bool
+abbrev pub on_ops : (Op → Bool) → Bool
 on_ops p = p Add && p Max && p Min
 
 at_op : (p : Op → Bool) → on_ops p ≡ true → (o : Op) → p o ≡ true
@@ -24,10 +24,10 @@ at_op p h Add = (and_parts (p Add) (p Max) (and_parts (p Add && p Max) (p Min) h
 at_op p h Max = (and_parts (p Add) (p Max) (and_parts (p Add && p Max) (p Min) h).0).1
 at_op p h Min = (and_parts (p Add && p Max) (p Min) h).1
 
-abbrev implies : Bool → Bool → Bool
+abbrev pub implies : Bool → Bool → Bool
 implies a b = not a || b
 
-implied : (a b : Bool) → implies a b ≡ true → a ≡ true → b ≡ true
+pub implied : (a b : Bool) → implies a b ≡ true → a ≡ true → b ≡ true
 implied a b h e = subst (λ v. implies v b ≡ true) e h
 
 pub within_refl : (k : RegKind) → IsTrue (is_within k k)
@@ -61,10 +61,10 @@ made_kind Min Int Int = Int
 made_kind Min Int High = Int
 made_kind Min High k = k
 
-abbrev on_all : (Op → RegKind → RegKind → RegKind → RegKind → Bool) → Bool
+abbrev pub on_all : (Op → RegKind → RegKind → RegKind → RegKind → Bool) → Bool
 on_all t = on_ops (λ o. on_kinds (λ j. on_kinds (λ k. on_kinds (λ i. on_kinds (λ l. t o j k i l)))))
 
-at_each : (t : Op → RegKind → RegKind → RegKind → RegKind → Bool) → on_all t ≡ true → (o : Op) (j k i l : RegKind) → t o j k i l ≡ true
+pub at_each : (t : Op → RegKind → RegKind → RegKind → RegKind → Bool) → on_all t ≡ true → (o : Op) (j k i l : RegKind) → t o j k i l ≡ true
 at_each t h o j k i l =
     let a = at_op (λ o. on_kinds (λ j. on_kinds (λ k. on_kinds (λ i. on_kinds (λ l. t o j k i l))))) h o in
     let b = at_kind (λ j. on_kinds (λ k. on_kinds (λ i. on_kinds (λ l. t o j k i l)))) a j in

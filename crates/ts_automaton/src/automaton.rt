@@ -88,7 +88,8 @@ impl Automaton {
     /// The state at place `q`, counted from 0.
     pub fn state(&self, q: u8) -> &State
         requires { q < length self.now.states }
-        ensures { node_of result.now ≡ node_at self.now.states q }
+        ensures value { node_of result.now ≡ node_at self.now.states q }
+        ensures rules { IsTrue (is_automaton self.now) }
     {
         &self.parts.states[q as usize]
     }

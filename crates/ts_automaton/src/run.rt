@@ -97,7 +97,7 @@ impl Expr {
 
 impl Op {
     /// What it makes of two values that it takes.
-    pub(crate) fn applied(self, a: Ext, b: Ext) -> Ext
+    pub fn applied(self, a: Ext, b: Ext) -> Ext
         requires { Fits self a b }
         ensures { result ≡ ext_op self a b }
     {
@@ -112,7 +112,7 @@ impl Op {
 
 impl Mark {
     /// What becomes of an answer after `n` cells.
-    pub(crate) fn applied(self, answer: Ext, n: u32) -> Ext
+    pub fn applied(self, answer: Ext, n: u32) -> Ext
         ensures { result ≡ marked self n answer }
     {
         match (self, answer) {

@@ -128,7 +128,7 @@ impl Expr {
 impl Op {
     /// What it makes of two spans that it takes, end by end.
     #[tactic(auto, using(crate::proofs::KindLaws::lifted_ends))]
-    fn applied_to_spans(self, s: Span, t: Span) -> Span
+    pub fn applied_to_spans(self, s: Span, t: Span) -> Span
         requires { SpansFit self s t }
         ensures { result ≡ end_by_end (ext_op self) s t }
     {
@@ -141,7 +141,7 @@ impl Op {
 
 impl Mark {
     /// What becomes of a span of answers after `n` cells.
-    pub(crate) fn applied_to_span(self, answers: Span, n: u32) -> Span
+    pub fn applied_to_span(self, answers: Span, n: u32) -> Span
         ensures { result ≡ marked_span self n answers }
     {
         if answers.is_none() {
