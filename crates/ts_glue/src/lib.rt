@@ -1,14 +1,24 @@
-//! Machines: an automaton that reads a series forward. Later a reverse automaton with a table that glues the answers
-//! of both may stand beside it.
+//! Machines: an automaton that reads a series forward, and one that reads it from the last cell back, with a table that
+//! glues the values of both at the cell where they meet.
 //!
-//! The layer above may rely on this: the forward automaton of a machine is exactly the one that it was made of.
+//! The layer above may rely on this: the forward automaton of a machine is exactly the one that it was made of; where
+//! there is a reverse one, the glued value at every cell of every series within the limits is the forward answer, and a
+//! glued span holds the glued value of all registers in the two hulls, before the mark.
 //!
 //! ```text
-//! let machine = Machine::plain(forward);
-//! let at = machine.forward().start();
+//! let machine = Machine::glued(forward, reverse, table);
+//! let answer = glue_value(&machine, left, right, series[k], 7);
 //! ```
 #![tactic(auto)]
 
+mod glue;
+mod half;
 mod machine;
+mod shape;
+mod span_glue;
+mod table;
 
+pub use glue::glue_value;
 pub use machine::Machine;
+pub use span_glue::glue_span;
+pub use table::{CellUnit, FoldOp, GlueTable};

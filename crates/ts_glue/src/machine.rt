@@ -1,23 +1,60 @@
 //! What stands for a term: automata that answer its value.
 
-ghost use Rattle.std.specs.Prelude.{◌≡◌};
+ghost use Rattle.std.specs.Prelude.{◌≡◌, IsTrue, None, Some, option_map};
+ghost use Rattle.ts_glue.specs.Glued.{Local};
+ghost use Rattle.ts_glue.specs.declared.half.Half.{Half};
+ghost use Rattle.ts_glue.specs.Pairs.{pair, table_view};
+ghost use Rattle.ts_glue.specs.Rules.{keeps_rules};
 
+use crate::half::Half;
+use crate::table::GlueTable;
 use ts_automaton::Automaton;
 
-/// A forward automaton, and no reverse one: it can't be split at a cell.
+/// A forward automaton, and either nothing or a reverse automaton with a glue table: then it can be split at each cell,
+/// and at every cell of every series of 1 to 512 cells from -1,000,000 to 1,000,000 the glued value of the two runs is
+/// the forward automaton's answer.
 #[derive(Drop)]
 pub struct Machine {
     forward: Automaton,
+    half: Option<Half>,
+    pub ghost rules: { (h : Half) → half ≡ Some h → IsTrue (keeps_rules (pair forward h.reverse (table_view h.table))) },
+    pub ghost local: { (h : Half) → half ≡ Some h → Local (pair forward h.reverse (table_view h.table)) },
 }
 
 impl Machine {
-    ghost use Rattle.ts_glue.specs.Machines.{forward_of};
+    ghost use Rattle.ts_glue.specs.Machines.{forward_of, pair_of, reverse_of, table_of};
 
-    /// The machine of a forward automaton alone.
+    /// The machine of a forward automaton alone. It can't be split.
     pub fn plain(forward: Automaton) -> Machine
-        ensures { forward_of result ≡ forward }
+        ensures forward { forward_of result ≡ forward }
+        ensures plain { pair_of result ≡ None }
     {
-        Machine { forward }
+        Machine {
+            forward,
+            half: None,
+        }
+    }
+
+    /// The machine of a forward and a reverse automaton. They have to fit: both finish expressions are `o R C` with one
+    /// operator `o`, to which the reverse start constants of C and R are neutral; both states of each pair in the table
+    /// exist, none of them is the reverse start state, and there the glued value is well typed; `a` is 0 or 1; and the
+    /// glued value is the same at all cells of a series, at the last one the forward answer.
+    pub fn glued(forward: Automaton, reverse: Automaton, table: GlueTable) -> Machine
+        requires rules { IsTrue (keeps_rules (pair forward reverse (table_view table))) }
+        requires local { Local (pair forward reverse (table_view table)) }
+        ensures { pair_of result ≡ Some (pair forward reverse (table_view table)) }
+    {
+        Machine {
+            forward,
+            half: Some(Half { reverse, table }),
+        }
+    }
+
+    /// What it has beside its forward automaton.
+    pub(crate) fn half(&self) -> Option<&Half>
+        ensures { option_map (λ h. h.now) result ≡ self.now.half }
+    {
+        self.half.as_ref()
     }
 
     /// Its forward automaton.
@@ -25,5 +62,25 @@ impl Machine {
         ensures { result.now ≡ forward_of self.now }
     {
         &self.forward
+    }
+
+    /// Its reverse automaton. None exactly where it was made by `plain`.
+    pub fn reverse(&self) -> Option<&Automaton>
+        ensures { option_map (λ b. b.now) result ≡ reverse_of self.now }
+    {
+        match &self.half {
+            Some(half) => Some(&half.reverse),
+            None => None,
+        }
+    }
+
+    /// Its glue table. None exactly where it was made by `plain`.
+    pub fn table(&self) -> Option<&GlueTable>
+        ensures { option_map (λ t. table_view t.now) result ≡ table_of self.now }
+    {
+        match &self.half {
+            Some(half) => Some(&half.table),
+            None => None,
+        }
     }
 }

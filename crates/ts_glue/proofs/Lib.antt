@@ -1,0 +1,6 @@
+pub mod Expressions
+pub mod Facts
+pub mod Typed
+pub mod SpanGlue
+pub mod TwoForms
+pub mod Locality

@@ -1,0 +1,65 @@
+-- What the layers above know of glued values.
+use Rattle.std.specs.Prelude.{◌≡◌, ◌≤◌, ℕ, ℤ, List, length, false, IsTrue, ◌⊎◌}
+use Rattle.ts_base.specs.declared.ext.Ext.{Ext}
+use Rattle.ts_base.specs.declared.span.Span.{Span}
+use Rattle.ts_base.specs.Limits.{most_cells}
+use Rattle.ts_base.specs.SpanLayer.{IsWithin}
+use Rattle.ts_base.specs.Spans.{none_span, one_span, Holds}
+use Rattle.ts_automaton.specs.Registers.{EachOf, Each, numbers}
+use Rattle.ts_automaton.specs.AutomatonRun.{Standing, start_of, finish_of, answer, IsInMark, AreCellValues}
+use Rattle.ts_automaton.specs.SpanRun.{has_registers, one_hull, HoldsRegs, finish_span_of}
+use Rattle.ts_automaton.specs.Laws.{standing}
+use Rattle.ts_glue.specs.Pairs.{Pair}
+use Rattle.ts_glue.specs.Glued.{glue_at, glued, glue_span_at, glued_span, Glued, Local}
+use Rattle.ts_glue.specs.Rules.{keeps_rules}
+
+-- at every cell of every series the glued value is the forward answer
+abbrev pub LocalIsAnswer : Type 0
+LocalIsAnswer =
+    (p : Pair) → Local p → (xs : List ℤ) → length xs ≤ most_cells → AreCellValues xs →
+    (k : ℕ) → 1 ≤ k → k ≤ length xs → Glued p xs k ≡ answer p.forward xs
+
+-- before the mark, a glued span holds the glued value of any registers in the two hulls
+abbrev pub GluedSpansHold : Type 0
+GluedSpansHold =
+    (p : Pair) (q r : ℕ) (h i : EachOf Span) (s t : EachOf Ext) (x : ℤ) → HoldsRegs h s → HoldsRegs i t →
+    Holds (glue_span_at p (standing q h) (standing r i) x) (glue_at numbers p (standing q s) (standing r t) x)
+
+-- under the mark too, where the glued value keeps the promise of the mark
+abbrev pub MarkedSpansHold : Type 0
+MarkedSpansHold =
+    (p : Pair) (q r : ℕ) (h i : EachOf Span) (s t : EachOf Ext) (x : ℤ) (n : ℕ) → HoldsRegs h s → HoldsRegs i t →
+    let e = glued p (standing q s) (standing r t) x n in
+    IsInMark p.forward.mark n e → Holds (glued_span p (standing q h) (standing r i) x n) e
+
+-- a glued span is none where a hull is none
+abbrev pub NoneGluesToNone : Type 0
+NoneGluesToNone =
+    (p : Pair) (left right : Standing Span) (x : ℤ) (n : ℕ) →
+    (has_registers left.regs ≡ false) ⊎ (has_registers right.regs ≡ false) → glued_span p left right x n ≡ none_span
+
+-- the hulls of single registers give the span of the one glued value
+abbrev pub GluedStaysSingle : Type 0
+GluedStaysSingle =
+    (p : Pair) (q r : ℕ) (s t : EachOf Ext) (x : ℤ) (n : ℕ) →
+    glued_span p (standing q (one_hull s)) (standing r (one_hull t)) x n
+    ≡ one_span (glued p (standing q s) (standing r t) x n)
+
+-- at the last cell, where the reverse run stands at its start, the glued form is the finish form: of values, of spans
+abbrev pub StartGluesToFinish : Type 0
+StartGluesToFinish =
+    (p : Pair) → IsTrue (keeps_rules p) → (q : ℕ) (s : EachOf Ext) (x : ℤ) (n : ℕ) →
+    glued p (standing q s) (start_of p.reverse) x n ≡ finish_of p.forward (standing q s) n
+
+abbrev pub TwoFormsAgree : Type 0
+TwoFormsAgree =
+    (p : Pair) → IsTrue (keeps_rules p) → (q : ℕ) (h : EachOf Span) (x : ℤ) (n : ℕ) →
+    glued_span p (standing q h) (standing 0 (one_hull p.reverse.start)) x n ≡ finish_span_of p.forward (standing q h) n
+
+-- before the mark, hulls that hold more give a glued span that holds more
+abbrev pub GluedSpansGrow : Type 0
+GluedSpansGrow =
+    (p : Pair) (q r : ℕ) (h i wider_h wider_i : EachOf Span) (x : ℤ) → Each IsWithin h wider_h → Each IsWithin i wider_i →
+    IsWithin
+      (glue_span_at p (standing q h) (standing r i) x)
+      (glue_span_at p (standing q wider_h) (standing r wider_i) x)
