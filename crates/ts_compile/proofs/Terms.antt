@@ -26,18 +26,24 @@ value_found xs [] k t e = grind arith
 value_found xs (x ∷ es) zero t e = let same : x.1 ≡ t = cc in ap (λ z. Some (term_value z xs)) same
 value_found xs (x ∷ es) (suc k) t e = value_found xs es k t e
 
--- one more machine is made
-pub machine_made : (terms : List Term) (made more : List Machine) (k : ℕ) (t : Term) (m : Machine) → slice_get terms k ≡ Some t →
-    forward_of m ≡ machine_body t → more ≡ made ++ m ∷ [] → map forward_of made ++ map machine_body (drop k terms) ≡ map machine_body terms →
-    map forward_of more ++ map machine_body (drop (k + 1) terms) ≡ map machine_body terms
-machine_made terms made more k t m e same pushed before =
-    let rest = map machine_body (drop (k + 1) terms) in
-    ap (λ z. map forward_of z ++ rest) pushed
-    ∙ ap (λ z. z ++ rest) (map-append forward_of made (m ∷ []))
-    ∙ append_assoc (map forward_of made) (forward_of m ∷ []) rest
-    ∙ ap (λ b. map forward_of made ++ b ∷ rest) same
-    ∙ ap (λ z. map forward_of made ++ map machine_body z) (sym (drop_at terms k t e))
+-- one more term is taken, with its machine
+pub term_taken : (all made more : List Term) (k : ℕ) (t : Term) → slice_get all k ≡ Some t → more ≡ made ++ t ∷ [] → made ++ drop k all ≡ all →
+    more ++ drop (k + 1) all ≡ all
+term_taken all made more k t e pushed before =
+    ap (λ z. z ++ drop (k + 1) all) pushed
+    ∙ append_assoc made (t ∷ []) (drop (k + 1) all)
+    ∙ ap (λ z. made ++ z) (sym (drop_at all k t e))
     ∙ before
+
+pub machine_made : (machines all : List Machine) (terms more : List Term) (m : Machine) (t : Term) → forward_of m ≡ machine_body t →
+    all ≡ machines ++ m ∷ [] → more ≡ terms ++ t ∷ [] → map forward_of machines ≡ map machine_body terms → map forward_of all ≡ map machine_body more
+machine_made machines all terms more m t same made pushed before =
+    ap (map forward_of) made
+    ∙ map-append forward_of machines (m ∷ [])
+    ∙ ap (λ b. map forward_of machines ++ b ∷ []) same
+    ∙ ap (λ z. z ++ machine_body t ∷ []) before
+    ∙ sym (map-append machine_body terms (t ∷ []))
+    ∙ ap (map machine_body) (sym pushed)
 
 -- what is answered is the value found
 pub value_answered : {E : Type 0} (r : Result Ext E) (found : Option Ext) (v : Ext) → found ≡ Some v → IfOk r (λ x. x ≡ v) → IfOk r (λ x. found ≡ Some x)

@@ -1,14 +1,17 @@
-//! The machine of a term.
+//! The machine of a term, and the machines of a model's terms.
 
 ghost use Rattle.std.specs.Prelude.{◌≡◌, IfOk};
 ghost use Rattle.ts_automaton.specs.AutomatonRun.{Marked};
 ghost use Rattle.ts_compile.specs.Compiled.{AnswersTerm, machine_body};
+ghost use Rattle.ts_compile.specs.Programs.{IsProgramOf};
 ghost use Rattle.ts_glue.specs.Machines.{forward_of};
 
+use crate::program::Program;
 use std::alloc::Global;
 use ts_base::Memory;
 use ts_decorate::decorate;
 use ts_glue::Machine;
+use ts_model::Model;
 use ts_pattern::{Term, pattern_by_id};
 use ts_seed::transducer_by_id;
 
@@ -23,4 +26,18 @@ pub fn compile_term(alloc: Global, t: &Term) -> Result<Machine, Memory>
     let pattern = pattern_by_id(alloc, t.pattern)?;
     let forward = decorate(alloc, &transducer, pattern.a, t.aggregator, t.feature)?;
     Ok(Machine::plain(forward))
+}
+
+/// The terms of a model with their machines.
+pub fn compile_model(alloc: Global, m: &Model) -> Result<Program, Memory>
+    ensures { IfOk result (λ p. IsProgramOf p m.now) }
+{
+    let mut terms = Vec::new(alloc);
+    let mut machines = Vec::new(alloc);
+    for k in 0..m.terms.len() {
+        let term = m.terms[k];
+        machines.push(compile_term(alloc, &term)?)?;
+        terms.push(term)?;
+    }
+    Ok(Program { terms, machines })
 }

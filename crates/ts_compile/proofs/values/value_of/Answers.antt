@@ -2,7 +2,7 @@ use Rattle.ts_pattern.specs.TermValue.{term_value}
 use Rattle.ts_model.specs.Views.{stated}
 use Rattle.ts_model.specs.Meets.{value_at}
 use Rattle.ts_compile.proofs.Terms.{value_found, value_answered}
-use Rattle.ts_compile.proofs.program.value_of.Goals as goal
+use Rattle.ts_compile.proofs.values.value_of.Goals as goal
 
 pub returns : goal.returns
 returns c =
