@@ -1,3 +1,4 @@
 pub mod Answers
 pub mod Tables
 mod Terms
+mod Texts

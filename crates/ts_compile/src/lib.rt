@@ -3,7 +3,7 @@
 //! A term's machine is the seed transducer of its pattern, decorated with the registers of its aggregator and feature
 //! (Global Constraint Catalog, Volume II). The layer above may rely on this: a machine is exactly the one that the
 //! tables give its term, and its answer is the value of the term on every series of up to 100,000 cells; a `Program`
-//! has terms and the machine of each.
+//! has terms and the machine of each, and `write_program` gives its text.
 //!
 //! ```text
 //! let peaks = compile_term(alloc, &Term::new(Aggregator::Sum, Feature::Width, PatternId::Peak)?)?;
@@ -14,8 +14,10 @@
 mod compile;
 pub mod laws;
 mod program;
+mod text;
 mod values;
 
 pub use compile::{compile_model, compile_term};
 pub use program::Program;
+pub use text::write_program;
 pub use values::value_of;

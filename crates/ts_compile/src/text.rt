@@ -1,0 +1,90 @@
+//! The text of a program.
+
+ghost use Rattle.std.specs.Prelude.{◌≡◌, ◌∷◌, ◌++◌, string_bytes, IfOk, OnOk};
+ghost use Rattle.ts_automaton.specs.AutomatonText.{words_text};
+ghost use Rattle.ts_compile.specs.ProgramText.{part_text, program_text, term_words};
+ghost use Rattle.ts_compile.specs.Programs.{IsProgramOf};
+ghost use Rattle.ts_glue.specs.Machines.{forward_of};
+ghost use Rattle.ts_pattern.specs.Names.{aggregator_name, feature_name};
+
+use crate::program::Program;
+use std::alloc::Global;
+use ts_automaton::{Way, write, write_head};
+use ts_base::Memory;
+use ts_glue::Machine;
+use ts_model::Model;
+use ts_pattern::{Aggregator, Feature, Term, pattern_name};
+
+/// The text of the program `p` of a model: for each term its line, its forward block, and the line `no reverse`. It is
+/// empty for a model without terms.
+pub fn write_program(alloc: Global, m: &Model, p: &Program) -> Result<Vec<u8>, Memory>
+    requires { IsProgramOf p.now m.now }
+    ensures { IfOk result (λ text. text.items ≡ program_text m.now.terms.entries) }
+{
+    let mut text = Vec::new(alloc);
+    let names = m.terms.keys();
+    let machines = p.machines();
+    for k in 0..machines.len() {
+        push_part(&mut text, &names[k], &m.terms[k], &machines[k])?;
+    }
+    Ok(text)
+}
+
+/// Puts the part of one term behind `text`.
+fn push_part(text: &mut Vec<u8>, name: &String, t: &Term, machine: &Machine) -> Result<(), Memory>
+    ensures { OnOk result
+        (text.new.items ≡ text.old.items ++ part_text (string_bytes name.now) t.now (forward_of machine.now)) }
+{
+    push_term(text, name, t)?;
+    write_head(Way::Forward, text)?;
+    write(machine.forward(), text)?;
+    text.extend_from_slice(b"no reverse\n")?;
+    Ok(())
+}
+
+/// Puts the line of a term behind `text`.
+fn push_term(text: &mut Vec<u8>, name: &String, t: &Term) -> Result<(), Memory>
+    ensures { OnOk result
+        (text.new.items ≡ text.old.items ++ words_text (term_words (string_bytes name.now) t.now)) }
+{
+    text.extend_from_slice(b"term")?;
+    push_word(text, name.as_bytes())?;
+    push_word(text, aggregator_name(t.aggregator))?;
+    push_word(text, feature_name(t.feature))?;
+    push_word(text, pattern_name(t.pattern))?;
+    text.push(b'\n')?;
+    Ok(())
+}
+
+/// Puts a space and a word behind `text`.
+fn push_word(text: &mut Vec<u8>, word: &[u8]) -> Result<(), Memory>
+    ensures { OnOk result (text.new.items ≡ text.old.items ++ (32 ∷ word.now)) }
+{
+    text.push(b' ')?;
+    text.extend_from_slice(word)?;
+    Ok(())
+}
+
+/// The name of an aggregator, as it stands in a text.
+fn aggregator_name(g: Aggregator) -> &'static [u8]
+    ensures { result.now ≡ aggregator_name g }
+{
+    match g {
+        Aggregator::Sum => b"sum",
+        Aggregator::Max => b"max",
+        Aggregator::Min => b"min",
+    }
+}
+
+/// The name of a feature, as it stands in a text.
+fn feature_name(f: Feature) -> &'static [u8]
+    ensures { result.now ≡ feature_name f }
+{
+    match f {
+        Feature::One => b"one",
+        Feature::Width => b"width",
+        Feature::Surf => b"surf",
+        Feature::Max => b"max",
+        Feature::Min => b"min",
+    }
+}
