@@ -11,10 +11,8 @@ use Rattle.ts_pattern.specs.Occurrences.{IsMatch, IsOccurrence}
 use Rattle.ts_pattern.specs.EachOf.{OneOf}
 use Rattle.ts_pattern.specs.OccurrenceList.{Place, RisingPlaces, IsPlace, AreOccurrences, e_range, AreRanges}
 use Rattle.ts_pattern.specs.AllOccurrences.{places_from, places_after, match_places, is_not_wider, occurrence_places, occurrence_ranges}
-use Rattle.ts_pattern.proofs.Entries.{each_filter}
-use Rattle.ts_pattern.proofs.LiveEntries.{one_left, one_right}
-use Rattle.ts_pattern.proofs.Ends.{each_and}
-use Rattle.ts_pattern.proofs.Places.{place_is, each_map, same_start_same, occurrences_unique}
+use Rattle.ts_pattern.proofs.Elements.{each_map, each_and, each_filter, one_left, one_right}
+use Rattle.ts_pattern.proofs.Places.{place_is, same_start_same, occurrences_unique}
 
 same_number : (a b : ℕ) → a == b ≡ true → a ≡ b
 same_number a b h = grind arith

@@ -15,6 +15,4 @@ pub use Rattle.ts_pattern.proofs.AllOccurrences.{ranges_are, are_ranges}
 pub use Rattle.ts_pattern.proofs.Tested.{closed_by_test, configuration_is}
 pub use Rattle.ts_pattern.proofs.Names.{found_name, found_by_name}
 -- lists of which each element has a property
-pub use Rattle.ts_pattern.proofs.LiveEntries.{each_push, one_left}
-pub use Rattle.ts_pattern.proofs.Ends.{each_and}
-pub use Rattle.ts_pattern.proofs.Places.{each_map, each_left}
+pub use Rattle.ts_pattern.proofs.Elements.{each_map, each_and, each_push, each_left, one_left}

@@ -9,13 +9,10 @@ use Rattle.ts_pattern.specs.Occurrences.{IsMatch}
 use Rattle.ts_pattern.specs.EachOf.{OneOf}
 use Rattle.std.specs.List.{AllByRecursion}
 use Rattle.ts_pattern.specs.Entries.{Entry, Residuals, survivors}
+use Rattle.ts_pattern.proofs.Elements.{each_and}
 use Rattle.ts_pattern.proofs.OneLetter.{NoneEnds, IsLeastStart}
 use Rattle.ts_pattern.proofs.Entries.{Rising, AreRight, Covers, rising_lower}
 use Rattle.ts_pattern.proofs.LiveEntries.{Follows, AreLive, drop_more, follows_step, each_survivor, rising_survivors, covers_survivors}
-
-pub each_and : {A : Type 0} (p q : A → Type 0) (es : List A) → AllByRecursion p es → AllByRecursion q es → AllByRecursion (λ x. p x × q x) es
-each_and p q [] h k = tt
-each_and p q (x ∷ es) h k = ((h.0, k.0), each_and p q es h.1 k.1)
 
 each_one : {A : Type 0} (p q r : A → Type 0) → ((x : A) → p x → q x → r x) → (es : List A) → AllByRecursion p es → OneOf q es → OneOf r es
 each_one p q r f [] h k = k

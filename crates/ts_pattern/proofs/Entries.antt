@@ -9,6 +9,7 @@ use Rattle.ts_regex.specs.Language.{InLanguage}
 use Rattle.ts_regex.proofs.Laws.{residual_law, no_word, same_law}
 use Rattle.ts_pattern.specs.EachOf.{OneOf}
 use Rattle.ts_pattern.specs.Entries.{Entry, Residuals, shapes, alive, without, keep}
+use Rattle.ts_pattern.proofs.Elements.{each_filter}
 
 -- the starts rise strictly, from low on
 abbrev pub Rising : {T : Type 0} → ℕ → List (Entry ℕ Shape T) → Type 0
@@ -23,11 +24,6 @@ pub record AreRight (t : Residuals Shape) : Type 0 where
   pub equal : (r s : Shape) → t.same r s ≡ true → r ≡ s
 
 -- (i) what holds of each entry holds of each that is kept
-pub each_filter : {A : Type 0} (p : A → Type 0) (q : A → Bool) (es : List A) → AllByRecursion p es → AllByRecursion p (filter q es)
-each_filter p q [] h = tt
-each_filter p q (e ∷ es) h =
-    elim (q e) as (λ b. AllByRecursion p (cond b (e ∷ filter q es) (filter q es))) [ true ↦ (h.0, each_filter p q es h.1) | false ↦ each_filter p q es h.1 ]
-
 pub each_keep : {X R T : Type 0} (t : Residuals R) (p : Entry X R T → Type 0) (es : List (Entry X R T)) → AllByRecursion p es → AllByRecursion p (keep t es)
 each_keep t p [] h = tt
 each_keep t p (e ∷ es) h = (h.0, each_filter p (λ x. not (t.same e.residual x.residual)) (keep t es) (each_keep t p es h.1))

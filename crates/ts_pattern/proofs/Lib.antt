@@ -1,4 +1,5 @@
 pub mod Names
+pub mod Elements
 pub mod OneLetter
 pub mod Entries
 pub mod LiveEntries

@@ -3,6 +3,7 @@
 use Rattle.std.specs.Prelude.{◌≡◌, ℕ, ◌+◌, ◌<◌, ◌≤◌, List, [], ◌∷◌, ◌++◌, length, drop, refl}
 use Rattle.std.proofs.Common.{sym, ◌∙◌, ap, subst, inl, inr, arith, ⊎_elim, append_assoc}
 use Rattle.std.proofs.Math.Nat.{eq-or-lt_of_le}
+use Rattle.std.proofs.Math.Seq.{drop-length}
 use Rattle.std.proofs.lemmas.List.{drop-append-le}
 use Rattle.ts_base.specs.declared.letter.Letter.{Letter}
 use Rattle.ts_regex.specs.Shape.{Shape}
@@ -10,21 +11,10 @@ use Rattle.ts_regex.specs.Language.{InLanguage}
 use Rattle.ts_pattern.specs.EachOf.{OneOf}
 use Rattle.std.specs.List.{AllByRecursion}
 use Rattle.ts_pattern.specs.Entries.{Entry, Residuals, derive_entry, derive_entries, alive, survivors}
-use Rattle.ts_pattern.proofs.Entries.{Rising, AreRight, Covers, each_filter, each_keep, rising_filter, rising_keep, some_alive, some_keep}
+use Rattle.ts_pattern.proofs.Elements.{each_map, each_filter, each_push, one_left, one_right}
+use Rattle.ts_pattern.proofs.Entries.{Rising, AreRight, Covers, each_keep, rising_filter, rising_keep, some_alive, some_keep}
 
--- lists with one more at the end
-pub each_push : {A : Type 0} (p : A → Type 0) (es : List A) (e : A) → AllByRecursion p es → p e → AllByRecursion p (es ++ e ∷ [])
-each_push p [] e h k = (k, tt)
-each_push p (x ∷ es) e h k = (h.0, each_push p es e h.1 k)
-
-pub one_left : {A : Type 0} (p : A → Type 0) (es fs : List A) → OneOf p es → OneOf p (es ++ fs)
-one_left p [] fs h = absurd h
-one_left p (x ∷ es) fs h = ⊎_elim (λ a. inl a) (λ a. inr (one_left p es fs a)) h
-
-pub one_right : {A : Type 0} (p : A → Type 0) (es fs : List A) → OneOf p fs → OneOf p (es ++ fs)
-one_right p [] fs h = h
-one_right p (x ∷ es) fs h = inr (one_right p es fs h)
-
+-- an entry that starts later comes last
 rising_push : {T : Type 0} (a k : ℕ) (es : List (Entry ℕ Shape T)) (e : Entry ℕ Shape T) → Rising a es → a ≤ k → AllByRecursion (λ x. x.mark < k) es →
     e.mark ≡ k →
     Rising a (es ++ e ∷ [])
@@ -92,10 +82,10 @@ pub live_appended : {T : Type 0} (p p0 : Shape) → ((v : List Letter) → InLan
     AreLive p w (length w + 1) (es ++ record { mark = length w; residual = p0; tag = g } ∷ [])
 live_appended {T} p p0 there back w g es h =
     let fresh : Entry ℕ Shape T = record { mark = length w; residual = p0; tag = g } in
-    let gone : drop (length w) w ≡ [] = all_dropped w in
+    let gone : drop (length w) w ≡ [] = drop-length w in
     record {
       rising = rising_push 0 (length w) es fresh h.rising (omega arith) h.below refl;
-      below = each_push (λ e. e.mark < length w + 1) es fresh (each_more (λ e. e.mark < length w) (λ e. e.mark < length w + 1) (λ e q. omega arith) es h.below)
+      below = each_push (λ e. e.mark < length w + 1) es fresh (each_map (λ e. e.mark < length w) (λ e. e.mark < length w + 1) (λ e q. omega arith) es h.below)
           (omega arith);
       follows = each_push (Follows p w) es fresh h.follows (record {
         to = λ v x. subst (λ y. InLanguage p (y ++ v)) (sym gone)
@@ -111,11 +101,3 @@ live_appended {T} p p0 there back w g es h =
           (λ r. one_left (Covers s v) es (fresh ∷ []) (h.covered s v r x))
           (eq-or-lt_of_le (let c : s ≤ length w = omega arith in c));
     }
-  where
-    all_dropped : (w : List Letter) → drop (length w) w ≡ []
-    all_dropped [] = refl
-    all_dropped (x ∷ w) = all_dropped w
-
-    each_more : {A : Type 0} (p q : A → Type 0) → ((x : A) → p x → q x) → (es : List A) → AllByRecursion p es → AllByRecursion q es
-    each_more p q f [] h = tt
-    each_more p q f (x ∷ es) h = (f x h.0, each_more p q f es h.1)

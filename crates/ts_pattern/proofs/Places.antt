@@ -7,21 +7,8 @@ use Rattle.ts_pattern.specs.EachOf.{OneOf}
 use Rattle.std.specs.List.{AllByRecursion}
 use Rattle.ts_pattern.specs.Occurrences.{IsOccurrence}
 use Rattle.ts_pattern.specs.OccurrenceList.{Place, RisingPlaces, IsPlace, AreOccurrences}
+use Rattle.ts_pattern.proofs.Elements.{each_map, each_and, each_push, each_left, one_left, one_right}
 use Rattle.ts_pattern.proofs.OneLetter.{NoneEnds, IsLeastStart, none_up, none_down, some_last, some_up, some_down}
-use Rattle.ts_pattern.proofs.LiveEntries.{each_push, one_left, one_right}
-use Rattle.ts_pattern.proofs.Ends.{each_and}
-
-pub each_map : {A : Type 0} (p q : A → Type 0) → ((x : A) → p x → q x) → (es : List A) → AllByRecursion p es → AllByRecursion q es
-each_map p q f [] h = tt
-each_map p q f (x ∷ es) h = (f x h.0, each_map p q f es h.1)
-
-pub each_left : {A : Type 0} (p : A → Type 0) (es fs : List A) → AllByRecursion p (es ++ fs) → AllByRecursion p es
-each_left p [] fs h = tt
-each_left p (x ∷ es) fs h = (h.0, each_left p es fs h.1)
-
-each_right : {A : Type 0} (p : A → Type 0) (es fs : List A) → AllByRecursion p (es ++ fs) → AllByRecursion p fs
-each_right p [] fs h = h
-each_right p (x ∷ es) fs h = each_right p es fs h.1
 
 rising_left : (a : ℕ) (es fs : List Place) → RisingPlaces a (es ++ fs) → RisingPlaces a es
 rising_left a [] fs h = tt
