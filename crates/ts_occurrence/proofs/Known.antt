@@ -17,7 +17,7 @@ use Rattle.ts_regex.specs.Derivative.{nullable, has_word}
 use Rattle.ts_regex.specs.NormalForm.{residual, same_shape}
 use Rattle.ts_regex.proofs.Laws.{same_law}
 use Rattle.ts_occurrence.specs.declared.residuals.Met.{Met}
-use Rattle.ts_occurrence.specs.Residuals.{shapes_met, number_after, with_number_after, met_of, IsNumber, AnswersRight, AreRight, Grows}
+use Rattle.ts_occurrence.specs.Residuals.{shapes_met, number_after, with_number_after, met_of, IsNumber, AnswersRight, AreConsistent, Grows}
 
 -- lists
 
@@ -52,7 +52,7 @@ pub residual_is : (ms : List Met) (k : ℕ) (m d : Met) → k < length ms → m 
 residual_is ms k m d q e = sym (get_or_from_slice_get (shapes_met ms) k (shape_of m.residual) Empty (known_get ms k m (at ms k m d q e)))
 
 -- the answers at a number
-pub answers_at : (ms : List Met) → AreRight ms → (k : ℕ) (m d : Met) → k < length ms → m ≡ get_or ms k d →
+pub answers_at : (ms : List Met) → AreConsistent ms → (k : ℕ) (m d : Met) → k < length ms → m ≡ get_or ms k d →
     (m.has_word ≡ has_word (get_or (shapes_met ms) k Empty)) × (m.nullable ≡ nullable (get_or (shapes_met ms) k Empty))
 answers_at ms h k m d q e =
     let a = h.answers k m (at ms k m d q e) in
@@ -99,8 +99,8 @@ last_is ms m = known_get (ms ++ m ∷ []) (length ms) m (last ms m)
 abbrev Lacks : List Met → Shape → Type 0
 Lacks ms r = (n : ℕ) → IsNumber (shapes_met ms) r n → ⊥
 
-right_with_one : (ms : List Met) (m : Met) → AreRight ms → Lacks ms (shape_of m.residual) → AnswersRight m → ((l : Letter) → number_after m l ≡ None) →
-    AreRight (ms ++ m ∷ [])
+right_with_one : (ms : List Met) (m : Met) → AreConsistent ms → Lacks ms (shape_of m.residual) → AnswersRight m → ((l : Letter) → number_after m l ≡ None) →
+    AreConsistent (ms ++ m ∷ [])
 right_with_one ms m h lacks right none =
     record {
       once = λ i j r p q. once i j r (split i r p) (split j r q);
@@ -123,11 +123,11 @@ right_with_one ms m h lacks right none =
         (λ a. ⊎_elim (λ b. absurd (lacks j (subst (λ z. IsNumber (shapes_met ms) z j) (sym a.1) b))) (λ b. a.0 ∙ sym b.0) q)
         p
 
-pub right_alone : (m : Met) → AnswersRight m → ((l : Letter) → number_after m l ≡ None) → AreRight (m ∷ [])
+pub right_alone : (m : Met) → AnswersRight m → ((l : Letter) → number_after m l ≡ None) → AreConsistent (m ∷ [])
 right_alone m right none =
     right_with_one [] m nothing (λ n p. absurd (none-some (shape_of m.residual) p)) right none
   where
-    nothing : AreRight []
+    nothing : AreConsistent []
     nothing =
         record {
           once = λ i j r p q. absurd (none-some r p);
@@ -172,7 +172,7 @@ set_or_old (z ∷ xs) (suc i) zero y x q = inr q
 set_or_old (z ∷ xs) (suc i) (suc k) y x q = ⊎_elim (λ h. inl (ap (λ n. suc n) h.0, h.1)) (λ h. inr h) (set_or_old xs i k y x q)
 
 right_with_number : (ms : List Met) (i n : ℕ) (m d : Met) (l : Letter) → i < length ms → m ≡ get_or ms i d →
-    IsNumber (shapes_met ms) (residual (shape_of m.residual) l) n → AreRight ms → AreRight (set ms i (with_number_after m l n))
+    IsNumber (shapes_met ms) (residual (shape_of m.residual) l) n → AreConsistent ms → AreConsistent (set ms i (with_number_after m l n))
 right_with_number ms i n m d l inside e number h =
     let same : shapes_met (set ms i (with_number_after m l n)) ≡ shapes_met ms = known_kept ms i n m d l e in
     record {
@@ -198,9 +198,9 @@ right_with_number ms i n m d l inside e number h =
 
 -- the number of what a letter leaves of residual k, noted
 pub noted_right : (old now : List Met) (k n : ℕ) (l : Letter) (m d new : Met) (r rest : Shape) → k < length old → r ≡ get_or (shapes_met old) k Empty →
-    rest ≡ residual r l → Grows (shapes_met old) (shapes_met now) → AreRight now → IsNumber (shapes_met now) rest n → m ≡ get_or now k d →
+    rest ≡ residual r l → Grows (shapes_met old) (shapes_met now) → AreConsistent now → IsNumber (shapes_met now) rest n → m ≡ get_or now k d →
     new ≡ with_number_after m l n →
-    AreRight (set now k new) × Grows (shapes_met old) (shapes_met (set now k new))
+    AreConsistent (set now k new) × Grows (shapes_met old) (shapes_met (set now k new))
     × IsNumber (shapes_met (set now k new)) (residual (get_or (shapes_met old) k Empty) l) n
 noted_right old now k n l m d new r rest q er es g h number em en =
     let here : k < length (shapes_met old) = (let z = known_length old in omega arith) in
@@ -210,7 +210,7 @@ noted_right old now k n l m d new r rest q er es g h number em en =
     ∙ known_get now k m (at now k m d inside em)) in
     let is : rest ≡ residual (shape_of m.residual) l = es ∙ ap (λ z. residual z l) kept in
     let same : shapes_met (set now k new) ≡ shapes_met now = ap (λ z. shapes_met (set now k z)) en ∙ known_kept now k n m d l em in (
-      subst (λ z. AreRight (set now k z)) (sym en) (right_with_number now k n m d l inside em (subst (λ z. IsNumber (shapes_met now) z n) is number) h),
+      subst (λ z. AreConsistent (set now k z)) (sym en) (right_with_number now k n m d l inside em (subst (λ z. IsNumber (shapes_met now) z n) is number) h),
       subst (λ z. Grows (shapes_met old) z) (sym same) g,
       subst (λ z. IsNumber z (residual (get_or (shapes_met old) k Empty) l) n) (sym same)
           (subst (λ z. IsNumber (shapes_met now) z n) (es ∙ ap (λ z. residual z l) er) number),
@@ -241,13 +241,13 @@ not_found ms r q n p = there (slice_get ms n) refl
         absurd (true≢false (sym yes ∙ no))
 
 -- a residual that wasn't met before comes last
-pub pushed_right : (old new : List Met) (m : Met) (r : Regex) (n : ℕ) → AreRight old →
+pub pushed_right : (old new : List Met) (m : Met) (r : Regex) (n : ℕ) → AreConsistent old →
     position (λ x. same_shape (shape_of x.residual) (shape_of r)) old ≡ None → m ≡ met_of r →
     new ≡ old ++ m ∷ [] → n ≡ length old →
-    AreRight new × Grows (shapes_met old) (shapes_met new) × IsNumber (shapes_met new) (shape_of r) n
+    AreConsistent new × Grows (shapes_met old) (shapes_met new) × IsNumber (shapes_met new) (shape_of r) n
 pushed_right old new m r n h none em en el =
     let shape : shape_of m.residual ≡ shape_of r = ap (λ (z : Met). shape_of z.residual) em in (
-      subst (λ z. AreRight z) (sym en) (right_with_one old m h (subst (λ z. Lacks old z) (sym shape) (not_found old (shape_of r) none))
+      subst (λ z. AreConsistent z) (sym en) (right_with_one old m h (subst (λ z. Lacks old z) (sym shape) (not_found old (shape_of r) none))
           (subst (λ z. AnswersRight z) (sym em) (refl, refl)) (λ l. ap (λ (z : Met). number_after z l) em ∙ nowhere l)),
       subst (λ z. Grows (shapes_met old) (shapes_met z)) (sym en) (grown_by_one old m),
       subst (λ z. IsNumber (shapes_met z) (shape_of r) n) (sym en)

@@ -42,7 +42,7 @@ abbrev pub AnswersRight : Met → Type 0
 AnswersRight m = (m.has_word ≡ has_word (shape_of m.residual)) × (m.nullable ≡ nullable (shape_of m.residual))
 
 -- each residual stands once, with right answers, and a number noted after it is that of what the letter leaves
-pub record AreRight (ms : List Met) : Type 0 where
+pub record AreConsistent (ms : List Met) : Type 0 where
   pub once : (i j : ℕ) (r : Shape) → IsNumber (shapes_met ms) r i → IsNumber (shapes_met ms) r j → i ≡ j
   pub answers : (k : ℕ) (m : Met) → slice_get ms k ≡ Some m → AnswersRight m
   pub after : (k n : ℕ) (m : Met) (l : Letter) → slice_get ms k ≡ Some m → number_after m l ≡ Some n →

@@ -8,7 +8,7 @@ ghost use Rattle.std.specs.List.{list_any};
 ghost use Rattle.ts_regex.specs.Shape.{Empty};
 ghost use Rattle.ts_regex.specs.Derivative.{has_word};
 ghost use Rattle.ts_pattern.specs.Entries.{shapes, survivors, with_entry};
-ghost use Rattle.ts_occurrence.specs.Residuals.{shapes_met, AreRight, Grows};
+ghost use Rattle.ts_occurrence.specs.Residuals.{shapes_met, AreConsistent, Grows};
 ghost use Rattle.ts_occurrence.specs.Live.{entry, entries_of, AreKnown, first_ending};
 
 use crate::residuals::Residuals;
@@ -31,9 +31,9 @@ pub fn after_letter(
     l: Letter,
 ) -> Result<Vec<LiveStart>, Memory>
     requires whole { 0 < length residuals.old.met.items }
-    requires right { AreRight residuals.old.met.items }
+    requires right { AreConsistent residuals.old.met.items }
     requires known { AreKnown (shapes_met residuals.old.met.items) live.items }
-    ensures right { OnOk result (AreRight residuals.new.met.items) }
+    ensures right { OnOk result (AreConsistent residuals.new.met.items) }
     ensures grown { OnOk result (Grows (shapes_met residuals.old.met.items) (shapes_met residuals.new.met.items)) }
     ensures known { IfOk result (λ v. AreKnown (shapes_met residuals.new.met.items) v.items) }
     ensures exact { IfOk result (λ v. entries_of (shapes_met residuals.new.met.items) v.items
@@ -54,9 +54,9 @@ fn survivors(
     live: &[LiveStart],
     l: Letter,
 ) -> Result<Vec<LiveStart>, Memory>
-    requires right { AreRight residuals.old.met.items }
+    requires right { AreConsistent residuals.old.met.items }
     requires known { AreKnown (shapes_met residuals.old.met.items) live.now }
-    ensures right { OnOk result (AreRight residuals.new.met.items) }
+    ensures right { OnOk result (AreConsistent residuals.new.met.items) }
     ensures grown { OnOk result (Grows (shapes_met residuals.old.met.items) (shapes_met residuals.new.met.items)) }
     ensures known { IfOk result (λ v. AreKnown (shapes_met residuals.new.met.items) v.items) }
     ensures exact { IfOk result (λ v. entries_of (shapes_met residuals.new.met.items) v.items
@@ -79,7 +79,7 @@ fn keep(
     rest: usize,
 ) -> Result<(), Memory>
     requires there { rest < length residuals.now.met.items }
-    requires right { AreRight residuals.now.met.items }
+    requires right { AreConsistent residuals.now.met.items }
     requires known { AreKnown (shapes_met residuals.now.met.items) kept.old.items }
     ensures known { OnOk result (AreKnown (shapes_met residuals.now.met.items) kept.new.items) }
     ensures exact { OnOk result (entries_of (shapes_met residuals.now.met.items) kept.new.items
@@ -98,7 +98,7 @@ fn keep(
 /// Whether the residual has a word, and no earlier start has it.
 fn is_new(kept: &[LiveStart], residuals: &Residuals, rest: usize) -> bool
     requires there { rest < length residuals.now.met.items }
-    requires right { AreRight residuals.now.met.items }
+    requires right { AreConsistent residuals.now.met.items }
     ensures { result ≡ (has_word (get_or (shapes_met residuals.now.met.items) rest Empty)
         && not (list_any (λ x. x.residual == rest) kept.now)) }
 {
@@ -114,7 +114,7 @@ fn stands(kept: &[LiveStart], rest: usize) -> bool
 
 /// The first start from which a match ends at the sign just read.
 pub fn first_ending(residuals: &Residuals, live: &[LiveStart]) -> Option<u32>
-    requires right { AreRight residuals.now.met.items }
+    requires right { AreConsistent residuals.now.met.items }
     requires known { AreKnown (shapes_met residuals.now.met.items) live.now }
     ensures { result ≡ first_ending (entries_of (shapes_met residuals.now.met.items) live.now) }
 {

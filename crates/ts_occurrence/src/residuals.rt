@@ -6,7 +6,7 @@ ghost use Rattle.std.specs.List.{position};
 ghost use Rattle.ts_regex.specs.Shape.{shape_of, Empty};
 ghost use Rattle.ts_regex.specs.Derivative.{nullable, has_word};
 ghost use Rattle.ts_regex.specs.NormalForm.{residual, same_shape};
-ghost use Rattle.ts_occurrence.specs.Residuals.{shapes_met, number_after, with_number_after, met_of, IsNumber, AreRight, Grows};
+ghost use Rattle.ts_occurrence.specs.Residuals.{shapes_met, number_after, with_number_after, met_of, IsNumber, AreConsistent, Grows};
 
 use std::alloc::Global;
 use ts_base::{Letter, Memory};
@@ -34,7 +34,7 @@ impl Residuals {
     /// The whole expression alone, in normal form; its number is 0.
     pub fn of(alloc: Global, whole: Regex) -> Result<Residuals, Memory>
         ensures known { IfOk result (λ t. shapes_met t.met.items ≡ shape_of whole ∷ []) }
-        ensures right { IfOk result (λ t. AreRight t.met.items) }
+        ensures right { IfOk result (λ t. AreConsistent t.met.items) }
     {
         let mut met = Vec::new(alloc);
         met.push(Met::new(whole))?;
@@ -52,7 +52,7 @@ impl Residuals {
     /// Whether the residual of a number has a word.
     pub fn has_word(&self, number: usize) -> bool
         requires there { number < length self.now.met.items }
-        requires right { AreRight self.now.met.items }
+        requires right { AreConsistent self.now.met.items }
         ensures { result ≡ has_word (get_or (shapes_met self.now.met.items) number Empty) }
     {
         self.met[number].has_word
@@ -61,7 +61,7 @@ impl Residuals {
     /// Whether the residual of a number has the empty word.
     pub fn nullable(&self, number: usize) -> bool
         requires there { number < length self.now.met.items }
-        requires right { AreRight self.now.met.items }
+        requires right { AreConsistent self.now.met.items }
         ensures { result ≡ nullable (get_or (shapes_met self.now.met.items) number Empty) }
     {
         self.met[number].nullable
@@ -70,8 +70,8 @@ impl Residuals {
     /// The number of what a letter leaves of the residual of a number.
     pub fn after(&mut self, alloc: Global, number: usize, l: Letter) -> Result<usize, Memory>
         requires there { number < length self.old.met.items }
-        requires right { AreRight self.old.met.items }
-        ensures right { OnOk result (AreRight self.new.met.items) }
+        requires right { AreConsistent self.old.met.items }
+        ensures right { OnOk result (AreConsistent self.new.met.items) }
         ensures grown { OnOk result (Grows (shapes_met self.old.met.items) (shapes_met self.new.met.items)) }
         ensures exact { IfOk result (λ n. IsNumber (shapes_met self.new.met.items)
             (residual (get_or (shapes_met self.old.met.items) number Empty) l) n) }
@@ -89,8 +89,8 @@ impl Residuals {
 
     /// The number of a residual, which is met now if it wasn't before.
     fn number_of(&mut self, rest: Regex) -> Result<usize, Memory>
-        requires { AreRight self.old.met.items }
-        ensures right { OnOk result (AreRight self.new.met.items) }
+        requires { AreConsistent self.old.met.items }
+        ensures right { OnOk result (AreConsistent self.new.met.items) }
         ensures grown { OnOk result (Grows (shapes_met self.old.met.items) (shapes_met self.new.met.items)) }
         ensures exact { IfOk result (λ n. IsNumber (shapes_met self.new.met.items) (shape_of rest) n) }
     {

@@ -10,7 +10,7 @@ use Rattle.ts_pattern.specs.Closed.{Subject, meets_checks}
 use Rattle.ts_validate.specs.declared.arrival.Arrival.{Arrival}
 use Rattle.ts_validate.specs.declared.arrival.Tour.{Tour}
 use Rattle.ts_validate.specs.FirstFalse.{first_false}
-use Rattle.ts_validate.specs.Reaches.{value_at, value_of, arrival_at, Follows, Followed, Grows, AllMeet, FailsFirst, Judged, IsTour}
+use Rattle.ts_validate.specs.Reaches.{value_at, arrival_value, arrival_at, StepArrives, StepsArrive, ArrivalsGrow, AllMeet, FailsFirst, Judged, IsTour}
 use Rattle.ts_validate.proofs.Tours.{arrived_grown, follows_each, follows_grown, followed_more, grown_twice, grown_length}
 
 three : (s : Subject Shape) (i : ℕ) → meets_checks s (value_at s i) Less ≡ true → meets_checks s (value_at s i) Equal ≡ true →
@@ -43,7 +43,7 @@ abbrev Answers : Subject Shape → Arrival → Option Letter → Type 0
 Answers s a o = MatchOption o (AllMeet s a.configuration) (λ l. FailsFirst s a.configuration l)
 
 -- what was judged stays so in a longer tour
-judged_grown : (s : Subject Shape) (xs ys : List Arrival) (failing : List (Option Letter)) → length failing ≤ length xs → Grows xs ys →
+judged_grown : (s : Subject Shape) (xs ys : List Arrival) (failing : List (Option Letter)) → length failing ≤ length xs → ArrivalsGrow xs ys →
     Judged s xs failing → Judged s ys failing
 judged_grown s xs ys failing q g h k o e =
     let i : k < length failing = slice_get_within failing k o e in
@@ -60,21 +60,22 @@ judged_more s xs failing o h a k p e = ⊎_elim
 -- the three steps of the next arrival, taken and judged
 pub expanded : (s : Subject Shape) (t : Tour) (ys zs ws : List Arrival) (failing more : List (Option Letter)) (from : ℕ) (a b c : Bool)
     (o : Option Letter) → IsTour s t → from ≡ length t.failing.items → from < length t.arrivals.items →
-    Grows t.arrivals.items ys → Grows ys zs → Grows zs ws → Follows s ys from Less → Follows s zs from Equal → Follows s ws from Greater →
-    a ≡ meets_checks s (value_of s t.arrivals.items from) Less → b ≡ meets_checks s (value_of s ys from) Equal →
-    c ≡ meets_checks s (value_of s zs from) Greater → o ≡ first_false a b c → failing ≡ t.failing.items → more ≡ failing ++ o ∷ [] →
-    Followed s ws (length more) × Judged s ws more × (length more ≤ length ws)
+    ArrivalsGrow t.arrivals.items ys → ArrivalsGrow ys zs → ArrivalsGrow zs ws →
+    StepArrives s ys from Less → StepArrives s zs from Equal → StepArrives s ws from Greater →
+    a ≡ meets_checks s (arrival_value s t.arrivals.items from) Less → b ≡ meets_checks s (arrival_value s ys from) Equal →
+    c ≡ meets_checks s (arrival_value s zs from) Greater → o ≡ first_false a b c → failing ≡ t.failing.items → more ≡ failing ++ o ∷ [] →
+    StepsArrive s ws (length more) × Judged s ws more × (length more ≤ length ws)
 expanded s t ys zs ws failing more from a b c o h e q g1 g2 g3 f1 f2 f3 m1 m2 m3 first same push =
     let xs : List Arrival = t.arrivals.items in
     let done : List (Option Letter) = t.failing.items in
-    let to_ws : Grows xs ws = grown_twice xs ys ws g1 (grown_twice ys zs ws g2 g3) in
+    let to_ws : ArrivalsGrow xs ws = grown_twice xs ys ws g1 (grown_twice ys zs ws g2 g3) in
     let long1 = grown_length xs ys g1 in
     let long2 = grown_length ys zs g2 in
     let long3 = grown_length zs ws g3 in
     let at_ys : arrival_at ys from ≡ arrival_at xs from = arrived_grown xs ys g1 from q in
     let at_zs : arrival_at zs from ≡ arrival_at xs from = arrived_grown ys zs g2 from (omega (arith, q, long1)) ∙ at_ys in
     let at_ws : arrival_at ws from ≡ arrival_at xs from = arrived_grown xs ws to_ws from q in
-    let all : (l : Letter) → Follows s ws from l =
+    let all : (l : Letter) → StepArrives s ws from l =
     follows_each s ws from (follows_grown s ys ws from Less (omega (arith, q, long1)) (grown_twice ys zs ws g2 g3) f1)
     (follows_grown s zs ws from Equal (omega (arith, q, long1, long2)) g3 f2) f3 in
     let is : more ≡ done ++ o ∷ [] = push ∙ ap (λ z. z ++ o ∷ []) same in
@@ -83,8 +84,8 @@ expanded s t ys zs ws failing more from a b c o h e q g1 g2 g3 f1 f2 f3 m1 m2 m3
     failing_is s (arrival_at xs from).configuration a b c o first m1
     (m2 ∙ ap (λ (z : Arrival). meets_checks s (value_at s z.configuration) Equal) at_ys)
     (m3 ∙ ap (λ (z : Arrival). meets_checks s (value_at s z.configuration) Greater) at_zs) in (
-      subst (λ z. Followed s ws z) (sym size)
-          (followed_more s xs ws (length done) (omega (arith, q, e)) h.followed to_ws (subst (λ z. (l : Letter) → Follows s ws z l) e all)),
+      subst (λ z. StepsArrive s ws z) (sym size)
+          (followed_more s xs ws (length done) (omega (arith, q, e)) h.followed to_ws (subst (λ z. (l : Letter) → StepArrives s ws z l) e all)),
       subst (λ z. Judged s ws z) (sym is)
           (judged_more s ws done o (judged_grown s xs ws done h.inside to_ws h.judged)
           (subst (λ z. Answers s (arrival_at ws z) o) e (subst (λ z. Answers s z o) (sym at_ws) answer))),

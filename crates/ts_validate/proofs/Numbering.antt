@@ -10,7 +10,7 @@ use Rattle.ts_regex.specs.declared.regex.Regex.{Regex}
 use Rattle.ts_validate.specs.declared.known.Known.{Known}
 use Rattle.ts_validate.specs.Numbers.{number_of, known_of}
 
--- the first place of a test, with one more for "nowhere"
+-- the first place at which a test holds; where it holds nowhere, the length plus 1
 number_place : (xs : List Regex) (r : Shape) → number_of (map (λ s. shape_of s) xs) r
     ≡ cond (nat_lt (position_or_len (λ s. same_shape (shape_of s) r) xs) (length xs)) (position_or_len (λ s. same_shape (shape_of s) r) xs) (length xs + 1)
 number_place [] r = refl

@@ -20,7 +20,7 @@ use Rattle.ts_pattern.specs.Closed.{PlainConfiguration, Subject, first_passes, s
 use Rattle.ts_validate.specs.declared.step.Look.{Look}
 use Rattle.ts_validate.specs.declared.arrival.Arrival.{Arrival}
 use Rattle.ts_validate.specs.declared.arrival.Tour.{Tour}
-use Rattle.ts_validate.specs.Reaches.{against, value_at, value_of, IsFirst, Sees, arrival, arrival_at, place_at, open_places, GoesOn, Reaches, Follows, Followed, Grows, IsTour, IsPath, PathStart, PathOn}
+use Rattle.ts_validate.specs.Reaches.{against, value_at, arrival_value, IsFirst, Sees, arrival, arrival_at, place_at, open_places, GoesOn, Reaches, StepArrives, StepsArrive, ArrivalsGrow, IsTour, IsPath, PathStart, PathOn}
 
 -- lists
 
@@ -109,7 +109,7 @@ started s n arrivals places e q a o =
 
 more_reached : (s : Subject Shape) (xs : List Arrival) (os : List (Option ℕ)) → Reaches s xs os → (next from : ℕ) (l : Letter) → from < length xs →
     next < length s.configurations → place_at os next ≡ None →
-    step_listed s (value_of s xs from) l ≡ true → value_at s next ≡ step_of s (value_of s xs from) l →
+    step_listed s (arrival_value s xs from) l ≡ true → value_at s next ≡ step_of s (arrival_value s xs from) l →
     Reaches s (xs ++ arrival next from l ∷ []) (set os next (Some (length xs)))
 more_reached s xs os h next from l f i e t v =
     let a : Arrival = arrival next from l in
@@ -148,8 +148,8 @@ more_reached s xs os h next from l f i e t v =
         GoesOn s (xs ++ arrival next from l ∷ []) (length xs)
     goes_last u w q =
         subst (λ (z : Arrival). (z.from < length xs)
-        × (step_listed s (value_of s (xs ++ arrival next from l ∷ []) z.from) z.letter ≡ true)
-        × (value_at s z.configuration ≡ step_of s (value_of s (xs ++ arrival next from l ∷ []) z.from) z.letter))
+        × (step_listed s (arrival_value s (xs ++ arrival next from l ∷ []) z.from) z.letter ≡ true)
+        × (value_at s z.configuration ≡ step_of s (arrival_value s (xs ++ arrival next from l ∷ []) z.from) z.letter))
         (sym u) (
           q,
           subst (λ (z : Arrival). step_listed s (value_at s z.configuration) l ≡ true) (sym w) t,
@@ -162,12 +162,12 @@ more_reached s xs os h next from l f i e t v =
         let w : arrival_at (xs ++ arrival next from l ∷ []) (arrival_at xs k).from ≡ arrival_at xs (arrival_at xs k).from =
         kept_at xs (arrival next from l ∷ []) (arrival_at xs k).from (let z = g.0 in omega arith) in
         subst (λ (z : Arrival). (z.from < k)
-        × (step_listed s (value_of s (xs ++ arrival next from l ∷ []) z.from) z.letter ≡ true)
-        × (value_at s z.configuration ≡ step_of s (value_of s (xs ++ arrival next from l ∷ []) z.from) z.letter))
+        × (step_listed s (arrival_value s (xs ++ arrival next from l ∷ []) z.from) z.letter ≡ true)
+        × (value_at s z.configuration ≡ step_of s (arrival_value s (xs ++ arrival next from l ∷ []) z.from) z.letter))
         (sym u) (
           g.0,
           subst (λ (z : Arrival). step_listed s (value_at s z.configuration) (arrival_at xs k).letter ≡ true) (sym w) g.1,
-          subst (λ (z : Arrival). value_of s xs k ≡ step_of s (value_at s z.configuration) (arrival_at xs k).letter) (sym w) g.2,
+          subst (λ (z : Arrival). arrival_value s xs k ≡ step_of s (value_at s z.configuration) (arrival_at xs k).letter) (sym w) g.2,
         )
 
     apart : (c k : ℕ) → (next ≡ c → ⊥) → place_at (set os next (Some (length xs))) c ≡ Some k →
@@ -201,7 +201,7 @@ more_reached s xs os h next from l f i e t v =
         (eq_or_not next c)
 
 pub add_reached : (s : Subject Shape) (xs ys : List Arrival) (os ps : List (Option ℕ)) → Reaches s xs os → (next from : ℕ) (l : Letter) → from < length xs →
-    IsFirst s (step_of s (value_of s xs from) l) next → step_listed s (value_of s xs from) l ≡ true → None ≡ place_at os next →
+    IsFirst s (step_of s (arrival_value s xs from) l) next → step_listed s (arrival_value s xs from) l ≡ true → None ≡ place_at os next →
     ys ≡ xs ++ arrival next from l ∷ [] → ps ≡ set os next (Some (length xs)) → Reaches s ys ps
 add_reached s xs ys os ps h next from l f i t e u v =
     subst (λ z. Reaches s z ps) (sym u) (subst (λ z. Reaches s (xs ++ arrival next from l ∷ []) z) (sym v)
@@ -210,62 +210,64 @@ add_reached s xs ys os ps h next from l f i t e u v =
 -- what a look shows of arrival `from`
 pub seen_first : (s : Subject Shape) (xs : List Arrival) (from : ℕ) (here : Arrival) (l : Letter) (k : Look) (j : ℕ) → here ≡ arrival_at xs from →
     Sees s (value_at s here.configuration) l k → k.next ≡ Some j →
-    (step_listed s (value_of s xs from) l ≡ true) × IsFirst s (step_of s (value_of s xs from) l) j
+    (step_listed s (arrival_value s xs from) l ≡ true) × IsFirst s (step_of s (arrival_value s xs from) l) j
 seen_first s xs from here l k j e h q =
     subst (λ (z : Arrival). (step_listed s (value_at s z.configuration) l ≡ true) × IsFirst s (step_of s (value_at s z.configuration) l) j) e (h.some j q)
 
 pub follows_old : (s : Subject Shape) (xs : List Arrival) (os : List (Option ℕ)) → Reaches s xs os → (from next k : ℕ) (l : Letter) →
-    IsFirst s (step_of s (value_of s xs from) l) next → Some k ≡ place_at os next → Follows s xs from l
+    IsFirst s (step_of s (arrival_value s xs from) l) next → Some k ≡ place_at os next → StepArrives s xs from l
 follows_old s xs os h from next k l i e =
-    let g = h.there next k (sym e) in (λ t. (k, g.0, subst (λ z. IsFirst s (step_of s (value_of s xs from) l) z) (sym g.1) i))
+    let g = h.there next k (sym e) in (λ t. (k, g.0, subst (λ z. IsFirst s (step_of s (arrival_value s xs from) l) z) (sym g.1) i))
 
 pub follows_new : (s : Subject Shape) (xs ys : List Arrival) (from next : ℕ) (l : Letter) → from < length xs →
-    IsFirst s (step_of s (value_of s xs from) l) next → ys ≡ xs ++ arrival next from l ∷ [] → Follows s ys from l
+    IsFirst s (step_of s (arrival_value s xs from) l) next → ys ≡ xs ++ arrival next from l ∷ [] → StepArrives s ys from l
 follows_new s xs ys from next l f i u =
     let a : Arrival = arrival next from l in
     let n : length (xs ++ a ∷ []) ≡ length xs + 1 = length-append xs (a ∷ []) in
-    subst (λ z. Follows s z from l) (sym u)
+    subst (λ z. StepArrives s z from l) (sym u)
     (λ t. (
       length xs,
       omega arith,
-      subst (λ (z : Arrival). IsFirst s (step_of s (value_of s (xs ++ a ∷ []) from) l) z.configuration) (sym (last_at xs a))
+      subst (λ (z : Arrival). IsFirst s (step_of s (arrival_value s (xs ++ a ∷ []) from) l) z.configuration) (sym (last_at xs a))
           (subst (λ (z : Arrival). IsFirst s (step_of s (value_at s z.configuration) l) next) (sym (kept_at xs (a ∷ []) from f)) i),
     ))
 
 -- what followed still follows in a longer tour
-pub follows_grown : (s : Subject Shape) (xs ys : List Arrival) (k : ℕ) (l : Letter) → k < length xs → Grows xs ys → Follows s xs k l → Follows s ys k l
+pub follows_grown : (s : Subject Shape) (xs ys : List Arrival) (k : ℕ) (l : Letter) → k < length xs → ArrivalsGrow xs ys →
+    StepArrives s xs k l → StepArrives s ys k l
 follows_grown s xs ys k l q g h =
-    subst (λ z. Follows s z k l) (sym g.1) (λ t.
+    subst (λ z. StepArrives s z k l) (sym g.1) (λ t.
     let old = kept_at xs g.0 k q in
     let m = h (subst (λ (z : Arrival). step_listed s (value_at s z.configuration) l ≡ true) old t) in
     let n : length (xs ++ g.0) ≡ length xs + length g.0 = length-append xs g.0 in
     let c = m.1 in (
       m.0,
       omega arith,
-      subst (λ (z : Arrival). IsFirst s (step_of s (value_of s (xs ++ g.0) k) l) z.configuration) (sym (kept_at xs g.0 m.0 m.1))
+      subst (λ (z : Arrival). IsFirst s (step_of s (arrival_value s (xs ++ g.0) k) l) z.configuration) (sym (kept_at xs g.0 m.0 m.1))
           (subst (λ (z : Arrival). IsFirst s (step_of s (value_at s z.configuration) l) (arrival_at xs m.0).configuration) (sym old) m.2),
     ))
 
-pub grown_twice : (xs ys zs : List Arrival) → Grows xs ys → Grows ys zs → Grows xs zs
+pub grown_twice : (xs ys zs : List Arrival) → ArrivalsGrow xs ys → ArrivalsGrow ys zs → ArrivalsGrow xs zs
 grown_twice xs ys zs g h = (g.0 ++ h.0, h.1 ∙ ap (λ z. z ++ h.0) g.1 ∙ append_assoc xs g.0 h.0)
 
-pub grown_length : (xs ys : List Arrival) → Grows xs ys → length xs ≤ length ys
+pub grown_length : (xs ys : List Arrival) → ArrivalsGrow xs ys → length xs ≤ length ys
 grown_length xs ys g = let e = ap (λ (z : List Arrival). length z) g.1 in let n = length-append xs g.0 in omega arith
 
-pub follows_each : (s : Subject Shape) (xs : List Arrival) (k : ℕ) → Follows s xs k Less → Follows s xs k Equal → Follows s xs k Greater → (l : Letter) →
-    Follows s xs k l
+pub follows_each : (s : Subject Shape) (xs : List Arrival) (k : ℕ) → StepArrives s xs k Less →
+    StepArrives s xs k Equal → StepArrives s xs k Greater → (l : Letter) →
+    StepArrives s xs k l
 follows_each s xs k a b c Less = a
 follows_each s xs k a b c Equal = b
 follows_each s xs k a b c Greater = c
 
-pub followed_more : (s : Subject Shape) (xs ys : List Arrival) (done : ℕ) → done < length xs → Followed s xs done → Grows xs ys →
-    ((l : Letter) → Follows s ys done l) → Followed s ys (done + 1)
+pub followed_more : (s : Subject Shape) (xs ys : List Arrival) (done : ℕ) → done < length xs → StepsArrive s xs done → ArrivalsGrow xs ys →
+    ((l : Letter) → StepArrives s ys done l) → StepsArrive s ys (done + 1)
 followed_more s xs ys done q f g h k c l = ⊎_elim
-    (λ e. subst (λ z. Follows s ys z l) (sym e) (h l))
+    (λ e. subst (λ z. StepArrives s ys z l) (sym e) (h l))
     (λ e. follows_grown s xs ys k l (omega arith) g (f k e l))
     (eq-or-lt_of_le (let z : k ≤ done = omega arith in z))
 
-pub arrived_grown : (xs ys : List Arrival) → Grows xs ys → (k : ℕ) → k < length xs → arrival_at ys k ≡ arrival_at xs k
+pub arrived_grown : (xs ys : List Arrival) → ArrivalsGrow xs ys → (k : ℕ) → k < length xs → arrival_at ys k ≡ arrival_at xs k
 arrived_grown xs ys g k q = ap (λ z. arrival_at z k) g.1 ∙ kept_at xs g.0 k q
 
 -- the start of a plan

@@ -71,15 +71,15 @@ next_is : (rs : List Shape) (i : ℕ) (l : Letter) → i < length rs → next_on
 next_is rs i l q = ap (λ k. next_on l k) (known_is rs i q) ∙ next_on_known rs l (shape_at rs i)
 
 -- a number of a residual
-abbrev pub IsNumber : List Shape → ℕ → Type 0
-IsNumber rs i = i < length rs
+abbrev pub IsListedNumber : List Shape → ℕ → Type 0
+IsListedNumber rs i = i < length rs
 
 bools_same : (a b : Bool) → (a ≡ true → b ≡ true) → (b ≡ true → a ≡ true) → a ≡ b
 bools_same true b f g = sym (f refl)
 bools_same false true f g = g refl
 bools_same false false f g = refl
 
-pub numbers_same : (rs : List Shape) → SameAgrees (numbers (table_of rs)) shapes (λ i. shape_at rs i) (λ i. IsNumber rs i)
+pub numbers_same : (rs : List Shape) → SameAgrees (numbers (table_of rs)) shapes (λ i. shape_at rs i) (λ i. IsListedNumber rs i)
 numbers_same rs i j p q =
     ap (λ z. z.own == (known_at (table_of rs) j).own) (known_is rs i p) ∙ ap (λ z. number_of rs (shape_at rs i) == z.own) (known_is rs j q)
     ∙ bools_same (number_of rs (shape_at rs i) == number_of rs (shape_at rs j)) (same_shape (shape_at rs i) (shape_at rs j))
@@ -111,8 +111,8 @@ next_cases rs r true e q =
         go true e = absurd (let h = eqb-true m n e in omega (arith, q))
         go false e = refl
 
-pub numbers_agree : (rs : List Shape) (l : Letter) (i : ℕ) → IsNumber rs i → nat_le (next_on l (known_at (table_of rs) i)) (length (table_of rs)) ≡ true →
-    NextAgrees (numbers (table_of rs)) shapes (λ i. shape_at rs i) (λ i. IsNumber rs i) l i
+pub numbers_agree : (rs : List Shape) (l : Letter) (i : ℕ) → IsListedNumber rs i → nat_le (next_on l (known_at (table_of rs) i)) (length (table_of rs)) ≡ true →
+    NextAgrees (numbers (table_of rs)) shapes (λ i. shape_at rs i) (λ i. IsListedNumber rs i) l i
 numbers_agree rs l i p q =
     let e : next_on l (known_at (table_of rs) i) ≡ next_number rs (shape_at rs i) l = next_is rs i l p in
     let n : length (table_of rs) ≡ length rs = length-map rs (λ r. known_of rs r) in
@@ -127,12 +127,12 @@ numbers_agree rs l i p q =
       left = λ t. subst (λ z. z < length rs) (sym e) (h.2 (sym has ∙ t));
     }
 
-pub words_agree : (rs : List Shape) (i : ℕ) → IsNumber rs i → WordsAgree (numbers (table_of rs)) shapes (λ i. shape_at rs i) i
+pub words_agree : (rs : List Shape) (i : ℕ) → IsListedNumber rs i → WordsAgree (numbers (table_of rs)) shapes (λ i. shape_at rs i) i
 words_agree rs i p =
     record { nullable = ap (λ (k : Known). k.nullable) (known_is rs i p); longer = ap (λ (k : Known). k.longer) (known_is rs i p) }
 
 -- a residual after the letter that has a word and isn't listed
-pub unlisted : (rs : List Shape) (l : Letter) (i : ℕ) → IsNumber rs i → nat_le (next_on l (known_at (table_of rs) i)) (length (table_of rs)) ≡ false →
+pub unlisted : (rs : List Shape) (l : Letter) (i : ℕ) → IsListedNumber rs i → nat_le (next_on l (known_at (table_of rs) i)) (length (table_of rs)) ≡ false →
     (has_word (residual (shape_at rs i) l) ≡ true) × ((j : ℕ) → j < length rs → shape_at rs j ≡ residual (shape_at rs i) l → ⊥)
 unlisted rs l i p q =
     let e : next_on l (known_at (table_of rs) i) ≡ next_number rs (shape_at rs i) l = next_is rs i l p in

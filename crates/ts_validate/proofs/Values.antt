@@ -20,11 +20,11 @@ use Rattle.ts_pattern.specs.Closed.{PlainConfiguration, Subject, first_tag, no_i
 use Rattle.ts_pattern.specs.Plans.{PlainPlan, shape_at, entry_value, configuration_value, subject}
 use Rattle.ts_pattern.proofs.CallerLemmas.{shapes_right, NextAgrees, WordsAgree, survivors_renamed, survivors_left, retag_renamed, no_ind_renamed, agree_renamed, configuration_is}
 use Rattle.ts_validate.specs.Numbers.{table_of, known_at, next_on, numbers, numbered_subject, all_listed}
-use Rattle.ts_validate.proofs.Transfer.{IsNumber, numbers_same, numbers_agree, words_agree, unlisted}
+use Rattle.ts_validate.proofs.Transfer.{IsListedNumber, numbers_same, numbers_agree, words_agree, unlisted}
 
 -- each entry has the number of a residual
 abbrev pub AreNumbers : {X : Type 0} → List Shape → List (Entry X ℕ Tag) → Type 0
-AreNumbers rs es = AllByRecursion (λ e. IsNumber rs e.residual) es
+AreNumbers rs es = AllByRecursion (λ e. IsListedNumber rs e.residual) es
 
 abbrev pub HasNumbers : List Shape → PlainConfiguration ℕ → Type 0
 HasNumbers rs x = AreNumbers rs x.live
@@ -39,7 +39,7 @@ numbers_before rs b [] q h = (q, tt)
 numbers_before rs b (e ∷ es) q h = (h.0, numbers_before rs b es q h.1)
 
 each_agrees : (rs : List Shape) (l : Letter) (es : List (Entry (Unit {0}) ℕ Tag)) → AreNumbers rs es → all_listed (table_of rs) l es ≡ true →
-    AllByRecursion (λ e. NextAgrees (numbers (table_of rs)) shapes (λ i. shape_at rs i) (λ i. IsNumber rs i) l e.residual) es
+    AllByRecursion (λ e. NextAgrees (numbers (table_of rs)) shapes (λ i. shape_at rs i) (λ i. IsListedNumber rs i) l e.residual) es
 each_agrees rs l [] h q = tt
 each_agrees rs l (e ∷ es) h q =
     let k = and_parts (nat_le (next_on l (known_at (table_of rs) e.residual)) (length (table_of rs))) (all_listed (table_of rs) l es) q in
@@ -104,7 +104,8 @@ kept_valued : (rs : List Shape) (p : Shape) (b : ℕ) (l : Letter) (es : List (E
     AreNumbers rs es → all_listed (table_of rs) l (with_start tt 0 b es) ≡ true →
     valued_entries rs (survivors (numbers (table_of rs)) l (with_start tt 0 b es)) ≡ survivors shapes l (with_start tt (normal_form p) b (valued_entries rs es))
 kept_valued rs p b l es s q h a =
-    survivors_renamed (numbers (table_of rs)) shapes (λ (u : Unit {0}). u) (λ i. shape_at rs i) (λ i. IsNumber rs i) (numbers_same rs) l (with_start tt 0 b es)
+    survivors_renamed (numbers (table_of rs)) shapes (λ (u : Unit {0}). u) (λ i. shape_at rs i) (λ i. IsListedNumber rs i)
+    (numbers_same rs) l (with_start tt 0 b es)
     (each_agrees rs l (with_start tt 0 b es) (numbers_before rs b es s h) a)
     ∙ ap (λ z. survivors shapes l z) (before_valued rs p b es q)
 
@@ -125,7 +126,7 @@ pub agree_valued : (rows : List Row) (p : Shape) (b : ℕ) (rs : List Shape) (xs
     ≡ agrees (by_value rows p b rs xs) (configuration_value rs x) l
 agree_valued rows p b rs xs i x h l a =
     let s : Subject ℕ = by_number rows b rs xs in
-    let left : AreNumbers rs (kept_entries s x l) = survivors_left (numbers (table_of rs)) shapes (λ i. shape_at rs i) (λ i. IsNumber rs i) l
+    let left : AreNumbers rs (kept_entries s x l) = survivors_left (numbers (table_of rs)) shapes (λ i. shape_at rs i) (λ i. IsListedNumber rs i) l
     (entries_before s x)
     (each_agrees rs l (entries_before s x) (numbers_before rs b x.live i.some h) a) in
     agree_renamed (numbers (table_of rs)) shapes (λ (u : Unit {0}). u) (λ i. shape_at rs i) (move_of s x l).phase (row_at rows (move_of s x l).next).kind
@@ -141,7 +142,7 @@ pub same_valued : (rows : List Row) (p : Shape) (b : ℕ) (rs : List Shape) (xs 
     ≡ same_configuration shapes (configuration_value rs y) (step_of (by_value rows p b rs xs) (configuration_value rs x) l)
 same_valued rows p b rs xs i x y h k l a =
     let s : Subject ℕ = by_number rows b rs xs in
-    let left : AreNumbers rs (kept_entries s x l) = survivors_left (numbers (table_of rs)) shapes (λ i. shape_at rs i) (λ i. IsNumber rs i) l
+    let left : AreNumbers rs (kept_entries s x l) = survivors_left (numbers (table_of rs)) shapes (λ i. shape_at rs i) (λ i. IsListedNumber rs i) l
     (entries_before s x)
     (each_agrees rs l (entries_before s x) (numbers_before rs b x.live i.some h) a) in
     ap (λ z. (y.state == (step_of s x l).state) && z)

@@ -17,7 +17,7 @@ use Rattle.ts_pattern.specs.Plans.{plain_plan, configuration_value, is_empty, is
 use Rattle.ts_validate.specs.declared.arrival.Arrival.{Arrival}
 use Rattle.ts_validate.specs.declared.arrival.Tour.{Tour}
 use Rattle.ts_validate.specs.declared.failure.Failure.{Failure}
-use Rattle.ts_validate.specs.Reaches.{configuration_at, against, value_at, value_of, IsFirst, arrival_at, place_at, Reaches, IsTour, IsPath, PathStart, PathOn, AllMeet, FailsFirst}
+use Rattle.ts_validate.specs.Reaches.{configuration_at, against, value_at, arrival_value, IsFirst, arrival_at, place_at, Reaches, IsTour, IsPath, PathStart, PathOn, AllMeet, FailsFirst}
 use Rattle.ts_validate.specs.Failures.{failure_on, failure_from, failure_at}
 use Rattle.ts_validate.specs.Refusals.{IsRefusal}
 
@@ -66,7 +66,7 @@ complete s t h full b w x (OneStepOn v w' y x' l g u e q) = go (complete s t h f
   where
     go : Arrives s t.arrivals.items y → step_listed s y l ≡ true → x ≡ step_of s y l → Arrives s t.arrivals.items x
     go a u q =
-        let same : value_of s t.arrivals.items a.0 ≡ y = a.2.1 in
+        let same : arrival_value s t.arrivals.items a.0 ≡ y = a.2.1 in
         let m = h.followed a.0 (let i = a.1 in omega (arith, i, full)) l (subst (λ z. step_listed s z l ≡ true) (sym same) u) in
         (m.0, m.1, subst (λ z. IsFirst s z (arrival_at t.arrivals.items m.0).configuration) (ap (λ z. step_of s z l) same ∙ sym q) m.2)
 
@@ -103,12 +103,12 @@ closed_is rows p plan f t h full none x r l =
 -- the path to an arrival
 
 path_leads : (s : Subject Shape) (xs : List Arrival) (os : List (Option ℕ)) → Reaches s xs os → value_at s 0 ≡ blank → (k : ℕ) (w : List Letter) →
-    IsPath xs k w → k < length xs → LeadsTo s w (value_of s xs k)
+    IsPath xs k w → k < length xs → LeadsTo s w (arrival_value s xs k)
 path_leads s xs os h b k w (PathStart k' w' e q) c =
-    FromStart w (value_of s xs k) q (ap (λ z. value_of s xs z) e ∙ ap (λ z. value_at s z) h.start ∙ b)
+    FromStart w (arrival_value s xs k) q (ap (λ z. arrival_value s xs z) e ∙ ap (λ z. value_at s z) h.start ∙ b)
 path_leads s xs os h b k w (PathOn k' v w' d g e) c =
     let t = h.steps k d c in
-    OneStepOn v w (value_of s xs (arrival_at xs k).from) (value_of s xs k) (arrival_at xs k).letter
+    OneStepOn v w (arrival_value s xs (arrival_at xs k).from) (arrival_value s xs k) (arrival_at xs k).letter
     (path_leads s xs os h b (arrival_at xs k).from v g (let z = t.0 in omega arith)) t.1 e t.2
 
 before : (m n : ℕ) → (m < n → ⊥) → n ≤ m

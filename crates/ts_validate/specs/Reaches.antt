@@ -54,15 +54,15 @@ open_places (None ∷ places) = open_places places + 1
 open_places (Some k ∷ places) = open_places places
 
 -- the configuration of arrival k
-abbrev pub value_of : Subject Shape → List Arrival → ℕ → PlainConfiguration Shape
-value_of s arrivals k = value_at s (arrival_at arrivals k).configuration
+abbrev pub arrival_value : Subject Shape → List Arrival → ℕ → PlainConfiguration Shape
+arrival_value s arrivals k = value_at s (arrival_at arrivals k).configuration
 
 -- arrival k goes on from an earlier one by its letter
 abbrev pub GoesOn : Subject Shape → List Arrival → ℕ → Type 0
 GoesOn s arrivals k =
     ((arrival_at arrivals k).from < k)
-    × (step_listed s (value_of s arrivals (arrival_at arrivals k).from) (arrival_at arrivals k).letter ≡ true)
-    × (value_of s arrivals k ≡ step_of s (value_of s arrivals (arrival_at arrivals k).from)
+    × (step_listed s (arrival_value s arrivals (arrival_at arrivals k).from) (arrival_at arrivals k).letter ≡ true)
+    × (arrival_value s arrivals k ≡ step_of s (arrival_value s arrivals (arrival_at arrivals k).from)
     (arrival_at arrivals k).letter)
 
 pub record Reaches (s : Subject Shape) (arrivals : List Arrival) (places : List (Option ℕ)) : Type 0 where
@@ -77,19 +77,19 @@ pub record Reaches (s : Subject Shape) (arrivals : List Arrival) (places : List 
   pub back : (k : ℕ) → k < length arrivals → place_at places (arrival_at arrivals k).configuration ≡ Some k
 
 -- where the step of arrival k on l is listed, its first number has arrived
-abbrev pub Follows : Subject Shape → List Arrival → ℕ → Letter → Type 0
-Follows s arrivals k l =
-    step_listed s (value_of s arrivals k) l ≡ true →
+abbrev pub StepArrives : Subject Shape → List Arrival → ℕ → Letter → Type 0
+StepArrives s arrivals k l =
+    step_listed s (arrival_value s arrivals k) l ≡ true →
     (m : ℕ) × (m < length arrivals)
-    × IsFirst s (step_of s (value_of s arrivals k) l) (arrival_at arrivals m).configuration
+    × IsFirst s (step_of s (arrival_value s arrivals k) l) (arrival_at arrivals m).configuration
 
 -- the steps of the first arrivals have all arrived
-abbrev pub Followed : Subject Shape → List Arrival → ℕ → Type 0
-Followed s arrivals done = (k : ℕ) → k < done → (l : Letter) → Follows s arrivals k l
+abbrev pub StepsArrive : Subject Shape → List Arrival → ℕ → Type 0
+StepsArrive s arrivals done = (k : ℕ) → k < done → (l : Letter) → StepArrives s arrivals k l
 
 -- what was there stays in its place
-abbrev pub Grows : List Arrival → List Arrival → Type 0
-Grows old new = (more : List Arrival) × (new ≡ old ++ more)
+abbrev pub ArrivalsGrow : List Arrival → List Arrival → Type 0
+ArrivalsGrow old new = (more : List Arrival) × (new ≡ old ++ more)
 
 -- the letters from the start to arrival k
 pub data IsPath (arrivals : List Arrival) : ℕ → List Letter → Type 0 where
@@ -121,6 +121,6 @@ Judged s arrivals failing =
 -- a tour: its arrivals are reached, and the steps of the first of them were taken and judged
 pub record IsTour (s : Subject Shape) (t : Tour) : Type 0 where
   pub reaches : Reaches s t.arrivals.items t.places.items
-  pub followed : Followed s t.arrivals.items (length t.failing.items)
+  pub followed : StepsArrive s t.arrivals.items (length t.failing.items)
   pub judged : Judged s t.arrivals.items t.failing.items
   pub inside : length t.failing.items ≤ length t.arrivals.items

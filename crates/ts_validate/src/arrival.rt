@@ -4,7 +4,7 @@ ghost use Rattle.std.specs.Prelude.{◌≡◌, ◌<◌, ◌+◌, ◌++◌, [], �
 ghost use Rattle.ts_pattern.specs.Closed.{meets_checks};
 ghost use Rattle.ts_validate.specs.Trials.{subject_of};
 ghost use Rattle.ts_validate.specs.FirstFalse.{first_false};
-ghost use Rattle.ts_validate.specs.Reaches.{value_of, arrival, arrival_at, place_at, Reaches, Follows, Grows, IsTour, IsPath};
+ghost use Rattle.ts_validate.specs.Reaches.{arrival_value, arrival, arrival_at, place_at, Reaches, StepArrives, ArrivalsGrow, IsTour, IsPath};
 
 use crate::trial::Trial;
 use std::alloc::Global;
@@ -96,11 +96,11 @@ impl Tour {
         requires there { from < length self.old.arrivals.items }
         ensures reaches { IfOk result (λ _.
             Reaches (subject_of trial.now) self.new.arrivals.items self.new.places.items) }
-        ensures grows { IfOk result (λ _. Grows self.old.arrivals.items self.new.arrivals.items) }
-        ensures follows { IfOk result (λ _. Follows (subject_of trial.now) self.new.arrivals.items from letter) }
+        ensures grows { IfOk result (λ _. ArrivalsGrow self.old.arrivals.items self.new.arrivals.items) }
+        ensures follows { IfOk result (λ _. StepArrives (subject_of trial.now) self.new.arrivals.items from letter) }
         ensures failing { IfOk result (λ _. self.new.failing.items ≡ self.old.failing.items) }
         ensures meets { IfOk result (λ b. b ≡ meets_checks (subject_of trial.now)
-            (value_of (subject_of trial.now) self.old.arrivals.items from) letter) }
+            (arrival_value (subject_of trial.now) self.old.arrivals.items from) letter) }
     {
         let here = self.arrival(from).configuration;
         let seen = trial.look(alloc, here, letter)?;
