@@ -1,7 +1,7 @@
 //! The first line of a text, without its end.
 
 ghost use Rattle.std.specs.Prelude.{◌≡◌, ◌<◌, ◌≤◌, ◌∷◌, length};
-ghost use Rattle.std.specs.List.{position, position_or_len};
+ghost use Rattle.std.specs.List.{position};
 ghost use Rattle.ts_base.specs.Words.{is_lf};
 ghost use Rattle.ts_token.specs.Text.{lines_of};
 ghost use Rattle.ts_token.specs.Steps.{without_cr};

@@ -46,7 +46,7 @@ fn unsigned_number(digits: &[u8], limit: u64) -> Option<u64>
 fn negative_number(digits: &[u8]) -> Option<i64>
     ensures { result ≡ negative_number (at_most 9223372036854775808 (unsigned_number digits.now)) }
 {
-    match unsigned_number(digits, 9223372036854775808) {
+    match unsigned_number(digits, i64::MAX as u64 + 1) {
         Some(n) if n > 0 => Some((0 - i128::from(n)) as i64),
         _ => None,
     }

@@ -1,4 +1,4 @@
-use Rattle.std.proofs.Common.{sym, ◌∙◌, arith}
+use Rattle.std.proofs.Common.{sym, ◌∙◌}
 use Rattle.ts_token.proofs.HalfLaws.{found, passed, line_within}
 use Rattle.ts_token.proofs.parts.cut_parts.Goals as goal
 
