@@ -12,35 +12,7 @@ use Rattle.std.specs.List.{AllByRecursion, flat_map}
 use Rattle.ts_domain.specs.Values.{Rising, IsDomain, WithinLimits}
 use Rattle.ts_domain.specs.Kept.{values_up_to, values_above, values_without}
 use Rattle.ts_domain.specs.BoxSeries.{Boxes, InBox, IsBox, all_series, series_count, cell_of}
-use Rattle.ts_domain.proofs.Changes.{differs, itself}
-
--- the first of a list, or one of the others
-pub contains_cons : {A : Type 0} (x : A) (xs : List A) (v : A) → Contains (x ∷ xs) v ↔ ((x ≡ v) ⊎ Contains xs v)
-contains_cons x xs v = (λ h. split h.0 h.1 h.2, λ w. elim w [ inl e ↦ (0, omega arith, e) | inr h ↦ (suc h.0, omega (arith, h.1), h.2) ])
-  where
-    split : (k : ℕ) → k < length (x ∷ xs) → get_or (x ∷ xs) k v ≡ v → (x ≡ v) ⊎ Contains xs v
-    split zero below at = inl at
-    split (suc k) below at = inr (k, omega (arith, below), at)
-
--- a filter keeps exactly what passes its test
-pub contains_filter : (test : ℤ → Bool) (xs : List ℤ) (v : ℤ) → Contains (filter test xs) v ↔ (Contains xs v × (test v ≡ true))
-contains_filter test [] v = (λ h. absurd (omega (arith, h.1)), λ h. absurd (omega (arith, h.0.1)))
-contains_filter test (x ∷ xs) v = by_test (contains_filter test xs v) (test x) refl
-  where
-    by_test : Contains (filter test xs) v ↔ (Contains xs v × (test v ≡ true)) → (b : Bool) → test x ≡ b →
-        Contains (cond b (x ∷ filter test xs) (filter test xs)) v ↔ (Contains (x ∷ xs) v × (test v ≡ true))
-    by_test rest true e = (
-      λ h. elim ((contains_cons x (filter test xs) v).0 h) [
-        | inl s ↦ ((contains_cons x xs v).1 (inl s), ap test (sym s) ∙ e)
-        | inr t ↦ let r = rest.0
-            t in ((contains_cons x xs v).1 (inr r.0), r.1)
-      ],
-      λ h. (contains_cons x (filter test xs) v).1 (elim ((contains_cons x xs v).0 h.0) [ inl s ↦ inl s | inr t ↦ inr (rest.1 (t, h.1)) ]),
-    )
-    by_test rest false e = (
-      λ h. let r = rest.0 h in ((contains_cons x xs v).1 (inr r.0), r.1),
-      λ h. elim ((contains_cons x xs v).0 h.0) [ inl s ↦ absurd (both_ways (test x) e (ap test s ∙ h.1)) | inr t ↦ rest.1 (t, h.1) ],
-    )
+use Rattle.ts_domain.proofs.Sets.{contains_cons, contains_filter, each_filter, rising_filter, differs, itself}
 
 pub contains_up_to : (t : ℤ) (xs : List ℤ) (v : ℤ) → Contains (values_up_to t xs) v ↔ (Contains xs v × (v ≤ℤ t))
 contains_up_to t xs v = let f = contains_filter (λ v. int_le v t) xs v in (λ h. ((f.0 h).0, from_test v t (f.0 h).1), λ h. f.1 (h.0, to_test v t h.1))
@@ -95,17 +67,6 @@ from_box_set (v ∷ vs) (c ∷ cs) zero d below h part = ((part v h.0, h.1), h.0
 from_box_set (v ∷ vs) (c ∷ cs) (suc i) d below h part = let r = from_box_set vs cs i d (omega (arith, below)) h.1 part in ((h.0, r.0), r.1)
 
 -- what stays of a domain is one, where a value stays
-each_filter : (P : ℤ → Type 0) (test : ℤ → Bool) (xs : List ℤ) → AllByRecursion P xs → AllByRecursion P (filter test xs)
-each_filter P test [] h = tt
-each_filter P test (x ∷ xs) h = elim (test x) as (λ b. AllByRecursion P (cond b (x ∷ filter test xs) (filter test xs)))
-    [ true ↦ (h.0, each_filter P test xs h.1) | false ↦ each_filter P test xs h.1 ]
-
-rising_filter : (test : ℤ → Bool) (xs : List ℤ) → Rising xs → Rising (filter test xs)
-unfolding Rising
-rising_filter test [] h = tt
-rising_filter test (x ∷ xs) h = elim (test x) as (λ b. Rising (cond b (x ∷ filter test xs) (filter test xs)))
-    [ true ↦ (each_filter (λ y. x <ℤ y) test xs h.0, rising_filter test xs h.1) | false ↦ rising_filter test xs h.1 ]
-
 pub domain_filter : (test : ℤ → Bool) (d : List ℤ) → IsDomain d → (filter test d ≡ [] → ⊥) → IsDomain (filter test d)
 domain_filter test d h some = record { rising = rising_filter test d h.rising; some = some; within = each_filter WithinLimits test d h.within }
 

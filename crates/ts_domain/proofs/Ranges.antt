@@ -7,6 +7,7 @@ use Rattle.std.specs.List.{AllByRecursion}
 use Rattle.ts_domain.specs.declared.interval.Interval.{Interval}
 use Rattle.ts_domain.specs.Values.{natural, values_between, values_of, Rising, RangesFrom, AreRanges, IsDomain}
 use Rattle.ts_domain.specs.Union.{InSome}
+use Rattle.ts_domain.proofs.Sets.{all_append}
 use Rattle.ts_domain.proofs.Runs.{natural_is, length-between, in_between, between_has, rising_run, all_run}
 
 pub values-append : (xs ys : List Interval) → values_of (xs ++ ys) ≡ values_of xs ++ values_of ys
@@ -38,10 +39,6 @@ some_has_value (r ∷ rs) v h =
       | inl here ↦ Contains-append_left (values_between r.low r.high) (values_of rs) v (between_has r.low r.high v here.0 here.1)
       | inr there ↦ Contains-append_right (values_between r.low r.high) (values_of rs) v (some_has_value rs v there)
     ]
-
-all_append : (P : ℤ → Type 0) (xs ys : List ℤ) → AllByRecursion P xs → AllByRecursion P ys → AllByRecursion P (xs ++ ys)
-all_append P [] ys a b = b
-all_append P (x ∷ xs) ys a b = (a.0, all_append P xs ys a.1 b)
 
 all_from : (f g : ℤ) (xs : List ℤ) → f ≤ℤ g → AllByRecursion (λ y. (g ≤ℤ y) × (y ≤ℤ pos 1000000)) xs → AllByRecursion (λ y. (f ≤ℤ y) × (y ≤ℤ pos 1000000)) xs
 all_from f g [] h a = tt

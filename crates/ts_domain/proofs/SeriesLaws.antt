@@ -6,7 +6,7 @@ use Rattle.std.proofs.Common.{sym, ◌∙◌, ap, subst, inl, inr, arith, ⊎_el
 use Rattle.std.proofs.lemmas.List.Elements.{Contains-append_left, Contains-append_right, Contains-append_cases}
 use Rattle.ts_domain.specs.Values.{Rising}
 use Rattle.ts_domain.specs.BoxSeries.{InBox, IsBox, IsBefore, AreRising, all_series}
-use Rattle.ts_domain.proofs.BoxLaws.{contains_cons}
+use Rattle.ts_domain.proofs.Sets.{contains_cons, all_append}
 
 -- lists
 
@@ -70,10 +70,6 @@ series_of_box (d ∷ ds) (v ∷ vs) = (
 )
 
 -- in lexicographic order
-
-all_append : {A : Type 0} (P : A → Type 0) (xs ys : List A) → AllByRecursion P xs → AllByRecursion P ys → AllByRecursion P (xs ++ ys)
-all_append P [] ys h g = g
-all_append P (x ∷ xs) ys h g = (h.0, all_append P xs ys h.1 g)
 
 append_rising : (xs ys : List (List ℤ)) → AreRising xs → AreRising ys → AllByRecursion (λ x. AllByRecursion (λ y. IsBefore x y) ys) xs → AreRising (xs ++ ys)
 append_rising [] ys h g k = g

@@ -1,6 +1,6 @@
 pub mod BoxSeries
 pub mod Kept
-pub mod Parts
+pub mod Pieces
 pub mod Trail
 pub mod Union
 pub mod Values

@@ -1,16 +1,15 @@
--- A place on the way over the numbers of a set: what is left of one range, and the ranges behind it.
-use Rattle.std.specs.Prelude.{ℤ, pos, neg_ℤ, ◌≤ℤ◌, List, ◌++◌}
+-- A place on the way over the numbers of a set: what is left of one piece, and the pieces behind it.
+use Rattle.std.specs.Prelude.{pos, neg_ℤ, Option, List, ◌++◌}
+use Rattle.std.specs.Option.{option_to_list}
 use Rattle.ts_domain.specs.declared.interval.Interval.{Interval}
-use Rattle.ts_domain.specs.Values.{values_between, values_of, RangesFrom}
+use Rattle.ts_domain.specs.Values.{values_of, RangesFrom}
+use Rattle.ts_domain.specs.Pieces.{PiecesFrom}
 
--- nothing of it is beyond the limits
-pub record IsWithin (low high : ℤ) (ranges : List Interval) : Type 0 where
-  pub from : neg_ℤ (pos 1000000) ≤ℤ low
-  pub to : low ≤ℤ pos 1000001
-  pub least : neg_ℤ (pos 1000000) ≤ℤ high
-  pub greatest : high ≤ℤ pos 1000000
+-- what is left of a piece, and the pieces behind it
+abbrev pub pieces_left : Option Interval → List Interval → List Interval
+pieces_left piece pieces = option_to_list piece ++ pieces
+
+-- the ranges stand apart, and the pieces are pieces of their numbers
+pub record IsOnTheWay (ranges pieces : List Interval) : Type 0 where
   pub apart : RangesFrom (neg_ℤ (pos 1000000)) ranges
-
--- the numbers that are left: those from low to high, and those of the ranges behind them
-abbrev pub left_of : ℤ → ℤ → List Interval → List ℤ
-left_of low high ranges = values_between low high ++ values_of ranges
+  pub places : PiecesFrom (neg_ℤ (pos 1000000)) (values_of ranges) pieces

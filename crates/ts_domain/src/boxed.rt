@@ -131,7 +131,7 @@ impl Boxed {
     {
         let at = k - 1;
         self.trail.reserve(1)?;
-        let left = self.cells[at as usize].kept(self.alloc, keep)?;
+        let left = self.cells[at as usize].kept(keep)?;
         let before = mem::replace(&mut self.cells[at as usize], left);
         self.trail.push_reserved(Step { cell: at, before });
         Ok(())

@@ -1,14 +1,15 @@
 //! Non-empty finite sets of numbers.
 
-ghost use Rattle.std.specs.Prelude.{◌≡◌, ◌≢◌, ℕ, ◌<◌, ◌↔◌, ℤ, pos, neg_ℤ, ◌⊎◌, [], ◌++◌, length, slice_get, Some, IsTrue, IfOk, OnOk, All, Contains, int_le, int_lt, ◌&&◌};
+ghost use Rattle.std.specs.Prelude.{◌≡◌, ◌≢◌, ◌<◌, ◌↔◌, ℤ, pos, neg_ℤ, ◌⊎◌};
+ghost use Rattle.std.specs.Prelude.{[], length, slice_get, Some, IsTrue, IfOk, All, Contains, int_lt};
 ghost use Rattle.std.specs.List.{list_any, zip};
-ghost use Rattle.std.specs.Option.{option_to_list};
 ghost use Rattle.ts_domain.specs.Kept.{kept};
 ghost use Rattle.ts_domain.specs.Union.{InSomeRange, SomeEmpty, InSome, LowsRise, paired};
 ghost use Rattle.ts_domain.specs.Values.{IsDomain, WithinLimits, values_of, AreRanges};
 
 use crate::interval::Interval;
 use crate::keep::Keep;
+use crate::pieces::{count_by, has_by, kept_by, nth_by};
 use crate::values::{Values, walk};
 use smallvec::SmallVec;
 use std::alloc::Global;
@@ -17,11 +18,13 @@ use std::rc::Rc;
 use thiserror::Error;
 use ts_base::Memory;
 
-/// A non-empty set of numbers from -1,000,000 to 1,000,000, which contracts see as its rising list. Its copies share
-/// the ranges.
+/// A non-empty set of numbers from -1,000,000 to 1,000,000, which contracts see as its rising list. It is what of the
+/// ranges lies in its pieces; copies and smaller sets share the ranges.
 #[derive(Drop)]
 pub struct Domain {
+    alloc: Global,
     ranges: Rc<SmallVec<Interval, 2>, Global>,
+    pieces: SmallVec<Interval, 2>,
 }
 
 /// Why ranges make no domain: there is none, or one is empty; or there was no memory.
@@ -45,13 +48,14 @@ impl From<Memory> for DomainStop {
 
 impl Model for Domain {
     ghost use Rattle.std.specs.Prelude.{ℤ, List};
-    ghost use Rattle.ts_domain.specs.Values.{values_of, AreRanges};
+    ghost use Rattle.ts_domain.specs.Values.{values_of};
+    ghost use Rattle.ts_domain.specs.Pieces.{values_by, IsCut};
 
     ghost Value = { List ℤ };
 
-    ghost view = { λ d. values_of d.ranges.value.items };
+    ghost view = { λ d. values_by (values_of d.ranges.value.items) d.pieces.items };
 
-    ghost invariant = { λ d. AreRanges d.ranges.value.items };
+    ghost invariant = { λ d. IsCut d.ranges.value.items d.pieces.items };
 }
 
 impl Domain {
@@ -72,13 +76,15 @@ impl Domain {
         Ok(union_of(alloc, lows, highs)?)
     }
 
-    /// The same set once more, on the same ranges: it costs a count.
+    /// The same set once more, on the same ranges: it costs a count, and its pieces.
     pub fn try_clone(&self) -> Result<Domain, Memory>
         ensures same { IfOk result (λ d. d ≡ self.now) }
         ensures domain { IfOk result IsDomain }
     {
         Ok(Domain {
+            alloc: self.alloc,
             ranges: self.ranges.clone()?,
+            pieces: SmallVec::from_slice(self.alloc, self.pieces.as_slice())?,
         })
     }
 
@@ -86,7 +92,7 @@ impl Domain {
     pub fn contains(&self, v: i64) -> bool
         ensures { IsTrue result ↔ Contains self.now v }
     {
-        some_has(self.ranges.as_slice(), v)
+        has_by(self.ranges.as_slice(), self.pieces.as_slice(), v)
     }
 
     /// How many numbers there are.
@@ -94,11 +100,7 @@ impl Domain {
         ensures size { result ≡ length self.now }
         ensures domain { IsDomain self.now }
     {
-        let mut size = 0;
-        for range in self.ranges.as_slice() {
-            size += range.count();
-        }
-        size
+        count_by(self.ranges.as_slice(), self.pieces.as_slice())
     }
 
     /// The number at place `i` in rising order, counted from 0.
@@ -106,74 +108,62 @@ impl Domain {
         requires { i < length self.now }
         ensures { slice_get self.now i ≡ Some result }
     {
-        let mut left = i;
-        for range in self.ranges.as_slice() {
-            let count = range.count();
-            if left < count {
-                return range.low + left as i64;
-            }
-            left -= count;
-        }
-        unreachable!()
+        nth_by(self.ranges.as_slice(), self.pieces.as_slice(), i)
     }
 
-    /// The numbers in rising order, each at the same cost.
+    /// The numbers in rising order, each at the cost of a search by halving.
     pub fn values<'a>(&'a self) -> Values<'a>
         ensures { result ≡ self.now }
     {
-        walk(self.ranges.as_slice())
+        walk(self.ranges.as_slice(), self.pieces.as_slice())
     }
 
     /// Whether there is one number alone.
     pub fn is_single(&self) -> bool
         ensures { IsTrue result ↔ (length self.now ≡ 1) }
     {
-        match self.ranges.as_slice() {
+        match self.pieces.as_slice() {
             [only] => only.is_single(),
             _ => false,
         }
     }
 
-    /// The ranges in rising order, a gap between each two.
-    pub fn ranges(&self) -> &[Interval]
-        ensures values { values_of result.now ≡ self.now }
-        ensures ranges { AreRanges result.now }
-    {
-        self.ranges.as_slice()
-    }
-
     /// The set of the values that `keep` keeps.
-    pub(crate) fn kept(&self, alloc: Global, keep: Keep) -> Result<Domain, Memory>
+    pub(crate) fn kept(&self, keep: Keep) -> Result<Domain, Memory>
         requires { kept keep self.now ≢ [] }
         ensures kept { IfOk result (λ d. d ≡ kept keep self.now) }
         ensures domain { IfOk result IsDomain }
     {
-        let mut left = SmallVec::new(alloc);
-        for range in self.ranges.as_slice() {
-            push_part(&mut left, keep.lower_part(*range))?;
-            push_part(&mut left, keep.upper_part(*range))?;
-        }
         Ok(Domain {
-            ranges: Rc::new(alloc, left)?,
+            alloc: self.alloc,
+            ranges: self.ranges.clone()?,
+            pieces: kept_by(
+                self.alloc,
+                self.ranges.as_slice(),
+                self.pieces.as_slice(),
+                keep,
+            )?,
         })
     }
 }
 
-// Appends a range, if there is one.
-fn push_part(ranges: &mut SmallVec<Interval, 2>, part: Option<Interval>) -> Result<(), Memory>
-    ensures { OnOk result (ranges.new.items ≡ ranges.old.items ++ option_to_list part) }
+// The set that these ranges are.
+fn whole(alloc: Global, ranges: SmallVec<Interval, 2>) -> Result<Domain, Memory>
+    requires { AreRanges ranges.items }
+    ensures { IfOk result (λ d. d ≡ values_of ranges.items) }
 {
-    if let Some(range) = part {
-        ranges.push(range)?;
-    }
-    Ok(())
-}
-
-// Whether some range has the number.
-fn some_has(ranges: &[Interval], v: i64) -> bool
-    ensures { result ≡ list_any (λ r. int_le r.low v && int_le v r.high) ranges.now }
-{
-    ranges.iter().any(|range| range.low <= v && v <= range.high)
+    let items = ranges.as_slice();
+    let all = Interval {
+        low: items[0].low,
+        high: items[items.len() - 1].high,
+    };
+    let mut pieces = SmallVec::new(alloc);
+    pieces.push(all)?;
+    Ok(Domain {
+        alloc,
+        ranges: Rc::new(alloc, ranges)?,
+        pieces,
+    })
 }
 
 // Whether some low is above its high.
@@ -231,15 +221,15 @@ fn union_of(alloc: Global, lows: &[i64], highs: &[i64]) -> Result<Domain, Memory
     ensures domain { IfOk result IsDomain }
 {
     let sorted = sorted_ranges(alloc, lows, highs)?;
-    joined(alloc, &sorted)
+    whole(alloc, joined(alloc, &sorted)?)
 }
 
 // The union of ranges that come by rising lows: each is joined with the last one where no gap lies between them.
-fn joined(alloc: Global, sorted: &[Interval]) -> Result<Domain, Memory>
+fn joined(alloc: Global, sorted: &[Interval]) -> Result<SmallVec<Interval, 2>, Memory>
     requires some { 0 < length sorted.now }
     requires sorted { LowsRise (neg_ℤ (pos 1000000)) sorted.now }
-    ensures union { IfOk result (λ d. (v : ℤ) → Contains d v ↔ InSome sorted.now v) }
-    ensures domain { IfOk result IsDomain }
+    ensures union { IfOk result (λ ranges. (v : ℤ) → Contains (values_of ranges.items) v ↔ InSome sorted.now v) }
+    ensures apart { IfOk result (λ ranges. AreRanges ranges.items) }
 {
     let mut ranges = SmallVec::new(alloc);
     let mut last = sorted[0];
@@ -252,7 +242,5 @@ fn joined(alloc: Global, sorted: &[Interval]) -> Result<Domain, Memory>
         }
     }
     ranges.push(last)?;
-    Ok(Domain {
-        ranges: Rc::new(alloc, ranges)?,
-    })
+    Ok(ranges)
 }

@@ -1,8 +1,8 @@
-//! Ranges of numbers, and what is left of one below or above a limit.
+//! Ranges of numbers.
 
 ghost use Rattle.std.specs.Prelude.{◌≡◌, ℤ, pos, ◌+ℤ◌, neg_ℤ, ◌≤ℤ◌, IsTrue, ◌↔◌, length};
 ghost use Rattle.ts_domain.specs.Values.{values_between};
-ghost use Rattle.ts_domain.specs.Parts.{up_to, above};
+ghost use Rattle.ts_domain.specs.Pieces.{trim};
 
 /// The numbers from `low` to `high`, both among them.
 #[derive(Clone, Copy, Debug, PartialEq, Eq, PartialOrd, Ord, Default)]
@@ -29,31 +29,13 @@ impl Interval {
         self.low == self.high
     }
 
-    /// The numbers up to `t`, `None` for none.
-    pub(crate) fn up_to(self, t: i64) -> Option<Interval>
-        ensures { result ≡ up_to t self }
+    /// What of it lies in a piece that it meets.
+    pub(crate) fn trim(self, piece: Interval) -> Interval
+        ensures { result ≡ trim piece self }
     {
-        if self.low <= t {
-            Some(Interval {
-                low: self.low,
-                high: self.high.min(t),
-            })
-        } else {
-            None
-        }
-    }
-
-    /// The numbers above `t`, `None` for none.
-    pub(crate) fn above(self, t: i64) -> Option<Interval>
-        ensures { result ≡ above t self }
-    {
-        if t < self.high {
-            Some(Interval {
-                low: self.low.max(t + 1),
-                high: self.high,
-            })
-        } else {
-            None
+        Interval {
+            low: self.low.max(piece.low),
+            high: self.high.min(piece.high),
         }
     }
 }

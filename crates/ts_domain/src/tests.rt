@@ -93,13 +93,23 @@ fn expect_walk(rt: &impl Abort, domain: &Domain, count: u64) {
     assert_eq!(rt; seen, count);
 }
 
+/// The set has the numbers of these ranges, and no other one.
 fn expect_ranges(rt: &impl Abort, domain: &Domain, wanted: &[(i64, i64)]) {
-    let ranges = domain.ranges();
-    assert_eq!(rt; ranges.len(), wanted.len());
-    for (range, (low, high)) in ranges.iter().zip(wanted) {
-        assert_eq!(rt; (range.low, range.high), (*low, *high));
+    let mut count = 0_i64;
+    for (low, high) in wanted {
         assert!(rt; domain.contains(*low) && domain.contains(*high));
+        count = count.saturating_add(high.saturating_sub(*low).saturating_add(1));
     }
+    let mut seen = 0_i64;
+    for value in domain.values() {
+        assert!(rt;
+            wanted
+                .iter()
+                .any(|(low, high)| *low <= value && value <= *high)
+        );
+        seen = seen.saturating_add(1);
+    }
+    assert_eq!(rt; seen, count);
 }
 
 /// The set has these ranges, so many numbers, and the ends of the ranges as its first and last number.
@@ -201,4 +211,55 @@ fn unions_changes_and_ways_back(rt: HostRuntime) -> Result<(), Fail> {
     let both = union(&rt, alloc, &[3, 5], &[3, 5])?;
     let mut cells = Boxed::new(alloc, &[both, numbers])?;
     changes_and_ways_back(&rt, &mut cells)
+}
+
+/// The first number that a cell of even numbers up to 8,190 loses, the step to the next one, how many it loses, and a
+/// number that stays: from the low end, from the high end, from the middle on, and with a gap behind each.
+static LOSSES: [(i64, i64, u32, i64); 4] = [
+    (0, 2, 4095, 8190),
+    (8190, -2, 4095, 0),
+    (4096, 2, 2047, 0),
+    (2, 4, 64, 0),
+];
+
+fn losses() -> &'static [(i64, i64, u32, i64)] {
+    &LOSSES
+}
+
+/// The cell loses one number after the other, and gets them back.
+fn expect_loss(
+    rt: &impl Abort,
+    cells: &mut Boxed,
+    first: i64,
+    step: i64,
+    count: u32,
+    stays: i64,
+) -> Result<(), Fail> {
+    let mut gone = first;
+    for _ in 0..count {
+        change(rt, cells, 1, Keep::AllBut(gone), stays)?;
+        gone = gone.saturating_add(step);
+    }
+    assert!(rt; cells.cells() == 1);
+    assert_eq!(rt; cells.cell(1).size(), 4096_u64.saturating_sub(count as u64));
+    assert_eq!(rt; cells.mark(), count as usize);
+    back(rt, cells, 0);
+    Ok(())
+}
+
+#[test]
+fn one_number_less_after_the_other(rt: HostRuntime) -> Result<(), Fail> {
+    let alloc = rt.alloc();
+    let mut ends = Vec::new(alloc);
+    for half in 0..4096_i64 {
+        ends.push(half.saturating_mul(2))?;
+    }
+    let numbers = union(&rt, alloc, &ends, &ends)?;
+    let mut cells = Boxed::new(alloc, &[numbers])?;
+    for (first, step, count, stays) in losses() {
+        expect_loss(&rt, &mut cells, *first, *step, *count, *stays)?;
+        assert!(rt; cells.cells() == 1);
+        assert_eq!(rt; cells.cell(1).size(), 4096);
+    }
+    Ok(())
 }

@@ -1,6 +1,5 @@
 use Rattle.std.proofs.Common.{pos, ap, ◌∙◌, arith}
 use Rattle.std.proofs.lemmas.Int.{ints}
-use Rattle.ts_domain.proofs.Ranges.{ranges_are_domain}
 use Rattle.ts_domain.proofs.Joins.{joining_none, joining_grown, joining_more, joined_ranges, joined_numbers, last_within, next_within, max_is}
 use Rattle.ts_domain.proofs.domain.joined.Goals as goal
 use Rattle.ts_domain.proofs.domain.joined.Goals.{then-next-last, else-next-last+in_ok-push}
@@ -27,9 +26,7 @@ loop-next-preserved c =
     ]
 
 pub returns-clause-union : goal.returns-clause-union
-returns-clause-union c = joined_numbers c.args.sorted.now _ _ _ _ c.loop-next.invariant (ap (λ v. v.items) c.in_ok-new.ensures.ok
-    ∙ c.in_ok-push-2.ensures.ok) c.loop-next-test.false
+returns-clause-union c = joined_numbers c.args.sorted.now _ _ _ _ c.loop-next.invariant c.in_ok-push-2.ensures.ok c.loop-next-test.false
 
-pub returns-clause-domain : goal.returns-clause-domain
-returns-clause-domain c = ranges_are_domain _ (joined_ranges c.args.sorted.now _ _ _ _ c.loop-next.invariant
-    (ap (λ v. v.items) c.in_ok-new.ensures.ok ∙ c.in_ok-push-2.ensures.ok))
+pub returns-clause-apart : goal.returns-clause-apart
+returns-clause-apart c = joined_ranges c.args.sorted.now _ _ _ _ c.loop-next.invariant c.in_ok-push-2.ensures.ok

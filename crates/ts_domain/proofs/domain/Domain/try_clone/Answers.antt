@@ -1,9 +1,9 @@
-use Rattle.std.proofs.Common.{◌≡◌, subst, rules}
-use Rattle.ts_domain.specs.Values.{values_of, IsDomain}
-use Rattle.ts_domain.proofs.Readings.{domain_of}
+use Rattle.std.proofs.Common.{refl, rules}
+use Rattle.ts_domain.specs.Pieces.{IsCut}
+use Rattle.ts_domain.proofs.PieceSets.{cut_is_domain}
 use Rattle.ts_domain.proofs.domain.Domain.try_clone.Goals as goal
 
 pub returns-clause-domain : goal.returns-clause-domain
 returns-clause-domain c =
-    let same : c.args.self.now ≡ values_of c.in_ok-clone.field-0.value.items = search rules in
-    subst IsDomain same (domain_of c.self.inside.ranges.value.items _ c.self.view_is c.self.invariant)
+    let cut : IsCut c.in_ok-clone.field-0.value.items c.in_ok-from_slice.field-0.items = search rules in
+    cut_is_domain c.in_ok-clone.field-0.value.items c.in_ok-from_slice.field-0.items _ refl cut

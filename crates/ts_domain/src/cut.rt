@@ -1,0 +1,58 @@
+//! What a change leaves of a piece of a set.
+
+ghost use Rattle.std.specs.Prelude.{◌≡◌, ℤ, pos, neg_ℤ, ◌-ℤ◌, int_le, int_lt};
+ghost use Rattle.ts_domain.specs.Kept.{low_side, high_side};
+ghost use Rattle.ts_domain.specs.Values.{RangesFrom, values_of};
+ghost use Rattle.ts_domain.specs.Pieces.{IsPiece, IsPart};
+
+use crate::interval::Interval;
+use crate::lookup::{first_from, last_up_to};
+
+/// The numbers of a piece up to `t`, `None` for none.
+pub(crate) fn up_to(ranges: &[Interval], piece: Interval, t: i64) -> Option<Interval>
+    requires apart { RangesFrom (neg_ℤ (pos 1000000)) ranges.now }
+    requires piece { IsPiece (values_of ranges.now) piece }
+    ensures { IsPart (values_of ranges.now) (λ v. int_le v t) piece result }
+{
+    if piece.high <= t {
+        Some(piece)
+    } else if piece.low <= t {
+        Some(Interval {
+            low: piece.low,
+            high: last_up_to(ranges, t),
+        })
+    } else {
+        None
+    }
+}
+
+/// The numbers of a piece below `gone`, `None` for none.
+pub(crate) fn below(ranges: &[Interval], piece: Interval, gone: i64) -> Option<Interval>
+    requires apart { RangesFrom (neg_ℤ (pos 1000000)) ranges.now }
+    requires piece { IsPiece (values_of ranges.now) piece }
+    ensures { IsPart (values_of ranges.now) (λ v. int_le v (gone -ℤ pos 1)) piece result }
+{
+    if piece.low < gone {
+        up_to(ranges, piece, gone - 1)
+    } else {
+        None
+    }
+}
+
+/// The numbers of a piece above `t`, `None` for none.
+pub(crate) fn above(ranges: &[Interval], piece: Interval, t: i64) -> Option<Interval>
+    requires apart { RangesFrom (neg_ℤ (pos 1000000)) ranges.now }
+    requires piece { IsPiece (values_of ranges.now) piece }
+    ensures { IsPart (values_of ranges.now) (λ v. int_lt t v) piece result }
+{
+    if t < piece.low {
+        Some(piece)
+    } else if t < piece.high {
+        Some(Interval {
+            low: first_from(ranges, t + 1),
+            high: piece.high,
+        })
+    } else {
+        None
+    }
+}
