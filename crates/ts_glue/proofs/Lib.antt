@@ -4,3 +4,5 @@ pub mod Typed
 pub mod SpanGlue
 pub mod TwoForms
 pub mod Locality
+pub mod Calls
+pub mod CallerLemmas

@@ -7,7 +7,7 @@ use Rattle.ts_glue.specs.Glued.{Glued}
 use Rattle.ts_glue.specs.Laws.{LocalIsAnswer}
 
 -- what is the same at neighbouring cells is the same at all: d cells are left
-same_up_to_last : (value : ℕ → Ext) (e : Ext) (n : ℕ) → value n ≡ e → ((k : ℕ) → 1 ≤ k → k < n → value k ≡ value (k + 1)) →
+pub same_up_to_last : (value : ℕ → Ext) (e : Ext) (n : ℕ) → value n ≡ e → ((k : ℕ) → 1 ≤ k → k < n → value k ≡ value (k + 1)) →
     (d k : ℕ) → 1 ≤ k → k + d ≡ n → value k ≡ e
 same_up_to_last value e n last next zero k some i =
     let j : n ≡ k = omega (arith, i) in subst (λ z. value z ≡ e) j last

@@ -87,7 +87,7 @@ apart_at_start : {A : Type 0} (m : Values A) (p : Pair) → Facts p → (q : ℕ
 apart_at_start m p f q s t x =
     let g = result_op p in
     let through =
-        joined g (folded p.table.a (fold_op p.table.op) (node_at p.forward.states q).held (node_at p.reverse.states 0).held (worth p.table.unit x)) in
+    joined g (folded p.table.a (fold_op p.table.op) (node_at p.forward.states q).held (node_at p.reverse.states 0).held (worth p.table.unit x)) in
     ap (λ v. glue_in m s t (cond v through (apart g))) (start_is_apart p f q)
 
 pub start_glues_to_finish : StartGluesToFinish
@@ -96,8 +96,8 @@ start_glues_to_finish p k q s x n =
     let g = result_op p in
     ap (marked p.forward.mark n)
     (apart_at_start numbers p f q s p.reverse.start x
-      ∙ beside_neutral g s.r s.c p.reverse.start.c p.reverse.start.r f.start_c f.start_r
-      ∙ sym (ap (value_in numbers s (pos 0) (pos 0)) f.forward_finish))
+    ∙ beside_neutral g s.r s.c p.reverse.start.c p.reverse.start.r f.start_c f.start_r
+    ∙ sym (ap (value_in numbers s (pos 0) (pos 0)) f.forward_finish))
 
 pub two_forms_agree : TwoFormsAgree
 two_forms_agree p k q h x n = ap (marked_span p.forward.mark n) (go (has_registers h) refl)

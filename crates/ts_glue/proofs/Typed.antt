@@ -19,7 +19,8 @@ use Rattle.ts_automaton.proofs.Tables.{implies, implied, on_all, at_each}
 use Rattle.ts_glue.specs.Pairs.{Pair}
 use Rattle.ts_glue.specs.Glue.{Glue, Meets, fold_op, worth, is_join, apart, folded, joined, result_op, glue_of}
 use Rattle.ts_glue.proofs.Expressions.{kind_in, glue_meets}
-use Rattle.ts_glue.proofs.Facts.{Facts, result_of, join_is_typed}
+use Rattle.ts_glue.specs.Laws.{OperandsFit}
+use Rattle.ts_glue.proofs.Facts.{Facts, facts_of, result_of, join_is_typed}
 
 -- an operator takes what it makes
 abbrev are_results : Op → RegKind → RegKind → RegKind → RegKind → Bool
@@ -68,7 +69,7 @@ module _ (p : Pair) (f : Facts p) (forward : IsTrue (is_automaton p.forward)) (r
       go true e =
           subst (λ u. IsTrue (is_some u))
           (same_kind p.table.a (fold_op p.table.op) (result_op p) (node_at p.forward.states q).held (node_at p.reverse.states r).held
-            (worth p.table.unit (pos 0)) (worth p.table.unit x) k l)
+          (worth p.table.unit (pos 0)) (worth p.table.unit x) k l)
           (subst (λ v. IsTrue (is_some (kind_in k l (cond v (through q r (pos 0)) (apart (result_op p)))))) e (join_is_typed p f q r e))
       go false e =
           results_join (result_op p) k.r k.c l.r l.c (finish_has p.forward forward (result_op p) f.forward_finish q)
@@ -87,3 +88,11 @@ module _ (p : Pair) (f : Facts p) (forward : IsTrue (is_automaton p.forward)) (r
       glue_meets spans SpanHasKind SpansFit spans_typed u (kinds_at p.forward left.state) (kinds_at p.reverse right.state) left.regs right.regs
       (spans_have (kinds_at p.forward left.state) left.regs h.kinds s) (spans_have (kinds_at p.reverse right.state) right.regs i.kinds t)
       (subst (λ z. IsTrue (is_some (kind_in (kinds_at p.forward left.state) (kinds_at p.reverse right.state) z))) (sym e) (glue_typed left.state right.state x))
+
+pub operands_fit : OperandsFit
+operands_fit p k a b =
+    let f = facts_of p k in
+    record {
+      fit = λ left right h i x. glue_fits p f a b left right h i x (glue_of p left.state right.state x) refl;
+      spans_fit = λ left right h i s t x. hulls_fit p f a b left right h i s t x (glue_of p left.state right.state x) refl;
+    }

@@ -5,11 +5,14 @@ use Rattle.ts_base.specs.declared.span.Span.{Span}
 use Rattle.ts_base.specs.Limits.{most_cells}
 use Rattle.ts_base.specs.SpanLayer.{IsWithin}
 use Rattle.ts_base.specs.Spans.{none_span, one_span, Holds}
-use Rattle.ts_automaton.specs.Registers.{EachOf, Each, numbers}
-use Rattle.ts_automaton.specs.AutomatonRun.{Standing, start_of, finish_of, answer, IsInMark, AreCellValues}
-use Rattle.ts_automaton.specs.SpanRun.{has_registers, one_hull, HoldsRegs, finish_span_of}
+use Rattle.ts_automaton.specs.Registers.{EachOf, Each, numbers, spans}
+use Rattle.ts_automaton.specs.Kinds.{Fits, SpansFit}
+use Rattle.ts_automaton.specs.Typing.{is_automaton}
+use Rattle.ts_automaton.specs.AutomatonRun.{Standing, Stands, start_of, finish_of, answer, IsInMark, AreCellValues}
+use Rattle.ts_automaton.specs.SpanRun.{has_registers, one_hull, HoldsRegs, HullStands, finish_span_of}
 use Rattle.ts_automaton.specs.Laws.{standing}
 use Rattle.ts_glue.specs.Pairs.{Pair}
+use Rattle.ts_glue.specs.Glue.{Meets, glue_of}
 use Rattle.ts_glue.specs.Glued.{glue_at, glued, glue_span_at, glued_span, Glued, Local}
 use Rattle.ts_glue.specs.Rules.{keeps_rules}
 
@@ -61,5 +64,19 @@ abbrev pub GluedSpansGrow : Type 0
 GluedSpansGrow =
     (p : Pair) (q r : ℕ) (h i wider_h wider_i : EachOf Span) (x : ℤ) → Each IsWithin h wider_h → Each IsWithin i wider_i →
     IsWithin
-      (glue_span_at p (standing q h) (standing r i) x)
-      (glue_span_at p (standing q wider_h) (standing r wider_i) x)
+    (glue_span_at p (standing q h) (standing r i) x)
+    (glue_span_at p (standing q wider_h) (standing r wider_i) x)
+
+-- where the registers have the kinds of the two states, no operator in the glued value meets an operand that it doesn't
+-- take
+pub record MeetsOperands (p : Pair) : Type 0 where
+  pub fit : (left right : Standing Ext) → Stands p.forward left → Stands p.reverse right → (x : ℤ) →
+      Meets Fits numbers left.regs right.regs (glue_of p left.state right.state x)
+  pub spans_fit : (left right : Standing Span) → HullStands p.forward left → HullStands p.reverse right →
+      IsTrue (has_registers left.regs) → IsTrue (has_registers right.regs) → (x : ℤ) →
+      Meets SpansFit spans left.regs right.regs (glue_of p left.state right.state x)
+
+abbrev pub OperandsFit : Type 0
+OperandsFit =
+    (p : Pair) → IsTrue (keeps_rules p) → IsTrue (is_automaton p.forward) → IsTrue (is_automaton p.reverse) →
+    MeetsOperands p

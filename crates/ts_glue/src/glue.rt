@@ -11,7 +11,7 @@ ghost use Rattle.ts_glue.specs.Machines.{forward_of, pair_of, reverse_of};
 ghost use Rattle.ts_glue.specs.Shapes.{IsWorth, shape_glue};
 
 use crate::machine::Machine;
-use crate::shape::{Shape, first_op};
+use crate::shape::{Shape, first_op, opposite};
 use ts_automaton::{At, Op, Regs};
 use ts_base::Ext;
 
@@ -27,10 +27,11 @@ pub fn glue_value(m: &Machine, left: At, right: At, cell: i64, n: u32) -> Ext
 {
     match m.half() {
         Some(half) => {
-            let shape = half.shape(m.forward(), left.state, right.state, cell);
-            let result_op = first_op(m.forward().finish_expr());
+            let forward = m.forward();
+            let shape = half.shape(forward, left.state, right.state, cell);
+            let result_op = first_op(forward.finish_expr());
             let value = shape.value(result_op, &left.regs, &right.regs);
-            m.forward().mark().applied(value, n)
+            forward.mark().applied(value, n)
         }
         None => unreachable!(),
     }
@@ -103,7 +104,7 @@ fn folded_both(fold: Op, worth: i64, left: &Regs, right: &Regs) -> Ext
     let behind = fold.applied(right.c, right.d);
     let both = fold.applied(ahead, behind);
     match fold {
-        Op::Add => fold.applied(both, Ext::Int(-worth)),
+        Op::Add => fold.applied(both, Ext::Int(opposite(worth))),
         Op::Max | Op::Min => both,
     }
 }

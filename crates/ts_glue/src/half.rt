@@ -33,20 +33,21 @@ impl Half {
     {
         let held_left = forward.state(left).held;
         let held_right = self.reverse.state(right).held;
-        if !self.table.is_join(left, right) {
-            return Shape::Apart;
-        }
         let fold = self.table.op.op();
         let worth = self.table.unit.worth(cell);
-        if self.table.a == 0 {
-            Shape::Both { fold, worth }
-        } else {
-            Shape::Between {
-                fold,
-                held_left,
-                held_right,
-                worth,
+        if self.table.is_join(left, right) {
+            if self.table.a == 0 {
+                Shape::Both { fold, worth }
+            } else {
+                Shape::Between {
+                    fold,
+                    held_left,
+                    held_right,
+                    worth,
+                }
             }
+        } else {
+            Shape::Apart
         }
     }
 }

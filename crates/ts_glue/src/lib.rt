@@ -13,6 +13,7 @@
 
 mod glue;
 mod half;
+pub mod laws;
 mod machine;
 mod shape;
 mod span_glue;

@@ -1,7 +1,8 @@
 //! The shape of a glued value: whether one occurrence goes on through the cell, and how its parts are folded.
 
-ghost use Rattle.std.specs.Prelude.{◌≡◌};
+ghost use Rattle.std.specs.Prelude.{◌≡◌, neg_ℤ};
 ghost use Rattle.ts_automaton.specs.Formula.{formula};
+ghost use Rattle.ts_base.specs.Limits.{IsCellValue};
 ghost use Rattle.ts_glue.specs.Glue.{first_op, fold_op, is_join, worth};
 ghost use Rattle.ts_glue.specs.Pairs.{table_view};
 
@@ -21,7 +22,10 @@ pub(crate) enum Shape {
         worth: i64,
     },
     /// One occurrence goes on, and both sides have folded the cell.
-    Both { fold: Op, worth: i64 },
+    Both {
+        fold: Op,
+        worth: i64,
+    },
 }
 
 impl GlueTable {
@@ -69,4 +73,12 @@ pub(crate) fn first_op(finish: &Expr) -> Op
         Expr::Min(_, _) => Op::Min,
         _ => Op::Add,
     }
+}
+
+/// What takes the worth of a cell away again where it is added.
+pub(crate) fn opposite(worth: i64) -> i64
+    requires { IsCellValue worth }
+    ensures { result ≡ neg_ℤ worth }
+{
+    -worth
 }

@@ -11,7 +11,7 @@ ghost use Rattle.ts_glue.specs.Machines.{forward_of, pair_of, reverse_of};
 ghost use Rattle.ts_glue.specs.Shapes.{IsWorth, shape_glue};
 
 use crate::machine::Machine;
-use crate::shape::{Shape, first_op};
+use crate::shape::{Shape, first_op, opposite};
 use ts_automaton::{Hull, HullAt, Op};
 use ts_base::{Ext, Span};
 
@@ -29,10 +29,11 @@ pub fn glue_span(m: &Machine, left: HullAt, right: HullAt, cell: i64, n: u32) ->
             if left.hull.is_none() || right.hull.is_none() {
                 return Span::none();
             }
-            let shape = half.shape(m.forward(), left.state, right.state, cell);
-            let result_op = first_op(m.forward().finish_expr());
+            let forward = m.forward();
+            let shape = half.shape(forward, left.state, right.state, cell);
+            let result_op = first_op(forward.finish_expr());
             let span = shape.span(result_op, &left.hull, &right.hull);
-            m.forward().mark().applied_to_span(span, n)
+            forward.mark().applied_to_span(span, n)
         }
         None => unreachable!(),
     }
@@ -106,7 +107,7 @@ fn folded_both(fold: Op, worth: i64, left: &Hull, right: &Hull) -> Span
     let behind = fold.applied_to_spans(right.c, right.d);
     let both = fold.applied_to_spans(ahead, behind);
     match fold {
-        Op::Add => fold.applied_to_spans(both, Span::one(Ext::Int(-worth))),
+        Op::Add => fold.applied_to_spans(both, Span::one(Ext::Int(opposite(worth)))),
         Op::Max | Op::Min => both,
     }
 }
