@@ -1,2 +1,10 @@
+pub mod Accepts
+pub mod Boxes
 pub mod Ends
 pub mod Excluded
+pub mod Holds
+pub mod Lines
+pub mod RefutedWorseDrop
+pub mod Rules
+pub mod Steps
+pub mod Tree

@@ -1,0 +1,78 @@
+-- The rule of each line of a tree, on the box that waits for it.
+use Rattle.std.specs.Prelude.{◌≡◌, ◌≢◌, ℕ, ℤ, List, [], Option, Some, None, MatchOption, slice_get}
+use Rattle.ts_base.specs.declared.ext.Ext.{Ext}
+use Rattle.ts_certificate.specs.declared.certificate.Aim.{Aim}
+use Rattle.ts_certificate.specs.declared.certificate.Aim.TheVariants.{Best as BestOf, List as ListOf}
+use Rattle.ts_certificate.specs.declared.certificate.Claim.{Claim}
+use Rattle.ts_certificate.specs.declared.certificate.Claim.TheVariants.{Best, Infeasible, BudgetBest, BudgetNone}
+use Rattle.ts_certificate.specs.declared.certificate.Claim.TheVariants.{Full, All, BudgetList}
+use Rattle.ts_certificate.specs.declared.certificate.TreeLine.{TreeLine}
+use Rattle.ts_certificate.specs.declared.certificate.TreeLine.TheVariants.{Split, Remove, No, Worse, Yes, Unsearched}
+use Rattle.ts_certificate.specs.Certificate.{Cert}
+use Rattle.ts_domain.specs.Kept.{values_up_to, values_above}
+use Rattle.ts_model.specs.Stated.{Stated}
+use Rattle.ts_filter.specs.Boxes.{Box, HasCell, values_at, box_of}
+use Rattle.ts_filter.specs.RefutedWorseDrop.{Spans, IsRefuted, IsWorse, IsDrop}
+
+-- what the lines before the tree say
+pub record Head : Type 0 where
+  pub aim : Aim
+  pub claim : Claim
+  pub series : List (List ℤ)
+
+abbrev pub head_of : Cert → Head
+head_of c = record { aim = c.aim; claim = c.claim; series = c.series }
+
+-- `split K T`: both the values of cell K up to T and those above are some
+pub record IsSplit (k : ℕ) (t : ℤ) (b : Box) : Type 0 where
+  pub cell : HasCell k b
+  pub below : values_up_to t (values_at k b) ≢ []
+  pub above : values_above t (values_at k b) ≢ []
+
+-- the number that `best V` and `budget V` claim
+abbrev pub claimed : Claim → Option Ext
+claimed (Best v) = Some v
+claimed Infeasible = None
+claimed (BudgetBest v) = Some v
+claimed BudgetNone = None
+claimed (Full c) = None
+claimed (All c) = None
+claimed (BudgetList c) = None
+
+abbrev pub IsWorseFor : Stated → Spans → Aim → Ext → ℕ → Box → Type 0
+IsWorseFor m s (BestOf goal) v p b = IsWorse m s goal p b v
+IsWorseFor m s (ListOf count) v p b = ⊥
+
+-- `worse P`: the claim has a number, and the objective is not better at P
+abbrev pub MayBeWorse : Stated → Spans → Head → ℕ → Box → Type 0
+MayBeWorse m s h p b = MatchOption (claimed h.claim) ⊥ (λ v. IsWorseFor m s h.aim v p b)
+
+abbrev pub IsListing : Aim → Type 0
+IsListing (BestOf goal) = ⊥
+IsListing (ListOf count) = Unit {0}
+
+-- `yes`, after so many of them: the aim is `generate`, and the box is the next listed series alone
+pub record IsNext (h : Head) (told : ℕ) (b : Box) : Type 0 where
+  pub listing : IsListing h.aim
+  pub series : List ℤ
+  pub listed : slice_get h.series told ≡ Some series
+  pub alone : b ≡ box_of series
+
+-- `open`: the claim is `budget V`, `budget none`, `full C` or `budget C`
+abbrev pub MayStayOpen : Claim → Type 0
+MayStayOpen (Best v) = ⊥
+MayStayOpen Infeasible = ⊥
+MayStayOpen (BudgetBest v) = Unit {0}
+MayStayOpen BudgetNone = Unit {0}
+MayStayOpen (Full c) = Unit {0}
+MayStayOpen (All c) = ⊥
+MayStayOpen (BudgetList c) = Unit {0}
+
+-- the line keeps its rule on the box, after so many `yes` lines
+abbrev pub KeepsRule : Stated → Spans → Head → ℕ → Box → TreeLine → Type 0
+KeepsRule m s h told b (Split k t) = IsSplit k t b
+KeepsRule m s h told b (Remove k v j) = IsDrop m s k v j b
+KeepsRule m s h told b (No j p) = IsRefuted m s j p b
+KeepsRule m s h told b (Worse p) = MayBeWorse m s h p b
+KeepsRule m s h told b Yes = IsNext h told b
+KeepsRule m s h told b Unsearched = MayStayOpen h.claim

@@ -1,0 +1,51 @@
+-- Trees: a split with a tree for each side, a drop with a tree for what is left, or a line that ends.
+use Rattle.std.specs.Prelude.{ℕ, ◌+◌, ℤ, List, [], ◌∷◌, ◌++◌}
+use Rattle.ts_certificate.specs.declared.certificate.TreeLine.{TreeLine}
+use Rattle.ts_certificate.specs.declared.certificate.TreeLine.TheVariants.{Split, Remove, No, Worse, Yes, Unsearched}
+use Rattle.ts_model.specs.Stated.{Stated}
+use Rattle.ts_filter.specs.Boxes.{Box, low_side, high_side, without}
+use Rattle.ts_filter.specs.RefutedWorseDrop.{Spans, IsDrop}
+use Rattle.ts_filter.specs.Rules.{Head, IsSplit, KeepsRule}
+
+pub data Tree : Type 0 where
+  Leaf : TreeLine → Tree
+  Drop : ℕ → ℤ → ℕ → Tree → Tree
+  Fork : ℕ → ℤ → Tree → Tree → Tree
+
+-- its lines, those of the lower side first
+abbrev pub tree_lines : Tree → List TreeLine
+tree_lines (Leaf l) = l ∷ []
+tree_lines (Drop k v j t) = Remove k v j ∷ tree_lines t
+tree_lines (Fork k t lower upper) = Split k t ∷ (tree_lines lower ++ tree_lines upper)
+
+-- the number of `yes` lines after this one
+abbrev pub told_by : TreeLine → ℕ → ℕ
+told_by (Split k t) told = told
+told_by (Remove k v j) told = told
+told_by (No j p) told = told
+told_by (Worse p) told = told
+told_by Yes told = told + 1
+told_by Unsearched told = told
+
+-- the same after the tree
+abbrev pub told_after : Tree → ℕ → ℕ
+told_after (Leaf l) told = told_by l told
+told_after (Drop k v j t) told = told_after t told
+told_after (Fork k t lower upper) told = told_after upper (told_after lower told)
+
+-- the line ends
+abbrev pub IsLeafLine : TreeLine → Type 0
+IsLeafLine (Split k t) = ⊥
+IsLeafLine (Remove k v j) = ⊥
+IsLeafLine (No j p) = Unit {0}
+IsLeafLine (Worse p) = Unit {0}
+IsLeafLine Yes = Unit {0}
+IsLeafLine Unsearched = Unit {0}
+
+-- it is a tree for the box, each of whose lines keeps its rule
+abbrev pub Fits : Stated → Spans → Head → ℕ → Box → Tree → Type 0
+Fits m s h told b (Leaf l) = IsLeafLine l × KeepsRule m s h told b l
+Fits m s h told b (Drop k v j t) = IsDrop m s k v j b × Fits m s h told (without k v b) t
+Fits m s h told b (Fork k t lower upper) =
+    IsSplit k t b × Fits m s h told (low_side k t b) lower
+    × Fits m s h (told_after lower told) (high_side k t b) upper
