@@ -1,1 +1,7 @@
+mod BoxParts
 mod SpanEnds
+mod TreeLaws
+mod Answered
+mod LineLaws
+mod SeriesLines
+mod SoundLaws

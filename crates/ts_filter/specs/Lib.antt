@@ -3,6 +3,7 @@ pub mod Boxes
 pub mod Ends
 pub mod Excluded
 pub mod Holds
+pub mod Laws
 pub mod Lines
 pub mod RefutedWorseDrop
 pub mod Rules

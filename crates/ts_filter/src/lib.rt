@@ -1,7 +1,9 @@
 //! What excludes boxes of a model from the search, and when a certificate of that is accepted.
 //!
 //! The layer above may rely on this: `refutes` and `cuts` answer exactly whether no number of a span compares so with a
-//! bound, or counts for a bar.
+//! bound, or counts for a bar. The definitions state the rule of each line of a certificate, when a certificate is
+//! accepted, its first failing line and what its claim means; by the laws an accepted certificate means what it claims,
+//! whoever wrote it, wherever spans hold the values of their terms.
 //!
 //! ```text
 //! let span = Span { lo: Ext::Int(2), hi: Ext::Int(5) };
@@ -13,6 +15,7 @@
 
 mod bar;
 mod excluded;
+pub mod laws;
 
 pub use bar::Bar;
 pub use excluded::{cuts, refutes};

@@ -1,0 +1,158 @@
+-- Trees and steps: one and the same; how many lines a tree has, and how many boxes wait.
+use Rattle.std.proofs.Common.{◌≡◌, ℕ, ◌+◌, ◌*◌, ◌≤◌, List, [], ◌∷◌, ◌++◌, length, refl, sym, ◌∙◌, ap, subst, arith, append_assoc, append-nil}
+use Rattle.std.specs.List.{AllByRecursion}
+use Rattle.ts_certificate.specs.declared.certificate.TreeLine.{TreeLine}
+use Rattle.ts_certificate.specs.declared.certificate.TreeLine.TheVariants.{Split, Remove, No, Worse, Yes, Unsearched}
+use Rattle.ts_domain.specs.BoxSeries.{IsBox, series_count}
+use Rattle.ts_domain.proofs.BoxLaws.{some_series}
+use Rattle.ts_model.specs.Stated.{Stated, total_of}
+use Rattle.ts_filter.specs.Boxes.{Box, low_side, high_side, without, only, IsPart}
+use Rattle.ts_filter.specs.Laws.{TreeIsSteps}
+use Rattle.ts_filter.specs.RefutedWorseDrop.{Spans}
+use Rattle.ts_filter.specs.Rules.{Head, KeepsRule}
+use Rattle.ts_filter.specs.Steps.{made_by, Steps}
+use Rattle.ts_filter.specs.Tree.{Tree, Leaf, Drop, Fork, tree_lines, told_by, told_after, Fits}
+use Rattle.ts_filter.proofs.BoxParts.{inside_length, low_part, high_part, without_part, only_part, others_stay, part_self, box_total, low_total, high_total, without_total, sides_count, drop_count}
+
+module _ (m : Stated) (s : Spans) (h : Head) where
+  pub tree_steps : (told : ℕ) (b : Box) (t : Tree) (w : List Box) (rest : List TreeLine) (left : List Box) (after : ℕ) →
+      Fits m s h told b t → Steps m s h w (told_after t told) rest left after → Steps m s h (b ∷ w) told (tree_lines t ++ rest) left after
+  tree_steps told b (Leaf (Split k t)) w rest left after f r = absurd f.0
+  tree_steps told b (Leaf (Remove k v j)) w rest left after f r = absurd f.0
+  tree_steps told b (Leaf (No j p)) w rest left after f r = (f.1, r)
+  tree_steps told b (Leaf (Worse p)) w rest left after f r = (f.1, r)
+  tree_steps told b (Leaf Yes) w rest left after f r = (f.1, r)
+  tree_steps told b (Leaf Unsearched) w rest left after f r = (f.1, r)
+  tree_steps told b (Drop k v j t) w rest left after f r = (f.0, tree_steps told (without k v b) t w rest left after f.1 r)
+  tree_steps told b (Fork k t a d) w rest left after f r =
+      let upper = tree_steps (told_after a told) (high_side k t b) d w rest left after f.2 r in
+      let lower = tree_steps told (low_side k t b) a (high_side k t b ∷ w) (tree_lines d ++ rest) left after f.1 upper in
+      (f.0, subst (λ z. Steps m s h (low_side k t b ∷ high_side k t b ∷ w) told z left after) (sym (append_assoc (tree_lines a) (tree_lines d) rest)) lower)
+
+  -- one tree for each box that waits
+  abbrev Forest : ℕ → List Box → List TreeLine → ℕ → Type 0
+  Forest told [] ls after = (ls ≡ []) × (told ≡ after)
+  Forest told (b ∷ w) ls after =
+      (t : Tree) × (rest : List TreeLine) × (ls ≡ tree_lines t ++ rest) × Fits m s h told b t × Forest (told_after t told) w rest after
+
+  steps_tree : (ls : List TreeLine) (told : ℕ) (w : List Box) (after : ℕ) → Steps m s h w told ls [] after → Forest told w ls after
+  steps_tree [] told [] after f = (refl, f.1)
+  steps_tree [] told (b ∷ w) after f = absurd (let e = f.0 in cc)
+  steps_tree (l ∷ ls) told [] after f = absurd f
+  steps_tree (Split k t ∷ ls) told (b ∷ w) after f =
+      let a = steps_tree ls told (low_side k t b ∷ high_side k t b ∷ w) after f.1 in
+      let d = a.4 in (
+        Fork k t a.0 d.0,
+        d.1,
+        ap (λ z. Split k t ∷ z) (a.2 ∙ ap (λ z. tree_lines a.0 ++ z) d.2 ∙ sym (append_assoc (tree_lines a.0) (tree_lines d.0) d.1)),
+        (f.0, a.3, d.3),
+        d.4,
+      )
+  steps_tree (Remove k v j ∷ ls) told (b ∷ w) after f =
+      let a = steps_tree ls told (without k v b ∷ w) after f.1 in
+      (Drop k v j a.0, a.1, ap (λ z. Remove k v j ∷ z) a.2, (f.0, a.3), a.4)
+  steps_tree (No j p ∷ ls) told (b ∷ w) after f = (Leaf (No j p), ls, refl, (tt, f.0), steps_tree ls told w after f.1)
+  steps_tree (Worse p ∷ ls) told (b ∷ w) after f = (Leaf (Worse p), ls, refl, (tt, f.0), steps_tree ls told w after f.1)
+  steps_tree (Yes ∷ ls) told (b ∷ w) after f = (Leaf Yes, ls, refl, (tt, f.0), steps_tree ls (told + 1) w after f.1)
+  steps_tree (Unsearched ∷ ls) told (b ∷ w) after f = (Leaf Unsearched, ls, refl, (tt, f.0), steps_tree ls told w after f.1)
+
+  pub to_steps : (b : Box) (t : Tree) → Fits m s h 0 b t → Steps m s h (b ∷ []) 0 (tree_lines t) [] (told_after t 0)
+  to_steps b t f =
+      subst (λ z. Steps m s h (b ∷ []) 0 z [] (told_after t 0)) (append-nil (tree_lines t)) (tree_steps 0 b t [] [] [] (told_after t 0) f (refl, refl))
+
+  -- the boxes that a line makes lie inside too
+  pub parts_made : (told : ℕ) (l : TreeLine) (b : Box) (w : List Box) → AllByRecursion (λ c. IsPart c m.cells) (b ∷ w) → KeepsRule m s h told b l →
+      AllByRecursion (λ c. IsPart c m.cells) (made_by l b ++ w)
+  parts_made told (Split k t) b w e f = (low_part k t b m.cells e.0 f.cell f.below, (high_part k t b m.cells e.0 f.cell f.above, e.1))
+  parts_made told (Remove k v j) b w e f = (without_part k v b m.cells e.0 f.cell (others_stay k v b e.0.box f.cell f.many f.there), e.1)
+  parts_made told (No j p) b w e f = e.1
+  parts_made told (Worse p) b w e f = e.1
+  parts_made told Yes b w e f = e.1
+  parts_made told Unsearched b w e f = e.1
+
+  pub parts_steps : (ls : List TreeLine) (told : ℕ) (w left : List Box) (after : ℕ) → AllByRecursion (λ c. IsPart c m.cells) w →
+      Steps m s h w told ls left after → AllByRecursion (λ c. IsPart c m.cells) left
+  parts_steps [] told w left after e f = subst (λ z. AllByRecursion (λ c. IsPart c m.cells) z) f.0 e
+  parts_steps (l ∷ ls) told [] left after e f = absurd f
+  parts_steps (l ∷ ls) told (b ∷ w) left after e f =
+      parts_steps ls (told_by l told) (made_by l b ++ w) left after (parts_made told l b w e f.0) f.1
+
+  -- the series of all boxes that wait
+  abbrev series_of : List Box → ℕ
+  series_of [] = 0
+  series_of (b ∷ w) = series_count b + series_of w
+
+  boxes_made : (told : ℕ) (l : TreeLine) (b : Box) (w : List Box) → AllByRecursion IsBox (b ∷ w) → KeepsRule m s h told b l →
+      AllByRecursion IsBox (made_by l b ++ w)
+  boxes_made told (Split k t) b w e f =
+      ((low_part k t b b (part_self b e.0) f.cell f.below).box, ((high_part k t b b (part_self b e.0) f.cell f.above).box, e.1))
+  boxes_made told (Remove k v j) b w e f =
+      ((without_part k v b b (part_self b e.0) f.cell (others_stay k v b e.0 f.cell f.many f.there)).box, e.1)
+  boxes_made told (No j p) b w e f = e.1
+  boxes_made told (Worse p) b w e f = e.1
+  boxes_made told Yes b w e f = e.1
+  boxes_made told Unsearched b w e f = e.1
+
+  -- a line takes a series from those that wait, or makes two boxes of one
+  line_size : (told : ℕ) (l : TreeLine) (b : Box) (w : List Box) → IsBox b → KeepsRule m s h told b l →
+      1 + 2 * series_of (made_by l b ++ w) + length (b ∷ w) ≤ 2 * series_of (b ∷ w) + length (made_by l b ++ w)
+  line_size told (Split k t) b w e f = let c = sides_count k t b f.cell in omega arith
+  line_size told (Remove k v j) b w e f =
+      let c = drop_count k v b e f.cell f.there in
+      let one = some_series (only k v b) (only_part k v b b (part_self b e) f.cell f.there).box in omega arith
+  line_size told (No j p) b w e f = omega (arith, some_series b e)
+  line_size told (Worse p) b w e f = omega (arith, some_series b e)
+  line_size told Yes b w e f = omega (arith, some_series b e)
+  line_size told Unsearched b w e f = omega (arith, some_series b e)
+
+  size_steps : (ls : List TreeLine) (told : ℕ) (w left : List Box) (after : ℕ) → AllByRecursion IsBox w → Steps m s h w told ls left after →
+      length ls + 2 * series_of left + length w ≤ 2 * series_of w + length left
+  size_steps [] told w left after e f = omega (arith, ap series_of f.0, ap (length {A = Box}) f.0)
+  size_steps (l ∷ ls) told [] left after e f = absurd f
+  size_steps (l ∷ ls) told (b ∷ w) left after e f =
+      let rest = size_steps ls (told_by l told) (made_by l b ++ w) left after (boxes_made told l b w e f.0) f.1 in
+      let here = line_size told l b w e.0 f.0 in omega arith
+
+  pub tree_short : (t : Tree) (b : Box) → IsBox b → Fits m s h 0 b t → length (tree_lines t) + 1 ≤ 2 * series_count b
+  tree_short t b e f = let r = size_steps (tree_lines t) 0 (b ∷ []) [] (told_after t 0) (e, tt) (to_steps b t f) in omega arith
+
+  -- each box, with those behind it counted and its own values, is at most so much
+  abbrev Few : ℕ → List Box → Type 0
+  Few top [] = Unit {0}
+  Few top (b ∷ w) = (length (b ∷ w) + total_of b ≤ top) × Few top w
+
+  few_made : (told top : ℕ) (l : TreeLine) (b : Box) (w : List Box) → IsBox b → Few top (b ∷ w) → KeepsRule m s h told b l → Few top (made_by l b ++ w)
+  few_made told top (Split k t) b w i e f =
+      let n = e.0 in let low = low_total k t b f.cell f.above in let high = high_total k t b f.cell in ((omega arith), ((omega arith), e.1))
+  few_made told top (Remove k v j) b w i e f = let n = e.0 in let less = without_total k v b i f.cell f.there in ((omega arith), e.1)
+  few_made told top (No j p) b w i e f = e.1
+  few_made told top (Worse p) b w i e f = e.1
+  few_made told top Yes b w i e f = e.1
+  few_made told top Unsearched b w i e f = e.1
+
+  few_steps : (top : ℕ) (ls : List TreeLine) (told : ℕ) (w left : List Box) (after : ℕ) → AllByRecursion IsBox w → Few top w →
+      Steps m s h w told ls left after → Few top left
+  few_steps top [] told w left after i e f = subst (λ z. Few top z) f.0 e
+  few_steps top (l ∷ ls) told [] left after i e f = absurd f
+  few_steps top (l ∷ ls) told (b ∷ w) left after i e f =
+      few_steps top ls (told_by l told) (made_by l b ++ w) left after (boxes_made told l b w i f.0) (few_made told top l b w i.0 e f.0) f.1
+
+  few_waiting : (top : ℕ) (w : List Box) → Few top w → AllByRecursion (λ c. IsPart c m.cells) w → length m.cells ≤ top → length w + length m.cells ≤ top
+  few_waiting top [] e g n = omega arith
+  few_waiting top (b ∷ w) e g n = let r = e.0 in omega (arith, box_total b g.0.box, inside_length b m.cells g.0.inside)
+
+  pub few : (ls : List TreeLine) (w : List Box) (told : ℕ) → IsBox m.cells → Steps m s h (m.cells ∷ []) 0 ls w told →
+      length w + length m.cells ≤ total_of m.cells + 1
+  few ls w told i f =
+      let top = total_of m.cells + 1 in
+      let least = box_total m.cells i in
+      few_waiting top w (few_steps top ls 0 (m.cells ∷ []) w told (i, tt) ((omega arith), tt) f)
+      (parts_steps ls 0 (m.cells ∷ []) w told (part_self m.cells i, tt) f) (omega arith)
+
+pub tree_is_steps : TreeIsSteps
+tree_is_steps m s h b ls told = (
+  λ f. subst (λ z. Steps m s h (b ∷ []) 0 z [] told) f.1
+      (subst (λ n. Steps m s h (b ∷ []) 0 (tree_lines f.0) [] n) f.3 (to_steps m s h b f.0 f.2)),
+  λ g. let f = steps_tree m s h ls 0 (b ∷ []) told g in
+      (f.0, sym (f.2 ∙ ap (λ z. tree_lines f.0 ++ z) f.4.0 ∙ append-nil (tree_lines f.0)), f.3, f.4.1),
+)

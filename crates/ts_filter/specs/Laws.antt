@@ -1,0 +1,121 @@
+-- What is promised of boxes, trees and certificates, and what is asked of spans for it.
+use Rattle.std.specs.Prelude.{◌≡◌, ℕ, ◌+◌, ◌-◌, ◌*◌, ◌≤◌, ◌⊎◌, ◌↔◌, ℤ, pos, false, List, [], ◌∷◌, ◌++◌, Some, None}
+use Rattle.std.specs.Prelude.{get_or, length, take}
+use Rattle.std.specs.List.{AllByRecursion}
+use Rattle.ts_base.specs.declared.ext.Ext.{Ext}
+use Rattle.ts_base.specs.declared.goal.Goal.{Goal}
+use Rattle.ts_base.specs.Spans.{Holds as SpanHolds}
+use Rattle.ts_certificate.specs.declared.certificate.TreeLine.{TreeLine}
+use Rattle.ts_certificate.specs.Certificate.{Cert, cert_lines}
+use Rattle.ts_certificate.specs.Grammar.{CertLine, series_count}
+use Rattle.ts_domain.specs.BoxSeries.{InBox, IsBefore, IsBox, series_count as series_in}
+use Rattle.ts_model.specs.Meets.{Meets, value_at}
+use Rattle.ts_model.specs.Stated.{Stated, total_of}
+use Rattle.ts_filter.specs.declared.bar.Bar.{Bar}
+use Rattle.ts_filter.specs.Accepts.{Accepts, objective_of}
+use Rattle.ts_filter.specs.Boxes.{Box, HasCell, low_side, high_side, without, IsPart}
+use Rattle.ts_filter.specs.Excluded.{counts}
+use Rattle.ts_filter.specs.Holds.{Holds}
+use Rattle.ts_filter.specs.Lines.{Stand, first_stand, KeepsLine, stand_after, Leads, IsFirstFailing, Found}
+use Rattle.ts_filter.specs.RefutedWorseDrop.{Spans, IsUsable, IsRefuted, IsCut}
+use Rattle.ts_filter.specs.Rules.{Head}
+use Rattle.ts_filter.specs.Steps.{Steps}
+use Rattle.ts_filter.specs.Tree.{Tree, tree_lines, told_after, Fits}
+
+-- What is asked of spans.
+
+-- what is refuted has no series that meets, and what is cut has none whose objective counts for the bar
+pub record IsSound (m : Stated) (s : Spans) : Type 0 where
+  pub refuted : (j p : ℕ) (b : Box) (x : List ℤ) → IsPart b m.cells → IsRefuted m s j p b → InBox x b → Meets m x → ⊥
+  pub cut : (goal : Goal) (p : ℕ) (b : Box) (bar : Bar) (x : List ℤ) (v : Ext) → IsPart b m.cells →
+      IsCut m s goal p b bar → InBox x b → objective_of m x ≡ Some v → counts goal bar v ≡ false
+
+-- the span of a term at a usable cell holds its value on each series of the box
+abbrev pub HoldsValues : Stated → Spans → Type 0
+HoldsValues m s =
+    (term p : ℕ) (b : Box) (x : List ℤ) (v : Ext) → IsPart b m.cells → IsUsable s term p b → InBox x b →
+    value_at m x term ≡ Some v → SpanHolds (s.span_at term p b) v
+
+abbrev pub ValuesAreSound : Type 0
+ValuesAreSound = (m : Stated) (s : Spans) → HoldsValues m s → IsSound m s
+
+-- Boxes.
+
+-- the two sides of a split have the series of the box between them, and none in common
+pub record IsCutInTwo (b low high : Box) : Type 0 where
+  pub between : (x : List ℤ) → InBox x b → InBox x low ⊎ InBox x high
+  pub below : (x : List ℤ) → InBox x low → InBox x b
+  pub above : (x : List ℤ) → InBox x high → InBox x b
+  pub apart : (x : List ℤ) → InBox x low → InBox x high → ⊥
+
+abbrev pub SplitCutsInTwo : Type 0
+SplitCutsInTwo = (k : ℕ) (t : ℤ) (b : Box) → HasCell k b → IsCutInTwo b (low_side k t b) (high_side k t b)
+
+-- where the cells before have one value each, the series of the lower side come first
+abbrev pub LowerSideFirst : Type 0
+LowerSideFirst =
+    (k : ℕ) (t : ℤ) (b : Box) (x y : List ℤ) → HasCell k b → AllByRecursion (λ d. length d ≡ 1) (take (k - 1) b) →
+    InBox x (low_side k t b) → InBox y (high_side k t b) → IsBefore x y
+
+-- a drop leaves exactly the series that have another value
+abbrev pub DropLeavesOthers : Type 0
+DropLeavesOthers =
+    (k : ℕ) (v : ℤ) (b : Box) (x : List ℤ) → HasCell k b →
+    InBox x (without k v b) ↔ (InBox x b × (get_or x (k - 1) (pos 0) ≡ v → ⊥))
+
+-- Trees.
+
+-- the lines of one tree for a box, each by its rule, are steps from the box to none
+abbrev pub TreeIsSteps : Type 0
+TreeIsSteps =
+    (m : Stated) (s : Spans) (h : Head) (b : Box) (ls : List TreeLine) (told : ℕ) →
+    ((t : Tree) × (tree_lines t ≡ ls) × Fits m s h 0 b t × (told_after t 0 ≡ told))
+    ↔ Steps m s h (b ∷ []) 0 ls [] told
+
+-- a tree for a box of S series has at most 2·S - 1 lines
+abbrev pub TreeIsShort : Type 0
+TreeIsShort =
+    (m : Stated) (s : Spans) (h : Head) (t : Tree) (b : Box) → IsBox b → Fits m s h 0 b t →
+    length (tree_lines t) + 1 ≤ 2 * series_in b
+
+-- with V values in all domains together and n cells, at most V + 1 - n boxes wait at any time
+abbrev pub FewWait : Type 0
+FewWait =
+    (m : Stated) (s : Spans) (h : Head) (ls : List TreeLine) (waiting : List Box) (told : ℕ) → IsBox m.cells →
+    Steps m s h (m.cells ∷ []) 0 ls waiting told → length waiting + length m.cells ≤ total_of m.cells + 1
+
+-- each box that waits is one inside the model's
+abbrev pub WaitingAreParts : Type 0
+WaitingAreParts =
+    (m : Stated) (s : Spans) (h : Head) (ls : List TreeLine) (waiting : List Box) (told : ℕ) → IsBox m.cells →
+    Steps m s h (m.cells ∷ []) 0 ls waiting told → AllByRecursion (λ b. IsPart b m.cells) waiting
+
+-- Certificates.
+
+-- what is accepted is true
+abbrev pub AcceptedHolds : Type 0
+AcceptedHolds = (m : Stated) (s : Spans) (c : Cert) → IsBox m.cells → IsSound m s → Accepts m s c → Holds m c
+
+-- a certificate is accepted exactly where each of its lines keeps its rule
+abbrev pub AcceptedIsKept : Type 0
+AcceptedIsKept =
+    (m : Stated) (s : Spans) (c : Cert) → length c.series ≡ series_count c.claim →
+    Accepts m s c ↔ ((t : Stand) × Leads m s (first_stand m) (cert_lines c) t)
+
+-- there is one first failing line, and none where the certificate is accepted
+abbrev pub OneFirstFailing : Type 0
+OneFirstFailing =
+    (m : Stated) (s : Spans) (c : Cert) (k n : ℕ) → IsFirstFailing m s c k → IsFirstFailing m s c n → k ≡ n
+
+abbrev pub FailingIsRejected : Type 0
+FailingIsRejected = (m : Stated) (s : Spans) (c : Cert) (n : ℕ) → IsFirstFailing m s c n → Accepts m s c → ⊥
+
+-- what is known of the lines so far, after one more
+pub record GoesOn (m : Stated) (s : Spans) (ls : List CertLine) (l : CertLine) : Type 0 where
+  pub keeps : (t : Stand) → Found m s ls t None → KeepsLine m s t l → Found m s (ls ++ l ∷ []) (stand_after t l) None
+  pub breaks : (t u : Stand) → Found m s ls t None → (KeepsLine m s t l → ⊥) →
+      Found m s (ls ++ l ∷ []) u (Some (length ls + 1))
+  pub broken : (t u : Stand) (n : ℕ) → Found m s ls t (Some n) → Found m s (ls ++ l ∷ []) u (Some n)
+
+abbrev pub LinesGoOn : Type 0
+LinesGoOn = (m : Stated) (s : Spans) (ls : List CertLine) (l : CertLine) → GoesOn m s ls l

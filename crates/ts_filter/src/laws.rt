@@ -1,0 +1,59 @@
+//! Laws of the definitions: functions that do nothing, each with what it proves as its clause.
+
+ghost use Rattle.ts_filter.specs.Laws.{AcceptedHolds, AcceptedIsKept, FailingIsRejected, LinesGoOn, OneFirstFailing};
+ghost use Rattle.ts_filter.specs.Laws.{DropLeavesOthers, LowerSideFirst, SplitCutsInTwo, ValuesAreSound};
+ghost use Rattle.ts_filter.specs.Laws.{FewWait, TreeIsShort, TreeIsSteps, WaitingAreParts};
+
+/// A split cuts the series of a box in two; the lower side's come first where the cells before have one value each.
+pub fn split_cuts_in_two()
+    ensures two { SplitCutsInTwo }
+    ensures order { LowerSideFirst }
+{}
+
+/// A drop leaves exactly the series that have another value.
+pub fn drop_leaves_others()
+    ensures { DropLeavesOthers }
+{}
+
+/// The lines of a tree are steps from its box to none, and the reverse.
+pub fn tree_is_steps()
+    ensures { TreeIsSteps }
+{}
+
+/// A tree for a box of S series has at most 2·S - 1 lines.
+pub fn tree_is_short()
+    ensures { TreeIsShort }
+{}
+
+/// While the lines of a tree are treated, few boxes wait, each of them inside the model's.
+pub fn few_wait()
+    ensures few { FewWait }
+    ensures parts { WaitingAreParts }
+{}
+
+/// Where spans hold the values of their terms, what is refuted has no series that meets, and what is cut none that
+/// counts.
+pub fn values_are_sound()
+    ensures { ValuesAreSound }
+{}
+
+/// What is accepted is true: of every certificate, whoever wrote it.
+pub fn accepted_holds()
+    ensures { AcceptedHolds }
+{}
+
+/// A certificate is accepted exactly where each of its lines keeps its rule.
+pub fn accepted_is_kept()
+    ensures { AcceptedIsKept }
+{}
+
+/// There is one first failing line, and none in a certificate that is accepted.
+pub fn failing_is_rejected()
+    ensures one { OneFirstFailing }
+    ensures rejected { FailingIsRejected }
+{}
+
+/// What is known of lines as far as they are read, after one more.
+pub fn lines_go_on()
+    ensures { LinesGoOn }
+{}
