@@ -19,3 +19,6 @@ pub mod laws;
 
 pub use bar::Bar;
 pub use excluded::{cuts, refutes};
+
+#[cfg(test)]
+mod tests;
