@@ -1,22 +1,23 @@
 -- What a change leaves of a piece, told in machine numbers.
-use Rattle.std.proofs.Common.{◌≡◌, ◌<◌, ℤ, pos, negsuc, neg_ℤ, ◌+ℤ◌, ◌-ℤ◌, ◌≤ℤ◌, ◌<ℤ◌, Bool, true, false, Option, List, [], sym, ap, ◌∙◌, subst, arith}
+use Rattle.std.proofs.Common.{◌≡◌, ℤ, pos, negsuc, neg_ℤ, ◌+ℤ◌, ◌-ℤ◌, ◌≤ℤ◌, ◌<ℤ◌, true, false, Option, List, [], sym, ap, ◌∙◌, subst, arith}
 use Rattle.std.proofs.lemmas.Int.{ints, to_z-of_z}
 use mir.Val.{SFits, to_z, of_z}
 use mir.Syntax.{w64}
 use Rattle.std.specs.Prelude.{filter, int_le, int_lt, Contains}
 use Rattle.ts_domain.specs.declared.interval.Interval.{Interval}
 use Rattle.ts_domain.specs.Values.{values_of, RangesFrom}
-use Rattle.ts_domain.specs.Pieces.{values_in, IsPiece, IsLastUpTo, IsFirstFrom, SomeUpTo, SomeFrom, IsPartOf, IsPart}
+use Rattle.ts_domain.specs.Pieces.{values_in, IsPiece, IsLastUpTo, IsFirstFrom, IsPartOf, IsPart}
 use Rattle.ts_domain.proofs.Ranges.{values_within}
 use Rattle.ts_domain.proofs.Sets.{each_contains, true_le, true_lt}
-use Rattle.ts_domain.proofs.Places.{small_is, small_fits}
+use Rattle.ts_domain.proofs.Places.{small_is}
 use Rattle.ts_domain.proofs.PieceLaws.{whole_up_to, cut_up_to, none_up_to, whole_above, cut_above, none_above}
 
 -- a machine number
 abbrev pub m : ℤ → ℤ
 m z = to_z w64 (of_z w64 z)
 
-pub value_within : (rs : List Interval) (v : ℤ) → RangesFrom (neg_ℤ (pos 1000000)) rs → Contains (values_of rs) v → (neg_ℤ (pos 1000000) ≤ℤ v) × (v ≤ℤ pos 1000000)
+pub value_within : (rs : List Interval) (v : ℤ) → RangesFrom (neg_ℤ (pos 1000000)) rs → Contains (values_of rs) v →
+    (neg_ℤ (pos 1000000) ≤ℤ v) × (v ≤ℤ pos 1000000)
 value_within rs v a has = each_contains (λ y. (neg_ℤ (pos 1000000) ≤ℤ y) × (y ≤ℤ pos 1000000)) (values_of rs) v (values_within (neg_ℤ (pos 1000000)) rs a) has
 
 pub ends_small : (rs : List Interval) (p : Interval) → RangesFrom (neg_ℤ (pos 1000000)) rs → IsPiece (values_of rs) p → (m p.low ≡ p.low) × (m p.high ≡ p.high)
@@ -43,36 +44,44 @@ not_lt x y a b e f h = turn a b (sym (ap (λ x. int_lt x y) e ∙ ap (int_lt a) 
     turn a b h = grind (arith, ints)
 
 -- up to t
-pub up_whole : (rs : List Interval) (p : Interval) (t : ℤ) → RangesFrom (neg_ℤ (pos 1000000)) rs → IsPiece (values_of rs) p → SFits w64 t → int_le (m p.high) (m t) ≡ true → IsPartOf (values_of rs) (λ v. int_le v t) p p
+pub up_whole : (rs : List Interval) (p : Interval) (t : ℤ) → RangesFrom (neg_ℤ (pos 1000000)) rs → IsPiece (values_of rs) p → SFits w64 t →
+    int_le (m p.high) (m t) ≡ true → IsPartOf (values_of rs) (λ v. int_le v t) p p
 up_whole rs p t a is fits test = whole_up_to (values_of rs) p t is (le_is (m p.high) (m t) p.high t (ends_small rs p a is).1 (to_z-of_z w64 t fits) test)
 
-pub up_cut : (rs : List Interval) (p : Interval) (t v : ℤ) → RangesFrom (neg_ℤ (pos 1000000)) rs → IsPiece (values_of rs) p → SFits w64 t → int_le (m p.high) (m t) ≡ false → int_le (m p.low) (m t) ≡ true → SFits w64 v →
+pub up_cut : (rs : List Interval) (p : Interval) (t v : ℤ) → RangesFrom (neg_ℤ (pos 1000000)) rs → IsPiece (values_of rs) p → SFits w64 t →
+    int_le (m p.high) (m t) ≡ false → int_le (m p.low) (m t) ≡ true → SFits w64 v →
     IsLastUpTo (values_of rs) (m t) v → IsPartOf (values_of rs) (λ v. int_le v t) p (record { low = m p.low; high = m v })
 up_cut rs p t v a is fits to from fit last =
     let e = ends_small rs p a is in let t_is = to_z-of_z w64 t fits in
-    let part = cut_up_to (values_of rs) p t v is (le_is (m p.low) (m t) p.low t e.0 t_is from) (not_le (m p.high) (m t) p.high t e.1 t_is to) (subst (λ t. IsLastUpTo (values_of rs) t v) t_is last) in
+    let part = cut_up_to (values_of rs) p t v is (le_is (m p.low) (m t) p.low t e.0 t_is from) (not_le (m p.high) (m t) p.high t e.1 t_is to)
+    (subst (λ t. IsLastUpTo (values_of rs) t v) t_is last) in
     subst (λ l. IsPartOf (values_of rs) (λ v. int_le v t) p (record { low = l; high = m v })) (sym e.0)
     (subst (λ h. IsPartOf (values_of rs) (λ v. int_le v t) p (record { low = p.low; high = h })) (sym (to_z-of_z w64 v fit)) part)
 
-pub up_none : (rs : List Interval) (p : Interval) (t : ℤ) → RangesFrom (neg_ℤ (pos 1000000)) rs → IsPiece (values_of rs) p → SFits w64 t → int_le (m p.low) (m t) ≡ false → filter (λ v. int_le v t) (values_in (values_of rs) p) ≡ []
+pub up_none : (rs : List Interval) (p : Interval) (t : ℤ) → RangesFrom (neg_ℤ (pos 1000000)) rs → IsPiece (values_of rs) p → SFits w64 t →
+    int_le (m p.low) (m t) ≡ false → filter (λ v. int_le v t) (values_in (values_of rs) p) ≡ []
 up_none rs p t a is fits test = none_up_to (values_of rs) p t (not_le (m p.low) (m t) p.low t (ends_small rs p a is).0 (to_z-of_z w64 t fits) test)
 
 -- above t
-pub above_whole : (rs : List Interval) (p : Interval) (t : ℤ) → RangesFrom (neg_ℤ (pos 1000000)) rs → IsPiece (values_of rs) p → SFits w64 t → int_lt (m t) (m p.low) ≡ true → IsPartOf (values_of rs) (λ v. int_lt t v) p p
+pub above_whole : (rs : List Interval) (p : Interval) (t : ℤ) → RangesFrom (neg_ℤ (pos 1000000)) rs → IsPiece (values_of rs) p → SFits w64 t →
+    int_lt (m t) (m p.low) ≡ true → IsPartOf (values_of rs) (λ v. int_lt t v) p p
 above_whole rs p t a is fits test = whole_above (values_of rs) p t is (lt_is (m t) (m p.low) t p.low (to_z-of_z w64 t fits) (ends_small rs p a is).0 test)
 
-pub above_cut : (rs : List Interval) (p : Interval) (t v : ℤ) → RangesFrom (neg_ℤ (pos 1000000)) rs → IsPiece (values_of rs) p → SFits w64 t → int_lt (m t) (m p.low) ≡ false → int_lt (m t) (m p.high) ≡ true → SFits w64 v →
+pub above_cut : (rs : List Interval) (p : Interval) (t v : ℤ) → RangesFrom (neg_ℤ (pos 1000000)) rs → IsPiece (values_of rs) p → SFits w64 t →
+    int_lt (m t) (m p.low) ≡ false → int_lt (m t) (m p.high) ≡ true → SFits w64 v →
     IsFirstFrom (values_of rs) (m (m t +ℤ pos 1)) v → IsPartOf (values_of rs) (λ v. int_lt t v) p (record { low = m v; high = m p.high })
 above_cut rs p t v a is fits from to fit first =
     let e = ends_small rs p a is in let t_is = to_z-of_z w64 t fits in
     let low = not_lt (m t) (m p.low) t p.low t_is e.0 from in let high = lt_is (m t) (m p.high) t p.high t_is e.1 to in
     let l = value_within rs p.low a is.1 in let h = value_within rs p.high a is.2 in
-    let next : m (m t +ℤ pos 1) ≡ t +ℤ pos 1 = ap (λ x. m (x +ℤ pos 1)) t_is ∙ small_is (t +ℤ pos 1) (omega (arith, ints, l.0, low)) (omega (arith, ints, h.1, high)) in
+    let next : m (m t +ℤ pos 1) ≡ t +ℤ pos 1 = ap (λ x. m (x +ℤ pos 1)) t_is ∙
+    small_is (t +ℤ pos 1) (omega (arith, ints, l.0, low)) (omega (arith, ints, h.1, high)) in
     let part = cut_above (values_of rs) p t v is low high (subst (λ t. IsFirstFrom (values_of rs) t v) next first) in
     subst (λ h. IsPartOf (values_of rs) (λ v. int_lt t v) p (record { low = m v; high = h })) (sym e.1)
     (subst (λ l. IsPartOf (values_of rs) (λ v. int_lt t v) p (record { low = l; high = p.high })) (sym (to_z-of_z w64 v fit)) part)
 
-pub above_none : (rs : List Interval) (p : Interval) (t : ℤ) → RangesFrom (neg_ℤ (pos 1000000)) rs → IsPiece (values_of rs) p → SFits w64 t → int_lt (m t) (m p.high) ≡ false → filter (λ v. int_lt t v) (values_in (values_of rs) p) ≡ []
+pub above_none : (rs : List Interval) (p : Interval) (t : ℤ) → RangesFrom (neg_ℤ (pos 1000000)) rs → IsPiece (values_of rs) p → SFits w64 t →
+    int_lt (m t) (m p.high) ≡ false → filter (λ v. int_lt t v) (values_in (values_of rs) p) ≡ []
 above_none rs p t a is fits test = none_above (values_of rs) p t (not_lt (m t) (m p.high) t p.high (to_z-of_z w64 t fits) (ends_small rs p a is).1 test)
 
 -- below a number
@@ -90,13 +99,15 @@ below_next low gone from lt fits =
     ap (λ x. m (x -ℤ pos 1)) (to_z-of_z w64 gone fits) ∙
     to_z-of_z w64 (gone -ℤ pos 1) (fits_of (gone -ℤ pos 1) (omega (arith, ints, from, lt)) (omega (arith, ints, to)))
 
-pub below_some : (rs : List Interval) (p : Interval) (gone : ℤ) (o : Option Interval) → RangesFrom (neg_ℤ (pos 1000000)) rs → IsPiece (values_of rs) p → SFits w64 gone → int_lt (m p.low) (m gone) ≡ true →
+pub below_some : (rs : List Interval) (p : Interval) (gone : ℤ) (o : Option Interval) → RangesFrom (neg_ℤ (pos 1000000)) rs → IsPiece (values_of rs) p →
+    SFits w64 gone → int_lt (m p.low) (m gone) ≡ true →
     IsPart (values_of rs) (λ v. int_le v (m (m gone -ℤ pos 1))) p o → IsPart (values_of rs) (λ v. int_le v (gone -ℤ pos 1)) p o
 below_some rs p gone o a is fits test part =
     let lt = lt_is (m p.low) (m gone) p.low gone (ends_small rs p a is).0 (to_z-of_z w64 gone fits) test in
     subst (λ t. IsPart (values_of rs) (λ v. int_le v t) p o) (below_next p.low gone (value_within rs p.low a is.1).0 lt fits) part
 
-pub below_none : (rs : List Interval) (p : Interval) (gone : ℤ) → RangesFrom (neg_ℤ (pos 1000000)) rs → IsPiece (values_of rs) p → SFits w64 gone → int_lt (m p.low) (m gone) ≡ false →
+pub below_none : (rs : List Interval) (p : Interval) (gone : ℤ) → RangesFrom (neg_ℤ (pos 1000000)) rs → IsPiece (values_of rs) p → SFits w64 gone →
+    int_lt (m p.low) (m gone) ≡ false →
     filter (λ v. int_le v (gone -ℤ pos 1)) (values_in (values_of rs) p) ≡ []
 below_none rs p gone a is fits test =
     let le = not_lt (m p.low) (m gone) p.low gone (ends_small rs p a is).0 (to_z-of_z w64 gone fits) test in

@@ -1,5 +1,5 @@
 -- Joining ranges that come by rising low ends: what is done and what is left have the numbers of all of them.
-use Rattle.std.proofs.Common.{◌≡◌, ℕ, zero, suc, ◌+◌, ◌<◌, ◌≤◌, ℤ, pos, negsuc, neg_ℤ, ◌+ℤ◌, ◌≤ℤ◌, ◌<ℤ◌, ◌⊎◌, inl, inr, ◌↔◌, List, [], ◌∷◌, ◌++◌, length, get_or, drop, sym, ap, ◌∙◌, subst, arith}
+use Rattle.std.proofs.Common.{◌≡◌, ℕ, zero, suc, ◌+◌, ◌<◌, ◌≤◌, ℤ, pos, neg_ℤ, ◌+ℤ◌, ◌≤ℤ◌, ◌<ℤ◌, ◌⊎◌, inl, inr, ◌↔◌, List, [], ◌∷◌, ◌++◌, length, get_or, drop, sym, ap, ◌∙◌, subst, arith}
 use Rattle.std.proofs.lemmas.Int.{ints, by_lt_z, to_z-of_z}
 use mir.Val.{SFits, to_z, of_z}
 use mir.Syntax.{w64}
@@ -10,6 +10,7 @@ use Rattle.ts_domain.specs.declared.interval.Interval.{Interval}
 use Rattle.ts_domain.specs.Values.{values_of, RangesFrom, AreRanges}
 use Rattle.ts_domain.specs.Union.{InSome, LowsRise}
 use Rattle.ts_domain.proofs.Ranges.{value_in_some, some_has_value}
+use Rattle.ts_domain.proofs.Places.{small_fits}
 use Rattle.ts_domain.proofs.Unions.{rises_from, last_range, last_grown, one_more_range, in_append, in_left, in_right}
 
 -- the ranges done stand apart, the last of them may still grow, and the next one begins no earlier than it does
@@ -180,10 +181,6 @@ next_within sorted done last i d j h =
     let l = last_range (neg_ℤ (pos 1000000)) done last j.apart in
     let r = next_rises last.low (get_or sorted i d) (drop (i + 1) sorted) (drop i sorted) (next_off sorted i d h) j.rest in
     (omega (arith, ints, l.0, r.0), omega (arith, ints, r.1, r.2), omega (arith, ints, l.0, r.0, r.1), r.2)
-
-small_fits : (z : ℤ) → neg_ℤ (pos 1000000) ≤ℤ z → z ≤ℤ pos 1000000 → SFits w64 z
-small_fits (pos n) from to = record { sfits = omega (arith, ints, from, to) }
-small_fits (negsuc n) from to = record { sfits = omega (arith, ints, from, to) }
 
 pub max_is : (a b m h : ℤ) → neg_ℤ (pos 1000000) ≤ℤ a → a ≤ℤ pos 1000000 → neg_ℤ (pos 1000000) ≤ℤ b → b ≤ℤ pos 1000000 → SFits w64 m →
     m ≡ int_max (to_z w64 (of_z w64 a)) (to_z w64 (of_z w64 b)) → h ≡ to_z w64 (of_z w64 m) → h ≡ int_max a b

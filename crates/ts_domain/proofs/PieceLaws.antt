@@ -1,20 +1,13 @@
 -- Pieces of a set: what a test leaves of a piece, and the numbers of pieces that rise.
-use Rattle.std.proofs.Common.{◌≡◌, ℕ, zero, suc, ◌+◌, ◌<◌, ◌≤◌, ℤ, pos, neg_ℤ, ◌+ℤ◌, ◌-ℤ◌, ◌≤ℤ◌, ◌<ℤ◌, ◌⊎◌, inl, inr, ◌↔◌, Bool, true, false, cond, ◌&&◌, Option, None, Some}
-use Rattle.std.proofs.Common.{List, [], ◌∷◌, ◌++◌, length, get_or, drop, refl, sym, ap, ◌∙◌, subst, arith, append_assoc}
+use Rattle.std.proofs.Common.{◌≡◌, ℤ, pos, ◌+ℤ◌, ◌≤ℤ◌, ◌<ℤ◌, ◌↔◌, Bool, true, false, ◌&&◌, Option, None, Some}
+use Rattle.std.proofs.Common.{List, [], ◌∷◌, ◌++◌, refl, sym, ◌∙◌, subst, arith}
 use Rattle.std.proofs.lemmas.Int.{ints}
-use Rattle.std.proofs.lemmas.List.{append-nil}
-use Rattle.std.proofs.lemmas.List.Elements.{filter-append}
 use Rattle.std.specs.Prelude.{filter, int_le, int_lt, Contains}
 use Rattle.std.specs.Option.{option_to_list}
-use Rattle.std.specs.List.{AllByRecursion}
 use Rattle.ts_domain.specs.declared.interval.Interval.{Interval}
-use Rattle.ts_domain.specs.declared.keep.Keep.{Keep}
-use Rattle.ts_domain.specs.declared.keep.Keep.TheVariants.{UpTo, Above, AllBut}
-use Rattle.ts_domain.specs.Values.{Rising, IsDomain, WithinLimits, values_of, AreRanges}
-use Rattle.ts_domain.specs.Kept.{kept, low_side, high_side}
-use Rattle.ts_domain.specs.Pieces.{is_in, values_in, values_by, IsPiece, PiecesFrom, IsCut, IsLastUpTo, IsFirstFrom, IsPartOf, IsPart}
-use Rattle.ts_domain.proofs.Sets.{contains_filter, nothing_in, filter_alike, filter_none, filter_both, same_test, each_contains, each_from, rising_filter, rising_append, all_append}
-use Rattle.ts_domain.proofs.Sets.{le_true, true_le, lt_true, true_lt, le_false, lt_false, two_sides}
+use Rattle.ts_domain.specs.Pieces.{is_in, values_in, IsPiece, PiecesFrom, IsLastUpTo, IsFirstFrom, IsPartOf, IsPart}
+use Rattle.ts_domain.proofs.Sets.{contains_filter, nothing_in, filter_alike, filter_none, filter_both, same_test}
+use Rattle.ts_domain.proofs.Sets.{le_true, true_le, lt_true, true_lt, le_false, lt_false}
 
 -- a number in a piece
 pub in_ends : (p : Interval) (v : ℤ) → is_in p v ≡ true → (p.low ≤ℤ v) × (v ≤ℤ p.high)
@@ -25,11 +18,13 @@ ends_in p v from to = grind (arith, ints)
 
 pub contains_in : (all : List ℤ) (p : Interval) (v : ℤ) → Contains (values_in all p) v ↔ (Contains all v × (p.low ≤ℤ v) × (v ≤ℤ p.high))
 unfolding values_in
-contains_in all p v = let f = contains_filter (is_in p) all v in (λ h. let g = f.0 h in let e = in_ends p v g.1 in (g.0, e.0, e.1), λ h. f.1 (h.0, ends_in p v h.1 h.2))
+contains_in all p v = let f = contains_filter (is_in p) all v in
+    (λ h. let g = f.0 h in let e = in_ends p v g.1 in (g.0, e.0, e.1), λ h. f.1 (h.0, ends_in p v h.1 h.2))
 
 -- a piece has the numbers of another one that pass a test
 pub part_same : (all : List ℤ) (test : ℤ → Bool) (p q : Interval) →
-    ((v : ℤ) → Contains all v → ((p.low ≤ℤ v) × (v ≤ℤ p.high) × (test v ≡ true)) ↔ ((q.low ≤ℤ v) × (v ≤ℤ q.high))) → values_in all q ≡ filter test (values_in all p)
+    ((v : ℤ) → Contains all v → ((p.low ≤ℤ v) × (v ≤ℤ p.high) × (test v ≡ true)) ↔ ((q.low ≤ℤ v) × (v ≤ℤ q.high))) →
+    values_in all q ≡ filter test (values_in all p)
 unfolding values_in
 part_same all test p q h =
     filter_alike (is_in q) (λ v. is_in p v && test v) all (λ v has. same_test (is_in q v) (is_in p v && test v)
@@ -60,10 +55,14 @@ whole_up_to all p t is h = record {
     under : (a b c : ℤ) → a ≤ℤ b → b ≤ℤ c → a ≤ℤ c
     under a b c h g = omega (arith, ints, h, g)
 
-pub cut_up_to : (all : List ℤ) (p : Interval) (t v : ℤ) → IsPiece all p → p.low ≤ℤ t → t <ℤ p.high → IsLastUpTo all t v → IsPartOf all (λ v. int_le v t) p (record { low = p.low; high = v })
+pub cut_up_to : (all : List ℤ) (p : Interval) (t v : ℤ) → IsPiece all p → p.low ≤ℤ t → t <ℤ p.high → IsLastUpTo all t v →
+    IsPartOf all (λ v. int_le v t) p (record { low = p.low; high = v })
 cut_up_to all p t v is from to last = record {
   same = part_same all (λ v. int_le v t) p (record { low = p.low; high = v })
-      (λ w has. (λ g. (g.0, last.greatest w has (true_le w t g.2)), λ g. (g.0, before w v t p.high g.1 last.within to, le_true w t (under w v t g.1 last.within))));
+      (λ w has. (
+        λ g. (g.0, last.greatest w has (true_le w t g.2)),
+        λ g. (g.0, before w v t p.high g.1 last.within to, le_true w t (under w v t g.1 last.within)),
+      ));
   piece = (last.greatest p.low is.1 from, is.1, last.has);
   from = omega (arith, ints);
   to = omega (arith, ints, last.within, to);
@@ -93,10 +92,14 @@ whole_above all p t is h = record {
     over : (a b c : ℤ) → a <ℤ b → b ≤ℤ c → a <ℤ c
     over a b c h g = omega (arith, ints, h, g)
 
-pub cut_above : (all : List ℤ) (p : Interval) (t v : ℤ) → IsPiece all p → p.low ≤ℤ t → t <ℤ p.high → IsFirstFrom all (t +ℤ pos 1) v → IsPartOf all (λ v. int_lt t v) p (record { low = v; high = p.high })
+pub cut_above : (all : List ℤ) (p : Interval) (t v : ℤ) → IsPiece all p → p.low ≤ℤ t → t <ℤ p.high → IsFirstFrom all (t +ℤ pos 1) v →
+    IsPartOf all (λ v. int_lt t v) p (record { low = v; high = p.high })
 cut_above all p t v is from to first = record {
   same = part_same all (λ v. int_lt t v) p (record { low = v; high = p.high })
-      (λ w has. (λ g. (first.least w has (next t w (true_lt t w g.2)), g.1), λ g. (behind p.low t v w from first.within g.0, g.1, lt_true t w (past t v w first.within g.0))));
+      (λ w has. (
+        λ g. (first.least w has (next t w (true_lt t w g.2)), g.1),
+        λ g. (behind p.low t v w from first.within g.0, g.1, lt_true t w (past t v w first.within g.0)),
+      ));
   piece = (first.least p.high is.2 (next t p.high to), first.has, is.2);
   from = omega (arith, ints, first.within, from);
   to = omega (arith, ints);
@@ -135,7 +138,8 @@ pieces_earlier f g all (p ∷ ps) h a = (omega (arith, ints, h, a.0), a.1, a.2)
 
 -- one part or none goes before pieces that begin behind it
 pub part_before : (f to : ℤ) (all : List ℤ) (test : ℤ → Bool) (p : Interval) (o : Option Interval) (rest : List Interval) → f ≤ℤ p.low → IsPart all test p o →
-    ((q : Interval) → IsPartOf all test p q → (f ≤ℤ q.low) × ((q.high +ℤ pos 1) ≤ℤ to)) → f ≤ℤ to → PiecesFrom to all rest → PiecesFrom f all (option_to_list o ++ rest)
+    ((q : Interval) → IsPartOf all test p q → (f ≤ℤ q.low) × ((q.high +ℤ pos 1) ≤ℤ to)) → f ≤ℤ to → PiecesFrom to all rest →
+    PiecesFrom f all (option_to_list o ++ rest)
 unfolding PiecesFrom
 part_before f to all test p None rest from is fit le a = pieces_earlier f to all rest le a
 part_before f to all test p (Some q) rest from is fit le a = let h = fit q is in (h.0, is.piece, pieces_earlier (q.high +ℤ pos 1) to all rest h.1 a)

@@ -1,7 +1,7 @@
 -- What a change leaves of pieces: exactly the numbers that it keeps, in pieces that rise.
-use Rattle.std.proofs.Common.{◌≡◌, ℕ, zero, suc, ◌+◌, ◌<◌, ◌≤◌, ℤ, pos, neg_ℤ, ◌+ℤ◌, ◌-ℤ◌, ◌≤ℤ◌, ◌<ℤ◌, Bool, true, false, Option, None, Some, List, [], ◌∷◌, ◌++◌, length, get_or, drop, refl, sym, ap, ◌∙◌, subst, arith, append_assoc}
+use Rattle.std.proofs.Common.{◌≡◌, ℕ, suc, ◌+◌, ◌<◌, ◌≤◌, ℤ, pos, neg_ℤ, ◌+ℤ◌, ◌-ℤ◌, ◌≤ℤ◌, Bool, true, false, Option, None, Some, List, [], ◌∷◌, ◌++◌, length, get_or, drop, refl, sym, ap, ◌∙◌, subst, arith, append_assoc}
 use Rattle.std.proofs.lemmas.Int.{ints}
-use Rattle.std.proofs.lemmas.List.{append-nil}
+use Rattle.std.proofs.lemmas.List.{append-nil, drop_all}
 use Rattle.std.proofs.lemmas.List.Elements.{filter-append}
 use Rattle.std.proofs.Math.Seq.{drop-cons}
 use Rattle.std.specs.Prelude.{filter, int_le, int_lt}
@@ -9,11 +9,11 @@ use Rattle.std.specs.Option.{option_to_list}
 use Rattle.ts_domain.specs.declared.interval.Interval.{Interval}
 use Rattle.ts_domain.specs.declared.keep.Keep.{Keep}
 use Rattle.ts_domain.specs.declared.keep.Keep.TheVariants.{UpTo, Above, AllBut}
-use Rattle.ts_domain.specs.Values.{Rising, values_of, AreRanges}
+use Rattle.ts_domain.specs.Values.{Rising, values_of}
 use Rattle.ts_domain.specs.Kept.{kept, low_side, high_side}
-use Rattle.ts_domain.specs.Pieces.{is_in, values_in, values_by, IsPiece, PiecesFrom, IsCut, IsPartOf, IsPart, AreParts}
-use Rattle.ts_domain.proofs.Ranges.{values_rise}
-use Rattle.ts_domain.proofs.Sets.{filter_none, rising_filter, other_than, true_le, true_lt, two_sides}
+use Rattle.ts_domain.specs.Pieces.{values_in, values_by, PiecesFrom, IsCut, IsPart, AreParts}
+use Rattle.ts_domain.proofs.Sets.{filter_none, other_than, true_le, true_lt, two_sides}
+use Rattle.ts_domain.proofs.PieceSets.{in_rises}
 use Rattle.ts_domain.proofs.PieceLaws.{pieces_earlier, part_high, part_low}
 
 -- a number below the gap of a change is below each one above it
@@ -57,7 +57,8 @@ by-append all [] qs = refl
 by-append all (p ∷ ps) qs = ap (λ l. values_in all p ++ l) (by-append all ps qs) ∙ sym (append_assoc (values_in all p) (values_by all ps) (values_by all qs))
 
 -- a part has what its test leaves
-part_values : (all : List ℤ) (test : ℤ → Bool) (p : Interval) (o : Option Interval) → IsPart all test p o → values_by all (option_to_list o) ≡ filter test (values_in all p)
+part_values : (all : List ℤ) (test : ℤ → Bool) (p : Interval) (o : Option Interval) → IsPart all test p o →
+    values_by all (option_to_list o) ≡ filter test (values_in all p)
 unfolding values_by
 part_values all test p None is = sym is
 part_values all test p (Some q) is = append-nil (values_in all q) ∙ is.same
@@ -77,11 +78,8 @@ kept-nil (UpTo t) = refl
 kept-nil (Above t) = refl
 kept-nil (AllBut gone) = refl
 
-in_rises : (all : List ℤ) (p : Interval) → Rising all → Rising (values_in all p)
-unfolding values_in
-in_rises all p rise = rising_filter (is_in p) all rise
-
-parts_same : (all : List ℤ) (keep : Keep) (p : Interval) (lower upper : Option Interval) → Rising all → IsPart all (low_side keep) p lower → IsPart all (high_side keep) p upper →
+parts_same : (all : List ℤ) (keep : Keep) (p : Interval) (lower upper : Option Interval) → Rising all → IsPart all (low_side keep) p lower →
+    IsPart all (high_side keep) p upper →
     values_by all (option_to_list lower) ++ values_by all (option_to_list upper) ≡ kept keep (values_in all p)
 parts_same all keep p lower upper rise low high =
     ap (λ l. l ++ values_by all (option_to_list upper)) (part_values all (low_side keep) p lower low) ∙
@@ -93,7 +91,8 @@ pub record Changing (all : List ℤ) (keep : Keep) (pieces left : List Interval)
   pub apart : PiecesFrom (neg_ℤ (pos 1000000)) all (left ++ drop i pieces)
   pub same : values_by all left ++ kept keep (values_by all (drop i pieces)) ≡ kept keep (values_by all pieces)
 
-pub changing_none : (all : List ℤ) (keep : Keep) (pieces left : List Interval) → PiecesFrom (neg_ℤ (pos 1000000)) all pieces → left ≡ [] → Changing all keep pieces left 0
+pub changing_none : (all : List ℤ) (keep : Keep) (pieces left : List Interval) → PiecesFrom (neg_ℤ (pos 1000000)) all pieces → left ≡ [] →
+    Changing all keep pieces left 0
 unfolding values_by
 changing_none all keep pieces left a none = subst (λ l. Changing all keep pieces l 0) (sym none) (record { apart = a; same = refl })
 
@@ -132,18 +131,12 @@ changing_more all keep pieces left after i d rise h is parts =
           ∙ sym (ap (λ l. values_by all left ++ kept keep (values_by all l)) o) ∙ is.same;
     }
 
-drop_past : (ps : List Interval) (i : ℕ) → length ps ≤ i → drop i ps ≡ []
-drop_past [] zero h = refl
-drop_past [] (suc i) h = refl
-drop_past (p ∷ ps) zero h = absurd (omega (arith, h))
-drop_past (p ∷ ps) (suc i) h = drop_past ps i (omega (arith, h))
-
 pub changed_all : (rs pieces left : List Interval) (keep : Keep) (i : ℕ) → IsCut rs pieces → (kept keep (values_by (values_of rs) pieces) ≡ [] → ⊥) →
     length pieces ≤ i → Changing (values_of rs) keep pieces left i →
     IsCut rs left × (values_by (values_of rs) left ≡ kept keep (values_by (values_of rs) pieces))
 unfolding values_by
 changed_all rs pieces left keep i cut stays past is =
-    let none = drop_past pieces i past in let all = values_of rs in
+    let none = drop_all i pieces past in let all = values_of rs in
     let same : values_by all left ≡ kept keep (values_by all pieces) =
     sym (append-nil (values_by all left)) ∙ ap (λ l. values_by all left ++ l) (sym (kept-nil keep)) ∙
     ap (λ l. values_by all left ++ kept keep (values_by all l)) (sym none) ∙ is.same in (

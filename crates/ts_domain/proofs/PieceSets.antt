@@ -1,11 +1,11 @@
 -- The numbers of pieces are a set: they rise, they lie within the limits, and a number of it lies in some piece.
-use Rattle.std.proofs.Common.{◌≡◌, ℕ, zero, suc, ◌+◌, ◌-◌, ◌<◌, ◌≤◌, ℤ, pos, neg_ℤ, ◌+ℤ◌, ◌≤ℤ◌, ◌<ℤ◌, ◌-ℤ◌, ◌⊎◌, inl, inr, ◌↔◌, IsTrue, Bool, true, false, cond, ◌&&◌, ◌||◌}
+use Rattle.std.proofs.Common.{◌≡◌, ℕ, zero, suc, ◌-◌, ◌<◌, ◌≤◌, ℤ, pos, neg_ℤ, ◌+ℤ◌, ◌≤ℤ◌, ◌<ℤ◌, ◌-ℤ◌, inl, inr, ◌↔◌, IsTrue, Bool, true, false, ◌||◌}
 use Rattle.std.proofs.Common.{List, [], ◌∷◌, ◌++◌, length, get_or, refl, sym, ap, ◌∙◌, subst, arith}
 use Rattle.std.proofs.lemmas.Int.{ints}
 use Rattle.std.proofs.lemmas.Bool.{or_cases, both_ways}
 use Rattle.std.proofs.lemmas.List.{append-nil}
 use Rattle.std.proofs.lemmas.List.Elements.{Contains-append_cases, Contains-append_left, Contains-append_right}
-use Rattle.std.specs.Prelude.{filter, Contains}
+use Rattle.std.specs.Prelude.{Contains}
 use Rattle.std.specs.List.{AllByRecursion, list_any}
 use Rattle.ts_domain.specs.declared.interval.Interval.{Interval}
 use Rattle.ts_domain.specs.Values.{Rising, IsDomain, WithinLimits, values_between, values_of, RangesFrom, AreRanges}
@@ -13,20 +13,17 @@ use Rattle.ts_domain.specs.Union.{InSome}
 use Rattle.ts_domain.specs.Pieces.{is_in, values_in, values_by, IsPiece, PiecesFrom, IsCut}
 use Rattle.ts_domain.proofs.Runs.{in_between}
 use Rattle.ts_domain.proofs.Ranges.{values_rise, values_within, value_in_some, some_has_value, ranges_are_domain}
-use Rattle.ts_domain.proofs.Sets.{contains_cons, nothing_in, filter_none, each_contains, each_from, each_filter, rising_filter, all_append, rising_append}
+use Rattle.ts_domain.proofs.Sets.{pass_all, all_weaker, contains_cons, nothing_in, each_contains, each_from, each_filter, rising_filter, all_append, rising_append}
 use Rattle.ts_domain.proofs.Places.{ends_are}
 use Rattle.ts_domain.proofs.CutLaws.{m}
 use Rattle.ts_domain.proofs.PieceLaws.{contains_in, in_ends, ends_in, low_in, high_in}
-
-all_weaker : (P Q : ℤ → Type 0) → ((v : ℤ) → P v → Q v) → (xs : List ℤ) → AllByRecursion P xs → AllByRecursion Q xs
-all_weaker P Q f [] a = tt
-all_weaker P Q f (x ∷ xs) a = (f x a.0, all_weaker P Q f xs a.1)
 
 pub in_rises : (all : List ℤ) (p : Interval) → Rising all → Rising (values_in all p)
 unfolding values_in
 in_rises all p rise = rising_filter (is_in p) all rise
 
-pieces_rise : (f : ℤ) (all : List ℤ) (ps : List Interval) → Rising all → PiecesFrom f all ps → Rising (values_by all ps) × AllByRecursion (λ v. f ≤ℤ v) (values_by all ps)
+pieces_rise : (f : ℤ) (all : List ℤ) (ps : List Interval) → Rising all → PiecesFrom f all ps →
+    Rising (values_by all ps) × AllByRecursion (λ v. f ≤ℤ v) (values_by all ps)
 unfolding PiecesFrom values_by Rising
 pieces_rise f all [] rise a = (tt, tt)
 pieces_rise f all (p ∷ ps) rise a =
@@ -84,7 +81,8 @@ few_rising : (f : ℤ) (xs : List ℤ) → f ≤ℤ pos 1000001 → Rising xs �
 unfolding Rising
 few_rising f [] h rise low high = omega (arith, ints, h)
 few_rising f (x ∷ xs) h rise low high =
-    let later = few_rising (x +ℤ pos 1) xs (omega (arith, ints, high.0)) rise.1 (all_weaker (λ v. x <ℤ v) (λ v. (x +ℤ pos 1) ≤ℤ v) (λ v g. next x v g) xs rise.0) high.1 in
+    let later = few_rising (x +ℤ pos 1) xs (omega (arith, ints, high.0)) rise.1
+    (all_weaker (λ v. x <ℤ v) (λ v. (x +ℤ pos 1) ≤ℤ v) (λ v g. next x v g) xs rise.0) high.1 in
     omega (arith, ints, later, low.0)
   where
     next : (a b : ℤ) → a <ℤ b → (a +ℤ pos 1) ≤ℤ b
@@ -94,7 +92,8 @@ pub few_by : (rs ps : List Interval) → IsCut rs ps → length (values_by (valu
 few_by rs ps cut =
     let d = cut_is_domain rs ps (values_by (values_of rs) ps) refl cut in let all = values_by (values_of rs) ps in
     let n = few_rising (neg_ℤ (pos 1000000)) all (omega (arith, ints)) d.rising
-    (all_weaker WithinLimits (λ v. neg_ℤ (pos 1000000) ≤ℤ v) (λ v h. h.0) all d.within) (all_weaker WithinLimits (λ v. v ≤ℤ pos 1000000) (λ v h. h.1) all d.within) in
+    (all_weaker WithinLimits (λ v. neg_ℤ (pos 1000000) ≤ℤ v) (λ v h. h.0) all d.within)
+    (all_weaker WithinLimits (λ v. v ≤ℤ pos 1000000) (λ v h. h.1) all d.within) in
     omega (arith, ints, n)
 
 -- a number lies in a piece
@@ -175,7 +174,8 @@ single_piece rs ps (p ∷ []) values d b view cut same some few test =
     between : (l h v : ℤ) → l ≤ℤ v → v ≤ℤ h → l ≡ h → v ≡ l
     between l h v from to e = omega (arith, ints, from, to, e)
 
-pub more_pieces : (rs ps items : List Interval) (values : List ℤ) → values_by (values_of rs) ps ≡ values → IsCut rs ps → items ≡ ps → 2 ≤ length items → length values ≡ 1 → ⊥
+pub more_pieces : (rs ps items : List Interval) (values : List ℤ) → values_by (values_of rs) ps ≡ values → IsCut rs ps → items ≡ ps → 2 ≤ length items →
+    length values ≡ 1 → ⊥
 unfolding PiecesFrom
 more_pieces rs ps [] values view cut same more one = omega (arith, more)
 more_pieces rs ps (p ∷ []) values view cut same more one = omega (arith, more)
@@ -200,7 +200,8 @@ tops f (r ∷ q ∷ qs) zero d a e = absurd (omega (arith, e))
 tops f (r ∷ q ∷ qs) (suc n) d a e =
     let later = tops (r.high +ℤ pos 2) (q ∷ qs) n d a.3 (omega (arith, e)) in
     let high = (get_or (q ∷ qs) n d).high in
-    let least = each_contains (λ y. ((r.high +ℤ pos 2) ≤ℤ y) × (y ≤ℤ pos 1000000)) (values_of (q ∷ qs)) high (values_within (r.high +ℤ pos 2) (q ∷ qs) a.3) later.0 in (
+    let least = each_contains (λ y. ((r.high +ℤ pos 2) ≤ℤ y) × (y ≤ℤ pos 1000000)) (values_of (q ∷ qs)) high (values_within (r.high +ℤ pos 2) (q ∷ qs) a.3)
+    later.0 in (
       Contains-append_right (values_between r.low r.high) (values_of (q ∷ qs)) high later.0,
       λ v has. elim (Contains-append_cases (values_between r.low r.high) (values_of (q ∷ qs)) v has) [
         | inl here ↦ under v r.high high (in_between r.low r.high v (omega (arith, ints, a.1)) here).1 least.0
@@ -211,13 +212,8 @@ tops f (r ∷ q ∷ qs) (suc n) d a e =
     under : (v h g : ℤ) → v ≤ℤ h → (h +ℤ pos 2) ≤ℤ g → v ≤ℤ g
     under v h g a b = omega (arith, ints, a, b)
 
-pub pass_all : (f : ℤ → Bool) (xs : List ℤ) → ((v : ℤ) → Contains xs v → f v ≡ true) → filter f xs ≡ xs
-pass_all f [] h = refl
-pass_all f (x ∷ xs) h =
-    ap (λ b. cond b (x ∷ filter f xs) (filter f xs)) (h x ((contains_cons x xs x).1 (inl refl))) ∙
-    ap (λ l. x ∷ l) (pass_all f xs (λ v has. h v ((contains_cons x xs v).1 (inr has))))
-
-pub whole_cut : (rs ps : List Interval) (p d : Interval) (n : ℕ) → AreRanges rs → suc n ≡ length rs → p.low ≡ (get_or rs 0 d).low → p.high ≡ (get_or rs n d).high →
+pub whole_cut : (rs ps : List Interval) (p d : Interval) (n : ℕ) → AreRanges rs → suc n ≡ length rs → p.low ≡ (get_or rs 0 d).low →
+    p.high ≡ (get_or rs n d).high →
     ps ≡ p ∷ [] → IsCut rs ps × (values_by (values_of rs) ps ≡ values_of rs)
 unfolding RangesFrom InSome PiecesFrom values_in values_by
 whole_cut [] ps p d n are size low high is = absurd (omega (arith, size))
@@ -226,7 +222,11 @@ whole_cut (r ∷ rs) ps p d n are size low high is =
     let has_low = some_has_value (r ∷ rs) r.low (inl (omega (arith, ints), a.1)) in
     let within = values_within r.low (r ∷ rs) (omega (arith, ints), a.1, a.2, a.3) in
     let order = t.1 r.low has_low in
-    let piece : IsPiece all p = (omega (arith, ints, low, high, order), subst (λ v. Contains all v) (sym low) has_low, subst (λ v. Contains all v) (sym high) t.0) in (
+    let piece : IsPiece all p = (
+      omega (arith, ints, low, high, order),
+      subst (λ v. Contains all v) (sym low) has_low,
+      subst (λ v. Contains all v) (sym high) t.0,
+    ) in (
       subst (λ l. IsCut (r ∷ rs) l) (sym is) (record { set = are; apart = (omega (arith, ints, low, a.0), piece, tt); some = λ e. omega (arith, ap length e) }),
       ap (values_by all) is ∙ append-nil (values_in all p) ∙
           pass_all (is_in p) all (λ v has. ends_in p v

@@ -1,10 +1,9 @@
 -- Where a number lies among ranges that stand apart: behind those that end below it, in the last one that begins at it or below.
-use Rattle.std.proofs.Common.{◌≡◌, ℕ, zero, suc, ◌+◌, ◌-◌, ◌<◌, ◌≤◌, ℤ, pos, negsuc, neg_ℤ, ◌+ℤ◌, ◌≤ℤ◌, ◌<ℤ◌, inl, inr, ◌↔◌, Bool, true, false, cond, List, [], ◌∷◌, length, get_or}
+use Rattle.std.proofs.Common.{◌≡◌, ℕ, zero, suc, ◌-◌, ◌<◌, ◌≤◌, ℤ, pos, negsuc, neg_ℤ, ◌+ℤ◌, ◌≤ℤ◌, ◌<ℤ◌, inl, inr, ◌↔◌, Bool, true, false, cond, List, [], ◌∷◌, length, get_or}
 use Rattle.std.proofs.Common.{IsTrue, nat_lt, refl, sym, ap, ◌∙◌, subst, arith}
 use Rattle.std.proofs.lemmas.Int.{ints, to_z-of_z}
 use mir.Val.{SFits, to_z, of_z}
 use mir.Syntax.{w64}
-use Rattle.std.proofs.lemmas.Bool.{both_ways}
 use Rattle.std.specs.Prelude.{int_le, int_lt, Contains}
 use Rattle.std.specs.Int.{int_max, int_min}
 use Rattle.std.specs.List.Sorted.{IsPartitionPoint, IsPartitionedBy}
@@ -18,12 +17,16 @@ abbrev bottom : ℤ
 bottom = neg_ℤ (pos 1000000)
 
 -- a partition point counts those that pass
-pub leading_at : (test : Interval → Bool) (rs : List Interval) (n : ℕ) → n ≤ length rs → IsPartitionPoint (λ r. test r ≡ true) (λ r. test r ≡ false) rs n → n ≡ leading test rs
+pub leading_at : (test : Interval → Bool) (rs : List Interval) (n : ℕ) → n ≤ length rs → IsPartitionPoint (λ r. test r ≡ true) (λ r. test r ≡ false) rs n →
+    n ≡ leading test rs
 unfolding leading
 leading_at test [] n fits at = omega (arith, fits)
 leading_at test (r ∷ rs) zero fits at = sym (ap (λ b. cond b (suc (leading test rs)) zero) (at.1 0 r (omega arith) (omega arith)))
 leading_at test (r ∷ rs) (suc n) fits at =
-    let rest = leading_at test rs n (omega (arith, fits)) (λ k d from to. at.0 (suc k) d (omega arith) (omega (arith, to)), λ k d from to. at.1 (suc k) d (omega (arith, from)) (omega (arith, to))) in
+    let rest = leading_at test rs n (omega (arith, fits)) (
+      λ k d from to. at.0 (suc k) d (omega arith) (omega (arith, to)),
+      λ k d from to. at.1 (suc k) d (omega (arith, from)) (omega (arith, to)),
+    ) in
     ap suc rest ∙ sym (ap (λ b. cond b (suc (leading test rs)) zero) (at.0 0 r (omega arith) (omega arith)))
 
 -- the ends of a range are machine numbers
@@ -37,7 +40,10 @@ small_is z from to = to_z-of_z w64 z (small_fits z from to)
 pub ends_are : (rs : List Interval) (n : ℕ) (d : Interval) → RangesFrom bottom rs → n < length rs →
     (to_z w64 (of_z w64 (get_or rs n d).low) ≡ (get_or rs n d).low) × (to_z w64 (of_z w64 (get_or rs n d).high) ≡ (get_or rs n d).high)
 ends_are rs n d a below =
-    let r = range_at bottom rs n d a below in (small_is (get_or rs n d).low r.0 (omega (arith, ints, r.1, r.2)), small_is (get_or rs n d).high (omega (arith, ints, r.0, r.1)) r.2)
+    let r = range_at bottom rs n d a below in (
+      small_is (get_or rs n d).low r.0 (omega (arith, ints, r.1, r.2)),
+      small_is (get_or rs n d).high (omega (arith, ints, r.0, r.1)) r.2,
+    )
 
 -- both ends rise from range to range
 pub ends_rise : (f : ℤ) (rs : List Interval) (i j : ℕ) (d : Interval) → RangesFrom f rs → i ≤ j → j < length rs →
@@ -66,7 +72,11 @@ highs_parted f t rs a i j d le below up = under (get_or rs i d).high (get_or rs 
 pub in_from : (f v : ℤ) (rs : List Interval) → RangesFrom f rs → InSome rs v → f ≤ℤ v
 unfolding RangesFrom InSome
 in_from f v [] a h = absurd h
-in_from f v (r ∷ rs) a h = elim h [ inl here ↦ omega (arith, ints, a.0, here.0) | inr there ↦ let later = in_from (r.high +ℤ pos 2) v rs a.3 there in omega (arith, ints, later, a.0, a.1) ]
+in_from f v (r ∷ rs) a h = elim h [
+  | inl here ↦ omega (arith, ints, a.0, here.0)
+  | inr there ↦ let later = in_from (r.high +ℤ pos 2) v rs a.3 there in
+      omega (arith, ints, later, a.0, a.1)
+]
 
 -- the place of a number
 pub place_has : (f v : ℤ) (rs : List Interval) (d : Interval) → RangesFrom f rs → InSome rs v →
@@ -87,7 +97,8 @@ place_has f v (r ∷ rs) d a h = by_test (int_lt r.high v) refl (place_has (r.hi
     by_test true e later = elim h [ inl here ↦ absurd (not_in r.high v e here.1) | inr there ↦ let rest = later there in (omega (arith, rest.0), rest.1) ]
     by_test false e later = elim h [ inl here ↦ (omega arith, here.0) | inr there ↦ absurd (not_later r.high v e (in_from (r.high +ℤ pos 2) v rs a.3 there)) ]
 
-pub has_place : (v : ℤ) (rs : List Interval) (d : Interval) → leading (λ r. int_lt r.high v) rs < length rs → (get_or rs (leading (λ r. int_lt r.high v) rs) d).low ≤ℤ v → InSome rs v
+pub has_place : (v : ℤ) (rs : List Interval) (d : Interval) → leading (λ r. int_lt r.high v) rs < length rs →
+    (get_or rs (leading (λ r. int_lt r.high v) rs) d).low ≤ℤ v → InSome rs v
 unfolding InSome leading
 has_place v [] d below low = absurd (omega (arith, below))
 has_place v (r ∷ rs) d below low = by_test (int_lt r.high v) refl (has_place v rs d) below low
@@ -105,7 +116,8 @@ pub has_is : (v : ℤ) (rs : List Interval) (d : Interval) (n : ℕ) → RangesF
     ((n < length rs) × ((get_or rs n d).low ≤ℤ v)) ↔ Contains (values_of rs) v
 has_is v rs d n a is = (
   λ h. some_has_value rs v (has_place v rs d (subst (λ n. n < length rs) is h.0) (subst (λ n. (get_or rs n d).low ≤ℤ v) is h.1)),
-  λ has. let p = place_has bottom v rs d a (value_in_some bottom rs v a has) in (subst (λ n. n < length rs) (sym is) p.0, subst (λ n. (get_or rs n d).low ≤ℤ v) (sym is) p.1),
+  λ has. let p = place_has bottom v rs d a (value_in_some bottom rs v a has) in
+      (subst (λ n. n < length rs) (sym is) p.0, subst (λ n. (get_or rs n d).low ≤ℤ v) (sym is) p.1),
 )
 
 -- the greatest number up to t
@@ -125,9 +137,14 @@ none_begun f t (r ∷ rs) w a e h le = by_test (int_le r.low t) refl e
     by_test : (b : Bool) → int_le r.low t ≡ b → cond b (suc (leading (λ r. int_le r.low t) rs)) zero ≡ 0 → ⊥
     by_test true e none = cc
     by_test false e none = let up = above r.low t e in
-        elim h [ inl here ↦ omega (arith, ints, up, here.0, le) | inr there ↦ let later = in_from (r.high +ℤ pos 2) w rs a.3 there in omega (arith, ints, later, up, a.1, le) ]
+        elim h [
+          | inl here ↦ omega (arith, ints, up, here.0, le)
+          | inr there ↦ let later = in_from (r.high +ℤ pos 2) w rs a.3 there in
+              omega (arith, ints, later, up, a.1, le)
+        ]
 
-pub last_in : (f t : ℤ) (rs : List Interval) (k : ℕ) (d : Interval) → RangesFrom f rs → leading (λ r. int_le r.low t) rs ≡ suc k → LastIn rs t (int_min (get_or rs k d).high t)
+pub last_in : (f t : ℤ) (rs : List Interval) (k : ℕ) (d : Interval) → RangesFrom f rs → leading (λ r. int_le r.low t) rs ≡ suc k →
+    LastIn rs t (int_min (get_or rs k d).high t)
 unfolding RangesFrom InSome leading
 last_in f t [] k d a e = absurd (omega (arith, e))
 last_in f t (r ∷ rs) k d a e = by_test (int_le r.low t) refl e (λ k. last_in (r.high +ℤ pos 2) t rs k d a.3)
@@ -139,22 +156,32 @@ last_in f t (r ∷ rs) k d a e = by_test (int_le r.low t) refl e (λ k. last_in 
     at_first none e = record {
       has = inl (low_min r.low r.high t a.1 e, grind (arith, ints));
       within = grind (arith, ints);
-      greatest = λ w h le. elim h [ inl here ↦ let to = here.1 in grind (arith, ints) | inr there ↦ absurd (none_begun (r.high +ℤ pos 2) t rs w a.3 none there le) ];
+      greatest = λ w h le. elim h [
+        | inl here ↦ let to = here.1 in
+            grind (arith, ints)
+        | inr there ↦ absurd (none_begun (r.high +ℤ pos 2) t rs w a.3 none there le)
+      ];
     }
 
     one_later : (v : ℤ) → LastIn rs t v → LastIn (r ∷ rs) t v
     one_later v l = record {
       has = inr l.has;
       within = l.within;
-      greatest = λ w h le. elim h [ inl here ↦ let up = in_from (r.high +ℤ pos 2) v rs a.3 l.has in omega (arith, ints, up, here.1) | inr there ↦ l.greatest w there le ];
+      greatest = λ w h le. elim h [
+        | inl here ↦ let up = in_from (r.high +ℤ pos 2) v rs a.3 l.has in
+            omega (arith, ints, up, here.1)
+        | inr there ↦ l.greatest w there le
+      ];
     }
 
-    go : (k : ℕ) → leading (λ r. int_le r.low t) rs ≡ k → int_le r.low t ≡ true → ((k : ℕ) → leading (λ r. int_le r.low t) rs ≡ suc k → LastIn rs t (int_min (get_or rs k d).high t)) →
+    go : (k : ℕ) → leading (λ r. int_le r.low t) rs ≡ k → int_le r.low t ≡ true →
+        ((k : ℕ) → leading (λ r. int_le r.low t) rs ≡ suc k → LastIn rs t (int_min (get_or rs k d).high t)) →
         LastIn (r ∷ rs) t (int_min (get_or (r ∷ rs) k d).high t)
     go zero is e later = at_first is e
     go (suc k) is e later = one_later (int_min (get_or rs k d).high t) (later k is)
 
-    by_test : (b : Bool) → int_le r.low t ≡ b → cond b (suc (leading (λ r. int_le r.low t) rs)) zero ≡ suc k → ((k : ℕ) → leading (λ r. int_le r.low t) rs ≡ suc k → LastIn rs t (int_min (get_or rs k d).high t)) →
+    by_test : (b : Bool) → int_le r.low t ≡ b → cond b (suc (leading (λ r. int_le r.low t) rs)) zero ≡ suc k →
+        ((k : ℕ) → leading (λ r. int_le r.low t) rs ≡ suc k → LastIn rs t (int_min (get_or rs k d).high t)) →
         LastIn (r ∷ rs) t (int_min (get_or (r ∷ rs) k d).high t)
     by_test true e some later = go k (omega (arith, some)) e later
     by_test false e some later = absurd (omega (arith, some))
@@ -166,14 +193,16 @@ pub begun_some : (rs : List Interval) (t : ℤ) (n : ℕ) → RangesFrom bottom 
 begun_some rs t zero a some is = absurd (some_begun rs t zero a some is refl)
 begun_some rs t (suc n) a some is = omega arith
 
-pub last_is : (rs : List Interval) (t : ℤ) (n : ℕ) (d : Interval) (v : ℤ) → RangesFrom bottom rs → SomeUpTo (values_of rs) t → n ≡ leading (λ r. int_le r.low t) rs → n ≤ length rs → SFits w64 t → SFits w64 v →
+pub last_is : (rs : List Interval) (t : ℤ) (n : ℕ) (d : Interval) (v : ℤ) → RangesFrom bottom rs → SomeUpTo (values_of rs) t →
+    n ≡ leading (λ r. int_le r.low t) rs → n ≤ length rs → SFits w64 t → SFits w64 v →
     v ≡ int_min (to_z w64 (of_z w64 (get_or rs (n - 1) d).high)) (to_z w64 (of_z w64 t)) → IsLastUpTo (values_of rs) t (to_z w64 (of_z w64 v))
 last_is rs t zero d v a some is within fits fit e = absurd (some_begun rs t zero a some is refl)
 last_is rs t (suc k) d v a some is within fits fit e =
     let same : suc k - 1 ≡ k = omega arith in
     let high = (ends_are rs k d a (omega (arith, within))).1 in
     let v_is : v ≡ int_min (get_or rs k d).high t =
-    e ∙ ap (λ k. int_min (to_z w64 (of_z w64 (get_or rs k d).high)) (to_z w64 (of_z w64 t))) same ∙ ap (λ x. int_min x (to_z w64 (of_z w64 t))) high ∙ ap (int_min (get_or rs k d).high) (to_z-of_z w64 t fits) in
+    e ∙ ap (λ k. int_min (to_z w64 (of_z w64 (get_or rs k d).high)) (to_z w64 (of_z w64 t))) same ∙ ap (λ x. int_min x (to_z w64 (of_z w64 t))) high ∙
+    ap (int_min (get_or rs k d).high) (to_z-of_z w64 t fits) in
     let l : LastIn rs t v = subst (LastIn rs t) (sym v_is) (last_in bottom t rs k d a (sym is)) in
     subst (IsLastUpTo (values_of rs) t) (sym (to_z-of_z w64 v fit))
     (record { has = some_has_value rs v l.has; within = l.within; greatest = λ w h le. l.greatest w (value_in_some bottom rs w a h) le })
@@ -202,38 +231,53 @@ first_in f t (r ∷ rs) d w a h le = by_test (int_lt r.high t) refl (λ there. f
     by_test true e later =
         elim h [
           | inl here ↦ absurd (beyond r.high t w e here.1 le)
-          | inr there ↦ let rest = later there in
-              (omega (arith, rest.0), record { has = inr rest.1.has; within = rest.1.within; least_one = λ w h le. elim h [ inl here ↦ absurd (beyond r.high t w e here.1 le) | inr there ↦ rest.1.least_one w there le ] })
+          | inr there ↦ let rest = later there in (
+            omega (arith, rest.0),
+            record {
+              has = inr rest.1.has;
+              within = rest.1.within;
+              least_one = λ w h le. elim h [ inl here ↦ absurd (beyond r.high t w e here.1 le) | inr there ↦ rest.1.least_one w there le ];
+            },
+          )
         ]
     by_test false e later = (
       omega arith,
       record {
         has = inl (grind (arith, ints), reach r.high r.low t e a.1);
         within = grind (arith, ints);
-        least_one = λ w h le. elim h [ inl here ↦ let from = here.0 in grind (arith, ints) | inr there ↦ let up = reach r.high r.low t e a.1 in let later = in_from (r.high +ℤ pos 2) w rs a.3 there in omega (arith, ints, up, later) ];
+        least_one = λ w h le. elim h [
+          | inl here ↦ let from = here.0 in grind (arith, ints)
+          | inr there ↦ let up = reach r.high r.low t e a.1 in
+              let later = in_from (r.high +ℤ pos 2) w rs a.3 there in omega (arith, ints, up, later)
+        ];
       },
     )
 
-pub ended_some : (rs : List Interval) (t : ℤ) (n : ℕ) (d : Interval) → RangesFrom bottom rs → SomeFrom (values_of rs) t → n ≡ leading (λ r. int_lt r.high t) rs → n < length rs
+pub ended_some : (rs : List Interval) (t : ℤ) (n : ℕ) (d : Interval) → RangesFrom bottom rs → SomeFrom (values_of rs) t →
+    n ≡ leading (λ r. int_lt r.high t) rs → n < length rs
 ended_some rs t n d a some is = subst (λ n. n < length rs) (sym is) (first_in bottom t rs d some.0 a (value_in_some bottom rs some.0 a some.1) some.2).0
 
-pub first_is : (rs : List Interval) (t : ℤ) (n : ℕ) (d : Interval) (v : ℤ) → RangesFrom bottom rs → SomeFrom (values_of rs) t → n ≡ leading (λ r. int_lt r.high t) rs → SFits w64 t → SFits w64 v →
+pub first_is : (rs : List Interval) (t : ℤ) (n : ℕ) (d : Interval) (v : ℤ) → RangesFrom bottom rs → SomeFrom (values_of rs) t →
+    n ≡ leading (λ r. int_lt r.high t) rs → SFits w64 t → SFits w64 v →
     v ≡ int_max (to_z w64 (of_z w64 (get_or rs n d).low)) (to_z w64 (of_z w64 t)) → IsFirstFrom (values_of rs) t (to_z w64 (of_z w64 v))
 first_is rs t n d v a some is fits fit e =
     let f = first_in bottom t rs d some.0 a (value_in_some bottom rs some.0 a some.1) some.2 in
     let low = (ends_are rs n d a (ended_some rs t n d a some is)).0 in
-    let v_is : v ≡ int_max (get_or rs n d).low t = e ∙ ap (λ x. int_max x (to_z w64 (of_z w64 t))) low ∙ ap (int_max (get_or rs n d).low) (to_z-of_z w64 t fits) in
+    let v_is : v ≡ int_max (get_or rs n d).low t = e ∙ ap (λ x. int_max x (to_z w64 (of_z w64 t))) low ∙
+    ap (int_max (get_or rs n d).low) (to_z-of_z w64 t fits) in
     let l : FirstIn rs t v = subst (FirstIn rs t) (sym (v_is ∙ ap (λ n. int_max (get_or rs n d).low t) is)) f.1 in
     subst (IsFirstFrom (values_of rs) t) (sym (to_z-of_z w64 v fit))
     (record { has = some_has_value rs v l.has; within = l.within; least = λ w h le. l.least_one w (value_in_some bottom rs w a h) le })
 
 -- the test for a number, in machine numbers
-pub has_then : (v : ℤ) (rs : List Interval) (d : Interval) (n : ℕ) → RangesFrom bottom rs → n ≡ leading (λ r. int_lt r.high v) rs → n < length rs → SFits w64 v →
+pub has_then : (v : ℤ) (rs : List Interval) (d : Interval) (n : ℕ) → RangesFrom bottom rs → n ≡ leading (λ r. int_lt r.high v) rs → n < length rs →
+    SFits w64 v →
     IsTrue (int_le (to_z w64 (of_z w64 (get_or rs n d).low)) (to_z w64 (of_z w64 v))) ↔ Contains (values_of rs) v
 has_then v rs d n a is below fits =
     let h = has_is v rs d n a is in
     let low = (ends_are rs n d a below).0 in
-    let same : int_le (to_z w64 (of_z w64 (get_or rs n d).low)) (to_z w64 (of_z w64 v)) ≡ int_le (get_or rs n d).low v = ap (λ x. int_le x (to_z w64 (of_z w64 v))) low ∙ ap (int_le (get_or rs n d).low) (to_z-of_z w64 v fits) in
+    let same : int_le (to_z w64 (of_z w64 (get_or rs n d).low)) (to_z w64 (of_z w64 v)) ≡ int_le (get_or rs n d).low v = ap
+    (λ x. int_le x (to_z w64 (of_z w64 v))) low ∙ ap (int_le (get_or rs n d).low) (to_z-of_z w64 v fits) in
     (λ yes. h.0 (below, from_test (get_or rs n d).low v (sym same ∙ yes)), λ has. same ∙ to_test (get_or rs n d).low v (h.1 has).1)
   where
     from_test : (x y : ℤ) → int_le x y ≡ true → x ≤ℤ y
@@ -242,15 +286,18 @@ has_then v rs d n a is below fits =
     to_test : (x y : ℤ) → x ≤ℤ y → int_le x y ≡ true
     to_test x y h = grind (arith, ints)
 
-pub has_else : (v : ℤ) (rs : List Interval) (d : Interval) (n : ℕ) → RangesFrom bottom rs → n ≡ leading (λ r. int_lt r.high v) rs → length rs ≤ n → IsTrue (nat_lt n (length rs)) ↔ Contains (values_of rs) v
+pub has_else : (v : ℤ) (rs : List Interval) (d : Interval) (n : ℕ) → RangesFrom bottom rs → n ≡ leading (λ r. int_lt r.high v) rs → length rs ≤ n →
+    IsTrue (nat_lt n (length rs)) ↔ Contains (values_of rs) v
 has_else v rs d n a is past = (λ yes. absurd (not_below n (length rs) past yes), λ has. absurd (omega (arith, ((has_is v rs d n a is).1 has).0, past)))
   where
     not_below : (x y : ℕ) → y ≤ x → nat_lt x y ≡ true → ⊥
     not_below x y h e = grind arith
 
 -- the counts, told of a machine number
-pub high_count : (t : ℤ) (rs : List Interval) (n : ℕ) → SFits w64 t → n ≡ leading (λ r. int_lt r.high (to_z w64 (of_z w64 t))) rs → n ≡ leading (λ r. int_lt r.high t) rs
+pub high_count : (t : ℤ) (rs : List Interval) (n : ℕ) → SFits w64 t → n ≡ leading (λ r. int_lt r.high (to_z w64 (of_z w64 t))) rs →
+    n ≡ leading (λ r. int_lt r.high t) rs
 high_count t rs n fits e = e ∙ ap (λ t. leading (λ r. int_lt r.high t) rs) (to_z-of_z w64 t fits)
 
-pub low_count : (t : ℤ) (rs : List Interval) (n : ℕ) → SFits w64 t → n ≡ leading (λ r. int_le r.low (to_z w64 (of_z w64 t))) rs → n ≡ leading (λ r. int_le r.low t) rs
+pub low_count : (t : ℤ) (rs : List Interval) (n : ℕ) → SFits w64 t → n ≡ leading (λ r. int_le r.low (to_z w64 (of_z w64 t))) rs →
+    n ≡ leading (λ r. int_le r.low t) rs
 low_count t rs n fits e = e ∙ ap (λ t. leading (λ r. int_le r.low t) rs) (to_z-of_z w64 t fits)

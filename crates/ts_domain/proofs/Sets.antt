@@ -4,7 +4,6 @@ use Rattle.std.proofs.Common.{refl, sym, ap, ◌∙◌, subst, arith}
 use Rattle.std.proofs.lemmas.Int.{ints, by_lt_z}
 use Rattle.std.proofs.lemmas.Bool.{both_ways}
 use Rattle.std.proofs.lemmas.Bool.Decides.{Decides-int_eq}
-use Rattle.std.proofs.lemmas.List.{append-nil}
 use Rattle.std.specs.Prelude.{filter, int_le, int_lt, Contains}
 use Rattle.std.specs.Ordering.{int_eq}
 use Rattle.std.specs.List.{AllByRecursion}
@@ -50,7 +49,14 @@ filter_alike f g (x ∷ xs) h =
 pub filter_none : (f : ℤ → Bool) (xs : List ℤ) → ((v : ℤ) → Contains xs v → f v ≡ false) → filter f xs ≡ []
 filter_none f [] h = refl
 filter_none f (x ∷ xs) h =
-    ap (λ b. cond b (x ∷ filter f xs) (filter f xs)) (h x ((contains_cons x xs x).1 (inl refl))) ∙ filter_none f xs (λ v has. h v ((contains_cons x xs v).1 (inr has)))
+    ap (λ b. cond b (x ∷ filter f xs) (filter f xs)) (h x ((contains_cons x xs x).1 (inl refl))) ∙
+    filter_none f xs (λ v has. h v ((contains_cons x xs v).1 (inr has)))
+
+pub pass_all : (f : ℤ → Bool) (xs : List ℤ) → ((v : ℤ) → Contains xs v → f v ≡ true) → filter f xs ≡ xs
+pass_all f [] h = refl
+pass_all f (x ∷ xs) h =
+    ap (λ b. cond b (x ∷ filter f xs) (filter f xs)) (h x ((contains_cons x xs x).1 (inl refl))) ∙
+    ap (λ l. x ∷ l) (pass_all f xs (λ v has. h v ((contains_cons x xs v).1 (inr has))))
 
 pub filter_both : (f g : ℤ → Bool) (xs : List ℤ) → filter f (filter g xs) ≡ filter (λ v. g v && f v) xs
 filter_both f g [] = refl
@@ -74,16 +80,22 @@ pub each_from : (P : ℤ → Type 0) (xs : List ℤ) → ((v : ℤ) → Contains
 each_from P [] h = tt
 each_from P (x ∷ xs) h = (h x ((contains_cons x xs x).1 (inl refl)), each_from P xs (λ v has. h v ((contains_cons x xs v).1 (inr has))))
 
+pub all_weaker : (P Q : ℤ → Type 0) → ((v : ℤ) → P v → Q v) → (xs : List ℤ) → AllByRecursion P xs → AllByRecursion Q xs
+all_weaker P Q f [] a = tt
+all_weaker P Q f (x ∷ xs) a = (f x a.0, all_weaker P Q f xs a.1)
+
 pub each_filter : (P : ℤ → Type 0) (test : ℤ → Bool) (xs : List ℤ) → AllByRecursion P xs → AllByRecursion P (filter test xs)
 each_filter P test [] h = tt
 each_filter P test (x ∷ xs) h =
-    elim (test x) as (λ b. AllByRecursion P (cond b (x ∷ filter test xs) (filter test xs))) [ true ↦ (h.0, each_filter P test xs h.1) | false ↦ each_filter P test xs h.1 ]
+    elim (test x) as (λ b. AllByRecursion P (cond b (x ∷ filter test xs) (filter test xs)))
+    [ true ↦ (h.0, each_filter P test xs h.1) | false ↦ each_filter P test xs h.1 ]
 
 pub rising_filter : (test : ℤ → Bool) (xs : List ℤ) → Rising xs → Rising (filter test xs)
 unfolding Rising
 rising_filter test [] h = tt
 rising_filter test (x ∷ xs) h =
-    elim (test x) as (λ b. Rising (cond b (x ∷ filter test xs) (filter test xs))) [ true ↦ (each_filter (λ y. x <ℤ y) test xs h.0, rising_filter test xs h.1) | false ↦ rising_filter test xs h.1 ]
+    elim (test x) as (λ b. Rising (cond b (x ∷ filter test xs) (filter test xs)))
+    [ true ↦ (each_filter (λ y. x <ℤ y) test xs h.0, rising_filter test xs h.1) | false ↦ rising_filter test xs h.1 ]
 
 pub all_append : {A : Type 0} (P : A → Type 0) (xs ys : List A) → AllByRecursion P xs → AllByRecursion P ys → AllByRecursion P (xs ++ ys)
 all_append P [] ys a b = b
@@ -149,8 +161,10 @@ two_sides gone (x ∷ xs) h =
         filter (other_than gone) (x ∷ xs) ≡ filter (λ v. int_le v (gone -ℤ pos 1)) (x ∷ xs) ++ filter (λ v. int_lt gone v) (x ∷ xs)
     below lt rest =
         ap (λ b. cond b (x ∷ filter (other_than gone) xs) (filter (other_than gone) xs)) (differs gone x (λ e. not_itself x gone lt e)) ∙ ap (λ l. x ∷ l) rest ∙
-        sym (ap (λ b. cond b (x ∷ filter (λ v. int_le v (gone -ℤ pos 1)) xs) (filter (λ v. int_le v (gone -ℤ pos 1)) xs) ++ filter (λ v. int_lt gone v) (x ∷ xs)) (le_true x (gone -ℤ pos 1) (omega (arith, ints, lt))) ∙
-        ap (λ b. (x ∷ filter (λ v. int_le v (gone -ℤ pos 1)) xs) ++ cond b (x ∷ filter (λ v. int_lt gone v) xs) (filter (λ v. int_lt gone v) xs)) (lt_false gone x (omega (arith, ints, lt))))
+        sym (ap (λ b. cond b (x ∷ filter (λ v. int_le v (gone -ℤ pos 1)) xs) (filter (λ v. int_le v (gone -ℤ pos 1)) xs) ++ filter (λ v. int_lt gone v)
+        (x ∷ xs)) (le_true x (gone -ℤ pos 1) (omega (arith, ints, lt))) ∙
+        ap (λ b. (x ∷ filter (λ v. int_le v (gone -ℤ pos 1)) xs) ++ cond b (x ∷ filter (λ v. int_lt gone v) xs) (filter (λ v. int_lt gone v) xs))
+        (lt_false gone x (omega (arith, ints, lt))))
       where
         not_itself : (a b : ℤ) → a <ℤ b → a ≡ b → ⊥
         not_itself a b lt e = omega (arith, ints, lt, e)
@@ -158,10 +172,12 @@ two_sides gone (x ∷ xs) h =
     from : gone ≤ℤ x → filter (other_than gone) (x ∷ xs) ≡ filter (λ v. int_le v (gone -ℤ pos 1)) (x ∷ xs) ++ filter (λ v. int_lt gone v) (x ∷ xs)
     from ge =
         filter_alike (other_than gone) (λ v. int_lt gone v) (x ∷ xs) (λ v has. alike v (at_least v has)) ∙
-        ap (λ l. l ++ filter (λ v. int_lt gone v) (x ∷ xs)) (sym (filter_none (λ v. int_le v (gone -ℤ pos 1)) (x ∷ xs) (λ v has. le_false v (gone -ℤ pos 1) (less v (at_least v has)))))
+        ap (λ l. l ++ filter (λ v. int_lt gone v) (x ∷ xs)) (sym
+        (filter_none (λ v. int_le v (gone -ℤ pos 1)) (x ∷ xs) (λ v has. le_false v (gone -ℤ pos 1) (less v (at_least v has)))))
       where
         at_least : (v : ℤ) → Contains (x ∷ xs) v → gone ≤ℤ v
-        at_least v has = elim ((contains_cons x xs v).0 has) [ inl e ↦ omega (arith, ints, ge, e) | inr there ↦ let later = each_contains (λ y. x <ℤ y) xs v h.0 there in omega (arith, ints, ge, later) ]
+        at_least v has = elim ((contains_cons x xs v).0 has)
+            [ inl e ↦ omega (arith, ints, ge, e) | inr there ↦ let later = each_contains (λ y. x <ℤ y) xs v h.0 there in omega (arith, ints, ge, later) ]
 
         less : (v : ℤ) → gone ≤ℤ v → (gone -ℤ pos 1) <ℤ v
         less v h = omega (arith, ints, h)
@@ -170,4 +186,5 @@ two_sides gone (x ∷ xs) h =
         above_itself v lt e = omega (arith, ints, lt, e)
 
         alike : (v : ℤ) → gone ≤ℤ v → other_than gone v ≡ int_lt gone v
-        alike v h = by_lt_z gone v (λ lt. differs gone v (λ e. above_itself v lt e) ∙ sym (lt_true gone v lt)) (λ le. itself gone v (omega (arith, ints, h, le)) ∙ sym (lt_false gone v le))
+        alike v h = by_lt_z gone v (λ lt. differs gone v (λ e. above_itself v lt e) ∙ sym (lt_true gone v lt))
+            (λ le. itself gone v (omega (arith, ints, h, le)) ∙ sym (lt_false gone v le))

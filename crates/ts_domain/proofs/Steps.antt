@@ -1,16 +1,15 @@
 -- Steps of the way over the numbers of a set: its first number, and the way over the others.
-use Rattle.std.proofs.Common.{◌≡◌, ℤ, pos, neg_ℤ, ◌+ℤ◌, ◌≤ℤ◌, ◌<ℤ◌, inl, inr, Bool, true, false, cond, Option, None, Some, List, [], ◌∷◌, ◌++◌, length, refl, sym, ap, ◌∙◌, subst, arith}
+use Rattle.std.proofs.Common.{◌≡◌, ℤ, pos, neg_ℤ, ◌+ℤ◌, ◌≤ℤ◌, ◌<ℤ◌, inl, inr, true, false, cond, Option, None, Some, List, [], ◌∷◌, ◌++◌, length, refl, sym, ap, ◌∙◌, subst, arith}
 use Rattle.std.proofs.lemmas.Int.{ints}
 use Rattle.std.specs.Prelude.{filter, int_lt, Contains}
-use Rattle.std.specs.Option.{option_to_list}
 use Rattle.ts_domain.specs.declared.interval.Interval.{Interval}
-use Rattle.ts_domain.specs.Values.{Rising, values_of, RangesFrom}
-use Rattle.ts_domain.specs.Pieces.{values_in, values_by, IsPiece, PiecesFrom, IsPartOf, IsPart}
+use Rattle.ts_domain.specs.Values.{Rising, values_of}
+use Rattle.ts_domain.specs.Pieces.{values_in, values_by, IsPiece, PiecesFrom, IsPart}
 use Rattle.ts_domain.specs.Walk.{IsOnTheWay, pieces_left}
 use Rattle.ts_domain.proofs.Ranges.{values_rise}
-use Rattle.ts_domain.proofs.Sets.{contains_cons, nothing_in, each_contains, lt_true, lt_false}
+use Rattle.ts_domain.proofs.Sets.{pass_all, contains_cons, nothing_in, each_contains, lt_true, lt_false}
 use Rattle.ts_domain.proofs.PieceLaws.{contains_in, low_in, part_before}
-use Rattle.ts_domain.proofs.PieceSets.{in_rises, pass_all}
+use Rattle.ts_domain.proofs.PieceSets.{in_rises}
 use Rattle.ts_domain.proofs.CutLaws.{m, ends_small}
 
 pub piece_of : (rs rest : List Interval) (p : Interval) → IsOnTheWay rs (p ∷ rest) → IsPiece (values_of rs) p
@@ -50,7 +49,8 @@ left_behind rs rest p o way part = (
         (λ q is. (under (neg_ℤ (pos 1000000)) p.low q.low way.places.0 is.from, next q.high p.high is.to))
         (behind (neg_ℤ (pos 1000000)) p.low p.high way.places.0 way.places.1.0) way.places.2;
   },
-  ap (λ l. l ++ values_by all rest) (first_then_rest (values_in all p) p.low (in_rises all p (values_rise (neg_ℤ (pos 1000000)) rs way.apart)) (low_in all p way.places.1)
+  ap (λ l. l ++ values_by all rest) (first_then_rest (values_in all p) p.low (in_rises all p (values_rise (neg_ℤ (pos 1000000)) rs way.apart))
+      (low_in all p way.places.1)
       (λ v has. ((contains_in all p v).0 has).1)) ∙ ap (λ l. p.low ∷ l) (others o part),
 )
   where
@@ -66,12 +66,14 @@ left_behind rs rest p o way part = (
     behind : (a b c : ℤ) → a ≤ℤ b → b ≤ℤ c → a ≤ℤ (c +ℤ pos 1)
     behind a b c h g = omega (arith, ints, h, g)
 
-    others : (o : Option Interval) → IsPart all (λ v. int_lt p.low v) p o → filter (λ v. int_lt p.low v) (values_in all p) ++ values_by all rest ≡ values_by all (pieces_left o rest)
+    others : (o : Option Interval) → IsPart all (λ v. int_lt p.low v) p o →
+        filter (λ v. int_lt p.low v) (values_in all p) ++ values_by all rest ≡ values_by all (pieces_left o rest)
     others None is = ap (λ l. l ++ values_by all rest) is
     others (Some q) is = ap (λ l. l ++ values_by all rest) (sym is.same)
 
 -- the same, where the number was read as a machine number
-pub behind_first : (rs rest : List Interval) (p : Interval) (o : Option Interval) → IsOnTheWay rs (p ∷ rest) → IsPart (values_of rs) (λ v. int_lt (m p.low) v) p o →
+pub behind_first : (rs rest : List Interval) (p : Interval) (o : Option Interval) → IsOnTheWay rs (p ∷ rest) →
+    IsPart (values_of rs) (λ v. int_lt (m p.low) v) p o →
     IsOnTheWay rs (pieces_left o rest) × (values_by (values_of rs) (p ∷ rest) ≡ p.low ∷ values_by (values_of rs) (pieces_left o rest))
 behind_first rs rest p o way part =
     left_behind rs rest p o way (subst (λ t. IsPart (values_of rs) (λ v. int_lt t v) p o) (ends_small rs p way.apart (piece_of rs rest p way)).0 part)

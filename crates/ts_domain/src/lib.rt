@@ -1,15 +1,15 @@
 //! Finite sets of numbers, and boxes of them that remember how they came about.
 //!
-//! A [`Domain`] is a non-empty set of numbers from -1,000,000 to 1,000,000. To the layer above it is the rising list of
-//! its numbers. A [`Boxed`] has one domain per cell and a trail of earlier domains: to the layer above it is the list of
-//! its boxes, the present one last.
+//! A [`Domain`] is a non-empty set of numbers from -1,000,000 to 1,000,000. To the layer above it is the rising list
+//! of its numbers. A [`Boxed`] has one domain per cell and a trail of earlier domains: to the layer above it is the
+//! list of its boxes, the present one last.
 //! Each change leaves exactly the named values of one cell and adds a box, and `undo` goes back to any earlier box
 //! without memory. After want of memory the value is as it was.
 //!
 //! A domain is made of sorted ranges, which never change, and of pieces: it has what of the ranges lies in some piece.
 //! Copies and smaller sets share the ranges by a count, so a box of many cells with one domain has its ranges once.
-//! A change makes pieces alone, whose ends are found by halving, and the trail keeps the pieces before. There are at most
-//! as many pieces as gaps were cut: one after `keep_low` and `keep_high`, one more for a value out of the middle of one.
+//! A change makes pieces alone, whose ends are found by halving, and the trail keeps the pieces before. `keep_low` and
+//! `keep_high` never make more of them, and a value taken out of the middle of a piece leaves one more.
 //!
 //! ```text
 //! let digits = Domain::from_ranges(alloc, &[0, 7], &[4, 9])?;

@@ -6,7 +6,8 @@ returns-then-t-piece c = above_whole c.args.ranges.now c.args.piece c.args.t c.r
 
 pub returns-then-t-piece-2 : goal.returns-then-t-piece-2
 returns-then-t-piece-2 c =
-    above_cut c.args.ranges.now c.args.piece c.args.t c.first_from.result c.requires.apart c.requires.piece c.ranges.t c.if-t-piece.false c.if-t-piece-2.true (record { sfits = c.first_from.type_inv })
+    above_cut c.args.ranges.now c.args.piece c.args.t c.first_from.result c.requires.apart c.requires.piece c.ranges.t c.if-t-piece.false
+    c.if-t-piece-2.true (record { sfits = c.first_from.type_inv })
     c.first_from.ensures
 
 pub returns-else-t-piece-2 : goal.returns-else-t-piece-2

@@ -6,7 +6,8 @@ returns-then-piece-t c = up_whole c.args.ranges.now c.args.piece c.args.t c.requ
 
 pub returns-then-piece-t-2 : goal.returns-then-piece-t-2
 returns-then-piece-t-2 c =
-    up_cut c.args.ranges.now c.args.piece c.args.t c.last_up_to.result c.requires.apart c.requires.piece c.ranges.t c.if-piece-t.false c.if-piece-t-2.true (record { sfits = c.last_up_to.type_inv })
+    up_cut c.args.ranges.now c.args.piece c.args.t c.last_up_to.result c.requires.apart c.requires.piece c.ranges.t c.if-piece-t.false c.if-piece-t-2.true
+    (record { sfits = c.last_up_to.type_inv })
     c.last_up_to.ensures
 
 pub returns-else-piece-t-2 : goal.returns-else-piece-t-2

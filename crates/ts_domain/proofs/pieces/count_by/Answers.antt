@@ -1,4 +1,4 @@
-use Rattle.std.proofs.Common.{pos, arith}
+use Rattle.std.proofs.Common.{arith}
 use Rattle.ts_domain.specs.Values.{values_of}
 use Rattle.ts_domain.proofs.PieceReads.{piece_at, piece_more, pieces_all}
 use Rattle.ts_domain.proofs.PieceSets.{few_by}
@@ -14,7 +14,8 @@ overflow_add-count c =
     omega (arith, bound, more)
 
 pub loop-piece-preserved : goal.loop-piece-preserved
-loop-piece-preserved c = piece_more (values_of c.args.ranges.now) c.args.pieces.now _ _ _ _ c.loop-piece-test.true c.count_in-count.ensures c.loop-piece.invariant
+loop-piece-preserved c = piece_more (values_of c.args.ranges.now) c.args.pieces.now _ _ _ _ c.loop-piece-test.true c.count_in-count.ensures
+    c.loop-piece.invariant
 
 pub returns : goal.returns
 returns c = pieces_all (values_of c.args.ranges.now) c.args.pieces.now _ _ c.loop-piece-test.false c.loop-piece.invariant

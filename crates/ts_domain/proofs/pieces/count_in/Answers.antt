@@ -1,4 +1,4 @@
-use Rattle.std.proofs.Common.{pos, arith, map}
+use Rattle.std.proofs.Common.{arith, map}
 use Rattle.ts_domain.specs.Pieces.{trim}
 use Rattle.ts_domain.proofs.PieceReads.{part_fits, few, part_more, parts_all}
 use Rattle.ts_domain.proofs.pieces.count_in.Goals as goal
@@ -18,7 +18,8 @@ count-count-requires-clause-to c =
 pub overflow_add-count : goal.overflow_add-count
 overflow_add-count c =
     let bound = few (map (trim c.args.piece) c.meeting-range-items.result.now) c.meeting-range-items.ensures.apart in
-    let more = part_more c.args.piece c.meeting-range-items.result.now _ _ _ _ _ c.loop-range-test.true c.trim-part.ensures c.count-count.ensures c.loop-range.invariant in
+    let more = part_more c.args.piece c.meeting-range-items.result.now _ _ _ _ _ c.loop-range-test.true c.trim-part.ensures c.count-count.ensures
+    c.loop-range.invariant in
     omega (arith, bound, more)
 
 pub loop-range-preserved : goal.loop-range-preserved

@@ -1,4 +1,4 @@
-use Rattle.std.proofs.Common.{pos, arith}
+use Rattle.std.proofs.Common.{arith}
 use Rattle.std.proofs.lemmas.Int.{ints}
 use Rattle.ts_domain.proofs.PieceReads.{part_fits, few_left, part_later, part_here, part_past}
 use Rattle.ts_domain.proofs.pieces.nth_in.Goals as goal
