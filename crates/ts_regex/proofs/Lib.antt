@@ -3,3 +3,4 @@ pub mod Derivatives
 pub mod NormalForms
 pub mod Members
 pub mod Laws
+pub mod Rising

@@ -3,3 +3,4 @@ pub mod Language
 pub mod Derivative
 pub mod NormalForm
 pub mod Membership
+pub mod Rising

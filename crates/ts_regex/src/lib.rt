@@ -11,7 +11,8 @@
 //! meant for callers stand in `proofs/Laws`.
 //!
 //! A derivative doubles a `Cat` whose first part has the empty word, so whoever reads many letters takes the normal
-//! form after each one. It removes the repeats, and is meant to keep small what is left (its size is not proved):
+//! form after each one. Its members stand in order, each before the next (`form_laws::members_rise`), and it is meant
+//! to keep small what is left (its size is not proved):
 //!
 //! ```text
 //! let left = residual(alloc, &pattern, Letter::Less)?;
@@ -22,6 +23,7 @@
 #![tactic(auto)]
 
 mod derivative;
+pub mod form_laws;
 mod membership;
 mod normal_form;
 mod order;

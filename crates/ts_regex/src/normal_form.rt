@@ -1,5 +1,6 @@
 //! Normal forms, of the same language: meant to give one form to expressions that differ in brackets, order and repeats
-//! alone, so that what a word leaves, read letter by letter, doesn't grow with it. Proved is the language.
+//! alone, so that what a word leaves, read letter by letter, doesn't grow with it. Proved are the language, and that of
+//! the members of a union each comes before the next.
 
 ghost use Rattle.std.specs.Prelude.{◌≡◌, ◌↔◌, ◌≤◌, List, ◌∷◌, map, length, IfOk, OnOk, MatchResult};
 ghost use Rattle.std.specs.List.{insert};
