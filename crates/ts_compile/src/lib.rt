@@ -14,6 +14,8 @@
 mod compile;
 pub mod laws;
 mod program;
+#[cfg(test)]
+mod tests;
 mod text;
 mod values;
 

@@ -23,6 +23,8 @@ pub mod laws;
 mod step;
 mod stop;
 mod tags;
+#[cfg(test)]
+mod tests;
 mod trial;
 mod validated;
 

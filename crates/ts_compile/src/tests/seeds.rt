@@ -1,9 +1,6 @@
 //! The seeds against the definition: on every signature of up to six letters the decoder of a pattern's seed emits what
 //! `occurrences` lists.
 
-mod plans;
-mod validation;
-
 use std::alloc::Global;
 use std::test::Fail;
 use ts_base::{Letter, Memory};

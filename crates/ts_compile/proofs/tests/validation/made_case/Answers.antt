@@ -1,6 +1,6 @@
 use Rattle.std.proofs.Common.{IsTrue, sym, subst}
 use Rattle.ts_pattern.specs.Plans.{plain_plan, is_plan_of}
-use Rattle.ts_cli.proofs.tests.validation.made_case.Goals as goal
+use Rattle.ts_compile.proofs.tests.validation.made_case.Goals as goal
 
 pub returns-clause-fits : goal.returns-clause-fits
 returns-clause-fits c =

@@ -1,0 +1,4 @@
+//! The seeds against their patterns.
+
+mod seeds;
+mod validation;

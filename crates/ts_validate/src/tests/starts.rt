@@ -1,0 +1,207 @@
+//! Plans by which the transducer finds, holds or keeps another start than the earliest one that is alive.
+
+use super::Small;
+use ts_base::Kind::{Held, Idle, Pending};
+use ts_base::Letter::{Equal, Greater, Less};
+use ts_pattern::Tag::{Due, InC, InD, Loose};
+use ts_transducer::Phase::{Found, FoundE, Inside, MaybeA, MaybeB, Out, OutA, OutR};
+
+static PLANS: [Small; 12] = [
+    // The find comes before the first cell of the range.
+    Small {
+        pattern: ">",
+        b: 1,
+        a: 0,
+        rows: &[(Idle, (Out, 0), (Out, 0), (FoundE, 0))],
+        residuals: &[(0, Greater)],
+        configurations: &[(0, &[]), (0, &[(1, Due)])],
+        refused: Some((0, Greater, &[])),
+    },
+    // The first start isn't the decoder's, but the second one would be.
+    Small {
+        pattern: "=>.>>*.|",
+        b: 0,
+        a: 0,
+        rows: &[
+            (Idle, (Out, 0), (Out, 1), (Found, 2)),
+            (Idle, (Out, 0), (Out, 1), (FoundE, 0)),
+            (Held, (OutA, 0), (OutA, 1), (Inside, 2)),
+        ],
+        residuals: &[(0, Equal), (0, Greater), (1, Greater)],
+        configurations: &[
+            (0, &[]),
+            (1, &[(1, Loose)]),
+            (2, &[(2, InC)]),
+            (0, &[(3, Loose), (2, Loose)]),
+        ],
+        refused: Some((1, Greater, &[Equal])),
+    },
+    // The decoder keeps the start of a broken attempt, and the find is another start's.
+    Small {
+        pattern: "<=.>|",
+        b: 0,
+        a: 0,
+        rows: &[
+            (Idle, (MaybeB, 1), (Out, 0), (FoundE, 0)),
+            (Pending, (OutR, 0), (FoundE, 0), (FoundE, 0)),
+        ],
+        residuals: &[(0, Less), (1, Equal)],
+        configurations: &[
+            (0, &[]),
+            (1, &[(1, InD)]),
+            (0, &[(1, Loose)]),
+            (0, &[(2, Loose)]),
+        ],
+        refused: Some((1, Greater, &[Less])),
+    },
+    // The decoder gave its start up while the match could still end.
+    Small {
+        pattern: "<=*>..",
+        b: 1,
+        a: 0,
+        rows: &[
+            (Idle, (Out, 1), (Out, 0), (Out, 0)),
+            (Idle, (Out, 1), (MaybeB, 2), (FoundE, 0)),
+            (Pending, (OutR, 1), (OutR, 2), (FoundE, 0)),
+        ],
+        residuals: &[(0, Less), (1, Greater)],
+        configurations: &[
+            (0, &[]),
+            (1, &[(1, Due)]),
+            (2, &[(1, InD)]),
+            (0, &[(2, Loose)]),
+            (2, &[(1, Loose)]),
+        ],
+        refused: Some((4, Greater, &[Less, Equal, Equal])),
+    },
+    // What is found at once may still grow.
+    Small {
+        pattern: ">>*.",
+        b: 0,
+        a: 0,
+        rows: &[(Idle, (Out, 0), (Out, 0), (FoundE, 0))],
+        residuals: &[(0, Greater)],
+        configurations: &[(0, &[]), (0, &[(1, Loose)])],
+        refused: Some((0, Greater, &[])),
+    },
+    // The same, though the match of a later start can't.
+    Small {
+        pattern: "=>>*..>|",
+        b: 0,
+        a: 0,
+        rows: &[
+            (Idle, (Out, 0), (MaybeB, 1), (FoundE, 0)),
+            (Pending, (OutR, 0), (OutR, 0), (FoundE, 0)),
+        ],
+        residuals: &[(0, Equal), (0, Greater), (1, Greater)],
+        configurations: &[
+            (0, &[]),
+            (1, &[(1, InD)]),
+            (0, &[(1, Loose)]),
+            (0, &[(3, Loose), (2, Loose)]),
+            (0, &[(2, Loose)]),
+        ],
+        refused: Some((1, Greater, &[Equal])),
+    },
+    // A range is held on, and no start is left.
+    Small {
+        pattern: ">",
+        b: 0,
+        a: 0,
+        rows: &[
+            (Idle, (Out, 0), (Out, 0), (Found, 1)),
+            (Held, (MaybeA, 1), (OutA, 0), (Inside, 1)),
+        ],
+        residuals: &[(0, Greater)],
+        configurations: &[(0, &[]), (1, &[(1, InC)]), (1, &[]), (1, &[(1, Loose)])],
+        refused: Some((1, Less, &[Greater])),
+    },
+    // The held range is released, and its match could still grow.
+    Small {
+        pattern: ">>=>..|",
+        b: 0,
+        a: 0,
+        rows: &[
+            (Idle, (Out, 0), (Out, 0), (Found, 1)),
+            (Held, (OutA, 0), (OutA, 0), (OutA, 0)),
+        ],
+        residuals: &[(0, Greater), (1, Equal)],
+        configurations: &[(0, &[]), (1, &[(1, InC)]), (0, &[(2, Loose)])],
+        refused: Some((1, Equal, &[Greater])),
+    },
+    // A start is kept where none is alive.
+    Small {
+        pattern: ">",
+        b: 0,
+        a: 0,
+        rows: &[
+            (Idle, (MaybeB, 1), (Out, 0), (FoundE, 0)),
+            (Pending, (OutR, 0), (OutR, 0), (FoundE, 0)),
+        ],
+        residuals: &[(0, Greater)],
+        configurations: &[(0, &[]), (1, &[]), (0, &[(1, Loose)])],
+        refused: Some((0, Less, &[])),
+    },
+    // The start of a broken attempt is kept on in place of the next one.
+    Small {
+        pattern: "<=*>..",
+        b: 0,
+        a: 0,
+        rows: &[
+            (Idle, (MaybeB, 1), (Out, 0), (Out, 0)),
+            (Pending, (MaybeB, 1), (MaybeB, 1), (FoundE, 0)),
+        ],
+        residuals: &[(0, Less), (1, Greater)],
+        configurations: &[
+            (0, &[]),
+            (1, &[(1, InD)]),
+            (1, &[(1, Loose)]),
+            (0, &[(2, Loose)]),
+        ],
+        refused: Some((1, Less, &[Less])),
+    },
+    // The second start is kept, which is one, and the first one finds.
+    Small {
+        pattern: "==>..",
+        b: 0,
+        a: 0,
+        rows: &[
+            (Idle, (Out, 0), (Out, 1), (Out, 0)),
+            (Idle, (Out, 0), (MaybeB, 2), (Out, 0)),
+            (Pending, (OutR, 0), (MaybeB, 2), (FoundE, 0)),
+        ],
+        residuals: &[(0, Equal), (1, Equal), (2, Greater)],
+        configurations: &[
+            (0, &[]),
+            (1, &[(1, Loose)]),
+            (2, &[(2, Loose), (1, InD)]),
+            (2, &[(2, InD), (1, Loose)]),
+            (0, &[(3, Loose)]),
+        ],
+        refused: Some((2, Greater, &[Equal, Equal])),
+    },
+    // The plateau that keeps its start where a rise breaks the level part: only the last check sees it.
+    Small {
+        pattern: "<=*>..",
+        b: 1,
+        a: 1,
+        rows: &[
+            (Idle, (Out, 1), (Out, 0), (Out, 0)),
+            (Pending, (OutR, 1), (MaybeB, 2), (FoundE, 0)),
+            (Pending, (MaybeB, 1), (MaybeB, 2), (FoundE, 0)),
+        ],
+        residuals: &[(0, Less), (1, Greater)],
+        configurations: &[
+            (0, &[]),
+            (1, &[(1, Due)]),
+            (2, &[(1, InD)]),
+            (0, &[(2, Loose)]),
+        ],
+        refused: Some((2, Less, &[Less, Equal])),
+    },
+];
+
+// The table behind a function, so that the proof of the test doesn't read it.
+pub fn plans() -> &'static [Small] {
+    &PLANS
+}
