@@ -1,4 +1,8 @@
-//! The seeds against their patterns.
+//! Machines, programs and values against what was found outside, and the seeds against their patterns.
 
+mod first_values;
+mod last_values;
+mod programs;
 mod seeds;
+mod terms;
 mod validation;

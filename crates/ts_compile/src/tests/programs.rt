@@ -1,0 +1,65 @@
+//! The texts of programs, worked out from the tables alone, and values of their terms.
+
+use crate::{compile_model, value_of, write_program};
+use std::rt::HostRuntime;
+use std::test::Fail;
+use ts_base::Ext;
+use ts_model::{Need, read_model};
+use ts_token::cut_tokens;
+
+/// A model, the text of its program, and the values of its terms on 1 3 3 2 2 1 4.
+type Case = (&'static str, &'static str, &'static [Ext]);
+
+static CASES: [Case; 3] = [
+    ("cells 7\n", "", &[]),
+    (
+        "cells 7\nterm c = count decreasing\n",
+        "term c sum one decreasing\nforward\nstate s free\nstart 0 1 0\nmove s < s ; C ; D ; R\n\
+         move s = s ; C ; D ; R\nmove s > s ; C ; 1 ; add R max max D 1 1\nfinish add R C same\nend\n\
+         no reverse\n",
+        &[Ext::Int(2)],
+    ),
+    (
+        "cells 7\nterm c = sum width peak\nterm m = max surf peak\nterm k = min width steady_sequence\n",
+        "term c sum width peak\nforward\nstate s free\nstate r free\nstate t held\nstart 0 0 0\n\
+         move s < r ; C ; D ; R\nmove s = s ; C ; D ; R\nmove s > s ; C ; D ; R\n\
+         move r < r ; C ; add D 1 ; R\nmove r = r ; C ; add D 1 ; R\nmove r > t ; add D 1 ; 0 ; R\n\
+         move t < r ; 0 ; 0 ; add R C\nmove t = t ; C ; add D 1 ; R\nmove t > t ; add C add D 1 ; 0 ; R\n\
+         finish add R C same\nend\nno reverse\nterm m max surf peak\nforward\nstate s free\nstate r free\n\
+         state t held\nstart -inf 0 -inf\nmove s < r ; C ; D ; R\nmove s = s ; C ; D ; R\n\
+         move s > s ; C ; D ; R\nmove r < r ; C ; add D x ; R\nmove r = r ; C ; add D x ; R\n\
+         move r > t ; add D x ; 0 ; R\nmove t < r ; -inf ; 0 ; max R C\nmove t = t ; C ; add D x ; R\n\
+         move t > t ; add C add D x ; 0 ; R\nfinish max R C same\nend\nno reverse\n\
+         term k min width steady_sequence\nforward\nstate s free\nstate r held\nstart +inf 0 +inf\n\
+         move s < s ; C ; D ; R\nmove s = r ; add add D 1 1 ; 0 ; R\nmove s > s ; C ; D ; R\n\
+         move r < s ; +inf ; 0 ; min R C\nmove r = r ; add C add D 1 ; 0 ; R\n\
+         move r > s ; +inf ; 0 ; min R C\nfinish min R C cells\nend\nno reverse\n",
+        &[Ext::Int(4), Ext::Int(10), Ext::Int(2)],
+    ),
+];
+
+// The table behind a function, so that the proof of the test doesn't read it.
+fn cases() -> &'static [Case] {
+    &CASES
+}
+
+#[test]
+fn programs(rt: HostRuntime) -> Result<(), Fail> {
+    let alloc = rt.alloc();
+    for (text, wanted, values) in cases() {
+        let text = text.as_bytes();
+        assert!(rt; text.len() < 1000);
+        let tokens = cut_tokens(alloc, text)?;
+        let model = read_model(alloc, &tokens, Need::Values)?;
+        let program = compile_model(alloc, &model)?;
+        assert_eq!(rt; program.machines().len(), values.len());
+        let written = write_program(alloc, &model, &program)?;
+        assert_eq!(rt; written.as_slice(), wanted.as_bytes());
+        for term in 0..values.len() {
+            assert!(rt; term < model.terms.len());
+            let value = value_of(alloc, &model, term as u32, &[1, 3, 3, 2, 2, 1, 4])?;
+            assert_eq!(rt; value, values[term]);
+        }
+    }
+    Ok(())
+}
