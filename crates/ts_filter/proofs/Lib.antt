@@ -1,7 +1,9 @@
 mod BoxParts
 mod SpanEnds
 mod TreeLaws
+mod SeriesLines
 mod Answered
 mod LineLaws
-mod SeriesLines
 mod SoundLaws
+mod TestLaws
+mod RangeLaws

@@ -1,5 +1,6 @@
 -- What no number of a span does is told by its ends.
 use Rattle.std.proofs.Common.{◌≡◌, ◌&&◌, ◌↔◌, Bool, true, false, not, refl, sym, ◌∙◌, ap, arith}
+use Rattle.std.proofs.lemmas.Bool.{and_from, and_parts}
 use Rattle.std.specs.Prelude.{◌||◌, IsTrue}
 use Rattle.ts_base.specs.declared.ext.Ext.{Ext}
 use Rattle.ts_base.specs.declared.goal.Goal.{Goal}
@@ -33,19 +34,6 @@ from_not_true : (x : Bool) → not x ≡ true → x ≡ false
 from_not_true true e = grind arith
 from_not_true false e = refl
 
-both_true : (x y : Bool) → x ≡ true → y ≡ true → (x && y) ≡ true
-both_true true true p q = refl
-both_true true false p q = grind arith
-both_true false y p q = grind arith
-
-left_true : (x y : Bool) → (x && y) ≡ true → x ≡ true
-left_true true y e = refl
-left_true false y e = grind arith
-
-right_true : (x y : Bool) → (x && y) ≡ true → y ≡ true
-right_true true y e = e
-right_true false y e = grind arith
-
 -- what implies a false test is false
 false_by : (x y : Bool) → (x ≡ true → y ≡ true) → y ≡ false → x ≡ false
 false_by true y f e = sym (f refl) ∙ e
@@ -70,8 +58,8 @@ ends_exclude : (op : Op) (b lo hi v : Ext) → ends_refute op b lo hi ≡ true �
 ends_exclude Equal b lo hi v h p q =
     not_both (ext_le v b) (ext_le b v) (ext_le lo b) (ext_le b hi) h (λ e. le_trans lo v b p e) (λ e. le_trans b v hi e q)
 ends_exclude Unequal b lo hi v h p q =
-    not_true (ext_le v b && ext_le b v) (both_true (ext_le v b) (ext_le b v)
-    (le_trans v hi b q (right_true (ext_le b lo) (ext_le hi b) h)) (le_trans b lo v (left_true (ext_le b lo) (ext_le hi b) h) p))
+    let e = and_parts (ext_le b lo) (ext_le hi b) h in
+    not_true (ext_le v b && ext_le b v) (and_from (ext_le v b) (ext_le b v) (le_trans v hi b q e.1) (le_trans b lo v e.0 p))
 ends_exclude AtMost b lo hi v h p q = false_by (ext_le v b) (ext_le lo b) (λ e. le_trans lo v b p e) (from_not_true (ext_le lo b) h)
 ends_exclude AtLeast b lo hi v h p q = false_by (ext_le b v) (ext_le b hi) (λ e. le_trans b v hi e q) (from_not_true (ext_le b hi) h)
 ends_exclude Below b lo hi v h p q = not_true (ext_le b v) (le_trans b lo v h p)
@@ -82,11 +70,11 @@ ends_tell : (op : Op) (b : Ext) (s : Span) → IsTrue (ext_le s.lo s.hi) → Ref
 ends_tell Equal b s some f = one_of (ext_le s.lo b) (ext_le b s.hi) (λ p q. clash (le_refl b) (f b (p, q)))
   where
     clash : ext_le b b ≡ true → (ext_le b b && ext_le b b) ≡ false → ⊥
-    clash e g = grind (arith, both_true (ext_le b b) (ext_le b b) e e)
+    clash e g = grind (arith, and_from (ext_le b b) (ext_le b b) e e)
 ends_tell Unequal b s some f =
     let low = from_not_false (ext_le s.lo b && ext_le b s.lo) (f s.lo (le_refl s.lo, some)) in
     let high = from_not_false (ext_le s.hi b && ext_le b s.hi) (f s.hi (some, le_refl s.hi)) in
-    both_true (ext_le b s.lo) (ext_le s.hi b) (right_true (ext_le s.lo b) (ext_le b s.lo) low) (left_true (ext_le s.hi b) (ext_le b s.hi) high)
+    and_from (ext_le b s.lo) (ext_le s.hi b) (and_parts (ext_le s.lo b) (ext_le b s.lo) low).1 (and_parts (ext_le s.hi b) (ext_le b s.hi) high).0
 ends_tell AtMost b s some f = not_false (ext_le s.lo b) (f s.lo (le_refl s.lo, some))
 ends_tell AtLeast b s some f = not_false (ext_le b s.hi) (f s.hi (some, le_refl s.hi))
 ends_tell Below b s some f = from_not_false (ext_le b s.lo) (f s.lo (le_refl s.lo, some))

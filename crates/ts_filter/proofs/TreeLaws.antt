@@ -7,7 +7,7 @@ use Rattle.ts_domain.specs.BoxSeries.{IsBox, series_count}
 use Rattle.ts_domain.proofs.BoxLaws.{some_series}
 use Rattle.ts_model.specs.Stated.{Stated, total_of}
 use Rattle.ts_filter.specs.Boxes.{Box, low_side, high_side, without, only, IsPart}
-use Rattle.ts_filter.specs.Laws.{TreeIsSteps}
+use Rattle.ts_filter.specs.Laws.{StepsGoOn, TreeIsSteps}
 use Rattle.ts_filter.specs.RefutedWorseDrop.{Spans}
 use Rattle.ts_filter.specs.Rules.{Head, KeepsRule}
 use Rattle.ts_filter.specs.Steps.{made_by, Steps}
@@ -76,6 +76,14 @@ module _ (m : Stated) (s : Spans) (h : Head) where
   parts_steps (l ∷ ls) told [] left after e f = absurd f
   parts_steps (l ∷ ls) told (b ∷ w) left after e f =
       parts_steps ls (told_by l told) (made_by l b ++ w) left after (parts_made told l b w e f.0) f.1
+
+  steps_more : (ls more : List TreeLine) (told : ℕ) (w left end : List Box) (after last : ℕ) → Steps m s h w told ls left after →
+      Steps m s h left after more end last → Steps m s h w told (ls ++ more) end last
+  steps_more [] more told w left end after last f g =
+      subst (λ z. Steps m s h z told more end last) (sym f.0) (subst (λ n. Steps m s h left n more end last) (sym f.1) g)
+  steps_more (l ∷ ls) more told [] left end after last f g = absurd f
+  steps_more (l ∷ ls) more told (b ∷ w) left end after last f g =
+      (f.0, steps_more ls more (told_by l told) (made_by l b ++ w) left end after last f.1 g)
 
   -- the series of all boxes that wait
   abbrev series_of : List Box → ℕ
@@ -156,3 +164,6 @@ tree_is_steps m s h b ls told = (
   λ g. let f = steps_tree m s h ls 0 (b ∷ []) told g in
       (f.0, sym (f.2 ∙ ap (λ z. tree_lines f.0 ++ z) f.4.0 ∙ append-nil (tree_lines f.0)), f.3, f.4.1),
 )
+
+pub steps_go_on : StepsGoOn
+steps_go_on m s h ls more w left end told after last f g = steps_more m s h ls more told w left end after last f g

@@ -1,25 +1,31 @@
 -- What is promised of boxes, trees and certificates, and what is asked of spans for it.
-use Rattle.std.specs.Prelude.{◌≡◌, ℕ, ◌+◌, ◌-◌, ◌*◌, ◌≤◌, ◌⊎◌, ◌↔◌, ℤ, pos, false, List, [], ◌∷◌, ◌++◌, Some, None}
+use Rattle.std.specs.Prelude.{◌≡◌, ℕ, ◌+◌, ◌-◌, ◌*◌, ◌≤◌, ◌⊎◌, ◌↔◌, ℤ, pos, true, false, IsTrue, List, [], ◌∷◌, ◌++◌}
+use Rattle.std.specs.Prelude.{Some, None}
 use Rattle.std.specs.Prelude.{get_or, length, take}
-use Rattle.std.specs.List.{AllByRecursion}
+use Rattle.std.specs.List.{AllByRecursion, list_all}
 use Rattle.ts_base.specs.declared.ext.Ext.{Ext}
 use Rattle.ts_base.specs.declared.goal.Goal.{Goal}
-use Rattle.ts_base.specs.Spans.{Holds as SpanHolds}
+use Rattle.ts_base.specs.Limits.{most_cells, most_requirements}
+use Rattle.ts_base.specs.Spans.{Holds as SpanHolds, one_span}
 use Rattle.ts_certificate.specs.declared.certificate.TreeLine.{TreeLine}
 use Rattle.ts_certificate.specs.Certificate.{Cert, cert_lines}
 use Rattle.ts_certificate.specs.Grammar.{CertLine, series_count}
+use Rattle.ts_certificate.specs.TreeLines.{is_tree_line}
 use Rattle.ts_domain.specs.BoxSeries.{InBox, IsBefore, IsBox, series_count as series_in}
-use Rattle.ts_model.specs.Meets.{Meets, value_at}
+use Rattle.ts_model.specs.declared.model.Require.{Require}
+use Rattle.ts_model.specs.Meets.{IsMet, Meets, value_at}
+use Rattle.ts_model.specs.Promise.{IsWhole}
 use Rattle.ts_model.specs.Stated.{Stated, total_of}
 use Rattle.ts_filter.specs.declared.bar.Bar.{Bar}
 use Rattle.ts_filter.specs.Accepts.{Accepts, objective_of}
-use Rattle.ts_filter.specs.Boxes.{Box, HasCell, low_side, high_side, without, IsPart}
+use Rattle.ts_filter.specs.Boxes.{Box, HasCell, low_side, high_side, without, box_of, IsPart}
 use Rattle.ts_filter.specs.Excluded.{counts}
 use Rattle.ts_filter.specs.Holds.{Holds}
 use Rattle.ts_filter.specs.Lines.{Stand, first_stand, KeepsLine, stand_after, Leads, IsFirstFailing, Found}
-use Rattle.ts_filter.specs.RefutedWorseDrop.{Spans, IsUsable, IsRefuted, IsCut}
+use Rattle.ts_filter.specs.RefutedWorseDrop.{Spans, IsUsable, IsRequirement, IsRefuted, IsCut, IsDrop}
 use Rattle.ts_filter.specs.Rules.{Head}
 use Rattle.ts_filter.specs.Steps.{Steps}
+use Rattle.ts_filter.specs.Tests.{is_refuted, is_cut, is_drop}
 use Rattle.ts_filter.specs.Tree.{Tree, tree_lines, told_after, Fits}
 
 -- What is asked of spans.
@@ -38,6 +44,45 @@ HoldsValues m s =
 
 abbrev pub ValuesAreSound : Type 0
 ValuesAreSound = (m : Stated) (s : Spans) → HoldsValues m s → IsSound m s
+
+-- on the box of one series, the span of a term at the last cell holds its value alone
+abbrev pub TellsSingles : Stated → Spans → Type 0
+TellsSingles m s =
+    (term : ℕ) (x : List ℤ) (v : Ext) → InBox x m.cells → value_at m x term ≡ Some v →
+    s.span_at term (length x) (box_of x) ≡ one_span v
+
+-- on the box of one series, at the last cell, a requirement is refuted exactly where it isn't met, and the objective is
+-- cut exactly where its value doesn't count
+pub record IsExact (m : Stated) (s : Spans) : Type 0 where
+  pub refuted : (j : ℕ) (r : Require) (x : List ℤ) → InBox x m.cells → IsRequirement m j r →
+      IsRefuted m s j (length x) (box_of x) ↔ (IsMet m x r → ⊥)
+  pub cut : (goal : Goal) (bar : Bar) (x : List ℤ) (v : Ext) → InBox x m.cells → objective_of m x ≡ Some v →
+      IsCut m s goal (length x) (box_of x) bar ↔ (counts goal bar v ≡ false)
+
+abbrev pub SinglesAreExact : Type 0
+SinglesAreExact = (m : Stated) (s : Spans) → IsWhole m → TellsSingles m s → IsExact m s
+
+-- where fewer values count, more boxes are cut
+abbrev pub HigherBarCutsMore : Type 0
+HigherBarCutsMore =
+    (m : Stated) (s : Spans) (goal : Goal) (p : ℕ) (b : Box) (lower higher : Bar) →
+    ((v : Ext) → counts goal higher v ≡ true → counts goal lower v ≡ true) →
+    IsCut m s goal p b lower → IsCut m s goal p b higher
+
+-- a drop loses no series that meets
+abbrev pub DropLosesNone : Type 0
+DropLosesNone =
+    (m : Stated) (s : Spans) (k : ℕ) (v : ℤ) (j : ℕ) (b : Box) (x : List ℤ) → IsSound m s → IsPart b m.cells →
+    IsDrop m s k v j b → InBox x b → Meets m x → InBox x (without k v b)
+
+-- the tests tell it
+pub record AreTests (m : Stated) (s : Spans) : Type 0 where
+  pub refuted : (j p : ℕ) (b : Box) → IsTrue (is_refuted m s j p b) ↔ IsRefuted m s j p b
+  pub cut : (goal : Goal) (p : ℕ) (b : Box) (bar : Bar) → IsTrue (is_cut m s goal p b bar) ↔ IsCut m s goal p b bar
+  pub drop : (k : ℕ) (v : ℤ) (j : ℕ) (b : Box) → IsTrue (is_drop m s k v j b) ↔ IsDrop m s k v j b
+
+abbrev pub TestsTell : Type 0
+TestsTell = (m : Stated) (s : Spans) → AreTests m s
 
 -- Boxes.
 
@@ -83,6 +128,20 @@ abbrev pub FewWait : Type 0
 FewWait =
     (m : Stated) (s : Spans) (h : Head) (ls : List TreeLine) (waiting : List Box) (told : ℕ) → IsBox m.cells →
     Steps m s h (m.cells ∷ []) 0 ls waiting told → length waiting + length m.cells ≤ total_of m.cells + 1
+
+-- lines one after another
+abbrev pub StepsGoOn : Type 0
+StepsGoOn =
+    (m : Stated) (s : Spans) (h : Head) (ls more : List TreeLine) (waiting left end : List Box) (told after last : ℕ) →
+    Steps m s h waiting told ls left after → Steps m s h left after more end last →
+    Steps m s h waiting told (ls ++ more) end last
+
+-- each line is in the ranges of the grammar, where the model keeps its limits
+abbrev pub LinesInRange : Type 0
+LinesInRange =
+    (m : Stated) (s : Spans) (h : Head) (ls : List TreeLine) (waiting : List Box) (told : ℕ) → IsBox m.cells →
+    length m.cells ≤ most_cells → length m.requirements ≤ most_requirements →
+    Steps m s h (m.cells ∷ []) 0 ls waiting told → list_all is_tree_line ls ≡ true
 
 -- each box that waits is one inside the model's
 abbrev pub WaitingAreParts : Type 0

@@ -8,4 +8,5 @@ pub mod Lines
 pub mod RefutedWorseDrop
 pub mod Rules
 pub mod Steps
+pub mod Tests
 pub mod Tree

@@ -2,7 +2,8 @@
 
 ghost use Rattle.ts_filter.specs.Laws.{AcceptedHolds, AcceptedIsKept, FailingIsRejected, LinesGoOn, OneFirstFailing};
 ghost use Rattle.ts_filter.specs.Laws.{DropLeavesOthers, LowerSideFirst, SplitCutsInTwo, ValuesAreSound};
-ghost use Rattle.ts_filter.specs.Laws.{FewWait, TreeIsShort, TreeIsSteps, WaitingAreParts};
+ghost use Rattle.ts_filter.specs.Laws.{DropLosesNone, HigherBarCutsMore, SinglesAreExact, TestsTell};
+ghost use Rattle.ts_filter.specs.Laws.{FewWait, LinesInRange, StepsGoOn, TreeIsShort, TreeIsSteps, WaitingAreParts};
 
 /// A split cuts the series of a box in two; the lower side's come first where the cells before have one value each.
 pub fn split_cuts_in_two()
@@ -31,10 +32,36 @@ pub fn few_wait()
     ensures parts { WaitingAreParts }
 {}
 
+/// Lines that keep their rules one after another do so together, and each of them is in the grammar.
+pub fn steps_go_on()
+    ensures more { StepsGoOn }
+    ensures ranges { LinesInRange }
+{}
+
 /// Where spans hold the values of their terms, what is refuted has no series that meets, and what is cut none that
 /// counts.
 pub fn values_are_sound()
     ensures { ValuesAreSound }
+{}
+
+/// On the box of one series, where its spans at the last cell hold the value alone, refuted and cut are exact.
+pub fn singles_are_exact()
+    ensures { SinglesAreExact }
+{}
+
+/// Where fewer values count for a bar, more boxes are cut.
+pub fn higher_bar_cuts_more()
+    ensures { HigherBarCutsMore }
+{}
+
+/// A drop loses no series that meets.
+pub fn drop_loses_none()
+    ensures { DropLosesNone }
+{}
+
+/// The tests that compute tell what is refuted, cut and may be dropped.
+pub fn tests_tell()
+    ensures { TestsTell }
 {}
 
 /// What is accepted is true: of every certificate, whoever wrote it.
