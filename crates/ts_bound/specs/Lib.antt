@@ -1,0 +1,4 @@
+pub mod Hulls
+pub mod NextRow
+pub mod Filling
+pub mod HullTables
