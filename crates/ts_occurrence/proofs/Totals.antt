@@ -58,10 +58,6 @@ pub some_within : (m n : ℕ) (o : Option ℤ) → m ≤ n → IfSome o (λ s. I
 some_within m n None q h = tt
 some_within m n (Some s) q h = let h0 = h.0 in let h1 = h.1 in (omega (arith, ints), omega (arith, ints))
 
-pub or_zero_within : (n : ℕ) (o : Option ℤ) → IfSome o (λ s. IsWithin n s) → IsWithin n (or_zero o)
-or_zero_within n None h = (omega (arith, ints), omega (arith, ints))
-or_zero_within n (Some s) h = h
-
 -- a plain sum from 0
 pub sum_over : (xs : List ℤ) → fold ◌+ℤ◌ (pos 0) xs ≡ or_zero (over ◌+ℤ◌ xs)
 sum_over [] = refl

@@ -308,11 +308,6 @@ started_tour rows p plan n t f e a o none =
       inside = omega (arith, no);
     }
 
--- a tour never has more arrivals than there are configurations
-pub few_arrivals : (rows : List Row) (p : Pattern) (plan : Plan) (xs : List Arrival) (os : List (Option ℕ)) → Reaches (against rows p plan) xs os →
-    length xs ≤ length plan.configurations.items
-few_arrivals rows p plan xs os h = let c = h.count in let z = h.size in let n = plan_size rows p plan in omega arith
-
 -- each path to arrival `at` goes on by the letters w to arrival k
 abbrev pub Continues : List Arrival → ℕ → ℕ → List Letter → Type 0
 Continues xs k at w = (v : List Letter) → IsPath xs at v → IsPath xs k (v ++ w)
