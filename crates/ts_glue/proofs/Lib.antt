@@ -6,3 +6,4 @@ pub mod TwoForms
 pub mod Locality
 pub mod Calls
 pub mod CallerLemmas
+pub mod Whole

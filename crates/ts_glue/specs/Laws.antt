@@ -62,7 +62,8 @@ TwoFormsAgree =
 -- before the mark, hulls that hold more give a glued span that holds more
 abbrev pub GluedSpansGrow : Type 0
 GluedSpansGrow =
-    (p : Pair) (q r : ℕ) (h i wider_h wider_i : EachOf Span) (x : ℤ) → Each IsWithin h wider_h → Each IsWithin i wider_i →
+    (p : Pair) (q r : ℕ) (h i wider_h wider_i : EachOf Span) (x : ℤ) →
+    Each IsWithin h wider_h → Each IsWithin i wider_i →
     IsWithin
     (glue_span_at p (standing q h) (standing r i) x)
     (glue_span_at p (standing q wider_h) (standing r wider_i) x)

@@ -51,7 +51,9 @@ starts_neutral p = is_neutral (result_op p) p.reverse.start.c && is_neutral (res
 -- both states of each Join pair exist
 abbrev pub has_join_states : Pair → Bool
 has_join_states p =
-    list_all (λ j. nat_lt j.forward (length p.forward.states) && nat_lt j.reverse (length p.reverse.states)) p.table.joins
+    list_all
+    (λ j. nat_lt j.forward (length p.forward.states) && nat_lt j.reverse (length p.reverse.states))
+    p.table.joins
 
 -- the reverse start state stands in no Join pair
 abbrev pub starts_apart : Pair → Bool

@@ -16,8 +16,8 @@ use ts_automaton::{At, Op, Regs};
 use ts_base::Ext;
 
 /// The value of a series of `n` cells from the two runs that meet at the cell of this value, from -1,000,000 to
-/// 1,000,000: `left` is where the forward automaton stands after the cells up to it, `right` where the reverse one stands
-/// after the cells from the last one down to it. Only for a machine that can be split.
+/// 1,000,000: `left` is where the forward automaton stands after the cells up to it, `right` where the reverse one
+/// stands after the cells from the last one down to it. Only for a machine that can be split.
 pub fn glue_value(m: &Machine, left: At, right: At, cell: i64, n: u32) -> Ext
     requires split { IsSome (pair_of m.now) }
     requires left { Stands (forward_of m.now) (standing_of left) }
@@ -39,7 +39,7 @@ pub fn glue_value(m: &Machine, left: At, right: At, cell: i64, n: u32) -> Ext
 
 impl Shape {
     /// The glued value before the mark; each operator in it meets two values that it takes.
-    fn value(self, result_op: Op, left: &Regs, right: &Regs) -> Ext
+    pub(crate) fn value(self, result_op: Op, left: &Regs, right: &Regs) -> Ext
         requires fits { Meets Fits numbers (regs_of left.now) (regs_of right.now) (shape_glue result_op self) }
         requires worth { IsWorth self }
         ensures { result ≡ glue_in numbers (regs_of left.now) (regs_of right.now) (shape_glue result_op self) }
@@ -76,7 +76,8 @@ fn folded_between(
     left: &Regs,
     right: &Regs,
 ) -> Ext
-    requires { Meets Fits numbers (regs_of left.now) (regs_of right.now) (folded_between fold held_left held_right worth) }
+    requires { Meets Fits numbers
+        (regs_of left.now) (regs_of right.now) (folded_between fold held_left held_right worth) }
     ensures { result ≡
         glue_in numbers (regs_of left.now) (regs_of right.now) (folded_between fold held_left held_right worth) }
 {

@@ -2,8 +2,8 @@
 
 ghost use Rattle.ts_glue.specs.Laws.{GluedSpansGrow, GluedSpansHold, GluedStaysSingle, LocalIsAnswer, MarkedSpansHold, NoneGluesToNone, OperandsFit, StartGluesToFinish, TwoFormsAgree};
 
-/// Where the glued value is the same at all cells of a series, and at the last one the forward answer, it is the forward
-/// answer at every cell.
+/// Where the glued value is the same at all cells of a series, and at the last one the forward answer, it is the
+/// forward answer at every cell.
 #[tactic(auto, using(crate::proofs::Locality::local_is_answer))]
 pub fn local_is_answer()
     ensures { LocalIsAnswer }

@@ -18,6 +18,8 @@ mod machine;
 mod shape;
 mod span_glue;
 mod table;
+#[cfg(test)]
+mod tests;
 
 pub use glue::glue_value;
 pub use machine::Machine;

@@ -17,7 +17,8 @@ use ts_automaton::Automaton;
 pub struct Machine {
     forward: Automaton,
     half: Option<Half>,
-    pub ghost rules: { (h : Half) → half ≡ Some h → IsTrue (keeps_rules (pair forward h.reverse (table_view h.table))) },
+    pub ghost rules: { (h : Half) → half ≡ Some h →
+        IsTrue (keeps_rules (pair forward h.reverse (table_view h.table))) },
     pub ghost local: { (h : Half) → half ≡ Some h → Local (pair forward h.reverse (table_view h.table)) },
 }
 

@@ -15,8 +15,8 @@ use crate::shape::{Shape, first_op, opposite};
 use ts_automaton::{Hull, HullAt, Op};
 use ts_base::{Ext, Span};
 
-/// The span of the values from two hulls that meet at a cell, as `glue_value` gives one from registers. It is none where
-/// a hull is none. The mark is applied to both ends, and the hull of the two is taken.
+/// The span of the values from two hulls that meet at a cell, as `glue_value` gives a value from registers. It is none
+/// where a hull is none. The mark is applied to both ends, and the hull of the two is taken.
 pub fn glue_span(m: &Machine, left: HullAt, right: HullAt, cell: i64, n: u32) -> Span
     requires split { IsSome (pair_of m.now) }
     requires left { HullStands (forward_of m.now) (hull_standing left) }
@@ -41,7 +41,7 @@ pub fn glue_span(m: &Machine, left: HullAt, right: HullAt, cell: i64, n: u32) ->
 
 impl Shape {
     /// The glued span before the mark; each operator in it meets two spans that it takes.
-    fn span(self, result_op: Op, left: &Hull, right: &Hull) -> Span
+    pub(crate) fn span(self, result_op: Op, left: &Hull, right: &Hull) -> Span
         requires fits { Meets SpansFit spans (spans_of left.now) (spans_of right.now) (shape_glue result_op self) }
         requires worth { IsWorth self }
         ensures { result ≡ glue_in spans (spans_of left.now) (spans_of right.now) (shape_glue result_op self) }

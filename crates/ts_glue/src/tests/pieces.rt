@@ -1,0 +1,182 @@
+//! The automaton of the widths of peaks, its runs and halves, and glued values of registers that are numbers.
+
+ghost use Rattle.std.specs.Prelude.{IfSome};
+ghost use Rattle.ts_automaton.specs.AutomatonRun.{Stands, standing_of};
+ghost use Rattle.ts_automaton.specs.Kinds.{HasKind, SpanHasKind};
+ghost use Rattle.ts_automaton.specs.Registers.{Each, each, regs_of, spans_of};
+ghost use Rattle.ts_automaton.specs.declared.kind.RegKind.TheVariants.{Int as Whole};
+
+use crate::half::Half;
+use crate::shape::first_op;
+use crate::{CellUnit, FoldOp, GlueTable};
+use std::alloc::Global;
+use std::test::Fail;
+use ts_automaton::{At, Automaton, Hull, Regs, read};
+use ts_base::{Ext, Join, Span};
+
+/// A state, and three registers that are numbers.
+#[derive(Clone, Copy, Debug, PartialEq, Eq)]
+pub(crate) struct Standing {
+    pub(crate) state: u8,
+    pub(crate) c: i64,
+    pub(crate) d: i64,
+    pub(crate) r: i64,
+}
+
+/// The lines of the automaton before its finish line.
+static LINES: [&str; 14] = [
+    "forward",
+    "state s free",
+    "state r free",
+    "state t held",
+    "start 0 0 0",
+    "move s < r ; C ; D ; R",
+    "move s = s ; C ; D ; R",
+    "move s > s ; C ; D ; R",
+    "move r < r ; C ; add D 1 ; R",
+    "move r = r ; C ; add D 1 ; R",
+    "move r > t ; add D 1 ; 0 ; R",
+    "move t < r ; 0 ; 0 ; add R C",
+    "move t = t ; C ; add D 1 ; R",
+    "move t > t ; add C add D 1 ; 0 ; R",
+];
+
+// The table behind a function, so that the proofs don't read it.
+fn lines() -> &'static [&'static str] {
+    &LINES
+}
+
+/// The automaton whose results are joined by an operator.
+pub(crate) fn automaton(alloc: Global, finish: &str) -> Result<Automaton, Fail> {
+    let mut text = Vec::new(alloc);
+    for line in lines() {
+        text.extend_from_slice(line.as_bytes())?;
+        text.push(b'\n')?;
+    }
+    text.extend_from_slice(b"finish ")?;
+    text.extend_from_slice(finish.as_bytes())?;
+    text.extend_from_slice(b" R C same\nend\n")?;
+    match read(alloc, &text) {
+        Ok(automaton) => Ok(automaton),
+        Err(_) => Err("refused")?,
+    }
+}
+
+/// The same as a reverse automaton, with the pairs of its second and third state.
+pub(crate) fn half(
+    alloc: Global,
+    finish: &str,
+    a: u8,
+    op: FoldOp,
+    unit: CellUnit,
+) -> Result<Half, Fail> {
+    let mut joins = Vec::new(alloc);
+    for (forward, reverse) in [(1, 1), (1, 2), (2, 1), (2, 2)] {
+        joins.push(Join { forward, reverse })?;
+    }
+    let reverse = automaton(alloc, finish)?;
+    let table = GlueTable { a, op, unit, joins };
+    Ok(Half { reverse, table })
+}
+
+/// Where the automaton stands after the first cells of the series. None where a register is no number.
+pub(crate) fn run(automaton: &Automaton, series: &[i64], cells: usize) -> Option<Standing> {
+    let at = after(automaton, series, cells);
+    match (at.regs.c, at.regs.d, at.regs.r) {
+        (Ext::Int(c), Ext::Int(d), Ext::Int(r)) => Some(Standing {
+            state: at.state,
+            c,
+            d,
+            r,
+        }),
+        _ => None,
+    }
+}
+
+fn after(automaton: &Automaton, series: &[i64], cells: usize) -> At
+    ensures { Stands automaton.now (standing_of result) }
+{
+    let mut at = automaton.start();
+    for k in 1..series.len() {
+        if k < cells {
+            at = automaton.step(at, series[k - 1], series[k]);
+        }
+    }
+    at
+}
+
+fn regs(at: Standing) -> Regs
+    ensures { Each HasKind (each Whole Whole Whole) (regs_of result) }
+{
+    Regs {
+        c: Ext::Int(at.c),
+        d: Ext::Int(at.d),
+        r: Ext::Int(at.r),
+    }
+}
+
+/// The hull of two standings. None where one of its spans holds no number.
+fn hull(lo: Standing, hi: Standing) -> Option<Hull>
+    ensures { IfSome result (λ h. Each SpanHasKind (each Whole Whole Whole) (spans_of h)) }
+{
+    Some(Hull {
+        c: span(lo.c, hi.c)?,
+        d: span(lo.d, hi.d)?,
+        r: span(lo.r, hi.r)?,
+    })
+}
+
+/// The span from one number to another. None where it holds no number.
+fn span(lo: i64, hi: i64) -> Option<Span>
+    ensures { IfSome result (SpanHasKind Whole) }
+{
+    if lo <= hi {
+        Some(Span {
+            lo: Ext::Int(lo),
+            hi: Ext::Int(hi),
+        })
+    } else {
+        None
+    }
+}
+
+/// The glued value before the mark.
+#[tactic(auto, using(crate::proofs::Whole::numbers_meet))]
+pub(crate) fn glued(
+    forward: &Automaton,
+    half: &Half,
+    left: Standing,
+    right: Standing,
+    cell: i64,
+) -> Option<Ext> {
+    if !(left.state < forward.states() && right.state < half.reverse.states()) {
+        return None;
+    }
+    if cell < -1_000_000 || 1_000_000 < cell {
+        return None;
+    }
+    let shape = half.shape(forward, left.state, right.state, cell);
+    let result_op = first_op(forward.finish_expr());
+    Some(shape.value(result_op, &regs(left), &regs(right)))
+}
+
+/// The glued span before the mark; each side has its lower and its upper ends.
+#[tactic(auto, using(crate::proofs::Whole::spans_meet))]
+pub(crate) fn glued_span(
+    forward: &Automaton,
+    half: &Half,
+    left: (Standing, Standing),
+    right: (Standing, Standing),
+    cell: i64,
+) -> Option<Span> {
+    if !(left.0.state < forward.states() && right.0.state < half.reverse.states()) {
+        return None;
+    }
+    if cell < -1_000_000 || 1_000_000 < cell {
+        return None;
+    }
+    let shape = half.shape(forward, left.0.state, right.0.state, cell);
+    let result_op = first_op(forward.finish_expr());
+    let (left, right) = (hull(left.0, left.1)?, hull(right.0, right.1)?);
+    Some(shape.span(result_op, &left, &right))
+}
