@@ -67,13 +67,15 @@ some_by f all (p ∷ ps) a some none = nothing_in p.low (subst (λ l. Contains l
 pub cut_rises : (rs ps : List Interval) → IsCut rs ps → Rising (values_of rs)
 cut_rises rs ps cut = values_rise (neg_ℤ (pos 1000000)) rs cut.set.apart
 
+pub cut_domain : (rs ps : List Interval) → IsCut rs ps → IsDomain (values_by (values_of rs) ps)
+cut_domain rs ps cut = record {
+  rising = (pieces_rise (neg_ℤ (pos 1000000)) (values_of rs) ps (cut_rises rs ps cut) cut.apart).0;
+  some = some_by (neg_ℤ (pos 1000000)) (values_of rs) ps cut.apart cut.some;
+  within = pieces_each WithinLimits (values_of rs) ps (ranges_are_domain rs cut.set).within;
+}
+
 pub cut_is_domain : (rs ps : List Interval) (values : List ℤ) → values_by (values_of rs) ps ≡ values → IsCut rs ps → IsDomain values
-cut_is_domain rs ps values view cut =
-    subst IsDomain view (record {
-      rising = (pieces_rise (neg_ℤ (pos 1000000)) (values_of rs) ps (cut_rises rs ps cut) cut.apart).0;
-      some = some_by (neg_ℤ (pos 1000000)) (values_of rs) ps cut.apart cut.some;
-      within = pieces_each WithinLimits (values_of rs) ps (ranges_are_domain rs cut.set).within;
-    })
+cut_is_domain rs ps values view cut = subst IsDomain view (cut_domain rs ps cut)
 
 -- a rising list within the limits is short
 few_rising : (f : ℤ) (xs : List ℤ) → f ≤ℤ pos 1000001 → Rising xs → AllByRecursion (λ v. f ≤ℤ v) xs → AllByRecursion (λ v. v ≤ℤ pos 1000000) xs →
@@ -90,7 +92,7 @@ few_rising f (x ∷ xs) h rise low high =
 
 pub few_by : (rs ps : List Interval) → IsCut rs ps → length (values_by (values_of rs) ps) ≤ 2000001
 few_by rs ps cut =
-    let d = cut_is_domain rs ps (values_by (values_of rs) ps) refl cut in let all = values_by (values_of rs) ps in
+    let d = cut_domain rs ps cut in let all = values_by (values_of rs) ps in
     let n = few_rising (neg_ℤ (pos 1000000)) all (omega (arith, ints)) d.rising
     (all_weaker WithinLimits (λ v. neg_ℤ (pos 1000000) ≤ℤ v) (λ v h. h.0) all d.within)
     (all_weaker WithinLimits (λ v. v ≤ℤ pos 1000000) (λ v h. h.1) all d.within) in

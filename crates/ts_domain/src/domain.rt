@@ -81,10 +81,11 @@ impl Domain {
         ensures same { IfOk result (λ d. d ≡ self.now) }
         ensures domain { IfOk result IsDomain }
     {
+        let pieces = SmallVec::from_slice(self.alloc, self.pieces.as_slice())?;
         Ok(Domain {
             alloc: self.alloc,
             ranges: self.ranges.clone()?,
-            pieces: SmallVec::from_slice(self.alloc, self.pieces.as_slice())?,
+            pieces,
         })
     }
 
@@ -150,7 +151,8 @@ impl Domain {
 // The set that these ranges are.
 fn whole(alloc: Global, ranges: SmallVec<Interval, 2>) -> Result<Domain, Memory>
     requires { AreRanges ranges.items }
-    ensures { IfOk result (λ d. d ≡ values_of ranges.items) }
+    ensures same { IfOk result (λ d. d ≡ values_of ranges.items) }
+    ensures domain { IfOk result IsDomain }
 {
     let items = ranges.as_slice();
     let all = Interval {

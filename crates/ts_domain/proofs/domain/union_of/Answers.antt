@@ -2,8 +2,7 @@ use Rattle.std.proofs.Common.{◌≡◌, ℤ, ◌↔◌, subst, sym}
 use Rattle.std.specs.Prelude.{Contains}
 use Rattle.std.proofs.lemmas.Result.{IfOk-weaker}
 use Rattle.ts_domain.specs.Union.{InSome, InSomeRange}
-use Rattle.ts_domain.specs.Values.{IsDomain, values_of}
-use Rattle.ts_domain.proofs.Ranges.{ranges_are_domain}
+use Rattle.ts_domain.specs.Values.{values_of}
 use Rattle.ts_domain.proofs.domain.union_of.Goals as goal
 
 pub returns-clause-union : goal.returns-clause-union
@@ -14,9 +13,4 @@ returns-clause-union c =
       λ has. same.0 (subst (λ l. InSome l v) c.deref.ensures.value (union.0 (subst (λ l. Contains l v) is has))),
       λ some. subst (λ l. Contains l v) (sym is) (union.1 (subst (λ l. InSome l v) (sym c.deref.ensures.value) (same.1 some))),
     ))
-    c.whole.ensures
-
-pub returns-clause-domain : goal.returns-clause-domain
-returns-clause-domain c =
-    IfOk-weaker c.whole.result (λ d. d ≡ values_of c.in_ok-joined.field-0.items) IsDomain
-    (λ d is. subst IsDomain (sym is) (ranges_are_domain c.in_ok-joined.field-0.items c.in_ok-joined.ensures.apart)) c.whole.ensures
+    c.whole.ensures.same
