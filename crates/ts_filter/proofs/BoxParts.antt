@@ -1,14 +1,14 @@
 -- A box with other values in one cell: its series, its values, and that it lies inside.
 use Rattle.std.proofs.Common.{◌≡◌, ◌⊎◌, ℕ, zero, suc, ◌+◌, ◌-◌, ◌<◌, ◌≤◌, ℤ, pos, ◌≤ℤ◌, ◌<ℤ◌, int_le, int_lt, int_eq, not, take, List, [], ◌∷◌, length, get_or, set, refl, sym, ◌∙◌, ap, subst, inl, inr, ⊎_elim, arith}
 use Rattle.std.proofs.lemmas.Int.{ints}
-use Rattle.std.proofs.lemmas.List.Elements.{All-contains, All-from_recursion}
 use Rattle.std.proofs.lemmas.List.Sums.{sum_by-cons}
 use Rattle.std.specs.Prelude.{Contains}
 use Rattle.std.specs.List.{AllByRecursion}
 use Rattle.ts_domain.specs.BoxSeries.{InBox, IsBefore, IsBox, series_count}
 use Rattle.ts_domain.specs.Kept.{values_up_to, values_above, values_without}
 use Rattle.ts_domain.specs.Values.{Rising, IsDomain, WithinLimits}
-use Rattle.ts_domain.proofs.BoxLaws.{contains_cons, contains_up_to, contains_above, contains_without, in_box_at, in_box_set, from_box_set, domain_filter, length-sides, length-without, series_count-split}
+use Rattle.ts_domain.proofs.Sets.{contains_cons, each_contains}
+use Rattle.ts_domain.proofs.BoxLaws.{contains_up_to, contains_above, contains_without, in_box_at, in_box_set, from_box_set, domain_filter, length-sides, length-without, series_count-split}
 use Rattle.ts_model.specs.Stated.{total_of}
 use Rattle.ts_filter.specs.Laws.{SplitCutsInTwo, DropLeavesOthers}
 use Rattle.ts_filter.specs.Boxes.{Box, HasCell, values_at, with_values, low_side, high_side, without, only, box_of, IsInside, IsPart}
@@ -113,7 +113,7 @@ unfolding Rising
 one_domain d v h c = record {
   rising = (tt, tt);
   some = λ e. some_none v e;
-  within = (All-contains WithinLimits d v (All-from_recursion WithinLimits d h.within) c, tt);
+  within = (each_contains WithinLimits d v h.within c, tt);
 }
   where
     some_none : (v : ℤ) → v ∷ [] ≡ [] → ⊥

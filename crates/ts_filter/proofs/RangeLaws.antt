@@ -2,7 +2,6 @@
 use Rattle.std.proofs.Common.{◌≡◌, ℕ, ◌-◌, ◌<◌, ◌≤◌, ℤ, neg_ℤ, ◌≤ℤ◌, ◌<ℤ◌, true, List, [], ◌∷◌, ◌++◌, length, Option, Some, None, MatchOption, refl, inl, ◌&&◌, arith}
 use Rattle.std.proofs.lemmas.Bool.{and_from}
 use Rattle.std.proofs.lemmas.Int.{ints}
-use Rattle.std.proofs.lemmas.List.Elements.{All-contains, All-from_recursion}
 use Rattle.std.proofs.lemmas.Option.{slice_get_within}
 use Rattle.std.specs.Prelude.{Contains}
 use Rattle.std.specs.List.{AllByRecursion, list_all}
@@ -16,7 +15,8 @@ use Rattle.ts_certificate.specs.Ranges.{is_value, is_cell, is_requirement}
 use Rattle.ts_certificate.specs.TreeLines.{is_tree_line}
 use Rattle.ts_domain.specs.Kept.{values_up_to, values_above}
 use Rattle.ts_domain.specs.Values.{IsDomain, WithinLimits}
-use Rattle.ts_domain.proofs.BoxLaws.{contains_cons, contains_up_to, contains_above}
+use Rattle.ts_domain.proofs.Sets.{contains_cons, each_contains}
+use Rattle.ts_domain.proofs.BoxLaws.{contains_up_to, contains_above}
 use Rattle.ts_model.specs.declared.model.Require.{Require}
 use Rattle.ts_model.specs.Stated.{Stated}
 use Rattle.ts_filter.specs.Boxes.{Box, HasCell, values_at, IsPart}
@@ -45,7 +45,7 @@ first_of [] some = absurd (some refl)
 first_of (v ∷ d) some = (v, (contains_cons v d v).1 (inl refl))
 
 within_limits : (d : List ℤ) (v : ℤ) → IsDomain d → Contains d v → WithinLimits v
-within_limits d v h c = All-contains WithinLimits d v (All-from_recursion WithinLimits d h.within) c
+within_limits d v h c = each_contains WithinLimits d v h.within c
 
 module _ (m : Stated) (s : Spans) (h : Head) (few : length m.cells ≤ most_cells) (short : length m.requirements ≤ most_requirements) where
   cell_in : (k : ℕ) (b : Box) → IsPart b m.cells → HasCell k b → is_cell k ≡ true
