@@ -1,9 +1,9 @@
-mod BoxParts
-mod SpanEnds
-mod TreeLaws
+pub mod BoxParts
+pub mod SpanEnds
+pub mod TreeLaws
 mod SeriesLines
 mod Answered
-mod LineLaws
-mod SoundLaws
-mod TestLaws
+pub mod LineLaws
+pub mod SoundLaws
+pub mod TestLaws
 mod RangeLaws

@@ -1,12 +1,12 @@
 -- A certificate is accepted exactly where its lines keep their rules one after another; the first that doesn't is one.
-use Rattle.std.proofs.Common.{◌≡◌, ℕ, zero, suc, ℤ, List, [], ◌∷◌, ◌++◌, map, length, Some, refl, sym, ◌∙◌, ap, subst, arith, append_assoc, append-nil}
+use Rattle.std.proofs.Common.{◌≡◌, ℕ, zero, suc, ℤ, List, [], ◌∷◌, ◌++◌, map, length, Some, None, refl, sym, ◌∙◌, ap, subst, arith, append_assoc, append-nil}
 use Rattle.ts_certificate.specs.declared.certificate.TreeLine.{TreeLine}
 use Rattle.ts_certificate.specs.Certificate.{Cert, cert_lines, end_line}
 use Rattle.ts_certificate.specs.Grammar.{CertLine, SaysSeries, SaysTree, series_count}
 use Rattle.ts_model.specs.Stated.{Stated}
 use Rattle.ts_filter.specs.Accepts.{AllFit, AllTold, HasTree, Accepts}
 use Rattle.ts_filter.specs.Boxes.{Box}
-use Rattle.ts_filter.specs.Laws.{AcceptedIsKept, OneFirstFailing, FailingIsRejected, LinesGoOn}
+use Rattle.ts_filter.specs.Laws.{AcceptedIsKept, OneFirstFailing, FailingIsRejected, LinesGoOn, WholeIsJudged}
 use Rattle.ts_filter.specs.Lines.{Stand, first_stand, KeepsLine, stand_after, Leads, FailsAt}
 use Rattle.ts_filter.specs.RefutedWorseDrop.{Spans}
 use Rattle.ts_filter.specs.Rules.{Head, head_of}
@@ -149,3 +149,7 @@ lines_go_on m s ls l = record {
   breaks = λ t u r n. subst (λ k. FailsAt m s (first_stand m) (ls ++ l ∷ []) k) (omega arith) (fails_last m s (first_stand m) t ls l r n);
   broken = λ t u n p. fails_more m s (first_stand m) ls (l ∷ []) n p;
 }
+
+pub whole_is_judged : WholeIsJudged
+whole_is_judged m s c t None n f = leads_accepted m s c t n f
+whole_is_judged m s c t (Some k) n f = (f, λ a. failing_is_rejected m s c k f a)

@@ -1,7 +1,7 @@
 -- What is promised of boxes, trees and certificates, and what is asked of spans for it.
 use Rattle.std.specs.Prelude.{◌≡◌, ℕ, ◌+◌, ◌-◌, ◌*◌, ◌≤◌, ◌⊎◌, ◌↔◌, ℤ, pos, true, false, IsTrue, List, [], ◌∷◌, ◌++◌}
 use Rattle.std.specs.Prelude.{Some, None}
-use Rattle.std.specs.Prelude.{get_or, length, take}
+use Rattle.std.specs.Prelude.{Option, MatchOption, get_or, length, take}
 use Rattle.std.specs.List.{AllByRecursion, list_all}
 use Rattle.ts_base.specs.declared.ext.Ext.{Ext}
 use Rattle.ts_base.specs.declared.goal.Goal.{Goal}
@@ -178,3 +178,10 @@ pub record GoesOn (m : Stated) (s : Spans) (ls : List CertLine) (l : CertLine) :
 
 abbrev pub LinesGoOn : Type 0
 LinesGoOn = (m : Stated) (s : Spans) (ls : List CertLine) (l : CertLine) → GoesOn m s ls l
+
+-- what is known of all lines of a certificate is the verdict on it
+abbrev pub WholeIsJudged : Type 0
+WholeIsJudged =
+    (m : Stated) (s : Spans) (c : Cert) (t : Stand) (failed : Option ℕ) → length c.series ≡ series_count c.claim →
+    Found m s (cert_lines c) t failed →
+    MatchOption failed (Accepts m s c) (λ n. IsFirstFailing m s c n × (Accepts m s c → ⊥))

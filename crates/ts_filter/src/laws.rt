@@ -1,6 +1,7 @@
 //! Laws of the definitions: functions that do nothing, each with what it proves as its clause.
 
-ghost use Rattle.ts_filter.specs.Laws.{AcceptedHolds, AcceptedIsKept, FailingIsRejected, LinesGoOn, OneFirstFailing};
+ghost use Rattle.ts_filter.specs.Laws.{AcceptedHolds, AcceptedIsKept, FailingIsRejected, OneFirstFailing};
+ghost use Rattle.ts_filter.specs.Laws.{LinesGoOn, WholeIsJudged};
 ghost use Rattle.ts_filter.specs.Laws.{DropLeavesOthers, LowerSideFirst, SplitCutsInTwo, ValuesAreSound};
 ghost use Rattle.ts_filter.specs.Laws.{DropLosesNone, HigherBarCutsMore, SinglesAreExact, TestsTell};
 ghost use Rattle.ts_filter.specs.Laws.{FewWait, LinesInRange, StepsGoOn, TreeIsShort, TreeIsSteps, WaitingAreParts};
@@ -80,7 +81,8 @@ pub fn failing_is_rejected()
     ensures rejected { FailingIsRejected }
 {}
 
-/// What is known of lines as far as they are read, after one more.
+/// What is known of lines as far as they are read: after one more, and of all of them, where it is the verdict.
 pub fn lines_go_on()
-    ensures { LinesGoOn }
+    ensures more { LinesGoOn }
+    ensures whole { WholeIsJudged }
 {}
