@@ -14,11 +14,12 @@ use Rattle.ts_automaton.proofs.RunLaws.{kinds_are_kept}
 use Rattle.ts_automaton.specs.Registers.{spans_of}
 use Rattle.ts_automaton.specs.Body.{Body}
 use Rattle.ts_automaton.specs.AutomatonRun.{Standing}
-use Rattle.ts_automaton.specs.SpanRun.{HullStands, span_step, hull_standing}
+use Rattle.ts_automaton.specs.SpanRun.{HullStands, span_step, hull_standing, one_hull}
 use Rattle.ts_base.specs.declared.span.Span.{Span}
 use Rattle.ts_bound.specs.Hulls.{hull_of, none, hull_of_both, hull_of_all}
 use Rattle.ts_bound.specs.NextRow.{Source, standing_at, sources_from, sources, given, next_hull, next_hulls, next_row, states_of}
 use Rattle.ts_bound.specs.Filling.{over, taken_in}
+use Rattle.ts_bound.specs.HullTables.{start_hull, hull_at, hulls_at, row_of}
 use Rattle.ts_bound.proofs.HullLaws.{TakesNone, both_takes_none, none_takes_none}
 
 -- lists: ws over xs from place i on
@@ -310,9 +311,11 @@ pub length-next_hulls : (b : Body) (ss : List Source) (w : ℤ) → length (next
 unfolding next_hulls
 length-next_hulls b ss w = length-map-range_with_len (next_hull b ss w) 0 (length b.states)
 
+abbrev pub LeftOf : ℕ → (ℤ → List Hull) → List ℤ → List ℤ → ℕ → List Hull → Type 0
+LeftOf n f ws left at next = (take at next ++ flat_map f left ≡ flat_map f ws) × (at + length left * n ≡ length next)
+
 abbrev pub LeftOfValues : Body → List ℤ → List Hull → List ℤ → List ℤ → ℕ → List Hull → Type 0
-LeftOfValues b vs row ws left at next =
-    (take at next ++ next_row b vs row left ≡ next_row b vs row ws) × (at + length left * length b.states ≡ length next)
+LeftOfValues b vs row ws left at next = LeftOf (length b.states) (next_hulls b (sources (length b.states) vs row)) ws left at next
 
 take_over : {X : Type 0} (xs : List X) (i m : ℕ) (ws : List X) → i + length ws ≤ length xs → m ≡ length ws → take (i + m) (over xs i ws) ≡ take i xs ++ ws
 take_over xs i m ws h e =
@@ -321,26 +324,86 @@ take_over xs i m ws h e =
     ap (λ t. take (i + m) t) (sym (append_assoc (take i xs) ws (drop (i + length ws) xs)))
     ∙ ap (λ n. take n ((take i xs ++ ws) ++ drop (i + length ws) xs)) at ∙ take-append_seam (take i xs ++ ws) (drop (i + length ws) xs)
 
-pub values_more : (b : Body) (m : ℕ) (vs ws left left' : List ℤ) (w w' : ℤ) (row : List Hull) (at : ℕ) (next next' : List Hull) → left ≡ w ∷ left' → w' ≡ w →
-    m ≡ length b.states → next' ≡ over next at (next_hulls b (sources (length b.states) vs row) w') → LeftOfValues b vs row ws left at next →
-    LeftOfValues b vs row ws left' (at + m) next'
-unfolding next_row
-values_more b m vs ws left left' w w' row at next next' is is_w is_m given inv =
-    let n = length b.states in
-    let hs = next_hulls b (sources n vs row) w in
-    let step : next' ≡ over next at hs = given ∙ ap (λ u. over next at (next_hulls b (sources n vs row) u)) is_w in
-    let long = length-next_hulls b (sources n vs row) w in
-    let fits : at + length hs ≤ length next = (let f = part_fits n left left' w at next is inv.1 in omega (arith, f, long)) in
+pub left_fits : (n m : ℕ) (f : ℤ → List Hull) (ws left left' : List ℤ) (w : ℤ) (at : ℕ) (next : List Hull) → left ≡ w ∷ left' → m ≡ n → LeftOf n f ws left at next →
+    at + m ≤ length next
+left_fits n m f ws left left' w at next is is_m inv = let g = part_fits n left left' w at next is inv.1 in omega (arith, g, is_m)
+
+pub left_more : (n m : ℕ) (f : ℤ → List Hull) → ((w : ℤ) → length (f w) ≡ n) → (ws left left' : List ℤ) (w w' : ℤ) (at : ℕ) (next next' : List Hull) →
+    left ≡ w ∷ left' → w' ≡ w → m ≡ n → next' ≡ over next at (f w') → LeftOf n f ws left at next → LeftOf n f ws left' (at + m) next'
+left_more n m f size ws left left' w w' at next next' is is_w is_m given inv =
+    let hs = f w in
+    let step : next' ≡ over next at hs = given ∙ ap (λ u. over next at (f u)) is_w in
+    let long = size w in
+    let fits : at + length hs ≤ length next = (let g = part_fits n left left' w at next is inv.1 in omega (arith, g, long)) in
     let l = ap (λ t. length t * n) is in
     let same = ap length step ∙ length-over next at hs fits in
-    subst (λ k. LeftOfValues b vs row ws left' (at + k) next') (sym is_m) (
-      ap (λ t. take (at + n) t ++ next_row b vs row left') step ∙ ap (λ t. t ++ next_row b vs row left') (take_over next at n hs fits (sym long))
-          ∙ append_assoc (take at next) hs (next_row b vs row left') ∙ ap (λ t. take at next ++ next_row b vs row t) (sym is) ∙ inv.0,
+    subst (λ k. LeftOf n f ws left' (at + k) next') (sym is_m) (
+      ap (λ t. take (at + n) t ++ flat_map f left') step ∙ ap (λ t. t ++ flat_map f left') (take_over next at n hs fits (sym long))
+          ∙ append_assoc (take at next) hs (flat_map f left') ∙ ap (λ t. take at next ++ flat_map f t) (sym is) ∙ inv.0,
       (let k = inv.1 in omega (arith, k, l, same)),
     )
 
-pub values_done : (b : Body) (vs ws left : List ℤ) (row : List Hull) (at : ℕ) (next : List Hull) → left ≡ [] → LeftOfValues b vs row ws left at next → next ≡ next_row b vs row ws
+pub left_done : (n : ℕ) (f : ℤ → List Hull) (ws left : List ℤ) (at : ℕ) (next : List Hull) → left ≡ [] → LeftOf n f ws left at next → next ≡ flat_map f ws
+left_done n f ws left at next none_left inv =
+    let end : length next ≤ at = (let l = ap (λ t. length t * n) none_left in let k = inv.1 in omega (arith, l, k)) in
+    sym (ap (λ t. take at next ++ flat_map f t) none_left ∙ append-nil (take at next) ∙ take_all at next end) ∙ inv.0
+
+pub values_more : (b : Body) (m : ℕ) (vs ws left left' : List ℤ) (w w' : ℤ) (row : List Hull) (at : ℕ) (next next' : List Hull) → left ≡ w ∷ left' →
+    w' ≡ w → m ≡ length b.states → next' ≡ over next at (next_hulls b (sources (length b.states) vs row) w') → LeftOfValues b vs row ws left at next →
+    LeftOfValues b vs row ws left' (at + m) next'
+values_more b m vs ws left left' w w' row at next next' is is_w is_m given inv =
+    let n = length b.states in
+    left_more n m (next_hulls b (sources n vs row)) (length-next_hulls b (sources n vs row)) ws left left' w w' at next next' is is_w is_m given inv
+
+pub values_done : (b : Body) (vs ws left : List ℤ) (row : List Hull) (at : ℕ) (next : List Hull) → left ≡ [] → LeftOfValues b vs row ws left at next →
+    next ≡ next_row b vs row ws
 unfolding next_row
 values_done b vs ws left row at next none_left inv =
-    let end : length next ≤ at = (let l = ap (λ t. length t * length b.states) none_left in let k = inv.1 in omega (arith, l, k)) in
-    sym (ap (λ t. take at next ++ next_row b vs row t) none_left ∙ append-nil (take at next) ∙ take_all at next end) ∙ inv.0
+    let n = length b.states in left_done n (next_hulls b (sources n vs row)) ws left at next none_left inv
+
+-- the row of the cell where a run starts
+
+start_place : (b : Body) (h : Hull) (v : ℤ) → 1 ≤ length b.states → h ≡ hull_of (one_hull b.start) → set (replicate (length b.states) none) 0 h ≡ hulls_at b [] v
+unfolding hulls_at hull_at start_hull
+start_place b h v some is =
+    let n = length b.states in let long = length-replicate n none in
+    fill_by_all (λ q. cond (nat_eq q 0) (hull_of (one_hull b.start)) none) (set (replicate n none) 0 h) n none (length-set (replicate n none) 0 h ∙ long)
+    (λ q lt. at q lt)
+  where
+    starts : List Hull
+    starts = set (replicate (length b.states) none) 0 h
+
+    at : (q : ℕ) → q < length b.states → get_or starts q none ≡ cond (nat_eq q 0) (hull_of (one_hull b.start)) none
+    at q lt = go (nat_eq q 0) refl
+      where
+        go : (t : Bool) → nat_eq q 0 ≡ t → get_or starts q none ≡ cond t (hull_of (one_hull b.start)) none
+        go true e =
+            ap (λ k. get_or starts k none) (eqb-true q 0 e)
+            ∙ get_or-set_same (replicate (length b.states) none) 0 h none (let l = length-replicate (length b.states) none in omega (arith, l, some)) ∙ is
+        go false e =
+            get_or-set_other (replicate (length b.states) none) 0 q h none (λ p. eqb-false q 0 e p) ∙ get_or-replicate (length b.states) q none none lt
+
+-- the hull at the first state, over hulls that are none
+pub start_set : (xs next : List Hull) (at n : ℕ) (h : Hull) → 1 ≤ n → at + n ≤ length xs → next ≡ over xs at (replicate n none) →
+    set next at h ≡ over xs at (set (replicate n none) 0 h)
+start_set xs next at n h some fits is =
+    let l = length-replicate n none in let e : at ≡ at + 0 = omega arith in
+    ap (λ t. set t at h) is ∙ ap (λ k. set (over xs at (replicate n none)) k h) e
+    ∙ over_write xs at (replicate n none) 0 h (omega (arith, l, fits)) (omega (arith, l, some))
+
+length-hulls_at : (b : Body) (before : List (List ℤ)) (v : ℤ) → length (hulls_at b before v) ≡ length b.states
+unfolding hulls_at
+length-hulls_at b before v = length-map-range_with_len (hull_at b before v) 0 (length b.states)
+
+abbrev pub LeftOfStart : Body → List ℤ → List ℤ → ℕ → List Hull → Type 0
+LeftOfStart b ws left at next = LeftOf (length b.states) (hulls_at b []) ws left at next
+
+pub start_more : (b : Body) (m : ℕ) (ws left left' : List ℤ) (w : ℤ) (at : ℕ) (h : Hull) (next next' : List Hull) → left ≡ w ∷ left' → m ≡ length b.states →
+    1 ≤ m → h ≡ hull_of (one_hull b.start) → next' ≡ over next at (set (replicate m none) 0 h) → LeftOfStart b ws left at next → LeftOfStart b ws left' (at + m) next'
+start_more b m ws left left' w at h next next' is is_m some is_h given inv =
+    left_more (length b.states) m (hulls_at b []) (length-hulls_at b []) ws left left' w w at next next' is refl is_m
+    (given ∙ ap (λ k. over next at (set (replicate k none) 0 h)) is_m ∙ ap (over next at) (start_place b h w (omega (arith, some, is_m)) is_h)) inv
+
+pub start_done : (b : Body) (ws left : List ℤ) (at : ℕ) (next : List Hull) → left ≡ [] → LeftOfStart b ws left at next → next ≡ row_of b [] ws
+unfolding row_of
+start_done b ws left at next none_left inv = left_done (length b.states) (hulls_at b []) ws left at next none_left inv

@@ -1,2 +1,7 @@
 pub mod HullLaws
 mod Filled
+pub mod RowLaws
+mod Emptied
+pub mod TableLaws
+mod Steps
+mod Follows

@@ -1,6 +1,7 @@
 -- The hulls of all series of a box: at each cell, for each of its values and each state, the hull of the registers that
 -- runs over series up to that cell can have there.
-use Rattle.std.specs.Prelude.{ℕ, ◌-◌, ℤ, nat_eq, if◌then◌else◌, List, [], ◌∷◌, map, flat_map, take, drop, get_or, reverse}
+use Rattle.std.specs.Prelude.{ℕ, ◌-◌, ℤ, nat_eq, if◌then◌else◌, List, [], ◌∷◌, map, flat_map, take, drop}
+use Rattle.std.specs.Prelude.{get_or, reverse}
 use Rattle.ts_automaton.specs.declared.regs.Hull.{Hull}
 use Rattle.ts_automaton.specs.Body.{Body}
 use Rattle.ts_automaton.specs.SpanRun.{one_hull}

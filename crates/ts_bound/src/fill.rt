@@ -108,7 +108,7 @@ fn hull_of_both(first: &Hull, second: &Hull) -> Hull
 }
 
 /// No hull yet, at so many places.
-fn clear(next: &mut [Hull], at: usize, count: usize)
+pub(crate) fn clear(next: &mut [Hull], at: usize, count: usize)
     requires { at + count ≤ length next.old }
     ensures { next.new ≡ over next.old at (replicate count none) }
 {

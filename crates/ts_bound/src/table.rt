@@ -1,0 +1,157 @@
+//! A table of hulls in one vector.
+
+ghost use Rattle.std.specs.Prelude.{◌≡◌, ◌+◌, ◌*◌, ◌-◌, ◌≤◌, IfOk, length, map, take, drop, slice_range};
+ghost use Rattle.std.specs.Borrow.{sem};
+ghost use Rattle.std.proofs.Common.{replicate};
+ghost use Rattle.ts_bound.specs.Hulls.{none};
+ghost use Rattle.ts_bound.specs.LendsRows.{LendsParts, LendsRow, LendsTwo};
+ghost use Rattle.ts_bound.specs.Rows.{IsRow, joined, place, row_at};
+
+use std::alloc::Global;
+use std::marker::Model;
+use ts_automaton::Hull;
+use ts_base::Memory;
+use ts_domain::Boxed;
+
+/// One hull per cell, value and state, in one vector: that of the value at place `i` in rising order and of the state
+/// `q`, both counted from 0, stands in the row of its cell at place `i` times the number of states plus `q`. Contracts
+/// see the rows, one after the other. What no series reaches has a hull that is none.
+#[derive(Drop)]
+pub struct HullTable {
+    hulls: Vec<Hull>,
+    // where the row of each cell begins, and where the last one ends
+    starts: Vec<usize>,
+}
+
+impl Model for HullTable {
+    ghost use Rattle.std.specs.Prelude.{List, length};
+    ghost use Rattle.ts_automaton.specs.declared.regs.Hull.{Hull};
+    ghost use Rattle.ts_bound.specs.Rows.{Starts, rows_of};
+
+    ghost Value = { List (List Hull) };
+
+    ghost view = { λ t. rows_of t.starts.items t.hulls.items };
+
+    ghost invariant = { λ t. Starts t.starts.items (length t.hulls.items) };
+}
+
+impl HullTable {
+    /// The rows of a box for so many states, in which every hull is none.
+    pub(crate) fn empty(alloc: Global, cells: &Boxed, states: u8) -> Result<HullTable, Memory>
+        ensures { IfOk result (λ t. t ≡ map (λ d. replicate (length d * states) none) cells.now.present) }
+    {
+        let mut starts = Vec::new(alloc);
+        starts.push(0)?;
+        let mut total = 0;
+        for k in 0..cells.cells() {
+            total = end_of(total, cells.cell(k + 1).size(), states)?;
+            starts.push(total)?;
+        }
+        Ok(HullTable {
+            hulls: Vec::from_elem(alloc, Hull::none(), total)?,
+            starts,
+        })
+    }
+
+    /// Where the rows of so many cells from cell `k` on begin and end: the one place where cells become places.
+    fn bounds(&self, k: u32, count: u32) -> (usize, usize)
+        requires first { 1 ≤ k }
+        requires last { k - 1 + count ≤ length self.now }
+        ensures from { result.0 ≡ place self.now (k - 1) }
+        ensures to { result.1 ≡ place self.now (k - 1 + count) }
+    {
+        let row = k as usize - 1;
+        (self.starts[row], self.starts[row + count as usize])
+    }
+
+    /// The row of cell `k`.
+    pub fn row(&self, k: u32) -> &[Hull]
+        requires { IsRow k self.now }
+        ensures { result.now ≡ row_at k self.now }
+    {
+        let (from, to) = self.bounds(k, 1);
+        part(&self.hulls, from, to)
+    }
+
+    /// The row of cell `k`, lent for change. What is written stands in the table, and every other row stays.
+    pub fn row_mut(&mut self, k: u32) -> &mut [Hull]
+        requires { IsRow k self.old }
+        ensures* writes_back { sem 𝓛 (LendsRow self.entry k result) }
+        ensures value { result.now ≡ row_at k self.old }
+    {
+        let (from, to) = self.bounds(k, 1);
+        self.hulls.slice_mut(from..to)
+    }
+
+    /// The rows of cells `k` and `k + 1` as one.
+    pub(crate) fn both_mut(&mut self, k: u32) -> &mut [Hull]
+        requires first { 1 ≤ k }
+        requires last { k + 1 ≤ length self.old }
+        ensures* writes_back { sem 𝓛 (LendsRow self.entry k result) }
+        ensures value { result.now ≡ slice_range (joined self.old) (place self.old (k - 1)) (place self.old (k + 1)) }
+    {
+        let (from, to) = self.bounds(k, 2);
+        self.hulls.slice_mut(from..to)
+    }
+
+    /// The rows of cells `k` and `k + 1`, lent for change. What is written through them stands in the table, and every
+    /// other row stays.
+    pub fn rows(&mut self, k: u32) -> (&mut [Hull], &mut [Hull])
+        requires first { 1 ≤ k }
+        requires last { k + 1 ≤ length self.old }
+        ensures* writes_back { sem 𝓛 (LendsTwo self.entry k result) }
+        ensures first { result.0.now ≡ row_at k self.old }
+        ensures second { result.1.now ≡ row_at (k + 1) self.old }
+    {
+        let len = self.width(k);
+        cut(self.both_mut(k), len)
+    }
+
+    // the same as `row_len`, of a table that is lent for change
+    fn width(&mut self, k: u32) -> usize
+        requires first { 1 ≤ k }
+        requires last { k ≤ length self.old }
+        ensures same { self.new ≡ self.old }
+        ensures width { place self.old (k - 1) + result ≡ place self.old k }
+    {
+        self.row_len(k)
+    }
+
+    /// How many hulls the row of cell `k` has.
+    pub(crate) fn row_len(&self, k: u32) -> usize
+        requires { IsRow k self.now }
+        ensures { place self.now (k - 1) + result ≡ place self.now k }
+    {
+        let (from, to) = self.bounds(k, 1);
+        to - from
+    }
+}
+
+/// Where a row of so many values ends. A table whose places can't be counted has no memory.
+fn end_of(begin: usize, values: u64, states: u8) -> Result<usize, Memory>
+    ensures { IfOk result (λ end. end ≡ begin + values * states) }
+{
+    (values as usize)
+        .checked_mul(states as usize)
+        .and_then(|hulls| begin.checked_add(hulls))
+        .ok_or(Memory)
+}
+
+/// The first `len` hulls, and the others.
+fn cut(hulls: &mut [Hull], len: usize) -> (&mut [Hull], &mut [Hull])
+    requires { len ≤ length hulls.old }
+    ensures* writes_back { sem 𝓛 (LendsParts hulls.entry result) }
+    ensures front { result.0.now ≡ take len hulls.old }
+    ensures back { result.1.now ≡ drop len hulls.old }
+{
+    hulls.split_at_mut(len)
+}
+
+/// The hulls from a place to another.
+fn part(hulls: &[Hull], from: usize, to: usize) -> &[Hull]
+    requires order { from ≤ to }
+    requires inside { to ≤ length hulls.now }
+    ensures { result.now ≡ slice_range hulls.now from to }
+{
+    &hulls[from..to]
+}
