@@ -4,3 +4,9 @@ pub mod Steps
 pub mod Tests
 pub mod Whole
 pub mod Instances
+pub mod Small
+pub mod Series
+pub mod Patterns
+pub mod Forms
+pub mod Local
+pub mod Terms

@@ -1,8 +1,14 @@
--- The glue table of a term whose pattern has a partner.
-use Rattle.std.specs.Prelude.{ℕ, List}
+-- The automata and the glue table of a term whose pattern has a partner.
+use Rattle.std.specs.Prelude.{◌≡◌, ℕ, List, Some}
 use Rattle.ts_base.specs.declared.range.Join.{Join}
+use Rattle.ts_pattern.specs.declared.name.Aggregator.{Aggregator}
 use Rattle.ts_pattern.specs.declared.name.Feature.{Feature}
 use Rattle.ts_pattern.specs.declared.name.Feature.TheVariants.{One, Width, Surf, Max as MaxFeature, Min as MinFeature}
+use Rattle.ts_pattern.specs.declared.name.PatternId.{PatternId}
+use Rattle.ts_pattern.specs.PatternTable.{pattern_a}
+use Rattle.ts_automaton.specs.Body.{Body}
+use Rattle.ts_decorate.specs.Decoration.{decorated}
+use Rattle.ts_seed.specs.SeedTable.{seed_table}
 use Rattle.ts_glue.specs.declared.table.FoldOp.{FoldOp}
 use Rattle.ts_glue.specs.declared.table.FoldOp.TheVariants.{Add, Max, Min}
 use Rattle.ts_glue.specs.declared.table.CellUnit.{CellUnit}
@@ -28,3 +34,15 @@ cell_unit_of MinFeature = ValueCell
 -- the glue table of a feature, where an occurrence leaves out a cells at its end, and goes on between these states
 abbrev pub glue_table_by : ℕ → Feature → List Join → Table
 glue_table_by a f js = record { a = a; op = fold_op_of f; unit = cell_unit_of f; joins = js }
+
+abbrev pub glue_table_of : PatternId → Feature → Table
+glue_table_of id f = glue_table_by (pattern_a id) f (seed_table id).joins
+
+-- the automaton of a term of the pattern id by the rows of another seed: its own, or its partner's
+abbrev pub body_by : PatternId → PatternId → Aggregator → Feature → Body
+body_by id other g f = decorated (seed_table other).rows (pattern_a id) g f
+
+-- of a pattern and its partner, and each aggregator and feature
+abbrev pub ForPartners : (PatternId → PatternId → Aggregator → Feature → Type 0) → Type 0
+ForPartners P =
+    (id partner : PatternId) → (seed_table id).partner ≡ Some partner → (g : Aggregator) (f : Feature) → P id partner g f

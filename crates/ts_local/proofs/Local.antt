@@ -1,0 +1,159 @@
+-- The glued value of two tables that fit is the forward answer at every cell.
+use Rattle.std.specs.Prelude.{◌≡◌, ℕ, ◌+◌, ◌*◌, ◌<◌, ◌≤◌, ℤ, List, [], ◌∷◌, ◌++◌, length, reverse, refl}
+use Rattle.std.proofs.Common.{sym, ◌∙◌, ap, subst, arith, length-append}
+use Rattle.std.proofs.lemmas.List.{length-reverse}
+use Rattle.ts_base.specs.declared.ext.Ext.{Ext}
+use Rattle.ts_base.specs.declared.ext.Ext.TheVariants.{Int}
+use Rattle.ts_base.specs.Limits.{IsCellValue}
+use Rattle.ts_transducer.specs.declared.row.Row.{Row}
+use Rattle.ts_transducer.specs.Typing.{is_held}
+use Rattle.ts_pattern.specs.declared.name.Aggregator.{Aggregator}
+use Rattle.ts_pattern.specs.declared.name.Feature.{Feature}
+use Rattle.ts_pattern.specs.declared.name.Feature.TheVariants.{One, Width, Surf, Max as MaxFeature, Min as MinFeature}
+use Rattle.ts_automaton.specs.Registers.{numbers}
+use Rattle.ts_automaton.specs.Body.{Body, node_at}
+use Rattle.ts_automaton.specs.AutomatonRun.{Standing, after, marked}
+use Rattle.ts_decorate.specs.Answers.{longest}
+use Rattle.ts_decorate.specs.Operators.{Operators}
+use Rattle.ts_decorate.specs.Decoration.{cell_op, range_op, mark_of, state_names, decorated}
+use Rattle.ts_decorate.proofs.Exact.{exact, held_at_limit, cell_value}
+use Rattle.ts_decorate.proofs.Evaluation.{node_is}
+use Rattle.ts_decorate.proofs.Runs.{table_start, total_of}
+use Rattle.ts_decorate.proofs.Sizes.{limit, size_of, size_of_all, total_same, cost_small}
+use Rattle.ts_base.specs.declared.range.Join.{Join}
+use Rattle.ts_glue.specs.Pairs.{Pair, pair}
+use Rattle.ts_glue.specs.Glue.{fold_op, worth, glue_in, glue_of}
+use Rattle.ts_glue.specs.Glued.{glue_at, LocalUpTo}
+use Rattle.ts_glue.proofs.CallerLemmas.{AnswersAtCuts, local_by_cuts}
+use Rattle.ts_local.specs.TermPairs.{fold_op_of, cell_unit_of, glue_table_by}
+use Rattle.ts_local.proofs.Facts.{Good, glued as proof_form}
+use Rattle.ts_local.proofs.Tests.{kind_at, AreFitting}
+use Rattle.ts_local.proofs.Whole.{table_back, Stands, stands_start, stands_after, stands_back, glued_is}
+use Rattle.ts_local.proofs.Instances.{exact_joined, PartOf, FoldedOf, cell_part, laws_of}
+use Rattle.ts_local.proofs.Small.{glue_same}
+use Rattle.ts_local.proofs.Forms.{form_of, form_is, form_size}
+use Rattle.ts_local.proofs.Patterns.{is_pair}
+use Rattle.ts_local.proofs.Series.{table_run, run_more, back_is, cells_join, cells_parts, cells_back, run_is}
+
+fold_op_is : (f : Feature) → fold_op (fold_op_of f) ≡ cell_op f
+fold_op_is One = refl
+fold_op_is Width = refl
+fold_op_is Surf = refl
+fold_op_is MaxFeature = refl
+fold_op_is MinFeature = refl
+
+worth_is : (f : Feature) (x : ℤ) → cell_value f x ≡ Int (worth (cell_unit_of f) x)
+worth_is One x = refl
+worth_is Width x = refl
+worth_is Surf x = refl
+worth_is MaxFeature x = refl
+worth_is MinFeature x = refl
+
+-- a state is held where its row is
+held_is : (rows : List Row) → length rows ≤ 8 → (a : ℕ) (g : Aggregator) (f : Feature) (q : ℕ) → q < length rows →
+    (node_at (decorated rows a g f).states q).held ≡ is_held (kind_at rows q)
+held_is rows few a g f q h = ap (λ n. n.held) (node_is a g f state_names rows q h few).1
+
+worth_size : (f : Feature) (x : ℤ) → IsCellValue x → size_of (Int (worth (cell_unit_of f) x)) ≤ 1000000
+worth_size f x h = let c = cost_small f (x ∷ []) x h (h, tt) in let e = ap size_of (worth_is f x) in omega (arith, c, e)
+
+module _ (a : ℕ) (js : List Join) (fs bs : List Row) (t : AreFitting a (is_pair js) fs bs) (few_f : length fs ≤ 8) (few_b : length bs ≤ 8)
+    (g : Aggregator) (f : Feature) where
+  abbrev ahead : Body
+  ahead = decorated fs a g f
+
+  abbrev behind : Body
+  behind = decorated bs a g f
+
+  abbrev the_pair : Pair
+  the_pair = pair ahead behind (glue_table_by a f js)
+
+  abbrev o : Operators Ext
+  o = exact g f
+
+  abbrev joined : Ext → Ext → Ext → Ext
+  joined = exact_joined (cell_op f)
+
+  abbrev over : ℤ → Ext
+  over = cell_value f
+
+  -- what stands for the glued value
+  glue_is : (q r : ℕ) (x : ℤ) → q < length fs → r < length bs →
+      glue_of the_pair q r x
+      ≡ form_of a (range_op g) (cell_op f) (is_pair js q r) (is_held (kind_at fs q)) (is_held (kind_at bs r)) (worth (cell_unit_of f) x)
+  glue_is q r x hq hr =
+      let w = worth (cell_unit_of f) x in
+      let u = (node_at ahead.states q).held in
+      let v = (node_at behind.states r).held in
+      ap (λ z. form_of a (range_op g) z (is_pair js q r) u v w) (fold_op_is f)
+      ∙ ap (λ z. form_of a (range_op g) (cell_op f) (is_pair js q r) z v w) (held_is fs few_f a g f q hq)
+      ∙ ap (λ z. form_of a (range_op g) (cell_op f) (is_pair js q r) (is_held (kind_at fs q)) z w) (held_is bs few_b a g f r hr)
+
+  abbrev exact_run : List Row → List ℤ → Standing Ext
+  exact_run rows xs = table_run o over a rows xs
+
+  abbrev Sound : List Row → Standing Ext → ℤ → Type 0
+  Sound rows st x = Stands o joined (PartOf f) (FoldedOf (cell_op f)) (laws_of g f) over (cell_part f) a rows st x
+
+  sound_run : (pre : List ℤ) (x : ℤ) → Sound fs (exact_run fs (pre ++ x ∷ [])) x
+  sound_run [] x = stands_start o joined (PartOf f) (FoldedOf (cell_op f)) (laws_of g f) over (cell_part f) a fs t.forward x
+  sound_run (z ∷ pre) x =
+      stands_after o joined (PartOf f) (FoldedOf (cell_op f)) (laws_of g f) over (cell_part f) a
+      fs t.forward pre x z (table_start o)
+      (stands_start o joined (PartOf f) (FoldedOf (cell_op f)) (laws_of g f) over (cell_part f) a fs t.forward z)
+
+  sound_back : (x : ℤ) (ys : List ℤ) → Sound bs (table_back o over a bs x ys) x
+  sound_back x ys = stands_back o joined (PartOf f) (FoldedOf (cell_op f)) (laws_of g f) over (cell_part f) a bs t.reverse ys x
+
+  -- the value as it is defined, at small registers, is the one of the proof
+  value_is : (left right : Standing Ext) (x : ℤ) → IsCellValue x → size_of_all left.regs + size_of_all right.regs + 1000000 ≤ limit →
+      Sound fs left x → Sound bs right x →
+      glue_at numbers the_pair left right x
+      ≡ proof_form o joined a (is_pair js left.state right.state) (kind_at fs left.state) (kind_at bs right.state) left.regs right.regs (over x)
+  value_is left right x inside small i j =
+      let w = worth (cell_unit_of f) x in
+      let e = worth_is f x in
+      let k = kind_at fs left.state in
+      let l = kind_at bs right.state in
+      let b = is_pair js left.state right.state in
+      let form = form_of a (range_op g) (cell_op f) b (is_held k) (is_held l) w in
+      let n = form_size a (range_op g) (cell_op f) b (is_held k) (is_held l) w left.regs right.regs in
+      let m = worth_size f x inside in
+      ap (glue_in numbers left.regs right.regs) (glue_is left.state right.state x i.0 j.0)
+      ∙ glue_same left.regs right.regs form (omega (arith, small, n, m))
+      ∙ form_is g f w (subst (PartOf f) e (cell_part f x)) a b k l left.regs right.regs
+      (subst (λ z. Good o (PartOf f) (FoldedOf (cell_op f)) a k left.regs z) e i.1)
+      (subst (λ z. Good o (PartOf f) (FoldedOf (cell_op f)) a l right.regs z) e j.1)
+      (t.held left.state right.state i.0 j.0)
+      ∙ ap (λ z. proof_form o joined a b k l left.regs right.regs z) (sym e)
+
+  -- the glued value at the cell x between those before it and those after it is the answer
+  at_cuts : AnswersAtCuts longest the_pair
+  at_cuts before x rest short h =
+      let cells = cells_parts before (x ∷ rest) h in
+      let from_x = cells.1 in
+      let n1 = length-append before (x ∷ []) in
+      let n2 = length-append before (x ∷ rest) in
+      let n3 = length-reverse (x ∷ rest) in
+      let l = run_is fs t.forward few_f a g f (before ++ x ∷ []) (omega (arith, short, n1, n2)) (cells_join before (x ∷ []) cells.0 (from_x.0, tt)) in
+      let r = run_is bs t.reverse few_b a g f (reverse (x ∷ rest)) (omega (arith, short, n2, n3)) (cells_back (x ∷ rest) from_x) in
+      let w = run_is fs t.forward few_f a g f (before ++ x ∷ rest) (omega (arith, short)) h in
+      let left = exact_run fs (before ++ x ∷ []) in
+      let right = table_back o over a bs x rest in
+      let whole = exact_run fs (before ++ x ∷ rest) in
+      let back = back_is o over a bs rest x in
+      let small_left = l.1 in
+      let small_right : size_of_all right.regs ≤ 1 + length (reverse (x ∷ rest)) * 2000001 =
+      subst (λ st. size_of_all st.regs ≤ 1 + length (reverse (x ∷ rest)) * 2000001) back r.1 in
+      let small_whole = w.1 in
+      ap (marked (mark_of g f) (length (before ++ x ∷ rest)))
+      (ap (λ z. glue_at numbers the_pair z (after behind (reverse (x ∷ rest))) x) l.0
+      ∙ ap (λ z. glue_at numbers the_pair left z x) (r.0 ∙ back)
+      ∙ value_is left right x from_x.0 (omega (arith, short, n1, n2, n3, small_left, small_right)) (sound_run before x) (sound_back x rest)
+      ∙ glued_is o joined (PartOf f) (FoldedOf (cell_op f)) (laws_of g f) over (cell_part f) a (is_pair js) fs bs t rest x left (sound_run before x)
+      ∙ ap (λ st. total_of o st.regs) (sym (run_more o over a fs before x rest))
+      ∙ sym (total_same g f whole.regs (omega (arith, short, small_whole)))
+      ∙ ap (λ st. total_of (held_at_limit g f) st.regs) (sym w.0))
+
+  pub is_local : LocalUpTo longest the_pair
+  is_local = local_by_cuts longest the_pair at_cuts
