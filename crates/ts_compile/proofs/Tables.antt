@@ -1,5 +1,5 @@
 -- The seeds' tables keep what a decorated table is asked for, and the machine of each term answers its value.
-use Rattle.std.specs.Prelude.{◌≡◌, ◌≤◌, true, length, refl}
+use Rattle.std.specs.Prelude.{◌≡◌, ◌≤◌, true, IsTrue, length, refl}
 use Rattle.std.proofs.Common.{arith}
 use Rattle.ts_transducer.specs.Typing.{is_typed}
 use Rattle.ts_pattern.specs.declared.term.Term.{Term}
@@ -7,9 +7,11 @@ use Rattle.ts_pattern.specs.declared.name.PatternId.{PatternId}
 use Rattle.ts_pattern.specs.declared.name.PatternId.TheVariants.{Increasing, Decreasing, Steady, IncreasingSequence, DecreasingSequence, StrictlyIncreasingSequence, StrictlyDecreasingSequence, SteadySequence, IncreasingTerrace, DecreasingTerrace, Inflexion, Peak, Valley, Plateau, Plain, ProperPlateau, ProperPlain, Summit, Gorge, Zigzag, DipOnIncreasingSequence, BumpOnDecreasingSequence}
 use Rattle.ts_pattern.specs.PatternTable.{pattern_a}
 use Rattle.ts_automaton.specs.AutomatonRun.{Marked}
+use Rattle.ts_automaton.specs.Typing.{is_automaton}
 use Rattle.ts_seed.specs.SeedTable.{seed_table, table_of}
 use Rattle.ts_seed.proofs.Closed.{rows_closed}
 use Rattle.ts_decorate.proofs.CallerLemmas.{answers_ranges, is_marked}
+use Rattle.ts_decorate.proofs.Typed.{is_decorated_automaton}
 use Rattle.ts_compile.specs.Compiled.{AnswersTerm, machine_body}
 use Rattle.ts_compile.proofs.Answers.{answers_term}
 
@@ -37,6 +39,12 @@ table_fits Gorge = (refl, omega arith, omega arith)
 table_fits Zigzag = (refl, omega arith, omega arith)
 table_fits DipOnIncreasingSequence = (refl, omega arith, omega arith)
 table_fits BumpOnDecreasingSequence = (refl, omega arith, omega arith)
+
+pub compiled_automaton : (t : Term) → IsTrue (is_automaton (machine_body t))
+compiled_automaton t =
+    let id = t.pattern in
+    let fits = table_fits id in
+    is_decorated_automaton (seed_table id).rows fits.0 fits.1 (pattern_a id) t.aggregator t.feature
 
 pub compiled_answers : (t : Term) → AnswersTerm (machine_body t) t
 compiled_answers t =
