@@ -1,4 +1,5 @@
 pub mod Answers
+mod JudgeLaws
 pub mod Tables
 mod Terms
 mod Texts

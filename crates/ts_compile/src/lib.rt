@@ -12,6 +12,7 @@
 #![tactic(auto)]
 
 mod compile;
+pub mod judge;
 pub mod laws;
 mod program;
 #[cfg(test)]

@@ -3,4 +3,3 @@ mod Entries
 mod Inputs
 mod Steps
 mod CheckLaws
-mod VerdictLaws

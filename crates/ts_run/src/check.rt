@@ -6,11 +6,11 @@ ghost use Rattle.ts_model.specs.Views.{stated};
 ghost use Rattle.ts_run.specs.AnswerTexts.{CheckReply, SeriesReply};
 ghost use Rattle.ts_run.specs.Replies.{Gives};
 
-use crate::judge::judge;
 use crate::model_part::{model_of, series_of};
 use crate::reply::{Reply, Stop};
 use crate::verdict::verdict;
 use std::alloc::Global;
+use ts_compile::judge::judge;
 use ts_model::{Model, Need};
 use ts_token::cut_parts;
 

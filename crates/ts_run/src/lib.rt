@@ -18,7 +18,6 @@
 mod call;
 mod check;
 mod command;
-mod judge;
 mod laws;
 mod model_part;
 mod quantity;

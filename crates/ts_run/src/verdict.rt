@@ -6,11 +6,11 @@ ghost use Rattle.ts_model.specs.Views.{stated};
 ghost use Rattle.ts_run.specs.Reply.{ComesOfInput, reply_of};
 ghost use Rattle.ts_run.specs.Verdict.{fault_line, fault_lines, names_of, value_line, value_lines, verdict_of};
 
-use crate::judge::Judgement;
 use crate::reply::Reply;
 use crate::status::Status;
 use std::alloc::Global;
 use ts_base::{Ext, Memory, push_ext, push_number};
+use ts_compile::judge::Judgement;
 use ts_model::Model;
 
 /// Whether the series meets the model, each cell and requirement at fault, and the value of each term.
