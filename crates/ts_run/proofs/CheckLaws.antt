@@ -1,6 +1,6 @@
 -- The reply of `check`: there is one, and it is `meets` exactly where the series meets the model.
-use Rattle.std.proofs.Common.{◌≡◌, ℕ, ℤ, Bool, true, false, cond, refl, inl, inr, Option, Some, None, Ok, Err, List, length, sym, ◌∙◌, ap, subst}
-use Rattle.std.specs.Prelude.{Result, IfSome}
+use Rattle.std.proofs.Common.{◌≡◌, ℕ, ℤ, Bool, true, false, cond, refl, Option, Ok, Err, List, length, sym, ◌∙◌, ap, subst}
+use Rattle.std.specs.Prelude.{Result}
 use Rattle.ts_model.specs.declared.error.ModelKind.{ModelKind}
 use Rattle.ts_model.specs.declared.error.SeriesStop.{SeriesStop}
 use Rattle.ts_model.specs.declared.error.SeriesStop.TheVariants.{Shape as NoSeries, Number as NoNumber, Length, Memory as NoMemory}
@@ -9,15 +9,15 @@ use Rattle.ts_model.specs.Judgement.{is_met}
 use Rattle.ts_model.specs.Meets.{Meets}
 use Rattle.ts_model.specs.Stated.{Stated}
 use Rattle.ts_model.proofs.MeetsLaw.{judged_is_met}
-use Rattle.ts_run.specs.AnswerTexts.{CheckReply, DoneIsMeets, IsAsked, OneCheckReply, OnReading, OnSeries, SeriesReply, fault_read, rest_part, series_in}
-use Rattle.ts_run.specs.Endings.{CallEnds, RepliesWithin, Responds, TellsMeets}
-use Rattle.ts_run.specs.Reply.{Ends, EndsWith, Reply}
+use Rattle.ts_run.specs.AnswerTexts.{CheckReply, DoneIsMeets, IsAsked, OneCheckReply, OnReading, OnSeries, SeriesReply, rest_part, series_in}
+use Rattle.ts_run.specs.Endings.{RepliesWithin, Responds, TellsMeets}
+use Rattle.ts_run.specs.Reply.{Reply}
 use Rattle.ts_run.specs.Verdict.{verdict}
-use Rattle.ts_run.specs.declared.command.Command.{Command}
 use Rattle.ts_run.specs.declared.command.Command.TheVariants.{Check}
 use Rattle.ts_run.specs.declared.status.Status.{Status}
-use Rattle.ts_run.specs.declared.status.Status.TheVariants.{Done, No, Refused, ReadFault, Memory}
+use Rattle.ts_run.specs.declared.status.Status.TheVariants.{Done, No}
 use Rattle.ts_run.proofs.Inputs.{series_count}
+use Rattle.ts_run.proofs.Replied.{replied}
 
 -- there is one reply
 
@@ -58,42 +58,17 @@ done_is_meets bytes m xs r asked h =
     let law = judged_is_met m xs (series_count (length m.cells) (cut_of (rest_part bytes)) xs asked.series) in
     (λ e. law.0 (done_true (is_met m xs) (sym same ∙ e)), λ w. same ∙ true_done (is_met m xs) (law.1 w))
 
--- the status that a call tells
-
-module _ (Is : Reply → Type 0) (before after : Option (List ℕ)) (status given : Status) where
-  replied : (given ≡ Memory → ⊥) → ((r : Reply) → Ends r before after given → r.status ≡ given) → EndsWith Is before after status → status ≡ given →
-      (r : Reply) × Is r × (r.status ≡ given)
-  replied want ends (inl h) e = absurd (want (sym e ∙ h.0))
-  replied want ends (inr h) e = (h.0, h.1, ends h.0 (subst (Ends h.0 before after) e h.2))
-
-module _ (bytes : List ℕ) (limit faults faults_now : ℕ) (before after : Option (List ℕ)) (status given : Status) where
-  -- a status that isn't that of a refusal or a fault is that of a reply of `check`
-  check_replied : (given ≡ Memory → ⊥) → (Refused ≡ given → ⊥) → (ReadFault ≡ given → ⊥) → ((r : Reply) → Ends r before after given → r.status ≡ given) →
-      Responds (RepliesWithin limit Check bytes) faults faults_now before after status → status ≡ given → (r : Reply) × CheckReply bytes r × (r.status ≡ given)
-  check_replied want refused fault ends (inl h) e = within (replied (RepliesWithin limit Check bytes) before after status given want ends h.1 e)
-    where
-      within : ((r : Reply) × RepliesWithin limit Check bytes r × (r.status ≡ given)) → (r : Reply) × CheckReply bytes r × (r.status ≡ given)
-      within p = by p.1
-        where
-          by : RepliesWithin limit Check bytes p.0 → (r : Reply) × CheckReply bytes r × (r.status ≡ given)
-          by (inl q) = (p.0, q.1, p.2)
-          by (inr q) = absurd (refused (sym (ap (λ (x : Reply). x.status) q.1) ∙ p.2))
-  check_replied want refused fault ends (inr h) e =
-      let p = replied (λ r. r ≡ fault_read) before after status given want ends h.1 e in
-      absurd (fault (sym (ap (λ (x : Reply). x.status) p.1) ∙ p.2))
-
-pub meets_told : (given : Option Command) (left : Option (List ℕ)) (faults faults_now : ℕ) (before after : Option (List ℕ)) (status : Status) →
-    CallEnds given left faults faults_now before after status → IfSome left (λ bytes. TellsMeets given bytes status)
-meets_told given None faults faults_now before after status h = tt
-meets_told None (Some bytes) faults faults_now before after status h = tt
-meets_told (Some Check) (Some bytes) faults faults_now before after status h = λ m xs asked. (done m xs asked, no m xs asked)
+-- what a call tells of the series
+pub check_tells : (bytes : List ℕ) (limit faults faults_now : ℕ) (before after : Option (List ℕ)) (status : Status) →
+    Responds (RepliesWithin limit Check bytes) faults faults_now before after status → TellsMeets bytes status
+check_tells bytes limit faults faults_now before after status h = λ m xs asked. (done m xs asked, no m xs asked)
   where
     done : (m : Stated) (xs : List ℤ) → IsAsked bytes m xs → status ≡ Done → Meets m xs
     done m xs asked e =
-        let p = check_replied bytes 2097152 faults faults_now before after status Done (λ x. cc) (λ x. cc) (λ x. cc) (λ r x. x.1) h.reply e in
-        (done_is_meets bytes m xs p.0 asked p.1).0 p.2
+        let p = replied Check bytes limit faults faults_now before after status Done (λ x. cc) (λ x. cc) (λ x. cc) (λ r x. x.1) h e in
+        (done_is_meets bytes m xs p.0 asked p.1).0 p.2.1
 
     no : (m : Stated) (xs : List ℤ) → IsAsked bytes m xs → status ≡ No → Meets m xs → ⊥
     no m xs asked e w =
-        let p = check_replied bytes 2097152 faults faults_now before after status No (λ x. cc) (λ x. cc) (λ x. cc) (λ r x. x.1) h.reply e in
-        let both = sym p.2 ∙ (done_is_meets bytes m xs p.0 asked p.1).1 w in cc
+        let p = replied Check bytes limit faults faults_now before after status No (λ x. cc) (λ x. cc) (λ x. cc) (λ r x. x.1) h e in
+        let both = sym p.2.1 ∙ (done_is_meets bytes m xs p.0 asked p.1).1 w in cc

@@ -1,5 +1,9 @@
 mod Endings
 mod Entries
 mod Inputs
+mod Replied
 mod Steps
 mod CheckLaws
+mod CheckSteps
+mod CompileLaws
+mod Told

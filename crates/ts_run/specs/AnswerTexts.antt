@@ -13,10 +13,11 @@ use Rattle.ts_model.specs.Meets.{Meets}
 use Rattle.ts_model.specs.ModelReading.{model_reading}
 use Rattle.ts_model.specs.Series.{series_reading}
 use Rattle.ts_model.specs.Stated.{Stated}
+use Rattle.ts_run.specs.CompiledValue.{IsProgramText}
 use Rattle.ts_run.specs.Reply.{Reply}
 use Rattle.ts_run.specs.Verdict.{line, verdict}
 use Rattle.ts_run.specs.declared.command.Command.{Command}
-use Rattle.ts_run.specs.declared.command.Command.TheVariants.{Check}
+use Rattle.ts_run.specs.declared.command.Command.TheVariants.{Check, Compile}
 use Rattle.ts_run.specs.declared.status.Status.TheVariants.{Done, Refused, ReadFault}
 
 abbrev pub refused_words : Reply
@@ -92,9 +93,18 @@ SeriesReply text m r = OnSeries (series_in m text) (λ xs s. s ≡ verdict m xs)
 abbrev pub CheckReply : List ℕ → Reply → Type 0
 CheckReply bytes r = OnModel Values (model_part bytes) (SeriesReply (rest_part bytes)) r
 
+-- the program text of what is stated
+abbrev pub ProgramReply : Stated → Reply → Type 0
+ProgramReply m r = IsProgramText m r.text × (r.status ≡ Done)
+
+-- what `compile` replies: the refusal of the model, or its program text
+abbrev pub CompileReply : List ℕ → Reply → Type 0
+CompileReply bytes r = OnModel Values bytes ProgramReply r
+
 -- what a command replies to its input
 abbrev pub IsReply : Command → List ℕ → Reply → Type 0
 IsReply Check bytes r = CheckReply bytes r
+IsReply Compile bytes r = CompileReply bytes r
 
 -- an input of `check` states this model and this series
 pub record IsAsked (bytes : List ℕ) (m : Stated) (xs : List ℤ) : Type 0 where
@@ -105,7 +115,11 @@ pub record IsAsked (bytes : List ℕ) (m : Stated) (xs : List ℤ) : Type 0 wher
 abbrev pub OneCheckReply : Type 0
 OneCheckReply = (bytes : List ℕ) (r s : Reply) → CheckReply bytes r → CheckReply bytes s → r ≡ s
 
--- its status is `Done` exactly where the series meets the model
+-- `compile` has one reply to an input
+abbrev pub OneCompileReply : Type 0
+OneCompileReply = (bytes : List ℕ) (r s : Reply) → CompileReply bytes r → CompileReply bytes s → r ≡ s
+
+-- the status of `check` is `Done` exactly where the series meets the model
 abbrev pub DoneIsMeets : Type 0
 DoneIsMeets =
     (bytes : List ℕ) (m : Stated) (xs : List ℤ) (r : Reply) → IsAsked bytes m xs → CheckReply bytes r →

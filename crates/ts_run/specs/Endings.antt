@@ -1,13 +1,16 @@
 -- How a call ends, by its command: what was written, what was read, and what its status says.
-use Rattle.std.specs.Prelude.{ℕ, ◌≡◌, ◌<◌, ◌≤◌, ◌+◌, ◌⊎◌, ℤ, List, length, Option, Some, None, IfSome}
-use Rattle.ts_base.specs.Outside.{AtEnd, GaveAtMost, HasMoreThan, Rose, left_after}
+use Rattle.std.specs.Prelude.{ℕ, ◌≡◌, ◌<◌, ◌≤◌, ◌+◌, ◌⊎◌, ℤ, List, length, Ok, Option, Some, None, IfSome}
+use Rattle.ts_base.specs.Outside.{AtEnd, GaveAtMost, HasMoreThan, Rose, left_after, taken_more}
+use Rattle.ts_model.specs.declared.model.Need.TheVariants.{Values}
 use Rattle.ts_model.specs.Meets.{Meets}
+use Rattle.ts_model.specs.ModelReading.{model_reading}
 use Rattle.ts_model.specs.Stated.{Stated}
 use Rattle.ts_run.specs.AnswerTexts.{IsAsked, IsReply, fault_read, refused_length, refused_words}
 use Rattle.ts_run.specs.Commands.{input_of}
+use Rattle.ts_run.specs.CompiledValue.{IsCompiled}
 use Rattle.ts_run.specs.Reply.{ComesOfInput, Ends, EndsWith, Reply}
 use Rattle.ts_run.specs.declared.command.Command.{Command}
-use Rattle.ts_run.specs.declared.command.Command.TheVariants.{Check}
+use Rattle.ts_run.specs.declared.command.Command.TheVariants.{Check, Compile}
 use Rattle.ts_run.specs.declared.command.Input.{Input}
 use Rattle.ts_run.specs.declared.command.Input.TheVariants.{Whole}
 use Rattle.ts_run.specs.declared.status.Status.{Status}
@@ -72,7 +75,21 @@ CallSpares None old new = ⊥
 CallSpares (Some command) old new = InputSpares (input_of command) old new
 
 -- `meets` and `fails` are told of a series exactly where it meets the model and where it doesn't
-abbrev pub TellsMeets : Option Command → List ℕ → Status → Type 0
-TellsMeets None bytes status = Unit {0}
-TellsMeets (Some Check) bytes status =
+abbrev pub TellsMeets : List ℕ → Status → Type 0
+TellsMeets bytes status =
     (m : Stated) (xs : List ℤ) → IsAsked bytes m xs → (status ≡ Done → Meets m xs) × (status ≡ No → Meets m xs → ⊥)
+
+-- a program was written: the bytes state a model, and what was taken is its program, whose automata answer the values
+-- of the terms
+pub record TookProgram (bytes : List ℕ) (before after : Option (List ℕ)) : Type 0 where
+  pub model : Stated
+  pub states : model_reading Values bytes ≡ Ok model
+  pub text : List ℕ
+  pub taken : after ≡ taken_more before text
+  pub compiled : IsCompiled model text
+
+-- what a command tells of its subject beyond the reply
+abbrev pub Tells : Option Command → List ℕ → Option (List ℕ) → Option (List ℕ) → Status → Type 0
+Tells None bytes before after status = Unit {0}
+Tells (Some Check) bytes before after status = TellsMeets bytes status
+Tells (Some Compile) bytes before after status = status ≡ Done → TookProgram bytes before after

@@ -1,5 +1,6 @@
 pub mod AnswerTexts
 pub mod Commands
+pub mod CompiledValue
 pub mod Endings
 pub mod Quantities
 pub mod Replies

@@ -4,7 +4,7 @@ ghost use Rattle.std.specs.Prelude.{ℕ, ◌≡◌, ◌≢◌, ◌<◌, ◌≤�
 ghost use Rattle.ts_base.specs.Outside.{Rose, one_more};
 ghost use Rattle.ts_run.specs.AnswerTexts.{fault_read};
 ghost use Rattle.ts_run.specs.Commands.{command_of, words_in};
-ghost use Rattle.ts_run.specs.Endings.{CallEnds, CallSpares, CallTakes, TellsMeets, WholeEnds, WholeTakes};
+ghost use Rattle.ts_run.specs.Endings.{CallEnds, CallSpares, CallTakes, Tells, WholeEnds, WholeTakes};
 ghost use Rattle.ts_run.specs.Reply.{EndsWritten, TellsNoFault};
 
 use crate::command::{Command, Input};
@@ -27,12 +27,12 @@ pub fn run<S: Source, K: Sink>(
     source: &mut S,
     sink: &mut K,
 ) -> Status
-    // What is written, read and told of the series, by the command that the words are.
+    // What is written, read and told of the command's subject, by the command that the words are.
     ensures ends { CallEnds (command_of (words_in words.now.items)) (S.left source.old)
         (S.source_faults source.old) (S.source_faults source.new) (K.taken sink.old) (K.taken sink.new) result }
     ensures takes { CallTakes (command_of (words_in words.now.items)) S.left source.old source.new result }
-    ensures meets { IfSome (S.left source.old) (λ bytes.
-        TellsMeets (command_of (words_in words.now.items)) bytes result) }
+    ensures tells { IfSome (S.left source.old) (λ bytes.
+        Tells (command_of (words_in words.now.items)) bytes (K.taken sink.old) (K.taken sink.new) result) }
 
     // A fault is told only where one was counted, and none is passed over.
     ensures read_fault { result ≡ Status.ReadFault → Rose (S.source_faults source.old) (S.source_faults source.new) }

@@ -7,6 +7,7 @@ ghost use Rattle.ts_run.specs.Commands.{IsShort, command_of, input_of, words_in}
 #[derive(Clone, Copy, Debug, PartialEq, Eq)]
 pub enum Command {
     Check,
+    Compile,
 }
 
 /// How a command takes its input.
@@ -23,6 +24,7 @@ impl Command {
     {
         match words.as_slice() {
             [word] if word.as_str() == "check" => Some(Command::Check),
+            [word] if word.as_str() == "compile" => Some(Command::Compile),
             _ => None,
         }
     }
@@ -34,6 +36,7 @@ impl Command {
     {
         match self {
             Command::Check => Input::Whole { limit: 2_097_152 },
+            Command::Compile => Input::Whole { limit: 1_048_576 },
         }
     }
 }

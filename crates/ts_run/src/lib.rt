@@ -8,8 +8,9 @@
 //! status.code()   // 0 to 6
 //! ```
 //!
-//! A command says how it takes its input. One that takes the whole is a function from bytes to a reply, as `check`, and
-//! knows of no source and no sink: a new one is a word, a relation between bytes and reply, and that function.
+//! A command says how it takes its input. One that takes the whole is a function from bytes to a reply, as `check` and
+//! `compile` are, and knows of no source and no sink: a new one is a word, a relation between bytes and reply, and that
+//! function.
 //!
 //! A number among the words of a command is a `Budget`, a `Count` or a number of `Cells`: each keeps its range, and is
 //! read from a word exactly where the word writes a number within it.
@@ -18,6 +19,7 @@
 mod call;
 mod check;
 mod command;
+mod compile;
 mod laws;
 mod model_part;
 mod quantity;
@@ -29,7 +31,7 @@ mod verdict;
 mod write;
 
 pub use call::run;
-pub use laws::{done_is_meets, one_check_reply};
+pub use laws::{done_is_meets, one_check_reply, one_compile_reply};
 pub use quantity::{Budget, Cells, Count};
 pub use status::Status;
 

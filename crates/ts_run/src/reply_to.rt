@@ -6,6 +6,7 @@ ghost use Rattle.ts_run.specs.Reply.{ComesOfInput, reply_of};
 
 use crate::check::check;
 use crate::command::Command;
+use crate::compile::compile;
 use crate::reply::{Reply, or_refusal};
 use std::alloc::Global;
 use ts_base::Memory;
@@ -18,5 +19,6 @@ pub fn reply_to(alloc: Global, command: Command, bytes: &[u8]) -> Result<Reply, 
 {
     match command {
         Command::Check => or_refusal(check(alloc, bytes)),
+        Command::Compile => or_refusal(compile(alloc, bytes)),
     }
 }

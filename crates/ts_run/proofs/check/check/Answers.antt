@@ -2,7 +2,7 @@ use Rattle.std.proofs.Common.{◌∙◌, ap, arith, length, refl, []}
 use Rattle.std.specs.Prelude.{unwrap_or}
 use Rattle.ts_token.specs.Halves.{Halves}
 use Rattle.ts_run.proofs.Inputs.{parts_within, rest_now}
-use Rattle.ts_run.proofs.Steps.{check_fails}
+use Rattle.ts_run.proofs.CheckSteps.{check_fails}
 use Rattle.ts_run.proofs.check.check.Goals as goal
 
 pub model_of-requires : goal.model_of-requires

@@ -1,7 +1,7 @@
 use Rattle.std.proofs.Common.{rules, ◌≡◌, ◌∙◌, sym, ap, vec_len, length, Ok, List, ℤ}
 use Rattle.ts_model.specs.Views.{stated}
 use Rattle.ts_run.specs.Reply.{reply_of}
-use Rattle.ts_run.proofs.Steps.{series_replies}
+use Rattle.ts_run.proofs.CheckSteps.{series_replies}
 use Rattle.ts_run.proofs.check.check_series.Goals as goal
 
 pub returns : goal.returns

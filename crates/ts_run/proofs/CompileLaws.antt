@@ -1,0 +1,113 @@
+-- The text of `compile`: there is one, it has a part for each term, and the automaton of a part answers the term's value.
+use Rattle.std.proofs.Common.{◌≡◌, ℕ, true, Option, Ok, Err, List, [], ◌∷◌, ◌++◌, map, refl, sym, ◌∙◌, ap, subst, String}
+use Rattle.std.specs.Prelude.{Result, codes, string_bytes}
+use Rattle.std.specs.Global.{Global}
+use Rattle.std.proofs.Math.Bool.{Bool-set}
+use Rattle.ts_pattern.specs.declared.name.Aggregator.{Aggregator}
+use Rattle.ts_pattern.specs.declared.name.Feature.{Feature}
+use Rattle.ts_pattern.specs.declared.name.PatternId.{PatternId}
+use Rattle.ts_pattern.specs.declared.term.Term.{Term}
+use Rattle.ts_pattern.specs.Names.{is_pair}
+use Rattle.ts_automaton.specs.declared.draft.Way.TheVariants.{Forward}
+use Rattle.ts_automaton.specs.AutomatonText.{body_text}
+use Rattle.ts_model.specs.declared.error.ModelKind.{ModelKind}
+use Rattle.ts_model.specs.declared.model.Need.TheVariants.{Values}
+use Rattle.ts_model.specs.ModelReading.{model_reading}
+use Rattle.ts_model.specs.Stated.{Stated}
+use Rattle.ts_model.specs.Views.{parts_of, term_of}
+use Rattle.ts_compile.specs.Compiled.{machine_body}
+use Rattle.ts_compile.specs.ProgramText.{part_text, program_text}
+use Rattle.ts_compile.proofs.Tables.{compiled_answers, compiled_automaton}
+use Rattle.ts_run.specs.AnswerTexts.{OneCompileReply, OnReading, ProgramReply}
+use Rattle.ts_run.specs.CompiledValue.{HasParts, IsPart, IsProgramText}
+use Rattle.ts_run.specs.Endings.{RepliesWithin, Responds, TookProgram}
+use Rattle.ts_run.specs.Reply.{Reply}
+use Rattle.ts_run.specs.declared.command.Command.TheVariants.{Compile}
+use Rattle.ts_run.specs.declared.status.Status.{Status}
+use Rattle.ts_run.specs.declared.status.Status.TheVariants.{Done}
+use Rattle.ts_run.proofs.Replied.{replied}
+
+-- the part of each term
+
+part_of : (name : List ℕ) (t : Term) → IsPart name t (part_text name t (machine_body t))
+part_of name t = record {
+  lines = body_text (machine_body t);
+  tail = codes "no reverse\n";
+  part_is = refl;
+  body = machine_body t;
+  reads = (compiled_automaton t, (Forward, refl));
+  answers = compiled_answers t;
+}
+
+parts_in : (terms : List (String Global × Term)) → HasParts terms (program_text terms)
+parts_in [] = refl
+parts_in (t ∷ ts) = (part_text (string_bytes t.0) t.1 (machine_body t.1), program_text ts, refl, part_of (string_bytes t.0) t.1, parts_in ts)
+
+-- there is one program text
+
+abbrev term_with : (g : Aggregator) (f : Feature) (id : PatternId) → is_pair g f ≡ true → Term
+term_with g f id pair = record { aggregator = g; feature = f; pattern = id; pair = pair }
+
+same_term : (g h : Aggregator) (f e : Feature) (id other : PatternId) (p : is_pair g f ≡ true) (q : is_pair h e ≡ true) → g ≡ h → f ≡ e → id ≡ other →
+    term_with g f id p ≡ term_with h e other q
+same_term g h f e id other p q same_g same_f same_id =
+    subst (λ (z : PatternId). term_with g f id p ≡ term_with h e z q) same_id
+    (subst (λ (z : Feature). (r : is_pair h z ≡ true) → term_with g f id p ≡ term_with h z id r) same_f
+    (subst (λ (z : Aggregator). (r : is_pair z f ≡ true) → term_with g f id p ≡ term_with z f id r) same_g
+    (λ r. ap (term_with g f id) (Bool-set (is_pair g f) true p r))) q)
+
+-- a term is its three names
+by_parts : (s t : Term) → parts_of s ≡ parts_of t → s ≡ t
+by_parts s t e =
+    same_term s.aggregator t.aggregator s.feature t.feature s.pattern t.pattern s.pair t.pair
+    (ap (λ p. p.aggregator) e) (ap (λ p. p.feature) e) (ap (λ p. p.pattern) e)
+
+same_text : (ss ts : List (String Global × Term)) → map term_of ss ≡ map term_of ts → program_text ss ≡ program_text ts
+same_text [] [] h = refl
+same_text [] (t ∷ ts) h = cc
+same_text (s ∷ ss) [] h = cc
+same_text (s ∷ ss) (t ∷ ts) h =
+    let one : term_of s ≡ term_of t = cc in
+    let more : map term_of ss ≡ map term_of ts = cc in
+    let name = ap (λ p. p.0) one in
+    let term = by_parts s.1 t.1 (ap (λ p. p.1) one) in
+    let rest = same_text ss ts more in (λ i. part_text (name i) (term i) (machine_body (term i)) ++ rest i)
+
+one_text : (m : Stated) (x y : List ℕ) → IsProgramText m x → IsProgramText m y → x ≡ y
+one_text m x y h k = h.text_is ∙ same_text h.terms k.terms (h.terms_are ∙ sym k.terms_are) ∙ sym k.text_is
+
+one_program_reply : (reading : Result Stated (ℕ × ModelKind)) (r s : Reply) → OnReading reading ProgramReply r → OnReading reading ProgramReply s → r ≡ s
+one_program_reply (Ok m) r s h k =
+    let text = one_text m r.text s.text h.0 k.0 in
+    let status = h.1 ∙ sym k.1 in (λ i. record { text = text i; status = status i })
+one_program_reply (Err bad) r s h k = h ∙ sym k
+
+pub one_compile_reply : OneCompileReply
+one_compile_reply bytes r s h k = one_program_reply (model_reading Values bytes) r s h k
+
+-- what a call has written whose status is `Done`
+
+record IsDone (reading : Result Stated (ℕ × ModelKind)) (text : List ℕ) : Type 0 where
+  model : Stated
+  states : reading ≡ Ok model
+  program : IsProgramText model text
+
+done_reading : (reading : Result Stated (ℕ × ModelKind)) (r : Reply) → OnReading reading ProgramReply r → r.status ≡ Done → IsDone reading r.text
+done_reading (Ok m) r h e = record { model = m; states = refl; program = h.0 }
+done_reading (Err bad) r h e = let refused = sym e ∙ ap (λ (x : Reply). x.status) h in cc
+
+pub compile_tells : (bytes : List ℕ) (limit faults faults_now : ℕ) (before after : Option (List ℕ)) (status : Status) →
+    Responds (RepliesWithin limit Compile bytes) faults faults_now before after status → status ≡ Done → TookProgram bytes before after
+compile_tells bytes limit faults faults_now before after status h e =
+    let p = replied Compile bytes limit faults faults_now before after status Done (λ x. cc) (λ x. cc) (λ x. cc) (λ r x. x.1) h e in
+    let d = done_reading (model_reading Values bytes) p.0 p.1 p.2.1 in
+    record {
+      model = d.model;
+      states = d.states;
+      text = p.0.text;
+      taken = p.2.0;
+      compiled = record {
+        program = d.program;
+        parts = subst (λ (x : List ℕ). HasParts d.program.terms x) (sym d.program.text_is) (parts_in d.program.terms);
+      };
+    }
