@@ -1,5 +1,5 @@
 -- What the calls of a machine that can be split need: the shape is the expression, and each operator in it meets values that it takes.
-use Rattle.std.proofs.Common.{◌≡◌, ℕ, zero, suc, Bool, true, false, cond, ◌&&◌, ℤ, refl, sym, ◌∙◌, ap, subst}
+use Rattle.std.proofs.Common.{◌≡◌, ℕ, zero, suc, Bool, true, cond, ℤ, refl, sym, ◌∙◌, ap, subst}
 use Rattle.std.specs.Prelude.{IsTrue, IfSome, option_map, Some}
 use Rattle.ts_base.specs.declared.ext.Ext.{Ext}
 use Rattle.ts_base.specs.declared.span.Span.{Span}
@@ -15,7 +15,7 @@ use Rattle.ts_glue.specs.declared.machine.Machine.{Machine}
 use Rattle.ts_glue.specs.declared.shape.Shape.{Shape}
 use Rattle.ts_glue.specs.Pairs.{Pair, pair, table_view}
 use Rattle.ts_glue.specs.Machines.{forward_of, reverse_of}
-use Rattle.ts_glue.specs.Glue.{Meets, first_op, fold_op, worth, is_join, apart, folded_between, folded, joined, result_op, glue_of}
+use Rattle.ts_glue.specs.Glue.{GlueTakes, first_op, fold_op, worth, is_join, apart, folded_between, folded, joined, result_op, glue_of}
 use Rattle.ts_glue.specs.Rules.{keeps_rules}
 use Rattle.ts_glue.specs.Shapes.{shape_glue}
 use Rattle.ts_glue.proofs.Facts.{facts_of}
@@ -52,7 +52,7 @@ module _ (m : Machine) (h : Half) (e : m.half ≡ Some h) (b : Body) (lent : b �
 
   pub value_fits : IsTrue (is_automaton b) → IsTrue (is_automaton h.reverse) → (left right : Standing Ext) → Stands (forward_of m) left →
       IfSome (reverse_of m) (λ r. Stands r right) → (x : ℤ) (g : Op) → g ≡ first_op b.finish → (s : Shape) →
-      shape_glue (first_op b.finish) s ≡ glue_of lent_pair left.state right.state x → Meets Fits numbers left.regs right.regs (shape_glue g s)
+      shape_glue (first_op b.finish) s ≡ glue_of lent_pair left.state right.state x → GlueTakes Fits numbers left.regs right.regs (shape_glue g s)
   value_fits a c left right l r x g eg s es =
       glue_fits lent_pair (facts_of lent_pair rules) a c left right (subst (λ z. Stands z left) (sym lent) l) (on_reverse (λ z. Stands z right) r) x
       (shape_glue g s) (ap (λ z. shape_glue z s) eg ∙ es)
@@ -60,7 +60,7 @@ module _ (m : Machine) (h : Half) (e : m.half ≡ Some h) (b : Body) (lent : b �
   pub spans_fit : IsTrue (is_automaton b) → IsTrue (is_automaton h.reverse) → (left right : Standing Span) → HullStands (forward_of m) left →
       IfSome (reverse_of m) (λ r. HullStands r right) → has_registers left.regs ≡ true → has_registers right.regs ≡ true → (x : ℤ) (g : Op) →
       g ≡ first_op b.finish → (s : Shape) → shape_glue (first_op b.finish) s ≡ glue_of lent_pair left.state right.state x →
-      Meets SpansFit spans left.regs right.regs (shape_glue g s)
+      GlueTakes SpansFit spans left.regs right.regs (shape_glue g s)
   spans_fit a c left right l r some_left some_right x g eg s es =
       hulls_fit lent_pair (facts_of lent_pair rules) a c left right (subst (λ z. HullStands z left) (sym lent) l) (on_reverse (λ z. HullStands z right) r)
       some_left some_right x (shape_glue g s) (ap (λ z. shape_glue z s) eg ∙ es)

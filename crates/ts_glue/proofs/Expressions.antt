@@ -1,15 +1,15 @@
 -- Laws of the meaning of a glued value's expression, for any values.
-use Rattle.std.proofs.Common.{◌≡◌, ap, subst}
-use Rattle.std.specs.Prelude.{IsTrue, is_some, pos, Option, Some}
+use Rattle.std.proofs.Common.{ap, subst}
+use Rattle.std.specs.Prelude.{IsTrue, is_some, Option, Some}
 use Rattle.ts_base.specs.declared.ext.Ext.{Ext}
 use Rattle.ts_base.specs.declared.ext.Ext.TheVariants.{Int}
 use Rattle.ts_automaton.specs.declared.kind.RegKind.{RegKind}
 use Rattle.ts_automaton.specs.declared.expr.Op.{Op}
 use Rattle.ts_automaton.specs.Registers.{EachOf, map_each, Each, Values}
 use Rattle.ts_automaton.specs.Kinds.{kinds}
-use Rattle.ts_automaton.proofs.Evaluation.{Parted, parted, HasIfSome, joins}
+use Rattle.ts_automaton.proofs.Evaluation.{parted, HasIfSome, joins}
 use Rattle.ts_automaton.proofs.KindLaws.{TypedValues}
-use Rattle.ts_glue.specs.Glue.{Glue, LeftC, LeftD, LeftR, RightC, RightD, RightR, Number, With, glue_in, Meets}
+use Rattle.ts_glue.specs.Glue.{Glue, LeftC, LeftD, LeftR, RightC, RightD, RightR, Number, With, glue_in, GlueTakes}
 
 -- a relation of two kinds of values that constants and operators keep
 module _ {A B : Type 0} (m : Values A) (n : Values B) (P : A → B → Type 0)
@@ -39,7 +39,7 @@ module _ {A : Type 0} (m : Values A) (Has : RegKind → A → Type 0) (P : Op �
 
   -- in an expression with a kind each operator meets two values that it takes
   pub glue_meets : (u : Glue) (k l : EachOf RegKind) (left right : EachOf A) → Each Has k left → Each Has l right → IsTrue (is_some (kind_in k l u)) →
-      Meets P m left right u
+      GlueTakes P m left right u
   glue_meets LeftC k l left right h i e = tt
   glue_meets LeftD k l left right h i e = tt
   glue_meets LeftR k l left right h i e = tt

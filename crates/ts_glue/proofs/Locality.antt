@@ -2,7 +2,6 @@
 use Rattle.std.proofs.Common.{◌≡◌, ◌≤◌, ◌<◌, ℕ, zero, suc, ◌+◌, ◌-◌, length, ◌∙◌, subst, arith}
 use Rattle.ts_base.specs.declared.ext.Ext.{Ext}
 use Rattle.ts_automaton.specs.AutomatonRun.{answer}
-use Rattle.ts_glue.specs.Pairs.{Pair}
 use Rattle.ts_glue.specs.Glued.{Glued}
 use Rattle.ts_glue.specs.Laws.{LocalIsAnswer}
 

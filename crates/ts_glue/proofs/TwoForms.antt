@@ -17,9 +17,9 @@ use Rattle.ts_automaton.specs.SpanRun.{has_registers, one_hull, marked_span}
 use Rattle.ts_automaton.proofs.KindLaws.{op_mono, lifted_ends}
 use Rattle.ts_automaton.proofs.RunLaws.{one_registers}
 use Rattle.ts_glue.specs.Pairs.{Pair}
-use Rattle.ts_glue.specs.Glue.{glue_in, glue_of, is_join, apart, joined, folded, fold_op, worth, result_op}
+use Rattle.ts_glue.specs.Glue.{glue_in, glue_of, apart, joined, folded, fold_op, worth, result_op}
 use Rattle.ts_glue.specs.Laws.{StartGluesToFinish, TwoFormsAgree}
-use Rattle.ts_glue.proofs.Facts.{Facts, facts_of, result_of, neutral_of, start_is_apart}
+use Rattle.ts_glue.proofs.Facts.{Facts, facts_of, neutral_of, start_is_apart}
 
 clamped_again : (z : ℤ) → clamp (clamp z +ℤ pos 0) ≡ clamp z
 clamped_again z = grind (arith, ints)

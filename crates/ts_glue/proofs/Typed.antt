@@ -15,9 +15,9 @@ use Rattle.ts_automaton.specs.SpanRun.{has_registers, HullStands}
 use Rattle.ts_automaton.proofs.KindLaws.{numbers_typed, spans_typed}
 use Rattle.ts_automaton.proofs.Rules.{rules_of, finish_typed}
 use Rattle.ts_automaton.proofs.StepLaws.{spans_have}
-use Rattle.ts_automaton.proofs.Tables.{implies, implied, on_all, at_each}
+use Rattle.ts_automaton.proofs.Tables.{implies, implied, at_each}
 use Rattle.ts_glue.specs.Pairs.{Pair}
-use Rattle.ts_glue.specs.Glue.{Glue, Meets, fold_op, worth, is_join, apart, folded, joined, result_op, glue_of}
+use Rattle.ts_glue.specs.Glue.{Glue, GlueTakes, fold_op, worth, is_join, apart, folded, joined, result_op, glue_of}
 use Rattle.ts_glue.proofs.Expressions.{kind_in, glue_meets}
 use Rattle.ts_glue.specs.Laws.{OperandsFit}
 use Rattle.ts_glue.proofs.Facts.{Facts, facts_of, result_of, join_is_typed}
@@ -77,13 +77,13 @@ module _ (p : Pair) (f : Facts p) (forward : IsTrue (is_automaton p.forward)) (r
 
   -- u is the expression of the two states
   pub glue_fits : (left right : Standing Ext) → Stands p.forward left → Stands p.reverse right → (x : ℤ) (u : Glue) → u ≡ glue_of p left.state right.state x →
-      Meets Fits numbers left.regs right.regs u
+      GlueTakes Fits numbers left.regs right.regs u
   glue_fits left right h i x u e =
       glue_meets numbers HasKind Fits numbers_typed u (kinds_at p.forward left.state) (kinds_at p.reverse right.state) left.regs right.regs h.kinds i.kinds
       (subst (λ z. IsTrue (is_some (kind_in (kinds_at p.forward left.state) (kinds_at p.reverse right.state) z))) (sym e) (glue_typed left.state right.state x))
 
   pub hulls_fit : (left right : Standing Span) → HullStands p.forward left → HullStands p.reverse right → has_registers left.regs ≡ true →
-      has_registers right.regs ≡ true → (x : ℤ) (u : Glue) → u ≡ glue_of p left.state right.state x → Meets SpansFit spans left.regs right.regs u
+      has_registers right.regs ≡ true → (x : ℤ) (u : Glue) → u ≡ glue_of p left.state right.state x → GlueTakes SpansFit spans left.regs right.regs u
   hulls_fit left right h i s t x u e =
       glue_meets spans SpanHasKind SpansFit spans_typed u (kinds_at p.forward left.state) (kinds_at p.reverse right.state) left.regs right.regs
       (spans_have (kinds_at p.forward left.state) left.regs h.kinds s) (spans_have (kinds_at p.reverse right.state) right.regs i.kinds t)

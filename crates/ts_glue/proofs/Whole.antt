@@ -10,7 +10,7 @@ use Rattle.ts_automaton.specs.declared.expr.Op.TheVariants.{Add, Max, Min}
 use Rattle.ts_automaton.specs.Registers.{EachOf, each, Each, numbers, spans}
 use Rattle.ts_automaton.specs.Kinds.{HasKind, SpanHasKind, Fits, SpansFit, op_kind, join_kind}
 use Rattle.ts_automaton.proofs.KindLaws.{numbers_typed, spans_typed}
-use Rattle.ts_glue.specs.Glue.{Glue, LeftC, LeftD, LeftR, RightC, RightD, RightR, Number, With, Meets}
+use Rattle.ts_glue.specs.Glue.{Glue, LeftC, LeftD, LeftR, RightC, RightD, RightR, Number, With, GlueTakes}
 use Rattle.ts_glue.proofs.Expressions.{kind_in, glue_meets}
 
 abbrev wholes : EachOf RegKind
@@ -36,9 +36,9 @@ has_kind : (u : Glue) → IsTrue (is_some (kind_in wholes wholes u))
 has_kind u = ap is_some (whole_kind u)
 
 pub numbers_meet : (u : Glue) (s t : EachOf Ext) → Each HasKind (each Whole Whole Whole) s → Each HasKind (each Whole Whole Whole) t →
-    Meets Fits numbers s t u
+    GlueTakes Fits numbers s t u
 numbers_meet u s t h i = glue_meets numbers HasKind Fits numbers_typed u wholes wholes s t h i (has_kind u)
 
 pub spans_meet : (u : Glue) (s t : EachOf Span) → Each SpanHasKind (each Whole Whole Whole) s → Each SpanHasKind (each Whole Whole Whole) t →
-    Meets SpansFit spans s t u
+    GlueTakes SpansFit spans s t u
 spans_meet u s t h i = glue_meets spans SpanHasKind SpansFit spans_typed u wholes wholes s t h i (has_kind u)

@@ -1,6 +1,6 @@
 -- The value at a cell that a forward and a reverse run have both reached, before the mark: an expression over the
 -- registers of the two runs, with one meaning for numbers, spans and kinds.
-use Rattle.std.specs.Prelude.{ℕ, ℤ, zero, suc, pos, neg_ℤ, Bool, true, false, ◌&&◌, nat_eq, if◌then◌else◌}
+use Rattle.std.specs.Prelude.{ℕ, ℤ, zero, suc, pos, neg_ℤ, Bool, ◌&&◌, nat_eq, if◌then◌else◌}
 use Rattle.std.specs.List.{list_any}
 use Rattle.ts_base.specs.declared.ext.Ext.TheVariants.{Int}
 use Rattle.ts_automaton.specs.declared.expr.Op.{Op}
@@ -38,15 +38,15 @@ glue_in m s t (Number x) = m.constant (Int x)
 glue_in m s t (With o u v) = m.join o (glue_in m s t u) (glue_in m s t v)
 
 -- each operator in it meets two values that it takes
-abbrev pub Meets : {A : Type 0} → (Op → A → A → Type 0) → Values A → EachOf A → EachOf A → Glue → Type 0
-Meets P m s t LeftC = Unit {0}
-Meets P m s t LeftD = Unit {0}
-Meets P m s t LeftR = Unit {0}
-Meets P m s t RightC = Unit {0}
-Meets P m s t RightD = Unit {0}
-Meets P m s t RightR = Unit {0}
-Meets P m s t (Number x) = Unit {0}
-Meets P m s t (With o u v) = Meets P m s t u × Meets P m s t v × P o (glue_in m s t u) (glue_in m s t v)
+abbrev pub GlueTakes : {A : Type 0} → (Op → A → A → Type 0) → Values A → EachOf A → EachOf A → Glue → Type 0
+GlueTakes P m s t LeftC = Unit {0}
+GlueTakes P m s t LeftD = Unit {0}
+GlueTakes P m s t LeftR = Unit {0}
+GlueTakes P m s t RightC = Unit {0}
+GlueTakes P m s t RightD = Unit {0}
+GlueTakes P m s t RightR = Unit {0}
+GlueTakes P m s t (Number x) = Unit {0}
+GlueTakes P m s t (With o u v) = GlueTakes P m s t u × GlueTakes P m s t v × P o (glue_in m s t u) (glue_in m s t v)
 
 -- the operator that the finish expression begins with
 abbrev pub first_op : Formula → Op

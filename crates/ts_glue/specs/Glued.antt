@@ -4,7 +4,7 @@ use Rattle.ts_base.specs.declared.ext.Ext.{Ext}
 use Rattle.ts_base.specs.declared.span.Span.{Span}
 use Rattle.ts_base.specs.Limits.{most_cells}
 use Rattle.ts_base.specs.Spans.{none_span}
-use Rattle.ts_automaton.specs.Registers.{EachOf, Values, numbers, spans}
+use Rattle.ts_automaton.specs.Registers.{Values, numbers, spans}
 use Rattle.ts_automaton.specs.AutomatonRun.{Standing, after, answer, marked, AreCellValues}
 use Rattle.ts_automaton.specs.SpanRun.{has_registers, marked_span}
 use Rattle.ts_glue.specs.Pairs.{Pair}

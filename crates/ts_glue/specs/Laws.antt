@@ -1,5 +1,5 @@
 -- What the layers above know of glued values.
-use Rattle.std.specs.Prelude.{◌≡◌, ◌≤◌, ℕ, ℤ, List, length, false, IsTrue, ◌⊎◌}
+use Rattle.std.specs.Prelude.{◌≡◌, ◌≤◌, ℕ, ℤ, List, length, false, IsTrue, ◌⊎◌, Some}
 use Rattle.ts_base.specs.declared.ext.Ext.{Ext}
 use Rattle.ts_base.specs.declared.span.Span.{Span}
 use Rattle.ts_base.specs.Limits.{most_cells}
@@ -8,13 +8,19 @@ use Rattle.ts_base.specs.Spans.{none_span, one_span, Holds}
 use Rattle.ts_automaton.specs.Registers.{EachOf, Each, numbers, spans}
 use Rattle.ts_automaton.specs.Kinds.{Fits, SpansFit}
 use Rattle.ts_automaton.specs.Typing.{is_automaton}
-use Rattle.ts_automaton.specs.AutomatonRun.{Standing, Stands, start_of, finish_of, answer, IsInMark, AreCellValues}
+use Rattle.ts_automaton.specs.AutomatonRun.{Standing, Stands, start_of, finish_of, answer, IsInMark, AreCellValues, Marked}
 use Rattle.ts_automaton.specs.SpanRun.{has_registers, one_hull, HoldsRegs, HullStands, finish_span_of}
 use Rattle.ts_automaton.specs.Laws.{standing}
+use Rattle.ts_glue.specs.declared.machine.Machine.{Machine}
 use Rattle.ts_glue.specs.Pairs.{Pair}
-use Rattle.ts_glue.specs.Glue.{Meets, glue_of}
-use Rattle.ts_glue.specs.Glued.{glue_at, glued, glue_span_at, glued_span, Glued, Local}
-use Rattle.ts_glue.specs.Rules.{keeps_rules}
+use Rattle.ts_glue.specs.Machines.{pair_of}
+use Rattle.ts_glue.specs.Glue.{GlueTakes, glue_of}
+use Rattle.ts_glue.specs.Glued.{glue_at, glued, glue_span_at, glued_span, left_at, right_at, cell_at, Glued, Local}
+use Rattle.ts_glue.specs.Rules.{keeps_rules, IsGluing}
+
+-- a machine that can be split keeps what is asked of its pair
+abbrev pub MachinesKeepRules : Type 0
+MachinesKeepRules = (m : Machine) (p : Pair) → pair_of m ≡ Some p → IsGluing p
 
 -- at every cell of every series the glued value is the forward answer
 abbrev pub LocalIsAnswer : Type 0
@@ -34,6 +40,17 @@ MarkedSpansHold =
     (p : Pair) (q r : ℕ) (h i : EachOf Span) (s t : EachOf Ext) (x : ℤ) (n : ℕ) → HoldsRegs h s → HoldsRegs i t →
     let e = glued p (standing q s) (standing r t) x n in
     IsInMark p.forward.mark n e → Holds (glued_span p (standing q h) (standing r i) x n) e
+
+-- and where it does for all answers, the glued span at a cell holds the answer of each series whose two runs lie in the
+-- hulls
+abbrev pub GluedSpansHoldAnswers : Type 0
+GluedSpansHoldAnswers =
+    (p : Pair) → Local p → Marked p.forward → (xs : List ℤ) → length xs ≤ most_cells → AreCellValues xs →
+    (k : ℕ) → 1 ≤ k → k ≤ length xs → (h i : EachOf Span) →
+    HoldsRegs h (left_at p xs k).regs → HoldsRegs i (right_at p xs k).regs →
+    Holds
+    (glued_span p (standing (left_at p xs k).state h) (standing (right_at p xs k).state i) (cell_at xs k) (length xs))
+    (answer p.forward xs)
 
 -- a glued span is none where a hull is none
 abbrev pub NoneGluesToNone : Type 0
@@ -72,10 +89,10 @@ GluedSpansGrow =
 -- take
 pub record MeetsOperands (p : Pair) : Type 0 where
   pub fit : (left right : Standing Ext) → Stands p.forward left → Stands p.reverse right → (x : ℤ) →
-      Meets Fits numbers left.regs right.regs (glue_of p left.state right.state x)
+      GlueTakes Fits numbers left.regs right.regs (glue_of p left.state right.state x)
   pub spans_fit : (left right : Standing Span) → HullStands p.forward left → HullStands p.reverse right →
       IsTrue (has_registers left.regs) → IsTrue (has_registers right.regs) → (x : ℤ) →
-      Meets SpansFit spans left.regs right.regs (glue_of p left.state right.state x)
+      GlueTakes SpansFit spans left.regs right.regs (glue_of p left.state right.state x)
 
 abbrev pub OperandsFit : Type 0
 OperandsFit =

@@ -5,7 +5,7 @@ ghost use Rattle.ts_automaton.specs.AutomatonRun.{Stands, standing_of};
 ghost use Rattle.ts_automaton.specs.Kinds.{Fits};
 ghost use Rattle.ts_automaton.specs.Registers.{numbers, regs_of};
 ghost use Rattle.ts_base.specs.Limits.{IsCellValue};
-ghost use Rattle.ts_glue.specs.Glue.{Meets, folded_between, folded_both, glue_in};
+ghost use Rattle.ts_glue.specs.Glue.{GlueTakes, folded_between, folded_both, glue_in};
 ghost use Rattle.ts_glue.specs.Glued.{glued};
 ghost use Rattle.ts_glue.specs.Machines.{forward_of, pair_of, reverse_of};
 ghost use Rattle.ts_glue.specs.Shapes.{IsWorth, shape_glue};
@@ -40,7 +40,7 @@ pub fn glue_value(m: &Machine, left: At, right: At, cell: i64, n: u32) -> Ext
 impl Shape {
     /// The glued value before the mark; each operator in it meets two values that it takes.
     pub(crate) fn value(self, result_op: Op, left: &Regs, right: &Regs) -> Ext
-        requires fits { Meets Fits numbers (regs_of left.now) (regs_of right.now) (shape_glue result_op self) }
+        requires fits { GlueTakes Fits numbers (regs_of left.now) (regs_of right.now) (shape_glue result_op self) }
         requires worth { IsWorth self }
         ensures { result ≡ glue_in numbers (regs_of left.now) (regs_of right.now) (shape_glue result_op self) }
     {
@@ -76,7 +76,7 @@ fn folded_between(
     left: &Regs,
     right: &Regs,
 ) -> Ext
-    requires { Meets Fits numbers
+    requires { GlueTakes Fits numbers
         (regs_of left.now) (regs_of right.now) (folded_between fold held_left held_right worth) }
     ensures { result ≡
         glue_in numbers (regs_of left.now) (regs_of right.now) (folded_between fold held_left held_right worth) }
@@ -97,7 +97,7 @@ fn folded_between(
 
 /// What both sides have folded, less the cell where it would count twice.
 fn folded_both(fold: Op, worth: i64, left: &Regs, right: &Regs) -> Ext
-    requires fits { Meets Fits numbers (regs_of left.now) (regs_of right.now) (folded_both fold worth) }
+    requires fits { GlueTakes Fits numbers (regs_of left.now) (regs_of right.now) (folded_both fold worth) }
     requires worth { IsCellValue worth }
     ensures { result ≡ glue_in numbers (regs_of left.now) (regs_of right.now) (folded_both fold worth) }
 {

@@ -5,7 +5,7 @@ ghost use Rattle.ts_automaton.specs.Kinds.{SpansFit};
 ghost use Rattle.ts_automaton.specs.Registers.{spans, spans_of};
 ghost use Rattle.ts_automaton.specs.SpanRun.{HullStands, hull_standing};
 ghost use Rattle.ts_base.specs.Limits.{IsCellValue};
-ghost use Rattle.ts_glue.specs.Glue.{Meets, folded_between, folded_both, glue_in};
+ghost use Rattle.ts_glue.specs.Glue.{GlueTakes, folded_between, folded_both, glue_in};
 ghost use Rattle.ts_glue.specs.Glued.{glued_span};
 ghost use Rattle.ts_glue.specs.Machines.{forward_of, pair_of, reverse_of};
 ghost use Rattle.ts_glue.specs.Shapes.{IsWorth, shape_glue};
@@ -42,7 +42,7 @@ pub fn glue_span(m: &Machine, left: HullAt, right: HullAt, cell: i64, n: u32) ->
 impl Shape {
     /// The glued span before the mark; each operator in it meets two spans that it takes.
     pub(crate) fn span(self, result_op: Op, left: &Hull, right: &Hull) -> Span
-        requires fits { Meets SpansFit spans (spans_of left.now) (spans_of right.now) (shape_glue result_op self) }
+        requires fits { GlueTakes SpansFit spans (spans_of left.now) (spans_of right.now) (shape_glue result_op self) }
         requires worth { IsWorth self }
         ensures { result ≡ glue_in spans (spans_of left.now) (spans_of right.now) (shape_glue result_op self) }
     {
@@ -78,7 +78,7 @@ fn folded_between(
     left: &Hull,
     right: &Hull,
 ) -> Span
-    requires { Meets SpansFit spans
+    requires { GlueTakes SpansFit spans
         (spans_of left.now) (spans_of right.now) (folded_between fold held_left held_right worth) }
     ensures { result ≡
         glue_in spans (spans_of left.now) (spans_of right.now) (folded_between fold held_left held_right worth) }
@@ -99,7 +99,7 @@ fn folded_between(
 
 /// What both sides have folded, less the cell where it would count twice: both ends move by it.
 fn folded_both(fold: Op, worth: i64, left: &Hull, right: &Hull) -> Span
-    requires fits { Meets SpansFit spans (spans_of left.now) (spans_of right.now) (folded_both fold worth) }
+    requires fits { GlueTakes SpansFit spans (spans_of left.now) (spans_of right.now) (folded_both fold worth) }
     requires worth { IsCellValue worth }
     ensures { result ≡ glue_in spans (spans_of left.now) (spans_of right.now) (folded_both fold worth) }
 {
