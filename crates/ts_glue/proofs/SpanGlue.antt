@@ -1,12 +1,13 @@
 -- Glued spans hold glued values, stay single and none, and grow with their hulls.
-use Rattle.std.proofs.Common.{◌≡◌, inl, inr, Bool, true, false, cond, ◌&&◌, length, refl, sym, ◌∙◌, ap, subst, arith}
+use Rattle.std.proofs.Common.{◌≡◌, inl, inr, ℕ, Bool, true, false, cond, ◌&&◌, length, refl, sym, ◌∙◌, ap, subst, arith}
 use Rattle.std.proofs.lemmas.Bool.{and_parts, and_from}
 use Rattle.ts_base.specs.declared.ext.Ext.{Ext}
 use Rattle.ts_base.specs.declared.span.Span.{Span}
 use Rattle.ts_base.specs.SpanLayer.{IsWithin}
-use Rattle.ts_base.specs.Spans.{none_span, one_span, Holds, has_some, end_by_end}
-use Rattle.ts_base.proofs.Order.{le_refl}
-use Rattle.ts_base.proofs.SpanLaws.{holds_some, holds_one, none_empty, lifted_holds, lifted_one, lifted_within}
+use Rattle.ts_base.specs.Spans.{none_span, one_span, Holds, has_some, end_by_end, span_hull}
+use Rattle.ts_base.proofs.Order.{le_refl, le_trans}
+use Rattle.ts_base.proofs.SpanLaws.{holds_some, holds_one, none_empty, hull_least, lifted_holds, lifted_one, lifted_within}
+use Rattle.ts_automaton.specs.declared.state.Mark.TheVariants.{Same}
 use Rattle.ts_automaton.specs.Registers.{EachOf, Each, numbers, spans, ext_op}
 use Rattle.ts_automaton.specs.AutomatonRun.{IsInMark}
 use Rattle.ts_automaton.specs.SpanRun.{has_registers, one_hull, HoldsRegs, marked_span}
@@ -15,7 +16,7 @@ use Rattle.ts_automaton.proofs.KindLaws.{op_mono}
 use Rattle.ts_automaton.proofs.RunLaws.{holds_registers, one_registers, mark_single, marks_hold}
 use Rattle.ts_glue.specs.Glue.{Glue, glue_in, glue_of}
 use Rattle.ts_glue.specs.Glued.{glue_at, glue_span_at, glued_span, left_at, right_at, cell_at}
-use Rattle.ts_glue.specs.Laws.{GluedSpansHold, MarkedSpansHold, GluedSpansHoldAnswers, NoneGluesToNone, GluedStaysSingle, GluedSpansGrow}
+use Rattle.ts_glue.specs.Laws.{GluedSpansHold, MarkedSpansHold, GluedSpansHoldAnswers, NoneGluesToNone, GluedStaysSingle, GluedSpansGrow, UnmarkedSpansGrow}
 use Rattle.ts_glue.proofs.Expressions.{glue_related}
 use Rattle.ts_glue.proofs.Locality.{local_is_answer}
 
@@ -103,3 +104,22 @@ glued_spans_grow p q r h i h' i' x k l e = go (has_registers h && has_registers 
         let d = and_from (has_registers h') (has_registers i') (wider_registers h h' k c.0) (wider_registers i i' l c.1) in
         subst (λ v. Holds (cond v (glue_in spans h' i' u) none_span) e) (sym d) (glue_grows u h i h' i' k l e g)
     go false b g = elim (none_empty e g) [ ]
+
+-- under the mark that changes nothing
+
+same_within : (n : ℕ) (s : Span) → IsWithin (marked_span Same n s) s
+same_within n s e = go (has_some s) refl
+  where
+    go : (v : Bool) → has_some s ≡ v → Holds (cond v (span_hull (one_span s.lo) (one_span s.hi)) none_span) e → Holds s e
+    go true i h =
+        hull_least (one_span s.lo) (one_span s.hi) s (λ d k. (k.0, le_trans d s.lo s.hi k.1 i)) (λ d k. (le_trans s.lo s.hi d i k.0, k.1)) e h
+    go false i h = elim (none_empty e h) [ ]
+
+same_grows : (n : ℕ) (s t : Span) → IsWithin s t → IsWithin (marked_span Same n s) (marked_span Same n t)
+same_grows n s t w e h = marks_hold Same n t e (w e (same_within n s e h)) tt
+
+pub unmarked_spans_grow : UnmarkedSpansGrow
+unmarked_spans_grow p same q r h i h' i' x n k l =
+    let s = glue_span_at p (standing q h) (standing r i) x in
+    let t = glue_span_at p (standing q h') (standing r i') x in
+    subst (λ m. IsWithin (marked_span m n s) (marked_span m n t)) (sym same) (same_grows n s t (glued_spans_grow p q r h i h' i' x k l))

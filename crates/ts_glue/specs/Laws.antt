@@ -5,6 +5,7 @@ use Rattle.ts_base.specs.declared.span.Span.{Span}
 use Rattle.ts_base.specs.Limits.{most_cells}
 use Rattle.ts_base.specs.SpanLayer.{IsWithin}
 use Rattle.ts_base.specs.Spans.{none_span, one_span, Holds}
+use Rattle.ts_automaton.specs.declared.state.Mark.TheVariants.{Same}
 use Rattle.ts_automaton.specs.Registers.{EachOf, Each, numbers, spans}
 use Rattle.ts_automaton.specs.Kinds.{Fits, SpansFit}
 use Rattle.ts_automaton.specs.Typing.{is_automaton}
@@ -84,6 +85,15 @@ GluedSpansGrow =
     IsWithin
     (glue_span_at p (standing q h) (standing r i) x)
     (glue_span_at p (standing q wider_h) (standing r wider_i) x)
+
+-- under the mark that changes nothing too (one that turns an infinite end into a number may narrow a span)
+abbrev pub UnmarkedSpansGrow : Type 0
+UnmarkedSpansGrow =
+    (p : Pair) → p.forward.mark ≡ Same → (q r : ℕ) (h i wider_h wider_i : EachOf Span) (x : ℤ) (n : ℕ) →
+    Each IsWithin h wider_h → Each IsWithin i wider_i →
+    IsWithin
+    (glued_span p (standing q h) (standing r i) x n)
+    (glued_span p (standing q wider_h) (standing r wider_i) x n)
 
 -- where the registers have the kinds of the two states, no operator in the glued value meets an operand that it doesn't
 -- take

@@ -1,6 +1,6 @@
 //! Laws of glued values, for the layers above. Each is a statement of `specs/Laws` that the checker has proved.
 
-ghost use Rattle.ts_glue.specs.Laws.{GluedSpansGrow, GluedSpansHold, GluedSpansHoldAnswers, GluedStaysSingle, LocalIsAnswer, MachinesKeepRules, MarkedSpansHold, NoneGluesToNone, OperandsFit, StartGluesToFinish, TwoFormsAgree};
+ghost use Rattle.ts_glue.specs.Laws.{GluedSpansGrow, GluedSpansHold, GluedSpansHoldAnswers, GluedStaysSingle, LocalIsAnswer, MachinesKeepRules, MarkedSpansHold, NoneGluesToNone, OperandsFit, StartGluesToFinish, TwoFormsAgree, UnmarkedSpansGrow};
 
 /// A machine that can be split keeps what `Machine::glued` asks of its pair.
 pub fn machines_keep_rules()
@@ -45,6 +45,11 @@ pub fn glued_stays_single()
 /// Hulls that hold more give a glued span that holds more, before the mark.
 pub fn glued_spans_grow()
     ensures { GluedSpansGrow }
+{}
+
+/// They do under the mark that changes nothing.
+pub fn unmarked_spans_grow()
+    ensures { UnmarkedSpansGrow }
 {}
 
 /// At the last cell the glued value is what the forward automaton answers there.
