@@ -1,5 +1,5 @@
-//! What stands beside a term's automaton where its pattern has a partner: a glue table. And the law of glued values: the
-//! automaton of the term's seed and that of the partner's, with this table, can be split at every cell.
+//! What stands beside a term's automaton where its pattern has a partner: a glue table. And the law of glued values:
+//! the automaton of the term's seed and that of the partner's, with this table, can be split at every cell.
 //!
 //! The layer above may rely on this: the pair of such a term keeps every rule that `Machine::glued` asks of it, and the
 //! local law on series of up to 100,000 cells.

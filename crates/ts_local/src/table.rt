@@ -8,8 +8,8 @@ use ts_base::Join;
 use ts_glue::{CellUnit, FoldOp, GlueTable};
 use ts_pattern::Feature;
 
-/// The glue table of a term with this feature: of its pattern come the cells that an occurrence leaves out at its end, 0
-/// or 1, and the pairs of a forward and a reverse state between which one occurrence goes on.
+/// The glue table of a term with this feature. Its pattern says how many cells an occurrence leaves out at its end,
+/// 0 or 1, and between which forward and reverse states one occurrence goes on.
 pub fn glue_table(a: u8, feature: Feature, joins: Vec<Join>) -> GlueTable
     ensures { table_view result ≡ glue_table_by a feature joins.items }
 {
