@@ -7,3 +7,4 @@ pub mod LineLaws
 pub mod SoundLaws
 pub mod TestLaws
 mod RangeLaws
+pub mod MachineLaws

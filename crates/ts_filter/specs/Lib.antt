@@ -5,6 +5,7 @@ pub mod Excluded
 pub mod Holds
 pub mod Laws
 pub mod Lines
+pub mod MachineSpans
 pub mod RefutedWorseDrop
 pub mod Rules
 pub mod Steps

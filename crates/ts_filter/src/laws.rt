@@ -1,5 +1,6 @@
 //! Laws of the definitions: functions that do nothing, each with what it proves as its clause.
 
+ghost use Rattle.ts_filter.specs.MachineSpans.{MachinesHold, MachinesTell, SpansAreOfMachines};
 ghost use Rattle.ts_filter.specs.Laws.{AcceptedHolds, AcceptedIsKept, FailingIsRejected, OneFirstFailing};
 ghost use Rattle.ts_filter.specs.Laws.{LinesGoOn, WholeIsJudged};
 ghost use Rattle.ts_filter.specs.Laws.{DropLeavesOthers, LowerSideFirst, SplitCutsInTwo, ValuesAreSound};
@@ -58,6 +59,14 @@ pub fn higher_bar_cuts_more()
 /// A drop loses no series that meets.
 pub fn drop_loses_none()
     ensures { DropLosesNone }
+{}
+
+/// The spans of a term are those of its machine, and so are the cells that may be used. Where each machine's spans hold
+/// the value of its term, and tell that of a single series, so do the spans of all.
+pub fn spans_are_of_machines()
+    ensures same { SpansAreOfMachines }
+    ensures hold { MachinesHold }
+    ensures tell { MachinesTell }
 {}
 
 /// The tests that compute tell what is refuted, cut and may be dropped.

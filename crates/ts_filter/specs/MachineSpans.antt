@@ -1,0 +1,67 @@
+-- The spans of a model's terms, as their machines tell them.
+use Rattle.std.specs.Prelude.{◌≡◌, ◌↔◌, ℕ, ℤ, Bool, false, List, length, Option, Some, None, is_some, slice_get}
+use Rattle.ts_base.specs.declared.ext.Ext.{Ext}
+use Rattle.ts_base.specs.declared.ext.Ext.TheVariants.{NegInf, PosInf}
+use Rattle.ts_base.specs.declared.span.Span.{Span}
+use Rattle.ts_base.specs.Spans.{Holds, one_span}
+use Rattle.ts_domain.specs.BoxSeries.{InBox}
+use Rattle.ts_model.specs.Meets.{value_at}
+use Rattle.ts_model.specs.Stated.{Stated}
+use Rattle.ts_bound.specs.TermSpans.{Automata, term_span, IsUsable as IsUsableOf}
+use Rattle.ts_filter.specs.Boxes.{Box, box_of, IsPart}
+use Rattle.ts_filter.specs.Laws.{HoldsValues, TellsSingles}
+use Rattle.ts_filter.specs.RefutedWorseDrop.{Spans, IsUsable}
+
+-- all numbers
+abbrev pub every_number : Span
+every_number = record { lo = NegInf; hi = PosInf }
+
+abbrev pub is_split : Option Automata → Bool
+is_split None = false
+is_split (Some a) = is_some a.pair
+
+abbrev pub span_of : Option Automata → ℕ → Box → Span
+span_of None p b = every_number
+span_of (Some a) p b = term_span a p b
+
+-- of the machines of the terms, in their order; of a term without one, which no model has, nothing is known
+abbrev pub spans_of : List Automata → Spans
+spans_of machines = record {
+  reversible = λ term. is_split (slice_get machines term);
+  span_at = λ term p b. span_of (slice_get machines term) p b;
+}
+
+-- what is known of a term is what its machine tells
+pub record AreOfMachine (machines : List Automata) (term : ℕ) (a : Automata) : Type 0 where
+  pub span : (p : ℕ) (b : Box) → (spans_of machines).span_at term p b ≡ term_span a p b
+  pub usable : (p : ℕ) (b : Box) → IsUsable (spans_of machines) term p b ↔ IsUsableOf a p b
+
+abbrev pub SpansAreOfMachines : Type 0
+SpansAreOfMachines =
+    (machines : List Automata) (term : ℕ) (a : Automata) → slice_get machines term ≡ Some a →
+    AreOfMachine machines term a
+
+-- the span of the machine at a usable cell holds the term's value on each series of the box
+abbrev pub HoldsTerm : Stated → ℕ → Automata → Type 0
+HoldsTerm m term a =
+    (p : ℕ) (b : Box) (x : List ℤ) (v : Ext) → IsPart b m.cells → IsUsableOf a p b → InBox x b →
+    value_at m x term ≡ Some v → Holds (term_span a p b) v
+
+-- on the box of one series, at the last cell, it holds the term's value alone
+abbrev pub TellsTerm : Stated → ℕ → Automata → Type 0
+TellsTerm m term a =
+    (x : List ℤ) (v : Ext) → InBox x m.cells → value_at m x term ≡ Some v →
+    term_span a (length x) (box_of x) ≡ one_span v
+
+-- what holds of each machine holds of the spans
+abbrev pub MachinesHold : Type 0
+MachinesHold =
+    (m : Stated) (machines : List Automata) →
+    ((term : ℕ) (a : Automata) → slice_get machines term ≡ Some a → HoldsTerm m term a) →
+    HoldsValues m (spans_of machines)
+
+abbrev pub MachinesTell : Type 0
+MachinesTell =
+    (m : Stated) (machines : List Automata) → length machines ≡ length m.terms →
+    ((term : ℕ) (a : Automata) → slice_get machines term ≡ Some a → TellsTerm m term a) →
+    TellsSingles m (spans_of machines)
