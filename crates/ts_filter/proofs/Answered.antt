@@ -95,7 +95,7 @@ module _ (m : Stated) (s : Spans) (h : Head) where
   none_told n (Unsearched ∷ ls) told (b ∷ w) left after f = none_told n ls told w left after f.1
 
 module _ (m : Stated) (s : Spans) (sound : IsSound m s) (h : Head) (x : List ℤ) (meets : Meets m x) where
-  gone : (k : ℕ) (v : ℤ) (j : ℕ) (b : Box) → IsPart b m.cells → IsDrop m s k v j b → InBox x (only k v b) → ⊥
+  gone : (k : ℕ) (v : ℤ) (j : ℕ) (b : Box) → IsPart b m.cells → IsDrop m.requirements s k v j b → InBox x (only k v b) → ⊥
   gone k v j b i d a = sound.refuted j k (only k v b) x (only_part k v b m.cells i d.cell d.there) d.refuted a meets
 
   no_better : (a : Aim) (v : Ext) (p : ℕ) (b : Box) → IsPart b m.cells → InBox x b → IsWorseFor m s a v p b → IsNoBetter m a v x

@@ -51,7 +51,7 @@ module _ (m : Stated) (s : Spans) (h : Head) (few : length m.cells ≤ most_cell
   cell_in : (k : ℕ) (b : Box) → IsPart b m.cells → HasCell k b → is_cell k ≡ true
   cell_in k b i c = let n = inside_length b m.cells i.inside in cell_range k (length b) c.0 c.1 (omega arith)
 
-  requirement_in : (j : ℕ) (r : Require) → IsRequirement m j r → is_requirement j ≡ true
+  requirement_in : (j : ℕ) (r : Require) → IsRequirement m.requirements j r → is_requirement j ≡ true
   requirement_in j r i =
       requirement_range j (length m.requirements) i.0 (slice_get_within m.requirements (j - 1) r i.1) short
 

@@ -35,7 +35,7 @@ each_at P (q ∷ rs) zero r h e = subst P (same_Some q r e) h.0
 each_at P (q ∷ rs) (suc i) r h e = each_at P rs i r h.1 e
 
 module _ (m : Stated) (s : Spans) (holds : HoldsValues m s) where
-  no_series : (j p : ℕ) (b : Box) (x : List ℤ) → IsPart b m.cells → IsRefuted m s j p b → InBox x b → Meets m x → ⊥
+  no_series : (j p : ℕ) (b : Box) (x : List ℤ) → IsPart b m.cells → IsRefuted m.requirements s j p b → InBox x b → Meets m x → ⊥
   no_series j p b x i r h q =
       let met = each_at (IsMet m x) m.requirements (j - 1) r.require q.requirements r.is.1 in
       let never = r.refutes met.0 (holds r.require.term p b x met.0 i r.usable h met.1) in
@@ -71,7 +71,8 @@ module _ (m : Stated) (s : Spans) (whole : IsWhole m) (tells : TellsSingles m s)
       let n : term < length (values_on m x) = omega (arith, l, length-map m.terms (λ t. value_of t.1.aggregator t.1.feature t.1.pattern x)) in
       (get_or (values_on m x) term NegInf, slice_get-get_or (values_on m x) term NegInf n)
 
-  refuted_single : (j : ℕ) (r : Require) (x : List ℤ) → InBox x m.cells → IsRequirement m j r → IsRefuted m s j (length x) (box_of x) ↔ (IsMet m x r → ⊥)
+  refuted_single : (j : ℕ) (r : Require) (x : List ℤ) → InBox x m.cells → IsRequirement m.requirements j r →
+      IsRefuted m.requirements s j (length x) (box_of x) ↔ (IsMet m x r → ⊥)
   refuted_single j r x h i = (λ f q. there f q, λ n. made n)
     where
       never_true : (t : Bool) → (t ≡ true → ⊥) → t ≡ false
@@ -83,7 +84,7 @@ module _ (m : Stated) (s : Spans) (whole : IsWhole m) (tells : TellsSingles m s)
           let same = le_antisym w v o.0 o.1 in
           never_true (compares r.op r.bound v) (λ t. n (w, e, subst (λ z. compares r.op r.bound z ≡ true) (sym same) t))
 
-      there : IsRefuted m s j (length x) (box_of x) → IsMet m x r → ⊥
+      there : IsRefuted m.requirements s j (length x) (box_of x) → IsMet m x r → ⊥
       there f q =
           let same = same_Some f.require r (sym f.is.1 ∙ i.1) in
           let is_met = subst (λ z. IsMet m x z) (sym same) q in
@@ -91,7 +92,7 @@ module _ (m : Stated) (s : Spans) (whole : IsWhole m) (tells : TellsSingles m s)
           let never = f.refutes is_met.0 (subst (λ z. Holds z is_met.0) (sym span) (holds_one is_met.0)) in
           clash (compares f.require.op f.require.bound is_met.0) is_met.2 never
 
-      made : (IsMet m x r → ⊥) → IsRefuted m s j (length x) (box_of x)
+      made : (IsMet m x r → ⊥) → IsRefuted m.requirements s j (length x) (box_of x)
       made n =
           let w = has_value x r.term (each_at (λ q. q.term < length m.terms) m.requirements (j - 1) r whole.requirements i.1) in
           record {

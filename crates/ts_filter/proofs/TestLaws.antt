@@ -1,5 +1,5 @@
 -- The tests that compute tell what is refuted, cut and may be dropped.
-use Rattle.std.proofs.Common.{◌≡◌, ◌↔◌, ◌&&◌, ℕ, ◌-◌, ◌≤◌, ℤ, Bool, true, false, length, Option, Some, None, slice_get, refl, sym, subst, arith}
+use Rattle.std.proofs.Common.{◌≡◌, ◌↔◌, ◌&&◌, ℕ, ◌-◌, ◌≤◌, ℤ, Bool, true, false, List, length, Option, Some, None, slice_get, refl, sym, subst, arith}
 use Rattle.std.proofs.lemmas.Bool.{and_from, and_parts}
 use Rattle.std.proofs.lemmas.Cmp.{int_eq_equiv}
 use Rattle.std.proofs.lemmas.Map.Views.{list_any-from_Contains, Contains-from_any}
@@ -46,8 +46,8 @@ module _ (s : Spans) where
         (to_last (s.reversible term) p (length b) u.last),
   )
 
-module _ (m : Stated) (s : Spans) where
-  refuted_told : (j p : ℕ) (b : Box) (o : Option Require) → slice_get m.requirements (j - 1) ≡ o → 1 ≤ j → refuted_by s p b o ≡ true → IsRefuted m s j p b
+module _ (rs : List Require) (s : Spans) where
+  refuted_told : (j p : ℕ) (b : Box) (o : Option Require) → slice_get rs (j - 1) ≡ o → 1 ≤ j → refuted_by s p b o ≡ true → IsRefuted rs s j p b
   refuted_told j p b None e l h = absurd (let f : ◌≡◌ {A = Bool} false true = h in cc)
   refuted_told j p b (Some r) e l h =
       let f = and_parts (is_usable s r.term p b) (refutes r.op r.bound (s.span_at r.term p b)) h in
@@ -64,15 +64,34 @@ module _ (m : Stated) (s : Spans) where
       subst (λ z. refuted_by s p b z ≡ true) (sym e)
       (and_from (is_usable s r.term p b) (refutes r.op r.bound (s.span_at r.term p b)) ((usable_tells s r.term p b).1 u) h)
 
-  refuted_tells : (j p : ℕ) (b : Box) → IsTrue (is_refuted m s j p b) ↔ IsRefuted m s j p b
+  refuted_tells : (j p : ℕ) (b : Box) → IsTrue (is_refuted rs s j p b) ↔ IsRefuted rs s j p b
   refuted_tells j p b = (
-    λ h. let e = and_parts (nat_le 1 j) (refuted_by s p b (slice_get m.requirements (j - 1))) h in
-        refuted_told j p b (slice_get m.requirements (j - 1)) refl (at_most 1 j e.0) e.1,
-    λ r. and_from (nat_le 1 j) (refuted_by s p b (slice_get m.requirements (j - 1))) (to_at_most 1 j r.is.0)
-        (to_refuted p b r.require (slice_get m.requirements (j - 1)) r.is.1 r.usable
+    λ h. let e = and_parts (nat_le 1 j) (refuted_by s p b (slice_get rs (j - 1))) h in
+        refuted_told j p b (slice_get rs (j - 1)) refl (at_most 1 j e.0) e.1,
+    λ r. and_from (nat_le 1 j) (refuted_by s p b (slice_get rs (j - 1))) (to_at_most 1 j r.is.0)
+        (to_refuted p b r.require (slice_get rs (j - 1)) r.is.1 r.usable
         ((refutes_exact r.require.op r.require.bound (s.span_at r.require.term p b)).1 r.refutes)),
   )
 
+  drop_tells : (k : ℕ) (v : ℤ) (j : ℕ) (b : Box) → IsTrue (is_drop rs s k v j b) ↔ IsDrop rs s k v j b
+  drop_tells k v j b = (
+    λ h.
+        let e = and_parts (has_cell k b) (has_others k v b && is_refuted rs s j k (only k v b)) h in
+        let f = and_parts (has_others k v b) (is_refuted rs s j k (only k v b)) e.1 in
+        let g = and_parts (nat_le 2 (length (values_at k b))) (is_among (values_at k b) v) f.0 in
+        record {
+          cell = (cell_tells k b).0 e.0;
+          many = at_most 2 (length (values_at k b)) g.0;
+          there = Contains-from_any int_same v (values_at k b) g.1;
+          refuted = (refuted_tells j k (only k v b)).0 f.1;
+        },
+    λ d. and_from (has_cell k b) (has_others k v b && is_refuted rs s j k (only k v b)) ((cell_tells k b).1 d.cell)
+        (and_from (has_others k v b) (is_refuted rs s j k (only k v b))
+        (and_from (nat_le 2 (length (values_at k b))) (is_among (values_at k b) v) (to_at_most 2 (length (values_at k b)) d.many)
+        (list_any-from_Contains int_eq_equiv v (values_at k b) d.there)) ((refuted_tells j k (only k v b)).1 d.refuted)),
+  )
+
+module _ (m : Stated) (s : Spans) where
   cut_told : (goal : Goal) (p : ℕ) (b : Box) (bar : Bar) (o : Option ℕ) → m.objective ≡ o → cut_by s goal p b bar o ≡ true → IsCut m s goal p b bar
   cut_told goal p b bar None e h = absurd (let f : ◌≡◌ {A = Bool} false true = h in cc)
   cut_told goal p b bar (Some term) e h =
@@ -92,23 +111,5 @@ module _ (m : Stated) (s : Spans) where
         ((cuts_exact goal bar (s.span_at c.term p b)).1 c.cuts)),
   )
 
-  drop_tells : (k : ℕ) (v : ℤ) (j : ℕ) (b : Box) → IsTrue (is_drop m s k v j b) ↔ IsDrop m s k v j b
-  drop_tells k v j b = (
-    λ h.
-        let e = and_parts (has_cell k b) (has_others k v b && is_refuted m s j k (only k v b)) h in
-        let f = and_parts (has_others k v b) (is_refuted m s j k (only k v b)) e.1 in
-        let g = and_parts (nat_le 2 (length (values_at k b))) (is_among (values_at k b) v) f.0 in
-        record {
-          cell = (cell_tells k b).0 e.0;
-          many = at_most 2 (length (values_at k b)) g.0;
-          there = Contains-from_any int_same v (values_at k b) g.1;
-          refuted = (refuted_tells j k (only k v b)).0 f.1;
-        },
-    λ d. and_from (has_cell k b) (has_others k v b && is_refuted m s j k (only k v b)) ((cell_tells k b).1 d.cell)
-        (and_from (has_others k v b) (is_refuted m s j k (only k v b))
-        (and_from (nat_le 2 (length (values_at k b))) (is_among (values_at k b) v) (to_at_most 2 (length (values_at k b)) d.many)
-        (list_any-from_Contains int_eq_equiv v (values_at k b) d.there)) ((refuted_tells j k (only k v b)).1 d.refuted)),
-  )
-
 pub tests_tell : TestsTell
-tests_tell m s = record { refuted = refuted_tells m s; cut = cut_tells m s; drop = drop_tells m s }
+tests_tell s = record { refuted = λ rs. refuted_tells rs s; cut = λ m. cut_tells m s; drop = λ rs. drop_tells rs s }

@@ -32,7 +32,8 @@ use Rattle.ts_filter.specs.Tree.{Tree, tree_lines, told_after, Fits}
 
 -- what is refuted has no series that meets, and what is cut has none whose objective counts for the bar
 pub record IsSound (m : Stated) (s : Spans) : Type 0 where
-  pub refuted : (j p : ℕ) (b : Box) (x : List ℤ) → IsPart b m.cells → IsRefuted m s j p b → InBox x b → Meets m x → ⊥
+  pub refuted : (j p : ℕ) (b : Box) (x : List ℤ) → IsPart b m.cells → IsRefuted m.requirements s j p b → InBox x b →
+      Meets m x → ⊥
   pub cut : (goal : Goal) (p : ℕ) (b : Box) (bar : Bar) (x : List ℤ) (v : Ext) → IsPart b m.cells →
       IsCut m s goal p b bar → InBox x b → objective_of m x ≡ Some v → counts goal bar v ≡ false
 
@@ -54,8 +55,8 @@ TellsSingles m s =
 -- on the box of one series, at the last cell, a requirement is refuted exactly where it isn't met, and the objective is
 -- cut exactly where its value doesn't count
 pub record IsExact (m : Stated) (s : Spans) : Type 0 where
-  pub refuted : (j : ℕ) (r : Require) (x : List ℤ) → InBox x m.cells → IsRequirement m j r →
-      IsRefuted m s j (length x) (box_of x) ↔ (IsMet m x r → ⊥)
+  pub refuted : (j : ℕ) (r : Require) (x : List ℤ) → InBox x m.cells → IsRequirement m.requirements j r →
+      IsRefuted m.requirements s j (length x) (box_of x) ↔ (IsMet m x r → ⊥)
   pub cut : (goal : Goal) (bar : Bar) (x : List ℤ) (v : Ext) → InBox x m.cells → objective_of m x ≡ Some v →
       IsCut m s goal (length x) (box_of x) bar ↔ (counts goal bar v ≡ false)
 
@@ -73,16 +74,19 @@ HigherBarCutsMore =
 abbrev pub DropLosesNone : Type 0
 DropLosesNone =
     (m : Stated) (s : Spans) (k : ℕ) (v : ℤ) (j : ℕ) (b : Box) (x : List ℤ) → IsSound m s → IsPart b m.cells →
-    IsDrop m s k v j b → InBox x b → Meets m x → InBox x (without k v b)
+    IsDrop m.requirements s k v j b → InBox x b → Meets m x → InBox x (without k v b)
 
 -- the tests tell it
-pub record AreTests (m : Stated) (s : Spans) : Type 0 where
-  pub refuted : (j p : ℕ) (b : Box) → IsTrue (is_refuted m s j p b) ↔ IsRefuted m s j p b
-  pub cut : (goal : Goal) (p : ℕ) (b : Box) (bar : Bar) → IsTrue (is_cut m s goal p b bar) ↔ IsCut m s goal p b bar
-  pub drop : (k : ℕ) (v : ℤ) (j : ℕ) (b : Box) → IsTrue (is_drop m s k v j b) ↔ IsDrop m s k v j b
+pub record AreTests (s : Spans) : Type 0 where
+  pub refuted : (requirements : List Require) (j p : ℕ) (b : Box) →
+      IsTrue (is_refuted requirements s j p b) ↔ IsRefuted requirements s j p b
+  pub cut : (m : Stated) (goal : Goal) (p : ℕ) (b : Box) (bar : Bar) →
+      IsTrue (is_cut m s goal p b bar) ↔ IsCut m s goal p b bar
+  pub drop : (requirements : List Require) (k : ℕ) (v : ℤ) (j : ℕ) (b : Box) →
+      IsTrue (is_drop requirements s k v j b) ↔ IsDrop requirements s k v j b
 
 abbrev pub TestsTell : Type 0
-TestsTell = (m : Stated) (s : Spans) → AreTests m s
+TestsTell = (s : Spans) → AreTests s
 
 -- Boxes.
 

@@ -1,5 +1,5 @@
 -- Refuted, worse and drop: what the spans of a model's terms exclude on a box.
-use Rattle.std.specs.Prelude.{◌≡◌, ℕ, ◌-◌, ◌≤◌, ℤ, Bool, false, Contains, length, Some, slice_get}
+use Rattle.std.specs.Prelude.{◌≡◌, ℕ, ◌-◌, ◌≤◌, ℤ, Bool, false, List, Contains, length, Some, slice_get}
 use Rattle.ts_base.specs.declared.ext.Ext.{Ext}
 use Rattle.ts_base.specs.declared.goal.Goal.{Goal}
 use Rattle.ts_base.specs.declared.span.Span.{Span}
@@ -21,14 +21,14 @@ pub record IsUsable (s : Spans) (term p : ℕ) (b : Box) : Type 0 where
   pub cell : HasCell p b
   pub last : s.reversible term ≡ false → p ≡ length b
 
--- requirement j, counted from 1
-abbrev pub IsRequirement : Stated → ℕ → Require → Type 0
-IsRequirement m j r = (1 ≤ j) × (slice_get m.requirements (j - 1) ≡ Some r)
+-- requirement j of these, counted from 1
+abbrev pub IsRequirement : List Require → ℕ → Require → Type 0
+IsRequirement requirements j r = (1 ≤ j) × (slice_get requirements (j - 1) ≡ Some r)
 
 -- no number in the span of requirement j's term at p compares with the bound as it says
-pub record IsRefuted (m : Stated) (s : Spans) (j p : ℕ) (b : Box) : Type 0 where
+pub record IsRefuted (requirements : List Require) (s : Spans) (j p : ℕ) (b : Box) : Type 0 where
   pub require : Require
-  pub is : IsRequirement m j require
+  pub is : IsRequirement requirements j require
   pub usable : IsUsable s require.term p b
   pub refutes : Refutes require.op require.bound (s.span_at require.term p b)
 
@@ -44,8 +44,8 @@ abbrev pub IsWorse : Stated → Spans → Goal → ℕ → Box → Ext → Type 
 IsWorse m s goal p b v = IsCut m s goal p b (Better v)
 
 -- cell k has the value v and others, and requirement j is refuted at k on the box with x_k = v
-pub record IsDrop (m : Stated) (s : Spans) (k : ℕ) (v : ℤ) (j : ℕ) (b : Box) : Type 0 where
+pub record IsDrop (requirements : List Require) (s : Spans) (k : ℕ) (v : ℤ) (j : ℕ) (b : Box) : Type 0 where
   pub cell : HasCell k b
   pub many : 2 ≤ length (values_at k b)
   pub there : Contains (values_at k b) v
-  pub refuted : IsRefuted m s j k (only k v b)
+  pub refuted : IsRefuted requirements s j k (only k v b)

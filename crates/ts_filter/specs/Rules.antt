@@ -71,8 +71,8 @@ MayStayOpen (BudgetList c) = Unit {0}
 -- the line keeps its rule on the box, after so many `yes` lines
 abbrev pub KeepsRule : Stated → Spans → Head → ℕ → Box → TreeLine → Type 0
 KeepsRule m s h told b (Split k t) = IsSplit k t b
-KeepsRule m s h told b (Remove k v j) = IsDrop m s k v j b
-KeepsRule m s h told b (No j p) = IsRefuted m s j p b
+KeepsRule m s h told b (Remove k v j) = IsDrop m.requirements s k v j b
+KeepsRule m s h told b (No j p) = IsRefuted m.requirements s j p b
 KeepsRule m s h told b (Worse p) = MayBeWorse m s h p b
 KeepsRule m s h told b Yes = IsNext h told b
 KeepsRule m s h told b Unsearched = MayStayOpen h.claim

@@ -1,5 +1,6 @@
 -- Refuted, cut and drop as tests that compute.
-use Rattle.std.specs.Prelude.{ℕ, ◌-◌, ℤ, Bool, false, ◌&&◌, ◌||◌, length, Option, Some, None, nat_eq, nat_le, slice_get}
+use Rattle.std.specs.Prelude.{ℕ, ◌-◌, ℤ, Bool, false, ◌&&◌, ◌||◌, List, length, Option, Some, None, nat_eq, nat_le}
+use Rattle.std.specs.Prelude.{slice_get}
 use Rattle.ts_base.specs.declared.goal.Goal.{Goal}
 use Rattle.ts_model.specs.declared.model.Require.{Require}
 use Rattle.ts_model.specs.Judgement.{is_among}
@@ -19,8 +20,8 @@ abbrev pub refuted_by : Spans → ℕ → Box → Option Require → Bool
 refuted_by s p b None = false
 refuted_by s p b (Some r) = is_usable s r.term p b && refutes r.op r.bound (s.span_at r.term p b)
 
-abbrev pub is_refuted : Stated → Spans → ℕ → ℕ → Box → Bool
-is_refuted m s j p b = nat_le 1 j && refuted_by s p b (slice_get m.requirements (j - 1))
+abbrev pub is_refuted : List Require → Spans → ℕ → ℕ → Box → Bool
+is_refuted requirements s j p b = nat_le 1 j && refuted_by s p b (slice_get requirements (j - 1))
 
 abbrev pub cut_by : Spans → Goal → ℕ → Box → Bar → Option ℕ → Bool
 cut_by s goal p b bar None = false
@@ -32,5 +33,5 @@ is_cut m s goal p b bar = cut_by s goal p b bar m.objective
 abbrev pub has_others : ℕ → ℤ → Box → Bool
 has_others k v b = nat_le 2 (length (values_at k b)) && is_among (values_at k b) v
 
-abbrev pub is_drop : Stated → Spans → ℕ → ℤ → ℕ → Box → Bool
-is_drop m s k v j b = has_cell k b && (has_others k v b && is_refuted m s j k (only k v b))
+abbrev pub is_drop : List Require → Spans → ℕ → ℤ → ℕ → Box → Bool
+is_drop requirements s k v j b = has_cell k b && (has_others k v b && is_refuted requirements s j k (only k v b))

@@ -45,7 +45,7 @@ IsLeafLine Unsearched = Unit {0}
 -- it is a tree for the box, each of whose lines keeps its rule
 abbrev pub Fits : Stated → Spans → Head → ℕ → Box → Tree → Type 0
 Fits m s h told b (Leaf l) = IsLeafLine l × KeepsRule m s h told b l
-Fits m s h told b (Drop k v j t) = IsDrop m s k v j b × Fits m s h told (without k v b) t
+Fits m s h told b (Drop k v j t) = IsDrop m.requirements s k v j b × Fits m s h told (without k v b) t
 Fits m s h told b (Fork k t lower upper) =
     IsSplit k t b × Fits m s h told (low_side k t b) lower
     × Fits m s h (told_after lower told) (high_side k t b) upper
