@@ -12,7 +12,7 @@ use Rattle.ts_seed.specs.SeedTable.{seed_table, table_of}
 use Rattle.ts_seed.proofs.Closed.{rows_closed}
 use Rattle.ts_decorate.proofs.CallerLemmas.{answers_ranges, is_marked}
 use Rattle.ts_decorate.proofs.Typed.{is_decorated_automaton}
-use Rattle.ts_compile.specs.Compiled.{AnswersTerm, machine_body}
+use Rattle.ts_compile.specs.Compiled.{AnswersTerm, machine_body, are_rising}
 use Rattle.ts_compile.proofs.Answers.{answers_term}
 
 -- the rows are typed and at most eight, and the trim is 0 or 1
@@ -59,3 +59,28 @@ compiled_marked t =
     let id = t.pattern in
     let fits = table_fits id in
     is_marked (seed_table id).rows fits.0 fits.1 (pattern_a id) fits.2 t.aggregator t.feature
+
+-- the pairs of states stand in order
+pub joins_rise : (id : PatternId) → are_rising (seed_table id).joins ≡ true
+joins_rise Increasing = refl
+joins_rise Decreasing = refl
+joins_rise Steady = refl
+joins_rise IncreasingSequence = refl
+joins_rise DecreasingSequence = refl
+joins_rise StrictlyIncreasingSequence = refl
+joins_rise StrictlyDecreasingSequence = refl
+joins_rise SteadySequence = refl
+joins_rise IncreasingTerrace = refl
+joins_rise DecreasingTerrace = refl
+joins_rise Inflexion = refl
+joins_rise Peak = refl
+joins_rise Valley = refl
+joins_rise Plateau = refl
+joins_rise Plain = refl
+joins_rise ProperPlateau = refl
+joins_rise ProperPlain = refl
+joins_rise Summit = refl
+joins_rise Gorge = refl
+joins_rise Zigzag = refl
+joins_rise DipOnIncreasingSequence = refl
+joins_rise BumpOnDecreasingSequence = refl

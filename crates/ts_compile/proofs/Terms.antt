@@ -6,10 +6,7 @@ use Rattle.std.specs.Global.{Global}
 use Rattle.std.proofs.lemmas.List.{map-append}
 use Rattle.ts_pattern.specs.declared.term.Term.{Term}
 use Rattle.ts_pattern.specs.TermValue.{term_value, value_of}
-use Rattle.ts_glue.specs.declared.machine.Machine.{Machine}
-use Rattle.ts_glue.specs.Machines.{forward_of}
 use Rattle.ts_model.specs.Views.{term_of}
-use Rattle.ts_compile.specs.Compiled.{machine_body}
 
 -- an element and those behind it
 drop_at : {A : Type 0} (xs : List A) (k : ℕ) (x : A) → slice_get xs k ≡ Some x → drop k xs ≡ x ∷ drop (k + 1) xs
@@ -35,15 +32,15 @@ term_taken all made more k t e pushed before =
     ∙ ap (λ z. made ++ z) (sym (drop_at all k t e))
     ∙ before
 
-pub machine_made : (machines all : List Machine) (terms more : List Term) (m : Machine) (t : Term) → forward_of m ≡ machine_body t →
-    all ≡ machines ++ m ∷ [] → more ≡ terms ++ t ∷ [] → map forward_of machines ≡ map machine_body terms → map forward_of all ≡ map machine_body more
-machine_made machines all terms more m t same made pushed before =
-    ap (map forward_of) made
-    ∙ map-append forward_of machines (m ∷ [])
-    ∙ ap (λ b. map forward_of machines ++ b ∷ []) same
-    ∙ ap (λ z. z ++ machine_body t ∷ []) before
-    ∙ sym (map-append machine_body terms (t ∷ []))
-    ∙ ap (map machine_body) (sym pushed)
+pub machine_made : {X Y B : Type 0} (f : X → B) (g : Y → B) (xs all : List X) (ys more : List Y) (x : X) (y : Y) → f x ≡ g y →
+    all ≡ xs ++ x ∷ [] → more ≡ ys ++ y ∷ [] → map f xs ≡ map g ys → map f all ≡ map g more
+machine_made f g xs all ys more x y same made pushed before =
+    ap (map f) made
+    ∙ map-append f xs (x ∷ [])
+    ∙ ap (λ b. map f xs ++ b ∷ []) same
+    ∙ ap (λ z. z ++ g y ∷ []) before
+    ∙ sym (map-append g ys (y ∷ []))
+    ∙ ap (map g) (sym pushed)
 
 -- what is answered is the value found
 pub value_answered : {E : Type 0} (r : Result Ext E) (found : Option Ext) (v : Ext) → found ≡ Some v → IfOk r (λ x. x ≡ v) → IfOk r (λ x. found ≡ Some x)

@@ -1,25 +1,65 @@
--- The text of a program: for each term a line with its name and what it is, its forward block, and the line that says
--- that there is no reverse one.
-use Rattle.std.specs.Prelude.{ℕ, codes, List, [], ◌∷◌, ◌++◌, String, string_bytes}
+-- The text of a program: for each term a line with its name and what it is, its forward block, and either the line that
+-- there is no reverse one, or the reverse block and how the two are glued.
+use Rattle.std.specs.Prelude.{ℕ, codes, ◌==◌, if◌then◌else◌, List, [], ◌∷◌, ◌++◌, map, Option, Some, None}
+use Rattle.std.specs.Prelude.{String, string_bytes}
 use Rattle.std.specs.Global.{Global}
+use Rattle.ts_base.specs.declared.range.Join.{Join}
 use Rattle.ts_pattern.specs.declared.term.Term.{Term}
 use Rattle.ts_pattern.specs.Names.{aggregator_name, feature_name, pattern_name}
 use Rattle.ts_automaton.specs.Body.{Body}
-use Rattle.ts_automaton.specs.declared.draft.Way.TheVariants.{Forward}
-use Rattle.ts_automaton.specs.AutomatonText.{words_text, head_text, body_text}
-use Rattle.ts_compile.specs.Compiled.{machine_body}
+use Rattle.ts_automaton.specs.declared.draft.Way.TheVariants.{Forward, Reverse}
+use Rattle.ts_automaton.specs.AutomatonText.{state_lines, name_at, words_text, lines_text, head_text, body_text}
+use Rattle.ts_glue.specs.declared.table.FoldOp.{FoldOp}
+use Rattle.ts_glue.specs.declared.table.FoldOp.TheVariants.{Add, Max, Min}
+use Rattle.ts_glue.specs.declared.table.CellUnit.{CellUnit}
+use Rattle.ts_glue.specs.declared.table.CellUnit.TheVariants.{Unit as UnitCell, Value as ValueCell}
+use Rattle.ts_glue.specs.Pairs.{Table, Pair}
+use Rattle.ts_compile.specs.Compiled.{machine_body, machine_pair}
 
 -- a count is the sum of the feature one
 abbrev pub term_words : List ℕ → Term → List (List ℕ)
 term_words name t =
     codes "term" ∷ name ∷ aggregator_name t.aggregator ∷ feature_name t.feature ∷ pattern_name t.pattern ∷ []
 
+-- a trim is 0 or 1
+abbrev pub trim_word : ℕ → List ℕ
+trim_word a = if a == 0 then codes "0" else codes "1"
+
+abbrev pub fold_word : FoldOp → List ℕ
+fold_word Add = codes "add"
+fold_word Max = codes "max"
+fold_word Min = codes "min"
+
+abbrev pub unit_word : CellUnit → List ℕ
+unit_word UnitCell = codes "1"
+unit_word ValueCell = codes "x"
+
+-- the trim, by what an occurrence is folded, and what a cell is worth
+abbrev pub glue_words : Table → List (List ℕ)
+glue_words t = codes "glue" ∷ trim_word t.a ∷ fold_word t.op ∷ unit_word t.unit ∷ []
+
+-- the letters of both states of a Join pair
+abbrev pub join_words : Body → Body → Join → List (List ℕ)
+join_words forward reverse j =
+    codes "join" ∷ (name_at (state_lines forward.states) j.forward ∷ [])
+    ∷ (name_at (state_lines reverse.states) j.reverse ∷ []) ∷ []
+
+abbrev pub glue_text : Pair → List ℕ
+glue_text p =
+    words_text (glue_words p.table)
+    ++ (lines_text (map (join_words p.forward p.reverse) p.table.joins) ++ codes "end\n")
+
+-- what stands behind the forward block
+abbrev pub reverse_text : Option Pair → List ℕ
+reverse_text None = codes "no reverse\n"
+reverse_text (Some p) = head_text Reverse ++ (body_text p.reverse ++ glue_text p)
+
 -- the part of a term with this machine
-abbrev pub part_text : List ℕ → Term → Body → List ℕ
-part_text name t body =
-    words_text (term_words name t) ++ (head_text Forward ++ (body_text body ++ codes "no reverse\n"))
+abbrev pub part_text : List ℕ → Term → Body → Option Pair → List ℕ
+part_text name t body split =
+    words_text (term_words name t) ++ (head_text Forward ++ (body_text body ++ reverse_text split))
 
 -- the parts of the terms, in order
 abbrev pub program_text : List (String Global × Term) → List ℕ
 program_text [] = []
-program_text (e ∷ es) = part_text (string_bytes e.0) e.1 (machine_body e.1) ++ program_text es
+program_text (e ∷ es) = part_text (string_bytes e.0) e.1 (machine_body e.1) (machine_pair e.1) ++ program_text es

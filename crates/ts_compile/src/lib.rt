@@ -1,9 +1,10 @@
 //! The machines of a model's terms.
 //!
 //! A term's machine is the seed transducer of its pattern, decorated with the registers of its aggregator and feature
-//! (Global Constraint Catalog, Volume II). The layer above may rely on this: a machine is exactly the one that the
-//! tables give its term, and its answer is the value of the term on every series of up to 100,000 cells; a `Program`
-//! has terms and the machine of each, and `write_program` gives its text.
+//! (Global Constraint Catalog, Volume II); where another pattern reads the same occurrences from the end of a series,
+//! that one's automaton stands beside it, and the machine can be split at each cell. The layer above may rely on this:
+//! a machine is exactly the one that the tables give its term, and its answer is the value of the term on every series
+//! of up to 100,000 cells; a `Program` has terms and the machine of each, and `write_program` gives its text.
 //!
 //! ```text
 //! let peaks = compile_term(alloc, &Term::new(Aggregator::Sum, Feature::Width, PatternId::Peak)?)?;
@@ -12,6 +13,7 @@
 #![tactic(auto)]
 
 mod compile;
+mod glue_text;
 pub mod judge;
 pub mod laws;
 mod program;
@@ -19,6 +21,7 @@ mod program;
 mod tests;
 mod text;
 mod values;
+mod words;
 
 pub use compile::{compile_model, compile_term};
 pub use program::Program;

@@ -1,8 +1,7 @@
 //! The terms of a model with their machines.
 
-ghost use Rattle.std.specs.Prelude.{◌≡◌, map};
-ghost use Rattle.ts_compile.specs.Compiled.{machine_body, same_bodies};
-ghost use Rattle.ts_glue.specs.Machines.{forward_of};
+ghost use Rattle.std.specs.Prelude.{◌≡◌};
+ghost use Rattle.ts_compile.specs.Compiled.{HaveBodies, HavePairs, bodies_once, pairs_once};
 
 use ts_glue::Machine;
 use ts_pattern::Term;
@@ -12,7 +11,8 @@ use ts_pattern::Term;
 pub struct Program {
     pub(crate) terms: Vec<Term>,
     pub(crate) machines: Vec<Machine>,
-    pub(crate) ghost compiled: { map forward_of machines.items ≡ map machine_body terms.items } by { same_bodies (map forward_of machines.items) (map machine_body terms.items) },
+    pub(crate) ghost bodies: { HaveBodies machines.items terms.items } by { bodies_once machines.items terms.items },
+    pub(crate) ghost pairs: { HavePairs machines.items terms.items } by { pairs_once machines.items terms.items },
 }
 
 impl Program {

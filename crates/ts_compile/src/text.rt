@@ -1,13 +1,15 @@
 //! The text of a program.
 
-ghost use Rattle.std.specs.Prelude.{◌≡◌, ◌∷◌, ◌++◌, string_bytes, IfOk, OnOk};
+ghost use Rattle.std.specs.Prelude.{◌≡◌, ◌++◌, string_bytes, IfOk, OnOk};
 ghost use Rattle.ts_automaton.specs.AutomatonText.{words_text};
 ghost use Rattle.ts_compile.specs.ProgramText.{part_text, program_text, term_words};
 ghost use Rattle.ts_compile.specs.Programs.{IsProgramOf};
-ghost use Rattle.ts_glue.specs.Machines.{forward_of};
+ghost use Rattle.ts_glue.specs.Machines.{forward_of, pair_of};
 ghost use Rattle.ts_pattern.specs.Names.{aggregator_name, feature_name};
 
+use crate::glue_text::push_reverse;
 use crate::program::Program;
+use crate::words::push_word;
 use std::alloc::Global;
 use ts_automaton::{Way, write, write_head};
 use ts_base::Memory;
@@ -15,8 +17,8 @@ use ts_glue::Machine;
 use ts_model::Model;
 use ts_pattern::{Aggregator, Feature, Term, pattern_name};
 
-/// The text of the program `p` of a model: for each term its line, its forward block, and the line `no reverse`. It is
-/// empty for a model without terms.
+/// The text of the program `p` of a model: for each term its line, its forward block, and either its reverse block and
+/// how the two are glued, or the line `no reverse`. It is empty for a model without terms.
 pub fn write_program(alloc: Global, m: &Model, p: &Program) -> Result<Vec<u8>, Memory>
     requires { IsProgramOf p.now m.now }
     ensures { IfOk result (λ text. text.items ≡ program_text m.now.terms.entries) }
@@ -32,13 +34,13 @@ pub fn write_program(alloc: Global, m: &Model, p: &Program) -> Result<Vec<u8>, M
 
 /// Puts the part of one term behind `text`.
 fn push_part(text: &mut Vec<u8>, name: &String, t: &Term, machine: &Machine) -> Result<(), Memory>
-    ensures { OnOk result
-        (text.new.items ≡ text.old.items ++ part_text (string_bytes name.now) t.now (forward_of machine.now)) }
+    ensures { let part = part_text (string_bytes name.now) t.now (forward_of machine.now) (pair_of machine.now) in
+        OnOk result (text.new.items ≡ text.old.items ++ part) }
 {
     push_term(text, name, t)?;
     write_head(Way::Forward, text)?;
     write(machine.forward(), text)?;
-    text.extend_from_slice(b"no reverse\n")?;
+    push_reverse(text, machine)?;
     Ok(())
 }
 
@@ -53,15 +55,6 @@ fn push_term(text: &mut Vec<u8>, name: &String, t: &Term) -> Result<(), Memory>
     push_word(text, feature_name(t.feature))?;
     push_word(text, pattern_name(t.pattern))?;
     text.push(b'\n')?;
-    Ok(())
-}
-
-/// Puts a space and a word behind `text`.
-fn push_word(text: &mut Vec<u8>, word: &[u8]) -> Result<(), Memory>
-    ensures { OnOk result (text.new.items ≡ text.old.items ++ (32 ∷ word.now)) }
-{
-    text.push(b' ')?;
-    text.extend_from_slice(word)?;
     Ok(())
 }
 

@@ -10,31 +10,45 @@ use ts_token::cut_tokens;
 /// A model, the text of its program, and the values of its terms on 1 3 3 2 2 1 4.
 type Case = (&'static str, &'static str, &'static [Ext]);
 
-static CASES: [Case; 3] = [
+static CASES: [Case; 4] = [
     ("cells 7\n", "", &[]),
     (
         "cells 7\nterm c = count decreasing\n",
         "term c sum one decreasing\nforward\nstate s free\nstart 0 1 0\nmove s < s ; C ; D ; R\n\
          move s = s ; C ; D ; R\nmove s > s ; C ; 1 ; add R max max D 1 1\nfinish add R C same\nend\n\
-         no reverse\n",
+         reverse\nstate s free\nstart 0 1 0\nmove s < s ; C ; 1 ; add R max max D 1 1\n\
+         move s = s ; C ; D ; R\nmove s > s ; C ; D ; R\nfinish add R C same\nend\nglue 0 max 1\nend\n",
         &[Ext::Int(2)],
     ),
     (
-        "cells 7\nterm c = sum width peak\nterm m = max surf peak\nterm k = min width steady_sequence\n",
-        "term c sum width peak\nforward\nstate s free\nstate r free\nstate t held\nstart 0 0 0\n\
+        "cells 7\nterm w = sum width peak\n",
+        "term w sum width peak\nforward\nstate s free\nstate r free\nstate t held\nstart 0 0 0\n\
          move s < r ; C ; D ; R\nmove s = s ; C ; D ; R\nmove s > s ; C ; D ; R\n\
          move r < r ; C ; add D 1 ; R\nmove r = r ; C ; add D 1 ; R\nmove r > t ; add D 1 ; 0 ; R\n\
          move t < r ; 0 ; 0 ; add R C\nmove t = t ; C ; add D 1 ; R\nmove t > t ; add C add D 1 ; 0 ; R\n\
-         finish add R C same\nend\nno reverse\nterm m max surf peak\nforward\nstate s free\nstate r free\n\
-         state t held\nstart -inf 0 -inf\nmove s < r ; C ; D ; R\nmove s = s ; C ; D ; R\n\
-         move s > s ; C ; D ; R\nmove r < r ; C ; add D x ; R\nmove r = r ; C ; add D x ; R\n\
-         move r > t ; add D x ; 0 ; R\nmove t < r ; -inf ; 0 ; max R C\nmove t = t ; C ; add D x ; R\n\
-         move t > t ; add C add D x ; 0 ; R\nfinish max R C same\nend\nno reverse\n\
-         term k min width steady_sequence\nforward\nstate s free\nstate r held\nstart +inf 0 +inf\n\
-         move s < s ; C ; D ; R\nmove s = r ; add add D 1 1 ; 0 ; R\nmove s > s ; C ; D ; R\n\
-         move r < s ; +inf ; 0 ; min R C\nmove r = r ; add C add D 1 ; 0 ; R\n\
-         move r > s ; +inf ; 0 ; min R C\nfinish min R C cells\nend\nno reverse\n",
-        &[Ext::Int(4), Ext::Int(10), Ext::Int(2)],
+         finish add R C same\nend\nreverse\nstate s free\nstate r free\nstate t held\nstart 0 0 0\n\
+         move s < r ; C ; D ; R\nmove s = s ; C ; D ; R\nmove s > s ; C ; D ; R\n\
+         move r < r ; C ; add D 1 ; R\nmove r = r ; C ; add D 1 ; R\nmove r > t ; add D 1 ; 0 ; R\n\
+         move t < r ; 0 ; 0 ; add R C\nmove t = t ; C ; add D 1 ; R\nmove t > t ; add C add D 1 ; 0 ; R\n\
+         finish add R C same\nend\nglue 1 add 1\njoin r r\njoin r t\njoin t r\nend\n",
+        &[Ext::Int(4)],
+    ),
+    (
+        "cells 7\nterm m = max surf dip_on_increasing_sequence\nterm k = min width steady_sequence\n",
+        "term m max surf dip_on_increasing_sequence\nforward\nstate s free\nstate r free\nstate t free\n\
+         state u free\nstate v free\nstart -inf 0 -inf\nmove s < r ; C ; D ; R\nmove s = s ; C ; D ; R\n\
+         move s > s ; C ; D ; R\nmove r < t ; C ; D ; R\nmove r = s ; C ; D ; R\nmove r > s ; C ; D ; R\n\
+         move t < t ; C ; D ; R\nmove t = s ; C ; D ; R\nmove t > u ; C ; add D x ; R\n\
+         move u < v ; C ; add D x ; R\nmove u = s ; C ; 0 ; R\nmove u > s ; C ; 0 ; R\n\
+         move v < t ; C ; 0 ; max R add D x\nmove v = s ; C ; 0 ; R\nmove v > s ; C ; 0 ; R\n\
+         finish max R C same\nend\nno reverse\nterm k min width steady_sequence\nforward\nstate s free\n\
+         state r held\nstart +inf 0 +inf\nmove s < s ; C ; D ; R\nmove s = r ; add add D 1 1 ; 0 ; R\n\
+         move s > s ; C ; D ; R\nmove r < s ; +inf ; 0 ; min R C\nmove r = r ; add C add D 1 ; 0 ; R\n\
+         move r > s ; +inf ; 0 ; min R C\nfinish min R C cells\nend\nreverse\nstate s free\nstate r held\n\
+         start +inf 0 +inf\nmove s < s ; C ; D ; R\nmove s = r ; add add D 1 1 ; 0 ; R\n\
+         move s > s ; C ; D ; R\nmove r < s ; +inf ; 0 ; min R C\nmove r = r ; add C add D 1 ; 0 ; R\n\
+         move r > s ; +inf ; 0 ; min R C\nfinish min R C cells\nend\nglue 0 add 1\njoin r r\nend\n",
+        &[Ext::NegInf, Ext::Int(2)],
     ),
 ];
 

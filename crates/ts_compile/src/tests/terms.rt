@@ -1,5 +1,5 @@
-//! The machine of each of the 22 patterns under all thirteen pairs of aggregator and feature, on ten series that use each
-//! move of each seed. The values were found by trying the expressions on all parts of the signatures.
+//! The machine of each of the 22 patterns under all thirteen pairs of aggregator and feature, on ten series that use
+//! each move of each seed. The values were found by trying the expressions on all parts of the signatures.
 
 ghost use Rattle.std.specs.Prelude.{◌≤◌, length};
 

@@ -1,15 +1,17 @@
-use Rattle.std.proofs.Common.{codes, ap, ◌∙◌, ◌++◌}
+use Rattle.std.proofs.Common.{ap, ◌∙◌, ◌++◌}
 use Rattle.std.specs.String.{string_bytes}
 use Rattle.ts_automaton.specs.declared.draft.Way.TheVariants.{Forward}
 use Rattle.ts_automaton.specs.AutomatonText.{words_text, head_text, body_text}
-use Rattle.ts_glue.specs.Machines.{forward_of}
-use Rattle.ts_compile.specs.ProgramText.{term_words}
+use Rattle.ts_glue.specs.Machines.{forward_of, pair_of}
+use Rattle.ts_compile.specs.ProgramText.{term_words, reverse_text}
 use Rattle.ts_compile.proofs.Texts.{pieces_pushed}
 use Rattle.ts_compile.proofs.text.push_part.Goals as goal
 
 pub returns : goal.returns
 returns c =
+    let m = c.args.machine.now in
     pieces_pushed c.args.text.now.items (words_text (term_words (string_bytes c.args.name.now) c.args.t.now)) (head_text Forward)
-    (body_text (forward_of c.args.machine.now)) (codes "no reverse\n")
-    c.push_term.new.text.items c.write_head.new.text.items c.write.new.text.items c.extend_from_slice.new.self.items
-    c.in_ok-push_term.ensures c.in_ok-write_head.ensures (c.in_ok-write.ensures ∙ ap (λ b. c.write_head.new.text.items ++ body_text b) c.forward.ensures) c.in_ok-extend_from_slice.ensures.items
+    (body_text (forward_of m)) (reverse_text (pair_of m))
+    c.push_term.new.text.items c.write_head.new.text.items c.write.new.text.items c.push_reverse.new.text.items
+    c.in_ok-push_term.ensures c.in_ok-write_head.ensures
+    (c.in_ok-write.ensures ∙ ap (λ b. c.write_head.new.text.items ++ body_text b) c.forward.ensures) c.in_ok-push_reverse.ensures

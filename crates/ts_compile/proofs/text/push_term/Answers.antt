@@ -1,13 +1,13 @@
 use Rattle.std.proofs.Common.{codes, ap, ◌∙◌, ◌∷◌, ◌++◌}
 use Rattle.std.specs.String.{string_bytes}
 use Rattle.ts_pattern.specs.Names.{aggregator_name, feature_name, pattern_name}
-use Rattle.ts_compile.proofs.Texts.{line_pushed}
+use Rattle.ts_compile.proofs.Texts.{five_pushed}
 use Rattle.ts_compile.proofs.text.push_term.Goals as goal
 
 pub returns : goal.returns
 returns c =
     let t = c.args.t.now in
-    line_pushed c.args.text.now.items (codes "term") (string_bytes c.args.name.now) (aggregator_name t.aggregator) (feature_name t.feature)
+    five_pushed c.args.text.now.items (codes "term") (string_bytes c.args.name.now) (aggregator_name t.aggregator) (feature_name t.feature)
     (pattern_name t.pattern)
     c.extend_from_slice.new.self.items c.push_word.new.text.items c.push_word-2.new.text.items c.push_word-3.new.text.items
     c.push_word-4.new.text.items c.push.new.self.items
