@@ -1,13 +1,13 @@
 -- Trees and steps: one and the same; how many lines a tree has, and how many boxes wait.
-use Rattle.std.proofs.Common.{◌≡◌, ℕ, ◌+◌, ◌*◌, ◌≤◌, List, [], ◌∷◌, ◌++◌, length, refl, sym, ◌∙◌, ap, subst, arith, append_assoc, append-nil}
+use Rattle.std.proofs.Common.{◌≡◌, ℕ, ◌+◌, ◌≤◌, List, [], ◌∷◌, ◌++◌, length, refl, sym, ◌∙◌, ap, subst, arith, append_assoc, append-nil, length-append}
 use Rattle.std.specs.List.{AllByRecursion}
 use Rattle.ts_certificate.specs.declared.certificate.TreeLine.{TreeLine}
 use Rattle.ts_certificate.specs.declared.certificate.TreeLine.TheVariants.{Split, Remove, No, Worse, Yes, Unsearched}
-use Rattle.ts_domain.specs.BoxSeries.{IsBox, series_count}
+use Rattle.ts_domain.specs.BoxSeries.{IsBox}
 use Rattle.ts_domain.proofs.BoxLaws.{some_series}
 use Rattle.ts_model.specs.Stated.{Stated, total_of}
 use Rattle.ts_filter.specs.Boxes.{Box, low_side, high_side, without, only, IsPart}
-use Rattle.ts_filter.specs.Laws.{StepsGoOn, TreeIsSteps}
+use Rattle.ts_filter.specs.Laws.{StepsGoOn, FormedIsShort, FitIsFormed, TreeIsSteps}
 use Rattle.ts_filter.specs.RefutedWorseDrop.{Spans}
 use Rattle.ts_filter.specs.Rules.{Head, KeepsRule}
 use Rattle.ts_filter.specs.Steps.{made_by, Steps}
@@ -85,45 +85,6 @@ module _ (m : Stated) (s : Spans) (h : Head) where
   steps_more (l ∷ ls) more told (b ∷ w) left end after last f g =
       (f.0, steps_more ls more (told_by l told) (made_by l b ++ w) left end after last f.1 g)
 
-  -- the series of all boxes that wait
-  abbrev series_of : List Box → ℕ
-  series_of [] = 0
-  series_of (b ∷ w) = series_count b + series_of w
-
-  boxes_made : (told : ℕ) (l : TreeLine) (b : Box) (w : List Box) → AllByRecursion IsBox (b ∷ w) → KeepsRule m s h told b l →
-      AllByRecursion IsBox (made_by l b ++ w)
-  boxes_made told (Split k t) b w e f =
-      ((low_part k t b b (part_self b e.0) f.cell f.below).box, ((high_part k t b b (part_self b e.0) f.cell f.above).box, e.1))
-  boxes_made told (Remove k v j) b w e f =
-      ((without_part k v b b (part_self b e.0) f.cell (others_stay k v b e.0 f.cell f.many f.there)).box, e.1)
-  boxes_made told (No j p) b w e f = e.1
-  boxes_made told (Worse p) b w e f = e.1
-  boxes_made told Yes b w e f = e.1
-  boxes_made told Unsearched b w e f = e.1
-
-  -- a line takes a series from those that wait, or makes two boxes of one
-  line_size : (told : ℕ) (l : TreeLine) (b : Box) (w : List Box) → IsBox b → KeepsRule m s h told b l →
-      1 + 2 * series_of (made_by l b ++ w) + length (b ∷ w) ≤ 2 * series_of (b ∷ w) + length (made_by l b ++ w)
-  line_size told (Split k t) b w e f = let c = sides_count k t b f.cell in omega arith
-  line_size told (Remove k v j) b w e f =
-      let c = drop_count k v b e f.cell f.there in
-      let one = some_series (only k v b) (only_part k v b b (part_self b e) f.cell f.there).box in omega arith
-  line_size told (No j p) b w e f = omega (arith, some_series b e)
-  line_size told (Worse p) b w e f = omega (arith, some_series b e)
-  line_size told Yes b w e f = omega (arith, some_series b e)
-  line_size told Unsearched b w e f = omega (arith, some_series b e)
-
-  size_steps : (ls : List TreeLine) (told : ℕ) (w left : List Box) (after : ℕ) → AllByRecursion IsBox w → Steps m s h w told ls left after →
-      length ls + 2 * series_of left + length w ≤ 2 * series_of w + length left
-  size_steps [] told w left after e f = omega (arith, ap series_of f.0, ap (length {A = Box}) f.0)
-  size_steps (l ∷ ls) told [] left after e f = absurd f
-  size_steps (l ∷ ls) told (b ∷ w) left after e f =
-      let rest = size_steps ls (told_by l told) (made_by l b ++ w) left after (boxes_made told l b w e f.0) f.1 in
-      let here = line_size told l b w e.0 f.0 in omega arith
-
-  pub tree_short : (t : Tree) (b : Box) → IsBox b → Fits m s h 0 b t → length (tree_lines t) + 1 ≤ 2 * series_count b
-  tree_short t b e f = let r = size_steps (tree_lines t) 0 (b ∷ []) [] (told_after t 0) (e, tt) (to_steps b t f) in omega arith
-
   -- each box, with those behind it counted and its own values, is at most so much
   abbrev Few : ℕ → List Box → Type 0
   Few top [] = Unit {0}
@@ -138,12 +99,12 @@ module _ (m : Stated) (s : Spans) (h : Head) where
   few_made told top Yes b w i e f = e.1
   few_made told top Unsearched b w i e f = e.1
 
-  few_steps : (top : ℕ) (ls : List TreeLine) (told : ℕ) (w left : List Box) (after : ℕ) → AllByRecursion IsBox w → Few top w →
+  few_steps : (top : ℕ) (ls : List TreeLine) (told : ℕ) (w left : List Box) (after : ℕ) → AllByRecursion (λ c. IsPart c m.cells) w → Few top w →
       Steps m s h w told ls left after → Few top left
   few_steps top [] told w left after i e f = subst (λ z. Few top z) f.0 e
   few_steps top (l ∷ ls) told [] left after i e f = absurd f
   few_steps top (l ∷ ls) told (b ∷ w) left after i e f =
-      few_steps top ls (told_by l told) (made_by l b ++ w) left after (boxes_made told l b w i f.0) (few_made told top l b w i.0 e f.0) f.1
+      few_steps top ls (told_by l told) (made_by l b ++ w) left after (parts_made told l b w i f.0) (few_made told top l b w i.0.box e f.0) f.1
 
   few_waiting : (top : ℕ) (w : List Box) → Few top w → AllByRecursion (λ c. IsPart c m.cells) w → length m.cells ≤ top → length w + length m.cells ≤ top
   few_waiting top [] e g n = omega arith
@@ -154,7 +115,7 @@ module _ (m : Stated) (s : Spans) (h : Head) where
   few ls w told i f =
       let top = total_of m.cells + 1 in
       let least = box_total m.cells i in
-      few_waiting top w (few_steps top ls 0 (m.cells ∷ []) w told (i, tt) ((omega arith), tt) f)
+      few_waiting top w (few_steps top ls 0 (m.cells ∷ []) w told (part_self m.cells i, tt) ((omega arith), tt) f)
       (parts_steps ls 0 (m.cells ∷ []) w told (part_self m.cells i, tt) f) (omega arith)
 
 pub tree_is_steps : TreeIsSteps
@@ -167,3 +128,32 @@ tree_is_steps m s h b ls told = (
 
 pub steps_go_on : StepsGoOn
 steps_go_on m s h ls more w left end told after last f g = steps_more m s h ls more told w left end after last f g
+
+-- a leaf takes a series, a drop takes one and leaves the rest to one tree, a split shares them between two
+pub formed_short : FormedIsShort
+formed_short (Leaf l) b i f = omega (arith, some_series b i)
+formed_short (Drop k v j t) b i f =
+    let left = (without_part k v b b (part_self b i) f.0.cell f.0.leaves).box in
+    let one = some_series (only k v b) (only_part k v b b (part_self b i) f.0.cell f.0.there).box in
+    omega (arith, drop_count k v b i f.0.cell f.0.there, one, formed_short t (without k v b) left f.1)
+formed_short (Fork k t lower upper) b i f =
+    let low = (low_part k t b b (part_self b i) f.0.cell f.0.below).box in
+    let high = (high_part k t b b (part_self b i) f.0.cell f.0.above).box in
+    omega (
+      arith,
+      sides_count k t b f.0.cell,
+      formed_short lower (low_side k t b) low f.1,
+      formed_short upper (high_side k t b) high f.2,
+      length-append (tree_lines lower) (tree_lines upper),
+    )
+
+pub fit_formed : FitIsFormed
+fit_formed m s h told (Leaf l) b i f = f.0
+fit_formed m s h told (Drop k v j t) b i f =
+    let leaves = others_stay k v b i f.0.cell f.0.many f.0.there in
+    let left = (without_part k v b b (part_self b i) f.0.cell leaves).box in
+    (record { cell = f.0.cell; there = f.0.there; leaves = leaves }, fit_formed m s h told t (without k v b) left f.1)
+fit_formed m s h told (Fork k t lower upper) b i f =
+    let low = (low_part k t b b (part_self b i) f.0.cell f.0.below).box in
+    let high = (high_part k t b b (part_self b i) f.0.cell f.0.above).box in
+    (f.0, fit_formed m s h told lower (low_side k t b) low f.1, fit_formed m s h (told_after lower told) upper (high_side k t b) high f.2)

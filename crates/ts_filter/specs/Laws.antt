@@ -26,7 +26,7 @@ use Rattle.ts_filter.specs.RefutedWorseDrop.{Spans, IsUsable, IsRequirement, IsR
 use Rattle.ts_filter.specs.Rules.{Head}
 use Rattle.ts_filter.specs.Steps.{Steps}
 use Rattle.ts_filter.specs.Tests.{is_refuted, is_cut, is_drop}
-use Rattle.ts_filter.specs.Tree.{Tree, tree_lines, told_after, Fits}
+use Rattle.ts_filter.specs.Tree.{Tree, tree_lines, told_after, Fits, IsFormed}
 
 -- What is asked of spans.
 
@@ -121,11 +121,14 @@ TreeIsSteps =
     ((t : Tree) × (tree_lines t ≡ ls) × Fits m s h 0 b t × (told_after t 0 ≡ told))
     ↔ Steps m s h (b ∷ []) 0 ls [] told
 
--- a tree for a box of S series has at most 2·S - 1 lines
-abbrev pub TreeIsShort : Type 0
-TreeIsShort =
-    (m : Stated) (s : Spans) (h : Head) (t : Tree) (b : Box) → IsBox b → Fits m s h 0 b t →
-    length (tree_lines t) + 1 ≤ 2 * series_in b
+-- a tree of this form for a box of S series has at most 2·S - 1 lines
+abbrev pub FormedIsShort : Type 0
+FormedIsShort = (t : Tree) (b : Box) → IsBox b → IsFormed b t → length (tree_lines t) + 1 ≤ 2 * series_in b
+
+-- each tree whose lines keep their rules has it
+abbrev pub FitIsFormed : Type 0
+FitIsFormed =
+    (m : Stated) (s : Spans) (h : Head) (told : ℕ) (t : Tree) (b : Box) → IsBox b → Fits m s h told b t → IsFormed b t
 
 -- with V values in all domains together and n cells, at most V + 1 - n boxes wait at any time
 abbrev pub FewWait : Type 0

@@ -1,9 +1,10 @@
 -- Trees: a split with a tree for each side, a drop with a tree for what is left, or a line that ends.
-use Rattle.std.specs.Prelude.{ℕ, ◌+◌, ℤ, List, [], ◌∷◌, ◌++◌}
+use Rattle.std.specs.Prelude.{◌≢◌, ℕ, ◌+◌, ℤ, List, [], ◌∷◌, ◌++◌, Contains}
 use Rattle.ts_certificate.specs.declared.certificate.TreeLine.{TreeLine}
 use Rattle.ts_certificate.specs.declared.certificate.TreeLine.TheVariants.{Split, Remove, No, Worse, Yes, Unsearched}
+use Rattle.ts_domain.specs.Kept.{values_without}
 use Rattle.ts_model.specs.Stated.{Stated}
-use Rattle.ts_filter.specs.Boxes.{Box, low_side, high_side, without}
+use Rattle.ts_filter.specs.Boxes.{Box, HasCell, values_at, low_side, high_side, without}
 use Rattle.ts_filter.specs.RefutedWorseDrop.{Spans, IsDrop}
 use Rattle.ts_filter.specs.Rules.{Head, IsSplit, KeepsRule}
 
@@ -49,3 +50,16 @@ Fits m s h told b (Drop k v j t) = IsDrop m.requirements s k v j b × Fits m s h
 Fits m s h told b (Fork k t lower upper) =
     IsSplit k t b × Fits m s h told (low_side k t b) lower
     × Fits m s h (told_after lower told) (high_side k t b) upper
+
+-- v is a value of cell k, and not its only one
+pub record Removes (k : ℕ) (v : ℤ) (b : Box) : Type 0 where
+  pub cell : HasCell k b
+  pub there : Contains (values_at k b) v
+  pub leaves : values_without v (values_at k b) ≢ []
+
+-- whatever it is by, each split has two sides with values, and each drop removes a value of its cell and leaves one
+abbrev pub IsFormed : Box → Tree → Type 0
+IsFormed b (Leaf l) = IsLeafLine l
+IsFormed b (Drop k v j t) = Removes k v b × IsFormed (without k v b) t
+IsFormed b (Fork k t lower upper) =
+    IsSplit k t b × IsFormed (low_side k t b) lower × IsFormed (high_side k t b) upper

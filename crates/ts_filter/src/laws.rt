@@ -5,7 +5,7 @@ ghost use Rattle.ts_filter.specs.Laws.{AcceptedHolds, AcceptedIsKept, FailingIsR
 ghost use Rattle.ts_filter.specs.Laws.{LinesGoOn, WholeIsJudged};
 ghost use Rattle.ts_filter.specs.Laws.{DropLeavesOthers, LowerSideFirst, SplitCutsInTwo, ValuesAreSound};
 ghost use Rattle.ts_filter.specs.Laws.{DropLosesNone, HigherBarCutsMore, SinglesAreExact, TestsTell};
-ghost use Rattle.ts_filter.specs.Laws.{FewWait, LinesInRange, StepsGoOn, TreeIsShort, TreeIsSteps, WaitingAreParts};
+ghost use Rattle.ts_filter.specs.Laws.{FewWait, FitIsFormed, FormedIsShort, LinesInRange, StepsGoOn, TreeIsSteps, WaitingAreParts};
 
 /// A split cuts the series of a box in two; the lower side's come first where the cells before have one value each.
 pub fn split_cuts_in_two()
@@ -23,9 +23,11 @@ pub fn tree_is_steps()
     ensures { TreeIsSteps }
 {}
 
-/// A tree for a box of S series has at most 2·S - 1 lines.
+/// A tree for a box of S series has at most 2·S - 1 lines: wherever each split has two sides with values and each drop
+/// removes a value and leaves one, as in every tree whose lines keep their rules.
 pub fn tree_is_short()
-    ensures { TreeIsShort }
+    ensures short { FormedIsShort }
+    ensures formed { FitIsFormed }
 {}
 
 /// While the lines of a tree are treated, few boxes wait, each of them inside the model's.

@@ -1,5 +1,8 @@
-use Rattle.ts_filter.proofs.TreeLaws.{tree_short}
+use Rattle.ts_filter.proofs.TreeLaws.{formed_short, fit_formed}
 use Rattle.ts_filter.proofs.laws.tree_is_short.Goals as goal
 
-pub returns : goal.returns
-returns c = tree_short
+pub returns-clause-short : goal.returns-clause-short
+returns-clause-short c = formed_short
+
+pub returns-clause-formed : goal.returns-clause-formed
+returns-clause-formed c = fit_formed
