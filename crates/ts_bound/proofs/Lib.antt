@@ -5,3 +5,6 @@ mod Emptied
 pub mod TableLaws
 mod Steps
 mod Follows
+pub mod Reached
+pub mod SpanRuns
+pub mod SpanEnds

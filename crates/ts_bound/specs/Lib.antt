@@ -5,3 +5,5 @@ pub mod HullTables
 pub mod Rows
 pub mod LendsRows
 pub mod TermSpans
+pub mod Laws
+pub mod Blocks

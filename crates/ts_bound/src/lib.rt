@@ -2,19 +2,25 @@
 //!
 //! A box has a set of values for each cell. For each cell, each of its values and each state a table has one hull,
 //! which holds the registers of every run of an automaton that stands there. The layer above may rely on this: a table
-//! is exactly the one of the definition, whatever way its rows are filled.
+//! is exactly the one of the definition, whatever way its rows are filled; a span is exactly the hull of what its hulls
+//! tell, and holds the answer of the machine on every series of the box; and the span of the box with one value alone
+//! at a cell is read off the tables of the whole box.
 //!
 //! ```text
 //! let ahead = forward(alloc, &machine, &cells)?;
-//! let hulls = ahead.row(3); // those of the third cell
+//! let span = term_span(&machine, &ahead, None, &cells, cells.cells());
 //! ```
 #![tactic(auto)]
 
+mod block;
 mod fill;
+pub mod laws;
+mod spans;
 mod start;
 mod table;
 mod tables;
 
 pub use fill::fill_row;
+pub use spans::{term_span, value_span};
 pub use table::HullTable;
 pub use tables::{backward, forward};

@@ -1,0 +1,256 @@
+-- Spans read off rows are those of the definitions; at the last cell the glued form is the finish form.
+use Rattle.std.proofs.Common.{◌≡◌, ℕ, zero, suc, ◌+◌, ◌*◌, ◌-◌, ◌<◌, ◌≤◌, ◌⊎◌, inl, inr, ⊎_elim, ℤ, Bool, true, false, cond, nat_eq, List, [], ◌∷◌, ◌++◌, length, map, take, drop, get_or, refl, sym, ap, ◌∙◌, subst, arith}
+use Rattle.std.specs.Prelude.{IsTrue, IsSome, fold, flat_map, reverse, Contains, Option, None, Some, IfSome, option_map, slice_range}
+use Rattle.std.specs.List.{range_with_len, AllByRecursion}
+use Rattle.std.proofs.lemmas.Bool.{eqb-true}
+use Rattle.std.proofs.lemmas.List.{drop_all}
+use Rattle.std.proofs.lemmas.List.Sums.{fold-append}
+use Rattle.std.proofs.lemmas.List.FromFn.{get_or-map-range_with_len}
+use Rattle.ts_base.specs.declared.span.Span.{Span}
+use Rattle.ts_base.specs.Limits.{IsCellValue}
+use Rattle.ts_base.specs.Spans.{none_span, span_hull}
+use Rattle.ts_automaton.specs.declared.regs.Hull.{Hull}
+use Rattle.ts_automaton.specs.Registers.{spans_of}
+use Rattle.ts_automaton.specs.Typing.{is_automaton}
+use Rattle.ts_automaton.specs.Body.{Body}
+use Rattle.ts_automaton.specs.AutomatonRun.{Standing}
+use Rattle.ts_automaton.specs.SpanRun.{has_registers, finish_span_of, one_hull}
+use Rattle.ts_automaton.proofs.Rules.{rules_of}
+use Rattle.ts_domain.proofs.Sets.{contains_cons}
+use Rattle.ts_domain.specs.Values.{WithinLimits}
+use Rattle.ts_domain.specs.BoxSeries.{IsBox}
+use Rattle.ts_glue.specs.declared.machine.Machine.{Machine}
+use Rattle.ts_glue.specs.declared.half.Half.{Half}
+use Rattle.ts_glue.specs.Pairs.{Pair, pair, table_view}
+use Rattle.ts_glue.specs.Machines.{forward_of, pair_of, reverse_of}
+use Rattle.ts_glue.specs.Glued.{glued_span, Local}
+use Rattle.ts_glue.specs.Rules.{keeps_rules}
+use Rattle.ts_glue.proofs.SpanGlue.{none_glues_to_none}
+use Rattle.ts_glue.proofs.TwoForms.{two_forms_agree}
+use Rattle.ts_bound.specs.Hulls.{hull_of, none}
+use Rattle.ts_bound.specs.NextRow.{states_of}
+use Rattle.ts_bound.specs.HullTables.{start_hull, hull_at, hulls_at, cells_before, cells_after, values_at}
+use Rattle.ts_bound.specs.TermSpans.{Automata, automata_of, standing_in, span_of_all, finish_spans, glued_spans, spans_at, value_span, term_span}
+use Rattle.ts_bound.specs.Laws.{Splits, AreAutomata}
+use Rattle.ts_bound.specs.Blocks.{standing_of, HullsStand, glued_by, finishes, glued_with, glued_all, OfReverse, AreBackRows, back_hulls, back_states, split_at, last_at}
+use Rattle.ts_bound.proofs.HullLaws.{IsCanonical, hull_canonical}
+use Rattle.ts_bound.proofs.SpanRuns.{block_is, block_rest, length-hulls_at, hulls_stand}
+
+-- lists over a range that agree at each place
+
+same_range : {A : Type 0} (f g : ℕ → A) (a n m : ℕ) → a + n ≤ m → ((q : ℕ) → q < m → f q ≡ g q) → map f (range_with_len a n) ≡ map g (range_with_len a n)
+same_range f g a zero m le h = refl
+same_range f g a (suc n) m le h =
+    ap (λ x. x ∷ map f (range_with_len (a + 1) n)) (h a (omega (arith, le))) ∙ ap (λ l. g a ∷ l) (same_range f g (a + 1) n m (omega (arith, le)) h)
+
+same_flat : {A : Type 0} (f g : ℕ → List A) (a n m : ℕ) → a + n ≤ m → ((q : ℕ) → q < m → f q ≡ g q) → flat_map f (range_with_len a n) ≡ flat_map g (range_with_len a n)
+same_flat f g a zero m le h = refl
+same_flat f g a (suc n) m le h =
+    ap (λ x. x ++ flat_map f (range_with_len (a + 1) n)) (h a (omega (arith, le))) ∙ ap (λ l. g a ++ l) (same_flat f g (a + 1) n m (omega (arith, le)) h)
+
+pub standing_is : (b : Body) (before : List (List ℤ)) (v : ℤ) (q : ℕ) → q < length b.states → standing_of (hulls_at b before v) q ≡ standing_in b before v q
+unfolding hulls_at
+standing_is b before v q lt =
+    ap (λ h. record { state = q; regs = spans_of h }) (get_or-map-range_with_len (hull_at b before v) 0 (length b.states) q q none lt (omega arith))
+
+pub finishes_are : (b : Body) (before : List (List ℤ)) (v : ℤ) (n : ℕ) → finishes b (hulls_at b before v) n (length b.states) ≡ finish_spans b n before v
+unfolding finishes finish_spans
+finishes_are b before v n =
+    same_range (λ q. finish_span_of b (standing_of (hulls_at b before v) q) n) (λ q. finish_span_of b (standing_in b before v q) n) 0 (length b.states)
+    (length b.states) (omega arith) (λ q lt. ap (λ s. finish_span_of b s n) (standing_is b before v q lt))
+
+glued_are : (p : Pair) (before behind : List (List ℤ)) (v : ℤ) (n : ℕ) →
+    glued_all (Some p) (hulls_at p.forward before v) (hulls_at p.reverse behind v) v n (length p.reverse.states) (length p.forward.states) ≡ glued_spans p n before behind v
+unfolding glued_all glued_with glued_spans
+glued_are p before behind v n =
+    let L = hulls_at p.forward before v in
+    let R = hulls_at p.reverse behind v in
+    same_flat (λ q. map (λ r. glued_span p (standing_of L q) (standing_of R r) v n) (range_with_len 0 (length p.reverse.states)))
+    (λ q. map (λ r. glued_span p (standing_in p.forward before v q) (standing_in p.reverse behind v r) v n) (range_with_len 0 (length p.reverse.states)))
+    0 (length p.forward.states) (length p.forward.states) (omega arith)
+    (λ q lt. ap (λ s. map (λ r. glued_span p s (standing_of R r) v n) (range_with_len 0 (length p.reverse.states))) (standing_is p.forward before v q lt)
+    ∙ same_range (λ r. glued_span p (standing_in p.forward before v q) (standing_of R r) v n)
+    (λ r. glued_span p (standing_in p.forward before v q) (standing_in p.reverse behind v r) v n) 0 (length p.reverse.states) (length p.reverse.states) (omega arith)
+    (λ r l. ap (λ s. glued_span p (standing_in p.forward before v q) s v n) (standing_is p.reverse behind v r l)))
+
+-- a pair that was made with the forward body
+abbrev pub IsPairOf : Body → Option Pair → Type 0
+IsPairOf b o = IfSome o (λ p. p.forward ≡ b)
+
+split_is : (b : Body) (o : Option Pair) (k : ℕ) (cells : List (List ℤ)) (v : ℤ) → IsSome o → IsPairOf b o → split_at b o k cells v ≡ value_span (record { forward = b; pair = o }) k cells v
+unfolding split_at value_span spans_at
+split_is b None k cells v some is = cc
+split_is b (Some p) k cells v some is =
+    ap (λ f. span_of_all (glued_all (Some p) (hulls_at f (cells_before k cells) v) (hulls_at p.reverse (cells_after k cells) v) v (length cells) (length p.reverse.states)
+    (length f.states))) (sym is)
+    ∙ ap span_of_all (glued_are p (cells_before k cells) (cells_after k cells) v (length cells))
+
+same_map : {A : Type 0} (f g : ℤ → A) (vs : List ℤ) → ((v : ℤ) → f v ≡ g v) → map f vs ≡ map g vs
+same_map f g [] h = refl
+same_map f g (v ∷ vs) h = ap (λ x. x ∷ map f vs) (h v) ∙ ap (λ l. g v ∷ l) (same_map f g vs h)
+
+pub split_ends : (b : Body) (o : Option Pair) (k : ℕ) (cells : List (List ℤ)) → IsSome o → IsPairOf b o →
+    span_of_all (map (split_at b o k cells) (values_at k cells)) ≡ term_span (record { forward = b; pair = o }) k cells
+unfolding term_span
+split_ends b o k cells some is = ap span_of_all (same_map (split_at b o k cells) _ (values_at k cells) (λ v. split_is b o k cells v some is))
+
+pub split_value_ends : (b : Body) (o : Option Pair) (k : ℕ) (cells : List (List ℤ)) (v : ℤ) → IsSome o → IsPairOf b o →
+    split_at b o k cells v ≡ value_span (record { forward = b; pair = o }) k cells v
+split_value_ends b o k cells v some is = split_is b o k cells v some is
+
+-- at the last cell
+
+fold_nones : (g : ℕ → Span) (s : Span) (a n : ℕ) → IsCanonical s → 1 ≤ a → ((r : ℕ) → 1 ≤ r → g r ≡ none_span) → fold span_hull s (map g (range_with_len a n)) ≡ s
+fold_nones g s a zero can some h = refl
+fold_nones g s a (suc n) can some h =
+    ap (λ t. fold span_hull t (map g (range_with_len (a + 1) n))) (ap (span_hull s) (h a some) ∙ can) ∙ fold_nones g s (a + 1) n can (omega arith) h
+
+fold_first : (g : ℕ → Span) (s : Span) (m : ℕ) → 1 ≤ m → ((r : ℕ) → 1 ≤ r → g r ≡ none_span) → fold span_hull s (map g (range_with_len 0 m)) ≡ span_hull s (g 0)
+fold_first g s zero some h = absurd (omega (arith, some))
+fold_first g s (suc m) some h = fold_nones g (span_hull s (g 0)) (0 + 1) m (hull_canonical s (g 0)) (omega arith) h
+
+fold_each : (G : ℕ → List Span) (g : ℕ → Span) (a k : ℕ) (s : Span) → ((q : ℕ) (s : Span) → fold span_hull s (G q) ≡ span_hull s (g q)) →
+    fold span_hull s (flat_map G (range_with_len a k)) ≡ fold span_hull s (map g (range_with_len a k))
+fold_each G g a zero s h = refl
+fold_each G g a (suc k) s h =
+    fold-append span_hull s (G a) (flat_map G (range_with_len (a + 1) k)) ∙ ap (λ t. fold span_hull t (flat_map G (range_with_len (a + 1) k))) (h a s)
+    ∙ fold_each G g (a + 1) k (span_hull s (g a)) h
+
+pub two_forms : (p : Pair) → IsTrue (keeps_rules p) → 1 ≤ length p.reverse.states → (n : ℕ) (before : List (List ℤ)) (v : ℤ) →
+    span_of_all (glued_spans p n before [] v) ≡ span_of_all (finish_spans p.forward n before v)
+unfolding glued_spans finish_spans hull_at start_hull
+two_forms p rules some n before v =
+    fold_each (λ q. map (λ r. glued_span p (standing_in p.forward before v q) (standing_in p.reverse [] v r) v n) (states_of p.reverse))
+    (λ q. finish_span_of p.forward (standing_in p.forward before v q) n) 0 (length p.forward.states) none_span
+    (λ q s. fold_first (λ r. glued_span p (standing_in p.forward before v q) (standing_in p.reverse [] v r) v n) s (length p.reverse.states) some (others q)
+    ∙ ap (span_hull s) (two_forms_agree p rules q (spans_of (hull_at p.forward before v q)) v n))
+  where
+    not_start : (r : ℕ) → 1 ≤ r → hull_at p.reverse [] v r ≡ none
+    not_start r h = go (nat_eq r 0) refl
+      where
+        go : (t : Bool) → nat_eq r 0 ≡ t → cond t (hull_of (one_hull p.reverse.start)) none ≡ none
+        go true e = absurd (let z = eqb-true r 0 e in omega (arith, h, z))
+        go false e = refl
+
+    others : (q r : ℕ) → 1 ≤ r → glued_span p (standing_in p.forward before v q) (standing_in p.reverse [] v r) v n ≡ none_span
+    others q r h = none_glues_to_none p (standing_in p.forward before v q) (standing_in p.reverse [] v r) v n (inr (ap (λ x. has_registers (spans_of x)) (not_start r h)))
+
+last_is : (m : Automata) → AreAutomata m → (k : ℕ) (cells : List (List ℤ)) → k ≡ length cells → (v : ℤ) → last_at m.forward k cells v ≡ value_span m k cells v
+unfolding last_at value_span spans_at
+last_is m are k cells last v =
+    ap span_of_all (finishes_are m.forward (cells_before k cells) v (length cells)) ∙ by_pair m.forward m.pair are.pair
+  where
+    by_pair : (b : Body) (o : Option Pair) → IfSome o (Splits b) →
+        span_of_all (finish_spans b (length cells) (cells_before k cells) v) ≡ span_of_all (spans_at b o k cells v)
+    by_pair b None s = refl
+    by_pair b (Some p) s =
+        let none_after : cells_after k cells ≡ [] = drop_all k cells (omega (arith, last)) in
+        let r = rules_of p.reverse s.reverse in
+        ap (λ f. span_of_all (finish_spans f (length cells) (cells_before k cells) v)) (sym s.forward)
+        ∙ sym (two_forms p s.rules (omega (arith, r.some)) (length cells) (cells_before k cells) v)
+        ∙ ap (λ t. span_of_all (glued_spans p (length cells) (cells_before k cells) t v)) (sym none_after)
+
+pub last_value_ends : (m : Automata) → AreAutomata m → (k : ℕ) (cells : List (List ℤ)) (v : ℤ) → k ≡ length cells → last_at m.forward k cells v ≡ value_span m k cells v
+last_value_ends m are k cells v last = last_is m are k cells last v
+
+pub last_ends : (m : Automata) → AreAutomata m → (k : ℕ) (cells : List (List ℤ)) → k ≡ length cells →
+    span_of_all (map (last_at m.forward k cells) (values_at k cells)) ≡ term_span m k cells
+unfolding term_span
+last_ends m are k cells last = ap span_of_all (same_map (last_at m.forward k cells) (value_span m k cells) (values_at k cells) (λ v. last_is m are k cells last v))
+
+-- what the type of a machine keeps
+
+pub pair_is : (m : Machine) → IsPairOf (forward_of m) (pair_of m)
+pair_is m = go m.half
+  where
+    go : (o : Option Half) → IsPairOf m.forward (option_map (λ h. pair m.forward h.reverse (table_view h.table)) o)
+    go None = tt
+    go (Some h) = refl
+
+pub machine_splits : (m : Machine) → IfSome (reverse_of m) (λ b. IsTrue (is_automaton b)) → IfSome (pair_of m) (Splits (forward_of m))
+machine_splits m r = go m.half refl r
+  where
+    go : (o : Option Half) → m.half ≡ o → IfSome (option_map (λ p. p.reverse) (option_map (λ h. pair m.forward h.reverse (table_view h.table)) o)) (λ b. IsTrue (is_automaton b)) →
+        IfSome (option_map (λ h. pair m.forward h.reverse (table_view h.table)) o) (Splits m.forward)
+    go None e r = tt
+    go (Some h) e r = record { forward = refl; reverse = r; rules = m.rules h e; local = m.local h e }
+
+pub back_some : (o : Option Pair) → OfReverse o (λ b. IsTrue (is_automaton b)) → 1 ≤ back_states o
+back_some None h = absurd h
+back_some (Some p) h = let r = rules_of p.reverse h in omega (arith, r.some)
+
+pub back_length : (o : Option Pair) (behind : List (List ℤ)) (v : ℤ) → length (back_hulls o behind v) ≡ back_states o
+back_length None behind v = refl
+back_length (Some p) behind v = length-hulls_at p.reverse behind v
+
+pub right_kinds : (o : Option Pair) (m : ℕ) (behind : List (List ℤ)) (v : ℤ) (hs : List Hull) → OfReverse o (λ b. IsTrue (is_automaton b)) → m ≡ back_states o →
+    hs ≡ back_hulls o behind v → OfReverse o (λ b. (length b.states ≡ m) × HullsStand b hs)
+right_kinds None m behind v hs h is_m is = absurd h
+right_kinds (Some p) m behind v hs h is_m is = (sym is_m, hulls_stand p.reverse h behind v hs is)
+
+-- the loops over the values of a cell
+
+abbrev pub Taken : (ℤ → Span) → List ℤ → List ℤ → Span → Type 0
+Taken f values left span = fold span_hull span (map f left) ≡ span_of_all (map f values)
+
+pub taken_begun : (f : ℤ → Span) (values left : List ℤ) (span : Span) → span ≡ none_span → left ≡ values → Taken f values left span
+taken_begun f values left span is same = ap (λ s. fold span_hull s (map f left)) is ∙ ap (λ l. span_of_all (map f l)) same
+
+pub taken_more : (f : ℤ → Span) (values left left' : List ℤ) (v : ℤ) (span one : Span) → left ≡ v ∷ left' → one ≡ f v → Taken f values left span →
+    Taken f values left' (span_hull span one)
+taken_more f values left left' v span one is is_one inv =
+    ap (λ s. fold span_hull (span_hull span s) (map f left')) is_one ∙ ap (λ l. fold span_hull span (map f l)) (sym is) ∙ inv
+
+pub taken_all : (f : ℤ → Span) (values left : List ℤ) (span : Span) → left ≡ [] → Taken f values left span → span ≡ span_of_all (map f values)
+taken_all f values left span is inv = ap (λ l. fold span_hull span (map f l)) (sym is) ∙ inv
+
+pub last_one : (b : Body) (k : ℕ) (cells : List (List ℤ)) (v : ℤ) (hs : List Hull) (n : ℕ) (one : Span) → hs ≡ hulls_at b (cells_before k cells) v → n ≡ length cells →
+    one ≡ span_of_all (finishes b hs n (length b.states)) → one ≡ last_at b k cells v
+unfolding last_at
+last_one b k cells v hs n one is is_n is_one =
+    is_one ∙ ap (λ h. span_of_all (finishes b h n (length b.states))) is ∙ ap (λ i. span_of_all (finishes b (hulls_at b (cells_before k cells) v) i (length b.states))) is_n
+
+pub split_one : (b : Body) (o : Option Pair) (k : ℕ) (cells : List (List ℤ)) (v v' : ℤ) (left right : List Hull) (n m : ℕ) (one : Span) → v' ≡ v →
+    left ≡ hulls_at b (cells_before k cells) v → right ≡ back_hulls o (cells_after k cells) v → n ≡ length cells → m ≡ back_states o →
+    one ≡ span_of_all (glued_all o left right v' n m (length b.states)) → one ≡ split_at b o k cells v
+unfolding split_at
+split_one b o k cells v v' left right n m one is_v is_left is_right is_n is_m is_one =
+    is_one ∙ ap (λ x. span_of_all (glued_all o left right x n m (length b.states))) is_v
+    ∙ ap (λ h. span_of_all (glued_all o h right v n m (length b.states))) is_left
+    ∙ ap (λ h. span_of_all (glued_all o (hulls_at b (cells_before k cells) v) h v n m (length b.states))) is_right
+    ∙ ap (λ i. span_of_all (glued_all o (hulls_at b (cells_before k cells) v) (back_hulls o (cells_after k cells) v) v i m (length b.states))) is_n
+    ∙ ap (λ i. span_of_all (glued_all o (hulls_at b (cells_before k cells) v) (back_hulls o (cells_after k cells) v) v (length cells) i (length b.states))) is_m
+
+-- values that are left lie within the limits
+pub within_of : (cells : List (List ℤ)) (i : ℕ) (values : List ℤ) → IsBox cells → i < length cells → values ≡ get_or cells i [] → AllByRecursion IsCellValue values
+within_of [] i values b lt is = absurd (omega (arith, lt))
+within_of (d ∷ cells) zero values b lt is = subst (AllByRecursion IsCellValue) (sym is) b.0.within
+within_of (d ∷ cells) (suc i) values b lt is = within_of cells i values b.1 (omega (arith, lt)) is
+
+pub first_within : (left left' : List ℤ) (v : ℤ) → left ≡ v ∷ left' → AllByRecursion IsCellValue left → IsCellValue v × AllByRecursion IsCellValue left'
+first_within left left' v is h = subst (AllByRecursion IsCellValue) is h
+
+pub still_there : (left left' : List ℤ) (v w : ℤ) → left ≡ w ∷ left' → (w ≡ v → ⊥) → Contains left v → Contains left' v
+still_there left left' v w is ne c = ⊎_elim (λ e. absurd (ne e)) (λ r. r) ((contains_cons w left' v).0 (subst (λ l. Contains l v) is c))
+
+pub nothing_there : (left : List ℤ) (v : ℤ) → left ≡ [] → Contains left v → ⊥
+nothing_there left v is c = let d = (subst (λ l. Contains l v) is c).1 in omega (arith, d)
+
+-- what the reverse body tells, seen through the machine
+
+pub reverse_rules : (o : Option Pair) (r : Option Body) (b : Body) → r ≡ option_map (λ p. p.reverse) o → r ≡ Some b → IsTrue (is_automaton b) →
+    OfReverse o (λ b. IsTrue (is_automaton b))
+reverse_rules None r b e is h = absurd (let z : None ≡ Some b = sym e ∙ is in none_some b z)
+  where
+    none_some : (b : Body) → None ≡ Some b → ⊥
+    none_some b z = cc
+reverse_rules (Some p) r b e is h = subst (λ x. IsTrue (is_automaton x)) (same (sym is ∙ e)) h
+  where
+    same : Some b ≡ Some p.reverse → b ≡ p.reverse
+    same z = cc
+
+pub whole_split : (m : Machine) (b : Body) (r : Option Body) → r ≡ reverse_of m → r ≡ Some b → IsTrue (is_automaton b) → IsTrue (is_automaton (forward_of m)) → AreAutomata (automata_of m)
+whole_split m b r e is h f = record { forward = f; pair = machine_splits m (subst (λ o. IfSome o (λ b. IsTrue (is_automaton b))) (sym is ∙ e) h) }
+
+pub whole_plain : (m : Machine) (r : Option Body) → r ≡ reverse_of m → r ≡ None → IsTrue (is_automaton (forward_of m)) → AreAutomata (automata_of m)
+whole_plain m r e is f = record { forward = f; pair = machine_splits m (subst (λ o. IfSome o (λ b. IsTrue (is_automaton b))) (sym is ∙ e) tt) }

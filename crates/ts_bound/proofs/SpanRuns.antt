@@ -1,0 +1,191 @@
+-- What the loops over the values of a cell and over the states of a value keep, where spans are read off rows.
+use Rattle.std.proofs.Common.{◌≡◌, ℕ, zero, suc, ◌+◌, ◌*◌, ◌-◌, ◌<◌, ◌≤◌, ◌⊎◌, inl, inr, ⊎_elim, ℤ, Bool, true, false, cond, nat_eq, List, [], ◌∷◌, ◌++◌, length, map, take, drop, set, get_or, refl, sym, ap, ◌∙◌, subst, arith}
+use Rattle.std.specs.Prelude.{IsTrue, IsSome, fold, flat_map, reverse, Contains, Option, None, Some, IfSome, option_map, slice_range}
+use Rattle.std.specs.List.{range_with_len, AllByRecursion}
+use Rattle.std.proofs.lemmas.List.{append-nil, append_assoc, get_or_default, length-append, length-drop, length-take-le, reverse-append, drop_all}
+use Rattle.std.proofs.lemmas.List.Sums.{fold-append}
+use Rattle.std.proofs.lemmas.List.FromFn.{length-map-range_with_len, get_or-map-range_with_len, map-range_with_len_more, length-range_with_len}
+use Rattle.std.proofs.Math.Seq.{take-append_seam, drop-append_seam}
+use Rattle.ts_base.specs.declared.span.Span.{Span}
+use Rattle.ts_base.specs.Limits.{IsCellValue}
+use Rattle.ts_base.specs.Spans.{none_span, span_hull}
+use Rattle.ts_automaton.specs.declared.regs.Hull.{Hull}
+use Rattle.ts_automaton.specs.Registers.{spans_of}
+use Rattle.ts_automaton.specs.Typing.{is_automaton}
+use Rattle.ts_automaton.specs.Body.{Body}
+use Rattle.ts_automaton.specs.AutomatonRun.{Standing}
+use Rattle.ts_automaton.specs.SpanRun.{HullStands, finish_span_of, one_hull}
+use Rattle.ts_domain.specs.BoxSeries.{IsBox}
+use Rattle.ts_glue.specs.Pairs.{Pair}
+use Rattle.ts_glue.specs.Glued.{glued_span}
+use Rattle.ts_glue.specs.Rules.{keeps_rules}
+use Rattle.ts_glue.proofs.SpanGlue.{none_glues_to_none}
+use Rattle.ts_glue.proofs.TwoForms.{two_forms_agree}
+use Rattle.ts_bound.specs.Hulls.{hull_of, none}
+use Rattle.ts_bound.specs.NextRow.{states_of}
+use Rattle.ts_bound.specs.HullTables.{start_hull, hull_at, hulls_at, row_of, cells_before, cells_after, values_at, rows_behind, forward_rows, backward_rows}
+use Rattle.ts_bound.specs.TermSpans.{Automata, standing_in, span_of_all, finish_spans, glued_spans, spans_at, value_span, term_span}
+use Rattle.ts_bound.specs.Blocks.{standing_of, HullsStand, glued_by, finishes, glued_with, glued_all, OfReverse, AreBackRows, back_hulls, back_states, split_at, last_at}
+use Rattle.ts_bound.proofs.HullLaws.{IsCanonical, hull_canonical}
+use Rattle.ts_bound.proofs.TableLaws.{hull_kept, kept_stands, length-forward, length-backward}
+use Rattle.ts_bound.specs.Rows.{IsRow}
+use Rattle.std.proofs.lemmas.Bool.{eqb-true, eqb-false}
+
+-- the loops over states
+
+range_more : (m q : ℕ) → q ≡ m → range_with_len 0 (m + 1) ≡ range_with_len 0 m ++ q ∷ []
+range_more m q e = go 0 m q (let f : 0 + m ≡ q = omega (arith, e) in f)
+  where
+    go : (a m q : ℕ) → a + m ≡ q → range_with_len a (m + 1) ≡ range_with_len a m ++ q ∷ []
+    go a zero q e = let f : a ≡ q = omega (arith, e) in ap (λ k. k ∷ []) f
+    go a (suc m) q e =
+        let on : suc m + 1 ≡ suc (m + 1) = omega arith in
+        ap (range_with_len a) on ∙ ap (λ l. a ∷ l) (go (a + 1) m q (omega (arith, e)))
+
+map_push : {A B : Type 0} (f : A → B) (xs : List A) (x : A) → map f (xs ++ x ∷ []) ≡ map f xs ++ f x ∷ []
+map_push f [] x = refl
+map_push f (y ∷ xs) x = ap (λ l. f y ∷ l) (map_push f xs x)
+
+flat_push : {A B : Type 0} (f : A → List B) (xs : List A) (x : A) → flat_map f (xs ++ x ∷ []) ≡ flat_map f xs ++ f x
+flat_push f [] x = append-nil (f x)
+flat_push f (y ∷ xs) x = ap (λ l. f y ++ l) (flat_push f xs x) ∙ sym (append_assoc (f y) (flat_map f xs) (f x))
+
+pub finish_begun : (b : Body) (hulls : List Hull) (n : ℕ) (span : Span) → span ≡ none_span → span ≡ span_of_all (finishes b hulls n 0)
+unfolding finishes
+finish_begun b hulls n span e = e
+
+pub with_begun : (p : Option Pair) (left : Standing Span) (right : List Hull) (x : ℤ) (n : ℕ) (before : Span) → before ≡ fold span_hull before (glued_with p left right x n 0)
+unfolding glued_with
+with_begun p left right x n before = refl
+
+pub all_begun : (p : Option Pair) (left right : List Hull) (x : ℤ) (n m : ℕ) (span : Span) → span ≡ none_span → span ≡ span_of_all (glued_all p left right x n m 0)
+unfolding glued_all
+all_begun p left right x n m span e = e
+
+pub finish_more : (b : Body) (hulls : List Hull) (n q : ℕ) (h d : Hull) (span one : Span) → q < length hulls → h ≡ get_or hulls q d →
+    one ≡ finish_span_of b (record { state = q; regs = spans_of h }) n → span ≡ span_of_all (finishes b hulls n q) →
+    span_hull span one ≡ span_of_all (finishes b hulls n (q + 1))
+unfolding finishes
+finish_more b hulls n q h d span one lt is_h is_one inv =
+    let f : ℕ → Span = λ q. finish_span_of b (standing_of hulls q) n in
+    let here : h ≡ get_or hulls q none = is_h ∙ get_or_default hulls q d none lt in
+    ap (λ s. span_hull s one) inv ∙ ap (span_hull (span_of_all (map f (range_with_len 0 q)))) (is_one ∙ ap (λ x. finish_span_of b (record { state = q; regs = spans_of x }) n) here)
+    ∙ sym (ap span_of_all (ap (map f) (range_more q q refl) ∙ map_push f (range_with_len 0 q) q) ∙ fold-append span_hull none_span (map f (range_with_len 0 q)) (f q ∷ []))
+
+pub block_stands : (b : Body) (hulls : List Hull) (q : ℕ) (h d : Hull) → q < length hulls → length hulls ≡ length b.states → h ≡ get_or hulls q d → HullsStand b hulls →
+    HullStands b (record { state = q; regs = spans_of h })
+block_stands b hulls q h d lt long is k =
+    subst (λ x. HullStands b (record { state = q; regs = spans_of x })) (sym (is ∙ get_or_default hulls q d none lt)) (k q (omega (arith, lt, long)))
+
+pub right_stands : (p : Option Pair) (hulls : List Hull) (m q : ℕ) (h d : Hull) → q < m → length hulls ≡ m → h ≡ get_or hulls q d →
+    OfReverse p (λ b. (length b.states ≡ m) × HullsStand b hulls) → IfSome (option_map (λ p. p.reverse) p) (λ b. HullStands b (record { state = q; regs = spans_of h }))
+right_stands None hulls m q h d lt long is k = tt
+right_stands (Some p) hulls m q h d lt long is k = let e = k.0 in block_stands p.reverse hulls q h d (omega (arith, lt, long)) (omega (arith, long, e)) is k.1
+
+pub split_some : (p : Option Pair) (P : Body → Type 0) → OfReverse p P → IsSome p
+split_some None P h = absurd h
+split_some (Some p) P h = refl
+
+glued_is : (p : Option Pair) (left right : Standing Span) (x : ℤ) (n : ℕ) (s : Span) → IsSome p → IfSome p (λ p. s ≡ glued_span p left right x n) →
+    s ≡ glued_by p left right x n
+glued_is None left right x n s k h = cc
+glued_is (Some p) left right x n s k h = h
+
+pub with_more : (p : Option Pair) (left : Standing Span) (right : List Hull) (x x' : ℤ) (n q : ℕ) (h d : Hull) (before span one : Span) → IsSome p → x' ≡ x → q < length right →
+    h ≡ get_or right q d → IfSome p (λ p. one ≡ glued_span p left (record { state = q; regs = spans_of h }) x' n) →
+    span ≡ fold span_hull before (glued_with p left right x n q) → span_hull span one ≡ fold span_hull before (glued_with p left right x n (q + 1))
+unfolding glued_with
+with_more p left right x x' n q h d before span one k is_x lt is_h is_one inv =
+    let f : ℕ → Span = λ r. glued_by p left (standing_of right r) x n in
+    let here : h ≡ get_or right q none = is_h ∙ get_or_default right q d none lt in
+    let o : one ≡ f q =
+    glued_is p left (record { state = q; regs = spans_of h }) x' n one k is_one ∙ ap (λ y. glued_by p left (record { state = q; regs = spans_of h }) y n) is_x
+    ∙ ap (λ z. glued_by p left (record { state = q; regs = spans_of z }) x n) here in
+    ap (λ s. span_hull s one) inv ∙ ap (span_hull (fold span_hull before (map f (range_with_len 0 q)))) o
+    ∙ sym (ap (fold span_hull before) (ap (map f) (range_more q q refl) ∙ map_push f (range_with_len 0 q) q) ∙ fold-append span_hull before (map f (range_with_len 0 q)) (f q ∷ []))
+
+pub all_more : (p : Option Pair) (left right : List Hull) (x x' : ℤ) (n m q : ℕ) (h d : Hull) (span span' : Span) → x' ≡ x → q < length left → h ≡ get_or left q d →
+    span' ≡ fold span_hull span (glued_with p (record { state = q; regs = spans_of h }) right x' n m) → span ≡ span_of_all (glued_all p left right x n m q) →
+    span' ≡ span_of_all (glued_all p left right x n m (q + 1))
+unfolding glued_all
+all_more p left right x x' n m q h d span span' is_x lt is_h step inv =
+    let f : ℕ → List Span = λ q. glued_with p (standing_of left q) right x n m in
+    let here : h ≡ get_or left q none = is_h ∙ get_or_default left q d none lt in
+    step ∙ ap (λ y. fold span_hull span (glued_with p (record { state = q; regs = spans_of h }) right y n m)) is_x
+    ∙ ap (λ z. fold span_hull span (glued_with p (record { state = q; regs = spans_of z }) right x n m)) here
+    ∙ ap (λ s. fold span_hull s (f q)) inv
+    ∙ sym (ap span_of_all (ap (flat_map f) (range_more q q refl) ∙ flat_push f (range_with_len 0 q) q) ∙ fold-append span_hull none_span (flat_map f (range_with_len 0 q)) (f q))
+
+-- the loops over the values of a cell: what is left of a row
+
+pub block_fits : (n m : ℕ) (f : ℤ → List Hull) → ((v : ℤ) → length (f v) ≡ n) → (left left' : List ℤ) (v : ℤ) (row : List Hull) → m ≡ n → left ≡ v ∷ left' →
+    row ≡ flat_map f left → m ≤ length row
+block_fits n m f size left left' v row is_m is inv =
+    let e = ap length (inv ∙ ap (flat_map f) is) in let a = length-append (f v) (flat_map f left') in let s = size v in omega (arith, is_m, e, a, s)
+
+pub block_is : (n m : ℕ) (f : ℤ → List Hull) → ((v : ℤ) → length (f v) ≡ n) → (left left' : List ℤ) (v : ℤ) (row hs : List Hull) → m ≡ n → left ≡ v ∷ left' →
+    row ≡ flat_map f left → hs ≡ take m row → hs ≡ f v
+block_is n m f size left left' v row hs is_m is inv is_hs =
+    let s = size v in let w : m ≡ length (f v) = omega (arith, is_m, s) in
+    is_hs ∙ ap (λ k. take k row) w ∙ ap (take (length (f v))) (inv ∙ ap (flat_map f) is) ∙ take-append_seam (f v) (flat_map f left')
+
+pub block_rest : (n m : ℕ) (f : ℤ → List Hull) → ((v : ℤ) → length (f v) ≡ n) → (left left' : List ℤ) (v : ℤ) (row rest : List Hull) → m ≡ n → left ≡ v ∷ left' →
+    row ≡ flat_map f left → rest ≡ drop m row → rest ≡ flat_map f left'
+block_rest n m f size left left' v row rest is_m is inv is_rest =
+    let s = size v in let w : m ≡ length (f v) = omega (arith, is_m, s) in
+    is_rest ∙ ap (drop m) (inv ∙ ap (flat_map f) is) ∙ ap (λ k. drop k (f v ++ flat_map f left')) w ∙ drop-append_seam (f v) (flat_map f left')
+
+pub length-hulls_at : (b : Body) (before : List (List ℤ)) (v : ℤ) → length (hulls_at b before v) ≡ length b.states
+unfolding hulls_at
+length-hulls_at b before v = length-map-range_with_len (hull_at b before v) 0 (length b.states)
+
+pub hulls_stand : (b : Body) → IsTrue (is_automaton b) → (before : List (List ℤ)) (v : ℤ) (hs : List Hull) → hs ≡ hulls_at b before v → HullsStand b hs
+unfolding hulls_at
+hulls_stand b rules before v hs is q lt =
+    subst (λ h. HullStands b (record { state = q; regs = spans_of h }))
+    (sym (ap (λ l. get_or l q none) is ∙ get_or-map-range_with_len (hull_at b before v) 0 (length b.states) q q none lt (omega arith)))
+    (kept_stands b q (hull_at b before v q) lt (hull_kept b rules before v q))
+
+-- the row of a cell, in the table
+
+pub forward_row : (b : Body) (before cells : List (List ℤ)) (i : ℕ) → i < length cells →
+    get_or (rows_behind b before cells) i [] ≡ row_of b (reverse (take i cells) ++ before) (get_or cells i [])
+unfolding rows_behind
+forward_row b before [] i h = absurd (omega (arith, h))
+forward_row b before (c ∷ cells) zero h = refl
+forward_row b before (c ∷ cells) (suc i) h =
+    forward_row b (c ∷ before) cells i (omega (arith, h))
+    ∙ ap (λ z. row_of b z (get_or cells i [])) (sym (append_assoc (reverse (take i cells)) (c ∷ []) before) ∙ ap (λ z. z ++ before) (sym (reverse-append (c ∷ []) (take i cells))))
+
+pub backward_row : (b : Body) (cells : List (List ℤ)) (i : ℕ) → i < length cells → get_or (backward_rows b cells) i [] ≡ row_of b (drop (suc i) cells) (get_or cells i [])
+unfolding backward_rows
+backward_row b [] i h = absurd (omega (arith, h))
+backward_row b (c ∷ cells) zero h = refl
+backward_row b (c ∷ cells) (suc i) h = backward_row b cells i (omega (arith, h))
+
+pub ahead_begun : (b : Body) (cells : List (List ℤ)) (k : ℕ) (t : List (List Hull)) (row : List Hull) (left : List ℤ) → 1 ≤ k → k ≤ length cells → t ≡ forward_rows b cells →
+    row ≡ get_or t (k - 1) [] → left ≡ get_or cells (k - 1) [] → row ≡ flat_map (hulls_at b (cells_before k cells)) left
+unfolding row_of
+ahead_begun b cells k t row left some to is_t is_row is_left =
+    is_row ∙ ap (λ t. get_or t (k - 1) []) is_t ∙ forward_row b [] cells (k - 1) (omega (arith, some, to))
+    ∙ ap (λ z. row_of b z (get_or cells (k - 1) [])) (append-nil (reverse (take (k - 1) cells)))
+    ∙ ap (flat_map (hulls_at b (cells_before k cells))) (sym is_left)
+
+pub back_begun : (p : Option Pair) (cells : List (List ℤ)) (k : ℕ) (t : List (List Hull)) (row : List Hull) (left : List ℤ) → 1 ≤ k → k ≤ length cells → AreBackRows p cells t →
+    row ≡ get_or t (k - 1) [] → left ≡ get_or cells (k - 1) [] → row ≡ flat_map (back_hulls p (cells_after k cells)) left
+unfolding row_of
+back_begun None cells k t row left some to is_t is_row is_left = absurd is_t
+back_begun (Some p) cells k t row left some to is_t is_row is_left =
+    let back : suc (k - 1) ≡ k = omega (arith, some) in
+    is_row ∙ ap (λ t. get_or t (k - 1) []) is_t ∙ backward_row p.reverse cells (k - 1) (omega (arith, some, to))
+    ∙ ap (λ j. row_of p.reverse (drop j cells) (get_or cells (k - 1) [])) back
+    ∙ ap (flat_map (hulls_at p.reverse (cells_after k cells))) (sym is_left)
+
+pub row_there : (b : Body) (cells : List (List ℤ)) (k : ℕ) (t : List (List Hull)) → (1 ≤ k) × (k ≤ length cells) → t ≡ forward_rows b cells → IsRow k t
+row_there b cells k t h is =
+    let l = ap length is ∙ length-forward b [] cells in let first = h.0 in let last = h.1 in (first, omega (arith, l, last))
+
+pub back_row_there : (o : Option Pair) (cells : List (List ℤ)) (k : ℕ) (t : List (List Hull)) → (1 ≤ k) × (k ≤ length cells) → AreBackRows o cells t → IsRow k t
+back_row_there None cells k t h is = absurd is
+back_row_there (Some p) cells k t h is =
+    let l = ap length is ∙ length-backward p.reverse cells in let first = h.0 in let last = h.1 in (first, omega (arith, l, last))

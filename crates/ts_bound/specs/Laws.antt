@@ -1,0 +1,45 @@
+-- What the layers above know of spans; nothing here speaks of hulls.
+use Rattle.std.specs.Prelude.{◌≡◌, ◌≤◌, ℕ, ◌-◌, ℤ, IsTrue, IfSome, Contains, List, [], ◌∷◌, length, set}
+use Rattle.ts_base.specs.Limits.{most_cells}
+use Rattle.ts_base.specs.SpanLayer.{IsWithin}
+use Rattle.ts_base.specs.Spans.{Holds}
+use Rattle.ts_automaton.specs.Body.{Body}
+use Rattle.ts_automaton.specs.Typing.{is_automaton}
+use Rattle.ts_automaton.specs.AutomatonRun.{answer, Marked}
+use Rattle.ts_domain.specs.BoxSeries.{InBox, IsBox}
+use Rattle.ts_glue.specs.Pairs.{Pair}
+use Rattle.ts_glue.specs.Glued.{Local}
+use Rattle.ts_glue.specs.Rules.{keeps_rules}
+use Rattle.ts_bound.specs.HullTables.{values_at}
+use Rattle.ts_bound.specs.TermSpans.{Automata, IsUsable, term_span, value_span}
+
+-- a pair that splits the automaton at each cell
+pub record Splits (b : Body) (p : Pair) : Type 0 where
+  pub forward : p.forward ≡ b
+  pub reverse : IsTrue (is_automaton p.reverse)
+  pub rules : IsTrue (keeps_rules p)
+  pub local : Local p
+
+-- what the type of a machine keeps
+pub record AreAutomata (m : Automata) : Type 0 where
+  pub forward : IsTrue (is_automaton m.forward)
+  pub pair : IfSome m.pair (Splits m.forward)
+
+-- the span of a box at any cell that may be used holds the answer on each series of the box
+abbrev pub SpansHold : Type 0
+SpansHold =
+    (m : Automata) → AreAutomata m → Marked m.forward →
+    (cells : List (List ℤ)) → length cells ≤ most_cells → IsBox cells → (k : ℕ) → IsUsable m k cells →
+    (xs : List ℤ) → InBox xs cells → Holds (term_span m k cells) (answer m.forward xs)
+
+-- the span of the box with one value alone at a cell is read off the whole box there
+abbrev pub ValueSpansAreNarrowed : Type 0
+ValueSpansAreNarrowed =
+    (m : Automata) (cells : List (List ℤ)) (k : ℕ) → 1 ≤ k → k ≤ length cells → (v : ℤ) →
+    term_span m k (set cells (k - 1) (v ∷ [])) ≡ value_span m k cells v
+
+-- it lies in the span of the whole box
+abbrev pub ValueSpansAreWithin : Type 0
+ValueSpansAreWithin =
+    (m : Automata) (cells : List (List ℤ)) (k : ℕ) (v : ℤ) → Contains (values_at k cells) v →
+    IsWithin (value_span m k cells v) (term_span m k cells)

@@ -1,0 +1,34 @@
+//! Laws of spans, for the layers above. Each is a statement of `specs/Laws` that the checker has proved.
+
+ghost use Rattle.ts_bound.specs.Laws.{AreAutomata, SpansHold, ValueSpansAreNarrowed, ValueSpansAreWithin};
+ghost use Rattle.ts_bound.specs.TermSpans.{automata_of};
+
+use ts_glue::Machine;
+
+/// The span of a box at any cell that may be used holds the answer on each series of the box.
+pub fn spans_hold()
+    ensures { SpansHold }
+{}
+
+/// The span of the box with one value alone at a cell is read off the whole box there.
+pub fn value_spans_are_narrowed()
+    ensures { ValueSpansAreNarrowed }
+{}
+
+/// It lies in the span of the whole box.
+pub fn value_spans_are_within()
+    ensures { ValueSpansAreWithin }
+{}
+
+/// What the type of a machine keeps, as the laws ask it.
+pub fn machine_is_whole(m: &Machine)
+    ensures { AreAutomata (automata_of m.now) }
+{
+    m.forward().states();
+    match m.reverse() {
+        Some(reverse) => {
+            reverse.states();
+        }
+        None => {}
+    }
+}
