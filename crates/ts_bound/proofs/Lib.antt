@@ -8,3 +8,4 @@ mod Follows
 pub mod Reached
 pub mod SpanRuns
 pub mod SpanEnds
+pub mod Singles

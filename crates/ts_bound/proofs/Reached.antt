@@ -194,7 +194,7 @@ box_at zero (x ∷ xs) (c ∷ cs) l h = h.0
 box_at (suc i) (x ∷ xs) (c ∷ cs) l h = box_at i xs cs (omega (arith, l)) h.1
 
 -- the run from the first cell to that after `before`, as a run by the nearest first
-turned : (before : List ℤ) (x : ℤ) → reverse (x ∷ reverse before) ≡ before ++ x ∷ []
+pub turned : (before : List ℤ) (x : ℤ) → reverse (x ∷ reverse before) ≡ before ++ x ∷ []
 turned before x = reverse-append (x ∷ []) (reverse before) ∙ ap (λ z. z ++ x ∷ []) (twice before)
   where
     twice : (ys : List ℤ) → reverse (reverse ys) ≡ ys

@@ -1,11 +1,11 @@
 -- What the layers above know of spans; nothing here speaks of hulls.
-use Rattle.std.specs.Prelude.{◌≡◌, ◌≤◌, ℕ, ◌-◌, ℤ, IsTrue, IfSome, Contains, List, [], ◌∷◌, length, set}
+use Rattle.std.specs.Prelude.{◌≡◌, ◌≤◌, ℕ, ◌-◌, ℤ, IsTrue, IfSome, Contains, List, [], ◌∷◌, length, map, set}
 use Rattle.ts_base.specs.Limits.{most_cells}
 use Rattle.ts_base.specs.SpanLayer.{IsWithin}
-use Rattle.ts_base.specs.Spans.{Holds}
+use Rattle.ts_base.specs.Spans.{one_span, Holds}
 use Rattle.ts_automaton.specs.Body.{Body}
 use Rattle.ts_automaton.specs.Typing.{is_automaton}
-use Rattle.ts_automaton.specs.AutomatonRun.{answer, Marked}
+use Rattle.ts_automaton.specs.AutomatonRun.{answer, AreCellValues, Marked}
 use Rattle.ts_domain.specs.BoxSeries.{InBox, IsBox}
 use Rattle.ts_glue.specs.Pairs.{Pair}
 use Rattle.ts_glue.specs.Glued.{Local}
@@ -43,3 +43,9 @@ abbrev pub ValueSpansAreWithin : Type 0
 ValueSpansAreWithin =
     (m : Automata) (cells : List (List ℤ)) (k : ℕ) (v : ℤ) → Contains (values_at k cells) v →
     IsWithin (value_span m k cells v) (term_span m k cells)
+
+-- on a box of one series the span at the last cell is exactly the answer
+abbrev pub SpansStaySingle : Type 0
+SpansStaySingle =
+    (m : Automata) → AreAutomata m → (xs : List ℤ) → 1 ≤ length xs → length xs ≤ most_cells → AreCellValues xs →
+    term_span m (length xs) (map (λ x. x ∷ []) xs) ≡ one_span (answer m.forward xs)

@@ -1,6 +1,6 @@
 //! Laws of spans, for the layers above. Each is a statement of `specs/Laws` that the checker has proved.
 
-ghost use Rattle.ts_bound.specs.Laws.{AreAutomata, SpansHold, ValueSpansAreNarrowed, ValueSpansAreWithin};
+ghost use Rattle.ts_bound.specs.Laws.{AreAutomata, SpansHold, SpansStaySingle, ValueSpansAreNarrowed, ValueSpansAreWithin};
 ghost use Rattle.ts_bound.specs.TermSpans.{automata_of};
 
 use ts_glue::Machine;
@@ -8,6 +8,11 @@ use ts_glue::Machine;
 /// The span of a box at any cell that may be used holds the answer on each series of the box.
 pub fn spans_hold()
     ensures { SpansHold }
+{}
+
+/// On a box of one series the span at the last cell is exactly the answer.
+pub fn spans_stay_single()
+    ensures { SpansStaySingle }
 {}
 
 /// The span of the box with one value alone at a cell is read off the whole box there.
