@@ -7,5 +7,6 @@ pub mod Promise
 pub mod Series
 pub mod Compares
 pub mod Meets
+pub mod FirstBest
 pub mod Judgement
 pub mod Views
