@@ -1,0 +1,43 @@
+-- The best series that a tree tells.
+use Rattle.std.specs.Prelude.{Bool, true, cond, ◌&&◌, List, [], ◌∷◌, ◌++◌, Option, Some, None}
+use Rattle.ts_base.specs.declared.ext.Ext.{Ext}
+use Rattle.ts_certificate.specs.declared.certificate.TreeLine.{TreeLine}
+use Rattle.ts_certificate.specs.declared.certificate.TreeLine.TheVariants.{Split, Remove, No, Worse, Yes, Unsearched}
+use Rattle.ts_model.specs.Judgement.{is_met}
+use Rattle.ts_filter.specs.Boxes.{Box}
+use Rattle.ts_filter.specs.Excluded.{is_better}
+use Rattle.ts_filter.specs.Steps.{made_by}
+use Rattle.ts_search.specs.Dive.{Find, value_of, find}
+use Rattle.ts_search.specs.Forms.{Form, Alone, Wide, form}
+use Rattle.ts_search.specs.LineOf.{Search}
+
+abbrev pub beats : Search → Option Find → Ext → Bool
+beats c None v = true
+beats c (Some f) v = is_better c.goal v f.value
+
+-- after one more line: the series of a box of one series that has a `worse` line, where it meets and is better
+abbrev pub tally_after : Search → Option Find → Form → TreeLine → Option Find
+tally_after c best form (Split k t) = best
+tally_after c best form (Remove k v j) = best
+tally_after c best form (No j p) = best
+tally_after c best (Alone x) (Worse p) =
+    cond (is_met c.model x && beats c best (value_of c.model x)) (Some (find c.model x)) best
+tally_after c best (Wide k t) (Worse p) = best
+tally_after c best form Yes = best
+tally_after c best form Unsearched = best
+
+-- the first of the best series so far, after lines for the boxes that wait
+abbrev pub tally : Search → Option Find → List Box → List TreeLine → Option Find
+tally c best waiting [] = best
+tally c best [] (l ∷ ls) = best
+tally c best (b ∷ waiting) (l ∷ ls) = tally c (tally_after c best (form b) l) (made_by l b ++ waiting) ls
+
+-- the told one, or the warm one where none is told or the warm one is better
+abbrev pub told_or_warm : Search → Option Find → Option Find → Option Find
+told_or_warm c None warm = warm
+told_or_warm c (Some f) None = Some f
+told_or_warm c (Some f) (Some w) = cond (is_better c.goal w.value f.value) (Some w) (Some f)
+
+-- the series that a tree for the model's box finds
+abbrev pub found_in : Search → List TreeLine → Option Find
+found_in c ls = told_or_warm c (tally c None (c.model.cells ∷ []) ls) c.warm

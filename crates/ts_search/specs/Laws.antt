@@ -1,0 +1,92 @@
+-- What is promised of the search.
+use Rattle.std.specs.Prelude.{◌≡◌, ℕ, ◌+◌, ◌*◌, ◌≤◌, ℤ, List, IsSome, Some, None}
+use Rattle.ts_base.specs.declared.goal.Goal.{Goal}
+use Rattle.ts_certificate.specs.declared.certificate.Aim.TheVariants.{Best as BestOf, List as ListOf}
+use Rattle.ts_certificate.specs.declared.certificate.Claim.{Claim}
+use Rattle.ts_certificate.specs.declared.certificate.Claim.TheVariants.{Best, Infeasible, BudgetBest, BudgetNone}
+use Rattle.ts_certificate.specs.declared.certificate.Claim.TheVariants.{Full, All, BudgetList}
+use Rattle.ts_certificate.specs.Certificate.{Cert}
+use Rattle.ts_domain.specs.BoxSeries.{series_count}
+use Rattle.ts_model.specs.Meets.{Meets}
+use Rattle.ts_model.specs.Stated.{Stated}
+use Rattle.ts_filter.specs.Accepts.{objective_of}
+use Rattle.ts_filter.specs.Boxes.{Box, IsPart}
+use Rattle.ts_filter.specs.RefutedWorseDrop.{Spans, IsDrop}
+use Rattle.ts_search.specs.Asked.{AreRight}
+use Rattle.ts_search.specs.Dive.{Find, dive_box, dive}
+use Rattle.ts_search.specs.Drops.{Removal, next_drop, dropped}
+use Rattle.ts_search.specs.Forms.{Alone, form}
+use Rattle.ts_search.specs.LineOf.{search_for}
+use Rattle.ts_search.specs.Listed.{Listed}
+use Rattle.ts_search.specs.Solved.{Solved}
+use Rattle.ts_search.specs.Turns.{start, turns, solve_certificate, list_start, list_turns, list_certificate}
+
+-- the certificate of so many turns is solved
+abbrev pub SearchSolves : Type 0
+SearchSolves =
+    (m : Stated) (s : Spans) (goal : Goal) (n : ℕ) → AreRight m s → IsSome m.objective →
+    Solved m s goal n (solve_certificate (search_for m s (BestOf goal))
+    (turns (search_for m s (BestOf goal)) (BestOf goal) n (start (search_for m s (BestOf goal)))))
+
+-- and that of a listing is listed
+abbrev pub SearchLists : Type 0
+SearchLists =
+    (m : Stated) (s : Spans) (count n : ℕ) → AreRight m s →
+    Listed m s count n (list_certificate count
+    (list_turns (search_for m s (ListOf count)) count n (list_start (search_for m s (ListOf count)))))
+
+-- there is one such certificate
+abbrev pub OneSolved : Type 0
+OneSolved =
+    (m : Stated) (s : Spans) (goal : Goal) (n : ℕ) (c d : Cert) → AreRight m s → IsSome m.objective →
+    Solved m s goal n c → Solved m s goal n d → c ≡ d
+
+abbrev pub OneListed : Type 0
+OneListed =
+    (m : Stated) (s : Spans) (count n : ℕ) (c d : Cert) → AreRight m s →
+    Listed m s count n c → Listed m s count n d → c ≡ d
+
+abbrev pub IsBudget : Claim → Type 0
+IsBudget (Best v) = ⊥
+IsBudget Infeasible = ⊥
+IsBudget (BudgetBest v) = Unit {0}
+IsBudget BudgetNone = Unit {0}
+IsBudget (Full count) = ⊥
+IsBudget (All count) = ⊥
+IsBudget (BudgetList count) = Unit {0}
+
+-- of a model with S series, a budget of 2·S - 1 lines is enough
+abbrev pub BudgetIsEnough : Type 0
+BudgetIsEnough =
+    (m : Stated) (s : Spans) (goal : Goal) (n : ℕ) (c : Cert) → AreRight m s → 2 * series_count m.cells ≤ n + 1 →
+    Solved m s goal n c → IsBudget c.claim → ⊥
+
+abbrev pub ListBudgetIsEnough : Type 0
+ListBudgetIsEnough =
+    (m : Stated) (s : Spans) (count n : ℕ) (c : Cert) → AreRight m s → 2 * series_count m.cells ≤ n + 1 →
+    Listed m s count n c → IsBudget c.claim → ⊥
+
+-- Drops and the dive.
+
+-- the next drop is one that may be made, and there is one where one may be made
+pub record IsNextDrop (m : Stated) (s : Spans) (b : Box) : Type 0 where
+  pub some : (r : Removal) → next_drop m s b ≡ Some r → IsDrop m s r.cell r.value r.requirement b
+  pub none : next_drop m s b ≡ None → (k : ℕ) (v : ℤ) (j : ℕ) → IsDrop m s k v j b → ⊥
+
+abbrev pub NextDropFits : Type 0
+NextDropFits = (m : Stated) (s : Spans) (b : Box) → IsNextDrop m s b
+
+-- after the drops none is possible
+abbrev pub DropsEnd : Type 0
+DropsEnd = (m : Stated) (s : Spans) (b : Box) → IsPart b m.cells → next_drop m s (dropped m s b) ≡ None
+
+-- the dive ends at one series
+abbrev pub DiveEnds : Type 0
+DiveEnds =
+    (m : Stated) (s : Spans) (goal : Goal) → AreRight m s → (x : List ℤ) × (form (dive_box m s goal) ≡ Alone x)
+
+-- where it has a series, that one meets and has its value
+abbrev pub DiveMeets : Type 0
+DiveMeets =
+    (m : Stated) (s : Spans) (goal : Goal) (f : Find) → AreRight m s → IsSome m.objective → dive m s goal ≡ Some f →
+    Meets m f.series × (objective_of m f.series ≡ Some f.value)

@@ -1,0 +1,11 @@
+pub mod Asked
+pub mod Dive
+pub mod Drops
+pub mod Forms
+pub mod Found
+pub mod Laws
+pub mod Lean
+pub mod LineOf
+pub mod Listed
+pub mod Solved
+pub mod Turns
