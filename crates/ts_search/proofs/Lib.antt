@@ -1,0 +1,16 @@
+pub mod Choice
+pub mod Closing
+pub mod DiveLaws
+pub mod DropLaws
+pub mod Good
+pub mod Known
+pub mod ListGood
+pub mod ListLean
+pub mod ListSolves
+pub mod ListUnique
+pub mod Parts
+pub mod Reason
+pub mod Right
+pub mod Solves
+pub mod Unique
+pub mod Walk

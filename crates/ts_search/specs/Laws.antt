@@ -1,5 +1,5 @@
 -- What is promised of the search.
-use Rattle.std.specs.Prelude.{◌≡◌, ℕ, ◌+◌, ◌*◌, ◌≤◌, ℤ, List, IsSome, Some, None}
+use Rattle.std.specs.Prelude.{◌≡◌, ℕ, ◌+◌, ◌*◌, ◌≤◌, ℤ, List, length, IsSome, Some, None}
 use Rattle.ts_base.specs.declared.goal.Goal.{Goal}
 use Rattle.ts_certificate.specs.declared.certificate.Aim.TheVariants.{Best as BestOf, List as ListOf}
 use Rattle.ts_certificate.specs.declared.certificate.Claim.{Claim}
@@ -11,9 +11,9 @@ use Rattle.ts_model.specs.Meets.{Meets}
 use Rattle.ts_model.specs.Stated.{Stated}
 use Rattle.ts_filter.specs.Accepts.{objective_of}
 use Rattle.ts_filter.specs.Boxes.{Box, IsPart}
-use Rattle.ts_filter.specs.RefutedWorseDrop.{Spans, IsDrop}
+use Rattle.ts_filter.specs.RefutedWorseDrop.{Spans, IsRefuted, IsDrop}
 use Rattle.ts_search.specs.Asked.{AreRight}
-use Rattle.ts_search.specs.Dive.{Find, dive_box, dive}
+use Rattle.ts_search.specs.Dive.{Find, keep_from, dive_box, dive_end, dive}
 use Rattle.ts_search.specs.Drops.{Removal, next_drop, dropped}
 use Rattle.ts_search.specs.Forms.{Alone, form}
 use Rattle.ts_search.specs.LineOf.{search_for}
@@ -90,3 +90,9 @@ abbrev pub DiveMeets : Type 0
 DiveMeets =
     (m : Stated) (s : Spans) (goal : Goal) (f : Find) → AreRight m s → IsSome m.objective → dive m s goal ≡ Some f →
     Meets m f.series × (objective_of m f.series ≡ Some f.value)
+
+-- where a requirement is refuted on a box of the dive, cells k and n - 1 more being open, the dive has no series
+abbrev pub DiveEndsEarly : Type 0
+DiveEndsEarly =
+    (m : Stated) (s : Spans) (goal : Goal) (n k : ℕ) (b : Box) (j p : ℕ) → AreRight m s → IsPart b m.cells → 1 ≤ k →
+    k + n ≤ length m.cells + 1 → IsRefuted m s j p b → dive_end m (form (keep_from m s goal n k b)) ≡ None

@@ -1,0 +1,114 @@
+-- What is known of a search, from what is asked of its spans.
+use Rattle.std.proofs.Common.{◌≡◌, ◌⊎◌, ℕ, zero, suc, ◌+◌, ◌-◌, ◌<◌, ◌≤◌, ℤ, Bool, true, false, not, List, [], ◌∷◌, length, get_or, Option, Some, None, MatchOption, slice_get, unwrap_or, refl, sym, ◌∙◌, ap, subst, inl, inr, ⊎_elim, arith}
+use Rattle.std.proofs.lemmas.Bool.{not-true, not-false}
+use Rattle.std.specs.List.{AllByRecursion}
+use Rattle.ts_base.specs.declared.ext.Ext.{Ext}
+use Rattle.ts_base.specs.declared.goal.Goal.{Goal}
+use Rattle.ts_base.specs.declared.goal.Goal.TheVariants.{Maximise, Minimise}
+use Rattle.ts_base.specs.Numbers.{ext_le}
+use Rattle.ts_base.proofs.Order.{le_refl, le_trans, le_antisym, le_other}
+use Rattle.ts_domain.specs.BoxSeries.{InBox, IsBox}
+use Rattle.ts_model.specs.declared.model.Require.{Require}
+use Rattle.ts_model.specs.Meets.{IsMet, Meets}
+use Rattle.ts_model.specs.Stated.{Stated}
+use Rattle.ts_filter.specs.declared.bar.Bar.{Bar}
+use Rattle.ts_filter.specs.Accepts.{objective_of}
+use Rattle.ts_filter.specs.Boxes.{Box, IsPart, box_of}
+use Rattle.ts_filter.specs.Excluded.{is_better, counts}
+use Rattle.ts_filter.specs.Laws.{IsSound, IsExact}
+use Rattle.ts_filter.specs.RefutedWorseDrop.{Spans, IsRefuted, IsCut}
+use Rattle.ts_filter.proofs.BoxParts.{inside_length, in_box_inside}
+use Rattle.ts_filter.proofs.SoundLaws.{higher_bar}
+use Rattle.ts_filter.proofs.TestLaws.{tests_tell}
+use Rattle.ts_search.specs.Dive.{Find, value_of}
+use Rattle.ts_search.specs.Forms.{Alone, form}
+use Rattle.ts_search.specs.LineOf.{Search, last, requirements, refuted, cut}
+use Rattle.ts_search.proofs.Parts.{alone_is, alone_within}
+
+-- what is better under a goal
+
+pub clash : (t : Bool) → t ≡ true → t ≡ false → ⊥
+clash t p q = cc
+
+le_clash : (a b c : Ext) → ext_le a b ≡ true → ext_le b c ≡ true → ext_le a c ≡ false → ⊥
+le_clash a b c p q n = clash (ext_le a c) (le_trans a b c p q) n
+
+not_le : (a b : Ext) → not (ext_le a b) ≡ true → ext_le a b ≡ false
+not_le a b e = not-true (ext_le a b) e
+
+to_not : (t : Bool) → t ≡ false → not t ≡ true
+to_not t e = ap not e
+
+pub never_itself : (g : Goal) (u : Ext) → is_better g u u ≡ true → ⊥
+never_itself Maximise u e = clash (ext_le u u) (le_refl u) (not_le u u e)
+never_itself Minimise u e = clash (ext_le u u) (le_refl u) (not_le u u e)
+
+either : (t : Bool) → (t ≡ true) ⊎ (t ≡ false)
+either true = inl refl
+either false = inr refl
+
+pub chain : (g : Goal) (u v w : Ext) → is_better g u v ≡ true → is_better g v w ≡ true → is_better g u w ≡ true
+chain Maximise u v w p q =
+    to_not (ext_le u w) (⊎_elim (λ t. absurd (le_clash u w v t (le_other v w (not_le v w q)) (not_le u v p))) (λ f. f) (either (ext_le u w)))
+chain Minimise u v w p q =
+    to_not (ext_le w u) (⊎_elim (λ t. absurd (le_clash v w u (le_other w v (not_le w v q)) t (not_le v u p))) (λ f. f) (either (ext_le w u)))
+
+pub apart : (g : Goal) (u v w : Ext) → is_better g u w ≡ true → (is_better g u v ≡ true) ⊎ (is_better g v w ≡ true)
+apart Maximise u v w p =
+    ⊎_elim (λ t. inr (⊎_elim (λ s. absurd (le_clash u v w t s (not_le u w p))) (λ f. to_not (ext_le v w) f) (either (ext_le v w))))
+    (λ f. inl (to_not (ext_le u v) f)) (either (ext_le u v))
+apart Minimise u v w p =
+    ⊎_elim (λ t. inr (⊎_elim (λ s. absurd (le_clash w v u s t (not_le w u p))) (λ f. to_not (ext_le w v) f) (either (ext_le w v))))
+    (λ f. inl (to_not (ext_le v u) f)) (either (ext_le v u))
+
+pub neither_better : (g : Goal) (u v : Ext) → is_better g u v ≡ false → is_better g v u ≡ false → u ≡ v
+neither_better Maximise u v p q = le_antisym u v (not-false (ext_le u v) p) (not-false (ext_le v u) q)
+neither_better Minimise u v p q = le_antisym u v (not-false (ext_le u v) q) (not-false (ext_le v u) p)
+
+-- what is known
+
+pub record Known (c : Search) : Type 0 where
+  pub box : IsBox c.model.cells
+  pub sound : IsSound c.model c.spans
+  pub single : (b : Box) (x : List ℤ) → IsPart b c.model.cells → form b ≡ Alone x →
+      ((j : ℕ) → 1 ≤ j → j ≤ requirements c → refuted c j (last c) b ≡ false) → Meets c.model x
+
+pub record KnownBest (c : Search) : Type 0 where
+  pub known : Known c
+  pub valued : (x : List ℤ) → InBox x c.model.cells → objective_of c.model x ≡ Some (value_of c.model x)
+  pub cut_single : (b : Box) (bar : Bar) (x : List ℤ) → IsPart b c.model.cells → form b ≡ Alone x → cut c (last c) b bar ≡ false →
+      counts c.goal bar (value_of c.model x) ≡ true
+  pub warm : MatchOption c.warm (Unit {0}) (λ w. Meets c.model w.series × (w.value ≡ value_of c.model w.series))
+
+module _ (c : Search) where
+  pub to_refuted : (j p : ℕ) (b : Box) → refuted c j p b ≡ true → IsRefuted c.model c.spans j p b
+  to_refuted j p b h = ((tests_tell c.model c.spans).refuted j p b).0 h
+
+  pub from_refuted : (j p : ℕ) (b : Box) → IsRefuted c.model c.spans j p b → refuted c j p b ≡ true
+  from_refuted j p b h = ((tests_tell c.model c.spans).refuted j p b).1 h
+
+  pub to_cut : (p : ℕ) (b : Box) (bar : Bar) → cut c p b bar ≡ true → IsCut c.model c.spans c.goal p b bar
+  to_cut p b bar h = ((tests_tell c.model c.spans).cut c.goal p b bar).0 h
+
+  pub from_cut : (p : ℕ) (b : Box) (bar : Bar) → IsCut c.model c.spans c.goal p b bar → cut c p b bar ≡ true
+  from_cut p b bar h = ((tests_tell c.model c.spans).cut c.goal p b bar).1 h
+
+  -- where fewer values count, more is cut
+  pub more_cut : (p : ℕ) (b : Box) (lower higher : Bar) → ((v : Ext) → counts c.goal higher v ≡ true → counts c.goal lower v ≡ true) →
+      IsCut c.model c.spans c.goal p b lower → IsCut c.model c.spans c.goal p b higher
+  more_cut p b lower higher f k = higher_bar c.model c.spans c.goal p b lower higher f k
+
+  pub cut_more : (p : ℕ) (b : Box) (lower higher : Bar) → ((v : Ext) → counts c.goal higher v ≡ true → counts c.goal lower v ≡ true) →
+      cut c p b lower ≡ true → cut c p b higher ≡ true
+  cut_more p b lower higher f k = from_cut p b higher (more_cut p b lower higher f (to_cut p b lower k))
+
+  pub no_series : Known c → (j p : ℕ) (b : Box) (y : List ℤ) → IsPart b c.model.cells → InBox y b → Meets c.model y → IsRefuted c.model c.spans j p b → ⊥
+  no_series k j p b y i a m r = k.sound.refuted j p b y i r a m
+
+  pub cut_counts : KnownBest c → (p : ℕ) (b : Box) (bar : Bar) (y : List ℤ) → IsPart b c.model.cells → InBox y b → cut c p b bar ≡ true →
+      counts c.goal bar (value_of c.model y) ≡ false
+  cut_counts k p b bar y i a h =
+      k.known.sound.cut c.goal p b bar y (value_of c.model y) i (to_cut p b bar h) a (k.valued y (in_box_inside b c.model.cells y i.inside a))
+
+  pub part_length : (b : Box) → IsPart b c.model.cells → length b ≡ last c
+  part_length b i = inside_length b c.model.cells i.inside

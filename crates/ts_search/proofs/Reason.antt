@@ -1,0 +1,304 @@
+-- A lean line is the line of its box, and the line of a box is lean.
+use Rattle.std.proofs.Common.{◌≡◌, ◌⊎◌, ℕ, zero, suc, ◌+◌, ◌-◌, ◌<◌, ◌≤◌, ℤ, Bool, true, false, not, cond, ◌||◌, List, [], ◌∷◌, length, Option, Some, None, option_map, unwrap_or, slice_get, refl, sym, ◌∙◌, ap, subst, inl, inr, ⊎_elim, arith, eq-or-lt_of_le}
+use Rattle.std.proofs.lemmas.Bool.{not-true, false_from_ne_true, or_parts}
+use Rattle.std.proofs.lemmas.Option.{slice_get_within}
+use Rattle.ts_certificate.specs.declared.certificate.Aim.{Aim}
+use Rattle.ts_certificate.specs.declared.certificate.Aim.TheVariants.{Best as BestOf, List as ListOf}
+use Rattle.ts_certificate.specs.declared.certificate.TreeLine.{TreeLine}
+use Rattle.ts_certificate.specs.declared.certificate.TreeLine.TheVariants.{Split, Remove, No, Worse, Yes, Unsearched}
+use Rattle.ts_filter.specs.declared.bar.Bar.TheVariants.{Better, AsGood}
+use Rattle.ts_filter.specs.Boxes.{Box, HasCell, IsPart}
+use Rattle.ts_filter.specs.Excluded.{is_better}
+use Rattle.ts_filter.specs.RefutedWorseDrop.{IsRefuted, IsCut}
+use Rattle.ts_filter.specs.Rules.{Head, IsListing, KeepsRule}
+use Rattle.ts_search.specs.Dive.{Find}
+use Rattle.ts_search.specs.Drops.{Removal, least, or_later, next_drop}
+use Rattle.ts_search.specs.Forms.{Form, Alone, Wide, form}
+use Rattle.ts_search.specs.Lean.{below_told, below_warm, below, worse_line, last_worse, inner_reason, first_reason, has_goal, IsFree, IsLeanLine}
+use Rattle.ts_search.specs.LineOf.{Search, last, requirements, inner, refuted, cut, bar_of, cut_by, refuted_last, no_line, first_no, removal_line, branch_line, wide_line, form_line, line_of}
+use Rattle.ts_search.proofs.Choice.{LeastFits, least_fits}
+use Rattle.ts_search.proofs.Good.{kept}
+use Rattle.ts_search.proofs.Known.{clash, chain, apart, cut_more, to_refuted, from_refuted, to_cut, part_length}
+use Rattle.ts_search.proofs.Parts.{drop_not_alone}
+use Rattle.ts_search.proofs.Walk.{IsChecked}
+
+implied : (x y : Bool) → (y ≡ true → x ≡ true) → (x || y) ≡ x
+implied true y h = refl
+implied false true h = sym (h refl)
+implied false false h = refl
+
+implies : (x y : Bool) → (x ≡ true → y ≡ true) → (x || y) ≡ y
+implies true y h = sym (h refl)
+implies false y h = refl
+
+-- one bar says what the told value and the warm value say together
+pub one_bar : (c : Search) (p : ℕ) (b : Box) (f warm : Option Find) → (below_told c f p b || below_warm c warm p b) ≡ cut_by c (bar_of (kept c f warm) warm) p b
+one_bar c p b None None = refl
+one_bar c p b None (Some w) = refl
+one_bar c p b (Some f) None = implied (cut c p b (Better f.value)) false (λ e. absurd (let k : ◌≡◌ {A = Bool} false true = e in cc))
+one_bar c p b (Some f) (Some w) =
+    elim (is_better c.goal w.value f.value) as (λ t. is_better c.goal w.value f.value ≡ t →
+    (cut c p b (Better f.value) || cut c p b (AsGood w.value)) ≡ cut_by c (bar_of (cond t None (Some f)) (Some w)) p b) [
+      | true ↦ λ e. implies (cut c p b (Better f.value)) (cut c p b (AsGood w.value))
+          (cut_more c p b (Better f.value) (AsGood w.value)
+          (λ u k. ⊎_elim (λ a. absurd (clash (is_better c.goal w.value u) a (not-true (is_better c.goal w.value u) k))) (λ a. a) (apart c.goal w.value u f.value e)))
+      | false ↦ λ e. implied (cut c p b (Better f.value)) (cut c p b (AsGood w.value))
+          (cut_more c p b (AsGood w.value) (Better f.value)
+          (λ u k. ap not (false_from_ne_true (is_better c.goal w.value u) (λ a. clash (is_better c.goal w.value f.value) (chain c.goal w.value u f.value a k) e))))
+    ] refl
+
+least_same : (q r : ℕ → Bool) → ((i : ℕ) → q i ≡ r i) → (n j : ℕ) → least q n j ≡ least r n j
+least_same q r e zero j = refl
+least_same q r e (suc n) j =
+    ap (λ t. cond t (Some j) (least q n (suc j))) (e j) ∙ ap (λ t. cond (r j) (Some j) t) (least_same q r e n (suc j))
+
+pub least_none : (q : ℕ → Bool) (n j : ℕ) → ((i : ℕ) → j ≤ i → i < j + n → q i ≡ false) → least q n j ≡ None
+least_none q n j h = go (least q n j) (least_fits q n j)
+  where
+    go : (o : Option ℕ) → LeastFits q n j o → o ≡ None
+    go None k = refl
+    go (Some i) k = absurd (clash (q i) k.holds (h i k.from k.to))
+
+pub none_least : (q : ℕ → Bool) (n j : ℕ) → least q n j ≡ None → (i : ℕ) → j ≤ i → i < j + n → q i ≡ false
+none_least q n j e = subst (λ o. LeastFits q n j o) e (least_fits q n j)
+
+pub or_none : (o r : Option TreeLine) → or_later o r ≡ None → (o ≡ None) × (r ≡ None)
+or_none None r e = (refl, e)
+or_none (Some l) r e = absurd (let k : ◌≡◌ {A = Option TreeLine} (Some l) None = e in cc)
+
+pub map_none : {A : Type 0} (g : A → TreeLine) (o : Option A) → option_map g o ≡ None → o ≡ None
+map_none g None e = refl
+map_none g (Some a) e = absurd (let k : ◌≡◌ {A = Option TreeLine} (Some (g a)) None = e in cc)
+
+no_line_none : (j : ℕ) (o : Option ℕ) (r : Option TreeLine) → no_line j o r ≡ None → (o ≡ None) × (r ≡ None)
+no_line_none j None r e = (refl, e)
+no_line_none j (Some p) r e = absurd (let k : ◌≡◌ {A = Option TreeLine} (Some (No j p)) None = e in cc)
+
+pub first_no_none : (c : Search) (b : Box) (n j : ℕ) → first_no c b n j ≡ None → (i p : ℕ) → j ≤ i → i < j + n → 1 ≤ p → p ≤ inner c → refuted c i p b ≡ false
+first_no_none c b zero j e = λ i p a d k m. absurd (omega arith)
+first_no_none c b (suc n) j e =
+    let r = no_line_none j (least (λ p. refuted c j p b) (inner c) 1) (first_no c b n (suc j)) e in
+    let later = first_no_none c b n (suc j) r.1 in
+    λ i p a d k m. ⊎_elim
+    (λ q. subst (λ z. refuted c z p b ≡ false) q (none_least (λ z. refuted c j z b) (inner c) 1 r.0 p k (omega arith)))
+    (λ q. later i p q (omega arith) k m)
+    (eq-or-lt_of_le a)
+
+pub none_first_no : (c : Search) (b : Box) (n j : ℕ) → ((i p : ℕ) → refuted c i p b ≡ false) → first_no c b n j ≡ None
+none_first_no c b zero j h = refl
+none_first_no c b (suc n) j h =
+    ap (λ o. no_line j o (first_no c b n (suc j))) (least_none (λ p. refuted c j p b) (inner c) 1 (λ p k m. h j p)) ∙ none_first_no c b n (suc j) h
+
+abbrev pub branch_at : Search → Box → Form → TreeLine
+branch_at c b (Alone x) = Worse (last c)
+branch_at c b (Wide k t) = branch_line c b k t
+
+pub or_unwrap : (o r : Option TreeLine) (z : TreeLine) → unwrap_or o (unwrap_or r z) ≡ unwrap_or (or_later o r) z
+or_unwrap None r z = refl
+or_unwrap (Some l) r z = refl
+
+-- where no requirement is refuted, the test says so, and the reverse
+pub never_refuted : (c : Search) (b : Box) → ((j p : ℕ) → IsRefuted c.model c.spans j p b → ⊥) → (j p : ℕ) → refuted c j p b ≡ false
+never_refuted c b h j p = false_from_ne_true (refuted c j p b) (λ e. h j p (to_refuted c j p b e))
+
+at_last_or_inner : (p n : ℕ) → 1 ≤ p → p ≤ n → (p ≡ n) ⊎ (p ≤ n - 1)
+at_last_or_inner p n a b = ⊎_elim (λ e. inl e) (λ l. inr (omega (arith, l))) (eq-or-lt_of_le b)
+
+-- a test that holds nowhere at the last cell and below it holds nowhere
+pub nowhere : (c : Search) (b : Box) (q : ℕ → Bool) → IsPart b c.model.cells → ((p : ℕ) → q p ≡ true → HasCell p b) → q (last c) ≡ false →
+    ((p : ℕ) → 1 ≤ p → p ≤ inner c → q p ≡ false) → (p : ℕ) → q p ≡ false
+nowhere c b q i at end below p = false_from_ne_true (q p) (λ e. go e (at p e))
+  where
+    go : q p ≡ true → HasCell p b → ⊥
+    go e cell =
+        let n = part_length c b i in
+        ⊎_elim (λ z. clash (q p) e (subst (λ y. q y ≡ false) (sym z) end)) (λ l. clash (q p) e (below p cell.0 l))
+        (at_last_or_inner p (last c) cell.0 (omega (arith, n, cell.1)))
+
+cut_cell : (c : Search) (o : Option Find) (b : Box) (p : ℕ) → below_told c o p b ≡ true → HasCell p b
+cut_cell c None b p e = absurd (let k : ◌≡◌ {A = Bool} false true = e in cc)
+cut_cell c (Some f) b p e = (to_cut c p b (Better f.value) e).usable.cell
+
+warm_cell : (c : Search) (o : Option Find) (b : Box) (p : ℕ) → below_warm c o p b ≡ true → HasCell p b
+warm_cell c None b p e = absurd (let k : ◌≡◌ {A = Bool} false true = e in cc)
+warm_cell c (Some w) b p e = (to_cut c p b (AsGood w.value) e).usable.cell
+
+-- no requirement is refuted, from what the two `no` lines ask
+pub free_of_no : (c : Search) (b : Box) → IsPart b c.model.cells → refuted_last c b ≡ None → first_no c b (requirements c) 1 ≡ None →
+    (j p : ℕ) → IsRefuted c.model c.spans j p b → ⊥
+free_of_no c b i end below j p r =
+    let t = from_refuted c j p b r in
+    let within = slice_get_within c.model.requirements (j - 1) r.require r.is.1 in
+    let many : j ≤ requirements c = (let a = r.is.0 in omega (arith, within, a)) in
+    let n = part_length c b i in
+    ⊎_elim
+    (λ z. clash (refuted c j p b) t (subst (λ y. refuted c j y b ≡ false) (sym z)
+    (none_least (λ k. refuted c k (last c) b) (requirements c) 1 end j r.is.0 (omega (arith, many)))))
+    (λ l. clash (refuted c j p b) t (first_no_none c b (requirements c) 1 below j p r.is.0 (omega (arith, many)) r.usable.cell.0 l))
+    (at_last_or_inner p (last c) r.usable.cell.0 (omega (arith, n, r.usable.cell.1)))
+
+abbrev pub goal_aim : Search → Aim
+goal_aim c = BestOf c.goal
+
+module _ (c : Search) (f : Option Find) (b : Box) where
+  abbrev inner_part : Option TreeLine
+  inner_part = or_later (first_no c b (requirements c) 1) (inner_reason c (goal_aim c) f b)
+
+  bar_is : (p : ℕ) → cut_by c (bar_of (kept c f c.warm) c.warm) p b ≡ below c f p b
+  bar_is p = sym (one_bar c p b f c.warm)
+
+  wide_is : (k : ℕ) (t : ℤ) → wide_line c (goal_aim c) (kept c f c.warm) b k t ≡ unwrap_or inner_part (branch_line c b k t)
+  wide_is k t =
+      ap (λ o. unwrap_or (first_no c b (requirements c) 1) (unwrap_or (option_map (λ p. Worse p) o) (branch_line c b k t)))
+      (least_same (λ p. cut_by c (bar_of (kept c f c.warm) c.warm) p b) (λ p. below c f p b) bar_is (inner c) 1)
+      ∙ or_unwrap (first_no c b (requirements c) 1) (inner_reason c (goal_aim c) f b) (branch_line c b k t)
+
+  form_is : (g : Form) → form_line c (goal_aim c) (kept c f c.warm) b g ≡ unwrap_or (or_later (last_worse c (goal_aim c) f b g) inner_part) (branch_at c b g)
+  form_is (Alone x) = refl
+  form_is (Wide k t) =
+      ap (λ z. cond z (Worse (last c)) (wide_line c (goal_aim c) (kept c f c.warm) b k t)) (bar_is (last c))
+      ∙ (elim (below c f (last c) b) as (λ z. cond z (Worse (last c)) (wide_line c (goal_aim c) (kept c f c.warm) b k t) ≡
+      unwrap_or (or_later (worse_line (last c) z) inner_part) (branch_line c b k t)) [
+        | true ↦ refl
+        | false ↦ wide_is k t
+      ])
+
+  line_is : line_of c (goal_aim c) (kept c f c.warm) b ≡ unwrap_or (first_reason c (goal_aim c) f b) (branch_at c b (form b))
+  line_is =
+      let o = option_map (λ j. No j (last c)) (refuted_last c b) in
+      let r = or_later (last_worse c (goal_aim c) f b (form b)) inner_part in
+      ap (λ z. unwrap_or o z) (form_is (form b)) ∙ or_unwrap o r (branch_at c b (form b))
+
+  -- no reason on a box that is free and has two series
+  no_reason : (k : ℕ) (t : ℤ) → form b ≡ Wide k t → IsFree c (goal_aim c) f b → first_reason c (goal_aim c) f b ≡ None
+  no_reason k t w h =
+      let never = never_refuted c b h.refuted in
+      let end = least_none (λ j. refuted c j (last c) b) (requirements c) 1 (λ j i m. never j (last c)) in
+      let not_below = λ (p : ℕ). ap (λ z. z || below_warm c c.warm p b) (h.told p refl) ∙ h.warm p refl in
+      let below_end : below c f (last c) b ≡ false = not_below (last c) in
+      let inside = none_first_no c b (requirements c) 1 never in
+      let worse = least_none (λ p. below c f p b) (inner c) 1 (λ p i m. not_below p) in
+      ap (λ o. or_later (option_map (λ j. No j (last c)) o) (or_later (last_worse c (goal_aim c) f b (form b)) inner_part)) end
+      ∙ ap (λ g. or_later (last_worse c (goal_aim c) f b g) inner_part) w
+      ∙ ap (λ z. or_later (worse_line (last c) z) inner_part) below_end
+      ∙ ap (λ o. or_later o (inner_reason c (goal_aim c) f b)) inside
+      ∙ ap (λ o. option_map (λ p. Worse p) o) worse
+
+  -- a lean line is the box's line
+  pub lean_fixes : (h : Head) (y : ℕ) (l : TreeLine) → IsPart b c.model.cells → h.aim ≡ goal_aim c → IsChecked l → KeepsRule c.model c.spans h y b l →
+      IsLeanLine c (goal_aim c) f b l → l ≡ line_of c (goal_aim c) (kept c f c.warm) b
+  lean_fixes h y (Split k t) i a ch r n =
+      sym (line_is
+      ∙ ap (λ o. unwrap_or o (branch_at c b (form b))) (no_reason k t n.2 n.0)
+      ∙ ap (λ g. branch_at c b g) n.2
+      ∙ ap (λ o. unwrap_or (option_map removal_line o) (Split k t)) n.1)
+  lean_fixes h y (Remove k v j) i a ch r n = sym (line_is ∙ go (form b) refl)
+    where
+      go : (g : Form) → form b ≡ g → unwrap_or (first_reason c (goal_aim c) f b) (branch_at c b (form b)) ≡ Remove k v j
+      go (Alone x) w = absurd (drop_not_alone c.model c.spans k v j b x i r w)
+      go (Wide first t) w =
+          ap (λ o. unwrap_or o (branch_at c b (form b))) (no_reason first t w n.0)
+          ∙ ap (λ g. branch_at c b g) w
+          ∙ ap (λ o. unwrap_or (option_map removal_line o) (Split first t)) n.1
+  lean_fixes h y (No j p) i a ch r n = sym (line_is ∙ ap (λ o. unwrap_or o (branch_at c b (form b))) n)
+  lean_fixes h y (Worse p) i a ch r n = sym (line_is ∙ ap (λ o. unwrap_or o (branch_at c b (form b))) n)
+  lean_fixes h y Yes i a ch r n = absurd (subst (λ z. IsListing z) a r.listing)
+  lean_fixes h y Unsearched i a ch r n = absurd ch
+
+abbrev pub IsReason : TreeLine → Type 0
+IsReason (Split k t) = ⊥
+IsReason (Remove k v j) = ⊥
+IsReason (No j p) = Unit {0}
+IsReason (Worse p) = Unit {0}
+IsReason Yes = ⊥
+IsReason Unsearched = ⊥
+
+abbrev pub GivesReason : Option TreeLine → Type 0
+GivesReason None = Unit {0}
+GivesReason (Some l) = IsReason l
+
+pub reason_later : (o r : Option TreeLine) → GivesReason o → GivesReason r → GivesReason (or_later o r)
+reason_later None r g h = h
+reason_later (Some l) r g h = g
+
+pub reason_no : (o : Option ℕ) (end : ℕ) → GivesReason (option_map (λ j. No j end) o)
+reason_no None end = tt
+reason_no (Some j) end = tt
+
+reason_worse : (o : Option ℕ) → GivesReason (option_map (λ p. Worse p) o)
+reason_worse None = tt
+reason_worse (Some p) = tt
+
+pub reason_first_no : (c : Search) (b : Box) (n j : ℕ) → GivesReason (first_no c b n j)
+reason_first_no c b zero j = tt
+reason_first_no c b (suc n) j = go (least (λ p. refuted c j p b) (inner c) 1) (first_no c b n (suc j)) (reason_first_no c b n (suc j))
+  where
+    go : (o : Option ℕ) (r : Option TreeLine) → GivesReason r → GivesReason (no_line j o r)
+    go None r h = h
+    go (Some p) r h = tt
+
+reason_end : (c : Search) (f : Option Find) (b : Box) (g : Form) → GivesReason (last_worse c (BestOf c.goal) f b g)
+reason_end c f b (Alone x) = tt
+reason_end c f b (Wide k t) = elim (below c f (last c) b) as (λ z. GivesReason (worse_line (last c) z)) [ true ↦ tt | false ↦ tt ]
+
+worse_none : (p : ℕ) (t : Bool) → worse_line p t ≡ None → t ≡ false
+worse_none p true e = absurd (let k : ◌≡◌ {A = Option TreeLine} (Some (Worse p)) None = e in cc)
+worse_none p false e = refl
+
+pub by_reason : (c : Search) (aim : Aim) (f : Option Find) (b : Box) (l : TreeLine) → IsReason l → first_reason c aim f b ≡ Some l → IsLeanLine c aim f b l
+by_reason c aim f b (Split k t) r q = absurd r
+by_reason c aim f b (Remove k v j) r q = absurd r
+by_reason c aim f b (No j p) r q = q
+by_reason c aim f b (Worse p) r q = q
+by_reason c aim f b Yes r q = absurd r
+by_reason c aim f b Unsearched r q = absurd r
+
+pub branch_lean : (c : Search) (aim : Aim) (f : Option Find) (b : Box) (k : ℕ) (t : ℤ) → form b ≡ Wide k t → IsFree c aim f b → (o : Option Removal) →
+    next_drop c.model c.spans b ≡ o → IsLeanLine c aim f b (unwrap_or (option_map removal_line o) (Split k t))
+branch_lean c aim f b k t w h None q = (h, q, w)
+branch_lean c aim f b k t w h (Some r) q = (h, q)
+
+module _ (c : Search) (f : Option Find) (b : Box) (i : IsPart b c.model.cells) where
+  abbrev no_last : Option TreeLine
+  no_last = option_map (λ j. No j (last c)) (refuted_last c b)
+
+  abbrev inner_lines : Option TreeLine
+  inner_lines = or_later (first_no c b (requirements c) 1) (inner_reason c (goal_aim c) f b)
+
+  gives_reason : GivesReason (first_reason c (goal_aim c) f b)
+  gives_reason =
+      reason_later no_last (or_later (last_worse c (goal_aim c) f b (form b)) inner_lines) (reason_no (refuted_last c b) (last c))
+      (reason_later (last_worse c (goal_aim c) f b (form b)) inner_lines (reason_end c f b (form b))
+      (reason_later (first_no c b (requirements c) 1) (inner_reason c (goal_aim c) f b) (reason_first_no c b (requirements c) 1)
+      (reason_worse (least (λ p. below c f p b) (inner c) 1))))
+
+  free_if_none : (k : ℕ) (t : ℤ) → form b ≡ Wide k t → first_reason c (goal_aim c) f b ≡ None → IsFree c (goal_aim c) f b
+  free_if_none k t w q =
+      let a = or_none no_last (or_later (last_worse c (goal_aim c) f b (form b)) inner_lines) q in
+      let d = or_none (last_worse c (goal_aim c) f b (form b)) inner_lines a.1 in
+      let g = or_none (first_no c b (requirements c) 1) (inner_reason c (goal_aim c) f b) d.1 in
+      let end = map_none (λ j. No j (last c)) (refuted_last c b) a.0 in
+      let below_end = or_parts (below_told c f (last c) b) (below_warm c c.warm (last c) b)
+      (worse_none (last c) (below c f (last c) b) (subst (λ z. last_worse c (goal_aim c) f b z ≡ None) w d.0)) in
+      let worse = none_least (λ p. below c f p b) (inner c) 1 (map_none (λ p. Worse p) (least (λ p. below c f p b) (inner c) 1) g.1) in
+      let parts = λ (p : ℕ) (o : 1 ≤ p) (m : p ≤ inner c). or_parts (below_told c f p b) (below_warm c c.warm p b) (worse p o (omega (arith, m))) in
+      record {
+        refuted = free_of_no c b i end g.0;
+        told = λ p z. nowhere c b (λ p. below_told c f p b) i (λ p e. cut_cell c f b p e) below_end.0 (λ p o m. (parts p o m).0) p;
+        warm = λ p z. nowhere c b (λ p. below_warm c c.warm p b) i (λ p e. warm_cell c c.warm b p e) below_end.1 (λ p o m. (parts p o m).1) p;
+      }
+
+  -- the box's line is lean
+  pub lean_has : IsLeanLine c (goal_aim c) f b (line_of c (goal_aim c) (kept c f c.warm) b)
+  lean_has = subst (λ z. IsLeanLine c (goal_aim c) f b z) (sym (line_is c f b)) (go (first_reason c (goal_aim c) f b) refl gives_reason)
+    where
+      wide : (g : Form) → form b ≡ g → first_reason c (goal_aim c) f b ≡ None → IsLeanLine c (goal_aim c) f b (branch_at c b g)
+      wide (Alone x) w q =
+          absurd (let a = or_none no_last (or_later (last_worse c (goal_aim c) f b (form b)) inner_lines) q in
+          let d = or_none (last_worse c (goal_aim c) f b (form b)) inner_lines a.1 in
+          let k : ◌≡◌ {A = Option TreeLine} (Some (Worse (last c))) None = subst (λ z. last_worse c (goal_aim c) f b z ≡ None) w d.0 in cc)
+      wide (Wide k t) w q = branch_lean c (goal_aim c) f b k t w (free_if_none k t w q) (next_drop c.model c.spans b) refl
+
+      go : (o : Option TreeLine) → first_reason c (goal_aim c) f b ≡ o → GivesReason o → IsLeanLine c (goal_aim c) f b (unwrap_or o (branch_at c b (form b)))
+      go None q r = wide (form b) refl q
+      go (Some l) q r = by_reason c (goal_aim c) f b l r q

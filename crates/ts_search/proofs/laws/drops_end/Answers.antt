@@ -1,0 +1,8 @@
+use Rattle.ts_search.proofs.Closing.{next_drop_fits, drops_end}
+use Rattle.ts_search.proofs.laws.drops_end.Goals as goal
+
+pub returns-clause-next : goal.returns-clause-next
+returns-clause-next c = next_drop_fits
+
+pub returns-clause-end : goal.returns-clause-end
+returns-clause-end c = drops_end
