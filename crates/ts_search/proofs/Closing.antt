@@ -1,36 +1,26 @@
 -- The laws, of models and spans.
-use Rattle.std.proofs.Common.{◌≡◌, ℕ, zero, suc, ◌+◌, ◌-◌, ◌<◌, ◌≤◌, ℤ, Bool, true, false, cond, List, [], ◌∷◌, length, Option, Some, None, MatchOption, option_map, refl, sym, ◌∙◌, ap, subst, inl, inr, ⊎_elim, arith, eq-or-lt_of_le}
-use Rattle.std.proofs.lemmas.Option.{slice_get_within}
-use Rattle.std.specs.Prelude.{Contains}
+use Rattle.std.proofs.Common.{◌≡◌, ℕ, ℤ, false, List, [], ◌∷◌, Some, None, MatchOption, refl, sym, ◌∙◌, ap, subst}
 use Rattle.ts_base.specs.declared.goal.Goal.{Goal}
 use Rattle.ts_certificate.specs.declared.certificate.Aim.{Aim}
 use Rattle.ts_certificate.specs.declared.certificate.Aim.TheVariants.{Best as BestOf, List as ListOf}
 use Rattle.ts_certificate.specs.Certificate.{Cert}
-use Rattle.ts_domain.proofs.Sets.{contains_cons, nothing_in}
 use Rattle.ts_model.specs.Meets.{Meets}
 use Rattle.ts_model.specs.Stated.{Stated}
-use Rattle.ts_filter.specs.Boxes.{Box, values_at}
-use Rattle.ts_filter.specs.RefutedWorseDrop.{Spans, IsDrop}
-use Rattle.ts_filter.specs.Tests.{is_drop}
-use Rattle.ts_filter.proofs.TestLaws.{tests_tell}
-use Rattle.ts_search.specs.Asked.{AreRight}
-use Rattle.ts_search.specs.Dive.{Find, dive_box, dive, value_of}
-use Rattle.ts_search.specs.Drops.{Removal, least, or_later, drop_of, drop_at, drop_from, next_drop}
+use Rattle.ts_filter.specs.Boxes.{Box}
+use Rattle.ts_filter.specs.RefutedWorseDrop.{Spans}
+use Rattle.ts_search.specs.Dive.{dive_box, value_of}
 use Rattle.ts_search.specs.Forms.{Form, Alone, Wide, form}
-use Rattle.ts_search.specs.Laws.{SearchSolves, SearchLists, OneSolved, OneListed, BudgetIsEnough, ListBudgetIsEnough, NextDropFits, DropsEnd, DiveEnds, DiveMeets, DiveEndsEarly}
+use Rattle.ts_search.specs.Laws.{SearchSolves, SearchLists, OneSolved, OneListed, BudgetIsEnough, ListBudgetIsEnough, DropsEnd, DiveEnds, DiveMeets, DiveEndsEarly}
 use Rattle.ts_search.specs.Lean.{AreLean, most_told, Lean}
 use Rattle.ts_search.specs.Listed.{Listed}
-use Rattle.ts_search.specs.LineOf.{Search, search_for}
+use Rattle.ts_search.specs.LineOf.{search_for}
 use Rattle.ts_search.specs.Solved.{Solved}
 use Rattle.ts_search.specs.Turns.{start, turns, solve_certificate, list_start, list_turns, list_certificate}
-use Rattle.ts_search.proofs.Choice.{DropFits, drop_fits}
 use Rattle.ts_search.proofs.DiveLaws.{IsAlone, dive_alone, dive_fits, dive_early}
 use Rattle.ts_search.proofs.DropLaws.{dropped_done}
-use Rattle.ts_search.proofs.Known.{clash}
 use Rattle.ts_search.proofs.ListLean.{list_lean}
 use Rattle.ts_search.proofs.ListSolves.{HasList, list_lists}
 use Rattle.ts_search.proofs.ListUnique.{one_listing, list_no_budget}
-use Rattle.ts_search.proofs.Reason.{none_least}
 use Rattle.ts_filter.proofs.SoundLaws.{values_are_sound}
 use Rattle.ts_search.proofs.Right.{known, valued, best_known}
 use Rattle.ts_search.proofs.Solves.{HasClaim, solve_solves}
@@ -92,7 +82,8 @@ one_solved m s goal n a b right some p q =
 pub one_listed : OneListed
 one_listed m s count n a b right p q =
     let c = search_for m s (ListOf count) in
-    one_listing c (known c right) count n a b (has_list m s count n a p) (list_lean_for m s count n a p) (has_list m s count n b q) (list_lean_for m s count n b q)
+    one_listing c (known c right) count n a b (has_list m s count n a p) (list_lean_for m s count n a p) (has_list m s count n b q)
+    (list_lean_for m s count n b q)
 
 pub budget_is_enough : BudgetIsEnough
 budget_is_enough m s goal n a right l h b =
@@ -103,39 +94,6 @@ list_budget_is_enough m s count n a right l h b =
     let c = search_for m s (ListOf count) in list_no_budget c (known c right) count n a (has_list m s count n a h) l b
 
 -- drops
-
-none_of : (o : Option ℕ) (k : ℕ) (v : ℤ) → ◌≡◌ {A = Option Removal} (option_map (λ j. record { cell = k; value = v; requirement = j }) o) None → o ≡ None
-none_of None k v e = refl
-none_of (Some j) k v e = absurd (let f : ◌≡◌ {A = Option Removal} (Some (record { cell = k; value = v; requirement = j })) None = e in cc)
-
-neither : (o later : Option Removal) → or_later o later ≡ None → (o ≡ None) × (later ≡ None)
-neither None later e = (refl, e)
-neither (Some r) later e = absurd (let f : ◌≡◌ {A = Option Removal} (Some r) None = e in cc)
-
-module _ (m : Stated) (s : Spans) (b : Box) where
-  none_at : (k : ℕ) (values : List ℤ) → drop_at m s b k values ≡ None → (v : ℤ) → Contains values v → drop_of m s b k v ≡ None
-  none_at k [] e v h = absurd (nothing_in v h)
-  none_at k (u ∷ values) e v h =
-      let both = neither (drop_of m s b k u) (drop_at m s b k values) e in
-      ⊎_elim (λ q. subst (λ z. drop_of m s b k z ≡ None) q both.0) (λ r. none_at k values both.1 v r) ((contains_cons u values v).0 h)
-
-  none_from : (n k : ℕ) → drop_from m s b n k ≡ None → (i : ℕ) → k ≤ i → i < k + n → drop_at m s b i (values_at i b) ≡ None
-  none_from zero k e i a l = absurd (omega arith)
-  none_from (suc n) k e i a l =
-      let both = neither (drop_at m s b k (values_at k b)) (drop_from m s b n (suc k)) e in
-      ⊎_elim (λ q. subst (λ z. drop_at m s b z (values_at z b) ≡ None) q both.0) (λ q. none_from n (suc k) both.1 i q (omega arith)) (eq-or-lt_of_le a)
-
-  none_may : next_drop m s b ≡ None → (k : ℕ) (v : ℤ) (j : ℕ) → IsDrop m s k v j b → ⊥
-  none_may e k v j d =
-      let at = none_from (length b) 1 e k d.cell.0 (let c = d.cell.1 in omega arith) in
-      let no = none_of (least (λ j. is_drop m s k v j b) (length m.requirements) 1) k v (none_at k (values_at k b) at v d.there) in
-      let within = slice_get_within m.requirements (j - 1) d.refuted.require d.refuted.is.1 in
-      let one = d.refuted.is.0 in
-      clash (is_drop m s k v j b) (((tests_tell m s).drop k v j b).1 d)
-      (none_least (λ j. is_drop m s k v j b) (length m.requirements) 1 no j one (omega (arith, within, one)))
-
-pub next_drop_fits : NextDropFits
-next_drop_fits m s b = record { some = λ r e. subst (λ o. DropFits m s b o) e (drop_fits m s b); none = none_may m s b }
 
 pub drops_end : DropsEnd
 drops_end m s b i = dropped_done m s m.cells b i

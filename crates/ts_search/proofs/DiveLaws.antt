@@ -1,26 +1,25 @@
 -- The dive ends at one series; where it meets, it has its value.
-use Rattle.std.proofs.Common.{◌≡◌, ◌⊎◌, ℕ, zero, suc, ◌+◌, ◌-◌, ◌<◌, ◌≤◌, ℤ, pos, Bool, true, false, cond, List, [], ◌∷◌, length, get_or, set, Option, Some, None, MatchOption, refl, sym, ◌∙◌, ap, subst, inl, inr, ⊎_elim, arith}
+use Rattle.std.proofs.Common.{◌≡◌, ◌⊎◌, ℕ, zero, suc, ◌+◌, ◌-◌, ◌<◌, ◌≤◌, ℤ, Bool, true, false, cond, List, [], ◌∷◌, length, get_or, set, Option, Some, None, MatchOption, refl, sym, ap, subst, inl, inr, ⊎_elim, arith}
 use Rattle.std.proofs.lemmas.Bool.{cases_eq}
 use Rattle.std.proofs.lemmas.List.{get_or-set_same, get_or-set_other}
 use Rattle.std.specs.Prelude.{Contains}
 use Rattle.ts_base.specs.declared.ext.Ext.{Ext}
 use Rattle.ts_base.specs.declared.goal.Goal.{Goal}
 use Rattle.ts_domain.specs.BoxSeries.{InBox, IsBox}
-use Rattle.ts_domain.specs.Values.{IsDomain}
 use Rattle.ts_domain.proofs.Sets.{contains_cons}
 use Rattle.ts_model.specs.Judgement.{is_met}
 use Rattle.ts_model.specs.Meets.{Meets}
 use Rattle.ts_model.specs.Stated.{Stated, total_of}
 use Rattle.ts_model.proofs.MeetsLaw.{judged_is_met}
-use Rattle.ts_filter.specs.Boxes.{Box, HasCell, values_at, with_values, only, without, IsPart}
+use Rattle.ts_filter.specs.Boxes.{Box, HasCell, values_at, only, without, IsPart}
 use Rattle.ts_filter.specs.Excluded.{is_better}
 use Rattle.ts_filter.specs.Laws.{IsSound}
 use Rattle.ts_filter.specs.RefutedWorseDrop.{Spans, IsRefuted, IsDrop}
 use Rattle.ts_filter.proofs.BoxParts.{place, domain_at, only_part, part_self, inside_length, in_box_inside}
-use Rattle.ts_search.specs.Dive.{Find, value_of, find, promise, most_promising, best_value, least_value, kept_for, kept_value, keep_one, keep_from, dive_box, dive_end, dive}
+use Rattle.ts_search.specs.Dive.{value_of, find, promise, most_promising, best_value, least_value, kept_for, kept_value, keep_one, keep_from, dive_box, dive_end, dive}
 use Rattle.ts_search.specs.Drops.{dropped}
 use Rattle.ts_search.specs.Forms.{Form, Alone, Wide, after_value, form}
-use Rattle.ts_search.proofs.DropLaws.{drop_part, drops_keep, dropped_part}
+use Rattle.ts_search.proofs.DropLaws.{drops_keep, dropped_part}
 use Rattle.ts_search.proofs.Parts.{alone_within, series_length}
 
 -- the kept value is one of its cell
@@ -141,11 +140,13 @@ module _ (m : Stated) (s : Spans) (goal : Goal) where
       (subst (λ n. OneEach n (dive_box m s goal)) (sym (inside_length (dive_box m s goal) m.cells h.part.inside)) h.ones)
 
   -- where the dive has a series, it meets and has its value
-  end_fits : (b : Box) → IsPart b m.cells → (g : Form) → form b ≡ g → MatchOption (dive_end m g) (Unit {0}) (λ w. Meets m w.series × (w.value ≡ value_of m w.series))
+  end_fits : (b : Box) → IsPart b m.cells → (g : Form) → form b ≡ g → MatchOption (dive_end m g) (Unit {0})
+      (λ w. Meets m w.series × (w.value ≡ value_of m w.series))
   end_fits b i (Wide k t) e = tt
   end_fits b i (Alone x) e =
       let within = in_box_inside b m.cells x i.inside (alone_within m.cells b x i e) in
-      elim (is_met m x) as (λ t. is_met m x ≡ t → MatchOption (cond t (Some (find m x)) None) (Unit {0}) (λ w. Meets m w.series × (w.value ≡ value_of m w.series))) [
+      elim (is_met m x) as (λ t. is_met m x ≡ t → MatchOption (cond t (Some (find m x)) None) (Unit {0})
+      (λ w. Meets m w.series × (w.value ≡ value_of m w.series))) [
         | true ↦ λ q. ((judged_is_met m x (series_length x m.cells within)).0 q, refl)
         | false ↦ λ q. tt
       ] refl

@@ -1,5 +1,5 @@
 -- The next drop is the least that may be made; drops end where none is possible, and keep boxes.
-use Rattle.std.proofs.Common.{◌≡◌, ℕ, zero, suc, ◌+◌, ◌-◌, ◌<◌, ◌≤◌, ℤ, Bool, true, false, List, [], ◌∷◌, length, get_or, set, Option, Some, None, MatchOption, option_map, unwrap_or, refl, sym, ◌∙◌, ap, subst, ⊎_elim, arith}
+use Rattle.std.proofs.Common.{◌≡◌, ℕ, zero, suc, ◌+◌, ◌-◌, ◌≤◌, ℤ, [], length, Option, Some, None, option_map, unwrap_or, refl, arith}
 use Rattle.std.proofs.lemmas.List.Sums.{sum_by-set}
 use Rattle.ts_domain.specs.BoxSeries.{IsBox}
 use Rattle.ts_domain.specs.Kept.{values_without}
@@ -25,7 +25,8 @@ module _ (m : Stated) (s : Spans) where
       )
 
   -- what each drop keeps, drops keep
-  keep_on : (P : Box → Type 0) (n : ℕ) (b : Box) → P b → ((r : Removal) → IsDrop m s r.cell r.value r.requirement b → P (drops m s n (without r.cell r.value b))) →
+  keep_on : (P : Box → Type 0) (n : ℕ) (b : Box) → P b → ((r : Removal) → IsDrop m s r.cell r.value r.requirement b →
+      P (drops m s n (without r.cell r.value b))) →
       (o : Option Removal) → DropFits m s b o → P (unwrap_or (option_map (λ r. drops m s n (without r.cell r.value b)) o) b)
   keep_on P n b h g None d = h
   keep_on P n b h g (Some r) d = g r d

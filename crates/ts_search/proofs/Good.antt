@@ -1,5 +1,5 @@
 -- What every turn of the search for the best series keeps.
-use Rattle.std.proofs.Common.{◌≡◌, ◌⊎◌, ℕ, zero, suc, ◌+◌, ◌≤◌, ℤ, Bool, true, false, not, cond, ◌&&◌, List, [], ◌∷◌, ◌++◌, Option, Some, None, MatchOption, refl, sym, ◌∙◌, ap, subst, inl, inr, ⊎_elim, arith}
+use Rattle.std.proofs.Common.{◌≡◌, ◌⊎◌, ℕ, zero, suc, ◌≤◌, ℤ, Bool, true, false, not, cond, ◌&&◌, List, [], ◌∷◌, ◌++◌, Option, Some, None, MatchOption, refl, sym, ◌∙◌, ap, subst, inl, inr, ⊎_elim}
 use Rattle.std.proofs.lemmas.Bool.{false_from_ne_true, not-true, not-false, and_from, true_from_ne_false}
 use Rattle.ts_base.specs.declared.ext.Ext.{Ext}
 use Rattle.ts_certificate.specs.declared.certificate.Aim.TheVariants.{Best as BestOf}
@@ -12,13 +12,12 @@ use Rattle.ts_model.proofs.MeetsLaw.{judged_is_met}
 use Rattle.ts_filter.specs.declared.bar.Bar.{Bar}
 use Rattle.ts_filter.specs.declared.bar.Bar.TheVariants.{Better, AsGood}
 use Rattle.ts_filter.specs.Boxes.{Box, IsPart, InSome, only}
-use Rattle.ts_filter.specs.Excluded.{is_better, counts}
-use Rattle.ts_filter.specs.Laws.{StepsGoOn}
+use Rattle.ts_filter.specs.Excluded.{is_better}
 use Rattle.ts_filter.specs.RefutedWorseDrop.{IsCut}
 use Rattle.ts_filter.specs.Rules.{Head, claimed, KeepsRule}
 use Rattle.ts_filter.specs.Steps.{made_by, Steps}
 use Rattle.ts_filter.specs.Tree.{told_by}
-use Rattle.ts_filter.proofs.BoxParts.{from_without, in_a_side, in_box_inside, only_or_without, only_part, part_self}
+use Rattle.ts_filter.proofs.BoxParts.{from_without, in_a_side, only_or_without, only_part, part_self}
 use Rattle.ts_filter.proofs.TreeLaws.{parts_made, steps_go_on}
 use Rattle.ts_search.specs.Dive.{Find, value_of, find}
 use Rattle.ts_search.specs.Forms.{Form, Alone, Wide, form}
@@ -26,7 +25,7 @@ use Rattle.ts_search.specs.Found.{beats, tally_after, tally, told_or_warm}
 use Rattle.ts_search.specs.LineOf.{Search, last, requirements, refuted, cut, bar_of, cut_by, counts_for, line_of}
 use Rattle.ts_search.specs.Turns.{State, start, found_after, after, turn_on, turn, turns, found_or_warm, budget_claim}
 use Rattle.ts_search.proofs.Choice.{Choice, by_refuted, by_cut, by_new, by_yes, by_drop, by_split, line_choice}
-use Rattle.ts_search.proofs.Known.{clash, never_itself, chain, apart, Known, KnownBest, from_cut, more_cut, to_cut, no_series, cut_counts}
+use Rattle.ts_search.proofs.Known.{clash, never_itself, chain, apart, Known, KnownBest, more_cut, to_cut, no_series, cut_counts}
 use Rattle.ts_search.proofs.Parts.{AreParts, InOrder, in_made, in_parts, ordered_split, single, alone_within, wide_split, wide_order}
 use Rattle.ts_search.proofs.Walk.{IsChecked, AllChecked, all_checked_snoc, steps_under, tally_snoc}
 
@@ -101,7 +100,8 @@ good_same c s b u l g at none ch keeps order treated more =
       ordered = order;
       found_ok = still s.found (subst (λ z. FoundOk c s.found z) at g.found_ok);
       settled = λ y m. ⊎_elim
-          (λ i. ⊎_elim (λ a. ⊎_elim (λ z. inl (in_parts (made_by l b) u y (inl z))) (λ z. inr z) (treated y m a)) (λ a. inl (in_parts (made_by l b) u y (inr a))) i)
+          (λ i. ⊎_elim (λ a. ⊎_elim (λ z. inl (in_parts (made_by l b) u y (inl z))) (λ z. inr z) (treated y m a))
+          (λ a. inl (in_parts (made_by l b) u y (inr a))) i)
           (λ z. inr z) (subst (λ z. InSome z y ⊎ Settled c s.found c.warm y) at (g.settled y m));
       found_is = more (tally c None (c.model.cells ∷ []) s.lines) g.found_is
           ∙ ap (λ z. kept c z c.warm) (sym (tally_snoc c h l b u s.lines None 0 (c.model.cells ∷ []) 0 st));
@@ -189,7 +189,8 @@ module _ (c : Search) where
   counts_beats (Some g) (Some w) v h =
       elim (is_better c.goal w.value g.value) as (λ t. is_better c.goal w.value g.value ≡ t → counts_for c (bar_of (cond t None (Some g)) (Some w)) v ≡ true →
       is_better c.goal v g.value ≡ true) [
-        | true ↦ λ e k. ⊎_elim (λ a. absurd (clash (is_better c.goal w.value v) a (not-true (is_better c.goal w.value v) k))) (λ a. a) (apart c.goal w.value v g.value e)
+        | true ↦ λ e k. ⊎_elim (λ a. absurd (clash (is_better c.goal w.value v) a (not-true (is_better c.goal w.value v) k))) (λ a. a)
+            (apart c.goal w.value v g.value e)
         | false ↦ λ e k. k
       ] refl h
 
@@ -207,7 +208,8 @@ module _ (c : Search) where
   kept_cut None (Some w) new true h = sym (kept_worse w new (not-false (is_better c.goal w.value new.value) h))
   kept_cut (Some g) None new true h = ap (λ t. kept c (cond t (Some new) (Some g)) None) (sym h)
   kept_cut (Some g) (Some w) new true h =
-      elim (is_better c.goal w.value g.value) as (λ t. is_better c.goal w.value g.value ≡ t → counts_for c (bar_of (cond t None (Some g)) (Some w)) new.value ≡ false →
+      elim (is_better c.goal w.value g.value) as (λ t. is_better c.goal w.value g.value ≡ t → counts_for c
+      (bar_of (cond t None (Some g)) (Some w)) new.value ≡ false →
       cond t None (Some g) ≡ kept c (cond (is_better c.goal new.value g.value) (Some new) (Some g)) (Some w)) [
         | true ↦ λ e k. elim (is_better c.goal new.value g.value) as (λ t. None ≡ kept c (cond t (Some new) (Some g)) (Some w)) [
           | true ↦ sym (kept_worse w new (not-false (is_better c.goal w.value new.value) k))
@@ -247,7 +249,8 @@ good_new c e s b u p x g at alone free count is_cut =
     let order = subst (λ z. InOrder z) at g.ordered in
     record {
       stepped = steps_go_on c.model c.spans (head_now c (Some new)) s.lines (Worse p ∷ []) all (b ∷ u) u 0 0 0
-          (steps_under c.model c.spans (head_now c s.found) (head_now c (Some new)) (λ y d l ch k. more best y d l ch k) s.lines 0 all (b ∷ u) 0 g.all_checked st)
+          (steps_under c.model c.spans (head_now c s.found) (head_now c (Some new)) (λ y d l ch k. more best y d l ch k) s.lines 0 all
+          (b ∷ u) 0 g.all_checked st)
           (is_cut, (refl, refl));
       boxes = here.1;
       ordered = order.1;

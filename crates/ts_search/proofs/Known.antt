@@ -1,29 +1,25 @@
 -- What is known of a search, from what is asked of its spans.
-use Rattle.std.proofs.Common.{◌≡◌, ◌⊎◌, ℕ, zero, suc, ◌+◌, ◌-◌, ◌<◌, ◌≤◌, ℤ, Bool, true, false, not, List, [], ◌∷◌, length, get_or, Option, Some, None, MatchOption, slice_get, unwrap_or, refl, sym, ◌∙◌, ap, subst, inl, inr, ⊎_elim, arith}
+use Rattle.std.proofs.Common.{◌≡◌, ◌⊎◌, ℕ, ◌≤◌, ℤ, Bool, true, false, not, List, length, Some, MatchOption, refl, ap, inl, inr, ⊎_elim}
 use Rattle.std.proofs.lemmas.Bool.{not-true, not-false}
-use Rattle.std.specs.List.{AllByRecursion}
 use Rattle.ts_base.specs.declared.ext.Ext.{Ext}
 use Rattle.ts_base.specs.declared.goal.Goal.{Goal}
 use Rattle.ts_base.specs.declared.goal.Goal.TheVariants.{Maximise, Minimise}
 use Rattle.ts_base.specs.Numbers.{ext_le}
 use Rattle.ts_base.proofs.Order.{le_refl, le_trans, le_antisym, le_other}
 use Rattle.ts_domain.specs.BoxSeries.{InBox, IsBox}
-use Rattle.ts_model.specs.declared.model.Require.{Require}
-use Rattle.ts_model.specs.Meets.{IsMet, Meets}
-use Rattle.ts_model.specs.Stated.{Stated}
+use Rattle.ts_model.specs.Meets.{Meets}
 use Rattle.ts_filter.specs.declared.bar.Bar.{Bar}
 use Rattle.ts_filter.specs.Accepts.{objective_of}
-use Rattle.ts_filter.specs.Boxes.{Box, IsPart, box_of}
+use Rattle.ts_filter.specs.Boxes.{Box, IsPart}
 use Rattle.ts_filter.specs.Excluded.{is_better, counts}
-use Rattle.ts_filter.specs.Laws.{IsSound, IsExact}
-use Rattle.ts_filter.specs.RefutedWorseDrop.{Spans, IsRefuted, IsCut}
+use Rattle.ts_filter.specs.Laws.{IsSound}
+use Rattle.ts_filter.specs.RefutedWorseDrop.{IsRefuted, IsCut}
 use Rattle.ts_filter.proofs.BoxParts.{inside_length, in_box_inside}
 use Rattle.ts_filter.proofs.SoundLaws.{higher_bar}
 use Rattle.ts_filter.proofs.TestLaws.{tests_tell}
-use Rattle.ts_search.specs.Dive.{Find, value_of}
+use Rattle.ts_search.specs.Dive.{value_of}
 use Rattle.ts_search.specs.Forms.{Alone, form}
 use Rattle.ts_search.specs.LineOf.{Search, last, requirements, refuted, cut}
-use Rattle.ts_search.proofs.Parts.{alone_is, alone_within}
 
 -- what is better under a goal
 

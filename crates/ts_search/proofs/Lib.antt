@@ -8,6 +8,7 @@ pub mod ListGood
 pub mod ListLean
 pub mod ListSolves
 pub mod ListUnique
+pub mod NextDrop
 pub mod Parts
 pub mod Reason
 pub mod Right

@@ -1,5 +1,5 @@
 -- What every turn of a listing keeps.
-use Rattle.std.proofs.Common.{◌≡◌, ◌⊎◌, ℕ, zero, suc, ◌+◌, ◌<◌, ◌≤◌, ℤ, Bool, true, false, cond, nat_lt, List, [], ◌∷◌, ◌++◌, length, slice_get, Option, Some, None, refl, sym, ◌∙◌, ap, subst, inl, inr, ⊎_elim, arith, ltb-true}
+use Rattle.std.proofs.Common.{◌≡◌, ◌⊎◌, ℕ, zero, suc, ◌+◌, ◌<◌, ◌≤◌, ℤ, Bool, true, false, cond, nat_lt, List, [], ◌∷◌, ◌++◌, length, slice_get, Option, Some, None, refl, sym, ap, subst, inl, inr, ⊎_elim, arith, ltb-true}
 use Rattle.std.proofs.lemmas.List.{length_push}
 use Rattle.std.specs.List.{AllByRecursion}
 use Rattle.ts_certificate.specs.declared.certificate.Aim.TheVariants.{List as ListOf}
@@ -8,8 +8,7 @@ use Rattle.ts_certificate.specs.declared.certificate.TreeLine.{TreeLine}
 use Rattle.ts_certificate.specs.declared.certificate.TreeLine.TheVariants.{Split, Remove, No, Worse, Yes, Unsearched}
 use Rattle.ts_domain.specs.BoxSeries.{InBox, IsBefore, AreRising}
 use Rattle.ts_model.specs.Meets.{Meets}
-use Rattle.ts_model.specs.Stated.{Stated}
-use Rattle.ts_filter.specs.Boxes.{Box, IsPart, InSome, only, box_of}
+use Rattle.ts_filter.specs.Boxes.{Box, InSome, only}
 use Rattle.ts_filter.specs.Holds.{IsListed}
 use Rattle.ts_filter.specs.Rules.{Head, KeepsRule}
 use Rattle.ts_filter.specs.Steps.{made_by, Steps}
@@ -121,7 +120,8 @@ list_yes c e count s b u x g at room alone free =
     let earlier = λ (z : List ℤ) (i : IsListed z s.listed). g.before z x i (subst (λ w. InSome w x) (sym at) (inl within)) in
     record {
       stepped = steps_go_on c.model c.spans (head_so_far count xs) s.lines (Yes ∷ []) all (b ∷ u) u 0 n (length xs)
-          (steps_under c.model c.spans (head_so_far count s.listed) (head_so_far count xs) (λ y d l ch k. more y d l ch k) s.lines 0 all (b ∷ u) n g.all_checked st)
+          (steps_under c.model c.spans (head_so_far count s.listed) (head_so_far count xs) (λ y d l ch k. more y d l ch k) s.lines 0 all
+          (b ∷ u) n g.all_checked st)
           (record { listing = tt; series = x; listed = get_last s.listed x; alone = alone_is c.model.cells b x here.0 alone }, (refl, omega (arith, long)));
       boxes = here.1;
       ordered = order.1;

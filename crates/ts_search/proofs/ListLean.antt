@@ -1,5 +1,5 @@
 -- The lines of a listing are lean.
-use Rattle.std.proofs.Common.{◌≡◌, ℕ, zero, suc, ◌<◌, ℤ, Bool, true, false, cond, nat_lt, List, [], ◌∷◌, ◌++◌, length, Option, Some, None, option_map, unwrap_or, refl, sym, ◌∙◌, ap, subst, ⊎_elim, arith, ltb-true, ltb-false}
+use Rattle.std.proofs.Common.{◌≡◌, ℕ, zero, suc, ◌<◌, ℤ, Bool, true, false, cond, nat_lt, List, [], ◌∷◌, ◌++◌, length, Option, Some, None, option_map, unwrap_or, refl, ◌∙◌, ap, subst, arith, ltb-true, ltb-false}
 use Rattle.ts_certificate.specs.declared.certificate.Aim.{Aim}
 use Rattle.ts_certificate.specs.declared.certificate.Aim.TheVariants.{List as ListOf}
 use Rattle.ts_certificate.specs.declared.certificate.TreeLine.{TreeLine}
@@ -11,7 +11,7 @@ use Rattle.ts_search.specs.Dive.{Find}
 use Rattle.ts_search.specs.Drops.{or_later, next_drop}
 use Rattle.ts_search.specs.Forms.{Form, Alone, Wide, form}
 use Rattle.ts_search.specs.Found.{tally_after, tally}
-use Rattle.ts_search.specs.Lean.{first_reason, IsFree, IsLeanLine, MayFollow, or_open, AreLean, most_told}
+use Rattle.ts_search.specs.Lean.{IsFree, IsLeanLine, MayFollow, or_open, AreLean, most_told}
 use Rattle.ts_search.specs.LineOf.{Search, last, requirements, refuted_last, first_no, branch_line, form_line, line_of}
 use Rattle.ts_search.specs.Turns.{ListState, list_turn_on, list_turn, list_turns, list_start, left_open, list_claim, list_certificate}
 use Rattle.ts_search.proofs.Known.{Known}
@@ -42,7 +42,8 @@ module _ (c : Search) (count : ℕ) (f found : Option Find) (b : Box) (i : IsPar
       by_form p (Alone x) w = tt
       by_form p (Wide k t) w = inside p k t w (first_no c b (requirements c) 1) refl (reason_first_no c b (requirements c) 1)
 
-      at_end : (o : Option ℕ) → refuted_last c b ≡ o → IsLeanLine c (ListOf count) f b (unwrap_or (option_map (λ j. No j (last c)) o) (form_line c (ListOf count) found b (form b)))
+      at_end : (o : Option ℕ) → refuted_last c b ≡ o → IsLeanLine c (ListOf count) f b
+          (unwrap_or (option_map (λ j. No j (last c)) o) (form_line c (ListOf count) found b (form b)))
       at_end None p = by_form p (form b) refl
       at_end (Some j) p = ap (λ o. or_later (option_map (λ j. No j (last c)) o) (or_later (first_no c b (requirements c) 1) None)) p
 
@@ -110,6 +111,7 @@ list_lean c count n k =
     let g = list_good_turns c k count n (list_start c) begin in
     as_claimed c count told (s.lines ++ left_open s.pending) (nat_lt told count) s.pending
     (λ q. (let a = ltb-false told count q in let b = g.few in omega arith))
-    (lean_append c (ListOf count) (Some count) (head_so_far count s.listed) false s.lines (left_open s.pending) None 0 all s.pending told g.all_checked g.stepped
+    (lean_append c (ListOf count) (Some count) (head_so_far count s.listed) false s.lines
+    (left_open s.pending) None 0 all s.pending told g.all_checked g.stepped
     (list_lean_turns c count k n (list_start c) begin tt)
     (lean_left c (ListOf count) (Some count) (tally c None all s.lines) false told s.pending))

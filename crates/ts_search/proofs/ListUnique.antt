@@ -12,8 +12,8 @@ use Rattle.ts_certificate.specs.Certificate.{Cert, checked_count, open_count}
 use Rattle.ts_domain.specs.BoxSeries.{InBox, series_count}
 use Rattle.ts_model.specs.Meets.{Meets}
 use Rattle.ts_model.specs.Stated.{Stated}
-use Rattle.ts_filter.specs.Accepts.{AllTold, HasTree}
-use Rattle.ts_filter.specs.Boxes.{Box, IsPart, box_of}
+use Rattle.ts_filter.specs.Accepts.{AllTold}
+use Rattle.ts_filter.specs.Boxes.{Box, IsPart}
 use Rattle.ts_filter.specs.RefutedWorseDrop.{Spans}
 use Rattle.ts_filter.specs.Rules.{Head, head_of, claimed, MayStayOpen, IsWorseFor, KeepsRule}
 use Rattle.ts_filter.specs.Steps.{made_by, Steps}
@@ -21,7 +21,7 @@ use Rattle.ts_filter.specs.Tree.{told_by, told_after}
 use Rattle.ts_filter.proofs.BoxParts.{only_series, part_self}
 use Rattle.ts_filter.proofs.TreeLaws.{parts_made}
 use Rattle.ts_search.specs.Dive.{Find}
-use Rattle.ts_search.specs.Drops.{least, or_later}
+use Rattle.ts_search.specs.Drops.{or_later}
 use Rattle.ts_search.specs.Forms.{Form, Alone, Wide, form}
 use Rattle.ts_search.specs.Found.{tally_after}
 use Rattle.ts_search.specs.Laws.{IsBudget}
@@ -68,7 +68,8 @@ module _ (c : Search) (e : Known c) (count : ℕ) (f found : Option Find) (b : B
       go (Wide first t) w = free_line first t w n.0 ∙ ap (λ o. unwrap_or (option_map removal_line o) (Split first t)) n.1
   list_fixes h y (No j p) a q ch r n = sym (at_end (refuted_last c b) refl)
     where
-      reason : (o : Option ℕ) → refuted_last c b ≡ o → or_later (option_map (λ j. No j (last c)) o) (or_later (first_no c b (requirements c) 1) None) ≡ Some (No j p)
+      reason : (o : Option ℕ) → refuted_last c b ≡ o → or_later (option_map (λ j. No j (last c)) o)
+          (or_later (first_no c b (requirements c) 1) None) ≡ Some (No j p)
       reason o z = ap (λ o. or_later (option_map (λ j. No j (last c)) o) (or_later (first_no c b (requirements c) 1) None)) (sym z) ∙ n
 
       by_form : refuted_last c b ≡ None → (g : Form) → form b ≡ g → line_of c (ListOf count) found b ≡ No j p
@@ -96,7 +97,8 @@ module _ (c : Search) (e : Known c) (count : ℕ) (f found : Option Find) (b : B
   list_fixes h y Unsearched a q ch r n = absurd ch
 
 -- what is known of the rest of a tree; spare: the lines that the budget leaves
-pub record ListRest (c : Search) (count : ℕ) (h : Head) (most : Option ℕ) (f : Option Find) (o : Bool) (y z spare : ℕ) (w : List Box) (ls : List TreeLine) : Type 0 where
+pub record ListRest (c : Search) (count : ℕ) (h : Head) (most : Option ℕ) (f : Option Find) (o : Bool) (y z spare : ℕ) (w : List Box)
+    (ls : List TreeLine) : Type 0 where
   pub claim : claimed h.claim ≡ None
   pub meet : AllByRecursion (Meets c.model) h.series
   pub steps : Steps c.model c.spans h w y ls [] z
@@ -114,7 +116,8 @@ told_grows told (Worse p) = omega arith
 told_grows told Yes = omega arith
 told_grows told Unsearched = omega arith
 
-told_more : (m : Stated) (s : Spans) (h : Head) (ls : List TreeLine) (told : ℕ) (w left : List Box) (after : ℕ) → Steps m s h w told ls left after → told ≤ after
+told_more : (m : Stated) (s : Spans) (h : Head) (ls : List TreeLine) (told : ℕ) (w left : List Box) (after : ℕ) → Steps m s h w told ls left after →
+    told ≤ after
 told_more m s h [] told w left after f = omega (arith, f.1)
 told_more m s h (l ∷ ls) told [] left after f = absurd f
 told_more m s h (l ∷ ls) told (b ∷ w) left after f =
@@ -204,9 +207,11 @@ module _ (c : Search) (count : ℕ) where
         let rest = list_rest_checked h most f o y z spare b w l ls k r in
         let also = list_rest_checked g other f o y z' spare b w l ms k (subst (λ t. ListRest c count g other f o y z' spare (b ∷ w) (t ∷ ms)) (sym p) s) in
         ap (λ t. l ∷ t)
-        (same_lists ls ms (tally_after c f (form b) l) o (told_by l y) (spare - 1) (made_by l b ++ w) (parts_made c.model c.spans h y l b w bs r.steps.0) rest also)
+        (same_lists ls ms (tally_after c f (form b) l) o (told_by l y) (spare - 1) (made_by l b ++ w)
+        (parts_made c.model c.spans h y l b w bs r.steps.0) rest also)
         ∙ ap (λ t. t ∷ ms) p)
-        (λ q. absurd (list_too_early g h other most f o y z' z spare b w l ms ls (subst (λ t. ListRest c count g other f o y z' spare (b ∷ w) (t ∷ ms)) q s) k r))
+        (λ q. absurd (list_too_early g h other most f o y z' z spare b w l ms ls
+        (subst (λ t. ListRest c count g other f o y z' spare (b ∷ w) (t ∷ ms)) q s) k r))
         (checked_or d))
         (λ q. ⊎_elim
         (λ k. absurd (list_too_early h g most other f o y z z' spare b w d ls ms (subst (λ t. ListRest c count h most f o y z spare (b ∷ w) (t ∷ ls)) q r) k s))
@@ -237,7 +242,8 @@ module _ (m : Stated) (s : Spans) (h g : Head) where
   same_told (Yes ∷ ls) y (b ∷ w) v v' z z' p q i a d =
       ⊎_elim
       (λ e.
-      let x : p.0.series ≡ q.0.series = only_series q.0.series p.0.series (subst (λ b. InBox p.0.series b) (sym p.0.alone ∙ q.0.alone) (in_box_of p.0.series)) in
+      let x : p.0.series ≡ q.0.series = only_series q.0.series p.0.series
+      (subst (λ b. InBox p.0.series b) (sym p.0.alone ∙ q.0.alone) (in_box_of p.0.series)) in
       ap (λ n. slice_get h.series n) (sym e) ∙ p.0.listed ∙ ap Some x ∙ sym q.0.listed ∙ ap (λ n. slice_get g.series n) e)
       (λ e. same_told ls (y + 1) w v v' z z' p.1 q.1 i (omega (arith, e)) d)
       (eq-or-lt_of_le a)
@@ -273,7 +279,8 @@ module _ (m : Stated) (count n : ℕ) where
   list_spent (All j) xs ls l k p = absurd (let e = k (λ z. z) in omega arith)
   list_spent (BudgetList j) xs ls l k p = inl l.2
 
-  list_room : (claim : Claim) (xs : List (List ℤ)) (ls : List TreeLine) → IsListedBy m count n claim xs ls → (most_told claim ≡ Some count) ⊎ (length xs < count)
+  list_room : (claim : Claim) (xs : List (List ℤ)) (ls : List TreeLine) → IsListedBy m count n claim xs ls →
+      (most_told claim ≡ Some count) ⊎ (length xs < count)
   list_room (Best v) xs ls l = absurd l
   list_room Infeasible xs ls l = absurd l
   list_room (BudgetBest v) xs ls l = absurd l

@@ -1,21 +1,21 @@
 -- Boxes by their form: one series, or two sides of which the lower comes first.
-use Rattle.std.proofs.Common.{◌≡◌, ◌⊎◌, ℕ, zero, suc, ◌+◌, ◌-◌, ◌/◌, ◌<◌, ◌≤◌, ℤ, pos, ◌<ℤ◌, ◌≤ℤ◌, List, [], ◌∷◌, ◌++◌, length, get_or, take, refl, sym, ◌∙◌, ap, subst, inl, inr, ⊎_elim, arith}
+use Rattle.std.proofs.Common.{◌≡◌, ◌⊎◌, ℕ, zero, suc, ◌+◌, ◌-◌, ◌/◌, ◌<◌, ◌≤◌, ℤ, ◌<ℤ◌, ◌≤ℤ◌, List, [], ◌∷◌, ◌++◌, length, get_or, take, refl, sym, ◌∙◌, ap, subst, inl, inr, ⊎_elim, arith}
 use Rattle.std.proofs.lemmas.Int.{ints}
 use Rattle.std.specs.Prelude.{Contains}
 use Rattle.std.specs.List.{AllByRecursion}
 use Rattle.ts_domain.specs.BoxSeries.{InBox, IsBefore, IsBox}
 use Rattle.ts_domain.specs.Kept.{values_up_to, values_above}
-use Rattle.ts_domain.specs.Values.{Rising, IsDomain}
+use Rattle.ts_domain.specs.Values.{Rising}
 use Rattle.ts_domain.proofs.BoxLaws.{contains_up_to, contains_above, some_stay}
 use Rattle.ts_domain.proofs.Sets.{contains_cons}
 use Rattle.ts_certificate.specs.declared.certificate.TreeLine.{TreeLine}
 use Rattle.ts_certificate.specs.declared.certificate.TreeLine.TheVariants.{Split, Remove, No, Worse, Yes, Unsearched}
 use Rattle.ts_model.specs.Stated.{Stated}
-use Rattle.ts_filter.specs.Boxes.{Box, HasCell, values_at, low_side, high_side, without, box_of, IsPart, InSome}
+use Rattle.ts_filter.specs.Boxes.{Box, HasCell, values_at, low_side, high_side, box_of, IsPart, InSome}
 use Rattle.ts_filter.specs.RefutedWorseDrop.{Spans, IsDrop}
 use Rattle.ts_filter.specs.Rules.{Head, IsSplit, KeepsRule}
 use Rattle.ts_filter.specs.Steps.{made_by}
-use Rattle.ts_filter.proofs.BoxParts.{from_low, from_high, from_without, lower_first, only_series, place}
+use Rattle.ts_filter.proofs.BoxParts.{from_low, from_high, from_without, lower_first, only_series}
 use Rattle.ts_search.specs.Forms.{Form, Alone, Wide, after_value, form}
 
 abbrev pub AreParts : Box → List Box → Type 0
@@ -113,7 +113,8 @@ alone_within m b x i e = subst (λ z. InBox x z) (sym (alone_is m b x i e)) (in_
 pub wide_split : (m b : Box) (k : ℕ) (t : ℤ) → IsPart b m → form b ≡ Wide k t → IsSplit k t b
 wide_split m b k t i e = (subst (λ g. FormFits b g) e (form_fits b i.box)).0
 
-pub wide_order : (m b : Box) (k : ℕ) (t : ℤ) → IsPart b m → form b ≡ Wide k t → (x y : List ℤ) → InBox x (low_side k t b) → InBox y (high_side k t b) → IsBefore x y
+pub wide_order : (m b : Box) (k : ℕ) (t : ℤ) → IsPart b m → form b ≡ Wide k t → (x y : List ℤ) → InBox x (low_side k t b) →
+    InBox y (high_side k t b) → IsBefore x y
 wide_order m b k t i e x y p q =
     let f = subst (λ g. FormFits b g) e (form_fits b i.box) in lower_first k t b x y f.0.cell f.1 p q
 
@@ -135,15 +136,18 @@ abbrev pub InOrder : List Box → Type 0
 InOrder [] = Unit {0}
 InOrder (b ∷ w) = ((x y : List ℤ) → InBox x b → InSome w y → IsBefore x y) × InOrder w
 
-pub in_made : (m : Stated) (s : Spans) (h : Head) (told : ℕ) (l : TreeLine) (b : Box) (u : List Box) (y : List ℤ) → KeepsRule m s h told b l → InSome (made_by l b ++ u) y → InSome (b ∷ u) y
-in_made m s h told (Split k t) b u y r i = ⊎_elim (λ a. inl (from_low k t b y r.cell a).0) (λ q. ⊎_elim (λ a. inl (from_high k t b y r.cell a).0) (λ a. inr a) q) i
+pub in_made : (m : Stated) (s : Spans) (h : Head) (told : ℕ) (l : TreeLine) (b : Box) (u : List Box) (y : List ℤ) → KeepsRule m s h told b l →
+    InSome (made_by l b ++ u) y → InSome (b ∷ u) y
+in_made m s h told (Split k t) b u y r i = ⊎_elim (λ a. inl (from_low k t b y r.cell a).0)
+    (λ q. ⊎_elim (λ a. inl (from_high k t b y r.cell a).0) (λ a. inr a) q) i
 in_made m s h told (Remove k v j) b u y r i = ⊎_elim (λ a. inl (from_without k v b y r.cell a).0) (λ a. inr a) i
 in_made m s h told (No j p) b u y r i = inr i
 in_made m s h told (Worse p) b u y r i = inr i
 in_made m s h told Yes b u y r i = inr i
 in_made m s h told Unsearched b u y r i = inr i
 
-pub ordered_split : (k : ℕ) (t : ℤ) (b : Box) (u : List Box) → HasCell k b → ((x y : List ℤ) → InBox x (low_side k t b) → InBox y (high_side k t b) → IsBefore x y) →
+pub ordered_split : (k : ℕ) (t : ℤ) (b : Box) (u : List Box) → HasCell k b →
+    ((x y : List ℤ) → InBox x (low_side k t b) → InBox y (high_side k t b) → IsBefore x y) →
     InOrder (b ∷ u) → InOrder (low_side k t b ∷ high_side k t b ∷ u)
 ordered_split k t b u c h o = (
   (λ x y p q. ⊎_elim (λ a. h x y p a) (λ a. o.0 x y (from_low k t b x c p).0 a) q),

@@ -1,20 +1,20 @@
 -- A lean line is the line of its box, and the line of a box is lean.
-use Rattle.std.proofs.Common.{◌≡◌, ◌⊎◌, ℕ, zero, suc, ◌+◌, ◌-◌, ◌<◌, ◌≤◌, ℤ, Bool, true, false, not, cond, ◌||◌, List, [], ◌∷◌, length, Option, Some, None, option_map, unwrap_or, slice_get, refl, sym, ◌∙◌, ap, subst, inl, inr, ⊎_elim, arith, eq-or-lt_of_le}
+use Rattle.std.proofs.Common.{◌≡◌, ◌⊎◌, ℕ, zero, suc, ◌+◌, ◌-◌, ◌<◌, ◌≤◌, ℤ, Bool, true, false, not, cond, ◌||◌, Option, Some, None, option_map, unwrap_or, refl, sym, ◌∙◌, ap, subst, inl, inr, ⊎_elim, arith, eq-or-lt_of_le}
 use Rattle.std.proofs.lemmas.Bool.{not-true, false_from_ne_true, or_parts}
 use Rattle.std.proofs.lemmas.Option.{slice_get_within}
 use Rattle.ts_certificate.specs.declared.certificate.Aim.{Aim}
-use Rattle.ts_certificate.specs.declared.certificate.Aim.TheVariants.{Best as BestOf, List as ListOf}
+use Rattle.ts_certificate.specs.declared.certificate.Aim.TheVariants.{Best as BestOf}
 use Rattle.ts_certificate.specs.declared.certificate.TreeLine.{TreeLine}
 use Rattle.ts_certificate.specs.declared.certificate.TreeLine.TheVariants.{Split, Remove, No, Worse, Yes, Unsearched}
 use Rattle.ts_filter.specs.declared.bar.Bar.TheVariants.{Better, AsGood}
 use Rattle.ts_filter.specs.Boxes.{Box, HasCell, IsPart}
 use Rattle.ts_filter.specs.Excluded.{is_better}
-use Rattle.ts_filter.specs.RefutedWorseDrop.{IsRefuted, IsCut}
+use Rattle.ts_filter.specs.RefutedWorseDrop.{IsRefuted}
 use Rattle.ts_filter.specs.Rules.{Head, IsListing, KeepsRule}
 use Rattle.ts_search.specs.Dive.{Find}
 use Rattle.ts_search.specs.Drops.{Removal, least, or_later, next_drop}
 use Rattle.ts_search.specs.Forms.{Form, Alone, Wide, form}
-use Rattle.ts_search.specs.Lean.{below_told, below_warm, below, worse_line, last_worse, inner_reason, first_reason, has_goal, IsFree, IsLeanLine}
+use Rattle.ts_search.specs.Lean.{below_told, below_warm, below, worse_line, last_worse, inner_reason, first_reason, IsFree, IsLeanLine}
 use Rattle.ts_search.specs.LineOf.{Search, last, requirements, inner, refuted, cut, bar_of, cut_by, refuted_last, no_line, first_no, removal_line, branch_line, wide_line, form_line, line_of}
 use Rattle.ts_search.proofs.Choice.{LeastFits, least_fits}
 use Rattle.ts_search.proofs.Good.{kept}
@@ -41,10 +41,12 @@ one_bar c p b (Some f) (Some w) =
     (cut c p b (Better f.value) || cut c p b (AsGood w.value)) ≡ cut_by c (bar_of (cond t None (Some f)) (Some w)) p b) [
       | true ↦ λ e. implies (cut c p b (Better f.value)) (cut c p b (AsGood w.value))
           (cut_more c p b (Better f.value) (AsGood w.value)
-          (λ u k. ⊎_elim (λ a. absurd (clash (is_better c.goal w.value u) a (not-true (is_better c.goal w.value u) k))) (λ a. a) (apart c.goal w.value u f.value e)))
+          (λ u k. ⊎_elim (λ a. absurd (clash (is_better c.goal w.value u) a (not-true (is_better c.goal w.value u) k))) (λ a. a)
+          (apart c.goal w.value u f.value e)))
       | false ↦ λ e. implied (cut c p b (Better f.value)) (cut c p b (AsGood w.value))
           (cut_more c p b (AsGood w.value) (Better f.value)
-          (λ u k. ap not (false_from_ne_true (is_better c.goal w.value u) (λ a. clash (is_better c.goal w.value f.value) (chain c.goal w.value u f.value a k) e))))
+          (λ u k. ap not (false_from_ne_true (is_better c.goal w.value u)
+          (λ a. clash (is_better c.goal w.value f.value) (chain c.goal w.value u f.value a k) e))))
     ] refl
 
 least_same : (q r : ℕ → Bool) → ((i : ℕ) → q i ≡ r i) → (n j : ℕ) → least q n j ≡ least r n j

@@ -1,6 +1,5 @@
 -- What is asked of spans gives what the search has to know.
-use Rattle.std.proofs.Common.{◌≡◌, ℕ, zero, suc, ◌+◌, ◌-◌, ◌<◌, ◌≤◌, ℤ, Bool, true, false, List, [], ◌∷◌, length, get_or, Option, Some, None, MatchOption, slice_get, unwrap_or, refl, sym, ◌∙◌, ap, subst, inl, inr, ⊎_elim, arith}
-use Rattle.std.proofs.lemmas.Bool.{false_from_ne_true}
+use Rattle.std.proofs.Common.{◌≡◌, ℕ, zero, suc, ◌-◌, ◌<◌, ◌≤◌, ℤ, Bool, true, false, List, [], ◌∷◌, length, get_or, Option, Some, None, MatchOption, slice_get, unwrap_or, refl, sym, ◌∙◌, ap, subst, arith}
 use Rattle.std.proofs.lemmas.List.{length-map}
 use Rattle.std.proofs.lemmas.Option.{slice_get-get_or, slice_get_within}
 use Rattle.std.specs.Prelude.{IsSome, IfSome}
@@ -8,7 +7,7 @@ use Rattle.std.specs.List.{AllByRecursion}
 use Rattle.ts_base.specs.declared.ext.Ext.{Ext}
 use Rattle.ts_base.specs.declared.ext.Ext.TheVariants.{NegInf}
 use Rattle.ts_base.specs.declared.goal.Goal.{Goal}
-use Rattle.ts_certificate.specs.declared.certificate.Aim.TheVariants.{Best as BestOf, List as ListOf}
+use Rattle.ts_certificate.specs.declared.certificate.Aim.TheVariants.{Best as BestOf}
 use Rattle.ts_domain.specs.BoxSeries.{InBox}
 use Rattle.ts_pattern.specs.TermValue.{value_of as value_of_parts}
 use Rattle.ts_model.specs.declared.model.Require.{Require}
@@ -108,7 +107,8 @@ module _ (c : Search) (right : AreRight c.model c.spans) where
       go true q = q
       go false q =
           let n : length x ≡ last c = series_length x c.model.cells within in
-          let is = ((singles_are_exact c.model c.spans right.whole right.single).cut c.goal bar x (value_of c.model x) within (valued c.model c.spans right x some)).1 q in
+          let is = ((singles_are_exact c.model c.spans right.whole right.single).cut c.goal bar x (value_of c.model x) within
+          (valued c.model c.spans right x some)).1 q in
           absurd (clash (cut c (last c) b bar)
           (subst (λ z. cut c (last c) z bar ≡ true) (sym (alone_is c.model.cells b x i e))
           (subst (λ z. cut c z (box_of x) bar ≡ true) n (from_cut c (length x) (box_of x) bar is))) k)

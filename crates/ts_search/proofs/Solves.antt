@@ -1,5 +1,5 @@
 -- At its end the search has a certificate that is solved.
-use Rattle.std.proofs.Common.{◌≡◌, ◌⊎◌, ℕ, zero, suc, ◌+◌, ◌<◌, ◌≤◌, ℤ, Bool, true, false, List, [], ◌∷◌, ◌++◌, length, Option, Some, None, MatchOption, refl, sym, ◌∙◌, ap, subst, inl, inr, ⊎_elim, arith, append-nil}
+use Rattle.std.proofs.Common.{◌≡◌, ◌⊎◌, ℕ, zero, suc, ◌+◌, ◌<◌, ◌≤◌, ℤ, true, false, List, [], ◌∷◌, ◌++◌, length, Option, Some, None, MatchOption, refl, sym, ◌∙◌, ap, subst, inl, inr, ⊎_elim, arith, append-nil}
 use Rattle.std.proofs.lemmas.Bool.{not-false}
 use Rattle.std.proofs.lemmas.List.{length_push}
 use Rattle.std.specs.Prelude.{IsSome}
@@ -13,11 +13,9 @@ use Rattle.ts_certificate.specs.declared.certificate.Claim.TheVariants.{Best, In
 use Rattle.ts_certificate.specs.declared.certificate.TreeLine.{TreeLine}
 use Rattle.ts_certificate.specs.declared.certificate.TreeLine.TheVariants.{Split, Remove, No, Worse, Yes, Unsearched}
 use Rattle.ts_certificate.specs.Certificate.{Cert, checked_count, open_count}
-use Rattle.ts_certificate.specs.Grammar.{series_count}
 use Rattle.ts_model.specs.FirstBest.{HasObjective, FirstBest, is_as_good}
-use Rattle.ts_model.specs.Meets.{Meets, value_at}
-use Rattle.ts_model.specs.Stated.{Stated}
-use Rattle.ts_filter.specs.Accepts.{Accepts, AllFit, HasTree, ClaimFits, objective_of, value_of_term}
+use Rattle.ts_model.specs.Meets.{Meets}
+use Rattle.ts_filter.specs.Accepts.{Accepts, HasTree, value_of_term}
 use Rattle.ts_filter.specs.Boxes.{Box}
 use Rattle.ts_filter.specs.Excluded.{is_better}
 use Rattle.ts_filter.specs.Rules.{Head, claimed, MayStayOpen, KeepsRule, IsWorseFor}
@@ -29,7 +27,7 @@ use Rattle.ts_search.specs.LineOf.{Search, line_of}
 use Rattle.ts_search.specs.Solved.{IsSolvedBy}
 use Rattle.ts_search.specs.Turns.{State, turn_on, turn, turns, start, left_open, found_or_warm, series_of, budget_claim, solve_certificate}
 use Rattle.ts_search.proofs.Good.{Good, FoundOk, Settled, head_now, found_is_best, good_start, good_turns}
-use Rattle.ts_search.proofs.Known.{never_itself, Known, KnownBest}
+use Rattle.ts_search.proofs.Known.{never_itself, KnownBest}
 use Rattle.ts_search.proofs.Walk.{IsChecked, steps_under, tally_open, open_steps, checked_open, opens_open}
 
 -- the turns end with nothing pending, or with a line for each
@@ -163,7 +161,8 @@ solved_budget c e some n (Some w) ls st h k p f = record {
   claim = (w.series, refl, k, p, f);
 }
 
-found_end : (c : Search) → KnownBest c → IsSome c.model.objective → (n : ℕ) (ls : List TreeLine) (f : Find) → Good c (record { lines = ls; pending = []; found = Some f }) →
+found_end : (c : Search) → KnownBest c → IsSome c.model.objective → (n : ℕ) (ls : List TreeLine) (f : Find) →
+    Good c (record { lines = ls; pending = []; found = Some f }) →
     length ls ≤ n → HasClaim c n (solve_cert c (Best f.value) (f.series ∷ []) (ls ++ []))
 found_end c e some n ls f g few =
     let all = c.model.cells ∷ [] in
@@ -231,7 +230,8 @@ solved_end c e some n ls (b ∷ u) found g few end =
     let all = c.model.cells ∷ [] in
     let o = found_or_warm found c.warm in
     let h = head c (budget_claim o) (series_of o) in
-    let st = steps_under c.model c.spans (head_now c found) h (same_value c (budget_claim o) (budget_claim o) [] (series_of o) (λ p d k. k)) ls 0 all (b ∷ u) 0 g.all_checked g.stepped in
+    let st = steps_under c.model c.spans (head_now c found) h (same_value c (budget_claim o) (budget_claim o) [] (series_of o) (λ p d k. k)) ls 0 all
+    (b ∷ u) 0 g.all_checked g.stepped in
     let full : length ls ≡ n = ⊎_elim (λ q. absurd (let z : ◌≡◌ {A = List Box} (b ∷ u) [] = q in cc)) (λ q. q) end in
     let long : open_count (ls ++ left_open (b ∷ u)) ≡ suc (length u) = opens_open ls (b ∷ u) g.all_checked in
     solved_budget c e some n o (ls ++ left_open (b ∷ u))

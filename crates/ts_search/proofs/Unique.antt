@@ -1,14 +1,12 @@
 -- The tree of a search is lean, there is one solved certificate, and a large budget is never spent.
-use Rattle.std.proofs.Common.{◌≡◌, ◌⊎◌, ℕ, zero, suc, ◌+◌, ◌-◌, ◌*◌, ◌<◌, ◌≤◌, ℤ, Bool, true, false, not, List, [], ◌∷◌, ◌++◌, length, Option, Some, None, MatchOption, refl, sym, ◌∙◌, ap, subst, inl, inr, ⊎_elim, arith}
-use Rattle.std.proofs.lemmas.Bool.{not-true}
+use Rattle.std.proofs.Common.{◌≡◌, ◌⊎◌, ℕ, zero, suc, ◌+◌, ◌-◌, ◌*◌, ◌<◌, ◌≤◌, ℤ, Bool, true, false, List, [], ◌∷◌, ◌++◌, length, Option, Some, None, MatchOption, refl, sym, ◌∙◌, ap, subst, inl, inr, ⊎_elim, arith}
 use Rattle.std.proofs.lemmas.Int.{ints}
-use Rattle.std.specs.List.{AllByRecursion}
 use Rattle.ts_base.specs.declared.ext.Ext.{Ext}
 use Rattle.ts_base.specs.declared.goal.Goal.{Goal}
 use Rattle.ts_base.specs.declared.goal.Goal.TheVariants.{Maximise, Minimise}
 use Rattle.ts_base.proofs.Order.{le_antisym}
 use Rattle.ts_certificate.specs.declared.certificate.Aim.{Aim}
-use Rattle.ts_certificate.specs.declared.certificate.Aim.TheVariants.{Best as BestOf, List as ListOf}
+use Rattle.ts_certificate.specs.declared.certificate.Aim.TheVariants.{Best as BestOf}
 use Rattle.ts_certificate.specs.declared.certificate.Claim.{Claim}
 use Rattle.ts_certificate.specs.declared.certificate.Claim.TheVariants.{Best, Infeasible, BudgetBest, BudgetNone}
 use Rattle.ts_certificate.specs.declared.certificate.Claim.TheVariants.{Full, All, BudgetList}
@@ -17,17 +15,16 @@ use Rattle.ts_certificate.specs.declared.certificate.TreeLine.TheVariants.{Split
 use Rattle.ts_certificate.specs.Certificate.{Cert, checked_count, open_count}
 use Rattle.ts_domain.specs.BoxSeries.{IsBefore, series_count}
 use Rattle.ts_model.specs.FirstBest.{HasObjective, FirstBest, is_as_good}
-use Rattle.ts_model.specs.Meets.{Meets}
 use Rattle.ts_model.specs.Stated.{Stated}
-use Rattle.ts_filter.specs.Accepts.{Accepts, HasTree, objective_of}
+use Rattle.ts_filter.specs.Accepts.{HasTree, objective_of}
 use Rattle.ts_filter.specs.Boxes.{Box}
 use Rattle.ts_filter.specs.RefutedWorseDrop.{Spans}
 use Rattle.ts_filter.specs.Rules.{Head, head_of, MayStayOpen}
 use Rattle.ts_filter.specs.Steps.{made_by, Steps}
-use Rattle.ts_filter.specs.Tree.{Tree, tree_lines, told_by, told_after}
+use Rattle.ts_filter.specs.Tree.{told_by, told_after}
 use Rattle.ts_filter.proofs.BoxParts.{part_self}
 use Rattle.ts_filter.proofs.TreeLaws.{parts_made, to_steps, tree_short}
-use Rattle.ts_search.specs.Dive.{Find, value_of}
+use Rattle.ts_search.specs.Dive.{Find}
 use Rattle.ts_search.specs.Forms.{form}
 use Rattle.ts_search.specs.Found.{tally_after, tally}
 use Rattle.ts_search.specs.Laws.{IsBudget}
@@ -186,7 +183,8 @@ module _ (c : Search) where
       }
 
   -- an open line where another tree has a checked one: the budget would not be spent
-  too_early : (h g : Head) (most other : Option ℕ) (f : Option Find) (o : Bool) (y z z' spare : ℕ) (b : Box) (w : List Box) (m : TreeLine) (ls ms : List TreeLine) →
+  too_early : (h g : Head) (most other : Option ℕ) (f : Option Find) (o : Bool) (y z z' spare : ℕ) (b : Box) (w : List Box) (m : TreeLine)
+      (ls ms : List TreeLine) →
       Rest c h most f o y z spare (b ∷ w) (Unsearched ∷ ls) → IsChecked m → Rest c g other f o y z' spare (b ∷ w) (m ∷ ms) → ⊥
   too_early h g most other f o y z z' spare b w m ls ms r k s =
       let none : checked_count ls ≡ 0 = none_after c (BestOf c.goal) most ls f y w r.lean.2 in
@@ -211,7 +209,8 @@ module _ (c : Search) where
         let rest = rest_checked h most f o y z spare b w l ls k r in
         let also = rest_checked g other f o y z' spare b w l ms k (subst (λ t. Rest c g other f o y z' spare (b ∷ w) (t ∷ ms)) (sym p) s) in
         ap (λ t. l ∷ t)
-        (same_trees ls ms (tally_after c f (form b) l) o (told_by l y) (spare - 1) (made_by l b ++ w) (parts_made c.model c.spans h y l b w bs r.steps.0) rest also)
+        (same_trees ls ms (tally_after c f (form b) l) o (told_by l y) (spare - 1) (made_by l b ++ w)
+        (parts_made c.model c.spans h y l b w bs r.steps.0) rest also)
         ∙ ap (λ t. t ∷ ms) p)
         (λ q. absurd (too_early g h other most f o y z' z spare b w l ms ls (subst (λ t. Rest c g other f o y z' spare (b ∷ w) (t ∷ ms)) q s) k r))
         (checked_or m))
@@ -338,7 +337,8 @@ module _ (c : Search) (k : Known c) (n : ℕ) where
 
   closed_of : (a : Cert) → HasClaim c n a → (MayStayOpen a.claim → ⊥) → open_count a.tree ≡ 0
   closed_of a s none =
-      closed_steps c.model c.spans (head_of a) none a.tree 0 (c.model.cells ∷ []) [] (told_after s.accepts.tree.tree 0) (steps_of c.model c.spans a s.accepts.tree)
+      closed_steps c.model c.spans (head_of a) none a.tree 0 (c.model.cells ∷ []) [] (told_after s.accepts.tree.tree 0)
+      (steps_of c.model c.spans a s.accepts.tree)
 
   rest_of : (a : Cert) (s : HasClaim c n a) → IsLean a →
       Rest c (head_of a) (most_told a.claim) None false 0 (told_after s.accepts.tree.tree 0) n (c.model.cells ∷ []) a.tree
@@ -353,7 +353,8 @@ module _ (c : Search) (k : Known c) (n : ℕ) where
   -- the rules leave no line to choose
   pub one_certificate : (a b : Cert) → HasClaim c n a → IsLean a → HasClaim c n b → IsLean b → a ≡ b
   one_certificate a b s l t m =
-      let trees = same_trees c (head_of a) (head_of b) (most_told a.claim) (most_told b.claim) (told_after s.accepts.tree.tree 0) (told_after t.accepts.tree.tree 0)
+      let trees = same_trees c (head_of a) (head_of b) (most_told a.claim) (most_told b.claim) (told_after s.accepts.tree.tree 0)
+      (told_after t.accepts.tree.tree 0)
       a.tree b.tree None false 0 n (c.model.cells ∷ []) (part_self c.model.cells k.box, tt) (rest_of a s l) (rest_of b t m) in
       let claims = same_claim c n b.tree a.series b.series a.claim b.claim (subst (λ z. IsSolvedBy c n a.claim a.series z) trees s.claim) t.claim
       (λ none. subst (λ z. open_count z ≡ 0) trees (closed_of a s none)) (closed_of b t) in

@@ -1,12 +1,12 @@
 -- What is promised of the search.
-use Rattle.std.specs.Prelude.{◌≡◌, ℕ, ◌+◌, ◌*◌, ◌≤◌, ℤ, List, length, IsSome, Some, None}
+use Rattle.std.specs.Prelude.{◌≡◌, ◌⊎◌, ℕ, ◌+◌, ◌*◌, ◌<◌, ◌≤◌, ℤ, ◌<ℤ◌, List, length, IsSome, Some, None}
 use Rattle.ts_base.specs.declared.goal.Goal.{Goal}
 use Rattle.ts_certificate.specs.declared.certificate.Aim.TheVariants.{Best as BestOf, List as ListOf}
 use Rattle.ts_certificate.specs.declared.certificate.Claim.{Claim}
 use Rattle.ts_certificate.specs.declared.certificate.Claim.TheVariants.{Best, Infeasible, BudgetBest, BudgetNone}
 use Rattle.ts_certificate.specs.declared.certificate.Claim.TheVariants.{Full, All, BudgetList}
 use Rattle.ts_certificate.specs.Certificate.{Cert}
-use Rattle.ts_domain.specs.BoxSeries.{series_count}
+use Rattle.ts_domain.specs.BoxSeries.{IsBox, series_count}
 use Rattle.ts_model.specs.Meets.{Meets}
 use Rattle.ts_model.specs.Stated.{Stated}
 use Rattle.ts_filter.specs.Accepts.{objective_of}
@@ -68,10 +68,17 @@ ListBudgetIsEnough =
 
 -- Drops and the dive.
 
--- the next drop is one that may be made, and there is one where one may be made
+-- r is the drop of value v of cell k by requirement j, or comes before it by cell, then value, then requirement
+abbrev pub IsNoLater : Removal → ℕ → ℤ → ℕ → Type 0
+IsNoLater r k v j =
+    (r.cell < k) ⊎ ((r.cell ≡ k) × ((r.value <ℤ v) ⊎ ((r.value ≡ v) × (r.requirement ≤ j))))
+
+-- the next drop is one that may be made and none comes before it, and there is one where one may be made
 pub record IsNextDrop (m : Stated) (s : Spans) (b : Box) : Type 0 where
   pub some : (r : Removal) → next_drop m s b ≡ Some r → IsDrop m s r.cell r.value r.requirement b
   pub none : next_drop m s b ≡ None → (k : ℕ) (v : ℤ) (j : ℕ) → IsDrop m s k v j b → ⊥
+  pub first : IsBox b → (r : Removal) → next_drop m s b ≡ Some r → (k : ℕ) (v : ℤ) (j : ℕ) → IsDrop m s k v j b →
+      IsNoLater r k v j
 
 abbrev pub NextDropFits : Type 0
 NextDropFits = (m : Stated) (s : Spans) (b : Box) → IsNextDrop m s b

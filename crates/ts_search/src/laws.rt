@@ -29,7 +29,7 @@ pub fn budget_is_enough()
     ensures list { ListBudgetIsEnough }
 {}
 
-/// The next drop may be made, and is none only where none may be made; after all drops none is left.
+/// The next drop is the first that may be made, and none only where none may be made; after all drops none is left.
 pub fn drops_end()
     ensures next { NextDropFits }
     ensures end { DropsEnd }

@@ -1,4 +1,5 @@
-use Rattle.ts_search.proofs.Closing.{next_drop_fits, drops_end}
+use Rattle.ts_search.proofs.Closing.{drops_end}
+use Rattle.ts_search.proofs.NextDrop.{next_drop_fits}
 use Rattle.ts_search.proofs.laws.drops_end.Goals as goal
 
 pub returns-clause-next : goal.returns-clause-next
