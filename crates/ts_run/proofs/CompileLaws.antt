@@ -1,6 +1,6 @@
--- The text of `compile`: there is one, it has a part for each term, and the automaton of a part answers the term's value.
+-- The text of `compile`: there is one, and it has a part for each term.
 use Rattle.std.proofs.Common.{◌≡◌, ℕ, true, Option, Ok, Err, List, [], ◌∷◌, ◌++◌, map, refl, sym, ◌∙◌, ap, subst, String}
-use Rattle.std.specs.Prelude.{Result, codes, string_bytes}
+use Rattle.std.specs.Prelude.{Result}
 use Rattle.std.specs.Global.{Global}
 use Rattle.std.proofs.Math.Bool.{Bool-set}
 use Rattle.ts_pattern.specs.declared.name.Aggregator.{Aggregator}
@@ -8,40 +8,22 @@ use Rattle.ts_pattern.specs.declared.name.Feature.{Feature}
 use Rattle.ts_pattern.specs.declared.name.PatternId.{PatternId}
 use Rattle.ts_pattern.specs.declared.term.Term.{Term}
 use Rattle.ts_pattern.specs.Names.{is_pair}
-use Rattle.ts_automaton.specs.declared.draft.Way.TheVariants.{Forward}
-use Rattle.ts_automaton.specs.AutomatonText.{body_text}
 use Rattle.ts_model.specs.declared.error.ModelKind.{ModelKind}
 use Rattle.ts_model.specs.declared.model.Need.TheVariants.{Values}
 use Rattle.ts_model.specs.ModelReading.{model_reading}
 use Rattle.ts_model.specs.Stated.{Stated}
 use Rattle.ts_model.specs.Views.{parts_of, term_of}
-use Rattle.ts_compile.specs.Compiled.{machine_body}
+use Rattle.ts_compile.specs.Compiled.{machine_body, machine_pair}
 use Rattle.ts_compile.specs.ProgramText.{part_text, program_text}
-use Rattle.ts_compile.proofs.Tables.{compiled_answers, compiled_automaton}
 use Rattle.ts_run.specs.AnswerTexts.{OneCompileReply, OnReading, ProgramReply}
-use Rattle.ts_run.specs.CompiledValue.{HasParts, IsPart, IsProgramText}
+use Rattle.ts_run.specs.CompiledValue.{HasParts, IsCompiled, IsProgramText}
 use Rattle.ts_run.specs.Endings.{RepliesWithin, Responds, TookProgram}
 use Rattle.ts_run.specs.Reply.{Reply}
 use Rattle.ts_run.specs.declared.command.Command.TheVariants.{Compile}
 use Rattle.ts_run.specs.declared.status.Status.{Status}
 use Rattle.ts_run.specs.declared.status.Status.TheVariants.{Done}
+use Rattle.ts_run.proofs.PartLaws.{parts_in}
 use Rattle.ts_run.proofs.Replied.{replied}
-
--- the part of each term
-
-part_of : (name : List ℕ) (t : Term) → IsPart name t (part_text name t (machine_body t))
-part_of name t = record {
-  lines = body_text (machine_body t);
-  tail = codes "no reverse\n";
-  part_is = refl;
-  body = machine_body t;
-  reads = (compiled_automaton t, (Forward, refl));
-  answers = compiled_answers t;
-}
-
-parts_in : (terms : List (String Global × Term)) → HasParts terms (program_text terms)
-parts_in [] = refl
-parts_in (t ∷ ts) = (part_text (string_bytes t.0) t.1 (machine_body t.1), program_text ts, refl, part_of (string_bytes t.0) t.1, parts_in ts)
 
 -- there is one program text
 
@@ -71,7 +53,7 @@ same_text (s ∷ ss) (t ∷ ts) h =
     let more : map term_of ss ≡ map term_of ts = cc in
     let name = ap (λ p. p.0) one in
     let term = by_parts s.1 t.1 (ap (λ p. p.1) one) in
-    let rest = same_text ss ts more in (λ i. part_text (name i) (term i) (machine_body (term i)) ++ rest i)
+    let rest = same_text ss ts more in (λ i. part_text (name i) (term i) (machine_body (term i)) (machine_pair (term i)) ++ rest i)
 
 one_text : (m : Stated) (x y : List ℕ) → IsProgramText m x → IsProgramText m y → x ≡ y
 one_text m x y h k = h.text_is ∙ same_text h.terms k.terms (h.terms_are ∙ sym k.terms_are) ∙ sym k.text_is
@@ -84,6 +66,14 @@ one_program_reply (Err bad) r s h k = h ∙ sym k
 
 pub one_compile_reply : OneCompileReply
 one_compile_reply bytes r s h k = one_program_reply (model_reading Values bytes) r s h k
+
+-- the text has the parts
+
+compiled_of : (m : Stated) (text : List ℕ) → IsProgramText m text → IsCompiled m text
+compiled_of m text p = record {
+  program = p;
+  parts = subst (λ (x : List ℕ). HasParts p.terms x) (sym p.text_is) (parts_in p.terms);
+}
 
 -- what a call has written whose status is `Done`
 
@@ -106,8 +96,5 @@ compile_tells bytes limit faults faults_now before after status h e =
       states = d.states;
       text = p.0.text;
       taken = p.2.0;
-      compiled = record {
-        program = d.program;
-        parts = subst (λ (x : List ℕ). HasParts d.program.terms x) (sym d.program.text_is) (parts_in d.program.terms);
-      };
+      compiled = compiled_of d.model p.0.text d.program;
     }

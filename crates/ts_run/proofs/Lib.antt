@@ -6,4 +6,5 @@ mod Steps
 mod CheckLaws
 mod CheckSteps
 mod CompileLaws
+mod PartLaws
 mod Told

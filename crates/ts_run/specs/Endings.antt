@@ -80,7 +80,7 @@ TellsMeets bytes status =
     (m : Stated) (xs : List ℤ) → IsAsked bytes m xs → (status ≡ Done → Meets m xs) × (status ≡ No → Meets m xs → ⊥)
 
 -- a program was written: the bytes state a model, and what was taken is its program, whose automata answer the values
--- of the terms
+-- of the terms, and are glued to them at every cell where the pattern has a partner
 pub record TookProgram (bytes : List ℕ) (before after : Option (List ℕ)) : Type 0 where
   pub model : Stated
   pub states : model_reading Values bytes ≡ Ok model

@@ -4,12 +4,14 @@ use super::{Case, outcome};
 use crate::Status;
 use std::test::Fail;
 
-static CASES: [Case; 23] = [
+static CASES: [Case; 24] = [
     Case {
         input: b"cells 3\nterm c = count decreasing\n",
-        taken: b"term c sum one decreasing\nforward\nstate s free\nstart 0 1 0\n\
-            move s < s ; C ; D ; R\nmove s = s ; C ; D ; R\nmove s > s ; C ; 1 ; add R max max D 1 1\n\
-            finish add R C same\nend\nno reverse\n",
+        taken: b"term c sum one decreasing\nforward\nstate s free\nstart 0 1 0\nmove s < s ; C ; D ; R\n\
+            move s = s ; C ; D ; R\nmove s > s ; C ; 1 ; add R max max D 1 1\nfinish add R C same\nend\n\
+            reverse\nstate s free\nstart 0 1 0\nmove s < s ; C ; 1 ; add R max max D 1 1\n\
+            move s = s ; C ; D ; R\nmove s > s ; C ; D ; R\nfinish add R C same\nend\nglue 0 max 1\n\
+            end\n",
         status: Status::Done,
     },
     Case {
@@ -18,10 +20,25 @@ static CASES: [Case; 23] = [
         taken: b"term w sum width peak\nforward\nstate s free\nstate r free\nstate t held\nstart 0 0 0\n\
             move s < r ; C ; D ; R\nmove s = s ; C ; D ; R\nmove s > s ; C ; D ; R\n\
             move r < r ; C ; add D 1 ; R\nmove r = r ; C ; add D 1 ; R\nmove r > t ; add D 1 ; 0 ; R\n\
-            move t < r ; 0 ; 0 ; add R C\nmove t = t ; C ; add D 1 ; R\nmove t > t ; add C add D 1 ; 0 ; R\n\
-            finish add R C same\nend\nno reverse\n\
-            term falls sum one decreasing\nforward\nstate s free\nstart 0 1 0\n\
+            move t < r ; 0 ; 0 ; add R C\nmove t = t ; C ; add D 1 ; R\n\
+            move t > t ; add C add D 1 ; 0 ; R\nfinish add R C same\nend\nreverse\nstate s free\n\
+            state r free\nstate t held\nstart 0 0 0\nmove s < r ; C ; D ; R\nmove s = s ; C ; D ; R\n\
+            move s > s ; C ; D ; R\nmove r < r ; C ; add D 1 ; R\nmove r = r ; C ; add D 1 ; R\n\
+            move r > t ; add D 1 ; 0 ; R\nmove t < r ; 0 ; 0 ; add R C\nmove t = t ; C ; add D 1 ; R\n\
+            move t > t ; add C add D 1 ; 0 ; R\nfinish add R C same\nend\nglue 1 add 1\njoin r r\n\
+            join r t\njoin t r\nend\nterm falls sum one decreasing\nforward\nstate s free\nstart 0 1 0\n\
             move s < s ; C ; D ; R\nmove s = s ; C ; D ; R\nmove s > s ; C ; 1 ; add R max max D 1 1\n\
+            finish add R C same\nend\nreverse\nstate s free\nstart 0 1 0\n\
+            move s < s ; C ; 1 ; add R max max D 1 1\nmove s = s ; C ; D ; R\nmove s > s ; C ; D ; R\n\
+            finish add R C same\nend\nglue 0 max 1\nend\n",
+        status: Status::Done,
+    },
+    Case {
+        input: b"cells 4\nterm bends = count inflexion\n",
+        taken: b"term bends sum one inflexion\nforward\nstate s free\nstate r free\nstate t free\nstart 0 1 0\n\
+            move s < r ; C ; D ; R\nmove s = s ; C ; D ; R\nmove s > t ; C ; D ; R\n\
+            move r < r ; C ; max D 1 ; R\nmove r = r ; C ; max D 1 ; R\nmove r > t ; C ; 1 ; add R max D 1\n\
+            move t < r ; C ; 1 ; add R max D 1\nmove t = t ; C ; max D 1 ; R\nmove t > t ; C ; max D 1 ; R\n\
             finish add R C same\nend\nno reverse\n",
         status: Status::Done,
     },
