@@ -477,12 +477,20 @@ fn sizes(alloc: Global, model: &Model) -> Result<Vec<u64>, Fail> {
 fn ranges(alloc: Global, model: &Model) -> Result<String, Fail> {
     let mut text = String::new(alloc);
     for cell in &model.cells {
-        let mut between = "";
-        for range in cell.ranges() {
-            text.push_str(&format!(in alloc; "{between}{}..{}", range.low, range.high)?)?;
-            between = ",";
+        let mut last: Option<(i64, i64)> = None;
+        for value in cell.values() {
+            last = match last {
+                Some((low, high)) if high.checked_add(1) == Some(value) => Some((low, value)),
+                Some((low, high)) => {
+                    text.push_str(&format!(in alloc; "{low}..{high},")?)?;
+                    Some((value, value))
+                }
+                None => Some((value, value)),
+            };
         }
-        text.push_str(" ")?;
+        if let Some((low, high)) = last {
+            text.push_str(&format!(in alloc; "{low}..{high} ")?)?;
+        }
     }
     Ok(text)
 }
