@@ -19,7 +19,7 @@ pub const LOW: i64 = i64::MIN;
 pub const HIGH: i64 = i64::MAX;
 
 /// The aggregators and features that make a term.
-const PAIRS: [(Aggregator, Feature); 13] = [
+pub const PAIRS: [(Aggregator, Feature); 13] = [
     (Aggregator::Sum, Feature::One),
     (Aggregator::Sum, Feature::Width),
     (Aggregator::Sum, Feature::Surf),
@@ -48,7 +48,7 @@ static SERIES: [&[i64]; 10] = [
     &[0, -3, -3, 1, 1, 5, 3, 2, 4, 0, -4, 0, -2, -4],
 ];
 
-fn all_series() -> &'static [&'static [i64]] {
+pub fn all_series() -> &'static [&'static [i64]] {
     &SERIES
 }
 
@@ -64,7 +64,7 @@ fn answer(automaton: &Automaton, series: &[i64]) -> Ext
 }
 
 /// The value that a table writes so.
-fn value(written: i64) -> Ext {
+pub fn value(written: i64) -> Ext {
     match written {
         LOW => Ext::NegInf,
         HIGH => Ext::PosInf,
