@@ -49,7 +49,7 @@ least_fits q (suc f) j =
 -- the next drop is one that may be made
 abbrev pub DropFits : Stated → Spans → Box → Option Removal → Type 0
 DropFits m s b None = Unit {0}
-DropFits m s b (Some r) = IsDrop m s r.cell r.value r.requirement b
+DropFits m s b (Some r) = IsDrop m.requirements s r.cell r.value r.requirement b
 
 module _ (m : Stated) (s : Spans) (b : Box) where
   or_fits : (o later : Option Removal) → DropFits m s b o → DropFits m s b later → DropFits m s b (or_later o later)
@@ -57,12 +57,12 @@ module _ (m : Stated) (s : Spans) (b : Box) where
   or_fits (Some r) later f g = f
 
   of_fits : (k : ℕ) (v : ℤ) → DropFits m s b (drop_of m s b k v)
-  of_fits k v = go (least (λ j. is_drop m s k v j b) (length m.requirements) 1) (least_fits (λ j. is_drop m s k v j b) (length m.requirements) 1)
+  of_fits k v = go (least (λ j. is_drop m.requirements s k v j b) (length m.requirements) 1) (least_fits (λ j. is_drop m.requirements s k v j b) (length m.requirements) 1)
     where
-      go : (o : Option ℕ) → LeastFits (λ j. is_drop m s k v j b) (length m.requirements) 1 o →
+      go : (o : Option ℕ) → LeastFits (λ j. is_drop m.requirements s k v j b) (length m.requirements) 1 o →
           DropFits m s b (option_map (λ j. record { cell = k; value = v; requirement = j }) o)
       go None f = tt
-      go (Some j) f = ((tests_tell m s).drop k v j b).0 f.holds
+      go (Some j) f = ((tests_tell s).drop m.requirements k v j b).0 f.holds
 
   at_fits : (k : ℕ) (values : List ℤ) → DropFits m s b (drop_at m s b k values)
   at_fits k [] = tt
@@ -78,14 +78,14 @@ module _ (m : Stated) (s : Spans) (b : Box) where
 
 -- why a line is the box's line
 pub data Choice (c : Search) (aim : Aim) (found : Option Find) (b : Box) : TreeLine → Type 0 where
-  by_refuted : {j p : ℕ} → IsRefuted c.model c.spans j p b → Choice c aim found b (No j p)
+  by_refuted : {j p : ℕ} → IsRefuted c.model.requirements c.spans j p b → Choice c aim found b (No j p)
   by_cut : {p : ℕ} → has_goal aim ≡ true → cut_by c (bar_of found c.warm) p b ≡ true → Choice c aim found b (Worse p)
   by_new : {p : ℕ} {x : List ℤ} → has_goal aim ≡ true → p ≡ last c → form b ≡ Alone x →
       ((j : ℕ) → 1 ≤ j → j ≤ requirements c → refuted c j (last c) b ≡ false) → cut_by c (bar_of found c.warm) (last c) b ≡ false →
       Choice c aim found b (Worse p)
   by_yes : {x : List ℤ} → has_goal aim ≡ false → form b ≡ Alone x →
       ((j : ℕ) → 1 ≤ j → j ≤ requirements c → refuted c j (last c) b ≡ false) → Choice c aim found b Yes
-  by_drop : {k : ℕ} {v : ℤ} {j : ℕ} → IsDrop c.model c.spans k v j b → Choice c aim found b (Remove k v j)
+  by_drop : {k : ℕ} {v : ℤ} {j : ℕ} → IsDrop c.model.requirements c.spans k v j b → Choice c aim found b (Remove k v j)
   by_split : {k : ℕ} {t : ℤ} → form b ≡ Wide k t → Choice c aim found b (Split k t)
 
 module _ (c : Search) (aim : Aim) (found : Option Find) (b : Box) where

@@ -79,7 +79,7 @@ module _ (m : Stated) (s : Spans) (goal : Goal) where
   kept_part k b i c = only_part k (kept_value m s goal k b) b m.cells i c (kept_in k b i c)
 
   -- a drop leaves cells of one value as they are
-  drop_ones : (n k : ℕ) (v : ℤ) (j : ℕ) (b : Box) → IsDrop m s k v j b → OneEach n b → OneEach n (without k v b)
+  drop_ones : (n k : ℕ) (v : ℤ) (j : ℕ) (b : Box) → IsDrop m.requirements s k v j b → OneEach n b → OneEach n (without k v b)
   drop_ones n k v j b d h = λ i l.
       subst (λ z. length z ≡ 1) (sym (get_or-set_other b (k - 1) i _ [] (λ e. other i l e))) (h i l)
     where
@@ -166,7 +166,7 @@ module _ (m : Stated) (s : Spans) (goal : Goal) where
       (dropped_part m s all (only k v b) (only_part k v b all i cell there))
 
   -- where a requirement is refuted, no series that is left meets
-  pub dive_early : IsSound m s → (j p : ℕ) (b : Box) → IsPart b m.cells → IsRefuted m s j p b → (n k : ℕ) → 1 ≤ k → k + n ≤ length m.cells + 1 →
+  pub dive_early : IsSound m s → (j p : ℕ) (b : Box) → IsPart b m.cells → IsRefuted m.requirements s j p b → (n k : ℕ) → 1 ≤ k → k + n ≤ length m.cells + 1 →
       dive_end m (form (keep_from m s goal n k b)) ≡ None
   dive_early sound j p b i r n k f l = go (form d) refl
     where

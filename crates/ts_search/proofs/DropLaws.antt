@@ -12,10 +12,10 @@ use Rattle.ts_search.specs.Drops.{Removal, next_drop, drops, dropped}
 use Rattle.ts_search.proofs.Choice.{DropFits, drop_fits}
 
 module _ (m : Stated) (s : Spans) where
-  pub drop_part : (k : ℕ) (v : ℤ) (j : ℕ) (b : Box) (all : Box) → IsPart b all → IsDrop m s k v j b → IsPart (without k v b) all
+  pub drop_part : (k : ℕ) (v : ℤ) (j : ℕ) (b : Box) (all : Box) → IsPart b all → IsDrop m.requirements s k v j b → IsPart (without k v b) all
   drop_part k v j b all i d = without_part k v b all i d.cell (others_stay k v b i.box d.cell d.many d.there)
 
-  drop_total : (k : ℕ) (v : ℤ) (j : ℕ) (b : Box) → IsBox b → IsDrop m s k v j b → total_of (without k v b) + 1 ≤ total_of b
+  drop_total : (k : ℕ) (v : ℤ) (j : ℕ) (b : Box) → IsBox b → IsDrop m.requirements s k v j b → total_of (without k v b) + 1 ≤ total_of b
   drop_total k v j b i d =
       let values = values_at k b in
       omega (
@@ -25,13 +25,13 @@ module _ (m : Stated) (s : Spans) where
       )
 
   -- what each drop keeps, drops keep
-  keep_on : (P : Box → Type 0) (n : ℕ) (b : Box) → P b → ((r : Removal) → IsDrop m s r.cell r.value r.requirement b →
+  keep_on : (P : Box → Type 0) (n : ℕ) (b : Box) → P b → ((r : Removal) → IsDrop m.requirements s r.cell r.value r.requirement b →
       P (drops m s n (without r.cell r.value b))) →
       (o : Option Removal) → DropFits m s b o → P (unwrap_or (option_map (λ r. drops m s n (without r.cell r.value b)) o) b)
   keep_on P n b h g None d = h
   keep_on P n b h g (Some r) d = g r d
 
-  pub drops_keep : (P : Box → Type 0) → ((r : Removal) (b : Box) → IsDrop m s r.cell r.value r.requirement b → P b → P (without r.cell r.value b)) →
+  pub drops_keep : (P : Box → Type 0) → ((r : Removal) (b : Box) → IsDrop m.requirements s r.cell r.value r.requirement b → P b → P (without r.cell r.value b)) →
       (n : ℕ) (b : Box) → P b → P (drops m s n b)
   drops_keep P g zero b h = h
   drops_keep P g (suc n) b h =
@@ -56,7 +56,7 @@ module _ (m : Stated) (s : Spans) where
         inside_length b all i.inside,
       ))
 
-  end_on : (n : ℕ) (b : Box) → ((r : Removal) → IsDrop m s r.cell r.value r.requirement b → next_drop m s (drops m s n (without r.cell r.value b)) ≡ None) →
+  end_on : (n : ℕ) (b : Box) → ((r : Removal) → IsDrop m.requirements s r.cell r.value r.requirement b → next_drop m s (drops m s n (without r.cell r.value b)) ≡ None) →
       (o : Option Removal) → next_drop m s b ≡ o → DropFits m s b o →
       next_drop m s (unwrap_or (option_map (λ r. drops m s n (without r.cell r.value b)) o) b) ≡ None
   end_on n b g None e d = e
@@ -68,7 +68,7 @@ module _ (m : Stated) (s : Spans) where
       end_on n b (λ r d. drops_done all n (without r.cell r.value b) (drop_part r.cell r.value r.requirement b all i d) (few r d)) (next_drop m s b) refl
       (drop_fits m s b)
     where
-      few : (r : Removal) → IsDrop m s r.cell r.value r.requirement b → total_of (without r.cell r.value b) ≤ n + length (without r.cell r.value b)
+      few : (r : Removal) → IsDrop m.requirements s r.cell r.value r.requirement b → total_of (without r.cell r.value b) ≤ n + length (without r.cell r.value b)
       few r d =
           let after = drop_part r.cell r.value r.requirement b all i d in
           omega (

@@ -77,17 +77,17 @@ pub record KnownBest (c : Search) : Type 0 where
   pub warm : MatchOption c.warm (Unit {0}) (λ w. Meets c.model w.series × (w.value ≡ value_of c.model w.series))
 
 module _ (c : Search) where
-  pub to_refuted : (j p : ℕ) (b : Box) → refuted c j p b ≡ true → IsRefuted c.model c.spans j p b
-  to_refuted j p b h = ((tests_tell c.model c.spans).refuted j p b).0 h
+  pub to_refuted : (j p : ℕ) (b : Box) → refuted c j p b ≡ true → IsRefuted c.model.requirements c.spans j p b
+  to_refuted j p b h = ((tests_tell c.spans).refuted c.model.requirements j p b).0 h
 
-  pub from_refuted : (j p : ℕ) (b : Box) → IsRefuted c.model c.spans j p b → refuted c j p b ≡ true
-  from_refuted j p b h = ((tests_tell c.model c.spans).refuted j p b).1 h
+  pub from_refuted : (j p : ℕ) (b : Box) → IsRefuted c.model.requirements c.spans j p b → refuted c j p b ≡ true
+  from_refuted j p b h = ((tests_tell c.spans).refuted c.model.requirements j p b).1 h
 
   pub to_cut : (p : ℕ) (b : Box) (bar : Bar) → cut c p b bar ≡ true → IsCut c.model c.spans c.goal p b bar
-  to_cut p b bar h = ((tests_tell c.model c.spans).cut c.goal p b bar).0 h
+  to_cut p b bar h = ((tests_tell c.spans).cut c.model c.goal p b bar).0 h
 
   pub from_cut : (p : ℕ) (b : Box) (bar : Bar) → IsCut c.model c.spans c.goal p b bar → cut c p b bar ≡ true
-  from_cut p b bar h = ((tests_tell c.model c.spans).cut c.goal p b bar).1 h
+  from_cut p b bar h = ((tests_tell c.spans).cut c.model c.goal p b bar).1 h
 
   -- where fewer values count, more is cut
   pub more_cut : (p : ℕ) (b : Box) (lower higher : Bar) → ((v : Ext) → counts c.goal higher v ≡ true → counts c.goal lower v ≡ true) →
@@ -98,7 +98,7 @@ module _ (c : Search) where
       cut c p b lower ≡ true → cut c p b higher ≡ true
   cut_more p b lower higher f k = from_cut p b higher (more_cut p b lower higher f (to_cut p b lower k))
 
-  pub no_series : Known c → (j p : ℕ) (b : Box) (y : List ℤ) → IsPart b c.model.cells → InBox y b → Meets c.model y → IsRefuted c.model c.spans j p b → ⊥
+  pub no_series : Known c → (j p : ℕ) (b : Box) (y : List ℤ) → IsPart b c.model.cells → InBox y b → Meets c.model y → IsRefuted c.model.requirements c.spans j p b → ⊥
   no_series k j p b y i a m r = k.sound.refuted j p b y i r a m
 
   pub cut_counts : KnownBest c → (p : ℕ) (b : Box) (bar : Bar) (y : List ℤ) → IsPart b c.model.cells → InBox y b → cut c p b bar ≡ true →

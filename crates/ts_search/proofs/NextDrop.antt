@@ -43,15 +43,15 @@ module _ (m : Stated) (s : Spans) (b : Box) where
       let both = neither (drop_at m s b k (values_at k b)) (drop_from m s b n (suc k)) e in
       ⊎_elim (λ q. subst (λ z. drop_at m s b z (values_at z b) ≡ None) q both.0) (λ q. none_from n (suc k) both.1 i q (omega arith)) (eq-or-lt_of_le a)
 
-  never_of : (k : ℕ) (v : ℤ) (j : ℕ) → drop_of m s b k v ≡ None → IsDrop m s k v j b → ⊥
+  never_of : (k : ℕ) (v : ℤ) (j : ℕ) → drop_of m s b k v ≡ None → IsDrop m.requirements s k v j b → ⊥
   never_of k v j e d =
-      let no_one = none_of (least (λ j. is_drop m s k v j b) (length m.requirements) 1) k v e in
+      let no_one = none_of (least (λ j. is_drop m.requirements s k v j b) (length m.requirements) 1) k v e in
       let within = slice_get_within m.requirements (j - 1) d.refuted.require d.refuted.is.1 in
       let one = d.refuted.is.0 in
-      clash (is_drop m s k v j b) (((tests_tell m s).drop k v j b).1 d)
-      (none_least (λ j. is_drop m s k v j b) (length m.requirements) 1 no_one j one (omega (arith, within, one)))
+      clash (is_drop m.requirements s k v j b) (((tests_tell s).drop m.requirements k v j b).1 d)
+      (none_least (λ j. is_drop m.requirements s k v j b) (length m.requirements) 1 no_one j one (omega (arith, within, one)))
 
-  none_may : next_drop m s b ≡ None → (k : ℕ) (v : ℤ) (j : ℕ) → IsDrop m s k v j b → ⊥
+  none_may : next_drop m s b ≡ None → (k : ℕ) (v : ℤ) (j : ℕ) → IsDrop m.requirements s k v j b → ⊥
   none_may e k v j d =
       let at = none_from (length b) 1 e k d.cell.0 (let c = d.cell.1 in omega arith) in
       never_of k v j (none_at k (values_at k b) at v d.there) d
@@ -61,16 +61,16 @@ module _ (m : Stated) (s : Spans) (b : Box) where
   record IsOf (k : ℕ) (v : ℤ) (r : Removal) : Type 0 where
     cell : r.cell ≡ k
     value : r.value ≡ v
-    first : (j : ℕ) → IsDrop m s k v j b → r.requirement ≤ j
+    first : (j : ℕ) → IsDrop m.requirements s k v j b → r.requirement ≤ j
 
   first_of : (k : ℕ) (v : ℤ) (r : Removal) → drop_of m s b k v ≡ Some r → IsOf k v r
   first_of k v r e = go (least q (length m.requirements) 1) (least_fits q (length m.requirements) 1) e
     where
       q : ℕ → Bool
-      q j = is_drop m s k v j b
+      q j = is_drop m.requirements s k v j b
 
-      no_less : (i : ℕ) → LeastFits q (length m.requirements) 1 (Some i) → (j : ℕ) → IsDrop m s k v j b → (j < i) ⊎ (i ≤ j) → i ≤ j
-      no_less i f j d (inl l) = absurd (clash (q j) (((tests_tell m s).drop k v j b).1 d) (f.first j d.refuted.is.0 l))
+      no_less : (i : ℕ) → LeastFits q (length m.requirements) 1 (Some i) → (j : ℕ) → IsDrop m.requirements s k v j b → (j < i) ⊎ (i ≤ j) → i ≤ j
+      no_less i f j d (inl l) = absurd (clash (q j) (((tests_tell s).drop m.requirements k v j b).1 d) (f.first j d.refuted.is.0 l))
       no_less i f j d (inr l) = l
 
       below_or_not : (i j : ℕ) → (j < i) ⊎ (i ≤ j)
@@ -94,7 +94,7 @@ module _ (m : Stated) (s : Spans) (b : Box) where
   IsFirst r v j = (r.value <ℤ v) ⊎ ((r.value ≡ v) × (r.requirement ≤ j))
 
   first_at : (k : ℕ) (values : List ℤ) → Rising values → (r : Removal) → drop_at m s b k values ≡ Some r → (v : ℤ) (j : ℕ) → Contains values v →
-      IsDrop m s k v j b → IsFirst r v j
+      IsDrop m.requirements s k v j b → IsFirst r v j
   unfolding Rising
   first_at k [] up r e v j h d = absurd (nothing_in v h)
   first_at k (u ∷ values) up r e v j h d =
@@ -107,12 +107,12 @@ module _ (m : Stated) (s : Spans) (b : Box) where
       go None q (inr later) next above = next (ap (λ o. or_later o (drop_at m s b k values)) (sym q) ∙ e) later
       go (Some first) q (inl is) next above =
           let f = first_of k u r (q ∙ ap (λ o. or_later o (drop_at m s b k values)) (sym q) ∙ e) in
-          inr (f.value ∙ is, f.first j (subst (λ z. IsDrop m s k z j b) (sym is) d))
+          inr (f.value ∙ is, f.first j (subst (λ z. IsDrop m.requirements s k z j b) (sym is) d))
       go (Some first) q (inr later) next above =
           let f = first_of k u r (q ∙ ap (λ o. or_later o (drop_at m s b k values)) (sym q) ∙ e) in
           inl (subst (λ z. z <ℤ v) (sym f.value) (above later))
 
-  first_from : IsBox b → (n k : ℕ) (r : Removal) → drop_from m s b n k ≡ Some r → (i : ℕ) (v : ℤ) (j : ℕ) → k ≤ i → i < k + n → IsDrop m s i v j b →
+  first_from : IsBox b → (n k : ℕ) (r : Removal) → drop_from m s b n k ≡ Some r → (i : ℕ) (v : ℤ) (j : ℕ) → k ≤ i → i < k + n → IsDrop m.requirements s i v j b →
       IsNoLater r i v j
   first_from box zero k r e i v j a l d = absurd (omega arith)
   first_from box (suc n) k r e i v j a l d =

@@ -100,7 +100,7 @@ or_unwrap None r z = refl
 or_unwrap (Some l) r z = refl
 
 -- where no requirement is refuted, the test says so, and the reverse
-pub never_refuted : (c : Search) (b : Box) → ((j p : ℕ) → IsRefuted c.model c.spans j p b → ⊥) → (j p : ℕ) → refuted c j p b ≡ false
+pub never_refuted : (c : Search) (b : Box) → ((j p : ℕ) → IsRefuted c.model.requirements c.spans j p b → ⊥) → (j p : ℕ) → refuted c j p b ≡ false
 never_refuted c b h j p = false_from_ne_true (refuted c j p b) (λ e. h j p (to_refuted c j p b e))
 
 at_last_or_inner : (p n : ℕ) → 1 ≤ p → p ≤ n → (p ≡ n) ⊎ (p ≤ n - 1)
@@ -127,7 +127,7 @@ warm_cell c (Some w) b p e = (to_cut c p b (AsGood w.value) e).usable.cell
 
 -- no requirement is refuted, from what the two `no` lines ask
 pub free_of_no : (c : Search) (b : Box) → IsPart b c.model.cells → refuted_last c b ≡ None → first_no c b (requirements c) 1 ≡ None →
-    (j p : ℕ) → IsRefuted c.model c.spans j p b → ⊥
+    (j p : ℕ) → IsRefuted c.model.requirements c.spans j p b → ⊥
 free_of_no c b i end below j p r =
     let t = from_refuted c j p b r in
     let within = slice_get_within c.model.requirements (j - 1) r.require r.is.1 in

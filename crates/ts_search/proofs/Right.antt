@@ -45,7 +45,7 @@ value_there m x term l =
     (get_or (values_on m x) term NegInf, slice_get-get_or (values_on m x) term NegInf n)
 
 module _ (m : Stated) (s : Spans) (right : AreRight m s) where
-  met : (x : List ℤ) → InBox x m.cells → ((j : ℕ) (r : Require) → IsRequirement m j r → IsRefuted m s j (length x) (box_of x) → ⊥) → Meets m x
+  met : (x : List ℤ) → InBox x m.cells → ((j : ℕ) (r : Require) → IsRequirement m.requirements j r → IsRefuted m.requirements s j (length x) (box_of x) → ⊥) → Meets m x
   met x within free = record {
     cells = series_length x m.cells within;
     inside = within;
@@ -57,7 +57,7 @@ module _ (m : Stated) (s : Spans) (right : AreRight m s) where
       judged i r e v is true q = (v, is, q)
       judged i r e v is false q =
           let at : suc i - 1 ≡ i = omega arith in
-          let req : IsRequirement m (suc i) r = ((omega arith), subst (λ z. slice_get m.requirements z ≡ Some r) (sym at) e) in
+          let req : IsRequirement m.requirements (suc i) r = ((omega arith), subst (λ z. slice_get m.requirements z ≡ Some r) (sym at) e) in
           absurd (free (suc i) r req
           (((singles_are_exact m s right.whole right.single).refuted (suc i) r x within req).1
           (λ k. not_met k)))
@@ -90,7 +90,7 @@ module _ (c : Search) (right : AreRight c.model c.spans) where
       met c.model c.spans right x within
       (λ j r req k. clash (refuted c j (last c) b)
       (from_refuted c j (last c) b
-      (subst (λ z. IsRefuted c.model c.spans j z b) n (subst (λ z. IsRefuted c.model c.spans j (length x) z) (sym (alone_is c.model.cells b x i e)) k)))
+      (subst (λ z. IsRefuted c.model.requirements c.spans j z b) n (subst (λ z. IsRefuted c.model.requirements c.spans j (length x) z) (sym (alone_is c.model.cells b x i e)) k)))
       (free j req.0 (let l = slice_get_within c.model.requirements (j - 1) r req.1 in let a = req.0 in omega (arith, l, a))))
 
   pub known : Known c

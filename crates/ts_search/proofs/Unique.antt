@@ -23,7 +23,7 @@ use Rattle.ts_filter.specs.Rules.{Head, head_of, MayStayOpen}
 use Rattle.ts_filter.specs.Steps.{made_by, Steps}
 use Rattle.ts_filter.specs.Tree.{told_by, told_after}
 use Rattle.ts_filter.proofs.BoxParts.{part_self}
-use Rattle.ts_filter.proofs.TreeLaws.{parts_made, to_steps, tree_short}
+use Rattle.ts_filter.proofs.TreeLaws.{parts_made, to_steps, formed_short, fit_formed}
 use Rattle.ts_search.specs.Dive.{Find}
 use Rattle.ts_search.specs.Forms.{form}
 use Rattle.ts_search.specs.Found.{tally_after, tally}
@@ -373,7 +373,8 @@ all_lines (Unsearched ∷ ls) = omega (arith, all_lines ls)
 
 pub tree_size : (c : Search) → Known c → (a : Cert) → HasTree c.model c.spans a → length a.tree + 1 ≤ 2 * series_count c.model.cells
 tree_size c k a t =
-    subst (λ z. length z + 1 ≤ 2 * series_count c.model.cells) t.lines (tree_short c.model c.spans (head_of a) t.tree c.model.cells k.box t.fits)
+    subst (λ z. length z + 1 ≤ 2 * series_count c.model.cells) t.lines
+    (formed_short t.tree c.model.cells k.box (fit_formed c.model c.spans (head_of a) 0 t.tree c.model.cells k.box t.fits))
 
 budget_spent : (c : Search) (n : ℕ) (claim : Claim) (xs : List (List ℤ)) (ls : List TreeLine) → IsSolvedBy c n claim xs ls → IsBudget claim →
     n + 1 ≤ checked_count ls + open_count ls

@@ -25,7 +25,7 @@ or_later (Some first) later = Some first
 abbrev pub drop_of : Stated → Spans → Box → ℕ → ℤ → Option Removal
 drop_of m s b k v =
     option_map (λ j. record { cell = k; value = v; requirement = j })
-    (least (λ j. is_drop m s k v j b) (length m.requirements) 1)
+    (least (λ j. is_drop m.requirements s k v j b) (length m.requirements) 1)
 
 -- that of the least of these values, which rise
 abbrev pub drop_at : Stated → Spans → Box → ℕ → List ℤ → Option Removal

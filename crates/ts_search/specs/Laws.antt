@@ -75,9 +75,9 @@ IsNoLater r k v j =
 
 -- the next drop is one that may be made and none comes before it, and there is one where one may be made
 pub record IsNextDrop (m : Stated) (s : Spans) (b : Box) : Type 0 where
-  pub some : (r : Removal) → next_drop m s b ≡ Some r → IsDrop m s r.cell r.value r.requirement b
-  pub none : next_drop m s b ≡ None → (k : ℕ) (v : ℤ) (j : ℕ) → IsDrop m s k v j b → ⊥
-  pub first : IsBox b → (r : Removal) → next_drop m s b ≡ Some r → (k : ℕ) (v : ℤ) (j : ℕ) → IsDrop m s k v j b →
+  pub some : (r : Removal) → next_drop m s b ≡ Some r → IsDrop m.requirements s r.cell r.value r.requirement b
+  pub none : next_drop m s b ≡ None → (k : ℕ) (v : ℤ) (j : ℕ) → IsDrop m.requirements s k v j b → ⊥
+  pub first : IsBox b → (r : Removal) → next_drop m s b ≡ Some r → (k : ℕ) (v : ℤ) (j : ℕ) → IsDrop m.requirements s k v j b →
       IsNoLater r k v j
 
 abbrev pub NextDropFits : Type 0
@@ -102,4 +102,4 @@ DiveMeets =
 abbrev pub DiveEndsEarly : Type 0
 DiveEndsEarly =
     (m : Stated) (s : Spans) (goal : Goal) (n k : ℕ) (b : Box) (j p : ℕ) → AreRight m s → IsPart b m.cells → 1 ≤ k →
-    k + n ≤ length m.cells + 1 → IsRefuted m s j p b → dive_end m (form (keep_from m s goal n k b)) ≡ None
+    k + n ≤ length m.cells + 1 → IsRefuted m.requirements s j p b → dive_end m (form (keep_from m s goal n k b)) ≡ None

@@ -64,7 +64,7 @@ has_goal (ListOf count) = false
 -- a split or a drop may stand: no requirement is refuted at a usable cell, and at none the objective is below what was
 -- told or is warm
 pub record IsFree (c : Search) (aim : Aim) (best : Option Find) (b : Box) : Type 0 where
-  pub refuted : (j p : ℕ) → IsRefuted c.model c.spans j p b → ⊥
+  pub refuted : (j p : ℕ) → IsRefuted c.model.requirements c.spans j p b → ⊥
   pub told : (p : ℕ) → has_goal aim ≡ true → below_told c best p b ≡ false
   pub warm : (p : ℕ) → has_goal aim ≡ true → below_warm c c.warm p b ≡ false
 

@@ -42,7 +42,7 @@ abbrev pub inner : Search → ℕ
 inner c = last c - 1
 
 abbrev pub refuted : Search → ℕ → ℕ → Box → Bool
-refuted c j p b = is_refuted c.model c.spans j p b
+refuted c j p b = is_refuted c.model.requirements c.spans j p b
 
 abbrev pub cut : Search → ℕ → Box → Bar → Bool
 cut c p b bar = is_cut c.model c.spans c.goal p b bar
