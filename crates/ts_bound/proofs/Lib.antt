@@ -9,3 +9,4 @@ pub mod Reached
 pub mod SpanRuns
 pub mod SpanEnds
 pub mod Singles
+pub mod Growth

@@ -74,7 +74,7 @@ any_flat_range P f q (suc n) p low high h = go (λ l. any_flat_range P f (q + 1)
     go later true e = any_left P (f q) (flat_map f (range_with_len (q + 1) n)) (subst (λ k. Any P (f k)) (sym (eqb-true q p e)) h)
     go later false e = any_right P (f q) (flat_map f (range_with_len (q + 1) n)) (later (above q p low (eqb-false q p e)))
 
-any_of_map : {A B : Type 0} (P : B → Type 0) (f : A → B) (xs : List A) → Any (λ x. P (f x)) xs → Any P (map f xs)
+pub any_of_map : {A B : Type 0} (P : B → Type 0) (f : A → B) (xs : List A) → Any (λ x. P (f x)) xs → Any P (map f xs)
 any_of_map P f [] h = h
 any_of_map P f (x ∷ xs) h = ⊎_elim (λ p. inl p) (λ q. inr (any_of_map P f xs q)) h
 

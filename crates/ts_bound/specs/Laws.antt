@@ -3,6 +3,7 @@ use Rattle.std.specs.Prelude.{◌≡◌, ◌≤◌, ℕ, ◌-◌, ℤ, IsTrue, I
 use Rattle.ts_base.specs.Limits.{most_cells}
 use Rattle.ts_base.specs.SpanLayer.{IsWithin}
 use Rattle.ts_base.specs.Spans.{one_span, Holds}
+use Rattle.ts_automaton.specs.declared.state.Mark.TheVariants.{Same}
 use Rattle.ts_automaton.specs.Body.{Body}
 use Rattle.ts_automaton.specs.Typing.{is_automaton}
 use Rattle.ts_automaton.specs.AutomatonRun.{answer, AreCellValues, Marked}
@@ -43,6 +44,20 @@ abbrev pub ValueSpansAreWithin : Type 0
 ValueSpansAreWithin =
     (m : Automata) (cells : List (List ℤ)) (k : ℕ) (v : ℤ) → Contains (values_at k cells) v →
     IsWithin (value_span m k cells v) (term_span m k cells)
+
+-- each set of the first box is within that of the second
+abbrev pub AreWithin : List (List ℤ) → List (List ℤ) → Type 0
+AreWithin [] [] = Unit {0}
+AreWithin [] (d ∷ ds) = ⊥
+AreWithin (c ∷ cs) [] = ⊥
+AreWithin (c ∷ cs) (d ∷ ds) = ((v : ℤ) → Contains c v → Contains d v) × AreWithin cs ds
+
+-- where the mark leaves each answer as it is, the span of a smaller box lies in that of a larger one
+abbrev pub SmallerBoxesAreWithin : Type 0
+SmallerBoxesAreWithin =
+    (m : Automata) → AreAutomata m → m.forward.mark ≡ Same →
+    (cells wider : List (List ℤ)) → AreWithin cells wider → (k : ℕ) →
+    IsWithin (term_span m k cells) (term_span m k wider)
 
 -- on a box of one series the span at the last cell is exactly the answer
 abbrev pub SpansStaySingle : Type 0

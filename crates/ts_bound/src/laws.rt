@@ -1,6 +1,6 @@
 //! Laws of spans, for the layers above. Each is a statement of `specs/Laws` that the checker has proved.
 
-ghost use Rattle.ts_bound.specs.Laws.{AreAutomata, SpansHold, SpansStaySingle, ValueSpansAreNarrowed, ValueSpansAreWithin};
+ghost use Rattle.ts_bound.specs.Laws.{AreAutomata, SmallerBoxesAreWithin, SpansHold, SpansStaySingle, ValueSpansAreNarrowed, ValueSpansAreWithin};
 ghost use Rattle.ts_bound.specs.TermSpans.{automata_of};
 
 use ts_glue::Machine;
@@ -8,6 +8,11 @@ use ts_glue::Machine;
 /// The span of a box at any cell that may be used holds the answer on each series of the box.
 pub fn spans_hold()
     ensures { SpansHold }
+{}
+
+/// Where the mark leaves each answer as it is, the span of a smaller box lies in that of a larger one.
+pub fn smaller_boxes_are_within()
+    ensures { SmallerBoxesAreWithin }
 {}
 
 /// On a box of one series the span at the last cell is exactly the answer.
