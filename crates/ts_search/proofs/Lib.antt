@@ -4,6 +4,7 @@ pub mod DiveLaws
 pub mod DropLaws
 pub mod Good
 pub mod Known
+pub mod LineParts
 pub mod ListGood
 pub mod ListLean
 pub mod ListSolves

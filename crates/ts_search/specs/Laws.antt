@@ -1,22 +1,28 @@
 -- What is promised of the search.
-use Rattle.std.specs.Prelude.{◌≡◌, ◌⊎◌, ℕ, ◌+◌, ◌*◌, ◌<◌, ◌≤◌, ℤ, ◌<ℤ◌, List, length, IsSome, Some, None}
+use Rattle.std.specs.Prelude.{◌≡◌, ◌⊎◌, ℕ, ◌+◌, ◌-◌, ◌*◌, ◌/◌, ◌<◌, ◌≤◌, ℤ, ◌<ℤ◌, List, Contains, length, take}
+use Rattle.std.specs.Prelude.{IsSome, Some, None}
+use Rattle.std.specs.List.{AllByRecursion}
 use Rattle.ts_base.specs.declared.goal.Goal.{Goal}
 use Rattle.ts_certificate.specs.declared.certificate.Aim.TheVariants.{Best as BestOf, List as ListOf}
 use Rattle.ts_certificate.specs.declared.certificate.Claim.{Claim}
 use Rattle.ts_certificate.specs.declared.certificate.Claim.TheVariants.{Best, Infeasible, BudgetBest, BudgetNone}
 use Rattle.ts_certificate.specs.declared.certificate.Claim.TheVariants.{Full, All, BudgetList}
+use Rattle.ts_certificate.specs.declared.certificate.TreeLine.{TreeLine}
+use Rattle.ts_certificate.specs.declared.certificate.TreeLine.TheVariants.{No}
 use Rattle.ts_certificate.specs.Certificate.{Cert}
 use Rattle.ts_domain.specs.BoxSeries.{IsBox, series_count}
+use Rattle.ts_domain.specs.Kept.{values_up_to}
 use Rattle.ts_model.specs.Meets.{Meets}
 use Rattle.ts_model.specs.Stated.{Stated}
 use Rattle.ts_filter.specs.Accepts.{objective_of}
-use Rattle.ts_filter.specs.Boxes.{Box, IsPart}
+use Rattle.ts_filter.specs.Boxes.{Box, values_at, box_of, IsPart}
 use Rattle.ts_filter.specs.RefutedWorseDrop.{Spans, IsRefuted, IsDrop}
+use Rattle.ts_filter.specs.Rules.{IsSplit}
 use Rattle.ts_search.specs.Asked.{AreRight}
 use Rattle.ts_search.specs.Dive.{Find, keep_from, dive_box, dive_end, dive}
 use Rattle.ts_search.specs.Drops.{Removal, next_drop, dropped}
-use Rattle.ts_search.specs.Forms.{Alone, form}
-use Rattle.ts_search.specs.LineOf.{search_for}
+use Rattle.ts_search.specs.Forms.{Alone, Wide, form}
+use Rattle.ts_search.specs.LineOf.{Search, search_for, last, requirements, first_no}
 use Rattle.ts_search.specs.Listed.{Listed}
 use Rattle.ts_search.specs.Solved.{Solved}
 use Rattle.ts_search.specs.Turns.{start, turns, solve_certificate, list_start, list_turns, list_certificate}
@@ -103,3 +109,33 @@ abbrev pub DiveEndsEarly : Type 0
 DiveEndsEarly =
     (m : Stated) (s : Spans) (goal : Goal) (n k : ℕ) (b : Box) (j p : ℕ) → AreRight m s → IsPart b m.cells → 1 ≤ k →
     k + n ≤ length m.cells + 1 → IsRefuted m.requirements s j p b → dive_end m (form (keep_from m s goal n k b)) ≡ None
+
+-- The parts of a line.
+
+-- cell k is the first with two or more values, and t the lower middle one of its values: half of them, rounded up, are up
+-- to t, which is one of them
+pub record IsFirstOpen (k : ℕ) (t : ℤ) (b : Box) : Type 0 where
+  pub split : IsSplit k t b
+  pub before : AllByRecursion (λ d. length d ≡ 1) (take (k - 1) b)
+  pub there : Contains (values_at k b) t
+  pub middle : length (values_up_to t (values_at k b)) ≡ (length (values_at k b) + 1) / 2
+
+-- the form of a box is its one series, or that cell and that value
+pub record FormTells (b : Box) : Type 0 where
+  pub alone : (x : List ℤ) → form b ≡ Alone x → b ≡ box_of x
+  pub wide : (k : ℕ) (t : ℤ) → form b ≡ Wide k t → IsFirstOpen k t b
+
+abbrev pub FormsTell : Type 0
+FormsTell = (b : Box) → IsBox b → FormTells b
+
+-- `no J P` below the last cell: J is the least requirement that is refuted at such a cell, and P the least such cell
+pub record IsFirstNo (c : Search) (b : Box) (l : TreeLine) : Type 0 where
+  pub requirement : ℕ
+  pub cell : ℕ
+  pub line : l ≡ No requirement cell
+  pub refuted : IsRefuted c.model.requirements c.spans requirement cell b
+  pub below : cell < last c
+  pub first : (j p : ℕ) → IsRefuted c.model.requirements c.spans j p b → p < last c → (requirement < j) ⊎ ((requirement ≡ j) × (cell ≤ p))
+
+abbrev pub FirstNoFits : Type 0
+FirstNoFits = (c : Search) (b : Box) (l : TreeLine) → first_no c b (requirements c) 1 ≡ Some l → IsFirstNo c b l

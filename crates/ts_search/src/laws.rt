@@ -2,6 +2,7 @@
 
 ghost use Rattle.ts_search.specs.Laws.{BudgetIsEnough, ListBudgetIsEnough, OneListed, OneSolved, SearchLists, SearchSolves};
 ghost use Rattle.ts_search.specs.Laws.{DiveEnds, DiveEndsEarly, DiveMeets, DropsEnd, NextDropFits};
+ghost use Rattle.ts_search.specs.Laws.{FirstNoFits, FormsTell};
 
 /// The certificate of a search names the first best series, or that none meets, or what a spent budget leaves.
 pub fn search_solves()
@@ -41,4 +42,11 @@ pub fn dive_ends()
     ensures alone { DiveEnds }
     ensures meets { DiveMeets }
     ensures early { DiveEndsEarly }
+{}
+
+/// A box is split at its first open cell and the lower middle of its values; `no J P` below the last cell names the least
+/// requirement, and then the least cell.
+pub fn parts_fit()
+    ensures form { FormsTell }
+    ensures no { FirstNoFits }
 {}
