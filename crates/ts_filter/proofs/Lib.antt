@@ -8,3 +8,10 @@ pub mod SoundLaws
 pub mod TestLaws
 mod RangeLaws
 pub mod MachineLaws
+pub mod CallLaws
+mod AnswerLaws
+mod Refuting
+mod Removals
+mod DropLaws
+mod EarlyCells
+mod KeptLaws

@@ -25,11 +25,11 @@ use Rattle.ts_filter.specs.Laws.{HoldsValues, ValuesAreSound, TellsSingles, Sing
 use Rattle.ts_filter.specs.RefutedWorseDrop.{Spans, IsUsable, IsRequirement, IsRefuted, IsCut}
 use Rattle.ts_filter.proofs.BoxParts.{only_part, only_or_without}
 
-clash : (t : Bool) → t ≡ true → t ≡ false → ⊥
+pub clash : (t : Bool) → t ≡ true → t ≡ false → ⊥
 clash t e f = grind arith
 
 -- the requirement at a place is as each is
-each_at : (P : Require → Type 0) (rs : List Require) (i : ℕ) (r : Require) → AllByRecursion P rs → slice_get rs i ≡ Some r → P r
+pub each_at : (P : Require → Type 0) (rs : List Require) (i : ℕ) (r : Require) → AllByRecursion P rs → slice_get rs i ≡ Some r → P r
 each_at P [] i r h e = absurd (let f : ◌≡◌ {A = Option Require} None (Some r) = e in cc)
 each_at P (q ∷ rs) zero r h e = subst P (same_Some q r e) h.0
 each_at P (q ∷ rs) (suc i) r h e = each_at P rs i r h.1 e
@@ -53,7 +53,7 @@ values_are_sound m s holds = record { refuted = no_series m s holds; cut = none_
 box_length : (x : List ℤ) → length (box_of x) ≡ length x
 box_length x = length-map x (λ (v : ℤ). v ∷ [])
 
-series_length : (x : List ℤ) (b : Box) → InBox x b → length x ≡ length b
+pub series_length : (x : List ℤ) (b : Box) → InBox x b → length x ≡ length b
 series_length [] [] h = refl
 series_length [] (d ∷ b) h = absurd h
 series_length (v ∷ x) [] h = absurd h

@@ -1,16 +1,24 @@
 -- The spans of a model's terms, as their machines tell them.
-use Rattle.std.specs.Prelude.{◌≡◌, ◌↔◌, ℕ, ℤ, Bool, false, List, length, Option, Some, None, is_some, slice_get}
+use Rattle.std.specs.Prelude.{◌≡◌, ◌↔◌, ◌≤◌, ℕ, ℤ, Bool, false, List, Contains, length, Option, Some, None, is_some}
+use Rattle.std.specs.Prelude.{slice_get}
 use Rattle.ts_base.specs.declared.ext.Ext.{Ext}
 use Rattle.ts_base.specs.declared.ext.Ext.TheVariants.{NegInf, PosInf}
+use Rattle.ts_base.specs.declared.goal.Goal.{Goal}
 use Rattle.ts_base.specs.declared.span.Span.{Span}
 use Rattle.ts_base.specs.Spans.{Holds, one_span}
-use Rattle.ts_domain.specs.BoxSeries.{InBox}
+use Rattle.ts_automaton.specs.AutomatonRun.{answer, Marked}
+use Rattle.ts_domain.specs.BoxSeries.{InBox, IsBox}
+use Rattle.ts_model.specs.declared.model.Require.{Require}
 use Rattle.ts_model.specs.Meets.{value_at}
+use Rattle.ts_model.specs.Promise.{IsWhole}
 use Rattle.ts_model.specs.Stated.{Stated}
 use Rattle.ts_bound.specs.TermSpans.{Automata, term_span, IsUsable as IsUsableOf}
-use Rattle.ts_filter.specs.Boxes.{Box, box_of, IsPart}
+use Rattle.ts_bound.specs.Laws.{AreAutomata}
+use Rattle.ts_filter.specs.declared.bar.Bar.{Bar}
+use Rattle.ts_filter.specs.Boxes.{Box, values_at, only, box_of, IsPart}
+use Rattle.ts_filter.specs.Excluded.{Refutes, Cuts}
 use Rattle.ts_filter.specs.Laws.{HoldsValues, TellsSingles}
-use Rattle.ts_filter.specs.RefutedWorseDrop.{Spans, IsUsable}
+use Rattle.ts_filter.specs.RefutedWorseDrop.{Spans, IsUsable, IsRequirement, IsRefuted, IsCut, IsDrop}
 
 -- all numbers
 abbrev pub every_number : Span
@@ -65,3 +73,36 @@ MachinesTell =
     (m : Stated) (machines : List Automata) → length machines ≡ length m.terms →
     ((term : ℕ) (a : Automata) → slice_get machines term ≡ Some a → TellsTerm m term a) →
     TellsSingles m (spans_of machines)
+
+-- what a call tells of the machine of a requirement's term, or of the objective, at a cell that may be used, is what is
+-- defined of the spans of all
+pub record TellOf (m : Stated) (requirements : List Require) (s : Spans) (term : ℕ) (a : Automata) : Type 0 where
+  pub refuted : (j p : ℕ) (b : Box) (r : Require) → IsRequirement requirements j r → r.term ≡ term → IsUsableOf a p b →
+      Refutes r.op r.bound (term_span a p b) ↔ IsRefuted requirements s j p b
+  pub cut : (goal : Goal) (p : ℕ) (b : Box) (bar : Bar) → m.objective ≡ Some term → IsUsableOf a p b →
+      Cuts goal bar (term_span a p b) ↔ IsCut m s goal p b bar
+  pub drop : (j k : ℕ) (v : ℤ) (b : Box) (r : Require) → IsRequirement requirements j r → r.term ≡ term →
+      IsUsableOf a k b → 2 ≤ length (values_at k b) → Contains (values_at k b) v →
+      Refutes r.op r.bound (term_span a k (only k v b)) ↔ IsDrop requirements s k v j b
+
+abbrev pub CallsTell : Type 0
+CallsTell =
+    (m : Stated) (requirements : List Require) (machines : List Automata) (term : ℕ) (a : Automata) →
+    slice_get machines term ≡ Some a → TellOf m requirements (spans_of machines) term a
+
+-- a machine whose answer on each series of the model's box is the term's value
+pub record AnswersTerm (m : Stated) (term : ℕ) (a : Automata) : Type 0 where
+  pub machine : AreAutomata a
+  pub marked : Marked a.forward
+  pub answers : (x : List ℤ) (v : Ext) → InBox x m.cells → value_at m x term ≡ Some v → answer a.forward x ≡ v
+
+-- one for each term, in their order
+pub record AnswerTerms (m : Stated) (machines : List Automata) : Type 0 where
+  pub count : length machines ≡ length m.terms
+  pub each : (term : ℕ) (a : Automata) → slice_get machines term ≡ Some a → AnswersTerm m term a
+
+-- their spans hold the values of the terms, and tell that of a single series
+abbrev pub AnswersAreEnough : Type 0
+AnswersAreEnough =
+    (m : Stated) (machines : List Automata) → IsBox m.cells → IsWhole m → AnswerTerms m machines →
+    HoldsValues m (spans_of machines) × TellsSingles m (spans_of machines)

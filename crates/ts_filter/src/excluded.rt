@@ -1,7 +1,7 @@
 //! What no number of a span does.
 
 ghost use Rattle.std.specs.Prelude.{◌≡◌, ◌↔◌, IsTrue};
-ghost use Rattle.ts_filter.specs.Ends.{cuts, ends_refute, end_cuts, refutes};
+ghost use Rattle.ts_filter.specs.Ends.{best_end, cuts, ends_refute, end_cuts, refutes};
 ghost use Rattle.ts_filter.specs.Excluded.{Cuts, Refutes};
 
 use crate::bar::Bar;
@@ -22,11 +22,17 @@ pub fn cuts(goal: Goal, bar: Bar, span: Span) -> bool
     ensures ends { result ≡ cuts goal bar span }
     ensures exact { IsTrue result ↔ Cuts goal bar span }
 {
-    let best = match goal {
+    span.is_none() || end_cuts(goal, bar, best_end(goal, span))
+}
+
+/// The better one of a span's ends.
+pub(crate) fn best_end(goal: Goal, span: Span) -> Ext
+    ensures { result ≡ best_end goal span }
+{
+    match goal {
         Goal::Maximise => span.hi,
         Goal::Minimise => span.lo,
-    };
-    span.is_none() || end_cuts(goal, bar, best)
+    }
 }
 
 // Whether no number from `lo` to `hi` compares so with the bound, where `lo` isn't above `hi`.

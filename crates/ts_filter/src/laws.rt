@@ -1,6 +1,7 @@
 //! Laws of the definitions: functions that do nothing, each with what it proves as its clause.
 
-ghost use Rattle.ts_filter.specs.MachineSpans.{MachinesHold, MachinesTell, SpansAreOfMachines};
+ghost use Rattle.ts_filter.specs.MachineSpans.{AnswersAreEnough, CallsTell, MachinesHold, MachinesTell};
+ghost use Rattle.ts_filter.specs.MachineSpans.{SpansAreOfMachines};
 ghost use Rattle.ts_filter.specs.Laws.{AcceptedHolds, AcceptedIsKept, FailingIsRejected, OneFirstFailing};
 ghost use Rattle.ts_filter.specs.Laws.{LinesGoOn, WholeIsJudged};
 ghost use Rattle.ts_filter.specs.Laws.{DropLeavesOthers, LowerSideFirst, SplitCutsInTwo, ValuesAreSound};
@@ -69,6 +70,18 @@ pub fn spans_are_of_machines()
     ensures same { SpansAreOfMachines }
     ensures hold { MachinesHold }
     ensures tell { MachinesTell }
+{}
+
+/// Where each machine's answer is the value of its term, the spans hold the values, and tell that of a single series:
+/// so what is refuted has no series that meets, what is cut none that counts, and both are exact on a single series.
+pub fn answers_are_enough()
+    ensures { AnswersAreEnough }
+{}
+
+/// What the calls tell of the machine of a requirement's term, or of the objective, is what is defined of the spans of
+/// all machines.
+pub fn calls_tell()
+    ensures { CallsTell }
 {}
 
 /// The tests that compute tell what is refuted, cut and may be dropped.

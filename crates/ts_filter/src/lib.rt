@@ -1,7 +1,9 @@
 //! What excludes boxes of a model from the search, and when a certificate of that is accepted.
 //!
 //! The layer above may rely on this: `refutes` and `cuts` answer exactly whether no number of a span compares so with a
-//! bound, or counts for a bar. The definitions state the rule of each line of a certificate, when a certificate is
+//! bound, or counts for a bar. The calls on a machine and a box answer the same of the box's span at a cell, and name
+//! the first cell, the first drop and the value to keep; each makes the tables of a machine once, however many cells
+//! there are. The definitions state the rule of each line of a certificate, when a certificate is
 //! accepted, its first failing line and what its claim means; by the laws an accepted certificate means what it claims,
 //! whoever wrote it, wherever spans hold the values of their terms.
 //!
@@ -10,15 +12,26 @@
 //! refutes(Op::AtMost, Ext::Int(1), span)                     // true: no number from 2 to 5 is at most 1
 //! cuts(Goal::Maximise, Bar::Better(Ext::Int(5)), span)       // true: none is greater than 5
 //! cuts(Goal::Maximise, Bar::AsGood(Ext::Int(5)), span)       // false: 5 is as good
+//! next_drop(alloc, &machines, &requirements, &cells)?        // a value that no series with it meets, if one is known
 //! ```
 #![tactic(auto)]
 
+mod at_cell;
 mod bar;
+mod drops;
 mod excluded;
+mod first;
+mod kept;
 pub mod laws;
+mod tables;
 
+pub use at_cell::{cut_at_end, refuted, refuted_value, worse};
 pub use bar::Bar;
+pub use drops::{Removal, next_drop};
 pub use excluded::{cuts, refutes};
+pub use first::{first_cut, first_refuted};
+pub use kept::kept_value;
+pub use ts_base::Goal;
 
 #[cfg(test)]
 mod tests;

@@ -1,0 +1,202 @@
+-- The drops by the requirements of one term, value by value and cell by cell, and those of all terms.
+use Rattle.std.proofs.Common.{◌≡◌, ◌⊎◌, ℕ, ◌+◌, ◌-◌, ◌<◌, ◌≤◌, ℤ, ◌<ℤ◌, List, [], ◌∷◌, length, map}
+use Rattle.std.proofs.Common.{Option, Some, None, option_map, slice_get, get_or, refl, sym, ◌∙◌, ap, subst, inl, inr, ⊎_elim, arith}
+use Rattle.std.proofs.lemmas.Option.{slice_get-map, slice_get_read}
+use Rattle.std.specs.Prelude.{Contains}
+use Rattle.std.specs.List.{AllByRecursion}
+use Rattle.ts_base.specs.declared.span.Span.{Span}
+use Rattle.ts_bound.specs.TermSpans.{Automata, automata_of, term_span, value_span, IsUsable as IsUsableOf}
+use Rattle.ts_bound.proofs.Reached.{values_narrowed}
+use Rattle.ts_glue.specs.declared.machine.Machine.{Machine}
+use Rattle.ts_domain.specs.Values.{IsDomain, Rising}
+use Rattle.ts_domain.proofs.Sets.{contains_cons, nothing_in, each_contains}
+use Rattle.ts_model.specs.declared.model.Require.{Require}
+use Rattle.ts_filter.specs.declared.drops.Removal.{Removal}
+use Rattle.ts_filter.specs.Boxes.{Box, values_at, only}
+use Rattle.ts_filter.specs.Drops.{MayDrop, IsNoLater, IsFirstOf, IsFirstDrop}
+use Rattle.ts_filter.specs.Excluded.{Refutes}
+use Rattle.ts_filter.specs.MachineSpans.{spans_of, AreOfMachine}
+use Rattle.ts_filter.specs.RefutedWorseDrop.{Spans, IsUsable, IsDrop}
+use Rattle.ts_filter.specs.TermDrops.{IsRefuting, IsFirstRefuting, IsTermDrop, IsDropAt, earlier_of}
+use Rattle.ts_filter.proofs.CallLaws.{usable_only, usable_whole}
+use Rattle.ts_filter.proofs.MachineLaws.{spans_are_of_machines}
+use Rattle.ts_filter.proofs.Refuting.{next_or_later}
+use Rattle.ts_filter.proofs.Removals.{first_of_both, first_same}
+use Rattle.ts_filter.proofs.SoundLaws.{each_at}
+
+-- the first of a rising list is below the others
+pub rising_parts : (v : ℤ) (rest : List ℤ) → Rising (v ∷ rest) → AllByRecursion (λ y. v <ℤ y) rest × Rising rest
+unfolding Rising
+rising_parts v rest h = h
+
+-- what is known while the values of a cell are gone through: those left have every drop there is
+pub record AreLeft (rs : List Require) (term : ℕ) (a : Automata) (b : Box) (k : ℕ) (left : List ℤ) : Type 0 where
+  pub inside : (u : ℤ) → Contains left u → Contains (values_at k b) u
+  pub rises : Rising left
+  pub ahead : (t : Removal) → IsDropAt rs term a b k t → Contains left t.value
+
+module _ (rs : List Require) (term : ℕ) (a : Automata) (b : Box) (k : ℕ) where
+  there : (t : Removal) → IsDropAt rs term a b k t → Contains (values_at k b) t.value
+  there t h = subst (λ c. Contains (values_at c b) t.value) h.0 h.1.there
+
+  refuting : (t : Removal) (v : ℤ) → IsDropAt rs term a b k t → t.value ≡ v → IsRefuting rs term (value_span a k b v) t.require
+  refuting t v h e =
+      subst (λ u. IsRefuting rs term (value_span a k b u) t.require) e
+      (subst (λ c. IsRefuting rs term (value_span a c b t.value) t.require) h.0 h.1.refuting)
+
+  pub all_left : (left : List ℤ) → IsDomain (values_at k b) → left ≡ values_at k b → AreLeft rs term a b k left
+  all_left left d e = record {
+    inside = λ u c. subst (λ l. Contains l u) e c;
+    rises = subst Rising (sym e) d.rising;
+    ahead = λ t h. subst (λ l. Contains l t.value) (sym e) (there t h);
+  }
+
+  pub is_inside : (left rest : List ℤ) (v : ℤ) → AreLeft rs term a b k left → left ≡ v ∷ rest → Contains (values_at k b) v
+  is_inside left rest v h e = h.inside v (subst (λ l. Contains l v) (sym e) ((contains_cons v rest v).1 (inl refl)))
+
+  pub fewer_left : (left rest : List ℤ) (v : ℤ) → AreLeft rs term a b k left → left ≡ v ∷ rest → IsFirstRefuting rs term (value_span a k b v) None →
+      AreLeft rs term a b k rest
+  fewer_left left rest v h e n =
+      let r = rising_parts v rest (subst Rising e h.rises) in
+      record {
+        inside = λ u c. h.inside u (subst (λ l. Contains l u) (sym e) ((contains_cons v rest u).1 (inr c)));
+        rises = r.1;
+        ahead = λ t g. ⊎_elim (λ same. absurd (n t.require (refuting t v g (sym same)))) (λ c. c)
+            ((contains_cons v rest t.value).0 (subst (λ l. Contains l t.value) e (h.ahead t g)));
+      }
+
+  later : (v : ℤ) (j : ℕ) (t : Removal) (rest : List ℤ) → AllByRecursion (λ y. v <ℤ y) rest → IsDropAt rs term a b k t →
+      ((i : ℕ) → IsRefuting rs term (value_span a k b v) i → j ≤ i) → (v ≡ t.value) ⊎ Contains rest t.value →
+      IsNoLater (record { cell = k; value = v; require = j }) t
+  later v j t rest l h n (inl e) = inr (sym h.0, inr (e, n t.require (refuting t v h (sym e))))
+  later v j t rest l h n (inr c) = inr (sym h.0, inl (each_contains (λ y. v <ℤ y) rest t.value l c))
+
+  pub drop_found : (left rest : List ℤ) (v : ℤ) (j : ℕ) → AreLeft rs term a b k left → left ≡ v ∷ rest → IsUsableOf a k b → 2 ≤ length (values_at k b) →
+      IsFirstRefuting rs term (value_span a k b v) (Some j) → IsFirstOf (IsDropAt rs term a b k) (Some (record { cell = k; value = v; require = j }))
+  drop_found left rest v j h e u m f = (
+    (refl, record { usable = u; many = m; there = is_inside left rest v h e; refuting = f.0 }),
+    λ t g. later v j t rest (rising_parts v rest (subst Rising e h.rises)).0 g f.1
+        ((contains_cons v rest t.value).0 (subst (λ l. Contains l t.value) e (h.ahead t g))),
+  )
+
+  -- the same with the value and its span as the code has them
+  pub drop_found_as : (left rest : List ℤ) (v w : ℤ) (s : Span) (j : ℕ) → w ≡ v → s ≡ value_span a k b w → AreLeft rs term a b k left →
+      left ≡ v ∷ rest → IsUsableOf a k b → 2 ≤ length (values_at k b) → IsFirstRefuting rs term s (Some j) →
+      IsFirstOf (IsDropAt rs term a b k) (Some (record { cell = k; value = w; require = j }))
+  drop_found_as left rest v w s j same is h e u m f =
+      subst (λ z. IsFirstOf (IsDropAt rs term a b k) (Some (record { cell = k; value = z; require = j }))) (sym same)
+      (drop_found left rest v j h e u m (subst (λ z. IsFirstRefuting rs term z (Some j)) (is ∙ ap (value_span a k b) same) f))
+
+  pub fewer_left_as : (left rest : List ℤ) (v w : ℤ) (s : Span) → w ≡ v → s ≡ value_span a k b w → AreLeft rs term a b k left →
+      left ≡ v ∷ rest → IsFirstRefuting rs term s None → AreLeft rs term a b k rest
+  fewer_left_as left rest v w s same is h e f =
+      fewer_left left rest v h e (subst (λ z. IsFirstRefuting rs term z None) (is ∙ ap (value_span a k b) same) f)
+
+  pub none_left : (left : List ℤ) → AreLeft rs term a b k left → left ≡ [] → IsFirstOf (IsDropAt rs term a b k) None
+  none_left left h e t g = nothing_in t.value (subst (λ l. Contains l t.value) e (h.ahead t g))
+
+  pub none_of_one : length (values_at k b) < 2 → IsFirstOf (IsDropAt rs term a b k) None
+  none_of_one l t h =
+      let many = subst (λ c. 2 ≤ length (values_at c b)) h.0 h.1.many in omega (arith, l, many)
+
+module _ (rs : List Require) (term : ℕ) (a : Automata) (b : Box) where
+  -- none at the first cells
+  abbrev pub NoneUpTo : ℕ → Type 0
+  NoneUpTo n = (t : Removal) → IsTermDrop rs term a b t → n < t.cell
+
+  pub none_unusable : (n : ℕ) → ((k : ℕ) → IsUsableOf a k b → n + 1 ≤ k) → NoneUpTo n
+  none_unusable n f t h = let l = f t.cell h.usable in omega (arith, l)
+
+  pub none_further : (n : ℕ) → NoneUpTo n → IsFirstOf (IsDropAt rs term a b (n + 1)) None → NoneUpTo (n + 1)
+  none_further n f g t h = ⊎_elim (λ e. absurd (g t (e, h))) (λ l. l) (next_or_later n t.cell (f t h))
+
+  pub first_in_cell : (n : ℕ) (r : Removal) → NoneUpTo n → IsFirstOf (IsDropAt rs term a b (n + 1)) (Some r) → IsFirstOf (IsTermDrop rs term a b) (Some r)
+  first_in_cell n r f g = (
+    g.0.1,
+    λ t h. ⊎_elim (λ e. g.1 t (e, h)) (λ l. inl (subst (λ c. c < t.cell) (sym g.0.0) l)) (next_or_later n t.cell (f t h)),
+  )
+
+  pub none_in_cells : (n : ℕ) → NoneUpTo n → length b ≤ n → IsFirstOf (IsTermDrop rs term a b) None
+  none_in_cells n f l t h = let low = f t h in let high = h.usable.to in omega (arith, l, low, high)
+
+module _ (rs : List Require) (ms : List Automata) (b : Box) where
+  -- a drop by a requirement of the first terms
+  abbrev pub DropBelow : ℕ → Removal → Type 0
+  DropBelow n r = (d : MayDrop rs (spans_of ms) b r) × (d.refuted.require.term < n)
+
+  pub none_below : IsFirstOf (DropBelow 0) None
+  none_below t h = let l = h.1 in omega (arith, l)
+
+  module _ (term : ℕ) (a : Automata) (has : slice_get ms term ≡ Some a) where
+    span_is : (z k : ℕ) (v : ℤ) → z ≡ term → IsUsableOf a k b → (spans_of ms).span_at z k (only k v b) ≡ value_span a k b v
+    span_is z k v e u =
+        ap (λ i. (spans_of ms).span_at i k (only k v b)) e ∙ (spans_are_of_machines ms term a has).span k (only k v b)
+        ∙ values_narrowed a b k u.from u.to v
+
+    to_drop : (t : Removal) → IsTermDrop rs term a b t → MayDrop rs (spans_of ms) b t
+    to_drop t h =
+        let r = h.refuting.require in
+        record {
+          cell = (h.usable.from, h.usable.to);
+          many = h.many;
+          there = h.there;
+          refuted = record {
+            require = r;
+            is = h.refuting.is;
+            usable = subst (λ z. IsUsable (spans_of ms) z t.cell (only t.cell t.value b)) (sym h.refuting.of_term)
+                (((spans_are_of_machines ms term a has).usable t.cell (only t.cell t.value b)).1 (usable_only a b t.cell t.value h.usable));
+            refutes = subst (λ s. Refutes r.op r.bound s) (sym (span_is r.term t.cell t.value h.refuting.of_term h.usable)) h.refuting.refutes;
+          };
+        }
+
+    from_drop : (t : Removal) → (d : MayDrop rs (spans_of ms) b t) → d.refuted.require.term ≡ term → IsTermDrop rs term a b t
+    from_drop t d e =
+        let r = d.refuted.require in
+        let u = usable_whole a b t.cell t.value (((spans_are_of_machines ms term a has).usable t.cell (only t.cell t.value b)).0
+        (subst (λ z. IsUsable (spans_of ms) z t.cell (only t.cell t.value b)) e d.refuted.usable)) in
+        record {
+          usable = u;
+          many = d.many;
+          there = d.there;
+          refuting = record {
+            require = r;
+            is = d.refuted.is;
+            of_term = e;
+            refutes = subst (λ s. Refutes r.op r.bound s) (span_is r.term t.cell t.value e u) d.refuted.refutes;
+          };
+        }
+
+    below_or_same : (z : ℕ) → z < term + 1 → (z < term) ⊎ (z ≡ term)
+    below_or_same z l = grind arith
+
+    this_below : term < term + 1
+    this_below = omega arith
+
+    joined : (t : Removal) → DropBelow term t ⊎ IsTermDrop rs term a b t → DropBelow (term + 1) t
+    unfolding to_drop
+    joined t (inl h) = (h.0, (let l = h.1 in omega (arith, l)))
+    joined t (inr h) = (to_drop t h, subst (λ z. z < term + 1) (sym h.refuting.of_term) this_below)
+
+    apart : (t : Removal) → DropBelow (term + 1) t → DropBelow term t ⊎ IsTermDrop rs term a b t
+    apart t h = ⊎_elim (λ l. inl (h.0, l)) (λ e. inr (from_drop t h.0 e)) (below_or_same h.0.refuted.require.term h.1)
+
+    pub first_below_more : (x y : Option Removal) → IsFirstOf (DropBelow term) x → IsFirstOf (IsTermDrop rs term a b) y →
+        IsFirstOf (DropBelow (term + 1)) (earlier_of x y)
+    first_below_more x y p q =
+        first_same (λ r. DropBelow term r ⊎ IsTermDrop rs term a b r) (DropBelow (term + 1)) (earlier_of x y) joined apart
+        (first_of_both (DropBelow term) (IsTermDrop rs term a b) x y p q)
+
+  pub first_of_all : (last n : ℕ) (x : Option Removal) → AllByRecursion (λ (r : Require). r.term < n) rs → n ≤ last → IsFirstOf (DropBelow last) x →
+      IsFirstDrop rs (spans_of ms) b x
+  first_of_all last n x each l p = first_same (DropBelow last) (MayDrop rs (spans_of ms) b) x (λ t h. h.0) (λ t d. (d, below t d)) p
+    where
+      below : (t : Removal) → (d : MayDrop rs (spans_of ms) b t) → d.refuted.require.term < last
+      below t d =
+          let m = each_at (λ (r : Require). r.term < n) rs (t.require - 1) d.refuted.require each d.refuted.is.1 in
+          omega (arith, m, l)
+
+-- the machine of a term, as the code reads it from the list
+pub machine_there : (machines : List Machine) (term : ℕ) (m : Machine) → term < length machines → m ≡ get_or machines term m →
+    slice_get (map automata_of machines) term ≡ Some (automata_of m)
+machine_there machines term m l e =
+    slice_get-map automata_of machines term ∙ ap (option_map automata_of) (slice_get_read machines (length machines) term m refl l e)

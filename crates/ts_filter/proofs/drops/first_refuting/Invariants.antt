@@ -1,0 +1,5 @@
+use Rattle.ts_filter.proofs.Refuting.{NoneOf}
+use Rattle.ts_filter.proofs.drops.first_refuting.Given as goal
+
+abbrev pub invariant-loop-at : goal.invariant-loop-at
+invariant-loop-at l = NoneOf l.requirements l.term l.span l.at

@@ -1,0 +1,47 @@
+-- Drops by the requirements of one term, and the first of two drops.
+use Rattle.std.specs.Prelude.{◌≡◌, ℕ, ◌≤◌, Bool, ◌&&◌, ◌||◌, nat_eq, nat_lt, int_lt, if◌then◌else◌}
+use Rattle.std.specs.Prelude.{List, Contains, length, Option, Some, None}
+use Rattle.std.specs.Ordering.{int_eq}
+use Rattle.ts_base.specs.declared.span.Span.{Span}
+use Rattle.ts_bound.specs.TermSpans.{Automata, value_span, IsUsable}
+use Rattle.ts_model.specs.declared.model.Require.{Require}
+use Rattle.ts_filter.specs.declared.drops.Removal.{Removal}
+use Rattle.ts_filter.specs.Boxes.{Box, values_at}
+use Rattle.ts_filter.specs.Excluded.{Refutes}
+use Rattle.ts_filter.specs.RefutedWorseDrop.{IsRequirement}
+
+-- requirement j, counted from 1, is of the term, and no number of the span compares with its bound as it says
+pub record IsRefuting (requirements : List Require) (term : ℕ) (s : Span) (j : ℕ) : Type 0 where
+  pub require : Require
+  pub is : IsRequirement requirements j require
+  pub of_term : require.term ≡ term
+  pub refutes : Refutes require.op require.bound s
+
+-- the first such requirement; none where there is none
+abbrev pub IsFirstRefuting : List Require → ℕ → Span → Option ℕ → Type 0
+IsFirstRefuting requirements term s None = (j : ℕ) → IsRefuting requirements term s j → ⊥
+IsFirstRefuting requirements term s (Some j) =
+    IsRefuting requirements term s j × ((i : ℕ) → IsRefuting requirements term s i → j ≤ i)
+
+-- a drop by a requirement of the term whose machine this is, told by the span of the value in the whole box
+pub record IsTermDrop (requirements : List Require) (term : ℕ) (a : Automata) (b : Box) (r : Removal) : Type 0 where
+  pub usable : IsUsable a r.cell b
+  pub many : 2 ≤ length (values_at r.cell b)
+  pub there : Contains (values_at r.cell b) r.value
+  pub refuting : IsRefuting requirements term (value_span a r.cell b r.value) r.require
+
+-- the same at cell k alone
+abbrev pub IsDropAt : List Require → ℕ → Automata → Box → ℕ → Removal → Type 0
+IsDropAt requirements term a b k r = (r.cell ≡ k) × IsTermDrop requirements term a b r
+
+-- r comes before t: by the cell, then by the value, then by the requirement
+abbrev pub comes_before : Removal → Removal → Bool
+comes_before r t =
+    nat_lt r.cell t.cell
+    || (nat_eq r.cell t.cell
+    && (int_lt r.value t.value || (int_eq r.value t.value && nat_lt r.require t.require)))
+
+abbrev pub earlier_of : Option Removal → Option Removal → Option Removal
+earlier_of None t = t
+earlier_of (Some r) None = Some r
+earlier_of (Some r) (Some t) = if comes_before t r then Some t else Some r
