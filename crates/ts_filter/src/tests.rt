@@ -1,5 +1,8 @@
 //! Spans that refute, or cut, and spans that don't, found by going over the numbers of each span.
 
+mod calls;
+mod rows;
+
 use crate::{Bar, cuts, refutes};
 use Ext::{Int, NegInf, PosInf};
 use std::test::Fail;
