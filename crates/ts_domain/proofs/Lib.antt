@@ -7,6 +7,7 @@ pub mod CutLaws
 pub mod PieceReads
 pub mod PieceParts
 pub mod PieceSets
+pub mod PieceEnds
 pub mod Steps
 pub mod Places
 pub mod Unions

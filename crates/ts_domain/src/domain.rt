@@ -1,6 +1,6 @@
 //! Non-empty finite sets of numbers.
 
-ghost use Rattle.std.specs.Prelude.{◌≡◌, ◌≢◌, ◌<◌, ◌↔◌, ℤ, pos, neg_ℤ, ◌⊎◌};
+ghost use Rattle.std.specs.Prelude.{◌≡◌, ◌≢◌, ◌<◌, ◌≤ℤ◌, ◌↔◌, ℤ, pos, neg_ℤ, ◌⊎◌};
 ghost use Rattle.std.specs.Prelude.{[], length, slice_get, Some, IsTrue, IfOk, All, Contains, int_lt};
 ghost use Rattle.std.specs.List.{list_any, zip};
 ghost use Rattle.ts_domain.specs.Kept.{kept};
@@ -110,6 +110,22 @@ impl Domain {
         ensures { slice_get self.now i ≡ Some result }
     {
         nth_by(self.ranges.as_slice(), self.pieces.as_slice(), i)
+    }
+
+    /// The least and the greatest number, without a search.
+    pub fn ends(&self) -> Interval
+        ensures low { Contains self.now result.low }
+        ensures high { Contains self.now result.high }
+        ensures all { (v : ℤ) → Contains self.now v → (result.low ≤ℤ v) × (v ≤ℤ result.high) }
+    {
+        let pieces = self.pieces.as_slice();
+        match (pieces.first(), pieces.last()) {
+            (Some(first), Some(last)) => Interval {
+                low: first.low,
+                high: last.high,
+            },
+            _ => unreachable!(),
+        }
     }
 
     /// The numbers in rising order, each at the cost of a search by halving.
