@@ -16,7 +16,7 @@ use Rattle.ts_compile.specs.Compiled.{AnswersTerm, machine_body, are_rising}
 use Rattle.ts_compile.proofs.Answers.{answers_term}
 
 -- the rows are typed and at most eight, and the trim is 0 or 1
-table_fits : (id : PatternId) → (is_typed (seed_table id).rows ≡ true) × (length (seed_table id).rows ≤ 8) × (pattern_a id ≤ 1)
+pub table_fits : (id : PatternId) → (is_typed (seed_table id).rows ≡ true) × (length (seed_table id).rows ≤ 8) × (pattern_a id ≤ 1)
 table_fits Increasing = (refl, omega arith, omega arith)
 table_fits Decreasing = (refl, omega arith, omega arith)
 table_fits Steady = (refl, omega arith, omega arith)
