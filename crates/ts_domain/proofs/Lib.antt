@@ -8,6 +8,7 @@ pub mod PieceReads
 pub mod PieceParts
 pub mod PieceSets
 pub mod PieceEnds
+mod SameParts
 pub mod Steps
 pub mod Places
 pub mod Unions

@@ -112,6 +112,14 @@ impl Domain {
         nth_by(self.ranges.as_slice(), self.pieces.as_slice(), i)
     }
 
+    /// Whether both have the same ranges and pieces, and so the same numbers. It compares no numbers: of sets that were
+    /// made in other ways it may say no all the same.
+    pub fn is_same(&self, other: &Domain) -> bool
+        ensures { IsTrue result → self.now ≡ other.now }
+    {
+        self.pieces == other.pieces && *self.ranges == *other.ranges
+    }
+
     /// The least and the greatest number, without a search.
     pub fn ends(&self) -> Interval
         ensures low { Contains self.now result.low }
