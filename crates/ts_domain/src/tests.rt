@@ -125,6 +125,8 @@ fn expect_union(rt: &impl Abort, domain: &Domain, wanted: &[(i64, i64)], count: 
     let (first, last) = (domain.nth(0), domain.nth(size - 1));
     assert_eq!(rt; wanted.first().map(|range| range.0), Some(first));
     assert_eq!(rt; wanted.last().map(|range| range.1), Some(last));
+    let ends = domain.ends();
+    assert_eq!(rt; (ends.low, ends.high), (first, last));
     assert!(rt; -2_000_000 < first && last < 2_000_000);
     assert!(rt; !domain.contains(first - 1) && !domain.contains(last + 1));
 }
@@ -209,6 +211,7 @@ fn unions_changes_and_ways_back(rt: HostRuntime) -> Result<(), Fail> {
     assert_eq!(rt; numbers.nth(5), 7);
     assert!(rt; !numbers.contains(6) && !numbers.is_single());
     let both = union(&rt, alloc, &[3, 5], &[3, 5])?;
+    assert!(rt; both.is_same(&both.try_clone()?) && !both.is_same(&numbers));
     let mut cells = Boxed::new(alloc, &[both, numbers])?;
     changes_and_ways_back(&rt, &mut cells)
 }
