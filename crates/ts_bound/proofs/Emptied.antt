@@ -26,7 +26,8 @@ ends_more a (x ∷ ns) n =
 ends_ok : (a : ℕ) (ns : List ℕ) → Ends a (ends_of a ns) (a + sum ns)
 unfolding Ends
 ends_ok a [] = omega arith
-ends_ok a (n ∷ ns) = let s = sum_first n ns in let e : (a + n) + sum ns ≡ a + sum (n ∷ ns) = omega (arith, s) in (omega arith, subst (Ends (a + n) (ends_of (a + n) ns)) e (ends_ok (a + n) ns))
+ends_ok a (n ∷ ns) = let s = sum_first n ns in let e : (a + n) + sum ns ≡ a + sum (n ∷ ns) = omega (arith, s) in
+    (omega arith, subst (Ends (a + n) (ends_of (a + n) ns)) e (ends_ok (a + n) ns))
 
 take_replicate : {X : Type 0} (n m : ℕ) (x : X) → n ≤ m → take n (replicate m x) ≡ replicate n x
 take_replicate zero m x h = refl
@@ -38,17 +39,21 @@ unfolding rows_from
 rows_same a m [] x h = refl
 rows_same a m (n ∷ ns) x h =
     let s = sum_first n ns in let e : a + n - a ≡ n = omega arith in
-    ap (λ l. take (a + n - a) l ∷ rows_from (a + n) (ends_of (a + n) ns) (replicate m x)) (drop-replicate a m x) ∙ ap (λ k. take k (replicate (m - a) x) ∷ rows_from (a + n) (ends_of (a + n) ns) (replicate m x)) e ∙
-    ap (λ l. l ∷ rows_from (a + n) (ends_of (a + n) ns) (replicate m x)) (take_replicate n (m - a) x (omega (arith, s, h))) ∙ ap (λ l. replicate n x ∷ l) (rows_same (a + n) m ns x (omega (arith, s, h)))
+    ap (λ l. take (a + n - a) l ∷ rows_from (a + n) (ends_of (a + n) ns) (replicate m x)) (drop-replicate a m x)
+    ∙ ap (λ k. take k (replicate (m - a) x) ∷ rows_from (a + n) (ends_of (a + n) ns) (replicate m x)) e ∙
+    ap (λ l. l ∷ rows_from (a + n) (ends_of (a + n) ns) (replicate m x)) (take_replicate n (m - a) x (omega (arith, s, h)))
+    ∙ ap (λ l. replicate n x ∷ l) (rows_same (a + n) m ns x (omega (arith, s, h)))
 
 -- the loop over the sizes
 abbrev pub Begun : List ℕ → ℕ → List ℕ → ℕ → Type 0
 Begun starts total ns i = (starts ≡ 0 ∷ ends_of 0 (take i ns)) × (total ≡ sum (take i ns))
 
-pub sizes_more : (starts starts' : List ℕ) (total : ℕ) (ns : List ℕ) (i : ℕ) → i < length ns → starts' ≡ starts ++ (total + get_or ns i 0) ∷ [] → Begun starts total ns i → Begun starts' (total + get_or ns i 0) ns (i + 1)
+pub sizes_more : (starts starts' : List ℕ) (total : ℕ) (ns : List ℕ) (i : ℕ) → i < length ns → starts' ≡ starts ++ (total + get_or ns i 0) ∷ [] →
+    Begun starts total ns i → Begun starts' (total + get_or ns i 0) ns (i + 1)
 sizes_more starts starts' total ns i h is b =
     let m = sum_more ns i h in let e : total + get_or ns i 0 ≡ 0 + sum (take i ns) + get_or ns i 0 = omega (arith, b.1) in (
-      is ∙ ap (λ l. l ++ (total + get_or ns i 0) ∷ []) b.0 ∙ ap (λ n. 0 ∷ (ends_of 0 (take i ns) ++ n ∷ [])) e ∙ ap (λ l. 0 ∷ l) (sym (ends_more 0 (take i ns) (get_or ns i 0))) ∙
+      is ∙ ap (λ l. l ++ (total + get_or ns i 0) ∷ []) b.0 ∙ ap (λ n. 0 ∷ (ends_of 0 (take i ns) ++ n ∷ [])) e
+          ∙ ap (λ l. 0 ∷ l) (sym (ends_more 0 (take i ns) (get_or ns i 0))) ∙
           ap (λ l. 0 ∷ ends_of 0 l) (sym (take_more ns i 0 h)),
       omega (arith, b.1, m),
     )
@@ -56,13 +61,15 @@ sizes_more starts starts' total ns i h is b =
 whole : (starts : List ℕ) (total : ℕ) (ns : List ℕ) (i : ℕ) → length ns ≤ i → Begun starts total ns i → (starts ≡ 0 ∷ ends_of 0 ns) × (total ≡ 0 + sum ns)
 whole starts total ns i h b = let t = take_all i ns h in let s = ap sum t in (b.0 ∙ ap (λ l. 0 ∷ ends_of 0 l) t, omega (arith, s, b.1))
 
-pub empty_starts : {X : Type 0} (starts : List ℕ) (total : ℕ) (ns : List ℕ) (i : ℕ) (xs : List X) (x : X) → length ns ≤ i → Begun starts total ns i → xs ≡ replicate total x → Starts starts (length xs)
+pub empty_starts : {X : Type 0} (starts : List ℕ) (total : ℕ) (ns : List ℕ) (i : ℕ) (xs : List X) (x : X) → length ns ≤ i → Begun starts total ns i →
+    xs ≡ replicate total x → Starts starts (length xs)
 unfolding Starts
 empty_starts starts total ns i xs x h b is =
     let w = whole starts total ns i h b in let l : length xs ≡ 0 + sum ns = ap length is ∙ length-replicate total x ∙ w.1 in
     subst (λ s. Starts s (length xs)) (sym w.0) (refl, subst (Ends 0 (ends_of 0 ns)) (sym l) (ends_ok 0 ns))
 
-pub empty_rows : {X : Type 0} (starts : List ℕ) (total : ℕ) (ns : List ℕ) (i : ℕ) (xs : List X) (x : X) → length ns ≤ i → Begun starts total ns i → xs ≡ replicate total x → rows_of starts xs ≡ map (λ n. replicate n x) ns
+pub empty_rows : {X : Type 0} (starts : List ℕ) (total : ℕ) (ns : List ℕ) (i : ℕ) (xs : List X) (x : X) → length ns ≤ i → Begun starts total ns i →
+    xs ≡ replicate total x → rows_of starts xs ≡ map (λ n. replicate n x) ns
 unfolding rows_of
 empty_rows starts total ns i xs x h b is =
     let w = whole starts total ns i h b in
@@ -83,17 +90,21 @@ pub box_more : (n : ℕ) (starts starts' : List ℕ) (total total' : ℕ) (cells
 box_more n starts starts' total total' cells k size d lt is_size is_d is_total is b =
     let back : (k + 1) - 1 ≡ k = omega arith in
     let here : get_or (sizes n cells) k 0 ≡ size * n =
-    get_or-map (λ d. length d * n) cells k [] 0 lt ∙ ap (λ x. length x * n) (ap (λ i. get_or cells i []) (sym back) ∙ sym is_d) ∙ ap (λ x. x * n) (sym is_size) in
+    get_or-map (λ d. length d * n) cells k [] 0 lt ∙ ap (λ x. length x * n) (ap (λ i. get_or cells i []) (sym back) ∙ sym is_d)
+    ∙ ap (λ x. x * n) (sym is_size) in
     let sum : total' ≡ total + get_or (sizes n cells) k 0 = is_total ∙ ap (λ x. total + x) (sym here) in
     subst (λ t. Begun starts' t (sizes n cells) (k + 1)) (sym sum)
-    (sizes_more starts starts' total (sizes n cells) k (let l = length-map cells (λ d. length d * n) in omega (arith, l, lt)) (is ∙ ap (λ t. starts ++ t ∷ []) sum) b)
+    (sizes_more starts starts' total (sizes n cells) k (let l = length-map cells (λ d. length d * n) in omega (arith, l, lt))
+    (is ∙ ap (λ t. starts ++ t ∷ []) sum) b)
 
-pub box_starts : {X : Type 0} (n : ℕ) (starts : List ℕ) (total : ℕ) (cells : List (List ℤ)) (k : ℕ) (xs : List X) (x : X) → length cells ≤ k → Begun starts total (sizes n cells) k →
+pub box_starts : {X : Type 0} (n : ℕ) (starts : List ℕ) (total : ℕ) (cells : List (List ℤ)) (k : ℕ) (xs : List X) (x : X) → length cells ≤ k →
+    Begun starts total (sizes n cells) k →
     xs ≡ replicate total x → Starts starts (length xs)
 box_starts n starts total cells k xs x h b is =
     empty_starts starts total (sizes n cells) k xs x (let l = length-map cells (λ d. length d * n) in omega (arith, l, h)) b is
 
-pub box_rows : {X : Type 0} (n : ℕ) (starts : List ℕ) (total : ℕ) (cells : List (List ℤ)) (k : ℕ) (xs : List X) (x : X) → length cells ≤ k → Begun starts total (sizes n cells) k →
+pub box_rows : {X : Type 0} (n : ℕ) (starts : List ℕ) (total : ℕ) (cells : List (List ℤ)) (k : ℕ) (xs : List X) (x : X) → length cells ≤ k →
+    Begun starts total (sizes n cells) k →
     xs ≡ replicate total x → rows_of starts xs ≡ map (λ d. replicate (length d * n) x) cells
 box_rows n starts total cells k xs x h b is =
     empty_rows starts total (sizes n cells) k xs x (let l = length-map cells (λ d. length d * n) in omega (arith, l, h)) b is

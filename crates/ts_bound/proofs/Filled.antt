@@ -57,7 +57,8 @@ drop_twice n zero xs = let e : 0 + n ≡ n = omega arith in ap (λ k. drop k xs)
 drop_twice n (suc m) [] = drop_all n [] (omega arith) ∙ sym (drop_all (suc m + n) [] (omega arith))
 drop_twice n (suc m) (x ∷ xs) = let e : suc m + n ≡ suc (m + n) = omega arith in drop_twice n m xs ∙ ap (λ k. drop k (x ∷ xs)) (sym e)
 
-over_more : {X : Type 0} (xs : List X) (i : ℕ) (ws : List X) (x : X) → i + length ws < length xs → set (over xs i ws) (i + length ws) x ≡ over xs i (ws ++ x ∷ [])
+over_more : {X : Type 0} (xs : List X) (i : ℕ) (ws : List X) (x : X) → i + length ws < length xs →
+    set (over xs i ws) (i + length ws) x ≡ over xs i (ws ++ x ∷ [])
 over_more xs i ws x h =
     let l = length-take-le i xs (omega (arith, h)) in let back : (i + length ws) - i ≡ length ws = omega arith in
     let rest : 0 < length (drop (i + length ws) xs) = let r = length-drop (i + length ws) xs in omega (arith, r, h) in
@@ -129,12 +130,15 @@ pub source_stands : (b : Body) (v : ℤ) (q : ℕ) (hs : List Hull) (d : Hull) �
 source_stands b v q hs d h k = (subst (AllStand b) (first_source v q hs d h) k).0
 
 pub value_more : (b : Body) (v w : ℤ) (at q : ℕ) (first next next' hs : List Hull) (d h : Hull) → q < length hs → h ≡ get_or hs q d →
-    LeftOfValue b v w at hs first q next → next' ≡ taken_in b w at next (record { value = v; state = q; hull = h }) → LeftOfValue b v w at hs first (q + 1) next'
+    LeftOfValue b v w at hs first q next → next' ≡ taken_in b w at next (record { value = v; state = q; hull = h }) →
+    LeftOfValue b v w at hs first (q + 1) next'
 value_more b v w at q first next next' hs d h lt is inv step =
     let e = first_source v q hs d lt in
     let on : suc q ≡ q + 1 = omega arith in (
-      ap (λ t. fold (taken_in b w at) t (sources_from v (q + 1) (drop (q + 1) hs))) (step ∙ ap (λ t. taken_in b w at next (record { value = v; state = q; hull = t })) is)
-          ∙ ap (λ n. fold (taken_in b w at) (taken_in b w at next (record { value = v; state = q; hull = get_or hs q d })) (sources_from v n (drop (q + 1) hs))) (sym on)
+      ap (λ t. fold (taken_in b w at) t (sources_from v (q + 1) (drop (q + 1) hs)))
+          (step ∙ ap (λ t. taken_in b w at next (record { value = v; state = q; hull = t })) is)
+          ∙ ap (λ n. fold (taken_in b w at) (taken_in b w at next (record { value = v; state = q; hull = get_or hs q d }))
+          (sources_from v n (drop (q + 1) hs))) (sym on)
           ∙ sym (ap (fold (taken_in b w at) next) e) ∙ inv.0,
       ap length step ∙ length-taken_in b w at next _ ∙ inv.1,
       subst (λ n. AllStand b (sources_from v n (drop (q + 1) hs))) on (subst (AllStand b) e inv.2).1,
@@ -185,7 +189,8 @@ all_right P [] ys h = h
 all_right P (x ∷ xs) ys h = all_right P xs ys h.1
 
 -- what the next value asks
-pub part_fits : (n : ℕ) (left left' : List ℤ) (v : ℤ) (from : ℕ) (row : List Hull) → left ≡ v ∷ left' → from + length left * n ≡ length row → from + n ≤ length row
+pub part_fits : (n : ℕ) (left left' : List ℤ) (v : ℤ) (from : ℕ) (row : List Hull) → left ≡ v ∷ left' → from + length left * n ≡ length row →
+    from + n ≤ length row
 part_fits n left left' v from row is long = let l = ap (λ t. length t * n) is in omega (arith, l, long)
 
 pub part_length : (n m : ℕ) (left left' : List ℤ) (v : ℤ) (from : ℕ) (row hs : List Hull) → left ≡ v ∷ left' → from + length left * n ≡ length row → m ≡ n →
@@ -202,7 +207,8 @@ part_stands b m left left' v v' from row hs is is_v is_m is_hs h =
     (subst (λ t. AllStand b (sources_from v 0 t)) (sym (is_hs ∙ ap (λ k. slice_range row from (from + k)) is_m))
     (all_left (λ s. HullStands b (standing_at s)) _ _ (subst (AllStand b) (sources_next (length b.states) left left' v from row is) h)))
 
-pub row_more : (b : Body) (m : ℕ) (vs left left' : List ℤ) (v v' w : ℤ) (at : ℕ) (row base : List Hull) (len from : ℕ) (hs next next' : List Hull) → left ≡ v ∷ left' → v' ≡ v →
+pub row_more : (b : Body) (m : ℕ) (vs left left' : List ℤ) (v v' w : ℤ) (at : ℕ) (row base : List Hull) (len from : ℕ) (hs next next' : List Hull) →
+    left ≡ v ∷ left' → v' ≡ v →
     m ≡ length b.states → hs ≡ slice_range row from (from + m) → next' ≡ fold (taken_in b w at) next (sources_from v' 0 hs) →
     LeftOfRow b vs w at row base len left from next → LeftOfRow b vs w at row base len left' (from + m) next'
 row_more b m vs left left' v v' w at row base len from hs next next' is is_v is_m is_hs step inv =
@@ -210,7 +216,8 @@ row_more b m vs left left' v v' w at row base len from hs next next' is is_v is_
     let e = sources_next n left left' v from row is in
     let l = ap (λ t. length t * n) is in
     let s : next' ≡ fold (taken_in b w at) next (sources_from v 0 (slice_range row from (from + n))) =
-    step ∙ ap (λ u. fold (taken_in b w at) next (sources_from u 0 hs)) is_v ∙ ap (λ t. fold (taken_in b w at) next (sources_from v 0 t)) (is_hs ∙ ap (λ k. slice_range row from (from + k)) is_m) in
+    step ∙ ap (λ u. fold (taken_in b w at) next (sources_from u 0 hs)) is_v ∙ ap (λ t. fold (taken_in b w at) next (sources_from v 0 t))
+    (is_hs ∙ ap (λ k. slice_range row from (from + k)) is_m) in
     subst (λ k. LeftOfRow b vs w at row base len left' (from + k) next') (sym is_m) (
       ap (λ t. fold (taken_in b w at) t (sources n left' (drop (from + n) row))) s
           ∙ sym (fold-append (taken_in b w at) next (sources_from v 0 (slice_range row from (from + n))) (sources n left' (drop (from + n) row)))
@@ -251,9 +258,11 @@ folded_over : (b : Body) (w : ℤ) (at : ℕ) (xs bl : List Hull) (ss : List Sou
 folded_over b w at xs bl [] fits long leads = refl
 folded_over b w at xs bl (s ∷ ss) fits long leads =
     let l = length-taken b w bl s in
-    ap (λ t. fold (taken_in b w at) t ss) (taken_over b w at xs bl s fits long leads.0) ∙ folded_over b w at xs (taken b w bl s) ss (omega (arith, fits, l)) (l ∙ long) leads.1
+    ap (λ t. fold (taken_in b w at) t ss) (taken_over b w at xs bl s fits long leads.0)
+    ∙ folded_over b w at xs (taken b w bl s) ss (omega (arith, fits, l)) (l ∙ long) leads.1
 
-taken_at : (b : Body) (w : ℤ) (bl : List Hull) (s : Source) (q : ℕ) → length bl ≡ length b.states → (span_step b (standing_at s) s.value w).state < length b.states →
+taken_at : (b : Body) (w : ℤ) (bl : List Hull) (s : Source) (q : ℕ) → length bl ≡ length b.states →
+    (span_step b (standing_at s) s.value w).state < length b.states →
     TakesNone (get_or bl q none) → get_or (taken b w bl s) q none ≡ hull_of_both (get_or bl q none) (given b w q s)
 unfolding taken given
 taken_at b w bl s q long leads takes = go (nat_eq to.state q) refl
@@ -287,7 +296,8 @@ all_hulls b w ss leads =
     (λ q lt. let at = get_or-replicate n q none none lt in
     takens_at b w (replicate n none) ss q long leads (subst TakesNone (sym at) none_takes_none) ∙ ap (λ t. fold hull_of_both t (map (given b w q) ss)) at)
 
-leads_of : (b : Body) (w : ℤ) (ss : List Source) → ((s : Standing Span) → HullStands b s → (x y : ℤ) → HullStands b (span_step b s x y)) → AllStand b ss → Leads b w ss
+leads_of : (b : Body) (w : ℤ) (ss : List Source) → ((s : Standing Span) → HullStands b s → (x y : ℤ) → HullStands b (span_step b s x y)) →
+    AllStand b ss → Leads b w ss
 leads_of b w [] step h = tt
 leads_of b w (s ∷ ss) step h = ((step (standing_at s) h.0 s.value w).exists, leads_of b w ss step h.1)
 
@@ -303,7 +313,8 @@ row_done b vs left w w' at row first next len from is_w none_left rules stand fi
     let leads = leads_of b w (sources n vs row) (kinds_are_kept b rules).span_step stand in
     sym (ap (λ t. fold (taken_in b w' at) next (sources n t (drop from row))) none_left) ∙ inv.0
     ∙ ap (λ t. fold (taken_in b t at) base (sources n vs row)) is_w
-    ∙ folded_over b w at first (replicate n none) (sources n vs row) (omega (arith, l, fits)) l leads ∙ ap (over first at) (all_hulls b w (sources n vs row) leads)
+    ∙ folded_over b w at first (replicate n none) (sources n vs row) (omega (arith, l, fits)) l leads
+    ∙ ap (over first at) (all_hulls b w (sources n vs row) leads)
 
 -- the loop over the next values
 
@@ -324,7 +335,8 @@ take_over xs i m ws h e =
     ap (λ t. take (i + m) t) (sym (append_assoc (take i xs) ws (drop (i + length ws) xs)))
     ∙ ap (λ n. take n ((take i xs ++ ws) ++ drop (i + length ws) xs)) at ∙ take-append_seam (take i xs ++ ws) (drop (i + length ws) xs)
 
-pub left_fits : (n m : ℕ) (f : ℤ → List Hull) (ws left left' : List ℤ) (w : ℤ) (at : ℕ) (next : List Hull) → left ≡ w ∷ left' → m ≡ n → LeftOf n f ws left at next →
+pub left_fits : (n m : ℕ) (f : ℤ → List Hull) (ws left left' : List ℤ) (w : ℤ) (at : ℕ) (next : List Hull) → left ≡ w ∷ left' → m ≡ n →
+    LeftOf n f ws left at next →
     at + m ≤ length next
 left_fits n m f ws left left' w at next is is_m inv = let g = part_fits n left left' w at next is inv.1 in omega (arith, g, is_m)
 
@@ -363,7 +375,8 @@ values_done b vs ws left row at next none_left inv =
 
 -- the row of the cell where a run starts
 
-start_place : (b : Body) (h : Hull) (v : ℤ) → 1 ≤ length b.states → h ≡ hull_of (one_hull b.start) → set (replicate (length b.states) none) 0 h ≡ hulls_at b [] v
+start_place : (b : Body) (h : Hull) (v : ℤ) → 1 ≤ length b.states → h ≡ hull_of (one_hull b.start) →
+    set (replicate (length b.states) none) 0 h ≡ hulls_at b [] v
 unfolding hulls_at hull_at start_hull
 start_place b h v some is =
     let n = length b.states in let long = length-replicate n none in
@@ -399,7 +412,8 @@ abbrev pub LeftOfStart : Body → List ℤ → List ℤ → ℕ → List Hull �
 LeftOfStart b ws left at next = LeftOf (length b.states) (hulls_at b []) ws left at next
 
 pub start_more : (b : Body) (m : ℕ) (ws left left' : List ℤ) (w : ℤ) (at : ℕ) (h : Hull) (next next' : List Hull) → left ≡ w ∷ left' → m ≡ length b.states →
-    1 ≤ m → h ≡ hull_of (one_hull b.start) → next' ≡ over next at (set (replicate m none) 0 h) → LeftOfStart b ws left at next → LeftOfStart b ws left' (at + m) next'
+    1 ≤ m → h ≡ hull_of (one_hull b.start) → next' ≡ over next at (set (replicate m none) 0 h) → LeftOfStart b ws left at next →
+    LeftOfStart b ws left' (at + m) next'
 start_more b m ws left left' w at h next next' is is_m some is_h given inv =
     left_more (length b.states) m (hulls_at b []) (length-hulls_at b []) ws left left' w w at next next' is refl is_m
     (given ∙ ap (λ k. over next at (set (replicate k none) 0 h)) is_m ∙ ap (over next at) (start_place b h w (omega (arith, some, is_m)) is_h)) inv

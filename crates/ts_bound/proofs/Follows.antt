@@ -17,7 +17,8 @@ module _ {M : Type 1} {𝓤 : Ura M} (𝓛 : Logic 𝓤) (R T U V : RattleType) 
   unfolding both_by
   both_then =
       qed 𝓛 (‵ (follows R T γ γ' F) ∷ ‵ (follows_both T U V γ' γ₁ γ₂ G) ∷ []) ∵
-      each ! (λ (w : U.Denot × V.Denot). wand 𝓤 (sep 𝓤 (A.res γ₁ (U.coded.code w.0)) (A.res γ₂ (V.coded.code w.1))) (A.res γ (R.coded.code (F (G w.0 w.1))))) (λ w.
+      each ! (λ (w : U.Denot × V.Denot). wand 𝓤 (sep 𝓤 (A.res γ₁ (U.coded.code w.0)) (A.res γ₂ (V.coded.code w.1)))
+      (A.res γ (R.coded.code (F (G w.0 w.1))))) (λ w.
       assume ! (‵ (fsep (fres γ₁ (U.coded.code w.0)) (fres γ₂ (V.coded.code w.1)))) $ move ! (0 ∷ 2 ∷ []) $
       use2 𝓛 (‵ (fres γ' (T.coded.code (G w.0 w.1)))) (followed₂ 𝓛 (mem T) (mem U) (mem V) G γ' γ₁ γ₂ w.0 w.1) $ move ! (1 ∷ 0 ∷ []) $
       by ! (followed 𝓛 R T F γ γ' (G w.0 w.1)))

@@ -47,7 +47,8 @@ some_within s t w h = holds_some t s.lo (w s.lo (le_refl s.lo, h))
 registers_within : (h k : EachOf Span) → HullWithin h k → has_registers h ≡ true → has_registers k ≡ true
 registers_within h k w e =
     let p = and_parts (has_some h.c && has_some h.d) (has_some h.r) e in let q = and_parts (has_some h.c) (has_some h.d) p.0 in
-    and_from (has_some k.c && has_some k.d) (has_some k.r) (and_from (has_some k.c) (has_some k.d) (some_within h.c k.c w.0 q.0) (some_within h.d k.d w.1 q.1))
+    and_from (has_some k.c && has_some k.d) (has_some k.r) (and_from (has_some k.c) (has_some k.d) (some_within h.c k.c w.0 q.0)
+    (some_within h.d k.d w.1 q.1))
     (some_within h.r k.r w.2 p.1)
 
 value_within : (f : Formula) (h k : EachOf Span) (x y : ℤ) → HullWithin h k → IsWithin (value_in spans h x y f) (value_in spans k x y f)
@@ -74,7 +75,8 @@ given_within b v q u p h k w = go (nat_eq (move_between b p u v).next q)
     go true = moved_within (move_between b p u v) (spans_of h) (spans_of k) u v w
     go false = none_within none_hull
 
-both_within : (h k x : Hull) → HullWithin (spans_of h) (spans_of x) → HullWithin (spans_of k) (spans_of x) → HullWithin (spans_of (hull_of_both h k)) (spans_of x)
+both_within : (h k x : Hull) → HullWithin (spans_of h) (spans_of x) → HullWithin (spans_of k) (spans_of x) →
+    HullWithin (spans_of (hull_of_both h k)) (spans_of x)
 unfolding hull_of_both
 both_within h k x p q = (hull_least h.c k.c x.c p.0 q.0, hull_least h.d k.d x.d p.1 q.1, hull_least h.r k.r x.r p.2 q.2)
 
@@ -95,7 +97,8 @@ stays_in : (s : Hull) (hs : List Hull) (h : Hull) → HullWithin (spans_of s) (s
 stays_in s [] h w = w
 stays_in s (k ∷ hs) h w = stays_in s hs (hull_of_both h k) (first_in s h k w)
 
-is_in : (s : Hull) (hs : List Hull) (h : Hull) → Any (λ k. HullWithin (spans_of s) (spans_of k)) hs → HullWithin (spans_of s) (spans_of (fold hull_of_both h hs))
+is_in : (s : Hull) (hs : List Hull) (h : Hull) → Any (λ k. HullWithin (spans_of s) (spans_of k)) hs →
+    HullWithin (spans_of s) (spans_of (fold hull_of_both h hs))
 is_in s [] h a = absurd a
 is_in s (k ∷ hs) h a = ⊎_elim (λ w. stays_in s hs (hull_of_both h k) (second_in s h k w)) (λ r. is_in s hs (hull_of_both h k) r) a
 
@@ -105,9 +108,11 @@ all_append : {A : Type 0} (P : A → Type 0) (xs ys : List A) → AllByRecursion
 all_append P [] ys h k = k
 all_append P (x ∷ xs) ys h k = (h.0, all_append P xs ys h.1 k)
 
-all_flat : {A : Type 0} (P : A → Type 0) (f : ℤ → List A) (us : List ℤ) → ((u : ℤ) → Contains us u → AllByRecursion P (f u)) → AllByRecursion P (flat_map f us)
+all_flat : {A : Type 0} (P : A → Type 0) (f : ℤ → List A) (us : List ℤ) → ((u : ℤ) → Contains us u → AllByRecursion P (f u)) →
+    AllByRecursion P (flat_map f us)
 all_flat P f [] h = tt
-all_flat P f (u ∷ us) h = all_append P (f u) (flat_map f us) (h u ((contains_cons u us u).1 (inl refl))) (all_flat P f us (λ w c. h w ((contains_cons u us w).1 (inr c))))
+all_flat P f (u ∷ us) h = all_append P (f u) (flat_map f us) (h u ((contains_cons u us u).1 (inl refl)))
+    (all_flat P f us (λ w c. h w ((contains_cons u us w).1 (inr c))))
 
 all_mapped : {A : Type 0} (P : A → Type 0) (f : ℤ → A) (us : List ℤ) → ((u : ℤ) → Contains us u → P (f u)) → AllByRecursion P (map f us)
 all_mapped P f [] h = tt
@@ -120,7 +125,8 @@ all_range P f m q (suc n) le h = (h q (omega (arith, le)), all_range P f m (q + 
 all_flat_range : {A : Type 0} (P : A → Type 0) (f : ℕ → List A) (m q n : ℕ) → q + n ≤ m → ((p : ℕ) → p < m → AllByRecursion P (f p)) →
     AllByRecursion P (flat_map f (range_with_len q n))
 all_flat_range P f m q zero le h = tt
-all_flat_range P f m q (suc n) le h = all_append P (f q) (flat_map f (range_with_len (q + 1) n)) (h q (omega (arith, le))) (all_flat_range P f m (q + 1) n (omega (arith, le)) h)
+all_flat_range P f m q (suc n) le h = all_append P (f q) (flat_map f (range_with_len (q + 1) n)) (h q (omega (arith, le)))
+    (all_flat_range P f m (q + 1) n (omega (arith, le)) h)
 
 all_of_map : {A B : Type 0} (P : B → Type 0) (f : A → B) (xs : List A) → AllByRecursion (λ x. P (f x)) xs → AllByRecursion P (map f xs)
 all_of_map P f [] h = tt
@@ -167,7 +173,8 @@ finished_within : (b : Body) (h k : EachOf Span) → HullWithin h k → IsWithin
 finished_within b h k w = go (has_registers h) refl
   where
     go : (t : Bool) → has_registers h ≡ t → IsWithin (cond t (finished spans b h) none_span) (finished_span b k)
-    go true e = subst (λ t. IsWithin (finished spans b h) (cond t (finished spans b k) none_span)) (sym (registers_within h k w e)) (value_within b.finish h k (pos 0) (pos 0) w)
+    go true e = subst (λ t. IsWithin (finished spans b h) (cond t (finished spans b k) none_span)) (sym (registers_within h k w e))
+        (value_within b.finish h k (pos 0) (pos 0) w)
     go false e = λ x p. absurd (none_empty x p)
 
 -- the hull of spans that each lie in one of others
@@ -192,10 +199,12 @@ finishes_grow b mark n before wider v a =
     spans_within x (map f (states_of b)) none_span (λ e h. absurd (none_empty e h))
     (all_range (λ t. IsWithin t x) f (length b.states) 0 (length b.states) (omega arith) (λ q lt.
     span_in (f q) (map g (states_of b)) (any_range (λ t. IsWithin (f q) t) g 0 (length b.states) q (omega arith) (omega (arith, lt))
-    (subst (λ m. IsWithin (marked_span m n (finished_span b (spans_of (hull_at b before v q)))) (marked_span m n (finished_span b (spans_of (hull_at b wider v q))))) (sym mark)
+    (subst (λ m. IsWithin (marked_span m n (finished_span b (spans_of (hull_at b before v q))))
+    (marked_span m n (finished_span b (spans_of (hull_at b wider v q))))) (sym mark)
     (same_mark n _ _ (finished_within b _ _ (hull_grows b before wider v q a)))))))
 
-glued_grow : (p : Pair) → p.forward.mark ≡ Same → (n : ℕ) (before wider behind rest : List (List ℤ)) (v : ℤ) → AreWithin before wider → AreWithin behind rest →
+glued_grow : (p : Pair) → p.forward.mark ≡ Same → (n : ℕ) (before wider behind rest : List (List ℤ)) (v : ℤ) → AreWithin before wider →
+    AreWithin behind rest →
     IsWithin (span_of_all (glued_spans p n before behind v)) (span_of_all (glued_spans p n wider rest v))
 unfolding glued_spans
 glued_grow p mark n before wider behind rest v a c =
@@ -206,11 +215,13 @@ glued_grow p mark n before wider behind rest v a c =
     spans_within x (flat_map (λ q. map (f q) (states_of p.reverse)) (states_of p.forward)) none_span (λ e h. absurd (none_empty e h))
     (all_flat_range (λ t. IsWithin t x) (λ q. map (f q) (states_of p.reverse)) (length p.forward.states) 0 (length p.forward.states) (omega arith) (λ q lt.
     all_range (λ t. IsWithin t x) (f q) (length p.reverse.states) 0 (length p.reverse.states) (omega arith) (λ r l.
-    span_in (f q r) (flat_map G (states_of p.forward)) (any_flat_range (λ t. IsWithin (f q r) t) G 0 (length p.forward.states) q (omega arith) (omega (arith, lt))
+    span_in (f q r) (flat_map G (states_of p.forward)) (any_flat_range (λ t. IsWithin (f q r) t) G 0 (length p.forward.states) q (omega arith)
+    (omega (arith, lt))
     (any_range (λ t. IsWithin (f q r) t) (g q) 0 (length p.reverse.states) r (omega arith) (omega (arith, l))
     (subst (λ m. IsWithin (marked_span m n (glue_span_at p (standing_in p.forward before v q) (standing_in p.reverse behind v r) v))
     (marked_span m n (glue_span_at p (standing_in p.forward wider v q) (standing_in p.reverse rest v r) v))) (sym mark)
-    (same_mark n _ _ (glued_spans_grow p q r (spans_of (hull_at p.forward before v q)) (spans_of (hull_at p.reverse behind v r)) (spans_of (hull_at p.forward wider v q))
+    (same_mark n _ _ (glued_spans_grow p q r (spans_of (hull_at p.forward before v q)) (spans_of (hull_at p.reverse behind v r))
+    (spans_of (hull_at p.forward wider v q))
     (spans_of (hull_at p.reverse rest v r)) v (hull_grows p.forward before wider v q a) (hull_grows p.reverse behind rest v r c)))))))))
 
 -- boxes
@@ -261,12 +272,15 @@ by_pair : (b : Body) (o : Option Pair) → b.mark ≡ Same → IfSome o (Splits 
     IsWithin (span_of_all (spans_at b o k cells v)) (span_of_all (spans_at b o k wider v))
 unfolding spans_at
 by_pair b None mark s k cells wider v a =
-    subst (λ n. IsWithin (span_of_all (finish_spans b (length cells) (cells_before k cells) v)) (span_of_all (finish_spans b n (cells_before k wider) v))) (same_length cells wider a)
+    subst (λ n. IsWithin (span_of_all (finish_spans b (length cells) (cells_before k cells) v))
+    (span_of_all (finish_spans b n (cells_before k wider) v))) (same_length cells wider a)
     (finishes_grow b mark (length cells) (cells_before k cells) (cells_before k wider) v (within_reverse _ _ (within_take (k - 1) cells wider a)))
 by_pair b (Some p) mark s k cells wider v a =
-    subst (λ n. IsWithin (span_of_all (glued_spans p (length cells) (cells_before k cells) (cells_after k cells) v)) (span_of_all (glued_spans p n (cells_before k wider) (cells_after k wider) v)))
+    subst (λ n. IsWithin (span_of_all (glued_spans p (length cells) (cells_before k cells) (cells_after k cells) v))
+    (span_of_all (glued_spans p n (cells_before k wider) (cells_after k wider) v)))
     (same_length cells wider a)
-    (glued_grow p (ap (λ z. z.mark) s.forward ∙ mark) (length cells) (cells_before k cells) (cells_before k wider) (cells_after k cells) (cells_after k wider) v
+    (glued_grow p (ap (λ z. z.mark) s.forward ∙ mark) (length cells) (cells_before k cells) (cells_before k wider) (cells_after k cells)
+    (cells_after k wider) v
     (within_reverse _ _ (within_take (k - 1) cells wider a)) (within_drop k cells wider a))
 
 value_grows : (m : Automata) → AreAutomata m → m.forward.mark ≡ Same → (k : ℕ) (cells wider : List (List ℤ)) (v : ℤ) → AreWithin cells wider →

@@ -135,7 +135,8 @@ hulls_hold b rules (us ∷ before) (u ∷ vs) v h =
     let P : Source → Type 0 = λ t. HoldsRegs (spans_of (given b v to.state t)) to.regs in
     let f : ℤ → List Source = λ x. map (λ p. source x p (hull_at b before x p)) (states_of b) in
     let stands = after_stands b rules (reverse (u ∷ vs)) in
-    let one : Any P (f u) = any_range P (λ p. source u p (hull_at b before u p)) 0 (length b.states) s.state (omega arith) (let e = stands.exists in omega (arith, e))
+    let one : Any P (f u) = any_range P (λ p. source u p (hull_at b before u p)) 0 (length b.states) s.state (omega arith)
+    (let e = stands.exists in omega (arith, e))
     (given_holds b u v s (hull_at b before u s.state) (hulls_hold b rules before vs u h.1)) in
     subst (λ t. HoldsRegs (spans_of (hull_at b (us ∷ before) v t.state)) t.regs) (sym (after_back b v u vs))
     (all_hold b v to (flat_map f us) (any_flat P f us u h.0 one))
@@ -170,7 +171,8 @@ box_reverse [] (c ∷ cs) h = absurd h
 box_reverse (x ∷ xs) [] h = absurd h
 box_reverse (x ∷ xs) (c ∷ cs) h =
     subst (λ z. InBox z (reverse (c ∷ cs))) (sym (reverse-append (x ∷ []) xs))
-    (subst (InBox (reverse xs ++ x ∷ [])) (sym (reverse-append (c ∷ []) cs)) (box_append (reverse xs) (x ∷ []) (reverse cs) (c ∷ []) (box_reverse xs cs h.1) (h.0, tt)))
+    (subst (InBox (reverse xs ++ x ∷ [])) (sym (reverse-append (c ∷ []) cs))
+    (box_append (reverse xs) (x ∷ []) (reverse cs) (c ∷ []) (box_reverse xs cs h.1) (h.0, tt)))
 
 box_take : (i : ℕ) (xs : List ℤ) (cs : List (List ℤ)) → InBox xs cs → InBox (take i xs) (take i cs)
 box_take zero xs cs h = tt
@@ -209,7 +211,8 @@ pub run_held : (b : Body) → IsTrue (is_automaton b) → (before : List (List �
 run_held b rules before vs v h = ((after_stands b rules (reverse (v ∷ vs))).exists, hulls_hold b rules before vs v h)
 
 -- the span at a value holds the answer of each series with that value there
-module _ (m : Automata) (marked : Marked m.forward) (cells : List (List ℤ)) (few : length cells ≤ most_cells) (box : IsBox cells) (xs : List ℤ) (inside : InBox xs cells) where
+module _ (m : Automata) (marked : Marked m.forward) (cells : List (List ℤ)) (few : length cells ≤ most_cells) (box : IsBox cells) (xs : List ℤ)
+    (inside : InBox xs cells) where
   n_is : length cells ≡ length xs
   n_is = sym (box_length xs cells inside)
 
@@ -232,7 +235,8 @@ module _ (m : Automata) (marked : Marked m.forward) (cells : List (List ℤ)) (f
       subst (λ z. HoldsRun b (reverse (take i cells)) x (after b z)) (turned before x)
       (run_held b rules (reverse (take i cells)) (reverse before) x (box_reverse before (take i cells) (box_take i xs cells inside))) in
       let whole : before ++ x ∷ [] ≡ xs =
-      ap (λ t. before ++ x ∷ t) (sym (drop_all (suc i) xs (let l = n_is in omega (arith, last, l)))) ∙ cut_at xs i (pos 0) (let l = n_is in omega (arith, last, l)) in
+      ap (λ t. before ++ x ∷ t) (sym (drop_all (suc i) xs (let l = n_is in omega (arith, last, l))))
+      ∙ cut_at xs i (pos 0) (let l = n_is in omega (arith, last, l)) in
       let e : finish_of b s n ≡ answer b xs = ap (λ z. finish_of b (after b z) n) whole ∙ ap (finish_of b (after b xs)) n_is in
       let p : IsInMark b.mark n (finish_of b s n) = subst (IsInMark b.mark n) (sym e) (promise (omega (arith, last))) in
       let one : Holds (finish_span_of b (standing_in b (reverse (take i cells)) x s.state) n) (finish_of b s n) =
@@ -269,8 +273,10 @@ module _ (m : Automata) (marked : Marked m.forward) (cells : List (List ℤ)) (f
       let mark_is : b.mark ≡ m.forward.mark = ap (λ z. z.mark) splits.forward in
       let q : IsInMark b.mark n (glued p left right x n) =
       subst (IsInMark b.mark n) (sym is_answer) (subst (λ z. IsInMark z n (answer m.forward xs)) (sym mark_is) (promise (omega (arith, below)))) in
-      let one : Holds (glued_span p (standing_in b (reverse (take i cells)) x left.state) (standing_in r (drop (suc i) cells) x right.state) x n) (glued p left right x n) =
-      marked_spans_hold p left.state right.state (spans_of (hull_at b (reverse (take i cells)) x left.state)) (spans_of (hull_at r (drop (suc i) cells) x right.state))
+      let one : Holds (glued_span p (standing_in b (reverse (take i cells)) x left.state) (standing_in r (drop (suc i) cells) x right.state) x n)
+      (glued p left right x n) =
+      marked_spans_hold p left.state right.state (spans_of (hull_at b (reverse (take i cells)) x left.state))
+      (spans_of (hull_at r (drop (suc i) cells) x right.state))
       left.regs right.regs x n h.1 k.1 q in
       let P : Span → Type 0 = λ t. Holds t (answer m.forward xs) in
       any_flat_range P
@@ -278,16 +284,19 @@ module _ (m : Automata) (marked : Marked m.forward) (cells : List (List ℤ)) (f
       0 (length b.states) left.state (omega arith) (let c = h.0 in omega (arith, c))
       (any_range P (λ s. glued_span p (standing_in b (reverse (take i cells)) x left.state) (standing_in r (drop (suc i) cells) x s) x n)
       0 (length r.states) right.state (omega arith) (let c = k.0 in omega (arith, c))
-      (subst (Holds (glued_span p (standing_in b (reverse (take i cells)) x left.state) (standing_in r (drop (suc i) cells) x right.state) x n)) is_answer one))
+      (subst (Holds (glued_span p (standing_in b (reverse (take i cells)) x left.state) (standing_in r (drop (suc i) cells) x right.state) x n))
+      is_answer one))
 
-  at_value : IsTrue (is_automaton m.forward) → (pair : Option Pair) → IfSome pair (Splits m.forward) → (k : ℕ) → 1 ≤ k → k ≤ length cells → (pair ≡ None → k ≡ length cells) →
+  at_value : IsTrue (is_automaton m.forward) → (pair : Option Pair) → IfSome pair (Splits m.forward) → (k : ℕ) → 1 ≤ k → k ≤ length cells →
+      (pair ≡ None → k ≡ length cells) →
       Any (λ t. Holds t (answer m.forward xs)) (spans_at m.forward pair k cells (get_or xs (k - 1) (pos 0)))
   unfolding spans_at
   at_value rules None splits k some to last =
       let e = last refl in finish_holds rules (k - 1) (omega (arith, e, some))
   at_value rules (Some p) splits k some to last =
       let back : suc (k - 1) ≡ k = omega (arith, some) in
-      subst (λ j. Any (λ t. Holds t (answer m.forward xs)) (glued_spans p (length cells) (cells_before k cells) (drop j cells) (get_or xs (k - 1) (pos 0)))) back
+      subst (λ j. Any (λ t. Holds t (answer m.forward xs)) (glued_spans p (length cells) (cells_before k cells) (drop j cells)
+      (get_or xs (k - 1) (pos 0)))) back
       (glued_hold rules p splits (k - 1) (omega (arith, back, to)))
 
   pub value_holds : AreAutomata m → (k : ℕ) → IsUsable m k cells → Holds (value_span m k cells (get_or xs (k - 1) (pos 0))) (answer m.forward xs)
@@ -326,7 +335,8 @@ after_set zero (c ∷ cells) d = refl
 after_set (suc i) (c ∷ cells) d = after_set i cells d
 
 -- the spans at a value of cell k don't look at the set of that cell
-spans_same : (b : Body) (pair : Option Pair) (k : ℕ) (cells : List (List ℤ)) (d : List ℤ) (v : ℤ) → 1 ≤ k → spans_at b pair k (set cells (k - 1) d) v ≡ spans_at b pair k cells v
+spans_same : (b : Body) (pair : Option Pair) (k : ℕ) (cells : List (List ℤ)) (d : List ℤ) (v : ℤ) → 1 ≤ k →
+    spans_at b pair k (set cells (k - 1) d) v ≡ spans_at b pair k cells v
 unfolding spans_at
 spans_same b None k cells d v some =
     ap (λ n. finish_spans b n (reverse (take (k - 1) (set cells (k - 1) d))) v) (length-set cells (k - 1) d)

@@ -34,7 +34,8 @@ row_got (r ∷ rs) zero h =
     ap Some (sym (ap (λ n. take n (r ++ joined rs)) none ∙ take-append_seam r (joined rs)))
 row_got (r ∷ rs) (suc i) h =
     let less : (length r + place rs (suc i)) - (length r + place rs i) ≡ place rs (suc i) - place rs i = omega arith in
-    row_got rs i (omega (arith, h)) ∙ ap Some (sym (ap (λ n. take n (drop (length r + place rs i) (r ++ joined rs))) less ∙ ap (λ l. take (place rs (suc i) - place rs i) l) (drop-append-add r (joined rs) (place rs i))))
+    row_got rs i (omega (arith, h)) ∙ ap Some (sym (ap (λ n. take n (drop (length r + place rs i) (r ++ joined rs))) less
+    ∙ ap (λ l. take (place rs (suc i) - place rs i) l) (drop-append-add r (joined rs) (place rs i))))
 
 -- writing
 
@@ -54,7 +55,8 @@ over_row [] i ws h e = absurd (omega (arith, h))
 over_row (r ∷ rs) zero ws h e = over_first ws r (joined rs) e
 over_row (r ∷ rs) (suc i) ws h e = over_later ws r (joined rs) (place rs i) ∙ ap (λ l. r ++ l) (over_row rs i ws (omega (arith, h)) e)
 
-pub over_two : {X : Type 0} (t : List (List X)) (i : ℕ) (a b : List X) → suc i < length t → length a ≡ length (get_or t i []) → length b ≡ length (get_or t (suc i) []) →
+pub over_two : {X : Type 0} (t : List (List X)) (i : ℕ) (a b : List X) → suc i < length t → length a ≡ length (get_or t i []) →
+    length b ≡ length (get_or t (suc i) []) →
     written_over (joined t) (place t i) (a ++ b) ≡ joined (set (set t i a) (suc i) b)
 unfolding place joined
 over_two [] i a b h e f = absurd (omega (arith, h))
@@ -89,7 +91,8 @@ unfolding SameLengths joined
 same_length [] [] s = refl
 same_length [] (u ∷ us) s = absurd s
 same_length (t ∷ ts) [] s = absurd s
-same_length (t ∷ ts) (u ∷ us) s = let h = same_length ts us s.1 in let a = length-append u (joined us) in let b = length-append t (joined ts) in let e = s.0 in omega (arith, h, a, b, e)
+same_length (t ∷ ts) (u ∷ us) s = let h = same_length ts us s.1 in let a = length-append u (joined us) in let b = length-append t (joined ts)
+    in let e = s.0 in omega (arith, h, a, b, e)
 
 cut_same : {X : Type 0} (t u : List (List X)) → SameLengths t u → cut_like t (joined u) ≡ u
 unfolding SameLengths joined cut_like
@@ -104,16 +107,20 @@ cut_same (t ∷ ts) (u ∷ us) s =
 refilled_same : {X : Type 0} (xs us : List X) → length us ≡ length xs → refilled xs us ≡ us
 refilled_same xs us e = take-append-le (length xs) us (drop (length us) xs) (omega (arith, e)) ∙ take_all (length xs) us (omega (arith, e))
 
-written : {X : Type 0} (t u : List (List X)) (i : ℕ) (ws : List X) → SameLengths t u → written_over (joined t) (place t i) ws ≡ joined u → with_written t i ws ≡ u
+written : {X : Type 0} (t u : List (List X)) (i : ℕ) (ws : List X) → SameLengths t u → written_over (joined t) (place t i) ws ≡ joined u →
+    with_written t i ws ≡ u
 unfolding with_written
-written t u i ws s e = ap (λ l. cut_like t (refilled (joined t) l)) e ∙ ap (cut_like t) (refilled_same (joined t) (joined u) (same_length t u s)) ∙ cut_same t u s
+written t u i ws s e = ap (λ l. cut_like t (refilled (joined t) l)) e ∙ ap (cut_like t) (refilled_same (joined t) (joined u) (same_length t u s))
+    ∙ cut_same t u s
 
 -- a row that is as long stands in its place, and every other row stays
-pub row_written : {X : Type 0} (t : List (List X)) (i : ℕ) (ws : List X) → i < length t → length ws ≡ length (get_or t i []) → with_written t i ws ≡ set t i ws
+pub row_written : {X : Type 0} (t : List (List X)) (i : ℕ) (ws : List X) → i < length t → length ws ≡ length (get_or t i []) →
+    with_written t i ws ≡ set t i ws
 row_written t i ws h e = written t (set t i ws) i ws (same_set t t i ws (same_self t) e) (over_row t i ws h e)
 
 -- the same for two rows one after the other
-pub two_written : {X : Type 0} (t : List (List X)) (i : ℕ) (a b : List X) → suc i < length t → length a ≡ length (get_or t i []) → length b ≡ length (get_or t (suc i) []) →
+pub two_written : {X : Type 0} (t : List (List X)) (i : ℕ) (a b : List X) → suc i < length t → length a ≡ length (get_or t i []) →
+    length b ≡ length (get_or t (suc i) []) →
     with_written t i (a ++ b) ≡ set (set t i a) (suc i) b
 two_written t i a b h e f =
     written t (set (set t i a) (suc i) b) i (a ++ b) (same_set t (set t i a) (suc i) b (same_set t t i a (same_self t) e) f) (over_two t i a b h e f)
@@ -148,7 +155,8 @@ unfolding rows_of Starts
 joined_rows [] xs h = absurd h
 joined_rows (from ∷ ends) xs h = joined_from from ends xs h.1 ∙ ap (λ n. drop n xs) h.0
 
-place_from : {X : Type 0} (from : ℕ) (ends : List ℕ) (xs : List X) (i d : ℕ) → Ends from ends (length xs) → i < length (from ∷ ends) → from + place (rows_from from ends xs) i ≡ get_or (from ∷ ends) i d
+place_from : {X : Type 0} (from : ℕ) (ends : List ℕ) (xs : List X) (i d : ℕ) → Ends from ends (length xs) → i < length (from ∷ ends) →
+    from + place (rows_from from ends xs) i ≡ get_or (from ∷ ends) i d
 unfolding place rows_from Ends
 place_from from [] xs zero d h lt = omega arith
 place_from from [] xs (suc i) d h lt = absurd (omega (arith, lt))
@@ -163,32 +171,38 @@ place_from from (to ∷ ends) xs (suc i) d h lt =
 pub place_is : {X : Type 0} (ss : List ℕ) (xs : List X) (i d : ℕ) → Starts ss (length xs) → i < length ss → place (rows_of ss xs) i ≡ get_or ss i d
 unfolding rows_of Starts
 place_is [] xs i d h lt = absurd h
-place_is (from ∷ ends) xs i d h lt = let e = place_from from ends xs i d h.1 lt in let z = h.0 in let f : place (rows_from from ends xs) i ≡ from + place (rows_from from ends xs) i = omega (arith, z) in f ∙ e
+place_is (from ∷ ends) xs i d h lt = let e = place_from from ends xs i d h.1 lt in let z = h.0 in let f : place (rows_from from ends xs) i ≡ from +
+    place (rows_from from ends xs) i = omega (arith, z) in f ∙ e
 
 drop_drop : {X : Type 0} (xs : List X) (from to : ℕ) → from ≤ to → drop (to - from) (drop from xs) ≡ drop to xs
 drop_drop xs zero to h = let e : to - 0 ≡ to = omega arith in ap (λ n. drop n xs) e
 drop_drop [] (suc from) zero h = absurd (omega (arith, h))
 drop_drop [] (suc from) (suc to) h = drop_all (suc to - suc from) [] (omega arith)
 drop_drop (x ∷ xs) (suc from) zero h = absurd (omega (arith, h))
-drop_drop (x ∷ xs) (suc from) (suc to) h = let e : suc to - suc from ≡ to - from = omega arith in ap (λ n. drop n (drop from xs)) e ∙ drop_drop xs from to (omega (arith, h))
+drop_drop (x ∷ xs) (suc from) (suc to) h = let e : suc to - suc from ≡ to - from = omega arith in ap (λ n. drop n (drop from xs)) e
+    ∙ drop_drop xs from to (omega (arith, h))
 
-cut_from : {X : Type 0} (from : ℕ) (ends : List ℕ) (xs ys : List X) → Ends from ends (length xs) → cut_like (rows_from from ends xs) (drop from ys) ≡ rows_from from ends ys
+cut_from : {X : Type 0} (from : ℕ) (ends : List ℕ) (xs ys : List X) → Ends from ends (length xs) →
+    cut_like (rows_from from ends xs) (drop from ys) ≡ rows_from from ends ys
 unfolding cut_like rows_from Ends
 cut_from from [] xs ys h = refl
 cut_from from (to ∷ ends) xs ys h =
     let l = length-range xs from to h.0 (in_order to ends (length xs) h.1) in
     ap (λ n. take n (drop from ys) ∷ cut_like (rows_from to ends xs) (drop n (drop from ys))) l ∙
-    ap (λ m. slice_range ys from to ∷ cut_like (rows_from to ends xs) m) (drop_drop ys from to h.0) ∙ ap (λ m. slice_range ys from to ∷ m) (cut_from to ends xs ys h.1)
+    ap (λ m. slice_range ys from to ∷ cut_like (rows_from to ends xs) m) (drop_drop ys from to h.0)
+    ∙ ap (λ m. slice_range ys from to ∷ m) (cut_from to ends xs ys h.1)
 
 pub cut_rows : {X : Type 0} (ss : List ℕ) (xs ys : List X) → Starts ss (length xs) → cut_like (rows_of ss xs) ys ≡ rows_of ss ys
 unfolding rows_of Starts
 cut_rows [] xs ys h = absurd h
 cut_rows (from ∷ ends) xs ys h = ap (λ n. cut_like (rows_from from ends xs) (drop n ys)) (sym h.0) ∙ cut_from from ends xs ys h.1
 
-pub start_below : {X : Type 0} (ss : List ℕ) (xs : List X) (v : List (List X)) (i n : ℕ) → Starts ss (length xs) → rows_of ss xs ≡ v → i ≤ length v → n ≡ length ss → i < n
+pub start_below : {X : Type 0} (ss : List ℕ) (xs : List X) (v : List (List X)) (i n : ℕ) → Starts ss (length xs) → rows_of ss xs ≡ v → i ≤ length v →
+    n ≡ length ss → i < n
 start_below ss xs v i n h e le is = let l = length-rows ss xs h in let m = ap length e in omega (arith, l, m, le, is)
 
-pub start_is : {X : Type 0} (ss : List ℕ) (xs : List X) (v : List (List X)) (i r : ℕ) → Starts ss (length xs) → rows_of ss xs ≡ v → i ≤ length v → r ≡ get_or ss i r → r ≡ place v i
+pub start_is : {X : Type 0} (ss : List ℕ) (xs : List X) (v : List (List X)) (i r : ℕ) → Starts ss (length xs) → rows_of ss xs ≡ v → i ≤ length v →
+    r ≡ get_or ss i r → r ≡ place v i
 start_is ss xs v i r h e le is = is ∙ sym (place_is ss xs i r h (start_below ss xs v i _ h e le refl)) ∙ ap (λ t. place t i) e
 
 -- the bounds of row i
@@ -196,24 +210,29 @@ pub bounds_rise : {X : Type 0} (v : List (List X)) (k p q : ℕ) → 1 ≤ k →
 bounds_rise v k p q h is_p is_q =
     let up = place_rises v (k - 1) in let e : suc (k - 1) ≡ k = omega (arith, h) in let f = ap (place v) e in omega (arith, up, f, is_p, is_q)
 
-pub bounds_inside : {X : Type 0} (ss : List ℕ) (xs : List X) (v : List (List X)) (k q n : ℕ) → Starts ss (length xs) → rows_of ss xs ≡ v → q ≡ place v k → n ≡ length xs → q ≤ n
+pub bounds_inside : {X : Type 0} (ss : List ℕ) (xs : List X) (v : List (List X)) (k q n : ℕ) → Starts ss (length xs) → rows_of ss xs ≡ v →
+    q ≡ place v k → n ≡ length xs → q ≤ n
 bounds_inside ss xs v k q n h e is_q is_n =
     let in_all = place_inside v k in let all = ap (λ t. length (joined t)) (sym e) ∙ ap length (joined_rows ss xs h) in omega (arith, in_all, all, is_q, is_n)
 
-pub row_is : {X : Type 0} (ss : List ℕ) (xs ys : List X) (v : List (List X)) (k p q : ℕ) → Starts ss (length xs) → rows_of ss xs ≡ v → 1 ≤ k → k ≤ length v → p ≡ place v (k - 1) → q ≡ place v k →
+pub row_is : {X : Type 0} (ss : List ℕ) (xs ys : List X) (v : List (List X)) (k p q : ℕ) → Starts ss (length xs) → rows_of ss xs ≡ v → 1 ≤ k →
+    k ≤ length v → p ≡ place v (k - 1) → q ≡ place v k →
     ys ≡ slice_range xs p q → slice_get v (k - 1) ≡ Some ys
 row_is ss xs ys v k p q h e first last is_p is_q is =
     let back : suc (k - 1) ≡ k = omega (arith, first) in
     row_got v (k - 1) (omega (arith, first, last)) ∙
     ap Some (ap (λ l. slice_range l (place v (k - 1)) (place v (suc (k - 1)))) (ap joined (sym e) ∙ joined_rows ss xs h) ∙
-    ap (λ n. slice_range xs (place v (k - 1)) (place v n)) back ∙ ap (λ n. slice_range xs n (place v k)) (sym is_p) ∙ ap (λ n. slice_range xs p n) (sym is_q) ∙ sym is)
+    ap (λ n. slice_range xs (place v (k - 1)) (place v n)) back ∙ ap (λ n. slice_range xs n (place v k)) (sym is_p)
+    ∙ ap (λ n. slice_range xs p n) (sym is_q) ∙ sym is)
 
-pub view_written : {X : Type 0} (ss : List ℕ) (xs : List X) (v : List (List X)) (n p i : ℕ) (ws : List X) → Starts ss (length xs) → rows_of ss xs ≡ v → n ≡ length xs → p ≡ place v i →
+pub view_written : {X : Type 0} (ss : List ℕ) (xs : List X) (v : List (List X)) (n p i : ℕ) (ws : List X) → Starts ss (length xs) →
+    rows_of ss xs ≡ v → n ≡ length xs → p ≡ place v i →
     rows_of ss (take n (written_over xs p ws ++ drop (length (written_over xs p ws)) xs)) ≡ with_written v i ws
 unfolding with_written
 view_written ss xs v n p i ws h e is_n is_p =
     let all = ap joined (sym e) ∙ joined_rows ss xs h in
-    ap (λ m. rows_of ss (take m (written_over xs p ws ++ drop (length (written_over xs p ws)) xs))) is_n ∙ ap (λ m. rows_of ss (refilled xs (written_over xs m ws))) is_p ∙
+    ap (λ m. rows_of ss (take m (written_over xs p ws ++ drop (length (written_over xs p ws)) xs))) is_n
+    ∙ ap (λ m. rows_of ss (refilled xs (written_over xs m ws))) is_p ∙
     sym (cut_rows ss xs (refilled xs (written_over xs (place v i) ws)) h) ∙ ap (λ t. cut_like t (refilled xs (written_over xs (place v i) ws))) e ∙
     ap (λ l. cut_like v (refilled l (written_over l (place v i) ws))) (sym all)
 
@@ -222,9 +241,11 @@ bounds_rise_two v k p q h is_p is_q =
     let up = bounds_rise v k (place v (k - 1)) (place v k) h refl refl in let more = place_rises v k in
     let f = ap (place v) (let e : k + 1 ≡ suc k = omega arith in e) in omega (arith, up, more, f, is_p, is_q)
 
-pub both_are : {X : Type 0} (ss : List ℕ) (xs ys : List X) (v : List (List X)) (p q p' q' : ℕ) → Starts ss (length xs) → rows_of ss xs ≡ v → p ≡ p' → q ≡ q' → ys ≡ slice_range xs p q → ys ≡ slice_range (joined v) p' q'
+pub both_are : {X : Type 0} (ss : List ℕ) (xs ys : List X) (v : List (List X)) (p q p' q' : ℕ) → Starts ss (length xs) → rows_of ss xs ≡ v → p ≡ p' →
+    q ≡ q' → ys ≡ slice_range xs p q → ys ≡ slice_range (joined v) p' q'
 both_are ss xs ys v p q p' q' h e is_p is_q is =
-    is ∙ ap (λ n. slice_range xs n q) is_p ∙ ap (λ n. slice_range xs p' n) is_q ∙ ap (λ l. slice_range l p' q') (sym (ap joined (sym e) ∙ joined_rows ss xs h))
+    is ∙ ap (λ n. slice_range xs n q) is_p ∙ ap (λ n. slice_range xs p' n) is_q
+    ∙ ap (λ l. slice_range l p' q') (sym (ap joined (sym e) ∙ joined_rows ss xs h))
 
 take_less : {X : Type 0} (n m : ℕ) (xs : List X) → n ≤ m → take n (take m xs) ≡ take n xs
 take_less zero m xs h = refl
@@ -233,19 +254,23 @@ take_less (suc n) (suc m) [] h = refl
 take_less (suc n) (suc m) (x ∷ xs) h = ap (λ l. x ∷ l) (take_less n m xs (omega (arith, h)))
 
 -- the first of two rows ends inside them
-pub cut_inside : {X : Type 0} (v : List (List X)) (k n : ℕ) (r : List X) → 1 ≤ k → place v (k - 1) + n ≡ place v k → r ≡ slice_range (joined v) (place v (k - 1)) (place v (k + 1)) → n ≤ length r
+pub cut_inside : {X : Type 0} (v : List (List X)) (k n : ℕ) (r : List X) → 1 ≤ k → place v (k - 1) + n ≡ place v k →
+    r ≡ slice_range (joined v) (place v (k - 1)) (place v (k + 1)) → n ≤ length r
 cut_inside v k n r first wide is =
     let l = ap length is ∙ length-range (joined v) (place v (k - 1)) (place v (k + 1)) (bounds_rise_two v k _ _ first refl refl) (place_inside v (k + 1)) in
     let more = place_rises v k in let e : suc k ≡ k + 1 = omega arith in let f = ap (place v) e in omega (arith, l, wide, more, f)
 
-pub first_row : {X : Type 0} (v : List (List X)) (k n : ℕ) (r a : List X) → 1 ≤ k → k + 1 ≤ length v → place v (k - 1) + n ≡ place v k → r ≡ slice_range (joined v) (place v (k - 1)) (place v (k + 1)) → a ≡ take n r → slice_get v (k - 1) ≡ Some a
+pub first_row : {X : Type 0} (v : List (List X)) (k n : ℕ) (r a : List X) → 1 ≤ k → k + 1 ≤ length v → place v (k - 1) + n ≡ place v k →
+    r ≡ slice_range (joined v) (place v (k - 1)) (place v (k + 1)) → a ≡ take n r → slice_get v (k - 1) ≡ Some a
 first_row v k n r a first last wide is_r is_a =
-    let e : suc (k - 1) ≡ k = omega (arith, first) in let f : place v (suc (k - 1)) - place v (k - 1) ≡ n = let g = ap (place v) e in omega (arith, g, wide) in
+    let e : suc (k - 1) ≡ k = omega (arith, first) in let f : place v (suc (k - 1)) - place v (k - 1) ≡ n = let g = ap (place v) e in omega
+    (arith, g, wide) in
     let more = place_rises v k in let e' : suc k ≡ k + 1 = omega arith in let f' = ap (place v) e' in
     row_got v (k - 1) (omega (arith, first, last)) ∙ ap Some (ap (λ m. take m (drop (place v (k - 1)) (joined v))) f ∙
     sym (is_a ∙ ap (take n) is_r ∙ take_less n (place v (k + 1) - place v (k - 1)) (drop (place v (k - 1)) (joined v)) (omega (arith, wide, more, f'))))
 
-pub second_row : {X : Type 0} (v : List (List X)) (k n : ℕ) (r a : List X) → 1 ≤ k → k + 1 ≤ length v → place v (k - 1) + n ≡ place v k → r ≡ slice_range (joined v) (place v (k - 1)) (place v (k + 1)) → a ≡ drop n r → slice_get v k ≡ Some a
+pub second_row : {X : Type 0} (v : List (List X)) (k n : ℕ) (r a : List X) → 1 ≤ k → k + 1 ≤ length v → place v (k - 1) + n ≡ place v k →
+    r ≡ slice_range (joined v) (place v (k - 1)) (place v (k + 1)) → a ≡ drop n r → slice_get v k ≡ Some a
 second_row v k n r a first last wide is_r is_a =
     let e : suc k ≡ k + 1 = omega arith in let f = ap (place v) e in
     let D = drop (place v (k - 1)) (joined v) in let left = place v (suc k) - place v k in
@@ -260,10 +285,12 @@ pub put_written : {X : Type 0} (v : List (List X)) (k i : ℕ) (row : List X) (h
     with_written v (k - 1) (set row i h) ≡ set v (k - 1) (set (get_or v (k - 1) []) i h)
 put_written v k i row h first last is =
     let same : get_or v (k - 1) [] ≡ row = get_or_from_slice_get v (k - 1) row [] is in
-    row_written v (k - 1) (set row i h) (omega (arith, first, last)) (length-set row i h ∙ ap length (sym same)) ∙ ap (λ r. set v (k - 1) (set r i h)) (sym same)
+    row_written v (k - 1) (set row i h) (omega (arith, first, last)) (length-set row i h ∙ ap length (sym same))
+    ∙ ap (λ r. set v (k - 1) (set r i h)) (sym same)
 
 -- what was lent as one and cut at n: the row of cell k as it was, and that of cell k + 1 written
-pub next_written : {X : Type 0} (v : List (List X)) (k n : ℕ) (r a b b' : List X) → 1 ≤ k → k + 1 ≤ length v → place v (k - 1) + n ≡ place v k → r ≡ slice_range (joined v) (place v (k - 1)) (place v (k + 1)) →
+pub next_written : {X : Type 0} (v : List (List X)) (k n : ℕ) (r a b b' : List X) → 1 ≤ k → k + 1 ≤ length v → place v (k - 1) + n ≡ place v k →
+    r ≡ slice_range (joined v) (place v (k - 1)) (place v (k + 1)) →
     a ≡ take n r → b ≡ drop n r → length b' ≡ length b → with_written v (k - 1) (a ++ b') ≡ set v k b'
 next_written v k n r a b b' first last wide is_r is_a is_b long =
     let e : suc (k - 1) ≡ k = omega (arith, first) in
@@ -273,20 +300,24 @@ next_written v k n r a b b' first last wide is_r is_a is_b long =
     ap (λ i. set (set v (k - 1) a) i b') e ∙ ap (λ x. set (set v (k - 1) x) k b') (sym before) ∙ ap (λ t. set t k b') (set-get_or v (k - 1) [])
 
 -- the same where both were written
-pub both_written : {X : Type 0} (v : List (List X)) (k n : ℕ) (r a b a' b' : List X) → 1 ≤ k → k + 1 ≤ length v → place v (k - 1) + n ≡ place v k → r ≡ slice_range (joined v) (place v (k - 1)) (place v (k + 1)) →
+pub both_written : {X : Type 0} (v : List (List X)) (k n : ℕ) (r a b a' b' : List X) → 1 ≤ k → k + 1 ≤ length v → place v (k - 1) + n ≡ place v k →
+    r ≡ slice_range (joined v) (place v (k - 1)) (place v (k + 1)) →
     a ≡ take n r → b ≡ drop n r → length a' ≡ length a → length b' ≡ length b → with_written v (k - 1) (a' ++ b') ≡ set (set v (k - 1) a') k b'
 both_written v k n r a b a' b' first last wide is_r is_a is_b long_a long_b =
     let e : suc (k - 1) ≡ k = omega (arith, first) in
     let before : get_or v (k - 1) [] ≡ a = get_or_from_slice_get v (k - 1) a [] (first_row v k n r a first last wide is_r is_a) in
     let next : get_or v (suc (k - 1)) [] ≡ b = ap (λ i. get_or v i []) e ∙ get_or_from_slice_get v k b [] (second_row v k n r b first last wide is_r is_b) in
-    two_written v (k - 1) a' b' (omega (arith, first, last)) (long_a ∙ sym (ap length before)) (long_b ∙ sym (ap length next)) ∙ ap (λ i. set (set v (k - 1) a') i b') e
+    two_written v (k - 1) a' b' (omega (arith, first, last)) (long_a ∙ sym (ap length before)) (long_b ∙ sym (ap length next))
+    ∙ ap (λ i. set (set v (k - 1) a') i b') e
 
 -- the row of cell k, and that of cell k + 1, out of what was lent as one
-pub row_before : {X : Type 0} (v : List (List X)) (k n : ℕ) (r a : List X) → 1 ≤ k → k + 1 ≤ length v → place v (k - 1) + n ≡ place v k → r ≡ slice_range (joined v) (place v (k - 1)) (place v (k + 1)) →
+pub row_before : {X : Type 0} (v : List (List X)) (k n : ℕ) (r a : List X) → 1 ≤ k → k + 1 ≤ length v → place v (k - 1) + n ≡ place v k →
+    r ≡ slice_range (joined v) (place v (k - 1)) (place v (k + 1)) →
     a ≡ take n r → get_or v (k - 1) [] ≡ a
 row_before v k n r a first last wide is_r is_a = get_or_from_slice_get v (k - 1) a [] (first_row v k n r a first last wide is_r is_a)
 
-pub row_after : {X : Type 0} (v : List (List X)) (k n : ℕ) (r b : List X) → 1 ≤ k → k + 1 ≤ length v → place v (k - 1) + n ≡ place v k → r ≡ slice_range (joined v) (place v (k - 1)) (place v (k + 1)) →
+pub row_after : {X : Type 0} (v : List (List X)) (k n : ℕ) (r b : List X) → 1 ≤ k → k + 1 ≤ length v → place v (k - 1) + n ≡ place v k →
+    r ≡ slice_range (joined v) (place v (k - 1)) (place v (k + 1)) →
     b ≡ drop n r → get_or v k [] ≡ b
 row_after v k n r b first last wide is_r is_b = get_or_from_slice_get v k b [] (second_row v k n r b first last wide is_r is_b)
 
@@ -298,7 +329,8 @@ pub two_rows : {X : Type 0} (v : List (List X)) (k q : ℕ) → 1 ≤ k → q �
 two_rows v k q h is = is ∙ ap (place v) (let e : k - 1 + 2 ≡ k + 1 = omega (arith, h) in e)
 
 -- what was lent is the row
-pub row_read : {X : Type 0} (ss : List ℕ) (xs ys : List X) (v : List (List X)) (k p q : ℕ) → Starts ss (length xs) → rows_of ss xs ≡ v → IsRow k v → p ≡ place v (k - 1) →
+pub row_read : {X : Type 0} (ss : List ℕ) (xs ys : List X) (v : List (List X)) (k p q : ℕ) → Starts ss (length xs) → rows_of ss xs ≡ v → IsRow k v →
+    p ≡ place v (k - 1) →
     q ≡ place v k → ys ≡ slice_range xs p q → ys ≡ row_at k v
 row_read ss xs ys v k p q h e row is_p is_q is = sym (get_or_from_slice_get v (k - 1) ys [] (row_is ss xs ys v k p q h e row.0 row.1 is_p is_q is))
 

@@ -29,17 +29,20 @@ use Rattle.ts_bound.proofs.SpanEnds.{last_value_ends, finishes_are}
 
 -- a fold over a range in which one place alone isn't neutral
 
-module _ {A : Type 0} (op : A → A → A) (z x : A) (zz : op z z ≡ z) (zx : op z x ≡ x) (xz : op x z ≡ x) (g : ℕ → A) (i : ℕ) (here : g i ≡ x) (other : (p : ℕ) → (p ≡ i → ⊥) → g p ≡ z) where
+module _ {A : Type 0} (op : A → A → A) (z x : A) (zz : op z z ≡ z) (zx : op z x ≡ x) (xz : op x z ≡ x) (g : ℕ → A) (i : ℕ) (here : g i ≡ x)
+    (other : (p : ℕ) → (p ≡ i → ⊥) → g p ≡ z) where
   fold_rest : (a n : ℕ) → i < a → fold op x (map g (range_with_len a n)) ≡ x
   fold_rest a zero h = refl
   fold_rest a (suc n) h =
-      ap (λ t. fold op t (map g (range_with_len (a + 1) n))) (ap (op x) (other a (λ e. absurd (omega (arith, h, e)))) ∙ xz) ∙ fold_rest (a + 1) n (omega (arith, h))
+      ap (λ t. fold op t (map g (range_with_len (a + 1) n))) (ap (op x) (other a (λ e. absurd (omega (arith, h, e)))) ∙ xz)
+      ∙ fold_rest (a + 1) n (omega (arith, h))
 
   pub fold_only : (a n : ℕ) → a ≤ i → i < a + n → fold op z (map g (range_with_len a n)) ≡ x
   fold_only a zero low high = absurd (omega (arith, low, high))
   fold_only a (suc n) low high = go (λ l. fold_only (a + 1) n l (omega (arith, high))) (nat_eq a i) refl
     where
-      go : (a + 1 ≤ i → fold op z (map g (range_with_len (a + 1) n)) ≡ x) → (t : Bool) → nat_eq a i ≡ t → fold op (op z (g a)) (map g (range_with_len (a + 1) n)) ≡ x
+      go : (a + 1 ≤ i → fold op z (map g (range_with_len (a + 1) n)) ≡ x) → (t : Bool) → nat_eq a i ≡ t →
+          fold op (op z (g a)) (map g (range_with_len (a + 1) n)) ≡ x
       go later true e =
           let s = eqb-true a i e in
           ap (λ k. fold op (op z (g k)) (map g (range_with_len (a + 1) n))) s ∙ ap (λ y. fold op (op z y) (map g (range_with_len (a + 1) n))) here
@@ -114,7 +117,8 @@ not_place r p ne = go (nat_eq r p) refl
     go true e = absurd (ne (sym (eqb-true r p e)))
     go false e = e
 
-sum_of : (b : Body) (v : ℤ) (q : ℕ) (u : ℤ) (h : ℕ → Hull) (s : Standing Ext) → s.state < length b.states → ((p : ℕ) → h p ≡ only_where (nat_eq s.state p) s.regs) →
+sum_of : (b : Body) (v : ℤ) (q : ℕ) (u : ℤ) (h : ℕ → Hull) (s : Standing Ext) → s.state < length b.states →
+    ((p : ℕ) → h p ≡ only_where (nat_eq s.state p) s.regs) →
     next_hull b (map (λ p. source u p (h p)) (states_of b) ++ []) v q ≡ only_where (nat_eq (step_of b s u v).state q) (step_of b s u v).regs
 unfolding next_hull
 sum_of b v q u h s lt is =
@@ -145,7 +149,8 @@ single_hull b rules (u ∷ vs) v q =
 alone_reverse : (xs : List ℤ) → alone (reverse xs) ≡ reverse (alone xs)
 alone_reverse [] = refl
 alone_reverse (x ∷ xs) =
-    ap alone (reverse-append (x ∷ []) xs) ∙ joined (reverse xs) (x ∷ []) ∙ ap (λ l. l ++ (x ∷ []) ∷ []) (alone_reverse xs) ∙ sym (reverse-append ((x ∷ []) ∷ []) (alone xs))
+    ap alone (reverse-append (x ∷ []) xs) ∙ joined (reverse xs) (x ∷ []) ∙ ap (λ l. l ++ (x ∷ []) ∷ []) (alone_reverse xs)
+    ∙ sym (reverse-append ((x ∷ []) ∷ []) (alone xs))
   where
     joined : (xs ys : List ℤ) → alone (xs ++ ys) ≡ alone xs ++ alone ys
     joined [] ys = refl
@@ -163,10 +168,13 @@ unfolding finish_spans
 finishes_single b rules n vs v =
     let s = run b v vs in
     let x = one_span (finish_of b s n) in
-    fold_only span_hull none_span x refl (none_one (finish_of b s n)) (one_canonical (finish_of b s n)) (λ q. finish_span_of b (standing_in b (alone vs) v q) n) s.state
-    (ap (λ h. finish_span_of b (record { state = s.state; regs = spans_of h }) n) (single_hull b rules vs v s.state ∙ ap (λ t. only_where t s.regs) (same_place s.state))
+    fold_only span_hull none_span x refl (none_one (finish_of b s n)) (one_canonical (finish_of b s n))
+    (λ q. finish_span_of b (standing_in b (alone vs) v q) n) s.state
+    (ap (λ h. finish_span_of b (record { state = s.state; regs = spans_of h }) n)
+    (single_hull b rules vs v s.state ∙ ap (λ t. only_where t s.regs) (same_place s.state))
     ∙ finishes_stay_single b s.state s.regs n)
-    (λ p ne. ap (λ h. finish_span_of b (record { state = p; regs = spans_of h }) n) (single_hull b rules vs v p ∙ ap (λ t. only_where t s.regs) (not_place s.state p ne))
+    (λ p ne. ap (λ h. finish_span_of b (record { state = p; regs = spans_of h }) n)
+    (single_hull b rules vs v p ∙ ap (λ t. only_where t s.regs) (not_place s.state p ne))
     ∙ (nones_stay b p (spans_of none) refl).1 n)
     0 (length b.states) (omega arith) (let e = (after_stands b rules (reverse (v ∷ vs))).exists in omega (arith, e))
 

@@ -54,11 +54,13 @@ pub finish_begun : (b : Body) (hulls : List Hull) (n : ℕ) (span : Span) → sp
 unfolding finishes
 finish_begun b hulls n span e = e
 
-pub with_begun : (p : Option Pair) (left : Standing Span) (right : List Hull) (x : ℤ) (n : ℕ) (before : Span) → before ≡ fold span_hull before (glued_with p left right x n 0)
+pub with_begun : (p : Option Pair) (left : Standing Span) (right : List Hull) (x : ℤ) (n : ℕ) (before : Span) →
+    before ≡ fold span_hull before (glued_with p left right x n 0)
 unfolding glued_with
 with_begun p left right x n before = refl
 
-pub all_begun : (p : Option Pair) (left right : List Hull) (x : ℤ) (n m : ℕ) (span : Span) → span ≡ none_span → span ≡ span_of_all (glued_all p left right x n m 0)
+pub all_begun : (p : Option Pair) (left right : List Hull) (x : ℤ) (n m : ℕ) (span : Span) → span ≡ none_span →
+    span ≡ span_of_all (glued_all p left right x n m 0)
 unfolding glued_all
 all_begun p left right x n m span e = e
 
@@ -69,16 +71,20 @@ unfolding finishes
 finish_more b hulls n q h d span one lt is_h is_one inv =
     let f : ℕ → Span = λ q. finish_span_of b (standing_of hulls q) n in
     let here : h ≡ get_or hulls q none = is_h ∙ get_or_default hulls q d none lt in
-    ap (λ s. span_hull s one) inv ∙ ap (span_hull (span_of_all (map f (range_with_len 0 q)))) (is_one ∙ ap (λ x. finish_span_of b (record { state = q; regs = spans_of x }) n) here)
-    ∙ sym (ap span_of_all (ap (map f) (range_more q q refl) ∙ map_push f (range_with_len 0 q) q) ∙ fold-append span_hull none_span (map f (range_with_len 0 q)) (f q ∷ []))
+    ap (λ s. span_hull s one) inv ∙ ap (span_hull (span_of_all (map f (range_with_len 0 q))))
+    (is_one ∙ ap (λ x. finish_span_of b (record { state = q; regs = spans_of x }) n) here)
+    ∙ sym (ap span_of_all (ap (map f) (range_more q q refl) ∙ map_push f (range_with_len 0 q) q)
+    ∙ fold-append span_hull none_span (map f (range_with_len 0 q)) (f q ∷ []))
 
-pub block_stands : (b : Body) (hulls : List Hull) (q : ℕ) (h d : Hull) → q < length hulls → length hulls ≡ length b.states → h ≡ get_or hulls q d → HullsStand b hulls →
+pub block_stands : (b : Body) (hulls : List Hull) (q : ℕ) (h d : Hull) → q < length hulls → length hulls ≡ length b.states → h ≡ get_or hulls q d →
+    HullsStand b hulls →
     HullStands b (record { state = q; regs = spans_of h })
 block_stands b hulls q h d lt long is k =
     subst (λ x. HullStands b (record { state = q; regs = spans_of x })) (sym (is ∙ get_or_default hulls q d none lt)) (k q (omega (arith, lt, long)))
 
 pub right_stands : (p : Option Pair) (hulls : List Hull) (m q : ℕ) (h d : Hull) → q < m → length hulls ≡ m → h ≡ get_or hulls q d →
-    OfReverse p (λ b. (length b.states ≡ m) × HullsStand b hulls) → IfSome (option_map (λ p. p.reverse) p) (λ b. HullStands b (record { state = q; regs = spans_of h }))
+    OfReverse p (λ b. (length b.states ≡ m) × HullsStand b hulls) →
+    IfSome (option_map (λ p. p.reverse) p) (λ b. HullStands b (record { state = q; regs = spans_of h }))
 right_stands None hulls m q h d lt long is k = tt
 right_stands (Some p) hulls m q h d lt long is k = let e = k.0 in block_stands p.reverse hulls q h d (omega (arith, lt, long)) (omega (arith, long, e)) is k.1
 
@@ -91,7 +97,8 @@ glued_is : (p : Option Pair) (left right : Standing Span) (x : ℤ) (n : ℕ) (s
 glued_is None left right x n s k h = cc
 glued_is (Some p) left right x n s k h = h
 
-pub with_more : (p : Option Pair) (left : Standing Span) (right : List Hull) (x x' : ℤ) (n q : ℕ) (h d : Hull) (before span one : Span) → IsSome p → x' ≡ x → q < length right →
+pub with_more : (p : Option Pair) (left : Standing Span) (right : List Hull) (x x' : ℤ) (n q : ℕ) (h d : Hull) (before span one : Span) → IsSome p →
+    x' ≡ x → q < length right →
     h ≡ get_or right q d → IfSome p (λ p. one ≡ glued_span p left (record { state = q; regs = spans_of h }) x' n) →
     span ≡ fold span_hull before (glued_with p left right x n q) → span_hull span one ≡ fold span_hull before (glued_with p left right x n (q + 1))
 unfolding glued_with
@@ -102,9 +109,11 @@ with_more p left right x x' n q h d before span one k is_x lt is_h is_one inv =
     glued_is p left (record { state = q; regs = spans_of h }) x' n one k is_one ∙ ap (λ y. glued_by p left (record { state = q; regs = spans_of h }) y n) is_x
     ∙ ap (λ z. glued_by p left (record { state = q; regs = spans_of z }) x n) here in
     ap (λ s. span_hull s one) inv ∙ ap (span_hull (fold span_hull before (map f (range_with_len 0 q)))) o
-    ∙ sym (ap (fold span_hull before) (ap (map f) (range_more q q refl) ∙ map_push f (range_with_len 0 q) q) ∙ fold-append span_hull before (map f (range_with_len 0 q)) (f q ∷ []))
+    ∙ sym (ap (fold span_hull before) (ap (map f) (range_more q q refl) ∙ map_push f (range_with_len 0 q) q)
+    ∙ fold-append span_hull before (map f (range_with_len 0 q)) (f q ∷ []))
 
-pub all_more : (p : Option Pair) (left right : List Hull) (x x' : ℤ) (n m q : ℕ) (h d : Hull) (span span' : Span) → x' ≡ x → q < length left → h ≡ get_or left q d →
+pub all_more : (p : Option Pair) (left right : List Hull) (x x' : ℤ) (n m q : ℕ) (h d : Hull) (span span' : Span) → x' ≡ x → q < length left →
+    h ≡ get_or left q d →
     span' ≡ fold span_hull span (glued_with p (record { state = q; regs = spans_of h }) right x' n m) → span ≡ span_of_all (glued_all p left right x n m q) →
     span' ≡ span_of_all (glued_all p left right x n m (q + 1))
 unfolding glued_all
@@ -114,7 +123,8 @@ all_more p left right x x' n m q h d span span' is_x lt is_h step inv =
     step ∙ ap (λ y. fold span_hull span (glued_with p (record { state = q; regs = spans_of h }) right y n m)) is_x
     ∙ ap (λ z. fold span_hull span (glued_with p (record { state = q; regs = spans_of z }) right x n m)) here
     ∙ ap (λ s. fold span_hull s (f q)) inv
-    ∙ sym (ap span_of_all (ap (flat_map f) (range_more q q refl) ∙ flat_push f (range_with_len 0 q) q) ∙ fold-append span_hull none_span (flat_map f (range_with_len 0 q)) (f q))
+    ∙ sym (ap span_of_all (ap (flat_map f) (range_more q q refl) ∙ flat_push f (range_with_len 0 q) q)
+    ∙ fold-append span_hull none_span (flat_map f (range_with_len 0 q)) (f q))
 
 -- the loops over the values of a cell: what is left of a row
 
@@ -129,7 +139,8 @@ block_is n m f size left left' v row hs is_m is inv is_hs =
     let s = size v in let w : m ≡ length (f v) = omega (arith, is_m, s) in
     is_hs ∙ ap (λ k. take k row) w ∙ ap (take (length (f v))) (inv ∙ ap (flat_map f) is) ∙ take-append_seam (f v) (flat_map f left')
 
-pub block_rest : (n m : ℕ) (f : ℤ → List Hull) → ((v : ℤ) → length (f v) ≡ n) → (left left' : List ℤ) (v : ℤ) (row rest : List Hull) → m ≡ n → left ≡ v ∷ left' →
+pub block_rest : (n m : ℕ) (f : ℤ → List Hull) → ((v : ℤ) → length (f v) ≡ n) → (left left' : List ℤ) (v : ℤ) (row rest : List Hull) → m ≡ n →
+    left ≡ v ∷ left' →
     row ≡ flat_map f left → rest ≡ drop m row → rest ≡ flat_map f left'
 block_rest n m f size left left' v row rest is_m is inv is_rest =
     let s = size v in let w : m ≡ length (f v) = omega (arith, is_m, s) in
@@ -155,15 +166,18 @@ forward_row b before [] i h = absurd (omega (arith, h))
 forward_row b before (c ∷ cells) zero h = refl
 forward_row b before (c ∷ cells) (suc i) h =
     forward_row b (c ∷ before) cells i (omega (arith, h))
-    ∙ ap (λ z. row_of b z (get_or cells i [])) (sym (append_assoc (reverse (take i cells)) (c ∷ []) before) ∙ ap (λ z. z ++ before) (sym (reverse-append (c ∷ []) (take i cells))))
+    ∙ ap (λ z. row_of b z (get_or cells i [])) (sym (append_assoc (reverse (take i cells)) (c ∷ []) before)
+    ∙ ap (λ z. z ++ before) (sym (reverse-append (c ∷ []) (take i cells))))
 
-pub backward_row : (b : Body) (cells : List (List ℤ)) (i : ℕ) → i < length cells → get_or (backward_rows b cells) i [] ≡ row_of b (drop (suc i) cells) (get_or cells i [])
+pub backward_row : (b : Body) (cells : List (List ℤ)) (i : ℕ) → i < length cells → get_or (backward_rows b cells) i [] ≡ row_of b (drop (suc i) cells)
+    (get_or cells i [])
 unfolding backward_rows
 backward_row b [] i h = absurd (omega (arith, h))
 backward_row b (c ∷ cells) zero h = refl
 backward_row b (c ∷ cells) (suc i) h = backward_row b cells i (omega (arith, h))
 
-pub ahead_begun : (b : Body) (cells : List (List ℤ)) (k : ℕ) (t : List (List Hull)) (row : List Hull) (left : List ℤ) → 1 ≤ k → k ≤ length cells → t ≡ forward_rows b cells →
+pub ahead_begun : (b : Body) (cells : List (List ℤ)) (k : ℕ) (t : List (List Hull)) (row : List Hull) (left : List ℤ) → 1 ≤ k → k ≤ length cells →
+    t ≡ forward_rows b cells →
     row ≡ get_or t (k - 1) [] → left ≡ get_or cells (k - 1) [] → row ≡ flat_map (hulls_at b (cells_before k cells)) left
 unfolding row_of
 ahead_begun b cells k t row left some to is_t is_row is_left =
@@ -171,7 +185,8 @@ ahead_begun b cells k t row left some to is_t is_row is_left =
     ∙ ap (λ z. row_of b z (get_or cells (k - 1) [])) (append-nil (reverse (take (k - 1) cells)))
     ∙ ap (flat_map (hulls_at b (cells_before k cells))) (sym is_left)
 
-pub back_begun : (p : Option Pair) (cells : List (List ℤ)) (k : ℕ) (t : List (List Hull)) (row : List Hull) (left : List ℤ) → 1 ≤ k → k ≤ length cells → AreBackRows p cells t →
+pub back_begun : (p : Option Pair) (cells : List (List ℤ)) (k : ℕ) (t : List (List Hull)) (row : List Hull) (left : List ℤ) → 1 ≤ k →
+    k ≤ length cells → AreBackRows p cells t →
     row ≡ get_or t (k - 1) [] → left ≡ get_or cells (k - 1) [] → row ≡ flat_map (back_hulls p (cells_after k cells)) left
 unfolding row_of
 back_begun None cells k t row left some to is_t is_row is_left = absurd is_t
@@ -185,7 +200,8 @@ pub row_there : (b : Body) (cells : List (List ℤ)) (k : ℕ) (t : List (List H
 row_there b cells k t h is =
     let l = ap length is ∙ length-forward b [] cells in let first = h.0 in let last = h.1 in (first, omega (arith, l, last))
 
-pub back_row_there : (o : Option Pair) (cells : List (List ℤ)) (k : ℕ) (t : List (List Hull)) → (1 ≤ k) × (k ≤ length cells) → AreBackRows o cells t → IsRow k t
+pub back_row_there : (o : Option Pair) (cells : List (List ℤ)) (k : ℕ) (t : List (List Hull)) → (1 ≤ k) × (k ≤ length cells) → AreBackRows o cells t →
+    IsRow k t
 back_row_there None cells k t h is = absurd is
 back_row_there (Some p) cells k t h is =
     let l = ap length is ∙ length-backward p.reverse cells in let first = h.0 in let last = h.1 in (first, omega (arith, l, last))

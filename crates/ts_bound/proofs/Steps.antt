@@ -8,8 +8,10 @@ pub use mir.Syntax.{ty_int, named}
 pub use mir.Val.{Val, vunit, vint}
 pub use contract.Monad.{fact, fact_i}
 pub use contract.Running.{tables}
-pub use types.Kit.{‵, raw, ◌⊛◌, some, later, prop, at_ret, Sq, ◌$◌, ◌∵◌, !, qed, done, move, keep, drop, use0, use1, use2, use3, split, join, fsplit, fsplit3, fjoin, feq_i, feq_l, pick, await, rewrite, regoal, suffices, frame, group}
-pub use types.Run.{enter, of_opd, lit, unit_lit, bin, addr, load, look, store, stop, fld, hop, no_more, and_then, assigns, assigns_last, first, blocks, branches, skips, exec, returns, returns_within, well_typed}
+pub use types.Kit.{‵, raw, ◌⊛◌, some, later, prop, at_ret, Sq, ◌$◌, ◌∵◌, !, qed, done, move, keep, drop, use0, use1, use2, use3, split, join, fsplit, fsplit3}
+pub use types.Kit.{fjoin, feq_i, feq_l, pick, await, rewrite, regoal, suffices, frame, group}
+pub use types.Run.{enter, of_opd, lit, unit_lit, bin, addr, load, look, store, stop, fld, hop, no_more, and_then, assigns, assigns_last, first}
+pub use types.Run.{blocks, branches, skips, exec, returns, returns_within, well_typed}
 pub use types.ByLocal.{alloc_all, pass_all, free_all, look_at, get, through, sets, lands_as, env}
 pub use denote.Builtin.{u8, u32, usize, bool, unit}
 pub use denote.Exit.{yes, no}

@@ -12,7 +12,8 @@ LendsRow t k r = Lends the_row (Array hull.the_row 0) t r (with_written t.now (k
 
 -- the table ends with the rows of cells k and k + 1 as they were left
 abbrev pub LendsTwo : MutBor (List (List Hull)) → ℕ → MutBor (List Hull) × MutBor (List Hull) → Fml
-LendsTwo t k r = LendsBoth the_row (Array hull.the_row 0) (Array hull.the_row 0) t r (λ a b. with_written t.now (k - 1) (a ++ b))
+LendsTwo t k r =
+    LendsBoth the_row (Array hull.the_row 0) (Array hull.the_row 0) t r (λ a b. with_written t.now (k - 1) (a ++ b))
 
 -- two parts of a slice: the first n, and the rest
 abbrev pub LendsParts : MutBor (List Hull) → MutBor (List Hull) × MutBor (List Hull) → Fml

@@ -22,7 +22,8 @@ glue_state-span-requires-clause-cell c = subst IsCellValue (sym (to_z-of_z w64 c
 pub loop-q-preserved : goal.loop-q-preserved
 loop-q-preserved c =
     all_more (pair_of c.args.m.now) c.args.left.now c.args.right.now _ _ c.args.n c.args.states c.loop-q.q _ _ c.loop-q.span c.glue_state-span.result
-    refl (let l = ap (λ b. length b.states) c.forward.ensures in omega (arith, c.loop-q-test.true, c.states-left_states.ensures.count, l, c.requires.left_states)) refl c.glue_state-span.ensures c.loop-q.invariant
+    refl (let l = ap (λ b. length b.states) c.forward.ensures in omega
+    (arith, c.loop-q-test.true, c.states-left_states.ensures.count, l, c.requires.left_states)) refl c.glue_state-span.ensures c.loop-q.invariant
 
 pub returns : goal.returns
 returns c =
@@ -30,5 +31,6 @@ returns c =
     (let l = ap (λ b. length b.states) c.forward.ensures in omega (arith, c.loop-q-test.false, c.loop-q.auto.q-end, c.states-left_states.ensures.count, l)) in
     c.loop-q.invariant
     ∙ ap (λ k. span_of_all (glued_all (pair_of c.args.m.now) c.args.left.now c.args.right.now (to_z w64 (of_z w64 c.args.cell)) c.args.n c.args.states k)) e
-    ∙ ap (λ x. span_of_all (glued_all (pair_of c.args.m.now) c.args.left.now c.args.right.now x c.args.n c.args.states (length (forward_of c.args.m.now).states)))
+    ∙ ap (λ x. span_of_all (glued_all (pair_of c.args.m.now) c.args.left.now c.args.right.now x c.args.n c.args.states
+    (length (forward_of c.args.m.now).states)))
     (to_z-of_z w64 c.args.cell c.ranges.cell)

@@ -33,6 +33,7 @@ pub returns : goal.returns
 returns c =
     let e : c.loop-r.r ≡ c.args.states = omega (arith, c.loop-r-test.false, c.loop-r.auto.r-end) in
     c.loop-r.invariant
-    ∙ ap (λ k. fold span_hull c.args.before (glued_with (pair_of c.args.m.now) (hull_standing c.args.left) c.args.right.now (to_z w64 (of_z w64 c.args.cell)) c.args.n k)) e
+    ∙ ap (λ k. fold span_hull c.args.before (glued_with (pair_of c.args.m.now) (hull_standing c.args.left) c.args.right.now
+    (to_z w64 (of_z w64 c.args.cell)) c.args.n k)) e
     ∙ ap (λ x. fold span_hull c.args.before (glued_with (pair_of c.args.m.now) (hull_standing c.args.left) c.args.right.now x c.args.n c.args.states))
     (to_z-of_z w64 c.args.cell c.ranges.cell)

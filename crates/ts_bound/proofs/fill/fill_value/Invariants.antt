@@ -6,4 +6,5 @@ use Rattle.ts_bound.proofs.fill.fill_value.Given as goal
 
 abbrev pub invariant-loop-earlier : goal.invariant-loop-earlier
 invariant-loop-earlier l =
-    LeftOfRow l.a l.before_values l.fn.value l.at l.before (over l.fn.next l.at (replicate (length l.a.states) none)) (length l.fn.next) l.earlier-iterator l.from l.next
+    LeftOfRow l.a l.before_values l.fn.value l.at l.before (over l.fn.next l.at (replicate (length l.a.states) none)) (length l.fn.next)
+    l.earlier-iterator l.from l.next

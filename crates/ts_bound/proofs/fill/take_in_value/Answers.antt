@@ -5,7 +5,8 @@ use Rattle.ts_bound.proofs.fill.take_in_value.Goals as goal
 
 pub take_in-requires-clause-kinds : goal.take_in-requires-clause-kinds
 take_in-requires-clause-kinds c =
-    source_stands c.args.a.now _ c.loop-q.q c.args.hulls.now _ (omega (arith, c.loop-q-test.true, c.states-states.ensures.count, c.requires.states)) c.loop-q.invariant.2
+    source_stands c.args.a.now _ c.loop-q.q c.args.hulls.now _ (omega (arith, c.loop-q-test.true, c.states-states.ensures.count, c.requires.states))
+    c.loop-q.invariant.2
 
 pub loop-q-preserved : goal.loop-q-preserved
 loop-q-preserved c =

@@ -13,7 +13,8 @@ loop-value-init c =
     let b = c.args.a.now in let cells = c.args.cells.now.present in
     let same : c.into_iter-value-iterator.result ≡ values_at c.args.p cells = search rules in (
       taken_begun (last_at b c.args.p cells) (values_at c.args.p cells) c.into_iter-value-iterator.result c.none-span.result c.none-span.ensures same,
-      ahead_begun b cells c.args.p c.args.ahead.now c.row-row.result.now c.into_iter-value-iterator.result c.requires.cell.0 c.requires.cell.1 c.requires.ahead
+      ahead_begun b cells c.args.p c.args.ahead.now c.row-row.result.now c.into_iter-value-iterator.result c.requires.cell.0 c.requires.cell.1
+          c.requires.ahead
           c.row-row.ensures same,
     )
 
@@ -37,7 +38,8 @@ loop-value-preserved c =
     block_is (length b.states) c.states-states.result (hulls_at b before) (length-hulls_at b before) c.loop-value._value-iterator c.next.new.self _
     c.loop-value.row.now _ c.states-states.ensures.count c.in-Some.ensures.steps c.loop-value.invariant.1 c.split_at.ensures.front in (
       subst (Taken (last_at b c.args.p cells) (values_at c.args.p cells) c.next.new.self) (sym c.hull-span.ensures)
-          (taken_more (last_at b c.args.p cells) (values_at c.args.p cells) c.loop-value._value-iterator c.next.new.self _ c.loop-value.span c.finish_block.result
+          (taken_more (last_at b c.args.p cells) (values_at c.args.p cells) c.loop-value._value-iterator c.next.new.self _ c.loop-value.span
+          c.finish_block.result
           c.in-Some.ensures.steps (last_one b c.args.p cells _ _ _ c.finish_block.result here c.cells-n.ensures.count c.finish_block.ensures)
           c.loop-value.invariant.0),
       block_rest (length b.states) c.states-states.result (hulls_at b before) (length-hulls_at b before) c.loop-value._value-iterator c.next.new.self _

@@ -17,7 +17,8 @@ loop-value-init c =
     let same : c.into_iter-value-iterator.result ≡ values_at c.args.p cells = search rules in (
       ahead_begun c.args.a.now cells c.args.p c.args.ahead.now c.row-row.result.now c.into_iter-value-iterator.result c.requires.cell.0 c.requires.cell.1
           c.requires.ahead c.row-row.ensures same,
-      subst (Contains c.into_iter-value-iterator.result) (sym (to_z-of_z w64 c.args.v c.ranges.v)) (subst (λ l. Contains l c.args.v) (sym same) c.requires.value),
+      subst (Contains c.into_iter-value-iterator.result) (sym (to_z-of_z w64 c.args.v c.ranges.v))
+          (subst (λ l. Contains l c.args.v) (sym same) c.requires.value),
     )
 
 pub split_at-requires : goal.split_at-requires
@@ -38,7 +39,8 @@ returns-then-value-v c =
     let fits : SFits w64 c.in-Some.value = search rules in
     let b = c.args.a.now in let cells = c.args.cells.now.present in let before = cells_before c.args.p cells in
     last_one b c.args.p cells _ _ _ c.finish_block.result
-    (block_is (length b.states) c.states-states.result (hulls_at b before) (length-hulls_at b before) c.loop-value.value-iterator c.next.new.self c.in-Some.value
+    (block_is (length b.states) c.states-states.result (hulls_at b before) (length-hulls_at b before) c.loop-value.value-iterator c.next.new.self
+    c.in-Some.value
     c.loop-value.row.now _ c.states-states.ensures.count c.in-Some.ensures.steps c.loop-value.invariant.0 c.split_at.ensures.front)
     c.cells-n.ensures.count c.finish_block.ensures
     ∙ ap (last_at b c.args.p cells)

@@ -33,7 +33,8 @@ pub split_at-requires : goal.split_at-requires
 split_at-requires c =
     let b = forward_of c.args.m.now in let before = cells_before c.args.p c.args.cells.now.present in
     block_fits (length b.states) c.states-states.result (hulls_at b before) (length-hulls_at b before) c.loop-value.value-iterator c.next.new.self _
-    c.loop-value.row.now (let l = ap (λ b. length b.states) c.forward.ensures in c.states-states.ensures.count ∙ l) c.in-Some.ensures.steps c.loop-value.invariant.1
+    c.loop-value.row.now (let l = ap (λ b. length b.states) c.forward.ensures in c.states-states.ensures.count ∙ l) c.in-Some.ensures.steps
+    c.loop-value.invariant.1
 
 pub split_at-requires-in-loop-value : goal.split_at-requires-in-loop-value
 split_at-requires-in-loop-value c =
@@ -43,17 +44,22 @@ split_at-requires-in-loop-value c =
 
 pub glue_block-requires-clause-left_kinds : goal.glue_block-requires-clause-left_kinds
 glue_block-requires-clause-left_kinds c =
-    hulls_stand (forward_of c.args.m.now) (subst (λ b. IsTrue (is_automaton b)) c.forward.ensures c.states-states.ensures.rules) (cells_before c.args.p c.args.cells.now.present) _ _
-    (block_is (length (forward_of c.args.m.now).states) c.states-states.result (hulls_at (forward_of c.args.m.now) (cells_before c.args.p c.args.cells.now.present))
-    (length-hulls_at (forward_of c.args.m.now) (cells_before c.args.p c.args.cells.now.present)) c.loop-value.value-iterator c.next.new.self c.in-Some.value c.loop-value.row.now _ (let l = ap (λ b. length b.states) c.forward.ensures in c.states-states.ensures.count ∙ l)
+    hulls_stand (forward_of c.args.m.now) (subst (λ b. IsTrue (is_automaton b)) c.forward.ensures c.states-states.ensures.rules)
+    (cells_before c.args.p c.args.cells.now.present) _ _
+    (block_is (length (forward_of c.args.m.now).states) c.states-states.result
+    (hulls_at (forward_of c.args.m.now) (cells_before c.args.p c.args.cells.now.present))
+    (length-hulls_at (forward_of c.args.m.now) (cells_before c.args.p c.args.cells.now.present)) c.loop-value.value-iterator c.next.new.self
+    c.in-Some.value c.loop-value.row.now _ (let l = ap (λ b. length b.states) c.forward.ensures in c.states-states.ensures.count ∙ l)
     c.in-Some.ensures.steps c.loop-value.invariant.1 c.split_at.ensures.front)
 
 pub glue_block-requires-clause-right_kinds : goal.glue_block-requires-clause-right_kinds
 glue_block-requires-clause-right_kinds c =
     right_kinds (pair_of c.args.m.now) c.reverse_states-back_states.result (cells_after c.args.p c.args.cells.now.present) _ _
     c.reverse_states-back_states.ensures.rules c.reverse_states-back_states.ensures.count
-    (block_is (back_states (pair_of c.args.m.now)) c.reverse_states-back_states.result (back_hulls (pair_of c.args.m.now) (cells_after c.args.p c.args.cells.now.present))
-    (back_length (pair_of c.args.m.now) (cells_after c.args.p c.args.cells.now.present)) c.loop-value.value-iterator c.next.new.self c.in-Some.value c.loop-value.back_row.now _
+    (block_is (back_states (pair_of c.args.m.now)) c.reverse_states-back_states.result
+    (back_hulls (pair_of c.args.m.now) (cells_after c.args.p c.args.cells.now.present))
+    (back_length (pair_of c.args.m.now) (cells_after c.args.p c.args.cells.now.present)) c.loop-value.value-iterator c.next.new.self c.in-Some.value
+    c.loop-value.back_row.now _
     c.reverse_states-back_states.ensures.count c.in-Some.ensures.steps c.loop-value.invariant.2 c.split_at-in-loop-value.ensures.front)
 
 pub returns-then-value-v : goal.returns-then-value-v
@@ -61,12 +67,17 @@ returns-then-value-v c =
     let fits : SFits w64 c.in-Some.value = search rules in
     split_one (forward_of c.args.m.now) (pair_of c.args.m.now) c.args.p c.args.cells.now.present c.in-Some.value _ _ _ _ _ c.glue_block.result
     (to_z-of_z w64 c.in-Some.value fits)
-    (block_is (length (forward_of c.args.m.now).states) c.states-states.result (hulls_at (forward_of c.args.m.now) (cells_before c.args.p c.args.cells.now.present))
-    (length-hulls_at (forward_of c.args.m.now) (cells_before c.args.p c.args.cells.now.present)) c.loop-value.value-iterator c.next.new.self c.in-Some.value c.loop-value.row.now _ (let l = ap (λ b. length b.states) c.forward.ensures in c.states-states.ensures.count ∙ l)
+    (block_is (length (forward_of c.args.m.now).states) c.states-states.result
+    (hulls_at (forward_of c.args.m.now) (cells_before c.args.p c.args.cells.now.present))
+    (length-hulls_at (forward_of c.args.m.now) (cells_before c.args.p c.args.cells.now.present)) c.loop-value.value-iterator c.next.new.self
+    c.in-Some.value c.loop-value.row.now _ (let l = ap (λ b. length b.states) c.forward.ensures in c.states-states.ensures.count ∙ l)
     c.in-Some.ensures.steps c.loop-value.invariant.1 c.split_at.ensures.front)
-    (block_is (back_states (pair_of c.args.m.now)) c.reverse_states-back_states.result (back_hulls (pair_of c.args.m.now) (cells_after c.args.p c.args.cells.now.present))
-    (back_length (pair_of c.args.m.now) (cells_after c.args.p c.args.cells.now.present)) c.loop-value.value-iterator c.next.new.self c.in-Some.value c.loop-value.back_row.now _
-    c.reverse_states-back_states.ensures.count c.in-Some.ensures.steps c.loop-value.invariant.2 c.split_at-in-loop-value.ensures.front) c.cells-n.ensures.count c.reverse_states-back_states.ensures.count c.glue_block.ensures
+    (block_is (back_states (pair_of c.args.m.now)) c.reverse_states-back_states.result
+    (back_hulls (pair_of c.args.m.now) (cells_after c.args.p c.args.cells.now.present))
+    (back_length (pair_of c.args.m.now) (cells_after c.args.p c.args.cells.now.present)) c.loop-value.value-iterator c.next.new.self c.in-Some.value
+    c.loop-value.back_row.now _
+    c.reverse_states-back_states.ensures.count c.in-Some.ensures.steps c.loop-value.invariant.2 c.split_at-in-loop-value.ensures.front)
+    c.cells-n.ensures.count c.reverse_states-back_states.ensures.count c.glue_block.ensures
     ∙ ap (split_at (forward_of c.args.m.now) (pair_of c.args.m.now) c.args.p c.args.cells.now.present)
     (sym (to_z-of_z w64 c.in-Some.value fits) ∙ ap (to_z w64) c.if-value-v.true ∙ to_z-of_z w64 c.args.v c.ranges.v)
 
@@ -74,11 +85,15 @@ pub loop-value-preserved : goal.loop-value-preserved
 loop-value-preserved c = (
   still_there c.loop-value.value-iterator c.next.new.self _ _ c.in-Some.ensures.steps
       (λ e. c.if-value-v.false (ap (of_z w64) (e ∙ to_z-of_z w64 c.args.v c.ranges.v))) c.loop-value.invariant.0,
-  block_rest (length (forward_of c.args.m.now).states) c.states-states.result (hulls_at (forward_of c.args.m.now) (cells_before c.args.p c.args.cells.now.present))
-      (length-hulls_at (forward_of c.args.m.now) (cells_before c.args.p c.args.cells.now.present)) c.loop-value.value-iterator c.next.new.self _ c.loop-value.row.now _ (let l = ap (λ b. length b.states) c.forward.ensures in c.states-states.ensures.count ∙ l)
+  block_rest (length (forward_of c.args.m.now).states) c.states-states.result
+      (hulls_at (forward_of c.args.m.now) (cells_before c.args.p c.args.cells.now.present))
+      (length-hulls_at (forward_of c.args.m.now) (cells_before c.args.p c.args.cells.now.present)) c.loop-value.value-iterator c.next.new.self _
+      c.loop-value.row.now _ (let l = ap (λ b. length b.states) c.forward.ensures in c.states-states.ensures.count ∙ l)
       c.in-Some.ensures.steps c.loop-value.invariant.1 c.split_at.ensures.back,
-  block_rest (back_states (pair_of c.args.m.now)) c.reverse_states-back_states.result (back_hulls (pair_of c.args.m.now) (cells_after c.args.p c.args.cells.now.present))
-      (back_length (pair_of c.args.m.now) (cells_after c.args.p c.args.cells.now.present)) c.loop-value.value-iterator c.next.new.self _ c.loop-value.back_row.now _
+  block_rest (back_states (pair_of c.args.m.now)) c.reverse_states-back_states.result
+      (back_hulls (pair_of c.args.m.now) (cells_after c.args.p c.args.cells.now.present))
+      (back_length (pair_of c.args.m.now) (cells_after c.args.p c.args.cells.now.present)) c.loop-value.value-iterator c.next.new.self _
+      c.loop-value.back_row.now _
       c.reverse_states-back_states.ensures.count c.in-Some.ensures.steps c.loop-value.invariant.2 c.split_at-in-loop-value.ensures.back,
   (first_within c.loop-value.value-iterator c.next.new.self c.in-Some.value c.in-Some.ensures.steps c.loop-value.invariant.3).1,
 )

@@ -10,8 +10,10 @@ use Rattle.ts_bound.proofs.spans.value_span.Goals as goal
 pub returns-in-Some : goal.returns-in-Some
 returns-in-Some c =
     let back : AreBackRows (pair_of c.args.m.now) c.args.cells.now.present c.in-Some.back.now = search rules in
-    c.split_value.ensures ∙ ap (split_at (forward_of c.args.m.now) (pair_of c.args.m.now) c.args.p c.args.cells.now.present) (to_z-of_z w64 c.args.v c.ranges.v)
-    ∙ split_value_ends (forward_of c.args.m.now) (pair_of c.args.m.now) c.args.p c.args.cells.now.present c.args.v (split_some (pair_of c.args.m.now) _ back) (pair_is c.args.m.now)
+    c.split_value.ensures ∙ ap (split_at (forward_of c.args.m.now) (pair_of c.args.m.now) c.args.p c.args.cells.now.present)
+    (to_z-of_z w64 c.args.v c.ranges.v)
+    ∙ split_value_ends (forward_of c.args.m.now) (pair_of c.args.m.now) c.args.p c.args.cells.now.present c.args.v
+    (split_some (pair_of c.args.m.now) _ back) (pair_is c.args.m.now)
 
 pub returns-in-None : goal.returns-in-None
 returns-in-None c =

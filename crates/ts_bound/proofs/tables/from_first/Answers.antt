@@ -5,7 +5,8 @@ use Rattle.ts_bound.proofs.tables.from_first.Goals as goal
 pub returns-then-last-eq0 : goal.returns-then-last-eq0
 returns-then-last-eq0 c =
     let none = sym c.cells-last.ensures.count ∙ c.if-last-eq0.true in
-    no_rows _ c.args.cells.now.present c.in_ok-table.table none (empty_sizes _ _ c.args.cells.now.present c.in_ok-table.table c.states.ensures.count c.in_ok-table.ensures)
+    no_rows _ c.args.cells.now.present c.in_ok-table.table none
+    (empty_sizes _ _ c.args.cells.now.present c.in_ok-table.table c.states.ensures.count c.in_ok-table.ensures)
     ∙ sym (no_forward c.args.a.now c.args.cells.now.present none)
 
 pub loop-k-init : goal.loop-k-init
@@ -41,4 +42,5 @@ loop-k-preserved c = (
 
 pub returns : goal.returns
 returns c =
-    filled_all c.args.a.now c.args.cells.now.present c.loop-k.k c.loop-k.table (omega (arith, c.loop-k-test.false, c.cells-last.ensures.count)) c.loop-k.invariant.0
+    filled_all c.args.a.now c.args.cells.now.present c.loop-k.k c.loop-k.table (omega (arith, c.loop-k-test.false, c.cells-last.ensures.count))
+    c.loop-k.invariant.0

@@ -15,4 +15,5 @@ part-requires-clause-inside c =
 pub returns : goal.returns
 returns c =
     row_read c.self.inside.starts.items c.self.inside.hulls.items _ _ c.args.k _ _ c.self.invariant c.self.view_is c.requires c.bounds-from.ensures.from
-    (one_row _ c.args.k _ c.requires.0 c.bounds-from.ensures.to) (c.part.ensures ∙ ap (λ l. slice_range l c.bounds-from.result.0 c.bounds-from.result.1) c.deref.ensures.value)
+    (one_row _ c.args.k _ c.requires.0 c.bounds-from.ensures.to)
+    (c.part.ensures ∙ ap (λ l. slice_range l c.bounds-from.result.0 c.bounds-from.result.1) c.deref.ensures.value)

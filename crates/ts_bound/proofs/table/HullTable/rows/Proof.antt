@@ -64,7 +64,8 @@ rows_spec 𝓤 𝓛 𝓜 𝓡 wired =
     calls_at ! (framed 𝓤 𝓛.H 𝓜 (tables 𝓤 𝓛.H 𝓜 𝓡 𝓡.env)) W' (width_met 𝓤 𝓛 𝓜 𝓡 (code.calls-ts_bound::table::HullTable::width 𝓡.env wired)) x
     (and_then ! (get ! refl) (and_then ! (get ! refl) (no_more !))) (λ t.
     use1 𝓛 (later (some (λ (n : ℕ). ((‵ (flft (α ∷ []) full_share) ⊛ ‵ ftrue) ⊛ ‵ (usize.own_val n (t ∷ []))) ⊛
-    some (λ (ws : List (List Hull) × (Unit {0} × Unit {0})). ‵ (lasts width.ended x.0.0 x.0.3 ws) ⊛ raw (fact 𝓤 (ws.0 ≡ self.now)) ⊛ raw (fact 𝓤 (place self.now (k - 1) + n ≡ place self.now k)))))) (id⊢ 𝓤 _) $
+    some (λ (ws : List (List Hull) × (Unit {0} × Unit {0})). ‵ (lasts width.ended x.0.0 x.0.3 ws) ⊛ raw (fact 𝓤 (ws.0 ≡ self.now)) ⊛ raw
+    (fact 𝓤 (place self.now (k - 1) + n ≡ place self.now k)))))) (id⊢ 𝓤 _) $
     await ! tt $ pick ! (λ n. split ! $ split ! $ split ! $ lft_end ! tt $ move ! (2 ∷ []) $ fsplit ! $ feq_l ! (λ is_n. flt_l ! (λ fits_n.
     lands_as ! (ap only is_n) refl (tt, record { fits = fits_n }) $
     move ! (2 ∷ []) $ pick ! (λ ws. split ! $ move ! (1 ∷ []) $ split ! $ heard ! _ (λ same. heard ! _ (λ wide. fsplit ! $ fsplit ! $
@@ -101,17 +102,22 @@ rows_spec 𝓤 𝓛 𝓜 𝓡 wired =
     calls_at ! (framed 𝓤 𝓛.H 𝓜 (tables 𝓤 𝓛.H 𝓜 𝓡 𝓡.env)) G' (cut_met 𝓤 𝓛 𝓜 𝓡 (code.calls-ts_bound::table::cut 𝓡.env wired)) z'
     (and_then ! (get ! refl) (and_then ! (get ! refl) (no_more !))) (λ u.
     use1 𝓛 (later (some (λ (p : MutBor (List Hull) × MutBor (List Hull)). ((‵ (flft κ q) ⊛ ‵ ftrue) ⊛ ‵ (Two.own_val p (u ∷ []))) ⊛
-    some (λ (ws : Unit {0} × (Unit {0} × Unit {0})). ‵ (lasts h.ended κs z'.0.3 ws) ⊛ ‵ (LendsParts r p) ⊛ raw (fact 𝓤 (p.0.now ≡ take n r.now)) ⊛ raw (fact 𝓤 (p.1.now ≡ drop_l n r.now)))))) (id⊢ 𝓤 _) $
+    some (λ (ws : Unit {0} × (Unit {0} × Unit {0})). ‵ (lasts h.ended κs z'.0.3 ws) ⊛ ‵ (LendsParts r p) ⊛ raw (fact 𝓤 (p.0.now ≡ take n r.now)) ⊛ raw
+    (fact 𝓤 (p.1.now ≡ drop_l n r.now)))))) (id⊢ 𝓤 _) $
     await ! tt $ pick ! (λ p. split ! $ split ! $ split ! $
     -- [the token; nothing; the two slices; what the call says; the slice follows; the locals]
     move ! (3 ∷ []) $ pick ! (λ ws'. split ! $ drop ! $ split ! $ move ! (1 ∷ []) $ split ! $ heard ! _ (λ front. heard ! _ (λ back.
     -- [the two follow; the token; nothing; the two slices; the slice follows; the locals]
-    move ! (4 ∷ 0 ∷ []) $ use2 𝓛 (‵ (LendsTwo self k p)) (both_then 𝓛 R (Array hull.the_row 0) (Array hull.the_row 0) (Array hull.the_row 0) (with_written self.now (k - 1)) ◌++◌ self.ghost_name r.ghost_name p.0.ghost_name p.1.ghost_name) $
+    move ! (4 ∷ 0 ∷ []) $ use2 𝓛 (‵ (LendsTwo self k p)) (both_then 𝓛 R (Array hull.the_row 0) (Array hull.the_row 0) (Array hull.the_row 0)
+    (with_written self.now (k - 1)) ◌++◌ self.ghost_name r.ghost_name p.0.ghost_name p.1.ghost_name) $
     move ! (3 ∷ []) $ peeks ! Two _ (shows 𝓛 Two) p (u ∷ []) (λ are_two.
-    lands_as ! refl refl ((Struct-Lawful 𝓛 (shape (tuple_type (Slice ∷ Slice ∷ []))) (mut_slice_Lawful 𝓛 (named 0) κ hull.the_row, (mut_slice_Lawful 𝓛 (named 0) κ hull.the_row, tt))).typed (p.0, (p.1, tt)) (u ∷ []) are_two).0 $
+    lands_as ! refl refl ((Struct-Lawful 𝓛 (shape (tuple_type (Slice ∷ Slice ∷ [])))
+    (mut_slice_Lawful 𝓛 (named 0) κ hull.the_row, (mut_slice_Lawful 𝓛 (named 0) κ hull.the_row, tt))).typed (p.0, (p.1, tt)) (u ∷ []) are_two).0 $
     returns ! (look_at ! 0 refl) $ free_all ! refl $
     -- [the two slices; they follow; the token; nothing]
     suffices ! _ (ends_at 𝓛 f.ended stayed c y u p (tt, (tt, tt)) (tt, (tt, tt))) $
     move ! (2 ∷ 3 ∷ []) $ join ! $ nothing ! $ nothing ! $ join ! $ nothing ! $ join ! $ move ! (1 ∷ 0 ∷ []) $ group ! 3 $ frame ! $ frame ! $
-    use0 𝓛 (raw (fact 𝓤 (p.1.now ≡ row_at (k + 1) self.now))) (fact_i 𝓤 _ (emp 𝓤) (sym (row_after_at self.now k n r.now p.1.now first last wide value back))) $
-    use0 𝓛 (raw (fact 𝓤 (p.0.now ≡ row_at k self.now))) (fact_i 𝓤 _ (emp 𝓤) (sym (row_before self.now k n r.now p.0.now first last wide value front))) $ done !))))))))))))))))))))))))
+    use0 𝓛 (raw (fact 𝓤 (p.1.now ≡ row_at (k + 1) self.now)))
+    (fact_i 𝓤 _ (emp 𝓤) (sym (row_after_at self.now k n r.now p.1.now first last wide value back))) $
+    use0 𝓛 (raw (fact 𝓤 (p.0.now ≡ row_at k self.now))) (fact_i 𝓤 _ (emp 𝓤) (sym (row_before self.now k n r.now p.0.now first last wide value front)))
+    $ done !))))))))))))))))))))))))
