@@ -10,3 +10,11 @@ pub mod SpanRuns
 pub mod SpanEnds
 pub mod Singles
 pub mod Growth
+mod SpanHulls
+mod Sums
+mod SplitLaws
+pub mod PackLaws
+mod SweepLaws
+pub mod SweptRows
+pub mod ValueLaws
+pub mod Passed

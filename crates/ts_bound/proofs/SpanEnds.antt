@@ -43,7 +43,8 @@ same_range f g a zero m le h = refl
 same_range f g a (suc n) m le h =
     ap (λ x. x ∷ map f (range_with_len (a + 1) n)) (h a (omega (arith, le))) ∙ ap (λ l. g a ∷ l) (same_range f g (a + 1) n m (omega (arith, le)) h)
 
-same_flat : {A : Type 0} (f g : ℕ → List A) (a n m : ℕ) → a + n ≤ m → ((q : ℕ) → q < m → f q ≡ g q) → flat_map f (range_with_len a n) ≡ flat_map g (range_with_len a n)
+same_flat : {A : Type 0} (f g : ℕ → List A) (a n m : ℕ) → a + n ≤ m → ((q : ℕ) → q < m → f q ≡ g q) →
+    flat_map f (range_with_len a n) ≡ flat_map g (range_with_len a n)
 same_flat f g a zero m le h = refl
 same_flat f g a (suc n) m le h =
     ap (λ x. x ++ flat_map f (range_with_len (a + 1) n)) (h a (omega (arith, le))) ∙ ap (λ l. g a ++ l) (same_flat f g (a + 1) n m (omega (arith, le)) h)
@@ -60,7 +61,8 @@ finishes_are b before v n =
     (length b.states) (omega arith) (λ q lt. ap (λ s. finish_span_of b s n) (standing_is b before v q lt))
 
 glued_are : (p : Pair) (before behind : List (List ℤ)) (v : ℤ) (n : ℕ) →
-    glued_all (Some p) (hulls_at p.forward before v) (hulls_at p.reverse behind v) v n (length p.reverse.states) (length p.forward.states) ≡ glued_spans p n before behind v
+    glued_all (Some p) (hulls_at p.forward before v) (hulls_at p.reverse behind v) v n (length p.reverse.states) (length p.forward.states) ≡
+    glued_spans p n before behind v
 unfolding glued_all glued_with glued_spans
 glued_are p before behind v n =
     let L = hulls_at p.forward before v in
@@ -70,22 +72,25 @@ glued_are p before behind v n =
     0 (length p.forward.states) (length p.forward.states) (omega arith)
     (λ q lt. ap (λ s. map (λ r. glued_span p s (standing_of R r) v n) (range_with_len 0 (length p.reverse.states))) (standing_is p.forward before v q lt)
     ∙ same_range (λ r. glued_span p (standing_in p.forward before v q) (standing_of R r) v n)
-    (λ r. glued_span p (standing_in p.forward before v q) (standing_in p.reverse behind v r) v n) 0 (length p.reverse.states) (length p.reverse.states) (omega arith)
+    (λ r. glued_span p (standing_in p.forward before v q) (standing_in p.reverse behind v r) v n) 0 (length p.reverse.states)
+    (length p.reverse.states) (omega arith)
     (λ r l. ap (λ s. glued_span p (standing_in p.forward before v q) s v n) (standing_is p.reverse behind v r l)))
 
 -- a pair that was made with the forward body
 abbrev pub IsPairOf : Body → Option Pair → Type 0
 IsPairOf b o = IfSome o (λ p. p.forward ≡ b)
 
-split_is : (b : Body) (o : Option Pair) (k : ℕ) (cells : List (List ℤ)) (v : ℤ) → IsSome o → IsPairOf b o → split_at b o k cells v ≡ value_span (record { forward = b; pair = o }) k cells v
+split_is : (b : Body) (o : Option Pair) (k : ℕ) (cells : List (List ℤ)) (v : ℤ) → IsSome o → IsPairOf b o →
+    split_at b o k cells v ≡ value_span (record { forward = b; pair = o }) k cells v
 unfolding split_at value_span spans_at
 split_is b None k cells v some is = cc
 split_is b (Some p) k cells v some is =
-    ap (λ f. span_of_all (glued_all (Some p) (hulls_at f (cells_before k cells) v) (hulls_at p.reverse (cells_after k cells) v) v (length cells) (length p.reverse.states)
+    ap (λ f. span_of_all (glued_all (Some p) (hulls_at f (cells_before k cells) v) (hulls_at p.reverse (cells_after k cells) v) v (length cells)
+    (length p.reverse.states)
     (length f.states))) (sym is)
     ∙ ap span_of_all (glued_are p (cells_before k cells) (cells_after k cells) v (length cells))
 
-same_map : {A : Type 0} (f g : ℤ → A) (vs : List ℤ) → ((v : ℤ) → f v ≡ g v) → map f vs ≡ map g vs
+pub same_map : {A : Type 0} (f g : ℤ → A) (vs : List ℤ) → ((v : ℤ) → f v ≡ g v) → map f vs ≡ map g vs
 same_map f g [] h = refl
 same_map f g (v ∷ vs) h = ap (λ x. x ∷ map f vs) (h v) ∙ ap (λ l. g v ∷ l) (same_map f g vs h)
 
@@ -100,12 +105,14 @@ split_value_ends b o k cells v some is = split_is b o k cells v some is
 
 -- at the last cell
 
-fold_nones : (g : ℕ → Span) (s : Span) (a n : ℕ) → IsCanonical s → 1 ≤ a → ((r : ℕ) → 1 ≤ r → g r ≡ none_span) → fold span_hull s (map g (range_with_len a n)) ≡ s
+fold_nones : (g : ℕ → Span) (s : Span) (a n : ℕ) → IsCanonical s → 1 ≤ a → ((r : ℕ) → 1 ≤ r → g r ≡ none_span) →
+    fold span_hull s (map g (range_with_len a n)) ≡ s
 fold_nones g s a zero can some h = refl
 fold_nones g s a (suc n) can some h =
     ap (λ t. fold span_hull t (map g (range_with_len (a + 1) n))) (ap (span_hull s) (h a some) ∙ can) ∙ fold_nones g s (a + 1) n can (omega arith) h
 
-fold_first : (g : ℕ → Span) (s : Span) (m : ℕ) → 1 ≤ m → ((r : ℕ) → 1 ≤ r → g r ≡ none_span) → fold span_hull s (map g (range_with_len 0 m)) ≡ span_hull s (g 0)
+fold_first : (g : ℕ → Span) (s : Span) (m : ℕ) → 1 ≤ m → ((r : ℕ) → 1 ≤ r → g r ≡ none_span) →
+    fold span_hull s (map g (range_with_len 0 m)) ≡ span_hull s (g 0)
 fold_first g s zero some h = absurd (omega (arith, some))
 fold_first g s (suc m) some h = fold_nones g (span_hull s (g 0)) (0 + 1) m (hull_canonical s (g 0)) (omega arith) h
 
@@ -133,7 +140,8 @@ two_forms p rules some n before v =
         go false e = refl
 
     others : (q r : ℕ) → 1 ≤ r → glued_span p (standing_in p.forward before v q) (standing_in p.reverse [] v r) v n ≡ none_span
-    others q r h = none_glues_to_none p (standing_in p.forward before v q) (standing_in p.reverse [] v r) v n (inr (ap (λ x. has_registers (spans_of x)) (not_start r h)))
+    others q r h = none_glues_to_none p (standing_in p.forward before v q) (standing_in p.reverse [] v r) v n
+        (inr (ap (λ x. has_registers (spans_of x)) (not_start r h)))
 
 last_is : (m : Automata) → AreAutomata m → (k : ℕ) (cells : List (List ℤ)) → k ≡ length cells → (v : ℤ) → last_at m.forward k cells v ≡ value_span m k cells v
 unfolding last_at value_span spans_at
@@ -150,13 +158,15 @@ last_is m are k cells last v =
         ∙ sym (two_forms p s.rules (omega (arith, r.some)) (length cells) (cells_before k cells) v)
         ∙ ap (λ t. span_of_all (glued_spans p (length cells) (cells_before k cells) t v)) (sym none_after)
 
-pub last_value_ends : (m : Automata) → AreAutomata m → (k : ℕ) (cells : List (List ℤ)) (v : ℤ) → k ≡ length cells → last_at m.forward k cells v ≡ value_span m k cells v
+pub last_value_ends : (m : Automata) → AreAutomata m → (k : ℕ) (cells : List (List ℤ)) (v : ℤ) → k ≡ length cells →
+    last_at m.forward k cells v ≡ value_span m k cells v
 last_value_ends m are k cells v last = last_is m are k cells last v
 
 pub last_ends : (m : Automata) → AreAutomata m → (k : ℕ) (cells : List (List ℤ)) → k ≡ length cells →
     span_of_all (map (last_at m.forward k cells) (values_at k cells)) ≡ term_span m k cells
 unfolding term_span
-last_ends m are k cells last = ap span_of_all (same_map (last_at m.forward k cells) (value_span m k cells) (values_at k cells) (λ v. last_is m are k cells last v))
+last_ends m are k cells last = ap span_of_all (same_map (last_at m.forward k cells) (value_span m k cells) (values_at k cells)
+    (λ v. last_is m are k cells last v))
 
 -- what the type of a machine keeps
 
@@ -170,7 +180,8 @@ pair_is m = go m.half
 pub machine_splits : (m : Machine) → IfSome (reverse_of m) (λ b. IsTrue (is_automaton b)) → IfSome (pair_of m) (Splits (forward_of m))
 machine_splits m r = go m.half refl r
   where
-    go : (o : Option Half) → m.half ≡ o → IfSome (option_map (λ p. p.reverse) (option_map (λ h. pair m.forward h.reverse (table_view h.table)) o)) (λ b. IsTrue (is_automaton b)) →
+    go : (o : Option Half) → m.half ≡ o → IfSome (option_map (λ p. p.reverse) (option_map (λ h. pair m.forward h.reverse (table_view h.table)) o))
+        (λ b. IsTrue (is_automaton b)) →
         IfSome (option_map (λ h. pair m.forward h.reverse (table_view h.table)) o) (Splits m.forward)
     go None e r = tt
     go (Some h) e r = record { forward = refl; reverse = r; rules = m.rules h e; local = m.local h e }
@@ -183,7 +194,8 @@ pub back_length : (o : Option Pair) (behind : List (List ℤ)) (v : ℤ) → len
 back_length None behind v = refl
 back_length (Some p) behind v = length-hulls_at p.reverse behind v
 
-pub right_kinds : (o : Option Pair) (m : ℕ) (behind : List (List ℤ)) (v : ℤ) (hs : List Hull) → OfReverse o (λ b. IsTrue (is_automaton b)) → m ≡ back_states o →
+pub right_kinds : (o : Option Pair) (m : ℕ) (behind : List (List ℤ)) (v : ℤ) (hs : List Hull) → OfReverse o (λ b. IsTrue (is_automaton b)) →
+    m ≡ back_states o →
     hs ≡ back_hulls o behind v → OfReverse o (λ b. (length b.states ≡ m) × HullsStand b hs)
 right_kinds None m behind v hs h is_m is = absurd h
 right_kinds (Some p) m behind v hs h is_m is = (sym is_m, hulls_stand p.reverse h behind v hs is)
@@ -204,11 +216,13 @@ taken_more f values left left' v span one is is_one inv =
 pub taken_all : (f : ℤ → Span) (values left : List ℤ) (span : Span) → left ≡ [] → Taken f values left span → span ≡ span_of_all (map f values)
 taken_all f values left span is inv = ap (λ l. fold span_hull span (map f l)) (sym is) ∙ inv
 
-pub last_one : (b : Body) (k : ℕ) (cells : List (List ℤ)) (v : ℤ) (hs : List Hull) (n : ℕ) (one : Span) → hs ≡ hulls_at b (cells_before k cells) v → n ≡ length cells →
+pub last_one : (b : Body) (k : ℕ) (cells : List (List ℤ)) (v : ℤ) (hs : List Hull) (n : ℕ) (one : Span) → hs ≡ hulls_at b (cells_before k cells) v →
+    n ≡ length cells →
     one ≡ span_of_all (finishes b hs n (length b.states)) → one ≡ last_at b k cells v
 unfolding last_at
 last_one b k cells v hs n one is is_n is_one =
-    is_one ∙ ap (λ h. span_of_all (finishes b h n (length b.states))) is ∙ ap (λ i. span_of_all (finishes b (hulls_at b (cells_before k cells) v) i (length b.states))) is_n
+    is_one ∙ ap (λ h. span_of_all (finishes b h n (length b.states))) is
+    ∙ ap (λ i. span_of_all (finishes b (hulls_at b (cells_before k cells) v) i (length b.states))) is_n
 
 pub split_one : (b : Body) (o : Option Pair) (k : ℕ) (cells : List (List ℤ)) (v v' : ℤ) (left right : List Hull) (n m : ℕ) (one : Span) → v' ≡ v →
     left ≡ hulls_at b (cells_before k cells) v → right ≡ back_hulls o (cells_after k cells) v → n ≡ length cells → m ≡ back_states o →
@@ -219,10 +233,12 @@ split_one b o k cells v v' left right n m one is_v is_left is_right is_n is_m is
     ∙ ap (λ h. span_of_all (glued_all o h right v n m (length b.states))) is_left
     ∙ ap (λ h. span_of_all (glued_all o (hulls_at b (cells_before k cells) v) h v n m (length b.states))) is_right
     ∙ ap (λ i. span_of_all (glued_all o (hulls_at b (cells_before k cells) v) (back_hulls o (cells_after k cells) v) v i m (length b.states))) is_n
-    ∙ ap (λ i. span_of_all (glued_all o (hulls_at b (cells_before k cells) v) (back_hulls o (cells_after k cells) v) v (length cells) i (length b.states))) is_m
+    ∙ ap (λ i. span_of_all (glued_all o (hulls_at b (cells_before k cells) v) (back_hulls o (cells_after k cells) v) v (length cells) i
+    (length b.states))) is_m
 
 -- values that are left lie within the limits
-pub within_of : (cells : List (List ℤ)) (i : ℕ) (values : List ℤ) → IsBox cells → i < length cells → values ≡ get_or cells i [] → AllByRecursion IsCellValue values
+pub within_of : (cells : List (List ℤ)) (i : ℕ) (values : List ℤ) → IsBox cells → i < length cells → values ≡ get_or cells i [] →
+    AllByRecursion IsCellValue values
 within_of [] i values b lt is = absurd (omega (arith, lt))
 within_of (d ∷ cells) zero values b lt is = subst (AllByRecursion IsCellValue) (sym is) b.0.within
 within_of (d ∷ cells) (suc i) values b lt is = within_of cells i values b.1 (omega (arith, lt)) is
@@ -249,7 +265,8 @@ reverse_rules (Some p) r b e is h = subst (λ x. IsTrue (is_automaton x)) (same 
     same : Some b ≡ Some p.reverse → b ≡ p.reverse
     same z = cc
 
-pub whole_split : (m : Machine) (b : Body) (r : Option Body) → r ≡ reverse_of m → r ≡ Some b → IsTrue (is_automaton b) → IsTrue (is_automaton (forward_of m)) → AreAutomata (automata_of m)
+pub whole_split : (m : Machine) (b : Body) (r : Option Body) → r ≡ reverse_of m → r ≡ Some b → IsTrue (is_automaton b) →
+    IsTrue (is_automaton (forward_of m)) → AreAutomata (automata_of m)
 whole_split m b r e is h f = record { forward = f; pair = machine_splits m (subst (λ o. IfSome o (λ b. IsTrue (is_automaton b))) (sym is ∙ e) h) }
 
 pub whole_plain : (m : Machine) (r : Option Body) → r ≡ reverse_of m → r ≡ None → IsTrue (is_automaton (forward_of m)) → AreAutomata (automata_of m)

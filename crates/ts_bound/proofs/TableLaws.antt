@@ -146,7 +146,8 @@ module _ (b : Body) (rules : IsTrue (is_automaton b)) where
       go true e = subst (λ k. IsKept b k (hull_of to.regs)) (eqb-true to.state q e) (kept_step s h w)
       go false e = inl refl
 
-  kept_givens : (ss : List Source) → AllByRecursion (λ s. HullStands b (standing_at s)) ss → (w : ℤ) (q : ℕ) → AllByRecursion (IsKept b q) (map (given b w q) ss)
+  kept_givens : (ss : List Source) → AllByRecursion (λ s. HullStands b (standing_at s)) ss → (w : ℤ) (q : ℕ) →
+      AllByRecursion (IsKept b q) (map (given b w q) ss)
   kept_givens [] h w q = tt
   kept_givens (s ∷ ss) h w q = (kept_given s h.0 w q, kept_givens ss h.1 w q)
 
@@ -182,7 +183,8 @@ module _ (b : Body) (rules : IsTrue (is_automaton b)) where
   pub row_stands : (before : List (List ℤ)) (us : List ℤ) → RowStands b us (row_of b before us)
   unfolding row_of hulls_at
   row_stands before us =
-      subst (AllByRecursion (λ s. HullStands b (standing_at s))) (sym (sources_of (hull_at b before) (length b.states) us)) (all_stand before us (hull_kept before))
+      subst (AllByRecursion (λ s. HullStands b (standing_at s))) (sym (sources_of (hull_at b before) (length b.states) us))
+      (all_stand before us (hull_kept before))
 
 -- the rows of a table
 
@@ -238,6 +240,17 @@ unfolding backward_rows
 length-backward b [] = refl
 length-backward b (v ∷ cells) = ap suc (length-backward b cells)
 
+-- each cell of the box has a row
+pub row_stands_there : (b : Body) (cells : List (List ℤ)) (rows : List (List Hull)) (k : ℕ) → rows ≡ forward_rows b cells → 1 ≤ k → k ≤ length cells →
+    IsRow k rows
+row_stands_there b cells rows k is some few = let l = ap length is ∙ length-forward b [] cells in (some, omega (arith, l, few))
+
+pub rows_ahead : (b : Body) (cells : List (List ℤ)) (rows : List (List Hull)) (n : ℕ) → rows ≡ forward_rows b cells → n ≡ length cells → n ≤ length rows
+rows_ahead b cells rows n is few = let l = ap length is ∙ length-forward b [] cells in omega (arith, l, few)
+
+pub rows_back : (b : Body) (cells : List (List ℤ)) (rows : List (List Hull)) (n : ℕ) → rows ≡ backward_rows b cells → n ≡ length cells → n ≤ length rows
+rows_back b cells rows n is few = let l = ap length is ∙ length-backward b cells in omega (arith, l, few)
+
 -- lists
 
 take_set : {X : Type 0} (t : List X) (k : ℕ) (x : X) → k < length t → take (suc k) (set t k x) ≡ take k t ++ x ∷ []
@@ -274,7 +287,8 @@ empty_sizes n m cells t is_m is = ap (map length) (is ∙ ap (λ k. map (λ d. r
   where
     go : (cells : List (List ℤ)) → map length (map (λ d. replicate (length d * n) none) cells) ≡ map (λ d. length d * n) cells
     go [] = refl
-    go (d ∷ cells) = ap (λ k. k ∷ map length (map (λ d. replicate (length d * n) none) cells)) (length-replicate (length d * n) none) ∙ ap (λ l. (length d * n) ∷ l) (go cells)
+    go (d ∷ cells) = ap (λ k. k ∷ map length (map (λ d. replicate (length d * n) none) cells)) (length-replicate (length d * n) none)
+        ∙ ap (λ l. (length d * n) ∷ l) (go cells)
 
 -- the loop from the first cell on: k rows are filled
 
@@ -296,12 +310,14 @@ filled_first b (v ∷ cells) t t' some h is =
     )
 
 -- row k of those that are filled, counted from 1
-pub filled_row : (b : Body) (cells : List (List ℤ)) (k : ℕ) (t : List (List Hull)) → 1 ≤ k → FilledTo b cells k t → get_or t (k - 1) [] ≡ get_or (forward_rows b cells) (k - 1) []
+pub filled_row : (b : Body) (cells : List (List ℤ)) (k : ℕ) (t : List (List Hull)) → 1 ≤ k → FilledTo b cells k t →
+    get_or t (k - 1) [] ≡ get_or (forward_rows b cells) (k - 1) []
 filled_row b cells k t h f =
     let lt : k - 1 < k = omega (arith, h) in
     sym (get_or-take k t (k - 1) [] lt) ∙ ap (λ l. get_or l (k - 1) []) f.0 ∙ get_or-take k (forward_rows b cells) (k - 1) [] lt
 
-pub filled_stands : (b : Body) → IsTrue (is_automaton b) → (cells : List (List ℤ)) (k : ℕ) (t : List (List Hull)) → 1 ≤ k → k < length cells → FilledTo b cells k t →
+pub filled_stands : (b : Body) → IsTrue (is_automaton b) → (cells : List (List ℤ)) (k : ℕ) (t : List (List Hull)) → 1 ≤ k → k < length cells →
+    FilledTo b cells k t →
     RowStands b (get_or cells (k - 1) []) (get_or t (k - 1) [])
 filled_stands b rules cells k t h lt f =
     subst (RowStands b (get_or cells (k - 1) [])) (sym (filled_row b cells k t h f)) (rows_stand b rules [] cells (k - 1) (omega (arith, h, lt)))
@@ -321,7 +337,8 @@ filled_more b cells k t t' h lt f is =
     ap (λ r. next_row b (get_or cells (k - 1) []) r (get_or cells k [])) (filled_row b cells k t h f)
     ∙ ap (λ i. next_row b (get_or cells (k - 1) []) (get_or F (k - 1) []) (get_or cells i [])) (sym back)
     ∙ sym (row_on b [] cells (k - 1) (omega (arith, back, lt))) ∙ ap (λ i. get_or F i []) back in (
-      ap (λ i. take i t') more ∙ ap (take (suc k)) e ∙ take_set t k row (omega (arith, m, lt)) ∙ ap (λ r. r ++ row ∷ []) f.0 ∙ ap (λ r. take k F ++ r ∷ []) same
+      ap (λ i. take i t') more ∙ ap (take (suc k)) e ∙ take_set t k row (omega (arith, m, lt)) ∙ ap (λ r. r ++ row ∷ []) f.0
+          ∙ ap (λ r. take k F ++ r ∷ []) same
           ∙ sym (take_more F k [] (omega (arith, l, lt))),
       set_sized (length b.states) cells t t' k row lt e (length-next_row b _ _ (get_or cells k [])) f.1,
     )
@@ -354,7 +371,8 @@ filled_last b cells k t t' is_k some h is =
       omega (arith, is_k),
     )
 
-pub from_row : (b : Body) (cells : List (List ℤ)) (k : ℕ) (t : List (List Hull)) → FilledFrom b cells k t → get_or t (k - 1) [] ≡ get_or (backward_rows b cells) (k - 1) []
+pub from_row : (b : Body) (cells : List (List ℤ)) (k : ℕ) (t : List (List Hull)) → FilledFrom b cells k t →
+    get_or t (k - 1) [] ≡ get_or (backward_rows b cells) (k - 1) []
 from_row b cells k t f =
     let z : (k - 1) + 0 ≡ k - 1 = omega arith in
     ap (λ i. get_or t i []) (sym z) ∙ sym (get_or-drop (k - 1) t 0 []) ∙ ap (λ l. get_or l 0 []) f.0 ∙ get_or-drop (k - 1) (backward_rows b cells) 0 []
@@ -363,7 +381,8 @@ from_row b cells k t f =
 pub from_stands : (b : Body) → IsTrue (is_automaton b) → (cells : List (List ℤ)) (k : ℕ) (t : List (List Hull)) → FilledFrom b cells k t →
     RowStands b (get_or cells (k - 1) []) (get_or t (k - 1) [])
 from_stands b rules cells k t f =
-    subst (RowStands b (get_or cells (k - 1) [])) (sym (from_row b cells k t f)) (rows_back_stand b rules cells (k - 1) (let p = f.2 in let q = f.3 in omega (arith, p, q)))
+    subst (RowStands b (get_or cells (k - 1) [])) (sym (from_row b cells k t f))
+    (rows_back_stand b rules cells (k - 1) (let p = f.2 in let q = f.3 in omega (arith, p, q)))
 
 pub from_stands_at : (b : Body) → IsTrue (is_automaton b) → (cells : List (List ℤ)) (k i : ℕ) (t : List (List Hull)) → i ≡ k - 1 → FilledFrom b cells k t →
     RowStands b (get_or cells i []) (get_or t i [])
@@ -421,16 +440,19 @@ no_backward b cells h = go (backward_rows b cells) (length-backward b cells ∙ 
 
 -- what is written into a table
 
-pub start_written : (b : Body) (t : List (List Hull)) (k : ℕ) (row : List Hull) (d e : List ℤ) → IsRow k t → d ≡ e → length (row_at k t) ≡ length e * length b.states →
+pub start_written : (b : Body) (t : List (List Hull)) (k : ℕ) (row : List Hull) (d e : List ℤ) → IsRow k t → d ≡ e →
+    length (row_at k t) ≡ length e * length b.states →
     row ≡ row_of b [] d → with_written t (k - 1) row ≡ set t (k - 1) (row_of b [] e)
 start_written b t k row d e is_row same long is =
     let r : row ≡ row_of b [] e = is ∙ ap (row_of b []) same in
     let first = is_row.0 in let last = is_row.1 in
     row_written t (k - 1) row (omega (arith, first, last)) (ap length r ∙ length-row_of b [] e ∙ sym long) ∙ ap (set t (k - 1)) r
 
-pub on_written : (b : Body) (v : List (List Hull)) (k n : ℕ) (r a x x' : List Hull) (d e d' e' : List ℤ) → 1 ≤ k → k + 1 ≤ length v → place v (k - 1) + n ≡ place v k →
+pub on_written : (b : Body) (v : List (List Hull)) (k n : ℕ) (r a x x' : List Hull) (d e d' e' : List ℤ) → 1 ≤ k → k + 1 ≤ length v →
+    place v (k - 1) + n ≡ place v k →
     r ≡ slice_range (joined v) (place v (k - 1)) (place v (k + 1)) → a ≡ take n r → x ≡ drop n r → d ≡ e → d' ≡ e' →
-    length (row_at (k + 1) v) ≡ length e' * length b.states → x' ≡ next_row b d a d' → with_written v (k - 1) (a ++ x') ≡ set v k (next_row b e (row_at k v) e')
+    length (row_at (k + 1) v) ≡ length e' * length b.states → x' ≡ next_row b d a d' →
+    with_written v (k - 1) (a ++ x') ≡ set v k (next_row b e (row_at k v) e')
 on_written b v k n r a x x' d e d' e' first last wide is_r is_a is_x same same' long is =
     let before = row_before v k n r a first last wide is_r is_a in
     let s : x' ≡ next_row b e (row_at k v) e' =
@@ -438,7 +460,8 @@ on_written b v k n r a x x' d e d' e' first last wide is_r is_a is_x same same' 
     next_written v k n r a x x' first last wide is_r is_a is_x
     (ap length s ∙ length-next_row b e (row_at k v) e' ∙ sym long ∙ ap length (row_after_at v k n r x first last wide is_r is_x)) ∙ ap (set v k) s
 
-pub back_written : (b : Body) (v : List (List Hull)) (k n : ℕ) (r a a' x : List Hull) (d e d' e' : List ℤ) → 1 ≤ k → k + 1 ≤ length v → place v (k - 1) + n ≡ place v k →
+pub back_written : (b : Body) (v : List (List Hull)) (k n : ℕ) (r a a' x : List Hull) (d e d' e' : List ℤ) → 1 ≤ k → k + 1 ≤ length v →
+    place v (k - 1) + n ≡ place v k →
     r ≡ slice_range (joined v) (place v (k - 1)) (place v (k + 1)) → a ≡ take n r → x ≡ drop n r → d ≡ e → d' ≡ e' →
     length (row_at k v) ≡ length e' * length b.states → a' ≡ next_row b d x d' →
     with_written v (k - 1) (a' ++ x) ≡ set v (k - 1) (next_row b e (row_at (k + 1) v) e')
@@ -446,16 +469,19 @@ back_written b v k n r a a' x d e d' e' first last wide is_r is_a is_x same same
     let before = row_before v k n r a first last wide is_r is_a in
     let after = row_after v k n r x first last wide is_r is_x in
     let s : a' ≡ next_row b e (row_at (k + 1) v) e' =
-    is ∙ ap (λ z. next_row b z x d') same ∙ ap (λ z. next_row b e z d') (sym (row_after_at v k n r x first last wide is_r is_x)) ∙ ap (next_row b e (row_at (k + 1) v)) same' in
+    is ∙ ap (λ z. next_row b z x d') same ∙ ap (λ z. next_row b e z d') (sym (row_after_at v k n r x first last wide is_r is_x))
+    ∙ ap (next_row b e (row_at (k + 1) v)) same' in
     let t = set v (k - 1) a' in
     let stays : get_or t k [] ≡ x = get_or-set_other v (k - 1) k a' [] (λ p. absurd (omega (arith, first, p))) ∙ after in
     both_written v k n r a x a' x first last wide is_r is_a is_x (ap length s ∙ length-next_row b e (row_at (k + 1) v) e' ∙ sym long ∙ ap length before) refl
     ∙ ap (set t k) (sym stays) ∙ set-get_or t k [] ∙ ap (set v (k - 1)) s
 
 -- what a row asks of the rows that were lent
-pub before_size : (b : Body) (v : List (List Hull)) (k : ℕ) (a : List Hull) (d e : List ℤ) → row_at k v ≡ a → d ≡ e → length (row_at k v) ≡ length e * length b.states →
+pub before_size : (b : Body) (v : List (List Hull)) (k : ℕ) (a : List Hull) (d e : List ℤ) → row_at k v ≡ a → d ≡ e →
+    length (row_at k v) ≡ length e * length b.states →
     length a ≡ length d * length b.states
 before_size b v k a d e is same long = sym (ap length is) ∙ long ∙ ap (λ z. length z * length b.states) (sym same)
 
-pub before_stands : (b : Body) (v : List (List Hull)) (k : ℕ) (a : List Hull) (d e : List ℤ) → row_at k v ≡ a → d ≡ e → RowStands b e (row_at k v) → RowStands b d a
+pub before_stands : (b : Body) (v : List (List Hull)) (k : ℕ) (a : List Hull) (d e : List ℤ) → row_at k v ≡ a → d ≡ e → RowStands b e (row_at k v) →
+    RowStands b d a
 before_stands b v k a d e is same h = subst (RowStands b d) is (subst (λ z. RowStands b z (row_at k v)) (sym same) h)

@@ -7,3 +7,9 @@ pub mod LendsRows
 pub mod TermSpans
 pub mod Laws
 pub mod Blocks
+pub mod Sealed
+pub mod Splits
+pub mod Cuts
+pub mod Smalls
+pub mod Packs
+pub mod Sweeps

@@ -1,9 +1,9 @@
 //! The spans of one value of a cell, from its hulls.
 
-ghost use Rattle.std.specs.Prelude.{◌≡◌, ◌<◌, fold, length};
+ghost use Rattle.std.specs.Prelude.{◌≡◌, fold, length};
 ghost use Rattle.ts_automaton.specs.SpanRun.{HullStands, hull_standing};
 ghost use Rattle.ts_base.specs.Limits.{IsCellValue};
-ghost use Rattle.ts_base.specs.Spans.{none_span, span_hull};
+ghost use Rattle.ts_base.specs.Spans.{span_hull};
 ghost use Rattle.ts_bound.specs.Blocks.{HullsStand, OfReverse, finishes, glued_all, glued_with};
 ghost use Rattle.ts_bound.specs.TermSpans.{span_of_all};
 ghost use Rattle.ts_glue.specs.Machines.{forward_of, pair_of};

@@ -1,9 +1,8 @@
 //! One row of hulls from the row before, over all pairs of neighbouring values.
 
-ghost use Rattle.std.specs.Prelude.{◌≡◌, ℕ, ◌+◌, ◌*◌, ◌<◌, ◌≤◌, [], ◌∷◌, length, fold, slice_range};
+ghost use Rattle.std.specs.Prelude.{◌≡◌, ◌+◌, ◌*◌, ◌≤◌, length, fold, slice_range};
 ghost use Rattle.std.specs.List.{AllByRecursion};
 ghost use Rattle.std.proofs.Common.{replicate};
-ghost use Rattle.ts_automaton.specs.Registers.{spans_of};
 ghost use Rattle.ts_automaton.specs.SpanRun.{HullStands, hull_standing};
 ghost use Rattle.ts_bound.specs.Hulls.{hull_of_both, none};
 ghost use Rattle.ts_bound.specs.NextRow.{RowStands, next_hulls, next_row, sources, sources_from, standing_at};
@@ -12,10 +11,8 @@ ghost use Rattle.ts_bound.specs.Filling.{over, taken_in};
 use ts_automaton::{Automaton, Hull, HullAt};
 use ts_domain::Domain;
 
-/// One row from the row before it: for each value of the cell and each state the hull of the moves of all values of the
-/// cell before and all states. Both rows have a hull for each value and state, value by value in rising order, and the
-/// hulls of `before` are none or have the kinds of their states. It takes no memory.
-pub fn fill_row(
+/// One row from the row before it, over all pairs of neighbouring values.
+pub(crate) fn fill_by_pairs(
     a: &Automaton,
     before_values: &Domain,
     before: &[Hull],
@@ -97,7 +94,7 @@ fn take_in(a: &Automaton, from: HullAt, earlier: i64, value: i64, next: &mut [Hu
 
 /// The hull of two, register by register.
 #[tactic(auto, unfolding(crate::specs::Hulls::hull_of_both))]
-fn hull_of_both(first: &Hull, second: &Hull) -> Hull
+pub(crate) fn hull_of_both(first: &Hull, second: &Hull) -> Hull
     ensures { result ≡ hull_of_both first.now second.now }
 {
     Hull {

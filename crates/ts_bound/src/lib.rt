@@ -15,12 +15,23 @@
 mod block;
 mod fill;
 pub mod laws;
+mod packed;
+mod packed_exprs;
+mod row;
 mod spans;
 mod start;
+mod sweep;
+mod sweep_equal;
+mod sweep_fronts;
+mod sweep_move;
+mod sweep_pairs;
+mod sweep_parts;
+mod sweep_run;
+mod sweep_values;
 mod table;
 mod tables;
 
-pub use fill::fill_row;
+pub use row::fill_row;
 pub use spans::{term_span, value_span};
 pub use table::HullTable;
 pub use tables::{backward, forward};

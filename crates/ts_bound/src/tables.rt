@@ -1,13 +1,13 @@
 //! The tables of a box.
 
-ghost use Rattle.std.specs.Prelude.{◌≡◌, ◌+◌, ◌*◌, ◌-◌, ◌<◌, ◌≤◌, IfOk, IfSome, IsSome, [], length, map, set};
+ghost use Rattle.std.specs.Prelude.{◌≡◌, ◌+◌, ◌*◌, ◌-◌, ◌<◌, ◌≤◌, IfOk, IfSome, IsSome, [], length, set};
 ghost use Rattle.ts_bound.specs.HullTables.{backward_rows, forward_rows, row_of};
 ghost use Rattle.ts_bound.specs.NextRow.{RowStands, next_row};
 ghost use Rattle.ts_bound.specs.Rows.{IsRow, row_at};
 ghost use Rattle.ts_domain.specs.BoxSeries.{IsCell, cell_of};
 ghost use Rattle.ts_glue.specs.Machines.{forward_of, pair_of, reverse_of};
 
-use crate::fill::fill_row;
+use crate::row::fill_row;
 use crate::start::fill_start;
 use crate::table::HullTable;
 use std::alloc::Global;
@@ -36,7 +36,7 @@ pub fn backward(alloc: Global, m: &Machine, cells: &Boxed) -> Result<HullTable, 
 }
 
 /// The rows from the first cell on.
-fn from_first(alloc: Global, a: &Automaton, cells: &Boxed) -> Result<HullTable, Memory>
+pub(crate) fn from_first(alloc: Global, a: &Automaton, cells: &Boxed) -> Result<HullTable, Memory>
     ensures { IfOk result (λ t. t ≡ forward_rows a.now cells.now.present) }
 {
     let mut table = HullTable::empty(alloc, cells, a.states())?;
@@ -52,7 +52,7 @@ fn from_first(alloc: Global, a: &Automaton, cells: &Boxed) -> Result<HullTable, 
 }
 
 /// The rows from the last cell back.
-fn from_last(alloc: Global, a: &Automaton, cells: &Boxed) -> Result<HullTable, Memory>
+pub(crate) fn from_last(alloc: Global, a: &Automaton, cells: &Boxed) -> Result<HullTable, Memory>
     ensures { IfOk result (λ t. t ≡ backward_rows a.now cells.now.present) }
 {
     let mut table = HullTable::empty(alloc, cells, a.states())?;

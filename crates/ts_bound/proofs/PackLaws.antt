@@ -1,0 +1,303 @@
+-- Packed numbers are ordered as what they stand for, and their sums, greatest and least stand for those.
+use Rattle.std.proofs.Common.{◌≡◌, ◌⊎◌, inl, inr, Bool, true, false, cond, not, ◌&&◌, IsTrue, ℤ, pos, ◌+ℤ◌, ◌≤ℤ◌, ◌<ℤ◌, int_le, refl, sym, ◌∙◌, ap, subst, arith}
+use Rattle.std.proofs.lemmas.Bool.{and_parts}
+use Rattle.std.proofs.lemmas.Int.{ints, clamps}
+use lib.IntN.{negsuc}
+use Rattle.ts_base.specs.declared.ext.Ext.{Ext}
+use Rattle.ts_base.specs.declared.ext.Ext.TheVariants.{NegInf, Int, PosInf}
+use Rattle.ts_base.specs.declared.span.Span.{Span}
+use Rattle.ts_base.specs.Numbers.{ext_le, ext_max, ext_min, ext_plus, clamp}
+use Rattle.ts_base.specs.Spans.{none_span, one_span, has_some}
+use Rattle.ts_base.proofs.Order.{le_antisym}
+use Rattle.ts_base.proofs.SpanLaws.{one_some}
+use Rattle.ts_automaton.specs.declared.expr.Op.{Op}
+use Rattle.ts_automaton.specs.declared.regs.Hull.{Hull}
+use Rattle.ts_automaton.specs.Registers.{ext_op}
+use Rattle.ts_automaton.specs.Body.{Move}
+use Rattle.ts_automaton.proofs.KindLaws.{op_mono}
+use Rattle.ts_bound.specs.declared.packed.End.{End}
+use Rattle.ts_bound.specs.declared.packed.Ends.{Ends}
+use Rattle.ts_bound.specs.declared.packed.Packed.{Packed}
+use Rattle.ts_bound.specs.Hulls.{none, hull_of_both}
+use Rattle.ts_bound.specs.Packs.{unpack, span_from, unpack_span, unpack_hull, IsPackOf, IsRunning}
+use Rattle.ts_bound.specs.Sealed.{least_span, lifted, span_in, hull_with, some_hull, after_move}
+use Rattle.ts_bound.specs.Splits.{front_span, closed_span}
+use Rattle.ts_bound.specs.Cuts.{Cut, front_hull, closed_hull}
+use Rattle.ts_bound.specs.Smalls.{small_int}
+use Rattle.ts_bound.proofs.HullLaws.{same_hull, none_takes_none}
+use Rattle.ts_bound.proofs.SpanHulls.{both_is, both_some, hull_both, hull_first, lifted_both, lifted_some}
+use Rattle.ts_bound.proofs.Sums.{none_left}
+use Rattle.ts_bound.proofs.SplitLaws.{after_is}
+
+abbrev pub end : ℤ → End
+end z = record { at = z }
+
+unpack_low : (x : End) → int_le x.at (negsuc 9223372036854775807) ≡ true → unpack x ≡ NegInf
+unfolding unpack
+unpack_low x h = ap (λ b. cond b NegInf (cond (int_le (pos 9223372036854775807) x.at) PosInf (Int x.at))) h
+
+unpack_high : (x : End) → int_le x.at (negsuc 9223372036854775807) ≡ false → int_le (pos 9223372036854775807) x.at ≡ true → unpack x ≡ PosInf
+unfolding unpack
+unpack_high x h k = ap (λ b. cond b NegInf (cond (int_le (pos 9223372036854775807) x.at) PosInf (Int x.at))) h ∙ ap (λ b. cond b PosInf (Int x.at)) k
+
+pub unpack_between : (x : End) → int_le x.at (negsuc 9223372036854775807) ≡ false → int_le (pos 9223372036854775807) x.at ≡ false → unpack x ≡ Int x.at
+unfolding unpack
+unpack_between x h k = ap (λ b. cond b NegInf (cond (int_le (pos 9223372036854775807) x.at) PosInf (Int x.at))) h ∙ ap (λ b. cond b PosInf (Int x.at)) k
+
+pub unpack_small : (x : End) → small_int x.at ≡ true → unpack x ≡ Int x.at
+unpack_small x h = unpack_between x (grind (arith, ints)) (grind (arith, ints))
+
+-- order
+pub unpack_mono : (x y : End) → int_le x.at y.at ≡ true → IsTrue (ext_le (unpack x) (unpack y))
+unfolding unpack
+unpack_mono x y h = grind (arith, ints)
+
+mono : (x y : End) → x.at ≤ℤ y.at → ext_le (unpack x) (unpack y) ≡ true
+mono x y h = unpack_mono x y (grind (arith, ints))
+
+pub max_then : (x y : End) → x.at ≤ℤ y.at → unpack y ≡ ext_max (unpack x) (unpack y)
+max_then x y h = sym (ap (λ b. cond b (unpack y) (unpack x)) (mono x y h))
+
+pub max_else : (x y : End) → y.at ≤ℤ x.at → unpack x ≡ ext_max (unpack x) (unpack y)
+max_else x y h = go (ext_le (unpack x) (unpack y)) refl
+  where
+    go : (b : Bool) → ext_le (unpack x) (unpack y) ≡ b → unpack x ≡ cond b (unpack y) (unpack x)
+    go true e = le_antisym (unpack x) (unpack y) e (mono y x h)
+    go false e = refl
+
+pub min_then : (x y : End) → x.at ≤ℤ y.at → unpack x ≡ ext_min (unpack x) (unpack y)
+min_then x y h = sym (ap (λ b. cond b (unpack x) (unpack y)) (mono x y h))
+
+pub min_else : (x y : End) → y.at ≤ℤ x.at → unpack y ≡ ext_min (unpack x) (unpack y)
+min_else x y h = go (ext_le (unpack x) (unpack y)) refl
+  where
+    go : (b : Bool) → ext_le (unpack x) (unpack y) ≡ b → unpack y ≡ cond b (unpack x) (unpack y)
+    go true e = le_antisym (unpack y) (unpack x) (mono y x h) e
+    go false e = refl
+
+-- sums
+
+is_low : (x : End) → x.at ≤ℤ negsuc 9223372036854775807 → unpack x ≡ NegInf
+is_low x h = unpack_low x (grind (arith, ints))
+
+is_high : (x : End) → pos 9223372036854775807 ≤ℤ x.at → unpack x ≡ PosInf
+is_high x h = unpack_high x (grind (arith, ints)) (grind (arith, ints))
+
+is_between : (x : End) → negsuc 9223372036854775807 <ℤ x.at → x.at <ℤ pos 9223372036854775807 → unpack x ≡ Int x.at
+is_between x h k = unpack_between x (grind (arith, ints)) (grind (arith, ints))
+
+low_right : (e : Ext) → ext_plus e NegInf ≡ NegInf
+low_right NegInf = refl
+low_right (Int x) = refl
+low_right PosInf = refl
+
+above_low : (x : End) → negsuc 9223372036854775807 <ℤ x.at → (unpack x ≡ PosInf) ⊎ (unpack x ≡ Int x.at)
+above_low x h = go (int_le (pos 9223372036854775807) x.at) refl
+  where
+    not_low : int_le x.at (negsuc 9223372036854775807) ≡ false
+    not_low = grind (arith, ints)
+
+    go : (b : Bool) → int_le (pos 9223372036854775807) x.at ≡ b → (unpack x ≡ PosInf) ⊎ (unpack x ≡ Int x.at)
+    go true e = inl (unpack_high x not_low e)
+    go false e = inr (unpack_between x not_low e)
+
+pub sum_low_left : (x y : End) → x.at ≤ℤ negsuc 9223372036854775807 → unpack (end (negsuc 9223372036854775807)) ≡ ext_plus (unpack x) (unpack y)
+unfolding unpack
+sum_low_left x y h = sym (ap (λ e. ext_plus e (unpack y)) (is_low x h))
+
+pub sum_low_right : (x y : End) → y.at ≤ℤ negsuc 9223372036854775807 → unpack (end (negsuc 9223372036854775807)) ≡ ext_plus (unpack x) (unpack y)
+unfolding unpack
+sum_low_right x y h = sym (ap (ext_plus (unpack x)) (is_low y h) ∙ low_right (unpack x))
+
+pub sum_high_left : (x y : End) → negsuc 9223372036854775807 <ℤ y.at → pos 9223372036854775807 ≤ℤ x.at →
+    unpack (end (pos 9223372036854775807)) ≡ ext_plus (unpack x) (unpack y)
+unfolding unpack
+sum_high_left x y h k = sym (ap (λ e. ext_plus e (unpack y)) (is_high x k) ∙ go (above_low y h))
+  where
+    go : (unpack y ≡ PosInf) ⊎ (unpack y ≡ Int y.at) → ext_plus PosInf (unpack y) ≡ PosInf
+    go (inl e) = ap (ext_plus PosInf) e
+    go (inr e) = ap (ext_plus PosInf) e
+
+pub sum_high_right : (x y : End) → negsuc 9223372036854775807 <ℤ x.at → pos 9223372036854775807 ≤ℤ y.at →
+    unpack (end (pos 9223372036854775807)) ≡ ext_plus (unpack x) (unpack y)
+unfolding unpack
+sum_high_right x y h k = sym (ap (ext_plus (unpack x)) (is_high y k) ∙ go (above_low x h))
+  where
+    go : (unpack x ≡ PosInf) ⊎ (unpack x ≡ Int x.at) → ext_plus (unpack x) PosInf ≡ PosInf
+    go (inl e) = ap (λ z. ext_plus z PosInf) e
+    go (inr e) = ap (λ z. ext_plus z PosInf) e
+
+held_between : (x : ℤ) → unpack (end (clamp x)) ≡ Int (clamp x)
+held_between x = is_between (end (clamp x)) (omega (arith, ints, clamps)) (omega (arith, ints, clamps))
+
+pub sum_between : (x y r : End) → negsuc 9223372036854775807 <ℤ x.at → negsuc 9223372036854775807 <ℤ y.at → x.at <ℤ pos 9223372036854775807 →
+    y.at <ℤ pos 9223372036854775807 → r.at ≡ clamp (x.at +ℤ y.at) →
+    unpack r ≡ ext_plus (unpack x) (unpack y)
+sum_between x y r a b c d e =
+    ap (λ z. unpack (end z)) e ∙ held_between (x.at +ℤ y.at)
+    ∙ sym (ap (λ z. ext_plus z (unpack y)) (is_between x a c) ∙ ap (ext_plus (Int x.at)) (is_between y b d))
+
+-- spans
+
+pub ends_lifted : (o p : Op) (a b : Ends) (lo hi : End) → o ≡ p → has_some (unpack_span a) ≡ true → has_some (unpack_span b) ≡ true →
+    unpack lo ≡ ext_op p (unpack a.lo) (unpack b.lo) → unpack hi ≡ ext_op p (unpack a.hi) (unpack b.hi) →
+    span_from (unpack lo) (unpack hi) ≡ lifted (ext_op o) (unpack_span a) (unpack_span b)
+ends_lifted o p a b lo hi is h k e f =
+    ap (λ z. span_from z (unpack hi)) e ∙ ap (span_from (ext_op p (unpack a.lo) (unpack b.lo))) f
+    ∙ sym (lifted_both (ext_op p) (unpack_span a) (unpack_span b) h k)
+    ∙ ap (λ z. lifted (ext_op z) (unpack_span a) (unpack_span b)) (sym is)
+
+pub ends_some : (p : Op) (a b : Ends) (lo hi : End) → has_some (unpack_span a) ≡ true → has_some (unpack_span b) ≡ true →
+    unpack lo ≡ ext_op p (unpack a.lo) (unpack b.lo) → unpack hi ≡ ext_op p (unpack a.hi) (unpack b.hi) → has_some (span_from (unpack lo) (unpack hi)) ≡ true
+ends_some p a b lo hi h k e f =
+    ap has_some (ends_lifted p p a b lo hi refl h k e f) ∙ lifted_some (ext_op p) (op_mono p) (unpack_span a) (unpack_span b) h k
+
+pub one_small : (x : ℤ) → small_int x ≡ true → span_from (unpack (end x)) (unpack (end x)) ≡ one_span (Int x)
+one_small x h = ap (λ e. span_from e e) (unpack_small (end x) h)
+
+pub one_small_some : (x : ℤ) → small_int x ≡ true → has_some (span_from (unpack (end x)) (unpack (end x))) ≡ true
+one_small_some x h = one_some (unpack (end x))
+
+-- what a test says, of a number as the code has it
+pub above : (x y b : ℤ) → y ≡ x → int_le y b ≡ false → b <ℤ x
+above x y b e h = let k : int_le x b ≡ false = ap (λ z. int_le z b) (sym e) ∙ h in grind (arith, ints)
+
+pub at_least : (x y b : ℤ) → y ≡ x → int_le b y ≡ true → b ≤ℤ x
+at_least x y b e h = let k : int_le b x ≡ true = ap (int_le b) (sym e) ∙ h in grind (arith, ints)
+
+pub below : (x y b : ℤ) → y ≡ x → int_le b y ≡ false → x <ℤ b
+below x y b e h = let k : int_le b x ≡ false = ap (int_le b) (sym e) ∙ h in grind (arith, ints)
+
+-- hulls
+
+pub hull_ends : (a b : Ends) (lo hi : End) → has_some (unpack_span a) ≡ true → has_some (unpack_span b) ≡ true →
+    unpack lo ≡ ext_min (unpack a.lo) (unpack b.lo) → unpack hi ≡ ext_max (unpack a.hi) (unpack b.hi) →
+    span_from (unpack lo) (unpack hi) ≡ least_span (unpack_span a) (unpack_span b)
+hull_ends a b lo hi h k e f =
+    ap (λ z. span_from z (unpack hi)) e ∙ ap (span_from (ext_min (unpack a.lo) (unpack b.lo))) f ∙ sym (hull_both (unpack_span a) (unpack_span b) h k)
+
+pub hull_ends_some : (a b : Ends) (lo hi : End) → has_some (unpack_span a) ≡ true → has_some (unpack_span b) ≡ true →
+    unpack lo ≡ ext_min (unpack a.lo) (unpack b.lo) → unpack hi ≡ ext_max (unpack a.hi) (unpack b.hi) →
+    has_some (span_from (unpack lo) (unpack hi)) ≡ true
+hull_ends_some a b lo hi h k e f =
+    ap has_some (ap (λ z. span_from z (unpack hi)) e ∙ ap (span_from (ext_min (unpack a.lo) (unpack b.lo))) f) ∙ both_some (unpack_span a) (unpack_span b) h
+
+-- moves
+
+pub packed_some : (c d r : Span) → has_some c ≡ true → has_some d ≡ true → has_some r ≡ true → some_hull (hull_with c d r) ≡ true
+packed_some c d r h k l = ap (λ v. (v && has_some d) && has_some r) h ∙ ap (λ v. v && has_some r) k ∙ l
+
+pub hull_some : (h : Hull) → some_hull h ≡ true → (has_some h.c ≡ true) × (has_some h.d ≡ true) × (has_some h.r ≡ true)
+hull_some h e =
+    let p = and_parts (has_some h.c && has_some h.d) (has_some h.r) e in
+    let q = and_parts (has_some h.c) (has_some h.d) p.0 in
+    (q.0, q.1, p.1)
+
+pub not_not : (b : Bool) → not (not b) ≡ b
+not_not true = refl
+not_not false = refl
+
+-- the hull of two
+pub both_packs : (h k : Hull) (c d r : Span) → c ≡ least_span h.c k.c → d ≡ least_span h.d k.d → r ≡ least_span h.r k.r → hull_with c d r ≡ hull_of_both h k
+both_packs h k c d r e f g = same_hull _ _ _ _ _ _ e f g ∙ sym (both_is h k)
+
+pub front_is : (k : Cut) (h : Hull) (x : ℤ) (c d r : Span) → some_hull h ≡ true → c ≡ front_span k.c h x → d ≡ front_span k.d h x →
+    r ≡ front_span k.r h x → hull_with c d r ≡ front_hull k h x
+unfolding front_hull
+front_is k h x c d r s e f g =
+    same_hull _ _ _ _ _ _ e f g ∙ sym (ap (λ v. cond v (hull_with (front_span k.c h x) (front_span k.d h x) (front_span k.r h x)) none) s)
+
+pub front_packs : (k : Cut) (h : Hull) (x : ℤ) (p : Packed) → some_hull h ≡ true → unpack_span p.c ≡ front_span k.c h x →
+    unpack_span p.d ≡ front_span k.d h x → unpack_span p.r ≡ front_span k.r h x →
+    has_some (unpack_span p.c) ≡ true → has_some (unpack_span p.d) ≡ true → has_some (unpack_span p.r) ≡ true → IsPackOf p (front_hull k h x)
+front_packs k h x p s e f g a b c =
+    let v = front_is k h x (unpack_span p.c) (unpack_span p.d) (unpack_span p.r) s e f g in
+    record { value = v; some = ap some_hull (sym v) ∙ packed_some (unpack_span p.c) (unpack_span p.d) (unpack_span p.r) a b c }
+
+pub closed_packs : (k : Cut) (h : Hull) (y : ℤ) (c d r : Span) → c ≡ closed_span k.c h.c y → d ≡ closed_span k.d h.d y → r ≡ closed_span k.r h.r y →
+    hull_with c d r ≡ closed_hull k h y
+unfolding closed_hull
+closed_packs k h y c d r e f g = same_hull _ _ _ _ _ _ e f g
+
+pub front_packs_at : (k : Cut) (h : Hull) (x x' : ℤ) (p : Packed) → x' ≡ x → some_hull h ≡ true →
+    unpack_span p.c ≡ front_span k.c h x' → unpack_span p.d ≡ front_span k.d h x' → unpack_span p.r ≡ front_span k.r h x' →
+    has_some (unpack_span p.c) ≡ true → has_some (unpack_span p.d) ≡ true → has_some (unpack_span p.r) ≡ true → IsPackOf p (front_hull k h x)
+front_packs_at k h x x' p is s e f g a b c = subst (λ (z : ℤ). IsPackOf p (front_hull k h z)) is (front_packs k h x' p s e f g a b c)
+
+pub closed_packs_at : (k : Cut) (h : Hull) (y y' : ℤ) (c d r : Span) → y' ≡ y → c ≡ closed_span k.c h.c y' → d ≡ closed_span k.d h.d y' →
+    r ≡ closed_span k.r h.r y' → hull_with c d r ≡ closed_hull k h y
+closed_packs_at k h y y' c d r is e f g = closed_packs k h y' c d r e f g ∙ ap (closed_hull k h) is
+
+pub front_of_packs : (k : Cut) (h u : Hull) (x x' : ℤ) (p : Packed) → u ≡ h → x' ≡ x → IsPackOf p (front_hull k u x') → IsPackOf p (front_hull k h x)
+front_of_packs k h u x x' p e f i = subst (λ (z : Hull). IsPackOf p (front_hull k z x)) e (subst (λ (z : ℤ). IsPackOf p (front_hull k u z)) f i)
+
+-- a running hull
+
+pub pack_some : (p : Packed) (h : Hull) → IsPackOf p h → some_hull (unpack_hull p) ≡ true
+pack_some p h i = ap some_hull i.value ∙ i.some
+
+pub running_some : (any : Bool) (p : Packed) (t : Hull) → IsRunning any p t → any ≡ true → some_hull (unpack_hull p) ≡ true
+running_some any p t i e = pack_some p t (i.begun e)
+
+some_canonical : (h : Hull) → some_hull h ≡ true → hull_of_both h none ≡ h
+some_canonical h e =
+    let s = hull_some h e in
+    both_is h none ∙ same_hull _ _ _ _ _ _ (hull_first h.c none_span s.0 refl) (hull_first h.d none_span s.1 refl) (hull_first h.r none_span s.2 refl)
+
+running_canonical : (any : Bool) (p : Packed) (t : Hull) → IsRunning any p t → hull_of_both t none ≡ t
+running_canonical true p t i = some_canonical t (i.begun refl).some
+running_canonical false p t i = subst (λ (z : Hull). hull_of_both z none ≡ z) (sym (i.empty refl)) none_takes_none
+
+-- a front more
+pub joined_first : (p : Packed) (t f : Hull) → t ≡ none → IsPackOf p f → IsPackOf p (hull_of_both t f)
+joined_first p t f e i =
+    let same : hull_of_both t f ≡ f = ap (λ z. hull_of_both z f) e ∙ none_left f (some_canonical f i.some) in
+    record { value = i.value ∙ sym same; some = ap some_hull same ∙ i.some }
+
+pub joined_next : (p r g : Packed) (t f : Hull) → IsPackOf p t → IsPackOf g f → unpack_hull r ≡ hull_of_both (unpack_hull p) (unpack_hull g) →
+    some_hull (unpack_hull r) ≡ true → IsPackOf r (hull_of_both t f)
+joined_next p r g t f i j e s =
+    let same : unpack_hull r ≡ hull_of_both t f = e ∙ ap (λ z. hull_of_both z (unpack_hull g)) i.value ∙ ap (hull_of_both t) j.value in
+    record { value = same; some = ap some_hull (sym same) ∙ s }
+
+pub runs_on : (p : Packed) (h : Hull) → IsPackOf p h → IsRunning true p h
+runs_on p h i = record { begun = λ e. i; empty = λ e. cc }
+
+-- a hull that is none gives nothing
+pub front_none : (k : Cut) (h : Hull) (x : ℤ) → some_hull h ≡ false → front_hull k h x ≡ none
+unfolding front_hull
+front_none k h x e = ap (λ v. cond v (hull_with (front_span k.c h x) (front_span k.d h x) (front_span k.r h x)) none) e
+
+pub runs_past : (any : Bool) (p : Packed) (t f : Hull) → f ≡ none → IsRunning any p t → IsRunning any p (hull_of_both t f)
+runs_past any p t f e i =
+    subst (λ (z : Hull). IsRunning any p z) (sym (ap (hull_of_both t) e ∙ running_canonical any p t i)) i
+
+-- a move on one pair of values
+
+pub moved_packs : (m : Move) (h : Hull) (x y : ℤ) (p : Packed) → some_hull h ≡ true → unpack_span p.c ≡ span_in m.to.c h x y →
+    unpack_span p.d ≡ span_in m.to.d h x y → unpack_span p.r ≡ span_in m.to.r h x y →
+    has_some (unpack_span p.c) ≡ true → has_some (unpack_span p.d) ≡ true → has_some (unpack_span p.r) ≡ true → IsPackOf p (after_move m h x y)
+moved_packs m h x y p s e f g a b c =
+    let v = same_hull _ _ _ _ _ _ e f g ∙ sym (after_is m h x y true s) in
+    record { value = v; some = ap some_hull (sym v) ∙ packed_some (unpack_span p.c) (unpack_span p.d) (unpack_span p.r) a b c }
+
+pub moved_packs_at : (m : Move) (h : Hull) (x x' y y' : ℤ) (p : Packed) → x' ≡ x → y' ≡ y → some_hull h ≡ true →
+    unpack_span p.c ≡ span_in m.to.c h x' y' → unpack_span p.d ≡ span_in m.to.d h x' y' → unpack_span p.r ≡ span_in m.to.r h x' y' →
+    has_some (unpack_span p.c) ≡ true → has_some (unpack_span p.d) ≡ true → has_some (unpack_span p.r) ≡ true → IsPackOf p (after_move m h x y)
+moved_packs_at m h x x' y y' p is js s e f g a b c =
+    subst (λ (z : ℤ). IsPackOf p (after_move m h z y)) is (subst (λ (z : ℤ). IsPackOf p (after_move m h x' z)) js (moved_packs m h x' y' p s e f g a b c))
+
+pub moved_of_packs : (m : Move) (h u : Hull) (x x' y y' : ℤ) (p : Packed) → u ≡ h → x' ≡ x → y' ≡ y → IsPackOf p (after_move m u x' y') →
+    IsPackOf p (after_move m h x y)
+moved_of_packs m h u x x' y y' p e f g i =
+    subst (λ (z : Hull). IsPackOf p (after_move m z x y)) e (subst (λ (z : ℤ). IsPackOf p (after_move m u z y)) f
+    (subst (λ (z : ℤ). IsPackOf p (after_move m u x' z)) g i))
+
+pub moved_none : (m : Move) (h : Hull) (x y : ℤ) → some_hull h ≡ false → after_move m h x y ≡ none
+moved_none m h x y e = after_is m h x y false e
+
+pub runs_empty : (p : Packed) (t : Hull) → t ≡ none → IsRunning false p t
+runs_empty p t e = record { begun = λ f. cc; empty = λ f. e }
+
+pub runs_as : (any : Bool) (p : Packed) (t u : Hull) → t ≡ u → IsRunning any p t → IsRunning any p u
+runs_as any p t u e i = subst (λ (z : Hull). IsRunning any p z) e i

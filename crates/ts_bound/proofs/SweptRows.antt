@@ -1,0 +1,426 @@
+-- The row that sweeps make is the row over all pairs.
+use Rattle.std.proofs.Common.{◌≡◌, ℕ, zero, suc, ◌+◌, ◌*◌, ◌<◌, ◌≤◌, ◌⊎◌, inl, inr, Bool, true, false, cond, nat_eq, ℤ, pos, List, [], ◌∷◌, ◌++◌, length, map, take, drop, get_or, set, replicate, refl, sym, ◌∙◌, ap, subst, arith}
+use Rattle.std.specs.Prelude.{IsTrue, fold, flat_map}
+use Rattle.std.specs.List.{range_with_len, list_all}
+use Rattle.std.proofs.lemmas.Bool.{and_parts, eqb-true, eqb-false}
+use Rattle.std.proofs.lemmas.List.{get_or-set_other, get_or-set_same, get_or-take, get_or-drop, get_or_append_left, get_or-replicate, length-replicate, take-append-drop, length-take-le, length-drop, length-set, map-append, get_or_past}
+use Rattle.std.proofs.lemmas.List.FromFn.{fill_by_all}
+use Rattle.std.proofs.Math.Nat.{mul-le-mul_right}
+use Rattle.ts_base.specs.declared.letter.Letter.{Letter}
+use Rattle.ts_base.specs.declared.letter.Letter.TheVariants.{Less, Equal, Greater}
+use Rattle.ts_base.specs.Signature.{letter_of}
+use Rattle.ts_automaton.specs.declared.regs.Hull.{Hull}
+use Rattle.ts_automaton.specs.Body.{Body, Move}
+use Rattle.ts_automaton.specs.Typing.{is_automaton}
+use Rattle.ts_automaton.proofs.Rules.{rules_of, target_exists}
+use Rattle.ts_bound.specs.Hulls.{none, hull_of_both}
+use Rattle.ts_bound.specs.Filling.{over}
+use Rattle.ts_bound.specs.NextRow.{Source, sources_from, sources, given, next_hull, next_hulls, next_row}
+use Rattle.ts_bound.specs.Sealed.{after_move, move_at}
+use Rattle.ts_bound.specs.Smalls.{AreValues, small_hull}
+use Rattle.ts_bound.specs.Sweeps.{AllTakeNone, IsSweepable, total, same_letter, hull_in, pair_gives, move_entry, step_place, puts, with_move, with_state, with_states}
+use Rattle.ts_bound.proofs.HullLaws.{TakesNone, both_takes_none, none_takes_none}
+use Rattle.ts_bound.proofs.SpanHulls.{both_comm, both_assoc}
+use Rattle.ts_bound.proofs.Sums.{none_left, total_same, total_canonical, total_join, total_swap, total_canon, total_cond, total_first, fold_out, fold_both}
+use Rattle.ts_bound.proofs.SweepLaws.{with_move_canonical}
+
+-- places
+
+place_row : (s j k t r : ℕ) → t < s → r < s → j * s + t ≡ k * s + r → j ≡ k
+place_row s j k t r a b e = go (three j k)
+  where
+    three : (j k : ℕ) → (j < k) ⊎ ((j ≡ k) ⊎ (k < j))
+    three j k = grind arith
+
+    apart : (j k t r : ℕ) → t < s → j < k → j * s + t ≡ k * s + r → ⊥
+    apart j k t r a lt e = let m : suc j * s ≤ k * s = mul-le-mul_right s lt in let w : suc j * s ≡ j * s + s = omega arith in omega arith
+
+    go : (j < k) ⊎ ((j ≡ k) ⊎ (k < j)) → j ≡ k
+    go (inl h) = absurd (apart j k t r a h e)
+    go (inr (inl h)) = h
+    go (inr (inr h)) = absurd (apart k j r t b h (sym e))
+
+place_state : (s j t r : ℕ) → j * s + t ≡ j * s + r → t ≡ r
+place_state s j t r e = omega arith
+
+pub place_inside : (s n j t : ℕ) → j < n → t < s → j * s + t < n * s
+place_inside s n j t lt h = let m : suc j * s ≤ n * s = mul-le-mul_right s lt in let w : suc j * s ≡ j * s + s = omega arith in omega arith
+
+length-puts : (s r : ℕ) (order : ℕ → ℕ) (f : ℕ → Hull) (next : List Hull) (n : ℕ) → length (puts s r order f next n) ≡ length next
+unfolding puts
+length-puts s r order f next zero = refl
+length-puts s r order f next (suc n) = length-set (puts s r order f next n) (order n * s + r) _ ∙ length-puts s r order f next n
+
+-- a place that no step takes stays
+puts_other : (s r : ℕ) (order : ℕ → ℕ) (f : ℕ → Hull) (next : List Hull) (n j t : ℕ) → t < s → r < s → ((i : ℕ) → i < n → order i ≡ j → ⊥) →
+    get_or (puts s r order f next n) (j * s + t) none ≡ get_or next (j * s + t) none
+unfolding puts
+puts_other s r order f next zero j t a b h = refl
+puts_other s r order f next (suc n) j t a b h =
+    get_or-set_other (puts s r order f next n) (order n * s + r) (j * s + t) _ none (λ e. h n (omega arith) (sym (place_row s j (order n) t r a b e)))
+    ∙ puts_other s r order f next n j t a b (λ i lt. h i (omega arith))
+
+-- a place that step k takes
+puts_here : (s r : ℕ) (order : ℕ → ℕ) (f : ℕ → Hull) (next : List Hull) (n k j t : ℕ) → t < s → r < s → j * s + t < length next → k < n →
+    order k ≡ j → ((i : ℕ) → i < n → order i ≡ j → i ≡ k) →
+    get_or (puts s r order f next n) (j * s + t) none ≡ cond (nat_eq r t) (hull_of_both (get_or next (j * s + t) none) (f j)) (get_or next (j * s + t) none)
+unfolding puts
+puts_here s r order f next zero k j t a b c d e h = absurd (omega arith)
+puts_here s r order f next (suc n) k j t a b c d e h = go (puts_here s r order f next n k j t a b c) (last k n d)
+  where
+    last : (k n : ℕ) → k < suc n → (k ≡ n) ⊎ (k < n)
+    last k n d = grind arith
+
+    here : k ≡ n → (b : Bool) → nat_eq r t ≡ b →
+        get_or (set (puts s r order f next n) (order n * s + r)
+        (hull_of_both (get_or (puts s r order f next n) (order n * s + r) none) (f (order n)))) (j * s + t) none
+        ≡ cond b (hull_of_both (get_or next (j * s + t) none) (f j)) (get_or next (j * s + t) none)
+    here same true is =
+        let t_is : r ≡ t = eqb-true r t is in
+        let j_is : order n ≡ j = ap order (sym same) ∙ e in
+        let p_is : order n * s + r ≡ j * s + t = ap (λ z. z * s + r) j_is ∙ ap (λ z. j * s + z) t_is in
+        let long = length-puts s r order f next n in
+        ap (λ p. get_or (set (puts s r order f next n) p (hull_of_both (get_or (puts s r order f next n) p none) (f (order n)))) (j * s + t) none) p_is
+        ∙ get_or-set_same (puts s r order f next n) (j * s + t) _ none (omega arith)
+        ∙ ap (λ z. hull_of_both z (f (order n))) (puts_other s r order f next n j t a b (λ i l q. (let z : i ≡ k = h i (omega arith) q in omega arith)))
+        ∙ ap (λ z. hull_of_both (get_or next (j * s + t) none) (f z)) j_is
+    here same false is =
+        let j_is : order n ≡ j = ap order (sym same) ∙ e in
+        get_or-set_other (puts s r order f next n) (order n * s + r) (j * s + t) _ none
+        (λ p. eqb-false r t is (sym (place_state s j t r (p ∙ ap (λ z. z * s + r) j_is))))
+        ∙ puts_other s r order f next n j t a b (λ i l q. (let z : i ≡ k = h i (omega arith) q in omega arith))
+
+    go : (k < n → order k ≡ j → ((i : ℕ) → i < n → order i ≡ j → i ≡ k) →
+        get_or (puts s r order f next n) (j * s + t) none ≡ cond (nat_eq r t) (hull_of_both (get_or next (j * s + t) none) (f j))
+        (get_or next (j * s + t) none)) →
+        (k ≡ n) ⊎ (k < n) →
+        get_or (set (puts s r order f next n) (order n * s + r)
+        (hull_of_both (get_or (puts s r order f next n) (order n * s + r) none) (f (order n)))) (j * s + t) none
+        ≡ cond (nat_eq r t) (hull_of_both (get_or next (j * s + t) none) (f j)) (get_or next (j * s + t) none)
+    go again (inl same) = here same (nat_eq r t) refl
+    go again (inr lt) =
+        get_or-set_other (puts s r order f next n) (order n * s + r) (j * s + t) _ none
+        (λ p. (let z : n ≡ k = h n (omega arith) (sym (place_row s j (order n) t r a b p)) in omega arith))
+        ∙ again lt e (λ i l. h i (omega arith))
+
+-- the order of a letter takes each place once
+
+place_place : (l : Letter) (n j : ℕ) → j < n → step_place l n (step_place l n j) ≡ j
+place_place Less n j h = refl
+place_place Equal n j h = refl
+place_place Greater n j h = omega arith
+
+pub place_below : (l : Letter) (n j : ℕ) → j < n → step_place l n j < n
+place_below Less n j h = h
+place_below Equal n j h = h
+place_below Greater n j h = omega arith
+
+place_once : (l : Letter) (n j i : ℕ) → j < n → i < n → step_place l n i ≡ j → i ≡ step_place l n j
+place_once Less n j i h k e = e
+place_once Equal n j i h k e = e
+place_once Greater n j i h k e = omega arith
+
+length-with_move : (m : Move) (l : Letter) (s q : ℕ) (vs : List ℤ) (row : List Hull) (ws : List ℤ) (next : List Hull) →
+    length (with_move m l s q vs row ws next) ≡ length next
+unfolding with_move
+length-with_move m l s q vs row ws next = length-puts s m.next (step_place l (length ws)) _ next (length ws)
+
+chosen : (b : Bool) (x e : Hull) → TakesNone x → cond b (hull_of_both x e) x ≡ hull_of_both x (cond b e none)
+chosen true x e c = refl
+chosen false x e c = sym c
+
+-- what a move gives to state t of the next value at place j
+abbrev gift : Move → Letter → ℕ → ℕ → List ℤ → List Hull → ℤ → ℕ → Hull
+gift m l s q vs row w t = cond (nat_eq m.next t) (move_entry m l s q vs row w) none
+
+with_move_at : (m : Move) (l : Letter) (s q : ℕ) (vs : List ℤ) (row : List Hull) (ws : List ℤ) (next : List Hull) (j t : ℕ) → j < length ws → t < s →
+    m.next < s → length next ≡ length ws * s →
+    (x : Hull) → get_or next (j * s + t) none ≡ x → TakesNone x → get_or (with_move m l s q vs row ws next) (j * s + t) none ≡ hull_of_both x
+    (gift m l s q vs row (get_or ws j (pos 0)) t)
+unfolding with_move
+with_move_at m l s q vs row ws next j t lt a b long x is c =
+    let n = length ws in
+    let inside : j * s + t < length next = let p = place_inside s n j t lt a in omega arith in
+    let E = move_entry m l s q vs row (get_or ws j (pos 0)) in
+    puts_here s m.next (step_place l n) (λ i. move_entry m l s q vs row (get_or ws i (pos 0))) next n (step_place l n j) j t a b inside
+    (place_below l n j lt) (place_place l n j lt) (λ i h e. place_once l n j i lt h e)
+    ∙ ap (λ z. cond (nat_eq m.next t) (hull_of_both z E) z) is
+    ∙ chosen (nat_eq m.next t) x E c
+
+-- all moves of a state
+abbrev gifts : Body → List ℤ → List Hull → ℤ → ℕ → ℕ → Hull
+gifts a vs row w t q =
+    hull_of_both (hull_of_both (gift (move_at a q Less) Less (length a.states) q vs row w t) (gift (move_at a q Equal) Equal (length a.states) q vs row w t))
+    (gift (move_at a q Greater) Greater (length a.states) q vs row w t)
+
+-- the moves of state q lead to states
+abbrev pub LeadsFrom : Body → ℕ → Type 0
+LeadsFrom a q = (l : Letter) → (move_at a q l).next < length a.states
+
+with_state_at : (a : Body) (vs : List ℤ) (row : List Hull) (ws : List ℤ) (q : ℕ) (next : List Hull) (j t : ℕ) → j < length ws → t < length a.states →
+    LeadsFrom a q → length next ≡ length ws * length a.states →
+    (x : Hull) → get_or next (j * length a.states + t) none ≡ x → TakesNone x →
+    get_or (with_state a vs row ws q next) (j * length a.states + t) none ≡ hull_of_both x (gifts a vs row (get_or ws j (pos 0)) t q)
+unfolding with_state
+with_state_at a vs row ws q next j t lt b leads long x is c =
+    let s = length a.states in
+    let w = get_or ws j (pos 0) in
+    let g = λ (l : Letter). gift (move_at a q l) l s q vs row w t in
+    let n1 = with_move (move_at a q Less) Less s q vs row ws next in
+    let n2 = with_move (move_at a q Equal) Equal s q vs row ws n1 in
+    let l1 : length n1 ≡ length ws * s = length-with_move (move_at a q Less) Less s q vs row ws next ∙ long in
+    let l2 : length n2 ≡ length ws * s = length-with_move (move_at a q Equal) Equal s q vs row ws n1 ∙ l1 in
+    let e1 = with_move_at (move_at a q Less) Less s q vs row ws next j t lt b (leads Less) long x is c in
+    let e2 = with_move_at (move_at a q Equal) Equal s q vs row ws n1 j t lt b (leads Equal) l1 (hull_of_both x (g Less)) e1 (both_takes_none x (g Less)) in
+    with_move_at (move_at a q Greater) Greater s q vs row ws n2 j t lt b (leads Greater) l2 (hull_of_both (hull_of_both x (g Less)) (g Equal)) e2
+    (both_takes_none (hull_of_both x (g Less)) (g Equal))
+    ∙ ap (λ z. hull_of_both z (g Greater)) (both_assoc x (g Less) (g Equal))
+    ∙ both_assoc x (hull_of_both (g Less) (g Equal)) (g Greater)
+
+length-with_state : (a : Body) (vs : List ℤ) (row : List Hull) (ws : List ℤ) (q : ℕ) (next : List Hull) → length (with_state a vs row ws q next) ≡ length next
+unfolding with_state
+length-with_state a vs row ws q next =
+    let s = length a.states in
+    let n1 = with_move (move_at a q Less) Less s q vs row ws next in
+    let n2 = with_move (move_at a q Equal) Equal s q vs row ws n1 in
+    length-with_move (move_at a q Greater) Greater s q vs row ws n2 ∙ length-with_move (move_at a q Equal) Equal s q vs row ws n1
+    ∙ length-with_move (move_at a q Less) Less s q vs row ws next
+
+pub length-with_states : (a : Body) (vs : List ℤ) (row : List Hull) (ws : List ℤ) (n : ℕ) (next : List Hull) →
+    length (with_states a vs row ws n next) ≡ length next
+unfolding with_states
+length-with_states a vs row ws zero next = refl
+length-with_states a vs row ws (suc n) next = length-with_state a vs row ws n (with_states a vs row ws n next) ∙ length-with_states a vs row ws n next
+
+with_states_at : (a : Body) (vs : List ℤ) (row : List Hull) (ws : List ℤ) (n : ℕ) (next : List Hull) (j t : ℕ) → j < length ws → t < length a.states →
+    ((q : ℕ) → q < n → LeadsFrom a q) → length next ≡ length ws * length a.states →
+    get_or next (j * length a.states + t) none ≡ none → get_or (with_states a vs row ws n next) (j * length a.states + t) none ≡ total n
+    (λ q. gifts a vs row (get_or ws j (pos 0)) t q)
+unfolding with_states total
+with_states_at a vs row ws zero next j t lt b leads long is = is
+with_states_at a vs row ws (suc n) next j t lt b leads long is =
+    with_state_at a vs row ws n (with_states a vs row ws n next) j t lt b (leads n (omega arith)) (length-with_states a vs row ws n next ∙ long)
+    (total n (λ q. gifts a vs row (get_or ws j (pos 0)) t q))
+    (with_states_at a vs row ws n next j t lt b (λ q h. leads q (omega arith)) long is) (total_canonical n (λ q. gifts a vs row (get_or ws j (pos 0)) t q))
+
+-- one pair of values has one letter
+
+pub cond_none : (b : Bool) → cond b none none ≡ none
+cond_none true = refl
+cond_none false = refl
+
+three_letters : (l : Letter) (b : Letter → Bool) (g : Letter → Hull) →
+    hull_of_both (hull_of_both (cond (b Less) (cond (same_letter l Less) (g Less) none) none)
+    (cond (b Equal) (cond (same_letter l Equal) (g Equal) none) none))
+    (cond (b Greater) (cond (same_letter l Greater) (g Greater) none) none)
+    ≡ hull_of_both (cond (b l) (g l) none) none
+three_letters Less b g =
+    let x = cond (b Less) (g Less) none in
+    ap (λ z. hull_of_both (hull_of_both x z) (cond (b Greater) none none)) (cond_none (b Equal))
+    ∙ ap (hull_of_both (hull_of_both x none)) (cond_none (b Greater)) ∙ both_takes_none x none
+three_letters Equal b g =
+    let x = cond (b Equal) (g Equal) none in
+    ap (λ z. hull_of_both (hull_of_both z x) (cond (b Greater) none none)) (cond_none (b Less))
+    ∙ ap (hull_of_both (hull_of_both none x)) (cond_none (b Greater)) ∙ both_takes_none none x
+    ∙ both_comm none x
+three_letters Greater b g =
+    let x = cond (b Greater) (g Greater) none in
+    ap (λ z. hull_of_both (hull_of_both z (cond (b Equal) none none)) x) (cond_none (b Less))
+    ∙ ap (λ z. hull_of_both (hull_of_both none z) x) (cond_none (b Equal)) ∙ ap (λ z. hull_of_both z x) none_takes_none
+    ∙ both_comm none x
+
+-- what the hull at place i, state q gives to state t of the next value w
+abbrev given_at : Body → List ℤ → List Hull → ℤ → ℕ → ℕ → ℕ → Hull
+given_at a vs row w t i q =
+    cond (nat_eq (move_at a q (letter_of (get_or vs i (pos 0)) w)).next t)
+    (after_move (move_at a q (letter_of (get_or vs i (pos 0)) w)) (hull_in (length a.states) q row i) (get_or vs i (pos 0)) w) none
+
+gifts_are : (a : Body) (vs : List ℤ) (row : List Hull) (w : ℤ) (t q : ℕ) → gifts a vs row w t q ≡ total (length vs) (λ i. given_at a vs row w t i q)
+unfolding move_entry
+gifts_are a vs row w t q =
+    let n = length vs in
+    let s = length a.states in
+    let b = λ (l : Letter). nat_eq (move_at a q l).next t in
+    let p = λ (l : Letter) (i : ℕ). pair_gives (move_at a q l) l s q vs row w i in
+    let x = λ (l : Letter) (i : ℕ). cond (b l) (p l i) none in
+    ap (λ z. hull_of_both (hull_of_both z (cond (b Equal) (total n (p Equal)) none)) (cond (b Greater) (total n (p Greater)) none))
+    (sym (total_cond (b Less) n (p Less)))
+    ∙ ap (λ z. hull_of_both (hull_of_both (total n (x Less)) z) (cond (b Greater) (total n (p Greater)) none)) (sym (total_cond (b Equal) n (p Equal)))
+    ∙ ap (hull_of_both (hull_of_both (total n (x Less)) (total n (x Equal)))) (sym (total_cond (b Greater) n (p Greater)))
+    ∙ ap (λ z. hull_of_both z (total n (x Greater))) (sym (total_join n (x Less) (x Equal)))
+    ∙ sym (total_join n (λ i. hull_of_both (x Less i) (x Equal i)) (x Greater))
+    ∙ total_same n (λ i. hull_of_both (hull_of_both (x Less i) (x Equal i)) (x Greater i)) (λ i. hull_of_both (given_at a vs row w t i q) none)
+    (λ i h. three_letters (letter_of (get_or vs i (pos 0)) w) b (λ l. after_move (move_at a q l) (hull_in s q row i) (get_or vs i (pos 0)) w))
+    ∙ total_canon n (λ i. given_at a vs row w t i q)
+
+-- the list of all sources, by places
+
+sources_from_total : (G : Source → Hull) (v : ℤ) (p : ℕ) (hs : List Hull) → fold hull_of_both none (map G (sources_from v p hs)) ≡ total (length hs)
+    (λ i. G (record { value = v; state = p + i; hull = get_or hs i none }))
+unfolding sources_from total
+sources_from_total G v p [] = refl
+sources_from_total G v p (h ∷ hs) =
+    let x = G (record { value = v; state = p; hull = h }) in
+    let zero_is : p ≡ p + 0 = omega arith in
+    fold_out (map G (sources_from v (suc p) hs)) (hull_of_both none x) (both_takes_none none x)
+    ∙ ap (hull_of_both (hull_of_both none x)) (sources_from_total G v (suc p) hs)
+    ∙ ap (hull_of_both (hull_of_both none x))
+    (total_same (length hs) (λ i. G (record { value = v; state = suc p + i; hull = get_or hs i none }))
+    (λ i. G (record { value = v; state = p + suc i; hull = get_or hs i none }))
+    (λ i lt. ap (λ z. G (record { value = v; state = z; hull = get_or hs i none })) (let e : suc p + i ≡ p + suc i = omega arith in e)))
+    ∙ ap (λ z. hull_of_both (hull_of_both none (G (record { value = v; state = z; hull = h })))
+    (total (length hs) (λ i. G (record { value = v; state = p + suc i; hull = get_or hs i none })))) zero_is
+    ∙ sym (total_first (length hs) (λ i. G (record { value = v; state = p + i; hull = get_or (h ∷ hs) i none })))
+
+sources_total : (G : Source → Hull) (s : ℕ) (vs : List ℤ) (row : List Hull) → length row ≡ length vs * s →
+    fold hull_of_both none (map G (sources s vs row)) ≡ total (length vs)
+    (λ i. total s (λ q. G (record { value = get_or vs i (pos 0); state = q; hull = hull_in s q row i })))
+unfolding sources total
+sources_total G s [] row long = refl
+sources_total G s (v ∷ vs) row long =
+    let F : ℕ → Hull = λ i. total s (λ q. G (record { value = get_or (v ∷ vs) i (pos 0); state = q; hull = hull_in s q row i })) in
+    let enough : s ≤ length row = omega arith in
+    let left : length (drop s row) ≡ length vs * s = let d = length-drop s row in omega arith in
+    ap (fold hull_of_both none) (map-append G (sources_from v 0 (take s row)) (sources s vs (drop s row)))
+    ∙ fold_both (map G (sources_from v 0 (take s row))) (map G (sources s vs (drop s row)))
+    ∙ ap (λ z. hull_of_both z (fold hull_of_both none (map G (sources s vs (drop s row)))))
+    (sources_from_total G v 0 (take s row)
+    ∙ ap (λ n. total n (λ q. G (record { value = v; state = 0 + q; hull = get_or (take s row) q none }))) (length-take-le s row enough)
+    ∙ total_same s (λ q. G (record { value = v; state = 0 + q; hull = get_or (take s row) q none }))
+    (λ q. G (record { value = v; state = q; hull = hull_in s q row 0 }))
+    (λ q lt. ap (λ z. G (record { value = v; state = z; hull = get_or (take s row) q none })) (let e : 0 + q ≡ q = omega arith in e)
+    ∙ ap (λ z. G (record { value = v; state = q; hull = z }))
+    (get_or-take s row q none lt ∙ ap (λ n. get_or row n none) (let e : q ≡ 0 * s + q = omega arith in e))))
+    ∙ ap (hull_of_both (F 0)) (sources_total G s vs (drop s row) left
+    ∙ total_same (length vs) (λ i. total s (λ q. G (record { value = get_or vs i (pos 0); state = q; hull = hull_in s q (drop s row) i }))) (λ i. F (suc i))
+    (λ i lt. total_same s (λ q. G (record { value = get_or vs i (pos 0); state = q; hull = hull_in s q (drop s row) i }))
+    (λ q. G (record { value = get_or vs i (pos 0); state = q; hull = hull_in s q row (suc i) }))
+    (λ q h. ap (λ z. G (record { value = get_or vs i (pos 0); state = q; hull = z }))
+    (get_or-drop s row (i * s + q) none ∙ ap (λ n. get_or row n none) (let e : s + (i * s + q) ≡ suc i * s + q = omega arith in e)))))
+    ∙ ap (λ z. hull_of_both z (total (length vs) (λ i. F (suc i))))
+    (sym (none_left (F 0) (total_canonical s (λ q. G (record { value = v; state = q; hull = hull_in s q row 0 })))))
+    ∙ sym (total_first (length vs) F)
+
+-- one entry of the row
+entry_total : (a : Body) (vs : List ℤ) (row : List Hull) (w : ℤ) (t : ℕ) → length row ≡ length vs * length a.states →
+    total (length a.states) (λ q. gifts a vs row w t q) ≡ next_hull a (sources (length a.states) vs row) w t
+unfolding next_hull given after_move move_at
+entry_total a vs row w t long =
+    let n = length vs in
+    let s = length a.states in
+    total_same s (λ q. gifts a vs row w t q) (λ q. total n (λ i. given_at a vs row w t i q)) (λ q lt. gifts_are a vs row w t q)
+    ∙ total_swap s n (λ q i. given_at a vs row w t i q)
+    ∙ sym (sources_total (given a w t) s vs row long)
+
+-- a flat list by its places
+row_by_places : (s : ℕ) (g : ℤ → ℕ → Hull) (ws : List ℤ) (xs : List Hull) → length xs ≡ length ws * s →
+    ((j t : ℕ) → j < length ws → t < s → get_or xs (j * s + t) none ≡ g (get_or ws j (pos 0)) t) → xs ≡ flat_map (λ w. map (g w) (range_with_len 0 s)) ws
+row_by_places s g [] [] long h = refl
+row_by_places s g [] (x ∷ xs) long h = absurd (omega arith)
+row_by_places s g (w ∷ ws) xs long h =
+    let enough : s ≤ length xs = omega arith in
+    let left : length (drop s xs) ≡ length ws * s = let d = length-drop s xs in omega arith in
+    sym (take-append-drop s xs)
+    ∙ ap (λ z. z ++ drop s xs) (fill_by_all (g w) (take s xs) s none (length-take-le s xs enough)
+    (λ t lt. get_or-take s xs t none lt ∙ ap (λ n. get_or xs n none) (let e : t ≡ 0 * s + t = omega arith in e) ∙ h 0 t (omega arith) lt))
+    ∙ ap (λ z. map (g w) (range_with_len 0 s) ++ z) (row_by_places s g ws (drop s xs) left
+    (λ j t lt k. get_or-drop s xs (j * s + t) none ∙ ap (λ n. get_or xs n none) (let e : s + (j * s + t) ≡ suc j * s + t = omega arith in e)
+    ∙ h (suc j) t (omega arith) k))
+
+-- the row that the loops make is the row over all pairs
+pub row_is : (a : Body) (vs : List ℤ) (row : List Hull) (ws : List ℤ) (next : List Hull) → ((q : ℕ) → q < length a.states → LeadsFrom a q) →
+    length row ≡ length vs * length a.states → length next ≡ length ws * length a.states →
+    ((p : ℕ) → p < length next → get_or next p none ≡ none) → with_states a vs row ws (length a.states) next ≡ next_row a vs row ws
+unfolding next_row next_hulls
+row_is a vs row ws next leads long long' clear =
+    row_by_places (length a.states) (λ w t. next_hull a (sources (length a.states) vs row) w t) ws (with_states a vs row ws (length a.states) next)
+    (length-with_states a vs row ws (length a.states) next ∙ long')
+    (λ j t lt h. with_states_at a vs row ws (length a.states) next j t lt h leads long'
+    (clear (j * length a.states + t) (let p = place_inside (length a.states) (length ws) j t lt h in omega arith))
+    ∙ entry_total a vs row (get_or ws j (pos 0)) t long)
+
+-- the ends of the loops
+
+pub state_done : (a : Body) (vs : List ℤ) (row : List Hull) (ws : List ℤ) (q s : ℕ) (m1 m2 m3 : Move) (n0 n1 n2 n3 : List Hull) → s ≡ length a.states →
+    m1 ≡ move_at a q Less → m2 ≡ move_at a q Equal → m3 ≡ move_at a q Greater →
+    n1 ≡ with_move m1 Less s q vs row ws n0 → n2 ≡ with_move m2 Equal s q vs row ws n1 → n3 ≡ with_move m3 Greater s q vs row ws n2 →
+    n3 ≡ with_state a vs row ws q n0
+unfolding with_state
+state_done a vs row ws q s m1 m2 m3 n0 n1 n2 n3 e f g h i j k =
+    k ∙ ap (λ m. with_move m Greater s q vs row ws n2) h ∙ ap (λ n. with_move (move_at a q Greater) Greater n q vs row ws n2) e
+    ∙ ap (with_move (move_at a q Greater) Greater (length a.states) q vs row ws)
+    (j ∙ ap (λ m. with_move m Equal s q vs row ws n1) g ∙ ap (λ n. with_move (move_at a q Equal) Equal n q vs row ws n1) e
+    ∙ ap (with_move (move_at a q Equal) Equal (length a.states) q vs row ws)
+    (i ∙ ap (λ m. with_move m Less s q vs row ws n0) f ∙ ap (λ n. with_move (move_at a q Less) Less n q vs row ws n0) e))
+
+pub states_begun : (a : Body) (vs : List ℤ) (row : List Hull) (ws : List ℤ) (next : List Hull) → next ≡ with_states a vs row ws 0 next
+unfolding with_states
+states_begun a vs row ws next = refl
+
+pub states_more : (a : Body) (vs : List ℤ) (row : List Hull) (ws : List ℤ) (q : ℕ) (first next next' : List Hull) →
+    next ≡ with_states a vs row ws q first → next' ≡ with_state a vs row ws q next → next' ≡ with_states a vs row ws (q + 1) first
+unfolding with_states
+states_more a vs row ws q first next next' e f =
+    let more : q + 1 ≡ suc q = omega arith in f ∙ ap (with_state a vs row ws q) e ∙ sym (ap (λ n. with_states a vs row ws n first) more)
+
+pub leads_from : (a : Body) → IsTrue (is_automaton a) → (q : ℕ) → q < length a.states → LeadsFrom a q
+unfolding move_at
+leads_from a h q lt l = target_exists a (rules_of a h) q l lt
+
+pub states_done : (a : Body) (vs : List ℤ) (row : List Hull) (ws : List ℤ) (q : ℕ) (first next : List Hull) → IsTrue (is_automaton a) →
+    length row ≡ length vs * length a.states → length first ≡ length ws * length a.states →
+    ((p : ℕ) → p < length first → get_or first p none ≡ none) → length a.states ≤ q → q ≤ length a.states → next ≡ with_states a vs row ws q first →
+    next ≡ next_row a vs row ws
+states_done a vs row ws q first next leads long long' clear low high e =
+    let same : q ≡ length a.states = omega arith in e ∙ ap (λ n. with_states a vs row ws n first) same
+    ∙ row_is a vs row ws first (leads_from a leads) long long' clear
+
+small_at : (row : List Hull) → list_all small_hull row ≡ true → (i : ℕ) → small_hull (get_or row i none) ≡ true
+small_at [] h i = refl
+small_at (x ∷ row) h zero = (and_parts (small_hull x) (list_all small_hull row) h).0
+small_at (x ∷ row) h (suc i) = small_at row (and_parts (small_hull x) (list_all small_hull row) h).1 i
+
+pub able : (vs ws : List ℤ) (row : List Hull) → list_all small_hull row ≡ true → AreValues vs → AreValues ws → IsSweepable vs ws row
+able vs ws row h v w = record {
+  rises = v.rises;
+  next_rises = w.rises;
+  small = small_at row h;
+  small_values = v.small;
+  small_next = w.small;
+}
+
+-- where every hull was cleared
+pub cleared_all : (xs next : List Hull) (n : ℕ) → n ≡ length xs → next ≡ over xs 0 (replicate n none) → (p : ℕ) → p < length xs → get_or next p none ≡ none
+cleared_all xs next n long is p lt =
+    let l = length-replicate n none in
+    ap (λ t. get_or t p none) is
+    ∙ get_or_append_left (replicate n none) (drop (0 + length (replicate n none)) xs) none p (omega (arith, l, lt, long))
+    ∙ get_or-replicate n p none none (omega (arith, lt, long))
+
+pub with_states_canonical : (a : Body) (vs : List ℤ) (row : List Hull) (ws : List ℤ) (n : ℕ) (next : List Hull) → AllTakeNone next →
+    AllTakeNone (with_states a vs row ws n next)
+unfolding with_states with_state
+with_states_canonical a vs row ws zero next h = h
+with_states_canonical a vs row ws (suc n) next h =
+    let s = length a.states in
+    let n0 = with_states a vs row ws n next in
+    let n1 = with_move (move_at a n Less) Less s n vs row ws n0 in
+    let n2 = with_move (move_at a n Equal) Equal s n vs row ws n1 in
+    with_move_canonical (move_at a n Greater) Greater s n vs row ws n2 (with_move (move_at a n Greater) Greater s n vs row ws n2) refl
+    (with_move_canonical (move_at a n Equal) Equal s n vs row ws n1 n2 refl
+    (with_move_canonical (move_at a n Less) Less s n vs row ws n0 n1 refl (with_states_canonical a vs row ws n next h)))
+
+pub states_canonical : (a : Body) (vs : List ℤ) (row : List Hull) (ws : List ℤ) (n : ℕ) (first next : List Hull) →
+    next ≡ with_states a vs row ws n first → ((p : ℕ) → p < length first → get_or first p none ≡ none) → AllTakeNone next
+states_canonical a vs row ws n first next e clear = subst (λ (z : List Hull). AllTakeNone z) (sym e)
+    (with_states_canonical a vs row ws n first (λ p. go p (cases p (length first))))
+  where
+    cases : (p n : ℕ) → (p < n) ⊎ (n ≤ p)
+    cases p n = grind arith
+
+    none_is : (h : Hull) → h ≡ none → TakesNone h
+    none_is h e = subst (λ (z : Hull). TakesNone z) (sym e) none_takes_none
+
+    go : (p : ℕ) → (p < length first) ⊎ (length first ≤ p) → TakesNone (get_or first p none)
+    go p (inl l) = none_is (get_or first p none) (clear p l)
+    go p (inr l) = none_is (get_or first p none) (get_or_past first p none l)

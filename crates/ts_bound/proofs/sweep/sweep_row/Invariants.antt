@@ -1,0 +1,6 @@
+use Rattle.std.proofs.Common.{◌≡◌}
+use Rattle.ts_bound.specs.Sweeps.{with_states}
+use Rattle.ts_bound.proofs.sweep.sweep_row.Given as goal
+
+abbrev pub invariant-loop-q : goal.invariant-loop-q
+invariant-loop-q l = l.next ≡ with_states l.a l.values l.before l.next_values l.q l.initial.next

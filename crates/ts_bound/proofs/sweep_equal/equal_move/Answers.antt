@@ -1,0 +1,44 @@
+use Rattle.std.proofs.Common.{refl, ◌+◌, ◌*◌, pos, length, get_or, arith}
+use Rattle.ts_base.specs.declared.letter.Letter.TheVariants.{Less, Equal}
+use Rattle.ts_automaton.specs.Body.{move_of}
+use Rattle.ts_bound.specs.Sweeps.{step_place, move_entry}
+use Rattle.ts_bound.proofs.SweepLaws.{puts_begun, puts_more, puts_done, puts_are_canonical, all_passed, later_passed}
+use Rattle.ts_bound.proofs.sweep_equal.equal_move.Goals as goal
+
+pub loop-j-init : goal.loop-j-init
+loop-j-init c = record {
+  next = puts_begun _ _ _ _ _;
+  inside = omega arith;
+  passed = λ i h n low high. absurd (omega arith);
+}
+
+pub put_packed-requires-clause-canonical : goal.put_packed-requires-clause-canonical
+put_packed-requires-clause-canonical c =
+    puts_are_canonical c.args.s c.args.t.now.next (step_place Equal (length c.args.next_values.now))
+    (λ j. move_entry (move_of c.args.t.now) Equal c.args.s c.args.q c.args.values.now c.args.before.now (get_or c.args.next_values.now j (pos 0)))
+    c.args.next.now c.loop-j.next c.loop-j.j c.loop-j.invariant.next c.requires.canonical
+    (c.loop-j.j * c.args.s + c.args.t.now.next)
+
+pub loop-j-preserved : goal.loop-j-preserved
+loop-j-preserved c =
+    let vs = c.args.values.now in
+    let ws = c.args.next_values.now in
+    let e = move_entry (move_of c.args.t.now) Equal c.args.s c.args.q c.args.values.now c.args.before.now
+    (get_or c.args.next_values.now c.loop-j.j (pos 0)) in
+    let all = all_passed Less vs ws c.loop-j.j c.loop-j.j c.loop-j.at c.not_below-at.result refl
+    (omega (arith, c.loop-j-test.true, c.count_of-j-end.ensures.count)) c.loop-j.invariant.passed c.not_below-at.ensures.passed in
+    record {
+      next =
+          puts_more c.args.s c.args.t.now.next (step_place Equal (length ws))
+          (λ j. move_entry (move_of c.args.t.now) Equal c.args.s c.args.q vs c.args.before.now (get_or ws j (pos 0))) c.args.next.now c.loop-j.next
+          c.put_packed.new.next c.loop-j.j
+          c.loop-j.j e e refl c.loop-j.invariant.next refl (c.put_packed.ensures e c.equal_entry-run.ensures);
+      inside = c.not_below-at.ensures.inside;
+      passed = later_passed Less vs ws c.loop-j.j c.loop-j.j c.not_below-at.result refl c.requires.sweepable.next_rises refl all;
+    }
+
+pub returns : goal.returns
+returns c =
+    puts_done (move_of c.args.t.now) Equal c.args.s c.args.q c.args.values.now c.args.before.now c.args.next_values.now c.args.next.now c.loop-j.next
+    c.loop-j.j (omega (arith, c.loop-j-test.false, c.count_of-j-end.ensures.count))
+    (omega (arith, c.loop-j.auto.j-end, c.count_of-j-end.ensures.count)) c.loop-j.invariant.next

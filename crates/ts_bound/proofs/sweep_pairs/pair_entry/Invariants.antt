@@ -1,0 +1,9 @@
+use Rattle.std.proofs.Common.{pos, get_or}
+use Rattle.ts_automaton.specs.Body.{move_of}
+use Rattle.ts_bound.specs.Packs.{IsRunning}
+use Rattle.ts_bound.specs.Sweeps.{total, pair_gives}
+use Rattle.ts_bound.proofs.sweep_pairs.pair_entry.Given as goal
+
+abbrev pub invariant-loop-i : goal.invariant-loop-i
+invariant-loop-i l = IsRunning l.run.any l.run.hull (total l.i
+    (λ k. pair_gives (move_of l.t) l.l l.s l.q l.values l.before (get_or l.next_values l.j (pos 0)) k))

@@ -1,0 +1,31 @@
+use Rattle.std.proofs.Common.{ap, ◌∙◌, arith, refl, ◌+◌, ◌*◌, length, pos, get_or}
+use Rattle.ts_automaton.specs.Body.{move_of}
+use Rattle.ts_bound.specs.Sweeps.{step_place, move_entry}
+use Rattle.ts_bound.proofs.SweepLaws.{puts_begun, puts_more, puts_done, puts_are_canonical}
+use Rattle.ts_bound.proofs.sweep_pairs.pair_move.Goals as goal
+
+pub loop-k-init : goal.loop-k-init
+loop-k-init c = puts_begun _ _ _ _ _
+
+pub put_packed-requires-clause-canonical : goal.put_packed-requires-clause-canonical
+put_packed-requires-clause-canonical c =
+    puts_are_canonical c.args.s c.args.t.now.next (step_place c.args.l (length c.args.next_values.now))
+    (λ j. move_entry (move_of c.args.t.now) c.args.l c.args.s c.args.q c.args.values.now c.args.before.now (get_or c.args.next_values.now j (pos 0)))
+    c.args.next.now c.loop-k.next c.loop-k.k c.loop-k.invariant c.requires.canonical
+    (c.step_place-j.result * c.args.s + c.args.t.now.next)
+
+pub loop-k-preserved : goal.loop-k-preserved
+loop-k-preserved c =
+    let e = move_entry (move_of c.args.t.now) c.args.l c.args.s c.args.q c.args.values.now c.args.before.now
+    (get_or c.args.next_values.now c.step_place-j.result (pos 0)) in
+    puts_more c.args.s c.args.t.now.next (step_place c.args.l (length c.args.next_values.now))
+    (λ j. move_entry (move_of c.args.t.now) c.args.l c.args.s c.args.q c.args.values.now c.args.before.now (get_or c.args.next_values.now j (pos 0)))
+    c.args.next.now c.loop-k.next c.put_packed.new.next c.loop-k.k c.step_place-j.result e e
+    (c.step_place-j.ensures.value ∙ ap (λ z. step_place c.args.l z c.loop-k.k) c.count_of-n.ensures.count) c.loop-k.invariant refl
+    (c.put_packed.ensures e c.pair_entry-run.ensures)
+
+pub returns : goal.returns
+returns c =
+    puts_done (move_of c.args.t.now) c.args.l c.args.s c.args.q c.args.values.now c.args.before.now c.args.next_values.now c.args.next.now
+    c.loop-k.next c.loop-k.k (omega (arith, c.loop-k-test.false, c.count_of-k-end.ensures.count))
+    (omega (arith, c.loop-k.auto.k-end, c.count_of-k-end.ensures.count)) c.loop-k.invariant

@@ -1,0 +1,40 @@
+-- The three expressions of a move, each split.
+use Rattle.std.specs.Prelude.{Bool, cond, ◌&&◌, ℤ}
+use Rattle.ts_automaton.specs.declared.regs.Hull.{Hull}
+use Rattle.ts_automaton.specs.Formula.{Join, formula}
+use Rattle.ts_automaton.specs.Body.{Move}
+use Rattle.ts_bound.specs.declared.sweep_parts.Part.{Part}
+use Rattle.ts_bound.specs.declared.sweep_parts.Part.TheVariants.{Front, Tail, Double, Pairs}
+use Rattle.ts_bound.specs.declared.sweep_parts.Parts.{Parts}
+use Rattle.ts_bound.specs.Hulls.{none}
+use Rattle.ts_bound.specs.Sealed.{hull_with, some_hull}
+use Rattle.ts_bound.specs.Splits.{Split, FrontOf, TailOf, ByPairs, split, is_swept, front_span, closed_span}
+
+pub record Cut : Type 0 where
+  pub c : Split
+  pub d : Split
+  pub r : Split
+
+abbrev pub cut_of : Move → Cut
+cut_of m = record { c = split m.to.c; d = split m.to.d; r = split m.to.r }
+
+abbrev pub swept : Cut → Bool
+swept k = is_swept k.c && (is_swept k.d && is_swept k.r)
+
+-- the fronts on a hull, and what the next cell y makes of the hull of fronts
+unfoldable pub front_hull : Cut → Hull → ℤ → Hull
+front_hull k h x =
+    cond (some_hull h) (hull_with (front_span k.c h x) (front_span k.d h x) (front_span k.r h x)) none
+
+unfoldable pub closed_hull : Cut → Hull → ℤ → Hull
+closed_hull k h y = hull_with (closed_span k.c h.c y) (closed_span k.d h.d y) (closed_span k.r h.r y)
+
+-- the same of what the code lends
+abbrev pub part_split : Part → Split
+part_split (Front e) = FrontOf (formula e.now)
+part_split (Tail o e) = TailOf o (formula e.now)
+part_split (Double o e f) = TailOf o (Join o (formula e.now) (formula f.now))
+part_split Pairs = ByPairs
+
+abbrev pub parts_cut : Parts → Cut
+parts_cut p = record { c = part_split p.c; d = part_split p.d; r = part_split p.r }

@@ -1,0 +1,36 @@
+-- What a packed number, span or hull stands for.
+use Rattle.std.specs.Prelude.{◌≡◌, Bool, true, false, pos, negsuc, int_le, if◌then◌else◌}
+use Rattle.ts_base.specs.declared.ext.Ext.{Ext}
+use Rattle.ts_base.specs.declared.ext.Ext.TheVariants.{NegInf, Int, PosInf}
+use Rattle.ts_base.specs.declared.span.Span.{Span}
+use Rattle.ts_automaton.specs.declared.regs.Hull.{Hull}
+use Rattle.ts_bound.specs.declared.packed.End.{End}
+use Rattle.ts_bound.specs.declared.packed.Ends.{Ends}
+use Rattle.ts_bound.specs.declared.packed.Packed.{Packed}
+use Rattle.ts_bound.specs.Hulls.{none}
+use Rattle.ts_bound.specs.Sealed.{hull_with, some_hull}
+
+-- the least and the greatest number of 64 bits stand for the infinities
+unfoldable pub unpack : End → Ext
+unpack x =
+    if int_le x.at (negsuc 9223372036854775807) then NegInf
+    else if int_le (pos 9223372036854775807) x.at then PosInf else Int x.at
+
+abbrev pub span_from : Ext → Ext → Span
+span_from lo hi = record { lo = lo; hi = hi }
+
+abbrev pub unpack_span : Ends → Span
+unpack_span e = span_from (unpack e.lo) (unpack e.hi)
+
+abbrev pub unpack_hull : Packed → Hull
+unpack_hull p = hull_with (unpack_span p.c) (unpack_span p.d) (unpack_span p.r)
+
+-- it stands for that hull, in which registers lie
+pub record IsPackOf (p : Packed) (h : Hull) : Type 0 where
+  pub value : unpack_hull p ≡ h
+  pub some : some_hull h ≡ true
+
+-- a running hull in packed form: of nothing yet, or of what it stands for
+pub record IsRunning (any : Bool) (p : Packed) (h : Hull) : Type 0 where
+  pub begun : any ≡ true → IsPackOf p h
+  pub empty : any ≡ false → h ≡ none

@@ -1,0 +1,45 @@
+-- The operations on spans, and the value of an expression and of a move on a hull, under names that stay closed: what
+-- they are is opened where it is wanted.
+use Rattle.std.specs.Prelude.{ℕ, ℤ, Bool}
+use Rattle.ts_base.specs.declared.ext.Ext.{Ext}
+use Rattle.ts_base.specs.declared.letter.Letter.{Letter}
+use Rattle.ts_base.specs.declared.span.Span.{Span}
+use Rattle.ts_base.specs.Spans.{one_span, span_hull, end_by_end}
+use Rattle.ts_automaton.specs.declared.regs.Hull.{Hull}
+use Rattle.ts_automaton.specs.Formula.{Formula}
+use Rattle.ts_automaton.specs.Registers.{Values, ext_op, spans_of, value_in}
+use Rattle.ts_automaton.specs.Body.{Move, Body, move_on, node_at}
+use Rattle.ts_automaton.specs.SpanRun.{has_registers, moved_hull}
+use Rattle.ts_bound.specs.Hulls.{hull_of}
+
+-- the hull of two spans
+unfoldable pub least_span : Span → Span → Span
+least_span s t = span_hull s t
+
+-- an operation, end by end
+unfoldable pub lifted : (Ext → Ext → Ext) → Span → Span → Span
+lifted op s t = end_by_end op s t
+
+-- the operators on spans
+abbrev pub sealed : Values Span
+sealed = record { constant = one_span; join = λ o. lifted (ext_op o) }
+
+-- the span of an expression on a hull, at the cell x and the next cell y
+abbrev pub span_in : Formula → Hull → ℤ → ℤ → Span
+span_in f h x y = value_in sealed (spans_of h) x y f
+
+-- the hull of these spans
+abbrev pub hull_with : Span → Span → Span → Hull
+hull_with c d r = record { c = c; d = d; r = r }
+
+-- registers lie in the hull
+abbrev pub some_hull : Hull → Bool
+some_hull h = has_registers (spans_of h)
+
+-- a move on a hull
+unfoldable pub after_move : Move → Hull → ℤ → ℤ → Hull
+after_move m h x y = hull_of (moved_hull (spans_of h) x y m)
+
+-- the move of state q on a letter
+unfoldable pub move_at : Body → ℕ → Letter → Move
+move_at b q l = move_on l (node_at b.states q)

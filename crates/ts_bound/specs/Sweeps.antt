@@ -1,0 +1,99 @@
+-- How sweeps make a row: move by move, each over the values in the order of its letter.
+use Rattle.std.specs.Prelude.{◌≡◌, ℕ, zero, suc, ◌+◌, ◌-◌, ◌*◌, Bool, true, false, cond, ◌&&◌, int_lt, int_le, ℤ, pos, List, length, get_or, set}
+use Rattle.ts_base.specs.declared.letter.Letter.{Letter}
+use Rattle.ts_base.specs.declared.letter.Letter.TheVariants.{Less, Equal, Greater}
+use Rattle.ts_base.specs.Signature.{letter_of}
+use Rattle.ts_automaton.specs.declared.regs.Hull.{Hull}
+use Rattle.ts_automaton.specs.Body.{Body, Move}
+use Rattle.ts_bound.specs.Hulls.{none, hull_of_both}
+use Rattle.ts_bound.specs.Sealed.{after_move, move_at}
+use Rattle.ts_bound.specs.Cuts.{Cut, front_hull}
+use Rattle.ts_bound.specs.Smalls.{Rises, small_int, small_hull}
+
+-- the hull of f 0, .., f (n - 1)
+unfoldable pub total : ℕ → (ℕ → Hull) → Hull
+total zero f = none
+total (suc n) f = hull_of_both (total n f) (f n)
+
+abbrev pub same_letter : Letter → Letter → Bool
+same_letter Less Less = true
+same_letter Less Equal = false
+same_letter Less Greater = false
+same_letter Equal Less = false
+same_letter Equal Equal = true
+same_letter Equal Greater = false
+same_letter Greater Less = false
+same_letter Greater Equal = false
+same_letter Greater Greater = true
+
+-- the hull at place i, state q of s
+abbrev pub hull_in : ℕ → ℕ → List Hull → ℕ → Hull
+hull_in s q row i = get_or row (i * s + q) none
+
+-- what the move of state q on a letter gives from place i to the next value w, and from all places
+abbrev pub pair_gives : Move → Letter → ℕ → ℕ → List ℤ → List Hull → ℤ → ℕ → Hull
+pair_gives m l s q vs row w i =
+    cond (same_letter (letter_of (get_or vs i (pos 0)) w) l)
+    (after_move m (hull_in s q row i) (get_or vs i (pos 0)) w) none
+
+unfoldable pub move_entry : Move → Letter → ℕ → ℕ → List ℤ → List Hull → ℤ → Hull
+move_entry m l s q vs row w = total (length vs) (λ i. pair_gives m l s q vs row w i)
+
+-- the place of n values that comes at step k, in the order of a letter: from the top for `>`, else from the first
+abbrev pub step_place : Letter → ℕ → ℕ → ℕ
+step_place Less n k = k
+step_place Equal n k = k
+step_place Greater n k = n - suc k
+
+-- h is taken in at a place
+abbrev pub with_hull_at : List Hull → ℕ → Hull → List Hull
+with_hull_at next p h = set next p (hull_of_both (get_or next p none) h)
+
+-- a hull for each of the first n places in an order is taken in, at state r of s
+unfoldable pub puts : ℕ → ℕ → (ℕ → ℕ) → (ℕ → Hull) → List Hull → ℕ → List Hull
+puts s r order f next zero = next
+puts s r order f next (suc n) = with_hull_at (puts s r order f next n) (order n * s + r) (f (order n))
+
+-- a move is taken in
+unfoldable pub with_move : Move → Letter → ℕ → ℕ → List ℤ → List Hull → List ℤ → List Hull → List Hull
+with_move m l s q vs row ws next =
+    puts s m.next (step_place l (length ws)) (λ j. move_entry m l s q vs row (get_or ws j (pos 0))) next (length ws)
+
+-- the running hull: the fronts of the first n values in the order of the letter
+unfoldable pub fronts : Cut → Letter → ℕ → ℕ → List ℤ → List Hull → ℕ → Hull
+fronts k l s q vs row n =
+    let at = step_place l (length vs) in
+    total n (λ i. front_hull k (hull_in s q row (at i)) (get_or vs (at i) (pos 0)))
+
+-- the moves of state q, and of the first n states
+unfoldable pub with_state : Body → List ℤ → List Hull → List ℤ → ℕ → List Hull → List Hull
+with_state b vs row ws q next =
+    with_move (move_at b q Greater) Greater (length b.states) q vs row ws
+    (with_move (move_at b q Equal) Equal (length b.states) q vs row ws
+    (with_move (move_at b q Less) Less (length b.states) q vs row ws next))
+
+unfoldable pub with_states : Body → List ℤ → List Hull → List ℤ → ℕ → List Hull → List Hull
+with_states b vs row ws zero next = next
+with_states b vs row ws (suc n) next = with_state b vs row ws n (with_states b vs row ws n next)
+
+-- both places compare as the letter says
+abbrev pub fits : Letter → List ℤ → ℕ → List ℤ → ℕ → Bool
+fits l vs i ws j = same_letter (letter_of (get_or vs i (pos 0)) (get_or ws j (pos 0))) l
+
+-- a value from low to high may compare so with a next one from low' to high'
+abbrev pub may_fit : Letter → ℤ → ℤ → ℤ → ℤ → Bool
+may_fit Less low high low' high' = int_lt low high'
+may_fit Equal low high low' high' = int_le low high' && int_le low' high
+may_fit Greater low high low' high' = int_lt low' high
+
+-- what a sweep needs of the two cells and of the row before
+pub record IsSweepable (vs ws : List ℤ) (row : List Hull) : Type 0 where
+  pub rises : Rises vs
+  pub next_rises : Rises ws
+  pub small : (i : ℕ) → small_hull (get_or row i none) ≡ true
+  pub small_values : (i : ℕ) → small_int (get_or vs i (pos 0)) ≡ true
+  pub small_next : (i : ℕ) → small_int (get_or ws i (pos 0)) ≡ true
+
+-- each hull of the row stays as it is beside none
+abbrev pub AllTakeNone : List Hull → Type 0
+AllTakeNone row = (p : ℕ) → hull_of_both (get_or row p none) none ≡ get_or row p none

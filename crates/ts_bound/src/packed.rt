@@ -1,0 +1,241 @@
+//! Hulls whose ends are single numbers: the least and the greatest number of 64 bits stand for the infinities, so that
+//! a move only adds and compares numbers.
+
+ghost use Rattle.std.specs.Prelude.{◌≡◌, true, ◌+ℤ◌};
+ghost use Rattle.ts_base.specs.Numbers.{clamp, ext_max, ext_min, ext_plus};
+ghost use Rattle.ts_base.specs.Spans.{has_some, one_span};
+ghost use Rattle.ts_base.specs.declared.ext.Ext.TheVariants.{Int, NegInf, PosInf};
+ghost use Rattle.ts_bound.specs.Hulls.{hull_of_both};
+ghost use Rattle.ts_bound.specs.Packs.{unpack, unpack_hull, unpack_span};
+ghost use Rattle.ts_bound.specs.Sealed.{least_span, some_hull};
+ghost use Rattle.ts_bound.specs.Smalls.{small, small_hull, small_int, small_span};
+
+use ts_automaton::Hull;
+use ts_base::{Ext, Span};
+
+/// A number or an infinity in 64 bits: the least and the greatest number stand for the infinities.
+#[derive(Clone, Copy, Debug, PartialEq, Eq)]
+pub(crate) struct End {
+    pub(crate) at: i64,
+}
+
+/// The numbers from `lo` to `hi`.
+#[derive(Clone, Copy, Debug, PartialEq, Eq)]
+pub(crate) struct Ends {
+    pub(crate) lo: End,
+    pub(crate) hi: End,
+}
+
+/// Both ends for each register.
+#[derive(Clone, Copy, Debug, PartialEq, Eq)]
+pub(crate) struct Packed {
+    pub(crate) c: Ends,
+    pub(crate) d: Ends,
+    pub(crate) r: Ends,
+}
+
+impl End {
+    /// In 64 bits.
+    #[tactic(auto, using(crate::proofs::PackLaws::unpack_small), unfolding(crate::specs::Packs::unpack))]
+    #[inline(always)]
+    fn of(e: Ext) -> End
+        requires { small e ≡ true }
+        ensures { unpack result ≡ e }
+    {
+        match e {
+            Ext::NegInf => End { at: i64::MIN },
+            Ext::Int(x) => End { at: x },
+            Ext::PosInf => End { at: i64::MAX },
+        }
+    }
+
+    /// The number or infinity.
+    #[tactic(auto, unfolding(crate::specs::Packs::unpack))]
+    #[inline(always)]
+    fn unpacked(self) -> Ext
+        ensures { result ≡ unpack self }
+    {
+        if self.at <= i64::MIN {
+            Ext::NegInf
+        } else if i64::MAX <= self.at {
+            Ext::PosInf
+        } else {
+            Ext::Int(self.at)
+        }
+    }
+
+    /// The sum, as `Ext::plus` has it.
+    #[tactic(auto, using(crate::proofs::PackLaws::sum_low_left, crate::proofs::PackLaws::sum_low_right))]
+    #[inline(always)]
+    pub(crate) fn plus(self, other: End) -> End
+        ensures { unpack result ≡ ext_plus (unpack self) (unpack other) }
+    {
+        if self.at <= i64::MIN {
+            return End { at: i64::MIN };
+        }
+        if other.at <= i64::MIN {
+            return End { at: i64::MIN };
+        }
+        if i64::MAX <= self.at {
+            return End { at: i64::MAX };
+        }
+        if i64::MAX <= other.at {
+            return End { at: i64::MAX };
+        }
+        self.clamped_sum(other)
+    }
+
+    /// The sum of two numbers.
+    #[inline(always)]
+    fn clamped_sum(self, other: End) -> End
+        ensures { result.at ≡ clamp (self.at +ℤ other.at) }
+    {
+        End {
+            at: self
+                .at
+                .saturating_add(other.at)
+                .clamp(-100_000_000_000_000_000, 100_000_000_000_000_000),
+        }
+    }
+
+    /// The greater.
+    #[tactic(auto, using(crate::proofs::PackLaws::max_then, crate::proofs::PackLaws::max_else))]
+    #[inline(always)]
+    pub(crate) fn greater(self, other: End) -> End
+        ensures { unpack result ≡ ext_max (unpack self) (unpack other) }
+    {
+        if self.at <= other.at { other } else { self }
+    }
+
+    /// The lesser.
+    #[tactic(auto, using(crate::proofs::PackLaws::min_then, crate::proofs::PackLaws::min_else))]
+    #[inline(always)]
+    pub(crate) fn lesser(self, other: End) -> End
+        ensures { unpack result ≡ ext_min (unpack self) (unpack other) }
+    {
+        if self.at <= other.at { self } else { other }
+    }
+}
+
+impl Ends {
+    #[inline(always)]
+    fn of(s: Span) -> Ends
+        requires { small_span s ≡ true }
+        ensures { unpack_span result ≡ s }
+    {
+        Ends {
+            lo: End::of(s.lo),
+            hi: End::of(s.hi),
+        }
+    }
+
+    /// One small number.
+    #[tactic(auto, using(crate::proofs::PackLaws::one_small, crate::proofs::PackLaws::one_small_some))]
+    #[inline(always)]
+    pub(crate) fn one(x: i64) -> Ends
+        requires { small_int x ≡ true }
+        ensures value { unpack_span result ≡ one_span (Int x) }
+        ensures some { has_some (unpack_span result) ≡ true }
+    {
+        let e = End { at: x };
+        Ends { lo: e, hi: e }
+    }
+
+    #[tactic(auto, unfolding(crate::specs::Packs::unpack))]
+    #[inline(always)]
+    pub(crate) fn low() -> Ends
+        ensures value { unpack_span result ≡ one_span NegInf }
+        ensures some { has_some (unpack_span result) ≡ true }
+    {
+        let e = End { at: i64::MIN };
+        Ends { lo: e, hi: e }
+    }
+
+    #[tactic(auto, unfolding(crate::specs::Packs::unpack))]
+    #[inline(always)]
+    pub(crate) fn high() -> Ends
+        ensures value { unpack_span result ≡ one_span PosInf }
+        ensures some { has_some (unpack_span result) ≡ true }
+    {
+        let e = End { at: i64::MAX };
+        Ends { lo: e, hi: e }
+    }
+
+    /// The hull of two spans that aren't none.
+    #[inline(always)]
+    fn hull(self, other: Ends) -> Ends
+        requires first { has_some (unpack_span self) ≡ true }
+        requires second { has_some (unpack_span other) ≡ true }
+        ensures value { unpack_span result ≡ least_span (unpack_span self) (unpack_span other) }
+        ensures some { has_some (unpack_span result) ≡ true }
+    {
+        Ends {
+            lo: self.lo.lesser(other.lo),
+            hi: self.hi.greater(other.hi),
+        }
+    }
+
+    #[inline(always)]
+    fn unpacked(self) -> Span
+        ensures { result ≡ unpack_span self }
+    {
+        Span {
+            lo: self.lo.unpacked(),
+            hi: self.hi.unpacked(),
+        }
+    }
+}
+
+impl Packed {
+    /// In packed form.
+    #[inline(always)]
+    pub(crate) fn of(h: &Hull) -> Packed
+        requires { small_hull h.now ≡ true }
+        ensures { unpack_hull result ≡ h.now }
+    {
+        Packed {
+            c: Ends::of(h.c),
+            d: Ends::of(h.d),
+            r: Ends::of(h.r),
+        }
+    }
+
+    /// Zeros, where nothing is known yet.
+    #[inline(always)]
+    pub(crate) fn of_zeros() -> Packed {
+        let zero = End { at: 0 };
+        let zeros = Ends { lo: zero, hi: zero };
+        Packed {
+            c: zeros,
+            d: zeros,
+            r: zeros,
+        }
+    }
+
+    /// The hull of two hulls in which registers lie.
+    #[inline(always)]
+    pub(crate) fn joined(self, other: Packed) -> Packed
+        requires first { some_hull (unpack_hull self) ≡ true }
+        requires second { some_hull (unpack_hull other) ≡ true }
+        ensures value { unpack_hull result ≡ hull_of_both (unpack_hull self) (unpack_hull other) }
+        ensures some { some_hull (unpack_hull result) ≡ true }
+    {
+        Packed {
+            c: self.c.hull(other.c),
+            d: self.d.hull(other.d),
+            r: self.r.hull(other.r),
+        }
+    }
+
+    /// The hull as spans.
+    #[inline(always)]
+    pub(crate) fn unpacked(self) -> Hull
+        ensures { result ≡ unpack_hull self }
+    {
+        Hull {
+            c: self.c.unpacked(),
+            d: self.d.unpacked(),
+            r: self.r.unpacked(),
+        }
+    }
+}

@@ -1,0 +1,40 @@
+//! One row of hulls from the row before.
+
+ghost use Rattle.std.specs.Prelude.{◌≡◌, ◌*◌, length};
+ghost use Rattle.ts_bound.specs.NextRow.{RowStands, next_row};
+
+use crate::fill::fill_by_pairs;
+use crate::sweep::{are_small, sweep_row};
+use crate::sweep_values::Places;
+use ts_automaton::{Automaton, Hull};
+use ts_domain::Domain;
+
+/// One row from the row before it: for each value of the cell and each state the hull of the moves of all values of the
+/// cell before and all states. Both rows have a hull for each value and state, value by value in rising order, and the
+/// hulls of `before` are none or have the kinds of their states. It takes no memory. The steps are in proportion to the
+/// values of both cells for each move of which no expression reads the next cell but in its last operand, and to their
+/// pairs for the others; and to all pairs where a hull of `before` has a number above 10^16 in size.
+pub fn fill_row(
+    a: &Automaton,
+    before_values: &Domain,
+    before: &[Hull],
+    values: &Domain,
+    next: &mut [Hull],
+)
+    requires before { length before.now ≡ length before_values.now * length a.now.states }
+    requires next { length next.old ≡ length values.now * length a.now.states }
+    requires kinds { RowStands a.now before_values.now before.now }
+    ensures { next.new ≡ next_row a.now before_values.now before.now values.now }
+{
+    if are_small(before) {
+        sweep_row(
+            a,
+            &Places::of(before_values),
+            before,
+            &Places::of(values),
+            next,
+        );
+    } else {
+        fill_by_pairs(a, before_values, before, values, next);
+    }
+}

@@ -1,0 +1,259 @@
+//! One row of hulls from the row before, move by move: a sweep over both cells where the move can be swept.
+
+ghost use Rattle.std.specs.Prelude.{◌≡◌, ℕ, ◌*◌, ◌<◌, true, false, length, get_or};
+ghost use Rattle.std.specs.List.{list_all};
+ghost use Rattle.ts_automaton.specs.Body.{move_of, move_on, node_of};
+ghost use Rattle.ts_bound.specs.Hulls.{none};
+ghost use Rattle.ts_bound.specs.NextRow.{next_row};
+ghost use Rattle.ts_bound.specs.Sealed.{move_at, some_hull};
+ghost use Rattle.ts_bound.specs.Smalls.{small, small_hull, small_span};
+ghost use Rattle.ts_bound.specs.Sweeps.{AllTakeNone, IsSweepable, fits, hull_in, may_fit, with_move, with_state};
+
+use crate::fill::clear;
+use crate::sweep_equal::equal_move;
+use crate::sweep_move::sweep_move;
+use crate::sweep_pairs::pair_move;
+use crate::sweep_parts::Parts;
+use crate::sweep_run::has_registers;
+use crate::sweep_values::{Places, count_of, greatest_of, least_of};
+use ts_automaton::{Automaton, Hull, State, Turn};
+use ts_base::{Ext, Letter, Span};
+
+/// Sums of a few numbers up to this size aren't clamped.
+const SMALL: i64 = 10_000_000_000_000_000;
+
+/// Whether an end is no number above 10^16 in size.
+fn is_small_end(e: Ext) -> bool
+    ensures { result ≡ small e }
+{
+    match e {
+        Ext::Int(x) => -SMALL <= x && x <= SMALL,
+        _ => true,
+    }
+}
+
+/// Whether neither end is a number above 10^16 in size.
+fn is_small_span(s: Span) -> bool
+    ensures { result ≡ small_span s }
+{
+    is_small_end(s.lo) && is_small_end(s.hi)
+}
+
+/// Whether no end of a hull is a number above 10^16 in size.
+fn is_small(h: &Hull) -> bool
+    ensures { result ≡ small_hull h.now }
+{
+    is_small_span(h.c) && is_small_span(h.d) && is_small_span(h.r)
+}
+
+/// Whether no hull of a row has a number above 10^16 in size.
+pub(crate) fn are_small(row: &[Hull]) -> bool
+    ensures { result ≡ list_all small_hull row.now }
+{
+    row.iter().all(|h| is_small(h))
+}
+
+/// The move on a letter.
+fn turn_on(state: &State, l: Letter) -> &Turn
+    ensures { move_of result.now ≡ move_on l (node_of state.now) }
+{
+    match l {
+        Letter::Less => &state.less,
+        Letter::Equal => &state.equal,
+        Letter::Greater => &state.greater,
+    }
+}
+
+/// The move of a state on a letter.
+fn turn(a: &Automaton, q: u8, l: Letter) -> &Turn
+    requires { q < length a.now.states }
+    ensures value { move_of result.now ≡ move_at a.now q l }
+    ensures exists { result.now.next < length a.now.states }
+{
+    turn_on(a.state(q), l)
+}
+
+/// Whether a value within the ends of one cell may compare with one within those of the next as the letter says.
+fn may_fit(l: Letter, low: i64, high: i64, next_low: i64, next_high: i64) -> bool
+    ensures { result ≡ may_fit l low high next_low next_high }
+{
+    match l {
+        Letter::Less => low < next_high,
+        Letter::Equal => low <= next_high && next_low <= high,
+        Letter::Greater => next_low < high,
+    }
+}
+
+/// Whether there may be a pair of values that compares as the letter says.
+#[tactic(auto, using(crate::proofs::Passed::letter_never))]
+fn may_occur(l: Letter, values: &Places<'_>, next_values: &Places<'_>) -> bool
+    ensures { result ≡ false → (i j : ℕ) → i < length values.now → j < length next_values.now →
+        fits l values.now i next_values.now j ≡ false }
+{
+    may_fit(
+        l,
+        least_of(values),
+        greatest_of(values),
+        least_of(next_values),
+        greatest_of(next_values),
+    )
+}
+
+/// A move is taken in: by equal values on `=`, by a sweep where it can be swept, else by pairs. One next value alone
+/// needs no sweep.
+fn take_move(
+    t: &Turn,
+    l: Letter,
+    s: usize,
+    q: usize,
+    values: &Places<'_>,
+    before: &[Hull],
+    next_values: &Places<'_>,
+    next: &mut [Hull],
+)
+    requires sweepable { IsSweepable values.now next_values.now before.now }
+    requires canonical { AllTakeNone next.old }
+    requires state { q < s }
+    requires leads { t.now.next < s }
+    requires before { length before.now ≡ length values.now * s }
+    requires next { length next.old ≡ length next_values.now * s }
+    ensures { next.new ≡ with_move (move_of t.now) l s q values.now before.now next_values.now next.old }
+{
+    match l {
+        Letter::Equal => {
+            equal_move(t, s, q, values, before, next_values, next);
+        }
+        _ => {
+            if count_of(next_values) > 1 && Parts::of(t).is_swept() {
+                sweep_move(t, l, s, q, values, before, next_values, next);
+            } else {
+                pair_move(t, l, s, q, values, before, next_values, next);
+            }
+        }
+    }
+}
+
+/// A move is taken in, if there may be a pair of values for it.
+fn add_move(
+    t: &Turn,
+    l: Letter,
+    s: usize,
+    q: usize,
+    values: &Places<'_>,
+    before: &[Hull],
+    next_values: &Places<'_>,
+    next: &mut [Hull],
+)
+    requires sweepable { IsSweepable values.now next_values.now before.now }
+    requires canonical { AllTakeNone next.old }
+    requires state { q < s }
+    requires leads { t.now.next < s }
+    requires before { length before.now ≡ length values.now * s }
+    requires next { length next.old ≡ length next_values.now * s }
+    ensures { next.new ≡ with_move (move_of t.now) l s q values.now before.now next_values.now next.old }
+{
+    if may_occur(l, values, next_values) {
+        take_move(t, l, s, q, values, before, next_values, next);
+    }
+}
+
+/// Whether registers lie in the hull at place `i`, state `q`.
+#[inline(always)]
+fn has_hull(before: &[Hull], s: usize, q: usize, values: &Places<'_>, i: usize) -> bool
+    requires inside { i < length values.now }
+    requires state { q < s }
+    requires before { length before.now ≡ length values.now * s }
+    ensures { result ≡ some_hull (hull_in s q before.now i) }
+{
+    has_registers(&before[i * s + q])
+}
+
+/// Whether some series of the cell reaches a state: whether registers lie in its hull at some value.
+fn is_reached(before: &[Hull], s: usize, q: usize, values: &Places<'_>) -> bool
+    requires state { q < s }
+    requires before { length before.now ≡ length values.now * s }
+    ensures { result ≡ false → (i : ℕ) → i < length values.now → some_hull (hull_in s q before.now i) ≡ false }
+{
+    for i in 0..count_of(values) {
+        if has_hull(before, s, q, values, i) {
+            return true;
+        }
+    }
+    false
+}
+
+/// All moves of a state are taken in.
+fn add_state(
+    a: &Automaton,
+    q: u8,
+    values: &Places<'_>,
+    before: &[Hull],
+    next_values: &Places<'_>,
+    next: &mut [Hull],
+)
+    requires sweepable { IsSweepable values.now next_values.now before.now }
+    requires canonical { AllTakeNone next.old }
+    requires state { q < length a.now.states }
+    requires before { length before.now ≡ length values.now * length a.now.states }
+    requires next { length next.old ≡ length next_values.now * length a.now.states }
+    ensures { next.new ≡ with_state a.now values.now before.now next_values.now q next.old }
+{
+    let s = a.states() as usize;
+    let at = q as usize;
+    if !is_reached(before, s, at, values) {
+        return;
+    }
+    let less = turn(a, q, Letter::Less);
+    add_move(less, Letter::Less, s, at, values, before, next_values, next);
+    let equal = turn(a, q, Letter::Equal);
+    add_move(
+        equal,
+        Letter::Equal,
+        s,
+        at,
+        values,
+        before,
+        next_values,
+        next,
+    );
+    let greater = turn(a, q, Letter::Greater);
+    add_move(
+        greater,
+        Letter::Greater,
+        s,
+        at,
+        values,
+        before,
+        next_values,
+        next,
+    );
+}
+
+/// Every hull becomes none.
+fn clear_all(row: &mut [Hull])
+    ensures { (p : ℕ) → p < length row.old → get_or row.new p none ≡ none }
+{
+    let len = row.len();
+    clear(row, 0, len);
+}
+
+/// One row from the row before it, in which no number is above 10^16 in size. It takes no memory.
+pub(crate) fn sweep_row(
+    a: &Automaton,
+    values: &Places<'_>,
+    before: &[Hull],
+    next_values: &Places<'_>,
+    next: &mut [Hull],
+)
+    requires before { length before.now ≡ length values.now * length a.now.states }
+    requires next { length next.old ≡ length next_values.now * length a.now.states }
+    requires small { list_all small_hull before.now ≡ true }
+    ensures { next.new ≡ next_row a.now values.now before.now next_values.now }
+{
+    count_of(values);
+    count_of(next_values);
+    clear_all(next);
+    for q in 0..a.states() {
+        add_state(a, q, values, before, next_values, next);
+    }
+}

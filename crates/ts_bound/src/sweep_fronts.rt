@@ -1,0 +1,81 @@
+//! The fronts of a move on packed hulls, and what the next cell makes of their hull.
+
+ghost use Rattle.std.specs.Prelude.{◌≡◌, true};
+ghost use Rattle.ts_base.specs.Spans.{has_some};
+ghost use Rattle.ts_bound.specs.Cuts.{closed_hull, front_hull, part_split, parts_cut, swept};
+ghost use Rattle.ts_bound.specs.Packs.{IsPackOf, unpack_hull, unpack_span};
+ghost use Rattle.ts_bound.specs.Sealed.{some_hull};
+ghost use Rattle.ts_bound.specs.Smalls.{small_int};
+ghost use Rattle.ts_bound.specs.Splits.{closed_span, front_span, is_swept};
+
+use crate::packed::{Ends, Packed};
+use crate::packed_exprs::{ends_of, joined_ends};
+use crate::sweep_parts::{Part, Parts};
+
+impl Part<'_> {
+    /// The span of the front.
+    #[inline(always)]
+    fn front_ends(&self, h: &Packed, x: i64) -> Ends
+        requires swept { is_swept (part_split self.now) ≡ true }
+        requires hull { some_hull (unpack_hull h.now) ≡ true }
+        requires this { small_int x ≡ true }
+        ensures value { unpack_span result ≡ front_span (part_split self.now) (unpack_hull h.now) x }
+        ensures some { has_some (unpack_span result) ≡ true }
+    {
+        match *self {
+            Part::Front(e) => ends_of(e, h, x, 0),
+            Part::Tail(_, e) => ends_of(e, h, x, 0),
+            Part::Double(o, e, f) => joined_ends(o, ends_of(e, h, x, 0), ends_of(f, h, x, 0)),
+            Part::Pairs => unreachable!(),
+        }
+    }
+
+    /// What the next cell makes of the hull of fronts.
+    #[inline(always)]
+    fn closed_ends(&self, s: Ends, y: i64) -> Ends
+        requires swept { is_swept (part_split self.now) ≡ true }
+        requires span { has_some (unpack_span s) ≡ true }
+        requires next { small_int y ≡ true }
+        ensures value { unpack_span result ≡ closed_span (part_split self.now) (unpack_span s) y }
+        ensures some { has_some (unpack_span result) ≡ true }
+    {
+        match *self {
+            Part::Front(_) => s,
+            Part::Tail(o, _) => joined_ends(o, s, Ends::one(y)),
+            Part::Double(o, _, _) => joined_ends(o, s, Ends::one(y)),
+            Part::Pairs => unreachable!(),
+        }
+    }
+}
+
+impl Parts<'_> {
+    /// The fronts on a hull in which registers lie.
+    #[inline(always)]
+    pub(crate) fn front_packed(&self, h: &Packed, x: i64) -> Packed
+        requires swept { swept (parts_cut self.now) ≡ true }
+        requires hull { some_hull (unpack_hull h.now) ≡ true }
+        requires this { small_int x ≡ true }
+        ensures { IsPackOf result (front_hull (parts_cut self.now) (unpack_hull h.now) x) }
+    {
+        Packed {
+            c: self.c.front_ends(h, x),
+            d: self.d.front_ends(h, x),
+            r: self.r.front_ends(h, x),
+        }
+    }
+
+    /// What the next cell makes of the hull of fronts.
+    #[inline(always)]
+    pub(crate) fn closed_packed(&self, h: &Packed, y: i64) -> Packed
+        requires swept { swept (parts_cut self.now) ≡ true }
+        requires hull { some_hull (unpack_hull h.now) ≡ true }
+        requires next { small_int y ≡ true }
+        ensures { unpack_hull result ≡ closed_hull (parts_cut self.now) (unpack_hull h.now) y }
+    {
+        Packed {
+            c: self.c.closed_ends(h.c, y),
+            d: self.d.closed_ends(h.d, y),
+            r: self.r.closed_ends(h.r, y),
+        }
+    }
+}

@@ -1,0 +1,217 @@
+//! Moves over a row of small numbers that are not swept: over all pairs of values that the letter fits.
+
+ghost use Rattle.std.specs.Prelude.{◌≡◌, ◌+◌, ◌*◌, ◌<◌, pos, true, length, get_or};
+ghost use Rattle.ts_automaton.specs.Body.{move_of};
+ghost use Rattle.ts_automaton.specs.declared.regs.Hull.{Hull};
+ghost use Rattle.ts_bound.specs.Hulls.{hull_of_both, none};
+ghost use Rattle.ts_bound.specs.Packs.{IsPackOf, IsRunning, unpack_hull};
+ghost use Rattle.ts_bound.specs.Sealed.{after_move, some_hull};
+ghost use Rattle.ts_bound.specs.Smalls.{small_hull, small_int};
+ghost use Rattle.ts_bound.specs.Sweeps.{AllTakeNone, IsSweepable, fits, hull_in, move_entry, pair_gives};
+ghost use Rattle.ts_bound.specs.Sweeps.{with_hull_at, with_move};
+
+use crate::packed::Packed;
+use crate::packed_exprs::moved_packed;
+use crate::sweep_run::{Run, fits, has_registers, put, step_place, with_next};
+use crate::sweep_values::{Places, count_of, value_at};
+use ts_automaton::{Hull, Turn};
+use ts_base::Letter;
+
+/// The move on a packed hull, between two places.
+#[inline(always)]
+fn packed_between(
+    t: &Turn,
+    h: &Packed,
+    values: &Places<'_>,
+    i: usize,
+    next_values: &Places<'_>,
+    j: usize,
+) -> Packed
+    requires first { i < length values.now }
+    requires second { j < length next_values.now }
+    requires some { some_hull (unpack_hull h.now) ≡ true }
+    requires this { small_int (get_or values.now i (pos 0)) ≡ true }
+    requires next { small_int (get_or next_values.now j (pos 0)) ≡ true }
+    ensures { IsPackOf result (after_move (move_of t.now)
+        (unpack_hull h.now) (get_or values.now i (pos 0)) (get_or next_values.now j (pos 0))) }
+{
+    moved_packed(t, h, value_at(values, i), value_at(next_values, j))
+}
+
+/// The move on a hull in which registers lie, between two places.
+#[inline(always)]
+fn moved_of(
+    t: &Turn,
+    h: &Hull,
+    values: &Places<'_>,
+    i: usize,
+    next_values: &Places<'_>,
+    j: usize,
+) -> Packed
+    requires first { i < length values.now }
+    requires second { j < length next_values.now }
+    requires some { some_hull h.now ≡ true }
+    requires small { small_hull h.now ≡ true }
+    requires this { small_int (get_or values.now i (pos 0)) ≡ true }
+    requires next { small_int (get_or next_values.now j (pos 0)) ≡ true }
+    ensures { IsPackOf result (after_move (move_of t.now)
+        h.now (get_or values.now i (pos 0)) (get_or next_values.now j (pos 0))) }
+{
+    packed_between(t, &Packed::of(h), values, i, next_values, j)
+}
+
+/// The run with the move on a hull more.
+#[inline(always)]
+fn with_moved_hull(
+    t: &Turn,
+    h: &Hull,
+    values: &Places<'_>,
+    i: usize,
+    next_values: &Places<'_>,
+    j: usize,
+    run: Run,
+) -> Run
+    requires first { i < length values.now }
+    requires second { j < length next_values.now }
+    requires small { small_hull h.now ≡ true }
+    requires this { small_int (get_or values.now i (pos 0)) ≡ true }
+    requires next { small_int (get_or next_values.now j (pos 0)) ≡ true }
+    requires begun { run.any ≡ true → some_hull (unpack_hull run.hull) ≡ true }
+    ensures { (r : Hull) → IsRunning run.any run.hull r → IsRunning result.any result.hull
+        (hull_of_both r (after_move (move_of t.now)
+        h.now (get_or values.now i (pos 0)) (get_or next_values.now j (pos 0)))) }
+{
+    if has_registers(h) {
+        Run {
+            at: run.at,
+            any: true,
+            hull: with_next(run.any, run.hull, moved_of(t, h, values, i, next_values, j)),
+        }
+    } else {
+        run
+    }
+}
+
+/// The run with the move at place `i`, state `q`.
+#[inline(always)]
+fn with_moved(
+    t: &Turn,
+    s: usize,
+    q: usize,
+    values: &Places<'_>,
+    before: &[Hull],
+    i: usize,
+    next_values: &Places<'_>,
+    j: usize,
+    run: Run,
+) -> Run
+    requires first { i < length values.now }
+    requires second { j < length next_values.now }
+    requires state { q < s }
+    requires before { length before.now ≡ length values.now * s }
+    requires small { small_hull (hull_in s q before.now i) ≡ true }
+    requires this { small_int (get_or values.now i (pos 0)) ≡ true }
+    requires next { small_int (get_or next_values.now j (pos 0)) ≡ true }
+    requires begun { run.any ≡ true → some_hull (unpack_hull run.hull) ≡ true }
+    ensures { (r : Hull) → IsRunning run.any run.hull r → IsRunning result.any result.hull
+        (hull_of_both r (after_move (move_of t.now)
+        (hull_in s q before.now i) (get_or values.now i (pos 0)) (get_or next_values.now j (pos 0)))) }
+{
+    with_moved_hull(t, &before[i * s + q], values, i, next_values, j, run)
+}
+
+/// The run with what one pair of values gives.
+#[inline(always)]
+pub(crate) fn with_pair(
+    t: &Turn,
+    l: Letter,
+    s: usize,
+    q: usize,
+    values: &Places<'_>,
+    before: &[Hull],
+    i: usize,
+    next_values: &Places<'_>,
+    j: usize,
+    run: Run,
+) -> Run
+    requires first { i < length values.now }
+    requires second { j < length next_values.now }
+    requires sweepable { IsSweepable values.now next_values.now before.now }
+    requires state { q < s }
+    requires before { length before.now ≡ length values.now * s }
+    requires begun { run.any ≡ true → some_hull (unpack_hull run.hull) ≡ true }
+    ensures { (r : Hull) → IsRunning run.any run.hull r → IsRunning result.any result.hull
+        (hull_of_both r
+        (pair_gives (move_of t.now) l s q values.now before.now (get_or next_values.now j (pos 0)) i)) }
+{
+    if fits(l, values, i, next_values, j) {
+        with_moved(t, s, q, values, before, i, next_values, j, run)
+    } else {
+        run
+    }
+}
+
+/// What the move gives to the next value at place `j`, over all pairs.
+fn pair_entry(
+    t: &Turn,
+    l: Letter,
+    s: usize,
+    q: usize,
+    values: &Places<'_>,
+    before: &[Hull],
+    next_values: &Places<'_>,
+    j: usize,
+) -> Run
+    requires second { j < length next_values.now }
+    requires sweepable { IsSweepable values.now next_values.now before.now }
+    requires state { q < s }
+    requires before { length before.now ≡ length values.now * s }
+    ensures { IsRunning result.any result.hull
+        (move_entry (move_of t.now) l s q values.now before.now (get_or next_values.now j (pos 0))) }
+{
+    let mut run = Run::empty();
+    for i in 0..count_of(values) {
+        run = with_pair(t, l, s, q, values, before, i, next_values, j, run);
+    }
+    run
+}
+
+/// The next value at place `j`, state `to`, takes in a run.
+#[inline(always)]
+pub(crate) fn put_packed(run: &Run, next: &mut [Hull], s: usize, to: usize, j: usize)
+    requires inside { j * s + to < length next.old }
+    requires canonical { hull_of_both (get_or next.old (j * s + to) none) none ≡ get_or next.old (j * s + to) none }
+    ensures { (r : Hull) → IsRunning run.now.any run.now.hull r → next.new ≡ with_hull_at next.old (j * s + to) r }
+{
+    if run.any {
+        put(next, s, to, j, run.hull.unpacked());
+    }
+}
+
+/// A move on `<` or `>` by pairs.
+pub(crate) fn pair_move(
+    t: &Turn,
+    l: Letter,
+    s: usize,
+    q: usize,
+    values: &Places<'_>,
+    before: &[Hull],
+    next_values: &Places<'_>,
+    next: &mut [Hull],
+)
+    requires sweepable { IsSweepable values.now next_values.now before.now }
+    requires canonical { AllTakeNone next.old }
+    requires state { q < s }
+    requires leads { t.now.next < s }
+    requires before { length before.now ≡ length values.now * s }
+    requires next { length next.old ≡ length next_values.now * s }
+    ensures { next.new ≡ with_move (move_of t.now) l s q values.now before.now next_values.now next.old }
+{
+    let n = count_of(next_values);
+    let to = t.next as usize;
+    for k in 0..count_of(next_values) {
+        let j = step_place(l, n, k);
+        let run = pair_entry(t, l, s, q, values, before, next_values, j);
+        put_packed(&run, next, s, to, j);
+    }
+}
