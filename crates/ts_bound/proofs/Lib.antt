@@ -18,3 +18,4 @@ mod SweepLaws
 pub mod SweptRows
 pub mod ValueLaws
 pub mod Passed
+mod Listed

@@ -159,7 +159,7 @@ fn split_value(
 }
 
 /// The number of states of the reverse automaton.
-fn reverse_states(m: &Machine) -> u8
+pub(crate) fn reverse_states(m: &Machine) -> u8
     requires { IsSome (pair_of m.now) }
     ensures count { result ≡ back_states (pair_of m.now) }
     ensures rules { OfReverse (pair_of m.now) (λ b. IsTrue (is_automaton b)) }
