@@ -12,6 +12,7 @@
 //! ```
 #![tactic(auto)]
 
+mod all_spans;
 mod block;
 mod fill;
 pub mod laws;
@@ -30,7 +31,10 @@ mod sweep_run;
 mod sweep_values;
 mod table;
 mod tables;
+#[cfg(test)]
+mod tests;
 
+pub use all_spans::value_spans;
 pub use row::fill_row;
 pub use spans::{term_span, value_span};
 pub use table::HullTable;
