@@ -2,7 +2,7 @@
 use Rattle.std.proofs.Common.{◌≡◌, ℕ, zero, suc, ◌+◌, ◌-◌, ◌<◌, ◌≤◌, List, [], ◌∷◌, ◌++◌, length, map, take, replicate, get_or, ℤ, ◌*◌, refl, sym, ap, ◌∙◌, arith, subst}
 use Rattle.std.specs.Prelude.{sum}
 use Rattle.std.proofs.lemmas.List.{take_more, length-replicate, take_all, drop-replicate}
-use Rattle.std.proofs.lemmas.List.Sums.{fold_more, sum_by-append, sum_by-take-le}
+use Rattle.std.proofs.lemmas.List.Sums.{fold_more, sum_by-append}
 use Rattle.std.proofs.lemmas.List.{get_or-map, length-map}
 use Rattle.ts_bound.specs.Rows.{rows_from, rows_of, Ends, Starts}
 

@@ -1,10 +1,9 @@
 -- A smaller box has smaller hulls, and where the mark leaves answers as they are, smaller spans.
-use Rattle.std.proofs.Common.{◌≡◌, ℕ, zero, suc, ◌+◌, ◌-◌, ◌<◌, ◌≤◌, ◌⊎◌, inl, inr, ⊎_elim, ℤ, pos, Bool, true, false, cond, ◌&&◌, nat_eq, List, [], ◌∷◌, ◌++◌, length, map, take, drop, get_or, refl, sym, ap, ◌∙◌, subst, arith}
-use Rattle.std.specs.Prelude.{IsTrue, fold, flat_map, reverse, Contains, Option, None, Some, IfSome}
+use Rattle.std.proofs.Common.{◌≡◌, ℕ, zero, suc, ◌+◌, ◌-◌, ◌<◌, ◌≤◌, inl, inr, ⊎_elim, ℤ, pos, Bool, true, false, cond, ◌&&◌, nat_eq, List, [], ◌∷◌, ◌++◌, length, map, take, drop, get_or, refl, sym, ap, ◌∙◌, subst, arith}
+use Rattle.std.specs.Prelude.{fold, flat_map, reverse, Contains, Option, None, Some, IfSome}
 use Rattle.std.specs.List.{range_with_len, AllByRecursion}
 use Rattle.std.proofs.lemmas.Bool.{and_from, and_parts}
 use Rattle.std.proofs.lemmas.List.{reverse-append}
-use Rattle.ts_base.specs.declared.ext.Ext.{Ext}
 use Rattle.ts_base.specs.declared.ext.Ext.TheVariants.{Int as Number}
 use Rattle.ts_base.specs.declared.span.Span.{Span}
 use Rattle.ts_base.specs.SpanLayer.{IsWithin}
@@ -16,8 +15,8 @@ use Rattle.ts_automaton.specs.declared.regs.Hull.{Hull}
 use Rattle.ts_automaton.specs.Formula.{Formula}
 use Rattle.ts_automaton.specs.Registers.{EachOf, Each, spans_of, spans, ext_op, value_in}
 use Rattle.ts_automaton.specs.Body.{Body, Move}
-use Rattle.ts_automaton.specs.AutomatonRun.{Standing, move_between, moved, finished}
-use Rattle.ts_automaton.specs.SpanRun.{none_hull, has_registers, moved_hull, span_step, finished_span, marked_span, finish_span_of}
+use Rattle.ts_automaton.specs.AutomatonRun.{move_between, moved, finished}
+use Rattle.ts_automaton.specs.SpanRun.{none_hull, has_registers, moved_hull, finished_span, marked_span, finish_span_of}
 use Rattle.ts_automaton.proofs.Evaluation.{value_related}
 use Rattle.ts_automaton.proofs.KindLaws.{op_mono}
 use Rattle.ts_automaton.proofs.RunLaws.{marks_hold}
@@ -26,8 +25,8 @@ use Rattle.ts_glue.specs.Pairs.{Pair}
 use Rattle.ts_glue.specs.Glued.{glue_span_at, glued_span}
 use Rattle.ts_glue.proofs.SpanGlue.{glued_spans_grow}
 use Rattle.ts_bound.specs.Hulls.{hull_of, none, hull_of_both, hull_of_all}
-use Rattle.ts_bound.specs.NextRow.{Source, source, standing_at, given, next_hull, states_of}
-use Rattle.ts_bound.specs.HullTables.{start_hull, hull_at, cells_before, cells_after, values_at}
+use Rattle.ts_bound.specs.NextRow.{Source, source, given, next_hull, states_of}
+use Rattle.ts_bound.specs.HullTables.{hull_at, cells_before, cells_after, values_at}
 use Rattle.ts_bound.specs.TermSpans.{Automata, standing_in, span_of_all, finish_spans, glued_spans, spans_at, value_span, term_span}
 use Rattle.ts_bound.specs.Laws.{Splits, AreAutomata, AreWithin, SmallerBoxesAreWithin}
 use Rattle.ts_bound.proofs.Reached.{Any, any_of_map, any_flat, any_range, any_flat_range, any_mapped, spans_take}

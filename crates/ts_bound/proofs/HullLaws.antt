@@ -1,5 +1,5 @@
 -- The hull of several hulls: what it leaves unchanged.
-use Rattle.std.proofs.Common.{◌≡◌, Bool, true, false, cond, refl, ap, ◌∙◌}
+use Rattle.std.proofs.Common.{◌≡◌, Bool, true, false, cond, refl, ap}
 use Rattle.ts_base.specs.declared.span.Span.{Span}
 use Rattle.ts_base.specs.Numbers.{ext_max, ext_min}
 use Rattle.ts_base.specs.Spans.{none_span, has_some, span_hull}

@@ -1,5 +1,5 @@
 -- Moves that give nothing leave the next row: those of a state that nothing reaches, and those on a letter that no pair of values has.
-use Rattle.std.proofs.Common.{◌≡◌, ℕ, zero, suc, ◌+◌, ◌*◌, ◌<◌, ◌≤◌, ◌≤ℤ◌, Bool, true, false, cond, ◌&&◌, int_lt, int_le, ℤ, pos, List, length, get_or, set, refl, sym, ◌∙◌, ap, arith}
+use Rattle.std.proofs.Common.{◌≡◌, ℕ, zero, suc, ◌+◌, ◌*◌, ◌<◌, ◌≤ℤ◌, Bool, true, false, cond, ◌&&◌, int_lt, int_le, ℤ, pos, List, length, get_or, set, refl, sym, ◌∙◌, ap, arith}
 use Rattle.std.proofs.lemmas.Int.{ints}
 use Rattle.std.proofs.lemmas.List.{set-get_or}
 use Rattle.ts_base.specs.declared.letter.Letter.{Letter}

@@ -6,27 +6,26 @@ use Rattle.std.proofs.lemmas.Bool.{eq-eqb, eqb-true, eqb-false}
 use Rattle.std.proofs.lemmas.List.{reverse-append, length-set, drop_all, get_or-set_same}
 use Rattle.ts_base.specs.declared.ext.Ext.{Ext}
 use Rattle.ts_base.specs.declared.span.Span.{Span}
-use Rattle.ts_base.specs.Limits.{most_cells, IsCellValue}
-use Rattle.ts_base.specs.SpanLayer.{IsWithin}
+use Rattle.ts_base.specs.Limits.{most_cells}
 use Rattle.ts_base.specs.Spans.{none_span, has_some, Holds, span_hull}
 use Rattle.ts_base.proofs.SpanLaws.{holds_one, hull_left, hull_right}
 use Rattle.ts_automaton.specs.declared.regs.Hull.{Hull}
 use Rattle.ts_automaton.specs.Registers.{EachOf, spans_of, numbers}
 use Rattle.ts_automaton.specs.Typing.{is_automaton}
 use Rattle.ts_automaton.specs.Body.{Body}
-use Rattle.ts_automaton.specs.AutomatonRun.{Standing, start_of, step_of, after, answer, finish_of, finished, marked, IsInMark, Marked, AreCellValues}
-use Rattle.ts_automaton.specs.SpanRun.{one_hull, HoldsRegs, span_step, finished_span, finish_span_of}
+use Rattle.ts_automaton.specs.AutomatonRun.{Standing, step_of, after, answer, finish_of, finished, marked, IsInMark, Marked, AreCellValues}
+use Rattle.ts_automaton.specs.SpanRun.{HoldsRegs, span_step, finished_span, finish_span_of}
 use Rattle.ts_automaton.proofs.RunLaws.{steps_hold, finishes_hold, marks_hold}
-use Rattle.ts_domain.specs.Values.{IsDomain, WithinLimits}
+use Rattle.ts_domain.specs.Values.{WithinLimits}
 use Rattle.ts_domain.specs.BoxSeries.{InBox, IsBox}
 use Rattle.ts_domain.proofs.Sets.{contains_cons}
 use Rattle.ts_glue.specs.Pairs.{Pair}
 use Rattle.ts_glue.specs.Glued.{glued, glued_span}
 use Rattle.ts_glue.proofs.SpanGlue.{marked_spans_hold}
 use Rattle.ts_glue.proofs.CallerLemmas.{after_back, after_stands, cut_at, answers_at_cuts}
-use Rattle.ts_bound.specs.Hulls.{hull_of, none, hull_of_both, hull_of_all}
+use Rattle.ts_bound.specs.Hulls.{hull_of, none, hull_of_both}
 use Rattle.ts_bound.specs.NextRow.{Source, source, standing_at, given, next_hull, states_of}
-use Rattle.ts_bound.specs.HullTables.{start_hull, hull_at, cells_before, cells_after, values_at}
+use Rattle.ts_bound.specs.HullTables.{start_hull, hull_at, cells_before, values_at}
 use Rattle.ts_bound.specs.TermSpans.{Automata, standing_in, span_of_all, finish_spans, glued_spans, spans_at, value_span, term_span, IsUsable}
 use Rattle.ts_bound.specs.Laws.{Splits, AreAutomata, SpansHold, ValueSpansAreNarrowed, ValueSpansAreWithin}
 use Rattle.ts_bound.proofs.HullLaws.{IsCanonical, hull_canonical}

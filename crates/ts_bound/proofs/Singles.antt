@@ -1,28 +1,26 @@
 -- On a box of one series the span at the last cell is exactly its answer.
-use Rattle.std.proofs.Common.{◌≡◌, ℕ, zero, suc, ◌+◌, ◌-◌, ◌<◌, ◌≤◌, ℤ, pos, Bool, true, false, cond, nat_eq, List, [], ◌∷◌, ◌++◌, length, map, take, drop, get_or, refl, sym, ap, ◌∙◌, subst, arith}
-use Rattle.std.specs.Prelude.{IsTrue, fold, flat_map, reverse, Option, None, Some, IfSome}
+use Rattle.std.proofs.Common.{◌≡◌, ℕ, zero, suc, ◌+◌, ◌-◌, ◌<◌, ◌≤◌, ℤ, pos, Bool, true, false, cond, nat_eq, List, [], ◌∷◌, ◌++◌, length, map, take, get_or, refl, sym, ap, ◌∙◌, arith}
+use Rattle.std.specs.Prelude.{IsTrue, fold, reverse}
 use Rattle.std.specs.List.{range_with_len}
 use Rattle.std.proofs.lemmas.Bool.{eqb-true, eqb-false}
-use Rattle.std.proofs.lemmas.List.{append-nil, length-map, get_or-map, take-map, reverse-append, drop_all}
+use Rattle.std.proofs.lemmas.List.{append-nil, length-map, get_or-map, reverse-append, drop_all}
 use Rattle.ts_base.specs.declared.ext.Ext.{Ext}
-use Rattle.ts_base.specs.declared.span.Span.{Span}
-use Rattle.ts_base.specs.Limits.{most_cells}
 use Rattle.ts_base.specs.Spans.{none_span, one_span, span_hull}
 use Rattle.ts_base.proofs.SpanLaws.{one_some}
 use Rattle.ts_automaton.specs.declared.regs.Hull.{Hull}
 use Rattle.ts_automaton.specs.Registers.{EachOf, spans_of}
 use Rattle.ts_automaton.specs.Typing.{is_automaton}
 use Rattle.ts_automaton.specs.Body.{Body}
-use Rattle.ts_automaton.specs.AutomatonRun.{Standing, step_of, after, answer, finish_of, AreCellValues}
+use Rattle.ts_automaton.specs.AutomatonRun.{Standing, step_of, after, answer, finish_of}
 use Rattle.ts_automaton.specs.SpanRun.{one_hull, span_step, finish_span_of}
 use Rattle.ts_automaton.proofs.RunLaws.{steps_stay_single, finishes_stay_single, nones_stay}
 use Rattle.ts_glue.proofs.CallerLemmas.{after_back, after_stands, cut_at}
 use Rattle.ts_bound.specs.Hulls.{hull_of, none, hull_of_both, hull_of_all}
 use Rattle.ts_bound.specs.NextRow.{Source, source, standing_at, given, next_hull, states_of}
 use Rattle.ts_bound.specs.HullTables.{start_hull, hull_at, cells_before, values_at}
-use Rattle.ts_bound.specs.TermSpans.{Automata, standing_in, span_of_all, finish_spans, value_span, term_span}
+use Rattle.ts_bound.specs.TermSpans.{standing_in, span_of_all, finish_spans, value_span, term_span}
 use Rattle.ts_bound.specs.Blocks.{last_at}
-use Rattle.ts_bound.specs.Laws.{AreAutomata, SpansStaySingle}
+use Rattle.ts_bound.specs.Laws.{SpansStaySingle}
 use Rattle.ts_bound.proofs.HullLaws.{IsCanonical, some_canonical, same_hull}
 use Rattle.ts_bound.proofs.Reached.{run, turned}
 use Rattle.ts_bound.proofs.SpanEnds.{last_value_ends, finishes_are}

@@ -1,6 +1,6 @@
 -- Spans read off rows are those of the definitions; at the last cell the glued form is the finish form.
-use Rattle.std.proofs.Common.{◌≡◌, ℕ, zero, suc, ◌+◌, ◌*◌, ◌-◌, ◌<◌, ◌≤◌, ◌⊎◌, inl, inr, ⊎_elim, ℤ, Bool, true, false, cond, nat_eq, List, [], ◌∷◌, ◌++◌, length, map, take, drop, get_or, refl, sym, ap, ◌∙◌, subst, arith}
-use Rattle.std.specs.Prelude.{IsTrue, IsSome, fold, flat_map, reverse, Contains, Option, None, Some, IfSome, option_map, slice_range}
+use Rattle.std.proofs.Common.{◌≡◌, ℕ, zero, suc, ◌+◌, ◌<◌, ◌≤◌, inr, ⊎_elim, ℤ, Bool, true, false, cond, nat_eq, List, [], ◌∷◌, ◌++◌, length, map, get_or, refl, sym, ap, ◌∙◌, subst, arith}
+use Rattle.std.specs.Prelude.{IsTrue, IsSome, fold, flat_map, Contains, Option, None, Some, IfSome, option_map}
 use Rattle.std.specs.List.{range_with_len, AllByRecursion}
 use Rattle.std.proofs.lemmas.Bool.{eqb-true}
 use Rattle.std.proofs.lemmas.List.{drop_all}
@@ -13,17 +13,15 @@ use Rattle.ts_automaton.specs.declared.regs.Hull.{Hull}
 use Rattle.ts_automaton.specs.Registers.{spans_of}
 use Rattle.ts_automaton.specs.Typing.{is_automaton}
 use Rattle.ts_automaton.specs.Body.{Body}
-use Rattle.ts_automaton.specs.AutomatonRun.{Standing}
 use Rattle.ts_automaton.specs.SpanRun.{has_registers, finish_span_of, one_hull}
 use Rattle.ts_automaton.proofs.Rules.{rules_of}
 use Rattle.ts_domain.proofs.Sets.{contains_cons}
-use Rattle.ts_domain.specs.Values.{WithinLimits}
 use Rattle.ts_domain.specs.BoxSeries.{IsBox}
 use Rattle.ts_glue.specs.declared.machine.Machine.{Machine}
 use Rattle.ts_glue.specs.declared.half.Half.{Half}
 use Rattle.ts_glue.specs.Pairs.{Pair, pair, table_view}
 use Rattle.ts_glue.specs.Machines.{forward_of, pair_of, reverse_of}
-use Rattle.ts_glue.specs.Glued.{glued_span, Local}
+use Rattle.ts_glue.specs.Glued.{glued_span}
 use Rattle.ts_glue.specs.Rules.{keeps_rules}
 use Rattle.ts_glue.proofs.SpanGlue.{none_glues_to_none}
 use Rattle.ts_glue.proofs.TwoForms.{two_forms_agree}
@@ -32,9 +30,9 @@ use Rattle.ts_bound.specs.NextRow.{states_of}
 use Rattle.ts_bound.specs.HullTables.{start_hull, hull_at, hulls_at, cells_before, cells_after, values_at}
 use Rattle.ts_bound.specs.TermSpans.{Automata, automata_of, standing_in, span_of_all, finish_spans, glued_spans, spans_at, value_span, term_span}
 use Rattle.ts_bound.specs.Laws.{Splits, AreAutomata}
-use Rattle.ts_bound.specs.Blocks.{standing_of, HullsStand, glued_by, finishes, glued_with, glued_all, OfReverse, AreBackRows, back_hulls, back_states, split_at, last_at}
+use Rattle.ts_bound.specs.Blocks.{standing_of, HullsStand, finishes, glued_with, glued_all, OfReverse, back_hulls, back_states, split_at, last_at}
 use Rattle.ts_bound.proofs.HullLaws.{IsCanonical, hull_canonical}
-use Rattle.ts_bound.proofs.SpanRuns.{block_is, block_rest, length-hulls_at, hulls_stand}
+use Rattle.ts_bound.proofs.SpanRuns.{length-hulls_at, hulls_stand}
 
 -- lists over a range that agree at each place
 

@@ -2,11 +2,10 @@
 use Rattle.std.proofs.Common.{◌≡◌, ℕ, zero, suc, ◌+◌, ◌*◌, ◌-◌, ◌<◌, ◌≤◌, ◌⊎◌, inl, inr, ℤ, Bool, true, false, cond, nat_eq, List, [], ◌∷◌, ◌++◌, length, map, take, drop, set, get_or, replicate, refl, sym, ap, ◌∙◌, subst, arith}
 use Rattle.std.specs.Prelude.{IsTrue, fold, flat_map, slice_range}
 use Rattle.std.specs.List.{range_with_len, AllByRecursion}
-use Rattle.std.proofs.lemmas.List.{length-append, length-set, length-map, get_or-map, length-replicate, take_more, drop_more, drop_all, take_all, get_or-take, get_or-drop, get_or-set_other, set-get_or}
+use Rattle.std.proofs.lemmas.List.{length-append, length-map, get_or-map, length-replicate, take_more, drop_more, drop_all, take_all, get_or-take, get_or-drop, get_or-set_other, set-get_or}
 use Rattle.std.proofs.lemmas.List.FromFn.{length-map-range_with_len}
 use Rattle.std.proofs.lemmas.Bool.{eqb-true}
 use Rattle.std.proofs.Math.Seq.{take-append_seam, drop-append_seam}
-use Rattle.ts_base.specs.declared.ext.Ext.{Ext}
 use Rattle.ts_base.specs.declared.span.Span.{Span}
 use Rattle.ts_base.specs.Numbers.{ext_le, ext_max, ext_min}
 use Rattle.ts_base.specs.Spans.{none_span, has_some, span_hull}
@@ -14,7 +13,7 @@ use Rattle.ts_base.proofs.Order.{le_trans, min_left, max_left}
 use Rattle.ts_base.proofs.SpanLaws.{one_some}
 use Rattle.ts_automaton.specs.declared.kind.RegKind.{RegKind}
 use Rattle.ts_automaton.specs.declared.regs.Hull.{Hull}
-use Rattle.ts_automaton.specs.Registers.{EachOf, Each, spans_of, spans}
+use Rattle.ts_automaton.specs.Registers.{Each, spans_of, spans}
 use Rattle.ts_automaton.specs.Kinds.{HasKind, SpanHasKind, SpansFit}
 use Rattle.ts_automaton.specs.Typing.{kinds_at, is_automaton}
 use Rattle.ts_automaton.specs.Body.{Body, Move}
@@ -22,9 +21,8 @@ use Rattle.ts_automaton.specs.AutomatonRun.{Standing, move_between, moved}
 use Rattle.ts_automaton.specs.SpanRun.{none_hull, has_registers, one_hull, HullStands, span_step}
 use Rattle.ts_automaton.proofs.KindLaws.{spans_typed}
 use Rattle.ts_automaton.proofs.StepLaws.{start_stands, spans_have, move_keeps}
-use Rattle.ts_automaton.proofs.RunLaws.{kinds_are_kept}
 use Rattle.ts_base.specs.Signature.{letter_of}
-use Rattle.ts_bound.specs.Hulls.{hull_of, none, hull_of_both, hull_of_all}
+use Rattle.ts_bound.specs.Hulls.{hull_of, none, hull_of_both}
 use Rattle.ts_bound.specs.NextRow.{Source, source, standing_at, sources_from, sources, given, next_hull, next_hulls, next_row, states_of, RowStands}
 use Rattle.ts_bound.specs.Rows.{IsRow, row_at, joined, place, with_written}
 use Rattle.ts_bound.proofs.RowLaws.{row_written, next_written, both_written, row_before, row_after, row_after_at}

@@ -4,7 +4,7 @@ use Rattle.std.specs.Prelude.{ℕ, suc, ℤ, nat_eq, if◌then◌else◌, List, 
 use Rattle.std.specs.List.{range_with_len, AllByRecursion}
 use Rattle.ts_base.specs.declared.span.Span.{Span}
 use Rattle.ts_automaton.specs.declared.regs.Hull.{Hull}
-use Rattle.ts_automaton.specs.Registers.{EachOf, spans_of}
+use Rattle.ts_automaton.specs.Registers.{spans_of}
 use Rattle.ts_automaton.specs.Body.{Body}
 use Rattle.ts_automaton.specs.AutomatonRun.{Standing}
 use Rattle.ts_automaton.specs.SpanRun.{HullStands, span_step}

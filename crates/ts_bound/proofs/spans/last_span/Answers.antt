@@ -1,4 +1,4 @@
-use Rattle.std.proofs.Common.{◌≡◌, sym, ap, ◌∙◌, length, subst, rules, arith}
+use Rattle.std.proofs.Common.{◌≡◌, sym, length, subst, rules}
 use Rattle.ts_bound.specs.HullTables.{hulls_at, cells_before, values_at}
 use Rattle.ts_bound.specs.Blocks.{last_at}
 use Rattle.ts_bound.proofs.SpanRuns.{row_there, ahead_begun, block_fits, block_is, block_rest, length-hulls_at, hulls_stand}

@@ -1,11 +1,11 @@
 use mir.Val.{SFits}
-use Rattle.std.proofs.Common.{◌≡◌, sym, ap, ◌∙◌, length, subst, rules, w64, to_z, of_z, ◌-◌, arith}
+use Rattle.std.proofs.Common.{◌≡◌, sym, ap, ◌∙◌, length, subst, rules, w64, to_z, of_z}
 use Rattle.std.specs.Prelude.{Contains}
 use Rattle.std.proofs.lemmas.Int.{to_z-of_z}
 use Rattle.ts_bound.specs.HullTables.{hulls_at, cells_before, values_at}
 use Rattle.ts_bound.specs.Blocks.{last_at}
 use Rattle.ts_bound.proofs.SpanRuns.{row_there, ahead_begun, block_fits, block_is, block_rest, length-hulls_at, hulls_stand}
-use Rattle.ts_bound.proofs.SpanEnds.{last_one, still_there, nothing_there}
+use Rattle.ts_bound.proofs.SpanEnds.{last_one, still_there}
 use Rattle.ts_bound.proofs.spans.last_value.Goals as goal
 
 pub row-row-requires : goal.row-row-requires

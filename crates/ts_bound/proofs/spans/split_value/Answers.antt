@@ -1,14 +1,13 @@
 use mir.Val.{SFits}
-use Rattle.std.proofs.Common.{◌≡◌, refl, sym, ap, ◌∙◌, length, subst, rules, w64, to_z, of_z, ◌-◌, arith}
+use Rattle.std.proofs.Common.{◌≡◌, sym, ap, ◌∙◌, length, subst, rules, w64, to_z, of_z, ◌-◌, arith}
 use Rattle.std.specs.Prelude.{IsTrue, Contains}
 use Rattle.std.proofs.lemmas.Int.{to_z-of_z}
-use Rattle.ts_base.specs.Limits.{IsCellValue}
 use Rattle.ts_automaton.specs.Typing.{is_automaton}
 use Rattle.ts_glue.specs.Machines.{forward_of, pair_of}
 use Rattle.ts_bound.specs.HullTables.{hulls_at, cells_before, cells_after, values_at}
 use Rattle.ts_bound.specs.Blocks.{split_at, back_hulls, back_states}
-use Rattle.ts_bound.proofs.SpanRuns.{row_there, back_row_there, ahead_begun, back_begun, block_fits, block_is, block_rest, length-hulls_at, hulls_stand, split_some}
-use Rattle.ts_bound.proofs.SpanEnds.{Taken, taken_begun, taken_more, taken_all, split_one, within_of, first_within, back_length, right_kinds, still_there, nothing_there}
+use Rattle.ts_bound.proofs.SpanRuns.{row_there, back_row_there, ahead_begun, back_begun, block_fits, block_is, block_rest, length-hulls_at, hulls_stand}
+use Rattle.ts_bound.proofs.SpanEnds.{split_one, within_of, first_within, back_length, right_kinds, still_there}
 use Rattle.ts_bound.proofs.spans.split_value.Goals as goal
 
 pub row-row-requires : goal.row-row-requires

@@ -1,5 +1,5 @@
 use Rattle.std.proofs.Common.{refl, sym, ◌∙◌, ◌-◌, arith}
-use Rattle.ts_bound.proofs.TableLaws.{empty_sizes, no_rows, no_backward, filled_last, as_many, size_at, from_stands_at, from_more, from_all}
+use Rattle.ts_bound.proofs.TableLaws.{empty_sizes, no_rows, no_backward, filled_last, size_at, from_stands_at, from_more, from_all}
 use Rattle.ts_bound.proofs.tables.from_last.Goals as goal
 
 pub returns-then-k-eq0 : goal.returns-then-k-eq0

@@ -26,7 +26,7 @@ use denote.Struct.Struct.{Struct-Lawful}
 use denote.Struct.Tuple.{Tuple, tuple_type}
 use denote.Struct.Declared.{shape}
 use Rattle.std.specs.Prelude.{slice_range}
-use Rattle.std.proofs.Common.{length, take, slice_get, Some, drop as drop_l, ◌-◌, ◌++◌, ◌≡◌, arith}
+use Rattle.std.proofs.Common.{length, take, drop as drop_l, ◌-◌, ◌++◌, ◌≡◌, arith}
 
 abbrev stayed : Stays f.ended.signature.params f.ended.kept
 stayed = (stay_dropped _ no, (stay_dropped _ yes, tt))
