@@ -1,5 +1,5 @@
 -- Machines that answer the values of their terms have spans that hold the values, and tell that of a single series.
-use Rattle.std.proofs.Common.{◌≡◌, ℕ, ◌≤◌, ℤ, List, [], ◌∷◌, length, sym, ◌∙◌, ap, subst}
+use Rattle.std.proofs.Common.{ℕ, ◌≤◌, ℤ, List, [], ◌∷◌, sym, ◌∙◌, ap, subst}
 use Rattle.ts_base.specs.Limits.{most_cells}
 use Rattle.ts_base.specs.Spans.{Holds, one_span}
 use Rattle.ts_automaton.specs.AutomatonRun.{AreCellValues}

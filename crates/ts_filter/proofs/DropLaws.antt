@@ -5,7 +5,7 @@ use Rattle.std.proofs.lemmas.Option.{slice_get-map, slice_get_read}
 use Rattle.std.specs.Prelude.{Contains}
 use Rattle.std.specs.List.{AllByRecursion}
 use Rattle.ts_base.specs.declared.span.Span.{Span}
-use Rattle.ts_bound.specs.TermSpans.{Automata, automata_of, term_span, value_span, IsUsable as IsUsableOf}
+use Rattle.ts_bound.specs.TermSpans.{Automata, automata_of, value_span, IsUsable as IsUsableOf}
 use Rattle.ts_bound.proofs.Reached.{values_narrowed}
 use Rattle.ts_glue.specs.declared.machine.Machine.{Machine}
 use Rattle.ts_domain.specs.Values.{IsDomain, Rising}
@@ -15,8 +15,8 @@ use Rattle.ts_filter.specs.declared.drops.Removal.{Removal}
 use Rattle.ts_filter.specs.Boxes.{Box, values_at, only}
 use Rattle.ts_filter.specs.Drops.{MayDrop, IsNoLater, IsFirstOf, IsFirstDrop}
 use Rattle.ts_filter.specs.Excluded.{Refutes}
-use Rattle.ts_filter.specs.MachineSpans.{spans_of, AreOfMachine}
-use Rattle.ts_filter.specs.RefutedWorseDrop.{Spans, IsUsable, IsDrop}
+use Rattle.ts_filter.specs.MachineSpans.{spans_of}
+use Rattle.ts_filter.specs.RefutedWorseDrop.{IsUsable}
 use Rattle.ts_filter.specs.TermDrops.{IsRefuting, IsFirstRefuting, IsTermDrop, IsDropAt, earlier_of}
 use Rattle.ts_filter.proofs.CallLaws.{usable_only, usable_whole}
 use Rattle.ts_filter.proofs.MachineLaws.{spans_are_of_machines}

@@ -1,5 +1,5 @@
 -- The first cell below the last at which a span is excluded, by looking at one cell after another.
-use Rattle.std.proofs.Common.{◌≡◌, ◌⊎◌, ℕ, ◌+◌, ◌<◌, ◌≤◌, List, length, Option, Some, None, sym, subst, ⊎_elim, arith}
+use Rattle.std.proofs.Common.{◌≡◌, ◌⊎◌, ℕ, ◌+◌, ◌<◌, ◌≤◌, length, Some, None, subst, ⊎_elim, arith}
 use Rattle.ts_base.specs.declared.span.Span.{Span}
 use Rattle.ts_bound.specs.TermSpans.{Automata, term_span, IsUsable}
 use Rattle.ts_filter.specs.Boxes.{Box}

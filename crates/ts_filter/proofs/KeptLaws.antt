@@ -4,22 +4,21 @@ use Rattle.std.proofs.Common.{Option, Some, None, slice_get, refl, sym, ◌∙�
 use Rattle.std.proofs.lemmas.Int.{ints}
 use Rattle.std.proofs.lemmas.Option.{same_Some}
 use Rattle.std.specs.Prelude.{Contains}
-use Rattle.std.specs.List.{AllByRecursion}
 use Rattle.ts_base.specs.declared.ext.Ext.{Ext}
 use Rattle.ts_base.specs.declared.goal.Goal.{Goal}
 use Rattle.ts_base.specs.declared.goal.Goal.TheVariants.{Maximise, Minimise}
 use Rattle.ts_base.specs.Numbers.{ext_le}
-use Rattle.ts_base.proofs.Order.{le_refl, le_trans, le_antisym, le_other}
+use Rattle.ts_base.proofs.Order.{le_trans, le_antisym, le_other}
 use Rattle.ts_domain.specs.Values.{IsDomain, Rising}
 use Rattle.ts_domain.proofs.Sets.{contains_cons, nothing_in, each_contains}
 use Rattle.ts_filter.specs.Excluded.{is_better}
-use Rattle.ts_bound.specs.TermSpans.{Automata, term_span, value_span}
+use Rattle.ts_bound.specs.TermSpans.{Automata}
 use Rattle.ts_bound.proofs.Reached.{values_narrowed}
 use Rattle.ts_glue.specs.Pairs.{Pair}
-use Rattle.ts_filter.specs.Boxes.{Box, HasCell, values_at, only}
+use Rattle.ts_filter.specs.Boxes.{Box, HasCell, values_at}
 use Rattle.ts_filter.specs.Ends.{best_end}
 use Rattle.ts_filter.specs.KeptValue.{IsPreferred, IsKeptOver, IsKept, end_with, end_in}
-use Rattle.ts_filter.specs.Tables.{Tabled, tabled}
+use Rattle.ts_filter.specs.CellHulls.{AtCell, at_cell}
 use Rattle.ts_filter.proofs.DropLaws.{rising_parts}
 
 not_true : (t : Bool) → not t ≡ false → t ≡ true
@@ -171,9 +170,9 @@ module _ (a : Automata) (goal : Goal) (k : ℕ) (b : Box) (v : ℤ) where
       go u g None e = absurd (n e)
       go u g (Some p) e = by_same_ends u c (best u g)
 
-pub kept_by : (t : Tabled) (a : Automata) (b : Box) (goal : Goal) (k : ℕ) (v : ℤ) → t ≡ tabled a b → (a.pair ≡ None → ⊥) → HasCell k b →
-    Contains (values_at k t.cells) v → ((u : ℤ) → Contains (values_at k t.cells) u → IsPreferred goal (end_in t.machine goal k t.cells) v u) →
+pub kept_by : (t : AtCell) (a : Automata) (b : Box) (goal : Goal) (k : ℕ) (v : ℤ) → t ≡ at_cell a b k → (a.pair ≡ None → ⊥) → HasCell k b →
+    Contains (values_at t.cell t.cells) v → ((u : ℤ) → Contains (values_at t.cell t.cells) u → IsPreferred goal (end_in t.machine goal t.cell t.cells) v u) →
     IsKept a goal k b v
 kept_by t a b goal k v e n c there best =
-    kept_split a goal k b v n c (subst (λ z. Contains (values_at k z.cells) v) e there)
-    (subst (λ z. (u : ℤ) → Contains (values_at k z.cells) u → IsPreferred goal (end_in z.machine goal k z.cells) v u) e best)
+    kept_split a goal k b v n c (subst (λ z. Contains (values_at z.cell z.cells) v) e there)
+    (subst (λ z. (u : ℤ) → Contains (values_at z.cell z.cells) u → IsPreferred goal (end_in z.machine goal z.cell z.cells) v u) e best)

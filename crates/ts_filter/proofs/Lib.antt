@@ -15,3 +15,6 @@ mod Removals
 mod DropLaws
 mod EarlyCells
 mod KeptLaws
+mod KnownRows
+mod CellLaws
+mod TableSteps

@@ -1,5 +1,5 @@
 -- The drop that comes first.
-use Rattle.std.specs.Prelude.{◌≡◌, ◌⊎◌, ◌≤◌, ◌<◌, ℤ, ◌<ℤ◌, List, Option, Some, None}
+use Rattle.std.specs.Prelude.{◌≡◌, ◌⊎◌, ◌≤◌, ◌<◌, ◌<ℤ◌, List, Option, Some, None}
 use Rattle.ts_model.specs.declared.model.Require.{Require}
 use Rattle.ts_filter.specs.declared.drops.Removal.{Removal}
 use Rattle.ts_filter.specs.Boxes.{Box}

@@ -1,5 +1,5 @@
 -- The first cell below the last at which the span of a machine is excluded.
-use Rattle.std.specs.Prelude.{ℕ, ◌<◌, ◌≤◌, List, length, Option, Some, None}
+use Rattle.std.specs.Prelude.{ℕ, ◌<◌, ◌≤◌, length, Option, Some, None}
 use Rattle.ts_base.specs.declared.span.Span.{Span}
 use Rattle.ts_bound.specs.TermSpans.{Automata, term_span, IsUsable}
 use Rattle.ts_filter.specs.Boxes.{Box}

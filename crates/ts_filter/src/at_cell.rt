@@ -1,21 +1,106 @@
 //! What the span of a box at one cell excludes.
 
 ghost use Rattle.std.specs.Prelude.{◌≡◌, ◌↔◌, ◌≤◌, Contains, IfOk, IsTrue, None, length};
-ghost use Rattle.ts_bound.specs.TermSpans.{automata_of, term_span, value_span};
+ghost use Rattle.ts_bound.specs.TermSpans.{automata_of, term_span};
 ghost use Rattle.ts_domain.specs.BoxSeries.{IsCell, cell_of};
 ghost use Rattle.ts_filter.specs.Boxes.{only};
 ghost use Rattle.ts_filter.specs.Excluded.{Cuts, Refutes};
+ghost use Rattle.ts_filter.specs.Known.{AreKnown, StillKnown};
 ghost use Rattle.ts_filter.specs.declared.bar.Bar.TheVariants.{Better};
 ghost use Rattle.ts_glue.specs.Machines.{pair_of};
 
 use crate::bar::Bar;
+use crate::box_tables::BoxTables;
 use crate::excluded::{cuts, refutes};
 use std::alloc::Global;
-use ts_base::{Ext, Goal, Memory, Span};
-use ts_bound::{backward, forward, term_span, value_span};
+use ts_base::{Ext, Goal, Memory};
 use ts_domain::Boxed;
 use ts_glue::Machine;
 use ts_model::Require;
+
+impl<'a> BoxTables<'a> {
+    /// Whether the requirement is refuted at cell `p`: no number of its term's span there compares with the bound as it
+    /// says. Where the machine can't be split, only the last cell may be asked.
+    pub fn refuted(
+        &mut self,
+        alloc: Global,
+        r: &Require,
+        p: u32,
+        cells: &Boxed,
+    ) -> Result<bool, Memory>
+        requires cell { IsCell p cells.now }
+        requires usable { self.old.machine.pair ≡ None → p ≡ length cells.now.present }
+        requires known { AreKnown cells.now.present self.old }
+        ensures known { StillKnown cells.now.present self.old self.new }
+        ensures told { IfOk result (λ told. IsTrue told
+            ↔ Refutes r.now.op r.now.bound (term_span self.old.machine p cells.now.present)) }
+    {
+        self.make_at(alloc, p, cells)?;
+        Ok(refutes(r.op, r.bound, self.hulls_at(p, cells).span()))
+    }
+
+    /// Whether the objective isn't better at cell `p`: no number of its span there is better than `bar`. Where the
+    /// machine can't be split, only the last cell may be asked.
+    pub fn worse(
+        &mut self,
+        alloc: Global,
+        goal: Goal,
+        p: u32,
+        cells: &Boxed,
+        bar: Ext,
+    ) -> Result<bool, Memory>
+        requires cell { IsCell p cells.now }
+        requires usable { self.old.machine.pair ≡ None → p ≡ length cells.now.present }
+        requires known { AreKnown cells.now.present self.old }
+        ensures known { StillKnown cells.now.present self.old self.new }
+        ensures told { IfOk result (λ told. IsTrue told
+            ↔ Cuts goal (Better bar) (term_span self.old.machine p cells.now.present)) }
+    {
+        self.make_at(alloc, p, cells)?;
+        Ok(cuts(goal, Bar::Better(bar), self.hulls_at(p, cells).span()))
+    }
+
+    /// Whether no number of the objective's span at the last cell counts for the bar.
+    pub fn cut_at_end(
+        &mut self,
+        alloc: Global,
+        goal: Goal,
+        cells: &Boxed,
+        bar: Bar,
+    ) -> Result<bool, Memory>
+        requires some { 1 ≤ length cells.now.present }
+        requires known { AreKnown cells.now.present self.old }
+        ensures known { StillKnown cells.now.present self.old self.new }
+        ensures told { IfOk result (λ told. IsTrue told
+            ↔ Cuts goal bar (term_span self.old.machine (length cells.now.present) cells.now.present)) }
+    {
+        let n = cells.cells();
+        self.make_at(alloc, n, cells)?;
+        Ok(cuts(goal, bar, self.hulls_at(n, cells).span()))
+    }
+
+    /// Whether the requirement is refuted at cell `k` on the box with the value `v` alone there: the condition of a
+    /// drop where the cell has other values.
+    pub fn refuted_value(
+        &mut self,
+        alloc: Global,
+        r: &Require,
+        k: u32,
+        v: i64,
+        cells: &Boxed,
+    ) -> Result<bool, Memory>
+        requires cell { IsCell k cells.now }
+        requires usable { self.old.machine.pair ≡ None → k ≡ length cells.now.present }
+        requires known { AreKnown cells.now.present self.old }
+        requires value { Contains (cell_of k cells.now) v }
+        ensures known { StillKnown cells.now.present self.old self.new }
+        ensures told { IfOk result (λ told. IsTrue told
+            ↔ Refutes r.now.op r.now.bound (term_span self.old.machine k (only k v cells.now.present))) }
+    {
+        self.make_at(alloc, k, cells)?;
+        Ok(refutes(r.op, r.bound, self.hulls_at(k, cells).value_span(v)))
+    }
+}
 
 /// Whether the requirement is refuted at cell `p`: no number of its term's span there compares with the bound as it
 /// says. `m` is taken as the machine of the term; where it can't be split, only the last cell may be asked.
@@ -31,7 +116,7 @@ pub fn refuted(
     ensures { IfOk result (λ told. IsTrue told
         ↔ Refutes r.now.op r.now.bound (term_span (automata_of m.now) p cells.now.present)) }
 {
-    Ok(refutes(r.op, r.bound, span_at(alloc, m, p, cells)?))
+    BoxTables::new(alloc, m).refuted(alloc, r, p, cells)
 }
 
 /// Whether the objective isn't better at cell `p`: no number of its span there is better than `bar`. `m` is taken as
@@ -49,7 +134,7 @@ pub fn worse(
     ensures { IfOk result (λ told. IsTrue told
         ↔ Cuts goal (Better bar) (term_span (automata_of m.now) p cells.now.present)) }
 {
-    Ok(cuts(goal, Bar::Better(bar), span_at(alloc, m, p, cells)?))
+    BoxTables::new(alloc, m).worse(alloc, goal, p, cells, bar)
 }
 
 /// Whether no number of the objective's span at the last cell counts for the bar.
@@ -64,7 +149,7 @@ pub fn cut_at_end(
     ensures { IfOk result (λ told. IsTrue told
         ↔ Cuts goal bar (term_span (automata_of m.now) (length cells.now.present) cells.now.present)) }
 {
-    Ok(cuts(goal, bar, span_at(alloc, m, cells.cells(), cells)?))
+    BoxTables::new(alloc, m).cut_at_end(alloc, goal, cells, bar)
 }
 
 /// Whether the requirement is refuted at cell `k` on the box with the value `v` alone there: the condition of a drop
@@ -83,34 +168,5 @@ pub fn refuted_value(
     ensures { IfOk result (λ told. IsTrue told
         ↔ Refutes r.now.op r.now.bound (term_span (automata_of m.now) k (only k v cells.now.present))) }
 {
-    Ok(refutes(r.op, r.bound, span_with(alloc, m, k, v, cells)?))
-}
-
-/// The span at a cell. At the last one the forward table alone tells it.
-fn span_at(alloc: Global, m: &Machine, p: u32, cells: &Boxed) -> Result<Span, Memory>
-    requires cell { IsCell p cells.now }
-    requires usable { pair_of m.now ≡ None → p ≡ length cells.now.present }
-    ensures { IfOk result (λ span. span ≡ term_span (automata_of m.now) p cells.now.present) }
-{
-    let ahead = forward(alloc, m, cells)?;
-    if p == cells.cells() {
-        return Ok(term_span(m, &ahead, None, cells, p));
-    }
-    let back = backward(alloc, m, cells)?;
-    Ok(term_span(m, &ahead, Some(&back), cells, p))
-}
-
-/// The same on the box with the value `v` alone at the cell.
-fn span_with(alloc: Global, m: &Machine, k: u32, v: i64, cells: &Boxed) -> Result<Span, Memory>
-    requires cell { IsCell k cells.now }
-    requires usable { pair_of m.now ≡ None → k ≡ length cells.now.present }
-    requires value { Contains (cell_of k cells.now) v }
-    ensures { IfOk result (λ span. span ≡ value_span (automata_of m.now) k cells.now.present v) }
-{
-    let ahead = forward(alloc, m, cells)?;
-    if k == cells.cells() {
-        return Ok(value_span(m, &ahead, None, cells, k, v));
-    }
-    let back = backward(alloc, m, cells)?;
-    Ok(value_span(m, &ahead, Some(&back), cells, k, v))
+    BoxTables::new(alloc, m).refuted_value(alloc, r, k, v, cells)
 }

@@ -1,15 +1,18 @@
 //! Values that may be taken out of their cells.
 
-ghost use Rattle.std.specs.Prelude.{◌≡◌, ◌↔◌, ◌<◌, IfOk, IsTrue, length, map, nat_eq};
+ghost use Rattle.std.specs.Prelude.{◌≡◌, ◌↔◌, ◌+◌, ◌<◌, ◌≤◌, ℕ, IfOk, IsTrue, length, map, nat_eq};
 ghost use Rattle.std.specs.List.{AllByRecursion, list_any};
 ghost use Rattle.ts_bound.specs.TermSpans.{automata_of, IsUsable};
 ghost use Rattle.ts_filter.specs.Drops.{IsFirstDrop, IsFirstOf};
+ghost use Rattle.ts_filter.specs.Boxes.{HasCell};
 ghost use Rattle.ts_filter.specs.Excluded.{Refutes};
+ghost use Rattle.ts_filter.specs.Known.{AreKnown, StillKnown};
 ghost use Rattle.ts_filter.specs.MachineSpans.{spans_of};
 ghost use Rattle.ts_filter.specs.TermDrops.{IsDropAt, IsFirstRefuting, IsTermDrop, comes_before, earlier_of};
 
+use crate::box_tables::BoxTables;
+use crate::cell_hulls::CellHulls;
 use crate::excluded::refutes;
-use crate::tables::Tables;
 use std::alloc::Global;
 use ts_base::{Memory, Span};
 use ts_domain::Boxed;
@@ -42,28 +45,11 @@ pub fn next_drop(
 {
     let mut first = None;
     for term in 0..machines.len() {
-        let found = drop_of_term(alloc, &machines[term], term as u32, requirements, cells)?;
+        let mut tables = BoxTables::new(alloc, &machines[term]);
+        let found = tables.first_drop(alloc, term as u32, requirements, cells)?;
         first = earlier(first, found);
     }
     Ok(first)
-}
-
-/// The first of the drops by the requirements of one term.
-fn drop_of_term(
-    alloc: Global,
-    m: &Machine,
-    term: u32,
-    requirements: &[Require],
-    cells: &Boxed,
-) -> Result<Option<Removal>, Memory>
-    requires { length requirements.now < 4000000000 }
-    ensures { IfOk result
-        (λ found. IsFirstOf (IsTermDrop requirements.now term (automata_of m.now) cells.now.present) found) }
-{
-    if !is_required(requirements, term) {
-        return Ok(None);
-    }
-    Ok(first_drop(&Tables::new(alloc, m, cells)?, term, requirements))
 }
 
 /// Whether some requirement is of the term.
@@ -73,33 +59,66 @@ fn is_required(requirements: &[Require], term: u32) -> bool
     requirements.iter().any(|r| r.term == term)
 }
 
-/// The first of the drops by the requirements of the term whose tables these are.
-fn first_drop(tables: &Tables<'_>, term: u32, requirements: &[Require]) -> Option<Removal>
-    requires { length requirements.now < 4000000000 }
-    ensures { IsFirstOf (IsTermDrop requirements.now term tables.now.machine tables.now.cells) result }
-{
-    for before in tables.unusable()..tables.cells() {
-        if let Some(found) = drop_in_cell(tables, before + 1, term, requirements) {
-            return Some(found);
+impl<'a> BoxTables<'a> {
+    /// The first of the drops by the requirements of the term whose machine this is: that with the least cell, then the
+    /// least value, then the least requirement. None exactly where none is possible.
+    pub fn first_drop(
+        &mut self,
+        alloc: Global,
+        term: u32,
+        requirements: &[Require],
+        cells: &Boxed,
+    ) -> Result<Option<Removal>, Memory>
+        requires requirements { length requirements.now < 4000000000 }
+        requires known { AreKnown cells.now.present self.old }
+        ensures known { StillKnown cells.now.present self.old self.new }
+        ensures found { IfOk result
+            (λ found. IsFirstOf (IsTermDrop requirements.now term self.old.machine cells.now.present) found) }
+    {
+        if !is_required(requirements, term) {
+            return Ok(None);
+        }
+        for before in self.unusable(cells)..cells.cells() {
+            let k = before + 1;
+            self.make_at(alloc, k, cells)?;
+            let found = drop_in_cell(&self.hulls_at(k, cells), term, requirements);
+            if found.is_some() {
+                return Ok(found);
+            }
+        }
+        Ok(None)
+    }
+
+    /// How many cells come before the first that may be used: all but the last where the machine can't be split.
+    fn unusable(&self, cells: &Boxed) -> u32
+        ensures from { (k : ℕ) → HasCell k cells.now.present → result + 1 ≤ k →
+            IsUsable self.now.machine k cells.now.present }
+        ensures to { (k : ℕ) → IsUsable self.now.machine k cells.now.present → result + 1 ≤ k }
+        ensures fits { result + 1 < 4294967296 }
+    {
+        if self.is_plain() {
+            cells.cells().saturating_sub(1)
+        } else {
+            0
         }
     }
-    None
 }
 
-/// The same at one cell.
-fn drop_in_cell(tables: &Tables<'_>, k: u32, term: u32, requirements: &[Require]) -> Option<Removal>
-    requires cell { IsUsable tables.now.machine k tables.now.cells }
-    requires requirements { length requirements.now < 4000000000 }
-    ensures { IsFirstOf (IsDropAt requirements.now term tables.now.machine tables.now.cells k) result }
+/// The first of the drops at one cell.
+fn drop_in_cell(hulls: &CellHulls<'_>, term: u32, requirements: &[Require]) -> Option<Removal>
+    requires { length requirements.now < 4000000000 }
+    ensures { IsFirstOf (IsDropAt requirements.now term hulls.now.machine hulls.now.cells hulls.now.cell) result }
 {
-    let values = tables.cell(k);
+    let cell = hulls.cell();
+    let values = hulls.values();
     if values.size() < 2 {
         return None;
     }
-    for value in values.values() {
-        if let Some(require) = first_refuting(requirements, term, tables.value_span(k, value)) {
+    for i in 0..values.size() {
+        let value = values.nth(i);
+        if let Some(require) = first_refuting(requirements, term, hulls.span_at(i, value)) {
             return Some(Removal {
-                cell: k,
+                cell,
                 value,
                 require,
             });

@@ -5,10 +5,11 @@ ghost use Rattle.ts_bound.specs.TermSpans.{automata_of};
 ghost use Rattle.ts_filter.specs.Asked.{Excludes};
 ghost use Rattle.ts_filter.specs.Excluded.{Cuts, Refutes};
 ghost use Rattle.ts_filter.specs.FirstCell.{IsFirstCell};
+ghost use Rattle.ts_filter.specs.Known.{AreKnown, StillKnown};
 
 use crate::bar::Bar;
+use crate::box_tables::BoxTables;
 use crate::excluded::{cuts, refutes};
-use crate::tables::{Tables, is_plain};
 use std::alloc::Global;
 use ts_base::{Ext, Goal, Memory, Span};
 use ts_domain::Boxed;
@@ -22,6 +23,65 @@ pub(crate) enum Asked {
     Counts(Goal, Bar),
 }
 
+impl<'a> BoxTables<'a> {
+    /// The least cell below the last at which no number of the objective's span counts for the bar. None exactly where
+    /// there is no such cell, as for every machine that can't be split.
+    pub fn first_cut(
+        &mut self,
+        alloc: Global,
+        goal: Goal,
+        cells: &Boxed,
+        bar: Bar,
+    ) -> Result<Option<u32>, Memory>
+        requires { AreKnown cells.now.present self.old }
+        ensures known { StillKnown cells.now.present self.old self.new }
+        ensures found { IfOk result
+            (λ found. IsFirstCell self.old.machine (Cuts goal bar) cells.now.present found) }
+    {
+        self.first_excluded(alloc, Asked::Counts(goal, bar), cells)
+    }
+
+    /// The least cell below the last at which the requirement is refuted. None exactly where there is no such cell, as
+    /// for every machine that can't be split.
+    pub fn first_refuted(
+        &mut self,
+        alloc: Global,
+        r: &Require,
+        cells: &Boxed,
+    ) -> Result<Option<u32>, Memory>
+        requires { AreKnown cells.now.present self.old }
+        ensures known { StillKnown cells.now.present self.old self.new }
+        ensures found { IfOk result
+            (λ found. IsFirstCell self.old.machine (Refutes r.now.op r.now.bound) cells.now.present found) }
+    {
+        self.first_excluded(alloc, Asked::Compares(r.op, r.bound), cells)
+    }
+
+    /// The least cell below the last at which no number of the span does what is asked.
+    fn first_excluded(
+        &mut self,
+        alloc: Global,
+        asked: Asked,
+        cells: &Boxed,
+    ) -> Result<Option<u32>, Memory>
+        requires { AreKnown cells.now.present self.old }
+        ensures known { StillKnown cells.now.present self.old self.new }
+        ensures found { IfOk result
+            (λ found. IsFirstCell self.old.machine (Excludes asked) cells.now.present found) }
+    {
+        if self.is_plain() {
+            return Ok(None);
+        }
+        for p in 1..cells.cells() {
+            self.make_at(alloc, p, cells)?;
+            if excludes(asked, self.hulls_at(p, cells).span()) {
+                return Ok(Some(p));
+            }
+        }
+        Ok(None)
+    }
+}
+
 /// The least cell below the last at which no number of the objective's span counts for the bar. None exactly where
 /// there is no such cell, as for every machine that can't be split.
 pub fn first_cut(
@@ -33,7 +93,7 @@ pub fn first_cut(
 ) -> Result<Option<u32>, Memory>
     ensures { IfOk result (λ found. IsFirstCell (automata_of m.now) (Cuts goal bar) cells.now.present found) }
 {
-    first_excluded(alloc, m, Asked::Counts(goal, bar), cells)
+    BoxTables::new(alloc, m).first_cut(alloc, goal, cells, bar)
 }
 
 /// The least cell below the last at which the requirement is refuted. None exactly where there is no such cell, as for
@@ -47,34 +107,7 @@ pub fn first_refuted(
     ensures { IfOk result
         (λ found. IsFirstCell (automata_of m.now) (Refutes r.now.op r.now.bound) cells.now.present found) }
 {
-    first_excluded(alloc, m, Asked::Compares(r.op, r.bound), cells)
-}
-
-/// The least cell below the last at which no number of the span does what is asked.
-fn first_excluded(
-    alloc: Global,
-    m: &Machine,
-    asked: Asked,
-    cells: &Boxed,
-) -> Result<Option<u32>, Memory>
-    ensures { IfOk result (λ found. IsFirstCell (automata_of m.now) (Excludes asked) cells.now.present found) }
-{
-    if is_plain(m) {
-        return Ok(None);
-    }
-    Ok(first_below(&Tables::new(alloc, m, cells)?, asked))
-}
-
-/// The same, from the tables.
-fn first_below(tables: &Tables<'_>, asked: Asked) -> Option<u32>
-    ensures { IsFirstCell tables.now.machine (Excludes asked) tables.now.cells result }
-{
-    for p in tables.unusable() + 1..tables.cells() {
-        if excludes(asked, tables.span(p)) {
-            return Some(p);
-        }
-    }
-    None
+    BoxTables::new(alloc, m).first_refuted(alloc, r, cells)
 }
 
 /// Whether no number of the span does what is asked.

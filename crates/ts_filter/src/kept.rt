@@ -1,19 +1,45 @@
 //! The value of a cell that is kept where one is to be chosen.
 
-ghost use Rattle.std.specs.Prelude.{◌≡◌, ℤ, ◌≤ℤ◌, Contains, IfOk};
-ghost use Rattle.ts_bound.specs.TermSpans.{IsUsable, automata_of};
+ghost use Rattle.std.specs.Prelude.{◌≡◌, ℤ, ◌≤ℤ◌, Contains, IfOk, Some, slice_get};
+ghost use Rattle.ts_bound.specs.TermSpans.{automata_of};
 ghost use Rattle.ts_domain.specs.BoxSeries.{IsCell};
 ghost use Rattle.ts_domain.specs.Values.{IsDomain};
 ghost use Rattle.ts_filter.specs.Boxes.{values_at};
 ghost use Rattle.ts_filter.specs.Excluded.{is_better};
 ghost use Rattle.ts_filter.specs.KeptValue.{IsKept, IsPreferred, end_in};
+ghost use Rattle.ts_filter.specs.Known.{AreKnown, StillKnown};
 
+use crate::box_tables::BoxTables;
+use crate::cell_hulls::CellHulls;
 use crate::excluded::best_end;
-use crate::tables::{Tables, is_plain};
 use std::alloc::Global;
 use ts_base::{Ext, Goal, Memory};
 use ts_domain::{Boxed, Domain};
 use ts_glue::Machine;
+
+impl<'a> BoxTables<'a> {
+    /// The value of cell `k` that leaves the objective the best number open: of the values with x_k alone there, the
+    /// one whose span at `k` has the greatest upper end, or under `Minimise` the least lower end, and of several the
+    /// least. For a machine that can't be split it is the least value of the cell.
+    pub fn kept_value(
+        &mut self,
+        alloc: Global,
+        goal: Goal,
+        k: u32,
+        cells: &Boxed,
+    ) -> Result<i64, Memory>
+        requires cell { IsCell k cells.now }
+        requires known { AreKnown cells.now.present self.old }
+        ensures known { StillKnown cells.now.present self.old self.new }
+        ensures kept { IfOk result (λ v. IsKept self.old.machine goal k cells.now.present v) }
+    {
+        if self.is_plain() {
+            return Ok(least(cells.cell(k)));
+        }
+        self.make_at(alloc, k, cells)?;
+        Ok(preferred(&self.hulls_at(k, cells), goal))
+    }
+}
 
 /// The value of cell `k` that leaves the objective the best number open: of the values with x_k alone there, the one
 /// whose span at `k` has the greatest upper end, or under `Minimise` the least lower end, and of several the least. For
@@ -28,24 +54,21 @@ pub fn kept_value(
     requires { IsCell k cells.now }
     ensures { IfOk result (λ v. IsKept (automata_of m.now) goal k cells.now.present v) }
 {
-    if is_plain(m) {
-        return Ok(least(cells.cell(k)));
-    }
-    Ok(preferred(&Tables::new(alloc, m, cells)?, goal, k))
+    BoxTables::new(alloc, m).kept_value(alloc, goal, k, cells)
 }
 
-/// The value of cell `k` whose span has the best end, the least of several.
-fn preferred(tables: &Tables<'_>, goal: Goal, k: u32) -> i64
-    requires { IsUsable tables.now.machine k tables.now.cells }
-    ensures there { Contains (values_at k tables.now.cells) result }
-    ensures best { (u : ℤ) → Contains (values_at k tables.now.cells) u →
-        IsPreferred goal (end_in tables.now.machine goal k tables.now.cells) result u }
+/// The value of the cell whose span has the best end, the least of several.
+fn preferred(hulls: &CellHulls<'_>, goal: Goal) -> i64
+    ensures there { Contains (values_at hulls.now.cell hulls.now.cells) result }
+    ensures best { (u : ℤ) → Contains (values_at hulls.now.cell hulls.now.cells) u →
+        IsPreferred goal (end_in hulls.now.machine goal hulls.now.cell hulls.now.cells) result u }
 {
-    let values = tables.cell(k);
+    let values = hulls.values();
     let mut kept = least(values);
-    let mut best = best_end(goal, tables.value_span(k, kept));
-    for v in values.values() {
-        let end = best_end(goal, tables.value_span(k, v));
+    let mut best = best_end(goal, hulls.span_at(0, kept));
+    for i in 0..values.size() {
+        let v = values.nth(i);
+        let end = best_end(goal, hulls.span_at(i, v));
         if is_better(goal, end, best) {
             kept = v;
             best = end;
@@ -57,6 +80,7 @@ fn preferred(tables: &Tables<'_>, goal: Goal, k: u32) -> i64
 /// The least number of a set.
 fn least(values: &Domain) -> i64
     ensures there { Contains values.now result }
+    ensures first { slice_get values.now 0 ≡ Some result }
     ensures least { (u : ℤ) → Contains values.now u → result ≤ℤ u }
     ensures domain { IsDomain values.now }
 {

@@ -2,8 +2,9 @@
 //!
 //! The layer above may rely on this: `refutes` and `cuts` answer exactly whether no number of a span compares so with a
 //! bound, or counts for a bar. The calls on a machine and a box answer the same of the box's span at a cell, and name
-//! the first cell, the first drop and the value to keep; each makes the tables of a machine once, however many cells
-//! there are. The definitions state the rule of each line of a certificate, when a certificate is
+//! the first cell, the first drop and the value to keep; each makes the rows of a machine once, however many cells
+//! there are. `BoxTables` answers the same questions and keeps the rows: those that a change of the box doesn't reach
+//! serve the next box. The definitions state the rule of each line of a certificate, when a certificate is
 //! accepted, its first failing line and what its claim means; by the laws an accepted certificate means what it claims,
 //! whoever wrote it, wherever spans hold the values of their terms.
 //!
@@ -13,20 +14,30 @@
 //! cuts(Goal::Maximise, Bar::Better(Ext::Int(5)), span)       // true: none is greater than 5
 //! cuts(Goal::Maximise, Bar::AsGood(Ext::Int(5)), span)       // false: 5 is as good
 //! next_drop(alloc, &machines, &requirements, &cells)?        // a value that no series with it meets, if one is known
+//!
+//! let mut tables = BoxTables::new(alloc, &machine);
+//! tables.refuted(alloc, &requirement, n, &cells)?;           // asks for forward rows alone, since cell n is the last
+//! cells.remove(k, v)?;
+//! tables.changed(k, k, n);
+//! tables.first_cut(alloc, goal, &cells, bar)?                // makes anew what the change reached
 //! ```
 #![tactic(auto)]
 
 mod at_cell;
 mod bar;
+mod blocks;
+mod box_tables;
+mod cell_hulls;
 mod drops;
 mod excluded;
 mod first;
 mod kept;
 pub mod laws;
-mod tables;
+mod rows;
 
 pub use at_cell::{cut_at_end, refuted, refuted_value, worse};
 pub use bar::Bar;
+pub use box_tables::BoxTables;
 pub use drops::{Removal, next_drop};
 pub use excluded::{cuts, refutes};
 pub use first::{first_cut, first_refuted};

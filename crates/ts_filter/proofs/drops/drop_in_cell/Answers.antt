@@ -1,22 +1,32 @@
 use mir.Val.{SFits}
-use Rattle.std.proofs.Common.{w64, length, rules, arith, ◌≤◌}
+use Rattle.std.proofs.Common.{w64, length, slice_get, drop, sym, ap, ◌∙◌, subst, rules, arith, to_z, of_z, ◌≤◌, ◌+◌, Some}
 use Rattle.std.proofs.lemmas.Int.{to_z-of_z}
 use Rattle.ts_filter.specs.Boxes.{values_at}
+use Rattle.ts_filter.specs.Drops.{IsFirstOf}
+use Rattle.ts_filter.specs.TermDrops.{IsDropAt}
+use Rattle.ts_filter.proofs.CellLaws.{left_is}
 use Rattle.ts_filter.proofs.DropLaws.{drop_found_as, fewer_left_as}
 use Rattle.ts_filter.proofs.drops.drop_in_cell.Goals as goal
 
-pub returns-in-Some-first_refuting : goal.returns-in-Some-first_refuting
-returns-in-Some-first_refuting c =
-    let fits : SFits w64 c.in-Some.value = search rules in
-    let t = c.args.tables.now in
-    let many : 2 ≤ length (values_at c.args.k t.cells) = search rules in
-    drop_found_as c.args.requirements.now c.args.term t.machine t.cells c.args.k c.loop-value.value-iterator c.next.new.self c.in-Some.value _
-    c.value_span.result c.in-Some-first_refuting.require (to_z-of_z w64 c.in-Some.value fits) c.value_span.ensures c.loop-value.invariant
-    c.in-Some.ensures.steps c.requires.cell many c.in-Some-first_refuting.ensures
+pub returns-in-Some : goal.returns-in-Some
+returns-in-Some c =
+    let fits : SFits w64 c.nth-value.result = search rules in
+    let t = c.args.hulls.now in let all = values_at t.cell t.cells in let long = ap length c.values-values.ensures in
+    let many : 2 ≤ length all = search rules in
+    let left = left_is all c.loop-i.i c.nth-value.result (omega (arith, long, c.loop-i-test.true, c.size-i-end.ensures.size))
+    (sym (ap (λ l. slice_get l c.loop-i.i) c.values-values.ensures) ∙ c.nth-value.ensures) in
+    subst (λ k. IsFirstOf (IsDropAt c.args.requirements.now c.args.term t.machine t.cells t.cell)
+    (Some (record { cell = k; value = to_z w64 (of_z w64 c.nth-value.result); require = c.in-Some.require })))
+    (sym c.cell-cell.ensures.number)
+    (drop_found_as c.args.requirements.now c.args.term t.machine t.cells t.cell (drop c.loop-i.i all) (drop (c.loop-i.i + 1) all) c.nth-value.result _
+    c.span_at.result c.in-Some.require (to_z-of_z w64 c.nth-value.result fits) c.span_at.ensures c.loop-i.invariant left c.cell-cell.ensures.usable many
+    c.in-Some.ensures)
 
-pub loop-value-preserved : goal.loop-value-preserved
-loop-value-preserved c =
-    let fits : SFits w64 c.in-Some.value = search rules in
-    let t = c.args.tables.now in
-    fewer_left_as c.args.requirements.now c.args.term t.machine t.cells c.args.k c.loop-value.value-iterator c.next.new.self c.in-Some.value _
-    c.value_span.result (to_z-of_z w64 c.in-Some.value fits) c.value_span.ensures c.loop-value.invariant c.in-Some.ensures.steps c.in_default.ensures
+pub loop-i-preserved : goal.loop-i-preserved
+loop-i-preserved c =
+    let fits : SFits w64 c.nth-value.result = search rules in
+    let t = c.args.hulls.now in let all = values_at t.cell t.cells in let long = ap length c.values-values.ensures in
+    let left = left_is all c.loop-i.i c.nth-value.result (omega (arith, long, c.loop-i-test.true, c.size-i-end.ensures.size))
+    (sym (ap (λ l. slice_get l c.loop-i.i) c.values-values.ensures) ∙ c.nth-value.ensures) in
+    fewer_left_as c.args.requirements.now c.args.term t.machine t.cells t.cell (drop c.loop-i.i all) (drop (c.loop-i.i + 1) all) c.nth-value.result _
+    c.span_at.result (to_z-of_z w64 c.nth-value.result fits) c.span_at.ensures c.loop-i.invariant left c.in_default.ensures

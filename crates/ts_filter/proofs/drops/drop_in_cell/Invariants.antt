@@ -1,5 +1,7 @@
+use Rattle.std.proofs.Common.{drop}
+use Rattle.ts_filter.specs.Boxes.{values_at}
 use Rattle.ts_filter.proofs.DropLaws.{AreLeft}
 use Rattle.ts_filter.proofs.drops.drop_in_cell.Given as goal
 
-abbrev pub invariant-loop-value : goal.invariant-loop-value
-invariant-loop-value l = AreLeft l.requirements l.term l.tables.machine l.tables.cells l.k l.value-iterator
+abbrev pub invariant-loop-i : goal.invariant-loop-i
+invariant-loop-i l = AreLeft l.requirements l.term l.hulls.machine l.hulls.cells l.hulls.cell (drop l.i (values_at l.hulls.cell l.hulls.cells))

@@ -1,0 +1,205 @@
+-- Rows that are known of a box: one more of them, what a change leaves of them, and which hulls they have.
+use Rattle.std.proofs.Common.{◌≡◌, ℕ, min, zero, suc, ◌+◌, ◌*◌, ◌-◌, ◌<◌, ◌≤◌, ℤ, List, [], ◌∷◌, ◌++◌, length, take, drop, reverse, get_or, Option, Some, None, refl, sym, ap, ◌∙◌, subst, arith}
+use Rattle.std.specs.Prelude.{IsTrue}
+use Rattle.std.proofs.lemmas.List.{append-nil, take_more, take_at, drop_at, length-append, length-take, length-drop, take_min, take-take, take-append-drop, reverse-append, length-reverse, reverse-reverse, get_or-take, get_or-reverse, get_or_default, length-set, take-set, drop-set-lt, drop-drop}
+use Rattle.ts_automaton.specs.declared.regs.Hull.{Hull}
+use Rattle.ts_automaton.specs.Body.{Body}
+use Rattle.ts_automaton.specs.Typing.{is_automaton}
+use Rattle.ts_bound.specs.HullTables.{row_of, rows_behind, forward_rows, cells_after, values_at}
+use Rattle.ts_bound.specs.NextRow.{RowStands, next_row}
+use Rattle.ts_bound.specs.TermSpans.{Automata}
+use Rattle.ts_bound.proofs.SpanRuns.{forward_row}
+use Rattle.ts_bound.proofs.TableLaws.{length-forward, length-row_of, row_on, rows_stand}
+use Rattle.ts_glue.specs.Pairs.{Pair}
+use Rattle.ts_filter.specs.Boxes.{Box}
+use Rattle.ts_filter.specs.CellHulls.{ahead_row, IsBackRow}
+use Rattle.ts_filter.specs.declared.rows.Way.{Way}
+use Rattle.ts_filter.specs.declared.rows.Way.TheVariants.{FromFirst, FromLast}
+use Rattle.ts_filter.specs.Known.{Rows, in_order, AreFirst, AreBehind, Known, AreKnown, StayKnown, OneCellDiffers, DifferencesJoin}
+
+-- lists from their ends
+
+pub reverse_take : {X : Type 0} (m : ℕ) (xs : List X) → reverse (take m xs) ≡ drop (length xs - m) (reverse xs)
+reverse_take m xs =
+    sym (ap (λ l. drop (length xs - m) (reverse l)) (sym (take-append-drop m xs)) ∙ ap (drop (length xs - m)) (reverse-append (take m xs) (drop m xs))
+    ∙ drop_at (reverse (drop m xs)) (reverse (take m xs)) (length xs - m) (length-reverse (drop m xs) ∙ length-drop m xs))
+
+pub reverse_drop : {X : Type 0} (d : ℕ) (xs : List X) → reverse (drop d xs) ≡ take (length xs - d) (reverse xs)
+reverse_drop d xs =
+    sym (ap (λ l. take (length xs - d) (reverse l)) (sym (take-append-drop d xs)) ∙ ap (take (length xs - d)) (reverse-append (take d xs) (drop d xs))
+    ∙ take_at (reverse (drop d xs)) (reverse (take d xs)) (length xs - d) (length-reverse (drop d xs) ∙ length-drop d xs))
+
+pub order_long : (w : Way) (b : Box) → length (in_order w b) ≡ length b
+order_long FromFirst b = refl
+order_long FromLast b = length-reverse b
+
+-- the rows of an automaton
+
+rows_of_front : (b : Body) (before cells : Box) (k : ℕ) → rows_behind b before (take k cells) ≡ take k (rows_behind b before cells)
+unfolding rows_behind
+rows_of_front b before cells zero = refl
+rows_of_front b before [] (suc k) = refl
+rows_of_front b before (vs ∷ cells) (suc k) = ap (λ l. row_of b before vs ∷ l) (rows_of_front b (vs ∷ before) cells k)
+
+pub none_known : (a : Body) (cells : Box) (rows : Rows) → rows ≡ [] → AreFirst a cells rows
+none_known a cells rows e = e ∙ sym (ap (λ l. take (length l) (forward_rows a cells)) e)
+
+-- there are no more of them than cells
+pub few_known : (a : Body) (cells : Box) (rows : Rows) → AreFirst a cells rows → length rows ≤ length cells
+few_known a cells rows h =
+    let l = ap length h ∙ length-take (length rows) (forward_rows a cells) in let f = length-forward a [] cells in omega (arith, l, f)
+
+-- one more
+pub one_more : (a : Body) (cells : Box) (rows : Rows) (row : List Hull) → AreFirst a cells rows → length rows < length cells →
+    row ≡ get_or (forward_rows a cells) (length rows) [] → AreFirst a cells (rows ++ row ∷ [])
+one_more a cells rows row h lt is =
+    let all = forward_rows a cells in
+    let l = length-append rows (row ∷ []) in let f = length-forward a [] cells in
+    let more : length (rows ++ row ∷ []) ≡ length rows + 1 = omega (arith, l) in
+    ap (λ r. r ++ row ∷ []) h ∙ ap (λ w. take (length rows) all ++ w ∷ []) is ∙ sym (take_more all (length rows) [] (omega (arith, lt, f)))
+    ∙ ap (λ m. take m all) (sym more)
+
+-- the same, as the code makes them longer
+pub rows_more : (a : Body) (cells : Box) (rows held seen new : Rows) (row : List Hull) → held ≡ rows → seen ≡ held → new ≡ held ++ row ∷ [] →
+    AreFirst a cells rows → length rows < length cells → row ≡ get_or (forward_rows a cells) (length seen) [] → AreFirst a cells new
+rows_more a cells rows held seen new row is_held is_seen is h lt is_row =
+    subst (AreFirst a cells) (sym (is ∙ ap (λ l. l ++ row ∷ []) is_held))
+    (one_more a cells rows row h lt (is_row ∙ ap (λ l. get_or (forward_rows a cells) (length l) []) (is_seen ∙ is_held)))
+
+-- the row at a place
+pub known_at : (a : Body) (cells : Box) (rows : Rows) (i : ℕ) → AreFirst a cells rows → i < length rows →
+    get_or rows i [] ≡ get_or (forward_rows a cells) i []
+known_at a cells rows i h lt = ap (λ l. get_or l i []) h ∙ get_or-take (length rows) (forward_rows a cells) i [] lt
+
+row_at_place : (a : Body) (cells : Box) (i : ℕ) → i < length cells → get_or (forward_rows a cells) i [] ≡ row_of a (reverse (take i cells)) (get_or cells i [])
+row_at_place a cells i lt = forward_row a [] cells i lt ∙ ap (λ z. row_of a z (get_or cells i [])) (append-nil (reverse (take i cells)))
+
+-- what a change leaves
+
+stay_first : (a : Body) (cells later : Box) (k : ℕ) (old left : Rows) → left ≡ take k old → take k later ≡ take k cells → AreFirst a cells old →
+    AreFirst a later left
+stay_first a cells later k old left is same h =
+    let n = length left in
+    let count : n ≡ min k (length old) = ap length is ∙ length-take k old in
+    let short : n ≤ k = omega (arith, count) in let few : n ≤ length old = omega (arith, count) in
+    let all = forward_rows a cells in
+    let fronts : take n later ≡ take n cells = sym (take-take n k later short) ∙ ap (take n) same ∙ take-take n k cells short in
+    let rows : take n all ≡ take n (forward_rows a later) = sym (rows_of_front a [] cells n) ∙ ap (forward_rows a) (sym fronts) ∙ rows_of_front a [] later n in
+    is ∙ sym (take_min k old) ∙ ap (λ m. take m old) (sym count) ∙ ap (take n) h ∙ take-take n (length old) all few ∙ rows
+
+turned_front : (n last : ℕ) (b later : Box) → length b ≡ n → length later ≡ n → drop last later ≡ drop last b →
+    take (n - last) (reverse later) ≡ take (n - last) (reverse b)
+turned_front n last b later e f same =
+    ap (λ m. take (m - last) (reverse later)) (sym f) ∙ sym (reverse_drop last later) ∙ ap reverse same ∙ reverse_drop last b
+    ∙ ap (λ m. take (m - last) (reverse b)) e
+
+behind_stay : (p : Option Pair) (b later : Box) (k : ℕ) (old left : Rows) → left ≡ take k old → take k (reverse later) ≡ take k (reverse b) →
+    AreBehind p b old → AreBehind p later left
+behind_stay None b later k old left is same h = tt
+behind_stay (Some p) b later k old left is same h = stay_first p.reverse (reverse b) (reverse later) k old left is same h
+
+pub stay_known : (first last n : ℕ) (old new : Known) → new.machine ≡ old.machine → new.ahead ≡ take (first - 1) old.ahead →
+    new.behind ≡ take (n - last) old.behind → StayKnown first last n old new
+stay_known first last n old new m front rear b later d h =
+    let front_stays = stay_first old.machine.forward b later (first - 1) old.ahead new.ahead front d.before h.ahead in
+    let same = turned_front n last b later d.count d.count_later d.behind in
+    let rear_stays = behind_stay old.machine.pair b later (n - last) old.behind new.behind rear same h.behind in
+    record {
+      ahead = subst (λ (a : Automata). AreFirst a.forward later new.ahead) (sym m) front_stays;
+      behind = subst (λ (a : Automata). AreBehind a.pair later new.behind) (sym m) rear_stays;
+    }
+
+-- the row that comes behind
+
+pub first_behind : (a : Body) (cells : Box) (rows : Rows) (row : List Hull) (values : List ℤ) → length rows ≡ 0 → length rows < length cells →
+    values ≡ get_or cells (length rows) [] → row ≡ row_of a [] values → row ≡ get_or (forward_rows a cells) (length rows) []
+first_behind a cells rows row values none lt is_values is =
+    is ∙ ap (row_of a []) (is_values ∙ ap (λ i. get_or cells i []) none)
+    ∙ sym (ap (λ i. get_or (forward_rows a cells) i []) none ∙ row_at_place a cells 0 (omega (arith, none, lt)))
+
+pub before_is : (a : Body) (cells : Box) (rows : Rows) (before d : List Hull) (i : ℕ) → AreFirst a cells rows → i < length rows →
+    before ≡ get_or rows i d → before ≡ get_or (forward_rows a cells) i []
+before_is a cells rows before d i h lt is = is ∙ get_or_default rows i d [] lt ∙ known_at a cells rows i h lt
+
+pub before_long : (a : Body) (cells : Box) (before : List Hull) (values : List ℤ) (i : ℕ) → i < length cells → before ≡ get_or (forward_rows a cells) i [] →
+    values ≡ get_or cells i [] → length before ≡ length values * length a.states
+before_long a cells before values i lt is is_values =
+    ap length (is ∙ row_at_place a cells i lt ∙ ap (row_of a (reverse (take i cells))) (sym is_values)) ∙ length-row_of a (reverse (take i cells)) values
+
+pub before_stands : (a : Body) → IsTrue (is_automaton a) → (cells : Box) (before : List Hull) (values : List ℤ) (i : ℕ) → i < length cells →
+    before ≡ get_or (forward_rows a cells) i [] → values ≡ get_or cells i [] → RowStands a values before
+before_stands a rules cells before values i lt is is_values =
+    subst (λ vs. RowStands a vs before) (sym is_values) (subst (RowStands a (get_or cells i [])) (sym is) (rows_stand a rules [] cells i lt))
+
+pub next_behind : (a : Body) (cells : Box) (rows : Rows) (row before : List Hull) (before_values values : List ℤ) (i : ℕ) → suc i ≡ length rows →
+    length rows < length cells → before ≡ get_or (forward_rows a cells) i [] → before_values ≡ get_or cells i [] → values ≡ get_or cells (length rows) [] →
+    row ≡ next_row a before_values before values → row ≡ get_or (forward_rows a cells) (length rows) []
+next_behind a cells rows row before before_values values i at lt is is_before is_values made =
+    made ∙ ap (λ u. next_row a u before values) is_before ∙ ap (λ r. next_row a (get_or cells i []) r values) is
+    ∙ ap (next_row a (get_or cells i []) (get_or (forward_rows a cells) i [])) (is_values ∙ ap (λ j. get_or cells j []) (sym at))
+    ∙ sym (row_on a [] cells i (omega (arith, at, lt))) ∙ ap (λ j. get_or (forward_rows a cells) j []) at
+
+-- the rows of a cell
+
+pub ahead_there : (a : Body) (b : Box) (rows : Rows) (row d : List Hull) (k : ℕ) → AreFirst a b rows → 1 ≤ k → k ≤ length rows → row ≡ get_or rows (k - 1) d →
+    row ≡ ahead_row a k b
+ahead_there a b rows row d k h some to is =
+    let few = few_known a b rows h in
+    before_is a b rows row d (k - 1) h (omega (arith, some, to)) is ∙ row_at_place a b (k - 1) (omega (arith, some, to, few))
+
+turned_before : (b : Box) (k : ℕ) → k ≤ length b → reverse (take (length b - k) (reverse b)) ≡ drop k b
+turned_before b k to =
+    let l = length-reverse b in let count : length (reverse b) - (length b - k) ≡ k = omega (arith, l, to) in
+    reverse_take (length b - k) (reverse b) ∙ ap (λ m. drop m (reverse (reverse b))) count ∙ ap (drop k) (reverse-reverse b)
+
+turned_at : (b : Box) (k : ℕ) → 1 ≤ k → k ≤ length b → get_or (reverse b) (length b - k) [] ≡ get_or b (k - 1) []
+turned_at b k some to =
+    let at : length b - 1 - (length b - k) ≡ k - 1 = omega (arith, some, to) in
+    get_or-reverse b (length b - k) [] (omega (arith, some, to)) ∙ ap (λ i. get_or b i []) at
+
+back_there : (a : Body) (b : Box) (rows : Rows) (row d : List Hull) (k : ℕ) → AreFirst a (reverse b) rows → 1 ≤ k → k ≤ length b → length b - k < length rows →
+    row ≡ get_or rows (length b - k) d → row ≡ row_of a (cells_after k b) (values_at k b)
+back_there a b rows row d k h some to lt is =
+    let l = length-reverse b in
+    before_is a (reverse b) rows row d (length b - k) h lt is ∙ row_at_place a (reverse b) (length b - k) (omega (arith, l, some, to))
+    ∙ ap (λ z. row_of a z (get_or (reverse b) (length b - k) [])) (turned_before b k to) ∙ ap (row_of a (drop k b)) (turned_at b k some to)
+
+pub behind_there : (p : Option Pair) (b : Box) (rows : Rows) (row d : List Hull) (k : ℕ) → (p ≡ None → ⊥) → AreBehind p b rows → 1 ≤ k → k ≤ length b →
+    length b - k < length rows → row ≡ get_or rows (length b - k) d → IsBackRow p k b row
+behind_there None b rows row d k some h from to lt is = absurd (some refl)
+behind_there (Some p) b rows row d k some h from to lt is = back_there p.reverse b rows row d k h from to lt is
+
+-- tables without a row
+
+nothing_behind : (p : Option Pair) (b : Box) (rows : Rows) → rows ≡ [] → AreBehind p b rows
+nothing_behind None b rows e = tt
+nothing_behind (Some p) b rows e = none_known p.reverse (reverse b) rows e
+
+pub nothing_known : (t : Known) (b : Box) → t.ahead ≡ [] → t.behind ≡ [] → AreKnown b t
+nothing_known t b e f = record { ahead = none_known t.machine.forward b t.ahead e; behind = nothing_behind t.machine.pair b t.behind f }
+
+-- boxes that differ
+
+pub one_differs : OneCellDiffers
+one_differs b k vs some to = record {
+  count = refl;
+  count_later = length-set b (k - 1) vs;
+  before = take-set b (k - 1) vs;
+  behind = drop-set-lt k b (k - 1) vs (omega (arith, some));
+}
+
+same_front : (xs ys : Box) (k n : ℕ) → k ≤ n → take n xs ≡ take n ys → take k xs ≡ take k ys
+same_front xs ys k n le e = sym (take-take k n xs le) ∙ ap (take k) e ∙ take-take k n ys le
+
+same_rest : (xs ys : Box) (k n : ℕ) → n ≤ k → drop n xs ≡ drop n ys → drop k xs ≡ drop k ys
+same_rest xs ys k n le e =
+    let sum : n + (k - n) ≡ k = omega (arith, le) in
+    ap (λ m. drop m xs) (sym sum) ∙ sym (drop-drop (k - n) n xs) ∙ ap (drop (k - n)) e ∙ drop-drop (k - n) n ys ∙ ap (λ m. drop m ys) sum
+
+pub differ_both : DifferencesJoin
+differ_both a b c n first last first' last' low high p q r s f g = record {
+  count = f.count;
+  count_later = g.count_later;
+  before = same_front c b (low - 1) (first' - 1) (omega (arith, q)) g.before ∙ same_front b a (low - 1) (first - 1) (omega (arith, p)) f.before;
+  behind = same_rest c b high last' s g.behind ∙ same_rest b a high last r f.behind;
+}

@@ -1,0 +1,7 @@
+use Rattle.ts_filter.specs.Asked.{Excludes}
+use Rattle.ts_filter.specs.Known.{StillKnown}
+use Rattle.ts_filter.proofs.EarlyCells.{NoneBefore}
+use Rattle.ts_filter.proofs.box_tables.BoxTables.first_excluded.Given as goal
+
+abbrev pub invariant-loop-p : goal.invariant-loop-p
+invariant-loop-p l = StillKnown l.cells.present l.fn.self l.self × NoneBefore l.fn.self.machine (Excludes l.asked) l.cells.present l.p

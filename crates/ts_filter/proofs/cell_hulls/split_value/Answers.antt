@@ -1,0 +1,71 @@
+use Rattle.std.proofs.Common.{ap, ◌∙◌, sym, subst, length, w64}
+use Rattle.std.specs.Prelude.{IsTrue}
+use Rattle.std.proofs.lemmas.Int.{to_z-of_z}
+use Rattle.ts_automaton.specs.Typing.{is_automaton}
+use Rattle.ts_base.specs.Limits.{IsCellValue}
+use Rattle.ts_bound.proofs.SpanRuns.{hulls_stand}
+use Rattle.ts_bound.proofs.SpanEnds.{split_one, right_kinds}
+use Rattle.ts_bound.specs.HullTables.{cells_before, cells_after}
+use Rattle.ts_glue.specs.Machines.{forward_of, pair_of}
+use Rattle.ts_filter.specs.Boxes.{values_at}
+use Rattle.ts_filter.proofs.CellLaws.{row_holds, row_block, back_holds, back_block, ahead_long, back_long, cell_value}
+use Rattle.ts_filter.proofs.cell_hulls.split_value.Goals as goal
+
+pub block-left-requires : goal.block-left-requires
+block-left-requires c =
+    let b = c.args.cells.now.present in let m = c.args.m.now in
+    row_holds (forward_of m) (cells_before c.args.k b) (values_at c.args.k b) c.args.i c.args.v c.args.row.now c.states-states.result
+    (c.states-states.ensures.count ∙ ap (λ a. length a.states) c.forward.ensures) c.requires.row c.requires.value
+
+pub block-right-requires : goal.block-right-requires
+block-right-requires c =
+    let b = c.args.cells.now.present in let m = c.args.m.now in
+    back_holds (pair_of m) c.args.k b c.args.i c.args.v c.args.back.now c.reverse_states-back_states.result c.reverse_states-back_states.ensures.count
+    c.requires.back c.requires.value
+
+pub glue_block-requires-clause-left_states : goal.glue_block-requires-clause-left_states
+glue_block-requires-clause-left_states c =
+    let b = c.args.cells.now.present in let m = c.args.m.now in
+    ahead_long (forward_of m) (cells_before c.args.k b) c.args.v c.block-left.result.now
+    (row_block (forward_of m) (cells_before c.args.k b) (values_at c.args.k b) c.args.i c.args.v c.args.row.now c.block-left.result.now c.states-states.result
+    (c.states-states.ensures.count ∙ ap (λ a. length a.states) c.forward.ensures) c.requires.row c.requires.value c.block-left.ensures)
+
+pub glue_block-requires-clause-left_kinds : goal.glue_block-requires-clause-left_kinds
+glue_block-requires-clause-left_kinds c =
+    let b = c.args.cells.now.present in let m = c.args.m.now in
+    hulls_stand (forward_of m) (subst (λ a. IsTrue (is_automaton a)) c.forward.ensures c.states-states.ensures.rules) (cells_before c.args.k b) c.args.v
+    c.block-left.result.now
+    (row_block (forward_of m) (cells_before c.args.k b) (values_at c.args.k b) c.args.i c.args.v c.args.row.now c.block-left.result.now c.states-states.result
+    (c.states-states.ensures.count ∙ ap (λ a. length a.states) c.forward.ensures) c.requires.row c.requires.value c.block-left.ensures)
+
+pub glue_block-requires-clause-right_states : goal.glue_block-requires-clause-right_states
+glue_block-requires-clause-right_states c =
+    let b = c.args.cells.now.present in let m = c.args.m.now in
+    back_long (pair_of m) (cells_after c.args.k b) c.args.v c.block-right.result.now c.reverse_states-back_states.result
+    c.reverse_states-back_states.ensures.count
+    (back_block (pair_of m) c.args.k b c.args.i c.args.v c.args.back.now c.block-right.result.now c.reverse_states-back_states.result
+    c.reverse_states-back_states.ensures.count c.requires.back c.requires.value c.block-right.ensures)
+
+pub glue_block-requires-clause-right_kinds : goal.glue_block-requires-clause-right_kinds
+glue_block-requires-clause-right_kinds c =
+    let b = c.args.cells.now.present in let m = c.args.m.now in
+    right_kinds (pair_of m) c.reverse_states-back_states.result (cells_after c.args.k b) c.args.v c.block-right.result.now
+    c.reverse_states-back_states.ensures.rules c.reverse_states-back_states.ensures.count
+    (back_block (pair_of m) c.args.k b c.args.i c.args.v c.args.back.now c.block-right.result.now c.reverse_states-back_states.result
+    c.reverse_states-back_states.ensures.count c.requires.back c.requires.value c.block-right.ensures)
+
+pub glue_block-requires-clause-cell : goal.glue_block-requires-clause-cell
+glue_block-requires-clause-cell c =
+    subst IsCellValue (sym (to_z-of_z w64 c.args.v c.ranges.v))
+    (cell_value c.args.cells.now.present c.args.k c.args.i c.args.v c.cells-n.ensures.domains c.requires.cell.0 c.requires.cell.1 c.requires.value)
+
+pub returns : goal.returns
+returns c =
+    let b = c.args.cells.now.present in let m = c.args.m.now in
+    split_one (forward_of m) (pair_of m) c.args.k b c.args.v _ c.block-left.result.now c.block-right.result.now c.cells-n.result
+    c.reverse_states-back_states.result c.glue_block.result (to_z-of_z w64 c.args.v c.ranges.v)
+    (row_block (forward_of m) (cells_before c.args.k b) (values_at c.args.k b) c.args.i c.args.v c.args.row.now c.block-left.result.now c.states-states.result
+    (c.states-states.ensures.count ∙ ap (λ a. length a.states) c.forward.ensures) c.requires.row c.requires.value c.block-left.ensures)
+    (back_block (pair_of m) c.args.k b c.args.i c.args.v c.args.back.now c.block-right.result.now c.reverse_states-back_states.result
+    c.reverse_states-back_states.ensures.count c.requires.back c.requires.value c.block-right.ensures)
+    c.cells-n.ensures.count c.reverse_states-back_states.ensures.count c.glue_block.ensures

@@ -1,0 +1,72 @@
+-- What is known of the hulls of a machine on a box: the rows of the first cells forward, of the last ones backward.
+use Rattle.std.specs.Prelude.{◌≡◌, ◌<◌, ◌≤◌, ℕ, ◌-◌, ℤ, List, length, take, drop, reverse, Option, None, Some}
+use Rattle.ts_automaton.specs.declared.regs.Hull.{Hull}
+use Rattle.ts_automaton.specs.Body.{Body}
+use Rattle.ts_bound.specs.HullTables.{forward_rows}
+use Rattle.ts_bound.specs.TermSpans.{Automata}
+use Rattle.ts_glue.specs.Pairs.{Pair}
+use Rattle.ts_filter.specs.declared.rows.Way.{Way}
+use Rattle.ts_filter.specs.declared.rows.Way.TheVariants.{FromFirst, FromLast}
+use Rattle.ts_filter.specs.Boxes.{Box, with_values}
+
+-- the hulls of each cell, in the order in which an automaton reads the cells
+abbrev pub Rows : Type 0
+Rows = List (List Hull)
+
+-- the cells in that order
+abbrev pub in_order : Way → Box → Box
+in_order FromFirst b = b
+in_order FromLast b = reverse b
+
+-- these are the rows of the cells that the automaton reads first
+abbrev pub AreFirst : Body → Box → Rows → Type 0
+AreFirst a cells rows = rows ≡ take (length rows) (forward_rows a cells)
+
+-- the rows of a machine: forward ones, and backward ones, that of the last cell first
+pub record Known : Type 0 where
+  pub machine : Automata
+  pub ahead : Rows
+  pub behind : Rows
+
+-- these are backward rows; a machine that can't be split has none
+abbrev pub AreBehind : Option Pair → Box → Rows → Type 0
+AreBehind None b rows = Unit {0}
+AreBehind (Some p) b rows = AreFirst p.reverse (in_order FromLast b) rows
+
+-- they are rows of the box
+pub record AreKnown (b : Box) (t : Known) : Type 0 where
+  pub ahead : AreFirst t.machine.forward (in_order FromFirst b) t.ahead
+  pub behind : AreBehind t.machine.pair b t.behind
+
+-- of the same machine, and again rows of the box
+pub record StillKnown (b : Box) (old new : Known) : Type 0 where
+  pub machine : new.machine ≡ old.machine
+  pub known : AreKnown b new
+
+-- two boxes of n cells that differ in the cells from `first` to `last` alone
+pub record DifferFrom (first last n : ℕ) (b later : Box) : Type 0 where
+  pub count : length b ≡ n
+  pub count_later : length later ≡ n
+  pub before : take (first - 1) later ≡ take (first - 1) b
+  pub behind : drop last later ≡ drop last b
+
+-- what was known of a box is, as far as it's left, known of each box that differs from it there alone
+abbrev pub StayKnown : ℕ → ℕ → ℕ → Known → Known → Type 0
+StayKnown first last n old new =
+    (b later : Box) → DifferFrom first last n b later → AreKnown b old → AreKnown later new
+
+-- the rows of cell k are known; of the last cell the forward one is enough
+pub record HasRows (k : ℕ) (b : Box) (t : Known) : Type 0 where
+  pub ahead : k ≤ length t.ahead
+  pub behind : k < length b → length b - k < length t.behind
+
+-- a box with other values in one cell
+abbrev pub OneCellDiffers : Type 0
+OneCellDiffers =
+    (b : Box) (k : ℕ) (vs : List ℤ) → 1 ≤ k → k ≤ length b → DifferFrom k k (length b) b (with_values k vs b)
+
+-- a box that differs from one that differs
+abbrev pub DifferencesJoin : Type 0
+DifferencesJoin =
+    (a b c : Box) (n first last first' last' low high : ℕ) → low ≤ first → low ≤ first' → last ≤ high → last' ≤ high →
+    DifferFrom first last n a b → DifferFrom first' last' n b c → DifferFrom low high n a c

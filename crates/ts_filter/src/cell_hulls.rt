@@ -1,0 +1,176 @@
+//! The spans at a cell, from the hulls that stand there.
+
+ghost use Rattle.std.specs.Prelude.{◌≡◌, ◌+◌, ◌*◌, ◌≤◌, Contains, IsSome, IsTrue, MatchOption, Some, length, map, slice_get, slice_range, take};
+ghost use Rattle.ts_automaton.specs.Typing.{is_automaton};
+ghost use Rattle.ts_bound.specs.Blocks.{OfReverse, back_states, last_at, split_at};
+ghost use Rattle.ts_bound.specs.TermSpans.{IsUsable, automata_of, span_of_all, term_span, value_span};
+ghost use Rattle.ts_domain.specs.BoxSeries.{IsCell};
+ghost use Rattle.ts_filter.specs.Boxes.{values_at};
+ghost use Rattle.ts_filter.specs.CellHulls.{IsBackRow, ahead_row, at_cell};
+ghost use Rattle.ts_glue.specs.Machines.{forward_of, pair_of};
+
+use crate::blocks::{finish_block, glue_block};
+use std::marker::Model;
+use ts_automaton::{Automaton, Hull};
+use ts_base::Span;
+use ts_bound::laws::machine_is_whole;
+use ts_domain::{Boxed, Domain};
+use ts_glue::Machine;
+
+/// The rows of one cell of a box: that of the forward automaton, and that of the reverse one, which the last cell can
+/// do without. Contracts see the machine, the box and the cell.
+#[derive(Drop)]
+pub(crate) struct CellHulls<'a> {
+    pub(crate) machine: &'a Machine,
+    pub(crate) cells: &'a Boxed,
+    pub(crate) cell: u32,
+    pub(crate) row: &'a [Hull],
+    pub(crate) back: Option<&'a [Hull]>,
+}
+
+impl<'a> Model for CellHulls<'a> {
+    ghost use Rattle.std.specs.Coded.{codes};
+    ghost use Rattle.std.specs.Prelude.{option_map};
+    ghost use Rattle.ts_automaton.specs.Codes.{formula_code};
+    ghost use Rattle.ts_bound.specs.TermSpans.{automata_of};
+    ghost use Rattle.ts_filter.specs.CellHulls.{AreHulls, AtCell, at_cell};
+
+    ghost Value = { AtCell };
+
+    ghost coded = { Prim.hlevel (codes, formula_code) };
+
+    ghost view = { λ h. at_cell (automata_of h.machine.now) h.cells.now.present h.cell };
+
+    ghost invariant = { λ h. AreHulls (automata_of h.machine.now) h.cells.now.present h.cell h.row.now
+        (option_map (λ r. r.now) h.back) };
+}
+
+impl<'a> CellHulls<'a> {
+    /// The number of the cell, counted from 1.
+    pub(crate) fn cell(&self) -> u32
+        ensures number { result ≡ self.now.cell }
+        ensures usable { IsUsable self.now.machine self.now.cell self.now.cells }
+    {
+        self.cell
+    }
+
+    /// The values of the cell.
+    pub(crate) fn values(&self) -> &Domain
+        ensures { result.now ≡ values_at self.now.cell self.now.cells }
+    {
+        self.cells.cell(self.cell)
+    }
+
+    /// The span there.
+    pub(crate) fn span(&self) -> Span
+        ensures { result ≡ term_span self.now.machine self.now.cell self.now.cells }
+    {
+        let values = self.values();
+        let mut span = Span::none();
+        for i in 0..values.size() {
+            let v = values.nth(i);
+            span = span.hull(self.span_at(i, v));
+        }
+        span
+    }
+
+    /// The same on the box with the value `v` alone there.
+    pub(crate) fn value_span(&self, v: i64) -> Span
+        requires { Contains (values_at self.now.cell self.now.cells) v }
+        ensures { result ≡ value_span self.now.machine self.now.cell self.now.cells v }
+    {
+        self.span_at(place_of(self.values(), v), v)
+    }
+
+    /// The same of the value that stands at place `i`, counted from 0.
+    pub(crate) fn span_at(&self, i: u64, v: i64) -> Span
+        requires { slice_get (values_at self.now.cell self.now.cells) i ≡ Some v }
+        ensures { result ≡ value_span self.now.machine self.now.cell self.now.cells v }
+    {
+        match self.back {
+            Some(back) => split_value(self.machine, self.row, back, self.cells, self.cell, i, v),
+            None => {
+                machine_is_whole(self.machine);
+                last_value(
+                    self.machine.forward(),
+                    self.row,
+                    self.cells,
+                    self.cell,
+                    i,
+                    v,
+                )
+            }
+        }
+    }
+}
+
+/// The place of a value, counted from 0.
+fn place_of(values: &Domain, v: i64) -> u64
+    requires { Contains values.now v }
+    ensures { slice_get values.now result ≡ Some v }
+{
+    for i in 0..values.size() {
+        let value = values.nth(i);
+        if value == v {
+            return i;
+        }
+    }
+    unreachable!()
+}
+
+/// The finish span at the value `v` of cell `k`, which stands at place `i`.
+fn last_value(a: &Automaton, row: &[Hull], cells: &Boxed, k: u32, i: u64, v: i64) -> Span
+    requires cell { IsCell k cells.now }
+    requires row { row.now ≡ ahead_row a.now k cells.now.present }
+    requires value { slice_get (values_at k cells.now.present) i ≡ Some v }
+    ensures { result ≡ last_at a.now k cells.now.present v }
+{
+    let n = cells.cells();
+    let states = a.states();
+    finish_block(a, block(row, states, i), n)
+}
+
+/// The glued span at the value.
+fn split_value(
+    m: &Machine,
+    row: &[Hull],
+    back: &[Hull],
+    cells: &Boxed,
+    k: u32,
+    i: u64,
+    v: i64,
+) -> Span
+    requires cell { IsCell k cells.now }
+    requires row { row.now ≡ ahead_row (forward_of m.now) k cells.now.present }
+    requires back { IsBackRow (pair_of m.now) k cells.now.present back.now }
+    requires value { slice_get (values_at k cells.now.present) i ≡ Some v }
+    ensures { result ≡ split_at (forward_of m.now) (pair_of m.now) k cells.now.present v }
+{
+    let n = cells.cells();
+    let states = m.forward().states();
+    let back_states = reverse_states(m);
+    let left = block(row, states, i);
+    let right = block(back, back_states, i);
+    glue_block(m, left, right, back_states, v, n)
+}
+
+/// The number of states of the reverse automaton.
+fn reverse_states(m: &Machine) -> u8
+    requires { IsSome (pair_of m.now) }
+    ensures count { result ≡ back_states (pair_of m.now) }
+    ensures rules { OfReverse (pair_of m.now) (λ b. IsTrue (is_automaton b)) }
+{
+    match m.reverse() {
+        Some(reverse) => reverse.states(),
+        None => unreachable!(),
+    }
+}
+
+/// The hulls of the value at place `i`, one for each state.
+fn block(row: &[Hull], states: u8, i: u64) -> &[Hull]
+    requires { i * states + states ≤ length row.now }
+    ensures { result.now ≡ slice_range row.now (i * states) (i * states + states) }
+{
+    let from = i as usize * states as usize;
+    &row[from..from + states as usize]
+}
