@@ -6,7 +6,7 @@ pub mod Answered
 pub mod LineLaws
 pub mod SoundLaws
 pub mod TestLaws
-mod RangeLaws
+pub mod RangeLaws
 pub mod MachineLaws
 pub mod CallLaws
 mod AnswerLaws
