@@ -1,0 +1,30 @@
+-- What is promised of lines that are followed.
+use Rattle.std.specs.Prelude.{ℕ, ◌+◌, ◌≤◌, List, [], ◌∷◌, length, Option}
+use Rattle.ts_certificate.specs.declared.certificate.TreeLine.{TreeLine}
+use Rattle.ts_certificate.specs.Grammar.{CertLine}
+use Rattle.ts_domain.specs.BoxSeries.{IsBox}
+use Rattle.ts_model.specs.Stated.{Stated, total_of}
+use Rattle.ts_filter.specs.Boxes.{Box}
+use Rattle.ts_filter.specs.Lines.{Stand, Found}
+use Rattle.ts_filter.specs.RefutedWorseDrop.{Spans}
+use Rattle.ts_filter.specs.Rules.{Head, KeepsRule}
+use Rattle.ts_frontier.specs.Follow.{MayFollow, LeadTo, WaitAfter}
+
+-- a line that keeps its rule may be followed
+abbrev pub RulesFollow : Type 0
+RulesFollow =
+    (m : Stated) (s : Spans) (h : Head) (told : ℕ) (b : Box) (l : TreeLine) → IsBox b → KeepsRule m s h told b l →
+    MayFollow l b
+
+-- with V values in all n cells together, at most V + 1 - n boxes wait, whatever lines are followed
+abbrev pub FewWait : Type 0
+FewWait =
+    (cells : Box) (ls : List TreeLine) (waiting : List Box) → IsBox cells → LeadTo (cells ∷ []) ls waiting →
+    length waiting + length cells ≤ total_of cells + 1
+
+-- the same of the lines of a certificate, whatever they are: those so far lead to the boxes of a stand, or one of them
+-- broke its rule and nothing waits
+abbrev pub FewWaitAfter : Type 0
+FewWaitAfter =
+    (m : Stated) (s : Spans) (ls : List CertLine) (t : Stand) (failed : Option ℕ) (waiting : List Box) → IsBox m.cells →
+    Found m s ls t failed → WaitAfter failed t.waiting waiting → length waiting + length m.cells ≤ total_of m.cells + 1

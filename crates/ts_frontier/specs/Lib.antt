@@ -1,0 +1,5 @@
+pub mod Follow
+pub mod Halve
+pub mod Laws
+pub mod Uppers
+pub mod Waiting

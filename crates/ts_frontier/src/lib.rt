@@ -1,0 +1,39 @@
+//! The boxes that wait for their line in a branch tree, the next one first.
+//!
+//! A [`Frontier`] keeps them as one `Boxed` with its trail, and for each upper side that waits three numbers: where on
+//! the trail its box stands, a cell, and what its values are above. To the layers above it is the list of the waiting
+//! boxes, and whether the next one is *present*, that is, made and lent by `present`.
+//!
+//! | call | the waiting boxes | memory |
+//! |---|---|---|
+//! | `advance` | the same; the next one becomes present | one change of a cell |
+//! | `split` | the next one gives way to its lower side, then its upper side | one change of a cell, one entry |
+//! | `remove` | the next one loses a value of a cell | one change of a cell |
+//! | `close`, `clear` | all but the next one; none | none |
+//!
+//! [`follow`] does to them what a line of a tree says. A split or a removal costs by the pieces of one cell, an advance
+//! by these and by the changes since the box was split: none costs by the number of cells. After want of memory nothing
+//! has changed. However many lines are followed, few boxes wait: by the law `few_wait` at most one more than the values
+//! of all cells of the first box, less its cells. [`first_halving`] says where a box is split, [`only_series`] the
+//! series of a box of one.
+//!
+//! ```text
+//! let mut frontier = Frontier::new(alloc, cells);
+//! while frontier.advance()? {
+//!     let line = line_of(frontier.present())?;
+//!     follow(&mut frontier, &line)?;
+//! }
+//! ```
+#![tactic(auto)]
+
+mod frontier;
+mod halve;
+pub mod laws;
+mod lines;
+
+pub use frontier::Frontier;
+pub use halve::{Halving, first_halving, only_series};
+pub use lines::follow;
+
+#[cfg(test)]
+mod tests;
