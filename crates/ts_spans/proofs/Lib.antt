@@ -1,0 +1,2 @@
+pub mod OfProgram
+pub mod OfTerms

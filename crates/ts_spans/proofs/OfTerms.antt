@@ -1,0 +1,134 @@
+-- The spans of a model's terms hold their values, and tell those of a single series.
+use Rattle.std.proofs.Common.{◌≡◌, ℕ, zero, suc, ◌≤◌, ℤ, List, [], ◌∷◌, length, map, Option, Some, None, slice_get, refl, sym, ◌∙◌, ap, subst, arith}
+use Rattle.std.specs.Prelude.{IsTrue, IfSome, option_map}
+use Rattle.std.proofs.lemmas.List.{length-map}
+use Rattle.std.proofs.lemmas.Option.{same_Some}
+use Rattle.ts_base.specs.declared.ext.Ext.{Ext}
+use Rattle.ts_base.specs.Signature.{signature_of}
+use Rattle.ts_base.specs.Spans.{Holds as SpanHolds, one_span}
+use Rattle.ts_domain.specs.BoxSeries.{InBox, IsBox}
+use Rattle.ts_pattern.specs.declared.name.Aggregator.{Aggregator}
+use Rattle.ts_pattern.specs.declared.name.Feature.{Feature}
+use Rattle.ts_pattern.specs.declared.name.PatternId.{PatternId}
+use Rattle.ts_pattern.specs.PatternTable.{pattern_shape, pattern_b, pattern_a}
+use Rattle.ts_pattern.specs.TermValue.{aggregate_of_ranges, value_of}
+use Rattle.ts_validate.proofs.Law.{closed_valid}
+use Rattle.ts_automaton.specs.AutomatonRun.{answer, AreCellValues, Marked}
+use Rattle.ts_automaton.specs.Typing.{is_automaton}
+use Rattle.ts_seed.specs.SeedTable.{seed_table, table_of}
+use Rattle.ts_seed.proofs.Closed.{rows_closed}
+use Rattle.ts_decorate.specs.Answers.{longest}
+use Rattle.ts_decorate.proofs.CallerLemmas.{answers_ranges, is_marked}
+use Rattle.ts_decorate.proofs.Typed.{is_decorated_automaton}
+use Rattle.ts_local.specs.TermPairs.{body_by}
+use Rattle.ts_local.proofs.Terms.{terms_glue}
+use Rattle.ts_compile.proofs.Tables.{table_fits}
+use Rattle.ts_bound.specs.Laws.{Splits, AreAutomata}
+use Rattle.ts_bound.specs.TermSpans.{Automata, term_span, IsUsable as IsUsableOf}
+use Rattle.ts_bound.proofs.Reached.{spans_hold, within_limits}
+use Rattle.ts_bound.proofs.Singles.{spans_stay_single}
+use Rattle.ts_model.specs.Promise.{IsWhole}
+use Rattle.ts_model.specs.Stated.{Stated}
+use Rattle.ts_filter.specs.Boxes.{Box, IsPart, box_of}
+use Rattle.ts_filter.specs.MachineSpans.{HoldsTerm, TellsTerm}
+use Rattle.ts_filter.proofs.BoxParts.{inside_length}
+use Rattle.ts_filter.proofs.MachineLaws.{machines_hold, machines_tell}
+use Rattle.ts_spans.specs.Laws.{SpansHoldValues, SpansTellSingles}
+use Rattle.ts_spans.specs.Machines.{forward_for, pair_for, automata_for, automata_in}
+
+-- the automaton of a pattern by the rows of a seed, its own or its partner's, keeps every rule of automata
+body_automaton : (id other : PatternId) (g : Aggregator) (f : Feature) → IsTrue (is_automaton (body_by id other g f))
+body_automaton id other g f =
+    let fits = table_fits other in
+    is_decorated_automaton (seed_table other).rows fits.0 fits.1 (pattern_a id) g f
+
+body_marked : (id : PatternId) (g : Aggregator) (f : Feature) → Marked (body_by id id g f)
+body_marked id g f =
+    let fits = table_fits id in
+    is_marked (seed_table id).rows fits.0 fits.1 (pattern_a id) fits.2 g f
+
+-- its answer is the value of the term
+body_answers : (id : PatternId) (g : Aggregator) (f : Feature) (xs : List ℤ) → 1 ≤ length xs → length xs ≤ longest → AreCellValues xs →
+    answer (body_by id id g f) xs ≡ value_of g f id xs
+unfolding value_of
+body_answers id g f xs some short cells =
+    let fits = table_fits id in
+    let rows = (seed_table id).rows in
+    answers_ranges rows fits.0 fits.1 (pattern_a id) fits.2 g f xs some short cells
+    ∙ ap (λ z. aggregate_of_ranges g f z xs)
+    (closed_valid rows fits.0 (pattern_shape id) (pattern_b id) (pattern_a id) (seed_table id).plan (rows_closed id (table_of id) (table_of id).rows refl refl)
+    (signature_of xs))
+
+-- the machine of a term is whole
+pub term_whole : (id : PatternId) (g : Aggregator) (f : Feature) → AreAutomata (automata_for id g f)
+term_whole id g f = record { forward = body_automaton id id g f; pair = split (seed_table id).partner refl }
+  where
+    split : (o : Option PatternId) → (seed_table id).partner ≡ o → IfSome (option_map (pair_for id g f) o) (Splits (forward_for id g f))
+    split None e = tt
+    split (Some partner) e =
+        let glue = terms_glue id partner e g f in
+        record { forward = refl; reverse = body_automaton id partner g f; rules = glue.0; local = glue.1 }
+
+-- what is said of the term at a place: its machine, and its value
+record AreOf {T : Type 0} (machine : T → Automata) (value : T → Ext) (a : Automata) (v : Ext) : Type 0 where
+  term : T
+  is_machine : machine term ≡ a
+  is_value : value term ≡ v
+
+at_term : {T : Type 0} (machine : T → Automata) (value : T → Ext) (ts : List T) (k : ℕ) (a : Automata) (v : Ext) → slice_get (map machine ts) k ≡ Some a →
+    slice_get (map value ts) k ≡ Some v → AreOf machine value a v
+at_term machine value [] k a v e f = absurd (let g : ◌≡◌ {A = Option Automata} None (Some a) = e in cc)
+at_term machine value (t ∷ ts) zero a v e f = record { term = t; is_machine = same_Some (machine t) a e; is_value = same_Some (value t) v f }
+at_term machine value (t ∷ ts) (suc k) a v e f = at_term machine value ts k a v e f
+
+series_length : (x : List ℤ) (b : Box) → InBox x b → length x ≡ length b
+series_length [] [] h = refl
+series_length [] (d ∷ b) h = absurd h
+series_length (v ∷ x) [] h = absurd h
+series_length (v ∷ x) (d ∷ b) h = ap suc (series_length x b h.1)
+
+module _ (m : Stated) (whole : IsWhole m) where
+  -- the span of a term's machine holds the term's value
+  held : (x : List ℤ) (b : Box) (p : ℕ) (id : PatternId) (g : Aggregator) (f : Feature) → IsPart b m.cells → IsUsableOf (automata_for id g f) p b →
+      InBox x b → SpanHolds (term_span (automata_for id g f) p b) (value_of g f id x)
+  held x b p id g f i u h =
+      let same = inside_length b m.cells i.inside in
+      let cells = series_length x b h in
+      let some = whole.some in
+      let few = whole.few in
+      subst (λ v. SpanHolds (term_span (automata_for id g f) p b) v)
+      (body_answers id g f x (omega (arith, same, cells, some)) (omega (arith, same, cells, few)) (within_limits x b i.box h))
+      (spans_hold (automata_for id g f) (term_whole id g f) (body_marked id g f) b (omega (arith, same, few)) i.box p u x h)
+
+  holds_term : (term : ℕ) (a : Automata) → slice_get (automata_in m) term ≡ Some a → HoldsTerm m term a
+  holds_term term a has p b x v i u h e =
+      let t = at_term _ _ m.terms term a v has e in
+      let id = t.term.1.pattern in
+      let g = t.term.1.aggregator in
+      let f = t.term.1.feature in
+      subst (λ z. SpanHolds (term_span a p b) z) t.is_value
+      (subst (λ z. SpanHolds (term_span z p b) (value_of g f id x)) t.is_machine
+      (held x b p id g f i (subst (λ z. IsUsableOf z p b) (sym t.is_machine) u) h))
+
+  -- on the box of one series the span at the last cell is its value alone
+  tells_term : IsBox m.cells → (term : ℕ) (a : Automata) → slice_get (automata_in m) term ≡ Some a → TellsTerm m term a
+  tells_term box term a has x v h e =
+      let t = at_term _ _ m.terms term a v has e in
+      let id = t.term.1.pattern in
+      let g = t.term.1.aggregator in
+      let f = t.term.1.feature in
+      let cells = series_length x m.cells h in
+      let some = whole.some in
+      let few = whole.few in
+      let limits = within_limits x m.cells box h in
+      subst (λ z. term_span a (length x) (box_of x) ≡ one_span z) t.is_value
+      (subst (λ z. term_span z (length x) (box_of x) ≡ one_span (value_of g f id x)) t.is_machine
+      (spans_stay_single (automata_for id g f) (term_whole id g f) x (omega (arith, cells, some)) (omega (arith, cells, few)) limits
+      ∙ ap one_span (body_answers id g f x (omega (arith, cells, some)) (omega (arith, cells, few)) limits)))
+
+pub spans_hold_values : SpansHoldValues
+spans_hold_values m whole = machines_hold m (automata_in m) (holds_term m whole)
+
+pub spans_tell_singles : SpansTellSingles
+spans_tell_singles m whole box =
+    machines_tell m (automata_in m) (length-map m.terms (λ t. automata_for t.1.pattern t.1.aggregator t.1.feature)) (tells_term m whole box)

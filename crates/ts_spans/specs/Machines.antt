@@ -1,0 +1,35 @@
+-- The spans of a model's terms: those of the machines that the tables give them.
+use Rattle.std.specs.Prelude.{List, map, option_map}
+use Rattle.ts_pattern.specs.declared.name.Aggregator.{Aggregator}
+use Rattle.ts_pattern.specs.declared.name.Feature.{Feature}
+use Rattle.ts_pattern.specs.declared.name.PatternId.{PatternId}
+use Rattle.ts_automaton.specs.Body.{Body}
+use Rattle.ts_seed.specs.SeedTable.{seed_table}
+use Rattle.ts_glue.specs.Pairs.{Pair, pair}
+use Rattle.ts_local.specs.TermPairs.{body_by, glue_table_of}
+use Rattle.ts_bound.specs.TermSpans.{Automata}
+use Rattle.ts_model.specs.Stated.{Stated}
+use Rattle.ts_filter.specs.MachineSpans.{spans_of}
+use Rattle.ts_filter.specs.RefutedWorseDrop.{Spans}
+
+-- the automaton of a term's pattern, decorated for its aggregator and feature
+abbrev pub forward_for : PatternId → Aggregator → Feature → Body
+forward_for id g f = body_by id id g f
+
+-- that one and the automaton by the partner's rows, with the glue table
+abbrev pub pair_for : PatternId → Aggregator → Feature → PatternId → Pair
+pair_for id g f partner = pair (forward_for id g f) (body_by id partner g f) (glue_table_of id f)
+
+-- the machine of a term: it can be split where its pattern has a partner
+abbrev pub automata_for : PatternId → Aggregator → Feature → Automata
+automata_for id g f = record {
+  forward = forward_for id g f;
+  pair = option_map (pair_for id g f) (seed_table id).partner;
+}
+
+-- those of a model's terms, in the order of the text
+abbrev pub automata_in : Stated → List Automata
+automata_in m = map (λ t. automata_for t.1.pattern t.1.aggregator t.1.feature) m.terms
+
+abbrev pub spans_in : Stated → Spans
+spans_in m = spans_of (automata_in m)
