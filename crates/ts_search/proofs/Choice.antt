@@ -57,7 +57,8 @@ module _ (m : Stated) (s : Spans) (b : Box) where
   or_fits (Some r) later f g = f
 
   of_fits : (k : ℕ) (v : ℤ) → DropFits m s b (drop_of m s b k v)
-  of_fits k v = go (least (λ j. is_drop m.requirements s k v j b) (length m.requirements) 1) (least_fits (λ j. is_drop m.requirements s k v j b) (length m.requirements) 1)
+  of_fits k v = go (least (λ j. is_drop m.requirements s k v j b) (length m.requirements) 1)
+      (least_fits (λ j. is_drop m.requirements s k v j b) (length m.requirements) 1)
     where
       go : (o : Option ℕ) → LeastFits (λ j. is_drop m.requirements s k v j b) (length m.requirements) 1 o →
           DropFits m s b (option_map (λ j. record { cell = k; value = v; requirement = j }) o)

@@ -36,7 +36,7 @@ promising_there f goal v (u ∷ values) =
     let t = is_better goal (f u) (f v) in
     among_rest v u (most_promising f goal (cond t u v) values) values t (promising_there f goal (cond t u v) values)
 
-best_there : (f : ℤ → Ext) (goal : Goal) (d : List ℤ) → (d ≡ [] → ⊥) → Contains d (best_value f goal d)
+pub best_there : (f : ℤ → Ext) (goal : Goal) (d : List ℤ) → (d ≡ [] → ⊥) → Contains d (best_value f goal d)
 best_there f goal [] some = absurd (some refl)
 best_there f goal (v ∷ values) some = promising_there f goal v values
 
@@ -72,10 +72,10 @@ one_each_alone ((v ∷ []) ∷ b) h = alone_after v (form b) (one_each_alone b (
 one_each_alone ((v ∷ u ∷ d) ∷ b) h = absurd (omega (arith, h zero (omega arith)))
 
 module _ (m : Stated) (s : Spans) (goal : Goal) where
-  kept_in : (k : ℕ) (b : Box) → IsPart b m.cells → HasCell k b → Contains (values_at k b) (kept_value m s goal k b)
+  pub kept_in : (k : ℕ) (b : Box) → IsPart b m.cells → HasCell k b → Contains (values_at k b) (kept_value m s goal k b)
   kept_in k b i c = kept_there s goal k b m.objective (domain_at b (k - 1) i.box (place k b c)).some
 
-  kept_part : (k : ℕ) (b : Box) → IsPart b m.cells → HasCell k b → IsPart (only k (kept_value m s goal k b) b) m.cells
+  pub kept_part : (k : ℕ) (b : Box) → IsPart b m.cells → HasCell k b → IsPart (only k (kept_value m s goal k b) b) m.cells
   kept_part k b i c = only_part k (kept_value m s goal k b) b m.cells i c (kept_in k b i c)
 
   -- a drop leaves cells of one value as they are
@@ -155,7 +155,7 @@ module _ (m : Stated) (s : Spans) (goal : Goal) where
   dive_fits box = end_fits (dive_box m s goal) (dive_part box) (form (dive_box m s goal)) refl
 
   -- later boxes of the dive lie inside earlier ones
-  keep_inside : (all : Box) (n k : ℕ) (b : Box) → 1 ≤ k → k + n ≤ length all + 1 → IsPart b all → IsPart (keep_from m s goal n k b) all
+  pub keep_inside : (all : Box) (n k : ℕ) (b : Box) → 1 ≤ k → k + n ≤ length all + 1 → IsPart b all → IsPart (keep_from m s goal n k b) all
   keep_inside all zero k b f l i = i
   keep_inside all (suc n) k b f l i =
       let long = inside_length b all i.inside in

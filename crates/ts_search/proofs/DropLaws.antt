@@ -31,7 +31,8 @@ module _ (m : Stated) (s : Spans) where
   keep_on P n b h g None d = h
   keep_on P n b h g (Some r) d = g r d
 
-  pub drops_keep : (P : Box → Type 0) → ((r : Removal) (b : Box) → IsDrop m.requirements s r.cell r.value r.requirement b → P b → P (without r.cell r.value b)) →
+  pub drops_keep : (P : Box → Type 0) →
+      ((r : Removal) (b : Box) → IsDrop m.requirements s r.cell r.value r.requirement b → P b → P (without r.cell r.value b)) →
       (n : ℕ) (b : Box) → P b → P (drops m s n b)
   drops_keep P g zero b h = h
   drops_keep P g (suc n) b h =
@@ -56,7 +57,8 @@ module _ (m : Stated) (s : Spans) where
         inside_length b all i.inside,
       ))
 
-  end_on : (n : ℕ) (b : Box) → ((r : Removal) → IsDrop m.requirements s r.cell r.value r.requirement b → next_drop m s (drops m s n (without r.cell r.value b)) ≡ None) →
+  end_on : (n : ℕ) (b : Box) →
+      ((r : Removal) → IsDrop m.requirements s r.cell r.value r.requirement b → next_drop m s (drops m s n (without r.cell r.value b)) ≡ None) →
       (o : Option Removal) → next_drop m s b ≡ o → DropFits m s b o →
       next_drop m s (unwrap_or (option_map (λ r. drops m s n (without r.cell r.value b)) o) b) ≡ None
   end_on n b g None e d = e

@@ -98,7 +98,8 @@ module _ (c : Search) where
       cut c p b lower ≡ true → cut c p b higher ≡ true
   cut_more p b lower higher f k = from_cut p b higher (more_cut p b lower higher f (to_cut p b lower k))
 
-  pub no_series : Known c → (j p : ℕ) (b : Box) (y : List ℤ) → IsPart b c.model.cells → InBox y b → Meets c.model y → IsRefuted c.model.requirements c.spans j p b → ⊥
+  pub no_series : Known c → (j p : ℕ) (b : Box) (y : List ℤ) → IsPart b c.model.cells → InBox y b → Meets c.model y →
+      IsRefuted c.model.requirements c.spans j p b → ⊥
   no_series k j p b y i a m r = k.sound.refuted j p b y i r a m
 
   pub cut_counts : KnownBest c → (p : ℕ) (b : Box) (bar : Bar) (y : List ℤ) → IsPart b c.model.cells → InBox y b → cut c p b bar ≡ true →

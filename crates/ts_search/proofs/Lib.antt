@@ -1,8 +1,15 @@
+mod CallLaws
+mod Certified
 pub mod Choice
 pub mod Closing
+mod CodeFound
+mod CodeLines
+mod CodeTurns
 pub mod DiveLaws
+mod DiveSteps
 pub mod DropLaws
 pub mod Good
+mod KeptLaws
 pub mod Known
 pub mod LineParts
 pub mod ListGood
@@ -10,7 +17,10 @@ pub mod ListLean
 pub mod ListSolves
 pub mod ListUnique
 pub mod NextDrop
+pub mod OfProgram
+pub mod OpenLines
 pub mod Parts
+mod Posed
 pub mod Reason
 pub mod Right
 pub mod Solves

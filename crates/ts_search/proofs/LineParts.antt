@@ -44,7 +44,11 @@ module _ (c : Search) (b : Box) where
     some = f.from;
     below = (let n = f.to in omega arith);
     first = λ j q from r one few. ⊎_elim
-        (λ s. inr (s, ⊎_elim (λ n. absurd (clash (refuted c k q b) (subst (λ z. refuted c z q b ≡ true) (sym s) r) (f.first q one n))) (λ n. n) (less_or_not q p)))
+        (λ s. inr (
+          s,
+          ⊎_elim (λ n. absurd (clash (refuted c k q b) (subst (λ z. refuted c z q b ≡ true) (sym s) r) (f.first q one n))) (λ n. n)
+              (less_or_not q p),
+        ))
         (λ n. inl n) (eq-or-lt_of_le from);
   }
 

@@ -35,7 +35,7 @@ done_still c count s d =
     ∙ (elim (nat_lt (length s.listed) count) as (λ t. cond t s s ≡ s) [ true ↦ refl | false ↦ refl ]))
     d
 
-done_stop : (c : Search) (count n : ℕ) (s : ListState) → IsDone count s → list_turns c count n s ≡ s
+pub done_stop : (c : Search) (count n : ℕ) (s : ListState) → IsDone count s → list_turns c count n s ≡ s
 done_stop c count zero s d = refl
 done_stop c count (suc n) s d = ap (λ t. list_turns c count n t) (done_still c count s d) ∙ done_stop c count n s d
 

@@ -112,7 +112,8 @@ module _ (m : Stated) (s : Spans) (b : Box) where
           let f = first_of k u r (q ∙ ap (λ o. or_later o (drop_at m s b k values)) (sym q) ∙ e) in
           inl (subst (λ z. z <ℤ v) (sym f.value) (above later))
 
-  first_from : IsBox b → (n k : ℕ) (r : Removal) → drop_from m s b n k ≡ Some r → (i : ℕ) (v : ℤ) (j : ℕ) → k ≤ i → i < k + n → IsDrop m.requirements s i v j b →
+  first_from : IsBox b → (n k : ℕ) (r : Removal) → drop_from m s b n k ≡ Some r → (i : ℕ) (v : ℤ) (j : ℕ) → k ≤ i → i < k + n →
+      IsDrop m.requirements s i v j b →
       IsNoLater r i v j
   first_from box zero k r e i v j a l d = absurd (omega arith)
   first_from box (suc n) k r e i v j a l d =

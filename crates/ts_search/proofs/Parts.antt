@@ -151,7 +151,8 @@ one_value (v ∷ x) zero = omega arith
 one_value (v ∷ x) (suc i) = one_value x i
 
 -- a box of one series has no drop
-pub drop_not_alone : (m : Stated) (s : Spans) (k : ℕ) (v : ℤ) (j : ℕ) (b : Box) (x : List ℤ) → IsPart b m.cells → IsDrop m.requirements s k v j b → form b ≡ Alone x → ⊥
+pub drop_not_alone : (m : Stated) (s : Spans) (k : ℕ) (v : ℤ) (j : ℕ) (b : Box) (x : List ℤ) → IsPart b m.cells →
+    IsDrop m.requirements s k v j b → form b ≡ Alone x → ⊥
 drop_not_alone m s k v j b x i d e =
     let many = subst (λ z. 2 ≤ length (values_at k z)) (alone_is m.cells b x i e) d.many in
     omega (arith, many, one_value x (k - 1))

@@ -33,7 +33,7 @@ each_from : (P : Require → Type 0) (rs : List Require) → ((i : ℕ) (r : Req
 each_from P [] f = tt
 each_from P (r ∷ rs) f = (f zero r refl, each_from P rs (λ i q e. f (suc i) q e))
 
-each_at : (P : Require → Type 0) (rs : List Require) (i : ℕ) (r : Require) → AllByRecursion P rs → slice_get rs i ≡ Some r → P r
+pub each_at : (P : Require → Type 0) (rs : List Require) (i : ℕ) (r : Require) → AllByRecursion P rs → slice_get rs i ≡ Some r → P r
 each_at P [] i r h e = absurd (let f : ◌≡◌ {A = Option Require} None (Some r) = e in cc)
 each_at P (q ∷ rs) zero r h e = subst P (let f : ◌≡◌ {A = Option Require} (Some q) (Some r) = e in cc) h.0
 each_at P (q ∷ rs) (suc i) r h e = each_at P rs i r h.1 e
@@ -45,7 +45,8 @@ value_there m x term l =
     (get_or (values_on m x) term NegInf, slice_get-get_or (values_on m x) term NegInf n)
 
 module _ (m : Stated) (s : Spans) (right : AreRight m s) where
-  met : (x : List ℤ) → InBox x m.cells → ((j : ℕ) (r : Require) → IsRequirement m.requirements j r → IsRefuted m.requirements s j (length x) (box_of x) → ⊥) → Meets m x
+  met : (x : List ℤ) → InBox x m.cells →
+      ((j : ℕ) (r : Require) → IsRequirement m.requirements j r → IsRefuted m.requirements s j (length x) (box_of x) → ⊥) → Meets m x
   met x within free = record {
     cells = series_length x m.cells within;
     inside = within;
@@ -90,7 +91,8 @@ module _ (c : Search) (right : AreRight c.model c.spans) where
       met c.model c.spans right x within
       (λ j r req k. clash (refuted c j (last c) b)
       (from_refuted c j (last c) b
-      (subst (λ z. IsRefuted c.model.requirements c.spans j z b) n (subst (λ z. IsRefuted c.model.requirements c.spans j (length x) z) (sym (alone_is c.model.cells b x i e)) k)))
+      (subst (λ z. IsRefuted c.model.requirements c.spans j z b) n
+      (subst (λ z. IsRefuted c.model.requirements c.spans j (length x) z) (sym (alone_is c.model.cells b x i e)) k)))
       (free j req.0 (let l = slice_get_within c.model.requirements (j - 1) r req.1 in let a = req.0 in omega (arith, l, a))))
 
   pub known : Known c

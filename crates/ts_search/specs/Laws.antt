@@ -9,11 +9,11 @@ use Rattle.ts_certificate.specs.declared.certificate.Claim.TheVariants.{Best, In
 use Rattle.ts_certificate.specs.declared.certificate.Claim.TheVariants.{Full, All, BudgetList}
 use Rattle.ts_certificate.specs.declared.certificate.TreeLine.{TreeLine}
 use Rattle.ts_certificate.specs.declared.certificate.TreeLine.TheVariants.{No}
-use Rattle.ts_certificate.specs.Certificate.{Cert}
+use Rattle.ts_certificate.specs.Certificate.{Cert, open_count}
 use Rattle.ts_domain.specs.BoxSeries.{IsBox, series_count}
 use Rattle.ts_domain.specs.Kept.{values_up_to}
 use Rattle.ts_model.specs.Meets.{Meets}
-use Rattle.ts_model.specs.Stated.{Stated}
+use Rattle.ts_model.specs.Stated.{Stated, total_of}
 use Rattle.ts_filter.specs.Accepts.{objective_of}
 use Rattle.ts_filter.specs.Boxes.{Box, values_at, box_of, IsPart}
 use Rattle.ts_filter.specs.RefutedWorseDrop.{Spans, IsRefuted, IsDrop}
@@ -72,6 +72,17 @@ ListBudgetIsEnough =
     (m : Stated) (s : Spans) (count n : ℕ) (c : Cert) → AreRight m s → 2 * series_count m.cells ≤ n + 1 →
     Listed m s count n c → IsBudget c.claim → ⊥
 
+-- few lines are `open`: no more than the values of the domains together
+abbrev pub SolvedOpensFew : Type 0
+SolvedOpensFew =
+    (m : Stated) (s : Spans) (goal : Goal) (n : ℕ) (c : Cert) → AreRight m s → IsSome m.objective →
+    Solved m s goal n c → open_count c.tree ≤ total_of m.cells
+
+abbrev pub ListedOpensFew : Type 0
+ListedOpensFew =
+    (m : Stated) (s : Spans) (count n : ℕ) (c : Cert) → AreRight m s → Listed m s count n c →
+    open_count c.tree ≤ total_of m.cells
+
 -- Drops and the dive.
 
 -- r is the drop of value v of cell k by requirement j, or comes before it by cell, then value, then requirement
@@ -83,8 +94,8 @@ IsNoLater r k v j =
 pub record IsNextDrop (m : Stated) (s : Spans) (b : Box) : Type 0 where
   pub some : (r : Removal) → next_drop m s b ≡ Some r → IsDrop m.requirements s r.cell r.value r.requirement b
   pub none : next_drop m s b ≡ None → (k : ℕ) (v : ℤ) (j : ℕ) → IsDrop m.requirements s k v j b → ⊥
-  pub first : IsBox b → (r : Removal) → next_drop m s b ≡ Some r → (k : ℕ) (v : ℤ) (j : ℕ) → IsDrop m.requirements s k v j b →
-      IsNoLater r k v j
+  pub first : IsBox b → (r : Removal) → next_drop m s b ≡ Some r → (k : ℕ) (v : ℤ) (j : ℕ) →
+      IsDrop m.requirements s k v j b → IsNoLater r k v j
 
 abbrev pub NextDropFits : Type 0
 NextDropFits = (m : Stated) (s : Spans) (b : Box) → IsNextDrop m s b
@@ -112,8 +123,8 @@ DiveEndsEarly =
 
 -- The parts of a line.
 
--- cell k is the first with two or more values, and t the lower middle one of its values: half of them, rounded up, are up
--- to t, which is one of them
+-- cell k is the first with two or more values, and t the lower middle one of its values: half of them, rounded up,
+-- are up to t, which is one of them
 pub record IsFirstOpen (k : ℕ) (t : ℤ) (b : Box) : Type 0 where
   pub split : IsSplit k t b
   pub before : AllByRecursion (λ d. length d ≡ 1) (take (k - 1) b)
@@ -135,7 +146,8 @@ pub record IsFirstNo (c : Search) (b : Box) (l : TreeLine) : Type 0 where
   pub line : l ≡ No requirement cell
   pub refuted : IsRefuted c.model.requirements c.spans requirement cell b
   pub below : cell < last c
-  pub first : (j p : ℕ) → IsRefuted c.model.requirements c.spans j p b → p < last c → (requirement < j) ⊎ ((requirement ≡ j) × (cell ≤ p))
+  pub first : (j p : ℕ) → IsRefuted c.model.requirements c.spans j p b → p < last c →
+      (requirement < j) ⊎ ((requirement ≡ j) × (cell ≤ p))
 
 abbrev pub FirstNoFits : Type 0
 FirstNoFits = (c : Search) (b : Box) (l : TreeLine) → first_no c b (requirements c) 1 ≡ Some l → IsFirstNo c b l

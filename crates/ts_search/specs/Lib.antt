@@ -7,5 +7,7 @@ pub mod Laws
 pub mod Lean
 pub mod LineOf
 pub mod Listed
+pub mod Posed
 pub mod Solved
 pub mod Turns
+pub mod Views

@@ -1,8 +1,9 @@
 //! Laws of the definitions: functions that do nothing, each with what it proves as its clause.
 
-ghost use Rattle.ts_search.specs.Laws.{BudgetIsEnough, ListBudgetIsEnough, OneListed, OneSolved, SearchLists, SearchSolves};
+ghost use Rattle.ts_search.specs.Laws.{BudgetIsEnough, ListBudgetIsEnough, OneListed, OneSolved};
 ghost use Rattle.ts_search.specs.Laws.{DiveEnds, DiveEndsEarly, DiveMeets, DropsEnd, NextDropFits};
-ghost use Rattle.ts_search.specs.Laws.{FirstNoFits, FormsTell};
+ghost use Rattle.ts_search.specs.Laws.{FirstNoFits, FormsTell, ListedOpensFew, SolvedOpensFew};
+ghost use Rattle.ts_search.specs.Laws.{SearchLists, SearchSolves};
 
 /// The certificate of a search names the first best series, or that none meets, or what a spent budget leaves.
 pub fn search_solves()
@@ -30,22 +31,28 @@ pub fn budget_is_enough()
     ensures list { ListBudgetIsEnough }
 {}
 
+/// No more lines are `open` than the domains have values together.
+pub fn few_open()
+    ensures best { SolvedOpensFew }
+    ensures list { ListedOpensFew }
+{}
+
 /// The next drop is the first that may be made, and none only where none may be made; after all drops none is left.
 pub fn drops_end()
     ensures next { NextDropFits }
     ensures end { DropsEnd }
 {}
 
-/// The dive ends at one series; where it meets, that is the dive's series, with its value. Where a requirement is refuted
-/// on the way, it has none.
+/// The dive ends at one series; where it meets, that is the dive's series, with its value. Where a requirement is
+/// refuted on the way, it has none.
 pub fn dive_ends()
     ensures alone { DiveEnds }
     ensures meets { DiveMeets }
     ensures early { DiveEndsEarly }
 {}
 
-/// A box is split at its first open cell and the lower middle of its values; `no J P` below the last cell names the least
-/// requirement, and then the least cell.
+/// A box is split at its first open cell and the lower middle of its values; `no J P` below the last cell names the
+/// least requirement, and then the least cell.
 pub fn parts_fit()
     ensures form { FormsTell }
     ensures no { FirstNoFits }

@@ -1,8 +1,32 @@
-//! The search for the best series of a model, and for its first series in order: its definitions and their laws.
+//! The search for the best series of a model, and for its first series in order.
 //!
-//! The layer above may rely on this: one pure function says the line of a box, and by the laws the certificate of its
-//! turns names the first best series (or the first series that meet, in order), keeps the rules of lean trees, and is
-//! the only one that does, wherever spans hold the values of their terms and are exact on boxes of one series.
+//! The layer above may rely on this: the certificate of `solve` names the first best series of a model, or that none
+//! meets, or what a spent budget leaves; that of `list` has the first series that meet, in order. Both are accepted,
+//! keep the rules of lean trees, and are the only ones that do: nothing in a tree is left to choose. No other answer
+//! comes but want of memory.
+//!
+//! One pure function says the line of a box; the code asks its tests one after the other and stops at the first that
+//! holds. A box that waits is a mark on a trail and one change. Each test makes its hull tables anew.
+//!
+//! ```text
+//! let program = compile_model(alloc, &model)?;
+//! let best = solve(alloc, &model, &program, Goal::Maximise, 100_000)?;
+//! let first = list(alloc, &model, &program, 5, 100_000)?;
+//! ```
 #![tactic(auto)]
 
+mod best;
+mod dive;
+mod found;
 pub mod laws;
+mod line;
+mod listing;
+mod objective;
+mod problem;
+mod tree;
+
+pub use best::solve;
+pub use listing::list;
+
+#[cfg(test)]
+mod tests;

@@ -1,0 +1,160 @@
+-- The line of a box as the code finds it: its loops over the requirements, and each place where it ends.
+use Rattle.std.proofs.Common.{◌≡◌, ℕ, zero, suc, ◌+◌, ◌-◌, ◌/◌, ◌<◌, ◌≤◌, ℤ, pos, Bool, true, false, cond, List, [], ◌∷◌, length, get_or, take, Option, Some, None, option_map, unwrap_or, refl, sym, ◌∙◌, ap, arith}
+use Rattle.std.proofs.lemmas.List.{get_or_default}
+use Rattle.ts_certificate.specs.declared.certificate.Aim.{Aim}
+use Rattle.ts_certificate.specs.declared.certificate.Aim.TheVariants.{Best as BestOf, List as ListOf}
+use Rattle.ts_certificate.specs.declared.certificate.TreeLine.{TreeLine}
+use Rattle.ts_certificate.specs.declared.certificate.TreeLine.TheVariants.{Split, Remove, No, Worse, Yes}
+use Rattle.ts_filter.specs.Boxes.{Box}
+use Rattle.ts_filter.specs.declared.drops.Removal.{Removal as GivenRemoval}
+use Rattle.ts_frontier.specs.Halve.{IsSingle, IsHalving, middle_of}
+use Rattle.ts_search.specs.Dive.{Find}
+use Rattle.ts_search.specs.Drops.{least, next_drop}
+use Rattle.ts_search.specs.Forms.{Form, Alone, Wide, after_value, form}
+use Rattle.ts_search.specs.LineOf.{Search, last, requirements, inner, refuted, bar_of, cut_by, refuted_last, no_line, first_no, removal_line, branch_line, inner_worse, wide_line, form_line, line_of}
+use Rattle.ts_search.specs.Views.{removal_of}
+
+-- the form of a box, by its halving
+
+pub single_form : (b : Box) → IsSingle b → (x : List ℤ) × (form b ≡ Alone x)
+single_form [] h = ([], refl)
+single_form ([] ∷ b) h = absurd (let one = h.0 in omega (arith, one))
+single_form ((v ∷ []) ∷ b) h = let later = single_form b h.1 in (v ∷ later.0, ap (after_value v) later.1)
+single_form ((v ∷ u ∷ d) ∷ b) h = absurd (let one = h.0 in omega (arith, one))
+
+wide_here : (d : List ℤ) (b : Box) (t : ℤ) → 2 ≤ length d → t ≡ middle_of d → form (d ∷ b) ≡ Wide 1 t
+wide_here [] b t many is = absurd (omega (arith, many))
+wide_here (v ∷ []) b t many is = absurd (omega (arith, many))
+wide_here (v ∷ u ∷ d) b t many is =
+    let i : (length d + 1) / 2 ≡ (length (v ∷ u ∷ d) - 1) / 2 = omega arith in
+    ap (Wide 1)
+    (get_or_default (v ∷ u ∷ d) ((length d + 1) / 2) v (pos 0) (omega arith) ∙ ap (λ n. get_or (v ∷ u ∷ d) n (pos 0)) i ∙ sym is)
+
+wide_at : (b : Box) (i : ℕ) (t : ℤ) → i < length b → IsSingle (take i b) → 2 ≤ length (get_or b i []) → t ≡ middle_of (get_or b i []) →
+    form b ≡ Wide (suc i) t
+wide_at [] i t l before many is = absurd (omega (arith, l))
+wide_at (d ∷ b) zero t l before many is = wide_here d b t many is
+wide_at ([] ∷ b) (suc i) t l before many is = absurd (let one = before.0 in omega (arith, one))
+wide_at ((v ∷ []) ∷ b) (suc i) t l before many is = ap (after_value v) (wide_at b i t (omega (arith, l)) before.1 many is)
+wide_at ((v ∷ u ∷ d) ∷ b) (suc i) t l before many is = absurd (let one = before.0 in omega (arith, one))
+
+pub halving_form : (b : Box) (k : ℕ) (t : ℤ) → IsHalving k t b → form b ≡ Wide k t
+halving_form b k t h =
+    let from = h.cell.0 in
+    let to = h.cell.1 in
+    let at : suc (k - 1) ≡ k = omega (arith, from) in
+    wide_at b (k - 1) t (omega (arith, from, to)) h.before h.many h.middle ∙ ap (λ n. Wide n t) at
+
+-- the loops over the requirements
+
+pub least_next : (q : ℕ → Bool) (n m j : ℕ) (r : Bool) (z : Option ℕ) → j < m + 1 → m ≡ n → r ≡ q j → r ≡ false → least q (n + 1 - j) j ≡ z →
+    least q (n + 1 - (j + 1)) (j + 1) ≡ z
+least_next q n m j r z below count is fails h =
+    let more : n + 1 - j ≡ suc (n + 1 - (j + 1)) = omega (arith, below, count) in
+    let one : j + 1 ≡ suc j = omega arith in
+    ap (λ k. least q (n + 1 - (j + 1)) k) one
+    ∙ ap (λ t. cond t (Some j) (least q (n + 1 - (j + 1)) (suc j))) (sym fails ∙ is)
+    ∙ ap (λ m. least q m j) (sym more) ∙ h
+
+pub least_here : (q : ℕ → Bool) (n m j : ℕ) (r : Bool) (z : Option ℕ) → j < m + 1 → m ≡ n → r ≡ q j → r ≡ true → least q (n + 1 - j) j ≡ z → Some j ≡ z
+least_here q n m j r z below count is holds h =
+    let more : n + 1 - j ≡ suc (n + 1 - (j + 1)) = omega (arith, below, count) in
+    ap (λ t. cond t (Some j) (least q (n + 1 - (j + 1)) (suc j))) (sym holds ∙ is) ∙ ap (λ m. least q m j) (sym more) ∙ h
+
+pub least_end : (q : ℕ → Bool) (n m j : ℕ) (z : Option ℕ) → m + 1 ≤ j → m ≡ n → least q (n + 1 - j) j ≡ z → None ≡ z
+least_end q n m j z above count h = let none : 0 ≡ n + 1 - j = omega (arith, above, count) in ap (λ k. least q k j) none ∙ h
+
+pub no_next : (c : Search) (b : Box) (n m j : ℕ) (o : Option ℕ) (z : Option TreeLine) → j < m + 1 → m ≡ n → o ≡ least (λ p. refuted c j p b) (inner c) 1 →
+    o ≡ None → first_no c b (n + 1 - j) j ≡ z → first_no c b (n + 1 - (j + 1)) (j + 1) ≡ z
+no_next c b n m j o z below count is fails h =
+    let more : n + 1 - j ≡ suc (n + 1 - (j + 1)) = omega (arith, below, count) in
+    let one : j + 1 ≡ suc j = omega arith in
+    ap (λ k. first_no c b (n + 1 - (j + 1)) k) one
+    ∙ ap (λ p. no_line j p (first_no c b (n + 1 - (j + 1)) (suc j))) (sym fails ∙ is)
+    ∙ ap (λ m. first_no c b m j) (sym more) ∙ h
+
+pub no_here : (c : Search) (b : Box) (n m j p : ℕ) (o : Option ℕ) (z : Option TreeLine) → j < m + 1 → m ≡ n → o ≡ least (λ p. refuted c j p b) (inner c) 1 →
+    o ≡ Some p → first_no c b (n + 1 - j) j ≡ z → Some (No j p) ≡ z
+no_here c b n m j p o z below count is some h =
+    let more : n + 1 - j ≡ suc (n + 1 - (j + 1)) = omega (arith, below, count) in
+    ap (λ o. no_line j o (first_no c b (n + 1 - (j + 1)) (suc j))) (sym some ∙ is) ∙ ap (λ m. first_no c b m j) (sym more) ∙ h
+
+pub no_end : (c : Search) (b : Box) (n m j : ℕ) (z : Option TreeLine) → m + 1 ≤ j → m ≡ n → first_no c b (n + 1 - j) j ≡ z → None ≡ z
+no_end c b n m j z above count h = let none : 0 ≡ n + 1 - j = omega (arith, above, count) in ap (λ k. first_no c b k j) none ∙ h
+
+-- where the line is found
+
+module _ (c : Search) (aim : Aim) (found : Option Find) (b : Box) where
+  pub line_refuted : (j p : ℕ) → refuted_last c b ≡ Some j → p ≡ last c → No j p ≡ line_of c aim found b
+  line_refuted j p e end =
+      ap (No j) end ∙ ap (λ o. unwrap_or (option_map (λ j. No j (last c)) o) (form_line c aim found b (form b))) (sym e)
+
+  pub line_free : (f : Form) → refuted_last c b ≡ None → form b ≡ f → form_line c aim found b f ≡ line_of c aim found b
+  line_free f e is =
+      ap (form_line c aim found b) (sym is) ∙ ap (λ o. unwrap_or (option_map (λ j. No j (last c)) o) (form_line c aim found b (form b))) (sym e)
+
+  pub wide_no : (l : TreeLine) (k : ℕ) (t : ℤ) → first_no c b (requirements c) 1 ≡ Some l → l ≡ wide_line c aim found b k t
+  wide_no l k t e = ap (λ o. unwrap_or o (inner_worse c aim found b (branch_line c b k t))) (sym e)
+
+  pub wide_on : (l : TreeLine) (k : ℕ) (t : ℤ) → first_no c b (requirements c) 1 ≡ None → l ≡ inner_worse c aim found b (branch_line c b k t) →
+      l ≡ wide_line c aim found b k t
+  wide_on l k t e is = is ∙ ap (λ o. unwrap_or o (inner_worse c aim found b (branch_line c b k t))) (sym e)
+
+-- a drop where one is possible, else the split; the numbers are as the code has them
+module _ (c : Search) (b : Box) (o : Option GivenRemoval) (is : removal_of o ≡ next_drop c.model c.spans b) where
+  pub branch_drop : (r : GivenRemoval) (v : ℤ) (k : ℕ) (t : ℤ) → o ≡ Some r → v ≡ r.value → Remove r.cell v r.require ≡ branch_line c b k t
+  branch_drop r v k t some same =
+      ap (λ z. Remove r.cell z r.require) same
+      ∙ ap (λ z. unwrap_or (option_map removal_line z) (Split k t)) (sym (ap removal_of some) ∙ is)
+
+  pub branch_split : (k : ℕ) (t u : ℤ) → o ≡ None → u ≡ t → Split k u ≡ branch_line c b k t
+  branch_split k t u none same =
+      ap (Split k) same ∙ ap (λ z. unwrap_or (option_map removal_line z) (Split k t)) (sym (ap removal_of none) ∙ is)
+
+module _ (c : Search) (found : Option Find) (b : Box) (k : ℕ) (t : ℤ) where
+  -- of a box of several series that is neither refuted nor cut at the last cell
+  pub inner_cut : (o : Option ℕ) (p : ℕ) → first_no c b (requirements c) 1 ≡ None → o ≡ least (λ p. cut_by c (bar_of found c.warm) p b) (inner c) 1 →
+      o ≡ Some p → Worse p ≡ wide_line c (BestOf c.goal) found b k t
+  inner_cut o p none is some =
+      wide_on c (BestOf c.goal) found b (Worse p) k t none
+      (ap (λ z. unwrap_or (option_map (λ p. Worse p) z) (branch_line c b k t)) (sym some ∙ is))
+
+  pub inner_branch : (o : Option ℕ) (l : TreeLine) → first_no c b (requirements c) 1 ≡ None →
+      o ≡ least (λ p. cut_by c (bar_of found c.warm) p b) (inner c) 1 → o ≡ None → l ≡ branch_line c b k t → l ≡ wide_line c (BestOf c.goal) found b k t
+  inner_branch o l none is out branch =
+      wide_on c (BestOf c.goal) found b l k t none
+      (branch ∙ ap (λ z. unwrap_or (option_map (λ p. Worse p) z) (branch_line c b k t)) (sym out ∙ is))
+
+module _ (c : Search) (found : Option Find) (b : Box) where
+  pub solved_alone : refuted_last c b ≡ None → IsSingle b → (p : ℕ) → p ≡ last c → Worse p ≡ line_of c (BestOf c.goal) found b
+  solved_alone e single p end =
+      let f = single_form b single in ap Worse end ∙ line_free c (BestOf c.goal) found b (Alone f.0) e f.1
+
+  pub solved_cut : refuted_last c b ≡ None → (k : ℕ) (t : ℤ) → IsHalving k t b → (r : Bool) → r ≡ cut_by c (bar_of found c.warm) (last c) b → r ≡ true →
+      (p : ℕ) → p ≡ last c → Worse p ≡ line_of c (BestOf c.goal) found b
+  solved_cut e k t h r is cut p end =
+      ap Worse end
+      ∙ ap (λ z. cond z (Worse (last c)) (wide_line c (BestOf c.goal) found b k t)) (sym cut ∙ is)
+      ∙ line_free c (BestOf c.goal) found b (Wide k t) e (halving_form b k t h)
+
+  pub solved_wide : refuted_last c b ≡ None → (k : ℕ) (t : ℤ) → IsHalving k t b → (r : Bool) → r ≡ cut_by c (bar_of found c.warm) (last c) b → r ≡ false →
+      (l : TreeLine) → l ≡ wide_line c (BestOf c.goal) found b k t → l ≡ line_of c (BestOf c.goal) found b
+  solved_wide e k t h r is cut l wide =
+      wide
+      ∙ ap (λ z. cond z (Worse (last c)) (wide_line c (BestOf c.goal) found b k t)) (sym cut ∙ is)
+      ∙ line_free c (BestOf c.goal) found b (Wide k t) e (halving_form b k t h)
+
+-- of a listing
+module _ (c : Search) (count : ℕ) (b : Box) where
+  pub listed_alone : refuted_last c b ≡ None → IsSingle b → Yes ≡ line_of c (ListOf count) None b
+  listed_alone e single = let f = single_form b single in line_free c (ListOf count) None b (Alone f.0) e f.1
+
+  pub listed_no : refuted_last c b ≡ None → (k : ℕ) (t : ℤ) → IsHalving k t b → (o : Option TreeLine) (l : TreeLine) →
+      o ≡ first_no c b (requirements c) 1 → o ≡ Some l → l ≡ line_of c (ListOf count) None b
+  listed_no e k t h o l is some =
+      wide_no c (ListOf count) None b l k t (sym is ∙ some) ∙ line_free c (ListOf count) None b (Wide k t) e (halving_form b k t h)
+
+  pub listed_branch : refuted_last c b ≡ None → (k : ℕ) (t : ℤ) → IsHalving k t b → (o : Option TreeLine) (l : TreeLine) →
+      o ≡ first_no c b (requirements c) 1 → o ≡ None → l ≡ branch_line c b k t → l ≡ line_of c (ListOf count) None b
+  listed_branch e k t h o l is none branch =
+      wide_on c (ListOf count) None b l k t (sym is ∙ none) branch ∙ line_free c (ListOf count) None b (Wide k t) e (halving_form b k t h)

@@ -1,0 +1,13 @@
+use Rattle.std.proofs.Common.{◌+◌, ◌-◌, length}
+use Rattle.ts_filter.specs.Boxes.{IsPart}
+use Rattle.ts_search.specs.Dive.{dive}
+use Rattle.ts_search.specs.Views.{search_of}
+use Rattle.ts_search.proofs.DiveSteps.{EndsAs}
+use Rattle.ts_search.proofs.dive.dive.Given as goal
+
+abbrev pub invariant-loop-k : goal.invariant-loop-k
+invariant-loop-k l = record {
+  part : IsPart l.cells.present (search_of l.problem).model.cells;
+  ends : EndsAs (search_of l.problem).model (search_of l.problem).spans l.problem.goal (length (search_of l.problem).model.cells + 1 - l.k) l.k
+      l.cells.present (dive (search_of l.problem).model (search_of l.problem).spans l.problem.goal);
+}

@@ -1,0 +1,21 @@
+use Rattle.ts_certificate.specs.declared.certificate.Aim.TheVariants.{Best as BestOf}
+use Rattle.ts_search.specs.Views.{find_of, search_of}
+use Rattle.ts_search.proofs.CodeTurns.{may_follow, present_part}
+use Rattle.ts_search.proofs.tree.treat.Goals as goal
+
+-- the present box is the first that waits, which is inside the model's
+pub solve_line-requires-clause-part : goal.solve_line-requires-clause-part
+solve_line-requires-clause-part c =
+    present_part (search_of c.args.problem.now).model.cells c.args.tree.now.frontier.boxes c.advance.new.self.boxes c.present.result.now.present
+    c.requires.parts c.in_ok-advance.ensures.same c.present.ensures
+
+pub found_now-requires-clause-part : goal.found_now-requires-clause-part
+found_now-requires-clause-part c =
+    present_part (search_of c.args.problem.now).model.cells c.args.tree.now.frontier.boxes c.advance.new.self.boxes c.present-2.result.now.present
+    c.requires.parts c.in_ok-advance.ensures.same c.present-2.ensures
+
+pub follow-requires-clause-fits : goal.follow-requires-clause-fits
+follow-requires-clause-fits c =
+    may_follow (search_of c.args.problem.now) (BestOf c.args.problem.now.goal) (find_of c.args.tree.now.found) c.args.tree.now.frontier.boxes
+    c.advance.new.self.boxes c.present.result.now.present c.in_ok-line.line c.requires.parts c.in_ok-advance.ensures.same c.present.ensures
+    c.in_ok-line.ensures

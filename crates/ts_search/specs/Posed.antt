@@ -1,0 +1,15 @@
+-- A problem that may be asked.
+use Rattle.std.specs.Prelude.{◌≤◌, length}
+use Rattle.ts_base.specs.Limits.{most_requirements, most_terms}
+use Rattle.ts_compile.specs.Programs.{IsProgramOf}
+use Rattle.ts_model.specs.Views.{stated}
+use Rattle.ts_spans.specs.Machines.{spans_in}
+use Rattle.ts_search.specs.Asked.{AreRight}
+use Rattle.ts_search.specs.declared.problem.Problem.{Problem}
+
+-- the program is the model's, whose terms and requirements are few and whose spans are right
+pub record IsPosed (q : Problem) : Type 0 where
+  pub program : IsProgramOf q.program.now q.model.now
+  pub right : AreRight (stated q.model.now) (spans_in (stated q.model.now))
+  pub terms : length q.model.now.terms.entries ≤ most_terms
+  pub requirements : length q.model.now.requirements.items ≤ most_requirements

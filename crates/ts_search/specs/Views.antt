@@ -1,0 +1,52 @@
+-- How the structs of the code are seen.
+use Rattle.std.specs.Prelude.{◌≡◌, ℕ, Bool, true, false, Option, Some, None, map}
+use Rattle.ts_model.specs.Views.{stated}
+use Rattle.ts_spans.specs.Machines.{spans_in}
+use Rattle.ts_filter.specs.declared.drops.Removal.{Removal as GivenRemoval}
+use Rattle.ts_filter.specs.Boxes.{Box, IsPart}
+use Rattle.ts_filter.specs.RefutedWorseDrop.{IsRefuted}
+use Rattle.ts_search.specs.Dive.{Find}
+use Rattle.ts_search.specs.Drops.{Removal, dropped, next_drop}
+use Rattle.ts_search.specs.LineOf.{Search}
+use Rattle.ts_search.specs.Turns.{State, ListState}
+use Rattle.ts_search.specs.declared.found.FoundSeries.{FoundSeries}
+use Rattle.ts_search.specs.declared.listing.ListTree.{ListTree}
+use Rattle.ts_search.specs.declared.problem.Problem.{Problem}
+use Rattle.ts_search.specs.declared.tree.Tree.{Tree}
+
+abbrev pub find_of : Option FoundSeries → Option Find
+find_of None = None
+find_of (Some f) = Some (record { series = f.series.items; value = f.value })
+
+abbrev pub removal_of : Option GivenRemoval → Option Removal
+removal_of None = None
+removal_of (Some r) = Some (record { cell = r.cell; value = r.value; requirement = r.require })
+
+abbrev pub search_of : Problem → Search
+search_of q = record {
+  model = stated q.model.now;
+  spans = spans_in (stated q.model.now);
+  goal = q.goal;
+  warm = find_of q.warm;
+}
+
+abbrev pub state_of : Tree → State
+state_of t = record { lines = t.lines.items; pending = t.frontier.boxes; found = find_of t.found }
+
+abbrev pub list_state_of : ListTree → ListState
+list_state_of t = record {
+  lines = t.lines.items;
+  pending = t.frontier.boxes;
+  listed = map (λ x. x.items) t.listed.items;
+}
+
+-- after all drops none is possible; after some of them a requirement is refuted on the box
+abbrev pub SettledBy : Search → Box → Bool → Type 0
+SettledBy c b true = next_drop c.model c.spans b ≡ None
+SettledBy c b false = (j p : ℕ) × IsRefuted c.model.requirements c.spans j p b
+
+-- the second box is the first after some drops
+pub record IsSettled (c : Search) (before after : Box) (all : Bool) : Type 0 where
+  pub part : IsPart after c.model.cells
+  pub same : dropped c.model c.spans after ≡ dropped c.model c.spans before
+  pub settled : SettledBy c after all

@@ -1,0 +1,121 @@
+//! The search for the best series, and its certificate.
+
+ghost use Rattle.std.specs.Prelude.{◌≡◌, ◌++◌, IfOk, OnOk, map, replicate};
+ghost use Rattle.ts_certificate.specs.Certificate.{cert_seen};
+ghost use Rattle.ts_certificate.specs.declared.certificate.TreeLine.TheVariants.{Unsearched as OpenLine};
+ghost use Rattle.ts_compile.specs.Programs.{IsProgramOf};
+ghost use Rattle.ts_model.specs.declared.model.Need.TheVariants.{Best as NeedsBest};
+ghost use Rattle.ts_model.specs.Promise.{IsWhole, KeepsLimits};
+ghost use Rattle.ts_model.specs.Views.{stated};
+ghost use Rattle.ts_spans.specs.Machines.{spans_in};
+ghost use Rattle.ts_search.specs.Solved.{Solved};
+ghost use Rattle.ts_search.specs.Turns.{budget_claim, done_claim, series_of, solve_certificate};
+ghost use Rattle.ts_search.specs.Views.{find_of, search_of, state_of};
+
+use crate::dive::dive;
+use crate::found::FoundSeries;
+use crate::problem::Problem;
+use crate::tree::{Tree, grow};
+use std::alloc::Global;
+use ts_base::{Goal, Memory};
+use ts_certificate::{Aim, Certificate, Claim, TreeLine};
+use ts_compile::Program;
+use ts_model::Model;
+
+/// The certificate of the first best series of a model, or of that none meets. Where `budget` lines don't suffice it
+/// has just so many, and the best series that is known. `p` is the program of `m`, which has an objective and keeps
+/// the limits of its need.
+///
+/// It begins with a dive, whose series cuts what can't be as good, and then gives one box after the other its line. Its
+/// tree leaves no line to choose: two certificates of a model, a goal and a budget are one.
+pub fn solve(
+    alloc: Global,
+    m: &Model,
+    p: &Program,
+    goal: Goal,
+    budget: u64,
+) -> Result<Certificate, Memory>
+    requires program { IsProgramOf p.now m.now }
+    requires whole { IsWhole (stated m.now) }
+    requires limits { KeepsLimits NeedsBest (stated m.now) }
+    ensures { IfOk result
+        (λ c. Solved (stated m.now) (spans_in (stated m.now)) goal budget (cert_seen c)) }
+{
+    let mut problem = Problem {
+        model: m,
+        program: p,
+        goal,
+        warm: None,
+    };
+    problem.warm = dive(alloc, &problem)?;
+    let tree = grow(alloc, &problem, budget)?;
+    certificate(alloc, problem, tree)
+}
+
+/// The certificate of a tree, each box that still waits being `open`.
+fn certificate(alloc: Global, problem: Problem<'_>, tree: Tree) -> Result<Certificate, Memory>
+    ensures { IfOk result (λ c. cert_seen c ≡ solve_certificate (search_of problem.entry) (state_of tree)) }
+{
+    let aim = Aim::Best(problem.goal);
+    let waiting = tree.frontier.waiting();
+    let mut lines = tree.lines;
+    push_open(&mut lines, waiting)?;
+    if waiting == 0 {
+        let claim = done_claim(&tree.found);
+        return Ok(Certificate {
+            aim,
+            claim,
+            series: series_of(alloc, tree.found)?,
+            tree: lines,
+        });
+    }
+    let found = tree.found.or(problem.warm);
+    let claim = budget_claim(&found);
+    Ok(Certificate {
+        aim,
+        claim,
+        series: series_of(alloc, found)?,
+        tree: lines,
+    })
+}
+
+/// What is claimed where every box had its line.
+fn done_claim(found: &Option<FoundSeries>) -> Claim
+    ensures { result ≡ done_claim (find_of found.now) }
+{
+    match found {
+        Some(found) => Claim::Best(found.value),
+        None => Claim::Infeasible,
+    }
+}
+
+/// What is claimed where boxes still wait.
+fn budget_claim(found: &Option<FoundSeries>) -> Claim
+    ensures { result ≡ budget_claim (find_of found.now) }
+{
+    match found {
+        Some(found) => Claim::BudgetBest(found.value),
+        None => Claim::BudgetNone,
+    }
+}
+
+/// The found series as a list of one, or of none.
+fn series_of(alloc: Global, found: Option<FoundSeries>) -> Result<Vec<Vec<i64>>, Memory>
+    ensures { IfOk result (λ xs. map (λ x. x.items) xs.items ≡ series_of (find_of found)) }
+{
+    let mut series = Vec::new(alloc);
+    if let Some(found) = found {
+        series.push(found.series)?;
+    }
+    Ok(series)
+}
+
+/// Puts so many `open` lines behind `lines`.
+pub(crate) fn push_open(lines: &mut Vec<TreeLine>, waiting: u64) -> Result<(), Memory>
+    ensures { OnOk result (lines.new.items ≡ lines.old.items ++ replicate waiting OpenLine) }
+{
+    for _ in 0..waiting {
+        lines.push(TreeLine::Unsearched)?;
+    }
+    Ok(())
+}

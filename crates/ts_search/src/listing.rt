@@ -1,0 +1,173 @@
+//! The first series of a model in lexicographic order, and their certificate.
+
+ghost use Rattle.std.specs.Prelude.{◌≡◌, ◌<◌, ◌≤◌, IfOk, List, OnOk, length, map, nat_lt};
+ghost use Rattle.std.specs.List.{AllByRecursion};
+ghost use Rattle.ts_certificate.specs.Certificate.{cert_seen};
+ghost use Rattle.ts_certificate.specs.declared.certificate.TreeLine.TheVariants.{Yes as YesLine};
+ghost use Rattle.ts_compile.specs.Programs.{IsProgramOf};
+ghost use Rattle.ts_filter.specs.Boxes.{Box, IsPart};
+ghost use Rattle.ts_model.specs.declared.model.Need.TheVariants.{List as NeedsList};
+ghost use Rattle.ts_model.specs.Promise.{IsWhole, KeepsLimits};
+ghost use Rattle.ts_model.specs.Views.{stated};
+ghost use Rattle.ts_search.specs.Forms.{form};
+ghost use Rattle.ts_search.specs.Listed.{Listed};
+ghost use Rattle.ts_search.specs.Posed.{IsPosed};
+ghost use Rattle.ts_spans.specs.Machines.{spans_in};
+ghost use Rattle.ts_search.specs.Turns.{list_certificate, list_claim, list_start, list_turn, list_turns, listed_after};
+ghost use Rattle.ts_search.specs.Views.{list_state_of, search_of};
+
+use crate::best::push_open;
+use crate::line::listing_line;
+use crate::problem::Problem;
+use std::alloc::Global;
+use ts_base::{Goal, Memory};
+use ts_certificate::{Aim, Certificate, Claim, TreeLine};
+use ts_compile::Program;
+use ts_domain::Boxed;
+use ts_frontier::{Frontier, first_halving, follow, only_series};
+use ts_model::Model;
+
+/// The lines so far, the boxes that wait for theirs, and the series that were listed.
+#[derive(Drop)]
+pub(crate) struct ListTree {
+    pub(crate) lines: Vec<TreeLine>,
+    pub(crate) frontier: Frontier,
+    pub(crate) listed: Vec<Vec<i64>>,
+}
+
+/// The certificate of the first `count` series, in lexicographic order, that meet a model, or of all where there are
+/// fewer; where `budget` lines don't suffice it has just so many, and the first series that were listed. `p` is the
+/// program of `m`, which keeps the limits of its need.
+pub fn list(
+    alloc: Global,
+    m: &Model,
+    p: &Program,
+    count: u32,
+    budget: u64,
+) -> Result<Certificate, Memory>
+    requires program { IsProgramOf p.now m.now }
+    requires whole { IsWhole (stated m.now) }
+    requires limits { KeepsLimits NeedsList (stated m.now) }
+    ensures { IfOk result
+        (λ c. Listed (stated m.now) (spans_in (stated m.now)) count budget (cert_seen c)) }
+{
+    let problem = Problem {
+        model: m,
+        program: p,
+        goal: Goal::Maximise,
+        warm: None,
+    };
+    let tree = list_grow(alloc, &problem, count, budget)?;
+    certificate(count, tree)
+}
+
+/// The tree after at most `budget` lines, or when `count` series are listed or no box waits any more.
+fn list_grow(
+    alloc: Global,
+    problem: &Problem<'_>,
+    count: u32,
+    budget: u64,
+) -> Result<ListTree, Memory>
+    requires { IsPosed problem.now }
+    ensures few { IfOk result (λ t. length t.listed.items ≤ count) }
+    ensures turns { IfOk result (λ t. list_state_of t
+        ≡ list_turns (search_of problem.now) count budget (list_start (search_of problem.now))) }
+{
+    let root = Boxed::new(alloc, &problem.model.cells)?;
+    let mut tree = ListTree {
+        lines: Vec::new(alloc),
+        frontier: Frontier::new(alloc, root),
+        listed: Vec::new(alloc),
+    };
+    for _ in 0..budget {
+        if tree.listed.len() >= count as usize {
+            return Ok(tree);
+        }
+        if tree.frontier.is_empty() {
+            return Ok(tree);
+        }
+        list_treat(alloc, problem, count, &mut tree)?;
+    }
+    Ok(tree)
+}
+
+/// One turn: the next box gets its line.
+fn list_treat(
+    alloc: Global,
+    problem: &Problem<'_>,
+    count: u32,
+    tree: &mut ListTree,
+) -> Result<(), Memory>
+    requires posed { IsPosed problem.now }
+    requires parts { AllByRecursion (λ b. IsPart b (search_of problem.now).model.cells) tree.old.frontier.boxes }
+    requires room { length tree.old.listed.items < count }
+    ensures { OnOk result
+        (list_state_of tree.new ≡ list_turn (search_of problem.now) count (list_state_of tree.old)) }
+{
+    if !tree.frontier.advance()? {
+        return Ok(());
+    }
+    let line = listing_line(alloc, problem, tree.frontier.present(), count)?;
+    tree.lines.push(line)?;
+    listed_now(alloc, tree.frontier.present(), line, &mut tree.listed)?;
+    follow(&mut tree.frontier, &line)
+}
+
+/// The listed series after a line: the one series of a box is the next where the line is `yes`.
+fn listed_now(
+    alloc: Global,
+    cells: &Boxed,
+    line: TreeLine,
+    listed: &mut Vec<Vec<i64>>,
+) -> Result<(), Memory>
+    ensures { OnOk result (map (λ x. x.items) listed.new.items
+        ≡ listed_after (map (λ x. x.items) listed.old.items) (form cells.now.present) line) }
+{
+    match line {
+        TreeLine::Yes => list_only(alloc, cells, listed),
+        _ => Ok(()),
+    }
+}
+
+/// The same for a line `yes`.
+fn list_only(alloc: Global, cells: &Boxed, listed: &mut Vec<Vec<i64>>) -> Result<(), Memory>
+    ensures { OnOk result (map (λ x. x.items) listed.new.items
+        ≡ listed_after (map (λ x. x.items) listed.old.items) (form cells.now.present) YesLine) }
+{
+    if first_halving(cells).is_some() {
+        return Ok(());
+    }
+    let series = only_series(alloc, cells)?;
+    listed.push(series)?;
+    Ok(())
+}
+
+/// The certificate of a tree, each box that still waits being `open`.
+fn certificate(count: u32, tree: ListTree) -> Result<Certificate, Memory>
+    requires { length tree.listed.items ≤ count }
+    ensures { IfOk result (λ c. cert_seen c ≡ list_certificate count (list_state_of tree)) }
+{
+    let listed = tree.listed.len() as u32;
+    let waiting = tree.frontier.waiting();
+    let mut lines = tree.lines;
+    push_open(&mut lines, waiting)?;
+    Ok(Certificate {
+        aim: Aim::List(count),
+        claim: claim(count, listed, waiting),
+        series: tree.listed,
+        tree: lines,
+    })
+}
+
+/// What is claimed where so many series are listed and so many boxes wait.
+fn claim(count: u32, listed: u32, waiting: u64) -> Claim
+    ensures { (w : List Box) → length w ≡ waiting → result ≡ list_claim (nat_lt listed count) listed w }
+{
+    if listed >= count {
+        Claim::Full(listed)
+    } else if waiting == 0 {
+        Claim::All(listed)
+    } else {
+        Claim::BudgetList(listed)
+    }
+}

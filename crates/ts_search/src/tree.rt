@@ -1,0 +1,108 @@
+//! The tree of a search as it grows: one box after the other gets its line.
+
+ghost use Rattle.std.specs.Prelude.{◌≡◌, ℕ, IfOk, OnOk};
+ghost use Rattle.std.specs.List.{AllByRecursion};
+ghost use Rattle.ts_certificate.specs.declared.certificate.Aim.TheVariants.{Best as BestOf};
+ghost use Rattle.ts_certificate.specs.declared.certificate.TreeLine.TheVariants.{Worse as WorseLine};
+ghost use Rattle.ts_filter.specs.Boxes.{IsPart};
+ghost use Rattle.ts_search.specs.Forms.{form};
+ghost use Rattle.ts_search.specs.Posed.{IsPosed};
+ghost use Rattle.ts_search.specs.Turns.{found_after, start, turn, turns};
+ghost use Rattle.ts_search.specs.Views.{find_of, search_of, state_of};
+
+use crate::found::FoundSeries;
+use crate::line::solve_line;
+use crate::problem::Problem;
+use std::alloc::Global;
+use ts_base::Memory;
+use ts_certificate::TreeLine;
+use ts_domain::Boxed;
+use ts_frontier::{Frontier, first_halving, follow, only_series};
+
+/// The lines so far, the boxes that wait for theirs, and the best series that was found.
+#[derive(Drop)]
+pub(crate) struct Tree {
+    pub(crate) lines: Vec<TreeLine>,
+    pub(crate) frontier: Frontier,
+    pub(crate) found: Option<FoundSeries>,
+}
+
+/// The tree after at most `budget` lines, or when no box waits any more.
+pub(crate) fn grow(alloc: Global, problem: &Problem<'_>, budget: u64) -> Result<Tree, Memory>
+    requires { IsPosed problem.now }
+    ensures { IfOk result (λ t. state_of t
+        ≡ turns (search_of problem.now) (BestOf problem.now.goal) budget (start (search_of problem.now))) }
+{
+    let root = Boxed::new(alloc, &problem.model.cells)?;
+    let mut tree = Tree {
+        lines: Vec::new(alloc),
+        frontier: Frontier::new(alloc, root),
+        found: None,
+    };
+    for _ in 0..budget {
+        if tree.frontier.is_empty() {
+            return Ok(tree);
+        }
+        treat(alloc, problem, &mut tree)?;
+    }
+    Ok(tree)
+}
+
+/// One turn: the next box gets its line.
+fn treat(alloc: Global, problem: &Problem<'_>, tree: &mut Tree) -> Result<(), Memory>
+    requires posed { IsPosed problem.now }
+    requires parts { AllByRecursion (λ b. IsPart b (search_of problem.now).model.cells) tree.old.frontier.boxes }
+    ensures { OnOk result
+        (state_of tree.new ≡ turn (search_of problem.now) (BestOf problem.now.goal) (state_of tree.old)) }
+{
+    if !tree.frontier.advance()? {
+        return Ok(());
+    }
+    let line = solve_line(alloc, problem, tree.frontier.present(), &tree.found)?;
+    tree.lines.push(line)?;
+    let found = tree.found.take();
+    tree.found = found_now(alloc, problem, tree.frontier.present(), line, found)?;
+    follow(&mut tree.frontier, &line)
+}
+
+/// The found series after a line: the one series of a box that reaches more, where the line is `worse`.
+fn found_now(
+    alloc: Global,
+    problem: &Problem<'_>,
+    cells: &Boxed,
+    line: TreeLine,
+    found: Option<FoundSeries>,
+) -> Result<Option<FoundSeries>, Memory>
+    requires posed { IsPosed problem.now }
+    requires part { IsPart cells.now.present (search_of problem.now).model.cells }
+    ensures { IfOk result (λ f.
+        find_of f ≡ found_after (search_of problem.now) (find_of found) (form cells.now.present) line) }
+{
+    match line {
+        TreeLine::Worse { .. } => found_at(alloc, problem, cells, found),
+        _ => Ok(found),
+    }
+}
+
+/// The same for a line `worse`.
+fn found_at(
+    alloc: Global,
+    problem: &Problem<'_>,
+    cells: &Boxed,
+    found: Option<FoundSeries>,
+) -> Result<Option<FoundSeries>, Memory>
+    requires posed { IsPosed problem.now }
+    requires part { IsPart cells.now.present (search_of problem.now).model.cells }
+    ensures { IfOk result (λ f. (p : ℕ) →
+        find_of f ≡ found_after (search_of problem.now) (find_of found) (form cells.now.present) (WorseLine p)) }
+{
+    if first_halving(cells).is_some() {
+        return Ok(found);
+    }
+    let series = only_series(alloc, cells)?;
+    let value = problem.value(alloc, &series)?;
+    if problem.counts(&found, value) {
+        return Ok(Some(FoundSeries { series, value }));
+    }
+    Ok(found)
+}
