@@ -1,0 +1,9 @@
+mod Cells
+mod Fed
+pub mod Verdicts
+mod HeadLaws
+mod LineSteps
+mod RuleLaws
+mod Waits
+mod OfProgram
+pub mod Truth

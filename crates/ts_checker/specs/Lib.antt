@@ -1,0 +1,5 @@
+pub mod Checking
+pub mod Laws
+pub mod Standings
+pub mod Subjects
+pub mod Verdicts

@@ -1,0 +1,198 @@
+//! A certificate checked line by line.
+
+ghost use Rattle.std.specs.Prelude.{ℕ, ◌≡◌, ◌≤◌, ◌+◌, List, [], IfOk, IsTrue, OnErr, OnOk, false, length};
+ghost use Rattle.ts_certificate.specs.Reading.{end_stop, reading_with};
+ghost use Rattle.ts_certificate.specs.Seen.{line_seen};
+ghost use Rattle.ts_compile.specs.Programs.{IsProgramOf};
+ghost use Rattle.ts_model.specs.Promise.{IsWhole, KeepsLimits};
+ghost use Rattle.ts_model.specs.Views.{stated};
+ghost use Rattle.ts_model.specs.declared.model.Need.TheVariants.{List as Listed};
+ghost use Rattle.ts_checker.specs.Checking.{Checks, HasChecked, Takes, TakesOn, unfed};
+ghost use Rattle.ts_checker.specs.Laws.{WaitsByLines};
+ghost use Rattle.ts_spans.specs.Machines.{spans_in};
+ghost use Rattle.ts_checker.specs.Standings.{AreValues};
+ghost use Rattle.ts_checker.specs.Verdicts.{IsTrueOf, IsVerdict, stop_line, verdict_by};
+
+use crate::lines::keeps_line;
+use crate::standing::Standing;
+use crate::subject::Subject;
+use crate::verdict::Verdict;
+use std::alloc::Global;
+use ts_base::Memory;
+use ts_certificate::{CertStop, LineReader, Parsed};
+use ts_compile::Program;
+use ts_domain::Boxed;
+use ts_model::Model;
+
+/// Checks a certificate against a model, line by line, and keeps no line. Contracts see the model, where the reader
+/// stands, what the lines so far say and leave, and the first of them that breaks its rule.
+#[derive(Drop)]
+pub struct Checker {
+    alloc: Global,
+    model: Model,
+    program: Program,
+    reader: LineReader,
+    standing: Standing,
+    failed: Option<u32>,
+    wanting: bool,
+}
+
+impl std::marker::Model for Checker {
+    ghost use Rattle.ts_compile.specs.Programs.{IsProgramOf};
+    ghost use Rattle.ts_domain.specs.BoxSeries.{IsBox};
+    ghost use Rattle.ts_model.specs.Promise.{IsWhole};
+    ghost use Rattle.ts_model.specs.Views.{stated};
+    ghost use Rattle.ts_checker.specs.Checking.{Checking};
+    ghost use Rattle.ts_checker.specs.Standings.{stand_of};
+
+    ghost Value = { Checking };
+
+    ghost view = { λ c. record {
+      model = stated c.model;
+      reading = c.reader;
+      stand = stand_of c.standing;
+      failed = c.failed;
+      wanting = c.wanting;
+    } };
+
+    ghost invariant = { λ c.
+        IsProgramOf c.program c.model × IsWhole (stated c.model) × IsBox (stated c.model).cells };
+}
+
+impl Checker {
+    /// The checker of certificates for a model, which has been fed no line. `p` is the program of `m`, and all domains
+    /// of `m` together have at most 65,536 values.
+    pub fn new(alloc: Global, m: Model, p: Program) -> Result<Checker, Memory>
+        requires program { IsProgramOf p m }
+        requires whole { IsWhole (stated m) }
+        requires limits { KeepsLimits Listed (stated m) }
+        ensures unfed { IfOk result (λ c. c ≡ unfed (stated m)) }
+        ensures checked { IfOk result (λ c. HasChecked [] c) }
+    {
+        let root = Boxed::new(alloc, &m.cells)?;
+        Ok(Checker {
+            alloc,
+            model: m,
+            program: p,
+            reader: LineReader::new(),
+            standing: Standing::new(alloc, root),
+            failed: None,
+            wanting: false,
+        })
+    }
+
+    /// The number of the next line, counted from 1; after a refusal, that of the line that was refused.
+    pub fn next_line(&self) -> u32
+        ensures { result ≡ self.now.reading.next }
+    {
+        self.reader.next_line()
+    }
+
+    /// Takes the next line, given with its LF, where fewer than 4,000,000,000 were fed so far. After `Memory` each
+    /// further line is answered `Memory`.
+    pub fn feed_line(&mut self, line: &[u8]) -> Result<(), Memory>
+        requires { self.old.reading.next ≤ 4000000000 }
+        ensures checked { OnOk result (Checks self.old line.now self.new) }
+        ensures reading { OnOk result (self.new.reading ≡ reading_with self.old.reading line.now) }
+        ensures next { OnOk result (self.new.reading.next ≤ self.old.reading.next + 1) }
+        ensures model { self.new.model ≡ self.old.model }
+        ensures wanted { OnErr result (IsTrue self.new.wanting) }
+        ensures calm { OnOk result ((self.old.wanting ≡ false) × (self.new.wanting ≡ false)) }
+    {
+        if self.wanting {
+            return Err(Memory);
+        }
+        match self.step(line) {
+            Ok(()) => Ok(()),
+            Err(Memory) => {
+                self.wanting = true;
+                Err(Memory)
+            }
+        }
+    }
+
+    /// How many boxes still wait for their line: 1 and one for each `split`, less one for each `no`, `worse`, `yes` and
+    /// `open`; from the first line on that is refused or breaks its rule, none. There are never more than the values of
+    /// the model's domains together, less its cells, plus 1.
+    pub fn waiting(&self) -> u64
+        requires { self.now.wanting ≡ false }
+        ensures waiting { result ≡ length self.now.stand.waiting }
+        ensures by_lines { (texts : List (List ℕ)) → HasChecked texts self.now → WaitsByLines texts self.now result }
+    {
+        self.standing.frontier.waiting()
+    }
+
+    /// The verdict on the lines that were fed; no line was answered `Memory`. What is accepted is true of the model.
+    pub fn finish(self) -> Verdict
+        requires { self.wanting ≡ false }
+        ensures verdict { (texts : List (List ℕ)) → HasChecked texts self → IsVerdict self.model texts result }
+        ensures holds { (texts : List (List ℕ)) → HasChecked texts self → result ≡ Verdict.Accepted →
+            IsTrueOf self.model texts }
+    {
+        self.verdict()
+    }
+}
+
+impl Checker {
+    // The verdict, by where the reading stops and by the first line that breaks its rule.
+    fn verdict(&self) -> Verdict
+        ensures { result ≡ verdict_by (end_stop self.now.reading) self.now.failed }
+    {
+        match (self.reader.finish(), self.failed) {
+            (Err(stop), _) => Verdict::Refused(line_of(stop)),
+            (Ok(()), Some(line)) => Verdict::Rejected(line),
+            (Ok(()), None) => Verdict::Accepted,
+        }
+    }
+
+    // The next line: what the reader makes of it is judged, and nothing waits once the reader stops.
+    fn step(&mut self, line: &[u8]) -> Result<(), Memory>
+        requires { self.old.reading.next ≤ 4000000000 }
+        ensures takes { OnOk result (Takes self.old line.now self.new) }
+        ensures model { self.new.model ≡ self.old.model }
+    {
+        let number = self.reader.next_line();
+        match self.reader.line(self.alloc, line) {
+            Ok(parsed) => self.judge(number, parsed),
+            Err(CertStop::Memory) => Err(Memory),
+            Err(CertStop::Text { .. } | CertStop::CountDiffers { .. }) => {
+                self.standing.clear();
+                Ok(())
+            }
+        }
+    }
+
+    // Line `number` by its rule: it leads on, or it is the first that breaks its rule.
+    fn judge(&mut self, number: u32, line: Parsed) -> Result<(), Memory>
+        requires { AreValues line }
+        ensures takes { OnOk result (TakesOn self.old.model (spans_in self.old.model) self.old.stand self.old.failed
+            number (line_seen line) self.new.stand self.new.failed) }
+        ensures model { self.new.model ≡ self.old.model }
+        ensures reading { self.new.reading ≡ self.old.reading }
+        ensures calm { self.new.wanting ≡ self.old.wanting }
+    {
+        if self.failed.is_some() {
+            return Ok(());
+        }
+        let subject = Subject {
+            model: &self.model,
+            machines: self.program.machines(),
+        };
+        if keeps_line(self.alloc, &subject, &mut self.standing, &line)? {
+            return self.standing.take(line);
+        }
+        self.standing.clear();
+        self.failed = Some(number);
+        Ok(())
+    }
+}
+
+// The line at which a reading stops; none stops for want of memory.
+fn line_of(stop: CertStop) -> u32
+    ensures { result ≡ stop_line stop }
+{
+    match stop {
+        CertStop::Text { line } | CertStop::CountDiffers { line, .. } => line,
+        CertStop::Memory => 0,
+    }
+}

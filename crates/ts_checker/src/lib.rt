@@ -1,0 +1,35 @@
+//! The checker of certificates: is what a certificate claims shown by its lines?
+//!
+//! A [`Checker`] is fed the lines of a certificate one by one and keeps none of them. It keeps the boxes that wait for
+//! their line, on one trail, so that a box costs what differs from the one before and never a copy of all domains; a
+//! line costs what its rule costs.
+//!
+//! The layer above may rely on this. The verdict is exactly that of the definitions: refused at the first line against
+//! the grammar or the counts, whatever the lines are worth; else accepted exactly where every line keeps its rule, or
+//! rejected at the first line that breaks it. And what is accepted is true of the model, whoever wrote the certificate:
+//! the claim is said of series, values of terms and the boxes of the `open` lines alone.
+//!
+//! ```text
+//! let mut checker = Checker::new(alloc, model, program)?;
+//! checker.feed_line(b"generate 1\n")?;
+//! checker.feed_line(b"all 0\n")?;
+//! checker.feed_line(b"no 1 3\n")?;
+//! checker.feed_line(b"end 1 0\n")?;
+//! checker.finish()   // Accepted, where requirement 1 is refuted at cell 3 on the model's box
+//! ```
+#![tactic(auto)]
+
+mod checker;
+mod head;
+pub mod laws;
+mod lines;
+mod rules;
+mod standing;
+mod subject;
+mod verdict;
+
+pub use checker::Checker;
+pub use verdict::Verdict;
+
+#[cfg(test)]
+mod tests;

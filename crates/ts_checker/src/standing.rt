@@ -1,0 +1,75 @@
+//! Where the lines of a certificate have led.
+
+ghost use Rattle.std.specs.Prelude.{◌≡◌, ◌∷◌, [], None, OnOk};
+ghost use Rattle.ts_certificate.specs.Grammar.{SaysTree};
+ghost use Rattle.ts_certificate.specs.Seen.{line_seen};
+ghost use Rattle.ts_filter.specs.Lines.{stand_after};
+ghost use Rattle.ts_checker.specs.Standings.{MayStep, MayTake, emptied, stand_of};
+
+use std::alloc::Global;
+use ts_base::Memory;
+use ts_certificate::{Aim, Claim, Parsed, TreeLine};
+use ts_domain::Boxed;
+use ts_frontier::{Frontier, follow};
+
+/// What the lines so far say, the boxes that wait for theirs, and how many `yes` lines there were.
+#[derive(Drop)]
+pub(crate) struct Standing {
+    pub aim: Option<Aim>,
+    pub claim: Option<Claim>,
+    pub series: Vec<Vec<i64>>,
+    pub frontier: Frontier,
+    pub told: usize,
+}
+
+impl Standing {
+    /// Before the first line the model's box waits.
+    pub(crate) fn new(alloc: Global, root: Boxed) -> Standing
+        ensures { stand_of result
+            ≡ record { aim = None; claim = None; series = []; waiting = root.present ∷ []; told = 0 } }
+    {
+        Standing {
+            aim: None,
+            claim: None,
+            series: Vec::new(alloc),
+            frontier: Frontier::new(alloc, root),
+            told: 0,
+        }
+    }
+
+    /// Where a line that keeps its rule leads.
+    pub(crate) fn take(&mut self, line: Parsed) -> Result<(), Memory>
+        requires { MayTake self.old line }
+        ensures { OnOk result (stand_of self.new ≡ stand_after (stand_of self.old) (line_seen line)) }
+    {
+        match line {
+            Parsed::Aim(aim) => self.aim = Some(aim),
+            Parsed::Claim(claim) => self.claim = Some(claim),
+            Parsed::Series(series) => self.series.push(series)?,
+            Parsed::Tree(line) => self.step(line)?,
+            Parsed::End { .. } => {}
+        }
+        Ok(())
+    }
+
+    /// Nothing waits any more.
+    pub(crate) fn clear(&mut self)
+        ensures { stand_of self.new ≡ emptied (stand_of self.old) }
+    {
+        self.frontier.clear();
+    }
+}
+
+impl Standing {
+    // The present box gives way to the boxes that the line makes.
+    fn step(&mut self, line: TreeLine) -> Result<(), Memory>
+        requires { MayStep self.old line }
+        ensures { OnOk result (stand_of self.new ≡ stand_after (stand_of self.old) (SaysTree line)) }
+    {
+        follow(&mut self.frontier, &line)?;
+        if line == TreeLine::Yes {
+            self.told += 1;
+        }
+        Ok(())
+    }
+}
