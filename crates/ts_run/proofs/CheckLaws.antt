@@ -1,5 +1,5 @@
 -- The reply of `check`: there is one, and it is `meets` exactly where the series meets the model.
-use Rattle.std.proofs.Common.{◌≡◌, ℕ, ℤ, Bool, true, false, cond, refl, Option, Ok, Err, List, length, sym, ◌∙◌, ap, subst}
+use Rattle.std.proofs.Common.{◌≡◌, ◌≤◌, ℕ, ℤ, Bool, true, false, cond, refl, Option, Ok, Err, List, length, sym, ◌∙◌, ap, subst}
 use Rattle.std.specs.Prelude.{Result}
 use Rattle.ts_model.specs.declared.error.ModelKind.{ModelKind}
 use Rattle.ts_model.specs.declared.error.SeriesStop.{SeriesStop}
@@ -11,17 +11,19 @@ use Rattle.ts_model.specs.Stated.{Stated}
 use Rattle.ts_model.proofs.MeetsLaw.{judged_is_met}
 use Rattle.ts_run.specs.AnswerTexts.{CheckReply, DoneIsMeets, IsAsked, OneCheckReply, OnReading, OnSeries, SeriesReply, rest_part, series_in}
 use Rattle.ts_run.specs.Endings.{RepliesWithin, Responds, TellsMeets}
-use Rattle.ts_run.specs.Reply.{Reply}
+use Rattle.ts_run.specs.Reply.{EndsWritten, Reply}
 use Rattle.ts_run.specs.Verdict.{verdict}
 use Rattle.ts_run.specs.declared.command.Command.TheVariants.{Check}
 use Rattle.ts_run.specs.declared.status.Status.{Status}
-use Rattle.ts_run.specs.declared.status.Status.TheVariants.{Done, No}
+use Rattle.ts_run.specs.declared.status.Status.TheVariants.{Done, No, ReadFault}
 use Rattle.ts_run.proofs.Inputs.{series_count}
 use Rattle.ts_run.proofs.Replied.{replied}
+use Rattle.ts_run.proofs.TakenReply.{taken_reply}
 
 -- there is one reply
 
-one_reading_reply : (reading : Result Stated (ℕ × ModelKind)) (next : Stated → Reply → Type 0) → ((m : Stated) (r s : Reply) → next m r → next m s → r ≡ s) →
+pub one_reading_reply : (reading : Result Stated (ℕ × ModelKind)) (next : Stated → Reply → Type 0) →
+    ((m : Stated) (r s : Reply) → next m r → next m s → r ≡ s) →
     (r s : Reply) → OnReading reading next r → OnReading reading next s → r ≡ s
 one_reading_reply (Ok m) next only r s h k = only m r s h k
 one_reading_reply (Err bad) next only r s h k = h ∙ sym k
@@ -59,16 +61,22 @@ done_is_meets bytes m xs r asked h =
     (λ e. law.0 (done_true (is_met m xs) (sym same ∙ e)), λ w. same ∙ true_done (is_met m xs) (law.1 w))
 
 -- what a call tells of the series
-pub check_tells : (bytes : List ℕ) (limit faults faults_now : ℕ) (before after : Option (List ℕ)) (status : Status) →
-    Responds (RepliesWithin limit Check bytes) faults faults_now before after status → TellsMeets bytes status
-check_tells bytes limit faults faults_now before after status h = λ m xs asked. (done m xs asked, no m xs asked)
+pub check_tells : (bytes : List ℕ) (faults faults_now : ℕ) (before after : Option (List ℕ)) (status : Status) →
+    Responds (RepliesWithin 2097152 Check bytes) faults faults_now before after status → TellsMeets bytes status
+check_tells bytes faults faults_now before after status h = λ m xs asked. (done m xs asked, no m xs asked, meets m xs asked)
   where
     done : (m : Stated) (xs : List ℤ) → IsAsked bytes m xs → status ≡ Done → Meets m xs
     done m xs asked e =
-        let p = replied Check bytes limit faults faults_now before after status Done (λ x. cc) (λ x. cc) (λ x. cc) (λ r x. x.1) h e in
+        let p = replied Check bytes 2097152 faults faults_now before after status Done (λ x. cc) (λ x. cc) (λ x. cc) (λ r x. x.1) h e in
         (done_is_meets bytes m xs p.0 asked p.1).0 p.2.1
 
     no : (m : Stated) (xs : List ℤ) → IsAsked bytes m xs → status ≡ No → Meets m xs → ⊥
     no m xs asked e w =
-        let p = replied Check bytes limit faults faults_now before after status No (λ x. cc) (λ x. cc) (λ x. cc) (λ r x. x.1) h e in
+        let p = replied Check bytes 2097152 faults faults_now before after status No (λ x. cc) (λ x. cc) (λ x. cc) (λ r x. x.1) h e in
         let both = sym p.2.1 ∙ (done_is_meets bytes m xs p.0 asked p.1).1 w in cc
+
+    meets : (m : Stated) (xs : List ℤ) → IsAsked bytes m xs → length bytes ≤ 2097152 → EndsWritten status → (status ≡ ReadFault → ⊥) → Meets m xs →
+        status ≡ Done
+    meets m xs asked small written calm w =
+        let t = taken_reply Check 2097152 bytes faults faults_now before after status written calm small h in
+        sym t.status_is ∙ (done_is_meets bytes m xs t.reply asked t.is).1 w

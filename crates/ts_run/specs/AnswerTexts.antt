@@ -1,6 +1,8 @@
 -- What each command replies to the bytes of its input.
-use Rattle.std.specs.Prelude.{ℕ, ◌≡◌, ◌↔◌, ℤ, List, [], ◌++◌, length, codes, unwrap_or, Result, Ok, Err}
+use Rattle.std.specs.Prelude.{ℕ, ◌≡◌, ◌<◌, ◌^◌, ◌↔◌, ℤ, List, [], ◌++◌, length, codes, unwrap_or, Result, Ok, Err}
 use Rattle.std.specs.Fmt.{decimal}
+use Rattle.ts_base.specs.Words.{strict_lines}
+use Rattle.ts_certificate.specs.Certificate.{Cert}
 use Rattle.ts_token.specs.Text.{cut_of}
 use Rattle.ts_token.specs.Halves.{halves_of}
 use Rattle.ts_model.specs.declared.error.ModelKind.{ModelKind}
@@ -8,16 +10,23 @@ use Rattle.ts_model.specs.declared.error.ModelKind.TheVariants.{NotText, Unknown
 use Rattle.ts_model.specs.declared.error.SeriesStop.{SeriesStop}
 use Rattle.ts_model.specs.declared.error.SeriesStop.TheVariants.{Shape as NoSeries, Number as NoNumber, Length, Memory as NoMemory}
 use Rattle.ts_model.specs.declared.model.Need.{Need}
-use Rattle.ts_model.specs.declared.model.Need.TheVariants.{Values}
+use Rattle.ts_model.specs.declared.model.Need.TheVariants.{Values, List as NeedsList, Best as NeedsBest}
+use Rattle.ts_base.specs.declared.goal.Goal.{Goal}
 use Rattle.ts_model.specs.Meets.{Meets}
 use Rattle.ts_model.specs.ModelReading.{model_reading}
 use Rattle.ts_model.specs.Series.{series_reading}
 use Rattle.ts_model.specs.Stated.{Stated}
+use Rattle.ts_filter.specs.Accepts.{Accepts}
+use Rattle.ts_spans.specs.Machines.{spans_in}
+use Rattle.ts_checker.specs.Verdicts.{AreOf}
+use Rattle.ts_run.specs.Certified.{IsBest, IsListing}
 use Rattle.ts_run.specs.CompiledValue.{IsProgramText}
 use Rattle.ts_run.specs.Reply.{Reply}
+use Rattle.ts_run.specs.Sample.{SampleReply}
 use Rattle.ts_run.specs.Verdict.{line, verdict}
+use Rattle.ts_run.specs.Verified.{IsVerified}
 use Rattle.ts_run.specs.declared.command.Command.{Command}
-use Rattle.ts_run.specs.declared.command.Command.TheVariants.{Check, Compile}
+use Rattle.ts_run.specs.declared.command.Command.TheVariants.{Check, Compile, Verify, Best, Generate, Sample}
 use Rattle.ts_run.specs.declared.status.Status.TheVariants.{Done, Refused, ReadFault}
 
 abbrev pub refused_words : Reply
@@ -101,10 +110,30 @@ ProgramReply m r = IsProgramText m r.text × (r.status ≡ Done)
 abbrev pub CompileReply : List ℕ → Reply → Type 0
 CompileReply bytes r = OnModel Values bytes ProgramReply r
 
+-- the lines of a certificate behind a model
+abbrev pub certificate_lines : List ℕ → List (List ℕ)
+certificate_lines bytes = strict_lines (rest_part bytes)
+
+-- what `verify` replies: the refusal of the model, or the verdict on the certificate
+abbrev pub VerifyReply : List ℕ → Reply → Type 0
+VerifyReply bytes r = OnModel NeedsList (model_part bytes) (IsVerified (certificate_lines bytes)) r
+
+-- what `maximise` and `minimise` reply: the refusal of the model, or a certificate that is solved
+abbrev pub BestReply : Goal → ℕ → List ℕ → Reply → Type 0
+BestReply goal lines bytes r = OnModel NeedsBest bytes (IsBest goal lines) r
+
+-- what `generate` replies: the refusal of the model, or a certificate that is listed
+abbrev pub ListReply : ℕ → ℕ → List ℕ → Reply → Type 0
+ListReply count lines bytes r = OnModel NeedsList bytes (IsListing count lines) r
+
 -- what a command replies to its input
 abbrev pub IsReply : Command → List ℕ → Reply → Type 0
 IsReply Check bytes r = CheckReply bytes r
 IsReply Compile bytes r = CompileReply bytes r
+IsReply Verify bytes r = VerifyReply bytes r
+IsReply (Best goal lines) bytes r = BestReply goal lines bytes r
+IsReply (Generate count lines) bytes r = ListReply count lines bytes r
+IsReply (Sample cells) bytes r = SampleReply cells r
 
 -- an input of `check` states this model and this series
 pub record IsAsked (bytes : List ℕ) (m : Stated) (xs : List ℤ) : Type 0 where
@@ -124,3 +153,30 @@ abbrev pub DoneIsMeets : Type 0
 DoneIsMeets =
     (bytes : List ℕ) (m : Stated) (xs : List ℤ) (r : Reply) → IsAsked bytes m xs → CheckReply bytes r →
     (r.status ≡ Done) ↔ Meets m xs
+
+-- an input of `verify` states this model and has this certificate
+pub record IsOffered (bytes : List ℕ) (m : Stated) (c : Cert) : Type 0 where
+  pub model : model_reading NeedsList (model_part bytes) ≡ Ok m
+  pub certificate : AreOf (certificate_lines bytes) c
+
+-- `verify` has one reply to an input
+abbrev pub OneVerifyReply : Type 0
+OneVerifyReply =
+    (bytes : List ℕ) (r s : Reply) → length bytes < 2 ^ 62 → VerifyReply bytes r → VerifyReply bytes s → r ≡ s
+
+-- the status of `verify` is `Done` exactly where the certificate is accepted
+abbrev pub DoneIsAccepted : Type 0
+DoneIsAccepted =
+    (bytes : List ℕ) (m : Stated) (c : Cert) (r : Reply) → length bytes < 2 ^ 62 → IsOffered bytes m c →
+    VerifyReply bytes r → (r.status ≡ Done) ↔ Accepts m (spans_in m) c
+
+-- `maximise` and `minimise` have one reply to an input, and so has `generate`
+abbrev pub OneBestReply : Type 0
+OneBestReply =
+    (goal : Goal) (lines : ℕ) (bytes : List ℕ) (r s : Reply) → BestReply goal lines bytes r →
+    BestReply goal lines bytes s → r ≡ s
+
+abbrev pub OneListReply : Type 0
+OneListReply =
+    (count lines : ℕ) (bytes : List ℕ) (r s : Reply) → ListReply count lines bytes r →
+    ListReply count lines bytes s → r ≡ s

@@ -1,30 +1,69 @@
 -- The commands by their words, and how each takes its input.
-use Rattle.std.specs.Prelude.{ℕ, ◌<◌, List, [], ◌∷◌, codes, map, Option, Some, None, if◌then◌else◌, string_bytes, String}
+use Rattle.std.specs.Prelude.{ℕ, ◌<◌, List, [], ◌∷◌, codes, map, Option, Some, None, option_map, if◌then◌else◌, string_bytes, String}
 use Rattle.std.specs.Global.{Global}
 use Rattle.std.specs.Str.{bytes_eq}
+use Rattle.ts_base.specs.declared.goal.Goal.TheVariants.{Maximise, Minimise}
+use Rattle.ts_base.specs.Limits.{most_cells}
+use Rattle.ts_run.specs.Quantities.{most_lines, most_series, number_within, usual_lines}
 use Rattle.ts_run.specs.declared.command.Command.{Command}
-use Rattle.ts_run.specs.declared.command.Command.TheVariants.{Check, Compile}
+use Rattle.ts_run.specs.declared.command.Command.TheVariants.{Check, Compile, Verify, Best, Generate, Sample}
 use Rattle.ts_run.specs.declared.command.Input.{Input}
-use Rattle.ts_run.specs.declared.command.Input.TheVariants.{Whole}
+use Rattle.ts_run.specs.declared.command.Input.TheVariants.{Whole, Nothing}
 
 -- the words as bytes
 abbrev pub words_in : List (String Global) → List (List ℕ)
 words_in words = map string_bytes words
 
+-- a command without further words
+abbrev pub alone : Command → List (List ℕ) → Option Command
+alone command [] = Some command
+alone command (word ∷ words) = None
+
+-- the budget that these words give: `--budget` and a number, or nothing
+abbrev pub budget_of : List (List ℕ) → Option ℕ
+budget_of [] = Some usual_lines
+budget_of (word ∷ []) = None
+budget_of (word ∷ number ∷ []) = if bytes_eq word (codes "--budget") then number_within 1 most_lines number else None
+budget_of (word ∷ number ∷ other ∷ words) = None
+
+-- a number of series, and the budget
+abbrev pub generate_by : Option ℕ → Option ℕ → Option Command
+generate_by None budget = None
+generate_by (Some count) budget = option_map (λ lines. Generate count lines) budget
+
+abbrev pub generate_of : List (List ℕ) → Option Command
+generate_of [] = None
+generate_of (number ∷ words) = generate_by (number_within 1 most_series number) (budget_of words)
+
+-- a number of cells
+abbrev pub sample_of : List (List ℕ) → Option Command
+sample_of [] = None
+sample_of (number ∷ []) = option_map (λ n. Sample n) (number_within 1 most_cells number)
+sample_of (number ∷ other ∷ words) = None
+
 -- the command that these words are
 abbrev pub command_of : List (List ℕ) → Option Command
 command_of [] = None
-command_of (word ∷ []) =
-    if bytes_eq word (codes "check") then Some Check
-    else (if bytes_eq word (codes "compile") then Some Compile
-    else None)
-command_of (word ∷ other ∷ words) = None
+command_of (word ∷ words) =
+    if bytes_eq word (codes "check") then alone Check words
+    else (if bytes_eq word (codes "compile") then alone Compile words
+    else (if bytes_eq word (codes "maximise") then option_map (λ lines. Best Maximise lines) (budget_of words)
+    else (if bytes_eq word (codes "minimise") then option_map (λ lines. Best Minimise lines) (budget_of words)
+    else (if bytes_eq word (codes "generate") then generate_of words
+    else (if bytes_eq word (codes "verify") then alone Verify words
+    else (if bytes_eq word (codes "sample") then sample_of words
+    else None))))))
 
--- how a command takes its input: each takes the whole, so many bytes at most
+-- how a command takes its input: the whole, so many bytes at most, or nothing of it
 abbrev pub input_of : Command → Input
 input_of Check = Whole 2097152
 input_of Compile = Whole 1048576
+input_of Verify = Whole 135266304
+input_of (Best goal lines) = Whole 1048576
+input_of (Generate count lines) = Whole 1048576
+input_of (Sample cells) = Nothing
 
 -- no input is longer than what memory is counted in
 abbrev pub IsShort : Input → Type 0
 IsShort (Whole limit) = limit < 4000000000
+IsShort Nothing = Unit {0}

@@ -1,8 +1,13 @@
 pub mod AnswerTexts
+pub mod Certified
 pub mod Commands
 pub mod CompiledValue
 pub mod Endings
+pub mod Joined
 pub mod Quantities
 pub mod Replies
 pub mod Reply
+pub mod Sample
+pub mod SampleModel
 pub mod Verdict
+pub mod Verified

@@ -1,11 +1,11 @@
 //! The top call.
 
-ghost use Rattle.std.specs.Prelude.{ℕ, ◌≡◌, ◌≢◌, ◌<◌, ◌≤◌, ◌⊎◌, IsTrue, IfSome};
+ghost use Rattle.std.specs.Prelude.{ℕ, ◌≡◌, ◌≢◌, ◌<◌, ◌≤◌, ◌⊎◌, IsTrue, IfSome, []};
 ghost use Rattle.ts_base.specs.Outside.{Rose, one_more};
-ghost use Rattle.ts_run.specs.AnswerTexts.{fault_read};
+ghost use Rattle.ts_run.specs.AnswerTexts.{IsReply, fault_read};
 ghost use Rattle.ts_run.specs.Commands.{command_of, words_in};
-ghost use Rattle.ts_run.specs.Endings.{CallEnds, CallSpares, CallTakes, Tells, WholeEnds, WholeTakes};
-ghost use Rattle.ts_run.specs.Reply.{EndsWritten, TellsNoFault};
+ghost use Rattle.ts_run.specs.Endings.{CallEnds, CallSpares, CallTakes, Tells, TellsUnread, WholeEnds, WholeTakes};
+ghost use Rattle.ts_run.specs.Reply.{EndsWith, EndsWritten, TellsNoFault};
 
 use crate::command::{Command, Input};
 use crate::reply_to::reply_to;
@@ -16,11 +16,11 @@ use ts_base::{Memory, ReadStop, Sink, Source, read_all};
 
 /// Does what the words ask for: reads the source, writes the reply to the sink, and says how it ended.
 ///
-/// Words that aren't a command are refused and the source stays unread. If a read failed, which shows in the count of
-/// faults, the reply is `fault read`; else it is what the command replies to the bytes that the source had left. After
-/// `Memory` the sink is as it was and no read failed; after `WriteFault`, which comes only where a count tells it, it
-/// has taken a front of the reply. After every other status the reply was taken whole, the sink was finished once, and
-/// no fault of its own was counted.
+/// Words that aren't a command are refused and the source stays unread, as it does on `sample`. If a read failed, which
+/// shows in the count of faults, the reply is `fault read`; else it is what the command replies to the bytes that the
+/// source had left. After `Memory` the sink is as it was and no read failed; after `WriteFault`, which comes only where
+/// a count tells it, it has taken a front of the reply. After every other status the reply was taken whole, the sink
+/// was finished once, and no fault of its own was counted.
 pub fn run<S: Source, K: Sink>(
     alloc: Global,
     words: &Vec<String>,
@@ -33,6 +33,7 @@ pub fn run<S: Source, K: Sink>(
     ensures takes { CallTakes (command_of (words_in words.now.items)) S.left source.old source.new result }
     ensures tells { IfSome (S.left source.old) (λ bytes.
         Tells (command_of (words_in words.now.items)) bytes (K.taken sink.old) (K.taken sink.new) result) }
+    ensures tells_unread { TellsUnread (command_of (words_in words.now.items)) (K.taken sink.old) (K.taken sink.new) result }
 
     // A fault is told only where one was counted, and none is passed over.
     ensures read_fault { result ≡ Status.ReadFault → Rose (S.source_faults source.old) (S.source_faults source.new) }
@@ -54,20 +55,42 @@ pub fn run<S: Source, K: Sink>(
         return write_reply(sink, b"refused words\n", Status::Refused);
     };
     match command.input() {
-        Input::Whole { limit } => run_whole(alloc, command, limit, source, sink),
+        Input::Whole { limit } => run_whole(alloc, &command, limit, source, sink),
+        Input::Nothing => run_unread(alloc, &command, sink),
+    }
+}
+
+/// The call of a command that reads nothing: its reply is that to an empty input.
+fn run_unread<K: Sink>(alloc: Global, command: &Command, sink: &mut K) -> Status
+    ensures ends { EndsWith (IsReply command.now []) (K.taken sink.old) (K.taken sink.new) result }
+    ensures reads { result ≢ Status.ReadFault }
+
+    ensures write_fault { result ≡ Status.WriteFault → Rose (K.sink_faults sink.old) (K.sink_faults sink.new) }
+    ensures write_broken { result ≡ Status.WriteFault → IsTrue (K.sink_broken sink.new) }
+    ensures calm_write { EndsWritten result → K.sink_faults sink.new ≡ K.sink_faults sink.old }
+
+    ensures done { EndsWritten result → IsTrue (K.finished sink.new) }
+    ensures once { EndsWritten result → K.finishes sink.new ≡ one_more (K.finishes sink.old) }
+
+    ensures memory { result ≡ Status.Memory → sink.new ≡ sink.old }
+    ensures writes_later { K.sink_faults sink.old ≤ K.sink_faults sink.new }
+{
+    match reply_to(alloc, command, b"") {
+        Ok(reply) => write_reply(sink, &reply.text, reply.status),
+        Err(Memory) => Status::Memory,
     }
 }
 
 /// The call of a command that takes its whole input, of at most `limit` bytes, before it writes.
 fn run_whole<S: Source, K: Sink>(
     alloc: Global,
-    command: Command,
+    command: &Command,
     limit: usize,
     source: &mut S,
     sink: &mut K,
 ) -> Status
     requires { limit < 4000000000 }
-    ensures ends { WholeEnds limit command (S.left source.old)
+    ensures ends { WholeEnds limit command.now (S.left source.old)
         (S.source_faults source.old) (S.source_faults source.new) (K.taken sink.old) (K.taken sink.new) result }
     ensures takes { WholeTakes limit (S.left source.old) (S.left source.new) result }
 

@@ -8,31 +8,41 @@
 //! status.code()   // 0 to 6
 //! ```
 //!
-//! A command says how it takes its input. One that takes the whole is a function from bytes to a reply, as `check` and
-//! `compile` are, and knows of no source and no sink: a new one is a word, a relation between bytes and reply, and that
-//! function.
+//! A command says how it takes its input. One that takes the whole is a function from bytes to a reply, as `check`
+//! and `maximise` are, and knows of no source and no sink: a new one is a word, a relation between bytes and reply, and
+//! that function.
 //!
 //! A number among the words of a command is a `Budget`, a `Count` or a number of `Cells`: each keeps its range, and is
 //! read from a word exactly where the word writes a number within it.
 #![tactic(auto)]
 
+mod best;
 mod call;
+mod certified;
 mod check;
 mod command;
 mod compile;
+mod generate;
 mod laws;
 mod model_part;
 mod quantity;
 mod refusal;
 mod reply;
 mod reply_to;
+mod sample;
+mod sampling;
 mod status;
 mod verdict;
+mod verify;
 mod write;
 
 pub use call::run;
-pub use laws::{done_is_meets, one_check_reply, one_compile_reply};
+pub use laws::{
+    done_is_accepted, done_is_meets, few_cells_are_done, one_best_reply, one_check_reply,
+    one_compile_reply, one_list_reply, one_sample_reply, one_verify_reply,
+};
 pub use quantity::{Budget, Cells, Count};
+pub use sampling::sample_model;
 pub use status::Status;
 
 #[cfg(test)]

@@ -4,7 +4,7 @@ ghost use Rattle.std.specs.Prelude.{ℕ, ◌≡◌, ◌<◌, ◌≤◌, length, 
 ghost use Rattle.ts_pattern.specs.Limits.{IsSeries};
 ghost use Rattle.ts_token.specs.Text.{cut_of};
 ghost use Rattle.ts_model.specs.ModelReading.{model_reading};
-ghost use Rattle.ts_model.specs.Promise.{IsWhole};
+ghost use Rattle.ts_model.specs.Promise.{IsWhole, KeepsLimits};
 ghost use Rattle.ts_model.specs.Series.{series_reading};
 ghost use Rattle.ts_model.specs.Views.{stated};
 ghost use Rattle.ts_run.specs.Replies.{GivesModel, GivesSeries};
@@ -22,6 +22,7 @@ pub fn model_of(alloc: Global, text: &[u8], need: Need) -> Result<Model, Stop>
     ensures gives { GivesModel (model_reading need text.now) result }
     ensures counted { IfOk result (λ m. m.n ≡ vec_len m.cells) }
     ensures whole { IfOk result (λ m. IsWhole (stated m)) }
+    ensures limits { IfOk result (λ m. KeepsLimits need (stated m)) }
 {
     let tokens = cut_tokens(alloc, text)?;
     match read_model(alloc, &tokens, need) {

@@ -4,21 +4,29 @@ ghost use Rattle.std.specs.Prelude.{ℕ, ◌≡◌, ◌<◌, length, IfOk};
 ghost use Rattle.ts_run.specs.AnswerTexts.{IsReply};
 ghost use Rattle.ts_run.specs.Reply.{ComesOfInput, reply_of};
 
+use crate::best::best;
 use crate::check::check;
 use crate::command::Command;
 use crate::compile::compile;
+use crate::generate::generate;
 use crate::reply::{Reply, or_refusal};
+use crate::sample::sample;
+use crate::verify::verify;
 use std::alloc::Global;
 use ts_base::Memory;
 
 /// What the command replies to the bytes of its input.
-pub fn reply_to(alloc: Global, command: Command, bytes: &[u8]) -> Result<Reply, Memory>
+pub fn reply_to(alloc: Global, command: &Command, bytes: &[u8]) -> Result<Reply, Memory>
     requires { length bytes.now < 4000000000 }
-    ensures reply { IfOk result (λ r. IsReply command bytes.now (reply_of r)) }
+    ensures reply { IfOk result (λ r. IsReply command.now bytes.now (reply_of r)) }
     ensures status { IfOk result (λ r. ComesOfInput r.status) }
 {
-    match command {
+    match *command {
         Command::Check => or_refusal(check(alloc, bytes)),
         Command::Compile => or_refusal(compile(alloc, bytes)),
+        Command::Verify => or_refusal(verify(alloc, bytes)),
+        Command::Best { goal, budget } => or_refusal(best(alloc, bytes, goal, budget)),
+        Command::Generate { count, budget } => or_refusal(generate(alloc, bytes, count, budget)),
+        Command::Sample { cells } => sample(alloc, cells),
     }
 }

@@ -6,7 +6,7 @@ pub returns-in-Err-TooLong-clause-ends : goal.returns-in-Err-TooLong-clause-ends
 returns-in-Err-TooLong-clause-ends g c =
     let told = c.write_reply-in-Err-TooLong in
     let read = c.in-Err-TooLong in
-    ends_over c.args.limit c.args.command (g.S.Source.source_faults c.args.source.now) (g.S.Source.source_faults c.read_all.new.source)
+    ends_over c.args.limit c.args.command.now (g.S.Source.source_faults c.args.source.now) (g.S.Source.source_faults c.read_all.new.source)
     (g.K.Sink.taken c.args.sink.now) (g.K.Sink.taken told.new.sink) told.result (g.S.Source.left c.args.source.now)
     (read.ensures.calm (λ e. let is = read.field-0-is in cc)) (read.ensures.too_long (ap Err read.field-0-is)) told.ensures.ends told.ensures.written
 

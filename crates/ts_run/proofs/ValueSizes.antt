@@ -1,0 +1,126 @@
+-- The value of a term is far within 64 bits: on a series within the limits no sum reaches the size at which sums are held.
+use Rattle.std.proofs.Common.{◌≡◌, ℕ, zero, suc, ◌+◌, ◌≤◌, ℤ, pos, negsuc, true, List, [], ◌∷◌, length, map, Option, Some, None, slice_get, refl, sym, ◌∙◌, ap, subst, arith}
+use Rattle.std.proofs.lemmas.Bool.{lt-ltb}
+use Rattle.std.proofs.lemmas.Option.{same_Some}
+use Rattle.ts_base.specs.declared.ext.Ext.{Ext}
+use Rattle.ts_base.specs.declared.ext.Ext.TheVariants.{NegInf, Int, PosInf}
+use Rattle.ts_base.specs.declared.letter.Letter.TheVariants.{Less}
+use Rattle.ts_base.specs.Limits.{IsCellValue}
+use Rattle.ts_base.specs.Signature.{signature_of}
+use Rattle.ts_transducer.specs.declared.row.Row.{Row}
+use Rattle.ts_transducer.specs.Typing.{is_typed}
+use Rattle.ts_transducer.proofs.CallerLemmas.{move_stays}
+use Rattle.ts_pattern.specs.declared.name.Aggregator.{Aggregator}
+use Rattle.ts_pattern.specs.declared.name.Feature.{Feature}
+use Rattle.ts_pattern.specs.declared.name.PatternId.{PatternId}
+use Rattle.ts_pattern.specs.PatternTable.{pattern_shape, pattern_b, pattern_a}
+use Rattle.ts_pattern.specs.TermValue.{aggregate_of_ranges, value_of}
+use Rattle.ts_validate.proofs.Law.{closed_valid}
+use Rattle.ts_automaton.specs.declared.state.Mark.{Mark}
+use Rattle.ts_automaton.specs.declared.state.Mark.TheVariants.{Same, Zero, Cells}
+use Rattle.ts_automaton.specs.AutomatonRun.{AreCellValues, after_from, answer, marked}
+use Rattle.ts_seed.specs.SeedTable.{seed_table, table_of}
+use Rattle.ts_seed.proofs.Closed.{rows_closed}
+use Rattle.ts_decorate.specs.Decoration.{decorated, mark_of, range_op}
+use Rattle.ts_decorate.proofs.CallerLemmas.{answers_ranges}
+use Rattle.ts_decorate.proofs.Evaluation.{after_is}
+use Rattle.ts_decorate.proofs.Exact.{cell_value, exact, held_at_limit}
+use Rattle.ts_decorate.proofs.Runs.{table_after, table_start, total_of}
+use Rattle.ts_decorate.proofs.Sizes.{after_same, cost_small, default_size, limit, neutral_size, op_size, size_of, total_same}
+use Rattle.ts_domain.specs.BoxSeries.{InBox, IsBox}
+use Rattle.ts_domain.proofs.Sets.{each_contains}
+use Rattle.ts_model.specs.Stated.{Stated}
+use Rattle.ts_compile.proofs.Tables.{table_fits}
+use Rattle.ts_certificate.specs.Ranges.{is_ext}
+use Rattle.ts_filter.specs.Accepts.{objective_of, value_of_term}
+
+-- the size at which sums are held, and 512 cells
+abbrev most_size : ℕ
+most_size = 100000000000000512
+
+mark_size : (m : Mark) (n : ℕ) (v : Ext) → size_of (marked m n v) ≤ size_of v + n
+mark_size Same n v = omega arith
+mark_size Zero n NegInf = omega arith
+mark_size Zero n (Int x) = omega arith
+mark_size Zero n PosInf = omega arith
+mark_size Cells n NegInf = omega arith
+mark_size Cells n (Int x) = omega arith
+mark_size Cells n PosInf = omega arith
+
+within_size : (s t n : ℕ) → s ≤ t + n → t ≤ limit → n ≤ 512 → s ≤ most_size
+within_size s t n h k l = omega (arith, h, k, l)
+
+module _ (rows : List Row) (typed : is_typed rows ≡ true) (few : length rows ≤ 8) (a : ℕ) (g : Aggregator) (f : Feature) where
+  -- the registers behind the series, before the mark
+  total_small : (x : ℤ) (ys : List ℤ) → length ys ≤ 511 → IsCellValue x → AreCellValues ys →
+      size_of (total_of (held_at_limit g f) (after_from (decorated rows a g f) (table_start (exact g f)) x ys).regs) ≤ limit
+  total_small x ys short h i =
+      let o = exact g f in
+      let first = move_stays rows typed 0 Less in
+      let cost = cost_small f ys x h i in
+      let n = neutral_size f in
+      let d = default_size g in
+      let same = after_same g f a rows ys x (table_start o) (omega arith) in
+      let size = same.1 in
+      let end = table_after o (cell_value f) a rows (table_start o) x ys in
+      let last = op_size (range_op g) end.regs.r end.regs.c in
+      let total =
+      ap (λ st. total_of (held_at_limit g f) st.regs) (after_is rows typed few a g f ys x (table_start o) (omega arith))
+      ∙ ap (λ st. total_of (held_at_limit g f) st.regs) same.0
+      ∙ total_same g f end.regs (omega arith) in
+      subst (λ v. size_of v ≤ limit) (sym total) (omega arith)
+
+  answer_small : (xs : List ℤ) → 1 ≤ length xs → length xs ≤ 512 → AreCellValues xs → size_of (answer (decorated rows a g f) xs) ≤ most_size
+  answer_small [] some short h = absurd (omega (arith, some))
+  answer_small (x ∷ ys) some short h =
+      let total = total_of (held_at_limit g f) (after_from (decorated rows a g f) (table_start (exact g f)) x ys).regs in
+      within_size _ (size_of total) (length (x ∷ ys)) (mark_size (mark_of g f) (length (x ∷ ys)) total)
+      (total_small x ys (omega (arith, short)) h.0 h.1) short
+
+-- the automaton of a pattern by the rows of its seed answers the value of the term
+pub answers : (id : PatternId) (g : Aggregator) (f : Feature) (xs : List ℤ) → 1 ≤ length xs → length xs ≤ 512 → AreCellValues xs →
+    answer (decorated (seed_table id).rows (pattern_a id) g f) xs ≡ value_of g f id xs
+unfolding value_of
+answers id g f xs some short cells =
+    let fits = table_fits id in
+    let rows = (seed_table id).rows in
+    answers_ranges rows fits.0 fits.1 (pattern_a id) fits.2 g f xs some (omega (arith, short)) cells
+    ∙ ap (λ z. aggregate_of_ranges g f z xs)
+    (closed_valid rows fits.0 (pattern_shape id) (pattern_b id) (pattern_a id) (seed_table id).plan (rows_closed id (table_of id) (table_of id).rows refl refl)
+    (signature_of xs))
+
+value_small : (id : PatternId) (g : Aggregator) (f : Feature) (xs : List ℤ) → 1 ≤ length xs → length xs ≤ 512 → AreCellValues xs →
+    size_of (value_of g f id xs) ≤ most_size
+value_small id g f xs some short cells =
+    let fits = table_fits id in
+    subst (λ v. size_of v ≤ most_size) (answers id g f xs some short cells)
+    (answer_small (seed_table id).rows fits.0 fits.1 (pattern_a id) g f xs some short cells)
+
+ext_fits : (v : Ext) → size_of v ≤ most_size → is_ext v ≡ true
+ext_fits NegInf h = refl
+ext_fits (Int (pos n)) h = lt-ltb n 9223372036854775808 (omega (arith, h))
+ext_fits (Int (negsuc n)) h = lt-ltb n 9223372036854775808 (omega (arith, h))
+ext_fits PosInf h = refl
+
+at_place : {T : Type 0} (value : T → Ext) → ((t : T) → size_of (value t) ≤ most_size) → (ts : List T) (k : ℕ) (v : Ext) →
+    slice_get (map value ts) k ≡ Some v → size_of v ≤ most_size
+at_place value small [] k v e = absurd (let g : ◌≡◌ {A = Option Ext} None (Some v) = e in cc)
+at_place value small (t ∷ ts) zero v e = subst (λ z. size_of z ≤ most_size) (same_Some (value t) v e) (small t)
+at_place value small (t ∷ ts) (suc k) v e = at_place value small ts k v e
+
+-- a series of a box has values of cells
+pub cells_within : (x : List ℤ) (b : List (List ℤ)) → InBox x b → IsBox b → AreCellValues x
+cells_within [] [] h i = tt
+cells_within [] (d ∷ b) h i = absurd h
+cells_within (v ∷ x) [] h i = absurd h
+cells_within (v ∷ x) (d ∷ b) h i = (each_contains IsCellValue d v i.0.within h.0, cells_within x b h.1 i.1)
+
+by_place : (m : Stated) (x : List ℤ) (v : Ext) (o : Option ℕ) → 1 ≤ length x → length x ≤ 512 → AreCellValues x → value_of_term m x o ≡ Some v → is_ext v ≡ true
+by_place m x v None some short cells e = absurd (let g : ◌≡◌ {A = Option Ext} None (Some v) = e in cc)
+by_place m x v (Some term) some short cells e =
+    ext_fits v (at_place (λ t. value_of t.1.aggregator t.1.feature t.1.pattern x) (λ t. value_small t.1.pattern t.1.aggregator t.1.feature x some short cells)
+    m.terms term v e)
+
+-- the number of the objective is written within 64 bits
+pub objective_fits : (m : Stated) (x : List ℤ) (v : Ext) → 1 ≤ length x → length x ≤ 512 → AreCellValues x → objective_of m x ≡ Some v → is_ext v ≡ true
+objective_fits m x v some short cells e = by_place m x v m.objective some short cells e

@@ -1,0 +1,71 @@
+-- The steps of `verify`: the model is refused, or its verdict given; and the lines that are fed one after the other.
+use Rattle.std.proofs.Common.{◌≡◌, ℕ, ◌+◌, ◌<◌, ◌≤◌, List, [], ◌∷◌, ◌++◌, length, refl, sym, ◌∙◌, ap, subst, arith, append_assoc, append-nil, length-append}
+use Rattle.std.specs.Prelude.{Result}
+use Rattle.std.specs.Result.{IsErrAnd}
+use Rattle.ts_base.specs.Words.{strict_lines}
+use Rattle.ts_certificate.specs.Reading.{Reading}
+use Rattle.ts_model.specs.declared.model.Need.TheVariants.{List as Listed}
+use Rattle.ts_model.specs.ModelReading.{model_reading}
+use Rattle.ts_model.specs.Stated.{Stated}
+use Rattle.ts_checker.specs.declared.verdict.Verdict.{Verdict}
+use Rattle.ts_checker.specs.Checking.{Checking, HasChecked, Checks}
+use Rattle.ts_run.specs.AnswerTexts.{OnReading, VerifyReply, certificate_lines, model_part}
+use Rattle.ts_run.specs.Replies.{Gives, NoMore, StopsWith}
+use Rattle.ts_run.specs.Reply.{Reply}
+use Rattle.ts_run.specs.Verified.{IsShownBy, IsVerified, verdict_reply}
+use Rattle.ts_run.specs.declared.reply.Reply.{Reply as GivenReply}
+use Rattle.ts_run.specs.declared.reply.Stop.{Stop}
+use Rattle.ts_run.proofs.Steps.{model_fails}
+
+-- the model is refused
+pub verify_fails : (bytes text : List ℕ) (stop : Stop) (given : Result GivenReply Stop) → text ≡ model_part bytes →
+    StopsWith (OnReading (model_reading Listed text) NoMore) stop → IsErrAnd given (λ e. e ≡ stop) → Gives (VerifyReply bytes) given
+verify_fails bytes text stop given same h e =
+    model_fails Listed (model_part bytes) (IsVerified (certificate_lines bytes)) stop given
+    (subst (λ (t : List ℕ). StopsWith (OnReading (model_reading Listed t) NoMore) stop) same h) e
+
+-- the verdict on the certificate, of a checker for the model
+pub verified : (texts : List (List ℕ)) (m seen : Stated) (v : Verdict) (r : Reply) → seen ≡ m → IsShownBy texts seen v → r ≡ verdict_reply v →
+    IsVerified texts m r
+verified texts m seen v r same shown is = record { verdict = v; shown = subst (λ z. IsShownBy texts z v) same shown; reply = is }
+
+-- the lines that were fed, and those that are left
+pub record IsFed (text rest : List ℕ) (m : Stated) (c : Checking) : Type 0 where
+  pub done : List (List ℕ)
+  pub lines : done ++ strict_lines rest ≡ strict_lines text
+  pub checked : HasChecked done c
+  pub model : c.model ≡ m
+  pub few : c.reading.next + length rest ≤ 1 + length text
+
+-- one more is fed
+pub fed_more : (text rest line left : List ℕ) (m : Stated) (old new : Checking) → IsFed text rest m old → strict_lines rest ≡ line ∷ strict_lines left →
+    rest ≡ line ++ left → 0 < length line → Checks old line new → new.model ≡ old.model → new.reading.next ≤ old.reading.next + 1 → IsFed text left m new
+fed_more text rest line left m old new f cut parts some checks same next = record {
+  done = f.done ++ line ∷ [];
+  lines = append_assoc f.done (line ∷ []) (strict_lines left) ∙ ap (λ z. f.done ++ z) (sym cut) ∙ f.lines;
+  checked = checks f.done f.checked;
+  model = same ∙ f.model;
+  few = let n = f.few in let k = shorter rest line left parts in omega (arith, n, k, some, next);
+}
+  where
+    shorter : (rest line left : List ℕ) → rest ≡ line ++ left → length rest ≡ length line + length left
+    shorter rest line left e = ap length e ∙ length-append line left
+
+none_left : (rest : List ℕ) → length rest ≡ 0 → rest ≡ []
+none_left [] e = refl
+none_left (b ∷ bs) e = absurd (omega (arith, e))
+
+-- all are fed
+pub fed_all : (text rest : List ℕ) (m : Stated) (c : Checking) → IsFed text rest m c → length rest ≡ 0 → HasChecked (strict_lines text) c
+fed_all text rest m c f none =
+    let left = none_left rest none in
+    subst (λ ts. HasChecked ts c) (sym (append-nil f.done) ∙ ap (λ (z : List ℕ). f.done ++ strict_lines z) (sym left) ∙ f.lines) f.checked
+
+pub none_fed : (text : List ℕ) (m : Stated) (c : Checking) → HasChecked [] c → c.model ≡ m → IsFed text text m c
+none_fed text m c h same = record {
+  done = [];
+  lines = refl;
+  checked = h;
+  model = same;
+  few = let n : c.reading.next ≡ 1 = ap (λ (r : Reading). r.next) h.reading in omega (arith, n);
+}

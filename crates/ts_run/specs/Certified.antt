@@ -1,0 +1,51 @@
+-- What `maximise`, `minimise` and `generate` write of a model: the text of a certificate, with the status of its claim.
+use Rattle.std.specs.Prelude.{◌≡◌, ℕ, ◌==◌, if◌then◌else◌}
+use Rattle.ts_base.specs.declared.goal.Goal.{Goal}
+use Rattle.ts_certificate.specs.declared.certificate.Claim.{Claim}
+use Rattle.ts_certificate.specs.declared.certificate.Claim.TheVariants.{Best, Infeasible, BudgetBest, BudgetNone}
+use Rattle.ts_certificate.specs.declared.certificate.Claim.TheVariants.{Full, All, BudgetList}
+use Rattle.ts_certificate.specs.Certificate.{Cert, certificate_text}
+use Rattle.ts_model.specs.declared.model.Need.TheVariants.{Best as NeedsBest, List as NeedsList}
+use Rattle.ts_model.specs.Promise.{IsWhole, KeepsLimits}
+use Rattle.ts_model.specs.Stated.{Stated}
+use Rattle.ts_spans.specs.Machines.{spans_in}
+use Rattle.ts_search.specs.Listed.{Listed}
+use Rattle.ts_search.specs.Solved.{Solved}
+use Rattle.ts_run.specs.Quantities.{IsWithin, most_lines, most_series}
+use Rattle.ts_run.specs.Reply.{Reply}
+use Rattle.ts_run.specs.declared.status.Status.{Status}
+use Rattle.ts_run.specs.declared.status.Status.TheVariants.{Done, No, Budget}
+
+-- the status with which a certificate is written: `No` where nothing meets, and `Budget` where lines ran out
+abbrev pub claim_status : Claim → Status
+claim_status (Best v) = Done
+claim_status Infeasible = No
+claim_status (BudgetBest v) = Budget
+claim_status BudgetNone = Budget
+claim_status (Full count) = Done
+claim_status (All count) = if count == 0 then No else Done
+claim_status (BudgetList count) = Budget
+
+-- the reply is the text of this certificate, with its status
+pub record IsWritten (c : Cert) (r : Reply) : Type 0 where
+  pub text : r.text ≡ certificate_text c
+  pub status : r.status ≡ claim_status c.claim
+
+-- the reply to a model: the certificate is solved by at most so many lines
+pub record IsBest (goal : Goal) (budget : ℕ) (m : Stated) (r : Reply) : Type 0 where
+  pub whole : IsWhole m
+  pub limits : KeepsLimits NeedsBest m
+  pub lines : IsWithin 1 most_lines budget
+  pub certificate : Cert
+  pub solved : Solved m (spans_in m) goal budget certificate
+  pub written : IsWritten certificate r
+
+-- the same of a listing of up to so many series
+pub record IsListing (count budget : ℕ) (m : Stated) (r : Reply) : Type 0 where
+  pub whole : IsWhole m
+  pub limits : KeepsLimits NeedsList m
+  pub asked : IsWithin 1 most_series count
+  pub lines : IsWithin 1 most_lines budget
+  pub certificate : Cert
+  pub listed : Listed m (spans_in m) count budget certificate
+  pub written : IsWritten certificate r

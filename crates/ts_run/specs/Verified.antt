@@ -1,0 +1,32 @@
+-- What `verify` says of a certificate: the verdict on its lines, and that what is accepted is true.
+use Rattle.std.specs.Prelude.{ℕ, ◌≡◌, List, ◌++◌, codes}
+use Rattle.std.specs.Fmt.{decimal}
+use Rattle.ts_model.specs.Stated.{Stated}
+use Rattle.ts_checker.specs.declared.verdict.Verdict.{Verdict}
+use Rattle.ts_checker.specs.declared.verdict.Verdict.TheVariants.{Accepted, Rejected, Refused as RefusedAt}
+use Rattle.ts_checker.specs.Verdicts.{IsTrueOf, IsVerdict}
+use Rattle.ts_run.specs.Reply.{Reply}
+use Rattle.ts_run.specs.Verdict.{line}
+use Rattle.ts_run.specs.declared.status.Status.{Status}
+use Rattle.ts_run.specs.declared.status.Status.TheVariants.{Done, No, Refused}
+
+-- words with the number of a line
+abbrev pub line_reply : List ℕ → ℕ → Status → Reply
+line_reply words number status = record { text = line (words ++ decimal number); status = status }
+
+-- the verdict in words
+abbrev pub verdict_reply : Verdict → Reply
+verdict_reply Accepted = record { text = codes "accepted\n"; status = Done }
+verdict_reply (Rejected number) = line_reply (codes "rejected line ") number No
+verdict_reply (RefusedAt number) = line_reply (codes "refused certificate line ") number Refused
+
+-- it is the verdict on these lines, and where they are accepted, their claim is true of the model
+pub record IsShownBy (texts : List (List ℕ)) (m : Stated) (verdict : Verdict) : Type 0 where
+  pub is : IsVerdict m texts verdict
+  pub holds : verdict ≡ Accepted → IsTrueOf m texts
+
+-- the reply is such a verdict in words
+pub record IsVerified (texts : List (List ℕ)) (m : Stated) (r : Reply) : Type 0 where
+  pub verdict : Verdict
+  pub shown : IsShownBy texts m verdict
+  pub reply : r ≡ verdict_reply verdict
