@@ -7,6 +7,11 @@ use ts_base::{MemorySink, MemorySource};
 mod check;
 mod compile;
 mod faults;
+mod readings;
+mod rules;
+mod sample;
+mod searches;
+mod verify;
 
 /// An input, what is taken of the answer, and the status.
 #[derive(Clone, Copy)]

@@ -1,0 +1,215 @@
+//! Inputs of `maximise`, `minimise` and `generate` with their answers, worked out by hand, and the statuses; words that
+//! are refused; and answers that go to `verify`.
+
+use super::outcome;
+use crate::Status;
+use std::alloc::{AllocError, Global};
+use std::test::Fail;
+
+/// The words, an input, what is taken of the answer, and the status.
+type Case = (&'static str, &'static [u8], &'static [u8], Status);
+
+const ONE_PEAK: &[u8] = b"cells 3\ndomain 0..1\nterm c = count peak\nobjective c\n";
+
+static CASES: [Case; 14] = [
+    (
+        "maximise",
+        ONE_PEAK,
+        b"maximise\nbest 1\nseries 0 1 0\nsplit 1 0\nsplit 2 0\nworse 3\nsplit 3 0\nworse 3\nworse 3\n\
+            worse 3\nend 7 0\n",
+        Status::Done,
+    ),
+    (
+        "minimise",
+        ONE_PEAK,
+        b"minimise\nbest 0\nseries 0 0 0\nsplit 1 0\nsplit 2 0\nsplit 3 0\nworse 3\nworse 3\nworse 3\n\
+            worse 3\nend 7 0\n",
+        Status::Done,
+    ),
+    (
+        "maximise",
+        b"cells 3\ndomain 0..1\nterm c = count peak\nobjective c\nrequire c = 2\n",
+        b"maximise\ninfeasible\nno 1 3\nend 1 0\n",
+        Status::No,
+    ),
+    (
+        "maximise --budget 1",
+        ONE_PEAK,
+        b"maximise\nbudget 1\nseries 0 1 0\nsplit 1 0\nopen\nopen\nend 1 2\n",
+        Status::Budget,
+    ),
+    (
+        "maximise",
+        b"cells 1\ndomain 3..4\nterm m = max surf peak\nobjective m\n",
+        b"maximise\nbest -inf\nseries 3\nsplit 1 3\nworse 1\nworse 1\nend 3 0\n",
+        Status::Done,
+    ),
+    (
+        "generate 5",
+        b"cells 3\ndomain 0..1\nterm c = count peak\nrequire c = 1\n",
+        b"generate 5\nall 1\nseries 0 1 0\ndrop 1 1 1\ndrop 2 0 1\ndrop 3 1 1\nyes\nend 4 0\n",
+        Status::Done,
+    ),
+    (
+        "generate 1",
+        b"cells 3\ndomain 0..1\n",
+        b"generate 1\nfull 1\nseries 0 0 0\nsplit 1 0\nsplit 2 0\nsplit 3 0\nyes\nopen\nopen\nopen\nend 4 3\n",
+        Status::Done,
+    ),
+    (
+        "generate 2 --budget 3",
+        b"cells 3\ndomain 0..1\n",
+        b"generate 2\nbudget 0\nsplit 1 0\nsplit 2 0\nsplit 3 0\nopen\nopen\nopen\nopen\nend 3 4\n",
+        Status::Budget,
+    ),
+    (
+        "generate 5",
+        b"cells 3\ndomain 0..1\nterm c = count peak\nrequire c = 2\n",
+        b"generate 5\nall 0\nno 1 3\nend 1 0\n",
+        Status::No,
+    ),
+    (
+        "generate 1",
+        b"cells 512\ndomain 0..128\n",
+        b"refused model line 2 limit\n",
+        Status::Refused,
+    ),
+    (
+        "maximise",
+        b"cells 2\n",
+        b"refused model line 2 noobjective\n",
+        Status::Refused,
+    ),
+    (
+        "minimise",
+        b"cells 2\n%\n",
+        b"refused model line 2 unknownline\n",
+        Status::Refused,
+    ),
+    (
+        "minimise --budget 4000000",
+        b"cells 1\ndomain 7\nterm c = count peak\nobjective c\n",
+        b"minimise\nbest 0\nseries 7\nworse 1\nend 1 0\n",
+        Status::Done,
+    ),
+    (
+        "generate 5000",
+        b"cells 1\ndomain 7\n",
+        b"generate 5000\nall 1\nseries 7\nyes\nend 1 0\n",
+        Status::Done,
+    ),
+];
+
+fn cases() -> &'static [Case] {
+    &CASES
+}
+
+#[test]
+fn answers_of_searches(rt: HostRuntime) -> Result<(), Fail> {
+    let alloc = rt.alloc();
+    for &(words, input, wanted, status) in cases() {
+        let (taken, told) = outcome(alloc, words, input)?;
+        assert_eq!(rt; taken.as_slice(), wanted);
+        assert_eq!(rt; told, status);
+    }
+    Ok(())
+}
+
+static NO_COMMANDS: [&str; 19] = [
+    "maximise --budget 0",
+    "maximise --budget 01",
+    "maximise --budget 4000001",
+    "maximise --budget",
+    "minimise --budget 1 2",
+    "minimise budget 1",
+    "minimise now",
+    "maximise --budget -1",
+    "generate",
+    "generate 0",
+    "generate 5001",
+    "generate 07",
+    "generate 3 --budget",
+    "generate --budget 3",
+    "generate 3 4",
+    "Maximise",
+    "minimize",
+    "check --budget 1",
+    "compile 1",
+];
+
+fn no_commands() -> &'static [&'static str] {
+    &NO_COMMANDS
+}
+
+#[test]
+fn words_of_no_command(rt: HostRuntime) -> Result<(), Fail> {
+    let alloc = rt.alloc();
+    for &words in no_commands() {
+        let (taken, told) = outcome(alloc, words, ONE_PEAK)?;
+        assert_eq!(rt; taken.as_slice(), b"refused words\n".as_slice());
+        assert_eq!(rt; told, Status::Refused);
+    }
+    Ok(())
+}
+
+/// The words, and a model: each claim once, and a model whose last line has no LF.
+static SENT: [(&str, &[u8]); 8] = [
+    ("maximise", ONE_PEAK),
+    ("minimise --budget 1", ONE_PEAK),
+    (
+        "maximise",
+        b"cells 3\ndomain 0..1\nterm c = count peak\nobjective c\nrequire c = 2\n",
+    ),
+    (
+        "minimise --budget 1",
+        b"cells 3\ndomain 0..1\nterm c = count peak\nobjective c\nrequire c >= 1\nterm d = sum surf peak\nrequire d = 1",
+    ),
+    (
+        "generate 5",
+        b"cells 3\ndomain 0..1\nterm c = count peak\nrequire c = 1\n",
+    ),
+    ("generate 3", b"cells 3\ndomain 0..1"),
+    ("generate 2 --budget 3", b"cells 3\ndomain 0..1\n"),
+    ("generate 5", b"cells 2\nterm c = count peak\nrequire c = 1"),
+];
+
+fn all_sent() -> &'static [(&'static str, &'static [u8])] {
+    &SENT
+}
+
+/// The text behind the model, after a line `%%`.
+fn behind_model(alloc: Global, model: &[u8], text: &[u8]) -> Result<Vec<u8>, AllocError> {
+    let mut bytes = Vec::from_slice(alloc, model)?;
+    if !model.ends_with(b"\n") {
+        bytes.push(b'\n')?;
+    }
+    bytes.extend_from_slice(b"%%\n")?;
+    bytes.extend_from_slice(text)?;
+    Ok(bytes)
+}
+
+#[test]
+fn answers_are_accepted(rt: HostRuntime) -> Result<(), Fail> {
+    let alloc = rt.alloc();
+    for &(words, model) in all_sent() {
+        let (certificate, _) = outcome(alloc, words, model)?;
+        let input = behind_model(alloc, model, &certificate)?;
+        let (taken, told) = outcome(alloc, "verify", &input)?;
+        assert_eq!(rt; taken.as_slice(), b"accepted\n".as_slice());
+        assert_eq!(rt; told, Status::Done);
+    }
+    Ok(())
+}
+
+const MOST_VALUES: &[u8] = b"cells 512\ndomain 0..127\n";
+
+/// All domains together have as many values as they may: seven `split` lines for each cell, each of which leaves a box.
+#[test]
+fn first_of_512_cells(rt: HostRuntime) -> Result<(), Fail> {
+    let alloc = rt.alloc();
+    let (taken, status) = outcome(alloc, "generate 1", MOST_VALUES)?;
+    assert!(rt; taken.starts_with(b"generate 1\nfull 1\nseries 0 0 0"));
+    assert!(rt; taken.ends_with(b"open\nend 3585 3584\n"));
+    assert_eq!(rt; status, Status::Done);
+    Ok(())
+}
