@@ -8,6 +8,8 @@ pub mod SoundLaws
 pub mod TestLaws
 pub mod RangeLaws
 pub mod MachineLaws
+mod MeetingLaws
+mod TermsAsked
 pub mod CallLaws
 mod AnswerLaws
 mod Refuting

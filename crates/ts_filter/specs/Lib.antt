@@ -12,6 +12,7 @@ pub mod Known
 pub mod Laws
 pub mod Lines
 pub mod MachineSpans
+pub mod OfTerm
 pub mod RefutedWorseDrop
 pub mod Rules
 pub mod Steps

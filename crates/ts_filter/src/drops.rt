@@ -148,7 +148,7 @@ fn is_refuting(r: &Require, term: u32, span: Span) -> bool
 }
 
 /// The one of two drops that comes first.
-fn earlier(first: Option<Removal>, second: Option<Removal>) -> Option<Removal>
+pub(crate) fn earlier(first: Option<Removal>, second: Option<Removal>) -> Option<Removal>
     ensures { result ≡ earlier_of first second }
 {
     match (first, second) {

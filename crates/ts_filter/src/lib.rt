@@ -4,9 +4,10 @@
 //! bound, or counts for a bar. The calls on a machine and a box answer the same of the box's span at a cell, and name
 //! the first cell, the first drop and the value to keep; each makes the rows of a machine once, however many cells
 //! there are. `BoxTables` answers the same questions and keeps the rows: those that a change of the box doesn't reach
-//! serve the next box. The definitions state the rule of each line of a certificate, when a certificate is
-//! accepted, its first failing line and what its claim means; by the laws an accepted certificate means what it claims,
-//! whoever wrote it, wherever spans hold the values of their terms.
+//! serve the next box. `LiveTables` finds out by itself what has changed, and `AllTables` does so for the machines of
+//! all terms. The definitions state the rule of each line of a certificate, when a certificate is accepted, its first
+//! failing line and what its claim means; by the laws an accepted certificate means what it claims, whoever wrote it,
+//! wherever spans hold the values of their terms.
 //!
 //! ```text
 //! let span = Span { lo: Ext::Int(2), hi: Ext::Int(5) };
@@ -23,6 +24,7 @@
 //! ```
 #![tactic(auto)]
 
+mod all_tables;
 mod at_cell;
 mod bar;
 mod blocks;
@@ -33,8 +35,11 @@ mod excluded;
 mod first;
 mod kept;
 pub mod laws;
+mod live_tables;
+mod meeting;
 mod rows;
 
+pub use all_tables::AllTables;
 pub use at_cell::{cut_at_end, refuted, refuted_value, worse};
 pub use bar::Bar;
 pub use box_tables::BoxTables;
@@ -42,6 +47,7 @@ pub use drops::{Removal, next_drop};
 pub use excluded::{cuts, refutes};
 pub use first::{first_cut, first_refuted};
 pub use kept::kept_value;
+pub use live_tables::LiveTables;
 pub use ts_base::Goal;
 
 #[cfg(test)]

@@ -1,0 +1,20 @@
+-- The drops of the terms, one after the other.
+use Rattle.std.proofs.Common.{◌≡◌, ℕ, ◌+◌, ◌<◌, List, [], ◌∷◌, length, get_or, Option, sym, subst, arith}
+use Rattle.std.proofs.lemmas.Option.{slice_get-get_or}
+use Rattle.ts_bound.specs.TermSpans.{Automata}
+use Rattle.ts_model.specs.declared.model.Require.{Require}
+use Rattle.ts_filter.specs.declared.drops.Removal.{Removal}
+use Rattle.ts_filter.specs.Boxes.{Box}
+use Rattle.ts_filter.specs.Drops.{IsFirstOf}
+use Rattle.ts_filter.specs.OfTerm.{OfTerm}
+use Rattle.ts_filter.specs.TermDrops.{IsTermDrop, earlier_of}
+use Rattle.ts_filter.proofs.DropLaws.{DropBelow, first_below_more}
+
+-- one more term whose drops are known
+pub drops_more : (rs : List Require) (all : List Automata) (b : Box) (term : ℕ) (first found both : Option Removal) → term < length all →
+    IsFirstOf (DropBelow rs all b term) first → OfTerm all term (λ a. IsFirstOf (IsTermDrop rs term a b) found) → both ≡ earlier_of first found →
+    IsFirstOf (DropBelow rs all b (term + 1)) both
+drops_more rs [] b term first found both lt h f e = absurd (omega (arith, lt))
+drops_more rs (d ∷ all) b term first found both lt h f e =
+    let a = get_or (d ∷ all) term d in let there = slice_get-get_or (d ∷ all) term d lt in
+    subst (IsFirstOf (DropBelow rs (d ∷ all) b (term + 1))) (sym e) (first_below_more rs (d ∷ all) b term a there first found h (f a there))

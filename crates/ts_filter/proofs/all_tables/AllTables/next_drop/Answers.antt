@@ -1,0 +1,24 @@
+use Rattle.std.proofs.Common.{rules, ◌<◌, ◌≤◌, ◌∙◌, length, subst}
+use Rattle.ts_filter.specs.Drops.{IsFirstOf}
+use Rattle.ts_filter.specs.OfTerm.{OfTerm}
+use Rattle.ts_filter.specs.TermDrops.{IsTermDrop}
+use Rattle.ts_filter.proofs.DropLaws.{first_of_all}
+use Rattle.ts_filter.proofs.TermsAsked.{drops_more}
+use Rattle.ts_filter.proofs.all_tables.AllTables.next_drop.Goals as goal
+
+pub loop-term-preserved : goal.loop-term-preserved
+loop-term-preserved c =
+    let rs = c.args.requirements.now in let b = c.args.cells.now.present in let term = c.loop-term.term in
+    let below : term < length c.args.self.now = search rules in
+    record {
+      same = c.first_drop.ensures.same ∙ c.loop-term.invariant.same;
+      first = drops_more rs c.args.self.now b term c.loop-term.first c.in_ok-found.found c.earlier-first.result below c.loop-term.invariant.first
+          (subst (λ all. OfTerm all term (λ a. IsFirstOf (IsTermDrop rs term a b) c.in_ok-found.found)) c.loop-term.invariant.same c.in_ok-found.ensures.found)
+          c.earlier-first.ensures;
+    }
+
+pub returns-clause-found : goal.returns-clause-found
+returns-clause-found c =
+    let end : length c.args.self.now ≤ c.loop-term.term = search rules in
+    first_of_all c.args.requirements.now c.args.self.now c.args.cells.now.present c.loop-term.term _ c.loop-term.first c.requires.terms end
+    c.loop-term.invariant.first

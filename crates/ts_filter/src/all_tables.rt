@@ -1,0 +1,229 @@
+//! Tables that follow a box, of the machines of all terms of a model.
+
+ghost use Rattle.std.specs.Prelude.{◌≡◌, ◌↔◌, ◌<◌, ◌≤◌, IfOk, IsTrue, None, length, map};
+ghost use Rattle.std.specs.List.{AllByRecursion};
+ghost use Rattle.ts_bound.specs.TermSpans.{Automata, automata_of, term_span};
+ghost use Rattle.ts_domain.specs.BoxSeries.{IsCell};
+ghost use Rattle.ts_filter.specs.Drops.{IsFirstDrop, IsFirstOf};
+ghost use Rattle.ts_filter.specs.Excluded.{Cuts, Refutes};
+ghost use Rattle.ts_filter.specs.FirstCell.{IsFirstCell};
+ghost use Rattle.ts_filter.specs.KeptValue.{IsKept};
+ghost use Rattle.ts_filter.specs.MachineSpans.{spans_of};
+ghost use Rattle.ts_filter.specs.OfTerm.{OfTerm};
+ghost use Rattle.ts_filter.specs.TermDrops.{IsTermDrop};
+
+use crate::bar::Bar;
+use crate::drops::{Removal, earlier};
+use crate::live_tables::LiveTables;
+use std::alloc::Global;
+use std::marker::Model;
+use ts_base::{Goal, Memory};
+use ts_domain::Boxed;
+use ts_glue::Machine;
+use ts_model::Require;
+
+/// What a hull of a row takes, in bytes.
+const HULL: u64 = 96;
+
+/// How many bytes the rows of all machines may take.
+const MOST: u64 = 200_000_000;
+
+/// The machines of the terms, in their order, each with the rows of hulls of the box that it was asked of last. Where
+/// the rows of all might take too much memory, a question leaves none behind. Contracts see the machines alone.
+#[derive(Drop)]
+pub struct AllTables<'a> {
+    each: Vec<LiveTables<'a>>,
+    keeps: bool,
+}
+
+impl<'a> Model for AllTables<'a> {
+    ghost use Rattle.std.specs.Coded.{codes};
+    ghost use Rattle.std.specs.Prelude.{List};
+    ghost use Rattle.ts_automaton.specs.Codes.{formula_code};
+    ghost use Rattle.ts_bound.specs.TermSpans.{Automata};
+
+    ghost Value = { List Automata };
+
+    ghost coded = { Prim.hlevel (codes, formula_code) };
+
+    ghost view = { λ t. t.each.items };
+}
+
+impl<'a> AllTables<'a> {
+    /// The tables of these machines, of which nothing is known yet. The boxes that will be asked have up to `values`
+    /// values in all cells together: by that they are kept or made for each question anew.
+    pub fn new(alloc: Global, machines: &'a [Machine], values: u64) -> Result<AllTables<'a>, Memory>
+        ensures { IfOk result (λ t. t ≡ map automata_of machines.now) }
+    {
+        let mut each = Vec::new(alloc);
+        for machine in machines {
+            each.push(LiveTables::new(alloc, machine))?;
+        }
+        let keeps = values.saturating_mul(states_of(machines)) <= MOST / HULL;
+        Ok(AllTables { each, keeps })
+    }
+
+    /// Whether the requirement is refuted at cell `p`, as the machine of its term tells. Where that can't be split, only
+    /// the last cell may be asked.
+    pub fn refuted(
+        &mut self,
+        alloc: Global,
+        r: &Require,
+        p: u32,
+        cells: &Boxed,
+    ) -> Result<bool, Memory>
+        requires there { r.now.term < length self.old }
+        requires cell { IsCell p cells.now }
+        requires usable { OfTerm self.old r.now.term (λ a. a.pair ≡ None → p ≡ length cells.now.present) }
+        ensures same { self.new ≡ self.old }
+        ensures told { IfOk result (λ told. OfTerm self.old r.now.term (λ a. IsTrue told
+            ↔ Refutes r.now.op r.now.bound (term_span a p cells.now.present))) }
+    {
+        let told = self.each[r.term as usize].refuted(alloc, r, p, cells);
+        self.asked(r.term);
+        told
+    }
+
+    /// The least cell below the last at which the requirement is refuted. None exactly where there is no such cell.
+    pub fn first_refuted(
+        &mut self,
+        alloc: Global,
+        r: &Require,
+        cells: &Boxed,
+    ) -> Result<Option<u32>, Memory>
+        requires { r.now.term < length self.old }
+        ensures same { self.new ≡ self.old }
+        ensures found { IfOk result (λ found. OfTerm self.old r.now.term
+            (λ a. IsFirstCell a (Refutes r.now.op r.now.bound) cells.now.present found)) }
+    {
+        let found = self.each[r.term as usize].first_refuted(alloc, r, cells);
+        self.asked(r.term);
+        found
+    }
+
+    /// Whether no number of the span of `term`, the objective, counts for the bar at the last cell.
+    pub fn cut_at_end(
+        &mut self,
+        alloc: Global,
+        term: u32,
+        goal: Goal,
+        cells: &Boxed,
+        bar: Bar,
+    ) -> Result<bool, Memory>
+        requires there { term < length self.old }
+        requires some { 1 ≤ length cells.now.present }
+        ensures same { self.new ≡ self.old }
+        ensures told { IfOk result (λ told. OfTerm self.old term (λ a. IsTrue told
+            ↔ Cuts goal bar (term_span a (length cells.now.present) cells.now.present))) }
+    {
+        let told = self.each[term as usize].cut_at_end(alloc, goal, cells, bar);
+        self.asked(term);
+        told
+    }
+
+    /// The least cell below the last at which no number of the span of `term`, the objective, counts for the bar. None
+    /// exactly where there is no such cell.
+    pub fn first_cut(
+        &mut self,
+        alloc: Global,
+        term: u32,
+        goal: Goal,
+        cells: &Boxed,
+        bar: Bar,
+    ) -> Result<Option<u32>, Memory>
+        requires { term < length self.old }
+        ensures same { self.new ≡ self.old }
+        ensures found { IfOk result
+            (λ found. OfTerm self.old term (λ a. IsFirstCell a (Cuts goal bar) cells.now.present found)) }
+    {
+        let found = self.each[term as usize].first_cut(alloc, goal, cells, bar);
+        self.asked(term);
+        found
+    }
+
+    /// The value of cell `k` that leaves `term`, the objective, the best number open.
+    pub fn kept_value(
+        &mut self,
+        alloc: Global,
+        term: u32,
+        goal: Goal,
+        k: u32,
+        cells: &Boxed,
+    ) -> Result<i64, Memory>
+        requires there { term < length self.old }
+        requires cell { IsCell k cells.now }
+        ensures same { self.new ≡ self.old }
+        ensures kept { IfOk result (λ v. OfTerm self.old term (λ a. IsKept a goal k cells.now.present v)) }
+    {
+        let kept = self.each[term as usize].kept_value(alloc, goal, k, cells);
+        self.asked(term);
+        kept
+    }
+
+    /// The possible drop with the least cell, then the least value, then the least requirement; none exactly where none
+    /// is possible.
+    pub fn next_drop(
+        &mut self,
+        alloc: Global,
+        requirements: &[Require],
+        cells: &Boxed,
+    ) -> Result<Option<Removal>, Memory>
+        requires machines { length self.old < 4000000000 }
+        requires requirements { length requirements.now < 4000000000 }
+        requires terms { AllByRecursion (λ r. r.term < length self.old) requirements.now }
+        ensures same { self.new ≡ self.old }
+        ensures found { IfOk result
+            (λ found. IsFirstDrop requirements.now (spans_of self.old) cells.now.present found) }
+    {
+        let mut first = None;
+        for term in 0..self.each.len() {
+            let found = self.first_drop(alloc, term as u32, requirements, cells)?;
+            first = earlier(first, found);
+        }
+        Ok(first)
+    }
+}
+
+impl<'a> AllTables<'a> {
+    /// The first of the drops by the requirements of the term.
+    fn first_drop(
+        &mut self,
+        alloc: Global,
+        term: u32,
+        requirements: &[Require],
+        cells: &Boxed,
+    ) -> Result<Option<Removal>, Memory>
+        requires there { term < length self.old }
+        requires requirements { length requirements.now < 4000000000 }
+        ensures same { self.new ≡ self.old }
+        ensures found { IfOk result (λ found. OfTerm self.old term
+            (λ a. IsFirstOf (IsTermDrop requirements.now term a cells.now.present) found)) }
+    {
+        let found = self.each[term as usize].first_drop(alloc, term, requirements, cells);
+        self.asked(term);
+        found
+    }
+
+    /// After a question of the term: where no rows are kept, those that it made go.
+    fn asked(&mut self, term: u32)
+        requires { term < length self.old }
+        ensures { self.new ≡ self.old }
+    {
+        if !self.keeps {
+            self.each[term as usize].forget();
+        }
+    }
+}
+
+/// How many states the automata of these machines have, forward and reverse ones.
+fn states_of(machines: &[Machine]) -> u64 {
+    let mut states = 0u64;
+    for m in machines {
+        let reverse = match m.reverse() {
+            Some(a) => a.states(),
+            None => 0,
+        };
+        states = states.saturating_add(m.forward().states() as u64 + reverse as u64);
+    }
+    states
+}
