@@ -1,16 +1,13 @@
 -- What the calls tell of a problem that may be asked.
-use Rattle.std.proofs.Common.{◌≡◌, ◌↔◌, ℕ, ◌-◌, ◌<◌, ◌≤◌, ℤ, Bool, false, length, get_or, map, Option, Some, None, option_map, slice_get, refl, sym, ◌∙◌, ap, subst, arith}
+use Rattle.std.proofs.Common.{◌≡◌, ◌↔◌, ℕ, ◌-◌, ◌<◌, ◌≤◌, ℤ, Bool, false, List, [], ◌∷◌, length, get_or, Option, Some, None, slice_get, refl, sym, ◌∙◌, ap, subst, arith}
 use Rattle.std.proofs.lemmas.List.{length-map}
-use Rattle.std.proofs.lemmas.Option.{slice_get-get_or, slice_get-map}
+use Rattle.std.proofs.lemmas.Option.{slice_get-get_or}
 use Rattle.std.specs.Prelude.{IsTrue, IfSome}
-use Rattle.ts_bound.specs.TermSpans.{automata_of, term_span}
-use Rattle.ts_glue.specs.declared.machine.Machine.{Machine}
-use Rattle.ts_compile.specs.Programs.{machines_of}
+use Rattle.ts_bound.specs.TermSpans.{Automata, term_span}
 use Rattle.ts_domain.specs.Values.{IsDomain}
 use Rattle.ts_model.specs.declared.model.Require.{Require}
 use Rattle.ts_model.specs.Views.{stated, term_of}
 use Rattle.ts_spans.specs.Machines.{automata_for, automata_in}
-use Rattle.ts_spans.proofs.OfProgram.{machines_are}
 use Rattle.ts_filter.specs.declared.bar.Bar.{Bar}
 use Rattle.ts_filter.specs.declared.drops.Removal.{Removal as GivenRemoval}
 use Rattle.ts_filter.specs.Boxes.{Box, HasCell, IsPart, values_at}
@@ -18,13 +15,13 @@ use Rattle.ts_filter.specs.Drops.{IsFirstDrop}
 use Rattle.ts_filter.specs.Excluded.{Refutes, Cuts}
 use Rattle.ts_filter.specs.FirstCell.{IsFirstCell}
 use Rattle.ts_filter.specs.KeptValue.{IsKept, end_with}
-use Rattle.ts_filter.specs.MachineSpans.{spans_of}
+use Rattle.ts_filter.specs.OfTerm.{OfTerm}
 use Rattle.ts_filter.specs.Tests.{cut_by as cut_by_term}
 use Rattle.ts_filter.proofs.BoxParts.{domain_at, inside_length, place}
 use Rattle.ts_search.specs.Dive.{kept_for, kept_value}
 use Rattle.ts_search.specs.Drops.{least, next_drop}
 use Rattle.ts_search.specs.LineOf.{cut, cut_by, inner, last, refuted}
-use Rattle.ts_search.specs.Posed.{IsPosed}
+use Rattle.ts_search.specs.Posed.{AreTablesOf, IsPosed}
 use Rattle.ts_search.specs.Views.{removal_of, search_of}
 use Rattle.ts_search.specs.declared.problem.Problem.{Problem}
 use Rattle.ts_search.proofs.CallLaws.{least_is, refuted_is, first_refuted_is, cut_is, first_cut_is, never_least, drop_is}
@@ -32,19 +29,25 @@ use Rattle.ts_search.proofs.DiveLaws.{best_there}
 use Rattle.ts_search.proofs.KeptLaws.{kept_is}
 use Rattle.ts_search.proofs.Right.{each_at}
 
+-- what is told of a term's machine, of a term that there is
+pub told_of : (tables : List Automata) (term : ℕ) (Is : Automata → Type 0) (Goal : Type 0) → term < length tables → OfTerm tables term Is →
+    ((a : Automata) → slice_get tables term ≡ Some a → Is a → Goal) → Goal
+told_of [] term Is Goal lt h f = absurd (omega (arith, lt))
+told_of (d ∷ tables) term Is Goal lt h f =
+    let a = get_or (d ∷ tables) term d in let there = slice_get-get_or (d ∷ tables) term d lt in f a there (h a there)
+
+-- the same of the machine among those of the model
+pub told_in : (q : Problem) (tables : List Automata) (term : ℕ) (Is : Automata → Type 0) (Goal : Type 0) → AreTablesOf q tables → term < length tables →
+    OfTerm tables term Is → ((a : Automata) → slice_get (automata_in (stated q.model.now)) term ≡ Some a → Is a → Goal) → Goal
+told_in q tables term Is Goal t lt h f = told_of tables term Is Goal lt h (λ a there is. f a (ap (λ l. slice_get l term) (sym t) ∙ there) is)
+
 module _ (q : Problem) (posed : IsPosed q) where
   -- the machines, one a term
-  pub machine_count : length (machines_of q.program.now) ≡ length (map term_of q.model.now.terms.entries)
-  machine_count =
-      sym (length-map (machines_of q.program.now) automata_of) ∙ ap length (machines_are q.program.now q.model.now posed.program)
-      ∙ length-map (stated q.model.now).terms (λ t. automata_for t.1.pattern t.1.aggregator t.1.feature)
+  pub tables_count : (tables : List Automata) → AreTablesOf q tables → length tables ≡ length (search_of q).model.terms
+  tables_count tables t = ap length t ∙ length-map (search_of q).model.terms (λ z. automata_for z.1.pattern z.1.aggregator z.1.feature)
 
-  -- a machine at its place is that of the term
-  pub machine_there : (term : ℕ) (mk : Machine) → slice_get (machines_of q.program.now) term ≡ Some mk →
-      slice_get (automata_in (stated q.model.now)) term ≡ Some (automata_of mk)
-  machine_there term mk there =
-      ap (λ ms. slice_get ms term) (sym (machines_are q.program.now q.model.now posed.program))
-      ∙ slice_get-map automata_of (machines_of q.program.now) term ∙ ap (option_map automata_of) there
+  pub tables_long : (tables : List Automata) (term : ℕ) → AreTablesOf q tables → term < length (search_of q).model.terms → term < length tables
+  tables_long tables term t lt = let same = tables_count tables t in omega (arith, same, lt)
 
   -- the term of a requirement, and that of the objective, stand
   pub required_there : (j : ℕ) (r : Require) → slice_get q.model.now.requirements.items (j - 1) ≡ Some r → r.term < length (search_of q).model.terms
@@ -71,52 +74,51 @@ module _ (q : Problem) (posed : IsPosed q) where
 
   module _ (b : Box) (i : IsPart b (search_of q).model.cells) where
     -- requirement j with its machine
-    module _ (j : ℕ) (r : Require) (mk : Machine) (from : 1 ≤ j) (there : slice_get q.model.now.requirements.items (j - 1) ≡ Some r)
-        (machine : slice_get (machines_of q.program.now) r.term ≡ Some mk) where
-      pub refuted_told : (p : ℕ) (told : Bool) → p ≡ length b → IsTrue told ↔ Refutes r.op r.bound (term_span (automata_of mk) p b) →
+    module _ (j : ℕ) (r : Require) (a : Automata) (from : 1 ≤ j) (there : slice_get q.model.now.requirements.items (j - 1) ≡ Some r)
+        (machine : slice_get (automata_in (stated q.model.now)) r.term ≡ Some a) where
+      pub refuted_told : (p : ℕ) (told : Bool) → p ≡ length b → IsTrue told ↔ Refutes r.op r.bound (term_span a p b) →
           told ≡ refuted (search_of q) j (last (search_of q)) b
       refuted_told p told at h =
           let size = part_size b i in
           let some = some_cells in
-          refuted_is (automata_in (stated q.model.now)) r.term (automata_of mk) (machine_there r.term mk machine)
+          refuted_is (automata_in (stated q.model.now)) r.term a machine
           q.model.now.requirements.items j r (from, there) refl p b
           (record { from = omega (arith, at, size, some); to = omega (arith, at); last = λ e. at }) told h
           ∙ ap (λ z. refuted (search_of q) j z b) (at ∙ size)
 
-      pub first_refuted_told : (found : Option ℕ) → IsFirstCell (automata_of mk) (Refutes r.op r.bound) b found →
+      pub first_refuted_told : (found : Option ℕ) → IsFirstCell a (Refutes r.op r.bound) b found →
           found ≡ least (λ p. refuted (search_of q) j p b) (inner (search_of q)) 1
       first_refuted_told found h =
-          first_refuted_is (automata_in (stated q.model.now)) r.term (automata_of mk) (machine_there r.term mk machine)
+          first_refuted_is (automata_in (stated q.model.now)) r.term a machine
           q.model.now.requirements.items j r (from, there) refl b
           (last (search_of q)) (part_size b i) found h
 
     pub next_drop_told : (found : Option GivenRemoval) →
-        IsFirstDrop q.model.now.requirements.items (spans_of (map automata_of (machines_of q.program.now))) b found →
+        IsFirstDrop q.model.now.requirements.items (search_of q).spans b found →
         removal_of found ≡ next_drop (search_of q).model (search_of q).spans b
     next_drop_told found h =
-        drop_is (search_of q).model (search_of q).spans b i.box found
-        (subst (λ ms. IsFirstDrop q.model.now.requirements.items (spans_of ms) b found) (machines_are q.program.now q.model.now posed.program) h)
+        drop_is (search_of q).model (search_of q).spans b i.box found h
 
     -- the objective with its machine, where there is a bar
-    module _ (term : ℕ) (mk : Machine) (objective : q.model.now.objective ≡ Some term) (machine : slice_get (machines_of q.program.now) term ≡ Some mk) where
-      pub cut_told : (bar : Bar) (told : Bool) → IsTrue told ↔ Cuts q.goal bar (term_span (automata_of mk) (length b) b) →
+    module _ (term : ℕ) (a : Automata) (objective : q.model.now.objective ≡ Some term) (machine : slice_get (automata_in (stated q.model.now)) term ≡ Some a) where
+      pub cut_told : (bar : Bar) (told : Bool) → IsTrue told ↔ Cuts q.goal bar (term_span a (length b) b) →
           told ≡ cut (search_of q) (last (search_of q)) b bar
       cut_told bar told h =
-          cut_is (automata_in (stated q.model.now)) term (automata_of mk) (machine_there term mk machine) (search_of q).model objective q.goal bar b
+          cut_is (automata_in (stated q.model.now)) term a machine (search_of q).model objective q.goal bar b
           (last (search_of q)) (part_size b i) some_cells told h
 
-      pub first_cut_told : (bar : Bar) (found : Option ℕ) → IsFirstCell (automata_of mk) (Cuts q.goal bar) b found →
+      pub first_cut_told : (bar : Bar) (found : Option ℕ) → IsFirstCell a (Cuts q.goal bar) b found →
           found ≡ least (λ p. cut (search_of q) p b bar) (inner (search_of q)) 1
       first_cut_told bar found h =
-          first_cut_is (automata_in (stated q.model.now)) term (automata_of mk) (machine_there term mk machine) (search_of q).model objective q.goal bar b
+          first_cut_is (automata_in (stated q.model.now)) term a machine (search_of q).model objective q.goal bar b
           (last (search_of q)) (part_size b i) found h
 
-      pub kept_told : (k : ℕ) (v : ℤ) → HasCell k b → IsKept (automata_of mk) q.goal k b v →
+      pub kept_told : (k : ℕ) (v : ℤ) → HasCell k b → IsKept a q.goal k b v →
           v ≡ kept_value (search_of q).model (search_of q).spans q.goal k b
       kept_told k v cell h =
           let d : IsDomain (values_at k b) = domain_at b (k - 1) i.box (place k b cell) in
-          kept_is (automata_in (stated q.model.now)) term (automata_of mk) (machine_there term mk machine) q.goal k b
-          v d (best_there (end_with (automata_of mk) q.goal k b) q.goal (values_at k b) d.some) h
+          kept_is (automata_in (stated q.model.now)) term a machine q.goal k b
+          v d (best_there (end_with a q.goal k b) q.goal (values_at k b) d.some) h
           ∙ ap (kept_for (search_of q).spans q.goal k b) (sym objective)
 
     -- by a bar that there is

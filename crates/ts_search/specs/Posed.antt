@@ -1,9 +1,10 @@
 -- A problem that may be asked.
-use Rattle.std.specs.Prelude.{◌≤◌, length}
+use Rattle.std.specs.Prelude.{◌≡◌, ◌≤◌, List, length}
 use Rattle.ts_base.specs.Limits.{most_requirements, most_terms}
+use Rattle.ts_bound.specs.TermSpans.{Automata}
 use Rattle.ts_compile.specs.Programs.{IsProgramOf}
 use Rattle.ts_model.specs.Views.{stated}
-use Rattle.ts_spans.specs.Machines.{spans_in}
+use Rattle.ts_spans.specs.Machines.{automata_in, spans_in}
 use Rattle.ts_search.specs.Asked.{AreRight}
 use Rattle.ts_search.specs.declared.problem.Problem.{Problem}
 
@@ -13,3 +14,7 @@ pub record IsPosed (q : Problem) : Type 0 where
   pub right : AreRight (stated q.model.now) (spans_in (stated q.model.now))
   pub terms : length q.model.now.terms.entries ≤ most_terms
   pub requirements : length q.model.now.requirements.items ≤ most_requirements
+
+-- they are the machines of its terms
+abbrev pub AreTablesOf : Problem → List Automata → Type 0
+AreTablesOf q tables = tables ≡ automata_in (stated q.model.now)

@@ -14,7 +14,7 @@ ghost use Rattle.ts_search.specs.Views.{find_of, search_of, state_of};
 
 use crate::dive::dive;
 use crate::found::FoundSeries;
-use crate::problem::Problem;
+use crate::problem::{Problem, tables_of};
 use crate::tree::{Tree, grow};
 use std::alloc::Global;
 use ts_base::{Goal, Memory};
@@ -47,8 +47,9 @@ pub fn solve(
         goal,
         warm: None,
     };
-    problem.warm = dive(alloc, &problem)?;
-    let tree = grow(alloc, &problem, budget)?;
+    let mut tables = tables_of(alloc, m, p)?;
+    problem.warm = dive(alloc, &problem, &mut tables)?;
+    let tree = grow(alloc, &problem, &mut tables, budget)?;
     certificate(alloc, problem, tree)
 }
 

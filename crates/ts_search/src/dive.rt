@@ -6,7 +6,7 @@ ghost use Rattle.ts_filter.specs.Boxes.{IsPart, only};
 ghost use Rattle.ts_search.specs.Dive.{dive, dive_end, kept_value};
 ghost use Rattle.ts_search.specs.Drops.{next_drop};
 ghost use Rattle.ts_search.specs.Forms.{form};
-ghost use Rattle.ts_search.specs.Posed.{IsPosed};
+ghost use Rattle.ts_search.specs.Posed.{AreTablesOf, IsPosed};
 ghost use Rattle.ts_search.specs.Views.{IsSettled, find_of, search_of};
 
 use crate::found::FoundSeries;
@@ -16,22 +16,29 @@ use std::alloc::Global;
 use ts_base::Memory;
 use ts_compile::judge::judge;
 use ts_domain::Boxed;
+use ts_filter::AllTables;
 use ts_frontier::{first_halving, only_series};
 
 /// The dive's series, where the one that is left meets. It ends early where a requirement is refuted on the way: no
 /// series that is left meets then.
-pub(crate) fn dive(alloc: Global, problem: &Problem<'_>) -> Result<Option<FoundSeries>, Memory>
-    requires { IsPosed problem.now }
-    ensures { IfOk result (λ found.
+pub(crate) fn dive(
+    alloc: Global,
+    problem: &Problem<'_>,
+    tables: &mut AllTables<'_>,
+) -> Result<Option<FoundSeries>, Memory>
+    requires posed { IsPosed problem.now }
+    requires tables { AreTablesOf problem.now tables.old }
+    ensures same { tables.new ≡ tables.old }
+    ensures found { IfOk result (λ found.
         find_of found ≡ dive (search_of problem.now).model (search_of problem.now).spans problem.now.goal) }
 {
     let mut cells = Boxed::new(alloc, &problem.model.cells)?;
-    if !settle(alloc, problem, &mut cells)? {
+    if !settle(alloc, problem, tables, &mut cells)? {
         return Ok(None);
     }
     for k in 1..cells.cells() + 1 {
-        keep_one(alloc, problem, k, &mut cells)?;
-        if !settle(alloc, problem, &mut cells)? {
+        keep_one(alloc, problem, tables, k, &mut cells)?;
+        if !settle(alloc, problem, tables, &mut cells)? {
             return Ok(None);
         }
     }
@@ -40,13 +47,20 @@ pub(crate) fn dive(alloc: Global, problem: &Problem<'_>) -> Result<Option<FoundS
 
 /// Makes the possible drops, one after the other, and answers whether none is left. It stops before where a
 /// requirement is refuted at the last cell.
-fn settle(alloc: Global, problem: &Problem<'_>, cells: &mut Boxed) -> Result<bool, Memory>
+fn settle(
+    alloc: Global,
+    problem: &Problem<'_>,
+    tables: &mut AllTables<'_>,
+    cells: &mut Boxed,
+) -> Result<bool, Memory>
     requires posed { IsPosed problem.now }
     requires part { IsPart cells.old.present (search_of problem.now).model.cells }
-    ensures { IfOk result (λ all. IsSettled (search_of problem.now) cells.old.present cells.new.present all) }
+    requires tables { AreTablesOf problem.now tables.old }
+    ensures same { tables.new ≡ tables.old }
+    ensures settled { IfOk result (λ all. IsSettled (search_of problem.now) cells.old.present cells.new.present all) }
 {
-    while refuted_requirement(alloc, problem, cells)?.is_none() {
-        match problem.next_drop(alloc, cells)? {
+    while refuted_requirement(alloc, problem, tables, cells)?.is_none() {
+        match problem.next_drop(alloc, tables, cells)? {
             Some(removal) => cells.remove(removal.cell, removal.value)?,
             None => return Ok(true),
         }
@@ -55,15 +69,23 @@ fn settle(alloc: Global, problem: &Problem<'_>, cells: &mut Boxed) -> Result<boo
 }
 
 /// Leaves cell `k` one value: the one that leaves the objective the best number open.
-fn keep_one(alloc: Global, problem: &Problem<'_>, k: u32, cells: &mut Boxed) -> Result<(), Memory>
+fn keep_one(
+    alloc: Global,
+    problem: &Problem<'_>,
+    tables: &mut AllTables<'_>,
+    k: u32,
+    cells: &mut Boxed,
+) -> Result<(), Memory>
     requires posed { IsPosed problem.now }
     requires part { IsPart cells.old.present (search_of problem.now).model.cells }
     requires cell { IsCell k cells.old }
-    ensures { OnOk result (cells.new.present ≡ only k
+    requires tables { AreTablesOf problem.now tables.old }
+    ensures same { tables.new ≡ tables.old }
+    ensures kept { OnOk result (cells.new.present ≡ only k
         (kept_value (search_of problem.now).model (search_of problem.now).spans problem.now.goal k cells.old.present)
         cells.old.present) }
 {
-    let v = problem.kept_value(alloc, k, cells)?;
+    let v = problem.kept_value(alloc, tables, k, cells)?;
     cells.keep_low(k, v)?;
     cells.keep_high(k, v - 1)?;
     Ok(())

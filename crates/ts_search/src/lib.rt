@@ -6,7 +6,8 @@
 //! comes but want of memory.
 //!
 //! One pure function says the line of a box; the code asks its tests one after the other and stops at the first that
-//! holds. A box that waits is a mark on a trail and one change. Each test makes its hull tables anew.
+//! holds. A box that waits is a mark on a trail and one change. The tests share the rows of hulls of a box, and those
+//! that a change doesn't reach serve the next box.
 //!
 //! ```text
 //! let program = compile_model(alloc, &model)?;

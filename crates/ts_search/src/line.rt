@@ -4,7 +4,7 @@ ghost use Rattle.std.specs.Prelude.{◌≡◌, IfOk, None};
 ghost use Rattle.ts_certificate.specs.declared.certificate.Aim.TheVariants.{Best as BestOf, List as ListOf};
 ghost use Rattle.ts_filter.specs.Boxes.{IsPart};
 ghost use Rattle.ts_search.specs.LineOf.{branch_line, first_no, line_of, refuted_last, requirements, wide_line};
-ghost use Rattle.ts_search.specs.Posed.{IsPosed};
+ghost use Rattle.ts_search.specs.Posed.{AreTablesOf, IsPosed};
 ghost use Rattle.ts_search.specs.Views.{find_of, search_of};
 
 use crate::found::FoundSeries;
@@ -13,21 +13,25 @@ use std::alloc::Global;
 use ts_base::Memory;
 use ts_certificate::TreeLine;
 use ts_domain::Boxed;
+use ts_filter::AllTables;
 use ts_frontier::{Halving, first_halving};
 
 /// The line of a box in the search for the best series, where this one was found before.
 pub(crate) fn solve_line(
     alloc: Global,
     problem: &Problem<'_>,
+    tables: &mut AllTables<'_>,
     cells: &Boxed,
     found: &Option<FoundSeries>,
 ) -> Result<TreeLine, Memory>
     requires posed { IsPosed problem.now }
     requires part { IsPart cells.now.present (search_of problem.now).model.cells }
-    ensures { IfOk result (λ l.
+    requires tables { AreTablesOf problem.now tables.old }
+    ensures same { tables.new ≡ tables.old }
+    ensures line { IfOk result (λ l.
         l ≡ line_of (search_of problem.now) (BestOf problem.now.goal) (find_of found.now) cells.now.present) }
 {
-    if let Some(j) = refuted_requirement(alloc, problem, cells)? {
+    if let Some(j) = refuted_requirement(alloc, problem, tables, cells)? {
         let p = problem.last();
         return Ok(TreeLine::No { j, p });
     }
@@ -35,49 +39,55 @@ pub(crate) fn solve_line(
         let p = problem.last();
         return Ok(TreeLine::Worse { p });
     };
-    if problem.is_cut(alloc, found, cells)? {
+    if problem.is_cut(alloc, tables, found, cells)? {
         let p = problem.last();
         return Ok(TreeLine::Worse { p });
     }
-    inner_line(alloc, problem, cells, found, halving)
+    inner_line(alloc, problem, tables, cells, found, halving)
 }
 
 /// The line of a box in a listing of up to `count` series.
 pub(crate) fn listing_line(
     alloc: Global,
     problem: &Problem<'_>,
+    tables: &mut AllTables<'_>,
     cells: &Boxed,
     count: u32,
 ) -> Result<TreeLine, Memory>
     requires posed { IsPosed problem.now }
     requires part { IsPart cells.now.present (search_of problem.now).model.cells }
-    ensures { IfOk result (λ l. l ≡ line_of (search_of problem.now) (ListOf count) None cells.now.present) }
+    requires tables { AreTablesOf problem.now tables.old }
+    ensures same { tables.new ≡ tables.old }
+    ensures line { IfOk result (λ l. l ≡ line_of (search_of problem.now) (ListOf count) None cells.now.present) }
 {
-    if let Some(j) = refuted_requirement(alloc, problem, cells)? {
+    if let Some(j) = refuted_requirement(alloc, problem, tables, cells)? {
         let p = problem.last();
         return Ok(TreeLine::No { j, p });
     }
     let Some(halving) = first_halving(cells) else {
         return Ok(TreeLine::Yes);
     };
-    if let Some(line) = inner_no(alloc, problem, cells)? {
+    if let Some(line) = inner_no(alloc, problem, tables, cells)? {
         return Ok(line);
     }
-    branch(alloc, problem, cells, halving)
+    branch(alloc, problem, tables, cells, halving)
 }
 
 /// The least requirement that is refuted at the last cell.
 pub(crate) fn refuted_requirement(
     alloc: Global,
     problem: &Problem<'_>,
+    tables: &mut AllTables<'_>,
     cells: &Boxed,
 ) -> Result<Option<u32>, Memory>
     requires posed { IsPosed problem.now }
     requires part { IsPart cells.now.present (search_of problem.now).model.cells }
-    ensures { IfOk result (λ found. found ≡ refuted_last (search_of problem.now) cells.now.present) }
+    requires tables { AreTablesOf problem.now tables.old }
+    ensures same { tables.new ≡ tables.old }
+    ensures found { IfOk result (λ found. found ≡ refuted_last (search_of problem.now) cells.now.present) }
 {
     for j in 1..problem.requirements() + 1 {
-        if problem.is_refuted(alloc, j, cells)? {
+        if problem.is_refuted(alloc, tables, j, cells)? {
             return Ok(Some(j));
         }
     }
@@ -88,33 +98,43 @@ pub(crate) fn refuted_requirement(
 fn inner_line(
     alloc: Global,
     problem: &Problem<'_>,
+    tables: &mut AllTables<'_>,
     cells: &Boxed,
     found: &Option<FoundSeries>,
     halving: Halving,
 ) -> Result<TreeLine, Memory>
     requires posed { IsPosed problem.now }
     requires part { IsPart cells.now.present (search_of problem.now).model.cells }
-    ensures { IfOk result (λ l. l ≡ wide_line (search_of problem.now) (BestOf problem.now.goal) (find_of found.now)
+    requires tables { AreTablesOf problem.now tables.old }
+    ensures same { tables.new ≡ tables.old }
+    ensures line { IfOk result (λ l. l ≡ wide_line (search_of problem.now) (BestOf problem.now.goal) (find_of found.now)
         cells.now.present halving.cell halving.at) }
 {
-    if let Some(line) = inner_no(alloc, problem, cells)? {
+    if let Some(line) = inner_no(alloc, problem, tables, cells)? {
         return Ok(line);
     }
-    if let Some(p) = problem.first_cut(alloc, found, cells)? {
+    if let Some(p) = problem.first_cut(alloc, tables, found, cells)? {
         return Ok(TreeLine::Worse { p });
     }
-    branch(alloc, problem, cells, halving)
+    branch(alloc, problem, tables, cells, halving)
 }
 
 /// The least requirement that is refuted at a cell below the last, and the least such cell.
-fn inner_no(alloc: Global, problem: &Problem<'_>, cells: &Boxed) -> Result<Option<TreeLine>, Memory>
+fn inner_no(
+    alloc: Global,
+    problem: &Problem<'_>,
+    tables: &mut AllTables<'_>,
+    cells: &Boxed,
+) -> Result<Option<TreeLine>, Memory>
     requires posed { IsPosed problem.now }
     requires part { IsPart cells.now.present (search_of problem.now).model.cells }
-    ensures { IfOk result (λ line.
+    requires tables { AreTablesOf problem.now tables.old }
+    ensures same { tables.new ≡ tables.old }
+    ensures line { IfOk result (λ line.
         line ≡ first_no (search_of problem.now) cells.now.present (requirements (search_of problem.now)) 1) }
 {
     for j in 1..problem.requirements() + 1 {
-        if let Some(p) = problem.first_refuted(alloc, j, cells)? {
+        if let Some(p) = problem.first_refuted(alloc, tables, j, cells)? {
             return Ok(Some(TreeLine::No { j, p }));
         }
     }
@@ -125,15 +145,18 @@ fn inner_no(alloc: Global, problem: &Problem<'_>, cells: &Boxed) -> Result<Optio
 fn branch(
     alloc: Global,
     problem: &Problem<'_>,
+    tables: &mut AllTables<'_>,
     cells: &Boxed,
     halving: Halving,
 ) -> Result<TreeLine, Memory>
     requires posed { IsPosed problem.now }
     requires part { IsPart cells.now.present (search_of problem.now).model.cells }
-    ensures { IfOk result
+    requires tables { AreTablesOf problem.now tables.old }
+    ensures same { tables.new ≡ tables.old }
+    ensures line { IfOk result
         (λ l. l ≡ branch_line (search_of problem.now) cells.now.present halving.cell halving.at) }
 {
-    match problem.next_drop(alloc, cells)? {
+    match problem.next_drop(alloc, tables, cells)? {
         Some(removal) => Ok(TreeLine::Remove {
             k: removal.cell,
             v: removal.value,

@@ -11,19 +11,20 @@ ghost use Rattle.ts_model.specs.Promise.{IsWhole, KeepsLimits};
 ghost use Rattle.ts_model.specs.Views.{stated};
 ghost use Rattle.ts_search.specs.Forms.{form};
 ghost use Rattle.ts_search.specs.Listed.{Listed};
-ghost use Rattle.ts_search.specs.Posed.{IsPosed};
+ghost use Rattle.ts_search.specs.Posed.{AreTablesOf, IsPosed};
 ghost use Rattle.ts_spans.specs.Machines.{spans_in};
 ghost use Rattle.ts_search.specs.Turns.{list_certificate, list_claim, list_start, list_turn, list_turns, listed_after};
 ghost use Rattle.ts_search.specs.Views.{list_state_of, search_of};
 
 use crate::best::push_open;
 use crate::line::listing_line;
-use crate::problem::Problem;
+use crate::problem::{Problem, tables_of};
 use std::alloc::Global;
 use ts_base::{Goal, Memory};
 use ts_certificate::{Aim, Certificate, Claim, TreeLine};
 use ts_compile::Program;
 use ts_domain::Boxed;
+use ts_filter::AllTables;
 use ts_frontier::{Frontier, first_halving, follow, only_series};
 use ts_model::Model;
 
@@ -57,7 +58,8 @@ pub fn list(
         goal: Goal::Maximise,
         warm: None,
     };
-    let tree = list_grow(alloc, &problem, count, budget)?;
+    let mut tables = tables_of(alloc, m, p)?;
+    let tree = list_grow(alloc, &problem, &mut tables, count, budget)?;
     certificate(count, tree)
 }
 
@@ -65,10 +67,13 @@ pub fn list(
 fn list_grow(
     alloc: Global,
     problem: &Problem<'_>,
+    tables: &mut AllTables<'_>,
     count: u32,
     budget: u64,
 ) -> Result<ListTree, Memory>
-    requires { IsPosed problem.now }
+    requires posed { IsPosed problem.now }
+    requires tables { AreTablesOf problem.now tables.old }
+    ensures same { tables.new ≡ tables.old }
     ensures few { IfOk result (λ t. length t.listed.items ≤ count) }
     ensures turns { IfOk result (λ t. list_state_of t
         ≡ list_turns (search_of problem.now) count budget (list_start (search_of problem.now))) }
@@ -86,7 +91,7 @@ fn list_grow(
         if tree.frontier.is_empty() {
             return Ok(tree);
         }
-        list_treat(alloc, problem, count, &mut tree)?;
+        list_treat(alloc, problem, tables, count, &mut tree)?;
     }
     Ok(tree)
 }
@@ -95,19 +100,22 @@ fn list_grow(
 fn list_treat(
     alloc: Global,
     problem: &Problem<'_>,
+    tables: &mut AllTables<'_>,
     count: u32,
     tree: &mut ListTree,
 ) -> Result<(), Memory>
     requires posed { IsPosed problem.now }
     requires parts { AllByRecursion (λ b. IsPart b (search_of problem.now).model.cells) tree.old.frontier.boxes }
     requires room { length tree.old.listed.items < count }
-    ensures { OnOk result
+    requires tables { AreTablesOf problem.now tables.old }
+    ensures same { tables.new ≡ tables.old }
+    ensures turn { OnOk result
         (list_state_of tree.new ≡ list_turn (search_of problem.now) count (list_state_of tree.old)) }
 {
     if !tree.frontier.advance()? {
         return Ok(());
     }
-    let line = listing_line(alloc, problem, tree.frontier.present(), count)?;
+    let line = listing_line(alloc, problem, tables, tree.frontier.present(), count)?;
     tree.lines.push(line)?;
     listed_now(alloc, tree.frontier.present(), line, &mut tree.listed)?;
     follow(&mut tree.frontier, &line)

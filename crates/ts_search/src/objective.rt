@@ -8,7 +8,7 @@ ghost use Rattle.ts_filter.specs.Excluded.{counts, is_better};
 ghost use Rattle.ts_search.specs.Dive.{kept_value, least_value, value_of};
 ghost use Rattle.ts_search.specs.Drops.{least};
 ghost use Rattle.ts_search.specs.LineOf.{bar_of, counts_for, cut, cut_by, inner, last};
-ghost use Rattle.ts_search.specs.Posed.{IsPosed};
+ghost use Rattle.ts_search.specs.Posed.{AreTablesOf, IsPosed};
 ghost use Rattle.ts_search.specs.Views.{find_of, search_of};
 
 use crate::found::FoundSeries;
@@ -17,7 +17,7 @@ use std::alloc::Global;
 use ts_base::{Ext, Goal, Memory};
 use ts_compile::value_of;
 use ts_domain::{Boxed, Domain};
-use ts_filter::{Bar, cut_at_end, first_cut, kept_value};
+use ts_filter::{AllTables, Bar};
 
 impl<'a> Problem<'a> {
     /// What a series has to reach: to be better than the found one, or as good as the dive's where none was found.
@@ -35,29 +35,40 @@ impl<'a> Problem<'a> {
     pub(crate) fn is_cut(
         &self,
         alloc: Global,
+        tables: &mut AllTables<'_>,
         found: &Option<FoundSeries>,
         cells: &Boxed,
     ) -> Result<bool, Memory>
         requires posed { IsPosed self.now }
         requires part { IsPart cells.now.present (search_of self.now).model.cells }
-        ensures { IfOk result (λ told. told ≡ cut_by (search_of self.now)
+        requires tables { AreTablesOf self.now tables.old }
+        ensures same { tables.new ≡ tables.old }
+        ensures told { IfOk result (λ told. told ≡ cut_by (search_of self.now)
             (bar_of (find_of found.now) (search_of self.now).warm) (last (search_of self.now)) cells.now.present) }
     {
         match self.bar(found) {
-            Some(bar) => self.is_cut_by(alloc, bar, cells),
+            Some(bar) => self.is_cut_by(alloc, tables, bar, cells),
             None => Ok(false),
         }
     }
 
     /// Whether none reaches the bar; never where the model has no objective.
-    fn is_cut_by(&self, alloc: Global, bar: Bar, cells: &Boxed) -> Result<bool, Memory>
+    fn is_cut_by(
+        &self,
+        alloc: Global,
+        tables: &mut AllTables<'_>,
+        bar: Bar,
+        cells: &Boxed,
+    ) -> Result<bool, Memory>
         requires posed { IsPosed self.now }
         requires part { IsPart cells.now.present (search_of self.now).model.cells }
-        ensures { IfOk result
+        requires tables { AreTablesOf self.now tables.old }
+        ensures same { tables.new ≡ tables.old }
+        ensures told { IfOk result
             (λ told. told ≡ cut (search_of self.now) (last (search_of self.now)) cells.now.present bar) }
     {
         match self.model.objective {
-            Some(term) => cut_at_end(alloc, self.machine(term), self.goal, cells, bar),
+            Some(term) => tables.cut_at_end(alloc, term, self.goal, cells, bar),
             None => Ok(false),
         }
     }
@@ -66,29 +77,40 @@ impl<'a> Problem<'a> {
     pub(crate) fn first_cut(
         &self,
         alloc: Global,
+        tables: &mut AllTables<'_>,
         found: &Option<FoundSeries>,
         cells: &Boxed,
     ) -> Result<Option<u32>, Memory>
         requires posed { IsPosed self.now }
         requires part { IsPart cells.now.present (search_of self.now).model.cells }
-        ensures { let bar = bar_of (find_of found.now) (search_of self.now).warm in IfOk result (λ cell.
+        requires tables { AreTablesOf self.now tables.old }
+        ensures same { tables.new ≡ tables.old }
+        ensures found { let bar = bar_of (find_of found.now) (search_of self.now).warm in IfOk result (λ cell.
             cell ≡ least (λ p. cut_by (search_of self.now) bar p cells.now.present) (inner (search_of self.now)) 1) }
     {
         match self.bar(found) {
-            Some(bar) => self.first_cut_by(alloc, bar, cells),
+            Some(bar) => self.first_cut_by(alloc, tables, bar, cells),
             None => Ok(None),
         }
     }
 
     /// The same for a bar; none where the model has no objective.
-    fn first_cut_by(&self, alloc: Global, bar: Bar, cells: &Boxed) -> Result<Option<u32>, Memory>
+    fn first_cut_by(
+        &self,
+        alloc: Global,
+        tables: &mut AllTables<'_>,
+        bar: Bar,
+        cells: &Boxed,
+    ) -> Result<Option<u32>, Memory>
         requires posed { IsPosed self.now }
         requires part { IsPart cells.now.present (search_of self.now).model.cells }
-        ensures { IfOk result (λ cell.
+        requires tables { AreTablesOf self.now tables.old }
+        ensures same { tables.new ≡ tables.old }
+        ensures found { IfOk result (λ cell.
             cell ≡ least (λ p. cut (search_of self.now) p cells.now.present bar) (inner (search_of self.now)) 1) }
     {
         match self.model.objective {
-            Some(term) => first_cut(alloc, self.machine(term), self.goal, cells, bar),
+            Some(term) => tables.first_cut(alloc, term, self.goal, cells, bar),
             None => Ok(None),
         }
     }
@@ -105,15 +127,23 @@ impl<'a> Problem<'a> {
     }
 
     /// The value that cell `k` keeps in the dive: the least where the model has no objective.
-    pub(crate) fn kept_value(&self, alloc: Global, k: u32, cells: &Boxed) -> Result<i64, Memory>
+    pub(crate) fn kept_value(
+        &self,
+        alloc: Global,
+        tables: &mut AllTables<'_>,
+        k: u32,
+        cells: &Boxed,
+    ) -> Result<i64, Memory>
         requires posed { IsPosed self.now }
         requires part { IsPart cells.now.present (search_of self.now).model.cells }
         requires cell { IsCell k cells.now }
-        ensures { IfOk result (λ v. v ≡ kept_value (search_of self.now).model (search_of self.now).spans self.now.goal k
+        requires tables { AreTablesOf self.now tables.old }
+        ensures same { tables.new ≡ tables.old }
+        ensures kept { IfOk result (λ v. v ≡ kept_value (search_of self.now).model (search_of self.now).spans self.now.goal k
             cells.now.present) }
     {
         match self.model.objective {
-            Some(term) => kept_value(alloc, self.machine(term), self.goal, k, cells),
+            Some(term) => tables.kept_value(alloc, term, self.goal, k, cells),
             None => Ok(least(cells.cell(k))),
         }
     }

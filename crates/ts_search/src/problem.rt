@@ -1,21 +1,22 @@
 //! A model with its program, and what its requirements exclude on a box.
 
-ghost use Rattle.std.specs.Prelude.{◌≡◌, ◌≤◌, ◌<◌, IfOk, Some, length, slice_get};
+ghost use Rattle.std.specs.Prelude.{◌≡◌, ◌≤◌, IfOk};
 ghost use Rattle.ts_base.specs.Limits.{most_requirements};
-ghost use Rattle.ts_compile.specs.Programs.{machines_of};
+ghost use Rattle.ts_compile.specs.Programs.{IsProgramOf};
 ghost use Rattle.ts_filter.specs.Boxes.{IsPart};
+ghost use Rattle.ts_model.specs.Views.{stated};
 ghost use Rattle.ts_search.specs.Drops.{least, next_drop};
 ghost use Rattle.ts_search.specs.LineOf.{inner, last, refuted, requirements};
-ghost use Rattle.ts_search.specs.Posed.{IsPosed};
+ghost use Rattle.ts_search.specs.Posed.{AreTablesOf, IsPosed};
 ghost use Rattle.ts_search.specs.Views.{removal_of, search_of};
+ghost use Rattle.ts_spans.specs.Machines.{automata_in};
 
 use crate::found::FoundSeries;
 use std::alloc::Global;
 use ts_base::{Goal, Memory};
 use ts_compile::Program;
 use ts_domain::Boxed;
-use ts_filter::{Removal, first_refuted, next_drop, refuted};
-use ts_glue::Machine;
+use ts_filter::{AllTables, Removal};
 use ts_model::Model;
 
 /// A model with its program and a goal; and the series of the dive, where there is one. A listing has neither goal nor
@@ -46,39 +47,32 @@ impl<'a> Problem<'a> {
         self.model.requirements.len() as u32
     }
 
-    /// The machine of a term.
-    pub(crate) fn machine(&self, term: u32) -> &Machine
-        requires posed { IsPosed self.now }
-        requires there { term < length (search_of self.now).model.terms }
-        ensures { slice_get (machines_of self.now.program.now) term ≡ Some result.now }
-    {
-        let machines = self.program.machines();
-        &machines[term as usize]
-    }
-
     /// Whether requirement `j`, counted from 1, is refuted at the last cell.
-    pub(crate) fn is_refuted(&self, alloc: Global, j: u32, cells: &Boxed) -> Result<bool, Memory>
+    pub(crate) fn is_refuted(
+        &self,
+        alloc: Global,
+        tables: &mut AllTables<'_>,
+        j: u32,
+        cells: &Boxed,
+    ) -> Result<bool, Memory>
         requires posed { IsPosed self.now }
         requires from { 1 ≤ j }
         requires to { j ≤ requirements (search_of self.now) }
         requires part { IsPart cells.now.present (search_of self.now).model.cells }
-        ensures { IfOk result
+        requires tables { AreTablesOf self.now tables.old }
+        ensures same { tables.new ≡ tables.old }
+        ensures told { IfOk result
             (λ told. told ≡ refuted (search_of self.now) j (last (search_of self.now)) cells.now.present) }
     {
         let require = &self.model.requirements[j as usize - 1];
-        refuted(
-            alloc,
-            self.machine(require.term),
-            require,
-            cells.cells(),
-            cells,
-        )
+        tables.refuted(alloc, require, cells.cells(), cells)
     }
 
     /// The least cell below the last at which requirement `j` is refuted.
     pub(crate) fn first_refuted(
         &self,
         alloc: Global,
+        tables: &mut AllTables<'_>,
         j: u32,
         cells: &Boxed,
     ) -> Result<Option<u32>, Memory>
@@ -86,25 +80,51 @@ impl<'a> Problem<'a> {
         requires from { 1 ≤ j }
         requires to { j ≤ requirements (search_of self.now) }
         requires part { IsPart cells.now.present (search_of self.now).model.cells }
-        ensures { IfOk result (λ found.
+        requires tables { AreTablesOf self.now tables.old }
+        ensures same { tables.new ≡ tables.old }
+        ensures found { IfOk result (λ found.
             found ≡ least (λ p. refuted (search_of self.now) j p cells.now.present) (inner (search_of self.now)) 1) }
     {
         let require = &self.model.requirements[j as usize - 1];
-        first_refuted(alloc, self.machine(require.term), require, cells)
+        tables.first_refuted(alloc, require, cells)
     }
 
     /// The drop that comes next.
-    pub(crate) fn next_drop(&self, alloc: Global, cells: &Boxed) -> Result<Option<Removal>, Memory>
+    pub(crate) fn next_drop(
+        &self,
+        alloc: Global,
+        tables: &mut AllTables<'_>,
+        cells: &Boxed,
+    ) -> Result<Option<Removal>, Memory>
         requires posed { IsPosed self.now }
         requires part { IsPart cells.now.present (search_of self.now).model.cells }
-        ensures { IfOk result (λ found.
+        requires tables { AreTablesOf self.now tables.old }
+        ensures same { tables.new ≡ tables.old }
+        ensures found { IfOk result (λ found.
             removal_of found ≡ next_drop (search_of self.now).model (search_of self.now).spans cells.now.present) }
     {
-        next_drop(
-            alloc,
-            self.program.machines(),
-            &self.model.requirements,
-            cells,
-        )
+        tables.next_drop(alloc, &self.model.requirements, cells)
     }
+}
+
+/// The tables of the terms of a model whose program this is. They are kept from box to box while those of the model's
+/// box take little memory.
+pub(crate) fn tables_of<'a>(
+    alloc: Global,
+    m: &Model,
+    p: &'a Program,
+) -> Result<AllTables<'a>, Memory>
+    requires { IsProgramOf p.now m.now }
+    ensures { IfOk result (λ t. t ≡ automata_in (stated m.now)) }
+{
+    AllTables::new(alloc, p.machines(), values_of(m))
+}
+
+/// How many values all cells have together.
+fn values_of(m: &Model) -> u64 {
+    let mut values = 0u64;
+    for domain in &m.cells {
+        values = values.saturating_add(domain.size());
+    }
+    values
 }

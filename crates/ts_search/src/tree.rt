@@ -6,7 +6,7 @@ ghost use Rattle.ts_certificate.specs.declared.certificate.Aim.TheVariants.{Best
 ghost use Rattle.ts_certificate.specs.declared.certificate.TreeLine.TheVariants.{Worse as WorseLine};
 ghost use Rattle.ts_filter.specs.Boxes.{IsPart};
 ghost use Rattle.ts_search.specs.Forms.{form};
-ghost use Rattle.ts_search.specs.Posed.{IsPosed};
+ghost use Rattle.ts_search.specs.Posed.{AreTablesOf, IsPosed};
 ghost use Rattle.ts_search.specs.Turns.{found_after, start, turn, turns};
 ghost use Rattle.ts_search.specs.Views.{find_of, search_of, state_of};
 
@@ -17,6 +17,7 @@ use std::alloc::Global;
 use ts_base::Memory;
 use ts_certificate::TreeLine;
 use ts_domain::Boxed;
+use ts_filter::AllTables;
 use ts_frontier::{Frontier, first_halving, follow, only_series};
 
 /// The lines so far, the boxes that wait for theirs, and the best series that was found.
@@ -28,9 +29,16 @@ pub(crate) struct Tree {
 }
 
 /// The tree after at most `budget` lines, or when no box waits any more.
-pub(crate) fn grow(alloc: Global, problem: &Problem<'_>, budget: u64) -> Result<Tree, Memory>
-    requires { IsPosed problem.now }
-    ensures { IfOk result (λ t. state_of t
+pub(crate) fn grow(
+    alloc: Global,
+    problem: &Problem<'_>,
+    tables: &mut AllTables<'_>,
+    budget: u64,
+) -> Result<Tree, Memory>
+    requires posed { IsPosed problem.now }
+    requires tables { AreTablesOf problem.now tables.old }
+    ensures same { tables.new ≡ tables.old }
+    ensures turns { IfOk result (λ t. state_of t
         ≡ turns (search_of problem.now) (BestOf problem.now.goal) budget (start (search_of problem.now))) }
 {
     let root = Boxed::new(alloc, &problem.model.cells)?;
@@ -43,22 +51,29 @@ pub(crate) fn grow(alloc: Global, problem: &Problem<'_>, budget: u64) -> Result<
         if tree.frontier.is_empty() {
             return Ok(tree);
         }
-        treat(alloc, problem, &mut tree)?;
+        treat(alloc, problem, tables, &mut tree)?;
     }
     Ok(tree)
 }
 
 /// One turn: the next box gets its line.
-fn treat(alloc: Global, problem: &Problem<'_>, tree: &mut Tree) -> Result<(), Memory>
+fn treat(
+    alloc: Global,
+    problem: &Problem<'_>,
+    tables: &mut AllTables<'_>,
+    tree: &mut Tree,
+) -> Result<(), Memory>
     requires posed { IsPosed problem.now }
     requires parts { AllByRecursion (λ b. IsPart b (search_of problem.now).model.cells) tree.old.frontier.boxes }
-    ensures { OnOk result
+    requires tables { AreTablesOf problem.now tables.old }
+    ensures same { tables.new ≡ tables.old }
+    ensures turn { OnOk result
         (state_of tree.new ≡ turn (search_of problem.now) (BestOf problem.now.goal) (state_of tree.old)) }
 {
     if !tree.frontier.advance()? {
         return Ok(());
     }
-    let line = solve_line(alloc, problem, tree.frontier.present(), &tree.found)?;
+    let line = solve_line(alloc, problem, tables, tree.frontier.present(), &tree.found)?;
     tree.lines.push(line)?;
     let found = tree.found.take();
     tree.found = found_now(alloc, problem, tree.frontier.present(), line, found)?;

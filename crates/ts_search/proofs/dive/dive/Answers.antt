@@ -10,78 +10,78 @@ use Rattle.ts_search.proofs.DiveSteps.{cell_there, end_is, ends_early, ends_firs
 use Rattle.ts_search.proofs.dive.dive.Goals as goal
 
 pub new-requires : goal.new-requires
-new-requires c = let few = c.requires.right.whole.few in let same = ap length c.deref.ensures.value in omega (arith, few, same)
+new-requires c = let few = c.requires.posed.right.whole.few in let same = ap length c.deref.ensures.value in omega (arith, few, same)
 
 -- the first box is the model's
 pub settle-requires-clause-part : goal.settle-requires-clause-part
 settle-requires-clause-part c =
     let s = search_of c.args.problem.now in
-    subst (λ b. IsPart b s.model.cells) (sym (ap (λ z. z.present) c.in_ok-cells.ensures ∙ c.deref.ensures.value)) (part_self s.model.cells c.requires.right.box)
+    subst (λ b. IsPart b s.model.cells) (sym (ap (λ z. z.present) c.in_ok-cells.ensures ∙ c.deref.ensures.value)) (part_self s.model.cells c.requires.posed.right.box)
 
 -- a requirement is refuted before any cell has kept its value
-pub returns-then-not-branch : goal.returns-then-not-branch
-returns-then-not-branch c =
+pub returns-then-not-branch-clause-found : goal.returns-then-not-branch-clause-found
+returns-then-not-branch-clause-found c =
     let s = search_of c.args.problem.now in
-    settled_early s s.goal (values_are_sound s.model s.spans c.requires.right.holds) s.model.cells c.settle.new.cells.present (length s.model.cells) 1
+    settled_early s s.goal (values_are_sound s.model s.spans c.requires.posed.right.holds) s.model.cells c.settle.new.cells.present (length s.model.cells) 1
     (omega arith) (omega arith)
     (subst (λ b. IsSettled s b c.settle.new.cells.present false) (ap (λ z. z.present) c.in_ok-cells.ensures ∙ c.deref.ensures.value)
-    (subst (IsSettled s _ c.settle.new.cells.present) c.if-not-branch.true c.in_ok-settle.ensures))
+    (subst (IsSettled s _ c.settle.new.cells.present) c.if-not-branch.true c.in_ok-settle.ensures.settled))
 
 pub loop-k-init : goal.loop-k-init
 loop-k-init c =
     let s = search_of c.args.problem.now in
     let settled = subst (λ b. IsSettled s b c.settle.new.cells.present true) (ap (λ z. z.present) c.in_ok-cells.ensures ∙ c.deref.ensures.value)
-    (subst (IsSettled s _ c.settle.new.cells.present) c.if-not-branch.false c.in_ok-settle.ensures) in
+    (subst (IsSettled s _ c.settle.new.cells.present) c.if-not-branch.false c.in_ok-settle.ensures.settled) in
     record {
+      same = c.settle.ensures.same;
       part = settled.part;
-      ends = ends_first s.model s.spans s.goal c.settle.new.cells.present (length s.model.cells)
-          (settled_all s s.model.cells c.settle.new.cells.present settled) refl;
+      ends = ends_first s.model s.spans s.goal c.settle.new.cells.present (length s.model.cells) (settled_all s s.model.cells c.settle.new.cells.present settled) refl;
     }
 
 -- a model has few cells
 pub overflow_add-k-end : goal.overflow_add-k-end
 overflow_add-k-end c =
     let s = search_of c.args.problem.now in
-    let end = end_is s c.settle.new.cells.present c.cells-k-end.result (settled_part s _ c.settle.new.cells.present _ c.in_ok-settle.ensures)
+    let end = end_is s c.settle.new.cells.present c.cells-k-end.result (settled_part s _ c.settle.new.cells.present _ c.in_ok-settle.ensures.settled)
     c.cells-k-end.ensures.count in
-    let few = c.requires.right.whole.few in omega (arith, end, few)
+    let few = c.requires.posed.right.whole.few in omega (arith, end, few)
 
 -- the end of the loop over the cells is told by the number of cells of the box before it, which is that of the model
 pub keep_one-requires-clause-cell : goal.keep_one-requires-clause-cell
 keep_one-requires-clause-cell c =
     let s = search_of c.args.problem.now in
-    let end = end_is s c.settle.new.cells.present c.cells-k-end.result (settled_part s _ c.settle.new.cells.present _ c.in_ok-settle.ensures)
+    let end = end_is s c.settle.new.cells.present c.cells-k-end.result (settled_part s _ c.settle.new.cells.present _ c.in_ok-settle.ensures.settled)
     c.cells-k-end.ensures.count in
     cell_there s c.loop-k.cells.present c.loop-k.k c.cells-k-end.result c.loop-k.invariant.part (omega arith) c.loop-k-test.true end
 
 pub settle-requires-in-loop-k-clause-part : goal.settle-requires-in-loop-k-clause-part
 settle-requires-in-loop-k-clause-part c =
     let s = search_of c.args.problem.now in
-    let end = end_is s c.settle.new.cells.present c.cells-k-end.result (settled_part s _ c.settle.new.cells.present _ c.in_ok-settle.ensures)
+    let end = end_is s c.settle.new.cells.present c.cells-k-end.result (settled_part s _ c.settle.new.cells.present _ c.in_ok-settle.ensures.settled)
     c.cells-k-end.ensures.count in
     kept_inside s s.goal c.loop-k.k c.loop-k.cells.present c.keep_one.new.cells.present c.loop-k.invariant.part
     (cell_there s c.loop-k.cells.present c.loop-k.k c.cells-k-end.result c.loop-k.invariant.part (omega arith) c.loop-k-test.true end)
-    c.in_ok-keep_one.ensures
+    c.in_ok-keep_one.ensures.kept
 
 -- a requirement is refuted once a cell has kept its value
-pub returns-then-not-branch-2 : goal.returns-then-not-branch-2
-returns-then-not-branch-2 c =
+pub returns-then-not-branch-2-clause-found : goal.returns-then-not-branch-2-clause-found
+returns-then-not-branch-2-clause-found c =
     let s = search_of c.args.problem.now in
     let n = length s.model.cells in
     let k = c.loop-k.k in
-    let end = end_is s c.settle.new.cells.present c.cells-k-end.result (settled_part s _ c.settle.new.cells.present _ c.in_ok-settle.ensures)
+    let end = end_is s c.settle.new.cells.present c.cells-k-end.result (settled_part s _ c.settle.new.cells.present _ c.in_ok-settle.ensures.settled)
     c.cells-k-end.ensures.count in
     let below = within_cells k c.cells-k-end.result n c.loop-k-test.true end in
-    ends_early s.model s.spans s.goal c.loop-k.cells.present c.keep_one.new.cells.present n k _ below c.in_ok-keep_one.ensures
+    ends_early s.model s.spans s.goal c.loop-k.cells.present c.keep_one.new.cells.present n k _ below c.in_ok-keep_one.ensures.kept
     c.loop-k.invariant.ends
-    (settled_early s s.goal (values_are_sound s.model s.spans c.requires.right.holds) c.keep_one.new.cells.present c.settle-in-loop-k.new.cells.present
-    (n + 1 - (k + 1)) (suc k) (omega arith) (omega (arith, below)) (subst (IsSettled s _ _) c.if-not-branch-2.true c.in_ok-settle-2.ensures))
+    (settled_early s s.goal (values_are_sound s.model s.spans c.requires.posed.right.holds) c.keep_one.new.cells.present c.settle-in-loop-k.new.cells.present
+    (n + 1 - (k + 1)) (suc k) (omega arith) (omega (arith, below)) (subst (IsSettled s _ _) c.if-not-branch-2.true c.in_ok-settle-2.ensures.settled))
 
 -- the series that is left
-pub returns : goal.returns
-returns c =
+pub returns-clause-found : goal.returns-clause-found
+returns-clause-found c =
     let s = search_of c.args.problem.now in
-    let end = end_is s c.settle.new.cells.present c.cells-k-end.result (settled_part s _ c.settle.new.cells.present _ c.in_ok-settle.ensures)
+    let end = end_is s c.settle.new.cells.present c.cells-k-end.result (settled_part s _ c.settle.new.cells.present _ c.in_ok-settle.ensures.settled)
     c.cells-k-end.ensures.count in
     let above = c.loop-k-test.false in
     IfOk-weaker c.series_left.result (λ f. find_of f ≡ dive_end s.model (form c.loop-k.cells.present)) (λ f. find_of f ≡ dive s.model s.spans s.goal)
@@ -94,13 +94,14 @@ loop-k-preserved c =
     let s = search_of c.args.problem.now in
     let n = length s.model.cells in
     let k = c.loop-k.k in
-    let end = end_is s c.settle.new.cells.present c.cells-k-end.result (settled_part s _ c.settle.new.cells.present _ c.in_ok-settle.ensures)
+    let end = end_is s c.settle.new.cells.present c.cells-k-end.result (settled_part s _ c.settle.new.cells.present _ c.in_ok-settle.ensures.settled)
     c.cells-k-end.ensures.count in
     let below = within_cells k c.cells-k-end.result n c.loop-k-test.true end in
-    let settled = subst (IsSettled s _ _) c.if-not-branch-2.false c.in_ok-settle-2.ensures in
+    let settled = subst (IsSettled s _ _) c.if-not-branch-2.false c.in_ok-settle-2.ensures.settled in
     record {
+      same = c.settle-in-loop-k.ensures.same ∙ c.keep_one.ensures.same ∙ c.loop-k.invariant.same;
       part = settled.part;
       ends = ends_next s.model s.spans s.goal c.loop-k.cells.present c.keep_one.new.cells.present c.settle-in-loop-k.new.cells.present
-          n k _ below c.in_ok-keep_one.ensures
+          n k _ below c.in_ok-keep_one.ensures.kept
           (settled_all s c.keep_one.new.cells.present c.settle-in-loop-k.new.cells.present settled) c.loop-k.invariant.ends;
     }

@@ -1,4 +1,4 @@
-use Rattle.std.proofs.Common.{◌+◌, ◌-◌, length}
+use Rattle.std.proofs.Common.{◌≡◌, ◌+◌, ◌-◌, length}
 use Rattle.ts_filter.specs.Boxes.{IsPart}
 use Rattle.ts_search.specs.Dive.{dive}
 use Rattle.ts_search.specs.Views.{search_of}
@@ -7,6 +7,7 @@ use Rattle.ts_search.proofs.dive.dive.Given as goal
 
 abbrev pub invariant-loop-k : goal.invariant-loop-k
 invariant-loop-k l = record {
+  same : l.tables ≡ l.fn.tables;
   part : IsPart l.cells.present (search_of l.problem).model.cells;
   ends : EndsAs (search_of l.problem).model (search_of l.problem).spans l.problem.goal (length (search_of l.problem).model.cells + 1 - l.k) l.k
       l.cells.present (dive (search_of l.problem).model (search_of l.problem).spans l.problem.goal);

@@ -13,16 +13,14 @@ use Rattle.ts_search.proofs.dive.settle.Goals as goal
 pub remove-requires-clause-cell : goal.remove-requires-clause-cell
 remove-requires-clause-cell c =
     let s = search_of c.args.problem.now in
-    removal_cell s.model s.spans c.loop-alloc.cells.present
-    (record { cell = c.in-Some.removal.cell; value = c.in-Some.removal.value; requirement = c.in-Some.removal.require })
-    (sym c.in_ok-removal.ensures ∙ ap removal_of c.in-Some.is)
+    removal_cell s.model s.spans c.loop-alloc.cells.present (record { cell = c.in-Some.removal.cell; value = c.in-Some.removal.value; requirement = c.in-Some.removal.require })
+    (sym c.in_ok-removal.ensures.found ∙ ap removal_of c.in-Some.is)
 
 pub remove-requires-clause-stays : goal.remove-requires-clause-stays
 remove-requires-clause-stays c =
     let s = search_of c.args.problem.now in
     let r : Removal = record { cell = c.in-Some.removal.cell; value = c.in-Some.removal.value; requirement = c.in-Some.removal.require } in
-    λ none. removal_stays s.model s.spans c.loop-alloc.cells.present r c.loop-alloc.invariant.part.box
-    (sym c.in_ok-removal.ensures ∙ ap removal_of c.in-Some.is)
+    λ none. removal_stays s.model s.spans c.loop-alloc.cells.present r c.loop-alloc.invariant.part.box (sym c.in_ok-removal.ensures.found ∙ ap removal_of c.in-Some.is)
     (ap (λ v. values_without v (values_at r.cell c.loop-alloc.cells.present)) (sym (to_z-of_z w64 r.value (search rules))) ∙ none)
 
 pub loop-alloc-preserved : goal.loop-alloc-preserved
@@ -30,10 +28,11 @@ loop-alloc-preserved c =
     let s = search_of c.args.problem.now in
     let b = c.loop-alloc.cells.present in
     let r : Removal = record { cell = c.in-Some.removal.cell; value = c.in-Some.removal.value; requirement = c.in-Some.removal.require } in
-    let next : next_drop s.model s.spans b ≡ Some r = sym c.in_ok-removal.ensures ∙ ap removal_of c.in-Some.is in
+    let next : next_drop s.model s.spans b ≡ Some r = sym c.in_ok-removal.ensures.found ∙ ap removal_of c.in-Some.is in
     let after : c.remove.new.self.present ≡ without r.cell r.value b =
     ap (λ z. z.present) c.in_ok-remove-in-Some.ensures.ok ∙ ap (λ v. without r.cell v b) (to_z-of_z w64 r.value (search rules)) in
     record {
+      tables = c.next_drop.ensures.same ∙ c.refuted_requirement.ensures.same ∙ c.loop-alloc.invariant.tables;
       part = subst (λ z. IsPart z s.model.cells) (sym after) (removal_part s.model s.spans s.model.cells b r c.loop-alloc.invariant.part next);
       same = ap (dropped s.model s.spans) after ∙ one_more s.model s.spans b r c.loop-alloc.invariant.part.box next ∙ c.loop-alloc.invariant.same;
     }
@@ -46,21 +45,21 @@ loop-alloc-smaller c =
     let after : c.remove.new.self.present ≡ without r.cell r.value b =
     ap (λ z. z.present) c.in_ok-remove-in-Some.ensures.ok ∙ ap (λ v. without r.cell v b) (to_z-of_z w64 r.value (search rules)) in
     subst (λ z. total_of z < total_of b) (sym after)
-    (removal_less s.model s.spans b r c.loop-alloc.invariant.part.box (sym c.in_ok-removal.ensures ∙ ap removal_of c.in-Some.is))
+    (removal_less s.model s.spans b r c.loop-alloc.invariant.part.box (sym c.in_ok-removal.ensures.found ∙ ap removal_of c.in-Some.is))
 
 -- no drop is possible any more
-pub returns-in-None : goal.returns-in-None
-returns-in-None c = record {
+pub returns-in-None-clause-settled : goal.returns-in-None-clause-settled
+returns-in-None-clause-settled c = record {
   part = c.loop-alloc.invariant.part;
   same = c.loop-alloc.invariant.same;
-  settled = sym c.in_ok-removal.ensures ∙ ap removal_of c.in-None.is;
+  settled = sym c.in_ok-removal.ensures.found ∙ ap removal_of c.in-None.is;
 }
 
 -- a requirement is refuted at the last cell
-pub returns : goal.returns
-returns c = record {
+pub returns-clause-settled : goal.returns-clause-settled
+returns-clause-settled c = record {
   part = c.loop-alloc.invariant.part;
   same = c.loop-alloc.invariant.same;
   settled = refuted_some (search_of c.args.problem.now) c.loop-alloc.cells.present c.in_ok-refuted_requirement.field-0
-      c.in_ok-refuted_requirement.ensures c.is_none.result c.is_none.ensures c.if-is_none.false;
+      c.in_ok-refuted_requirement.ensures.found c.is_none.result c.is_none.ensures c.if-is_none.false;
 }

@@ -8,6 +8,7 @@ use Rattle.ts_search.proofs.dive.settle.Given as goal
 -- the drops that are left are those of the first box
 abbrev pub invariant-loop-alloc : goal.invariant-loop-alloc
 invariant-loop-alloc l = record {
+  tables : l.tables ≡ l.fn.tables;
   part : IsPart l.cells.present (search_of l.problem).model.cells;
   same : dropped (search_of l.problem).model (search_of l.problem).spans l.cells.present
       ≡ dropped (search_of l.problem).model (search_of l.problem).spans l.fn.cells.present;

@@ -8,22 +8,22 @@ use Rattle.ts_search.proofs.CodeLines.{inner_branch, inner_cut, wide_no}
 use Rattle.ts_search.proofs.line.inner_line.Goals as goal
 
 -- a requirement is refuted below the last cell
-pub returns-in-Some : goal.returns-in-Some
-returns-in-Some c =
+pub returns-in-Some-clause-line : goal.returns-in-Some-clause-line
+returns-in-Some-clause-line c =
     wide_no (search_of c.args.problem.now) (BestOf c.args.problem.now.goal) (find_of c.args.found.now) c.args.cells.now.present c.in-Some.line
-    c.args.halving.cell c.args.halving.at (sym c.in_ok-line.ensures ∙ c.in-Some.is)
+    c.args.halving.cell c.args.halving.at (sym c.in_ok-line.ensures.line ∙ c.in-Some.is)
 
 -- or the objective is cut there
-pub returns-in-Some-2 : goal.returns-in-Some-2
-returns-in-Some-2 c =
+pub returns-in-Some-2-clause-line : goal.returns-in-Some-2-clause-line
+returns-in-Some-2-clause-line c =
     inner_cut (search_of c.args.problem.now) (find_of c.args.found.now) c.args.cells.now.present c.args.halving.cell c.args.halving.at c.in_ok-p.field-0
-    c.in-Some-2.p (sym c.in_ok-line.ensures ∙ c.in_default.is) c.in_ok-p.ensures c.in-Some-2.is
+    c.in-Some-2.p (sym c.in_ok-line.ensures.line ∙ c.in_default.is) c.in_ok-p.ensures.found c.in-Some-2.is
 
-pub returns : goal.returns
-returns c =
+pub returns-clause-line : goal.returns-clause-line
+returns-clause-line c =
     let s = search_of c.args.problem.now in
     IfOk-weaker c.branch-alloc.result (λ l. l ≡ branch_line s c.args.cells.now.present c.args.halving.cell c.args.halving.at)
     (λ l. l ≡ wide_line s (BestOf c.args.problem.now.goal) (find_of c.args.found.now) c.args.cells.now.present c.args.halving.cell c.args.halving.at)
     (λ l h. inner_branch s (find_of c.args.found.now) c.args.cells.now.present c.args.halving.cell c.args.halving.at c.in_ok-p.field-0 l
-    (sym c.in_ok-line.ensures ∙ c.in_default.is) c.in_ok-p.ensures c.in_default-2.is h)
-    c.branch-alloc.ensures
+    (sym c.in_ok-line.ensures.line ∙ c.in_default.is) c.in_ok-p.ensures.found c.in_default-2.is h)
+    c.branch-alloc.ensures.line

@@ -8,32 +8,31 @@ use Rattle.ts_search.specs.Views.{search_of}
 use Rattle.ts_search.proofs.CodeLines.{line_refuted, listed_alone, listed_branch, listed_no}
 use Rattle.ts_search.proofs.line.listing_line.Goals as goal
 
-pub returns-in-Some : goal.returns-in-Some
-returns-in-Some c =
+pub returns-in-Some-clause-line : goal.returns-in-Some-clause-line
+returns-in-Some-clause-line c =
     line_refuted (search_of c.args.problem.now) (ListOf c.args.count) None c.args.cells.now.present c.in-Some.j c.last-p.result
-    (sym c.in_ok-j.ensures ∙ c.in-Some.is) c.last-p.ensures
+    (sym c.in_ok-j.ensures.found ∙ c.in-Some.is) c.last-p.ensures
 
-pub returns-in_default-first_halving : goal.returns-in_default-first_halving
-returns-in_default-first_halving c =
+pub returns-in_default-first_halving-clause-line : goal.returns-in_default-first_halving-clause-line
+returns-in_default-first_halving-clause-line c =
     let b = c.args.cells.now.present in
-    listed_alone (search_of c.args.problem.now) c.args.count b (sym c.in_ok-j.ensures ∙ c.in_default.is)
+    listed_alone (search_of c.args.problem.now) c.args.count b (sym c.in_ok-j.ensures.found ∙ c.in_default.is)
     (subst (λ o. MatchOption o (IsSingle b) (λ h. IsHalving h.cell h.at b)) c.in_default-first_halving.is c.first_halving.ensures)
 
-pub returns-in-Some-2 : goal.returns-in-Some-2
-returns-in-Some-2 c =
+pub returns-in-Some-2-clause-line : goal.returns-in-Some-2-clause-line
+returns-in-Some-2-clause-line c =
     let b = c.args.cells.now.present in
-    listed_no (search_of c.args.problem.now) c.args.count b (sym c.in_ok-j.ensures ∙ c.in_default.is)
-    c.in-Some-first_halving.halving.cell c.in-Some-first_halving.halving.at
-    (subst (λ o. MatchOption o (IsSingle b) (λ h. IsHalving h.cell h.at b)) c.in-Some-first_halving.is c.first_halving.ensures)
-    c.in_ok-line.field-0 c.in-Some-2.line c.in_ok-line.ensures c.in-Some-2.is
+    listed_no (search_of c.args.problem.now) c.args.count b (sym c.in_ok-j.ensures.found ∙ c.in_default.is) c.in-Some-first_halving.halving.cell c.in-Some-first_halving.halving.at
+    (subst (λ o. MatchOption o (IsSingle b) (λ h. IsHalving h.cell h.at b)) c.in-Some-first_halving.is c.first_halving.ensures) c.in_ok-line.field-0 c.in-Some-2.line
+    c.in_ok-line.ensures.line c.in-Some-2.is
 
-pub returns : goal.returns
-returns c =
+pub returns-clause-line : goal.returns-clause-line
+returns-clause-line c =
     let b = c.args.cells.now.present in
     let s = search_of c.args.problem.now in
     let halving = c.in-Some-first_halving.halving in
     IfOk-weaker c.branch-alloc.result (λ l. l ≡ branch_line s b halving.cell halving.at) (λ l. l ≡ line_of s (ListOf c.args.count) None b)
-    (λ l h. listed_branch s c.args.count b (sym c.in_ok-j.ensures ∙ c.in_default.is) halving.cell halving.at
+    (λ l h. listed_branch s c.args.count b (sym c.in_ok-j.ensures.found ∙ c.in_default.is) halving.cell halving.at
     (subst (λ o. MatchOption o (IsSingle b) (λ h. IsHalving h.cell h.at b)) c.in-Some-first_halving.is c.first_halving.ensures) c.in_ok-line.field-0 l
-    c.in_ok-line.ensures c.in_default-2.is h)
-    c.branch-alloc.ensures
+    c.in_ok-line.ensures.line c.in_default-2.is h)
+    c.branch-alloc.ensures.line

@@ -1,4 +1,4 @@
-use Rattle.std.proofs.Common.{arith}
+use Rattle.std.proofs.Common.{arith, ◌∙◌}
 use Rattle.ts_search.specs.LineOf.{last, refuted, requirements}
 use Rattle.ts_search.specs.Views.{search_of}
 use Rattle.ts_search.proofs.CodeLines.{least_end, least_here, least_next}
@@ -8,20 +8,23 @@ pub is_refuted-requires-clause-to : goal.is_refuted-requires-clause-to
 is_refuted-requires-clause-to c =
     let below = c.loop-j-test.true in let count = c.requirements-j-end.ensures.count in omega (arith, below, count)
 
-pub returns-then-branch : goal.returns-then-branch
-returns-then-branch c =
+pub returns-then-branch-clause-found : goal.returns-then-branch-clause-found
+returns-then-branch-clause-found c =
     let s = search_of c.args.problem.now in
     least_here (λ j. refuted s j (last s) c.args.cells.now.present) (requirements s) c.requirements-j-end.result c.loop-j.j
-    c.in_ok-is_refuted.field-0 _ c.loop-j-test.true c.requirements-j-end.ensures.count c.in_ok-is_refuted.ensures c.if-branch.true c.loop-j.invariant
+    c.in_ok-is_refuted.field-0 _ c.loop-j-test.true c.requirements-j-end.ensures.count c.in_ok-is_refuted.ensures.told c.if-branch.true c.loop-j.invariant.found
 
 pub loop-j-preserved : goal.loop-j-preserved
 loop-j-preserved c =
     let s = search_of c.args.problem.now in
-    least_next (λ j. refuted s j (last s) c.args.cells.now.present) (requirements s) c.requirements-j-end.result c.loop-j.j
-    c.in_ok-is_refuted.field-0 _ c.loop-j-test.true c.requirements-j-end.ensures.count c.in_ok-is_refuted.ensures c.if-branch.false c.loop-j.invariant
+    record {
+      same = c.is_refuted.ensures.same ∙ c.loop-j.invariant.same;
+      found = least_next (λ j. refuted s j (last s) c.args.cells.now.present) (requirements s) c.requirements-j-end.result c.loop-j.j
+          c.in_ok-is_refuted.field-0 _ c.loop-j-test.true c.requirements-j-end.ensures.count c.in_ok-is_refuted.ensures.told c.if-branch.false c.loop-j.invariant.found;
+    }
 
-pub returns : goal.returns
-returns c =
+pub returns-clause-found : goal.returns-clause-found
+returns-clause-found c =
     let s = search_of c.args.problem.now in let end = c.loop-j-test.false in
     least_end (λ j. refuted s j (last s) c.args.cells.now.present) (requirements s) c.requirements-j-end.result c.loop-j.j _ (omega (arith, end))
-    c.requirements-j-end.ensures.count c.loop-j.invariant
+    c.requirements-j-end.ensures.count c.loop-j.invariant.found

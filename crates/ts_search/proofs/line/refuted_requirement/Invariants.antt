@@ -6,6 +6,8 @@ use Rattle.ts_search.proofs.line.refuted_requirement.Given as goal
 
 -- the least from j on is the least of all
 abbrev pub invariant-loop-j : goal.invariant-loop-j
-invariant-loop-j l =
-    least (λ j. refuted (search_of l.problem) j (last (search_of l.problem)) l.cells.present) (requirements (search_of l.problem) + 1 - l.j) l.j
-    ≡ refuted_last (search_of l.problem) l.cells.present
+invariant-loop-j l = record {
+  same : l.tables ≡ l.fn.tables;
+  found : least (λ j. refuted (search_of l.problem) j (last (search_of l.problem)) l.cells.present) (requirements (search_of l.problem) + 1 - l.j) l.j
+      ≡ refuted_last (search_of l.problem) l.cells.present;
+}

@@ -10,8 +10,8 @@ use Rattle.ts_search.proofs.Certified.{listed}
 use Rattle.ts_search.proofs.OfProgram.{are_right, posed_list}
 use Rattle.ts_search.proofs.listing.list.Goals as goal
 
-pub list_grow-requires : goal.list_grow-requires
-list_grow-requires c = posed_list c.args.m.now c.args.p.now c.requires.program c.requires.whole c.requires.limits _ refl refl
+pub list_grow-requires-clause-posed : goal.list_grow-requires-clause-posed
+list_grow-requires-clause-posed c = posed_list c.args.m.now c.args.p.now c.requires.program c.requires.whole c.requires.limits _ refl refl
 
 pub returns : goal.returns
 returns c =

@@ -5,7 +5,7 @@ use Rattle.ts_search.proofs.CodeTurns.{at_most, first_parts, list_end, list_firs
 use Rattle.ts_search.proofs.listing.list_grow.Goals as goal
 
 pub new-requires : goal.new-requires
-new-requires c = let few = c.requires.right.whole.few in let same = ap length c.deref.ensures.value in omega (arith, few, same)
+new-requires c = let few = c.requires.posed.right.whole.few in let same = ap length c.deref.ensures.value in omega (arith, few, same)
 
 pub loop-init : goal.loop-init
 loop-init c =
@@ -14,8 +14,9 @@ loop-init c =
     let first = list_first s c.new-2.result.items c.new-3.result c.in_ok-root.root.present _ c.new-2.ensures.items c.new-3.ensures root
     (ap (map (λ x. x.items)) c.new-4.ensures.items) in
     record {
+      same = refl;
       turned = list_none s c.args.count c.args.budget _ first;
-      parts = first_parts s.model.cells c.new-3.result.boxes c.requires.right.box (ap (λ w. w.boxes) c.new-3.ensures ∙ ap (λ b. b ∷ []) root);
+      parts = first_parts s.model.cells c.new-3.result.boxes c.requires.posed.right.box (ap (λ w. w.boxes) c.new-3.ensures ∙ ap (λ b. b ∷ []) root);
     }
 
 pub returns-then-len-count-clause-turns : goal.returns-then-len-count-clause-turns
@@ -32,9 +33,10 @@ pub loop-preserved : goal.loop-preserved
 loop-preserved c =
     let s = search_of c.args.problem.now in
     record {
+      same = c.list_treat.ensures.same ∙ c.loop.invariant.same;
       turned = list_more s c.args.count c.args.budget c.loop.counter (list_state_of c.loop.tree) (list_state_of c.list_treat.new.tree) _
-          c.loop-test.true c.in_ok-list_treat.ensures c.loop.invariant.turned;
-      parts = list_parts s c.args.count (list_state_of c.loop.tree) (list_state_of c.list_treat.new.tree) c.in_ok-list_treat.ensures c.loop.invariant.parts;
+          c.loop-test.true c.in_ok-list_treat.ensures.turn c.loop.invariant.turned;
+      parts = list_parts s c.args.count (list_state_of c.loop.tree) (list_state_of c.list_treat.new.tree) c.in_ok-list_treat.ensures.turn c.loop.invariant.parts;
     }
 
 pub returns-clause-turns : goal.returns-clause-turns
@@ -47,18 +49,18 @@ returns-clause-turns c =
 pub returns-clause-few : goal.returns-clause-few
 returns-clause-few c =
     let end = c.loop-test.false in
-    few_from (search_of c.args.problem.now) c.args.count c.args.budget c.loop.tree.listed.items (list_state_of c.loop.tree) c.requires.right
+    few_from (search_of c.args.problem.now) c.args.count c.args.budget c.loop.tree.listed.items (list_state_of c.loop.tree) c.requires.posed.right
     (list_end (search_of c.args.problem.now) c.args.count c.args.budget c.loop.counter (list_state_of c.loop.tree) _ (omega (arith, end))
     c.loop.invariant.turned) refl
 
 pub returns-then-len-count-clause-few : goal.returns-then-len-count-clause-few
 returns-then-len-count-clause-few c =
-    few_from (search_of c.args.problem.now) c.args.count c.args.budget c.loop.tree.listed.items (list_state_of c.loop.tree) c.requires.right
+    few_from (search_of c.args.problem.now) c.args.count c.args.budget c.loop.tree.listed.items (list_state_of c.loop.tree) c.requires.posed.right
     (list_full (search_of c.args.problem.now) c.args.count c.args.budget c.loop.counter (list_state_of c.loop.tree) _
     (at_most c.args.count c.len.result _ c.loop.tree.listed.items c.if-len-count.true c.len.ensures c.loop.tree.listed.ok.0) c.loop.invariant.turned) refl
 
 pub returns-then-is_empty-clause-few : goal.returns-then-is_empty-clause-few
 returns-then-is_empty-clause-few c =
-    few_from (search_of c.args.problem.now) c.args.count c.args.budget c.loop.tree.listed.items (list_state_of c.loop.tree) c.requires.right
+    few_from (search_of c.args.problem.now) c.args.count c.args.budget c.loop.tree.listed.items (list_state_of c.loop.tree) c.requires.posed.right
     (list_out (search_of c.args.problem.now) c.args.count c.args.budget c.loop.counter (list_state_of c.loop.tree) _
     (c.is_empty.ensures.0 c.if-is_empty.true) c.loop.invariant.turned) refl

@@ -7,6 +7,7 @@ use Rattle.ts_search.proofs.listing.list_grow.Given as goal
 
 abbrev pub invariant-loop : goal.invariant-loop
 invariant-loop l = record {
+  same : l.tables ≡ l.fn.tables;
   turned : list_turns (search_of l.problem) l.count (l.budget - l.counter) (list_state_of l.tree)
       ≡ list_turns (search_of l.problem) l.count l.budget (list_start (search_of l.problem));
   parts : AllByRecursion (λ b. IsPart b (search_of l.problem).model.cells) l.tree.frontier.boxes;

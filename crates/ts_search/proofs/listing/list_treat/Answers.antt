@@ -12,4 +12,4 @@ listing_line-requires-clause-part c =
 pub follow-requires-clause-fits : goal.follow-requires-clause-fits
 follow-requires-clause-fits c =
     may_follow (search_of c.args.problem.now) (ListOf c.args.count) None c.args.tree.now.frontier.boxes c.advance.new.self.boxes
-    c.present.result.now.present c.in_ok-line.line c.requires.parts c.in_ok-advance.ensures.same c.present.ensures c.in_ok-line.ensures
+    c.present.result.now.present c.in_ok-line.line c.requires.parts c.in_ok-advance.ensures.same c.present.ensures c.in_ok-line.ensures.line

@@ -9,6 +9,7 @@ use Rattle.ts_search.proofs.tree.grow.Given as goal
 -- the turns that are left lead where all lead
 abbrev pub invariant-loop : goal.invariant-loop
 invariant-loop l = record {
+  same : l.tables ≡ l.fn.tables;
   turned : turns (search_of l.problem) (BestOf l.problem.goal) (l.budget - l.counter) (state_of l.tree)
       ≡ turns (search_of l.problem) (BestOf l.problem.goal) l.budget (start (search_of l.problem));
   parts : AllByRecursion (λ b. IsPart b (search_of l.problem).model.cells) l.tree.frontier.boxes;

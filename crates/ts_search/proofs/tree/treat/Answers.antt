@@ -18,4 +18,4 @@ pub follow-requires-clause-fits : goal.follow-requires-clause-fits
 follow-requires-clause-fits c =
     may_follow (search_of c.args.problem.now) (BestOf c.args.problem.now.goal) (find_of c.args.tree.now.found) c.args.tree.now.frontier.boxes
     c.advance.new.self.boxes c.present.result.now.present c.in_ok-line.line c.requires.parts c.in_ok-advance.ensures.same c.present.ensures
-    c.in_ok-line.ensures
+    c.in_ok-line.ensures.line

@@ -6,18 +6,18 @@ use Rattle.ts_search.specs.Views.{find_of, search_of}
 use Rattle.ts_search.proofs.Posed.{first_cut_by_bar, none_cut}
 use Rattle.ts_search.proofs.problem.Problem.first_cut.Goals as goal
 
-pub returns-in-Some : goal.returns-in-Some
-returns-in-Some c =
+pub returns-in-Some-clause-found : goal.returns-in-Some-clause-found
+returns-in-Some-clause-found c =
     let q = c.args.self.now in
     let b = c.args.cells.now.present in
     let bar = bar_of (find_of c.args.found.now) (search_of q).warm in
     IfOk-weaker c.first_cut_by.result (λ cell. cell ≡ least (λ p. cut (search_of q) p b c.in-Some.bar) (inner (search_of q)) 1)
     (λ cell. cell ≡ least (λ p. cut_by (search_of q) bar p b) (inner (search_of q)) 1)
     (λ cell h. first_cut_by_bar q c.requires.posed b c.requires.part bar c.in-Some.bar cell (sym c.bar.ensures ∙ c.in-Some.is) h)
-    c.first_cut_by.ensures
+    c.first_cut_by.ensures.found
 
-pub returns-in-None : goal.returns-in-None
-returns-in-None c =
+pub returns-in-None-clause-found : goal.returns-in-None-clause-found
+returns-in-None-clause-found c =
     let q = c.args.self.now in
     none_cut q c.requires.posed c.args.cells.now.present c.requires.part (bar_of (find_of c.args.found.now) (search_of q).warm)
     (sym c.bar.ensures ∙ c.in-None.is)

@@ -1,41 +1,39 @@
-use Rattle.std.proofs.Common.{◌≡◌, ◌<◌, arith, ap, length, map, subst, sym}
+use Rattle.std.proofs.Common.{◌≡◌, ◌<◌, arith, ap, length, subst, sym, ◌∙◌}
 use Rattle.std.proofs.lemmas.List.{length-map}
 use Rattle.std.specs.List.{AllByRecursion}
 use Rattle.std.proofs.lemmas.Result.{IfOk-weaker}
-use Rattle.ts_bound.specs.TermSpans.{automata_of}
 use Rattle.ts_model.specs.Views.{term_of}
 use Rattle.ts_filter.specs.Drops.{IsFirstDrop}
 use Rattle.ts_filter.specs.MachineSpans.{spans_of}
 use Rattle.ts_search.specs.Drops.{next_drop}
 use Rattle.ts_search.specs.Views.{removal_of, search_of}
-use Rattle.ts_search.proofs.Posed.{machine_count, next_drop_told}
+use Rattle.ts_search.proofs.Posed.{next_drop_told, tables_count, term_count}
 use Rattle.ts_search.proofs.problem.Problem.next_drop.Goals as goal
 
 -- the machines are as many as the terms, which a model has few of
 pub next_drop-requires-clause-machines : goal.next_drop-requires-clause-machines
 next_drop-requires-clause-machines c =
-    let many = machine_count c.args.self.now c.requires.posed in
-    let same = ap length c.machines.ensures in
-    let entries = length-map c.args.self.now.model.now.terms.entries term_of in
-    let few = c.requires.posed.terms in omega (arith, many, same, entries, few)
+    let q = c.args.self.now in
+    let many = tables_count q c.requires.posed c.args.tables.now c.requires.tables in
+    let entries = term_count q c.requires.posed in
+    let few = c.requires.posed.terms in omega (arith, many, entries, few)
 
 pub next_drop-requires-clause-requirements : goal.next_drop-requires-clause-requirements
 next_drop-requires-clause-requirements c = let few = c.requires.posed.requirements in let same = ap length c.deref.ensures.value in omega (arith, few, same)
 
 pub next_drop-requires-clause-terms : goal.next_drop-requires-clause-terms
 next_drop-requires-clause-terms c =
-    subst (λ n. AllByRecursion (λ r. r.term < n) c.deref.result.now) (sym (ap length c.machines.ensures))
-    (subst (λ n. AllByRecursion (λ r. r.term < n) c.deref.result.now) (sym (machine_count c.args.self.now c.requires.posed))
+    subst (λ n. AllByRecursion (λ r. r.term < n) c.deref.result.now) (sym (tables_count c.args.self.now c.requires.posed c.args.tables.now c.requires.tables))
     (subst (AllByRecursion (λ r. r.term < length (search_of c.args.self.now).model.terms)) (sym c.deref.ensures.value)
-    c.requires.posed.right.whole.requirements))
+    c.requires.posed.right.whole.requirements)
 
-pub returns : goal.returns
-returns c =
+pub returns-clause-found : goal.returns-clause-found
+returns-clause-found c =
     let q = c.args.self.now in let b = c.args.cells.now.present in
     IfOk-weaker c.next_drop.result
-    (λ found. IsFirstDrop c.deref.result.now (spans_of (map automata_of c.machines.result.now)) b found)
+    (λ found. IsFirstDrop c.deref.result.now (spans_of c.args.tables.now) b found)
     (λ found. removal_of found ≡ next_drop (search_of q).model (search_of q).spans b)
     (λ found h. next_drop_told q c.requires.posed b c.requires.part found
-    (subst (λ rs. IsFirstDrop rs (spans_of (map automata_of q.program.now.machines.items)) b found) c.deref.ensures.value
-    (subst (λ ms. IsFirstDrop c.deref.result.now (spans_of (map automata_of ms)) b found) c.machines.ensures h)))
-    c.next_drop.ensures
+    (subst (λ rs. IsFirstDrop rs (search_of q).spans b found) c.deref.ensures.value
+    (subst (λ ms. IsFirstDrop c.deref.result.now (spans_of ms) b found) c.requires.tables h)))
+    c.next_drop.ensures.found
