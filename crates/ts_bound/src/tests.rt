@@ -108,6 +108,14 @@ fn expect_row(rt: &impl Abort, row: &[Hull], wanted: &[Ends]) {
     }
 }
 
+/// The row of a cell is the wanted one.
+fn expect_row_at(rt: &impl Abort, table: &HullTable, k: u32, wanted: &[Ends])
+    requires first { 1 ≤ k }
+    requires last { k ≤ length table.now }
+{
+    expect_row(rt, table.row(k), wanted);
+}
+
 /// The rows of so many cells are the wanted ones.
 fn expect_rows(rt: &impl Abort, table: &HullTable, cells: u32, wanted: &[&[Ends]])
     requires { cells ≤ length table.now }
@@ -115,7 +123,7 @@ fn expect_rows(rt: &impl Abort, table: &HullTable, cells: u32, wanted: &[&[Ends]
     assert_eq!(rt; wanted.len(), cells as usize);
     for k in 0..cells {
         if let Some(row) = wanted.get(k as usize) {
-            expect_row(rt, table.row(k + 1), row);
+            expect_row_at(rt, table, k + 1, row);
         }
     }
 }
@@ -149,7 +157,7 @@ fn expect_back(
 }
 
 /// The row of the last cell is the wanted one.
-#[tactic(auto, using(crate::proofs::TableLaws::row_stands_there))]
+#[tactic(auto, using(crate::proofs::TableLaws::rows_ahead))]
 fn expect_last(
     rt: &impl Abort,
     alloc: Global,
@@ -160,7 +168,7 @@ fn expect_last(
     requires { 1 ≤ length cells.now.present }
 {
     let table = from_first(alloc, a, cells)?;
-    expect_row(rt, table.row(cells.cells()), wanted);
+    expect_row_at(rt, &table, cells.cells(), wanted);
     Ok(())
 }
 
