@@ -75,7 +75,7 @@ fn expect_spent(rt: &impl Abort, certificate: &Certificate, series: u64, budget:
     assert!(rt; open > 0);
     assert!(rt; open < certificate.tree.len());
     assert!(rt; (certificate.tree.len() - open) as u64 == budget);
-    assert!(rt; budget < 2 * series);
+    assert!(rt; budget / 2 < series);
 }
 
 /// The certificate has the answer, or its budget is spent.
