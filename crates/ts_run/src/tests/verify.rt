@@ -4,7 +4,7 @@ use super::{Case, outcome};
 use crate::Status;
 use std::test::Fail;
 
-static WORKED: [Case; 35] = [
+static WORKED: [Case; 37] = [
     Case {
         input: b"cells 3\ndomain 0..1\nterm c = count peak\nobjective c\n%%\nmaximise\nbest 1\nseries 0 1 0\nsplit 1 0\nsplit 2 0\nworse 3\nsplit 3 0\nworse 3\nworse 3\nworse 3\nend 7 0\n",
         taken: b"accepted\n",
@@ -183,6 +183,17 @@ static WORKED: [Case; 35] = [
     Case {
         input: b"cells 2\ndomain 0..1\n%%\nmaximise\ninfeasible\nopen\nend 0 1\n",
         taken: b"rejected line 1\n",
+        status: Status::No,
+    },
+    // the greatest surface of two rising cells of 0..32767 is 32,766 + 32,767
+    Case {
+        input: b"cells 2\ndomain 0..32767\nterm m = max surf strictly_increasing_sequence\nrequire m >= 65534\nobjective m\n%%\nmaximise\ninfeasible\nno 1 2\nend 1 0\n",
+        taken: b"accepted\n",
+        status: Status::Done,
+    },
+    Case {
+        input: b"cells 2\ndomain 0..32767\nterm m = max surf strictly_increasing_sequence\nrequire m >= 65533\nobjective m\n%%\nmaximise\ninfeasible\nno 1 2\nend 1 0\n",
+        taken: b"rejected line 3\n",
         status: Status::No,
     },
 ];
