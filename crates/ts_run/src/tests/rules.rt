@@ -7,253 +7,253 @@ use crate::Status;
 use std::test::Fail;
 
 static RULES: [Case; 42] = [
-    // aim 1: an objective is asked of `generate` too
+    // aim: an objective is asked of `generate` too
     Case {
         input: b"cells 1\ncell 1 0 3\nterm t0 = sum one peak\n%%\ngenerate 1\nall 0\nno 1 1\nend 1 0\n",
         taken: b"rejected line 3\n",
         status: Status::No,
     },
-    // aim 2: an objective is never asked
+    // aim: an objective is never asked
     Case {
         input: b"cells 1\ncell 1 3\nterm t0 = sum surf increasing\n%%\nmaximise\ninfeasible\nno 1 1\nend 1 0\n",
         taken: b"rejected line 1\n",
         status: Status::No,
     },
-    // aim 3: an objective is asked of `maximise` alone
+    // aim: an objective is asked of `maximise` alone
     Case {
         input: b"cells 1\ncell 1 3\nterm t0 = sum surf increasing\n%%\nminimise\ninfeasible\nno 1 1\nend 1 0\n",
         taken: b"rejected line 1\n",
         status: Status::No,
     },
-    // claim 1: `full C` with C below M
+    // claim: `full C` with C below M
     Case {
         input: b"cells 1\ncell 1 2\nterm t0 = sum surf increasing\nobjective t0\n%%\ngenerate 1\nfull 0\nopen\nend 0 1\n",
         taken: b"rejected line 2\n",
         status: Status::No,
     },
-    // claim 2: `all C` with C equal to M
+    // claim: `all C` with C equal to M
     Case {
         input: b"cells 1\ncell 1 3\nterm t0 = sum surf increasing\n%%\ngenerate 1\nall 1\nseries 3\nyes\nend 1 0\n",
         taken: b"rejected line 2\n",
         status: Status::No,
     },
-    // claim 3: `budget C` with C equal to M
+    // claim: `budget C` with C equal to M
     Case {
         input: b"cells 1\ncell 1 3\nterm t0 = sum surf increasing\n%%\ngenerate 1\nbudget 1\nseries 3\nyes\nend 1 0\n",
         taken: b"rejected line 2\n",
         status: Status::No,
     },
-    // series 1: may be equal to the one before
+    // series: may be equal to the one before
     Case {
         input: b"cells 1\ncell 1 0 2\nterm t0 = max max peak\nobjective t0\n%%\ngenerate 2\nfull 2\nseries 2\nseries 2\nsplit 1 1\nyes\nyes\nend 3 0\n",
         taken: b"rejected line 4\n",
         status: Status::No,
     },
-    // series 2: a listed series needn't meet
+    // series: a listed series needn't meet
     Case {
         input: b"cells 1\ncell 1 1\nterm t0 = sum one inflexion\nobjective t0\n%%\ngenerate 3\nall 1\nseries 0\nyes\nend 1 0\n",
         taken: b"rejected line 3\n",
         status: Status::No,
     },
-    // series 3: its objective may be better than the claimed one
+    // series: its objective may be better than the claimed one
     Case {
         input: b"cells 1\ncell 1 1\nterm t0 = sum one inflexion\nobjective t0\n%%\nmaximise\nbudget -1\nseries 1\nworse 1\nend 1 0\n",
         taken: b"rejected line 3\n",
         status: Status::No,
     },
-    // series 4: compared with the first one, not the one before
+    // series: compared with the first one, not the one before
     Case {
         input: b"cells 1\ncell 1 0 2 3\nterm t0 = sum one inflexion\n%%\ngenerate 3\nfull 3\nseries 0\nseries 2\nseries 2\nsplit 1 0\nyes\nsplit 1 2\nyes\nyes\nend 5 0\n",
         taken: b"rejected line 5\n",
         status: Status::No,
     },
-    // split 1: T on neither side
+    // split: T on neither side
     Case {
         input: b"cells 1\ncell 1 0 1\nterm t0 = sum one increasing\nobjective t0\n%%\ngenerate 1\nfull 1\nseries 0\nsplit 1 0\nyes\nend 2 0\n",
         taken: b"rejected line 6\n",
         status: Status::No,
     },
-    // split 2: the upper side may be empty
+    // split: the upper side may be empty
     Case {
         input: b"cells 1\ncell 1 1\nterm t0 = sum one inflexion\nobjective t0\n%%\nminimise\nbudget none\nsplit 1 1\nend 1 0\n",
         taken: b"rejected line 3\n",
         status: Status::No,
     },
-    // split 3: the first cell with two values alone
+    // split: the first cell with two values alone
     Case {
         input: b"cells 2\ncell 1 1 2\ncell 2 1 2 3\nterm t0 = sum one inflexion\nobjective t0\n%%\ngenerate 3\nall 0\nsplit 2 2\nend 1 0\n",
         taken: b"rejected line 4\n",
         status: Status::No,
     },
-    // split 4: the upper side is treated first
+    // split: the upper side is treated first
     Case {
         input: b"cells 1\ncell 1 0 1\nterm t0 = sum one increasing\nobjective t0\n%%\ngenerate 1\nfull 1\nseries 0\nsplit 1 0\nyes\nend 2 0\n",
         taken: b"rejected line 6\n",
         status: Status::No,
     },
-    // split 5: T is a value of the cell
+    // split: T is a value of the cell
     Case {
         input: b"cells 1\ncell 1 1 3\nterm t0 = max max peak\nobjective t0\n%%\ngenerate 2\nbudget 0\nsplit 1 2\nopen\nend 1 1\n",
         taken: b"rejected line 5\n",
         status: Status::No,
     },
-    // drop 1: the requirement isn't asked
+    // drop: the requirement isn't asked
     Case {
         input: b"cells 1\ncell 1 1 3\nterm t0 = sum surf increasing\nobjective t0\n%%\nminimise\ninfeasible\ndrop 1 3 1\nend 1 0\n",
         taken: b"rejected line 3\n",
         status: Status::No,
     },
-    // drop 2: refuted on the whole box, not with x_K = V
+    // drop: refuted on the whole box, not with x_K = V
     Case {
         input: b"cells 2\ncell 1 1 3\ncell 2 2\nterm t0 = sum surf increasing\nrequire t0 = 2\nobjective t0\n%%\ngenerate 4\nall 0\ndrop 1 1 1\nend 1 0\n",
         taken: b"rejected line 4\n",
         status: Status::No,
     },
-    // drop 3: refuted at n on the box with x_K = V, not at K
+    // drop: refuted at n on the box with x_K = V, not at K
     Case {
         input: b"cells 2\ncell 1 0 1 2\ncell 2 0 3\nterm t0 = sum one inflexion\nrequire t0 > 2\n%%\ngenerate 1\nall 0\ndrop 1 1 1\nend 1 0\n",
         taken: b"rejected line 3\n",
         status: Status::No,
     },
-    // drop 4: of a cell with one value, which leaves an empty box
+    // drop: of a cell with one value, which leaves an empty box
     Case {
         input: b"cells 1\ncell 1 2\nterm t0 = sum one peak\nrequire t0 >= 2\nobjective t0\n%%\ngenerate 2\nall 0\ndrop 1 2 1\nend 1 0\n",
         taken: b"rejected line 3\n",
         status: Status::No,
     },
-    // no 1: any cell for a term that isn't reversible (the span at n)
+    // no: any cell for a term that isn't reversible (the span at n)
     Case {
         input: b"cells 2\ncell 1 2 3\ncell 2 3\nterm t0 = sum one inflexion\nrequire t0 >= 2\nobjective t0\n%%\nminimise\ninfeasible\nno 1 1\nend 1 0\n",
         taken: b"rejected line 3\n",
         status: Status::No,
     },
-    // no 2: `=` refuted by the lower end alone
+    // no: `=` refuted by the lower end alone
     Case {
         input: b"cells 1\ncell 1 2\nterm t0 = sum one peak\nrequire t0 = 1\nobjective t0\n%%\ngenerate 4\nall 0\nno 1 1\nend 1 0\n",
         taken: b"accepted\n",
         status: Status::Done,
     },
-    // no 3: `!=` refuted by a span of two values
+    // no: `!=` refuted by a span of two values
     Case {
         input: b"cells 2\ncell 1 0\ncell 2 0 1 2\nterm t0 = sum one increasing\nrequire t0 != 1\nobjective t0\n%%\nminimise\ninfeasible\nno 1 2\nend 1 0\n",
         taken: b"rejected line 3\n",
         status: Status::No,
     },
-    // no 4: asked at n in place of P
+    // no: asked at n in place of P
     Case {
         input: b"cells 5\ncell 1 0\ncell 2 1\ncell 3 1 2\ncell 4 3\ncell 5 2\nterm t0 = max surf peak\nrequire t0 = 4\n%%\ngenerate 1\nall 0\nno 1 1\nend 1 0\n",
         taken: b"rejected line 3\n",
         status: Status::No,
     },
-    // worse 1: as good isn't worse
+    // worse: as good isn't worse
     Case {
         input: b"cells 1\ncell 1 1\nterm t0 = sum one inflexion\nobjective t0\n%%\nmaximise\nbest 0\nseries 1\nworse 1\nend 1 0\n",
         taken: b"accepted\n",
         status: Status::Done,
     },
-    // worse 2: taken under `infeasible` too
+    // worse: taken under `infeasible` too
     Case {
         input: b"cells 1\ncell 1 0\nterm t0 = sum one peak\nobjective t0\n%%\nmaximise\ninfeasible\nworse 1\nend 1 0\n",
         taken: b"rejected line 3\n",
         status: Status::No,
     },
-    // worse 3: not taken under `budget V`
+    // worse: not taken under `budget V`
     Case {
         input: b"cells 1\ncell 1 1\nterm t0 = sum one inflexion\nobjective t0\n%%\nmaximise\nbudget 0\nseries 1\nworse 1\nend 1 0\n",
         taken: b"accepted\n",
         status: Status::Done,
     },
-    // worse 4: the upper end under `minimise` too
+    // worse: the upper end under `minimise` too
     Case {
         input: b"cells 2\ncell 1 0 2\ncell 2 1\nterm t0 = sum one increasing\nobjective t0\n%%\nminimise\nbest 1\nseries 0 1\nworse 2\nend 1 0\n",
         taken: b"rejected line 4\n",
         status: Status::No,
     },
-    // worse 5: any cell for an objective that isn't reversible (the span at n)
+    // worse: any cell for an objective that isn't reversible (the span at n)
     Case {
         input: b"cells 2\ncell 1 1\ncell 2 1\nterm t0 = sum one inflexion\nobjective t0\n%%\nminimise\nbest 0\nseries 1 1\nworse 1\nend 1 0\n",
         taken: b"rejected line 4\n",
         status: Status::No,
     },
-    // yes 1: the next listed series isn't compared
+    // yes: the next listed series isn't compared
     Case {
         input: b"cells 1\ncell 1 2\nterm t0 = sum surf increasing\nobjective t0\n%%\ngenerate 1\nbudget 0\nyes\nend 1 0\n",
         taken: b"rejected line 3\n",
         status: Status::No,
     },
-    // yes 2: any listed series
+    // yes: any listed series
     Case {
         input: b"cells 1\ncell 1 0 2\nterm t0 = max max peak\nobjective t0\n%%\ngenerate 2\nfull 2\nseries 0\nseries 2\nsplit 1 1\nopen\nyes\nend 2 1\n",
         taken: b"rejected line 7\n",
         status: Status::No,
     },
-    // yes 3: a box that has the series, of more than one
+    // yes: a box that has the series, of more than one
     Case {
         input: b"cells 1\ncell 1 0 1\nterm t0 = sum one increasing\nobjective t0\n%%\ngenerate 1\nfull 1\nseries 0\nyes\nopen\nend 1 1\n",
         taken: b"rejected line 4\n",
         status: Status::No,
     },
-    // yes 4: taken under `maximise` and `minimise`
+    // yes: taken under `maximise` and `minimise`
     Case {
         input: b"cells 1\ncell 1 1\nterm t0 = sum one inflexion\nobjective t0\n%%\nminimise\nbudget none\nyes\nopen\nend 1 1\n",
         taken: b"rejected line 3\n",
         status: Status::No,
     },
-    // open 1: under `all C`
+    // open: under `all C`
     Case {
         input: b"cells 1\ncell 1 2\nterm t0 = sum surf increasing\nobjective t0\n%%\ngenerate 1\nall 0\nopen\nend 0 1\n",
         taken: b"rejected line 3\n",
         status: Status::No,
     },
-    // open 2: under `best V` and `infeasible`
+    // open: under `best V` and `infeasible`
     Case {
         input: b"cells 1\ncell 1 1\nterm t0 = sum one inflexion\nobjective t0\n%%\nminimise\ninfeasible\nopen\nend 0 1\n",
         taken: b"rejected line 3\n",
         status: Status::No,
     },
-    // open 3: not under `full C`
+    // open: not under `full C`
     Case {
         input: b"cells 1\ncell 1 2\nterm t0 = sum one inflexion\nterm t1 = sum surf increasing\n%%\ngenerate 1\nfull 1\nseries 2\nopen\nend 0 1\n",
         taken: b"rejected line 5\n",
         status: Status::No,
     },
-    // any tree line 1: taken where no box waits
+    // any tree line: taken where no box waits
     Case {
         input: b"cells 1\ncell 1 1\nterm t0 = sum one inflexion\nobjective t0\n%%\nminimise\nbudget none\nopen\nno 1 1\nend 1 1\n",
         taken: b"rejected line 4\n",
         status: Status::No,
     },
-    // any tree line 2: the boxes that a line makes wait behind the others
+    // any tree line: the boxes that a line makes wait behind the others
     Case {
         input: b"cells 1\ncell 1 0 2 3\nterm t0 = sum surf increasing\n%%\ngenerate 2\nfull 2\nseries 0\nseries 2\nsplit 1 2\nsplit 1 1\nyes\nopen\nend 3 1\n",
         taken: b"rejected line 9\n",
         status: Status::No,
     },
-    // any tree line 3: an `open` line needs no box
+    // any tree line: an `open` line needs no box
     Case {
         input: b"cells 1\ncell 1 2\nterm t0 = sum surf increasing\nobjective t0\n%%\ngenerate 1\nbudget 0\nopen\nopen\nend 0 2\n",
         taken: b"rejected line 4\n",
         status: Status::No,
     },
-    // series 5: the numbers aren't counted
+    // series: the numbers aren't counted
     Case {
         input: b"cells 1\ncell 1 1\nterm t0 = sum one inflexion\nobjective t0\n%%\ngenerate 3\nall 1\nseries 1 0\nyes\nend 1 0\n",
         taken: b"rejected line 3\n",
         status: Status::No,
     },
-    // end 1: a box may wait
+    // end: a box may wait
     Case {
         input: b"cells 1\ncell 1 2 3\nterm t0 = max max peak\nobjective t0\n%%\ngenerate 2\nall 0\nsplit 1 2\nend 1 0\n",
         taken: b"rejected line 4\n",
         status: Status::No,
     },
-    // end 2: a listed series without `yes`
+    // end: a listed series without `yes`
     Case {
         input: b"cells 1\ncell 1 2\nterm t0 = sum one inflexion\nobjective t0\n%%\ngenerate 3\nbudget 1\nseries 2\nopen\nend 0 1\n",
         taken: b"rejected line 5\n",
         status: Status::No,
     },
-    // end 3: with `full C` alone each listed series needs its `yes`
+    // end: with `full C` alone each listed series needs its `yes`
     Case {
         input: b"cells 1\ncell 1 2\nterm t0 = sum one inflexion\nobjective t0\n%%\ngenerate 3\nbudget 1\nseries 2\nopen\nend 0 1\n",
         taken: b"rejected line 5\n",
