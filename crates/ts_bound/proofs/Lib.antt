@@ -18,4 +18,5 @@ mod SweepLaws
 pub mod SweptRows
 pub mod ValueLaws
 pub mod Passed
+pub mod OneValue
 mod Listed

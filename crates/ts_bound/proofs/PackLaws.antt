@@ -55,6 +55,20 @@ unpack_mono x y h = grind (arith, ints)
 mono : (x y : End) → x.at ≤ℤ y.at → ext_le (unpack x) (unpack y) ≡ true
 mono x y h = unpack_mono x y (grind (arith, ints))
 
+-- numbers of 64 bits are ordered as what they stand for
+unpack_strict : (x y : End) → x.at ≤ℤ pos 9223372036854775807 → negsuc 9223372036854775807 ≤ℤ y.at → int_le x.at y.at ≡ false →
+    ext_le (unpack x) (unpack y) ≡ false
+unfolding unpack
+unpack_strict x y a b h = grind (arith, ints)
+
+pub order_is : (x y : End) (v w : ℤ) → v ≡ x.at → w ≡ y.at → x.at ≤ℤ pos 9223372036854775807 → negsuc 9223372036854775807 ≤ℤ y.at →
+    int_le v w ≡ ext_le (unpack x) (unpack y)
+order_is x y v w e f a b = ap (λ z. int_le z w) e ∙ ap (int_le x.at) f ∙ go (int_le x.at y.at) refl
+  where
+    go : (t : Bool) → int_le x.at y.at ≡ t → int_le x.at y.at ≡ ext_le (unpack x) (unpack y)
+    go true e = e ∙ sym (unpack_mono x y e)
+    go false e = e ∙ sym (unpack_strict x y a b e)
+
 pub max_then : (x y : End) → x.at ≤ℤ y.at → unpack y ≡ ext_max (unpack x) (unpack y)
 max_then x y h = sym (ap (λ b. cond b (unpack y) (unpack x)) (mono x y h))
 
@@ -239,7 +253,7 @@ pack_some p h i = ap some_hull i.value ∙ i.some
 pub running_some : (any : Bool) (p : Packed) (t : Hull) → IsRunning any p t → any ≡ true → some_hull (unpack_hull p) ≡ true
 running_some any p t i e = pack_some p t (i.begun e)
 
-some_canonical : (h : Hull) → some_hull h ≡ true → hull_of_both h none ≡ h
+pub some_canonical : (h : Hull) → some_hull h ≡ true → hull_of_both h none ≡ h
 some_canonical h e =
     let s = hull_some h e in
     both_is h none ∙ same_hull _ _ _ _ _ _ (hull_first h.c none_span s.0 refl) (hull_first h.d none_span s.1 refl) (hull_first h.r none_span s.2 refl)
@@ -247,6 +261,17 @@ some_canonical h e =
 running_canonical : (any : Bool) (p : Packed) (t : Hull) → IsRunning any p t → hull_of_both t none ≡ t
 running_canonical true p t i = some_canonical t (i.begun refl).some
 running_canonical false p t i = subst (λ (z : Hull). hull_of_both z none ≡ z) (sym (i.empty refl)) none_takes_none
+
+-- the same step from what a hull is in packed form
+pub front_steps : (k : Cut) (any any' : Bool) (p p' : Packed) (u h : Hull) (x : ℤ) → u ≡ h →
+    ((t : Hull) → IsRunning any p t → IsRunning any' p' (hull_of_both t (front_hull k u x))) → (t : Hull) → IsRunning any p t →
+    IsRunning any' p' (hull_of_both t (front_hull k h x))
+front_steps k any any' p p' u h x e step t i = subst (λ (z : Hull). IsRunning any' p' (hull_of_both t (front_hull k z x))) e (step t i)
+
+pub move_steps : (m : Move) (any any' : Bool) (p p' : Packed) (u h : Hull) (x y : ℤ) → u ≡ h →
+    ((t : Hull) → IsRunning any p t → IsRunning any' p' (hull_of_both t (after_move m u x y))) → (t : Hull) → IsRunning any p t →
+    IsRunning any' p' (hull_of_both t (after_move m h x y))
+move_steps m any any' p p' u h x y e step t i = subst (λ (z : Hull). IsRunning any' p' (hull_of_both t (after_move m z x y))) e (step t i)
 
 -- a front more
 pub joined_first : (p : Packed) (t f : Hull) → t ≡ none → IsPackOf p f → IsPackOf p (hull_of_both t f)

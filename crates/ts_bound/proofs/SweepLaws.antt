@@ -1,5 +1,7 @@
 -- The steps of the loops of a sweep.
 use Rattle.std.proofs.Common.{◌≡◌, ℕ, zero, suc, ◌+◌, ◌-◌, ◌*◌, ◌<◌, ◌≤◌, Bool, true, false, cond, ℤ, pos, List, [], ◌∷◌, length, get_or, set, refl, sym, ◌∙◌, ap, subst, arith, int_lt, ◌⊎◌, inl, inr}
+use Rattle.std.specs.Ordering.{int_eq}
+use Rattle.std.proofs.lemmas.Bool.Decides.{Decides-int_eq}
 use Rattle.std.proofs.lemmas.Int.{ints}
 use Rattle.std.proofs.lemmas.List.{set-get_or}
 use borrow.Author.Count.{below_more}
@@ -95,6 +97,29 @@ greater_is v w = go (int_lt v w) (int_lt w v) (not_both v w)
     go true b h = sym (h refl)
     go false true h = refl
     go false false h = refl
+
+not_equal : (v w : ℤ) → (v ≡ w → ⊥) → int_eq v w ≡ false
+not_equal v w h = go (int_eq v w) refl
+  where
+    go : (b : Bool) → int_eq v w ≡ b → int_eq v w ≡ false
+    go true e = absurd (h ((Decides-int_eq v w).0 e))
+    go false e = e
+
+below_apart : (v w : ℤ) → int_lt v w ≡ true → v ≡ w → ⊥
+below_apart v w h e = grind (arith, ints)
+
+neither_is : (v w : ℤ) → int_lt v w ≡ false → int_lt w v ≡ false → v ≡ w
+neither_is v w h k = grind (arith, ints)
+
+pub equal_is : (v w : ℤ) → same_letter (letter_of v w) Equal ≡ int_eq v w
+equal_is v w = go (int_lt v w) (int_lt w v) refl refl
+  where
+    go : (a b : Bool) → int_lt v w ≡ a → int_lt w v ≡ b → same_letter (cond a Less (cond b Greater Equal)) Equal ≡ int_eq v w
+    go true b e f = sym (not_equal v w (below_apart v w e))
+    go false true e f = sym (not_equal v w (λ s. below_apart w v f (sym s)))
+    go false false e f = sym ((Decides-int_eq v w).1 (neither_is v w e f))
+
+pub ruleset letters_are = (less_is, equal_is, greater_is)
 
 lt_trans : (a b c : ℤ) → int_lt a b ≡ true → int_lt b c ≡ true → int_lt a c ≡ true
 lt_trans a b c h k = grind (arith, ints)
@@ -229,8 +254,8 @@ pub fronts_begun : (k : Cut) (l : Letter) (s q : ℕ) (vs : List ℤ) (row : Lis
 unfolding fronts total
 fronts_begun k l s q vs row p = record { begun = λ e. cc; empty = λ e. refl }
 
-pub parts_swept : (pc : Cut) (m : Move) → pc ≡ cut_of m → swept (cut_of m) ≡ true → swept pc ≡ true
-parts_swept pc m e h = ap swept e ∙ h
+pub parts_swept : (pc : Cut) (m : Move) → pc ≡ cut_of m → swept pc ≡ true → swept (cut_of m) ≡ true
+parts_swept pc m e h = ap swept (sym e) ∙ h
 
 pub puts_done : (m : Move) (l : Letter) (s q : ℕ) (vs : List ℤ) (row : List Hull) (ws : List ℤ) (first next : List Hull) (k : ℕ) → length ws ≤ k →
     k ≤ length ws →

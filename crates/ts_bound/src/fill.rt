@@ -94,7 +94,7 @@ fn take_in(a: &Automaton, from: HullAt, earlier: i64, value: i64, next: &mut [Hu
 
 /// The hull of two, register by register.
 #[tactic(auto, unfolding(crate::specs::Hulls::hull_of_both))]
-pub(crate) fn hull_of_both(first: &Hull, second: &Hull) -> Hull
+fn hull_of_both(first: &Hull, second: &Hull) -> Hull
     ensures { result ≡ hull_of_both first.now second.now }
 {
     Hull {

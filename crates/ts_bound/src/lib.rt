@@ -19,6 +19,8 @@ pub mod laws;
 mod packed;
 mod packed_exprs;
 mod row;
+mod single;
+mod small;
 mod spans;
 mod start;
 mod sweep;

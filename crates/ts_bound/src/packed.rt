@@ -129,6 +129,14 @@ impl Ends {
         }
     }
 
+    /// Whether a number lies between the ends.
+    #[inline(always)]
+    fn is_some(self) -> bool
+        ensures { result ≡ has_some (unpack_span self) }
+    {
+        self.lo.at <= self.hi.at
+    }
+
     /// One small number.
     #[tactic(auto, using(crate::proofs::PackLaws::one_small, crate::proofs::PackLaws::one_small_some))]
     #[inline(always)]
@@ -198,6 +206,14 @@ impl Packed {
             d: Ends::of(h.d),
             r: Ends::of(h.r),
         }
+    }
+
+    /// Whether registers lie in it.
+    #[inline(always)]
+    pub(crate) fn is_some(&self) -> bool
+        ensures { result ≡ some_hull (unpack_hull self.now) }
+    {
+        self.c.is_some() && self.d.is_some() && self.r.is_some()
     }
 
     /// Zeros, where nothing is known yet.

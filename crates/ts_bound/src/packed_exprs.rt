@@ -37,7 +37,7 @@ pub(crate) fn joined_ends(o: Op, a: Ends, b: Ends) -> Ends
 }
 
 /// The span of an expression on a packed hull in which registers lie; this cell and the next are small.
-pub(crate) fn ends_of(e: &Expr, h: &Packed, x: i64, y: i64) -> Ends
+fn ends_of(e: &Expr, h: &Packed, x: i64, y: i64) -> Ends
     requires hull { some_hull (unpack_hull h.now) ≡ true }
     requires this { small_int x ≡ true }
     requires next { small_int y ≡ true }
@@ -60,6 +60,60 @@ pub(crate) fn ends_of(e: &Expr, h: &Packed, x: i64, y: i64) -> Ends
     }
 }
 
+/// The same of an operand, which mostly is one word: that is read without a call.
+#[inline(always)]
+fn operand_ends(e: &Expr, h: &Packed, x: i64, y: i64) -> Ends
+    requires hull { some_hull (unpack_hull h.now) ≡ true }
+    requires this { small_int x ≡ true }
+    requires next { small_int y ≡ true }
+    ensures value { unpack_span result ≡ span_in (formula e.now) (unpack_hull h.now) x y }
+    ensures some { has_some (unpack_span result) ≡ true }
+{
+    match e {
+        Expr::C => h.c,
+        Expr::D => h.d,
+        Expr::R => h.r,
+        Expr::This => Ends::one(x),
+        Expr::Next => Ends::one(y),
+        Expr::Unit => Ends::one(1),
+        _ => ends_of(e, h, x, y),
+    }
+}
+
+/// The same of an expression that changes a register, which mostly is one operator.
+fn changed_ends(e: &Expr, h: &Packed, x: i64, y: i64) -> Ends
+    requires hull { some_hull (unpack_hull h.now) ≡ true }
+    requires this { small_int x ≡ true }
+    requires next { small_int y ≡ true }
+    ensures value { unpack_span result ≡ span_in (formula e.now) (unpack_hull h.now) x y }
+    ensures some { has_some (unpack_span result) ≡ true }
+{
+    match e {
+        Expr::Zero => Ends::one(0),
+        Expr::NegInf => Ends::low(),
+        Expr::Add(a, b) => joined_ends(Op::Add, operand_ends(a, h, x, y), operand_ends(b, h, x, y)),
+        Expr::Max(a, b) => joined_ends(Op::Max, operand_ends(a, h, x, y), operand_ends(b, h, x, y)),
+        _ => ends_of(e, h, x, y),
+    }
+}
+
+/// The same of the expression of a register: a move leaves most as they are.
+#[inline(always)]
+pub(crate) fn register_ends(e: &Expr, h: &Packed, x: i64, y: i64) -> Ends
+    requires hull { some_hull (unpack_hull h.now) ≡ true }
+    requires this { small_int x ≡ true }
+    requires next { small_int y ≡ true }
+    ensures value { unpack_span result ≡ span_in (formula e.now) (unpack_hull h.now) x y }
+    ensures some { has_some (unpack_span result) ≡ true }
+{
+    match e {
+        Expr::C => h.c,
+        Expr::D => h.d,
+        Expr::R => h.r,
+        _ => changed_ends(e, h, x, y),
+    }
+}
+
 /// The move on a hull in which registers lie.
 #[inline(always)]
 pub(crate) fn moved_packed(t: &Turn, h: &Packed, x: i64, y: i64) -> Packed
@@ -69,8 +123,8 @@ pub(crate) fn moved_packed(t: &Turn, h: &Packed, x: i64, y: i64) -> Packed
     ensures { IsPackOf result (after_move (move_of t.now) (unpack_hull h.now) x y) }
 {
     Packed {
-        c: ends_of(&t.c, h, x, y),
-        d: ends_of(&t.d, h, x, y),
-        r: ends_of(&t.r, h, x, y),
+        c: register_ends(&t.c, h, x, y),
+        d: register_ends(&t.d, h, x, y),
+        r: register_ends(&t.r, h, x, y),
     }
 }

@@ -4,7 +4,8 @@ ghost use Rattle.std.specs.Prelude.{◌≡◌, ◌*◌, length};
 ghost use Rattle.ts_bound.specs.NextRow.{RowStands, next_row};
 
 use crate::fill::fill_by_pairs;
-use crate::sweep::{are_small, sweep_row};
+use crate::small::are_small;
+use crate::sweep::sweep_row;
 use crate::sweep_values::Places;
 use ts_automaton::{Automaton, Hull};
 use ts_domain::Domain;

@@ -3,13 +3,16 @@
 ghost use Rattle.std.specs.Prelude.{◌≡◌, ℕ, ◌*◌, ◌<◌, true, false, length, get_or};
 ghost use Rattle.std.specs.List.{list_all};
 ghost use Rattle.ts_automaton.specs.Body.{move_of, move_on, node_of};
+ghost use Rattle.ts_base.specs.declared.letter.Letter.TheVariants.{Equal};
 ghost use Rattle.ts_bound.specs.Hulls.{none};
 ghost use Rattle.ts_bound.specs.NextRow.{next_row};
 ghost use Rattle.ts_bound.specs.Sealed.{move_at, some_hull};
-ghost use Rattle.ts_bound.specs.Smalls.{small, small_hull, small_span};
-ghost use Rattle.ts_bound.specs.Sweeps.{AllTakeNone, IsSweepable, fits, hull_in, may_fit, with_move, with_state};
+ghost use Rattle.ts_bound.specs.Smalls.{small_hull};
+ghost use Rattle.ts_bound.specs.Sweeps.{AllTakeNone, IsSweepable, fits, hull_in, may_fit, same_letter};
+ghost use Rattle.ts_bound.specs.Sweeps.{with_move, with_state};
 
 use crate::fill::clear;
+use crate::single::step_state;
 use crate::sweep_equal::equal_move;
 use crate::sweep_move::sweep_move;
 use crate::sweep_pairs::pair_move;
@@ -17,41 +20,7 @@ use crate::sweep_parts::Parts;
 use crate::sweep_run::has_registers;
 use crate::sweep_values::{Places, count_of, greatest_of, least_of};
 use ts_automaton::{Automaton, Hull, State, Turn};
-use ts_base::{Ext, Letter, Span};
-
-/// Sums of a few numbers up to this size aren't clamped.
-const SMALL: i64 = 10_000_000_000_000_000;
-
-/// Whether an end is no number above 10^16 in size.
-fn is_small_end(e: Ext) -> bool
-    ensures { result ≡ small e }
-{
-    match e {
-        Ext::Int(x) => -SMALL <= x && x <= SMALL,
-        _ => true,
-    }
-}
-
-/// Whether neither end is a number above 10^16 in size.
-fn is_small_span(s: Span) -> bool
-    ensures { result ≡ small_span s }
-{
-    is_small_end(s.lo) && is_small_end(s.hi)
-}
-
-/// Whether no end of a hull is a number above 10^16 in size.
-fn is_small(h: &Hull) -> bool
-    ensures { result ≡ small_hull h.now }
-{
-    is_small_span(h.c) && is_small_span(h.d) && is_small_span(h.r)
-}
-
-/// Whether no hull of a row has a number above 10^16 in size.
-pub(crate) fn are_small(row: &[Hull]) -> bool
-    ensures { result ≡ list_all small_hull row.now }
-{
-    row.iter().all(|h| is_small(h))
-}
+use ts_base::Letter;
 
 /// The move on a letter.
 fn turn_on(state: &State, l: Letter) -> &Turn
@@ -65,7 +34,7 @@ fn turn_on(state: &State, l: Letter) -> &Turn
 }
 
 /// The move of a state on a letter.
-fn turn(a: &Automaton, q: u8, l: Letter) -> &Turn
+pub(crate) fn turn(a: &Automaton, q: u8, l: Letter) -> &Turn
     requires { q < length a.now.states }
     ensures value { move_of result.now ≡ move_at a.now q l }
     ensures exists { result.now.next < length a.now.states }
@@ -99,8 +68,35 @@ fn may_occur(l: Letter, values: &Places<'_>, next_values: &Places<'_>) -> bool
     )
 }
 
-/// A move is taken in: by equal values on `=`, by a sweep where it can be swept, else by pairs. One next value alone
-/// needs no sweep.
+/// A move on `<` or `>` is taken in: by a sweep where it can be swept, else by pairs.
+fn unequal_move(
+    t: &Turn,
+    l: Letter,
+    s: usize,
+    q: usize,
+    values: &Places<'_>,
+    before: &[Hull],
+    next_values: &Places<'_>,
+    next: &mut [Hull],
+)
+    requires unequal { same_letter l Equal ≡ false }
+    requires sweepable { IsSweepable values.now next_values.now before.now }
+    requires canonical { AllTakeNone next.old }
+    requires state { q < s }
+    requires leads { t.now.next < s }
+    requires before { length before.now ≡ length values.now * s }
+    requires next { length next.old ≡ length next_values.now * s }
+    ensures { next.new ≡ with_move (move_of t.now) l s q values.now before.now next_values.now next.old }
+{
+    let p = Parts::of(t);
+    if p.is_swept() {
+        sweep_move(t, &p, l, s, q, values, before, next_values, next);
+    } else {
+        pair_move(t, l, s, q, values, before, next_values, next);
+    }
+}
+
+/// A move is taken in: by equal values on `=`, else by a sweep or by pairs. One next value alone needs no sweep.
 fn take_move(
     t: &Turn,
     l: Letter,
@@ -124,8 +120,8 @@ fn take_move(
             equal_move(t, s, q, values, before, next_values, next);
         }
         _ => {
-            if count_of(next_values) > 1 && Parts::of(t).is_swept() {
-                sweep_move(t, l, s, q, values, before, next_values, next);
+            if count_of(next_values) > 1 {
+                unequal_move(t, l, s, q, values, before, next_values, next);
             } else {
                 pair_move(t, l, s, q, values, before, next_values, next);
             }
@@ -229,6 +225,29 @@ fn add_state(
     );
 }
 
+/// All moves of a state are taken in: one where both cells have one value.
+fn take_state(
+    a: &Automaton,
+    q: u8,
+    values: &Places<'_>,
+    before: &[Hull],
+    next_values: &Places<'_>,
+    next: &mut [Hull],
+)
+    requires sweepable { IsSweepable values.now next_values.now before.now }
+    requires canonical { AllTakeNone next.old }
+    requires state { q < length a.now.states }
+    requires before { length before.now ≡ length values.now * length a.now.states }
+    requires next { length next.old ≡ length next_values.now * length a.now.states }
+    ensures { next.new ≡ with_state a.now values.now before.now next_values.now q next.old }
+{
+    if count_of(values) == 1 && count_of(next_values) == 1 {
+        step_state(a, q, values, before, next_values, next);
+    } else {
+        add_state(a, q, values, before, next_values, next);
+    }
+}
+
 /// Every hull becomes none.
 fn clear_all(row: &mut [Hull])
     ensures { (p : ℕ) → p < length row.old → get_or row.new p none ≡ none }
@@ -254,6 +273,6 @@ pub(crate) fn sweep_row(
     count_of(next_values);
     clear_all(next);
     for q in 0..a.states() {
-        add_state(a, q, values, before, next_values, next);
+        take_state(a, q, values, before, next_values, next);
     }
 }

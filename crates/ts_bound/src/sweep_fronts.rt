@@ -9,7 +9,7 @@ ghost use Rattle.ts_bound.specs.Smalls.{small_int};
 ghost use Rattle.ts_bound.specs.Splits.{closed_span, front_span, is_swept};
 
 use crate::packed::{Ends, Packed};
-use crate::packed_exprs::{ends_of, joined_ends};
+use crate::packed_exprs::{joined_ends, register_ends};
 use crate::sweep_parts::{Part, Parts};
 
 impl Part<'_> {
@@ -23,9 +23,13 @@ impl Part<'_> {
         ensures some { has_some (unpack_span result) ≡ true }
     {
         match *self {
-            Part::Front(e) => ends_of(e, h, x, 0),
-            Part::Tail(_, e) => ends_of(e, h, x, 0),
-            Part::Double(o, e, f) => joined_ends(o, ends_of(e, h, x, 0), ends_of(f, h, x, 0)),
+            Part::Front(e) => register_ends(e, h, x, 0),
+            Part::Tail(_, e) => register_ends(e, h, x, 0),
+            Part::Double(o, e, f) => joined_ends(
+                o,
+                register_ends(e, h, x, 0),
+                register_ends(f, h, x, 0),
+            ),
             Part::Pairs => unreachable!(),
         }
     }
@@ -70,7 +74,8 @@ impl Parts<'_> {
         requires swept { swept (parts_cut self.now) ≡ true }
         requires hull { some_hull (unpack_hull h.now) ≡ true }
         requires next { small_int y ≡ true }
-        ensures { unpack_hull result ≡ closed_hull (parts_cut self.now) (unpack_hull h.now) y }
+        ensures value { unpack_hull result ≡ closed_hull (parts_cut self.now) (unpack_hull h.now) y }
+        ensures some { some_hull (unpack_hull result) ≡ true }
     {
         Packed {
             c: self.c.closed_ends(h.c, y),

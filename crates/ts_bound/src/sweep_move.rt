@@ -14,38 +14,36 @@ ghost use Rattle.ts_bound.specs.Sweeps.{step_place, with_hull_at, with_move};
 
 use crate::packed::Packed;
 use crate::sweep_parts::Parts;
-use crate::sweep_run::{Run, fits, has_registers, put, step_place, with_next};
+use crate::sweep_run::{Run, fits, packed_at, put, step_place, with_next};
 use crate::sweep_values::{Places, count_of, value_at};
 use ts_automaton::{Hull, Turn};
 use ts_base::Letter;
 
 /// The fronts on a hull in which registers lie, for the value at place `i`.
 #[inline(always)]
-fn front_of(p: &Parts<'_>, h: &Hull, values: &Places<'_>, i: usize) -> Packed
+fn front_of(p: &Parts<'_>, h: &Packed, values: &Places<'_>, i: usize) -> Packed
     requires inside { i < length values.now }
     requires swept { swept (parts_cut p.now) ≡ true }
-    requires some { some_hull h.now ≡ true }
-    requires small { small_hull h.now ≡ true }
+    requires some { some_hull (unpack_hull h.now) ≡ true }
     requires this { small_int (get_or values.now i (pos 0)) ≡ true }
-    ensures { IsPackOf result (front_hull (parts_cut p.now) h.now (get_or values.now i (pos 0))) }
+    ensures { IsPackOf result (front_hull (parts_cut p.now) (unpack_hull h.now) (get_or values.now i (pos 0))) }
 {
-    p.front_packed(&Packed::of(h), value_at(values, i))
+    p.front_packed(h, value_at(values, i))
 }
 
 /// The run with one hull more, for the value at place `i`.
 #[inline(always)]
-fn with_hull(p: &Parts<'_>, h: &Hull, values: &Places<'_>, i: usize, run: Run) -> Run
+fn with_hull(p: &Parts<'_>, h: &Packed, values: &Places<'_>, i: usize, run: Run) -> Run
     requires inside { i < length values.now }
     requires room { run.at < 18446744073709551615 }
     requires swept { swept (parts_cut p.now) ≡ true }
-    requires small { small_hull h.now ≡ true }
     requires this { small_int (get_or values.now i (pos 0)) ≡ true }
     requires begun { run.any ≡ true → some_hull (unpack_hull run.hull) ≡ true }
     ensures at { result.at ≡ run.at + 1 }
     ensures hull { (t : Hull) → IsRunning run.any run.hull t → IsRunning result.any result.hull
-        (hull_of_both t (front_hull (parts_cut p.now) h.now (get_or values.now i (pos 0)))) }
+        (hull_of_both t (front_hull (parts_cut p.now) (unpack_hull h.now) (get_or values.now i (pos 0)))) }
 {
-    if has_registers(h) {
+    if h.is_some() {
         Run {
             at: run.at + 1,
             any: true,
@@ -83,7 +81,7 @@ fn with_place(
     ensures hull { (t : Hull) → IsRunning run.any run.hull t → IsRunning result.any result.hull
         (hull_of_both t (front_hull (parts_cut p.now) (hull_in s q before.now i) (get_or values.now i (pos 0)))) }
 {
-    with_hull(p, &before[i * s + q], values, i, run)
+    with_hull(p, &packed_at(before, s, q, values, i), values, i, run)
 }
 
 /// The fronts that may be taken in before the next value at place `j`: those whose value compares with it as the letter
@@ -134,7 +132,8 @@ fn closed_at(p: &Parts<'_>, h: &Packed, next_values: &Places<'_>, j: usize) -> H
     requires swept { swept (parts_cut p.now) ≡ true }
     requires some { some_hull (unpack_hull h.now) ≡ true }
     requires next { small_int (get_or next_values.now j (pos 0)) ≡ true }
-    ensures { result ≡ closed_hull (parts_cut p.now) (unpack_hull h.now) (get_or next_values.now j (pos 0)) }
+    ensures value { result ≡ closed_hull (parts_cut p.now) (unpack_hull h.now) (get_or next_values.now j (pos 0)) }
+    ensures some { some_hull result ≡ true }
 {
     p.closed_packed(h, value_at(next_values, j)).unpacked()
 }
@@ -160,13 +159,15 @@ fn put_run(
         (closed_hull (parts_cut p.now) t (get_or next_values.now j (pos 0))) }
 {
     if run.any {
-        put(next, s, to, j, closed_at(p, &run.hull, next_values, j));
+        put(next, s, to, j, &closed_at(p, &run.hull, next_values, j));
     }
 }
 
-/// A move on `<` or `>` by a sweep: each next value, in the letter's order, takes in the fronts that were passed.
+/// A move on `<` or `>` by a sweep over its parts: each next value, in the letter's order, takes in the fronts that
+/// were passed.
 pub(crate) fn sweep_move(
     t: &Turn,
+    p: &Parts<'_>,
     l: Letter,
     s: usize,
     q: usize,
@@ -176,7 +177,8 @@ pub(crate) fn sweep_move(
     next: &mut [Hull],
 )
     requires unequal { same_letter l Equal ≡ false }
-    requires swept { swept (cut_of (move_of t.now)) ≡ true }
+    requires parts { parts_cut p.now ≡ cut_of (move_of t.now) }
+    requires swept { swept (parts_cut p.now) ≡ true }
     requires sweepable { IsSweepable values.now next_values.now before.now }
     requires canonical { AllTakeNone next.old }
     requires state { q < s }
@@ -185,7 +187,6 @@ pub(crate) fn sweep_move(
     requires next { length next.old ≡ length next_values.now * s }
     ensures { next.new ≡ with_move (move_of t.now) l s q values.now before.now next_values.now next.old }
 {
-    let p = Parts::of(t);
     let n = count_of(next_values);
     let to = t.next as usize;
     let mut run = Run {
@@ -195,7 +196,7 @@ pub(crate) fn sweep_move(
     };
     for k in 0..count_of(next_values) {
         let j = step_place(l, n, k);
-        run = passed(&p, l, s, q, values, before, next_values, j, run);
-        put_run(&p, &run, next, s, to, next_values, j);
+        run = passed(p, l, s, q, values, before, next_values, j, run);
+        put_run(p, &run, next, s, to, next_values, j);
     }
 }

@@ -12,14 +12,14 @@ ghost use Rattle.ts_bound.specs.Sweeps.{with_hull_at, with_move};
 
 use crate::packed::Packed;
 use crate::packed_exprs::moved_packed;
-use crate::sweep_run::{Run, fits, has_registers, put, step_place, with_next};
+use crate::sweep_run::{Run, fits, packed_at, put, step_place, with_next};
 use crate::sweep_values::{Places, count_of, value_at};
 use ts_automaton::{Hull, Turn};
 use ts_base::Letter;
 
-/// The move on a packed hull, between two places.
+/// The move on a hull in which registers lie, between two places.
 #[inline(always)]
-fn packed_between(
+pub(crate) fn moved_of(
     t: &Turn,
     h: &Packed,
     values: &Places<'_>,
@@ -38,33 +38,11 @@ fn packed_between(
     moved_packed(t, h, value_at(values, i), value_at(next_values, j))
 }
 
-/// The move on a hull in which registers lie, between two places.
-#[inline(always)]
-fn moved_of(
-    t: &Turn,
-    h: &Hull,
-    values: &Places<'_>,
-    i: usize,
-    next_values: &Places<'_>,
-    j: usize,
-) -> Packed
-    requires first { i < length values.now }
-    requires second { j < length next_values.now }
-    requires some { some_hull h.now ≡ true }
-    requires small { small_hull h.now ≡ true }
-    requires this { small_int (get_or values.now i (pos 0)) ≡ true }
-    requires next { small_int (get_or next_values.now j (pos 0)) ≡ true }
-    ensures { IsPackOf result (after_move (move_of t.now)
-        h.now (get_or values.now i (pos 0)) (get_or next_values.now j (pos 0))) }
-{
-    packed_between(t, &Packed::of(h), values, i, next_values, j)
-}
-
 /// The run with the move on a hull more.
 #[inline(always)]
 fn with_moved_hull(
     t: &Turn,
-    h: &Hull,
+    h: &Packed,
     values: &Places<'_>,
     i: usize,
     next_values: &Places<'_>,
@@ -73,15 +51,14 @@ fn with_moved_hull(
 ) -> Run
     requires first { i < length values.now }
     requires second { j < length next_values.now }
-    requires small { small_hull h.now ≡ true }
     requires this { small_int (get_or values.now i (pos 0)) ≡ true }
     requires next { small_int (get_or next_values.now j (pos 0)) ≡ true }
     requires begun { run.any ≡ true → some_hull (unpack_hull run.hull) ≡ true }
     ensures { (r : Hull) → IsRunning run.any run.hull r → IsRunning result.any result.hull
         (hull_of_both r (after_move (move_of t.now)
-        h.now (get_or values.now i (pos 0)) (get_or next_values.now j (pos 0)))) }
+        (unpack_hull h.now) (get_or values.now i (pos 0)) (get_or next_values.now j (pos 0)))) }
 {
-    if has_registers(h) {
+    if h.is_some() {
         Run {
             at: run.at,
             any: true,
@@ -117,7 +94,15 @@ fn with_moved(
         (hull_of_both r (after_move (move_of t.now)
         (hull_in s q before.now i) (get_or values.now i (pos 0)) (get_or next_values.now j (pos 0)))) }
 {
-    with_moved_hull(t, &before[i * s + q], values, i, next_values, j, run)
+    with_moved_hull(
+        t,
+        &packed_at(before, s, q, values, i),
+        values,
+        i,
+        next_values,
+        j,
+        run,
+    )
 }
 
 /// The run with what one pair of values gives.
@@ -180,11 +165,12 @@ fn pair_entry(
 #[inline(always)]
 pub(crate) fn put_packed(run: &Run, next: &mut [Hull], s: usize, to: usize, j: usize)
     requires inside { j * s + to < length next.old }
+    requires begun { run.now.any ≡ true → some_hull (unpack_hull run.now.hull) ≡ true }
     requires canonical { hull_of_both (get_or next.old (j * s + to) none) none ≡ get_or next.old (j * s + to) none }
     ensures { (r : Hull) → IsRunning run.now.any run.now.hull r → next.new ≡ with_hull_at next.old (j * s + to) r }
 {
     if run.any {
-        put(next, s, to, j, run.hull.unpacked());
+        put(next, s, to, j, &run.hull.unpacked());
     }
 }
 

@@ -2,16 +2,17 @@
 
 ghost use Rattle.std.specs.Prelude.{◌≡◌, ◌+◌, ◌*◌, ◌<◌, true, length};
 ghost use Rattle.ts_automaton.specs.declared.regs.Hull.{Hull};
+ghost use Rattle.ts_base.specs.Spans.{has_some, span_hull};
 ghost use Rattle.ts_bound.specs.Hulls.{hull_of_both, none};
 ghost use Rattle.ts_bound.specs.Packs.{IsPackOf, IsRunning, unpack_hull};
 ghost use Rattle.ts_bound.specs.Sealed.{some_hull};
-ghost use Rattle.ts_bound.specs.Sweeps.{fits, same_letter, step_place, with_hull_at};
+ghost use Rattle.ts_bound.specs.Smalls.{small_hull};
+ghost use Rattle.ts_bound.specs.Sweeps.{fits, hull_in, step_place, with_hull_at};
 
-use crate::fill::hull_of_both;
 use crate::packed::Packed;
 use crate::sweep_values::{Places, value_at};
 use ts_automaton::Hull;
-use ts_base::{Letter, letter_of};
+use ts_base::{Letter, Span};
 
 /// How many values were passed, whether one of them had a hull in which registers lie, and the hull of what was taken
 /// in.
@@ -36,18 +37,6 @@ impl Run {
     }
 }
 
-/// Whether two letters are one.
-fn same_letter(l: Letter, m: Letter) -> bool
-    ensures { result ≡ same_letter l m }
-{
-    match (l, m) {
-        (Letter::Less, Letter::Less)
-        | (Letter::Equal, Letter::Equal)
-        | (Letter::Greater, Letter::Greater) => true,
-        _ => false,
-    }
-}
-
 /// The place that comes at step `k` of `n` in the order of a letter: from the top for `>`, else from the first.
 pub(crate) fn step_place(l: Letter, n: usize, k: usize) -> usize
     requires { k < n }
@@ -61,6 +50,8 @@ pub(crate) fn step_place(l: Letter, n: usize, k: usize) -> usize
 }
 
 /// Whether two places compare as the letter says.
+#[tactic(auto, using(crate::proofs::SweepLaws::letters_are))]
+#[inline(always)]
 pub(crate) fn fits(
     l: Letter,
     values: &Places<'_>,
@@ -72,7 +63,13 @@ pub(crate) fn fits(
     requires second { j < length next_values.now }
     ensures { result ≡ fits l values.now i next_values.now j }
 {
-    same_letter(letter_of(value_at(values, i), value_at(next_values, j)), l)
+    let this = value_at(values, i);
+    let next = value_at(next_values, j);
+    match l {
+        Letter::Less => this < next,
+        Letter::Equal => this == next,
+        Letter::Greater => next < this,
+    }
 }
 
 /// Whether registers lie in a hull.
@@ -80,6 +77,24 @@ pub(crate) fn has_registers(h: &Hull) -> bool
     ensures { result ≡ some_hull h.now }
 {
     !h.is_none()
+}
+
+/// The hull at place `i`, state `q` of `s`, in packed form.
+#[inline(always)]
+pub(crate) fn packed_at(
+    before: &[Hull],
+    s: usize,
+    q: usize,
+    values: &Places<'_>,
+    i: usize,
+) -> Packed
+    requires inside { i < length values.now }
+    requires state { q < s }
+    requires before { length before.now ≡ length values.now * s }
+    requires small { small_hull (hull_in s q before.now i) ≡ true }
+    ensures { unpack_hull result ≡ hull_in s q before.now i }
+{
+    Packed::of(&before[i * s + q])
 }
 
 /// The running hull with one hull more.
@@ -92,11 +107,43 @@ pub(crate) fn with_next(any: bool, hull: Packed, front: Packed) -> Packed
     if any { hull.joined(front) } else { front }
 }
 
-/// A hull is taken in at place `j`, state `to` of `s`.
-pub(crate) fn put(next: &mut [Hull], s: usize, to: usize, j: usize, h: Hull)
-    requires { j * s + to < length next.old }
-    ensures { next.new ≡ with_hull_at next.old (j * s + to) h }
+/// A span that isn't none is taken in.
+#[inline(always)]
+fn widened_span(there: Span, s: Span) -> Span
+    requires { has_some s ≡ true }
+    ensures { result ≡ span_hull there s }
+{
+    if there.is_none() {
+        s
+    } else {
+        Span {
+            lo: there.lo.lesser(s.lo),
+            hi: there.hi.greater(s.hi),
+        }
+    }
+}
+
+/// A hull in which registers lie is taken in.
+#[tactic(auto, unfolding(crate::specs::Hulls::hull_of_both))]
+#[inline(always)]
+fn widened(there: &Hull, h: &Hull) -> Hull
+    requires { some_hull h.now ≡ true }
+    ensures { result ≡ hull_of_both there.now h.now }
+{
+    Hull {
+        c: widened_span(there.c, h.c),
+        d: widened_span(there.d, h.d),
+        r: widened_span(there.r, h.r),
+    }
+}
+
+/// A hull in which registers lie is taken in at place `j`, state `to` of `s`.
+#[inline(always)]
+pub(crate) fn put(next: &mut [Hull], s: usize, to: usize, j: usize, h: &Hull)
+    requires inside { j * s + to < length next.old }
+    requires some { some_hull h.now ≡ true }
+    ensures { next.new ≡ with_hull_at next.old (j * s + to) h.now }
 {
     let at = j * s + to;
-    next[at] = hull_of_both(&next[at], &h);
+    next[at] = widened(&next[at], h);
 }

@@ -8,7 +8,7 @@ use Rattle.ts_bound.proofs.packed_exprs.moved_packed.Goals as goal
 pub returns : goal.returns
 returns c =
     moved_packs_at (move_of c.args.t.now) (unpack_hull c.args.h.now) c.args.x _ c.args.y _
-    (record { c = c.ends_of.result; d = c.ends_of-2.result; r = c.ends_of-3.result }) (to_z-of_z w64 c.args.x c.ranges.x)
+    (record { c = c.register_ends.result; d = c.register_ends-2.result; r = c.register_ends-3.result }) (to_z-of_z w64 c.args.x c.ranges.x)
     (to_z-of_z w64 c.args.y c.ranges.y)
-    c.requires.hull c.ends_of.ensures.value c.ends_of-2.ensures.value c.ends_of-3.ensures.value c.ends_of.ensures.some c.ends_of-2.ensures.some
-    c.ends_of-3.ensures.some
+    c.requires.hull c.register_ends.ensures.value c.register_ends-2.ensures.value c.register_ends-3.ensures.value c.register_ends.ensures.some
+    c.register_ends-2.ensures.some c.register_ends-3.ensures.some

@@ -5,12 +5,12 @@ use Rattle.ts_bound.proofs.sweep.sweep_row.Goals as goal
 pub loop-q-init : goal.loop-q-init
 loop-q-init c = states_begun c.args.a.now c.args.values.now c.args.before.now c.args.next_values.now c.clear_all.new.row
 
-pub add_state-requires-clause-sweepable : goal.add_state-requires-clause-sweepable
-add_state-requires-clause-sweepable c =
+pub take_state-requires-clause-sweepable : goal.take_state-requires-clause-sweepable
+take_state-requires-clause-sweepable c =
     able c.args.values.now c.args.next_values.now c.args.before.now c.requires.small c.count_of.ensures.values c.count_of-2.ensures.values
 
-pub add_state-requires-clause-canonical : goal.add_state-requires-clause-canonical
-add_state-requires-clause-canonical c =
+pub take_state-requires-clause-canonical : goal.take_state-requires-clause-canonical
+take_state-requires-clause-canonical c =
     let same : length c.clear_all.new.row ≡ length c.args.next.now = omega arith in
     states_canonical c.args.a.now c.args.values.now c.args.before.now c.args.next_values.now c.loop-q.q c.clear_all.new.row c.loop-q.next
     c.loop-q.invariant (λ p lt. c.clear_all.ensures p (omega (arith, same, lt)))
@@ -18,7 +18,7 @@ add_state-requires-clause-canonical c =
 pub loop-q-preserved : goal.loop-q-preserved
 loop-q-preserved c =
     states_more c.args.a.now c.args.values.now c.args.before.now c.args.next_values.now c.loop-q.q c.clear_all.new.row c.loop-q.next
-    c.add_state.new.next c.loop-q.invariant c.add_state.ensures
+    c.take_state.new.next c.loop-q.invariant c.take_state.ensures
 
 pub returns : goal.returns
 returns c =

@@ -2,6 +2,7 @@ use Rattle.std.proofs.Common.{refl, ◌+◌, ◌*◌, pos, length, get_or, arith
 use Rattle.ts_base.specs.declared.letter.Letter.TheVariants.{Less, Equal}
 use Rattle.ts_automaton.specs.Body.{move_of}
 use Rattle.ts_bound.specs.Sweeps.{step_place, move_entry}
+use Rattle.ts_bound.proofs.PackLaws.{running_some}
 use Rattle.ts_bound.proofs.SweepLaws.{puts_begun, puts_more, puts_done, puts_are_canonical, all_passed, later_passed}
 use Rattle.ts_bound.proofs.sweep_equal.equal_move.Goals as goal
 
@@ -18,6 +19,12 @@ put_packed-requires-clause-canonical c =
     (λ j. move_entry (move_of c.args.t.now) Equal c.args.s c.args.q c.args.values.now c.args.before.now (get_or c.args.next_values.now j (pos 0)))
     c.args.next.now c.loop-j.next c.loop-j.j c.loop-j.invariant.next c.requires.canonical
     (c.loop-j.j * c.args.s + c.args.t.now.next)
+
+pub put_packed-requires-clause-begun : goal.put_packed-requires-clause-begun
+put_packed-requires-clause-begun c =
+    running_some c.equal_entry-run.result.any c.equal_entry-run.result.hull
+    (move_entry (move_of c.args.t.now) Equal c.args.s c.args.q c.args.values.now c.args.before.now
+    (get_or c.args.next_values.now c.loop-j.j (pos 0))) c.equal_entry-run.ensures
 
 pub loop-j-preserved : goal.loop-j-preserved
 loop-j-preserved c =

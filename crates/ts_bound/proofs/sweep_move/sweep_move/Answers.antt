@@ -14,16 +14,10 @@ loop-k-init c = record {
   passed = λ i h n low high. absurd (omega arith);
 }
 
-pub passed-run-requires-clause-swept : goal.passed-run-requires-clause-swept
-passed-run-requires-clause-swept c = parts_swept (parts_cut c.of-p.result) (move_of c.args.t.now) c.of-p.ensures c.requires.swept
-
-pub put_run-requires-clause-swept : goal.put_run-requires-clause-swept
-put_run-requires-clause-swept c = parts_swept (parts_cut c.of-p.result) (move_of c.args.t.now) c.of-p.ensures c.requires.swept
-
 pub put_run-requires-clause-begun : goal.put_run-requires-clause-begun
 put_run-requires-clause-begun c =
     running_some c.passed-run.result.any c.passed-run.result.hull
-    (fronts (parts_cut c.of-p.result) c.args.l c.args.s c.args.q c.args.values.now c.args.before.now c.passed-run.result.at) c.passed-run.ensures.fronts
+    (fronts (parts_cut c.args.p.now) c.args.l c.args.s c.args.q c.args.values.now c.args.before.now c.passed-run.result.at) c.passed-run.ensures.fronts
 
 pub put_run-requires-clause-canonical : goal.put_run-requires-clause-canonical
 put_run-requires-clause-canonical c =
@@ -48,9 +42,10 @@ loop-k-preserved c =
           c.step_place-j.result (move_entry m c.args.l c.args.s c.args.q vs c.args.before.now (get_or ws c.step_place-j.result (pos 0)))
           (move_entry m c.args.l c.args.s c.args.q vs c.args.before.now (get_or ws c.step_place-j.result (pos 0)))
           (c.step_place-j.ensures.value ∙ ap (λ z. step_place c.args.l z c.loop-k.k) c.count_of-n.ensures.count) c.loop-k.invariant.next refl
-          (put_is m (parts_cut c.of-p.result) c.args.l c.args.s c.args.q c.args.t.now.next vs ws c.args.before.now c.loop-k.next c.put_run.new.next
+          (put_is m (parts_cut c.args.p.now) c.args.l c.args.s c.args.q c.args.t.now.next vs ws c.args.before.now c.loop-k.next c.put_run.new.next
           c.step_place-j.result c.passed-run.result.at c.passed-run.result.any
-          c.passed-run.result.hull c.requires.unequal c.requires.swept c.requires.sweepable c.of-p.ensures c.passed-run.ensures.inside
+          c.passed-run.result.hull c.requires.unequal (parts_swept (parts_cut c.args.p.now) m c.requires.parts c.requires.swept)
+          c.requires.sweepable c.requires.parts c.passed-run.ensures.inside
           c.passed-run.ensures.fronts c.put_run.ensures all c.passed-run.ensures.rest);
       inside = c.passed-run.ensures.inside;
       fronts = c.passed-run.ensures.fronts;
