@@ -79,18 +79,18 @@ module _ (rs : List Require) (term : ℕ) (a : Automata) (b : Box) (k : ℕ) whe
         ((contains_cons v rest t.value).0 (subst (λ l. Contains l t.value) e (h.ahead t g))),
   )
 
-  -- the same with the value and its span as the code has them
-  pub drop_found_as : (left rest : List ℤ) (v w : ℤ) (s : Span) (j : ℕ) → w ≡ v → s ≡ value_span a k b w → AreLeft rs term a b k left →
-      left ≡ v ∷ rest → IsUsableOf a k b → 2 ≤ length (values_at k b) → IsFirstRefuting rs term s (Some j) →
+  -- the same with the value as the code has it
+  pub drop_found_as : (left rest : List ℤ) (v w : ℤ) (j : ℕ) → w ≡ v → AreLeft rs term a b k left → left ≡ v ∷ rest → IsUsableOf a k b →
+      2 ≤ length (values_at k b) → IsFirstRefuting rs term (value_span a k b w) (Some j) →
       IsFirstOf (IsDropAt rs term a b k) (Some (record { cell = k; value = w; require = j }))
-  drop_found_as left rest v w s j same is h e u m f =
+  drop_found_as left rest v w j same h e u m f =
       subst (λ z. IsFirstOf (IsDropAt rs term a b k) (Some (record { cell = k; value = z; require = j }))) (sym same)
-      (drop_found left rest v j h e u m (subst (λ z. IsFirstRefuting rs term z (Some j)) (is ∙ ap (value_span a k b) same) f))
+      (drop_found left rest v j h e u m (subst (λ z. IsFirstRefuting rs term (value_span a k b z) (Some j)) same f))
 
-  pub fewer_left_as : (left rest : List ℤ) (v w : ℤ) (s : Span) → w ≡ v → s ≡ value_span a k b w → AreLeft rs term a b k left →
-      left ≡ v ∷ rest → IsFirstRefuting rs term s None → AreLeft rs term a b k rest
-  fewer_left_as left rest v w s same is h e f =
-      fewer_left left rest v h e (subst (λ z. IsFirstRefuting rs term z None) (is ∙ ap (value_span a k b) same) f)
+  pub fewer_left_as : (left rest : List ℤ) (v w : ℤ) → w ≡ v → AreLeft rs term a b k left → left ≡ v ∷ rest →
+      IsFirstRefuting rs term (value_span a k b w) None → AreLeft rs term a b k rest
+  fewer_left_as left rest v w same h e f =
+      fewer_left left rest v h e (subst (λ z. IsFirstRefuting rs term (value_span a k b z) None) same f)
 
   pub none_left : (left : List ℤ) → AreLeft rs term a b k left → left ≡ [] → IsFirstOf (IsDropAt rs term a b k) None
   none_left left h e t g = nothing_in t.value (subst (λ l. Contains l t.value) e (h.ahead t g))

@@ -1,4 +1,6 @@
+mod BlockParts
 pub mod BoxParts
+mod SoFarLaws
 pub mod SpanEnds
 pub mod TreeLaws
 mod SeriesLines

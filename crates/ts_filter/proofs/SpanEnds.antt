@@ -30,7 +30,7 @@ from_not_false : (x : Bool) → not x ≡ false → x ≡ true
 from_not_false true e = refl
 from_not_false false e = grind arith
 
-from_not_true : (x : Bool) → not x ≡ true → x ≡ false
+pub from_not_true : (x : Bool) → not x ≡ true → x ≡ false
 from_not_true true e = grind arith
 from_not_true false e = refl
 

@@ -15,6 +15,7 @@ pub mod MachineSpans
 pub mod OfTerm
 pub mod RefutedWorseDrop
 pub mod Rules
+pub mod SoFar
 pub mod Steps
 pub mod TermDrops
 pub mod Tests

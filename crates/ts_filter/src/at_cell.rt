@@ -9,9 +9,9 @@ ghost use Rattle.ts_filter.specs.Known.{AreKnown, StillKnown};
 ghost use Rattle.ts_filter.specs.declared.bar.Bar.TheVariants.{Better};
 ghost use Rattle.ts_glue.specs.Machines.{pair_of};
 
+use crate::asked::Asked;
 use crate::bar::Bar;
 use crate::box_tables::BoxTables;
-use crate::excluded::{cuts, refutes};
 use std::alloc::Global;
 use ts_base::{Ext, Goal, Memory};
 use ts_domain::Boxed;
@@ -36,7 +36,8 @@ impl<'a> BoxTables<'a> {
             ↔ Refutes r.now.op r.now.bound (term_span self.old.machine p cells.now.present)) }
     {
         self.make_at(alloc, p, cells)?;
-        Ok(refutes(r.op, r.bound, self.hulls_at(p, cells).span()))
+        let asked = Asked::Compares(r.op, r.bound);
+        Ok(self.hulls_at(p, cells).excludes(asked))
     }
 
     /// Whether the objective isn't better at cell `p`: no number of its span there is better than `bar`. Where the
@@ -57,7 +58,8 @@ impl<'a> BoxTables<'a> {
             ↔ Cuts goal (Better bar) (term_span self.old.machine p cells.now.present)) }
     {
         self.make_at(alloc, p, cells)?;
-        Ok(cuts(goal, Bar::Better(bar), self.hulls_at(p, cells).span()))
+        let asked = Asked::Counts(goal, Bar::Better(bar));
+        Ok(self.hulls_at(p, cells).excludes(asked))
     }
 
     /// Whether no number of the objective's span at the last cell counts for the bar.
@@ -76,7 +78,8 @@ impl<'a> BoxTables<'a> {
     {
         let n = cells.cells();
         self.make_at(alloc, n, cells)?;
-        Ok(cuts(goal, bar, self.hulls_at(n, cells).span()))
+        let asked = Asked::Counts(goal, bar);
+        Ok(self.hulls_at(n, cells).excludes(asked))
     }
 
     /// Whether the requirement is refuted at cell `k` on the box with the value `v` alone there: the condition of a
@@ -98,7 +101,8 @@ impl<'a> BoxTables<'a> {
             ↔ Refutes r.now.op r.now.bound (term_span self.old.machine k (only k v cells.now.present))) }
     {
         self.make_at(alloc, k, cells)?;
-        Ok(refutes(r.op, r.bound, self.hulls_at(k, cells).value_span(v)))
+        let asked = Asked::Compares(r.op, r.bound);
+        Ok(self.hulls_at(k, cells).value_excludes(asked, v))
     }
 }
 

@@ -1,15 +1,20 @@
-//! The spans at a cell, from the hulls that stand there.
+//! The spans at a cell, from the hulls that stand there, as far as what is asked of them needs.
 
-ghost use Rattle.std.specs.Prelude.{◌≡◌, ◌+◌, ◌*◌, ◌≤◌, Contains, IsSome, IsTrue, MatchOption, Some, length, map, slice_get, slice_range, take};
+ghost use Rattle.std.specs.Prelude.{◌≡◌, ◌↔◌, ◌+◌, ◌*◌, ◌≤◌, [], ◌∷◌, Contains, IsSome, IsTrue, MatchOption, Some, length};
+ghost use Rattle.std.specs.Prelude.{map, slice_get, slice_range, take};
 ghost use Rattle.ts_automaton.specs.Typing.{is_automaton};
 ghost use Rattle.ts_bound.specs.Blocks.{OfReverse, back_states, last_at, split_at};
 ghost use Rattle.ts_bound.specs.TermSpans.{IsUsable, automata_of, span_of_all, term_span, value_span};
 ghost use Rattle.ts_domain.specs.BoxSeries.{IsCell};
+ghost use Rattle.ts_filter.specs.Asked.{Excludes};
 ghost use Rattle.ts_filter.specs.Boxes.{values_at};
 ghost use Rattle.ts_filter.specs.CellHulls.{IsBackRow, ahead_row, at_cell};
+ghost use Rattle.ts_filter.specs.SoFar.{IsSoFar, WithParts};
 ghost use Rattle.ts_glue.specs.Machines.{forward_of, pair_of};
 
+use crate::asked::Asked;
 use crate::blocks::{finish_block, glue_block};
+use crate::so_far::SoFar;
 use std::marker::Model;
 use ts_automaton::{Automaton, Hull};
 use ts_base::Span;
@@ -61,37 +66,71 @@ impl<'a> CellHulls<'a> {
         self.cells.cell(self.cell)
     }
 
-    /// The span there.
-    pub(crate) fn span(&self) -> Span
-        ensures { result ≡ term_span self.now.machine self.now.cell self.now.cells }
+    /// Whether no number of the span there does what is asked. That span is the hull of those of the values, and the
+    /// first part of it with such a number tells: in most cells that is the first of all.
+    pub(crate) fn excludes(&self, asked: Asked) -> bool
+        ensures { IsTrue result ↔ Excludes asked (term_span self.now.machine self.now.cell self.now.cells) }
     {
         let values = self.values();
-        let mut span = Span::none();
+        let mut known = SoFar::none(asked);
         for i in 0..values.size() {
             let v = values.nth(i);
-            span = span.hull(self.span_at(i, v));
+            match self.with_value(known, i, v) {
+                Some(more) => known = more,
+                None => return false,
+            }
         }
-        span
+        true
     }
 
-    /// The same on the box with the value `v` alone there.
-    pub(crate) fn value_span(&self, v: i64) -> Span
+    /// The same of the span on the box with the value `v` alone there.
+    pub(crate) fn value_excludes(&self, asked: Asked, v: i64) -> bool
         requires { Contains (values_at self.now.cell self.now.cells) v }
-        ensures { result ≡ value_span self.now.machine self.now.cell self.now.cells v }
+        ensures { IsTrue result ↔ Excludes asked (value_span self.now.machine self.now.cell self.now.cells v) }
     {
-        self.span_at(place_of(self.values(), v), v)
+        self.excludes_at(asked, place_of(self.values(), v), v)
     }
 
     /// The same of the value that stands at place `i`, counted from 0.
+    pub(crate) fn excludes_at(&self, asked: Asked, i: u64, v: i64) -> bool
+        requires { slice_get (values_at self.now.cell self.now.cells) i ≡ Some v }
+        ensures { IsTrue result ↔ Excludes asked (value_span self.now.machine self.now.cell self.now.cells v) }
+    {
+        self.with_value(SoFar::none(asked), i, v).is_some()
+    }
+
+    /// The span of this value.
     pub(crate) fn span_at(&self, i: u64, v: i64) -> Span
         requires { slice_get (values_at self.now.cell self.now.cells) i ≡ Some v }
         ensures { result ≡ value_span self.now.machine self.now.cell self.now.cells v }
     {
+        match self.with_value(SoFar::none(Asked::Nothing), i, v) {
+            Some(known) => known.span,
+            None => unreachable!(),
+        }
+    }
+
+    /// With the span of this value.
+    fn with_value(&self, so_far: SoFar, i: u64, v: i64) -> Option<SoFar>
+        requires known { IsSoFar so_far }
+        requires value { slice_get (values_at self.now.cell self.now.cells) i ≡ Some v }
+        ensures { WithParts so_far (value_span self.now.machine self.now.cell self.now.cells v ∷ []) result }
+    {
         match self.back {
-            Some(back) => split_value(self.machine, self.row, back, self.cells, self.cell, i, v),
+            Some(back) => split_value(
+                so_far,
+                self.machine,
+                self.row,
+                back,
+                self.cells,
+                self.cell,
+                i,
+                v,
+            ),
             None => {
                 machine_is_whole(self.machine);
                 last_value(
+                    so_far,
                     self.machine.forward(),
                     self.row,
                     self.cells,
@@ -118,20 +157,30 @@ fn place_of(values: &Domain, v: i64) -> u64
     unreachable!()
 }
 
-/// The finish span at the value `v` of cell `k`, which stands at place `i`.
-fn last_value(a: &Automaton, row: &[Hull], cells: &Boxed, k: u32, i: u64, v: i64) -> Span
+/// With the finish span at the value `v` of cell `k`, which stands at place `i`.
+fn last_value(
+    so_far: SoFar,
+    a: &Automaton,
+    row: &[Hull],
+    cells: &Boxed,
+    k: u32,
+    i: u64,
+    v: i64,
+) -> Option<SoFar>
+    requires known { IsSoFar so_far }
     requires cell { IsCell k cells.now }
     requires row { row.now ≡ ahead_row a.now k cells.now.present }
     requires value { slice_get (values_at k cells.now.present) i ≡ Some v }
-    ensures { result ≡ last_at a.now k cells.now.present v }
+    ensures { WithParts so_far (last_at a.now k cells.now.present v ∷ []) result }
 {
     let n = cells.cells();
     let states = a.states();
-    finish_block(a, block(row, states, i), n)
+    finish_block(so_far, a, block(row, states, i), n)
 }
 
-/// The glued span at the value.
+/// With the glued span at the value.
 fn split_value(
+    so_far: SoFar,
     m: &Machine,
     row: &[Hull],
     back: &[Hull],
@@ -139,19 +188,20 @@ fn split_value(
     k: u32,
     i: u64,
     v: i64,
-) -> Span
+) -> Option<SoFar>
+    requires known { IsSoFar so_far }
     requires cell { IsCell k cells.now }
     requires row { row.now ≡ ahead_row (forward_of m.now) k cells.now.present }
     requires back { IsBackRow (pair_of m.now) k cells.now.present back.now }
     requires value { slice_get (values_at k cells.now.present) i ≡ Some v }
-    ensures { result ≡ split_at (forward_of m.now) (pair_of m.now) k cells.now.present v }
+    ensures { WithParts so_far (split_at (forward_of m.now) (pair_of m.now) k cells.now.present v ∷ []) result }
 {
     let n = cells.cells();
     let states = m.forward().states();
     let back_states = reverse_states(m);
     let left = block(row, states, i);
     let right = block(back, back_states, i);
-    glue_block(m, left, right, back_states, v, n)
+    glue_block(so_far, m, left, right, back_states, v, n)
 }
 
 /// The number of states of the reverse automaton.

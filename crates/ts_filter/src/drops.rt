@@ -1,20 +1,20 @@
 //! Values that may be taken out of their cells.
 
-ghost use Rattle.std.specs.Prelude.{◌≡◌, ◌↔◌, ◌+◌, ◌<◌, ◌≤◌, ℕ, IfOk, IsTrue, length, map, nat_eq};
+ghost use Rattle.std.specs.Prelude.{◌≡◌, ◌↔◌, ◌+◌, ◌<◌, ◌≤◌, ℕ, IfOk, IsTrue, Some, length, map, nat_eq, slice_get};
 ghost use Rattle.std.specs.List.{AllByRecursion, list_any};
-ghost use Rattle.ts_bound.specs.TermSpans.{automata_of, IsUsable};
+ghost use Rattle.ts_bound.specs.TermSpans.{automata_of, IsUsable, value_span};
 ghost use Rattle.ts_filter.specs.Drops.{IsFirstDrop, IsFirstOf};
-ghost use Rattle.ts_filter.specs.Boxes.{HasCell};
+ghost use Rattle.ts_filter.specs.Boxes.{HasCell, values_at};
 ghost use Rattle.ts_filter.specs.Excluded.{Refutes};
 ghost use Rattle.ts_filter.specs.Known.{AreKnown, StillKnown};
 ghost use Rattle.ts_filter.specs.MachineSpans.{spans_of};
 ghost use Rattle.ts_filter.specs.TermDrops.{IsDropAt, IsFirstRefuting, IsTermDrop, comes_before, earlier_of};
 
+use crate::asked::Asked;
 use crate::box_tables::BoxTables;
 use crate::cell_hulls::CellHulls;
-use crate::excluded::refutes;
 use std::alloc::Global;
-use ts_base::{Memory, Span};
+use ts_base::Memory;
 use ts_domain::Boxed;
 use ts_glue::Machine;
 use ts_model::Require;
@@ -30,7 +30,7 @@ pub struct Removal {
 
 /// The possible drop with the least cell, then the least value, then the least requirement; none exactly where none is
 /// possible. The machines stand in the order of the terms. The tables of a machine are made once, one machine's at a
-/// time, and each value of each cell is looked at once for each term.
+/// time, and each value of each cell is looked at once for each requirement, as far as tells.
 pub fn next_drop(
     alloc: Global,
     machines: &[Machine],
@@ -116,7 +116,7 @@ fn drop_in_cell(hulls: &CellHulls<'_>, term: u32, requirements: &[Require]) -> O
     }
     for i in 0..values.size() {
         let value = values.nth(i);
-        if let Some(require) = first_refuting(requirements, term, hulls.span_at(i, value)) {
+        if let Some(require) = first_refuting(requirements, term, hulls, i, value) {
             return Some(Removal {
                 cell,
                 value,
@@ -127,24 +127,34 @@ fn drop_in_cell(hulls: &CellHulls<'_>, term: u32, requirements: &[Require]) -> O
     None
 }
 
-/// The first requirement of the term that the span refutes.
-fn first_refuting(requirements: &[Require], term: u32, span: Span) -> Option<u32>
-    requires { length requirements.now < 4000000000 }
-    ensures { IsFirstRefuting requirements.now term span result }
+/// The first requirement of the term that the span of the value `v`, which stands at place `i`, refutes.
+fn first_refuting(
+    requirements: &[Require],
+    term: u32,
+    hulls: &CellHulls<'_>,
+    i: u64,
+    v: i64,
+) -> Option<u32>
+    requires few { length requirements.now < 4000000000 }
+    requires value { slice_get (values_at hulls.now.cell hulls.now.cells) i ≡ Some v }
+    ensures { IsFirstRefuting requirements.now term
+        (value_span hulls.now.machine hulls.now.cell hulls.now.cells v) result }
 {
     for at in 0..requirements.len() {
-        if is_refuting(&requirements[at], term, span) {
+        if is_refuting(&requirements[at], term, hulls, i, v) {
             return Some(at as u32 + 1);
         }
     }
     None
 }
 
-/// Whether the requirement is of the term, and the span refutes it.
-fn is_refuting(r: &Require, term: u32, span: Span) -> bool
-    ensures { IsTrue result ↔ ((r.now.term ≡ term) × Refutes r.now.op r.now.bound span) }
+/// Whether the requirement is of the term, and this span refutes it.
+fn is_refuting(r: &Require, term: u32, hulls: &CellHulls<'_>, i: u64, v: i64) -> bool
+    requires { slice_get (values_at hulls.now.cell hulls.now.cells) i ≡ Some v }
+    ensures { IsTrue result ↔ ((r.now.term ≡ term)
+        × Refutes r.now.op r.now.bound (value_span hulls.now.machine hulls.now.cell hulls.now.cells v)) }
 {
-    r.term == term && refutes(r.op, r.bound, span)
+    r.term == term && hulls.excludes_at(Asked::Compares(r.op, r.bound), i, v)
 }
 
 /// The one of two drops that comes first.

@@ -1,27 +1,20 @@
 //! The first cell below the last at which a span is excluded.
 
-ghost use Rattle.std.specs.Prelude.{◌≡◌, ◌↔◌, IfOk, IsTrue};
+ghost use Rattle.std.specs.Prelude.{IfOk};
 ghost use Rattle.ts_bound.specs.TermSpans.{automata_of};
 ghost use Rattle.ts_filter.specs.Asked.{Excludes};
 ghost use Rattle.ts_filter.specs.Excluded.{Cuts, Refutes};
 ghost use Rattle.ts_filter.specs.FirstCell.{IsFirstCell};
 ghost use Rattle.ts_filter.specs.Known.{AreKnown, StillKnown};
 
+use crate::asked::Asked;
 use crate::bar::Bar;
 use crate::box_tables::BoxTables;
-use crate::excluded::{cuts, refutes};
 use std::alloc::Global;
-use ts_base::{Ext, Goal, Memory, Span};
+use ts_base::{Goal, Memory};
 use ts_domain::Boxed;
 use ts_glue::Machine;
-use ts_model::{Op, Require};
-
-/// What is asked of the numbers of a span: to compare so with a bound, or to count for a bar.
-#[derive(Clone, Copy)]
-pub(crate) enum Asked {
-    Compares(Op, Ext),
-    Counts(Goal, Bar),
-}
+use ts_model::Require;
 
 impl<'a> BoxTables<'a> {
     /// The least cell below the last at which no number of the objective's span counts for the bar. None exactly where
@@ -74,7 +67,7 @@ impl<'a> BoxTables<'a> {
         }
         for p in 1..cells.cells() {
             self.make_at(alloc, p, cells)?;
-            if excludes(asked, self.hulls_at(p, cells).span()) {
+            if self.hulls_at(p, cells).excludes(asked) {
                 return Ok(Some(p));
             }
         }
@@ -108,14 +101,4 @@ pub fn first_refuted(
         (λ found. IsFirstCell (automata_of m.now) (Refutes r.now.op r.now.bound) cells.now.present found) }
 {
     BoxTables::new(alloc, m).first_refuted(alloc, r, cells)
-}
-
-/// Whether no number of the span does what is asked.
-fn excludes(asked: Asked, span: Span) -> bool
-    ensures { IsTrue result ↔ Excludes asked span }
-{
-    match asked {
-        Asked::Compares(op, bound) => refutes(op, bound, span),
-        Asked::Counts(goal, bar) => cuts(goal, bar, span),
-    }
 }

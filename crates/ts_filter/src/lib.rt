@@ -3,11 +3,12 @@
 //! The layer above may rely on this: `refutes` and `cuts` answer exactly whether no number of a span compares so with a
 //! bound, or counts for a bar. The calls on a machine and a box answer the same of the box's span at a cell, and name
 //! the first cell, the first drop and the value to keep; each makes the rows of a machine once, however many cells
-//! there are. `BoxTables` answers the same questions and keeps the rows: those that a change of the box doesn't reach
-//! serve the next box. `LiveTables` finds out by itself what has changed, and `AllTables` does so for the machines of
-//! all terms. The definitions state the rule of each line of a certificate, when a certificate is accepted, its first
-//! failing line and what its claim means; by the laws an accepted certificate means what it claims, whoever wrote it,
-//! wherever spans hold the values of their terms.
+//! there are, and looks at no further pair of states once some number of a span does what is asked. `BoxTables` answers
+//! the same questions and keeps the rows: those that a change of the box doesn't reach serve the next box. `LiveTables`
+//! finds out by itself what has changed, and `AllTables` does so for the machines of all terms. The definitions state
+//! the rule of each line of a certificate, when a certificate is accepted, its first failing line and what its claim
+//! means; by the laws an accepted certificate means what it claims, whoever wrote it, wherever spans hold the values of
+//! their terms.
 //!
 //! ```text
 //! let span = Span { lo: Ext::Int(2), hi: Ext::Int(5) };
@@ -25,6 +26,7 @@
 #![tactic(auto)]
 
 mod all_tables;
+mod asked;
 mod at_cell;
 mod bar;
 mod blocks;
@@ -38,6 +40,7 @@ pub mod laws;
 mod live_tables;
 mod meeting;
 mod rows;
+mod so_far;
 
 pub use all_tables::AllTables;
 pub use at_cell::{cut_at_end, refuted, refuted_value, worse};

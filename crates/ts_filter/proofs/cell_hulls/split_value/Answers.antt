@@ -1,14 +1,18 @@
-use Rattle.std.proofs.Common.{ap, ◌∙◌, sym, subst, length, w64}
+use Rattle.std.proofs.Common.{List, ap, ◌∙◌, refl, sym, subst, length, w64, to_z, of_z}
 use Rattle.std.specs.Prelude.{IsTrue}
 use Rattle.std.proofs.lemmas.Int.{to_z-of_z}
 use Rattle.ts_automaton.specs.Typing.{is_automaton}
 use Rattle.ts_base.specs.Limits.{IsCellValue}
 use Rattle.ts_bound.proofs.SpanRuns.{hulls_stand}
 use Rattle.ts_bound.proofs.SpanEnds.{split_one, right_kinds}
+use Rattle.ts_base.specs.declared.span.Span.{Span}
+use Rattle.ts_bound.specs.Blocks.{glued_all, split_at}
+use Rattle.ts_bound.specs.TermSpans.{span_of_all}
 use Rattle.ts_bound.specs.HullTables.{cells_before, cells_after}
 use Rattle.ts_glue.specs.Machines.{forward_of, pair_of}
 use Rattle.ts_filter.specs.Boxes.{values_at}
 use Rattle.ts_filter.proofs.CellLaws.{row_holds, row_block, back_holds, back_block, ahead_long, back_long, cell_value}
+use Rattle.ts_filter.proofs.SoFarLaws.{as_one}
 use Rattle.ts_filter.proofs.cell_hulls.split_value.Goals as goal
 
 pub block-left-requires : goal.block-left-requires
@@ -61,11 +65,16 @@ glue_block-requires-clause-cell c =
 
 pub returns : goal.returns
 returns c =
-    let b = c.args.cells.now.present in let m = c.args.m.now in
-    split_one (forward_of m) (pair_of m) c.args.k b c.args.v _ c.block-left.result.now c.block-right.result.now c.cells-n.result
-    c.reverse_states-back_states.result c.glue_block.result (to_z-of_z w64 c.args.v c.ranges.v)
+    let b = c.args.cells.now.present in let m = c.args.m.now in let states = c.reverse_states-back_states.result in
+    let parts : List Span =
+    glued_all (pair_of m) c.block-left.result.now c.block-right.result.now (to_z w64 (of_z w64 c.args.v)) c.cells-n.result states
+    (length (forward_of m).states) in
+    as_one c.args.so_far parts (split_at (forward_of m) (pair_of m) c.args.k b c.args.v) c.glue_block.result c.requires.known
+    (sym (split_one (forward_of m) (pair_of m) c.args.k b c.args.v _ c.block-left.result.now c.block-right.result.now c.cells-n.result states
+    (span_of_all parts) (to_z-of_z w64 c.args.v c.ranges.v)
     (row_block (forward_of m) (cells_before c.args.k b) (values_at c.args.k b) c.args.i c.args.v c.args.row.now c.block-left.result.now c.states-states.result
     (c.states-states.ensures.count ∙ ap (λ a. length a.states) c.forward.ensures) c.requires.row c.requires.value c.block-left.ensures)
-    (back_block (pair_of m) c.args.k b c.args.i c.args.v c.args.back.now c.block-right.result.now c.reverse_states-back_states.result
+    (back_block (pair_of m) c.args.k b c.args.i c.args.v c.args.back.now c.block-right.result.now states
     c.reverse_states-back_states.ensures.count c.requires.back c.requires.value c.block-right.ensures)
-    c.cells-n.ensures.count c.reverse_states-back_states.ensures.count c.glue_block.ensures
+    c.cells-n.ensures.count c.reverse_states-back_states.ensures.count refl))
+    c.glue_block.ensures

@@ -19,7 +19,7 @@ returns-in-Some c =
     (Some (record { cell = k; value = to_z w64 (of_z w64 c.nth-value.result); require = c.in-Some.require })))
     (sym c.cell-cell.ensures.number)
     (drop_found_as c.args.requirements.now c.args.term t.machine t.cells t.cell (drop c.loop-i.i all) (drop (c.loop-i.i + 1) all) c.nth-value.result _
-    c.span_at.result c.in-Some.require (to_z-of_z w64 c.nth-value.result fits) c.span_at.ensures c.loop-i.invariant left c.cell-cell.ensures.usable many
+    c.in-Some.require (to_z-of_z w64 c.nth-value.result fits) c.loop-i.invariant left c.cell-cell.ensures.usable many
     c.in-Some.ensures)
 
 pub loop-i-preserved : goal.loop-i-preserved
@@ -29,4 +29,4 @@ loop-i-preserved c =
     let left = left_is all c.loop-i.i c.nth-value.result (omega (arith, long, c.loop-i-test.true, c.size-i-end.ensures.size))
     (sym (ap (λ l. slice_get l c.loop-i.i) c.values-values.ensures) ∙ c.nth-value.ensures) in
     fewer_left_as c.args.requirements.now c.args.term t.machine t.cells t.cell (drop c.loop-i.i all) (drop (c.loop-i.i + 1) all) c.nth-value.result _
-    c.span_at.result (to_z-of_z w64 c.nth-value.result fits) c.span_at.ensures c.loop-i.invariant left c.in_default.ensures
+    (to_z-of_z w64 c.nth-value.result fits) c.loop-i.invariant left c.in_default.ensures

@@ -10,9 +10,9 @@ use Rattle.ts_filter.proofs.box_tables.BoxTables.refuted_value.Goals as goal
 pub returns-clause-told : goal.returns-clause-told
 returns-clause-told c =
     let b = c.args.cells.now.present in let k = c.args.k in let v = c.args.v in let h = c.hulls_at.result in
-    subst (λ s. IsTrue c.refutes.result ↔ Refutes c.args.r.now.op c.args.r.now.bound s)
-    (c.value_span.ensures ∙ ap (value_span h.machine h.cell h.cells) (to_z-of_z w64 v c.ranges.v)
+    subst (λ s. IsTrue c.value_excludes.result ↔ Refutes c.args.r.now.op c.args.r.now.bound s)
+    (ap (value_span h.machine h.cell h.cells) (to_z-of_z w64 v c.ranges.v)
     ∙ ap (λ (x : AtCell). value_span x.machine x.cell x.cells v) c.hulls_at.ensures
     ∙ ap (λ (a : Automata). value_span a k b v) c.in_ok-make_at.ensures.known.machine
     ∙ sym (values_narrowed c.args.self.now.machine b k c.requires.cell.0 c.requires.cell.1 v))
-    c.refutes.ensures.exact
+    c.value_excludes.ensures

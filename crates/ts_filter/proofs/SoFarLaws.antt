@@ -1,0 +1,184 @@
+-- A span of which the parts are taken in: more parts, and what a number that does what is asked tells of all parts.
+use Rattle.std.proofs.Common.{◌≡◌, ◌↔◌, ℕ, ◌+◌, ◌<◌, ◌≤◌, ℤ, List, [], ◌∷◌, ◌++◌, length, map, take, drop, slice_get, Bool, true, false, cond, refl, sym, ap, ◌∙◌, subst, arith}
+use Rattle.std.specs.Prelude.{fold, is_some, Option, None, Some}
+use Rattle.std.proofs.lemmas.List.{map-append, take-append-drop}
+use Rattle.std.proofs.lemmas.List.Sums.{fold-append}
+use Rattle.ts_base.specs.declared.ext.Ext.{Ext}
+use Rattle.ts_base.specs.declared.span.Span.{Span}
+use Rattle.ts_base.specs.SpanLayer.{IsWithin}
+use Rattle.ts_base.specs.Spans.{Holds, has_some, none_span, span_hull}
+use Rattle.ts_base.proofs.Order.{le_antisym, le_refl}
+use Rattle.ts_base.proofs.SpanLaws.{holds_some, hull_left, hull_right, hull_least, none_empty}
+use Rattle.ts_bound.specs.TermSpans.{Automata, span_of_all, spans_at, term_span, value_span}
+use Rattle.ts_bound.proofs.HullLaws.{IsCanonical, hull_canonical}
+use Rattle.ts_filter.specs.declared.asked.Asked.{Asked}
+use Rattle.ts_filter.specs.declared.asked.Asked.TheVariants.{Compares, Counts, Nothing}
+use Rattle.ts_filter.specs.declared.so_far.SoFar.{SoFar}
+use Rattle.ts_filter.specs.Asked.{Excludes}
+use Rattle.ts_filter.specs.Boxes.{Box, values_at}
+use Rattle.ts_filter.specs.SoFar.{IsSoFar, WithParts}
+use Rattle.ts_filter.proofs.CellLaws.{span_all, span_more}
+use Rattle.ts_filter.proofs.SoundLaws.{clash}
+
+-- what a part of a span doesn't exclude, the span doesn't
+
+pub part_excludes : (asked : Asked) (s t : Span) → IsWithin s t → Excludes asked t → Excludes asked s
+part_excludes (Compares op bound) s t within none = λ v held. none v (within v held)
+part_excludes (Counts goal bar) s t within none = λ v held. none v (within v held)
+part_excludes Nothing s t within none = tt
+
+still_held : (e : Ext) (ss : List Span) (s : Span) → Holds s e → Holds (fold span_hull s ss) e
+still_held e [] s h = h
+still_held e (t ∷ ss) s h = still_held e ss (span_hull s t) (hull_left s t e h)
+
+front_within : (s : Span) (ps qs : List Span) → IsWithin (fold span_hull s ps) (fold span_hull s (ps ++ qs))
+front_within s ps qs e h = subst (λ t. Holds t e) (sym (fold-append span_hull s ps qs)) (still_held e qs (fold span_hull s ps) h)
+
+-- the hull of spans takes none in unchanged
+
+fold_canonical : (ss : List Span) (s : Span) → IsCanonical s → IsCanonical (fold span_hull s ss)
+fold_canonical [] s h = h
+fold_canonical (t ∷ ss) s h = fold_canonical ss (span_hull s t) (hull_canonical s t)
+
+pub fold_nones : (ss : List Span) (s : Span) → IsCanonical s → (f : ℕ → Span) (rs : List ℕ) → ss ≡ map f rs → ((r : ℕ) → f r ≡ none_span) → fold span_hull s ss ≡ s
+fold_nones ss s can f rs is h = ap (fold span_hull s) is ∙ go rs
+  where
+    go : (rs : List ℕ) → fold span_hull s (map f rs) ≡ s
+    go [] = refl
+    go (r ∷ rs) = ap (λ t. fold span_hull t (map f rs)) (ap (span_hull s) (h r) ∙ can) ∙ go rs
+
+-- spans in their one form that hold the same numbers are one
+same_numbers : (s t : Span) → IsCanonical s → IsCanonical t → IsWithin s t → IsWithin t s → s ≡ t
+same_numbers s t can_s can_t p q = go (has_some s) (has_some t) refl refl
+  where
+    none_is : (z : Span) → IsCanonical z → has_some z ≡ false → none_span ≡ z
+    none_is z can e = sym (ap (λ b. cond b z none_span) e) ∙ can
+
+    go : (a b : Bool) → has_some s ≡ a → has_some t ≡ b → s ≡ t
+    go true true i j =
+        let first = p s.lo (le_refl s.lo, i) in let last = p s.hi (i, le_refl s.hi) in
+        let low = le_antisym s.lo t.lo (q t.lo (le_refl t.lo, j)).0 first.0 in
+        let high = le_antisym s.hi t.hi last.1 (q t.hi (j, le_refl t.hi)).1 in
+        let ends : Ext → Ext → Span = λ lo hi. record { lo = lo; hi = hi } in
+        ap (λ e. ends e s.hi) low ∙ ap (ends t.lo) high
+    go true false i j = absurd (clash (has_some t) (holds_some t s.lo (p s.lo (le_refl s.lo, i))) j)
+    go false true i j = absurd (clash (has_some s) (holds_some s t.lo (q t.lo (le_refl t.lo, j))) i)
+    go false false i j = sym (none_is s can_s i) ∙ none_is t can_t j
+
+hull_assoc : (s t u : Span) → span_hull (span_hull s t) u ≡ span_hull s (span_hull t u)
+hull_assoc s t u =
+    let l = span_hull (span_hull s t) u in let r = span_hull s (span_hull t u) in
+    same_numbers l r (hull_canonical (span_hull s t) u) (hull_canonical s (span_hull t u))
+    (hull_least (span_hull s t) u r
+    (hull_least s t r (hull_left s (span_hull t u)) (λ e h. hull_right s (span_hull t u) e (hull_left t u e h)))
+    (λ e h. hull_right s (span_hull t u) e (hull_right t u e h)))
+    (hull_least s (span_hull t u) l (λ e h. hull_left (span_hull s t) u e (hull_left s t e h))
+    (hull_least t u l (λ e h. hull_left (span_hull s t) u e (hull_right s t e h)) (hull_right (span_hull s t) u)))
+
+hull_before : (s t : Span) (us : List Span) → span_hull s (fold span_hull t us) ≡ fold span_hull (span_hull s t) us
+hull_before s t [] = refl
+hull_before s t (u ∷ us) = hull_before s (span_hull t u) us ∙ ap (λ z. fold span_hull z us) (sym (hull_assoc s t u))
+
+-- more parts
+
+pub begun : (s : SoFar) (ps : List Span) → IsSoFar s → ps ≡ [] → WithParts s ps (Some s)
+begun s ps known e = (refl, sym (ap (fold span_hull s.span) e), known)
+
+pub with_more : (s t : SoFar) (ps qs rs : List Span) (o : Option SoFar) → rs ≡ ps ++ qs → WithParts s ps (Some t) → WithParts t qs o → WithParts s rs o
+with_more s t ps qs rs None is so_far stop = λ none.
+    stop (subst (λ a. Excludes a (fold span_hull t.span qs)) (sym so_far.0)
+    (subst (Excludes s.asked) (ap (fold span_hull s.span) is ∙ fold-append span_hull s.span ps qs ∙ ap (λ z. fold span_hull z qs) (sym so_far.1)) none))
+with_more s t ps qs rs (Some u) is so_far more = (
+  more.0 ∙ so_far.0,
+  more.1 ∙ ap (λ z. fold span_hull z qs) so_far.1 ∙ sym (ap (fold span_hull s.span) is ∙ fold-append span_hull s.span ps qs),
+  more.2,
+)
+
+-- where a front of the parts has a number that does what is asked, all parts have
+pub stopped : (s : SoFar) (ps qs rs : List Span) → rs ≡ ps ++ qs → WithParts s ps None → WithParts s rs None
+stopped s ps qs rs is stop none =
+    stop (part_excludes s.asked _ _ (front_within s.span ps qs) (subst (λ l. Excludes s.asked (fold span_hull s.span l)) is none))
+
+-- parts that are none
+pub passed : (s t : SoFar) (ps qs rs : List Span) (f : ℕ → Span) (ns : List ℕ) → rs ≡ ps ++ qs → qs ≡ map f ns → ((n : ℕ) → f n ≡ none_span) →
+    WithParts s ps (Some t) → WithParts s rs (Some t)
+passed s t ps qs rs f ns is are none so_far =
+    with_more s t ps qs rs (Some t) is so_far (refl, sym (fold_nones qs t.span so_far.2.form f ns are none), so_far.2)
+
+-- the hull of parts as one part
+pub as_one : (s : SoFar) (ps : List Span) (one : Span) (o : Option SoFar) → IsSoFar s → one ≡ span_of_all ps → WithParts s ps o → WithParts s (one ∷ []) o
+as_one s ps one o known is = by_answer o
+  where
+    whole : span_hull s.span one ≡ fold span_hull s.span ps
+    whole = ap (span_hull s.span) is ∙ hull_before s.span none_span ps ∙ ap (λ z. fold span_hull z ps) known.form
+
+    by_answer : (o : Option SoFar) → WithParts s ps o → WithParts s (one ∷ []) o
+    by_answer None stop = λ none. stop (subst (Excludes s.asked) whole none)
+    by_answer (Some t) h = (h.0, h.1 ∙ sym whole, h.2)
+
+-- one part more by its hull
+pub one_told : (s : SoFar) (part both : Span) (told : Bool) → both ≡ span_hull s.span part → (told ≡ true) ↔ Excludes s.asked both →
+    (told ≡ true → WithParts s (part ∷ []) (Some (record { asked = s.asked; span = both }))) × (told ≡ false → WithParts s (part ∷ []) None)
+one_told s part both told is h = (
+  λ so. (refl, is, record { form = ap (λ z. span_hull z none_span) is ∙ hull_canonical s.span part ∙ sym is; excluded = h.0 so }),
+  λ isnt none. clash told (h.1 (subst (Excludes s.asked) (sym is) none)) isnt,
+)
+
+-- one part alone
+pub alone_told : (s : SoFar) (asked : Asked) (part : Span) (o : Option SoFar) (told : Bool) → s.asked ≡ asked → s.span ≡ none_span → told ≡ is_some o →
+    WithParts s (part ∷ []) o → (told ≡ true) ↔ Excludes asked part
+alone_told s asked part None told a e is stop = (
+  λ so. absurd (let f : ◌≡◌ false true = sym is ∙ so in cc),
+  λ none. absurd (stop (part_excludes s.asked (span_hull s.span part) part inside (subst (λ z. Excludes z part) (sym a) none))),
+)
+  where
+    inside : IsWithin (span_hull s.span part) part
+    inside = hull_least s.span part part (λ v held. absurd (none_empty v (subst (λ t. Holds t v) e held))) (λ v held. held)
+alone_told s asked part (Some t) told a e is h = (
+  λ so. part_excludes asked part t.span (subst (IsWithin part) (sym h.1) (hull_right s.span part)) (subst (λ z. Excludes z t.span) (h.0 ∙ a) h.2.excluded),
+  λ none. is,
+)
+
+-- where nothing is asked, the one part is the span
+pub alone_is : (s t : SoFar) (part : Span) → s.span ≡ none_span → IsCanonical part → WithParts s (part ∷ []) (Some t) → t.span ≡ part
+alone_is s t part e can h = h.1 ∙ ap (λ z. span_hull z part) e ∙ can
+
+pub never_stops : (s : SoFar) (part : Span) → s.asked ≡ Nothing → WithParts s (part ∷ []) None → ⊥
+never_stops s part e stop = stop (subst (λ a. Excludes a (span_hull s.span part)) (sym e) tt)
+
+-- the span of a value has its one form
+pub value_canonical : (m : Automata) (k : ℕ) (b : Box) (v : ℤ) → IsCanonical (value_span m k b v)
+unfolding value_span
+value_canonical m k b v = fold_canonical (spans_at m.forward m.pair k b v) none_span refl
+
+-- the parts are the spans of the values of a cell
+
+module _ (known : SoFar) (asked : Asked) (m : Automata) (k : ℕ) (b : Box) (values : List ℤ) (i : ℕ) (same : known.asked ≡ asked) (all : values ≡ values_at k b)
+    (so_far : known.span ≡ span_of_all (map (value_span m k b) (take i values))) where
+  pub value_more : (more : SoFar) (v w : ℤ) → i < length values → slice_get values i ≡ Some v → w ≡ v →
+      WithParts known (value_span m k b w ∷ []) (Some more) →
+      (more.asked ≡ asked) × (more.span ≡ span_of_all (map (value_span m k b) (take (i + 1) values))) × IsSoFar more
+  value_more more v w lt e is h = (
+    h.0 ∙ same,
+    span_more (value_span m k b) values i v known.span (value_span m k b w) more.span lt e (ap (value_span m k b) is) h.1 so_far,
+    h.2,
+  )
+
+  pub value_stops : (v w : ℤ) → i < length values → slice_get values i ≡ Some v → w ≡ v → WithParts known (value_span m k b w ∷ []) None →
+      Excludes asked (term_span m k b) → ⊥
+  unfolding term_span
+  value_stops v w lt e is stop none =
+      let f = value_span m k b in let both = span_hull known.span (f w) in
+      let front = map f (take (i + 1) values) in let rest = map f (drop (i + 1) values) in
+      let whole : map f values ≡ front ++ rest =
+      ap (map f) (sym (take-append-drop (i + 1) values)) ∙ map-append f (take (i + 1) values) (drop (i + 1) values) in
+      let both_is : both ≡ span_of_all front = span_more f values i v known.span (f w) both lt e (ap f is) refl so_far in
+      let none_here : Excludes asked (span_of_all (front ++ rest)) =
+      subst (λ l. Excludes asked (span_of_all l)) whole (subst (λ l. Excludes asked (span_of_all (map f l))) (sym all) none) in
+      stop (subst (λ a. Excludes a both) (sym same) (subst (Excludes asked) (sym both_is)
+      (part_excludes asked (span_of_all front) (span_of_all (front ++ rest)) (front_within none_span front rest) none_here)))
+
+  pub values_done : IsSoFar known → length values ≤ i → Excludes asked (term_span m k b)
+  values_done h done =
+      subst (λ a. Excludes a (term_span m k b)) same
+      (subst (Excludes known.asked) (span_all m k b values i known.span all done so_far) h.excluded)

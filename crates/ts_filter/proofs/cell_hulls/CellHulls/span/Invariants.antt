@@ -1,7 +1,0 @@
-use Rattle.std.proofs.Common.{◌≡◌, map, take}
-use Rattle.ts_bound.specs.TermSpans.{span_of_all, value_span}
-use Rattle.ts_filter.specs.Boxes.{values_at}
-use Rattle.ts_filter.proofs.cell_hulls.CellHulls.span.Given as goal
-
-abbrev pub invariant-loop-i : goal.invariant-loop-i
-invariant-loop-i l = l.span ≡ span_of_all (map (value_span l.self.machine l.self.cell l.self.cells) (take l.i (values_at l.self.cell l.self.cells)))

@@ -1,0 +1,16 @@
+-- What is known of a span while its parts are taken in, one after the other.
+use Rattle.std.specs.Prelude.{◌≡◌, List, fold, Option, None, Some}
+use Rattle.ts_base.specs.declared.span.Span.{Span}
+use Rattle.ts_base.specs.Spans.{none_span, span_hull}
+use Rattle.ts_filter.specs.declared.so_far.SoFar.{SoFar}
+use Rattle.ts_filter.specs.Asked.{Excludes}
+
+-- the hull has its one form where it is none, and no number of it does what is asked
+pub record IsSoFar (s : SoFar) : Type 0 where
+  pub form : span_hull s.span none_span ≡ s.span
+  pub excluded : Excludes s.asked s.span
+
+-- with these parts; none where some number of the hull does what is asked
+abbrev pub WithParts : SoFar → List Span → Option SoFar → Type 0
+WithParts s parts None = Excludes s.asked (fold span_hull s.span parts) → ⊥
+WithParts s parts (Some t) = (t.asked ≡ s.asked) × (t.span ≡ fold span_hull s.span parts) × IsSoFar t
