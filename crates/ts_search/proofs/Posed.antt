@@ -100,7 +100,8 @@ module _ (q : Problem) (posed : IsPosed q) where
         drop_is (search_of q).model (search_of q).spans b i.box found h
 
     -- the objective with its machine, where there is a bar
-    module _ (term : ℕ) (a : Automata) (objective : q.model.now.objective ≡ Some term) (machine : slice_get (automata_in (stated q.model.now)) term ≡ Some a) where
+    module _ (term : ℕ) (a : Automata) (objective : q.model.now.objective ≡ Some term)
+        (machine : slice_get (automata_in (stated q.model.now)) term ≡ Some a) where
       pub cut_told : (bar : Bar) (told : Bool) → IsTrue told ↔ Cuts q.goal bar (term_span a (length b) b) →
           told ≡ cut (search_of q) (last (search_of q)) b bar
       cut_told bar told h =

@@ -139,8 +139,8 @@ impl<'a> Problem<'a> {
         requires cell { IsCell k cells.now }
         requires tables { AreTablesOf self.now tables.old }
         ensures same { tables.new ≡ tables.old }
-        ensures kept { IfOk result (λ v. v ≡ kept_value (search_of self.now).model (search_of self.now).spans self.now.goal k
-            cells.now.present) }
+        ensures kept { IfOk result (λ v. v
+            ≡ kept_value (search_of self.now).model (search_of self.now).spans self.now.goal k cells.now.present) }
     {
         match self.model.objective {
             Some(term) => tables.kept_value(alloc, term, self.goal, k, cells),

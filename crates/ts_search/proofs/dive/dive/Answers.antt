@@ -16,7 +16,8 @@ new-requires c = let few = c.requires.posed.right.whole.few in let same = ap len
 pub settle-requires-clause-part : goal.settle-requires-clause-part
 settle-requires-clause-part c =
     let s = search_of c.args.problem.now in
-    subst (λ b. IsPart b s.model.cells) (sym (ap (λ z. z.present) c.in_ok-cells.ensures ∙ c.deref.ensures.value)) (part_self s.model.cells c.requires.posed.right.box)
+    subst (λ b. IsPart b s.model.cells) (sym (ap (λ z. z.present) c.in_ok-cells.ensures ∙ c.deref.ensures.value))
+    (part_self s.model.cells c.requires.posed.right.box)
 
 -- a requirement is refuted before any cell has kept its value
 pub returns-then-not-branch-clause-found : goal.returns-then-not-branch-clause-found
@@ -35,7 +36,8 @@ loop-k-init c =
     record {
       same = c.settle.ensures.same;
       part = settled.part;
-      ends = ends_first s.model s.spans s.goal c.settle.new.cells.present (length s.model.cells) (settled_all s s.model.cells c.settle.new.cells.present settled) refl;
+      ends = ends_first s.model s.spans s.goal c.settle.new.cells.present (length s.model.cells)
+          (settled_all s s.model.cells c.settle.new.cells.present settled) refl;
     }
 
 -- a model has few cells

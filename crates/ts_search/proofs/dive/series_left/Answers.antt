@@ -44,7 +44,8 @@ returns-then-not-meets c =
     let b = c.args.cells.now.present in
     let single = single_told b c.first_halving.result c.first_halving.ensures c.is_some.result c.is_some.ensures c.if-is_some.false in
     left_fails m b c.in_ok-series.series.items c.meets.result (is_alone b c.in_ok-series.series.items (c.in_ok-series.ensures single))
-    (met_is m c.in_ok-series.series.items c.deref.result.now c.in_ok-judge.field-0.inside.items c.in_ok-judge.field-0.holding.items c.meets.result c.deref.ensures.value
+    (met_is m c.in_ok-series.series.items c.deref.result.now c.in_ok-judge.field-0.inside.items c.in_ok-judge.field-0.holding.items c.meets.result
+    c.deref.ensures.value
     c.meets.ensures c.in_ok-judge.ensures.inside c.in_ok-judge.ensures.holding) c.if-not-meets.true
 
 pub returns : goal.returns
@@ -53,6 +54,7 @@ returns c =
     let b = c.args.cells.now.present in
     let single = single_told b c.first_halving.result c.first_halving.ensures c.is_some.result c.is_some.ensures c.if-is_some.false in
     left_meets m b c.in_ok-series.series.items c.meets.result c.in_ok-value.value (is_alone b c.in_ok-series.series.items (c.in_ok-series.ensures single))
-    (met_is m c.in_ok-series.series.items c.deref.result.now c.in_ok-judge.field-0.inside.items c.in_ok-judge.field-0.holding.items c.meets.result c.deref.ensures.value
+    (met_is m c.in_ok-series.series.items c.deref.result.now c.in_ok-judge.field-0.inside.items c.in_ok-judge.field-0.holding.items c.meets.result
+    c.deref.ensures.value
     c.meets.ensures c.in_ok-judge.ensures.inside c.in_ok-judge.ensures.holding) c.if-not-meets.false
     (c.in_ok-value.ensures ∙ ap (value_of m) c.deref-2.ensures.value)

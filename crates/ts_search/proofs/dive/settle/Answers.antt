@@ -13,14 +13,16 @@ use Rattle.ts_search.proofs.dive.settle.Goals as goal
 pub remove-requires-clause-cell : goal.remove-requires-clause-cell
 remove-requires-clause-cell c =
     let s = search_of c.args.problem.now in
-    removal_cell s.model s.spans c.loop-alloc.cells.present (record { cell = c.in-Some.removal.cell; value = c.in-Some.removal.value; requirement = c.in-Some.removal.require })
+    removal_cell s.model s.spans c.loop-alloc.cells.present
+    (record { cell = c.in-Some.removal.cell; value = c.in-Some.removal.value; requirement = c.in-Some.removal.require })
     (sym c.in_ok-removal.ensures.found ∙ ap removal_of c.in-Some.is)
 
 pub remove-requires-clause-stays : goal.remove-requires-clause-stays
 remove-requires-clause-stays c =
     let s = search_of c.args.problem.now in
     let r : Removal = record { cell = c.in-Some.removal.cell; value = c.in-Some.removal.value; requirement = c.in-Some.removal.require } in
-    λ none. removal_stays s.model s.spans c.loop-alloc.cells.present r c.loop-alloc.invariant.part.box (sym c.in_ok-removal.ensures.found ∙ ap removal_of c.in-Some.is)
+    λ none. removal_stays s.model s.spans c.loop-alloc.cells.present r c.loop-alloc.invariant.part.box
+    (sym c.in_ok-removal.ensures.found ∙ ap removal_of c.in-Some.is)
     (ap (λ v. values_without v (values_at r.cell c.loop-alloc.cells.present)) (sym (to_z-of_z w64 r.value (search rules))) ∙ none)
 
 pub loop-alloc-preserved : goal.loop-alloc-preserved

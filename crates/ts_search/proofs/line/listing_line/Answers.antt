@@ -22,8 +22,10 @@ returns-in_default-first_halving-clause-line c =
 pub returns-in-Some-2-clause-line : goal.returns-in-Some-2-clause-line
 returns-in-Some-2-clause-line c =
     let b = c.args.cells.now.present in
-    listed_no (search_of c.args.problem.now) c.args.count b (sym c.in_ok-j.ensures.found ∙ c.in_default.is) c.in-Some-first_halving.halving.cell c.in-Some-first_halving.halving.at
-    (subst (λ o. MatchOption o (IsSingle b) (λ h. IsHalving h.cell h.at b)) c.in-Some-first_halving.is c.first_halving.ensures) c.in_ok-line.field-0 c.in-Some-2.line
+    listed_no (search_of c.args.problem.now) c.args.count b (sym c.in_ok-j.ensures.found ∙ c.in_default.is)
+    c.in-Some-first_halving.halving.cell c.in-Some-first_halving.halving.at
+    (subst (λ o. MatchOption o (IsSingle b) (λ h. IsHalving h.cell h.at b)) c.in-Some-first_halving.is c.first_halving.ensures)
+    c.in_ok-line.field-0 c.in-Some-2.line
     c.in_ok-line.ensures.line c.in-Some-2.is
 
 pub returns-clause-line : goal.returns-clause-line

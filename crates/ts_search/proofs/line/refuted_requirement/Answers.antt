@@ -20,7 +20,8 @@ loop-j-preserved c =
     record {
       same = c.is_refuted.ensures.same ∙ c.loop-j.invariant.same;
       found = least_next (λ j. refuted s j (last s) c.args.cells.now.present) (requirements s) c.requirements-j-end.result c.loop-j.j
-          c.in_ok-is_refuted.field-0 _ c.loop-j-test.true c.requirements-j-end.ensures.count c.in_ok-is_refuted.ensures.told c.if-branch.false c.loop-j.invariant.found;
+          c.in_ok-is_refuted.field-0 _ c.loop-j-test.true c.requirements-j-end.ensures.count c.in_ok-is_refuted.ensures.told c.if-branch.false
+          c.loop-j.invariant.found;
     }
 
 pub returns-clause-found : goal.returns-clause-found

@@ -18,7 +18,8 @@ pub returns-in_default-first_halving-clause-line : goal.returns-in_default-first
 returns-in_default-first_halving-clause-line c =
     let b = c.args.cells.now.present in
     solved_alone (search_of c.args.problem.now) (find_of c.args.found.now) b (sym c.in_ok-j.ensures.found ∙ c.in_default.is)
-    (subst (λ o. MatchOption o (IsSingle b) (λ h. IsHalving h.cell h.at b)) c.in_default-first_halving.is c.first_halving.ensures) c.last-p-in_default-first_halving.result
+    (subst (λ o. MatchOption o (IsSingle b) (λ h. IsHalving h.cell h.at b)) c.in_default-first_halving.is c.first_halving.ensures)
+    c.last-p-in_default-first_halving.result
     c.last-p-in_default-first_halving.ensures
 
 -- several series that are cut at the last cell
@@ -26,7 +27,8 @@ pub returns-then-branch-clause-line : goal.returns-then-branch-clause-line
 returns-then-branch-clause-line c =
     let b = c.args.cells.now.present in
     solved_cut (search_of c.args.problem.now) (find_of c.args.found.now) b (sym c.in_ok-j.ensures.found ∙ c.in_default.is) c.in-Some-first_halving.halving.cell
-    c.in-Some-first_halving.halving.at (subst (λ o. MatchOption o (IsSingle b) (λ h. IsHalving h.cell h.at b)) c.in-Some-first_halving.is c.first_halving.ensures)
+    c.in-Some-first_halving.halving.at
+    (subst (λ o. MatchOption o (IsSingle b) (λ h. IsHalving h.cell h.at b)) c.in-Some-first_halving.is c.first_halving.ensures)
     c.in_ok-is_cut.field-0 c.in_ok-is_cut.ensures.told c.if-branch.true c.last-p-then-branch.result c.last-p-then-branch.ensures
 
 pub returns-clause-line : goal.returns-clause-line

@@ -11,5 +11,6 @@ pub returns : goal.returns
 returns c =
     let xs = c.args.tree.listed.items in
     listed_certificate c.args.count c.args.tree.lines.items c.args.tree.frontier.boxes (map (λ (x : Vec ℤ Global). x.items) xs) c.waiting-waiting.result
-    c.len-listed.result c.claim.result c.push_open.new.lines.items c.waiting-waiting.ensures (c.len-listed.ensures ∙ c.args.tree.listed.ok.0 ∙ sym (length-map xs (λ (x : Vec ℤ Global). x.items)))
+    c.len-listed.result c.claim.result c.push_open.new.lines.items c.waiting-waiting.ensures
+    (c.len-listed.ensures ∙ c.args.tree.listed.ok.0 ∙ sym (length-map xs (λ (x : Vec ℤ Global). x.items)))
     (c.claim.ensures c.args.tree.frontier.boxes (sym c.waiting-waiting.ensures)) c.in_ok-push_open.ensures

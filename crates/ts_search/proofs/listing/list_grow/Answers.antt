@@ -36,7 +36,8 @@ loop-preserved c =
       same = c.list_treat.ensures.same ∙ c.loop.invariant.same;
       turned = list_more s c.args.count c.args.budget c.loop.counter (list_state_of c.loop.tree) (list_state_of c.list_treat.new.tree) _
           c.loop-test.true c.in_ok-list_treat.ensures.turn c.loop.invariant.turned;
-      parts = list_parts s c.args.count (list_state_of c.loop.tree) (list_state_of c.list_treat.new.tree) c.in_ok-list_treat.ensures.turn c.loop.invariant.parts;
+      parts = list_parts s c.args.count (list_state_of c.loop.tree) (list_state_of c.list_treat.new.tree) c.in_ok-list_treat.ensures.turn
+          c.loop.invariant.parts;
     }
 
 pub returns-clause-turns : goal.returns-clause-turns

@@ -10,4 +10,5 @@ returns-then-is_some c =
 pub returns : goal.returns
 returns c =
     let single = single_told c.args.cells.now.present c.first_halving.result c.first_halving.ensures c.is_some.result c.is_some.ensures c.if-is_some.false in
-    listed_one c.args.cells.now.present c.args.listed.now.items c.push.new.self.items c.in_ok-series.series (c.in_ok-series.ensures single) c.in_ok-push.ensures.items
+    listed_one c.args.cells.now.present c.args.listed.now.items c.push.new.self.items c.in_ok-series.series (c.in_ok-series.ensures single)
+    c.in_ok-push.ensures.items

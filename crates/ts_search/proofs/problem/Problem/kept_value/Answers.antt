@@ -27,4 +27,5 @@ returns-in-Some-clause-kept c =
 pub returns-in-None-clause-kept : goal.returns-in-None-clause-kept
 returns-in-None-clause-kept c =
     let q = c.args.self.now in let b = c.args.cells.now.present in
-    to_z-of_z w64 c.least.result (search rules) ∙ c.least.ensures.least ∙ ap least_value c.cell.ensures ∙ ap (kept_for (search_of q).spans q.goal c.args.k b) (sym c.in-None.is)
+    to_z-of_z w64 c.least.result (search rules) ∙ c.least.ensures.least ∙ ap least_value c.cell.ensures
+    ∙ ap (kept_for (search_of q).spans q.goal c.args.k b) (sym c.in-None.is)
