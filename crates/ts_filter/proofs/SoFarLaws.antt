@@ -40,7 +40,8 @@ fold_canonical : (ss : List Span) (s : Span) → IsCanonical s → IsCanonical (
 fold_canonical [] s h = h
 fold_canonical (t ∷ ss) s h = fold_canonical ss (span_hull s t) (hull_canonical s t)
 
-pub fold_nones : (ss : List Span) (s : Span) → IsCanonical s → (f : ℕ → Span) (rs : List ℕ) → ss ≡ map f rs → ((r : ℕ) → f r ≡ none_span) → fold span_hull s ss ≡ s
+fold_nones : (ss : List Span) (s : Span) → IsCanonical s → (f : ℕ → Span) (rs : List ℕ) → ss ≡ map f rs → ((r : ℕ) → f r ≡ none_span) →
+    fold span_hull s ss ≡ s
 fold_nones ss s can f rs is h = ap (fold span_hull s) is ∙ go rs
   where
     go : (rs : List ℕ) → fold span_hull s (map f rs) ≡ s
