@@ -19,4 +19,3 @@ pub mod SweptRows
 pub mod ValueLaws
 pub mod Passed
 pub mod OneValue
-mod Listed

@@ -12,7 +12,6 @@
 //! ```
 #![tactic(auto)]
 
-mod all_spans;
 mod block;
 mod fill;
 pub mod laws;
@@ -36,7 +35,6 @@ mod tables;
 #[cfg(test)]
 mod tests;
 
-pub use all_spans::value_spans;
 pub use row::fill_row;
 pub use spans::{term_span, value_span};
 pub use table::HullTable;
