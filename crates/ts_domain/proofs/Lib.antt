@@ -13,6 +13,7 @@ pub mod Steps
 pub mod Places
 pub mod Unions
 pub mod Joins
+pub mod Renewals
 pub mod Trails
 pub mod BoxLaws
 pub mod SeriesLaws

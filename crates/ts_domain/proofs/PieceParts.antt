@@ -96,7 +96,7 @@ pub changing_none : (all : List ℤ) (keep : Keep) (pieces left : List Interval)
 unfolding values_by
 changing_none all keep pieces left a none = subst (λ l. Changing all keep pieces l 0) (sym none) (record { apart = a; same = refl })
 
-off : (pieces : List Interval) (i : ℕ) (d : Interval) → i < length pieces → drop i pieces ≡ get_or pieces i d ∷ drop (i + 1) pieces
+pub off : (pieces : List Interval) (i : ℕ) (d : Interval) → i < length pieces → drop i pieces ≡ get_or pieces i d ∷ drop (i + 1) pieces
 off pieces i d h = let e : suc i ≡ i + 1 = omega arith in drop-cons pieces i d h ∙ ap (λ n. get_or pieces i d ∷ drop n pieces) e
 
 more_apart : (all : List ℤ) (keep : Keep) (left after : List Interval) (p : Interval) (rest : List Interval) → AreParts all keep p left after →

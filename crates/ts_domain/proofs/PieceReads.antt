@@ -38,7 +38,7 @@ meet_is rs p from to a is f t =
     part from to e f h = rw (sym e, sym f) h
 
 -- a range that is cut to the piece
-trim_at : (p : Interval) (rs : List Interval) (i : ℕ) (d : Interval) → i < length rs → trim p (get_or rs i d) ≡ get_or (map (trim p) rs) i (trim p d)
+pub trim_at : (p : Interval) (rs : List Interval) (i : ℕ) (d : Interval) → i < length rs → trim p (get_or rs i d) ≡ get_or (map (trim p) rs) i (trim p d)
 trim_at p [] i d h = absurd (omega (arith, h))
 trim_at p (r ∷ rs) zero d h = refl
 trim_at p (r ∷ rs) (suc i) d h = trim_at p rs i d (omega (arith, h))

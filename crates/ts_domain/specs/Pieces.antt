@@ -6,7 +6,7 @@ use Rattle.ts_domain.specs.declared.interval.Interval.{Interval}
 use Rattle.std.specs.Option.{option_to_list}
 use Rattle.ts_domain.specs.declared.keep.Keep.{Keep}
 use Rattle.ts_domain.specs.Kept.{low_side, high_side}
-use Rattle.ts_domain.specs.Values.{values_of, AreRanges}
+use Rattle.ts_domain.specs.Values.{values_of, AreRanges, RangesFrom}
 
 -- the number lies in the piece
 abbrev pub is_in : Interval → ℤ → Bool
@@ -80,3 +80,10 @@ pub record AreParts (all : List ℤ) (keep : Keep) (p : Interval) (before after 
   pub low : IsPart all (low_side keep) p lower
   pub high : IsPart all (high_side keep) p upper
   pub more : after ≡ (before ++ option_to_list lower) ++ option_to_list upper
+
+-- behind the ranges `before` there come those of the numbers in the piece p
+pub record AreRangesIn (all : List ℤ) (p : Interval) (before after : List Interval) : Type 0 where
+  pub own : List Interval
+  pub apart : RangesFrom (neg_ℤ (pos 1000000)) own
+  pub same : values_of own ≡ values_in all p
+  pub more : after ≡ before ++ own

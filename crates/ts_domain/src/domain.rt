@@ -5,11 +5,12 @@ ghost use Rattle.std.specs.Prelude.{[], length, slice_get, Some, IsTrue, IfOk, A
 ghost use Rattle.std.specs.List.{list_any, zip};
 ghost use Rattle.ts_domain.specs.Kept.{kept};
 ghost use Rattle.ts_domain.specs.Union.{InSomeRange, SomeEmpty, InSome, LowsRise, paired};
+ghost use Rattle.ts_domain.specs.Pieces.{IsCut, values_by};
 ghost use Rattle.ts_domain.specs.Values.{IsDomain, WithinLimits, values_of, AreRanges};
 
 use crate::interval::Interval;
 use crate::keep::Keep;
-use crate::pieces::{count_by, has_by, kept_by, nth_by};
+use crate::pieces::{count_by, has_by, kept_by, nth_by, ranges_by};
 use crate::values::{Values, walk};
 use smallvec::SmallVec;
 use std::alloc::Global;
@@ -17,6 +18,9 @@ use std::marker::Model;
 use std::rc::Rc;
 use thiserror::Error;
 use ts_base::Memory;
+
+/// A set of more pieces gets ranges of its own, since each change copies the pieces.
+const MOST_PIECES: usize = 128;
 
 /// A non-empty set of numbers from -1,000,000 to 1,000,000, which contracts see as its rising list. It is what of the
 /// ranges lies in its pieces; copies and smaller sets share the ranges.
@@ -159,17 +163,27 @@ impl Domain {
         ensures kept { IfOk result (λ d. d ≡ kept keep self.now) }
         ensures domain { IfOk result IsDomain }
     {
+        let ranges = self.ranges.as_slice();
+        let pieces = kept_by(self.alloc, ranges, self.pieces.as_slice(), keep)?;
+        if pieces.len() > MOST_PIECES {
+            return renewed(self.alloc, ranges, pieces.as_slice());
+        }
         Ok(Domain {
             alloc: self.alloc,
             ranges: self.ranges.clone()?,
-            pieces: kept_by(
-                self.alloc,
-                self.ranges.as_slice(),
-                self.pieces.as_slice(),
-                keep,
-            )?,
+            pieces,
         })
     }
+}
+
+// The set of these pieces, as one piece of ranges of its own.
+fn renewed(alloc: Global, ranges: &[Interval], pieces: &[Interval]) -> Result<Domain, Memory>
+    requires { IsCut ranges.now pieces.now }
+    ensures same { IfOk result (λ d. d ≡ values_by (values_of ranges.now) pieces.now) }
+    ensures domain { IfOk result IsDomain }
+{
+    let parts = ranges_by(alloc, ranges, pieces)?;
+    whole(alloc, joined(alloc, &parts)?)
 }
 
 // The set that these ranges are.

@@ -5,8 +5,9 @@ ghost use Rattle.std.specs.Prelude.{IfOk, OnOk, Contains, int_le, ◌&&◌, map}
 ghost use Rattle.std.specs.List.{list_any};
 ghost use Rattle.std.specs.Option.{option_to_list};
 ghost use Rattle.ts_domain.specs.Kept.{kept};
+ghost use Rattle.ts_domain.specs.Union.{InSome, LowsRise};
 ghost use Rattle.ts_domain.specs.Values.{RangesFrom, values_of};
-ghost use Rattle.ts_domain.specs.Pieces.{IsPiece, IsCut, values_in, values_by, trim, AreParts};
+ghost use Rattle.ts_domain.specs.Pieces.{IsPiece, IsCut, values_in, values_by, trim, AreParts, AreRangesIn};
 
 use crate::interval::Interval;
 use crate::keep::Keep;
@@ -147,4 +148,39 @@ pub(crate) fn kept_by(
         push_parts(&mut left, ranges, *piece, keep)?;
     }
     Ok(left)
+}
+
+/// Appends the ranges that have a number of the piece, each cut to it.
+fn push_ranges(
+    parts: &mut Vec<Interval>,
+    ranges: &[Interval],
+    piece: Interval,
+) -> Result<(), Memory>
+    requires apart { RangesFrom (neg_ℤ (pos 1000000)) ranges.now }
+    requires piece { IsPiece (values_of ranges.now) piece }
+    ensures { OnOk result (AreRangesIn (values_of ranges.now) piece parts.old.items parts.new.items) }
+{
+    for range in meeting(ranges, piece) {
+        parts.push(range.trim(piece))?;
+    }
+    Ok(())
+}
+
+/// The ranges of the numbers in the pieces, by rising lows; two of them may follow one another without a gap.
+pub(crate) fn ranges_by(
+    alloc: Global,
+    ranges: &[Interval],
+    pieces: &[Interval],
+) -> Result<Vec<Interval>, Memory>
+    requires { IsCut ranges.now pieces.now }
+    ensures some { IfOk result (λ parts. 0 < length parts.items) }
+    ensures rise { IfOk result (λ parts. LowsRise (neg_ℤ (pos 1000000)) parts.items) }
+    ensures same { IfOk result (λ parts. (v : ℤ) → InSome parts.items v
+        ↔ Contains (values_by (values_of ranges.now) pieces.now) v) }
+{
+    let mut parts = Vec::new(alloc);
+    for piece in pieces {
+        push_ranges(&mut parts, ranges, *piece)?;
+    }
+    Ok(parts)
 }
