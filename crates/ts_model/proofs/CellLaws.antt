@@ -7,8 +7,6 @@ use Rattle.std.proofs.lemmas.List.{map-set, length-map, length-set}
 use Rattle.std.proofs.lemmas.List.Sums.{sum_by-set, sum_by-cons}
 use Rattle.std.proofs.lemmas.List.Folds.{sum_by-replicate}
 use Rattle.std.proofs.lemmas.Simd.{splat_is_map}
-use Rattle.ts_domain.specs.Values.{IsDomain}
-use Rattle.ts_domain.specs.BoxSeries.{IsBox}
 use Rattle.ts_model.specs.declared.cells.Own.{Own}
 use Rattle.ts_model.specs.declared.cells.Cells.{Cells}
 use Rattle.ts_model.specs.declared.error.ModelKind.TheVariants.{Limit}
@@ -191,8 +189,3 @@ kept_one place c new d size total kept there size_is is own common at now limit 
     all_total =
         ap total_of (same_force new.common_turn new.common new.own.items at common own ∙ one_set place c d kept)
         ∙ sym (ap (total_set (domains c) place) size_is ∙ total_at (domains c) place d there)
-
--- the copies of the domains, cell by cell
-pub box_more : (cells : List (List ℤ)) (d : List ℤ) → IsBox cells → IsDomain d → IsBox (cells ++ d ∷ [])
-box_more [] d h k = (k, tt)
-box_more (c ∷ cs) d h k = (h.0, box_more cs d h.1 k)

@@ -1,5 +1,6 @@
 -- What every stated model keeps of the limits, line by line.
-use Rattle.std.proofs.Common.{◌≡◌, ℕ, zero, suc, ◌+◌, ◌<◌, ◌≤◌, Bool, true, false, cond, not, ◌&&◌, Some, None, Ok, Err, List, [], ◌∷◌, ◌++◌, length, map, replicate, ℤ, pos, negsuc, refl, subst, arith, nat_le, nat_lt, length-append, rules}
+use Rattle.std.proofs.Common.{◌≡◌, ℕ, zero, suc, ◌+◌, ◌<◌, ◌≤◌, Bool, true, false, cond, not, ◌&&◌, Some, None, Ok, Err, List, [], ◌∷◌, ◌++◌, length, map}
+use Rattle.std.proofs.Common.{replicate, set, ◌-◌, ℤ, pos, negsuc, refl, subst, arith, nat_le, nat_lt, length-append, rules}
 use Rattle.std.specs.Prelude.{Option, Result, IfSome, IsSome, is_none, unwrap_or}
 use Rattle.std.specs.List.{AllByRecursion, list_any}
 use Rattle.std.specs.Str.{bytes_eq}
@@ -8,6 +9,7 @@ use Rattle.std.proofs.lemmas.Bool.Decides.{nat_tests}
 use Rattle.std.proofs.lemmas.List.{length-map, length-set}
 use Rattle.std.proofs.lemmas.List.Quantifiers.{position-Some}
 use Rattle.ts_domain.specs.BoxSeries.{IsBox}
+use Rattle.ts_domain.specs.Values.{IsDomain}
 use Rattle.ts_token.specs.Text.{Row, Cut}
 use Rattle.ts_model.specs.declared.model.Need.{Need}
 use Rattle.ts_model.specs.declared.model.Require.{Require}
@@ -18,8 +20,11 @@ use Rattle.ts_model.specs.Statement.{Said, SaysCells, SaysDomain, SaysCell, Says
 use Rattle.ts_model.specs.Stated.{Stated, nothing, with_said, count_of, is_between, is_outside, is_bound, has_cells, over_total, term_at, total_of, union_of, digits, unused_parts, first_kind, kinds, unless_kind}
 use Rattle.ts_model.specs.ModelReading.{needs_lists, needs_objective, texts_of, taken_as, onward, read_rows, ended, ended_text, reading}
 use Rattle.ts_model.specs.Promise.{IsWhole, KeepsLimits}
+use Rattle.ts_model.proofs.SaidRanges.{HasRanges, said_ranges}
+use Rattle.ts_model.proofs.UnionLaws.{union_is_domain, digits_are_domain}
 
 record IsFit (lists : Bool) (m : Stated) : Type 0 where
+  box : IsBox m.cells
   few : length m.cells ≤ 512
   total : lists ≡ true → total_of m.cells ≤ 65536
   terms : length m.terms ≤ 32
@@ -84,10 +89,28 @@ bound_test : (a b : Bool) → cond a b true ≡ false → (a ≡ true) × (b ≡
 bound_test true b h = (refl, h)
 bound_test false b h = cc
 
+outside_test : (a b : Bool) → cond a true b ≡ false → a ≡ false
+outside_test true b h = cc
+outside_test false b h = refl
+
+box_replicate : (n : ℕ) (d : List ℤ) → IsDomain d → IsBox (replicate n d)
+box_replicate zero d h = tt
+box_replicate (suc n) d h = (h, box_replicate n d h)
+
+box_map : (cells : List (List ℤ)) (d : List ℤ) → IsDomain d → IsBox (map (λ _. d) cells)
+box_map [] d h = tt
+box_map (c ∷ cs) d h = (h, box_map cs d h)
+
+box_set : (cells : List (List ℤ)) (i : ℕ) (d : List ℤ) → IsBox cells → IsDomain d → IsBox (set cells i d)
+box_set [] i d box h = tt
+box_set (c ∷ cs) zero d box h = (h, box.1)
+box_set (c ∷ cs) (suc i) d box h = (box.0, box_set cs i d box.1 h)
+
 -- a line of which no kind holds keeps the limits
-fit_after : (lists : Bool) (m : Stated) (s : Said) → IsFit lists m → first_kind (kinds lists m s) ≡ None → IsFit lists (with_said m s)
-fit_after lists m (SaysCells n) fit none =
+fit_after : (lists : Bool) (m : Stated) (s : Said) → HasRanges s → IsFit lists m → first_kind (kinds lists m s) ≡ None → IsFit lists (with_said m s)
+fit_after lists m (SaysCells n) has fit none =
     let all = all_fail (kinds lists m (SaysCells n)) none in record {
+      box = box_replicate (count_of n) (union_of digits) digits_are_domain;
       few = let e = length_replicate (count_of n) (union_of digits) in omega (arith, e, counted n all.1.1.0);
       total = under lists (total_of (replicate (count_of n) (union_of digits))) all.1.1.1.1.1.1.1.1.1.0;
       terms = fit.terms;
@@ -96,8 +119,10 @@ fit_after lists m (SaysCells n) fit none =
       bounds = fit.bounds;
       objective = fit.objective;
     }
-fit_after lists m (SaysDomain rs) fit none =
+fit_after lists m (SaysDomain rs) has fit none =
     let all = all_fail (kinds lists m (SaysDomain rs)) none in record {
+      box = box_map m.cells (union_of rs) (union_is_domain rs has all.1.1.1.0
+          (outside_test (list_any is_outside rs) (over_total lists (with_said m (SaysDomain rs))) all.1.1.1.1.1.1.1.1.1.0));
       few = let e : length (map (λ _. union_of rs) m.cells) ≡ length m.cells = simp length-map in omega (arith, e, fit.few);
       total = under lists (total_of (map (λ _. union_of rs) m.cells))
           (second (list_any is_outside rs) (over_total lists (with_said m (SaysDomain rs))) all.1.1.1.1.1.1.1.1.1.0);
@@ -107,8 +132,10 @@ fit_after lists m (SaysDomain rs) fit none =
       bounds = fit.bounds;
       objective = fit.objective;
     }
-fit_after lists m (SaysCell k rs) fit none =
+fit_after lists m (SaysCell k rs) has fit none =
     let all = all_fail (kinds lists m (SaysCell k rs)) none in record {
+      box = box_set m.cells (count_of k - 1) (union_of rs) fit.box (union_is_domain rs has all.1.1.1.0
+          (outside_test (list_any is_outside rs) (over_total lists (with_said m (SaysCell k rs))) all.1.1.1.1.1.1.1.1.1.0));
       few = let e : length (with_said m (SaysCell k rs)).cells ≡ length m.cells = simp length-set in omega (arith, e, fit.few);
       total = under lists (total_of (with_said m (SaysCell k rs)).cells)
           (second (list_any is_outside rs) (over_total lists (with_said m (SaysCell k rs))) all.1.1.1.1.1.1.1.1.1.0);
@@ -118,9 +145,10 @@ fit_after lists m (SaysCell k rs) fit none =
       bounds = fit.bounds;
       objective = fit.objective;
     }
-fit_after lists m (SaysTerm name parts) fit none =
+fit_after lists m (SaysTerm name parts) has fit none =
     let all = all_fail (kinds lists m (SaysTerm name parts)) none in
     let more : length (with_said m (SaysTerm name parts)).terms ≡ length m.terms + 1 = simp length-append in record {
+      box = fit.box;
       few = fit.few;
       total = fit.total;
       terms = omega (arith, more, under_most 32 (length m.terms) all.1.1.1.1.1.1.1.1.1.0);
@@ -129,10 +157,11 @@ fit_after lists m (SaysTerm name parts) fit none =
       bounds = fit.bounds;
       objective = lifted_objective (length m.terms) (length (with_said m (SaysTerm name parts)).terms) (omega (arith, more)) m.objective fit.objective;
     }
-fit_after lists m (SaysRequire name op bound) fit none =
+fit_after lists m (SaysRequire name op bound) has fit none =
     let all = all_fail (kinds lists m (SaysRequire name op bound)) none in
     let tests = bound_test (is_bound bound) (nat_le 64 (length m.requirements)) all.1.1.1.1.1.1.1.1.1.0 in
     let more : length (with_said m (SaysRequire name op bound)).requirements ≡ length m.requirements + 1 = simp length-append in record {
+      box = fit.box;
       few = fit.few;
       total = fit.total;
       terms = fit.terms;
@@ -142,7 +171,8 @@ fit_after lists m (SaysRequire name op bound) fit none =
       bounds = pushed (λ r. is_bound r.bound ≡ true) m.requirements _ fit.bounds tests.0;
       objective = fit.objective;
     }
-fit_after lists m (SaysObjective name) fit none = record {
+fit_after lists m (SaysObjective name) has fit none = record {
+  box = fit.box;
   few = fit.few;
   total = fit.total;
   terms = fit.terms;
@@ -153,21 +183,23 @@ fit_after lists m (SaysObjective name) fit none = record {
 }
 
 fit_taken : (lists : Bool) (m after : Stated) (number : ℕ) (rows : List Row) (s : Said) (k : Option ModelKind) → first_kind (kinds lists m s) ≡ k →
-    IsFit lists m → ((next : Stated) → IsFit lists next → read_rows lists next rows ≡ Ok after → IsFit lists after) →
+    HasRanges s → IsFit lists m → ((next : Stated) → IsFit lists next → read_rows lists next rows ≡ Ok after → IsFit lists after) →
     onward number (unless_kind k (with_said m s)) (λ a. read_rows lists a rows) ≡ Ok after → IsFit lists after
-fit_taken lists m after number rows s None e fit later h = later (with_said m s) (fit_after lists m s fit e) h
-fit_taken lists m after number rows s (Some k) e fit later h = cc
+fit_taken lists m after number rows s None e has fit later h = later (with_said m s) (fit_after lists m s has fit e) h
+fit_taken lists m after number rows s (Some k) e has fit later h = cc
 
-fit_said : (lists : Bool) (m after : Stated) (number : ℕ) (rows : List Row) (p : Result Said ModelKind) → IsFit lists m →
-    ((next : Stated) → IsFit lists next → read_rows lists next rows ≡ Ok after → IsFit lists after) →
+fit_said : (lists : Bool) (m after : Stated) (number : ℕ) (rows : List Row) (p : Result Said ModelKind) → ((s : Said) → p ≡ Ok s → HasRanges s) →
+    IsFit lists m → ((next : Stated) → IsFit lists next → read_rows lists next rows ≡ Ok after → IsFit lists after) →
     onward number (taken_as lists m p) (λ a. read_rows lists a rows) ≡ Ok after → IsFit lists after
-fit_said lists m after number rows (Err k) fit later h = cc
-fit_said lists m after number rows (Ok s) fit later h = fit_taken lists m after number rows s (first_kind (kinds lists m s)) refl fit later h
+fit_said lists m after number rows (Err k) has fit later h = cc
+fit_said lists m after number rows (Ok s) has fit later h =
+    fit_taken lists m after number rows s (first_kind (kinds lists m s)) refl (has s refl) fit later h
 
 fit_rows : (lists : Bool) (m after : Stated) (rows : List Row) → IsFit lists m → read_rows lists m rows ≡ Ok after → IsFit lists after
 fit_rows lists m after [] fit h = let same : m ≡ after = cc in subst (IsFit lists) same fit
 fit_rows lists m after (row ∷ rows) fit h =
-    fit_said lists m after row.number rows (parsed (texts_of row.words)) fit (λ next fit' h'. fit_rows lists next after rows fit' h') h
+    fit_said lists m after row.number rows (parsed (texts_of row.words)) (said_ranges (texts_of row.words)) fit
+    (λ next fit' h'. fit_rows lists next after rows fit' h') h
 
 record IsEnded (need : Need) (c : Cut) (m : Stated) : Type 0 where
   rows : read_rows (needs_lists need) nothing c.rows ≡ Ok m
@@ -194,7 +226,7 @@ rows_ok need c m (Ok n) rows h = text_ok need c n m c.not_text rows h
 
 nothing_fits : (lists : Bool) → IsFit lists nothing
 nothing_fits lists =
-    record { few = omega arith; total = λ _. omega arith; terms = omega arith; requirements = omega arith; each = tt; bounds = tt; objective = tt }
+    record { box = tt; few = omega arith; total = λ _. omega arith; terms = omega arith; requirements = omega arith; each = tt; bounds = tt; objective = tt }
 
 ended_is : (need : Need) (c : Cut) (m : Stated) → reading need c ≡ Ok m → IsEnded need c m
 ended_is need c m h = rows_ok need c m (read_rows (needs_lists need) nothing c.rows) refl h
@@ -220,10 +252,11 @@ whole_stated need c m read =
       objective = fit.objective;
     }
 
-pub limits_stated : (need : Need) (c : Cut) (m : Stated) → reading need c ≡ Ok m → IsBox m.cells → KeepsLimits need m
-limits_stated need c m read box =
+-- and it keeps the limits
+pub limits_stated : (need : Need) (c : Cut) (m : Stated) → reading need c ≡ Ok m → KeepsLimits need m
+limits_stated need c m read =
     let fit = fits need c m read in record {
-      box = box;
+      box = fit.box;
       total = fit.total;
       terms = fit.terms;
       requirements = fit.requirements;

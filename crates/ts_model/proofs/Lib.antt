@@ -10,5 +10,6 @@ mod ReadingLaws
 mod OnlyLaws
 mod Told
 mod ValueLaws
+mod SaidRanges
 mod FitLaws
 pub mod MeetsLaw

@@ -7,8 +7,9 @@ use Rattle.std.specs.Prelude.{filter, Contains, All, int_lt}
 use Rattle.std.specs.List.{AllByRecursion, list_any, zip}
 use Rattle.ts_domain.specs.declared.interval.Interval.{Interval}
 use Rattle.ts_domain.specs.Values.{WithinLimits, Rising, IsDomain, run, values_between}
-use Rattle.ts_domain.specs.Union.{InSomeRange, SomeEmpty, paired}
-use Rattle.ts_domain.proofs.Runs.{length-between, between_split, all_between, none_between}
+use Rattle.ts_domain.specs.Union.{InSome, InSomeRange, SomeEmpty, paired}
+use Rattle.ts_domain.proofs.Runs.{length-between, between_split, all_between, none_between, between_has, rising_run, all_run}
+use Rattle.ts_domain.proofs.Sets.{contains_filter, each_filter, nothing_in, rising_filter}
 use Rattle.ts_domain.proofs.Unions.{has_number, any_in_some, in_some_any, in_paired, paired_has, empty_any}
 use Rattle.ts_model.specs.Stated.{is_between, is_backward, is_value, is_outside, union_of, digits}
 
@@ -202,3 +203,33 @@ ten_digits =
     outside : (v : ℤ) → (v <ℤ pos 0) ⊎ (pos 9 <ℤ v) → is_between (pos 0) v (pos 9) ≡ false
     outside v (inl h) = grind (arith, ints)
     outside v (inr h) = grind (arith, ints)
+
+-- the union of ranges of which none is empty and none passes the limits is a domain
+forward_first : (r : Interval) (rest : Bool) → (is_backward r || rest) ≡ false → r.low ≤ℤ r.high
+forward_first r rest h = not_below r.high r.low (left (is_backward r) rest h)
+  where
+    left : (a b : Bool) → (a || b) ≡ false → a ≡ false
+    left true b h = cc
+    left false b h = refl
+
+    not_below : (a b : ℤ) → int_lt a b ≡ false → b ≤ℤ a
+    not_below a b h = grind (arith, ints)
+
+pub union_is_domain : (rs : List Interval) → 0 < length rs → list_any is_backward rs ≡ false → list_any is_outside rs ≡ false → IsDomain (union_of rs)
+unfolding union_of values_between Rising InSome
+union_is_domain [] some forward inside = absurd (omega (arith, some))
+union_is_domain (r ∷ rs) some forward inside =
+    let test : ℤ → Bool = λ v. list_any (λ q. is_between q.low v q.high) (r ∷ rs) in
+    let all = run (neg_ℤ (pos 1000000)) 2000001 in
+    let ordered = forward_first r (list_any is_backward rs) forward in
+    let low = (inside_low (r ∷ rs) inside).0 in
+    let has = (contains_filter test all r.low).1
+    (between_has (neg_ℤ (pos 1000000)) (pos 1000000) r.low low.0 low.1, in_some_any (r ∷ rs) r.low (inl (omega (arith, ints), ordered))) in record {
+      rising = rising_filter test all (subst Rising (append-nil all) (rising_run (neg_ℤ (pos 1000000)) 2000001 [] tt tt));
+      some = λ none. nothing_in r.low (subst (λ l. Contains l r.low) none has);
+      within = each_filter WithinLimits test all
+          (all_run (neg_ℤ (pos 1000000)) (neg_ℤ (pos 1000000)) 2000001 (pos 1000000) (omega (arith, ints)) (omega (arith, ints)));
+    }
+
+pub digits_are_domain : IsDomain (union_of digits)
+digits_are_domain = union_is_domain digits (omega arith) refl refl

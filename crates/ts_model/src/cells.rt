@@ -3,7 +3,6 @@
 ghost use Rattle.std.specs.Prelude.{◌≡◌, ◌+◌, ◌*◌, ◌<◌, ◌≤◌, Bool, true, false, [], length, map, set, replicate, nat_lt, get_or, ◌&&◌, IfOk, OnOk, OnSome, IfNone, IfSome, pos};
 ghost use Rattle.std.specs.List.{list_any};
 ghost use Rattle.ts_base.specs.Limits.{most_cells, most_domain_values};
-ghost use Rattle.ts_domain.specs.BoxSeries.{IsBox};
 ghost use Rattle.ts_model.specs.Stated.{is_backward, is_outside, union_of, digits};
 ghost use Rattle.ts_model.specs.Cells.{in_force, domains, IsKept, IsTotal, total_set, within_total};
 ghost use Rattle.ts_model.specs.Views.{Gives};
@@ -212,8 +211,7 @@ impl Cells {
 
     /// The domain of each cell.
     pub(crate) fn all(&self, alloc: Global) -> Result<Vec<Domain>, Memory>
-        ensures all { IfOk result (λ all. all.items ≡ domains self.now) }
-        ensures boxed { IfOk result (λ all. IsBox all.items) }
+        ensures { IfOk result (λ all. all.items ≡ domains self.now) }
     {
         let mut all = Vec::new(alloc);
         for place in 0..self.own.len() {

@@ -6,7 +6,7 @@ ghost use Rattle.ts_model.specs.declared.error.ModelKind.{ModelKind};
 ghost use Rattle.ts_model.specs.declared.model.Need.{Need};
 ghost use Rattle.ts_model.specs.Judgement.{JudgedIsMet};
 ghost use Rattle.ts_model.specs.ModelReading.{IsReading, reading};
-ghost use Rattle.ts_model.specs.Promise.{IsWhole};
+ghost use Rattle.ts_model.specs.Promise.{IsWhole, KeepsLimits};
 ghost use Rattle.ts_model.specs.Stated.{Stated};
 
 /// The reading is the model that the lines state, or the first bad line with the first kind that holds of it.
@@ -23,6 +23,11 @@ pub fn one_reading()
 /// A model that is read has cells, and each term that it names by a number stands.
 pub fn model_is_whole()
     ensures { (need : Need) (c : Cut) (m : Stated) → reading need c ≡ Ok m → IsWhole m }
+{}
+
+/// A model that is read keeps the limits of its need, and each of its cells has a value.
+pub fn model_keeps_limits()
+    ensures { (need : Need) (c : Cut) (m : Stated) → reading need c ≡ Ok m → KeepsLimits need m }
 {}
 
 /// Every cell lies inside and every requirement holds exactly where the series meets the model.

@@ -30,7 +30,7 @@ mod take;
 mod words;
 
 pub use error::{ModelKind, ModelStop, SeriesStop};
-pub use laws::{judged_is_met, model_is_whole, one_reading, reading_is_first};
+pub use laws::{judged_is_met, model_is_whole, model_keeps_limits, one_reading, reading_is_first};
 pub use model::{Model, Need, Op, Require, satisfies};
 pub use read::read_model;
 pub use series::read_series;

@@ -4,7 +4,6 @@ ghost use Rattle.std.specs.Prelude.{◌≡◌, ℕ, ◌+◌, ◌<◌, ◌≤◌,
 ghost use Rattle.ts_base.specs.Limits.{most_cells};
 ghost use Rattle.ts_model.specs.declared.model.Need.{Need};
 ghost use Rattle.ts_model.specs.declared.error.ModelKind.{ModelKind};
-ghost use Rattle.ts_domain.specs.BoxSeries.{IsBox};
 ghost use Rattle.ts_token.specs.Views.{rows, cut};
 ghost use Rattle.ts_model.specs.Stated.{Stated, nothing};
 ghost use Rattle.ts_model.specs.ModelReading.{needs_lists, needs_objective, line_gives, read_rows, reading};
@@ -80,7 +79,6 @@ fn model_of(alloc: Global, draft: Draft) -> Result<Model, Memory>
     requires { length draft.cells.own.items ≤ most_cells }
     ensures same { IfOk result (λ m. stated m ≡ drafted draft) }
     ensures counted { IfOk result (λ m. m.n ≡ vec_len m.cells) }
-    ensures boxed { IfOk result (λ m. IsBox m.cells.items) }
 {
     let cells = draft.cells.all(alloc)?;
     Ok(Model {

@@ -22,4 +22,4 @@ returns-clause-whole c =
 pub returns-clause-limits : goal.returns-clause-limits
 returns-clause-limits c =
     limits_stated c.args.need (cut c.args.tokens.now) (stated c.in_ok-model_of.field-0)
-    (c.in_ok-draft.ensures.reading ∙ ap (λ (m : Stated). Ok m) (sym c.in_ok-model_of.ensures.same)) c.in_ok-model_of.ensures.boxed
+    (c.in_ok-draft.ensures.reading ∙ ap (λ (m : Stated). Ok m) (sym c.in_ok-model_of.ensures.same))

@@ -1,10 +1,6 @@
 use Rattle.std.proofs.Common.{◌≡◌, take}
-use Rattle.ts_domain.specs.BoxSeries.{IsBox}
 use Rattle.ts_model.specs.Cells.{domains}
 use Rattle.ts_model.proofs.cells.Cells.all.Given as goal
 
 abbrev pub invariant-loop-place : goal.invariant-loop-place
-invariant-loop-place l = record {
-  all : l.all.items ≡ take l.place (domains l.self);
-  boxed : IsBox l.all.items;
-}
+invariant-loop-place l = l.all.items ≡ take l.place (domains l.self)
