@@ -15,7 +15,8 @@ use Rattle.ts_filter.specs.Boxes.{Box}
 use Rattle.ts_filter.specs.CellHulls.{ahead_row, IsBackRow}
 use Rattle.ts_filter.specs.declared.rows.Way.{Way}
 use Rattle.ts_filter.specs.declared.rows.Way.TheVariants.{FromFirst, FromLast}
-use Rattle.ts_filter.specs.Known.{Rows, in_order, AreFirst, AreBehind, Known, AreKnown, StayKnown, OneCellDiffers, DifferencesJoin}
+use Rattle.ts_filter.specs.Known.{in_order, AreFirst, AreBehind, Known, AreKnown, StayKnown, OneCellDiffers, DifferencesJoin}
+use Rattle.ts_filter.specs.RowStacks.{Rows}
 
 -- lists from their ends
 
@@ -59,13 +60,6 @@ one_more a cells rows row h lt is =
     ap (λ r. r ++ row ∷ []) h ∙ ap (λ w. take (length rows) all ++ w ∷ []) is ∙ sym (take_more all (length rows) [] (omega (arith, lt, f)))
     ∙ ap (λ m. take m all) (sym more)
 
--- the same, as the code makes them longer
-pub rows_more : (a : Body) (cells : Box) (rows held seen new : Rows) (row : List Hull) → held ≡ rows → seen ≡ held → new ≡ held ++ row ∷ [] →
-    AreFirst a cells rows → length rows < length cells → row ≡ get_or (forward_rows a cells) (length seen) [] → AreFirst a cells new
-rows_more a cells rows held seen new row is_held is_seen is h lt is_row =
-    subst (AreFirst a cells) (sym (is ∙ ap (λ l. l ++ row ∷ []) is_held))
-    (one_more a cells rows row h lt (is_row ∙ ap (λ l. get_or (forward_rows a cells) (length l) []) (is_seen ∙ is_held)))
-
 -- the row at a place
 pub known_at : (a : Body) (cells : Box) (rows : Rows) (i : ℕ) → AreFirst a cells rows → i < length rows →
     get_or rows i [] ≡ get_or (forward_rows a cells) i []
@@ -76,7 +70,7 @@ row_at_place a cells i lt = forward_row a [] cells i lt ∙ ap (λ z. row_of a z
 
 -- what a change leaves
 
-stay_first : (a : Body) (cells later : Box) (k : ℕ) (old left : Rows) → left ≡ take k old → take k later ≡ take k cells → AreFirst a cells old →
+pub stay_first : (a : Body) (cells later : Box) (k : ℕ) (old left : Rows) → left ≡ take k old → take k later ≡ take k cells → AreFirst a cells old →
     AreFirst a later left
 stay_first a cells later k old left is same h =
     let n = length left in
@@ -87,27 +81,16 @@ stay_first a cells later k old left is same h =
     let rows : take n all ≡ take n (forward_rows a later) = sym (rows_of_front a [] cells n) ∙ ap (forward_rows a) (sym fronts) ∙ rows_of_front a [] later n in
     is ∙ sym (take_min k old) ∙ ap (λ m. take m old) (sym count) ∙ ap (take n) h ∙ take-take n (length old) all few ∙ rows
 
-turned_front : (n last : ℕ) (b later : Box) → length b ≡ n → length later ≡ n → drop last later ≡ drop last b →
+pub turned_front : (n last : ℕ) (b later : Box) → length b ≡ n → length later ≡ n → drop last later ≡ drop last b →
     take (n - last) (reverse later) ≡ take (n - last) (reverse b)
 turned_front n last b later e f same =
     ap (λ m. take (m - last) (reverse later)) (sym f) ∙ sym (reverse_drop last later) ∙ ap reverse same ∙ reverse_drop last b
     ∙ ap (λ m. take (m - last) (reverse b)) e
 
-behind_stay : (p : Option Pair) (b later : Box) (k : ℕ) (old left : Rows) → left ≡ take k old → take k (reverse later) ≡ take k (reverse b) →
+pub behind_stay : (p : Option Pair) (b later : Box) (k : ℕ) (old left : Rows) → left ≡ take k old → take k (reverse later) ≡ take k (reverse b) →
     AreBehind p b old → AreBehind p later left
 behind_stay None b later k old left is same h = tt
 behind_stay (Some p) b later k old left is same h = stay_first p.reverse (reverse b) (reverse later) k old left is same h
-
-pub stay_known : (first last n : ℕ) (old new : Known) → new.machine ≡ old.machine → new.ahead ≡ take (first - 1) old.ahead →
-    new.behind ≡ take (n - last) old.behind → StayKnown first last n old new
-stay_known first last n old new m front rear b later d h =
-    let front_stays = stay_first old.machine.forward b later (first - 1) old.ahead new.ahead front d.before h.ahead in
-    let same = turned_front n last b later d.count d.count_later d.behind in
-    let rear_stays = behind_stay old.machine.pair b later (n - last) old.behind new.behind rear same h.behind in
-    record {
-      ahead = subst (λ (a : Automata). AreFirst a.forward later new.ahead) (sym m) front_stays;
-      behind = subst (λ (a : Automata). AreBehind a.pair later new.behind) (sym m) rear_stays;
-    }
 
 -- the row that comes behind
 
@@ -168,15 +151,6 @@ pub behind_there : (p : Option Pair) (b : Box) (rows : Rows) (row d : List Hull)
     length b - k < length rows → row ≡ get_or rows (length b - k) d → IsBackRow p k b row
 behind_there None b rows row d k some h from to lt is = absurd (some refl)
 behind_there (Some p) b rows row d k some h from to lt is = back_there p.reverse b rows row d k h from to lt is
-
--- tables without a row
-
-nothing_behind : (p : Option Pair) (b : Box) (rows : Rows) → rows ≡ [] → AreBehind p b rows
-nothing_behind None b rows e = tt
-nothing_behind (Some p) b rows e = none_known p.reverse (reverse b) rows e
-
-pub nothing_known : (t : Known) (b : Box) → t.ahead ≡ [] → t.behind ≡ [] → AreKnown b t
-nothing_known t b e f = record { ahead = none_known t.machine.forward b t.ahead e; behind = nothing_behind t.machine.pair b t.behind f }
 
 -- boxes that differ
 

@@ -16,9 +16,11 @@ pub mod CallLaws
 mod AnswerLaws
 mod Refuting
 mod Removals
+mod SameHulls
 mod DropLaws
 mod EarlyCells
 mod KeptLaws
 mod KnownRows
+mod LaidRows
 mod CellLaws
 mod TableSteps

@@ -8,7 +8,8 @@ use Rattle.ts_bound.specs.TermSpans.{Automata}
 use Rattle.ts_glue.specs.Pairs.{Pair}
 use Rattle.ts_filter.specs.Boxes.{Box, HasCell}
 use Rattle.ts_filter.specs.CellHulls.{AreHulls, IsBackRow}
-use Rattle.ts_filter.specs.Known.{Rows, AreFirst, AreBehind, Known, AreKnown, StillKnown, HasRows}
+use Rattle.ts_filter.specs.Known.{AreFirst, AreRows, AreBehind, GoOnBehind, Known, AreKnown, StillKnown, HasRows}
+use Rattle.ts_filter.specs.RowStacks.{Rows, Laid, GoOn, Stack}
 use Rattle.ts_filter.proofs.KnownRows.{ahead_there, behind_there}
 
 pub still_same : (b : Box) (t : Known) → AreKnown b t → StillKnown b t t
@@ -19,16 +20,22 @@ still_on b x y z f g = record { machine = g.machine ∙ f.machine; known = g.kno
 
 -- of the reverse automaton
 
-pub behind_first : (o : Option Pair) (r : Option Body) (a : Body) (b : Box) (rows : Rows) →
-    r ≡ option_map (λ p. p.reverse) o → r ≡ Some a → AreBehind o b rows →
-    AreFirst a (reverse b) rows
-behind_first None r a b rows e is h = absurd (none-some a (sym e ∙ is))
-behind_first (Some p) r a b rows e is h = subst (λ x. AreFirst x (reverse b) rows) (same_Some p.reverse a (sym e ∙ is)) h
+pub behind_rows : (o : Option Pair) (r : Option Body) (a : Body) (b : Box) (rows : Rows) (l : Laid) →
+    r ≡ option_map (λ p. p.reverse) o → r ≡ Some a → AreBehind o b rows → GoOnBehind o b l →
+    AreRows a (reverse b) (record { known = rows; laid = l })
+behind_rows None r a b rows l e is h g = absurd (none-some a (sym e ∙ is))
+behind_rows (Some p) r a b rows l e is h g =
+    subst (λ x. AreRows x (reverse b) (record { known = rows; laid = l })) (same_Some p.reverse a (sym e ∙ is)) (record { known = h; laid = g })
 
-pub first_behind_is : (o : Option Pair) (r : Option Body) (a : Body) (b : Box) (rows : Rows) → r ≡ option_map (λ p. p.reverse) o → r ≡ Some a →
+first_behind_is : (o : Option Pair) (r : Option Body) (a : Body) (b : Box) (rows : Rows) → r ≡ option_map (λ p. p.reverse) o → r ≡ Some a →
     AreFirst a (reverse b) rows → AreBehind o b rows
 first_behind_is None r a b rows e is h = tt
 first_behind_is (Some p) r a b rows e is h = subst (λ x. AreFirst x (reverse b) rows) (sym (same_Some p.reverse a (sym e ∙ is))) h
+
+laid_behind_is : (o : Option Pair) (r : Option Body) (a : Body) (b : Box) (l : Laid) → r ≡ option_map (λ p. p.reverse) o → r ≡ Some a →
+    GoOn a (reverse b) l.rows l.from → GoOnBehind o b l
+laid_behind_is None r a b l e is h = tt
+laid_behind_is (Some p) r a b l e is h = subst (λ x. GoOn x (reverse b) l.rows l.from) (sym (same_Some p.reverse a (sym e ∙ is))) h
 
 pub none_reverse : (o : Option Pair) (r : Option Body) → r ≡ option_map (λ p. p.reverse) o → r ≡ None → o ≡ None
 none_reverse None r e is = refl
@@ -36,23 +43,21 @@ none_reverse (Some p) r e is = absurd (none-some p.reverse (sym is ∙ e))
 
 -- after the rows of one side were made
 
-pub known_ahead : (b : Box) (old new : Known) (a : Body) → new.machine ≡ old.machine → new.behind ≡ old.behind → a ≡ old.machine.forward → AreKnown b old →
-    AreFirst a b new.ahead → StillKnown b old new
-known_ahead b old new a m rest is h f = record {
-  machine = m;
-  known = record {
-    ahead = subst (λ (x : Automata). AreFirst x.forward b new.ahead) (sym m) (subst (λ x. AreFirst x b new.ahead) is f);
-    behind = subst (λ (x : Automata). AreBehind x.pair b new.behind) (sym m) (subst (AreBehind old.machine.pair b) (sym rest) h.behind);
-  };
-}
+pub known_ahead : (b : Box) (old : Known) (a : Body) (made : Stack) → a ≡ old.machine.forward → AreKnown b old → AreRows a b made →
+    StillKnown b old (record old { ahead = made.known; laid_ahead = made.laid })
+known_ahead b old a made is h f =
+    let g = subst (λ x. AreRows x b made) is f in
+    record { machine = refl; known = record { ahead = g.known; behind = h.behind; laid_ahead = g.laid; laid_behind = h.laid_behind } }
 
-pub known_behind : (b : Box) (old new : Known) (r : Option Body) (a : Body) → new.machine ≡ old.machine → new.ahead ≡ old.ahead →
-    r ≡ option_map (λ p. p.reverse) old.machine.pair → r ≡ Some a → AreKnown b old → AreFirst a (reverse b) new.behind → StillKnown b old new
-known_behind b old new r a m rest e is h f = record {
-  machine = m;
+pub known_behind : (b : Box) (old : Known) (r : Option Body) (a : Body) (made : Stack) → r ≡ option_map (λ p. p.reverse) old.machine.pair → r ≡ Some a →
+    AreKnown b old → AreRows a (reverse b) made → StillKnown b old (record old { behind = made.known; laid_behind = made.laid })
+known_behind b old r a made e is h f = record {
+  machine = refl;
   known = record {
-    ahead = subst (λ (x : Automata). AreFirst x.forward b new.ahead) (sym m) (subst (AreFirst old.machine.forward b) (sym rest) h.ahead);
-    behind = subst (λ (x : Automata). AreBehind x.pair b new.behind) (sym m) (first_behind_is old.machine.pair r a b new.behind e is f);
+    ahead = h.ahead;
+    behind = first_behind_is old.machine.pair r a b made.known e is f.known;
+    laid_ahead = h.laid_ahead;
+    laid_behind = laid_behind_is old.machine.pair r a b made.laid e is f.laid;
   };
 }
 

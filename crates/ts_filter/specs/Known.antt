@@ -1,6 +1,5 @@
 -- What is known of the hulls of a machine on a box: the rows of the first cells forward, of the last ones backward.
 use Rattle.std.specs.Prelude.{◌≡◌, ◌<◌, ◌≤◌, ℕ, ◌-◌, ℤ, List, length, take, drop, reverse, Option, None, Some}
-use Rattle.ts_automaton.specs.declared.regs.Hull.{Hull}
 use Rattle.ts_automaton.specs.Body.{Body}
 use Rattle.ts_bound.specs.HullTables.{forward_rows}
 use Rattle.ts_bound.specs.TermSpans.{Automata}
@@ -8,10 +7,7 @@ use Rattle.ts_glue.specs.Pairs.{Pair}
 use Rattle.ts_filter.specs.declared.rows.Way.{Way}
 use Rattle.ts_filter.specs.declared.rows.Way.TheVariants.{FromFirst, FromLast}
 use Rattle.ts_filter.specs.Boxes.{Box, with_values}
-
--- the hulls of each cell, in the order in which an automaton reads the cells
-abbrev pub Rows : Type 0
-Rows = List (List Hull)
+use Rattle.ts_filter.specs.RowStacks.{Rows, Laid, GoOn, Stack}
 
 -- the cells in that order
 abbrev pub in_order : Way → Box → Box
@@ -22,21 +18,36 @@ in_order FromLast b = reverse b
 abbrev pub AreFirst : Body → Box → Rows → Type 0
 AreFirst a cells rows = rows ≡ take (length rows) (forward_rows a cells)
 
--- the rows of a machine: forward ones, and backward ones, that of the last cell first
+-- the known ones are, and the others go on
+pub record AreRows (a : Body) (cells : Box) (s : Stack) : Type 0 where
+  pub known : AreFirst a cells s.known
+  pub laid : GoOn a cells s.laid.rows s.laid.from
+
+-- the rows of a machine: forward ones, and backward ones, that of the last cell first; and with them those that aren't
+-- known to be of the present box
 pub record Known : Type 0 where
   pub machine : Automata
   pub ahead : Rows
   pub behind : Rows
+  pub laid_ahead : Laid
+  pub laid_behind : Laid
 
 -- these are backward rows; a machine that can't be split has none
 abbrev pub AreBehind : Option Pair → Box → Rows → Type 0
 AreBehind None b rows = Unit {0}
 AreBehind (Some p) b rows = AreFirst p.reverse (in_order FromLast b) rows
 
+-- so do these go on
+abbrev pub GoOnBehind : Option Pair → Box → Laid → Type 0
+GoOnBehind None b l = Unit {0}
+GoOnBehind (Some p) b l = GoOn p.reverse (in_order FromLast b) l.rows l.from
+
 -- they are rows of the box
 pub record AreKnown (b : Box) (t : Known) : Type 0 where
   pub ahead : AreFirst t.machine.forward (in_order FromFirst b) t.ahead
   pub behind : AreBehind t.machine.pair b t.behind
+  pub laid_ahead : GoOn t.machine.forward (in_order FromFirst b) t.laid_ahead.rows t.laid_ahead.from
+  pub laid_behind : GoOnBehind t.machine.pair b t.laid_behind
 
 -- of the same machine, and again rows of the box
 pub record StillKnown (b : Box) (old new : Known) : Type 0 where

@@ -14,7 +14,9 @@ pub mod Lines
 pub mod MachineSpans
 pub mod OfTerm
 pub mod RefutedWorseDrop
+pub mod RowStacks
 pub mod Rules
+pub mod SameHulls
 pub mod SoFar
 pub mod Steps
 pub mod TermDrops

@@ -25,7 +25,7 @@ use ts_model::Require;
 /// What a hull of a row takes, in bytes.
 const HULL: u64 = 96;
 
-/// How many bytes the rows of all machines may take.
+/// How many bytes the rows of all machines may take, but for one row a direction that is held beside them.
 const MOST: u64 = 200_000_000;
 
 /// The machines of the terms, in their order, each with the rows of hulls of the box that it was asked of last. Where

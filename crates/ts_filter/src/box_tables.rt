@@ -5,9 +5,11 @@ ghost use Rattle.ts_bound.specs.TermSpans.{automata_of};
 ghost use Rattle.ts_filter.specs.Boxes.{Box, HasCell};
 ghost use Rattle.ts_filter.specs.CellHulls.{IsBackRow, at_cell};
 ghost use Rattle.ts_filter.specs.Known.{AreKnown, HasRows, StayKnown, StillKnown};
+ghost use Rattle.ts_filter.specs.RowStacks.{nothing_laid};
 
 use crate::cell_hulls::CellHulls;
-use crate::rows::{HullRow, Way, make_rows};
+use crate::row_stack::RowStack;
+use crate::rows::{Way, make_rows};
 use std::alloc::Global;
 use std::marker::Model;
 use ts_automaton::Hull;
@@ -16,14 +18,15 @@ use ts_domain::Boxed;
 use ts_glue::Machine;
 
 /// What one machine tells of a box and of the boxes that it becomes: rows of hulls are made when a question first asks
-/// for them, and after a change those that it doesn't reach stay. The box isn't inside: each question takes it, and
-/// each change of it has to be told by `changed`. Contracts see the machine and the rows that are known, forward ones
-/// from the first cell on, backward ones from the last cell back.
+/// for them, and after a change those that it doesn't reach stay. The others aren't known then, but are kept: as soon
+/// as a row behind the changed cells is made again as it was, those behind it are known too. The box isn't inside: each
+/// question takes it, and each change of it has to be told by `changed`. Contracts see the machine and the rows that
+/// are known, forward ones from the first cell on, backward ones from the last cell back; and those that are kept.
 #[derive(Drop)]
 pub struct BoxTables<'a> {
     machine: &'a Machine,
-    ahead: Vec<HullRow>,
-    behind: Vec<HullRow>,
+    ahead: RowStack,
+    behind: RowStack,
 }
 
 impl<'a> Model for BoxTables<'a> {
@@ -36,20 +39,31 @@ impl<'a> Model for BoxTables<'a> {
 
     ghost coded = { Prim.hlevel (codes, formula_code) };
 
-    ghost view = { λ t.
-        record { machine = automata_of t.machine.now; ahead = t.ahead.items; behind = t.behind.items } };
+    ghost view = { λ t. record {
+        machine = automata_of t.machine.now;
+        ahead = t.ahead.known;
+        behind = t.behind.known;
+        laid_ahead = t.ahead.laid;
+        laid_behind = t.behind.laid;
+    } };
 }
 
 impl<'a> BoxTables<'a> {
     /// Nothing is known of any box yet.
     pub fn new(alloc: Global, machine: &'a Machine) -> BoxTables<'a>
-        ensures value { result ≡ record { machine = automata_of machine.now; ahead = []; behind = [] } }
+        ensures value { result ≡ record {
+            machine = automata_of machine.now;
+            ahead = [];
+            behind = [];
+            laid_ahead = nothing_laid;
+            laid_behind = nothing_laid;
+        } }
         ensures known { (b : Box) → AreKnown b result }
     {
         BoxTables {
             machine,
-            ahead: Vec::new(alloc),
-            behind: Vec::new(alloc),
+            ahead: RowStack::new(alloc),
+            behind: RowStack::new(alloc),
         }
     }
 
@@ -62,12 +76,22 @@ impl<'a> BoxTables<'a> {
         ensures behind { self.new.behind ≡ take (n - last) self.old.behind }
         ensures known { StayKnown first last n self.old self.new }
     {
-        self.ahead.truncate(first.saturating_sub(1) as usize);
-        self.behind.truncate((n - last) as usize);
+        let before = first.saturating_sub(1);
+        self.ahead.truncate(before as usize, last as usize);
+        self.behind.truncate((n - last) as usize, n.saturating_sub(before) as usize);
     }
 }
 
 impl<'a> BoxTables<'a> {
+    /// Forgets all rows, and so frees their memory.
+    pub(crate) fn forget(&mut self)
+        ensures machine { self.new.machine ≡ self.old.machine }
+        ensures known { (b : Box) → AreKnown b self.new }
+    {
+        self.ahead.clear();
+        self.behind.clear();
+    }
+
     /// Whether the machine can't be split.
     pub(crate) fn is_plain(&self) -> bool
         ensures { IsTrue result ↔ (self.now.machine.pair ≡ None) }
@@ -102,7 +126,7 @@ impl<'a> BoxTables<'a> {
             machine: self.machine,
             cells,
             cell: k,
-            row: self.ahead[k as usize - 1].hulls(),
+            row: self.ahead.row(k as usize - 1),
             back: self.back_row(k, cells),
         }
     }
@@ -120,7 +144,7 @@ impl<'a> BoxTables<'a> {
         if k == n {
             return None;
         }
-        Some(self.behind[(n - k) as usize].hulls())
+        Some(self.behind.row((n - k) as usize))
     }
 
     /// Makes the forward rows that are wanting up to that of cell `k`.

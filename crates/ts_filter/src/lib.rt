@@ -4,11 +4,11 @@
 //! bound, or counts for a bar. The calls on a machine and a box answer the same of the box's span at a cell, and name
 //! the first cell, the first drop and the value to keep; each makes the rows of a machine once, however many cells
 //! there are, and looks at no further pair of states once some number of a span does what is asked. `BoxTables` answers
-//! the same questions and keeps the rows: those that a change of the box doesn't reach serve the next box. `LiveTables`
-//! finds out by itself what has changed, and `AllTables` does so for the machines of all terms. The definitions state
-//! the rule of each line of a certificate, when a certificate is accepted, its first failing line and what its claim
-//! means; by the laws an accepted certificate means what it claims, whoever wrote it, wherever spans hold the values of
-//! their terms.
+//! the same questions and keeps the rows: those that a change of the box doesn't reach serve the next box, and so do
+//! those behind a row that comes out as it was. `LiveTables` finds out by itself what has changed, and `AllTables` does
+//! so for the machines of all terms. The definitions state the rule of each line of a certificate, when a certificate is
+//! accepted, its first failing line and what its claim means; by the laws an accepted certificate means what it claims,
+//! whoever wrote it, wherever spans hold the values of their terms.
 //!
 //! ```text
 //! let span = Span { lo: Ext::Int(2), hi: Ext::Int(5) };
@@ -39,7 +39,9 @@ mod kept;
 pub mod laws;
 mod live_tables;
 mod meeting;
+mod row_stack;
 mod rows;
+mod same_rows;
 mod so_far;
 
 pub use all_tables::AllTables;

@@ -14,7 +14,7 @@ ghost use Rattle.ts_filter.specs.declared.bar.Bar.TheVariants.{Better};
 use crate::bar::Bar;
 use crate::box_tables::BoxTables;
 use crate::drops::Removal;
-use crate::meeting::{forget, meet};
+use crate::meeting::meet;
 use std::alloc::Global;
 use std::marker::Model;
 use ts_base::{Ext, Goal, Memory};
@@ -60,7 +60,7 @@ impl<'a> LiveTables<'a> {
     pub fn forget(&mut self)
         ensures same { self.new ≡ self.old }
     {
-        forget(&mut self.tables);
+        self.tables.forget();
     }
 
     /// Whether the requirement is refuted at cell `p`: no number of its term's span there compares with the bound as it

@@ -26,7 +26,7 @@ pub(crate) fn meet(
     let n = cells.cells();
     if seen.len() != n as usize {
         let copies = copied(alloc, cells)?;
-        forget(tables);
+        tables.forget();
         drop(mem::replace(seen, copies));
         return Ok(());
     }
@@ -37,14 +37,6 @@ pub(crate) fn meet(
     let last = last_other(seen.as_slice(), cells, first);
     tables.changed(first + 1, last, n);
     take_over(seen, cells, first, last)
-}
-
-/// Forgets all rows.
-pub(crate) fn forget(tables: &mut BoxTables<'_>)
-    ensures machine { tables.new.machine ≡ tables.old.machine }
-    ensures known { (b : Box) → AreKnown b tables.new }
-{
-    tables.changed(1, 0, 0);
 }
 
 /// The domains of a box.

@@ -3,38 +3,14 @@
 ghost use Rattle.std.specs.Prelude.{◌≡◌, ◌*◌, ◌<◌, ◌≤◌, [], ◌++◌, IfOk, OnOk, get_or, length, map};
 ghost use Rattle.ts_bound.specs.HullTables.{forward_rows, row_of, start_hull};
 ghost use Rattle.ts_bound.specs.NextRow.{states_of};
-ghost use Rattle.ts_filter.specs.Known.{AreFirst, in_order};
+ghost use Rattle.ts_filter.specs.Known.{AreFirst, AreRows, in_order};
 
+use crate::row_stack::{HullRow, RowStack};
 use std::alloc::Global;
-use std::marker::Model;
 use ts_automaton::{Automaton, Hull};
 use ts_base::Memory;
 use ts_bound::fill_row;
 use ts_domain::{Boxed, Domain};
-
-/// One hull for each value of a cell and each state: those of a value stand together, in the order of the states.
-#[derive(Drop)]
-pub(crate) struct HullRow {
-    hulls: Vec<Hull>,
-}
-
-impl Model for HullRow {
-    ghost use Rattle.std.specs.Prelude.{List};
-    ghost use Rattle.ts_automaton.specs.declared.regs.Hull.{Hull};
-
-    ghost Value = { List Hull };
-
-    ghost view = { λ r. r.hulls.items };
-}
-
-impl HullRow {
-    /// The hulls.
-    pub(crate) fn hulls(&self) -> &[Hull]
-        ensures { result.now ≡ self.now }
-    {
-        self.hulls.as_slice()
-    }
-}
 
 /// The order in which the cells are read.
 #[derive(Clone, Copy)]
@@ -46,45 +22,65 @@ pub(crate) enum Way {
 /// Makes the rows that are wanting of the `count` cells that the automaton reads first.
 pub(crate) fn make_rows(
     alloc: Global,
-    rows: &mut Vec<HullRow>,
+    rows: &mut RowStack,
     a: &Automaton,
     cells: &Boxed,
     way: Way,
     count: usize,
 ) -> Result<(), Memory>
     requires cells { count ≤ length cells.now.present }
-    requires known { AreFirst a.now (in_order way cells.now.present) rows.old.items }
-    ensures known { AreFirst a.now (in_order way cells.now.present) rows.new.items }
-    ensures enough { OnOk result (count ≤ length rows.new.items) }
+    requires known { AreRows a.now (in_order way cells.now.present) rows.old }
+    ensures known { AreRows a.now (in_order way cells.now.present) rows.new }
+    ensures enough { OnOk result (count ≤ length rows.new.known) }
 {
     while rows.len() < count {
-        rows.reserve(1)?;
-        let row = row_behind(alloc, rows.as_slice(), a, cells, way)?;
-        rows.push_reserved(row);
+        make_row(alloc, rows, a, cells, way)?;
     }
     Ok(())
 }
 
-/// The row of the cell that is read after those of these rows.
-fn row_behind(
+/// Makes the row of the cell that is read next. Where it lay there before, all above it are right too.
+fn make_row(
     alloc: Global,
-    rows: &[HullRow],
+    rows: &mut RowStack,
     a: &Automaton,
     cells: &Boxed,
     way: Way,
+) -> Result<(), Memory>
+    requires more { length rows.old.known < length cells.now.present }
+    requires known { AreRows a.now (in_order way cells.now.present) rows.old }
+    ensures known { AreRows a.now (in_order way cells.now.present) rows.new }
+    ensures more { OnOk result (length rows.old.known < length rows.new.known) }
+{
+    let spare = rows.take_spare(alloc);
+    let row = next_row(rows, a, cells, way, spare)?;
+    if rows.stands(&row) {
+        rows.know_all(row);
+        return Ok(());
+    }
+    rows.push(row)
+}
+
+/// The row of the cell that is read after those of these rows, in the memory of `spare`.
+fn next_row(
+    rows: &RowStack,
+    a: &Automaton,
+    cells: &Boxed,
+    way: Way,
+    spare: HullRow,
 ) -> Result<HullRow, Memory>
-    requires more { length rows.now < length cells.now.present }
-    requires known { AreFirst a.now (in_order way cells.now.present) rows.now }
+    requires more { length rows.now.known < length cells.now.present }
+    requires known { AreFirst a.now (in_order way cells.now.present) rows.now.known }
     ensures { IfOk result
-        (λ row. row ≡ get_or (forward_rows a.now (in_order way cells.now.present)) (length rows.now) []) }
+        (λ row. row ≡ get_or (forward_rows a.now (in_order way cells.now.present)) (length rows.now.known) []) }
 {
     let i = rows.len();
     let values = read_at(cells, way, i);
     if i == 0 {
-        return Ok(first_row(alloc, a, values)?);
+        return Ok(first_row(a, values, spare)?);
     }
-    let mut hulls = nones(alloc, values.size(), a.states())?;
-    let before = rows[i - 1].hulls();
+    let before = rows.row(i - 1);
+    let mut hulls = resized(spare, values.size(), a.states())?;
     fill_row(
         a,
         read_at(cells, way, i - 1),
@@ -108,10 +104,11 @@ fn read_at(cells: &Boxed, way: Way, i: usize) -> &Domain
 }
 
 /// The row of the cell that is read first: at each value the start registers in the start state alone.
-fn first_row(alloc: Global, a: &Automaton, values: &Domain) -> Result<HullRow, Memory>
+fn first_row(a: &Automaton, values: &Domain, spare: HullRow) -> Result<HullRow, Memory>
     ensures { IfOk result (λ row. row ≡ row_of a.now [] values.now) }
 {
-    let mut hulls = Vec::new(alloc);
+    let mut hulls = spare.hulls;
+    hulls.clear();
     for _value in values.values() {
         push_start(a, &mut hulls)?;
     }
@@ -139,12 +136,14 @@ fn start_at(a: &Automaton, q: u8) -> Hull
     }
 }
 
-/// So many hulls that are none. Those that can't be counted have no memory.
-fn nones(alloc: Global, values: u64, states: u8) -> Result<Vec<Hull>, Memory>
+/// So many hulls, whatever they are, in the memory of a row. Those that can't be counted have no memory.
+fn resized(row: HullRow, values: u64, states: u8) -> Result<Vec<Hull>, Memory>
     ensures { IfOk result (λ hulls. length hulls.items ≡ values * states) }
 {
     let count = (values as usize)
         .checked_mul(states as usize)
         .ok_or(Memory)?;
-    Ok(Vec::from_elem(alloc, Hull::none(), count)?)
+    let mut hulls = row.hulls;
+    hulls.resize(count, Hull::none())?;
+    Ok(hulls)
 }

@@ -5,7 +5,7 @@ use Rattle.ts_filter.proofs.rows.first_row.Goals as goal
 pub loop-value-init : goal.loop-value-init
 loop-value-init c =
     let same : c.into_iter-value-iterator.result ≡ c.args.values.now = search rules in
-    first_begun c.args.a.now c.args.values.now c.into_iter-value-iterator.result c.new-hulls.result.items c.new-hulls.ensures.items same
+    first_begun c.args.a.now c.args.values.now c.into_iter-value-iterator.result _ c.clear.ensures.items same
 
 pub loop-value-preserved : goal.loop-value-preserved
 loop-value-preserved c =

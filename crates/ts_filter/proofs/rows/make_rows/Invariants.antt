@@ -1,9 +1,9 @@
 use Rattle.std.proofs.Common.{◌-◌, length}
-use Rattle.ts_filter.specs.Known.{AreFirst, in_order}
+use Rattle.ts_filter.specs.Known.{AreRows, in_order}
 use Rattle.ts_filter.proofs.rows.make_rows.Given as goal
 
 abbrev pub invariant-loop-alloc : goal.invariant-loop-alloc
-invariant-loop-alloc l = AreFirst l.a (in_order l.way l.cells.present) l.rows.items
+invariant-loop-alloc l = AreRows l.a (in_order l.way l.cells.present) l.rows
 
 abbrev pub decreases-loop-alloc : goal.decreases-loop-alloc
-decreases-loop-alloc l = l.count - length l.rows.items
+decreases-loop-alloc l = l.count - length l.rows.known

@@ -1,0 +1,251 @@
+-- Rows above those that are known: what a change leaves of them, and when they are known too.
+use Rattle.std.proofs.Common.{◌≡◌, ℕ, zero, suc, ◌+◌, ◌-◌, ◌<◌, ◌≤◌, ◌⊎◌, inl, inr, ℤ, List, [], ◌∷◌, ◌++◌, length, take, drop, reverse, set, get_or, Option, Some, None, refl, sym, ap, ◌∙◌, subst, arith}
+use Rattle.std.specs.Prelude.{Result, Ok, Err, OnOk, OnErr}
+use Rattle.std.proofs.lemmas.List.{append_assoc, get_or_default, take_at, take_more, take_all, set_split, get_or-take, get_or-drop, get_or-append-add, length-append, length-take, length-drop, length-reverse}
+use Rattle.ts_automaton.specs.declared.regs.Hull.{Hull}
+use Rattle.ts_automaton.specs.Body.{Body}
+use Rattle.ts_bound.specs.HullTables.{forward_rows}
+use Rattle.ts_bound.specs.NextRow.{next_row}
+use Rattle.ts_bound.specs.TermSpans.{Automata}
+use Rattle.ts_bound.proofs.TableLaws.{row_on}
+use Rattle.ts_filter.specs.Boxes.{Box}
+use Rattle.ts_filter.specs.Known.{AreFirst, AreRows, AreBehind, GoOnBehind, Known, AreKnown, StayKnown}
+use Rattle.ts_filter.specs.RowStacks.{Rows, Laid, Stack, IsFollowed, GoOn, Stands, IsOneMore, IsCut, with_row}
+use Rattle.ts_glue.specs.Pairs.{Pair}
+use Rattle.ts_filter.proofs.KnownRows.{few_known, known_at, one_more, none_known, reverse_take, stay_first, behind_stay, turned_front}
+
+-- rows that are known
+
+followed_by : (a : Body) (cells : Box) (rows : Rows) (i : ℕ) → i + 1 < length cells → get_or rows i [] ≡ get_or (forward_rows a cells) i [] →
+    get_or rows (i + 1) [] ≡ get_or (forward_rows a cells) (i + 1) [] → IsFollowed a cells rows i
+followed_by a cells rows i lt here there =
+    let on : i + 1 ≡ suc i = omega arith in
+    there ∙ ap (λ j. get_or (forward_rows a cells) j []) on ∙ row_on a [] cells i (omega (arith, lt))
+    ∙ ap (λ j. next_row a (get_or cells i []) (get_or (forward_rows a cells) i []) (get_or cells j [])) (sym on)
+    ∙ ap (λ r. next_row a (get_or cells i []) r (get_or cells (i + 1) [])) (sym here)
+
+pub known_go_on : (a : Body) (cells : Box) (rows : Rows) (from : ℕ) → AreFirst a cells rows → GoOn a cells rows from
+known_go_on a cells rows from h =
+    let few = few_known a cells rows h in
+    record {
+      few = few;
+      each = λ i le lt. followed_by a cells rows i (omega (arith, lt, few)) (known_at a cells rows i h (omega (arith, lt))) (known_at a cells rows (i + 1) h lt);
+    }
+
+-- what a change leaves
+
+rest_at : (b later : Box) (end i : ℕ) → drop end later ≡ drop end b → end ≤ i → get_or later i [] ≡ get_or b i []
+rest_at b later end i same le =
+    let sum : end + (i - end) ≡ i = omega (arith, le) in
+    ap (λ j. get_or later j []) (sym sum) ∙ sym (get_or-drop end later (i - end) []) ∙ ap (λ l. get_or l (i - end) []) same
+    ∙ get_or-drop end b (i - end) [] ∙ ap (λ j. get_or b j []) sum
+
+pub still_go_on : (a : Body) (b later : Box) (rows : Rows) (from end next : ℕ) → GoOn a b rows from → length later ≡ length b → drop end later ≡ drop end b →
+    from ≤ next → end ≤ next → GoOn a later rows next
+still_go_on a b later rows from end next g count same le to = record {
+  few = subst (λ n. length rows ≤ n) (sym count) g.few;
+  each = λ i l lt.
+      let here = rest_at b later end i same (omega (arith, to, l)) in let there = rest_at b later end (i + 1) same (omega (arith, to, l)) in
+      g.each i (omega (arith, le, l)) lt ∙ ap (λ v. next_row a v (get_or rows i []) (get_or b (i + 1) [])) (sym here)
+      ∙ ap (next_row a (get_or later i []) (get_or rows i [])) (sym there);
+}
+
+pub laid_stay : (a : Body) (b later : Box) (end : ℕ) (known : Rows) (old new : Laid) → AreFirst a b known → GoOn a b old.rows old.from →
+    (known ≡ old.rows) ⊎ (old.from ≤ new.from) → new.rows ≡ old.rows → end ≤ new.from → length later ≡ length b → drop end later ≡ drop end b →
+    GoOn a later new.rows new.from
+laid_stay a b later end known old new h g (inl all) is to count same =
+    subst (λ r. GoOn a later r new.from) (sym is)
+    (still_go_on a b later old.rows 0 end new.from (subst (λ r. GoOn a b r 0) all (known_go_on a b known 0 h)) count same (omega arith) to)
+laid_stay a b later end known old new h g (inr le) is to count same =
+    subst (λ r. GoOn a later r new.from) (sym is) (still_go_on a b later old.rows old.from end new.from g count same le to)
+
+-- a row that is known, in the place of one that lay there before
+
+pub put_within : (rows : Rows) (at : ℕ) (row : List Hull) → at < length rows → set rows at row ≡ with_row at row rows
+put_within rows at row lt = let on : suc at ≡ at + 1 = omega arith in set_split rows at row lt ∙ ap (λ n. take at rows ++ row ∷ drop n rows) on
+
+above_row : (rows : Rows) (at : ℕ) (row : List Hull) (i : ℕ) → at ≤ length rows → at < i → get_or (with_row at row rows) i [] ≡ get_or rows i []
+above_row rows at row i le lt =
+    let long : length (take at rows) ≡ at = omega (arith, length-take at rows, le) in
+    let sum : length (take at rows) + suc (i - (at + 1)) ≡ i = omega (arith, long, lt) in
+    let whole : at + 1 + (i - (at + 1)) ≡ i = omega (arith, lt) in
+    ap (λ j. get_or (with_row at row rows) j []) (sym sum) ∙ get_or-append-add (take at rows) (row ∷ drop (at + 1) rows) (suc (i - (at + 1))) []
+    ∙ get_or-drop (at + 1) rows (i - (at + 1)) [] ∙ ap (λ j. get_or rows j []) whole
+
+row_count : (rows : Rows) (at : ℕ) (row : List Hull) → at ≤ length rows → length (with_row at row rows) ≡ at + 1 + (length rows - (at + 1))
+row_count rows at row le =
+    let l = length-append (take at rows) (row ∷ drop (at + 1) rows) in let t = length-take at rows in let d = length-drop (at + 1) rows in
+    omega (arith, l, t, d, le)
+
+with_row_go_on : (a : Body) (cells : Box) (rows : Rows) (at : ℕ) (row : List Hull) (from next : ℕ) → GoOn a cells rows from → at ≤ length rows →
+    at < length cells → from ≤ next → at < next → GoOn a cells (with_row at row rows) next
+with_row_go_on a cells rows at row from next g le lt to above =
+    let few = g.few in let count = row_count rows at row le in
+    record {
+      few = omega (arith, count, few, lt);
+      each = λ i l there.
+          above_row rows at row (i + 1) le (omega (arith, l, above)) ∙ g.each i (omega (arith, to, l)) (omega (arith, there, count, l, above))
+          ∙ ap (λ r. next_row a (get_or cells i []) r (get_or cells (i + 1) [])) (sym (above_row rows at row i le (omega (arith, l, above))));
+    }
+
+-- a row that stood there before, from which the rows above go on
+
+more_known : (a : Body) (cells : Box) (rows : Rows) (from k : ℕ) → GoOn a cells rows from → from < k → k < length rows → AreFirst a cells (take k rows) →
+    AreFirst a cells (take (k + 1) rows)
+more_known a cells rows from k g le lt h =
+    let few = g.few in
+    let long : length (take k rows) ≡ k = omega (arith, length-take k rows, lt) in
+    let back : k - 1 + 1 ≡ k = omega (arith, le) in
+    let all = forward_rows a cells in
+    let here : get_or rows (k - 1) [] ≡ get_or all (k - 1) [] =
+    sym (get_or-take k rows (k - 1) [] (omega (arith, le))) ∙ known_at a cells (take k rows) (k - 1) h (omega (arith, long, le)) in
+    let step : get_or rows (k - 1 + 1) [] ≡ get_or all (k - 1 + 1) [] =
+    g.each (k - 1) (omega (arith, le)) (omega (arith, back, lt))
+    ∙ ap (λ r. next_row a (get_or cells (k - 1) []) r (get_or cells (k - 1 + 1) [])) here
+    ∙ sym (on_row a cells (k - 1) (omega (arith, back, lt, few))) in
+    let row : get_or rows k [] ≡ get_or all (length (take k rows)) [] =
+    ap (λ j. get_or rows j []) (sym back) ∙ step ∙ ap (λ j. get_or all j []) (back ∙ sym long) in
+    subst (AreFirst a cells) (sym (take_more rows k [] lt))
+    (one_more a cells (take k rows) (get_or rows k []) h (omega (arith, long, lt, few)) row)
+  where
+    on_row : (a : Body) (cells : Box) (i : ℕ) → i + 1 < length cells →
+        get_or (forward_rows a cells) (i + 1) [] ≡ next_row a (get_or cells i []) (get_or (forward_rows a cells) i []) (get_or cells (i + 1) [])
+    on_row a cells i lt =
+        let on : i + 1 ≡ suc i = omega arith in
+        ap (λ j. get_or (forward_rows a cells) j []) on ∙ row_on a [] cells i (omega (arith, lt))
+        ∙ ap (λ j. next_row a (get_or cells i []) (get_or (forward_rows a cells) i []) (get_or cells j [])) (sym on)
+
+known_up_to : (a : Body) (cells : Box) (rows : Rows) (from k d : ℕ) → GoOn a cells rows from → from < k → k + d ≤ length rows → AreFirst a cells (take k rows) →
+    AreFirst a cells (take (k + d) rows)
+known_up_to a cells rows from k zero g le to h = let same : k ≡ k + 0 = omega arith in subst (λ m. AreFirst a cells (take m rows)) same h
+known_up_to a cells rows from k (suc d) g le to h =
+    let same : k + d + 1 ≡ k + suc d = omega arith in
+    subst (λ m. AreFirst a cells (take m rows)) same
+    (more_known a cells rows from (k + d) g (omega (arith, le)) (omega (arith, to)) (known_up_to a cells rows from k d g le (omega (arith, to)) h))
+
+pub all_known : (a : Body) (cells : Box) (rows : Rows) (from k : ℕ) → GoOn a cells rows from → from ≤ k → k < length rows → AreFirst a cells (take k rows) →
+    get_or rows k [] ≡ get_or (forward_rows a cells) k [] → AreFirst a cells rows
+all_known a cells rows from k g le lt h is =
+    let few = g.few in
+    let long : length (take k rows) ≡ k = omega (arith, length-take k rows, lt) in
+    let first : AreFirst a cells (take (k + 1) rows) =
+    subst (AreFirst a cells) (sym (take_more rows k [] lt))
+    (one_more a cells (take k rows) (get_or rows k []) h (omega (arith, long, lt, few)) (is ∙ ap (λ j. get_or (forward_rows a cells) j []) (sym long))) in
+    let whole : k + 1 + (length rows - (k + 1)) ≡ length rows = omega (arith, lt) in
+    let up = known_up_to a cells rows from (k + 1) (length rows - (k + 1)) g (omega (arith, le)) (omega (arith, whole)) first in
+    subst (AreFirst a cells) (take_all (k + 1 + (length rows - (k + 1))) rows (omega (arith, whole))) up
+
+-- the next row is made
+
+pub one_more_row : (a : Body) (cells : Box) (old new : Stack) (row : List Hull) → AreRows a cells old → length old.known < length cells →
+    row ≡ get_or (forward_rows a cells) (length old.known) [] → IsOneMore row old new → AreRows a cells new
+one_more_row a cells old new row h lt is more = record {
+  known = subst (AreFirst a cells) (sym more.known) (one_more a cells old.known row h.known lt is);
+  laid = subst (λ r. GoOn a cells r new.laid.from) (sym more.rows)
+      (with_row_go_on a cells old.laid.rows (length old.known) row old.laid.from new.laid.from h.laid more.within lt more.from more.above);
+}
+
+pub all_rows_stand : (a : Body) (cells : Box) (old new : Stack) (row : List Hull) → AreRows a cells old → Stands row old →
+    row ≡ get_or (forward_rows a cells) (length old.known) [] → new.known ≡ old.laid.rows → new.laid ≡ old.laid → AreRows a cells new
+all_rows_stand a cells old new row h s is all same = record {
+  known = subst (AreFirst a cells) (sym all)
+      (all_known a cells old.laid.rows old.laid.from (length old.known) h.laid s.from s.there (subst (AreFirst a cells) s.known h.known) (s.same ∙ is));
+  laid = subst (λ (l : Laid). GoOn a cells l.rows l.from) (sym same) h.laid;
+}
+
+-- the same, as the code holds the rows
+
+pub standing : (rows : Rows) (k from n : ℕ) (row here d : List Hull) (s : Stack) →
+    record { known = take k rows; laid = record { rows = rows; from = from } } ≡ s → k ≤ length rows → n ≡ length rows → (k ≡ n → ⊥) → from ≤ k →
+    here ≡ get_or rows k d → here ≡ row → Stands row s
+standing rows k from n row here d s is le count ne to at same =
+    let lt : k < length rows = below k n (length rows) le count ne in
+    let long : length (take k rows) ≡ k = omega (arith, length-take k rows, le) in
+    subst (Stands row) is (record {
+      known = ap (λ m. take m rows) (sym long);
+      there = omega (arith, long, lt);
+      same = ap (λ m. get_or rows m []) long ∙ get_or_default rows k [] d lt ∙ sym at ∙ same;
+      from = omega (arith, long, to);
+    })
+  where
+    below : (k n m : ℕ) → k ≤ m → n ≡ m → (k ≡ n → ⊥) → k < m
+    below k n m le e ne = grind (arith, le, e, ne)
+
+pub pushed : (rows new : Rows) (k from next : ℕ) (row : List Hull) (old : Stack) →
+    record { known = take k rows; laid = record { rows = rows; from = from } } ≡ old → k ≤ length rows → new ≡ with_row k row rows → from ≤ next → k + 1 ≤ next →
+    IsOneMore row old (record { known = take (k + 1) new; laid = record { rows = new; from = next } })
+pushed rows new k from next row old is le now to above =
+    let long : length (take k rows) ≡ k = omega (arith, length-take k rows, le) in
+    let one : length (take k rows ++ row ∷ []) ≡ k + 1 = omega (arith, length-append (take k rows) (row ∷ []), long) in
+    subst (λ (o : Stack). IsOneMore row o (record { known = take (k + 1) new; laid = record { rows = new; from = next } })) is (record {
+      known = ap (take (k + 1)) (now ∙ sym (append_assoc (take k rows) (row ∷ []) (drop (k + 1) rows)))
+          ∙ take_at (take k rows ++ row ∷ []) (drop (k + 1) rows) (k + 1) one;
+      within = omega (arith, long, le);
+      rows = now ∙ ap (λ m. with_row m row rows) (sym long);
+      from = to;
+      above = omega (arith, long, above);
+    })
+
+-- a result in either case
+pub either_way : {T E : Type 0} (r : Result T E) (P Q G : Type 0) → OnOk r P → OnErr r Q → (P → G) → (Q → G) → G
+either_way (Ok x) P Q G p q f g = f p
+either_way (Err e) P Q G p q f g = g q
+
+-- tables after a change
+
+laid_behind_stay : (p : Option Pair) (b later : Box) (end : ℕ) (known : Rows) (old new : Laid) → AreBehind p b known → GoOnBehind p b old →
+    (known ≡ old.rows) ⊎ (old.from ≤ new.from) → new.rows ≡ old.rows → end ≤ new.from → length later ≡ length b →
+    drop end (reverse later) ≡ drop end (reverse b) → GoOnBehind p later new
+laid_behind_stay None b later end known old new h g from is to count same = tt
+laid_behind_stay (Some p) b later end known old new h g from is to count same =
+    laid_stay p.reverse (reverse b) (reverse later) end known old new h g from is to (length-reverse later ∙ count ∙ sym (length-reverse b)) same
+
+turned_rest : (n before : ℕ) (b later : Box) → length b ≡ n → length later ≡ n → take before later ≡ take before b →
+    drop (n - before) (reverse later) ≡ drop (n - before) (reverse b)
+turned_rest n before b later e f same =
+    ap (λ m. drop (m - before) (reverse later)) (sym f) ∙ sym (reverse_take before later) ∙ ap reverse same ∙ reverse_take before b
+    ∙ ap (λ m. drop (m - before) (reverse b)) e
+
+-- the tables of a machine with these rows
+abbrev pub tables : Automata → Stack → Stack → Known
+tables a x y = record { machine = a; ahead = x.known; behind = y.known; laid_ahead = x.laid; laid_behind = y.laid }
+
+pub tables_stay : (a : Automata) (first last n : ℕ) (x y x' y' : Stack) → IsCut (first - 1) last x x' → IsCut (n - last) (n - (first - 1)) y y' →
+    StayKnown first last n (tables a x y) (tables a x' y')
+tables_stay a first last n x y x' y' f g b later d h =
+    let count = d.count_later ∙ sym d.count in
+    record {
+      ahead = stay_first a.forward b later (first - 1) x.known x'.known f.known d.before h.ahead;
+      behind = behind_stay a.pair b later (n - last) y.known y'.known g.known (turned_front n last b later d.count d.count_later d.behind) h.behind;
+      laid_ahead = laid_stay a.forward b later last x.known x.laid x'.laid h.ahead h.laid_ahead f.from f.rows f.above count d.behind;
+      laid_behind = laid_behind_stay a.pair b later (n - (first - 1)) y.known y.laid y'.laid h.behind h.laid_behind g.from g.rows g.above count
+          (turned_rest n (first - 1) b later d.count d.count_later d.before);
+    }
+
+pub stay_known : (a : Automata) (first last n before rest : ℕ) (x y x' y' : Stack) (old new : Known) → before ≡ first - 1 → rest ≡ n - before →
+    IsCut before last x x' → IsCut (n - last) rest y y' → tables a x y ≡ old → tables a x' y' ≡ new → StayKnown first last n old new
+stay_known a first last n before rest x y x' y' old new e is f g was now =
+    let f' = subst (λ m. IsCut m last x x') e f in let g' = subst (λ m. IsCut (n - last) m y y') (is ∙ ap (λ m. n - m) e) g in
+    subst (StayKnown first last n old) now
+    (subst (λ t. StayKnown first last n t (tables a x' y')) was (tables_stay a first last n x y x' y' f' g'))
+
+-- tables without a row
+
+nothing_behind : (p : Option Pair) (b : Box) (rows : Rows) → rows ≡ [] → AreBehind p b rows
+nothing_behind None b rows e = tt
+nothing_behind (Some p) b rows e = none_known p.reverse (reverse b) rows e
+
+nothing_goes_on : (a : Body) (b : Box) (l : Laid) → l.rows ≡ [] → GoOn a b l.rows l.from
+nothing_goes_on a b l e = subst (λ r. GoOn a b r l.from) (sym e) (known_go_on a b [] l.from (none_known a b [] refl))
+
+nothing_goes_behind : (p : Option Pair) (b : Box) (l : Laid) → l.rows ≡ [] → GoOnBehind p b l
+nothing_goes_behind None b l e = tt
+nothing_goes_behind (Some p) b l e = nothing_goes_on p.reverse (reverse b) l e
+
+pub nothing_known : (t : Known) (b : Box) → t.ahead ≡ [] → t.behind ≡ [] → t.laid_ahead.rows ≡ [] → t.laid_behind.rows ≡ [] → AreKnown b t
+nothing_known t b e f g h = record {
+  ahead = none_known t.machine.forward b t.ahead e;
+  behind = nothing_behind t.machine.pair b t.behind f;
+  laid_ahead = nothing_goes_on t.machine.forward b t.laid_ahead g;
+  laid_behind = nothing_goes_behind t.machine.pair b t.laid_behind h;
+}

@@ -1,0 +1,60 @@
+-- Rows on top of one another, of which the first are known.
+use Rattle.std.specs.Prelude.{◌≡◌, ℕ, ◌+◌, ◌<◌, ◌≤◌, ◌⊎◌, List, [], ◌∷◌, ◌++◌, length, take, drop, get_or}
+use Rattle.ts_automaton.specs.declared.regs.Hull.{Hull}
+use Rattle.ts_automaton.specs.Body.{Body}
+use Rattle.ts_bound.specs.NextRow.{next_row}
+use Rattle.ts_filter.specs.Boxes.{Box}
+
+abbrev pub Rows : Type 0
+Rows = List (List Hull)
+
+-- rows that may be of other boxes; from place `from` on each is the next row after the one before
+pub record Laid : Type 0 where
+  pub rows : Rows
+  pub from : ℕ
+
+-- the row at place i + 1 is the next one after that at place i
+abbrev pub IsFollowed : Body → Box → Rows → ℕ → Type 0
+IsFollowed a cells rows i = get_or rows (i + 1) [] ≡ next_row a (get_or cells i []) (get_or rows i []) (get_or cells (i + 1) [])
+
+-- so it is from a place on, over these cells
+pub record GoOn (a : Body) (cells : Box) (rows : Rows) (from : ℕ) : Type 0 where
+  pub few : length rows ≤ length cells
+  pub each : (i : ℕ) → from ≤ i → i + 1 < length rows → IsFollowed a cells rows i
+
+-- the known rows, and all that lie there
+pub record Stack : Type 0 where
+  pub known : Rows
+  pub laid : Laid
+
+abbrev pub nothing_laid : Laid
+nothing_laid = record { rows = []; from = 0 }
+
+abbrev pub no_rows : Stack
+no_rows = record { known = []; laid = nothing_laid }
+
+-- a row at a place, above the last one or in the place of another
+abbrev pub with_row : ℕ → List Hull → Rows → Rows
+with_row at row rows = take at rows ++ row ∷ drop (at + 1) rows
+
+-- the row lies on top of the known ones, and the rows above go on from it
+pub record Stands (row : List Hull) (s : Stack) : Type 0 where
+  pub known : s.known ≡ take (length s.known) s.laid.rows
+  pub there : length s.known < length s.laid.rows
+  pub same : get_or s.laid.rows (length s.known) [] ≡ row
+  pub from : s.laid.from ≤ length s.known
+
+-- the row is known too
+pub record IsOneMore (row : List Hull) (old new : Stack) : Type 0 where
+  pub known : new.known ≡ old.known ++ row ∷ []
+  pub within : length old.known ≤ length old.laid.rows
+  pub rows : new.laid.rows ≡ with_row (length old.known) row old.laid.rows
+  pub from : old.laid.from ≤ new.laid.from
+  pub above : length old.known < new.laid.from
+
+-- only the first `count` are known still; from `end` on the rows go on as before
+pub record IsCut (count end : ℕ) (old new : Stack) : Type 0 where
+  pub known : new.known ≡ take count old.known
+  pub rows : new.laid.rows ≡ old.laid.rows
+  pub above : end ≤ new.laid.from
+  pub from : (old.known ≡ old.laid.rows) ⊎ (old.laid.from ≤ new.laid.from)
