@@ -22,4 +22,11 @@ impl Program {
     {
         &self.machines
     }
+
+    /// The machines, given away.
+    pub fn into_machines(self) -> Vec<Machine>
+        ensures { result ≡ self.machines }
+    {
+        self.machines
+    }
 }

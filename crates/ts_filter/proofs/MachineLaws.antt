@@ -16,7 +16,7 @@ use Rattle.ts_filter.specs.Boxes.{Box, box_of, IsPart}
 use Rattle.ts_filter.specs.MachineSpans.{every_number, is_split, span_of, spans_of, SpansAreOfMachines, HoldsTerm, MachinesHold, MachinesTell}
 use Rattle.ts_filter.specs.RefutedWorseDrop.{IsUsable}
 
-slice_get-some : (ms : List Automata) (i : ℕ) → i < length ms → (a : Automata) × (slice_get ms i ≡ Some a)
+pub slice_get-some : (ms : List Automata) (i : ℕ) → i < length ms → (a : Automata) × (slice_get ms i ≡ Some a)
 slice_get-some [] i l = absurd (omega (arith, l))
 slice_get-some (a ∷ ms) zero l = (a, refl)
 slice_get-some (a ∷ ms) (suc i) l = slice_get-some ms i (omega (arith, l))

@@ -1,9 +1,10 @@
 //! Tables that follow a box, of the machines of all terms of a model.
 
-ghost use Rattle.std.specs.Prelude.{◌≡◌, ◌↔◌, ◌<◌, ◌≤◌, IfOk, IsTrue, None, length, map};
+ghost use Rattle.std.specs.Prelude.{◌≡◌, ◌↔◌, ◌<◌, ◌≤◌, Contains, IfOk, IsTrue, None, length, map};
 ghost use Rattle.std.specs.List.{AllByRecursion};
 ghost use Rattle.ts_bound.specs.TermSpans.{Automata, automata_of, term_span};
-ghost use Rattle.ts_domain.specs.BoxSeries.{IsCell};
+ghost use Rattle.ts_domain.specs.BoxSeries.{IsCell, cell_of};
+ghost use Rattle.ts_filter.specs.Boxes.{only};
 ghost use Rattle.ts_filter.specs.Drops.{IsFirstDrop, IsFirstOf};
 ghost use Rattle.ts_filter.specs.Excluded.{Cuts, Refutes};
 ghost use Rattle.ts_filter.specs.FirstCell.{IsFirstCell};
@@ -11,22 +12,18 @@ ghost use Rattle.ts_filter.specs.KeptValue.{IsKept};
 ghost use Rattle.ts_filter.specs.MachineSpans.{spans_of};
 ghost use Rattle.ts_filter.specs.OfTerm.{OfTerm};
 ghost use Rattle.ts_filter.specs.TermDrops.{IsTermDrop};
+ghost use Rattle.ts_filter.specs.declared.bar.Bar.TheVariants.{Better};
 
 use crate::bar::Bar;
 use crate::drops::{Removal, earlier};
 use crate::live_tables::LiveTables;
+use crate::room::has_room;
 use std::alloc::Global;
 use std::marker::Model;
-use ts_base::{Goal, Memory};
-use ts_domain::Boxed;
+use ts_base::{Ext, Goal, Memory};
+use ts_domain::{Boxed, Domain};
 use ts_glue::Machine;
 use ts_model::Require;
-
-/// What a hull of a row takes, in bytes.
-const HULL: u64 = 96;
-
-/// How many bytes the rows of all machines may take, but for one row a direction that is held beside them.
-const MOST: u64 = 200_000_000;
 
 /// The machines of the terms, in their order, each with the rows of hulls of the box that it was asked of last. Where
 /// the rows of all might take too much memory, a question leaves none behind. Contracts see the machines alone.
@@ -50,17 +47,45 @@ impl<'a> Model for AllTables<'a> {
 }
 
 impl<'a> AllTables<'a> {
-    /// The tables of these machines, of which nothing is known yet. The boxes that will be asked have up to `values`
-    /// values in all cells together: by that they are kept or made for each question anew.
-    pub fn new(alloc: Global, machines: &'a [Machine], values: u64) -> Result<AllTables<'a>, Memory>
+    /// The tables of these machines, of which nothing is known yet. The boxes that will be asked have no more values
+    /// than `cells`: by that their rows are kept or made for each question anew.
+    pub fn new(
+        alloc: Global,
+        machines: &'a [Machine],
+        cells: &[Domain],
+    ) -> Result<AllTables<'a>, Memory>
         ensures { IfOk result (λ t. t ≡ map automata_of machines.now) }
     {
         let mut each = Vec::new(alloc);
         for machine in machines {
             each.push(LiveTables::new(alloc, machine))?;
         }
-        let keeps = values.saturating_mul(states_of(machines)) <= MOST / HULL;
+        let keeps = has_room(machines, cells);
         Ok(AllTables { each, keeps })
+    }
+
+    /// The same of machines of their own.
+    pub fn owning(
+        alloc: Global,
+        machines: Vec<Machine>,
+        cells: &[Domain],
+    ) -> Result<AllTables<'a>, Memory>
+        ensures { IfOk result (λ t. t ≡ map automata_of machines.items) }
+    {
+        let keeps = has_room(&machines, cells);
+        let mut each = Vec::new(alloc);
+        for machine in machines {
+            each.push(LiveTables::owning(alloc, machine))?;
+        }
+        Ok(AllTables { each, keeps })
+    }
+
+    /// Whether the machine of the term can't be split.
+    pub fn is_plain(&self, term: u32) -> bool
+        requires { term < length self.now }
+        ensures { OfTerm self.now term (λ a. IsTrue result ↔ (a.pair ≡ None)) }
+    {
+        self.each[term as usize].is_plain()
     }
 
     /// Whether the requirement is refuted at cell `p`, as the machine of its term tells. Where that can't be split, only
@@ -80,6 +105,52 @@ impl<'a> AllTables<'a> {
             ↔ Refutes r.now.op r.now.bound (term_span a p cells.now.present))) }
     {
         let told = self.each[r.term as usize].refuted(alloc, r, p, cells);
+        self.asked(r.term);
+        told
+    }
+
+    /// Whether `term`, the objective, isn't better than `bar` at cell `p`, as its machine tells. Where that can't be
+    /// split, only the last cell may be asked.
+    pub fn worse(
+        &mut self,
+        alloc: Global,
+        term: u32,
+        goal: Goal,
+        p: u32,
+        cells: &Boxed,
+        bar: Ext,
+    ) -> Result<bool, Memory>
+        requires there { term < length self.old }
+        requires cell { IsCell p cells.now }
+        requires usable { OfTerm self.old term (λ a. a.pair ≡ None → p ≡ length cells.now.present) }
+        ensures same { self.new ≡ self.old }
+        ensures told { IfOk result (λ told. OfTerm self.old term (λ a. IsTrue told
+            ↔ Cuts goal (Better bar) (term_span a p cells.now.present))) }
+    {
+        let told = self.each[term as usize].worse(alloc, goal, p, cells, bar);
+        self.asked(term);
+        told
+    }
+
+    /// Whether the requirement is refuted at cell `k` on the box with the value `v` alone there. Where the machine of
+    /// its term can't be split, only the last cell may be asked.
+    pub fn refuted_value(
+        &mut self,
+        alloc: Global,
+        r: &Require,
+        k: u32,
+        v: i64,
+        cells: &Boxed,
+    ) -> Result<bool, Memory>
+        requires there { r.now.term < length self.old }
+        requires cell { IsCell k cells.now }
+        requires usable { OfTerm self.old r.now.term (λ a. a.pair ≡ None → k ≡ length cells.now.present) }
+        requires value { Contains (cell_of k cells.now) v }
+        ensures same { self.new ≡ self.old }
+        ensures told { IfOk result (λ told. OfTerm self.old r.now.term (λ a. IsTrue told
+            ↔ Refutes r.now.op r.now.bound (term_span a k (only k v cells.now.present)))) }
+    {
+        let told = self.each[r.term as usize].refuted_value(alloc, r, k, v, cells);
         self.asked(r.term);
         told
     }
@@ -213,17 +284,4 @@ impl<'a> AllTables<'a> {
             self.each[term as usize].forget();
         }
     }
-}
-
-/// How many states the automata of these machines have, forward and reverse ones.
-fn states_of(machines: &[Machine]) -> u64 {
-    let mut states = 0u64;
-    for m in machines {
-        let reverse = match m.reverse() {
-            Some(a) => a.states(),
-            None => 0,
-        };
-        states = states.saturating_add(m.forward().states() as u64 + reverse as u64);
-    }
-    states
 }

@@ -8,6 +8,7 @@ ghost use Rattle.ts_filter.specs.Known.{AreKnown, HasRows, StayKnown, StillKnown
 ghost use Rattle.ts_filter.specs.RowStacks.{nothing_laid};
 
 use crate::cell_hulls::CellHulls;
+use crate::held::Held;
 use crate::row_stack::RowStack;
 use crate::rows::{Way, make_rows};
 use std::alloc::Global;
@@ -24,7 +25,7 @@ use ts_glue::Machine;
 /// are known, forward ones from the first cell on, backward ones from the last cell back; and those that are kept.
 #[derive(Drop)]
 pub struct BoxTables<'a> {
-    machine: &'a Machine,
+    machine: Held<'a>,
     ahead: RowStack,
     behind: RowStack,
 }
@@ -33,6 +34,7 @@ impl<'a> Model for BoxTables<'a> {
     ghost use Rattle.std.specs.Coded.{codes};
     ghost use Rattle.ts_automaton.specs.Codes.{formula_code};
     ghost use Rattle.ts_bound.specs.TermSpans.{automata_of};
+    ghost use Rattle.ts_filter.specs.Held.{machine_in};
     ghost use Rattle.ts_filter.specs.Known.{Known};
 
     ghost Value = { Known };
@@ -40,11 +42,11 @@ impl<'a> Model for BoxTables<'a> {
     ghost coded = { Prim.hlevel (codes, formula_code) };
 
     ghost view = { λ t. record {
-        machine = automata_of t.machine.now;
-        ahead = t.ahead.known;
-        behind = t.behind.known;
-        laid_ahead = t.ahead.laid;
-        laid_behind = t.behind.laid;
+      machine = automata_of (machine_in t.machine);
+      ahead = t.ahead.known;
+      behind = t.behind.known;
+      laid_ahead = t.ahead.laid;
+      laid_behind = t.behind.laid;
     } };
 }
 
@@ -52,16 +54,34 @@ impl<'a> BoxTables<'a> {
     /// Nothing is known of any box yet.
     pub fn new(alloc: Global, machine: &'a Machine) -> BoxTables<'a>
         ensures value { result ≡ record {
-            machine = automata_of machine.now;
-            ahead = [];
-            behind = [];
-            laid_ahead = nothing_laid;
-            laid_behind = nothing_laid;
+          machine = automata_of machine.now;
+          ahead = [];
+          behind = [];
+          laid_ahead = nothing_laid;
+          laid_behind = nothing_laid;
         } }
         ensures known { (b : Box) → AreKnown b result }
     {
         BoxTables {
-            machine,
+            machine: Held::Lent(machine),
+            ahead: RowStack::new(alloc),
+            behind: RowStack::new(alloc),
+        }
+    }
+
+    /// The same of a machine of its own.
+    pub fn owning(alloc: Global, machine: Machine) -> BoxTables<'a>
+        ensures value { result ≡ record {
+          machine = automata_of machine;
+          ahead = [];
+          behind = [];
+          laid_ahead = nothing_laid;
+          laid_behind = nothing_laid;
+        } }
+        ensures known { (b : Box) → AreKnown b result }
+    {
+        BoxTables {
+            machine: Held::Own(machine),
             ahead: RowStack::new(alloc),
             behind: RowStack::new(alloc),
         }
@@ -78,7 +98,8 @@ impl<'a> BoxTables<'a> {
     {
         let before = first.saturating_sub(1);
         self.ahead.truncate(before as usize, last as usize);
-        self.behind.truncate((n - last) as usize, n.saturating_sub(before) as usize);
+        self.behind
+            .truncate((n - last) as usize, n.saturating_sub(before) as usize);
     }
 }
 
@@ -96,7 +117,7 @@ impl<'a> BoxTables<'a> {
     pub(crate) fn is_plain(&self) -> bool
         ensures { IsTrue result ↔ (self.now.machine.pair ≡ None) }
     {
-        self.machine.reverse().is_none()
+        self.machine.get().reverse().is_none()
     }
 
     /// Makes the rows of cell `k` that are wanting. At the last cell no backward row is asked for.
@@ -123,7 +144,7 @@ impl<'a> BoxTables<'a> {
         ensures { result ≡ at_cell self.now.machine cells.now.present k }
     {
         CellHulls {
-            machine: self.machine,
+            machine: self.machine.get(),
             cells,
             cell: k,
             row: self.ahead.row(k as usize - 1),
@@ -155,7 +176,7 @@ impl<'a> BoxTables<'a> {
         ensures behind { self.new.behind ≡ self.old.behind }
         ensures enough { OnOk result (k ≤ length self.new.ahead) }
     {
-        let machine = self.machine;
+        let machine = self.machine.get();
         make_rows(
             alloc,
             &mut self.ahead,
@@ -175,7 +196,7 @@ impl<'a> BoxTables<'a> {
         ensures ahead { self.new.ahead ≡ self.old.ahead }
         ensures enough { OnOk result (length cells.now.present - k < length self.new.behind) }
     {
-        let machine = self.machine;
+        let machine = self.machine.get();
         let count = (cells.cells() - k) as usize + 1;
         match machine.reverse() {
             Some(reverse) => make_rows(

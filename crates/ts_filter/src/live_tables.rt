@@ -56,6 +56,23 @@ impl<'a> LiveTables<'a> {
         }
     }
 
+    /// The same of a machine of its own.
+    pub fn owning(alloc: Global, machine: Machine) -> LiveTables<'a>
+        ensures { result ≡ automata_of machine }
+    {
+        LiveTables {
+            tables: BoxTables::owning(alloc, machine),
+            seen: Vec::new(alloc),
+        }
+    }
+
+    /// Whether the machine can't be split.
+    pub fn is_plain(&self) -> bool
+        ensures { IsTrue result ↔ (self.now.pair ≡ None) }
+    {
+        self.tables.is_plain()
+    }
+
     /// Forgets the rows, and so frees their memory.
     pub fn forget(&mut self)
         ensures same { self.new ≡ self.old }

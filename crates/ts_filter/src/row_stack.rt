@@ -60,8 +60,8 @@ impl Model for RowStack {
     ghost Value = { Stack };
 
     ghost view = { λ s. record {
-        known = take s.known s.rows.items;
-        laid = record { rows = s.rows.items; from = s.from };
+      known = take s.known s.rows.items;
+      laid = record { rows = s.rows.items; from = s.from };
     } };
 
     ghost invariant = { λ s. s.known ≤ length s.rows.items };

@@ -117,14 +117,5 @@ pub(crate) fn tables_of<'a>(
     requires { IsProgramOf p.now m.now }
     ensures { IfOk result (λ t. t ≡ automata_in (stated m.now)) }
 {
-    AllTables::new(alloc, p.machines(), values_of(m))
-}
-
-/// How many values all cells have together.
-fn values_of(m: &Model) -> u64 {
-    let mut values = 0u64;
-    for domain in &m.cells {
-        values = values.saturating_add(domain.size());
-    }
-    values
+    AllTables::new(alloc, p.machines(), &m.cells)
 }
