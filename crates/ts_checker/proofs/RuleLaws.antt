@@ -1,31 +1,31 @@
 -- The rules of the lines of a tree, by what the code asks of a term's machine.
 use Rattle.std.proofs.Common.{◌≡◌, ◌↔◌, ℕ, ◌-◌, ◌<◌, ◌≤◌, ℤ, Bool, IsTrue, List, length, Option, Some, None, slice_get, refl, sym, ◌∙◌, ap, subst, arith}
-use Rattle.std.specs.Prelude.{Contains, IfOk, IfSome, MatchOption, Result, Ok, Err, get_or, option_map}
+use Rattle.std.specs.Prelude.{Contains, IfOk, IfSome, MatchOption, Result, Ok, Err}
 use Rattle.std.proofs.lemmas.List.{length-map}
-use Rattle.std.proofs.lemmas.Option.{same_Some, slice_get-get_or, slice_get-map}
+use Rattle.std.proofs.lemmas.Option.{same_Some}
 use Rattle.ts_base.specs.declared.error.Memory.{Memory}
 use Rattle.ts_base.specs.declared.ext.Ext.{Ext}
 use Rattle.ts_base.specs.declared.goal.Goal.{Goal}
 use Rattle.ts_certificate.specs.declared.certificate.Aim.TheVariants.{Best as BestOf}
 use Rattle.ts_certificate.specs.declared.certificate.TreeLine.{TreeLine}
 use Rattle.ts_domain.specs.BoxSeries.{IsBox}
-use Rattle.ts_glue.specs.declared.machine.Machine.{Machine}
-use Rattle.ts_bound.specs.TermSpans.{Automata, automata_of, term_span, IsUsable as IsUsableOf}
+use Rattle.ts_bound.specs.TermSpans.{Automata, term_span, IsUsable as IsUsableOf}
 use Rattle.ts_model.specs.declared.model.Require.{Require}
 use Rattle.ts_model.specs.Stated.{Stated}
 use Rattle.ts_filter.specs.declared.bar.Bar.TheVariants.{Better}
 use Rattle.ts_filter.specs.Boxes.{Box, HasCell, values_at, only}
 use Rattle.ts_filter.specs.Excluded.{Refutes, Cuts}
 use Rattle.ts_filter.specs.MachineSpans.{spans_of}
-use Rattle.ts_filter.specs.RefutedWorseDrop.{Spans, IsRequirement, IsCut, IsDrop}
+use Rattle.ts_filter.specs.OfTerm.{OfTerm}
+use Rattle.ts_filter.specs.RefutedWorseDrop.{Spans, IsRequirement, IsCut, IsDrop, IsRefuted}
 use Rattle.ts_filter.specs.Rules.{Head, KeepsRule, claimed, IsWorseFor, MayBeWorse}
 use Rattle.ts_filter.specs.Tree.{Removes}
 use Rattle.ts_filter.proofs.BoxParts.{others_stay}
-use Rattle.ts_filter.proofs.SoundLaws.{each_at}
 use Rattle.ts_filter.proofs.CallLaws.{calls_tell}
-use Rattle.ts_checker.specs.declared.subject.Subject.{Subject}
-use Rattle.ts_spans.specs.Machines.{automata_for, automata_in}
-use Rattle.ts_checker.specs.Subjects.{IsSubject, model_in, spans_by}
+use Rattle.ts_filter.proofs.MachineLaws.{slice_get-some}
+use Rattle.ts_filter.proofs.SoundLaws.{each_at}
+use Rattle.ts_spans.specs.Machines.{automata_for, automata_in, spans_in}
+use Rattle.ts_checker.specs.Subjects.{AreTables}
 
 -- the machine of a term
 
@@ -33,27 +33,25 @@ some_at : (P : ℕ → Type 0) (o : Option ℕ) (t : ℕ) → IfSome o P → o �
 some_at P None t h e = absurd (let f : ◌≡◌ {A = Option ℕ} None (Some t) = e in cc)
 some_at P (Some u) t h e = subst P (same_Some u t e) h
 
-module _ (s : Subject) (is : IsSubject s) where
-  pub machines_count : length s.machines.now ≡ length (model_in s).terms
-  machines_count =
-      sym (length-map s.machines.now automata_of) ∙ ap length is.machines
-      ∙ length-map (model_in s).terms (λ t. automata_for t.1.pattern t.1.aggregator t.1.feature)
+module _ (m : Stated) (tables : List Automata) (is : AreTables m tables) where
+  tables_count : length tables ≡ length m.terms
+  tables_count = ap length is.machines ∙ length-map m.terms (λ t. automata_for t.1.pattern t.1.aggregator t.1.feature)
 
   -- each requirement's term has one, and so has the objective
-  pub require_stands : (j : ℕ) (r : Require) → IsRequirement (model_in s).requirements j r → r.term < length s.machines.now
+  require_stands : (j : ℕ) (r : Require) → IsRequirement m.requirements j r → r.term < length tables
   require_stands j r h =
-      let below = each_at (λ q. q.term < length (model_in s).terms) (model_in s).requirements (j - 1) r is.whole.requirements h.1 in
-      omega (arith, below, machines_count)
+      let below = each_at (λ q. q.term < length m.terms) m.requirements (j - 1) r is.whole.requirements h.1 in
+      let count = tables_count in
+      omega (arith, below, count)
 
-  pub objective_stands : (t : ℕ) → (model_in s).objective ≡ Some t → t < length s.machines.now
+  pub asked_stands : (j : ℕ) (r : Require) (rs : List Require) → rs ≡ m.requirements → IsRequirement rs j r → r.term < length tables
+  asked_stands j r rs all req = require_stands j r (subst (λ z. IsRequirement z j r) all req)
+
+  pub objective_stands : (t : ℕ) → m.objective ≡ Some t → t < length tables
   objective_stands t e =
-      let below = some_at (λ t. t < length (model_in s).terms) (model_in s).objective t is.whole.objective e in
-      omega (arith, below, machines_count)
-
-  -- and it is that of the tables
-  pub machine_at : (t : ℕ) (a : Machine) → slice_get s.machines.now t ≡ Some a → slice_get (automata_in (model_in s)) t ≡ Some (automata_of a)
-  machine_at t a e =
-      ap (λ ms. slice_get ms t) (sym is.machines) ∙ slice_get-map automata_of s.machines.now t ∙ ap (option_map automata_of) e
+      let below = some_at (λ t. t < length m.terms) m.objective t is.whole.objective e in
+      let count = tables_count in
+      omega (arith, below, count)
 
 -- a drop
 
@@ -93,33 +91,54 @@ others_seen : (d : List ℤ) (k : ℕ) (b : Box) (v v' : ℤ) → d ≡ values_a
 others_seen d k b v v' is same h =
     (subst (λ z. 2 ≤ length z) is h.0, subst (λ z. Contains z v) is (subst (λ z. Contains d z) same h.1))
 
-module _ (s : Subject) (is : IsSubject s) (b : Box) where
-  -- the machine of a term that stands, as it is read
-  read_at : (t : ℕ) (a : Machine) → t < length s.machines.now →
-      slice_get (automata_in (model_in s)) t ≡ Some (automata_of (get_or s.machines.now t a))
-  read_at t a below = machine_at s is t (get_or s.machines.now t a) (slice_get-get_or s.machines.now t a below)
+-- what is known of a term's machine, of the tables that are asked and so of the model's
+module _ (m : Stated) (tables : List Automata) (is : AreTables m tables) (b : Box) where
+  -- the machine of a term that stands
+  at_term : (t : ℕ) → t < length tables → (a : Automata) × (slice_get tables t ≡ Some a) × (slice_get (automata_in m) t ≡ Some a)
+  at_term t below =
+      let there = slice_get-some tables t below in
+      (there.0, there.1, ap (λ ms. slice_get ms t) (sym is.machines) ∙ there.1)
 
-  pub drop_answered : (k : ℕ) (v v' : ℤ) (j : ℕ) (r : Require) (a : Machine) (rs : List Require) (d : List ℤ) (t : Result Bool Memory) → v' ≡ v →
-      rs ≡ (model_in s).requirements → IsRequirement rs j r → d ≡ values_at k b → (2 ≤ length d) × Contains d v' →
-      IsUsableOf (automata_of (get_or s.machines.now r.term a)) k b →
-      IfOk t (λ told. IsTrue told ↔ Refutes r.op r.bound (term_span (automata_of (get_or s.machines.now r.term a)) k (only k v' b))) →
-      IfOk t (λ keeps. IsTrue keeps ↔ IsDrop (model_in s).requirements (spans_by s) k v j b)
-  drop_answered k v v' j r a rs d (Err e) same all req here others u h = tt
-  drop_answered k v v' j r a rs d (Ok t) same all req here others u h =
+  -- a cell that can be used is there
+  pub usable_cell : (t p : ℕ) (u : Bool) → t < length tables → IsTrue u → OfTerm tables t (λ a. IsTrue u ↔ IsUsableOf a p b) → HasCell p b
+  usable_cell t p u below able usable =
+      let at = at_term t below in
+      let h = (usable at.0 at.1).0 able in
+      (h.from, h.to)
+
+  pub drop_answered : (k : ℕ) (v v' : ℤ) (j : ℕ) (r : Require) (rs : List Require) (d : List ℤ) (u : Bool) (t : Result Bool Memory) → v' ≡ v →
+      rs ≡ m.requirements → IsRequirement rs j r → d ≡ values_at k b → (2 ≤ length d) × Contains d v' → IsTrue u →
+      OfTerm tables r.term (λ a. IsTrue u ↔ IsUsableOf a k b) →
+      IfOk t (λ told. OfTerm tables r.term (λ a. IsTrue told ↔ Refutes r.op r.bound (term_span a k (only k v' b)))) →
+      IfOk t (λ keeps. IsTrue keeps ↔ IsDrop m.requirements (spans_in m) k v j b)
+  drop_answered k v v' j r rs d u (Err e) same all req here others able usable h = tt
+  drop_answered k v v' j r rs d u (Ok t) same all req here others able usable h =
       let require = subst (λ z. IsRequirement z j r) all req in
-      let machine = automata_of (get_or s.machines.now r.term a) in
-      drop_told (model_in s) (automata_in (model_in s)) j r require machine (read_at r.term a (require_stands s is j r require)) k v b t
-      (others_seen d k b v v' here same others) u (subst (λ z. IsTrue t ↔ Refutes r.op r.bound (term_span machine k (only k z b))) same h)
+      let at = at_term r.term (asked_stands m tables is j r rs all req) in
+      drop_told m (automata_in m) j r require at.0 at.2 k v b t (others_seen d k b v v' here same others) ((usable at.0 at.1).0 able)
+      (subst (λ z. IsTrue t ↔ Refutes r.op r.bound (term_span at.0 k (only k z b))) same (h at.0 at.1))
 
-  pub worse_answered : (h : Head) (goal : Goal) (bar : Ext) (term p : ℕ) (a : Machine) (o : Option Ext) (t : Result Bool Memory) → h.aim ≡ BestOf goal →
-      o ≡ claimed h.claim → o ≡ Some bar → (model_in s).objective ≡ Some term → IsUsableOf (automata_of (get_or s.machines.now term a)) p b →
-      IfOk t (λ told. IsTrue told ↔ Cuts goal (Better bar) (term_span (automata_of (get_or s.machines.now term a)) p b)) →
-      IfOk t (λ keeps. IsTrue keeps ↔ MayBeWorse (model_in s) (spans_by s) h p b)
-  worse_answered h goal bar term p a o (Err e) aim claim some objective u told = tt
-  worse_answered h goal bar term p a o (Ok t) aim claim some objective u told =
-      worse_when (model_in s) (spans_by s) h goal bar p b t aim (sym claim ∙ some)
-      (worse_told (model_in s) (automata_in (model_in s)) goal bar term objective (automata_of (get_or s.machines.now term a))
-      (read_at term a (objective_stands s is term objective)) p b t u told)
+  pub refuted_answered : (p j : ℕ) (r : Require) (rs : List Require) (u : Bool) (t : Result Bool Memory) → rs ≡ m.requirements → IsRequirement rs j r →
+      IsTrue u → OfTerm tables r.term (λ a. IsTrue u ↔ IsUsableOf a p b) →
+      IfOk t (λ told. OfTerm tables r.term (λ a. IsTrue told ↔ Refutes r.op r.bound (term_span a p b))) →
+      IfOk t (λ keeps. IsTrue keeps ↔ IsRefuted m.requirements (spans_in m) j p b)
+  refuted_answered p j r rs u (Err e) all req able usable h = tt
+  refuted_answered p j r rs u (Ok t) all req able usable h =
+      let require = subst (λ z. IsRequirement z j r) all req in
+      let at = at_term r.term (asked_stands m tables is j r rs all req) in
+      let same = (calls_tell m m.requirements (automata_in m) r.term at.0 at.2).refuted j p b r require refl ((usable at.0 at.1).0 able) in
+      let told = h at.0 at.1 in
+      (λ e. same.0 (told.0 e), λ d. told.1 (same.1 d))
+
+  pub worse_answered : (h : Head) (goal : Goal) (bar : Ext) (term p : ℕ) (o : Option Ext) (u : Bool) (t : Result Bool Memory) → h.aim ≡ BestOf goal →
+      o ≡ claimed h.claim → o ≡ Some bar → m.objective ≡ Some term → IsTrue u → OfTerm tables term (λ a. IsTrue u ↔ IsUsableOf a p b) →
+      IfOk t (λ told. OfTerm tables term (λ a. IsTrue told ↔ Cuts goal (Better bar) (term_span a p b))) →
+      IfOk t (λ keeps. IsTrue keeps ↔ MayBeWorse m (spans_in m) h p b)
+  worse_answered h goal bar term p o u (Err e) aim claim some objective able usable told = tt
+  worse_answered h goal bar term p o u (Ok t) aim claim some objective able usable told =
+      let at = at_term term (objective_stands m tables is term objective) in
+      worse_when m (spans_in m) h goal bar p b t aim (sym claim ∙ some)
+      (worse_told m (automata_in m) goal bar term objective at.0 at.2 p b t ((usable at.0 at.1).0 able) (told at.0 at.1))
 
 pub drop_may : (k : ℕ) (v v' : ℤ) (b : Box) (d : List ℤ) (t : Result Bool Memory) → v' ≡ v → IsBox b → HasCell k b → d ≡ values_at k b →
     (2 ≤ length d) × Contains d v' → IfOk t (λ keeps. IsTrue keeps → Removes k v b)

@@ -15,13 +15,13 @@ ghost use Rattle.ts_checker.specs.Verdicts.{IsTrueOf, IsVerdict, stop_line, verd
 
 use crate::lines::keeps_line;
 use crate::standing::Standing;
-use crate::subject::Subject;
 use crate::verdict::Verdict;
 use std::alloc::Global;
 use ts_base::Memory;
 use ts_certificate::{CertStop, LineReader, Parsed};
 use ts_compile::Program;
 use ts_domain::Boxed;
+use ts_filter::AllTables;
 use ts_model::Model;
 
 /// Checks a certificate against a model, line by line, and keeps no line. Contracts see the model, where the reader
@@ -30,7 +30,7 @@ use ts_model::Model;
 pub struct Checker {
     alloc: Global,
     model: Model,
-    program: Program,
+    tables: AllTables<'static>,
     reader: LineReader,
     standing: Standing,
     failed: Option<u32>,
@@ -38,12 +38,12 @@ pub struct Checker {
 }
 
 impl std::marker::Model for Checker {
-    ghost use Rattle.ts_compile.specs.Programs.{IsProgramOf};
     ghost use Rattle.ts_domain.specs.BoxSeries.{IsBox};
     ghost use Rattle.ts_model.specs.Promise.{IsWhole};
     ghost use Rattle.ts_model.specs.Views.{stated};
     ghost use Rattle.ts_checker.specs.Checking.{Checking};
     ghost use Rattle.ts_checker.specs.Standings.{stand_of};
+    ghost use Rattle.ts_checker.specs.Subjects.{AreTables};
 
     ghost Value = { Checking };
 
@@ -56,7 +56,7 @@ impl std::marker::Model for Checker {
     } };
 
     ghost invariant = { λ c.
-        IsProgramOf c.program c.model × IsWhole (stated c.model) × IsBox (stated c.model).cells };
+        AreTables (stated c.model) c.tables × IsBox (stated c.model).cells };
 }
 
 impl Checker {
@@ -70,10 +70,11 @@ impl Checker {
         ensures checked { IfOk result (λ c. HasChecked [] c) }
     {
         let root = Boxed::new(alloc, &m.cells)?;
+        let tables = AllTables::owning(alloc, p.into_machines(), &m.cells)?;
         Ok(Checker {
             alloc,
             model: m,
-            program: p,
+            tables,
             reader: LineReader::new(),
             standing: Standing::new(alloc, root),
             failed: None,
@@ -174,11 +175,13 @@ impl Checker {
         if self.failed.is_some() {
             return Ok(());
         }
-        let subject = Subject {
-            model: &self.model,
-            machines: self.program.machines(),
-        };
-        if keeps_line(self.alloc, &subject, &mut self.standing, &line)? {
+        if keeps_line(
+            self.alloc,
+            &self.model,
+            &mut self.tables,
+            &mut self.standing,
+            &line,
+        )? {
             return self.standing.take(line);
         }
         self.standing.clear();

@@ -6,36 +6,43 @@ ghost use Rattle.ts_base.specs.Limits.{IsCellValue};
 ghost use Rattle.ts_certificate.specs.Seen.{line_seen};
 ghost use Rattle.ts_filter.specs.Accepts.{AllTold, ClaimFits, SeriesFits};
 ghost use Rattle.ts_filter.specs.Lines.{KeepsLine, KeepsTreeRule};
+ghost use Rattle.ts_model.specs.Promise.{IsWhole};
+ghost use Rattle.ts_model.specs.Views.{stated};
+ghost use Rattle.ts_spans.specs.Machines.{spans_in};
 ghost use Rattle.ts_checker.specs.Standings.{AreValues, MayStep, MayTake, stand_of};
-ghost use Rattle.ts_checker.specs.Subjects.{IsSubject, model_in, series_of, spans_by};
+ghost use Rattle.ts_checker.specs.Subjects.{AreTables, series_of};
 
 use crate::head::{aim_fits, all_told, claim_fits, series_fits};
 use crate::rules::keeps_rule;
 use crate::standing::Standing;
-use crate::subject::{Head, Subject};
+use crate::subject::Head;
 use std::alloc::Global;
 use ts_base::Memory;
 use ts_certificate::{Claim, Parsed, TreeLine};
+use ts_filter::AllTables;
+use ts_model::Model;
 
 /// Whether the line keeps its rule; where it does, it may be taken. The next box that waits is then the present one.
 pub(crate) fn keeps_line(
     alloc: Global,
-    subject: &Subject,
+    model: &Model,
+    tables: &mut AllTables<'_>,
     standing: &mut Standing,
     line: &Parsed,
 ) -> Result<bool, Memory>
-    requires subject { IsSubject subject.now }
+    requires tables { AreTables (stated model.now) tables.old }
     requires values { AreValues line.now }
+    ensures tables { tables.new ≡ tables.old }
     ensures same { stand_of standing.new ≡ stand_of standing.old }
     ensures keeps { IfOk result (λ keeps. IsTrue keeps
-        ↔ KeepsLine (model_in subject.now) (spans_by subject.now) (stand_of standing.old) (line_seen line.now)) }
+        ↔ KeepsLine (stated model.now) (spans_in (stated model.now)) (stand_of standing.old) (line_seen line.now)) }
     ensures may { IfOk result (λ keeps. IsTrue keeps → MayTake standing.new line.now) }
 {
     match line {
-        Parsed::Aim(aim) => Ok(aim_fits(subject.model, *aim)),
+        Parsed::Aim(aim) => Ok(aim_fits(model, *aim)),
         Parsed::Claim(claim) => Ok(keeps_claim(standing, *claim)),
-        Parsed::Series(series) => keeps_series(alloc, subject, standing, series),
-        Parsed::Tree(line) => keeps_tree(alloc, subject, standing, *line),
+        Parsed::Series(series) => keeps_series(alloc, model, standing, series),
+        Parsed::Tree(line) => keeps_tree(alloc, model, tables, standing, *line),
         Parsed::End { .. } => Ok(keeps_end(standing)),
     }
 }
@@ -53,17 +60,17 @@ fn keeps_claim(standing: &Standing, claim: Claim) -> bool
 /// Whether there is a claim, and the series fits it after those before.
 fn keeps_series(
     alloc: Global,
-    subject: &Subject,
+    model: &Model,
     standing: &Standing,
     series: &[i64],
 ) -> Result<bool, Memory>
-    requires subject { IsSubject subject.now }
+    requires whole { IsWhole (stated model.now) }
     requires values { AllByRecursion IsCellValue series.now }
     ensures { IfOk result (λ keeps. IsTrue keeps ↔ MatchOption standing.now.claim ⊥
-        (λ claim. SeriesFits (model_in subject.now) claim (series_of standing.now.series.items) series.now)) }
+        (λ claim. SeriesFits (stated model.now) claim (series_of standing.now.series.items) series.now)) }
 {
     match standing.claim {
-        Some(claim) => series_fits(alloc, subject.model, claim, &standing.series, series),
+        Some(claim) => series_fits(alloc, model, claim, &standing.series, series),
         None => Ok(false),
     }
 }
@@ -71,14 +78,16 @@ fn keeps_series(
 /// Whether a box waits for the line, and there it keeps the rule of its form.
 fn keeps_tree(
     alloc: Global,
-    subject: &Subject,
+    model: &Model,
+    tables: &mut AllTables<'_>,
     standing: &mut Standing,
     line: TreeLine,
 ) -> Result<bool, Memory>
-    requires { IsSubject subject.now }
+    requires { AreTables (stated model.now) tables.old }
+    ensures tables { tables.new ≡ tables.old }
     ensures same { stand_of standing.new ≡ stand_of standing.old }
     ensures keeps { IfOk result (λ keeps. IsTrue keeps
-        ↔ KeepsTreeRule (model_in subject.now) (spans_by subject.now) standing.old.aim standing.old.claim
+        ↔ KeepsTreeRule (stated model.now) (spans_in (stated model.now)) standing.old.aim standing.old.claim
         (series_of standing.old.series.items) standing.old.frontier.boxes standing.old.told line) }
     ensures may { IfOk result (λ keeps. IsTrue keeps → MayStep standing.new line) }
 {
@@ -94,7 +103,14 @@ fn keeps_tree(
         series: &standing.series,
         told: standing.told,
     };
-    keeps_rule(alloc, subject, &head, standing.frontier.present(), line)
+    keeps_rule(
+        alloc,
+        model,
+        tables,
+        &head,
+        standing.frontier.present(),
+        line,
+    )
 }
 
 /// Whether nothing waits, and in a listing each series had its `yes`.

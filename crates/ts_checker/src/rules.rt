@@ -7,33 +7,38 @@ ghost use Rattle.ts_filter.specs.Boxes.{HasCell, box_of};
 ghost use Rattle.ts_filter.specs.RefutedWorseDrop.{IsDrop, IsRefuted};
 ghost use Rattle.ts_filter.specs.Rules.{IsNext, IsSplit, KeepsRule, MayBeWorse, MayStayOpen};
 ghost use Rattle.ts_frontier.specs.Follow.{MayFollow};
-ghost use Rattle.ts_checker.specs.Subjects.{IsSubject, head_in, model_in, spans_by};
+ghost use Rattle.ts_model.specs.Views.{stated};
+ghost use Rattle.ts_spans.specs.Machines.{spans_in};
+ghost use Rattle.ts_checker.specs.Subjects.{AreTables, head_in};
 
-use crate::subject::{Head, Subject, claimed, is_usable, requirement};
+use crate::subject::{Head, claimed, is_usable, requirement};
 use std::alloc::Global;
 use ts_base::Memory;
 use ts_certificate::{Aim, Claim, TreeLine};
 use ts_domain::{Boxed, Domain};
-use ts_filter::{refuted, refuted_value, worse};
+use ts_filter::AllTables;
+use ts_model::Model;
 
 /// Whether the line keeps its rule on the box; where it does, it may be followed there.
 pub(crate) fn keeps_rule(
     alloc: Global,
-    subject: &Subject,
+    model: &Model,
+    tables: &mut AllTables<'_>,
     head: &Head,
     b: &Boxed,
     line: TreeLine,
 ) -> Result<bool, Memory>
-    requires { IsSubject subject.now }
-    ensures keeps { IfOk result (λ keeps. IsTrue keeps
-        ↔ KeepsRule (model_in subject.now) (spans_by subject.now) (head_in head.now) head.now.told b.now.present line) }
+    requires { AreTables (stated model.now) tables.old }
+    ensures same { tables.new ≡ tables.old }
+    ensures keeps { IfOk result (λ keeps. IsTrue keeps ↔ KeepsRule (stated model.now) (spans_in (stated model.now))
+        (head_in head.now) head.now.told b.now.present line) }
     ensures may { IfOk result (λ keeps. IsTrue keeps → MayFollow line b.now.present) }
 {
     match line {
         TreeLine::Split { k, t } => Ok(is_split(b, k, t)),
-        TreeLine::Remove { k, v, j } => is_drop(alloc, subject, b, k, v, j),
-        TreeLine::No { j, p } => is_refuted(alloc, subject, b, j, p),
-        TreeLine::Worse { p } => may_be_worse(alloc, subject, head, b, p),
+        TreeLine::Remove { k, v, j } => is_drop(alloc, model, tables, b, k, v, j),
+        TreeLine::No { j, p } => is_refuted(alloc, model, tables, b, j, p),
+        TreeLine::Worse { p } => may_be_worse(alloc, model, tables, head, b, p),
         TreeLine::Yes => Ok(is_next(head, b)),
         TreeLine::Unsearched => Ok(may_stay_open(head.claim)),
     }
@@ -49,15 +54,17 @@ fn is_split(b: &Boxed, k: u32, t: i64) -> bool
 /// `drop K V J`: the cell has the value and others, and with the value there the requirement is refuted.
 fn is_drop(
     alloc: Global,
-    subject: &Subject,
+    model: &Model,
+    tables: &mut AllTables<'_>,
     b: &Boxed,
     k: u32,
     v: i64,
     j: u32,
 ) -> Result<bool, Memory>
-    requires { IsSubject subject.now }
+    requires { AreTables (stated model.now) tables.old }
+    ensures same { tables.new ≡ tables.old }
     ensures keeps { IfOk result (λ keeps. IsTrue keeps
-        ↔ IsDrop (model_in subject.now).requirements (spans_by subject.now) k v j b.now.present) }
+        ↔ IsDrop (stated model.now).requirements (spans_in (stated model.now)) k v j b.now.present) }
     ensures may { IfOk result (λ keeps. IsTrue keeps → MayFollow (TreeLine.Remove k v j) b.now.present) }
 {
     if !has_cell(b, k) {
@@ -66,55 +73,62 @@ fn is_drop(
     if !has_others(b.cell(k), v) {
         return Ok(false);
     }
-    let Some(require) = requirement(&subject.model.requirements, j) else {
+    let Some(require) = requirement(&model.requirements, j) else {
         return Ok(false);
     };
-    let machine = &subject.machines[require.term as usize];
-    if !is_usable(machine, k, b) {
+    if !is_usable(tables, require.term, k, b) {
         return Ok(false);
     }
-    refuted_value(alloc, machine, &require, k, v, b)
+    tables.refuted_value(alloc, &require, k, v, b)
 }
 
 /// `no J P`: the requirement is refuted at the cell.
-fn is_refuted(alloc: Global, subject: &Subject, b: &Boxed, j: u32, p: u32) -> Result<bool, Memory>
-    requires { IsSubject subject.now }
-    ensures { IfOk result (λ keeps. IsTrue keeps
-        ↔ IsRefuted (model_in subject.now).requirements (spans_by subject.now) j p b.now.present) }
+fn is_refuted(
+    alloc: Global,
+    model: &Model,
+    tables: &mut AllTables<'_>,
+    b: &Boxed,
+    j: u32,
+    p: u32,
+) -> Result<bool, Memory>
+    requires { AreTables (stated model.now) tables.old }
+    ensures same { tables.new ≡ tables.old }
+    ensures keeps { IfOk result (λ keeps. IsTrue keeps
+        ↔ IsRefuted (stated model.now).requirements (spans_in (stated model.now)) j p b.now.present) }
 {
-    let Some(require) = requirement(&subject.model.requirements, j) else {
+    let Some(require) = requirement(&model.requirements, j) else {
         return Ok(false);
     };
-    let machine = &subject.machines[require.term as usize];
-    if !is_usable(machine, p, b) {
+    if !is_usable(tables, require.term, p, b) {
         return Ok(false);
     }
-    refuted(alloc, machine, &require, p, b)
+    tables.refuted(alloc, &require, p, b)
 }
 
 /// `worse P`: the claim has a number, and the objective is no better at the cell.
 fn may_be_worse(
     alloc: Global,
-    subject: &Subject,
+    model: &Model,
+    tables: &mut AllTables<'_>,
     head: &Head,
     b: &Boxed,
     p: u32,
 ) -> Result<bool, Memory>
-    requires { IsSubject subject.now }
-    ensures { IfOk result (λ keeps. IsTrue keeps
-        ↔ MayBeWorse (model_in subject.now) (spans_by subject.now) (head_in head.now) p b.now.present) }
+    requires { AreTables (stated model.now) tables.old }
+    ensures same { tables.new ≡ tables.old }
+    ensures keeps { IfOk result (λ keeps. IsTrue keeps
+        ↔ MayBeWorse (stated model.now) (spans_in (stated model.now)) (head_in head.now) p b.now.present) }
 {
     let (Aim::Best(goal), Some(bar)) = (head.aim, claimed(head.claim)) else {
         return Ok(false);
     };
-    let Some(term) = subject.model.objective else {
+    let Some(term) = model.objective else {
         return Ok(false);
     };
-    let machine = &subject.machines[term as usize];
-    if !is_usable(machine, p, b) {
+    if !is_usable(tables, term, p, b) {
         return Ok(false);
     }
-    worse(alloc, machine, goal, p, b, bar)
+    tables.worse(alloc, term, goal, p, b, bar)
 }
 
 /// `yes`: in a listing, the box is the next listed series alone.

@@ -1,7 +1,8 @@
 //! What the rules of lines are asked of.
 
-ghost use Rattle.std.specs.Prelude.{◌≡◌, ◌↔◌, IsTrue, MatchOption};
-ghost use Rattle.ts_bound.specs.TermSpans.{IsUsable, automata_of};
+ghost use Rattle.std.specs.Prelude.{◌≡◌, ◌↔◌, ◌<◌, IsTrue, MatchOption, length};
+ghost use Rattle.ts_bound.specs.TermSpans.{IsUsable};
+ghost use Rattle.ts_filter.specs.OfTerm.{OfTerm};
 ghost use Rattle.ts_filter.specs.RefutedWorseDrop.{IsRequirement};
 ghost use Rattle.ts_filter.specs.Rules.{claimed};
 ghost use Rattle.ts_model.specs.declared.model.Require.{Require as Asked};
@@ -9,15 +10,8 @@ ghost use Rattle.ts_model.specs.declared.model.Require.{Require as Asked};
 use ts_base::Ext;
 use ts_certificate::{Aim, Claim};
 use ts_domain::Boxed;
-use ts_glue::Machine;
-use ts_model::{Model, Require};
-
-/// A model, and the machines of its terms in the order of the text.
-#[derive(Clone, Copy)]
-pub(crate) struct Subject<'a> {
-    pub model: &'a Model,
-    pub machines: &'a [Machine],
-}
+use ts_filter::AllTables;
+use ts_model::Require;
 
 /// What the lines before the tree say, and how many `yes` lines there were.
 #[derive(Clone, Copy)]
@@ -39,11 +33,12 @@ pub(crate) fn requirement(requirements: &[Require], j: u32) -> Option<Require>
     requirements.get(j as usize - 1).copied()
 }
 
-/// Whether the machine has a span at cell `p`: at any cell, but at the last alone where it can't be split.
-pub(crate) fn is_usable(m: &Machine, p: u32, b: &Boxed) -> bool
-    ensures { IsTrue result ↔ IsUsable (automata_of m.now) p b.now.present }
+/// Whether the term's machine has a span at cell `p`: at any cell, but at the last alone where it can't be split.
+pub(crate) fn is_usable(tables: &AllTables<'_>, term: u32, p: u32, b: &Boxed) -> bool
+    requires { term < length tables.now }
+    ensures { OfTerm tables.now term (λ a. IsTrue result ↔ IsUsable a p b.now.present) }
 {
-    p >= 1 && p <= b.cells() && (p == b.cells() || m.reverse().is_some())
+    p >= 1 && p <= b.cells() && (p == b.cells() || !tables.is_plain(term))
 }
 
 /// The number that `best V` and `budget V` claim.

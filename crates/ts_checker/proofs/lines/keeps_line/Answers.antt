@@ -1,11 +1,12 @@
+use Rattle.ts_model.specs.Views.{stated}
+use Rattle.ts_spans.specs.Machines.{spans_in}
 use Rattle.ts_checker.specs.Standings.{stand_of}
-use Rattle.ts_checker.specs.Subjects.{model_in, spans_by}
 use Rattle.ts_checker.proofs.LineSteps.{as_tree, may_as_tree}
 use Rattle.ts_checker.proofs.lines.keeps_line.Goals as goal
 
 pub returns-in-Tree-clause-keeps : goal.returns-in-Tree-clause-keeps
 returns-in-Tree-clause-keeps c =
-    as_tree (model_in c.args.subject.now) (spans_by c.args.subject.now) (stand_of c.args.standing.now) c.args.line.now _ c.keeps_tree.result c.in-Tree.is
+    as_tree (stated c.args.model.now) (spans_in (stated c.args.model.now)) (stand_of c.args.standing.now) c.args.line.now _ c.keeps_tree.result c.in-Tree.is
     c.keeps_tree.ensures.keeps
 
 pub returns-in-Tree-clause-may : goal.returns-in-Tree-clause-may

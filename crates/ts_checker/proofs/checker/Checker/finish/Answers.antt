@@ -9,6 +9,6 @@ returns-clause-verdict c = λ texts h. verdict_given texts c.args.self c.verdict
 
 pub returns-clause-holds : goal.returns-clause-holds
 returns-clause-holds c = λ texts h e.
-    accepted_true c.args.self.model texts c.verdict.result (whole_seen (stated c.self.inside.model) _ c.args.self refl c.self.view_is c.self.invariant.1)
-    (box_seen (stated c.self.inside.model) _ c.args.self refl c.self.view_is c.self.invariant.2) e
+    accepted_true c.args.self.model texts c.verdict.result (whole_seen (stated c.self.inside.model) _ c.args.self refl c.self.view_is c.self.invariant.0.whole)
+    (box_seen (stated c.self.inside.model) _ c.args.self refl c.self.view_is c.self.invariant.1) e
     (verdict_given texts c.args.self c.verdict.result c.verdict.ensures h)
