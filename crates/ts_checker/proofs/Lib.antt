@@ -7,3 +7,7 @@ mod RuleLaws
 mod Waits
 mod OfProgram
 pub mod Truth
+mod Pieces
+mod JudgingLaws
+mod InputLaws
+mod InputEnds

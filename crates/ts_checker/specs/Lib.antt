@@ -1,5 +1,7 @@
 pub mod Checking
+pub mod Feeding
 pub mod Laws
 pub mod Standings
 pub mod Subjects
 pub mod Verdicts
+pub mod Verified

@@ -123,6 +123,13 @@ impl Checker {
         self.standing.frontier.waiting()
     }
 
+    /// The first line so far that broke its rule, where none was refused before it.
+    pub fn broken_line(&self) -> Option<u32>
+        ensures { result ≡ self.now.failed }
+    {
+        self.failed
+    }
+
     /// The verdict on the lines that were fed; no line was answered `Memory`. What is accepted is true of the model.
     pub fn finish(self) -> Verdict
         requires { self.wanting ≡ false }

@@ -4,6 +4,9 @@
 //! their line, on one trail, so that a box costs what differs from the one before and never a copy of all domains; a
 //! line costs what its rule costs.
 //!
+//! A [`Verifier`] is fed the whole input of `verify`, a model and behind a line `%%` its certificate, in pieces that may
+//! be cut anywhere. It ends with the refusal of the model or with the checker's verdict, by all bytes together.
+//!
 //! The layer above may rely on this. The verdict is exactly that of the definitions: refused at the first line against
 //! the grammar or the counts, whatever the lines are worth; else accepted exactly where every line keeps its rule, or
 //! rejected at the first line that breaks it. And what is accepted is true of the model, whoever wrote the certificate:
@@ -21,15 +24,22 @@
 
 mod checker;
 mod head;
+mod input;
+mod judging;
 pub mod laws;
 mod lines;
+mod opened;
 mod rules;
 mod standing;
 mod subject;
 mod verdict;
+mod verifier;
+mod verify_end;
 
 pub use checker::Checker;
 pub use verdict::Verdict;
+pub use verifier::Verifier;
+pub use verify_end::VerifyEnd;
 
 #[cfg(test)]
 mod tests;

@@ -1,0 +1,82 @@
+-- What `verify` says of an input: the refusal of its model, or the verdict on the lines of its certificate.
+use Rattle.std.specs.Prelude.{◌≡◌, ℕ, Bool, List, [], map, filter, is_some, Option, Some, None, Result, Ok, Err}
+use Rattle.std.specs.Prelude.{unwrap_or}
+use Rattle.ts_base.specs.Words.{strict_lines, without_lf}
+use Rattle.ts_certificate.specs.declared.state.State.TheVariants.{Start}
+use Rattle.ts_certificate.specs.declared.stop.CertStop.{CertStop}
+use Rattle.ts_certificate.specs.FirstStop.{MayFollow}
+use Rattle.ts_certificate.specs.Grammar.{CertLine, line_text}
+use Rattle.ts_certificate.specs.Reading.{fresh, reading_after}
+use Rattle.ts_token.specs.Halves.{halves_of}
+use Rattle.ts_model.specs.declared.error.ModelKind.{ModelKind}
+use Rattle.ts_model.specs.declared.model.Need.TheVariants.{List as Listed}
+use Rattle.ts_model.specs.ModelReading.{model_reading}
+use Rattle.ts_model.specs.Stated.{Stated}
+use Rattle.ts_filter.specs.Lines.{Found, Stand}
+use Rattle.ts_spans.specs.Machines.{spans_in}
+use Rattle.ts_checker.specs.declared.verdict.Verdict.{Verdict}
+use Rattle.ts_checker.specs.declared.verdict.Verdict.TheVariants.{Accepted}
+use Rattle.ts_checker.specs.declared.verify_end.VerifyEnd.{VerifyEnd}
+use Rattle.ts_checker.specs.declared.verify_end.VerifyEnd.TheVariants.{Model, Verdict as Judged}
+use Rattle.ts_checker.specs.Verdicts.{IsTrueOf, IsVerdict, stop_line}
+
+-- the first part of an input
+abbrev pub model_part : List ℕ → List ℕ
+model_part bytes = (halves_of bytes).model
+
+-- the second part, empty where there is none
+abbrev pub rest_part : List ℕ → List ℕ
+rest_part bytes = unwrap_or (halves_of bytes).rest []
+
+-- the lines of a certificate behind a model
+abbrev pub certificate_lines : List ℕ → List (List ℕ)
+certificate_lines bytes = strict_lines (rest_part bytes)
+
+-- it is the verdict on these lines, and where they are accepted, their claim is true of the model
+pub record IsShownBy (texts : List (List ℕ)) (m : Stated) (verdict : Verdict) : Type 0 where
+  pub is : IsVerdict m texts verdict
+  pub holds : verdict ≡ Accepted → IsTrueOf m texts
+
+-- the model is stated, and this is the verdict on the certificate behind it
+pub record IsJudged (bytes : List ℕ) (verdict : Verdict) : Type 0 where
+  pub model : Stated
+  pub states : model_reading Listed (model_part bytes) ≡ Ok model
+  pub shown : IsShownBy (certificate_lines bytes) model verdict
+
+-- how an input ends: its model is refused, or its certificate is judged
+abbrev pub IsVerifyEnd : List ℕ → VerifyEnd → Type 0
+IsVerifyEnd bytes (Model line kind) = model_reading Listed (model_part bytes) ≡ Err (line, kind)
+IsVerifyEnd bytes (Judged verdict) = IsJudged bytes verdict
+
+-- a line that ends with its LF
+abbrev pub is_ended : List ℕ → Bool
+is_ended line = is_some (without_lf line)
+
+-- the lines of a text that end with their LF
+abbrev pub ended_lines : List ℕ → List (List ℕ)
+ended_lines text = filter is_ended (strict_lines text)
+
+-- the texts are those of lines of a certificate, and this one, if any, is the first that breaks its rule
+pub record BreaksFirst (m : Stated) (texts : List (List ℕ)) (failed : Option ℕ) : Type 0 where
+  pub lines : List CertLine
+  pub are : texts ≡ map line_text lines
+  pub follow : MayFollow Start lines
+  pub stand : Stand
+  pub found : Found m (spans_in m) lines stand failed
+
+-- by where the reading of the texts stops: the line that is refused, or else the first that breaks its rule
+abbrev pub FailsBy : Stated → List (List ℕ) → Option CertStop → Option ℕ → Type 0
+FailsBy m texts (Some stop) failed = failed ≡ Some (stop_line stop)
+FailsBy m texts None failed = BreaksFirst m texts failed
+
+abbrev pub FailsFirst : Stated → List (List ℕ) → Option ℕ → Type 0
+FailsFirst m texts failed = FailsBy m texts (reading_after fresh texts).stop failed
+
+-- the same where the model is valid; no line fails where it isn't
+abbrev pub FailsIn : Result Stated (ℕ × ModelKind) → List (List ℕ) → Option ℕ → Type 0
+FailsIn (Ok m) texts failed = FailsFirst m texts failed
+FailsIn (Err bad) texts failed = failed ≡ None
+
+-- the first line of the certificate, among those that end with their LF, that is refused, or else breaks its rule
+abbrev pub IsFailed : List ℕ → Option ℕ → Type 0
+IsFailed bytes failed = FailsIn (model_reading Listed (model_part bytes)) (ended_lines (rest_part bytes)) failed
