@@ -46,7 +46,8 @@ module _ (n : ℕ) (asked : IsWithin 1 most_cells n) where
 
   -- a claim that isn't of a best value is one of a spent budget
   no_other : (claim : Claim) (series : List (List ℤ)) (tree : List TreeLine) →
-      IsSolvedBy (search_for m (spans_in m) (BestOf Minimise)) usual_lines claim series tree → ((v : Ext) → claim ≡ Best v → ⊥) → IsTold n claim series tree (three_lines n)
+      IsSolvedBy (search_for m (spans_in m) (BestOf Minimise)) usual_lines claim series tree → ((v : Ext) → claim ≡ Best v → ⊥) →
+      IsTold n claim series tree (three_lines n)
   no_other (Best v) series tree h f = absurd (f v refl)
   no_other Infeasible series tree h f = absurd (h.1 _ (sample_meets n asked))
   no_other (BudgetBest v) series tree h f = refl

@@ -38,8 +38,19 @@ fn words_of(alloc: Global, words: &str) -> Result<Vec<String>, AllocError> {
 
 /// What a call with these words takes of its answer to the input, and its status.
 fn outcome(alloc: Global, words: &str, input: &[u8]) -> Result<(Vec<u8>, Status), AllocError> {
+    outcome_in_steps(alloc, words, input, 4096)
+}
+
+/// The same where a read gives at most so many bytes, and at least one.
+fn outcome_in_steps(
+    alloc: Global,
+    words: &str,
+    input: &[u8],
+    step: usize,
+) -> Result<(Vec<u8>, Status), AllocError> {
     let words = words_of(alloc, words)?;
-    let mut source = MemorySource::new(Vec::from_slice(alloc, input)?, 4096, Vec::new(alloc));
+    let bytes = Vec::from_slice(alloc, input)?;
+    let mut source = MemorySource::new(bytes, step.max(1), Vec::new(alloc));
     let mut sink = MemorySink::new(alloc, 4096, Vec::new(alloc));
     let status = run(alloc, &words, &mut source, &mut sink);
     Ok((Vec::from_slice(alloc, sink.bytes())?, status))

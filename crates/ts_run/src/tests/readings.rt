@@ -1,5 +1,6 @@
-//! More inputs of `verify`, each of which a wrong reading of a rule answers another way than the rule. The verdicts are
-//! those of a literal checker over the spans of four patterns; the values of the series are by the patterns' definition.
+//! More inputs of `verify`, each of which a wrong reading of a rule answers another way than the rule. The verdicts
+//! are those of a literal checker over the spans of four patterns; the values of the series are by the patterns'
+//! definition.
 
 use super::Case;
 use crate::Status;

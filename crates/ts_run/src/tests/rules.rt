@@ -1,5 +1,5 @@
-//! For each rule of a line of a certificate, inputs of `verify` that a wrong reading of the rule answers another way. The
-//! verdicts are those of a literal checker over the spans of four patterns.
+//! For each rule of a line of a certificate, inputs of `verify` that a wrong reading of the rule answers another way.
+//! The verdicts are those of a literal checker over the spans of four patterns.
 
 use super::readings::readings;
 use super::{Case, outcome};

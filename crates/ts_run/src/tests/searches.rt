@@ -201,6 +201,70 @@ fn answers_are_accepted(rt: HostRuntime) -> Result<(), Fail> {
     Ok(())
 }
 
+/// The words, a model, and the answer from its beginning: a front, two values so many times, and what comes behind
+/// them; and the status.
+struct Peaks {
+    words: &'static str,
+    model: &'static [u8],
+    front: &'static [u8],
+    pair: &'static [u8],
+    times: usize,
+    behind: &'static [u8],
+    status: Status,
+}
+
+/// The most peaks that fit, on a day of hours and on the most cells. The second search ends behind its dive.
+static PEAKS: [Peaks; 2] = [
+    Peaks {
+        words: "maximise",
+        model: b"cells 24\ndomain 0..100\nterm c = count peak\nterm s = sum max peak\nrequire c >= 3\nobjective s\n",
+        front: b"maximise\nbest 1100\nseries 0 0",
+        pair: b" 100 0",
+        times: 11,
+        behind: b"\n",
+        status: Status::Done,
+    },
+    Peaks {
+        words: "maximise --budget 1",
+        model: b"cells 512\ndomain 0..4\nterm c = count peak\nrequire c >= 1\nobjective c\n",
+        front: b"maximise\nbudget 255\nseries 0 0",
+        pair: b" 1 0",
+        times: 255,
+        behind: b"\nsplit 1 2\nopen\nopen\nend 1 2\n",
+        status: Status::Budget,
+    },
+];
+
+fn all_peaks() -> &'static [Peaks] {
+    &PEAKS
+}
+
+/// The front, the pair so many times, and what comes behind.
+fn wanted_of(alloc: Global, row: &Peaks) -> Result<Vec<u8>, AllocError> {
+    let mut wanted = Vec::from_slice(alloc, row.front)?;
+    for _ in 0..row.times {
+        wanted.extend_from_slice(row.pair)?;
+    }
+    wanted.extend_from_slice(row.behind)?;
+    Ok(wanted)
+}
+
+#[test]
+fn most_peaks(rt: HostRuntime) -> Result<(), Fail> {
+    let alloc = rt.alloc();
+    for row in all_peaks() {
+        let (certificate, status) = outcome(alloc, row.words, row.model)?;
+        let wanted = wanted_of(alloc, row)?;
+        assert!(rt; certificate.starts_with(&wanted));
+        assert_eq!(rt; status, row.status);
+        let input = behind_model(alloc, row.model, &certificate)?;
+        let (taken, told) = outcome(alloc, "verify", &input)?;
+        assert_eq!(rt; taken.as_slice(), b"accepted\n".as_slice());
+        assert_eq!(rt; told, Status::Done);
+    }
+    Ok(())
+}
+
 const MOST_VALUES: &[u8] = b"cells 512\ndomain 0..127\n";
 
 /// All domains together have as many values as they may: seven `split` lines for each cell, each of which leaves a box.

@@ -1,7 +1,8 @@
 //! Inputs of `verify`, their answers and statuses, worked by hand.
 
-use super::{Case, outcome};
+use super::{Case, outcome, outcome_in_steps};
 use crate::Status;
+use std::alloc::{AllocError, Global};
 use std::test::Fail;
 
 static WORKED: [Case; 37] = [
@@ -210,6 +211,23 @@ fn answers_of_verify(rt: HostRuntime) -> Result<(), Fail> {
         let (taken, status) = outcome(alloc, "verify", case.input)?;
         assert_eq!(rt; taken.as_slice(), case.taken);
         assert_eq!(rt; status, case.status);
+    }
+    Ok(())
+}
+
+/// Whether the input has its answer where a read gives at most so many bytes.
+fn is_answered(alloc: Global, case: &Case, step: usize) -> Result<bool, AllocError> {
+    let (taken, status) = outcome_in_steps(alloc, "verify", case.input, step)?;
+    Ok(taken.as_slice() == case.taken && status == case.status)
+}
+
+#[test]
+fn answers_in_steps(rt: HostRuntime) -> Result<(), Fail> {
+    let alloc = rt.alloc();
+    for case in worked() {
+        assert!(rt; is_answered(alloc, case, 1)?);
+        assert!(rt; is_answered(alloc, case, 7)?);
+        assert!(rt; is_answered(alloc, case, 65_536)?);
     }
     Ok(())
 }

@@ -13,8 +13,8 @@ use Rattle.ts_run.proofs.sample.sample.Goals as goal
 pub returns-in_default : goal.returns-in_default
 returns-in_default c = record {
   reply = ran_out_given c.args.cells c.cells-n.result c.from.result (stated c.in_ok-model.model) (cert_seen c.in_ok-certificate.certificate)
-      c.cells-n.ensures.value c.cells-n.ensures.range c.in_ok-model.ensures.stated c.from.ensures c.in_ok-certificate.ensures c.ran_out.result c.in_default.not-Best
-      c.ran_out.ensures.reply;
+      c.cells-n.ensures.value c.cells-n.ensures.range c.in_ok-model.ensures.stated c.from.ensures c.in_ok-certificate.ensures
+      c.ran_out.result c.in_default.not-Best c.ran_out.ensures.reply;
   status = c.ran_out.ensures.status;
 }
 
