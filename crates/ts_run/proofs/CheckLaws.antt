@@ -9,7 +9,8 @@ use Rattle.ts_model.specs.Judgement.{is_met}
 use Rattle.ts_model.specs.Meets.{Meets}
 use Rattle.ts_model.specs.Stated.{Stated}
 use Rattle.ts_model.proofs.MeetsLaw.{judged_is_met}
-use Rattle.ts_run.specs.AnswerTexts.{CheckReply, DoneIsMeets, IsAsked, OneCheckReply, OnReading, OnSeries, SeriesReply, rest_part, series_in}
+use Rattle.ts_checker.specs.Verified.{rest_part}
+use Rattle.ts_run.specs.AnswerTexts.{CheckReply, DoneIsMeets, IsAsked, OneCheckReply, OnReading, OnSeries, SeriesReply, series_in}
 use Rattle.ts_run.specs.Endings.{RepliesWithin, Responds, TellsMeets}
 use Rattle.ts_run.specs.Reply.{EndsWritten, Reply}
 use Rattle.ts_run.specs.Verdict.{verdict}

@@ -12,7 +12,8 @@ use Rattle.ts_model.specs.ModelReading.{model_reading}
 use Rattle.ts_model.specs.Series.{series_reading}
 use Rattle.ts_model.specs.Stated.{Stated}
 use Rattle.ts_base.specs.declared.ext.Ext.{Ext}
-use Rattle.ts_run.specs.AnswerTexts.{CheckReply, OnReading, OnSeries, SeriesReply, model_part, rest_part}
+use Rattle.ts_checker.specs.Verified.{model_part, rest_part}
+use Rattle.ts_run.specs.AnswerTexts.{CheckReply, OnReading, OnSeries, SeriesReply}
 use Rattle.ts_run.specs.Replies.{Gives, NoMore, StopsWith}
 use Rattle.ts_run.specs.Reply.{Reply}
 use Rattle.ts_run.specs.Verdict.{names_of, verdict, verdict_of}

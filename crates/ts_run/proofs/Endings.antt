@@ -1,10 +1,11 @@
 -- How a call ends that takes its whole input, by what came of reading it.
-use Rattle.std.proofs.Common.{◌≡◌, ℕ, ◌+◌, ◌≤◌, inl, inr, Option, Some, None, List, length, refl, sym, ◌∙◌, ap, subst}
+use Rattle.std.proofs.Common.{◌≡◌, ℕ, ◌+◌, ◌≤◌, inl, inr, Option, Some, None, List, [], length, replicate, refl, sym, ◌∙◌, ap, subst, arith}
 use Rattle.std.specs.Prelude.{IfSome}
+use Rattle.std.proofs.lemmas.List.{length-replicate}
 use Rattle.std.proofs.Math.Seq.{drop-append_seam}
 use Rattle.ts_base.specs.Outside.{AtEnd, GaveAtMost, HasMoreThan, Rose, left_after, put_back}
 use Rattle.ts_run.specs.AnswerTexts.{IsReply, fault_read, refused_length}
-use Rattle.ts_run.specs.Endings.{RepliesWithin, Responds, WholeEnds, WholeTakes}
+use Rattle.ts_run.specs.Endings.{OfBytes, RepliesWithin, Responds, WholeEnds, WholeTakes}
 use Rattle.ts_run.specs.Reply.{ComesOfInput, Ends, EndsWritten, Reply}
 use Rattle.ts_run.specs.declared.command.Command.{Command}
 use Rattle.ts_run.specs.declared.status.Status.{Status}
@@ -27,7 +28,7 @@ no_fault status given written input e =
     subst ComesOfInput same input
 
 -- what is left is what a piece was put back before
-given_after : (bytes : List ℕ) (before after : Option (List ℕ)) → before ≡ put_back bytes after → after ≡ left_after (length bytes) before
+pub given_after : (bytes : List ℕ) (before after : Option (List ℕ)) → before ≡ put_back bytes after → after ≡ left_after (length bytes) before
 given_after bytes before None e = sym (ap (left_after (length bytes)) e)
 given_after bytes before (Some left) e =
     ap (λ (rest : List ℕ). Some rest) (sym (drop-append_seam bytes left)) ∙ sym (ap (left_after (length bytes)) e)
@@ -67,10 +68,10 @@ takes_want limit left left_now most want = record { most = most; whole = λ h. a
 
 module _ (limit : ℕ) (command : Command) (faults faults_now : ℕ) (before after : Option (List ℕ)) (status : Status) where
   abbrev Replied : Option (List ℕ) → Type 0
-  Replied left = IfSome left (λ bytes. Responds (RepliesWithin limit command bytes) faults faults_now before after status)
+  Replied left = OfBytes left (λ bytes. Responds (RepliesWithin limit command bytes) faults faults_now before after status)
 
   fault_reply : (left : Option (List ℕ)) → Rose faults faults_now → Ends fault_read before after status → Replied left
-  fault_reply None rose ends = tt
+  fault_reply None rose ends = ([], inr (rose, inr (fault_read, refl, ends)))
   fault_reply (Some bytes) rose ends = inr (rose, inr (fault_read, refl, ends))
 
   -- a read failed
@@ -79,7 +80,10 @@ module _ (limit : ℕ) (command : Command) (faults faults_now : ℕ) (before aft
   ends_fault left rose ends = record { reply = fault_reply left rose ends; fault = λ e. ends }
 
   over_reply : (left : Option (List ℕ)) → faults_now ≡ faults → HasMoreThan limit left → Ends refused_length before after status → Replied left
-  over_reply None calm more ends = tt
+  over_reply None calm more ends =
+      let zeros : List ℕ = replicate (limit + 1) 0 in
+      let long : length zeros ≡ limit + 1 = length-replicate (limit + 1) _ in
+      (zeros, inl (calm, inr (refused_length, inr (omega (arith, long), refl), ends)))
   over_reply (Some bytes) calm more ends = inl (calm, inr (refused_length, inr (more, refl), ends))
 
   -- there were more bytes than the command reads
@@ -92,7 +96,7 @@ module _ (limit : ℕ) (command : Command) (faults faults_now : ℕ) (before aft
 
   given_reply : (left : Option (List ℕ)) (bytes : List ℕ) (r : Reply) → faults_now ≡ faults → IfSome left (λ told. told ≡ bytes) → length bytes ≤ limit →
       IsReply command bytes r → Ends r before after status → Replied left
-  given_reply None bytes r calm told few is ends = tt
+  given_reply None bytes r calm told few is ends = (bytes, inl (calm, inr (r, inl (few, is), ends)))
   given_reply (Some found) bytes r calm told few is ends =
       subst (λ (xs : List ℕ). Responds (RepliesWithin limit command xs) faults faults_now before after status) (sym told)
       (inl (calm, inr (r, inl (few, is), ends)))
@@ -109,7 +113,7 @@ module _ (limit : ℕ) (command : Command) (faults faults_now : ℕ) (before aft
 
 module _ (limit : ℕ) (command : Command) (faults faults_now : ℕ) (before : Option (List ℕ)) where
   want_reply : (left : Option (List ℕ)) → faults_now ≡ faults → Replied limit command faults faults_now before before Memory left
-  want_reply None calm = tt
+  want_reply None calm = ([], inl (calm, inl (refl, refl)))
   want_reply (Some bytes) calm = inl (calm, inl (refl, refl))
 
   -- there was no memory

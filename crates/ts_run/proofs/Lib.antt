@@ -12,6 +12,7 @@ mod SampleModelLaws
 mod SampleSums
 mod Steps
 mod TakenReply
+mod Taking
 mod CheckLaws
 mod CheckSteps
 mod CompileLaws

@@ -13,8 +13,9 @@ use Rattle.ts_checker.specs.declared.verdict.Verdict.{Verdict}
 use Rattle.ts_checker.specs.declared.verdict.Verdict.TheVariants.{Accepted, Rejected, Refused as RefusedAt}
 use Rattle.ts_spans.specs.Machines.{spans_in}
 use Rattle.ts_checker.specs.Verdicts.{IsVerdict}
+use Rattle.ts_checker.specs.Verified.{certificate_lines, model_part, rest_part}
 use Rattle.ts_checker.proofs.Verdicts.{one_of, one_verdict}
-use Rattle.ts_run.specs.AnswerTexts.{DoneIsAccepted, IsOffered, OnReading, OneVerifyReply, VerifyReply, certificate_lines, model_part, rest_part}
+use Rattle.ts_run.specs.AnswerTexts.{DoneIsAccepted, IsOffered, OnReading, OneVerifyReply, VerifyReply}
 use Rattle.ts_run.specs.Endings.{IsShown, RepliesWithin, Responds, TellsVerdict}
 use Rattle.ts_run.specs.Reply.{EndsWritten, Reply}
 use Rattle.ts_run.specs.Verified.{IsVerified, verdict_reply}

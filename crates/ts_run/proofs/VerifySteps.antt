@@ -1,33 +1,32 @@
--- The steps of `verify`: the model is refused, or its verdict given; and the lines that are fed one after the other.
+-- The steps of `verify`: what comes of its input; and the lines that are fed one after the other.
 use Rattle.std.proofs.Common.{◌≡◌, ℕ, ◌+◌, ◌<◌, ◌≤◌, List, [], ◌∷◌, ◌++◌, length, refl, sym, ◌∙◌, ap, subst, arith, append_assoc, append-nil, length-append}
-use Rattle.std.specs.Prelude.{Result}
-use Rattle.std.specs.Result.{IsErrAnd}
+use Rattle.std.specs.Prelude.{Result, Ok, Err, IfOk}
 use Rattle.ts_base.specs.Words.{strict_lines}
 use Rattle.ts_certificate.specs.Reading.{Reading}
+use Rattle.ts_model.specs.declared.error.ModelKind.{ModelKind}
 use Rattle.ts_model.specs.declared.model.Need.TheVariants.{List as Listed}
-use Rattle.ts_model.specs.ModelReading.{model_reading}
 use Rattle.ts_model.specs.Stated.{Stated}
-use Rattle.ts_checker.specs.declared.verdict.Verdict.{Verdict}
+use Rattle.ts_checker.specs.declared.verify_end.VerifyEnd.{VerifyEnd}
+use Rattle.ts_checker.specs.declared.verify_end.VerifyEnd.TheVariants.{Model, Verdict as Judged}
 use Rattle.ts_checker.specs.Checking.{Checking, HasChecked, Checks}
-use Rattle.ts_run.specs.AnswerTexts.{OnReading, VerifyReply, certificate_lines, model_part}
-use Rattle.ts_run.specs.Replies.{Gives, NoMore, StopsWith}
-use Rattle.ts_run.specs.Reply.{Reply}
-use Rattle.ts_run.specs.Verified.{IsShownBy, IsVerified, verdict_reply}
+use Rattle.ts_checker.specs.Verified.{IsVerifyEnd, certificate_lines, model_part}
+use Rattle.ts_run.specs.AnswerTexts.{OnReading, VerifyReply, end_reply}
+use Rattle.ts_run.specs.Reply.{Reply, reply_of}
+use Rattle.ts_run.specs.Verified.{IsVerified}
 use Rattle.ts_run.specs.declared.reply.Reply.{Reply as GivenReply}
-use Rattle.ts_run.specs.declared.reply.Stop.{Stop}
-use Rattle.ts_run.proofs.Steps.{model_fails}
+use Rattle.ts_run.proofs.Steps.{model_replies}
 
--- the model is refused
-pub verify_fails : (bytes text : List ℕ) (stop : Stop) (given : Result GivenReply Stop) → text ≡ model_part bytes →
-    StopsWith (OnReading (model_reading Listed text) NoMore) stop → IsErrAnd given (λ e. e ≡ stop) → Gives (VerifyReply bytes) given
-verify_fails bytes text stop given same h e =
-    model_fails Listed (model_part bytes) (IsVerified (certificate_lines bytes)) stop given
-    (subst (λ (t : List ℕ). StopsWith (OnReading (model_reading Listed t) NoMore) stop) same h) e
+-- how an input ends, in words
+pub end_given : (bytes : List ℕ) (end : VerifyEnd) (r : Reply) → IsVerifyEnd bytes end → r ≡ end_reply end → VerifyReply bytes r
+end_given bytes (Model line kind) r h is =
+    subst (λ (x : Result Stated (ℕ × ModelKind)). OnReading x (IsVerified (certificate_lines bytes)) r) (sym h) is
+end_given bytes (Judged v) r h is =
+    model_replies Listed (model_part bytes) (IsVerified (certificate_lines bytes)) h.model r h.states (record { verdict = v; shown = h.shown; reply = is })
 
--- the verdict on the certificate, of a checker for the model
-pub verified : (texts : List (List ℕ)) (m seen : Stated) (v : Verdict) (r : Reply) → seen ≡ m → IsShownBy texts seen v → r ≡ verdict_reply v →
-    IsVerified texts m r
-verified texts m seen v r same shown is = record { verdict = v; shown = subst (λ z. IsShownBy texts z v) same shown; reply = is }
+pub ends_given : {E : Type 0} (bytes : List ℕ) (end : VerifyEnd) (given : Result GivenReply E) → IsVerifyEnd bytes end →
+    IfOk given (λ r. reply_of r ≡ end_reply end) → IfOk given (λ r. VerifyReply bytes (reply_of r))
+ends_given bytes end (Ok r) h is = end_given bytes end (reply_of r) h is
+ends_given bytes end (Err e) h is = tt
 
 -- the lines that were fed, and those that are left
 pub record IsFed (text rest : List ℕ) (m : Stated) (c : Checking) : Type 0 where

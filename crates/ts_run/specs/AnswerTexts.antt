@@ -1,10 +1,8 @@
 -- What each command replies to the bytes of its input.
-use Rattle.std.specs.Prelude.{ℕ, ◌≡◌, ◌<◌, ◌^◌, ◌↔◌, ℤ, List, [], ◌++◌, length, codes, unwrap_or, Result, Ok, Err}
+use Rattle.std.specs.Prelude.{ℕ, ◌≡◌, ◌<◌, ◌^◌, ◌↔◌, ℤ, List, ◌++◌, length, codes, Result, Ok, Err}
 use Rattle.std.specs.Fmt.{decimal}
-use Rattle.ts_base.specs.Words.{strict_lines}
 use Rattle.ts_certificate.specs.Certificate.{Cert}
 use Rattle.ts_token.specs.Text.{cut_of}
-use Rattle.ts_token.specs.Halves.{halves_of}
 use Rattle.ts_model.specs.declared.error.ModelKind.{ModelKind}
 use Rattle.ts_model.specs.declared.error.ModelKind.TheVariants.{NotText, UnknownLine, Shape, Number, NoCells, CellsTwice, CellRange, Empty, UnknownName, BadPair, UnknownTerm, TermTwice, ObjectiveTwice, Limit, NoObjective}
 use Rattle.ts_model.specs.declared.error.SeriesStop.{SeriesStop}
@@ -18,13 +16,16 @@ use Rattle.ts_model.specs.Series.{series_reading}
 use Rattle.ts_model.specs.Stated.{Stated}
 use Rattle.ts_filter.specs.Accepts.{Accepts}
 use Rattle.ts_spans.specs.Machines.{spans_in}
+use Rattle.ts_checker.specs.declared.verify_end.VerifyEnd.{VerifyEnd}
+use Rattle.ts_checker.specs.declared.verify_end.VerifyEnd.TheVariants.{Model, Verdict as Judged}
 use Rattle.ts_checker.specs.Verdicts.{AreOf}
+use Rattle.ts_checker.specs.Verified.{certificate_lines, model_part, rest_part}
 use Rattle.ts_run.specs.Certified.{IsBest, IsListing}
 use Rattle.ts_run.specs.CompiledValue.{IsProgramText}
 use Rattle.ts_run.specs.Reply.{Reply}
 use Rattle.ts_run.specs.Sample.{SampleReply}
 use Rattle.ts_run.specs.Verdict.{line, verdict}
-use Rattle.ts_run.specs.Verified.{IsVerified}
+use Rattle.ts_run.specs.Verified.{IsVerified, verdict_reply}
 use Rattle.ts_run.specs.declared.command.Command.{Command}
 use Rattle.ts_run.specs.declared.command.Command.TheVariants.{Check, Compile, Verify, Best, Generate, Sample}
 use Rattle.ts_run.specs.declared.status.Status.TheVariants.{Done, Refused, ReadFault}
@@ -82,14 +83,6 @@ OnSeries (Err NoNumber) next r = r ≡ refused_series (codes "number")
 OnSeries (Err Length) next r = r ≡ refused_series (codes "length")
 OnSeries (Err NoMemory) next r = ⊥
 
--- the first part of an input
-abbrev pub model_part : List ℕ → List ℕ
-model_part bytes = (halves_of bytes).model
-
--- the second part, empty where there is none
-abbrev pub rest_part : List ℕ → List ℕ
-rest_part bytes = unwrap_or (halves_of bytes).rest []
-
 -- the series in a text, as many numbers as the model has cells
 abbrev pub series_in : Stated → List ℕ → Result (List ℤ) SeriesStop
 series_in m text = series_reading (length m.cells) (cut_of text)
@@ -110,13 +103,14 @@ ProgramReply m r = IsProgramText m r.text × (r.status ≡ Done)
 abbrev pub CompileReply : List ℕ → Reply → Type 0
 CompileReply bytes r = OnModel Values bytes ProgramReply r
 
--- the lines of a certificate behind a model
-abbrev pub certificate_lines : List ℕ → List (List ℕ)
-certificate_lines bytes = strict_lines (rest_part bytes)
-
 -- what `verify` replies: the refusal of the model, or the verdict on the certificate
 abbrev pub VerifyReply : List ℕ → Reply → Type 0
 VerifyReply bytes r = OnModel NeedsList (model_part bytes) (IsVerified (certificate_lines bytes)) r
+
+-- the refusal of the model, or the verdict, in words
+abbrev pub end_reply : VerifyEnd → Reply
+end_reply (Model line kind) = refused_model line kind
+end_reply (Judged verdict) = verdict_reply verdict
 
 -- what `maximise` and `minimise` reply: the refusal of the model, or a certificate that is solved
 abbrev pub BestReply : Goal → ℕ → List ℕ → Reply → Type 0

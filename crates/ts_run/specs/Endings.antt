@@ -1,5 +1,5 @@
 -- How a call ends, by its command: what was written, what was read, and what its status says.
-use Rattle.std.specs.Prelude.{ℕ, ◌≡◌, ◌<◌, ◌≤◌, ◌+◌, ◌*◌, ◌⊎◌, ◌↔◌, ℤ, List, [], length, Ok, Option, Some, None, IfSome}
+use Rattle.std.specs.Prelude.{ℕ, ◌≡◌, ◌<◌, ◌≤◌, ◌+◌, ◌*◌, ◌⊎◌, ◌↔◌, ℤ, List, [], length, Ok, Option, Some, None}
 use Rattle.ts_base.specs.Outside.{AtEnd, GaveAtMost, HasMoreThan, Rose, left_after, taken_more}
 use Rattle.ts_certificate.specs.Certificate.{Cert, certificate_text}
 use Rattle.ts_model.specs.declared.model.Need.TheVariants.{Values, List as NeedsList, Best as NeedsBest}
@@ -10,8 +10,8 @@ use Rattle.ts_filter.specs.Accepts.{Accepts}
 use Rattle.ts_filter.specs.Holds.{Holds}
 use Rattle.ts_spans.specs.Machines.{spans_in}
 use Rattle.ts_checker.specs.Verdicts.{AreOf}
+use Rattle.ts_checker.specs.Verified.{certificate_lines, model_part}
 use Rattle.ts_run.specs.AnswerTexts.{IsAsked, IsOffered, IsReply, fault_read, refused_length, refused_words}
-use Rattle.ts_run.specs.AnswerTexts.{certificate_lines, model_part}
 use Rattle.ts_base.specs.declared.goal.Goal.{Goal}
 use Rattle.ts_certificate.specs.Laws.{most_model_bytes, most_verify_bytes}
 use Rattle.ts_domain.specs.BoxSeries.{series_count}
@@ -43,10 +43,15 @@ Responds Is faults faults_after before after status =
     ((faults_after ≡ faults) × EndsWith Is before after status)
     ⊎ (Rose faults faults_after × EndsWith (λ r. r ≡ fault_read) before after status)
 
+-- what is so of the bytes that were left, or of some bytes where they aren't told
+abbrev pub OfBytes : Option (List ℕ) → (List ℕ → Type 0) → Type 0
+OfBytes None Is = (bytes : List ℕ) × Is bytes
+OfBytes (Some bytes) Is = Is bytes
+
 -- a call that takes its whole input: what the source has left and its faults, what the sink took, and the status
 pub record WholeEnds (limit : ℕ) (command : Command) (left : Option (List ℕ)) (faults faults_after : ℕ)
     (before after : Option (List ℕ)) (status : Status) : Type 0 where
-  pub reply : IfSome left (λ bytes.
+  pub reply : OfBytes left (λ bytes.
       Responds (RepliesWithin limit command bytes) faults faults_after before after status)
   pub fault : status ≡ ReadFault → Ends fault_read before after status
 

@@ -1,10 +1,10 @@
--- What `verify` says of a certificate: the verdict on its lines, and that what is accepted is true.
+-- What `verify` says of a certificate: the verdict on its lines, in words.
 use Rattle.std.specs.Prelude.{ℕ, ◌≡◌, List, ◌++◌, codes}
 use Rattle.std.specs.Fmt.{decimal}
 use Rattle.ts_model.specs.Stated.{Stated}
 use Rattle.ts_checker.specs.declared.verdict.Verdict.{Verdict}
 use Rattle.ts_checker.specs.declared.verdict.Verdict.TheVariants.{Accepted, Rejected, Refused as RefusedAt}
-use Rattle.ts_checker.specs.Verdicts.{IsTrueOf, IsVerdict}
+use Rattle.ts_checker.specs.Verified.{IsShownBy}
 use Rattle.ts_run.specs.Reply.{Reply}
 use Rattle.ts_run.specs.Verdict.{line}
 use Rattle.ts_run.specs.declared.status.Status.{Status}
@@ -20,12 +20,7 @@ verdict_reply Accepted = record { text = codes "accepted\n"; status = Done }
 verdict_reply (Rejected number) = line_reply (codes "rejected line ") number No
 verdict_reply (RefusedAt number) = line_reply (codes "refused certificate line ") number Refused
 
--- it is the verdict on these lines, and where they are accepted, their claim is true of the model
-pub record IsShownBy (texts : List (List ℕ)) (m : Stated) (verdict : Verdict) : Type 0 where
-  pub is : IsVerdict m texts verdict
-  pub holds : verdict ≡ Accepted → IsTrueOf m texts
-
--- the reply is such a verdict in words
+-- the reply is a verdict that is shown of the model and these lines, in words
 pub record IsVerified (texts : List (List ℕ)) (m : Stated) (r : Reply) : Type 0 where
   pub verdict : Verdict
   pub shown : IsShownBy texts m verdict

@@ -1,6 +1,6 @@
 //! The top call.
 
-ghost use Rattle.std.specs.Prelude.{ℕ, ◌≡◌, ◌≢◌, ◌<◌, ◌≤◌, ◌⊎◌, IsTrue, IfSome, []};
+ghost use Rattle.std.specs.Prelude.{ℕ, ◌≡◌, ◌≢◌, ◌<◌, ◌≤◌, ◌⊎◌, IsTrue, IfOk, IfSome, [], vec_len};
 ghost use Rattle.ts_base.specs.Outside.{Rose, one_more};
 ghost use Rattle.ts_run.specs.AnswerTexts.{IsReply, fault_read};
 ghost use Rattle.ts_run.specs.Commands.{command_of, words_in};
@@ -8,11 +8,17 @@ ghost use Rattle.ts_run.specs.Endings.{CallEnds, CallSpares, CallTakes, Tells, T
 ghost use Rattle.ts_run.specs.Reply.{EndsWith, EndsWritten, TellsNoFault};
 
 use crate::command::{Command, Input};
+use crate::intake::{Intake, Kept};
+use crate::reading::take_all;
 use crate::reply_to::reply_to;
 use crate::status::Status;
 use crate::write::write_reply;
-use std::alloc::Global;
-use ts_base::{Memory, ReadStop, Sink, Source, read_all};
+use std::alloc::{AllocError, Global};
+use ts_base::{Memory, ReadStop, Sink, Source};
+use ts_checker::Verifier;
+
+/// The most bytes of an input that are read at once.
+const PIECE: usize = 65_536;
 
 /// Does what the words ask for: reads the source, writes the reply to the sink, and says how it ended.
 ///
@@ -33,7 +39,8 @@ pub fn run<S: Source, K: Sink>(
     ensures takes { CallTakes (command_of (words_in words.now.items)) S.left source.old source.new result }
     ensures tells { IfSome (S.left source.old) (λ bytes.
         Tells (command_of (words_in words.now.items)) bytes (K.taken sink.old) (K.taken sink.new) result) }
-    ensures tells_unread { TellsUnread (command_of (words_in words.now.items)) (K.taken sink.old) (K.taken sink.new) result }
+    ensures tells_unread { TellsUnread (command_of (words_in words.now.items))
+        (K.taken sink.old) (K.taken sink.new) result }
 
     // A fault is told only where one was counted, and none is passed over.
     ensures read_fault { result ≡ Status.ReadFault → Rose (S.source_faults source.old) (S.source_faults source.new) }
@@ -81,7 +88,8 @@ fn run_unread<K: Sink>(alloc: Global, command: &Command, sink: &mut K) -> Status
     }
 }
 
-/// The call of a command that takes its whole input, of at most `limit` bytes, before it writes.
+/// The call of a command that takes its whole input, of at most `limit` bytes, before it writes: `verify` piece by
+/// piece, the others as a whole.
 fn run_whole<S: Source, K: Sink>(
     alloc: Global,
     command: &Command,
@@ -108,13 +116,60 @@ fn run_whole<S: Source, K: Sink>(
     ensures reads_later { S.source_faults source.old ≤ S.source_faults source.new }
     ensures writes_later { K.sink_faults sink.old ≤ K.sink_faults sink.new }
 {
-    match read_all(alloc, source, limit) {
+    match *command {
+        Command::Verify => run_into(alloc, Verifier::new(alloc), limit, source, sink),
+        _ => run_into(alloc, Kept::new(alloc, *command), limit, source, sink),
+    }
+}
+
+/// The call whose input goes to this intake, which has taken nothing so far.
+fn run_into<I: Intake, S: Source, K: Sink>(
+    alloc: Global,
+    intake: I,
+    limit: usize,
+    source: &mut S,
+    sink: &mut K,
+) -> Status
+    requires few { limit < 4000000000 }
+    requires none { I.took [] intake }
+    ensures ends { WholeEnds limit (I.asked intake) (S.left source.old)
+        (S.source_faults source.old) (S.source_faults source.new) (K.taken sink.old) (K.taken sink.new) result }
+    ensures takes { WholeTakes limit (S.left source.old) (S.left source.new) result }
+
+    ensures read_fault { result ≡ Status.ReadFault → Rose (S.source_faults source.old) (S.source_faults source.new) }
+    ensures read_broken { result ≡ Status.ReadFault → IsTrue (S.source_broken source.new) }
+    ensures calm_read { TellsNoFault result → S.source_faults source.new ≡ S.source_faults source.old }
+    ensures write_fault { result ≡ Status.WriteFault → Rose (K.sink_faults sink.old) (K.sink_faults sink.new) }
+    ensures write_broken { result ≡ Status.WriteFault → IsTrue (K.sink_broken sink.new) }
+    ensures calm_write { EndsWritten result → K.sink_faults sink.new ≡ K.sink_faults sink.old }
+
+    ensures done { EndsWritten result → IsTrue (K.finished sink.new) }
+    ensures once { EndsWritten result → K.finishes sink.new ≡ one_more (K.finishes sink.old) }
+
+    ensures memory { result ≡ Status.Memory → sink.new ≡ sink.old }
+    ensures reads_later { S.source_faults source.old ≤ S.source_faults source.new }
+    ensures writes_later { K.sink_faults sink.old ≤ K.sink_faults sink.new }
+{
+    let Ok(mut buffer) = zeros(alloc, PIECE) else {
+        return Status::Memory;
+    };
+    let mut intake = intake;
+    match take_all(source, limit, &mut buffer, &mut intake) {
         Err(ReadStop::ReadFault) => write_reply(sink, b"fault read\n", Status::ReadFault),
         Err(ReadStop::TooLong) => write_reply(sink, b"refused length\n", Status::Refused),
         Err(ReadStop::Memory) => Status::Memory,
-        Ok(bytes) => match reply_to(alloc, command, &bytes) {
+        Ok(()) => match intake.reply(alloc) {
             Ok(reply) => write_reply(sink, &reply.text, reply.status),
             Err(Memory) => Status::Memory,
         },
     }
+}
+
+/// A buffer of this length.
+fn zeros(alloc: Global, length: usize) -> Result<Vec<u8>, AllocError>
+    ensures { IfOk result (λ buffer. vec_len buffer ≡ length) }
+{
+    let mut buffer = Vec::new(alloc);
+    buffer.resize(length, 0)?;
+    Ok(buffer)
 }

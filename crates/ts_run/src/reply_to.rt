@@ -24,7 +24,7 @@ pub fn reply_to(alloc: Global, command: &Command, bytes: &[u8]) -> Result<Reply,
     match *command {
         Command::Check => or_refusal(check(alloc, bytes)),
         Command::Compile => or_refusal(compile(alloc, bytes)),
-        Command::Verify => or_refusal(verify(alloc, bytes)),
+        Command::Verify => verify(alloc, bytes),
         Command::Best { goal, budget } => or_refusal(best(alloc, bytes, goal, budget)),
         Command::Generate { count, budget } => or_refusal(generate(alloc, bytes, count, budget)),
         Command::Sample { cells } => sample(alloc, cells),

@@ -2,46 +2,59 @@
 
 ghost use Rattle.std.specs.Prelude.{◌≡◌, ◌<◌, [], IfOk, length};
 ghost use Rattle.ts_base.specs.Words.{strict_lines};
-ghost use Rattle.ts_model.specs.declared.model.Need.TheVariants.{List as Listed};
-ghost use Rattle.ts_model.specs.Promise.{IsWhole, KeepsLimits};
-ghost use Rattle.ts_model.specs.Views.{stated};
 ghost use Rattle.ts_checker.specs.Checking.{HasChecked};
-ghost use Rattle.ts_run.specs.AnswerTexts.{VerifyReply};
-ghost use Rattle.ts_run.specs.Replies.{Gives};
+ghost use Rattle.ts_checker.specs.Feeding.{HasFed};
+ghost use Rattle.ts_checker.specs.Verified.{IsShownBy};
+ghost use Rattle.ts_run.specs.AnswerTexts.{VerifyReply, end_reply};
 ghost use Rattle.ts_run.specs.Reply.{ComesOfInput, reply_of};
-ghost use Rattle.ts_run.specs.Verified.{IsShownBy, IsVerified, line_reply, verdict_reply};
+ghost use Rattle.ts_run.specs.Verified.{line_reply, verdict_reply};
+ghost use Rattle.ts_run.specs.declared.command.Command.TheVariants.{Verify};
 
-use crate::model_part::model_of;
-use crate::reply::{Reply, Stop};
+use crate::command::Command;
+use crate::intake::Intake;
+use crate::refusal::refused_model;
+use crate::reply::Reply;
 use crate::status::Status;
 use std::alloc::Global;
 use ts_base::{Memory, first_line, push_number};
-use ts_checker::{Checker, Verdict};
-use ts_compile::compile_model;
-use ts_model::{Model, Need};
-use ts_token::cut_parts;
+use ts_checker::{Checker, Verdict, Verifier, VerifyEnd};
 
-/// The refusal of the model, or the verdict on the certificate behind it.
-pub fn verify(alloc: Global, bytes: &[u8]) -> Result<Reply, Stop>
-    requires { length bytes.now < 4000000000 }
-    ensures { Gives (VerifyReply bytes.now) result }
-{
-    let parts = cut_parts(bytes);
-    let model = model_of(alloc, parts.model, Need::List)?;
-    verify_lines(alloc, model, parts.rest.unwrap_or(b""))
+/// Keeps no bytes but those of a model or a line that hasn't ended.
+impl Intake for Verifier {
+    ghost took = { HasFed };
+
+    ghost asked = { λ _. Verify };
+
+    fn take(&mut self, piece: &[u8]) -> Result<(), Memory> {
+        self.feed(piece)
+    }
+
+    fn reply(self, alloc: Global) -> Result<Reply, Memory> {
+        let end = self.finish()?;
+        end_reply(alloc, end)
+    }
 }
 
-/// The verdict on the certificate of this text.
-fn verify_lines(alloc: Global, model: Model, text: &[u8]) -> Result<Reply, Stop>
-    requires few { length text.now < 4000000000 }
-    requires whole { IsWhole (stated model) }
-    requires limits { KeepsLimits Listed (stated model) }
-    ensures { Gives (IsVerified (strict_lines text.now) (stated model)) result }
+/// The refusal of the model, or the verdict on the certificate behind it.
+pub fn verify(alloc: Global, bytes: &[u8]) -> Result<Reply, Memory>
+    ensures reply { IfOk result (λ r. VerifyReply bytes.now (reply_of r)) }
+    ensures status { IfOk result (λ r. ComesOfInput r.status) }
 {
-    let program = compile_model(alloc, &model)?;
-    let checker = Checker::new(alloc, model, program)?;
-    let verdict = verdict_on(checker, text)?;
-    Ok(verdict_reply(alloc, verdict)?)
+    let mut verifier = Verifier::new(alloc);
+    verifier.feed(bytes)?;
+    let end = verifier.finish()?;
+    end_reply(alloc, end)
+}
+
+/// How an input ends, in words.
+fn end_reply(alloc: Global, end: VerifyEnd) -> Result<Reply, Memory>
+    ensures reply { IfOk result (λ r. reply_of r ≡ end_reply end) }
+    ensures status { IfOk result (λ r. ComesOfInput r.status) }
+{
+    match end {
+        VerifyEnd::Model { line, kind } => refused_model(alloc, line, kind),
+        VerifyEnd::Verdict(verdict) => verdict_reply(alloc, verdict),
+    }
 }
 
 /// The verdict of a checker that was fed no line on the lines of this text.
