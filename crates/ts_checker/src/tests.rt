@@ -1,15 +1,15 @@
 //! Certificates and their verdicts, worked by hand, and the boxes that wait after each line.
 
-ghost use Rattle.std.specs.Prelude.{◌≡◌, IfOk, false};
+ghost use Rattle.std.specs.Prelude.{◌≡◌, ◌<◌, IfOk, false};
 
-use crate::{Checker, Verdict};
+use crate::{Checker, Verdict, Verifier, VerifyEnd};
 use Verdict::{Accepted, Refused, Rejected};
 use std::alloc::Global;
 use std::process::Abort;
 use std::test::Fail;
 use ts_base::first_line;
 use ts_compile::compile_model;
-use ts_model::{Need, read_model};
+use ts_model::{ModelKind, Need, read_model};
 use ts_token::cut_tokens;
 
 /// A model: three cells of 0 and 1, and the peaks counted.
@@ -116,9 +116,75 @@ static CASES: [(&str, &str, Verdict); 17] = [
 /// How many boxes wait before the first line of `PROOF` and after each line.
 static WAITING: [u64; 12] = [1, 1, 1, 1, 2, 3, 2, 3, 2, 1, 0, 0];
 
+/// Inputs of `verify`, how each ends, and the line that has failed before its end.
+static INPUTS: [(&str, VerifyEnd, Option<u32>); 9] = [
+    (
+        "cells 3\ndomain 0..1\nterm c = count peak\nobjective c\n%%\nmaximise\nbest 1\nseries 0 1 0\n\
+         split 1 0\nsplit 2 0\nworse 3\nsplit 3 0\nworse 3\nworse 3\nworse 3\nend 7 0\n",
+        VerifyEnd::Verdict(Accepted),
+        None,
+    ),
+    // a line that breaks its rule, and one against the grammar behind it
+    (
+        "cells 1\ndomain 0..1\n \t%% \r\ngenerate 1\nbudget 0\nopen\nopen\nend 0 2\n",
+        VerifyEnd::Verdict(Rejected(4)),
+        Some(4),
+    ),
+    (
+        "cells 1\ndomain 0..1\n%%\ngenerate 1\nbudget 0\nopen\nopen\nend 0 02\n",
+        VerifyEnd::Verdict(Refused(5)),
+        Some(5),
+    ),
+    // a last line without an LF is no line of a certificate, and none has failed before it
+    (
+        "cells 1\ndomain 0..1\n%%\ngenerate 1\nbudget 0\nopen\nend 0 1",
+        VerifyEnd::Verdict(Refused(4)),
+        None,
+    ),
+    // the end is missing
+    (
+        "cells 1\ndomain 0..1\n%%\ngenerate 1\nbudget 0\nopen\n",
+        VerifyEnd::Verdict(Refused(4)),
+        None,
+    ),
+    // the certificate is empty, behind `%%` and without it
+    (
+        "cells 1\ndomain 0..1\n%%",
+        VerifyEnd::Verdict(Refused(1)),
+        None,
+    ),
+    (
+        "cells 1\ndomain 0..1\n# %%",
+        VerifyEnd::Verdict(Refused(1)),
+        None,
+    ),
+    // the model is refused, whatever stands behind it
+    (
+        "cells 3\ncells 3\n%%\nmaximise\n",
+        VerifyEnd::Model {
+            line: 2,
+            kind: ModelKind::CellsTwice,
+        },
+        None,
+    ),
+    // a word that begins like `%%`
+    (
+        "cells 3\n%%%\n%%\n",
+        VerifyEnd::Model {
+            line: 2,
+            kind: ModelKind::UnknownLine,
+        },
+        None,
+    ),
+];
+
 // The tables behind functions, so that the proofs of the tests don't read them.
 fn cases() -> &'static [(&'static str, &'static str, Verdict)] {
     &CASES
+}
+
+fn inputs() -> &'static [(&'static str, VerifyEnd, Option<u32>)] {
+    &INPUTS
 }
 
 fn waiting() -> &'static [u64] {
@@ -181,6 +247,30 @@ fn boxes_wait(rt: HostRuntime) -> Result<(), Fail> {
             checker.feed_line(line)?;
             rest = left;
         }
+    }
+    Ok(())
+}
+
+/// A verifier that was fed a text in pieces of so many bytes.
+fn fed(alloc: Global, text: &[u8], size: usize) -> Result<Verifier, Fail>
+    requires { 0 < size }
+    ensures { IfOk result (λ v. v.wanting ≡ false) }
+{
+    let mut verifier = Verifier::new(alloc);
+    for piece in text.chunks(size) {
+        verifier.feed(piece)?;
+    }
+    Ok(verifier)
+}
+
+#[test]
+fn pieces(rt: HostRuntime) -> Result<(), Fail> {
+    for (text, end, failed) in inputs() {
+        let bytes = text.as_bytes();
+        assert_eq!(rt; fed(rt.alloc(), bytes, 1)?.finish()?, *end, "{text}");
+        assert_eq!(rt; fed(rt.alloc(), bytes, 7)?.failed(), *failed, "{text}");
+        assert_eq!(rt; fed(rt.alloc(), bytes, 7)?.finish()?, *end, "{text}");
+        assert_eq!(rt; fed(rt.alloc(), bytes, 65_536)?.finish()?, *end, "{text}");
     }
     Ok(())
 }
