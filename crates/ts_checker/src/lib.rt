@@ -4,8 +4,8 @@
 //! their line, on one trail, so that a box costs what differs from the one before and never a copy of all domains; a
 //! line costs what its rule costs.
 //!
-//! A [`Verifier`] is fed the whole input of `verify`, a model and behind a line `%%` its certificate, in pieces that may
-//! be cut anywhere. It ends with the refusal of the model or with the checker's verdict, by all bytes together.
+//! A [`Verifier`] is fed the whole input of `verify`, a model and behind a line `%%` its certificate, in pieces that
+//! may be cut anywhere. It ends with the refusal of the model or with the checker's verdict, by all bytes together.
 //!
 //! The layer above may rely on this. The verdict is exactly that of the definitions: refused at the first line against
 //! the grammar or the counts, whatever the lines are worth; else accepted exactly where every line keeps its rule, or

@@ -29,7 +29,8 @@ known_go_on a cells rows from h =
     let few = few_known a cells rows h in
     record {
       few = few;
-      each = λ i le lt. followed_by a cells rows i (omega (arith, lt, few)) (known_at a cells rows i h (omega (arith, lt))) (known_at a cells rows (i + 1) h lt);
+      each = λ i le lt. followed_by a cells rows i (omega (arith, lt, few)) (known_at a cells rows i h (omega (arith, lt)))
+          (known_at a cells rows (i + 1) h lt);
     }
 
 -- what a change leaves
@@ -172,7 +173,8 @@ standing rows k from n row here d s is le count ne to at same =
     below k n m le e ne = grind (arith, le, e, ne)
 
 pub pushed : (rows new : Rows) (k from next : ℕ) (row : List Hull) (old : Stack) →
-    record { known = take k rows; laid = record { rows = rows; from = from } } ≡ old → k ≤ length rows → new ≡ with_row k row rows → from ≤ next → k + 1 ≤ next →
+    record { known = take k rows; laid = record { rows = rows; from = from } } ≡ old → k ≤ length rows → new ≡ with_row k row rows →
+    from ≤ next → k + 1 ≤ next →
     IsOneMore row old (record { known = take (k + 1) new; laid = record { rows = new; from = next } })
 pushed rows new k from next row old is le now to above =
     let long : length (take k rows) ≡ k = omega (arith, length-take k rows, le) in

@@ -70,7 +70,8 @@ one_taken first last old seen cells at v t from below to long is =
           ∙ ap (λ w. take at seen ++ w ∷ []) (sym (at_place cells at) ∙ sym is) ∙ sym (take_more_set seen at v lt);
     }
 
-pub all_taken : (first last : ℕ) (old seen cells : Box) (at : ℕ) → TakenOver first last old seen cells at → last ≤ at → drop last cells ≡ drop last old → seen ≡ cells
+pub all_taken : (first last : ℕ) (old seen cells : Box) (at : ℕ) → TakenOver first last old seen cells at → last ≤ at →
+    drop last cells ≡ drop last old → seen ≡ cells
 all_taken first last old seen cells at t end rest =
     sym (whole_same cells seen at t.front (rest_same cells seen at last end (rest ∙ sym t.differ.behind)))
 

@@ -15,7 +15,8 @@ pub record Laid : Type 0 where
 
 -- the row at place i + 1 is the next one after that at place i
 abbrev pub IsFollowed : Body → Box → Rows → ℕ → Type 0
-IsFollowed a cells rows i = get_or rows (i + 1) [] ≡ next_row a (get_or cells i []) (get_or rows i []) (get_or cells (i + 1) [])
+IsFollowed a cells rows i =
+    get_or rows (i + 1) [] ≡ next_row a (get_or cells i []) (get_or rows i []) (get_or cells (i + 1) [])
 
 -- so it is from a place on, over these cells
 pub record GoOn (a : Body) (cells : Box) (rows : Rows) (from : ℕ) : Type 0 where

@@ -88,8 +88,8 @@ impl<'a> AllTables<'a> {
         self.each[term as usize].is_plain()
     }
 
-    /// Whether the requirement is refuted at cell `p`, as the machine of its term tells. Where that can't be split, only
-    /// the last cell may be asked.
+    /// Whether the requirement is refuted at cell `p`, as the machine of its term tells. Where that can't be split,
+    /// only the last cell may be asked.
     pub fn refuted(
         &mut self,
         alloc: Global,

@@ -6,9 +6,9 @@
 //! there are, and looks at no further pair of states once some number of a span does what is asked. `BoxTables` answers
 //! the same questions and keeps the rows: those that a change of the box doesn't reach serve the next box, and so do
 //! those behind a row that comes out as it was. `LiveTables` finds out by itself what has changed, and `AllTables` does
-//! so for the machines of all terms. The definitions state the rule of each line of a certificate, when a certificate is
-//! accepted, its first failing line and what its claim means; by the laws an accepted certificate means what it claims,
-//! whoever wrote it, wherever spans hold the values of their terms.
+//! so for the machines of all terms. The definitions state the rule of each line of a certificate, when a certificate
+//! is accepted, its first failing line and what its claim means; by the laws an accepted certificate means what it
+//! claims, whoever wrote it, wherever spans hold the values of their terms.
 //!
 //! ```text
 //! let span = Span { lo: Ext::Int(2), hi: Ext::Int(5) };
