@@ -6,12 +6,13 @@ use ts_glue::Machine;
 /// What a hull of a row takes, in bytes.
 const HULL: u64 = 96;
 
-/// How many bytes the rows of all machines may take, but for one row a direction that is held beside them.
+/// How many bytes the rows of all machines may take, but for one row a direction that is held beside them. Each row may
+/// have memory for twice its hulls.
 const MOST: u64 = 200_000_000;
 
 /// Whether the rows of these machines, of a box with at most these values in its cells, take no more.
 pub(crate) fn has_room(machines: &[Machine], cells: &[Domain]) -> bool {
-    values_of(cells).saturating_mul(states_of(machines)) <= MOST / HULL
+    values_of(cells).saturating_mul(states_of(machines)) <= MOST / HULL / 2
 }
 
 /// How many values all cells have together.

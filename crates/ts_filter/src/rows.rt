@@ -53,7 +53,7 @@ fn make_row(
     ensures more { OnOk result (length rows.old.known < length rows.new.known) }
 {
     let spare = rows.take_spare(alloc);
-    let row = next_row(rows, a, cells, way, spare)?;
+    let row = next_row(alloc, rows, a, cells, way, spare)?;
     if rows.stands(&row) {
         rows.know_all(row);
         return Ok(());
@@ -63,6 +63,7 @@ fn make_row(
 
 /// The row of the cell that is read after those of these rows, in the memory of `spare`.
 fn next_row(
+    alloc: Global,
     rows: &RowStack,
     a: &Automaton,
     cells: &Boxed,
@@ -77,10 +78,10 @@ fn next_row(
     let i = rows.len();
     let values = read_at(cells, way, i);
     if i == 0 {
-        return Ok(first_row(a, values, spare)?);
+        return Ok(first_row(alloc, a, values, spare)?);
     }
     let before = rows.row(i - 1);
-    let mut hulls = resized(spare, values.size(), a.states())?;
+    let mut hulls = resized(alloc, spare, values.size(), a.states())?;
     fill_row(
         a,
         read_at(cells, way, i - 1),
@@ -104,10 +105,16 @@ fn read_at(cells: &Boxed, way: Way, i: usize) -> &Domain
 }
 
 /// The row of the cell that is read first: at each value the start registers in the start state alone.
-fn first_row(a: &Automaton, values: &Domain, spare: HullRow) -> Result<HullRow, Memory>
+fn first_row(
+    alloc: Global,
+    a: &Automaton,
+    values: &Domain,
+    spare: HullRow,
+) -> Result<HullRow, Memory>
     ensures { IfOk result (λ row. row ≡ row_of a.now [] values.now) }
 {
-    let mut hulls = spare.hulls;
+    let count = (values.size() as usize).saturating_mul(a.states() as usize);
+    let mut hulls = memory_for(alloc, spare.hulls, count);
     hulls.clear();
     for _value in values.values() {
         push_start(a, &mut hulls)?;
@@ -137,13 +144,23 @@ fn start_at(a: &Automaton, q: u8) -> Hull
 }
 
 /// So many hulls, whatever they are, in the memory of a row. Those that can't be counted have no memory.
-fn resized(row: HullRow, values: u64, states: u8) -> Result<Vec<Hull>, Memory>
+fn resized(alloc: Global, row: HullRow, values: u64, states: u8) -> Result<Vec<Hull>, Memory>
     ensures { IfOk result (λ hulls. length hulls.items ≡ values * states) }
 {
     let count = (values as usize)
         .checked_mul(states as usize)
         .ok_or(Memory)?;
-    let mut hulls = row.hulls;
+    let mut hulls = memory_for(alloc, row.hulls, count);
     hulls.resize(count, Hull::none())?;
     Ok(hulls)
+}
+
+/// The list, or an empty one where its memory is for more than twice as many hulls: rows of cells with few values never
+/// keep the memory of one with many.
+fn memory_for(alloc: Global, hulls: Vec<Hull>, count: usize) -> Vec<Hull> {
+    if hulls.capacity() / 2 > count {
+        Vec::new(alloc)
+    } else {
+        hulls
+    }
 }
