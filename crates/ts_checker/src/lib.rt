@@ -1,8 +1,8 @@
 //! The checker of certificates: is what a certificate claims shown by its lines?
 //!
 //! A [`Checker`] is fed the lines of a certificate one by one and keeps none of them. It keeps the boxes that wait for
-//! their line, on one trail, so that a box costs what differs from the one before and never a copy of all domains; a
-//! line costs what its rule costs.
+//! their line, on one trail, so that a box costs what differs from the one before and never a copy of all domains; and
+//! rows of hulls, of which a line makes anew those that its box changes.
 //!
 //! A [`Verifier`] is fed the whole input of `verify`, a model and behind a line `%%` its certificate, in pieces that
 //! may be cut anywhere. It ends with the refusal of the model or with the checker's verdict, by all bytes together.

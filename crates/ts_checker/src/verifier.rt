@@ -41,7 +41,7 @@ impl Verifier {
     }
 
     /// Takes more bytes. After `Memory` each further piece is answered `Memory`, and so is the end; it comes too where
-    /// the model or a line has 4,000,000,000 bytes or the certificate so many lines.
+    /// the model or a line has 4,000,000,000 bytes or the certificate more lines.
     pub fn feed(&mut self, piece: &[u8]) -> Result<(), Memory>
         ensures fed { OnOk result ((bytes : List ℕ) → HasFed bytes self.old → HasFed (bytes ++ piece.now) self.new) }
         ensures wanted { OnErr result (IsTrue self.new.wanting) }
