@@ -1,5 +1,6 @@
 pub mod Order
 pub mod Pieces
 pub mod SpanLaws
+mod Taking
 mod WordCuts
 pub mod WordLaws

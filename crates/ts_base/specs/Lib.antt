@@ -8,5 +8,6 @@ pub mod Signature
 pub mod SpanLayer
 pub mod Spans
 pub mod Standard
+pub mod Taken
 pub mod Text
 pub mod Words

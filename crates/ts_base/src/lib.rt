@@ -16,6 +16,7 @@ mod error;
 mod ext;
 mod goal;
 mod in_memory;
+mod intake;
 mod laws;
 mod letter;
 pub mod limits;
@@ -34,6 +35,7 @@ pub use error::{Failed, Memory};
 pub use ext::Ext;
 pub use goal::Goal;
 pub use in_memory::{MemorySink, MemorySource};
+pub use intake::Intake;
 pub use laws::{
     count_rises, derived_orders_are_meant, hull_is_least, limits_agree, none_holds_nothing,
     numbers_are_in_order, spans_hold_results,
@@ -42,7 +44,7 @@ pub use letter::{Letter, flip, letter_of};
 pub use never::{NeverSink, NeverSource};
 pub use outside::{Sink, Source};
 pub use range::{Join, Kind, Range};
-pub use read_write::{ReadStop, read_all, write_all};
+pub use read_write::{ReadStop, read_all, take_all, write_all};
 pub use span::Span;
 pub use standard::{StdIn, StdOut};
 pub use text::{push_ext, push_number};

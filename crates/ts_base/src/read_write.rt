@@ -1,13 +1,15 @@
-//! The whole of a source, and the whole of a text to a sink.
+//! The whole of a source, by one loop whose bytes go to an intake, and the whole of a text to a sink.
 
-ghost use Rattle.std.specs.Prelude.{◌≡◌, ◌≢◌, ◌<◌, ◌≤◌, ◌+◌, length, take, drop, vec_len, false, IsTrue};
+ghost use Rattle.std.specs.Prelude.{◌≡◌, ◌≢◌, ◌<◌, ◌≤◌, ◌+◌, [], length, take, vec_len, false, IsTrue};
 ghost use Rattle.std.specs.Prelude.{Err, IfOk, IfSome, OnOk, OnErr};
 ghost use Rattle.ts_base.specs.Outside.{AtEnd, GaveAtMost, HasMoreThan, Prefix, Rose};
 ghost use Rattle.ts_base.specs.Outside.{left_after, put_back, taken_more};
+ghost use Rattle.ts_base.specs.Taken.{TookAll};
 ghost use Rattle.ts_base.specs.declared.read_write.ReadStop.TheVariants.{ReadFault as FaultOfReading};
 ghost use Rattle.ts_base.specs.declared.read_write.ReadStop.TheVariants.{Memory as NoMemory};
 
 use crate::error::{Failed, Memory};
+use crate::intake::Intake;
 use crate::outside::{Sink, Source};
 use std::alloc::Global;
 use thiserror::Error;
@@ -64,41 +66,57 @@ pub fn read_all<S: Source>(alloc: Global, source: &mut S, limit: usize) -> Resul
     ensures later { S.source_faults source.old ≤ S.source_faults source.new }
 {
     let mut bytes = Vec::new(alloc);
-    let mut count = 0;
-    while count <= limit {
-        make_room(&mut bytes, count, limit)?;
-        let more = read_behind(source, &mut bytes, count)?;
-        if more == 0 {
-            bytes.truncate(count);
-            return Ok(bytes);
-        }
-        count += more;
-    }
-    Err(ReadStop::TooLong)
+    take_all(alloc, source, limit, &mut bytes)?;
+    Ok(bytes)
 }
 
-/// Makes room behind the first `count` bytes, which stay, and never for more than `limit + 1` bytes in all.
-fn make_room(bytes: &mut Vec<u8>, count: usize, limit: usize) -> Result<(), Memory>
-    requires limit { limit < 4000000000 }
-    requires within { (count ≤ limit) × (count ≤ vec_len bytes.old) }
-    requires fewer { vec_len bytes.old ≤ limit + 1 }
-    ensures front { OnOk result (take count bytes.new.items ≡ take count bytes.old.items) }
-    ensures room { OnOk result (count < vec_len bytes.new) }
-    ensures few { OnOk result (vec_len bytes.new ≤ limit + 1) }
+/// Gives all bytes that `source` has left to `intake`, where they are at most `limit`, piece by piece.
+///
+/// `TooLong` comes exactly where there are more, and then one byte more than `limit` was read. `ReadFault` comes only
+/// where a read failed, and the source isn't read again then. `Memory` comes before the first read, or is what the
+/// intake answered to a piece within the limit.
+pub fn take_all<S: Source, I: Intake>(
+    alloc: Global,
+    source: &mut S,
+    limit: usize,
+    intake: &mut I,
+) -> Result<(), ReadStop>
+    requires few { limit < 4000000000 }
+    requires none { I.took [] intake.old }
+    ensures all { OnOk result (TookAll I.took limit (S.left source.old) (S.left source.new) intake.new) }
+
+    ensures too_long { result ≡ Err ReadStop.TooLong → HasMoreThan limit (S.left source.old) }
+    ensures one_more { result ≡ Err ReadStop.TooLong → S.left source.new ≡ left_after (limit + 1) (S.left source.old) }
+    ensures gave { GaveAtMost (limit + 1) (S.left source.old) (S.left source.new) }
+
+    ensures cause { result ≡ Err ReadStop.ReadFault → Rose (S.source_faults source.old) (S.source_faults source.new) }
+    ensures broken { result ≡ Err ReadStop.ReadFault → IsTrue (S.source_broken source.new) }
+    ensures calm { result ≢ Err ReadStop.ReadFault → S.source_faults source.new ≡ S.source_faults source.old }
+    ensures want { result ≡ Err ReadStop.Memory → GaveAtMost limit (S.left source.old) (S.left source.new) }
+    ensures later { S.source_faults source.old ≤ S.source_faults source.new }
 {
-    if count == bytes.len() {
-        let room = (limit + 1).min(count + PIECE);
-        bytes.resize(room, 0)?;
+    let mut buffer = zeros(alloc, PIECE)?;
+    let mut spare = limit;
+    loop {
+        let room = buffer.len().min(spare + 1);
+        let more = read_front(source, &mut buffer, room)?;
+        if more == 0 {
+            return Ok(());
+        }
+        if more > spare {
+            return Err(ReadStop::TooLong);
+        }
+        intake.take(&buffer[..more])?;
+        spare -= more;
     }
-    Ok(())
 }
 
-/// Reads behind the first `count` bytes, which stay.
-fn read_behind<S: Source>(source: &mut S, bytes: &mut [u8], count: usize) -> Result<usize, Failed>
-    requires { count < length bytes.old }
-    ensures front { take count bytes.new ≡ take count bytes.old }
-    ensures within { IfOk result (λ m. count + m ≤ length bytes.new) }
-    ensures gave { IfOk result (λ m. S.left source.old ≡ put_back (take m (drop count bytes.new)) (S.left source.new)) }
+/// Reads at most `room` bytes into the front of the buffer.
+fn read_front<S: Source>(source: &mut S, buffer: &mut [u8], room: usize) -> Result<usize, Failed>
+    requires { (0 < room) × (room ≤ length buffer.old) }
+    ensures size { length buffer.new ≡ length buffer.old }
+    ensures within { IfOk result (λ m. m ≤ room) }
+    ensures gave { IfOk result (λ m. S.left source.old ≡ put_back (take m buffer.new) (S.left source.new)) }
     ensures end { IfOk result (λ m. m ≡ 0 → AtEnd (S.left source.old)) }
     ensures kept { OnErr result (S.left source.new ≡ S.left source.old) }
     ensures cause { OnErr result (Rose (S.source_faults source.old) (S.source_faults source.new)) }
@@ -106,7 +124,16 @@ fn read_behind<S: Source>(source: &mut S, bytes: &mut [u8], count: usize) -> Res
     ensures calm { OnOk result (S.source_faults source.new ≡ S.source_faults source.old) }
     ensures later { S.source_faults source.old ≤ S.source_faults source.new }
 {
-    source.read(&mut bytes[count..])
+    source.read(&mut buffer[..room])
+}
+
+/// A buffer of this length.
+fn zeros(alloc: Global, length: usize) -> Result<Vec<u8>, Memory>
+    ensures { IfOk result (λ buffer. vec_len buffer ≡ length) }
+{
+    let mut buffer = Vec::new(alloc);
+    buffer.resize(length, 0)?;
+    Ok(buffer)
 }
 
 /// Gives all of `bytes` to `sink`.
