@@ -6,7 +6,7 @@ ghost use Rattle.std.specs.Str.{bytes_eq};
 ghost use Rattle.ts_pattern.specs.Names.{all_patterns, pattern_name, feature_name, aggregator_name};
 
 /// The 22 patterns.
-#[derive(Clone, Copy, Debug, PartialEq, Eq, PartialOrd, Ord)]
+#[derive(Clone, Copy, Debug, PartialEq, Eq)]
 pub enum PatternId {
     Increasing,
     Decreasing,
@@ -33,7 +33,7 @@ pub enum PatternId {
 }
 
 /// What an occurrence is worth: 1, the number of its cells, or the sum, greatest or least of their values.
-#[derive(Clone, Copy, Debug, PartialEq, Eq, PartialOrd, Ord)]
+#[derive(Clone, Copy, Debug, PartialEq, Eq)]
 pub enum Feature {
     One,
     Width,
@@ -43,7 +43,7 @@ pub enum Feature {
 }
 
 /// How the features of all occurrences make one value.
-#[derive(Clone, Copy, Debug, PartialEq, Eq, PartialOrd, Ord)]
+#[derive(Clone, Copy, Debug, PartialEq, Eq)]
 pub enum Aggregator {
     Sum,
     Max,
