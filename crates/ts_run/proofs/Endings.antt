@@ -2,8 +2,8 @@
 use Rattle.std.proofs.Common.{◌≡◌, ℕ, ◌+◌, ◌≤◌, inl, inr, Option, Some, None, List, [], length, replicate, refl, sym, ◌∙◌, ap, subst, arith}
 use Rattle.std.specs.Prelude.{IfSome}
 use Rattle.std.proofs.lemmas.List.{length-replicate}
-use Rattle.std.proofs.Math.Seq.{drop-append_seam}
 use Rattle.ts_base.specs.Outside.{AtEnd, GaveAtMost, HasMoreThan, Rose, left_after, put_back}
+use Rattle.ts_base.proofs.Pieces.{gave_bytes}
 use Rattle.ts_run.specs.AnswerTexts.{IsReply, fault_read, refused_length}
 use Rattle.ts_run.specs.Endings.{OfBytes, RepliesWithin, Responds, WholeEnds, WholeTakes}
 use Rattle.ts_run.specs.Reply.{ComesOfInput, Ends, EndsWritten, Reply}
@@ -26,16 +26,6 @@ pub no_fault : (status given : Status) → (EndsWritten status → status ≡ gi
 no_fault status given written input e =
     let same : given ≡ ReadFault = sym (written (subst EndsWritten (sym e) tt)) ∙ e in
     subst ComesOfInput same input
-
--- what is left is what a piece was put back before
-pub given_after : (bytes : List ℕ) (before after : Option (List ℕ)) → before ≡ put_back bytes after → after ≡ left_after (length bytes) before
-given_after bytes before None e = sym (ap (left_after (length bytes)) e)
-given_after bytes before (Some left) e =
-    ap (λ (rest : List ℕ). Some rest) (sym (drop-append_seam bytes left)) ∙ sym (ap (left_after (length bytes)) e)
-
-pub gave_bytes : (limit : ℕ) (bytes : List ℕ) (before after : Option (List ℕ)) → length bytes ≤ limit → before ≡ put_back bytes after →
-    GaveAtMost limit before after
-gave_bytes limit bytes before after few e = (length bytes, few, given_after bytes before after e)
 
 -- what was read
 

@@ -12,7 +12,6 @@ mod SampleModelLaws
 mod SampleSums
 mod Steps
 mod TakenReply
-mod Taking
 mod CheckLaws
 mod CheckSteps
 mod CompileLaws

@@ -9,6 +9,5 @@ pub mod Replies
 pub mod Reply
 pub mod Sample
 pub mod SampleModel
-pub mod Taken
 pub mod Verdict
 pub mod Verified

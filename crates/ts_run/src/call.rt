@@ -1,6 +1,6 @@
 //! The top call.
 
-ghost use Rattle.std.specs.Prelude.{ℕ, ◌≡◌, ◌≢◌, ◌<◌, ◌≤◌, ◌⊎◌, IsTrue, IfOk, IfSome, [], vec_len};
+ghost use Rattle.std.specs.Prelude.{ℕ, ◌≡◌, ◌≢◌, ◌<◌, ◌≤◌, ◌⊎◌, IsTrue, IfSome, []};
 ghost use Rattle.ts_base.specs.Outside.{Rose, one_more};
 ghost use Rattle.ts_run.specs.AnswerTexts.{IsReply, fault_read};
 ghost use Rattle.ts_run.specs.Commands.{command_of, words_in};
@@ -8,17 +8,13 @@ ghost use Rattle.ts_run.specs.Endings.{CallEnds, CallSpares, CallTakes, Tells, T
 ghost use Rattle.ts_run.specs.Reply.{EndsWith, EndsWritten, TellsNoFault};
 
 use crate::command::{Command, Input};
-use crate::intake::{Intake, Kept};
-use crate::reading::take_all;
+use crate::intake::Respond;
 use crate::reply_to::reply_to;
 use crate::status::Status;
+use crate::verify::Verifying;
 use crate::write::write_reply;
-use std::alloc::{AllocError, Global};
-use ts_base::{Memory, ReadStop, Sink, Source};
-use ts_checker::Verifier;
-
-/// The most bytes of an input that are read at once.
-const PIECE: usize = 65_536;
+use std::alloc::Global;
+use ts_base::{Memory, ReadStop, Sink, Source, take_all};
 
 /// Does what the words ask for: reads the source, writes the reply to the sink, and says how it ended.
 ///
@@ -117,22 +113,24 @@ fn run_whole<S: Source, K: Sink>(
     ensures writes_later { K.sink_faults sink.old ≤ K.sink_faults sink.new }
 {
     match *command {
-        Command::Verify => run_into(alloc, Verifier::new(alloc), limit, source, sink),
-        _ => run_into(alloc, Kept::new(alloc, *command), limit, source, sink),
+        Command::Verify => run_into(alloc, command, Verifying::new(alloc), limit, source, sink),
+        _ => run_into(alloc, command, Vec::new(alloc), limit, source, sink),
     }
 }
 
-/// The call whose input goes to this intake, which has taken nothing so far.
-fn run_into<I: Intake, S: Source, K: Sink>(
+/// The call whose input goes to this intake, which serves the command and has taken nothing so far.
+fn run_into<I: Respond, S: Source, K: Sink>(
     alloc: Global,
+    command: &Command,
     intake: I,
     limit: usize,
     source: &mut S,
     sink: &mut K,
 ) -> Status
     requires few { limit < 4000000000 }
+    requires serves { I.serves command.now }
     requires none { I.took [] intake }
-    ensures ends { WholeEnds limit (I.asked intake) (S.left source.old)
+    ensures ends { WholeEnds limit command.now (S.left source.old)
         (S.source_faults source.old) (S.source_faults source.new) (K.taken sink.old) (K.taken sink.new) result }
     ensures takes { WholeTakes limit (S.left source.old) (S.left source.new) result }
 
@@ -150,26 +148,14 @@ fn run_into<I: Intake, S: Source, K: Sink>(
     ensures reads_later { S.source_faults source.old ≤ S.source_faults source.new }
     ensures writes_later { K.sink_faults sink.old ≤ K.sink_faults sink.new }
 {
-    let Ok(mut buffer) = zeros(alloc, PIECE) else {
-        return Status::Memory;
-    };
     let mut intake = intake;
-    match take_all(source, limit, &mut buffer, &mut intake) {
+    match take_all(alloc, source, limit, &mut intake) {
         Err(ReadStop::ReadFault) => write_reply(sink, b"fault read\n", Status::ReadFault),
         Err(ReadStop::TooLong) => write_reply(sink, b"refused length\n", Status::Refused),
         Err(ReadStop::Memory) => Status::Memory,
-        Ok(()) => match intake.reply(alloc) {
+        Ok(()) => match intake.reply(alloc, command) {
             Ok(reply) => write_reply(sink, &reply.text, reply.status),
             Err(Memory) => Status::Memory,
         },
     }
-}
-
-/// A buffer of this length.
-fn zeros(alloc: Global, length: usize) -> Result<Vec<u8>, AllocError>
-    ensures { IfOk result (λ buffer. vec_len buffer ≡ length) }
-{
-    let mut buffer = Vec::new(alloc);
-    buffer.resize(length, 0)?;
-    Ok(buffer)
 }

@@ -10,7 +10,7 @@
 //!
 //! A command says how it takes its input. One that takes the whole is a function from bytes to a reply, as `check`
 //! and `maximise` are, and knows of no source and no sink: a new one is a word, a relation between bytes and reply, and
-//! that function. The bytes go in pieces to an `Intake`, which keeps them for these commands. That of `verify` checks
+//! that function. The bytes go in pieces to an intake, which keeps them for these commands. That of `verify` checks
 //! them as they come and keeps none of its lines.
 //!
 //! A number among the words of a command is a `Budget`, a `Count` or a number of `Cells`: each keeps its range, and is
@@ -28,7 +28,6 @@ mod intake;
 mod laws;
 mod model_part;
 mod quantity;
-mod reading;
 mod refusal;
 mod reply;
 mod reply_to;

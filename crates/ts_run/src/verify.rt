@@ -11,26 +11,40 @@ ghost use Rattle.ts_run.specs.Verified.{line_reply, verdict_reply};
 ghost use Rattle.ts_run.specs.declared.command.Command.TheVariants.{Verify};
 
 use crate::command::Command;
-use crate::intake::Intake;
+use crate::intake::Respond;
 use crate::refusal::refused_model;
 use crate::reply::Reply;
 use crate::status::Status;
 use std::alloc::Global;
-use ts_base::{Memory, first_line, push_number};
+use ts_base::{Intake, Memory, first_line, push_number};
 use ts_checker::{Checker, Verdict, Verifier, VerifyEnd};
 
-/// Keeps no bytes but those of a model or a line that hasn't ended.
-impl Intake for Verifier {
-    ghost took = { HasFed };
+/// Takes the input of `verify`, and keeps no bytes but those of a model or a line that hasn't ended.
+#[derive(Drop)]
+pub struct Verifying(Verifier);
 
-    ghost asked = { λ _. Verify };
+impl Verifying {
+    /// Has taken nothing so far.
+    pub fn new(alloc: Global) -> Verifying
+        ensures { HasFed [] result.0 }
+    {
+        Verifying(Verifier::new(alloc))
+    }
+}
+
+impl Intake for Verifying {
+    ghost took = { λ bytes v. HasFed bytes v.0 };
 
     fn take(&mut self, piece: &[u8]) -> Result<(), Memory> {
-        self.feed(piece)
+        self.0.feed(piece)
     }
+}
 
-    fn reply(self, alloc: Global) -> Result<Reply, Memory> {
-        let end = self.finish()?;
+impl Respond for Verifying {
+    ghost serves = { λ command. command ≡ Verify };
+
+    fn reply(self, alloc: Global, _command: &Command) -> Result<Reply, Memory> {
+        let end = self.0.finish()?;
         end_reply(alloc, end)
     }
 }
