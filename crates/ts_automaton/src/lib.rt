@@ -32,11 +32,7 @@ mod run;
 mod span_run;
 mod state;
 mod stop;
-#[cfg(test)]
-mod tests;
 pub mod text_laws;
-#[cfg(test)]
-mod text_tests;
 mod typing;
 mod writer;
 

@@ -14,7 +14,5 @@ mod builder;
 mod decoration;
 pub mod laws;
 mod table;
-#[cfg(test)]
-mod tests;
 
 pub use decoration::decorate;

@@ -22,8 +22,6 @@ mod occurrence;
 mod residuals;
 mod series;
 mod term_value;
-#[cfg(test)]
-mod tests;
 
 pub use occurrence::occurrences;
 pub use series::{part, signature};

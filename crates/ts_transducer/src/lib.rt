@@ -17,8 +17,6 @@ mod decode;
 mod decoder;
 pub mod laws;
 mod row;
-#[cfg(test)]
-mod tests;
 mod transducer;
 
 pub use decode::decoded;

@@ -23,8 +23,6 @@ pub mod laws;
 mod step;
 mod stop;
 mod tags;
-#[cfg(test)]
-mod tests;
 mod trial;
 mod validated;
 

@@ -1,5 +1,5 @@
 use Rattle.ts_automaton.specs.AutomatonRun.{Stands, standing_of}
-use Rattle.ts_decorate.proofs.tests.answer.Given as goal
+use Rattle.ts_compile.proofs.tests.decorated.answer.Given as goal
 
 abbrev pub invariant-loop-k : goal.invariant-loop-k
 invariant-loop-k l = Stands l.automaton (standing_of l.at)

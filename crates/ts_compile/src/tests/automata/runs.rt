@@ -4,8 +4,8 @@ ghost use Rattle.std.specs.Prelude.{◌≡◌, ◌<◌, length};
 ghost use Rattle.ts_automaton.specs.AutomatonRun.{Stands, standing_of};
 
 use super::{Change, ZERO, changed, changed_finish};
-use crate::{At, Automaton, Hull, HullAt, Mark};
 use std::test::Fail;
+use ts_automaton::{At, Automaton, Hull, HullAt, Mark};
 use ts_base::{Ext, Span};
 
 /// A series, and the sum of the widths of its peaks.
@@ -36,7 +36,7 @@ fn after(automaton: &Automaton, series: &[i64]) -> At
 }
 
 /// The span of the answers on this series alone, by steps of hulls.
-#[tactic(auto, using(crate::proofs::RunLaws::single_stands))]
+#[tactic(auto, using(ts_automaton::proofs::RunLaws::single_stands))]
 fn span_of(automaton: &Automaton, series: &[i64]) -> Span {
     let start = automaton.start();
     let mut at = HullAt {

@@ -3,13 +3,13 @@
 
 ghost use Rattle.std.specs.Prelude.{◌≤◌, length};
 
-use crate::decorate;
 use arrayvec::ArrayVec;
 use std::process::Abort;
 use std::test::Fail;
 use ts_automaton::{Automaton, write};
 use ts_base::Ext;
 use ts_base::Kind::{self, Held, Idle, Pending};
+use ts_decorate::decorate;
 use ts_pattern::{Aggregator, Feature};
 use ts_transducer::Phase::{self, Found, FoundE, Inside, MaybeA, MaybeB, Out, OutA, OutR};
 use ts_transducer::{Arrow, Row, Transducer};

@@ -4,7 +4,6 @@
 mod starts;
 mod steps;
 
-use crate::{ValidateStop, Validated, validate};
 use arrayvec::ArrayVec;
 use std::alloc::Global;
 use std::test::Fail;
@@ -13,6 +12,7 @@ use ts_base::{Kind, Letter, Memory};
 use ts_pattern::{Configuration, Live, Pattern, Plan, Tag};
 use ts_regex::{Regex, alt, cat, normal, residual, star};
 use ts_transducer::{Arrow, Phase, Row, Transducer};
+use ts_validate::{ValidateStop, Validated, validate};
 
 /// A pattern, a transducer, and a plan.
 #[derive(Clone, Copy)]

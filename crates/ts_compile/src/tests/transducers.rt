@@ -2,14 +2,14 @@
 
 ghost use Rattle.std.specs.Prelude.{◌≤◌, ◌<◌, length};
 
-use crate::Phase::{Found, FoundE, Inside, MaybeA, MaybeB, Out, OutA, OutR};
-use crate::{Arrow, Decoder, Phase, Row, Transducer, decoded};
 use arrayvec::ArrayVec;
 use std::alloc::Global;
 use std::test::Fail;
 use ts_base::Kind::{Held, Idle, Pending};
 use ts_base::Letter::{Equal, Greater, Less};
 use ts_base::{Kind, Letter, Memory, Range};
+use ts_transducer::Phase::{Found, FoundE, Inside, MaybeA, MaybeB, Out, OutA, OutR};
+use ts_transducer::{Arrow, Decoder, Phase, Row, Transducer, decoded};
 
 /// The letter, counted from 1, after which a range is emitted, and its first and last cell. The end of the letters
 /// counts as one letter more.

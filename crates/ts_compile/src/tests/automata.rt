@@ -2,9 +2,9 @@
 
 mod runs;
 
-use crate::{Automaton, Expr, Mark, Regs, State, Turn};
 use std::alloc::{AllocError, Global};
 use std::test::Fail;
+use ts_automaton::{Automaton, Expr, Mark, Regs, State, Turn};
 use ts_base::Ext;
 
 /// One change to the automaton of peaks.

@@ -1,8 +1,8 @@
 //! Texts that are read and written again, and texts that are refused, each line told worked out by hand.
 
-use crate::{AutoStop, Way, read, write, write_head};
 use std::process::Abort;
 use std::test::Fail;
+use ts_automaton::{AutoStop, Way, read, write, write_head};
 
 /// The first is the automaton that adds up the widths of peaks.
 static TAKEN: [(Way, &str); 3] = [

@@ -5,9 +5,9 @@
 ghost use Rattle.std.specs.Prelude.{IsTrue};
 ghost use Rattle.ts_pattern.specs.Limits.{IsSeries};
 
-use crate::{occurrences, part, signature, value};
 use std::alloc::Global;
 use ts_base::{Ext, Letter, Memory, Range};
+use ts_occurrence::{occurrences, part, signature, value};
 use ts_pattern::{Pattern, PatternId, Term, aggregator_of, feature_of, pattern_by_id, pattern_of};
 use ts_regex::{Regex, star};
 
