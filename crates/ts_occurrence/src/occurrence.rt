@@ -57,7 +57,7 @@ fn note(found: &mut Vec<Range>, ending: Option<u32>, read: u32, b: u8, a: u8) ->
 {
     if let Some(start) = ending {
         let first = start + 1 + u32::from(b);
-        let kept = begun_before(found, first);
+        let kept = begun_before(found.as_slice(), first);
         found.truncate(kept);
         found.push(Range {
             first,
@@ -68,8 +68,8 @@ fn note(found: &mut Vec<Range>, ending: Option<u32>, read: u32, b: u8, a: u8) ->
 }
 
 /// The number of the first ranges, up to the last one that begins before the cell.
-fn begun_before(found: &Vec<Range>, cell: u32) -> usize
-    ensures { IsCut found.now.items cell result }
+fn begun_before(found: &[Range], cell: u32) -> usize
+    ensures { IsCut found.now cell result }
 {
     let mut kept = found.len();
     while kept > 0 && found[kept - 1].first >= cell {
