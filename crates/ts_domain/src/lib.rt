@@ -10,7 +10,8 @@
 //! Copies and smaller sets share the ranges by a count, so a box of many cells with one domain has its ranges once.
 //! A change makes pieces alone, whose ends are found by halving, and the trail keeps the pieces before. `keep_low` and
 //! `keep_high` never make more of them, and a value taken out of the middle of a piece leaves one more. A set of more
-//! than 128 pieces gets ranges of its own: no change copies more pieces than that, and one in 128 copies ranges.
+//! than 128 pieces gets ranges of its own, so no change copies more pieces than that. A change that makes the 129th
+//! piece copies the ranges that are left: from a set of one piece it takes 128 changes to come there, after an undo one.
 //!
 //! ```text
 //! let digits = Domain::from_ranges(alloc, &[0, 7], &[4, 9])?;
