@@ -6,6 +6,7 @@ pub mod MeetLaws
 pub mod CutLaws
 pub mod PieceReads
 pub mod PieceParts
+pub mod Counts
 pub mod PieceSets
 pub mod PieceEnds
 mod SameParts

@@ -5,7 +5,7 @@ use Rattle.std.proofs.lemmas.Int.{ints}
 use Rattle.std.proofs.lemmas.List.Elements.{Contains-append_cases, Contains-append_left, Contains-append_right}
 use Rattle.std.proofs.lemmas.Option.{same_Some, slice_get_within}
 use Rattle.ts_domain.specs.declared.interval.Interval.{Interval}
-use Rattle.ts_domain.specs.Pieces.{values_in, values_by, IsPiece, PiecesFrom, IsCut}
+use Rattle.ts_domain.specs.Pieces.{values_in, values_by, PiecesFrom, IsCut}
 use Rattle.ts_domain.specs.Values.{WithinLimits, values_of}
 use Rattle.ts_domain.proofs.PieceLaws.{contains_in, high_in, low_in}
 use Rattle.ts_domain.proofs.PieceSets.{cut_is_domain}

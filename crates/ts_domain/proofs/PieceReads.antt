@@ -83,7 +83,7 @@ pub parts_all : (p : Interval) (rs : List Interval) (i size : ℕ) (vs : List �
 parts_all p rs i size vs past inv is =
     let none = values_past (map (trim p) rs) i (omega (arith, past, length-map rs (trim p))) in let whole = ap length is in omega (arith, none, whole, inv)
 
-get_or-append_right : (xs ys : List ℤ) (i : ℕ) (d : ℤ) → length xs ≤ i → get_or (xs ++ ys) i d ≡ get_or ys (i - length xs) d
+pub get_or-append_right : (xs ys : List ℤ) (i : ℕ) (d : ℤ) → length xs ≤ i → get_or (xs ++ ys) i d ≡ get_or ys (i - length xs) d
 get_or-append_right [] ys i d h = let e : i ≡ i - 0 = omega arith in ap (λ n. get_or ys n d) e
 get_or-append_right (x ∷ xs) ys zero d h = absurd (omega (arith, h))
 get_or-append_right (x ∷ xs) ys (suc i) d h = let e : i - length xs ≡ suc i - length (x ∷ xs) = omega arith in
@@ -116,14 +116,14 @@ part_later p rs i d r left count at h is n beyond below same =
     later_place (values_of (drop i (map (trim p) rs))) (values_between r.low r.high) (values_of (drop (i + 1) (map (trim p) rs)))
     (values_of (map (trim p) rs)) left count at (parts-drop p rs i d r h is) n beyond below same
 
-at_between : (low high : ℤ) (k : ℕ) → low ≤ℤ high → k < length (values_between low high) → get_or (values_between low high) k (pos 0) ≡ low +ℤ pos k
+pub at_between : (low high : ℤ) (k : ℕ) → low ≤ℤ high → k < length (values_between low high) → get_or (values_between low high) k (pos 0) ≡ low +ℤ pos k
 unfolding values_between
 at_between low high k o b =
     let n = length-between low high (omega (arith, ints, o)) in let c = natural_is ((high +ℤ pos 1) -ℤ low) (omega (arith, ints, o)) in
     get_or-run low (natural ((high +ℤ pos 1) -ℤ low)) k (pos 0) (omega (arith, ints, n, c, b))
 
 -- a number is the one at a place
-read_at : (vs : List ℤ) (at : ℕ) (v : ℤ) → at < length vs → get_or vs at (pos 0) ≡ v → slice_get vs at ≡ Some v
+pub read_at : (vs : List ℤ) (at : ℕ) (v : ℤ) → at < length vs → get_or vs at (pos 0) ≡ v → slice_get vs at ≡ Some v
 read_at vs at v below e = slice_get_read vs (length vs) at v refl below (sym e ∙ get_or_default vs at (pos 0) v below)
 
 pub part_here : (p : Interval) (rs : List Interval) (i : ℕ) (d r : Interval) (left count at : ℕ) (vs : List ℤ) →

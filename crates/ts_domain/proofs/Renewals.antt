@@ -11,7 +11,7 @@ use Rattle.ts_domain.specs.Values.{Rising, values_between, values_of, RangesFrom
 use Rattle.ts_domain.specs.Union.{InSome, LowsRise}
 use Rattle.ts_domain.specs.Pieces.{values_in, values_by, trim, IsPiece, PiecesFrom, IsCut, AreRangesIn}
 use Rattle.ts_domain.proofs.Ranges.{value_in_some, some_has_value, values_rise}
-use Rattle.ts_domain.proofs.Sets.{contains_cons, nothing_in, each_contains, all_append, all_weaker}
+use Rattle.ts_domain.proofs.Sets.{contains_cons, nothing_in, each_contains, all_append}
 use Rattle.ts_domain.proofs.PieceLaws.{contains_in}
 use Rattle.ts_domain.proofs.PieceParts.{off}
 use Rattle.ts_domain.proofs.PieceReads.{trim_at}

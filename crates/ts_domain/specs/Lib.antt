@@ -1,4 +1,5 @@
 pub mod BoxSeries
+pub mod Counts
 pub mod Kept
 pub mod Pieces
 pub mod Trail

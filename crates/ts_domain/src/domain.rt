@@ -8,6 +8,7 @@ ghost use Rattle.ts_domain.specs.Union.{InSomeRange, SomeEmpty, InSome, LowsRise
 ghost use Rattle.ts_domain.specs.Pieces.{IsCut, values_by};
 ghost use Rattle.ts_domain.specs.Values.{IsDomain, WithinLimits, values_of, AreRanges};
 
+use crate::counted::CountedRanges;
 use crate::interval::Interval;
 use crate::keep::Keep;
 use crate::pieces::{count_by, has_by, kept_by, nth_by, ranges_by};
@@ -27,7 +28,7 @@ const MOST_PIECES: usize = 128;
 #[derive(Drop)]
 pub struct Domain {
     alloc: Global,
-    ranges: Rc<SmallVec<Interval, 2>, Global>,
+    ranges: Rc<CountedRanges, Global>,
     pieces: SmallVec<Interval, 2>,
 }
 
@@ -57,9 +58,9 @@ impl Model for Domain {
 
     ghost Value = { List ℤ };
 
-    ghost view = { λ d. values_by (values_of d.ranges.value.items) d.pieces.items };
+    ghost view = { λ d. values_by (values_of d.ranges.value.items.items) d.pieces.items };
 
-    ghost invariant = { λ d. IsCut d.ranges.value.items d.pieces.items };
+    ghost invariant = { λ d. IsCut d.ranges.value.items.items d.pieces.items };
 }
 
 impl Domain {
@@ -97,7 +98,7 @@ impl Domain {
     pub fn contains(&self, v: i64) -> bool
         ensures { IsTrue result ↔ Contains self.now v }
     {
-        has_by(self.ranges.as_slice(), self.pieces.as_slice(), v)
+        has_by(self.ranges.items.as_slice(), self.pieces.as_slice(), v)
     }
 
     /// How many numbers there are.
@@ -105,7 +106,7 @@ impl Domain {
         ensures size { result ≡ length self.now }
         ensures domain { IsDomain self.now }
     {
-        count_by(self.ranges.as_slice(), self.pieces.as_slice())
+        count_by(&*self.ranges, self.pieces.as_slice())
     }
 
     /// The number at place `i` in rising order, counted from 0.
@@ -113,7 +114,7 @@ impl Domain {
         requires { i < length self.now }
         ensures { slice_get self.now i ≡ Some result }
     {
-        nth_by(self.ranges.as_slice(), self.pieces.as_slice(), i)
+        nth_by(&*self.ranges, self.pieces.as_slice(), i)
     }
 
     /// Whether both have the same ranges and pieces, and so the same numbers. It compares no numbers: of sets that were
@@ -121,7 +122,7 @@ impl Domain {
     pub fn is_same(&self, other: &Domain) -> bool
         ensures { IsTrue result → self.now ≡ other.now }
     {
-        self.pieces == other.pieces && *self.ranges == *other.ranges
+        self.pieces == other.pieces && self.ranges.items == other.ranges.items
     }
 
     /// The least and the greatest number, without a search.
@@ -144,7 +145,7 @@ impl Domain {
     pub fn values<'a>(&'a self) -> Values<'a>
         ensures { result ≡ self.now }
     {
-        walk(self.ranges.as_slice(), self.pieces.as_slice())
+        walk(self.ranges.items.as_slice(), self.pieces.as_slice())
     }
 
     /// Whether there is one number alone.
@@ -163,7 +164,7 @@ impl Domain {
         ensures kept { IfOk result (λ d. d ≡ kept keep self.now) }
         ensures domain { IfOk result IsDomain }
     {
-        let ranges = self.ranges.as_slice();
+        let ranges = self.ranges.items.as_slice();
         let pieces = kept_by(self.alloc, ranges, self.pieces.as_slice(), keep)?;
         if pieces.len() > MOST_PIECES {
             return renewed(self.alloc, ranges, pieces.as_slice());
@@ -199,9 +200,10 @@ fn whole(alloc: Global, ranges: SmallVec<Interval, 2>) -> Result<Domain, Memory>
     };
     let mut pieces = SmallVec::new(alloc);
     pieces.push(all)?;
+    let counted = CountedRanges::new(alloc, ranges)?;
     Ok(Domain {
         alloc,
-        ranges: Rc::new(alloc, ranges)?,
+        ranges: Rc::new(alloc, counted)?,
         pieces,
     })
 }

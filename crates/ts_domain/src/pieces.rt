@@ -9,6 +9,7 @@ ghost use Rattle.ts_domain.specs.Union.{InSome, LowsRise};
 ghost use Rattle.ts_domain.specs.Values.{RangesFrom, values_of};
 ghost use Rattle.ts_domain.specs.Pieces.{IsPiece, IsCut, values_in, values_by, trim, AreParts, AreRangesIn};
 
+use crate::counted::CountedRanges;
 use crate::interval::Interval;
 use crate::keep::Keep;
 use crate::lookup::{begun_by, ended_below, has};
@@ -27,23 +28,20 @@ pub(crate) fn meeting<'a>(ranges: &'a [Interval], piece: Interval) -> &'a [Inter
 }
 
 /// How many numbers lie in a piece.
-fn count_in(ranges: &[Interval], piece: Interval) -> u64
-    requires apart { RangesFrom (neg_ℤ (pos 1000000)) ranges.now }
-    requires piece { IsPiece (values_of ranges.now) piece }
-    ensures { result ≡ length (values_in (values_of ranges.now) piece) }
+fn count_in(ranges: &CountedRanges, piece: Interval) -> u64
+    requires apart { RangesFrom (neg_ℤ (pos 1000000)) ranges.now.items.items }
+    requires piece { IsPiece (values_of ranges.now.items.items) piece }
+    ensures { result ≡ length (values_in (values_of ranges.now.items.items) piece) }
 {
-    let mut count = 0;
-    for range in meeting(ranges, piece) {
-        let part = range.trim(piece);
-        count += part.count();
-    }
-    count
+    let first = ranges.place_of(piece.low);
+    let last = ranges.place_of(piece.high);
+    last - first + 1
 }
 
 /// How many numbers lie in the pieces.
-pub(crate) fn count_by(ranges: &[Interval], pieces: &[Interval]) -> u64
-    requires { IsCut ranges.now pieces.now }
-    ensures { result ≡ length (values_by (values_of ranges.now) pieces.now) }
+pub(crate) fn count_by(ranges: &CountedRanges, pieces: &[Interval]) -> u64
+    requires { IsCut ranges.now.items.items pieces.now }
+    ensures { result ≡ length (values_by (values_of ranges.now.items.items) pieces.now) }
 {
     let mut count = 0;
     for piece in pieces {
@@ -53,29 +51,21 @@ pub(crate) fn count_by(ranges: &[Interval], pieces: &[Interval]) -> u64
 }
 
 /// The number at place `i` of a piece.
-fn nth_in(ranges: &[Interval], piece: Interval, i: u64) -> i64
-    requires apart { RangesFrom (neg_ℤ (pos 1000000)) ranges.now }
-    requires piece { IsPiece (values_of ranges.now) piece }
-    requires below { i < length (values_in (values_of ranges.now) piece) }
-    ensures { slice_get (values_in (values_of ranges.now) piece) i ≡ Some result }
+fn nth_in(ranges: &CountedRanges, piece: Interval, i: u64) -> i64
+    requires apart { RangesFrom (neg_ℤ (pos 1000000)) ranges.now.items.items }
+    requires piece { IsPiece (values_of ranges.now.items.items) piece }
+    requires below { i < length (values_in (values_of ranges.now.items.items) piece) }
+    ensures { slice_get (values_in (values_of ranges.now.items.items) piece) i ≡ Some result }
 {
-    let mut left = i;
-    for range in meeting(ranges, piece) {
-        let part = range.trim(piece);
-        let count = part.count();
-        if left < count {
-            return part.low + left as i64;
-        }
-        left -= count;
-    }
-    unreachable!()
+    let at = ranges.place_of(piece.low) + i;
+    ranges.at_place(at)
 }
 
 /// The number at place `i` of the pieces.
-pub(crate) fn nth_by(ranges: &[Interval], pieces: &[Interval], i: u64) -> i64
-    requires cut { IsCut ranges.now pieces.now }
-    requires below { i < length (values_by (values_of ranges.now) pieces.now) }
-    ensures { slice_get (values_by (values_of ranges.now) pieces.now) i ≡ Some result }
+pub(crate) fn nth_by(ranges: &CountedRanges, pieces: &[Interval], i: u64) -> i64
+    requires cut { IsCut ranges.now.items.items pieces.now }
+    requires below { i < length (values_by (values_of ranges.now.items.items) pieces.now) }
+    ensures { slice_get (values_by (values_of ranges.now.items.items) pieces.now) i ≡ Some result }
 {
     let mut left = i;
     for piece in pieces {

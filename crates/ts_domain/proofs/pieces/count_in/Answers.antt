@@ -1,30 +1,19 @@
-use Rattle.std.proofs.Common.{arith, map}
-use Rattle.ts_domain.specs.Pieces.{trim}
-use Rattle.ts_domain.proofs.PieceReads.{part_fits, few, part_more, parts_all}
+use Rattle.std.proofs.Common.{arith}
+use Rattle.ts_domain.proofs.Counts.{piece_count}
 use Rattle.ts_domain.proofs.pieces.count_in.Goals as goal
 
-pub count-count-requires-clause-from : goal.count-count-requires-clause-from
-count-count-requires-clause-from c =
-    (part_fits c.args.piece c.meeting-range-items.result.now _ _ _ c.meeting-range-items.ensures.apart c.loop-range-test.true c.trim-part.ensures).0
+pub overflow_sub-result : goal.overflow_sub-result
+overflow_sub-result c =
+    (piece_count c.args.ranges.now.items.items c.args.piece c.place_of-first.result c.place_of-last.result c.requires.apart c.requires.piece
+    c.place_of-first.ensures c.place_of-last.ensures).0
 
-pub count-count-requires-clause-ordered : goal.count-count-requires-clause-ordered
-count-count-requires-clause-ordered c =
-    (part_fits c.args.piece c.meeting-range-items.result.now _ _ _ c.meeting-range-items.ensures.apart c.loop-range-test.true c.trim-part.ensures).1
-
-pub count-count-requires-clause-to : goal.count-count-requires-clause-to
-count-count-requires-clause-to c =
-    (part_fits c.args.piece c.meeting-range-items.result.now _ _ _ c.meeting-range-items.ensures.apart c.loop-range-test.true c.trim-part.ensures).2
-
-pub overflow_add-count : goal.overflow_add-count
-overflow_add-count c =
-    let bound = few (map (trim c.args.piece) c.meeting-range-items.result.now) c.meeting-range-items.ensures.apart in
-    let more = part_more c.args.piece c.meeting-range-items.result.now _ _ _ _ _ c.loop-range-test.true c.trim-part.ensures c.count-count.ensures
-    c.loop-range.invariant in
-    omega (arith, bound, more)
-
-pub loop-range-preserved : goal.loop-range-preserved
-loop-range-preserved c =
-    part_more c.args.piece c.meeting-range-items.result.now _ _ _ _ _ c.loop-range-test.true c.trim-part.ensures c.count-count.ensures c.loop-range.invariant
+pub overflow_add-result : goal.overflow_add-result
+overflow_add-result c =
+    let small = (piece_count c.args.ranges.now.items.items c.args.piece c.place_of-first.result c.place_of-last.result c.requires.apart c.requires.piece
+    c.place_of-first.ensures c.place_of-last.ensures).1 in
+    omega (arith, small)
 
 pub returns : goal.returns
-returns c = parts_all c.args.piece c.meeting-range-items.result.now _ _ _ c.loop-range-test.false c.loop-range.invariant c.meeting-range-items.ensures.same
+returns c =
+    (piece_count c.args.ranges.now.items.items c.args.piece c.place_of-first.result c.place_of-last.result c.requires.apart c.requires.piece
+    c.place_of-first.ensures c.place_of-last.ensures).2

@@ -5,5 +5,5 @@ use Rattle.ts_domain.proofs.domain.Domain.try_clone.Goals as goal
 
 pub returns-clause-domain : goal.returns-clause-domain
 returns-clause-domain c =
-    let cut : IsCut c.in_ok-clone.field-0.value.items c.in_ok-pieces.pieces.items = search rules in
-    cut_domain c.in_ok-clone.field-0.value.items c.in_ok-pieces.pieces.items cut
+    let cut : IsCut c.in_ok-clone.field-0.value.items.items c.in_ok-pieces.pieces.items = search rules in
+    cut_domain c.in_ok-clone.field-0.value.items.items c.in_ok-pieces.pieces.items cut
