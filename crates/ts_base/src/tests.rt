@@ -11,11 +11,12 @@ use std::process::Abort;
 use std::test::Fail;
 
 /// Two cells, and their letter.
-static LETTERS: [(i64, i64, Letter); 5] = [
+static LETTERS: [(i64, i64, Letter); 6] = [
     (3, 1, Letter::Greater),
     (1, 3, Letter::Less),
     (2, 2, Letter::Equal),
     (-1, 0, Letter::Less),
+    (-3, -1, Letter::Less),
     (i64::MAX, i64::MIN, Letter::Greater),
 ];
 
@@ -42,23 +43,53 @@ static SUMS: [(Ext, Ext, Ext); 14] = [
 ];
 
 /// The ends of two spans, and those of their hull, sum, greatest and least.
-static SPANS: [[(i64, i64); 6]; 4] = [
+static SPANS: [[(i64, i64); 6]; 7] = [
     [(1, 3), (5, 9), (1, 9), (6, 12), (5, 9), (1, 3)],
     [(-2, 8), (0, 1), (-2, 8), (-2, 9), (0, 8), (-2, 1)],
     [(1, 3), (7, 5), (1, 3), NONE, NONE, NONE],
     [(2, 1), (7, 5), NONE, NONE, NONE, NONE],
+    [(4, 4), (4, 4), (4, 4), (8, 8), (4, 4), (4, 4)],
+    [
+        (LOW, LOW),
+        (-5, -3),
+        (LOW, -3),
+        (LOW, LOW),
+        (-5, -3),
+        (LOW, LOW),
+    ],
+    [
+        (-5, -3),
+        (HIGH, HIGH),
+        (-5, HIGH),
+        (HIGH, HIGH),
+        (HIGH, HIGH),
+        (-5, -3),
+    ],
 ];
 
 /// The ends that stand for the form of a span that is none.
 const NONE: (i64, i64) = (1, 0);
+
+// These stand for -inf and +inf in the ends of spans.
+const LOW: i64 = i64::MIN;
+
+const HIGH: i64 = i64::MAX;
+
+fn end(written: i64) -> Ext {
+    match written {
+        LOW => Ext::NegInf,
+        HIGH => Ext::PosInf,
+        _ => Ext::Int(written),
+    }
+}
 
 fn span(ends: (i64, i64)) -> Span {
     if ends == NONE {
         return Span::none();
     }
     Span {
-        lo: Ext::Int(ends.0),
-        hi: Ext::Int(ends.1),
+        lo: end(ends.0),
+        hi: end(ends.1),
     }
 }
 
@@ -181,6 +212,7 @@ fn lines_and_words_are_strict(rt: HostRuntime) -> Result<(), Fail> {
     assert_eq!(rt; line, b"no  1\n".as_slice());
     assert_eq!(rt; without_lf(line), Some(b"no  1".as_slice()));
     assert_eq!(rt; without_lf(rest), None);
+    assert_eq!(rt; without_lf(b"no\r\n"), Some(b"no\r".as_slice()));
 
     let words = words_of(b"no  1");
     assert_eq!(rt; words.first, b"no".as_slice());
