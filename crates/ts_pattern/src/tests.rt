@@ -16,8 +16,14 @@ fn names_terms_and_patterns(rt: HostRuntime) -> Result<(), Memory> {
     );
     assert!(rt; pattern_of(b"hill").is_none());
     assert!(rt; pattern_of(b"peaks").is_none());
+    assert!(rt; pattern_of(b"Peak").is_none());
+    assert!(rt; pattern_of(b"dip").is_none());
     assert!(rt; pattern_name(PatternId::Gorge) == b"gorge".as_slice());
     assert!(rt; feature_of(b"surf") == Some(Feature::Surf));
+    assert!(rt; feature_of(b"max") == Some(Feature::Max));
+    assert!(rt; feature_of(b"min") == Some(Feature::Min));
+    assert!(rt; feature_of(b"surface").is_none());
+    assert!(rt; aggregator_of(b"max") == Some(Aggregator::Max));
     assert!(rt; aggregator_of(b"min") == Some(Aggregator::Min));
     assert!(rt; aggregator_of(b"count").is_none());
     assert!(rt; Term::new(Aggregator::Max, Feature::One, PatternId::Peak).is_none());
