@@ -6,7 +6,7 @@ use ts_base::Letter::{Equal, Greater, Less};
 use ts_pattern::Tag::{Due, InC, InD, Loose, Young};
 use ts_transducer::Phase::{Found, FoundE, Inside, MaybeA, MaybeB, Out, OutA, OutR};
 
-static PLANS: [Small; 11] = [
+static PLANS: [Small; 12] = [
     // Closed: a residual goes by its value, whatever its number, and a configuration that isn't reached may be
     // anything.
     Small {
@@ -112,6 +112,19 @@ static PLANS: [Small; 11] = [
             (0, &[(2, Loose)]),
         ],
         refused: Some((1, Equal, &[Greater])),
+    },
+    // A held start that goes on behind the end of its range is Loose: that leads to the one with the least number.
+    Small {
+        pattern: ">=*.",
+        b: 0,
+        a: 0,
+        rows: &[
+            (Idle, (Out, 0), (Out, 0), (Found, 1)),
+            (Held, (OutA, 0), (OutA, 0), (OutA, 0)),
+        ],
+        residuals: &[(0, Greater)],
+        configurations: &[(0, &[]), (0, &[(1, Loose)]), (1, &[(1, InC)])],
+        refused: Some((1, Equal, &[Greater, Equal])),
     },
     // A match ends, and nothing is found.
     Small {
