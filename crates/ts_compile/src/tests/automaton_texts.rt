@@ -5,7 +5,7 @@ use std::test::Fail;
 use ts_automaton::{AutoStop, Way, read, write, write_head};
 
 /// The first is the automaton that adds up the widths of peaks.
-static TAKEN: [(Way, &str); 3] = [
+static TAKEN: [(Way, &str); 4] = [
     (
         Way::Forward,
         "forward\nstate s free\nstate r free\nstate t held\nstart 0 0 0\nmove s < r ; C ; D ; R\nmove s = s ; C ; D ; R\nmove s > s ; C ; D ; R\nmove r < r ; C ; add D 1 ; R\nmove r = r ; C ; add D 1 ; R\nmove r > t ; add D 1 ; 0 ; R\nmove t < r ; 0 ; 0 ; add R C\nmove t = t ; C ; add D 1 ; R\nmove t > t ; add C add D 1 ; 0 ; R\nfinish add R C same\nend\n",
@@ -17,6 +17,10 @@ static TAKEN: [(Way, &str); 3] = [
     (
         Way::Reverse,
         "reverse\nstate b free\nstate a held\nstart +inf 0 0\nmove b < a ; min C x ; 0 ; R\nmove b = b ; C ; D ; R\nmove b > b ; +inf ; D ; R\nmove a < b ; C ; D ; R\nmove a = b ; +inf ; D ; R\nmove a > a ; x ; D ; R\nfinish min C R cells\nend\n",
+    ),
+    (
+        Way::Forward,
+        "forward\nstate b free\nstate a held\nstart -inf 0 0\nmove b < a ; max C x ; 0 ; R\nmove b = a ; max y C ; 0 ; R\nmove b > b ; max C C ; D ; R\nmove a < b ; C ; D ; R\nmove a = b ; -inf ; D ; R\nmove a > a ; x ; D ; R\nfinish max C R zero\nend\n",
     ),
 ];
 

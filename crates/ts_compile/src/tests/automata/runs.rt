@@ -120,3 +120,20 @@ fn spans_under_marks(rt: HostRuntime) {
         );
     }
 }
+
+#[test]
+fn hulls_without_registers(rt: HostRuntime) {
+    let (none, one) = (Span::none(), Span::one(ZERO));
+    assert!(rt; Hull::none().is_none());
+    for (c, d, r) in [(none, one, one), (one, none, one), (one, one, none)] {
+        assert!(rt; Hull { c, d, r }.is_none());
+    }
+    assert!(rt;
+        !Hull {
+            c: one,
+            d: one,
+            r: one
+        }
+        .is_none()
+    );
+}
