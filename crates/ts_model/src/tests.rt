@@ -9,7 +9,7 @@ use ts_base::Ext;
 use ts_token::cut_tokens;
 
 /// A need, a text, and `ok` or the line and kind of its refusal.
-static MODELS: [(Need, &str, &str); 133] = [
+static MODELS: [(Need, &str, &str); 138] = [
     // taken
     (Need::Values, "cells 3\n", "ok"),
     (Need::Values, "# no\n\n \t\ncells 512", "ok"),
@@ -100,6 +100,7 @@ static MODELS: [(Need, &str, &str); 133] = [
     (Need::Values, "term a = sum width peak peak\n", "1 Shape"),
     (Need::Values, "term a : sum width peak\n", "1 Shape"),
     (Need::Values, "term A = sum width peak\n", "1 Shape"),
+    (Need::Values, "term aB = count peak\n", "1 Shape"),
     (Need::Values, "term 1a = count peak\n", "1 Shape"),
     (Need::Values, "term _a = count peak\n", "1 Shape"),
     (Need::Values, "term a <= sum width peak\n", "1 Shape"),
@@ -111,6 +112,9 @@ static MODELS: [(Need, &str, &str); 133] = [
         "1 Shape",
     ),
     (Need::Values, "require a => 1\n", "1 Shape"),
+    (Need::Values, "require a =< 1\n", "1 Shape"),
+    (Need::Values, "require a => x\n", "1 Shape"),
+    (Need::Values, "require A <= x\n", "1 Shape"),
     (Need::Values, "require a == 1\n", "1 Shape"),
     (Need::Values, "require a <> 1\n", "1 Shape"),
     (Need::Values, "require a = 1 2\n", "1 Shape"),
@@ -181,6 +185,11 @@ static MODELS: [(Need, &str, &str); 133] = [
     (
         Need::Values,
         "cells 3\nterm m = max area peak\n",
+        "2 UnknownName",
+    ),
+    (
+        Need::Values,
+        "cells 3\nterm m = max surface peak\n",
         "2 UnknownName",
     ),
     (
@@ -335,7 +344,7 @@ static MODELS: [(Need, &str, &str); 133] = [
 ];
 
 /// A text, a number of cells, and the answer.
-static SERIES: [(&str, u32, &str); 19] = [
+static SERIES: [(&str, u32, &str); 20] = [
     ("series 1 2\n", 2, "Ok([1, 2])"),
     (
         "# a\n\n\tseries  -1000000 1000000",
@@ -353,6 +362,7 @@ static SERIES: [(&str, u32, &str); 19] = [
     ("series 1 -1000001\n", 2, "Err(Number)"),
     ("row 1 2\n", 2, "Err(Shape)"),
     ("row x\n", 2, "Err(Shape)"),
+    ("1 2\n", 2, "Err(Shape)"),
     ("series1 2 3\n", 2, "Err(Shape)"),
     ("", 2, "Err(Shape)"),
     ("# series 1 2\n", 2, "Err(Shape)"),
@@ -376,11 +386,12 @@ static DOMAINS: [(&str, &str); 7] = [
 ];
 
 /// Values and bounds, each below those after it.
-static RISING: [Ext; 6] = [
+static RISING: [Ext; 7] = [
     Ext::NegInf,
     Ext::Int(-1_000_000_000_000),
     Ext::Int(-3),
     Ext::Int(0),
+    Ext::Int(3),
     Ext::Int(4),
     Ext::PosInf,
 ];
