@@ -10,7 +10,7 @@ use ts_token::cut_tokens;
 /// A model, the text of its program, and the values of its terms on 1 3 3 2 2 1 4.
 type Case = (&'static str, &'static str, &'static [Ext]);
 
-static CASES: [Case; 4] = [
+static CASES: [Case; 5] = [
     ("cells 7\n", "", &[]),
     (
         "cells 7\nterm c = count decreasing\n",
@@ -49,6 +49,15 @@ static CASES: [Case; 4] = [
          move s > s ; C ; D ; R\nmove r < s ; +inf ; 0 ; min R C\nmove r = r ; add C add D 1 ; 0 ; R\n\
          move r > s ; +inf ; 0 ; min R C\nfinish min R C cells\nend\nglue 0 add 1\njoin r r\nend\n",
         &[Ext::NegInf, Ext::Int(2)],
+    ),
+    (
+        "cells 7\nterm m = max min increasing\n",
+        "term m max min increasing\nforward\nstate s free\nstart -inf +inf -inf\n\
+         move s < s ; C ; +inf ; max R min min D x y\nmove s = s ; C ; D ; R\nmove s > s ; C ; D ; R\n\
+         finish max R C same\nend\nreverse\nstate s free\nstart -inf +inf -inf\nmove s < s ; C ; D ; R\n\
+         move s = s ; C ; D ; R\nmove s > s ; C ; +inf ; max R min min D x y\nfinish max R C same\nend\n\
+         glue 0 min x\nend\n",
+        &[Ext::Int(1)],
     ),
 ];
 
