@@ -1,4 +1,5 @@
-//! Models and the texts of their certificates, worked out by hand.
+//! Models and the texts of their certificates: worked out by hand, and behind the first ones by a program that follows
+//! the definitions, each of a choice that a tree leaves by no other row.
 
 /// What is asked for: the words of a command without its budget.
 #[derive(Clone, Copy, Debug, PartialEq, Eq)]
@@ -13,7 +14,7 @@ pub type Row = (Asked, u64, &'static str, &'static str);
 
 const ONE_PEAK: &str = "cells 3\ndomain 0..1\nterm c = count peak\nobjective c\n";
 
-static ROWS: [Row; 11] = [
+static ROWS: [Row; 21] = [
     (
         Asked::Maximise,
         100_000,
@@ -81,6 +82,88 @@ static ROWS: [Row; 11] = [
         100_000,
         "cells 1\ndomain 2 5 9\n",
         "generate 3\nfull 3\nseries 2\nseries 5\nseries 9\nsplit 1 5\nsplit 1 2\nyes\nyes\nyes\nend 5 0\n",
+    ),
+    // a requirement is refuted at inner cells alone: the least of them
+    (
+        Asked::Maximise,
+        100_000,
+        "cells 4\ncell 1 0\ncell 2 1 2\ncell 3 0 2\ncell 4 3\nterm a = sum width increasing_sequence\n\
+         require a >= 7\nobjective a\n",
+        "maximise\ninfeasible\nno 1 1\nend 1 0\n",
+    ),
+    // and of the requirements the least, though the other is refuted at a cell before
+    (
+        Asked::Minimise,
+        100_000,
+        "cells 4\ncell 1 0\ncell 2 1 2\ncell 3 0 2\ncell 4 3\nterm a = sum width increasing_sequence\n\
+         require a >= 6\nrequire a >= 7\nobjective a\n",
+        "minimise\ninfeasible\nno 1 2\nend 1 0\n",
+    ),
+    // a listing asks the inner cells too
+    (
+        Asked::Generate(1),
+        100_000,
+        "cells 4\ncell 1 0\ncell 2 1 2\ncell 3 0 2\ncell 4 3\nterm a = sum width increasing_sequence\n\
+         require a >= 6\n",
+        "generate 1\nall 0\nno 1 2\nend 1 0\n",
+    ),
+    // of the requirements that are refuted at the last cell the least
+    (
+        Asked::Minimise,
+        100_000,
+        "cells 4\ncell 1 2 3\ncell 2 2 3\ncell 3 0 3\ncell 4 0 2\nterm a = min max plain\nrequire a = 3\n\
+         require a < 2\nrequire a >= 3\nobjective a\n",
+        "minimise\ninfeasible\ndrop 3 3 2\ndrop 4 0 1\nno 1 4\nend 3 0\n",
+    ),
+    // a drop by the second requirement before one by the first, since its value is less
+    (
+        Asked::Maximise,
+        100_000,
+        "cells 4\ncell 1 1 2 3\ncell 2 1 3\ncell 3 1\ncell 4 0\nterm a = min max plateau\n\
+         term b = sum surf increasing\nrequire b < 1\nrequire a < 4\nobjective a\n",
+        "maximise\ninfeasible\ndrop 1 3 2\ndrop 2 1 2\nno 1 4\nend 3 0\n",
+    ),
+    // and the drop of a lesser value later, since its cell is greater
+    (
+        Asked::Minimise,
+        100_000,
+        "cells 4\ncell 1 1 3\ncell 2 0 1 2\ncell 3 1 3\ncell 4 0 1 2 3\nterm a = min max peak\n\
+         term b = max max increasing\nrequire a < 4\nrequire b <= 0\nobjective b\n",
+        "minimise\ninfeasible\ndrop 2 0 2\ndrop 3 3 2\ndrop 1 3 1\ndrop 2 1 1\nno 2 4\nend 5 0\n",
+    ),
+    // and one by the last requirement first, since its cell is less
+    (
+        Asked::Generate(1),
+        2,
+        "cells 4\ncell 1 1\ncell 2 1 2\ncell 3 0 1 3\ncell 4 0 1 2 3\nterm a = min surf steady_sequence\n\
+         term b = min max peak\nrequire a != 1\nrequire a = 1\nrequire b < 3\nobjective b\n",
+        "generate 1\nbudget 0\ndrop 2 1 3\ndrop 3 1 2\nopen\nend 2 1\n",
+    ),
+    // a box that can't be as good is refuted before it is worse
+    (
+        Asked::Maximise,
+        100_000,
+        "cells 4\ncell 1 0 1 2 3\ncell 2 2\ncell 3 0 1\ncell 4 0\nterm a = max min inflexion\n\
+         term b = count zigzag\nrequire a >= 2\nobjective b\n",
+        "maximise\nbest 0\nseries 0 2 0 0\nsplit 1 1\nsplit 1 0\nsplit 3 0\nworse 4\nworse 4\nworse 4\n\
+         no 1 4\nend 7 0\n",
+    ),
+    // the found series is named, and not that of the dive, which is as good
+    (
+        Asked::Maximise,
+        4,
+        "cells 3\ncell 1 0 3\ncell 2 0 1\ncell 3 0 3\nterm a = max max summit\nrequire a <= 0\n\
+         require a <= 2\nobjective a\n",
+        "maximise\nbudget -inf\nseries 0 0 0\nsplit 1 0\nsplit 2 0\nsplit 3 0\nworse 3\nopen\nopen\nopen\n\
+         end 4 3\n",
+    ),
+    // the dive makes drops before it keeps a value
+    (
+        Asked::Minimise,
+        1,
+        "cells 2\ncell 1 0 1 2 3\ncell 2 1\nterm a = min min decreasing\n\
+         term b = min width increasing_sequence\nrequire b < 4\nrequire a <= 1\nobjective b\n",
+        "minimise\nbudget 2\nseries 2 1\ndrop 1 0 2\nopen\nend 1 1\n",
     ),
 ];
 
