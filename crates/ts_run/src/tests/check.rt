@@ -4,7 +4,7 @@ use super::{Case, outcome};
 use crate::Status;
 use std::test::Fail;
 
-static CASES: [Case; 35] = [
+static CASES: [Case; 36] = [
     Case {
         input: b"cells 7\ndomain 0..9\nterm w = sum width peak\n%%\nseries 1 3 3 2 2 1 4\n",
         taken: b"meets\nvalue w 4\n",
@@ -87,6 +87,12 @@ static CASES: [Case; 35] = [
     },
     Case {
         input: b"cells 2\n%%\nseries 1\n",
+        taken: b"refused series length\n",
+        status: Status::Refused,
+    },
+    // more values in all domains than a search may have
+    Case {
+        input: b"cells 512\ndomain 0..128\n%%\nseries 1\n",
         taken: b"refused series length\n",
         status: Status::Refused,
     },

@@ -5,7 +5,7 @@
 use super::Case;
 use crate::Status;
 
-static READINGS: [Case; 39] = [
+static READINGS: [Case; 40] = [
     // no: the model's box is asked, not the one that waits
     // no: not under `best` and `budget V`
     // split: not where a drop is possible
@@ -103,6 +103,12 @@ static READINGS: [Case; 39] = [
     // worse: under `budget none` too
     Case {
         input: b"cells 1\ncell 1 1\nterm t0 = sum one increasing\nobjective t0\n%%\nminimise\nbudget none\nworse 1\nend 1 0\n",
+        taken: b"rejected line 3\n",
+        status: Status::No,
+    },
+    // worse: under `budget none` as if nothing were better than +inf
+    Case {
+        input: b"cells 1\ncell 1 1\nterm t0 = sum one increasing\nobjective t0\n%%\nmaximise\nbudget none\nworse 1\nend 1 0\n",
         taken: b"rejected line 3\n",
         status: Status::No,
     },

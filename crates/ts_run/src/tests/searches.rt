@@ -115,7 +115,7 @@ fn answers_of_searches(rt: HostRuntime) -> Result<(), Fail> {
     Ok(())
 }
 
-static NO_COMMANDS: [&str; 19] = [
+static NO_COMMANDS: [&str; 20] = [
     "maximise --budget 0",
     "maximise --budget 01",
     "maximise --budget 4000001",
@@ -132,6 +132,7 @@ static NO_COMMANDS: [&str; 19] = [
     "generate --budget 3",
     "generate 3 4",
     "Maximise",
+    "maximize",
     "minimize",
     "check --budget 1",
     "compile 1",
