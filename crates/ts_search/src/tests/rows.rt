@@ -14,7 +14,7 @@ pub type Row = (Asked, u64, &'static str, &'static str);
 
 const ONE_PEAK: &str = "cells 3\ndomain 0..1\nterm c = count peak\nobjective c\n";
 
-static ROWS: [Row; 21] = [
+static ROWS: [Row; 22] = [
     (
         Asked::Maximise,
         100_000,
@@ -147,6 +147,15 @@ static ROWS: [Row; 21] = [
          term b = count zigzag\nrequire a >= 2\nobjective b\n",
         "maximise\nbest 0\nseries 0 2 0 0\nsplit 1 1\nsplit 1 0\nsplit 3 0\nworse 4\nworse 4\nworse 4\n\
          no 1 4\nend 7 0\n",
+    ),
+    // the same at inner cells, where the upper side is both
+    (
+        Asked::Maximise,
+        100_000,
+        "cells 5\ncell 1 0 3\ncell 2 1\ncell 3 2\ncell 4 0 2\ncell 5 1 3\nterm a = sum width increasing_sequence\n\
+         require a >= 5\nobjective a\n",
+        "maximise\nbest 5\nseries 0 1 2 0 1\nsplit 1 0\nsplit 4 0\nsplit 5 1\nworse 5\nworse 5\nworse 5\nno 1 3\n\
+         end 7 0\n",
     ),
     // the found series is named, and not that of the dive, which is as good
     (
