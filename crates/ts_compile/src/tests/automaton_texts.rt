@@ -24,7 +24,7 @@ static TAKEN: [(Way, &str); 4] = [
     ),
 ];
 
-static REFUSED: [(&str, AutoStop); 57] = [
+static REFUSED: [(&str, AutoStop); 58] = [
     // nothing
     ("", AutoStop::Text(1)),
     // head lines
@@ -202,6 +202,10 @@ static REFUSED: [(&str, AutoStop); 57] = [
     (
         "forward\nstate s free\nstate r free\nstate t held\nstart -inf 0 0\nmove s < r ; C ; D ; R\nmove s = s ; C ; D ; R\nmove s > s ; C ; D ; R\nmove r < r ; C ; add D 1 ; R\nmove r = r ; C ; add D 1 ; R\nmove r > t ; C ; 0 ; R\nmove t < r ; 0 ; 0 ; add R C\nmove t = t ; C ; add D 1 ; R\nmove t > t ; add C add D 1 ; 0 ; R\nfinish add R C same\nend\n",
         AutoStop::Typing(11),
+    ),
+    (
+        "forward\nstate s free\nstart +inf 0 0\nmove s < s ; max C x ; D ; R\nmove s = s ; C ; D ; R\nmove s > s ; C ; D ; R\nfinish R same\nend\n",
+        AutoStop::Typing(4),
     ),
     // cells and kinds in the finish line
     (
