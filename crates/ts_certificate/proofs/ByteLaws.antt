@@ -30,7 +30,7 @@ mapped : (ls : List CertLine) → length (map line_text ls) ≡ length ls
 mapped [] = refl
 mapped (l ∷ ls) = ap suc (mapped ls)
 
-lines_count : (c : Cert) → length (cert_lines c) ≡ length c.series + length c.tree + 3
+pub lines_count : (c : Cert) → length (cert_lines c) ≡ length c.series + length c.tree + 3
 lines_count c =
     let e = length-append (map SaysSeries c.series) (map SaysTree c.tree ++ end_line c.tree ∷ []) in
     let f = length-append (map SaysTree c.tree) (end_line c.tree ∷ []) in

@@ -10,7 +10,7 @@ pub use Rattle.ts_certificate.proofs.LineLaws.{line_of_only, line_of_again}
 pub use Rattle.ts_certificate.proofs.StopLaws.{line_is, one_line}
 pub use Rattle.ts_certificate.proofs.ReadingLaws.{at_line, AreRead, moved_few, reading_is, lines_again}
 pub use Rattle.ts_certificate.proofs.CertificateLaws.{Runs, runs_from, runs_give, certificate_runs, runs_certificate}
-pub use Rattle.ts_certificate.proofs.ByteLaws.{lines_cut, written_read, read_written, one_value, first_told, missing_end, stop_kept}
+pub use Rattle.ts_certificate.proofs.ByteLaws.{lines_cut, lines_count, written_read, read_written, one_value, first_told, missing_end, stop_kept}
 pub use Rattle.ts_certificate.proofs.SizeLaws.{checked_short, text_short, text_fits}
 
 -- a line more moves the number by one at most

@@ -16,7 +16,7 @@ use Rattle.ts_glue.specs.Pairs.{Pair}
 use Rattle.ts_glue.specs.Glue.{is_join, result_op}
 use Rattle.ts_glue.specs.Rules.{has_trim, is_same_op, gives_result, has_results, is_neutral, starts_neutral, has_join_states, starts_apart, glue_kind, has_typed_joins, keeps_rules}
 
-same_op_is : (o p : Op) → is_same_op o p ≡ true → o ≡ p
+pub same_op_is : (o p : Op) → is_same_op o p ≡ true → o ≡ p
 same_op_is Add Add h = refl
 same_op_is Add Max h = cc
 same_op_is Add Min h = cc

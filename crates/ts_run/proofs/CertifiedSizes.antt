@@ -2,7 +2,6 @@
 use Rattle.std.proofs.Common.{◌≡◌, ℕ, ◌+◌, ◌^◌, ◌<◌, ◌≤◌, ℤ, Bool, true, false, cond, List, [], ◌∷◌, ◌++◌, length, length-append, map, Some, Ok, refl, sym, ◌∙◌, ap, subst, arith}
 use Rattle.std.proofs.lemmas.Bool.{and_from, le-leb}
 use Rattle.std.specs.List.{AllByRecursion, list_all}
-use Rattle.std.proofs.lemmas.List.{length-map}
 use Rattle.std.specs.Prelude.{codes, nat_le, unwrap_or}
 use Rattle.ts_base.specs.declared.ext.Ext.{Ext}
 use Rattle.ts_base.specs.declared.goal.Goal.{Goal}
@@ -15,13 +14,13 @@ use Rattle.ts_certificate.specs.declared.certificate.Claim.TheVariants.{Best, In
 use Rattle.ts_certificate.specs.declared.certificate.TreeLine.{TreeLine}
 use Rattle.ts_certificate.specs.declared.certificate.TreeLine.TheVariants.{Split, Remove, No, Worse, Yes, Unsearched}
 use Rattle.ts_certificate.specs.declared.state.State.TheVariants.{Start, AfterEnd}
-use Rattle.ts_certificate.specs.Certificate.{Cert, IsCertificate, cert_lines, certificate_text, checked_count, end_line, open_count}
-use Rattle.ts_certificate.specs.Grammar.{SaysSeries, SaysTree, series_count}
+use Rattle.ts_certificate.specs.Certificate.{Cert, IsCertificate, cert_lines, certificate_text, checked_count, open_count}
+use Rattle.ts_certificate.specs.Grammar.{series_count}
 use Rattle.ts_certificate.specs.HeadLines.{is_aim, is_claim, is_series}
 use Rattle.ts_certificate.specs.Laws.{IsWithinLimits, most_checked, most_model_bytes}
 use Rattle.ts_certificate.specs.Ranges.{is_ext, is_listed, is_value}
 use Rattle.ts_certificate.specs.TreeLines.{is_tree_line}
-use Rattle.ts_certificate.proofs.CallerLemmas.{certificate_runs, lines_cut, runs_give, text_fits, written_read}
+use Rattle.ts_certificate.proofs.CallerLemmas.{certificate_runs, lines_count, lines_cut, runs_give, text_fits, written_read}
 use Rattle.ts_domain.specs.BoxSeries.{InBox, IsBox}
 use Rattle.ts_domain.proofs.Sets.{each_contains, le_true}
 use Rattle.ts_model.specs.declared.model.Need.{Need}
@@ -245,14 +244,6 @@ list_sent m count budget c whole limits wanted asked h =
     (omega (arith, lines, most)) (omega (arith, open_few, total)) (omega (arith, many, up))
 
 -- the lines of its text
-
-lines_count : (c : Cert) → length (cert_lines c) ≡ length c.series + length c.tree + 3
-lines_count c =
-    let all = length-append (map SaysSeries c.series) (map SaysTree c.tree ++ end_line c.tree ∷ []) in
-    let rest = length-append (map SaysTree c.tree) (end_line c.tree ∷ []) in
-    let series = length-map c.series SaysSeries in
-    let tree = length-map c.tree SaysTree in
-    omega (arith, all, rest, series, tree)
 
 pub lines_are_of : (c : Cert) → IsSent c → AreOf (strict_lines (certificate_text c)) c
 lines_are_of c s =
