@@ -165,17 +165,10 @@ module _ (m : Stated) (s : Spans) (goal : Goal) where
       keep_inside all n (suc k) (keep_one m s goal k b) (omega arith) (omega (arith, l))
       (dropped_part m s all (only k v b) (only_part k v b all i cell there))
 
-  -- where a requirement is refuted, no series that is left meets
-  pub dive_early : IsSound m s → (j p : ℕ) (b : Box) → IsPart b m.cells → IsRefuted m.requirements s j p b → (n k : ℕ) → 1 ≤ k → k + n ≤ length m.cells + 1 →
-      dive_end m (form (keep_from m s goal n k b)) ≡ None
-  dive_early sound j p b i r n k f l = go (form d) refl
+  -- where a requirement is refuted on a box, no series of a box inside meets
+  pub none_inside : IsSound m s → (j p : ℕ) (b d : Box) → IsPart b m.cells → IsRefuted m.requirements s j p b → IsPart d b → dive_end m (form d) ≡ None
+  none_inside sound j p b d i r in_b = go (form d) refl
     where
-      d : Box
-      d = keep_from m s goal n k b
-
-      in_b : IsPart d b
-      in_b = keep_inside b n k b f (omega (arith, l, inside_length b m.cells i.inside)) (part_self b i.box)
-
       never : (x : List ℤ) → InBox x d → is_met m x ≡ true → ⊥
       never x within q =
           let here = in_box_inside d b x in_b.inside within in
@@ -189,3 +182,9 @@ module _ (m : Stated) (s : Spans) (goal : Goal) where
             | true ↦ λ q. absurd (never x (alone_within b d x in_b e) q)
             | false ↦ λ q. refl
           ] refl
+
+  pub dive_early : IsSound m s → (j p : ℕ) (b : Box) → IsPart b m.cells → IsRefuted m.requirements s j p b → (n k : ℕ) → 1 ≤ k → k + n ≤ length m.cells + 1 →
+      dive_end m (form (keep_from m s goal n k b)) ≡ None
+  dive_early sound j p b i r n k f l =
+      let left = keep_inside b n k b f (omega (arith, l, inside_length b m.cells i.inside)) (part_self b i.box) in
+      none_inside sound j p b (keep_from m s goal n k b) i r left

@@ -8,7 +8,7 @@ use Rattle.std.specs.Prelude.{Contains, is_some, int_le, int_lt, neg_ℤ, not, �
 use Rattle.ts_base.specs.Limits.{IsCellValue}
 use Rattle.ts_base.specs.declared.ext.Ext.{Ext}
 use Rattle.ts_base.specs.declared.goal.Goal.{Goal}
-use Rattle.ts_domain.specs.BoxSeries.{InBox, IsBox}
+use Rattle.ts_domain.specs.BoxSeries.{IsBox}
 use Rattle.ts_domain.specs.Kept.{values_up_to, values_above, values_without}
 use Rattle.ts_domain.specs.Values.{Rising}
 use Rattle.ts_domain.proofs.BoxLaws.{contains_up_to, length-without, some_stay}
@@ -16,23 +16,21 @@ use Rattle.ts_domain.proofs.Sets.{contains_cons, each_contains, filter_none, not
 use Rattle.ts_model.specs.Judgement.{all_hold, holdings, insides, is_met}
 use Rattle.ts_model.specs.Meets.{values_on}
 use Rattle.ts_model.specs.Stated.{Stated, total_of}
-use Rattle.ts_model.proofs.MeetsLaw.{judged_is_met}
 use Rattle.ts_filter.specs.Boxes.{Box, HasCell, values_at, low_side, high_side, only, without, IsPart}
 use Rattle.ts_filter.specs.Laws.{IsSound}
 use Rattle.ts_filter.specs.RefutedWorseDrop.{Spans, IsRefuted, IsDrop}
-use Rattle.ts_filter.proofs.BoxParts.{place, domain_at, in_box_inside, inside_length, others_stay, part_self}
+use Rattle.ts_filter.proofs.BoxParts.{place, domain_at, inside_length, others_stay, part_self}
 use Rattle.ts_frontier.specs.Halve.{IsHalving}
 use Rattle.ts_search.specs.Dive.{Find, find, value_of, kept_value, keep_from, dive_end, dive}
 use Rattle.ts_search.specs.Drops.{Removal, next_drop, drops, dropped}
-use Rattle.ts_search.specs.Forms.{Form, Alone, Wide, form}
+use Rattle.ts_search.specs.Forms.{Alone, form}
 use Rattle.ts_search.specs.LineOf.{Search, last, refuted, refuted_last, requirements}
 use Rattle.ts_search.specs.Views.{IsSettled}
 use Rattle.ts_search.proofs.Choice.{drop_fits, DropFits, least_fits, LeastFits}
 use Rattle.ts_search.proofs.CodeLines.{halving_form}
-use Rattle.ts_search.proofs.DiveLaws.{keep_inside, kept_in, kept_part}
+use Rattle.ts_search.proofs.DiveLaws.{keep_inside, kept_in, kept_part, none_inside}
 use Rattle.ts_search.proofs.DropLaws.{drop_part, dropped_part}
 use Rattle.ts_search.proofs.Known.{to_refuted}
-use Rattle.ts_search.proofs.Parts.{alone_within, series_length}
 
 -- drops
 
@@ -108,27 +106,10 @@ within_cells k end n below is = omega (arith, below, is)
 -- or a requirement is refuted: no series that is left meets
 
 module _ (m : Stated) (s : Spans) (goal : Goal) (sound : IsSound m s) where
-  none_inside : (j p : ℕ) (b d : Box) → IsPart b m.cells → IsRefuted m.requirements s j p b → IsPart d b → dive_end m (form d) ≡ None
-  none_inside j p b d i r in_b = go (form d) refl
-    where
-      never : (x : List ℤ) → InBox x d → is_met m x ≡ true → ⊥
-      never x within q =
-          let here = in_box_inside d b x in_b.inside within in
-          let all = in_box_inside b m.cells x i.inside here in
-          sound.refuted j p b x i r here ((judged_is_met m x (series_length x m.cells all)).0 q)
-
-      go : (g : Form) → form d ≡ g → dive_end m g ≡ None
-      go (Wide first t) e = refl
-      go (Alone x) e =
-          elim (is_met m x) as (λ t. is_met m x ≡ t → cond t (Some (find m x)) None ≡ None) [
-            | true ↦ λ q. absurd (never x (alone_within b d x in_b e) q)
-            | false ↦ λ q. refl
-          ] refl
-
   refuted_end : (j p : ℕ) (b : Box) → IsPart b m.cells → IsRefuted m.requirements s j p b → (n k : ℕ) → 1 ≤ k → k + n ≤ length m.cells + 1 →
       dive_end m (form (keep_from m s goal n k (dropped m s b))) ≡ None
   refuted_end j p b i r n k f l =
-      none_inside j p b (keep_from m s goal n k (dropped m s b)) i r
+      none_inside m s goal sound j p b (keep_from m s goal n k (dropped m s b)) i r
       (keep_inside m s goal b n k (dropped m s b) f (omega (arith, l, inside_length b m.cells i.inside)) (dropped_part m s b b (part_self b i.box)))
 
 pub settled_early : (c : Search) (goal : Goal) → IsSound c.model c.spans → (before after : Box) (n k : ℕ) → 1 ≤ k → k + n ≤ length c.model.cells + 1 →
