@@ -5,7 +5,7 @@ ghost use Rattle.ts_run.specs.AnswerTexts.{BestReply};
 ghost use Rattle.ts_run.specs.Replies.{Gives};
 
 use crate::certified::certified;
-use crate::model_part::model_of;
+use crate::parts::model_of;
 use crate::quantity::Budget;
 use crate::reply::{Reply, Stop};
 use std::alloc::Global;

@@ -6,7 +6,7 @@ ghost use Rattle.ts_model.specs.Views.{stated};
 ghost use Rattle.ts_run.specs.AnswerTexts.{CheckReply, SeriesReply};
 ghost use Rattle.ts_run.specs.Replies.{Gives};
 
-use crate::model_part::{model_of, series_of};
+use crate::parts::{model_of, series_of};
 use crate::reply::{Reply, Stop};
 use crate::verdict::verdict;
 use std::alloc::Global;

@@ -4,7 +4,7 @@ ghost use Rattle.std.specs.Prelude.{ℕ, ◌<◌, length};
 ghost use Rattle.ts_run.specs.AnswerTexts.{CompileReply};
 ghost use Rattle.ts_run.specs.Replies.{Gives};
 
-use crate::model_part::model_of;
+use crate::parts::model_of;
 use crate::reply::{Reply, Stop};
 use crate::status::Status;
 use std::alloc::Global;

@@ -26,7 +26,7 @@ mod compile;
 mod generate;
 mod intake;
 mod laws;
-mod model_part;
+mod parts;
 mod quantity;
 mod refusal;
 mod reply;
