@@ -11,3 +11,4 @@ pub mod Sample
 pub mod SampleModel
 pub mod Verdict
 pub mod Verified
+pub mod Well

@@ -1,11 +1,11 @@
 //! The top call.
 
-ghost use Rattle.std.specs.Prelude.{ℕ, ◌≡◌, ◌≢◌, ◌<◌, ◌≤◌, ◌⊎◌, IsTrue, IfSome, []};
-ghost use Rattle.ts_base.specs.Outside.{Rose, one_more};
-ghost use Rattle.ts_run.specs.AnswerTexts.{IsReply, fault_read};
+ghost use Rattle.std.specs.Prelude.{◌≡◌, ◌≢◌, ◌<◌, IfSome, []};
+ghost use Rattle.ts_run.specs.AnswerTexts.{IsReply};
 ghost use Rattle.ts_run.specs.Commands.{command_of, words_in};
 ghost use Rattle.ts_run.specs.Endings.{CallEnds, CallSpares, CallTakes, Tells, TellsUnread, WholeEnds, WholeTakes};
-ghost use Rattle.ts_run.specs.Reply.{EndsWith, EndsWritten, TellsNoFault};
+ghost use Rattle.ts_run.specs.Reply.{EndsWith};
+ghost use Rattle.ts_run.specs.Well.{ReadsWell, WritesWell};
 
 use crate::command::{Command, Input};
 use crate::intake::Respond;
@@ -38,21 +38,10 @@ pub fn run<S: Source, K: Sink>(
     ensures tells_unread { TellsUnread (command_of (words_in words.now.items))
         (K.taken sink.old) (K.taken sink.new) result }
 
-    // A fault is told only where one was counted, and none is passed over.
-    ensures read_fault { result ≡ Status.ReadFault → Rose (S.source_faults source.old) (S.source_faults source.new) }
-    ensures read_broken { result ≡ Status.ReadFault → IsTrue (S.source_broken source.new) }
-    ensures calm_read { TellsNoFault result → S.source_faults source.new ≡ S.source_faults source.old }
-    ensures write_fault { result ≡ Status.WriteFault → Rose (K.sink_faults sink.old) (K.sink_faults sink.new) }
-    ensures write_broken { result ≡ Status.WriteFault → IsTrue (K.sink_broken sink.new) }
-    ensures calm_write { EndsWritten result → K.sink_faults sink.new ≡ K.sink_faults sink.old }
-
-    // What was written is finished, once.
-    ensures done { EndsWritten result → IsTrue (K.finished sink.new) }
-    ensures once { EndsWritten result → K.finishes sink.new ≡ one_more (K.finishes sink.old) }
-
+    // A fault is told only where one was counted, none is passed over, and what was written is finished, once.
+    ensures reads { ReadsWell S.source_faults S.source_broken source.old source.new result }
+    ensures writes { WritesWell K.sink_faults K.sink_broken K.finished K.finishes sink.old sink.new result }
     ensures memory { result ≡ Status.Memory → CallSpares (command_of (words_in words.now.items)) sink.old sink.new }
-    ensures reads_later { S.source_faults source.old ≤ S.source_faults source.new }
-    ensures writes_later { K.sink_faults sink.old ≤ K.sink_faults sink.new }
 {
     let Some(command) = Command::of(words) else {
         return write_reply(sink, b"refused words\n", Status::Refused);
@@ -67,16 +56,8 @@ pub fn run<S: Source, K: Sink>(
 fn run_unread<K: Sink>(alloc: Global, command: &Command, sink: &mut K) -> Status
     ensures ends { EndsWith (IsReply command.now []) (K.taken sink.old) (K.taken sink.new) result }
     ensures reads { result ≢ Status.ReadFault }
-
-    ensures write_fault { result ≡ Status.WriteFault → Rose (K.sink_faults sink.old) (K.sink_faults sink.new) }
-    ensures write_broken { result ≡ Status.WriteFault → IsTrue (K.sink_broken sink.new) }
-    ensures calm_write { EndsWritten result → K.sink_faults sink.new ≡ K.sink_faults sink.old }
-
-    ensures done { EndsWritten result → IsTrue (K.finished sink.new) }
-    ensures once { EndsWritten result → K.finishes sink.new ≡ one_more (K.finishes sink.old) }
-
+    ensures writes { WritesWell K.sink_faults K.sink_broken K.finished K.finishes sink.old sink.new result }
     ensures memory { result ≡ Status.Memory → sink.new ≡ sink.old }
-    ensures writes_later { K.sink_faults sink.old ≤ K.sink_faults sink.new }
 {
     match reply_to(alloc, command, b"") {
         Ok(reply) => write_reply(sink, &reply.text, reply.status),
@@ -98,19 +79,9 @@ fn run_whole<S: Source, K: Sink>(
         (S.source_faults source.old) (S.source_faults source.new) (K.taken sink.old) (K.taken sink.new) result }
     ensures takes { WholeTakes limit (S.left source.old) (S.left source.new) result }
 
-    ensures read_fault { result ≡ Status.ReadFault → Rose (S.source_faults source.old) (S.source_faults source.new) }
-    ensures read_broken { result ≡ Status.ReadFault → IsTrue (S.source_broken source.new) }
-    ensures calm_read { TellsNoFault result → S.source_faults source.new ≡ S.source_faults source.old }
-    ensures write_fault { result ≡ Status.WriteFault → Rose (K.sink_faults sink.old) (K.sink_faults sink.new) }
-    ensures write_broken { result ≡ Status.WriteFault → IsTrue (K.sink_broken sink.new) }
-    ensures calm_write { EndsWritten result → K.sink_faults sink.new ≡ K.sink_faults sink.old }
-
-    ensures done { EndsWritten result → IsTrue (K.finished sink.new) }
-    ensures once { EndsWritten result → K.finishes sink.new ≡ one_more (K.finishes sink.old) }
-
+    ensures reads { ReadsWell S.source_faults S.source_broken source.old source.new result }
+    ensures writes { WritesWell K.sink_faults K.sink_broken K.finished K.finishes sink.old sink.new result }
     ensures memory { result ≡ Status.Memory → sink.new ≡ sink.old }
-    ensures reads_later { S.source_faults source.old ≤ S.source_faults source.new }
-    ensures writes_later { K.sink_faults sink.old ≤ K.sink_faults sink.new }
 {
     match *command {
         Command::Verify => run_into(alloc, command, Verifying::new(alloc), limit, source, sink),
@@ -134,19 +105,9 @@ fn run_into<I: Respond, S: Source, K: Sink>(
         (S.source_faults source.old) (S.source_faults source.new) (K.taken sink.old) (K.taken sink.new) result }
     ensures takes { WholeTakes limit (S.left source.old) (S.left source.new) result }
 
-    ensures read_fault { result ≡ Status.ReadFault → Rose (S.source_faults source.old) (S.source_faults source.new) }
-    ensures read_broken { result ≡ Status.ReadFault → IsTrue (S.source_broken source.new) }
-    ensures calm_read { TellsNoFault result → S.source_faults source.new ≡ S.source_faults source.old }
-    ensures write_fault { result ≡ Status.WriteFault → Rose (K.sink_faults sink.old) (K.sink_faults sink.new) }
-    ensures write_broken { result ≡ Status.WriteFault → IsTrue (K.sink_broken sink.new) }
-    ensures calm_write { EndsWritten result → K.sink_faults sink.new ≡ K.sink_faults sink.old }
-
-    ensures done { EndsWritten result → IsTrue (K.finished sink.new) }
-    ensures once { EndsWritten result → K.finishes sink.new ≡ one_more (K.finishes sink.old) }
-
+    ensures reads { ReadsWell S.source_faults S.source_broken source.old source.new result }
+    ensures writes { WritesWell K.sink_faults K.sink_broken K.finished K.finishes sink.old sink.new result }
     ensures memory { result ≡ Status.Memory → sink.new ≡ sink.old }
-    ensures reads_later { S.source_faults source.old ≤ S.source_faults source.new }
-    ensures writes_later { K.sink_faults sink.old ≤ K.sink_faults sink.new }
 {
     let mut intake = intake;
     match take_all(alloc, source, limit, &mut intake) {

@@ -1,0 +1,23 @@
+-- What a call does to its source and its sink beside what it reads and writes, by its status.
+use Rattle.std.specs.Prelude.{ℕ, ◌≡◌, ◌≤◌, Bool, IsTrue}
+use Rattle.ts_base.specs.Outside.{Rose, one_more}
+use Rattle.ts_run.specs.Reply.{EndsWritten, TellsNoFault}
+use Rattle.ts_run.specs.declared.status.Status.{Status}
+use Rattle.ts_run.specs.declared.status.Status.TheVariants.{ReadFault, WriteFault}
+
+-- a fault of the source is told only where one was counted, and none is passed over
+pub record ReadsWell {S : Type 0} (faults : S → ℕ) (is_broken : S → Bool) (old new : S) (status : Status) : Type 0 where
+  pub fault : status ≡ ReadFault → Rose (faults old) (faults new)
+  pub broken : status ≡ ReadFault → IsTrue (is_broken new)
+  pub calm : TellsNoFault status → faults new ≡ faults old
+  pub later : faults old ≤ faults new
+
+-- a fault of the sink is told only where one was counted, and none is passed over; what was written is finished, once
+pub record WritesWell {K : Type 0} (faults : K → ℕ) (is_broken is_finished : K → Bool) (finishes : K → ℕ)
+    (old new : K) (status : Status) : Type 0 where
+  pub fault : status ≡ WriteFault → Rose (faults old) (faults new)
+  pub broken : status ≡ WriteFault → IsTrue (is_broken new)
+  pub calm : EndsWritten status → faults new ≡ faults old
+  pub done : EndsWritten status → IsTrue (is_finished new)
+  pub once : EndsWritten status → finishes new ≡ one_more (finishes old)
+  pub later : faults old ≤ faults new
