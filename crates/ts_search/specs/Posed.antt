@@ -3,6 +3,7 @@ use Rattle.std.specs.Prelude.{◌≡◌, ◌≤◌, List, length}
 use Rattle.ts_base.specs.Limits.{most_requirements, most_terms}
 use Rattle.ts_bound.specs.TermSpans.{Automata}
 use Rattle.ts_compile.specs.Programs.{IsProgramOf}
+use Rattle.ts_filter.specs.Boxes.{Box, IsPart}
 use Rattle.ts_model.specs.Views.{stated}
 use Rattle.ts_spans.specs.Machines.{automata_in, spans_in}
 use Rattle.ts_search.specs.Asked.{AreRight}
@@ -18,3 +19,9 @@ pub record IsPosed (q : Problem) : Type 0 where
 -- they are the machines of its terms
 abbrev pub AreTablesOf : Problem → List Automata → Type 0
 AreTablesOf q tables = tables ≡ automata_in (stated q.model.now)
+
+-- the tables may be asked of a box: the problem is posed, they are its tables, and the box lies in the model's
+pub record MayAsk (q : Problem) (machines : List Automata) (b : Box) : Type 0 where
+  pub posed : IsPosed q
+  pub part : IsPart b (stated q.model.now).cells
+  pub tables : AreTablesOf q machines

@@ -6,7 +6,7 @@ ghost use Rattle.ts_filter.specs.Boxes.{IsPart, only};
 ghost use Rattle.ts_search.specs.Dive.{dive, dive_end, kept_value};
 ghost use Rattle.ts_search.specs.Drops.{next_drop};
 ghost use Rattle.ts_search.specs.Forms.{form};
-ghost use Rattle.ts_search.specs.Posed.{AreTablesOf, IsPosed};
+ghost use Rattle.ts_search.specs.Posed.{AreTablesOf, IsPosed, MayAsk};
 ghost use Rattle.ts_search.specs.Views.{IsSettled, find_of, search_of};
 
 use crate::found::FoundSeries;
@@ -53,9 +53,7 @@ fn settle(
     tables: &mut AllTables<'_>,
     cells: &mut Boxed,
 ) -> Result<bool, Memory>
-    requires posed { IsPosed problem.now }
-    requires part { IsPart cells.old.present (search_of problem.now).model.cells }
-    requires tables { AreTablesOf problem.now tables.old }
+    requires { MayAsk problem.now tables.old cells.old.present }
     ensures same { tables.new ≡ tables.old }
     ensures settled { IfOk result (λ all. IsSettled (search_of problem.now) cells.old.present cells.new.present all) }
 {
@@ -76,10 +74,8 @@ fn keep_one(
     k: u32,
     cells: &mut Boxed,
 ) -> Result<(), Memory>
-    requires posed { IsPosed problem.now }
-    requires part { IsPart cells.old.present (search_of problem.now).model.cells }
+    requires asked { MayAsk problem.now tables.old cells.old.present }
     requires cell { IsCell k cells.old }
-    requires tables { AreTablesOf problem.now tables.old }
     ensures same { tables.new ≡ tables.old }
     ensures kept { OnOk result (cells.new.present ≡ only k
         (kept_value (search_of problem.now).model (search_of problem.now).spans problem.now.goal k cells.old.present)

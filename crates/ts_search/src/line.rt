@@ -2,9 +2,8 @@
 
 ghost use Rattle.std.specs.Prelude.{◌≡◌, IfOk, None};
 ghost use Rattle.ts_certificate.specs.declared.certificate.Aim.TheVariants.{Best as BestOf, List as ListOf};
-ghost use Rattle.ts_filter.specs.Boxes.{IsPart};
 ghost use Rattle.ts_search.specs.LineOf.{branch_line, first_no, line_of, refuted_last, requirements, wide_line};
-ghost use Rattle.ts_search.specs.Posed.{AreTablesOf, IsPosed};
+ghost use Rattle.ts_search.specs.Posed.{MayAsk};
 ghost use Rattle.ts_search.specs.Views.{find_of, search_of};
 
 use crate::found::FoundSeries;
@@ -24,9 +23,7 @@ pub(crate) fn solve_line(
     cells: &Boxed,
     found: &Option<FoundSeries>,
 ) -> Result<TreeLine, Memory>
-    requires posed { IsPosed problem.now }
-    requires part { IsPart cells.now.present (search_of problem.now).model.cells }
-    requires tables { AreTablesOf problem.now tables.old }
+    requires { MayAsk problem.now tables.old cells.now.present }
     ensures same { tables.new ≡ tables.old }
     ensures line { IfOk result (λ l.
         l ≡ line_of (search_of problem.now) (BestOf problem.now.goal) (find_of found.now) cells.now.present) }
@@ -54,9 +51,7 @@ pub(crate) fn listing_line(
     cells: &Boxed,
     count: u32,
 ) -> Result<TreeLine, Memory>
-    requires posed { IsPosed problem.now }
-    requires part { IsPart cells.now.present (search_of problem.now).model.cells }
-    requires tables { AreTablesOf problem.now tables.old }
+    requires { MayAsk problem.now tables.old cells.now.present }
     ensures same { tables.new ≡ tables.old }
     ensures line { IfOk result (λ l. l ≡ line_of (search_of problem.now) (ListOf count) None cells.now.present) }
 {
@@ -80,9 +75,7 @@ pub(crate) fn refuted_requirement(
     tables: &mut AllTables<'_>,
     cells: &Boxed,
 ) -> Result<Option<u32>, Memory>
-    requires posed { IsPosed problem.now }
-    requires part { IsPart cells.now.present (search_of problem.now).model.cells }
-    requires tables { AreTablesOf problem.now tables.old }
+    requires { MayAsk problem.now tables.old cells.now.present }
     ensures same { tables.new ≡ tables.old }
     ensures found { IfOk result (λ found. found ≡ refuted_last (search_of problem.now) cells.now.present) }
 {
@@ -103,9 +96,7 @@ fn inner_line(
     found: &Option<FoundSeries>,
     halving: Halving,
 ) -> Result<TreeLine, Memory>
-    requires posed { IsPosed problem.now }
-    requires part { IsPart cells.now.present (search_of problem.now).model.cells }
-    requires tables { AreTablesOf problem.now tables.old }
+    requires { MayAsk problem.now tables.old cells.now.present }
     ensures same { tables.new ≡ tables.old }
     ensures line { IfOk result (λ l. l ≡ wide_line (search_of problem.now) (BestOf problem.now.goal) (find_of found.now)
         cells.now.present halving.cell halving.at) }
@@ -126,9 +117,7 @@ fn inner_no(
     tables: &mut AllTables<'_>,
     cells: &Boxed,
 ) -> Result<Option<TreeLine>, Memory>
-    requires posed { IsPosed problem.now }
-    requires part { IsPart cells.now.present (search_of problem.now).model.cells }
-    requires tables { AreTablesOf problem.now tables.old }
+    requires { MayAsk problem.now tables.old cells.now.present }
     ensures same { tables.new ≡ tables.old }
     ensures line { IfOk result (λ line.
         line ≡ first_no (search_of problem.now) cells.now.present (requirements (search_of problem.now)) 1) }
@@ -149,9 +138,7 @@ fn branch(
     cells: &Boxed,
     halving: Halving,
 ) -> Result<TreeLine, Memory>
-    requires posed { IsPosed problem.now }
-    requires part { IsPart cells.now.present (search_of problem.now).model.cells }
-    requires tables { AreTablesOf problem.now tables.old }
+    requires { MayAsk problem.now tables.old cells.now.present }
     ensures same { tables.new ≡ tables.old }
     ensures line { IfOk result
         (λ l. l ≡ branch_line (search_of problem.now) cells.now.present halving.cell halving.at) }

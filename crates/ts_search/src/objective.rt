@@ -3,12 +3,11 @@
 ghost use Rattle.std.specs.Prelude.{◌≡◌, IfOk};
 ghost use Rattle.ts_domain.specs.BoxSeries.{InBox, IsCell};
 ghost use Rattle.ts_domain.specs.Values.{IsDomain};
-ghost use Rattle.ts_filter.specs.Boxes.{IsPart};
 ghost use Rattle.ts_filter.specs.Excluded.{counts, is_better};
 ghost use Rattle.ts_search.specs.Dive.{kept_value, least_value, value_of};
 ghost use Rattle.ts_search.specs.Drops.{least};
 ghost use Rattle.ts_search.specs.LineOf.{bar_of, counts_for, cut, cut_by, inner, last};
-ghost use Rattle.ts_search.specs.Posed.{AreTablesOf, IsPosed};
+ghost use Rattle.ts_search.specs.Posed.{IsPosed, MayAsk};
 ghost use Rattle.ts_search.specs.Views.{find_of, search_of};
 
 use crate::found::FoundSeries;
@@ -39,9 +38,7 @@ impl<'a> Problem<'a> {
         found: &Option<FoundSeries>,
         cells: &Boxed,
     ) -> Result<bool, Memory>
-        requires posed { IsPosed self.now }
-        requires part { IsPart cells.now.present (search_of self.now).model.cells }
-        requires tables { AreTablesOf self.now tables.old }
+        requires { MayAsk self.now tables.old cells.now.present }
         ensures same { tables.new ≡ tables.old }
         ensures told { IfOk result (λ told. told ≡ cut_by (search_of self.now)
             (bar_of (find_of found.now) (search_of self.now).warm) (last (search_of self.now)) cells.now.present) }
@@ -60,9 +57,7 @@ impl<'a> Problem<'a> {
         bar: Bar,
         cells: &Boxed,
     ) -> Result<bool, Memory>
-        requires posed { IsPosed self.now }
-        requires part { IsPart cells.now.present (search_of self.now).model.cells }
-        requires tables { AreTablesOf self.now tables.old }
+        requires { MayAsk self.now tables.old cells.now.present }
         ensures same { tables.new ≡ tables.old }
         ensures told { IfOk result
             (λ told. told ≡ cut (search_of self.now) (last (search_of self.now)) cells.now.present bar) }
@@ -81,9 +76,7 @@ impl<'a> Problem<'a> {
         found: &Option<FoundSeries>,
         cells: &Boxed,
     ) -> Result<Option<u32>, Memory>
-        requires posed { IsPosed self.now }
-        requires part { IsPart cells.now.present (search_of self.now).model.cells }
-        requires tables { AreTablesOf self.now tables.old }
+        requires { MayAsk self.now tables.old cells.now.present }
         ensures same { tables.new ≡ tables.old }
         ensures found { let bar = bar_of (find_of found.now) (search_of self.now).warm in IfOk result (λ cell.
             cell ≡ least (λ p. cut_by (search_of self.now) bar p cells.now.present) (inner (search_of self.now)) 1) }
@@ -102,9 +95,7 @@ impl<'a> Problem<'a> {
         bar: Bar,
         cells: &Boxed,
     ) -> Result<Option<u32>, Memory>
-        requires posed { IsPosed self.now }
-        requires part { IsPart cells.now.present (search_of self.now).model.cells }
-        requires tables { AreTablesOf self.now tables.old }
+        requires { MayAsk self.now tables.old cells.now.present }
         ensures same { tables.new ≡ tables.old }
         ensures found { IfOk result (λ cell.
             cell ≡ least (λ p. cut (search_of self.now) p cells.now.present bar) (inner (search_of self.now)) 1) }
@@ -134,10 +125,8 @@ impl<'a> Problem<'a> {
         k: u32,
         cells: &Boxed,
     ) -> Result<i64, Memory>
-        requires posed { IsPosed self.now }
-        requires part { IsPart cells.now.present (search_of self.now).model.cells }
+        requires asked { MayAsk self.now tables.old cells.now.present }
         requires cell { IsCell k cells.now }
-        requires tables { AreTablesOf self.now tables.old }
         ensures same { tables.new ≡ tables.old }
         ensures kept { IfOk result (λ v. v
             ≡ kept_value (search_of self.now).model (search_of self.now).spans self.now.goal k cells.now.present) }

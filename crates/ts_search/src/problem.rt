@@ -3,11 +3,10 @@
 ghost use Rattle.std.specs.Prelude.{◌≡◌, ◌≤◌, IfOk};
 ghost use Rattle.ts_base.specs.Limits.{most_requirements};
 ghost use Rattle.ts_compile.specs.Programs.{IsProgramOf};
-ghost use Rattle.ts_filter.specs.Boxes.{IsPart};
 ghost use Rattle.ts_model.specs.Views.{stated};
 ghost use Rattle.ts_search.specs.Drops.{least, next_drop};
 ghost use Rattle.ts_search.specs.LineOf.{inner, last, refuted, requirements};
-ghost use Rattle.ts_search.specs.Posed.{AreTablesOf, IsPosed};
+ghost use Rattle.ts_search.specs.Posed.{IsPosed, MayAsk};
 ghost use Rattle.ts_search.specs.Views.{removal_of, search_of};
 ghost use Rattle.ts_spans.specs.Machines.{automata_in};
 
@@ -55,11 +54,9 @@ impl<'a> Problem<'a> {
         j: u32,
         cells: &Boxed,
     ) -> Result<bool, Memory>
-        requires posed { IsPosed self.now }
+        requires asked { MayAsk self.now tables.old cells.now.present }
         requires from { 1 ≤ j }
         requires to { j ≤ requirements (search_of self.now) }
-        requires part { IsPart cells.now.present (search_of self.now).model.cells }
-        requires tables { AreTablesOf self.now tables.old }
         ensures same { tables.new ≡ tables.old }
         ensures told { IfOk result
             (λ told. told ≡ refuted (search_of self.now) j (last (search_of self.now)) cells.now.present) }
@@ -76,11 +73,9 @@ impl<'a> Problem<'a> {
         j: u32,
         cells: &Boxed,
     ) -> Result<Option<u32>, Memory>
-        requires posed { IsPosed self.now }
+        requires asked { MayAsk self.now tables.old cells.now.present }
         requires from { 1 ≤ j }
         requires to { j ≤ requirements (search_of self.now) }
-        requires part { IsPart cells.now.present (search_of self.now).model.cells }
-        requires tables { AreTablesOf self.now tables.old }
         ensures same { tables.new ≡ tables.old }
         ensures found { IfOk result (λ found.
             found ≡ least (λ p. refuted (search_of self.now) j p cells.now.present) (inner (search_of self.now)) 1) }
@@ -96,9 +91,7 @@ impl<'a> Problem<'a> {
         tables: &mut AllTables<'_>,
         cells: &Boxed,
     ) -> Result<Option<Removal>, Memory>
-        requires posed { IsPosed self.now }
-        requires part { IsPart cells.now.present (search_of self.now).model.cells }
-        requires tables { AreTablesOf self.now tables.old }
+        requires { MayAsk self.now tables.old cells.now.present }
         ensures same { tables.new ≡ tables.old }
         ensures found { IfOk result (λ found.
             removal_of found ≡ next_drop (search_of self.now).model (search_of self.now).spans cells.now.present) }

@@ -13,11 +13,15 @@ pub new-requires : goal.new-requires
 new-requires c = let few = c.requires.posed.right.whole.few in let same = ap length c.deref.ensures.value in omega (arith, few, same)
 
 -- the first box is the model's
-pub settle-requires-clause-part : goal.settle-requires-clause-part
-settle-requires-clause-part c =
+pub settle-requires : goal.settle-requires
+settle-requires c =
     let s = search_of c.args.problem.now in
-    subst (λ b. IsPart b s.model.cells) (sym (ap (λ z. z.present) c.in_ok-cells.ensures ∙ c.deref.ensures.value))
-    (part_self s.model.cells c.requires.posed.right.box)
+    record {
+      posed = c.requires.posed;
+      part = subst (λ b. IsPart b s.model.cells) (sym (ap (λ z. z.present) c.in_ok-cells.ensures ∙ c.deref.ensures.value))
+          (part_self s.model.cells c.requires.posed.right.box);
+      tables = c.requires.tables;
+    }
 
 -- a requirement is refuted before any cell has kept its value
 pub returns-then-not-branch-clause-found : goal.returns-then-not-branch-clause-found
@@ -49,6 +53,13 @@ overflow_add-k-end c =
     let few = c.requires.posed.right.whole.few in omega (arith, end, few)
 
 -- the end of the loop over the cells is told by the number of cells of the box before it, which is that of the model
+pub keep_one-requires-clause-asked : goal.keep_one-requires-clause-asked
+keep_one-requires-clause-asked c = record {
+  posed = c.requires.posed;
+  part = c.loop-k.invariant.part;
+  tables = c.loop-k.invariant.same ∙ c.requires.tables;
+}
+
 pub keep_one-requires-clause-cell : goal.keep_one-requires-clause-cell
 keep_one-requires-clause-cell c =
     let s = search_of c.args.problem.now in
@@ -56,14 +67,18 @@ keep_one-requires-clause-cell c =
     c.cells-k-end.ensures.count in
     cell_there s c.loop-k.cells.present c.loop-k.k c.cells-k-end.result c.loop-k.invariant.part (omega arith) c.loop-k-test.true end
 
-pub settle-requires-in-loop-k-clause-part : goal.settle-requires-in-loop-k-clause-part
-settle-requires-in-loop-k-clause-part c =
+pub settle-requires-in-loop-k : goal.settle-requires-in-loop-k
+settle-requires-in-loop-k c =
     let s = search_of c.args.problem.now in
     let end = end_is s c.settle.new.cells.present c.cells-k-end.result (settled_part s _ c.settle.new.cells.present _ c.in_ok-settle.ensures.settled)
     c.cells-k-end.ensures.count in
-    kept_inside s s.goal c.loop-k.k c.loop-k.cells.present c.keep_one.new.cells.present c.loop-k.invariant.part
-    (cell_there s c.loop-k.cells.present c.loop-k.k c.cells-k-end.result c.loop-k.invariant.part (omega arith) c.loop-k-test.true end)
-    c.in_ok-keep_one.ensures.kept
+    record {
+      posed = c.requires.posed;
+      part = kept_inside s s.goal c.loop-k.k c.loop-k.cells.present c.keep_one.new.cells.present c.loop-k.invariant.part
+          (cell_there s c.loop-k.cells.present c.loop-k.k c.cells-k-end.result c.loop-k.invariant.part (omega arith) c.loop-k-test.true end)
+          c.in_ok-keep_one.ensures.kept;
+      tables = c.keep_one.ensures.same ∙ c.loop-k.invariant.same ∙ c.requires.tables;
+    }
 
 -- a requirement is refuted once a cell has kept its value
 pub returns-then-not-branch-2-clause-found : goal.returns-then-not-branch-2-clause-found

@@ -4,10 +4,13 @@ use Rattle.ts_search.proofs.CodeTurns.{may_follow, present_part}
 use Rattle.ts_search.proofs.tree.treat.Goals as goal
 
 -- the present box is the first that waits, which is inside the model's
-pub solve_line-requires-clause-part : goal.solve_line-requires-clause-part
-solve_line-requires-clause-part c =
-    present_part (search_of c.args.problem.now).model.cells c.args.tree.now.frontier.boxes c.advance.new.self.boxes c.present.result.now.present
-    c.requires.parts c.in_ok-advance.ensures.same c.present.ensures
+pub solve_line-requires : goal.solve_line-requires
+solve_line-requires c = record {
+  posed = c.requires.posed;
+  part = present_part (search_of c.args.problem.now).model.cells c.args.tree.now.frontier.boxes c.advance.new.self.boxes
+      c.present.result.now.present c.requires.parts c.in_ok-advance.ensures.same c.present.ensures;
+  tables = c.requires.tables;
+}
 
 pub found_now-requires-clause-part : goal.found_now-requires-clause-part
 found_now-requires-clause-part c =

@@ -12,17 +12,17 @@ use Rattle.ts_search.proofs.problem.Problem.first_refuted.Goals as goal
 pub first_refuted-requires : goal.first_refuted-requires
 first_refuted-requires c =
     let q = c.args.self.now in let r = c.index-require.result.now in
-    tables_long q c.requires.posed c.args.tables.now r.term c.requires.tables
-    (required_there q c.requires.posed c.args.j r (required_is q c.requires.posed c.args.j r c.requires.from c.requires.to c.index-require.ensures))
+    tables_long q c.requires.asked.posed c.args.tables.now r.term c.requires.asked.tables
+    (required_there q c.requires.asked.posed c.args.j r (required_is q c.requires.asked.posed c.args.j r c.requires.from c.requires.to c.index-require.ensures))
 
 pub returns-clause-found : goal.returns-clause-found
 returns-clause-found c =
     let q = c.args.self.now in let b = c.args.cells.now.present in let r = c.index-require.result.now in
-    let is = required_is q c.requires.posed c.args.j r c.requires.from c.requires.to c.index-require.ensures in
+    let is = required_is q c.requires.asked.posed c.args.j r c.requires.from c.requires.to c.index-require.ensures in
     IfOk-weaker c.first_refuted.result (λ found. OfTerm c.args.tables.now r.term (λ a. IsFirstCell a (Refutes r.op r.bound) b found))
     (λ found. found ≡ least (λ p. refuted (search_of q) c.args.j p b) (inner (search_of q)) 1)
     (λ found g. told_in q c.args.tables.now r.term (λ a. IsFirstCell a (Refutes r.op r.bound) b found)
-    (found ≡ least (λ p. refuted (search_of q) c.args.j p b) (inner (search_of q)) 1) c.requires.tables
-    (tables_long q c.requires.posed c.args.tables.now r.term c.requires.tables (required_there q c.requires.posed c.args.j r is)) g
-    (λ a there h. first_refuted_told q c.requires.posed b c.requires.part c.args.j r a c.requires.from is there found h))
+    (found ≡ least (λ p. refuted (search_of q) c.args.j p b) (inner (search_of q)) 1) c.requires.asked.tables
+    (tables_long q c.requires.asked.posed c.args.tables.now r.term c.requires.asked.tables (required_there q c.requires.asked.posed c.args.j r is)) g
+    (λ a there h. first_refuted_told q c.requires.asked.posed b c.requires.asked.part c.args.j r a c.requires.from is there found h))
     c.first_refuted.ensures.found

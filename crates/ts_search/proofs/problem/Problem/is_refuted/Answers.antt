@@ -12,13 +12,13 @@ use Rattle.ts_search.proofs.problem.Problem.is_refuted.Goals as goal
 pub refuted-requires-clause-there : goal.refuted-requires-clause-there
 refuted-requires-clause-there c =
     let q = c.args.self.now in let r = c.index-require.result.now in
-    tables_long q c.requires.posed c.args.tables.now r.term c.requires.tables
-    (required_there q c.requires.posed c.args.j r (required_is q c.requires.posed c.args.j r c.requires.from c.requires.to c.index-require.ensures))
+    tables_long q c.requires.asked.posed c.args.tables.now r.term c.requires.asked.tables
+    (required_there q c.requires.asked.posed c.args.j r (required_is q c.requires.asked.posed c.args.j r c.requires.from c.requires.to c.index-require.ensures))
 
 pub refuted-requires-clause-cell : goal.refuted-requires-clause-cell
 refuted-requires-clause-cell c =
-    let size = part_size c.args.self.now c.requires.posed c.args.cells.now.present c.requires.part in
-    let some = some_cells c.args.self.now c.requires.posed in
+    let size = part_size c.args.self.now c.requires.asked.posed c.args.cells.now.present c.requires.asked.part in
+    let some = some_cells c.args.self.now c.requires.asked.posed in
     let end = c.cells.ensures.count in (omega (arith, size, some, end), omega (arith, end))
 
 pub refuted-requires-clause-usable : goal.refuted-requires-clause-usable
@@ -27,11 +27,11 @@ refuted-requires-clause-usable c = λ a is plain. c.cells.ensures.count
 pub returns-clause-told : goal.returns-clause-told
 returns-clause-told c =
     let q = c.args.self.now in let b = c.args.cells.now.present in let r = c.index-require.result.now in
-    let is = required_is q c.requires.posed c.args.j r c.requires.from c.requires.to c.index-require.ensures in
+    let is = required_is q c.requires.asked.posed c.args.j r c.requires.from c.requires.to c.index-require.ensures in
     IfOk-weaker c.refuted.result (λ told. OfTerm c.args.tables.now r.term (λ a. IsTrue told ↔ Refutes r.op r.bound (term_span a c.cells.result b)))
     (λ told. told ≡ refuted (search_of q) c.args.j (last (search_of q)) b)
     (λ told g. told_in q c.args.tables.now r.term (λ a. IsTrue told ↔ Refutes r.op r.bound (term_span a c.cells.result b))
-    (told ≡ refuted (search_of q) c.args.j (last (search_of q)) b) c.requires.tables
-    (tables_long q c.requires.posed c.args.tables.now r.term c.requires.tables (required_there q c.requires.posed c.args.j r is)) g
-    (λ a there h. refuted_told q c.requires.posed b c.requires.part c.args.j r a c.requires.from is there c.cells.result told c.cells.ensures.count h))
+    (told ≡ refuted (search_of q) c.args.j (last (search_of q)) b) c.requires.asked.tables
+    (tables_long q c.requires.asked.posed c.args.tables.now r.term c.requires.asked.tables (required_there q c.requires.asked.posed c.args.j r is)) g
+    (λ a there h. refuted_told q c.requires.asked.posed b c.requires.asked.part c.args.j r a c.requires.from is there c.cells.result told c.cells.ensures.count h))
     c.refuted.ensures.told
