@@ -2,6 +2,8 @@
 
 use crate::{Status, run};
 use std::alloc::{AllocError, Global};
+use std::process::Abort;
+use std::test::Fail;
 use ts_base::{MemorySink, MemorySource};
 
 mod check;
@@ -34,6 +36,16 @@ fn words_of(alloc: Global, words: &str) -> Result<Vec<String>, AllocError> {
         all.push(String::from_str(alloc, word)?)?;
     }
     Ok(all)
+}
+
+/// Each input has its answer, with its status.
+fn expect_answers(rt: &impl Abort, alloc: Global, words: &str, cases: &[Case]) -> Result<(), Fail> {
+    for case in cases {
+        let (taken, status) = outcome(alloc, words, case.input)?;
+        assert_eq!(rt; taken.as_slice(), case.taken);
+        assert_eq!(rt; status, case.status);
+    }
+    Ok(())
 }
 
 /// What a call with these words takes of its answer to the input, and its status.

@@ -1,6 +1,6 @@
 //! Inputs of `check`, their answers and statuses.
 
-use super::{Case, outcome};
+use super::{Case, expect_answers};
 use crate::Status;
 use std::test::Fail;
 
@@ -194,11 +194,5 @@ fn cases() -> &'static [Case] {
 
 #[test]
 fn answers_of_check(rt: HostRuntime) -> Result<(), Fail> {
-    let alloc = rt.alloc();
-    for case in cases() {
-        let (taken, status) = outcome(alloc, "check", case.input)?;
-        assert_eq!(rt; taken.as_slice(), case.taken);
-        assert_eq!(rt; status, case.status);
-    }
-    Ok(())
+    expect_answers(&rt, rt.alloc(), "check", cases())
 }

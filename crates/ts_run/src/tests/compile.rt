@@ -1,6 +1,6 @@
 //! Inputs of `compile`, the texts of their programs (the blocks are those of the tables, by hand) and the statuses.
 
-use super::{Case, outcome};
+use super::{Case, expect_answers};
 use crate::Status;
 use std::test::Fail;
 
@@ -155,11 +155,5 @@ fn cases() -> &'static [Case] {
 
 #[test]
 fn answers_of_compile(rt: HostRuntime) -> Result<(), Fail> {
-    let alloc = rt.alloc();
-    for case in cases() {
-        let (taken, status) = outcome(alloc, "compile", case.input)?;
-        assert_eq!(rt; taken.as_slice(), case.taken);
-        assert_eq!(rt; status, case.status);
-    }
-    Ok(())
+    expect_answers(&rt, rt.alloc(), "compile", cases())
 }

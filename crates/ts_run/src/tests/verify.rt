@@ -1,6 +1,6 @@
 //! Inputs of `verify`, their answers and statuses, worked by hand.
 
-use super::{Case, outcome, outcome_in_steps};
+use super::{Case, expect_answers, outcome_in_steps};
 use crate::Status;
 use std::alloc::{AllocError, Global};
 use std::test::Fail;
@@ -206,13 +206,7 @@ fn worked() -> &'static [Case] {
 
 #[test]
 fn answers_of_verify(rt: HostRuntime) -> Result<(), Fail> {
-    let alloc = rt.alloc();
-    for case in worked() {
-        let (taken, status) = outcome(alloc, "verify", case.input)?;
-        assert_eq!(rt; taken.as_slice(), case.taken);
-        assert_eq!(rt; status, case.status);
-    }
-    Ok(())
+    expect_answers(&rt, rt.alloc(), "verify", worked())
 }
 
 /// Whether the input has its answer where a read gives at most so many bytes.
