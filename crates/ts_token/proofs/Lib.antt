@@ -5,4 +5,9 @@ mod RowLaws
 pub mod HalfLaws
 mod NumberLaws
 mod SliceLaws
+mod Heads
+mod Drops
+mod PlaceLaws
+pub mod GistLaws
+mod ShortLaws
 pub mod NumberTexts

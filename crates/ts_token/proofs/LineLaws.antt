@@ -39,7 +39,7 @@ more b c cs false =
 last_line : (b : ℕ) → cond (cond (b == 13) false false) [] ((b ∷ []) ∷ []) ≡ (b ∷ []) ∷ []
 last_line b = elim (b == 13) as (λ v. cond (cond v false false) [] ((b ∷ []) ∷ []) ≡ (b ∷ []) ∷ []) [ true ↦ refl | false ↦ refl ]
 
-first_cut : (b : ℕ) (bs : List ℕ) → lines_of (b ∷ bs) ≡ cut_by (front is_lf (b ∷ bs)) (ending is_lf (b ∷ bs))
+pub first_cut : (b : ℕ) (bs : List ℕ) → lines_of (b ∷ bs) ≡ cut_by (front is_lf (b ∷ bs)) (ending is_lf (b ∷ bs))
 first_cut b [] =
     elim (is_lf b) as (λ v. cond v ([] ∷ []) (cond (cond (b == 13) false false) [] ((b ∷ []) ∷ [])) ≡ cut_by (cond v [] (b ∷ [])) (cond v (b ∷ []) [])) [
       | true ↦ refl

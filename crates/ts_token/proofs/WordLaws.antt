@@ -6,7 +6,7 @@ use Rattle.ts_token.specs.Text.{is_blank, stops_here, onto_word, words_from, Pie
 use Rattle.ts_token.specs.Steps.{is_solid}
 use Rattle.ts_token.proofs.Fronts.{front, ending, take_front, drop_front, passes, place_is}
 
-abbrev word : ℕ → List ℕ → Piece
+abbrev pub word : ℕ → List ℕ → Piece
 word column text = record { text = text; column = column }
 
 blanks_step : (column b : ℕ) (bs : List ℕ) (t : Bool) → is_blank b ≡ t →
@@ -31,7 +31,7 @@ past_blanks column [] = refl
 past_blanks column (b ∷ bs) = blanks_step column b bs (is_blank b) refl (past_blanks (column + 1) bs)
 
 -- the words of a line with a word at its front
-abbrev HasFront : ℕ → ℕ → List ℕ → Type 0
+abbrev pub HasFront : ℕ → ℕ → List ℕ → Type 0
 HasFront column b bs =
     words_from column (b ∷ bs) ≡ word column (b ∷ front is_blank bs) ∷ words_from (column + (1 + position_or_len is_blank bs)) (ending is_blank bs)
 
@@ -53,7 +53,7 @@ front_step column b c cs false h e later =
     let same : column + 1 + (1 + position_or_len is_blank cs) ≡ column + (1 + (1 + position_or_len is_blank cs)) = omega arith in
     subst P (sym e) (ap (onto_word b column) (later e) ∙ ap (λ (k : ℕ). word column (b ∷ c ∷ front is_blank cs) ∷ words_from k (ending is_blank cs)) same))
 
-word_front : (column b : ℕ) (bs : List ℕ) → is_blank b ≡ false → HasFront column b bs
+pub word_front : (column b : ℕ) (bs : List ℕ) → is_blank b ≡ false → HasFront column b bs
 word_front column b [] h = ap (λ v. cond v [] (word column (b ∷ []) ∷ [])) h
 word_front column b (c ∷ cs) h = front_step column b c cs (is_blank c) h refl (word_front (column + 1) c cs)
 

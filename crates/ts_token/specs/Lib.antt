@@ -4,3 +4,7 @@ pub mod Halves
 pub mod Views
 pub mod Steps
 pub mod Slices
+pub mod Gist
+pub mod Contents
+pub mod Places
+pub mod Short

@@ -4,6 +4,9 @@
 //! of the text and copy no byte. `number` and `ext_of` read a word. What stands above reads words and never bytes: it
 //! knows of each word its bytes, its column and the number of its line, and which line first isn't text.
 //!
+//! A text that comes in pieces is read line by line: a `ShortLine` takes the bytes of a line, however many they are,
+//! and `line_content` tells what the line holds.
+//!
 //! ```text
 //! let parts = cut_parts(b"cells 4\r\n%%\nseries 1 2 3 4\n");
 //! let tokens = cut_tokens(alloc, parts.model)?;
@@ -11,14 +14,18 @@
 //! ```
 #![tactic(auto)]
 
+mod content;
 mod lines;
 mod numbers;
 mod parts;
+mod short;
 mod tokens;
 mod words;
 
+pub use content::{Content, line_content};
 pub use numbers::{ext_of, number};
 pub use parts::{Parts, cut_parts};
+pub use short::ShortLine;
 pub use tokens::{Line, Tokens, cut_tokens};
 pub use words::Word;
 

@@ -16,7 +16,7 @@ pub struct Parts<'a> {
 }
 
 /// Whether `%%` is the only word of a line, which is given with its end.
-fn is_separator(line: &[u8]) -> bool
+pub(crate) fn is_separator(line: &[u8]) -> bool
     requires some { 0 < length line.now }
     requires short { length line.now < 4000000000 }
     ensures { result ≡ is_separator line.now }

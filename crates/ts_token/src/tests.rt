@@ -1,6 +1,8 @@
 //! Texts with their words and parts, and words with their numbers, worked out by hand.
 
-use crate::{Parts, Tokens, cut_parts, cut_tokens, ext_of, number};
+use crate::{
+    Content, Parts, ShortLine, Tokens, cut_parts, cut_tokens, ext_of, line_content, number,
+};
 use std::process::Abort;
 use std::test::Fail;
 use ts_base::Ext;
@@ -124,6 +126,63 @@ static EXTS: [(&str, Option<Ext>); 12] = [
     ("", None),
 ];
 
+/// A line, what is kept of it, and whether it is the separator.
+static SHORT_LINES: [(&str, &str, bool); 24] = [
+    ("", "", false),
+    ("\n", "\n", false),
+    ("cells 4", "cells 4", false),
+    ("  a \t b  \n", " a b \n", false),
+    (" \t \t ", " ", false),
+    ("\t\t%%\t \r\n", "\t%%\t\r\n", true),
+    ("%%", "%%", true),
+    ("%%\r\n", "%%\r\n", true),
+    ("%%\r", "%%\r", false),
+    ("%% %%\n", "%% %%\n", false),
+    ("#%%\n", "#\n", false),
+    ("# one two\tthree", "#", false),
+    ("  \t#one\r\n", " #\r\n", false),
+    ("a # b\r\n", "a # b\r\n", false),
+    ("# one\u{1} two\n", "#\u{1}\n", false),
+    ("# one\r two\n", "#\r \n", false),
+    ("a\rb  c\r\n", "a\rb\n", false),
+    ("a b\u{7f}c d", "a b\u{7f}", false),
+    ("a\r\r\n", "a\r\r\n", false),
+    ("a\n  b  c\n", "a\n  b  c\n", false),
+    (
+        "aaaaaaaaaabbbbbbbbbbccccccccccddddddddddeeeeeeeeeeffffffffff0123\n",
+        "aaaaaaaaaabbbbbbbbbbccccccccccddddddddddeeeeeeeeeeffffffffff0123\n",
+        false,
+    ),
+    (
+        "aaaaaaaaaabbbbbbbbbbccccccccccddddddddddeeeeeeeeeeffffffffff0123456 78\n",
+        "aaaaaaaaaabbbbbbbbbbccccccccccddddddddddeeeeeeeeeeffffffffff0123 78\n",
+        false,
+    ),
+    (
+        "1 aaaaaaaaaabbbbbbbbbbccccccccccddddddddddeeeeeeeeeeffffffffff012345\r6",
+        "1 aaaaaaaaaabbbbbbbbbbccccccccccddddddddddeeeeeeeeeeffffffffff0123\r6",
+        false,
+    ),
+    (
+        "%%aaaaaaaaaabbbbbbbbbbccccccccccddddddddddeeeeeeeeeeffffffffff012345\n",
+        "%%aaaaaaaaaabbbbbbbbbbccccccccccddddddddddeeeeeeeeeeffffffffff01\n",
+        false,
+    ),
+];
+
+/// A line, and how many words it has; none where it is skipped or isn't text.
+static CONTENTS: [(&str, &str); 9] = [
+    ("", "skipped"),
+    (" \t\r\n", "skipped"),
+    (" # a b", "skipped"),
+    ("a\0b\n", "not text"),
+    ("#\r", "not text"),
+    ("a\n", "1"),
+    (" a b\r\n", "2"),
+    ("a #b", "2"),
+    ("a b c \n", "3"),
+];
+
 // Each table behind a function, so that the proof of the test doesn't read it.
 fn texts() -> &'static [(&'static str, &'static [Place], u32, Option<u32>)] {
     &TEXTS
@@ -139,6 +198,14 @@ fn numbers() -> &'static [(&'static str, Option<i64>)] {
 
 fn exts() -> &'static [(&'static str, Option<Ext>)] {
     &EXTS
+}
+
+fn short_lines() -> &'static [(&'static str, &'static str, bool)] {
+    &SHORT_LINES
+}
+
+fn contents() -> &'static [(&'static str, &'static str)] {
+    &CONTENTS
 }
 
 /// The words of the tokens are these, in order.
@@ -179,6 +246,32 @@ fn texts_and_numbers(rt: HostRuntime) -> Result<(), Fail> {
     }
     for (word, value) in exts() {
         assert_eq!(rt; ext_of(word.as_bytes()), *value, "at {word:?}");
+    }
+    Ok(())
+}
+
+#[test]
+fn single_lines(rt: HostRuntime) -> Result<(), Fail> {
+    let alloc = rt.alloc();
+    let mut short = ShortLine::new(alloc);
+    for (line, kept, separator) in short_lines() {
+        short.clear();
+        assert!(rt; short.is_empty());
+        let (front, back) = line.as_bytes().split_at(line.len() / 2);
+        short.push(front)?;
+        short.push(back)?;
+        assert_eq!(rt; short.bytes(), kept.as_bytes(), "of {line:?}");
+        assert_eq!(rt; short.is_empty(), line.is_empty(), "of {line:?}");
+        assert_eq!(rt; short.is_separator(), *separator, "of {line:?}");
+    }
+    for (line, want) in contents() {
+        assert!(rt; line.len() < 1000);
+        let told = match line_content(alloc, line.as_bytes())? {
+            Content::NotText => format!(in alloc; "not text")?,
+            Content::Skipped => format!(in alloc; "skipped")?,
+            Content::Words(words) => format!(in alloc; "{}", words.len())?,
+        };
+        assert_eq!(rt; told.as_str(), *want, "of {line:?}");
     }
     Ok(())
 }

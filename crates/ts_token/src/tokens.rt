@@ -1,13 +1,14 @@
 //! The lines of a text, with their numbers and words.
 
 ghost use Rattle.std.specs.Prelude.{◌≡◌, ◌<◌, ◌≤◌, length, IfOk, OnOk};
-ghost use Rattle.ts_token.specs.Text.{is_text, is_skipped, cut_of};
-ghost use Rattle.ts_token.specs.Views.{pieces, rows, cut};
+ghost use Rattle.ts_token.specs.Text.{cut_of};
+ghost use Rattle.ts_token.specs.Views.{rows, cut};
 ghost use Rattle.ts_token.specs.Slices.{AreSlices};
 ghost use Rattle.ts_token.specs.Steps.{with_line};
 
+use crate::content::{Content, content_of};
 use crate::lines::first_line;
-use crate::words::{Word, cut_words};
+use crate::words::Word;
 use std::alloc::Global;
 use ts_base::Memory;
 
@@ -26,24 +27,6 @@ pub struct Tokens<'a> {
     pub not_text: Option<u32>,
 }
 
-/// All bytes are from ` ` to `~`, or tabs.
-#[tactic(auto, unfolding(crate::specs::Text::is_plain))]
-fn is_text(line: &[u8]) -> bool
-    ensures { result ≡ is_text line.now }
-{
-    line.iter().all(|b| *b >= b' ' && *b <= b'~' || *b == b'\t')
-}
-
-/// No word stands in the line, or the first one begins with `#`.
-fn is_skipped(words: &[Word]) -> bool
-    ensures { result ≡ is_skipped (pieces words.now) }
-{
-    match words.first() {
-        None => true,
-        Some(word) => word.text.first() == Some(&b'#'),
-    }
-}
-
 /// Counts one more line, and keeps it if it belongs to the tokens.
 fn take_line<'a>(alloc: Global, tokens: &mut Tokens<'a>, line: &'a [u8]) -> Result<(), Memory>
     requires short { length line.now < 4000000000 }
@@ -54,16 +37,13 @@ fn take_line<'a>(alloc: Global, tokens: &mut Tokens<'a>, line: &'a [u8]) -> Resu
     if tokens.not_text.is_some() {
         return Ok(());
     }
-    if !is_text(line) {
-        tokens.not_text = Some(tokens.count);
-        return Ok(());
-    }
-    let words = cut_words(alloc, line)?;
-    if !is_skipped(&words) {
-        tokens.lines.push(Line {
+    match content_of(alloc, line)? {
+        Content::NotText => tokens.not_text = Some(tokens.count),
+        Content::Skipped => {}
+        Content::Words(words) => tokens.lines.push(Line {
             number: tokens.count,
             words,
-        })?;
+        })?,
     }
     Ok(())
 }

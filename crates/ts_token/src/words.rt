@@ -26,7 +26,7 @@ pub(crate) struct NextWord<'a> {
 
 /// A space or a tab.
 #[tactic(auto, unfolding(crate::specs::Text::is_blank))]
-fn is_blank(b: u8) -> bool
+pub(crate) fn is_blank(b: u8) -> bool
     ensures { result ≡ is_blank b }
 {
     b == b' ' || b == b'\t'

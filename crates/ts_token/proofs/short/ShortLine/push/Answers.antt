@@ -1,0 +1,13 @@
+use Rattle.std.proofs.Common.{arith}
+use Rattle.ts_token.proofs.ShortLaws.{takes_none, takes_next, takes_all}
+use Rattle.ts_token.proofs.short.ShortLine.push.Goals as goal
+
+pub loop-byte-init : goal.loop-byte-init
+loop-byte-init c = takes_none c.args.self.now
+
+pub loop-byte-preserved : goal.loop-byte-preserved
+loop-byte-preserved c =
+    takes_next c.args.self.now c.loop-byte.self c.take.new.self c.args.bytes.now c.loop-byte.byte-index (omega arith) c.loop-byte.invariant c.in_ok-take.ensures
+
+pub returns : goal.returns
+returns c = takes_all c.args.self.now c.loop-byte.self c.args.bytes.now c.loop-byte.byte-index (omega arith) c.loop-byte.invariant

@@ -1,0 +1,188 @@
+//! A line of any length in little memory.
+
+ghost use Rattle.std.specs.Prelude.{ℕ, ◌≡◌, ◌<◌, List, [], ◌∷◌, true, false, length, OnOk};
+ghost use Rattle.ts_token.specs.Gist.{StandsFor};
+ghost use Rattle.ts_token.specs.Halves.{is_separator};
+ghost use Rattle.ts_token.specs.Places.{blank_place, solid_place, text_place, place_after};
+ghost use Rattle.ts_token.specs.Short.{IsShort, TakesIn};
+
+use crate::content::is_plain;
+use crate::parts;
+use crate::words::is_blank;
+use std::alloc::Global;
+use ts_base::Memory;
+
+/// No more bytes of a word are kept.
+const MOST_KEPT: usize = 64;
+
+/// So many bytes of a line aren't kept.
+const TOO_LONG: usize = 4_000_000_000;
+
+/// Where the bytes of a line have led.
+#[derive(Clone, Copy, Debug, PartialEq, Eq)]
+pub(crate) enum Place {
+    /// Before the first byte.
+    Start,
+    /// Behind blanks alone.
+    Margin,
+    /// Behind a blank that follows a word.
+    Blank,
+    /// In a word, of which so many bytes are kept.
+    Word(usize),
+    /// In a comment.
+    Comment,
+    /// Behind a CR, which is text only right before the LF.
+    Return,
+    /// Behind a byte that isn't text.
+    NotText,
+    /// Behind the LF.
+    Ended,
+}
+
+/// The place behind a blank; None where the blank adds nothing.
+fn blank_place(place: Place) -> Option<Place>
+    ensures { result ≡ blank_place place }
+{
+    match place {
+        Place::Start => Some(Place::Margin),
+        Place::Word(_) => Some(Place::Blank),
+        _ => None,
+    }
+}
+
+/// The place behind another byte of text; None where the byte adds nothing.
+fn solid_place(place: Place, byte: u8) -> Option<Place>
+    ensures { result ≡ solid_place place byte }
+{
+    match place {
+        Place::Start | Place::Margin => {
+            if byte == b'#' {
+                Some(Place::Comment)
+            } else {
+                Some(Place::Word(1))
+            }
+        }
+        Place::Blank => Some(Place::Word(1)),
+        Place::Word(count) => {
+            if count < MOST_KEPT {
+                Some(Place::Word(count + 1))
+            } else {
+                None
+            }
+        }
+        _ => None,
+    }
+}
+
+/// The place of a line that was text so far behind a byte that is no LF; None where the byte adds nothing.
+fn text_place(place: Place, byte: u8) -> Option<Place>
+    ensures { result ≡ text_place place byte }
+{
+    if byte == b'\r' {
+        return Some(Place::Return);
+    }
+    if !is_plain(byte) {
+        return Some(Place::NotText);
+    }
+    if is_blank(byte) {
+        blank_place(place)
+    } else {
+        solid_place(place, byte)
+    }
+}
+
+/// The place behind one more byte; None where the byte adds nothing.
+fn place_after(place: Place, byte: u8) -> Option<Place>
+    ensures { result ≡ place_after place byte }
+{
+    if byte == b'\n' {
+        return Some(Place::Ended);
+    }
+    match place {
+        Place::Ended => Some(Place::Ended),
+        Place::NotText => None,
+        Place::Return => Some(Place::NotText),
+        _ => text_place(place, byte),
+    }
+}
+
+/// A line as far as its bytes came, in little memory: of blanks that follow one another it keeps one, of a word 64
+/// bytes, and nothing of a comment or behind a byte that isn't text. What is kept stands for the whole line.
+#[derive(Drop)]
+pub struct ShortLine {
+    kept: Vec<u8>,
+    place: Place,
+}
+
+impl ShortLine {
+    /// Before the first byte.
+    pub fn new(alloc: Global) -> ShortLine
+        ensures { IsShort [] result }
+    {
+        ShortLine {
+            kept: Vec::new(alloc),
+            place: Place::Start,
+        }
+    }
+
+    /// Takes more bytes of the line, whose LF may be the last of them. `Memory` comes too where 4,000,000,000 bytes
+    /// would be kept.
+    pub fn push(&mut self, bytes: &[u8]) -> Result<(), Memory>
+        ensures { OnOk result (TakesIn self.old bytes.now self.new) }
+    {
+        for byte in bytes {
+            self.take(*byte)?;
+        }
+        Ok(())
+    }
+
+    /// What is kept, with the end of the line where that came.
+    pub fn bytes(&self) -> &[u8]
+        ensures { (line : List ℕ) → IsShort line self.now → StandsFor result.now line }
+    {
+        &self.kept
+    }
+
+    /// No byte came.
+    pub fn is_empty(&self) -> bool
+        ensures none { result ≡ true → (line : List ℕ) → IsShort line self.now → line ≡ [] }
+        ensures some { result ≡ false → (line : List ℕ) → IsShort line self.now → 0 < length line }
+    {
+        self.kept.is_empty()
+    }
+
+    /// Whether `%%` is the only word of the line.
+    pub fn is_separator(&self) -> bool
+        ensures { (line : List ℕ) → IsShort line self.now → result ≡ is_separator line }
+    {
+        if self.kept.is_empty() || self.kept.len() >= TOO_LONG {
+            return false;
+        }
+        parts::is_separator(&self.kept)
+    }
+
+    /// Forgets the line.
+    pub fn clear(&mut self)
+        ensures { IsShort [] self.new }
+    {
+        self.kept.clear();
+        self.place = Place::Start;
+    }
+
+    /// Takes one more byte.
+    fn take(&mut self, byte: u8) -> Result<(), Memory>
+        ensures { OnOk result (TakesIn self.old (byte ∷ []) self.new) }
+    {
+        match place_after(self.place, byte) {
+            None => Ok(()),
+            Some(place) => {
+                if self.kept.len() >= TOO_LONG - 1 {
+                    return Err(Memory);
+                }
+                self.kept.push(byte)?;
+                self.place = place;
+                Ok(())
+            }
+        }
+    }
+}
