@@ -9,6 +9,9 @@ mod LineLaws
 mod ReadingLaws
 mod OnlyLaws
 mod Told
+mod LongWords
+mod LineByLaws
+mod ReaderLaws
 mod ValueLaws
 mod SaidRanges
 mod FitLaws

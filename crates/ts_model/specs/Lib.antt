@@ -3,6 +3,7 @@ pub mod Statement
 pub mod Stated
 pub mod Cells
 pub mod ModelReading
+pub mod LineByLine
 pub mod Promise
 pub mod Series
 pub mod Compares
@@ -10,3 +11,4 @@ pub mod Meets
 pub mod FirstBest
 pub mod Judgement
 pub mod Views
+pub mod Progress

@@ -137,15 +137,16 @@ read_rows lists m [] = Ok m
 read_rows lists m (row ∷ rows) =
     onward row.number (line_gives lists m (texts_of row.words)) (λ after. read_rows lists after rows)
 
-abbrev pub ended_model : Need → Cut → Stated → Result Stated (ℕ × ModelKind)
-ended_model need c m =
-    if not (has_cells m) then Err (c.count + 1, NoCells)
-    else (if needs_objective need && is_none m.objective then Err (c.count + 1, NoObjective)
+-- the end of a text of so many lines, which state m
+abbrev pub ended_model : Need → ℕ → Stated → Result Stated (ℕ × ModelKind)
+ended_model need count m =
+    if not (has_cells m) then Err (count + 1, NoCells)
+    else (if needs_objective need && is_none m.objective then Err (count + 1, NoObjective)
     else Ok m)
 
 abbrev pub ended_text : Need → Cut → Stated → Option ℕ → Result Stated (ℕ × ModelKind)
 ended_text need c m (Some line) = Err (line, NotText)
-ended_text need c m None = ended_model need c m
+ended_text need c m None = ended_model need c.count m
 
 abbrev pub ended : Need → Cut → Result Stated (ℕ × ModelKind) → Result Stated (ℕ × ModelKind)
 ended need c (Err e) = Err e

@@ -6,7 +6,7 @@ ghost use Rattle.ts_model.specs.declared.model.Need.{Need};
 ghost use Rattle.ts_model.specs.declared.error.ModelKind.{ModelKind};
 ghost use Rattle.ts_token.specs.Views.{rows, cut};
 ghost use Rattle.ts_model.specs.Stated.{Stated, nothing};
-ghost use Rattle.ts_model.specs.ModelReading.{needs_lists, needs_objective, line_gives, read_rows, reading};
+ghost use Rattle.ts_model.specs.ModelReading.{needs_lists, needs_objective, read_rows, ended_model, reading};
 ghost use Rattle.ts_model.specs.Promise.{IsWhole, KeepsLimits};
 ghost use Rattle.ts_model.specs.Views.{texts, stated, drafted, IsSound, Gives, Drafts, Reads, Tells};
 
@@ -33,7 +33,7 @@ fn read_lines(alloc: Global, limited: bool, lines: &[Line]) -> Result<Draft, Mod
 }
 
 /// Whether all domains together have a limit.
-fn needs_lists(need: Need) -> bool
+pub(crate) fn needs_lists(need: Need) -> bool
     ensures { result ≡ needs_lists need }
 {
     need != Need::Values
@@ -44,6 +44,25 @@ fn needs_objective(need: Need) -> bool
     ensures { result ≡ needs_objective need }
 {
     need == Need::Best
+}
+
+/// What a text of so many lines states, none of them bad, or what is missing at its end.
+pub(crate) fn ended_draft(draft: Draft, count: u32, need: Need) -> Result<Draft, ModelStop>
+    requires few { length draft.cells.own.items ≤ most_cells }
+    requires room { count < 4000000000 }
+    ensures ended { Drafts result (ended_model need count (drafted draft)) }
+    ensures few { IfOk result (λ draft. length draft.cells.own.items ≤ most_cells) }
+{
+    let line = count + 1;
+    if !draft.has_cells() {
+        let kind = ModelKind::NoCells;
+        return Err(ModelStop::Refused { line, kind });
+    }
+    if needs_objective(need) && draft.objective.is_none() {
+        let kind = ModelKind::NoObjective;
+        return Err(ModelStop::Refused { line, kind });
+    }
+    Ok(draft)
 }
 
 /// What the whole text states, or why it is refused.
@@ -59,23 +78,11 @@ fn read_draft(alloc: Global, tokens: &Tokens, need: Need) -> Result<Draft, Model
             kind: ModelKind::NotText,
         });
     }
-    if !draft.has_cells() {
-        return Err(ModelStop::Refused {
-            line: tokens.count + 1,
-            kind: ModelKind::NoCells,
-        });
-    }
-    if needs_objective(need) && draft.objective.is_none() {
-        return Err(ModelStop::Refused {
-            line: tokens.count + 1,
-            kind: ModelKind::NoObjective,
-        });
-    }
-    Ok(draft)
+    ended_draft(draft, tokens.count, need)
 }
 
 /// The model of a draft, each cell with a copy of its domain.
-fn model_of(alloc: Global, draft: Draft) -> Result<Model, Memory>
+pub(crate) fn model_of(alloc: Global, draft: Draft) -> Result<Model, Memory>
     requires { length draft.cells.own.items ≤ most_cells }
     ensures same { IfOk result (λ m. stated m ≡ drafted draft) }
     ensures counted { IfOk result (λ m. m.n ≡ vec_len m.cells) }

@@ -1,15 +1,50 @@
 //! Model and series texts with their answers, worked out by hand.
 
-use crate::{Model, ModelStop, Need, Op, SeriesStop, read_model, read_series, satisfies};
+use crate::{
+    Model, ModelReader, ModelStop, Need, Op, SeriesStop, read_model, read_series, satisfies,
+};
 use std::alloc::Global;
 use std::cmp::Ordering;
 use std::process::Abort;
 use std::test::Fail;
-use ts_base::Ext;
-use ts_token::cut_tokens;
+use ts_base::{Ext, first_line};
+use ts_token::{ShortLine, cut_tokens};
 
 /// A need, a text, and `ok` or the line and kind of its refusal.
-static MODELS: [(Need, &str, &str); 138] = [
+static MODELS: [(Need, &str, &str); 145] = [
+    // by the lines that are told by their first bytes
+    (
+        Need::Values,
+        "cells 2\nterm aaaaaaaaaabbbbbbbbbbccccccccccddddddddddeeeeeeeeeeffffffffffgggggggggg = count peak\n",
+        "2 Shape",
+    ),
+    (
+        Need::Values,
+        "cells 11111111112222222222333333333344444444445555555555666666666677777777778\n",
+        "1 Number",
+    ),
+    (
+        Need::Values,
+        "cells 2\ndomain 1 11111111112222222222333333333344444444445555555555666666666677777777778..9\n",
+        "2 Number",
+    ),
+    (
+        Need::Values,
+        "cells 2\r\n# a  comment \u{1} \r\n",
+        "2 NotText",
+    ),
+    (Need::Values, "cells 2\r\rdomain 1\n", "1 NotText"),
+    (
+        Need::Values,
+        "\tcells  \t2  \r\n \t# one  two \r\n\t \r\ndomain \t 1..2 \t \r\n",
+        "ok",
+    ),
+    (
+        Need::Best,
+        "\r\n# one\n\t\ncells 2\n# two\n\n",
+        "7 NoObjective",
+    ),
+
     // taken
     (Need::Values, "cells 3\n", "ok"),
     (Need::Values, "# no\n\n \t\ncells 512", "ok"),
@@ -427,11 +462,40 @@ fn comparisons() -> &'static [(Op, bool, bool, bool)] {
     &COMPARISONS
 }
 
-/// What is told of a model text.
+/// What is told of a model text, the same as of its lines one by one and of what is kept of them.
 fn told(alloc: Global, rt: &impl Abort, need: Need, text: &str) -> Result<String, Fail> {
     assert!(rt; text.len() < 1_000_000);
     let tokens = cut_tokens(alloc, text.as_bytes())?;
-    let told = match read_model(alloc, &tokens, need) {
+    let told = told_as(alloc, read_model(alloc, &tokens, need))?;
+    let by_lines = told_as(alloc, read_by_lines(alloc, need, text.as_bytes(), false))?;
+    assert_eq!(rt; by_lines.as_str(), told.as_str(), "by lines, {text}");
+    let by_short = told_as(alloc, read_by_lines(alloc, need, text.as_bytes(), true))?;
+    assert_eq!(rt; by_short.as_str(), told.as_str(), "by short lines, {text}");
+    Ok(told)
+}
+
+/// The model of a text that is read line by line, as the lines stand or as far as they are kept.
+fn read_by_lines(alloc: Global, need: Need, text: &[u8], short: bool) -> Result<Model, ModelStop> {
+    let mut reader = ModelReader::new(alloc, need)?;
+    let mut kept = ShortLine::new(alloc);
+    let mut rest = text;
+    while !rest.is_empty() {
+        let (line, left) = first_line(rest);
+        if short {
+            kept.clear();
+            kept.push(line)?;
+            reader.line(kept.bytes())?;
+        } else {
+            reader.line(line)?;
+        }
+        rest = left;
+    }
+    reader.end()
+}
+
+/// What was read, or why nothing was.
+fn told_as(alloc: Global, read: Result<Model, ModelStop>) -> Result<String, Fail> {
+    let told = match read {
         Ok(_) => format!(in alloc; "ok")?,
         Err(ModelStop::Refused { line, kind }) => format!(in alloc; "{line} {kind:?}")?,
         Err(ModelStop::Memory) => format!(in alloc; "memory")?,

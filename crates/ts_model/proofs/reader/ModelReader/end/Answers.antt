@@ -1,0 +1,19 @@
+use Rattle.ts_token.specs.Text.{cut_of}
+use Rattle.ts_model.proofs.ReaderLaws.{ends, whole_read, limits_read}
+use Rattle.ts_model.proofs.Told.{told}
+use Rattle.ts_model.proofs.reader.ModelReader.end.Goals as goal
+
+pub returns-clause-exact : goal.returns-clause-exact
+returns-clause-exact c need text has = ends c.self.inside.state c.args.self c.end.result need text c.self.view_is c.end.ensures.ends has
+
+pub returns-clause-first : goal.returns-clause-first
+returns-clause-first c need text has =
+    told need (cut_of text) c.end.result (ends c.self.inside.state c.args.self c.end.result need text c.self.view_is c.end.ensures.ends has)
+
+pub returns-clause-whole : goal.returns-clause-whole
+returns-clause-whole c need text has =
+    whole_read need text c.end.result (ends c.self.inside.state c.args.self c.end.result need text c.self.view_is c.end.ensures.ends has)
+
+pub returns-clause-limits : goal.returns-clause-limits
+returns-clause-limits c need text has =
+    limits_read need text c.end.result (ends c.self.inside.state c.args.self c.end.result need text c.self.view_is c.end.ensures.ends has)

@@ -1,0 +1,37 @@
+use Rattle.std.proofs.Common.{◌+◌, refl, ap, subst, ◌∙◌, arith}
+use Rattle.ts_token.specs.declared.content.Content.{Content}
+use Rattle.ts_token.specs.Contents.{Holds}
+use Rattle.ts_token.specs.Gist.{bare}
+use Rattle.ts_token.specs.Views.{pieces}
+use Rattle.ts_model.specs.Views.{drafted}
+use Rattle.ts_model.proofs.ReaderLaws.{took_words, stopped_words}
+use Rattle.ts_model.proofs.reader.Progress.take.Goals as goal
+
+pub returns-in-Ok : goal.returns-in-Ok
+returns-in-Ok c =
+    let old = c.args.self.now in
+    let line = bare c.args.line.now in
+    let holds = subst (λ (h : Content). Holds h line) c.in-Words.is c.in_ok-line_content.ensures in
+    let follows = c.in-Ok.ensures.follows in
+    record {
+      fit = record {
+        sound = follows.sound;
+        limited = follows.limited ∙ c.requires.limited;
+        turn = omega (arith, follows.turn, c.requires.turn);
+        few = omega (arith, c.if-self.false);
+      };
+      need = refl;
+      count = refl;
+      gives =
+          took_words old.need (old.count + 1) (drafted old.draft) (drafted c.read_line.new.self) line c.deref.result.now old.draft.cells.limited
+          holds.0 holds.1 (ap pieces c.deref.ensures.value ∙ holds.2) c.requires.limited c.in-Ok.ensures.taken;
+    }
+
+pub returns : goal.returns
+returns c =
+    let old = c.args.self.now in
+    let line = bare c.args.line.now in
+    let holds = subst (λ (h : Content). Holds h line) c.in-Words.is c.in_ok-line_content.ensures in
+    stopped_words old (record { alloc = old.alloc; need = old.need; count = old.count + 1; draft = c.read_line.new.self }) line c.deref.result.now c.in-Err.stop
+    c.at_line.result (drafted c.read_line.new.self) c.at_line.ensures holds.0 holds.1 (ap pieces c.deref.ensures.value ∙ holds.2) c.requires
+    c.in-Err.ensures.taken

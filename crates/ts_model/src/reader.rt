@@ -1,0 +1,196 @@
+//! The model of a text that comes line by line.
+
+ghost use Rattle.std.specs.Prelude.{ℕ, ◌≡◌, List, [], vec_len, IfOk, OnErr, OnOk, Err};
+ghost use Rattle.ts_token.specs.Gist.{bare};
+ghost use Rattle.ts_token.specs.Text.{cut_of};
+ghost use Rattle.ts_model.specs.declared.error.ModelStop.TheVariants.{Memory as ModelMemory};
+ghost use Rattle.ts_model.specs.declared.model.Need.{Need};
+ghost use Rattle.ts_model.specs.declared.reader.State.TheVariants.{Stopped};
+ghost use Rattle.ts_model.specs.LineByLine.{HasRead, ReadsLine};
+ghost use Rattle.ts_model.specs.ModelReading.{ended_model, model_reading};
+ghost use Rattle.ts_model.specs.Progress.{IsCalm, IsFit, IsFitState, StateEnds, StateTakes, TakesLine};
+ghost use Rattle.ts_model.specs.Promise.{IsWhole, KeepsLimits};
+ghost use Rattle.ts_model.specs.Stated.{nothing};
+ghost use Rattle.ts_model.specs.Views.{drafted, stated, Reads, Tells};
+
+use crate::draft::Draft;
+use crate::error::{ModelKind, ModelStop, at_line};
+use crate::model::{Model, Need};
+use crate::read::{ended_draft, model_of, needs_lists};
+use std::alloc::Global;
+use ts_base::Memory;
+use ts_token::{Content, line_content};
+
+/// Lines of so many bytes, and lines behind so many others, aren't read.
+const TOO_MANY: u32 = 4_000_000_000;
+
+/// What the lines so far state, none of them bad.
+#[derive(Drop)]
+pub(crate) struct Progress {
+    pub alloc: Global,
+    pub need: Need,
+    pub count: u32,
+    pub draft: Draft,
+}
+
+impl Progress {
+    /// Before the first line.
+    fn new(alloc: Global, need: Need) -> Result<Progress, Memory>
+        ensures fit { IfOk result IsFit }
+        ensures nothing { IfOk result (λ p. drafted p.draft ≡ nothing) }
+        ensures need { IfOk result (λ p. p.need ≡ need) }
+        ensures count { IfOk result (λ p. p.count ≡ 0) }
+    {
+        Ok(Progress {
+            alloc,
+            need,
+            count: 0,
+            draft: Draft::new(alloc, needs_lists(need))?,
+        })
+    }
+
+    /// Takes the next line.
+    fn take(&mut self, line: &[u8]) -> Result<(), ModelStop>
+        requires { IsFit self.old }
+        ensures { TakesLine self.old (bare line.now) result self.new }
+    {
+        if line.len() >= TOO_MANY as usize || self.count >= TOO_MANY - 1 {
+            return Err(ModelStop::Memory);
+        }
+        self.count += 1;
+        match line_content(self.alloc, line)? {
+            Content::NotText => Err(ModelStop::Refused {
+                line: self.count,
+                kind: ModelKind::NotText,
+            }),
+            Content::Skipped => Ok(()),
+            Content::Words(words) => match self.draft.read_line(self.alloc, &words) {
+                Ok(()) => Ok(()),
+                Err(stop) => Err(at_line(self.count, stop)),
+            },
+        }
+    }
+
+    /// The end of the text.
+    fn end(self) -> Result<Model, ModelStop>
+        requires { IsFit self }
+        ensures reads { Reads result (ended_model self.need self.count (drafted self.draft)) }
+        ensures counted { IfOk result (λ m. m.n ≡ vec_len m.cells) }
+    {
+        let Progress {
+            alloc,
+            need,
+            count,
+            draft,
+        } = self;
+        let draft = ended_draft(draft, count, need)?;
+        Ok(model_of(alloc, draft)?)
+    }
+}
+
+/// On the way, or stopped: by a bad line, or for want of memory.
+#[derive(Drop)]
+pub(crate) enum State {
+    Open(Progress),
+    Stopped(ModelStop),
+}
+
+impl State {
+    /// Takes the next line; a stop stays, and nothing else is kept behind it.
+    fn take(&mut self, line: &[u8])
+        requires { IsFitState self.old }
+        ensures fit { IsFitState self.new }
+        ensures read { StateTakes self.old (bare line.now) self.new }
+    {
+        let stop = match self {
+            State::Open(progress) => match progress.take(line) {
+                Ok(()) => return,
+                Err(stop) => stop,
+            },
+            State::Stopped(_) => return,
+        };
+        *self = State::Stopped(stop);
+    }
+
+    /// `Memory` where memory was wanting.
+    fn answer(&self) -> Result<(), Memory>
+        ensures calm { OnOk result (IsCalm self.now) }
+        ensures wanted { OnErr result (self.now ≡ Stopped ModelMemory) }
+    {
+        match self {
+            State::Open(_) => Ok(()),
+            State::Stopped(ModelStop::Refused { .. }) => Ok(()),
+            State::Stopped(ModelStop::Memory) => Err(Memory),
+        }
+    }
+
+    /// The end of the text.
+    fn end(self) -> Result<Model, ModelStop>
+        requires { IsFitState self }
+        ensures ends { StateEnds self result }
+        ensures counted { IfOk result (λ m. m.n ≡ vec_len m.cells) }
+    {
+        match self {
+            State::Open(progress) => progress.end(),
+            State::Stopped(stop) => Err(stop),
+        }
+    }
+}
+
+/// Reads the model of a text line by line. It keeps what the lines so far state; behind the first bad line it keeps the
+/// refusal alone. Contracts see what the lines state and how many they are, or the stop.
+#[derive(Drop)]
+pub struct ModelReader {
+    state: State,
+}
+
+impl std::marker::Model for ModelReader {
+    ghost use Rattle.std.specs.Prelude.{Result};
+    ghost use Rattle.ts_model.specs.declared.error.ModelStop.{ModelStop};
+    ghost use Rattle.ts_model.specs.LineByLine.{SoFar};
+    ghost use Rattle.ts_model.specs.Progress.{IsFitState, seen};
+
+    ghost Value = { Result SoFar ModelStop };
+
+    ghost view = { λ r. seen r.state };
+
+    ghost invariant = { λ r. IsFitState r.state };
+}
+
+impl ModelReader {
+    /// Before the first line.
+    pub fn new(alloc: Global, need: Need) -> Result<ModelReader, Memory>
+        ensures { IfOk result (λ r. HasRead need [] r) }
+    {
+        Ok(ModelReader {
+            state: State::Open(Progress::new(alloc, need)?),
+        })
+    }
+
+    /// Reads the next line: given with its LF, which the last line may lack, or as bytes that stand for it. Each line
+    /// after `Memory`, and the end, is answered `Memory`; it comes too where a line has 4,000,000,000 bytes, and for a
+    /// line behind 3,999,999,999 others.
+    pub fn line(&mut self, line: &[u8]) -> Result<(), Memory>
+        ensures read { OnOk result (ReadsLine self.old line.now self.new) }
+        ensures wanted { OnErr result (self.new ≡ Err ModelMemory) }
+    {
+        self.state.take(line);
+        self.state.answer()
+    }
+
+    /// The model that the lines state, or the first bad line with the first kind that holds of it, as `read_model`
+    /// tells them.
+    pub fn end(self) -> Result<Model, ModelStop>
+        ensures exact { (need : Need) (text : List ℕ) → HasRead need text self →
+            Reads result (model_reading need text) }
+        ensures first { (need : Need) (text : List ℕ) → HasRead need text self → Tells need (cut_of text) result }
+        ensures counted { IfOk result (λ m. m.n ≡ vec_len m.cells) }
+        ensures whole { (need : Need) (text : List ℕ) → HasRead need text self →
+            IfOk result (λ m. IsWhole (stated m)) }
+        ensures limits { (need : Need) (text : List ℕ) → HasRead need text self →
+            IfOk result (λ m. KeepsLimits need (stated m)) }
+    {
+        let ModelReader { state } = self;
+        state.end()
+    }
+}
