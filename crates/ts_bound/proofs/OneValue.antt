@@ -85,11 +85,11 @@ one_move m l s q vs row ws next h is one one' e c =
 pub one_state : (a : Body) (vs : List ℤ) (row : List Hull) (ws : List ℤ) (q s : ℕ) (l : Letter) (m : Move) (next next' : List Hull) (h p : Packed) →
     l ≡ letter_of (get_or vs 0 (pos 0)) (get_or ws 0 (pos 0)) → m ≡ move_at a q l → length vs ≡ 1 → length ws ≡ 1 → AllTakeNone next →
     s ≡ length a.states → unpack_hull h ≡ hull_in s q row 0 →
-    IsPackOf p (after_move m (unpack_hull h) (get_or vs 0 (pos 0)) (get_or ws 0 (pos 0))) → (u : Hull) → u ≡ unpack_hull p →
-    next' ≡ with_hull_at next (0 * s + m.next) u → next' ≡ with_state a vs row ws q next
-one_state a vs row ws q s l m next next' h p is move one one' c e from pack u u_is step =
+    IsPackOf p (after_move m (unpack_hull h) (get_or vs 0 (pos 0)) (get_or ws 0 (pos 0))) →
+    next' ≡ with_hull_at next (0 * s + m.next) (unpack_hull p) → next' ≡ with_state a vs row ws q next
+one_state a vs row ws q s l m next next' h p is move one one' c e from pack step =
     let some : some_hull (unpack_hull p) ≡ true = ap some_hull pack.value ∙ pack.some in
-    step ∙ ap (with_hull_at next (0 * s + m.next)) u_is ∙ one_move m l s q vs row ws next (unpack_hull p) (sym is) one one'
+    step ∙ one_move m l s q vs row ws next (unpack_hull p) (sym is) one one'
     (pack.value ∙ ap (λ z. after_move m z (get_or vs 0 (pos 0)) (get_or ws 0 (pos 0))) from) (some_canonical (unpack_hull p) some)
     ∙ ap (λ k. with_move k l s q vs row ws next) move
     ∙ ap (λ n. with_move (move_at a q l) l n q vs row ws next) e

@@ -1,5 +1,5 @@
 -- Packed numbers are ordered as what they stand for, and their sums, greatest and least stand for those.
-use Rattle.std.proofs.Common.{◌≡◌, ◌⊎◌, inl, inr, Bool, true, false, cond, not, ◌&&◌, IsTrue, ℤ, pos, ◌+ℤ◌, ◌≤ℤ◌, ◌<ℤ◌, int_le, refl, sym, ◌∙◌, ap, subst, arith}
+use Rattle.std.proofs.Common.{◌≡◌, ◌⊎◌, inl, inr, Bool, true, false, cond, not, ◌&&◌, IsTrue, ℤ, pos, ◌+ℤ◌, ◌≤ℤ◌, ◌<ℤ◌, int_le, int_lt, refl, sym, ◌∙◌, ap, subst, arith}
 use Rattle.std.proofs.lemmas.Bool.{and_parts}
 use Rattle.std.proofs.lemmas.Int.{ints, clamps}
 use lib.IntN.{negsuc}
@@ -7,7 +7,7 @@ use Rattle.ts_base.specs.declared.ext.Ext.{Ext}
 use Rattle.ts_base.specs.declared.ext.Ext.TheVariants.{NegInf, Int, PosInf}
 use Rattle.ts_base.specs.declared.span.Span.{Span}
 use Rattle.ts_base.specs.Numbers.{ext_le, ext_max, ext_min, ext_plus, clamp}
-use Rattle.ts_base.specs.Spans.{none_span, one_span, has_some}
+use Rattle.ts_base.specs.Spans.{none_span, one_span, has_some, span_hull}
 use Rattle.ts_base.proofs.Order.{le_antisym}
 use Rattle.ts_base.proofs.SpanLaws.{one_some}
 use Rattle.ts_automaton.specs.declared.expr.Op.{Op}
@@ -25,7 +25,7 @@ use Rattle.ts_bound.specs.Splits.{front_span, closed_span}
 use Rattle.ts_bound.specs.Cuts.{Cut, front_hull, closed_hull}
 use Rattle.ts_bound.specs.Smalls.{small_int}
 use Rattle.ts_bound.proofs.HullLaws.{same_hull, none_takes_none}
-use Rattle.ts_bound.proofs.SpanHulls.{both_is, both_some, hull_both, hull_first, lifted_both, lifted_some}
+use Rattle.ts_bound.proofs.SpanHulls.{both_is, both_some, hull_both, hull_first, hull_second, hull_neither, lifted_both, lifted_some}
 use Rattle.ts_bound.proofs.Sums.{none_left}
 use Rattle.ts_bound.proofs.SplitLaws.{after_is}
 
@@ -195,6 +195,132 @@ pub hull_ends_some : (a b : Ends) (lo hi : End) → has_some (unpack_span a) ≡
     has_some (span_from (unpack lo) (unpack hi)) ≡ true
 hull_ends_some a b lo hi h k e f =
     ap has_some (ap (λ z. span_from z (unpack hi)) e ∙ ap (span_from (ext_min (unpack a.lo) (unpack b.lo))) f) ∙ both_some (unpack_span a) (unpack_span b) h
+
+-- a span, and a hull, that take in one that isn't none: end by end
+
+least_none : (t : Span) → span_from (ext_min PosInf t.lo) (ext_max NegInf t.hi) ≡ t
+least_none t = ap (λ z. span_from z t.hi) (go t.lo)
+  where
+    go : (e : Ext) → ext_min PosInf e ≡ e
+    go NegInf = refl
+    go (Int x) = refl
+    go PosInf = refl
+
+pub widened_is : (s t : Span) (lo hi : Ext) → has_some t ≡ true → span_hull s none_span ≡ s → lo ≡ ext_min s.lo t.lo → hi ≡ ext_max s.hi t.hi →
+    span_from lo hi ≡ span_hull s t
+unfolding least_span
+widened_is s t lo hi h c e f =
+    ap (λ z. span_from z hi) e ∙ ap (span_from (ext_min s.lo t.lo)) f ∙ go (has_some s) refl
+  where
+    go : (b : Bool) → has_some s ≡ b → span_from (ext_min s.lo t.lo) (ext_max s.hi t.hi) ≡ span_hull s t
+    go true k = sym (hull_both s t k h)
+    go false k =
+        let empty : s ≡ none_span = sym c ∙ hull_neither s none_span k refl in
+        ap (λ z. span_from (ext_min z.lo t.lo) (ext_max z.hi t.hi)) empty ∙ least_none t ∙ sym (hull_second s t k h)
+
+pub canonical_parts : (h : Hull) → hull_of_both h none ≡ h →
+    (span_hull h.c none_span ≡ h.c) × (span_hull h.d none_span ≡ h.d) × (span_hull h.r none_span ≡ h.r)
+unfolding hull_of_both
+canonical_parts h e = (ap (λ (k : Hull). k.c) e, ap (λ (k : Hull). k.d) e, ap (λ (k : Hull). k.r) e)
+
+pub widened_hull : (h k : Hull) (c d r : Span) → c ≡ span_hull h.c k.c → d ≡ span_hull h.d k.d → r ≡ span_hull h.r k.r →
+    hull_with c d r ≡ hull_of_both h k
+unfolding hull_of_both
+widened_hull h k c d r e f g = same_hull _ _ _ _ _ _ e f g
+
+-- an end below or above another
+
+lt_means : (a b : ℤ) → int_lt a b ≡ true → a <ℤ b
+lt_means a b h = grind (arith, ints)
+
+lt_not : (a b : ℤ) → int_lt a b ≡ false → b ≤ℤ a
+lt_not a b h = grind (arith, ints)
+
+le_means : (a b : ℤ) → int_le a b ≡ true → a ≤ℤ b
+le_means a b h = grind (arith, ints)
+
+le_not : (a b : ℤ) → int_le a b ≡ false → b <ℤ a
+le_not a b h = grind (arith, ints)
+
+le_holds : (a b : ℤ) → a ≤ℤ b → int_le a b ≡ true
+le_holds a b h = grind (arith, ints)
+
+le_fails : (a b : ℤ) → b <ℤ a → int_le a b ≡ false
+le_fails a b h = grind (arith, ints)
+
+-- an end that is no infinity above
+below_high : (s : End) (e : Ext) → s.at <ℤ pos 9223372036854775807 → ext_le e NegInf ≡ false → ext_le e (Int s.at) ≡ false →
+    ext_le e (unpack s) ≡ false
+below_high s e h low between = go (int_le s.at (negsuc 9223372036854775807)) refl
+  where
+    go : (b : Bool) → int_le s.at (negsuc 9223372036854775807) ≡ b → ext_le e (unpack s) ≡ false
+    go true k = ap (ext_le e) (unpack_low s k) ∙ low
+    go false k = ap (ext_le e) (unpack_between s k (le_fails (pos 9223372036854775807) s.at h)) ∙ between
+
+-- and one that is no infinity below
+over_low : (s : End) (e : Ext) → negsuc 9223372036854775807 <ℤ s.at → ext_le PosInf e ≡ false → ext_le (Int s.at) e ≡ false →
+    ext_le (unpack s) e ≡ false
+over_low s e h high between = go (above_low s h)
+  where
+    go : (unpack s ≡ PosInf) ⊎ (unpack s ≡ Int s.at) → ext_le (unpack s) e ≡ false
+    go (inl k) = ap (λ z. ext_le z e) k ∙ high
+    go (inr k) = ap (λ z. ext_le z e) k ∙ between
+
+pub below_then : (s : End) (e : Ext) (x v w : ℤ) → v ≡ s.at → w ≡ x → e ≡ Int x → x ≤ℤ pos 9223372036854775807 → int_lt v w ≡ true →
+    int_lt v w ≡ not (ext_le e (unpack s))
+below_then s e x v w i j is h t =
+    let less : s.at <ℤ x = lt_means s.at x (sym (ap (λ z. int_lt z w) i ∙ ap (int_lt s.at) j) ∙ t) in
+    t ∙ sym (ap not (ap (λ z. ext_le z (unpack s)) is ∙ below_high s (Int x) (omega (arith, ints, less, h)) refl (le_fails x s.at less)))
+
+pub below_else : (s : End) (e : Ext) (x v w : ℤ) → v ≡ s.at → w ≡ x → e ≡ Int x → int_lt v w ≡ false →
+    int_le v (negsuc 9223372036854775807) ≡ not (ext_le e (unpack s))
+below_else s e x v w i j is t = ap (λ z. int_le z (negsuc 9223372036854775807)) i ∙ go (int_le s.at (negsuc 9223372036854775807)) refl
+  where
+    behind : x ≤ℤ s.at
+    behind = lt_not s.at x (sym (ap (λ z. int_lt z w) i ∙ ap (int_lt s.at) j) ∙ t)
+
+    at_least : (unpack s ≡ PosInf) ⊎ (unpack s ≡ Int s.at) → ext_le (Int x) (unpack s) ≡ true
+    at_least (inl k) = ap (ext_le (Int x)) k
+    at_least (inr k) = ap (ext_le (Int x)) k ∙ le_holds x s.at behind
+
+    go : (b : Bool) → int_le s.at (negsuc 9223372036854775807) ≡ b → int_le s.at (negsuc 9223372036854775807) ≡ not (ext_le e (unpack s))
+    go true k = k ∙ sym (ap not (ap (λ z. ext_le z (unpack s)) is ∙ ap (ext_le (Int x)) (unpack_low s k)))
+    go false k = k ∙ sym (ap not (ap (λ z. ext_le z (unpack s)) is ∙ at_least (above_low s (le_not s.at (negsuc 9223372036854775807) k))))
+
+pub below_infinity : (s : End) (e : Ext) (v : ℤ) → v ≡ s.at → e ≡ PosInf → int_lt v (pos 9223372036854775807) ≡ not (ext_le e (unpack s))
+below_infinity s e v i is = ap (λ z. int_lt z (pos 9223372036854775807)) i ∙ go (int_lt s.at (pos 9223372036854775807)) refl
+  where
+    go : (b : Bool) → int_lt s.at (pos 9223372036854775807) ≡ b → int_lt s.at (pos 9223372036854775807) ≡ not (ext_le e (unpack s))
+    go true k = k ∙ sym (ap not (ap (λ z. ext_le z (unpack s)) is ∙ below_high s PosInf (lt_means s.at (pos 9223372036854775807) k) refl refl))
+    go false k = k ∙ sym (ap not (ap (λ z. ext_le z (unpack s)) is ∙ ap (ext_le PosInf) (is_high s (lt_not s.at (pos 9223372036854775807) k))))
+
+pub above_then : (s : End) (e : Ext) (x v w : ℤ) → v ≡ s.at → w ≡ x → e ≡ Int x → negsuc 9223372036854775807 ≤ℤ x → int_lt w v ≡ true →
+    int_lt w v ≡ not (ext_le (unpack s) e)
+above_then s e x v w i j is h t =
+    let less : x <ℤ s.at = lt_means x s.at (sym (ap (λ z. int_lt z v) j ∙ ap (int_lt x) i) ∙ t) in
+    t ∙ sym (ap not (ap (ext_le (unpack s)) is ∙ over_low s (Int x) (omega (arith, ints, less, h)) refl (le_fails s.at x less)))
+
+pub above_else : (s : End) (e : Ext) (x v w : ℤ) → v ≡ s.at → w ≡ x → e ≡ Int x → int_lt w v ≡ false →
+    int_le (pos 9223372036854775807) v ≡ not (ext_le (unpack s) e)
+above_else s e x v w i j is t = ap (int_le (pos 9223372036854775807)) i ∙ go (int_le (pos 9223372036854775807) s.at) refl
+  where
+    before : s.at ≤ℤ x
+    before = lt_not x s.at (sym (ap (λ z. int_lt z v) j ∙ ap (int_lt x) i) ∙ t)
+
+    at_most : int_le (pos 9223372036854775807) s.at ≡ false → (b : Bool) → int_le s.at (negsuc 9223372036854775807) ≡ b → ext_le (unpack s) (Int x) ≡ true
+    at_most k true l = ap (λ z. ext_le z (Int x)) (unpack_low s l)
+    at_most k false l = ap (λ z. ext_le z (Int x)) (unpack_between s l k) ∙ le_holds s.at x before
+
+    go : (b : Bool) → int_le (pos 9223372036854775807) s.at ≡ b → int_le (pos 9223372036854775807) s.at ≡ not (ext_le (unpack s) e)
+    go true k = k ∙ sym (ap not (ap (ext_le (unpack s)) is ∙ ap (λ z. ext_le z (Int x)) (is_high s (le_means (pos 9223372036854775807) s.at k))))
+    go false k = k ∙ sym (ap not (ap (ext_le (unpack s)) is ∙ at_most k (int_le s.at (negsuc 9223372036854775807)) refl))
+
+pub above_infinity : (s : End) (e : Ext) (v : ℤ) → v ≡ s.at → e ≡ NegInf → int_lt (negsuc 9223372036854775807) v ≡ not (ext_le (unpack s) e)
+above_infinity s e v i is = ap (int_lt (negsuc 9223372036854775807)) i ∙ go (int_lt (negsuc 9223372036854775807) s.at) refl
+  where
+    go : (b : Bool) → int_lt (negsuc 9223372036854775807) s.at ≡ b → int_lt (negsuc 9223372036854775807) s.at ≡ not (ext_le (unpack s) e)
+    go true k = k ∙ sym (ap not (ap (ext_le (unpack s)) is ∙ over_low s NegInf (lt_means (negsuc 9223372036854775807) s.at k) refl refl))
+    go false k = k ∙ sym (ap not (ap (ext_le (unpack s)) is ∙ ap (λ z. ext_le z NegInf) (is_low s (lt_not (negsuc 9223372036854775807) s.at k))))
 
 -- moves
 

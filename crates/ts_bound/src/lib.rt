@@ -34,6 +34,7 @@ mod table;
 mod tables;
 #[cfg(test)]
 mod tests;
+mod widen;
 
 pub use row::fill_row;
 pub use spans::{term_span, value_span};

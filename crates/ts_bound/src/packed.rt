@@ -52,7 +52,7 @@ impl End {
     /// The number or infinity.
     #[tactic(auto, unfolding(crate::specs::Packs::unpack))]
     #[inline(always)]
-    fn unpacked(self) -> Ext
+    pub(crate) fn unpacked(self) -> Ext
         ensures { result ≡ unpack self }
     {
         if self.at <= i64::MIN {
@@ -182,16 +182,6 @@ impl Ends {
             hi: self.hi.greater(other.hi),
         }
     }
-
-    #[inline(always)]
-    fn unpacked(self) -> Span
-        ensures { result ≡ unpack_span self }
-    {
-        Span {
-            lo: self.lo.unpacked(),
-            hi: self.hi.unpacked(),
-        }
-    }
 }
 
 impl Packed {
@@ -240,18 +230,6 @@ impl Packed {
             c: self.c.hull(other.c),
             d: self.d.hull(other.d),
             r: self.r.hull(other.r),
-        }
-    }
-
-    /// The hull as spans.
-    #[inline(always)]
-    pub(crate) fn unpacked(self) -> Hull
-        ensures { result ≡ unpack_hull self }
-    {
-        Hull {
-            c: self.c.unpacked(),
-            d: self.d.unpacked(),
-            r: self.r.unpacked(),
         }
     }
 }

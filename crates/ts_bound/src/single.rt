@@ -44,6 +44,6 @@ pub(crate) fn step_state(
     if h.is_some() {
         let t = turn(a, q, letter_between(values, next_values));
         let moved = moved_of(t, &h, values, 0, next_values, 0);
-        put(next, s, t.next as usize, 0, &moved.unpacked());
+        put(next, s, t.next as usize, 0, &moved);
     }
 }

@@ -127,15 +127,16 @@ fn passed(
 
 /// What the next value makes of the fronts.
 #[inline(always)]
-fn closed_at(p: &Parts<'_>, h: &Packed, next_values: &Places<'_>, j: usize) -> Hull
+fn closed_at(p: &Parts<'_>, h: &Packed, next_values: &Places<'_>, j: usize) -> Packed
     requires inside { j < length next_values.now }
     requires swept { swept (parts_cut p.now) ≡ true }
     requires some { some_hull (unpack_hull h.now) ≡ true }
     requires next { small_int (get_or next_values.now j (pos 0)) ≡ true }
-    ensures value { result ≡ closed_hull (parts_cut p.now) (unpack_hull h.now) (get_or next_values.now j (pos 0)) }
-    ensures some { some_hull result ≡ true }
+    ensures value { unpack_hull result ≡ closed_hull (parts_cut p.now) (unpack_hull h.now)
+        (get_or next_values.now j (pos 0)) }
+    ensures some { some_hull (unpack_hull result) ≡ true }
 {
-    p.closed_packed(h, value_at(next_values, j)).unpacked()
+    p.closed_packed(h, value_at(next_values, j))
 }
 
 /// The next value at place `j`, state `to`, takes in what was passed.

@@ -170,7 +170,7 @@ pub(crate) fn put_packed(run: &Run, next: &mut [Hull], s: usize, to: usize, j: u
     ensures { (r : Hull) → IsRunning run.now.any run.now.hull r → next.new ≡ with_hull_at next.old (j * s + to) r }
 {
     if run.any {
-        put(next, s, to, j, &run.hull.unpacked());
+        put(next, s, to, j, &run.hull);
     }
 }
 

@@ -1,8 +1,7 @@
 //! A running hull, and the places that were passed.
 
-ghost use Rattle.std.specs.Prelude.{◌≡◌, ◌+◌, ◌*◌, ◌<◌, true, length};
+ghost use Rattle.std.specs.Prelude.{◌≡◌, ◌+◌, ◌*◌, ◌<◌, true, length, get_or};
 ghost use Rattle.ts_automaton.specs.declared.regs.Hull.{Hull};
-ghost use Rattle.ts_base.specs.Spans.{has_some, span_hull};
 ghost use Rattle.ts_bound.specs.Hulls.{hull_of_both, none};
 ghost use Rattle.ts_bound.specs.Packs.{IsPackOf, IsRunning, unpack_hull};
 ghost use Rattle.ts_bound.specs.Sealed.{some_hull};
@@ -12,7 +11,7 @@ ghost use Rattle.ts_bound.specs.Sweeps.{fits, hull_in, step_place, with_hull_at}
 use crate::packed::Packed;
 use crate::sweep_values::{Places, value_at};
 use ts_automaton::Hull;
-use ts_base::{Letter, Span};
+use ts_base::Letter;
 
 /// How many values were passed, whether one of them had a hull in which registers lie, and the hull of what was taken
 /// in.
@@ -107,43 +106,13 @@ pub(crate) fn with_next(any: bool, hull: Packed, front: Packed) -> Packed
     if any { hull.joined(front) } else { front }
 }
 
-/// A span that isn't none is taken in.
-#[inline(always)]
-fn widened_span(there: Span, s: Span) -> Span
-    requires { has_some s ≡ true }
-    ensures { result ≡ span_hull there s }
-{
-    if there.is_none() {
-        s
-    } else {
-        Span {
-            lo: there.lo.lesser(s.lo),
-            hi: there.hi.greater(s.hi),
-        }
-    }
-}
-
-/// A hull in which registers lie is taken in.
-#[tactic(auto, unfolding(crate::specs::Hulls::hull_of_both))]
-#[inline(always)]
-fn widened(there: &Hull, h: &Hull) -> Hull
-    requires { some_hull h.now ≡ true }
-    ensures { result ≡ hull_of_both there.now h.now }
-{
-    Hull {
-        c: widened_span(there.c, h.c),
-        d: widened_span(there.d, h.d),
-        r: widened_span(there.r, h.r),
-    }
-}
-
 /// A hull in which registers lie is taken in at place `j`, state `to` of `s`.
 #[inline(always)]
-pub(crate) fn put(next: &mut [Hull], s: usize, to: usize, j: usize, h: &Hull)
+pub(crate) fn put(next: &mut [Hull], s: usize, to: usize, j: usize, h: &Packed)
     requires inside { j * s + to < length next.old }
-    requires some { some_hull h.now ≡ true }
-    ensures { next.new ≡ with_hull_at next.old (j * s + to) h.now }
+    requires some { some_hull (unpack_hull h.now) ≡ true }
+    requires canonical { hull_of_both (get_or next.old (j * s + to) none) none ≡ get_or next.old (j * s + to) none }
+    ensures { next.new ≡ with_hull_at next.old (j * s + to) (unpack_hull h.now) }
 {
-    let at = j * s + to;
-    next[at] = widened(&next[at], h);
+    h.widen(&mut next[j * s + to]);
 }

@@ -7,7 +7,7 @@ returns-then-is_some c =
     one_state c.args.a.now c.args.values.now c.args.before.now c.args.next_values.now c.args.q c.states-s.result c.letter_between.result
     (move_of c.turn-t.result.now) c.args.next.now c.put.new.next c.packed_at-h.result c.moved_of-moved.result c.letter_between.ensures c.turn-t.ensures.value
     c.requires.one c.requires.one_next c.requires.canonical c.states-s.ensures.count c.packed_at-h.ensures c.moved_of-moved.ensures
-    c.unpacked.result c.unpacked.ensures c.put.ensures
+    c.put.ensures
 
 pub returns-else-is_some : goal.returns-else-is_some
 returns-else-is_some c =
