@@ -1,10 +1,11 @@
 -- The three expressions of a move, each split.
 use Rattle.std.specs.Prelude.{Bool, cond, ◌&&◌, ℤ}
 use Rattle.ts_automaton.specs.declared.regs.Hull.{Hull}
-use Rattle.ts_automaton.specs.Formula.{Join, formula}
+use Rattle.ts_automaton.specs.declared.expr.Atom.TheVariants.{C, D, R}
+use Rattle.ts_automaton.specs.Formula.{Leaf, Join, formula}
 use Rattle.ts_automaton.specs.Body.{Move}
 use Rattle.ts_bound.specs.declared.sweep_parts.Part.{Part}
-use Rattle.ts_bound.specs.declared.sweep_parts.Part.TheVariants.{Front, Tail, Double, Pairs}
+use Rattle.ts_bound.specs.declared.sweep_parts.Part.TheVariants.{KeepC, KeepD, KeepR, Front, Tail, Double, Pairs}
 use Rattle.ts_bound.specs.declared.sweep_parts.Parts.{Parts}
 use Rattle.ts_bound.specs.Hulls.{none}
 use Rattle.ts_bound.specs.Sealed.{hull_with, some_hull}
@@ -31,6 +32,9 @@ closed_hull k h y = hull_with (closed_span k.c h.c y) (closed_span k.d h.d y) (c
 
 -- the same of what the code lends
 abbrev pub part_split : Part → Split
+part_split KeepC = FrontOf (Leaf C)
+part_split KeepD = FrontOf (Leaf D)
+part_split KeepR = FrontOf (Leaf R)
 part_split (Front e) = FrontOf (formula e.now)
 part_split (Tail o e) = TailOf o (formula e.now)
 part_split (Double o e f) = TailOf o (Join o (formula e.now) (formula f.now))

@@ -81,7 +81,8 @@ fn operand_ends(e: &Expr, h: &Packed, x: i64, y: i64) -> Ends
 }
 
 /// The same of an expression that changes a register, which mostly is one operator.
-fn changed_ends(e: &Expr, h: &Packed, x: i64, y: i64) -> Ends
+#[inline(always)]
+pub(crate) fn changed_ends(e: &Expr, h: &Packed, x: i64, y: i64) -> Ends
     requires hull { some_hull (unpack_hull h.now) ≡ true }
     requires this { small_int x ≡ true }
     requires next { small_int y ≡ true }

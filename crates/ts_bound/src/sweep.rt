@@ -69,6 +69,7 @@ fn may_occur(l: Letter, values: &Places<'_>, next_values: &Places<'_>) -> bool
 }
 
 /// A move on `<` or `>` is taken in: by a sweep where it can be swept, else by pairs.
+#[inline(always)]
 fn unequal_move(
     t: &Turn,
     l: Letter,
@@ -97,6 +98,7 @@ fn unequal_move(
 }
 
 /// A move is taken in: by equal values on `=`, else by a sweep or by pairs. One next value alone needs no sweep.
+#[inline(always)]
 fn take_move(
     t: &Turn,
     l: Letter,
@@ -130,6 +132,7 @@ fn take_move(
 }
 
 /// A move is taken in, if there may be a pair of values for it.
+#[inline(always)]
 fn add_move(
     t: &Turn,
     l: Letter,

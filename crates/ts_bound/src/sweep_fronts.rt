@@ -9,7 +9,7 @@ ghost use Rattle.ts_bound.specs.Smalls.{small_int};
 ghost use Rattle.ts_bound.specs.Splits.{closed_span, front_span, is_swept};
 
 use crate::packed::{Ends, Packed};
-use crate::packed_exprs::{joined_ends, register_ends};
+use crate::packed_exprs::{changed_ends, joined_ends, register_ends};
 use crate::sweep_parts::{Part, Parts};
 
 impl Part<'_> {
@@ -23,7 +23,10 @@ impl Part<'_> {
         ensures some { has_some (unpack_span result) ≡ true }
     {
         match *self {
-            Part::Front(e) => register_ends(e, h, x, 0),
+            Part::KeepC => h.c,
+            Part::KeepD => h.d,
+            Part::KeepR => h.r,
+            Part::Front(e) => changed_ends(e, h, x, 0),
             Part::Tail(_, e) => register_ends(e, h, x, 0),
             Part::Double(o, e, f) => joined_ends(
                 o,
@@ -44,7 +47,7 @@ impl Part<'_> {
         ensures some { has_some (unpack_span result) ≡ true }
     {
         match *self {
-            Part::Front(_) => s,
+            Part::KeepC | Part::KeepD | Part::KeepR | Part::Front(_) => s,
             Part::Tail(o, _) => joined_ends(o, s, Ends::one(y)),
             Part::Double(o, _, _) => joined_ends(o, s, Ends::one(y)),
             Part::Pairs => unreachable!(),

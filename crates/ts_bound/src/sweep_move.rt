@@ -86,6 +86,7 @@ fn with_place(
 
 /// The fronts that may be taken in before the next value at place `j`: those whose value compares with it as the letter
 /// says, which come first in the letter's order.
+#[inline(always)]
 fn passed(
     p: &Parts<'_>,
     l: Letter,
@@ -166,6 +167,7 @@ fn put_run(
 
 /// A move on `<` or `>` by a sweep over its parts: each next value, in the letter's order, takes in the fronts that
 /// were passed.
+#[inline(always)]
 pub(crate) fn sweep_move(
     t: &Turn,
     p: &Parts<'_>,

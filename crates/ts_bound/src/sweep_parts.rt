@@ -8,9 +8,13 @@ ghost use Rattle.ts_bound.specs.Splits.{is_double, is_front, is_next, is_swept, 
 
 use ts_automaton::{Expr, Op, Turn};
 
-/// How an expression reads the next cell: not at all; as the last operand, behind one front or two; or in another way.
+/// How an expression reads the next cell: not at all, where most are a register as it is; as the last operand, behind
+/// one front or two; or in another way.
 #[derive(Clone, Copy)]
 pub(crate) enum Part<'a> {
+    KeepC,
+    KeepD,
+    KeepR,
     Front(&'a Expr),
     Tail(Op, &'a Expr),
     Double(Op, &'a Expr, &'a Expr),
@@ -73,6 +77,9 @@ fn split_of<'a>(e: &'a Expr) -> Part<'a>
     ensures { part_split result ≡ split (formula e.now) }
 {
     match e {
+        Expr::C => Part::KeepC,
+        Expr::D => Part::KeepD,
+        Expr::R => Part::KeepR,
         Expr::Next => Part::Pairs,
         Expr::Add(a, b) => part_of(e, Op::Add, a, b),
         Expr::Max(a, b) => part_of(e, Op::Max, a, b),
