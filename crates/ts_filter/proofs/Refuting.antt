@@ -1,24 +1,71 @@
 -- The requirements of one term that a span refutes, by looking at them one after another.
-use Rattle.std.proofs.Common.{◌≡◌, ◌⊎◌, ℕ, zero, suc, ◌+◌, ◌-◌, ◌<◌, ◌≤◌, false, List, []}
-use Rattle.std.proofs.Common.{◌∷◌, length, Option, Some, None, slice_get, get_or, sym, ◌∙◌, ap, subst, ⊎_elim, arith}
-use Rattle.std.proofs.lemmas.Option.{same_Some, slice_get_within, slice_get-get_or}
-use Rattle.std.specs.Prelude.{Bool, ◌||◌, nat_eq}
-use Rattle.std.specs.List.{list_any}
+use Rattle.std.proofs.Common.{◌≡◌, ◌↔◌, ◌⊎◌, ℕ, ◌+◌, ◌-◌, ◌<◌, ◌≤◌, Bool, true, false, cond, List}
+use Rattle.std.proofs.Common.{length, Option, Some, None, slice_get, get_or, refl, sym, ◌∙◌, ap, subst, ⊎_elim, arith}
+use Rattle.std.proofs.lemmas.Bool.{eq-eqb, eqb-true, ltb-false}
+use Rattle.std.proofs.lemmas.List.Quantifiers.{position-Some}
+use Rattle.std.proofs.lemmas.List.Sums.{fails_before_first}
+use Rattle.std.proofs.lemmas.Option.{same_Some, slice_get_within, slice_get-get_or, get_or_from_slice_get}
+use Rattle.std.specs.Prelude.{is_some, nat_eq, nat_lt}
+use Rattle.std.specs.List.{position, position_or_len}
+use Rattle.ts_base.specs.declared.ext.Ext.{Ext}
+use Rattle.ts_base.specs.declared.ext.Ext.TheVariants.{NegInf}
 use Rattle.ts_base.specs.declared.span.Span.{Span}
+use Rattle.ts_base.specs.Spans.{Holds}
+use Rattle.ts_model.specs.declared.model.Op.TheVariants.{Equal}
 use Rattle.ts_model.specs.declared.model.Require.{Require}
 use Rattle.ts_filter.specs.Excluded.{Refutes}
 use Rattle.ts_filter.specs.TermDrops.{IsRefuting, IsFirstRefuting}
+use Rattle.ts_filter.proofs.SoundLaws.{clash}
 
 pub next_or_later : (a i : ℕ) → a < i → (i ≡ a + 1) ⊎ (a + 1 < i)
 next_or_later a i l = grind arith
+
+no_require : Require
+no_require = record { term = 0; op = Equal; bound = NegInf }
 
 module _ (rs : List Require) (term : ℕ) (s : Span) where
   -- none of the first requirements is one
   abbrev pub NoneOf : ℕ → Type 0
   NoneOf at = (i : ℕ) → IsRefuting rs term s i → at < i
 
-  pub none_of_none : NoneOf 0
-  none_of_none i h = let l = h.is.0 in omega (arith, l)
+  abbrev is_own : Require → Bool
+  is_own r = nat_eq r.term term
+
+  own_at : (i : ℕ) → (h : IsRefuting rs term s i) → is_own (get_or rs (i - 1) h.require) ≡ true
+  own_at i h = ap is_own (get_or_from_slice_get rs (i - 1) h.require h.require h.is.1) ∙ eq-eqb h.require.term term h.of_term
+
+  below_or_not : (a b : ℕ) → (a < b) ⊎ (b ≤ a)
+  below_or_not a b = grind arith
+
+  -- none comes before the first requirement of the term
+  pub none_before_first : (first : ℕ) → position is_own rs ≡ Some first → NoneOf first
+  none_before_first first e i h =
+      ⊎_elim (λ l. absurd (clash _ (own_at i h) ((position-Some is_own rs first h.require e).2 (i - 1) l)))
+      (λ l. let some = h.is.0 in omega (arith, l, some)) (below_or_not (i - 1) first)
+
+  -- where no requirement is of the term, none is refuted
+  pub none_of_term : (i : ℕ) → position is_own rs ≡ None → IsRefuting rs term s i → ⊥
+  none_of_term i e h = go (nat_lt (position_or_len is_own rs) (length rs)) refl e
+    where
+      inside : i - 1 < length rs
+      inside = slice_get_within rs (i - 1) h.require h.is.1
+
+      go : (t : Bool) → nat_lt (position_or_len is_own rs) (length rs) ≡ t → cond t (Some (position_or_len is_own rs)) None ≡ None → ⊥
+      go true l f = absurd (let g : ◌≡◌ {A = Option ℕ} (Some (position_or_len is_own rs)) None = f in cc)
+      go false l f =
+          let all = ltb-false _ _ l in
+          clash _ (own_at i h) (fails_before_first is_own rs (i - 1) h.require (omega (arith, all, inside)))
+
+  -- a span without numbers refutes the first requirement of the term
+  pub first_of_none : (first : ℕ) → position is_own rs ≡ Some first → ((v : Ext) → Holds s v → ⊥) → IsRefuting rs term s (first + 1)
+  first_of_none first e none =
+      let there = position-Some is_own rs first no_require e in let place : (first + 1) - 1 ≡ first = omega arith in
+      record {
+        require = get_or rs first no_require;
+        is = (omega arith, ap (λ j. slice_get rs j) place ∙ slice_get-get_or rs first no_require there.0);
+        of_term = eqb-true (get_or rs first no_require).term term there.1;
+        refutes = λ v held. absurd (none v held);
+      }
 
   at_place : (at i : ℕ) (r : Require) → slice_get rs at ≡ Some r → (h : IsRefuting rs term s i) → i ≡ at + 1 → h.require ≡ r
   at_place at i r e h same =
@@ -41,20 +88,12 @@ module _ (rs : List Require) (term : ℕ) (s : Span) where
         λ i g. let m = f i g in omega (arith, m),
       )
 
+  -- whether there is one
+  pub some_told : (o : Option ℕ) (told : Bool) → told ≡ is_some o → IsFirstRefuting rs term s o → (told ≡ true) ↔ ((j : ℕ) × IsRefuting rs term s j)
+  some_told None told e none = (λ so. absurd (clash told so e), λ h. absurd (none h.0 h.1))
+  some_told (Some j) told e first = (λ so. (j, first.0), λ h. e)
+
   pub none_of_all : (at : ℕ) → NoneOf at → length rs ≤ at → IsFirstRefuting rs term s None
   none_of_all at f l i h =
       let below = slice_get_within rs (i - 1) h.require h.is.1 in
       let above = f i h in let first = h.is.0 in omega (arith, l, below, above, first)
-
--- where no requirement is of the term, none is refuted
-none_named : (rs : List Require) (term i : ℕ) (r : Require) → list_any (λ q. nat_eq q.term term) rs ≡ false → slice_get rs i ≡ Some r → r.term ≡ term → ⊥
-none_named [] term i r n e t = absurd (let f : ◌≡◌ {A = Option Require} None (Some r) = e in cc)
-none_named (q ∷ rs) term zero r n e t =
-    let same = same_Some q r e in grind (arith, n, ap (λ (z : Require). z.term) same, t)
-none_named (q ∷ rs) term (suc i) r n e t = none_named rs term i r (rest (nat_eq q.term term) (list_any (λ q. nat_eq q.term term) rs) n) e t
-  where
-    rest : (a b : Bool) → (a || b) ≡ false → b ≡ false
-    rest a b f = grind arith
-
-pub not_required : (rs : List Require) (term : ℕ) (s : Span) (i : ℕ) → list_any (λ q. nat_eq q.term term) rs ≡ false → IsRefuting rs term s i → ⊥
-not_required rs term s i n h = none_named rs term (i - 1) h.require n h.is.1 h.of_term

@@ -1,4 +1,4 @@
--- A span of which the parts are taken in: more parts, and what a number that does what is asked tells of all parts.
+-- A span of which the parts are taken in: more parts, and what a front that has what is asked tells of all parts.
 use Rattle.std.proofs.Common.{◌≡◌, ◌↔◌, ℕ, ◌+◌, ◌<◌, ◌≤◌, ℤ, List, [], ◌∷◌, ◌++◌, length, map, take, drop, slice_get, Bool, true, false, cond, refl, sym, ap, ◌∙◌, subst, arith}
 use Rattle.std.specs.Prelude.{fold, is_some, Option, None, Some}
 use Rattle.std.proofs.lemmas.List.{map-append, take-append-drop}
@@ -12,20 +12,32 @@ use Rattle.ts_base.proofs.SpanLaws.{holds_some, hull_left, hull_right, hull_leas
 use Rattle.ts_bound.specs.TermSpans.{Automata, span_of_all, spans_at, term_span, value_span}
 use Rattle.ts_bound.proofs.HullLaws.{IsCanonical, hull_canonical}
 use Rattle.ts_filter.specs.declared.asked.Asked.{Asked}
-use Rattle.ts_filter.specs.declared.asked.Asked.TheVariants.{Compares, Counts, Nothing}
+use Rattle.ts_filter.specs.declared.asked.Asked.TheVariants.{Compares, MeetsEach, Counts, Nothing}
 use Rattle.ts_filter.specs.declared.so_far.SoFar.{SoFar}
+use Rattle.ts_filter.specs.declared.term_requirements.TermRequirements.{TermRequirements}
 use Rattle.ts_filter.specs.Asked.{Excludes}
 use Rattle.ts_filter.specs.Boxes.{Box, values_at}
 use Rattle.ts_filter.specs.SoFar.{IsSoFar, WithParts}
+use Rattle.ts_filter.specs.TermDrops.{IsFirstRefuting}
 use Rattle.ts_filter.proofs.CellLaws.{span_all, span_more}
+use Rattle.ts_filter.proofs.Refuting.{first_of_none}
 use Rattle.ts_filter.proofs.SoundLaws.{clash}
 
--- what a part of a span doesn't exclude, the span doesn't
+-- what a span excludes, each part of it does
 
 pub part_excludes : (asked : Asked) (s t : Span) → IsWithin s t → Excludes asked t → Excludes asked s
 part_excludes (Compares op bound) s t within none = λ v held. none v (within v held)
+part_excludes (MeetsEach own) s t within none =
+    let h = none.1 in (none.0, record { require = h.require; is = h.is; of_term = h.of_term; refutes = λ v held. h.refutes v (within v held) })
 part_excludes (Counts goal bar) s t within none = λ v held. none v (within v held)
 part_excludes Nothing s t within none = tt
+
+-- a span without numbers has nothing that is asked
+pub none_excludes : (asked : Asked) → Excludes asked none_span
+none_excludes (Compares op bound) = λ v held. absurd (none_empty v held)
+none_excludes (MeetsEach own) = (own.first + 1, first_of_none own.all.now own.term none_span own.first own.is_first none_empty)
+none_excludes (Counts goal bar) = λ v held. absurd (none_empty v held)
+none_excludes Nothing = tt
 
 still_held : (e : Ext) (ss : List Span) (s : Span) → Holds s e → Holds (fold span_hull s ss) e
 still_held e [] s h = h
@@ -95,7 +107,7 @@ with_more s t ps qs rs (Some u) is so_far more = (
   more.2,
 )
 
--- where a front of the parts has a number that does what is asked, all parts have
+-- where a front of the parts has what is asked, all parts have
 pub stopped : (s : SoFar) (ps qs rs : List Span) → rs ≡ ps ++ qs → WithParts s ps None → WithParts s rs None
 stopped s ps qs rs is stop none =
     stop (part_excludes s.asked _ _ (front_within s.span ps qs) (subst (λ l. Excludes s.asked (fold span_hull s.span l)) is none))
@@ -126,24 +138,32 @@ one_told s part both told is h = (
 )
 
 -- one part alone
+
+alone_within : (s : SoFar) (part : Span) → s.span ≡ none_span → IsWithin (span_hull s.span part) part
+alone_within s part e = hull_least s.span part part (λ v held. absurd (none_empty v (subst (λ t. Holds t v) e held))) (λ v held. held)
+
 pub alone_told : (s : SoFar) (asked : Asked) (part : Span) (o : Option SoFar) (told : Bool) → s.asked ≡ asked → s.span ≡ none_span → told ≡ is_some o →
     WithParts s (part ∷ []) o → (told ≡ true) ↔ Excludes asked part
 alone_told s asked part None told a e is stop = (
   λ so. absurd (let f : ◌≡◌ false true = sym is ∙ so in cc),
-  λ none. absurd (stop (part_excludes s.asked (span_hull s.span part) part inside (subst (λ z. Excludes z part) (sym a) none))),
+  λ none. absurd (stop (part_excludes s.asked (span_hull s.span part) part (alone_within s part e) (subst (λ z. Excludes z part) (sym a) none))),
 )
-  where
-    inside : IsWithin (span_hull s.span part) part
-    inside = hull_least s.span part part (λ v held. absurd (none_empty v (subst (λ t. Holds t v) e held))) (λ v held. held)
 alone_told s asked part (Some t) told a e is h = (
   λ so. part_excludes asked part t.span (subst (IsWithin part) (sym h.1) (hull_right s.span part)) (subst (λ z. Excludes z t.span) (h.0 ∙ a) h.2.excluded),
   λ none. is,
 )
 
--- where nothing is asked, the one part is the span
+-- the hull of it is its span
 pub alone_is : (s t : SoFar) (part : Span) → s.span ≡ none_span → IsCanonical part → WithParts s (part ∷ []) (Some t) → t.span ≡ part
 alone_is s t part e can h = h.1 ∙ ap (λ z. span_hull z part) e ∙ can
 
+-- where it stops, none of the requirements is refuted
+pub none_refuted : (own : TermRequirements) (s : SoFar) (part : Span) → s.asked ≡ MeetsEach own → s.span ≡ none_span → WithParts s (part ∷ []) None →
+    IsFirstRefuting own.all.now own.term part None
+none_refuted own s part a e stop j h = stop
+    (subst (λ z. Excludes z (span_hull s.span part)) (sym a) (part_excludes (MeetsEach own) (span_hull s.span part) part (alone_within s part e) (j, h)))
+
+-- where nothing is asked, there is no stop
 pub never_stops : (s : SoFar) (part : Span) → s.asked ≡ Nothing → WithParts s (part ∷ []) None → ⊥
 never_stops s part e stop = stop (subst (λ a. Excludes a (span_hull s.span part)) (sym e) tt)
 

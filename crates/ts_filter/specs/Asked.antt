@@ -1,10 +1,13 @@
--- No number of a span does what is asked.
+-- A span doesn't have what is asked of its numbers.
+use Rattle.std.specs.Prelude.{ℕ}
 use Rattle.ts_base.specs.declared.span.Span.{Span}
 use Rattle.ts_filter.specs.declared.asked.Asked.{Asked}
-use Rattle.ts_filter.specs.declared.asked.Asked.TheVariants.{Compares, Counts, Nothing}
+use Rattle.ts_filter.specs.declared.asked.Asked.TheVariants.{Compares, MeetsEach, Counts, Nothing}
 use Rattle.ts_filter.specs.Excluded.{Refutes, Cuts}
+use Rattle.ts_filter.specs.TermDrops.{IsRefuting}
 
 abbrev pub Excludes : Asked → Span → Type 0
 Excludes (Compares op bound) s = Refutes op bound s
+Excludes (MeetsEach own) s = (j : ℕ) × IsRefuting own.all.now own.term s j
 Excludes (Counts goal bar) s = Cuts goal bar s
 Excludes Nothing s = Unit {0}

@@ -5,12 +5,12 @@ use Rattle.ts_base.specs.Spans.{none_span, span_hull}
 use Rattle.ts_filter.specs.declared.so_far.SoFar.{SoFar}
 use Rattle.ts_filter.specs.Asked.{Excludes}
 
--- the hull has its one form where it is none, and no number of it does what is asked
+-- the hull has its one form where it is none, and doesn't have what is asked
 pub record IsSoFar (s : SoFar) : Type 0 where
   pub form : span_hull s.span none_span ≡ s.span
   pub excluded : Excludes s.asked s.span
 
--- with these parts; none where some number of the hull does what is asked
+-- with these parts; none where the hull has what is asked
 abbrev pub WithParts : SoFar → List Span → Option SoFar → Type 0
 WithParts s parts None = Excludes s.asked (fold span_hull s.span parts) → ⊥
 WithParts s parts (Some t) = (t.asked ≡ s.asked) × (t.span ≡ fold span_hull s.span parts) × IsSoFar t

@@ -5,25 +5,28 @@ ghost use Rattle.ts_filter.specs.Asked.{Excludes};
 
 use crate::bar::Bar;
 use crate::excluded::{cuts, refutes};
+use crate::term_requirements::TermRequirements;
 use ts_base::{Ext, Goal, Span};
 use ts_model::Op;
 
-/// What is asked of the numbers of a span: to compare so with a bound, to count for a bar, or nothing, which no number
-/// does.
+/// What is asked of the numbers of a span: one that compares so with a bound, for each requirement of a term one that
+/// meets it, one that counts for a bar, or what no span has.
 #[derive(Clone, Copy)]
-pub(crate) enum Asked {
+pub(crate) enum Asked<'a> {
     Compares(Op, Ext),
+    MeetsEach(TermRequirements<'a>),
     Counts(Goal, Bar),
     Nothing,
 }
 
-impl Asked {
-    /// Whether no number of the span does what is asked.
+impl<'a> Asked<'a> {
+    /// Whether the span doesn't have what is asked.
     pub(crate) fn excludes(self, span: Span) -> bool
-        ensures { IsTrue result ↔ Excludes self span }
+        ensures { IsTrue result ↔ Excludes self.entry span }
     {
         match self {
             Asked::Compares(op, bound) => refutes(op, bound, span),
+            Asked::MeetsEach(requirements) => requirements.first_refuted(span).is_some(),
             Asked::Counts(goal, bar) => cuts(goal, bar, span),
             Asked::Nothing => true,
         }

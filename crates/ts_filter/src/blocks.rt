@@ -12,11 +12,16 @@ use ts_automaton::{Automaton, Hull, HullAt};
 use ts_glue::{Machine, glue_span};
 
 /// With the finish spans of all states.
-pub(crate) fn finish_block(so_far: SoFar, a: &Automaton, hulls: &[Hull], n: u32) -> Option<SoFar>
+pub(crate) fn finish_block<'a>(
+    so_far: SoFar<'a>,
+    a: &Automaton,
+    hulls: &[Hull],
+    n: u32,
+) -> Option<SoFar<'a>>
     requires known { IsSoFar so_far }
     requires states { length hulls.now ≡ length a.now.states }
     requires kinds { HullsStand a.now hulls.now }
-    ensures { WithParts so_far (finishes a.now hulls.now n (length a.now.states)) result }
+    ensures { WithParts so_far.entry (finishes a.now hulls.now n (length a.now.states)) result }
 {
     let states = a.states();
     let mut known = so_far;
@@ -32,22 +37,22 @@ pub(crate) fn finish_block(so_far: SoFar, a: &Automaton, hulls: &[Hull], n: u32)
 
 /// With the glued spans of all states on both sides. Few states are reached at a value, and the hulls of the others,
 /// which are none, add nothing.
-pub(crate) fn glue_block(
-    so_far: SoFar,
+pub(crate) fn glue_block<'a>(
+    so_far: SoFar<'a>,
     m: &Machine,
     left: &[Hull],
     right: &[Hull],
     states: u8,
     cell: i64,
     n: u32,
-) -> Option<SoFar>
+) -> Option<SoFar<'a>>
     requires known { IsSoFar so_far }
     requires left_states { length left.now ≡ length (forward_of m.now).states }
     requires left_kinds { HullsStand (forward_of m.now) left.now }
     requires right_states { length right.now ≡ states }
     requires right_kinds { OfReverse (pair_of m.now) (λ b. (length b.states ≡ states) × HullsStand b right.now) }
     requires cell { IsCellValue cell }
-    ensures { WithParts so_far
+    ensures { WithParts so_far.entry
         (glued_all (pair_of m.now) left.now right.now cell n states (length (forward_of m.now).states)) result }
 {
     let left_states = m.forward().states();
@@ -66,21 +71,21 @@ pub(crate) fn glue_block(
 }
 
 /// With those of one state on the left.
-fn glue_state(
-    so_far: SoFar,
+fn glue_state<'a>(
+    so_far: SoFar<'a>,
     m: &Machine,
     left: HullAt,
     right: &[Hull],
     states: u8,
     cell: i64,
     n: u32,
-) -> Option<SoFar>
+) -> Option<SoFar<'a>>
     requires known { IsSoFar so_far }
     requires left { HullStands (forward_of m.now) (hull_standing left) }
     requires right_states { length right.now ≡ states }
     requires right_kinds { OfReverse (pair_of m.now) (λ b. (length b.states ≡ states) × HullsStand b right.now) }
     requires cell { IsCellValue cell }
-    ensures { WithParts so_far (glued_with (pair_of m.now) (hull_standing left) right.now cell n states) result }
+    ensures { WithParts so_far.entry (glued_with (pair_of m.now) (hull_standing left) right.now cell n states) result }
 {
     let mut known = so_far;
     for r in 0..states {

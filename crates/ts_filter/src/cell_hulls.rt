@@ -10,11 +10,13 @@ ghost use Rattle.ts_filter.specs.Asked.{Excludes};
 ghost use Rattle.ts_filter.specs.Boxes.{values_at};
 ghost use Rattle.ts_filter.specs.CellHulls.{IsBackRow, ahead_row, at_cell};
 ghost use Rattle.ts_filter.specs.SoFar.{IsSoFar, WithParts};
+ghost use Rattle.ts_filter.specs.TermDrops.{IsFirstRefuting};
 ghost use Rattle.ts_glue.specs.Machines.{forward_of, pair_of};
 
 use crate::asked::Asked;
 use crate::blocks::{finish_block, glue_block};
 use crate::so_far::SoFar;
+use crate::term_requirements::TermRequirements;
 use std::marker::Model;
 use ts_automaton::{Automaton, Hull};
 use ts_base::Span;
@@ -66,10 +68,10 @@ impl<'a> CellHulls<'a> {
         self.cells.cell(self.cell)
     }
 
-    /// Whether no number of the span there does what is asked. That span is the hull of those of the values, and the
-    /// first part of it with such a number tells: in most cells that is the first of all.
-    pub(crate) fn excludes(&self, asked: Asked) -> bool
-        ensures { IsTrue result ↔ Excludes asked (term_span self.now.machine self.now.cell self.now.cells) }
+    /// Whether the span there doesn't have what is asked. That span is the hull of those of the values, and the first
+    /// part of it that has this tells: in most cells that is the first of all.
+    pub(crate) fn excludes(&self, asked: Asked<'_>) -> bool
+        ensures { IsTrue result ↔ Excludes asked.entry (term_span self.now.machine self.now.cell self.now.cells) }
     {
         let values = self.values();
         let mut known = SoFar::none(asked);
@@ -84,19 +86,36 @@ impl<'a> CellHulls<'a> {
     }
 
     /// The same of the span on the box with the value `v` alone there.
-    pub(crate) fn value_excludes(&self, asked: Asked, v: i64) -> bool
+    pub(crate) fn value_excludes(&self, asked: Asked<'_>, v: i64) -> bool
         requires { Contains (values_at self.now.cell self.now.cells) v }
-        ensures { IsTrue result ↔ Excludes asked (value_span self.now.machine self.now.cell self.now.cells v) }
+        ensures { IsTrue result ↔ Excludes asked.entry (value_span self.now.machine self.now.cell self.now.cells v) }
     {
         self.excludes_at(asked, place_of(self.values(), v), v)
     }
 
     /// The same of the value that stands at place `i`, counted from 0.
-    pub(crate) fn excludes_at(&self, asked: Asked, i: u64, v: i64) -> bool
+    fn excludes_at(&self, asked: Asked<'_>, i: u64, v: i64) -> bool
         requires { slice_get (values_at self.now.cell self.now.cells) i ≡ Some v }
-        ensures { IsTrue result ↔ Excludes asked (value_span self.now.machine self.now.cell self.now.cells v) }
+        ensures { IsTrue result ↔ Excludes asked.entry (value_span self.now.machine self.now.cell self.now.cells v) }
     {
         self.with_value(SoFar::none(asked), i, v).is_some()
+    }
+
+    /// The number of the first of these requirements that the span of this value refutes. As soon as some pairs of
+    /// states leave none refuted, there is none.
+    pub(crate) fn first_refuted(
+        &self,
+        requirements: TermRequirements<'_>,
+        i: u64,
+        v: i64,
+    ) -> Option<u32>
+        requires { slice_get (values_at self.now.cell self.now.cells) i ≡ Some v }
+        ensures { IsFirstRefuting requirements.entry.all.now requirements.entry.term
+            (value_span self.now.machine self.now.cell self.now.cells v) result }
+    {
+        let asked = Asked::MeetsEach(requirements);
+        let known = self.with_value(SoFar::none(asked), i, v)?;
+        requirements.first_refuted(known.span)
     }
 
     /// The span of this value.
@@ -111,10 +130,10 @@ impl<'a> CellHulls<'a> {
     }
 
     /// With the span of this value.
-    fn with_value(&self, so_far: SoFar, i: u64, v: i64) -> Option<SoFar>
+    fn with_value<'b>(&self, so_far: SoFar<'b>, i: u64, v: i64) -> Option<SoFar<'b>>
         requires known { IsSoFar so_far }
         requires value { slice_get (values_at self.now.cell self.now.cells) i ≡ Some v }
-        ensures { WithParts so_far (value_span self.now.machine self.now.cell self.now.cells v ∷ []) result }
+        ensures { WithParts so_far.entry (value_span self.now.machine self.now.cell self.now.cells v ∷ []) result }
     {
         match self.back {
             Some(back) => split_value(
@@ -158,20 +177,20 @@ fn place_of(values: &Domain, v: i64) -> u64
 }
 
 /// With the finish span at the value `v` of cell `k`, which stands at place `i`.
-fn last_value(
-    so_far: SoFar,
+fn last_value<'a>(
+    so_far: SoFar<'a>,
     a: &Automaton,
     row: &[Hull],
     cells: &Boxed,
     k: u32,
     i: u64,
     v: i64,
-) -> Option<SoFar>
+) -> Option<SoFar<'a>>
     requires known { IsSoFar so_far }
     requires cell { IsCell k cells.now }
     requires row { row.now ≡ ahead_row a.now k cells.now.present }
     requires value { slice_get (values_at k cells.now.present) i ≡ Some v }
-    ensures { WithParts so_far (last_at a.now k cells.now.present v ∷ []) result }
+    ensures { WithParts so_far.entry (last_at a.now k cells.now.present v ∷ []) result }
 {
     let n = cells.cells();
     let states = a.states();
@@ -179,8 +198,8 @@ fn last_value(
 }
 
 /// With the glued span at the value.
-fn split_value(
-    so_far: SoFar,
+fn split_value<'a>(
+    so_far: SoFar<'a>,
     m: &Machine,
     row: &[Hull],
     back: &[Hull],
@@ -188,13 +207,13 @@ fn split_value(
     k: u32,
     i: u64,
     v: i64,
-) -> Option<SoFar>
+) -> Option<SoFar<'a>>
     requires known { IsSoFar so_far }
     requires cell { IsCell k cells.now }
     requires row { row.now ≡ ahead_row (forward_of m.now) k cells.now.present }
     requires back { IsBackRow (pair_of m.now) k cells.now.present back.now }
     requires value { slice_get (values_at k cells.now.present) i ≡ Some v }
-    ensures { WithParts so_far (split_at (forward_of m.now) (pair_of m.now) k cells.now.present v ∷ []) result }
+    ensures { WithParts so_far.entry (split_at (forward_of m.now) (pair_of m.now) k cells.now.present v ∷ []) result }
 {
     let n = cells.cells();
     let states = m.forward().states();

@@ -1,18 +1,17 @@
 //! Values that may be taken out of their cells.
 
-ghost use Rattle.std.specs.Prelude.{◌≡◌, ◌↔◌, ◌+◌, ◌<◌, ◌≤◌, ℕ, IfOk, IsTrue, Some, length, map, nat_eq, slice_get};
-ghost use Rattle.std.specs.List.{AllByRecursion, list_any};
-ghost use Rattle.ts_bound.specs.TermSpans.{automata_of, IsUsable, value_span};
+ghost use Rattle.std.specs.Prelude.{◌≡◌, ◌+◌, ◌<◌, ◌≤◌, ℕ, IfOk, length, map};
+ghost use Rattle.std.specs.List.{AllByRecursion};
+ghost use Rattle.ts_bound.specs.TermSpans.{automata_of, IsUsable};
 ghost use Rattle.ts_filter.specs.Drops.{IsFirstDrop, IsFirstOf};
-ghost use Rattle.ts_filter.specs.Boxes.{HasCell, values_at};
-ghost use Rattle.ts_filter.specs.Excluded.{Refutes};
+ghost use Rattle.ts_filter.specs.Boxes.{HasCell};
 ghost use Rattle.ts_filter.specs.Known.{AreKnown, StillKnown};
 ghost use Rattle.ts_filter.specs.MachineSpans.{spans_of};
-ghost use Rattle.ts_filter.specs.TermDrops.{IsDropAt, IsFirstRefuting, IsTermDrop, comes_before, earlier_of};
+ghost use Rattle.ts_filter.specs.TermDrops.{IsDropAt, IsTermDrop, comes_before, earlier_of};
 
-use crate::asked::Asked;
 use crate::box_tables::BoxTables;
 use crate::cell_hulls::CellHulls;
+use crate::term_requirements::TermRequirements;
 use std::alloc::Global;
 use ts_base::Memory;
 use ts_domain::Boxed;
@@ -30,7 +29,7 @@ pub struct Removal {
 
 /// The possible drop with the least cell, then the least value, then the least requirement; none exactly where none is
 /// possible. The machines stand in the order of the terms. The tables of a machine are made once, one machine's at a
-/// time, and each value of each cell is looked at once for each requirement, as far as tells.
+/// time, and each value of each cell is looked at once for all requirements of a term, as far as tells.
 pub fn next_drop(
     alloc: Global,
     machines: &[Machine],
@@ -52,13 +51,6 @@ pub fn next_drop(
     Ok(first)
 }
 
-/// Whether some requirement is of the term.
-fn is_required(requirements: &[Require], term: u32) -> bool
-    ensures { result ≡ list_any (λ r. nat_eq r.term term) requirements.now }
-{
-    requirements.iter().any(|r| r.term == term)
-}
-
 impl<'a> BoxTables<'a> {
     /// The first of the drops by the requirements of the term whose machine this is: that with the least cell, then the
     /// least value, then the least requirement. None exactly where none is possible.
@@ -75,13 +67,14 @@ impl<'a> BoxTables<'a> {
         ensures found { IfOk result
             (λ found. IsFirstOf (IsTermDrop requirements.now term self.old.machine cells.now.present) found) }
     {
-        if !is_required(requirements, term) {
-            return Ok(None);
-        }
+        let own = match TermRequirements::among(requirements, term) {
+            Some(own) => own,
+            None => return Ok(None),
+        };
         for before in self.unusable(cells)..cells.cells() {
             let k = before + 1;
             self.make_at(alloc, k, cells)?;
-            let found = drop_in_cell(&self.hulls_at(k, cells), term, requirements);
+            let found = drop_in_cell(&self.hulls_at(k, cells), own);
             if found.is_some() {
                 return Ok(found);
             }
@@ -104,10 +97,10 @@ impl<'a> BoxTables<'a> {
     }
 }
 
-/// The first of the drops at one cell.
-fn drop_in_cell(hulls: &CellHulls<'_>, term: u32, requirements: &[Require]) -> Option<Removal>
-    requires { length requirements.now < 4000000000 }
-    ensures { IsFirstOf (IsDropAt requirements.now term hulls.now.machine hulls.now.cells hulls.now.cell) result }
+/// The first of the drops at one cell by these requirements.
+fn drop_in_cell(hulls: &CellHulls<'_>, own: TermRequirements<'_>) -> Option<Removal>
+    ensures { IsFirstOf (IsDropAt own.entry.all.now own.entry.term
+        hulls.now.machine hulls.now.cells hulls.now.cell) result }
 {
     let cell = hulls.cell();
     let values = hulls.values();
@@ -116,7 +109,7 @@ fn drop_in_cell(hulls: &CellHulls<'_>, term: u32, requirements: &[Require]) -> O
     }
     for i in 0..values.size() {
         let value = values.nth(i);
-        if let Some(require) = first_refuting(requirements, term, hulls, i, value) {
+        if let Some(require) = hulls.first_refuted(own, i, value) {
             return Some(Removal {
                 cell,
                 value,
@@ -125,36 +118,6 @@ fn drop_in_cell(hulls: &CellHulls<'_>, term: u32, requirements: &[Require]) -> O
         }
     }
     None
-}
-
-/// The first requirement of the term that the span of the value `v`, which stands at place `i`, refutes.
-fn first_refuting(
-    requirements: &[Require],
-    term: u32,
-    hulls: &CellHulls<'_>,
-    i: u64,
-    v: i64,
-) -> Option<u32>
-    requires few { length requirements.now < 4000000000 }
-    requires value { slice_get (values_at hulls.now.cell hulls.now.cells) i ≡ Some v }
-    ensures { IsFirstRefuting requirements.now term
-        (value_span hulls.now.machine hulls.now.cell hulls.now.cells v) result }
-{
-    for at in 0..requirements.len() {
-        if is_refuting(&requirements[at], term, hulls, i, v) {
-            return Some(at as u32 + 1);
-        }
-    }
-    None
-}
-
-/// Whether the requirement is of the term, and this span refutes it.
-fn is_refuting(r: &Require, term: u32, hulls: &CellHulls<'_>, i: u64, v: i64) -> bool
-    requires { slice_get (values_at hulls.now.cell hulls.now.cells) i ≡ Some v }
-    ensures { IsTrue result ↔ ((r.now.term ≡ term)
-        × Refutes r.now.op r.now.bound (value_span hulls.now.machine hulls.now.cell hulls.now.cells v)) }
-{
-    r.term == term && hulls.excludes_at(Asked::Compares(r.op, r.bound), i, v)
 }
 
 /// The one of two drops that comes first.

@@ -54,13 +54,13 @@ impl<'a> BoxTables<'a> {
     fn first_excluded(
         &mut self,
         alloc: Global,
-        asked: Asked,
+        asked: Asked<'_>,
         cells: &Boxed,
     ) -> Result<Option<u32>, Memory>
         requires { AreKnown cells.now.present self.old }
         ensures known { StillKnown cells.now.present self.old self.new }
         ensures found { IfOk result
-            (λ found. IsFirstCell self.old.machine (Excludes asked) cells.now.present found) }
+            (λ found. IsFirstCell self.old.machine (Excludes asked.entry) cells.now.present found) }
     {
         if self.is_plain() {
             return Ok(None);

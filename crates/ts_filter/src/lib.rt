@@ -45,6 +45,7 @@ mod row_stack;
 mod rows;
 mod same_rows;
 mod so_far;
+mod term_requirements;
 
 pub use all_tables::AllTables;
 pub use at_cell::{cut_at_end, refuted, refuted_value, worse};

@@ -7,29 +7,27 @@ ghost use Rattle.ts_filter.specs.SoFar.{IsSoFar, WithParts};
 use crate::asked::Asked;
 use ts_base::Span;
 
-/// The hull of the parts that were taken in so far. No number of it does what is asked.
+/// The hull of the parts that were taken in so far, which doesn't have what is asked.
 #[derive(Clone, Copy)]
-pub(crate) struct SoFar {
-    pub(crate) asked: Asked,
+pub(crate) struct SoFar<'a> {
+    pub(crate) asked: Asked<'a>,
     pub(crate) span: Span,
 }
 
-impl SoFar {
+impl<'a> SoFar<'a> {
     /// Nothing was taken in.
-    pub(crate) fn none(asked: Asked) -> SoFar
-        ensures asked { result.asked ≡ asked }
+    pub(crate) fn none(asked: Asked<'a>) -> SoFar<'a>
+        ensures asked { result.asked ≡ asked.entry }
         ensures span { result.span ≡ none_span }
         ensures known { IsSoFar result }
     {
-        SoFar {
-            asked,
-            span: Span::none(),
-        }
+        let span = Span::none();
+        SoFar { asked, span }
     }
 
-    /// One part more. None where some number of the hull does what is asked: whatever parts come, the number stays.
-    pub(crate) fn with(self, part: Span) -> Option<SoFar>
-        ensures { WithParts self (part ∷ []) result }
+    /// One part more. None where the hull has what is asked: whatever parts come, its numbers stay.
+    pub(crate) fn with(self, part: Span) -> Option<SoFar<'a>>
+        ensures { WithParts self.entry (part ∷ []) result }
     {
         let span = self.span.hull(part);
         if self.asked.excludes(span) {

@@ -1,6 +1,7 @@
 //! Spans that refute, or cut, and spans that don't, found by going over the numbers of each span.
 
 mod calls;
+mod drops;
 mod rows;
 
 use crate::{Bar, cuts, refutes};

@@ -4,7 +4,8 @@ ghost use Rattle.std.specs.Prelude.{◌≡◌, ◌<◌, ◌≤◌, ◌&&◌, IfO
 ghost use Rattle.ts_model.specs.declared.model.Require.{Require};
 ghost use Rattle.std.specs.List.{AllByRecursion, list_all};
 
-use crate::tests::rows::{Spans, boxes, drops, values};
+use crate::tests::drops::drops;
+use crate::tests::rows::{Spans, boxes, values};
 use crate::{
     Bar, Removal, cut_at_end, cuts, first_cut, first_refuted, kept_value, next_drop, refuted,
     refuted_value, refutes, worse,

@@ -1,6 +1,4 @@
-//! Small boxes with the spans of three automata at the last cell, and drops, by a program that follows the definitions.
-
-use ts_model::Op;
+//! Small boxes with the spans of three automata at the last cell, by a program that follows the definitions.
 
 /// The ends of a span, for each automaton.
 pub(crate) type Spans = ((i64, i64), (i64, i64), (i64, i64));
@@ -171,100 +169,6 @@ static VALUES: [(usize, i64, Spans); 70] = [
     (31, 3, ((0, 0), (0, 0), (6, 6))),
 ];
 
-/// A box, requirements on the automata, and the cell, the value and the requirement of the first drop.
-pub(crate) type DropRow = (usize, &'static [(u32, Op, i64)], Option<(u32, i64, u32)>);
-
-static DROPS: [DropRow; 40] = [
-    (0, &[(0, Op::Equal, 1)], Some((3, 2, 1))),
-    (0, &[(0, Op::Equal, 2)], Some((3, 0, 1))),
-    (0, &[(1, Op::AtMost, 1), (2, Op::Below, 3)], Some((3, 2, 2))),
-    (5, &[(0, Op::Equal, 1)], Some((3, 1, 1))),
-    (5, &[(0, Op::Equal, 0)], Some((3, 0, 1))),
-    (5, &[(0, Op::Below, 2), (1, Op::Equal, 0)], Some((3, 0, 2))),
-    (6, &[(0, Op::AtLeast, 3)], Some((5, 1, 1))),
-    (
-        6,
-        &[(0, Op::Above, 2), (2, Op::AtLeast, 2)],
-        Some((5, 1, 1)),
-    ),
-    (6, &[(2, Op::Unequal, 1)], Some((5, 1, 1))),
-    (6, &[(1, Op::AtLeast, 1), (0, Op::Unequal, 1)], None),
-    (7, &[(0, Op::Equal, 2)], Some((4, 2, 1))),
-    (
-        9,
-        &[(0, Op::AtLeast, 3), (1, Op::Equal, 3)],
-        Some((5, 1, 1)),
-    ),
-    (
-        9,
-        &[(1, Op::Equal, 3), (0, Op::AtLeast, 3)],
-        Some((5, 1, 1)),
-    ),
-    (10, &[(0, Op::Unequal, 1)], Some((5, 1, 1))),
-    (10, &[(0, Op::Unequal, 2)], Some((5, 0, 1))),
-    (10, &[(0, Op::Equal, 0)], Some((5, 0, 1))),
-    (11, &[(1, Op::Equal, 0)], Some((3, -1, 1))),
-    (11, &[(2, Op::Above, 1)], Some((3, -1, 1))),
-    (8, &[(0, Op::Equal, 5)], None),
-    (3, &[(0, Op::Equal, 0)], None),
-    (3, &[(0, Op::Equal, 1)], Some((1, 0, 1))),
-    (4, &[(0, Op::Equal, 1)], None),
-    (0, &[], None),
-    (
-        11,
-        &[(0, Op::AtLeast, 1), (2, Op::AtMost, 1), (1, Op::Unequal, 0)],
-        Some((3, 0, 1)),
-    ),
-    (
-        12,
-        &[(1, Op::Below, 4), (1, Op::Below, 0), (0, Op::Unequal, 0)],
-        Some((5, -1, 2)),
-    ),
-    (14, &[(1, Op::Equal, 1), (1, Op::Unequal, 3)], None),
-    (
-        17,
-        &[(0, Op::AtMost, 0), (2, Op::Equal, 2), (0, Op::Below, 1)],
-        Some((5, 1, 1)),
-    ),
-    (14, &[(0, Op::AtLeast, 0), (1, Op::Below, 3)], None),
-    (17, &[(1, Op::Equal, 2), (0, Op::Equal, 0)], Some((5, 1, 2))),
-    (
-        28,
-        &[(2, Op::AtLeast, 1), (1, Op::Equal, 3)],
-        Some((5, 0, 2)),
-    ),
-    (
-        27,
-        &[(2, Op::AtMost, 1), (0, Op::AtMost, 1), (2, Op::Above, 1)],
-        Some((3, 3, 1)),
-    ),
-    (
-        24,
-        &[(0, Op::Unequal, 0), (0, Op::Above, 2)],
-        Some((5, 0, 2)),
-    ),
-    (12, &[(1, Op::AtMost, 4), (1, Op::Unequal, 0)], None),
-    (
-        21,
-        &[(1, Op::Unequal, 0), (1, Op::AtLeast, 0)],
-        Some((4, 2, 1)),
-    ),
-    (27, &[(2, Op::Above, 1), (0, Op::Below, 0)], Some((3, 3, 2))),
-    (21, &[(0, Op::Below, 4), (0, Op::Above, 4)], Some((4, 2, 2))),
-    (
-        24,
-        &[(2, Op::AtLeast, 1), (1, Op::Above, 4)],
-        Some((5, 0, 2)),
-    ),
-    (28, &[(2, Op::Below, 4), (0, Op::Above, 4)], Some((5, 0, 2))),
-    (
-        15,
-        &[(1, Op::Below, 0), (2, Op::Equal, 4), (2, Op::Unequal, 3)],
-        Some((4, 1, 1)),
-    ),
-    (20, &[(1, Op::Equal, 4)], None),
-];
-
 // The tables behind functions, so that the proofs of the tests don't read them.
 pub(crate) fn boxes() -> &'static [BoxRow] {
     &BOXES
@@ -272,8 +176,4 @@ pub(crate) fn boxes() -> &'static [BoxRow] {
 
 pub(crate) fn values() -> &'static [(usize, i64, Spans)] {
     &VALUES
-}
-
-pub(crate) fn drops() -> &'static [DropRow] {
-    &DROPS
 }

@@ -15,10 +15,10 @@ returns-in-Some c =
     let many : 2 ≤ length all = search rules in
     let left = left_is all c.loop-i.i c.nth-value.result (omega (arith, long, c.loop-i-test.true, c.size-i-end.ensures.size))
     (sym (ap (λ l. slice_get l c.loop-i.i) c.values-values.ensures) ∙ c.nth-value.ensures) in
-    subst (λ k. IsFirstOf (IsDropAt c.args.requirements.now c.args.term t.machine t.cells t.cell)
+    subst (λ k. IsFirstOf (IsDropAt c.args.own.all.now c.args.own.term t.machine t.cells t.cell)
     (Some (record { cell = k; value = to_z w64 (of_z w64 c.nth-value.result); require = c.in-Some.require })))
     (sym c.cell-cell.ensures.number)
-    (drop_found_as c.args.requirements.now c.args.term t.machine t.cells t.cell (drop c.loop-i.i all) (drop (c.loop-i.i + 1) all) c.nth-value.result _
+    (drop_found_as c.args.own.all.now c.args.own.term t.machine t.cells t.cell (drop c.loop-i.i all) (drop (c.loop-i.i + 1) all) c.nth-value.result _
     c.in-Some.require (to_z-of_z w64 c.nth-value.result fits) c.loop-i.invariant left c.cell-cell.ensures.usable many
     c.in-Some.ensures)
 
@@ -28,5 +28,5 @@ loop-i-preserved c =
     let t = c.args.hulls.now in let all = values_at t.cell t.cells in let long = ap length c.values-values.ensures in
     let left = left_is all c.loop-i.i c.nth-value.result (omega (arith, long, c.loop-i-test.true, c.size-i-end.ensures.size))
     (sym (ap (λ l. slice_get l c.loop-i.i) c.values-values.ensures) ∙ c.nth-value.ensures) in
-    fewer_left_as c.args.requirements.now c.args.term t.machine t.cells t.cell (drop c.loop-i.i all) (drop (c.loop-i.i + 1) all) c.nth-value.result _
+    fewer_left_as c.args.own.all.now c.args.own.term t.machine t.cells t.cell (drop c.loop-i.i all) (drop (c.loop-i.i + 1) all) c.nth-value.result _
     (to_z-of_z w64 c.nth-value.result fits) c.loop-i.invariant left c.in_default.ensures

@@ -4,4 +4,4 @@ use Rattle.ts_filter.proofs.DropLaws.{AreLeft}
 use Rattle.ts_filter.proofs.drops.drop_in_cell.Given as goal
 
 abbrev pub invariant-loop-i : goal.invariant-loop-i
-invariant-loop-i l = AreLeft l.requirements l.term l.hulls.machine l.hulls.cells l.hulls.cell (drop l.i (values_at l.hulls.cell l.hulls.cells))
+invariant-loop-i l = AreLeft l.own.all.now l.own.term l.hulls.machine l.hulls.cells l.hulls.cell (drop l.i (values_at l.hulls.cell l.hulls.cells))
