@@ -12,5 +12,7 @@ counts_from n (r ∷ rs) = n ∷ counts_from (n + length (values_between r.low r
 pub record HasPlace (ranges : List Interval) (before : List ℕ) (i k : ℕ) : Type 0 where
   pub from : get_or before k 0 ≤ i
   pub small : i - get_or before k 0 ≤ 2000003
-  pub within : (e : Interval) → (neg_ℤ (pos 1000000) ≤ℤ (get_or ranges k e).low) × ((get_or ranges k e).low ≤ℤ pos 1000000)
-  pub value : (e : Interval) (v : ℤ) → v ≡ (get_or ranges k e).low +ℤ pos (i - get_or before k 0) → slice_get (values_of ranges) i ≡ Some v
+  pub within : (e : Interval) →
+      (neg_ℤ (pos 1000000) ≤ℤ (get_or ranges k e).low) × ((get_or ranges k e).low ≤ℤ pos 1000000)
+  pub value : (e : Interval) (v : ℤ) → v ≡ (get_or ranges k e).low +ℤ pos (i - get_or before k 0) →
+      slice_get (values_of ranges) i ≡ Some v

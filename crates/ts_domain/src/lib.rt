@@ -11,8 +11,8 @@
 //! A change makes pieces alone, whose ends are found by halving, and the trail keeps the pieces before. `keep_low` and
 //! `keep_high` never make more of them, and a value taken out of the middle of a piece leaves one more. A set of more
 //! than 128 pieces gets ranges of its own, so no change copies more pieces than that. A change that makes the 129th
-//! piece copies the ranges that are left: from a set of one piece it takes 128 changes to come there, after an undo one.
-//! Beside each range stands how many numbers lie before it, so the place of a number is found by halving too.
+//! piece copies the ranges that are left: from a set of one piece it takes 128 changes to come there, after an undo
+//! one. Beside each range stands how many numbers lie before it, so the place of a number is found by halving too.
 //!
 //! ```text
 //! let digits = Domain::from_ranges(alloc, &[0, 7], &[4, 9])?;

@@ -6,26 +6,30 @@ use Rattle.ts_domain.proofs.counted.CountedRanges.place_of.Goals as goal
 
 pub bounds-items-at : goal.bounds-items-at
 bounds-items-at c =
-    (found_given c.args.self.now.items.items c.as_slice-items.result.now c.args.self.now.before.items c.as_slice-before.result.now c.args.v c.ended_below-at.result
+    (found_given c.args.self.now.items.items c.as_slice-items.result.now c.args.self.now.before.items c.as_slice-before.result.now c.args.v
+    c.ended_below-at.result
     (record { low = pos 0; high = pos 0 }) c.as_slice-items.ensures c.as_slice-before.ensures c.args.self.now.counted c.requires.apart c.requires.has
     (high_count c.args.v c.as_slice-items.result.now _ c.ranges.v c.ended_below-at.ensures.count)).in_ranges
 
 pub bounds-before-at : goal.bounds-before-at
 bounds-before-at c =
-    (found_given c.args.self.now.items.items c.as_slice-items.result.now c.args.self.now.before.items c.as_slice-before.result.now c.args.v c.ended_below-at.result
+    (found_given c.args.self.now.items.items c.as_slice-items.result.now c.args.self.now.before.items c.as_slice-before.result.now c.args.v
+    c.ended_below-at.result
     (record { low = pos 0; high = pos 0 }) c.as_slice-items.ensures c.as_slice-before.ensures c.args.self.now.counted c.requires.apart c.requires.has
     (high_count c.args.v c.as_slice-items.result.now _ c.ranges.v c.ended_below-at.ensures.count)).in_counts
 
 pub overflow_sub-above : goal.overflow_sub-above
 overflow_sub-above c =
-    let f = found_given c.args.self.now.items.items c.as_slice-items.result.now c.args.self.now.before.items c.as_slice-before.result.now c.args.v c.ended_below-at.result
+    let f = found_given c.args.self.now.items.items c.as_slice-items.result.now c.args.self.now.before.items c.as_slice-before.result.now c.args.v
+    c.ended_below-at.result
     (record { low = pos 0; high = pos 0 }) c.as_slice-items.ensures c.as_slice-before.ensures c.args.self.now.counted c.requires.apart c.requires.has
     (high_count c.args.v c.as_slice-items.result.now _ c.ranges.v c.ended_below-at.ensures.count) in
     omega (arith, ints, f.low, f.from, f.to)
 
 pub overflow_cast-result-2 : goal.overflow_cast-result-2
 overflow_cast-result-2 c =
-    let f = found_given c.args.self.now.items.items c.as_slice-items.result.now c.args.self.now.before.items c.as_slice-before.result.now c.args.v c.ended_below-at.result
+    let f = found_given c.args.self.now.items.items c.as_slice-items.result.now c.args.self.now.before.items c.as_slice-before.result.now c.args.v
+    c.ended_below-at.result
     (record { low = pos 0; high = pos 0 }) c.as_slice-items.ensures c.as_slice-before.ensures c.args.self.now.counted c.requires.apart c.requires.has
     (high_count c.args.v c.as_slice-items.result.now _ c.ranges.v c.ended_below-at.ensures.count) in
     omega (arith, ints, f.from)

@@ -11,7 +11,8 @@ use Rattle.ts_search.proofs.problem.Problem.kept_value.Goals as goal
 pub kept_value-requires-clause-there : goal.kept_value-requires-clause-there
 kept_value-requires-clause-there c =
     let q = c.args.self.now in
-    tables_long q c.requires.asked.posed c.args.tables.now c.in-Some.term c.requires.asked.tables (objective_there q c.requires.asked.posed c.in-Some.term c.in-Some.is)
+    tables_long q c.requires.asked.posed c.args.tables.now c.in-Some.term c.requires.asked.tables
+    (objective_there q c.requires.asked.posed c.in-Some.term c.in-Some.is)
 
 pub returns-in-Some-clause-kept : goal.returns-in-Some-clause-kept
 returns-in-Some-clause-kept c =
@@ -20,7 +21,8 @@ returns-in-Some-clause-kept c =
     (λ v. v ≡ kept_value (search_of q).model (search_of q).spans q.goal c.args.k b)
     (λ v g. told_in q c.args.tables.now term (λ a. IsKept a q.goal c.args.k b v)
     (v ≡ kept_value (search_of q).model (search_of q).spans q.goal c.args.k b) c.requires.asked.tables
-    (tables_long q c.requires.asked.posed c.args.tables.now term c.requires.asked.tables (objective_there q c.requires.asked.posed term c.in-Some.is)) g
+    (tables_long q c.requires.asked.posed c.args.tables.now term c.requires.asked.tables
+    (objective_there q c.requires.asked.posed term c.in-Some.is)) g
     (λ a there h. kept_told q c.requires.asked.posed b c.requires.asked.part term a c.in-Some.is there c.args.k v c.requires.cell h))
     c.kept_value.ensures.kept
 
