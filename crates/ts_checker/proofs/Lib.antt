@@ -11,3 +11,4 @@ mod Pieces
 mod JudgingLaws
 mod InputLaws
 mod InputEnds
+mod OneAnswer

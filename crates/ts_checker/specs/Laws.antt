@@ -1,5 +1,5 @@
 -- What is promised of verdicts, and of the boxes that wait.
-use Rattle.std.specs.Prelude.{◌≡◌, ◌+◌, ◌<◌, ◌≤◌, ◌^◌, ℕ, List, [], ◌∷◌, length, None}
+use Rattle.std.specs.Prelude.{◌≡◌, ◌+◌, ◌<◌, ◌≤◌, ◌^◌, ℕ, List, [], ◌∷◌, length, Option, None}
 use Rattle.ts_certificate.specs.declared.certificate.TreeLine.{TreeLine}
 use Rattle.ts_certificate.specs.declared.certificate.TreeLine.TheVariants.{Split, Remove, No, Worse, Yes, Unsearched}
 use Rattle.ts_certificate.specs.Certificate.{Cert}
@@ -12,7 +12,9 @@ use Rattle.ts_filter.specs.Holds.{Holds}
 use Rattle.ts_checker.specs.declared.verdict.Verdict.{Verdict}
 use Rattle.ts_checker.specs.Checking.{Checking, unfed, IsGoing, IsOver, HasChecked}
 use Rattle.ts_spans.specs.Machines.{spans_in}
+use Rattle.ts_checker.specs.declared.verify_end.VerifyEnd.{VerifyEnd}
 use Rattle.ts_checker.specs.Verdicts.{IsVerdict}
+use Rattle.ts_checker.specs.Verified.{IsFailed, IsVerifyEnd}
 
 -- what is accepted is true, whoever wrote it
 abbrev pub AcceptedIsTrue : Type 0
@@ -23,6 +25,16 @@ abbrev pub OneVerdict : Type 0
 OneVerdict =
     (m : Stated) (texts : List (List ℕ)) (v w : Verdict) → length texts < 2 ^ 62 → IsVerdict m texts v →
     IsVerdict m texts w → v ≡ w
+
+-- an input has one end
+abbrev pub OneEnd : Type 0
+OneEnd =
+    (bytes : List ℕ) (e f : VerifyEnd) → length bytes < 2 ^ 62 → IsVerifyEnd bytes e → IsVerifyEnd bytes f → e ≡ f
+
+-- there is one first line that fails, or none does
+abbrev pub OneFailed : Type 0
+OneFailed =
+    (bytes : List ℕ) (a b : Option ℕ) → length bytes < 2 ^ 62 → IsFailed bytes a → IsFailed bytes b → a ≡ b
 
 -- before the first line nothing was checked
 abbrev pub NoneChecked : Type 0

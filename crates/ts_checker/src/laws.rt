@@ -1,6 +1,6 @@
-//! What the verdict of a checker means, as laws of the definitions.
+//! What the verdict of a checker and the end of a verifier mean, as laws of the definitions.
 
-ghost use Rattle.ts_checker.specs.Laws.{AcceptedIsTrue, NoneChecked, OneVerdict};
+ghost use Rattle.ts_checker.specs.Laws.{AcceptedIsTrue, NoneChecked, OneEnd, OneFailed, OneVerdict};
 
 /// What is accepted is true of the model: of every certificate, whoever wrote it.
 pub fn accepted_is_true()
@@ -10,6 +10,16 @@ pub fn accepted_is_true()
 /// A certificate has one verdict.
 pub fn one_verdict()
     ensures { OneVerdict }
+{}
+
+/// Whoever tells the end of the same bytes tells the same: the definition leaves nothing open.
+pub fn one_end()
+    ensures { OneEnd }
+{}
+
+/// Whoever tells the first failing line of the same bytes tells the same line, or that none has failed.
+pub fn one_failed()
+    ensures { OneFailed }
 {}
 
 /// A checker that was fed no line has checked none.
