@@ -8,6 +8,9 @@ mod Waits
 mod OfProgram
 pub mod Truth
 mod Pieces
+mod LineSizes
+mod LongLines
+mod KeptLines
 mod JudgingLaws
 mod InputLaws
 mod InputEnds

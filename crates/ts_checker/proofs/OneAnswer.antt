@@ -15,16 +15,15 @@ use Rattle.ts_model.specs.declared.error.ModelKind.{ModelKind}
 use Rattle.ts_model.specs.declared.model.Need.TheVariants.{List as Listed}
 use Rattle.ts_model.specs.ModelReading.{model_reading}
 use Rattle.ts_model.specs.Stated.{Stated}
-use Rattle.ts_filter.specs.Lines.{FailsAt, Found, KeepsLine, Leads, Stand, first_stand, stand_after}
+use Rattle.ts_filter.specs.Lines.{FailsAt, Found, Leads, Stand, first_stand, stand_after}
 use Rattle.ts_filter.specs.RefutedWorseDrop.{Spans}
 use Rattle.ts_spans.specs.Machines.{spans_in}
-use Rattle.ts_checker.specs.declared.verdict.Verdict.{Verdict}
 use Rattle.ts_checker.specs.declared.verdict.Verdict.TheVariants.{Accepted}
 use Rattle.ts_checker.specs.declared.verify_end.VerifyEnd.{VerifyEnd}
 use Rattle.ts_checker.specs.declared.verify_end.VerifyEnd.TheVariants.{Model, Verdict as Judged}
 use Rattle.ts_checker.specs.Laws.{OneEnd, OneFailed}
 use Rattle.ts_checker.specs.Verdicts.{IsVerdict}
-use Rattle.ts_checker.specs.Verified.{BreaksFirst, FailsBy, FailsIn, IsJudged, certificate_lines, ended_lines, is_ended, model_part, rest_part}
+use Rattle.ts_checker.specs.Verified.{BreaksFirst, FailsBy, FailsIn, certificate_lines, ended_lines, is_ended, model_part, rest_part}
 use Rattle.ts_checker.proofs.Verdicts.{one_verdict}
 
 -- a certificate has no more lines than its input has bytes

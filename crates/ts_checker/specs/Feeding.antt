@@ -1,8 +1,9 @@
 -- An input of `verify` as far as it was fed: what is kept of the bytes, and what is known of it.
-use Rattle.std.specs.Prelude.{◌≡◌, ℕ, ◌==◌, Bool, true, false, not, List, [], ◌∷◌, ◌++◌, filter, if◌then◌else◌}
-use Rattle.std.specs.Prelude.{Option, Some, None, MatchOption, Ok, Err}
+use Rattle.std.specs.Prelude.{◌≡◌, ℕ, ◌==◌, ◌≤◌, Bool, true, false, not, List, [], ◌∷◌, ◌++◌, filter, length}
+use Rattle.std.specs.Prelude.{if◌then◌else◌, Option, Some, None, MatchOption, Ok, Err}
 use Rattle.std.specs.Option.{option_map}
 use Rattle.std.specs.List.{list_all}
+use Rattle.ts_base.specs.Limits.{most_cells}
 use Rattle.ts_base.specs.Words.{is_lf, strict_lines, without_lf}
 use Rattle.ts_token.specs.Halves.{after_front, halves_of}
 use Rattle.ts_model.specs.declared.error.ModelKind.{ModelKind}
@@ -15,8 +16,9 @@ use Rattle.ts_checker.specs.declared.opened.Opened.TheVariants.{Refused, Judging
 use Rattle.ts_checker.specs.declared.verify_end.VerifyEnd.{VerifyEnd}
 use Rattle.ts_checker.specs.declared.verify_end.VerifyEnd.TheVariants.{Model, Verdict}
 use Rattle.ts_checker.specs.Checking.{HasChecked}
+use Rattle.ts_checker.specs.Shortened.{IsKeptOf}
 use Rattle.ts_checker.specs.Verdicts.{stop_line}
-use Rattle.ts_checker.specs.Verified.{FailsFirst, IsShownBy, is_ended}
+use Rattle.ts_checker.specs.Verified.{FailsFirst, IsShownBy, ended_lines, is_ended}
 
 -- the line that was refused before; else this one, where the next one still has its number
 abbrev pub refused_now : Option ℕ → ℕ → ℕ → Option ℕ
@@ -27,10 +29,46 @@ refused_now None number next = if next == number then Some number else None
 pub record HasJudged (texts : List (List ℕ)) (j : AtWork) : Type 0 where
   pub checked : HasChecked texts j.checker
   pub refused : j.refused ≡ option_map stop_line j.checker.reading.stop
+  pub few : length j.checker.model.cells ≤ most_cells
 
--- whatever lines came before, this one has come too
-abbrev pub Judges : AtWork → List ℕ → AtWork → Type 0
-Judges old text new = (texts : List (List ℕ)) → HasJudged texts old → HasJudged (texts ++ text ∷ []) new
+-- whatever lines came before, the one that what is kept stands for has come too, with its LF
+abbrev pub JudgesLine : AtWork → AtWork → Type 0
+JudgesLine old new =
+    (texts : List (List ℕ)) (line : List ℕ) → HasJudged texts old → IsKeptOf old.line.bytes.items line →
+    HasJudged (texts ++ (line ++ 10 ∷ []) ∷ []) new
+
+-- none of the bytes is an LF
+abbrev pub IsUnfinished : List ℕ → Type 0
+IsUnfinished line = list_all (λ b. not (is_lf b)) line ≡ true
+
+-- only the last byte is an LF
+abbrev pub IsFinished : List ℕ → Type 0
+IsFinished line = (bare : List ℕ) × (without_lf line ≡ Some bare) × IsUnfinished bare
+
+-- no byte before the last is an LF
+abbrev pub IsPart : List ℕ → Type 0
+IsPart part = MatchOption (without_lf part) (IsUnfinished part) IsUnfinished
+
+-- whatever follows, these bytes are these lines
+abbrev pub AreWhole : List ℕ → List (List ℕ) → Type 0
+AreWhole seen texts = (more : List ℕ) → strict_lines (seen ++ more) ≡ texts ++ strict_lines more
+
+-- these bytes of a certificate are lines that were judged and the unfinished line, which what is kept stands for
+-- unless a line was refused
+pub record HasRead (bytes : List ℕ) (j : AtWork) : Type 0 where
+  pub seen : List ℕ
+  pub texts : List (List ℕ)
+  pub line : List ℕ
+  pub parts : bytes ≡ seen ++ line
+  pub lines : AreWhole seen texts
+  pub ended : filter is_ended texts ≡ texts
+  pub free : IsUnfinished line
+  pub judged : HasJudged texts j
+  pub kept : j.refused ≡ None → IsKeptOf j.line.bytes.items line
+
+-- whatever bytes of the certificate came before, these have come too
+abbrev pub Reads : AtWork → List ℕ → AtWork → Type 0
+Reads old part new = (bytes : List ℕ) → HasRead bytes old → HasRead (bytes ++ part) new
 
 -- bytes behind the last LF are a line, unless there are none
 abbrev pub last_line : List ℕ → List (List ℕ)
@@ -40,21 +78,21 @@ last_line (b ∷ bs) = (b ∷ bs) ∷ []
 -- what the model of a text gives
 abbrev pub IsOpened : List ℕ → Opened → Type 0
 IsOpened text (Refused line kind) = model_reading Listed text ≡ Err (line, kind)
-IsOpened text (Judging j) = (model_reading Listed text ≡ Ok j.checker.model) × HasJudged [] j
+IsOpened text (Judging j) = (model_reading Listed text ≡ Ok j.checker.model) × HasRead [] j
 
--- a line of the certificate is taken
-abbrev pub TakesLine : Opened → List ℕ → Opened → Type 0
-TakesLine (Refused line kind) text new = new ≡ Refused line kind
-TakesLine (Judging old) text (Judging new) = Judges old text new × (new.checker.model ≡ old.checker.model)
-TakesLine (Judging old) text (Refused line kind) = ⊥
+-- bytes of the certificate are taken
+abbrev pub TakesPart : Opened → List ℕ → Opened → Type 0
+TakesPart (Refused line kind) part new = new ≡ Refused line kind
+TakesPart (Judging old) part (Judging new) = Reads old part new × (new.checker.model ≡ old.checker.model)
+TakesPart (Judging old) part (Refused line kind) = ⊥
 
--- the end behind a last line without an LF
-abbrev pub EndsOpened : Opened → List ℕ → VerifyEnd → Type 0
-EndsOpened (Refused n k) last (Model line kind) = (line ≡ n) × (kind ≡ k)
-EndsOpened (Refused n k) last (Verdict v) = ⊥
-EndsOpened (Judging j) last (Model line kind) = ⊥
-EndsOpened (Judging j) last (Verdict v) =
-    (texts : List (List ℕ)) → HasJudged texts j → IsShownBy (texts ++ last_line last) j.checker.model v
+-- the end of the input
+abbrev pub EndsOpened : Opened → VerifyEnd → Type 0
+EndsOpened (Refused n k) (Model line kind) = (line ≡ n) × (kind ≡ k)
+EndsOpened (Refused n k) (Verdict v) = ⊥
+EndsOpened (Judging j) (Model line kind) = ⊥
+EndsOpened (Judging j) (Verdict v) =
+    (bytes : List ℕ) → HasRead bytes j → IsShownBy (strict_lines bytes) j.checker.model v
 
 -- memory wasn't wanting so far
 abbrev pub IsCalm : Opened → Type 0
@@ -71,28 +109,11 @@ TakesModelLine old line None new = ((halves_of line).rest ≡ None) × (new ≡ 
 TakesModelLine old line (Some o) new =
     ((rest : List ℕ) × ((halves_of line).rest ≡ Some rest)) × IsOpened old o
 
--- a line of the certificate is taken where the model has ended, else one of the model
-abbrev pub TakesAny : Option Opened → List ℕ → List ℕ → Option Opened → List ℕ → Type 0
-TakesAny None line old after new = TakesModelLine old line after new
-TakesAny (Some o) line old None new = ⊥
-TakesAny (Some o) line old (Some p) new = TakesLine o line p
-
 -- the first line that fails
 abbrev pub OpenedFails : Opened → Option ℕ → Type 0
 OpenedFails (Refused line kind) failed = failed ≡ None
-OpenedFails (Judging j) failed = (texts : List (List ℕ)) → HasJudged texts j → FailsFirst j.checker.model texts failed
-
--- none of the bytes is an LF
-abbrev pub IsUnfinished : List ℕ → Type 0
-IsUnfinished line = list_all (λ b. not (is_lf b)) line ≡ true
-
--- only the last byte is an LF
-abbrev pub IsFinished : List ℕ → Type 0
-IsFinished line = (bare : List ℕ) × (without_lf line ≡ Some bare) × IsUnfinished bare
-
--- no byte before the last is an LF
-abbrev pub IsPart : List ℕ → Type 0
-IsPart part = MatchOption (without_lf part) (IsUnfinished part) IsUnfinished
+OpenedFails (Judging j) failed =
+    (bytes : List ℕ) → HasRead bytes j → FailsFirst j.checker.model (ended_lines bytes) failed
 
 -- whatever follows, these bytes are whole lines of the model
 abbrev pub AreOfModel : List ℕ → Type 0
@@ -102,14 +123,11 @@ AreOfModel front = (more : List ℕ) → halves_of (front ++ more) ≡ after_fro
 abbrev pub EndsModel : List ℕ → List ℕ → Type 0
 EndsModel text front = (more : List ℕ) → halves_of (front ++ more) ≡ record { model = text; rest = Some more }
 
--- whatever follows, these bytes are these lines
-abbrev pub AreWhole : List ℕ → List (List ℕ) → Type 0
-AreWhole seen texts = (more : List ℕ) → strict_lines (seen ++ more) ≡ texts ++ strict_lines more
-
 -- the bytes so far are whole lines of the model and the unfinished line
 pub record IsInModel (bytes model line : List ℕ) : Type 0 where
   pub parts : bytes ≡ model ++ line
   pub lines : AreOfModel model
+  pub free : IsUnfinished line
 
 -- the model has ended, and is refused
 pub record IsBehindRefusal (bytes : List ℕ) (line : ℕ) (kind : ModelKind) : Type 0 where
@@ -120,38 +138,32 @@ pub record IsBehindRefusal (bytes : List ℕ) (line : ℕ) (kind : ModelKind) : 
   pub ends : EndsModel text front
   pub reading : model_reading Listed text ≡ Err (line, kind)
 
--- the model has ended, and behind it are lines of the certificate that were judged, and the unfinished line
-pub record IsInCertificate (bytes : List ℕ) (j : AtWork) (line : List ℕ) : Type 0 where
+-- the model has ended, and the certificate behind it was taken
+pub record IsInCertificate (bytes : List ℕ) (j : AtWork) : Type 0 where
   pub text : List ℕ
   pub front : List ℕ
-  pub seen : List ℕ
-  pub texts : List (List ℕ)
-  pub parts : bytes ≡ front ++ (seen ++ line)
+  pub rest : List ℕ
+  pub parts : bytes ≡ front ++ rest
   pub ends : EndsModel text front
   pub reading : model_reading Listed text ≡ Ok j.checker.model
-  pub lines : AreWhole seen texts
-  pub ended : filter is_ended texts ≡ texts
-  pub judged : HasJudged texts j
+  pub read : HasRead rest j
 
 abbrev pub IsAt : List ℕ → Option Opened → List ℕ → List ℕ → Type 0
 IsAt bytes None model line = IsInModel bytes model line
 IsAt bytes (Some (Refused n kind)) model line = IsBehindRefusal bytes n kind
-IsAt bytes (Some (Judging j)) model line = IsInCertificate bytes j line
+IsAt bytes (Some (Judging j)) model line = IsInCertificate bytes j
 
--- these bytes were taken: the last of them have no LF
-pub record HasTaken (bytes : List ℕ) (i : Input) : Type 0 where
-  pub at : IsAt bytes i.opened i.model.items i.line.items
-  pub line : IsUnfinished i.line.items
+-- these bytes were taken
+abbrev pub HasTaken : List ℕ → Input → Type 0
+HasTaken bytes i = IsAt bytes i.opened i.model.items i.line.items
 
 -- whatever came before, these bytes have come too
 abbrev pub TakesBytes : Input → List ℕ → Input → Type 0
 TakesBytes old piece new = (bytes : List ℕ) → HasTaken bytes old → HasTaken (bytes ++ piece) new
 
--- the line that has its LF is taken
+-- the line of the model that has its LF is taken
 abbrev pub EndsLine : Input → Input → Type 0
-EndsLine old new =
-    (bytes : List ℕ) → IsAt bytes old.opened old.model.items old.line.items → IsFinished old.line.items →
-    HasTaken bytes new
+EndsLine old new = TakesModelLine old.model.items old.line.items new.opened new.model.items × (new.line.items ≡ [])
 
 -- what contracts see
 pub record Verifying : Type 0 where

@@ -100,16 +100,7 @@ impl Checker {
         ensures wanted { OnErr result (IsTrue self.new.wanting) }
         ensures calm { OnOk result ((self.old.wanting ≡ false) × (self.new.wanting ≡ false)) }
     {
-        if self.wanting {
-            return Err(Memory);
-        }
-        match self.step(line) {
-            Ok(()) => Ok(()),
-            Err(Memory) => {
-                self.wanting = true;
-                Err(Memory)
-            }
-        }
+        self.take_line(line)
     }
 
     /// How many boxes still wait for their line: 1 and one for each `split`, less one for each `no`, `worse`, `yes` and
@@ -142,6 +133,26 @@ impl Checker {
 }
 
 impl Checker {
+    /// Takes the next line as `feed_line` does, and promises what that makes of the checker.
+    pub(crate) fn take_line(&mut self, line: &[u8]) -> Result<(), Memory>
+        requires { self.old.reading.next ≤ 4000000000 }
+        ensures takes { OnOk result (Takes self.old line.now self.new) }
+        ensures model { self.new.model ≡ self.old.model }
+        ensures wanted { OnErr result (IsTrue self.new.wanting) }
+        ensures calm { OnOk result ((self.old.wanting ≡ false) × (self.new.wanting ≡ false)) }
+    {
+        if self.wanting {
+            return Err(Memory);
+        }
+        match self.step(line) {
+            Ok(()) => Ok(()),
+            Err(Memory) => {
+                self.wanting = true;
+                Err(Memory)
+            }
+        }
+    }
+
     // The verdict, by where the reading stops and by the first line that breaks its rule.
     fn verdict(&self) -> Verdict
         ensures { result ≡ verdict_by (end_stop self.now.reading) self.now.failed }

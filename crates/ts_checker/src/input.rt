@@ -4,13 +4,13 @@ ghost use Rattle.std.specs.Prelude.{ℕ, ◌≡◌, List, [], IfOk, OnOk, None};
 ghost use Rattle.ts_checker.specs.Feeding.{AreCalm, EndsLine, HasTaken, IsPart, TakesBytes};
 ghost use Rattle.ts_checker.specs.Verified.{IsFailed, IsVerifyEnd};
 
-use crate::opened::{Opened, take_line, take_model_line};
+use crate::opened::{Opened, take_model_line};
 use crate::verify_end::VerifyEnd;
 use std::alloc::Global;
 use ts_base::{Memory, first_line, without_lf};
 
-/// What is kept of an input: the whole lines of its model until that ends, and the bytes behind the last LF. Of a
-/// certificate no more is kept than its unfinished line, and behind a refused model nothing.
+/// What is kept of an input: until its model ends, the whole lines of that and the bytes behind the last LF; then what
+/// the model gives.
 #[derive(Drop)]
 pub(crate) struct Input {
     pub alloc: Global,
@@ -70,11 +70,11 @@ impl Input {
             opened,
         } = self;
         if let Some(opened) = opened {
-            return opened.end(&line);
+            return opened.end();
         }
         match take_model_line(alloc, &mut model, &line)? {
-            Some(opened) => opened.end(b""),
-            None => Opened::of(alloc, &model)?.end(b""),
+            Some(opened) => opened.end(),
+            None => Opened::of(alloc, &model)?.end(),
         }
     }
 }
@@ -87,23 +87,32 @@ impl Input {
         ensures taken { OnOk result (TakesBytes self.old part.now self.new) }
         ensures calm { OnOk result (AreCalm self.new.opened) }
     {
-        if let Some(Opened::Refused { .. }) = self.opened {
-            return Ok(());
+        match &mut self.opened {
+            Some(opened) => opened.take(part),
+            None => self.take_model_part(part),
         }
+    }
+
+    // Takes bytes of one line of the model, whose last may be its LF.
+    fn take_model_part(&mut self, part: &[u8]) -> Result<(), Memory>
+        requires part { IsPart part.now }
+        requires model { self.old.opened ≡ None }
+        ensures taken { OnOk result (TakesBytes self.old part.now self.new) }
+        ensures calm { OnOk result (AreCalm self.new.opened) }
+    {
         self.line.extend_from_slice(part)?;
         match without_lf(part) {
-            Some(_) => self.end_line(),
+            Some(_) => self.end_model_line(),
             None => Ok(()),
         }
     }
 
-    // The line has its LF.
-    fn end_line(&mut self) -> Result<(), Memory>
-        requires { AreCalm self.old.opened }
+    // The line of the model has its LF.
+    fn end_model_line(&mut self) -> Result<(), Memory>
         ensures ended { OnOk result (EndsLine self.old self.new) }
         ensures calm { OnOk result (AreCalm self.new.opened) }
     {
-        take_line(self.alloc, &mut self.opened, &mut self.model, &self.line)?;
+        self.opened = take_model_line(self.alloc, &mut self.model, &self.line)?;
         self.line.clear();
         Ok(())
     }

@@ -1,62 +1,74 @@
-//! A checker at work on the lines of a certificate, and the first of them that was refused.
+//! A checker at work on the bytes of a certificate, and the first line that was refused.
 
-ghost use Rattle.std.specs.Prelude.{ℕ, ◌≡◌, ◌++◌, List, [], IfOk, OnOk, false};
+ghost use Rattle.std.specs.Prelude.{ℕ, ◌≡◌, ◌≤◌, List, [], IfOk, OnOk, None, false};
+ghost use Rattle.ts_base.specs.Words.{strict_lines};
 ghost use Rattle.ts_model.specs.Promise.{IsWhole, KeepsLimits};
 ghost use Rattle.ts_model.specs.Views.{stated};
 ghost use Rattle.ts_model.specs.declared.model.Need.TheVariants.{List as Listed};
-ghost use Rattle.ts_checker.specs.Feeding.{HasJudged, Judges, last_line, refused_now};
-ghost use Rattle.ts_checker.specs.Verified.{FailsFirst, IsShownBy};
+ghost use Rattle.ts_checker.specs.Checking.{Takes};
+ghost use Rattle.ts_checker.specs.Feeding.{HasRead, IsPart, JudgesLine, Reads, refused_now};
+ghost use Rattle.ts_checker.specs.Verified.{FailsFirst, IsShownBy, ended_lines};
 
+use crate::certificate_line::CertificateLine;
 use crate::checker::Checker;
 use crate::verdict::Verdict;
 use std::alloc::Global;
-use ts_base::Memory;
+use ts_base::{Memory, without_lf};
 use ts_compile::compile_model;
 use ts_model::Model;
 
 /// The most lines that are counted.
 const MOST_LINES: u32 = 4_000_000_000;
 
-/// A checker, and the number of the line that it refused.
+/// A checker, what is kept of the line that has no LF yet, and the number of the line that was refused. Behind that
+/// line nothing more is kept or judged.
 #[derive(Drop)]
 pub(crate) struct Judging {
     pub checker: Checker,
+    pub line: CertificateLine,
     pub refused: Option<u32>,
 }
 
 impl Judging {
-    /// Before the first line of a certificate for this model.
+    /// Before the first byte of a certificate for this model.
     pub(crate) fn new(alloc: Global, model: Model) -> Result<Judging, Memory>
         requires whole { IsWhole (stated model) }
         requires limits { KeepsLimits Listed (stated model) }
         ensures model { IfOk result (λ j. j.checker.model ≡ stated model) }
-        ensures judged { IfOk result (λ j. HasJudged [] j) }
+        ensures read { IfOk result (λ j. HasRead [] j) }
     {
         let program = compile_model(alloc, &model)?;
         Ok(Judging {
             checker: Checker::new(alloc, model, program)?,
+            line: CertificateLine::new(alloc),
             refused: None,
         })
     }
 
-    /// Takes the next line, given with its LF.
-    pub(crate) fn take(&mut self, line: &[u8]) -> Result<(), Memory>
-        ensures judged { OnOk result (Judges self.old line.now self.new) }
+    /// Takes bytes of one line, whose last may be its LF.
+    pub(crate) fn take(&mut self, part: &[u8]) -> Result<(), Memory>
+        requires part { IsPart part.now }
+        requires calm { self.old.checker.wanting ≡ false }
+        ensures read { OnOk result (Reads self.old part.now self.new) }
         ensures model { OnOk result (self.new.checker.model ≡ self.old.checker.model) }
         ensures calm { OnOk result (self.new.checker.wanting ≡ false) }
     {
-        let number = self.checker.next_line();
-        if number > MOST_LINES {
-            return Err(Memory);
+        if self.refused.is_some() {
+            return Ok(());
         }
-        self.checker.feed_line(line)?;
-        self.refused = refused_now(self.refused, number, self.checker.next_line());
-        Ok(())
+        match without_lf(part) {
+            None => self.line.take(part),
+            Some(last) => {
+                self.line.take(last)?;
+                self.end_line()
+            }
+        }
     }
 
     /// The first line so far that was refused, or else the first that broke its rule.
     pub(crate) fn failed(&self) -> Option<u32>
-        ensures { (texts : List (List ℕ)) → HasJudged texts self.now → FailsFirst self.now.checker.model texts result }
+        ensures { (bytes : List ℕ) → HasRead bytes self.now →
+            FailsFirst self.now.checker.model (ended_lines bytes) result }
     {
         match self.refused {
             Some(line) => Some(line),
@@ -64,18 +76,52 @@ impl Judging {
         }
     }
 
-    /// The verdict after the last line, which stands without an LF; it may be empty, and is then no line.
-    pub(crate) fn end(self, last: &[u8]) -> Result<Verdict, Memory>
+    /// The verdict behind the last byte. A last line without an LF is none of a certificate, whatever it says.
+    pub(crate) fn end(self) -> Result<Verdict, Memory>
         requires { self.checker.wanting ≡ false }
-        ensures { IfOk result (λ verdict. (texts : List (List ℕ)) → HasJudged texts self →
-            IsShownBy (texts ++ last_line last.now) self.checker.model verdict) }
+        ensures { IfOk result (λ verdict. (bytes : List ℕ) → HasRead bytes self →
+            IsShownBy (strict_lines bytes) self.checker.model verdict) }
     {
-        let mut judging = self;
-        if !last.is_empty() {
-            judging.take(last)?;
+        let Judging {
+            mut checker,
+            line,
+            refused,
+        } = self;
+        if refused.is_none() && !line.is_empty() {
+            judge(&mut checker, None, b"?")?;
         }
-        Ok(judging.checker.finish())
+        Ok(checker.finish())
     }
+}
+
+impl Judging {
+    // The line has its LF.
+    fn end_line(&mut self) -> Result<(), Memory>
+        ensures judged { OnOk result (JudgesLine self.old self.new) }
+        ensures cleared { OnOk result (self.new.line.bytes.items ≡ []) }
+        ensures model { OnOk result (self.new.checker.model ≡ self.old.checker.model) }
+        ensures calm { OnOk result (self.new.checker.wanting ≡ false) }
+    {
+        self.line.end()?;
+        self.refused = judge(&mut self.checker, self.refused, &self.line.bytes)?;
+        self.line.clear();
+        Ok(())
+    }
+}
+
+// Judges the next line; the result is the line that is refused by now.
+fn judge(checker: &mut Checker, refused: Option<u32>, text: &[u8]) -> Result<Option<u32>, Memory>
+    ensures takes { OnOk result (Takes checker.old text.now checker.new) }
+    ensures refused { IfOk result (λ now. now ≡ refused_now refused checker.old.reading.next checker.new.reading.next) }
+    ensures few { OnOk result (checker.old.reading.next ≤ 4000000000) }
+    ensures calm { OnOk result (checker.new.wanting ≡ false) }
+{
+    let number = checker.next_line();
+    if number > MOST_LINES {
+        return Err(Memory);
+    }
+    checker.take_line(text)?;
+    Ok(refused_now(refused, number, checker.next_line()))
 }
 
 // The line that was refused before; else line `number`, where the next one still has that number.

@@ -22,6 +22,7 @@
 //! ```
 #![tactic(auto)]
 
+mod certificate_line;
 mod checker;
 mod head;
 mod input;

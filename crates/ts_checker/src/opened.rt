@@ -1,8 +1,8 @@
 //! What the model in an input of `verify` gives, once its text has ended.
 
 ghost use Rattle.std.specs.Prelude.{IfOk, OnOk};
-ghost use Rattle.ts_checker.specs.Feeding.{AreCalm, EndsOpened, IsCalm, IsOpened, OpenedFails, TakesAny, TakesLine};
-ghost use Rattle.ts_checker.specs.Feeding.{TakesModelLine};
+ghost use Rattle.ts_checker.specs.Feeding.{EndsOpened, IsCalm, IsOpened, IsPart, OpenedFails, TakesModelLine};
+ghost use Rattle.ts_checker.specs.Feeding.{TakesPart};
 
 use crate::judging::Judging;
 use crate::verify_end::VerifyEnd;
@@ -37,14 +37,16 @@ impl Opened {
         }
     }
 
-    /// Takes a line of the certificate, given with its LF; a refusal stays.
-    pub(crate) fn take(&mut self, line: &[u8]) -> Result<(), Memory>
-        ensures taken { OnOk result (TakesLine self.old line.now self.new) }
+    /// Takes bytes of one line of the certificate, whose last may be its LF; a refusal stays.
+    pub(crate) fn take(&mut self, part: &[u8]) -> Result<(), Memory>
+        requires part { IsPart part.now }
+        requires calm { IsCalm self.old }
+        ensures taken { OnOk result (TakesPart self.old part.now self.new) }
         ensures calm { OnOk result (IsCalm self.new) }
     {
         match self {
             Opened::Refused { .. } => Ok(()),
-            Opened::Judging(judging) => judging.take(line),
+            Opened::Judging(judging) => judging.take(part),
         }
     }
 
@@ -58,33 +60,14 @@ impl Opened {
         }
     }
 
-    /// The end of the input, whose last line stands without an LF.
-    pub(crate) fn end(self, last: &[u8]) -> Result<VerifyEnd, Memory>
+    /// The end of the input.
+    pub(crate) fn end(self) -> Result<VerifyEnd, Memory>
         requires { IsCalm self }
-        ensures { IfOk result (λ end. EndsOpened self last.now end) }
+        ensures { IfOk result (λ end. EndsOpened self end) }
     {
         match self {
             Opened::Refused { line, kind } => Ok(VerifyEnd::Model { line, kind }),
-            Opened::Judging(judging) => Ok(VerifyEnd::Verdict(judging.end(last)?)),
-        }
-    }
-}
-
-/// Takes a line of the input, given with its LF: one of the certificate where the model has ended, else one of it.
-pub(crate) fn take_line(
-    alloc: Global,
-    opened: &mut Option<Opened>,
-    model: &mut Vec<u8>,
-    line: &[u8],
-) -> Result<(), Memory>
-    ensures taken { OnOk result (TakesAny opened.old line.now model.old.items opened.new model.new.items) }
-    ensures calm { OnOk result (AreCalm opened.new) }
-{
-    match opened {
-        Some(opened) => opened.take(line),
-        None => {
-            *opened = take_model_line(alloc, model, line)?;
-            Ok(())
+            Opened::Judging(judging) => Ok(VerifyEnd::Verdict(judging.end()?)),
         }
     }
 }

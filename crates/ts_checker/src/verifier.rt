@@ -10,8 +10,8 @@ use std::alloc::Global;
 use ts_base::Memory;
 
 /// Takes a model, a line `%%` and a certificate, in pieces that may be cut anywhere; what it answers depends on all
-/// bytes together. It keeps the text of the model until that ends, then the unfinished line of the certificate.
-/// Contracts see what is kept, and whether memory was wanting.
+/// bytes together. It keeps the text of the model until that ends, then of the unfinished line of the certificate at
+/// most 4,615 bytes and a piece. Contracts see what is kept, and whether memory was wanting.
 #[derive(Drop)]
 pub struct Verifier {
     input: Input,
@@ -41,7 +41,7 @@ impl Verifier {
     }
 
     /// Takes more bytes. After `Memory` each further piece is answered `Memory`, and so is the end; it comes too where
-    /// the model or a line has 4,000,000,000 bytes or the certificate more lines.
+    /// the model has 4,000,000,000 bytes or the certificate more lines.
     pub fn feed(&mut self, piece: &[u8]) -> Result<(), Memory>
         ensures fed { OnOk result ((bytes : List ℕ) → HasFed bytes self.old → HasFed (bytes ++ piece.now) self.new) }
         ensures wanted { OnErr result (IsTrue self.new.wanting) }
@@ -73,10 +73,10 @@ impl Verifier {
         ensures end { IfOk result (λ end. (bytes : List ℕ) → HasFed bytes self → IsVerifyEnd bytes end) }
         ensures calm { IfOk result (λ end. self.wanting ≡ false) }
     {
-        if self.wanting {
+        let Verifier { input, wanting } = self;
+        if wanting {
             return Err(Memory);
         }
-        let Verifier { input, .. } = self;
         input.end()
     }
 }

@@ -1,11 +1,10 @@
-use Rattle.std.proofs.Common.{refl}
+use Rattle.std.proofs.Common.{Some, refl}
 use Rattle.std.proofs.lemmas.Result.{on_ok_weaker}
-use Rattle.ts_checker.proofs.InputLaws.{line_closed}
+use Rattle.ts_checker.proofs.InputLaws.{part_taken}
 use Rattle.ts_checker.proofs.input.Input.take_part.Goals as goal
 
 pub returns-in-Some-clause-taken : goal.returns-in-Some-clause-taken
 returns-in-Some-clause-taken c =
-    on_ok_weaker c.end_line.result
-    (line_closed c.args.self.now (record c.args.self.now { line = c.extend_from_slice.new.self }) c.end_line.new.self c.args.part.now c.in-Some.field-0.now
-    refl refl c.in_ok-extend_from_slice.ensures.items c.in-Some.ensures c.requires.part)
-    c.end_line.ensures.ended
+    on_ok_weaker c.take.result
+    (part_taken c.args.self.now (record c.args.self.now { opened = Some c.take.new.self }) _ c.take.new.self c.args.part.now c.in-Some.is refl)
+    c.take.ensures.taken

@@ -1,22 +1,20 @@
-use Rattle.std.proofs.Common.{ap, arith, sym, subst, ◌∙◌}
-use Rattle.std.proofs.lemmas.Bool.Decides.{nat_tests}
-use Rattle.ts_checker.specs.declared.judging.Judging.{Judging}
-use Rattle.ts_checker.specs.Feeding.{HasJudged, Judges}
-use Rattle.ts_checker.proofs.JudgingLaws.{shown_after, shown_at_once}
-use Rattle.ts_checker.proofs.judging.Judging.end.Goals.{then-not-is_empty+in_ok-take, else-not-is_empty}
+use Rattle.std.proofs.Common.{ap, ◌∙◌}
+use Rattle.std.specs.Prelude.{not}
+use Rattle.ts_checker.proofs.JudgingLaws.{empty_shown, refused_shown, some_shown}
+use Rattle.ts_checker.proofs.judging.Judging.end.Goals.{else-is_none, else-is_none-via-else-is_none, else-is_none-via-then-is_none+else-not-is_empty, then-is_none+then-not-is_empty+in_ok-judge}
 use Rattle.ts_checker.proofs.judging.Judging.end.Goals as goal
 
 pub returns : goal.returns
 returns c =
-    let e = c.if-not-is_empty.judging in
-    let fed = c.finish.ensures in
-    elim c.if-not-is_empty.branch [
-      | then-not-is_empty+in_ok-take w ↦ (λ texts h.
-          shown_after e c.args.self.checker.model c.finish.result
-          (ap (λ (z : Judging). z.checker.model) w.judging-is ∙ w.in_ok-take.ensures.model) fed.verdict fed.holds texts c.args.self c.args.last.now
-          (subst (λ (z : Judging). Judges c.args.self c.args.last.now z) (sym w.judging-is) w.in_ok-take.ensures.judged) (grind (arith, nat_tests)) h)
-      | else-not-is_empty w ↦ (λ texts h.
-          shown_at_once e c.args.self.checker.model c.finish.result
-          (ap (λ (z : Judging). z.checker.model) w.judging-is) fed.verdict fed.holds texts c.args.last.now (grind (arith, nat_tests))
-          (subst (HasJudged texts) (sym w.judging-is) h))
+    let end = c.finish.ensures in
+    elim c.if-is_none.branch [
+      | then-is_none+then-not-is_empty+in_ok-judge w ↦ some_shown c.args.self c.if-is_none.checker w.judge.new.checker c.finish.result
+          (end.verdict, end.holds) w.checker-is (c.is_none.ensures ∙ ap not w.if-is_none.true) _ w.is_empty.ensures w.if-not-is_empty.true
+          w.in_ok-judge.ensures.takes
+      | else-is_none w ↦ elim w.else-is_none.branch [
+        | else-is_none-via-then-is_none+else-not-is_empty u ↦ empty_shown c.args.self c.if-is_none.checker c.finish.result
+            (end.verdict, end.holds) w.checker-is (c.is_none.ensures ∙ ap not u.if-is_none.true) _ u.is_empty.ensures u.if-not-is_empty.false
+        | else-is_none-via-else-is_none u ↦ refused_shown c.args.self c.if-is_none.checker c.finish.result
+            (end.verdict, end.holds) w.checker-is (c.is_none.ensures ∙ ap not u.if-is_none.false)
+      ]
     ]
