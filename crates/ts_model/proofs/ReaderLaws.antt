@@ -1,5 +1,5 @@
 -- A reader of a model takes a line, and comes to the end.
-use Rattle.std.proofs.Common.{◌≡◌, ℕ, ◌+◌, Bool, true, false, cond, Ok, Err, List, [], sym, ap, subst, ◌∙◌, append-nil}
+use Rattle.std.proofs.Common.{◌≡◌, ◌≢◌, ℕ, ◌+◌, Bool, true, false, cond, Ok, Err, List, [], sym, ap, subst, ◌∙◌, append-nil}
 use Rattle.std.specs.Prelude.{Result, IfOk}
 use Rattle.ts_token.specs.declared.words.Word.{Word}
 use Rattle.ts_token.specs.Gist.{bare}
@@ -91,6 +91,51 @@ state_on (Stopped stop) (Stopped again) given taken calm =
 pub reads : (old new : State) (before : Result SoFar ModelStop) (given : List ℕ) → seen old ≡ before → StateTakes old (bare given) new → IsCalm new →
     ReadsLine before given (seen new)
 reads old new before given is taken calm = subst (λ (b : Result SoFar ModelStop). ReadsLine b given (seen new)) is (state_on old new given taken calm)
+
+-- memory isn't wanting, of what contracts see
+abbrev calm_seen : Result SoFar ModelStop → Type 0
+calm_seen (Ok s) = Unit {0}
+calm_seen (Err (Refused number kind)) = Unit {0}
+calm_seen (Err Memory) = ⊥
+
+calm_is : (s : State) → IsCalm s → seen s ≢ Err Memory
+calm_is (Open p) calm = λ e. subst calm_seen e tt
+calm_is (Stopped (Refused number kind)) calm = λ e. subst calm_seen e tt
+calm_is (Stopped Memory) calm = absurd calm
+
+calm_before : (old new : State) (line : List ℕ) → StateTakes old line new → IsCalm new → IsCalm old
+calm_before (Open p) new line taken calm = tt
+calm_before (Stopped stop) (Open q) line taken calm = absurd taken
+calm_before (Stopped stop) (Stopped again) line taken calm = subst (λ (s : ModelStop). IsCalm (Stopped s)) taken calm
+
+-- memory wasn't wanting before the line, and isn't behind it
+pub stays_calm : (old new : State) (before : Result SoFar ModelStop) (line : List ℕ) → seen old ≡ before → StateTakes old line new → IsCalm new →
+    (before ≢ Err Memory) × (seen new ≢ Err Memory)
+stays_calm old new before line is taken calm =
+    (subst (λ (b : Result SoFar ModelStop). b ≢ Err Memory) is (calm_is old (calm_before old new line taken calm)), calm_is new calm)
+
+abbrev stop_of : Result SoFar ModelStop → ModelStop
+stop_of (Ok s) = Memory
+stop_of (Err stop) = stop
+
+wanted_ends : (s : State) (result : Result Model ModelStop) → StateEnds s result → seen s ≡ Err Memory → result ≡ Err Memory
+wanted_ends (Open p) result ends is = absurd (subst calm_seen is tt)
+wanted_ends (Stopped stop) result ends is = ends ∙ ap (λ (r : Result SoFar ModelStop). Err (stop_of r)) is
+
+-- where memory was wanting, the end tells that
+pub ends_wanted : (s : State) (before : Result SoFar ModelStop) (result : Result Model ModelStop) → seen s ≡ before → StateEnds s result →
+    before ≡ Err Memory → result ≡ Err Memory
+ends_wanted s before result is end wanted = wanted_ends s result end (is ∙ wanted)
+
+abbrev is_model : Result Model ModelStop → Type 0
+is_model (Ok m) = Unit {0}
+is_model (Err stop) = ⊥
+
+-- a model tells that memory wasn't
+pub ends_calm : (s : State) (before : Result SoFar ModelStop) (result : Result Model ModelStop) → seen s ≡ before → StateEnds s result →
+    IfOk result (λ m. before ≢ Err Memory)
+ends_calm s before (Ok m) is end = λ wanted. subst is_model (ends_wanted s before (Ok m) is end wanted) tt
+ends_calm s before (Err stop) is end = tt
 
 state_ends : (s : State) (result : Result Model ModelStop) (need : Need) (text : List ℕ) → StateEnds s result → HasRead need text (seen s) →
     Reads result (model_reading need text)

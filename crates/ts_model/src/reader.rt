@@ -1,6 +1,6 @@
 //! The model of a text that comes line by line.
 
-ghost use Rattle.std.specs.Prelude.{ℕ, ◌≡◌, List, [], vec_len, IfOk, OnErr, OnOk, Err};
+ghost use Rattle.std.specs.Prelude.{ℕ, ◌≡◌, ◌≢◌, List, [], vec_len, IfOk, OnErr, OnOk, Err};
 ghost use Rattle.ts_token.specs.Gist.{bare};
 ghost use Rattle.ts_token.specs.Text.{cut_of};
 ghost use Rattle.ts_model.specs.declared.error.ModelStop.TheVariants.{Memory as ModelMemory};
@@ -173,13 +173,14 @@ impl ModelReader {
     pub fn line(&mut self, line: &[u8]) -> Result<(), Memory>
         ensures read { OnOk result (ReadsLine self.old line.now self.new) }
         ensures wanted { OnErr result (self.new ≡ Err ModelMemory) }
+        ensures calm { OnOk result ((self.old ≢ Err ModelMemory) × (self.new ≢ Err ModelMemory)) }
     {
         self.state.take(line);
         self.state.answer()
     }
 
     /// The model that the lines state, or the first bad line with the first kind that holds of it, as `read_model`
-    /// tells them.
+    /// tells them; each of these tells too that no line was answered `Memory`.
     pub fn end(self) -> Result<Model, ModelStop>
         ensures exact { (need : Need) (text : List ℕ) → HasRead need text self →
             Reads result (model_reading need text) }
@@ -189,6 +190,8 @@ impl ModelReader {
             IfOk result (λ m. IsWhole (stated m)) }
         ensures limits { (need : Need) (text : List ℕ) → HasRead need text self →
             IfOk result (λ m. KeepsLimits need (stated m)) }
+        ensures wanted { self ≡ Err ModelMemory → result ≡ Err ModelMemory }
+        ensures calm { IfOk result (λ m. self ≢ Err ModelMemory) }
     {
         let ModelReader { state } = self;
         state.end()

@@ -1,5 +1,5 @@
 use Rattle.ts_token.specs.Text.{cut_of}
-use Rattle.ts_model.proofs.ReaderLaws.{ends, whole_read, limits_read}
+use Rattle.ts_model.proofs.ReaderLaws.{ends, ends_wanted, ends_calm, whole_read, limits_read}
 use Rattle.ts_model.proofs.Told.{told}
 use Rattle.ts_model.proofs.reader.ModelReader.end.Goals as goal
 
@@ -17,3 +17,9 @@ returns-clause-whole c need text has =
 pub returns-clause-limits : goal.returns-clause-limits
 returns-clause-limits c need text has =
     limits_read need text c.end.result (ends c.self.inside.state c.args.self c.end.result need text c.self.view_is c.end.ensures.ends has)
+
+pub returns-clause-wanted : goal.returns-clause-wanted
+returns-clause-wanted c = ends_wanted c.self.inside.state c.args.self c.end.result c.self.view_is c.end.ensures.ends
+
+pub returns-clause-calm : goal.returns-clause-calm
+returns-clause-calm c = ends_calm c.self.inside.state c.args.self c.end.result c.self.view_is c.end.ensures.ends

@@ -1,8 +1,15 @@
 use Rattle.std.proofs.lemmas.Result.{on_ok_weaker}
-use Rattle.ts_model.proofs.ReaderLaws.{reads}
+use Rattle.ts_token.specs.Gist.{bare}
+use Rattle.ts_model.proofs.ReaderLaws.{reads, stays_calm}
 use Rattle.ts_model.proofs.reader.ModelReader.line.Goals as goal
 
 pub returns-clause-read : goal.returns-clause-read
 returns-clause-read c =
     on_ok_weaker c.answer.result (reads c.self.inside.state c.take.new.self c.args.self.now c.args.line.now c.self.view_is c.take.ensures.read)
+    c.answer.ensures.calm
+
+pub returns-clause-calm : goal.returns-clause-calm
+returns-clause-calm c =
+    on_ok_weaker c.answer.result
+    (stays_calm c.self.inside.state c.take.new.self c.args.self.now (bare c.args.line.now) c.self.view_is c.take.ensures.read)
     c.answer.ensures.calm
