@@ -2,12 +2,13 @@
 use Rattle.std.proofs.Common.{◌≡◌, ℕ, zero, suc, ◌+◌, ◌<◌, ◌≤◌, Bool, false, Some, None, List, [], ◌∷◌, ◌++◌, length, refl, sym, ap, subst, ◌∙◌, arith, append_assoc, append-nil, length-append, take, get_or, ◌==◌, take_all}
 use Rattle.std.proofs.lemmas.Bool.{eqb-false}
 use Rattle.std.proofs.lemmas.List.{length-map, take_more}
+use Rattle.std.specs.Prelude.{Result, Ok, Err, OnErr}
 use Rattle.ts_token.specs.declared.short.Place.{Place}
 use Rattle.ts_token.specs.declared.short.ShortLine.{ShortLine}
 use Rattle.ts_token.specs.Gist.{gist, gists, StandsFor}
 use Rattle.ts_token.specs.Halves.{is_separator}
 use Rattle.ts_token.specs.Places.{place_after, IsAt}
-use Rattle.ts_token.specs.Short.{IsShort, TakesIn}
+use Rattle.ts_token.specs.Short.{IsShort, TakesFirst, TakesIn}
 use Rattle.ts_token.specs.Text.{lines_of}
 use Rattle.ts_token.proofs.GistLaws.{some_lines, same_separator}
 use Rattle.ts_token.proofs.PlaceLaws.{next_place, left_out}
@@ -35,6 +36,15 @@ leaves_out old b none line short = record {
       left_out old.place old.kept.items b short.place none more ∙ short.stands (b ∷ more) ∙ ap gists (sym (append_assoc line (b ∷ []) more));
   place = short.place;
   few = short.few;
+}
+
+-- nothing more is kept
+pub as_before : (old new : ShortLine) → new.kept.items ≡ old.kept.items → new.place ≡ old.place → TakesIn old [] new
+as_before old new kept place line short = record {
+  stands = λ more.
+      ap (λ (x : List ℕ). gists (x ++ more)) kept ∙ short.stands more ∙ ap (λ (x : List ℕ). gists (x ++ more)) (sym (append-nil line));
+  place = subst (λ (k : List ℕ). IsAt new.place k) (sym kept) (subst (λ (p : Place). IsAt p old.kept.items) (sym place) short.place);
+  few = omega (arith, ap length kept, short.few);
 }
 
 empty_by : (lines : List ℕ) → length (lines_of lines) ≡ 0 → lines ≡ []
@@ -84,5 +94,14 @@ pub takes_next : (a b c : ShortLine) (bytes : List ℕ) (i : ℕ) → i < length
 takes_next a b c bytes i within first second =
     subst (λ (x : List ℕ). TakesIn a x c) (sym (take_more bytes i 0 within)) (takes_more a b c (take i bytes) (get_or bytes i 0) first second)
 
+-- some first bytes have come, and none of the rest
+pub takes_first : (a b c : ShortLine) (bytes : List ℕ) (i : ℕ) → TakesIn a (take i bytes) b → TakesIn b [] c → TakesFirst a bytes c
+takes_first a b c bytes i first none =
+    (i, λ line short. subst (λ (x : List ℕ). IsShort x c) (append-nil (line ++ take i bytes)) (none (line ++ take i bytes) (first line short)))
+
 pub takes_all : (a b : ShortLine) (bytes : List ℕ) (i : ℕ) → length bytes ≤ i → TakesIn a (take i bytes) b → TakesIn a bytes b
 takes_all a b bytes i all taken = subst (λ (x : List ℕ). TakesIn a x b) (take_all i bytes all) taken
+
+pub on_err : {T E P : Type 0} (r : Result T E) → P → OnErr r P
+on_err (Ok x) p = tt
+on_err (Err e) p = p

@@ -1,5 +1,5 @@
 -- What is kept of a line.
-use Rattle.std.specs.Prelude.{ℕ, ◌<◌, List, ◌++◌, length}
+use Rattle.std.specs.Prelude.{ℕ, ◌<◌, List, ◌++◌, length, take}
 use Rattle.ts_token.specs.declared.short.ShortLine.{ShortLine}
 use Rattle.ts_token.specs.Gist.{StandsFor}
 use Rattle.ts_token.specs.Places.{IsAt}
@@ -13,3 +13,7 @@ pub record IsShort (line : List ℕ) (s : ShortLine) : Type 0 where
 -- whatever bytes came before, these have come too
 abbrev pub TakesIn : ShortLine → List ℕ → ShortLine → Type 0
 TakesIn old bytes new = (line : List ℕ) → IsShort line old → IsShort (line ++ bytes) new
+
+-- some first bytes of these have come
+abbrev pub TakesFirst : ShortLine → List ℕ → ShortLine → Type 0
+TakesFirst old bytes new = (n : ℕ) × TakesIn old (take n bytes) new

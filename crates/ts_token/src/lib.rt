@@ -4,8 +4,8 @@
 //! of the text and copy no byte. `number` and `ext_of` read a word. What stands above reads words and never bytes: it
 //! knows of each word its bytes, its column and the number of its line, and which line first isn't text.
 //!
-//! A text that comes in pieces is read line by line: a `ShortLine` takes the bytes of a line, however many they are,
-//! and `line_content` tells what the line holds.
+//! A text that comes in pieces is read line by line: a `ShortLine` keeps those bytes of a line that tell what it holds,
+//! and `line_content` tells it.
 //!
 //! ```text
 //! let parts = cut_parts(b"cells 4\r\n%%\nseries 1 2 3 4\n");

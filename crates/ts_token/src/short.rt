@@ -1,10 +1,10 @@
-//! A line of any length in little memory.
+//! A line without the bytes that its reader can't ask for.
 
-ghost use Rattle.std.specs.Prelude.{ℕ, ◌≡◌, ◌<◌, List, [], ◌∷◌, true, false, length, OnOk};
+ghost use Rattle.std.specs.Prelude.{ℕ, ◌≡◌, ◌<◌, List, [], ◌∷◌, true, false, length, OnErr, OnOk};
 ghost use Rattle.ts_token.specs.Gist.{StandsFor};
 ghost use Rattle.ts_token.specs.Halves.{is_separator};
 ghost use Rattle.ts_token.specs.Places.{blank_place, solid_place, text_place, place_after};
-ghost use Rattle.ts_token.specs.Short.{IsShort, TakesIn};
+ghost use Rattle.ts_token.specs.Short.{IsShort, TakesFirst, TakesIn};
 
 use crate::content::is_plain;
 use crate::parts;
@@ -106,8 +106,10 @@ fn place_after(place: Place, byte: u8) -> Option<Place>
     }
 }
 
-/// A line as far as its bytes came, in little memory: of blanks that follow one another it keeps one, of a word 64
-/// bytes, and nothing of a comment or behind a byte that isn't text. What is kept stands for the whole line.
+/// A line as far as its bytes came. Of blanks that follow one another the first is kept, of a word the first 64 bytes,
+/// of a comment its `#`, and nothing between a byte that isn't text and the LF. What is kept stands for the whole line.
+/// Long words, comments and blanks so take little memory, but a line of many words is kept nearly whole: a reader may
+/// ask for each of them.
 #[derive(Drop)]
 pub struct ShortLine {
     kept: Vec<u8>,
@@ -126,9 +128,10 @@ impl ShortLine {
     }
 
     /// Takes more bytes of the line, whose LF may be the last of them. `Memory` comes too where 4,000,000,000 bytes
-    /// would be kept.
+    /// would be kept; then some first bytes of these have come, and the line can be cleared.
     pub fn push(&mut self, bytes: &[u8]) -> Result<(), Memory>
-        ensures { OnOk result (TakesIn self.old bytes.now self.new) }
+        ensures taken { OnOk result (TakesIn self.old bytes.now self.new) }
+        ensures first { OnErr result (TakesFirst self.old bytes.now self.new) }
     {
         for byte in bytes {
             self.take(*byte)?;
@@ -171,7 +174,8 @@ impl ShortLine {
 
     /// Takes one more byte.
     fn take(&mut self, byte: u8) -> Result<(), Memory>
-        ensures { OnOk result (TakesIn self.old (byte ∷ []) self.new) }
+        ensures taken { OnOk result (TakesIn self.old (byte ∷ []) self.new) }
+        ensures none { OnErr result (TakesIn self.old [] self.new) }
     {
         match place_after(self.place, byte) {
             None => Ok(()),
