@@ -23,11 +23,10 @@ fn digits_value(digits: &[u8], limit: u64) -> Option<u64>
         if !is_digit(*b) {
             return None;
         }
-        let next = u128::from(value) * 10 + u128::from(*b - b'0');
-        if next > u128::from(limit) {
+        value = value.checked_mul(10)?.checked_add(u64::from(*b - b'0'))?;
+        if value > limit {
             return None;
         }
-        value = next as u64;
     }
     Some(value)
 }
@@ -47,7 +46,7 @@ fn negative_number(digits: &[u8]) -> Option<i64>
     ensures { result ≡ negative_number (at_most 9223372036854775808 (unsigned_number digits.now)) }
 {
     match unsigned_number(digits, i64::MAX as u64 + 1) {
-        Some(n) if n > 0 => Some((0 - i128::from(n)) as i64),
+        Some(n) if n > 0 => 0_i64.checked_sub_unsigned(n),
         _ => None,
     }
 }
