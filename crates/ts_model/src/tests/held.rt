@@ -1,0 +1,66 @@
+//! What models hold.
+
+ghost use Rattle.std.specs.Prelude.{◌<◌, length};
+
+use super::{Asked, expect_rows, read_together};
+use crate::{Model, Need};
+use std::alloc::{AllocError, Global};
+use std::test::Fail;
+
+/// The number of cells, the values of each behind a colon, the objective, the requirements and the terms.
+static HELD: &str = "\
+2: 0 1 2 3 4 5 6 7 8 9: 0 1 2 3 4 5 6 7 8 9 None [] {}|cells 2/
+3: 5: 0 1 2 3 4 5 6 7 8 9: 0 1 2 3 4 5 6 7 8 9 None [] {}|cells 3/cell 1 5/
+2: 0 1 2 3 4 5 6 7 8 9: -7 -6 0 3 4 5 None [] {}|cells 2/cell 2 0 3..5 -7..-6 4/
+3: 0 1 2 3: 2 3 4 5: 0 1 2 3 None [] {}|cells 3/domain 0..3/cell 2 2..5/
+2: 0 1: 0 1 None [] {}|cells 2/cell 1 5/domain 0 1/
+2: 2: 0 1 2 3 4 5 6 7 8 9 None [] {}|cells 2/cell 1 5/cell 1 2/
+2: 5 6: 5 6 None [] {}|cells 2/domain 0..3/domain 5..6/
+3: 0 1: 5 6 7: 0 1 Some(1) \
+    [Require { term: 1, op: AtMost, bound: NegInf }, Require { term: 0, op: Above, bound: Int(4) }] \
+    {\"w\": Term { aggregator: Sum, feature: Width, pattern: Peak }, \
+    \"c\": Term { aggregator: Sum, feature: One, pattern: Peak }, \
+    \"a\": Term { aggregator: Max, feature: Min, pattern: Valley }}|\
+    cells 3/domain 0..1/term w = sum width peak/term c = count peak/term a = max min valley/cell 2 7 5..6 6/\
+    require c <= -inf/require w > 4/objective c/";
+
+// The table behind a function, so that the proof of a test doesn't read it.
+fn held() -> &'static str {
+    HELD
+}
+
+pub(super) fn held_told(alloc: Global, text: &[u8]) -> Result<String, Fail>
+    requires { length text.now < 10000 }
+{
+    let model = read_together(alloc, Need::Values, text)?;
+    Ok(parts_of(alloc, &model)?)
+}
+
+fn parts_of(alloc: Global, model: &Model) -> Result<String, AllocError> {
+    let Model {
+        n,
+        objective,
+        requirements,
+        terms,
+        ..
+    } = model;
+    let values = values_of(alloc, model)?;
+    format!(in alloc; "{n}{values} {objective:?} {requirements:?} {terms:?}")
+}
+
+/// A colon for each cell, and its values behind it.
+fn values_of(alloc: Global, model: &Model) -> Result<String, AllocError> {
+    let mut text = String::new(alloc);
+    for cell in &model.cells {
+        text.push_str(":")?;
+        for value in cell.values() {
+            text.push_str(&format!(in alloc; " {value}")?)?;
+        }
+    }
+    Ok(text)
+}
+
+#[test]
+fn models_hold(rt: HostRuntime) -> Result<(), Fail> {
+    expect_rows(&rt, rt.alloc(), Asked::Held, held())
+}
