@@ -7,23 +7,18 @@ use Rattle.std.proofs.Math.Seq.{take-add, take-append_seam, drop-append_seam}
 use Rattle.std.proofs.lemmas.List.{drop-drop, length-drop}
 use Rattle.ts_base.specs.Words.{strict_lines}
 use Rattle.ts_base.proofs.WordLaws.{lines_are}
-use Rattle.ts_token.specs.Text.{lines_of, Piece, words_of}
-use Rattle.ts_token.specs.Halves.{is_separator, Halves, after_front, halves}
+use Rattle.ts_token.specs.Text.{Piece}
+use Rattle.ts_token.specs.Halves.{is_mark, is_separator, Halves, after_front, halves}
 
 -- a line by its words
-pub mark_none : (text line : List ℕ) (lines : List (List ℕ)) → lines_of text ≡ line ∷ lines → words_of line ≡ [] → is_separator text ≡ false
-unfolding is_separator
-mark_none text line lines cut none = rw (cut, none) refl
+pub mark_none : (words : List Piece) → words ≡ [] → is_mark words ≡ false
+mark_none words none = ap is_mark none
 
-pub mark_more : (text line : List ℕ) (lines : List (List ℕ)) (w v : Piece) (vs ws : List Piece) → lines_of text ≡ line ∷ lines → words_of line ≡ w ∷ ws →
-    ws ≡ v ∷ vs → is_separator text ≡ false
-unfolding is_separator
-mark_more text line lines w v vs ws cut some more = rw (cut, some, more) refl
+pub mark_more : (words : List Piece) (w v : Piece) (vs ws : List Piece) → words ≡ w ∷ ws → ws ≡ v ∷ vs → is_mark words ≡ false
+mark_more words w v vs ws some more = rw (some, more) refl
 
-pub mark_one : (text line : List ℕ) (lines : List (List ℕ)) (w : Piece) (ws : List Piece) → lines_of text ≡ line ∷ lines → words_of line ≡ w ∷ ws → ws ≡ [] →
-    is_separator text ≡ bytes_eq w.text (codes "%%")
-unfolding is_separator
-mark_one text line lines w ws cut some alone = rw (cut, some, alone) refl
+pub mark_one : (words : List Piece) (w : Piece) (ws : List Piece) → words ≡ w ∷ ws → ws ≡ [] → is_mark words ≡ bytes_eq w.text (codes "%%")
+mark_one words w ws some alone = rw (some, alone) refl
 
 abbrev made : List ℕ → Option (List ℕ) → Halves
 made model rest = record { model = model; rest = rest }

@@ -2,6 +2,7 @@ mod Fronts
 mod LineLaws
 mod WordLaws
 mod RowLaws
+mod EndLaws
 pub mod HalfLaws
 mod NumberLaws
 mod SliceLaws

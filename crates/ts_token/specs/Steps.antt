@@ -1,5 +1,6 @@
 -- What the parts of the cutter return.
 use Rattle.std.specs.Prelude.{ℕ, ◌≡◌, ◌<◌, ◌+◌, ◌==◌, not, ◌++◌, Bool, List, [], ◌∷◌, length, if◌then◌else◌, Option, Some, None}
+use Rattle.ts_base.specs.Words.{without_lf}
 use Rattle.ts_token.specs.declared.words.NextWord.{NextWord}
 use Rattle.ts_token.specs.Text.{is_blank, is_text, words_of, words_from, row_onto, Cut}
 use Rattle.ts_token.specs.Views.{piece}
@@ -9,6 +10,14 @@ abbrev pub without_cr : List ℕ → List ℕ
 without_cr [] = []
 without_cr (b ∷ []) = if b == 13 then [] else b ∷ []
 without_cr (b ∷ c ∷ bs) = b ∷ without_cr (c ∷ bs)
+
+abbrev pub bare_by : List ℕ → Option (List ℕ) → List ℕ
+bare_by line None = line
+bare_by line (Some front) = without_cr front
+
+-- a line without its LF and a CR before that
+abbrev pub without_end : List ℕ → List ℕ
+without_end line = bare_by line (without_lf line)
 
 abbrev pub is_solid : ℕ → Bool
 is_solid b = not (is_blank b)

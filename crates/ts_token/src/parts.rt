@@ -1,10 +1,11 @@
 //! A text before and after its first line `%%`.
 
 ghost use Rattle.std.specs.Prelude.{◌≡◌, ◌<◌, length};
-ghost use Rattle.ts_token.specs.Halves.{is_separator, halves_of};
+ghost use Rattle.ts_token.specs.Halves.{is_mark, is_separator, halves_of};
+ghost use Rattle.ts_token.specs.Text.{words_of};
 ghost use Rattle.ts_token.specs.Views.{parts};
 
-use crate::lines::first_line;
+use crate::lines::{first_line, without_end};
 use crate::words::next_word;
 
 /// The bytes before the first line whose only word is `%%`, and the bytes after that line. Where there is no such line,
@@ -15,6 +16,20 @@ pub struct Parts<'a> {
     pub rest: Option<&'a [u8]>,
 }
 
+/// Whether `%%` is the only word of a line, which is given without its end.
+fn is_mark(line: &[u8]) -> bool
+    requires { length line.now < 4000000000 }
+    ensures { result ≡ is_mark (words_of line.now) }
+{
+    match next_word(line, 1) {
+        None => false,
+        Some(first) => match next_word(first.rest, first.column) {
+            Some(_) => false,
+            None => first.word.text == b"%%".as_slice(),
+        },
+    }
+}
+
 /// Whether `%%` is the only word of a line, which is given with its end.
 pub(crate) fn is_separator(line: &[u8]) -> bool
     requires some { 0 < length line.now }
@@ -22,13 +37,7 @@ pub(crate) fn is_separator(line: &[u8]) -> bool
     ensures { result ≡ is_separator line.now }
 {
     let (bare, _) = first_line(line);
-    match next_word(bare, 1) {
-        None => false,
-        Some(first) => match next_word(first.rest, first.column) {
-            Some(_) => false,
-            None => first.word.text == b"%%".as_slice(),
-        },
-    }
+    is_mark(bare)
 }
 
 /// The parts of a text of fewer than 4,000,000,000 bytes.
@@ -40,7 +49,7 @@ pub fn cut_parts<'a>(text: &'a [u8]) -> Parts<'a>
     while at < text.len() {
         let (model, left) = text.split_at(at);
         let (line, rest) = ts_base::first_line(left);
-        if is_separator(line) {
+        if is_mark(without_end(line)) {
             return Parts {
                 model,
                 rest: Some(rest),

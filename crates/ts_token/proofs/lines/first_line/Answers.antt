@@ -1,8 +1,9 @@
-use Rattle.ts_token.proofs.LineLaws.{ended_line, unended_line}
+use Rattle.std.proofs.Common.{ap, sym, ◌∙◌, ◌∷◌, List, ℕ}
+use Rattle.ts_token.specs.Text.{lines_of}
+use Rattle.ts_token.proofs.EndLaws.{cut_whole}
 use Rattle.ts_token.proofs.lines.first_line.Goals as goal
 
-pub returns-in-Some-clause-cut : goal.returns-in-Some-clause-cut
-returns-in-Some-clause-cut c = ended_line c.args.text.now c.without_cr.result.now c.in-Some.n c.requires c.in-Some.ensures c.without_cr.ensures.value
-
-pub returns-in-None-clause-cut : goal.returns-in-None-clause-cut
-returns-in-None-clause-cut c = unended_line c.args.text.now c.requires c.in-None.ensures
+pub returns-clause-cut : goal.returns-clause-cut
+returns-clause-cut c =
+    cut_whole c.args.text.now c.first_line.result.0.now c.first_line.result.1.now c.requires c.first_line.ensures.cut c.first_line.ensures.parts
+    ∙ ap (λ (x : List ℕ). x ∷ lines_of c.first_line.result.1.now) (sym c.without_end.ensures.value)

@@ -1,20 +1,9 @@
-use Rattle.std.proofs.Common.{sym, ◌∙◌, arith}
+use Rattle.std.proofs.Common.{sym, ◌∙◌}
 use Rattle.ts_token.specs.Text.{lines_of}
-use Rattle.ts_token.specs.Views.{piece}
-use Rattle.ts_token.proofs.HalfLaws.{mark_none, mark_more, mark_one}
+use Rattle.ts_token.proofs.EndLaws.{marks}
 use Rattle.ts_token.proofs.parts.is_separator.Goals as goal
 
-pub returns-in-None : goal.returns-in-None
-returns-in-None c =
-    sym (mark_none c.args.line.now c.first_line.result.0.now (lines_of c.first_line.result.1.now) c.first_line.ensures.cut c.in-None.ensures.none)
-
-pub returns-in-Some-next_word : goal.returns-in-Some-next_word
-returns-in-Some-next_word c =
-    sym (mark_more c.args.line.now c.first_line.result.0.now (lines_of c.first_line.result.1.now) (piece c.in-Some.first.word)
-    (piece c.in-Some-next_word.field-0.word) _ _ c.first_line.ensures.cut c.in-Some.ensures.some.words c.in-Some-next_word.ensures.some.words)
-
-pub returns-in-None-next_word : goal.returns-in-None-next_word
-returns-in-None-next_word c =
-    grind (arith, c.eq.ensures, c.as_slice.ensures)
-    ∙ sym (mark_one c.args.line.now c.first_line.result.0.now (lines_of c.first_line.result.1.now) (piece c.in-Some.first.word) _ c.first_line.ensures.cut
-    c.in-Some.ensures.some.words c.in-None-next_word.ensures.none)
+pub returns : goal.returns
+returns c =
+    c.is_mark.ensures
+    ∙ sym (marks c.args.line.now c.first_line.result.0.now (lines_of c.first_line.result.1.now) c.first_line.ensures.cut)
