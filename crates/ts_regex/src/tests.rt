@@ -3,222 +3,29 @@
 //! Expressions are written with the operator behind its parts: `.` for Cat, `|` for Alt, `*` for Star, `e` for Eps
 //! and `0` for Empty.
 
+mod tables;
+
 use crate::regex::{alt, cat, star};
 use crate::{Regex, derive, has_longer, has_word, member, normal, nullable};
 use std::alloc::Global;
-use std::process::Abort;
+use tables::rows;
 use ts_base::{Letter, Memory};
 
-/// Each pattern and its normal form.
-static PATTERNS: &str = "< <
-     > >
-     = =
-     <<=|*.<.<| <<<=|*<..|
-     >>=|*.>.>| >>=>|*>..|
-     <<*. <<*.
-     >>*. >>*.
-     ==*. ==*.
-     <==*..<. <==*<...
-     >==*..>. >==*>...
-     <<=|*.>.>>=|*.<.| <<=|*>..>=>|*<..|
-     <=<|*.>=|*.>. <<=|*=>|*>...
-     >=>|*.<=|*.<. >=>|*<=|*<...
-     <=*.>. <=*>..
-     >=*.<. >=*<..
-     <==*..>. <==*>...
-     >==*..<. >==*<...
-     <<=<|*.<.|>>=>|*.>.|. <<<=|*<..|>>=>|*>..|.
-     >>=>|*.>.|<<=<|*.<.|. >>=>|*>..|<<<=|*<..|.
-     <>.<>.*.<<>.|.><.><.*.>><.|.| <><>.*<<>.|...><><.*>><.|...|
-     <<.>.<.<. <<><<....
-     >>.<.>.>. >><>>....";
-
-/// Other expressions and their normal forms: chains, unions, their order, repetitions.
-static FORMS: &str = "<0. 0
-     0<. 0
-     0e. 0
-     e0. 0
-     <e. <
-     e<. <
-     ee. e
-     <=.>. <=>..
-     <=.><.. <=><...
-     <<| <
-     <0| <
-     0<| <
-     00| 0
-     <e| e<|
-     =<| <=|
-     >=|<| <=>||
-     ><=|| <=>||
-     <*e| e<*|
-     <=.>| ><=.|
-     <*<=.| <=.<*|
-     =*<*| <*=*|
-     <>.<=.| <=.<>.|
-     >=.<>.| <>.>=.|
-     <=>..<=.| <=.<=>..|
-     <>|=.<=|=.| <=|=.<>|=.|
-     <>|=.=>.| =>.<>|=.|
-     <*=.<>|=.| <>|=.<*=.|
-     =>|=.<=*|=.| <=*|=.=>|=.|
-     <=|*<=.*| <=.*<=|*|
-     <=.>.<=>..| <=>..
-     <=|e.>| <=>||
-     <=|<. <=|<.
-     0* e
-     e* e
-     0e|* e
-     e<|* e<|*
-     <** <*
-     <<|* <*";
-
-/// Each residual of the patterns, and what is left of it after `<`, `=` and `>`, in normal form.
-static RESIDUALS: &str = "< e 0 0
-     e 0 0 0
-     > 0 0 e
-     = 0 e 0
-     <<<=|*<..| e<=|*<.| 0 0
-     e<=|*<.| e<=|*<.| <=|*<. 0
-     <=|*<. e<=|*<.| <=|*<. 0
-     >>=>|*>..| 0 0 e=>|*>.|
-     e=>|*>.| 0 =>|*>. e=>|*>.|
-     =>|*>. 0 =>|*>. e=>|*>.|
-     <<*. <* 0 0
-     <* <* 0 0
-     >>*. 0 0 >*
-     >* 0 0 >*
-     ==*. 0 =* 0
-     =* 0 =* 0
-     <==*<... ==*<.. 0 0
-     ==*<.. 0 =*<. 0
-     =*<. e =*<. 0
-     >==*>... 0 0 ==*>..
-     ==*>.. 0 =*>. 0
-     =*>. 0 =*>. e
-     <<=|*>..>=>|*<..| <=|*>. 0 =>|*<.
-     <=|*>. <=|*>. <=|*>. e
-     =>|*<. e =>|*<. =>|*<.
-     <<=|*=>|*>... <=|*=>|*>.. 0 0
-     <=|*=>|*>.. <=|*=>|*>.. <=|*=>|*>..=>|*>.| e=>|*>.|
-     <=|*=>|*>..=>|*>.| <=|*=>|*>.. <=|*=>|*>..=>|*>.| e=>|*>.|
-     >=>|*<=|*<... 0 0 =>|*<=|*<..
-     =>|*<=|*<.. e<=|*<.| <=|*<.=>|*<=|*<..| =>|*<=|*<..
-     <=|*<.=>|*<=|*<..| e<=|*<.| <=|*<.=>|*<=|*<..| =>|*<=|*<..
-     <=*>.. =*>. 0 0
-     >=*<.. 0 0 =*<.
-     <==*>... ==*>.. 0 0
-     >==*<... 0 0 ==*<..
-     <<<=|*<..|>>=>|*>..|. e<=|*<.|>>=>|*>..|. 0 0
-     e<=|*<.|>>=>|*>..|. e<=|*<.|>>=>|*>..|. <=|*<>>=>|*>..|.. e=>|*>.|
-     <=|*<>>=>|*>..|.. >>=>|*>..<=|*<>>=>|*>..|..|| <=|*<>>=>|*>..|.. 0
-     >>=>|*>..<=|*<>>=>|*>..|..|| >>=>|*>..<=|*<>>=>|*>..|..|| <=|*<>>=>|*>..|.. e=>|*>.|
-     >>=>|*>..|<<<=|*<..|. 0 0 e=>|*>.|<<<=|*<..|.
-     e=>|*>.|<<<=|*<..|. e<=|*<.| =>|*><<<=|*<..|.. e=>|*>.|<<<=|*<..|.
-     =>|*><<<=|*<..|.. 0 =>|*><<<=|*<..|.. <<<=|*<..=>|*><<<=|*<..|..||
-     <<<=|*<..=>|*><<<=|*<..|..|| e<=|*<.| =>|*><<<=|*<..|.. <<<=|*<..=>|*><<<=|*<..|..||
-     <><>.*<<>.|...><><.*>><.|...| ><>.*<<>.|.. 0 <><.*>><.|..
-     ><>.*<<>.|.. 0 0 <>.*<<>.|.
-     <><.*>><.|.. ><.*>><.|. 0 0
-     <>.*<<>.|. e>><>.*<<>.|..|| 0 0
-     ><.*>><.|. 0 0 e<<><.*>><.|..||
-     e>><>.*<<>.|..|| 0 0 e<>.*<<>.|.|
-     e<<><.*>><.|..|| e><.*>><.|.| 0 0
-     e<>.*<<>.|.| e>><>.*<<>.|..|| 0 0
-     e><.*>><.|.| 0 0 e<<><.*>><.|..||
-     <<><<.... <><<... 0 0
-     <><<... ><<.. 0 0
-     ><<.. 0 0 <<.
-     <<. < 0 0
-     >><>>.... 0 0 ><>>...
-     ><>>... 0 0 <>>..
-     <>>.. >>. 0 0
-     >>. 0 0 >";
-
-/// Expressions, and their derivatives by `<`, `=` and `>` as they come.
-static DERIVATIVES: &str = "0 0 0 0
-     e 0 0 0
-     = 0 e 0
-     <=. e=. 0=. 0=.
-     <*=. e<*.=.0| 0<*.=.e| 0<*.=.0|
-     <=| e0| 0e| 00|
-     >* 0>*. 0>*. e>*.";
-
-/// An expression, and whether it has the empty word, a word, and a longer word.
-static KINDS: &str = "0 no no no
-     e yes yes no
-     < no yes yes
-     <0. no no no
-     0<. no no no
-     e<. no yes yes
-     <e. no yes yes
-     ee. yes yes no
-     <*=. no yes yes
-     =<*. no yes yes
-     <*=*. yes yes yes
-     <0| no yes yes
-     0<| no yes yes
-     <e| yes yes yes
-     e<*| yes yes yes
-     e0| yes yes no
-     00| no no no
-     0* yes yes no
-     e* yes yes no
-     <* yes yes yes
-     <0.* yes yes no";
-
-/// An expression, a word, and whether it is one of the expression's; a dot is the empty word.
-static WORDS: &str = "0 . no
-     e . yes
-     e < no
-     < < yes
-     < . no
-     < << no
-     < = no
-     <=. <= yes
-     <=. =< no
-     <=. < no
-     <=. <=< no
-     e<. < yes
-     <e. < yes
-     <=| < yes
-     <=| = yes
-     <=| <= no
-     <<| < yes
-     <* . yes
-     <* <<< yes
-     <* <<= no
-     <=|* <=< yes
-     <=.* <=<= yes
-     <=.* <=< no
-     <=<|*.>=|*.>. <> yes
-     <=<|*.>=|*.>. <=<>=> yes
-     <=<|*.>=|*.>. <=<>= no
-     <=<|*.>=|*.>. > no";
-
-// Each table behind a function, so that the proof of the test doesn't read it.
-fn patterns() -> &'static str {
-    PATTERNS
-}
-
-fn forms() -> &'static str {
-    FORMS
-}
-
-fn residuals() -> &'static str {
-    RESIDUALS
-}
-
-fn derivatives() -> &'static str {
-    DERIVATIVES
-}
-
-fn kinds() -> &'static str {
-    KINDS
-}
-
-fn words() -> &'static str {
-    WORDS
+/// What the rows of a table say.
+#[derive(Clone, Copy)]
+enum Claim {
+    /// A pattern and its normal form.
+    Pattern,
+    /// Another expression and its normal form.
+    Form,
+    /// An expression, and what is left of it after `<`, `=` and `>`, in normal form.
+    Residual,
+    /// An expression, and its derivatives by `<`, `=` and `>` as they come.
+    Derivative,
+    /// An expression, and whether it has the empty word, a word, and a longer word.
+    Kind,
+    /// An expression, a word, and whether it is one of the expression's.
+    Word,
 }
 
 fn pop(stack: &mut Vec<Regex>) -> Regex {
@@ -235,47 +42,32 @@ fn joined(alloc: Global, operator: u8, stack: &mut Vec<Regex>) -> Result<Regex, 
     }
 }
 
+/// What a sign or an operator makes of the expressions before it.
+fn made(alloc: Global, sign: u8, stack: &mut Vec<Regex>) -> Result<Regex, Memory> {
+    match sign {
+        b'0' => Ok(Regex::Empty),
+        b'e' => Ok(Regex::Eps),
+        b'<' => Ok(Regex::One(Letter::Less)),
+        b'=' => Ok(Regex::One(Letter::Equal)),
+        b'>' => Ok(Regex::One(Letter::Greater)),
+        b'*' => star(alloc, pop(stack)),
+        operator => joined(alloc, operator, stack),
+    }
+}
+
 fn regex(alloc: Global, text: &str) -> Result<Regex, Memory> {
     let mut stack: Vec<Regex> = Vec::new(alloc);
-    for b in text.as_bytes() {
-        let top = match *b {
-            b'0' => Regex::Empty,
-            b'e' => Regex::Eps,
-            b'<' => Regex::One(Letter::Less),
-            b'=' => Regex::One(Letter::Equal),
-            b'>' => Regex::One(Letter::Greater),
-            b'*' => star(alloc, pop(&mut stack))?,
-            operator => joined(alloc, operator, &mut stack)?,
-        };
+    for sign in text.as_bytes() {
+        let top = made(alloc, *sign, &mut stack)?;
         stack.push(top)?;
     }
     Ok(pop(&mut stack))
 }
 
-fn is_normal(alloc: Global, text: &str, form: &str) -> Result<bool, Memory> {
-    let simplified = normal(alloc, &regex(alloc, text)?)?;
-    Ok(simplified.same(&regex(alloc, form)?))
-}
-
-/// Whether this is left after `l`, in normal form or as it comes.
-fn leaves(
-    alloc: Global,
-    text: &str,
-    l: Letter,
-    rest: &str,
-    in_normal_form: bool,
-) -> Result<bool, Memory> {
-    let mut left = derive(alloc, &regex(alloc, text)?, l)?;
-    if in_normal_form {
-        left = normal(alloc, &left)?;
-    }
-    Ok(left.same(&regex(alloc, rest)?))
-}
-
 fn letters(alloc: Global, text: &str) -> Result<Vec<Letter>, Memory> {
     let mut letters = Vec::new(alloc);
-    for b in text.as_bytes() {
-        match *b {
+    for sign in text.as_bytes() {
+        match *sign {
             b'<' => letters.push(Letter::Less)?,
             b'=' => letters.push(Letter::Equal)?,
             b'>' => letters.push(Letter::Greater)?,
@@ -285,104 +77,119 @@ fn letters(alloc: Global, text: &str) -> Result<Vec<Letter>, Memory> {
     Ok(letters)
 }
 
-fn yes_or_no(holds: bool) -> &'static str {
-    if holds { "yes" } else { "no" }
+fn word(row: &str, place: usize) -> &str {
+    row.split_whitespace().nth(place).unwrap_or("")
 }
 
-fn expect_forms(rt: &impl Abort, alloc: Global, table: &str) -> Result<(), Memory> {
-    let words: Vec<&str> = table.split_whitespace().collect(alloc)?;
-    assert_eq!(rt; words.len() % 2, 0);
-    for row in words.chunks(2) {
-        if let [text, form] = row {
-            assert!(rt; is_normal(alloc, text, form)?, "{text}");
-        }
-    }
-    Ok(())
+/// Whether a word of a row says this.
+fn says(row: &str, place: usize, holds: bool) -> bool {
+    word(row, place) == if holds { "yes" } else { "no" }
 }
 
-fn expect_left(
-    rt: &impl Abort,
-    alloc: Global,
-    table: &str,
-    in_normal_form: bool,
-) -> Result<(), Memory> {
-    let words: Vec<&str> = table.split_whitespace().collect(alloc)?;
-    assert_eq!(rt; words.len() % 4, 0);
-    for row in words.chunks(4) {
-        if let [text, less, equal, greater] = row {
-            assert!(rt;
-                leaves(alloc, text, Letter::Less, less, in_normal_form)?,
-                "{text} by <"
-            );
-            assert!(rt;
-                leaves(alloc, text, Letter::Equal, equal, in_normal_form)?,
-                "{text} by ="
-            );
-            assert!(rt;
-                leaves(alloc, text, Letter::Greater, greater, in_normal_form)?,
-                "{text} by >"
-            );
-        }
-    }
-    Ok(())
+/// Whether a word of a row is this expression.
+fn shows(alloc: Global, row: &str, place: usize, found: Regex) -> Result<bool, Memory> {
+    Ok(found.same(&regex(alloc, word(row, place))?))
 }
 
-fn expect_kinds(rt: &impl Abort, alloc: Global, table: &str) -> Result<(), Memory> {
-    let words: Vec<&str> = table.split_whitespace().collect(alloc)?;
-    assert_eq!(rt; words.len() % 4, 0);
-    for row in words.chunks(4) {
-        if let [text, empty, some, longer] = row {
-            let r = regex(alloc, text)?;
-            assert_eq!(rt; yes_or_no(nullable(&r)), *empty, "{text}");
-            assert_eq!(rt; yes_or_no(has_word(&r)), *some, "{text}");
-            assert_eq!(rt; yes_or_no(has_longer(&r)), *longer, "{text}");
-        }
-    }
-    Ok(())
+fn normal_form(alloc: Global, row: &str) -> Result<Regex, Memory> {
+    normal(alloc, &regex(alloc, word(row, 0))?)
 }
 
-fn expect_words(rt: &impl Abort, alloc: Global, table: &str) -> Result<(), Memory> {
-    let words: Vec<&str> = table.split_whitespace().collect(alloc)?;
-    assert_eq!(rt; words.len() % 3, 0);
-    for row in words.chunks(3) {
-        if let [text, signs, answer] = row {
-            let found = member(alloc, &regex(alloc, text)?, &letters(alloc, signs)?)?;
-            assert_eq!(rt; yes_or_no(found), *answer, "{signs} in {text}");
+fn derivative(alloc: Global, row: &str, l: Letter) -> Result<Regex, Memory> {
+    derive(alloc, &regex(alloc, word(row, 0))?, l)
+}
+
+fn residual(alloc: Global, row: &str, l: Letter) -> Result<Regex, Memory> {
+    normal(alloc, &derivative(alloc, row, l)?)
+}
+
+fn has_residuals(alloc: Global, row: &str) -> Result<bool, Memory> {
+    Ok(
+        shows(alloc, row, 1, residual(alloc, row, Letter::Less)?)?
+            && shows(alloc, row, 2, residual(alloc, row, Letter::Equal)?)?
+            && shows(alloc, row, 3, residual(alloc, row, Letter::Greater)?)?,
+    )
+}
+
+fn has_derivatives(alloc: Global, row: &str) -> Result<bool, Memory> {
+    Ok(
+        shows(alloc, row, 1, derivative(alloc, row, Letter::Less)?)?
+            && shows(alloc, row, 2, derivative(alloc, row, Letter::Equal)?)?
+            && shows(alloc, row, 3, derivative(alloc, row, Letter::Greater)?)?,
+    )
+}
+
+fn has_kind(alloc: Global, row: &str) -> Result<bool, Memory> {
+    let r = regex(alloc, word(row, 0))?;
+    Ok(says(row, 1, nullable(&r)) && says(row, 2, has_word(&r)) && says(row, 3, has_longer(&r)))
+}
+
+fn is_word(alloc: Global, text: &str, word: &[Letter]) -> Result<bool, Memory> {
+    member(alloc, &regex(alloc, text)?, word)
+}
+
+fn has_word_told(alloc: Global, row: &str) -> Result<bool, Memory> {
+    Ok(says(
+        row,
+        2,
+        is_word(alloc, word(row, 0), &letters(alloc, word(row, 1))?)?,
+    ))
+}
+
+fn holds(alloc: Global, claim: Claim, row: &str) -> Result<bool, Memory> {
+    match claim {
+        Claim::Pattern | Claim::Form => shows(alloc, row, 1, normal_form(alloc, row)?),
+        Claim::Residual => has_residuals(alloc, row),
+        Claim::Derivative => has_derivatives(alloc, row),
+        Claim::Kind => has_kind(alloc, row),
+        Claim::Word => has_word_told(alloc, row),
+    }
+}
+
+/// The first row that doesn't hold.
+fn first_wrong(alloc: Global, claim: Claim) -> Result<Option<&'static str>, Memory> {
+    for row in rows(claim).lines() {
+        if !holds(alloc, claim, row)? {
+            return Ok(Some(row));
         }
     }
-    Ok(())
+    Ok(None)
 }
 
 #[test]
-fn residuals_of_the_catalogue(rt: HostRuntime) -> Result<(), Memory> {
-    let alloc = rt.alloc();
-    expect_forms(&rt, alloc, patterns())?;
-    expect_forms(&rt, alloc, forms())?;
-    expect_left(&rt, alloc, residuals(), true)?;
-    expect_left(&rt, alloc, derivatives(), false)?;
+fn rows_of_the_catalogue(rt: HostRuntime) -> Result<(), Memory> {
+    for claim in [
+        Claim::Pattern,
+        Claim::Form,
+        Claim::Residual,
+        Claim::Derivative,
+        Claim::Kind,
+        Claim::Word,
+    ] {
+        assert_eq!(rt; first_wrong(rt.alloc(), claim)?, None);
+    }
     Ok(())
 }
 
-#[test]
-fn words_of_peak_and_summit(rt: HostRuntime) -> Result<(), Memory> {
-    let alloc = rt.alloc();
-    expect_kinds(&rt, alloc, kinds())?;
-    expect_words(&rt, alloc, words())?;
-    let summit = regex(alloc, "<<=<|*.<.|>>=>|*.>.|.")?;
+/// Rises, as many falls, and rises again, as far as the length goes.
+fn slopes(alloc: Global, length: usize) -> Result<Vec<Letter>, Memory> {
     let mut word = Vec::new(alloc);
-    for k in 0..500 {
-        word.push(if k < 250 {
-            Letter::Less
-        } else {
-            Letter::Greater
-        })?;
+    for k in 0..length {
+        let falls = 250 <= k && k < 500;
+        word.push(if falls { Letter::Greater } else { Letter::Less })?;
     }
-    assert!(rt; member(alloc, &summit, &word)?);
-    word.push(Letter::Less)?;
-    assert!(rt; !member(alloc, &summit, &word)?);
-    let rising = regex(alloc, "<<*.")?;
-    let left = derive(alloc, &rising, Letter::Greater)?;
-    assert!(rt; !has_word(&left) && !nullable(&left) && has_longer(&rising));
-    assert!(rt; normal(alloc, &left)?.same(&Regex::Empty));
+    Ok(word)
+}
+
+fn is_summit(alloc: Global, length: usize) -> Result<bool, Memory> {
+    is_word(alloc, "<<=<|*.<.|>>=>|*.>.|.", &slopes(alloc, length)?)
+}
+
+#[test]
+fn long_words_of_summit(rt: HostRuntime) -> Result<(), Memory> {
+    assert_eq!(rt;
+        (is_summit(rt.alloc(), 500)?, is_summit(rt.alloc(), 501)?),
+        (true, false)
+    );
     Ok(())
 }
