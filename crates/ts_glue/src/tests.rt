@@ -2,9 +2,11 @@
 
 mod pieces;
 
+ghost use Rattle.std.specs.Prelude.{◌≤◌};
+
 use crate::{CellUnit, FoldOp, Machine};
-use pieces::{Standing, automaton, glued, glued_span, half, run};
-use std::test::Fail;
+use pieces::{Pair, Standing, automaton, glued, glued_span, pair_of, run};
+use std::alloc::Global;
 use ts_base::{Ext, Span};
 
 /// The operator of the results; the trim, the operator and the unit of the table; and the value in each pair of states
@@ -137,22 +139,31 @@ fn right(state: u8) -> Standing {
     }
 }
 
-#[test]
-fn values_by_the_definition(rt: HostRuntime) -> Result<(), Fail> {
-    let alloc = rt.alloc();
-    for (finish, a, op, unit, values) in rows() {
-        let forward = automaton(alloc, finish)?;
-        let half = half(alloc, finish, *a, *op, *unit)?;
-        for ((q, r), value) in pairs().iter().zip(values) {
-            let found = glued(&forward, &half, left(*q), right(*r), 9);
-            assert_eq!(rt;
-                found,
-                Some(Ext::Int(*value)),
-                "{finish} {a} {op:?} {unit:?} {q} {r}"
-            );
+fn value_at(pair: &Pair, place: usize) -> Option<Ext> {
+    let (q, r) = *pairs().get(place)?;
+    glued(&pair.forward, &pair.half, left(q), right(r), 9)
+}
+
+/// Whether the glued value in each pair of states is that of the row.
+fn values_hold(pair: &Pair, values: &[i64; 6]) -> bool {
+    for place in 0..6 {
+        if value_at(pair, place) != Some(Ext::Int(values[place])) {
+            return false;
         }
     }
-    Ok(())
+    true
+}
+
+fn row_holds(alloc: Global, row: &Row) -> bool {
+    let (finish, a, op, unit, values) = row;
+    pair_of(alloc, finish, *a, *op, *unit).is_some_and(|pair| values_hold(&pair, values))
+}
+
+#[test]
+fn values_by_the_definition(rt: HostRuntime) {
+    for (place, row) in rows().iter().enumerate() {
+        assert!(rt; row_holds(rt.alloc(), row), "row {place}");
+    }
 }
 
 /// The trim, the operator and the unit of the table, where the results are added; the lower and the upper ends of the
@@ -205,23 +216,39 @@ fn upper_right(state: u8) -> Standing {
     }
 }
 
-#[test]
-fn spans_by_the_definition(rt: HostRuntime) -> Result<(), Fail> {
-    let alloc = rt.alloc();
-    for (a, op, unit, lows, highs) in span_rows() {
-        let forward = automaton(alloc, "add")?;
-        let half = half(alloc, "add", *a, *op, *unit)?;
-        for ((q, r), (lo, hi)) in pairs().iter().zip(lows.iter().zip(highs)) {
-            let (left, right) = ((left(*q), upper_left(*q)), (right(*r), upper_right(*r)));
-            let found = glued_span(&forward, &half, left, right, 9);
-            let span = Span {
-                lo: Ext::Int(*lo),
-                hi: Ext::Int(*hi),
-            };
-            assert_eq!(rt; found, Some(span), "{a} {op:?} {unit:?} {q} {r}");
+fn span_at(pair: &Pair, place: usize) -> Option<Span> {
+    let (q, r) = *pairs().get(place)?;
+    let (left, right) = ((left(q), upper_left(q)), (right(r), upper_right(r)));
+    glued_span(&pair.forward, &pair.half, left, right, 9)
+}
+
+fn told_span(lo: i64, hi: i64) -> Option<Span> {
+    Some(Span {
+        lo: Ext::Int(lo),
+        hi: Ext::Int(hi),
+    })
+}
+
+/// Whether the glued span in each pair of states is that of the row.
+fn spans_hold(pair: &Pair, lows: &[i64; 6], highs: &[i64; 6]) -> bool {
+    for place in 0..6 {
+        if span_at(pair, place) != told_span(lows[place], highs[place]) {
+            return false;
         }
     }
-    Ok(())
+    true
+}
+
+fn span_row_holds(alloc: Global, row: &SpanRow) -> bool {
+    let (a, op, unit, lows, highs) = row;
+    pair_of(alloc, "add", *a, *op, *unit).is_some_and(|pair| spans_hold(&pair, lows, highs))
+}
+
+#[test]
+fn spans_by_the_definition(rt: HostRuntime) {
+    for (place, row) in span_rows().iter().enumerate() {
+        assert!(rt; span_row_holds(rt.alloc(), row), "row {place}");
+    }
 }
 
 /// One peak, from the second cell to the fifth.
@@ -237,48 +264,50 @@ fn backward() -> &'static [i64] {
     &BACKWARD
 }
 
-#[test]
-fn a_peak_is_glued_at_each_cell(rt: HostRuntime) -> Result<(), Fail> {
-    let alloc = rt.alloc();
-    let forward = automaton(alloc, "add")?;
-    let half = half(alloc, "add", 1, FoldOp::Add, CellUnit::Unit)?;
-    // one cell of the peak was read, and stands in D, on the right; two, in C, on the left
-    let (fourth, fourth_back) = (
-        run(&forward, series(), 4),
-        run(&half.reverse, backward(), 4),
+// One cell of the peak was read, and stands in D, on the right; two, in C, on the left.
+fn stands_in_the_peak(pair: &Pair) -> bool {
+    let (left, right) = (
+        run(&pair.forward, series(), 4),
+        run(&pair.half.reverse, backward(), 4),
     );
-    assert_eq!(rt;
-        fourth,
-        Some(Standing {
-            state: 2,
-            c: 2,
-            d: 0,
-            r: 0
-        })
-    );
-    assert_eq!(rt;
-        fourth_back,
-        Some(Standing {
-            state: 1,
-            c: 0,
-            d: 1,
-            r: 0
-        })
-    );
-    for k in 1..8 {
-        let left = run(&forward, series(), k).ok_or("numbers")?;
-        let right = run(&half.reverse, backward(), 8 - k).ok_or("numbers")?;
-        let found = glued(&forward, &half, left, right, 0);
-        assert_eq!(rt; found, Some(Ext::Int(4)), "at cell {k}");
+    let (c, d) = ((2, 2, 0), (1, 0, 1));
+    left == standing(c) && right == standing(d)
+}
+
+fn standing((state, c, d): (u8, i64, i64)) -> Option<Standing> {
+    Some(Standing { state, c, d, r: 0 })
+}
+
+/// The width that is glued at a cell.
+fn width_at(pair: &Pair, cell: usize) -> Option<Ext>
+    requires { cell ≤ 8 }
+{
+    let left = run(&pair.forward, series(), cell)?;
+    let right = run(&pair.half.reverse, backward(), 8 - cell)?;
+    glued(&pair.forward, &pair.half, left, right, 0)
+}
+
+fn is_glued_at_each_cell(pair: &Pair) -> bool {
+    for cell in 1..8 {
+        if width_at(pair, cell) != Some(Ext::Int(4)) {
+            return false;
+        }
     }
-    Ok(())
+    stands_in_the_peak(pair)
 }
 
 #[test]
-fn a_plain_machine_has_one_automaton(rt: HostRuntime) -> Result<(), Fail> {
-    let machine = Machine::plain(automaton(rt.alloc(), "add")?);
-    assert!(rt; machine.reverse().is_none());
-    assert!(rt; machine.table().is_none());
-    assert_eq!(rt; machine.forward().states(), 3);
-    Ok(())
+fn a_peak_is_glued_at_each_cell(rt: HostRuntime) {
+    let pair = pair_of(rt.alloc(), "add", 1, FoldOp::Add, CellUnit::Unit);
+    assert!(rt; pair.is_some_and(|pair| is_glued_at_each_cell(&pair)));
+}
+
+fn is_plain(machine: &Machine) -> bool {
+    machine.reverse().is_none() && machine.table().is_none() && machine.forward().states() == 3
+}
+
+#[test]
+fn a_plain_machine_has_one_automaton(rt: HostRuntime) {
+    let machine = automaton(rt.alloc(), "add").map(Machine::plain);
+    assert!(rt; machine.is_some_and(|machine| is_plain(&machine)));
 }

@@ -10,9 +10,8 @@ use crate::half::Half;
 use crate::shape::first_op;
 use crate::{CellUnit, FoldOp, GlueTable};
 use std::alloc::Global;
-use std::test::Fail;
 use ts_automaton::{At, Automaton, Hull, Regs, read};
-use ts_base::{Ext, Join, Span};
+use ts_base::{Ext, Join, Memory, Span};
 
 /// A state, and three registers that are numbers.
 #[derive(Clone, Copy, Debug, PartialEq, Eq)]
@@ -23,60 +22,57 @@ pub(crate) struct Standing {
     pub(crate) r: i64,
 }
 
-/// The lines of the automaton before its finish line.
-static LINES: [&str; 14] = [
-    "forward",
-    "state s free",
-    "state r free",
-    "state t held",
-    "start 0 0 0",
-    "move s < r ; C ; D ; R",
-    "move s = s ; C ; D ; R",
-    "move s > s ; C ; D ; R",
-    "move r < r ; C ; add D 1 ; R",
-    "move r = r ; C ; add D 1 ; R",
-    "move r > t ; add D 1 ; 0 ; R",
-    "move t < r ; 0 ; 0 ; add R C",
-    "move t = t ; C ; add D 1 ; R",
-    "move t > t ; add C add D 1 ; 0 ; R",
-];
+/// The automaton before its finish line.
+static LINES: &str = "forward\nstate s free\nstate r free\nstate t held\nstart 0 0 0\n\
+    move s < r ; C ; D ; R\nmove s = s ; C ; D ; R\nmove s > s ; C ; D ; R\n\
+    move r < r ; C ; add D 1 ; R\nmove r = r ; C ; add D 1 ; R\nmove r > t ; add D 1 ; 0 ; R\n\
+    move t < r ; 0 ; 0 ; add R C\nmove t = t ; C ; add D 1 ; R\nmove t > t ; add C add D 1 ; 0 ; R\n";
 
-// The table behind a function, so that the proofs don't read it.
-fn lines() -> &'static [&'static str] {
-    &LINES
+// The text behind a function, so that the proofs don't read it.
+fn lines() -> &'static str {
+    LINES
 }
 
-/// The automaton whose results are joined by an operator.
-pub(crate) fn automaton(alloc: Global, finish: &str) -> Result<Automaton, Fail> {
-    let mut text = Vec::new(alloc);
-    for line in lines() {
-        text.extend_from_slice(line.as_bytes())?;
-        text.push(b'\n')?;
-    }
-    text.extend_from_slice(b"finish ")?;
-    text.extend_from_slice(finish.as_bytes())?;
-    text.extend_from_slice(b" R C same\nend\n")?;
-    match read(alloc, &text) {
-        Ok(automaton) => Ok(automaton),
-        Err(_) => Err("refused")?,
-    }
+/// The text of the automaton whose results are joined by an operator.
+fn text_of(alloc: Global, finish: &str) -> Result<String, Memory> {
+    Ok(format!(in alloc; "{}finish {finish} R C same\nend\n", lines())?)
 }
 
-/// The same as a reverse automaton, with the pairs of its second and third state.
-pub(crate) fn half(
+pub(crate) fn automaton(alloc: Global, finish: &str) -> Option<Automaton> {
+    let text = text_of(alloc, finish).ok()?;
+    read(alloc, text.as_bytes()).ok()
+}
+
+/// The table of the reverse automaton, with the pairs of its second and third state.
+fn table(alloc: Global, a: u8, op: FoldOp, unit: CellUnit) -> Result<GlueTable, Memory> {
+    let mut joins = Vec::new(alloc);
+    for (forward, reverse) in [(1, 1), (1, 2), (2, 1), (2, 2)] {
+        joins.push(Join { forward, reverse })?;
+    }
+    Ok(GlueTable { a, op, unit, joins })
+}
+
+/// An automaton, and the same as its reverse automaton.
+#[derive(Drop)]
+pub(crate) struct Pair {
+    pub(crate) forward: Automaton,
+    pub(crate) half: Half,
+}
+
+pub(crate) fn pair_of(
     alloc: Global,
     finish: &str,
     a: u8,
     op: FoldOp,
     unit: CellUnit,
-) -> Result<Half, Fail> {
-    let mut joins = Vec::new(alloc);
-    for (forward, reverse) in [(1, 1), (1, 2), (2, 1), (2, 2)] {
-        joins.push(Join { forward, reverse })?;
-    }
+) -> Option<Pair> {
+    let table = table(alloc, a, op, unit).ok()?;
     let reverse = automaton(alloc, finish)?;
-    let table = GlueTable { a, op, unit, joins };
-    Ok(Half { reverse, table })
+    let forward = automaton(alloc, finish)?;
+    Some(Pair {
+        forward,
+        half: Half { reverse, table },
+    })
 }
 
 /// Where the automaton stands after the first cells of the series. None where a register is no number.
