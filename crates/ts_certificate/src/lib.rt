@@ -19,8 +19,6 @@ mod numbers;
 mod reader;
 mod state;
 mod stop;
-#[cfg(test)]
-mod tests;
 mod tree;
 mod words;
 mod write;

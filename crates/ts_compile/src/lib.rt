@@ -17,8 +17,6 @@ mod glue_text;
 pub mod judge;
 pub mod laws;
 mod program;
-#[cfg(test)]
-mod tests;
 mod text;
 mod values;
 mod words;

@@ -57,6 +57,3 @@ pub use first_cell::{first_cut, first_refuted};
 pub use kept::kept_value;
 pub use live_tables::LiveTables;
 pub use ts_base::Goal;
-
-#[cfg(test)]
-mod tests;

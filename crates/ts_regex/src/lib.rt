@@ -33,6 +33,3 @@ pub use derivative::{derive, has_longer, has_word, nullable};
 pub use membership::member;
 pub use normal_form::{normal, residual};
 pub use regex::{Regex, alt, cat, star};
-
-#[cfg(test)]
-mod tests;

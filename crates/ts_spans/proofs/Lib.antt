@@ -1,2 +1,3 @@
 pub mod OfProgram
 pub mod OfTerms
+mod Splits

@@ -1,0 +1,88 @@
+//! The texts of programs, worked out from the tables alone, and values of their terms.
+
+use std::rt::HostRuntime;
+use std::test::Fail;
+use ts_base::Ext;
+use ts_compile::{compile_model, value_of, write_program};
+use ts_model::{Need, read_model};
+use ts_token::cut_tokens;
+
+/// A model, the text of its program, and the values of its terms on 1 3 3 2 2 1 4.
+type Case = (&'static str, &'static str, &'static [Ext]);
+
+static CASES: [Case; 5] = [
+    ("cells 7\n", "", &[]),
+    (
+        "cells 7\nterm c = count decreasing\n",
+        "term c sum one decreasing\nforward\nstate s free\nstart 0 1 0\nmove s < s ; C ; D ; R\n\
+         move s = s ; C ; D ; R\nmove s > s ; C ; 1 ; add R max max D 1 1\nfinish add R C same\nend\n\
+         reverse\nstate s free\nstart 0 1 0\nmove s < s ; C ; 1 ; add R max max D 1 1\n\
+         move s = s ; C ; D ; R\nmove s > s ; C ; D ; R\nfinish add R C same\nend\nglue 0 max 1\nend\n",
+        &[Ext::Int(2)],
+    ),
+    (
+        "cells 7\nterm w = sum width peak\n",
+        "term w sum width peak\nforward\nstate s free\nstate r free\nstate t held\nstart 0 0 0\n\
+         move s < r ; C ; D ; R\nmove s = s ; C ; D ; R\nmove s > s ; C ; D ; R\n\
+         move r < r ; C ; add D 1 ; R\nmove r = r ; C ; add D 1 ; R\nmove r > t ; add D 1 ; 0 ; R\n\
+         move t < r ; 0 ; 0 ; add R C\nmove t = t ; C ; add D 1 ; R\nmove t > t ; add C add D 1 ; 0 ; R\n\
+         finish add R C same\nend\nreverse\nstate s free\nstate r free\nstate t held\nstart 0 0 0\n\
+         move s < r ; C ; D ; R\nmove s = s ; C ; D ; R\nmove s > s ; C ; D ; R\n\
+         move r < r ; C ; add D 1 ; R\nmove r = r ; C ; add D 1 ; R\nmove r > t ; add D 1 ; 0 ; R\n\
+         move t < r ; 0 ; 0 ; add R C\nmove t = t ; C ; add D 1 ; R\nmove t > t ; add C add D 1 ; 0 ; R\n\
+         finish add R C same\nend\nglue 1 add 1\njoin r r\njoin r t\njoin t r\nend\n",
+        &[Ext::Int(4)],
+    ),
+    (
+        "cells 7\nterm m = max surf dip_on_increasing_sequence\nterm k = min width steady_sequence\n",
+        "term m max surf dip_on_increasing_sequence\nforward\nstate s free\nstate r free\nstate t free\n\
+         state u free\nstate v free\nstart -inf 0 -inf\nmove s < r ; C ; D ; R\nmove s = s ; C ; D ; R\n\
+         move s > s ; C ; D ; R\nmove r < t ; C ; D ; R\nmove r = s ; C ; D ; R\nmove r > s ; C ; D ; R\n\
+         move t < t ; C ; D ; R\nmove t = s ; C ; D ; R\nmove t > u ; C ; add D x ; R\n\
+         move u < v ; C ; add D x ; R\nmove u = s ; C ; 0 ; R\nmove u > s ; C ; 0 ; R\n\
+         move v < t ; C ; 0 ; max R add D x\nmove v = s ; C ; 0 ; R\nmove v > s ; C ; 0 ; R\n\
+         finish max R C same\nend\nno reverse\nterm k min width steady_sequence\nforward\nstate s free\n\
+         state r held\nstart +inf 0 +inf\nmove s < s ; C ; D ; R\nmove s = r ; add add D 1 1 ; 0 ; R\n\
+         move s > s ; C ; D ; R\nmove r < s ; +inf ; 0 ; min R C\nmove r = r ; add C add D 1 ; 0 ; R\n\
+         move r > s ; +inf ; 0 ; min R C\nfinish min R C cells\nend\nreverse\nstate s free\nstate r held\n\
+         start +inf 0 +inf\nmove s < s ; C ; D ; R\nmove s = r ; add add D 1 1 ; 0 ; R\n\
+         move s > s ; C ; D ; R\nmove r < s ; +inf ; 0 ; min R C\nmove r = r ; add C add D 1 ; 0 ; R\n\
+         move r > s ; +inf ; 0 ; min R C\nfinish min R C cells\nend\nglue 0 add 1\njoin r r\nend\n",
+        &[Ext::NegInf, Ext::Int(2)],
+    ),
+    (
+        "cells 7\nterm m = max min increasing\n",
+        "term m max min increasing\nforward\nstate s free\nstart -inf +inf -inf\n\
+         move s < s ; C ; +inf ; max R min min D x y\nmove s = s ; C ; D ; R\nmove s > s ; C ; D ; R\n\
+         finish max R C same\nend\nreverse\nstate s free\nstart -inf +inf -inf\nmove s < s ; C ; D ; R\n\
+         move s = s ; C ; D ; R\nmove s > s ; C ; +inf ; max R min min D x y\nfinish max R C same\nend\n\
+         glue 0 min x\nend\n",
+        &[Ext::Int(1)],
+    ),
+];
+
+// The table behind a function, so that the proof of the test doesn't read it.
+fn cases() -> &'static [Case] {
+    &CASES
+}
+
+#[test]
+fn programs(rt: HostRuntime) -> Result<(), Fail> {
+    let alloc = rt.alloc();
+    for (text, wanted, values) in cases() {
+        let text = text.as_bytes();
+        assert!(rt; text.len() < 1000);
+        let tokens = cut_tokens(alloc, text)?;
+        let model = read_model(alloc, &tokens, Need::Values)?;
+        let program = compile_model(alloc, &model)?;
+        assert_eq!(rt; program.machines().len(), values.len());
+        let written = write_program(alloc, &model, &program)?;
+        assert_eq!(rt; written.as_slice(), wanted.as_bytes());
+        for term in 0..values.len() {
+            assert!(rt; term < model.terms.len());
+            let value = value_of(alloc, &model, term as u32, &[1, 3, 3, 2, 2, 1, 4])?;
+            assert_eq!(rt; value, values[term]);
+        }
+    }
+    Ok(())
+}

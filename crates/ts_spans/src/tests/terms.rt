@@ -1,0 +1,95 @@
+//! The machine of each of the 22 patterns under all thirteen pairs of aggregator and feature, on ten series that use
+//! each move of each seed. The values were found by trying the expressions on all parts of the signatures.
+
+ghost use Rattle.std.specs.Prelude.{◌≤◌, length};
+
+use super::{first_values, last_values};
+use std::test::Fail;
+use ts_automaton::Automaton;
+use ts_base::Ext;
+use ts_compile::compile_term;
+use ts_pattern::{Aggregator, Feature, Term};
+
+/// The value on each series, under each pair in the order of `PAIRS`.
+pub type Values = [[i64; 13]; 10];
+
+// These stand for -inf and +inf in the tables.
+pub const LOW: i64 = i64::MIN;
+
+pub const HIGH: i64 = i64::MAX;
+
+/// The aggregators and features that make a term.
+pub const PAIRS: [(Aggregator, Feature); 13] = [
+    (Aggregator::Sum, Feature::One),
+    (Aggregator::Sum, Feature::Width),
+    (Aggregator::Sum, Feature::Surf),
+    (Aggregator::Sum, Feature::Max),
+    (Aggregator::Sum, Feature::Min),
+    (Aggregator::Max, Feature::Width),
+    (Aggregator::Max, Feature::Surf),
+    (Aggregator::Max, Feature::Max),
+    (Aggregator::Max, Feature::Min),
+    (Aggregator::Min, Feature::Width),
+    (Aggregator::Min, Feature::Surf),
+    (Aggregator::Min, Feature::Max),
+    (Aggregator::Min, Feature::Min),
+];
+
+static SERIES: [&[i64]; 10] = [
+    &[4],
+    &[3, 3, 3, 3],
+    &[-3, -2, -3, 0, 0, 2, 6, 9, 9, 7, 4, 6, 3, -1, -1, 2],
+    &[3, -1, -1, -5, -3, -3, 0, 1, -3, 1, -2, 1, 1, 1],
+    &[-2, 0, 0, -2, 1, 3, 2, 5, 8, 6, 5, 5, 4, 4, 4],
+    &[2, 3, 3, 6, 7, 5, 7, 7, 3, 2, -2, 2, 2, 5, 2, 2],
+    &[1, 2, 2, 0, -1, 2, 0, 0, -1, 2, 6, 8, 4, 5, 6],
+    &[4, 1, -3, -2, -3, 0, 3, 4, 2, 4, 5, 3, 3, 6, 2, 2],
+    &[-2, -4, -5, -1, -3, -4, 0, 4, 2, 2, -1, -5, -5, -6],
+    &[0, -3, -3, 1, 1, 5, 3, 2, 4, 0, -4, 0, -2, -4],
+];
+
+pub fn all_series() -> &'static [&'static [i64]] {
+    &SERIES
+}
+
+/// The answer of the automaton on a series.
+fn answer(automaton: &Automaton, series: &[i64]) -> Ext
+    requires { length series.now ≤ 100000 }
+{
+    let mut at = automaton.start();
+    for k in 1..series.len() {
+        at = automaton.step(at, series[k - 1], series[k]);
+    }
+    automaton.finish(at, series.len() as u32)
+}
+
+/// The value that a table writes so.
+pub fn value(written: i64) -> Ext {
+    match written {
+        LOW => Ext::NegInf,
+        HIGH => Ext::PosInf,
+        _ => Ext::Int(written),
+    }
+}
+
+#[test]
+fn machines_answer_the_values_of_terms(rt: HostRuntime) -> Result<(), Fail> {
+    for table in [first_values::values(), last_values::values()] {
+        for (pattern, values) in table {
+            for k in 0..13 {
+                let (aggregator, feature) = PAIRS[k];
+                let term = Term::new(aggregator, feature, *pattern).ok_or("pair")?;
+                let machine = compile_term(rt.alloc(), &term)?;
+                for (series, wanted) in all_series().iter().zip(values) {
+                    assert!(rt; series.len() <= 100_000);
+                    assert_eq!(rt;
+                        answer(machine.forward(), series),
+                        value(wanted[k]),
+                        "{term:?} {series:?}"
+                    );
+                }
+            }
+        }
+    }
+    Ok(())
+}
