@@ -12,6 +12,7 @@ mod LineSizes
 mod LongLines
 mod KeptLines
 mod JudgingLaws
+mod ModelTexts
 mod InputLaws
 mod InputEnds
 mod OneAnswer

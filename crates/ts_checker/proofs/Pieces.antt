@@ -1,5 +1,5 @@
 -- A text that is cut in pieces: its lines, and the halves before and after the line '%%'.
-use Rattle.std.proofs.Common.{◌≡◌, ℕ, Bool, true, false, not, cond, Option, Some, None, List, [], ◌∷◌, ◌++◌, refl, sym, ap, ◌∙◌, ◌&&◌, subst, append_assoc, append-nil}
+use Rattle.std.proofs.Common.{◌≡◌, ℕ, ◌<◌, Bool, true, false, not, cond, Option, Some, None, List, [], ◌∷◌, ◌++◌, length, refl, sym, ap, ◌∙◌, ◌&&◌, subst, arith, append_assoc, append-nil}
 use Rattle.std.specs.Prelude.{◌==◌, MatchOption, filter, is_some}
 use Rattle.std.specs.Cmp.Derive.{both_true}
 use Rattle.std.specs.List.{list_all, AllByRecursion}
@@ -129,37 +129,12 @@ finished_halves line more f =
     ap halves (finished_first line more f)
     ∙ ap (λ (x : List ℕ). cond (is_separator line) (made [] (Some x)) (after_front line (halves_of more))) (lines_are more)
 
-pub no_mark : (line : List ℕ) → IsFinished line → (halves_of line).rest ≡ None → is_separator line ≡ false
-no_mark line f none = go (is_separator line) refl
-  where
-    go : (t : Bool) → is_separator line ≡ t → t ≡ false
-    go false e = refl
-    go true e =
-        let all = ap halves (finished_alone line f) ∙ ap (λ v. cond v (made [] (Some [])) (after_front line (halves []))) e in
-        let wrong : ◌≡◌ {A = Option (List ℕ)} None (Some []) = sym none ∙ ap (λ (h : Halves). h.rest) all in cc
-
-pub is_mark : (line rest : List ℕ) → IsFinished line → (halves_of line).rest ≡ Some rest → is_separator line ≡ true
-is_mark line rest f some = go (is_separator line) refl
-  where
-    go : (t : Bool) → is_separator line ≡ t → t ≡ true
-    go true e = refl
-    go false e =
-        let all = ap halves (finished_alone line f) ∙ ap (λ v. cond v (made [] (Some [])) (after_front line (halves []))) e in
-        let wrong : ◌≡◌ {A = Option (List ℕ)} None (Some rest) = sym (ap (λ (h : Halves). h.rest) all) ∙ some in cc
-
 -- the same of a last line without an LF: it is of the model, or the '%%' behind which nothing stands
 
-pub record IsLast (line : List ℕ) (h : Halves) : Type 0 where
-  pub whole : h.rest ≡ None → h.model ≡ line
-  pub mark : (rest : List ℕ) → h.rest ≡ Some rest → (h.model ≡ []) × (rest ≡ [])
+last_halves : (line : List ℕ) → 0 < length line → halves (last_line line) ≡ cond (is_separator line) (made [] (Some [])) (made line None)
+last_halves [] some = absurd (omega (arith, some))
+last_halves (b ∷ bs) some = ap (λ (x : List ℕ). cond (is_separator (b ∷ bs)) (made [] (Some [])) (made x None)) (append-nil (b ∷ bs))
 
-last_by : (t : Bool) (line : List ℕ) → IsLast line (cond t (made [] (Some [])) (after_front line (made [] None)))
-last_by true line = record { whole = λ e. cc; mark = λ rest e. (refl, let same : ◌≡◌ {A = List ℕ} [] rest = cc in sym same) }
-last_by false line = record { whole = λ e. append-nil line; mark = λ rest e. cc }
-
-last_halves : (line : List ℕ) → IsLast line (halves (last_line line))
-last_halves [] = record { whole = λ e. refl; mark = λ rest e. cc }
-last_halves (b ∷ bs) = last_by (is_separator (b ∷ bs)) (b ∷ bs)
-
-pub unfinished_halves : (line : List ℕ) → IsUnfinished line → IsLast line (halves_of line)
-unfinished_halves line h = subst (λ (x : List (List ℕ)). IsLast line (halves x)) (sym (unfinished_alone line h)) (last_halves line)
+pub unfinished_halves : (line : List ℕ) → IsUnfinished line → 0 < length line →
+    halves_of line ≡ cond (is_separator line) (made [] (Some [])) (made line None)
+unfinished_halves line h some = ap halves (unfinished_alone line h) ∙ last_halves line some

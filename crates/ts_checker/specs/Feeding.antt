@@ -1,16 +1,22 @@
 -- An input of `verify` as far as it was fed: what is kept of the bytes, and what is known of it.
 use Rattle.std.specs.Prelude.{◌≡◌, ℕ, ◌==◌, ◌≤◌, Bool, true, false, not, List, [], ◌∷◌, ◌++◌, filter, length}
-use Rattle.std.specs.Prelude.{if◌then◌else◌, Option, Some, None, MatchOption, Ok, Err}
+use Rattle.std.specs.Prelude.{if◌then◌else◌, Option, Some, None, MatchOption, Result, Ok, Err}
 use Rattle.std.specs.Option.{option_map}
 use Rattle.std.specs.List.{list_all}
 use Rattle.ts_base.specs.Limits.{most_cells}
 use Rattle.ts_base.specs.Words.{is_lf, strict_lines, without_lf}
+use Rattle.ts_token.specs.Gist.{AreEnded, IsLine}
 use Rattle.ts_token.specs.Halves.{after_front, halves_of}
+use Rattle.ts_token.specs.Short.{IsShort}
 use Rattle.ts_model.specs.declared.error.ModelKind.{ModelKind}
+use Rattle.ts_model.specs.declared.error.ModelStop.{ModelStop}
 use Rattle.ts_model.specs.declared.model.Need.TheVariants.{List as Listed}
+use Rattle.ts_model.specs.LineByLine.{HasRead as HasReadModel, SoFar}
 use Rattle.ts_model.specs.ModelReading.{model_reading}
 use Rattle.ts_checker.specs.declared.input.Input.{Input}
+use Rattle.ts_checker.specs.declared.input.Input.TheVariants.{InModel, Behind}
 use Rattle.ts_checker.specs.declared.judging.Judging.{Judging as AtWork}
+use Rattle.ts_checker.specs.declared.model_text.ModelText.{ModelText}
 use Rattle.ts_checker.specs.declared.opened.Opened.{Opened}
 use Rattle.ts_checker.specs.declared.opened.Opened.TheVariants.{Refused, Judging}
 use Rattle.ts_checker.specs.declared.verify_end.VerifyEnd.{VerifyEnd}
@@ -18,7 +24,7 @@ use Rattle.ts_checker.specs.declared.verify_end.VerifyEnd.TheVariants.{Model, Ve
 use Rattle.ts_checker.specs.Checking.{HasChecked}
 use Rattle.ts_checker.specs.Shortened.{IsKeptOf}
 use Rattle.ts_checker.specs.Verdicts.{stop_line}
-use Rattle.ts_checker.specs.Verified.{FailsFirst, IsShownBy, ended_lines, is_ended}
+use Rattle.ts_checker.specs.Verified.{FailsFirst, IsShownBy, ended_lines, is_ended, model_part}
 
 -- the line that was refused before; else this one, where the next one still has its number
 abbrev pub refused_now : Option ℕ → ℕ → ℕ → Option ℕ
@@ -99,21 +105,22 @@ abbrev pub IsCalm : Opened → Type 0
 IsCalm (Refused line kind) = Unit {0}
 IsCalm (Judging j) = j.checker.wanting ≡ false
 
-abbrev pub AreCalm : Option Opened → Type 0
-AreCalm None = Unit {0}
-AreCalm (Some o) = IsCalm o
-
--- a line of the model is taken: it is one more, or the line '%%', behind which stands what the model gives
-abbrev pub TakesModelLine : List ℕ → List ℕ → Option Opened → List ℕ → Type 0
-TakesModelLine old line None new = ((halves_of line).rest ≡ None) × (new ≡ old ++ line)
-TakesModelLine old line (Some o) new =
-    ((rest : List ℕ) × ((halves_of line).rest ≡ Some rest)) × IsOpened old o
-
 -- the first line that fails
 abbrev pub OpenedFails : Opened → Option ℕ → Type 0
 OpenedFails (Refused line kind) failed = failed ≡ None
 OpenedFails (Judging j) failed =
     (bytes : List ℕ) → HasRead bytes j → FailsFirst j.checker.model (ended_lines bytes) failed
+
+-- these lines were read, and none before the first
+abbrev pub HasLines : List ℕ → Option (Result SoFar ModelStop) → Type 0
+HasLines text None = text ≡ []
+HasLines text (Some reader) = HasReadModel Listed text reader
+
+-- whatever whole lines were read before, the line that what is kept stands for has been read too
+abbrev pub ReadsOn : ModelText → ModelText → Type 0
+ReadsOn old new =
+    (text line : List ℕ) → AreEnded text → IsLine line → IsShort line old.line → HasLines text old.reader →
+    HasLines (text ++ line) new.reader
 
 -- whatever follows, these bytes are whole lines of the model
 abbrev pub AreOfModel : List ℕ → Type 0
@@ -123,11 +130,20 @@ AreOfModel front = (more : List ℕ) → halves_of (front ++ more) ≡ after_fro
 abbrev pub EndsModel : List ℕ → List ℕ → Type 0
 EndsModel text front = (more : List ℕ) → halves_of (front ++ more) ≡ record { model = text; rest = Some more }
 
--- the bytes so far are whole lines of the model and the unfinished line
-pub record IsInModel (bytes model line : List ℕ) : Type 0 where
-  pub parts : bytes ≡ model ++ line
-  pub lines : AreOfModel model
-  pub free : IsUnfinished line
+-- the bytes so far are whole lines of the model, which were read, and one line, of which P holds
+pub record AtLine (P : List ℕ → Type 0) (bytes : List ℕ) (t : ModelText) : Type 0 where
+  pub text : List ℕ
+  pub line : List ℕ
+  pub parts : bytes ≡ text ++ line
+  pub lines : AreOfModel text
+  pub ended : AreEnded text
+  pub read : HasLines text t.reader
+  pub is : P line
+  pub short : IsShort line t.line
+
+-- the model goes on
+abbrev pub IsInModel : List ℕ → ModelText → Type 0
+IsInModel bytes t = AtLine IsUnfinished bytes t
 
 -- the model has ended, and is refused
 pub record IsBehindRefusal (bytes : List ℕ) (line : ℕ) (kind : ModelKind) : Type 0 where
@@ -148,31 +164,41 @@ pub record IsInCertificate (bytes : List ℕ) (j : AtWork) : Type 0 where
   pub reading : model_reading Listed text ≡ Ok j.checker.model
   pub read : HasRead rest j
 
-abbrev pub IsAt : List ℕ → Option Opened → List ℕ → List ℕ → Type 0
-IsAt bytes None model line = IsInModel bytes model line
-IsAt bytes (Some (Refused n kind)) model line = IsBehindRefusal bytes n kind
-IsAt bytes (Some (Judging j)) model line = IsInCertificate bytes j
+-- the model has ended
+abbrev pub IsBehind : List ℕ → Opened → Type 0
+IsBehind bytes (Refused line kind) = IsBehindRefusal bytes line kind
+IsBehind bytes (Judging j) = IsInCertificate bytes j
+
+-- the model goes on, or has ended
+abbrev pub IsAt : List ℕ → Option Opened → ModelText → Type 0
+IsAt bytes None t = IsInModel bytes t
+IsAt bytes (Some opened) t = IsBehind bytes opened
+
+-- whatever bytes of the model came before, these have come too
+abbrev pub TakesInModel : ModelText → List ℕ → Option Opened → ModelText → Type 0
+TakesInModel old part opened new = (bytes : List ℕ) → IsInModel bytes old → IsAt (bytes ++ part) opened new
+
+-- a last line without an LF was read, unless it is the line '%%'
+abbrev pub ReadsLast : ModelText → ModelText → Type 0
+ReadsLast old new = (bytes : List ℕ) → IsInModel bytes old → HasLines (model_part bytes) new.reader
 
 -- these bytes were taken
 abbrev pub HasTaken : List ℕ → Input → Type 0
-HasTaken bytes i = IsAt bytes i.opened i.model.items i.line.items
+HasTaken bytes (InModel t) = IsInModel bytes t
+HasTaken bytes (Behind opened) = IsBehind bytes opened
 
 -- whatever came before, these bytes have come too
 abbrev pub TakesBytes : Input → List ℕ → Input → Type 0
 TakesBytes old piece new = (bytes : List ℕ) → HasTaken bytes old → HasTaken (bytes ++ piece) new
-
--- the line of the model that has its LF is taken
-abbrev pub EndsLine : Input → Input → Type 0
-EndsLine old new = TakesModelLine old.model.items old.line.items new.opened new.model.items × (new.line.items ≡ [])
 
 -- what contracts see
 pub record Verifying : Type 0 where
   pub input : Input
   pub wanting : Bool
 
--- unless memory was wanting, the checker may be asked on
-abbrev pub IsReady : Bool → Option Opened → Type 0
-IsReady wanting opened = wanting ≡ false → AreCalm opened
+-- unless memory was wanting, some bytes were taken
+abbrev pub IsReady : Bool → Input → Type 0
+IsReady wanting input = wanting ≡ false → (bytes : List ℕ) × HasTaken bytes input
 
 -- these bytes were fed, and memory was never wanting
 pub record HasFed (bytes : List ℕ) (v : Verifying) : Type 0 where

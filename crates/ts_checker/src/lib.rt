@@ -29,6 +29,7 @@ mod input;
 mod judging;
 pub mod laws;
 mod lines;
+mod model_text;
 mod opened;
 mod rules;
 mod standing;

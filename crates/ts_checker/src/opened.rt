@@ -1,18 +1,15 @@
 //! What the model in an input of `verify` gives, once its text has ended.
 
-ghost use Rattle.std.specs.Prelude.{IfOk, OnOk};
-ghost use Rattle.ts_checker.specs.Feeding.{EndsOpened, IsCalm, IsOpened, IsPart, OpenedFails, TakesModelLine};
-ghost use Rattle.ts_checker.specs.Feeding.{TakesPart};
+ghost use Rattle.std.specs.Prelude.{ℕ, List, IfOk, OnOk};
+ghost use Rattle.ts_model.specs.declared.model.Need.TheVariants.{List as Listed};
+ghost use Rattle.ts_model.specs.LineByLine.{HasRead};
+ghost use Rattle.ts_checker.specs.Feeding.{EndsOpened, HasLines, IsCalm, IsOpened, IsPart, OpenedFails, TakesPart};
 
 use crate::judging::Judging;
 use crate::verify_end::VerifyEnd;
 use std::alloc::Global;
 use ts_base::Memory;
-use ts_model::{ModelKind, ModelStop, Need, read_model};
-use ts_token::{cut_parts, cut_tokens};
-
-/// Texts and lines of so many bytes aren't read.
-const TOO_LONG: usize = 4_000_000_000;
+use ts_model::{ModelKind, ModelReader, ModelStop, Need};
 
 /// The refusal of a model, or the judging of certificates for it.
 #[derive(Drop)]
@@ -22,15 +19,12 @@ pub(crate) enum Opened {
 }
 
 impl Opened {
-    /// What the model of this text gives.
-    pub(crate) fn of(alloc: Global, text: &[u8]) -> Result<Opened, Memory>
-        ensures { IfOk result (λ o. IsOpened text.now o) }
+    /// What the model gives whose lines were read so; where no line came there is no reader.
+    pub(crate) fn of(alloc: Global, reader: Option<ModelReader>) -> Result<Opened, Memory>
+        requires { (text : List ℕ) × HasLines text reader }
+        ensures { IfOk result (λ o. (text : List ℕ) → HasLines text reader → IsOpened text o) }
     {
-        if text.len() >= TOO_LONG {
-            return Err(Memory);
-        }
-        let tokens = cut_tokens(alloc, text)?;
-        match read_model(alloc, &tokens, Need::List) {
+        match reader_of(alloc, reader)?.end() {
             Ok(model) => Ok(Opened::Judging(Judging::new(alloc, model)?)),
             Err(ModelStop::Refused { line, kind }) => Ok(Opened::Refused { line, kind }),
             Err(ModelStop::Memory) => Err(Memory),
@@ -72,26 +66,12 @@ impl Opened {
     }
 }
 
-/// Takes a line of a model: behind the line `%%` stands what the model's text gives, and the text is kept no longer.
-pub(crate) fn take_model_line(
-    alloc: Global,
-    model: &mut Vec<u8>,
-    line: &[u8],
-) -> Result<Option<Opened>, Memory>
-    ensures { IfOk result (λ opened. TakesModelLine model.old.items line.now opened model.new.items) }
+// The reader, which is made where no line came.
+fn reader_of(alloc: Global, reader: Option<ModelReader>) -> Result<ModelReader, Memory>
+    ensures { IfOk result (λ r. (text : List ℕ) → HasLines text reader → HasRead Listed text r) }
 {
-    if line.len() >= TOO_LONG {
-        return Err(Memory);
-    }
-    match cut_parts(line).rest {
-        None => {
-            model.extend_from_slice(line)?;
-            Ok(None)
-        }
-        Some(_) => {
-            let opened = Opened::of(alloc, model)?;
-            *model = Vec::new(alloc);
-            Ok(Some(opened))
-        }
+    match reader {
+        Some(reader) => Ok(reader),
+        None => ModelReader::new(alloc, Need::List),
     }
 }

@@ -10,8 +10,9 @@ use std::alloc::Global;
 use ts_base::Memory;
 
 /// Takes a model, a line `%%` and a certificate, in pieces that may be cut anywhere; what it answers depends on all
-/// bytes together. It keeps the text of the model until that ends, then of the unfinished line of the certificate at
-/// most 4,615 bytes and a piece. Contracts see what is kept, and whether memory was wanting.
+/// bytes together. Of the model it keeps what its whole lines state, from the first bad one on the refusal alone, and of
+/// its unfinished line what a `ShortLine` keeps; then of the unfinished line of the certificate at most 4,615 bytes and
+/// a piece. Contracts see what is kept, and whether memory was wanting.
 #[derive(Drop)]
 pub struct Verifier {
     input: Input,
@@ -25,7 +26,7 @@ impl std::marker::Model for Verifier {
 
     ghost view = { λ v. record { input = v.input; wanting = v.wanting } };
 
-    ghost invariant = { λ v. IsReady v.wanting v.input.opened };
+    ghost invariant = { λ v. IsReady v.wanting v.input };
 }
 
 impl Verifier {
@@ -41,7 +42,8 @@ impl Verifier {
     }
 
     /// Takes more bytes. After `Memory` each further piece is answered `Memory`, and so is the end; it comes too where
-    /// the model has 4,000,000,000 bytes or the certificate more lines.
+    /// 4,000,000,000 bytes of a line of the model would be kept, where the model has as many lines, or the certificate
+    /// more.
     pub fn feed(&mut self, piece: &[u8]) -> Result<(), Memory>
         ensures fed { OnOk result ((bytes : List ℕ) → HasFed bytes self.old → HasFed (bytes ++ piece.now) self.new) }
         ensures wanted { OnErr result (IsTrue self.new.wanting) }

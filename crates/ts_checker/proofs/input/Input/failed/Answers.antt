@@ -1,8 +1,11 @@
-use Rattle.ts_checker.proofs.InputEnds.{none_failed, opened_failed}
+use Rattle.std.proofs.Common.{subst}
+use Rattle.ts_checker.specs.Feeding.{HasTaken}
+use Rattle.ts_checker.proofs.InputEnds.{behind_failed, none_failed}
 use Rattle.ts_checker.proofs.input.Input.failed.Goals as goal
 
-pub returns-in-Some : goal.returns-in-Some
-returns-in-Some c = opened_failed c.args.self.now _ c.failed.result c.in-Some.is c.failed.ensures
+pub returns-in-Behind : goal.returns-in-Behind
+returns-in-Behind c = λ bytes h.
+    behind_failed c.in-Behind.opened c.failed.result c.failed.ensures bytes (subst (HasTaken bytes) c.in-Behind.is h)
 
-pub returns-in-None : goal.returns-in-None
-returns-in-None c = λ bytes h. none_failed bytes c.args.self.now c.in-None.is h
+pub returns-in-InModel : goal.returns-in-InModel
+returns-in-InModel c = λ bytes h. none_failed bytes c.in-InModel.field-0 (subst (HasTaken bytes) c.in-InModel.is h)

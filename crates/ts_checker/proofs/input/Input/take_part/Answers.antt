@@ -1,10 +1,17 @@
-use Rattle.std.proofs.Common.{Some, refl}
 use Rattle.std.proofs.lemmas.Result.{on_ok_weaker}
-use Rattle.ts_checker.proofs.InputLaws.{part_taken}
+use Rattle.ts_checker.proofs.InputLaws.{behind_goes_on, model_ends, model_goes_on}
 use Rattle.ts_checker.proofs.input.Input.take_part.Goals as goal
 
-pub returns-in-Some-clause-taken : goal.returns-in-Some-clause-taken
-returns-in-Some-clause-taken c =
-    on_ok_weaker c.take.result
-    (part_taken c.args.self.now (record c.args.self.now { opened = Some c.take.new.self }) _ c.take.new.self c.args.part.now c.in-Some.is refl)
-    c.take.ensures.taken
+pub returns-in-Behind : goal.returns-in-Behind
+returns-in-Behind c =
+    on_ok_weaker c.take.result (behind_goes_on c.args.self.now c.in-Behind.opened c.take.new.self c.args.part.now c.in-Behind.is) c.take.ensures.taken
+
+pub returns-in_default : goal.returns-in_default
+returns-in_default c =
+    model_goes_on c.args.self.now c.in-InModel.text c.take-in-InModel.new.self c.in_ok-ended-in-InModel.ended c.args.part.now c.in-InModel.is c.in_default.is
+    c.in_ok-ended-in-InModel.ensures
+
+pub returns-in-Some : goal.returns-in-Some
+returns-in-Some c =
+    model_ends c.args.self.now c.in-InModel.text c.take-in-InModel.new.self c.in_ok-ended-in-InModel.ended c.in-Some.opened c.args.part.now c.in-InModel.is
+    c.in-Some.is c.in_ok-ended-in-InModel.ensures

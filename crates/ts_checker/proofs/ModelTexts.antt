@@ -1,0 +1,187 @@
+-- The text of a model that is fed: what is known of it after each part of a line, and at its end.
+use Rattle.std.proofs.Common.{◌≡◌, ℕ, ◌<◌, Bool, true, false, cond, Some, None, Err, List, [], ◌∷◌, ◌++◌, length, refl, sym, ap, ◌∙◌, subst, arith, append_assoc, append-nil}
+use Rattle.std.specs.Prelude.{Result, unwrap_or}
+use Rattle.ts_base.specs.Words.{without_lf}
+use Rattle.ts_base.proofs.WordLaws.{lf_is}
+use Rattle.ts_token.specs.declared.short.ShortLine.{ShortLine}
+use Rattle.ts_token.specs.Gist.{AreEnded, IsLine, StandsFor}
+use Rattle.ts_token.specs.Halves.{Halves, after_front, halves_of, is_separator}
+use Rattle.ts_token.specs.Short.{IsShort, TakesIn}
+use Rattle.ts_token.proofs.GistLaws.{ended_append, ended_lf, ended_none, finished_line, unfinished_line}
+use Rattle.ts_model.specs.declared.error.ModelKind.{ModelKind}
+use Rattle.ts_model.specs.declared.error.ModelStop.{ModelStop}
+use Rattle.ts_model.specs.declared.error.ModelStop.TheVariants.{Refused as Stopped}
+use Rattle.ts_model.specs.declared.model.Need.TheVariants.{List as Listed}
+use Rattle.ts_model.specs.LineByLine.{HasRead, ReadsLine, SoFar}
+use Rattle.ts_model.specs.ModelReading.{model_reading}
+use Rattle.ts_model.specs.Views.{Reads}
+use Rattle.ts_checker.specs.declared.model_text.ModelText.{ModelText}
+use Rattle.ts_checker.specs.declared.opened.Opened.{Opened}
+use Rattle.ts_checker.specs.declared.opened.Opened.TheVariants.{Refused, Judging}
+use Rattle.ts_checker.specs.Feeding.{AtLine, EndsModel, HasLines, IsBehind, IsFinished, IsInModel, IsOpened, IsPart, IsUnfinished, ReadsLast, ReadsOn}
+use Rattle.ts_checker.specs.Verified.{model_part, rest_part}
+use Rattle.ts_checker.proofs.Pieces.{finished_halves, halves_by, joins, part_ends, part_open, unfinished_halves}
+
+-- before the first byte
+pub none_taken : (t : ModelText) → t.reader ≡ None → IsShort [] t.line → IsInModel [] t
+none_taken t none short = record {
+  text = [];
+  line = [];
+  parts = refl;
+  lines = λ more. refl;
+  ended = ended_none;
+  read = subst (HasLines []) (sym none) refl;
+  is = refl;
+  short = short;
+}
+
+-- more bytes of a line
+
+module _ (bytes part : List ℕ) (old new : ModelText) (same : new.reader ≡ old.reader) (more : TakesIn old.line part new.line)
+    (h : IsInModel bytes old) where
+  longer : (P : List ℕ → Type 0) → P (h.line ++ part) → AtLine P (bytes ++ part) new
+  longer P is = record {
+    text = h.text;
+    line = h.line ++ part;
+    parts = ap (λ (x : List ℕ). x ++ part) h.parts ∙ append_assoc h.text h.line part;
+    lines = h.lines;
+    ended = h.ended;
+    read = subst (HasLines h.text) (sym same) h.read;
+    is = is;
+    short = more h.line h.short;
+  }
+
+  pub goes_on : without_lf part ≡ None → IsPart part → IsInModel (bytes ++ part) new
+  goes_on none whole = longer IsUnfinished (joins h.line part h.is (part_open part none whole))
+
+  pub has_ended : (bare : List ℕ) → without_lf part ≡ Some bare → IsPart part → AtLine IsFinished (bytes ++ part) new
+  has_ended bare some whole = longer IsFinished (part_ends h.line part bare h.is some whole)
+
+-- the line is read
+
+short_read : (line given : List ℕ) (s : ShortLine) (old new : Result SoFar ModelStop) (text : List ℕ) → ((l : List ℕ) → IsShort l s → StandsFor given l) →
+    ReadsLine old given new → AreEnded text → IsLine line → IsShort line s → HasRead Listed text old → HasRead Listed (text ++ line) new
+short_read line given s old new text stands reads ended is short h = reads Listed text line ended is (stands line short) h
+
+pub next_read : (old new : ModelText) (r q : Result SoFar ModelStop) (given : List ℕ) → old.reader ≡ Some r → new.reader ≡ Some q →
+    ((l : List ℕ) → IsShort l old.line → StandsFor given l) → ReadsLine r given q → ReadsOn old new
+next_read old new r q given before after stands reads text line ended is short h =
+    subst (HasLines (text ++ line)) (sym after) (short_read line given old.line r q text stands reads ended is short (subst (HasLines text) before h))
+
+pub first_read : (old new : ModelText) (r q : Result SoFar ModelStop) (given : List ℕ) → old.reader ≡ None → new.reader ≡ Some q → HasRead Listed [] r →
+    ((l : List ℕ) → IsShort l old.line → StandsFor given l) → ReadsLine r given q → ReadsOn old new
+first_read old new r q given before after fresh stands reads text line ended is short h =
+    let none : text ≡ [] = subst (HasLines text) before h in
+    subst (HasLines (text ++ line)) (sym after)
+    (short_read line given old.line r q text stands reads ended is short (subst (λ (x : List ℕ). HasRead Listed x r) (sym none) fresh))
+
+-- a line that has its LF
+
+one_line : (line : List ℕ) → IsFinished line → IsLine line
+one_line line f = subst IsLine (sym (lf_is line f.0 f.1)) (finished_line f.0 f.2)
+
+ended_line : (line : List ℕ) → IsFinished line → AreEnded line
+ended_line line f = subst AreEnded (sym (lf_is line f.0 f.1)) (ended_lf f.0)
+
+module _ (bytes : List ℕ) (old : ModelText) (h : AtLine IsFinished bytes old) where
+  cut : (more : List ℕ) (t : Bool) → t ≡ is_separator h.line → halves_of ((h.text ++ h.line) ++ more) ≡ after_front h.text (halves_by t h.line more)
+  cut more t mark =
+      ap halves_of (append_assoc h.text h.line more) ∙ h.lines (h.line ++ more)
+      ∙ ap (after_front h.text) (finished_halves h.line more h.is ∙ ap (λ v. halves_by v h.line more) (sym mark))
+
+  pub one_more : (mid new : ModelText) (t : Bool) → ((l : List ℕ) → IsShort l old.line → t ≡ is_separator l) → t ≡ false → ReadsOn old mid →
+      new.reader ≡ mid.reader → IsShort [] new.line → IsInModel bytes new
+  one_more mid new t mark other reads same short = record {
+    text = h.text ++ h.line;
+    line = [];
+    parts = h.parts ∙ sym (append-nil (h.text ++ h.line));
+    lines = λ more.
+        cut more false (sym other ∙ mark h.line h.short)
+        ∙ ap (λ (x : List ℕ). record { model = x; rest = (halves_of more).rest }) (sym (append_assoc h.text h.line (halves_of more).model));
+    ended = ended_append h.text h.line h.ended (ended_line h.line h.is);
+    read = subst (HasLines (h.text ++ h.line)) (sym same) (reads h.text h.line h.ended (one_line h.line h.is) h.short h.read);
+    is = refl;
+    short = short;
+  }
+
+  module _ (t : Bool) (mark : (l : List ℕ) → IsShort l old.line → t ≡ is_separator l) (is : t ≡ true) where
+    ends : EndsModel h.text (h.text ++ h.line)
+    ends more = cut more true (sym is ∙ mark h.line h.short) ∙ ap (λ (x : List ℕ). record { model = x; rest = Some more }) (append-nil h.text)
+
+    pub ended_by : (o : Opened) → ((text : List ℕ) → HasLines text old.reader → IsOpened text o) → IsBehind bytes o
+    ended_by (Refused n kind) gives = record {
+      text = h.text;
+      front = h.text ++ h.line;
+      rest = [];
+      parts = h.parts ∙ sym (append-nil (h.text ++ h.line));
+      ends = ends;
+      reading = gives h.text h.read;
+    }
+    ended_by (Judging j) gives = let g = gives h.text h.read in record {
+      text = h.text;
+      front = h.text ++ h.line;
+      rest = [];
+      parts = h.parts ∙ sym (append-nil (h.text ++ h.line));
+      ends = ends;
+      reading = g.0;
+      read = g.1;
+    }
+
+-- the last line, without an LF
+
+module _ (bytes : List ℕ) (t : ModelText) (h : IsInModel bytes t) where
+  all : halves_of bytes ≡ after_front h.text (halves_of h.line)
+  all = ap halves_of h.parts ∙ h.lines h.line
+
+  none_behind : (line : List ℕ) → IsUnfinished line → unwrap_or (halves_of line).rest [] ≡ []
+  none_behind [] free = refl
+  none_behind (b ∷ bs) free = ap (λ (x : Halves). unwrap_or x.rest []) (unfinished_halves (b ∷ bs) free (omega arith)) ∙ go (is_separator (b ∷ bs))
+    where
+      go : (v : Bool) → unwrap_or (cond {A = Halves} v (record { model = []; rest = Some [] }) (record { model = b ∷ bs; rest = None })).rest [] ≡ []
+      go true = refl
+      go false = refl
+
+  pub nothing_behind : rest_part bytes ≡ []
+  nothing_behind = ap (λ (x : Halves). unwrap_or x.rest []) all ∙ none_behind h.line h.is
+
+  model_is : model_part bytes ≡ h.text ++ (halves_of h.line).model
+  model_is = ap (λ (x : Halves). x.model) all
+
+  last_none : h.line ≡ [] → HasLines (model_part bytes) t.reader
+  last_none none =
+      subst (λ (x : List ℕ). HasLines x t.reader)
+      (sym (model_is ∙ ap (λ (x : List ℕ). h.text ++ (halves_of x).model) none ∙ append-nil h.text)) h.read
+
+  by_mark : (v : Bool) → is_separator h.line ≡ v → 0 < length h.line →
+      model_part bytes ≡ h.text ++ (cond {A = Halves} v (record { model = []; rest = Some [] }) (record { model = h.line; rest = None })).model
+  by_mark v mark some =
+      model_is ∙ ap (λ (x : Halves). h.text ++ x.model) (unfinished_halves h.line h.is some)
+      ∙ ap (λ t. h.text ++ (cond {A = Halves} t (record { model = []; rest = Some [] }) (record { model = h.line; rest = None })).model) mark
+
+  last_mark : 0 < length h.line → is_separator h.line ≡ true → HasLines (model_part bytes) t.reader
+  last_mark some mark = subst (λ (x : List ℕ). HasLines x t.reader) (sym (by_mark true mark some ∙ append-nil h.text)) h.read
+
+  last_line : (new : ModelText) → 0 < length h.line → is_separator h.line ≡ false → ReadsOn t new → HasLines (model_part bytes) new.reader
+  last_line new some other reads =
+      subst (λ (x : List ℕ). HasLines x new.reader) (sym (by_mark false other some))
+      (reads h.text h.line h.ended (unfinished_line h.line h.is some) h.short h.read)
+
+-- the same by the tests of the code
+
+pub no_last : (t : ModelText) → ((line : List ℕ) → IsShort line t.line → line ≡ []) → ReadsLast t t
+no_last t none bytes h = last_none bytes t h (none h.line h.short)
+
+pub mark_last : (t : ModelText) → ((line : List ℕ) → IsShort line t.line → 0 < length line) → ((line : List ℕ) → IsShort line t.line → true ≡ is_separator line) →
+    ReadsLast t t
+mark_last t some mark bytes h = last_mark bytes t h (some h.line h.short) (sym (mark h.line h.short))
+
+pub read_last : (old new : ModelText) → ((line : List ℕ) → IsShort line old.line → 0 < length line) →
+    ((line : List ℕ) → IsShort line old.line → false ≡ is_separator line) → ReadsOn old new → ReadsLast old new
+read_last old new some other reads bytes h = last_line bytes old h new (some h.line h.short) (sym (other h.line h.short)) reads
+
+-- a refusal of the reader is that of the model
+pub refused_reads : (text : List ℕ) (stop : ModelStop) (line number : ℕ) (kind what : ModelKind) → stop ≡ Stopped line kind → number ≡ line → what ≡ kind →
+    Reads (Err stop) (model_reading Listed text) → model_reading Listed text ≡ Err (number, what)
+refused_reads text stop line number kind what is same_line same_kind reads =
+    subst (λ (s : ModelStop). Reads (Err s) (model_reading Listed text)) is reads ∙ ap (λ (n : ℕ). Err (n, kind)) (sym same_line)
+    ∙ ap (λ (k : ModelKind). Err (number, k)) (sym same_kind)

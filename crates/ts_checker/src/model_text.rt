@@ -1,0 +1,98 @@
+//! The text of a model as far as it came.
+
+ghost use Rattle.std.specs.Prelude.{ℕ, List, [], IfOk, OnOk};
+ghost use Rattle.ts_checker.specs.Feeding.{AtLine, IsAt, IsFinished, IsInModel, IsOpened, IsPart, ReadsLast, ReadsOn};
+ghost use Rattle.ts_checker.specs.Feeding.{TakesInModel};
+ghost use Rattle.ts_checker.specs.Verified.{model_part};
+
+use crate::opened::Opened;
+use std::alloc::Global;
+use ts_base::{Memory, without_lf};
+use ts_model::{ModelReader, Need};
+use ts_token::ShortLine;
+
+/// What the whole lines of a model state, where one came, and a short form of the line that has no LF yet.
+#[derive(Drop)]
+pub(crate) struct ModelText {
+    pub alloc: Global,
+    pub reader: Option<ModelReader>,
+    pub line: ShortLine,
+}
+
+impl ModelText {
+    /// Before the first byte.
+    pub(crate) fn new(alloc: Global) -> ModelText
+        ensures { IsInModel [] result }
+    {
+        ModelText {
+            alloc,
+            reader: None,
+            line: ShortLine::new(alloc),
+        }
+    }
+
+    /// Takes bytes of one line, whose last may be its LF. Behind the line `%%` stands what the model gives.
+    pub(crate) fn take(&mut self, part: &[u8]) -> Result<Option<Opened>, Memory>
+        requires part { IsPart part.now }
+        requires taken { (bytes : List ℕ) × IsInModel bytes self.old }
+        ensures { IfOk result (λ opened. TakesInModel self.old part.now opened self.new) }
+    {
+        self.line.push(part)?;
+        match without_lf(part) {
+            None => Ok(None),
+            Some(_) => self.end_line(),
+        }
+    }
+
+    /// The end of the text, behind bytes that may be a last line without an LF.
+    pub(crate) fn end(self) -> Result<Opened, Memory>
+        requires { (bytes : List ℕ) × IsInModel bytes self }
+        ensures { IfOk result (λ opened. (bytes : List ℕ) → IsInModel bytes self →
+            IsOpened (model_part bytes) opened) }
+    {
+        let mut text = self;
+        text.end_last_line()?;
+        Opened::of(text.alloc, text.reader)
+    }
+}
+
+impl ModelText {
+    // The line has its LF: it is one more of the model, or the line `%%`.
+    fn end_line(&mut self) -> Result<Option<Opened>, Memory>
+        requires { (bytes : List ℕ) × AtLine IsFinished bytes self.old }
+        ensures { IfOk result (λ opened. (bytes : List ℕ) → AtLine IsFinished bytes self.old →
+            IsAt bytes opened self.new) }
+    {
+        if self.line.is_separator() {
+            return Ok(Some(Opened::of(self.alloc, self.reader.take())?));
+        }
+        self.read_line()?;
+        self.line.clear();
+        Ok(None)
+    }
+
+    // A last line without an LF is one of the model, unless it is the line `%%`.
+    fn end_last_line(&mut self) -> Result<(), Memory>
+        ensures { OnOk result (ReadsLast self.old self.new) }
+    {
+        if self.line.is_empty() || self.line.is_separator() {
+            return Ok(());
+        }
+        self.read_line()
+    }
+
+    // Gives the line to the reader, which is made for the first one.
+    fn read_line(&mut self) -> Result<(), Memory>
+        ensures { OnOk result (ReadsOn self.old self.new) }
+    {
+        match &mut self.reader {
+            Some(reader) => reader.line(self.line.bytes()),
+            None => {
+                let mut reader = ModelReader::new(self.alloc, Need::List)?;
+                reader.line(self.line.bytes())?;
+                self.reader = Some(reader);
+                Ok(())
+            }
+        }
+    }
+}
