@@ -203,12 +203,12 @@ refusal_stands j part n is whole = λ bytes h. by bytes h (without_lf part) refl
     by bytes h (Some bare) e =
         ends bytes part j j h (part_ends h.line part bare h.free e whole) (more_unjudged h.texts j n (h.line ++ part) is h.judged) (λ k. never k)
 
+some_told : (o : Option ℕ) → is_some o ≡ true → (n : ℕ) × (o ≡ Some n)
+some_told None e = cc
+some_told (Some n) e = (n, refl)
+
 pub some_stands : (j : Judging) (part : List ℕ) → is_some j.refused ≡ true → IsPart part → Reads j part j
-some_stands j part some whole = go j.refused refl some
-  where
-    go : (o : Option ℕ) → j.refused ≡ o → is_some o ≡ true → Reads j part j
-    go None e k = cc
-    go (Some n) e k = refusal_stands j part n e whole
+some_stands j part some whole = let told = some_told j.refused some in refusal_stands j part told.0 told.1 whole
 
 -- the line goes on
 pub line_open : (old new : Judging) (part : List ℕ) → new.checker ≡ old.checker → new.refused ≡ old.refused → without_lf part ≡ None → IsPart part →

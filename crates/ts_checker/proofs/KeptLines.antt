@@ -191,6 +191,6 @@ stopped_for texts c stop line h e =
       model = refl;
       reading = sym kept.1;
       taken = subst (λ z. TakesBy c.model (spans_in c.model) c.stand c.failed c.reading.next z c.stand c.failed) (sym kept.0)
-          (h.emptied (inl (λ none. let wrong : ◌≡◌ {A = Option CertStop} None (Some stop) = sym none ∙ e in cc)));
+          (h.emptied (inl (λ none. let wrong : ◌≡◌ {A = Option CertStop} None (Some stop) = sym none ∙ e in cc)), refl);
       calm = refl;
     }

@@ -1,19 +1,19 @@
 -- What is known of the lines so far, after one more; and of all lines, where it is the verdict.
-use Rattle.std.proofs.Common.{◌≡◌, ◌≢◌, ℕ, ◌^◌, ◌+◌, ◌<◌, inl, inr, ⊎_elim, true, List, [], ◌∷◌, ◌++◌, length, map, Option, Some, None, Ok, Err, refl, sym, ◌∙◌, ap, subst, arith}
+use Rattle.std.proofs.Common.{◌≡◌, ◌≢◌, ℕ, ◌^◌, ◌+◌, ◌<◌, inl, inr, ⊎_elim, true, List, [], ◌∷◌, ◌++◌, length, map, Option, Some, None, Ok, Err, refl, sym, ◌∙◌, ap, subst, arith, append_assoc}
 use Rattle.std.specs.Prelude.{MatchOption, Result}
 use Rattle.std.specs.List.{concat}
-use Rattle.std.proofs.lemmas.List.{length-append, length-map, length_push, map-append}
+use Rattle.std.proofs.lemmas.List.{length-map, length_push, map-append}
 use Rattle.std.proofs.lemmas.Option.{same_Some}
 use Rattle.ts_certificate.specs.declared.state.State.{State}
 use Rattle.ts_certificate.specs.declared.state.State.TheVariants.{Start, AfterAim, InSeries, InTree, AfterEnd}
 use Rattle.ts_certificate.specs.declared.stop.CertStop.{CertStop}
 use Rattle.ts_certificate.specs.declared.stop.LineStop.{LineStop}
-use Rattle.ts_certificate.specs.Certificate.{Cert, cert_lines, end_line}
+use Rattle.ts_certificate.specs.Certificate.{Cert, cert_lines}
 use Rattle.ts_certificate.specs.FirstStop.{MayFollow, AreLines}
-use Rattle.ts_certificate.specs.Grammar.{CertLine, SaysSeries, SaysTree, line_text, may_follow, next_state, state_after}
+use Rattle.ts_certificate.specs.Grammar.{CertLine, line_text, may_follow, next_state, state_after}
 use Rattle.ts_certificate.specs.LineOf.{line_of}
 use Rattle.ts_certificate.specs.Reading.{Reading, fresh, reading_by, reading_unless, reading_with, reading_after, answer_at, answer_unless, answer_to, end_stop_at, end_stop_unless, end_stop}
-use Rattle.ts_certificate.proofs.CallerLemmas.{line_of_only, at_line, lines_again, certificate_runs, runs_certificate, runs_from, runs_give, one_value, stop_kept}
+use Rattle.ts_certificate.proofs.CallerLemmas.{line_of_only, at_line, lines_again, certificate_runs, runs_certificate, runs_from, runs_give, one_value, lines_count, stop_kept}
 use Rattle.ts_model.specs.Promise.{IsWhole}
 use Rattle.ts_model.specs.Stated.{Stated}
 use Rattle.ts_domain.specs.BoxSeries.{IsBox}
@@ -23,7 +23,7 @@ use Rattle.ts_filter.specs.RefutedWorseDrop.{Spans}
 use Rattle.ts_filter.proofs.LineLaws.{lines_go_on, whole_is_judged, failing_is_rejected, one_first_failing}
 use Rattle.ts_checker.specs.declared.verdict.Verdict.{Verdict}
 use Rattle.ts_checker.specs.declared.verdict.Verdict.TheVariants.{Accepted, Rejected, Refused}
-use Rattle.ts_checker.specs.Checking.{Checking, TakesFirst, TakesOn, TakesBy, Takes, IsGoing, IsOver, HasChecked}
+use Rattle.ts_checker.specs.Checking.{Checking, TakesFirst, TakesOn, TakesBy, Takes, IsGoing, IsStopped, IsOver, HasChecked}
 use Rattle.ts_checker.specs.Laws.{NoneChecked, OneVerdict}
 use Rattle.ts_spans.specs.Machines.{spans_in}
 use Rattle.ts_checker.specs.Verdicts.{AreOf, IsRefused, IsTrueOf, IsVerdict, stop_line, verdict_by}
@@ -78,9 +78,27 @@ empty_on m s old new None after n l empty (inl k) some = absurd (some k.2)
 empty_on m s old new None after n l empty (inr k) some = k.1
 empty_on m s old new (Some b) after n l empty t some = t.0 ∙ empty (λ e. cc)
 
+-- behind a line that was refused
+still_stopped : (texts : List (List ℕ)) (text : List ℕ) (old new : Checking) → new.model ≡ old.model → new.failed ≡ old.failed → IsStopped texts old →
+    IsStopped (texts ++ text ∷ []) new
+still_stopped texts text old new model failed s = record {
+  front = s.front;
+  line = s.line;
+  more = s.more ++ text ∷ [];
+  parts = ap (λ (ts : List (List ℕ)). ts ++ text ∷ []) s.parts ∙ append_assoc s.front (s.line ∷ s.more) (text ∷ []);
+  before = s.before;
+  reading = s.reading;
+  unstopped = s.unstopped;
+  going = s.going;
+  refused = s.refused;
+  model = model ∙ s.model;
+  failed = failed ∙ s.failed;
+}
+
 -- what is left to show of one more line, once the model and the reading are told
 record IsRest (texts : List (List ℕ)) (c : Checking) : Type 0 where
   going : c.reading.stop ≡ None → IsGoing texts c
+  stopped : c.reading.stop ≢ None → IsStopped texts c
   emptied : IsOver c → c.stand.waiting ≡ []
 
 module _ (texts : List (List ℕ)) (text : List ℕ) (old new : Checking) (h : HasChecked texts old) (t : Takes old text new) where
@@ -105,6 +123,7 @@ module _ (texts : List (List ℕ)) (text : List ℕ) (old new : Checking) (h : H
           are = lines_one_more texts text l old.reading new.reading g.are read.0 read.1 reading;
           found = subst (λ m. Found m (spans_in m) (g.are.lines ++ l ∷ []) new.stand new.failed) (sym t.model) found;
         };
+        stopped = λ some. absurd (some (ap (λ (r : Reading). r.stop) reading));
         emptied = λ o. over o (ap (λ (r : Reading). r.stop) reading) taken;
       }
     where
@@ -114,25 +133,53 @@ module _ (texts : List (List ℕ)) (text : List ℕ) (old new : Checking) (h : H
       over (inr some) stop taken =
           empty_on old.model (spans_in old.model) old.stand new.stand old.failed new.failed old.reading.next l (λ k. h.emptied (inr k)) taken some
 
-  -- the reader stops there, or has stopped
-  stopped : (stop : CertStop) → answer_to old.reading text ≡ Err stop → new.reading.stop ≡ Some stop → IsRest longer new
-  stopped stop answer held = record {
-    going = λ e. absurd (let f : ◌≡◌ {A = Option CertStop} None (Some stop) = sym e ∙ held in cc);
-    emptied = λ o. subst (λ a. TakesBy old.model (spans_in old.model) old.stand old.failed old.reading.next a new.stand new.failed) answer t.taken;
-  }
+  -- the reader stops there
+  stops : (stop : CertStop) → answer_to old.reading text ≡ Err stop → old.reading.stop ≡ None → new.reading.stop ≡ Some stop → IsRest longer new
+  stops stop answer none held =
+      let taken : TakesBy old.model (spans_in old.model) old.stand old.failed old.reading.next (Err stop) new.stand new.failed =
+      subst (λ a. TakesBy old.model (spans_in old.model) old.stand old.failed old.reading.next a new.stand new.failed) answer t.taken in
+      record {
+        going = λ e. absurd (let f : ◌≡◌ {A = Option CertStop} None (Some stop) = sym e ∙ held in cc);
+        stopped = λ some. record {
+          front = texts;
+          line = text;
+          more = [];
+          parts = refl;
+          before = old;
+          reading = h.reading;
+          unstopped = none;
+          going = h.going none;
+          refused = λ e. some (ap (λ (r : Reading). r.stop) t.reading ∙ e);
+          model = t.model;
+          failed = taken.1;
+        };
+        emptied = λ o. taken.0;
+      }
+
+  -- it has stopped before
+  stays : (stop : CertStop) → answer_to old.reading text ≡ Err stop → old.reading.stop ≡ Some stop → new.reading.stop ≡ Some stop → IsRest longer new
+  stays stop answer was held =
+      let taken : TakesBy old.model (spans_in old.model) old.stand old.failed old.reading.next (Err stop) new.stand new.failed =
+      subst (λ a. TakesBy old.model (spans_in old.model) old.stand old.failed old.reading.next a new.stand new.failed) answer t.taken in
+      let was_stopped : IsStopped texts old = h.stopped (λ e. let f : ◌≡◌ {A = Option CertStop} None (Some stop) = sym e ∙ was in cc) in
+      record {
+        going = λ e. absurd (let f : ◌≡◌ {A = Option CertStop} None (Some stop) = sym e ∙ held in cc);
+        stopped = λ some. still_stopped texts text old new t.model taken.1 was_stopped;
+        emptied = λ o. taken.0;
+      }
 
   by_line : (g : Result CertLine LineStop) → old.reading.stop ≡ None → line_of old.reading.state text ≡ g → IsRest longer new
   by_line (Ok l) none line = read_on l none line
   by_line (Err e) none line =
       let reading = t.reading ∙ ap (λ o. reading_unless old.reading o text) none ∙ ap (reading_by old.reading) line in
       let answer = ap (λ o. answer_unless old.reading o text) none ∙ ap (answer_at old.reading.next) line in
-      stopped _ answer (ap (λ (r : Reading). r.stop) reading)
+      stops _ answer none (ap (λ (r : Reading). r.stop) reading)
 
   by_stop : (o : Option CertStop) → old.reading.stop ≡ o → IsRest longer new
   by_stop None e = by_line (line_of old.reading.state text) e refl
   by_stop (Some stop) e =
       let kept = stop_kept old.reading stop text e in
-      stopped stop kept.0 (ap (λ (r : Reading). r.stop) (t.reading ∙ kept.1) ∙ e)
+      stays stop kept.0 e (ap (λ (r : Reading). r.stop) (t.reading ∙ kept.1) ∙ e)
 
   pub one_line_more : HasChecked longer new
   one_line_more =
@@ -141,6 +188,7 @@ module _ (texts : List (List ℕ)) (text : List ℕ) (old new : Checking) (h : H
         calm = t.calm ∙ h.calm;
         reading = t.reading ∙ ap (λ q. reading_with q text) h.reading ∙ sym (after_one_more fresh texts text);
         going = r.going;
+        stopped = r.stopped;
         emptied = r.emptied;
       }
 
@@ -152,6 +200,7 @@ none_checked m = record {
     are = record { lines = []; are = refl; follow = tt; state = refl; next = omega arith };
     found = refl;
   };
+  stopped = λ some. absurd (some refl);
   emptied = λ o. ⊎_elim (λ n. absurd (n refl)) (λ n. absurd (n refl)) o;
 }
 
@@ -211,17 +260,9 @@ accepted_true m texts v whole box is h =
 
 -- there is one verdict
 
-count_lines : (c : Cert) → length (cert_lines c) ≡ length c.series + length c.tree + 3
-count_lines c =
-    let e = length-append (map SaysSeries c.series) (map SaysTree c.tree ++ end_line c.tree ∷ []) in
-    let f = length-append (map SaysTree c.tree) (end_line c.tree ∷ []) in
-    let g : length (map SaysSeries c.series) ≡ length c.series = simp length-map in
-    let h : length (map SaysTree c.tree) ≡ length c.tree = simp length-map in
-    omega (arith, e, f, g, h)
-
 module _ (texts : List (List ℕ)) (short : length texts < 2 ^ 62) where
   count_of : (c : Cert) → AreOf texts c → length texts ≡ length c.series + length c.tree + 3
-  count_of c a = ap length a.are ∙ length-map (cert_lines c) line_text ∙ count_lines c
+  count_of c a = ap length a.are ∙ length-map (cert_lines c) line_text ∙ lines_count c
 
   few_of : (c : Cert) → AreOf texts c → length c.series + length c.tree < 2 ^ 62
   few_of c a = let n = count_of c a in omega (arith, n, short)
@@ -234,7 +275,7 @@ module _ (texts : List (List ℕ)) (short : length texts < 2 ^ 62) where
   ended_of c a =
       let runs = runs_give Start (cert_lines c) AfterEnd (certificate_runs c a.certificate) in
       let n = count_of c a in
-      let k = count_lines c in
+      let k = lines_count c in
       let less : 0 + length (cert_lines c) < 2 ^ 63 = omega (arith, n, k, short) in
       let read = lines_again Start 1 (cert_lines c) less runs.0 in
       ap (λ ts. end_stop (reading_after fresh ts)) a.are ∙ ap end_stop read.0

@@ -34,10 +34,10 @@ abbrev pub TakesOn : Stated → Spans → Stand → Option ℕ → ℕ → CertL
 TakesOn m s old None n l new failed = TakesFirst m s old n l new failed
 TakesOn m s old (Some k) n l new failed = (new.waiting ≡ old.waiting) × (failed ≡ Some k)
 
--- what the reader answers to the line: what it says, or a stop, after which nothing waits
+-- what the reader answers to the line: what it says, or a stop, after which nothing waits, and no more are judged
 abbrev pub TakesBy : Stated → Spans → Stand → Option ℕ → ℕ → Result CertLine CertStop → Stand → Option ℕ → Type 0
 TakesBy m s old before n (Ok l) new failed = TakesOn m s old before n l new failed
-TakesBy m s old before n (Err stop) new failed = new.waiting ≡ []
+TakesBy m s old before n (Err stop) new failed = (new.waiting ≡ []) × (failed ≡ before)
 
 -- one line more
 pub record Takes (old : Checking) (text : List ℕ) (new : Checking) : Type 0 where
@@ -52,6 +52,20 @@ pub record IsGoing (texts : List (List ℕ)) (c : Checking) : Type 0 where
   pub are : AreLines Start 1 texts c.reading
   pub found : Found c.model (spans_in c.model) are.lines c.stand c.failed
 
+-- a line was refused; those before it may follow one another, and the first of them that breaks its rule is still known
+pub record IsStopped (texts : List (List ℕ)) (c : Checking) : Type 0 where
+  pub front : List (List ℕ)
+  pub line : List ℕ
+  pub more : List (List ℕ)
+  pub parts : texts ≡ front ++ line ∷ more
+  pub before : Checking
+  pub reading : before.reading ≡ reading_after fresh front
+  pub unstopped : before.reading.stop ≡ None
+  pub going : IsGoing front before
+  pub refused : (reading_with before.reading line).stop ≢ None
+  pub model : c.model ≡ before.model
+  pub failed : c.failed ≡ before.failed
+
 -- a line was refused, or has broken its rule
 abbrev pub IsOver : Checking → Type 0
 IsOver c = (c.reading.stop ≢ None) ⊎ (c.failed ≢ None)
@@ -61,6 +75,7 @@ pub record HasChecked (texts : List (List ℕ)) (c : Checking) : Type 0 where
   pub calm : c.wanting ≡ false
   pub reading : c.reading ≡ reading_after fresh texts
   pub going : c.reading.stop ≡ None → IsGoing texts c
+  pub stopped : c.reading.stop ≢ None → IsStopped texts c
   pub emptied : IsOver c → c.stand.waiting ≡ []
 
 -- whatever lines came before, this one has come too

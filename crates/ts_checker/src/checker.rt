@@ -114,7 +114,8 @@ impl Checker {
         self.standing.frontier.waiting()
     }
 
-    /// The first line so far that broke its rule, where none was refused before it.
+    /// The first line so far that broke its rule, where none was refused before it; a line that is refused later leaves
+    /// it as it was.
     pub fn broken_line(&self) -> Option<u32>
         ensures { result ≡ self.now.failed }
     {
