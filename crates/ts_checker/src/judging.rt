@@ -1,6 +1,6 @@
 //! A checker at work on the bytes of a certificate, and the first line that was refused.
 
-ghost use Rattle.std.specs.Prelude.{ℕ, ◌≡◌, ◌≤◌, List, [], IfOk, OnOk, None, false};
+ghost use Rattle.std.specs.Prelude.{ℕ, ◌≡◌, ◌≤◌, List, [], IfOk, OnOk, None, false, nat_lt};
 ghost use Rattle.ts_base.specs.Words.{strict_lines};
 ghost use Rattle.ts_model.specs.Promise.{IsWhole, KeepsLimits};
 ghost use Rattle.ts_model.specs.Views.{stated};
@@ -17,7 +17,7 @@ use ts_base::{Memory, without_lf};
 use ts_compile::compile_model;
 use ts_model::Model;
 
-/// The most lines that are counted.
+/// The most lines that are judged.
 const MOST_LINES: u32 = 4_000_000_000;
 
 /// A checker, what is kept of the line that has no LF yet, and the number of the line that was refused. Behind that
@@ -117,11 +117,18 @@ fn judge(checker: &mut Checker, refused: Option<u32>, text: &[u8]) -> Result<Opt
     ensures calm { OnOk result (checker.new.wanting ≡ false) }
 {
     let number = checker.next_line();
-    if number > MOST_LINES {
+    if is_past_limit(number) {
         return Err(Memory);
     }
     checker.take_line(text)?;
     Ok(refused_now(refused, number, checker.next_line()))
+}
+
+// A line of this number isn't judged.
+fn is_past_limit(number: u32) -> bool
+    ensures { result ≡ nat_lt 4000000000 number }
+{
+    number > MOST_LINES
 }
 
 // The line that was refused before; else line `number`, where the next one still has that number.
