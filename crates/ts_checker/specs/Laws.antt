@@ -20,18 +20,18 @@ use Rattle.ts_checker.specs.Verified.{IsFailed, IsVerifyEnd}
 abbrev pub AcceptedIsTrue : Type 0
 AcceptedIsTrue = (m : Stated) (c : Cert) → IsWhole m → IsBox m.cells → Accepts m (spans_in m) c → Holds m c
 
--- there is one verdict
+-- there is one verdict on fewer than 2^62 lines
 abbrev pub OneVerdict : Type 0
 OneVerdict =
     (m : Stated) (texts : List (List ℕ)) (v w : Verdict) → length texts < 2 ^ 62 → IsVerdict m texts v →
     IsVerdict m texts w → v ≡ w
 
--- an input has one end
+-- an input of fewer than 2^62 bytes has one end
 abbrev pub OneEnd : Type 0
 OneEnd =
     (bytes : List ℕ) (e f : VerifyEnd) → length bytes < 2 ^ 62 → IsVerifyEnd bytes e → IsVerifyEnd bytes f → e ≡ f
 
--- there is one first line that fails, or none does
+-- in an input of fewer than 2^62 bytes there is one first line that fails, or none does
 abbrev pub OneFailed : Type 0
 OneFailed =
     (bytes : List ℕ) (a b : Option ℕ) → length bytes < 2 ^ 62 → IsFailed bytes a → IsFailed bytes b → a ≡ b

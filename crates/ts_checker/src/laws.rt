@@ -7,17 +7,18 @@ pub fn accepted_is_true()
     ensures { AcceptedIsTrue }
 {}
 
-/// A certificate has one verdict.
+/// A certificate of fewer than 2^62 lines has one verdict.
 pub fn one_verdict()
     ensures { OneVerdict }
 {}
 
-/// Whoever tells the end of the same bytes tells the same: the definition leaves nothing open.
+/// Whoever tells the end of the same bytes, fewer than 2^62, tells the same: the definition leaves nothing open.
 pub fn one_end()
     ensures { OneEnd }
 {}
 
-/// Whoever tells the first failing line of the same bytes tells the same line, or that none has failed.
+/// Whoever tells the first failing line of the same bytes, fewer than 2^62, tells the same line, or that none has
+/// failed.
 pub fn one_failed()
     ensures { OneFailed }
 {}
