@@ -1,6 +1,6 @@
 //! The text of a model as far as it came.
 
-ghost use Rattle.std.specs.Prelude.{ℕ, List, [], IfOk, OnOk};
+ghost use Rattle.std.specs.Prelude.{ℕ, ◌≡◌, List, [], IfOk, None, OnOk};
 ghost use Rattle.ts_checker.specs.Feeding.{AtLine, IsAt, IsFinished, IsInModel, IsOpened, IsPart, ReadsLast, ReadsOn};
 ghost use Rattle.ts_checker.specs.Feeding.{TakesInModel};
 ghost use Rattle.ts_checker.specs.Verified.{model_part};
@@ -81,18 +81,25 @@ impl ModelText {
         self.read_line()
     }
 
-    // Gives the line to the reader, which is made for the first one.
+    // Gives the line to the reader.
     fn read_line(&mut self) -> Result<(), Memory>
         ensures { OnOk result (ReadsOn self.old self.new) }
     {
         match &mut self.reader {
             Some(reader) => reader.line(self.line.bytes()),
-            None => {
-                let mut reader = ModelReader::new(self.alloc, Need::List)?;
-                reader.line(self.line.bytes())?;
-                self.reader = Some(reader);
-                Ok(())
-            }
+            None => self.read_first_line(),
         }
+    }
+
+    // Makes the reader, and gives the line to it. A call clears the places of all its values, a reader's too, so this
+    // stands apart from `read_line`.
+    fn read_first_line(&mut self) -> Result<(), Memory>
+        requires { self.old.reader ≡ None }
+        ensures { OnOk result (ReadsOn self.old self.new) }
+    {
+        let mut reader = ModelReader::new(self.alloc, Need::List)?;
+        reader.line(self.line.bytes())?;
+        self.reader = Some(reader);
+        Ok(())
     }
 }
