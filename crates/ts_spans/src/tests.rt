@@ -14,6 +14,7 @@ mod occurrences;
 mod programs;
 mod seeds;
 mod terms;
+mod tokens;
 mod transducers;
 mod validated;
 mod validation;

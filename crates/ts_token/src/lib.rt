@@ -28,6 +28,3 @@ pub use parts::{Parts, cut_parts};
 pub use short::ShortLine;
 pub use tokens::{Line, Tokens, cut_tokens};
 pub use words::Word;
-
-#[cfg(test)]
-mod tests;

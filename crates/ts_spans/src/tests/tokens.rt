@@ -1,11 +1,11 @@
 //! Texts with their words and parts, and words with their numbers, worked out by hand.
 
-use crate::{
-    Content, Parts, ShortLine, Tokens, cut_parts, cut_tokens, ext_of, line_content, number,
-};
 use std::process::Abort;
 use std::test::Fail;
 use ts_base::Ext;
+use ts_token::{
+    Content, Parts, ShortLine, Tokens, cut_parts, cut_tokens, ext_of, line_content, number,
+};
 
 /// A line's number, a column and the word that stands there.
 type Place = (u32, u32, &'static str);
