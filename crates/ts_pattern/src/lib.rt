@@ -20,8 +20,6 @@ mod pattern;
 mod plan;
 mod table;
 mod term;
-#[cfg(test)]
-mod tests;
 
 pub use name::{
     Aggregator, Feature, PatternId, aggregator_of, feature_of, pattern_name, pattern_of,

@@ -11,6 +11,7 @@ mod first_values;
 mod glued;
 mod last_values;
 mod occurrences;
+mod patterns;
 mod programs;
 mod seeds;
 mod terms;

@@ -1,11 +1,11 @@
 //! Each public call once: names, terms, a pattern, and a plan.
 
-use crate::{
+use std::alloc::Global;
+use ts_base::{Letter, Memory};
+use ts_pattern::{
     Aggregator, Configuration, Feature, Live, PatternId, Plan, Tag, Term, aggregator_of,
     feature_of, pattern_by_id, pattern_name, pattern_of,
 };
-use std::alloc::Global;
-use ts_base::{Letter, Memory};
 use ts_regex::{Regex, member};
 
 #[test]
