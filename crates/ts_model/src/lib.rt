@@ -36,6 +36,3 @@ pub use model::{Model, Need, Op, Require, satisfies};
 pub use read::read_model;
 pub use reader::ModelReader;
 pub use series::read_series;
-
-#[cfg(test)]
-mod tests;

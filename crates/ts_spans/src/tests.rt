@@ -10,6 +10,7 @@ mod filters;
 mod first_values;
 mod glued;
 mod last_values;
+mod models;
 mod occurrences;
 mod patterns;
 mod programs;

@@ -1,8 +1,8 @@
 //! Comparisons of values with bounds.
 
-use crate::{Op, satisfies};
 use std::cmp::Ordering;
 use ts_base::Ext;
+use ts_model::{Op, satisfies};
 
 /// Values and bounds, each below those after it.
 static RISING: [Ext; 7] = [

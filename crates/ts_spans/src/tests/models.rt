@@ -5,17 +5,17 @@
 
 ghost use Rattle.std.specs.Prelude.{◌<◌, length};
 
-use crate::{Model, ModelReader, ModelStop, Need, read_model};
 use std::alloc::{AllocError, Global};
 use std::process::Abort;
 use std::test::Fail;
 use ts_base::{Memory, first_line};
+use ts_model::{Model, ModelReader, ModelStop, Need, read_model};
 use ts_token::{ShortLine, cut_tokens};
 
 mod comparisons;
 mod held;
-mod models;
 mod series;
+mod texts;
 
 /// What is told of a text.
 #[derive(Clone, Copy)]

@@ -1,8 +1,8 @@
 //! Model texts, and what is told of them.
 
 use super::expect_models;
-use crate::Need;
 use std::test::Fail;
+use ts_model::Need;
 
 /// No objective is needed, and no limit on all domains together.
 static VALUES: &str = "\

@@ -3,9 +3,9 @@
 ghost use Rattle.std.specs.Prelude.{◌<◌, length};
 
 use super::{Asked, expect_rows};
-use crate::read_series;
 use std::alloc::Global;
 use std::test::Fail;
+use ts_model::read_series;
 use ts_token::cut_tokens;
 
 /// For two cells.

@@ -3,9 +3,9 @@
 ghost use Rattle.std.specs.Prelude.{◌<◌, length};
 
 use super::{Asked, expect_rows, read_together};
-use crate::{Model, Need};
 use std::alloc::{AllocError, Global};
 use std::test::Fail;
+use ts_model::{Model, Need};
 
 /// The number of cells, the values of each behind a colon, the objective, the requirements and the terms.
 static HELD: &str = "\

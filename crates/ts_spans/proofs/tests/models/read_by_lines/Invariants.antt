@@ -1,5 +1,5 @@
 use Rattle.std.proofs.Common.{length}
-use Rattle.ts_model.proofs.tests.read_by_lines.Given as goal
+use Rattle.ts_spans.proofs.tests.models.read_by_lines.Given as goal
 
 abbrev pub decreases-loop-rest : goal.decreases-loop-rest
 decreases-loop-rest l = length l.rest
