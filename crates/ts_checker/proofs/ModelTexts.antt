@@ -171,8 +171,8 @@ module _ (bytes : List ℕ) (t : ModelText) (h : IsInModel bytes t) where
 pub no_last : (t : ModelText) → ((line : List ℕ) → IsShort line t.line → line ≡ []) → ReadsLast t t
 no_last t none bytes h = last_none bytes t h (none h.line h.short)
 
-pub mark_last : (t : ModelText) → ((line : List ℕ) → IsShort line t.line → 0 < length line) → ((line : List ℕ) → IsShort line t.line → true ≡ is_separator line) →
-    ReadsLast t t
+pub mark_last : (t : ModelText) → ((line : List ℕ) → IsShort line t.line → 0 < length line) →
+    ((line : List ℕ) → IsShort line t.line → true ≡ is_separator line) → ReadsLast t t
 mark_last t some mark bytes h = last_mark bytes t h (some h.line h.short) (sym (mark h.line h.short))
 
 pub read_last : (old new : ModelText) → ((line : List ℕ) → IsShort line old.line → 0 < length line) →

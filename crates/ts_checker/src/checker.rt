@@ -90,13 +90,14 @@ impl Checker {
     }
 
     /// Takes the next line, given with its LF, where fewer than 4,000,000,000 were fed so far. After `Memory` each
-    /// further line is answered `Memory`.
+    /// further line is answered `Memory`, and `broken_line` tells what it told before.
     pub fn feed_line(&mut self, line: &[u8]) -> Result<(), Memory>
         requires { self.old.reading.next ≤ 4000000000 }
         ensures checked { OnOk result (Checks self.old line.now self.new) }
         ensures reading { OnOk result (self.new.reading ≡ reading_with self.old.reading line.now) }
         ensures next { OnOk result (self.new.reading.next ≤ self.old.reading.next + 1) }
         ensures model { self.new.model ≡ self.old.model }
+        ensures failed { OnErr result (self.new.failed ≡ self.old.failed) }
         ensures wanted { OnErr result (IsTrue self.new.wanting) }
         ensures calm { OnOk result ((self.old.wanting ≡ false) × (self.new.wanting ≡ false)) }
     {
@@ -139,6 +140,7 @@ impl Checker {
         requires { self.old.reading.next ≤ 4000000000 }
         ensures takes { OnOk result (Takes self.old line.now self.new) }
         ensures model { self.new.model ≡ self.old.model }
+        ensures failed { OnErr result (self.new.failed ≡ self.old.failed) }
         ensures wanted { OnErr result (IsTrue self.new.wanting) }
         ensures calm { OnOk result ((self.old.wanting ≡ false) × (self.new.wanting ≡ false)) }
     {
@@ -170,6 +172,7 @@ impl Checker {
         requires { self.old.reading.next ≤ 4000000000 }
         ensures takes { OnOk result (Takes self.old line.now self.new) }
         ensures model { self.new.model ≡ self.old.model }
+        ensures failed { OnErr result (self.new.failed ≡ self.old.failed) }
     {
         let number = self.reader.next_line();
         match self.reader.line(self.alloc, line) {
@@ -188,6 +191,7 @@ impl Checker {
         ensures takes { OnOk result (TakesOn self.old.model (spans_in self.old.model) self.old.stand self.old.failed
             number (line_seen line) self.new.stand self.new.failed) }
         ensures model { self.new.model ≡ self.old.model }
+        ensures failed { OnErr result (self.new.failed ≡ self.old.failed) }
         ensures reading { self.new.reading ≡ self.old.reading }
         ensures calm { self.new.wanting ≡ self.old.wanting }
     {

@@ -10,9 +10,9 @@ use std::alloc::Global;
 use ts_base::Memory;
 
 /// Takes a model, a line `%%` and a certificate, in pieces that may be cut anywhere; what it answers depends on all
-/// bytes together. Of the model it keeps what its whole lines state, from the first bad one on the refusal alone, and of
-/// its unfinished line what a `ShortLine` keeps; then of the unfinished line of the certificate at most 4,615 bytes and
-/// a piece. Contracts see what is kept, and whether memory was wanting.
+/// bytes together. Of the model it keeps what its whole lines state, from the first bad one on the refusal alone, and
+/// of its unfinished line what a `ShortLine` keeps; then of the unfinished line of the certificate at most 4,615 bytes
+/// and a piece. Contracts see what is kept, and whether memory was wanting.
 #[derive(Drop)]
 pub struct Verifier {
     input: Input,
