@@ -1,6 +1,6 @@
 //! The unfinished line of a certificate, in few bytes.
 
-ghost use Rattle.std.specs.Prelude.{◌≡◌, ◌++◌, ◌<◌, ◌==◌, [], ◌∷◌, IfOk, MatchOption, None, OnOk, Some};
+ghost use Rattle.std.specs.Prelude.{◌≡◌, ◌++◌, ◌<◌, ◌==◌, [], ◌∷◌, IfOk, MatchOption, None, OnErr, OnOk, Some};
 ghost use Rattle.std.specs.Prelude.{is_some, length};
 ghost use Rattle.ts_base.specs.Words.{all_words, words_of};
 ghost use Rattle.ts_certificate.specs.Ranges.{value_of};
@@ -49,7 +49,8 @@ impl CertificateLine {
 
     /// The LF of the line.
     pub(crate) fn end(&mut self) -> Result<(), Memory>
-        ensures { OnOk result (self.new.bytes.items ≡ self.old.bytes.items ++ 10 ∷ []) }
+        ensures ok { OnOk result (self.new.bytes.items ≡ self.old.bytes.items ++ 10 ∷ []) }
+        ensures err { OnErr result (self.new.bytes.items ≡ self.old.bytes.items) }
     {
         self.bytes.push(b'\n')?;
         Ok(())

@@ -1,6 +1,6 @@
 //! Where the lines of a certificate have led.
 
-ghost use Rattle.std.specs.Prelude.{◌≡◌, ◌∷◌, [], None, OnOk};
+ghost use Rattle.std.specs.Prelude.{◌≡◌, ◌∷◌, [], None, OnErr, OnOk};
 ghost use Rattle.ts_certificate.specs.Grammar.{SaysTree};
 ghost use Rattle.ts_certificate.specs.Seen.{line_seen};
 ghost use Rattle.ts_filter.specs.Lines.{stand_after};
@@ -40,7 +40,8 @@ impl Standing {
     /// Where a line that keeps its rule leads.
     pub(crate) fn take(&mut self, line: Parsed) -> Result<(), Memory>
         requires { MayTake self.old line }
-        ensures { OnOk result (stand_of self.new ≡ stand_after (stand_of self.old) (line_seen line)) }
+        ensures ok { OnOk result (stand_of self.new ≡ stand_after (stand_of self.old) (line_seen line)) }
+        ensures err { OnErr result (stand_of self.new ≡ stand_of self.old) }
     {
         match line {
             Parsed::Aim(aim) => self.aim = Some(aim),
@@ -64,7 +65,8 @@ impl Standing {
     // The present box gives way to the boxes that the line makes.
     fn step(&mut self, line: TreeLine) -> Result<(), Memory>
         requires { MayStep self.old line }
-        ensures { OnOk result (stand_of self.new ≡ stand_after (stand_of self.old) (SaysTree line)) }
+        ensures ok { OnOk result (stand_of self.new ≡ stand_after (stand_of self.old) (SaysTree line)) }
+        ensures err { OnErr result (stand_of self.new ≡ stand_of self.old) }
     {
         follow(&mut self.frontier, &line)?;
         if line == TreeLine::Yes {
