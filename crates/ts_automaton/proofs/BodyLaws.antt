@@ -1,8 +1,8 @@
 -- The states of an automaton and the lines of its block: each gives the other, and the rules of one are those of the
 -- other.
-use Rattle.std.proofs.Common.{◌≡◌, ℕ, zero, suc, ◌<◌, ◌≤◌, ◌+◌, ◌*◌, Bool, true, false, not, cond, List, [], ◌∷◌, ◌++◌, length, map, take, get_or}
+use Rattle.std.proofs.Common.{◌≡◌, ℕ, suc, ◌<◌, ◌≤◌, ◌+◌, ◌*◌, Bool, true, false, not, List, [], ◌∷◌, ◌++◌, length, map, take, get_or}
 use Rattle.std.proofs.Common.{refl, sym, ap, subst, ◌∙◌, ◌&&◌, arith, nat_le, nat_lt, append_assoc}
-use Rattle.std.specs.Prelude.{◌==◌, ◌||◌, nat_eq, IsTrue}
+use Rattle.std.specs.Prelude.{◌==◌, ◌||◌, nat_eq}
 use Rattle.std.specs.Cmp.Derive.{both_true}
 use Rattle.std.specs.List.{list_all, list_any}
 use Rattle.std.proofs.lemmas.Bool.{eqb-true, not-true}
@@ -15,9 +15,9 @@ use Rattle.ts_automaton.specs.declared.draft.StateLine.{StateLine}
 use Rattle.ts_automaton.specs.declared.state.State.{State}
 use Rattle.ts_automaton.specs.declared.state.Turn.{Turn}
 use Rattle.ts_automaton.specs.Body.{Move, Node, Body, move_of, node_of}
-use Rattle.ts_automaton.specs.Typing.{each_is, is_name, is_constant, is_short, are_different, leads_below, has_short_moves, has_few_states, has_names, has_constants, has_targets, has_short_expressions, is_formed}
+use Rattle.ts_automaton.specs.Typing.{each_is, is_name, is_short, are_different, leads_below, has_short_moves, has_few_states, has_names, has_constants, has_targets, has_short_expressions, is_formed}
 use Rattle.ts_automaton.specs.AutomatonText.{Sheet, state_lines, all_moves, sheet_of}
-use Rattle.ts_automaton.specs.Grammar.{is_named, is_new, are_new, is_move, IsFront, IsSheet}
+use Rattle.ts_automaton.specs.Grammar.{is_named, is_new, are_new, is_move, IsSheet}
 use Rattle.ts_automaton.proofs.LineLaws.{le, three_parts, three_true}
 use Rattle.ts_automaton.proofs.GrowLaws.{map_more}
 

@@ -1,31 +1,25 @@
 -- The lines of a part are read one after the other.
-use Rattle.std.proofs.Common.{◌≡◌, ◌≢◌, inl, inr, ℕ, zero, suc, ◌<◌, ◌≤◌, ◌+◌, ◌*◌, ◌/◌, Bool, true, false, not, cond, Option, Some, None, Ok, Err, List, [], ◌∷◌, ◌++◌, length, map, take, get_or, refl, sym, ap, subst, ◌∙◌, ◌&&◌, codes, append_assoc, append-nil, arith, nat_lt}
-use Rattle.std.specs.Prelude.{Result, ◌==◌}
+use Rattle.std.proofs.Common.{◌≡◌, ℕ, zero, suc, ◌<◌, ◌≤◌, ◌+◌, ◌*◌, ◌/◌, Bool, true, false, not, cond, Some, None, List, [], ◌∷◌, ◌++◌, length, map, take, get_or, refl, sym, ap, subst, ◌∙◌, codes, append_assoc, append-nil, arith, nat_lt}
+use Rattle.std.specs.Prelude.{◌==◌}
 use Rattle.std.specs.Option.{option_map}
-use Rattle.std.specs.List.{list_all, concat}
-use Rattle.std.specs.Cmp.Derive.{both_true}
+use Rattle.std.specs.List.{list_all}
 use Rattle.std.proofs.lemmas.Bool.{not-true}
-use Rattle.std.specs.Str.{bytes_eq}
 use Rattle.std.proofs.lemmas.Bool.Decides.{nat_tests}
-use Rattle.std.proofs.lemmas.List.{length-append}
-use Rattle.std.proofs.lemmas.List.Folds.{list_all-append, list_any_at}
+use Rattle.std.proofs.lemmas.List.Folds.{list_any_at}
 use Rattle.std.proofs.lemmas.List.Sums.{position_or_len_is}
 use Rattle.ts_base.specs.declared.ext.Ext.{Ext}
-use Rattle.ts_base.specs.Words.{Words, strict_lines, without_lf, words_of, all_words, behind, plain_line}
-use Rattle.ts_base.proofs.WordLaws.{and_parts, AreSolid, words_again, text_is, text_again, words_no_lf, line_first, lines_are}
+use Rattle.ts_base.proofs.WordLaws.{and_parts, AreSolid}
 use Rattle.ts_automaton.specs.declared.draft.Way.{Way}
-use Rattle.ts_automaton.specs.declared.state.Mark.{Mark}
 use Rattle.ts_automaton.specs.declared.draft.StateLine.{StateLine}
-use Rattle.ts_automaton.specs.Formula.{Formula}
 use Rattle.ts_automaton.specs.Registers.{EachOf}
 use Rattle.ts_automaton.specs.Body.{Move}
-use Rattle.ts_automaton.specs.Typing.{each_is, is_name, is_constant, is_short}
-use Rattle.ts_automaton.specs.AutomatonText.{Sheet, no_state, name_at, way_word, state_words, start_words, move_words, finish_words, moves_words, words_text, lines_text, block_lines}
-use Rattle.ts_automaton.specs.Grammar.{is_named, is_new, are_new, is_move, IsFront, IsSheet, Part, AtHead, AtStates, AtMoves, AtEnd, Whole, front_words, open_words, part_words, IsStates, IsMoves, IsPart, IsFirstBad, IsCutShort, IsOpen, IsAgainstGrammar}
-use Rattle.ts_automaton.specs.Lines.{word_at, read_way, read_state, read_start, place_by, read_move, read_finish, is_end}
-use Rattle.ts_automaton.specs.Reading.{with_state, with_start, with_move, with_finish, with_words, with_text, with_line, onward, with_lines, ended, sheet_reading}
-use Rattle.ts_automaton.proofs.LineLaws.{W, lt, way_only, way_again, state_only, state_again, start_only, start_again, end_only}
-use Rattle.ts_automaton.proofs.MoveLaws.{move_only, move_again, finish_only, finish_again}
+use Rattle.ts_automaton.specs.Typing.{each_is, is_name, is_short}
+use Rattle.ts_automaton.specs.AutomatonText.{Sheet, no_state, name_at, state_words, start_words, move_words, finish_words, moves_words}
+use Rattle.ts_automaton.specs.Grammar.{is_named, is_new, are_new, is_move, IsFront, IsSheet, Part, AtHead, AtStates, AtMoves, AtEnd, Whole, front_words, open_words, part_words, IsPart}
+use Rattle.ts_automaton.specs.Lines.{place_by, read_move, read_finish}
+use Rattle.ts_automaton.specs.Reading.{with_state, with_start, with_move, with_finish, with_words}
+use Rattle.ts_automaton.proofs.LineLaws.{W, lt, way_again, state_again, start_again}
+use Rattle.ts_automaton.proofs.MoveLaws.{move_again, finish_again}
 use Rattle.ts_automaton.proofs.SolidLaws.{way_solid, state_solid, start_solid, move_solid, finish_solid, end_solid}
 use Rattle.ts_automaton.proofs.GrowLaws.{less, not_lt, length_more}
 

@@ -37,9 +37,6 @@ op_again OpMax = refl
 op_again OpMin = refl
 
 module _ (w : List ℕ) (a : Atom) where
-  IsAtom : Type 0
-  IsAtom = w ≡ atom_word a
-
   one : (b : Atom) (text : List ℕ) → text ≡ atom_word b → w ≡ text → Some b ≡ Some a → w ≡ atom_word a
   one b text t is e = let same : b ≡ a = cc in is ∙ t ∙ ap atom_word same
 

@@ -5,7 +5,6 @@ use Rattle.std.proofs.Math.Seq.{drop-cons}
 use Rattle.std.specs.List.{position, position_or_len}
 use Rattle.std.proofs.lemmas.Bool.{ltb-false, ltb-true}
 use Rattle.std.proofs.lemmas.List.{take_rest, drop-map, take-map}
-use Rattle.std.specs.Prelude.{◌==◌}
 use Rattle.ts_base.specs.Words.{behind, full_line}
 use Rattle.ts_automaton.specs.AutomatonText.{words_text, lines_text}
 use Rattle.ts_automaton.specs.Lines.{is_semi, onto_cut, cut_of}

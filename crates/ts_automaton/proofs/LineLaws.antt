@@ -1,36 +1,23 @@
 -- The words of a line are read as what they spell, and what is read from words is spelled by them.
-use Rattle.std.proofs.Common.{◌≡◌, ℕ, zero, suc, ◌<◌, ◌≤◌, ◌-◌, ◌/◌, ◌%◌, Bool, true, false, cond, Option, Some, None, List, [], ◌∷◌, ◌++◌, length, take, drop}
+use Rattle.std.proofs.Common.{◌≡◌, ℕ, ◌<◌, ◌≤◌, Bool, true, false, cond, Option, Some, None, List, [], ◌∷◌, length, drop}
 use Rattle.std.proofs.Common.{refl, sym, ap, subst, ◌∙◌, ◌&&◌, codes, arith, nat_le, nat_lt}
 use Rattle.std.specs.Prelude.{ℤ, pos, ◌==◌, ◌||◌}
 use Rattle.std.specs.Ordering.{int_eq}
-use Rattle.std.specs.Cmp.Derive.{both_true}
-use Rattle.std.specs.List.{position, AllByRecursion}
 use Rattle.std.specs.Str.{bytes_eq}
 use Rattle.std.proofs.lemmas.Slice.Eq.{bytes_eq-Decides}
 use Rattle.std.proofs.lemmas.Bool.{eqb-true}
 use Rattle.std.proofs.lemmas.Bool.Decides.{nat_tests, Decides-int_eq}
-use Rattle.std.proofs.lemmas.List.Quantifiers.{position-Some}
 use Rattle.ts_base.specs.declared.ext.Ext.{Ext}
 use Rattle.ts_base.specs.declared.ext.Ext.TheVariants.{NegInf, Int, PosInf}
 use Rattle.ts_base.proofs.WordLaws.{and_parts, keyword_or}
 use Rattle.ts_automaton.specs.declared.draft.Way.{Way}
 use Rattle.ts_automaton.specs.declared.draft.Way.TheVariants.{Forward, Reverse}
 use Rattle.ts_automaton.specs.declared.draft.StateLine.{StateLine}
-use Rattle.ts_automaton.specs.declared.state.Mark.{Mark}
-use Rattle.ts_automaton.specs.declared.state.Mark.TheVariants.{Same, Zero as ZeroMark, Cells}
-use Rattle.ts_automaton.specs.declared.expr.Atom.{Atom}
-use Rattle.ts_automaton.specs.declared.expr.Atom.TheVariants.{C as AtomC, D as AtomD, R as AtomR, This as AtomThis, Next as AtomNext, Zero as AtomZero, Unit as AtomUnit, NegInf as AtomNegInf, PosInf as AtomPosInf}
-use Rattle.ts_automaton.specs.declared.expr.Op.{Op}
-use Rattle.ts_automaton.specs.declared.expr.Op.TheVariants.{Add as OpAdd, Max as OpMax, Min as OpMin}
-use Rattle.ts_automaton.specs.Formula.{Formula, Leaf, Join, words_in}
 use Rattle.ts_automaton.specs.Registers.{EachOf, each}
-use Rattle.ts_automaton.specs.Body.{Move}
-use Rattle.ts_automaton.specs.Typing.{each_is, is_constant, is_short}
-use Rattle.ts_automaton.specs.FormulaText.{atom_word, op_word, formula_words, formula_of}
-use Rattle.ts_automaton.specs.AutomatonText.{no_state, name_at, way_word, held_word, mark_word, sign_word, semi, state_words, constant_word, start_words, three_words, turn_words, move_words, finish_words}
-use Rattle.ts_automaton.specs.Grammar.{is_new, is_move}
-use Rattle.ts_automaton.specs.Lines.{word_at, way_of, read_way, held_of, letter_of, new_name, state_made, read_state, constant_of, all_three, read_start, is_semi, onto_cut, cut_of, place_by, place_of, move_made, last_two, three_of, is_move_head, read_move, mark_of, finish_made, finish_of, read_finish, is_end}
-use Rattle.ts_automaton.proofs.FormulaLaws.{formula_only, formula_again, words_count}
+use Rattle.ts_automaton.specs.Typing.{each_is, is_constant}
+use Rattle.ts_automaton.specs.AutomatonText.{way_word, held_word, state_words, constant_word, start_words}
+use Rattle.ts_automaton.specs.Grammar.{is_new}
+use Rattle.ts_automaton.specs.Lines.{word_at, way_of, read_way, held_of, letter_of, new_name, state_made, read_state, constant_of, all_three, read_start, is_end}
 
 -- a list of words
 abbrev pub W : Type 0

@@ -37,9 +37,6 @@ pub none_here : (b : Body) (q n : ℕ) (r : Option Place) → q < n → r ≡ mo
 none_here b q n None h e s i = i ∙ one_state b q n h ∙ ap (λ o. option_or o (move_fault b (q + 1) (n - (q + 1)))) (sym e)
 none_here b q n (Some p) h e s i = cc
 
-pub none_left : (b : Body) (q n : ℕ) → n ≡ q → move_fault b 0 n ≡ move_fault b q (n - q) → move_fault b 0 n ≡ None
-none_left b q n h i = let e : n - q ≡ 0 = omega arith in i ∙ ap (move_fault b q) e
-
 -- all pass where the first that doesn't is nowhere
 pub all_or_first : {X : Type 0} (test : X → Bool) (xs : List X) → list_all test xs ≡ is_none (find (λ x. not (test x)) xs)
 all_or_first test [] = refl

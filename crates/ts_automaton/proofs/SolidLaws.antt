@@ -1,12 +1,10 @@
 -- The words of each line have neither spaces nor LFs.
-use Rattle.std.proofs.Common.{◌≡◌, ℕ, zero, suc, ◌<◌, ◌≤◌, ◌-◌, ◌/◌, ◌%◌, Bool, true, false, cond, Option, Some, None, List, [], ◌∷◌, ◌++◌, length, take, drop}
-use Rattle.std.proofs.Common.{refl, sym, ap, subst, ◌∙◌, ◌&&◌, codes, arith, nat_le, nat_lt}
+use Rattle.std.proofs.Common.{◌≡◌, ℕ, ◌≤◌, ◌/◌, ◌%◌, Bool, true, false, cond, List, [], ◌∷◌, ◌++◌}
+use Rattle.std.proofs.Common.{refl, codes, arith, nat_le}
 use Rattle.std.specs.Prelude.{◌==◌, not}
 use Rattle.std.specs.Cmp.Derive.{both_true}
-use Rattle.std.specs.List.{position, AllByRecursion}
 use Rattle.std.proofs.lemmas.Bool.Decides.{nat_tests}
 use Rattle.ts_base.specs.declared.ext.Ext.{Ext}
-use Rattle.ts_base.specs.declared.ext.Ext.TheVariants.{NegInf, Int, PosInf}
 use Rattle.ts_base.proofs.WordLaws.{and_parts, is_inner, is_solid, AreSolid}
 use Rattle.ts_automaton.specs.declared.draft.Way.{Way}
 use Rattle.ts_automaton.specs.declared.draft.Way.TheVariants.{Forward, Reverse}
@@ -17,13 +15,12 @@ use Rattle.ts_automaton.specs.declared.expr.Atom.{Atom}
 use Rattle.ts_automaton.specs.declared.expr.Atom.TheVariants.{C as AtomC, D as AtomD, R as AtomR, This as AtomThis, Next as AtomNext, Zero as AtomZero, Unit as AtomUnit, NegInf as AtomNegInf, PosInf as AtomPosInf}
 use Rattle.ts_automaton.specs.declared.expr.Op.{Op}
 use Rattle.ts_automaton.specs.declared.expr.Op.TheVariants.{Add as OpAdd, Max as OpMax, Min as OpMin}
-use Rattle.ts_automaton.specs.Formula.{Formula, Leaf, Join, words_in}
-use Rattle.ts_automaton.specs.Registers.{EachOf, each}
+use Rattle.ts_automaton.specs.Formula.{Formula, Leaf, Join}
+use Rattle.ts_automaton.specs.Registers.{EachOf}
 use Rattle.ts_automaton.specs.Body.{Move}
 use Rattle.ts_automaton.specs.Typing.{each_is, is_name, is_constant}
-use Rattle.ts_automaton.specs.FormulaText.{atom_word, op_word, formula_words, formula_of}
-use Rattle.ts_automaton.specs.AutomatonText.{no_state, name_at, way_word, held_word, mark_word, sign_word, semi, state_words, constant_word, start_words, three_words, turn_words, move_words, finish_words}
-use Rattle.ts_automaton.specs.Grammar.{is_new, is_move}
+use Rattle.ts_automaton.specs.FormulaText.{atom_word, op_word, formula_words}
+use Rattle.ts_automaton.specs.AutomatonText.{name_at, way_word, held_word, mark_word, sign_word, semi, state_words, constant_word, start_words, three_words, move_words, finish_words}
 use Rattle.ts_base.specs.Words.{is_space, is_lf}
 use Rattle.ts_automaton.proofs.LineLaws.{W, le, three_parts, constants_four}
 

@@ -1,10 +1,9 @@
 -- What a text is read as is determined, and is the automaton whose block it is.
-use Rattle.std.proofs.Common.{◌≡◌, ◌≢◌, ℕ, ◌≤◌, ◌+◌, ◌*◌, length, map, arith, Bool, true, false, Option, Some, None, List, [], ◌∷◌, ◌++◌, refl, sym, ap, subst, ◌∙◌}
+use Rattle.std.proofs.Common.{◌≡◌, ◌≢◌, ℕ, ◌≤◌, ◌*◌, length, map, arith, true, Option, Some, None, List, ◌++◌, refl, sym, ap, subst, ◌∙◌}
 use Rattle.std.specs.Prelude.{Result, Ok, Err, IsTrue, is_none}
 use Rattle.std.specs.Cmp.Derive.{both_true}
 use Rattle.std.proofs.lemmas.Bool.{and_parts}
 use Rattle.std.proofs.lemmas.List.{length-map}
-use Rattle.ts_base.specs.Words.{strict_lines}
 use Rattle.ts_automaton.specs.declared.draft.Way.{Way}
 use Rattle.ts_automaton.specs.declared.draft.Way.TheVariants.{Forward}
 use Rattle.ts_automaton.specs.declared.stop.AutoStop.{AutoStop}
@@ -15,7 +14,7 @@ use Rattle.ts_automaton.specs.declared.state.Turn.{Turn}
 use Rattle.ts_automaton.specs.Body.{Body, move_of, node_of}
 use Rattle.ts_automaton.specs.Typing.{is_formed, is_typed, is_automaton, typing_fault}
 use Rattle.ts_automaton.specs.AutomatonText.{Sheet, sheet_of, block_lines, lines_text, head_text, body_text, IsBlockOf}
-use Rattle.ts_automaton.specs.Grammar.{IsSheet, IsAgainstGrammar}
+use Rattle.ts_automaton.specs.Grammar.{IsSheet}
 use Rattle.ts_automaton.specs.Reading.{sheet_reading, ReadsSheet}
 use Rattle.ts_automaton.specs.TextReading.{line_at, line_of, Judges, Reads}
 use Rattle.ts_automaton.proofs.Listed.{typed_or_fault}

@@ -1,11 +1,11 @@
 -- The lines of a block, written one after the other.
-use Rattle.std.proofs.Common.{◌≡◌, ℕ, zero, suc, ◌+◌, ◌*◌, ◌<◌, ◌≤◌, List, [], ◌∷◌, ◌++◌, length, map, drop, get_or, refl, sym, ap, ◌∙◌, append_assoc, append-nil, arith}
+use Rattle.std.proofs.Common.{◌≡◌, ℕ, zero, suc, ◌+◌, ◌<◌, ◌≤◌, List, [], ◌∷◌, ◌++◌, length, map, get_or, refl, sym, ap, ◌∙◌, append_assoc, append-nil, arith}
 use Rattle.ts_base.specs.Words.{behind, full_line}
 use Rattle.ts_automaton.specs.declared.draft.StateLine.{StateLine}
 use Rattle.ts_automaton.specs.declared.state.State.{State}
-use Rattle.ts_automaton.specs.Body.{Move, Node, node_of}
-use Rattle.ts_automaton.specs.AutomatonText.{state_lines, all_moves, name_at, state_words, move_words, moves_words, words_text, lines_text}
-use Rattle.ts_automaton.proofs.FrontLaws.{behind-append, lines_append}
+use Rattle.ts_automaton.specs.Body.{Node, node_of}
+use Rattle.ts_automaton.specs.AutomatonText.{state_lines, all_moves, name_at, move_words, moves_words, words_text, lines_text}
+use Rattle.ts_automaton.proofs.FrontLaws.{behind-append}
 
 -- the letter of a state
 pub name_there : (states : List State) (k : ℕ) (d : State) → k < length states → (get_or states k d).name ≡ name_at (state_lines (map node_of states)) k
@@ -34,15 +34,6 @@ line_of_words old word ws t1 t2 t3 e f g =
     g ∙ ap (λ (t : List ℕ). t ++ (10 ∷ [])) (f ∙ ap (λ (t : List ℕ). t ++ behind ws) e ∙ append_assoc old word (behind ws))
     ∙ append_assoc old (word ++ behind ws) (10 ∷ [])
 
--- states
-pub states_on : (s : State) (states : List State) (text new all : List ℕ) → new ≡ text ++ words_text (state_words (record { name = s.name; held = s.held })) →
-    text ++ lines_text (map state_words (state_lines (map node_of (s ∷ states)))) ≡ all →
-    new ++ lines_text (map state_words (state_lines (map node_of states))) ≡ all
-states_on s states text new all e h =
-    let line : List ℕ = words_text (state_words (record { name = s.name; held = s.held })) in
-    let rest : List ℕ = lines_text (map state_words (state_lines (map node_of states))) in
-    ap (λ (t : List ℕ). t ++ rest) e ∙ append_assoc text line rest ∙ h
-
 -- moves
 pub three_lines : (names : List StateLine) (k : ℕ) (s : Node) (old t1 t2 t3 : List ℕ) → t1 ≡ old ++ words_text (move_words names k s.less) →
     t2 ≡ t1 ++ words_text (move_words names (k + 1) s.equal) → t3 ≡ t2 ++ words_text (move_words names (k + 2) s.greater) →
@@ -60,18 +51,3 @@ three_lines names k s old t1 t2 t3 e f g =
         ∙ append_assoc (old ++ a) b c
         ∙ append_assoc old a (b ++ c)
         ∙ ap (λ (t : List ℕ). old ++ (a ++ (b ++ t))) (sym (append-nil c))
-
-pub moves_on : (names : List StateLine) (q : ℕ) (s : Node) (ss : List Node) (text new all : List ℕ) →
-    new ≡ text ++ lines_text (moves_words names (3 * q) (all_moves (s ∷ []))) → text ++ lines_text (moves_words names (3 * q) (all_moves (s ∷ ss))) ≡ all →
-    new ++ lines_text (moves_words names (3 * (q + 1)) (all_moves ss)) ≡ all
-moves_on names q s ss text new all e h =
-    let here : List (List (List ℕ)) = moves_words names (3 * q) (all_moves (s ∷ [])) in
-    let rest : List (List (List ℕ)) = moves_words names (3 * (q + 1)) (all_moves ss) in
-    ap (λ (t : List ℕ). t ++ lines_text rest) e
-    ∙ append_assoc text (lines_text here) (lines_text rest)
-    ∙ ap (λ (t : List ℕ). text ++ t) (sym (lines_append here rest))
-    ∙ ap (λ (n : ℕ). text ++ lines_text (here ++ moves_words names n (all_moves ss))) (place q)
-    ∙ h
-  where
-    place : (q : ℕ) → 3 * (q + 1) ≡ 3 * q + 1 + 1 + 1
-    place q = omega arith

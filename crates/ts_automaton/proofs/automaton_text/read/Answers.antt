@@ -1,4 +1,3 @@
-use Rattle.std.proofs.Common.{sym}
 use Rattle.ts_automaton.specs.Reading.{sheet_seen}
 use Rattle.ts_automaton.proofs.TextLaws.{judged_reads, read_in_grammar, sheet_refused}
 use Rattle.ts_automaton.proofs.automaton_text.read.Goals as goal
