@@ -22,40 +22,32 @@ use Rattle.ts_certificate.specs.LineOf.{end_made, end_from, end_of}
 use Rattle.ts_base.proofs.WordLaws.{and_parts, is_solid, AreSolid, different, keyword_or}
 use Rattle.std.specs.Cmp.Derive.{both_true}
 use Rattle.ts_certificate.proofs.NumberLaws.{count_only, count_again, count_solid, whole_only, whole_again, decimal_solid, value_only, value_again, value_solid, ext_only, ext_again, ext_solid}
-use Rattle.ts_certificate.proofs.TreeLaws.{one_only, two_only}
-
--- no word is left, and x is the value
-alone_only : {X : Type 0} (P : List (List ℕ) → X → Type 0) (y x : X) (ws : List (List ℕ)) → P [] y → alone y ws ≡ Some x → P ws x
-alone_only P y x [] p h = let same : y ≡ x = cc in subst (P []) same p
-alone_only P y x (w ∷ ws) p h = cc
+use Rattle.ts_certificate.proofs.TreeLaws.{alone_only, at_word, made_of, one_only, two_only}
 
 -- aims
 abbrev IsAimOf : List ℕ → List (List ℕ) → Aim → Type 0
 IsAimOf first more a = (record { first = first; more = more } ≡ aim_words a) × (is_aim a ≡ true)
 
-aim_at : (first text : List ℕ) (more : List (List ℕ)) (a : Aim) → first ≡ text → IsAimOf text more a → IsAimOf first more a
-aim_at first text more a is h = subst (λ (x : List ℕ). IsAimOf x more a) (sym is) h
-
-list_count : (w : List ℕ) (m : Option ℕ) (a : Aim) → asked_of w ≡ m → option_map ListOf m ≡ Some a → IsAimOf (codes "generate") (w ∷ []) a
-list_count w None a e h = cc
-list_count w (Some m) a e h =
-    let same : ListOf m ≡ a = cc in
-    let read = count_only 1 5000 w m e in
-    let here : IsAimOf (codes "generate") (w ∷ []) (ListOf m) = (ap (λ (x : List ℕ). record { first = codes "generate"; more = x ∷ [] }) read.0, read.1) in
-    subst (IsAimOf (codes "generate") (w ∷ [])) same here
+list_count : (w : List ℕ) (a : Aim) → option_map ListOf (asked_of w) ≡ Some a → IsAimOf (codes "generate") (w ∷ []) a
+list_count w a h =
+    made_of (IsAimOf (codes "generate") (w ∷ [])) ListOf (asked_of w) a
+    (λ m e. let read = count_only 1 5000 w m e in (ap (λ (x : List ℕ). record { first = codes "generate"; more = x ∷ [] }) read.0, read.1))
+    h
 
 list_only : (ws : List (List ℕ)) (o : Option (List ℕ)) (a : Aim) → one_of ws ≡ o → list_from o ≡ Some a → IsAimOf (codes "generate") ws a
 list_only ws None a e h = cc
-list_only ws (Some w) a e h = subst (λ (x : List (List ℕ)). IsAimOf (codes "generate") x a) (sym (one_only ws w e)) (list_count w (asked_of w) a refl h)
+list_only ws (Some w) a e h = subst (λ (x : List (List ℕ)). IsAimOf (codes "generate") x a) (sym (one_only ws w e)) (list_count w a h)
 
 pub aim_only : (w : Words) (a : Aim) → aim_of w ≡ Some a → (w ≡ aim_words a) × (is_aim a ≡ true)
 aim_only w a h =
     keyword_or (IsAimOf w.first w.more a) w.first (codes "maximise") (alone (BestOf Maximise) w.more) _ a
-    (λ is k. aim_at w.first (codes "maximise") w.more a is (alone_only (IsAimOf (codes "maximise")) (BestOf Maximise) a w.more (refl, refl) k))
+    (λ is k. at_word (λ z. IsAimOf z w.more a) w.first (codes "maximise") is
+    (alone_only (IsAimOf (codes "maximise")) (BestOf Maximise) a w.more (refl, refl) k))
     (keyword_or (IsAimOf w.first w.more a) w.first (codes "minimise") (alone (BestOf Minimise) w.more) _ a
-    (λ is k. aim_at w.first (codes "minimise") w.more a is (alone_only (IsAimOf (codes "minimise")) (BestOf Minimise) a w.more (refl, refl) k))
+    (λ is k. at_word (λ z. IsAimOf z w.more a) w.first (codes "minimise") is
+    (alone_only (IsAimOf (codes "minimise")) (BestOf Minimise) a w.more (refl, refl) k))
     (keyword_or (IsAimOf w.first w.more a) w.first (codes "generate") (list_from (one_of w.more)) None a
-    (λ is k. aim_at w.first (codes "generate") w.more a is (list_only w.more (one_of w.more) a refl k))
+    (λ is k. at_word (λ z. IsAimOf z w.more a) w.first (codes "generate") is (list_only w.more (one_of w.more) a refl k))
     (λ k. cc)))
     h
 
@@ -77,35 +69,25 @@ aim_solid (ListOf m) h = (aim_word_solid.2, (count_solid 1 5000 m (lit< tt) h, t
 abbrev IsBestClaim : List ℕ → List (List ℕ) → Claim → Type 0
 IsBestClaim first more c = (record { first = first; more = more } ≡ claim_words c) × (is_best_claim c ≡ true)
 
-best_at : (first text : List ℕ) (more : List (List ℕ)) (c : Claim) → first ≡ text → IsBestClaim text more c → IsBestClaim first more c
-best_at first text more c is h = subst (λ (x : List ℕ). IsBestClaim x more c) (sym is) h
-
-best_value : (w : List ℕ) (v : Option Ext) (c : Claim) → ext_of w ≡ v → option_map BestIs v ≡ Some c → IsBestClaim (codes "best") (w ∷ []) c
-best_value w None c e h = cc
-best_value w (Some v) c e h =
-    let same : BestIs v ≡ c = cc in
-    let read = ext_only w v e in
-    let here : IsBestClaim (codes "best") (w ∷ []) (BestIs v) = (ap (λ (x : List ℕ). record { first = codes "best"; more = x ∷ [] }) read.0, read.1) in
-    subst (IsBestClaim (codes "best") (w ∷ [])) same here
+-- the one word is a number
+ext_claim : (text : List ℕ) (make : Ext → Claim) (w : List ℕ) (c : Claim) →
+    ((v : Ext) → is_ext v ≡ true → IsBestClaim text (ext_text v ∷ []) (make v)) → option_map make (ext_of w) ≡ Some c → IsBestClaim text (w ∷ []) c
+ext_claim text make w c f h =
+    made_of (IsBestClaim text (w ∷ [])) make (ext_of w) c
+    (λ v e. let read = ext_only w v e in subst (λ (x : List ℕ). IsBestClaim text (x ∷ []) (make v)) (sym read.0) (f v read.1))
+    h
 
 best_only : (ws : List (List ℕ)) (o : Option (List ℕ)) (c : Claim) → one_of ws ≡ o → best_from o ≡ Some c → IsBestClaim (codes "best") ws c
 best_only ws None c e h = cc
-best_only ws (Some w) c e h = subst (λ (x : List (List ℕ)). IsBestClaim (codes "best") x c) (sym (one_only ws w e)) (best_value w (ext_of w) c refl h)
-
-budget_value : (w : List ℕ) (v : Option Ext) (c : Claim) → ext_of w ≡ v → option_map BudgetBest v ≡ Some c → IsBestClaim (codes "budget") (w ∷ []) c
-budget_value w None c e h = cc
-budget_value w (Some v) c e h =
-    let same : BudgetBest v ≡ c = cc in
-    let read = ext_only w v e in
-    let here : IsBestClaim (codes "budget") (w ∷ []) (BudgetBest v) = (ap (λ (x : List ℕ). record { first = codes "budget"; more = x ∷ [] }) read.0, read.1) in
-    subst (IsBestClaim (codes "budget") (w ∷ [])) same here
+best_only ws (Some w) c e h = subst (λ (x : List (List ℕ)). IsBestClaim (codes "best") x c) (sym (one_only ws w e))
+    (ext_claim (codes "best") BestIs w c (λ v f. (refl, f)) h)
 
 budget_word : (w : List ℕ) (c : Claim) → budget_from (Some w) ≡ Some c → IsBestClaim (codes "budget") (w ∷ []) c
 budget_word w c h =
     keyword_or (IsBestClaim (codes "budget") (w ∷ []) c) w (codes "none") (Some BudgetNone) (option_map BudgetBest (ext_of w)) c
     (λ is k. let same : BudgetNone ≡ c = cc in subst (IsBestClaim (codes "budget") (w ∷ [])) same
     (ap (λ (x : List ℕ). record { first = codes "budget"; more = x ∷ [] }) is, refl))
-    (λ k. budget_value w (ext_of w) c refl k)
+    (λ k. ext_claim (codes "budget") BudgetBest w c (λ v f. (refl, f)) k)
     h
 
 budget_only : (ws : List (List ℕ)) (o : Option (List ℕ)) (c : Claim) → one_of ws ≡ o → budget_from o ≡ Some c → IsBestClaim (codes "budget") ws c
@@ -115,11 +97,12 @@ budget_only ws (Some w) c e h = subst (λ (x : List (List ℕ)). IsBestClaim (co
 best_claim_only : (w : Words) (c : Claim) → best_claim_of w ≡ Some c → (w ≡ claim_words c) × (is_best_claim c ≡ true)
 best_claim_only w c h =
     keyword_or (IsBestClaim w.first w.more c) w.first (codes "best") (best_from (one_of w.more)) _ c
-    (λ is k. best_at w.first (codes "best") w.more c is (best_only w.more (one_of w.more) c refl k))
+    (λ is k. at_word (λ z. IsBestClaim z w.more c) w.first (codes "best") is (best_only w.more (one_of w.more) c refl k))
     (keyword_or (IsBestClaim w.first w.more c) w.first (codes "infeasible") (alone Infeasible w.more) _ c
-    (λ is k. best_at w.first (codes "infeasible") w.more c is (alone_only (IsBestClaim (codes "infeasible")) Infeasible c w.more (refl, refl) k))
+    (λ is k. at_word (λ z. IsBestClaim z w.more c) w.first (codes "infeasible") is
+    (alone_only (IsBestClaim (codes "infeasible")) Infeasible c w.more (refl, refl) k))
     (keyword_or (IsBestClaim w.first w.more c) w.first (codes "budget") (budget_from (one_of w.more)) None c
-    (λ is k. best_at w.first (codes "budget") w.more c is (budget_only w.more (one_of w.more) c refl k))
+    (λ is k. at_word (λ z. IsBestClaim z w.more c) w.first (codes "budget") is (budget_only w.more (one_of w.more) c refl k))
     (λ k. cc)))
     h
 
@@ -127,33 +110,27 @@ best_claim_only w c h =
 abbrev IsListClaim : List ℕ → List (List ℕ) → Claim → Type 0
 IsListClaim first more c = (record { first = first; more = more } ≡ claim_words c) × (is_list_claim c ≡ true)
 
-list_at : (first text : List ℕ) (more : List (List ℕ)) (c : Claim) → first ≡ text → IsListClaim text more c → IsListClaim first more c
-list_at first text more c is h = subst (λ (x : List ℕ). IsListClaim x more c) (sym is) h
-
 count_word : (ws : List (List ℕ)) (o : Option (List ℕ)) (n : ℕ) → one_of ws ≡ o → count_from o ≡ Some n → (ws ≡ count_text n ∷ []) × (is_listed n ≡ true)
 count_word ws None n e h = cc
 count_word ws (Some w) n e h =
     let read = count_only 0 5000 w n h in
     (one_only ws w e ∙ ap (λ (x : List ℕ). x ∷ []) read.0, read.1)
 
-count_claim : (make : ℕ → Claim) (text : List ℕ) (ws : List (List ℕ)) (n : Option ℕ) (c : Claim) →
-    ((k : ℕ) → is_listed k ≡ true → IsListClaim text (count_text k ∷ []) (make k)) → count_from (one_of ws) ≡ n → option_map make n ≡ Some c →
-    IsListClaim text ws c
-count_claim make text ws None c f e h = cc
-count_claim make text ws (Some n) c f e h =
-    let same : make n ≡ c = cc in
-    let read = count_word ws (one_of ws) n refl e in
-    subst (λ (x : List (List ℕ)). IsListClaim text x c) (sym read.0) (subst (IsListClaim text (count_text n ∷ [])) same (f n read.1))
+count_claim : (text : List ℕ) (make : ℕ → Claim) (ws : List (List ℕ)) (c : Claim) →
+    ((k : ℕ) → is_listed k ≡ true → IsListClaim text (count_text k ∷ []) (make k)) → option_map make (count_from (one_of ws)) ≡ Some c → IsListClaim text ws c
+count_claim text make ws c f h =
+    made_of (IsListClaim text ws) make (count_from (one_of ws)) c
+    (λ n e. let read = count_word ws (one_of ws) n refl e in subst (λ (x : List (List ℕ)). IsListClaim text x (make n)) (sym read.0) (f n read.1))
+    h
 
 list_claim_only : (w : Words) (c : Claim) → list_claim_of w ≡ Some c → (w ≡ claim_words c) × (is_list_claim c ≡ true)
 list_claim_only w c h =
     keyword_or (IsListClaim w.first w.more c) w.first (codes "full") (option_map Full (count_from (one_of w.more))) _ c
-    (λ is k. list_at w.first (codes "full") w.more c is (count_claim Full (codes "full") w.more (count_from (one_of w.more)) c (λ n f. (refl, f)) refl k))
+    (λ is k. at_word (λ z. IsListClaim z w.more c) w.first (codes "full") is (count_claim (codes "full") Full w.more c (λ n f. (refl, f)) k))
     (keyword_or (IsListClaim w.first w.more c) w.first (codes "all") (option_map All (count_from (one_of w.more))) _ c
-    (λ is k. list_at w.first (codes "all") w.more c is (count_claim All (codes "all") w.more (count_from (one_of w.more)) c (λ n f. (refl, f)) refl k))
+    (λ is k. at_word (λ z. IsListClaim z w.more c) w.first (codes "all") is (count_claim (codes "all") All w.more c (λ n f. (refl, f)) k))
     (keyword_or (IsListClaim w.first w.more c) w.first (codes "budget") (option_map BudgetList (count_from (one_of w.more))) None c
-    (λ is k. list_at w.first (codes "budget") w.more c is
-    (count_claim BudgetList (codes "budget") w.more (count_from (one_of w.more)) c (λ n f. (refl, f)) refl k))
+    (λ is k. at_word (λ z. IsListClaim z w.more c) w.first (codes "budget") is (count_claim (codes "budget") BudgetList w.more c (λ n f. (refl, f)) k))
     (λ k. cc)))
     h
 
@@ -254,7 +231,7 @@ some_only ws (Some (u ∷ us)) vs e h =
 pub series_only : (w : Words) (vs : List ℤ) → series_of w ≡ Some vs → (w ≡ series_words vs) × (is_series vs ≡ true)
 series_only w vs h =
     keyword_or (IsSeriesOf w.first w.more vs) w.first (codes "series") (some_values (values_of w.more)) None vs
-    (λ is k. subst (λ (x : List ℕ). IsSeriesOf x w.more vs) (sym is) (some_only w.more (values_of w.more) vs refl k))
+    (λ is k. at_word (λ z. IsSeriesOf z w.more vs) w.first (codes "series") is (some_only w.more (values_of w.more) vs refl k))
     (λ k. cc)
     h
 

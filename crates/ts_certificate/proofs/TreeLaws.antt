@@ -1,6 +1,7 @@
 -- The words of a tree line are read as that line, and what is read as a line has its words.
 use Rattle.std.proofs.Common.{◌≡◌, ℕ, true, Option, Some, None, List, [], ◌∷◌, refl, sym, ap, subst, ◌∙◌, codes, ◌&&◌, lit<}
 use Rattle.std.specs.Prelude.{ℤ}
+use Rattle.std.specs.Option.{option_map}
 use Rattle.std.specs.Fmt.{signed_decimal}
 use Rattle.ts_certificate.specs.declared.certificate.TreeLine.{TreeLine}
 use Rattle.ts_certificate.specs.declared.certificate.TreeLine.TheVariants.{Split, Remove, No, Worse, Yes, Unsearched}
@@ -11,6 +12,20 @@ use Rattle.ts_certificate.specs.TreeLines.{tree_words, is_tree_line, split_made,
 use Rattle.ts_base.proofs.WordLaws.{and_parts, is_solid, AreSolid, keyword_or}
 use Rattle.std.specs.Cmp.Derive.{both_true}
 use Rattle.ts_certificate.proofs.NumberLaws.{count_only, count_again, count_solid, value_only, value_again, value_solid}
+
+-- at this first word
+pub at_word : (P : List ℕ → Type 0) (first text : List ℕ) → first ≡ text → P text → P first
+at_word P first text is h = subst P (sym is) h
+
+-- what is made of a value that was read
+pub made_of : {V X : Type 0} (P : X → Type 0) (make : V → X) (o : Option V) (x : X) → ((v : V) → o ≡ Some v → P (make v)) → option_map make o ≡ Some x → P x
+made_of P make None x f h = cc
+made_of P make (Some v) x f h = let same : make v ≡ x = cc in subst P same (f v refl)
+
+-- no word is left, and x is the value
+pub alone_only : {X : Type 0} (P : List (List ℕ) → X → Type 0) (y x : X) (ws : List (List ℕ)) → P [] y → alone y ws ≡ Some x → P ws x
+alone_only P y x [] p h = let same : y ≡ x = cc in subst (P []) same p
+alone_only P y x (w ∷ ws) p h = cc
 
 -- exactly one word, two or three
 pub one_only : (ws : List (List ℕ)) (a : List ℕ) → one_of ws ≡ Some a → ws ≡ a ∷ []
@@ -110,31 +125,21 @@ remove_only ws None l e h = cc
 remove_only ws (Some p) l e h = subst (λ (x : List (List ℕ)). IsTree (codes "drop") x l) (sym (three_only ws p e))
     (remove_some p.0 p.1 p.2 (cell_of p.0) (value_of p.1) (requirement_of p.2) l refl refl refl h)
 
-yes_only : (ws : List (List ℕ)) (l : TreeLine) → alone Yes ws ≡ Some l → IsTree (codes "yes") ws l
-yes_only [] l h = let same : Yes ≡ l = cc in subst (IsTree (codes "yes") []) same (refl, refl)
-yes_only (w ∷ ws) l h = cc
-
-open_only : (ws : List (List ℕ)) (l : TreeLine) → alone Unsearched ws ≡ Some l → IsTree (codes "open") ws l
-open_only [] l h = let same : Unsearched ≡ l = cc in subst (IsTree (codes "open") []) same (refl, refl)
-open_only (w ∷ ws) l h = cc
-
--- at this first word
-at : (first text : List ℕ) (more : List (List ℕ)) (l : TreeLine) → first ≡ text → IsTree text more l → IsTree first more l
-at first text more l is h = subst (λ (x : List ℕ). IsTree x more l) (sym is) h
-
 pub tree_only : (w : Words) (l : TreeLine) → tree_of w ≡ Some l → (w ≡ tree_words l) × (is_tree_line l ≡ true)
 tree_only w l h =
     keyword_or (IsTree w.first w.more l) w.first (codes "split") (split_of w.more) _ l
-    (λ is k. at w.first (codes "split") w.more l is (split_only w.more (two_of w.more) l refl k))
+    (λ is k. at_word (λ z. IsTree z w.more l) w.first (codes "split") is (split_only w.more (two_of w.more) l refl k))
     (keyword_or (IsTree w.first w.more l) w.first (codes "no") (no_of w.more) _ l
-    (λ is k. at w.first (codes "no") w.more l is (no_only w.more (two_of w.more) l refl k))
+    (λ is k. at_word (λ z. IsTree z w.more l) w.first (codes "no") is (no_only w.more (two_of w.more) l refl k))
     (keyword_or (IsTree w.first w.more l) w.first (codes "worse") (worse_of w.more) _ l
-    (λ is k. at w.first (codes "worse") w.more l is (worse_only w.more (one_of w.more) l refl k))
+    (λ is k. at_word (λ z. IsTree z w.more l) w.first (codes "worse") is (worse_only w.more (one_of w.more) l refl k))
     (keyword_or (IsTree w.first w.more l) w.first (codes "drop") (remove_of w.more) _ l
-    (λ is k. at w.first (codes "drop") w.more l is (remove_only w.more (three_of w.more) l refl k))
-    (keyword_or (IsTree w.first w.more l) w.first (codes "yes") (alone Yes w.more) _ l (λ is k. at w.first (codes "yes") w.more l is (yes_only w.more l k))
+    (λ is k. at_word (λ z. IsTree z w.more l) w.first (codes "drop") is (remove_only w.more (three_of w.more) l refl k))
+    (keyword_or (IsTree w.first w.more l) w.first (codes "yes") (alone Yes w.more) _ l
+    (λ is k. at_word (λ z. IsTree z w.more l) w.first (codes "yes") is
+    (alone_only (IsTree (codes "yes")) Yes l w.more (refl, refl) k))
     (keyword_or (IsTree w.first w.more l) w.first (codes "open") (alone Unsearched w.more) None l
-    (λ is k. at w.first (codes "open") w.more l is (open_only w.more l k))
+    (λ is k. at_word (λ z. IsTree z w.more l) w.first (codes "open") is (alone_only (IsTree (codes "open")) Unsearched l w.more (refl, refl) k))
     (λ k. cc))))))
     h
 
