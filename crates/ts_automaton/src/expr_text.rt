@@ -2,7 +2,7 @@
 
 ghost use Rattle.std.specs.Prelude.{◌≡◌, ◌++◌, true, false, Some, None, IfOk, OnOk, option_map};
 ghost use Rattle.ts_base.specs.Words.{behind};
-ghost use Rattle.ts_automaton.specs.Formula.{Leaf, Join, formula};
+ghost use Rattle.ts_automaton.specs.Formula.{Leaf, formula};
 ghost use Rattle.ts_automaton.specs.FormulaText.{atom_of, op_of, formula_words, stacked, only_one, formula_of, texts, stack_seen};
 
 use crate::expr::{Atom, Expr, Op};
@@ -70,19 +70,6 @@ fn leaf(atom: Atom) -> Expr
     }
 }
 
-/// The operator over two expressions.
-fn joined(alloc: Global, op: Op, e: Expr, f: Expr) -> Result<Expr, Memory>
-    ensures { IfOk result (λ g. formula g ≡ Join op (formula e) (formula f)) }
-{
-    let first = Box::new(alloc, e)?;
-    let second = Box::new(alloc, f)?;
-    match op {
-        Op::Add => Ok(Expr::Add(first, second)),
-        Op::Max => Ok(Expr::Max(first, second)),
-        Op::Min => Ok(Expr::Min(first, second)),
-    }
-}
-
 /// Puts the operand that the word is on the stack, or the operator's expression in place of the two upper ones. False
 /// where the word is neither, or an operator finds no two.
 fn stacked(alloc: Global, stack: &mut Vec<Expr>, word: &[u8]) -> Result<bool, Memory>
@@ -98,7 +85,7 @@ fn stacked(alloc: Global, stack: &mut Vec<Expr>, word: &[u8]) -> Result<bool, Me
         None => match op_of(word) {
             Some(op) => match (stack.pop(), stack.pop()) {
                 (Some(e), Some(f)) => {
-                    stack.push(joined(alloc, op, e, f)?)?;
+                    stack.push(op.join(alloc, e, f)?)?;
                     Ok(true)
                 }
                 _ => Ok(false),

@@ -9,7 +9,7 @@ ghost use Rattle.ts_decorate.specs.Operators.{with_all, with_last};
 
 use crate::table;
 use std::alloc::Global;
-use ts_automaton::{Expr, Op, State, Turn};
+use ts_automaton::{Expr, State, Turn};
 use ts_base::{Kind, Memory};
 use ts_pattern::{Aggregator, Feature};
 use ts_transducer::{Arrow, Phase, Row};
@@ -24,31 +24,18 @@ pub(crate) struct Builder {
 }
 
 impl Builder {
-    /// An operator over two expressions.
-    fn join(&self, op: Op, left: Expr, right: Expr) -> Result<Expr, Memory>
-        ensures { IfOk result (λ e. formula e ≡ Join op (formula left) (formula right)) }
-    {
-        let left = Box::new(self.alloc, left)?;
-        let right = Box::new(self.alloc, right)?;
-        Ok(match op {
-            Op::Add => Expr::Add(left, right),
-            Op::Max => Expr::Max(left, right),
-            Op::Min => Expr::Min(left, right),
-        })
-    }
-
     /// Two parts of a range joined.
     fn phi(&self, left: Expr, right: Expr) -> Result<Expr, Memory>
         ensures { IfOk result (λ e. formula e ≡ Join (cell_op self.now.feature) (formula left) (formula right)) }
     {
-        self.join(table::cell_op(self.feature), left, right)
+        table::cell_op(self.feature).join(self.alloc, left, right)
     }
 
     /// Ranges joined with further ones.
     pub(crate) fn g(&self, left: Expr, right: Expr) -> Result<Expr, Memory>
         ensures { IfOk result (λ e. formula e ≡ Join (range_op self.now.aggregator) (formula left) (formula right)) }
     {
-        self.join(table::range_op(self.aggregator), left, right)
+        table::range_op(self.aggregator).join(self.alloc, left, right)
     }
 
     /// The value of no cell.
