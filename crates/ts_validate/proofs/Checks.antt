@@ -46,13 +46,6 @@ first_one : {A : Type 0} (P : A → Type 0) (xs : List A) → First P xs → One
 first_one P [] h = h
 first_one P (x ∷ xs) h = inl h
 
-due_tag : (g : Tag) → is_due g ≡ true → g ≡ Due
-due_tag (Young m) q = absurd (false≢true q)
-due_tag Due q = refl
-due_tag InD q = absurd (false≢true q)
-due_tag InC q = absurd (false≢true q)
-due_tag Loose q = absurd (false≢true q)
-
 ind_tag : (g : Tag) → is_ind g ≡ true → g ≡ InD
 ind_tag (Young m) q = absurd (false≢true q)
 ind_tag Due q = absurd (false≢true q)

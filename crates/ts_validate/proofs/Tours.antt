@@ -1,6 +1,6 @@
 -- How the tour of the reached configurations grows.
 use Rattle.std.specs.Prelude.{◌≡◌, ◌⊎◌, ℕ, zero, suc, ◌+◌, ◌<◌, ◌≤◌, nat_lt, true, ◌&&◌, List, [], ◌∷◌, ◌++◌, Option, None, Some, map, length, set, replicate, reverse, refl}
-use Rattle.std.proofs.Common.{sym, ◌∙◌, ap, subst, inl, inr, arith, ⊎_elim, length-append, append_assoc, append-nil}
+use Rattle.std.proofs.Common.{sym, ◌∙◌, ap, subst, inl, inr, arith, ⊎_elim, length-append, append_assoc}
 use Rattle.std.proofs.Math.Nat.{eq-or-lt_of_le}
 use Rattle.std.proofs.lemmas.Bool.Decides.{eqb_tells}
 use Rattle.ts_base.specs.declared.letter.Letter.{Letter}
@@ -311,9 +311,6 @@ started_tour rows p plan n t f e a o none =
 -- each path to arrival `at` goes on by the letters w to arrival k
 abbrev pub Continues : List Arrival → ℕ → ℕ → List Letter → Type 0
 Continues xs k at w = (v : List Letter) → IsPath xs at v → IsPath xs k (v ++ w)
-
-pub continues_here : (xs : List Arrival) (k : ℕ) → Continues xs k k []
-continues_here xs k v h = subst (λ z. IsPath xs k z) (sym (append-nil v)) h
 
 -- the letters are collected from the last to the first
 pub continues_back : (xs : List Arrival) (k at : ℕ) (back more : List Letter) (last : Arrival) → 0 < at → last ≡ arrival_at xs at →
