@@ -1,5 +1,5 @@
 -- An input of `verify` that is fed: what is known of it after each part.
-use Rattle.std.proofs.Common.{◌≡◌, ℕ, Option, Some, None, Ok, List, [], ◌++◌, length, refl, sym, ap, ◌∙◌, subst, append_assoc, append-nil}
+use Rattle.std.proofs.Common.{◌≡◌, ℕ, Bool, true, false, Ok, List, [], ◌++◌, length, refl, sym, ap, ◌∙◌, subst, append_assoc, append-nil}
 use Rattle.std.proofs.lemmas.List.{nil_from_length}
 use Rattle.ts_model.specs.declared.error.ModelKind.{ModelKind}
 use Rattle.ts_model.specs.Stated.{Stated}
@@ -8,7 +8,7 @@ use Rattle.ts_checker.specs.declared.input.Input.TheVariants.{InModel, Behind}
 use Rattle.ts_checker.specs.declared.model_text.ModelText.{ModelText}
 use Rattle.ts_checker.specs.declared.opened.Opened.{Opened}
 use Rattle.ts_checker.specs.declared.opened.Opened.TheVariants.{Refused, Judging}
-use Rattle.ts_checker.specs.Feeding.{HasTaken, IsAt, IsBehind, IsBehindRefusal, IsCalm, IsOpened, TakesBytes, TakesInModel, TakesPart}
+use Rattle.ts_checker.specs.Feeding.{EndsIn, HasTaken, IsAt, IsBehind, IsBehindRefusal, IsCalm, IsOpened, TakesBytes, TakesInModel, TakesPart}
 
 -- more bytes of one line
 
@@ -41,15 +41,14 @@ behind_taken (Judging j) (Judging k) part t bytes h = record {
 pub behind_goes_on : (old : Input) (o p : Opened) (part : List ℕ) → old ≡ Behind o → TakesPart o part p → TakesBytes old part (Behind p)
 behind_goes_on old o p part is t bytes h = behind_taken o p part t bytes (subst (HasTaken bytes) is h)
 
-pub model_goes_on : (old : Input) (text new : ModelText) (opened : Option Opened) (part : List ℕ) → old ≡ InModel text → opened ≡ None →
-    TakesInModel text part opened new → TakesBytes old part (InModel new)
-model_goes_on old text new opened part is none t bytes h =
-    subst (λ o. IsAt (bytes ++ part) o new) none (t bytes (subst (HasTaken bytes) is h))
+pub model_goes_on : (old : Input) (text new : ModelText) (ended : Bool) (part : List ℕ) → old ≡ InModel text → ended ≡ false →
+    TakesInModel text part ended new → TakesBytes old part (InModel new)
+model_goes_on old text new ended part is other t bytes h =
+    subst (λ e. IsAt (bytes ++ part) e new) other (t bytes (subst (HasTaken bytes) is h))
 
-pub model_ends : (old : Input) (text new : ModelText) (opened : Option Opened) (o : Opened) (part : List ℕ) → old ≡ InModel text → opened ≡ Some o →
-    TakesInModel text part opened new → TakesBytes old part (Behind o)
-model_ends old text new opened o part is some t bytes h =
-    subst (λ z. IsAt (bytes ++ part) z new) some (t bytes (subst (HasTaken bytes) is h))
+pub mark_taken : (old : Input) (text new : ModelText) (ended : Bool) (part bytes : List ℕ) → old ≡ InModel text → ended ≡ true →
+    TakesInModel text part ended new → HasTaken bytes old → EndsIn (bytes ++ part) (InModel new)
+mark_taken old text new ended part bytes is mark t h = subst (λ e. IsAt (bytes ++ part) e new) mark (t bytes (subst (HasTaken bytes) is h))
 
 -- behind the model memory wasn't wanting
 

@@ -18,7 +18,7 @@ use Rattle.ts_model.specs.Views.{Reads}
 use Rattle.ts_checker.specs.declared.model_text.ModelText.{ModelText}
 use Rattle.ts_checker.specs.declared.opened.Opened.{Opened}
 use Rattle.ts_checker.specs.declared.opened.Opened.TheVariants.{Refused, Judging}
-use Rattle.ts_checker.specs.Feeding.{AtLine, EndsModel, HasLines, IsBehind, IsFinished, IsInModel, IsOpened, IsPart, IsUnfinished, ReadsLast, ReadsOn}
+use Rattle.ts_checker.specs.Feeding.{AreOfModel, AtLine, EndsModel, HasLines, IsBehind, IsFinished, IsInModel, IsMark, IsOpened, IsPart, IsUnfinished, ReadsLast, ReadsOn}
 use Rattle.ts_checker.specs.Verified.{model_part, rest_part}
 use Rattle.ts_checker.proofs.Pieces.{finished_halves, halves_by, joins, part_ends, part_open, unfinished_halves}
 
@@ -83,11 +83,24 @@ one_line line f = subst IsLine (sym (lf_is line f.0 f.1)) (finished_line f.0 f.2
 ended_line : (line : List ℕ) → IsFinished line → AreEnded line
 ended_line line f = subst AreEnded (sym (lf_is line f.0 f.1)) (ended_lf f.0)
 
+cut : (text line more : List ℕ) (t : Bool) → AreOfModel text → IsFinished line → is_separator line ≡ t →
+    halves_of ((text ++ line) ++ more) ≡ after_front text (halves_by t line more)
+cut text line more t lines is mark =
+    ap halves_of (append_assoc text line more) ∙ lines (line ++ more)
+    ∙ ap (after_front text) (finished_halves line more is ∙ ap (λ v. halves_by v line more) mark)
+
 module _ (bytes : List ℕ) (old : ModelText) (h : AtLine IsFinished bytes old) where
-  cut : (more : List ℕ) (t : Bool) → t ≡ is_separator h.line → halves_of ((h.text ++ h.line) ++ more) ≡ after_front h.text (halves_by t h.line more)
-  cut more t mark =
-      ap halves_of (append_assoc h.text h.line more) ∙ h.lines (h.line ++ more)
-      ∙ ap (after_front h.text) (finished_halves h.line more h.is ∙ ap (λ v. halves_by v h.line more) (sym mark))
+  pub mark_comes : is_separator h.line ≡ true → AtLine IsMark bytes old
+  mark_comes mark = record {
+    text = h.text;
+    line = h.line;
+    parts = h.parts;
+    lines = h.lines;
+    ended = h.ended;
+    read = h.read;
+    is = (h.is, mark);
+    short = h.short;
+  }
 
   pub one_more : (mid new : ModelText) (t : Bool) → ((l : List ℕ) → IsShort l old.line → t ≡ is_separator l) → t ≡ false → ReadsOn old mid →
       new.reader ≡ mid.reader → IsShort [] new.line → IsInModel bytes new
@@ -96,7 +109,7 @@ module _ (bytes : List ℕ) (old : ModelText) (h : AtLine IsFinished bytes old) 
     line = [];
     parts = h.parts ∙ sym (append-nil (h.text ++ h.line));
     lines = λ more.
-        cut more false (sym other ∙ mark h.line h.short)
+        cut h.text h.line more false h.lines h.is (sym (mark h.line h.short) ∙ other)
         ∙ ap (λ (x : List ℕ). record { model = x; rest = (halves_of more).rest }) (sym (append_assoc h.text h.line (halves_of more).model));
     ended = ended_append h.text h.line h.ended (ended_line h.line h.is);
     read = subst (HasLines (h.text ++ h.line)) (sym same) (reads h.text h.line h.ended (one_line h.line h.is) h.short h.read);
@@ -104,28 +117,31 @@ module _ (bytes : List ℕ) (old : ModelText) (h : AtLine IsFinished bytes old) 
     short = short;
   }
 
-  module _ (t : Bool) (mark : (l : List ℕ) → IsShort l old.line → t ≡ is_separator l) (is : t ≡ true) where
-    ends : EndsModel h.text (h.text ++ h.line)
-    ends more = cut more true (sym is ∙ mark h.line h.short) ∙ ap (λ (x : List ℕ). record { model = x; rest = Some more }) (append-nil h.text)
+-- the line '%%'
+module _ (bytes : List ℕ) (old : ModelText) (h : AtLine IsMark bytes old) where
+  ends : EndsModel h.text (h.text ++ h.line)
+  ends more =
+      cut h.text h.line more true h.lines h.is.0 h.is.1
+      ∙ ap (λ (x : List ℕ). record { model = x; rest = Some more }) (append-nil h.text)
 
-    pub ended_by : (o : Opened) → ((text : List ℕ) → HasLines text old.reader → IsOpened text o) → IsBehind bytes o
-    ended_by (Refused n kind) gives = record {
-      text = h.text;
-      front = h.text ++ h.line;
-      rest = [];
-      parts = h.parts ∙ sym (append-nil (h.text ++ h.line));
-      ends = ends;
-      reading = gives h.text h.read;
-    }
-    ended_by (Judging j) gives = let g = gives h.text h.read in record {
-      text = h.text;
-      front = h.text ++ h.line;
-      rest = [];
-      parts = h.parts ∙ sym (append-nil (h.text ++ h.line));
-      ends = ends;
-      reading = g.0;
-      read = g.1;
-    }
+  pub ended_by : (o : Opened) → ((text : List ℕ) → HasLines text old.reader → IsOpened text o) → IsBehind bytes o
+  ended_by (Refused n kind) gives = record {
+    text = h.text;
+    front = h.text ++ h.line;
+    rest = [];
+    parts = h.parts ∙ sym (append-nil (h.text ++ h.line));
+    ends = ends;
+    reading = gives h.text h.read;
+  }
+  ended_by (Judging j) gives = let g = gives h.text h.read in record {
+    text = h.text;
+    front = h.text ++ h.line;
+    rest = [];
+    parts = h.parts ∙ sym (append-nil (h.text ++ h.line));
+    ends = ends;
+    reading = g.0;
+    read = g.1;
+  }
 
 -- the last line, without an LF
 

@@ -6,7 +6,7 @@ use Rattle.std.specs.List.{list_all}
 use Rattle.ts_base.specs.Limits.{most_cells}
 use Rattle.ts_base.specs.Words.{is_lf, strict_lines, without_lf}
 use Rattle.ts_token.specs.Gist.{AreEnded, IsLine}
-use Rattle.ts_token.specs.Halves.{after_front, halves_of}
+use Rattle.ts_token.specs.Halves.{after_front, halves_of, is_separator}
 use Rattle.ts_token.specs.Short.{IsShort}
 use Rattle.ts_model.specs.declared.error.ModelKind.{ModelKind}
 use Rattle.ts_model.specs.declared.error.ModelStop.{ModelStop}
@@ -169,14 +169,18 @@ abbrev pub IsBehind : List ℕ → Opened → Type 0
 IsBehind bytes (Refused line kind) = IsBehindRefusal bytes line kind
 IsBehind bytes (Judging j) = IsInCertificate bytes j
 
--- the model goes on, or has ended
-abbrev pub IsAt : List ℕ → Option Opened → ModelText → Type 0
-IsAt bytes None t = IsInModel bytes t
-IsAt bytes (Some opened) t = IsBehind bytes opened
+-- a whole line whose only word is '%%'
+abbrev pub IsMark : List ℕ → Type 0
+IsMark line = IsFinished line × (is_separator line ≡ true)
+
+-- the model goes on, or this line has come
+abbrev pub IsAt : List ℕ → Bool → ModelText → Type 0
+IsAt bytes false t = IsInModel bytes t
+IsAt bytes true t = AtLine IsMark bytes t
 
 -- whatever bytes of the model came before, these have come too
-abbrev pub TakesInModel : ModelText → List ℕ → Option Opened → ModelText → Type 0
-TakesInModel old part opened new = (bytes : List ℕ) → IsInModel bytes old → IsAt (bytes ++ part) opened new
+abbrev pub TakesInModel : ModelText → List ℕ → Bool → ModelText → Type 0
+TakesInModel old part ended new = (bytes : List ℕ) → IsInModel bytes old → IsAt (bytes ++ part) ended new
 
 -- a last line without an LF was read, unless it is the line '%%'
 abbrev pub ReadsLast : ModelText → ModelText → Type 0
@@ -186,6 +190,11 @@ ReadsLast old new = (bytes : List ℕ) → IsInModel bytes old → HasLines (mod
 abbrev pub HasTaken : List ℕ → Input → Type 0
 HasTaken bytes (InModel t) = IsInModel bytes t
 HasTaken bytes (Behind opened) = IsBehind bytes opened
+
+-- the same where the line '%%' of the model is the last one taken, or the model has ended before
+abbrev pub EndsIn : List ℕ → Input → Type 0
+EndsIn bytes (InModel t) = AtLine IsMark bytes t
+EndsIn bytes (Behind opened) = IsBehind bytes opened
 
 -- whatever came before, these bytes have come too
 abbrev pub TakesBytes : Input → List ℕ → Input → Type 0

@@ -1,7 +1,7 @@
 //! The input of `verify` as far as it was fed.
 
 ghost use Rattle.std.specs.Prelude.{ℕ, List, [], IfOk, OnOk};
-ghost use Rattle.ts_checker.specs.Feeding.{HasTaken, IsPart, TakesBytes};
+ghost use Rattle.ts_checker.specs.Feeding.{EndsIn, HasTaken, IsPart, TakesBytes};
 ghost use Rattle.ts_checker.specs.Verified.{IsFailed, IsVerifyEnd};
 
 use crate::model_text::ModelText;
@@ -72,9 +72,19 @@ impl Input {
             Input::Behind(opened) => return opened.take(part),
             Input::InModel(text) => text.take(part)?,
         };
-        if let Some(opened) = ended {
-            *self = Input::Behind(opened);
-        }
+        if ended { self.end_model() } else { Ok(()) }
+    }
+
+    // The model's line `%%` has come: what the model gives stands in its place.
+    fn end_model(&mut self) -> Result<(), Memory>
+        requires { (bytes : List ℕ) × EndsIn bytes self.old }
+        ensures { OnOk result ((bytes : List ℕ) → EndsIn bytes self.old → HasTaken bytes self.new) }
+    {
+        let opened = match self {
+            Input::InModel(text) => text.opened()?,
+            Input::Behind(_) => return Ok(()),
+        };
+        *self = Input::Behind(opened);
         Ok(())
     }
 }

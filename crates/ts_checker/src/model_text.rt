@@ -1,8 +1,8 @@
 //! The text of a model as far as it came.
 
 ghost use Rattle.std.specs.Prelude.{ℕ, ◌≡◌, List, [], IfOk, None, OnOk};
-ghost use Rattle.ts_checker.specs.Feeding.{AtLine, IsAt, IsFinished, IsInModel, IsOpened, IsPart, ReadsLast, ReadsOn};
-ghost use Rattle.ts_checker.specs.Feeding.{TakesInModel};
+ghost use Rattle.ts_checker.specs.Feeding.{AtLine, IsAt, IsBehind, IsFinished, IsInModel, IsMark, IsOpened, IsPart};
+ghost use Rattle.ts_checker.specs.Feeding.{ReadsLast, ReadsOn, TakesInModel};
 ghost use Rattle.ts_checker.specs.Verified.{model_part};
 
 use crate::opened::Opened;
@@ -31,17 +31,24 @@ impl ModelText {
         }
     }
 
-    /// Takes bytes of one line, whose last may be its LF. Behind the line `%%` stands what the model gives.
-    pub(crate) fn take(&mut self, part: &[u8]) -> Result<Option<Opened>, Memory>
-        requires part { IsPart part.now }
-        requires taken { (bytes : List ℕ) × IsInModel bytes self.old }
-        ensures { IfOk result (λ opened. TakesInModel self.old part.now opened self.new) }
+    /// Takes bytes of one line, whose last may be its LF, and tells whether the line `%%` has come.
+    pub(crate) fn take(&mut self, part: &[u8]) -> Result<bool, Memory>
+        requires { IsPart part.now }
+        ensures { IfOk result (λ ended. TakesInModel self.old part.now ended self.new) }
     {
         self.line.push(part)?;
         match without_lf(part) {
-            None => Ok(None),
+            None => Ok(false),
             Some(_) => self.end_line(),
         }
+    }
+
+    /// What the model gives, whose line `%%` has come.
+    pub(crate) fn opened(&mut self) -> Result<Opened, Memory>
+        requires { (bytes : List ℕ) × AtLine IsMark bytes self.old }
+        ensures { IfOk result (λ opened. (bytes : List ℕ) → AtLine IsMark bytes self.old → IsBehind bytes opened) }
+    {
+        Opened::of(self.alloc, self.reader.take())
     }
 
     /// The end of the text, behind bytes that may be a last line without an LF.
@@ -58,17 +65,16 @@ impl ModelText {
 
 impl ModelText {
     // The line has its LF: it is one more of the model, or the line `%%`.
-    fn end_line(&mut self) -> Result<Option<Opened>, Memory>
-        requires { (bytes : List ℕ) × AtLine IsFinished bytes self.old }
-        ensures { IfOk result (λ opened. (bytes : List ℕ) → AtLine IsFinished bytes self.old →
-            IsAt bytes opened self.new) }
+    fn end_line(&mut self) -> Result<bool, Memory>
+        ensures { IfOk result (λ ended. (bytes : List ℕ) → AtLine IsFinished bytes self.old →
+            IsAt bytes ended self.new) }
     {
         if self.line.is_separator() {
-            return Ok(Some(Opened::of(self.alloc, self.reader.take())?));
+            return Ok(true);
         }
         self.read_line()?;
         self.line.clear();
-        Ok(None)
+        Ok(false)
     }
 
     // A last line without an LF is one of the model, unless it is the line `%%`.

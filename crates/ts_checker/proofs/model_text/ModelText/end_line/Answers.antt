@@ -1,12 +1,10 @@
-use Rattle.std.proofs.Common.{false, refl, subst, sym, true, ◌∙◌}
-use Rattle.ts_checker.specs.Feeding.{HasLines}
-use Rattle.ts_checker.proofs.ModelTexts.{ended_by, one_more}
+use Rattle.std.proofs.Common.{false, refl, sym, ◌∙◌}
+use Rattle.ts_checker.proofs.ModelTexts.{mark_comes, one_more}
 use Rattle.ts_checker.proofs.model_text.ModelText.end_line.Goals as goal
 
 pub returns-then-is_separator : goal.returns-then-is_separator
 returns-then-is_separator c = λ bytes h.
-    ended_by bytes c.args.self.now h true (λ line short. sym c.if-is_separator.true ∙ c.is_separator.ensures line short) refl c.in_ok-of.field-0
-    (λ text read. c.in_ok-of.ensures text (subst (HasLines text) (sym c.take.ensures.value) read))
+    mark_comes bytes c.args.self.now h (sym (c.is_separator.ensures h.line h.short) ∙ c.if-is_separator.true)
 
 pub returns : goal.returns
 returns c = λ bytes h.
