@@ -2,7 +2,7 @@
 use Rattle.std.proofs.Common.{◌≡◌, ℕ, zero, suc, ◌+◌, ◌*◌, ◌-◌, ◌<◌, ◌≤◌, ℤ, List, [], ◌∷◌, ◌++◌, length, map, take, drop, slice_get, Bool, true, false, cond, nat_eq, Option, Some, None, refl, sym, ap, ◌∙◌, subst, arith}
 use Rattle.std.specs.Prelude.{Contains, flat_map, slice_range}
 use Rattle.std.specs.List.{AllByRecursion, range_with_len}
-use Rattle.std.proofs.lemmas.List.{append_assoc, append-nil, take_at, drop_at, drop-drop, take_more, take_all, drop_more, drop_all, length-append, map-append}
+use Rattle.std.proofs.lemmas.List.{append_assoc, take_at, drop_at, drop-drop, take_more, take_all, drop_more, length-append, map-append}
 use Rattle.std.proofs.lemmas.List.Sums.{fold-append}
 use Rattle.std.proofs.lemmas.List.FromFn.{map-range_with_len_more}
 use Rattle.std.proofs.lemmas.Bool.{eqb-true}
@@ -20,7 +20,7 @@ use Rattle.ts_bound.specs.Hulls.{hull_of, none}
 use Rattle.ts_bound.specs.HullTables.{start_hull, hull_at, hulls_at, row_of, cells_after, values_at}
 use Rattle.ts_bound.specs.NextRow.{states_of}
 use Rattle.ts_bound.specs.TermSpans.{Automata, span_of_all, term_span, value_span}
-use Rattle.ts_bound.proofs.SpanEnds.{still_there, nothing_there, within_of, back_length}
+use Rattle.ts_bound.proofs.SpanEnds.{still_there, within_of, back_length}
 use Rattle.ts_bound.proofs.SpanRuns.{length-hulls_at}
 use Rattle.ts_glue.specs.Pairs.{Pair}
 use Rattle.ts_filter.specs.Boxes.{Box}
@@ -114,9 +114,6 @@ pub still_left : (values : List ℤ) (i : ℕ) (x v : ℤ) → i < length values
 still_left values i x v lt e ne c =
     still_there (drop i values) (drop (i + 1) values) v x (left_is values i x lt e) ne c
 
-pub nothing_left : (values : List ℤ) (i : ℕ) (v : ℤ) → length values ≤ i → Contains (drop i values) v → ⊥
-nothing_left values i v all c = nothing_there (drop i values) v (drop_all i values all) c
-
 -- the first row
 
 pub start_there : (b : Body) (q : ℕ) (h : Hull) → q ≡ 0 → spans_of h ≡ one_hull b.start → h ≡ start_hull b q
@@ -158,9 +155,6 @@ pub first_more : (b : Body) (values left rest : List ℤ) (v : ℤ) (old new : L
 first_more b values left rest v old new e is inv =
     ap (λ r. r ++ flat_map (hulls_at b []) rest) (is ∙ ap (λ l. old ++ l) (starts_are b v))
     ∙ append_assoc old (hulls_at b [] v) (flat_map (hulls_at b []) rest) ∙ ap (λ l. old ++ flat_map (hulls_at b []) l) (sym e) ∙ inv
-
-pub first_done : (b : Body) (values left : List ℤ) (row : List Hull) → left ≡ [] → FirstLeft b values left row → row ≡ row_of b [] values
-first_done b values left row e inv = sym (append-nil row) ∙ ap (λ l. row ++ flat_map (hulls_at b []) l) (sym e) ∙ inv
 
 -- a whole slice that was written
 pub all_written : (xs ws ys : List Hull) (n : ℕ) → length ws ≡ n → ys ≡ take n (ws ++ drop (length ws) xs) → ys ≡ ws

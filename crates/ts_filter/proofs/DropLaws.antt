@@ -1,15 +1,14 @@
 -- The drops by the requirements of one term, value by value and cell by cell, and those of all terms.
-use Rattle.std.proofs.Common.{◌≡◌, ◌⊎◌, ℕ, ◌+◌, ◌-◌, ◌<◌, ◌≤◌, ℤ, ◌<ℤ◌, List, [], ◌∷◌, length, map}
+use Rattle.std.proofs.Common.{◌≡◌, ◌⊎◌, ℕ, ◌+◌, ◌-◌, ◌<◌, ◌≤◌, ℤ, ◌<ℤ◌, List, ◌∷◌, length, map}
 use Rattle.std.proofs.Common.{Option, Some, None, option_map, slice_get, get_or, refl, sym, ◌∙◌, ap, subst, inl, inr, ⊎_elim, arith}
 use Rattle.std.proofs.lemmas.Option.{slice_get-map, slice_get_read}
 use Rattle.std.specs.Prelude.{Contains}
 use Rattle.std.specs.List.{AllByRecursion}
-use Rattle.ts_base.specs.declared.span.Span.{Span}
 use Rattle.ts_bound.specs.TermSpans.{Automata, automata_of, value_span, IsUsable as IsUsableOf}
 use Rattle.ts_bound.proofs.Reached.{values_narrowed}
 use Rattle.ts_glue.specs.declared.machine.Machine.{Machine}
-use Rattle.ts_domain.specs.Values.{IsDomain, Rising}
-use Rattle.ts_domain.proofs.Sets.{contains_cons, nothing_in, each_contains}
+use Rattle.ts_domain.specs.Values.{Rising}
+use Rattle.ts_domain.proofs.Sets.{contains_cons, each_contains}
 use Rattle.ts_model.specs.declared.model.Require.{Require}
 use Rattle.ts_filter.specs.declared.drops.Removal.{Removal}
 use Rattle.ts_filter.specs.Boxes.{Box, values_at, only}
@@ -20,7 +19,6 @@ use Rattle.ts_filter.specs.RefutedWorseDrop.{IsUsable}
 use Rattle.ts_filter.specs.TermDrops.{IsRefuting, IsFirstRefuting, IsTermDrop, IsDropAt, earlier_of}
 use Rattle.ts_filter.proofs.CallLaws.{usable_only, usable_whole}
 use Rattle.ts_filter.proofs.MachineLaws.{spans_are_of_machines}
-use Rattle.ts_filter.proofs.Refuting.{next_or_later}
 use Rattle.ts_filter.proofs.Removals.{first_of_both, first_same}
 use Rattle.ts_filter.proofs.SoundLaws.{each_at}
 
@@ -43,13 +41,6 @@ module _ (rs : List Require) (term : ℕ) (a : Automata) (b : Box) (k : ℕ) whe
   refuting t v h e =
       subst (λ u. IsRefuting rs term (value_span a k b u) t.require) e
       (subst (λ c. IsRefuting rs term (value_span a c b t.value) t.require) h.0 h.1.refuting)
-
-  pub all_left : (left : List ℤ) → IsDomain (values_at k b) → left ≡ values_at k b → AreLeft rs term a b k left
-  all_left left d e = record {
-    inside = λ u c. subst (λ l. Contains l u) e c;
-    rises = subst Rising (sym e) d.rising;
-    ahead = λ t h. subst (λ l. Contains l t.value) (sym e) (there t h);
-  }
 
   pub is_inside : (left rest : List ℤ) (v : ℤ) → AreLeft rs term a b k left → left ≡ v ∷ rest → Contains (values_at k b) v
   is_inside left rest v h e = h.inside v (subst (λ l. Contains l v) (sym e) ((contains_cons v rest v).1 (inl refl)))
@@ -92,40 +83,15 @@ module _ (rs : List Require) (term : ℕ) (a : Automata) (b : Box) (k : ℕ) whe
   fewer_left_as left rest v w same h e f =
       fewer_left left rest v h e (subst (λ z. IsFirstRefuting rs term (value_span a k b z) None) same f)
 
-  pub none_left : (left : List ℤ) → AreLeft rs term a b k left → left ≡ [] → IsFirstOf (IsDropAt rs term a b k) None
-  none_left left h e t g = nothing_in t.value (subst (λ l. Contains l t.value) e (h.ahead t g))
-
-  pub none_of_one : length (values_at k b) < 2 → IsFirstOf (IsDropAt rs term a b k) None
-  none_of_one l t h =
-      let many = subst (λ c. 2 ≤ length (values_at c b)) h.0 h.1.many in omega (arith, l, many)
-
 module _ (rs : List Require) (term : ℕ) (a : Automata) (b : Box) where
   -- none at the first cells
   abbrev pub NoneUpTo : ℕ → Type 0
   NoneUpTo n = (t : Removal) → IsTermDrop rs term a b t → n < t.cell
 
-  pub none_unusable : (n : ℕ) → ((k : ℕ) → IsUsableOf a k b → n + 1 ≤ k) → NoneUpTo n
-  none_unusable n f t h = let l = f t.cell h.usable in omega (arith, l)
-
-  pub none_further : (n : ℕ) → NoneUpTo n → IsFirstOf (IsDropAt rs term a b (n + 1)) None → NoneUpTo (n + 1)
-  none_further n f g t h = ⊎_elim (λ e. absurd (g t (e, h))) (λ l. l) (next_or_later n t.cell (f t h))
-
-  pub first_in_cell : (n : ℕ) (r : Removal) → NoneUpTo n → IsFirstOf (IsDropAt rs term a b (n + 1)) (Some r) → IsFirstOf (IsTermDrop rs term a b) (Some r)
-  first_in_cell n r f g = (
-    g.0.1,
-    λ t h. ⊎_elim (λ e. g.1 t (e, h)) (λ l. inl (subst (λ c. c < t.cell) (sym g.0.0) l)) (next_or_later n t.cell (f t h)),
-  )
-
-  pub none_in_cells : (n : ℕ) → NoneUpTo n → length b ≤ n → IsFirstOf (IsTermDrop rs term a b) None
-  none_in_cells n f l t h = let low = f t h in let high = h.usable.to in omega (arith, l, low, high)
-
 module _ (rs : List Require) (ms : List Automata) (b : Box) where
   -- a drop by a requirement of the first terms
   abbrev pub DropBelow : ℕ → Removal → Type 0
   DropBelow n r = (d : MayDrop rs (spans_of ms) b r) × (d.refuted.require.term < n)
-
-  pub none_below : IsFirstOf (DropBelow 0) None
-  none_below t h = let l = h.1 in omega (arith, l)
 
   module _ (term : ℕ) (a : Automata) (has : slice_get ms term ≡ Some a) where
     span_is : (z k : ℕ) (v : ℤ) → z ≡ term → IsUsableOf a k b → (spans_of ms).span_at z k (only k v b) ≡ value_span a k b v

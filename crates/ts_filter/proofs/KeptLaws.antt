@@ -84,15 +84,6 @@ pub record IsSoFar (goal : Goal) (end : ℤ → Ext) (all left : List ℤ) (kept
   pub over : (u : ℤ) → Contains all u → Contains left u ⊎ IsPreferred goal end kept u
 
 module _ (goal : Goal) (end : ℤ → Ext) (all : List ℤ) where
-  pub kept_begun : (left : List ℤ) (v : ℤ) → IsDomain all → left ≡ all → Contains all v → ((u : ℤ) → Contains all u → v ≤ℤ u) → IsSoFar goal end all left v
-  kept_begun left v d e c l = record {
-    there = c;
-    inside = λ u h. subst (λ z. Contains z u) e h;
-    rises = subst Rising (sym e) d.rising;
-    low = λ u h. l u (subst (λ z. Contains z u) e h);
-    over = λ u h. inl (subst (λ z. Contains z u) (sym e) h);
-  }
-
   module _ (left rest : List ℤ) (kept v : ℤ) (h : IsSoFar goal end all left kept) (e : left ≡ v ∷ rest) where
     first_left : Contains left v
     first_left = subst (λ z. Contains z v) (sym e) ((contains_cons v rest v).1 (inl refl))
@@ -150,9 +141,6 @@ least_first (v ∷ rest) x d e u c =
     (⊎_elim (λ same. subst (λ z. v ≤ℤ z) same (at_most_self v)) (λ g. less v u (each_contains (λ y. v <ℤ y) rest u r.0 g)) ((contains_cons v rest u).0 c))
 
 module _ (a : Automata) (goal : Goal) (k : ℕ) (b : Box) (v : ℤ) where
-  pub kept_least : a.pair ≡ None → Contains (values_at k b) v → ((u : ℤ) → Contains (values_at k b) u → v ≤ℤ u) → IsKept a goal k b v
-  kept_least e c l = record { there = c; over = λ u g. subst (λ o. IsKeptOver o goal (end_with a goal k b) v u) (sym e) (l u g) }
-
   ends_same : (u : ℤ) → HasCell k b → end_in a goal k b u ≡ end_with a goal k b u
   ends_same u c = ap (best_end goal) (sym (values_narrowed a b k c.0 c.1 u))
 

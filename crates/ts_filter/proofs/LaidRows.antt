@@ -1,5 +1,5 @@
 -- Rows above those that are known: what a change leaves of them, and when they are known too.
-use Rattle.std.proofs.Common.{◌≡◌, ℕ, zero, suc, ◌+◌, ◌-◌, ◌<◌, ◌≤◌, ◌⊎◌, inl, inr, ℤ, List, [], ◌∷◌, ◌++◌, length, take, drop, reverse, set, get_or, Option, Some, None, refl, sym, ap, ◌∙◌, subst, arith}
+use Rattle.std.proofs.Common.{◌≡◌, ℕ, zero, suc, ◌+◌, ◌-◌, ◌<◌, ◌≤◌, ◌⊎◌, inl, inr, List, [], ◌∷◌, ◌++◌, length, take, drop, reverse, set, get_or, Option, Some, None, sym, ap, ◌∙◌, subst, arith}
 use Rattle.std.specs.Prelude.{Result, Ok, Err, OnOk, OnErr}
 use Rattle.std.proofs.lemmas.List.{append_assoc, get_or_default, take_at, take_more, take_all, set_split, get_or-take, get_or-drop, get_or-append-add, length-append, length-take, length-drop, length-reverse}
 use Rattle.ts_automaton.specs.declared.regs.Hull.{Hull}
@@ -9,10 +9,10 @@ use Rattle.ts_bound.specs.NextRow.{next_row}
 use Rattle.ts_bound.specs.TermSpans.{Automata}
 use Rattle.ts_bound.proofs.TableLaws.{row_on}
 use Rattle.ts_filter.specs.Boxes.{Box}
-use Rattle.ts_filter.specs.Known.{AreFirst, AreRows, AreBehind, GoOnBehind, Known, AreKnown, StayKnown}
+use Rattle.ts_filter.specs.Known.{AreFirst, AreRows, AreBehind, GoOnBehind, Known, StayKnown}
 use Rattle.ts_filter.specs.RowStacks.{Rows, Laid, Stack, IsFollowed, GoOn, Stands, IsOneMore, IsCut, with_row}
 use Rattle.ts_glue.specs.Pairs.{Pair}
-use Rattle.ts_filter.proofs.KnownRows.{few_known, known_at, one_more, none_known, reverse_take, stay_first, behind_stay, turned_front}
+use Rattle.ts_filter.proofs.KnownRows.{few_known, known_at, one_more, reverse_take, stay_first, behind_stay, turned_front}
 
 -- rows that are known
 
@@ -230,24 +230,3 @@ stay_known a first last n before rest x y x' y' old new e is f g was now =
     let f' = subst (λ m. IsCut m last x x') e f in let g' = subst (λ m. IsCut (n - last) m y y') (is ∙ ap (λ m. n - m) e) g in
     subst (StayKnown first last n old) now
     (subst (λ t. StayKnown first last n t (tables a x' y')) was (tables_stay a first last n x y x' y' f' g'))
-
--- tables without a row
-
-nothing_behind : (p : Option Pair) (b : Box) (rows : Rows) → rows ≡ [] → AreBehind p b rows
-nothing_behind None b rows e = tt
-nothing_behind (Some p) b rows e = none_known p.reverse (reverse b) rows e
-
-nothing_goes_on : (a : Body) (b : Box) (l : Laid) → l.rows ≡ [] → GoOn a b l.rows l.from
-nothing_goes_on a b l e = subst (λ r. GoOn a b r l.from) (sym e) (known_go_on a b [] l.from (none_known a b [] refl))
-
-nothing_goes_behind : (p : Option Pair) (b : Box) (l : Laid) → l.rows ≡ [] → GoOnBehind p b l
-nothing_goes_behind None b l e = tt
-nothing_goes_behind (Some p) b l e = nothing_goes_on p.reverse (reverse b) l e
-
-pub nothing_known : (t : Known) (b : Box) → t.ahead ≡ [] → t.behind ≡ [] → t.laid_ahead.rows ≡ [] → t.laid_behind.rows ≡ [] → AreKnown b t
-nothing_known t b e f g h = record {
-  ahead = none_known t.machine.forward b t.ahead e;
-  behind = nothing_behind t.machine.pair b t.behind f;
-  laid_ahead = nothing_goes_on t.machine.forward b t.laid_ahead g;
-  laid_behind = nothing_goes_behind t.machine.pair b t.laid_behind h;
-}
