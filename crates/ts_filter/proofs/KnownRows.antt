@@ -1,13 +1,12 @@
 -- Rows that are known of a box: one more of them, what a change leaves of them, and which hulls they have.
 use Rattle.std.proofs.Common.{◌≡◌, ℕ, min, zero, suc, ◌+◌, ◌*◌, ◌-◌, ◌<◌, ◌≤◌, ℤ, List, [], ◌∷◌, ◌++◌, length, take, drop, reverse, get_or, Option, Some, None, refl, sym, ap, ◌∙◌, subst, arith}
 use Rattle.std.specs.Prelude.{IsTrue}
-use Rattle.std.proofs.lemmas.List.{append-nil, take_more, take_at, drop_at, length-append, length-take, length-drop, take_min, take-take, take-append-drop, reverse-append, length-reverse, reverse-reverse, get_or-take, get_or-reverse, get_or_default, length-set, take-set, drop-set-lt, drop-drop}
+use Rattle.std.proofs.lemmas.List.{append-nil, take_more, take_at, drop_at, length-append, length-take, length-drop, take_min, take-take, take-append-drop, reverse-append, length-reverse, reverse-reverse, get_or-take, get_or-reverse, get_or_default}
 use Rattle.ts_automaton.specs.declared.regs.Hull.{Hull}
 use Rattle.ts_automaton.specs.Body.{Body}
 use Rattle.ts_automaton.specs.Typing.{is_automaton}
 use Rattle.ts_bound.specs.HullTables.{row_of, rows_behind, forward_rows, cells_after, values_at}
 use Rattle.ts_bound.specs.NextRow.{RowStands, next_row}
-use Rattle.ts_bound.specs.TermSpans.{Automata}
 use Rattle.ts_bound.proofs.SpanRuns.{forward_row}
 use Rattle.ts_bound.proofs.TableLaws.{length-forward, length-row_of, row_on, rows_stand}
 use Rattle.ts_glue.specs.Pairs.{Pair}
@@ -15,7 +14,7 @@ use Rattle.ts_filter.specs.Boxes.{Box}
 use Rattle.ts_filter.specs.CellHulls.{ahead_row, IsBackRow}
 use Rattle.ts_filter.specs.declared.rows.Way.{Way}
 use Rattle.ts_filter.specs.declared.rows.Way.TheVariants.{FromFirst, FromLast}
-use Rattle.ts_filter.specs.Known.{in_order, AreFirst, AreBehind, Known, AreKnown, StayKnown, OneCellDiffers, DifferencesJoin}
+use Rattle.ts_filter.specs.Known.{in_order, AreFirst, AreBehind}
 use Rattle.ts_filter.specs.RowStacks.{Rows}
 
 -- lists from their ends
@@ -41,9 +40,6 @@ unfolding rows_behind
 rows_of_front b before cells zero = refl
 rows_of_front b before [] (suc k) = refl
 rows_of_front b before (vs ∷ cells) (suc k) = ap (λ l. row_of b before vs ∷ l) (rows_of_front b (vs ∷ before) cells k)
-
-pub none_known : (a : Body) (cells : Box) (rows : Rows) → rows ≡ [] → AreFirst a cells rows
-none_known a cells rows e = e ∙ sym (ap (λ l. take (length l) (forward_rows a cells)) e)
 
 -- there are no more of them than cells
 pub few_known : (a : Body) (cells : Box) (rows : Rows) → AreFirst a cells rows → length rows ≤ length cells
@@ -151,29 +147,3 @@ pub behind_there : (p : Option Pair) (b : Box) (rows : Rows) (row d : List Hull)
     length b - k < length rows → row ≡ get_or rows (length b - k) d → IsBackRow p k b row
 behind_there None b rows row d k some h from to lt is = absurd (some refl)
 behind_there (Some p) b rows row d k some h from to lt is = back_there p.reverse b rows row d k h from to lt is
-
--- boxes that differ
-
-pub one_differs : OneCellDiffers
-one_differs b k vs some to = record {
-  count = refl;
-  count_later = length-set b (k - 1) vs;
-  before = take-set b (k - 1) vs;
-  behind = drop-set-lt k b (k - 1) vs (omega (arith, some));
-}
-
-same_front : (xs ys : Box) (k n : ℕ) → k ≤ n → take n xs ≡ take n ys → take k xs ≡ take k ys
-same_front xs ys k n le e = sym (take-take k n xs le) ∙ ap (take k) e ∙ take-take k n ys le
-
-same_rest : (xs ys : Box) (k n : ℕ) → n ≤ k → drop n xs ≡ drop n ys → drop k xs ≡ drop k ys
-same_rest xs ys k n le e =
-    let sum : n + (k - n) ≡ k = omega (arith, le) in
-    ap (λ m. drop m xs) (sym sum) ∙ sym (drop-drop (k - n) n xs) ∙ ap (drop (k - n)) e ∙ drop-drop (k - n) n ys ∙ ap (λ m. drop m ys) sum
-
-pub differ_both : DifferencesJoin
-differ_both a b c n first last first' last' low high p q r s f g = record {
-  count = f.count;
-  count_later = g.count_later;
-  before = same_front c b (low - 1) (first' - 1) (omega (arith, q)) g.before ∙ same_front b a (low - 1) (first - 1) (omega (arith, p)) f.before;
-  behind = same_rest c b high last' s g.behind ∙ same_rest b a high last r f.behind;
-}

@@ -14,7 +14,7 @@ use Rattle.ts_base.specs.Spans.{Holds}
 use Rattle.ts_model.specs.declared.model.Op.TheVariants.{Equal}
 use Rattle.ts_model.specs.declared.model.Require.{Require}
 use Rattle.ts_filter.specs.Excluded.{Refutes}
-use Rattle.ts_filter.specs.TermDrops.{IsRefuting, IsFirstRefuting}
+use Rattle.ts_filter.specs.TermDrops.{IsRefuting, RefutesSome, NoneFrom, IsFirstRefuting}
 use Rattle.ts_filter.proofs.SoundLaws.{clash}
 
 pub next_or_later : (a i : ℕ) → a < i → (i ≡ a + 1) ⊎ (a + 1 < i)
@@ -89,11 +89,61 @@ module _ (rs : List Require) (term : ℕ) (s : Span) where
       )
 
   -- whether there is one
-  pub some_told : (o : Option ℕ) (told : Bool) → told ≡ is_some o → IsFirstRefuting rs term s o → (told ≡ true) ↔ ((j : ℕ) × IsRefuting rs term s j)
+  pub some_told : (o : Option ℕ) (told : Bool) → told ≡ is_some o → IsFirstRefuting rs term s o → (told ≡ true) ↔ RefutesSome rs term s
   some_told None told e none = (λ so. absurd (clash told so e), λ h. absurd (none h.0 h.1))
   some_told (Some j) told e first = (λ so. (j, first.0), λ h. e)
 
-  pub none_of_all : (at : ℕ) → NoneOf at → length rs ≤ at → IsFirstRefuting rs term s None
-  none_of_all at f l i h =
-      let below = slice_get_within rs (i - 1) h.require h.is.1 in
+  pub none_of_all : (at end : ℕ) → NoneOf at → NoneFrom rs term end → end ≤ at → IsFirstRefuting rs term s None
+  none_of_all at end f behind l i h =
+      let below = behind (i - 1) h.require h.is.1 h.of_term in
       let above = f i h in let first = h.is.0 in omega (arith, l, below, above, first)
+
+  -- where the first one is the last, it tells of all
+  pub only_tells : (first end : ℕ) (d : Require) → position is_own rs ≡ Some first → NoneFrom rs term end → end ≤ first + 1 →
+      Refutes (get_or rs first d).op (get_or rs first d).bound s ↔ RefutesSome rs term s
+  only_tells first end d e behind last = (
+    λ h. (
+      first + 1,
+      record {
+        require = get_or rs first d;
+        is = (omega arith, ap (λ j. slice_get rs j) place ∙ there);
+        of_term = eqb-true (get_or rs first d).term term found.1;
+        refutes = h;
+      },
+    ),
+    λ h. subst (λ z. Refutes z.op z.bound s) (at_place first h.0 (get_or rs first d) there h.1 (same h)) h.1.refutes,
+  )
+    where
+      found : (first < length rs) × (is_own (get_or rs first d) ≡ true)
+      found = let f = position-Some is_own rs first d e in (f.0, f.1)
+
+      there : slice_get rs first ≡ Some (get_or rs first d)
+      there = slice_get-get_or rs first d found.0
+
+      place : (first + 1) - 1 ≡ first
+      place = omega arith
+
+      same : (h : RefutesSome rs term s) → h.0 ≡ first + 1
+      same h =
+          let from = none_before_first first e h.0 h.1 in
+          let to = behind (h.0 - 1) h.1.require h.1.is.1 h.1.of_term in
+          omega (arith, from, to, last)
+
+-- the requirements of the term stand before the place behind the last one
+
+pub none_from_end : (rs : List Require) (term : ℕ) → NoneFrom rs term (length rs)
+none_from_end rs term i r e same = slice_get_within rs i r e
+
+pub none_from_before : (rs : List Require) (term end : ℕ) (d : Require) → NoneFrom rs term end → ((get_or rs (end - 1) d).term ≡ term → ⊥) →
+    NoneFrom rs term (end - 1)
+none_from_before rs term end d f other i r e same =
+    below end i (f i r e same) (λ last. other (ap (λ (x : Require). x.term) (ap (λ j. get_or rs j d) (sym last) ∙ get_or_from_slice_get rs i r d e) ∙ same))
+  where
+    below : (end i : ℕ) → i < end → (i ≡ end - 1 → ⊥) → i < end - 1
+    below end i l n = grind (arith, l, n)
+
+-- the first one does, too
+pub first_before : (rs : List Require) (term first end : ℕ) → position (λ r. nat_eq r.term term) rs ≡ Some first → NoneFrom rs term end → first < end
+first_before rs term first end e behind =
+    let there = position-Some (λ r. nat_eq r.term term) rs first no_require e in
+    behind first (get_or rs first no_require) (slice_get-get_or rs first no_require there.0) (eqb-true (get_or rs first no_require).term term there.1)

@@ -1,5 +1,5 @@
 -- A span of which the parts are taken in: more parts, and what a front that has what is asked tells of all parts.
-use Rattle.std.proofs.Common.{◌≡◌, ◌↔◌, ℕ, ◌+◌, ◌<◌, ◌≤◌, ℤ, List, [], ◌∷◌, ◌++◌, length, map, take, drop, slice_get, Bool, true, false, cond, refl, sym, ap, ◌∙◌, subst, arith}
+use Rattle.std.proofs.Common.{◌≡◌, ◌↔◌, ℕ, ◌+◌, ◌<◌, ◌≤◌, ℤ, List, [], ◌∷◌, ◌++◌, length, map, take, drop, slice_get, Bool, true, false, cond, refl, sym, ap, ◌∙◌, subst}
 use Rattle.std.specs.Prelude.{fold, is_some, Option, None, Some}
 use Rattle.std.proofs.lemmas.List.{map-append, take-append-drop}
 use Rattle.std.proofs.lemmas.List.Sums.{fold-append}
@@ -18,7 +18,7 @@ use Rattle.ts_filter.specs.declared.term_requirements.TermRequirements.{TermRequ
 use Rattle.ts_filter.specs.Asked.{Excludes}
 use Rattle.ts_filter.specs.Boxes.{Box, values_at}
 use Rattle.ts_filter.specs.SoFar.{IsSoFar, WithParts}
-use Rattle.ts_filter.specs.TermDrops.{IsFirstRefuting}
+use Rattle.ts_filter.specs.TermDrops.{IsFirstRefuting, RefutesSome}
 use Rattle.ts_filter.proofs.CellLaws.{span_all, span_more}
 use Rattle.ts_filter.proofs.Refuting.{first_of_none}
 use Rattle.ts_filter.proofs.SoundLaws.{clash}
@@ -157,15 +157,12 @@ alone_told s asked part (Some t) told a e is h = (
 pub alone_is : (s t : SoFar) (part : Span) → s.span ≡ none_span → IsCanonical part → WithParts s (part ∷ []) (Some t) → t.span ≡ part
 alone_is s t part e can h = h.1 ∙ ap (λ z. span_hull z part) e ∙ can
 
--- where it stops, none of the requirements is refuted
-pub none_refuted : (own : TermRequirements) (s : SoFar) (part : Span) → s.asked ≡ MeetsEach own → s.span ≡ none_span → WithParts s (part ∷ []) None →
-    IsFirstRefuting own.all.now own.term part None
-none_refuted own s part a e stop j h = stop
-    (subst (λ z. Excludes z (span_hull s.span part)) (sym a) (part_excludes (MeetsEach own) (span_hull s.span part) part (alone_within s part e) (j, h)))
-
--- where nothing is asked, there is no stop
-pub never_stops : (s : SoFar) (part : Span) → s.asked ≡ Nothing → WithParts s (part ∷ []) None → ⊥
-never_stops s part e stop = stop (subst (λ a. Excludes a (span_hull s.span part)) (sym e) tt)
+-- where it stops, none of the requirements is refuted that would be excluded
+pub none_refuted : (own : TermRequirements) (asked : Asked) → ((t : Span) → Excludes asked t ↔ RefutesSome own.all.now own.term t) → (s : SoFar) (part : Span) →
+    s.asked ≡ asked → s.span ≡ none_span → WithParts s (part ∷ []) None → IsFirstRefuting own.all.now own.term part None
+none_refuted own asked tells s part a e stop j h = stop
+    (subst (λ z. Excludes z (span_hull s.span part)) (sym a)
+    (part_excludes asked (span_hull s.span part) part (alone_within s part e) ((tells part).1 (j, h))))
 
 -- the span of a value has its one form
 pub value_canonical : (m : Automata) (k : ℕ) (b : Box) (v : ℤ) → IsCanonical (value_span m k b v)

@@ -15,7 +15,7 @@ use Rattle.ts_model.specs.declared.model.Op.TheVariants.{Equal, Unequal, AtMost,
 use Rattle.ts_model.specs.Compares.{compares}
 use Rattle.ts_filter.specs.declared.bar.Bar.{Bar}
 use Rattle.ts_filter.specs.declared.bar.Bar.TheVariants.{Better, AsGood}
-use Rattle.ts_filter.specs.Ends.{ends_refute, refutes, best_end, end_cuts, cuts}
+use Rattle.ts_filter.specs.Ends.{ends_refute, refutes, best_end, cuts}
 use Rattle.ts_filter.specs.Excluded.{Refutes, counts, Cuts}
 
 -- tests
@@ -33,6 +33,12 @@ from_not_false false e = grind arith
 pub from_not_true : (x : Bool) → not x ≡ true → x ≡ false
 from_not_true true e = grind arith
 from_not_true false e = refl
+
+not_not : (x : Bool) → x ≡ true → not (not x) ≡ true
+not_not x e = ap (λ b. not (not b)) e
+
+from_not_not : (x : Bool) → not (not x) ≡ true → x ≡ true
+from_not_not x e = from_not_false x (from_not_true (not x) e)
 
 -- what implies a false test is false
 false_by : (x y : Bool) → (x ≡ true → y ≡ true) → y ≡ false → x ≡ false
@@ -89,26 +95,30 @@ refutes_exact op b s = by_some (has_some s) refl
 
 -- bars
 
-end_excludes : (goal : Goal) (bar : Bar) (s : Span) (v : Ext) → end_cuts goal bar (best_end goal s) ≡ true → Holds s v → counts goal bar v ≡ false
-end_excludes Maximise (Better w) s v h i = not_true (ext_le v w) (le_trans v s.hi w i.1 h)
-end_excludes Maximise (AsGood w) s v h i =
-    not_true (not (ext_le w v)) (not_false (ext_le w v)
-    (false_by (ext_le w v) (ext_le w s.hi) (λ e. le_trans w v s.hi e i.1) (from_not_true (ext_le w s.hi) h)))
-end_excludes Minimise (Better w) s v h i = not_true (ext_le w v) (le_trans w s.lo v h i.0)
-end_excludes Minimise (AsGood w) s v h i =
-    not_true (not (ext_le v w)) (not_false (ext_le v w)
-    (false_by (ext_le v w) (ext_le s.lo w) (λ e. le_trans s.lo v w i.0 e) (from_not_true (ext_le s.lo w) h)))
+-- where a number of the span counts, its better end does
+best_counts : (goal : Goal) (bar : Bar) (s : Span) (v : Ext) → Holds s v → counts goal bar v ≡ true → counts goal bar (best_end goal s) ≡ true
+best_counts Maximise (Better w) s v i e =
+    not_false (ext_le s.hi w) (false_by (ext_le s.hi w) (ext_le v w) (λ h. le_trans v s.hi w i.1 h) (from_not_true (ext_le v w) e))
+best_counts Maximise (AsGood w) s v i e = not_not (ext_le w s.hi) (le_trans w v s.hi (from_not_not (ext_le w v) e) i.1)
+best_counts Minimise (Better w) s v i e =
+    not_false (ext_le w s.lo) (false_by (ext_le w s.lo) (ext_le w v) (λ h. le_trans w s.lo v h i.0) (from_not_true (ext_le w v) e))
+best_counts Minimise (AsGood w) s v i e = not_not (ext_le s.lo w) (le_trans s.lo v w i.0 (from_not_not (ext_le v w) e))
 
-end_tells : (goal : Goal) (bar : Bar) (s : Span) → IsTrue (ext_le s.lo s.hi) → Cuts goal bar s → end_cuts goal bar (best_end goal s) ≡ true
-end_tells Maximise (Better w) s some f = from_not_false (ext_le s.hi w) (f s.hi (some, le_refl s.hi))
-end_tells Maximise (AsGood w) s some f = from_not_false (not (ext_le w s.hi)) (f s.hi (some, le_refl s.hi))
-end_tells Minimise (Better w) s some f = from_not_false (ext_le w s.lo) (f s.lo (le_refl s.lo, some))
-end_tells Minimise (AsGood w) s some f = from_not_false (not (ext_le s.lo w)) (f s.lo (le_refl s.lo, some))
+best_held : (goal : Goal) (s : Span) → IsTrue (ext_le s.lo s.hi) → Holds s (best_end goal s)
+best_held Maximise s some = (some, le_refl s.hi)
+best_held Minimise s some = (le_refl s.lo, some)
+
+end_excludes : (goal : Goal) (bar : Bar) (s : Span) (v : Ext) → not (counts goal bar (best_end goal s)) ≡ true → Holds s v → counts goal bar v ≡ false
+end_excludes goal bar s v h i =
+    false_by (counts goal bar v) (counts goal bar (best_end goal s)) (best_counts goal bar s v i) (from_not_true (counts goal bar (best_end goal s)) h)
+
+end_tells : (goal : Goal) (bar : Bar) (s : Span) → IsTrue (ext_le s.lo s.hi) → Cuts goal bar s → not (counts goal bar (best_end goal s)) ≡ true
+end_tells goal bar s some f = not_false (counts goal bar (best_end goal s)) (f (best_end goal s) (best_held goal s some))
 
 pub cuts_exact : (goal : Goal) (bar : Bar) (s : Span) → IsTrue (cuts goal bar s) ↔ Cuts goal bar s
 cuts_exact goal bar s = by_some (has_some s) refl
   where
-    by_some : (t : Bool) → has_some s ≡ t → ((not t || end_cuts goal bar (best_end goal s)) ≡ true) ↔ Cuts goal bar s
+    by_some : (t : Bool) → has_some s ≡ t → ((not t || not (counts goal bar (best_end goal s))) ≡ true) ↔ Cuts goal bar s
     by_some true e = (λ h v i. end_excludes goal bar s v h i, λ f. end_tells goal bar s e f)
     by_some false e = (λ h v i. absurd ((none_held s).0 e v i), λ f. refl)
 

@@ -1,6 +1,8 @@
--- The drops of the terms, one after the other.
-use Rattle.std.proofs.Common.{◌≡◌, ℕ, ◌+◌, ◌<◌, List, [], ◌∷◌, length, get_or, Option, sym, subst, arith}
-use Rattle.std.proofs.lemmas.Option.{slice_get-get_or}
+-- What is told of the machines of terms, and their drops, one after the other.
+use Rattle.std.proofs.Common.{◌≡◌, ℕ, ◌+◌, ◌<◌, List, [], ◌∷◌, length, get_or, Option, sym, ◌∙◌, subst, arith}
+use Rattle.std.specs.Prelude.{IfOk, Result, Ok, Err}
+use Rattle.std.proofs.lemmas.Option.{slice_get-get_or, get_or_from_slice_get}
+use Rattle.ts_base.specs.declared.error.Memory.{Memory}
 use Rattle.ts_bound.specs.TermSpans.{Automata}
 use Rattle.ts_model.specs.declared.model.Require.{Require}
 use Rattle.ts_filter.specs.declared.drops.Removal.{Removal}
@@ -9,6 +11,12 @@ use Rattle.ts_filter.specs.Drops.{IsFirstOf}
 use Rattle.ts_filter.specs.OfTerm.{OfTerm}
 use Rattle.ts_filter.specs.TermDrops.{IsTermDrop, earlier_of}
 use Rattle.ts_filter.proofs.DropLaws.{DropBelow, first_below_more}
+
+-- what is told of the machine that is read is told of the term's
+pub told_of_term : {T : Type 0} (all : List Automata) (term : ℕ) (x : Automata) (P : Automata → T → Type 0) (r : Result T Memory) →
+    x ≡ get_or all term x → IfOk r (P x) → IfOk r (λ t. OfTerm all term (λ a. P a t))
+told_of_term all term x P (Ok t) is h = λ a has. subst (λ z. P z t) (is ∙ get_or_from_slice_get all term a x has) h
+told_of_term all term x P (Err e) is h = tt
 
 -- one more term whose drops are known
 pub drops_more : (rs : List Require) (all : List Automata) (b : Box) (term : ℕ) (first found both : Option Removal) → term < length all →

@@ -1,13 +1,12 @@
 -- A span doesn't have what is asked of its numbers.
-use Rattle.std.specs.Prelude.{ℕ}
 use Rattle.ts_base.specs.declared.span.Span.{Span}
 use Rattle.ts_filter.specs.declared.asked.Asked.{Asked}
 use Rattle.ts_filter.specs.declared.asked.Asked.TheVariants.{Compares, MeetsEach, Counts, Nothing}
 use Rattle.ts_filter.specs.Excluded.{Refutes, Cuts}
-use Rattle.ts_filter.specs.TermDrops.{IsRefuting}
+use Rattle.ts_filter.specs.TermDrops.{RefutesSome}
 
 abbrev pub Excludes : Asked → Span → Type 0
 Excludes (Compares op bound) s = Refutes op bound s
-Excludes (MeetsEach own) s = (j : ℕ) × IsRefuting own.all.now own.term s j
+Excludes (MeetsEach own) s = RefutesSome own.all.now own.term s
 Excludes (Counts goal bar) s = Cuts goal bar s
 Excludes Nothing s = Unit {0}

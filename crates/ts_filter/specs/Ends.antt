@@ -9,7 +9,7 @@ use Rattle.ts_base.specs.Spans.{has_some}
 use Rattle.ts_model.specs.declared.model.Op.{Op}
 use Rattle.ts_model.specs.declared.model.Op.TheVariants.{Equal, Unequal, AtMost, AtLeast, Below, Above}
 use Rattle.ts_filter.specs.declared.bar.Bar.{Bar}
-use Rattle.ts_filter.specs.declared.bar.Bar.TheVariants.{Better, AsGood}
+use Rattle.ts_filter.specs.Excluded.{counts}
 
 -- a is less than b
 abbrev pub ext_lt : Ext → Ext → Bool
@@ -32,12 +32,5 @@ abbrev pub best_end : Goal → Span → Ext
 best_end Maximise s = s.hi
 best_end Minimise s = s.lo
 
--- the better end doesn't count
-abbrev pub end_cuts : Goal → Bar → Ext → Bool
-end_cuts Maximise (Better w) v = ext_le v w
-end_cuts Maximise (AsGood w) v = ext_lt v w
-end_cuts Minimise (Better w) v = ext_le w v
-end_cuts Minimise (AsGood w) v = ext_lt w v
-
 abbrev pub cuts : Goal → Bar → Span → Bool
-cuts goal bar s = not (has_some s) || end_cuts goal bar (best_end goal s)
+cuts goal bar s = not (has_some s) || not (counts goal bar (best_end goal s))

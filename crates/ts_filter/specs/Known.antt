@@ -1,12 +1,12 @@
 -- What is known of the hulls of a machine on a box: the rows of the first cells forward, of the last ones backward.
-use Rattle.std.specs.Prelude.{◌≡◌, ◌<◌, ◌≤◌, ℕ, ◌-◌, ℤ, List, length, take, drop, reverse, Option, None, Some}
+use Rattle.std.specs.Prelude.{◌≡◌, ◌<◌, ◌≤◌, ℕ, ◌-◌, length, take, drop, reverse, Option, None, Some}
 use Rattle.ts_automaton.specs.Body.{Body}
 use Rattle.ts_bound.specs.HullTables.{forward_rows}
 use Rattle.ts_bound.specs.TermSpans.{Automata}
 use Rattle.ts_glue.specs.Pairs.{Pair}
 use Rattle.ts_filter.specs.declared.rows.Way.{Way}
 use Rattle.ts_filter.specs.declared.rows.Way.TheVariants.{FromFirst, FromLast}
-use Rattle.ts_filter.specs.Boxes.{Box, with_values}
+use Rattle.ts_filter.specs.Boxes.{Box}
 use Rattle.ts_filter.specs.RowStacks.{Rows, Laid, GoOn, Stack}
 
 -- the cells in that order
@@ -70,14 +70,3 @@ StayKnown first last n old new =
 pub record HasRows (k : ℕ) (b : Box) (t : Known) : Type 0 where
   pub ahead : k ≤ length t.ahead
   pub behind : k < length b → length b - k < length t.behind
-
--- a box with other values in one cell
-abbrev pub OneCellDiffers : Type 0
-OneCellDiffers =
-    (b : Box) (k : ℕ) (vs : List ℤ) → 1 ≤ k → k ≤ length b → DifferFrom k k (length b) b (with_values k vs b)
-
--- a box that differs from one that differs
-abbrev pub DifferencesJoin : Type 0
-DifferencesJoin =
-    (a b c : Box) (n first last first' last' low high : ℕ) → low ≤ first → low ≤ first' → last ≤ high → last' ≤ high →
-    DifferFrom first last n a b → DifferFrom first' last' n b c → DifferFrom low high n a c

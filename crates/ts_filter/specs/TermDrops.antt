@@ -1,6 +1,6 @@
 -- Drops by the requirements of one term, and the first of two drops.
-use Rattle.std.specs.Prelude.{◌≡◌, ℕ, ◌≤◌, Bool, ◌&&◌, ◌||◌, nat_eq, nat_lt, int_lt, if◌then◌else◌}
-use Rattle.std.specs.Prelude.{List, Contains, length, Option, Some, None}
+use Rattle.std.specs.Prelude.{◌≡◌, ℕ, ◌<◌, ◌≤◌, Bool, ◌&&◌, ◌||◌, nat_eq, nat_lt, int_lt, if◌then◌else◌}
+use Rattle.std.specs.Prelude.{List, Contains, length, slice_get, Option, Some, None}
 use Rattle.std.specs.Ordering.{int_eq}
 use Rattle.ts_base.specs.declared.span.Span.{Span}
 use Rattle.ts_bound.specs.TermSpans.{Automata, value_span, IsUsable}
@@ -17,7 +17,16 @@ pub record IsRefuting (requirements : List Require) (term : ℕ) (s : Span) (j :
   pub of_term : require.term ≡ term
   pub refutes : Refutes require.op require.bound s
 
--- the first such requirement; none where there is none
+-- there is one
+abbrev pub RefutesSome : List Require → ℕ → Span → Type 0
+RefutesSome requirements term s = (j : ℕ) × IsRefuting requirements term s j
+
+-- no requirement of the term stands at this place, counted from 0, or behind it
+abbrev pub NoneFrom : List Require → ℕ → ℕ → Type 0
+NoneFrom requirements term end =
+    (i : ℕ) (r : Require) → slice_get requirements i ≡ Some r → r.term ≡ term → i < end
+
+-- the first requirement that is so; none where none is
 abbrev pub IsFirstRefuting : List Require → ℕ → Span → Option ℕ → Type 0
 IsFirstRefuting requirements term s None = (j : ℕ) → IsRefuting requirements term s j → ⊥
 IsFirstRefuting requirements term s (Some j) =

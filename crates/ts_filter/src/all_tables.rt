@@ -14,8 +14,10 @@ ghost use Rattle.ts_filter.specs.OfTerm.{OfTerm};
 ghost use Rattle.ts_filter.specs.TermDrops.{IsTermDrop};
 ghost use Rattle.ts_filter.specs.declared.bar.Bar.TheVariants.{Better};
 
+use crate::asked::Asked;
 use crate::bar::Bar;
 use crate::drops::{Removal, earlier};
+use crate::held::Held;
 use crate::live_tables::LiveTables;
 use crate::room::has_room;
 use std::alloc::Global;
@@ -58,7 +60,7 @@ impl<'a> AllTables<'a> {
     {
         let mut each = Vec::new(alloc);
         for machine in machines {
-            each.push(LiveTables::new(alloc, machine))?;
+            each.push(LiveTables::new(alloc, Held::Lent(machine)))?;
         }
         let keeps = has_room(machines, cells);
         Ok(AllTables { each, keeps })
@@ -75,7 +77,7 @@ impl<'a> AllTables<'a> {
         let keeps = has_room(&machines, cells);
         let mut each = Vec::new(alloc);
         for machine in machines {
-            each.push(LiveTables::owning(alloc, machine))?;
+            each.push(LiveTables::new(alloc, Held::Own(machine)))?;
         }
         Ok(AllTables { each, keeps })
     }
@@ -104,8 +106,9 @@ impl<'a> AllTables<'a> {
         ensures told { IfOk result (λ told. OfTerm self.old r.now.term (λ a. IsTrue told
             ↔ Refutes r.now.op r.now.bound (term_span a p cells.now.present))) }
     {
-        let told = self.each[r.term as usize].refuted(alloc, r, p, cells);
-        self.asked(r.term);
+        let asked = Asked::Compares(r.op, r.bound);
+        let told = self.each[r.term as usize].excluded_at(alloc, asked, p, cells);
+        self.after_question(r.term);
         told
     }
 
@@ -127,8 +130,9 @@ impl<'a> AllTables<'a> {
         ensures told { IfOk result (λ told. OfTerm self.old term (λ a. IsTrue told
             ↔ Cuts goal (Better bar) (term_span a p cells.now.present))) }
     {
-        let told = self.each[term as usize].worse(alloc, goal, p, cells, bar);
-        self.asked(term);
+        let asked = Asked::Counts(goal, Bar::Better(bar));
+        let told = self.each[term as usize].excluded_at(alloc, asked, p, cells);
+        self.after_question(term);
         told
     }
 
@@ -150,8 +154,9 @@ impl<'a> AllTables<'a> {
         ensures told { IfOk result (λ told. OfTerm self.old r.now.term (λ a. IsTrue told
             ↔ Refutes r.now.op r.now.bound (term_span a k (only k v cells.now.present)))) }
     {
-        let told = self.each[r.term as usize].refuted_value(alloc, r, k, v, cells);
-        self.asked(r.term);
+        let asked = Asked::Compares(r.op, r.bound);
+        let told = self.each[r.term as usize].value_excluded_at(alloc, asked, k, v, cells);
+        self.after_question(r.term);
         told
     }
 
@@ -167,8 +172,9 @@ impl<'a> AllTables<'a> {
         ensures found { IfOk result (λ found. OfTerm self.old r.now.term
             (λ a. IsFirstCell a (Refutes r.now.op r.now.bound) cells.now.present found)) }
     {
-        let found = self.each[r.term as usize].first_refuted(alloc, r, cells);
-        self.asked(r.term);
+        let asked = Asked::Compares(r.op, r.bound);
+        let found = self.each[r.term as usize].first_excluded(alloc, asked, cells);
+        self.after_question(r.term);
         found
     }
 
@@ -187,8 +193,10 @@ impl<'a> AllTables<'a> {
         ensures told { IfOk result (λ told. OfTerm self.old term (λ a. IsTrue told
             ↔ Cuts goal bar (term_span a (length cells.now.present) cells.now.present))) }
     {
-        let told = self.each[term as usize].cut_at_end(alloc, goal, cells, bar);
-        self.asked(term);
+        let n = cells.cells();
+        let asked = Asked::Counts(goal, bar);
+        let told = self.each[term as usize].excluded_at(alloc, asked, n, cells);
+        self.after_question(term);
         told
     }
 
@@ -207,8 +215,9 @@ impl<'a> AllTables<'a> {
         ensures found { IfOk result
             (λ found. OfTerm self.old term (λ a. IsFirstCell a (Cuts goal bar) cells.now.present found)) }
     {
-        let found = self.each[term as usize].first_cut(alloc, goal, cells, bar);
-        self.asked(term);
+        let asked = Asked::Counts(goal, bar);
+        let found = self.each[term as usize].first_excluded(alloc, asked, cells);
+        self.after_question(term);
         found
     }
 
@@ -227,7 +236,7 @@ impl<'a> AllTables<'a> {
         ensures kept { IfOk result (λ v. OfTerm self.old term (λ a. IsKept a goal k cells.now.present v)) }
     {
         let kept = self.each[term as usize].kept_value(alloc, goal, k, cells);
-        self.asked(term);
+        self.after_question(term);
         kept
     }
 
@@ -271,12 +280,12 @@ impl<'a> AllTables<'a> {
             (λ a. IsFirstOf (IsTermDrop requirements.now term a cells.now.present) found)) }
     {
         let found = self.each[term as usize].first_drop(alloc, term, requirements, cells);
-        self.asked(term);
+        self.after_question(term);
         found
     }
 
     /// After a question of the term: where no rows are kept, those that it made go.
-    fn asked(&mut self, term: u32)
+    fn after_question(&mut self, term: u32)
         requires { term < length self.old }
         ensures { self.new ≡ self.old }
     {

@@ -1,7 +1,9 @@
 //! What is asked of the numbers of a span.
 
 ghost use Rattle.std.specs.Prelude.{◌↔◌, IsTrue};
+ghost use Rattle.ts_base.specs.declared.span.Span.{Span};
 ghost use Rattle.ts_filter.specs.Asked.{Excludes};
+ghost use Rattle.ts_filter.specs.TermDrops.{RefutesSome};
 
 use crate::bar::Bar;
 use crate::excluded::{cuts, refutes};
@@ -20,6 +22,16 @@ pub(crate) enum Asked<'a> {
 }
 
 impl<'a> Asked<'a> {
+    /// That each of these requirements is met by some number: where there is only one of them, that is one comparison.
+    pub(crate) fn each_met(requirements: TermRequirements<'a>) -> Asked<'a>
+        ensures { (s : Span) → Excludes result s ↔ RefutesSome requirements.entry.all.now requirements.entry.term s }
+    {
+        match requirements.only() {
+            Some(r) => Asked::Compares(r.op, r.bound),
+            None => Asked::MeetsEach(requirements),
+        }
+    }
+
     /// Whether the span doesn't have what is asked.
     pub(crate) fn excludes(self, span: Span) -> bool
         ensures { IsTrue result ↔ Excludes self.entry span }

@@ -3,6 +3,7 @@
 ghost use Rattle.std.specs.Prelude.{◌≡◌, ◌↔◌, ◌≤◌, Contains, IfOk, IsTrue, None, length};
 ghost use Rattle.ts_bound.specs.TermSpans.{automata_of, term_span};
 ghost use Rattle.ts_domain.specs.BoxSeries.{IsCell, cell_of};
+ghost use Rattle.ts_filter.specs.Asked.{Excludes};
 ghost use Rattle.ts_filter.specs.Boxes.{only};
 ghost use Rattle.ts_filter.specs.Excluded.{Cuts, Refutes};
 ghost use Rattle.ts_filter.specs.Known.{AreKnown, StillKnown};
@@ -12,6 +13,7 @@ ghost use Rattle.ts_glue.specs.Machines.{pair_of};
 use crate::asked::Asked;
 use crate::bar::Bar;
 use crate::box_tables::BoxTables;
+use crate::held::Held;
 use std::alloc::Global;
 use ts_base::{Ext, Goal, Memory};
 use ts_domain::Boxed;
@@ -19,12 +21,12 @@ use ts_glue::Machine;
 use ts_model::Require;
 
 impl<'a> BoxTables<'a> {
-    /// Whether the requirement is refuted at cell `p`: no number of its term's span there compares with the bound as it
-    /// says. Where the machine can't be split, only the last cell may be asked.
-    pub fn refuted(
+    /// Whether the span at cell `p` doesn't have what is asked. Where the machine can't be split, only the last cell
+    /// may be asked.
+    pub(crate) fn excluded_at(
         &mut self,
         alloc: Global,
-        r: &Require,
+        asked: Asked<'_>,
         p: u32,
         cells: &Boxed,
     ) -> Result<bool, Memory>
@@ -33,61 +35,17 @@ impl<'a> BoxTables<'a> {
         requires known { AreKnown cells.now.present self.old }
         ensures known { StillKnown cells.now.present self.old self.new }
         ensures told { IfOk result (λ told. IsTrue told
-            ↔ Refutes r.now.op r.now.bound (term_span self.old.machine p cells.now.present)) }
+            ↔ Excludes asked.entry (term_span self.old.machine p cells.now.present)) }
     {
         self.make_at(alloc, p, cells)?;
-        let asked = Asked::Compares(r.op, r.bound);
         Ok(self.hulls_at(p, cells).excludes(asked))
     }
 
-    /// Whether the objective isn't better at cell `p`: no number of its span there is better than `bar`. Where the
-    /// machine can't be split, only the last cell may be asked.
-    pub fn worse(
+    /// The same of cell `k` on the box with the value `v` alone there.
+    pub(crate) fn value_excluded_at(
         &mut self,
         alloc: Global,
-        goal: Goal,
-        p: u32,
-        cells: &Boxed,
-        bar: Ext,
-    ) -> Result<bool, Memory>
-        requires cell { IsCell p cells.now }
-        requires usable { self.old.machine.pair ≡ None → p ≡ length cells.now.present }
-        requires known { AreKnown cells.now.present self.old }
-        ensures known { StillKnown cells.now.present self.old self.new }
-        ensures told { IfOk result (λ told. IsTrue told
-            ↔ Cuts goal (Better bar) (term_span self.old.machine p cells.now.present)) }
-    {
-        self.make_at(alloc, p, cells)?;
-        let asked = Asked::Counts(goal, Bar::Better(bar));
-        Ok(self.hulls_at(p, cells).excludes(asked))
-    }
-
-    /// Whether no number of the objective's span at the last cell counts for the bar.
-    pub fn cut_at_end(
-        &mut self,
-        alloc: Global,
-        goal: Goal,
-        cells: &Boxed,
-        bar: Bar,
-    ) -> Result<bool, Memory>
-        requires some { 1 ≤ length cells.now.present }
-        requires known { AreKnown cells.now.present self.old }
-        ensures known { StillKnown cells.now.present self.old self.new }
-        ensures told { IfOk result (λ told. IsTrue told
-            ↔ Cuts goal bar (term_span self.old.machine (length cells.now.present) cells.now.present)) }
-    {
-        let n = cells.cells();
-        self.make_at(alloc, n, cells)?;
-        let asked = Asked::Counts(goal, bar);
-        Ok(self.hulls_at(n, cells).excludes(asked))
-    }
-
-    /// Whether the requirement is refuted at cell `k` on the box with the value `v` alone there: the condition of a
-    /// drop where the cell has other values.
-    pub fn refuted_value(
-        &mut self,
-        alloc: Global,
-        r: &Require,
+        asked: Asked<'_>,
         k: u32,
         v: i64,
         cells: &Boxed,
@@ -98,10 +56,9 @@ impl<'a> BoxTables<'a> {
         requires value { Contains (cell_of k cells.now) v }
         ensures known { StillKnown cells.now.present self.old self.new }
         ensures told { IfOk result (λ told. IsTrue told
-            ↔ Refutes r.now.op r.now.bound (term_span self.old.machine k (only k v cells.now.present))) }
+            ↔ Excludes asked.entry (term_span self.old.machine k (only k v cells.now.present))) }
     {
         self.make_at(alloc, k, cells)?;
-        let asked = Asked::Compares(r.op, r.bound);
         Ok(self.hulls_at(k, cells).value_excludes(asked, v))
     }
 }
@@ -120,7 +77,8 @@ pub fn refuted(
     ensures { IfOk result (λ told. IsTrue told
         ↔ Refutes r.now.op r.now.bound (term_span (automata_of m.now) p cells.now.present)) }
 {
-    BoxTables::new(alloc, m).refuted(alloc, r, p, cells)
+    let asked = Asked::Compares(r.op, r.bound);
+    BoxTables::new(alloc, Held::Lent(m)).excluded_at(alloc, asked, p, cells)
 }
 
 /// Whether the objective isn't better at cell `p`: no number of its span there is better than `bar`. `m` is taken as
@@ -138,7 +96,8 @@ pub fn worse(
     ensures { IfOk result (λ told. IsTrue told
         ↔ Cuts goal (Better bar) (term_span (automata_of m.now) p cells.now.present)) }
 {
-    BoxTables::new(alloc, m).worse(alloc, goal, p, cells, bar)
+    let asked = Asked::Counts(goal, Bar::Better(bar));
+    BoxTables::new(alloc, Held::Lent(m)).excluded_at(alloc, asked, p, cells)
 }
 
 /// Whether no number of the objective's span at the last cell counts for the bar.
@@ -153,7 +112,9 @@ pub fn cut_at_end(
     ensures { IfOk result (λ told. IsTrue told
         ↔ Cuts goal bar (term_span (automata_of m.now) (length cells.now.present) cells.now.present)) }
 {
-    BoxTables::new(alloc, m).cut_at_end(alloc, goal, cells, bar)
+    let n = cells.cells();
+    let asked = Asked::Counts(goal, bar);
+    BoxTables::new(alloc, Held::Lent(m)).excluded_at(alloc, asked, n, cells)
 }
 
 /// Whether the requirement is refuted at cell `k` on the box with the value `v` alone there: the condition of a drop
@@ -172,5 +133,6 @@ pub fn refuted_value(
     ensures { IfOk result (λ told. IsTrue told
         ↔ Refutes r.now.op r.now.bound (term_span (automata_of m.now) k (only k v cells.now.present))) }
 {
-    BoxTables::new(alloc, m).refuted_value(alloc, r, k, v, cells)
+    let asked = Asked::Compares(r.op, r.bound);
+    BoxTables::new(alloc, Held::Lent(m)).value_excluded_at(alloc, asked, k, v, cells)
 }

@@ -4,6 +4,7 @@ ghost use Rattle.std.specs.Prelude.{◌≡◌, ◌↔◌, ◌<◌, ◌≤◌, �
 ghost use Rattle.ts_bound.specs.TermSpans.{automata_of};
 ghost use Rattle.ts_filter.specs.Boxes.{Box, HasCell};
 ghost use Rattle.ts_filter.specs.CellHulls.{IsBackRow, at_cell};
+ghost use Rattle.ts_filter.specs.Held.{machine_in};
 ghost use Rattle.ts_filter.specs.Known.{AreKnown, HasRows, StayKnown, StillKnown};
 ghost use Rattle.ts_filter.specs.RowStacks.{nothing_laid};
 
@@ -16,7 +17,6 @@ use std::marker::Model;
 use ts_automaton::Hull;
 use ts_base::Memory;
 use ts_domain::Boxed;
-use ts_glue::Machine;
 
 /// What one machine tells of a box and of the boxes that it becomes: rows of hulls are made when a question first asks
 /// for them, and after a change those that it doesn't reach stay. The others aren't known then, but are kept: as soon
@@ -24,7 +24,7 @@ use ts_glue::Machine;
 /// question takes it, and each change of it has to be told by `changed`. Contracts see the machine and the rows that
 /// are known, forward ones from the first cell on, backward ones from the last cell back; and those that are kept.
 #[derive(Drop)]
-pub struct BoxTables<'a> {
+pub(crate) struct BoxTables<'a> {
     machine: Held<'a>,
     ahead: RowStack,
     behind: RowStack,
@@ -52,9 +52,9 @@ impl<'a> Model for BoxTables<'a> {
 
 impl<'a> BoxTables<'a> {
     /// Nothing is known of any box yet.
-    pub fn new(alloc: Global, machine: &'a Machine) -> BoxTables<'a>
+    pub(crate) fn new(alloc: Global, machine: Held<'a>) -> BoxTables<'a>
         ensures value { result ≡ record {
-          machine = automata_of machine.now;
+          machine = automata_of (machine_in machine.entry);
           ahead = [];
           behind = [];
           laid_ahead = nothing_laid;
@@ -63,25 +63,7 @@ impl<'a> BoxTables<'a> {
         ensures known { (b : Box) → AreKnown b result }
     {
         BoxTables {
-            machine: Held::Lent(machine),
-            ahead: RowStack::new(alloc),
-            behind: RowStack::new(alloc),
-        }
-    }
-
-    /// The same of a machine of its own.
-    pub fn owning(alloc: Global, machine: Machine) -> BoxTables<'a>
-        ensures value { result ≡ record {
-          machine = automata_of machine;
-          ahead = [];
-          behind = [];
-          laid_ahead = nothing_laid;
-          laid_behind = nothing_laid;
-        } }
-        ensures known { (b : Box) → AreKnown b result }
-    {
-        BoxTables {
-            machine: Held::Own(machine),
+            machine,
             ahead: RowStack::new(alloc),
             behind: RowStack::new(alloc),
         }
@@ -89,7 +71,7 @@ impl<'a> BoxTables<'a> {
 
     /// Forgets what a change reaches: that of the cells from `first` to `last` of `n`. After a change of one cell both
     /// are that cell; after one that leads back over several, they are the first and the last of these.
-    pub fn changed(&mut self, first: u32, last: u32, n: u32)
+    pub(crate) fn changed(&mut self, first: u32, last: u32, n: u32)
         requires { last ≤ n }
         ensures machine { self.new.machine ≡ self.old.machine }
         ensures ahead { self.new.ahead ≡ take (first - 1) self.old.ahead }

@@ -1,10 +1,10 @@
 //! The spans at a cell, from the hulls that stand there, as far as what is asked of them needs.
 
-ghost use Rattle.std.specs.Prelude.{◌≡◌, ◌↔◌, ◌+◌, ◌*◌, ◌≤◌, [], ◌∷◌, Contains, IsSome, IsTrue, MatchOption, Some, length};
-ghost use Rattle.std.specs.Prelude.{map, slice_get, slice_range, take};
+ghost use Rattle.std.specs.Prelude.{◌≡◌, ◌↔◌, ◌+◌, ◌*◌, ◌≤◌, [], ◌∷◌, Contains, IsSome, IsTrue, Some, length};
+ghost use Rattle.std.specs.Prelude.{slice_get, slice_range};
 ghost use Rattle.ts_automaton.specs.Typing.{is_automaton};
 ghost use Rattle.ts_bound.specs.Blocks.{OfReverse, back_states, last_at, split_at};
-ghost use Rattle.ts_bound.specs.TermSpans.{IsUsable, automata_of, span_of_all, term_span, value_span};
+ghost use Rattle.ts_bound.specs.TermSpans.{IsUsable, automata_of, term_span, value_span};
 ghost use Rattle.ts_domain.specs.BoxSeries.{IsCell};
 ghost use Rattle.ts_filter.specs.Asked.{Excludes};
 ghost use Rattle.ts_filter.specs.Boxes.{values_at};
@@ -113,7 +113,7 @@ impl<'a> CellHulls<'a> {
         ensures { IsFirstRefuting requirements.entry.all.now requirements.entry.term
             (value_span self.now.machine self.now.cell self.now.cells v) result }
     {
-        let asked = Asked::MeetsEach(requirements);
+        let asked = Asked::each_met(requirements);
         let known = self.with_value(SoFar::none(asked), i, v)?;
         requirements.first_refuted(known.span)
     }

@@ -11,6 +11,7 @@ ghost use Rattle.ts_filter.specs.TermDrops.{IsDropAt, IsTermDrop, comes_before, 
 
 use crate::box_tables::BoxTables;
 use crate::cell_hulls::CellHulls;
+use crate::held::Held;
 use crate::term_requirements::TermRequirements;
 use std::alloc::Global;
 use ts_base::Memory;
@@ -44,7 +45,7 @@ pub fn next_drop(
 {
     let mut first = None;
     for term in 0..machines.len() {
-        let mut tables = BoxTables::new(alloc, &machines[term]);
+        let mut tables = BoxTables::new(alloc, Held::Lent(&machines[term]));
         let found = tables.first_drop(alloc, term as u32, requirements, cells)?;
         first = earlier(first, found);
     }
@@ -54,7 +55,7 @@ pub fn next_drop(
 impl<'a> BoxTables<'a> {
     /// The first of the drops by the requirements of the term whose machine this is: that with the least cell, then the
     /// least value, then the least requirement. None exactly where none is possible.
-    pub fn first_drop(
+    pub(crate) fn first_drop(
         &mut self,
         alloc: Global,
         term: u32,

@@ -1,8 +1,8 @@
 //! What no number of a span does.
 
 ghost use Rattle.std.specs.Prelude.{◌≡◌, ◌↔◌, IsTrue};
-ghost use Rattle.ts_filter.specs.Ends.{best_end, cuts, ends_refute, end_cuts, refutes};
-ghost use Rattle.ts_filter.specs.Excluded.{Cuts, Refutes};
+ghost use Rattle.ts_filter.specs.Ends.{best_end, cuts, ends_refute, refutes};
+ghost use Rattle.ts_filter.specs.Excluded.{Cuts, Refutes, counts, is_better};
 
 use crate::bar::Bar;
 use ts_base::{Ext, Goal, Span};
@@ -22,7 +22,27 @@ pub fn cuts(goal: Goal, bar: Bar, span: Span) -> bool
     ensures ends { result ≡ cuts goal bar span }
     ensures exact { IsTrue result ↔ Cuts goal bar span }
 {
-    span.is_none() || end_cuts(goal, bar, best_end(goal, span))
+    span.is_none() || !counts(goal, bar, best_end(goal, span))
+}
+
+/// Whether the number counts for the bar: it is better than the bar's, or at least as good.
+pub fn counts(goal: Goal, bar: Bar, v: Ext) -> bool
+    ensures { result ≡ counts goal bar v }
+{
+    match bar {
+        Bar::Better(w) => is_better(goal, v, w),
+        Bar::AsGood(w) => !is_better(goal, w, v),
+    }
+}
+
+/// Whether `v` is better than `w`.
+pub(crate) fn is_better(goal: Goal, v: Ext, w: Ext) -> bool
+    ensures { result ≡ is_better goal v w }
+{
+    match goal {
+        Goal::Maximise => v > w,
+        Goal::Minimise => v < w,
+    }
 }
 
 /// The better one of a span's ends.
@@ -35,7 +55,7 @@ pub(crate) fn best_end(goal: Goal, span: Span) -> Ext
     }
 }
 
-// Whether no number from `lo` to `hi` compares so with the bound, where `lo` isn't above `hi`.
+/// Whether no number from `lo` to `hi` compares so with the bound, where `lo` isn't above `hi`.
 fn ends_refute(op: Op, bound: Ext, lo: Ext, hi: Ext) -> bool
     ensures { result ≡ ends_refute op bound lo hi }
 {
@@ -46,17 +66,5 @@ fn ends_refute(op: Op, bound: Ext, lo: Ext, hi: Ext) -> bool
         Op::AtLeast => hi < bound,
         Op::Below => bound <= lo,
         Op::Above => hi <= bound,
-    }
-}
-
-// Whether the better end of a span doesn't count for the bar.
-fn end_cuts(goal: Goal, bar: Bar, best: Ext) -> bool
-    ensures { result ≡ end_cuts goal bar best }
-{
-    match (goal, bar) {
-        (Goal::Maximise, Bar::Better(w)) => best <= w,
-        (Goal::Maximise, Bar::AsGood(w)) => best < w,
-        (Goal::Minimise, Bar::Better(w)) => w <= best,
-        (Goal::Minimise, Bar::AsGood(w)) => w < best,
     }
 }

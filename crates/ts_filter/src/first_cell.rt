@@ -10,6 +10,7 @@ ghost use Rattle.ts_filter.specs.Known.{AreKnown, StillKnown};
 use crate::asked::Asked;
 use crate::bar::Bar;
 use crate::box_tables::BoxTables;
+use crate::held::Held;
 use std::alloc::Global;
 use ts_base::{Goal, Memory};
 use ts_domain::Boxed;
@@ -17,41 +18,9 @@ use ts_glue::Machine;
 use ts_model::Require;
 
 impl<'a> BoxTables<'a> {
-    /// The least cell below the last at which no number of the objective's span counts for the bar. None exactly where
-    /// there is no such cell, as for every machine that can't be split.
-    pub fn first_cut(
-        &mut self,
-        alloc: Global,
-        goal: Goal,
-        cells: &Boxed,
-        bar: Bar,
-    ) -> Result<Option<u32>, Memory>
-        requires { AreKnown cells.now.present self.old }
-        ensures known { StillKnown cells.now.present self.old self.new }
-        ensures found { IfOk result
-            (λ found. IsFirstCell self.old.machine (Cuts goal bar) cells.now.present found) }
-    {
-        self.first_excluded(alloc, Asked::Counts(goal, bar), cells)
-    }
-
-    /// The least cell below the last at which the requirement is refuted. None exactly where there is no such cell, as
-    /// for every machine that can't be split.
-    pub fn first_refuted(
-        &mut self,
-        alloc: Global,
-        r: &Require,
-        cells: &Boxed,
-    ) -> Result<Option<u32>, Memory>
-        requires { AreKnown cells.now.present self.old }
-        ensures known { StillKnown cells.now.present self.old self.new }
-        ensures found { IfOk result
-            (λ found. IsFirstCell self.old.machine (Refutes r.now.op r.now.bound) cells.now.present found) }
-    {
-        self.first_excluded(alloc, Asked::Compares(r.op, r.bound), cells)
-    }
-
-    /// The least cell below the last at which no number of the span does what is asked.
-    fn first_excluded(
+    /// The least cell below the last at which the span doesn't have what is asked. None exactly where there is no such
+    /// cell, as for every machine that can't be split.
+    pub(crate) fn first_excluded(
         &mut self,
         alloc: Global,
         asked: Asked<'_>,
@@ -86,7 +55,7 @@ pub fn first_cut(
 ) -> Result<Option<u32>, Memory>
     ensures { IfOk result (λ found. IsFirstCell (automata_of m.now) (Cuts goal bar) cells.now.present found) }
 {
-    BoxTables::new(alloc, m).first_cut(alloc, goal, cells, bar)
+    BoxTables::new(alloc, Held::Lent(m)).first_excluded(alloc, Asked::Counts(goal, bar), cells)
 }
 
 /// The least cell below the last at which the requirement is refuted. None exactly where there is no such cell, as for
@@ -100,5 +69,6 @@ pub fn first_refuted(
     ensures { IfOk result
         (λ found. IsFirstCell (automata_of m.now) (Refutes r.now.op r.now.bound) cells.now.present found) }
 {
-    BoxTables::new(alloc, m).first_refuted(alloc, r, cells)
+    let asked = Asked::Compares(r.op, r.bound);
+    BoxTables::new(alloc, Held::Lent(m)).first_excluded(alloc, asked, cells)
 }

@@ -5,15 +5,15 @@ ghost use Rattle.ts_bound.specs.TermSpans.{automata_of};
 ghost use Rattle.ts_domain.specs.BoxSeries.{IsCell};
 ghost use Rattle.ts_domain.specs.Values.{IsDomain};
 ghost use Rattle.ts_filter.specs.Boxes.{values_at};
-ghost use Rattle.ts_filter.specs.Excluded.{is_better};
 ghost use Rattle.ts_filter.specs.KeptValue.{IsKept, IsPreferred, end_in};
 ghost use Rattle.ts_filter.specs.Known.{AreKnown, StillKnown};
 
 use crate::box_tables::BoxTables;
 use crate::cell_hulls::CellHulls;
-use crate::excluded::best_end;
+use crate::excluded::{best_end, is_better};
+use crate::held::Held;
 use std::alloc::Global;
-use ts_base::{Ext, Goal, Memory};
+use ts_base::{Goal, Memory};
 use ts_domain::{Boxed, Domain};
 use ts_glue::Machine;
 
@@ -21,7 +21,7 @@ impl<'a> BoxTables<'a> {
     /// The value of cell `k` that leaves the objective the best number open: of the values with x_k alone there, the
     /// one whose span at `k` has the greatest upper end, or under `Minimise` the least lower end, and of several the
     /// least. For a machine that can't be split it is the least value of the cell.
-    pub fn kept_value(
+    pub(crate) fn kept_value(
         &mut self,
         alloc: Global,
         goal: Goal,
@@ -54,7 +54,7 @@ pub fn kept_value(
     requires { IsCell k cells.now }
     ensures { IfOk result (λ v. IsKept (automata_of m.now) goal k cells.now.present v) }
 {
-    BoxTables::new(alloc, m).kept_value(alloc, goal, k, cells)
+    BoxTables::new(alloc, Held::Lent(m)).kept_value(alloc, goal, k, cells)
 }
 
 /// The value of the cell whose span has the best end, the least of several.
@@ -87,14 +87,4 @@ fn least(values: &Domain) -> i64
     // a set has a number
     values.size();
     values.nth(0)
-}
-
-/// Whether `v` is better than `w`.
-fn is_better(goal: Goal, v: Ext, w: Ext) -> bool
-    ensures { result ≡ is_better goal v w }
-{
-    match goal {
-        Goal::Maximise => v > w,
-        Goal::Minimise => v < w,
-    }
 }

@@ -1,6 +1,5 @@
 //! Laws of the definitions: functions that do nothing, each with what it proves as its clause.
 
-ghost use Rattle.ts_filter.specs.Known.{DifferencesJoin, OneCellDiffers};
 ghost use Rattle.ts_filter.specs.MachineSpans.{AnswersAreEnough, CallsTell, MachinesHold, MachinesTell};
 ghost use Rattle.ts_filter.specs.MachineSpans.{SpansAreOfMachines};
 ghost use Rattle.ts_filter.specs.Laws.{AcceptedHolds, AcceptedIsKept, FailingIsRejected, OneFirstFailing};
@@ -110,10 +109,4 @@ pub fn failing_is_rejected()
 pub fn lines_go_on()
     ensures more { LinesGoOn }
     ensures whole { WholeIsJudged }
-{}
-
-/// A box with other values in one cell differs there alone; boxes that differ one after another do so where each does.
-pub fn changes_join()
-    ensures one { OneCellDiffers }
-    ensures join { DifferencesJoin }
 {}

@@ -3,12 +3,12 @@
 //! The layer above may rely on this: `refutes` and `cuts` answer exactly whether no number of a span compares so with a
 //! bound, or counts for a bar. The calls on a machine and a box answer the same of the box's span at a cell, and name
 //! the first cell, the first drop and the value to keep; each makes the rows of a machine once, however many cells
-//! there are, and looks at no further pair of states once some number of a span does what is asked. `BoxTables` answers
-//! the same questions and keeps the rows: those that a change of the box doesn't reach serve the next box, and so do
-//! those behind a row that comes out as it was. `LiveTables` finds out by itself what has changed, and `AllTables` does
-//! so for the machines of all terms. The definitions state the rule of each line of a certificate, when a certificate
-//! is accepted, its first failing line and what its claim means; by the laws an accepted certificate means what it
-//! claims, whoever wrote it, wherever spans hold the values of their terms.
+//! there are, and looks at no further pair of states once some number of a span does what is asked. `AllTables` answers
+//! the same questions for the machines of all terms and keeps the rows: those that a change of the box doesn't reach
+//! serve the next box, and so do those behind a row that comes out as it was. It finds out by itself what has changed.
+//! The definitions state the rule of each line of a certificate, when a certificate is accepted, its first failing line
+//! and what its claim means; by the laws an accepted certificate means what it claims, whoever wrote it, wherever spans
+//! hold the values of their terms.
 //!
 //! ```text
 //! let span = Span { lo: Ext::Int(2), hi: Ext::Int(5) };
@@ -17,11 +17,10 @@
 //! cuts(Goal::Maximise, Bar::AsGood(Ext::Int(5)), span)       // false: 5 is as good
 //! next_drop(alloc, &machines, &requirements, &cells)?        // a value that no series with it meets, if one is known
 //!
-//! let mut tables = BoxTables::new(alloc, &machine);
+//! let mut tables = AllTables::new(alloc, &machines, &domains)?;
 //! tables.refuted(alloc, &requirement, n, &cells)?;           // asks for forward rows alone, since cell n is the last
 //! cells.remove(k, v)?;
-//! tables.changed(k, k, n);
-//! tables.first_cut(alloc, goal, &cells, bar)?                // makes anew what the change reached
+//! tables.first_cut(alloc, term, goal, &cells, bar)?          // makes anew what the change reached
 //! ```
 #![tactic(auto)]
 
@@ -50,10 +49,8 @@ mod term_requirements;
 pub use all_tables::AllTables;
 pub use at_cell::{cut_at_end, refuted, refuted_value, worse};
 pub use bar::Bar;
-pub use box_tables::BoxTables;
 pub use drops::{Removal, next_drop};
-pub use excluded::{cuts, refutes};
+pub use excluded::{counts, cuts, refutes};
 pub use first_cell::{first_cut, first_refuted};
 pub use kept::kept_value;
-pub use live_tables::LiveTables;
 pub use ts_base::Goal;

@@ -1,7 +1,6 @@
 //! Tables of a box become those of another one: what depends on a cell that differs is forgotten.
 
 ghost use Rattle.std.specs.Prelude.{◌≡◌, ◌+◌, ◌≤◌, IfOk, OnOk, drop, length, take};
-ghost use Rattle.ts_filter.specs.Boxes.{Box};
 ghost use Rattle.ts_filter.specs.Known.{AreKnown, DifferFrom};
 
 use crate::box_tables::BoxTables;

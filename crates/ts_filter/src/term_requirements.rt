@@ -1,22 +1,27 @@
 //! The requirements of one term among those of a model.
 
-ghost use Rattle.std.specs.Prelude.{◌≡◌, ◌↔◌, ◌<◌, IsTrue, MatchOption, None, Some, length, nat_eq};
+ghost use Rattle.std.specs.Prelude.{◌≡◌, ◌↔◌, ◌<◌, ◌≤◌, IsTrue, MatchOption, None, Some, length, nat_eq};
 ghost use Rattle.std.specs.List.{position};
+ghost use Rattle.ts_base.specs.declared.span.Span.{Span};
 ghost use Rattle.ts_filter.specs.Excluded.{Refutes};
-ghost use Rattle.ts_filter.specs.TermDrops.{IsFirstRefuting};
+ghost use Rattle.ts_filter.specs.TermDrops.{IsFirstRefuting, NoneFrom, RefutesSome};
 
 use crate::excluded::refutes;
 use ts_base::Span;
 use ts_model::Require;
 
-/// The requirements of a term that has some: the one at place `first`, and those of the term behind it.
+/// The requirements of a term that has some: the one at place `first`, and those of the term behind it up to `end`.
 #[derive(Clone, Copy)]
 pub(crate) struct TermRequirements<'a> {
     pub(crate) all: &'a [Require],
     pub(crate) term: u32,
     pub(crate) first: usize,
+    pub(crate) end: usize,
     pub(crate) ghost few: { length all.now < 4000000000 },
     pub(crate) ghost is_first: { position (λ r. nat_eq r.term term) all.now ≡ Some first },
+    pub(crate) ghost some: { first < end },
+    pub(crate) ghost within: { end ≤ length all.now },
+    pub(crate) ghost none_behind: { NoneFrom all.now term end },
 }
 
 impl<'a> TermRequirements<'a> {
@@ -27,14 +32,32 @@ impl<'a> TermRequirements<'a> {
             (λ own. (own.all.now ≡ all.now) × (own.term ≡ term)) }
     {
         let first = first_of(all, term)?;
-        Some(TermRequirements { all, term, first })
+        let end = end_of(all, term);
+        let own = TermRequirements {
+            all,
+            term,
+            first,
+            end,
+        };
+        Some(own)
+    }
+
+    /// The only one, where there are no others.
+    pub(crate) fn only(self) -> Option<&'a Require>
+        ensures { MatchOption result (Unit {0}) (λ r. (s : Span) →
+            Refutes r.now.op r.now.bound s ↔ RefutesSome self.entry.all.now self.entry.term s) }
+    {
+        if self.first + 1 < self.end {
+            return None;
+        }
+        Some(&self.all[self.first])
     }
 
     /// The number of the first one that the span refutes.
     pub(crate) fn first_refuted(self, span: Span) -> Option<u32>
         ensures { IsFirstRefuting self.entry.all.now self.entry.term span result }
     {
-        for at in self.first..self.all.len() {
+        for at in self.first..self.end {
             if is_refuted(&self.all[at], self.term, span) {
                 return Some(at as u32 + 1);
             }
@@ -50,9 +73,31 @@ fn first_of(all: &[Require], term: u32) -> Option<usize>
     all.iter().position(|r| r.term == term)
 }
 
+/// The place behind the last requirement of the term.
+fn end_of(all: &[Require], term: u32) -> usize
+    ensures within { result ≤ length all.now }
+    ensures none_behind { NoneFrom all.now term result }
+{
+    let mut end = all.len();
+    while end > 0 {
+        if is_of(&all[end - 1], term) {
+            return end;
+        }
+        end -= 1;
+    }
+    end
+}
+
+/// Whether the requirement is of the term.
+fn is_of(r: &Require, term: u32) -> bool
+    ensures { IsTrue result ↔ (r.now.term ≡ term) }
+{
+    r.term == term
+}
+
 /// Whether the requirement is of the term, and the span refutes it.
 fn is_refuted(r: &Require, term: u32, span: Span) -> bool
     ensures { IsTrue result ↔ ((r.now.term ≡ term) × Refutes r.now.op r.now.bound span) }
 {
-    r.term == term && refutes(r.op, r.bound, span)
+    is_of(r, term) && refutes(r.op, r.bound, span)
 }

@@ -8,5 +8,7 @@ use Rattle.ts_filter.proofs.at_cell.cut_at_end.Goals as goal
 pub returns : goal.returns
 returns c =
     let b = c.args.cells.now.present in
-    subst (λ (t : Known). IfOk c.cut_at_end.result (λ told. IsTrue told ↔ Cuts c.args.goal c.args.bar (term_span t.machine (length b) b)))
-    c.new.ensures.value c.cut_at_end.ensures.told
+    subst (λ (t : Known). IfOk c.excluded_at.result (λ told. IsTrue told ↔ Cuts c.args.goal c.args.bar (term_span t.machine (length b) b)))
+    c.new.ensures.value
+    (subst (λ n. IfOk c.excluded_at.result (λ told. IsTrue told ↔ Cuts c.args.goal c.args.bar (term_span c.new.result.machine n b)))
+    c.cells-n.ensures.count c.excluded_at.ensures.told)

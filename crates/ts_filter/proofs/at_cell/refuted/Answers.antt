@@ -8,6 +8,6 @@ use Rattle.ts_filter.proofs.at_cell.refuted.Goals as goal
 pub returns : goal.returns
 returns c =
     subst
-    (λ (t : Known). IfOk c.refuted.result
+    (λ (t : Known). IfOk c.excluded_at.result
     (λ told. IsTrue told ↔ Refutes c.args.r.now.op c.args.r.now.bound (term_span t.machine c.args.p c.args.cells.now.present)))
-    c.new.ensures.value c.refuted.ensures.told
+    c.new.ensures.value c.excluded_at.ensures.told

@@ -9,6 +9,6 @@ use Rattle.ts_filter.proofs.at_cell.worse.Goals as goal
 pub returns : goal.returns
 returns c =
     subst
-    (λ (t : Known). IfOk c.worse.result
+    (λ (t : Known). IfOk c.excluded_at.result
     (λ told. IsTrue told ↔ Cuts c.args.goal (Better c.args.bar) (term_span t.machine c.args.p c.args.cells.now.present)))
-    c.new.ensures.value c.worse.ensures.told
+    c.new.ensures.value c.excluded_at.ensures.told

@@ -20,7 +20,7 @@ loop-machine-preserved c =
     let at = c.loop-machine in
     let left = into_iter_items at.machine-iterator in
     let steps : left ≡ c.in-Some.machine ∷ into_iter_items c.next.new.self = c.in-Some.ensures.steps.0 in (
-      one_more at.each.items c.push.new.self.items _ left (into_iter_items c.next.new.self) c.in-Some.machine c.owning.result steps c.owning.ensures
+      one_more at.each.items c.push.new.self.items _ left (into_iter_items c.next.new.self) c.in-Some.machine c.new.result steps c.new.ensures
           c.in_ok-push.ensures.items at.invariant.0,
       let was = at.invariant.1 in
           let gone = c.in-Some.ensures.steps.1 in

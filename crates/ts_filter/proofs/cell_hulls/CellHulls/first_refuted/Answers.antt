@@ -11,7 +11,7 @@ returns-in_err-known c =
     let t = c.args.self.now in let own = c.args.requirements in
     subst (IsFirstRefuting own.all.now own.term (value_span t.machine t.cell t.cells c.args.v)) (sym c.from_residual.ensures)
     (subst (λ (v : ℤ). IsFirstRefuting own.all.now own.term (value_span t.machine t.cell t.cells v) None) (to_z-of_z w64 c.args.v c.ranges.v)
-    (none_refuted own c.none.result _ c.none.ensures.asked c.none.ensures.span c.in_err-known.ensures))
+    (none_refuted own c.each_met-asked.result c.each_met-asked.ensures c.none.result _ c.none.ensures.asked c.none.ensures.span c.in_err-known.ensures))
 
 pub returns : goal.returns
 returns c =

@@ -1,7 +1,7 @@
 use Rattle.std.proofs.Common.{ap, ◌∙◌, w64}
 use Rattle.std.proofs.lemmas.Int.{to_z-of_z}
 use Rattle.ts_bound.specs.TermSpans.{value_span}
-use Rattle.ts_filter.proofs.SoFarLaws.{alone_is, never_stops, value_canonical}
+use Rattle.ts_filter.proofs.SoFarLaws.{alone_is, value_canonical}
 use Rattle.ts_filter.proofs.cell_hulls.CellHulls.span_at.Goals as goal
 
 pub returns : goal.returns
