@@ -13,12 +13,12 @@ use Rattle.ts_transducer.proofs.CallerLemmas.{move_stays, decode_inside_each}
 use Rattle.ts_pattern.specs.declared.name.Aggregator.{Aggregator}
 use Rattle.ts_pattern.specs.declared.name.Feature.{Feature}
 use Rattle.ts_automaton.specs.AutomatonRun.{after_from, marked, IsInMark, AreCellValues, Marked}
-use Rattle.ts_decorate.specs.Decoration.{mark_of, decorated}
+use Rattle.ts_decorate.specs.Decoration.{mark_of, decorated, range_op}
 use Rattle.ts_decorate.specs.Answers.{AnswersRanges, KeepsMark}
 use Rattle.ts_decorate.proofs.Exact.{exact, held_at_limit, cell_value, IsGood, cell_good, cell_laws, range_right}
 use Rattle.ts_decorate.proofs.Runs.{table_start, table_after, total_of}
 use Rattle.ts_decorate.proofs.Evaluation.{after_is}
-use Rattle.ts_decorate.proofs.Sizes.{neutral_size, default_size, after_same, total_same, cost_small}
+use Rattle.ts_decorate.proofs.Sizes.{limit, size_of, op_size, neutral_size, default_size, after_same, total_same, cost_small}
 use Rattle.ts_decorate.proofs.Registers.{ranges_value}
 use Rattle.ts_decorate.proofs.Answers.{answer_is}
 use Rattle.ts_decorate.proofs.Features.{aggregate_is}
@@ -33,20 +33,13 @@ letters : (x : ℤ) (ys : List ℤ) → length (signature_of (x ∷ ys)) ≡ len
 letters x [] = refl
 letters x (y ∷ ys) = ap suc (letters y ys)
 
-module _ (rows : List Row) (typed : is_typed rows ≡ true) (few : length rows ≤ 8) (a : ℕ) (one : a ≤ 1) (g : Aggregator) (f : Feature) where
-  ranges_in : (x : ℤ) (ys : List ℤ) → AllByRecursion (IsInside (length (x ∷ ys))) (decode rows a (signature_of (x ∷ ys)))
-  ranges_in x ys =
-      let w = signature_of (x ∷ ys) in
-      let n : length w + 1 ≡ suc (length ys) = let e = letters x ys in omega (arith, e) in
-      subst (λ m. AllByRecursion (IsInside m) (decode rows a w)) n (decode_inside_each rows a w one)
-
-  -- the registers behind the series, before the mark
-  total_is : (x : ℤ) (ys : List ℤ) → length ys ≤ 99999 → IsCellValue x → AreCellValues ys →
-      total_of (held_at_limit g f) (after_from (decorated rows a g f) (table_start (exact g f)) x ys).regs
-      ≡ ranges_value (exact g f) (map (cell_value f) (x ∷ ys)) (decode rows a (signature_of (x ∷ ys)))
-  total_is x ys short h i =
+module _ (rows : List Row) (typed : is_typed rows ≡ true) (few : length rows ≤ 8) (a : ℕ) (g : Aggregator) (f : Feature) where
+  -- the registers behind the series, before the mark: no sum is held, so exact operators give the same
+  pub total_exact : (x : ℤ) (ys : List ℤ) → length ys ≤ 99999 → IsCellValue x → AreCellValues ys →
+      let total = total_of (held_at_limit g f) (after_from (decorated rows a g f) (table_start (exact g f)) x ys).regs in
+      (total ≡ total_of (exact g f) (table_after (exact g f) (cell_value f) a rows (table_start (exact g f)) x ys).regs) × (size_of total ≤ limit)
+  total_exact x ys short h i =
       let o = exact g f in
-      let vs = map (cell_value f) (x ∷ ys) in
       let first = move_stays rows typed 0 Less in
       let cost = cost_small f ys x h i in
       let n = neutral_size f in
@@ -54,10 +47,28 @@ module _ (rows : List Row) (typed : is_typed rows ≡ true) (few : length rows �
       let same = after_same g f a rows ys x (table_start o) (omega arith) in
       let size = same.1 in
       let end = table_after o (cell_value f) a rows (table_start o) x ys in
+      let last = op_size (range_op g) end.regs.r end.regs.c in
+      let is =
       ap (λ st. total_of (held_at_limit g f) st.regs) (after_is rows typed few a g f ys x (table_start o) (omega arith))
       ∙ ap (λ st. total_of (held_at_limit g f) st.regs) same.0
-      ∙ total_same g f end.regs (omega arith)
-      ∙ answer_is o (IsGood f) (cell_laws f) (range_right g) (cell_value f) rows typed a one vs (cell_value f x) (cells_good f (x ∷ ys)) x ys refl
+      ∙ total_same g f end.regs (omega arith) in
+      (is, subst (λ v. size_of v ≤ limit) (sym is) (omega arith))
+
+module _ (rows : List Row) (typed : is_typed rows ≡ true) (few : length rows ≤ 8) (a : ℕ) (one : a ≤ 1) (g : Aggregator) (f : Feature) where
+  ranges_in : (x : ℤ) (ys : List ℤ) → AllByRecursion (IsInside (length (x ∷ ys))) (decode rows a (signature_of (x ∷ ys)))
+  ranges_in x ys =
+      let w = signature_of (x ∷ ys) in
+      let n : length w + 1 ≡ suc (length ys) = let e = letters x ys in omega (arith, e) in
+      subst (λ m. AllByRecursion (IsInside m) (decode rows a w)) n (decode_inside_each rows a w one)
+
+  -- they hold the fold over the ranges
+  total_is : (x : ℤ) (ys : List ℤ) → length ys ≤ 99999 → IsCellValue x → AreCellValues ys →
+      total_of (held_at_limit g f) (after_from (decorated rows a g f) (table_start (exact g f)) x ys).regs
+      ≡ ranges_value (exact g f) (map (cell_value f) (x ∷ ys)) (decode rows a (signature_of (x ∷ ys)))
+  total_is x ys short h i =
+      let vs = map (cell_value f) (x ∷ ys) in
+      (total_exact rows typed few a g f x ys short h i).0
+      ∙ answer_is (exact g f) (IsGood f) (cell_laws f) (range_right g) (cell_value f) rows typed a one vs (cell_value f x) (cells_good f (x ∷ ys)) x ys refl
 
   pub answers_ranges : AnswersRanges (decorated rows a g f) rows a g f
   answers_ranges [] some short h = absurd (omega (arith, some))
