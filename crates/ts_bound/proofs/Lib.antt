@@ -19,3 +19,4 @@ pub mod SweptRows
 pub mod ValueLaws
 pub mod Passed
 pub mod OneValue
+mod Twins

@@ -1,5 +1,5 @@
 -- The steps of the loops of a sweep.
-use Rattle.std.proofs.Common.{◌≡◌, ℕ, zero, suc, ◌+◌, ◌-◌, ◌*◌, ◌<◌, ◌≤◌, Bool, true, false, cond, ℤ, pos, List, [], ◌∷◌, length, get_or, set, refl, sym, ◌∙◌, ap, subst, arith, int_lt, ◌⊎◌, inl, inr}
+use Rattle.std.proofs.Common.{◌≡◌, ℕ, zero, suc, ◌+◌, ◌-◌, ◌*◌, ◌<◌, ◌≤◌, Bool, true, false, cond, ◌||◌, ℤ, pos, List, [], ◌∷◌, length, get_or, set, refl, sym, ◌∙◌, ap, subst, arith, int_lt, ◌⊎◌, inl, inr}
 use Rattle.std.specs.Ordering.{int_eq}
 use Rattle.std.proofs.lemmas.Bool.Decides.{Decides-int_eq}
 use Rattle.std.proofs.lemmas.Int.{ints}
@@ -16,10 +16,10 @@ use Rattle.ts_bound.specs.Packs.{IsRunning}
 use Rattle.ts_bound.specs.Sealed.{after_move}
 use Rattle.ts_bound.specs.Cuts.{Cut, cut_of, swept, front_hull, closed_hull}
 use Rattle.ts_bound.specs.Smalls.{Rises}
-use Rattle.ts_bound.specs.Sweeps.{AllTakeNone, IsSweepable, total, hull_in, step_place, fronts, fits, same_letter, pair_gives, move_entry, puts, with_move}
+use Rattle.ts_bound.specs.Sweeps.{AllTakeNone, IsSweepable, total, hull_in, step_place, fronts, fits, takes, same_letter, pair_gives, move_entry, sweep_entry, puts, with_move, with_sweep}
 use Rattle.ts_bound.proofs.HullLaws.{TakesNone, both_takes_none, none_takes_none}
 use Rattle.ts_bound.proofs.SpanHulls.{both_comm, both_assoc}
-use Rattle.ts_bound.proofs.Sums.{total_nothing, total_same, total_cut, total_first, total_canonical}
+use Rattle.ts_bound.proofs.Sums.{total_nothing, total_same, total_join, total_canon, total_cut, total_first, total_canonical}
 use Rattle.ts_bound.proofs.SplitLaws.{closed_hull_none, total_closed, moved_is, hull_small, small_within}
 use Rattle.ts_bound.proofs.PackLaws.{runs_past}
 
@@ -35,13 +35,14 @@ fronts_more k l s q vs row n n' i any any' p p' is e run step =
     (ap (λ m. hull_of_both (total n F) (front_hull k (hull_in s q row m) (get_or vs m (pos 0)))) is ∙ sym (ap (λ m. total m F) more))
     (step (total n F) run)
 
-pub passed_more : (l : Letter) (vs ws : List ℤ) (j from n n' i : ℕ) (b : Bool) → i ≡ step_place l (length vs) n → n' ≡ n + 1 → b ≡ fits l vs i ws j →
+pub passed_more : (l : Letter) (twin : Bool) (vs ws : List ℤ) (j from n n' i : ℕ) (b : Bool) → i ≡ step_place l (length vs) n →
+    n' ≡ n + 1 → b ≡ takes l twin vs i ws j →
     b ≡ true →
-    ((k : ℕ) → from ≤ k → k < n → fits l vs (step_place l (length vs) k) ws j ≡ true) → (k : ℕ) → from ≤ k → k < n' →
-    fits l vs (step_place l (length vs) k) ws j ≡ true
-passed_more l vs ws j from n n' i b is m e t below k low high =
-    below_more (λ m. from ≤ m → fits l vs (step_place l (length vs) m) ws j ≡ true) n (λ m lt le. below m le lt)
-    (λ le. ap (λ m. fits l vs m ws j) (sym is) ∙ sym e ∙ t) k (omega arith) low
+    ((k : ℕ) → from ≤ k → k < n → takes l twin vs (step_place l (length vs) k) ws j ≡ true) → (k : ℕ) → from ≤ k → k < n' →
+    takes l twin vs (step_place l (length vs) k) ws j ≡ true
+passed_more l twin vs ws j from n n' i b is m e t below k low high =
+    below_more (λ m. from ≤ m → takes l twin vs (step_place l (length vs) m) ws j ≡ true) n (λ m lt le. below m le lt)
+    (λ le. ap (λ m. takes l twin vs m ws j) (sym is) ∙ sym e ∙ t) k (omega arith) low
 
 -- a run of nothing leaves the next row
 pub put_skipped : (k : Cut) (any : Bool) (p : Packed) (next : List Hull) (q : ℕ) (y : ℤ) (t : Hull) → any ≡ false →
@@ -119,6 +120,13 @@ equal_is v w = go (int_lt v w) (int_lt w v) refl refl
     go false true e f = sym (not_equal v w (λ s. below_apart w v f (sym s)))
     go false false e f = sym ((Decides-int_eq v w).1 (neither_is v w e f))
 
+pub less_not_equal : (v w : ℤ) → int_lt v w ≡ true → same_letter (letter_of v w) Equal ≡ false
+less_not_equal v w h = ap (λ a. same_letter (cond a Less (cond (int_lt w v) Greater Equal)) Equal) h
+
+pub greater_not_equal : (v w : ℤ) → int_lt w v ≡ true → same_letter (letter_of v w) Equal ≡ false
+greater_not_equal v w h =
+    ap (λ a. same_letter (cond a Less (cond (int_lt w v) Greater Equal)) Equal) (not_both w v h) ∙ ap (λ a. same_letter (cond a Greater Equal) Equal) h
+
 pub ruleset letters_are = (less_is, equal_is, greater_is)
 
 lt_trans : (a b c : ℤ) → int_lt a b ≡ true → int_lt b c ≡ true → int_lt a c ≡ true
@@ -164,6 +172,103 @@ fits_rest l vs ws j at i u r le high f = go (le_cases at i le)
     go (inl e) = ap (λ m. fits l vs (step_place l (length vs) m) ws j) (sym e) ∙ f
     go (inr lt) = later l u lt f
 
+-- a place that is equal is passed for the next values that come later
+equal_later : (l : Letter) (vs ws : List ℤ) (i k n : ℕ) → same_letter l Equal ≡ false → Rises ws → k < n → n < length ws →
+    fits Equal vs i ws (step_place l (length ws) k) ≡ true → fits l vs i ws (step_place l (length ws) n) ≡ true
+equal_later Less vs ws i k n u r lt high f =
+    let v = get_or vs i (pos 0) in let a = get_or ws k (pos 0) in let b = get_or ws n (pos 0) in
+    less_is v b ∙ ap (λ z. int_lt z b) ((Decides-int_eq v a).0 (sym (equal_is v a) ∙ f)) ∙ r k n lt high
+equal_later Equal vs ws i k n u r lt high f = cc
+equal_later Greater vs ws i k n u r lt high f =
+    let v = get_or vs i (pos 0) in let a = get_or ws (length ws - suc k) (pos 0) in let b = get_or ws (length ws - suc n) (pos 0) in
+    greater_is v b ∙ ap (int_lt b) ((Decides-int_eq v a).0 (sym (equal_is v a) ∙ f)) ∙ r (length ws - suc n) (length ws - suc k) (omega arith) (omega arith)
+
+-- where a place is neither passed nor equal, no later place is equal
+equal_rest : (l : Letter) (vs ws : List ℤ) (j at i : ℕ) → same_letter l Equal ≡ false → Rises vs → at ≤ i → i < length vs →
+    fits l vs (step_place l (length vs) at) ws j ≡ false → fits Equal vs (step_place l (length vs) at) ws j ≡ false →
+    fits Equal vs (step_place l (length vs) i) ws j ≡ false
+equal_rest l vs ws j at i u r le high f e = go (same_or_less at i le)
+  where
+    same_or_less : (a b : ℕ) → a ≤ b → (a ≡ b) ⊎ (a < b)
+    same_or_less a b h = grind arith
+
+    over : (a b w : ℤ) → int_lt a w ≡ false → int_lt a b ≡ true → int_lt w b ≡ true
+    over a b w h k = grind (arith, ints)
+
+    under : (a b w : ℤ) → int_lt w a ≡ false → int_lt b a ≡ true → int_lt b w ≡ true
+    under a b w h k = grind (arith, ints)
+
+    later : (l : Letter) → same_letter l Equal ≡ false → at < i → fits l vs (step_place l (length vs) at) ws j ≡ false →
+        fits Equal vs (step_place l (length vs) i) ws j ≡ false
+    later Less u lt f =
+        let w = get_or ws j (pos 0) in let a = get_or vs at (pos 0) in let b = get_or vs i (pos 0) in
+        greater_not_equal b w (over a b w (sym (less_is a w) ∙ f) (r at i lt high))
+    later Equal u lt f = cc
+    later Greater u lt f =
+        let w = get_or ws j (pos 0) in let a = get_or vs (length vs - suc at) (pos 0) in let b = get_or vs (length vs - suc i) (pos 0) in
+        less_not_equal b w (under a b w (sym (greater_is a w) ∙ f) (r (length vs - suc i) (length vs - suc at) (omega arith) (omega arith)))
+
+    go : (at ≡ i) ⊎ (at < i) → fits Equal vs (step_place l (length vs) i) ws j ≡ false
+    go (inl s) = ap (λ m. fits Equal vs (step_place l (length vs) m) ws j) (sym s) ∙ e
+    go (inr lt) = later l u lt f
+
+or_true : (a b : Bool) → (a || b) ≡ true → (a ≡ true) ⊎ (b ≡ true)
+or_true true b h = inl refl
+or_true false b h = inr h
+
+or_false : (a b : Bool) → (a || b) ≡ false → (a ≡ false) × (b ≡ false)
+or_false true b h = cc
+or_false false b h = (refl, h)
+
+-- the same of both, where a twin is taken in too
+
+takes_later : (l : Letter) (twin : Bool) (vs ws : List ℤ) (i k n : ℕ) → same_letter l Equal ≡ false → Rises ws → k < n → n < length ws →
+    takes l twin vs i ws (step_place l (length ws) k) ≡ true → takes l twin vs i ws (step_place l (length ws) n) ≡ true
+takes_later l false vs ws i k n u r lt high f = fits_later l vs ws i k n u r lt high f
+takes_later l true vs ws i k n u r lt high f =
+    ap (λ b. b || fits Equal vs i ws (step_place l (length ws) n))
+    (go (or_true (fits l vs i ws (step_place l (length ws) k)) (fits Equal vs i ws (step_place l (length ws) k)) f))
+  where
+    go : (fits l vs i ws (step_place l (length ws) k) ≡ true) ⊎ (fits Equal vs i ws (step_place l (length ws) k) ≡ true) →
+        fits l vs i ws (step_place l (length ws) n) ≡ true
+    go (inl h) = fits_later l vs ws i k n u r lt high h
+    go (inr h) = equal_later l vs ws i k n u r lt high h
+
+takes_rest : (l : Letter) (twin : Bool) (vs ws : List ℤ) (j at i : ℕ) → same_letter l Equal ≡ false → Rises vs → at ≤ i → i < length vs →
+    takes l twin vs (step_place l (length vs) at) ws j ≡ false → takes l twin vs (step_place l (length vs) i) ws j ≡ false
+takes_rest l false vs ws j at i u r le high f = fits_rest l vs ws j at i u r le high f
+takes_rest l true vs ws j at i u r le high f =
+    let here = or_false (fits l vs (step_place l (length vs) at) ws j) (fits Equal vs (step_place l (length vs) at) ws j) f in
+    ap (λ b. b || fits Equal vs (step_place l (length vs) i) ws j) (fits_rest l vs ws j at i u r le high here.0)
+    ∙ equal_rest l vs ws j at i u r le high here.0 here.1
+
+-- what both give from one place
+twin_gives : (x l : Letter) (g : Hull) → same_letter l Equal ≡ false →
+    hull_of_both (cond (same_letter x l) g none) (cond (same_letter x Equal) g none)
+    ≡ hull_of_both (cond (same_letter x l || same_letter x Equal) g none) none
+twin_gives Less Less g u = refl
+twin_gives Less Greater g u = refl
+twin_gives Equal Less g u = both_comm none g
+twin_gives Equal Greater g u = both_comm none g
+twin_gives Greater Less g u = refl
+twin_gives Greater Greater g u = refl
+twin_gives x Equal g u = cc
+
+-- the places that a sweep takes in
+sweep_total : (m : Move) (l : Letter) (twin : Bool) (s q : ℕ) (vs ws : List ℤ) (row : List Hull) (j : ℕ) → same_letter l Equal ≡ false →
+    sweep_entry m l twin s q vs row (get_or ws j (pos 0)) ≡ total (length vs)
+    (λ i. cond (takes l twin vs i ws j) (after_move m (hull_in s q row i) (get_or vs i (pos 0)) (get_or ws j (pos 0))) none)
+unfolding sweep_entry move_entry
+sweep_total m l false s q vs ws row j u = refl
+sweep_total m l true s q vs ws row j u =
+    let n = length vs in let w = get_or ws j (pos 0) in
+    let G : ℕ → Hull = λ i. after_move m (hull_in s q row i) (get_or vs i (pos 0)) w in
+    sym (total_join n (λ i. cond (fits l vs i ws j) (G i) none) (λ i. cond (fits Equal vs i ws j) (G i) none))
+    ∙ total_same n (λ i. hull_of_both (cond (fits l vs i ws j) (G i) none) (cond (fits Equal vs i ws j) (G i) none))
+    (λ i. hull_of_both (cond (takes l true vs i ws j) (G i) none) none)
+    (λ i lt. twin_gives (letter_of (get_or vs i (pos 0)) w) l (G i) u)
+    ∙ total_canon n (λ i. cond (takes l true vs i ws j) (G i) none)
+
 -- a sum in the letter's order
 total_reverse : (n : ℕ) (f : ℕ → Hull) → total n f ≡ total n (λ k. f (n - suc k))
 unfolding total
@@ -184,19 +289,20 @@ total_place Equal n f = refl
 total_place Greater n f = total_reverse n f
 
 -- one entry: the hull of the fronts that were passed, closed by the next value
-pub entry_is : (m : Move) (l : Letter) (s q : ℕ) (vs ws : List ℤ) (row : List Hull) (j at : ℕ) → same_letter l Equal ≡ false →
+pub entry_is : (m : Move) (l : Letter) (twin : Bool) (s q : ℕ) (vs ws : List ℤ) (row : List Hull) (j at : ℕ) → same_letter l Equal ≡ false →
     swept (cut_of m) ≡ true → IsSweepable vs ws row →
-    at ≤ length vs → ((k : ℕ) → k < at → fits l vs (step_place l (length vs) k) ws j ≡ true) →
-    (at < length vs → fits l vs (step_place l (length vs) at) ws j ≡ false) →
-    move_entry m l s q vs row (get_or ws j (pos 0)) ≡ closed_hull (cut_of m) (fronts (cut_of m) l s q vs row at) (get_or ws j (pos 0))
-unfolding move_entry fronts
-entry_is m l s q vs ws row j at u sw able inside passed rest =
+    at ≤ length vs → ((k : ℕ) → k < at → takes l twin vs (step_place l (length vs) k) ws j ≡ true) →
+    (at < length vs → takes l twin vs (step_place l (length vs) at) ws j ≡ false) →
+    sweep_entry m l twin s q vs row (get_or ws j (pos 0)) ≡ closed_hull (cut_of m) (fronts (cut_of m) l s q vs row at) (get_or ws j (pos 0))
+unfolding fronts
+entry_is m l twin s q vs ws row j at u sw able inside passed rest =
     let n = length vs in let w = get_or ws j (pos 0) in
     let G : ℕ → Hull = λ i. after_move m (hull_in s q row i) (get_or vs i (pos 0)) w in
     let F : ℕ → Hull = λ i. front_hull (cut_of m) (hull_in s q row (step_place l n i)) (get_or vs (step_place l n i) (pos 0)) in
-    total_place l n (λ i. cond (fits l vs i ws j) (G i) none)
-    ∙ total_cut n (n - at) at (λ k. fits l vs (step_place l n k) ws j) (λ k. G (step_place l n k)) (omega arith) passed
-    (λ i low high. fits_rest l vs ws j at i u able.rises low high (rest (omega arith)))
+    sweep_total m l twin s q vs ws row j u
+    ∙ total_place l n (λ i. cond (takes l twin vs i ws j) (G i) none)
+    ∙ total_cut n (n - at) at (λ k. takes l twin vs (step_place l n k) ws j) (λ k. G (step_place l n k)) (omega arith) passed
+    (λ i low high. takes_rest l twin vs ws j at i u able.rises low high (rest (omega arith)))
     ∙ total_same at (λ k. G (step_place l n k)) (λ k. closed_hull (cut_of m) (F k) w)
     (λ k lt. moved_is m (hull_in s q row (step_place l n k)) (get_or vs (step_place l n k) (pos 0)) w sw
     (hull_small (hull_in s q row (step_place l n k)) (able.small (step_place l n k * s + q)))
@@ -207,20 +313,21 @@ below_cases : (a b : ℕ) → (a < b) ⊎ (b ≤ a)
 below_cases a b = grind arith
 
 -- all that was passed so far, before the next value at place j
-pub all_passed : (l : Letter) (vs ws : List ℤ) (k j at at' : ℕ) → j ≡ step_place l (length ws) k → k < length ws →
-    ((i : ℕ) → i < at → (n : ℕ) → k ≤ n → n < length ws → fits l vs (step_place l (length vs) i) ws (step_place l (length ws) n) ≡ true) →
-    ((i : ℕ) → at ≤ i → i < at' → fits l vs (step_place l (length vs) i) ws j ≡ true) → (i : ℕ) → i < at' → fits l vs (step_place l (length vs) i) ws j ≡ true
-all_passed l vs ws k j at at' is lt old new i high = go (below_cases i at)
+pub all_passed : (l : Letter) (twin : Bool) (vs ws : List ℤ) (k j at at' : ℕ) → j ≡ step_place l (length ws) k → k < length ws →
+    ((i : ℕ) → i < at → (n : ℕ) → k ≤ n → n < length ws → takes l twin vs (step_place l (length vs) i) ws (step_place l (length ws) n) ≡ true) →
+    ((i : ℕ) → at ≤ i → i < at' → takes l twin vs (step_place l (length vs) i) ws j ≡ true) →
+    (i : ℕ) → i < at' → takes l twin vs (step_place l (length vs) i) ws j ≡ true
+all_passed l twin vs ws k j at at' is lt old new i high = go (below_cases i at)
   where
-    go : (i < at) ⊎ (at ≤ i) → fits l vs (step_place l (length vs) i) ws j ≡ true
-    go (inl h) = ap (fits l vs (step_place l (length vs) i) ws) is ∙ old i h k (omega arith) lt
+    go : (i < at) ⊎ (at ≤ i) → takes l twin vs (step_place l (length vs) i) ws j ≡ true
+    go (inl h) = ap (takes l twin vs (step_place l (length vs) i) ws) is ∙ old i h k (omega arith) lt
     go (inr h) = new i h high
 
-pub later_passed : (l : Letter) (vs ws : List ℤ) (k j at : ℕ) → same_letter l Equal ≡ false → Rises ws → j ≡ step_place l (length ws) k →
-    ((i : ℕ) → i < at → fits l vs (step_place l (length vs) i) ws j ≡ true) →
-    (i : ℕ) → i < at → (n : ℕ) → k + 1 ≤ n → n < length ws → fits l vs (step_place l (length vs) i) ws (step_place l (length ws) n) ≡ true
-later_passed l vs ws k j at u r is all i high n low lt =
-    fits_later l vs ws (step_place l (length vs) i) k n u r (omega arith) lt (ap (fits l vs (step_place l (length vs) i) ws) (sym is) ∙ all i high)
+pub later_passed : (l : Letter) (twin : Bool) (vs ws : List ℤ) (k j at : ℕ) → same_letter l Equal ≡ false → Rises ws → j ≡ step_place l (length ws) k →
+    ((i : ℕ) → i < at → takes l twin vs (step_place l (length vs) i) ws j ≡ true) →
+    (i : ℕ) → i < at → (n : ℕ) → k + 1 ≤ n → n < length ws → takes l twin vs (step_place l (length vs) i) ws (step_place l (length ws) n) ≡ true
+later_passed l twin vs ws k j at u r is all i high n low lt =
+    takes_later l twin vs ws (step_place l (length vs) i) k n u r (omega arith) lt (ap (takes l twin vs (step_place l (length vs) i) ws) (sym is) ∙ all i high)
 
 -- one next value more
 pub puts_more : (s to : ℕ) (order : ℕ → ℕ) (f : ℕ → Hull) (first next next' : List Hull) (k j : ℕ) (h d : Hull) → j ≡ order k →
@@ -235,16 +342,17 @@ puts_more s to order f first next next' k j h d is inv e step =
     ∙ sym (ap (puts s to order f first) more)
 
 -- the next value takes in what was passed
-pub put_is : (m : Move) (pc : Cut) (l : Letter) (s q to : ℕ) (vs ws : List ℤ) (row next next' : List Hull) (j at : ℕ) (any : Bool) (p : Packed) →
+pub put_is : (m : Move) (pc : Cut) (l : Letter) (twin : Bool) (s q to : ℕ) (vs ws : List ℤ) (row next next' : List Hull) (j at : ℕ) (any : Bool) (p : Packed) →
     same_letter l Equal ≡ false → swept (cut_of m) ≡ true → IsSweepable vs ws row →
     pc ≡ cut_of m → at ≤ length vs → IsRunning any p (fronts pc l s q vs row at) →
     ((t : Hull) → IsRunning any p t → next' ≡ set next (j * s + to) (hull_of_both (get_or next (j * s + to) none) (closed_hull pc t (get_or ws j (pos 0))))) →
-    ((k : ℕ) → k < at → fits l vs (step_place l (length vs) k) ws j ≡ true) → (at < length vs → fits l vs (step_place l (length vs) at) ws j ≡ false) →
-    next' ≡ set next (j * s + to) (hull_of_both (get_or next (j * s + to) none) (move_entry m l s q vs row (get_or ws j (pos 0))))
-put_is m pc l s q to vs ws row next next' j at any p u sw able is inside run step passed rest =
+    ((k : ℕ) → k < at → takes l twin vs (step_place l (length vs) k) ws j ≡ true) →
+    (at < length vs → takes l twin vs (step_place l (length vs) at) ws j ≡ false) →
+    next' ≡ set next (j * s + to) (hull_of_both (get_or next (j * s + to) none) (sweep_entry m l twin s q vs row (get_or ws j (pos 0))))
+put_is m pc l twin s q to vs ws row next next' j at any p u sw able is inside run step passed rest =
     step (fronts pc l s q vs row at) run
     ∙ ap (λ z. set next (j * s + to) (hull_of_both (get_or next (j * s + to) none) z))
-    (ap (λ z. closed_hull z (fronts z l s q vs row at) (get_or ws j (pos 0))) is ∙ sym (entry_is m l s q vs ws row j at u sw able inside passed rest))
+    (ap (λ z. closed_hull z (fronts z l s q vs row at) (get_or ws j (pos 0))) is ∙ sym (entry_is m l twin s q vs ws row j at u sw able inside passed rest))
 
 pub puts_begun : (s to : ℕ) (order : ℕ → ℕ) (f : ℕ → Hull) (first : List Hull) → first ≡ puts s to order f first 0
 unfolding puts
@@ -264,6 +372,21 @@ unfolding with_move
 puts_done m l s q vs row ws first next k low high e =
     let same : k ≡ length ws = omega arith in e ∙ ap (puts s m.next (step_place l (length ws)) (λ j. move_entry m l s q vs row (get_or ws j (pos 0)))
     first) same
+
+pub sweep_done : (m : Move) (l : Letter) (twin : Bool) (s q : ℕ) (vs : List ℤ) (row : List Hull) (ws : List ℤ) (first next : List Hull) (k : ℕ) →
+    length ws ≤ k → k ≤ length ws →
+    next ≡ puts s m.next (step_place l (length ws)) (λ j. sweep_entry m l twin s q vs row (get_or ws j (pos 0))) first k →
+    next ≡ with_sweep m l twin s q vs row ws first
+unfolding with_sweep
+sweep_done m l twin s q vs row ws first next k low high e =
+    let same : k ≡ length ws = omega arith in
+    e ∙ ap (puts s m.next (step_place l (length ws)) (λ j. sweep_entry m l twin s q vs row (get_or ws j (pos 0))) first) same
+
+-- without a twin it is the move alone
+pub sweep_alone : (m : Move) (l : Letter) (s q : ℕ) (vs : List ℤ) (row : List Hull) (ws : List ℤ) (next : List Hull) →
+    with_sweep m l false s q vs row ws next ≡ with_move m l s q vs row ws next
+unfolding with_sweep sweep_entry with_move
+sweep_alone m l s q vs row ws next = refl
 
 -- by pairs
 
@@ -292,13 +415,6 @@ total_one (suc n) at f lt h = go (total_one n at f) (below_cases at n)
     go again (inr l) =
         let same : n ≡ at = omega arith in
         ap (λ z. hull_of_both z (f n)) (none_before n (omega arith) (omega arith)) ∙ ap (λ k. hull_of_both none (f k)) same
-
-pub less_not_equal : (v w : ℤ) → int_lt v w ≡ true → same_letter (letter_of v w) Equal ≡ false
-less_not_equal v w h = ap (λ a. same_letter (cond a Less (cond (int_lt w v) Greater Equal)) Equal) h
-
-pub greater_not_equal : (v w : ℤ) → int_lt w v ≡ true → same_letter (letter_of v w) Equal ≡ false
-greater_not_equal v w h =
-    ap (λ a. same_letter (cond a Less (cond (int_lt w v) Greater Equal)) Equal) (not_both w v h) ∙ ap (λ a. same_letter (cond a Greater Equal) Equal) h
 
 above : (a b w : ℤ) → int_lt a w ≡ false → int_lt a b ≡ true → int_lt w b ≡ true
 above a b w h k = grind (arith, ints)

@@ -46,7 +46,7 @@ place_state s j t r e = omega arith
 pub place_inside : (s n j t : ℕ) → j < n → t < s → j * s + t < n * s
 place_inside s n j t lt h = let m : suc j * s ≤ n * s = mul-le-mul_right s lt in let w : suc j * s ≡ j * s + s = omega arith in omega arith
 
-length-puts : (s r : ℕ) (order : ℕ → ℕ) (f : ℕ → Hull) (next : List Hull) (n : ℕ) → length (puts s r order f next n) ≡ length next
+pub length-puts : (s r : ℕ) (order : ℕ → ℕ) (f : ℕ → Hull) (next : List Hull) (n : ℕ) → length (puts s r order f next n) ≡ length next
 unfolding puts
 length-puts s r order f next zero = refl
 length-puts s r order f next (suc n) = length-set (puts s r order f next n) (order n * s + r) _ ∙ length-puts s r order f next n
@@ -120,7 +120,7 @@ place_once Less n j i h k e = e
 place_once Equal n j i h k e = e
 place_once Greater n j i h k e = omega arith
 
-length-with_move : (m : Move) (l : Letter) (s q : ℕ) (vs : List ℤ) (row : List Hull) (ws : List ℤ) (next : List Hull) →
+pub length-with_move : (m : Move) (l : Letter) (s q : ℕ) (vs : List ℤ) (row : List Hull) (ws : List ℤ) (next : List Hull) →
     length (with_move m l s q vs row ws next) ≡ length next
 unfolding with_move
 length-with_move m l s q vs row ws next = length-puts s m.next (step_place l (length ws)) _ next (length ws)
@@ -130,22 +130,27 @@ chosen true x e c = refl
 chosen false x e c = sym c
 
 -- what a move gives to state t of the next value at place j
-abbrev gift : Move → Letter → ℕ → ℕ → List ℤ → List Hull → ℤ → ℕ → Hull
+abbrev pub gift : Move → Letter → ℕ → ℕ → List ℤ → List Hull → ℤ → ℕ → Hull
 gift m l s q vs row w t = cond (nat_eq m.next t) (move_entry m l s q vs row w) none
 
-with_move_at : (m : Move) (l : Letter) (s q : ℕ) (vs : List ℤ) (row : List Hull) (ws : List ℤ) (next : List Hull) (j t : ℕ) → j < length ws → t < s →
+pub puts_at : (m : Move) (l : Letter) (s : ℕ) (ws : List ℤ) (f : ℕ → Hull) (next : List Hull) (j t : ℕ) → j < length ws → t < s →
+    m.next < s → length next ≡ length ws * s → (x : Hull) → get_or next (j * s + t) none ≡ x → TakesNone x →
+    get_or (puts s m.next (step_place l (length ws)) f next (length ws)) (j * s + t) none ≡ hull_of_both x (cond (nat_eq m.next t) (f j) none)
+puts_at m l s ws f next j t lt a b long x is c =
+    let n = length ws in
+    let inside : j * s + t < length next = let p = place_inside s n j t lt a in omega arith in
+    puts_here s m.next (step_place l n) f next n (step_place l n j) j t a b inside
+    (place_below l n j lt) (place_place l n j lt) (λ i h e. place_once l n j i lt h e)
+    ∙ ap (λ z. cond (nat_eq m.next t) (hull_of_both z (f j)) z) is
+    ∙ chosen (nat_eq m.next t) x (f j) c
+
+pub with_move_at : (m : Move) (l : Letter) (s q : ℕ) (vs : List ℤ) (row : List Hull) (ws : List ℤ) (next : List Hull) (j t : ℕ) → j < length ws → t < s →
     m.next < s → length next ≡ length ws * s →
     (x : Hull) → get_or next (j * s + t) none ≡ x → TakesNone x → get_or (with_move m l s q vs row ws next) (j * s + t) none ≡ hull_of_both x
     (gift m l s q vs row (get_or ws j (pos 0)) t)
 unfolding with_move
 with_move_at m l s q vs row ws next j t lt a b long x is c =
-    let n = length ws in
-    let inside : j * s + t < length next = let p = place_inside s n j t lt a in omega arith in
-    let E = move_entry m l s q vs row (get_or ws j (pos 0)) in
-    puts_here s m.next (step_place l n) (λ i. move_entry m l s q vs row (get_or ws i (pos 0))) next n (step_place l n j) j t a b inside
-    (place_below l n j lt) (place_place l n j lt) (λ i h e. place_once l n j i lt h e)
-    ∙ ap (λ z. cond (nat_eq m.next t) (hull_of_both z E) z) is
-    ∙ chosen (nat_eq m.next t) x E c
+    puts_at m l s ws (λ i. move_entry m l s q vs row (get_or ws i (pos 0))) next j t lt a b long x is c
 
 -- all moves of a state
 abbrev gifts : Body → List ℤ → List Hull → ℤ → ℕ → ℕ → Hull

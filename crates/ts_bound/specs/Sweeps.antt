@@ -1,5 +1,6 @@
 -- How sweeps make a row: move by move, each over the values in the order of its letter.
-use Rattle.std.specs.Prelude.{◌≡◌, ℕ, zero, suc, ◌+◌, ◌-◌, ◌*◌, Bool, true, false, cond, ◌&&◌, int_lt, int_le, ℤ, pos, List, length, get_or, set}
+use Rattle.std.specs.Prelude.{◌≡◌, ℕ, zero, suc, ◌+◌, ◌-◌, ◌*◌, Bool, true, false, cond}
+use Rattle.std.specs.Prelude.{◌&&◌, ◌||◌, int_lt, int_le, ℤ, pos, List, length, get_or, set}
 use Rattle.ts_base.specs.declared.letter.Letter.{Letter}
 use Rattle.ts_base.specs.declared.letter.Letter.TheVariants.{Less, Equal, Greater}
 use Rattle.ts_base.specs.Signature.{letter_of}
@@ -59,6 +60,18 @@ unfoldable pub with_move : Move → Letter → ℕ → ℕ → List ℤ → List
 with_move m l s q vs row ws next =
     puts s m.next (step_place l (length ws)) (λ j. move_entry m l s q vs row (get_or ws j (pos 0))) next (length ws)
 
+-- what a move gives to the next value w on a letter, and on `=` too where it is the same there
+unfoldable pub sweep_entry : Move → Letter → Bool → ℕ → ℕ → List ℤ → List Hull → ℤ → Hull
+sweep_entry m l twin s q vs row w =
+    let here = move_entry m l s q vs row w in
+    cond twin (hull_of_both here (move_entry m Equal s q vs row w)) here
+
+-- a move is taken in on a letter, and on `=` too where it is the same there
+unfoldable pub with_sweep : Move → Letter → Bool → ℕ → ℕ → List ℤ → List Hull → List ℤ → List Hull → List Hull
+with_sweep m l twin s q vs row ws next =
+    puts s m.next (step_place l (length ws)) (λ j. sweep_entry m l twin s q vs row (get_or ws j (pos 0))) next
+    (length ws)
+
 -- the running hull: the fronts of the first n values in the order of the letter
 unfoldable pub fronts : Cut → Letter → ℕ → ℕ → List ℤ → List Hull → ℕ → Hull
 fronts k l s q vs row n =
@@ -79,6 +92,10 @@ with_states b vs row ws (suc n) next = with_state b vs row ws n (with_states b v
 -- both places compare as the letter says
 abbrev pub fits : Letter → List ℤ → ℕ → List ℤ → ℕ → Bool
 fits l vs i ws j = same_letter (letter_of (get_or vs i (pos 0)) (get_or ws j (pos 0))) l
+
+-- the same, or are equal where a twin is taken in too
+abbrev pub takes : Letter → Bool → List ℤ → ℕ → List ℤ → ℕ → Bool
+takes l twin vs i ws j = cond twin (fits l vs i ws j || fits Equal vs i ws j) (fits l vs i ws j)
 
 -- a value from low to high may compare so with a next one from low' to high'
 abbrev pub may_fit : Letter → ℤ → ℤ → ℤ → ℤ → Bool

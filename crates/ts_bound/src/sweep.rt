@@ -6,18 +6,16 @@ ghost use Rattle.ts_automaton.specs.Body.{move_of, move_on, node_of};
 ghost use Rattle.ts_base.specs.declared.letter.Letter.TheVariants.{Equal};
 ghost use Rattle.ts_bound.specs.Hulls.{none};
 ghost use Rattle.ts_bound.specs.NextRow.{next_row};
-ghost use Rattle.ts_bound.specs.Sealed.{move_at, some_hull};
+ghost use Rattle.ts_bound.specs.Sealed.{move_at};
 ghost use Rattle.ts_bound.specs.Smalls.{small_hull};
-ghost use Rattle.ts_bound.specs.Sweeps.{AllTakeNone, IsSweepable, fits, hull_in, may_fit, same_letter};
-ghost use Rattle.ts_bound.specs.Sweeps.{with_move, with_state};
+ghost use Rattle.ts_bound.specs.Sweeps.{AllTakeNone, IsSweepable, fits, may_fit, same_letter, with_move};
 
 use crate::fill::clear;
-use crate::single::step_state;
 use crate::sweep_equal::equal_move;
 use crate::sweep_move::sweep_move;
 use crate::sweep_pairs::pair_move;
 use crate::sweep_parts::Parts;
-use crate::sweep_run::has_registers;
+use crate::sweep_state::take_state;
 use crate::sweep_values::{Places, count_of, greatest_of, least_of};
 use ts_automaton::{Automaton, Hull, State, Turn};
 use ts_base::Letter;
@@ -91,7 +89,7 @@ fn unequal_move(
 {
     let p = Parts::of(t);
     if p.is_swept() {
-        sweep_move(t, &p, l, s, q, values, before, next_values, next);
+        sweep_move(t, &p, l, false, s, q, values, before, next_values, next);
     } else {
         pair_move(t, l, s, q, values, before, next_values, next);
     }
@@ -133,7 +131,7 @@ fn take_move(
 
 /// A move is taken in, if there may be a pair of values for it.
 #[inline(always)]
-fn add_move(
+pub(crate) fn add_move(
     t: &Turn,
     l: Letter,
     s: usize,
@@ -153,101 +151,6 @@ fn add_move(
 {
     if may_occur(l, values, next_values) {
         take_move(t, l, s, q, values, before, next_values, next);
-    }
-}
-
-/// Whether registers lie in the hull at place `i`, state `q`.
-#[inline(always)]
-fn has_hull(before: &[Hull], s: usize, q: usize, values: &Places<'_>, i: usize) -> bool
-    requires inside { i < length values.now }
-    requires state { q < s }
-    requires before { length before.now ≡ length values.now * s }
-    ensures { result ≡ some_hull (hull_in s q before.now i) }
-{
-    has_registers(&before[i * s + q])
-}
-
-/// Whether some series of the cell reaches a state: whether registers lie in its hull at some value.
-fn is_reached(before: &[Hull], s: usize, q: usize, values: &Places<'_>) -> bool
-    requires state { q < s }
-    requires before { length before.now ≡ length values.now * s }
-    ensures { result ≡ false → (i : ℕ) → i < length values.now → some_hull (hull_in s q before.now i) ≡ false }
-{
-    for i in 0..count_of(values) {
-        if has_hull(before, s, q, values, i) {
-            return true;
-        }
-    }
-    false
-}
-
-/// All moves of a state are taken in.
-fn add_state(
-    a: &Automaton,
-    q: u8,
-    values: &Places<'_>,
-    before: &[Hull],
-    next_values: &Places<'_>,
-    next: &mut [Hull],
-)
-    requires sweepable { IsSweepable values.now next_values.now before.now }
-    requires canonical { AllTakeNone next.old }
-    requires state { q < length a.now.states }
-    requires before { length before.now ≡ length values.now * length a.now.states }
-    requires next { length next.old ≡ length next_values.now * length a.now.states }
-    ensures { next.new ≡ with_state a.now values.now before.now next_values.now q next.old }
-{
-    let s = a.states() as usize;
-    let at = q as usize;
-    if !is_reached(before, s, at, values) {
-        return;
-    }
-    let less = turn(a, q, Letter::Less);
-    add_move(less, Letter::Less, s, at, values, before, next_values, next);
-    let equal = turn(a, q, Letter::Equal);
-    add_move(
-        equal,
-        Letter::Equal,
-        s,
-        at,
-        values,
-        before,
-        next_values,
-        next,
-    );
-    let greater = turn(a, q, Letter::Greater);
-    add_move(
-        greater,
-        Letter::Greater,
-        s,
-        at,
-        values,
-        before,
-        next_values,
-        next,
-    );
-}
-
-/// All moves of a state are taken in: one where both cells have one value.
-fn take_state(
-    a: &Automaton,
-    q: u8,
-    values: &Places<'_>,
-    before: &[Hull],
-    next_values: &Places<'_>,
-    next: &mut [Hull],
-)
-    requires sweepable { IsSweepable values.now next_values.now before.now }
-    requires canonical { AllTakeNone next.old }
-    requires state { q < length a.now.states }
-    requires before { length before.now ≡ length values.now * length a.now.states }
-    requires next { length next.old ≡ length next_values.now * length a.now.states }
-    ensures { next.new ≡ with_state a.now values.now before.now next_values.now q next.old }
-{
-    if count_of(values) == 1 && count_of(next_values) == 1 {
-        step_state(a, q, values, before, next_values, next);
-    } else {
-        add_state(a, q, values, before, next_values, next);
     }
 }
 

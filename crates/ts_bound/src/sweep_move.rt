@@ -9,12 +9,12 @@ ghost use Rattle.ts_bound.specs.Hulls.{hull_of_both, none};
 ghost use Rattle.ts_bound.specs.Packs.{IsPackOf, IsRunning, unpack_hull};
 ghost use Rattle.ts_bound.specs.Sealed.{some_hull};
 ghost use Rattle.ts_bound.specs.Smalls.{small_hull, small_int};
-ghost use Rattle.ts_bound.specs.Sweeps.{AllTakeNone, IsSweepable, fits, fronts, hull_in, same_letter};
-ghost use Rattle.ts_bound.specs.Sweeps.{step_place, with_hull_at, with_move};
+ghost use Rattle.ts_bound.specs.Sweeps.{AllTakeNone, IsSweepable, fronts, hull_in, same_letter};
+ghost use Rattle.ts_bound.specs.Sweeps.{step_place, takes, with_hull_at, with_sweep};
 
 use crate::packed::Packed;
 use crate::sweep_parts::Parts;
-use crate::sweep_run::{Run, fits, packed_at, put, step_place, with_next};
+use crate::sweep_run::{Run, packed_at, put, step_place, takes, with_next};
 use crate::sweep_values::{Places, count_of, value_at};
 use ts_automaton::{Hull, Turn};
 use ts_base::Letter;
@@ -90,6 +90,7 @@ fn with_place(
 fn passed(
     p: &Parts<'_>,
     l: Letter,
+    twin: bool,
     s: usize,
     q: usize,
     values: &Places<'_>,
@@ -110,15 +111,15 @@ fn passed(
     ensures fronts { IsRunning result.any result.hull
         (fronts (parts_cut p.now) l s q values.now before.now result.at) }
     ensures passed { (k : ℕ) → from.at ≤ k → k < result.at →
-        fits l values.now (step_place l (length values.now) k) next_values.now j ≡ true }
+        takes l twin values.now (step_place l (length values.now) k) next_values.now j ≡ true }
     ensures rest { result.at < length values.now →
-        fits l values.now (step_place l (length values.now) result.at) next_values.now j ≡ false }
+        takes l twin values.now (step_place l (length values.now) result.at) next_values.now j ≡ false }
 {
     let n = count_of(values);
     let mut run = from;
     while run.at < n {
         let i = step_place(l, n, run.at);
-        if !fits(l, values, i, next_values, j) {
+        if !takes(l, twin, values, i, next_values, j) {
             return run;
         }
         run = with_place(p, s, q, values, before, i, run);
@@ -172,6 +173,7 @@ pub(crate) fn sweep_move(
     t: &Turn,
     p: &Parts<'_>,
     l: Letter,
+    twin: bool,
     s: usize,
     q: usize,
     values: &Places<'_>,
@@ -188,7 +190,7 @@ pub(crate) fn sweep_move(
     requires leads { t.now.next < s }
     requires before { length before.now ≡ length values.now * s }
     requires next { length next.old ≡ length next_values.now * s }
-    ensures { next.new ≡ with_move (move_of t.now) l s q values.now before.now next_values.now next.old }
+    ensures { next.new ≡ with_sweep (move_of t.now) l twin s q values.now before.now next_values.now next.old }
 {
     let n = count_of(next_values);
     let to = t.next as usize;
@@ -199,7 +201,7 @@ pub(crate) fn sweep_move(
     };
     for k in 0..count_of(next_values) {
         let j = step_place(l, n, k);
-        run = passed(p, l, s, q, values, before, next_values, j, run);
+        run = passed(p, l, twin, s, q, values, before, next_values, j, run);
         put_run(p, &run, next, s, to, next_values, j);
     }
 }

@@ -6,7 +6,7 @@ ghost use Rattle.ts_bound.specs.Hulls.{hull_of_both, none};
 ghost use Rattle.ts_bound.specs.Packs.{IsPackOf, IsRunning, unpack_hull};
 ghost use Rattle.ts_bound.specs.Sealed.{some_hull};
 ghost use Rattle.ts_bound.specs.Smalls.{small_hull};
-ghost use Rattle.ts_bound.specs.Sweeps.{fits, hull_in, step_place, with_hull_at};
+ghost use Rattle.ts_bound.specs.Sweeps.{fits, hull_in, step_place, takes, with_hull_at};
 
 use crate::packed::Packed;
 use crate::sweep_values::{Places, value_at};
@@ -68,6 +68,27 @@ pub(crate) fn fits(
         Letter::Less => this < next,
         Letter::Equal => this == next,
         Letter::Greater => next < this,
+    }
+}
+
+/// Whether two places compare as the letter says, or are equal where the move on `=` is taken in too.
+#[inline(always)]
+pub(crate) fn takes(
+    l: Letter,
+    twin: bool,
+    values: &Places<'_>,
+    i: usize,
+    next_values: &Places<'_>,
+    j: usize,
+) -> bool
+    requires first { i < length values.now }
+    requires second { j < length next_values.now }
+    ensures { result ≡ takes l twin values.now i next_values.now j }
+{
+    if twin {
+        fits(l, values, i, next_values, j) || fits(Letter::Equal, values, i, next_values, j)
+    } else {
+        fits(l, values, i, next_values, j)
     }
 }
 

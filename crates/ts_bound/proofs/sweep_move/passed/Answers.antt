@@ -20,8 +20,8 @@ loop-run-preserved c = record {
       c.with_place-run.result.hull (c.step_place-i.ensures.value ∙ ap (λ z. step_place c.args.l z c.loop-run.run.at) c.count_of-n.ensures.count)
       c.with_place-run.ensures.at c.loop-run.invariant.fronts c.with_place-run.ensures.hull;
   passed =
-      passed_more c.args.l c.args.values.now c.args.next_values.now c.args.j c.args.from.at c.loop-run.run.at c.with_place-run.result.at
-      c.step_place-i.result c.fits.result (c.step_place-i.ensures.value
-      ∙ ap (λ z. step_place c.args.l z c.loop-run.run.at) c.count_of-n.ensures.count) c.with_place-run.ensures.at c.fits.ensures
-      c.if-not-fits.false c.loop-run.invariant.passed;
+      passed_more c.args.l c.args.twin c.args.values.now c.args.next_values.now c.args.j c.args.from.at c.loop-run.run.at c.with_place-run.result.at
+      c.step_place-i.result c.takes.result (c.step_place-i.ensures.value
+      ∙ ap (λ z. step_place c.args.l z c.loop-run.run.at) c.count_of-n.ensures.count) c.with_place-run.ensures.at c.takes.ensures
+      c.if-not-takes.false c.loop-run.invariant.passed;
 }

@@ -1,7 +1,7 @@
 use Rattle.std.proofs.Common.{◌≡◌, ℕ, ◌<◌, ◌≤◌, ◌-◌, true, length}
 use Rattle.ts_bound.specs.Cuts.{parts_cut}
 use Rattle.ts_bound.specs.Packs.{IsRunning}
-use Rattle.ts_bound.specs.Sweeps.{step_place, fronts, fits}
+use Rattle.ts_bound.specs.Sweeps.{step_place, fronts, takes}
 use Rattle.ts_bound.proofs.sweep_move.passed.Given as goal
 
 abbrev pub invariant-loop-run : goal.invariant-loop-run
@@ -9,7 +9,7 @@ invariant-loop-run l = record {
   inside : l.run.at ≤ length l.values;
   later : l.fn.from.at ≤ l.run.at;
   fronts : IsRunning l.run.any l.run.hull (fronts (parts_cut l.p) l.l l.s l.q l.values l.before l.run.at);
-  passed : (k : ℕ) → l.fn.from.at ≤ k → k < l.run.at → fits l.l l.values (step_place l.l (length l.values) k) l.next_values l.j ≡ true;
+  passed : (k : ℕ) → l.fn.from.at ≤ k → k < l.run.at → takes l.l l.twin l.values (step_place l.l (length l.values) k) l.next_values l.j ≡ true;
 }
 
 abbrev pub decreases-loop-run : goal.decreases-loop-run

@@ -1,9 +1,9 @@
 use Rattle.std.proofs.Common.{ap, ◌∙◌, refl, ◌+◌, ◌*◌, pos, length, get_or, arith}
 use Rattle.ts_automaton.specs.Body.{move_of}
 use Rattle.ts_bound.specs.Cuts.{parts_cut}
-use Rattle.ts_bound.specs.Sweeps.{step_place, move_entry, fronts}
+use Rattle.ts_bound.specs.Sweeps.{step_place, sweep_entry, fronts}
 use Rattle.ts_bound.proofs.PackLaws.{running_some}
-use Rattle.ts_bound.proofs.SweepLaws.{parts_swept, puts_begun, fronts_begun, all_passed, later_passed, puts_more, put_is, puts_done, puts_are_canonical}
+use Rattle.ts_bound.proofs.SweepLaws.{parts_swept, puts_begun, fronts_begun, all_passed, later_passed, puts_more, put_is, sweep_done, puts_are_canonical}
 use Rattle.ts_bound.proofs.sweep_move.sweep_move.Goals as goal
 
 pub loop-k-init : goal.loop-k-init
@@ -22,7 +22,8 @@ put_run-requires-clause-begun c =
 pub put_run-requires-clause-canonical : goal.put_run-requires-clause-canonical
 put_run-requires-clause-canonical c =
     puts_are_canonical c.args.s c.args.t.now.next (step_place c.args.l (length c.args.next_values.now))
-    (λ j. move_entry (move_of c.args.t.now) c.args.l c.args.s c.args.q c.args.values.now c.args.before.now (get_or c.args.next_values.now j (pos 0)))
+    (λ j. sweep_entry (move_of c.args.t.now) c.args.l c.args.twin c.args.s c.args.q c.args.values.now c.args.before.now
+    (get_or c.args.next_values.now j (pos 0)))
     c.args.next.now c.loop-k.next c.loop-k.k c.loop-k.invariant.next c.requires.canonical
     (c.step_place-j.result * c.args.s + c.args.t.now.next)
 
@@ -31,30 +32,32 @@ loop-k-preserved c =
     let m = move_of c.args.t.now in
     let vs = c.args.values.now in
     let ws = c.args.next_values.now in
-    let all = all_passed c.args.l vs ws c.loop-k.k c.step_place-j.result c.loop-k.run.at c.passed-run.result.at
+    let all = all_passed c.args.l c.args.twin vs ws c.loop-k.k c.step_place-j.result c.loop-k.run.at c.passed-run.result.at
     (c.step_place-j.ensures.value ∙ ap (λ z. step_place c.args.l z c.loop-k.k) c.count_of-n.ensures.count)
     (omega (arith, c.loop-k-test.true, c.count_of-k-end.ensures.count)) c.loop-k.invariant.passed c.passed-run.ensures.passed in
     record {
       next =
           puts_more c.args.s c.args.t.now.next (step_place c.args.l (length ws))
-          (λ j. move_entry m c.args.l c.args.s c.args.q vs c.args.before.now (get_or ws j (pos 0))) c.args.next.now c.loop-k.next c.put_run.new.next
+          (λ j. sweep_entry m c.args.l c.args.twin c.args.s c.args.q vs c.args.before.now (get_or ws j (pos 0))) c.args.next.now c.loop-k.next
+          c.put_run.new.next
           c.loop-k.k
-          c.step_place-j.result (move_entry m c.args.l c.args.s c.args.q vs c.args.before.now (get_or ws c.step_place-j.result (pos 0)))
-          (move_entry m c.args.l c.args.s c.args.q vs c.args.before.now (get_or ws c.step_place-j.result (pos 0)))
+          c.step_place-j.result (sweep_entry m c.args.l c.args.twin c.args.s c.args.q vs c.args.before.now (get_or ws c.step_place-j.result (pos 0)))
+          (sweep_entry m c.args.l c.args.twin c.args.s c.args.q vs c.args.before.now (get_or ws c.step_place-j.result (pos 0)))
           (c.step_place-j.ensures.value ∙ ap (λ z. step_place c.args.l z c.loop-k.k) c.count_of-n.ensures.count) c.loop-k.invariant.next refl
-          (put_is m (parts_cut c.args.p.now) c.args.l c.args.s c.args.q c.args.t.now.next vs ws c.args.before.now c.loop-k.next c.put_run.new.next
+          (put_is m (parts_cut c.args.p.now) c.args.l c.args.twin c.args.s c.args.q c.args.t.now.next vs ws c.args.before.now c.loop-k.next c.put_run.new.next
           c.step_place-j.result c.passed-run.result.at c.passed-run.result.any
           c.passed-run.result.hull c.requires.unequal (parts_swept (parts_cut c.args.p.now) m c.requires.parts c.requires.swept)
           c.requires.sweepable c.requires.parts c.passed-run.ensures.inside
           c.passed-run.ensures.fronts c.put_run.ensures all c.passed-run.ensures.rest);
       inside = c.passed-run.ensures.inside;
       fronts = c.passed-run.ensures.fronts;
-      passed = later_passed c.args.l vs ws c.loop-k.k c.step_place-j.result c.passed-run.result.at c.requires.unequal c.requires.sweepable.next_rises
+      passed = later_passed c.args.l c.args.twin vs ws c.loop-k.k c.step_place-j.result c.passed-run.result.at c.requires.unequal
+          c.requires.sweepable.next_rises
           (c.step_place-j.ensures.value ∙ ap (λ z. step_place c.args.l z c.loop-k.k) c.count_of-n.ensures.count) all;
     }
 
 pub returns : goal.returns
 returns c =
-    puts_done (move_of c.args.t.now) c.args.l c.args.s c.args.q c.args.values.now c.args.before.now c.args.next_values.now c.args.next.now
+    sweep_done (move_of c.args.t.now) c.args.l c.args.twin c.args.s c.args.q c.args.values.now c.args.before.now c.args.next_values.now c.args.next.now
     c.loop-k.next c.loop-k.k (omega (arith, c.loop-k-test.false, c.count_of-k-end.ensures.count))
     (omega (arith, c.loop-k.auto.k-end, c.count_of-k-end.ensures.count)) c.loop-k.invariant.next

@@ -2,15 +2,15 @@ use Rattle.std.proofs.Common.{◌≡◌, ℕ, ◌<◌, ◌≤◌, pos, true, len
 use Rattle.ts_automaton.specs.Body.{move_of}
 use Rattle.ts_bound.specs.Cuts.{parts_cut}
 use Rattle.ts_bound.specs.Packs.{IsRunning}
-use Rattle.ts_bound.specs.Sweeps.{step_place, puts, move_entry, fronts, fits}
+use Rattle.ts_bound.specs.Sweeps.{step_place, puts, sweep_entry, fronts, takes}
 use Rattle.ts_bound.proofs.sweep_move.sweep_move.Given as goal
 
 abbrev pub invariant-loop-k : goal.invariant-loop-k
 invariant-loop-k l = record {
   next : l.next ≡ puts l.s l.to (step_place l.l (length l.next_values))
-      (λ j. move_entry (move_of l.fn.t) l.l l.s l.q l.values l.before (get_or l.next_values j (pos 0))) l.fn.next l.k;
+      (λ j. sweep_entry (move_of l.fn.t) l.l l.twin l.s l.q l.values l.before (get_or l.next_values j (pos 0))) l.fn.next l.k;
   inside : l.run.at ≤ length l.values;
   fronts : IsRunning l.run.any l.run.hull (fronts (parts_cut l.p) l.l l.s l.q l.values l.before l.run.at);
   passed : (i : ℕ) → i < l.run.at → (n : ℕ) → l.k ≤ n → n < length l.next_values →
-      fits l.l l.values (step_place l.l (length l.values) i) l.next_values (step_place l.l (length l.next_values) n) ≡ true;
+      takes l.l l.twin l.values (step_place l.l (length l.values) i) l.next_values (step_place l.l (length l.next_values) n) ≡ true;
 }
