@@ -24,7 +24,9 @@ use Rattle.ts_automaton.proofs.KindLaws.{op_mono}
 use Rattle.ts_bound.specs.Hulls.{hull_of, none, hull_of_both}
 use Rattle.ts_bound.specs.Packs.{span_from}
 use Rattle.ts_bound.specs.Sealed.{least_span, lifted, sealed, span_in, hull_with, some_hull, after_move}
-use Rattle.ts_bound.specs.Splits.{same_op, is_next_word, is_front, operands, Split, FrontOf, TailOf, ByPairs, is_double, tail_of, split, is_swept, front_span, closed_span}
+use Rattle.ts_glue.specs.Rules.{is_same_op}
+use Rattle.ts_glue.proofs.CallerLemmas.{same_op_is}
+use Rattle.ts_bound.specs.Splits.{is_next_word, is_front, operands, Split, FrontOf, TailOf, ByPairs, is_double, tail_of, split, is_swept, front_span, closed_span}
 use Rattle.ts_bound.specs.Cuts.{Cut, cut_of, swept, front_hull, closed_hull}
 use Rattle.ts_bound.specs.Smalls.{small_int, small, small_span, small_hull}
 use Rattle.ts_bound.specs.Sweeps.{total}
@@ -170,17 +172,6 @@ span_regroup o n m s t y h k l e = go (has_some s) (has_some t) refl refl
 
 -- tests
 
-same_op_is : (o p : Op) → same_op o p ≡ true → o ≡ p
-same_op_is Add Add h = refl
-same_op_is Add Max h = cc
-same_op_is Add Min h = cc
-same_op_is Max Add h = cc
-same_op_is Max Max h = refl
-same_op_is Max Min h = cc
-same_op_is Min Add h = cc
-same_op_is Min Max h = cc
-same_op_is Min Min h = refl
-
 next_word : (a : Atom) → is_next_word a ≡ true → a ≡ Next
 next_word C h = cc
 next_word D h = cc
@@ -212,10 +203,10 @@ front_same (Join o a b) h x y f =
 
 double_is : (o p : Op) (e f r : Formula) (h : Hull) (x y : ℤ) → HullSized 1 h → IsSized 1 (Int x) → IsSized 1 (Int y) → is_double o p e f r ≡ true →
     span_in (Join o e (Join p f r)) h x y ≡ lifted (ext_op o) (span_in (Join o e f) h x (pos 0)) (one_span (Int y))
-double_is o p e f (Join q g k) h x y a b c d = let s = and_parts (same_op o p) false d in cc
+double_is o p e f (Join q g k) h x y a b c d = let s = and_parts (is_same_op o p) false d in cc
 double_is o p e f (Leaf w) h x y a b c d =
     let few_and = is_front f && nat_le (operands e + operands f) 7 in
-    let s = and_parts (same_op o p) (is_next_word w && (is_front e && few_and)) d in
+    let s = and_parts (is_same_op o p) (is_next_word w && (is_front e && few_and)) d in
     let n = and_parts (is_next_word w) (is_front e && few_and) s.1 in
     let t = and_parts (is_front e) few_and n.1 in
     let u = and_parts (is_front f) (nat_le (operands e + operands f) 7) t.1 in

@@ -6,22 +6,11 @@ use Rattle.ts_base.specs.Spans.{none_span, one_span}
 use Rattle.ts_automaton.specs.declared.expr.Atom.{Atom}
 use Rattle.ts_automaton.specs.declared.expr.Atom.TheVariants.{C, D, R, This, Next, Zero, Unit as UnitAtom, NegInf as LowAtom, PosInf as HighAtom}
 use Rattle.ts_automaton.specs.declared.expr.Op.{Op}
-use Rattle.ts_automaton.specs.declared.expr.Op.TheVariants.{Add, Max, Min}
 use Rattle.ts_automaton.specs.declared.regs.Hull.{Hull}
 use Rattle.ts_automaton.specs.Formula.{Formula, Leaf, Join}
 use Rattle.ts_automaton.specs.Registers.{ext_op}
+use Rattle.ts_glue.specs.Rules.{is_same_op}
 use Rattle.ts_bound.specs.Sealed.{lifted, span_in}
-
-abbrev pub same_op : Op → Op → Bool
-same_op Add Add = true
-same_op Add Max = false
-same_op Add Min = false
-same_op Max Add = false
-same_op Max Max = true
-same_op Max Min = false
-same_op Min Add = false
-same_op Min Max = false
-same_op Min Min = true
 
 -- the word is the next cell
 abbrev pub is_next_word : Atom → Bool
@@ -58,7 +47,7 @@ pub data Split : Type 0 where
 -- `o e (p f r)` is `o (o e f) r`, where r is the next cell: with so few operands no sum of small numbers is clamped
 abbrev pub is_double : Op → Op → Formula → Formula → Formula → Bool
 is_double o p e f r =
-    same_op o p && (is_next r && (is_front e && (is_front f && nat_le (operands e + operands f) 7)))
+    is_same_op o p && (is_next r && (is_front e && (is_front f && nat_le (operands e + operands f) 7)))
 
 abbrev pub tail_of : Op → Formula → Formula → Split
 tail_of o e (Leaf a) = cond (is_next_word a && is_front e) (TailOf o e) ByPairs

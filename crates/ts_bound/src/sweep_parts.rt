@@ -4,7 +4,8 @@ ghost use Rattle.std.specs.Prelude.{◌≡◌};
 ghost use Rattle.ts_automaton.specs.Body.{move_of};
 ghost use Rattle.ts_automaton.specs.Formula.{Join, formula};
 ghost use Rattle.ts_bound.specs.Cuts.{cut_of, part_split, parts_cut, swept};
-ghost use Rattle.ts_bound.specs.Splits.{is_double, is_front, is_next, is_swept, operands, same_op, split, tail_of};
+ghost use Rattle.ts_bound.specs.Splits.{is_double, is_front, is_next, is_swept, operands, split, tail_of};
+ghost use Rattle.ts_glue.specs.Rules.{is_same_op};
 
 use ts_automaton::{Expr, Op, Turn};
 
@@ -30,8 +31,8 @@ pub(crate) struct Parts<'a> {
 }
 
 /// Whether two operators are one.
-fn same_op(o: Op, p: Op) -> bool
-    ensures { result ≡ same_op o p }
+fn is_same_op(o: Op, p: Op) -> bool
+    ensures { result ≡ is_same_op o p }
 {
     match (o, p) {
         (Op::Add, Op::Add) | (Op::Max, Op::Max) | (Op::Min, Op::Min) => true,
@@ -135,7 +136,7 @@ fn double_part<'a>(o: Op, p: Op, e: &'a Expr, f: &'a Expr, r: &Expr) -> Part<'a>
 fn is_double(o: Op, p: Op, e: &Expr, f: &Expr, r: &Expr) -> bool
     ensures { result ≡ is_double o p (formula e.now) (formula f.now) (formula r.now) }
 {
-    same_op(o, p)
+    is_same_op(o, p)
         && is_next(r)
         && is_front(e)
         && is_front(f)
