@@ -389,10 +389,15 @@ running_canonical true p t i = some_canonical t (i.begun refl).some
 running_canonical false p t i = subst (λ (z : Hull). hull_of_both z none ≡ z) (sym (i.empty refl)) none_takes_none
 
 -- the same step from what a hull is in packed form
-pub front_steps : (k : Cut) (any any' : Bool) (p p' : Packed) (u h : Hull) (x : ℤ) → u ≡ h →
-    ((t : Hull) → IsRunning any p t → IsRunning any' p' (hull_of_both t (front_hull k u x))) → (t : Hull) → IsRunning any p t →
+pub front_steps : (k : Cut) (any any' : Bool) (p p' : Packed) (u h : Hull) (x x' : ℤ) → u ≡ h → x' ≡ x →
+    ((t : Hull) → IsRunning any p t → IsRunning any' p' (hull_of_both t (front_hull k u x'))) → (t : Hull) → IsRunning any p t →
     IsRunning any' p' (hull_of_both t (front_hull k h x))
-front_steps k any any' p p' u h x e step t i = subst (λ (z : Hull). IsRunning any' p' (hull_of_both t (front_hull k z x))) e (step t i)
+front_steps k any any' p p' u h x x' e f step t i =
+    subst (λ (z : Hull). IsRunning any' p' (hull_of_both t (front_hull k z x))) e
+    (subst (λ (z : ℤ). IsRunning any' p' (hull_of_both t (front_hull k u z))) f (step t i))
+
+pub front_at : (k : Cut) (p : Packed) (h : Hull) (x x' : ℤ) → x' ≡ x → IsPackOf p (front_hull k h x') → IsPackOf p (front_hull k h x)
+front_at k p h x x' e = subst (λ (z : ℤ). IsPackOf p (front_hull k h z)) e
 
 pub move_steps : (m : Move) (any any' : Bool) (p p' : Packed) (u h : Hull) (x y : ℤ) → u ≡ h →
     ((t : Hull) → IsRunning any p t → IsRunning any' p' (hull_of_both t (after_move m u x y))) → (t : Hull) → IsRunning any p t →

@@ -15,34 +15,36 @@ use Rattle.ts_bound.specs.Hulls.{none, hull_of_both}
 use Rattle.ts_bound.specs.Packs.{IsRunning}
 use Rattle.ts_bound.specs.Sealed.{after_move}
 use Rattle.ts_bound.specs.Cuts.{Cut, cut_of, swept, front_hull, closed_hull}
-use Rattle.ts_bound.specs.Smalls.{Rises}
-use Rattle.ts_bound.specs.Sweeps.{AllTakeNone, IsSweepable, total, hull_in, step_place, fronts, fits, takes, same_letter, pair_gives, move_entry, sweep_entry, puts, with_move, with_sweep}
+use Rattle.ts_bound.specs.Smalls.{Rises, small_int}
+use Rattle.ts_bound.specs.Sweeps.{AllTakeNone, IsSweepable, total, hull_in, step_place, fronts, compares, fits, takes, same_letter, pair_gives, move_entry, sweep_entry, puts, with_move, with_sweep}
 use Rattle.ts_bound.proofs.HullLaws.{TakesNone, both_takes_none, none_takes_none}
 use Rattle.ts_bound.proofs.SpanHulls.{both_comm, both_assoc}
 use Rattle.ts_bound.proofs.Sums.{total_nothing, total_same, total_join, total_canon, total_cut, total_first, total_canonical}
 use Rattle.ts_bound.proofs.SplitLaws.{closed_hull_none, total_closed, moved_is, hull_small, small_within}
 use Rattle.ts_bound.proofs.PackLaws.{runs_past}
 
-pub fronts_more : (k : Cut) (l : Letter) (s q : ℕ) (vs : List ℤ) (row : List Hull) (n n' i : ℕ) (any any' : Bool) (p p' : Packed) →
-    i ≡ step_place l (length vs) n → n' ≡ n + 1 → IsRunning any p (fronts k l s q vs row n) →
-    ((t : Hull) → IsRunning any p t → IsRunning any' p' (hull_of_both t (front_hull k (hull_in s q row i) (get_or vs i (pos 0))))) →
+pub fronts_more : (k : Cut) (l : Letter) (s q : ℕ) (vs : List ℤ) (row : List Hull) (n n' i : ℕ) (x : ℤ) (any any' : Bool) (p p' : Packed) →
+    x ≡ get_or vs i (pos 0) → i ≡ step_place l (length vs) n → n' ≡ n + 1 → IsRunning any p (fronts k l s q vs row n) →
+    ((t : Hull) → IsRunning any p t → IsRunning any' p' (hull_of_both t (front_hull k (hull_in s q row i) x))) →
     IsRunning any' p' (fronts k l s q vs row n')
 unfolding fronts total
-fronts_more k l s q vs row n n' i any any' p p' is e run step =
+fronts_more k l s q vs row n n' i x any any' p p' x_is is e run step =
     let more : n' ≡ suc n = omega arith in
     let F : ℕ → Hull = λ m. front_hull k (hull_in s q row (step_place l (length vs) m)) (get_or vs (step_place l (length vs) m) (pos 0)) in
     subst (λ (z : Hull). IsRunning any' p' z)
-    (ap (λ m. hull_of_both (total n F) (front_hull k (hull_in s q row m) (get_or vs m (pos 0)))) is ∙ sym (ap (λ m. total m F) more))
+    (ap (λ z. hull_of_both (total n F) (front_hull k (hull_in s q row i) z)) x_is
+    ∙ ap (λ m. hull_of_both (total n F) (front_hull k (hull_in s q row m) (get_or vs m (pos 0)))) is ∙ sym (ap (λ m. total m F) more))
     (step (total n F) run)
 
-pub passed_more : (l : Letter) (twin : Bool) (vs ws : List ℤ) (j from n n' i : ℕ) (b : Bool) → i ≡ step_place l (length vs) n →
-    n' ≡ n + 1 → b ≡ takes l twin vs i ws j →
-    b ≡ true →
-    ((k : ℕ) → from ≤ k → k < n → takes l twin vs (step_place l (length vs) k) ws j ≡ true) → (k : ℕ) → from ≤ k → k < n' →
-    takes l twin vs (step_place l (length vs) k) ws j ≡ true
-passed_more l twin vs ws j from n n' i b is m e t below k low high =
-    below_more (λ m. from ≤ m → takes l twin vs (step_place l (length vs) m) ws j ≡ true) n (λ m lt le. below m le lt)
-    (λ le. ap (λ m. takes l twin vs m ws j) (sym is) ∙ sym e ∙ t) k (omega arith) low
+pub compares_is : (l : Letter) (twin : Bool) (v v' w w' : ℤ) (b : Bool) → v' ≡ v → w' ≡ w → b ≡ compares l twin v' w' → b ≡ compares l twin v w
+compares_is l twin v v' w w' b e f is = is ∙ ap (λ z. compares l twin z w') e ∙ ap (compares l twin v) f
+
+pub passed_more : (l : Letter) (twin : Bool) (vs : List ℤ) (w : ℤ) (from n n' i : ℕ) (b : Bool) → i ≡ step_place l (length vs) n →
+    n' ≡ n + 1 → b ≡ takes l twin vs i w → b ≡ true → ((k : ℕ) → from ≤ k → k < n → takes l twin vs (step_place l (length vs) k) w ≡ true) →
+    (k : ℕ) → from ≤ k → k < n' → takes l twin vs (step_place l (length vs) k) w ≡ true
+passed_more l twin vs w from n n' i b is m e t below k low high =
+    below_more (λ m. from ≤ m → takes l twin vs (step_place l (length vs) m) w ≡ true) n (λ m lt le. below m le lt)
+    (λ le. ap (λ m. takes l twin vs m w) (sym is) ∙ sym e ∙ t) k (omega arith) low
 
 -- a run of nothing leaves the next row
 pub put_skipped : (k : Cut) (any : Bool) (p : Packed) (next : List Hull) (q : ℕ) (y : ℤ) (t : Hull) → any ≡ false →
@@ -223,7 +225,7 @@ or_false false b h = (refl, h)
 -- the same of both, where a twin is taken in too
 
 takes_later : (l : Letter) (twin : Bool) (vs ws : List ℤ) (i k n : ℕ) → same_letter l Equal ≡ false → Rises ws → k < n → n < length ws →
-    takes l twin vs i ws (step_place l (length ws) k) ≡ true → takes l twin vs i ws (step_place l (length ws) n) ≡ true
+    takes l twin vs i (get_or ws (step_place l (length ws) k) (pos 0)) ≡ true → takes l twin vs i (get_or ws (step_place l (length ws) n) (pos 0)) ≡ true
 takes_later l false vs ws i k n u r lt high f = fits_later l vs ws i k n u r lt high f
 takes_later l true vs ws i k n u r lt high f =
     ap (λ b. b || fits Equal vs i ws (step_place l (length ws) n))
@@ -234,13 +236,14 @@ takes_later l true vs ws i k n u r lt high f =
     go (inl h) = fits_later l vs ws i k n u r lt high h
     go (inr h) = equal_later l vs ws i k n u r lt high h
 
-takes_rest : (l : Letter) (twin : Bool) (vs ws : List ℤ) (j at i : ℕ) → same_letter l Equal ≡ false → Rises vs → at ≤ i → i < length vs →
-    takes l twin vs (step_place l (length vs) at) ws j ≡ false → takes l twin vs (step_place l (length vs) i) ws j ≡ false
-takes_rest l false vs ws j at i u r le high f = fits_rest l vs ws j at i u r le high f
-takes_rest l true vs ws j at i u r le high f =
-    let here = or_false (fits l vs (step_place l (length vs) at) ws j) (fits Equal vs (step_place l (length vs) at) ws j) f in
-    ap (λ b. b || fits Equal vs (step_place l (length vs) i) ws j) (fits_rest l vs ws j at i u r le high here.0)
-    ∙ equal_rest l vs ws j at i u r le high here.0 here.1
+takes_rest : (l : Letter) (twin : Bool) (vs : List ℤ) (w : ℤ) (at i : ℕ) → same_letter l Equal ≡ false → Rises vs → at ≤ i → i < length vs →
+    takes l twin vs (step_place l (length vs) at) w ≡ false → takes l twin vs (step_place l (length vs) i) w ≡ false
+takes_rest l false vs w at i u r le high f = fits_rest l vs (w ∷ []) 0 at i u r le high f
+takes_rest l true vs w at i u r le high f =
+    let ws = w ∷ [] in
+    let here = or_false (fits l vs (step_place l (length vs) at) ws 0) (fits Equal vs (step_place l (length vs) at) ws 0) f in
+    ap (λ b. b || fits Equal vs (step_place l (length vs) i) ws 0) (fits_rest l vs ws 0 at i u r le high here.0)
+    ∙ equal_rest l vs ws 0 at i u r le high here.0 here.1
 
 -- what both give from one place
 twin_gives : (x l : Letter) (g : Hull) → same_letter l Equal ≡ false →
@@ -255,19 +258,20 @@ twin_gives Greater Greater g u = refl
 twin_gives x Equal g u = cc
 
 -- the places that a sweep takes in
-sweep_total : (m : Move) (l : Letter) (twin : Bool) (s q : ℕ) (vs ws : List ℤ) (row : List Hull) (j : ℕ) → same_letter l Equal ≡ false →
-    sweep_entry m l twin s q vs row (get_or ws j (pos 0)) ≡ total (length vs)
-    (λ i. cond (takes l twin vs i ws j) (after_move m (hull_in s q row i) (get_or vs i (pos 0)) (get_or ws j (pos 0))) none)
+sweep_total : (m : Move) (l : Letter) (twin : Bool) (s q : ℕ) (vs : List ℤ) (row : List Hull) (w : ℤ) → same_letter l Equal ≡ false →
+    sweep_entry m l twin s q vs row w ≡ total (length vs)
+    (λ i. cond (takes l twin vs i w) (after_move m (hull_in s q row i) (get_or vs i (pos 0)) w) none)
 unfolding sweep_entry move_entry
-sweep_total m l false s q vs ws row j u = refl
-sweep_total m l true s q vs ws row j u =
-    let n = length vs in let w = get_or ws j (pos 0) in
+sweep_total m l false s q vs row w u = refl
+sweep_total m l true s q vs row w u =
+    let n = length vs in
     let G : ℕ → Hull = λ i. after_move m (hull_in s q row i) (get_or vs i (pos 0)) w in
-    sym (total_join n (λ i. cond (fits l vs i ws j) (G i) none) (λ i. cond (fits Equal vs i ws j) (G i) none))
-    ∙ total_same n (λ i. hull_of_both (cond (fits l vs i ws j) (G i) none) (cond (fits Equal vs i ws j) (G i) none))
-    (λ i. hull_of_both (cond (takes l true vs i ws j) (G i) none) none)
+    let b : Letter → ℕ → Bool = λ k i. same_letter (letter_of (get_or vs i (pos 0)) w) k in
+    sym (total_join n (λ i. cond (b l i) (G i) none) (λ i. cond (b Equal i) (G i) none))
+    ∙ total_same n (λ i. hull_of_both (cond (b l i) (G i) none) (cond (b Equal i) (G i) none))
+    (λ i. hull_of_both (cond (takes l true vs i w) (G i) none) none)
     (λ i lt. twin_gives (letter_of (get_or vs i (pos 0)) w) l (G i) u)
-    ∙ total_canon n (λ i. cond (takes l true vs i ws j) (G i) none)
+    ∙ total_canon n (λ i. cond (takes l true vs i w) (G i) none)
 
 -- a sum in the letter's order
 total_reverse : (n : ℕ) (f : ℕ → Hull) → total n f ≡ total n (λ k. f (n - suc k))
@@ -289,45 +293,49 @@ total_place Equal n f = refl
 total_place Greater n f = total_reverse n f
 
 -- one entry: the hull of the fronts that were passed, closed by the next value
-pub entry_is : (m : Move) (l : Letter) (twin : Bool) (s q : ℕ) (vs ws : List ℤ) (row : List Hull) (j at : ℕ) → same_letter l Equal ≡ false →
-    swept (cut_of m) ≡ true → IsSweepable vs ws row →
-    at ≤ length vs → ((k : ℕ) → k < at → takes l twin vs (step_place l (length vs) k) ws j ≡ true) →
-    (at < length vs → takes l twin vs (step_place l (length vs) at) ws j ≡ false) →
-    sweep_entry m l twin s q vs row (get_or ws j (pos 0)) ≡ closed_hull (cut_of m) (fronts (cut_of m) l s q vs row at) (get_or ws j (pos 0))
+pub entry_is : (m : Move) (l : Letter) (twin : Bool) (s q : ℕ) (vs ws : List ℤ) (row : List Hull) (w : ℤ) (at : ℕ) → same_letter l Equal ≡ false →
+    swept (cut_of m) ≡ true → IsSweepable vs ws row → small_int w ≡ true →
+    at ≤ length vs → ((k : ℕ) → k < at → takes l twin vs (step_place l (length vs) k) w ≡ true) →
+    (at < length vs → takes l twin vs (step_place l (length vs) at) w ≡ false) →
+    sweep_entry m l twin s q vs row w ≡ closed_hull (cut_of m) (fronts (cut_of m) l s q vs row at) w
 unfolding fronts
-entry_is m l twin s q vs ws row j at u sw able inside passed rest =
-    let n = length vs in let w = get_or ws j (pos 0) in
+entry_is m l twin s q vs ws row w at u sw able small inside passed rest =
+    let n = length vs in
     let G : ℕ → Hull = λ i. after_move m (hull_in s q row i) (get_or vs i (pos 0)) w in
     let F : ℕ → Hull = λ i. front_hull (cut_of m) (hull_in s q row (step_place l n i)) (get_or vs (step_place l n i) (pos 0)) in
-    sweep_total m l twin s q vs ws row j u
-    ∙ total_place l n (λ i. cond (takes l twin vs i ws j) (G i) none)
-    ∙ total_cut n (n - at) at (λ k. takes l twin vs (step_place l n k) ws j) (λ k. G (step_place l n k)) (omega arith) passed
-    (λ i low high. takes_rest l twin vs ws j at i u able.rises low high (rest (omega arith)))
+    sweep_total m l twin s q vs row w u
+    ∙ total_place l n (λ i. cond (takes l twin vs i w) (G i) none)
+    ∙ total_cut n (n - at) at (λ k. takes l twin vs (step_place l n k) w) (λ k. G (step_place l n k)) (omega arith) passed
+    (λ i low high. takes_rest l twin vs w at i u able.rises low high (rest (omega arith)))
     ∙ total_same at (λ k. G (step_place l n k)) (λ k. closed_hull (cut_of m) (F k) w)
     (λ k lt. moved_is m (hull_in s q row (step_place l n k)) (get_or vs (step_place l n k) (pos 0)) w sw
     (hull_small (hull_in s q row (step_place l n k)) (able.small (step_place l n k * s + q)))
-    (small_within (get_or vs (step_place l n k) (pos 0)) (able.small_values (step_place l n k))) (small_within w (able.small_next j)))
+    (small_within (get_or vs (step_place l n k) (pos 0)) (able.small_values (step_place l n k))) (small_within w small))
     ∙ total_closed at (cut_of m) F w
 
 below_cases : (a b : ℕ) → (a < b) ⊎ (b ≤ a)
 below_cases a b = grind arith
 
 -- all that was passed so far, before the next value at place j
-pub all_passed : (l : Letter) (twin : Bool) (vs ws : List ℤ) (k j at at' : ℕ) → j ≡ step_place l (length ws) k → k < length ws →
-    ((i : ℕ) → i < at → (n : ℕ) → k ≤ n → n < length ws → takes l twin vs (step_place l (length vs) i) ws (step_place l (length ws) n) ≡ true) →
-    ((i : ℕ) → at ≤ i → i < at' → takes l twin vs (step_place l (length vs) i) ws j ≡ true) →
-    (i : ℕ) → i < at' → takes l twin vs (step_place l (length vs) i) ws j ≡ true
-all_passed l twin vs ws k j at at' is lt old new i high = go (below_cases i at)
+pub all_passed : (l : Letter) (twin : Bool) (vs ws : List ℤ) (k j : ℕ) (w : ℤ) (at at' : ℕ) → w ≡ get_or ws j (pos 0) → j ≡ step_place l (length ws) k →
+    k < length ws → ((i : ℕ) → i < at → (n : ℕ) → k ≤ n → n < length ws →
+    takes l twin vs (step_place l (length vs) i) (get_or ws (step_place l (length ws) n) (pos 0)) ≡ true) →
+    ((i : ℕ) → at ≤ i → i < at' → takes l twin vs (step_place l (length vs) i) w ≡ true) → (i : ℕ) → i < at' →
+    takes l twin vs (step_place l (length vs) i) w ≡ true
+all_passed l twin vs ws k j w at at' w_is is lt old new i high = go (below_cases i at)
   where
-    go : (i < at) ⊎ (at ≤ i) → takes l twin vs (step_place l (length vs) i) ws j ≡ true
-    go (inl h) = ap (takes l twin vs (step_place l (length vs) i) ws) is ∙ old i h k (omega arith) lt
+    go : (i < at) ⊎ (at ≤ i) → takes l twin vs (step_place l (length vs) i) w ≡ true
+    go (inl h) = ap (takes l twin vs (step_place l (length vs) i)) (w_is ∙ ap (λ z. get_or ws z (pos 0)) is) ∙ old i h k (omega arith) lt
     go (inr h) = new i h high
 
-pub later_passed : (l : Letter) (twin : Bool) (vs ws : List ℤ) (k j at : ℕ) → same_letter l Equal ≡ false → Rises ws → j ≡ step_place l (length ws) k →
-    ((i : ℕ) → i < at → takes l twin vs (step_place l (length vs) i) ws j ≡ true) →
-    (i : ℕ) → i < at → (n : ℕ) → k + 1 ≤ n → n < length ws → takes l twin vs (step_place l (length vs) i) ws (step_place l (length ws) n) ≡ true
-later_passed l twin vs ws k j at u r is all i high n low lt =
-    takes_later l twin vs ws (step_place l (length vs) i) k n u r (omega arith) lt (ap (takes l twin vs (step_place l (length vs) i) ws) (sym is) ∙ all i high)
+pub later_passed : (l : Letter) (twin : Bool) (vs ws : List ℤ) (k j : ℕ) (w : ℤ) (at : ℕ) → same_letter l Equal ≡ false → Rises ws →
+    w ≡ get_or ws j (pos 0) → j ≡ step_place l (length ws) k →
+    ((i : ℕ) → i < at → takes l twin vs (step_place l (length vs) i) w ≡ true) →
+    (i : ℕ) → i < at → (n : ℕ) → k + 1 ≤ n → n < length ws →
+    takes l twin vs (step_place l (length vs) i) (get_or ws (step_place l (length ws) n) (pos 0)) ≡ true
+later_passed l twin vs ws k j w at u r w_is is all i high n low lt =
+    takes_later l twin vs ws (step_place l (length vs) i) k n u r (omega arith) lt
+    (ap (takes l twin vs (step_place l (length vs) i)) (sym (w_is ∙ ap (λ z. get_or ws z (pos 0)) is)) ∙ all i high)
 
 -- one next value more
 pub puts_more : (s to : ℕ) (order : ℕ → ℕ) (f : ℕ → Hull) (first next next' : List Hull) (k j : ℕ) (h d : Hull) → j ≡ order k →
@@ -342,17 +350,17 @@ puts_more s to order f first next next' k j h d is inv e step =
     ∙ sym (ap (puts s to order f first) more)
 
 -- the next value takes in what was passed
-pub put_is : (m : Move) (pc : Cut) (l : Letter) (twin : Bool) (s q to : ℕ) (vs ws : List ℤ) (row next next' : List Hull) (j at : ℕ) (any : Bool) (p : Packed) →
-    same_letter l Equal ≡ false → swept (cut_of m) ≡ true → IsSweepable vs ws row →
+pub put_is : (m : Move) (pc : Cut) (l : Letter) (twin : Bool) (s q to : ℕ) (vs ws : List ℤ) (row next next' : List Hull) (j : ℕ) (w : ℤ) (at : ℕ)
+    (any : Bool) (p : Packed) → same_letter l Equal ≡ false → swept (cut_of m) ≡ true → IsSweepable vs ws row → small_int w ≡ true →
     pc ≡ cut_of m → at ≤ length vs → IsRunning any p (fronts pc l s q vs row at) →
-    ((t : Hull) → IsRunning any p t → next' ≡ set next (j * s + to) (hull_of_both (get_or next (j * s + to) none) (closed_hull pc t (get_or ws j (pos 0))))) →
-    ((k : ℕ) → k < at → takes l twin vs (step_place l (length vs) k) ws j ≡ true) →
-    (at < length vs → takes l twin vs (step_place l (length vs) at) ws j ≡ false) →
-    next' ≡ set next (j * s + to) (hull_of_both (get_or next (j * s + to) none) (sweep_entry m l twin s q vs row (get_or ws j (pos 0))))
-put_is m pc l twin s q to vs ws row next next' j at any p u sw able is inside run step passed rest =
+    ((t : Hull) → IsRunning any p t → next' ≡ set next (j * s + to) (hull_of_both (get_or next (j * s + to) none) (closed_hull pc t w))) →
+    ((k : ℕ) → k < at → takes l twin vs (step_place l (length vs) k) w ≡ true) →
+    (at < length vs → takes l twin vs (step_place l (length vs) at) w ≡ false) →
+    next' ≡ set next (j * s + to) (hull_of_both (get_or next (j * s + to) none) (sweep_entry m l twin s q vs row w))
+put_is m pc l twin s q to vs ws row next next' j w at any p u sw able small is inside run step passed rest =
     step (fronts pc l s q vs row at) run
     ∙ ap (λ z. set next (j * s + to) (hull_of_both (get_or next (j * s + to) none) z))
-    (ap (λ z. closed_hull z (fronts z l s q vs row at) (get_or ws j (pos 0))) is ∙ sym (entry_is m l twin s q vs ws row j at u sw able inside passed rest))
+    (ap (λ z. closed_hull z (fronts z l s q vs row at) w) is ∙ sym (entry_is m l twin s q vs ws row w at u sw able small inside passed rest))
 
 pub puts_begun : (s to : ℕ) (order : ℕ → ℕ) (f : ℕ → Hull) (first : List Hull) → first ≡ puts s to order f first 0
 unfolding puts

@@ -93,9 +93,13 @@ with_states b vs row ws (suc n) next = with_state b vs row ws n (with_states b v
 abbrev pub fits : Letter → List ℤ → ℕ → List ℤ → ℕ → Bool
 fits l vs i ws j = same_letter (letter_of (get_or vs i (pos 0)) (get_or ws j (pos 0))) l
 
--- the same, or are equal where a twin is taken in too
-abbrev pub takes : Letter → Bool → List ℤ → ℕ → List ℤ → ℕ → Bool
-takes l twin vs i ws j = cond twin (fits l vs i ws j || fits Equal vs i ws j) (fits l vs i ws j)
+-- a value compares with the next one as the letter says, or is equal where a twin is taken in too
+abbrev pub compares : Letter → Bool → ℤ → ℤ → Bool
+compares l twin v w =
+    cond twin (same_letter (letter_of v w) l || same_letter (letter_of v w) Equal) (same_letter (letter_of v w) l)
+
+abbrev pub takes : Letter → Bool → List ℤ → ℕ → ℤ → Bool
+takes l twin vs i w = compares l twin (get_or vs i (pos 0)) w
 
 -- a value from low to high may compare so with a next one from low' to high'
 abbrev pub may_fit : Letter → ℤ → ℤ → ℤ → ℤ → Bool

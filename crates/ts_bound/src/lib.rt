@@ -26,6 +26,7 @@ mod start;
 mod sweep;
 mod sweep_equal;
 mod sweep_fronts;
+mod sweep_kept;
 mod sweep_move;
 mod sweep_pairs;
 mod sweep_parts;

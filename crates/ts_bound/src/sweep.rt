@@ -12,7 +12,7 @@ ghost use Rattle.ts_bound.specs.Sweeps.{AllTakeNone, IsSweepable, fits, may_fit,
 
 use crate::fill::clear;
 use crate::sweep_equal::equal_move;
-use crate::sweep_move::sweep_move;
+use crate::sweep_kept::sweep_kept;
 use crate::sweep_pairs::pair_move;
 use crate::sweep_parts::Parts;
 use crate::sweep_state::take_state;
@@ -89,7 +89,7 @@ fn unequal_move(
 {
     let p = Parts::of(t);
     if p.is_swept() {
-        sweep_move(t, &p, l, false, s, q, values, before, next_values, next);
+        sweep_kept(t, &p, l, false, s, q, values, before, next_values, next);
     } else {
         pair_move(t, l, s, q, values, before, next_values, next);
     }

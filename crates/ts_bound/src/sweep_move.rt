@@ -14,40 +14,27 @@ ghost use Rattle.ts_bound.specs.Sweeps.{step_place, takes, with_hull_at, with_sw
 
 use crate::packed::Packed;
 use crate::sweep_parts::Parts;
-use crate::sweep_run::{Run, packed_at, put, step_place, takes, with_next};
+use crate::sweep_run::{Run, compares, packed_at, put, step_place, with_next};
 use crate::sweep_values::{Places, count_of, value_at};
 use ts_automaton::{Hull, Turn};
 use ts_base::Letter;
 
-/// The fronts on a hull in which registers lie, for the value at place `i`.
+/// The run with one hull more, for its value.
 #[inline(always)]
-fn front_of(p: &Parts<'_>, h: &Packed, values: &Places<'_>, i: usize) -> Packed
-    requires inside { i < length values.now }
-    requires swept { swept (parts_cut p.now) ≡ true }
-    requires some { some_hull (unpack_hull h.now) ≡ true }
-    requires this { small_int (get_or values.now i (pos 0)) ≡ true }
-    ensures { IsPackOf result (front_hull (parts_cut p.now) (unpack_hull h.now) (get_or values.now i (pos 0))) }
-{
-    p.front_packed(h, value_at(values, i))
-}
-
-/// The run with one hull more, for the value at place `i`.
-#[inline(always)]
-fn with_hull(p: &Parts<'_>, h: &Packed, values: &Places<'_>, i: usize, run: Run) -> Run
-    requires inside { i < length values.now }
+fn with_hull(p: &Parts<'_>, h: &Packed, value: i64, run: Run) -> Run
     requires room { run.at < 18446744073709551615 }
     requires swept { swept (parts_cut p.now) ≡ true }
-    requires this { small_int (get_or values.now i (pos 0)) ≡ true }
+    requires this { small_int value ≡ true }
     requires begun { run.any ≡ true → some_hull (unpack_hull run.hull) ≡ true }
     ensures at { result.at ≡ run.at + 1 }
     ensures hull { (t : Hull) → IsRunning run.any run.hull t → IsRunning result.any result.hull
-        (hull_of_both t (front_hull (parts_cut p.now) (unpack_hull h.now) (get_or values.now i (pos 0)))) }
+        (hull_of_both t (front_hull (parts_cut p.now) (unpack_hull h.now) value)) }
 {
     if h.is_some() {
         Run {
             at: run.at + 1,
             any: true,
-            hull: with_next(run.any, run.hull, front_of(p, h, values, i)),
+            hull: with_next(run.any, run.hull, p.front_packed(h, value)),
         }
     } else {
         Run {
@@ -58,7 +45,7 @@ fn with_hull(p: &Parts<'_>, h: &Packed, values: &Places<'_>, i: usize, run: Run)
     }
 }
 
-/// The run with the hull at place `i`, state `q`.
+/// The run with the hull at place `i`, state `q`, for its value.
 #[inline(always)]
 fn with_place(
     p: &Parts<'_>,
@@ -67,6 +54,7 @@ fn with_place(
     values: &Places<'_>,
     before: &[Hull],
     i: usize,
+    value: i64,
     run: Run,
 ) -> Run
     requires inside { i < length values.now }
@@ -75,16 +63,16 @@ fn with_place(
     requires room { run.at < 18446744073709551615 }
     requires swept { swept (parts_cut p.now) ≡ true }
     requires small { small_hull (hull_in s q before.now i) ≡ true }
-    requires this { small_int (get_or values.now i (pos 0)) ≡ true }
+    requires this { small_int value ≡ true }
     requires begun { run.any ≡ true → some_hull (unpack_hull run.hull) ≡ true }
     ensures at { result.at ≡ run.at + 1 }
     ensures hull { (t : Hull) → IsRunning run.any run.hull t → IsRunning result.any result.hull
-        (hull_of_both t (front_hull (parts_cut p.now) (hull_in s q before.now i) (get_or values.now i (pos 0)))) }
+        (hull_of_both t (front_hull (parts_cut p.now) (hull_in s q before.now i) value)) }
 {
-    with_hull(p, &packed_at(before, s, q, values, i), values, i, run)
+    with_hull(p, &packed_at(before, s, q, values, i), value, run)
 }
 
-/// The fronts that may be taken in before the next value at place `j`: those whose value compares with it as the letter
+/// The fronts that may be taken in before a next value: those whose value compares with it as the letter
 /// says, which come first in the letter's order.
 #[inline(always)]
 fn passed(
@@ -95,15 +83,14 @@ fn passed(
     q: usize,
     values: &Places<'_>,
     before: &[Hull],
-    next_values: &Places<'_>,
-    j: usize,
+    next_value: i64,
     from: Run,
 ) -> Run
     requires swept { swept (parts_cut p.now) ≡ true }
-    requires sweepable { IsSweepable values.now next_values.now before.now }
+    requires small { (i : ℕ) → small_hull (get_or before.now i none) ≡ true }
+    requires small_values { (i : ℕ) → small_int (get_or values.now i (pos 0)) ≡ true }
     requires state { q < s }
     requires before { length before.now ≡ length values.now * s }
-    requires next { j < length next_values.now }
     requires begun { from.at ≤ length values.now }
     requires fronts { IsRunning from.any from.hull (fronts (parts_cut p.now) l s q values.now before.now from.at) }
     ensures inside { result.at ≤ length values.now }
@@ -111,37 +98,24 @@ fn passed(
     ensures fronts { IsRunning result.any result.hull
         (fronts (parts_cut p.now) l s q values.now before.now result.at) }
     ensures passed { (k : ℕ) → from.at ≤ k → k < result.at →
-        takes l twin values.now (step_place l (length values.now) k) next_values.now j ≡ true }
+        takes l twin values.now (step_place l (length values.now) k) next_value ≡ true }
     ensures rest { result.at < length values.now →
-        takes l twin values.now (step_place l (length values.now) result.at) next_values.now j ≡ false }
+        takes l twin values.now (step_place l (length values.now) result.at) next_value ≡ false }
 {
     let n = count_of(values);
     let mut run = from;
     while run.at < n {
         let i = step_place(l, n, run.at);
-        if !takes(l, twin, values, i, next_values, j) {
+        let value = value_at(values, i);
+        if !compares(l, twin, value, next_value) {
             return run;
         }
-        run = with_place(p, s, q, values, before, i, run);
+        run = with_place(p, s, q, values, before, i, value, run);
     }
     run
 }
 
-/// What the next value makes of the fronts.
-#[inline(always)]
-fn closed_at(p: &Parts<'_>, h: &Packed, next_values: &Places<'_>, j: usize) -> Packed
-    requires inside { j < length next_values.now }
-    requires swept { swept (parts_cut p.now) ≡ true }
-    requires some { some_hull (unpack_hull h.now) ≡ true }
-    requires next { small_int (get_or next_values.now j (pos 0)) ≡ true }
-    ensures value { unpack_hull result ≡ closed_hull (parts_cut p.now) (unpack_hull h.now)
-        (get_or next_values.now j (pos 0)) }
-    ensures some { some_hull (unpack_hull result) ≡ true }
-{
-    p.closed_packed(h, value_at(next_values, j))
-}
-
-/// The next value at place `j`, state `to`, takes in what was passed.
+/// The next value, at place `j`, state `to`, takes in what was passed.
 #[inline(always)]
 fn put_run(
     p: &Parts<'_>,
@@ -149,20 +123,19 @@ fn put_run(
     next: &mut [Hull],
     s: usize,
     to: usize,
-    next_values: &Places<'_>,
     j: usize,
+    next_value: i64,
 )
     requires inside { j * s + to < length next.old }
-    requires value { j < length next_values.now }
     requires swept { swept (parts_cut p.now) ≡ true }
-    requires small { small_int (get_or next_values.now j (pos 0)) ≡ true }
+    requires small { small_int next_value ≡ true }
     requires begun { run.now.any ≡ true → some_hull (unpack_hull run.now.hull) ≡ true }
     requires canonical { hull_of_both (get_or next.old (j * s + to) none) none ≡ get_or next.old (j * s + to) none }
     ensures { (t : Hull) → IsRunning run.now.any run.now.hull t → next.new ≡ with_hull_at next.old (j * s + to)
-        (closed_hull (parts_cut p.now) t (get_or next_values.now j (pos 0))) }
+        (closed_hull (parts_cut p.now) t next_value) }
 {
     if run.any {
-        put(next, s, to, j, &closed_at(p, &run.hull, next_values, j));
+        put(next, s, to, j, &p.closed_packed(&run.hull, next_value));
     }
 }
 
@@ -201,7 +174,8 @@ pub(crate) fn sweep_move(
     };
     for k in 0..count_of(next_values) {
         let j = step_place(l, n, k);
-        run = passed(p, l, twin, s, q, values, before, next_values, j, run);
-        put_run(p, &run, next, s, to, next_values, j);
+        let next_value = value_at(next_values, j);
+        run = passed(p, l, twin, s, q, values, before, next_value, run);
+        put_run(p, &run, next, s, to, j, next_value);
     }
 }

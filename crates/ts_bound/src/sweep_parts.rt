@@ -4,6 +4,7 @@ ghost use Rattle.std.specs.Prelude.{◌≡◌};
 ghost use Rattle.ts_automaton.specs.Body.{move_of};
 ghost use Rattle.ts_automaton.specs.Formula.{Join, formula};
 ghost use Rattle.ts_bound.specs.Cuts.{cut_of, part_split, parts_cut, swept};
+ghost use Rattle.ts_bound.specs.declared.sweep_parts.Part.TheVariants.{KeepC, KeepD, KeepR};
 ghost use Rattle.ts_bound.specs.Splits.{is_double, is_front, is_next, is_swept, operands, split, tail_of};
 ghost use Rattle.ts_glue.specs.Rules.{is_same_op};
 
@@ -164,6 +165,18 @@ impl<'a> Parts<'a> {
             c: split_of(&t.c),
             d: split_of(&t.d),
             r: split_of(&t.r),
+        }
+    }
+
+    /// The parts of a move that keeps all registers.
+    #[inline(always)]
+    pub(crate) fn kept() -> Parts<'a>
+        ensures { result ≡ record { c = KeepC; d = KeepD; r = KeepR } }
+    {
+        Parts {
+            c: Part::KeepC,
+            d: Part::KeepD,
+            r: Part::KeepR,
         }
     }
 

@@ -2,11 +2,12 @@
 
 ghost use Rattle.std.specs.Prelude.{◌≡◌, ◌+◌, ◌*◌, ◌<◌, true, length, get_or};
 ghost use Rattle.ts_automaton.specs.declared.regs.Hull.{Hull};
+ghost use Rattle.ts_base.specs.Signature.{letter_of};
 ghost use Rattle.ts_bound.specs.Hulls.{hull_of_both, none};
 ghost use Rattle.ts_bound.specs.Packs.{IsPackOf, IsRunning, unpack_hull};
 ghost use Rattle.ts_bound.specs.Sealed.{some_hull};
 ghost use Rattle.ts_bound.specs.Smalls.{small_hull};
-ghost use Rattle.ts_bound.specs.Sweeps.{fits, hull_in, step_place, takes, with_hull_at};
+ghost use Rattle.ts_bound.specs.Sweeps.{compares, fits, hull_in, same_letter, step_place, with_hull_at};
 
 use crate::packed::Packed;
 use crate::sweep_values::{Places, value_at};
@@ -48,8 +49,20 @@ pub(crate) fn step_place(l: Letter, n: usize, k: usize) -> usize
     }
 }
 
-/// Whether two places compare as the letter says.
+/// Whether a value compares with the next one as the letter says.
 #[tactic(auto, using(crate::proofs::SweepLaws::letters_are))]
+#[inline(always)]
+fn stands(l: Letter, this: i64, next: i64) -> bool
+    ensures { result ≡ same_letter (letter_of this next) l }
+{
+    match l {
+        Letter::Less => this < next,
+        Letter::Equal => this == next,
+        Letter::Greater => next < this,
+    }
+}
+
+/// Whether two places compare as the letter says.
 #[inline(always)]
 pub(crate) fn fits(
     l: Letter,
@@ -62,33 +75,18 @@ pub(crate) fn fits(
     requires second { j < length next_values.now }
     ensures { result ≡ fits l values.now i next_values.now j }
 {
-    let this = value_at(values, i);
-    let next = value_at(next_values, j);
-    match l {
-        Letter::Less => this < next,
-        Letter::Equal => this == next,
-        Letter::Greater => next < this,
-    }
+    stands(l, value_at(values, i), value_at(next_values, j))
 }
 
-/// Whether two places compare as the letter says, or are equal where the move on `=` is taken in too.
+/// Whether a value compares with the next one as the letter says, or is equal where the move on `=` is taken in too.
 #[inline(always)]
-pub(crate) fn takes(
-    l: Letter,
-    twin: bool,
-    values: &Places<'_>,
-    i: usize,
-    next_values: &Places<'_>,
-    j: usize,
-) -> bool
-    requires first { i < length values.now }
-    requires second { j < length next_values.now }
-    ensures { result ≡ takes l twin values.now i next_values.now j }
+pub(crate) fn compares(l: Letter, twin: bool, this: i64, next: i64) -> bool
+    ensures { result ≡ compares l twin this next }
 {
     if twin {
-        fits(l, values, i, next_values, j) || fits(Letter::Equal, values, i, next_values, j)
+        stands(l, this, next) || stands(Letter::Equal, this, next)
     } else {
-        fits(l, values, i, next_values, j)
+        stands(l, this, next)
     }
 }
 

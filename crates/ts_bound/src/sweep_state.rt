@@ -10,7 +10,7 @@ ghost use Rattle.ts_bound.specs.Sweeps.{AllTakeNone, IsSweepable, hull_in, same_
 use crate::same_moves::is_same_turn;
 use crate::single::step_state;
 use crate::sweep::{add_move, turn};
-use crate::sweep_move::sweep_move;
+use crate::sweep_kept::sweep_kept;
 use crate::sweep_parts::Parts;
 use crate::sweep_run::has_registers;
 use crate::sweep_values::{Places, count_of};
@@ -69,7 +69,7 @@ fn add_both(
 {
     let p = Parts::of(t);
     if count_of(next_values) > 1 && p.is_swept() && is_same_turn(t, equal) {
-        sweep_move(t, &p, l, true, s, q, values, before, next_values, next);
+        sweep_kept(t, &p, l, true, s, q, values, before, next_values, next);
     } else {
         add_move(t, l, s, q, values, before, next_values, next);
         add_move(

@@ -5,5 +5,5 @@ use Rattle.ts_bound.proofs.sweep.unequal_move.Goals as goal
 
 pub returns-then-is_swept : goal.returns-then-is_swept
 returns-then-is_swept c =
-    c.sweep_move.ensures
+    c.sweep_kept.ensures
     ∙ sweep_alone (move_of c.args.t.now) c.args.l c.args.s c.args.q c.args.values.now c.args.before.now c.args.next_values.now c.args.next.now

@@ -32,7 +32,7 @@ loop-j-preserved c =
     let ws = c.args.next_values.now in
     let e = move_entry (move_of c.args.t.now) Equal c.args.s c.args.q c.args.values.now c.args.before.now
     (get_or c.args.next_values.now c.loop-j.j (pos 0)) in
-    let all = all_passed Less false vs ws c.loop-j.j c.loop-j.j c.loop-j.at c.not_below-at.result refl
+    let all = all_passed Less false vs ws c.loop-j.j c.loop-j.j (get_or ws c.loop-j.j (pos 0)) c.loop-j.at c.not_below-at.result refl refl
     (omega (arith, c.loop-j-test.true, c.count_of-j-end.ensures.count)) c.loop-j.invariant.passed c.not_below-at.ensures.passed in
     record {
       next =
@@ -41,7 +41,8 @@ loop-j-preserved c =
           c.put_packed.new.next c.loop-j.j
           c.loop-j.j e e refl c.loop-j.invariant.next refl (c.put_packed.ensures e c.equal_entry-run.ensures);
       inside = c.not_below-at.ensures.inside;
-      passed = later_passed Less false vs ws c.loop-j.j c.loop-j.j c.not_below-at.result refl c.requires.sweepable.next_rises refl all;
+      passed = later_passed Less false vs ws c.loop-j.j c.loop-j.j (get_or ws c.loop-j.j (pos 0)) c.not_below-at.result refl
+          c.requires.sweepable.next_rises refl refl all;
     }
 
 pub returns : goal.returns

@@ -1,6 +1,9 @@
-use Rattle.std.proofs.Common.{ap, ◌∙◌, refl, ◌+◌, ◌*◌, pos, length, get_or, arith}
+use mir.Val.{SFits}
+use Rattle.std.proofs.Common.{ap, ◌∙◌, ℤ, w64, to_z, of_z, rules, ◌+◌, ◌*◌, pos, length, get_or, arith}
+use Rattle.std.proofs.lemmas.Int.{to_z-of_z}
 use Rattle.ts_automaton.specs.Body.{move_of}
 use Rattle.ts_bound.specs.Cuts.{parts_cut}
+use Rattle.ts_bound.specs.Smalls.{small_int}
 use Rattle.ts_bound.specs.Sweeps.{step_place, sweep_entry, fronts}
 use Rattle.ts_bound.proofs.PackLaws.{running_some}
 use Rattle.ts_bound.proofs.SweepLaws.{parts_swept, puts_begun, fronts_begun, all_passed, later_passed, puts_more, put_is, sweep_done, puts_are_canonical}
@@ -32,28 +35,26 @@ loop-k-preserved c =
     let m = move_of c.args.t.now in
     let vs = c.args.values.now in
     let ws = c.args.next_values.now in
-    let all = all_passed c.args.l c.args.twin vs ws c.loop-k.k c.step_place-j.result c.loop-k.run.at c.passed-run.result.at
-    (c.step_place-j.ensures.value ∙ ap (λ z. step_place c.args.l z c.loop-k.k) c.count_of-n.ensures.count)
+    let fits : SFits w64 c.value_at-next_value.result = search rules in
+    let w = to_z w64 (of_z w64 c.value_at-next_value.result) in
+    let w_is = to_z-of_z w64 c.value_at-next_value.result fits ∙ c.value_at-next_value.ensures in
+    let j_is = c.step_place-j.ensures.value ∙ ap (λ z. step_place c.args.l z c.loop-k.k) c.count_of-n.ensures.count in
+    let entry = λ (y : ℤ). sweep_entry m c.args.l c.args.twin c.args.s c.args.q vs c.args.before.now y in
+    let all = all_passed c.args.l c.args.twin vs ws c.loop-k.k c.step_place-j.result w c.loop-k.run.at c.passed-run.result.at w_is j_is
     (omega (arith, c.loop-k-test.true, c.count_of-k-end.ensures.count)) c.loop-k.invariant.passed c.passed-run.ensures.passed in
     record {
       next =
-          puts_more c.args.s c.args.t.now.next (step_place c.args.l (length ws))
-          (λ j. sweep_entry m c.args.l c.args.twin c.args.s c.args.q vs c.args.before.now (get_or ws j (pos 0))) c.args.next.now c.loop-k.next
-          c.put_run.new.next
-          c.loop-k.k
-          c.step_place-j.result (sweep_entry m c.args.l c.args.twin c.args.s c.args.q vs c.args.before.now (get_or ws c.step_place-j.result (pos 0)))
-          (sweep_entry m c.args.l c.args.twin c.args.s c.args.q vs c.args.before.now (get_or ws c.step_place-j.result (pos 0)))
-          (c.step_place-j.ensures.value ∙ ap (λ z. step_place c.args.l z c.loop-k.k) c.count_of-n.ensures.count) c.loop-k.invariant.next refl
-          (put_is m (parts_cut c.args.p.now) c.args.l c.args.twin c.args.s c.args.q c.args.t.now.next vs ws c.args.before.now c.loop-k.next c.put_run.new.next
-          c.step_place-j.result c.passed-run.result.at c.passed-run.result.any
-          c.passed-run.result.hull c.requires.unequal (parts_swept (parts_cut c.args.p.now) m c.requires.parts c.requires.swept)
-          c.requires.sweepable c.requires.parts c.passed-run.ensures.inside
+          puts_more c.args.s c.args.t.now.next (step_place c.args.l (length ws)) (λ j. entry (get_or ws j (pos 0))) c.args.next.now c.loop-k.next
+          c.put_run.new.next c.loop-k.k c.step_place-j.result (entry w) (entry w) j_is c.loop-k.invariant.next (ap entry w_is)
+          (put_is m (parts_cut c.args.p.now) c.args.l c.args.twin c.args.s c.args.q c.args.t.now.next vs ws c.args.before.now c.loop-k.next
+          c.put_run.new.next c.step_place-j.result w c.passed-run.result.at c.passed-run.result.any c.passed-run.result.hull c.requires.unequal
+          (parts_swept (parts_cut c.args.p.now) m c.requires.parts c.requires.swept) c.requires.sweepable
+          (ap small_int w_is ∙ c.requires.sweepable.small_next c.step_place-j.result) c.requires.parts c.passed-run.ensures.inside
           c.passed-run.ensures.fronts c.put_run.ensures all c.passed-run.ensures.rest);
       inside = c.passed-run.ensures.inside;
       fronts = c.passed-run.ensures.fronts;
-      passed = later_passed c.args.l c.args.twin vs ws c.loop-k.k c.step_place-j.result c.passed-run.result.at c.requires.unequal
-          c.requires.sweepable.next_rises
-          (c.step_place-j.ensures.value ∙ ap (λ z. step_place c.args.l z c.loop-k.k) c.count_of-n.ensures.count) all;
+      passed = later_passed c.args.l c.args.twin vs ws c.loop-k.k c.step_place-j.result w c.passed-run.result.at c.requires.unequal
+          c.requires.sweepable.next_rises w_is j_is all;
     }
 
 pub returns : goal.returns

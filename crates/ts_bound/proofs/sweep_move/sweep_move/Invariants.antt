@@ -12,5 +12,5 @@ invariant-loop-k l = record {
   inside : l.run.at ≤ length l.values;
   fronts : IsRunning l.run.any l.run.hull (fronts (parts_cut l.p) l.l l.s l.q l.values l.before l.run.at);
   passed : (i : ℕ) → i < l.run.at → (n : ℕ) → l.k ≤ n → n < length l.next_values →
-      takes l.l l.twin l.values (step_place l.l (length l.values) i) l.next_values (step_place l.l (length l.next_values) n) ≡ true;
+      takes l.l l.twin l.values (step_place l.l (length l.values) i) (get_or l.next_values (step_place l.l (length l.next_values) n) (pos 0)) ≡ true;
 }

@@ -12,5 +12,5 @@ add_move-requires-else-count_of-gt1-clause-canonical c =
 pub returns-then-is_same_turn : goal.returns-then-is_same_turn
 returns-then-is_same_turn c =
     both_swept (move_of c.args.t.now) (move_of c.args.equal.now) c.args.l c.args.s c.args.q c.args.values.now c.args.before.now
-    c.args.next_values.now c.args.next.now c.sweep_move.new.next (c.is_same_turn.ensures c.if-is_same_turn.true) c.requires.leads c.requires.next
-    c.requires.canonical c.sweep_move.ensures
+    c.args.next_values.now c.args.next.now c.sweep_kept.new.next (c.is_same_turn.ensures c.if-is_same_turn.true) c.requires.leads c.requires.next
+    c.requires.canonical c.sweep_kept.ensures
