@@ -123,18 +123,6 @@ right_with_one ms m h lacks right none =
         (λ a. ⊎_elim (λ b. absurd (lacks j (subst (λ z. IsNumber (shapes_met ms) z j) (sym a.1) b))) (λ b. a.0 ∙ sym b.0) q)
         p
 
-pub right_alone : (m : Met) → AnswersRight m → ((l : Letter) → number_after m l ≡ None) → AreConsistent (m ∷ [])
-right_alone m right none =
-    right_with_one [] m nothing (λ n p. absurd (none-some (shape_of m.residual) p)) right none
-  where
-    nothing : AreConsistent []
-    nothing =
-        record {
-          once = λ i j r p q. absurd (none-some r p);
-          answers = λ k m p. absurd (none-some m p);
-          after = λ k n x l p q. absurd (none-some x p);
-        }
-
 -- one more number noted
 
 kept_residual : (m : Met) (n : ℕ) (l : Letter) → shape_of (with_number_after m l n).residual ≡ shape_of m.residual

@@ -1,12 +1,12 @@
 -- A total over a list with one more number, for any way to join numbers; and how large totals are.
-use Rattle.std.specs.Prelude.{◌≡◌, ℕ, zero, suc, ◌+◌, ◌*◌, ◌<◌, ◌≤◌, ℤ, pos, ◌+ℤ◌, List, [], ◌∷◌, ◌++◌, map, length, take, Option, None, Some, IfSome, refl}
+use Rattle.std.specs.Prelude.{◌≡◌, ℕ, zero, suc, ◌+◌, ◌*◌, ◌<◌, ◌≤◌, ℤ, List, [], ◌∷◌, ◌++◌, map, length, take, Option, None, Some, IfSome, refl}
 use Rattle.std.specs.List.{fold, AllByRecursion}
 use Rattle.std.proofs.Common.{sym, ◌∙◌, ap, subst, arith, get_or}
 use Rattle.std.proofs.lemmas.Int.{ints, clamps}
 use Rattle.std.proofs.lemmas.List.{take_more, map-append}
 use Rattle.ts_pattern.specs.declared.name.Aggregator.{Aggregator}
 use Rattle.ts_pattern.specs.declared.name.Aggregator.TheVariants.{Sum, Max, Min}
-use Rattle.ts_pattern.specs.FeatureValue.{over, or_zero}
+use Rattle.ts_pattern.specs.FeatureValue.{over}
 use Rattle.ts_pattern.specs.TermValue.{combine}
 use Rattle.ts_occurrence.specs.Total.{IsWithin, with_one}
 
@@ -52,16 +52,6 @@ within_more g n k x t None h b e = let b0 = b.0 in let b1 = b.1 in subst (λ s. 
 within_more g n k x t (Some s) h b e =
     subst (λ m. IsWithin m t) (let q : n * k + n ≡ n * (k + 1) = omega arith in q)
     (subst (λ z. IsWithin (n * k + n) z) (sym e) (joined_within g (n * k) n s x h b))
-
--- a total of few is within
-pub some_within : (m n : ℕ) (o : Option ℤ) → m ≤ n → IfSome o (λ s. IsWithin m s) → IfSome o (λ s. IsWithin n s)
-some_within m n None q h = tt
-some_within m n (Some s) q h = let h0 = h.0 in let h1 = h.1 in (omega (arith, ints), omega (arith, ints))
-
--- a plain sum from 0
-pub sum_over : (xs : List ℤ) → fold ◌+ℤ◌ (pos 0) xs ≡ or_zero (over ◌+ℤ◌ xs)
-sum_over [] = refl
-sum_over (x ∷ xs) = ap (λ z. fold ◌+ℤ◌ z xs) (omega (arith, ints))
 
 -- a range in the list of ranges
 pub each_at : {A : Type 0} (P : A → Type 0) (xs : List A) (k : ℕ) (d : A) → AllByRecursion P xs → k < length xs → P (get_or xs k d)
