@@ -1,14 +1,15 @@
 //! Five transducers under each pair of aggregator and feature, on series whose values were found from the expressions
 //! of the patterns alone; and the text of one automaton.
 
-ghost use Rattle.std.specs.Prelude.{◌≤◌, length};
+ghost use Rattle.std.specs.Prelude.{◌<◌};
 
+use super::terms::{HIGH, LOW, PAIRS, answer, value};
 use arrayvec::ArrayVec;
-use std::process::Abort;
+use std::alloc::Global;
 use std::test::Fail;
 use ts_automaton::{Automaton, write};
-use ts_base::Ext;
 use ts_base::Kind::{self, Held, Idle, Pending};
+use ts_base::Memory;
 use ts_decorate::decorate;
 use ts_pattern::{Aggregator, Feature};
 use ts_transducer::Phase::{self, Found, FoundE, Inside, MaybeA, MaybeB, Out, OutA, OutR};
@@ -17,33 +18,13 @@ use ts_transducer::{Arrow, Row, Transducer};
 /// A row: its kind, and its moves on `<`, `=` and `>`.
 type Line = (Kind, (Phase, u8), (Phase, u8), (Phase, u8));
 
-/// A series, and its value under each pair in the order of `PAIRS`.
+/// A series, and its value under each pair, in the order of `terms`.
 type Values = (&'static [i64], [i64; 13]);
 
-/// The aggregators and features that make a term.
-const PAIRS: [(Aggregator, Feature); 13] = [
-    (Aggregator::Sum, Feature::One),
-    (Aggregator::Sum, Feature::Width),
-    (Aggregator::Sum, Feature::Surf),
-    (Aggregator::Sum, Feature::Max),
-    (Aggregator::Sum, Feature::Min),
-    (Aggregator::Max, Feature::Width),
-    (Aggregator::Max, Feature::Surf),
-    (Aggregator::Max, Feature::Max),
-    (Aggregator::Max, Feature::Min),
-    (Aggregator::Min, Feature::Width),
-    (Aggregator::Min, Feature::Surf),
-    (Aggregator::Min, Feature::Max),
-    (Aggregator::Min, Feature::Min),
-];
-
-// These stand for -inf and +inf in the tables.
-const LOW: i64 = i64::MIN;
-
-const HIGH: i64 = i64::MAX;
-
 /// Rows, how many cells an occurrence leaves out at its end, and values.
-static CASES: [(&[Line], u8, &[Values]); 5] = [
+type Case = (&'static [Line], u8, &'static [Values]);
+
+static CASES: [Case; 5] = [
     // peaks
     (
         &[
@@ -177,7 +158,7 @@ static WIDTHS_OF_PEAKS: &str =
     "state s free\nstate r free\nstate t held\nstart 0 0 0\nmove s < r ; C ; D ; R\nmove s = s ; C ; D ; R\nmove s > s ; C ; D ; R\nmove r < r ; C ; add D 1 ; R\nmove r = r ; C ; add D 1 ; R\nmove r > t ; add D 1 ; 0 ; R\nmove t < r ; 0 ; 0 ; add R C\nmove t = t ; C ; add D 1 ; R\nmove t > t ; add C add D 1 ; 0 ; R\nfinish add R C same\nend\n";
 
 // The table behind a function, so that the proof of the test doesn't read it.
-fn cases() -> &'static [(&'static [Line], u8, &'static [Values])] {
+fn cases() -> &'static [Case] {
     &CASES
 }
 
@@ -209,50 +190,64 @@ fn transducer(lines: &[Line]) -> Option<Transducer> {
     Transducer::new(rows)
 }
 
-/// The answer of the automaton on a series.
-fn answer(automaton: &Automaton, series: &[i64]) -> Ext
-    requires { length series.now ≤ 100000 }
+/// Whether the automaton has the values of a pair on the series.
+fn answers(automaton: &Automaton, tests: &[Values], pair: usize) -> bool
+    requires { pair < 13 }
 {
-    let mut at = automaton.start();
-    for k in 1..series.len() {
-        at = automaton.step(at, series[k - 1], series[k]);
+    for (series, values) in tests {
+        if 100_000 < series.len() || answer(automaton, series) != value(values[pair]) {
+            return false;
+        }
     }
-    automaton.finish(at, series.len() as u32)
+    true
 }
 
-/// The value that a table writes so.
-fn value(written: i64) -> Ext {
-    match written {
-        LOW => Ext::NegInf,
-        HIGH => Ext::PosInf,
-        _ => Ext::Int(written),
+fn pair_holds(alloc: Global, seed: &Transducer, case: &Case, pair: usize) -> Result<bool, Memory> {
+    let (_, a, tests) = case;
+    if 13 <= pair || 1 < *a {
+        return Ok(false);
     }
+    let (aggregator, feature) = PAIRS[pair];
+    Ok(answers(
+        &decorate(alloc, seed, *a, aggregator, feature)?,
+        tests,
+        pair,
+    ))
+}
+
+/// The first pair under which the transducer of a case has another value.
+fn first_wrong(alloc: Global, seed: &Transducer, case: &Case) -> Result<Option<usize>, Memory> {
+    for pair in 0..13 {
+        if !pair_holds(alloc, seed, case, pair)? {
+            return Ok(Some(pair));
+        }
+    }
+    Ok(None)
 }
 
 #[test]
 fn decorated_transducers(rt: HostRuntime) -> Result<(), Fail> {
-    for (lines, a, tests) in cases() {
-        assert!(rt; *a <= 1);
-        let seed = transducer(lines).ok_or("typed")?;
-        for k in 0..13 {
-            let (aggregator, feature) = PAIRS[k];
-            let automaton = decorate(rt.alloc(), &seed, *a, aggregator, feature)?;
-            for (series, values) in *tests {
-                assert!(rt; series.len() <= 100_000);
-                let wanted = value(values[k]);
-                assert_eq!(rt;
-                    answer(&automaton, series),
-                    wanted,
-                    "{aggregator:?} {feature:?} {series:?}"
-                );
-            }
-        }
+    for case in cases() {
+        let seed = transducer(case.0).ok_or("typed")?;
+        assert_eq!(rt; first_wrong(rt.alloc(), &seed, case)?, None);
     }
-    let (lines, _, _) = cases().first().ok_or("peaks")?;
-    let peaks = transducer(lines).ok_or("typed")?;
-    let widths = decorate(rt.alloc(), &peaks, 1, Aggregator::Sum, Feature::Width)?;
-    let mut text = Vec::new(rt.alloc());
+    Ok(())
+}
+
+/// The text of the automaton of the widths.
+fn widths(alloc: Global, seed: &Transducer) -> Result<Vec<u8>, Memory> {
+    let widths = decorate(alloc, seed, 1, Aggregator::Sum, Feature::Width)?;
+    let mut text = Vec::new(alloc);
     write(&widths, &mut text)?;
-    assert_eq!(rt; text.as_slice(), widths_of_peaks().as_bytes());
+    Ok(text)
+}
+
+#[test]
+fn text_of_a_decorated_transducer(rt: HostRuntime) -> Result<(), Fail> {
+    let peaks = cases()
+        .first()
+        .and_then(|case| transducer(case.0))
+        .ok_or("peaks")?;
+    assert!(rt; widths(rt.alloc(), &peaks)?.as_slice() == widths_of_peaks().as_bytes());
     Ok(())
 }

@@ -54,7 +54,7 @@ fn made(alloc: Global, sign: u8, stack: &mut Vec<Regex>) -> Result<Regex, Memory
     }
 }
 
-fn regex(alloc: Global, text: &str) -> Result<Regex, Memory> {
+pub(super) fn regex(alloc: Global, text: &str) -> Result<Regex, Memory> {
     let mut stack: Vec<Regex> = Vec::new(alloc);
     for sign in text.as_bytes() {
         let top = made(alloc, *sign, &mut stack)?;
@@ -63,7 +63,7 @@ fn regex(alloc: Global, text: &str) -> Result<Regex, Memory> {
     Ok(pop(&mut stack))
 }
 
-fn letters(alloc: Global, text: &str) -> Result<Vec<Letter>, Memory> {
+pub(super) fn letters(alloc: Global, text: &str) -> Result<Vec<Letter>, Memory> {
     let mut letters = Vec::new(alloc);
     for sign in text.as_bytes() {
         match *sign {
@@ -76,7 +76,8 @@ fn letters(alloc: Global, text: &str) -> Result<Vec<Letter>, Memory> {
     Ok(letters)
 }
 
-fn word(row: &str, place: usize) -> &str {
+/// A word of a row, counted from 0.
+pub(super) fn word(row: &str, place: usize) -> &str {
     row.split_whitespace().nth(place).unwrap_or("")
 }
 

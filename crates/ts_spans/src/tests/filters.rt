@@ -1,11 +1,14 @@
 //! Spans that refute, or cut, and spans that don't, found by going over the numbers of each span.
 
+mod at_cells;
 mod calls;
+mod cell_rows;
+mod cells;
 mod drops;
 mod rows;
+mod samples;
 
 use Ext::{Int, NegInf, PosInf};
-use std::test::Fail;
 use ts_base::{Ext, Goal, Span};
 use ts_filter::{Bar, cuts, refutes};
 use ts_model::Op;
@@ -157,23 +160,25 @@ fn cut_rows() -> &'static [((Ext, Ext), Ext, [bool; 4])] {
 }
 
 #[test]
-fn spans_refute(rt: HostRuntime) -> Result<(), Fail> {
+fn spans_refute(rt: HostRuntime) {
     for &((lo, hi), bound, told) in refuted_rows() {
-        for i in 0..6 {
-            assert_eq!(rt; refutes(OPS[i], bound, Span { lo, hi }), told[i]);
-        }
+        let found = OPS.map(|op| refutes(op, bound, Span { lo, hi }));
+        assert!(rt; found == told, "{lo:?} {hi:?} {bound:?}");
     }
-    Ok(())
+}
+
+fn cuts_of(v: Ext, span: Span) -> [bool; 4] {
+    [
+        cuts(Goal::Maximise, Bar::Better(v), span),
+        cuts(Goal::Maximise, Bar::AsGood(v), span),
+        cuts(Goal::Minimise, Bar::Better(v), span),
+        cuts(Goal::Minimise, Bar::AsGood(v), span),
+    ]
 }
 
 #[test]
-fn spans_cut(rt: HostRuntime) -> Result<(), Fail> {
-    for &((lo, hi), v, [greater, at_least, less, at_most]) in cut_rows() {
-        let span = Span { lo, hi };
-        assert_eq!(rt; cuts(Goal::Maximise, Bar::Better(v), span), greater);
-        assert_eq!(rt; cuts(Goal::Maximise, Bar::AsGood(v), span), at_least);
-        assert_eq!(rt; cuts(Goal::Minimise, Bar::Better(v), span), less);
-        assert_eq!(rt; cuts(Goal::Minimise, Bar::AsGood(v), span), at_most);
+fn spans_cut(rt: HostRuntime) {
+    for &((lo, hi), v, told) in cut_rows() {
+        assert!(rt; cuts_of(v, Span { lo, hi }) == told, "{lo:?} {hi:?} {v:?}");
     }
-    Ok(())
 }

@@ -1,14 +1,15 @@
 //! Glued values at every cell: the machine of each pattern that has a partner gives the value of the series wherever
 //! it is split, under all thirteen pairs of aggregator and feature, on the ten series of `terms`.
 
-ghost use Rattle.std.specs.Prelude.{◌≤◌, length};
+ghost use Rattle.std.specs.Prelude.{◌≤◌, ◌<◌, length};
 ghost use Rattle.ts_automaton.specs.AutomatonRun.{Stands, standing_of};
 
-use super::terms::{PAIRS, all_series, value};
+use super::terms::{Values, all_series, term_of, value};
 use super::{first_values, last_values};
+use std::alloc::Global;
 use std::test::Fail;
 use ts_automaton::{At, Automaton, Regs};
-use ts_base::Ext;
+use ts_base::{Ext, Memory};
 use ts_compile::compile_term;
 use ts_glue::{Machine, glue_value};
 use ts_pattern::{Aggregator, Feature, PatternId, Term};
@@ -66,29 +67,77 @@ fn has_partner(pattern: PatternId) -> bool {
     )
 }
 
-#[test]
-fn glued_values_are_the_values_of_terms(rt: HostRuntime) -> Result<(), Fail> {
-    for table in [first_values::values(), last_values::values()] {
-        for (pattern, values) in table {
-            for k in 0..13 {
-                let (aggregator, feature) = PAIRS[k];
-                let term = Term::new(aggregator, feature, *pattern).ok_or("pair")?;
-                let machine = compile_term(rt.alloc(), &term)?;
-                let splits = machine.reverse().is_some();
-                assert_eq!(rt; splits, has_partner(*pattern), "{term:?}");
-                if !splits {
-                    continue;
-                }
-                for (series, wanted) in all_series().iter().zip(values) {
-                    assert!(rt; series.len() <= 100_000);
-                    for cell in 1..series.len() + 1 {
-                        let found = glued_at(&machine, series, cell);
-                        let wanted = Some(value(wanted[k]));
-                        assert_eq!(rt; found, wanted, "{term:?} {series:?} at cell {cell}");
-                    }
-                }
-            }
+/// Whether the value is glued at each cell.
+fn is_glued(machine: &Machine, series: &[i64], wanted: Ext) -> bool
+    requires { length series.now ≤ 100000 }
+{
+    for cell in 1..series.len() + 1 {
+        if glued_at(machine, series, cell) != Some(wanted) {
+            return false;
         }
+    }
+    true
+}
+
+/// Whether the values of a pair on all series are glued at each cell.
+fn are_glued(machine: &Machine, values: &Values, pair: usize) -> bool
+    requires { pair < 13 }
+{
+    for (series, wanted) in all_series().iter().zip(values) {
+        if 100_000 < series.len() || !is_glued(machine, series, value(wanted[pair])) {
+            return false;
+        }
+    }
+    true
+}
+
+/// Whether the machine can be split where the pattern has a partner, and is glued to the values.
+fn splits_as_told(machine: &Machine, pattern: PatternId, values: &Values, pair: usize) -> bool
+    requires { pair < 13 }
+{
+    if machine.reverse().is_some() {
+        has_partner(pattern) && are_glued(machine, values, pair)
+    } else {
+        !has_partner(pattern)
+    }
+}
+
+fn term_holds(
+    alloc: Global,
+    pattern: PatternId,
+    values: &Values,
+    pair: usize,
+) -> Result<bool, Memory>
+    requires { pair < 13 }
+{
+    match term_of(pattern, pair) {
+        Some(term) => Ok(splits_as_told(&compile_term(alloc, &term)?, pattern, values, pair)),
+        None => Ok(false),
+    }
+}
+
+/// The first pair under which a pattern has another value at some cell.
+fn first_wrong(
+    alloc: Global,
+    pattern: PatternId,
+    values: &Values,
+) -> Result<Option<usize>, Memory> {
+    for pair in 0..13 {
+        if !term_holds(alloc, pattern, values, pair)? {
+            return Ok(Some(pair));
+        }
+    }
+    Ok(None)
+}
+
+#[test]
+fn glued_values_are_the_values_of_terms(rt: HostRuntime) -> Result<(), Memory> {
+    for (pattern, values) in first_values::values().iter().chain(last_values::values()) {
+        assert_eq!(rt;
+            first_wrong(rt.alloc(), *pattern, values)?,
+            None,
+            "{pattern:?}"
+        );
     }
     Ok(())
 }
@@ -113,20 +162,32 @@ fn standing(state: u8, c: i64, d: i64, r: i64) -> At {
     }
 }
 
+// The peak has two cells before the fourth, in C on the left, and one behind it, which is still open on the right.
+fn stands_in_the_peak(machine: &Machine) -> bool {
+    let series = peak();
+    if series.len() != 7 {
+        return false;
+    }
+    match machine.reverse() {
+        Some(reverse) => {
+            forward_at(machine.forward(), series, 4) == standing(2, 2, 0, 0)
+                && reverse_at(reverse, series, 4) == standing(1, 0, 1, 0)
+        }
+        None => false,
+    }
+}
+
+fn has_peak(machine: &Machine) -> bool {
+    let series = peak();
+    if series.len() != 7 {
+        return false;
+    }
+    is_glued(machine, series, Ext::Int(4)) && stands_in_the_peak(machine)
+}
+
 #[test]
 fn a_peak_is_glued_at_each_cell(rt: HostRuntime) -> Result<(), Fail> {
     let term = Term::new(Aggregator::Sum, Feature::Width, PatternId::Peak).ok_or("pair")?;
-    let machine = compile_term(rt.alloc(), &term)?;
-    let series = peak();
-    assert_eq!(rt; series.len(), 7);
-    for cell in 1..8 {
-        let found = glued_at(&machine, series, cell);
-        assert_eq!(rt; found, Some(Ext::Int(4)), "at cell {cell}");
-    }
-    // the peak has two cells before this one, in C on the left, and one behind it, which is still open on the right
-    let left = forward_at(machine.forward(), series, 4);
-    assert_eq!(rt; left, standing(2, 2, 0, 0));
-    let right = reverse_at(machine.reverse().ok_or("split")?, series, 4);
-    assert_eq!(rt; right, standing(1, 0, 1, 0));
+    assert!(rt; has_peak(&compile_term(rt.alloc(), &term)?));
     Ok(())
 }

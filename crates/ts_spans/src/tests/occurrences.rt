@@ -2,302 +2,31 @@
 //!
 //! A cell is written as a digit, as a small letter from `a` for 10, or as a capital letter from `A` for -1.
 
+mod tables;
+
 ghost use Rattle.std.specs.Prelude.{IsTrue};
 ghost use Rattle.ts_pattern.specs.Limits.{IsSeries};
 
+use super::expressions::{letters, word};
 use std::alloc::Global;
+use tables::{peaks, ranges, values};
 use ts_base::{Ext, Letter, Memory, Range};
 use ts_occurrence::{occurrences, part, signature, value};
 use ts_pattern::{Pattern, PatternId, Term, aggregator_of, feature_of, pattern_by_id, pattern_of};
 use ts_regex::{Regex, star};
 
-// Signs and the e-ranges of peak in them; a dot stands for no sign.
-static PEAKS: &str = ". none
-     < none
-     > none
-     = none
-     <> 2-2
-     >< none
-     <= none
-     => none
-     <=> 2-3
-     <==>> 2-5
-     <<>> 2-4
-     =<>= 3-3
-     <><> 2-2,4-4
-     ><>< 3-3
-     <>=<> 2-2,5-5
-     <=<=>=> 2-7
-     >>><<< none
-     <<<>>> 2-6
-     <>>=< 2-3
-     ===== none
-     <===== none
-     >===== none
-     =<=>=<=>= 3-4,7-8
-     <=><=> 2-3,5-6
-     <><><> 2-2,4-4,6-6
-     ><><>< 3-3,5-5
-     <=<>=>= 2-6
-     >=<=>=< 4-5
-     <<=>>=<<=>> 2-5,8-11
-     <>>>>< 2-5
-     =>=<> 5-5
-     >>=<<=> 5-7
-     <<>=>=> 2-7
-     <=<=<=> 2-7
-     <<<<<<<<> 2-9
-     <>>>>>>>> 2-9
-     <>=<=<= 2-2
-     =<=<=>=>= 3-8";
-
-fn peaks() -> &'static str {
-    PEAKS
-}
-
-// A pattern, a series, and the e-ranges: at both ends, overlapping, none, with equal neighbours.
-static RANGES: &str = "increasing 0242 1-2,2-3
-     increasing 102101 2-3,5-6
-     increasing 2210 none
-     increasing 1003 3-4
-     increasing 00132212 2-3,3-4,7-8
-     increasing 1010300 2-3,4-5
-     decreasing 32521321 1-2,3-4,4-5,6-7,7-8
-     decreasing 1222 none
-     decreasing 3303 2-3
-     decreasing 000330 5-6
-     decreasing 122113 3-4
-     decreasing 2201112 2-3
-     steady 112301 1-2
-     steady 30051011 2-3,7-8
-     steady 303021512 none
-     steady 202221 3-4,4-5
-     steady 403233322 5-6,6-7,8-9
-     steady 1300212 3-4
-     increasing_sequence 052031 1-2,4-5
-     increasing_sequence 43021113 3-4,7-8
-     increasing_sequence 32100000 none
-     increasing_sequence 10111 2-3
-     increasing_sequence 4230132 2-3,4-6
-     increasing_sequence 2523203 1-2,3-4,6-7
-     increasing_sequence 12222502 1-6,7-8
-     decreasing_sequence 2021 1-2,3-4
-     decreasing_sequence 0122 none
-     decreasing_sequence 2551 3-4
-     decreasing_sequence 2011020 1-2,4-5,6-7
-     decreasing_sequence 312322110 1-2,4-9
-     decreasing_sequence 121031 2-4,5-6
-     strictly_increasing_sequence 02212022 1-2,4-5,6-7
-     strictly_increasing_sequence 411511215 3-4,6-7,8-9
-     strictly_increasing_sequence 322222 none
-     strictly_increasing_sequence 00211532 2-3,5-6
-     strictly_increasing_sequence 01234531 1-6
-     strictly_increasing_sequence 030133 1-2,3-5
-     strictly_decreasing_sequence 320321102 1-3,4-6,7-8
-     strictly_decreasing_sequence 033542 4-6
-     strictly_decreasing_sequence 0113 none
-     strictly_decreasing_sequence 543210 1-6
-     strictly_decreasing_sequence 3330130 3-4,6-7
-     strictly_decreasing_sequence 220132110 2-3,5-7,8-9
-     steady_sequence 3301 1-2
-     steady_sequence 104111533 4-6,8-9
-     steady_sequence 20451032 none
-     steady_sequence 100424411 2-3,6-7,8-9
-     steady_sequence 001111112 1-2,3-8
-     steady_sequence 332013111 1-2,7-9
-     increasing_terrace 01112 2-4
-     increasing_terrace 032315123 none
-     increasing_terrace 011223210 2-3,4-5
-     increasing_terrace 200225231 4-5
-     increasing_terrace 104011112 5-8
-     increasing_terrace 3011133 3-5
-     decreasing_terrace 3220 2-3
-     decreasing_terrace 0120211 none
-     decreasing_terrace 322110 2-3,4-5
-     decreasing_terrace 0422210 3-5
-     decreasing_terrace 2111100 2-5
-     decreasing_terrace 2331110 4-6
-     inflexion 203501151 2-2,3-4,5-5,6-8
-     inflexion 1111 none
-     inflexion 11024 3-3
-     inflexion 0223312 2-5,6-6
-     inflexion 131011 2-2,3-4
-     inflexion 10002111 2-4,5-5
-     peak 1305314 2-2,4-5
-     peak 20140310 3-4,6-7
-     peak 43201 none
-     peak 002103 3-4
-     peak 512021231 3-3,5-5,7-8
-     peak 244331 2-5
-     valley 320123323 2-5,8-8
-     valley 3432 none
-     valley 2221121 4-5
-     valley 312005002 2-2,4-5,7-8
-     valley 2013003 2-3,5-6
-     valley 312210110 2-2,5-6
-     plateau 1423032 2-2,4-4,6-6
-     plateau 234000130 3-3,8-8
-     plateau 511122 none
-     plateau 1222205 2-5
-     plateau 2223123 4-4
-     plateau 201121 5-5
-     plain 302344030 2-2,7-7
-     plain 3323 3-3
-     plain 5211 none
-     plain 100110202 2-3,6-6,8-8
-     plain 010000212 3-6,8-8
-     plain 03001001 3-4,6-7
-     proper_plateau 12214011 2-3
-     proper_plateau 003031221 7-8
-     proper_plateau 514500211 none
-     proper_plateau 202211 3-4
-     proper_plateau 0220330 2-3,5-6
-     proper_plateau 10222210 3-6
-     proper_plateau 01221 3-4
-     proper_plain 1001 2-3
-     proper_plain 01001 3-4
-     proper_plain 051100 none
-     proper_plain 240332232 6-7
-     proper_plain 41121124 2-3,5-6
-     proper_plain 020000001 3-8
-     summit 340003 2-2
-     summit 020020430 2-2,5-5,7-8
-     summit 211233023 none
-     summit 10102111 3-3,5-5
-     summit 20254210 3-7
-     summit 301311120 3-4,8-8
-     summit 01121 2-4
-     gorge 10111121 2-6
-     gorge 0013104 5-6
-     gorge 340022 none
-     gorge 122121025 4-4,6-8
-     gorge 45020203 3-3,5-5,7-7
-     gorge 302322 2-3
-     zigzag 13153320 2-4
-     zigzag 023024120 3-4,6-8
-     zigzag 12232252 none
-     zigzag 2212111 3-4
-     zigzag 021402221 2-5
-     zigzag 323003 2-3
-     dip_on_increasing_sequence 135024111 3-5
-     dip_on_increasing_sequence 11235012 5-7
-     dip_on_increasing_sequence 220101 none
-     dip_on_increasing_sequence 124012023 3-5,6-8
-     dip_on_increasing_sequence 050130122 5-7
-     dip_on_increasing_sequence 0120131 3-5
-     dip_on_increasing_sequence 0121123 none
-     bump_on_decreasing_sequence 320320 3-5
-     bump_on_decreasing_sequence 12021 none
-     bump_on_decreasing_sequence 321320210 3-5,6-8
-     bump_on_decreasing_sequence 022105320 5-7
-     bump_on_decreasing_sequence 121043212 4-6
-     bump_on_decreasing_sequence 233103213 5-7";
-
-fn ranges() -> &'static str {
-    RANGES
-}
-
-// A term, a series, and the value.
-static VALUES: &str = "sum width peak 1332214 4
-     max surf peak 222 -inf
-     min width peak 222 3
-     max width peak 222 0
-     sum one peak a 0
-     sum one inflexion 1212 2
-     sum width inflexion 1212 2
-     sum one zigzag 01010 1
-     max width zigzag 01010 3
-     sum one zigzag 010 0
-     max width zigzag 010 0
-     sum surf decreasing 531 12
-     sum width increasing_sequence 1223 4
-     sum width strictly_increasing_sequence 1223 4
-     max width strictly_increasing_sequence 1223 2
-     sum surf bump_on_decreasing_sequence 987876 22
-     sum one valley 3223 1
-     sum one plain 3223 1
-     sum one proper_plain 3223 1
-     sum one gorge 3223 0
-     sum one peak 1332214121 3
-     sum one peak BACCA3BB 2
-     sum one peak 22 0
-     sum one decreasing 531 2
-     sum width peak 1332214121 6
-     sum width peak BACCA3BB 3
-     sum width peak 22 0
-     sum width decreasing 531 4
-     sum surf peak 1332214121 16
-     sum surf peak BACCA3BB 1
-     sum surf peak 22 0
-     sum surf decreasing 531 12
-     sum max peak 1332214121 9
-     sum max peak BACCA3BB 2
-     sum max peak 22 0
-     sum max decreasing 531 8
-     sum min peak 1332214121 8
-     sum min peak BACCA3BB -2
-     sum min peak 22 0
-     sum min decreasing 531 4
-     max width peak 1332214121 4
-     max width peak BACCA3BB 2
-     max width peak 22 0
-     max width decreasing 531 2
-     max surf peak 1332214121 10
-     max surf peak BACCA3BB 2
-     max surf peak 22 -inf
-     max surf decreasing 531 8
-     max max peak 1332214121 4
-     max max peak BACCA3BB 3
-     max max peak 22 -inf
-     max max decreasing 531 5
-     max min peak 1332214121 4
-     max min peak BACCA3BB -1
-     max min peak 22 -inf
-     max min decreasing 531 3
-     min width peak 1332214121 1
-     min width peak BACCA3BB 1
-     min width peak 22 2
-     min width decreasing 531 2
-     min surf peak 1332214121 2
-     min surf peak BACCA3BB -1
-     min surf peak 22 +inf
-     min surf decreasing 531 4
-     min max peak 1332214121 2
-     min max peak BACCA3BB -1
-     min max peak 22 +inf
-     min max decreasing 531 3
-     min min peak 1332214121 2
-     min min peak BACCA3BB -1
-     min min peak 22 +inf
-     min min decreasing 531 1
-     max max peak 12531 5
-     min min valley 53124 1";
-
-fn values() -> &'static str {
-    VALUES
-}
-
-fn letters(alloc: Global, signs: &str) -> Result<Vec<Letter>, Memory> {
-    let mut letters = Vec::new(alloc);
-    for b in signs.as_bytes() {
-        match *b {
-            b'<' => letters.push(Letter::Less)?,
-            b'=' => letters.push(Letter::Equal)?,
-            b'>' => letters.push(Letter::Greater)?,
-            _ => {}
-        }
+fn cell(written: u8) -> i64 {
+    match written {
+        b'a'..=b'z' => i64::from(written) - 87,
+        b'A'..=b'Z' => 64 - i64::from(written),
+        _ => i64::from(written) - 48,
     }
-    Ok(letters)
 }
 
 fn cells(alloc: Global, text: &str) -> Result<Vec<i64>, Memory> {
     let mut cells = Vec::new(alloc);
-    for b in text.as_bytes() {
-        cells.push(match *b {
-            b'a'..=b'z' => i64::from(*b) - 87,
-            b'A'..=b'Z' => 64 - i64::from(*b),
-            _ => i64::from(*b) - 48,
-        })?;
+    for written in text.as_bytes() {
+        cells.push(cell(*written))?;
     }
     Ok(cells)
 }
@@ -318,6 +47,42 @@ fn ranges_of(alloc: Global, id: PatternId, w: &[Letter]) -> Result<Vec<Range>, M
     occurrences(alloc, &pattern, w)
 }
 
+fn push_range(text: &mut String, range: Range) -> Result<(), Memory> {
+    let between = if text.is_empty() { "" } else { "," };
+    write!(text, "{between}{}-{}", range.first, range.last)?;
+    Ok(())
+}
+
+/// Whether a word of a row lists these ranges.
+fn lists(alloc: Global, row: &str, place: usize, ranges: &[Range]) -> Result<bool, Memory> {
+    let mut text = String::new(alloc);
+    for range in ranges {
+        push_range(&mut text, *range)?;
+    }
+    Ok(
+        word(row, place)
+            == if text.is_empty() {
+                "none"
+            } else {
+                text.as_str()
+            },
+    )
+}
+
+fn has_peaks(alloc: Global, row: &str) -> Result<bool, Memory> {
+    let signs = letters(alloc, word(row, 0))?;
+    let found = ranges_of(alloc, PatternId::Peak, &signs)?;
+    lists(alloc, row, 1, &found)
+}
+
+#[test]
+fn peaks_in_signatures(rt: HostRuntime) -> Result<(), Memory> {
+    for row in peaks().lines() {
+        assert!(rt; has_peaks(rt.alloc(), row)?, "{row}");
+    }
+    Ok(())
+}
+
 // Any number of `=`, without the first cell: the empty word is one of its words, and yet no match.
 fn levels_of(alloc: Global, w: &[Letter]) -> Result<Vec<Range>, Memory> {
     let pattern = Pattern {
@@ -331,128 +96,96 @@ fn levels_of(alloc: Global, w: &[Letter]) -> Result<Vec<Range>, Memory> {
     occurrences(alloc, &pattern, w)
 }
 
-fn shown(alloc: Global, ranges: &[Range]) -> Result<String, Memory> {
-    let mut text = String::new(alloc);
-    for r in ranges {
-        if !text.is_empty() {
-            text.push_str(",")?;
-        }
-        text.push_str(format!(in alloc; "{}-{}", r.first, r.last)?.as_str())?;
-    }
-    if text.is_empty() {
-        text.push_str("none")?;
-    }
-    Ok(text)
+fn has_levels(alloc: Global, row: &str) -> Result<bool, Memory> {
+    let signs = letters(alloc, word(row, 0))?;
+    lists(alloc, row, 1, &levels_of(alloc, &signs)?)
 }
 
-fn shown_value(alloc: Global, v: Ext) -> Result<String, Memory> {
-    match v {
-        Ext::NegInf => Ok(format!(in alloc; "-inf")?),
-        Ext::Int(x) => Ok(format!(in alloc; "{x}")?),
-        Ext::PosInf => Ok(format!(in alloc; "+inf")?),
+/// The letters in turn, as many as a series of 512 cells has.
+fn in_turn(alloc: Global, one: Letter, other: Letter) -> Result<Vec<Letter>, Memory> {
+    let mut letters = Vec::new(alloc);
+    for k in 0..511 {
+        letters.push(if k % 2 == 0 { one } else { other })?;
     }
+    Ok(letters)
 }
 
-fn ranges_in_series(alloc: Global, pattern: &str, text: &str) -> Result<String, Memory> {
-    let series = cells(alloc, text)?;
-    if series.is_empty() {
-        return Ok(String::new(alloc));
-    }
-    match pattern_of(pattern.as_bytes()) {
-        Some(id) => shown(alloc, &ranges_of(alloc, id, &signature(alloc, &series)?)?),
-        None => Ok(String::new(alloc)),
-    }
-}
-
-fn term(aggregator: &str, feature: &str, pattern: &str) -> Option<Term> {
-    Term::new(
-        aggregator_of(aggregator.as_bytes())?,
-        feature_of(feature.as_bytes())?,
-        pattern_of(pattern.as_bytes())?,
-    )
-}
-
-fn value_in_series(alloc: Global, t: Option<Term>, text: &str) -> Result<String, Memory> {
-    let series = cells(alloc, text)?;
-    match t {
-        Some(t) if is_series(&series) => shown_value(alloc, value(alloc, &t, &series)?),
-        _ => Ok(String::new(alloc)),
-    }
+/// How many peaks a long signature has, and the last one.
+fn long_peaks(alloc: Global, one: Letter, other: Letter) -> Result<(usize, Option<Range>), Memory> {
+    let found = ranges_of(alloc, PatternId::Peak, &in_turn(alloc, one, other)?)?;
+    Ok((found.len(), found.as_slice().last().copied()))
 }
 
 #[test]
-fn peaks_in_signatures(rt: HostRuntime) -> Result<(), Memory> {
-    let alloc = rt.alloc();
-    let words: Vec<&str> = peaks().split_whitespace().collect(alloc)?;
-    for row in words.chunks(2) {
-        if let [signs, expected] = row {
-            let found = ranges_of(alloc, PatternId::Peak, &letters(alloc, signs)?)?;
-            assert!(rt; shown(alloc, &found)?.as_str() == *expected, "{signs}");
-        }
-    }
-    assert_eq!(rt; words.len(), 76);
-    let levels = levels_of(alloc, &letters(alloc, "<==<=")?)?;
-    assert!(rt; shown(alloc, &levels)?.as_str() == "3-4,6-6");
-    let mut equal = Vec::new(alloc);
-    let mut alternating = Vec::new(alloc);
-    for k in 0..511 {
-        equal.push(Letter::Equal)?;
-        alternating.push(if k % 2 == 0 {
-            Letter::Less
-        } else {
-            Letter::Greater
-        })?;
-    }
-    assert_eq!(rt; ranges_of(alloc, PatternId::Peak, &equal)?.len(), 0);
-    let found = ranges_of(alloc, PatternId::Peak, &alternating)?;
-    assert_eq!(rt; found.len(), 255);
-    assert!(rt;
-        found.as_slice().last().is_some_and(|r| *r
-            == Range {
-                first: 510,
-                last: 510
-            })
-    );
+fn long_signatures(rt: HostRuntime) -> Result<(), Memory> {
+    let last = Range {
+        first: 510,
+        last: 510,
+    };
+    assert!(rt; has_levels(rt.alloc(), "<==<= 3-4,6-6")?);
+    assert!(rt; long_peaks(rt.alloc(), Letter::Equal, Letter::Equal)? == (0, None));
+    assert!(rt; long_peaks(rt.alloc(), Letter::Less, Letter::Greater)? == (255, Some(last)));
     Ok(())
+}
+
+fn has_ranges(alloc: Global, row: &str) -> Result<bool, Memory> {
+    let series = cells(alloc, word(row, 1))?;
+    match pattern_of(word(row, 0).as_bytes()) {
+        Some(id) if !series.is_empty() => {
+            let signs = signature(alloc, &series)?;
+            lists(alloc, row, 2, &ranges_of(alloc, id, &signs)?)
+        }
+        _ => Ok(false),
+    }
 }
 
 #[test]
 fn ranges_of_all_patterns(rt: HostRuntime) -> Result<(), Memory> {
-    let alloc = rt.alloc();
-    let words: Vec<&str> = ranges().split_whitespace().collect(alloc)?;
-    for row in words.chunks(3) {
-        if let [pattern, series, expected] = row {
-            assert!(rt;
-                ranges_in_series(alloc, pattern, series)?.as_str() == *expected,
-                "{pattern} {series}"
-            );
-        }
+    for row in ranges().lines() {
+        assert!(rt; has_ranges(rt.alloc(), row)?, "{row}");
     }
-    assert_eq!(rt; words.len(), 408);
     Ok(())
+}
+
+/// The term of a row.
+fn term(row: &str) -> Option<Term> {
+    Term::new(
+        aggregator_of(word(row, 0).as_bytes())?,
+        feature_of(word(row, 1).as_bytes())?,
+        pattern_of(word(row, 2).as_bytes())?,
+    )
+}
+
+fn told(text: &str) -> Option<Ext> {
+    match text {
+        "-inf" => Some(Ext::NegInf),
+        "+inf" => Some(Ext::PosInf),
+        _ => text.parse::<i64>().ok().map(Ext::Int),
+    }
+}
+
+fn has_value(alloc: Global, row: &str) -> Result<bool, Memory> {
+    let series = cells(alloc, word(row, 3))?;
+    match term(row) {
+        Some(term) if is_series(&series) => {
+            Ok(Some(value(alloc, &term, &series)?) == told(word(row, 4)))
+        }
+        _ => Ok(false),
+    }
 }
 
 #[test]
 fn values_of_terms(rt: HostRuntime) -> Result<(), Memory> {
-    let alloc = rt.alloc();
-    let words: Vec<&str> = values().split_whitespace().collect(alloc)?;
-    for row in words.chunks(5) {
-        if let [aggregator, feature, pattern, series, expected] = row {
-            let found = value_in_series(alloc, term(aggregator, feature, pattern), series)?;
-            assert!(rt;
-                found.as_str() == *expected,
-                "{aggregator} {feature} {pattern} {series}"
-            );
-        }
+    for row in values().lines() {
+        assert!(rt; has_value(rt.alloc(), row)?, "{row}");
     }
-    assert_eq!(rt; words.len(), 370);
-    assert_eq!(rt;
-        part(Range { first: 2, last: 3 }, &[4, 5, 6, 7]),
-        [5, 6].as_slice()
-    );
-    assert_eq!(rt;
-        part(Range { first: 4, last: 4 }, &[4, 5, 6, 7]),
-        [7].as_slice()
-    );
     Ok(())
+}
+
+#[test]
+fn parts_of_a_series(rt: HostRuntime) {
+    let two = part(Range { first: 2, last: 3 }, &[4, 5, 6, 7]);
+    assert!(rt; two == [5, 6].as_slice());
+    let last = part(Range { first: 4, last: 4 }, &[4, 5, 6, 7]);
+    assert!(rt; last == [7].as_slice());
 }

@@ -4,13 +4,12 @@
 mod starts;
 mod steps;
 
+use super::expressions::regex;
 use arrayvec::ArrayVec;
 use std::alloc::Global;
-use std::test::Fail;
-use ts_base::Letter::{Equal, Greater, Less};
 use ts_base::{Kind, Letter, Memory};
 use ts_pattern::{Configuration, Live, Pattern, Plan, Tag};
-use ts_regex::{Regex, alt, cat, normal, residual, star};
+use ts_regex::{Regex, normal, residual};
 use ts_transducer::{Arrow, Phase, Row, Transducer};
 use ts_validate::{ValidateStop, Validated, validate};
 
@@ -29,36 +28,6 @@ struct Small {
     configurations: &'static [(u8, &'static [(u32, Tag)])],
     /// The configuration and the letter at which a check fails, and the shortest signature that leads there.
     refused: Option<(u32, Letter, &'static [Letter])>,
-}
-
-fn pop(stack: &mut Vec<Regex>) -> Regex {
-    stack.pop().unwrap_or(Regex::Empty)
-}
-
-/// The last two expressions of the stack under an operator.
-fn joined(alloc: Global, operator: u8, stack: &mut Vec<Regex>) -> Result<Regex, Memory> {
-    let second = pop(stack);
-    let first = pop(stack);
-    if operator == b'.' {
-        cat(alloc, first, second)
-    } else {
-        alt(alloc, first, second)
-    }
-}
-
-fn regex(alloc: Global, text: &str) -> Result<Regex, Memory> {
-    let mut stack: Vec<Regex> = Vec::new(alloc);
-    for b in text.as_bytes() {
-        let top = match *b {
-            b'<' => Regex::One(Less),
-            b'=' => Regex::One(Equal),
-            b'>' => Regex::One(Greater),
-            b'*' => star(alloc, pop(&mut stack))?,
-            operator => joined(alloc, operator, &mut stack)?,
-        };
-        stack.push(top)?;
-    }
-    Ok(pop(&mut stack))
 }
 
 fn arrow(written: (Phase, u8)) -> Arrow {
@@ -93,18 +62,36 @@ fn residuals(alloc: Global, whole: &Regex, small: &Small) -> Result<Vec<Regex>, 
     Ok(residuals)
 }
 
-fn plan(alloc: Global, whole: &Regex, small: &Small) -> Result<Plan, Memory> {
-    let mut configurations = Vec::new(alloc);
-    for &(state, entries) in small.configurations {
-        let live = entries
+fn live(alloc: Global, entries: &[(u32, Tag)]) -> Result<Vec<Live>, Memory> {
+    Ok(
+        entries
             .iter()
             .map(|&(residual, tag)| Live { residual, tag })
-            .collect(alloc)?;
+            .collect(alloc)?,
+    )
+}
+
+fn configurations(alloc: Global, small: &Small) -> Result<Vec<Configuration>, Memory> {
+    let mut configurations = Vec::new(alloc);
+    for &(state, entries) in small.configurations {
+        let live = live(alloc, entries)?;
         configurations.push(Configuration { state, live })?;
     }
+    Ok(configurations)
+}
+
+fn plan(alloc: Global, whole: &Regex, small: &Small) -> Result<Plan, Memory> {
     Ok(Plan {
         residuals: residuals(alloc, whole, small)?,
-        configurations,
+        configurations: configurations(alloc, small)?,
+    })
+}
+
+fn pattern(alloc: Global, small: &Small) -> Result<Pattern, Memory> {
+    Ok(Pattern {
+        regex: regex(alloc, small.pattern)?,
+        b: small.b,
+        a: small.a,
     })
 }
 
@@ -129,22 +116,28 @@ fn agrees(
     }
 }
 
+/// Whether a plan of the pattern is found closed, or refused, as it is said.
+fn is_judged(alloc: Global, small: &Small, pattern: &Pattern, plan: &Plan) -> Result<bool, Memory> {
+    let few = plan.residuals.len() < 1000 && plan.configurations.len() < 1000;
+    if !few || !plan.is_of(alloc, pattern)? {
+        return Ok(false);
+    }
+    match transducer(small) {
+        Some(transducer) => Ok(agrees(validate(alloc, transducer, pattern, plan), small.refused)),
+        None => Ok(false),
+    }
+}
+
+fn small_holds(alloc: Global, small: &Small) -> Result<bool, Memory> {
+    let pattern = pattern(alloc, small)?;
+    let plan = plan(alloc, &pattern.regex, small)?;
+    is_judged(alloc, small, &pattern, &plan)
+}
+
 #[test]
-fn plans_are_refused_where_a_check_fails(rt: HostRuntime) -> Result<(), Fail> {
-    let alloc = rt.alloc();
+fn plans_are_refused_where_a_check_fails(rt: HostRuntime) -> Result<(), Memory> {
     for small in steps::plans().iter().chain(starts::plans()) {
-        let pattern = Pattern {
-            regex: regex(alloc, small.pattern)?,
-            b: small.b,
-            a: small.a,
-        };
-        let plan = plan(alloc, &pattern.regex, small)?;
-        assert!(rt; plan.residuals.len() < 1000 && plan.configurations.len() < 1000);
-        let fitting = plan.is_of(alloc, &pattern)?;
-        assert!(rt; fitting);
-        let transducer = transducer(small).ok_or("typed")?;
-        let answer = validate(alloc, transducer, &pattern, &plan);
-        assert!(rt; agrees(answer, small.refused), "{}", small.pattern);
+        assert!(rt; small_holds(rt.alloc(), small)?, "{}", small.pattern);
     }
     Ok(())
 }

@@ -4,6 +4,7 @@ ghost use Rattle.std.specs.Prelude.{◌≡◌, ◌<◌, length};
 ghost use Rattle.ts_automaton.specs.AutomatonRun.{Stands, standing_of};
 
 use super::{Change, ZERO, changed, changed_finish};
+use std::alloc::{AllocError, Global};
 use std::test::Fail;
 use ts_automaton::{At, Automaton, Hull, HullAt, Mark};
 use ts_base::{Ext, Span};
@@ -49,24 +50,34 @@ fn span_of(automaton: &Automaton, series: &[i64]) -> Span {
     automaton.finish_span(at, 9)
 }
 
+fn is_of_peaks(alloc: Global, peak: &Automaton) -> Result<bool, AllocError> {
+    Ok(
+        peak.states() == 3
+            && peak.mark() == Mark::Same
+            && *peak.finish_expr() == changed_finish(alloc, Change::Nothing)?,
+    )
+}
+
+fn answers(peak: &Automaton, series: &[i64], width: i64) -> bool {
+    peak.finish(after(peak, series), 9) == Ext::Int(width)
+        && span_of(peak, series) == Span::one(Ext::Int(width))
+}
+
+/// The first series that has another answer.
+fn first_wrong(peak: &Automaton) -> Option<&'static [i64]> {
+    for (series, width) in runs() {
+        if !answers(peak, series, *width) {
+            return Some(series);
+        }
+    }
+    None
+}
+
 #[test]
 fn widths_of_peaks(rt: HostRuntime) -> Result<(), Fail> {
     let peak = changed(rt.alloc(), Change::Nothing)?.ok_or("typed")?;
-    assert_eq!(rt; peak.states(), 3);
-    assert_eq!(rt; peak.mark(), Mark::Same);
-    assert_eq!(rt;
-        *peak.finish_expr(),
-        changed_finish(rt.alloc(), Change::Nothing)?
-    );
-    for (series, width) in runs() {
-        let answer = peak.finish(after(&peak, series), 9);
-        assert_eq!(rt; answer, Ext::Int(*width), "{series:?}");
-        assert_eq!(rt;
-            span_of(&peak, series),
-            Span::one(Ext::Int(*width)),
-            "{series:?}"
-        );
-    }
+    assert!(rt; is_of_peaks(rt.alloc(), &peak)?);
+    assert_eq!(rt; first_wrong(&peak), None);
     Ok(())
 }
 
@@ -121,19 +132,13 @@ fn spans_under_marks(rt: HostRuntime) {
     }
 }
 
+fn is_none(c: Span, d: Span, r: Span) -> bool {
+    Hull { c, d, r }.is_none()
+}
+
 #[test]
 fn hulls_without_registers(rt: HostRuntime) {
     let (none, one) = (Span::none(), Span::one(ZERO));
-    assert!(rt; Hull::none().is_none());
-    for (c, d, r) in [(none, one, one), (one, none, one), (one, one, none)] {
-        assert!(rt; Hull { c, d, r }.is_none());
-    }
-    assert!(rt;
-        !Hull {
-            c: one,
-            d: one,
-            r: one
-        }
-        .is_none()
-    );
+    assert!(rt; Hull::none().is_none() && !is_none(one, one, one));
+    assert!(rt; is_none(none, one, one) && is_none(one, none, one) && is_none(one, one, none));
 }

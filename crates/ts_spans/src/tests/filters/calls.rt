@@ -1,33 +1,24 @@
 //! The calls on machines that can't be split, on small boxes, against spans and drops that are known from outside.
 
-ghost use Rattle.std.specs.Prelude.{◌≡◌, ◌<◌, ◌≤◌, ◌&&◌, IfOk, int_le, length, neg_ℤ, pos};
+ghost use Rattle.std.specs.Prelude.{◌<◌, ◌≤◌, IfSome, length};
 ghost use Rattle.ts_model.specs.declared.model.Require.{Require};
-ghost use Rattle.std.specs.List.{AllByRecursion, list_all};
+ghost use Rattle.std.specs.List.{AllByRecursion};
 
+use super::OPS;
+use super::at_cells::value_holds;
 use super::drops::drops;
 use super::rows::{Spans, boxes, values};
+use super::samples::{box_at, boxed, machine, span};
 use Ext::{Int, NegInf, PosInf};
 use std::alloc::Global;
-use std::process::Abort;
-use std::test::Fail;
-use ts_automaton::{Automaton, read};
-use ts_base::{Ext, Goal, Span};
-use ts_domain::{Boxed, Domain};
+use ts_base::{Ext, Goal, Memory, Span};
+use ts_domain::Boxed;
 use ts_filter::{
     Bar, Removal, cut_at_end, cuts, first_cut, first_refuted, kept_value, next_drop, refuted,
-    refuted_value, refutes, worse,
+    refutes, worse,
 };
 use ts_glue::Machine;
 use ts_model::{Op, Require};
-
-const OPS: [Op; 6] = [
-    Op::Equal,
-    Op::Unequal,
-    Op::AtMost,
-    Op::AtLeast,
-    Op::Below,
-    Op::Above,
-];
 
 const BOUNDS: [Ext; 9] = [
     NegInf,
@@ -41,211 +32,213 @@ const BOUNDS: [Ext; 9] = [
     PosInf,
 ];
 
-const GOALS: [Goal; 2] = [Goal::Maximise, Goal::Minimise];
-
-/// The automata of the sum, the greatest and the least of the widths of peaks: what C and R are where there is no peak,
-/// the operator of the results, and the mark.
-static WIDTHS: [(&str, &str, &str); 3] = [
-    ("0", "add", "same"),
-    ("-inf", "max", "zero"),
-    ("+inf", "min", "cells"),
-];
-
-fn machine(alloc: Global, at: usize) -> Result<Machine, Fail> {
-    let &(none, op, mark) = WIDTHS.get(at).ok_or("no such automaton")?;
-    let text = format!(in alloc;
-        "forward\nstate s free\nstate r free\nstate t held\nstart {none} 0 {none}\n\
-        move s < r ; C ; D ; R\nmove s = s ; C ; D ; R\nmove s > s ; C ; D ; R\n\
-        move r < r ; C ; add D 1 ; R\nmove r = r ; C ; add D 1 ; R\nmove r > t ; add D 1 ; 0 ; R\n\
-        move t < r ; {none} ; 0 ; {op} R C\nmove t = t ; C ; add D 1 ; R\nmove t > t ; add C add D 1 ; 0 ; R\n\
-        finish {op} R C {mark}\nend\n"
-    )?;
-    match read(alloc, text.as_bytes()) {
-        Ok(automaton) => Ok(Machine::plain(automaton)),
-        Err(_) => Err("refused")?,
-    }
-}
-
-fn within(values: &[i64]) -> bool
-    ensures { result ≡ list_all (λ v. int_le (neg_ℤ (pos 1000000)) v && int_le v (pos 1000000)) values.now }
+/// Whether a requirement is refuted at the last cell as the span there tells, and at no cell before.
+fn is_refuted_so(
+    alloc: Global,
+    m: &Machine,
+    cells: &Boxed,
+    r: &Require,
+    span: Span,
+) -> Result<bool, Memory>
+    requires { 1 ≤ length cells.now.present }
 {
-    values
-        .iter()
-        .all(|value| -1_000_000 <= *value && *value <= 1_000_000)
+    let told = refuted(alloc, m, r, cells.cells(), cells)?;
+    let below = first_refuted(alloc, m, r, cells)?;
+    Ok(told == refutes(r.op, r.bound, span) && below.is_none())
 }
 
-fn domain(alloc: Global, low: i64, high: i64) -> Result<Domain, Fail> {
-    let (lows, highs) = ([low], [high]);
-    if !within(&lows) || !within(&highs) {
-        Err("a value past the limits")?
-    }
-    match Domain::from_ranges(alloc, &lows, &highs) {
-        Ok(domain) => Ok(domain),
-        Err(_) => Err("no domain")?,
-    }
-}
-
-fn boxed(alloc: Global, ranges: &[(i64, i64)]) -> Result<Boxed, Fail>
-    ensures { IfOk result (λ b. 1 ≤ length b.present) }
+fn is_cut_so(
+    alloc: Global,
+    m: &Machine,
+    cells: &Boxed,
+    goal: Goal,
+    bar: Bar,
+    span: Span,
+) -> Result<bool, Memory>
+    requires { 1 ≤ length cells.now.present }
 {
-    let mut domains = Vec::new(alloc);
-    for cell in 0..ranges.len() {
-        let (low, high) = ranges[cell];
-        domains.push(domain(alloc, low, high)?)?;
-    }
-    if domains.len() == 0 || 9 < domains.len() {
-        Err("no cell, or many")?
-    }
-    Ok(Boxed::new(alloc, &domains)?)
+    let told = cut_at_end(alloc, m, goal, cells, bar)?;
+    let below = first_cut(alloc, m, goal, cells, bar)?;
+    Ok(told == cuts(goal, bar, span) && below.is_none())
 }
 
-fn in_order((sum, greatest, least): Spans) -> [(i64, i64); 3] {
-    [sum, greatest, least]
-}
-
-fn span((lo, hi): (i64, i64)) -> Span {
-    Span {
-        lo: Int(lo),
-        hi: Int(hi),
-    }
-}
-
-fn requirements_of(alloc: Global, wanted: &[(u32, Op, i64)]) -> Result<Vec<Require>, Fail>
-    ensures few { IfOk result (λ v. length v.items < 4000000000) }
-    ensures terms { IfOk result (λ v. AllByRecursion (λ (r : Require). r.term < 3) v.items) }
+/// Whether nothing better, and nothing as good, is told as the span at the last cell has it.
+fn goal_holds(
+    alloc: Global,
+    m: &Machine,
+    cells: &Boxed,
+    goal: Goal,
+    bound: Ext,
+    span: Span,
+) -> Result<bool, Memory>
+    requires { 1 ≤ length cells.now.present }
 {
-    let mut requirements = Vec::new(alloc);
-    for at in 0..wanted.len() {
-        let (term, op, bound) = wanted[at];
-        if 3 <= term {
-            Err("no such term")?
-        }
-        let bound = Int(bound);
-        requirements.push(Require { term, op, bound })?;
-    }
-    if 9 < requirements.len() {
-        Err("many requirements")?
-    }
-    Ok(requirements)
+    let told = worse(alloc, m, goal, cells.cells(), cells, bound)?;
+    Ok(
+        told == cuts(goal, Bar::Better(bound), span)
+            && is_cut_so(alloc, m, cells, goal, Bar::Better(bound), span)?
+            && is_cut_so(alloc, m, cells, goal, Bar::AsGood(bound), span)?,
+    )
 }
 
 /// What the spans at the last cell refute and cut. Below it nothing is told.
-fn expect_span(
-    rt: &impl Abort,
+fn bound_holds(
     alloc: Global,
     m: &Machine,
     cells: &Boxed,
     bound: Ext,
     span: Span,
-) -> Result<(), Fail>
+) -> Result<bool, Memory>
     requires { 1 ≤ length cells.now.present }
 {
-    let n = cells.cells();
     for op in OPS {
         let r = Require { term: 0, op, bound };
-        assert_eq!(rt; refuted(alloc, m, &r, n, cells)?, refutes(op, bound, span));
-        assert_eq!(rt; first_refuted(alloc, m, &r, cells)?, None);
-    }
-    for goal in GOALS {
-        let cut = cuts(goal, Bar::Better(bound), span);
-        assert_eq!(rt; worse(alloc, m, goal, n, cells, bound)?, cut);
-        for bar in [Bar::Better(bound), Bar::AsGood(bound)] {
-            assert_eq!(rt;
-                cut_at_end(alloc, m, goal, cells, bar)?,
-                cuts(goal, bar, span)
-            );
-            assert_eq!(rt; first_cut(alloc, m, goal, cells, bar)?, None);
+        if !is_refuted_so(alloc, m, cells, &r, span)? {
+            return Ok(false);
         }
     }
-    Ok(())
+    Ok(
+        goal_holds(alloc, m, cells, Goal::Maximise, bound, span)?
+            && goal_holds(alloc, m, cells, Goal::Minimise, bound, span)?,
+    )
 }
 
-#[test]
-fn spans_at_the_last_cell(rt: HostRuntime) -> Result<(), Fail> {
-    let alloc = rt.alloc();
-    for at in 0..boxes().len() {
-        let &(ranges, spans) = boxes().get(at).ok_or("no such box")?;
-        let spans = in_order(spans);
-        let cells = boxed(alloc, ranges)?;
-        for i in 0..3 {
-            let m = machine(alloc, i)?;
-            for bound in BOUNDS {
-                expect_span(&rt, alloc, &m, &cells, bound, span(spans[i]))?;
-            }
-        }
-    }
-    Ok(())
-}
-
-/// Whether a requirement is refuted with this value at the last cell.
-fn refuted_with(
-    alloc: Global,
-    m: &Machine,
-    r: &Require,
-    cells: &Boxed,
-    v: i64,
-) -> Result<bool, Fail>
+fn span_holds(alloc: Global, m: &Machine, cells: &Boxed, span: Span) -> Result<bool, Memory>
     requires { 1 ≤ length cells.now.present }
 {
-    let n = cells.cells();
-    if !cells.cell(n).contains(v) {
-        Err("no value of the cell")?
-    }
-    Ok(refuted_value(alloc, m, r, n, v, cells)?)
-}
-
-#[test]
-fn values_of_the_last_cell(rt: HostRuntime) -> Result<(), Fail> {
-    let alloc = rt.alloc();
-    for &(at, v, spans) in values() {
-        let &(ranges, _) = boxes().get(at).ok_or("no such box")?;
-        let spans = in_order(spans);
-        let cells = boxed(alloc, ranges)?;
-        for i in 0..3 {
-            let m = machine(alloc, i)?;
-            for bound in BOUNDS {
-                for op in OPS {
-                    let told = refuted_with(alloc, &m, &Require { term: 0, op, bound }, &cells, v)?;
-                    assert_eq!(rt; told, refutes(op, bound, span(spans[i])));
-                }
-            }
+    for bound in BOUNDS {
+        if !bound_holds(alloc, m, cells, bound, span)? {
+            return Ok(false);
         }
     }
-    Ok(())
+    Ok(true)
+}
+
+fn box_holds(alloc: Global, place: usize, i: usize, spans: Spans) -> Option<bool> {
+    let m = machine(alloc, i)?;
+    let cells = box_at(alloc, place)?;
+    span_holds(alloc, &m, &cells, span(spans, i)).ok()
 }
 
 #[test]
-fn least_values_are_kept(rt: HostRuntime) -> Result<(), Fail> {
-    let alloc = rt.alloc();
-    for at in 0..boxes().len() {
-        let &(ranges, _) = boxes().get(at).ok_or("no such box")?;
-        let &(least, _) = ranges.first().ok_or("no cell")?;
-        let cells = boxed(alloc, ranges)?;
+fn spans_at_the_last_cell(rt: HostRuntime) {
+    for (place, (_, spans)) in boxes().iter().enumerate() {
         for i in 0..3 {
-            let m = machine(alloc, i)?;
-            for goal in GOALS {
-                assert_eq!(rt; kept_value(alloc, &m, goal, 1, &cells)?, least);
-            }
+            assert!(rt;
+                box_holds(rt.alloc(), place, i, *spans) == Some(true),
+                "box {place}"
+            );
         }
     }
-    Ok(())
+}
+
+fn last_value_holds(
+    alloc: Global,
+    m: &Machine,
+    cells: &Boxed,
+    v: i64,
+    span: Span,
+) -> Result<bool, Memory>
+    requires { 1 ≤ length cells.now.present }
+{
+    value_holds(alloc, m, cells, cells.cells(), v, (&BOUNDS, span))
+}
+
+fn value_row_holds(alloc: Global, row: &(usize, i64, Spans), i: usize) -> Option<bool> {
+    let &(place, v, spans) = row;
+    let m = machine(alloc, i)?;
+    let cells = box_at(alloc, place)?;
+    last_value_holds(alloc, &m, &cells, v, span(spans, i)).ok()
 }
 
 #[test]
-fn first_drops(rt: HostRuntime) -> Result<(), Fail> {
-    let alloc = rt.alloc();
-    let machines = [machine(alloc, 0)?, machine(alloc, 1)?, machine(alloc, 2)?];
-    for &(at, wanted, first) in drops() {
-        let &(ranges, _) = boxes().get(at).ok_or("no such box")?;
-        let cells = boxed(alloc, ranges)?;
-        let requirements = requirements_of(alloc, wanted)?;
-        let found = next_drop(alloc, &machines, &requirements, &cells)?;
-        let wanted = first.map(|(cell, value, require)| Removal {
-            cell,
-            value,
-            require,
-        });
-        assert_eq!(rt; found, wanted);
+fn values_of_the_last_cell(rt: HostRuntime) {
+    for row in values() {
+        for i in 0..3 {
+            assert!(rt;
+                value_row_holds(rt.alloc(), row, i) == Some(true),
+                "box {}",
+                row.0
+            );
+        }
     }
-    Ok(())
+}
+
+/// Whether the least value of the first cell is kept for both goals.
+fn least_is_kept(alloc: Global, m: &Machine, cells: &Boxed, least: i64) -> Result<bool, Memory>
+    requires { 1 ≤ length cells.now.present }
+{
+    Ok(
+        kept_value(alloc, m, Goal::Maximise, 1, cells)? == least
+            && kept_value(alloc, m, Goal::Minimise, 1, cells)? == least,
+    )
+}
+
+fn kept_holds(alloc: Global, ranges: &[(i64, i64)], i: usize) -> Option<bool> {
+    let m = machine(alloc, i)?;
+    let cells = boxed(alloc, ranges)?;
+    least_is_kept(alloc, &m, &cells, ranges.first()?.0).ok()
+}
+
+#[test]
+fn least_values_are_kept(rt: HostRuntime) {
+    for (ranges, _) in boxes() {
+        for i in 0..3 {
+            assert!(rt;
+                kept_holds(rt.alloc(), ranges, i) == Some(true),
+                "{ranges:?}"
+            );
+        }
+    }
+}
+
+fn requirements_of(alloc: Global, wanted: &[(u32, Op, i64)]) -> Option<Vec<Require>>
+    ensures few { IfSome result (λ v. length v.items < 4000000000) }
+    ensures terms { IfSome result (λ v. AllByRecursion (λ (r : Require). r.term < 3) v.items) }
+{
+    let mut requirements = Vec::new(alloc);
+    for at in 0..wanted.len() {
+        let (term, op, bound) = wanted[at];
+        if 3 <= term {
+            return None;
+        }
+        let bound = Int(bound);
+        requirements.push(Require { term, op, bound }).ok()?;
+    }
+    if requirements.len() < 9 {
+        Some(requirements)
+    } else {
+        None
+    }
+}
+
+fn machines(alloc: Global) -> Option<[Machine; 3]> {
+    Some([machine(alloc, 0)?, machine(alloc, 1)?, machine(alloc, 2)?])
+}
+
+/// The first drop of a box; the outer None is want of memory, or no such box.
+fn drop_of(alloc: Global, place: usize, wanted: &[(u32, Op, i64)]) -> Option<Option<Removal>> {
+    let machines = machines(alloc)?;
+    let requirements = requirements_of(alloc, wanted)?;
+    let cells = box_at(alloc, place)?;
+    next_drop(alloc, &machines, &requirements, &cells).ok()
+}
+
+fn removal((cell, value, require): (u32, i64, u32)) -> Removal {
+    Removal {
+        cell,
+        value,
+        require,
+    }
+}
+
+#[test]
+fn first_drops(rt: HostRuntime) {
+    for (row, &(place, wanted, first)) in drops().iter().enumerate() {
+        assert_eq!(rt;
+            drop_of(rt.alloc(), place, wanted),
+            Some(first.map(removal)),
+            "row {row}"
+        );
+    }
 }
