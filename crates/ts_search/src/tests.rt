@@ -11,9 +11,7 @@ use ts_compile::compile_model;
 use ts_model::{Need, read_model};
 use ts_token::cut_tokens;
 
-mod cell_rows;
 mod rows;
-mod single_calls;
 mod small_models;
 
 use rows::{Asked, rows};

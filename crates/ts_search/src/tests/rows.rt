@@ -1,5 +1,5 @@
-//! Models and the texts of their certificates: worked out by hand, and behind the first ones by a program that follows
-//! the definitions, each of a choice that a tree leaves by no other row.
+//! Models and the texts of their certificates. The first eleven were worked out by hand, the others by a program that
+//! follows the definitions; each of these shows a choice of a tree, told in front of it, that no other row shows.
 
 /// What is asked for: the words of a command without its budget.
 #[derive(Clone, Copy, Debug, PartialEq, Eq)]
@@ -139,7 +139,7 @@ static ROWS: [Row; 22] = [
          term b = min max peak\nrequire a != 1\nrequire a = 1\nrequire b < 3\nobjective b\n",
         "generate 1\nbudget 0\ndrop 2 1 3\ndrop 3 1 2\nopen\nend 2 1\n",
     ),
-    // a box that can't be as good is refuted before it is worse
+    // a box that can't be better is refuted before it is worse, since `no` comes before `worse`
     (
         Asked::Maximise,
         100_000,
