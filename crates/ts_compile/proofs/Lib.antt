@@ -1,5 +1,4 @@
 pub mod Answers
-pub mod CallerLemmas
 mod JudgeLaws
 mod Pairs
 pub mod Tables

@@ -10,9 +10,7 @@ use Rattle.ts_automaton.specs.Typing.{is_automaton}
 use Rattle.ts_automaton.specs.AutomatonRun.{Standing, Stands, start_of, step_of, after_from, after, answer, AreCellValues}
 use Rattle.ts_automaton.proofs.RunLaws.{kinds_are_kept}
 use Rattle.ts_glue.specs.declared.half.Half.{Half}
-use Rattle.ts_glue.specs.declared.machine.Machine.{Machine}
-use Rattle.ts_glue.specs.Pairs.{Table, table_view, Pair, pair}
-use Rattle.ts_glue.specs.Machines.{forward_of, pair_of, reverse_of, table_of}
+use Rattle.ts_glue.specs.Pairs.{table_view, Pair, pair}
 use Rattle.ts_glue.specs.Glued.{glued, left_at, right_at, cell_at, Glued, LocalUpTo}
 use Rattle.ts_glue.specs.Rules.{IsGluing}
 use Rattle.ts_glue.specs.Laws.{MachinesKeepRules}
@@ -23,17 +21,6 @@ use Rattle.ts_glue.proofs.Locality.{same_up_to_last}
 
 abbrev pair_with : Body → Half → Pair
 pair_with b h = pair b h.reverse (table_view h.table)
-
--- by what `reverse` and `table` lend
-pub pair_is : (m : Machine) (b : Body) (t : Table) → reverse_of m ≡ Some b → table_of m ≡ Some t → pair_of m ≡ Some (pair (forward_of m) b t)
-pair_is m b t = go m.half
-  where
-    go : (o : Option Half) → option_map (λ p. p.reverse) (option_map (pair_with m.forward) o) ≡ Some b →
-        option_map (λ p. p.table) (option_map (pair_with m.forward) o) ≡ Some t → option_map (pair_with m.forward) o ≡ Some (pair m.forward b t)
-    go None e f = cc
-    go (Some h) e f =
-        ap (λ z. Some (pair m.forward z (table_view h.table))) (ap (λ z. unwrap_or z b) e)
-        ∙ ap (λ z. Some (pair m.forward b z)) (ap (λ z. unwrap_or z t) f)
 
 pub machines_keep_rules : MachinesKeepRules
 machines_keep_rules m p = go m.half refl
