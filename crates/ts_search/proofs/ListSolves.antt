@@ -8,10 +8,11 @@ use Rattle.ts_certificate.specs.declared.certificate.Claim.TheVariants.{Full, Al
 use Rattle.ts_certificate.specs.declared.certificate.TreeLine.{TreeLine}
 use Rattle.ts_certificate.specs.declared.certificate.TreeLine.TheVariants.{Split, Remove, No, Worse, Yes, Unsearched}
 use Rattle.ts_certificate.specs.Certificate.{Cert, checked_count}
+use Rattle.ts_certificate.specs.Grammar.{series_count}
 use Rattle.ts_domain.specs.BoxSeries.{IsBefore, AreRising}
 use Rattle.ts_model.specs.Meets.{Meets}
 use Rattle.ts_model.specs.Stated.{Stated}
-use Rattle.ts_filter.specs.Accepts.{Accepts, ComesAfter, IsAsClaimed, AllFit, HasTree}
+use Rattle.ts_filter.specs.Accepts.{Accepts, ClaimFits, ComesAfter, IsAsClaimed, AllFit, HasTree}
 use Rattle.ts_filter.specs.Boxes.{Box, InSome}
 use Rattle.ts_filter.specs.Holds.{IsListed}
 use Rattle.ts_filter.specs.Rules.{Head, KeepsRule, MayStayOpen}
@@ -135,59 +136,44 @@ module _ (c : Search) (count n : ℕ) (ls : List TreeLine) (w : List Box) (xs : 
   checked : checked_count (ls ++ left_open w) ≡ length ls
   checked = checked_open ls w g.all_checked
 
+  -- with a claim that fits, and lines that are a tree
+  has_list : (claim : Claim) → ClaimFits (ListOf count) claim → length xs ≡ series_count claim →
+      ((ys : List (List ℤ)) (x : List ℤ) → ComesAfter ys x → IsAsClaimed c.model claim ys x) →
+      Steps c.model c.spans (head count claim xs) (c.model.cells ∷ []) 0 (ls ++ left_open w) [] (length xs) →
+      IsListedBy c.model count n claim xs (ls ++ left_open w) → HasList c count n (list_cert count claim xs (ls ++ left_open w))
+  has_list claim right sum as_claimed steps told = record {
+    aim = refl;
+    accepts = record {
+      aim = tt;
+      claim = right;
+      count = sum;
+      series = fits claim as_claimed;
+      tree = to_list_tree c count claim xs (ls ++ left_open w) steps;
+    };
+    within = omega (arith, checked, few);
+    first = are_first;
+    claim = told;
+  }
+
   listed_full : length xs ≡ count → HasList c count n (list_cert count (Full (length xs)) xs (ls ++ left_open w))
   listed_full e =
       let claim = Full (length xs) in
-      record {
-        aim = refl;
-        accepts = record {
-          aim = tt;
-          claim = e;
-          count = refl;
-          series = fits claim (λ ys x k. k);
-          tree = to_list_tree c count claim xs (ls ++ left_open w) (opened claim tt);
-        };
-        within = omega (arith, checked, few);
-        first = are_first;
-        claim = (refl, e);
-      }
+      has_list claim e refl (λ ys x k. k) (opened claim tt) (refl, e)
 
   listed_all : length xs < count → w ≡ [] → HasList c count n (list_cert count (All (length xs)) xs (ls ++ left_open w))
   listed_all l none =
       let claim = All (length xs) in
       let is : ls ++ left_open w ≡ ls = ap (λ z. ls ++ left_open z) none ∙ append-nil ls in
       let st = subst (λ z. Steps c.model c.spans (head count claim xs) (c.model.cells ∷ []) 0 ls z (length xs)) none (stepped_as claim) in
-      record {
-        aim = refl;
-        accepts = record {
-          aim = tt;
-          claim = l;
-          count = refl;
-          series = fits claim (λ ys x k. k);
-          tree = to_list_tree c count claim xs (ls ++ left_open w)
-              (subst (λ z. Steps c.model c.spans (head count claim xs) (c.model.cells ∷ []) 0 z [] (length xs)) (sym is) st);
-        };
-        within = omega (arith, checked, few);
-        first = are_first;
-        claim = (refl, l, λ y q. ⊎_elim (λ i. absurd (subst (λ z. InSome z y) none i)) (λ z. z) (g.settled y q));
-      }
+      has_list claim l refl (λ ys x k. k)
+      (subst (λ z. Steps c.model c.spans (head count claim xs) (c.model.cells ∷ []) 0 z [] (length xs)) (sym is) st)
+      (refl, l, λ y q. ⊎_elim (λ i. absurd (subst (λ z. InSome z y) none i)) (λ z. z) (g.settled y q))
 
   listed_budget : length xs < count → 0 < length w → length ls ≡ n → HasList c count n (list_cert count (BudgetList (length xs)) xs (ls ++ left_open w))
   listed_budget l more full =
       let claim = BudgetList (length xs) in
-      record {
-        aim = refl;
-        accepts = record {
-          aim = tt;
-          claim = l;
-          count = refl;
-          series = fits claim (λ ys x k. k);
-          tree = to_list_tree c count claim xs (ls ++ left_open w) (opened claim tt);
-        };
-        within = omega (arith, checked, few);
-        first = are_first;
-        claim = (refl, l, checked ∙ full, (let o = opens_open ls w g.all_checked in omega (arith, o, more)));
-      }
+      has_list claim l refl (λ ys x k. k) (opened claim tt)
+      (refl, l, checked ∙ full, (let o = opens_open ls w g.all_checked in omega (arith, o, more)))
 
 listed_end : (c : Search) (count n : ℕ) (ls : List TreeLine) (w : List Box) (xs : List (List ℤ)) (t : Bool) →
     GoodList c count (record { lines = ls; pending = w; listed = xs }) → length ls ≤ n → nat_lt (length xs) count ≡ t →

@@ -109,10 +109,6 @@ module _ (c : Search) (e : KnownBest c) where
       go None = refl
       go (Some f) = refl
 
-  aim_solve : (found : Option Find) (w : List Box) → BestOf c.goal ≡ (solve_head c found w).aim
-  aim_solve found [] = refl
-  aim_solve found (b ∷ w) = refl
-
   pub solve_lean : (n : ℕ) →
       let s = turns c (BestOf c.goal) n (start c) in
       AreLean c (BestOf c.goal) (most_told (solve_certificate c s).claim) None false 0 (c.model.cells ∷ []) (solve_certificate c s).tree

@@ -3,7 +3,6 @@
 ghost use Rattle.std.specs.Prelude.{◌≡◌, IfOk};
 ghost use Rattle.ts_domain.specs.BoxSeries.{InBox, IsCell};
 ghost use Rattle.ts_domain.specs.Values.{IsDomain};
-ghost use Rattle.ts_filter.specs.Excluded.{counts, is_better};
 ghost use Rattle.ts_search.specs.Dive.{kept_value, least_value, value_of};
 ghost use Rattle.ts_search.specs.Drops.{least};
 ghost use Rattle.ts_search.specs.LineOf.{bar_of, counts_for, cut, cut_by, inner, last};
@@ -13,10 +12,10 @@ ghost use Rattle.ts_search.specs.Views.{find_of, search_of};
 use crate::found::FoundSeries;
 use crate::problem::Problem;
 use std::alloc::Global;
-use ts_base::{Ext, Goal, Memory};
+use ts_base::{Ext, Memory};
 use ts_compile::value_of;
 use ts_domain::{Boxed, Domain};
-use ts_filter::{AllTables, Bar};
+use ts_filter::{AllTables, Bar, counts};
 
 impl<'a> Problem<'a> {
     /// What a series has to reach: to be better than the found one, or as good as the dive's where none was found.
@@ -147,26 +146,6 @@ impl<'a> Problem<'a> {
             Some(term) => value_of(alloc, self.model, term, series),
             None => Ok(Ext::NegInf),
         }
-    }
-}
-
-/// Whether `v` is better than the bar's number, or at least as good.
-fn counts(goal: Goal, bar: Bar, v: Ext) -> bool
-    ensures { result ≡ counts goal bar v }
-{
-    match bar {
-        Bar::Better(w) => is_better(goal, v, w),
-        Bar::AsGood(w) => !is_better(goal, w, v),
-    }
-}
-
-/// Whether `v` is better than `w`.
-fn is_better(goal: Goal, v: Ext, w: Ext) -> bool
-    ensures { result ≡ is_better goal v w }
-{
-    match goal {
-        Goal::Maximise => v > w,
-        Goal::Minimise => v < w,
     }
 }
 

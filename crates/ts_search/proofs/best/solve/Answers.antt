@@ -1,11 +1,10 @@
-use Rattle.std.proofs.Common.{◌≡◌, refl}
+use Rattle.std.proofs.Common.{refl}
 use Rattle.std.proofs.lemmas.Result.{IfOk-weaker}
 use Rattle.ts_certificate.specs.Certificate.{cert_seen}
 use Rattle.ts_model.specs.Views.{stated}
 use Rattle.ts_spans.specs.Machines.{spans_in}
 use Rattle.ts_search.specs.Solved.{Solved}
-use Rattle.ts_search.specs.Turns.{solve_certificate}
-use Rattle.ts_search.specs.Views.{search_of, state_of}
+use Rattle.ts_search.specs.Views.{state_of}
 use Rattle.ts_search.proofs.Certified.{solved, with_dive}
 use Rattle.ts_search.proofs.OfProgram.{are_right, posed_best}
 use Rattle.ts_search.proofs.best.solve.Goals as goal
