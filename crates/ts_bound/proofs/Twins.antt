@@ -1,6 +1,5 @@
 -- The move on `=` that is the same as the one on `<` or `>`: one sweep takes in both.
-use Rattle.std.proofs.Common.{◌≡◌, ℕ, zero, suc, ◌+◌, ◌-◌, ◌*◌, ◌<◌, ◌≤◌, ◌⊎◌, inl, inr, Bool, true, false, cond, nat_eq, ℤ, pos, List, length, map, get_or, refl, sym, ◌∙◌, ap, arith}
-use Rattle.std.specs.List.{range_with_len}
+use Rattle.std.proofs.Common.{◌≡◌, ℕ, zero, suc, ◌+◌, ◌-◌, ◌*◌, ◌<◌, ◌≤◌, ◌⊎◌, inl, inr, Bool, true, false, cond, nat_eq, ℤ, pos, List, length, get_or, refl, sym, ◌∙◌, ap, arith}
 use Rattle.std.proofs.lemmas.List.FromFn.{fill_by_all}
 use Rattle.ts_base.specs.declared.letter.Letter.{Letter}
 use Rattle.ts_base.specs.declared.letter.Letter.TheVariants.{Less, Equal, Greater}
@@ -8,10 +7,10 @@ use Rattle.ts_automaton.specs.declared.regs.Hull.{Hull}
 use Rattle.ts_automaton.specs.Body.{Body, Move}
 use Rattle.ts_bound.specs.Hulls.{none, hull_of_both}
 use Rattle.ts_bound.specs.Sealed.{move_at}
-use Rattle.ts_bound.specs.Sweeps.{AllTakeNone, step_place, move_entry, sweep_entry, puts, with_move, with_sweep, with_state}
-use Rattle.ts_bound.proofs.HullLaws.{TakesNone, both_takes_none, none_takes_none}
+use Rattle.ts_bound.specs.Sweeps.{AllTakeNone, step_place, move_entry, sweep_entry, with_move, with_sweep, with_state}
+use Rattle.ts_bound.proofs.HullLaws.{TakesNone, both_takes_none}
 use Rattle.ts_bound.proofs.SpanHulls.{both_comm, both_assoc}
-use Rattle.ts_bound.proofs.SweptRows.{gift, place_inside, puts_at, length-puts, length-with_move, with_move_at, state_done}
+use Rattle.ts_bound.proofs.SweptRows.{gift, puts_at, length-puts, length-with_move, with_move_at, state_done}
 
 -- rows are equal that are equal at each place and state
 

@@ -1,4 +1,3 @@
-use Rattle.std.proofs.Common.{◌∙◌}
 use Rattle.ts_automaton.specs.Body.{move_of}
 use Rattle.ts_bound.proofs.SweepLaws.{with_move_canonical}
 use Rattle.ts_bound.proofs.Twins.{both_swept}
