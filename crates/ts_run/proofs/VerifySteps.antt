@@ -9,10 +9,13 @@ use Rattle.ts_model.specs.Stated.{Stated}
 use Rattle.ts_checker.specs.declared.verify_end.VerifyEnd.{VerifyEnd}
 use Rattle.ts_checker.specs.declared.verify_end.VerifyEnd.TheVariants.{Model, Verdict as Judged}
 use Rattle.ts_checker.specs.Checking.{Checking, HasChecked, Checks}
+use Rattle.ts_checker.specs.Feeding.{HasFed, Verifying}
 use Rattle.ts_checker.specs.Verified.{IsVerifyEnd, certificate_lines, model_part}
-use Rattle.ts_run.specs.AnswerTexts.{OnReading, VerifyReply, end_reply}
+use Rattle.ts_run.specs.AnswerTexts.{IsReply, OnReading, VerifyReply, end_reply}
 use Rattle.ts_run.specs.Reply.{Reply, reply_of}
 use Rattle.ts_run.specs.Verified.{IsVerified}
+use Rattle.ts_run.specs.declared.command.Command.{Command}
+use Rattle.ts_run.specs.declared.command.Command.TheVariants.{Verify}
 use Rattle.ts_run.specs.declared.reply.Reply.{Reply as GivenReply}
 use Rattle.ts_run.proofs.Steps.{model_replies}
 
@@ -27,6 +30,14 @@ pub ends_given : {E : Type 0} (bytes : List ℕ) (end : VerifyEnd) (given : Resu
     IfOk given (λ r. reply_of r ≡ end_reply end) → IfOk given (λ r. VerifyReply bytes (reply_of r))
 ends_given bytes end (Ok r) h is = end_given bytes end (reply_of r) h is
 ends_given bytes end (Err e) h is = tt
+
+-- the end of an input is the reply of `verify` to whatever bytes were fed
+pub end_told : {E : Type 0} (command : Command) (v : Verifying) (end : VerifyEnd) (given : Result GivenReply E) → command ≡ Verify →
+    ((bytes : List ℕ) → HasFed bytes v → IsVerifyEnd bytes end) → IfOk given (λ r. reply_of r ≡ end_reply end) →
+    IfOk given (λ r. (bytes : List ℕ) → HasFed bytes v → IsReply command bytes (reply_of r))
+end_told command v end (Ok r) is ends reply = λ bytes fed.
+    subst (λ (x : Command). IsReply x bytes (reply_of r)) (sym is) (end_given bytes end (reply_of r) (ends bytes fed) reply)
+end_told command v end (Err e) is ends reply = tt
 
 -- the lines that were fed, and those that are left
 pub record IsFed (text rest : List ℕ) (m : Stated) (c : Checking) : Type 0 where
