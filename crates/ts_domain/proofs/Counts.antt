@@ -16,9 +16,8 @@ use Rattle.ts_domain.proofs.Sets.{filter_none, each_contains, all_weaker}
 use Rattle.ts_domain.proofs.CutLaws.{m, ends_small}
 use Rattle.ts_domain.proofs.Ranges.{values_rise, value_in_some, range_at}
 use Rattle.ts_domain.proofs.Places.{place_has}
-use Rattle.ts_domain.proofs.PieceParts.{off}
 use Rattle.ts_domain.proofs.PieceLaws.{in_ends, ends_in}
-use Rattle.ts_domain.proofs.PieceReads.{at_between, few, get_or-append_right, read_at}
+use Rattle.ts_domain.proofs.PieceReads.{off, at_between, few, get_or-append_right, read_at}
 
 pub length-counts : (n : ℕ) (rs : List Interval) → length (counts_from n rs) ≡ length rs
 unfolding counts_from

@@ -1,16 +1,17 @@
 -- What a change leaves of a piece, told in machine numbers.
-use Rattle.std.proofs.Common.{◌≡◌, ℤ, pos, negsuc, neg_ℤ, ◌+ℤ◌, ◌-ℤ◌, ◌≤ℤ◌, ◌<ℤ◌, true, false, Option, List, [], sym, ap, ◌∙◌, subst, arith}
+use Rattle.std.proofs.Common.{◌≡◌, ℤ, pos, neg_ℤ, ◌+ℤ◌, ◌≤ℤ◌, ◌<ℤ◌, ◌↔◌, Bool, true, false, IsTrue, List, [], sym, ap, ◌∙◌, subst, arith}
 use Rattle.std.proofs.lemmas.Int.{ints, to_z-of_z}
+use Rattle.std.proofs.lemmas.Bool.{both_ways}
 use mir.Val.{SFits, to_z, of_z}
 use mir.Syntax.{w64}
 use Rattle.std.specs.Prelude.{filter, int_le, int_lt, Contains}
 use Rattle.ts_domain.specs.declared.interval.Interval.{Interval}
 use Rattle.ts_domain.specs.Values.{values_of, RangesFrom}
-use Rattle.ts_domain.specs.Pieces.{values_in, IsPiece, IsLastUpTo, IsFirstFrom, IsPartOf, IsPart}
+use Rattle.ts_domain.specs.Pieces.{values_in, IsPiece, IsLastUpTo, IsFirstFrom, IsPartOf}
 use Rattle.ts_domain.proofs.Ranges.{values_within}
 use Rattle.ts_domain.proofs.Sets.{each_contains, true_le, true_lt}
 use Rattle.ts_domain.proofs.Places.{small_is}
-use Rattle.ts_domain.proofs.PieceLaws.{whole_up_to, cut_up_to, none_up_to, whole_above, cut_above, none_above}
+use Rattle.ts_domain.proofs.PieceLaws.{contains_in, whole_up_to, cut_up_to, none_up_to, whole_above, cut_above, none_above}
 
 -- a machine number
 abbrev pub m : ℤ → ℤ
@@ -84,31 +85,24 @@ pub above_none : (rs : List Interval) (p : Interval) (t : ℤ) → RangesFrom (n
     int_lt (m t) (m p.high) ≡ false → filter (λ v. int_lt t v) (values_in (values_of rs) p) ≡ []
 above_none rs p t a is fits test = none_above (values_of rs) p t (not_lt (m t) (m p.high) t p.high (to_z-of_z w64 t fits) (ends_small rs p a is).1 test)
 
--- below a number
-fits_of : (z : ℤ) → neg_ℤ (pos 9223372036854775808) ≤ℤ z → z ≤ℤ pos 9223372036854775807 → SFits w64 z
-fits_of (pos n) from to = record { sfits = omega (arith, ints, from, to) }
-fits_of (negsuc n) from to = record { sfits = omega (arith, ints, from, to) }
+-- whether a piece has a number
+pub in_piece : (rs : List Interval) (p : Interval) (v : ℤ) (answer : Bool) → RangesFrom (neg_ℤ (pos 1000000)) rs → IsPiece (values_of rs) p → SFits w64 v →
+    int_le (m p.low) (m v) ≡ true → int_le (m v) (m p.high) ≡ true → (IsTrue answer ↔ Contains (values_of rs) (m v)) →
+    IsTrue answer ↔ Contains (values_in (values_of rs) p) v
+in_piece rs p v answer a is fits low high there =
+    let e = ends_small rs p a is in let v_is = to_z-of_z w64 v fits in
+    let from = le_is (m p.low) (m v) p.low v e.0 v_is low in let to = le_is (m v) (m p.high) v p.high v_is e.1 high in
+    let has = subst (λ x. IsTrue answer ↔ Contains (values_of rs) x) v_is there in
+    (λ y. (contains_in (values_of rs) p v).1 (has.0 y, from, to), λ h. has.1 ((contains_in (values_of rs) p v).0 h).0)
 
-greatest_of : (z : ℤ) → SFits w64 z → z ≤ℤ pos 9223372036854775807
-greatest_of (pos n) fits = let f = fits.sfits in omega (arith, ints, f)
-greatest_of (negsuc n) fits = omega (arith, ints)
+pub under_piece : (rs : List Interval) (p : Interval) (v : ℤ) (answer : Bool) → RangesFrom (neg_ℤ (pos 1000000)) rs → IsPiece (values_of rs) p → SFits w64 v →
+    int_le (m p.low) (m v) ≡ false → answer ≡ false → IsTrue answer ↔ Contains (values_in (values_of rs) p) v
+under_piece rs p v answer a is fits low e =
+    let lt = not_le (m p.low) (m v) p.low v (ends_small rs p a is).0 (to_z-of_z w64 v fits) low in
+    (λ y. absurd (both_ways answer e y), λ h. let i = (contains_in (values_of rs) p v).0 h in absurd (omega (arith, ints, lt, i.1)))
 
-below_next : (low gone : ℤ) → neg_ℤ (pos 1000000) ≤ℤ low → low <ℤ gone → SFits w64 gone → m (m gone -ℤ pos 1) ≡ gone -ℤ pos 1
-below_next low gone from lt fits =
-    let to = greatest_of gone fits in
-    ap (λ x. m (x -ℤ pos 1)) (to_z-of_z w64 gone fits) ∙
-    to_z-of_z w64 (gone -ℤ pos 1) (fits_of (gone -ℤ pos 1) (omega (arith, ints, from, lt)) (omega (arith, ints, to)))
-
-pub below_some : (rs : List Interval) (p : Interval) (gone : ℤ) (o : Option Interval) → RangesFrom (neg_ℤ (pos 1000000)) rs → IsPiece (values_of rs) p →
-    SFits w64 gone → int_lt (m p.low) (m gone) ≡ true →
-    IsPart (values_of rs) (λ v. int_le v (m (m gone -ℤ pos 1))) p o → IsPart (values_of rs) (λ v. int_le v (gone -ℤ pos 1)) p o
-below_some rs p gone o a is fits test part =
-    let lt = lt_is (m p.low) (m gone) p.low gone (ends_small rs p a is).0 (to_z-of_z w64 gone fits) test in
-    subst (λ t. IsPart (values_of rs) (λ v. int_le v t) p o) (below_next p.low gone (value_within rs p.low a is.1).0 lt fits) part
-
-pub below_none : (rs : List Interval) (p : Interval) (gone : ℤ) → RangesFrom (neg_ℤ (pos 1000000)) rs → IsPiece (values_of rs) p → SFits w64 gone →
-    int_lt (m p.low) (m gone) ≡ false →
-    filter (λ v. int_le v (gone -ℤ pos 1)) (values_in (values_of rs) p) ≡ []
-below_none rs p gone a is fits test =
-    let le = not_lt (m p.low) (m gone) p.low gone (ends_small rs p a is).0 (to_z-of_z w64 gone fits) test in
-    none_up_to (values_of rs) p (gone -ℤ pos 1) (omega (arith, ints, le))
+pub over_piece : (rs : List Interval) (p : Interval) (v : ℤ) (answer : Bool) → RangesFrom (neg_ℤ (pos 1000000)) rs → IsPiece (values_of rs) p → SFits w64 v →
+    int_le (m v) (m p.high) ≡ false → answer ≡ false → IsTrue answer ↔ Contains (values_in (values_of rs) p) v
+over_piece rs p v answer a is fits high e =
+    let lt = not_le (m v) (m p.high) v p.high (to_z-of_z w64 v fits) (ends_small rs p a is).1 high in
+    (λ y. absurd (both_ways answer e y), λ h. let i = (contains_in (values_of rs) p v).0 h in absurd (omega (arith, ints, lt, i.2)))

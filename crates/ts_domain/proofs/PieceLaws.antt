@@ -1,12 +1,11 @@
 -- Pieces of a set: what a test leaves of a piece, and the numbers of pieces that rise.
-use Rattle.std.proofs.Common.{◌≡◌, ℤ, pos, ◌+ℤ◌, ◌≤ℤ◌, ◌<ℤ◌, ◌↔◌, Bool, true, false, ◌&&◌, Option, None, Some}
-use Rattle.std.proofs.Common.{List, [], ◌∷◌, ◌++◌, refl, sym, ◌∙◌, subst, arith}
+use Rattle.std.proofs.Common.{◌≡◌, ℤ, pos, ◌+ℤ◌, ◌≤ℤ◌, ◌<ℤ◌, ◌↔◌, Bool, true, false, ◌&&◌}
+use Rattle.std.proofs.Common.{List, [], refl, sym, ◌∙◌, arith}
 use Rattle.std.proofs.lemmas.Int.{ints}
 use Rattle.std.specs.Prelude.{filter, int_le, int_lt, Contains}
-use Rattle.std.specs.Option.{option_to_list}
 use Rattle.ts_domain.specs.declared.interval.Interval.{Interval}
-use Rattle.ts_domain.specs.Pieces.{is_in, values_in, IsPiece, PiecesFrom, IsLastUpTo, IsFirstFrom, IsPartOf, IsPart}
-use Rattle.ts_domain.proofs.Sets.{contains_filter, nothing_in, filter_alike, filter_none, filter_both, same_test}
+use Rattle.ts_domain.specs.Pieces.{is_in, values_in, IsPiece, IsLastUpTo, IsFirstFrom, IsPartOf}
+use Rattle.ts_domain.proofs.Sets.{contains_filter, filter_alike, filter_none, filter_both, same_test}
 use Rattle.ts_domain.proofs.Sets.{le_true, true_le, lt_true, true_lt, le_false, lt_false}
 
 -- a number in a piece
@@ -121,32 +120,8 @@ none_above all p t h = part_none all (λ v. int_lt t v) p (λ v from to. lt_fals
     under a b c h g = omega (arith, ints, h, g)
 
 -- a piece begins and ends with its numbers
-pub some_in : (all : List ℤ) (p : Interval) → IsPiece all p → values_in all p ≡ [] → ⊥
-some_in all p is none = nothing_in p.low (subst (λ l. Contains l p.low) none ((contains_in all p p.low).1 (is.1, omega (arith, ints), is.0)))
-
 pub high_in : (all : List ℤ) (p : Interval) → IsPiece all p → Contains (values_in all p) p.high
 high_in all p is = (contains_in all p p.high).1 (is.2, is.0, omega (arith, ints))
 
 pub low_in : (all : List ℤ) (p : Interval) → IsPiece all p → Contains (values_in all p) p.low
 low_in all p is = (contains_in all p p.low).1 (is.1, omega (arith, ints), is.0)
-
--- pieces that begin at f or later
-pub pieces_earlier : (f g : ℤ) (all : List ℤ) (ps : List Interval) → f ≤ℤ g → PiecesFrom g all ps → PiecesFrom f all ps
-unfolding PiecesFrom
-pieces_earlier f g all [] h a = tt
-pieces_earlier f g all (p ∷ ps) h a = (omega (arith, ints, h, a.0), a.1, a.2)
-
--- one part or none goes before pieces that begin behind it
-pub part_before : (f to : ℤ) (all : List ℤ) (test : ℤ → Bool) (p : Interval) (o : Option Interval) (rest : List Interval) → f ≤ℤ p.low → IsPart all test p o →
-    ((q : Interval) → IsPartOf all test p q → (f ≤ℤ q.low) × ((q.high +ℤ pos 1) ≤ℤ to)) → f ≤ℤ to → PiecesFrom to all rest →
-    PiecesFrom f all (option_to_list o ++ rest)
-unfolding PiecesFrom
-part_before f to all test p None rest from is fit le a = pieces_earlier f to all rest le a
-part_before f to all test p (Some q) rest from is fit le a = let h = fit q is in (h.0, is.piece, pieces_earlier (q.high +ℤ pos 1) to all rest h.1 a)
-
--- the end of a part passes the test
-pub part_high : (all : List ℤ) (test : ℤ → Bool) (p q : Interval) → IsPartOf all test p q → test q.high ≡ true
-part_high all test p q is = ((contains_filter test (values_in all p) q.high).0 (subst (λ l. Contains l q.high) is.same (high_in all q is.piece))).1
-
-pub part_low : (all : List ℤ) (test : ℤ → Bool) (p q : Interval) → IsPartOf all test p q → test q.low ≡ true
-part_low all test p q is = ((contains_filter test (values_in all p) q.low).0 (subst (λ l. Contains l q.low) is.same (low_in all q is.piece))).1

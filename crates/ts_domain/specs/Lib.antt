@@ -1,8 +1,10 @@
 pub mod BoxSeries
 pub mod Counts
 pub mod Kept
+pub mod MarkTree
+pub mod MarkTreeFalls
+pub mod Marks
 pub mod Pieces
 pub mod Trail
 pub mod Union
 pub mod Values
-pub mod Walk

@@ -1,12 +1,10 @@
--- A set that is cut out of another one by pieces: it has the numbers of that one that lie in some piece.
-use Rattle.std.specs.Prelude.{◌≡◌, ◌≢◌, ℕ, zero, suc, ℤ, pos, neg_ℤ, ◌+ℤ◌, ◌≤ℤ◌, Bool, int_le, ◌&&◌, if◌then◌else◌}
-use Rattle.std.specs.Prelude.{Option, MatchOption, List, [], ◌∷◌, ◌++◌, filter, Contains}
-use Rattle.std.specs.Int.{int_max, int_min}
+-- A piece of a set: the numbers of it between two of them; and a set that differs from a piece at marks.
+use Rattle.std.specs.Prelude.{◌≡◌, ◌≢◌, ℕ, zero, suc, ℤ, pos, neg_ℤ, ◌≤ℤ◌, Bool, int_le, ◌&&◌, if◌then◌else◌}
+use Rattle.std.specs.Prelude.{Option, MatchOption, List, [], ◌∷◌, filter, Contains}
 use Rattle.ts_domain.specs.declared.interval.Interval.{Interval}
-use Rattle.std.specs.Option.{option_to_list}
-use Rattle.ts_domain.specs.declared.keep.Keep.{Keep}
-use Rattle.ts_domain.specs.Kept.{low_side, high_side}
-use Rattle.ts_domain.specs.Values.{values_of, AreRanges, RangesFrom}
+use Rattle.ts_domain.specs.declared.marks.Mark.{Mark}
+use Rattle.ts_domain.specs.Marks.{MarksFrom, AreTold, numbers}
+use Rattle.ts_domain.specs.Values.{values_of, AreRanges}
 
 -- the number lies in the piece
 abbrev pub is_in : Interval → ℤ → Bool
@@ -16,25 +14,17 @@ is_in p v = int_le p.low v && int_le v p.high
 unfoldable pub values_in : List ℤ → Interval → List ℤ
 values_in all p = filter (is_in p) all
 
--- the numbers of a set that lie in the pieces, one piece after the other
-unfoldable pub values_by : List ℤ → List Interval → List ℤ
-values_by all [] = []
-values_by all (p ∷ ps) = values_in all p ++ values_by all ps
-
 -- the ends of a piece are numbers of the set, in this order
 abbrev pub IsPiece : List ℤ → Interval → Type 0
 IsPiece all p = (p.low ≤ℤ p.high) × Contains all p.low × Contains all p.high
 
--- pieces of a set, of which the first begins at `from` or later and each other one behind the one before
-unfoldable pub PiecesFrom : ℤ → List ℤ → List Interval → Type 0
-PiecesFrom from all [] = Unit {0}
-PiecesFrom from all (p ∷ ps) = (from ≤ℤ p.low) × IsPiece all p × PiecesFrom (p.high +ℤ pos 1) all ps
-
--- the ranges of a set, and pieces of it
-pub record IsCut (ranges pieces : List Interval) : Type 0 where
+-- the ranges of a set, a piece of it, and marks at which another set, which has a number, differs from that piece
+pub record IsMarked (ranges : List Interval) (p : Interval) (marks : List Mark) : Type 0 where
   pub set : AreRanges ranges
-  pub apart : PiecesFrom (neg_ℤ (pos 1000000)) (values_of ranges) pieces
-  pub some : pieces ≢ []
+  pub piece : IsPiece (values_of ranges) p
+  pub rising : MarksFrom (neg_ℤ (pos 1000000)) marks
+  pub told : AreTold (values_in (values_of ranges) p) marks
+  pub some : numbers (values_in (values_of ranges) p) marks ≢ []
 
 -- how many of the ranges pass the test before the first one that doesn't
 unfoldable pub leading : (Interval → Bool) → List Interval → ℕ
@@ -68,22 +58,3 @@ pub record IsPartOf (all : List ℤ) (test : ℤ → Bool) (p q : Interval) : Ty
 
 abbrev pub IsPart : List ℤ → (ℤ → Bool) → Interval → Option Interval → Type 0
 IsPart all test p part = MatchOption part (filter test (values_in all p) ≡ []) (IsPartOf all test p)
-
--- what of a range lies in a piece that it meets
-abbrev pub trim : Interval → Interval → Interval
-trim p r = record { low = int_max r.low p.low; high = int_min r.high p.high }
-
--- behind the pieces `before` there come those of what a change keeps of the piece p
-pub record AreParts (all : List ℤ) (keep : Keep) (p : Interval) (before after : List Interval) : Type 0 where
-  pub lower : Option Interval
-  pub upper : Option Interval
-  pub low : IsPart all (low_side keep) p lower
-  pub high : IsPart all (high_side keep) p upper
-  pub more : after ≡ (before ++ option_to_list lower) ++ option_to_list upper
-
--- behind the ranges `before` there come those of the numbers in the piece p
-pub record AreRangesIn (all : List ℤ) (p : Interval) (before after : List Interval) : Type 0 where
-  pub own : List Interval
-  pub apart : RangesFrom (neg_ℤ (pos 1000000)) own
-  pub same : values_of own ≡ values_in all p
-  pub more : after ≡ before ++ own

@@ -1,22 +1,31 @@
 //! One domain per cell, with a trail that leads back to every earlier box.
 
-ghost use Rattle.std.specs.Prelude.{◌≡◌, ◌≢◌, ◌-◌, ◌<◌, ◌≤◌, [], ◌∷◌, ◌++◌, length, IfOk, OnOk, OnErr, slice_get, Some};
+ghost use Rattle.std.specs.Prelude.{◌≡◌, ◌≢◌, ◌-◌, ◌<◌, ◌≤◌, [], length, IfOk, OnOk, OnErr, Contains};
 ghost use Rattle.ts_domain.specs.Kept.{kept, values_up_to, values_above, values_without};
 ghost use Rattle.ts_domain.specs.BoxSeries.{IsBox, IsCell, cell_of, box_with, back_to};
 ghost use Rattle.ts_domain.specs.Values.{IsDomain};
+ghost use Rattle.ts_domain.specs.Trail.{before, BackFits};
 
 use crate::domain::Domain;
 use crate::keep::Keep;
+use crate::marks::Node;
 use std::alloc::Global;
 use std::marker::Model;
 use std::mem;
 use ts_base::Memory;
 
-/// A change: the place of the cell, and its domain before.
+/// A change: the place of the cell, and how its domain before comes back.
 #[derive(Drop)]
 struct Step {
     cell: u32,
-    before: Domain,
+    back: Back,
+}
+
+/// The domain before, or the value that was taken out and a node for it.
+#[derive(Drop)]
+enum Back {
+    Whole(Domain),
+    One(i64, Box<Node>),
 }
 
 /// One domain per cell, and the boxes before the present one. Contracts see the boxes, the present one last.
@@ -80,7 +89,7 @@ impl Boxed {
         ensures ok { OnOk result (self.new ≡ box_with k (values_up_to t) self.old) }
         ensures err { OnErr result (self.new ≡ self.old) }
     {
-        self.change(k, Keep::UpTo(t))
+        self.narrow(k, Keep::UpTo(t))
     }
 
     /// Leaves the values of cell `k` above `t`; one of them has to be there. After `Memory` nothing has changed.
@@ -90,7 +99,7 @@ impl Boxed {
         ensures ok { OnOk result (self.new ≡ box_with k (values_above t) self.old) }
         ensures err { OnErr result (self.new ≡ self.old) }
     {
-        self.change(k, Keep::Above(t))
+        self.narrow(k, Keep::Above(t))
     }
 
     /// Leaves all values of cell `k` but `v`; another one has to be there. After `Memory` nothing has changed.
@@ -100,7 +109,11 @@ impl Boxed {
         ensures ok { OnOk result (self.new ≡ box_with k (values_without v) self.old) }
         ensures err { OnErr result (self.new ≡ self.old) }
     {
-        self.change(k, Keep::AllBut(v))
+        if self.cell(k).contains(v) {
+            self.take_out(k, v)
+        } else {
+            self.narrow(k, Keep::AllBut(v))
+        }
     }
 
     /// The number of boxes before the present one, by which `undo` finds the present one again.
@@ -123,7 +136,7 @@ impl Boxed {
 
 impl Boxed {
     // One more box, in which cell `k` has the values that `keep` keeps; the memory is taken before the first change.
-    fn change(&mut self, k: u32, keep: Keep) -> Result<(), Memory>
+    fn narrow(&mut self, k: u32, keep: Keep) -> Result<(), Memory>
         requires cell { IsCell k self.old }
         requires stays { kept keep (cell_of k self.old) ≢ [] }
         ensures ok { OnOk result (self.new ≡ box_with k (kept keep) self.old) }
@@ -133,7 +146,31 @@ impl Boxed {
         self.trail.reserve(1)?;
         let left = self.cells[at as usize].kept(keep)?;
         let before = mem::replace(&mut self.cells[at as usize], left);
-        self.trail.push_reserved(Step { cell: at, before });
+        self.trail.push_reserved(Step {
+            cell: at,
+            back: Back::Whole(before),
+        });
+        Ok(())
+    }
+
+    // One more box, in which cell `k` has lost a value that it had.
+    fn take_out(&mut self, k: u32, v: i64) -> Result<(), Memory>
+        requires cell { IsCell k self.old }
+        requires has { Contains (cell_of k self.old) v }
+        requires stays { values_without v (cell_of k self.old) ≢ [] }
+        ensures ok { OnOk result (self.new ≡ box_with k (values_without v) self.old) }
+        ensures err { OnErr result (self.new ≡ self.old) }
+    {
+        let at = k - 1;
+        self.trail.reserve(1)?;
+        let node = Node::spare(self.alloc)?;
+        let spare = Node::spare(self.alloc)?;
+        let cell = &mut self.cells[at as usize];
+        cell.flip(v, node);
+        self.trail.push_reserved(Step {
+            cell: at,
+            back: Back::One(v, spare),
+        });
         Ok(())
     }
 
@@ -143,7 +180,18 @@ impl Boxed {
         ensures { self.new ≡ back_to (length self.old.earlier - 1) self.old }
     {
         if let Some(step) = self.trail.pop() {
-            drop(mem::replace(&mut self.cells[step.cell as usize], step.before));
+            bring_back(&mut self.cells[step.cell as usize], step.back);
         }
+    }
+}
+
+// Puts a cell's domain before a change in the place of the one after it.
+fn bring_back(cell: &mut Domain, back: Back)
+    requires { BackFits back cell.old }
+    ensures { cell.new ≡ before back cell.old }
+{
+    match back {
+        Back::Whole(old) => drop(mem::replace(cell, old)),
+        Back::One(v, node) => cell.flip(v, node),
     }
 }

@@ -1,7 +1,6 @@
 //! What a change leaves of a piece of a set.
 
-ghost use Rattle.std.specs.Prelude.{◌≡◌, ℤ, pos, neg_ℤ, ◌-ℤ◌, int_le, int_lt};
-ghost use Rattle.ts_domain.specs.Kept.{low_side, high_side};
+ghost use Rattle.std.specs.Prelude.{◌≡◌, ℤ, pos, neg_ℤ, int_le, int_lt};
 ghost use Rattle.ts_domain.specs.Values.{RangesFrom, values_of};
 ghost use Rattle.ts_domain.specs.Pieces.{IsPiece, IsPart};
 
@@ -21,19 +20,6 @@ pub(crate) fn up_to(ranges: &[Interval], piece: Interval, t: i64) -> Option<Inte
             low: piece.low,
             high: last_up_to(ranges, t),
         })
-    } else {
-        None
-    }
-}
-
-/// The numbers of a piece below `gone`, `None` for none.
-pub(crate) fn below(ranges: &[Interval], piece: Interval, gone: i64) -> Option<Interval>
-    requires apart { RangesFrom (neg_ℤ (pos 1000000)) ranges.now }
-    requires piece { IsPiece (values_of ranges.now) piece }
-    ensures { IsPart (values_of ranges.now) (λ v. int_le v (gone -ℤ pos 1)) piece result }
-{
-    if piece.low < gone {
-        up_to(ranges, piece, gone - 1)
     } else {
         None
     }

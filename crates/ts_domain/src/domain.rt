@@ -1,35 +1,42 @@
 //! Non-empty finite sets of numbers.
 
-ghost use Rattle.std.specs.Prelude.{◌≡◌, ◌≢◌, ◌<◌, ◌≤ℤ◌, ◌↔◌, ℤ, pos, neg_ℤ, ◌⊎◌};
-ghost use Rattle.std.specs.Prelude.{[], length, slice_get, Some, IsTrue, IfOk, All, Contains, int_lt};
-ghost use Rattle.std.specs.List.{list_any, zip};
-ghost use Rattle.ts_domain.specs.Kept.{kept};
-ghost use Rattle.ts_domain.specs.Union.{InSomeRange, SomeEmpty, InSome, LowsRise, paired};
-ghost use Rattle.ts_domain.specs.Pieces.{IsCut, values_by};
+ghost use Rattle.std.specs.Prelude.{◌≡◌, ◌≢◌, ◌<◌, ◌≤ℤ◌, ◌↔◌, ℤ, ◌⊎◌};
+ghost use Rattle.std.specs.Prelude.{[], length, slice_get, Some, IsTrue, IfOk, All, Contains};
+ghost use Rattle.ts_domain.specs.Kept.{kept, values_up_to, values_above, values_without};
+ghost use Rattle.ts_domain.specs.Marks.{put_back};
+ghost use Rattle.ts_domain.specs.Union.{InSomeRange, SomeEmpty};
 ghost use Rattle.ts_domain.specs.Values.{IsDomain, WithinLimits, values_of, AreRanges};
 
 use crate::counted::CountedRanges;
+use crate::cut::{above, up_to};
 use crate::interval::Interval;
-use crate::keep::Keep;
-use crate::pieces::{count_by, has_by, kept_by, nth_by, ranges_by};
+use crate::keep::{Keep, singles};
+use crate::marks::{Mark, Marks, Node};
+use crate::merge::{has_no_union, joined, sorted_ranges};
+use crate::pieces::{count_in, has_in, with_more};
 use crate::values::{Values, walk};
 use smallvec::SmallVec;
 use std::alloc::Global;
 use std::marker::Model;
+use std::mem;
 use std::rc::Rc;
 use thiserror::Error;
 use ts_base::Memory;
 
-/// A set of more pieces gets ranges of its own, since each change copies the pieces.
-const MOST_PIECES: usize = 128;
+/// A set that has lost so many numbers more gets ranges of its own where it is copied, since a copy copies the marks.
+const MOST_MARKS: i64 = 128;
 
-/// A non-empty set of numbers from -1,000,000 to 1,000,000, which contracts see as its rising list. It is what of the
-/// ranges lies in its pieces; copies and smaller sets share the ranges.
+/// A number below all of them.
+const BELOW_ALL: i64 = -1_000_001;
+
+/// A non-empty set of numbers from -1,000,000 to 1,000,000, which contracts see as its rising list. It differs from
+/// what of the ranges lies in its piece at the marks alone; copies and smaller sets share the ranges.
 #[derive(Drop)]
 pub struct Domain {
     alloc: Global,
     ranges: Rc<CountedRanges, Global>,
-    pieces: SmallVec<Interval, 2>,
+    piece: Interval,
+    marks: Marks,
 }
 
 /// Why ranges make no domain: there is none, or one is empty; or there was no memory.
@@ -54,13 +61,14 @@ impl From<Memory> for DomainStop {
 impl Model for Domain {
     ghost use Rattle.std.specs.Prelude.{ℤ, List};
     ghost use Rattle.ts_domain.specs.Values.{values_of};
-    ghost use Rattle.ts_domain.specs.Pieces.{values_by, IsCut};
+    ghost use Rattle.ts_domain.specs.Pieces.{values_in, IsMarked};
+    ghost use Rattle.ts_domain.specs.Marks.{numbers};
 
     ghost Value = { List ℤ };
 
-    ghost view = { λ d. values_by (values_of d.ranges.value.items.items) d.pieces.items };
+    ghost view = { λ d. numbers (values_in (values_of d.ranges.value.items.items) d.piece) d.marks };
 
-    ghost invariant = { λ d. IsCut d.ranges.value.items.items d.pieces.items };
+    ghost invariant = { λ d. IsMarked d.ranges.value.items.items d.piece d.marks };
 }
 
 impl Domain {
@@ -81,16 +89,16 @@ impl Domain {
         Ok(union_of(alloc, lows, highs)?)
     }
 
-    /// The same set once more, on the same ranges: it costs a count, and its pieces.
+    /// The same set once more, on the same ranges: it costs a count, and its marks.
     pub fn try_clone(&self) -> Result<Domain, Memory>
         ensures same { IfOk result (λ d. d ≡ self.now) }
         ensures domain { IfOk result IsDomain }
     {
-        let pieces = SmallVec::from_slice(self.alloc, self.pieces.as_slice())?;
         Ok(Domain {
             alloc: self.alloc,
             ranges: self.ranges.clone()?,
-            pieces,
+            piece: self.piece,
+            marks: self.marks.try_clone(self.alloc)?,
         })
     }
 
@@ -98,7 +106,10 @@ impl Domain {
     pub fn contains(&self, v: i64) -> bool
         ensures { IsTrue result ↔ Contains self.now v }
     {
-        has_by(self.ranges.items.as_slice(), self.pieces.as_slice(), v)
+        match self.marks.at(v) {
+            Some(gone) => !gone,
+            None => has_in(self.ranges.items.as_slice(), self.piece, v),
+        }
     }
 
     /// How many numbers there are.
@@ -106,7 +117,7 @@ impl Domain {
         ensures size { result ≡ length self.now }
         ensures domain { IsDomain self.now }
     {
-        count_by(&*self.ranges, self.pieces.as_slice())
+        with_more(count_in(&*self.ranges, self.piece), self.marks.more())
     }
 
     /// The number at place `i` in rising order, counted from 0.
@@ -114,30 +125,32 @@ impl Domain {
         requires { i < length self.now }
         ensures { slice_get self.now i ≡ Some result }
     {
-        nth_by(&*self.ranges, self.pieces.as_slice(), i)
+        self.marks
+            .nth_above(&*self.ranges, self.piece, BELOW_ALL, i)
     }
 
-    /// Whether both have the same ranges and pieces, and so the same numbers. It compares no numbers: of sets that were
-    /// made in other ways it may say no all the same.
+    /// Whether both have the same ranges, piece and marks, and so the same numbers. It compares no numbers: of sets
+    /// that were made in other ways it may say no all the same.
     pub fn is_same(&self, other: &Domain) -> bool
         ensures { IsTrue result → self.now ≡ other.now }
     {
-        self.pieces == other.pieces && self.ranges.items == other.ranges.items
+        self.piece == other.piece
+            && self.marks.is_same(&other.marks)
+            && self.ranges.items == other.ranges.items
     }
 
-    /// The least and the greatest number, without a search.
+    /// The least and the greatest number.
     pub fn ends(&self) -> Interval
         ensures low { Contains self.now result.low }
         ensures high { Contains self.now result.high }
         ensures all { (v : ℤ) → Contains self.now v → (result.low ≤ℤ v) × (v ≤ℤ result.high) }
     {
-        let pieces = self.pieces.as_slice();
-        match (pieces.first(), pieces.last()) {
-            (Some(first), Some(last)) => Interval {
-                low: first.low,
-                high: last.high,
-            },
-            _ => unreachable!(),
+        if self.marks.is_empty() {
+            return self.piece;
+        }
+        Interval {
+            low: self.nth(0),
+            high: self.nth(self.size() - 1),
         }
     }
 
@@ -145,46 +158,107 @@ impl Domain {
     pub fn values<'a>(&'a self) -> Values<'a>
         ensures { result ≡ self.now }
     {
-        walk(self.ranges.items.as_slice(), self.pieces.as_slice())
+        walk(self)
     }
 
     /// Whether there is one number alone.
     pub fn is_single(&self) -> bool
         ensures { IsTrue result ↔ (length self.now ≡ 1) }
     {
-        match self.pieces.as_slice() {
-            [only] => only.is_single(),
-            _ => false,
+        if self.marks.is_empty() {
+            return self.piece.is_single();
         }
+        self.size() == 1
     }
 
-    /// The set of the values that `keep` keeps.
+    /// The set of the values that `keep` keeps, as a copy.
     pub(crate) fn kept(&self, keep: Keep) -> Result<Domain, Memory>
         requires { kept keep self.now ≢ [] }
         ensures kept { IfOk result (λ d. d ≡ kept keep self.now) }
         ensures domain { IfOk result IsDomain }
     {
-        let ranges = self.ranges.items.as_slice();
-        let pieces = kept_by(self.alloc, ranges, self.pieces.as_slice(), keep)?;
-        if pieces.len() > MOST_PIECES {
-            return renewed(self.alloc, ranges, pieces.as_slice());
+        if self.marks.more() < -MOST_MARKS {
+            return self.renewed(keep);
         }
-        Ok(Domain {
-            alloc: self.alloc,
-            ranges: self.ranges.clone()?,
-            pieces,
-        })
+        match keep {
+            Keep::UpTo(t) => self.low_part(t),
+            Keep::Above(t) => self.high_part(t),
+            Keep::AllBut(gone) => self.without(gone),
+        }
     }
-}
 
-// The set of these pieces, as one piece of ranges of its own.
-fn renewed(alloc: Global, ranges: &[Interval], pieces: &[Interval]) -> Result<Domain, Memory>
-    requires { IsCut ranges.now pieces.now }
-    ensures same { IfOk result (λ d. d ≡ values_by (values_of ranges.now) pieces.now) }
-    ensures domain { IfOk result IsDomain }
-{
-    let parts = ranges_by(alloc, ranges, pieces)?;
-    whole(alloc, joined(alloc, &parts)?)
+    // The numbers up to `t`.
+    fn low_part(&self, t: i64) -> Result<Domain, Memory>
+        requires { values_up_to t self.now ≢ [] }
+        ensures kept { IfOk result (λ d. d ≡ values_up_to t self.now) }
+        ensures domain { IfOk result IsDomain }
+    {
+        match up_to(self.ranges.items.as_slice(), self.piece, t) {
+            None => self.renewed(Keep::UpTo(t)),
+            Some(piece) => Ok(Domain {
+                alloc: self.alloc,
+                ranges: self.ranges.clone()?,
+                piece,
+                marks: self.marks.try_clone(self.alloc)?.up_to(t),
+            }),
+        }
+    }
+
+    // The numbers above `t`.
+    fn high_part(&self, t: i64) -> Result<Domain, Memory>
+        requires { values_above t self.now ≢ [] }
+        ensures kept { IfOk result (λ d. d ≡ values_above t self.now) }
+        ensures domain { IfOk result IsDomain }
+    {
+        match above(self.ranges.items.as_slice(), self.piece, t) {
+            None => self.renewed(Keep::Above(t)),
+            Some(piece) => Ok(Domain {
+                alloc: self.alloc,
+                ranges: self.ranges.clone()?,
+                piece,
+                marks: self.marks.try_clone(self.alloc)?.above(t),
+            }),
+        }
+    }
+
+    // The numbers without one, which need not be among them.
+    fn without(&self, gone: i64) -> Result<Domain, Memory>
+        requires { values_without gone self.now ≢ [] }
+        ensures kept { IfOk result (λ d. d ≡ values_without gone self.now) }
+        ensures domain { IfOk result IsDomain }
+    {
+        if self.contains(gone) {
+            self.renewed(Keep::AllBut(gone))
+        } else {
+            self.try_clone()
+        }
+    }
+
+    // What `keep` keeps, on ranges of its own.
+    fn renewed(&self, keep: Keep) -> Result<Domain, Memory>
+        requires { kept keep self.now ≢ [] }
+        ensures kept { IfOk result (λ d. d ≡ kept keep self.now) }
+        ensures domain { IfOk result IsDomain }
+    {
+        let parts = singles(self.alloc, self, keep)?;
+        whole(self.alloc, joined(self.alloc, &parts)?)
+    }
+
+    /// Takes a number out that is there, or puts one in that isn't; the node is for a mark.
+    pub(crate) fn flip(&mut self, v: i64, spare: Box<Node>)
+        requires limits { WithinLimits v }
+        requires stays { Contains self.old v → values_without v self.old ≢ [] }
+        ensures out { Contains self.old v → self.new ≡ values_without v self.old }
+        ensures back { (Contains self.old v → ⊥) → self.new ≡ put_back v self.old }
+        ensures domain { IsDomain self.new }
+    {
+        let mark = Mark {
+            value: v,
+            gone: has_in(self.ranges.items.as_slice(), self.piece, v),
+        };
+        let marks = mem::replace(&mut self.marks, Marks::new());
+        self.marks = marks.flipped(mark, spare);
+    }
 }
 
 // The set that these ranges are.
@@ -194,63 +268,17 @@ fn whole(alloc: Global, ranges: SmallVec<Interval, 2>) -> Result<Domain, Memory>
     ensures domain { IfOk result IsDomain }
 {
     let items = ranges.as_slice();
-    let all = Interval {
+    let piece = Interval {
         low: items[0].low,
         high: items[items.len() - 1].high,
     };
-    let mut pieces = SmallVec::new(alloc);
-    pieces.push(all)?;
     let counted = CountedRanges::new(alloc, ranges)?;
     Ok(Domain {
         alloc,
         ranges: Rc::new(alloc, counted)?,
-        pieces,
+        piece,
+        marks: Marks::new(),
     })
-}
-
-// Whether some low is above its high.
-fn has_empty(lows: &[i64], highs: &[i64]) -> bool
-    ensures { result ≡ list_any (λ p. int_lt p.1 p.0) (zip lows.now highs.now) }
-{
-    lows.iter().zip(highs).any(|(low, high)| low > high)
-}
-
-// Whether there is no range, or some low is above its high.
-fn has_no_union(lows: &[i64], highs: &[i64]) -> bool
-    requires { length lows.now ≡ length highs.now }
-    ensures { IsTrue result ↔ ((lows.now ≡ []) ⊎ SomeEmpty lows.now highs.now) }
-{
-    lows.is_empty() || has_empty(lows, highs)
-}
-
-// The two lists as one list of ranges.
-fn ranges_of(alloc: Global, lows: &[i64], highs: &[i64]) -> Result<Vec<Interval>, Memory>
-    ensures { IfOk result (λ v. v.items ≡ paired lows.now highs.now) }
-{
-    let ranges = lows
-        .iter()
-        .zip(highs)
-        .map(|(low, high)| Interval {
-            low: *low,
-            high: *high,
-        })
-        .collect(alloc)?;
-    Ok(ranges)
-}
-
-// The ranges by rising lows.
-fn sorted_ranges(alloc: Global, lows: &[i64], highs: &[i64]) -> Result<Vec<Interval>, Memory>
-    requires pairs { length lows.now ≡ length highs.now }
-    requires lows_within { All WithinLimits lows.now }
-    requires highs_within { All WithinLimits highs.now }
-    requires ordered { SomeEmpty lows.now highs.now → ⊥ }
-    ensures sorted { IfOk result (λ v. LowsRise (neg_ℤ (pos 1000000)) v.items) }
-    ensures same { IfOk result (λ v. (n : ℤ) → InSome v.items n ↔ InSomeRange lows.now highs.now n) }
-    ensures len { IfOk result (λ v. length v.items ≡ length lows.now) }
-{
-    let mut ranges = ranges_of(alloc, lows, highs)?;
-    ranges.as_mut_slice().sort_unstable();
-    Ok(ranges)
 }
 
 // The union of ranges of which none is empty.
@@ -264,25 +292,4 @@ fn union_of(alloc: Global, lows: &[i64], highs: &[i64]) -> Result<Domain, Memory
 {
     let sorted = sorted_ranges(alloc, lows, highs)?;
     whole(alloc, joined(alloc, &sorted)?)
-}
-
-// The union of ranges that come by rising lows: each is joined with the last one where no gap lies between them.
-fn joined(alloc: Global, sorted: &[Interval]) -> Result<SmallVec<Interval, 2>, Memory>
-    requires some { 0 < length sorted.now }
-    requires sorted { LowsRise (neg_ℤ (pos 1000000)) sorted.now }
-    ensures union { IfOk result (λ ranges. (v : ℤ) → Contains (values_of ranges.items) v ↔ InSome sorted.now v) }
-    ensures apart { IfOk result (λ ranges. AreRanges ranges.items) }
-{
-    let mut ranges = SmallVec::new(alloc);
-    let mut last = sorted[0];
-    for next in sorted {
-        if next.low <= last.high + 1 {
-            last.high = last.high.max(next.high);
-        } else {
-            ranges.push(last)?;
-            last = *next;
-        }
-    }
-    ranges.push(last)?;
-    Ok(ranges)
 }

@@ -2,7 +2,6 @@
 
 ghost use Rattle.std.specs.Prelude.{◌≡◌, ℤ, pos, ◌+ℤ◌, neg_ℤ, ◌≤ℤ◌, IsTrue, ◌↔◌, length};
 ghost use Rattle.ts_domain.specs.Values.{values_between};
-ghost use Rattle.ts_domain.specs.Pieces.{trim};
 
 /// The numbers from `low` to `high`, both among them.
 #[derive(Clone, Copy, Debug, PartialEq, Eq, PartialOrd, Ord, Default)]
@@ -27,15 +26,5 @@ impl Interval {
         ensures { IsTrue result ↔ (self.low ≡ self.high) }
     {
         self.low == self.high
-    }
-
-    /// What of it lies in a piece that it meets.
-    pub(crate) fn trim(self, piece: Interval) -> Interval
-        ensures { result ≡ trim piece self }
-    {
-        Interval {
-            low: self.low.max(piece.low),
-            high: self.high.min(piece.high),
-        }
     }
 }

@@ -1,12 +1,12 @@
 //! Which values of a cell a change keeps.
 
-ghost use Rattle.std.specs.Prelude.{◌≡◌, ℤ, pos, neg_ℤ};
-ghost use Rattle.ts_domain.specs.Kept.{low_side, high_side};
-ghost use Rattle.ts_domain.specs.Values.{RangesFrom, values_of};
-ghost use Rattle.ts_domain.specs.Pieces.{IsPiece, IsPart};
+ghost use Rattle.std.specs.Prelude.{◌≡◌, filter, map, IfOk};
+ghost use Rattle.ts_domain.specs.Marks.{keeps};
 
-use crate::cut::{above, below, up_to};
+use crate::domain::Domain;
 use crate::interval::Interval;
+use std::alloc::Global;
+use ts_base::Memory;
 
 /// The values that stay: those up to a number, those above it, or all but one.
 #[derive(Clone, Copy, Debug, PartialEq, Eq)]
@@ -17,29 +17,30 @@ pub enum Keep {
 }
 
 impl Keep {
-    /// What stays of a piece below the gap that the change makes.
-    pub(crate) fn lower_part(self, ranges: &[Interval], piece: Interval) -> Option<Interval>
-        requires apart { RangesFrom (neg_ℤ (pos 1000000)) ranges.now }
-        requires piece { IsPiece (values_of ranges.now) piece }
-        ensures { IsPart (values_of ranges.now) (low_side self) piece result }
+    /// Whether a value stays.
+    pub(crate) fn keeps(self, v: i64) -> bool
+        ensures { result ≡ keeps self v }
     {
         match self {
-            Keep::UpTo(t) => up_to(ranges, piece, t),
-            Keep::Above(_) => None,
-            Keep::AllBut(gone) => below(ranges, piece, gone),
+            Keep::UpTo(t) => v <= t,
+            Keep::Above(t) => t < v,
+            Keep::AllBut(gone) => v != gone,
         }
     }
+}
 
-    /// What stays of a piece above the gap.
-    pub(crate) fn upper_part(self, ranges: &[Interval], piece: Interval) -> Option<Interval>
-        requires apart { RangesFrom (neg_ℤ (pos 1000000)) ranges.now }
-        requires piece { IsPiece (values_of ranges.now) piece }
-        ensures { IsPart (values_of ranges.now) (high_side self) piece result }
-    {
-        match self {
-            Keep::UpTo(_) => None,
-            Keep::Above(t) => above(ranges, piece, t),
-            Keep::AllBut(gone) => above(ranges, piece, gone),
-        }
-    }
+/// A range for each number of a set that `keep` keeps.
+pub(crate) fn singles(alloc: Global, domain: &Domain, keep: Keep) -> Result<Vec<Interval>, Memory>
+    ensures { IfOk result
+        (λ parts. parts.items ≡ map (λ v. record { low = v; high = v }) (filter (keeps keep) domain.now)) }
+{
+    let parts = domain
+        .values()
+        .filter(|value| keep.keeps(*value))
+        .map(|value| Interval {
+            low: value,
+            high: value,
+        })
+        .collect(alloc)?;
+    Ok(parts)
 }

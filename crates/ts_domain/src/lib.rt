@@ -6,13 +6,14 @@
 //! Each change leaves exactly the named values of one cell and adds a box, and `undo` goes back to any earlier box
 //! without memory. After want of memory the value is as it was.
 //!
-//! A domain is made of sorted ranges, which never change, and of pieces: it has what of the ranges lies in some piece.
-//! Copies and smaller sets share the ranges by a count, so a box of many cells with one domain has its ranges once.
-//! A change makes pieces alone, whose ends are found by halving, and the trail keeps the pieces before. `keep_low` and
-//! `keep_high` never make more of them, and a value taken out of the middle of a piece leaves one more. A set of more
-//! than 128 pieces gets ranges of its own, so no change copies more pieces than that. A change that makes the 129th
-//! piece copies the ranges that are left: from a set of one piece it takes 128 changes to come there, after an undo
-//! one. Beside each range stands how many numbers lie before it, so the place of a number is found by halving too.
+//! A domain is made of sorted ranges, which never change, of one piece of them, and of marks: it has what of the
+//! ranges lies in the piece, and at a marked number it is the other way round. Copies and smaller sets share the
+//! ranges by a count, so a box of many cells with one domain has its ranges once. `keep_low` and `keep_high` make a
+//! piece, whose ends are found by halving, and copy the marks that stay; the trail keeps the domain before. `remove`
+//! marks a number in place, and its undo takes the mark away, so each costs by the depth of the marks' tree, and the
+//! trail keeps the number and a node for it. A set that has lost more than 128 numbers by marks gets ranges of its
+//! own where a smaller set is copied from it. Beside each range stands how many numbers lie before it, so the place
+//! of a number is found by halving.
 //!
 //! ```text
 //! let digits = Domain::from_ranges(alloc, &[0, 7], &[4, 9])?;
@@ -31,6 +32,8 @@ mod interval;
 mod keep;
 pub mod laws;
 mod lookup;
+mod marks;
+mod merge;
 mod pieces;
 mod values;
 

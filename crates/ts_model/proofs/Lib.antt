@@ -3,6 +3,7 @@ mod TableNames
 mod RangeLaws
 mod UnionLaws
 mod CellLaws
+mod DomainLines
 mod TermLaws
 mod Takes
 mod LineLaws

@@ -1,10 +1,18 @@
-use Rattle.std.proofs.Common.{rules, refl, sym, ◌∙◌, true}
-use Rattle.ts_domain.proofs.SameParts.{told_same, same_values}
+use Rattle.std.proofs.Common.{◌≡◌, rules, sym, ◌∙◌}
+use Rattle.std.proofs.lemmas.Bool.{both_ways}
+use Rattle.ts_domain.proofs.MarkedSets.{interval_decides, told_same, same_numbers}
+use Rattle.ts_domain.proofs.domain.Domain.is_same.Goals.{then-eq, else-eq}
 use Rattle.ts_domain.proofs.domain.Domain.is_same.Goals as goal
 
-pub returns-then-eq : goal.returns-then-eq
-returns-then-eq c = λ t.
-    let pieces = told_same true c.self.inside.pieces.items c.other.inside.pieces.items (search rules) refl in
-    let ranges = told_same c.eq-then-eq.result c.self.inside.ranges.value.items.items c.other.inside.ranges.value.items.items (search rules) t in
-    sym c.self.view_is ∙ same_values c.self.inside.ranges.value.items.items c.other.inside.ranges.value.items.items c.self.inside.pieces.items
-    c.other.inside.pieces.items ranges pieces ∙ c.other.view_is
+pub returns-then-is_same : goal.returns-then-is_same
+returns-then-is_same c = λ t.
+    let ranges = told_same c.eq-then-is_same.result c.self.inside.ranges.value.items.items c.other.inside.ranges.value.items.items (search rules) t in
+    let both : (c.self.inside.piece ≡ c.other.inside.piece) × (c.self.inside.marks ≡ c.other.inside.marks) = elim c.if-eq.branch [
+      | then-eq w ↦ (
+        (interval_decides c.self.inside.piece c.other.inside.piece).0 (sym c.eq.ensures ∙ w.if-eq.true),
+        w.is_same.ensures (sym w.value-is ∙ c.if-is_same.true),
+      )
+      | else-eq w ↦ absurd (both_ways c.if-eq.value (w.value-is ∙ w.if-eq.false) c.if-is_same.true)
+    ] in
+    same_numbers c.self.inside.ranges.value.items.items c.other.inside.ranges.value.items.items c.self.inside.piece c.other.inside.piece c.self.inside.marks
+    c.other.inside.marks _ _ c.self.view_is c.other.view_is ranges both.0 both.1
