@@ -1,5 +1,5 @@
 -- Packed numbers are ordered as what they stand for, and their sums, greatest and least stand for those.
-use Rattle.std.proofs.Common.{◌≡◌, ◌⊎◌, inl, inr, Bool, true, false, cond, not, ◌&&◌, IsTrue, ℤ, pos, ◌+ℤ◌, ◌≤ℤ◌, ◌<ℤ◌, int_le, int_lt, refl, sym, ◌∙◌, ap, subst, arith}
+use Rattle.std.proofs.Common.{◌≡◌, ◌⊎◌, inl, inr, Bool, true, false, cond, not, ◌&&◌, IsTrue, ℤ, pos, neg_ℤ, ◌+ℤ◌, ◌≤ℤ◌, ◌<ℤ◌, int_le, int_lt, refl, sym, ◌∙◌, ap, subst, arith}
 use Rattle.std.proofs.lemmas.Bool.{and_parts}
 use Rattle.std.proofs.lemmas.Int.{ints, clamps}
 use lib.IntN.{negsuc}
@@ -19,7 +19,7 @@ use Rattle.ts_bound.specs.declared.packed.End.{End}
 use Rattle.ts_bound.specs.declared.packed.Ends.{Ends}
 use Rattle.ts_bound.specs.declared.packed.Packed.{Packed}
 use Rattle.ts_bound.specs.Hulls.{none, hull_of_both}
-use Rattle.ts_bound.specs.Packs.{unpack, span_from, unpack_span, unpack_hull, IsPackOf, IsRunning}
+use Rattle.ts_bound.specs.Packs.{unpack, IsPlain, ArePlain, span_from, unpack_span, unpack_hull, IsPackOf, IsRunning}
 use Rattle.ts_bound.specs.Sealed.{least_span, lifted, span_in, hull_with, some_hull, after_move}
 use Rattle.ts_bound.specs.Splits.{front_span, closed_span}
 use Rattle.ts_bound.specs.Cuts.{Cut, front_hull, closed_hull}
@@ -46,6 +46,9 @@ unpack_between x h k = ap (λ b. cond b NegInf (cond (int_le (pos 92233720368547
 
 pub unpack_small : (x : End) → small_int x.at ≡ true → unpack x ≡ Int x.at
 unpack_small x h = unpack_between x (grind (arith, ints)) (grind (arith, ints))
+
+le_means : (a b : ℤ) → int_le a b ≡ true → a ≤ℤ b
+le_means a b h = grind (arith, ints)
 
 -- order
 pub unpack_mono : (x y : End) → int_le x.at y.at ≡ true → IsTrue (ext_le (unpack x) (unpack y))
@@ -151,6 +154,36 @@ sum_between x y r a b c d e =
     ap (λ z. unpack (end z)) e ∙ held_between (x.at +ℤ y.at)
     ∙ sym (ap (λ z. ext_plus z (unpack y)) (is_between x a c) ∙ ap (ext_plus (Int x.at)) (is_between y b d))
 
+-- sums of plain numbers aren't clamped
+pub sum_plain : (x y : End) → IsPlain x.at → IsPlain y.at → unpack (end (x.at +ℤ y.at)) ≡ ext_plus (unpack x) (unpack y)
+sum_plain x y h k =
+    let a = h.above in
+    let b = h.below in
+    let c = k.above in
+    let d = k.below in
+    sum_between x y (end (x.at +ℤ y.at)) (omega (arith, ints, a)) (omega (arith, ints, c)) (omega (arith, ints, b)) (omega (arith, ints, d))
+    (omega (arith, ints, clamps, a, b, c, d))
+
+-- both ends are plain where the lower one isn't below, and the upper one not above
+pub ends_plain : (a : Ends) (v w : ℤ) → v ≡ a.lo.at → w ≡ a.hi.at → a.lo.at ≤ℤ pos 9223372036854775807 → negsuc 9223372036854775807 ≤ℤ a.hi.at →
+    has_some (unpack_span a) ≡ true → int_le (neg_ℤ (pos 50000000000000000)) v ≡ true → int_le w (pos 50000000000000000) ≡ true → ArePlain a
+ends_plain a v w e f h k some low high = go (int_le a.lo.at a.hi.at) refl
+  where
+    above_low : neg_ℤ (pos 50000000000000000) ≤ℤ a.lo.at
+    above_low = le_means _ a.lo.at (ap (int_le (neg_ℤ (pos 50000000000000000))) (sym e) ∙ low)
+
+    below_high : a.hi.at ≤ℤ pos 50000000000000000
+    below_high = le_means a.hi.at _ (ap (λ z. int_le z (pos 50000000000000000)) (sym f) ∙ high)
+
+    go : (b : Bool) → int_le a.lo.at a.hi.at ≡ b → ArePlain a
+    go true o =
+        let m = le_means a.lo.at a.hi.at o in
+        record {
+          lo = record { above = above_low; below = omega (arith, ints, below_high, m) };
+          hi = record { above = omega (arith, ints, above_low, m); below = below_high };
+        }
+    go false o = let e : true ≡ false = sym some ∙ unpack_strict a.lo a.hi h k o in cc
+
 -- spans
 
 pub ends_lifted : (o p : Op) (a b : Ends) (lo hi : End) → o ≡ p → has_some (unpack_span a) ≡ true → has_some (unpack_span b) ≡ true →
@@ -235,9 +268,6 @@ lt_means a b h = grind (arith, ints)
 
 lt_not : (a b : ℤ) → int_lt a b ≡ false → b ≤ℤ a
 lt_not a b h = grind (arith, ints)
-
-le_means : (a b : ℤ) → int_le a b ≡ true → a ≤ℤ b
-le_means a b h = grind (arith, ints)
 
 le_not : (a b : ℤ) → int_le a b ≡ false → b <ℤ a
 le_not a b h = grind (arith, ints)

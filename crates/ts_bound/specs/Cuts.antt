@@ -5,7 +5,8 @@ use Rattle.ts_automaton.specs.declared.expr.Atom.TheVariants.{C, D, R}
 use Rattle.ts_automaton.specs.Formula.{Leaf, Join, formula}
 use Rattle.ts_automaton.specs.Body.{Move}
 use Rattle.ts_bound.specs.declared.sweep_parts.Part.{Part}
-use Rattle.ts_bound.specs.declared.sweep_parts.Part.TheVariants.{KeepC, KeepD, KeepR, Front, Tail, Double, Pairs}
+use Rattle.ts_bound.specs.declared.sweep_parts.Part.TheVariants.{KeepC, KeepD, KeepR, Word, Two, Front}
+use Rattle.ts_bound.specs.declared.sweep_parts.Part.TheVariants.{Tail, Double, Pairs}
 use Rattle.ts_bound.specs.declared.sweep_parts.Parts.{Parts}
 use Rattle.ts_bound.specs.Hulls.{none}
 use Rattle.ts_bound.specs.Sealed.{hull_with, some_hull}
@@ -35,6 +36,8 @@ abbrev pub part_split : Part → Split
 part_split KeepC = FrontOf (Leaf C)
 part_split KeepD = FrontOf (Leaf D)
 part_split KeepR = FrontOf (Leaf R)
+part_split (Word a) = FrontOf (Leaf a)
+part_split (Two o a b) = FrontOf (Join o (Leaf a) (Leaf b))
 part_split (Front e) = FrontOf (formula e.now)
 part_split (Tail o e) = TailOf o (formula e.now)
 part_split (Double o e f) = TailOf o (Join o (formula e.now) (formula f.now))

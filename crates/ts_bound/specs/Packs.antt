@@ -1,5 +1,5 @@
 -- What a packed number, span or hull stands for.
-use Rattle.std.specs.Prelude.{◌≡◌, Bool, true, false, pos, negsuc, int_le, if◌then◌else◌}
+use Rattle.std.specs.Prelude.{◌≡◌, Bool, true, false, ℤ, pos, negsuc, neg_ℤ, ◌≤ℤ◌, int_le, if◌then◌else◌}
 use Rattle.ts_base.specs.declared.ext.Ext.{Ext}
 use Rattle.ts_base.specs.declared.ext.Ext.TheVariants.{NegInf, Int, PosInf}
 use Rattle.ts_base.specs.declared.span.Span.{Span}
@@ -15,6 +15,15 @@ unfoldable pub unpack : End → Ext
 unpack x =
     if int_le x.at (negsuc 9223372036854775807) then NegInf
     else if int_le (pos 9223372036854775807) x.at then PosInf else Int x.at
+
+-- a number of at most half the size at which sums are clamped
+pub record IsPlain (x : ℤ) : Type 0 where
+  pub above : neg_ℤ (pos 50000000000000000) ≤ℤ x
+  pub below : x ≤ℤ pos 50000000000000000
+
+pub record ArePlain (e : Ends) : Type 0 where
+  pub lo : IsPlain e.lo.at
+  pub hi : IsPlain e.hi.at
 
 abbrev pub span_from : Ext → Ext → Span
 span_from lo hi = record { lo = lo; hi = hi }

@@ -17,6 +17,7 @@ mod fill;
 pub mod laws;
 mod packed;
 mod packed_exprs;
+mod packed_sums;
 mod row;
 mod same_moves;
 mod single;

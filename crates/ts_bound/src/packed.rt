@@ -1,8 +1,8 @@
 //! Hulls whose ends are single numbers: the least and the greatest number of 64 bits stand for the infinities, so that
 //! a move only adds and compares numbers.
 
-ghost use Rattle.std.specs.Prelude.{◌≡◌, true, ◌+ℤ◌};
-ghost use Rattle.ts_base.specs.Numbers.{clamp, ext_max, ext_min, ext_plus};
+ghost use Rattle.std.specs.Prelude.{◌≡◌, true};
+ghost use Rattle.ts_base.specs.Numbers.{ext_max, ext_min};
 ghost use Rattle.ts_base.specs.Spans.{has_some, one_span};
 ghost use Rattle.ts_base.specs.declared.ext.Ext.TheVariants.{Int, NegInf, PosInf};
 ghost use Rattle.ts_bound.specs.Hulls.{hull_of_both};
@@ -42,6 +42,21 @@ impl End {
         requires { small e ≡ true }
         ensures { unpack result ≡ e }
     {
+        if let Ext::Int(x) = e {
+            End { at: x }
+        } else {
+            End::of_infinity(e)
+        }
+    }
+
+    /// The same of what is no number.
+    #[tactic(auto, using(crate::proofs::PackLaws::unpack_small), unfolding(crate::specs::Packs::unpack))]
+    #[cold]
+    #[inline(always)]
+    fn of_infinity(e: Ext) -> End
+        requires { small e ≡ true }
+        ensures { unpack result ≡ e }
+    {
         match e {
             Ext::NegInf => End { at: i64::MIN },
             Ext::Int(x) => End { at: x },
@@ -61,40 +76,6 @@ impl End {
             Ext::PosInf
         } else {
             Ext::Int(self.at)
-        }
-    }
-
-    /// The sum, as `Ext::plus` has it.
-    #[tactic(auto, using(crate::proofs::PackLaws::sum_low_left, crate::proofs::PackLaws::sum_low_right))]
-    #[inline(always)]
-    pub(crate) fn plus(self, other: End) -> End
-        ensures { unpack result ≡ ext_plus (unpack self) (unpack other) }
-    {
-        if self.at <= i64::MIN {
-            return End { at: i64::MIN };
-        }
-        if other.at <= i64::MIN {
-            return End { at: i64::MIN };
-        }
-        if i64::MAX <= self.at {
-            return End { at: i64::MAX };
-        }
-        if i64::MAX <= other.at {
-            return End { at: i64::MAX };
-        }
-        self.clamped_sum(other)
-    }
-
-    /// The sum of two numbers.
-    #[inline(always)]
-    fn clamped_sum(self, other: End) -> End
-        ensures { result.at ≡ clamp (self.at +ℤ other.at) }
-    {
-        End {
-            at: self
-                .at
-                .saturating_add(other.at)
-                .clamp(-100_000_000_000_000_000, 100_000_000_000_000_000),
         }
     }
 

@@ -21,10 +21,7 @@ pub(crate) fn joined_ends(o: Op, a: Ends, b: Ends) -> Ends
     ensures some { has_some (unpack_span result) ≡ true }
 {
     match o {
-        Op::Add => Ends {
-            lo: a.lo.plus(b.lo),
-            hi: a.hi.plus(b.hi),
-        },
+        Op::Add => a.plus(b),
         Op::Max => Ends {
             lo: a.lo.greater(b.lo),
             hi: a.hi.greater(b.hi),

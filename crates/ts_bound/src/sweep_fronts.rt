@@ -1,16 +1,38 @@
 //! The fronts of a move on packed hulls, and what the next cell makes of their hull.
 
-ghost use Rattle.std.specs.Prelude.{◌≡◌, true};
+ghost use Rattle.std.specs.Prelude.{◌≡◌, pos, true};
+ghost use Rattle.ts_automaton.specs.Formula.{Leaf};
 ghost use Rattle.ts_base.specs.Spans.{has_some};
 ghost use Rattle.ts_bound.specs.Cuts.{closed_hull, front_hull, part_split, parts_cut, swept};
 ghost use Rattle.ts_bound.specs.Packs.{IsPackOf, unpack_hull, unpack_span};
-ghost use Rattle.ts_bound.specs.Sealed.{some_hull};
+ghost use Rattle.ts_bound.specs.Sealed.{some_hull, span_in};
 ghost use Rattle.ts_bound.specs.Smalls.{small_int};
 ghost use Rattle.ts_bound.specs.Splits.{closed_span, front_span, is_swept};
 
 use crate::packed::{Ends, Packed};
 use crate::packed_exprs::{changed_ends, joined_ends, register_ends};
 use crate::sweep_parts::{Part, Parts};
+use ts_automaton::Atom;
+
+/// The span of a word in a front.
+#[inline(always)]
+fn word_ends(word: Atom, h: &Packed, x: i64) -> Ends
+    requires hull { some_hull (unpack_hull h.now) ≡ true }
+    requires this { small_int x ≡ true }
+    ensures value { unpack_span result ≡ span_in (Leaf word) (unpack_hull h.now) x (pos 0) }
+    ensures some { has_some (unpack_span result) ≡ true }
+{
+    match word {
+        Atom::C => h.c,
+        Atom::D => h.d,
+        Atom::R => h.r,
+        Atom::This => Ends::one(x),
+        Atom::Next | Atom::Zero => Ends::one(0),
+        Atom::Unit => Ends::one(1),
+        Atom::NegInf => Ends::low(),
+        Atom::PosInf => Ends::high(),
+    }
+}
 
 impl Part<'_> {
     /// The span of the front.
@@ -26,6 +48,8 @@ impl Part<'_> {
             Part::KeepC => h.c,
             Part::KeepD => h.d,
             Part::KeepR => h.r,
+            Part::Word(word) => word_ends(word, h, x),
+            Part::Two(o, a, b) => joined_ends(o, word_ends(a, h, x), word_ends(b, h, x)),
             Part::Front(e) => changed_ends(e, h, x, 0),
             Part::Tail(_, e) => register_ends(e, h, x, 0),
             Part::Double(o, e, f) => joined_ends(
@@ -47,7 +71,12 @@ impl Part<'_> {
         ensures some { has_some (unpack_span result) ≡ true }
     {
         match *self {
-            Part::KeepC | Part::KeepD | Part::KeepR | Part::Front(_) => s,
+            Part::KeepC
+            | Part::KeepD
+            | Part::KeepR
+            | Part::Word(_)
+            | Part::Two(_, _, _)
+            | Part::Front(_) => s,
             Part::Tail(o, _) => joined_ends(o, s, Ends::one(y)),
             Part::Double(o, _, _) => joined_ends(o, s, Ends::one(y)),
             Part::Pairs => unreachable!(),

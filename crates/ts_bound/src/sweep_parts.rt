@@ -1,22 +1,26 @@
 //! Expressions split into a front, which doesn't read the next cell, and what the next cell makes of it.
 
-ghost use Rattle.std.specs.Prelude.{◌≡◌};
+ghost use Rattle.std.specs.Prelude.{◌≡◌, IfSome};
 ghost use Rattle.ts_automaton.specs.Body.{move_of};
-ghost use Rattle.ts_automaton.specs.Formula.{Join, formula};
+ghost use Rattle.ts_automaton.specs.Formula.{Join, Leaf, formula};
 ghost use Rattle.ts_bound.specs.Cuts.{cut_of, part_split, parts_cut, swept};
-ghost use Rattle.ts_bound.specs.declared.sweep_parts.Part.TheVariants.{KeepC, KeepD, KeepR};
-ghost use Rattle.ts_bound.specs.Splits.{is_double, is_front, is_next, is_swept, operands, split, tail_of};
+ghost use Rattle.ts_automaton.specs.declared.expr.Atom.TheVariants.{D, Unit};
+ghost use Rattle.ts_automaton.specs.declared.expr.Op.TheVariants.{Add};
+ghost use Rattle.ts_bound.specs.declared.sweep_parts.Part.TheVariants.{KeepC, KeepD, KeepR, Two};
+ghost use Rattle.ts_bound.specs.Splits.{FrontOf, is_double, is_front, is_next, is_swept, operands, split, tail_of};
 ghost use Rattle.ts_glue.specs.Rules.{is_same_op};
 
-use ts_automaton::{Expr, Op, Turn};
+use ts_automaton::{Atom, Expr, Op, Turn};
 
-/// How an expression reads the next cell: not at all, where most are a register as it is; as the last operand, behind
-/// one front or two; or in another way.
+/// How an expression reads the next cell: not at all, where most are a register as it is, one word, or an operator over
+/// two words; as the last operand, behind one front or two; or in another way.
 #[derive(Clone, Copy)]
 pub(crate) enum Part<'a> {
     KeepC,
     KeepD,
     KeepR,
+    Word(Atom),
+    Two(Op, Atom, Atom),
     Front(&'a Expr),
     Tail(Op, &'a Expr),
     Double(Op, &'a Expr, &'a Expr),
@@ -82,11 +86,40 @@ fn split_of<'a>(e: &'a Expr) -> Part<'a>
         Expr::C => Part::KeepC,
         Expr::D => Part::KeepD,
         Expr::R => Part::KeepR,
+        Expr::This => Part::Word(Atom::This),
         Expr::Next => Part::Pairs,
+        Expr::Zero => Part::Word(Atom::Zero),
+        Expr::Unit => Part::Word(Atom::Unit),
+        Expr::NegInf => Part::Word(Atom::NegInf),
+        Expr::PosInf => Part::Word(Atom::PosInf),
         Expr::Add(a, b) => part_of(e, Op::Add, a, b),
         Expr::Max(a, b) => part_of(e, Op::Max, a, b),
         Expr::Min(a, b) => part_of(e, Op::Min, a, b),
-        _ => Part::Front(e),
+    }
+}
+
+/// The word that an expression is.
+fn word_of(e: &Expr) -> Option<Atom>
+    ensures { IfSome result (λ word. formula e.now ≡ Leaf word) }
+{
+    match e {
+        Expr::C => Some(Atom::C),
+        Expr::D => Some(Atom::D),
+        Expr::R => Some(Atom::R),
+        Expr::This => Some(Atom::This),
+        Expr::Unit => Some(Atom::Unit),
+        _ => None,
+    }
+}
+
+/// The part of a whole that doesn't read the next cell.
+fn front_part<'a>(whole: &'a Expr, o: Op, a: &Expr, b: &Expr) -> Part<'a>
+    requires { formula whole.now ≡ Join o (formula a.now) (formula b.now) }
+    ensures { part_split result ≡ FrontOf (Join o (formula a.now) (formula b.now)) }
+{
+    match (word_of(a), word_of(b)) {
+        (Some(first), Some(second)) => Part::Two(o, first, second),
+        _ => Part::Front(whole),
     }
 }
 
@@ -96,7 +129,7 @@ fn part_of<'a>(whole: &'a Expr, o: Op, a: &'a Expr, b: &'a Expr) -> Part<'a>
     ensures { part_split result ≡ split (Join o (formula a.now) (formula b.now)) }
 {
     if is_front(a) && is_front(b) {
-        Part::Front(whole)
+        front_part(whole, o, a, b)
     } else {
         tail_part(o, a, b)
     }
@@ -176,6 +209,18 @@ impl<'a> Parts<'a> {
         Parts {
             c: Part::KeepC,
             d: Part::KeepD,
+            r: Part::KeepR,
+        }
+    }
+
+    /// The parts of a move that keeps all registers but `D`, which becomes greater by one.
+    #[inline(always)]
+    pub(crate) fn longer() -> Parts<'a>
+        ensures { result ≡ record { c = KeepC; d = Two Add D Unit; r = KeepR } }
+    {
+        Parts {
+            c: Part::KeepC,
+            d: Part::Two(Op::Add, Atom::D, Atom::Unit),
             r: Part::KeepR,
         }
     }

@@ -1,6 +1,6 @@
 //! The values of a cell, read by place.
 
-ghost use Rattle.std.specs.Prelude.{◌≡◌, ℕ, ◌<◌, ◌≤◌, pos, true, ◌+ℤ◌, ◌≤ℤ◌, length, get_or};
+ghost use Rattle.std.specs.Prelude.{◌≡◌, IfSome, ℕ, ◌<◌, ◌≤◌, pos, true, ◌+ℤ◌, ◌≤ℤ◌, length, get_or};
 ghost use Rattle.ts_base.specs.Limits.{IsCellValue};
 ghost use Rattle.ts_bound.specs.Smalls.{AreValues};
 
@@ -45,6 +45,24 @@ impl<'a> Places<'a> {
             is_run: is_run(ends.low, ends.high, count),
         }
     }
+
+    /// The same values where they have no gap, which then need not be asked for each of them.
+    #[inline(always)]
+    pub(crate) fn gapless(&self) -> Option<Places<'_>>
+        ensures { IfSome result (λ p. p ≡ self.now) }
+    {
+        if self.is_run {
+            Some(Places {
+                values: self.values,
+                count: self.count,
+                first: self.first,
+                last: self.last,
+                is_run: true,
+            })
+        } else {
+            None
+        }
+    }
 }
 
 /// Whether so many rising values from a first to a last one have no gap.
@@ -58,6 +76,7 @@ fn is_run(first: i64, last: i64, count: usize) -> bool
 }
 
 /// How many values there are.
+#[inline(always)]
 pub(crate) fn count_of(p: &Places<'_>) -> usize
     ensures count { result ≡ length p.now }
     ensures values { AreValues p.now }

@@ -17,10 +17,12 @@ impl End {
     fn is_below(self, e: Ext) -> bool
         ensures { result ≡ not (ext_le e (unpack self)) }
     {
-        match e {
-            Ext::NegInf => false,
-            Ext::Int(x) => self.at < x || self.at <= i64::MIN,
-            Ext::PosInf => self.at < i64::MAX,
+        if let Ext::Int(x) = e {
+            self.at < x || self.at <= i64::MIN
+        } else if let Ext::PosInf = e {
+            self.at < i64::MAX
+        } else {
+            false
         }
     }
 
@@ -29,10 +31,12 @@ impl End {
     fn is_above(self, e: Ext) -> bool
         ensures { result ≡ not (ext_le (unpack self) e) }
     {
-        match e {
-            Ext::NegInf => i64::MIN < self.at,
-            Ext::Int(x) => x < self.at || i64::MAX <= self.at,
-            Ext::PosInf => false,
+        if let Ext::Int(x) = e {
+            x < self.at || i64::MAX <= self.at
+        } else if let Ext::NegInf = e {
+            i64::MIN < self.at
+        } else {
+            false
         }
     }
 

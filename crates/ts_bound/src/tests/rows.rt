@@ -265,45 +265,14 @@ fn max_surf_rising_back() -> &'static [&'static [Ends]] {
 }
 
 #[test]
-fn tables_of_sum_width_peak(rt: HostRuntime) -> Result<(), Fail> {
-    expect_tables(
-        &rt,
-        rt.alloc(),
-        sum_width_peak(),
-        sum_width_peak_ahead(),
-        sum_width_peak_back(),
-    )
-}
-
-#[test]
-fn tables_of_max_width_peak(rt: HostRuntime) -> Result<(), Fail> {
-    expect_tables(
-        &rt,
-        rt.alloc(),
-        max_width_peak(),
-        max_width_peak_ahead(),
-        max_width_peak_back(),
-    )
-}
-
-#[test]
-fn tables_of_min_width_peak(rt: HostRuntime) -> Result<(), Fail> {
-    expect_tables(
-        &rt,
-        rt.alloc(),
-        min_width_peak(),
-        min_width_peak_ahead(),
-        min_width_peak_back(),
-    )
-}
-
-#[test]
-fn tables_of_max_surf_rising(rt: HostRuntime) -> Result<(), Fail> {
-    expect_tables(
-        &rt,
-        rt.alloc(),
-        max_surf_rising(),
-        max_surf_rising_ahead(),
-        max_surf_rising_back(),
-    )
+fn tables_of_four_machines(rt: HostRuntime) -> Result<(), Fail> {
+    let alloc = rt.alloc();
+    let (ahead, back) = (sum_width_peak_ahead(), sum_width_peak_back());
+    expect_tables(&rt, alloc, sum_width_peak(), ahead, back)?;
+    let (ahead, back) = (max_width_peak_ahead(), max_width_peak_back());
+    expect_tables(&rt, alloc, max_width_peak(), ahead, back)?;
+    let (ahead, back) = (min_width_peak_ahead(), min_width_peak_back());
+    expect_tables(&rt, alloc, min_width_peak(), ahead, back)?;
+    let (ahead, back) = (max_surf_rising_ahead(), max_surf_rising_back());
+    expect_tables(&rt, alloc, max_surf_rising(), ahead, back)
 }

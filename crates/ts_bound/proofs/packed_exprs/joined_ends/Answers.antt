@@ -1,15 +1,6 @@
-use Rattle.ts_automaton.specs.declared.expr.Op.TheVariants.{Add, Max, Min}
+use Rattle.ts_automaton.specs.declared.expr.Op.TheVariants.{Max, Min}
 use Rattle.ts_bound.proofs.PackLaws.{ends_lifted, ends_some}
 use Rattle.ts_bound.proofs.packed_exprs.joined_ends.Goals as goal
-
-pub returns-in-Add-clause-value : goal.returns-in-Add-clause-value
-returns-in-Add-clause-value c =
-    ends_lifted c.args.o Add c.args.a c.args.b c.plus.result c.plus-in-Add.result c.in-Add.is c.requires.first c.requires.second c.plus.ensures
-    c.plus-in-Add.ensures
-
-pub returns-in-Add-clause-some : goal.returns-in-Add-clause-some
-returns-in-Add-clause-some c =
-    ends_some Add c.args.a c.args.b c.plus.result c.plus-in-Add.result c.requires.first c.requires.second c.plus.ensures c.plus-in-Add.ensures
 
 pub returns-in-Max-clause-value : goal.returns-in-Max-clause-value
 returns-in-Max-clause-value c =
