@@ -1,125 +1,15 @@
 //! Glued values and spans worked out from their definition, and a peak whose width is glued at each of its cells.
 
 mod pieces;
+mod rows;
 
 ghost use Rattle.std.specs.Prelude.{◌≤◌};
 
 use crate::{CellUnit, FoldOp, Machine};
 use pieces::{Pair, Standing, automaton, glued, glued_span, pair_of, run};
+use rows::{Row, SpanRow, pairs, rows, span_rows};
 use std::alloc::Global;
 use ts_base::{Ext, Span};
-
-/// The operator of the results; the trim, the operator and the unit of the table; and the value in each pair of states
-/// of `PAIRS`.
-type Row = (&'static str, u8, FoldOp, CellUnit, [i64; 6]);
-
-/// States of the forward and the reverse automaton: two pairs that are apart, and the four of the table.
-const PAIRS: [(u8, u8); 6] = [(0, 1), (2, 0), (1, 1), (1, 2), (2, 1), (2, 2)];
-
-/// The cell is worth 9, or 1. The registers are such that each of them shows in a sum.
-static ROWS: [Row; 14] = [
-    (
-        "add",
-        1,
-        FoldOp::Add,
-        CellUnit::Unit,
-        [407120, 407120, 400154, 407154, 400174, 407174],
-    ),
-    (
-        "add",
-        1,
-        FoldOp::Add,
-        CellUnit::Value,
-        [407120, 407120, 400162, 407162, 400182, 407182],
-    ),
-    (
-        "add",
-        1,
-        FoldOp::Max,
-        CellUnit::Value,
-        [407120, 407120, 400150, 407100, 400150, 407100],
-    ),
-    (
-        "add",
-        1,
-        FoldOp::Min,
-        CellUnit::Value,
-        [407120, 407120, 400103, 400103, 400103, 400103],
-    ),
-    (
-        "add",
-        0,
-        FoldOp::Add,
-        CellUnit::Unit,
-        [407120, 407120, 407172, 407172, 407172, 407172],
-    ),
-    (
-        "add",
-        0,
-        FoldOp::Add,
-        CellUnit::Value,
-        [407120, 407120, 407164, 407164, 407164, 407164],
-    ),
-    (
-        "add",
-        0,
-        FoldOp::Max,
-        CellUnit::Value,
-        [407120, 407120, 407100, 407100, 407100, 407100],
-    ),
-    (
-        "add",
-        0,
-        FoldOp::Min,
-        CellUnit::Value,
-        [407120, 407120, 400103, 400103, 400103, 400103],
-    ),
-    (
-        "min",
-        1,
-        FoldOp::Add,
-        CellUnit::Value,
-        [20, 20, 62, 100, 82, 100],
-    ),
-    (
-        "min",
-        1,
-        FoldOp::Max,
-        CellUnit::Value,
-        [20, 20, 50, 100, 50, 100],
-    ),
-    ("min", 0, FoldOp::Min, CellUnit::Value, [20, 20, 3, 3, 3, 3]),
-    (
-        "max",
-        1,
-        FoldOp::Add,
-        CellUnit::Value,
-        [400000, 400000, 400000, 400000, 400000, 400000],
-    ),
-    (
-        "max",
-        0,
-        FoldOp::Add,
-        CellUnit::Unit,
-        [400000, 400000, 400000, 400000, 400000, 400000],
-    ),
-    (
-        "max",
-        1,
-        FoldOp::Max,
-        CellUnit::Value,
-        [400000, 400000, 400000, 400000, 400000, 400000],
-    ),
-];
-
-// The tables behind functions, so that the proofs of the tests don't read them.
-fn rows() -> &'static [Row] {
-    &ROWS
-}
-
-fn pairs() -> &'static [(u8, u8)] {
-    &PAIRS
-}
 
 fn left(state: u8) -> Standing {
     Standing {
@@ -164,38 +54,6 @@ fn values_by_the_definition(rt: HostRuntime) {
     for (place, row) in rows().iter().enumerate() {
         assert!(rt; row_holds(rt.alloc(), row), "row {place}");
     }
-}
-
-/// The trim, the operator and the unit of the table, where the results are added; the lower and the upper ends of the
-/// spans in each pair of states.
-type SpanRow = (u8, FoldOp, CellUnit, [i64; 6], [i64; 6]);
-
-static SPAN_ROWS: [SpanRow; 3] = [
-    (
-        1,
-        FoldOp::Add,
-        CellUnit::Value,
-        [407120, 407120, 400162, 407162, 400182, 407182],
-        [417755, 417755, 410201, 417801, 410226, 417826],
-    ),
-    (
-        1,
-        FoldOp::Min,
-        CellUnit::Value,
-        [407120, 407120, 400103, 400103, 400103, 400103],
-        [417755, 417755, 410134, 410134, 410134, 410134],
-    ),
-    (
-        0,
-        FoldOp::Add,
-        CellUnit::Value,
-        [407120, 407120, 407164, 407164, 407164, 407164],
-        [417755, 417755, 417808, 417808, 417808, 417808],
-    ),
-];
-
-fn span_rows() -> &'static [SpanRow] {
-    &SPAN_ROWS
 }
 
 fn upper_left(state: u8) -> Standing {
