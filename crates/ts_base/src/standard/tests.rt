@@ -1,8 +1,9 @@
 //! What no clause can say, since a reader and a writer tell nothing of their errors: each call makes one call inside
-//! and ends as that one did, whatever the size of the piece.
+//! and ends as that one did, whatever the size of the piece. Nor does a clause count the reads that give nothing:
+//! whoever reads to the end comes there once.
 
 use super::{StdIn, StdOut};
-use crate::{Failed, Sink, Source};
+use crate::{Failed, ReadStop, Sink, Source, read_all};
 use std::alloc::{AllocError, Global};
 use std::io::{self, ErrorKind, Read, Write};
 use std::test::Fail;
@@ -94,5 +95,47 @@ fn one_call_inside(rt: HostRuntime) -> Result<(), Fail> {
         ),
         (2, 1, false)
     );
+    Ok(())
+}
+
+/// Gives two bytes a call, so many times, and then the end once: a call behind the end fails.
+#[derive(Drop)]
+struct Terminal {
+    pieces: u64,
+    calls: u64,
+}
+
+impl Read for Terminal {
+    fn read(&mut self, buf: &mut [u8]) -> io::Result<usize> {
+        self.calls = self.calls.saturating_add(1);
+        if self.calls <= self.pieces {
+            return Ok(buf.len().min(2));
+        }
+        if self.calls - self.pieces == 1 {
+            return Ok(0);
+        }
+        Err(ErrorKind::Other.into())
+    }
+}
+
+#[test]
+fn nothing_is_read_behind_the_end(rt: HostRuntime) -> Result<(), Fail> {
+    for (pieces, limit, taken, calls) in [
+        (0, 0, Ok(0), 1),
+        (0, 9, Ok(0), 1),
+        (3, 6, Ok(6), 4),
+        (3, 9, Ok(6), 4),
+        (3, 5, Err(ReadStop::TooLong), 3),
+        (3, 0, Err(ReadStop::TooLong), 1),
+    ] {
+        let mut input = StdIn::new(Terminal { pieces, calls: 0 });
+        let got = read_all(rt.alloc(), &mut input, limit);
+        assert_eq!(rt; got.map(|bytes| bytes.len()), taken, "{pieces} {limit}");
+        assert_eq!(rt;
+            (input.inner.calls, input.faults),
+            (calls, 0),
+            "{pieces} {limit}"
+        );
+    }
     Ok(())
 }
