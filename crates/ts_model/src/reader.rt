@@ -1,8 +1,9 @@
 //! The model of a text that comes line by line.
 
-ghost use Rattle.std.specs.Prelude.{ℕ, ◌≡◌, ◌≢◌, List, [], vec_len, IfOk, OnErr, OnOk, Err};
+ghost use Rattle.std.specs.Prelude.{ℕ, ◌≡◌, ◌≢◌, ◌<◌, List, [], true};
+ghost use Rattle.std.specs.Prelude.{length, vec_len, IfOk, OnErr, OnOk, Err};
 ghost use Rattle.ts_token.specs.Gist.{bare};
-ghost use Rattle.ts_token.specs.Text.{cut_of};
+ghost use Rattle.ts_token.specs.Text.{cut_of, is_text};
 ghost use Rattle.ts_model.specs.declared.error.ModelStop.TheVariants.{Memory as ModelMemory};
 ghost use Rattle.ts_model.specs.declared.model.Need.{Need};
 ghost use Rattle.ts_model.specs.declared.reader.State.TheVariants.{Stopped};
@@ -52,7 +53,9 @@ impl Progress {
     /// Takes the next line.
     fn take(&mut self, line: &[u8]) -> Result<(), ModelStop>
         requires { IsFit self.old }
-        ensures { TakesLine self.old (bare line.now) result self.new }
+        ensures taken { TakesLine self.old (bare line.now) result self.new }
+        ensures text { result ≡ Err ModelMemory → length line.now < 4000000000 → self.old.count < 3999999999 →
+            is_text (bare line.now) ≡ true }
     {
         if line.len() >= TOO_MANY as usize || self.count >= TOO_MANY - 1 {
             return Err(ModelStop::Memory);
@@ -167,14 +170,18 @@ impl ModelReader {
         })
     }
 
-    /// Reads the next line: given with its LF, which the last line may lack, or as bytes that stand for it. Each line
-    /// after `Memory`, and the end, is answered `Memory`; it comes too where a line has 4,000,000,000 bytes, and for a
-    /// line behind 3,999,999,999 others.
+    /// Reads the next line: given with its LF, which the last line may lack, or as bytes that stand for it. No bytes
+    /// are no line, and change nothing. Each line after `Memory`, and the end, is answered `Memory`; it comes too where
+    /// a line has 4,000,000,000 bytes, and for a line behind 3,999,999,999 others.
     pub fn line(&mut self, line: &[u8]) -> Result<(), Memory>
         ensures read { OnOk result (ReadsLine self.old line.now self.new) }
+        ensures none { line.now ≡ [] → self.new ≡ self.old }
         ensures wanted { OnErr result (self.new ≡ Err ModelMemory) }
         ensures calm { OnOk result ((self.old ≢ Err ModelMemory) × (self.new ≢ Err ModelMemory)) }
     {
+        if line.is_empty() {
+            return self.state.answer();
+        }
         self.state.take(line);
         self.state.answer()
     }

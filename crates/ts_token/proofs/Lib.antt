@@ -9,6 +9,7 @@ mod SliceLaws
 mod Heads
 mod Drops
 mod PlaceLaws
+mod KeptSizes
 pub mod GistLaws
 mod ShortLaws
 pub mod NumberTexts

@@ -7,15 +7,20 @@ use Rattle.ts_token.specs.declared.short.Place.{Place}
 use Rattle.ts_token.specs.declared.short.ShortLine.{ShortLine}
 use Rattle.ts_token.specs.Gist.{gist, gists, StandsFor}
 use Rattle.ts_token.specs.Halves.{is_separator}
-use Rattle.ts_token.specs.Places.{place_after, IsAt}
-use Rattle.ts_token.specs.Short.{IsShort, TakesFirst, TakesIn}
+use Rattle.ts_token.specs.Places.{place_after, IsAt, IsSmallAt}
+use Rattle.ts_token.specs.Short.{IsShort, TakesFirst, TakesIn, most_of}
 use Rattle.ts_token.specs.Text.{lines_of}
 use Rattle.ts_token.proofs.GistLaws.{some_lines, same_separator}
+use Rattle.ts_token.proofs.KeptSizes.{few_kept, small_kept, small_left}
 use Rattle.ts_token.proofs.PlaceLaws.{next_place, left_out}
 
 pub stands_now : (line given : List ℕ) (s : ShortLine) → given ≡ s.kept.items → IsShort line s → StandsFor given line
 stands_now line given s is short =
     ap gists is ∙ ap gists (sym (append-nil s.kept.items)) ∙ short.stands [] ∙ ap gists (append-nil line)
+
+pub few_now : (line given : List ℕ) (s : ShortLine) → given ≡ s.kept.items → IsShort line s → length given ≤ most_of line
+few_now line given s is short =
+    subst (λ (x : List ℕ). length x ≤ most_of line) (sym is) (few_kept s.place line s.kept.items short.place short.small)
 
 -- one byte more is kept
 pub keeps : (old new : ShortLine) (b : ℕ) (place : Place) → new.kept.items ≡ old.kept.items ++ b ∷ [] → new.place ≡ place →
@@ -26,6 +31,8 @@ keeps old new b place kept place_is after room line short = record {
       ∙ ap gists (sym (append_assoc line (b ∷ []) more));
   place = subst (λ (k : List ℕ). IsAt new.place k) (sym kept)
       (subst (λ (p : Place). IsAt p (old.kept.items ++ b ∷ [])) (sym place_is) (next_place old.place place old.kept.items b short.place after));
+  small = subst (λ (p : Place). IsSmallAt p (line ++ b ∷ []) (length new.kept.items)) (sym place_is)
+      (small_kept old.place place line old.kept.items new.kept.items b short.place short.small after kept);
   few = omega (arith, ap length kept, length-append old.kept.items (b ∷ []), room);
 }
 
@@ -35,6 +42,7 @@ leaves_out old b none line short = record {
   stands = λ more.
       left_out old.place old.kept.items b short.place none more ∙ short.stands (b ∷ more) ∙ ap gists (sym (append_assoc line (b ∷ []) more));
   place = short.place;
+  small = small_left old.place line old.kept.items b short.place short.small none;
   few = short.few;
 }
 
@@ -44,6 +52,9 @@ as_before old new kept place line short = record {
   stands = λ more.
       ap (λ (x : List ℕ). gists (x ++ more)) kept ∙ short.stands more ∙ ap (λ (x : List ℕ). gists (x ++ more)) (sym (append-nil line));
   place = subst (λ (k : List ℕ). IsAt new.place k) (sym kept) (subst (λ (p : Place). IsAt p old.kept.items) (sym place) short.place);
+  small = subst (λ (k : List ℕ). IsSmallAt new.place (line ++ []) (length k)) (sym kept)
+      (subst (λ (p : Place). IsSmallAt p (line ++ []) (length old.kept.items)) (sym place)
+      (subst (λ (x : List ℕ). IsSmallAt old.place x (length old.kept.items)) (sym (append-nil line)) short.small));
   few = omega (arith, ap length kept, short.few);
 }
 

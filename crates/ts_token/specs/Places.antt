@@ -1,12 +1,12 @@
 -- Where the bytes of a line lead, and which of them add nothing.
-use Rattle.std.specs.Prelude.{ℕ, ◌≡◌, ◌+◌, ◌≤◌, ◌==◌, not, ◌++◌, Bool, true, false, List, [], ◌∷◌, length, nat_lt, if◌then◌else◌, Option, Some, None}
+use Rattle.std.specs.Prelude.{ℕ, ◌≡◌, ◌+◌, ◌*◌, ◌≤◌, ◌==◌, not, ◌++◌, Bool, true, false, List, [], ◌∷◌, length, nat_lt, if◌then◌else◌, Option, Some, None}
 use Rattle.std.specs.List.{list_all}
 use Rattle.ts_base.specs.Words.{is_lf}
 use Rattle.ts_token.specs.declared.short.Place.{Place}
 use Rattle.ts_token.specs.declared.short.Place.TheVariants.{Start, Margin, Blank, Word, Comment, Return, NotText, Ended}
 use Rattle.ts_token.specs.Gist.{most_kept}
 use Rattle.ts_token.specs.Steps.{is_solid, without_cr}
-use Rattle.ts_token.specs.Text.{is_blank, is_plain, is_text}
+use Rattle.ts_token.specs.Text.{is_blank, is_plain, is_text, words_of}
 
 -- behind a blank; None where it adds nothing
 abbrev pub blank_place : Place → Option Place
@@ -81,3 +81,21 @@ IsAt Comment bytes = (is_text bytes ≡ true) × (is_comment bytes ≡ true)
 IsAt Return bytes = (list_all (λ b. not (is_lf b)) bytes ≡ true) × (is_text bytes ≡ false)
 IsAt NotText bytes = (list_all (λ b. not (is_lf b)) bytes ≡ true) × (is_text (without_cr bytes) ≡ false)
 IsAt Ended bytes = Unit {0}
+
+-- of bytes with an LF so few are kept: 65 a word, a few more, and all behind the LF
+pub record IsSmallEnded (line : List ℕ) (kept : ℕ) : Type 0 where
+  pub front : List ℕ
+  pub rest : List ℕ
+  pub parts : line ≡ front ++ 10 ∷ rest
+  pub few : kept ≤ 65 * length (words_of line) + 4 + length rest
+
+-- of bytes that have led here so few are kept: 64 of a word with a blank before it, and a few more
+abbrev pub IsSmallAt : Place → List ℕ → ℕ → Type 0
+IsSmallAt Start line kept = line ≡ []
+IsSmallAt Margin line kept = EndsBlank line × (kept ≤ 1)
+IsSmallAt Blank line kept = EndsBlank line × (kept ≤ 65 * length (words_of line) + 1)
+IsSmallAt (Word count) line kept = (count ≤ most_kept) × (kept + most_kept ≤ 65 * length (words_of line) + count)
+IsSmallAt Comment line kept = kept ≤ 65 * length (words_of line)
+IsSmallAt Return line kept = kept ≤ 65 * length (words_of line) + 2
+IsSmallAt NotText line kept = kept ≤ 65 * length (words_of line) + 3
+IsSmallAt Ended line kept = IsSmallEnded line kept

@@ -1,6 +1,6 @@
 //! What a single line holds.
 
-ghost use Rattle.std.specs.Prelude.{◌≡◌, ◌<◌, length, IfOk};
+ghost use Rattle.std.specs.Prelude.{◌≡◌, ◌<◌, true, length, IfOk, OnErr};
 ghost use Rattle.ts_token.specs.Gist.{bare};
 ghost use Rattle.ts_token.specs.Text.{is_plain, is_text, is_skipped};
 ghost use Rattle.ts_token.specs.Views.{pieces};
@@ -47,7 +47,8 @@ fn is_skipped(words: &[Word]) -> bool
 /// What a line without its end holds.
 pub(crate) fn content_of<'a>(alloc: Global, line: &'a [u8]) -> Result<Content<'a>, Memory>
     requires { length line.now < 4000000000 }
-    ensures { IfOk result (λ content. Holds content line.now) }
+    ensures holds { IfOk result (λ content. Holds content line.now) }
+    ensures text { OnErr result (is_text line.now ≡ true) }
 {
     if !is_text(line) {
         return Ok(Content::NotText);
@@ -59,10 +60,12 @@ pub(crate) fn content_of<'a>(alloc: Global, line: &'a [u8]) -> Result<Content<'a
     Ok(Content::Words(words))
 }
 
-/// What a line of fewer than 4,000,000,000 bytes holds; it is given with its LF, which a last line may lack.
+/// What a line of fewer than 4,000,000,000 bytes holds; it is given with its LF, which a last line may lack. A line
+/// that isn't text takes no memory.
 pub fn line_content<'a>(alloc: Global, line: &'a [u8]) -> Result<Content<'a>, Memory>
     requires { length line.now < 4000000000 }
-    ensures { IfOk result (λ content. Holds content (bare line.now)) }
+    ensures holds { IfOk result (λ content. Holds content (bare line.now)) }
+    ensures text { OnErr result (is_text (bare line.now) ≡ true) }
 {
     if line.is_empty() {
         return content_of(alloc, line);

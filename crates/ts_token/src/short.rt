@@ -1,10 +1,10 @@
 //! A line without the bytes that its reader can't ask for.
 
-ghost use Rattle.std.specs.Prelude.{ℕ, ◌≡◌, ◌<◌, List, [], ◌∷◌, true, false, length, OnErr, OnOk};
+ghost use Rattle.std.specs.Prelude.{ℕ, ◌≡◌, ◌<◌, ◌≤◌, List, [], ◌∷◌, true, false, length, OnErr, OnOk};
 ghost use Rattle.ts_token.specs.Gist.{StandsFor};
 ghost use Rattle.ts_token.specs.Halves.{is_separator};
 ghost use Rattle.ts_token.specs.Places.{blank_place, solid_place, text_place, place_after};
-ghost use Rattle.ts_token.specs.Short.{IsShort, TakesFirst, TakesIn};
+ghost use Rattle.ts_token.specs.Short.{IsShort, TakesFirst, TakesIn, most_of};
 
 use crate::content::is_plain;
 use crate::parts;
@@ -141,7 +141,8 @@ impl ShortLine {
 
     /// What is kept, with the end of the line where that came.
     pub fn bytes(&self) -> &[u8]
-        ensures { (line : List ℕ) → IsShort line self.now → StandsFor result.now line }
+        ensures stands { (line : List ℕ) → IsShort line self.now → StandsFor result.now line }
+        ensures few { (line : List ℕ) → IsShort line self.now → length result.now ≤ most_of line }
     {
         &self.kept
     }

@@ -7,5 +7,5 @@ pub returns-in-Some : goal.returns-in-Some
 returns-in-Some c =
     on_ok_weaker c.line.result
     (next_read c.args.self.now (record c.args.self.now { reader = Some c.line.new.self }) _ c.line.new.self c.bytes.result.now c.in-Some.is refl
-    c.bytes.ensures)
+    c.bytes.ensures.stands)
     c.line.ensures.read

@@ -7,11 +7,11 @@ use Rattle.ts_model.specs.Views.{drafted}
 use Rattle.ts_model.proofs.ReaderLaws.{took_words, stopped_words}
 use Rattle.ts_model.proofs.reader.Progress.take.Goals as goal
 
-pub returns-in-Ok : goal.returns-in-Ok
-returns-in-Ok c =
+pub returns-in-Ok-clause-taken : goal.returns-in-Ok-clause-taken
+returns-in-Ok-clause-taken c =
     let old = c.args.self.now in
     let line = bare c.args.line.now in
-    let holds = subst (λ (h : Content). Holds h line) c.in-Words.is c.in_ok-line_content.ensures in
+    let holds = subst (λ (h : Content). Holds h line) c.in-Words.is c.in_ok-line_content.ensures.holds in
     let follows = c.in-Ok.ensures.follows in
     record {
       fit = record {
@@ -27,11 +27,11 @@ returns-in-Ok c =
           holds.0 holds.1 (ap pieces c.deref.ensures.value ∙ holds.2) c.requires.limited c.in-Ok.ensures.taken;
     }
 
-pub returns : goal.returns
-returns c =
+pub returns-clause-taken : goal.returns-clause-taken
+returns-clause-taken c =
     let old = c.args.self.now in
     let line = bare c.args.line.now in
-    let holds = subst (λ (h : Content). Holds h line) c.in-Words.is c.in_ok-line_content.ensures in
+    let holds = subst (λ (h : Content). Holds h line) c.in-Words.is c.in_ok-line_content.ensures.holds in
     stopped_words old (record { alloc = old.alloc; need = old.need; count = old.count + 1; draft = c.read_line.new.self }) line c.deref.result.now c.in-Err.stop
     c.at_line.result (drafted c.read_line.new.self) c.at_line.ensures holds.0 holds.1 (ap pieces c.deref.ensures.value ∙ holds.2) c.requires
     c.in-Err.ensures.taken
