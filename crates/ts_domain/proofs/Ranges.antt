@@ -16,11 +16,6 @@ values-append [] ys = refl
 values-append (r ∷ rs) ys = ap (λ l. values_between r.low r.high ++ l) (values-append rs ys)
     ∙ sym (append_assoc (values_between r.low r.high) (values_of rs) (values_of ys))
 
-pub from_earlier : (f g : ℤ) (rs : List Interval) → f ≤ℤ g → RangesFrom g rs → RangesFrom f rs
-unfolding RangesFrom
-from_earlier f g [] h a = tt
-from_earlier f g (r ∷ rs) h a = (omega (arith, ints, h, a.0), a.1, a.2, a.3)
-
 -- a number is one of the values exactly where some range has it
 pub value_in_some : (f : ℤ) (rs : List Interval) (v : ℤ) → RangesFrom f rs → Contains (values_of rs) v → InSome rs v
 unfolding RangesFrom values_of InSome
