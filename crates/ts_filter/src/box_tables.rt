@@ -1,4 +1,5 @@
 //! The hulls of a machine that are known of a box while the box changes.
+//! What is asked of them stands in `at_cell`, `first_cell`, `drops` and `kept`.
 
 ghost use Rattle.std.specs.Prelude.{◌≡◌, ◌↔◌, ◌<◌, ◌≤◌, ◌-◌, [], IsTrue, MatchOption, OnOk, None, length, take};
 ghost use Rattle.ts_bound.specs.TermSpans.{automata_of};
