@@ -15,6 +15,7 @@ use Rattle.ts_model.specs.declared.error.ModelKind.{ModelKind}
 use Rattle.ts_model.specs.declared.model.Need.TheVariants.{List as Listed}
 use Rattle.ts_model.specs.ModelReading.{model_reading}
 use Rattle.ts_model.specs.Stated.{Stated}
+use Rattle.ts_filter.proofs.LineLaws.{fails_once}
 use Rattle.ts_filter.specs.Lines.{FailsAt, Found, Leads, Stand, first_stand, stand_after}
 use Rattle.ts_filter.specs.RefutedWorseDrop.{Spans}
 use Rattle.ts_spans.specs.Machines.{spans_in}
@@ -87,15 +88,6 @@ same_lines (l ∷ ls) (k ∷ ks) e =
     ap (λ (z : CertLine). z ∷ ls) each.0 ∙ ap (λ (z : List CertLine). k ∷ z) (same_lines ls ks each.1)
 
 module _ (m : Stated) (s : Spans) where
-  fails_once : (t : Stand) (ls : List CertLine) (k n : ℕ) → FailsAt m s t ls k → FailsAt m s t ls n → k ≡ n
-  fails_once t [] k n p q = absurd p
-  fails_once t (l ∷ ls) zero n p q = absurd p
-  fails_once t (l ∷ ls) (suc k) zero p q = absurd q
-  fails_once t (l ∷ ls) (suc zero) (suc zero) p q = refl
-  fails_once t (l ∷ ls) (suc zero) (suc (suc n)) p q = absurd (p q.0)
-  fails_once t (l ∷ ls) (suc (suc k)) (suc zero) p q = absurd (q p.0)
-  fails_once t (l ∷ ls) (suc (suc k)) (suc (suc n)) p q = ap suc (fails_once (stand_after t l) ls (suc k) (suc n) p.1 q.1)
-
   fails_or_leads : (t u : Stand) (ls : List CertLine) (n : ℕ) → FailsAt m s t ls n → Leads m s t ls u → ⊥
   fails_or_leads t u [] n p r = p
   fails_or_leads t u (l ∷ ls) zero p r = p
@@ -106,7 +98,7 @@ module _ (m : Stated) (s : Spans) where
   found_once ls t u None None p q = refl
   found_once ls t u None (Some n) p q = absurd (fails_or_leads (first_stand m) t ls n q p)
   found_once ls t u (Some n) None p q = absurd (fails_or_leads (first_stand m) u ls n p q)
-  found_once ls t u (Some k) (Some n) p q = ap (λ (z : ℕ). Some z) (fails_once (first_stand m) ls k n p q)
+  found_once ls t u (Some k) (Some n) p q = ap (λ (z : ℕ). Some z) (fails_once m s (first_stand m) ls k n p q)
 
 -- one first line that breaks its rule
 

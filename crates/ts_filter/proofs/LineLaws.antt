@@ -26,7 +26,7 @@ module _ (m : Stated) (s : Spans) where
   leads_middle t v [] ms r = (t, refl, r)
   leads_middle t v (l ∷ ls) ms r = let k = leads_middle (stand_after t l) v ls ms r.1 in (k.0, (r.0, k.1), k.2)
 
-  fails_once : (t : Stand) (ls : List CertLine) (k n : ℕ) → FailsAt m s t ls k → FailsAt m s t ls n → k ≡ n
+  pub fails_once : (t : Stand) (ls : List CertLine) (k n : ℕ) → FailsAt m s t ls k → FailsAt m s t ls n → k ≡ n
   fails_once t [] k n p q = absurd p
   fails_once t (l ∷ ls) zero n p q = absurd p
   fails_once t (l ∷ ls) (suc k) zero p q = absurd q
