@@ -27,7 +27,7 @@ use Rattle.ts_checker.specs.declared.verdict.Verdict.{Verdict}
 use Rattle.ts_checker.specs.declared.verdict.Verdict.TheVariants.{Accepted}
 use Rattle.ts_checker.specs.Checking.{Checking, HasChecked, Takes, unfed}
 use Rattle.ts_checker.specs.Feeding.{HasJudged, HasRead, IsFinished, IsPart, IsUnfinished, JudgesLine, Reads, last_line, refused_now}
-use Rattle.ts_checker.specs.Shortened.{Extends, IsKeptOf}
+use Rattle.ts_checker.specs.Shortened.{Extends, IsKeptOf, IsSmall}
 use Rattle.ts_checker.specs.Verdicts.{IsTrueOf, IsVerdict, stop_line}
 use Rattle.ts_checker.specs.Verified.{FailsBy, FailsFirst, IsShownBy, ended_lines, is_ended}
 use Rattle.ts_checker.proofs.KeptLines.{last_for, line_for, none_kept_of, some_kept_of, stopped_for}
@@ -102,6 +102,9 @@ module _ (r : Reading) (text : List ℕ) where
 
 -- before the first byte
 
+none_small : (kept : List ℕ) → kept ≡ [] → IsSmall kept
+none_small kept empty = let size = ap length empty in omega (arith, size)
+
 pub none_judged : (m : Stated) (j : Judging) → j.checker ≡ unfed m → j.refused ≡ None → j.line.bytes.items ≡ [] → length m.cells ≤ 512 →
     HasChecked [] j.checker → HasRead [] j
 none_judged m j is none empty few h = record {
@@ -118,6 +121,8 @@ none_judged m j is none empty few h = record {
     few = subst (λ (z : Checking). length z.model.cells ≤ 512) (sym is) few;
   };
   kept = λ e. inl empty;
+  small = none_small j.line.bytes.items empty;
+  dropped = λ e. empty;
 }
 
 -- one line more
@@ -160,8 +165,9 @@ more_unjudged texts j n text is h =
 -- more bytes of a line
 
 module _ (bytes part : List ℕ) (old new : Judging) (h : HasRead bytes old) where
-  goes_on : IsUnfinished part → HasJudged h.texts new → (new.refused ≡ None → IsKeptOf new.line.bytes.items (h.line ++ part)) → HasRead (bytes ++ part) new
-  goes_on free judged kept = record {
+  goes_on : IsUnfinished part → HasJudged h.texts new → (new.refused ≡ None → IsKeptOf new.line.bytes.items (h.line ++ part)) →
+      IsSmall new.line.bytes.items → (is_some new.refused ≡ true → new.line.bytes.items ≡ []) → HasRead (bytes ++ part) new
+  goes_on free judged kept small dropped = record {
     seen = h.seen;
     texts = h.texts;
     line = h.line ++ part;
@@ -171,10 +177,11 @@ module _ (bytes part : List ℕ) (old new : Judging) (h : HasRead bytes old) whe
     free = joins h.line part h.free free;
     judged = judged;
     kept = kept;
+    small = small;
+    dropped = dropped;
   }
 
-  ends : IsFinished (h.line ++ part) → HasJudged (h.texts ++ (h.line ++ part) ∷ []) new → (new.refused ≡ None → new.line.bytes.items ≡ []) →
-      HasRead (bytes ++ part) new
+  ends : IsFinished (h.line ++ part) → HasJudged (h.texts ++ (h.line ++ part) ∷ []) new → new.line.bytes.items ≡ [] → HasRead (bytes ++ part) new
   ends whole judged empty =
       let line = h.line ++ part in
       record {
@@ -188,7 +195,9 @@ module _ (bytes part : List ℕ) (old new : Judging) (h : HasRead bytes old) whe
         ended = ended_more h.texts line h.ended whole;
         free = refl;
         judged = judged;
-        kept = λ e. inl (empty e);
+        kept = λ e. inl empty;
+        small = none_small new.line.bytes.items empty;
+        dropped = λ e. empty;
       }
 
 -- nothing more is kept once a line was refused
@@ -199,9 +208,10 @@ refusal_stands j part n is whole = λ bytes h. by bytes h (without_lf part) refl
     never e = absurd (let wrong : ◌≡◌ {A = Option ℕ} None (Some n) = sym e ∙ is in cc)
 
     by : (bytes : List ℕ) (h : HasRead bytes j) (o : Option (List ℕ)) → without_lf part ≡ o → HasRead (bytes ++ part) j
-    by bytes h None e = goes_on bytes part j j h (part_open part e whole) h.judged (λ k. never k)
+    by bytes h None e = goes_on bytes part j j h (part_open part e whole) h.judged (λ k. never k) h.small h.dropped
     by bytes h (Some bare) e =
-        ends bytes part j j h (part_ends h.line part bare h.free e whole) (more_unjudged h.texts j n (h.line ++ part) is h.judged) (λ k. never k)
+        ends bytes part j j h (part_ends h.line part bare h.free e whole) (more_unjudged h.texts j n (h.line ++ part) is h.judged)
+        (h.dropped (ap (λ (o : Option ℕ). is_some o) is))
 
 some_told : (o : Option ℕ) → is_some o ≡ true → (n : ℕ) × (o ≡ Some n)
 some_told None e = cc
@@ -211,9 +221,9 @@ pub some_stands : (j : Judging) (part : List ℕ) → is_some j.refused ≡ true
 some_stands j part some whole = let told = some_told j.refused some in refusal_stands j part told.0 told.1 whole
 
 -- the line goes on
-pub line_open : (old new : Judging) (part : List ℕ) → new.checker ≡ old.checker → new.refused ≡ old.refused → without_lf part ≡ None → IsPart part →
-    Extends old.line.bytes.items part new.line.bytes.items → Reads old part new
-line_open old new part same still none whole more = λ bytes h.
+line_open : (old new : Judging) (part : List ℕ) → new.checker ≡ old.checker → new.refused ≡ old.refused → is_some old.refused ≡ false →
+    without_lf part ≡ None → IsPart part → Extends old.line.bytes.items part new.line.bytes.items → IsSmall new.line.bytes.items → Reads old part new
+line_open old new part same still going none whole more small = λ bytes h.
     goes_on bytes part old new h (part_open part none whole)
     (record {
       checked = subst (HasChecked h.texts) (sym same) h.judged.checked;
@@ -221,6 +231,14 @@ line_open old new part same still none whole more = λ bytes h.
       few = subst (λ (z : Checking). length z.model.cells ≤ 512) (sym same) h.judged.few;
     })
     (λ e. more h.line (h.kept (sym still ∙ e)))
+    small
+    (λ some. let wrong : true ≡ false = sym some ∙ ap (λ (o : Option ℕ). is_some o) still ∙ going in cc)
+
+pub open_ok : (given : Result (Unit {0}) NoMemory) (old new : Judging) (part : List ℕ) → new.checker ≡ old.checker → new.refused ≡ old.refused →
+    is_some old.refused ≡ false → without_lf part ≡ None → IsPart part → OnOk given (Extends old.line.bytes.items part new.line.bytes.items) →
+    OnOk given (IsSmall new.line.bytes.items) → OnOk given (Reads old part new)
+open_ok (Ok u) old new part same still going none whole more small = line_open old new part same still going none whole more small
+open_ok (Err e) old new part same still going none whole more small = tt
 
 -- the line has its LF
 pub line_closed : (old mid new : Judging) (part bare : List ℕ) → mid.checker ≡ old.checker → mid.refused ≡ old.refused → old.refused ≡ None →
@@ -238,7 +256,7 @@ line_closed old mid new part bare same still none some whole more judges empty =
       few = subst (λ (z : Checking). length z.model.cells ≤ 512) (sym same) h.judged.few;
     })
     (more h.line (h.kept none))))
-    (λ e. empty)
+    empty
 
 none_refused : (o : Option ℕ) → is_some o ≡ false → o ≡ None
 none_refused None e = refl

@@ -16,7 +16,7 @@ use Rattle.ts_certificate.specs.HeadLines.{onto_values, some_values, values_of}
 use Rattle.ts_certificate.specs.LineOf.{as_line, line_if, line_of_words}
 use Rattle.ts_certificate.specs.Ranges.{value_of}
 use Rattle.ts_certificate.specs.Reading.{WantsSeries, tree_lines}
-use Rattle.ts_checker.specs.Shortened.{AreAlike, Shortens, open_behind, open_number, open_word, series_of_zeros, zeros}
+use Rattle.ts_checker.specs.Shortened.{AreAlike, IsSmall, Shortens, open_behind, open_number, open_word, series_of_zeros, zeros}
 use Rattle.ts_checker.proofs.LineSizes.{long_refused, value_short}
 
 -- the words of bytes that are joined: the last of the first bytes goes on
@@ -84,6 +84,7 @@ record IsOpen (f : List ℕ) (vs : List (List ℕ)) (last : List ℕ) : Type 0 w
   many : length values ≡ length vs
   short : length (behind (f ∷ vs)) ≤ 9 * length vs + 9
   is_last : last_of f vs ≡ last
+  last_short : length last ≤ 8
   reads : (w : Words) → values_of (all_words (glued f vs w)) ≡ ahead values (values_of ((last ++ w.first) ∷ w.more))
 
 open_last : (f last : List ℕ) (t : Bool) → nat_le (length f) 8 ≡ t → cond t (Some f) None ≡ Some last → IsOpen f [] last
@@ -97,6 +98,7 @@ open_last f last true e h =
       many = refl;
       short = omega (arith, size, few);
       is_last = same;
+      last_short = subst (λ (x : List ℕ). length x ≤ 8) same few;
       reads = λ w. none_ahead (values_of ((f ++ w.first) ∷ w.more)) ∙ ap (λ (x : List ℕ). ahead [] (values_of ((x ++ w.first) ∷ w.more))) same;
     }
 
@@ -110,6 +112,7 @@ open_more f v last vs x is o =
       many = ap suc o.many;
       short = omega (arith, size, few, rest);
       is_last = o.is_last;
+      last_short = o.last_short;
       reads = λ w.
           ap (λ y. onto_values y (values_of (all_words (glued v vs w)))) is ∙ ap (onto_values (Some x)) (o.reads w)
           ∙ one_ahead x o.values (values_of ((last ++ w.first) ∷ w.more));
@@ -365,3 +368,32 @@ zeros_more n old new is more =
   where
     next : (n : ℕ) → suc n ≡ n + 1
     next n = omega arith
+
+-- few bytes
+
+zeros_size : (n : ℕ) → length (zeros n) ≡ n + n
+zeros_size zero = refl
+zeros_size (suc n) = let size = zeros_size n in omega (arith, size)
+
+number_size : (w : Words) (last : List ℕ) → open_number w ≡ Some last → length last ≤ 8
+number_size w last h = go (bytes_eq w.first (codes "series")) w.more h
+  where
+    go : (t : Bool) (ws : List (List ℕ)) → cond t (open_behind ws) None ≡ Some last → length last ≤ 8
+    go false ws k = cc
+    go true [] k = cc
+    go true (v ∷ vs) k = (open_only v vs last k).last_short
+
+pub series_small : (w : Words) (last old new : List ℕ) (n : ℕ) → n < 514 → open_number w ≡ Some last → old ≡ series_of_zeros n → new ≡ old ++ last →
+    IsSmall new
+series_small w last old new n few some zeroed is =
+    let all = ap length is in
+    let parts = length-append old last in
+    let front = ap length zeroed in
+    let words = length-append (codes "series ") (zeros n) in
+    let size = zeros_size n in
+    let short = number_size w last some in
+    omega (arith, all, parts, front, words, size, short, few)
+
+pub mark_small : (old new : List ℕ) → old ≡ [] → new ≡ old ++ 63 ∷ [] → IsSmall new
+mark_small old new empty is =
+    let all = ap length (is ∙ ap (λ (x : List ℕ). x ++ 63 ∷ []) empty) in omega (arith, all)

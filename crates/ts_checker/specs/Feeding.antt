@@ -1,6 +1,6 @@
 -- An input of `verify` as far as it was fed: what is kept of the bytes, and what is known of it.
 use Rattle.std.specs.Prelude.{◌≡◌, ℕ, ◌==◌, ◌≤◌, Bool, true, false, not, List, [], ◌∷◌, ◌++◌, filter, length}
-use Rattle.std.specs.Prelude.{if◌then◌else◌, Option, Some, None, MatchOption, Result, Ok, Err}
+use Rattle.std.specs.Prelude.{if◌then◌else◌, Option, Some, None, is_some, MatchOption, Result, Ok, Err}
 use Rattle.std.specs.Option.{option_map}
 use Rattle.std.specs.List.{list_all}
 use Rattle.ts_base.specs.Limits.{most_cells}
@@ -22,7 +22,7 @@ use Rattle.ts_checker.specs.declared.opened.Opened.TheVariants.{Refused, Judging
 use Rattle.ts_checker.specs.declared.verify_end.VerifyEnd.{VerifyEnd}
 use Rattle.ts_checker.specs.declared.verify_end.VerifyEnd.TheVariants.{Model, Verdict}
 use Rattle.ts_checker.specs.Checking.{HasChecked}
-use Rattle.ts_checker.specs.Shortened.{IsKeptOf}
+use Rattle.ts_checker.specs.Shortened.{IsKeptOf, IsSmall}
 use Rattle.ts_checker.specs.Verdicts.{stop_line}
 use Rattle.ts_checker.specs.Verified.{FailsFirst, IsShownBy, ended_lines, is_ended, model_part}
 
@@ -60,7 +60,7 @@ abbrev pub AreWhole : List ℕ → List (List ℕ) → Type 0
 AreWhole seen texts = (more : List ℕ) → strict_lines (seen ++ more) ≡ texts ++ strict_lines more
 
 -- these bytes of a certificate are lines that were judged and the unfinished line, which what is kept stands for
--- unless a line was refused
+-- unless a line was refused: then nothing is kept
 pub record HasRead (bytes : List ℕ) (j : AtWork) : Type 0 where
   pub seen : List ℕ
   pub texts : List (List ℕ)
@@ -71,6 +71,8 @@ pub record HasRead (bytes : List ℕ) (j : AtWork) : Type 0 where
   pub free : IsUnfinished line
   pub judged : HasJudged texts j
   pub kept : j.refused ≡ None → IsKeptOf j.line.bytes.items line
+  pub small : IsSmall j.line.bytes.items
+  pub dropped : is_some j.refused ≡ true → j.line.bytes.items ≡ []
 
 -- whatever bytes of the certificate came before, these have come too
 abbrev pub Reads : AtWork → List ℕ → AtWork → Type 0

@@ -1,6 +1,6 @@
 -- The unfinished line of a certificate, and the few bytes that may be kept in its place.
-use Rattle.std.specs.Prelude.{◌≡◌, ◌⊎◌, ◌<◌, ◌^◌, ℕ, zero, suc, codes, ℤ, List, [], ◌∷◌, ◌++◌, length, if◌then◌else◌}
-use Rattle.std.specs.Prelude.{nat_le, is_some, Option, Some, None, Result, Ok, Err}
+use Rattle.std.specs.Prelude.{◌≡◌, ◌⊎◌, ◌<◌, ◌≤◌, ◌^◌, ℕ, zero, suc, codes, ℤ, List, [], ◌∷◌, ◌++◌, length}
+use Rattle.std.specs.Prelude.{if◌then◌else◌, nat_le, is_some, Option, Some, None, Result, Ok, Err}
 use Rattle.std.specs.Str.{bytes_eq}
 use Rattle.ts_base.specs.Limits.{most_cells}
 use Rattle.ts_base.specs.Words.{Words, words_of}
@@ -39,6 +39,10 @@ pub record Shortens (line kept : List ℕ) : Type 0 where
 -- these bytes are kept of an unfinished line: all, or few that are judged as they are
 abbrev pub IsKeptOf : List ℕ → List ℕ → Type 0
 IsKeptOf kept line = (kept ≡ line) ⊎ Shortens line kept
+
+-- no more bytes than the longest line that is kept whole
+abbrev pub IsSmall : List ℕ → Type 0
+IsSmall kept = length kept ≤ 4615
 
 -- more bytes of the line
 abbrev pub Extends : List ℕ → List ℕ → List ℕ → Type 0

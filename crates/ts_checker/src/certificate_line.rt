@@ -4,7 +4,8 @@ ghost use Rattle.std.specs.Prelude.{◌≡◌, ◌++◌, ◌<◌, ◌==◌, [], 
 ghost use Rattle.std.specs.Prelude.{is_some, length};
 ghost use Rattle.ts_base.specs.Words.{all_words, words_of};
 ghost use Rattle.ts_certificate.specs.Ranges.{value_of};
-ghost use Rattle.ts_checker.specs.Shortened.{Extends, Shortens, open_behind, open_number, series_of_zeros, zeros};
+ghost use Rattle.ts_checker.specs.Shortened.{Extends, IsSmall, Shortens, open_behind, open_number, series_of_zeros};
+ghost use Rattle.ts_checker.specs.Shortened.{zeros};
 
 use std::alloc::Global;
 use ts_base::limits::{CELL_VALUE, CELLS};
@@ -38,7 +39,8 @@ impl CertificateLine {
 
     /// Takes more bytes of the line, none of which is its LF.
     pub(crate) fn take(&mut self, part: &[u8]) -> Result<(), Memory>
-        ensures { OnOk result (Extends self.old.bytes.items part.now self.new.bytes.items) }
+        ensures extends { OnOk result (Extends self.old.bytes.items part.now self.new.bytes.items) }
+        ensures small { OnOk result (IsSmall self.new.bytes.items) }
     {
         self.bytes.extend_from_slice(part)?;
         if self.bytes.len() > LONGEST {
@@ -75,7 +77,8 @@ impl CertificateLine {
 /// a byte with which no line begins.
 fn shortened(alloc: Global, line: &[u8]) -> Result<Vec<u8>, Memory>
     requires { 4615 < length line.now }
-    ensures { IfOk result (λ short. Shortens line.now short.items) }
+    ensures shortens { IfOk result (λ short. Shortens line.now short.items) }
+    ensures small { IfOk result (λ short. IsSmall short.items) }
 {
     match open_number(line) {
         Some(open) => {

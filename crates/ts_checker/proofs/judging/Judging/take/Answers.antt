@@ -1,6 +1,5 @@
 use Rattle.std.proofs.Common.{refl, sym, ◌∙◌}
-use Rattle.std.proofs.lemmas.Result.{on_ok_weaker}
-use Rattle.ts_checker.proofs.JudgingLaws.{closed_ok, line_open, some_stands}
+use Rattle.ts_checker.proofs.JudgingLaws.{closed_ok, open_ok, some_stands}
 use Rattle.ts_checker.proofs.judging.Judging.take.Goals as goal
 
 pub returns-then-is_some-clause-read : goal.returns-then-is_some-clause-read
@@ -8,12 +7,11 @@ returns-then-is_some-clause-read c = some_stands c.args.self.now c.args.part.now
 
 pub returns-in-None-clause-read : goal.returns-in-None-clause-read
 returns-in-None-clause-read c =
-    on_ok_weaker c.take.result
-    (line_open c.args.self.now (record c.args.self.now { line = c.take.new.self }) c.args.part.now refl refl c.in-None.ensures c.requires.part)
-    c.take.ensures
+    open_ok c.take.result c.args.self.now (record c.args.self.now { line = c.take.new.self }) c.args.part.now refl refl
+    (sym c.is_some.ensures ∙ c.if-is_some.false) c.in-None.ensures c.requires.part c.take.ensures.extends c.take.ensures.small
 
 pub returns-in_ok-take-in-Some-clause-read : goal.returns-in_ok-take-in-Some-clause-read
 returns-in_ok-take-in-Some-clause-read c =
     let closed = c.end_line.ensures in
     closed_ok c.end_line.result c.args.self.now (record c.args.self.now { line = c.take-in-Some.new.self }) c.end_line.new.self c.args.part.now _ refl refl
-    (sym c.is_some.ensures ∙ c.if-is_some.false) c.in-Some.ensures c.requires.part c.in_ok-take-in-Some.ensures closed.judged closed.cleared
+    (sym c.is_some.ensures ∙ c.if-is_some.false) c.in-Some.ensures c.requires.part c.in_ok-take-in-Some.ensures.extends closed.judged closed.cleared
