@@ -1,26 +1,17 @@
 -- How a call ends that takes its whole input, by what came of reading it.
-use Rattle.std.proofs.Common.{◌≡◌, ℕ, ◌+◌, ◌≤◌, inl, inr, Option, Some, None, List, [], length, replicate, refl, sym, ◌∙◌, ap, subst, arith}
+use Rattle.std.proofs.Common.{◌≡◌, ℕ, ◌+◌, ◌≤◌, inl, inr, Option, Some, None, List, length, replicate, refl, sym, ◌∙◌, subst, arith}
 use Rattle.std.specs.Prelude.{IfSome}
 use Rattle.std.proofs.lemmas.List.{length-replicate}
-use Rattle.ts_base.specs.Outside.{AtEnd, GaveAtMost, HasMoreThan, Rose, left_after, put_back}
+use Rattle.ts_base.specs.Outside.{AtEnd, GaveAtMost, HasMoreThan, put_back}
 use Rattle.ts_base.proofs.Pieces.{gave_bytes}
-use Rattle.ts_run.specs.AnswerTexts.{IsReply, fault_read, refused_length}
+use Rattle.ts_run.specs.AnswerTexts.{IsReply, refused_length}
 use Rattle.ts_run.specs.Endings.{OfBytes, RepliesWithin, Responds, WholeEnds, WholeTakes}
 use Rattle.ts_run.specs.Reply.{ComesOfInput, Ends, EndsWritten, Reply}
 use Rattle.ts_run.specs.declared.command.Command.{Command}
 use Rattle.ts_run.specs.declared.status.Status.{Status}
-use Rattle.ts_run.specs.declared.status.Status.TheVariants.{Done, No, Refused, Budget, ReadFault, WriteFault, Memory}
+use Rattle.ts_run.specs.declared.status.Status.TheVariants.{Refused, ReadFault, Memory}
 
 -- a reply that was written, whose status is given, or a write that failed
-
-pub no_input : (status : Status) → (EndsWritten status → status ≡ ReadFault) → ComesOfInput status → ⊥
-no_input Done written h = let same = written tt in cc
-no_input No written h = let same = written tt in cc
-no_input Refused written h = let same = written tt in cc
-no_input Budget written h = let same = written tt in cc
-no_input ReadFault written h = h
-no_input WriteFault written h = h
-no_input Memory written h = h
 
 pub no_fault : (status given : Status) → (EndsWritten status → status ≡ given) → ComesOfInput given → status ≡ ReadFault → ⊥
 no_fault status given written input e =
@@ -30,18 +21,6 @@ no_fault status given written input e =
 -- what was read
 
 module _ (limit : ℕ) (left left_now : Option (List ℕ)) (status : Status) where
-  pub takes_fault : GaveAtMost (limit + 1) left left_now → (EndsWritten status → status ≡ ReadFault) → (status ≡ Memory → ⊥) →
-      WholeTakes limit left left_now status
-  takes_fault most written some = record {
-    most = most;
-    whole = λ h. absurd (no_input status written h);
-    memory = λ e. absurd (some e);
-  }
-
-  pub takes_over : GaveAtMost (limit + 1) left left_now → HasMoreThan limit left → left_now ≡ left_after (limit + 1) left → (status ≡ Memory → ⊥) →
-      WholeTakes limit left left_now status
-  takes_over most more one some = record { most = most; whole = λ h. inr (more, one); memory = λ e. absurd (some e) }
-
   pub takes_all : (bytes : List ℕ) → GaveAtMost (limit + 1) left left_now → length bytes ≤ limit → left ≡ put_back bytes left_now → AtEnd left_now →
       WholeTakes limit left left_now status
   takes_all bytes most few gave end = record {
@@ -59,15 +38,6 @@ takes_want limit left left_now most want = record { most = most; whole = λ h. a
 module _ (limit : ℕ) (command : Command) (faults faults_now : ℕ) (before after : Option (List ℕ)) (status : Status) where
   abbrev Replied : Option (List ℕ) → Type 0
   Replied left = OfBytes left (λ bytes. Responds (RepliesWithin limit command bytes) faults faults_now before after status)
-
-  fault_reply : (left : Option (List ℕ)) → Rose faults faults_now → Ends fault_read before after status → Replied left
-  fault_reply None rose ends = ([], inr (rose, inr (fault_read, refl, ends)))
-  fault_reply (Some bytes) rose ends = inr (rose, inr (fault_read, refl, ends))
-
-  -- a read failed
-  pub ends_fault : (left : Option (List ℕ)) → Rose faults faults_now → Ends fault_read before after status →
-      WholeEnds limit command left faults faults_now before after status
-  ends_fault left rose ends = record { reply = fault_reply left rose ends; fault = λ e. ends }
 
   over_reply : (left : Option (List ℕ)) → faults_now ≡ faults → HasMoreThan limit left → Ends refused_length before after status → Replied left
   over_reply None calm more ends =
@@ -100,12 +70,3 @@ module _ (limit : ℕ) (command : Command) (faults faults_now : ℕ) (before aft
     reply = given_reply left bytes r calm told few is ends;
     fault = λ e. absurd (no_fault status r.status written input e);
   }
-
-module _ (limit : ℕ) (command : Command) (faults faults_now : ℕ) (before : Option (List ℕ)) where
-  want_reply : (left : Option (List ℕ)) → faults_now ≡ faults → Replied limit command faults faults_now before before Memory left
-  want_reply None calm = ([], inl (calm, inl (refl, refl)))
-  want_reply (Some bytes) calm = inl (calm, inl (refl, refl))
-
-  -- there was no memory
-  pub ends_want : (left : Option (List ℕ)) → faults_now ≡ faults → WholeEnds limit command left faults faults_now before before Memory
-  ends_want left calm = record { reply = want_reply left calm; fault = λ e. cc }

@@ -1,27 +1,20 @@
 -- The parts of the model of `sample`, as they are made; and that it keeps the limits of a model with an objective.
-use Rattle.std.proofs.Common.{◌≡◌, ℕ, zero, suc, ◌+◌, ◌-◌, ◌*◌, ◌%◌, ◌<◌, ◌≤◌, ℤ, pos, negsuc, ◌+ℤ◌, w64, to_z, of_z, inl, inr, ◌⊎◌, ◌↔◌, false, cond, List, [], ◌∷◌, ◌++◌, length, map, get_or, refl, sym, ◌∙◌, ap, subst, arith, mod-lt}
+use Rattle.std.proofs.Common.{◌≡◌, ℕ, zero, suc, ◌+◌, ◌-◌, ◌*◌, ◌%◌, ◌<◌, ◌≤◌, ℤ, pos, negsuc, ◌+ℤ◌, w64, to_z, of_z, inl, inr, ◌↔◌, List, [], ◌∷◌, ◌++◌, length, get_or, refl, sym, ◌∙◌, ap, subst, arith, mod-lt}
 use Rattle.std.proofs.lemmas.Int.{fits_signed_from_abs, ints, to_z-of_z}
-use Rattle.std.proofs.lemmas.List.Elements.{All-from_recursion}
 use Rattle.std.proofs.lemmas.List.Sums.{sum_by-cons}
-use Rattle.std.specs.Prelude.{All, Contains, Some, codes, String, unsigned_abs, ◌≤ℤ◌, ◌<ℤ◌}
-use Rattle.std.specs.Global.{Global}
+use Rattle.std.specs.Prelude.{Contains, Some, unsigned_abs, ◌≤ℤ◌, ◌<ℤ◌}
 use Rattle.std.specs.List.{AllByRecursion}
-use Rattle.std.specs.Str.{bytes_eq}
-use Rattle.std.specs.String.{string_bytes, string_eq}
-use Rattle.indexmap.specs.IndexMap.{insert_entry}
 use Rattle.ts_base.specs.declared.ext.Ext.TheVariants.{Int}
 use Rattle.ts_base.specs.Limits.{IsCellValue, most_cells}
 use Rattle.ts_domain.specs.BoxSeries.{IsBox}
-use Rattle.ts_domain.specs.Union.{InSomeRange, SomeEmpty}
+use Rattle.ts_domain.specs.Union.{InSomeRange}
 use Rattle.ts_domain.specs.Values.{IsDomain, Rising}
 use Rattle.ts_domain.proofs.Sets.{contains_cons, each_contains, nothing_in}
-use Rattle.ts_pattern.specs.declared.term.Term.{Term}
 use Rattle.ts_model.specs.declared.model.Need.TheVariants.{Best as NeedsBest}
 use Rattle.ts_model.specs.Promise.{IsWhole, KeepsLimits}
 use Rattle.ts_model.specs.declared.model.Op.TheVariants.{AtMost}
 use Rattle.ts_model.specs.declared.model.Require.{Require}
 use Rattle.ts_model.specs.Stated.{Stated, total_of}
-use Rattle.ts_model.specs.Views.{parts_of, term_of}
 use Rattle.ts_run.specs.Quantities.{IsWithin}
 use Rattle.ts_run.specs.SampleModel.{cells_from, least_of, sample_stated, six_from}
 
@@ -171,21 +164,6 @@ six_made l lows highs d lows_are highs_are domain union =
     (λ v h. six_has l v (one_range (pos l) (pos (l + 5)) v ((whole v).0 h)))
     (λ v h. let a = each_contains (IsAmong l) (six_from l) v (each_among l) h in (whole v).1 (in_range (pos l) (pos (l + 5)) v a.0 a.1))
 
--- it isn't empty
-pub never_empty : (l : ℕ) (lows highs : List ℤ) → lows ≡ pos l ∷ [] → highs ≡ pos (l + 5) ∷ [] → (lows ≡ []) ⊎ SomeEmpty lows highs → ⊥
-never_empty l lows highs lows_are highs_are (inl e) = let wrong : [] ≡ pos l ∷ [] = sym e ∙ lows_are in cc
-never_empty l lows highs lows_are highs_are (inr h) =
-    let half = subst (λ (z : List ℤ). SomeEmpty lows z) highs_are h in
-    let whole = subst (λ (z : List ℤ). SomeEmpty z (pos (l + 5) ∷ [])) lows_are half in
-    at whole.0 whole.1 whole.2
-  where
-    at : (i : ℕ) → i < 1 → get_or (pos (l + 5) ∷ []) i (pos 0) <ℤ get_or (pos l ∷ []) i (pos 0) → ⊥
-    at zero less below = omega (arith, ints, below)
-    at (suc i) less below = omega (arith, less)
-
-pub one_within : (v : ℤ) (vs : List ℤ) → vs ≡ v ∷ [] → IsCellValue v → All IsCellValue vs
-one_within v vs e h = subst (All IsCellValue) (sym e) (All-from_recursion IsCellValue (v ∷ []) (h, tt))
-
 pub low_within : (l : ℕ) → l ≤ 14 → IsCellValue (pos l)
 low_within l h = (omega (arith, ints), omega (arith, ints, h))
 
@@ -285,16 +263,3 @@ pub model_is : (n : ℕ) (m : Stated) (old : List Require) → m.cells ≡ cells
 model_is n m old cells terms none requirements objective =
     let one = requirements ∙ ap (λ (z : List Require). z ++ record { term = 1; op = AtMost; bound = Int (pos 3) } ∷ []) none in
     (λ i. record { cells = cells i; terms = terms i; requirements = one i; objective = objective i })
-
--- The terms: two names that differ.
-
-pub terms_made : (first second : String Global) (c w : Term) (one two : List (String Global × Term)) → string_bytes first ≡ codes "c" →
-    string_bytes second ≡ codes "w" → one ≡ insert_entry string_eq [] first c → two ≡ insert_entry string_eq one second w →
-    map term_of two ≡ (codes "c", parts_of c) ∷ (codes "w", parts_of w) ∷ []
-terms_made first second c w one two first_is second_is one_is two_is =
-    ap (map term_of) (two_is ∙ ap (λ (z : List (String Global × Term)). insert_entry string_eq z second w) one_is)
-    ∙ ap (λ v. map term_of (cond v ((first, w) ∷ []) ((first, c) ∷ (second, w) ∷ []))) differ
-    ∙ (λ i. (first_is i, parts_of c) ∷ (second_is i, parts_of w) ∷ [])
-  where
-    differ : string_eq second first ≡ false
-    differ = (λ i. bytes_eq (second_is i) (first_is i))

@@ -1,15 +1,13 @@
 -- The value of a term is far within 64 bits: on a series within the limits no sum reaches the size at which sums are held.
-use Rattle.std.proofs.Common.{◌≡◌, ℕ, zero, suc, ◌+◌, ◌≤◌, ℤ, pos, negsuc, true, List, [], ◌∷◌, length, map, Option, Some, None, slice_get, refl, sym, ◌∙◌, ap, subst, arith}
+use Rattle.std.proofs.Common.{◌≡◌, ℕ, zero, suc, ◌+◌, ◌≤◌, ℤ, pos, negsuc, true, List, [], ◌∷◌, length, map, Option, Some, None, slice_get, refl, ◌∙◌, ap, subst, arith}
 use Rattle.std.proofs.lemmas.Bool.{lt-ltb}
 use Rattle.std.proofs.lemmas.Option.{same_Some}
 use Rattle.ts_base.specs.declared.ext.Ext.{Ext}
 use Rattle.ts_base.specs.declared.ext.Ext.TheVariants.{NegInf, Int, PosInf}
-use Rattle.ts_base.specs.declared.letter.Letter.TheVariants.{Less}
 use Rattle.ts_base.specs.Limits.{IsCellValue}
 use Rattle.ts_base.specs.Signature.{signature_of}
 use Rattle.ts_transducer.specs.declared.row.Row.{Row}
 use Rattle.ts_transducer.specs.Typing.{is_typed}
-use Rattle.ts_transducer.proofs.CallerLemmas.{move_stays}
 use Rattle.ts_pattern.specs.declared.name.Aggregator.{Aggregator}
 use Rattle.ts_pattern.specs.declared.name.Feature.{Feature}
 use Rattle.ts_pattern.specs.declared.name.PatternId.{PatternId}
@@ -21,12 +19,11 @@ use Rattle.ts_automaton.specs.declared.state.Mark.TheVariants.{Same, Zero, Cells
 use Rattle.ts_automaton.specs.AutomatonRun.{AreCellValues, after_from, answer, marked}
 use Rattle.ts_seed.specs.SeedTable.{seed_table, table_of}
 use Rattle.ts_seed.proofs.Closed.{rows_closed}
-use Rattle.ts_decorate.specs.Decoration.{decorated, mark_of, range_op}
-use Rattle.ts_decorate.proofs.CallerLemmas.{answers_ranges}
-use Rattle.ts_decorate.proofs.Evaluation.{after_is}
-use Rattle.ts_decorate.proofs.Exact.{cell_value, exact, held_at_limit}
-use Rattle.ts_decorate.proofs.Runs.{table_after, table_start, total_of}
-use Rattle.ts_decorate.proofs.Sizes.{after_same, cost_small, default_size, limit, neutral_size, op_size, size_of, total_same}
+use Rattle.ts_decorate.specs.Decoration.{decorated, mark_of}
+use Rattle.ts_decorate.proofs.CallerLemmas.{answers_ranges, total_exact}
+use Rattle.ts_decorate.proofs.Exact.{exact, held_at_limit}
+use Rattle.ts_decorate.proofs.Runs.{table_start, total_of}
+use Rattle.ts_decorate.proofs.Sizes.{limit, size_of}
 use Rattle.ts_domain.specs.BoxSeries.{InBox, IsBox}
 use Rattle.ts_domain.proofs.Sets.{each_contains}
 use Rattle.ts_model.specs.Stated.{Stated}
@@ -51,31 +48,12 @@ within_size : (s t n : ℕ) → s ≤ t + n → t ≤ limit → n ≤ 512 → s 
 within_size s t n h k l = omega (arith, h, k, l)
 
 module _ (rows : List Row) (typed : is_typed rows ≡ true) (few : length rows ≤ 8) (a : ℕ) (g : Aggregator) (f : Feature) where
-  -- the registers behind the series, before the mark
-  total_small : (x : ℤ) (ys : List ℤ) → length ys ≤ 511 → IsCellValue x → AreCellValues ys →
-      size_of (total_of (held_at_limit g f) (after_from (decorated rows a g f) (table_start (exact g f)) x ys).regs) ≤ limit
-  total_small x ys short h i =
-      let o = exact g f in
-      let first = move_stays rows typed 0 Less in
-      let cost = cost_small f ys x h i in
-      let n = neutral_size f in
-      let d = default_size g in
-      let same = after_same g f a rows ys x (table_start o) (omega arith) in
-      let size = same.1 in
-      let end = table_after o (cell_value f) a rows (table_start o) x ys in
-      let last = op_size (range_op g) end.regs.r end.regs.c in
-      let total =
-      ap (λ st. total_of (held_at_limit g f) st.regs) (after_is rows typed few a g f ys x (table_start o) (omega arith))
-      ∙ ap (λ st. total_of (held_at_limit g f) st.regs) same.0
-      ∙ total_same g f end.regs (omega arith) in
-      subst (λ v. size_of v ≤ limit) (sym total) (omega arith)
-
   answer_small : (xs : List ℤ) → 1 ≤ length xs → length xs ≤ 512 → AreCellValues xs → size_of (answer (decorated rows a g f) xs) ≤ most_size
   answer_small [] some short h = absurd (omega (arith, some))
   answer_small (x ∷ ys) some short h =
       let total = total_of (held_at_limit g f) (after_from (decorated rows a g f) (table_start (exact g f)) x ys).regs in
       within_size _ (size_of total) (length (x ∷ ys)) (mark_size (mark_of g f) (length (x ∷ ys)) total)
-      (total_small x ys (omega (arith, short)) h.0 h.1) short
+      (total_exact rows typed few a g f x ys (omega (arith, short)) h.0 h.1).1 short
 
 -- the automaton of a pattern by the rows of its seed answers the value of the term
 pub answers : (id : PatternId) (g : Aggregator) (f : Feature) (xs : List ℤ) → 1 ≤ length xs → length xs ≤ 512 → AreCellValues xs →
