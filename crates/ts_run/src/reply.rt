@@ -1,6 +1,6 @@
 //! What a command replies, and why it goes no further.
 
-ghost use Rattle.std.specs.Prelude.{◌≡◌, ◌⊎◌, Ok, Err, IfOk};
+ghost use Rattle.std.specs.Prelude.{◌≡◌, ◌⊎◌, Ok, Err, IfOk, OnErr};
 ghost use Rattle.ts_run.specs.declared.reply.Stop.TheVariants.{Memory as NoMemory};
 
 use crate::status::Status;
@@ -30,7 +30,8 @@ impl From<Memory> for Stop {
 
 /// The reply of a command, which may be its refusal.
 pub fn or_refusal(reply: Result<Reply, Stop>) -> Result<Reply, Memory>
-    ensures { IfOk result (λ r. (reply ≡ Ok r) ⊎ (reply ≡ Err (Stop.Refused r))) }
+    ensures ok { IfOk result (λ r. (reply ≡ Ok r) ⊎ (reply ≡ Err (Stop.Refused r))) }
+    ensures memory { OnErr result (reply ≡ Err Stop.Memory) }
 {
     match reply {
         Ok(reply) => Ok(reply),
