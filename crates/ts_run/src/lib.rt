@@ -46,6 +46,3 @@ pub use laws::{
 pub use quantity::{Budget, Cells, Count};
 pub use sampling::sample_model;
 pub use status::Status;
-
-#[cfg(test)]
-mod tests;

@@ -8,9 +8,6 @@ use std::marker::Model;
 use ts_base::limits::CELLS;
 use ts_token::number;
 
-#[cfg(test)]
-mod tests;
-
 /// How many lines a search may check, 1 to 4,000,000; 100,000 where no number is given.
 #[derive(Clone, Copy, Debug, PartialEq, Eq)]
 pub struct Budget {

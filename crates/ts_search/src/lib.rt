@@ -28,6 +28,3 @@ mod tree;
 
 pub use best::solve;
 pub use listing::list;
-
-#[cfg(test)]
-mod tests;

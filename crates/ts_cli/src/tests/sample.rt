@@ -1,10 +1,9 @@
 //! What `sample` writes, and which of its words are refused.
 
-use super::outcome;
-use crate::Status;
-use std::alloc::Global;
-use std::test::Fail;
+use super::{gives, outcome};
+use std::alloc::{AllocError, Global};
 use ts_base::{Memory, push_number};
+use ts_run::Status;
 
 /// The words, what is taken of the answer, and the status.
 type Case = (&'static str, &'static [u8], Status);
@@ -45,12 +44,12 @@ fn cases() -> &'static [Case] {
 }
 
 #[test]
-fn answers_of_sample(rt: HostRuntime) -> Result<(), Fail> {
-    let alloc = rt.alloc();
+fn answers_of_sample(rt: HostRuntime) -> Result<(), AllocError> {
     for &(words, wanted, status) in cases() {
-        let (taken, told) = outcome(alloc, words, b"cells 1\n")?;
-        assert_eq!(rt; taken.as_slice(), wanted);
-        assert_eq!(rt; told, status);
+        assert!(rt;
+            gives(rt.alloc(), words, b"cells 1\n", wanted, status)?,
+            "{words}"
+        );
     }
     Ok(())
 }
@@ -71,15 +70,20 @@ fn range_of(cell: u32) -> &'static [u8] {
     RANGES[(cell % 10) as usize]
 }
 
+fn push_cell(text: &mut Vec<u8>, cell: u32) -> Result<(), Memory> {
+    text.extend_from_slice(b"\ncell ")?;
+    push_number(text, i64::from(cell))?;
+    text.push(b' ')?;
+    text.extend_from_slice(range_of(cell))?;
+    Ok(())
+}
+
 /// The model of a sample.
 fn model_text(alloc: Global, cells: u32) -> Result<Vec<u8>, Memory> {
     let mut text = Vec::from_slice(alloc, b"cells ")?;
     push_number(&mut text, i64::from(cells))?;
     for cell in 1..=cells {
-        text.extend_from_slice(b"\ncell ")?;
-        push_number(&mut text, i64::from(cell))?;
-        text.push(b' ')?;
-        text.extend_from_slice(range_of(cell))?;
+        push_cell(&mut text, cell)?;
     }
     text.extend_from_slice(
         b"\nterm c = count peak\nterm w = max width peak\nrequire w <= 3\nobjective c\n",
@@ -87,14 +91,16 @@ fn model_text(alloc: Global, cells: u32) -> Result<Vec<u8>, Memory> {
     Ok(text)
 }
 
+fn ends_with(alloc: Global, cells: u32, end: &[u8]) -> Result<bool, Memory> {
+    let model = model_text(alloc, cells)?;
+    let (certificate, status) = outcome(alloc, "minimise", &model)?;
+    Ok(certificate.ends_with(end) && status == Status::Done)
+}
+
 #[test]
-fn lines_of_sample(rt: HostRuntime) -> Result<(), Fail> {
-    let alloc = rt.alloc();
+fn lines_of_sample(rt: HostRuntime) -> Result<(), Memory> {
     for &(cells, end) in ends() {
-        let model = model_text(alloc, cells)?;
-        let (certificate, status) = outcome(alloc, "minimise", &model)?;
-        assert!(rt; certificate.ends_with(end));
-        assert_eq!(rt; status, Status::Done);
+        assert!(rt; ends_with(rt.alloc(), cells, end)?, "{cells}");
     }
     Ok(())
 }

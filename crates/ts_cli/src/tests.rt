@@ -1,18 +1,19 @@
-//! Whole runs over a source and a sink in memory: what stands in the sink, and the status.
+//! Whole runs over a source and a sink in memory: what stands in the sink, and the status. The searches and the words
+//! of commands are tried here too: a crate with tests is proved twice, and the program has little to prove of its own.
 
-use crate::{Status, run};
 use std::alloc::{AllocError, Global};
-use std::process::Abort;
-use std::test::Fail;
 use ts_base::{MemorySink, MemorySource};
+use ts_run::{Status, run};
 
 mod check;
 mod compile;
 mod faults;
+mod quantities;
 mod readings;
 mod rules;
 mod sample;
 mod searches;
+mod solving;
 mod verify;
 
 /// An input, what is taken of the answer, and the status.
@@ -38,14 +39,31 @@ fn words_of(alloc: Global, words: &str) -> Result<Vec<String>, AllocError> {
     Ok(all)
 }
 
-/// Each input has its answer, with its status.
-fn expect_answers(rt: &impl Abort, alloc: Global, words: &str, cases: &[Case]) -> Result<(), Fail> {
-    for case in cases {
-        let (taken, status) = outcome(alloc, words, case.input)?;
-        assert_eq!(rt; taken.as_slice(), case.taken);
-        assert_eq!(rt; status, case.status);
+/// Whether a call with these words takes this of its answer to the input, and has this status.
+fn gives(
+    alloc: Global,
+    words: &str,
+    input: &[u8],
+    taken: &[u8],
+    status: Status,
+) -> Result<bool, AllocError> {
+    let (found, told) = outcome(alloc, words, input)?;
+    Ok(found.as_slice() == taken && told == status)
+}
+
+/// The first input, counted from 0, that has another answer or another status.
+fn first_wrong(alloc: Global, words: &str, cases: &[Case]) -> Result<Option<usize>, AllocError> {
+    for row in 0..cases.len() {
+        let Case {
+            input,
+            taken,
+            status,
+        } = cases[row];
+        if !gives(alloc, words, input, taken, status)? {
+            return Ok(Some(row));
+        }
     }
-    Ok(())
+    Ok(None)
 }
 
 /// What a call with these words takes of its answer to the input, and its status.
@@ -61,9 +79,13 @@ fn outcome_in_steps(
     step: usize,
 ) -> Result<(Vec<u8>, Status), AllocError> {
     let words = words_of(alloc, words)?;
-    let bytes = Vec::from_slice(alloc, input)?;
-    let mut source = MemorySource::new(bytes, step.max(1), Vec::new(alloc));
+    let mut source = source_of(alloc, input, step)?;
     let mut sink = MemorySink::new(alloc, 4096, Vec::new(alloc));
     let status = run(alloc, &words, &mut source, &mut sink);
     Ok((Vec::from_slice(alloc, sink.bytes())?, status))
+}
+
+fn source_of(alloc: Global, input: &[u8], step: usize) -> Result<MemorySource, AllocError> {
+    let bytes = Vec::from_slice(alloc, input)?;
+    Ok(MemorySource::new(bytes, step.max(1), Vec::new(alloc)))
 }

@@ -1,7 +1,6 @@
 //! Words at both ends of each range and one past each, and words that write no number.
 
-use super::{Budget, Cells, Count};
-use std::test::Fail;
+use ts_run::{Budget, Cells, Count};
 
 /// A word, and what it is as a budget, as a count and as a number of cells.
 type Row = (&'static str, Option<u32>, Option<u32>, Option<u32>);
@@ -29,14 +28,21 @@ fn words() -> &'static [Row] {
     &WORDS
 }
 
+fn numbers_of(word: &[u8]) -> (Option<u32>, Option<u32>, Option<u32>) {
+    (
+        Budget::of(word).map(Budget::lines),
+        Count::of(word).map(Count::series),
+        Cells::of(word).map(Cells::cells),
+    )
+}
+
 #[test]
-fn numbers_within(rt: HostRuntime) -> Result<(), Fail> {
+fn numbers_within(rt: HostRuntime) {
     for (word, budget, count, cells) in words() {
-        let bytes = word.as_bytes();
-        assert_eq!(rt; Budget::of(bytes).map(|b| b.lines()), *budget, "{}", word);
-        assert_eq!(rt; Count::of(bytes).map(|c| c.series()), *count, "{}", word);
-        assert_eq!(rt; Cells::of(bytes).map(|c| c.cells()), *cells, "{}", word);
+        assert!(rt;
+            numbers_of(word.as_bytes()) == (*budget, *count, *cells),
+            "{word}"
+        );
     }
-    assert_eq!(rt; Budget::default().lines(), 100_000);
-    Ok(())
+    assert!(rt; Budget::default().lines() == 100_000);
 }

@@ -3,7 +3,7 @@
 //! definition.
 
 use super::Case;
-use crate::Status;
+use ts_run::Status;
 
 static READINGS: [Case; 40] = [
     // no: the model's box is asked, not the one that waits

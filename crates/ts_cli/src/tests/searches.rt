@@ -1,10 +1,9 @@
 //! Inputs of `maximise`, `minimise` and `generate` with their answers, worked out by hand, and the statuses; words that
 //! are refused; and answers that go to `verify`.
 
-use super::outcome;
-use crate::Status;
+use super::{gives, outcome};
 use std::alloc::{AllocError, Global};
-use std::test::Fail;
+use ts_run::Status;
 
 /// The words, an input, what is taken of the answer, and the status.
 type Case = (&'static str, &'static [u8], &'static [u8], Status);
@@ -105,12 +104,9 @@ fn cases() -> &'static [Case] {
 }
 
 #[test]
-fn answers_of_searches(rt: HostRuntime) -> Result<(), Fail> {
-    let alloc = rt.alloc();
+fn answers_of_searches(rt: HostRuntime) -> Result<(), AllocError> {
     for &(words, input, wanted, status) in cases() {
-        let (taken, told) = outcome(alloc, words, input)?;
-        assert_eq!(rt; taken.as_slice(), wanted);
-        assert_eq!(rt; told, status);
+        assert!(rt; gives(rt.alloc(), words, input, wanted, status)?, "{words}");
     }
     Ok(())
 }
@@ -143,12 +139,16 @@ fn no_commands() -> &'static [&'static str] {
 }
 
 #[test]
-fn words_of_no_command(rt: HostRuntime) -> Result<(), Fail> {
-    let alloc = rt.alloc();
-    for &words in no_commands() {
-        let (taken, told) = outcome(alloc, words, ONE_PEAK)?;
-        assert_eq!(rt; taken.as_slice(), b"refused words\n".as_slice());
-        assert_eq!(rt; told, Status::Refused);
+fn words_of_no_command(rt: HostRuntime) -> Result<(), AllocError> {
+    for words in no_commands() {
+        let refused = gives(
+            rt.alloc(),
+            words,
+            ONE_PEAK,
+            b"refused words\n",
+            Status::Refused,
+        )?;
+        assert!(rt; refused, "{words}");
     }
     Ok(())
 }
@@ -189,15 +189,20 @@ fn behind_model(alloc: Global, model: &[u8], text: &[u8]) -> Result<Vec<u8>, All
     Ok(bytes)
 }
 
+fn is_accepted(alloc: Global, model: &[u8], certificate: &[u8]) -> Result<bool, AllocError> {
+    let input = behind_model(alloc, model, certificate)?;
+    gives(alloc, "verify", &input, b"accepted\n", Status::Done)
+}
+
+fn answer_is_accepted(alloc: Global, words: &str, model: &[u8]) -> Result<bool, AllocError> {
+    let (certificate, _) = outcome(alloc, words, model)?;
+    is_accepted(alloc, model, &certificate)
+}
+
 #[test]
-fn answers_are_accepted(rt: HostRuntime) -> Result<(), Fail> {
-    let alloc = rt.alloc();
+fn answers_are_accepted(rt: HostRuntime) -> Result<(), AllocError> {
     for &(words, model) in all_sent() {
-        let (certificate, _) = outcome(alloc, words, model)?;
-        let input = behind_model(alloc, model, &certificate)?;
-        let (taken, told) = outcome(alloc, "verify", &input)?;
-        assert_eq!(rt; taken.as_slice(), b"accepted\n".as_slice());
-        assert_eq!(rt; told, Status::Done);
+        assert!(rt; answer_is_accepted(rt.alloc(), words, model)?, "{words}");
     }
     Ok(())
 }
@@ -250,18 +255,16 @@ fn wanted_of(alloc: Global, row: &Peaks) -> Result<Vec<u8>, AllocError> {
     Ok(wanted)
 }
 
+fn has_most_peaks(alloc: Global, row: &Peaks) -> Result<bool, AllocError> {
+    let (certificate, status) = outcome(alloc, row.words, row.model)?;
+    let starts = certificate.starts_with(&wanted_of(alloc, row)?);
+    Ok(starts && status == row.status && is_accepted(alloc, row.model, &certificate)?)
+}
+
 #[test]
-fn most_peaks(rt: HostRuntime) -> Result<(), Fail> {
-    let alloc = rt.alloc();
+fn most_peaks(rt: HostRuntime) -> Result<(), AllocError> {
     for row in all_peaks() {
-        let (certificate, status) = outcome(alloc, row.words, row.model)?;
-        let wanted = wanted_of(alloc, row)?;
-        assert!(rt; certificate.starts_with(&wanted));
-        assert_eq!(rt; status, row.status);
-        let input = behind_model(alloc, row.model, &certificate)?;
-        let (taken, told) = outcome(alloc, "verify", &input)?;
-        assert_eq!(rt; taken.as_slice(), b"accepted\n".as_slice());
-        assert_eq!(rt; told, Status::Done);
+        assert!(rt; has_most_peaks(rt.alloc(), row)?, "{}", row.words);
     }
     Ok(())
 }
@@ -269,12 +272,14 @@ fn most_peaks(rt: HostRuntime) -> Result<(), Fail> {
 const MOST_VALUES: &[u8] = b"cells 512\ndomain 0..127\n";
 
 /// All domains together have as many values as they may: seven `split` lines for each cell, each of which leaves a box.
-#[test]
-fn first_of_512_cells(rt: HostRuntime) -> Result<(), Fail> {
-    let alloc = rt.alloc();
+fn lists_one_of_512_cells(alloc: Global) -> Result<bool, AllocError> {
     let (taken, status) = outcome(alloc, "generate 1", MOST_VALUES)?;
-    assert!(rt; taken.starts_with(b"generate 1\nfull 1\nseries 0 0 0"));
-    assert!(rt; taken.ends_with(b"open\nend 3585 3584\n"));
-    assert_eq!(rt; status, Status::Done);
+    let starts = taken.starts_with(b"generate 1\nfull 1\nseries 0 0 0");
+    Ok(starts && taken.ends_with(b"open\nend 3585 3584\n") && status == Status::Done)
+}
+
+#[test]
+fn first_of_512_cells(rt: HostRuntime) -> Result<(), AllocError> {
+    assert!(rt; lists_one_of_512_cells(rt.alloc())?);
     Ok(())
 }
