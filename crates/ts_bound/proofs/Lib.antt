@@ -13,6 +13,7 @@ pub mod Growth
 mod SpanHulls
 mod Sums
 mod SplitLaws
+pub mod KnownFronts
 pub mod PackLaws
 mod SweepLaws
 pub mod SweptRows

@@ -1,7 +1,8 @@
 -- The three expressions of a move, each split.
 use Rattle.std.specs.Prelude.{Bool, cond, ◌&&◌, ℤ}
 use Rattle.ts_automaton.specs.declared.regs.Hull.{Hull}
-use Rattle.ts_automaton.specs.declared.expr.Atom.TheVariants.{C, D, R}
+use Rattle.ts_automaton.specs.declared.expr.Atom.TheVariants.{C, D, R, Unit}
+use Rattle.ts_automaton.specs.declared.expr.Op.TheVariants.{Add}
 use Rattle.ts_automaton.specs.Formula.{Leaf, Join, formula}
 use Rattle.ts_automaton.specs.Body.{Move}
 use Rattle.ts_bound.specs.declared.sweep_parts.Part.{Part}
@@ -45,3 +46,10 @@ part_split Pairs = ByPairs
 
 abbrev pub parts_cut : Parts → Cut
 parts_cut p = record { c = part_split p.c; d = part_split p.d; r = part_split p.r }
+
+-- the parts of a move that keeps all registers, and of one that only makes D greater by one
+abbrev pub kept_parts : Parts
+kept_parts = record { c = KeepC; d = KeepD; r = KeepR }
+
+abbrev pub longer_parts : Parts
+longer_parts = record { c = KeepC; d = Two Add D Unit; r = KeepR }

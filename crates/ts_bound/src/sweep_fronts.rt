@@ -3,7 +3,7 @@
 ghost use Rattle.std.specs.Prelude.{◌≡◌, pos, true};
 ghost use Rattle.ts_automaton.specs.Formula.{Leaf};
 ghost use Rattle.ts_base.specs.Spans.{has_some};
-ghost use Rattle.ts_bound.specs.Cuts.{closed_hull, front_hull, part_split, parts_cut, swept};
+ghost use Rattle.ts_bound.specs.Cuts.{closed_hull, front_hull, kept_parts, longer_parts, part_split, parts_cut, swept};
 ghost use Rattle.ts_bound.specs.Packs.{IsPackOf, unpack_hull, unpack_span};
 ghost use Rattle.ts_bound.specs.Sealed.{some_hull, span_in};
 ghost use Rattle.ts_bound.specs.Smalls.{small_int};
@@ -12,7 +12,7 @@ ghost use Rattle.ts_bound.specs.Splits.{closed_span, front_span, is_swept};
 use crate::packed::{Ends, Packed};
 use crate::packed_exprs::{changed_ends, joined_ends, register_ends};
 use crate::sweep_parts::{Part, Parts};
-use ts_automaton::Atom;
+use ts_automaton::{Atom, Op};
 
 /// The span of a word in a front.
 #[inline(always)]
@@ -77,17 +77,64 @@ impl Part<'_> {
             | Part::Word(_)
             | Part::Two(_, _, _)
             | Part::Front(_) => s,
-            Part::Tail(o, _) => joined_ends(o, s, Ends::one(y)),
-            Part::Double(o, _, _) => joined_ends(o, s, Ends::one(y)),
+            Part::Tail(o, _) | Part::Double(o, _, _) => joined_ends(o, s, Ends::one(y)),
             Part::Pairs => unreachable!(),
         }
     }
 }
 
 impl Parts<'_> {
-    /// The fronts on a hull in which registers lie.
+    /// The fronts on a hull in which registers lie. Most moves keep all registers, or make `D` greater by one: that is
+    /// so short that it stands in the loop over the values without a call.
     #[inline(always)]
     pub(crate) fn front_packed(&self, h: &Packed, x: i64) -> Packed
+        requires swept { swept (parts_cut self.now) ≡ true }
+        requires hull { some_hull (unpack_hull h.now) ≡ true }
+        requires this { small_int x ≡ true }
+        ensures { IsPackOf result (front_hull (parts_cut self.now) (unpack_hull h.now) x) }
+    {
+        match (self.c, self.d, self.r) {
+            (Part::KeepC, Part::KeepD, Part::KeepR) => self.kept_fronts(h, x),
+            (Part::KeepC, Part::Two(Op::Add, Atom::D, Atom::Unit), Part::KeepR) => {
+                self.longer_fronts(h, x)
+            }
+            _ => self.mixed_fronts(h, x),
+        }
+    }
+
+    /// Those of a move that keeps all registers.
+    #[inline(always)]
+    fn kept_fronts(&self, h: &Packed, x: i64) -> Packed
+        requires kept { self.now ≡ kept_parts }
+        requires hull { some_hull (unpack_hull h.now) ≡ true }
+        requires this { small_int x ≡ true }
+        ensures { IsPackOf result (front_hull (parts_cut self.now) (unpack_hull h.now) x) }
+    {
+        Packed {
+            c: h.c,
+            d: h.d,
+            r: h.r,
+        }
+    }
+
+    /// Those of a move that only makes `D` greater by one.
+    #[inline(always)]
+    fn longer_fronts(&self, h: &Packed, x: i64) -> Packed
+        requires longer { self.now ≡ longer_parts }
+        requires hull { some_hull (unpack_hull h.now) ≡ true }
+        requires this { small_int x ≡ true }
+        ensures { IsPackOf result (front_hull (parts_cut self.now) (unpack_hull h.now) x) }
+    {
+        Packed {
+            c: h.c,
+            d: joined_ends(Op::Add, h.d, Ends::one(1)),
+            r: h.r,
+        }
+    }
+
+    /// Those of any move.
+    #[inline(never)]
+    fn mixed_fronts(&self, h: &Packed, x: i64) -> Packed
         requires swept { swept (parts_cut self.now) ≡ true }
         requires hull { some_hull (unpack_hull h.now) ≡ true }
         requires this { small_int x ≡ true }

@@ -1,17 +1,19 @@
-//! Sweeps apart for what is known of a move and of the values before any of them is read: the letter, that there are no
-//! gaps, and what the move keeps or fixes.
+//! Sweeps apart for each letter, for moves that keep all registers or make `D` greater by one, and for cells without
+//! gaps: none of that is asked again at each value. Each of these sweeps is a function that is compiled apart, since
+//! what is very long isn't put in place of a call.
 
 ghost use Rattle.std.specs.Prelude.{◌≡◌, ◌*◌, ◌<◌, true, false, length};
 ghost use Rattle.ts_automaton.specs.Body.{move_of};
-ghost use Rattle.ts_base.specs.declared.letter.Letter.TheVariants.{Equal, Greater, Less};
+ghost use Rattle.ts_base.specs.declared.letter.Letter.TheVariants.{Equal};
 ghost use Rattle.ts_bound.specs.Cuts.{cut_of, parts_cut, swept};
 ghost use Rattle.ts_bound.specs.Sweeps.{AllTakeNone, IsSweepable, same_letter, with_sweep};
 
+use crate::sweep_down::sweep_down;
 use crate::sweep_move::sweep_move;
-use crate::sweep_parts::Part::{KeepC, KeepD, KeepR, Two, Word};
 use crate::sweep_parts::Parts;
+use crate::sweep_up::sweep_up;
 use crate::sweep_values::Places;
-use ts_automaton::{Atom, Hull, Op, Turn};
+use ts_automaton::{Hull, Turn};
 use ts_base::Letter;
 
 /// A move on `<` or `>` by a sweep.
@@ -46,83 +48,9 @@ pub(crate) fn sweep_kept(
     }
 }
 
-/// A move on `<` by a sweep.
-#[inline(never)]
-fn sweep_up(
-    t: &Turn,
-    p: &Parts<'_>,
-    twin: bool,
-    s: usize,
-    q: usize,
-    values: &Places<'_>,
-    before: &[Hull],
-    next_values: &Places<'_>,
-    next: &mut [Hull],
-)
-    requires parts { parts_cut p.now ≡ cut_of (move_of t.now) }
-    requires swept { swept (parts_cut p.now) ≡ true }
-    requires sweepable { IsSweepable values.now next_values.now before.now }
-    requires canonical { AllTakeNone next.old }
-    requires state { q < s }
-    requires leads { t.now.next < s }
-    requires before { length before.now ≡ length values.now * s }
-    requires next { length next.old ≡ length next_values.now * s }
-    ensures { next.new ≡ with_sweep (move_of t.now) Less twin s q values.now before.now next_values.now next.old }
-{
-    sweep_gapless(
-        t,
-        p,
-        Letter::Less,
-        twin,
-        s,
-        q,
-        values,
-        before,
-        next_values,
-        next,
-    );
-}
-
-/// A move on `>` by a sweep.
-#[inline(never)]
-fn sweep_down(
-    t: &Turn,
-    p: &Parts<'_>,
-    twin: bool,
-    s: usize,
-    q: usize,
-    values: &Places<'_>,
-    before: &[Hull],
-    next_values: &Places<'_>,
-    next: &mut [Hull],
-)
-    requires parts { parts_cut p.now ≡ cut_of (move_of t.now) }
-    requires swept { swept (parts_cut p.now) ≡ true }
-    requires sweepable { IsSweepable values.now next_values.now before.now }
-    requires canonical { AllTakeNone next.old }
-    requires state { q < s }
-    requires leads { t.now.next < s }
-    requires before { length before.now ≡ length values.now * s }
-    requires next { length next.old ≡ length next_values.now * s }
-    ensures { next.new ≡ with_sweep (move_of t.now) Greater twin s q values.now before.now next_values.now next.old }
-{
-    sweep_gapless(
-        t,
-        p,
-        Letter::Greater,
-        twin,
-        s,
-        q,
-        values,
-        before,
-        next_values,
-        next,
-    );
-}
-
 /// The same, with what is known of the gaps of both cells.
 #[inline(always)]
-fn sweep_gapless(
+pub(crate) fn sweep_gapless(
     t: &Turn,
     p: &Parts<'_>,
     l: Letter,
@@ -147,15 +75,15 @@ fn sweep_gapless(
 {
     match (values.gapless(), next_values.gapless()) {
         (Some(run), Some(next_run)) => {
-            sweep_known(t, p, l, twin, s, q, &run, before, &next_run, next)
+            sweep_move(t, p, l, twin, s, q, &run, before, &next_run, next)
         }
-        _ => sweep_known(t, p, l, twin, s, q, values, before, next_values, next),
+        _ => sweep_gaps(t, p, l, twin, s, q, values, before, next_values, next),
     }
 }
 
-/// The same, with what is known of the registers: those that the move keeps or fixes aren't looked up at each value.
-#[inline(always)]
-fn sweep_known(
+/// The same where one of the cells has gaps.
+#[inline(never)]
+fn sweep_gaps(
     t: &Turn,
     p: &Parts<'_>,
     l: Letter,
@@ -178,39 +106,5 @@ fn sweep_known(
     requires next { length next.old ≡ length next_values.now * s }
     ensures { next.new ≡ with_sweep (move_of t.now) l twin s q values.now before.now next_values.now next.old }
 {
-    match (p.c, p.d, p.r) {
-        (KeepC, KeepD, KeepR) => {
-            let known = Parts::kept();
-            sweep_move(t, &known, l, twin, s, q, values, before, next_values, next);
-        }
-        (KeepC, Two(Op::Add, Atom::D, Atom::Unit), KeepR) => {
-            let known = Parts::longer();
-            sweep_move(t, &known, l, twin, s, q, values, before, next_values, next);
-        }
-        (KeepC, d, KeepR) => {
-            let known = Parts {
-                c: KeepC,
-                d,
-                r: KeepR,
-            };
-            sweep_move(t, &known, l, twin, s, q, values, before, next_values, next);
-        }
-        (c, Word(unit), KeepR) => {
-            let known = Parts {
-                c,
-                d: Word(unit),
-                r: KeepR,
-            };
-            sweep_move(t, &known, l, twin, s, q, values, before, next_values, next);
-        }
-        (Word(first), Word(unit), r) => {
-            let known = Parts {
-                c: Word(first),
-                d: Word(unit),
-                r,
-            };
-            sweep_move(t, &known, l, twin, s, q, values, before, next_values, next);
-        }
-        _ => sweep_move(t, p, l, twin, s, q, values, before, next_values, next),
-    }
+    sweep_move(t, p, l, twin, s, q, values, before, next_values, next);
 }

@@ -3,10 +3,7 @@
 ghost use Rattle.std.specs.Prelude.{◌≡◌, IfSome};
 ghost use Rattle.ts_automaton.specs.Body.{move_of};
 ghost use Rattle.ts_automaton.specs.Formula.{Join, Leaf, formula};
-ghost use Rattle.ts_bound.specs.Cuts.{cut_of, part_split, parts_cut, swept};
-ghost use Rattle.ts_automaton.specs.declared.expr.Atom.TheVariants.{D, Unit};
-ghost use Rattle.ts_automaton.specs.declared.expr.Op.TheVariants.{Add};
-ghost use Rattle.ts_bound.specs.declared.sweep_parts.Part.TheVariants.{KeepC, KeepD, KeepR, Two};
+ghost use Rattle.ts_bound.specs.Cuts.{cut_of, kept_parts, longer_parts, part_split, parts_cut, swept};
 ghost use Rattle.ts_bound.specs.Splits.{FrontOf, is_double, is_front, is_next, is_swept, operands, split, tail_of};
 ghost use Rattle.ts_glue.specs.Rules.{is_same_op};
 
@@ -204,7 +201,7 @@ impl<'a> Parts<'a> {
     /// The parts of a move that keeps all registers.
     #[inline(always)]
     pub(crate) fn kept() -> Parts<'a>
-        ensures { result ≡ record { c = KeepC; d = KeepD; r = KeepR } }
+        ensures { result ≡ kept_parts }
     {
         Parts {
             c: Part::KeepC,
@@ -216,7 +213,7 @@ impl<'a> Parts<'a> {
     /// The parts of a move that keeps all registers but `D`, which becomes greater by one.
     #[inline(always)]
     pub(crate) fn longer() -> Parts<'a>
-        ensures { result ≡ record { c = KeepC; d = Two Add D Unit; r = KeepR } }
+        ensures { result ≡ longer_parts }
     {
         Parts {
             c: Part::KeepC,

@@ -3,7 +3,7 @@ use Rattle.std.proofs.lemmas.Int.{to_z-of_z}
 use Rattle.ts_bound.specs.Cuts.{parts_cut}
 use Rattle.ts_bound.specs.Packs.{unpack_hull}
 use Rattle.ts_bound.proofs.PackLaws.{front_packs_at}
-use Rattle.ts_bound.proofs.sweep_parts.Parts.front_packed.Goals as goal
+use Rattle.ts_bound.proofs.sweep_parts.Parts.mixed_fronts.Goals as goal
 
 pub returns : goal.returns
 returns c =
