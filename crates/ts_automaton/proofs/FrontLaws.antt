@@ -9,7 +9,7 @@ use Rattle.ts_base.specs.Words.{behind, full_line}
 use Rattle.ts_automaton.specs.AutomatonText.{words_text, lines_text}
 use Rattle.ts_automaton.specs.Lines.{is_semi, onto_cut, cut_of}
 use Rattle.ts_automaton.specs.Formula.{Formula}
-use Rattle.ts_automaton.specs.FormulaText.{stacked, onto_stack, stack_of, only_one, formula_of, texts}
+use Rattle.ts_automaton.specs.FormulaText.{stack_word, onto_stack, stack_of, only_one, formula_of, texts}
 
 pub behind-append : (xs ys : List (List ℕ)) → behind (xs ++ ys) ≡ behind xs ++ behind ys
 behind-append [] ys = refl
@@ -31,7 +31,7 @@ stuck (suc i) [] h = h
 stuck (suc i) (w ∷ ws) h = ap (onto_stack w.now) (stuck i ws h)
 
 pub refused : (ws : List (Bor (List ℕ))) (left : ℕ) (d : Bor (List ℕ)) (fs : List Formula) → 0 < left → left ≤ length ws →
-    stack_of (texts (drop left ws)) ≡ Some fs → stacked (get_or ws (left - 1) d).now fs ≡ None → None ≡ formula_of (texts ws)
+    stack_of (texts (drop left ws)) ≡ Some fs → stack_word (get_or ws (left - 1) d).now fs ≡ None → None ≡ formula_of (texts ws)
 refused ws left d fs some within read none =
     let back : suc (left - 1) ≡ left = omega arith in
     let here : stack_of (texts (drop (left - 1) ws)) ≡ None =

@@ -7,7 +7,7 @@ use Rattle.ts_base.specs.Words.{Words, strict_lines, without_lf, words_of, all_w
 use Rattle.ts_base.proofs.WordLaws.{AreSolid, words_again, text_is, text_again, words_no_lf, line_first, lines_are}
 use Rattle.ts_automaton.specs.AutomatonText.{Sheet, words_text, lines_text, block_lines}
 use Rattle.ts_automaton.specs.Grammar.{IsSheet, Part, AtHead, AtStates, AtMoves, AtEnd, Whole, part_words, IsPart, IsFirstBad, IsOpen, IsAgainstGrammar}
-use Rattle.ts_automaton.specs.Reading.{with_words, with_text, with_line, onward, with_lines, ended, sheet_reading}
+use Rattle.ts_automaton.specs.Reading.{with_words, with_text, with_line, onward, with_lines, end_sheet, sheet_reading}
 use Rattle.ts_automaton.proofs.LineLaws.{W}
 use Rattle.ts_automaton.proofs.GrowLaws.{map_more, length_more, grows, no_words}
 use Rattle.ts_automaton.proofs.FollowLaws.{Follows, follow, whole_follows}
@@ -163,10 +163,10 @@ first_bad texts k h =
 pub written_read : (b : Sheet) → IsSheet b → sheet_reading (lines_text (block_lines b)) ≡ Ok b
 written_read b is =
     let cut = follows_chunks AtHead (Whole b) (part_words (Whole b)) (whole_follows b is) in
-    ap (λ (x : List (List ℕ)). ended (length x + 1) (with_lines AtHead 1 x)) cut
-    ∙ ap (ended (length (map words_text (part_words (Whole b))) + 1)) (text_read (Whole b) is)
+    ap (λ (x : List (List ℕ)). end_sheet (length x + 1) (with_lines AtHead 1 x)) cut
+    ∙ ap (end_sheet (length (map words_text (part_words (Whole b))) + 1)) (text_read (Whole b) is)
 
-ended_only : (n : ℕ) (r : Result Part ℕ) (b : Sheet) → ended n r ≡ Ok b → r ≡ Ok (Whole b)
+ended_only : (n : ℕ) (r : Result Part ℕ) (b : Sheet) → end_sheet n r ≡ Ok b → r ≡ Ok (Whole b)
 ended_only n (Err k) b h = cc
 ended_only n (Ok AtHead) b h = cc
 ended_only n (Ok (AtStates way states)) b h = cc
@@ -193,7 +193,7 @@ cut_short texts d n k still e h place =
     let are = read.are ∙ ap (map words_text) (sym read.words) in
     inr (record { part = d; is = read.is; open_still = still; are = are; place = sym same ∙ place })
 
-ended_refused : (texts : List (List ℕ)) (r : Result Part ℕ) (k : ℕ) → with_lines AtHead 1 texts ≡ r → ended (length texts + 1) r ≡ Err k →
+ended_refused : (texts : List (List ℕ)) (r : Result Part ℕ) (k : ℕ) → with_lines AtHead 1 texts ≡ r → end_sheet (length texts + 1) r ≡ Err k →
     IsAgainstGrammar texts k
 ended_refused texts (Err j) k e h = let same : j ≡ k = cc in inl (first_bad texts k (e ∙ ap (λ (x : ℕ). Err x) same))
 ended_refused texts (Ok AtHead) k e h = cut_short texts AtHead _ k tt e h refl
@@ -239,7 +239,7 @@ bad_told texts k bad =
     ∙ lines_refused AtHead k 1 (map words_text (part_words bad.before)) bad.after bad.before bad.text (text_read bad.before bad.is) none
     (omega (arith, count, place))
 
-open_told : (n : ℕ) (d : Part) → IsOpen d → ended n (Ok d) ≡ Err n
+open_told : (n : ℕ) (d : Part) → IsOpen d → end_sheet n (Ok d) ≡ Err n
 open_told n AtHead h = refl
 open_told n (AtStates way states) h = refl
 open_told n (AtMoves way states start moves) h = refl
@@ -247,9 +247,9 @@ open_told n (AtEnd b) h = refl
 open_told n (Whole b) h = absurd h
 
 pub refused_again : (text : List ℕ) (k : ℕ) → IsAgainstGrammar (strict_lines text) k → sheet_reading text ≡ Err k
-refused_again text k (inl bad) = ap (ended (length (strict_lines text) + 1)) (bad_told (strict_lines text) k bad)
+refused_again text k (inl bad) = ap (end_sheet (length (strict_lines text) + 1)) (bad_told (strict_lines text) k bad)
 refused_again text k (inr short) =
     let n = length (strict_lines text) + 1 in
-    ap (ended n) (ap (with_lines AtHead 1) short.are ∙ text_read short.part short.is)
+    ap (end_sheet n) (ap (with_lines AtHead 1) short.are ∙ text_read short.part short.is)
     ∙ open_told n short.part short.open_still
     ∙ ap (λ (m : ℕ). Err m) (sym short.place)

@@ -8,7 +8,7 @@ use Rattle.ts_base.specs.declared.letter.Letter.{Letter}
 use Rattle.ts_base.specs.declared.letter.Letter.TheVariants.{Less, Equal, Greater}
 use Rattle.ts_automaton.specs.declared.typing.Place.TheVariants.{Start, Moving, Finish}
 use Rattle.ts_automaton.specs.Kinds.{formula_kind}
-use Rattle.ts_automaton.specs.Body.{Node, Body, move_on, node_at, resting}
+use Rattle.ts_automaton.specs.Body.{Node, Body, move_on, node_at, rest_node}
 use Rattle.ts_automaton.specs.Typing.{has_few_states, has_names, has_constants, has_targets, has_short_expressions, is_formed, is_typed, is_automaton, leads_below, moves_from, is_typed_at, is_move_typed, is_finish_typed, is_finish_typed_where_held, reads_registers, kinds_where, kinds_at}
 
 -- the rules as facts
@@ -42,7 +42,7 @@ pub target_exists : (b : Body) → Rules b → (q : ℕ) (l : Letter) → q < le
 target_exists b r q l h = go l
   where
     all : IsTrue (leads_below (length b.states) (node_at b.states q))
-    all = passed_at (leads_below (length b.states)) b.states q resting r.targets h
+    all = passed_at (leads_below (length b.states)) b.states q rest_node r.targets h
 
     front : IsTrue (nat_lt (node_at b.states q).less.next (length b.states) && nat_lt (node_at b.states q).equal.next (length b.states))
     front = (and_parts _ _ all).0

@@ -18,7 +18,7 @@ use Rattle.ts_automaton.specs.Registers.{EachOf, each, Each, numbers, spans, ext
 use Rattle.ts_automaton.specs.Kinds.{HasKind, SpanHasKind, Fits}
 use Rattle.ts_automaton.specs.Body.{Body, Move}
 use Rattle.ts_automaton.specs.Typing.{kinds_at}
-use Rattle.ts_automaton.specs.AutomatonRun.{Standing, Stands, moved, finished, marked, IsInMark, move_between}
+use Rattle.ts_automaton.specs.AutomatonRun.{Standing, Stands, registers_after, finish_value, under_mark, IsInMark, move_between}
 use Rattle.ts_automaton.specs.SpanRun.{none_hull, has_registers, one_hull, HoldsRegs, HullStands, moved_hull, marked_span}
 use Rattle.ts_automaton.specs.Laws.{StepsHold, FinishesHold, MarksHold, StepsStaySingle, FinishesStaySingle, NonesStay, KindsAreKept, OperandsFit}
 use Rattle.ts_automaton.proofs.Evaluation.{value_related}
@@ -36,9 +36,9 @@ holds_registers h s k =
     and_from (has_some h.c && has_some h.d) (has_some h.r) (and_from (has_some h.c) (has_some h.d) (holds_some h.c s.c k.0) (holds_some h.d s.d k.1))
     (holds_some h.r s.r k.2)
 
-moved_holds : (m : Move) (s : EachOf Ext) (h : EachOf Span) (x y : ℤ) → HoldsRegs h s → HoldsRegs (moved_hull h x y m) (moved numbers s x y m)
+moved_holds : (m : Move) (s : EachOf Ext) (h : EachOf Span) (x y : ℤ) → HoldsRegs h s → HoldsRegs (moved_hull h x y m) (registers_after numbers s x y m)
 moved_holds m s h x y k =
-    subst (λ v. HoldsRegs (cond v (moved spans h x y m) none_hull) (moved numbers s x y m)) (sym (holds_registers h s k))
+    subst (λ v. HoldsRegs (cond v (registers_after spans h x y m) none_hull) (registers_after numbers s x y m)) (sym (holds_registers h s k))
     (value_holds m.to.c s h x y k, value_holds m.to.d s h x y k, value_holds m.to.r s h x y k)
 
 pub steps_hold : StepsHold
@@ -46,7 +46,8 @@ steps_hold b q s h x y k = (refl, moved_holds (move_between b q x y) s h x y k)
 
 pub finishes_hold : FinishesHold
 finishes_hold b s h k =
-    subst (λ v. Holds (cond v (finished spans b h) none_span) (finished numbers b s)) (sym (holds_registers h s k)) (value_holds b.finish s h (pos 0) (pos 0) k)
+    subst (λ v. Holds (cond v (finish_value spans b h) none_span) (finish_value numbers b s)) (sym (holds_registers h s k))
+    (value_holds b.finish s h (pos 0) (pos 0) k)
 
 -- the span of an expression over single registers is single
 pub value_single : (f : Formula) (s : EachOf Ext) (x y : ℤ) → value_in spans (one_hull s) x y f ≡ one_span (value_in numbers s x y f)
@@ -64,7 +65,7 @@ each_same c d r c' d' r' p q t = ap (λ z. each z d r) p ∙ ap (λ z. each c' z
 pub steps_stay_single : StepsStaySingle
 steps_stay_single b q s x y =
     let m = move_between b q x y in
-    ap (λ v. record { state = m.next; regs = cond v (moved spans (one_hull s) x y m) none_hull }) (one_registers s)
+    ap (λ v. record { state = m.next; regs = cond v (registers_after spans (one_hull s) x y m) none_hull }) (one_registers s)
     ∙ ap (λ g. record { state = m.next; regs = g }) (each_same _ _ _ _ _ _ (value_single m.to.c s x y) (value_single m.to.d s x y) (value_single m.to.r s x y))
 
 hull_single : (e : Ext) → span_hull (one_span e) (one_span e) ≡ one_span e
@@ -72,18 +73,19 @@ hull_single e =
     ap (λ v. cond v (cond v (record { lo = ext_min e e; hi = ext_max e e }) (one_span e)) (cond v (one_span e) none_span)) (one_some e)
     ∙ elim (ext_le e e) as (λ v. record { lo = cond v e e; hi = cond v e e } ≡ one_span e) [ true ↦ refl | false ↦ refl ]
 
-pub mark_single : (k : Mark) (n : ℕ) (e : Ext) → marked_span k n (one_span e) ≡ one_span (marked k n e)
-mark_single k n e = ap (λ v. cond v (span_hull (one_span (marked k n e)) (one_span (marked k n e))) none_span) (one_some e) ∙ hull_single (marked k n e)
+pub mark_single : (k : Mark) (n : ℕ) (e : Ext) → marked_span k n (one_span e) ≡ one_span (under_mark k n e)
+mark_single k n e = ap (λ v. cond v (span_hull (one_span (under_mark k n e)) (one_span (under_mark k n e))) none_span) (one_some e) ∙
+    hull_single (under_mark k n e)
 
 pub finishes_stay_single : FinishesStaySingle
 finishes_stay_single b q s n =
-    ap (λ v. marked_span b.mark n (cond v (finished spans b (one_hull s)) none_span)) (one_registers s)
-    ∙ ap (marked_span b.mark n) (value_single b.finish s (pos 0) (pos 0)) ∙ mark_single b.mark n (finished numbers b s)
+    ap (λ v. marked_span b.mark n (cond v (finish_value spans b (one_hull s)) none_span)) (one_registers s)
+    ∙ ap (marked_span b.mark n) (value_single b.finish s (pos 0) (pos 0)) ∙ mark_single b.mark n (finish_value numbers b s)
 
 pub nones_stay : NonesStay
 nones_stay b q h e = (
-  (λ x y. ap (λ v. cond v (moved spans h x y (move_between b q x y)) none_hull) e),
-  (λ n. ap (λ v. marked_span b.mark n (cond v (finished spans b h) none_span)) e),
+  (λ x y. ap (λ v. cond v (registers_after spans h x y (move_between b q x y)) none_hull) e),
+  (λ n. ap (λ v. marked_span b.mark n (cond v (finish_value spans b h) none_span)) e),
 )
 
 one_kinds : (k : EachOf RegKind) (s : EachOf Ext) → Each HasKind k s → Each SpanHasKind k (one_hull s)
@@ -119,14 +121,14 @@ between : (a b e : Ext) → IsTrue (ext_le a e) → IsTrue (ext_le e b) → Hold
 between a b e p q =
     let i = one_some a in let j = one_some b in rw (i, j) (le_trans (ext_min a b) a e (min_left a b) p, le_trans e b (ext_max a b) q (max_right a b))
 
-zero_holds : (n : ℕ) (lo hi v : Ext) → IsTrue (ext_le lo v) → IsTrue (ext_le v hi) → IsInMark Zero n (marked Zero n v) →
-    Holds (span_hull (one_span (marked Zero n lo)) (one_span (marked Zero n hi))) (marked Zero n v)
-zero_holds n NegInf hi NegInf h k i = hull_left (one_span (Number (pos 0))) (one_span (marked Zero n hi)) (Number (pos 0)) (holds_one (Number (pos 0)))
+zero_holds : (n : ℕ) (lo hi v : Ext) → IsTrue (ext_le lo v) → IsTrue (ext_le v hi) → IsInMark Zero n (under_mark Zero n v) →
+    Holds (span_hull (one_span (under_mark Zero n lo)) (one_span (under_mark Zero n hi))) (under_mark Zero n v)
+zero_holds n NegInf hi NegInf h k i = hull_left (one_span (Number (pos 0))) (one_span (under_mark Zero n hi)) (Number (pos 0)) (holds_one (Number (pos 0)))
 zero_holds n NegInf (Number w) (Number x) h k i = between (Number (pos 0)) (Number w) (Number x) i k
 zero_holds n NegInf PosInf (Number x) h k i = between (Number (pos 0)) PosInf (Number x) i refl
 zero_holds n (Number z) (Number w) (Number x) h k i = between (Number z) (Number w) (Number x) h k
 zero_holds n (Number z) PosInf (Number x) h k i = between (Number z) PosInf (Number x) h refl
-zero_holds n lo PosInf PosInf h k i = between (marked Zero n lo) PosInf PosInf (le_top (marked Zero n lo)) refl
+zero_holds n lo PosInf PosInf h k i = between (under_mark Zero n lo) PosInf PosInf (le_top (under_mark Zero n lo)) refl
 zero_holds n (Number z) hi NegInf h k i = cc
 zero_holds n PosInf hi NegInf h k i = cc
 zero_holds n lo NegInf (Number x) h k i = cc
@@ -134,14 +136,14 @@ zero_holds n PosInf hi (Number x) h k i = cc
 zero_holds n lo NegInf PosInf h k i = cc
 zero_holds n lo (Number w) PosInf h k i = cc
 
-cells_hold : (n : ℕ) (lo hi v : Ext) → IsTrue (ext_le lo v) → IsTrue (ext_le v hi) → IsInMark Cells n (marked Cells n v) →
-    Holds (span_hull (one_span (marked Cells n lo)) (one_span (marked Cells n hi))) (marked Cells n v)
-cells_hold n lo PosInf PosInf h k i = hull_right (one_span (marked Cells n lo)) (one_span (Number (pos n))) (Number (pos n)) (holds_one (Number (pos n)))
+cells_hold : (n : ℕ) (lo hi v : Ext) → IsTrue (ext_le lo v) → IsTrue (ext_le v hi) → IsInMark Cells n (under_mark Cells n v) →
+    Holds (span_hull (one_span (under_mark Cells n lo)) (one_span (under_mark Cells n hi))) (under_mark Cells n v)
+cells_hold n lo PosInf PosInf h k i = hull_right (one_span (under_mark Cells n lo)) (one_span (Number (pos n))) (Number (pos n)) (holds_one (Number (pos n)))
 cells_hold n NegInf (Number w) (Number x) h k i = between NegInf (Number w) (Number x) refl k
 cells_hold n (Number z) (Number w) (Number x) h k i = between (Number z) (Number w) (Number x) h k
 cells_hold n NegInf PosInf (Number x) h k i = between NegInf (Number (pos n)) (Number x) refl i
 cells_hold n (Number z) PosInf (Number x) h k i = between (Number z) (Number (pos n)) (Number x) h i
-cells_hold n NegInf hi NegInf h k i = between NegInf (marked Cells n hi) NegInf refl refl
+cells_hold n NegInf hi NegInf h k i = between NegInf (under_mark Cells n hi) NegInf refl refl
 cells_hold n (Number z) hi NegInf h k i = cc
 cells_hold n PosInf hi NegInf h k i = cc
 cells_hold n lo NegInf (Number x) h k i = cc
@@ -151,10 +153,10 @@ cells_hold n lo (Number w) PosInf h k i = cc
 
 pub marks_hold : MarksHold
 marks_hold Zero n s e h i =
-    subst (λ v. Holds (cond v (span_hull (one_span (marked Zero n s.lo)) (one_span (marked Zero n s.hi))) none_span) (marked Zero n e))
+    subst (λ v. Holds (cond v (span_hull (one_span (under_mark Zero n s.lo)) (one_span (under_mark Zero n s.hi))) none_span) (under_mark Zero n e))
     (sym (holds_some s e h)) (zero_holds n s.lo s.hi e h.0 h.1 i)
 marks_hold Cells n s e h i =
-    subst (λ v. Holds (cond v (span_hull (one_span (marked Cells n s.lo)) (one_span (marked Cells n s.hi))) none_span) (marked Cells n e))
+    subst (λ v. Holds (cond v (span_hull (one_span (under_mark Cells n s.lo)) (one_span (under_mark Cells n s.hi))) none_span) (under_mark Cells n e))
     (sym (holds_some s e h)) (cells_hold n s.lo s.hi e h.0 h.1 i)
 marks_hold Same n s e h i =
     subst (λ v. Holds (cond v (span_hull (one_span s.lo) (one_span s.hi)) none_span) e) (sym (holds_some s e h)) (between s.lo s.hi e h.0 h.1)

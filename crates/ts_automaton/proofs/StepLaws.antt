@@ -12,7 +12,7 @@ use Rattle.ts_automaton.specs.Registers.{EachOf, Each, Values, numbers, spans, v
 use Rattle.ts_automaton.specs.Kinds.{kind_of, HasKind, SpanHasKind, Fits, SpansFit, formula_kind}
 use Rattle.ts_automaton.specs.Body.{Body, Move, move_on, node_at}
 use Rattle.ts_automaton.specs.Typing.{fits_kind, kinds_where, kinds_at, is_move_typed, is_automaton}
-use Rattle.ts_automaton.specs.AutomatonRun.{Standing, Stands, start_of, moved}
+use Rattle.ts_automaton.specs.AutomatonRun.{Standing, Stands, start_of, registers_after}
 use Rattle.ts_automaton.specs.SpanRun.{none_hull, has_registers, moved_hull, HullHasKinds, HullStands}
 use Rattle.ts_automaton.proofs.Evaluation.{HasIfSome, value_has, takes_typed}
 use Rattle.ts_automaton.proofs.KindLaws.{TypedValues, numbers_typed, spans_typed}
@@ -45,7 +45,7 @@ module _ {A : Type 0} (m : Values A) (Has : RegKind → A → Type 0) (P : Op �
       (takes_one _ _ _ s x y k w.0, takes_one _ _ _ s x y k w.1, takes_one _ _ _ s x y k v.1)
 
   pub move_keeps : (b : Body) → IsTrue (is_automaton b) → (q : ℕ) (l : Letter) → q < length b.states → (s : EachOf A) → Each Has (kinds_at b q) s →
-      (u : Move) → u ≡ move_on l (node_at b.states q) → (x y : ℤ) → Each Has (kinds_at b u.next) (moved m s x y u)
+      (u : Move) → u ≡ move_on l (node_at b.states q) → (x y : ℤ) → Each Has (kinds_at b u.next) (registers_after m s x y u)
   move_keeps b r q l h s k u e x y =
       let v = and_parts _ _ (subst (λ w. IsTrue (is_move_typed b q w)) (sym e) (move_typed b (rules_of b r) q l h)) in
       let w = and_parts _ _ v.0 in
@@ -63,7 +63,7 @@ next_exists b r q l h u e = subst (λ w. w.next < length b.states) (sym e) (targ
 
 -- the step of numbers, and that of spans, from a state in which the registers have their kinds
 pub stands_after : (b : Body) → IsTrue (is_automaton b) → (s : Standing Ext) → Stands b s → (l : Letter) (u : Move) → u ≡ move_on l (node_at b.states s.state) →
-    (x y : ℤ) (r : EachOf Ext) → r ≡ moved numbers s.regs x y u → Stands b (record { state = u.next; regs = r })
+    (x y : ℤ) (r : EachOf Ext) → r ≡ registers_after numbers s.regs x y u → Stands b (record { state = u.next; regs = r })
 stands_after b a s h l u e x y r i = record {
   exists = next_exists b a s.state l h.exists u e;
   kinds = subst (Each HasKind (kinds_at b u.next)) (sym i) (move_keeps numbers HasKind Fits numbers_typed b a s.state l h.exists s.regs h.kinds u e x y);
@@ -97,7 +97,7 @@ hull_stands_after b a s h l u e x y r i = record {
   kinds = subst (HullHasKinds (kinds_at b u.next)) (sym i) (go (has_registers s.regs) refl);
 }
   where
-    go : (v : Bool) → has_registers s.regs ≡ v → HullHasKinds (kinds_at b u.next) (cond v (moved spans s.regs x y u) none_hull)
+    go : (v : Bool) → has_registers s.regs ≡ v → HullHasKinds (kinds_at b u.next) (cond v (registers_after spans s.regs x y u) none_hull)
     go false t = inl refl
     go true t = inr (move_keeps spans SpanHasKind SpansFit spans_typed b a s.state l h.exists s.regs (spans_have (kinds_at b s.state) s.regs h.kinds t) u e x y)
 

@@ -28,8 +28,8 @@ abbrev pub move_between : Body → ℕ → ℤ → ℤ → Move
 move_between b q x y = move_on (letter_of x y) (node_at b.states q)
 
 -- the new registers of a move
-abbrev pub moved : {A : Type 0} → Values A → EachOf A → ℤ → ℤ → Move → EachOf A
-moved m s x y t = map_each (value_in m s x y) t.to
+abbrev pub registers_after : {A : Type 0} → Values A → EachOf A → ℤ → ℤ → Move → EachOf A
+registers_after m s x y t = map_each (value_in m s x y) t.to
 
 -- the state exists, and the registers have the kinds that they have there
 pub record Stands (b : Body) (s : Standing Ext) : Type 0 where
@@ -42,24 +42,24 @@ start_of b = record { state = 0; regs = b.start }
 abbrev pub step_of : Body → Standing Ext → ℤ → ℤ → Standing Ext
 step_of b s x y =
     let m = move_between b s.state x y in
-    record { state = m.next; regs = moved numbers s.regs x y m }
+    record { state = m.next; regs = registers_after numbers s.regs x y m }
 
 -- what becomes of an answer after n cells: -inf becomes 0 under one mark, +inf the number of cells under the other
-abbrev pub marked : Mark → ℕ → Ext → Ext
-marked Same n e = e
-marked Zero n NegInf = Int (pos 0)
-marked Zero n (Int x) = Int x
-marked Zero n PosInf = PosInf
-marked Cells n NegInf = NegInf
-marked Cells n (Int x) = Int x
-marked Cells n PosInf = Int (pos n)
+abbrev pub under_mark : Mark → ℕ → Ext → Ext
+under_mark Same n e = e
+under_mark Zero n NegInf = Int (pos 0)
+under_mark Zero n (Int x) = Int x
+under_mark Zero n PosInf = PosInf
+under_mark Cells n NegInf = NegInf
+under_mark Cells n (Int x) = Int x
+under_mark Cells n PosInf = Int (pos n)
 
 -- the finish expression, before the mark
-abbrev pub finished : {A : Type 0} → Values A → Body → EachOf A → A
-finished m b s = value_in m s (pos 0) (pos 0) b.finish
+abbrev pub finish_value : {A : Type 0} → Values A → Body → EachOf A → A
+finish_value m b s = value_in m s (pos 0) (pos 0) b.finish
 
 abbrev pub finish_of : Body → Standing Ext → ℕ → Ext
-finish_of b s n = marked b.mark n (finished numbers b s.regs)
+finish_of b s n = under_mark b.mark n (finish_value numbers b s.regs)
 
 -- where the automaton stands after a series, from a state at its first cell
 abbrev pub after_from : Body → Standing Ext → ℤ → List ℤ → Standing Ext
@@ -85,6 +85,7 @@ AreCellValues [] = Unit {0}
 AreCellValues (x ∷ xs) = IsCellValue x × AreCellValues xs
 
 -- the mark's promise holds of the answer on every series within the limits
-abbrev pub Marked : Body → Type 0
-Marked b =
-    (xs : List ℤ) → 1 ≤ length xs → length xs ≤ most_cells → AreCellValues xs → IsInMark b.mark (length xs) (answer b xs)
+abbrev pub HoldsMark : Body → Type 0
+HoldsMark b =
+    (xs : List ℤ) → 1 ≤ length xs → length xs ≤ most_cells → AreCellValues xs →
+    IsInMark b.mark (length xs) (answer b xs)

@@ -49,13 +49,13 @@ move_on Equal s = s.equal
 move_on Greater s = s.greater
 
 -- what stands for a state that doesn't exist: it is free, and stays at the start
-abbrev pub resting : Node
-resting =
+abbrev pub rest_node : Node
+rest_node =
     let stay : Move = record { next = 0; to = each (Leaf C) (Leaf D) (Leaf R) } in
     record { name = 0; held = false; less = stay; equal = stay; greater = stay }
 
 abbrev pub node_at : List Node → ℕ → Node
-node_at ss q = get_or ss q resting
+node_at ss q = get_or ss q rest_node
 
 -- what contracts see of the parts of an automaton
 abbrev pub parts_of : Parts → Body

@@ -58,12 +58,12 @@ stacked_by None (Some o) [] = None
 stacked_by None (Some o) (f ∷ []) = None
 stacked_by None (Some o) (f ∷ g ∷ fs) = Some (Join o f g ∷ fs)
 
-abbrev pub stacked : List ℕ → List Formula → Option (List Formula)
-stacked w fs = stacked_by (atom_of w) (op_of w) fs
+abbrev pub stack_word : List ℕ → List Formula → Option (List Formula)
+stack_word w fs = stacked_by (atom_of w) (op_of w) fs
 
 abbrev pub onto_stack : List ℕ → Option (List Formula) → Option (List Formula)
 onto_stack w None = None
-onto_stack w (Some fs) = stacked w fs
+onto_stack w (Some fs) = stack_word w fs
 
 -- the expressions that these words are, one after the other
 abbrev pub stack_of : List (List ℕ) → Option (List Formula)

@@ -75,17 +75,17 @@ abbrev pub with_lines : Part → ℕ → List (List ℕ) → Result Part ℕ
 with_lines d n [] = Ok d
 with_lines d n (t ∷ ts) = onward n (with_line d t) (λ e. with_lines e (n + 1) ts)
 
-abbrev pub ended : ℕ → Result Part ℕ → Result Sheet ℕ
-ended n (Err k) = Err k
-ended n (Ok AtHead) = Err n
-ended n (Ok (AtStates way states)) = Err n
-ended n (Ok (AtMoves way states start moves)) = Err n
-ended n (Ok (AtEnd b)) = Err n
-ended n (Ok (Whole b)) = Ok b
+abbrev pub end_sheet : ℕ → Result Part ℕ → Result Sheet ℕ
+end_sheet n (Err k) = Err k
+end_sheet n (Ok AtHead) = Err n
+end_sheet n (Ok (AtStates way states)) = Err n
+end_sheet n (Ok (AtMoves way states start moves)) = Err n
+end_sheet n (Ok (AtEnd b)) = Err n
+end_sheet n (Ok (Whole b)) = Ok b
 
 -- the block of a text, or the number of the first line against the grammar; an end that is missing counts as a line
 abbrev pub sheet_reading : List ℕ → Result Sheet ℕ
-sheet_reading text = ended (length (strict_lines text) + 1) (with_lines AtHead 1 (strict_lines text))
+sheet_reading text = end_sheet (length (strict_lines text) + 1) (with_lines AtHead 1 (strict_lines text))
 
 -- what the code holds, as plain data
 abbrev pub sheet_seen : HeldSheet → Sheet

@@ -10,7 +10,7 @@ use Rattle.ts_automaton.specs.Registers.{EachOf, each, map_each, Each, spans_of,
 use Rattle.ts_automaton.specs.Kinds.{SpanHasKind}
 use Rattle.ts_automaton.specs.Typing.{kinds_at}
 use Rattle.ts_automaton.specs.Body.{Body, Move}
-use Rattle.ts_automaton.specs.AutomatonRun.{Standing, move_between, moved, marked, finished}
+use Rattle.ts_automaton.specs.AutomatonRun.{Standing, move_between, registers_after, under_mark, finish_value}
 
 -- the one form of a hull that holds no registers
 abbrev pub none_hull : EachOf Span
@@ -43,7 +43,7 @@ pub record HullStands (b : Body) (s : Standing Span) : Type 0 where
 
 -- the new spans of a move; none stays none
 abbrev pub moved_hull : EachOf Span → ℤ → ℤ → Move → EachOf Span
-moved_hull h x y m = if has_registers h then moved spans h x y m else none_hull
+moved_hull h x y m = if has_registers h then registers_after spans h x y m else none_hull
 
 -- the step on a hull
 abbrev pub span_step : Body → Standing Span → ℤ → ℤ → Standing Span
@@ -53,12 +53,12 @@ span_step b s x y =
 
 -- the finish span before the mark
 abbrev pub finished_span : Body → EachOf Span → Span
-finished_span b h = if has_registers h then finished spans b h else none_span
+finished_span b h = if has_registers h then finish_value spans b h else none_span
 
 -- a mark on both ends, and the hull of the two; none stays none
 abbrev pub marked_span : Mark → ℕ → Span → Span
 marked_span k n s =
-    if has_some s then span_hull (one_span (marked k n s.lo)) (one_span (marked k n s.hi)) else none_span
+    if has_some s then span_hull (one_span (under_mark k n s.lo)) (one_span (under_mark k n s.hi)) else none_span
 
 abbrev pub finish_span_of : Body → Standing Span → ℕ → Span
 finish_span_of b s n = marked_span b.mark n (finished_span b s.regs)

@@ -3,7 +3,7 @@
 ghost use Rattle.std.specs.Prelude.{◌≡◌, ◌++◌, true, false, Some, None, IfOk, OnOk, option_map};
 ghost use Rattle.ts_base.specs.Words.{behind};
 ghost use Rattle.ts_automaton.specs.Formula.{Leaf, formula};
-ghost use Rattle.ts_automaton.specs.FormulaText.{atom_of, op_of, formula_words, stacked, only_one, formula_of, texts, stack_seen};
+ghost use Rattle.ts_automaton.specs.FormulaText.{atom_of, op_of, formula_words, stack_word, only_one, formula_of, texts, stack_seen};
 
 use crate::expr::{Atom, Expr, Op};
 use std::alloc::Global;
@@ -74,8 +74,8 @@ fn leaf(atom: Atom) -> Expr
 /// where the word is neither, or an operator finds no two.
 fn stacked(alloc: Global, stack: &mut Vec<Expr>, word: &[u8]) -> Result<bool, Memory>
     ensures taken { IfOk result (λ b.
-        b ≡ true → stacked word.now (stack_seen stack.old.items) ≡ Some (stack_seen stack.new.items)) }
-    ensures refused { IfOk result (λ b. b ≡ false → stacked word.now (stack_seen stack.old.items) ≡ None) }
+        b ≡ true → stack_word word.now (stack_seen stack.old.items) ≡ Some (stack_seen stack.new.items)) }
+    ensures refused { IfOk result (λ b. b ≡ false → stack_word word.now (stack_seen stack.old.items) ≡ None) }
 {
     match atom_of(word) {
         Some(atom) => {

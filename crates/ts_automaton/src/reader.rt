@@ -5,7 +5,7 @@ ghost use Rattle.ts_automaton.specs.FormulaText.{texts};
 ghost use Rattle.ts_automaton.specs.Registers.{regs_of};
 ghost use Rattle.ts_automaton.specs.Body.{move_of};
 ghost use Rattle.ts_automaton.specs.Grammar.{AtStates, AtMoves};
-ghost use Rattle.ts_automaton.specs.Reading.{is_state_line, with_words, with_line, ended, sheet_reading, part_seen, HasFew, ReadsSheet};
+ghost use Rattle.ts_automaton.specs.Reading.{is_state_line, with_words, with_line, end_sheet, sheet_reading, part_seen, HasFew, ReadsSheet};
 
 use crate::draft::{Draft, Sheet, StateLine, Way};
 use crate::line_words::{word_at, word_count, words_in};
@@ -143,7 +143,7 @@ fn with_line(alloc: Global, draft: Draft, text: &[u8]) -> Result<Option<Draft>, 
 
 /// The block that was read up to this line, or the line where its end is missing.
 fn ended(line: u32, draft: Draft) -> Result<Sheet, AutoStop>
-    ensures { ReadsSheet result (ended line (Ok (part_seen draft))) }
+    ensures { ReadsSheet result (end_sheet line (Ok (part_seen draft))) }
 {
     match draft {
         Draft::Whole(sheet) => Ok(sheet),

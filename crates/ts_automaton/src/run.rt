@@ -1,7 +1,7 @@
 //! Runs over numbers.
 
 ghost use Rattle.std.specs.Prelude.{◌≡◌};
-ghost use Rattle.ts_automaton.specs.AutomatonRun.{Stands, finish_of, marked, moved, standing_of, start_of, step_of};
+ghost use Rattle.ts_automaton.specs.AutomatonRun.{Stands, finish_of, under_mark, registers_after, standing_of, start_of, step_of};
 ghost use Rattle.ts_automaton.specs.Body.{move_of};
 ghost use Rattle.ts_automaton.specs.Formula.{formula};
 ghost use Rattle.ts_automaton.specs.Kinds.{Fits};
@@ -53,7 +53,7 @@ impl Turn {
     /// The registers after the move.
     fn moved(&self, regs: &Regs, this: i64, next: i64) -> Regs
         requires { TakesAll Fits numbers (regs_of regs.now) this next (move_of self.now).to }
-        ensures { regs_of result ≡ moved numbers (regs_of regs.now) this next (move_of self.now) }
+        ensures { regs_of result ≡ registers_after numbers (regs_of regs.now) this next (move_of self.now) }
     {
         Regs {
             c: self.c.value(regs, this, next),
@@ -113,7 +113,7 @@ impl Op {
 impl Mark {
     /// What becomes of an answer after `n` cells.
     pub fn applied(self, answer: Ext, n: u32) -> Ext
-        ensures { result ≡ marked self n answer }
+        ensures { result ≡ under_mark self n answer }
     {
         match (self, answer) {
             (Mark::Zero, Ext::NegInf) => Ext::Int(0),

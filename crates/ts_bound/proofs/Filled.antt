@@ -17,7 +17,7 @@ use Rattle.ts_automaton.specs.AutomatonRun.{Standing}
 use Rattle.ts_automaton.specs.SpanRun.{HullStands, span_step, hull_standing, one_hull}
 use Rattle.ts_base.specs.declared.span.Span.{Span}
 use Rattle.ts_bound.specs.Hulls.{hull_of, none, hull_of_both}
-use Rattle.ts_bound.specs.NextRow.{Source, standing_at, sources_from, sources, given, next_hull, next_hulls, next_row}
+use Rattle.ts_bound.specs.NextRow.{Source, standing_at, sources_from, sources, hull_from, next_hull, next_hulls, next_row}
 use Rattle.ts_bound.specs.Filling.{over, taken_in}
 use Rattle.ts_bound.specs.HullTables.{start_hull, hull_at, hulls_at, row_of}
 use Rattle.ts_bound.proofs.HullLaws.{TakesNone, both_takes_none, none_takes_none}
@@ -263,8 +263,8 @@ folded_over b w at xs bl (s ∷ ss) fits long leads =
 
 taken_at : (b : Body) (w : ℤ) (bl : List Hull) (s : Source) (q : ℕ) → length bl ≡ length b.states →
     (span_step b (standing_at s) s.value w).state < length b.states →
-    TakesNone (get_or bl q none) → get_or (taken b w bl s) q none ≡ hull_of_both (get_or bl q none) (given b w q s)
-unfolding taken given
+    TakesNone (get_or bl q none) → get_or (taken b w bl s) q none ≡ hull_of_both (get_or bl q none) (hull_from b w q s)
+unfolding taken hull_from
 taken_at b w bl s q long leads takes = go (nat_eq to.state q) refl
   where
     to : Standing Span
@@ -281,12 +281,13 @@ taken_at b w bl s q long leads takes = go (nat_eq to.state q) refl
     go false e = get_or-set_other bl to.state q x none (λ p. eqb-false to.state q e (sym p)) ∙ sym takes
 
 takens_at : (b : Body) (w : ℤ) (bl : List Hull) (ss : List Source) (q : ℕ) → length bl ≡ length b.states → Leads b w ss → TakesNone (get_or bl q none) →
-    get_or (fold (taken b w) bl ss) q none ≡ fold hull_of_both (get_or bl q none) (map (given b w q) ss)
+    get_or (fold (taken b w) bl ss) q none ≡ fold hull_of_both (get_or bl q none) (map (hull_from b w q) ss)
 takens_at b w bl [] q long leads takes = refl
 takens_at b w bl (s ∷ ss) q long leads takes =
     let e = taken_at b w bl s q long leads.0 takes in
-    takens_at b w (taken b w bl s) ss q (length-taken b w bl s ∙ long) leads.1 (subst TakesNone (sym e) (both_takes_none (get_or bl q none) (given b w q s)))
-    ∙ ap (λ t. fold hull_of_both t (map (given b w q) ss)) e
+    takens_at b w (taken b w bl s) ss q (length-taken b w bl s ∙ long) leads.1
+    (subst TakesNone (sym e) (both_takes_none (get_or bl q none) (hull_from b w q s)))
+    ∙ ap (λ t. fold hull_of_both t (map (hull_from b w q) ss)) e
 
 all_hulls : (b : Body) (w : ℤ) (ss : List Source) → Leads b w ss → fold (taken b w) (replicate (length b.states) none) ss ≡ next_hulls b ss w
 unfolding next_hulls next_hull
@@ -294,7 +295,7 @@ all_hulls b w ss leads =
     let n = length b.states in let long = length-replicate n none in
     fill_by_all (next_hull b ss w) (fold (taken b w) (replicate n none) ss) n none (length-takens b w (replicate n none) ss ∙ long)
     (λ q lt. let at = get_or-replicate n q none none lt in
-    takens_at b w (replicate n none) ss q long leads (subst TakesNone (sym at) none_takes_none) ∙ ap (λ t. fold hull_of_both t (map (given b w q) ss)) at)
+    takens_at b w (replicate n none) ss q long leads (subst TakesNone (sym at) none_takes_none) ∙ ap (λ t. fold hull_of_both t (map (hull_from b w q) ss)) at)
 
 leads_of : (b : Body) (w : ℤ) (ss : List Source) → ((s : Standing Span) → HullStands b s → (x y : ℤ) → HullStands b (span_step b s x y)) →
     AllStand b ss → Leads b w ss
@@ -342,9 +343,9 @@ left_fits n m f ws left left' w at next is is_m inv = let g = part_fits n left l
 
 pub left_more : (n m : ℕ) (f : ℤ → List Hull) → ((w : ℤ) → length (f w) ≡ n) → (ws left left' : List ℤ) (w w' : ℤ) (at : ℕ) (next next' : List Hull) →
     left ≡ w ∷ left' → w' ≡ w → m ≡ n → next' ≡ over next at (f w') → LeftOf n f ws left at next → LeftOf n f ws left' (at + m) next'
-left_more n m f size ws left left' w w' at next next' is is_w is_m given inv =
+left_more n m f size ws left left' w w' at next next' is is_w is_m hull_from inv =
     let hs = f w in
-    let step : next' ≡ over next at hs = given ∙ ap (λ u. over next at (f u)) is_w in
+    let step : next' ≡ over next at hs = hull_from ∙ ap (λ u. over next at (f u)) is_w in
     let long = size w in
     let fits : at + length hs ≤ length next = (let g = part_fits n left left' w at next is inv.1 in omega (arith, g, long)) in
     let l = ap (λ t. length t * n) is in
@@ -363,9 +364,9 @@ left_done n f ws left at next none_left inv =
 pub values_more : (b : Body) (m : ℕ) (vs ws left left' : List ℤ) (w w' : ℤ) (row : List Hull) (at : ℕ) (next next' : List Hull) → left ≡ w ∷ left' →
     w' ≡ w → m ≡ length b.states → next' ≡ over next at (next_hulls b (sources (length b.states) vs row) w') → LeftOfValues b vs row ws left at next →
     LeftOfValues b vs row ws left' (at + m) next'
-values_more b m vs ws left left' w w' row at next next' is is_w is_m given inv =
+values_more b m vs ws left left' w w' row at next next' is is_w is_m hull_from inv =
     let n = length b.states in
-    left_more n m (next_hulls b (sources n vs row)) (length-next_hulls b (sources n vs row)) ws left left' w w' at next next' is is_w is_m given inv
+    left_more n m (next_hulls b (sources n vs row)) (length-next_hulls b (sources n vs row)) ws left left' w w' at next next' is is_w is_m hull_from inv
 
 pub values_done : (b : Body) (vs ws left : List ℤ) (row : List Hull) (at : ℕ) (next : List Hull) → left ≡ [] → LeftOfValues b vs row ws left at next →
     next ≡ next_row b vs row ws
@@ -414,9 +415,9 @@ LeftOfStart b ws left at next = LeftOf (length b.states) (hulls_at b []) ws left
 pub start_more : (b : Body) (m : ℕ) (ws left left' : List ℤ) (w : ℤ) (at : ℕ) (h : Hull) (next next' : List Hull) → left ≡ w ∷ left' → m ≡ length b.states →
     1 ≤ m → h ≡ hull_of (one_hull b.start) → next' ≡ over next at (set (replicate m none) 0 h) → LeftOfStart b ws left at next →
     LeftOfStart b ws left' (at + m) next'
-start_more b m ws left left' w at h next next' is is_m some is_h given inv =
+start_more b m ws left left' w at h next next' is is_m some is_h hull_from inv =
     left_more (length b.states) m (hulls_at b []) (length-hulls_at b []) ws left left' w w at next next' is refl is_m
-    (given ∙ ap (λ k. over next at (set (replicate k none) 0 h)) is_m ∙ ap (over next at) (start_place b h w (omega (arith, some, is_m)) is_h)) inv
+    (hull_from ∙ ap (λ k. over next at (set (replicate k none) 0 h)) is_m ∙ ap (over next at) (start_place b h w (omega (arith, some, is_m)) is_h)) inv
 
 pub start_done : (b : Body) (ws left : List ℤ) (at : ℕ) (next : List Hull) → left ≡ [] → LeftOfStart b ws left at next → next ≡ row_of b [] ws
 unfolding row_of

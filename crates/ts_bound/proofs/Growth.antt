@@ -15,7 +15,7 @@ use Rattle.ts_automaton.specs.declared.regs.Hull.{Hull}
 use Rattle.ts_automaton.specs.Formula.{Formula}
 use Rattle.ts_automaton.specs.Registers.{EachOf, Each, spans_of, spans, ext_op, value_in}
 use Rattle.ts_automaton.specs.Body.{Body, Move}
-use Rattle.ts_automaton.specs.AutomatonRun.{move_between, moved, finished}
+use Rattle.ts_automaton.specs.AutomatonRun.{move_between, registers_after, finish_value}
 use Rattle.ts_automaton.specs.SpanRun.{none_hull, has_registers, moved_hull, finished_span, marked_span, finish_span_of}
 use Rattle.ts_automaton.proofs.Evaluation.{value_related}
 use Rattle.ts_automaton.proofs.KindLaws.{op_mono}
@@ -25,7 +25,7 @@ use Rattle.ts_glue.specs.Pairs.{Pair}
 use Rattle.ts_glue.specs.Glued.{glue_span_at, glued_span}
 use Rattle.ts_glue.proofs.SpanGlue.{glued_spans_grow}
 use Rattle.ts_bound.specs.Hulls.{hull_of, none, hull_of_both, hull_of_all}
-use Rattle.ts_bound.specs.NextRow.{Source, source, given, next_hull, states_of}
+use Rattle.ts_bound.specs.NextRow.{Source, source, hull_from, next_hull, states_of}
 use Rattle.ts_bound.specs.HullTables.{hull_at, cells_before, cells_after, values_at}
 use Rattle.ts_bound.specs.TermSpans.{Automata, standing_in, span_of_all, finish_spans, glued_spans, spans_at, value_span, term_span}
 use Rattle.ts_bound.specs.Laws.{Splits, AreAutomata, AreWithin, SmallerBoxesAreWithin}
@@ -58,15 +58,15 @@ value_within f h k x y w =
 moved_within : (m : Move) (h k : EachOf Span) (x y : ℤ) → HullWithin h k → HullWithin (moved_hull h x y m) (moved_hull k x y m)
 moved_within m h k x y w = go (has_registers h) refl
   where
-    go : (t : Bool) → has_registers h ≡ t → HullWithin (cond t (moved spans h x y m) none_hull) (moved_hull k x y m)
+    go : (t : Bool) → has_registers h ≡ t → HullWithin (cond t (registers_after spans h x y m) none_hull) (moved_hull k x y m)
     go false e = none_within (moved_hull k x y m)
     go true e =
-        subst (λ t. HullWithin (moved spans h x y m) (cond t (moved spans k x y m) none_hull)) (sym (registers_within h k w e))
+        subst (λ t. HullWithin (registers_after spans h x y m) (cond t (registers_after spans k x y m) none_hull)) (sym (registers_within h k w e))
         (value_within m.to.c h k x y w, value_within m.to.d h k x y w, value_within m.to.r h k x y w)
 
 given_within : (b : Body) (v : ℤ) (q : ℕ) (u : ℤ) (p : ℕ) (h k : Hull) → HullWithin (spans_of h) (spans_of k) →
-    HullWithin (spans_of (given b v q (source u p h))) (spans_of (given b v q (source u p k)))
-unfolding given
+    HullWithin (spans_of (hull_from b v q (source u p h))) (spans_of (hull_from b v q (source u p k)))
+unfolding hull_from
 given_within b v q u p h k w = go (nat_eq (move_between b p u v).next q)
   where
     go : (t : Bool) → HullWithin (spans_of (cond t (hull_of (moved_hull (spans_of h) u v (move_between b p u v))) none))
@@ -139,16 +139,17 @@ unfolding next_hull
 next_within b v q us ws h k sub w =
     let F : ℤ → List Source = λ u. map (λ p. source u p (h u p)) (states_of b) in
     let G : ℤ → List Source = λ u. map (λ p. source u p (k u p)) (states_of b) in
-    let x = hull_of_all (map (given b v q) (flat_map G ws)) in
-    fold_within x (map (given b v q) (flat_map F us)) none (none_within (spans_of x))
-    (all_of_map (λ s. HullWithin (spans_of s) (spans_of x)) (given b v q) (flat_map F us)
-    (all_flat (λ s. HullWithin (spans_of (given b v q s)) (spans_of x)) F us (λ u c.
-    all_range (λ s. HullWithin (spans_of (given b v q s)) (spans_of x)) (λ p. source u p (h u p)) (length b.states) 0 (length b.states) (omega arith) (λ p lt.
-    is_in (given b v q (source u p (h u p))) (map (given b v q) (flat_map G ws)) none
-    (any_of_map (λ t. HullWithin (spans_of (given b v q (source u p (h u p)))) (spans_of t)) (given b v q) (flat_map G ws)
-    (any_flat (λ s. HullWithin (spans_of (given b v q (source u p (h u p)))) (spans_of (given b v q s))) G ws u (sub u c)
-    (any_range (λ s. HullWithin (spans_of (given b v q (source u p (h u p)))) (spans_of (given b v q s))) (λ p. source u p (k u p)) 0 (length b.states) p
-    (omega arith) (omega (arith, lt)) (given_within b v q u p (h u p) (k u p) (w u p)))))))))
+    let x = hull_of_all (map (hull_from b v q) (flat_map G ws)) in
+    fold_within x (map (hull_from b v q) (flat_map F us)) none (none_within (spans_of x))
+    (all_of_map (λ s. HullWithin (spans_of s) (spans_of x)) (hull_from b v q) (flat_map F us)
+    (all_flat (λ s. HullWithin (spans_of (hull_from b v q s)) (spans_of x)) F us (λ u c.
+    all_range (λ s. HullWithin (spans_of (hull_from b v q s)) (spans_of x)) (λ p. source u p (h u p)) (length b.states) 0 (length b.states)
+    (omega arith) (λ p lt.
+    is_in (hull_from b v q (source u p (h u p))) (map (hull_from b v q) (flat_map G ws)) none
+    (any_of_map (λ t. HullWithin (spans_of (hull_from b v q (source u p (h u p)))) (spans_of t)) (hull_from b v q) (flat_map G ws)
+    (any_flat (λ s. HullWithin (spans_of (hull_from b v q (source u p (h u p)))) (spans_of (hull_from b v q s))) G ws u (sub u c)
+    (any_range (λ s. HullWithin (spans_of (hull_from b v q (source u p (h u p)))) (spans_of (hull_from b v q s))) (λ p. source u p (k u p)) 0
+    (length b.states) p (omega arith) (omega (arith, lt)) (given_within b v q u p (h u p) (k u p) (w u p)))))))))
 
 pub hull_grows : (b : Body) (before wider : List (List ℤ)) (v : ℤ) (q : ℕ) → AreWithin before wider →
     HullWithin (spans_of (hull_at b before v q)) (spans_of (hull_at b wider v q))
@@ -171,8 +172,8 @@ same_mark n s t w e h = marks_hold Same n t e (w e (go (has_some s) refl h)) tt
 finished_within : (b : Body) (h k : EachOf Span) → HullWithin h k → IsWithin (finished_span b h) (finished_span b k)
 finished_within b h k w = go (has_registers h) refl
   where
-    go : (t : Bool) → has_registers h ≡ t → IsWithin (cond t (finished spans b h) none_span) (finished_span b k)
-    go true e = subst (λ t. IsWithin (finished spans b h) (cond t (finished spans b k) none_span)) (sym (registers_within h k w e))
+    go : (t : Bool) → has_registers h ≡ t → IsWithin (cond t (finish_value spans b h) none_span) (finished_span b k)
+    go true e = subst (λ t. IsWithin (finish_value spans b h) (cond t (finish_value spans b k) none_span)) (sym (registers_within h k w e))
         (value_within b.finish h k (pos 0) (pos 0) w)
     go false e = λ x p. absurd (none_empty x p)
 

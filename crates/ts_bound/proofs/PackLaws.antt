@@ -20,7 +20,7 @@ use Rattle.ts_bound.specs.declared.packed.Ends.{Ends}
 use Rattle.ts_bound.specs.declared.packed.Packed.{Packed}
 use Rattle.ts_bound.specs.Hulls.{none, hull_of_both}
 use Rattle.ts_bound.specs.Packs.{unpack, IsPlain, ArePlain, span_from, unpack_span, unpack_hull, IsPackOf, IsRunning}
-use Rattle.ts_bound.specs.Sealed.{least_span, lifted, span_in, hull_with, some_hull, after_move}
+use Rattle.ts_bound.specs.Sealed.{least_span, by_ends, span_in, hull_with, some_hull, after_move}
 use Rattle.ts_bound.specs.Splits.{front_span, closed_span}
 use Rattle.ts_bound.specs.Cuts.{Cut, front_hull, closed_hull}
 use Rattle.ts_bound.specs.Smalls.{small_int}
@@ -188,11 +188,11 @@ ends_plain a v w e f h k some low high = go (int_le a.lo.at a.hi.at) refl
 
 pub ends_lifted : (o p : Op) (a b : Ends) (lo hi : End) → o ≡ p → has_some (unpack_span a) ≡ true → has_some (unpack_span b) ≡ true →
     unpack lo ≡ ext_op p (unpack a.lo) (unpack b.lo) → unpack hi ≡ ext_op p (unpack a.hi) (unpack b.hi) →
-    span_from (unpack lo) (unpack hi) ≡ lifted (ext_op o) (unpack_span a) (unpack_span b)
+    span_from (unpack lo) (unpack hi) ≡ by_ends (ext_op o) (unpack_span a) (unpack_span b)
 ends_lifted o p a b lo hi is h k e f =
     ap (λ z. span_from z (unpack hi)) e ∙ ap (span_from (ext_op p (unpack a.lo) (unpack b.lo))) f
     ∙ sym (lifted_both (ext_op p) (unpack_span a) (unpack_span b) h k)
-    ∙ ap (λ z. lifted (ext_op z) (unpack_span a) (unpack_span b)) (sym is)
+    ∙ ap (λ z. by_ends (ext_op z) (unpack_span a) (unpack_span b)) (sym is)
 
 pub ends_some : (p : Op) (a b : Ends) (lo hi : End) → has_some (unpack_span a) ≡ true → has_some (unpack_span b) ≡ true →
     unpack lo ≡ ext_op p (unpack a.lo) (unpack b.lo) → unpack hi ≡ ext_op p (unpack a.hi) (unpack b.hi) → has_some (span_from (unpack lo) (unpack hi)) ≡ true

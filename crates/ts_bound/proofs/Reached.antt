@@ -13,18 +13,18 @@ use Rattle.ts_automaton.specs.declared.regs.Hull.{Hull}
 use Rattle.ts_automaton.specs.Registers.{EachOf, spans_of, numbers}
 use Rattle.ts_automaton.specs.Typing.{is_automaton}
 use Rattle.ts_automaton.specs.Body.{Body}
-use Rattle.ts_automaton.specs.AutomatonRun.{Standing, step_of, after, answer, finish_of, finished, marked, IsInMark, Marked, AreCellValues}
+use Rattle.ts_automaton.specs.AutomatonRun.{Standing, step_of, after, answer, finish_of, finish_value, under_mark, IsInMark, HoldsMark, AreCellValues}
 use Rattle.ts_automaton.specs.SpanRun.{HoldsRegs, span_step, finished_span, finish_span_of}
 use Rattle.ts_automaton.proofs.RunLaws.{steps_hold, finishes_hold, marks_hold}
 use Rattle.ts_domain.specs.Values.{WithinLimits}
 use Rattle.ts_domain.specs.BoxSeries.{InBox, IsBox}
 use Rattle.ts_domain.proofs.Sets.{contains_cons}
 use Rattle.ts_glue.specs.Pairs.{Pair}
-use Rattle.ts_glue.specs.Glued.{glued, glued_span}
+use Rattle.ts_glue.specs.Glued.{glued_value, glued_span}
 use Rattle.ts_glue.proofs.SpanGlue.{marked_spans_hold}
 use Rattle.ts_glue.proofs.CallerLemmas.{after_back, after_stands, cut_at, answers_at_cuts}
 use Rattle.ts_bound.specs.Hulls.{hull_of, none, hull_of_both}
-use Rattle.ts_bound.specs.NextRow.{Source, source, standing_at, given, next_hull, states_of}
+use Rattle.ts_bound.specs.NextRow.{Source, source, standing_at, hull_from, next_hull, states_of}
 use Rattle.ts_bound.specs.HullTables.{start_hull, hull_at, cells_before, values_at}
 use Rattle.ts_bound.specs.TermSpans.{Automata, standing_in, span_of_all, finish_spans, glued_spans, spans_at, value_span, term_span, IsUsable}
 use Rattle.ts_bound.specs.Laws.{Splits, AreAutomata, SpansHold, ValueSpansAreNarrowed, ValueSpansAreWithin}
@@ -109,17 +109,18 @@ run b v vs = after b (reverse (v ∷ vs))
 
 -- what a hull gives where its move leads holds the registers after the move
 given_holds : (b : Body) (u v : ℤ) (s : Standing Ext) (h : Hull) → HoldsRegs (spans_of h) s.regs →
-    HoldsRegs (spans_of (given b v (step_of b s u v).state (source u s.state h))) (step_of b s u v).regs
-unfolding given
+    HoldsRegs (spans_of (hull_from b v (step_of b s u v).state (source u s.state h))) (step_of b s u v).regs
+unfolding hull_from
 given_holds b u v s h k =
     let to = span_step b (standing_at (source u s.state h)) u v in
     subst (λ t. HoldsRegs (spans_of (cond t (hull_of to.regs) none)) (step_of b s u v).regs) (sym (eq-eqb to.state (step_of b s u v).state refl))
     (steps_hold b s.state s.regs (spans_of h) u v k).1
 
-all_hold : (b : Body) (v : ℤ) (to : Standing Ext) (ss : List Source) → Any (λ t. HoldsRegs (spans_of (given b v to.state t)) to.regs) ss →
+all_hold : (b : Body) (v : ℤ) (to : Standing Ext) (ss : List Source) → Any (λ t. HoldsRegs (spans_of (hull_from b v to.state t)) to.regs) ss →
     HoldsRegs (spans_of (next_hull b ss v to.state)) to.regs
 unfolding next_hull
-all_hold b v to ss h = fold_takes to.regs (map (given b v to.state) ss) none (any_of_map (λ k. HoldsRegs (spans_of k) to.regs) (given b v to.state) ss h)
+all_hold b v to ss h = fold_takes to.regs (map (hull_from b v to.state) ss) none
+    (any_of_map (λ k. HoldsRegs (spans_of k) to.regs) (hull_from b v to.state) ss h)
 
 -- the hull at the state of a run holds its registers
 pub hulls_hold : (b : Body) → IsTrue (is_automaton b) → (before : List (List ℤ)) (vs : List ℤ) (v : ℤ) → InBox vs before →
@@ -131,7 +132,7 @@ hulls_hold b rules (us ∷ before) [] v h = absurd h
 hulls_hold b rules (us ∷ before) (u ∷ vs) v h =
     let s = run b u vs in
     let to = step_of b s u v in
-    let P : Source → Type 0 = λ t. HoldsRegs (spans_of (given b v to.state t)) to.regs in
+    let P : Source → Type 0 = λ t. HoldsRegs (spans_of (hull_from b v to.state t)) to.regs in
     let f : ℤ → List Source = λ x. map (λ p. source x p (hull_at b before x p)) (states_of b) in
     let stands = after_stands b rules (reverse (u ∷ vs)) in
     let one : Any P (f u) = any_range P (λ p. source u p (hull_at b before u p)) 0 (length b.states) s.state (omega arith)
@@ -210,7 +211,7 @@ pub run_held : (b : Body) → IsTrue (is_automaton b) → (before : List (List �
 run_held b rules before vs v h = ((after_stands b rules (reverse (v ∷ vs))).exists, hulls_hold b rules before vs v h)
 
 -- the span at a value holds the answer of each series with that value there
-module _ (m : Automata) (marked : Marked m.forward) (cells : List (List ℤ)) (few : length cells ≤ most_cells) (box : IsBox cells) (xs : List ℤ)
+module _ (m : Automata) (under_mark : HoldsMark m.forward) (cells : List (List ℤ)) (few : length cells ≤ most_cells) (box : IsBox cells) (xs : List ℤ)
     (inside : InBox xs cells) where
   n_is : length cells ≡ length xs
   n_is = sym (box_length xs cells inside)
@@ -218,7 +219,7 @@ module _ (m : Automata) (marked : Marked m.forward) (cells : List (List ℤ)) (f
   promise : 1 ≤ length cells → IsInMark m.forward.mark (length cells) (answer m.forward xs)
   promise some =
       subst (λ n. IsInMark m.forward.mark n (answer m.forward xs)) (sym n_is)
-      (marked xs (subst (λ n. 1 ≤ n) n_is some) (subst (λ n. n ≤ most_cells) n_is few) (within_limits xs cells box inside))
+      (under_mark xs (subst (λ n. 1 ≤ n) n_is some) (subst (λ n. n ≤ most_cells) n_is few) (within_limits xs cells box inside))
 
   -- at the last cell, of an automaton alone
   finish_holds : IsTrue (is_automaton m.forward) → (i : ℕ) → length cells ≡ suc i →
@@ -239,7 +240,7 @@ module _ (m : Automata) (marked : Marked m.forward) (cells : List (List ℤ)) (f
       let e : finish_of b s n ≡ answer b xs = ap (λ z. finish_of b (after b z) n) whole ∙ ap (finish_of b (after b xs)) n_is in
       let p : IsInMark b.mark n (finish_of b s n) = subst (IsInMark b.mark n) (sym e) (promise (omega (arith, last))) in
       let one : Holds (finish_span_of b (standing_in b (reverse (take i cells)) x s.state) n) (finish_of b s n) =
-      marks_hold b.mark n (finished_span b (spans_of (hull_at b (reverse (take i cells)) x s.state))) (finished numbers b s.regs)
+      marks_hold b.mark n (finished_span b (spans_of (hull_at b (reverse (take i cells)) x s.state))) (finish_value numbers b s.regs)
       (finishes_hold b s.regs (spans_of (hull_at b (reverse (take i cells)) x s.state)) h.1) p in
       any_range (λ t. Holds t (answer b xs)) (λ q. finish_span_of b (standing_in b (reverse (take i cells)) x q) n) 0 (length b.states) s.state (omega arith)
       (let l = h.0 in omega (arith, l)) (subst (Holds (finish_span_of b (standing_in b (reverse (take i cells)) x s.state) n)) e one)
@@ -264,16 +265,16 @@ module _ (m : Automata) (marked : Marked m.forward) (cells : List (List ℤ)) (f
       (run_held b forward_rules (reverse (take i cells)) (reverse before) x (box_reverse before (take i cells) (box_take i xs cells inside))) in
       let k : HoldsRun r (drop (suc i) cells) x right = run_held r splits.reverse (drop (suc i) cells) rest x (box_drop (suc i) xs cells inside) in
       let whole : before ++ x ∷ rest ≡ xs = cut_at xs i (pos 0) (omega (arith, below, l)) in
-      let is_answer : glued p left right x n ≡ answer m.forward xs =
-      ap (λ z. glued p left right x z) (n_is ∙ ap length (sym whole))
+      let is_answer : glued_value p left right x n ≡ answer m.forward xs =
+      ap (λ z. glued_value p left right x z) (n_is ∙ ap length (sym whole))
       ∙ answers_at_cuts most_cells p splits.local before x rest (subst (λ z. length z ≤ most_cells) (sym whole) (subst (λ z. z ≤ most_cells) n_is few))
       (subst AreCellValues (sym whole) (within_limits xs cells box inside))
       ∙ ap (answer b) whole ∙ ap (λ z. answer z xs) splits.forward in
       let mark_is : b.mark ≡ m.forward.mark = ap (λ z. z.mark) splits.forward in
-      let q : IsInMark b.mark n (glued p left right x n) =
+      let q : IsInMark b.mark n (glued_value p left right x n) =
       subst (IsInMark b.mark n) (sym is_answer) (subst (λ z. IsInMark z n (answer m.forward xs)) (sym mark_is) (promise (omega (arith, below)))) in
       let one : Holds (glued_span p (standing_in b (reverse (take i cells)) x left.state) (standing_in r (drop (suc i) cells) x right.state) x n)
-      (glued p left right x n) =
+      (glued_value p left right x n) =
       marked_spans_hold p left.state right.state (spans_of (hull_at b (reverse (take i cells)) x left.state))
       (spans_of (hull_at r (drop (suc i) cells) x right.state))
       left.regs right.regs x n h.1 k.1 q in
@@ -314,7 +315,7 @@ module _ (m : Automata) (marked : Marked m.forward) (cells : List (List ℤ)) (f
       (box_at (k - 1) xs cells (omega (arith, from, to)) inside) (value_holds are k usable))
 
 pub spans_hold : SpansHold
-spans_hold m are marked cells few box k usable xs inside = term_holds m marked cells few box xs inside are k usable
+spans_hold m are under_mark cells few box k usable xs inside = term_holds m under_mark cells few box xs inside are k usable
 
 pub values_within : ValueSpansAreWithin
 unfolding term_span

@@ -5,7 +5,7 @@ use Rattle.std.proofs.lemmas.List.{take-append-le, take_all, append_assoc, lengt
 use Rattle.std.proofs.lemmas.Option.{get_or_from_slice_get}
 use Rattle.std.proofs.lemmas.List.Folds.{drop_split}
 use Rattle.std.proofs.Math.Seq.{drop-append_seam, drop-append-add, take-append_seam, take-append-add}
-use Rattle.ts_bound.specs.Rows.{IsRow, row_at, joined, place, cut_like, written_over, refilled, with_written, rows_from, rows_of, Ends, Starts}
+use Rattle.ts_bound.specs.Rows.{IsRow, row_at, concat_rows, place, cut_like, written_over, refill, with_written, rows_from, rows_of, Ends, Starts}
 
 -- the rows
 
@@ -15,27 +15,27 @@ place_rises [] i = omega arith
 place_rises (r ∷ rs) zero = omega arith
 place_rises (r ∷ rs) (suc i) = let h = place_rises rs i in omega (arith, h)
 
-pub place_inside : {X : Type 0} (t : List (List X)) (i : ℕ) → place t i ≤ length (joined t)
-unfolding place joined
+pub place_inside : {X : Type 0} (t : List (List X)) (i : ℕ) → place t i ≤ length (concat_rows t)
+unfolding place concat_rows
 place_inside [] i = omega arith
 place_inside (r ∷ rs) zero = omega arith
-place_inside (r ∷ rs) (suc i) = let h = place_inside rs i in let l = length-append r (joined rs) in omega (arith, h, l)
+place_inside (r ∷ rs) (suc i) = let h = place_inside rs i in let l = length-append r (concat_rows rs) in omega (arith, h, l)
 
 place_zero : {X : Type 0} (t : List (List X)) → place t 0 ≡ 0
 unfolding place
 place_zero [] = refl
 place_zero (r ∷ rs) = refl
 
-pub row_got : {X : Type 0} (t : List (List X)) (i : ℕ) → i < length t → slice_get t i ≡ Some (slice_range (joined t) (place t i) (place t (suc i)))
-unfolding place joined
+pub row_got : {X : Type 0} (t : List (List X)) (i : ℕ) → i < length t → slice_get t i ≡ Some (slice_range (concat_rows t) (place t i) (place t (suc i)))
+unfolding place concat_rows
 row_got [] i h = absurd (omega (arith, h))
 row_got (r ∷ rs) zero h =
     let none : length r + place rs 0 - 0 ≡ length r = let z = place_zero rs in omega (arith, z) in
-    ap Some (sym (ap (λ n. take n (r ++ joined rs)) none ∙ take-append_seam r (joined rs)))
+    ap Some (sym (ap (λ n. take n (r ++ concat_rows rs)) none ∙ take-append_seam r (concat_rows rs)))
 row_got (r ∷ rs) (suc i) h =
     let less : (length r + place rs (suc i)) - (length r + place rs i) ≡ place rs (suc i) - place rs i = omega arith in
-    row_got rs i (omega (arith, h)) ∙ ap Some (sym (ap (λ n. take n (drop (length r + place rs i) (r ++ joined rs))) less
-    ∙ ap (λ l. take (place rs (suc i) - place rs i) l) (drop-append-add r (joined rs) (place rs i))))
+    row_got rs i (omega (arith, h)) ∙ ap Some (sym (ap (λ n. take n (drop (length r + place rs i) (r ++ concat_rows rs))) less
+    ∙ ap (λ l. take (place rs (suc i) - place rs i) l) (drop-append-add r (concat_rows rs) (place rs i))))
 
 -- writing
 
@@ -49,22 +49,23 @@ over_later ws r j p =
     append_assoc r (take p j) (ws ++ drop (length ws) (drop p j))
 
 pub over_row : {X : Type 0} (t : List (List X)) (i : ℕ) (ws : List X) → i < length t → length ws ≡ length (get_or t i []) →
-    written_over (joined t) (place t i) ws ≡ joined (set t i ws)
-unfolding place joined
+    written_over (concat_rows t) (place t i) ws ≡ concat_rows (set t i ws)
+unfolding place concat_rows
 over_row [] i ws h e = absurd (omega (arith, h))
-over_row (r ∷ rs) zero ws h e = over_first ws r (joined rs) e
-over_row (r ∷ rs) (suc i) ws h e = over_later ws r (joined rs) (place rs i) ∙ ap (λ l. r ++ l) (over_row rs i ws (omega (arith, h)) e)
+over_row (r ∷ rs) zero ws h e = over_first ws r (concat_rows rs) e
+over_row (r ∷ rs) (suc i) ws h e = over_later ws r (concat_rows rs) (place rs i) ∙ ap (λ l. r ++ l) (over_row rs i ws (omega (arith, h)) e)
 
 pub over_two : {X : Type 0} (t : List (List X)) (i : ℕ) (a b : List X) → suc i < length t → length a ≡ length (get_or t i []) →
     length b ≡ length (get_or t (suc i) []) →
-    written_over (joined t) (place t i) (a ++ b) ≡ joined (set (set t i a) (suc i) b)
-unfolding place joined
+    written_over (concat_rows t) (place t i) (a ++ b) ≡ concat_rows (set (set t i a) (suc i) b)
+unfolding place concat_rows
 over_two [] i a b h e f = absurd (omega (arith, h))
 over_two (r ∷ []) zero a b h e f = absurd (omega (arith, h))
 over_two (r ∷ s ∷ rs) zero a b h e f =
     let long : length (a ++ b) ≡ length (r ++ s) = length-append a b ∙ ap (λ n. n + length b) e ∙ ap (λ n. length r + n) f ∙ sym (length-append r s) in
-    ap (λ l. written_over l 0 (a ++ b)) (sym (append_assoc r s (joined rs))) ∙ over_first (a ++ b) (r ++ s) (joined rs) long ∙ append_assoc a b (joined rs)
-over_two (r ∷ rs) (suc i) a b h e f = over_later (a ++ b) r (joined rs) (place rs i) ∙ ap (λ l. r ++ l) (over_two rs i a b (omega (arith, h)) e f)
+    ap (λ l. written_over l 0 (a ++ b)) (sym (append_assoc r s (concat_rows rs))) ∙ over_first (a ++ b) (r ++ s) (concat_rows rs) long ∙
+    append_assoc a b (concat_rows rs)
+over_two (r ∷ rs) (suc i) a b h e f = over_later (a ++ b) r (concat_rows rs) (place rs i) ∙ ap (λ l. r ++ l) (over_two rs i a b (omega (arith, h)) e f)
 
 -- two tables whose rows are as long
 unfoldable SameLengths : {X : Type 0} → List (List X) → List (List X) → Type 0
@@ -86,31 +87,31 @@ same_set (t ∷ ts) [] i ws s e = absurd s
 same_set (t ∷ ts) (u ∷ us) zero ws s e = (e, s.1)
 same_set (t ∷ ts) (u ∷ us) (suc i) ws s e = (s.0, same_set ts us i ws s.1 e)
 
-same_length : {X : Type 0} (t u : List (List X)) → SameLengths t u → length (joined u) ≡ length (joined t)
-unfolding SameLengths joined
+same_length : {X : Type 0} (t u : List (List X)) → SameLengths t u → length (concat_rows u) ≡ length (concat_rows t)
+unfolding SameLengths concat_rows
 same_length [] [] s = refl
 same_length [] (u ∷ us) s = absurd s
 same_length (t ∷ ts) [] s = absurd s
-same_length (t ∷ ts) (u ∷ us) s = let h = same_length ts us s.1 in let a = length-append u (joined us) in let b = length-append t (joined ts)
+same_length (t ∷ ts) (u ∷ us) s = let h = same_length ts us s.1 in let a = length-append u (concat_rows us) in let b = length-append t (concat_rows ts)
     in let e = s.0 in omega (arith, h, a, b, e)
 
-cut_same : {X : Type 0} (t u : List (List X)) → SameLengths t u → cut_like t (joined u) ≡ u
-unfolding SameLengths joined cut_like
+cut_same : {X : Type 0} (t u : List (List X)) → SameLengths t u → cut_like t (concat_rows u) ≡ u
+unfolding SameLengths concat_rows cut_like
 cut_same [] [] s = refl
 cut_same [] (u ∷ us) s = absurd s
 cut_same (t ∷ ts) [] s = absurd s
 cut_same (t ∷ ts) (u ∷ us) s =
-    ap (λ n. take n (u ++ joined us) ∷ cut_like ts (drop n (u ++ joined us))) (sym s.0) ∙
-    ap (λ l. l ∷ cut_like ts (drop (length u) (u ++ joined us))) (take-append_seam u (joined us)) ∙
-    ap (λ l. u ∷ cut_like ts l) (drop-append_seam u (joined us)) ∙ ap (λ l. u ∷ l) (cut_same ts us s.1)
+    ap (λ n. take n (u ++ concat_rows us) ∷ cut_like ts (drop n (u ++ concat_rows us))) (sym s.0) ∙
+    ap (λ l. l ∷ cut_like ts (drop (length u) (u ++ concat_rows us))) (take-append_seam u (concat_rows us)) ∙
+    ap (λ l. u ∷ cut_like ts l) (drop-append_seam u (concat_rows us)) ∙ ap (λ l. u ∷ l) (cut_same ts us s.1)
 
-refilled_same : {X : Type 0} (xs us : List X) → length us ≡ length xs → refilled xs us ≡ us
+refilled_same : {X : Type 0} (xs us : List X) → length us ≡ length xs → refill xs us ≡ us
 refilled_same xs us e = take-append-le (length xs) us (drop (length us) xs) (omega (arith, e)) ∙ take_all (length xs) us (omega (arith, e))
 
-written : {X : Type 0} (t u : List (List X)) (i : ℕ) (ws : List X) → SameLengths t u → written_over (joined t) (place t i) ws ≡ joined u →
+written : {X : Type 0} (t u : List (List X)) (i : ℕ) (ws : List X) → SameLengths t u → written_over (concat_rows t) (place t i) ws ≡ concat_rows u →
     with_written t i ws ≡ u
 unfolding with_written
-written t u i ws s e = ap (λ l. cut_like t (refilled (joined t) l)) e ∙ ap (cut_like t) (refilled_same (joined t) (joined u) (same_length t u s))
+written t u i ws s e = ap (λ l. cut_like t (refill (concat_rows t) l)) e ∙ ap (cut_like t) (refilled_same (concat_rows t) (concat_rows u) (same_length t u s))
     ∙ cut_same t u s
 
 -- a row that is as long stands in its place, and every other row stays
@@ -145,12 +146,12 @@ in_order from (to ∷ ends) n h = let rest = in_order to ends n h.1 in let here 
 length-range : {X : Type 0} (xs : List X) (from to : ℕ) → from ≤ to → to ≤ length xs → length (slice_range xs from to) ≡ to - from
 length-range xs from to h k = let l = length-drop from xs in length-take-le (to - from) (drop from xs) (omega (arith, l, h, k))
 
-joined_from : {X : Type 0} (from : ℕ) (ends : List ℕ) (xs : List X) → Ends from ends (length xs) → joined (rows_from from ends xs) ≡ drop from xs
-unfolding joined rows_from Ends
+joined_from : {X : Type 0} (from : ℕ) (ends : List ℕ) (xs : List X) → Ends from ends (length xs) → concat_rows (rows_from from ends xs) ≡ drop from xs
+unfolding concat_rows rows_from Ends
 joined_from from [] xs h = sym (drop_all from xs (omega (arith, h)))
 joined_from from (to ∷ ends) xs h = ap (λ l. slice_range xs from to ++ l) (joined_from to ends xs h.1) ∙ sym (drop_split xs from to h.0)
 
-pub joined_rows : {X : Type 0} (ss : List ℕ) (xs : List X) → Starts ss (length xs) → joined (rows_of ss xs) ≡ xs
+pub joined_rows : {X : Type 0} (ss : List ℕ) (xs : List X) → Starts ss (length xs) → concat_rows (rows_of ss xs) ≡ xs
 unfolding rows_of Starts
 joined_rows [] xs h = absurd h
 joined_rows (from ∷ ends) xs h = joined_from from ends xs h.1 ∙ ap (λ n. drop n xs) h.0
@@ -213,7 +214,8 @@ bounds_rise v k p q h is_p is_q =
 pub bounds_inside : {X : Type 0} (ss : List ℕ) (xs : List X) (v : List (List X)) (k q n : ℕ) → Starts ss (length xs) → rows_of ss xs ≡ v →
     q ≡ place v k → n ≡ length xs → q ≤ n
 bounds_inside ss xs v k q n h e is_q is_n =
-    let in_all = place_inside v k in let all = ap (λ t. length (joined t)) (sym e) ∙ ap length (joined_rows ss xs h) in omega (arith, in_all, all, is_q, is_n)
+    let in_all = place_inside v k in
+    let all = ap (λ t. length (concat_rows t)) (sym e) ∙ ap length (joined_rows ss xs h) in omega (arith, in_all, all, is_q, is_n)
 
 pub row_is : {X : Type 0} (ss : List ℕ) (xs ys : List X) (v : List (List X)) (k p q : ℕ) → Starts ss (length xs) → rows_of ss xs ≡ v → 1 ≤ k →
     k ≤ length v → p ≡ place v (k - 1) → q ≡ place v k →
@@ -221,7 +223,7 @@ pub row_is : {X : Type 0} (ss : List ℕ) (xs ys : List X) (v : List (List X)) (
 row_is ss xs ys v k p q h e first last is_p is_q is =
     let back : suc (k - 1) ≡ k = omega (arith, first) in
     row_got v (k - 1) (omega (arith, first, last)) ∙
-    ap Some (ap (λ l. slice_range l (place v (k - 1)) (place v (suc (k - 1)))) (ap joined (sym e) ∙ joined_rows ss xs h) ∙
+    ap Some (ap (λ l. slice_range l (place v (k - 1)) (place v (suc (k - 1)))) (ap concat_rows (sym e) ∙ joined_rows ss xs h) ∙
     ap (λ n. slice_range xs (place v (k - 1)) (place v n)) back ∙ ap (λ n. slice_range xs n (place v k)) (sym is_p)
     ∙ ap (λ n. slice_range xs p n) (sym is_q) ∙ sym is)
 
@@ -230,11 +232,11 @@ pub view_written : {X : Type 0} (ss : List ℕ) (xs : List X) (v : List (List X)
     rows_of ss (take n (written_over xs p ws ++ drop (length (written_over xs p ws)) xs)) ≡ with_written v i ws
 unfolding with_written
 view_written ss xs v n p i ws h e is_n is_p =
-    let all = ap joined (sym e) ∙ joined_rows ss xs h in
+    let all = ap concat_rows (sym e) ∙ joined_rows ss xs h in
     ap (λ m. rows_of ss (take m (written_over xs p ws ++ drop (length (written_over xs p ws)) xs))) is_n
-    ∙ ap (λ m. rows_of ss (refilled xs (written_over xs m ws))) is_p ∙
-    sym (cut_rows ss xs (refilled xs (written_over xs (place v i) ws)) h) ∙ ap (λ t. cut_like t (refilled xs (written_over xs (place v i) ws))) e ∙
-    ap (λ l. cut_like v (refilled l (written_over l (place v i) ws))) (sym all)
+    ∙ ap (λ m. rows_of ss (refill xs (written_over xs m ws))) is_p ∙
+    sym (cut_rows ss xs (refill xs (written_over xs (place v i) ws)) h) ∙ ap (λ t. cut_like t (refill xs (written_over xs (place v i) ws))) e ∙
+    ap (λ l. cut_like v (refill l (written_over l (place v i) ws))) (sym all)
 
 pub bounds_rise_two : {X : Type 0} (v : List (List X)) (k p q : ℕ) → 1 ≤ k → p ≡ place v (k - 1) → q ≡ place v (k + 1) → p ≤ q
 bounds_rise_two v k p q h is_p is_q =
@@ -242,10 +244,10 @@ bounds_rise_two v k p q h is_p is_q =
     let f = ap (place v) (let e : k + 1 ≡ suc k = omega arith in e) in omega (arith, up, more, f, is_p, is_q)
 
 pub both_are : {X : Type 0} (ss : List ℕ) (xs ys : List X) (v : List (List X)) (p q p' q' : ℕ) → Starts ss (length xs) → rows_of ss xs ≡ v → p ≡ p' →
-    q ≡ q' → ys ≡ slice_range xs p q → ys ≡ slice_range (joined v) p' q'
+    q ≡ q' → ys ≡ slice_range xs p q → ys ≡ slice_range (concat_rows v) p' q'
 both_are ss xs ys v p q p' q' h e is_p is_q is =
     is ∙ ap (λ n. slice_range xs n q) is_p ∙ ap (λ n. slice_range xs p' n) is_q
-    ∙ ap (λ l. slice_range l p' q') (sym (ap joined (sym e) ∙ joined_rows ss xs h))
+    ∙ ap (λ l. slice_range l p' q') (sym (ap concat_rows (sym e) ∙ joined_rows ss xs h))
 
 take_less : {X : Type 0} (n m : ℕ) (xs : List X) → n ≤ m → take n (take m xs) ≡ take n xs
 take_less zero m xs h = refl
@@ -255,30 +257,31 @@ take_less (suc n) (suc m) (x ∷ xs) h = ap (λ l. x ∷ l) (take_less n m xs (o
 
 -- the first of two rows ends inside them
 pub cut_inside : {X : Type 0} (v : List (List X)) (k n : ℕ) (r : List X) → 1 ≤ k → place v (k - 1) + n ≡ place v k →
-    r ≡ slice_range (joined v) (place v (k - 1)) (place v (k + 1)) → n ≤ length r
+    r ≡ slice_range (concat_rows v) (place v (k - 1)) (place v (k + 1)) → n ≤ length r
 cut_inside v k n r first wide is =
-    let l = ap length is ∙ length-range (joined v) (place v (k - 1)) (place v (k + 1)) (bounds_rise_two v k _ _ first refl refl) (place_inside v (k + 1)) in
+    let l = ap length is ∙ length-range (concat_rows v) (place v (k - 1)) (place v (k + 1))
+    (bounds_rise_two v k _ _ first refl refl) (place_inside v (k + 1)) in
     let more = place_rises v k in let e : suc k ≡ k + 1 = omega arith in let f = ap (place v) e in omega (arith, l, wide, more, f)
 
 pub first_row : {X : Type 0} (v : List (List X)) (k n : ℕ) (r a : List X) → 1 ≤ k → k + 1 ≤ length v → place v (k - 1) + n ≡ place v k →
-    r ≡ slice_range (joined v) (place v (k - 1)) (place v (k + 1)) → a ≡ take n r → slice_get v (k - 1) ≡ Some a
+    r ≡ slice_range (concat_rows v) (place v (k - 1)) (place v (k + 1)) → a ≡ take n r → slice_get v (k - 1) ≡ Some a
 first_row v k n r a first last wide is_r is_a =
     let e : suc (k - 1) ≡ k = omega (arith, first) in let f : place v (suc (k - 1)) - place v (k - 1) ≡ n = let g = ap (place v) e in omega
     (arith, g, wide) in
     let more = place_rises v k in let e' : suc k ≡ k + 1 = omega arith in let f' = ap (place v) e' in
-    row_got v (k - 1) (omega (arith, first, last)) ∙ ap Some (ap (λ m. take m (drop (place v (k - 1)) (joined v))) f ∙
-    sym (is_a ∙ ap (take n) is_r ∙ take_less n (place v (k + 1) - place v (k - 1)) (drop (place v (k - 1)) (joined v)) (omega (arith, wide, more, f'))))
+    row_got v (k - 1) (omega (arith, first, last)) ∙ ap Some (ap (λ m. take m (drop (place v (k - 1)) (concat_rows v))) f ∙
+    sym (is_a ∙ ap (take n) is_r ∙ take_less n (place v (k + 1) - place v (k - 1)) (drop (place v (k - 1)) (concat_rows v)) (omega (arith, wide, more, f'))))
 
 pub second_row : {X : Type 0} (v : List (List X)) (k n : ℕ) (r a : List X) → 1 ≤ k → k + 1 ≤ length v → place v (k - 1) + n ≡ place v k →
-    r ≡ slice_range (joined v) (place v (k - 1)) (place v (k + 1)) → a ≡ drop n r → slice_get v k ≡ Some a
+    r ≡ slice_range (concat_rows v) (place v (k - 1)) (place v (k + 1)) → a ≡ drop n r → slice_get v k ≡ Some a
 second_row v k n r a first last wide is_r is_a =
     let e : suc k ≡ k + 1 = omega arith in let f = ap (place v) e in
-    let D = drop (place v (k - 1)) (joined v) in let left = place v (suc k) - place v k in
+    let D = drop (place v (k - 1)) (concat_rows v) in let left = place v (suc k) - place v k in
     let m : n ≡ place v k - place v (k - 1) = omega (arith, wide) in
     let more = place_rises v k in
     let all : place v (k + 1) - place v (k - 1) ≡ n + left = omega (arith, wide, f, more) in
     row_got v k (omega (arith, last)) ∙ ap Some (sym (is_a ∙ ap (drop n) is_r ∙ ap (λ w. drop n (take w D)) all ∙ drop-take n left D ∙
-    ap (λ t. take left (drop t D)) m ∙ ap (take left) (drop_drop (joined v) (place v (k - 1)) (place v k) (omega (arith, wide)))))
+    ap (λ t. take left (drop t D)) m ∙ ap (take left) (drop_drop (concat_rows v) (place v (k - 1)) (place v k) (omega (arith, wide)))))
 
 -- what a caller of `row_mut` needs: the row that was lent, and that its length stayed
 pub put_written : {X : Type 0} (v : List (List X)) (k i : ℕ) (row : List X) (h : X) → 1 ≤ k → k ≤ length v → slice_get v (k - 1) ≡ Some row →
@@ -290,7 +293,7 @@ put_written v k i row h first last is =
 
 -- what was lent as one and cut at n: the row of cell k as it was, and that of cell k + 1 written
 pub next_written : {X : Type 0} (v : List (List X)) (k n : ℕ) (r a b b' : List X) → 1 ≤ k → k + 1 ≤ length v → place v (k - 1) + n ≡ place v k →
-    r ≡ slice_range (joined v) (place v (k - 1)) (place v (k + 1)) →
+    r ≡ slice_range (concat_rows v) (place v (k - 1)) (place v (k + 1)) →
     a ≡ take n r → b ≡ drop n r → length b' ≡ length b → with_written v (k - 1) (a ++ b') ≡ set v k b'
 next_written v k n r a b b' first last wide is_r is_a is_b long =
     let e : suc (k - 1) ≡ k = omega (arith, first) in
@@ -301,7 +304,7 @@ next_written v k n r a b b' first last wide is_r is_a is_b long =
 
 -- the same where both were written
 pub both_written : {X : Type 0} (v : List (List X)) (k n : ℕ) (r a b a' b' : List X) → 1 ≤ k → k + 1 ≤ length v → place v (k - 1) + n ≡ place v k →
-    r ≡ slice_range (joined v) (place v (k - 1)) (place v (k + 1)) →
+    r ≡ slice_range (concat_rows v) (place v (k - 1)) (place v (k + 1)) →
     a ≡ take n r → b ≡ drop n r → length a' ≡ length a → length b' ≡ length b → with_written v (k - 1) (a' ++ b') ≡ set (set v (k - 1) a') k b'
 both_written v k n r a b a' b' first last wide is_r is_a is_b long_a long_b =
     let e : suc (k - 1) ≡ k = omega (arith, first) in
@@ -312,12 +315,12 @@ both_written v k n r a b a' b' first last wide is_r is_a is_b long_a long_b =
 
 -- the row of cell k, and that of cell k + 1, out of what was lent as one
 pub row_before : {X : Type 0} (v : List (List X)) (k n : ℕ) (r a : List X) → 1 ≤ k → k + 1 ≤ length v → place v (k - 1) + n ≡ place v k →
-    r ≡ slice_range (joined v) (place v (k - 1)) (place v (k + 1)) →
+    r ≡ slice_range (concat_rows v) (place v (k - 1)) (place v (k + 1)) →
     a ≡ take n r → get_or v (k - 1) [] ≡ a
 row_before v k n r a first last wide is_r is_a = get_or_from_slice_get v (k - 1) a [] (first_row v k n r a first last wide is_r is_a)
 
 pub row_after : {X : Type 0} (v : List (List X)) (k n : ℕ) (r b : List X) → 1 ≤ k → k + 1 ≤ length v → place v (k - 1) + n ≡ place v k →
-    r ≡ slice_range (joined v) (place v (k - 1)) (place v (k + 1)) →
+    r ≡ slice_range (concat_rows v) (place v (k - 1)) (place v (k + 1)) →
     b ≡ drop n r → get_or v k [] ≡ b
 row_after v k n r b first last wide is_r is_b = get_or_from_slice_get v k b [] (second_row v k n r b first last wide is_r is_b)
 
@@ -335,6 +338,6 @@ pub row_read : {X : Type 0} (ss : List ℕ) (xs ys : List X) (v : List (List X))
 row_read ss xs ys v k p q h e row is_p is_q is = sym (get_or_from_slice_get v (k - 1) ys [] (row_is ss xs ys v k p q h e row.0 row.1 is_p is_q is))
 
 pub row_after_at : {X : Type 0} (v : List (List X)) (k n : ℕ) (r b : List X) → 1 ≤ k → k + 1 ≤ length v → place v (k - 1) + n ≡ place v k →
-    r ≡ slice_range (joined v) (place v (k - 1)) (place v (k + 1)) → b ≡ drop n r → row_at (k + 1) v ≡ b
+    r ≡ slice_range (concat_rows v) (place v (k - 1)) (place v (k + 1)) → b ≡ drop n r → row_at (k + 1) v ≡ b
 row_after_at v k n r b first last wide is_r is_b =
     ap (λ i. get_or v i []) (let e : k + 1 - 1 ≡ k = omega arith in e) ∙ row_after v k n r b first last wide is_r is_b

@@ -16,7 +16,7 @@ use Rattle.ts_automaton.specs.SpanRun.{one_hull, span_step, finish_span_of}
 use Rattle.ts_automaton.proofs.RunLaws.{steps_stay_single, finishes_stay_single, nones_stay}
 use Rattle.ts_glue.proofs.CallerLemmas.{after_back, after_stands, cut_at}
 use Rattle.ts_bound.specs.Hulls.{hull_of, none, hull_of_both, hull_of_all}
-use Rattle.ts_bound.specs.NextRow.{Source, source, standing_at, given, next_hull, states_of}
+use Rattle.ts_bound.specs.NextRow.{Source, source, standing_at, hull_from, next_hull, states_of}
 use Rattle.ts_bound.specs.HullTables.{start_hull, hull_at, cells_before, values_at}
 use Rattle.ts_bound.specs.TermSpans.{standing_in, span_of_all, finish_spans, value_span, term_span}
 use Rattle.ts_bound.specs.Blocks.{last_at}
@@ -83,13 +83,13 @@ cond_none : (t : Bool) → cond t none none ≡ none
 cond_none true = refl
 cond_none false = refl
 
-given_none : (b : Body) (v : ℤ) (q : ℕ) (u : ℤ) (p : ℕ) → given b v q (source u p none) ≡ none
-unfolding given
+given_none : (b : Body) (v : ℤ) (q : ℕ) (u : ℤ) (p : ℕ) → hull_from b v q (source u p none) ≡ none
+unfolding hull_from
 given_none b v q u p = cond_none (nat_eq (span_step b (standing_at (source u p none)) u v).state q)
 
 given_one : (b : Body) (v : ℤ) (q : ℕ) (u : ℤ) (s : Standing Ext) →
-    given b v q (source u s.state (hull_of (one_hull s.regs))) ≡ only_where (nat_eq (step_of b s u v).state q) (step_of b s u v).regs
-unfolding given
+    hull_from b v q (source u s.state (hull_of (one_hull s.regs))) ≡ only_where (nat_eq (step_of b s u v).state q) (step_of b s u v).regs
+unfolding hull_from
 given_one b v q u s = ap (λ t. cond (nat_eq t.state q) (hull_of t.regs) none) (steps_stay_single b s.state s.regs u v)
 
 zero_first : (q : ℕ) → nat_eq q 0 ≡ nat_eq 0 q
@@ -122,12 +122,12 @@ unfolding next_hull
 sum_of b v q u h s lt is =
     let to = step_of b s u v in
     let x = only_where (nat_eq to.state q) to.regs in
-    let g : ℕ → Hull = λ p. given b v q (source u p (h p)) in
-    ap (λ l. hull_of_all (map (given b v q) l)) (append-nil (map (λ p. source u p (h p)) (states_of b)))
-    ∙ ap hull_of_all (twice (given b v q) (λ p. source u p (h p)) (states_of b))
+    let g : ℕ → Hull = λ p. hull_from b v q (source u p (h p)) in
+    ap (λ l. hull_of_all (map (hull_from b v q) l)) (append-nil (map (λ p. source u p (h p)) (states_of b)))
+    ∙ ap hull_of_all (twice (hull_from b v q) (λ p. source u p (h p)) (states_of b))
     ∙ fold_only hull_of_both none x nones (both_none (nat_eq to.state q) to.regs) (none_both (nat_eq to.state q) to.regs) g s.state
-    (ap (λ k. given b v q (source u s.state k)) (is s.state ∙ ap (λ t. only_where t s.regs) (same_place s.state)) ∙ given_one b v q u s)
-    (λ p ne. ap (λ k. given b v q (source u p k)) (is p ∙ ap (λ t. only_where t s.regs) (not_place s.state p ne)) ∙ given_none b v q u p)
+    (ap (λ k. hull_from b v q (source u s.state k)) (is s.state ∙ ap (λ t. only_where t s.regs) (same_place s.state)) ∙ given_one b v q u s)
+    (λ p ne. ap (λ k. hull_from b v q (source u p k)) (is p ∙ ap (λ t. only_where t s.regs) (not_place s.state p ne)) ∙ given_none b v q u p)
     0 (length b.states) (omega arith) (omega (arith, lt))
   where
     twice : (f : Source → Hull) (g : ℕ → Source) (xs : List ℕ) → map f (map g xs) ≡ map (λ p. f (g p)) xs

@@ -10,7 +10,7 @@ use Rattle.ts_base.proofs.SpanLaws.{one_some}
 use Rattle.ts_automaton.specs.declared.regs.Hull.{Hull}
 use Rattle.ts_bound.specs.Hulls.{hull_of_both}
 use Rattle.ts_bound.specs.Packs.{span_from}
-use Rattle.ts_bound.specs.Sealed.{least_span, lifted, hull_with}
+use Rattle.ts_bound.specs.Sealed.{least_span, by_ends, hull_with}
 use Rattle.ts_bound.proofs.HullLaws.{same_hull}
 
 max_comm : (a b : Ext) → ext_max a b ≡ ext_max b a
@@ -114,21 +114,21 @@ both_assoc h k l =
 
 -- an operator on spans
 
-pub lifted_both : (op : Ext → Ext → Ext) (s t : Span) → has_some s ≡ true → has_some t ≡ true → lifted op s t ≡ span_from (op s.lo t.lo) (op s.hi t.hi)
-unfolding lifted
+pub lifted_both : (op : Ext → Ext → Ext) (s t : Span) → has_some s ≡ true → has_some t ≡ true → by_ends op s t ≡ span_from (op s.lo t.lo) (op s.hi t.hi)
+unfolding by_ends
 lifted_both op s t h k = ap (λ b. cond (b && has_some t) (span_from (op s.lo t.lo) (op s.hi t.hi)) none_span) h
     ∙ ap (λ b. cond b (span_from (op s.lo t.lo) (op s.hi t.hi)) none_span) k
 
-pub lifted_none_left : (op : Ext → Ext → Ext) (s t : Span) → has_some s ≡ false → lifted op s t ≡ none_span
-unfolding lifted
+pub lifted_none_left : (op : Ext → Ext → Ext) (s t : Span) → has_some s ≡ false → by_ends op s t ≡ none_span
+unfolding by_ends
 lifted_none_left op s t h = ap (λ b. cond (b && has_some t) (span_from (op s.lo t.lo) (op s.hi t.hi)) none_span) h
 
-pub lifted_none_right : (op : Ext → Ext → Ext) (s t : Span) → has_some t ≡ false → lifted op s t ≡ none_span
-unfolding lifted
+pub lifted_none_right : (op : Ext → Ext → Ext) (s t : Span) → has_some t ≡ false → by_ends op s t ≡ none_span
+unfolding by_ends
 lifted_none_right op s t k = elim (has_some s) as (λ b. cond (b && has_some t) (span_from (op s.lo t.lo) (op s.hi t.hi)) none_span ≡ none_span)
     [ true ↦ ap (λ b. cond b (span_from (op s.lo t.lo) (op s.hi t.hi)) none_span) k | false ↦ refl ]
 
-pub lifted_some : (op : Ext → Ext → Ext) → IsMonotone op → (s t : Span) → has_some s ≡ true → has_some t ≡ true → has_some (lifted op s t) ≡ true
+pub lifted_some : (op : Ext → Ext → Ext) → IsMonotone op → (s t : Span) → has_some s ≡ true → has_some t ≡ true → has_some (by_ends op s t) ≡ true
 lifted_some op m s t h k = ap has_some (lifted_both op s t h k) ∙ m s.lo s.hi t.lo t.hi h k
 
 -- a monotone operator commutes with min and max of one operand
@@ -160,30 +160,30 @@ max_through op m a b y = go (ext_le a b) refl
 
 -- a hull commutes with one value
 pub hull_through : (op : Ext → Ext → Ext) → IsMonotone op → (s t : Span) (y : Ext) →
-    lifted op (least_span s t) (one_span y) ≡ least_span (lifted op s (one_span y)) (lifted op t (one_span y))
+    by_ends op (least_span s t) (one_span y) ≡ least_span (by_ends op s (one_span y)) (by_ends op t (one_span y))
 hull_through op m s t y = go (has_some s) (has_some t) refl refl
   where
     u : has_some (one_span y) ≡ true
     u = one_some y
 
-    go : (a b : Bool) → has_some s ≡ a → has_some t ≡ b → lifted op (least_span s t) (one_span y) ≡ least_span (lifted op s (one_span y))
-        (lifted op t (one_span y))
+    go : (a b : Bool) → has_some s ≡ a → has_some t ≡ b → by_ends op (least_span s t) (one_span y) ≡ least_span (by_ends op s (one_span y))
+        (by_ends op t (one_span y))
     go true true h k =
-        ap (λ z. lifted op z (one_span y)) (hull_both s t h k) ∙ lifted_both op (both_hull s t) (one_span y) (both_some s t h) u
+        ap (λ z. by_ends op z (one_span y)) (hull_both s t h k) ∙ lifted_both op (both_hull s t) (one_span y) (both_some s t h) u
         ∙ ap (λ z. span_from z (op (ext_max s.hi t.hi) y)) (min_through op m s.lo t.lo y)
         ∙ ap (span_from (ext_min (op s.lo y) (op t.lo y))) (max_through op m s.hi t.hi y)
-        ∙ sym (hull_both (lifted op s (one_span y)) (lifted op t (one_span y)) (lifted_some op m s (one_span y) h u) (lifted_some op m t (one_span y) k u)
-        ∙ ap (λ z. both_hull z (lifted op t (one_span y))) (lifted_both op s (one_span y) h u)
+        ∙ sym (hull_both (by_ends op s (one_span y)) (by_ends op t (one_span y)) (lifted_some op m s (one_span y) h u) (lifted_some op m t (one_span y) k u)
+        ∙ ap (λ z. both_hull z (by_ends op t (one_span y))) (lifted_both op s (one_span y) h u)
         ∙ ap (both_hull (span_from (op s.lo y) (op s.hi y))) (lifted_both op t (one_span y) k u))
     go true false h k =
-        ap (λ z. lifted op z (one_span y)) (hull_first s t h k)
-        ∙ sym (ap (least_span (lifted op s (one_span y))) (lifted_none_left op t (one_span y) k)
-        ∙ hull_first (lifted op s (one_span y)) none_span (lifted_some op m s (one_span y) h u) refl)
+        ap (λ z. by_ends op z (one_span y)) (hull_first s t h k)
+        ∙ sym (ap (least_span (by_ends op s (one_span y))) (lifted_none_left op t (one_span y) k)
+        ∙ hull_first (by_ends op s (one_span y)) none_span (lifted_some op m s (one_span y) h u) refl)
     go false true h k =
-        ap (λ z. lifted op z (one_span y)) (hull_second s t h k)
-        ∙ sym (ap (λ z. least_span z (lifted op t (one_span y))) (lifted_none_left op s (one_span y) h)
-        ∙ hull_second none_span (lifted op t (one_span y)) refl (lifted_some op m t (one_span y) k u))
+        ap (λ z. by_ends op z (one_span y)) (hull_second s t h k)
+        ∙ sym (ap (λ z. least_span z (by_ends op t (one_span y))) (lifted_none_left op s (one_span y) h)
+        ∙ hull_second none_span (by_ends op t (one_span y)) refl (lifted_some op m t (one_span y) k u))
     go false false h k =
-        ap (λ z. lifted op z (one_span y)) (hull_neither s t h k) ∙ lifted_none_left op none_span (one_span y) refl
-        ∙ sym (ap (λ z. least_span z (lifted op t (one_span y))) (lifted_none_left op s (one_span y) h)
+        ap (λ z. by_ends op z (one_span y)) (hull_neither s t h k) ∙ lifted_none_left op none_span (one_span y) refl
+        ∙ sym (ap (λ z. least_span z (by_ends op t (one_span y))) (lifted_none_left op s (one_span y) h)
         ∙ ap (least_span none_span) (lifted_none_left op t (one_span y) k) ∙ hull_neither none_span none_span refl refl)

@@ -18,16 +18,16 @@ use Rattle.ts_automaton.specs.declared.regs.Hull.{Hull}
 use Rattle.ts_automaton.specs.Formula.{Formula, Leaf, Join}
 use Rattle.ts_automaton.specs.Registers.{EachOf, ext_op, spans, spans_of, value_in}
 use Rattle.ts_automaton.specs.Body.{Move}
-use Rattle.ts_automaton.specs.AutomatonRun.{moved}
+use Rattle.ts_automaton.specs.AutomatonRun.{registers_after}
 use Rattle.ts_automaton.specs.SpanRun.{none_hull}
 use Rattle.ts_automaton.proofs.KindLaws.{op_mono}
 use Rattle.ts_bound.specs.Hulls.{hull_of, none, hull_of_both}
 use Rattle.ts_bound.specs.Packs.{span_from}
-use Rattle.ts_bound.specs.Sealed.{least_span, lifted, sealed, span_in, hull_with, some_hull, after_move}
+use Rattle.ts_bound.specs.Sealed.{least_span, by_ends, sealed_spans, span_in, hull_with, some_hull, after_move}
 use Rattle.ts_glue.specs.Rules.{is_same_op}
 use Rattle.ts_glue.proofs.CallerLemmas.{same_op_is}
-use Rattle.ts_bound.specs.Splits.{is_next_word, is_front, operands, Split, FrontOf, TailOf, ByPairs, is_double, tail_of, split, is_swept, front_span, closed_span}
-use Rattle.ts_bound.specs.Cuts.{Cut, cut_of, swept, front_hull, closed_hull}
+use Rattle.ts_bound.specs.Splits.{is_next_word, is_front, operands, Split, FrontOf, TailOf, ByPairs, is_double, tail_of, split_formula, is_swept, front_span, closed_span}
+use Rattle.ts_bound.specs.Cuts.{Cut, cut_of, all_swept, front_hull, closed_hull}
 use Rattle.ts_bound.specs.Smalls.{small_int, small, small_span, small_hull}
 use Rattle.ts_bound.specs.Sweeps.{total}
 use Rattle.ts_bound.proofs.HullLaws.{same_hull}
@@ -88,8 +88,8 @@ SpanSized n s = IsSized n s.lo × IsSized n s.hi
 abbrev pub HullSized : ℕ → Hull → Type 0
 HullSized n h = SpanSized n h.c × SpanSized n h.d × SpanSized n h.r
 
-lifted_within : (o : Op) (n m : ℕ) (s t : Span) → SpanSized n s → SpanSized m t → SpanSized (n + m) (lifted (ext_op o) s t)
-unfolding lifted
+lifted_within : (o : Op) (n m : ℕ) (s t : Span) → SpanSized n s → SpanSized m t → SpanSized (n + m) (by_ends (ext_op o) s t)
+unfolding by_ends
 lifted_within o n m s t h k =
     elim (has_some s && has_some t) as (λ v. SpanSized (n + m) (cond v (span_from (ext_op o s.lo t.lo) (ext_op o s.hi t.hi)) none_span)) [
       | true ↦ (op_within o n m s.lo t.lo h.0 k.0, op_within o n m s.hi t.hi h.1 k.1)
@@ -115,7 +115,7 @@ eval_within : (e : Formula) (h : Hull) (x y : ℤ) → HullSized 1 h → IsSized
     SpanSized (operands e) (span_in e h x y)
 eval_within (Leaf w) h x y a b c d = word_within w h x y a b c
 eval_within (Join o e f) h x y a b c d =
-    span_same (operands e + operands f) (min (operands e + operands f) 255) (lifted (ext_op o) (span_in e h x y) (span_in f h x y)) (omega arith)
+    span_same (operands e + operands f) (min (operands e + operands f) 255) (by_ends (ext_op o) (span_in e h x y) (span_in f h x y)) (omega arith)
     (lifted_within o (operands e) (operands f) (span_in e h x y) (span_in f h x y) (eval_within e h x y a b c (omega arith))
     (eval_within f h x y a b c (omega arith)))
 
@@ -151,24 +151,24 @@ op_regroup Min n m a b y h k l e = sym (min_assoc a b y)
 
 -- the operator before the next cell moves to the fronts
 span_regroup : (o : Op) (n m : ℕ) (s t : Span) (y : Ext) → SpanSized n s → SpanSized m t → IsSized 1 y → n + m ≤ 9 →
-    lifted (ext_op o) s (lifted (ext_op o) t (one_span y)) ≡ lifted (ext_op o) (lifted (ext_op o) s t) (one_span y)
+    by_ends (ext_op o) s (by_ends (ext_op o) t (one_span y)) ≡ by_ends (ext_op o) (by_ends (ext_op o) s t) (one_span y)
 span_regroup o n m s t y h k l e = go (has_some s) (has_some t) refl refl
   where
-    go : (a b : Bool) → has_some s ≡ a → has_some t ≡ b → lifted (ext_op o) s (lifted (ext_op o) t (one_span y)) ≡ lifted (ext_op o)
-        (lifted (ext_op o) s t) (one_span y)
+    go : (a b : Bool) → has_some s ≡ a → has_some t ≡ b → by_ends (ext_op o) s (by_ends (ext_op o) t (one_span y)) ≡ by_ends (ext_op o)
+        (by_ends (ext_op o) s t) (one_span y)
     go true true p q =
-        ap (lifted (ext_op o) s) (lifted_both (ext_op o) t (one_span y) q (one_some y))
+        ap (by_ends (ext_op o) s) (lifted_both (ext_op o) t (one_span y) q (one_some y))
         ∙ lifted_both (ext_op o) s (span_from (ext_op o t.lo y) (ext_op o t.hi y)) p (op_mono o t.lo t.hi y y q (le_refl y))
         ∙ ap (λ z. span_from z (ext_op o s.hi (ext_op o t.hi y))) (op_regroup o n m s.lo t.lo y h.0 k.0 l e)
         ∙ ap (span_from (ext_op o (ext_op o s.lo t.lo) y)) (op_regroup o n m s.hi t.hi y h.1 k.1 l e)
-        ∙ sym (ap (λ z. lifted (ext_op o) z (one_span y)) (lifted_both (ext_op o) s t p q)
+        ∙ sym (ap (λ z. by_ends (ext_op o) z (one_span y)) (lifted_both (ext_op o) s t p q)
         ∙ lifted_both (ext_op o) (span_from (ext_op o s.lo t.lo) (ext_op o s.hi t.hi)) (one_span y) (op_mono o s.lo s.hi t.lo t.hi p q) (one_some y))
     go true false p q =
-        ap (lifted (ext_op o) s) (lifted_none_left (ext_op o) t (one_span y) q) ∙ lifted_none_right (ext_op o) s none_span refl
-        ∙ sym (ap (λ z. lifted (ext_op o) z (one_span y)) (lifted_none_right (ext_op o) s t q) ∙ lifted_none_left (ext_op o) none_span (one_span y) refl)
+        ap (by_ends (ext_op o) s) (lifted_none_left (ext_op o) t (one_span y) q) ∙ lifted_none_right (ext_op o) s none_span refl
+        ∙ sym (ap (λ z. by_ends (ext_op o) z (one_span y)) (lifted_none_right (ext_op o) s t q) ∙ lifted_none_left (ext_op o) none_span (one_span y) refl)
     go false b p q =
-        lifted_none_left (ext_op o) s (lifted (ext_op o) t (one_span y)) p
-        ∙ sym (ap (λ z. lifted (ext_op o) z (one_span y)) (lifted_none_left (ext_op o) s t p) ∙ lifted_none_left (ext_op o) none_span (one_span y) refl)
+        lifted_none_left (ext_op o) s (by_ends (ext_op o) t (one_span y)) p
+        ∙ sym (ap (λ z. by_ends (ext_op o) z (one_span y)) (lifted_none_left (ext_op o) s t p) ∙ lifted_none_left (ext_op o) none_span (one_span y) refl)
 
 -- tests
 
@@ -199,10 +199,10 @@ front_same : (e : Formula) (h : Hull) (x y : ℤ) → is_front e ≡ true → sp
 front_same (Leaf a) h x y f = front_word a h x y f
 front_same (Join o a b) h x y f =
     let both = and_parts (is_front a) (is_front b) f in
-    ap (λ z. lifted (ext_op o) z (span_in b h x y)) (front_same a h x y both.0) ∙ ap (lifted (ext_op o) (span_in a h x (pos 0))) (front_same b h x y both.1)
+    ap (λ z. by_ends (ext_op o) z (span_in b h x y)) (front_same a h x y both.0) ∙ ap (by_ends (ext_op o) (span_in a h x (pos 0))) (front_same b h x y both.1)
 
 double_is : (o p : Op) (e f r : Formula) (h : Hull) (x y : ℤ) → HullSized 1 h → IsSized 1 (Int x) → IsSized 1 (Int y) → is_double o p e f r ≡ true →
-    span_in (Join o e (Join p f r)) h x y ≡ lifted (ext_op o) (span_in (Join o e f) h x (pos 0)) (one_span (Int y))
+    span_in (Join o e (Join p f r)) h x y ≡ by_ends (ext_op o) (span_in (Join o e f) h x (pos 0)) (one_span (Int y))
 double_is o p e f (Join q g k) h x y a b c d = let s = and_parts (is_same_op o p) false d in cc
 double_is o p e f (Leaf w) h x y a b c d =
     let few_and = is_front f && nat_le (operands e + operands f) 7 in
@@ -212,11 +212,11 @@ double_is o p e f (Leaf w) h x y a b c d =
     let u = and_parts (is_front f) (nat_le (operands e + operands f) 7) t.1 in
     let few : operands e + operands f ≤ 7 = leb-true (operands e + operands f) 7 u.1 in
     ap (λ z. span_in (Join o e (Join p f (Leaf z))) h x y) (next_word w n.0)
-    ∙ ap (λ z. lifted (ext_op o) (span_in e h x y) (lifted (ext_op z) (span_in f h x y) (one_span (Int y)))) (sym (same_op_is o p s.0))
+    ∙ ap (λ z. by_ends (ext_op o) (span_in e h x y) (by_ends (ext_op z) (span_in f h x y) (one_span (Int y)))) (sym (same_op_is o p s.0))
     ∙ span_regroup o (operands e) (operands f) (span_in e h x y) (span_in f h x y) (Int y) (eval_within e h x y a b c (omega (arith, few)))
     (eval_within f h x y a b c (omega (arith, few))) c (omega (arith, few))
-    ∙ ap (λ z. lifted (ext_op o) (lifted (ext_op o) z (span_in f h x y)) (one_span (Int y))) (front_same e h x y t.0)
-    ∙ ap (λ z. lifted (ext_op o) (lifted (ext_op o) (span_in e h x (pos 0)) z) (one_span (Int y))) (front_same f h x y u.0)
+    ∙ ap (λ z. by_ends (ext_op o) (by_ends (ext_op o) z (span_in f h x y)) (one_span (Int y))) (front_same e h x y t.0)
+    ∙ ap (λ z. by_ends (ext_op o) (by_ends (ext_op o) (span_in e h x (pos 0)) z) (one_span (Int y))) (front_same f h x y u.0)
 
 tail_is : (o : Op) (e r : Formula) (h : Hull) (x y : ℤ) → HullSized 1 h → IsSized 1 (Int x) → IsSized 1 (Int y) → is_swept (tail_of o e r) ≡ true →
     span_in (Join o e r) h x y ≡ closed_span (tail_of o e r) (front_span (tail_of o e r) h x) y
@@ -226,7 +226,7 @@ tail_is o e (Leaf w) h x y a b c d = go (is_next_word w && is_front e) refl d
         span_in (Join o e (Leaf w)) h x y ≡ closed_span (cond t (TailOf o e) ByPairs) (front_span (cond t (TailOf o e) ByPairs) h x) y
     go true f d =
         let p = and_parts (is_next_word w) (is_front e) f in
-        ap (λ z. span_in (Join o e (Leaf z)) h x y) (next_word w p.0) ∙ ap (λ z. lifted (ext_op o) z (one_span (Int y))) (front_same e h x y p.1)
+        ap (λ z. span_in (Join o e (Leaf z)) h x y) (next_word w p.0) ∙ ap (λ z. by_ends (ext_op o) z (one_span (Int y))) (front_same e h x y p.1)
     go false f d = cc
 tail_is o e (Join p f r) h x y a b c d = go (is_double o p e f r) refl d
   where
@@ -237,8 +237,8 @@ tail_is o e (Join p f r) h x y a b c d = go (is_double o p e f r) refl d
     go false g d = cc
 
 -- a split expression is its front, closed by the next cell
-pub split_is : (e : Formula) (h : Hull) (x y : ℤ) → HullSized 1 h → IsSized 1 (Int x) → IsSized 1 (Int y) → is_swept (split e) ≡ true →
-    span_in e h x y ≡ closed_span (split e) (front_span (split e) h x) y
+pub split_is : (e : Formula) (h : Hull) (x y : ℤ) → HullSized 1 h → IsSized 1 (Int x) → IsSized 1 (Int y) → is_swept (split_formula e) ≡ true →
+    span_in e h x y ≡ closed_span (split_formula e) (front_span (split_formula e) h x) y
 split_is (Leaf w) h x y a b c d = go (is_next_word w) refl d
   where
     go : (t : Bool) → is_next_word w ≡ t → is_swept (cond t ByPairs (FrontOf (Leaf w))) ≡ true →
@@ -282,30 +282,30 @@ total_closed (suc n) k f y = ap (λ z. hull_of_both z (closed_hull k (f n) y)) (
 
 -- a move on a hull, by whether registers lie in it
 
-value_same : (f : Formula) (s : EachOf Span) (x y : ℤ) → value_in spans s x y f ≡ value_in sealed s x y f
-unfolding lifted
+value_same : (f : Formula) (s : EachOf Span) (x y : ℤ) → value_in spans s x y f ≡ value_in sealed_spans s x y f
+unfolding by_ends
 value_same f s x y = refl
 
 pub after_is : (m : Move) (h : Hull) (x y : ℤ) (t : Bool) → some_hull h ≡ t →
     after_move m h x y ≡ cond t (hull_with (span_in m.to.c h x y) (span_in m.to.d h x y) (span_in m.to.r h x y)) none
 unfolding after_move
 after_is m h x y true e =
-    ap (λ v. hull_of (cond v (moved spans (spans_of h) x y m) none_hull)) e
+    ap (λ v. hull_of (cond v (registers_after spans (spans_of h) x y m) none_hull)) e
     ∙ same_hull _ _ _ _ _ _ (value_same m.to.c (spans_of h) x y) (value_same m.to.d (spans_of h) x y) (value_same m.to.r (spans_of h) x y)
-after_is m h x y false e = ap (λ v. hull_of (cond v (moved spans (spans_of h) x y m) none_hull)) e
+after_is m h x y false e = ap (λ v. hull_of (cond v (registers_after spans (spans_of h) x y m) none_hull)) e
 
 -- a swept move is its fronts, closed by the next cell
-pub moved_is : (m : Move) (h : Hull) (x y : ℤ) → swept (cut_of m) ≡ true → HullSized 1 h → IsSized 1 (Int x) → IsSized 1 (Int y) →
+pub moved_is : (m : Move) (h : Hull) (x y : ℤ) → all_swept (cut_of m) ≡ true → HullSized 1 h → IsSized 1 (Int x) → IsSized 1 (Int y) →
     after_move m h x y ≡ closed_hull (cut_of m) (front_hull (cut_of m) h x) y
 unfolding closed_hull front_hull
 moved_is m h x y s a b c = go (some_hull h) refl
   where
     by_case : (t : Bool) → cond t (hull_with (span_in m.to.c h x y) (span_in m.to.d h x y) (span_in m.to.r h x y)) none ≡
         closed_hull (cut_of m)
-        (cond t (hull_with (front_span (split m.to.c) h x) (front_span (split m.to.d) h x) (front_span (split m.to.r) h x)) none) y
+        (cond t (hull_with (front_span (split_formula m.to.c) h x) (front_span (split_formula m.to.d) h x) (front_span (split_formula m.to.r) h x)) none) y
     by_case true =
-        let p = and_parts (is_swept (split m.to.c)) (is_swept (split m.to.d) && is_swept (split m.to.r)) s in
-        let q = and_parts (is_swept (split m.to.d)) (is_swept (split m.to.r)) p.1 in
+        let p = and_parts (is_swept (split_formula m.to.c)) (is_swept (split_formula m.to.d) && is_swept (split_formula m.to.r)) s in
+        let q = and_parts (is_swept (split_formula m.to.d)) (is_swept (split_formula m.to.r)) p.1 in
         same_hull _ _ _ _ _ _ (split_is m.to.c h x y a b c p.0) (split_is m.to.d h x y a b c q.0) (split_is m.to.r h x y a b c q.1)
     by_case false = sym (closed_hull_none (cut_of m) y)
 
@@ -313,7 +313,7 @@ moved_is m h x y s a b c = go (some_hull h) refl
     go t e =
         after_is m h x y t e ∙ by_case t
         ∙ sym (ap (λ v. closed_hull (cut_of m)
-        (cond v (hull_with (front_span (split m.to.c) h x) (front_span (split m.to.d) h x) (front_span (split m.to.r) h x)) none) y) e)
+        (cond v (hull_with (front_span (split_formula m.to.c) h x) (front_span (split_formula m.to.d) h x) (front_span (split_formula m.to.r) h x)) none) y) e)
 
 -- the guard
 pub ext_small : (e : Ext) → small e ≡ true → IsSized 1 e

@@ -14,7 +14,7 @@ use Rattle.ts_bound.specs.declared.packed.Packed.{Packed}
 use Rattle.ts_bound.specs.Hulls.{none, hull_of_both}
 use Rattle.ts_bound.specs.Packs.{IsRunning}
 use Rattle.ts_bound.specs.Sealed.{after_move}
-use Rattle.ts_bound.specs.Cuts.{Cut, cut_of, swept, front_hull, closed_hull}
+use Rattle.ts_bound.specs.Cuts.{Cut, cut_of, all_swept, front_hull, closed_hull}
 use Rattle.ts_bound.specs.Smalls.{Rises, small_int}
 use Rattle.ts_bound.specs.Sweeps.{AllTakeNone, IsSweepable, total, hull_in, step_place, fronts, compares, fits, takes, same_letter, pair_gives, move_entry, sweep_entry, puts, with_move, with_sweep}
 use Rattle.ts_bound.proofs.HullLaws.{TakesNone, both_takes_none, none_takes_none}
@@ -294,7 +294,7 @@ total_place Greater n f = total_reverse n f
 
 -- one entry: the hull of the fronts that were passed, closed by the next value
 pub entry_is : (m : Move) (l : Letter) (twin : Bool) (s q : ℕ) (vs ws : List ℤ) (row : List Hull) (w : ℤ) (at : ℕ) → same_letter l Equal ≡ false →
-    swept (cut_of m) ≡ true → IsSweepable vs ws row → small_int w ≡ true →
+    all_swept (cut_of m) ≡ true → IsSweepable vs ws row → small_int w ≡ true →
     at ≤ length vs → ((k : ℕ) → k < at → takes l twin vs (step_place l (length vs) k) w ≡ true) →
     (at < length vs → takes l twin vs (step_place l (length vs) at) w ≡ false) →
     sweep_entry m l twin s q vs row w ≡ closed_hull (cut_of m) (fronts (cut_of m) l s q vs row at) w
@@ -351,7 +351,7 @@ puts_more s to order f first next next' k j h d is inv e step =
 
 -- the next value takes in what was passed
 pub put_is : (m : Move) (pc : Cut) (l : Letter) (twin : Bool) (s q to : ℕ) (vs ws : List ℤ) (row next next' : List Hull) (j : ℕ) (w : ℤ) (at : ℕ)
-    (any : Bool) (p : Packed) → same_letter l Equal ≡ false → swept (cut_of m) ≡ true → IsSweepable vs ws row → small_int w ≡ true →
+    (any : Bool) (p : Packed) → same_letter l Equal ≡ false → all_swept (cut_of m) ≡ true → IsSweepable vs ws row → small_int w ≡ true →
     pc ≡ cut_of m → at ≤ length vs → IsRunning any p (fronts pc l s q vs row at) →
     ((t : Hull) → IsRunning any p t → next' ≡ set next (j * s + to) (hull_of_both (get_or next (j * s + to) none) (closed_hull pc t w))) →
     ((k : ℕ) → k < at → takes l twin vs (step_place l (length vs) k) w ≡ true) →
@@ -370,8 +370,8 @@ pub fronts_begun : (k : Cut) (l : Letter) (s q : ℕ) (vs : List ℤ) (row : Lis
 unfolding fronts total
 fronts_begun k l s q vs row p = record { begun = λ e. cc; empty = λ e. refl }
 
-pub parts_swept : (pc : Cut) (m : Move) → pc ≡ cut_of m → swept pc ≡ true → swept (cut_of m) ≡ true
-parts_swept pc m e h = ap swept (sym e) ∙ h
+pub parts_swept : (pc : Cut) (m : Move) → pc ≡ cut_of m → all_swept pc ≡ true → all_swept (cut_of m) ≡ true
+parts_swept pc m e h = ap all_swept (sym e) ∙ h
 
 pub puts_done : (m : Move) (l : Letter) (s q : ℕ) (vs : List ℤ) (row : List Hull) (ws : List ℤ) (first next : List Hull) (k : ℕ) → length ws ≤ k →
     k ≤ length ws →

@@ -15,7 +15,7 @@ use Rattle.ts_automaton.specs.Typing.{is_automaton}
 use Rattle.ts_automaton.proofs.Rules.{rules_of, target_exists}
 use Rattle.ts_bound.specs.Hulls.{none, hull_of_both}
 use Rattle.ts_bound.specs.Filling.{over}
-use Rattle.ts_bound.specs.NextRow.{Source, sources_from, sources, given, next_hull, next_hulls, next_row}
+use Rattle.ts_bound.specs.NextRow.{Source, sources_from, sources, hull_from, next_hull, next_hulls, next_row}
 use Rattle.ts_bound.specs.Sealed.{after_move, move_at}
 use Rattle.ts_bound.specs.Smalls.{AreValues, small_hull}
 use Rattle.ts_bound.specs.Sweeps.{AllTakeNone, IsSweepable, total, same_letter, hull_in, pair_gives, move_entry, step_place, puts, with_move, with_state, with_states}
@@ -309,13 +309,13 @@ sources_total G s (v ∷ vs) row long =
 -- one entry of the row
 entry_total : (a : Body) (vs : List ℤ) (row : List Hull) (w : ℤ) (t : ℕ) → length row ≡ length vs * length a.states →
     total (length a.states) (λ q. gifts a vs row w t q) ≡ next_hull a (sources (length a.states) vs row) w t
-unfolding next_hull given after_move move_at
+unfolding next_hull hull_from after_move move_at
 entry_total a vs row w t long =
     let n = length vs in
     let s = length a.states in
     total_same s (λ q. gifts a vs row w t q) (λ q. total n (λ i. given_at a vs row w t i q)) (λ q lt. gifts_are a vs row w t q)
     ∙ total_swap s n (λ q i. given_at a vs row w t i q)
-    ∙ sym (sources_total (given a w t) s vs row long)
+    ∙ sym (sources_total (hull_from a w t) s vs row long)
 
 -- a flat list by its places
 row_by_places : (s : ℕ) (g : ℤ → ℕ → Hull) (ws : List ℤ) (xs : List Hull) → length xs ≡ length ws * s →

@@ -17,14 +17,14 @@ use Rattle.ts_automaton.specs.Registers.{Each, spans_of, spans}
 use Rattle.ts_automaton.specs.Kinds.{HasKind, SpanHasKind, SpansFit}
 use Rattle.ts_automaton.specs.Typing.{kinds_at, is_automaton}
 use Rattle.ts_automaton.specs.Body.{Body, Move}
-use Rattle.ts_automaton.specs.AutomatonRun.{Standing, move_between, moved}
+use Rattle.ts_automaton.specs.AutomatonRun.{Standing, move_between, registers_after}
 use Rattle.ts_automaton.specs.SpanRun.{none_hull, has_registers, one_hull, HullStands, span_step}
 use Rattle.ts_automaton.proofs.KindLaws.{spans_typed}
 use Rattle.ts_automaton.proofs.StepLaws.{start_stands, spans_have, move_keeps}
 use Rattle.ts_base.specs.Signature.{letter_of}
 use Rattle.ts_bound.specs.Hulls.{hull_of, none, hull_of_both}
-use Rattle.ts_bound.specs.NextRow.{Source, source, standing_at, sources_from, sources, given, next_hull, next_hulls, next_row, states_of, RowStands}
-use Rattle.ts_bound.specs.Rows.{IsRow, row_at, joined, place, with_written}
+use Rattle.ts_bound.specs.NextRow.{Source, source, standing_at, sources_from, sources, hull_from, next_hull, next_hulls, next_row, states_of, RowStands}
+use Rattle.ts_bound.specs.Rows.{IsRow, row_at, concat_rows, place, with_written}
 use Rattle.ts_bound.proofs.RowLaws.{row_written, next_written, both_written, row_before, row_after, row_after_at}
 use Rattle.ts_bound.specs.HullTables.{start_hull, hull_at, hulls_at, row_of, rows_behind, forward_rows, backward_rows}
 
@@ -127,14 +127,14 @@ module _ (b : Body) (rules : IsTrue (is_automaton b)) where
       m : Move
       m = move_between b s.state s.value w
 
-      go : (v : Bool) → has_registers (spans_of s.hull) ≡ v → IsKept b m.next (hull_of (cond v (moved spans (spans_of s.hull) s.value w m) none_hull))
+      go : (v : Bool) → has_registers (spans_of s.hull) ≡ v → IsKept b m.next (hull_of (cond v (registers_after spans (spans_of s.hull) s.value w m) none_hull))
       go false e = inl refl
       go true e =
           inr (move_keeps spans SpanHasKind SpansFit spans_typed b rules s.state (letter_of s.value w) h.exists (spans_of s.hull)
           (spans_have (kinds_at b s.state) (spans_of s.hull) h.kinds e) m refl s.value w)
 
-  pub kept_given : (s : Source) → HullStands b (standing_at s) → (w : ℤ) (q : ℕ) → IsKept b q (given b w q s)
-  unfolding given
+  pub kept_given : (s : Source) → HullStands b (standing_at s) → (w : ℤ) (q : ℕ) → IsKept b q (hull_from b w q s)
+  unfolding hull_from
   kept_given s h w q = go (nat_eq to.state q) refl
     where
       to : Standing Span
@@ -145,7 +145,7 @@ module _ (b : Body) (rules : IsTrue (is_automaton b)) where
       go false e = inl refl
 
   kept_givens : (ss : List Source) → AllByRecursion (λ s. HullStands b (standing_at s)) ss → (w : ℤ) (q : ℕ) →
-      AllByRecursion (IsKept b q) (map (given b w q) ss)
+      AllByRecursion (IsKept b q) (map (hull_from b w q) ss)
   kept_givens [] h w q = tt
   kept_givens (s ∷ ss) h w q = (kept_given s h.0 w q, kept_givens ss h.1 w q)
 
@@ -448,7 +448,7 @@ start_written b t k row d e is_row same long is =
 
 pub on_written : (b : Body) (v : List (List Hull)) (k n : ℕ) (r a x x' : List Hull) (d e d' e' : List ℤ) → 1 ≤ k → k + 1 ≤ length v →
     place v (k - 1) + n ≡ place v k →
-    r ≡ slice_range (joined v) (place v (k - 1)) (place v (k + 1)) → a ≡ take n r → x ≡ drop n r → d ≡ e → d' ≡ e' →
+    r ≡ slice_range (concat_rows v) (place v (k - 1)) (place v (k + 1)) → a ≡ take n r → x ≡ drop n r → d ≡ e → d' ≡ e' →
     length (row_at (k + 1) v) ≡ length e' * length b.states → x' ≡ next_row b d a d' →
     with_written v (k - 1) (a ++ x') ≡ set v k (next_row b e (row_at k v) e')
 on_written b v k n r a x x' d e d' e' first last wide is_r is_a is_x same same' long is =
@@ -460,7 +460,7 @@ on_written b v k n r a x x' d e d' e' first last wide is_r is_a is_x same same' 
 
 pub back_written : (b : Body) (v : List (List Hull)) (k n : ℕ) (r a a' x : List Hull) (d e d' e' : List ℤ) → 1 ≤ k → k + 1 ≤ length v →
     place v (k - 1) + n ≡ place v k →
-    r ≡ slice_range (joined v) (place v (k - 1)) (place v (k + 1)) → a ≡ take n r → x ≡ drop n r → d ≡ e → d' ≡ e' →
+    r ≡ slice_range (concat_rows v) (place v (k - 1)) (place v (k + 1)) → a ≡ take n r → x ≡ drop n r → d ≡ e → d' ≡ e' →
     length (row_at k v) ≡ length e' * length b.states → a' ≡ next_row b d x d' →
     with_written v (k - 1) (a' ++ x) ≡ set v (k - 1) (next_row b e (row_at (k + 1) v) e')
 back_written b v k n r a a' x d e d' e' first last wide is_r is_a is_x same same' long is =

@@ -5,7 +5,7 @@ use Rattle.std.proofs.lemmas.Option.{get_or_from_slice_get, slice_get-get_or}
 use Rattle.std.proofs.lemmas.List.Elements.{Contains-get_or}
 use Rattle.std.proofs.lemmas.Int.{ints}
 use Rattle.std.specs.List.{AllByRecursion}
-use Rattle.ts_domain.specs.Values.{WithinLimits, Rising, IsDomain}
+use Rattle.ts_domain.specs.Values.{WithinLimits, IsRising, IsDomain}
 use Rattle.ts_bound.specs.Smalls.{Rises, small_int, AreValues, AreRead}
 
 above_at : (v : ℤ) (vs : List ℤ) (j : ℕ) → AllByRecursion (λ y. v <ℤ y) vs → j < length vs → IsTrue (int_lt v (get_or vs j (pos 0)))
@@ -13,8 +13,8 @@ above_at v [] j h lt = absurd (omega arith)
 above_at v (x ∷ vs) zero h lt = let k = h.0 in grind (arith, ints)
 above_at v (x ∷ vs) (suc j) h lt = above_at v vs j h.1 (omega arith)
 
-rise : (vs : List ℤ) → Rising vs → (i j : ℕ) → i < j → j < length vs → IsTrue (int_lt (get_or vs i (pos 0)) (get_or vs j (pos 0)))
-unfolding Rising
+rise : (vs : List ℤ) → IsRising vs → (i j : ℕ) → i < j → j < length vs → IsTrue (int_lt (get_or vs i (pos 0)) (get_or vs j (pos 0)))
+unfolding IsRising
 rise [] h i j lt inside = absurd (omega arith)
 rise (v ∷ vs) h i zero lt inside = absurd (omega arith)
 rise (v ∷ vs) h zero (suc j) lt inside = above_at v vs j h.0 (omega arith)

@@ -11,7 +11,7 @@ use Rattle.ts_bound.specs.declared.sweep_parts.Part.TheVariants.{Tail, Double, P
 use Rattle.ts_bound.specs.declared.sweep_parts.Parts.{Parts}
 use Rattle.ts_bound.specs.Hulls.{none}
 use Rattle.ts_bound.specs.Sealed.{hull_with, some_hull}
-use Rattle.ts_bound.specs.Splits.{Split, FrontOf, TailOf, ByPairs, split, is_swept, front_span, closed_span}
+use Rattle.ts_bound.specs.Splits.{Split, FrontOf, TailOf, ByPairs, split_formula, is_swept, front_span, closed_span}
 
 pub record Cut : Type 0 where
   pub c : Split
@@ -19,10 +19,10 @@ pub record Cut : Type 0 where
   pub r : Split
 
 abbrev pub cut_of : Move → Cut
-cut_of m = record { c = split m.to.c; d = split m.to.d; r = split m.to.r }
+cut_of m = record { c = split_formula m.to.c; d = split_formula m.to.d; r = split_formula m.to.r }
 
-abbrev pub swept : Cut → Bool
-swept k = is_swept k.c && (is_swept k.d && is_swept k.r)
+abbrev pub all_swept : Cut → Bool
+all_swept k = is_swept k.c && (is_swept k.d && is_swept k.r)
 
 -- the fronts on a hull, and what the next cell y makes of the hull of fronts
 unfoldable pub front_hull : Cut → Hull → ℤ → Hull

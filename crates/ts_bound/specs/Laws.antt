@@ -6,7 +6,7 @@ use Rattle.ts_base.specs.Spans.{one_span, Holds}
 use Rattle.ts_automaton.specs.declared.state.Mark.TheVariants.{Same}
 use Rattle.ts_automaton.specs.Body.{Body}
 use Rattle.ts_automaton.specs.Typing.{is_automaton}
-use Rattle.ts_automaton.specs.AutomatonRun.{answer, AreCellValues, Marked}
+use Rattle.ts_automaton.specs.AutomatonRun.{answer, AreCellValues, HoldsMark}
 use Rattle.ts_domain.specs.BoxSeries.{InBox, IsBox}
 use Rattle.ts_glue.specs.Pairs.{Pair}
 use Rattle.ts_glue.specs.Glued.{Local}
@@ -29,7 +29,7 @@ pub record AreAutomata (m : Automata) : Type 0 where
 -- the span of a box at any cell that may be used holds the answer on each series of the box
 abbrev pub SpansHold : Type 0
 SpansHold =
-    (m : Automata) → AreAutomata m → Marked m.forward →
+    (m : Automata) → AreAutomata m → HoldsMark m.forward →
     (cells : List (List ℤ)) → length cells ≤ most_cells → IsBox cells → (k : ℕ) → IsUsable m k cells →
     (xs : List ℤ) → InBox xs cells → Holds (term_span m k cells) (answer m.forward xs)
 

@@ -38,14 +38,14 @@ sources n [] row = []
 sources n (v ∷ vs) row = sources_from v 0 (take n row) ++ sources n vs (drop n row)
 
 -- what a hull gives to the state q at the next value w: its move, where that leads to q, else none
-unfoldable pub given : Body → ℤ → ℕ → Source → Hull
-given b w q s =
+unfoldable pub hull_from : Body → ℤ → ℕ → Source → Hull
+hull_from b w q s =
     let to = span_step b (standing_at s) s.value w in
     if nat_eq to.state q then hull_of to.regs else none
 
 -- the hull of what all hulls give
 unfoldable pub next_hull : Body → List Source → ℤ → ℕ → Hull
-next_hull b from w q = hull_of_all (map (given b w q) from)
+next_hull b from w q = hull_of_all (map (hull_from b w q) from)
 
 -- the hulls of the next value w, one for each state
 unfoldable pub next_hulls : Body → List Source → ℤ → List Hull

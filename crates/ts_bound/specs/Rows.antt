@@ -9,9 +9,9 @@ IsRow k rows = (1 ≤ k) × (k ≤ length rows)
 abbrev pub row_at : {X : Type 0} → ℕ → List (List X) → List X
 row_at k rows = get_or rows (k - 1) []
 
-unfoldable pub joined : {X : Type 0} → List (List X) → List X
-joined [] = []
-joined (row ∷ rows) = row ++ joined rows
+unfoldable pub concat_rows : {X : Type 0} → List (List X) → List X
+concat_rows [] = []
+concat_rows (row ∷ rows) = row ++ concat_rows rows
 
 -- where row i begins in them, counted from 0
 unfoldable pub place : {X : Type 0} → List (List X) → ℕ → ℕ
@@ -29,12 +29,12 @@ abbrev pub written_over : {X : Type 0} → List X → ℕ → List X → List X
 written_over xs i ws = take i xs ++ (ws ++ drop (length ws) (drop i xs))
 
 -- the same, as long as xs
-abbrev pub refilled : {X : Type 0} → List X → List X → List X
-refilled xs us = take (length xs) (us ++ drop (length us) xs)
+abbrev pub refill : {X : Type 0} → List X → List X → List X
+refill xs us = take (length xs) (us ++ drop (length us) xs)
 
 -- the rows after ws was written over them from the begin of row i on; each row keeps its length
 unfoldable pub with_written : {X : Type 0} → List (List X) → ℕ → List X → List (List X)
-with_written rows i ws = cut_like rows (refilled (joined rows) (written_over (joined rows) (place rows i) ws))
+with_written rows i ws = cut_like rows (refill (concat_rows rows) (written_over (concat_rows rows) (place rows i) ws))
 
 -- the rows that begin at the starts and end where the next begins
 unfoldable pub rows_from : {X : Type 0} → ℕ → List ℕ → List X → List (List X)

@@ -17,16 +17,16 @@ unfoldable pub least_span : Span → Span → Span
 least_span s t = span_hull s t
 
 -- an operation, end by end
-unfoldable pub lifted : (Ext → Ext → Ext) → Span → Span → Span
-lifted op s t = end_by_end op s t
+unfoldable pub by_ends : (Ext → Ext → Ext) → Span → Span → Span
+by_ends op s t = end_by_end op s t
 
 -- the operators on spans
-abbrev pub sealed : Values Span
-sealed = record { constant = one_span; join = λ o. lifted (ext_op o) }
+abbrev pub sealed_spans : Values Span
+sealed_spans = record { constant = one_span; join = λ o. by_ends (ext_op o) }
 
 -- the span of an expression on a hull, at the cell x and the next cell y
 abbrev pub span_in : Formula → Hull → ℤ → ℤ → Span
-span_in f h x y = value_in sealed (spans_of h) x y f
+span_in f h x y = value_in sealed_spans (spans_of h) x y f
 
 -- the hull of these spans
 abbrev pub hull_with : Span → Span → Span → Hull

@@ -10,7 +10,7 @@ use Rattle.ts_automaton.specs.declared.regs.Hull.{Hull}
 use Rattle.ts_automaton.specs.Formula.{Formula, Leaf, Join}
 use Rattle.ts_automaton.specs.Registers.{ext_op}
 use Rattle.ts_glue.specs.Rules.{is_same_op}
-use Rattle.ts_bound.specs.Sealed.{lifted, span_in}
+use Rattle.ts_bound.specs.Sealed.{by_ends, span_in}
 
 -- the word is the next cell
 abbrev pub is_next_word : Atom → Bool
@@ -53,9 +53,9 @@ abbrev pub tail_of : Op → Formula → Formula → Split
 tail_of o e (Leaf a) = cond (is_next_word a && is_front e) (TailOf o e) ByPairs
 tail_of o e (Join p f r) = cond (is_double o p e f r) (TailOf o (Join o e f)) ByPairs
 
-abbrev pub split : Formula → Split
-split (Leaf a) = cond (is_next_word a) ByPairs (FrontOf (Leaf a))
-split (Join o e r) = cond (is_front e && is_front r) (FrontOf (Join o e r)) (tail_of o e r)
+abbrev pub split_formula : Formula → Split
+split_formula (Leaf a) = cond (is_next_word a) ByPairs (FrontOf (Leaf a))
+split_formula (Join o e r) = cond (is_front e && is_front r) (FrontOf (Join o e r)) (tail_of o e r)
 
 abbrev pub is_swept : Split → Bool
 is_swept (FrontOf e) = true
@@ -70,5 +70,5 @@ front_span ByPairs h x = none_span
 
 abbrev pub closed_span : Split → Span → ℤ → Span
 closed_span (FrontOf e) s y = s
-closed_span (TailOf o e) s y = lifted (ext_op o) s (one_span (Int y))
+closed_span (TailOf o e) s y = by_ends (ext_op o) s (one_span (Int y))
 closed_span ByPairs s y = none_span

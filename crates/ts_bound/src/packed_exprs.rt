@@ -6,7 +6,7 @@ ghost use Rattle.ts_automaton.specs.Formula.{formula};
 ghost use Rattle.ts_automaton.specs.Registers.{ext_op};
 ghost use Rattle.ts_base.specs.Spans.{has_some};
 ghost use Rattle.ts_bound.specs.Packs.{IsPackOf, unpack_hull, unpack_span};
-ghost use Rattle.ts_bound.specs.Sealed.{after_move, lifted, some_hull, span_in};
+ghost use Rattle.ts_bound.specs.Sealed.{after_move, by_ends, some_hull, span_in};
 ghost use Rattle.ts_bound.specs.Smalls.{small_int};
 
 use crate::packed::{Ends, Packed};
@@ -17,7 +17,7 @@ use ts_automaton::{Expr, Op, Turn};
 pub(crate) fn joined_ends(o: Op, a: Ends, b: Ends) -> Ends
     requires first { has_some (unpack_span a) ≡ true }
     requires second { has_some (unpack_span b) ≡ true }
-    ensures value { unpack_span result ≡ lifted (ext_op o) (unpack_span a) (unpack_span b) }
+    ensures value { unpack_span result ≡ by_ends (ext_op o) (unpack_span a) (unpack_span b) }
     ensures some { has_some (unpack_span result) ≡ true }
 {
     match o {

@@ -4,7 +4,7 @@ ghost use Rattle.std.specs.Prelude.{◌≡◌, true, ◌+ℤ◌};
 ghost use Rattle.ts_base.specs.Numbers.{clamp, ext_plus};
 ghost use Rattle.ts_base.specs.Spans.{has_some};
 ghost use Rattle.ts_bound.specs.Packs.{ArePlain, IsPlain, unpack, unpack_span};
-ghost use Rattle.ts_bound.specs.Sealed.{lifted};
+ghost use Rattle.ts_bound.specs.Sealed.{by_ends};
 
 use crate::packed::{End, Ends};
 
@@ -74,7 +74,7 @@ impl Ends {
     pub(crate) fn plus(self, other: Ends) -> Ends
         requires first { has_some (unpack_span self) ≡ true }
         requires second { has_some (unpack_span other) ≡ true }
-        ensures value { unpack_span result ≡ lifted ext_plus (unpack_span self) (unpack_span other) }
+        ensures value { unpack_span result ≡ by_ends ext_plus (unpack_span self) (unpack_span other) }
         ensures some { has_some (unpack_span result) ≡ true }
     {
         if self.is_plain() && other.is_plain() {
@@ -92,7 +92,7 @@ impl Ends {
     fn clamped_plus(self, other: Ends) -> Ends
         requires first { has_some (unpack_span self) ≡ true }
         requires second { has_some (unpack_span other) ≡ true }
-        ensures value { unpack_span result ≡ lifted ext_plus (unpack_span self) (unpack_span other) }
+        ensures value { unpack_span result ≡ by_ends ext_plus (unpack_span self) (unpack_span other) }
         ensures some { has_some (unpack_span result) ≡ true }
     {
         Ends {

@@ -3,7 +3,7 @@
 ghost use Rattle.std.specs.Prelude.{◌≡◌, pos, true};
 ghost use Rattle.ts_automaton.specs.Formula.{Leaf};
 ghost use Rattle.ts_base.specs.Spans.{has_some};
-ghost use Rattle.ts_bound.specs.Cuts.{closed_hull, front_hull, kept_parts, longer_parts, part_split, parts_cut, swept};
+ghost use Rattle.ts_bound.specs.Cuts.{closed_hull, front_hull, kept_parts, longer_parts, part_split, parts_cut, all_swept};
 ghost use Rattle.ts_bound.specs.Packs.{IsPackOf, unpack_hull, unpack_span};
 ghost use Rattle.ts_bound.specs.Sealed.{some_hull, span_in};
 ghost use Rattle.ts_bound.specs.Smalls.{small_int};
@@ -88,7 +88,7 @@ impl Parts<'_> {
     /// so short that it stands in the loop over the values without a call.
     #[inline(always)]
     pub(crate) fn front_packed(&self, h: &Packed, x: i64) -> Packed
-        requires swept { swept (parts_cut self.now) ≡ true }
+        requires swept { all_swept (parts_cut self.now) ≡ true }
         requires hull { some_hull (unpack_hull h.now) ≡ true }
         requires this { small_int x ≡ true }
         ensures { IsPackOf result (front_hull (parts_cut self.now) (unpack_hull h.now) x) }
@@ -135,7 +135,7 @@ impl Parts<'_> {
     /// Those of any move.
     #[inline(never)]
     fn mixed_fronts(&self, h: &Packed, x: i64) -> Packed
-        requires swept { swept (parts_cut self.now) ≡ true }
+        requires swept { all_swept (parts_cut self.now) ≡ true }
         requires hull { some_hull (unpack_hull h.now) ≡ true }
         requires this { small_int x ≡ true }
         ensures { IsPackOf result (front_hull (parts_cut self.now) (unpack_hull h.now) x) }
@@ -150,7 +150,7 @@ impl Parts<'_> {
     /// What the next cell makes of the hull of fronts.
     #[inline(always)]
     pub(crate) fn closed_packed(&self, h: &Packed, y: i64) -> Packed
-        requires swept { swept (parts_cut self.now) ≡ true }
+        requires swept { all_swept (parts_cut self.now) ≡ true }
         requires hull { some_hull (unpack_hull h.now) ≡ true }
         requires next { small_int y ≡ true }
         ensures value { unpack_hull result ≡ closed_hull (parts_cut self.now) (unpack_hull h.now) y }

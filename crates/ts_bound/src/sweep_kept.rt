@@ -5,7 +5,7 @@
 ghost use Rattle.std.specs.Prelude.{◌≡◌, ◌*◌, ◌<◌, true, false, length};
 ghost use Rattle.ts_automaton.specs.Body.{move_of};
 ghost use Rattle.ts_base.specs.declared.letter.Letter.TheVariants.{Equal};
-ghost use Rattle.ts_bound.specs.Cuts.{cut_of, parts_cut, swept};
+ghost use Rattle.ts_bound.specs.Cuts.{cut_of, parts_cut, all_swept};
 ghost use Rattle.ts_bound.specs.Sweeps.{AllTakeNone, IsSweepable, same_letter, with_sweep};
 
 use crate::sweep_down::sweep_down;
@@ -32,7 +32,7 @@ pub(crate) fn sweep_kept(
 )
     requires unequal { same_letter l Equal ≡ false }
     requires parts { parts_cut p.now ≡ cut_of (move_of t.now) }
-    requires swept { swept (parts_cut p.now) ≡ true }
+    requires swept { all_swept (parts_cut p.now) ≡ true }
     requires sweepable { IsSweepable values.now next_values.now before.now }
     requires canonical { AllTakeNone next.old }
     requires state { q < s }
@@ -64,7 +64,7 @@ pub(crate) fn sweep_gapless(
 )
     requires unequal { same_letter l Equal ≡ false }
     requires parts { parts_cut p.now ≡ cut_of (move_of t.now) }
-    requires swept { swept (parts_cut p.now) ≡ true }
+    requires swept { all_swept (parts_cut p.now) ≡ true }
     requires sweepable { IsSweepable values.now next_values.now before.now }
     requires canonical { AllTakeNone next.old }
     requires state { q < s }
@@ -97,7 +97,7 @@ fn sweep_gaps(
 )
     requires unequal { same_letter l Equal ≡ false }
     requires parts { parts_cut p.now ≡ cut_of (move_of t.now) }
-    requires swept { swept (parts_cut p.now) ≡ true }
+    requires swept { all_swept (parts_cut p.now) ≡ true }
     requires sweepable { IsSweepable values.now next_values.now before.now }
     requires canonical { AllTakeNone next.old }
     requires state { q < s }

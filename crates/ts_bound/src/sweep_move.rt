@@ -4,7 +4,7 @@ ghost use Rattle.std.specs.Prelude.{◌≡◌, ℕ, ◌+◌, ◌*◌, ◌<◌, �
 ghost use Rattle.ts_automaton.specs.Body.{move_of};
 ghost use Rattle.ts_automaton.specs.declared.regs.Hull.{Hull};
 ghost use Rattle.ts_base.specs.declared.letter.Letter.TheVariants.{Equal};
-ghost use Rattle.ts_bound.specs.Cuts.{closed_hull, cut_of, front_hull, parts_cut, swept};
+ghost use Rattle.ts_bound.specs.Cuts.{closed_hull, cut_of, front_hull, parts_cut, all_swept};
 ghost use Rattle.ts_bound.specs.Hulls.{hull_of_both, none};
 ghost use Rattle.ts_bound.specs.Packs.{IsPackOf, IsRunning, unpack_hull};
 ghost use Rattle.ts_bound.specs.Sealed.{some_hull};
@@ -23,7 +23,7 @@ use ts_base::Letter;
 #[inline(always)]
 fn with_hull(p: &Parts<'_>, h: &Packed, value: i64, run: Run) -> Run
     requires room { run.at < 18446744073709551615 }
-    requires swept { swept (parts_cut p.now) ≡ true }
+    requires swept { all_swept (parts_cut p.now) ≡ true }
     requires this { small_int value ≡ true }
     requires begun { run.any ≡ true → some_hull (unpack_hull run.hull) ≡ true }
     ensures at { result.at ≡ run.at + 1 }
@@ -61,7 +61,7 @@ fn with_place(
     requires state { q < s }
     requires before { length before.now ≡ length values.now * s }
     requires room { run.at < 18446744073709551615 }
-    requires swept { swept (parts_cut p.now) ≡ true }
+    requires swept { all_swept (parts_cut p.now) ≡ true }
     requires small { small_hull (hull_in s q before.now i) ≡ true }
     requires this { small_int value ≡ true }
     requires begun { run.any ≡ true → some_hull (unpack_hull run.hull) ≡ true }
@@ -86,7 +86,7 @@ fn passed(
     next_value: i64,
     from: Run,
 ) -> Run
-    requires swept { swept (parts_cut p.now) ≡ true }
+    requires swept { all_swept (parts_cut p.now) ≡ true }
     requires small { (i : ℕ) → small_hull (get_or before.now i none) ≡ true }
     requires small_values { (i : ℕ) → small_int (get_or values.now i (pos 0)) ≡ true }
     requires state { q < s }
@@ -127,7 +127,7 @@ fn put_run(
     next_value: i64,
 )
     requires inside { j * s + to < length next.old }
-    requires swept { swept (parts_cut p.now) ≡ true }
+    requires swept { all_swept (parts_cut p.now) ≡ true }
     requires small { small_int next_value ≡ true }
     requires begun { run.now.any ≡ true → some_hull (unpack_hull run.now.hull) ≡ true }
     requires canonical { hull_of_both (get_or next.old (j * s + to) none) none ≡ get_or next.old (j * s + to) none }
@@ -156,7 +156,7 @@ pub(crate) fn sweep_move(
 )
     requires unequal { same_letter l Equal ≡ false }
     requires parts { parts_cut p.now ≡ cut_of (move_of t.now) }
-    requires swept { swept (parts_cut p.now) ≡ true }
+    requires swept { all_swept (parts_cut p.now) ≡ true }
     requires sweepable { IsSweepable values.now next_values.now before.now }
     requires canonical { AllTakeNone next.old }
     requires state { q < s }

@@ -3,8 +3,8 @@
 ghost use Rattle.std.specs.Prelude.{◌≡◌, IfSome};
 ghost use Rattle.ts_automaton.specs.Body.{move_of};
 ghost use Rattle.ts_automaton.specs.Formula.{Join, Leaf, formula};
-ghost use Rattle.ts_bound.specs.Cuts.{cut_of, kept_parts, longer_parts, part_split, parts_cut, swept};
-ghost use Rattle.ts_bound.specs.Splits.{FrontOf, is_double, is_front, is_next, is_swept, operands, split, tail_of};
+ghost use Rattle.ts_bound.specs.Cuts.{cut_of, kept_parts, longer_parts, part_split, parts_cut, all_swept};
+ghost use Rattle.ts_bound.specs.Splits.{FrontOf, is_double, is_front, is_next, is_swept, operands, split_formula, tail_of};
 ghost use Rattle.ts_glue.specs.Rules.{is_same_op};
 
 use ts_automaton::{Atom, Expr, Op, Turn};
@@ -77,7 +77,7 @@ fn operands(e: &Expr) -> u8
 
 /// How it reads the next cell.
 fn split_of<'a>(e: &'a Expr) -> Part<'a>
-    ensures { part_split result ≡ split (formula e.now) }
+    ensures { part_split result ≡ split_formula (formula e.now) }
 {
     match e {
         Expr::C => Part::KeepC,
@@ -123,7 +123,7 @@ fn front_part<'a>(whole: &'a Expr, o: Op, a: &Expr, b: &Expr) -> Part<'a>
 /// The same of an operator over two operands.
 fn part_of<'a>(whole: &'a Expr, o: Op, a: &'a Expr, b: &'a Expr) -> Part<'a>
     requires { formula whole.now ≡ Join o (formula a.now) (formula b.now) }
-    ensures { part_split result ≡ split (Join o (formula a.now) (formula b.now)) }
+    ensures { part_split result ≡ split_formula (Join o (formula a.now) (formula b.now)) }
 {
     if is_front(a) && is_front(b) {
         front_part(whole, o, a, b)
@@ -224,7 +224,7 @@ impl<'a> Parts<'a> {
 
     /// Whether all can be swept.
     pub(crate) fn is_swept(&self) -> bool
-        ensures { result ≡ swept (parts_cut self.now) }
+        ensures { result ≡ all_swept (parts_cut self.now) }
     {
         self.c.is_swept() && self.d.is_swept() && self.r.is_swept()
     }

@@ -3,7 +3,7 @@
 ghost use Rattle.std.specs.Prelude.{◌≡◌, ◌*◌, ◌<◌, true, length};
 ghost use Rattle.ts_automaton.specs.Body.{move_of};
 ghost use Rattle.ts_base.specs.declared.letter.Letter.TheVariants.{Less};
-ghost use Rattle.ts_bound.specs.Cuts.{cut_of, kept_parts, longer_parts, parts_cut, swept};
+ghost use Rattle.ts_bound.specs.Cuts.{cut_of, kept_parts, longer_parts, parts_cut, all_swept};
 ghost use Rattle.ts_bound.specs.Sweeps.{AllTakeNone, IsSweepable, with_sweep};
 
 use crate::sweep_kept::sweep_gapless;
@@ -27,7 +27,7 @@ pub(crate) fn sweep_up(
     next: &mut [Hull],
 )
     requires parts { parts_cut p.now ≡ cut_of (move_of t.now) }
-    requires swept { swept (parts_cut p.now) ≡ true }
+    requires swept { all_swept (parts_cut p.now) ≡ true }
     requires sweepable { IsSweepable values.now next_values.now before.now }
     requires canonical { AllTakeNone next.old }
     requires state { q < s }
@@ -58,7 +58,7 @@ fn kept_up(
     next: &mut [Hull],
 )
     requires parts { parts_cut kept_parts ≡ cut_of (move_of t.now) }
-    requires swept { swept (parts_cut kept_parts) ≡ true }
+    requires swept { all_swept (parts_cut kept_parts) ≡ true }
     requires sweepable { IsSweepable values.now next_values.now before.now }
     requires canonical { AllTakeNone next.old }
     requires state { q < s }
@@ -94,7 +94,7 @@ fn longer_up(
     next: &mut [Hull],
 )
     requires parts { parts_cut longer_parts ≡ cut_of (move_of t.now) }
-    requires swept { swept (parts_cut longer_parts) ≡ true }
+    requires swept { all_swept (parts_cut longer_parts) ≡ true }
     requires sweepable { IsSweepable values.now next_values.now before.now }
     requires canonical { AllTakeNone next.old }
     requires state { q < s }
@@ -131,7 +131,7 @@ fn mixed_up(
     next: &mut [Hull],
 )
     requires parts { parts_cut p.now ≡ cut_of (move_of t.now) }
-    requires swept { swept (parts_cut p.now) ≡ true }
+    requires swept { all_swept (parts_cut p.now) ≡ true }
     requires sweepable { IsSweepable values.now next_values.now before.now }
     requires canonical { AllTakeNone next.old }
     requires state { q < s }

@@ -5,7 +5,7 @@ ghost use Rattle.std.specs.Borrow.{sem};
 ghost use Rattle.std.proofs.Common.{replicate};
 ghost use Rattle.ts_bound.specs.Hulls.{none};
 ghost use Rattle.ts_bound.specs.LendsRows.{LendsParts, LendsRow, LendsTwo};
-ghost use Rattle.ts_bound.specs.Rows.{IsRow, joined, place, row_at};
+ghost use Rattle.ts_bound.specs.Rows.{IsRow, concat_rows, place, row_at};
 
 use std::alloc::Global;
 use std::marker::Model;
@@ -88,7 +88,8 @@ impl HullTable {
         requires first { 1 ≤ k }
         requires last { k + 1 ≤ length self.old }
         ensures* writes_back { sem 𝓛 (LendsRow self.entry k result) }
-        ensures value { result.now ≡ slice_range (joined self.old) (place self.old (k - 1)) (place self.old (k + 1)) }
+        ensures value { result.now ≡ slice_range (concat_rows self.old) (place self.old (k - 1))
+            (place self.old (k + 1)) }
     {
         let (from, to) = self.bounds(k, 2);
         self.hulls.slice_mut(from..to)

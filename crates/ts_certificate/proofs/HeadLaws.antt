@@ -13,7 +13,7 @@ use Rattle.ts_certificate.specs.declared.certificate.Aim.TheVariants.{Best as Be
 use Rattle.ts_certificate.specs.declared.certificate.Claim.{Claim}
 use Rattle.ts_certificate.specs.declared.certificate.Claim.TheVariants.{Best as BestIs, Infeasible, BudgetBest, BudgetNone, Full, All, BudgetList}
 use Rattle.ts_base.specs.Words.{is_lf, is_space, Words, all_words}
-use Rattle.ts_certificate.specs.WordCounts.{one_of, two_of, alone}
+use Rattle.ts_certificate.specs.WordCounts.{one_of, two_of, if_alone}
 use Rattle.ts_token.specs.Number.{ext_of}
 use Rattle.ts_certificate.specs.Ranges.{count_text, is_value, is_ext, value_of, whole_of, asked_of, is_listed}
 use Rattle.ts_certificate.specs.HeadLines.{aim_words, is_aim, list_from, aim_of, claim_words, is_best_claim, is_list_claim, is_claim, best_from, budget_from, best_claim_of, count_from, list_claim_of, claim_of, series_words, is_series, onto_values, values_of, some_values, series_of}
@@ -40,10 +40,10 @@ list_only ws (Some w) a e h = subst (λ (x : List (List ℕ)). IsAimOf (codes "g
 
 pub aim_only : (w : Words) (a : Aim) → aim_of w ≡ Some a → (w ≡ aim_words a) × (is_aim a ≡ true)
 aim_only w a h =
-    keyword_or (IsAimOf w.first w.more a) w.first (codes "maximise") (alone (BestOf Maximise) w.more) _ a
+    keyword_or (IsAimOf w.first w.more a) w.first (codes "maximise") (if_alone (BestOf Maximise) w.more) _ a
     (λ is k. at_word (λ z. IsAimOf z w.more a) w.first (codes "maximise") is
     (alone_only (IsAimOf (codes "maximise")) (BestOf Maximise) a w.more (refl, refl) k))
-    (keyword_or (IsAimOf w.first w.more a) w.first (codes "minimise") (alone (BestOf Minimise) w.more) _ a
+    (keyword_or (IsAimOf w.first w.more a) w.first (codes "minimise") (if_alone (BestOf Minimise) w.more) _ a
     (λ is k. at_word (λ z. IsAimOf z w.more a) w.first (codes "minimise") is
     (alone_only (IsAimOf (codes "minimise")) (BestOf Minimise) a w.more (refl, refl) k))
     (keyword_or (IsAimOf w.first w.more a) w.first (codes "generate") (list_from (one_of w.more)) None a
@@ -98,7 +98,7 @@ best_claim_only : (w : Words) (c : Claim) → best_claim_of w ≡ Some c → (w 
 best_claim_only w c h =
     keyword_or (IsBestClaim w.first w.more c) w.first (codes "best") (best_from (one_of w.more)) _ c
     (λ is k. at_word (λ z. IsBestClaim z w.more c) w.first (codes "best") is (best_only w.more (one_of w.more) c refl k))
-    (keyword_or (IsBestClaim w.first w.more c) w.first (codes "infeasible") (alone Infeasible w.more) _ c
+    (keyword_or (IsBestClaim w.first w.more c) w.first (codes "infeasible") (if_alone Infeasible w.more) _ c
     (λ is k. at_word (λ z. IsBestClaim z w.more c) w.first (codes "infeasible") is
     (alone_only (IsBestClaim (codes "infeasible")) Infeasible c w.more (refl, refl) k))
     (keyword_or (IsBestClaim w.first w.more c) w.first (codes "budget") (budget_from (one_of w.more)) None c

@@ -6,7 +6,7 @@ use Rattle.std.specs.Fmt.{signed_decimal}
 use Rattle.ts_certificate.specs.declared.certificate.TreeLine.{TreeLine}
 use Rattle.ts_certificate.specs.declared.certificate.TreeLine.TheVariants.{Split, Remove, No, Worse, Yes, Unsearched}
 use Rattle.ts_base.specs.Words.{is_lf, is_space, Words, all_words}
-use Rattle.ts_certificate.specs.WordCounts.{one_of, two_of, three_of, alone}
+use Rattle.ts_certificate.specs.WordCounts.{one_of, two_of, three_of, if_alone}
 use Rattle.ts_certificate.specs.Ranges.{count_text, is_value, value_of, is_cell, cell_of, is_requirement, requirement_of}
 use Rattle.ts_certificate.specs.TreeLines.{tree_words, is_tree_line, split_made, remove_made, no_made, worse_made, split_from, remove_from, no_from, worse_from, split_of, remove_of, no_of, worse_of, tree_of}
 use Rattle.ts_base.proofs.WordLaws.{and_parts, is_solid, AreSolid, keyword_or}
@@ -23,7 +23,7 @@ made_of P make None x f h = cc
 made_of P make (Some v) x f h = let same : make v ≡ x = cc in subst P same (f v refl)
 
 -- no word is left, and x is the value
-pub alone_only : {X : Type 0} (P : List (List ℕ) → X → Type 0) (y x : X) (ws : List (List ℕ)) → P [] y → alone y ws ≡ Some x → P ws x
+pub alone_only : {X : Type 0} (P : List (List ℕ) → X → Type 0) (y x : X) (ws : List (List ℕ)) → P [] y → if_alone y ws ≡ Some x → P ws x
 alone_only P y x [] p h = let same : y ≡ x = cc in subst (P []) same p
 alone_only P y x (w ∷ ws) p h = cc
 
@@ -135,10 +135,10 @@ tree_only w l h =
     (λ is k. at_word (λ z. IsTree z w.more l) w.first (codes "worse") is (worse_only w.more (one_of w.more) l refl k))
     (keyword_or (IsTree w.first w.more l) w.first (codes "drop") (remove_of w.more) _ l
     (λ is k. at_word (λ z. IsTree z w.more l) w.first (codes "drop") is (remove_only w.more (three_of w.more) l refl k))
-    (keyword_or (IsTree w.first w.more l) w.first (codes "yes") (alone Yes w.more) _ l
+    (keyword_or (IsTree w.first w.more l) w.first (codes "yes") (if_alone Yes w.more) _ l
     (λ is k. at_word (λ z. IsTree z w.more l) w.first (codes "yes") is
     (alone_only (IsTree (codes "yes")) Yes l w.more (refl, refl) k))
-    (keyword_or (IsTree w.first w.more l) w.first (codes "open") (alone Unsearched w.more) None l
+    (keyword_or (IsTree w.first w.more l) w.first (codes "open") (if_alone Unsearched w.more) None l
     (λ is k. at_word (λ z. IsTree z w.more l) w.first (codes "open") is (alone_only (IsTree (codes "open")) Unsearched l w.more (refl, refl) k))
     (λ k. cc))))))
     h

@@ -15,7 +15,7 @@ use Rattle.ts_certificate.specs.declared.certificate.Claim.TheVariants.{Full, Al
 use Rattle.ts_certificate.specs.Ranges.{count_text, is_value, is_asked, is_listed, is_ext}
 use Rattle.ts_token.specs.Number.{ext_of}
 use Rattle.ts_certificate.specs.Ranges.{value_of, asked_of, listed_of}
-use Rattle.ts_certificate.specs.WordCounts.{one_of, alone}
+use Rattle.ts_certificate.specs.WordCounts.{one_of, if_alone}
 
 abbrev pub aim_words : Aim → Words
 aim_words (BestOf Maximise) = record { first = codes "maximise"; more = [] }
@@ -33,8 +33,8 @@ list_from (Some w) = option_map ListOf (asked_of w)
 
 abbrev pub aim_of : Words → Option Aim
 aim_of w =
-    if bytes_eq w.first (codes "maximise") then alone (BestOf Maximise) w.more
-    else (if bytes_eq w.first (codes "minimise") then alone (BestOf Minimise) w.more
+    if bytes_eq w.first (codes "maximise") then if_alone (BestOf Maximise) w.more
+    else (if bytes_eq w.first (codes "minimise") then if_alone (BestOf Minimise) w.more
     else (if bytes_eq w.first (codes "generate") then list_from (one_of w.more)
     else None))
 
@@ -77,7 +77,7 @@ budget_from (Some w) = if bytes_eq w (codes "none") then Some BudgetNone else op
 abbrev pub best_claim_of : Words → Option Claim
 best_claim_of w =
     if bytes_eq w.first (codes "best") then best_from (one_of w.more)
-    else (if bytes_eq w.first (codes "infeasible") then alone Infeasible w.more
+    else (if bytes_eq w.first (codes "infeasible") then if_alone Infeasible w.more
     else (if bytes_eq w.first (codes "budget") then budget_from (one_of w.more)
     else None))
 

@@ -6,7 +6,7 @@ use Rattle.ts_base.specs.Words.{Words}
 use Rattle.ts_certificate.specs.declared.certificate.TreeLine.{TreeLine}
 use Rattle.ts_certificate.specs.declared.certificate.TreeLine.TheVariants.{Split, Remove, No, Worse, Yes, Unsearched}
 use Rattle.ts_certificate.specs.Ranges.{count_text, is_value, is_cell, is_requirement, value_of, cell_of, requirement_of}
-use Rattle.ts_certificate.specs.WordCounts.{one_of, two_of, three_of, alone}
+use Rattle.ts_certificate.specs.WordCounts.{one_of, two_of, three_of, if_alone}
 
 -- the words of a line
 abbrev pub tree_words : TreeLine → Words
@@ -80,6 +80,6 @@ tree_of w =
     else (if bytes_eq w.first (codes "no") then no_of w.more
     else (if bytes_eq w.first (codes "worse") then worse_of w.more
     else (if bytes_eq w.first (codes "drop") then remove_of w.more
-    else (if bytes_eq w.first (codes "yes") then alone Yes w.more
-    else (if bytes_eq w.first (codes "open") then alone Unsearched w.more
+    else (if bytes_eq w.first (codes "yes") then if_alone Yes w.more
+    else (if bytes_eq w.first (codes "open") then if_alone Unsearched w.more
     else None)))))

@@ -16,6 +16,6 @@ three_of [] = None
 three_of (a ∷ ws) = option_map (λ (p : List ℕ × List ℕ). (a, p.0, p.1)) (two_of ws)
 
 -- the value, where no word is left
-abbrev pub alone : {X : Type 0} → X → List (List ℕ) → Option X
-alone x [] = Some x
-alone x (w ∷ ws) = None
+abbrev pub if_alone : {X : Type 0} → X → List (List ℕ) → Option X
+if_alone x [] = Some x
+if_alone x (w ∷ ws) = None

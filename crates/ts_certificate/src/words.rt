@@ -2,7 +2,7 @@
 
 ghost use Rattle.std.specs.Prelude.{◌≡◌, None, Some, MatchOption};
 ghost use Rattle.ts_base.specs.Words.{more_seen};
-ghost use Rattle.ts_certificate.specs.WordCounts.{one_of, two_of, three_of, alone};
+ghost use Rattle.ts_certificate.specs.WordCounts.{one_of, two_of, three_of, if_alone};
 
 use ts_base::words_of;
 
@@ -40,7 +40,7 @@ pub(crate) fn three_words<'a>(rest: Option<&'a [u8]>) -> Option<(&'a [u8], &'a [
 
 /// The value, if no word is left.
 pub(crate) fn alone<X: Copy>(rest: Option<&[u8]>, x: X) -> Option<X>
-    ensures { result ≡ alone x (more_seen rest.entry) }
+    ensures { result ≡ if_alone x (more_seen rest.entry) }
 {
     match rest {
         None => Some(x),

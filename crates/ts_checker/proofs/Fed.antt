@@ -10,7 +10,7 @@ use Rattle.ts_certificate.specs.Reading.{Reading, reading_with, answer_at, answe
 use Rattle.ts_certificate.specs.Seen.{line_seen}
 use Rattle.ts_certificate.proofs.CallerLemmas.{line_of_only}
 use Rattle.ts_model.specs.Promise.{IsWhole}
-use Rattle.ts_model.specs.Stated.{Stated}
+use Rattle.ts_model.specs.ModelParts.{ModelParts}
 use Rattle.ts_domain.specs.BoxSeries.{IsBox}
 use Rattle.ts_filter.specs.Lines.{Stand}
 use Rattle.ts_checker.specs.Checking.{Checking, TakesOn, TakesBy, Takes}
@@ -52,7 +52,7 @@ takes_said old mid new text l number same answer count model reading calm taken 
     }
 
 -- so a checker whose reader has taken the line
-pub step_judged : (m : Stated) (r after : Reading) (t : Stand) (f : Option ℕ) (w : Bool) (old new : Checking) (text : List ℕ) (l : CertLine) (number : ℕ) →
+pub step_judged : (m : ModelParts) (r after : Reading) (t : Stand) (f : Option ℕ) (w : Bool) (old new : Checking) (text : List ℕ) (l : CertLine) (number : ℕ) →
     ◌≡◌ {A = Checking} (record { model = m; reading = r; stand = t; failed = f; wanting = w }) old → after ≡ reading_with r text → answer_to r text ≡ Ok l →
     number ≡ r.next → new.model ≡ m → new.reading ≡ after → new.wanting ≡ w → TakesOn m (spans_in m) t f number l new.stand new.failed → Takes old text new
 step_judged m r after t f w old new text l number is leads answer count model reading calm taken =
@@ -62,8 +62,8 @@ step_judged m r after t f w old new text l number is leads answer count model re
     (takes_said from mid new text l number (ap (λ q. record mid { reading = q }) leads) answer count model reading calm taken)
 
 -- what the checker keeps of its model, as contracts see it
-pub whole_seen : (m : Stated) (seen c : Checking) → seen.model ≡ m → seen ≡ c → IsWhole m → IsWhole c.model
+pub whole_seen : (m : ModelParts) (seen c : Checking) → seen.model ≡ m → seen ≡ c → IsWhole m → IsWhole c.model
 whole_seen m seen c is same h = subst IsWhole (sym is ∙ ap (λ (z : Checking). z.model) same) h
 
-pub box_seen : (m : Stated) (seen c : Checking) → seen.model ≡ m → seen ≡ c → IsBox m.cells → IsBox c.model.cells
-box_seen m seen c is same h = subst (λ (z : Stated). IsBox z.cells) (sym is ∙ ap (λ (z : Checking). z.model) same) h
+pub box_seen : (m : ModelParts) (seen c : Checking) → seen.model ≡ m → seen ≡ c → IsBox m.cells → IsBox c.model.cells
+box_seen m seen c is same h = subst (λ (z : ModelParts). IsBox z.cells) (sym is ∙ ap (λ (z : Checking). z.model) same) h

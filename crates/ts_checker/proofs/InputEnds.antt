@@ -6,7 +6,7 @@ use Rattle.ts_token.specs.Halves.{Halves, halves_of}
 use Rattle.ts_model.specs.declared.error.ModelKind.{ModelKind}
 use Rattle.ts_model.specs.declared.model.Need.TheVariants.{List as Listed}
 use Rattle.ts_model.specs.ModelReading.{model_reading}
-use Rattle.ts_model.specs.Stated.{Stated}
+use Rattle.ts_model.specs.ModelParts.{ModelParts}
 use Rattle.ts_filter.specs.Lines.{first_stand}
 use Rattle.ts_checker.specs.declared.judging.Judging.{Judging as AtWork}
 use Rattle.ts_checker.specs.declared.model_text.ModelText.{ModelText}
@@ -30,7 +30,7 @@ module _ (bytes text front rest : List ℕ) (whole : bytes ≡ front ++ rest) (e
   rest_is : rest_part bytes ≡ rest
   rest_is = ap (λ (h : Halves). unwrap_or h.rest []) cut
 
-  reads : (found : Result Stated (ℕ × ModelKind)) → model_reading Listed text ≡ found → model_reading Listed (model_part bytes) ≡ found
+  reads : (found : Result ModelParts (ℕ × ModelKind)) → model_reading Listed text ≡ found → model_reading Listed (model_part bytes) ≡ found
   reads found is = ap (model_reading Listed) model_is ∙ is
 
 pub ends_behind : (bytes : List ℕ) (o : Opened) (end : VerifyEnd) → IsBehind bytes o → EndsOpened o end → IsVerifyEnd bytes end
@@ -66,7 +66,7 @@ ends_in_model bytes t o end h is e = ends_at_once bytes o end (nothing_behind by
 
 -- the first failing line
 
-none_fails : (found : Result Stated (ℕ × ModelKind)) → FailsIn found [] None
+none_fails : (found : Result ModelParts (ℕ × ModelKind)) → FailsIn found [] None
 none_fails (Ok m) = record { lines = []; are = refl; follow = tt; stand = first_stand m; found = refl }
 none_fails (Err bad) = refl
 
@@ -77,12 +77,12 @@ none_failed bytes t h =
 
 refused_failed : (bytes : List ℕ) (n : ℕ) (kind : ModelKind) → IsBehind bytes (Refused n kind) → IsFailed bytes None
 refused_failed bytes n kind b =
-    subst (λ (x : Result Stated (ℕ × ModelKind)). FailsIn x (ended_lines (rest_part bytes)) None)
+    subst (λ (x : Result ModelParts (ℕ × ModelKind)). FailsIn x (ended_lines (rest_part bytes)) None)
     (sym (reads bytes b.text b.front b.rest b.parts b.ends (Err (n, kind)) b.reading)) refl
 
 line_failed : (bytes : List ℕ) (j : AtWork) (failed : Option ℕ) → OpenedFails (Judging j) failed → IsBehind bytes (Judging j) → IsFailed bytes failed
 line_failed bytes j failed fails c =
-    subst (λ (x : Result Stated (ℕ × ModelKind)). FailsIn x (ended_lines (rest_part bytes)) failed)
+    subst (λ (x : Result ModelParts (ℕ × ModelKind)). FailsIn x (ended_lines (rest_part bytes)) failed)
     (sym (reads bytes c.text c.front c.rest c.parts c.ends (Ok j.checker.model) c.reading))
     (subst (λ (x : List ℕ). FailsFirst j.checker.model (ended_lines x) failed) (sym (rest_is bytes c.text c.front c.rest c.parts c.ends))
     (fails c.rest c.read))

@@ -2,7 +2,7 @@
 use Rattle.std.proofs.Common.{◌≡◌, ℕ, Bool, true, false, Ok, List, [], ◌++◌, length, refl, sym, ap, ◌∙◌, subst, append_assoc, append-nil}
 use Rattle.std.proofs.lemmas.List.{nil_from_length}
 use Rattle.ts_model.specs.declared.error.ModelKind.{ModelKind}
-use Rattle.ts_model.specs.Stated.{Stated}
+use Rattle.ts_model.specs.ModelParts.{ModelParts}
 use Rattle.ts_checker.specs.declared.input.Input.{Input}
 use Rattle.ts_checker.specs.declared.input.Input.TheVariants.{InModel, Behind}
 use Rattle.ts_checker.specs.declared.model_text.ModelText.{ModelText}
@@ -32,7 +32,7 @@ behind_taken (Judging j) (Judging k) part t bytes h = record {
   rest = h.rest ++ part;
   parts = ap (λ (x : List ℕ). x ++ part) h.parts ∙ append_assoc h.front h.rest part;
   ends = h.ends;
-  reading = h.reading ∙ ap (λ (m : Stated). Ok m) (sym t.1);
+  reading = h.reading ∙ ap (λ (m : ModelParts). Ok m) (sym t.1);
   read = t.0 h.rest h.read;
 }
 

@@ -19,13 +19,13 @@ use Rattle.ts_certificate.specs.HeadLines.{aim_of, claim_of, series_of}
 use Rattle.ts_certificate.specs.LineOf.{as_line, end_of, end_or_stop, line_if, line_of, line_of_words, tree_or_end}
 use Rattle.ts_certificate.specs.Reading.{Reading, reading_by, reading_unless, reading_with, stop_at}
 use Rattle.ts_certificate.specs.TreeLines.{tree_of}
-use Rattle.ts_model.specs.Stated.{Stated}
-use Rattle.ts_filter.specs.Lines.{Found}
+use Rattle.ts_model.specs.ModelParts.{ModelParts}
+use Rattle.ts_filter.specs.Lines.{IsOutcome}
 use Rattle.ts_spans.specs.Machines.{spans_in}
 use Rattle.ts_checker.specs.declared.judging.Judging.{Judging}
 use Rattle.ts_checker.specs.declared.verdict.Verdict.{Verdict}
 use Rattle.ts_checker.specs.declared.verdict.Verdict.TheVariants.{Accepted}
-use Rattle.ts_checker.specs.Checking.{Checking, HasChecked, Takes, unfed}
+use Rattle.ts_checker.specs.Checking.{Checking, HasChecked, Takes, first_checking}
 use Rattle.ts_checker.specs.Feeding.{HasJudged, HasRead, IsFinished, IsPart, IsUnfinished, JudgesLine, Reads, last_line, refused_now}
 use Rattle.ts_checker.specs.Shortened.{Extends, IsKeptOf, IsSmall}
 use Rattle.ts_checker.specs.Verdicts.{IsTrueOf, IsVerdict, stop_line}
@@ -105,7 +105,7 @@ module _ (r : Reading) (text : List ℕ) where
 none_small : (kept : List ℕ) → kept ≡ [] → IsSmall kept
 none_small kept empty = let size = ap length empty in omega (arith, size)
 
-pub none_judged : (m : Stated) (j : Judging) → j.checker ≡ unfed m → j.refused ≡ None → j.line.bytes.items ≡ [] → length m.cells ≤ 512 →
+pub none_judged : (m : ModelParts) (j : Judging) → j.checker ≡ first_checking m → j.refused ≡ None → j.line.bytes.items ≡ [] → length m.cells ≤ 512 →
     HasChecked [] j.checker → HasRead [] j
 none_judged m j is none empty few h = record {
   seen = [];
@@ -135,7 +135,7 @@ more_judged texts old new text h t refused = record {
       refused ∙ ap (λ o. refused_now o old.checker.reading.next new.checker.reading.next) h.refused
       ∙ ap (λ (r : Reading). refused_now (option_map stop_line old.checker.reading.stop) old.checker.reading.next r.next) t.reading
       ∙ refused_told old.checker.reading text ∙ ap (λ (r : Reading). option_map stop_line r.stop) (sym t.reading);
-  few = subst (λ (m : Stated). length m.cells ≤ 512) (sym t.model) h.few;
+  few = subst (λ (m : ModelParts). length m.cells ≤ 512) (sym t.model) h.few;
 }
 
 pub line_judged : (old new : Judging) (kept text lent : List ℕ) → kept ≡ old.line.bytes.items → text ≡ kept ++ 10 ∷ [] → lent ≡ text →
@@ -281,7 +281,7 @@ fails_by texts c None failed h e none is =
       are = g.are.are;
       follow = g.are.follow;
       stand = c.stand;
-      found = subst (λ f. Found c.model (spans_in c.model) g.are.lines c.stand f) (sym is) g.found;
+      found = subst (λ f. IsOutcome c.model (spans_in c.model) g.are.lines c.stand f) (sym is) g.found;
     }
 
 -- the lines that have their LF
@@ -298,7 +298,7 @@ fails_first bytes j failed none is h =
     (subst (λ (r : Reading). FailsBy j.checker.model h.texts r.stop failed) h.judged.checked.reading
     (fails_by h.texts j.checker j.checker.reading.stop failed h.judged.checked refl (sym none ∙ h.judged.refused) is))
 
-refused_by : (m : Stated) (texts : List (List ℕ)) (o : Option CertStop) (n : ℕ) → Some n ≡ option_map stop_line o → FailsBy m texts o (Some n)
+refused_by : (m : ModelParts) (texts : List (List ℕ)) (o : Option CertStop) (n : ℕ) → Some n ≡ option_map stop_line o → FailsBy m texts o (Some n)
 refused_by m texts None n e = cc
 refused_by m texts (Some stop) n e = e
 
@@ -315,10 +315,10 @@ IsFinal c v =
     ((texts : List (List ℕ)) → HasChecked texts c → IsVerdict c.model texts v)
     × ((texts : List (List ℕ)) → HasChecked texts c → v ≡ Accepted → IsTrueOf c.model texts)
 
-shown : (c : Checking) (m : Stated) (v : Verdict) → c.model ≡ m → IsFinal c v → (texts : List (List ℕ)) → HasChecked texts c → IsShownBy texts m v
+shown : (c : Checking) (m : ModelParts) (v : Verdict) → c.model ≡ m → IsFinal c v → (texts : List (List ℕ)) → HasChecked texts c → IsShownBy texts m v
 shown c m v same final texts h = record {
-  is = subst (λ (z : Stated). IsVerdict z texts v) same (final.0 texts h);
-  holds = λ k. subst (λ (z : Stated). IsTrueOf z texts) same (final.1 texts h k);
+  is = subst (λ (z : ModelParts). IsVerdict z texts v) same (final.0 texts h);
+  holds = λ k. subst (λ (z : ModelParts). IsTrueOf z texts) same (final.1 texts h k);
 }
 
 all_lines : (bytes : List ℕ) (j : Judging) (h : HasRead bytes j) → strict_lines bytes ≡ h.texts ++ last_line h.line

@@ -14,7 +14,7 @@ use Rattle.ts_certificate.specs.Grammar.{CertLine, SaysSeries, next_state, state
 use Rattle.ts_certificate.specs.LineOf.{line_if, line_of, line_of_words}
 use Rattle.ts_certificate.specs.Reading.{answer_at, answer_unless, reading_by, reading_unless, tree_lines}
 use Rattle.ts_certificate.proofs.CallerLemmas.{moved_few, stop_kept}
-use Rattle.ts_model.specs.Stated.{Stated}
+use Rattle.ts_model.specs.ModelParts.{ModelParts}
 use Rattle.ts_filter.specs.Accepts.{SeriesFits}
 use Rattle.ts_filter.specs.Lines.{KeepsLine, Stand}
 use Rattle.ts_filter.specs.RefutedWorseDrop.{Spans}
@@ -83,19 +83,19 @@ some_kept_of kept line some (inr h) = h.some
 
 -- a series of more numbers than the model has cells breaks its rule
 
-too_many : (m : Stated) (s : Spans) (t : Stand) (vs : List ℤ) → length m.cells ≤ 512 → 512 < length vs → KeepsLine m s t (SaysSeries vs) → ⊥
+too_many : (m : ModelParts) (s : Spans) (t : Stand) (vs : List ℤ) → length m.cells ≤ 512 → 512 < length vs → KeepsLine m s t (SaysSeries vs) → ⊥
 too_many m s t vs few many = go t.claim
   where
     go : (o : Option Claim) → MatchOption o ⊥ (λ c. SeriesFits m c t.series vs) → ⊥
     go None k = k
     go (Some c) k = let e = k.meets.cells in omega (arith, e, few, many)
 
-first_for : (m : Stated) (s : Spans) (old new : Stand) (n : ℕ) (failed : Option ℕ) (vs ws : List ℤ) → length m.cells ≤ 512 → 512 < length vs →
+first_for : (m : ModelParts) (s : Spans) (old new : Stand) (n : ℕ) (failed : Option ℕ) (vs ws : List ℤ) → length m.cells ≤ 512 → 512 < length vs →
     512 < length ws → TakesFirst m s old n (SaysSeries vs) new failed → TakesFirst m s old n (SaysSeries ws) new failed
 first_for m s old new n failed vs ws few many more (inl k) = absurd (too_many m s old vs few many k.0)
 first_for m s old new n failed vs ws few many more (inr k) = inr (too_many m s old ws few more, k.1, k.2)
 
-on_for : (m : Stated) (s : Spans) (old new : Stand) (before failed : Option ℕ) (n : ℕ) (vs ws : List ℤ) → length m.cells ≤ 512 → 512 < length vs →
+on_for : (m : ModelParts) (s : Spans) (old new : Stand) (before failed : Option ℕ) (n : ℕ) (vs ws : List ℤ) → length m.cells ≤ 512 → 512 < length vs →
     512 < length ws → TakesOn m s old before n (SaysSeries vs) new failed → TakesOn m s old before n (SaysSeries ws) new failed
 on_for m s old new None failed n vs ws few many more t = first_for m s old new n failed vs ws few many more t
 on_for m s old new (Some k) failed n vs ws few many more t = t

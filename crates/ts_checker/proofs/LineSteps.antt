@@ -12,7 +12,7 @@ use Rattle.ts_certificate.specs.declared.certificate.Parsed.TheVariants.{Tree}
 use Rattle.ts_certificate.specs.declared.certificate.TreeLine.{TreeLine}
 use Rattle.ts_certificate.specs.declared.certificate.TreeLine.TheVariants.{Yes}
 use Rattle.ts_certificate.specs.Seen.{line_seen}
-use Rattle.ts_model.specs.Stated.{Stated}
+use Rattle.ts_model.specs.ModelParts.{ModelParts}
 use Rattle.ts_filter.specs.Boxes.{Box}
 use Rattle.ts_filter.specs.Lines.{Stand, KeepsLine, KeepsTreeRule}
 use Rattle.ts_filter.specs.RefutedWorseDrop.{Spans}
@@ -24,7 +24,7 @@ use Rattle.ts_checker.specs.Standings.{MayStep, MayTake}
 use Rattle.ts_checker.specs.Subjects.{series_of}
 
 -- the rule of a tree line, where the aim, the claim and the first box are told
-pub rule_told : (m : Stated) (s : Spans) (aim : Option Aim) (claim : Option Claim) (xs : List (List ℤ)) (boxes : List Box) (told : ℕ) (l : TreeLine)
+pub rule_told : (m : ModelParts) (s : Spans) (aim : Option Aim) (claim : Option Claim) (xs : List (List ℤ)) (boxes : List Box) (told : ℕ) (l : TreeLine)
     (a : Aim) (c : Claim) (b : Box) (t : Bool) → aim ≡ Some a → claim ≡ Some c → boxes ≡ b ∷ rest boxes →
     (IsTrue t ↔ KeepsRule m s (record { aim = a; claim = c; series = xs }) told b l) → IsTrue t ↔ KeepsTreeRule m s aim claim xs boxes told l
 rule_told m s aim claim xs boxes told l a c b t is_aim is_claim front told_by_rule =
@@ -32,7 +32,7 @@ rule_told m s aim claim xs boxes told l a c b t is_aim is_claim front told_by_ru
     (subst (λ o. IsTrue t ↔ KeepsTreeRule m s (Some a) o xs boxes told l) (sym is_claim)
     (subst (λ w. IsTrue t ↔ KeepsTreeRule m s (Some a) (Some c) xs w told l) (sym front) told_by_rule))
 
-pub tree_answered : (m : Stated) (s : Spans) (aim : Option Aim) (claim : Option Claim) (items listed : List (Vec ℤ)) (boxes : List Box) (told : ℕ)
+pub tree_answered : (m : ModelParts) (s : Spans) (aim : Option Aim) (claim : Option Claim) (items listed : List (Vec ℤ)) (boxes : List Box) (told : ℕ)
     (l : TreeLine) (a : Aim) (c : Claim) (b : Box) (now : List Box) (t : Result Bool Memory) → aim ≡ Some a → claim ≡ Some c → listed ≡ items →
     now ≡ boxes → now ≡ b ∷ rest now →
     IfOk t (λ keeps. IsTrue keeps ↔ KeepsRule m s (record { aim = a; claim = c; series = series_of listed }) told b l) →
@@ -58,12 +58,12 @@ may_step t line b ready front may told =
     }
 
 -- a `yes` that keeps its rule has a series to tell
-pub yes_below : (m : Stated) (s : Spans) (h : Head) (told : ℕ) (b : Box) (l : TreeLine) → KeepsRule m s h told b l → l ≡ Yes → told < length h.series
+pub yes_below : (m : ModelParts) (s : Spans) (h : Head) (told : ℕ) (b : Box) (l : TreeLine) → KeepsRule m s h told b l → l ≡ Yes → told < length h.series
 yes_below m s h told b l k is =
     let n = subst (λ z. KeepsRule m s h told b z) is k in slice_get_within h.series told n.series n.listed
 
 -- so where its rule is kept, it may be followed
-pub tree_may : (m : Stated) (s : Spans) (a : Aim) (c : Claim) (listed : List (Vec ℤ)) (b : Box) (t : Standing) (l : TreeLine) (r : Result Bool Memory) →
+pub tree_may : (m : ModelParts) (s : Spans) (a : Aim) (c : Claim) (listed : List (Vec ℤ)) (b : Box) (t : Standing) (l : TreeLine) (r : Result Bool Memory) →
     IsTrue t.frontier.ready → t.frontier.boxes ≡ b ∷ rest t.frontier.boxes → listed ≡ t.series.items →
     IfOk r (λ keeps. IsTrue keeps ↔ KeepsRule m s (record { aim = a; claim = c; series = series_of listed }) t.told b l) →
     IfOk r (λ keeps. IsTrue keeps → MayFollow l b) → IfOk r (λ keeps. IsTrue keeps → MayStep t l)
@@ -74,7 +74,7 @@ tree_may m s a c listed b t l (Ok k) ready front lent keeps may = λ kept.
     subst (λ n. t.told < n) (length-map listed (λ x. x.items) ∙ ap length lent) below)
 
 -- a line that was read as a tree line
-pub as_tree : (m : Stated) (s : Spans) (t : Stand) (p : Parsed) (l : TreeLine) (r : Result Bool Memory) → p ≡ Tree l →
+pub as_tree : (m : ModelParts) (s : Spans) (t : Stand) (p : Parsed) (l : TreeLine) (r : Result Bool Memory) → p ≡ Tree l →
     IfOk r (λ keeps. IsTrue keeps ↔ KeepsTreeRule m s t.aim t.claim t.series t.waiting t.told l) →
     IfOk r (λ keeps. IsTrue keeps ↔ KeepsLine m s t (line_seen p))
 as_tree m s t p l r is h = subst (λ q. IfOk r (λ keeps. IsTrue keeps ↔ KeepsLine m s t (line_seen q))) (sym is) h

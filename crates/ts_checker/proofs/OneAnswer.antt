@@ -14,9 +14,9 @@ use Rattle.ts_certificate.proofs.CallerLemmas.{lines_again}
 use Rattle.ts_model.specs.declared.error.ModelKind.{ModelKind}
 use Rattle.ts_model.specs.declared.model.Need.TheVariants.{List as Listed}
 use Rattle.ts_model.specs.ModelReading.{model_reading}
-use Rattle.ts_model.specs.Stated.{Stated}
+use Rattle.ts_model.specs.ModelParts.{ModelParts}
 use Rattle.ts_filter.proofs.LineLaws.{fails_once}
-use Rattle.ts_filter.specs.Lines.{FailsAt, Found, Leads, Stand, first_stand, stand_after}
+use Rattle.ts_filter.specs.Lines.{FailsAt, IsOutcome, Leads, Stand, first_stand, stand_after}
 use Rattle.ts_filter.specs.RefutedWorseDrop.{Spans}
 use Rattle.ts_spans.specs.Machines.{spans_in}
 use Rattle.ts_checker.specs.declared.verdict.Verdict.TheVariants.{Accepted}
@@ -56,23 +56,23 @@ kept_few (l ∷ ls) =
 
 -- one end
 
-abbrev end_by : Result Stated (ℕ × ModelKind) → VerifyEnd
+abbrev end_by : Result ModelParts (ℕ × ModelKind) → VerifyEnd
 end_by (Ok m) = Judged Accepted
 end_by (Err bad) = Model bad.0 bad.1
 
 pub one_end : OneEnd
 one_end bytes (Model line kind) (Model number what) short h k = ap end_by (sym h ∙ k)
 one_end bytes (Model line kind) (Judged w) short h k =
-    let wrong : ◌≡◌ {A = Result Stated (ℕ × ModelKind)} (Err (line, kind)) (Ok k.model) = sym h ∙ k.states in cc
+    let wrong : ◌≡◌ {A = Result ModelParts (ℕ × ModelKind)} (Err (line, kind)) (Ok k.model) = sym h ∙ k.states in cc
 one_end bytes (Judged v) (Model line kind) short h k =
-    let wrong : ◌≡◌ {A = Result Stated (ℕ × ModelKind)} (Err (line, kind)) (Ok h.model) = sym k ∙ h.states in cc
+    let wrong : ◌≡◌ {A = Result ModelParts (ℕ × ModelKind)} (Err (line, kind)) (Ok h.model) = sym k ∙ h.states in cc
 one_end bytes (Judged v) (Judged w) short h k =
-    let same : ◌≡◌ {A = Result Stated (ℕ × ModelKind)} (Ok k.model) (Ok h.model) = sym k.states ∙ h.states in
+    let same : ◌≡◌ {A = Result ModelParts (ℕ × ModelKind)} (Ok k.model) (Ok h.model) = sym k.states ∙ h.states in
     let model : k.model ≡ h.model = cc in
     let few = lines_short bytes in
     ap Judged
     (one_verdict h.model (certificate_lines bytes) v w (omega (arith, few, short)) h.shown.is
-    (subst (λ (m : Stated). IsVerdict m (certificate_lines bytes) w) model k.shown.is))
+    (subst (λ (m : ModelParts). IsVerdict m (certificate_lines bytes) w) model k.shown.is))
 
 -- the texts are those of one list of lines
 
@@ -87,14 +87,14 @@ same_lines (l ∷ ls) (k ∷ ks) e =
     let each = same_first l k (map Ok ls) (map Ok ks) e in
     ap (λ (z : CertLine). z ∷ ls) each.0 ∙ ap (λ (z : List CertLine). k ∷ z) (same_lines ls ks each.1)
 
-module _ (m : Stated) (s : Spans) where
+module _ (m : ModelParts) (s : Spans) where
   fails_or_leads : (t u : Stand) (ls : List CertLine) (n : ℕ) → FailsAt m s t ls n → Leads m s t ls u → ⊥
   fails_or_leads t u [] n p r = p
   fails_or_leads t u (l ∷ ls) zero p r = p
   fails_or_leads t u (l ∷ ls) (suc zero) p r = p r.0
   fails_or_leads t u (l ∷ ls) (suc (suc n)) p r = fails_or_leads (stand_after t l) u ls (suc n) p.1 r.1
 
-  found_once : (ls : List CertLine) (t u : Stand) (a b : Option ℕ) → Found m s ls t a → Found m s ls u b → a ≡ b
+  found_once : (ls : List CertLine) (t u : Stand) (a b : Option ℕ) → IsOutcome m s ls t a → IsOutcome m s ls u b → a ≡ b
   found_once ls t u None None p q = refl
   found_once ls t u None (Some n) p q = absurd (fails_or_leads (first_stand m) t ls n q p)
   found_once ls t u (Some n) None p q = absurd (fails_or_leads (first_stand m) u ls n p q)
@@ -105,20 +105,20 @@ module _ (m : Stated) (s : Spans) where
 lines_of_texts : (texts : List (List ℕ)) (ls : List CertLine) → texts ≡ map line_text ls → length texts < 2 ^ 62 → 0 + length ls < 2 ^ 63
 lines_of_texts texts ls are short = let n = ap length are ∙ length-map ls line_text in omega (arith, n, short)
 
-broken_once : (m : Stated) (texts : List (List ℕ)) (a b : Option ℕ) → length texts < 2 ^ 62 → BreaksFirst m texts a → BreaksFirst m texts b → a ≡ b
+broken_once : (m : ModelParts) (texts : List (List ℕ)) (a b : Option ℕ) → length texts < 2 ^ 62 → BreaksFirst m texts a → BreaksFirst m texts b → a ≡ b
 broken_once m texts a b short h k =
     let one = lines_again Start 1 h.lines (lines_of_texts texts h.lines h.are short) h.follow in
     let other = lines_again Start 1 k.lines (lines_of_texts texts k.lines k.are short) k.follow in
     let same = same_lines k.lines h.lines (sym other.1 ∙ ap (answers_to fresh) (sym k.are ∙ h.are) ∙ one.1) in
     found_once m (spans_in m) h.lines h.stand k.stand a b h.found
-    (subst (λ (ls : List CertLine). Found m (spans_in m) ls k.stand b) same k.found)
+    (subst (λ (ls : List CertLine). IsOutcome m (spans_in m) ls k.stand b) same k.found)
 
-failed_by : (m : Stated) (texts : List (List ℕ)) (o : Option CertStop) (a b : Option ℕ) → length texts < 2 ^ 62 → FailsBy m texts o a →
+failed_by : (m : ModelParts) (texts : List (List ℕ)) (o : Option CertStop) (a b : Option ℕ) → length texts < 2 ^ 62 → FailsBy m texts o a →
     FailsBy m texts o b → a ≡ b
 failed_by m texts None a b short h k = broken_once m texts a b short h k
 failed_by m texts (Some stop) a b short h k = h ∙ sym k
 
-failed_in : (found : Result Stated (ℕ × ModelKind)) (texts : List (List ℕ)) (a b : Option ℕ) → length texts < 2 ^ 62 → FailsIn found texts a →
+failed_in : (found : Result ModelParts (ℕ × ModelKind)) (texts : List (List ℕ)) (a b : Option ℕ) → length texts < 2 ^ 62 → FailsIn found texts a →
     FailsIn found texts b → a ≡ b
 failed_in (Ok m) texts a b short h k = failed_by m texts (reading_after fresh texts).stop a b short h k
 failed_in (Err bad) texts a b short h k = h ∙ sym k

@@ -11,14 +11,14 @@ use Rattle.ts_certificate.specs.declared.certificate.TreeLine.{TreeLine}
 use Rattle.ts_domain.specs.BoxSeries.{IsBox}
 use Rattle.ts_bound.specs.TermSpans.{Automata, term_span, IsUsable as IsUsableOf}
 use Rattle.ts_model.specs.declared.model.Require.{Require}
-use Rattle.ts_model.specs.Stated.{Stated}
+use Rattle.ts_model.specs.ModelParts.{ModelParts}
 use Rattle.ts_filter.specs.declared.bar.Bar.TheVariants.{Better}
 use Rattle.ts_filter.specs.Boxes.{Box, HasCell, values_at, only}
 use Rattle.ts_filter.specs.Excluded.{Refutes, Cuts}
 use Rattle.ts_filter.specs.MachineSpans.{spans_of}
 use Rattle.ts_filter.specs.OfTerm.{OfTerm}
 use Rattle.ts_filter.specs.RefutedWorseDrop.{Spans, IsRequirement, IsCut, IsDrop, IsRefuted}
-use Rattle.ts_filter.specs.Rules.{Head, KeepsRule, claimed, IsWorseFor, MayBeWorse}
+use Rattle.ts_filter.specs.Rules.{Head, KeepsRule, claimed_value, IsWorseFor, MayBeWorse}
 use Rattle.ts_filter.specs.Tree.{Removes}
 use Rattle.ts_filter.proofs.BoxParts.{others_stay}
 use Rattle.ts_filter.proofs.CallLaws.{calls_tell}
@@ -33,7 +33,7 @@ some_at : (P : ℕ → Type 0) (o : Option ℕ) (t : ℕ) → IfSome o P → o �
 some_at P None t h e = absurd (let f : ◌≡◌ {A = Option ℕ} None (Some t) = e in cc)
 some_at P (Some u) t h e = subst P (same_Some u t e) h
 
-module _ (m : Stated) (tables : List Automata) (is : AreTables m tables) where
+module _ (m : ModelParts) (tables : List Automata) (is : AreTables m tables) where
   tables_count : length tables ≡ length m.terms
   tables_count = ap length is.machines ∙ length-map m.terms (λ t. automata_for t.1.pattern t.1.aggregator t.1.feature)
 
@@ -55,7 +55,7 @@ module _ (m : Stated) (tables : List Automata) (is : AreTables m tables) where
 
 -- a drop
 
-module _ (m : Stated) (machines : List Automata) (j : ℕ) (r : Require) (is : IsRequirement m.requirements j r) (a : Automata)
+module _ (m : ModelParts) (machines : List Automata) (j : ℕ) (r : Require) (is : IsRequirement m.requirements j r) (a : Automata)
     (has : slice_get machines r.term ≡ Some a) (k : ℕ) (v : ℤ) (b : Box) where
   pub drop_told : (t : Bool) → (2 ≤ length (values_at k b)) × Contains (values_at k b) v → IsUsableOf a k b →
       (IsTrue t ↔ Refutes r.op r.bound (term_span a k (only k v b))) → IsTrue t ↔ IsDrop m.requirements (spans_of machines) k v j b
@@ -69,7 +69,7 @@ drop_follows k v b i cell others = record { cell = cell; there = others.1; leave
 
 -- worse
 
-module _ (m : Stated) (machines : List Automata) (goal : Goal) (bar : Ext) (term : ℕ) (is : m.objective ≡ Some term) (a : Automata)
+module _ (m : ModelParts) (machines : List Automata) (goal : Goal) (bar : Ext) (term : ℕ) (is : m.objective ≡ Some term) (a : Automata)
     (has : slice_get machines term ≡ Some a) (p : ℕ) (b : Box) where
   pub worse_told : (t : Bool) → IsUsableOf a p b → (IsTrue t ↔ Cuts goal (Better bar) (term_span a p b)) →
       IsTrue t ↔ IsCut m (spans_of machines) goal p b (Better bar)
@@ -78,8 +78,8 @@ module _ (m : Stated) (machines : List Automata) (goal : Goal) (bar : Ext) (term
       (λ k. same.0 (told.0 k), λ c. told.1 (same.1 c))
 
 -- the head tells whether there is a bar and a goal
-pub worse_when : (m : Stated) (s : Spans) (h : Head) (goal : Goal) (bar : Ext) (p : ℕ) (b : Box) (t : Bool) → h.aim ≡ BestOf goal →
-    claimed h.claim ≡ Some bar → (IsTrue t ↔ IsCut m s goal p b (Better bar)) → IsTrue t ↔ MayBeWorse m s h p b
+pub worse_when : (m : ModelParts) (s : Spans) (h : Head) (goal : Goal) (bar : Ext) (p : ℕ) (b : Box) (t : Bool) → h.aim ≡ BestOf goal →
+    claimed_value h.claim ≡ Some bar → (IsTrue t ↔ IsCut m s goal p b (Better bar)) → IsTrue t ↔ MayBeWorse m s h p b
 worse_when m s h goal bar p b t aim claim told =
     subst (λ o. IsTrue t ↔ MatchOption o ⊥ (λ v. IsWorseFor m s h.aim v p b)) (sym claim)
     (subst (λ a. IsTrue t ↔ IsWorseFor m s a bar p b) (sym aim) told)
@@ -92,7 +92,7 @@ others_seen d k b v v' is same h =
     (subst (λ z. 2 ≤ length z) is h.0, subst (λ z. Contains z v) is (subst (λ z. Contains d z) same h.1))
 
 -- what is known of a term's machine, of the tables that are asked and so of the model's
-module _ (m : Stated) (tables : List Automata) (is : AreTables m tables) (b : Box) where
+module _ (m : ModelParts) (tables : List Automata) (is : AreTables m tables) (b : Box) where
   -- the machine of a term that stands
   at_term : (t : ℕ) → t < length tables → (a : Automata) × (slice_get tables t ≡ Some a) × (slice_get (automata_in m) t ≡ Some a)
   at_term t below =
@@ -131,7 +131,7 @@ module _ (m : Stated) (tables : List Automata) (is : AreTables m tables) (b : Bo
       (λ e. same.0 (told.0 e), λ d. told.1 (same.1 d))
 
   pub worse_answered : (h : Head) (goal : Goal) (bar : Ext) (term p : ℕ) (o : Option Ext) (u : Bool) (t : Result Bool Memory) → h.aim ≡ BestOf goal →
-      o ≡ claimed h.claim → o ≡ Some bar → m.objective ≡ Some term → IsTrue u → OfTerm tables term (λ a. IsTrue u ↔ IsUsableOf a p b) →
+      o ≡ claimed_value h.claim → o ≡ Some bar → m.objective ≡ Some term → IsTrue u → OfTerm tables term (λ a. IsTrue u ↔ IsUsableOf a p b) →
       IfOk t (λ told. OfTerm tables term (λ a. IsTrue told ↔ Cuts goal (Better bar) (term_span a p b))) →
       IfOk t (λ keeps. IsTrue keeps ↔ MayBeWorse m (spans_in m) h p b)
   worse_answered h goal bar term p o u (Err e) aim claim some objective able usable told = tt
@@ -146,6 +146,6 @@ drop_may k v v' b d (Err e) same i cell here others = tt
 drop_may k v v' b d (Ok t) same i cell here others = λ _. drop_follows k v b i cell (others_seen d k b v v' here same others)
 
 -- the line is told
-pub line_answered : (m : Stated) (s : Spans) (h : Head) (told : ℕ) (b : Box) (l k : TreeLine) (t : Result Bool Memory) → l ≡ k →
+pub line_answered : (m : ModelParts) (s : Spans) (h : Head) (told : ℕ) (b : Box) (l k : TreeLine) (t : Result Bool Memory) → l ≡ k →
     IfOk t (λ keeps. IsTrue keeps ↔ KeepsRule m s h told b k) → IfOk t (λ keeps. IsTrue keeps ↔ KeepsRule m s h told b l)
 line_answered m s h told b l k t is f = subst (λ z. IfOk t (λ keeps. IsTrue keeps ↔ KeepsRule m s h told b z)) (sym is) f

@@ -15,10 +15,10 @@ use Rattle.ts_certificate.specs.LineOf.{line_of}
 use Rattle.ts_certificate.specs.Reading.{Reading, fresh, reading_by, reading_unless, reading_with, reading_after, answer_at, answer_unless, answer_to, end_stop_at, end_stop_unless, end_stop}
 use Rattle.ts_certificate.proofs.CallerLemmas.{line_of_only, at_line, lines_again, certificate_runs, runs_certificate, runs_from, runs_give, one_value, lines_count, stop_kept}
 use Rattle.ts_model.specs.Promise.{IsWhole}
-use Rattle.ts_model.specs.Stated.{Stated}
+use Rattle.ts_model.specs.ModelParts.{ModelParts}
 use Rattle.ts_domain.specs.BoxSeries.{IsBox}
 use Rattle.ts_filter.specs.Accepts.{Accepts}
-use Rattle.ts_filter.specs.Lines.{Stand, Found, IsFirstFailing}
+use Rattle.ts_filter.specs.Lines.{Stand, IsOutcome, IsFirstFailing}
 use Rattle.ts_filter.specs.RefutedWorseDrop.{Spans}
 use Rattle.ts_filter.proofs.LineLaws.{lines_go_on, whole_is_judged, failing_is_rejected, one_first_failing}
 use Rattle.ts_checker.specs.declared.verdict.Verdict.{Verdict}
@@ -56,23 +56,23 @@ lines_one_more texts text l r q a is may same = record {
 
 -- one line more
 
-module _ (m : Stated) (s : Spans) (ls : List CertLine) (l : CertLine) where
-  found_first : (old new : Stand) (n : ℕ) (after : Option ℕ) → n ≡ length ls + 1 → Found m s ls old None → TakesFirst m s old n l new after →
-      Found m s (ls ++ l ∷ []) new after
+module _ (m : ModelParts) (s : Spans) (ls : List CertLine) (l : CertLine) where
+  found_first : (old new : Stand) (n : ℕ) (after : Option ℕ) → n ≡ length ls + 1 → IsOutcome m s ls old None → TakesFirst m s old n l new after →
+      IsOutcome m s (ls ++ l ∷ []) new after
   found_first old new n after count found (inl k) =
-      subst (λ f. Found m s (ls ++ l ∷ []) new f) (sym k.2)
-      (subst (λ t. Found m s (ls ++ l ∷ []) t None) (sym k.1) ((lines_go_on m s ls l).keeps old found k.0))
+      subst (λ f. IsOutcome m s (ls ++ l ∷ []) new f) (sym k.2)
+      (subst (λ t. IsOutcome m s (ls ++ l ∷ []) t None) (sym k.1) ((lines_go_on m s ls l).keeps old found k.0))
   found_first old new n after count found (inr k) =
-      subst (λ f. Found m s (ls ++ l ∷ []) new f) (sym (k.2 ∙ ap (λ i. Some i) count)) ((lines_go_on m s ls l).breaks old new found k.0)
+      subst (λ f. IsOutcome m s (ls ++ l ∷ []) new f) (sym (k.2 ∙ ap (λ i. Some i) count)) ((lines_go_on m s ls l).breaks old new found k.0)
 
-  found_on : (old new : Stand) (before after : Option ℕ) (n : ℕ) → n ≡ length ls + 1 → Found m s ls old before → TakesOn m s old before n l new after →
-      Found m s (ls ++ l ∷ []) new after
+  found_on : (old new : Stand) (before after : Option ℕ) (n : ℕ) → n ≡ length ls + 1 → IsOutcome m s ls old before → TakesOn m s old before n l new after →
+      IsOutcome m s (ls ++ l ∷ []) new after
   found_on old new None after n count found t = found_first old new n after count found t
   found_on old new (Some k) after n count found t =
-      subst (λ f. Found m s (ls ++ l ∷ []) new f) (sym t.1) ((lines_go_on m s ls l).broken old new k found)
+      subst (λ f. IsOutcome m s (ls ++ l ∷ []) new f) (sym t.1) ((lines_go_on m s ls l).broken old new k found)
 
 -- nothing waits once a line has broken its rule
-empty_on : (m : Stated) (s : Spans) (old new : Stand) (before after : Option ℕ) (n : ℕ) (l : CertLine) → (before ≢ None → old.waiting ≡ []) →
+empty_on : (m : ModelParts) (s : Spans) (old new : Stand) (before after : Option ℕ) (n : ℕ) (l : CertLine) → (before ≢ None → old.waiting ≡ []) →
     TakesOn m s old before n l new after → after ≢ None → new.waiting ≡ []
 empty_on m s old new None after n l empty (inl k) some = absurd (some k.2)
 empty_on m s old new None after n l empty (inr k) some = k.1
@@ -121,7 +121,7 @@ module _ (texts : List (List ℕ)) (text : List ℕ) (old new : Checking) (h : H
       record {
         going = λ e. record {
           are = lines_one_more texts text l old.reading new.reading g.are read.0 read.1 reading;
-          found = subst (λ m. Found m (spans_in m) (g.are.lines ++ l ∷ []) new.stand new.failed) (sym t.model) found;
+          found = subst (λ m. IsOutcome m (spans_in m) (g.are.lines ++ l ∷ []) new.stand new.failed) (sym t.model) found;
         };
         stopped = λ some. absurd (some (ap (λ (r : Reading). r.stop) reading));
         emptied = λ o. over o (ap (λ (r : Reading). r.stop) reading) taken;
@@ -231,8 +231,8 @@ whole : (texts : List (List ℕ)) (c : Checking) (f : Option ℕ) → HasChecked
 whole texts c f h is end =
     let g = h.going end.stop in
     let cert = runs_certificate g.are.lines (runs_from Start g.are.lines AfterEnd g.are.follow (sym g.are.state ∙ end.state)) in
-    let found = subst (λ k. Found c.model (spans_in c.model) (cert_lines cert.0) c.stand k) is
-    (subst (λ ls. Found c.model (spans_in c.model) ls c.stand c.failed) cert.2 g.found) in
+    let found = subst (λ k. IsOutcome c.model (spans_in c.model) (cert_lines cert.0) c.stand k) is
+    (subst (λ ls. IsOutcome c.model (spans_in c.model) ls c.stand c.failed) cert.2 g.found) in
     record {
       cert = cert.0;
       lines = record { certificate = cert.1; are = g.are.are ∙ ap (map line_text) cert.2 };
@@ -254,7 +254,7 @@ verdict_given texts c v is h =
     subst (λ z. IsVerdict c.model texts z) (sym is) (verdict_is texts c (end_stop c.reading) c.failed h refl refl)
 
 -- and what is accepted is true
-pub accepted_true : (m : Stated) (texts : List (List ℕ)) (v : Verdict) → IsWhole m → IsBox m.cells → v ≡ Accepted → IsVerdict m texts v → IsTrueOf m texts
+pub accepted_true : (m : ModelParts) (texts : List (List ℕ)) (v : Verdict) → IsWhole m → IsBox m.cells → v ≡ Accepted → IsVerdict m texts v → IsTrueOf m texts
 accepted_true m texts v whole box is h =
     let a = subst (λ z. IsVerdict m texts z) is h in (a.0, a.1, accepted_is_true m a.0 whole box a.2)
 
@@ -284,17 +284,17 @@ module _ (texts : List (List ℕ)) (short : length texts < 2 ^ 62) where
   not_refused : (c : Cert) (n : ℕ) → AreOf texts c → IsRefused texts n → ⊥
   not_refused c n a r = let e : ◌≡◌ {A = Option CertStop} None (Some r.stop) = sym (ended_of c a) ∙ r.is in cc
 
-  not_both : (m : Stated) (c d : Cert) (n : ℕ) → AreOf texts c → AreOf texts d → Accepts m (spans_in m) c → IsFirstFailing m (spans_in m) d n → ⊥
+  not_both : (m : ModelParts) (c d : Cert) (n : ℕ) → AreOf texts c → AreOf texts d → Accepts m (spans_in m) c → IsFirstFailing m (spans_in m) d n → ⊥
   not_both m c d n a b acc f = failing_is_rejected m (spans_in m) c n (subst (λ z. IsFirstFailing m (spans_in m) z n) (one_of d c b a) f) acc
 
-  same_line : (m : Stated) (c d : Cert) (k n : ℕ) → AreOf texts c → AreOf texts d → IsFirstFailing m (spans_in m) c k →
+  same_line : (m : ModelParts) (c d : Cert) (k n : ℕ) → AreOf texts c → AreOf texts d → IsFirstFailing m (spans_in m) c k →
       IsFirstFailing m (spans_in m) d n → k ≡ n
   same_line m c d k n a b f g = one_first_failing m (spans_in m) c k n f (subst (λ z. IsFirstFailing m (spans_in m) z n) (one_of d c b a) g)
 
   same_stop : (k n : ℕ) → IsRefused texts k → IsRefused texts n → k ≡ n
   same_stop k n r q = sym r.at ∙ ap stop_line (same_Some r.stop q.stop (sym r.is ∙ q.is)) ∙ q.at
 
-  pub only_verdict : (m : Stated) (v w : Verdict) → IsVerdict m texts v → IsVerdict m texts w → v ≡ w
+  pub only_verdict : (m : ModelParts) (v w : Verdict) → IsVerdict m texts v → IsVerdict m texts w → v ≡ w
   only_verdict m Accepted Accepted h k = refl
   only_verdict m Accepted (Rejected n) h k = absurd (not_both m h.0 k.0 n h.1 k.1 h.2 k.2)
   only_verdict m Accepted (Refused n) h k = absurd (not_refused h.0 n h.1 k)

@@ -7,9 +7,9 @@ use Rattle.ts_certificate.specs.declared.certificate.TreeLine.TheVariants.{Split
 use Rattle.ts_certificate.specs.declared.stop.CertStop.{CertStop}
 use Rattle.ts_certificate.specs.Grammar.{CertLine, SaysAim, SaysClaim, SaysSeries, SaysTree, SaysEnd}
 use Rattle.ts_domain.specs.BoxSeries.{IsBox}
-use Rattle.ts_model.specs.Stated.{Stated, total_of}
+use Rattle.ts_model.specs.ModelParts.{ModelParts, total_of}
 use Rattle.ts_filter.specs.Boxes.{Box}
-use Rattle.ts_filter.specs.Lines.{Stand, first_stand, KeepsTreeRule, stand_after, waiting_after, Leads, Found}
+use Rattle.ts_filter.specs.Lines.{Stand, first_stand, KeepsTreeRule, stand_after, waiting_after, Leads, IsOutcome}
 use Rattle.ts_filter.specs.RefutedWorseDrop.{Spans}
 use Rattle.ts_filter.specs.Steps.{made_by}
 use Rattle.ts_filter.proofs.BoxParts.{box_total}
@@ -28,7 +28,7 @@ made_count (Worse p) b = refl
 made_count Yes b = refl
 made_count Unsearched b = refl
 
-tree_count : (m : Stated) (s : Spans) (a : Option Aim) (c : Option Claim) (xs : List (List ℤ)) (w : List Box) (told : ℕ) (l : TreeLine) →
+tree_count : (m : ModelParts) (s : Spans) (a : Option Aim) (c : Option Claim) (xs : List (List ℤ)) (w : List Box) (told : ℕ) (l : TreeLine) →
     KeepsTreeRule m s a c xs w told l → length (waiting_after w l) + ends_by l ≡ length w + splits_by l
 tree_count m s None c xs w told l k = absurd k
 tree_count m s (Some a) None xs w told l k = absurd k
@@ -36,7 +36,7 @@ tree_count m s (Some a) (Some c) xs [] told l k = absurd k
 tree_count m s (Some a) (Some c) xs (b ∷ w) told l k =
     let n = length-append (made_by l b) w in let j = made_count l b in omega (arith, n, j)
 
-lines_count : (m : Stated) (s : Spans) (t : Stand) (ls : List CertLine) (u : Stand) → Leads m s t ls u →
+lines_count : (m : ModelParts) (s : Spans) (t : Stand) (ls : List CertLine) (u : Stand) → Leads m s t ls u →
     length u.waiting + ends ls ≡ length t.waiting + splits ls
 lines_count m s t [] u h = ap (λ (z : Stand). length z.waiting + 0) (sym h)
 lines_count m s t (SaysAim a ∷ ls) u h = lines_count m s (stand_after t (SaysAim a)) ls u h.1
@@ -54,7 +54,7 @@ module _ (texts : List (List ℕ)) (c : Checking) (box : IsBox c.model.cells) (h
   going : (g : IsGoing texts c) → c.failed ≡ None → length c.stand.waiting + ends g.are.lines ≡ 1 + splits g.are.lines
   going g none =
       lines_count c.model (spans_in c.model) (first_stand c.model) g.are.lines c.stand
-      (subst (λ f. Found c.model (spans_in c.model) g.are.lines c.stand f) none g.found)
+      (subst (λ f. IsOutcome c.model (spans_in c.model) g.are.lines c.stand f) none g.found)
 
   none_few : c.stand.waiting ≡ [] → length c.stand.waiting + length c.model.cells ≤ total_of c.model.cells + 1
   none_few e = let n : length c.stand.waiting ≡ 0 = ap length e in omega (arith, n, box_total c.model.cells box)
@@ -62,7 +62,7 @@ module _ (texts : List (List ℕ)) (c : Checking) (box : IsBox c.model.cells) (h
   few_going : IsGoing texts c → (f : Option ℕ) → c.failed ≡ f → length c.stand.waiting + length c.model.cells ≤ total_of c.model.cells + 1
   few_going g None e =
       few_wait_after c.model (spans_in c.model) g.are.lines c.stand None c.stand.waiting box
-      (subst (λ f. Found c.model (spans_in c.model) g.are.lines c.stand f) e g.found) refl
+      (subst (λ f. IsOutcome c.model (spans_in c.model) g.are.lines c.stand f) e g.found) refl
   few_going g (Some n) e = none_few (h.emptied (inr (λ k. let z : ◌≡◌ {A = Option ℕ} None (Some n) = sym k ∙ e in cc)))
 
   few : (o : Option CertStop) → c.reading.stop ≡ o → length c.stand.waiting + length c.model.cells ≤ total_of c.model.cells + 1

@@ -5,37 +5,37 @@ use Rattle.ts_certificate.specs.declared.stop.CertStop.{CertStop}
 use Rattle.ts_certificate.specs.FirstStop.{AreLines}
 use Rattle.ts_certificate.specs.Grammar.{CertLine}
 use Rattle.ts_certificate.specs.Reading.{Reading, fresh, reading_with, reading_after, answer_to}
-use Rattle.ts_model.specs.Stated.{Stated}
-use Rattle.ts_filter.specs.Lines.{Stand, first_stand, KeepsLine, stand_after, Found}
+use Rattle.ts_model.specs.ModelParts.{ModelParts}
+use Rattle.ts_filter.specs.Lines.{Stand, first_stand, KeepsLine, stand_after, IsOutcome}
 use Rattle.ts_filter.specs.RefutedWorseDrop.{Spans}
 use Rattle.ts_spans.specs.Machines.{spans_in}
 
 -- the model, where the reader stands, what the lines so far say and leave, the first of them that breaks its rule, and
 -- whether memory was wanting
 pub record Checking : Type 0 where
-  pub model : Stated
+  pub model : ModelParts
   pub reading : Reading
   pub stand : Stand
   pub failed : Option ℕ
   pub wanting : Bool
 
 -- before the first line
-abbrev pub unfed : Stated → Checking
-unfed m = record { model = m; reading = fresh; stand = first_stand m; failed = None; wanting = false }
+abbrev pub first_checking : ModelParts → Checking
+first_checking m = record { model = m; reading = fresh; stand = first_stand m; failed = None; wanting = false }
 
 -- line number n of a certificate, which is read as l, is kept or broken, where none was broken before
-abbrev pub TakesFirst : Stated → Spans → Stand → ℕ → CertLine → Stand → Option ℕ → Type 0
+abbrev pub TakesFirst : ModelParts → Spans → Stand → ℕ → CertLine → Stand → Option ℕ → Type 0
 TakesFirst m s old n l new failed =
     (KeepsLine m s old l × (new ≡ stand_after old l) × (failed ≡ None))
     ⊎ ((KeepsLine m s old l → ⊥) × (new.waiting ≡ []) × (failed ≡ Some n))
 
 -- once a line has broken its rule, no more are judged
-abbrev pub TakesOn : Stated → Spans → Stand → Option ℕ → ℕ → CertLine → Stand → Option ℕ → Type 0
+abbrev pub TakesOn : ModelParts → Spans → Stand → Option ℕ → ℕ → CertLine → Stand → Option ℕ → Type 0
 TakesOn m s old None n l new failed = TakesFirst m s old n l new failed
 TakesOn m s old (Some k) n l new failed = (new.waiting ≡ old.waiting) × (failed ≡ Some k)
 
 -- what the reader answers to the line: what it says, or a stop, after which nothing waits, and no more are judged
-abbrev pub TakesBy : Stated → Spans → Stand → Option ℕ → ℕ → Result CertLine CertStop → Stand → Option ℕ → Type 0
+abbrev pub TakesBy : ModelParts → Spans → Stand → Option ℕ → ℕ → Result CertLine CertStop → Stand → Option ℕ → Type 0
 TakesBy m s old before n (Ok l) new failed = TakesOn m s old before n l new failed
 TakesBy m s old before n (Err stop) new failed = (new.waiting ≡ []) × (failed ≡ before)
 
@@ -50,7 +50,7 @@ pub record Takes (old : Checking) (text : List ℕ) (new : Checking) : Type 0 wh
 -- the texts are those of lines that may follow one another, and this is known of them
 pub record IsGoing (texts : List (List ℕ)) (c : Checking) : Type 0 where
   pub are : AreLines Start 1 texts c.reading
-  pub found : Found c.model (spans_in c.model) are.lines c.stand c.failed
+  pub found : IsOutcome c.model (spans_in c.model) are.lines c.stand c.failed
 
 -- a line was refused; those before it may follow one another, and the first of them that breaks its rule is still known
 pub record IsStopped (texts : List (List ℕ)) (c : Checking) : Type 0 where

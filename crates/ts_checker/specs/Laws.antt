@@ -6,11 +6,11 @@ use Rattle.ts_certificate.specs.Certificate.{Cert}
 use Rattle.ts_certificate.specs.Grammar.{CertLine, SaysAim, SaysClaim, SaysSeries, SaysTree, SaysEnd}
 use Rattle.ts_domain.specs.BoxSeries.{IsBox}
 use Rattle.ts_model.specs.Promise.{IsWhole}
-use Rattle.ts_model.specs.Stated.{Stated, total_of}
+use Rattle.ts_model.specs.ModelParts.{ModelParts, total_of}
 use Rattle.ts_filter.specs.Accepts.{Accepts}
 use Rattle.ts_filter.specs.Holds.{Holds}
 use Rattle.ts_checker.specs.declared.verdict.Verdict.{Verdict}
-use Rattle.ts_checker.specs.Checking.{Checking, unfed, IsGoing, IsOver, HasChecked}
+use Rattle.ts_checker.specs.Checking.{Checking, first_checking, IsGoing, IsOver, HasChecked}
 use Rattle.ts_spans.specs.Machines.{spans_in}
 use Rattle.ts_checker.specs.declared.verify_end.VerifyEnd.{VerifyEnd}
 use Rattle.ts_checker.specs.Verdicts.{IsVerdict}
@@ -18,12 +18,12 @@ use Rattle.ts_checker.specs.Verified.{IsFailed, IsVerifyEnd}
 
 -- what is accepted is true, whoever wrote it
 abbrev pub AcceptedIsTrue : Type 0
-AcceptedIsTrue = (m : Stated) (c : Cert) → IsWhole m → IsBox m.cells → Accepts m (spans_in m) c → Holds m c
+AcceptedIsTrue = (m : ModelParts) (c : Cert) → IsWhole m → IsBox m.cells → Accepts m (spans_in m) c → Holds m c
 
 -- there is one verdict on fewer than 2^62 lines
 abbrev pub OneVerdict : Type 0
 OneVerdict =
-    (m : Stated) (texts : List (List ℕ)) (v w : Verdict) → length texts < 2 ^ 62 → IsVerdict m texts v →
+    (m : ModelParts) (texts : List (List ℕ)) (v w : Verdict) → length texts < 2 ^ 62 → IsVerdict m texts v →
     IsVerdict m texts w → v ≡ w
 
 -- an input of fewer than 2^62 bytes has one end
@@ -38,7 +38,7 @@ OneFailed =
 
 -- before the first line nothing was checked
 abbrev pub NoneChecked : Type 0
-NoneChecked = (m : Stated) → HasChecked [] (unfed m)
+NoneChecked = (m : ModelParts) → HasChecked [] (first_checking m)
 
 -- how many boxes more or less wait after a line: a split leaves one more, and a line that ends a box one less
 abbrev pub splits_by : TreeLine → ℕ

@@ -22,8 +22,8 @@ stand_of t = record {
 }
 
 -- nothing waits any more
-abbrev pub emptied : Stand → Stand
-emptied t = record t { waiting = [] }
+abbrev pub without_boxes : Stand → Stand
+without_boxes t = record t { waiting = [] }
 
 -- the next box is present and has what the line names, and a series waits for its `yes`
 pub record MayStep (t : Standing) (line : TreeLine) : Type 0 where

@@ -4,13 +4,13 @@ use Rattle.std.specs.Global.{Vec}
 use Rattle.ts_base.specs.declared.ext.Ext.{Ext}
 use Rattle.ts_bound.specs.TermSpans.{Automata}
 use Rattle.ts_model.specs.Promise.{IsWhole}
-use Rattle.ts_model.specs.Stated.{Stated}
+use Rattle.ts_model.specs.ModelParts.{ModelParts}
 use Rattle.ts_filter.specs.Rules.{Head}
 use Rattle.ts_checker.specs.declared.subject.Head.{Head as GivenHead}
 use Rattle.ts_spans.specs.Machines.{automata_in}
 
 -- the tables are those of the machines of the model's terms, and each requirement's term stands
-pub record AreTables (m : Stated) (tables : List Automata) : Type 0 where
+pub record AreTables (m : ModelParts) (tables : List Automata) : Type 0 where
   pub machines : tables ≡ automata_in m
   pub whole : IsWhole m
 

@@ -5,7 +5,7 @@ use Rattle.ts_certificate.specs.declared.stop.CertStop.TheVariants.{Text, CountD
 use Rattle.ts_certificate.specs.Certificate.{Cert, IsCertificate, cert_lines}
 use Rattle.ts_certificate.specs.Grammar.{line_text}
 use Rattle.ts_certificate.specs.Reading.{fresh, reading_after, end_stop}
-use Rattle.ts_model.specs.Stated.{Stated}
+use Rattle.ts_model.specs.ModelParts.{ModelParts}
 use Rattle.ts_filter.specs.Accepts.{Accepts}
 use Rattle.ts_filter.specs.Holds.{Holds}
 use Rattle.ts_filter.specs.Lines.{IsFirstFailing}
@@ -32,13 +32,13 @@ pub record IsRefused (texts : List (List ℕ)) (line : ℕ) : Type 0 where
   pub at : stop_line stop ≡ line
 
 -- refused at a line, whatever its lines are worth; else accepted, or rejected at the first line that breaks its rule
-abbrev pub IsVerdict : Stated → List (List ℕ) → Verdict → Type 0
+abbrev pub IsVerdict : ModelParts → List (List ℕ) → Verdict → Type 0
 IsVerdict m texts Accepted = (c : Cert) × AreOf texts c × Accepts m (spans_in m) c
 IsVerdict m texts (Rejected line) = (c : Cert) × AreOf texts c × IsFirstFailing m (spans_in m) c line
 IsVerdict m texts (Refused line) = IsRefused texts line
 
 -- the texts are those of a certificate whose claim is true of the model
-abbrev pub IsTrueOf : Stated → List (List ℕ) → Type 0
+abbrev pub IsTrueOf : ModelParts → List (List ℕ) → Type 0
 IsTrueOf m texts = (c : Cert) × AreOf texts c × Holds m c
 
 -- the verdict by where the reading stops, and by the first line that breaks its rule

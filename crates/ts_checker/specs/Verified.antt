@@ -11,8 +11,8 @@ use Rattle.ts_token.specs.Halves.{halves_of}
 use Rattle.ts_model.specs.declared.error.ModelKind.{ModelKind}
 use Rattle.ts_model.specs.declared.model.Need.TheVariants.{List as Listed}
 use Rattle.ts_model.specs.ModelReading.{model_reading}
-use Rattle.ts_model.specs.Stated.{Stated}
-use Rattle.ts_filter.specs.Lines.{Found, Stand}
+use Rattle.ts_model.specs.ModelParts.{ModelParts}
+use Rattle.ts_filter.specs.Lines.{IsOutcome, Stand}
 use Rattle.ts_spans.specs.Machines.{spans_in}
 use Rattle.ts_checker.specs.declared.verdict.Verdict.{Verdict}
 use Rattle.ts_checker.specs.declared.verdict.Verdict.TheVariants.{Accepted}
@@ -33,13 +33,13 @@ abbrev pub certificate_lines : List ℕ → List (List ℕ)
 certificate_lines bytes = strict_lines (rest_part bytes)
 
 -- it is the verdict on these lines, and where they are accepted, their claim is true of the model
-pub record IsShownBy (texts : List (List ℕ)) (m : Stated) (verdict : Verdict) : Type 0 where
+pub record IsShownBy (texts : List (List ℕ)) (m : ModelParts) (verdict : Verdict) : Type 0 where
   pub is : IsVerdict m texts verdict
   pub holds : verdict ≡ Accepted → IsTrueOf m texts
 
 -- the model is stated, and this is the verdict on the certificate behind it
 pub record IsJudged (bytes : List ℕ) (verdict : Verdict) : Type 0 where
-  pub model : Stated
+  pub model : ModelParts
   pub states : model_reading Listed (model_part bytes) ≡ Ok model
   pub shown : IsShownBy (certificate_lines bytes) model verdict
 
@@ -57,23 +57,23 @@ abbrev pub ended_lines : List ℕ → List (List ℕ)
 ended_lines text = filter is_ended (strict_lines text)
 
 -- the texts are those of lines of a certificate, and this one, if any, is the first that breaks its rule
-pub record BreaksFirst (m : Stated) (texts : List (List ℕ)) (failed : Option ℕ) : Type 0 where
+pub record BreaksFirst (m : ModelParts) (texts : List (List ℕ)) (failed : Option ℕ) : Type 0 where
   pub lines : List CertLine
   pub are : texts ≡ map line_text lines
   pub follow : MayFollow Start lines
   pub stand : Stand
-  pub found : Found m (spans_in m) lines stand failed
+  pub found : IsOutcome m (spans_in m) lines stand failed
 
 -- by where the reading of the texts stops: the line that is refused, or else the first that breaks its rule
-abbrev pub FailsBy : Stated → List (List ℕ) → Option CertStop → Option ℕ → Type 0
+abbrev pub FailsBy : ModelParts → List (List ℕ) → Option CertStop → Option ℕ → Type 0
 FailsBy m texts (Some stop) failed = failed ≡ Some (stop_line stop)
 FailsBy m texts None failed = BreaksFirst m texts failed
 
-abbrev pub FailsFirst : Stated → List (List ℕ) → Option ℕ → Type 0
+abbrev pub FailsFirst : ModelParts → List (List ℕ) → Option ℕ → Type 0
 FailsFirst m texts failed = FailsBy m texts (reading_after fresh texts).stop failed
 
 -- the same where the model is valid; no line fails where it isn't
-abbrev pub FailsIn : Result Stated (ℕ × ModelKind) → List (List ℕ) → Option ℕ → Type 0
+abbrev pub FailsIn : Result ModelParts (ℕ × ModelKind) → List (List ℕ) → Option ℕ → Type 0
 FailsIn (Ok m) texts failed = FailsFirst m texts failed
 FailsIn (Err bad) texts failed = failed ≡ None
 

@@ -5,9 +5,9 @@ ghost use Rattle.ts_certificate.specs.Reading.{end_stop, reading_with};
 ghost use Rattle.ts_certificate.specs.Seen.{line_seen};
 ghost use Rattle.ts_compile.specs.Programs.{IsProgramOf};
 ghost use Rattle.ts_model.specs.Promise.{IsWhole, KeepsLimits};
-ghost use Rattle.ts_model.specs.Views.{stated};
+ghost use Rattle.ts_model.specs.Views.{model_parts};
 ghost use Rattle.ts_model.specs.declared.model.Need.TheVariants.{List as Listed};
-ghost use Rattle.ts_checker.specs.Checking.{Checks, HasChecked, Takes, TakesOn, unfed};
+ghost use Rattle.ts_checker.specs.Checking.{Checks, HasChecked, Takes, TakesOn, first_checking};
 ghost use Rattle.ts_checker.specs.Laws.{WaitsByLines};
 ghost use Rattle.ts_spans.specs.Machines.{spans_in};
 ghost use Rattle.ts_checker.specs.Standings.{AreValues};
@@ -40,7 +40,7 @@ pub struct Checker {
 impl std::marker::Model for Checker {
     ghost use Rattle.ts_domain.specs.BoxSeries.{IsBox};
     ghost use Rattle.ts_model.specs.Promise.{IsWhole};
-    ghost use Rattle.ts_model.specs.Views.{stated};
+    ghost use Rattle.ts_model.specs.Views.{model_parts};
     ghost use Rattle.ts_checker.specs.Checking.{Checking};
     ghost use Rattle.ts_checker.specs.Standings.{stand_of};
     ghost use Rattle.ts_checker.specs.Subjects.{AreTables};
@@ -48,7 +48,7 @@ impl std::marker::Model for Checker {
     ghost Value = { Checking };
 
     ghost view = { λ c. record {
-      model = stated c.model;
+      model = model_parts c.model;
       reading = c.reader;
       stand = stand_of c.standing;
       failed = c.failed;
@@ -56,7 +56,7 @@ impl std::marker::Model for Checker {
     } };
 
     ghost invariant = { λ c.
-        AreTables (stated c.model) c.tables × IsBox (stated c.model).cells };
+        AreTables (model_parts c.model) c.tables × IsBox (model_parts c.model).cells };
 }
 
 impl Checker {
@@ -64,9 +64,9 @@ impl Checker {
     /// of `m` together have at most 65,536 values.
     pub fn new(alloc: Global, m: Model, p: Program) -> Result<Checker, Memory>
         requires program { IsProgramOf p m }
-        requires whole { IsWhole (stated m) }
-        requires limits { KeepsLimits Listed (stated m) }
-        ensures unfed { IfOk result (λ c. c ≡ unfed (stated m)) }
+        requires whole { IsWhole (model_parts m) }
+        requires limits { KeepsLimits Listed (model_parts m) }
+        ensures unfed { IfOk result (λ c. c ≡ first_checking (model_parts m)) }
         ensures checked { IfOk result (λ c. HasChecked [] c) }
     {
         let root = Boxed::new(alloc, &m.cells)?;

@@ -7,7 +7,7 @@ ghost use Rattle.ts_domain.specs.BoxSeries.{IsBefore};
 ghost use Rattle.ts_filter.specs.Accepts.{AimFits, AllTold, ClaimFits, ComesAfter, IsAsClaimed, SeriesFits};
 ghost use Rattle.ts_model.specs.Meets.{values_on};
 ghost use Rattle.ts_model.specs.Promise.{IsWhole};
-ghost use Rattle.ts_model.specs.Views.{stated};
+ghost use Rattle.ts_model.specs.Views.{model_parts};
 ghost use Rattle.ts_checker.specs.Subjects.{series_of, value_in};
 
 use std::alloc::Global;
@@ -18,7 +18,7 @@ use ts_model::Model;
 
 /// After `maximise` and `minimise` the model has an objective.
 pub(crate) fn aim_fits(model: &Model, aim: Aim) -> bool
-    ensures { IsTrue result ↔ AimFits (stated model.now) aim }
+    ensures { IsTrue result ↔ AimFits (model_parts model.now) aim }
 {
     match aim {
         Aim::Best(_) => model.objective.is_some(),
@@ -50,10 +50,10 @@ pub(crate) fn series_fits(
     before: &[Vec<i64>],
     series: &[i64],
 ) -> Result<bool, Memory>
-    requires whole { IsWhole (stated model.now) }
+    requires whole { IsWhole (model_parts model.now) }
     requires values { AllByRecursion IsCellValue series.now }
     ensures { IfOk result (λ fits. IsTrue fits
-        ↔ SeriesFits (stated model.now) claim (series_of before.now) series.now) }
+        ↔ SeriesFits (model_parts model.now) claim (series_of before.now) series.now) }
 {
     if series.len() != model.cells.len() {
         return Ok(false);
@@ -70,8 +70,8 @@ fn is_as_claimed(
     before: &[Vec<i64>],
     series: &[i64],
 ) -> bool
-    requires { values.now ≡ values_on (stated model.now) series.now }
-    ensures { IsTrue result ↔ IsAsClaimed (stated model.now) claim (series_of before.now) series.now }
+    requires { values.now ≡ values_on (model_parts model.now) series.now }
+    ensures { IsTrue result ↔ IsAsClaimed (model_parts model.now) claim (series_of before.now) series.now }
 {
     match claim {
         Claim::Best(value) | Claim::BudgetBest(value) => is_value(model.objective, values, value),

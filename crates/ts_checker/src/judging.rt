@@ -3,7 +3,7 @@
 ghost use Rattle.std.specs.Prelude.{ℕ, ◌≡◌, ◌≤◌, List, [], IfOk, OnOk, None, false, nat_lt};
 ghost use Rattle.ts_base.specs.Words.{strict_lines};
 ghost use Rattle.ts_model.specs.Promise.{IsWhole, KeepsLimits};
-ghost use Rattle.ts_model.specs.Views.{stated};
+ghost use Rattle.ts_model.specs.Views.{model_parts};
 ghost use Rattle.ts_model.specs.declared.model.Need.TheVariants.{List as Listed};
 ghost use Rattle.ts_checker.specs.Checking.{Takes};
 ghost use Rattle.ts_checker.specs.Feeding.{HasRead, IsPart, JudgesLine, Reads, refused_now};
@@ -32,9 +32,9 @@ pub(crate) struct Judging {
 impl Judging {
     /// Before the first byte of a certificate for this model.
     pub(crate) fn new(alloc: Global, model: Model) -> Result<Judging, Memory>
-        requires whole { IsWhole (stated model) }
-        requires limits { KeepsLimits Listed (stated model) }
-        ensures model { IfOk result (λ j. j.checker.model ≡ stated model) }
+        requires whole { IsWhole (model_parts model) }
+        requires limits { KeepsLimits Listed (model_parts model) }
+        ensures model { IfOk result (λ j. j.checker.model ≡ model_parts model) }
         ensures read { IfOk result (λ j. HasRead [] j) }
     {
         let program = compile_model(alloc, &model)?;

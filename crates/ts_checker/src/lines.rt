@@ -7,7 +7,7 @@ ghost use Rattle.ts_certificate.specs.Seen.{line_seen};
 ghost use Rattle.ts_filter.specs.Accepts.{AllTold, ClaimFits, SeriesFits};
 ghost use Rattle.ts_filter.specs.Lines.{KeepsLine, KeepsTreeRule};
 ghost use Rattle.ts_model.specs.Promise.{IsWhole};
-ghost use Rattle.ts_model.specs.Views.{stated};
+ghost use Rattle.ts_model.specs.Views.{model_parts};
 ghost use Rattle.ts_spans.specs.Machines.{spans_in};
 ghost use Rattle.ts_checker.specs.Standings.{AreValues, MayStep, MayTake, stand_of};
 ghost use Rattle.ts_checker.specs.Subjects.{AreTables, series_of};
@@ -30,12 +30,13 @@ pub(crate) fn keeps_line(
     standing: &mut Standing,
     line: &Parsed,
 ) -> Result<bool, Memory>
-    requires tables { AreTables (stated model.now) tables.old }
+    requires tables { AreTables (model_parts model.now) tables.old }
     requires values { AreValues line.now }
     ensures tables { tables.new ≡ tables.old }
     ensures same { stand_of standing.new ≡ stand_of standing.old }
     ensures keeps { IfOk result (λ keeps. IsTrue keeps
-        ↔ KeepsLine (stated model.now) (spans_in (stated model.now)) (stand_of standing.old) (line_seen line.now)) }
+        ↔ KeepsLine (model_parts model.now) (spans_in (model_parts model.now)) (stand_of standing.old)
+        (line_seen line.now)) }
     ensures may { IfOk result (λ keeps. IsTrue keeps → MayTake standing.new line.now) }
 {
     match line {
@@ -64,10 +65,10 @@ fn keeps_series(
     standing: &Standing,
     series: &[i64],
 ) -> Result<bool, Memory>
-    requires whole { IsWhole (stated model.now) }
+    requires whole { IsWhole (model_parts model.now) }
     requires values { AllByRecursion IsCellValue series.now }
     ensures { IfOk result (λ keeps. IsTrue keeps ↔ MatchOption standing.now.claim ⊥
-        (λ claim. SeriesFits (stated model.now) claim (series_of standing.now.series.items) series.now)) }
+        (λ claim. SeriesFits (model_parts model.now) claim (series_of standing.now.series.items) series.now)) }
 {
     match standing.claim {
         Some(claim) => series_fits(alloc, model, claim, &standing.series, series),
@@ -83,11 +84,11 @@ fn keeps_tree(
     standing: &mut Standing,
     line: TreeLine,
 ) -> Result<bool, Memory>
-    requires { AreTables (stated model.now) tables.old }
+    requires { AreTables (model_parts model.now) tables.old }
     ensures tables { tables.new ≡ tables.old }
     ensures same { stand_of standing.new ≡ stand_of standing.old }
     ensures keeps { IfOk result (λ keeps. IsTrue keeps
-        ↔ KeepsTreeRule (stated model.now) (spans_in (stated model.now)) standing.old.aim standing.old.claim
+        ↔ KeepsTreeRule (model_parts model.now) (spans_in (model_parts model.now)) standing.old.aim standing.old.claim
         (series_of standing.old.series.items) standing.old.frontier.boxes standing.old.told line) }
     ensures may { IfOk result (λ keeps. IsTrue keeps → MayStep standing.new line) }
 {

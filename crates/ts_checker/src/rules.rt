@@ -7,7 +7,7 @@ ghost use Rattle.ts_filter.specs.Boxes.{HasCell, box_of};
 ghost use Rattle.ts_filter.specs.RefutedWorseDrop.{IsDrop, IsRefuted};
 ghost use Rattle.ts_filter.specs.Rules.{IsNext, IsSplit, KeepsRule, MayBeWorse, MayStayOpen};
 ghost use Rattle.ts_frontier.specs.Follow.{MayFollow};
-ghost use Rattle.ts_model.specs.Views.{stated};
+ghost use Rattle.ts_model.specs.Views.{model_parts};
 ghost use Rattle.ts_spans.specs.Machines.{spans_in};
 ghost use Rattle.ts_checker.specs.Subjects.{AreTables, head_in};
 
@@ -28,9 +28,10 @@ pub(crate) fn keeps_rule(
     b: &Boxed,
     line: TreeLine,
 ) -> Result<bool, Memory>
-    requires { AreTables (stated model.now) tables.old }
+    requires { AreTables (model_parts model.now) tables.old }
     ensures same { tables.new ≡ tables.old }
-    ensures keeps { IfOk result (λ keeps. IsTrue keeps ↔ KeepsRule (stated model.now) (spans_in (stated model.now))
+    ensures keeps { IfOk result
+        (λ keeps. IsTrue keeps ↔ KeepsRule (model_parts model.now) (spans_in (model_parts model.now))
         (head_in head.now) head.now.told b.now.present line) }
     ensures may { IfOk result (λ keeps. IsTrue keeps → MayFollow line b.now.present) }
 {
@@ -61,10 +62,10 @@ fn is_drop(
     v: i64,
     j: u32,
 ) -> Result<bool, Memory>
-    requires { AreTables (stated model.now) tables.old }
+    requires { AreTables (model_parts model.now) tables.old }
     ensures same { tables.new ≡ tables.old }
     ensures keeps { IfOk result (λ keeps. IsTrue keeps
-        ↔ IsDrop (stated model.now).requirements (spans_in (stated model.now)) k v j b.now.present) }
+        ↔ IsDrop (model_parts model.now).requirements (spans_in (model_parts model.now)) k v j b.now.present) }
     ensures may { IfOk result (λ keeps. IsTrue keeps → MayFollow (TreeLine.Remove k v j) b.now.present) }
 {
     if !has_cell(b, k) {
@@ -91,10 +92,10 @@ fn is_refuted(
     j: u32,
     p: u32,
 ) -> Result<bool, Memory>
-    requires { AreTables (stated model.now) tables.old }
+    requires { AreTables (model_parts model.now) tables.old }
     ensures same { tables.new ≡ tables.old }
     ensures keeps { IfOk result (λ keeps. IsTrue keeps
-        ↔ IsRefuted (stated model.now).requirements (spans_in (stated model.now)) j p b.now.present) }
+        ↔ IsRefuted (model_parts model.now).requirements (spans_in (model_parts model.now)) j p b.now.present) }
 {
     let Some(require) = requirement(&model.requirements, j) else {
         return Ok(false);
@@ -114,10 +115,10 @@ fn may_be_worse(
     b: &Boxed,
     p: u32,
 ) -> Result<bool, Memory>
-    requires { AreTables (stated model.now) tables.old }
+    requires { AreTables (model_parts model.now) tables.old }
     ensures same { tables.new ≡ tables.old }
     ensures keeps { IfOk result (λ keeps. IsTrue keeps
-        ↔ MayBeWorse (stated model.now) (spans_in (stated model.now)) (head_in head.now) p b.now.present) }
+        ↔ MayBeWorse (model_parts model.now) (spans_in (model_parts model.now)) (head_in head.now) p b.now.present) }
 {
     let (Aim::Best(goal), Some(bar)) = (head.aim, claimed(head.claim)) else {
         return Ok(false);

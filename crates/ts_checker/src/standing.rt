@@ -4,7 +4,7 @@ ghost use Rattle.std.specs.Prelude.{◌≡◌, ◌∷◌, [], None, OnErr, OnOk}
 ghost use Rattle.ts_certificate.specs.Grammar.{SaysTree};
 ghost use Rattle.ts_certificate.specs.Seen.{line_seen};
 ghost use Rattle.ts_filter.specs.Lines.{stand_after};
-ghost use Rattle.ts_checker.specs.Standings.{MayStep, MayTake, emptied, stand_of};
+ghost use Rattle.ts_checker.specs.Standings.{MayStep, MayTake, without_boxes, stand_of};
 
 use std::alloc::Global;
 use ts_base::Memory;
@@ -55,7 +55,7 @@ impl Standing {
 
     /// Nothing waits any more.
     pub(crate) fn clear(&mut self)
-        ensures { stand_of self.new ≡ emptied (stand_of self.old) }
+        ensures { stand_of self.new ≡ without_boxes (stand_of self.old) }
     {
         self.frontier.clear();
     }

@@ -4,7 +4,7 @@ ghost use Rattle.std.specs.Prelude.{◌≡◌, ◌↔◌, ◌<◌, IsTrue, Match
 ghost use Rattle.ts_bound.specs.TermSpans.{IsUsable};
 ghost use Rattle.ts_filter.specs.OfTerm.{OfTerm};
 ghost use Rattle.ts_filter.specs.RefutedWorseDrop.{IsRequirement};
-ghost use Rattle.ts_filter.specs.Rules.{claimed};
+ghost use Rattle.ts_filter.specs.Rules.{claimed_value};
 ghost use Rattle.ts_model.specs.declared.model.Require.{Require as Asked};
 
 use ts_base::Ext;
@@ -43,7 +43,7 @@ pub(crate) fn is_usable(tables: &AllTables<'_>, term: u32, p: u32, b: &Boxed) ->
 
 /// The number that `best V` and `budget V` claim.
 pub(crate) fn claimed(claim: Claim) -> Option<Ext>
-    ensures { result ≡ claimed claim }
+    ensures { result ≡ claimed_value claim }
 {
     match claim {
         Claim::Best(value) | Claim::BudgetBest(value) => Some(value),

@@ -12,7 +12,7 @@ use Rattle.ts_pattern.specs.Plans.{PlainPlan, subject}
 use Rattle.ts_pattern.specs.TermValue.{aggregate_of_ranges, value_of}
 use Rattle.ts_validate.proofs.Law.{closed_valid}
 use Rattle.ts_automaton.specs.Body.{Body}
-use Rattle.ts_decorate.specs.Decoration.{decorated}
+use Rattle.ts_decorate.specs.Decoration.{decorated_body}
 use Rattle.ts_decorate.specs.Answers.{AnswersRanges}
 use Rattle.ts_seed.specs.SeedTable.{seed_table}
 use Rattle.ts_compile.specs.Compiled.{AnswersTerm, machine_body}
@@ -29,6 +29,6 @@ answers_term b t rows a plan typed trim closed answers xs some short cells =
 
 -- the decorated rows of the table are the machine of the term
 pub body_is : (b : Body) (t : Term) (rows : List Row) (a : ℕ) → rows ≡ (seed_table t.pattern).rows → a ≡ pattern_a t.pattern →
-    b ≡ decorated rows a t.aggregator t.feature → b ≡ machine_body t
+    b ≡ decorated_body rows a t.aggregator t.feature → b ≡ machine_body t
 body_is b t rows a same trim made =
-    made ∙ ap (λ z. decorated z a t.aggregator t.feature) same ∙ ap (λ z. decorated (seed_table t.pattern).rows z t.aggregator t.feature) trim
+    made ∙ ap (λ z. decorated_body z a t.aggregator t.feature) same ∙ ap (λ z. decorated_body (seed_table t.pattern).rows z t.aggregator t.feature) trim

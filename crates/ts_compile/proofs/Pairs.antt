@@ -8,7 +8,7 @@ use Rattle.ts_pattern.specs.declared.name.PatternId.{PatternId}
 use Rattle.ts_pattern.specs.PatternTable.{pattern_a}
 use Rattle.ts_automaton.specs.Body.{Body}
 use Rattle.ts_seed.specs.SeedTable.{SeedTable, seed_table}
-use Rattle.ts_decorate.specs.Decoration.{decorated}
+use Rattle.ts_decorate.specs.Decoration.{decorated_body}
 use Rattle.ts_glue.specs.declared.half.Half.{Half}
 use Rattle.ts_glue.specs.Pairs.{Table, table_view, Pair, pair}
 use Rattle.ts_glue.specs.Rules.{IsGluing}
@@ -19,15 +19,15 @@ use Rattle.ts_compile.specs.Compiled.{pair_with, machine_pair}
 -- what is made of the seed's rows, the partner's rows, the trim and the pairs of states is the pair of the term
 pub pair_is : (t : Term) (partner : PatternId) (rows back : List Row) (a : ℕ) (joins : List Join) (f b : Body) (table : Table) →
     rows ≡ (seed_table t.pattern).rows → back ≡ (seed_table partner).rows → a ≡ pattern_a t.pattern → joins ≡ (seed_table t.pattern).joins →
-    f ≡ decorated rows a t.aggregator t.feature → b ≡ decorated back a t.aggregator t.feature → table ≡ glue_table_by a t.feature joins →
+    f ≡ decorated_body rows a t.aggregator t.feature → b ≡ decorated_body back a t.aggregator t.feature → table ≡ glue_table_by a t.feature joins →
     pair f b table ≡ pair_with t partner
 pair_is t partner rows back a joins f b table e1 e2 e3 e4 e5 e6 e7 =
     let g = t.aggregator in
     let h = t.feature in
     let whole : List Row → List Row → ℕ → List Join → Pair =
-    λ r s n js. pair (decorated r n g h) (decorated s n g h) (glue_table_by n h js) in
-    ap (λ z. pair z b table) e5 ∙ ap (λ z. pair (decorated rows a g h) z table) e6
-    ∙ ap (λ z. pair (decorated rows a g h) (decorated back a g h) z) e7
+    λ r s n js. pair (decorated_body r n g h) (decorated_body s n g h) (glue_table_by n h js) in
+    ap (λ z. pair z b table) e5 ∙ ap (λ z. pair (decorated_body rows a g h) z table) e6
+    ∙ ap (λ z. pair (decorated_body rows a g h) (decorated_body back a g h) z) e7
     ∙ ap (λ z. whole z back a joins) e1 ∙ ap (λ z. whole (seed_table t.pattern).rows z a joins) e2
     ∙ ap (λ z. whole (seed_table t.pattern).rows (seed_table partner).rows z joins) e3
     ∙ ap (λ z. whole (seed_table t.pattern).rows (seed_table partner).rows (pattern_a t.pattern) z) e4
@@ -35,7 +35,7 @@ pair_is t partner rows back a joins f b table e1 e2 e3 e4 e5 e6 e7 =
 -- what is made by the seed of the term and the rows of its partner fits, and a machine of it is split as the tables say
 pub made_by_seed : (t : Term) (partner : PatternId) (s : SeedTable) (back : List Row) (a : ℕ) (f b : Body) (table : Table) →
     s ≡ seed_table t.pattern → s.partner ≡ Some partner → back ≡ (seed_table partner).rows → a ≡ pattern_a t.pattern →
-    f ≡ decorated s.rows a t.aggregator t.feature → b ≡ decorated back a t.aggregator t.feature → table ≡ glue_table_by a t.feature s.joins →
+    f ≡ decorated_body s.rows a t.aggregator t.feature → b ≡ decorated_body back a t.aggregator t.feature → table ≡ glue_table_by a t.feature s.joins →
     IsGluing (pair f b table) × ((o : Option Pair) → o ≡ Some (pair f b table) → o ≡ machine_pair t)
 made_by_seed t partner s back a f b table e found e2 e3 e5 e6 e7 =
     let same = pair_is t partner s.rows back a s.joins f b table (ap (λ z. z.rows) e) e2 e3 (ap (λ z. z.joins) e) e5 e6 e7 in

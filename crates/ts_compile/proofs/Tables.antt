@@ -6,7 +6,7 @@ use Rattle.ts_pattern.specs.declared.term.Term.{Term}
 use Rattle.ts_pattern.specs.declared.name.PatternId.{PatternId}
 use Rattle.ts_pattern.specs.declared.name.PatternId.TheVariants.{Increasing, Decreasing, Steady, IncreasingSequence, DecreasingSequence, StrictlyIncreasingSequence, StrictlyDecreasingSequence, SteadySequence, IncreasingTerrace, DecreasingTerrace, Inflexion, Peak, Valley, Plateau, Plain, ProperPlateau, ProperPlain, Summit, Gorge, Zigzag, DipOnIncreasingSequence, BumpOnDecreasingSequence}
 use Rattle.ts_pattern.specs.PatternTable.{pattern_a}
-use Rattle.ts_automaton.specs.AutomatonRun.{Marked}
+use Rattle.ts_automaton.specs.AutomatonRun.{HoldsMark}
 use Rattle.ts_automaton.specs.Typing.{is_automaton}
 use Rattle.ts_seed.specs.SeedTable.{seed_table, table_of}
 use Rattle.ts_seed.proofs.Closed.{rows_closed}
@@ -54,7 +54,7 @@ compiled_answers t =
     (rows_closed id (table_of id) (table_of id).rows refl refl)
     (answers_ranges (seed_table id).rows fits.0 fits.1 (pattern_a id) fits.2 t.aggregator t.feature)
 
-pub compiled_marked : (t : Term) → Marked (machine_body t)
+pub compiled_marked : (t : Term) → HoldsMark (machine_body t)
 compiled_marked t =
     let id = t.pattern in
     let fits = table_fits id in

@@ -11,7 +11,7 @@ use Rattle.ts_automaton.specs.Body.{Body}
 use Rattle.ts_automaton.specs.AutomatonRun.{answer, AreCellValues}
 use Rattle.ts_automaton.specs.Codes.{formula_code}
 use Rattle.ts_seed.specs.SeedTable.{seed_table}
-use Rattle.ts_decorate.specs.Decoration.{decorated}
+use Rattle.ts_decorate.specs.Decoration.{decorated_body}
 use Rattle.ts_decorate.specs.Answers.{longest}
 use Rattle.ts_glue.specs.declared.machine.Machine.{Machine}
 use Rattle.ts_glue.specs.Pairs.{Pair, pair}
@@ -20,7 +20,7 @@ use Rattle.ts_local.specs.TermPairs.{body_by, glue_table_of}
 
 -- the rows of the pattern's seed with the pattern's trim at the end, decorated for the aggregator and the feature
 abbrev pub machine_body : Term → Body
-machine_body t = decorated (seed_table t.pattern).rows (pattern_a t.pattern) t.aggregator t.feature
+machine_body t = decorated_body (seed_table t.pattern).rows (pattern_a t.pattern) t.aggregator t.feature
 
 -- that automaton, the one by the partner's rows and the glue table, where the pattern has a partner
 abbrev pub pair_with : Term → PatternId → Pair

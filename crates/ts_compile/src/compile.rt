@@ -1,7 +1,7 @@
 //! The machine of a term, and the machines of a model's terms.
 
 ghost use Rattle.std.specs.Prelude.{◌≡◌, IfOk};
-ghost use Rattle.ts_automaton.specs.AutomatonRun.{Marked};
+ghost use Rattle.ts_automaton.specs.AutomatonRun.{HoldsMark};
 ghost use Rattle.ts_compile.specs.Compiled.{AnswersTerm, machine_body, machine_pair};
 ghost use Rattle.ts_compile.specs.Programs.{IsProgramOf};
 ghost use Rattle.ts_glue.specs.Machines.{forward_of, pair_of};
@@ -22,7 +22,7 @@ pub fn compile_term(alloc: Global, t: &Term) -> Result<Machine, Memory>
     ensures body { IfOk result (λ m. forward_of m ≡ machine_body t.now) }
     ensures pair { IfOk result (λ m. pair_of m ≡ machine_pair t.now) }
     ensures answer { IfOk result (λ m. AnswersTerm (forward_of m) t.now) }
-    ensures marked { IfOk result (λ m. Marked (forward_of m)) }
+    ensures marked { IfOk result (λ m. HoldsMark (forward_of m)) }
 {
     // no plan is tested here: that the seed's transducer is closed is proved, so it finds the occurrences
     let seed = seed_by_id(alloc, t.pattern)?;

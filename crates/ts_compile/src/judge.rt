@@ -6,7 +6,7 @@ ghost use Rattle.std.specs.Prelude.{ℕ, ◌≡◌, ◌↔◌, ◌++◌, length,
 ghost use Rattle.ts_pattern.specs.Limits.{IsSeries};
 ghost use Rattle.ts_model.specs.Judgement.{all_hold, all_true, holdings, holds, insides, is_among};
 ghost use Rattle.ts_model.specs.Meets.{Meets, values_on};
-ghost use Rattle.ts_model.specs.Views.{stated};
+ghost use Rattle.ts_model.specs.Views.{model_parts};
 
 use std::alloc::Global;
 use ts_base::{Ext, Memory};
@@ -37,11 +37,11 @@ pub fn judge(alloc: Global, model: &Model, series: &[i64]) -> Result<Judgement, 
     requires series { IsSeries series.now }
     requires cells { length series.now ≡ length model.now.cells.items }
     ensures inside { IfOk result (λ j. j.inside.items ≡ insides model.now.cells.items series.now) }
-    ensures values { IfOk result (λ j. j.values.items ≡ values_on (stated model.now) series.now) }
+    ensures values { IfOk result (λ j. j.values.items ≡ values_on (model_parts model.now) series.now) }
     ensures holding { IfOk result (λ j.
-        j.holding.items ≡ holdings (values_on (stated model.now) series.now) model.now.requirements.items) }
+        j.holding.items ≡ holdings (values_on (model_parts model.now) series.now) model.now.requirements.items) }
     ensures meets { IfOk result (λ j.
-        IsTrue (all_hold j.inside.items j.holding.items) ↔ Meets (stated model.now) series.now) }
+        IsTrue (all_hold j.inside.items j.holding.items) ↔ Meets (model_parts model.now) series.now) }
 {
     let inside = insides(alloc, &model.cells, series)?;
     let values = values_on(alloc, model, series)?;
@@ -76,7 +76,7 @@ fn has(domain: &Domain, value: i64) -> bool
 /// The value of each term, all by one signature.
 fn values_on(alloc: Global, model: &Model, series: &[i64]) -> Result<Vec<Ext>, Memory>
     requires { IsSeries series.now }
-    ensures { IfOk result (λ values. values.items ≡ values_on (stated model.now) series.now) }
+    ensures { IfOk result (λ values. values.items ≡ values_on (model_parts model.now) series.now) }
 {
     let letters = signature(alloc, series)?;
     let mut values = Vec::new(alloc);

@@ -2,7 +2,7 @@
 
 ghost use Rattle.std.specs.Prelude.{◌≡◌, ◌<◌, Some, length, IfOk};
 ghost use Rattle.ts_model.specs.Meets.{value_at};
-ghost use Rattle.ts_model.specs.Views.{stated};
+ghost use Rattle.ts_model.specs.Views.{model_parts};
 ghost use Rattle.ts_pattern.specs.Limits.{IsSeries};
 
 use std::alloc::Global;
@@ -14,7 +14,7 @@ use ts_occurrence::value;
 pub fn value_of(alloc: Global, m: &Model, term: u32, series: &[i64]) -> Result<Ext, Memory>
     requires term { term < length m.now.terms.entries }
     requires series { IsSeries series.now }
-    ensures { IfOk result (λ v. value_at (stated m.now) series.now term ≡ Some v) }
+    ensures { IfOk result (λ v. value_at (model_parts m.now) series.now term ≡ Some v) }
 {
     value(alloc, &m.terms[term as usize], series)
 }

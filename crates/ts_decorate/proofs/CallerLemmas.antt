@@ -12,8 +12,8 @@ use Rattle.ts_transducer.specs.Inside.{IsInside}
 use Rattle.ts_transducer.proofs.CallerLemmas.{move_stays, decode_inside_each}
 use Rattle.ts_pattern.specs.declared.name.Aggregator.{Aggregator}
 use Rattle.ts_pattern.specs.declared.name.Feature.{Feature}
-use Rattle.ts_automaton.specs.AutomatonRun.{after_from, marked, IsInMark, AreCellValues, Marked}
-use Rattle.ts_decorate.specs.Decoration.{mark_of, decorated, range_op}
+use Rattle.ts_automaton.specs.AutomatonRun.{after_from, under_mark, IsInMark, AreCellValues, HoldsMark}
+use Rattle.ts_decorate.specs.Decoration.{mark_of, decorated_body, range_op}
 use Rattle.ts_decorate.specs.Answers.{AnswersRanges, KeepsMark}
 use Rattle.ts_decorate.proofs.Exact.{exact, held_at_limit, cell_value, IsGood, cell_good, cell_laws, range_right}
 use Rattle.ts_decorate.proofs.Runs.{table_start, table_after, total_of}
@@ -36,7 +36,7 @@ letters x (y ∷ ys) = ap suc (letters y ys)
 module _ (rows : List Row) (typed : is_typed rows ≡ true) (few : length rows ≤ 8) (a : ℕ) (g : Aggregator) (f : Feature) where
   -- the registers behind the series, before the mark: no sum is held, so exact operators give the same
   pub total_exact : (x : ℤ) (ys : List ℤ) → length ys ≤ 99999 → IsCellValue x → AreCellValues ys →
-      let total = total_of (held_at_limit g f) (after_from (decorated rows a g f) (table_start (exact g f)) x ys).regs in
+      let total = total_of (held_at_limit g f) (after_from (decorated_body rows a g f) (table_start (exact g f)) x ys).regs in
       (total ≡ total_of (exact g f) (table_after (exact g f) (cell_value f) a rows (table_start (exact g f)) x ys).regs) × (size_of total ≤ limit)
   total_exact x ys short h i =
       let o = exact g f in
@@ -63,24 +63,24 @@ module _ (rows : List Row) (typed : is_typed rows ≡ true) (few : length rows �
 
   -- they hold the fold over the ranges
   total_is : (x : ℤ) (ys : List ℤ) → length ys ≤ 99999 → IsCellValue x → AreCellValues ys →
-      total_of (held_at_limit g f) (after_from (decorated rows a g f) (table_start (exact g f)) x ys).regs
+      total_of (held_at_limit g f) (after_from (decorated_body rows a g f) (table_start (exact g f)) x ys).regs
       ≡ ranges_value (exact g f) (map (cell_value f) (x ∷ ys)) (decode rows a (signature_of (x ∷ ys)))
   total_is x ys short h i =
       let vs = map (cell_value f) (x ∷ ys) in
       (total_exact rows typed few a g f x ys short h i).0
       ∙ answer_is (exact g f) (IsGood f) (cell_laws f) (range_right g) (cell_value f) rows typed a one vs (cell_value f x) (cells_good f (x ∷ ys)) x ys refl
 
-  pub answers_ranges : AnswersRanges (decorated rows a g f) rows a g f
+  pub answers_ranges : AnswersRanges (decorated_body rows a g f) rows a g f
   answers_ranges [] some short h = absurd (omega (arith, some))
   answers_ranges (x ∷ ys) some short h =
-      ap (λ v. marked (mark_of g f) (length (x ∷ ys)) v) (total_is x ys (omega (arith, short)) h.0 h.1)
+      ap (λ v. under_mark (mark_of g f) (length (x ∷ ys)) v) (total_is x ys (omega (arith, short)) h.0 h.1)
       ∙ aggregate_is g f (decode rows a (signature_of (x ∷ ys))) (x ∷ ys) (ranges_in x ys)
 
-  pub keeps_mark : KeepsMark (decorated rows a g f)
+  pub keeps_mark : KeepsMark (decorated_body rows a g f)
   keeps_mark [] some short h = absurd (omega (arith, some))
   keeps_mark (x ∷ ys) some short h =
       subst (λ v. IsInMark (mark_of g f) (length (x ∷ ys)) v) (sym (answers_ranges (x ∷ ys) some short h))
       (aggregate_in_mark g f (decode rows a (signature_of (x ∷ ys))) (x ∷ ys) (ranges_in x ys))
 
-  pub is_marked : Marked (decorated rows a g f)
+  pub is_marked : HoldsMark (decorated_body rows a g f)
   is_marked xs some short h = keeps_mark xs some (omega (arith, short)) h

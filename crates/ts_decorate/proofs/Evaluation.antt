@@ -19,9 +19,9 @@ use Rattle.ts_automaton.specs.declared.expr.Atom.TheVariants.{This, Next}
 use Rattle.ts_automaton.specs.Formula.{Leaf}
 use Rattle.ts_automaton.specs.Registers.{EachOf, each, numbers, value_in, ext_op}
 use Rattle.ts_automaton.specs.Body.{move_on, node_at}
-use Rattle.ts_automaton.specs.AutomatonRun.{Standing, moved, step_of, after_from}
+use Rattle.ts_automaton.specs.AutomatonRun.{Standing, registers_after, step_of, after_from}
 use Rattle.ts_decorate.specs.Operators.{with_last, with_all, after_phase}
-use Rattle.ts_decorate.specs.Decoration.{cell_op, neutral_atom, neutral_value, worth, range_op, default_atom, default_value, expression_operators, registers, move_made, node_made, nodes_made, state_names, decorated}
+use Rattle.ts_decorate.specs.Decoration.{cell_op, neutral_atom, neutral_value, worth, range_op, default_atom, default_value, expression_operators, registers, move_made, node_made, nodes_made, state_names, decorated_body}
 use Rattle.ts_decorate.proofs.Exact.{held_at_limit, cell_value}
 use Rattle.ts_decorate.proofs.Runs.{table_step, table_after}
 
@@ -74,7 +74,7 @@ module _ (g : Aggregator) (f : Feature) (s : EachOf Ext) (x y : ℤ) where
 
   -- the expressions of a move compute what its phase letter does
   pub move_is : (a : ℕ) (p : Phase) (n : ℕ) →
-      moved numbers s x y (move_made a g f (record { phase = p; next = n })) ≡ after_phase (held_at_limit g f) a p s (cell_value f x) (cell_value f y)
+      registers_after numbers s x y (move_made a g f (record { phase = p; next = n })) ≡ after_phase (held_at_limit g f) a p s (cell_value f x) (cell_value f y)
   move_is a Out n = refl
   move_is a OutR n = each_same refl (neutral_is f s x y) refl
   move_is a OutA n = each_same (default_is g s x y) (neutral_is f s x y) refl
@@ -100,19 +100,19 @@ move_on_is a g f name r Greater = refl
 
 module _ (rows : List Row) (typed : is_typed rows ≡ true) (few : length rows ≤ 8) (a : ℕ) (g : Aggregator) (f : Feature) where
   step_is : (st : Standing Ext) (x y : ℤ) → st.state < length rows →
-      step_of (decorated rows a g f) st x y ≡ table_step (held_at_limit g f) (cell_value f) a rows st x y
+      step_of (decorated_body rows a g f) st x y ≡ table_step (held_at_limit g f) (cell_value f) a rows st x y
   step_is st x y h =
       let l = letter_of x y in
       let n = node_is a g f state_names rows st.state h few in
       let m = arrow_at rows st.state l in
-      let made : move_on l (node_at (decorated rows a g f).states st.state) ≡ move_made a g f m =
+      let made : move_on l (node_at (decorated_body rows a g f).states st.state) ≡ move_made a g f m =
       ap (move_on l) n.1 ∙ move_on_is a g f n.0 (row_at rows st.state) l in
-      ap (λ t. let z : Standing Ext = record { state = t.next; regs = moved numbers st.regs x y t } in z) made
+      ap (λ t. let z : Standing Ext = record { state = t.next; regs = registers_after numbers st.regs x y t } in z) made
       ∙ ap (λ s. let z : Standing Ext = record { state = m.next; regs = s } in z) (move_is g f st.regs x y a m.phase m.next)
 
   pub after_is : (ys : List ℤ) (x : ℤ) (st : Standing Ext) → st.state < length rows →
-      after_from (decorated rows a g f) st x ys ≡ table_after (held_at_limit g f) (cell_value f) a rows st x ys
+      after_from (decorated_body rows a g f) st x ys ≡ table_after (held_at_limit g f) (cell_value f) a rows st x ys
   after_is [] x st h = refl
   after_is (y ∷ ys) x st h =
-      ap (λ z. after_from (decorated rows a g f) z y ys) (step_is st x y h)
+      ap (λ z. after_from (decorated_body rows a g f) z y ys) (step_is st x y h)
       ∙ after_is ys y (table_step (held_at_limit g f) (cell_value f) a rows st x y) (move_stays rows typed st.state (letter_of x y))

@@ -15,7 +15,7 @@ use Rattle.ts_pattern.specs.declared.name.Feature.TheVariants.{One, Width, Surf,
 use Rattle.ts_pattern.specs.FeatureValue.{cells_of, over, feature_of_cells, feature_value}
 use Rattle.ts_pattern.specs.TermValue.{combine, or_none, aggregate, value_of_none, aggregate_of_ranges}
 use Rattle.ts_transducer.specs.Inside.{IsInside}
-use Rattle.ts_automaton.specs.AutomatonRun.{marked}
+use Rattle.ts_automaton.specs.AutomatonRun.{under_mark}
 use Rattle.ts_decorate.specs.Decoration.{cell_op, neutral_value, range_op, default_value, mark_of}
 use Rattle.ts_decorate.proofs.Exact.{exact_plus, exact_op, exact, cell_value}
 use Rattle.ts_decorate.proofs.Registers.{range_value, ranges_value}
@@ -96,7 +96,7 @@ joined MinOf [] = refl
 joined MinOf (z ∷ zs) = mins zs z
 
 -- the default is turned into the value for none by the mark
-mark_is : (g : Aggregator) (f : Feature) (n : ℕ) (o : Option ℤ) → marked (mark_of g f) n (or_none (default_value g) o) ≡ or_none (value_of_none g f n) o
+mark_is : (g : Aggregator) (f : Feature) (n : ℕ) (o : Option ℤ) → under_mark (mark_of g f) n (or_none (default_value g) o) ≡ or_none (value_of_none g f n) o
 mark_is Sum One n o = refl
 mark_is Sum Width n o = refl
 mark_is Sum Surf n o = refl
@@ -117,9 +117,9 @@ mark_is MinOf MinFeature n o = refl
 
 -- under the mark the fold over the ranges is their aggregate
 pub aggregate_is : (g : Aggregator) (f : Feature) (rs : List Range) (xs : List ℤ) → AllByRecursion (IsInside (length xs)) rs →
-    marked (mark_of g f) (length xs) (ranges_value (exact g f) (map (cell_value f) xs) rs) ≡ aggregate_of_ranges g f rs xs
+    under_mark (mark_of g f) (length xs) (ranges_value (exact g f) (map (cell_value f) xs) rs) ≡ aggregate_of_ranges g f rs xs
 aggregate_is g f rs xs h =
     let zs = map (λ r. feature_value f r xs) rs in
-    ap (λ es. marked (mark_of g f) (length xs) (fold (exact_op (range_op g)) (default_value g) es)) (features_are g f rs xs h)
-    ∙ ap (λ e. marked (mark_of g f) (length xs) e) (joined g zs)
+    ap (λ es. under_mark (mark_of g f) (length xs) (fold (exact_op (range_op g)) (default_value g) es)) (features_are g f rs xs h)
+    ∙ ap (λ e. under_mark (mark_of g f) (length xs) e) (joined g zs)
     ∙ mark_is g f (length xs) (over (combine g) zs)

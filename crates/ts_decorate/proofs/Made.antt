@@ -5,16 +5,16 @@ use Rattle.ts_transducer.specs.declared.row.Row.{Row}
 use Rattle.ts_transducer.specs.Typing.{is_typed}
 use Rattle.ts_pattern.specs.declared.name.Aggregator.{Aggregator}
 use Rattle.ts_pattern.specs.declared.name.Feature.{Feature}
-use Rattle.ts_automaton.specs.AutomatonRun.{Marked}
+use Rattle.ts_automaton.specs.AutomatonRun.{HoldsMark}
 use Rattle.ts_automaton.specs.Body.{Body}
 use Rattle.ts_automaton.specs.Typing.{is_automaton}
 use Rattle.ts_decorate.specs.Answers.{AnswersRanges, KeepsMark}
-use Rattle.ts_decorate.specs.Decoration.{decorated}
+use Rattle.ts_decorate.specs.Decoration.{decorated_body}
 use Rattle.ts_decorate.proofs.Typed.{is_decorated_automaton}
 use Rattle.ts_decorate.proofs.CallerLemmas.{answers_ranges, keeps_mark, is_marked}
 
 module _ (rows given : List Row) (typed : IsTrue (is_typed rows)) (these : given ≡ rows) (short : length given ≤ 8) (a : ℕ) (g : Aggregator) (f : Feature)
-    (b : Body) (same : b ≡ decorated rows a g f) where
+    (b : Body) (same : b ≡ decorated_body rows a g f) where
   few : length rows ≤ 8
   few = subst (λ l. length l ≤ 8) these short
 
@@ -27,5 +27,5 @@ module _ (rows given : List Row) (typed : IsTrue (is_typed rows)) (these : given
   pub keeps : a ≤ 1 → KeepsMark b
   keeps one = subst KeepsMark (sym same) (keeps_mark rows typed few a one g f)
 
-  pub marks : a ≤ 1 → Marked b
-  marks one = subst Marked (sym same) (is_marked rows typed few a one g f)
+  pub marks : a ≤ 1 → HoldsMark b
+  marks one = subst HoldsMark (sym same) (is_marked rows typed few a one g f)

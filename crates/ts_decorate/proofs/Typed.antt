@@ -24,7 +24,7 @@ use Rattle.ts_pattern.specs.declared.name.Feature.TheVariants.{One, Width, Surf,
 use Rattle.ts_automaton.specs.Kinds.{formula_kind}
 use Rattle.ts_automaton.specs.Body.{Node, Body, move_on, node_at}
 use Rattle.ts_automaton.specs.Typing.{has_names, has_short_moves, each_is, is_short, is_constant, leads_below, is_formed, is_typed as is_body_typed, is_typed_at, is_move_typed, is_finish_typed, fits_kinds, kinds_where, moves_from, is_automaton, has_few_states, has_constants, has_targets, has_short_expressions}
-use Rattle.ts_decorate.specs.Decoration.{neutral_value, default_value, move_made, node_made, nodes_made, state_names, decorated}
+use Rattle.ts_decorate.specs.Decoration.{neutral_value, default_value, move_made, node_made, nodes_made, state_names, decorated_body}
 use Rattle.ts_decorate.proofs.Evaluation.{node_is, move_on_is}
 
 -- a test of all aggregators and features
@@ -103,7 +103,7 @@ held_is k k' Inside t = (ap is_held t.0, ap is_held t.1)
 -- the move of a phase letter has the kinds of its registers, whatever the rows are
 abbrev is_phase_typed : ℕ → Phase → ℕ → List Row → Aggregator → Feature → Bool
 is_phase_typed a p n rows g f =
-    let b = decorated rows a g f in
+    let b = decorated_body rows a g f in
     fits_kinds (kinds_where b (held_before p)) (move_made a g f (record { phase = p; next = n })).to (kinds_where b (held_behind p))
 
 phase_typed : (a : ℕ) (p : Phase) (n : ℕ) (rows : List Row) (g : Aggregator) (f : Feature) → is_phase_typed a p n rows g f ≡ true
@@ -162,7 +162,7 @@ always : (rows : List Row) → list_all (λ r. true) rows ≡ true
 always [] = refl
 always (r ∷ rows) = always rows
 
-names_good : (a : ℕ) (g : Aggregator) (f : Feature) (rows : List Row) → length rows ≤ 8 → has_names (decorated rows a g f) ≡ true
+names_good : (a : ℕ) (g : Aggregator) (f : Feature) (rows : List Row) → length rows ≤ 8 → has_names (decorated_body rows a g f) ≡ true
 names_good a g f [] h = refl
 names_good a g f (r1 ∷ []) h = refl
 names_good a g f (r1 ∷ r2 ∷ []) h = refl
@@ -180,14 +180,14 @@ neutral_constant f = at_feature (λ k. is_constant (neutral_value k)) refl f
 default_constant : (g : Aggregator) → is_constant (default_value g) ≡ true
 default_constant g = at_aggregator (λ k. is_constant (default_value k)) refl g
 
-finish_good : (a : ℕ) (g : Aggregator) (f : Feature) (rows : List Row) → is_finish_typed (decorated rows a g f) ≡ true
-finish_good a g f rows = both_true (both_true refl (kind_known false)) (held_known (list_any (λ s. s.held) (decorated rows a g f).states))
+finish_good : (a : ℕ) (g : Aggregator) (f : Feature) (rows : List Row) → is_finish_typed (decorated_body rows a g f) ≡ true
+finish_good a g f rows = both_true (both_true refl (kind_known false)) (held_known (list_any (λ s. s.held) (decorated_body rows a g f).states))
   where
-    kind_known : (held : Bool) → is_some (formula_kind (kinds_where (decorated rows a g f) held) (decorated rows a g f).finish) ≡ true
-    kind_known false = at_term (λ g f. let b = decorated rows a g f in is_some (formula_kind (kinds_where b false) b.finish)) refl g f
-    kind_known true = at_term (λ g f. let b = decorated rows a g f in is_some (formula_kind (kinds_where b true) b.finish)) refl g f
+    kind_known : (held : Bool) → is_some (formula_kind (kinds_where (decorated_body rows a g f) held) (decorated_body rows a g f).finish) ≡ true
+    kind_known false = at_term (λ g f. let b = decorated_body rows a g f in is_some (formula_kind (kinds_where b false) b.finish)) refl g f
+    kind_known true = at_term (λ g f. let b = decorated_body rows a g f in is_some (formula_kind (kinds_where b true) b.finish)) refl g f
 
-    held_known : (v : Bool) → not v || is_some (formula_kind (kinds_where (decorated rows a g f) true) (decorated rows a g f).finish) ≡ true
+    held_known : (v : Bool) → not v || is_some (formula_kind (kinds_where (decorated_body rows a g f) true) (decorated_body rows a g f).finish) ≡ true
     held_known false = refl
     held_known true = kind_known true
 
@@ -202,7 +202,7 @@ all_moves b (suc n) p h =
 
 module _ (rows : List Row) (typed : is_typed rows ≡ true) (few : length rows ≤ 8) (a : ℕ) (g : Aggregator) (f : Feature) where
   abbrev b : Body
-  b = decorated rows a g f
+  b = decorated_body rows a g f
 
   count : length b.states ≡ length rows
   count = count_same a g f state_names rows few

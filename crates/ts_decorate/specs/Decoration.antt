@@ -110,8 +110,8 @@ nodes_made a g f (name ∷ names) (r ∷ rows) = node_made a g f name r ∷ node
 abbrev pub state_names : List ℕ
 state_names = codes "srtuvwxy"
 
-abbrev pub decorated : List Row → ℕ → Aggregator → Feature → Body
-decorated rows a g f = record {
+abbrev pub decorated_body : List Row → ℕ → Aggregator → Feature → Body
+decorated_body rows a g f = record {
   states = nodes_made a g f state_names rows;
   start = each (default_value g) (neutral_value f) (default_value g);
   finish = Join (range_op g) (Leaf R) (Leaf C);

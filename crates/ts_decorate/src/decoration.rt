@@ -1,10 +1,10 @@
 //! The automaton of a transducer.
 
 ghost use Rattle.std.specs.Prelude.{◌≡◌, ◌≤◌, IfOk, length, map};
-ghost use Rattle.ts_automaton.specs.AutomatonRun.{Marked};
+ghost use Rattle.ts_automaton.specs.AutomatonRun.{HoldsMark};
 ghost use Rattle.ts_automaton.specs.Body.{node_of};
 ghost use Rattle.ts_decorate.specs.Answers.{AnswersRanges, KeepsMark};
-ghost use Rattle.ts_decorate.specs.Decoration.{decorated, nodes_made, state_names};
+ghost use Rattle.ts_decorate.specs.Decoration.{decorated_body, nodes_made, state_names};
 ghost use Rattle.ts_transducer.specs.Rows.{rows_of};
 
 use crate::builder::Builder;
@@ -28,10 +28,10 @@ pub fn decorate(
     feature: Feature,
 ) -> Result<Automaton, Memory>
     requires { a ≤ 1 }
-    ensures body { IfOk result (λ m. m ≡ decorated (rows_of t.now) a aggregator feature) }
+    ensures body { IfOk result (λ m. m ≡ decorated_body (rows_of t.now) a aggregator feature) }
     ensures answer { IfOk result (λ m. AnswersRanges m (rows_of t.now) a aggregator feature) }
     ensures mark { IfOk result (λ m. KeepsMark m) }
-    ensures marked { IfOk result (λ m. Marked m) }
+    ensures marked { IfOk result (λ m. HoldsMark m) }
 {
     let builder = Builder {
         alloc,

@@ -9,7 +9,7 @@ use Rattle.std.proofs.lemmas.List.Filters.{length-filter_both}
 use Rattle.std.specs.Prelude.{filter, int_le, int_lt, Contains}
 use Rattle.std.specs.Ordering.{int_eq}
 use Rattle.std.specs.List.{AllByRecursion, flat_map}
-use Rattle.ts_domain.specs.Values.{Rising, IsDomain, WithinLimits}
+use Rattle.ts_domain.specs.Values.{IsRising, IsDomain, WithinLimits}
 use Rattle.ts_domain.specs.Kept.{values_up_to, values_above, values_without}
 use Rattle.ts_domain.specs.BoxSeries.{Boxes, InBox, IsBox, all_series, series_count, cell_of}
 use Rattle.ts_domain.proofs.Sets.{contains_cons, contains_filter, each_filter, rising_filter, differs, itself}
@@ -85,8 +85,8 @@ none_gone gone (x ∷ xs) h = ap (λ b. cond b (x ∷ values_without gone xs) (v
     below_itself : (a b : ℤ) → a <ℤ b → b ≡ a → ⊥
     below_itself a b h e = omega (arith, ints, h, e)
 
-pub length-without : (gone : ℤ) (xs : List ℤ) → Rising xs → Contains xs gone → length (values_without gone xs) + 1 ≡ length xs
-unfolding Rising
+pub length-without : (gone : ℤ) (xs : List ℤ) → IsRising xs → Contains xs gone → length (values_without gone xs) + 1 ≡ length xs
+unfolding IsRising
 length-without gone [] h has = absurd (omega (arith, has.1))
 length-without gone (x ∷ xs) h has =
     elim ((contains_cons x xs gone).0 has) [

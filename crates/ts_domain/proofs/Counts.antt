@@ -9,8 +9,8 @@ use Rattle.std.specs.List.{AllByRecursion}
 use Rattle.std.specs.List.Sorted.{IsPartitionPoint, IsPartitionedBy}
 use Rattle.ts_domain.specs.declared.interval.Interval.{Interval}
 use Rattle.ts_domain.specs.Counts.{counts_from, HasPlace}
-use Rattle.ts_domain.specs.Values.{Rising, values_between, values_of, RangesFrom}
-use Rattle.ts_domain.specs.Pieces.{is_in, values_in, leading, IsPiece}
+use Rattle.ts_domain.specs.Values.{IsRising, values_between, values_of, RangesFrom}
+use Rattle.ts_domain.specs.Pieces.{is_in, values_in, leading_count, IsPiece}
 use Rattle.ts_domain.proofs.Runs.{length-between}
 use Rattle.ts_domain.proofs.Sets.{filter_none, each_contains, all_weaker}
 use Rattle.ts_domain.proofs.CutLaws.{m, ends_small}
@@ -102,13 +102,14 @@ at_range n (r ∷ rs) (suc k) p e h o b =
     )
 
 -- the place of the first range that a test stops at
-pub stops : (test : Interval → Bool) (rs : List Interval) (e : Interval) → leading test rs < length rs → test (get_or rs (leading test rs) e) ≡ false
-unfolding leading
+pub stops : (test : Interval → Bool) (rs : List Interval) (e : Interval) → leading_count test rs < length rs →
+    test (get_or rs (leading_count test rs) e) ≡ false
+unfolding leading_count
 stops test [] e h = absurd (omega (arith, h))
 stops test (r ∷ rs) e h = by_test (test r) refl (stops test rs e) h
   where
-    by_test : (b : Bool) → test r ≡ b → (leading test rs < length rs → test (get_or rs (leading test rs) e) ≡ false) →
-        let n = cond b (suc (leading test rs)) zero in n < length (r ∷ rs) → test (get_or (r ∷ rs) n e) ≡ false
+    by_test : (b : Bool) → test r ≡ b → (leading_count test rs < length rs → test (get_or rs (leading_count test rs) e) ≡ false) →
+        let n = cond b (suc (leading_count test rs)) zero in n < length (r ∷ rs) → test (get_or (r ∷ rs) n e) ≡ false
     by_test true is later h = later (omega (arith, h))
     by_test false is later h = is
 
@@ -134,9 +135,9 @@ later_above : (x : ℤ) (xs : List ℤ) (k : ℕ) (v : ℤ) → AllByRecursion (
 later_above x xs k v above h at = each_contains (λ y. x <ℤ y) xs v above (k, h, get_or_default xs k v (pos 0) h ∙ at)
 
 -- between two of its numbers a rising list has all that lies between them
-front_in : (p : Interval) (xs : List ℤ) (b : ℕ) → Rising xs → AllByRecursion (λ v. p.low ≤ℤ v) xs → b < length xs → get_or xs b (pos 0) ≡ p.high →
+front_in : (p : Interval) (xs : List ℤ) (b : ℕ) → IsRising xs → AllByRecursion (λ v. p.low ≤ℤ v) xs → b < length xs → get_or xs b (pos 0) ≡ p.high →
     filter (is_in p) xs ≡ take (suc b) xs
-unfolding Rising
+unfolding IsRising
 front_in p [] b rise low h at = absurd (omega (arith, h))
 front_in p (x ∷ xs) zero rise low h at =
     ap (λ t. cond t (x ∷ filter (is_in p) xs) (filter (is_in p) xs)) (ends_in p x low.0 (omega (arith, ints, at))) ∙
@@ -146,9 +147,10 @@ front_in p (x ∷ xs) (suc b) rise low h at =
     ap (λ t. cond t (x ∷ filter (is_in p) xs) (filter (is_in p) xs)) (ends_in p x low.0 (omega (arith, ints, below))) ∙
     ap (λ l. x ∷ l) (front_in p xs b rise.1 low.1 (omega (arith, h)) at)
 
-pub range_in : (p : Interval) (xs : List ℤ) (a b : ℕ) → Rising xs → a < length xs → b < length xs → get_or xs a (pos 0) ≡ p.low → get_or xs b (pos 0) ≡ p.high →
+pub range_in : (p : Interval) (xs : List ℤ) (a b : ℕ) → IsRising xs → a < length xs → b < length xs → get_or xs a (pos 0) ≡ p.low →
+    get_or xs b (pos 0) ≡ p.high →
     p.low ≤ℤ p.high → (a ≤ b) × (values_in xs p ≡ take (suc b - a) (drop a xs))
-unfolding Rising values_in
+unfolding IsRising values_in
 range_in p [] a b rise ha hb low high o = absurd (omega (arith, ha))
 range_in p (x ∷ xs) zero b rise ha hb low high o =
     let n : suc b ≡ suc b - 0 = omega arith in (
@@ -213,14 +215,14 @@ pub record HasNumber (rs : List Interval) (bs : List ℕ) (v : ℤ) (e : Interva
   pub place : (p : ℕ) → pos p ≡ v -ℤ (get_or rs k e).low → slice_get (values_of rs) (get_or bs k 0 + p) ≡ Some v
 
 pub found : (rs : List Interval) (bs : List ℕ) (v : ℤ) (k : ℕ) (e : Interval) → RangesFrom (neg_ℤ (pos 1000000)) rs → bs ≡ counts_from 0 rs →
-    Contains (values_of rs) v → k ≡ leading (λ r. int_lt r.high v) rs → HasNumber rs bs v e k
+    Contains (values_of rs) v → k ≡ leading_count (λ r. int_lt r.high v) rs → HasNumber rs bs v e k
 found rs bs v k e apart counted has at =
     let some = value_in_some (neg_ℤ (pos 1000000)) rs v apart has in
     let here = place_has (neg_ℤ (pos 1000000)) v rs e apart some in
     let below : k < length rs = subst (λ k. k < length rs) (sym at) here.0 in
     let low : (get_or rs k e).low ≤ℤ v = subst (λ k. (get_or rs k e).low ≤ℤ v) (sym at) here.1 in
     let high : v ≤ℤ (get_or rs k e).high = subst (λ k. v ≤ℤ (get_or rs k e).high) (sym at)
-    (reach (get_or rs (leading (λ r. int_lt r.high v) rs) e).high v (stops (λ r. int_lt r.high v) rs e here.0)) in
+    (reach (get_or rs (leading_count (λ r. int_lt r.high v) rs) e).high v (stops (λ r. int_lt r.high v) rs e here.0)) in
     let fits = range_at (neg_ℤ (pos 1000000)) rs k e apart below in
     let size = length-between (get_or rs k e).low (get_or rs k e).high (omega (arith, ints, fits.1)) in
     let count_is : get_or bs k 0 ≡ get_or (counts_from 0 rs) k 0 = ap (λ l. get_or l k 0) counted in
@@ -335,13 +337,13 @@ counted_all rs i count made past inv =
 
 -- the same, of the ranges and counts that were read
 pub found_given : (rs items : List Interval) (cs bs : List ℕ) (v : ℤ) (k : ℕ) (e : Interval) → items ≡ rs → bs ≡ cs → cs ≡ counts_from 0 rs →
-    RangesFrom (neg_ℤ (pos 1000000)) rs → Contains (values_of rs) v → k ≡ leading (λ r. int_lt r.high v) items → HasNumber items bs v e k
+    RangesFrom (neg_ℤ (pos 1000000)) rs → Contains (values_of rs) v → k ≡ leading_count (λ r. int_lt r.high v) items → HasNumber items bs v e k
 found_given rs items cs bs v k e same counts counted apart has at =
     found items bs v k e (subst (RangesFrom (neg_ℤ (pos 1000000))) (sym same) apart) (counts ∙ counted ∙ ap (counts_from 0) (sym same))
     (subst (λ l. Contains (values_of l) v) (sym same) has) at
 
 pub place_given : (rs items : List Interval) (cs bs : List ℕ) (v : ℤ) (k p : ℕ) (e : Interval) → items ≡ rs → bs ≡ cs → cs ≡ counts_from 0 rs →
-    RangesFrom (neg_ℤ (pos 1000000)) rs → Contains (values_of rs) v → k ≡ leading (λ r. int_lt r.high v) items → pos p ≡ v -ℤ (get_or items k e).low →
+    RangesFrom (neg_ℤ (pos 1000000)) rs → Contains (values_of rs) v → k ≡ leading_count (λ r. int_lt r.high v) items → pos p ≡ v -ℤ (get_or items k e).low →
     slice_get (values_of rs) (get_or bs k 0 + p) ≡ Some v
 place_given rs items cs bs v k p e same counts counted apart has at is =
     subst (λ l. slice_get (values_of l) (get_or bs k 0 + p) ≡ Some v) same ((found_given rs items cs bs v k e same counts counted apart has at).place p is)

@@ -11,7 +11,7 @@ use Rattle.std.specs.List.{AllByRecursion}
 use Rattle.ts_domain.specs.declared.marks.Mark.{Mark}
 use Rattle.ts_domain.specs.Marks.{mark_at, flip_mark, MarksFrom, AreTold, numbers, own, put_back}
 use Rattle.ts_domain.specs.Kept.{values_up_to, values_above, values_without}
-use Rattle.ts_domain.specs.Values.{Rising, IsDomain, WithinLimits}
+use Rattle.ts_domain.specs.Values.{IsRising, IsDomain, WithinLimits}
 use Rattle.ts_domain.proofs.Sets.{contains_cons, each_from, each_filter, rising_filter, rising_append, all_append, lt_true, lt_false}
 use Rattle.ts_domain.proofs.BoxLaws.{contains_up_to, contains_above, contains_without, some_stay}
 use Rattle.ts_domain.proofs.SameSets.{same_set}
@@ -183,7 +183,7 @@ flips all m ms h from to told own_told =
     }
 
 -- the list without the number, or with it
-pub flipped_away : (old new : List ℤ) (v : ℤ) → Rising old → Rising new → Flips old new v → Contains old v → new ≡ values_without v old
+pub flipped_away : (old new : List ℤ) (v : ℤ) → IsRising old → IsRising new → Flips old new v → Contains old v → new ≡ values_without v old
 flipped_away old new v rise rise' f has = same_set new (values_without v old) rise' (rising_filter (λ w. other w) old rise) (λ w. (
   λ there. let ne : w ≡ v → ⊥ = λ e. f.gone has (subst (Contains new) e there) in (contains_without v old w).1 ((f.other w (λ e. ne (sym e))).0 there, ne),
   λ there. let d = (contains_without v old w).0 there in (f.other w (λ e. d.1 (sym e))).1 d.0,
@@ -192,8 +192,8 @@ flipped_away old new v rise rise' f has = same_set new (values_without v old) ri
     other : ℤ → Bool
     other w = not (int_eq w v)
 
-pub put_back_rises : (v : ℤ) (old : List ℤ) → Rising old → (Contains old v → ⊥) → Rising (put_back v old)
-unfolding Rising
+pub put_back_rises : (v : ℤ) (old : List ℤ) → IsRising old → (Contains old v → ⊥) → IsRising (put_back v old)
+unfolding IsRising
 put_back_rises v old rise none =
     rising_append (values_up_to v old) (v ∷ values_above v old) (v -ℤ pos 1) (rising_filter (λ w. int_le w v) old rise)
     (each_from (λ w. v <ℤ w) (values_above v old) (λ w has. ((contains_above v old w).0 has).1), rising_filter (λ w. int_lt v w) old rise)
@@ -228,7 +228,7 @@ contains_put_back v old w = (
   ],
 )
 
-pub flipped_back : (old new : List ℤ) (v : ℤ) → Rising old → Rising new → Flips old new v → (Contains old v → ⊥) → new ≡ put_back v old
+pub flipped_back : (old new : List ℤ) (v : ℤ) → IsRising old → IsRising new → Flips old new v → (Contains old v → ⊥) → new ≡ put_back v old
 flipped_back old new v rise rise' f none = same_set new (put_back v old) rise' (put_back_rises v old rise none) (λ w. (
   λ there. (contains_put_back v old w).1 (three (Contains old w ⊎ (v ≡ w)) v w (λ lt. inl ((f.other w (λ e. differ v w lt e)).0 there)) (λ e. inr e)
       (λ lt. inl ((f.other w (λ e. differ w v lt (sym e))).0 there))),
@@ -241,7 +241,7 @@ flipped_back old new v rise rise' f none = same_set new (put_back v old) rise' (
     differ : (a b : ℤ) → a <ℤ b → a ≡ b → ⊥
     differ a b lt e = omega (arith, ints, lt, e)
 
-pub put_back_without : (v : ℤ) (old : List ℤ) → Rising old → Contains old v → put_back v (values_without v old) ≡ old
+pub put_back_without : (v : ℤ) (old : List ℤ) → IsRising old → Contains old v → put_back v (values_without v old) ≡ old
 put_back_without v old rise has = let left = values_without v old in
     same_set (put_back v left) old (put_back_rises v left (rising_filter (λ w. not (int_eq w v)) old rise)
     (λ there. ((contains_without v old v).0 there).1 refl)) rise (λ w. (
@@ -254,7 +254,7 @@ put_back_without v old rise has = let left = values_without v old in
     differ a b lt e = omega (arith, ints, lt, e)
 
 -- the change leaves a number
-pub flipped_some : (old new : List ℤ) (v : ℤ) → Rising old → Rising new → Flips old new v → (Contains old v → values_without v old ≡ [] → ⊥) → new ≡ [] → ⊥
+pub flipped_some : (old new : List ℤ) (v : ℤ) → IsRising old → IsRising new → Flips old new v → (Contains old v → values_without v old ≡ [] → ⊥) → new ≡ [] → ⊥
 flipped_some old new v rise rise' f stays none =
     let without : Contains old v → ⊥ = λ has. stays has (sym (flipped_away old new v rise rise' f has) ∙ none) in some_stay new v (f.come without) none
 
@@ -283,7 +283,7 @@ marks_within f (m ∷ ms) le h = ((low f m.value le h.0, h.1), marks_within (m.v
     next : (f v : ℤ) → bottom ≤ℤ f → f ≤ℤ v → bottom ≤ℤ (v +ℤ pos 1)
     next f v h g = omega (arith, ints, h, g)
 
-pub numbers_domain : (all : List ℤ) (ms : List Mark) → Rising all → AllByRecursion WithinLimits all → MarksFrom bottom ms → (numbers all ms ≡ [] → ⊥) →
+pub numbers_domain : (all : List ℤ) (ms : List Mark) → IsRising all → AllByRecursion WithinLimits all → MarksFrom bottom ms → (numbers all ms ≡ [] → ⊥) →
     IsDomain (numbers all ms)
 numbers_domain all ms rise within h some = record {
   rising = numbers_rise bottom all ms rise h;

@@ -11,11 +11,11 @@ use Rattle.ts_domain.specs.declared.interval.Interval.{Interval}
 use Rattle.ts_domain.specs.declared.marks.Mark.{Mark}
 use Rattle.ts_domain.specs.declared.keep.Keep.{Keep}
 use Rattle.ts_domain.specs.declared.keep.Keep.TheVariants.{UpTo, Above, AllBut}
-use Rattle.ts_domain.specs.Kept.{kept, values_without}
+use Rattle.ts_domain.specs.Kept.{values_kept, values_without}
 use Rattle.ts_domain.specs.Marks.{mark_at, MarksFrom, AreTold, numbers, keeps}
 use Rattle.ts_domain.specs.Pieces.{values_in, IsPartOf, IsMarked}
 use Rattle.ts_domain.specs.Union.{InSome, LowsRise}
-use Rattle.ts_domain.specs.Values.{Rising, IsDomain, WithinLimits, values_of, AreRanges}
+use Rattle.ts_domain.specs.Values.{IsRising, IsDomain, WithinLimits, values_of, AreRanges}
 use Rattle.ts_domain.proofs.Sets.{contains_cons, contains_filter, nothing_in, each_filter, rising_filter}
 use Rattle.ts_domain.proofs.Ranges.{values_rise}
 use Rattle.ts_domain.proofs.SameSets.{same_set}
@@ -89,7 +89,7 @@ there_passing test all None v passes = (λ h. ((contains_filter test all v).0 h)
 there_passing test all (Some gone) v passes = (λ h. h, λ h. h)
 
 -- the numbers that pass are those of the part, with the marks that pass
-pub numbers_passing : (test : ℤ → Bool) (all : List ℤ) (ms : List Mark) → Rising all → MarksFrom bottom ms →
+pub numbers_passing : (test : ℤ → Bool) (all : List ℤ) (ms : List Mark) → IsRising all → MarksFrom bottom ms →
     numbers (filter test all) (passing test ms) ≡ filter test (numbers all ms)
 numbers_passing test all ms rise h =
     let h' = passing_rise test bottom ms h in
@@ -141,7 +141,7 @@ part_given rs slice items p q ms copy d test t w left view is read same e part c
     (made ∙ ap (passing (test w)) copied ∙ ap (λ u. passing (test u) ms) e) some
 
 -- the values that a change keeps are those that pass its test
-pub kept_passes : (keep : Keep) (d : List ℤ) → filter (keeps keep) d ≡ kept keep d
+pub kept_passes : (keep : Keep) (d : List ℤ) → filter (keeps keep) d ≡ values_kept keep d
 kept_passes (UpTo t) d = refl
 kept_passes (Above t) d = refl
 kept_passes (AllBut gone) d = refl
@@ -161,8 +161,8 @@ in_singles (x ∷ xs) v = let rest = in_singles xs v in (
     both : (a b : ℤ) → a ≤ℤ b → b ≤ℤ a → a ≡ b
     both a b h g = omega (arith, ints, h, g)
 
-pub singles_rise : (f : ℤ) (xs : List ℤ) → Rising xs → AllByRecursion (λ v. (f ≤ℤ v) × (v ≤ℤ pos 1000000)) xs → LowsRise f (map single xs)
-unfolding Rising LowsRise
+pub singles_rise : (f : ℤ) (xs : List ℤ) → IsRising xs → AllByRecursion (λ v. (f ≤ℤ v) × (v ≤ℤ pos 1000000)) xs → LowsRise f (map single xs)
+unfolding IsRising LowsRise
 singles_rise f [] rise within = tt
 singles_rise f (x ∷ xs) rise within =
     (within.0.0, omega (arith, ints), within.0.1, singles_rise x xs rise.1 (both xs rise.0 within.1))
@@ -175,7 +175,7 @@ singles_rise f (x ∷ xs) rise within =
     both [] a b = tt
     both (y ∷ ys) a b = ((weak y a.0, b.0.1), both ys a.1 b.1)
 
-pub singles_same : (xs : List ℤ) (read own : List Interval) → Rising xs → read ≡ map single xs → ((v : ℤ) → Contains (values_of own) v ↔ InSome read v) →
+pub singles_same : (xs : List ℤ) (read own : List Interval) → IsRising xs → read ≡ map single xs → ((v : ℤ) → Contains (values_of own) v ↔ InSome read v) →
     AreRanges own → values_of own ≡ xs
 singles_same xs read own rise e union are = same_set (values_of own) xs (values_rise bottom own are.apart) rise (λ v. (
   λ has. (in_singles xs v).0 (subst (λ l. InSome l v) e ((union v).0 has)),
@@ -187,7 +187,7 @@ kept_singles keep d read is e = subst (LowsRise bottom) (sym e)
     (singles_rise bottom (filter (keeps keep) d) (rising_filter (keeps keep) d is.rising) (each_filter WithinLimits (keeps keep) d is.within))
 
 pub kept_renewed : (keep : Keep) (d : List ℤ) (read own : List Interval) → IsDomain d → read ≡ map single (filter (keeps keep) d) →
-    ((v : ℤ) → Contains (values_of own) v ↔ InSome read v) → AreRanges own → values_of own ≡ kept keep d
+    ((v : ℤ) → Contains (values_of own) v ↔ InSome read v) → AreRanges own → values_of own ≡ values_kept keep d
 kept_renewed keep d read own is e union are =
     singles_same (filter (keeps keep) d) read own (rising_filter (keeps keep) d is.rising) e union are ∙ kept_passes keep d
 

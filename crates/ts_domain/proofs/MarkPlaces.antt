@@ -14,7 +14,7 @@ use Rattle.ts_domain.specs.declared.marks.Mark.{Mark}
 use Rattle.ts_domain.specs.declared.marks.Node.{Node}
 use Rattle.ts_domain.specs.Marks.{gain, gain_of, MarksFrom, AreTold, numbers, own}
 use Rattle.ts_domain.specs.Kept.{values_up_to, values_above, values_without}
-use Rattle.ts_domain.specs.Values.{Rising}
+use Rattle.ts_domain.specs.Values.{IsRising}
 use Rattle.ts_domain.proofs.Sets.{contains_cons, contains_filter, each_contains, filter_alike, filter_both, filter_none, pass_all, rising_filter}
 use Rattle.ts_domain.proofs.Sets.{differs, two_sides, lt_true, le_true, le_false, lt_false}
 use Rattle.ts_domain.proofs.BoxLaws.{length-without, length-sides}
@@ -27,8 +27,8 @@ abbrev bottom : ℤ
 bottom = neg_ℤ (pos 1000000)
 
 -- the numbers below u, and those from u on
-halves : (u : ℤ) (xs : List ℤ) → Rising xs → xs ≡ filter (λ v. int_lt v u) xs ++ filter (λ v. int_le u v) xs
-unfolding Rising
+halves : (u : ℤ) (xs : List ℤ) → IsRising xs → xs ≡ filter (λ v. int_lt v u) xs ++ filter (λ v. int_le u v) xs
+unfolding IsRising
 halves u [] h = refl
 halves u (x ∷ xs) h = by_lt_z x u (λ lt. low lt (halves u xs h.1)) (λ ge. high ge)
   where
@@ -56,7 +56,7 @@ from_from a u all lt =
     both v = grind (arith, ints)
 
 -- marks below u change nothing from u on
-pub numbers_front : (all : List ℤ) (xs : List Mark) (u : ℤ) → Rising all → AllByRecursion (λ x. x.value <ℤ u) xs →
+pub numbers_front : (all : List ℤ) (xs : List Mark) (u : ℤ) → IsRising all → AllByRecursion (λ x. x.value <ℤ u) xs →
     numbers all xs ≡ numbers (filter (λ v. int_lt v u) all) xs ++ filter (λ v. int_le u v) all
 unfolding numbers
 numbers_front all [] u rise h = halves u all rise
@@ -95,7 +95,7 @@ each_back P [] ys h = h
 each_back P (x ∷ xs) ys h = each_back P xs ys h.1
 
 -- the numbers on both sides of one
-beside : (u : ℤ) (all : List ℤ) → Rising all →
+beside : (u : ℤ) (all : List ℤ) → IsRising all →
     length (filter (λ v. int_lt v u) all) + length (filter (λ v. int_lt u v) all) ≡ length (values_without u all)
 beside u all rise =
     let e : length (values_without u all) ≡ length (filter (λ v. int_le v (u -ℤ pos 1)) all ++ filter (λ v. int_lt u v) all) =
@@ -109,7 +109,7 @@ pub none_without : (u : ℤ) (all : List ℤ) → (Contains all u → ⊥) → v
 none_without u all none = pass_all (λ v. not (int_eq v u)) all (λ v has. differs u v (λ e. none (subst (Contains all) e has)))
 
 -- how many they are
-counted_first : (m : Mark) (all : List ℤ) (rest : ℕ) (g : ℤ) → Rising all → (IsTrue m.gone ↔ Contains all m.value) →
+counted_first : (m : Mark) (all : List ℤ) (rest : ℕ) (g : ℤ) → IsRising all → (IsTrue m.gone ↔ Contains all m.value) →
     pos rest ≡ pos (length (filter (λ v. int_lt m.value v) all)) +ℤ g →
     pos ((length (filter (λ v. int_lt v m.value) all) + length (own m)) + rest) ≡ pos (length all) +ℤ (gain_of m +ℤ g)
 unfolding gain_of
@@ -123,7 +123,7 @@ counted_first m all rest g rise told e = by_test m.gone refl
         let n = ap length (none_without m.value all (λ has. both_ways m.gone is (told.1 has))) in
         let s = beside m.value all rise in omega (arith, ints, n, s, e)
 
-pub length-numbers : (f : ℤ) (all : List ℤ) (ms : List Mark) → Rising all → MarksFrom f ms → AreTold all ms →
+pub length-numbers : (f : ℤ) (all : List ℤ) (ms : List Mark) → IsRising all → MarksFrom f ms → AreTold all ms →
     pos (length (numbers all ms)) ≡ pos (length all) +ℤ gain ms
 unfolding MarksFrom numbers gain
 length-numbers f all [] rise h told = omega (arith, ints)
@@ -163,7 +163,7 @@ pub record About (all : List ℤ) (t : ℤ) (xs : List Mark) (m : Mark) (ys : Li
   pub first : numbers (values_above t all) xs ≡ before ++ rest
   pub size : pos (length before) ≡ pos (length (filter (λ v. int_lt v m.value) (values_above t all))) +ℤ gain xs
 
-pub about : (all : List ℤ) (t : ℤ) (xs : List Mark) (m : Mark) (ys : List Mark) → Rising all → MarksFrom bottom (xs ++ m ∷ ys) → AreTold all (xs ++ m ∷ ys) →
+pub about : (all : List ℤ) (t : ℤ) (xs : List Mark) (m : Mark) (ys : List Mark) → IsRising all → MarksFrom bottom (xs ++ m ∷ ys) → AreTold all (xs ++ m ∷ ys) →
     AllByRecursion (λ x. t <ℤ x.value) (xs ++ m ∷ ys) → About all t xs m ys
 about all t xs m ys rise h told above =
     let A = values_above t all in let low = filter (λ v. int_lt v m.value) A in
@@ -245,7 +245,7 @@ between_counts t u all lt =
     upper v = grind (arith, ints)
 
 -- with no mark: the numbers above t stand behind those up to t
-up_and_above : (t : ℤ) (all : List ℤ) → Rising all → all ≡ values_up_to t all ++ values_above t all
+up_and_above : (t : ℤ) (all : List ℤ) → IsRising all → all ≡ values_up_to t all ++ values_above t all
 up_and_above t all rise =
     halves (t +ℤ pos 1) all rise ∙ ap (λ l. l ++ filter (λ v. int_le (t +ℤ pos 1) v) all) (filter_alike (λ v. int_lt v (t +ℤ pos 1)) (λ v. int_le v t) all
     (λ v has. lower v)) ∙ ap (λ l. values_up_to t all ++ l) (filter_alike (λ v. int_le (t +ℤ pos 1) v) (λ v. int_lt t v) all (λ v has. upper v))
@@ -261,7 +261,7 @@ get_back [] ys k r h = let same : k ≡ 0 + k = omega arith in ap (slice_get ys)
 get_back (x ∷ xs) ys k r h = let e : suc (length xs + k) ≡ length (x ∷ xs) + k = omega arith in
     get_back xs ys k r (ap (slice_get (x ∷ (xs ++ ys))) e ∙ h)
 
-pub place_plain : (t : ℤ) (all : List ℤ) (ms : List Mark) (n i : ℕ) → Rising all → ms ≡ [] → n ≡ length (values_up_to t all) →
+pub place_plain : (t : ℤ) (all : List ℤ) (ms : List Mark) (n i : ℕ) → IsRising all → ms ≡ [] → n ≡ length (values_up_to t all) →
     i < length (numbers (values_above t all) ms) → (n + i < length all) × ((r : ℤ) → slice_get all (n + i) ≡ Some r →
     slice_get (numbers (values_above t all) ms) i ≡ Some r)
 unfolding numbers
@@ -306,7 +306,7 @@ counted_between t u all a b ft fu lt ea eb =
     let b_is = eb ∙ ap (λ x. length (values_up_to x all)) (to_z-of_z w64 t ft) in
     (omega (arith, counts, a_is, b_is), omega (arith, counts, a_is, b_is))
 
-pub empty_place : (t : ℤ) (all : List ℤ) (ms : List Mark) (n i : ℕ) → SFits w64 t → Rising all → length all ≤ 2000003 → [] ≡ ms →
+pub empty_place : (t : ℤ) (all : List ℤ) (ms : List Mark) (n i : ℕ) → SFits w64 t → IsRising all → length all ≤ 2000003 → [] ≡ ms →
     n ≡ length (values_up_to (word t) all) → i < length (numbers (values_above t all) ms) → (n + i ≤ 2000003) × (n + i < length all) ×
     ((r : ℤ) → SFits w64 r → slice_get all (n + i) ≡ Some r → slice_get (numbers (values_above t all) ms) i ≡ Some (word r))
 empty_place t all ms n i fits rise few none e below =
@@ -329,7 +329,7 @@ pub record Standing (all : List ℤ) (t : ℤ) (self : List Mark) (n : Node) : T
   pub told : AreTold all (n.before ++ n.mark ∷ n.behind)
 
 pub standing : (all : List ℤ) (t : ℤ) (self : List Mark) (n : Node) → n.before ++ n.mark ∷ n.behind ≡ self →
-    MarksFrom bottom (n.before ++ n.mark ∷ n.behind) → Rising all → length all ≤ 2000003 → SFits w64 t → AreTold all self →
+    MarksFrom bottom (n.before ++ n.mark ∷ n.behind) → IsRising all → length all ≤ 2000003 → SFits w64 t → AreTold all self →
     AllByRecursion (λ m. t <ℤ m.value) self → Standing all t self n
 standing all t self n is h rise few fits told over =
     let told' = subst (AreTold all) (sym is) told in let over' = subst (AllByRecursion (λ m. t <ℤ m.value)) (sym is) over in record {

@@ -9,7 +9,7 @@ use Rattle.std.specs.Ordering.{int_eq}
 use Rattle.std.specs.List.{AllByRecursion}
 use Rattle.ts_domain.specs.declared.marks.Mark.{Mark}
 use Rattle.ts_domain.specs.Marks.{mark_at, MarksFrom, numbers, own}
-use Rattle.ts_domain.specs.Values.{Rising}
+use Rattle.ts_domain.specs.Values.{IsRising}
 use Rattle.ts_domain.proofs.Sets.{contains_cons, contains_filter, nothing_in, rising_filter, rising_append, each_from, true_lt, lt_true}
 use Rattle.ts_domain.proofs.MarkLaws.{mark_map, no_mark_at, all_from}
 
@@ -144,8 +144,8 @@ contains_numbers f all (m ∷ ms) v h =
         )
 
 -- they rise
-rising_end : (xs : List ℤ) (z : ℤ) → Rising xs → AllByRecursion (λ v. v <ℤ z) xs → Rising (xs ++ z ∷ [])
-unfolding Rising
+rising_end : (xs : List ℤ) (z : ℤ) → IsRising xs → AllByRecursion (λ v. v <ℤ z) xs → IsRising (xs ++ z ∷ [])
+unfolding IsRising
 rising_end [] z r lt = (tt, tt)
 rising_end (x ∷ xs) z r lt = (ended xs r.0, rising_end xs z r.1 lt.1)
   where
@@ -153,14 +153,14 @@ rising_end (x ∷ xs) z r lt = (ended xs r.0, rising_end xs z r.1 lt.1)
     ended [] h = (lt.0, tt)
     ended (y ∷ ys) h = (h.0, ended ys h.1)
 
-pub numbers_rise : (f : ℤ) (all : List ℤ) (ms : List Mark) → Rising all → MarksFrom f ms → Rising (numbers all ms)
-unfolding MarksFrom numbers Rising
+pub numbers_rise : (f : ℤ) (all : List ℤ) (ms : List Mark) → IsRising all → MarksFrom f ms → IsRising (numbers all ms)
+unfolding MarksFrom numbers IsRising
 numbers_rise f all [] rise h = rise
 numbers_rise f all (m ∷ ms) rise h =
     let high = over m all in
     let later = numbers_rise (m.value +ℤ pos 1) high ms (rising_filter (λ v. int_lt m.value v) all rise) h.2 in
     let low = below m all in
-    let first : Rising (low ++ own m) = by_test m.gone in
+    let first : IsRising (low ++ own m) = by_test m.gone in
     rising_append (low ++ own m) (numbers high ms) m.value first later
     (each_from (λ v. v ≤ℤ m.value) (low ++ own m) (λ v has. elim (Contains-append_cases low (own m) v has) [
       | inl a ↦ let lt = (in_below m all v a).1 in omega (arith, ints, lt)
@@ -172,7 +172,7 @@ numbers_rise f all (m ∷ ms) rise h =
     beyond v is = by_lt_z m.value v (λ lt. lt) (λ le. absurd (no_later m all ms v h.2 le (contains_numbers (m.value +ℤ pos 1) (over m all) ms v h.2)
         ((contains_numbers (m.value +ℤ pos 1) (over m all) ms v h.2).1 is)))
 
-    by_test : (b : Bool) → Rising (below m all ++ cond b [] (m.value ∷ []))
+    by_test : (b : Bool) → IsRising (below m all ++ cond b [] (m.value ∷ []))
     by_test true = rising_append (below m all) [] m.value (rising_filter (λ v. int_lt v m.value) all rise) tt
         (each_from (λ v. v ≤ℤ m.value) (below m all) (λ v a. let lt = (in_below m all v a).1 in omega (arith, ints, lt))) tt
     by_test false = rising_end (below m all) m.value (rising_filter (λ v. int_lt v m.value) all rise)

@@ -15,7 +15,7 @@ use Rattle.ts_domain.specs.declared.marks.Mark.{Mark}
 use Rattle.ts_domain.specs.Marks.{gain, mark_at, flip_mark, numbers, put_back}
 use Rattle.ts_domain.specs.Pieces.{is_in, values_in, IsMarked}
 use Rattle.ts_domain.specs.Kept.{values_above, values_without}
-use Rattle.ts_domain.specs.Values.{Rising, IsDomain, WithinLimits, values_of, RangesFrom}
+use Rattle.ts_domain.specs.Values.{IsRising, IsDomain, WithinLimits, values_of, RangesFrom}
 use Rattle.ts_domain.proofs.Sets.{contains_cons, nothing_in, each_contains, each_filter, rising_filter, pass_all, lt_true}
 use Rattle.ts_domain.proofs.Ranges.{values_rise, values_within, few_values}
 use Rattle.ts_domain.proofs.PieceLaws.{contains_in, low_in, high_in}
@@ -28,7 +28,7 @@ abbrev bottom : ℤ
 bottom = neg_ℤ (pos 1000000)
 
 -- the numbers of the ranges in the piece
-pub base_rises : (rs : List Interval) (p : Interval) → RangesFrom bottom rs → Rising (values_in (values_of rs) p)
+pub base_rises : (rs : List Interval) (p : Interval) → RangesFrom bottom rs → IsRising (values_in (values_of rs) p)
 unfolding values_in
 base_rises rs p apart = rising_filter (is_in p) (values_of rs) (values_rise bottom rs apart)
 
@@ -50,9 +50,9 @@ all_above t rs p apart low = pass_all (λ v. int_lt t v) (values_in (values_of r
     over v le = omega (arith, ints, low, le)
 
 -- one number alone, by the ends
-pub single_by_ends : (d : List ℤ) (l h : ℤ) (b : Bool) → Rising d → Contains d l → Contains d h → ((v : ℤ) → Contains d v → (l ≤ℤ v) × (v ≤ℤ h)) →
+pub single_by_ends : (d : List ℤ) (l h : ℤ) (b : Bool) → IsRising d → Contains d l → Contains d h → ((v : ℤ) → Contains d v → (l ≤ℤ v) × (v ≤ℤ h)) →
     (IsTrue b ↔ (l ≡ h)) → IsTrue b ↔ (length d ≡ 1)
-unfolding Rising
+unfolding IsRising
 single_by_ends [] l h b rise low high between test = absurd (nothing_in l low)
 single_by_ends (x ∷ []) l h b rise low high between test =
     let a = only x l low in let c = only x h high in (λ yes. refl, λ one. test.1 (sym a ∙ c))
@@ -200,8 +200,8 @@ module _ (rs : List Interval) (p : Interval) (ms : List Mark) (d : List ℤ) (vi
       single_by_ends d p.low p.high b marked_domain.rising (plain_low none) (plain_high none) (plain_between none) test
 
 -- the ends, by the places
-pub first_least : (d : List ℤ) (l v : ℤ) → Rising d → slice_get d 0 ≡ Some l → Contains d v → l ≤ℤ v
-unfolding Rising
+pub first_least : (d : List ℤ) (l v : ℤ) → IsRising d → slice_get d 0 ≡ Some l → Contains d v → l ≤ℤ v
+unfolding IsRising
 first_least [] l v rise at has = cc
 first_least (x ∷ xs) l v rise at has = let e : x ≡ l = cc in elim ((contains_cons x xs v).0 has) [
   | inl s ↦ omega (arith, ints, e, s)
@@ -213,8 +213,8 @@ at_contains [] n h at = cc
 at_contains (x ∷ xs) zero h at = (contains_cons x xs h).1 (inl cc)
 at_contains (x ∷ xs) (suc n) h at = (contains_cons x xs h).1 (inr (at_contains xs n h at))
 
-pub last_greatest : (d : List ℤ) (n : ℕ) (h v : ℤ) → Rising d → suc n ≡ length d → slice_get d n ≡ Some h → Contains d v → v ≤ℤ h
-unfolding Rising
+pub last_greatest : (d : List ℤ) (n : ℕ) (h v : ℤ) → IsRising d → suc n ≡ length d → slice_get d n ≡ Some h → Contains d v → v ≤ℤ h
+unfolding IsRising
 last_greatest [] n h v rise size at has = absurd (omega (arith, size))
 last_greatest (x ∷ []) zero h v rise size at has = let e : x ≡ h = cc in elim ((contains_cons x [] v).0 has)
     [ inl s ↦ omega (arith, ints, e, s) | inr there ↦ absurd (nothing_in v there) ]

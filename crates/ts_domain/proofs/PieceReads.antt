@@ -6,7 +6,7 @@ use Rattle.std.proofs.lemmas.List.{get_or_default}
 use Rattle.std.proofs.lemmas.Option.{slice_get_read}
 use Rattle.std.proofs.Math.Seq.{drop-cons}
 use Rattle.ts_domain.specs.declared.interval.Interval.{Interval}
-use Rattle.ts_domain.specs.Values.{natural, values_between, values_of, RangesFrom}
+use Rattle.ts_domain.specs.Values.{to_natural, values_between, values_of, RangesFrom}
 use Rattle.ts_domain.proofs.Runs.{natural_is, length-between, get_or-run}
 use Rattle.ts_domain.proofs.Ranges.{few_values}
 
@@ -28,7 +28,7 @@ pub at_between : (low high : ℤ) (k : ℕ) → low ≤ℤ high → k < length (
 unfolding values_between
 at_between low high k o b =
     let n = length-between low high (omega (arith, ints, o)) in let c = natural_is ((high +ℤ pos 1) -ℤ low) (omega (arith, ints, o)) in
-    get_or-run low (natural ((high +ℤ pos 1) -ℤ low)) k (pos 0) (omega (arith, ints, n, c, b))
+    get_or-run low (to_natural ((high +ℤ pos 1) -ℤ low)) k (pos 0) (omega (arith, ints, n, c, b))
 
 -- a number is the one at a place
 pub read_at : (vs : List ℤ) (at : ℕ) (v : ℤ) → at < length vs → get_or vs at (pos 0) ≡ v → slice_get vs at ≡ Some v

@@ -10,7 +10,7 @@ use Rattle.std.specs.List.Sorted.{IsPartitionPoint, IsPartitionedBy}
 use Rattle.ts_domain.specs.declared.interval.Interval.{Interval}
 use Rattle.ts_domain.specs.Values.{values_of, RangesFrom}
 use Rattle.ts_domain.specs.Union.{InSome}
-use Rattle.ts_domain.specs.Pieces.{leading, IsLastUpTo, IsFirstFrom, SomeUpTo, SomeFrom}
+use Rattle.ts_domain.specs.Pieces.{leading_count, IsLastUpTo, IsFirstFrom, SomeUpTo, SomeFrom}
 use Rattle.ts_domain.proofs.Ranges.{value_in_some, some_has_value, range_at}
 
 abbrev bottom : ℤ
@@ -18,16 +18,16 @@ bottom = neg_ℤ (pos 1000000)
 
 -- a partition point counts those that pass
 pub leading_at : (test : Interval → Bool) (rs : List Interval) (n : ℕ) → n ≤ length rs → IsPartitionPoint (λ r. test r ≡ true) (λ r. test r ≡ false) rs n →
-    n ≡ leading test rs
-unfolding leading
+    n ≡ leading_count test rs
+unfolding leading_count
 leading_at test [] n fits at = omega (arith, fits)
-leading_at test (r ∷ rs) zero fits at = sym (ap (λ b. cond b (suc (leading test rs)) zero) (at.1 0 r (omega arith) (omega arith)))
+leading_at test (r ∷ rs) zero fits at = sym (ap (λ b. cond b (suc (leading_count test rs)) zero) (at.1 0 r (omega arith) (omega arith)))
 leading_at test (r ∷ rs) (suc n) fits at =
     let rest = leading_at test rs n (omega (arith, fits)) (
       λ k d from to. at.0 (suc k) d (omega arith) (omega (arith, to)),
       λ k d from to. at.1 (suc k) d (omega (arith, from)) (omega (arith, to)),
     ) in
-    ap suc rest ∙ sym (ap (λ b. cond b (suc (leading test rs)) zero) (at.0 0 r (omega arith) (omega arith)))
+    ap suc rest ∙ sym (ap (λ b. cond b (suc (leading_count test rs)) zero) (at.0 0 r (omega arith) (omega arith)))
 
 -- the ends of a range are machine numbers
 pub small_fits : (z : ℤ) → neg_ℤ (pos 1000000) ≤ℤ z → z ≤ℤ pos 1000000 → SFits w64 z
@@ -80,8 +80,8 @@ in_from f v (r ∷ rs) a h = elim h [
 
 -- the place of a number
 pub place_has : (f v : ℤ) (rs : List Interval) (d : Interval) → RangesFrom f rs → InSome rs v →
-    (leading (λ r. int_lt r.high v) rs < length rs) × ((get_or rs (leading (λ r. int_lt r.high v) rs) d).low ≤ℤ v)
-unfolding RangesFrom InSome leading
+    (leading_count (λ r. int_lt r.high v) rs < length rs) × ((get_or rs (leading_count (λ r. int_lt r.high v) rs) d).low ≤ℤ v)
+unfolding RangesFrom InSome leading_count
 place_has f v [] d a h = absurd h
 place_has f v (r ∷ rs) d a h = by_test (int_lt r.high v) refl (place_has (r.high +ℤ pos 2) v rs d a.3)
   where
@@ -92,14 +92,14 @@ place_has f v (r ∷ rs) d a h = by_test (int_lt r.high v) refl (place_has (r.hi
     not_later x v e h = grind (arith, ints)
 
     by_test : (b : Bool) → int_lt r.high v ≡ b →
-        (InSome rs v → (leading (λ r. int_lt r.high v) rs < length rs) × ((get_or rs (leading (λ r. int_lt r.high v) rs) d).low ≤ℤ v)) →
-        let n = cond b (suc (leading (λ r. int_lt r.high v) rs)) zero in (n < length (r ∷ rs)) × ((get_or (r ∷ rs) n d).low ≤ℤ v)
+        (InSome rs v → (leading_count (λ r. int_lt r.high v) rs < length rs) × ((get_or rs (leading_count (λ r. int_lt r.high v) rs) d).low ≤ℤ v)) →
+        let n = cond b (suc (leading_count (λ r. int_lt r.high v) rs)) zero in (n < length (r ∷ rs)) × ((get_or (r ∷ rs) n d).low ≤ℤ v)
     by_test true e later = elim h [ inl here ↦ absurd (not_in r.high v e here.1) | inr there ↦ let rest = later there in (omega (arith, rest.0), rest.1) ]
     by_test false e later = elim h [ inl here ↦ (omega arith, here.0) | inr there ↦ absurd (not_later r.high v e (in_from (r.high +ℤ pos 2) v rs a.3 there)) ]
 
-pub has_place : (v : ℤ) (rs : List Interval) (d : Interval) → leading (λ r. int_lt r.high v) rs < length rs →
-    (get_or rs (leading (λ r. int_lt r.high v) rs) d).low ≤ℤ v → InSome rs v
-unfolding InSome leading
+pub has_place : (v : ℤ) (rs : List Interval) (d : Interval) → leading_count (λ r. int_lt r.high v) rs < length rs →
+    (get_or rs (leading_count (λ r. int_lt r.high v) rs) d).low ≤ℤ v → InSome rs v
+unfolding InSome leading_count
 has_place v [] d below low = absurd (omega (arith, below))
 has_place v (r ∷ rs) d below low = by_test (int_lt r.high v) refl (has_place v rs d) below low
   where
@@ -107,12 +107,12 @@ has_place v (r ∷ rs) d below low = by_test (int_lt r.high v) refl (has_place v
     reach x v e = grind (arith, ints)
 
     by_test : (b : Bool) → int_lt r.high v ≡ b →
-        (leading (λ r. int_lt r.high v) rs < length rs → (get_or rs (leading (λ r. int_lt r.high v) rs) d).low ≤ℤ v → InSome rs v) →
-        let n = cond b (suc (leading (λ r. int_lt r.high v) rs)) zero in n < length (r ∷ rs) → (get_or (r ∷ rs) n d).low ≤ℤ v → InSome (r ∷ rs) v
+        (leading_count (λ r. int_lt r.high v) rs < length rs → (get_or rs (leading_count (λ r. int_lt r.high v) rs) d).low ≤ℤ v → InSome rs v) →
+        let n = cond b (suc (leading_count (λ r. int_lt r.high v) rs)) zero in n < length (r ∷ rs) → (get_or (r ∷ rs) n d).low ≤ℤ v → InSome (r ∷ rs) v
     by_test true e later below low = inr (later (omega (arith, below)) low)
     by_test false e later below low = inl (low, reach r.high v e)
 
-pub has_is : (v : ℤ) (rs : List Interval) (d : Interval) (n : ℕ) → RangesFrom bottom rs → n ≡ leading (λ r. int_lt r.high v) rs →
+pub has_is : (v : ℤ) (rs : List Interval) (d : Interval) (n : ℕ) → RangesFrom bottom rs → n ≡ leading_count (λ r. int_lt r.high v) rs →
     ((n < length rs) × ((get_or rs n d).low ≤ℤ v)) ↔ Contains (values_of rs) v
 has_is v rs d n a is = (
   λ h. some_has_value rs v (has_place v rs d (subst (λ n. n < length rs) is h.0) (subst (λ n. (get_or rs n d).low ≤ℤ v) is h.1)),
@@ -126,15 +126,15 @@ pub record LastIn (rs : List Interval) (t v : ℤ) : Type 0 where
   pub within : v ≤ℤ t
   pub greatest : (w : ℤ) → InSome rs w → w ≤ℤ t → w ≤ℤ v
 
-none_begun : (f t : ℤ) (rs : List Interval) (w : ℤ) → RangesFrom f rs → leading (λ r. int_le r.low t) rs ≡ 0 → InSome rs w → w ≤ℤ t → ⊥
-unfolding RangesFrom InSome leading
+none_begun : (f t : ℤ) (rs : List Interval) (w : ℤ) → RangesFrom f rs → leading_count (λ r. int_le r.low t) rs ≡ 0 → InSome rs w → w ≤ℤ t → ⊥
+unfolding RangesFrom InSome leading_count
 none_begun f t [] w a e h le = h
 none_begun f t (r ∷ rs) w a e h le = by_test (int_le r.low t) refl e
   where
     above : (x t : ℤ) → int_le x t ≡ false → t <ℤ x
     above x t e = grind (arith, ints)
 
-    by_test : (b : Bool) → int_le r.low t ≡ b → cond b (suc (leading (λ r. int_le r.low t) rs)) zero ≡ 0 → ⊥
+    by_test : (b : Bool) → int_le r.low t ≡ b → cond b (suc (leading_count (λ r. int_le r.low t) rs)) zero ≡ 0 → ⊥
     by_test true e none = cc
     by_test false e none = let up = above r.low t e in
         elim h [
@@ -143,16 +143,16 @@ none_begun f t (r ∷ rs) w a e h le = by_test (int_le r.low t) refl e
               omega (arith, ints, later, up, a.1, le)
         ]
 
-pub last_in : (f t : ℤ) (rs : List Interval) (k : ℕ) (d : Interval) → RangesFrom f rs → leading (λ r. int_le r.low t) rs ≡ suc k →
+pub last_in : (f t : ℤ) (rs : List Interval) (k : ℕ) (d : Interval) → RangesFrom f rs → leading_count (λ r. int_le r.low t) rs ≡ suc k →
     LastIn rs t (int_min (get_or rs k d).high t)
-unfolding RangesFrom InSome leading
+unfolding RangesFrom InSome leading_count
 last_in f t [] k d a e = absurd (omega (arith, e))
 last_in f t (r ∷ rs) k d a e = by_test (int_le r.low t) refl e (λ k. last_in (r.high +ℤ pos 2) t rs k d a.3)
   where
     low_min : (x h t : ℤ) → x ≤ℤ h → int_le x t ≡ true → x ≤ℤ int_min h t
     low_min x h t le e = grind (arith, ints)
 
-    at_first : leading (λ r. int_le r.low t) rs ≡ 0 → int_le r.low t ≡ true → LastIn (r ∷ rs) t (int_min r.high t)
+    at_first : leading_count (λ r. int_le r.low t) rs ≡ 0 → int_le r.low t ≡ true → LastIn (r ∷ rs) t (int_min r.high t)
     at_first none e = record {
       has = inl (low_min r.low r.high t a.1 e, grind (arith, ints));
       within = grind (arith, ints);
@@ -174,27 +174,28 @@ last_in f t (r ∷ rs) k d a e = by_test (int_le r.low t) refl e (λ k. last_in 
       ];
     }
 
-    go : (k : ℕ) → leading (λ r. int_le r.low t) rs ≡ k → int_le r.low t ≡ true →
-        ((k : ℕ) → leading (λ r. int_le r.low t) rs ≡ suc k → LastIn rs t (int_min (get_or rs k d).high t)) →
+    go : (k : ℕ) → leading_count (λ r. int_le r.low t) rs ≡ k → int_le r.low t ≡ true →
+        ((k : ℕ) → leading_count (λ r. int_le r.low t) rs ≡ suc k → LastIn rs t (int_min (get_or rs k d).high t)) →
         LastIn (r ∷ rs) t (int_min (get_or (r ∷ rs) k d).high t)
     go zero is e later = at_first is e
     go (suc k) is e later = one_later (int_min (get_or rs k d).high t) (later k is)
 
-    by_test : (b : Bool) → int_le r.low t ≡ b → cond b (suc (leading (λ r. int_le r.low t) rs)) zero ≡ suc k →
-        ((k : ℕ) → leading (λ r. int_le r.low t) rs ≡ suc k → LastIn rs t (int_min (get_or rs k d).high t)) →
+    by_test : (b : Bool) → int_le r.low t ≡ b → cond b (suc (leading_count (λ r. int_le r.low t) rs)) zero ≡ suc k →
+        ((k : ℕ) → leading_count (λ r. int_le r.low t) rs ≡ suc k → LastIn rs t (int_min (get_or rs k d).high t)) →
         LastIn (r ∷ rs) t (int_min (get_or (r ∷ rs) k d).high t)
     by_test true e some later = go k (omega (arith, some)) e later
     by_test false e some later = absurd (omega (arith, some))
 
-pub some_begun : (rs : List Interval) (t : ℤ) (n : ℕ) → RangesFrom bottom rs → SomeUpTo (values_of rs) t → n ≡ leading (λ r. int_le r.low t) rs → n ≡ 0 → ⊥
+pub some_begun : (rs : List Interval) (t : ℤ) (n : ℕ) → RangesFrom bottom rs → SomeUpTo (values_of rs) t →
+    n ≡ leading_count (λ r. int_le r.low t) rs → n ≡ 0 → ⊥
 some_begun rs t n a some is none = none_begun bottom t rs some.0 a (sym is ∙ none) (value_in_some bottom rs some.0 a some.1) some.2
 
-pub begun_some : (rs : List Interval) (t : ℤ) (n : ℕ) → RangesFrom bottom rs → SomeUpTo (values_of rs) t → n ≡ leading (λ r. int_le r.low t) rs → 1 ≤ n
+pub begun_some : (rs : List Interval) (t : ℤ) (n : ℕ) → RangesFrom bottom rs → SomeUpTo (values_of rs) t → n ≡ leading_count (λ r. int_le r.low t) rs → 1 ≤ n
 begun_some rs t zero a some is = absurd (some_begun rs t zero a some is refl)
 begun_some rs t (suc n) a some is = omega arith
 
 pub last_is : (rs : List Interval) (t : ℤ) (n : ℕ) (d : Interval) (v : ℤ) → RangesFrom bottom rs → SomeUpTo (values_of rs) t →
-    n ≡ leading (λ r. int_le r.low t) rs → n ≤ length rs → SFits w64 t → SFits w64 v →
+    n ≡ leading_count (λ r. int_le r.low t) rs → n ≤ length rs → SFits w64 t → SFits w64 v →
     v ≡ int_min (to_z w64 (of_z w64 (get_or rs (n - 1) d).high)) (to_z w64 (of_z w64 t)) → IsLastUpTo (values_of rs) t (to_z w64 (of_z w64 v))
 last_is rs t zero d v a some is within fits fit e = absurd (some_begun rs t zero a some is refl)
 last_is rs t (suc k) d v a some is within fits fit e =
@@ -214,8 +215,8 @@ pub record FirstIn (rs : List Interval) (t v : ℤ) : Type 0 where
   pub least_one : (w : ℤ) → InSome rs w → t ≤ℤ w → v ≤ℤ w
 
 pub first_in : (f t : ℤ) (rs : List Interval) (d : Interval) (w : ℤ) → RangesFrom f rs → InSome rs w → t ≤ℤ w →
-    (leading (λ r. int_lt r.high t) rs < length rs) × FirstIn rs t (int_max (get_or rs (leading (λ r. int_lt r.high t) rs) d).low t)
-unfolding RangesFrom InSome leading
+    (leading_count (λ r. int_lt r.high t) rs < length rs) × FirstIn rs t (int_max (get_or rs (leading_count (λ r. int_lt r.high t) rs) d).low t)
+unfolding RangesFrom InSome leading_count
 first_in f t [] d w a h le = absurd h
 first_in f t (r ∷ rs) d w a h le = by_test (int_lt r.high t) refl (λ there. first_in (r.high +ℤ pos 2) t rs d w a.3 there le)
   where
@@ -226,8 +227,9 @@ first_in f t (r ∷ rs) d w a h le = by_test (int_lt r.high t) refl (λ there. f
     reach x l t e le = grind (arith, ints)
 
     by_test : (b : Bool) → int_lt r.high t ≡ b →
-        (InSome rs w → (leading (λ r. int_lt r.high t) rs < length rs) × FirstIn rs t (int_max (get_or rs (leading (λ r. int_lt r.high t) rs) d).low t)) →
-        let n = cond b (suc (leading (λ r. int_lt r.high t) rs)) zero in (n < length (r ∷ rs)) × FirstIn (r ∷ rs) t (int_max (get_or (r ∷ rs) n d).low t)
+        (InSome rs w → (leading_count (λ r. int_lt r.high t) rs < length rs)
+            × FirstIn rs t (int_max (get_or rs (leading_count (λ r. int_lt r.high t) rs) d).low t)) →
+        let n = cond b (suc (leading_count (λ r. int_lt r.high t) rs)) zero in (n < length (r ∷ rs)) × FirstIn (r ∷ rs) t (int_max (get_or (r ∷ rs) n d).low t)
     by_test true e later =
         elim h [
           | inl here ↦ absurd (beyond r.high t w e here.1 le)
@@ -254,11 +256,11 @@ first_in f t (r ∷ rs) d w a h le = by_test (int_lt r.high t) refl (λ there. f
     )
 
 pub ended_some : (rs : List Interval) (t : ℤ) (n : ℕ) (d : Interval) → RangesFrom bottom rs → SomeFrom (values_of rs) t →
-    n ≡ leading (λ r. int_lt r.high t) rs → n < length rs
+    n ≡ leading_count (λ r. int_lt r.high t) rs → n < length rs
 ended_some rs t n d a some is = subst (λ n. n < length rs) (sym is) (first_in bottom t rs d some.0 a (value_in_some bottom rs some.0 a some.1) some.2).0
 
 pub first_is : (rs : List Interval) (t : ℤ) (n : ℕ) (d : Interval) (v : ℤ) → RangesFrom bottom rs → SomeFrom (values_of rs) t →
-    n ≡ leading (λ r. int_lt r.high t) rs → SFits w64 t → SFits w64 v →
+    n ≡ leading_count (λ r. int_lt r.high t) rs → SFits w64 t → SFits w64 v →
     v ≡ int_max (to_z w64 (of_z w64 (get_or rs n d).low)) (to_z w64 (of_z w64 t)) → IsFirstFrom (values_of rs) t (to_z w64 (of_z w64 v))
 first_is rs t n d v a some is fits fit e =
     let f = first_in bottom t rs d some.0 a (value_in_some bottom rs some.0 a some.1) some.2 in
@@ -270,7 +272,7 @@ first_is rs t n d v a some is fits fit e =
     (record { has = some_has_value rs v l.has; within = l.within; least = λ w h le. l.least_one w (value_in_some bottom rs w a h) le })
 
 -- the test for a number, in machine numbers
-pub has_then : (v : ℤ) (rs : List Interval) (d : Interval) (n : ℕ) → RangesFrom bottom rs → n ≡ leading (λ r. int_lt r.high v) rs → n < length rs →
+pub has_then : (v : ℤ) (rs : List Interval) (d : Interval) (n : ℕ) → RangesFrom bottom rs → n ≡ leading_count (λ r. int_lt r.high v) rs → n < length rs →
     SFits w64 v →
     IsTrue (int_le (to_z w64 (of_z w64 (get_or rs n d).low)) (to_z w64 (of_z w64 v))) ↔ Contains (values_of rs) v
 has_then v rs d n a is below fits =
@@ -286,7 +288,7 @@ has_then v rs d n a is below fits =
     to_test : (x y : ℤ) → x ≤ℤ y → int_le x y ≡ true
     to_test x y h = grind (arith, ints)
 
-pub has_else : (v : ℤ) (rs : List Interval) (d : Interval) (n : ℕ) → RangesFrom bottom rs → n ≡ leading (λ r. int_lt r.high v) rs → length rs ≤ n →
+pub has_else : (v : ℤ) (rs : List Interval) (d : Interval) (n : ℕ) → RangesFrom bottom rs → n ≡ leading_count (λ r. int_lt r.high v) rs → length rs ≤ n →
     IsTrue (nat_lt n (length rs)) ↔ Contains (values_of rs) v
 has_else v rs d n a is past = (λ yes. absurd (not_below n (length rs) past yes), λ has. absurd (omega (arith, ((has_is v rs d n a is).1 has).0, past)))
   where
@@ -294,10 +296,10 @@ has_else v rs d n a is past = (λ yes. absurd (not_below n (length rs) past yes)
     not_below x y h e = grind arith
 
 -- the counts, told of a machine number
-pub high_count : (t : ℤ) (rs : List Interval) (n : ℕ) → SFits w64 t → n ≡ leading (λ r. int_lt r.high (to_z w64 (of_z w64 t))) rs →
-    n ≡ leading (λ r. int_lt r.high t) rs
-high_count t rs n fits e = e ∙ ap (λ t. leading (λ r. int_lt r.high t) rs) (to_z-of_z w64 t fits)
+pub high_count : (t : ℤ) (rs : List Interval) (n : ℕ) → SFits w64 t → n ≡ leading_count (λ r. int_lt r.high (to_z w64 (of_z w64 t))) rs →
+    n ≡ leading_count (λ r. int_lt r.high t) rs
+high_count t rs n fits e = e ∙ ap (λ t. leading_count (λ r. int_lt r.high t) rs) (to_z-of_z w64 t fits)
 
-pub low_count : (t : ℤ) (rs : List Interval) (n : ℕ) → SFits w64 t → n ≡ leading (λ r. int_le r.low (to_z w64 (of_z w64 t))) rs →
-    n ≡ leading (λ r. int_le r.low t) rs
-low_count t rs n fits e = e ∙ ap (λ t. leading (λ r. int_le r.low t) rs) (to_z-of_z w64 t fits)
+pub low_count : (t : ℤ) (rs : List Interval) (n : ℕ) → SFits w64 t → n ≡ leading_count (λ r. int_le r.low (to_z w64 (of_z w64 t))) rs →
+    n ≡ leading_count (λ r. int_le r.low t) rs
+low_count t rs n fits e = e ∙ ap (λ t. leading_count (λ r. int_le r.low t) rs) (to_z-of_z w64 t fits)

@@ -5,7 +5,7 @@ use Rattle.std.proofs.lemmas.List.Elements.{Contains-append_cases, Contains-appe
 use Rattle.std.specs.Prelude.{Contains}
 use Rattle.std.specs.List.{AllByRecursion}
 use Rattle.ts_domain.specs.declared.interval.Interval.{Interval}
-use Rattle.ts_domain.specs.Values.{natural, values_between, values_of, Rising, RangesFrom, AreRanges, IsDomain}
+use Rattle.ts_domain.specs.Values.{to_natural, values_between, values_of, IsRising, RangesFrom, AreRanges, IsDomain}
 use Rattle.ts_domain.specs.Union.{InSome}
 use Rattle.ts_domain.proofs.Sets.{all_append}
 use Rattle.ts_domain.proofs.Runs.{natural_is, length-between, in_between, between_has, rising_run, all_run}
@@ -45,18 +45,18 @@ values_within f [] a = tt
 values_within f (r ∷ rs) a =
     let c = natural_is ((r.high +ℤ pos 1) -ℤ r.low) (omega (arith, ints, a.1)) in
     all_append (λ y. (f ≤ℤ y) × (y ≤ℤ pos 1000000)) (values_between r.low r.high) (values_of rs)
-    (all_run f r.low (natural ((r.high +ℤ pos 1) -ℤ r.low)) (pos 1000000) a.0 (omega (arith, ints, c, a.2)))
+    (all_run f r.low (to_natural ((r.high +ℤ pos 1) -ℤ r.low)) (pos 1000000) a.0 (omega (arith, ints, c, a.2)))
     (all_from f (r.high +ℤ pos 2) (values_of rs) (omega (arith, ints, a.0, a.1)) (values_within (r.high +ℤ pos 2) rs a.3))
 
 from_on : (f g : ℤ) (xs : List ℤ) → f ≤ℤ g → AllByRecursion (λ y. (g ≤ℤ y) × (y ≤ℤ pos 1000000)) xs → AllByRecursion (λ y. f ≤ℤ y) xs
 from_on f g [] h a = tt
 from_on f g (x ∷ xs) h a = (omega (arith, ints, h, a.0.0), from_on f g xs h a.1)
 
-pub values_rise : (f : ℤ) (rs : List Interval) → RangesFrom f rs → Rising (values_of rs)
-unfolding RangesFrom values_of values_between Rising
+pub values_rise : (f : ℤ) (rs : List Interval) → RangesFrom f rs → IsRising (values_of rs)
+unfolding RangesFrom values_of values_between IsRising
 values_rise f [] a = tt
 values_rise f (r ∷ rs) a =
-    let n = natural ((r.high +ℤ pos 1) -ℤ r.low) in
+    let n = to_natural ((r.high +ℤ pos 1) -ℤ r.low) in
     let c = natural_is ((r.high +ℤ pos 1) -ℤ r.low) (omega (arith, ints, a.1)) in
     rising_run r.low n (values_of rs)
     (from_on (r.low +ℤ pos n) (r.high +ℤ pos 2) (values_of rs) (omega (arith, ints, c)) (values_within (r.high +ℤ pos 2) rs a.3))

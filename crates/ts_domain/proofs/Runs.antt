@@ -3,9 +3,9 @@ use Rattle.std.proofs.Common.{◌≡◌, ℕ, zero, suc, ◌+◌, ◌<◌, ℤ, 
 use Rattle.std.proofs.lemmas.Int.{ints}
 use Rattle.std.specs.Prelude.{filter, Contains}
 use Rattle.std.specs.List.{AllByRecursion}
-use Rattle.ts_domain.specs.Values.{natural, run, values_between, Rising}
+use Rattle.ts_domain.specs.Values.{to_natural, run, values_between, IsRising}
 
-pub natural_is : (z : ℤ) → pos 0 ≤ℤ z → pos (natural z) ≡ z
+pub natural_is : (z : ℤ) → pos 0 ≤ℤ z → pos (to_natural z) ≡ z
 natural_is (pos n) h = refl
 natural_is (negsuc n) h = absurd (omega (arith, ints, h))
 
@@ -60,9 +60,9 @@ in_run low n v h =
 pub run_has : (low : ℤ) (n : ℕ) (v : ℤ) → low ≤ℤ v → v <ℤ (low +ℤ pos n) → Contains (run low n) v
 run_has low n v from to =
     let k = natural_is (v -ℤ low) (omega (arith, ints, from)) in
-    let below : natural (v -ℤ low) < n = omega (arith, ints, k, to) in
-    let at : low +ℤ pos (natural (v -ℤ low)) ≡ v = omega (arith, ints, k) in
-    (natural (v -ℤ low), omega (arith, below, length-run low n), get_or-run low n (natural (v -ℤ low)) v below ∙ at)
+    let below : to_natural (v -ℤ low) < n = omega (arith, ints, k, to) in
+    let at : low +ℤ pos (to_natural (v -ℤ low)) ≡ v = omega (arith, ints, k) in
+    (to_natural (v -ℤ low), omega (arith, below, length-run low n), get_or-run low n (to_natural (v -ℤ low)) v below ∙ at)
 
 -- every number of a range is above a number below it, and so are those after it
 above_run : (b low : ℤ) (n : ℕ) (ys : List ℤ) → b <ℤ low → AllByRecursion (λ y. (low +ℤ pos n) ≤ℤ y) ys → AllByRecursion (λ y. b <ℤ y) (run low n ++ ys)
@@ -74,8 +74,8 @@ above_run b low (suc n) ys h all = (h, above_run b (low +ℤ pos 1) n ys (omega 
     end_same : (low : ℤ) (n : ℕ) → (low +ℤ pos 1) +ℤ pos n ≡ low +ℤ pos (suc n)
     end_same low n = omega (arith, ints)
 
-pub rising_run : (low : ℤ) (n : ℕ) (ys : List ℤ) → AllByRecursion (λ y. (low +ℤ pos n) ≤ℤ y) ys → Rising ys → Rising (run low n ++ ys)
-unfolding run Rising
+pub rising_run : (low : ℤ) (n : ℕ) (ys : List ℤ) → AllByRecursion (λ y. (low +ℤ pos n) ≤ℤ y) ys → IsRising ys → IsRising (run low n ++ ys)
+unfolding run IsRising
 rising_run low zero ys all h = h
 rising_run low (suc n) ys all h =
     let e : low +ℤ pos (suc n) ≡ (low +ℤ pos 1) +ℤ pos n = omega (arith, ints) in
@@ -90,40 +90,41 @@ all_run from low (suc n) to f t = ((f, omega (arith, ints, t)), all_run from (lo
 -- how many numbers a range has
 pub length-between : (low high : ℤ) → low ≤ℤ (high +ℤ pos 1) → pos (length (values_between low high)) ≡ (high +ℤ pos 1) -ℤ low
 unfolding values_between
-length-between low high h = ap pos (length-run low (natural ((high +ℤ pos 1) -ℤ low))) ∙ natural_is ((high +ℤ pos 1) -ℤ low) (omega (arith, ints, h))
+length-between low high h = ap pos (length-run low (to_natural ((high +ℤ pos 1) -ℤ low))) ∙ natural_is ((high +ℤ pos 1) -ℤ low) (omega (arith, ints, h))
 
 pub between_split : (low t high : ℤ) → low ≤ℤ (t +ℤ pos 1) → t ≤ℤ high → values_between low high ≡ values_between low t ++ values_between (t +ℤ pos 1) high
 unfolding values_between
 between_split low t high from to =
     let a = natural_is ((t +ℤ pos 1) -ℤ low) (omega (arith, ints, from)) in let b = natural_is ((high +ℤ pos 1) -ℤ (t +ℤ pos 1)) (omega (arith, ints, to)) in
     let c = natural_is ((high +ℤ pos 1) -ℤ low) (omega (arith, ints, from, to)) in
-    let e : natural ((high +ℤ pos 1) -ℤ low) ≡ natural ((t +ℤ pos 1) -ℤ low) + natural ((high +ℤ pos 1) -ℤ (t +ℤ pos 1)) = omega (arith, ints, a, b, c) in
-    let f : low +ℤ pos (natural ((t +ℤ pos 1) -ℤ low)) ≡ t +ℤ pos 1 = omega (arith, ints, a) in
-    ap (run low) e ∙ run_split low (natural ((t +ℤ pos 1) -ℤ low)) (natural ((high +ℤ pos 1) -ℤ (t +ℤ pos 1))) ∙
-    ap (λ x. run low (natural ((t +ℤ pos 1) -ℤ low)) ++ run x (natural ((high +ℤ pos 1) -ℤ (t +ℤ pos 1)))) f
+    let e : to_natural ((high +ℤ pos 1) -ℤ low) ≡ to_natural ((t +ℤ pos 1) -ℤ low) + to_natural ((high +ℤ pos 1) -ℤ (t +ℤ pos 1)) =
+        omega (arith, ints, a, b, c) in
+    let f : low +ℤ pos (to_natural ((t +ℤ pos 1) -ℤ low)) ≡ t +ℤ pos 1 = omega (arith, ints, a) in
+    ap (run low) e ∙ run_split low (to_natural ((t +ℤ pos 1) -ℤ low)) (to_natural ((high +ℤ pos 1) -ℤ (t +ℤ pos 1))) ∙
+    ap (λ x. run low (to_natural ((t +ℤ pos 1) -ℤ low)) ++ run x (to_natural ((high +ℤ pos 1) -ℤ (t +ℤ pos 1)))) f
 
 pub in_between : (low high v : ℤ) → low ≤ℤ (high +ℤ pos 1) → Contains (values_between low high) v → (low ≤ℤ v) × (v ≤ℤ high)
 unfolding values_between
 in_between low high v h has =
     let c = natural_is ((high +ℤ pos 1) -ℤ low) (omega (arith, ints, h)) in
-    let i = in_run low (natural ((high +ℤ pos 1) -ℤ low)) v has in (i.0, omega (arith, ints, c, i.1))
+    let i = in_run low (to_natural ((high +ℤ pos 1) -ℤ low)) v has in (i.0, omega (arith, ints, c, i.1))
 
 pub between_has : (low high v : ℤ) → low ≤ℤ v → v ≤ℤ high → Contains (values_between low high) v
 unfolding values_between
 between_has low high v from to =
     let c = natural_is ((high +ℤ pos 1) -ℤ low) (omega (arith, ints, from, to)) in
-    run_has low (natural ((high +ℤ pos 1) -ℤ low)) v from (omega (arith, ints, c, to))
+    run_has low (to_natural ((high +ℤ pos 1) -ℤ low)) v from (omega (arith, ints, c, to))
 
 pub all_between : (test : ℤ → Bool) (low high : ℤ) → low ≤ℤ (high +ℤ pos 1) → ((v : ℤ) → low ≤ℤ v → v ≤ℤ high → test v ≡ true) →
     filter test (values_between low high) ≡ values_between low high
 unfolding values_between
 all_between test low high h each =
     let c = natural_is ((high +ℤ pos 1) -ℤ low) (omega (arith, ints, h)) in
-    all_pass test low (natural ((high +ℤ pos 1) -ℤ low)) (λ v from to. each v from (omega (arith, ints, c, to)))
+    all_pass test low (to_natural ((high +ℤ pos 1) -ℤ low)) (λ v from to. each v from (omega (arith, ints, c, to)))
 
 pub none_between : (test : ℤ → Bool) (low high : ℤ) → low ≤ℤ (high +ℤ pos 1) → ((v : ℤ) → low ≤ℤ v → v ≤ℤ high → test v ≡ false) →
     filter test (values_between low high) ≡ []
 unfolding values_between
 none_between test low high h each =
     let c = natural_is ((high +ℤ pos 1) -ℤ low) (omega (arith, ints, h)) in
-    none_pass test low (natural ((high +ℤ pos 1) -ℤ low)) (λ v from to. each v from (omega (arith, ints, c, to)))
+    none_pass test low (to_natural ((high +ℤ pos 1) -ℤ low)) (λ v from to. each v from (omega (arith, ints, c, to)))

@@ -3,11 +3,11 @@ use Rattle.std.proofs.Common.{◌≡◌, ℤ, ◌≤ℤ◌, ◌<ℤ◌, inl, inr
 use Rattle.std.proofs.lemmas.Int.{ints}
 use Rattle.std.specs.Prelude.{Contains}
 use Rattle.std.specs.List.{AllByRecursion}
-use Rattle.ts_domain.specs.Values.{Rising}
+use Rattle.ts_domain.specs.Values.{IsRising}
 use Rattle.ts_domain.proofs.Sets.{contains_cons, nothing_in, each_contains}
 
-pub same_set : (xs ys : List ℤ) → Rising xs → Rising ys → ((v : ℤ) → Contains xs v ↔ Contains ys v) → xs ≡ ys
-unfolding Rising
+pub same_set : (xs ys : List ℤ) → IsRising xs → IsRising ys → ((v : ℤ) → Contains xs v ↔ Contains ys v) → xs ≡ ys
+unfolding IsRising
 same_set [] [] rise rise' same = refl
 same_set [] (y ∷ ys) rise rise' same = absurd (nothing_in y ((same y).1 ((contains_cons y ys y).1 (inl refl))))
 same_set (x ∷ xs) [] rise rise' same = absurd (nothing_in x ((same x).0 ((contains_cons x xs x).1 (inl refl))))

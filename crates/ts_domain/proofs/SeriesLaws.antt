@@ -4,7 +4,7 @@ use Rattle.std.specs.Prelude.{◌≡◌, ◌↔◌, ℤ, ◌<ℤ◌, List, [], �
 use Rattle.std.specs.List.{AllByRecursion, flat_map}
 use Rattle.std.proofs.Common.{sym, ◌∙◌, ap, subst, inl, inr, arith, ⊎_elim}
 use Rattle.std.proofs.lemmas.List.Elements.{Contains-append_left, Contains-append_right, Contains-append_cases}
-use Rattle.ts_domain.specs.Values.{Rising}
+use Rattle.ts_domain.specs.Values.{IsRising}
 use Rattle.ts_domain.specs.BoxSeries.{InBox, IsBox, IsBefore, AreRising, all_series}
 use Rattle.ts_domain.proofs.Sets.{contains_cons, all_append}
 
@@ -100,8 +100,8 @@ all_below : (v : ℤ) (xs : List (List ℤ)) (d : List ℤ) (rest : List (List �
 all_below v [] d rest h = tt
 all_below v (x ∷ xs) d rest h = (below_each v x d rest h, all_below v xs d rest h)
 
-each_begun : (d : List ℤ) (rest : List (List ℤ)) → Rising d → AreRising rest → AreRising (flat_map (λ v. map (λ vs. v ∷ vs) rest) d)
-unfolding Rising
+each_begun : (d : List ℤ) (rest : List (List ℤ)) → IsRising d → AreRising rest → AreRising (flat_map (λ v. map (λ vs. v ∷ vs) rest) d)
+unfolding IsRising
 each_begun [] rest h g = tt
 each_begun (v ∷ d) rest h g =
     append_rising (map (λ vs. v ∷ vs) rest) (flat_map (λ v. map (λ vs. v ∷ vs) rest) d) (begun_rising v rest g) (each_begun d rest h.1 g)

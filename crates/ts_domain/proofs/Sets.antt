@@ -7,7 +7,7 @@ use Rattle.std.proofs.lemmas.Bool.Decides.{Decides-int_eq}
 use Rattle.std.specs.Prelude.{filter, int_le, int_lt, Contains}
 use Rattle.std.specs.Ordering.{int_eq}
 use Rattle.std.specs.List.{AllByRecursion}
-use Rattle.ts_domain.specs.Values.{Rising}
+use Rattle.ts_domain.specs.Values.{IsRising}
 
 -- the first of a list, or one of the others
 pub contains_cons : {A : Type 0} (x : A) (xs : List A) (v : A) → Contains (x ∷ xs) v ↔ ((x ≡ v) ⊎ Contains xs v)
@@ -90,11 +90,11 @@ each_filter P test (x ∷ xs) h =
     elim (test x) as (λ b. AllByRecursion P (cond b (x ∷ filter test xs) (filter test xs)))
     [ true ↦ (h.0, each_filter P test xs h.1) | false ↦ each_filter P test xs h.1 ]
 
-pub rising_filter : (test : ℤ → Bool) (xs : List ℤ) → Rising xs → Rising (filter test xs)
-unfolding Rising
+pub rising_filter : (test : ℤ → Bool) (xs : List ℤ) → IsRising xs → IsRising (filter test xs)
+unfolding IsRising
 rising_filter test [] h = tt
 rising_filter test (x ∷ xs) h =
-    elim (test x) as (λ b. Rising (cond b (x ∷ filter test xs) (filter test xs)))
+    elim (test x) as (λ b. IsRising (cond b (x ∷ filter test xs) (filter test xs)))
     [ true ↦ (each_filter (λ y. x <ℤ y) test xs h.0, rising_filter test xs h.1) | false ↦ rising_filter test xs h.1 ]
 
 pub all_append : {A : Type 0} (P : A → Type 0) (xs ys : List A) → AllByRecursion P xs → AllByRecursion P ys → AllByRecursion P (xs ++ ys)
@@ -102,8 +102,9 @@ all_append P [] ys a b = b
 all_append P (x ∷ xs) ys a b = (a.0, all_append P xs ys a.1 b)
 
 -- one rising list behind another one
-pub rising_append : (xs ys : List ℤ) (m : ℤ) → Rising xs → Rising ys → AllByRecursion (λ v. v ≤ℤ m) xs → AllByRecursion (λ v. m <ℤ v) ys → Rising (xs ++ ys)
-unfolding Rising
+pub rising_append : (xs ys : List ℤ) (m : ℤ) → IsRising xs → IsRising ys → AllByRecursion (λ v. v ≤ℤ m) xs → AllByRecursion (λ v. m <ℤ v) ys →
+    IsRising (xs ++ ys)
+unfolding IsRising
 rising_append [] ys m a b low high = b
 rising_append (x ∷ xs) ys m a b low high = (all_append (λ y. x <ℤ y) xs ys a.0 (beyond ys high), rising_append xs ys m a.1 b low.1 high)
   where
@@ -145,8 +146,9 @@ pub itself : (gone v : ℤ) → v ≡ gone → other_than gone v ≡ false
 itself gone v e = ap not ((Decides-int_eq v gone).1 e)
 
 -- a rising list without one number: what is below it, and what is above it
-pub two_sides : (gone : ℤ) (xs : List ℤ) → Rising xs → filter (other_than gone) xs ≡ filter (λ v. int_le v (gone -ℤ pos 1)) xs ++ filter (λ v. int_lt gone v) xs
-unfolding Rising
+pub two_sides : (gone : ℤ) (xs : List ℤ) → IsRising xs →
+    filter (other_than gone) xs ≡ filter (λ v. int_le v (gone -ℤ pos 1)) xs ++ filter (λ v. int_lt gone v) xs
+unfolding IsRising
 two_sides gone [] h = refl
 two_sides gone (x ∷ xs) h =
     by_lt_z x gone (λ lt. below lt (two_sides gone xs h.1)) (λ ge. from ge)

@@ -9,7 +9,7 @@ use Rattle.ts_domain.specs.declared.boxed.Back.{Back}
 use Rattle.ts_domain.specs.declared.boxed.Back.TheVariants.{Whole, One}
 use Rattle.ts_domain.specs.Kept.{values_up_to, values_above, values_without}
 use Rattle.ts_domain.specs.Marks.{put_back}
-use Rattle.ts_domain.specs.Trail.{before, BackFits, stood, first_box, earlier_boxes, StepsFit}
+use Rattle.ts_domain.specs.Trail.{before, BackFits, box_before, first_box, earlier_boxes, StepsFit}
 use Rattle.ts_domain.specs.Values.{IsDomain, WithinLimits}
 use Rattle.ts_domain.proofs.Sets.{nothing_in, each_contains, each_filter, all_append}
 use Rattle.ts_domain.proofs.BoxLaws.{contains_without}
@@ -24,18 +24,18 @@ unfolding earlier_boxes
 length-earlier [] cells = refl
 length-earlier (s ∷ ss) cells = omega (arith, length-earlier ss cells)
 
-first-snoc : (ss : List Step) (s : Step) (cells : List (List ℤ)) → first_box (ss ++ s ∷ []) cells ≡ first_box ss (stood s cells)
+first-snoc : (ss : List Step) (s : Step) (cells : List (List ℤ)) → first_box (ss ++ s ∷ []) cells ≡ first_box ss (box_before s cells)
 unfolding first_box
 first-snoc [] s cells = refl
-first-snoc (t ∷ ss) s cells = ap (stood t) (first-snoc ss s cells)
+first-snoc (t ∷ ss) s cells = ap (box_before t) (first-snoc ss s cells)
 
 -- the newest step leads back from the present box
 pub earlier-snoc : (ss : List Step) (s : Step) (cells : List (List ℤ)) →
-    earlier_boxes (ss ++ s ∷ []) cells ≡ earlier_boxes ss (stood s cells) ++ stood s cells ∷ []
+    earlier_boxes (ss ++ s ∷ []) cells ≡ earlier_boxes ss (box_before s cells) ++ box_before s cells ∷ []
 unfolding earlier_boxes first_box
 earlier-snoc [] s cells = refl
 earlier-snoc (t ∷ ss) s cells = let b = first-snoc ss s cells in let e = earlier-snoc ss s cells in
-    ap (λ b. stood t b ∷ earlier_boxes (ss ++ s ∷ []) cells) b ∙ ap (λ l. stood t (first_box ss (stood s cells)) ∷ l) e
+    ap (λ b. box_before t b ∷ earlier_boxes (ss ++ s ∷ []) cells) b ∙ ap (λ l. box_before t (first_box ss (box_before s cells)) ∷ l) e
 
 box_set : (cells : List (List ℤ)) (i : ℕ) (d : List ℤ) → IsBox cells → IsDomain d → IsBox (set cells i d)
 box_set [] i d h k = tt
@@ -68,7 +68,7 @@ back_domain (One v node) values fit domain = record {
       (fit.0, each_filter WithinLimits (λ w. int_lt v w) values domain.within);
 }
 
-steps_push : (ss : List Step) (s : Step) (cells cells' : List (List ℤ)) → stood s cells' ≡ cells → s.cell < length cells' →
+steps_push : (ss : List Step) (s : Step) (cells cells' : List (List ℤ)) → box_before s cells' ≡ cells → s.cell < length cells' →
     BackFits s.back (get_or cells' s.cell []) → IsBox cells' → StepsFit ss cells → StepsFit (ss ++ s ∷ []) cells'
 unfolding StepsFit first_box
 steps_push [] s cells cells' e below fit box h =
@@ -81,7 +81,7 @@ steps_push (t ∷ ss) s cells cells' e below fit box h =
       steps_push ss s cells cells' e below fit box h.2,
     )
 
-steps_pop : (ss : List Step) (s : Step) (cells : List (List ℤ)) → IsBox (stood s cells) → StepsFit (ss ++ s ∷ []) cells → StepsFit ss (stood s cells)
+steps_pop : (ss : List Step) (s : Step) (cells : List (List ℤ)) → IsBox (box_before s cells) → StepsFit (ss ++ s ∷ []) cells → StepsFit ss (box_before s cells)
 unfolding StepsFit first_box
 steps_pop [] s cells box h =
     let few = h.2.0 in (omega (arith, length-set cells s.cell (before s.back (get_or cells s.cell [])), few), box)
@@ -105,7 +105,7 @@ pub record Leads (s : Step) (cells : List (List ℤ)) (dest : List ℤ) : Type 0
   pub fits : BackFits s.back dest
   pub domain : IsDomain dest
 
-leads_back : (s : Step) (cells : List (List ℤ)) (dest : List ℤ) → Leads s cells dest → stood s (set cells s.cell dest) ≡ cells
+leads_back : (s : Step) (cells : List (List ℤ)) (dest : List ℤ) → Leads s cells dest → box_before s (set cells s.cell dest) ≡ cells
 leads_back s cells dest h =
     ap (set (set cells s.cell dest) s.cell) (ap (before s.back) (get_or-set_same cells s.cell dest [] h.below) ∙ h.old) ∙
     set-set cells s.cell dest (get_or cells s.cell []) ∙ set-get_or cells s.cell []
@@ -114,8 +114,10 @@ pub fit_more : (ss mid ss' : List Step) (cells : List (List ℤ)) (s : Step) (de
     Leads s cells dest → StepsFit ss' (set cells s.cell dest)
 fit_more ss mid ss' cells s dest h same steps leads =
     subst (λ x. StepsFit x (set cells s.cell dest)) (sym (steps ∙ ap (λ x. x ++ s ∷ []) same))
-    (steps_push ss s cells (set cells s.cell dest) (leads_back s cells dest leads) (let below = leads.below in omega (arith, length-set cells s.cell dest, below))
-    (subst (BackFits s.back) (sym (get_or-set_same cells s.cell dest [] leads.below)) leads.fits) (box_set cells s.cell dest (cells_fit ss cells h).1 leads.domain) h)
+    (steps_push ss s cells (set cells s.cell dest) (leads_back s cells dest leads)
+    (let below = leads.below in omega (arith, length-set cells s.cell dest, below))
+    (subst (BackFits s.back) (sym (get_or-set_same cells s.cell dest [] leads.below)) leads.fits)
+    (box_set cells s.cell dest (cells_fit ss cells h).1 leads.domain) h)
 
 pub changed : (ss mid ss' : List Step) (cells : List (List ℤ)) (b : Boxes) (k : ℕ) (s : Step) (dest : List ℤ) (keep : List ℤ → List ℤ) →
     boxes_of ss cells ≡ b → s.cell ≡ k - 1 → mid ≡ ss → ss' ≡ mid ++ s ∷ [] → Leads s cells dest → dest ≡ keep (get_or cells s.cell []) →
@@ -190,7 +192,7 @@ pub newest_back : (ss ss' : List Step) (s : Step) (cells : List (List ℤ)) → 
     BackFits s.back (get_or cells s.cell [])
 newest_back ss ss' s cells steps h = (newest_fits ss' s cells (subst (λ x. StepsFit x cells) steps h)).1
 
-pub fit_less : (ss ss' : List Step) (s : Step) (cells : List (List ℤ)) → ss ≡ ss' ++ s ∷ [] → StepsFit ss cells → StepsFit ss' (stood s cells)
+pub fit_less : (ss ss' : List Step) (s : Step) (cells : List (List ℤ)) → ss ≡ ss' ++ s ∷ [] → StepsFit ss cells → StepsFit ss' (box_before s cells)
 fit_less ss ss' s cells steps h =
     let all = subst (λ x. StepsFit x cells) steps h in let newest = newest_fits ss' s cells all in
     let box = (cells_fit ss cells h).1 in
@@ -202,9 +204,9 @@ same_boxes : (e f : List (List (List ℤ))) (p q : List (List ℤ)) → e ≡ f 
 same_boxes e f p q h k = cc
 
 pub one_back : (ss ss' : List Step) (s : Step) (cells : List (List ℤ)) (b : Boxes) → boxes_of ss cells ≡ b → ss ≡ ss' ++ s ∷ [] →
-    boxes_of ss' (stood s cells) ≡ back_to (length b.earlier - 1) b
+    boxes_of ss' (box_before s cells) ≡ back_to (length b.earlier - 1) b
 one_back ss ss' s cells b view steps =
-    let old = stood s cells in let first = earlier_boxes ss' old in
+    let old = box_before s cells in let first = earlier_boxes ss' old in
     let earlier : earlier_boxes ss cells ≡ first ++ old ∷ [] = ap (λ x. earlier_boxes x cells) steps ∙ earlier-snoc ss' s cells in
     let n : length (earlier_boxes ss cells) - 1 ≡ length first = let e = ap length earlier in omega (arith, e, length-append first (old ∷ [])) in
     let all : all_boxes (boxes_of ss cells) ≡ first ++ (old ∷ cells ∷ []) = ap (λ e. e ++ cells ∷ []) earlier ∙ rw append_assoc refl in

@@ -10,7 +10,7 @@ use Rattle.std.specs.Prelude.{int_le, int_lt, All}
 use Rattle.std.specs.List.{list_any, zip}
 use Rattle.ts_domain.specs.declared.interval.Interval.{Interval}
 use Rattle.ts_domain.specs.Values.{RangesFrom, WithinLimits}
-use Rattle.ts_domain.specs.Union.{InSomeRange, SomeEmpty, InSome, LowsRise, paired}
+use Rattle.ts_domain.specs.Union.{InSomeRange, SomeEmpty, InSome, LowsRise, intervals_of}
 
 -- the test that a range has a number
 abbrev pub has_number : ℤ → Interval → Bool
@@ -50,7 +50,7 @@ in_some_any (r ∷ rs) v h =
     either_right false b h = h
 
 -- in the ranges of two lists
-pub in_paired : (lows highs : List ℤ) (v : ℤ) → length lows ≡ length highs → InSome (paired lows highs) v → InSomeRange lows highs v
+pub in_paired : (lows highs : List ℤ) (v : ℤ) → length lows ≡ length highs → InSome (intervals_of lows highs) v → InSomeRange lows highs v
 unfolding InSome
 in_paired [] highs v e h = absurd h
 in_paired (l ∷ ls) [] v e h = absurd h
@@ -63,14 +63,14 @@ in_paired (l ∷ ls) (r ∷ hs) v e h =
     later : (l r : ℤ) (ls hs : List ℤ) (v : ℤ) → InSomeRange ls hs v → InSomeRange (l ∷ ls) (r ∷ hs) v
     later l r ls hs v h = (suc h.0, omega (arith, h.1), h.2, h.3)
 
-pub paired_has : (lows highs : List ℤ) (v : ℤ) → length lows ≡ length highs → InSomeRange lows highs v → InSome (paired lows highs) v
+pub paired_has : (lows highs : List ℤ) (v : ℤ) → length lows ≡ length highs → InSomeRange lows highs v → InSome (intervals_of lows highs) v
 unfolding InSome
 paired_has [] highs v e h = absurd (omega (arith, h.1))
 paired_has (l ∷ ls) [] v e h = absurd (omega (arith, e))
 paired_has (l ∷ ls) (r ∷ hs) v e h = here_or_later l r ls hs v h.0 h.1 h.2 h.3 (paired_has ls hs v (omega (arith, e)))
   where
     here_or_later : (l r : ℤ) (ls hs : List ℤ) (v : ℤ) (i : ℕ) → i < length (l ∷ ls) → get_or (l ∷ ls) i (pos 0) ≤ℤ v → v ≤ℤ get_or (r ∷ hs) i (pos 0) →
-        (InSomeRange ls hs v → InSome (paired ls hs) v) → ((l ≤ℤ v) × (v ≤ℤ r)) ⊎ InSome (paired ls hs) v
+        (InSomeRange ls hs v → InSome (intervals_of ls hs) v) → ((l ≤ℤ v) × (v ≤ℤ r)) ⊎ InSome (intervals_of ls hs) v
     here_or_later l r ls hs v zero below from to rest = inl (from, to)
     here_or_later l r ls hs v (suc i) below from to rest = inr (rest (i, omega (arith, below), from, to))
 
@@ -97,14 +97,14 @@ empty_any (l ∷ ls) (r ∷ hs) e h = here_or_later l r ls hs h.0 h.1 h.2 (empty
     here_or_later l r ls hs zero below h rest = grind (arith, ints)
     here_or_later l r ls hs (suc i) below h rest = let t = rest (i, omega (arith, below), h) in grind (arith, ints)
 
-pub length-paired : (lows highs : List ℤ) → length lows ≡ length highs → length (paired lows highs) ≡ length lows
+pub length-paired : (lows highs : List ℤ) → length lows ≡ length highs → length (intervals_of lows highs) ≡ length lows
 length-paired [] highs e = refl
 length-paired (l ∷ ls) [] e = absurd (omega (arith, e))
 length-paired (l ∷ ls) (r ∷ hs) e = omega (arith, length-paired ls hs (omega (arith, e)))
 
 -- one range of the two lists
 pub get_or-paired : (lows highs : List ℤ) (i : ℕ) (d : Interval) → length lows ≡ length highs → i < length lows →
-    get_or (paired lows highs) i d ≡ record { low = get_or lows i (pos 0); high = get_or highs i (pos 0) }
+    get_or (intervals_of lows highs) i d ≡ record { low = get_or lows i (pos 0); high = get_or highs i (pos 0) }
 get_or-paired [] highs i d e h = absurd (omega (arith, h))
 get_or-paired (l ∷ ls) [] i d e h = absurd (omega (arith, e))
 get_or-paired (l ∷ ls) (r ∷ hs) zero d e h = refl
@@ -115,7 +115,7 @@ abbrev pub IsUsable : Interval → Type 0
 IsUsable r = (neg_ℤ (pos 1000000) ≤ℤ r.low) × (r.low ≤ℤ r.high) × (r.high ≤ℤ pos 1000000)
 
 pub usable_paired : (lows highs : List ℤ) → length lows ≡ length highs → All WithinLimits lows → All WithinLimits highs → (SomeEmpty lows highs → ⊥) →
-    All IsUsable (paired lows highs)
+    All IsUsable (intervals_of lows highs)
 usable_paired lows highs e a b full i d below =
     let here : i < length lows = omega (arith, below, length-paired lows highs e) in
     let la = a i (pos 0) here in let hb = b i (pos 0) (omega (arith, here, e)) in
@@ -148,7 +148,7 @@ low_first r s h = by_test (int_lt s.low r.low) refl
     by_test false e = grind (arith, ints)
 
 pub sorted_rise : (lows highs : List ℤ) (given ys : List Interval) → length lows ≡ length highs → All WithinLimits lows → All WithinLimits highs →
-    (SomeEmpty lows highs → ⊥) → given ≡ paired lows highs → IsPermutation given ys →
+    (SomeEmpty lows highs → ⊥) → given ≡ intervals_of lows highs → IsPermutation given ys →
     ((k : ℕ) (d : Interval) → 0 ≤ k → k + 1 < length ys → is_lt
     (ordering_then (int_cmp (get_or ys (k + 1) d).low (get_or ys k d).low) (int_cmp (get_or ys (k + 1) d).high (get_or ys k d).high)) ≡ false) →
     LowsRise (neg_ℤ (pos 1000000)) ys
@@ -161,20 +161,20 @@ sorted_rise lows highs given ys e a b full is moved sorted =
     next k d h = let s : k + 1 ≡ suc k = omega arith in subst (λ n. (get_or ys k d).low ≤ℤ (get_or ys n d).low) s
         (low_first (get_or ys k d) (get_or ys (k + 1) d) h)
 
-pub sorted_same : (lows highs : List ℤ) (given ys : List Interval) (v : ℤ) → length lows ≡ length highs → given ≡ paired lows highs →
+pub sorted_same : (lows highs : List ℤ) (given ys : List Interval) (v : ℤ) → length lows ≡ length highs → given ≡ intervals_of lows highs →
     IsPermutation given ys → InSome ys v ↔ InSomeRange lows highs v
 sorted_same lows highs given ys v e is moved =
-    let alike : list_any (has_number v) (paired lows highs) ≡ list_any (has_number v) ys = ap (list_any (has_number v)) (sym is)
+    let alike : list_any (has_number v) (intervals_of lows highs) ≡ list_any (has_number v) ys = ap (list_any (has_number v)) (sym is)
     ∙ list_any-IsPermutation (has_number v) given ys moved in (
-      λ h. in_paired lows highs v e (any_in_some (paired lows highs) v (alike ∙ in_some_any ys v h)),
-      λ h. any_in_some ys v (sym alike ∙ in_some_any (paired lows highs) v (paired_has lows highs v e h)),
+      λ h. in_paired lows highs v e (any_in_some (intervals_of lows highs) v (alike ∙ in_some_any ys v h)),
+      λ h. any_in_some ys v (sym alike ∙ in_some_any (intervals_of lows highs) v (paired_has lows highs v e h)),
     )
 
 -- a list that a sort wrote back over the items of a vector
 pub written_back : (items ys : List Interval) (n : ℕ) → n ≡ length items → length ys ≡ length items → take n (ys ++ drop (length ys) items) ≡ ys
 written_back items ys n size same = ap (λ k. take k (ys ++ drop (length ys) items)) (size ∙ sym same) ∙ take-append_seam ys (drop (length ys) items)
 
-pub length-sorted : (lows highs : List ℤ) (given ys : List Interval) → length lows ≡ length highs → given ≡ paired lows highs → IsPermutation given ys →
+pub length-sorted : (lows highs : List ℤ) (given ys : List Interval) → length lows ≡ length highs → given ≡ intervals_of lows highs → IsPermutation given ys →
     length ys ≡ length lows
 length-sorted lows highs given ys e is moved = length_permutation given ys moved ∙ ap length is ∙ length-paired lows highs e
 

@@ -13,7 +13,7 @@ values_above t values = filter (λ v. int_lt t v) values
 abbrev pub values_without : ℤ → List ℤ → List ℤ
 values_without gone values = filter (λ v. not (int_eq v gone)) values
 
-abbrev pub kept : Keep → List ℤ → List ℤ
-kept (UpTo t) values = values_up_to t values
-kept (Above t) values = values_above t values
-kept (AllBut gone) values = values_without gone values
+abbrev pub values_kept : Keep → List ℤ → List ℤ
+values_kept (UpTo t) values = values_up_to t values
+values_kept (Above t) values = values_above t values
+values_kept (AllBut gone) values = values_without gone values

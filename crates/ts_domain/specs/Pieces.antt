@@ -27,9 +27,9 @@ pub record IsMarked (ranges : List Interval) (p : Interval) (marks : List Mark) 
   pub some : numbers (values_in (values_of ranges) p) marks ≢ []
 
 -- how many of the ranges pass the test before the first one that doesn't
-unfoldable pub leading : (Interval → Bool) → List Interval → ℕ
-leading test [] = zero
-leading test (r ∷ rs) = if test r then suc (leading test rs) else zero
+unfoldable pub leading_count : (Interval → Bool) → List Interval → ℕ
+leading_count test [] = zero
+leading_count test (r ∷ rs) = if test r then suc (leading_count test rs) else zero
 
 -- a number of a set up to t, and one from t on
 abbrev pub SomeUpTo : List ℤ → ℤ → Type 0

@@ -19,13 +19,13 @@ BackFits (Whole old) values = IsDomain old
 BackFits (One v node) values = WithinLimits v × (Contains values v → ⊥)
 
 -- the box before a step, by the box after it
-abbrev pub stood : Step → List (List ℤ) → List (List ℤ)
-stood s cells = set cells s.cell (before s.back (get_or cells s.cell []))
+abbrev pub box_before : Step → List (List ℤ) → List (List ℤ)
+box_before s cells = set cells s.cell (before s.back (get_or cells s.cell []))
 
 -- the first of the boxes that the steps lead back to, the oldest step first
 unfoldable pub first_box : List Step → List (List ℤ) → List (List ℤ)
 first_box [] cells = cells
-first_box (s ∷ later) cells = stood s (first_box later cells)
+first_box (s ∷ later) cells = box_before s (first_box later cells)
 
 -- the boxes before the present one, the oldest first
 unfoldable pub earlier_boxes : List Step → List (List ℤ) → List (List (List ℤ))

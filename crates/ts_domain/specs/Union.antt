@@ -12,8 +12,8 @@ abbrev pub SomeEmpty : List ℤ → List ℤ → Type 0
 SomeEmpty lows highs = (i : ℕ) × (i < length lows) × (get_or highs i (pos 0) <ℤ get_or lows i (pos 0))
 
 -- the two lists as one list of ranges
-abbrev pub paired : List ℤ → List ℤ → List Interval
-paired lows highs = map (λ p. record { low = p.0; high = p.1 }) (zip lows highs)
+abbrev pub intervals_of : List ℤ → List ℤ → List Interval
+intervals_of lows highs = map (λ p. record { low = p.0; high = p.1 }) (zip lows highs)
 
 -- some range of the list has the number
 unfoldable pub InSome : List Interval → ℤ → Type 0

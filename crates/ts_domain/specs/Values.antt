@@ -9,20 +9,20 @@ abbrev pub WithinLimits : ℤ → Type 0
 WithinLimits v = IsCellValue v
 
 -- each number is below the later ones
-unfoldable pub Rising : List ℤ → Type 0
-Rising [] = Unit {0}
-Rising (x ∷ xs) = AllByRecursion (λ y. x <ℤ y) xs × Rising xs
+unfoldable pub IsRising : List ℤ → Type 0
+IsRising [] = Unit {0}
+IsRising (x ∷ xs) = AllByRecursion (λ y. x <ℤ y) xs × IsRising xs
 
 -- a non-empty set of numbers within the limits, as its rising list
 pub record IsDomain (values : List ℤ) : Type 0 where
-  pub rising : Rising values
+  pub rising : IsRising values
   pub some : values ≢ []
   pub within : AllByRecursion WithinLimits values
 
 -- a number from 0 on, and 0 for those below
-abbrev pub natural : ℤ → ℕ
-natural (pos n) = n
-natural (negsuc n) = 0
+abbrev pub to_natural : ℤ → ℕ
+to_natural (pos n) = n
+to_natural (negsuc n) = 0
 
 -- so many numbers from `low` on
 unfoldable pub run : ℤ → ℕ → List ℤ
@@ -31,7 +31,7 @@ run low (suc n) = low ∷ run (low +ℤ pos 1) n
 
 -- the numbers from `low` to `high`
 unfoldable pub values_between : ℤ → ℤ → List ℤ
-values_between low high = run low (natural ((high +ℤ pos 1) -ℤ low))
+values_between low high = run low (to_natural ((high +ℤ pos 1) -ℤ low))
 
 -- the numbers of the ranges, one range after the other
 unfoldable pub values_of : List Interval → List ℤ

@@ -1,7 +1,7 @@
 //! One domain per cell, with a trail that leads back to every earlier box.
 
 ghost use Rattle.std.specs.Prelude.{◌≡◌, ◌≢◌, ◌-◌, ◌<◌, ◌≤◌, [], length, IfOk, OnOk, OnErr, Contains};
-ghost use Rattle.ts_domain.specs.Kept.{kept, values_up_to, values_above, values_without};
+ghost use Rattle.ts_domain.specs.Kept.{values_kept, values_up_to, values_above, values_without};
 ghost use Rattle.ts_domain.specs.BoxSeries.{IsBox, IsCell, cell_of, box_with, back_to};
 ghost use Rattle.ts_domain.specs.Values.{IsDomain};
 ghost use Rattle.ts_domain.specs.Trail.{before, BackFits};
@@ -138,8 +138,8 @@ impl Boxed {
     // One more box, in which cell `k` has the values that `keep` keeps; the memory is taken before the first change.
     fn narrow(&mut self, k: u32, keep: Keep) -> Result<(), Memory>
         requires cell { IsCell k self.old }
-        requires stays { kept keep (cell_of k self.old) ≢ [] }
-        ensures ok { OnOk result (self.new ≡ box_with k (kept keep) self.old) }
+        requires stays { values_kept keep (cell_of k self.old) ≢ [] }
+        ensures ok { OnOk result (self.new ≡ box_with k (values_kept keep) self.old) }
         ensures err { OnErr result (self.new ≡ self.old) }
     {
         let at = k - 1;

@@ -2,7 +2,7 @@
 
 ghost use Rattle.std.specs.Prelude.{◌≡◌, ◌≢◌, ◌<◌, ◌≤ℤ◌, ◌↔◌, ℤ, ◌⊎◌};
 ghost use Rattle.std.specs.Prelude.{[], length, slice_get, Some, IsTrue, IfOk, All, Contains};
-ghost use Rattle.ts_domain.specs.Kept.{kept, values_up_to, values_above, values_without};
+ghost use Rattle.ts_domain.specs.Kept.{values_kept, values_up_to, values_above, values_without};
 ghost use Rattle.ts_domain.specs.Marks.{put_back};
 ghost use Rattle.ts_domain.specs.Union.{InSomeRange, SomeEmpty};
 ghost use Rattle.ts_domain.specs.Values.{IsDomain, WithinLimits, values_of, AreRanges};
@@ -173,8 +173,8 @@ impl Domain {
 
     /// The set of the values that `keep` keeps, as a copy.
     pub(crate) fn kept(&self, keep: Keep) -> Result<Domain, Memory>
-        requires { kept keep self.now ≢ [] }
-        ensures kept { IfOk result (λ d. d ≡ kept keep self.now) }
+        requires { values_kept keep self.now ≢ [] }
+        ensures kept { IfOk result (λ d. d ≡ values_kept keep self.now) }
         ensures domain { IfOk result IsDomain }
     {
         if self.marks.more() < -MOST_MARKS {
@@ -236,8 +236,8 @@ impl Domain {
 
     // What `keep` keeps, on ranges of its own.
     fn renewed(&self, keep: Keep) -> Result<Domain, Memory>
-        requires { kept keep self.now ≢ [] }
-        ensures kept { IfOk result (λ d. d ≡ kept keep self.now) }
+        requires { values_kept keep self.now ≢ [] }
+        ensures kept { IfOk result (λ d. d ≡ values_kept keep self.now) }
         ensures domain { IfOk result IsDomain }
     {
         let parts = singles(self.alloc, self, keep)?;

@@ -3,7 +3,7 @@
 ghost use Rattle.std.specs.Prelude.{◌≡◌, ℕ, ◌+◌, ◌<◌, ◌↔◌, ℤ, List, [], length, get_or, set, Contains};
 ghost use Rattle.ts_domain.specs.BoxSeries.{AreRising, InBox, IsBox, all_series, series_count};
 ghost use Rattle.ts_domain.specs.Kept.{values_above, values_up_to, values_without};
-ghost use Rattle.ts_domain.specs.Values.{Rising};
+ghost use Rattle.ts_domain.specs.Values.{IsRising};
 
 /// The list of a box's series has exactly those whose values are in the sets of their cells.
 pub fn series_are_those_inside()
@@ -25,6 +25,6 @@ pub fn split_shares_series()
 
 /// A set without one of its values has one value less.
 pub fn one_value_less()
-    ensures { (gone : ℤ) (values : List ℤ) → Rising values → Contains values gone →
+    ensures { (gone : ℤ) (values : List ℤ) → IsRising values → Contains values gone →
         length (values_without gone values) + 1 ≡ length values }
 {}

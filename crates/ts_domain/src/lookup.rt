@@ -2,14 +2,14 @@
 
 ghost use Rattle.std.specs.Prelude.{◌≡◌, ◌≤◌, ℤ, pos, neg_ℤ, ◌≤ℤ◌, IsTrue, ◌↔◌, length, map, int_le, int_lt, Contains};
 ghost use Rattle.ts_domain.specs.Values.{RangesFrom, values_of};
-ghost use Rattle.ts_domain.specs.Pieces.{leading, IsLastUpTo, IsFirstFrom, SomeUpTo, SomeFrom};
+ghost use Rattle.ts_domain.specs.Pieces.{leading_count, IsLastUpTo, IsFirstFrom, SomeUpTo, SomeFrom};
 
 use crate::interval::Interval;
 
 /// How many ranges end below `t`.
 pub(crate) fn ended_below(ranges: &[Interval], t: i64) -> usize
     requires { RangesFrom (neg_ℤ (pos 1000000)) ranges.now }
-    ensures count { result ≡ leading (λ r. int_lt r.high t) ranges.now }
+    ensures count { result ≡ leading_count (λ r. int_lt r.high t) ranges.now }
     ensures bound { result ≤ length ranges.now }
 {
     ranges.partition_point(|range| range.high < t)
@@ -18,7 +18,7 @@ pub(crate) fn ended_below(ranges: &[Interval], t: i64) -> usize
 /// How many ranges begin at `t` or below.
 pub(crate) fn begun_by(ranges: &[Interval], t: i64) -> usize
     requires { RangesFrom (neg_ℤ (pos 1000000)) ranges.now }
-    ensures count { result ≡ leading (λ r. int_le r.low t) ranges.now }
+    ensures count { result ≡ leading_count (λ r. int_le r.low t) ranges.now }
     ensures bound { result ≤ length ranges.now }
 {
     ranges.partition_point(|range| range.low <= t)

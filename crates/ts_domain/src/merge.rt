@@ -3,7 +3,7 @@
 ghost use Rattle.std.specs.Prelude.{◌≡◌, ◌<◌, ◌↔◌, ℤ, pos, neg_ℤ, ◌⊎◌};
 ghost use Rattle.std.specs.Prelude.{[], length, IsTrue, IfOk, All, Contains, int_lt};
 ghost use Rattle.std.specs.List.{list_any, zip};
-ghost use Rattle.ts_domain.specs.Union.{InSomeRange, SomeEmpty, InSome, LowsRise, paired};
+ghost use Rattle.ts_domain.specs.Union.{InSomeRange, SomeEmpty, InSome, LowsRise, intervals_of};
 ghost use Rattle.ts_domain.specs.Values.{WithinLimits, values_of, AreRanges};
 
 use crate::interval::Interval;
@@ -28,7 +28,7 @@ pub(crate) fn has_no_union(lows: &[i64], highs: &[i64]) -> bool
 
 // The two lists as one list of ranges.
 fn ranges_of(alloc: Global, lows: &[i64], highs: &[i64]) -> Result<Vec<Interval>, Memory>
-    ensures { IfOk result (λ v. v.items ≡ paired lows.now highs.now) }
+    ensures { IfOk result (λ v. v.items ≡ intervals_of lows.now highs.now) }
 {
     let ranges = lows
         .iter()

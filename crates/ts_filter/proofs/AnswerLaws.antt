@@ -10,7 +10,7 @@ use Rattle.ts_domain.specs.BoxSeries.{InBox, IsBox}
 use Rattle.ts_domain.specs.Values.{WithinLimits}
 use Rattle.ts_domain.proofs.Sets.{each_contains}
 use Rattle.ts_model.specs.Promise.{IsWhole}
-use Rattle.ts_model.specs.Stated.{Stated}
+use Rattle.ts_model.specs.ModelParts.{ModelParts}
 use Rattle.ts_filter.specs.Boxes.{Box}
 use Rattle.ts_filter.specs.MachineSpans.{HoldsTerm, TellsTerm, AnswersTerm, AnswersAreEnough}
 use Rattle.ts_filter.proofs.BoxParts.{inside_length, in_box_inside}
@@ -23,7 +23,7 @@ cell_values [] (e ∷ b) d h = absurd h
 cell_values (v ∷ x) [] d h = absurd h
 cell_values (v ∷ x) (e ∷ b) d h = (each_contains WithinLimits e v d.0.within h.0, cell_values x b d.1 h.1)
 
-module _ (m : Stated) (term : ℕ) (a : Automata) (box : IsBox m.cells) (whole : IsWhole m) (h : AnswersTerm m term a) where
+module _ (m : ModelParts) (term : ℕ) (a : Automata) (box : IsBox m.cells) (whole : IsWhole m) (h : AnswersTerm m term a) where
   holds_term : HoldsTerm m term a
   holds_term p b x v i u c e =
       let few = subst (λ k. k ≤ most_cells) (sym (inside_length b m.cells i.inside)) whole.few in

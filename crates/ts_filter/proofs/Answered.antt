@@ -12,7 +12,7 @@ use Rattle.ts_certificate.specs.declared.certificate.TreeLine.{TreeLine}
 use Rattle.ts_certificate.specs.declared.certificate.TreeLine.TheVariants.{Split, Remove, No, Worse, Yes, Unsearched}
 use Rattle.ts_domain.specs.BoxSeries.{InBox}
 use Rattle.ts_model.specs.Meets.{Meets}
-use Rattle.ts_model.specs.Stated.{Stated}
+use Rattle.ts_model.specs.ModelParts.{ModelParts}
 use Rattle.ts_filter.specs.declared.bar.Bar.TheVariants.{Better}
 use Rattle.ts_filter.specs.Accepts.{ClaimFits, objective_of}
 use Rattle.ts_filter.specs.Boxes.{Box, low_side, high_side, without, only, IsPart, InSome}
@@ -20,7 +20,7 @@ use Rattle.ts_filter.specs.Excluded.{is_better}
 use Rattle.ts_filter.specs.Holds.{IsBetter, IsListed, ClaimHolds}
 use Rattle.ts_filter.specs.Laws.{IsSound, AcceptedHolds}
 use Rattle.ts_filter.specs.RefutedWorseDrop.{Spans, IsDrop}
-use Rattle.ts_filter.specs.Rules.{Head, head_of, IsNext, IsWorseFor, claimed, IsListing, MayStayOpen}
+use Rattle.ts_filter.specs.Rules.{Head, head_of, IsNext, IsWorseFor, claimed_value, IsListing, MayStayOpen}
 use Rattle.ts_filter.specs.Steps.{Steps, open_boxes}
 use Rattle.ts_filter.specs.Tree.{told_after}
 use Rattle.ts_filter.proofs.BoxParts.{in_a_side, only_or_without, only_part, only_series, part_self}
@@ -28,7 +28,7 @@ use Rattle.ts_filter.proofs.TreeLaws.{parts_made, to_steps}
 use Rattle.ts_filter.proofs.SeriesLines.{fit_all, AreFit, fits_list}
 
 -- the series isn't better than what is claimed
-abbrev pub IsNoBetter : Stated → Aim → Ext → List ℤ → Type 0
+abbrev pub IsNoBetter : ModelParts → Aim → Ext → List ℤ → Type 0
 IsNoBetter m (BestOf goal) v x = (w : Ext) → objective_of m x ≡ Some w → is_better goal w v ≡ false
 IsNoBetter m (ListOf count) v x = ⊥
 
@@ -39,27 +39,27 @@ pub record WasTold (series : List (List ℤ)) (told after : ℕ) (x : List ℤ) 
   pub below : place < after
   pub listed : slice_get series place ≡ Some x
 
-pub data Answered (m : Stated) (h : Head) (opens left : List Box) (told after : ℕ) (x : List ℤ) : Type 0 where
+pub data Answered (m : ModelParts) (h : Head) (opens left : List Box) (told after : ℕ) (x : List ℤ) : Type 0 where
   in_open : InSome opens x → Answered m h opens left told after x
   in_waiting : InSome left x → Answered m h opens left told after x
-  is_no_better : MatchOption (claimed h.claim) ⊥ (λ v. IsNoBetter m h.aim v x) → Answered m h opens left told after x
+  is_no_better : MatchOption (claimed_value h.claim) ⊥ (λ v. IsNoBetter m h.aim v x) → Answered m h opens left told after x
   was_told : WasTold h.series told after x → Answered m h opens left told after x
 
-more_open : {m : Stated} {h : Head} {opens left : List Box} {told after : ℕ} {x : List ℤ} (b : Box) → Answered m h opens left told after x →
+more_open : {m : ModelParts} {h : Head} {opens left : List Box} {told after : ℕ} {x : List ℤ} (b : Box) → Answered m h opens left told after x →
     Answered m h (b ∷ opens) left told after x
 more_open b (in_open a) = in_open (inr a)
 more_open b (in_waiting a) = in_waiting a
 more_open b (is_no_better a) = is_no_better a
 more_open b (was_told a) = was_told a
 
-more_told : {m : Stated} {h : Head} {opens left : List Box} {told after : ℕ} {x : List ℤ} → Answered m h opens left (told + 1) after x →
+more_told : {m : ModelParts} {h : Head} {opens left : List Box} {told after : ℕ} {x : List ℤ} → Answered m h opens left (told + 1) after x →
     Answered m h opens left told after x
 more_told (in_open a) = in_open a
 more_told (in_waiting a) = in_waiting a
 more_told (is_no_better a) = is_no_better a
 more_told (was_told a) = was_told (record { place = a.place; from = (let n = a.from in omega arith); below = a.below; listed = a.listed })
 
-module _ (m : Stated) (s : Spans) (h : Head) where
+module _ (m : ModelParts) (s : Spans) (h : Head) where
   -- the number of `yes` lines only grows
   told_more : (ls : List TreeLine) (told : ℕ) (w left : List Box) (after : ℕ) → Steps m s h w told ls left after → told ≤ after
   told_more [] told w left after f = omega (arith, f.1)
@@ -94,7 +94,7 @@ module _ (m : Stated) (s : Spans) (h : Head) where
   none_told n (Yes ∷ ls) told (b ∷ w) left after f = absurd (n f.0.listing)
   none_told n (Unsearched ∷ ls) told (b ∷ w) left after f = none_told n ls told w left after f.1
 
-module _ (m : Stated) (s : Spans) (sound : IsSound m s) (h : Head) (x : List ℤ) (meets : Meets m x) where
+module _ (m : ModelParts) (s : Spans) (sound : IsSound m s) (h : Head) (x : List ℤ) (meets : Meets m x) where
   gone : (k : ℕ) (v : ℤ) (j : ℕ) (b : Box) → IsPart b m.cells → IsDrop m.requirements s k v j b → InBox x (only k v b) → ⊥
   gone k v j b i d a = sound.refuted j k (only k v b) x (only_part k v b m.cells i d.cell d.there) d.refuted a meets
 
@@ -120,7 +120,7 @@ module _ (m : Stated) (s : Spans) (sound : IsSound m s) (h : Head) (x : List ℤ
   answered (No j p ∷ ls) told (b ∷ w) left after e f i =
       ⊎_elim (λ a. absurd (sound.refuted j p b x e.0 f.0 a meets)) (λ a. answered ls told w left after e.1 f.1 a) i
   answered (Worse p ∷ ls) told (b ∷ w) left after e f i =
-      ⊎_elim (λ a. is_no_better (worse (claimed h.claim) p b e.0 a f.0)) (λ a. answered ls told w left after e.1 f.1 a) i
+      ⊎_elim (λ a. is_no_better (worse (claimed_value h.claim) p b e.0 a f.0)) (λ a. answered ls told w left after e.1 f.1 a) i
   answered (Yes ∷ ls) told (b ∷ w) left after e f i =
       ⊎_elim (λ a. was_told (now f.0 a)) (λ a. more_told (answered ls (told + 1) w left after e.1 f.1 a)) i
     where
@@ -140,14 +140,14 @@ listed_at (a ∷ xs) zero x e = inl (let f : ◌≡◌ {A = Option (List ℤ)} (
 listed_at (a ∷ xs) (suc i) x e = inr (listed_at xs i x e)
 
 -- by claim, from what is known of each series that meets
-module _ (m : Stated) (series : List (List ℤ)) (opens : List Box) (after : ℕ) where
+module _ (m : ModelParts) (series : List (List ℤ)) (opens : List Box) (after : ℕ) where
   abbrev HasAnswers : Aim → Claim → Type 0
   HasAnswers aim claim =
       (x : List ℤ) → Meets m x → Answered m (record { aim = aim; claim = claim; series = series }) opens [] 0 after x
 
   best_answered : (goal : Goal) (claim : Claim) (x : List ℤ) → 0 ≡ after →
       Answered m (record { aim = BestOf goal; claim = claim; series = series }) opens [] 0 after x →
-      InSome opens x ⊎ MatchOption (claimed claim) ⊥ (λ v. IsNoBetter m (BestOf goal) v x)
+      InSome opens x ⊎ MatchOption (claimed_value claim) ⊥ (λ v. IsNoBetter m (BestOf goal) v x)
   best_answered goal claim x t (in_open i) = inl i
   best_answered goal claim x t (in_waiting i) = absurd i
   best_answered goal claim x t (is_no_better i) = inr i

@@ -6,10 +6,10 @@ use Rattle.std.specs.Prelude.{Contains}
 use Rattle.std.specs.List.{AllByRecursion}
 use Rattle.ts_domain.specs.BoxSeries.{InBox, IsBefore, IsBox, series_count}
 use Rattle.ts_domain.specs.Kept.{values_up_to, values_above, values_without}
-use Rattle.ts_domain.specs.Values.{Rising, IsDomain, WithinLimits}
+use Rattle.ts_domain.specs.Values.{IsRising, IsDomain, WithinLimits}
 use Rattle.ts_domain.proofs.Sets.{contains_cons, each_contains}
 use Rattle.ts_domain.proofs.BoxLaws.{contains_up_to, contains_above, contains_without, in_box_at, in_box_set, from_box_set, domain_filter, length-sides, length-without, series_count-split}
-use Rattle.ts_model.specs.Stated.{total_of}
+use Rattle.ts_model.specs.ModelParts.{total_of}
 use Rattle.ts_filter.specs.Laws.{SplitCutsInTwo, DropLeavesOthers}
 use Rattle.ts_filter.specs.Boxes.{Box, HasCell, values_at, with_values, low_side, high_side, without, only, box_of, IsInside, IsPart}
 
@@ -109,7 +109,7 @@ part_set : (b m : Box) (k : ℕ) (d : List ℤ) → IsPart b m → HasCell k b �
 part_set b m k d h c g f = record { box = box_set b (k - 1) d h.box g; inside = inside_set b m (k - 1) d h.inside (place k b c) f }
 
 one_domain : (d : List ℤ) (v : ℤ) → IsDomain d → Contains d v → IsDomain (v ∷ [])
-unfolding Rising
+unfolding IsRising
 one_domain d v h c = record {
   rising = (tt, tt);
   some = λ e. some_none v e;

@@ -6,7 +6,7 @@ use Rattle.std.specs.Prelude.{Contains}
 use Rattle.ts_base.specs.declared.goal.Goal.{Goal}
 use Rattle.ts_bound.specs.TermSpans.{Automata, term_span, IsUsable as IsUsableOf}
 use Rattle.ts_model.specs.declared.model.Require.{Require}
-use Rattle.ts_model.specs.Stated.{Stated}
+use Rattle.ts_model.specs.ModelParts.{ModelParts}
 use Rattle.ts_filter.specs.declared.bar.Bar.{Bar}
 use Rattle.ts_filter.specs.Boxes.{Box, values_at, only}
 use Rattle.ts_filter.specs.Excluded.{Refutes, Cuts}
@@ -47,7 +47,7 @@ module _ (rs : List Require) (ms : List Automata) (term : ℕ) (a : Automata) (h
         Refutes r.op r.bound (term_span a k (only k v b)) → IsDrop rs (spans_of ms) k v j b
     to_dropped k v b u m c h = record { cell = (u.from, u.to); many = m; there = c; refuted = to_refuted k (only k v b) (usable_only a b k v u) h }
 
-  module _ (m : Stated) (goal : Goal) (p : ℕ) (b : Box) (bar : Bar) (e : m.objective ≡ Some term) where
+  module _ (m : ModelParts) (goal : Goal) (p : ℕ) (b : Box) (bar : Bar) (e : m.objective ≡ Some term) where
     to_cut : IsUsableOf a p b → Cuts goal bar (term_span a p b) → IsCut m (spans_of ms) goal p b bar
     to_cut u h = record {
       term = term;

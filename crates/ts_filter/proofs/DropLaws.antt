@@ -7,7 +7,7 @@ use Rattle.std.specs.List.{AllByRecursion}
 use Rattle.ts_bound.specs.TermSpans.{Automata, automata_of, value_span, IsUsable as IsUsableOf}
 use Rattle.ts_bound.proofs.Reached.{values_narrowed}
 use Rattle.ts_glue.specs.declared.machine.Machine.{Machine}
-use Rattle.ts_domain.specs.Values.{Rising}
+use Rattle.ts_domain.specs.Values.{IsRising}
 use Rattle.ts_domain.proofs.Sets.{contains_cons, each_contains}
 use Rattle.ts_model.specs.declared.model.Require.{Require}
 use Rattle.ts_filter.specs.declared.drops.Removal.{Removal}
@@ -23,14 +23,14 @@ use Rattle.ts_filter.proofs.Removals.{first_of_both, first_same}
 use Rattle.ts_filter.proofs.SoundLaws.{each_at}
 
 -- the first of a rising list is below the others
-pub rising_parts : (v : ℤ) (rest : List ℤ) → Rising (v ∷ rest) → AllByRecursion (λ y. v <ℤ y) rest × Rising rest
-unfolding Rising
+pub rising_parts : (v : ℤ) (rest : List ℤ) → IsRising (v ∷ rest) → AllByRecursion (λ y. v <ℤ y) rest × IsRising rest
+unfolding IsRising
 rising_parts v rest h = h
 
 -- what is known while the values of a cell are gone through: those left have every drop there is
 pub record AreLeft (rs : List Require) (term : ℕ) (a : Automata) (b : Box) (k : ℕ) (left : List ℤ) : Type 0 where
   pub inside : (u : ℤ) → Contains left u → Contains (values_at k b) u
-  pub rises : Rising left
+  pub rises : IsRising left
   pub ahead : (t : Removal) → IsDropAt rs term a b k t → Contains left t.value
 
 module _ (rs : List Require) (term : ℕ) (a : Automata) (b : Box) (k : ℕ) where
@@ -48,7 +48,7 @@ module _ (rs : List Require) (term : ℕ) (a : Automata) (b : Box) (k : ℕ) whe
   pub fewer_left : (left rest : List ℤ) (v : ℤ) → AreLeft rs term a b k left → left ≡ v ∷ rest → IsFirstRefuting rs term (value_span a k b v) None →
       AreLeft rs term a b k rest
   fewer_left left rest v h e n =
-      let r = rising_parts v rest (subst Rising e h.rises) in
+      let r = rising_parts v rest (subst IsRising e h.rises) in
       record {
         inside = λ u c. h.inside u (subst (λ l. Contains l u) (sym e) ((contains_cons v rest u).1 (inr c)));
         rises = r.1;
@@ -66,7 +66,7 @@ module _ (rs : List Require) (term : ℕ) (a : Automata) (b : Box) (k : ℕ) whe
       IsFirstRefuting rs term (value_span a k b v) (Some j) → IsFirstOf (IsDropAt rs term a b k) (Some (record { cell = k; value = v; require = j }))
   drop_found left rest v j h e u m f = (
     (refl, record { usable = u; many = m; there = is_inside left rest v h e; refuting = f.0 }),
-    λ t g. later v j t rest (rising_parts v rest (subst Rising e h.rises)).0 g f.1
+    λ t g. later v j t rest (rising_parts v rest (subst IsRising e h.rises)).0 g f.1
         ((contains_cons v rest t.value).0 (subst (λ l. Contains l t.value) e (h.ahead t g))),
   )
 

@@ -9,7 +9,7 @@ use Rattle.ts_base.specs.declared.goal.Goal.{Goal}
 use Rattle.ts_base.specs.declared.goal.Goal.TheVariants.{Maximise, Minimise}
 use Rattle.ts_base.specs.Numbers.{ext_le}
 use Rattle.ts_base.proofs.Order.{le_trans, le_antisym, le_other}
-use Rattle.ts_domain.specs.Values.{IsDomain, Rising}
+use Rattle.ts_domain.specs.Values.{IsDomain, IsRising}
 use Rattle.ts_domain.proofs.Sets.{contains_cons, nothing_in, each_contains}
 use Rattle.ts_filter.specs.Excluded.{is_better}
 use Rattle.ts_bound.specs.TermSpans.{Automata}
@@ -79,7 +79,7 @@ module _ (goal : Goal) (end : ℤ → Ext) where
 pub record IsSoFar (goal : Goal) (end : ℤ → Ext) (all left : List ℤ) (kept : ℤ) : Type 0 where
   pub there : Contains all kept
   pub inside : (u : ℤ) → Contains left u → Contains all u
-  pub rises : Rising left
+  pub rises : IsRising left
   pub low : (u : ℤ) → Contains left u → kept ≤ℤ u
   pub over : (u : ℤ) → Contains all u → Contains left u ⊎ IsPreferred goal end kept u
 
@@ -99,7 +99,7 @@ module _ (goal : Goal) (end : ℤ → Ext) (all : List ℤ) where
 
     pub kept_changes : is_better goal (end v) (end kept) ≡ true → IsSoFar goal end all rest v
     kept_changes f =
-        let r = rising_parts v rest (subst Rising e h.rises) in
+        let r = rising_parts v rest (subst IsRising e h.rises) in
         record {
           there = h.inside v first_left;
           inside = λ u c. h.inside u (rest_left u c);
@@ -112,7 +112,7 @@ module _ (goal : Goal) (end : ℤ → Ext) (all : List ℤ) where
 
     pub kept_stays : is_better goal (end v) (end kept) ≡ false → IsSoFar goal end all rest kept
     kept_stays f =
-        let r = rising_parts v rest (subst Rising e h.rises) in
+        let r = rising_parts v rest (subst IsRising e h.rises) in
         record {
           there = h.there;
           inside = λ u c. h.inside u (rest_left u c);

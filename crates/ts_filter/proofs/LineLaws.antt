@@ -3,7 +3,7 @@ use Rattle.std.proofs.Common.{◌≡◌, ℕ, zero, suc, ℤ, List, [], ◌∷�
 use Rattle.ts_certificate.specs.declared.certificate.TreeLine.{TreeLine}
 use Rattle.ts_certificate.specs.Certificate.{Cert, cert_lines, end_line}
 use Rattle.ts_certificate.specs.Grammar.{CertLine, SaysSeries, SaysTree, series_count}
-use Rattle.ts_model.specs.Stated.{Stated}
+use Rattle.ts_model.specs.ModelParts.{ModelParts}
 use Rattle.ts_filter.specs.Accepts.{AllFit, AllTold, HasTree, Accepts}
 use Rattle.ts_filter.specs.Boxes.{Box}
 use Rattle.ts_filter.specs.Laws.{AcceptedIsKept, OneFirstFailing, FailingIsRejected, LinesGoOn, WholeIsJudged}
@@ -17,7 +17,7 @@ use Rattle.ts_filter.proofs.TreeLaws.{to_steps, tree_is_steps}
 abbrev stand : Head → List (List ℤ) → List Box → ℕ → Stand
 stand h series w told = record { aim = Some h.aim; claim = Some h.claim; series = series; waiting = w; told = told }
 
-module _ (m : Stated) (s : Spans) where
+module _ (m : ModelParts) (s : Spans) where
   leads_append : (t u v : Stand) (ls ms : List CertLine) → Leads m s t ls u → Leads m s u ms v → Leads m s t (ls ++ ms) v
   leads_append t u v [] ms r q = subst (λ z. Leads m s z ms v) (sym r) q
   leads_append t u v (l ∷ ls) ms r q = (r.0, leads_append (stand_after t l) u v ls ms r.1 q)

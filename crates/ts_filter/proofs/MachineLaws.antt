@@ -9,7 +9,7 @@ use Rattle.ts_base.specs.Spans.{Holds, one_span}
 use Rattle.ts_domain.specs.BoxSeries.{InBox}
 use Rattle.ts_pattern.specs.TermValue.{value_of}
 use Rattle.ts_model.specs.Meets.{value_at, values_on}
-use Rattle.ts_model.specs.Stated.{Stated}
+use Rattle.ts_model.specs.ModelParts.{ModelParts}
 use Rattle.ts_glue.specs.Pairs.{Pair}
 use Rattle.ts_bound.specs.TermSpans.{Automata, IsUsable as IsUsableOf}
 use Rattle.ts_filter.specs.Boxes.{Box, box_of, IsPart}
@@ -48,7 +48,7 @@ every_held NegInf = (refl, refl)
 every_held (Int x) = (refl, refl)
 every_held PosInf = (refl, refl)
 
-module _ (m : Stated) (machines : List Automata) (each : (term : ℕ) (a : Automata) → slice_get machines term ≡ Some a → HoldsTerm m term a) where
+module _ (m : ModelParts) (machines : List Automata) (each : (term : ℕ) (a : Automata) → slice_get machines term ≡ Some a → HoldsTerm m term a) where
   held_by : (term p : ℕ) (b : Box) (x : List ℤ) (v : Ext) → IsPart b m.cells → IsUsable (spans_of machines) term p b → InBox x b →
       value_at m x term ≡ Some v → (o : Option Automata) → slice_get machines term ≡ o → Holds (span_of o p b) v
   held_by term p b x v i u h e None f = every_held v

@@ -18,11 +18,11 @@ use Rattle.ts_domain.specs.Values.{IsDomain, WithinLimits}
 use Rattle.ts_domain.proofs.Sets.{contains_cons, each_contains}
 use Rattle.ts_domain.proofs.BoxLaws.{contains_up_to, contains_above}
 use Rattle.ts_model.specs.declared.model.Require.{Require}
-use Rattle.ts_model.specs.Stated.{Stated}
+use Rattle.ts_model.specs.ModelParts.{ModelParts}
 use Rattle.ts_filter.specs.Boxes.{Box, HasCell, values_at, IsPart}
 use Rattle.ts_filter.specs.Laws.{LinesInRange}
 use Rattle.ts_filter.specs.RefutedWorseDrop.{Spans, IsRequirement}
-use Rattle.ts_filter.specs.Rules.{Head, IsWorseFor, claimed, KeepsRule}
+use Rattle.ts_filter.specs.Rules.{Head, IsWorseFor, claimed_value, KeepsRule}
 use Rattle.ts_filter.specs.Steps.{made_by, Steps}
 use Rattle.ts_filter.specs.Tree.{told_by}
 use Rattle.ts_filter.proofs.BoxParts.{place, domain_at, inside_length, part_self}
@@ -47,7 +47,7 @@ first_of (v ∷ d) some = (v, (contains_cons v d v).1 (inl refl))
 within_limits : (d : List ℤ) (v : ℤ) → IsDomain d → Contains d v → WithinLimits v
 within_limits d v h c = each_contains WithinLimits d v h.within c
 
-module _ (m : Stated) (s : Spans) (h : Head) (few : length m.cells ≤ most_cells) (short : length m.requirements ≤ most_requirements) where
+module _ (m : ModelParts) (s : Spans) (h : Head) (few : length m.cells ≤ most_cells) (short : length m.requirements ≤ most_requirements) where
   cell_in : (k : ℕ) (b : Box) → IsPart b m.cells → HasCell k b → is_cell k ≡ true
   cell_in k b i c = let n = inside_length b m.cells i.inside in cell_range k (length b) c.0 c.1 (omega arith)
 
@@ -82,7 +82,7 @@ module _ (m : Stated) (s : Spans) (h : Head) (few : length m.cells ≤ most_cell
       and_from (is_cell k) (is_value v && is_requirement j) (cell_in k b i f.cell)
       (and_from (is_value v) (is_requirement j) (value_range v w.0 w.1) (requirement_in j f.refuted.require f.refuted.is))
   line_in told (No j p) b i f = and_from (is_requirement j) (is_cell p) (requirement_in j f.require f.is) (cell_in p b i f.usable.cell)
-  line_in told (Worse p) b i f = may_in (claimed h.claim) p b i f
+  line_in told (Worse p) b i f = may_in (claimed_value h.claim) p b i f
   line_in told Yes b i f = refl
   line_in told Unsearched b i f = refl
 

@@ -9,7 +9,7 @@ use Rattle.ts_certificate.specs.declared.certificate.Claim.TheVariants.{Full, Al
 use Rattle.ts_certificate.specs.Grammar.{series_count}
 use Rattle.ts_domain.specs.BoxSeries.{IsBefore}
 use Rattle.ts_model.specs.Meets.{Meets}
-use Rattle.ts_model.specs.Stated.{Stated}
+use Rattle.ts_model.specs.ModelParts.{ModelParts}
 use Rattle.ts_filter.specs.Accepts.{objective_of, ComesAfter, IsAsClaimed, AllFit}
 use Rattle.ts_filter.specs.Boxes.{Box, InSome}
 use Rattle.ts_filter.specs.Holds.{IsOne, IsListed, AllDiffer, ListHolds}
@@ -55,7 +55,7 @@ climb_one (z ∷ []) x c l = (l, tt)
 climb_one (z ∷ y ∷ zs) x c l = (c.0, climb_one (y ∷ zs) x c.1 l)
 
 -- all series lines keep their rule: they meet, and are the one with the claimed objective, or climb
-abbrev pub AreFit : Stated → Claim → List (List ℤ) → Type 0
+abbrev pub AreFit : ModelParts → Claim → List (List ℤ) → Type 0
 AreFit m (Best v) series = IsOne m v series
 AreFit m Infeasible series = Unit {0}
 AreFit m (BudgetBest v) series = IsOne m v series
@@ -64,23 +64,23 @@ AreFit m (Full c) series = AllByRecursion (Meets m) series × Climbs series
 AreFit m (All c) series = AllByRecursion (Meets m) series × Climbs series
 AreFit m (BudgetList c) series = AllByRecursion (Meets m) series × Climbs series
 
-fit_meet : (m : Stated) (c : Claim) (done xs : List (List ℤ)) → AllFit m c done xs → AllByRecursion (Meets m) xs
+fit_meet : (m : ModelParts) (c : Claim) (done xs : List (List ℤ)) → AllFit m c done xs → AllByRecursion (Meets m) xs
 fit_meet m c done [] k = tt
 fit_meet m c done (x ∷ xs) k = (k.0.meets, fit_meet m c (done ++ x ∷ []) xs k.1)
 
-fit_climb : (m : Stated) (c : Claim) → ((ys : List (List ℤ)) (x : List ℤ) → IsAsClaimed m c ys x → ComesAfter ys x) → (xs done : List (List ℤ)) →
+fit_climb : (m : ModelParts) (c : Claim) → ((ys : List (List ℤ)) (x : List ℤ) → IsAsClaimed m c ys x → ComesAfter ys x) → (xs done : List (List ℤ)) →
     Climbs done → AllFit m c done xs → Climbs (done ++ xs)
 fit_climb m c g [] done h k = subst Climbs (sym (append-nil done)) h
 fit_climb m c g (x ∷ xs) done h k =
     subst Climbs (append_assoc done (x ∷ []) xs) (fit_climb m c g xs (done ++ x ∷ []) (climb_one done x h (g done x k.0.claimed)) k.1)
 
-fit_one : (m : Stated) (v : Ext) (c : Claim) → ((ys : List (List ℤ)) (x : List ℤ) → IsAsClaimed m c ys x → objective_of m x ≡ Some v) →
+fit_one : (m : ModelParts) (v : Ext) (c : Claim) → ((ys : List (List ℤ)) (x : List ℤ) → IsAsClaimed m c ys x → objective_of m x ≡ Some v) →
     (xs : List (List ℤ)) → length xs ≡ 1 → AllFit m c [] xs → IsOne m v xs
 fit_one m v c g [] n k = absurd (omega (arith, n))
 fit_one m v c g (x ∷ []) n k = record { x = x; alone = refl; meets = k.0.meets; value = g [] x k.0.claimed }
 fit_one m v c g (x ∷ z ∷ xs) n k = absurd (omega (arith, n))
 
-pub fit_all : (m : Stated) (c : Claim) (xs : List (List ℤ)) → length xs ≡ series_count c → AllFit m c [] xs → AreFit m c xs
+pub fit_all : (m : ModelParts) (c : Claim) (xs : List (List ℤ)) → length xs ≡ series_count c → AllFit m c [] xs → AreFit m c xs
 fit_all m (Best v) xs n k = fit_one m v (Best v) (λ ys x e. e) xs n k
 fit_all m Infeasible xs n k = tt
 fit_all m (BudgetBest v) xs n k = fit_one m v (BudgetBest v) (λ ys x e. e) xs n k
@@ -89,6 +89,6 @@ fit_all m (Full c) xs n k = (fit_meet m (Full c) [] xs k, fit_climb m (Full c) (
 fit_all m (All c) xs n k = (fit_meet m (All c) [] xs k, fit_climb m (All c) (λ ys x e. e) xs [] tt k)
 fit_all m (BudgetList c) xs n k = (fit_meet m (BudgetList c) [] xs k, fit_climb m (BudgetList c) (λ ys x e. e) xs [] tt k)
 
-pub fits_list : (m : Stated) (series : List (List ℤ)) (opens : List Box) → AllByRecursion (Meets m) series × Climbs series →
+pub fits_list : (m : ModelParts) (series : List (List ℤ)) (opens : List Box) → AllByRecursion (Meets m) series × Climbs series →
     ((x : List ℤ) → Meets m x → IsListed x series ⊎ InSome opens x) → ListHolds m series opens
 fits_list m series opens g f = record { differ = climb_differ series g.1; meet = g.0; others = f }

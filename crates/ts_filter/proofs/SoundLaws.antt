@@ -16,7 +16,7 @@ use Rattle.ts_model.specs.declared.model.Require.{Require}
 use Rattle.ts_model.specs.Compares.{compares}
 use Rattle.ts_model.specs.Meets.{IsMet, Meets, value_at, values_on}
 use Rattle.ts_model.specs.Promise.{IsWhole}
-use Rattle.ts_model.specs.Stated.{Stated}
+use Rattle.ts_model.specs.ModelParts.{ModelParts}
 use Rattle.ts_filter.specs.declared.bar.Bar.{Bar}
 use Rattle.ts_filter.specs.Accepts.{value_of_term, objective_of}
 use Rattle.ts_filter.specs.Boxes.{Box, only, box_of, IsPart}
@@ -34,7 +34,7 @@ each_at P [] i r h e = absurd (let f : ◌≡◌ {A = Option Require} None (Some
 each_at P (q ∷ rs) zero r h e = subst P (same_Some q r e) h.0
 each_at P (q ∷ rs) (suc i) r h e = each_at P rs i r h.1 e
 
-module _ (m : Stated) (s : Spans) (holds : HoldsValues m s) where
+module _ (m : ModelParts) (s : Spans) (holds : HoldsValues m s) where
   no_series : (j p : ℕ) (b : Box) (x : List ℤ) → IsPart b m.cells → IsRefuted m.requirements s j p b → InBox x b → Meets m x → ⊥
   no_series j p b x i r h q =
       let met = each_at (IsMet m x) m.requirements (j - 1) r.require q.requirements r.is.1 in
@@ -59,7 +59,7 @@ series_length [] (d ∷ b) h = absurd h
 series_length (v ∷ x) [] h = absurd h
 series_length (v ∷ x) (d ∷ b) h = ap suc (series_length x b h.1)
 
-module _ (m : Stated) (s : Spans) (whole : IsWhole m) (tells : TellsSingles m s) where
+module _ (m : ModelParts) (s : Spans) (whole : IsWhole m) (tells : TellsSingles m s) where
   last_usable : (term : ℕ) (x : List ℤ) → InBox x m.cells → IsUsable s term (length x) (box_of x)
   last_usable term x h =
       let n = series_length x m.cells h in

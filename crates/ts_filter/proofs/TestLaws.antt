@@ -7,7 +7,7 @@ use Rattle.std.specs.Prelude.{◌||◌, IsTrue, nat_eq, nat_le}
 use Rattle.ts_base.specs.declared.goal.Goal.{Goal}
 use Rattle.ts_model.specs.declared.model.Require.{Require}
 use Rattle.ts_model.specs.Judgement.{is_among}
-use Rattle.ts_model.specs.Stated.{Stated}
+use Rattle.ts_model.specs.ModelParts.{ModelParts}
 use Rattle.ts_model.proofs.MeetsLaw.{int_same}
 use Rattle.ts_filter.specs.declared.bar.Bar.{Bar}
 use Rattle.ts_filter.specs.Boxes.{Box, HasCell, values_at, only}
@@ -91,7 +91,7 @@ module _ (rs : List Require) (s : Spans) where
         (list_any-from_Contains int_eq_equiv v (values_at k b) d.there)) ((refuted_tells j k (only k v b)).1 d.refuted)),
   )
 
-module _ (m : Stated) (s : Spans) where
+module _ (m : ModelParts) (s : Spans) where
   cut_told : (goal : Goal) (p : ℕ) (b : Box) (bar : Bar) (o : Option ℕ) → m.objective ≡ o → cut_by s goal p b bar o ≡ true → IsCut m s goal p b bar
   cut_told goal p b bar None e h = absurd (let f : ◌≡◌ {A = Bool} false true = h in cc)
   cut_told goal p b bar (Some term) e h =

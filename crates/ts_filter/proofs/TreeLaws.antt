@@ -5,7 +5,7 @@ use Rattle.ts_certificate.specs.declared.certificate.TreeLine.{TreeLine}
 use Rattle.ts_certificate.specs.declared.certificate.TreeLine.TheVariants.{Split, Remove, No, Worse, Yes, Unsearched}
 use Rattle.ts_domain.specs.BoxSeries.{IsBox}
 use Rattle.ts_domain.proofs.BoxLaws.{some_series}
-use Rattle.ts_model.specs.Stated.{Stated, total_of}
+use Rattle.ts_model.specs.ModelParts.{ModelParts, total_of}
 use Rattle.ts_filter.specs.Boxes.{Box, low_side, high_side, without, only, IsPart}
 use Rattle.ts_filter.specs.Laws.{StepsGoOn, FormedIsShort, FitIsFormed, TreeIsSteps}
 use Rattle.ts_filter.specs.RefutedWorseDrop.{Spans}
@@ -14,7 +14,7 @@ use Rattle.ts_filter.specs.Steps.{made_by, Steps}
 use Rattle.ts_filter.specs.Tree.{Tree, Leaf, Drop, Fork, tree_lines, told_by, told_after, Fits}
 use Rattle.ts_filter.proofs.BoxParts.{inside_length, low_part, high_part, without_part, only_part, others_stay, part_self, box_total, low_total, high_total, without_total, sides_count, drop_count}
 
-module _ (m : Stated) (s : Spans) (h : Head) where
+module _ (m : ModelParts) (s : Spans) (h : Head) where
   pub tree_steps : (told : ℕ) (b : Box) (t : Tree) (w : List Box) (rest : List TreeLine) (left : List Box) (after : ℕ) →
       Fits m s h told b t → Steps m s h w (told_after t told) rest left after → Steps m s h (b ∷ w) told (tree_lines t ++ rest) left after
   tree_steps told b (Leaf (Split k t)) w rest left after f r = absurd f.0

@@ -10,13 +10,13 @@ use Rattle.ts_certificate.specs.Certificate.{Cert}
 use Rattle.ts_certificate.specs.Grammar.{series_count}
 use Rattle.ts_domain.specs.BoxSeries.{IsBefore}
 use Rattle.ts_model.specs.Meets.{Meets, value_at}
-use Rattle.ts_model.specs.Stated.{Stated}
+use Rattle.ts_model.specs.ModelParts.{ModelParts}
 use Rattle.ts_filter.specs.RefutedWorseDrop.{Spans}
 use Rattle.ts_filter.specs.Rules.{head_of}
 use Rattle.ts_filter.specs.Tree.{Tree, tree_lines, told_after, Fits}
 
 -- after `maximise` and `minimise` the model has an objective
-abbrev pub AimFits : Stated → Aim → Type 0
+abbrev pub AimFits : ModelParts → Aim → Type 0
 AimFits m (BestOf goal) = IsSome m.objective
 AimFits m (ListOf count) = Unit {0}
 
@@ -37,12 +37,12 @@ ClaimFits (ListOf count) (Full c) = c ≡ count
 ClaimFits (ListOf count) (All c) = c < count
 ClaimFits (ListOf count) (BudgetList c) = c < count
 
-abbrev pub value_of_term : Stated → List ℤ → Option ℕ → Option Ext
+abbrev pub value_of_term : ModelParts → List ℤ → Option ℕ → Option Ext
 value_of_term m x None = None
 value_of_term m x (Some term) = value_at m x term
 
 -- the value of the objective on a series; none where the model has no objective
-abbrev pub objective_of : Stated → List ℤ → Option Ext
+abbrev pub objective_of : ModelParts → List ℤ → Option Ext
 objective_of m x = value_of_term m x m.objective
 
 -- the last series before it comes earlier in lexicographic order
@@ -52,7 +52,7 @@ ComesAfter (z ∷ []) x = IsBefore z x
 ComesAfter (z ∷ y ∷ zs) x = ComesAfter (y ∷ zs) x
 
 -- it has the claimed objective, or it comes after the series before
-abbrev pub IsAsClaimed : Stated → Claim → List (List ℤ) → List ℤ → Type 0
+abbrev pub IsAsClaimed : ModelParts → Claim → List (List ℤ) → List ℤ → Type 0
 IsAsClaimed m (Best v) before x = objective_of m x ≡ Some v
 IsAsClaimed m Infeasible before x = Unit {0}
 IsAsClaimed m (BudgetBest v) before x = objective_of m x ≡ Some v
@@ -62,12 +62,12 @@ IsAsClaimed m (All c) before x = ComesAfter before x
 IsAsClaimed m (BudgetList c) before x = ComesAfter before x
 
 -- the rule of a series line, after these: it meets the model, and is as the claim says
-pub record SeriesFits (m : Stated) (claim : Claim) (before : List (List ℤ)) (x : List ℤ) : Type 0 where
+pub record SeriesFits (m : ModelParts) (claim : Claim) (before : List (List ℤ)) (x : List ℤ) : Type 0 where
   pub meets : Meets m x
   pub claimed : IsAsClaimed m claim before x
 
 -- each of the series lines keeps it
-abbrev pub AllFit : Stated → Claim → List (List ℤ) → List (List ℤ) → Type 0
+abbrev pub AllFit : ModelParts → Claim → List (List ℤ) → List (List ℤ) → Type 0
 AllFit m claim before [] = Unit {0}
 AllFit m claim before (x ∷ xs) = SeriesFits m claim before x × AllFit m claim (before ++ x ∷ []) xs
 
@@ -77,13 +77,13 @@ AllTold (BestOf goal) told listed = Unit {0}
 AllTold (ListOf count) told listed = told ≡ listed
 
 -- the tree lines are those of one tree for the model's box
-pub record HasTree (m : Stated) (s : Spans) (c : Cert) : Type 0 where
+pub record HasTree (m : ModelParts) (s : Spans) (c : Cert) : Type 0 where
   pub tree : Tree
   pub lines : tree_lines tree ≡ c.tree
   pub fits : Fits m s (head_of c) 0 m.cells tree
   pub told : AllTold c.aim (told_after tree 0) (length c.series)
 
-pub record Accepts (m : Stated) (s : Spans) (c : Cert) : Type 0 where
+pub record Accepts (m : ModelParts) (s : Spans) (c : Cert) : Type 0 where
   pub aim : AimFits m c.aim
   pub claim : ClaimFits c.aim c.claim
   pub count : length c.series ≡ series_count c.claim

@@ -10,21 +10,21 @@ use Rattle.ts_certificate.specs.declared.certificate.Claim.TheVariants.{Best, In
 use Rattle.ts_certificate.specs.declared.certificate.Claim.TheVariants.{Full, All, BudgetList}
 use Rattle.ts_certificate.specs.Certificate.{Cert}
 use Rattle.ts_model.specs.Meets.{Meets}
-use Rattle.ts_model.specs.Stated.{Stated}
+use Rattle.ts_model.specs.ModelParts.{ModelParts}
 use Rattle.ts_filter.specs.Accepts.{objective_of}
 use Rattle.ts_filter.specs.Boxes.{Box, InSome}
 use Rattle.ts_filter.specs.Excluded.{is_better}
 use Rattle.ts_filter.specs.Steps.{open_boxes}
 
 -- the one series meets and has the objective v
-pub record IsOne (m : Stated) (v : Ext) (series : List (List ℤ)) : Type 0 where
+pub record IsOne (m : ModelParts) (v : Ext) (series : List (List ℤ)) : Type 0 where
   pub x : List ℤ
   pub alone : series ≡ x ∷ []
   pub meets : Meets m x
   pub value : objective_of m x ≡ Some v
 
 -- the series meets, and its objective is better than v
-pub record IsBetter (m : Stated) (goal : Goal) (v : Ext) (x : List ℤ) : Type 0 where
+pub record IsBetter (m : ModelParts) (goal : Goal) (v : Ext) (x : List ℤ) : Type 0 where
   pub meets : Meets m x
   pub value : Ext
   pub is : objective_of m x ≡ Some value
@@ -39,12 +39,12 @@ AllDiffer [] = Unit {0}
 AllDiffer (x ∷ xs) = (IsListed x xs → ⊥) × AllDiffer xs
 
 -- the listed series are different and meet, and every other one that meets lies in one of the boxes
-pub record ListHolds (m : Stated) (series : List (List ℤ)) (opens : List Box) : Type 0 where
+pub record ListHolds (m : ModelParts) (series : List (List ℤ)) (opens : List Box) : Type 0 where
   pub differ : AllDiffer series
   pub meet : AllByRecursion (Meets m) series
   pub others : (x : List ℤ) → Meets m x → IsListed x series ⊎ InSome opens x
 
-abbrev pub BestHolds : Stated → Goal → Claim → List (List ℤ) → List Box → Type 0
+abbrev pub BestHolds : ModelParts → Goal → Claim → List (List ℤ) → List Box → Type 0
 BestHolds m goal (Best v) series opens = IsOne m v series × ((x : List ℤ) → IsBetter m goal v x → ⊥)
 BestHolds m goal Infeasible series opens = (x : List ℤ) → Meets m x → ⊥
 BestHolds m goal (BudgetBest v) series opens =
@@ -54,7 +54,7 @@ BestHolds m goal (Full c) series opens = ⊥
 BestHolds m goal (All c) series opens = ⊥
 BestHolds m goal (BudgetList c) series opens = ⊥
 
-abbrev pub ListingHolds : Stated → Claim → List (List ℤ) → List Box → Type 0
+abbrev pub ListingHolds : ModelParts → Claim → List (List ℤ) → List Box → Type 0
 ListingHolds m (Best v) series opens = ⊥
 ListingHolds m Infeasible series opens = ⊥
 ListingHolds m (BudgetBest v) series opens = ⊥
@@ -63,10 +63,10 @@ ListingHolds m (Full c) series opens = ListHolds m series opens
 ListingHolds m (All c) series opens = ListHolds m series []
 ListingHolds m (BudgetList c) series opens = ListHolds m series opens
 
-abbrev pub ClaimHolds : Stated → Aim → Claim → List (List ℤ) → List Box → Type 0
+abbrev pub ClaimHolds : ModelParts → Aim → Claim → List (List ℤ) → List Box → Type 0
 ClaimHolds m (BestOf goal) claim series opens = BestHolds m goal claim series opens
 ClaimHolds m (ListOf count) claim series opens = ListingHolds m claim series opens
 
 -- the meaning of the claim
-abbrev pub Holds : Stated → Cert → Type 0
+abbrev pub Holds : ModelParts → Cert → Type 0
 Holds m c = ClaimHolds m c.aim c.claim c.series (open_boxes (m.cells ∷ []) c.tree)

@@ -5,7 +5,7 @@ use Rattle.ts_certificate.specs.declared.certificate.Claim.{Claim}
 use Rattle.ts_certificate.specs.declared.certificate.TreeLine.{TreeLine}
 use Rattle.ts_certificate.specs.Certificate.{Cert, cert_lines}
 use Rattle.ts_certificate.specs.Grammar.{CertLine, SaysAim, SaysClaim, SaysSeries, SaysTree, SaysEnd}
-use Rattle.ts_model.specs.Stated.{Stated}
+use Rattle.ts_model.specs.ModelParts.{ModelParts}
 use Rattle.ts_filter.specs.Accepts.{AimFits, ClaimFits, SeriesFits, AllTold}
 use Rattle.ts_filter.specs.Boxes.{Box}
 use Rattle.ts_filter.specs.RefutedWorseDrop.{Spans}
@@ -22,11 +22,12 @@ pub record Stand : Type 0 where
   pub told : ℕ
 
 -- before the first line
-abbrev pub first_stand : Stated → Stand
+abbrev pub first_stand : ModelParts → Stand
 first_stand m = record { aim = None; claim = None; series = []; waiting = m.cells ∷ []; told = 0 }
 
 -- the rule of a tree line: a box waits for it, and there it keeps the rule of its form
-abbrev pub KeepsTreeRule : Stated → Spans → Option Aim → Option Claim → List (List ℤ) → List Box → ℕ → TreeLine → Type 0
+abbrev pub KeepsTreeRule : ModelParts → Spans → Option Aim → Option Claim → List (List ℤ) → List Box → ℕ → TreeLine →
+    Type 0
 KeepsTreeRule m s None claim series waiting told l = ⊥
 KeepsTreeRule m s (Some aim) None series waiting told l = ⊥
 KeepsTreeRule m s (Some aim) (Some claim) series [] told l = ⊥
@@ -34,7 +35,7 @@ KeepsTreeRule m s (Some aim) (Some claim) series (b ∷ waiting) told l =
     KeepsRule m s (record { aim = aim; claim = claim; series = series }) told b l
 
 -- the line keeps its rule after lines that leave this
-abbrev pub KeepsLine : Stated → Spans → Stand → CertLine → Type 0
+abbrev pub KeepsLine : ModelParts → Spans → Stand → CertLine → Type 0
 KeepsLine m s t (SaysAim a) = AimFits m a
 KeepsLine m s t (SaysClaim c) = MatchOption t.aim ⊥ (λ a. ClaimFits a c)
 KeepsLine m s t (SaysSeries x) = MatchOption t.claim ⊥ (λ c. SeriesFits m c t.series x)
@@ -55,23 +56,23 @@ stand_after t (SaysTree l) = record t { waiting = waiting_after t.waiting l; tol
 stand_after t (SaysEnd checked unsearched) = t
 
 -- each line keeps its rule, and they lead to this
-abbrev pub Leads : Stated → Spans → Stand → List CertLine → Stand → Type 0
+abbrev pub Leads : ModelParts → Spans → Stand → List CertLine → Stand → Type 0
 Leads m s t [] u = t ≡ u
 Leads m s t (l ∷ ls) u = KeepsLine m s t l × Leads m s (stand_after t l) ls u
 
 -- line number n, counted from 1, breaks its rule, and those before keep theirs
-abbrev pub FailsAt : Stated → Spans → Stand → List CertLine → ℕ → Type 0
+abbrev pub FailsAt : ModelParts → Spans → Stand → List CertLine → ℕ → Type 0
 FailsAt m s t [] n = ⊥
 FailsAt m s t (l ∷ ls) zero = ⊥
 FailsAt m s t (l ∷ ls) (suc zero) = KeepsLine m s t l → ⊥
 FailsAt m s t (l ∷ ls) (suc (suc n)) = KeepsLine m s t l × FailsAt m s (stand_after t l) ls (suc n)
 
 -- the first line of the certificate that breaks its rule
-abbrev pub IsFirstFailing : Stated → Spans → Cert → ℕ → Type 0
+abbrev pub IsFirstFailing : ModelParts → Spans → Cert → ℕ → Type 0
 IsFirstFailing m s c n = FailsAt m s (first_stand m) (cert_lines c) n
 
 -- what is known of lines as far as they are read: all kept their rules and lead to this, or line n is the first that
 -- breaks its rule
-abbrev pub Found : Stated → Spans → List CertLine → Stand → Option ℕ → Type 0
-Found m s ls t None = Leads m s (first_stand m) ls t
-Found m s ls t (Some n) = FailsAt m s (first_stand m) ls n
+abbrev pub IsOutcome : ModelParts → Spans → List CertLine → Stand → Option ℕ → Type 0
+IsOutcome m s ls t None = Leads m s (first_stand m) ls t
+IsOutcome m s ls t (Some n) = FailsAt m s (first_stand m) ls n

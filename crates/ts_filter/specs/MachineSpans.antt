@@ -6,12 +6,12 @@ use Rattle.ts_base.specs.declared.ext.Ext.TheVariants.{NegInf, PosInf}
 use Rattle.ts_base.specs.declared.goal.Goal.{Goal}
 use Rattle.ts_base.specs.declared.span.Span.{Span}
 use Rattle.ts_base.specs.Spans.{Holds, one_span}
-use Rattle.ts_automaton.specs.AutomatonRun.{answer, Marked}
+use Rattle.ts_automaton.specs.AutomatonRun.{answer, HoldsMark}
 use Rattle.ts_domain.specs.BoxSeries.{InBox, IsBox}
 use Rattle.ts_model.specs.declared.model.Require.{Require}
 use Rattle.ts_model.specs.Meets.{value_at}
 use Rattle.ts_model.specs.Promise.{IsWhole}
-use Rattle.ts_model.specs.Stated.{Stated}
+use Rattle.ts_model.specs.ModelParts.{ModelParts}
 use Rattle.ts_bound.specs.TermSpans.{Automata, term_span, IsUsable as IsUsableOf}
 use Rattle.ts_bound.specs.Laws.{AreAutomata}
 use Rattle.ts_filter.specs.declared.bar.Bar.{Bar}
@@ -50,13 +50,13 @@ SpansAreOfMachines =
     AreOfMachine machines term a
 
 -- the span of the machine at a usable cell holds the term's value on each series of the box
-abbrev pub HoldsTerm : Stated → ℕ → Automata → Type 0
+abbrev pub HoldsTerm : ModelParts → ℕ → Automata → Type 0
 HoldsTerm m term a =
     (p : ℕ) (b : Box) (x : List ℤ) (v : Ext) → IsPart b m.cells → IsUsableOf a p b → InBox x b →
     value_at m x term ≡ Some v → Holds (term_span a p b) v
 
 -- on the box of one series, at the last cell, it holds the term's value alone
-abbrev pub TellsTerm : Stated → ℕ → Automata → Type 0
+abbrev pub TellsTerm : ModelParts → ℕ → Automata → Type 0
 TellsTerm m term a =
     (x : List ℤ) (v : Ext) → InBox x m.cells → value_at m x term ≡ Some v →
     term_span a (length x) (box_of x) ≡ one_span v
@@ -64,19 +64,19 @@ TellsTerm m term a =
 -- what holds of each machine holds of the spans
 abbrev pub MachinesHold : Type 0
 MachinesHold =
-    (m : Stated) (machines : List Automata) →
+    (m : ModelParts) (machines : List Automata) →
     ((term : ℕ) (a : Automata) → slice_get machines term ≡ Some a → HoldsTerm m term a) →
     HoldsValues m (spans_of machines)
 
 abbrev pub MachinesTell : Type 0
 MachinesTell =
-    (m : Stated) (machines : List Automata) → length machines ≡ length m.terms →
+    (m : ModelParts) (machines : List Automata) → length machines ≡ length m.terms →
     ((term : ℕ) (a : Automata) → slice_get machines term ≡ Some a → TellsTerm m term a) →
     TellsSingles m (spans_of machines)
 
 -- what a call tells of the machine of a requirement's term, or of the objective, at a cell that may be used, is what is
 -- defined of the spans of all
-pub record TellOf (m : Stated) (requirements : List Require) (s : Spans) (term : ℕ) (a : Automata) : Type 0 where
+pub record TellOf (m : ModelParts) (requirements : List Require) (s : Spans) (term : ℕ) (a : Automata) : Type 0 where
   pub refuted : (j p : ℕ) (b : Box) (r : Require) → IsRequirement requirements j r → r.term ≡ term → IsUsableOf a p b →
       Refutes r.op r.bound (term_span a p b) ↔ IsRefuted requirements s j p b
   pub cut : (goal : Goal) (p : ℕ) (b : Box) (bar : Bar) → m.objective ≡ Some term → IsUsableOf a p b →
@@ -87,22 +87,22 @@ pub record TellOf (m : Stated) (requirements : List Require) (s : Spans) (term :
 
 abbrev pub CallsTell : Type 0
 CallsTell =
-    (m : Stated) (requirements : List Require) (machines : List Automata) (term : ℕ) (a : Automata) →
+    (m : ModelParts) (requirements : List Require) (machines : List Automata) (term : ℕ) (a : Automata) →
     slice_get machines term ≡ Some a → TellOf m requirements (spans_of machines) term a
 
 -- a machine whose answer on each series of the model's box is the term's value
-pub record AnswersTerm (m : Stated) (term : ℕ) (a : Automata) : Type 0 where
+pub record AnswersTerm (m : ModelParts) (term : ℕ) (a : Automata) : Type 0 where
   pub machine : AreAutomata a
-  pub marked : Marked a.forward
+  pub marked : HoldsMark a.forward
   pub answers : (x : List ℤ) (v : Ext) → InBox x m.cells → value_at m x term ≡ Some v → answer a.forward x ≡ v
 
 -- one for each term, in their order
-pub record AnswerTerms (m : Stated) (machines : List Automata) : Type 0 where
+pub record AnswerTerms (m : ModelParts) (machines : List Automata) : Type 0 where
   pub count : length machines ≡ length m.terms
   pub each : (term : ℕ) (a : Automata) → slice_get machines term ≡ Some a → AnswersTerm m term a
 
 -- their spans hold the values of the terms, and tell that of a single series
 abbrev pub AnswersAreEnough : Type 0
 AnswersAreEnough =
-    (m : Stated) (machines : List Automata) → IsBox m.cells → IsWhole m → AnswerTerms m machines →
+    (m : ModelParts) (machines : List Automata) → IsBox m.cells → IsWhole m → AnswerTerms m machines →
     HoldsValues m (spans_of machines) × TellsSingles m (spans_of machines)

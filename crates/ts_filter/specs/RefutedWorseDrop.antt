@@ -4,7 +4,7 @@ use Rattle.ts_base.specs.declared.ext.Ext.{Ext}
 use Rattle.ts_base.specs.declared.goal.Goal.{Goal}
 use Rattle.ts_base.specs.declared.span.Span.{Span}
 use Rattle.ts_model.specs.declared.model.Require.{Require}
-use Rattle.ts_model.specs.Stated.{Stated}
+use Rattle.ts_model.specs.ModelParts.{ModelParts}
 use Rattle.ts_filter.specs.declared.bar.Bar.{Bar}
 use Rattle.ts_filter.specs.declared.bar.Bar.TheVariants.{Better}
 use Rattle.ts_filter.specs.Boxes.{Box, HasCell, values_at, only}
@@ -33,14 +33,14 @@ pub record IsRefuted (requirements : List Require) (s : Spans) (j p : ℕ) (b : 
   pub refutes : Refutes require.op require.bound (s.span_at require.term p b)
 
 -- no number in the objective's span at p counts for the bar
-pub record IsCut (m : Stated) (s : Spans) (goal : Goal) (p : ℕ) (b : Box) (bar : Bar) : Type 0 where
+pub record IsCut (m : ModelParts) (s : Spans) (goal : Goal) (p : ℕ) (b : Box) (bar : Bar) : Type 0 where
   pub term : ℕ
   pub is : m.objective ≡ Some term
   pub usable : IsUsable s term p b
   pub cuts : Cuts goal bar (s.span_at term p b)
 
 -- no number in it is better than v
-abbrev pub IsWorse : Stated → Spans → Goal → ℕ → Box → Ext → Type 0
+abbrev pub IsWorse : ModelParts → Spans → Goal → ℕ → Box → Ext → Type 0
 IsWorse m s goal p b v = IsCut m s goal p b (Better v)
 
 -- cell k has the value v and others, and requirement j is refuted at k on the box with x_k = v

@@ -10,7 +10,7 @@ use Rattle.ts_certificate.specs.declared.certificate.TreeLine.{TreeLine}
 use Rattle.ts_certificate.specs.declared.certificate.TreeLine.TheVariants.{Split, Remove, No, Worse, Yes, Unsearched}
 use Rattle.ts_certificate.specs.Certificate.{Cert}
 use Rattle.ts_domain.specs.Kept.{values_up_to, values_above}
-use Rattle.ts_model.specs.Stated.{Stated}
+use Rattle.ts_model.specs.ModelParts.{ModelParts}
 use Rattle.ts_filter.specs.Boxes.{Box, HasCell, values_at, box_of}
 use Rattle.ts_filter.specs.RefutedWorseDrop.{Spans, IsRefuted, IsWorse, IsDrop}
 
@@ -30,22 +30,22 @@ pub record IsSplit (k : ℕ) (t : ℤ) (b : Box) : Type 0 where
   pub above : values_above t (values_at k b) ≢ []
 
 -- the number that `best V` and `budget V` claim
-abbrev pub claimed : Claim → Option Ext
-claimed (Best v) = Some v
-claimed Infeasible = None
-claimed (BudgetBest v) = Some v
-claimed BudgetNone = None
-claimed (Full c) = None
-claimed (All c) = None
-claimed (BudgetList c) = None
+abbrev pub claimed_value : Claim → Option Ext
+claimed_value (Best v) = Some v
+claimed_value Infeasible = None
+claimed_value (BudgetBest v) = Some v
+claimed_value BudgetNone = None
+claimed_value (Full c) = None
+claimed_value (All c) = None
+claimed_value (BudgetList c) = None
 
-abbrev pub IsWorseFor : Stated → Spans → Aim → Ext → ℕ → Box → Type 0
+abbrev pub IsWorseFor : ModelParts → Spans → Aim → Ext → ℕ → Box → Type 0
 IsWorseFor m s (BestOf goal) v p b = IsWorse m s goal p b v
 IsWorseFor m s (ListOf count) v p b = ⊥
 
 -- `worse P`: the claim has a number, and the objective is not better at P
-abbrev pub MayBeWorse : Stated → Spans → Head → ℕ → Box → Type 0
-MayBeWorse m s h p b = MatchOption (claimed h.claim) ⊥ (λ v. IsWorseFor m s h.aim v p b)
+abbrev pub MayBeWorse : ModelParts → Spans → Head → ℕ → Box → Type 0
+MayBeWorse m s h p b = MatchOption (claimed_value h.claim) ⊥ (λ v. IsWorseFor m s h.aim v p b)
 
 abbrev pub IsListing : Aim → Type 0
 IsListing (BestOf goal) = ⊥
@@ -69,7 +69,7 @@ MayStayOpen (All c) = ⊥
 MayStayOpen (BudgetList c) = Unit {0}
 
 -- the line keeps its rule on the box, after so many `yes` lines
-abbrev pub KeepsRule : Stated → Spans → Head → ℕ → Box → TreeLine → Type 0
+abbrev pub KeepsRule : ModelParts → Spans → Head → ℕ → Box → TreeLine → Type 0
 KeepsRule m s h told b (Split k t) = IsSplit k t b
 KeepsRule m s h told b (Remove k v j) = IsDrop m.requirements s k v j b
 KeepsRule m s h told b (No j p) = IsRefuted m.requirements s j p b

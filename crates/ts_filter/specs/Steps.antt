@@ -2,7 +2,7 @@
 use Rattle.std.specs.Prelude.{◌≡◌, ℕ, List, [], ◌∷◌, ◌++◌}
 use Rattle.ts_certificate.specs.declared.certificate.TreeLine.{TreeLine}
 use Rattle.ts_certificate.specs.declared.certificate.TreeLine.TheVariants.{Split, Remove, No, Worse, Yes, Unsearched}
-use Rattle.ts_model.specs.Stated.{Stated}
+use Rattle.ts_model.specs.ModelParts.{ModelParts}
 use Rattle.ts_filter.specs.Boxes.{Box, low_side, high_side, without}
 use Rattle.ts_filter.specs.RefutedWorseDrop.{Spans}
 use Rattle.ts_filter.specs.Rules.{Head, KeepsRule}
@@ -18,7 +18,7 @@ made_by Yes b = []
 made_by Unsearched b = []
 
 -- from the boxes that wait and the `yes` lines so far, lines that keep their rules lead to those boxes and that number
-abbrev pub Steps : Stated → Spans → Head → List Box → ℕ → List TreeLine → List Box → ℕ → Type 0
+abbrev pub Steps : ModelParts → Spans → Head → List Box → ℕ → List TreeLine → List Box → ℕ → Type 0
 Steps m s h waiting told [] left after = (waiting ≡ left) × (told ≡ after)
 Steps m s h [] told (l ∷ ls) left after = ⊥
 Steps m s h (b ∷ waiting) told (l ∷ ls) left after =

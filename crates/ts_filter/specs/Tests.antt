@@ -4,7 +4,7 @@ use Rattle.std.specs.Prelude.{slice_get}
 use Rattle.ts_base.specs.declared.goal.Goal.{Goal}
 use Rattle.ts_model.specs.declared.model.Require.{Require}
 use Rattle.ts_model.specs.Judgement.{is_among}
-use Rattle.ts_model.specs.Stated.{Stated}
+use Rattle.ts_model.specs.ModelParts.{ModelParts}
 use Rattle.ts_filter.specs.declared.bar.Bar.{Bar}
 use Rattle.ts_filter.specs.Boxes.{Box, values_at, only}
 use Rattle.ts_filter.specs.Ends.{refutes, cuts}
@@ -27,7 +27,7 @@ abbrev pub cut_by : Spans → Goal → ℕ → Box → Bar → Option ℕ → Bo
 cut_by s goal p b bar None = false
 cut_by s goal p b bar (Some term) = is_usable s term p b && cuts goal bar (s.span_at term p b)
 
-abbrev pub is_cut : Stated → Spans → Goal → ℕ → Box → Bar → Bool
+abbrev pub is_cut : ModelParts → Spans → Goal → ℕ → Box → Bar → Bool
 is_cut m s goal p b bar = cut_by s goal p b bar m.objective
 
 abbrev pub has_others : ℕ → ℤ → Box → Bool

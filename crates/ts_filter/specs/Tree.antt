@@ -3,7 +3,7 @@ use Rattle.std.specs.Prelude.{◌≢◌, ℕ, ◌+◌, ℤ, List, [], ◌∷◌,
 use Rattle.ts_certificate.specs.declared.certificate.TreeLine.{TreeLine}
 use Rattle.ts_certificate.specs.declared.certificate.TreeLine.TheVariants.{Split, Remove, No, Worse, Yes, Unsearched}
 use Rattle.ts_domain.specs.Kept.{values_without}
-use Rattle.ts_model.specs.Stated.{Stated}
+use Rattle.ts_model.specs.ModelParts.{ModelParts}
 use Rattle.ts_filter.specs.Boxes.{Box, HasCell, values_at, low_side, high_side, without}
 use Rattle.ts_filter.specs.RefutedWorseDrop.{Spans, IsDrop}
 use Rattle.ts_filter.specs.Rules.{Head, IsSplit, KeepsRule}
@@ -44,7 +44,7 @@ IsLeafLine Yes = Unit {0}
 IsLeafLine Unsearched = Unit {0}
 
 -- it is a tree for the box, each of whose lines keeps its rule
-abbrev pub Fits : Stated → Spans → Head → ℕ → Box → Tree → Type 0
+abbrev pub Fits : ModelParts → Spans → Head → ℕ → Box → Tree → Type 0
 Fits m s h told b (Leaf l) = IsLeafLine l × KeepsRule m s h told b l
 Fits m s h told b (Drop k v j t) = IsDrop m.requirements s k v j b × Fits m s h told (without k v b) t
 Fits m s h told b (Fork k t lower upper) =

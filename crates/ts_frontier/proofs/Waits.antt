@@ -7,7 +7,7 @@ use Rattle.ts_certificate.specs.declared.certificate.TreeLine.{TreeLine}
 use Rattle.ts_certificate.specs.declared.certificate.TreeLine.TheVariants.{Split, Remove, No, Worse, Yes, Unsearched}
 use Rattle.ts_certificate.specs.Grammar.{CertLine, SaysAim, SaysClaim, SaysSeries, SaysTree, SaysEnd}
 use Rattle.ts_domain.specs.BoxSeries.{IsBox}
-use Rattle.ts_model.specs.Stated.{Stated, total_of}
+use Rattle.ts_model.specs.ModelParts.{ModelParts, total_of}
 use Rattle.ts_filter.specs.Boxes.{Box, IsPart}
 use Rattle.ts_filter.specs.Lines.{Stand, first_stand, KeepsTreeRule, KeepsLine, waiting_after, stand_after, Leads}
 use Rattle.ts_filter.specs.RefutedWorseDrop.{Spans}
@@ -77,7 +77,7 @@ few_wait cells ls waiting i f = at_last cells waiting i (led (total_of cells + 1
 
 -- the lines of a certificate
 
-tree_line : (m : Stated) (s : Spans) (top : ℕ) (aim : Option Aim) (claim : Option Claim) (xs : List (List ℤ)) (w : List Box) (told : ℕ) (l : TreeLine) →
+tree_line : (m : ModelParts) (s : Spans) (top : ℕ) (aim : Option Aim) (claim : Option Claim) (xs : List (List ℤ)) (w : List Box) (told : ℕ) (l : TreeLine) →
     KeepsTreeRule m s aim claim xs w told l → Bounded top m.cells w → Bounded top m.cells (waiting_after w l)
 tree_line m s top None claim xs w told l k h = absurd k
 tree_line m s top (Some a) None xs w told l k h = absurd k
@@ -85,7 +85,7 @@ tree_line m s top (Some a) (Some c) xs [] told l k h = absurd k
 tree_line m s top (Some a) (Some c) xs (b ∷ w) told l k h =
     one_more top m.cells l b w h (rules_follow m s (record { aim = a; claim = c; series = xs }) told b l h.parts.0.box k)
 
-cert_line : (m : Stated) (s : Spans) (top : ℕ) (t : Stand) (l : CertLine) → KeepsLine m s t l → Bounded top m.cells t.waiting →
+cert_line : (m : ModelParts) (s : Spans) (top : ℕ) (t : Stand) (l : CertLine) → KeepsLine m s t l → Bounded top m.cells t.waiting →
     Bounded top m.cells (stand_after t l).waiting
 cert_line m s top t (SaysAim a) k h = h
 cert_line m s top t (SaysClaim c) k h = h
@@ -93,7 +93,7 @@ cert_line m s top t (SaysSeries x) k h = h
 cert_line m s top t (SaysTree l) k h = tree_line m s top t.aim t.claim t.series t.waiting t.told l k h
 cert_line m s top t (SaysEnd checked unsearched) k h = h
 
-cert_lines : (m : Stated) (s : Spans) (top : ℕ) (t : Stand) (ls : List CertLine) (u : Stand) → Leads m s t ls u → Bounded top m.cells t.waiting →
+cert_lines : (m : ModelParts) (s : Spans) (top : ℕ) (t : Stand) (ls : List CertLine) (u : Stand) → Leads m s t ls u → Bounded top m.cells t.waiting →
     Bounded top m.cells u.waiting
 cert_lines m s top t [] u f h = subst (λ (z : Stand). Bounded top m.cells z.waiting) f h
 cert_lines m s top t (l ∷ ls) u f h = cert_lines m s top (stand_after t l) ls u f.1 (cert_line m s top t l f.0 h)

@@ -3,9 +3,9 @@ use Rattle.std.specs.Prelude.{ℕ, ◌+◌, ◌≤◌, List, [], ◌∷◌, leng
 use Rattle.ts_certificate.specs.declared.certificate.TreeLine.{TreeLine}
 use Rattle.ts_certificate.specs.Grammar.{CertLine}
 use Rattle.ts_domain.specs.BoxSeries.{IsBox}
-use Rattle.ts_model.specs.Stated.{Stated, total_of}
+use Rattle.ts_model.specs.ModelParts.{ModelParts, total_of}
 use Rattle.ts_filter.specs.Boxes.{Box}
-use Rattle.ts_filter.specs.Lines.{Stand, Found}
+use Rattle.ts_filter.specs.Lines.{Stand, IsOutcome}
 use Rattle.ts_filter.specs.RefutedWorseDrop.{Spans}
 use Rattle.ts_filter.specs.Rules.{Head, KeepsRule}
 use Rattle.ts_frontier.specs.Follow.{MayFollow, LeadTo, WaitAfter}
@@ -13,7 +13,7 @@ use Rattle.ts_frontier.specs.Follow.{MayFollow, LeadTo, WaitAfter}
 -- a line that keeps its rule may be followed
 abbrev pub RulesFollow : Type 0
 RulesFollow =
-    (m : Stated) (s : Spans) (h : Head) (told : ℕ) (b : Box) (l : TreeLine) → IsBox b → KeepsRule m s h told b l →
+    (m : ModelParts) (s : Spans) (h : Head) (told : ℕ) (b : Box) (l : TreeLine) → IsBox b → KeepsRule m s h told b l →
     MayFollow l b
 
 -- with V values in all n cells together, at most V + 1 - n boxes wait, whatever lines are followed
@@ -26,5 +26,6 @@ FewWait =
 -- broke its rule and nothing waits
 abbrev pub FewWaitAfter : Type 0
 FewWaitAfter =
-    (m : Stated) (s : Spans) (ls : List CertLine) (t : Stand) (failed : Option ℕ) (waiting : List Box) → IsBox m.cells →
-    Found m s ls t failed → WaitAfter failed t.waiting waiting → length waiting + length m.cells ≤ total_of m.cells + 1
+    (m : ModelParts) (s : Spans) (ls : List CertLine) (t : Stand) (failed : Option ℕ) (waiting : List Box) →
+    IsBox m.cells → IsOutcome m s ls t failed → WaitAfter failed t.waiting waiting →
+    length waiting + length m.cells ≤ total_of m.cells + 1

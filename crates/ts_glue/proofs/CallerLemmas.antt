@@ -11,7 +11,7 @@ use Rattle.ts_automaton.specs.AutomatonRun.{Standing, Stands, start_of, step_of,
 use Rattle.ts_automaton.proofs.RunLaws.{kinds_are_kept}
 use Rattle.ts_glue.specs.declared.half.Half.{Half}
 use Rattle.ts_glue.specs.Pairs.{table_view, Pair, pair}
-use Rattle.ts_glue.specs.Glued.{glued, left_at, right_at, cell_at, Glued, LocalUpTo}
+use Rattle.ts_glue.specs.Glued.{glued_value, left_at, right_at, cell_at, Glued, LocalUpTo}
 use Rattle.ts_glue.specs.Rules.{IsGluing}
 use Rattle.ts_glue.specs.Laws.{MachinesKeepRules}
 pub use Rattle.ts_glue.proofs.Facts.{same_op_is}
@@ -77,13 +77,13 @@ module _ (p : Pair) (before : List ℤ) (x : ℤ) (rest : List ℤ) where
 
   -- the glued value at the cell x
   abbrev pub glued_cut : Ext
-  glued_cut = glued p (after p.forward (before ++ x ∷ [])) (after p.reverse (reverse (x ∷ rest))) x (length whole)
+  glued_cut = glued_value p (after p.forward (before ++ x ∷ [])) (after p.reverse (reverse (x ∷ rest))) x (length whole)
 
   pub glued_is_cut : Glued p whole (length before + 1) ≡ glued_cut
   glued_is_cut =
-      ap (λ s. glued p s (right_at p whole (length before + 1)) (cell_at whole (length before + 1)) (length whole)) left_cut
-      ∙ ap (λ s. glued p (after p.forward (before ++ x ∷ [])) s (cell_at whole (length before + 1)) (length whole)) right_cut
-      ∙ ap (λ c. glued p (after p.forward (before ++ x ∷ [])) (after p.reverse (reverse (x ∷ rest))) c (length whole)) cell_cut
+      ap (λ s. glued_value p s (right_at p whole (length before + 1)) (cell_at whole (length before + 1)) (length whole)) left_cut
+      ∙ ap (λ s. glued_value p (after p.forward (before ++ x ∷ [])) s (cell_at whole (length before + 1)) (length whole)) right_cut
+      ∙ ap (λ c. glued_value p (after p.forward (before ++ x ∷ [])) (after p.reverse (reverse (x ∷ rest))) c (length whole)) cell_cut
 
 -- a series is cut at each of its cells
 pub cut_at : (xs : List ℤ) (i : ℕ) (d : ℤ) → i < length xs → take i xs ++ get_or xs i d ∷ drop (suc i) xs ≡ xs

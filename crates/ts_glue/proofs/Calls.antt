@@ -15,29 +15,29 @@ use Rattle.ts_glue.specs.declared.machine.Machine.{Machine}
 use Rattle.ts_glue.specs.declared.shape.Shape.{Shape}
 use Rattle.ts_glue.specs.Pairs.{Pair, pair, table_view}
 use Rattle.ts_glue.specs.Machines.{forward_of, reverse_of}
-use Rattle.ts_glue.specs.Glue.{GlueTakes, first_op, fold_op, worth, is_join, apart, folded_between, folded, joined, result_op, glue_of}
+use Rattle.ts_glue.specs.Glue.{GlueTakes, first_op, fold_op, worth, is_join, apart, folded_between, fold_of, join_of, result_op, glue_of}
 use Rattle.ts_glue.specs.Rules.{keeps_rules}
 use Rattle.ts_glue.specs.Shapes.{shape_glue}
 use Rattle.ts_glue.proofs.Facts.{facts_of}
 use Rattle.ts_glue.proofs.Typed.{glue_fits, hulls_fit}
 
-between_where : (a : ℕ) (o : Op) (u v : Bool) (d : ℤ) → (a ≡ 0 → ⊥) → folded_between o u v d ≡ folded a o u v d
+between_where : (a : ℕ) (o : Op) (u v : Bool) (d : ℤ) → (a ≡ 0 → ⊥) → folded_between o u v d ≡ fold_of a o u v d
 between_where zero o u v d h = absurd (h refl)
 between_where (suc a) o u v d h = refl
 
 pub between_is : (p : Pair) (q r : ℕ) (x : ℤ) (o : Op) (u v : Bool) (d : ℤ) → is_join p.table q r ≡ true → (p.table.a ≡ 0 → ⊥) →
     o ≡ fold_op p.table.op → u ≡ (node_at p.forward.states q).held → v ≡ (node_at p.reverse.states r).held → d ≡ worth p.table.unit x →
-    joined (result_op p) (folded_between o u v d) ≡ glue_of p q r x
+    join_of (result_op p) (folded_between o u v d) ≡ glue_of p q r x
 between_is p q r x o u v d j a eo eu ev ed =
     let g = result_op p in
     let fold = fold_op p.table.op in
     let left = (node_at p.forward.states q).held in
     let right = (node_at p.reverse.states r).held in
     let cell = worth p.table.unit x in
-    ap (λ z. joined g (folded_between z u v d)) eo ∙ ap (λ z. joined g (folded_between fold z v d)) eu ∙ ap (λ z. joined g (folded_between fold left z d)) ev
-    ∙ ap (λ z. joined g (folded_between fold left right z)) ed
-    ∙ ap (joined g) (between_where p.table.a fold left right cell a)
-    ∙ sym (ap (λ t. cond t (joined g (folded p.table.a fold left right cell)) (apart g)) j)
+    ap (λ z. join_of g (folded_between z u v d)) eo ∙ ap (λ z. join_of g (folded_between fold z v d)) eu ∙ ap (λ z. join_of g (folded_between fold left z d)) ev
+    ∙ ap (λ z. join_of g (folded_between fold left right z)) ed
+    ∙ ap (join_of g) (between_where p.table.a fold left right cell a)
+    ∙ sym (ap (λ t. cond t (join_of g (fold_of p.table.a fold left right cell)) (apart g)) j)
 
 -- b is the forward body as it was lent, g its first operator, s the shape of the two states
 module _ (m : Machine) (h : Half) (e : m.half ≡ Some h) (b : Body) (lent : b ≡ forward_of m) where

@@ -11,7 +11,7 @@ use Rattle.ts_automaton.specs.declared.state.Mark.TheVariants.{Same}
 use Rattle.ts_automaton.specs.Registers.{EachOf, Each, numbers, spans, ext_op}
 use Rattle.ts_automaton.specs.AutomatonRun.{IsInMark}
 use Rattle.ts_automaton.specs.SpanRun.{has_registers, one_hull, HoldsRegs, marked_span}
-use Rattle.ts_automaton.specs.Laws.{standing}
+use Rattle.ts_automaton.specs.Laws.{standing_with}
 use Rattle.ts_automaton.proofs.KindLaws.{op_mono}
 use Rattle.ts_automaton.proofs.RunLaws.{holds_registers, one_registers, mark_single, marks_hold}
 use Rattle.ts_glue.specs.Glue.{Glue, glue_in, glue_of}
@@ -34,7 +34,7 @@ glued_spans_hold p q r h i s t x k l =
 
 pub marked_spans_hold : MarkedSpansHold
 marked_spans_hold p q r h i s t x n k l =
-    marks_hold p.forward.mark n (glue_span_at p (standing q h) (standing r i) x) (glue_at numbers p (standing q s) (standing r t) x)
+    marks_hold p.forward.mark n (glue_span_at p (standing_with q h) (standing_with r i) x) (glue_at numbers p (standing_with q s) (standing_with r t) x)
     (glued_spans_hold p q r h i s t x k l)
 
 pub glued_spans_hold_answers : GluedSpansHoldAnswers
@@ -44,7 +44,7 @@ glued_spans_hold_answers p l marked xs few cells k some most h i u v =
     let n = length xs in
     let e = local_is_answer p l xs few cells k some most in
     let in_mark = subst (IsInMark p.forward.mark n) (sym e) (marked xs (omega (arith, some, most)) few cells) in
-    subst (Holds (glued_span p (standing left.state h) (standing right.state i) (cell_at xs k) n)) e
+    subst (Holds (glued_span p (standing_with left.state h) (standing_with right.state i) (cell_at xs k) n)) e
     (marked_spans_hold p left.state right.state h i left.regs right.regs (cell_at xs k) n u v in_mark)
 
 none_second : (a : Bool) (s : Span) → cond (a && false) s none_span ≡ none_span
@@ -120,6 +120,6 @@ same_grows n s t w e h = marks_hold Same n t e (w e (same_within n s e h)) tt
 
 pub unmarked_spans_grow : UnmarkedSpansGrow
 unmarked_spans_grow p same q r h i h' i' x n k l =
-    let s = glue_span_at p (standing q h) (standing r i) x in
-    let t = glue_span_at p (standing q h') (standing r i') x in
+    let s = glue_span_at p (standing_with q h) (standing_with r i) x in
+    let t = glue_span_at p (standing_with q h') (standing_with r i') x in
     subst (λ m. IsWithin (marked_span m n s) (marked_span m n t)) (sym same) (same_grows n s t (glued_spans_grow p q r h i h' i' x k l))

@@ -12,12 +12,12 @@ use Rattle.ts_automaton.specs.declared.expr.Op.{Op}
 use Rattle.ts_automaton.specs.declared.expr.Op.TheVariants.{Add, Max, Min}
 use Rattle.ts_automaton.specs.Registers.{EachOf, Values, numbers, spans, ext_op, value_in}
 use Rattle.ts_automaton.specs.Body.{node_at}
-use Rattle.ts_automaton.specs.AutomatonRun.{marked}
+use Rattle.ts_automaton.specs.AutomatonRun.{under_mark}
 use Rattle.ts_automaton.specs.SpanRun.{has_registers, one_hull, marked_span}
 use Rattle.ts_automaton.proofs.KindLaws.{op_mono, lifted_ends}
 use Rattle.ts_automaton.proofs.RunLaws.{one_registers}
 use Rattle.ts_glue.specs.Pairs.{Pair}
-use Rattle.ts_glue.specs.Glue.{glue_in, glue_of, apart, joined, folded, fold_op, worth, result_op}
+use Rattle.ts_glue.specs.Glue.{glue_in, glue_of, apart, join_of, fold_of, fold_op, worth, result_op}
 use Rattle.ts_glue.specs.Laws.{StartGluesToFinish, TwoFormsAgree}
 use Rattle.ts_glue.proofs.Facts.{Facts, facts_of, neutral_of, start_is_apart}
 
@@ -87,14 +87,14 @@ apart_at_start : {A : Type 0} (m : Values A) (p : Pair) → Facts p → (q : ℕ
 apart_at_start m p f q s t x =
     let g = result_op p in
     let through =
-    joined g (folded p.table.a (fold_op p.table.op) (node_at p.forward.states q).held (node_at p.reverse.states 0).held (worth p.table.unit x)) in
+    join_of g (fold_of p.table.a (fold_op p.table.op) (node_at p.forward.states q).held (node_at p.reverse.states 0).held (worth p.table.unit x)) in
     ap (λ v. glue_in m s t (cond v through (apart g))) (start_is_apart p f q)
 
 pub start_glues_to_finish : StartGluesToFinish
 start_glues_to_finish p k q s x n =
     let f = facts_of p k in
     let g = result_op p in
-    ap (marked p.forward.mark n)
+    ap (under_mark p.forward.mark n)
     (apart_at_start numbers p f q s p.reverse.start x
     ∙ beside_neutral g s.r s.c p.reverse.start.c p.reverse.start.r f.start_c f.start_r
     ∙ sym (ap (value_in numbers s (pos 0) (pos 0)) f.forward_finish))

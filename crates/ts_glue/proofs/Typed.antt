@@ -17,7 +17,7 @@ use Rattle.ts_automaton.proofs.Rules.{rules_of, finish_typed}
 use Rattle.ts_automaton.proofs.StepLaws.{spans_have}
 use Rattle.ts_automaton.proofs.Tables.{implies, implied, at_each}
 use Rattle.ts_glue.specs.Pairs.{Pair}
-use Rattle.ts_glue.specs.Glue.{Glue, GlueTakes, fold_op, worth, is_join, apart, folded, joined, result_op, glue_of}
+use Rattle.ts_glue.specs.Glue.{Glue, GlueTakes, fold_op, worth, is_join, apart, fold_of, join_of, result_op, glue_of}
 use Rattle.ts_glue.proofs.Expressions.{kind_in, glue_meets}
 use Rattle.ts_glue.specs.Laws.{OperandsFit}
 use Rattle.ts_glue.proofs.Facts.{Facts, facts_of, result_of, join_is_typed}
@@ -40,7 +40,7 @@ finish_has b a o e q = subst (λ f. IsTrue (is_some (formula_kind (kinds_at b q)
 
 -- the kind of a fold doesn't depend on the cell
 same_kind : (a : ℕ) (o g : Op) (held_left held_right : Bool) (d e : ℤ) (k l : EachOf RegKind) →
-    kind_in k l (joined g (folded a o held_left held_right d)) ≡ kind_in k l (joined g (folded a o held_left held_right e))
+    kind_in k l (join_of g (fold_of a o held_left held_right d)) ≡ kind_in k l (join_of g (fold_of a o held_left held_right e))
 same_kind zero Add g u v d e k l = refl
 same_kind zero Max g u v d e k l = refl
 same_kind zero Min g u v d e k l = refl
@@ -53,8 +53,8 @@ module _ (p : Pair) (f : Facts p) (forward : IsTrue (is_automaton p.forward)) (r
   -- the expression where one occurrence goes on through the cell
   abbrev through : ℕ → ℕ → ℤ → Glue
   through q r x =
-      joined (result_op p)
-      (folded p.table.a (fold_op p.table.op) (node_at p.forward.states q).held (node_at p.reverse.states r).held (worth p.table.unit x))
+      join_of (result_op p)
+      (fold_of p.table.a (fold_op p.table.op) (node_at p.forward.states q).held (node_at p.reverse.states r).held (worth p.table.unit x))
 
   pub glue_typed : (q r : ℕ) (x : ℤ) → IsTrue (is_some (kind_in (kinds_at p.forward q) (kinds_at p.reverse r) (glue_of p q r x)))
   glue_typed q r x = go (is_join p.table q r) refl

@@ -72,8 +72,8 @@ abbrev pub apart : Op → Glue
 apart g = With g (With g LeftR LeftC) (With g RightR RightC)
 
 -- what is held, where the state is held, and what may come to it
-abbrev pub opened : Op → Bool → Glue → Glue → Glue
-opened o held c d = if held then With o c d else d
+abbrev pub open_in : Op → Bool → Glue → Glue → Glue
+open_in o held c d = if held then With o c d else d
 
 -- the same behind u
 abbrev pub then_opened : Op → Glue → Bool → Glue → Glue → Glue
@@ -82,7 +82,7 @@ then_opened o u held c d = With o (if held then With o u c else u) d
 -- the fold where an occurrence leaves its last cell out: the cell is folded between the two sides
 abbrev pub folded_between : Op → Bool → Bool → ℤ → Glue
 folded_between o held_left held_right d =
-    then_opened o (With o (opened o held_left LeftC LeftD) (Number d)) held_right RightC RightD
+    then_opened o (With o (open_in o held_left LeftC LeftD) (Number d)) held_right RightC RightD
 
 -- less the cell, where the operator would count it twice
 abbrev pub counted_once : Op → ℤ → Glue → Glue
@@ -95,13 +95,13 @@ abbrev pub folded_both : Op → ℤ → Glue
 folded_both o d = counted_once o d (With o (With o LeftC LeftD) (With o RightC RightD))
 
 -- the fold of the one occurrence, by what the cell is worth
-abbrev pub folded : ℕ → Op → Bool → Bool → ℤ → Glue
-folded zero o held_left held_right d = folded_both o d
-folded (suc a) o held_left held_right d = folded_between o held_left held_right d
+abbrev pub fold_of : ℕ → Op → Bool → Bool → ℤ → Glue
+fold_of zero o held_left held_right d = folded_both o d
+fold_of (suc a) o held_left held_right d = folded_between o held_left held_right d
 
 -- one occurrence goes on through the cell: it counts once beside the results of both sides
-abbrev pub joined : Op → Glue → Glue
-joined g u = With g (With g LeftR RightR) u
+abbrev pub join_of : Op → Glue → Glue
+join_of g u = With g (With g LeftR RightR) u
 
 -- the operator of both finish expressions
 abbrev pub result_op : Pair → Op
@@ -114,5 +114,5 @@ glue_of p q r x =
     let held_left = (node_at p.forward.states q).held in
     let held_right = (node_at p.reverse.states r).held in
     if is_join p.table q r
-    then joined g (folded p.table.a (fold_op p.table.op) held_left held_right (worth p.table.unit x))
+    then join_of g (fold_of p.table.a (fold_op p.table.op) held_left held_right (worth p.table.unit x))
     else apart g

@@ -5,7 +5,7 @@ use Rattle.ts_base.specs.declared.span.Span.{Span}
 use Rattle.ts_base.specs.Limits.{most_cells}
 use Rattle.ts_base.specs.Spans.{none_span}
 use Rattle.ts_automaton.specs.Registers.{Values, numbers, spans}
-use Rattle.ts_automaton.specs.AutomatonRun.{Standing, after, answer, marked, AreCellValues}
+use Rattle.ts_automaton.specs.AutomatonRun.{Standing, after, answer, under_mark, AreCellValues}
 use Rattle.ts_automaton.specs.SpanRun.{has_registers, marked_span}
 use Rattle.ts_glue.specs.Pairs.{Pair}
 use Rattle.ts_glue.specs.Glue.{glue_in, glue_of}
@@ -15,8 +15,8 @@ abbrev pub glue_at : {A : Type 0} → Values A → Pair → Standing A → Stand
 glue_at m p left right x = glue_in m left.regs right.regs (glue_of p left.state right.state x)
 
 -- under the mark, of a series of n cells
-abbrev pub glued : Pair → Standing Ext → Standing Ext → ℤ → ℕ → Ext
-glued p left right x n = marked p.forward.mark n (glue_at numbers p left right x)
+abbrev pub glued_value : Pair → Standing Ext → Standing Ext → ℤ → ℕ → Ext
+glued_value p left right x n = under_mark p.forward.mark n (glue_at numbers p left right x)
 
 -- over hulls, before the mark; none where a hull is none
 abbrev pub glue_span_at : Pair → Standing Span → Standing Span → ℤ → Span
@@ -40,7 +40,7 @@ cell_at xs k = get_or xs (k - 1) (pos 0)
 
 -- the glued value at cell k
 abbrev pub Glued : Pair → List ℤ → ℕ → Ext
-Glued p xs k = glued p (left_at p xs k) (right_at p xs k) (cell_at xs k) (length xs)
+Glued p xs k = glued_value p (left_at p xs k) (right_at p xs k) (cell_at xs k) (length xs)
 
 -- on each series of at most n cells within the limits the glued value at the last cell is the forward answer, and at
 -- each other cell that at the next one

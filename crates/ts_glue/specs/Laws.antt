@@ -9,14 +9,14 @@ use Rattle.ts_automaton.specs.declared.state.Mark.TheVariants.{Same}
 use Rattle.ts_automaton.specs.Registers.{EachOf, Each, numbers, spans}
 use Rattle.ts_automaton.specs.Kinds.{Fits, SpansFit}
 use Rattle.ts_automaton.specs.Typing.{is_automaton}
-use Rattle.ts_automaton.specs.AutomatonRun.{Standing, Stands, start_of, finish_of, answer, IsInMark, AreCellValues, Marked}
+use Rattle.ts_automaton.specs.AutomatonRun.{Standing, Stands, start_of, finish_of, answer, IsInMark, AreCellValues, HoldsMark}
 use Rattle.ts_automaton.specs.SpanRun.{has_registers, one_hull, HoldsRegs, HullStands, finish_span_of}
-use Rattle.ts_automaton.specs.Laws.{standing}
+use Rattle.ts_automaton.specs.Laws.{standing_with}
 use Rattle.ts_glue.specs.declared.machine.Machine.{Machine}
 use Rattle.ts_glue.specs.Pairs.{Pair}
 use Rattle.ts_glue.specs.Machines.{pair_of}
 use Rattle.ts_glue.specs.Glue.{GlueTakes, glue_of}
-use Rattle.ts_glue.specs.Glued.{glue_at, glued, glue_span_at, glued_span, left_at, right_at, cell_at, Glued, Local}
+use Rattle.ts_glue.specs.Glued.{glue_at, glued_value, glue_span_at, glued_span, left_at, right_at, cell_at, Glued, Local}
 use Rattle.ts_glue.specs.Rules.{keeps_rules, IsGluing}
 
 -- a machine that can be split keeps what is asked of its pair
@@ -33,24 +33,26 @@ LocalIsAnswer =
 abbrev pub GluedSpansHold : Type 0
 GluedSpansHold =
     (p : Pair) (q r : ℕ) (h i : EachOf Span) (s t : EachOf Ext) (x : ℤ) → HoldsRegs h s → HoldsRegs i t →
-    Holds (glue_span_at p (standing q h) (standing r i) x) (glue_at numbers p (standing q s) (standing r t) x)
+    Holds (glue_span_at p (standing_with q h) (standing_with r i) x)
+        (glue_at numbers p (standing_with q s) (standing_with r t) x)
 
 -- under the mark too, where the glued value keeps the promise of the mark
 abbrev pub MarkedSpansHold : Type 0
 MarkedSpansHold =
     (p : Pair) (q r : ℕ) (h i : EachOf Span) (s t : EachOf Ext) (x : ℤ) (n : ℕ) → HoldsRegs h s → HoldsRegs i t →
-    let e = glued p (standing q s) (standing r t) x n in
-    IsInMark p.forward.mark n e → Holds (glued_span p (standing q h) (standing r i) x n) e
+    let e = glued_value p (standing_with q s) (standing_with r t) x n in
+    IsInMark p.forward.mark n e → Holds (glued_span p (standing_with q h) (standing_with r i) x n) e
 
 -- and where it does for all answers, the glued span at a cell holds the answer of each series whose two runs lie in the
 -- hulls
 abbrev pub GluedSpansHoldAnswers : Type 0
 GluedSpansHoldAnswers =
-    (p : Pair) → Local p → Marked p.forward → (xs : List ℤ) → length xs ≤ most_cells → AreCellValues xs →
+    (p : Pair) → Local p → HoldsMark p.forward → (xs : List ℤ) → length xs ≤ most_cells → AreCellValues xs →
     (k : ℕ) → 1 ≤ k → k ≤ length xs → (h i : EachOf Span) →
     HoldsRegs h (left_at p xs k).regs → HoldsRegs i (right_at p xs k).regs →
     Holds
-    (glued_span p (standing (left_at p xs k).state h) (standing (right_at p xs k).state i) (cell_at xs k) (length xs))
+    (glued_span p (standing_with (left_at p xs k).state h) (standing_with (right_at p xs k).state i) (cell_at xs k)
+        (length xs))
     (answer p.forward xs)
 
 -- a glued span is none where a hull is none
@@ -63,19 +65,20 @@ NoneGluesToNone =
 abbrev pub GluedStaysSingle : Type 0
 GluedStaysSingle =
     (p : Pair) (q r : ℕ) (s t : EachOf Ext) (x : ℤ) (n : ℕ) →
-    glued_span p (standing q (one_hull s)) (standing r (one_hull t)) x n
-    ≡ one_span (glued p (standing q s) (standing r t) x n)
+    glued_span p (standing_with q (one_hull s)) (standing_with r (one_hull t)) x n
+    ≡ one_span (glued_value p (standing_with q s) (standing_with r t) x n)
 
 -- at the last cell, where the reverse run stands at its start, the glued form is the finish form: of values, of spans
 abbrev pub StartGluesToFinish : Type 0
 StartGluesToFinish =
     (p : Pair) → IsTrue (keeps_rules p) → (q : ℕ) (s : EachOf Ext) (x : ℤ) (n : ℕ) →
-    glued p (standing q s) (start_of p.reverse) x n ≡ finish_of p.forward (standing q s) n
+    glued_value p (standing_with q s) (start_of p.reverse) x n ≡ finish_of p.forward (standing_with q s) n
 
 abbrev pub TwoFormsAgree : Type 0
 TwoFormsAgree =
     (p : Pair) → IsTrue (keeps_rules p) → (q : ℕ) (h : EachOf Span) (x : ℤ) (n : ℕ) →
-    glued_span p (standing q h) (standing 0 (one_hull p.reverse.start)) x n ≡ finish_span_of p.forward (standing q h) n
+    glued_span p (standing_with q h) (standing_with 0 (one_hull p.reverse.start)) x n
+    ≡ finish_span_of p.forward (standing_with q h) n
 
 -- before the mark, hulls that hold more give a glued span that holds more
 abbrev pub GluedSpansGrow : Type 0
@@ -83,8 +86,8 @@ GluedSpansGrow =
     (p : Pair) (q r : ℕ) (h i wider_h wider_i : EachOf Span) (x : ℤ) →
     Each IsWithin h wider_h → Each IsWithin i wider_i →
     IsWithin
-    (glue_span_at p (standing q h) (standing r i) x)
-    (glue_span_at p (standing q wider_h) (standing r wider_i) x)
+    (glue_span_at p (standing_with q h) (standing_with r i) x)
+    (glue_span_at p (standing_with q wider_h) (standing_with r wider_i) x)
 
 -- under the mark that changes nothing too (one that turns an infinite end into a number may narrow a span)
 abbrev pub UnmarkedSpansGrow : Type 0
@@ -92,8 +95,8 @@ UnmarkedSpansGrow =
     (p : Pair) → p.forward.mark ≡ Same → (q r : ℕ) (h i wider_h wider_i : EachOf Span) (x : ℤ) (n : ℕ) →
     Each IsWithin h wider_h → Each IsWithin i wider_i →
     IsWithin
-    (glued_span p (standing q h) (standing r i) x n)
-    (glued_span p (standing q wider_h) (standing r wider_i) x n)
+    (glued_span p (standing_with q h) (standing_with r i) x n)
+    (glued_span p (standing_with q wider_h) (standing_with r wider_i) x n)
 
 -- where the registers have the kinds of the two states, no operator in the glued value meets an operand that it doesn't
 -- take

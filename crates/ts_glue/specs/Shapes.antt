@@ -3,12 +3,12 @@ use Rattle.ts_base.specs.Limits.{IsCellValue}
 use Rattle.ts_automaton.specs.declared.expr.Op.{Op}
 use Rattle.ts_glue.specs.declared.shape.Shape.{Shape}
 use Rattle.ts_glue.specs.declared.shape.Shape.TheVariants.{Apart, Between, Both}
-use Rattle.ts_glue.specs.Glue.{Glue, apart, joined, folded_between, folded_both}
+use Rattle.ts_glue.specs.Glue.{Glue, apart, join_of, folded_between, folded_both}
 
 abbrev pub shape_glue : Op → Shape → Glue
 shape_glue g Apart = apart g
-shape_glue g (Between o held_left held_right d) = joined g (folded_between o held_left held_right d)
-shape_glue g (Both o d) = joined g (folded_both o d)
+shape_glue g (Between o held_left held_right d) = join_of g (folded_between o held_left held_right d)
+shape_glue g (Both o d) = join_of g (folded_both o d)
 
 -- its cell is worth no more than a cell's value may be
 abbrev pub IsWorth : Shape → Type 0

@@ -6,7 +6,7 @@ ghost use Rattle.ts_automaton.specs.Kinds.{Fits};
 ghost use Rattle.ts_automaton.specs.Registers.{numbers, regs_of};
 ghost use Rattle.ts_base.specs.Limits.{IsCellValue};
 ghost use Rattle.ts_glue.specs.Glue.{GlueTakes, folded_between, folded_both, glue_in};
-ghost use Rattle.ts_glue.specs.Glued.{glued};
+ghost use Rattle.ts_glue.specs.Glued.{glued_value};
 ghost use Rattle.ts_glue.specs.Machines.{forward_of, pair_of, reverse_of};
 ghost use Rattle.ts_glue.specs.Shapes.{IsWorth, shape_glue};
 
@@ -23,7 +23,7 @@ pub fn glue_value(m: &Machine, left: At, right: At, cell: i64, n: u32) -> Ext
     requires left { Stands (forward_of m.now) (standing_of left) }
     requires right { IfSome (reverse_of m.now) (λ b. Stands b (standing_of right)) }
     requires cell { IsCellValue cell }
-    ensures { IfSome (pair_of m.now) (λ p. result ≡ glued p (standing_of left) (standing_of right) cell n) }
+    ensures { IfSome (pair_of m.now) (λ p. result ≡ glued_value p (standing_of left) (standing_of right) cell n) }
 {
     match m.half() {
         Some(half) => {

@@ -15,7 +15,7 @@ use Rattle.ts_automaton.specs.Registers.{EachOf}
 use Rattle.ts_decorate.specs.Decoration.{cell_op, range_op}
 use Rattle.ts_decorate.proofs.Exact.{exact_op, exact}
 use Rattle.ts_decorate.proofs.Sizes.{size_of, size_of_all}
-use Rattle.ts_glue.specs.Glue.{Glue, LeftC, LeftD, RightC, RightD, With, glue_in, apart, counted_once, folded, joined}
+use Rattle.ts_glue.specs.Glue.{Glue, LeftC, LeftD, RightC, RightD, With, glue_in, apart, counted_once, fold_of, join_of}
 use Rattle.ts_local.proofs.Facts.{opened, Good, glued}
 use Rattle.ts_local.proofs.Steps.{opened_part}
 use Rattle.ts_local.proofs.Tests.{HeldPair}
@@ -24,7 +24,7 @@ use Rattle.ts_local.proofs.Small.{exact_numbers, size_in}
 
 -- what stands for the glued value, by the operators of the ranges and of the cells
 abbrev pub form_of : ℕ → Op → Op → Bool → Bool → Bool → ℤ → Glue
-form_of a g o j held_left held_right w = if j then joined g (folded a o held_left held_right w) else apart g
+form_of a g o j held_left held_right w = if j then join_of g (fold_of a o held_left held_right w) else apart g
 
 counted_is : (o : Op) (s t : EachOf Ext) (u v : Glue) (w : ℤ) →
     glue_in exact_numbers s t (counted_once o w (With o u v)) ≡ exact_joined o (glue_in exact_numbers s t u) (glue_in exact_numbers s t v) (Int w)

@@ -12,10 +12,10 @@ use Rattle.ts_pattern.specs.declared.name.Feature.{Feature}
 use Rattle.ts_pattern.specs.declared.name.Feature.TheVariants.{One, Width, Surf, Max as MaxFeature, Min as MinFeature}
 use Rattle.ts_automaton.specs.Registers.{numbers}
 use Rattle.ts_automaton.specs.Body.{Body, node_at}
-use Rattle.ts_automaton.specs.AutomatonRun.{Standing, after, marked}
+use Rattle.ts_automaton.specs.AutomatonRun.{Standing, after, under_mark}
 use Rattle.ts_decorate.specs.Answers.{longest}
 use Rattle.ts_decorate.specs.Operators.{Operators}
-use Rattle.ts_decorate.specs.Decoration.{cell_op, range_op, mark_of, state_names, decorated}
+use Rattle.ts_decorate.specs.Decoration.{cell_op, range_op, mark_of, state_names, decorated_body}
 use Rattle.ts_decorate.proofs.Exact.{exact, held_at_limit, cell_value}
 use Rattle.ts_decorate.proofs.Evaluation.{node_is}
 use Rattle.ts_decorate.proofs.Runs.{table_start, total_of}
@@ -51,7 +51,7 @@ worth_is MinFeature x = refl
 
 -- a state is held where its row is
 held_is : (rows : List Row) → length rows ≤ 8 → (a : ℕ) (g : Aggregator) (f : Feature) (q : ℕ) → q < length rows →
-    (node_at (decorated rows a g f).states q).held ≡ is_held (kind_at rows q)
+    (node_at (decorated_body rows a g f).states q).held ≡ is_held (kind_at rows q)
 held_is rows few a g f q h = ap (λ n. n.held) (node_is a g f state_names rows q h few).1
 
 worth_size : (f : Feature) (x : ℤ) → IsCellValue x → size_of (Int (worth (cell_unit_of f) x)) ≤ 1000000
@@ -60,10 +60,10 @@ worth_size f x h = let c = cost_small f (x ∷ []) x h (h, tt) in let e = ap siz
 module _ (a : ℕ) (js : List Join) (fs bs : List Row) (t : AreFitting a (is_pair js) fs bs) (few_f : length fs ≤ 8) (few_b : length bs ≤ 8)
     (g : Aggregator) (f : Feature) where
   abbrev ahead : Body
-  ahead = decorated fs a g f
+  ahead = decorated_body fs a g f
 
   abbrev behind : Body
-  behind = decorated bs a g f
+  behind = decorated_body bs a g f
 
   abbrev the_pair : Pair
   the_pair = pair ahead behind (glue_table_by a f js)
@@ -146,7 +146,7 @@ module _ (a : ℕ) (js : List Join) (fs bs : List Row) (t : AreFitting a (is_pai
       let small_right : size_of_all right.regs ≤ 1 + length (reverse (x ∷ rest)) * 2000001 =
       subst (λ st. size_of_all st.regs ≤ 1 + length (reverse (x ∷ rest)) * 2000001) back r.1 in
       let small_whole = w.1 in
-      ap (marked (mark_of g f) (length (before ++ x ∷ rest)))
+      ap (under_mark (mark_of g f) (length (before ++ x ∷ rest)))
       (ap (λ z. glue_at numbers the_pair z (after behind (reverse (x ∷ rest))) x) l.0
       ∙ ap (λ z. glue_at numbers the_pair left z x) (r.0 ∙ back)
       ∙ value_is left right x from_x.0 (omega (arith, short, n1, n2, n3, small_left, small_right)) (sound_run before x) (sound_back x rest)

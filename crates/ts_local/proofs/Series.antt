@@ -9,7 +9,7 @@ use Rattle.ts_pattern.specs.declared.name.Aggregator.{Aggregator}
 use Rattle.ts_pattern.specs.declared.name.Feature.{Feature}
 use Rattle.ts_automaton.specs.AutomatonRun.{Standing, after, AreCellValues}
 use Rattle.ts_decorate.specs.Operators.{Operators}
-use Rattle.ts_decorate.specs.Decoration.{decorated}
+use Rattle.ts_decorate.specs.Decoration.{decorated_body}
 use Rattle.ts_decorate.proofs.Exact.{exact, cell_value}
 use Rattle.ts_decorate.proofs.Evaluation.{after_is}
 use Rattle.ts_decorate.proofs.Runs.{table_start, table_step, table_after}
@@ -69,7 +69,7 @@ module _ (rows : List Row) (typed : is_typed rows ≡ true) (few : length rows �
   start_size = let n = neutral_size f in let d = default_size g in omega (arith, n, d)
 
   pub run_is : (xs : List ℤ) → length xs ≤ 100000 → AreCellValues xs →
-      (after (decorated rows a g f) xs ≡ exact_run xs) × (size_of_all (exact_run xs).regs ≤ 1 + length xs * 2000001)
+      (after (decorated_body rows a g f) xs ≡ exact_run xs) × (size_of_all (exact_run xs).regs ≤ 1 + length xs * 2000001)
   run_is [] short h = (refl, let n = start_size in omega (arith, n))
   run_is (x ∷ xs) short h =
       let o = exact g f in

@@ -7,7 +7,7 @@ use Rattle.ts_pattern.specs.declared.name.Feature.TheVariants.{One, Width, Surf,
 use Rattle.ts_pattern.specs.declared.name.PatternId.{PatternId}
 use Rattle.ts_pattern.specs.PatternTable.{pattern_a}
 use Rattle.ts_automaton.specs.Body.{Body}
-use Rattle.ts_decorate.specs.Decoration.{decorated}
+use Rattle.ts_decorate.specs.Decoration.{decorated_body}
 use Rattle.ts_seed.specs.SeedTable.{seed_table}
 use Rattle.ts_glue.specs.declared.table.FoldOp.{FoldOp}
 use Rattle.ts_glue.specs.declared.table.FoldOp.TheVariants.{Add, Max, Min}
@@ -40,9 +40,10 @@ glue_table_of id f = glue_table_by (pattern_a id) f (seed_table id).joins
 
 -- the automaton of a term of the pattern id by the rows of another seed: its own, or its partner's
 abbrev pub body_by : PatternId → PatternId → Aggregator → Feature → Body
-body_by id other g f = decorated (seed_table other).rows (pattern_a id) g f
+body_by id other g f = decorated_body (seed_table other).rows (pattern_a id) g f
 
 -- of a pattern and its partner, and each aggregator and feature
 abbrev pub ForPartners : (PatternId → PatternId → Aggregator → Feature → Type 0) → Type 0
 ForPartners P =
-    (id partner : PatternId) → (seed_table id).partner ≡ Some partner → (g : Aggregator) (f : Feature) → P id partner g f
+    (id partner : PatternId) → (seed_table id).partner ≡ Some partner → (g : Aggregator) (f : Feature) →
+    P id partner g f

@@ -10,7 +10,7 @@ use Rattle.std.proofs.lemmas.Simd.{splat_is_map}
 use Rattle.ts_model.specs.declared.cells.Own.{Own}
 use Rattle.ts_model.specs.declared.cells.Cells.{Cells}
 use Rattle.ts_model.specs.declared.error.ModelKind.TheVariants.{Limit}
-use Rattle.ts_model.specs.Stated.{total_of, union_of, digits}
+use Rattle.ts_model.specs.ModelParts.{total_of, union_of, digits}
 use Rattle.ts_model.specs.Cells.{in_force, domains, within_total, total_set, IsTotal, IsOlder, IsKept}
 use Rattle.ts_model.proofs.UnionLaws.{ten_digits}
 

@@ -8,7 +8,7 @@ use Rattle.ts_model.specs.declared.error.ModelKind.TheVariants.{Empty, Limit}
 use Rattle.ts_model.specs.declared.error.LineStop.{LineStop}
 use Rattle.ts_model.specs.declared.error.LineStop.TheVariants.{Bad, NoMemory}
 use Rattle.ts_model.specs.Statement.{SaysDomain, SaysCell}
-use Rattle.ts_model.specs.Stated.{Stated, IsPlace, has_cells, is_backward, is_outside, is_between, over_total, taken, union_given, union_of, unless_kind}
+use Rattle.ts_model.specs.ModelParts.{ModelParts, IsPlace, has_cells, is_backward, is_outside, is_between, over_total, parts_after, union_given, union_of, unless_kind}
 use Rattle.ts_model.specs.Cells.{within_total}
 use Rattle.ts_model.specs.Views.{Gives}
 
@@ -20,7 +20,7 @@ given_by union values false true e = cc
 given_by union values false false e = (refl, refl, cc)
 
 -- with these domains, or over the limit
-told_by : (over : Bool) (m : Stated) (cells new : List (List ℤ)) (result : Result (Unit {0}) LineStop) →
+told_by : (over : Bool) (m : ModelParts) (cells new : List (List ℤ)) (result : Result (Unit {0}) LineStop) →
     Gives (λ _. new) result (cond over (Err Limit) (Ok cells)) →
     Gives (λ _. record m { cells = new }) result (unless_kind (cond over (Some Limit) None) (record m { cells = cells }))
 told_by true m cells new (Ok x) g = cc
@@ -30,9 +30,9 @@ told_by false m cells new (Ok x) g = let e : cells ≡ new = cc in ap (λ (z : L
 told_by false m cells new (Err (Bad k)) g = cc
 told_by false m cells new (Err NoMemory) g = tt
 
-module _ (lists : Bool) (m : Stated) (rs : List Interval) (values : List ℤ) (result : Result (Unit {0}) LineStop) (new : List (List ℤ)) where
+module _ (lists : Bool) (m : ModelParts) (rs : List Interval) (values : List ℤ) (result : Result (Unit {0}) LineStop) (new : List (List ℤ)) where
   pub domain_line : has_cells m ≡ true → union_given rs ≡ Ok values → Gives (λ _. new) result (within_total lists (map (λ _. values) m.cells)) →
-      Gives (λ _. record m { cells = new }) result (taken lists m (SaysDomain rs))
+      Gives (λ _. record m { cells = new }) result (parts_after lists m (SaysDomain rs))
   domain_line has given gives =
       let is = given_by (union_of rs) values (list_any is_backward rs) (list_any is_outside rs) given in
       let cells = map (λ _. union_of rs) m.cells in
@@ -42,7 +42,7 @@ module _ (lists : Bool) (m : Stated) (rs : List Interval) (values : List ℤ) (r
 
   pub cell_line : (k : ℤ) (place : ℕ) → has_cells m ≡ true → IsPlace k (length m.cells) place → union_given rs ≡ Ok values →
       Gives (λ _. new) result (within_total lists (set m.cells place values)) →
-      Gives (λ _. record m { cells = new }) result (taken lists m (SaysCell k rs))
+      Gives (λ _. record m { cells = new }) result (parts_after lists m (SaysCell k rs))
   cell_line k place has at given gives =
       let is = given_by (union_of rs) values (list_any is_backward rs) (list_any is_outside rs) given in
       let cells = set m.cells place (union_of rs) in

@@ -16,14 +16,14 @@ use Rattle.ts_model.specs.declared.model.Require.{Require}
 use Rattle.ts_model.specs.declared.statement.TermParts.{TermParts}
 use Rattle.ts_model.specs.declared.error.ModelKind.{ModelKind}
 use Rattle.ts_model.specs.declared.error.ModelKind.TheVariants.{NoCells, NoObjective}
-use Rattle.ts_model.specs.Statement.{Said, SaysCells, SaysDomain, SaysCell, SaysTerm, SaysRequire, SaysObjective, parsed}
-use Rattle.ts_model.specs.Stated.{Stated, nothing, with_said, count_of, is_between, is_outside, is_bound, has_cells, over_total, term_at, total_of, union_of, digits, unused_parts, first_kind, kinds, unless_kind}
-use Rattle.ts_model.specs.ModelReading.{needs_lists, needs_objective, texts_of, taken_as, onward, read_rows, ended, ended_text, reading}
+use Rattle.ts_model.specs.Statement.{Meaning, SaysCells, SaysDomain, SaysCell, SaysTerm, SaysRequire, SaysObjective, meaning_in}
+use Rattle.ts_model.specs.ModelParts.{ModelParts, nothing, with_meaning, count_of, is_between, is_outside, is_bound, has_cells, over_total, term_at, total_of, union_of, digits, unused_parts, first_kind, kinds, unless_kind}
+use Rattle.ts_model.specs.ModelReading.{needs_lists, needs_objective, texts_of, taken_as, onward, read_rows, end_reading, ended_text, reading}
 use Rattle.ts_model.specs.Promise.{IsWhole, KeepsLimits}
 use Rattle.ts_model.proofs.SaidRanges.{HasRanges, said_ranges}
 use Rattle.ts_model.proofs.UnionLaws.{union_is_domain, digits_are_domain}
 
-record IsFit (lists : Bool) (m : Stated) : Type 0 where
+record IsFit (lists : Bool) (m : ModelParts) : Type 0 where
   box : IsBox m.cells
   few : length m.cells ≤ 512
   total : lists ≡ true → total_of m.cells ≤ 65536
@@ -107,7 +107,7 @@ box_set (c ∷ cs) zero d box h = (h, box.1)
 box_set (c ∷ cs) (suc i) d box h = (box.0, box_set cs i d box.1 h)
 
 -- a line of which no kind holds keeps the limits
-fit_after : (lists : Bool) (m : Stated) (s : Said) → HasRanges s → IsFit lists m → first_kind (kinds lists m s) ≡ None → IsFit lists (with_said m s)
+fit_after : (lists : Bool) (m : ModelParts) (s : Meaning) → HasRanges s → IsFit lists m → first_kind (kinds lists m s) ≡ None → IsFit lists (with_meaning m s)
 fit_after lists m (SaysCells n) has fit none =
     let all = all_fail (kinds lists m (SaysCells n)) none in record {
       box = box_replicate (count_of n) (union_of digits) digits_are_domain;
@@ -122,10 +122,10 @@ fit_after lists m (SaysCells n) has fit none =
 fit_after lists m (SaysDomain rs) has fit none =
     let all = all_fail (kinds lists m (SaysDomain rs)) none in record {
       box = box_map m.cells (union_of rs) (union_is_domain rs has all.1.1.1.0
-          (outside_test (list_any is_outside rs) (over_total lists (with_said m (SaysDomain rs))) all.1.1.1.1.1.1.1.1.1.0));
+          (outside_test (list_any is_outside rs) (over_total lists (with_meaning m (SaysDomain rs))) all.1.1.1.1.1.1.1.1.1.0));
       few = let e : length (map (λ _. union_of rs) m.cells) ≡ length m.cells = simp length-map in omega (arith, e, fit.few);
       total = under lists (total_of (map (λ _. union_of rs) m.cells))
-          (second (list_any is_outside rs) (over_total lists (with_said m (SaysDomain rs))) all.1.1.1.1.1.1.1.1.1.0);
+          (second (list_any is_outside rs) (over_total lists (with_meaning m (SaysDomain rs))) all.1.1.1.1.1.1.1.1.1.0);
       terms = fit.terms;
       requirements = fit.requirements;
       each = fit.each;
@@ -135,10 +135,10 @@ fit_after lists m (SaysDomain rs) has fit none =
 fit_after lists m (SaysCell k rs) has fit none =
     let all = all_fail (kinds lists m (SaysCell k rs)) none in record {
       box = box_set m.cells (count_of k - 1) (union_of rs) fit.box (union_is_domain rs has all.1.1.1.0
-          (outside_test (list_any is_outside rs) (over_total lists (with_said m (SaysCell k rs))) all.1.1.1.1.1.1.1.1.1.0));
-      few = let e : length (with_said m (SaysCell k rs)).cells ≡ length m.cells = simp length-set in omega (arith, e, fit.few);
-      total = under lists (total_of (with_said m (SaysCell k rs)).cells)
-          (second (list_any is_outside rs) (over_total lists (with_said m (SaysCell k rs))) all.1.1.1.1.1.1.1.1.1.0);
+          (outside_test (list_any is_outside rs) (over_total lists (with_meaning m (SaysCell k rs))) all.1.1.1.1.1.1.1.1.1.0));
+      few = let e : length (with_meaning m (SaysCell k rs)).cells ≡ length m.cells = simp length-set in omega (arith, e, fit.few);
+      total = under lists (total_of (with_meaning m (SaysCell k rs)).cells)
+          (second (list_any is_outside rs) (over_total lists (with_meaning m (SaysCell k rs))) all.1.1.1.1.1.1.1.1.1.0);
       terms = fit.terms;
       requirements = fit.requirements;
       each = fit.each;
@@ -147,20 +147,20 @@ fit_after lists m (SaysCell k rs) has fit none =
     }
 fit_after lists m (SaysTerm name parts) has fit none =
     let all = all_fail (kinds lists m (SaysTerm name parts)) none in
-    let more : length (with_said m (SaysTerm name parts)).terms ≡ length m.terms + 1 = simp length-append in record {
+    let more : length (with_meaning m (SaysTerm name parts)).terms ≡ length m.terms + 1 = simp length-append in record {
       box = fit.box;
       few = fit.few;
       total = fit.total;
       terms = omega (arith, more, under_most 32 (length m.terms) all.1.1.1.1.1.1.1.1.1.0);
       requirements = fit.requirements;
-      each = lifted (length m.terms) (length (with_said m (SaysTerm name parts)).terms) (omega (arith, more)) m.requirements fit.each;
+      each = lifted (length m.terms) (length (with_meaning m (SaysTerm name parts)).terms) (omega (arith, more)) m.requirements fit.each;
       bounds = fit.bounds;
-      objective = lifted_objective (length m.terms) (length (with_said m (SaysTerm name parts)).terms) (omega (arith, more)) m.objective fit.objective;
+      objective = lifted_objective (length m.terms) (length (with_meaning m (SaysTerm name parts)).terms) (omega (arith, more)) m.objective fit.objective;
     }
 fit_after lists m (SaysRequire name op bound) has fit none =
     let all = all_fail (kinds lists m (SaysRequire name op bound)) none in
     let tests = bound_test (is_bound bound) (nat_le 64 (length m.requirements)) all.1.1.1.1.1.1.1.1.1.0 in
-    let more : length (with_said m (SaysRequire name op bound)).requirements ≡ length m.requirements + 1 = simp length-append in record {
+    let more : length (with_meaning m (SaysRequire name op bound)).requirements ≡ length m.requirements + 1 = simp length-append in record {
       box = fit.box;
       few = fit.few;
       total = fit.total;
@@ -182,44 +182,45 @@ fit_after lists m (SaysObjective name) has fit none = record {
   objective = term_there name m.terms (term_at name m.terms) refl;
 }
 
-fit_taken : (lists : Bool) (m after : Stated) (number : ℕ) (rows : List Row) (s : Said) (k : Option ModelKind) → first_kind (kinds lists m s) ≡ k →
-    HasRanges s → IsFit lists m → ((next : Stated) → IsFit lists next → read_rows lists next rows ≡ Ok after → IsFit lists after) →
-    onward number (unless_kind k (with_said m s)) (λ a. read_rows lists a rows) ≡ Ok after → IsFit lists after
-fit_taken lists m after number rows s None e has fit later h = later (with_said m s) (fit_after lists m s has fit e) h
+fit_taken : (lists : Bool) (m after : ModelParts) (number : ℕ) (rows : List Row) (s : Meaning) (k : Option ModelKind) → first_kind (kinds lists m s) ≡ k →
+    HasRanges s → IsFit lists m → ((next : ModelParts) → IsFit lists next → read_rows lists next rows ≡ Ok after → IsFit lists after) →
+    onward number (unless_kind k (with_meaning m s)) (λ a. read_rows lists a rows) ≡ Ok after → IsFit lists after
+fit_taken lists m after number rows s None e has fit later h = later (with_meaning m s) (fit_after lists m s has fit e) h
 fit_taken lists m after number rows s (Some k) e has fit later h = cc
 
-fit_said : (lists : Bool) (m after : Stated) (number : ℕ) (rows : List Row) (p : Result Said ModelKind) → ((s : Said) → p ≡ Ok s → HasRanges s) →
-    IsFit lists m → ((next : Stated) → IsFit lists next → read_rows lists next rows ≡ Ok after → IsFit lists after) →
+fit_said : (lists : Bool) (m after : ModelParts) (number : ℕ) (rows : List Row) (p : Result Meaning ModelKind) → ((s : Meaning) → p ≡ Ok s → HasRanges s) →
+    IsFit lists m → ((next : ModelParts) → IsFit lists next → read_rows lists next rows ≡ Ok after → IsFit lists after) →
     onward number (taken_as lists m p) (λ a. read_rows lists a rows) ≡ Ok after → IsFit lists after
 fit_said lists m after number rows (Err k) has fit later h = cc
 fit_said lists m after number rows (Ok s) has fit later h =
     fit_taken lists m after number rows s (first_kind (kinds lists m s)) refl (has s refl) fit later h
 
-fit_rows : (lists : Bool) (m after : Stated) (rows : List Row) → IsFit lists m → read_rows lists m rows ≡ Ok after → IsFit lists after
+fit_rows : (lists : Bool) (m after : ModelParts) (rows : List Row) → IsFit lists m → read_rows lists m rows ≡ Ok after → IsFit lists after
 fit_rows lists m after [] fit h = let same : m ≡ after = cc in subst (IsFit lists) same fit
 fit_rows lists m after (row ∷ rows) fit h =
-    fit_said lists m after row.number rows (parsed (texts_of row.words)) (said_ranges (texts_of row.words)) fit
+    fit_said lists m after row.number rows (meaning_in (texts_of row.words)) (said_ranges (texts_of row.words)) fit
     (λ next fit' h'. fit_rows lists next after rows fit' h') h
 
-record IsEnded (need : Need) (c : Cut) (m : Stated) : Type 0 where
+record IsEnded (need : Need) (c : Cut) (m : ModelParts) : Type 0 where
   rows : read_rows (needs_lists need) nothing c.rows ≡ Ok m
   some : has_cells m ≡ true
   objective : (needs_objective need && is_none m.objective) ≡ false
 
-ended_ok : (need : Need) (c : Cut) (n m : Stated) (some aim : Bool) → read_rows (needs_lists need) nothing c.rows ≡ Ok n → has_cells n ≡ some →
+ended_ok : (need : Need) (c : Cut) (n m : ModelParts) (some aim : Bool) → read_rows (needs_lists need) nothing c.rows ≡ Ok n → has_cells n ≡ some →
     (needs_objective need && is_none n.objective) ≡ aim →
-    ◌≡◌ {A = Result Stated (ℕ × ModelKind)} (cond (not some) (Err (c.count + 1, NoCells)) (cond aim (Err (c.count + 1, NoObjective)) (Ok n)))
+    ◌≡◌ {A = Result ModelParts (ℕ × ModelKind)} (cond (not some) (Err (c.count + 1, NoCells)) (cond aim (Err (c.count + 1, NoObjective)) (Ok n)))
     (Ok m) → IsEnded need c m
 ended_ok need c n m false aim rows has obj h = cc
 ended_ok need c n m true true rows has obj h = cc
 ended_ok need c n m true false rows has obj h = let same : n ≡ m = cc in subst (IsEnded need c) same (record { rows = rows; some = has; objective = obj })
 
-text_ok : (need : Need) (c : Cut) (n m : Stated) (bad : Option ℕ) → read_rows (needs_lists need) nothing c.rows ≡ Ok n → ended_text need c n bad ≡ Ok m →
+text_ok : (need : Need) (c : Cut) (n m : ModelParts) (bad : Option ℕ) → read_rows (needs_lists need) nothing c.rows ≡ Ok n → ended_text need c n bad ≡ Ok m →
     IsEnded need c m
 text_ok need c n m (Some line) rows h = cc
 text_ok need c n m None rows h = ended_ok need c n m (has_cells n) (needs_objective need && is_none n.objective) rows refl refl h
 
-rows_ok : (need : Need) (c : Cut) (m : Stated) (r : Result Stated (ℕ × ModelKind)) → read_rows (needs_lists need) nothing c.rows ≡ r → ended need c r ≡ Ok m →
+rows_ok : (need : Need) (c : Cut) (m : ModelParts) (r : Result ModelParts (ℕ × ModelKind)) → read_rows (needs_lists need) nothing c.rows ≡ r →
+    end_reading need c r ≡ Ok m →
     IsEnded need c m
 rows_ok need c m (Err e) rows h = cc
 rows_ok need c m (Ok n) rows h = text_ok need c n m c.not_text rows h
@@ -228,13 +229,13 @@ nothing_fits : (lists : Bool) → IsFit lists nothing
 nothing_fits lists =
     record { box = tt; few = omega arith; total = λ _. omega arith; terms = omega arith; requirements = omega arith; each = tt; bounds = tt; objective = tt }
 
-ended_is : (need : Need) (c : Cut) (m : Stated) → reading need c ≡ Ok m → IsEnded need c m
+ended_is : (need : Need) (c : Cut) (m : ModelParts) → reading need c ≡ Ok m → IsEnded need c m
 ended_is need c m h = rows_ok need c m (read_rows (needs_lists need) nothing c.rows) refl h
 
-fits : (need : Need) (c : Cut) (m : Stated) → reading need c ≡ Ok m → IsFit (needs_lists need) m
+fits : (need : Need) (c : Cut) (m : ModelParts) → reading need c ≡ Ok m → IsFit (needs_lists need) m
 fits need c m h = fit_rows (needs_lists need) nothing m c.rows (nothing_fits (needs_lists need)) (ended_is need c m h).rows
 
-some_cells : (m : Stated) → has_cells m ≡ true → 1 ≤ length m.cells
+some_cells : (m : ModelParts) → has_cells m ≡ true → 1 ≤ length m.cells
 some_cells m h = grind (arith, nat_tests)
 
 asked : (need : Bool) (o : Option ℕ) → (need && is_none o) ≡ false → need ≡ true → IsSome o
@@ -243,7 +244,7 @@ asked true (Some t) h e = search rules
 asked false o h e = cc
 
 -- what a text states is whole
-pub whole_stated : (need : Need) (c : Cut) (m : Stated) → reading need c ≡ Ok m → IsWhole m
+pub whole_stated : (need : Need) (c : Cut) (m : ModelParts) → reading need c ≡ Ok m → IsWhole m
 whole_stated need c m read =
     let fit = fits need c m read in record {
       some = some_cells m (ended_is need c m read).some;
@@ -253,7 +254,7 @@ whole_stated need c m read =
     }
 
 -- and it keeps the limits
-pub limits_stated : (need : Need) (c : Cut) (m : Stated) → reading need c ≡ Ok m → KeepsLimits need m
+pub limits_stated : (need : Need) (c : Cut) (m : ModelParts) → reading need c ≡ Ok m → KeepsLimits need m
 limits_stated need c m read =
     let fit = fits need c m read in record {
       box = fit.box;

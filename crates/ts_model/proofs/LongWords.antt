@@ -30,8 +30,8 @@ use Rattle.ts_model.specs.declared.model.Op.{Op}
 use Rattle.ts_model.specs.declared.model.Op.TheVariants.{Equal, Unequal, AtMost, AtLeast, Below, Above}
 use Rattle.ts_model.specs.declared.error.ModelKind.TheVariants.{Shape, Number}
 use Rattle.ts_model.specs.ModelReading.{texts_of, taken_as, line_gives}
-use Rattle.ts_model.specs.Stated.{Stated}
-use Rattle.ts_model.specs.Statement.{SaysCells, SaysDomain, SaysTerm, SaysObjective, word_at, term_length, has_shape, made_parts, parts_said, said_cell, said_require, said_by, parsed_by, parsed_as, parsed}
+use Rattle.ts_model.specs.ModelParts.{ModelParts}
+use Rattle.ts_model.specs.Statement.{SaysCells, SaysDomain, SaysTerm, SaysObjective, word_at, term_length, has_shape, made_parts, parts_said, said_cell, said_require, said_by, parsed_by, parsed_as, meaning_in}
 use Rattle.ts_model.specs.Words.{form_of, op_of, is_equals, is_count, is_letter, is_name_byte, is_name, made_range, is_dot, starts_dot, range_cut, range_of, onto, ranges_of, aggregator_of, feature_of, pattern_of}
 
 abbrev cut : List ℕ → List ℕ
@@ -281,7 +281,7 @@ as_cut : (form : Option Form) (ws : List (List ℕ)) → parsed_as form (cut_all
 as_cut None ws = refl
 as_cut (Some form) ws = by_cut form ws
 
-parsed_cut : (ws : List (List ℕ)) → parsed (cut_all ws) ≡ parsed ws
+parsed_cut : (ws : List (List ℕ)) → meaning_in (cut_all ws) ≡ meaning_in ws
 parsed_cut [] = refl
 parsed_cut (w ∷ ws) = ap (λ f. parsed_as f (cut_all ws)) (kept form_of form_short w) ∙ as_cut (form_of w) ws
 
@@ -290,5 +290,5 @@ heads_are [] = refl
 heads_are (w ∷ ws) = ap (λ (x : List (List ℕ)). cut w.text ∷ x) (heads_are ws)
 
 -- a line gives the same by the first bytes of its words
-pub heads_give : (lists : Bool) (m : Stated) (ws : List Piece) → line_gives lists m (texts_of ws) ≡ line_gives lists m (heads ws)
-heads_give lists m ws = ap (taken_as lists m) (sym (parsed_cut (texts_of ws)) ∙ ap parsed (sym (heads_are ws)))
+pub heads_give : (lists : Bool) (m : ModelParts) (ws : List Piece) → line_gives lists m (texts_of ws) ≡ line_gives lists m (heads ws)
+heads_give lists m ws = ap (taken_as lists m) (sym (parsed_cut (texts_of ws)) ∙ ap meaning_in (sym (heads_are ws)))

@@ -14,7 +14,7 @@ use Rattle.ts_model.specs.declared.model.Require.{Require}
 use Rattle.ts_model.specs.Compares.{compares}
 use Rattle.ts_model.specs.Judgement.{all_hold, all_true, holdings, holds, holds_of, insides, is_among, is_met, JudgedIsMet}
 use Rattle.ts_model.specs.Meets.{IsMet, Meets, value_at, values_on}
-use Rattle.ts_model.specs.Stated.{Stated}
+use Rattle.ts_model.specs.ModelParts.{ModelParts}
 
 pub int_same : (x y : ℤ) → int_eq x y ≡ true → x ≡ y
 int_same x y e = grind (arith, ints)
@@ -37,7 +37,7 @@ box_insides (d ∷ ds) (x ∷ xs) b =
     and_from (is_among d x) (all_true (insides ds xs)) (list_any-from_Contains int_eq_equiv x d b.0) (box_insides ds xs b.1)
 
 -- the requirements
-module _ (m : Stated) (xs : List ℤ) where
+module _ (m : ModelParts) (xs : List ℤ) where
   met : (r : Require) (o : Option Ext) → value_at m xs r.term ≡ o → holds_of r o ≡ true → IsMet m xs r
   met r None e h = cc
   met r (Some v) e h = (v, e, h)
@@ -71,7 +71,7 @@ judged_is_met m xs cells = (there, back)
         (box_insides m.cells xs w.inside) (all_held m xs m.requirements w.requirements)
 
 -- the same of what was judged
-pub met_by : (m : Stated) (xs : List ℤ) (inside holding : List Bool) → length xs ≡ length m.cells → inside ≡ insides m.cells xs →
+pub met_by : (m : ModelParts) (xs : List ℤ) (inside holding : List Bool) → length xs ≡ length m.cells → inside ≡ insides m.cells xs →
     holding ≡ holdings (values_on m xs) m.requirements →
     IsTrue (all_hold inside holding) ↔ Meets m xs
 met_by m xs inside holding cells inside_is holding_is =

@@ -2,7 +2,7 @@
 use Rattle.std.proofs.Common.{◌≡◌, ◌≢◌, ℕ, ◌+◌, Bool, true, false, cond, Ok, Err, List, [], sym, ap, subst, ◌∙◌, append-nil}
 use Rattle.std.specs.Prelude.{Result, IfOk}
 use Rattle.ts_token.specs.declared.words.Word.{Word}
-use Rattle.ts_token.specs.Gist.{bare}
+use Rattle.ts_token.specs.Gist.{without_end}
 use Rattle.ts_token.specs.Text.{Piece, is_text, is_skipped, lines_of, words_of, cut_of}
 use Rattle.ts_token.specs.Views.{pieces}
 use Rattle.ts_model.specs.declared.error.LineStop.{LineStop}
@@ -17,28 +17,30 @@ use Rattle.ts_model.specs.declared.reader.State.{State}
 use Rattle.ts_model.specs.declared.reader.State.TheVariants.{Open, Stopped}
 use Rattle.ts_model.specs.LineByLine.{words_give, line_step, reading_from, SoFar, HasRead, ReadsLine}
 use Rattle.ts_model.specs.ModelReading.{needs_lists, texts_of, line_gives, onward, ended_model, model_reading}
-use Rattle.ts_model.specs.Progress.{IsFit, HasTaken, TakesLine, seen, StateTakes, IsCalm, StateEnds}
+use Rattle.ts_model.specs.Progress.{IsFit, HasTaken, TakesLine, state_view, StateTakes, IsCalm, StateEnds}
 use Rattle.ts_model.specs.Promise.{IsWhole, KeepsLimits}
-use Rattle.ts_model.specs.Stated.{Stated, nothing}
-use Rattle.ts_model.specs.Views.{texts, stated, drafted, at_line, Gives, Reads}
+use Rattle.ts_model.specs.ModelParts.{ModelParts, nothing}
+use Rattle.ts_model.specs.Views.{texts, model_parts, draft_parts, at_line, Gives, Reads}
 use Rattle.ts_model.proofs.FitLaws.{whole_stated, limits_stated}
 use Rattle.ts_model.proofs.LineByLaws.{reading_by_lines, read_on, read_bad, still_bad, none_read}
 use Rattle.ts_model.proofs.LineLaws.{texts_pieces}
 
 -- a line that isn't text
-pub step_bad : (need : Need) (n : ℕ) (m : Stated) (line : List ℕ) → is_text line ≡ false → line_step need n m line ≡ Err (n, NotText)
+pub step_bad : (need : Need) (n : ℕ) (m : ModelParts) (line : List ℕ) → is_text line ≡ false → line_step need n m line ≡ Err (n, NotText)
 step_bad need n m line bad = ap (λ v. cond v (words_give need n m (words_of line)) (Err (n, NotText))) bad
 
-pub step_text : (need : Need) (n : ℕ) (m : Stated) (line : List ℕ) → is_text line ≡ true → line_step need n m line ≡ words_give need n m (words_of line)
+pub step_text : (need : Need) (n : ℕ) (m : ModelParts) (line : List ℕ) → is_text line ≡ true → line_step need n m line ≡ words_give need n m (words_of line)
 step_text need n m line text = ap (λ v. cond v (words_give need n m (words_of line)) (Err (n, NotText))) text
 
 -- a skipped one
-pub step_skipped : (need : Need) (n : ℕ) (m : Stated) (line : List ℕ) → is_text line ≡ true → is_skipped (words_of line) ≡ true → line_step need n m line ≡ Ok m
+pub step_skipped : (need : Need) (n : ℕ) (m : ModelParts) (line : List ℕ) → is_text line ≡ true → is_skipped (words_of line) ≡ true →
+    line_step need n m line ≡ Ok m
 step_skipped need n m line text skipped =
     step_text need n m line text ∙ ap (λ v. cond v (Ok m) (onward n (line_gives (needs_lists need) m (texts_of (words_of line))) Ok)) skipped
 
 -- one with words
-pub step_words : (need : Need) (n : ℕ) (m : Stated) (line : List ℕ) (ws : List Word) (lists : Bool) → is_text line ≡ true → is_skipped (words_of line) ≡ false →
+pub step_words : (need : Need) (n : ℕ) (m : ModelParts) (line : List ℕ) (ws : List Word) (lists : Bool) → is_text line ≡ true →
+    is_skipped (words_of line) ≡ false →
     pieces ws ≡ words_of line → lists ≡ needs_lists need → line_step need n m line ≡ onward n (line_gives lists m (texts ws)) Ok
 step_words need n m line ws lists text words are limited =
     step_text need n m line text
@@ -48,18 +50,18 @@ step_words need n m line ws lists text words are limited =
     ∙ ap (λ v. onward n (line_gives v m (texts ws)) Ok) (sym limited)
 
 -- the words add something, or are bad
-pub took_words : (need : Need) (n : ℕ) (m after : Stated) (line : List ℕ) (ws : List Word) (lists : Bool) → is_text line ≡ true →
+pub took_words : (need : Need) (n : ℕ) (m after : ModelParts) (line : List ℕ) (ws : List Word) (lists : Bool) → is_text line ≡ true →
     is_skipped (words_of line) ≡ false → pieces ws ≡ words_of line → lists ≡ needs_lists need → line_gives lists m (texts ws) ≡ Ok after →
     line_step need n m line ≡ Ok after
 took_words need n m after line ws lists text words are limited gives =
     step_words need n m line ws lists text words are limited ∙ ap (λ g. onward n g Ok) gives
 
-pub stopped_words : (old new : Progress) (line : List ℕ) (ws : List Word) (stop : LineStop) (told : ModelStop) (after : Stated) →
+pub stopped_words : (old new : Progress) (line : List ℕ) (ws : List Word) (stop : LineStop) (told : ModelStop) (after : ModelParts) →
     told ≡ at_line (old.count + 1) stop → is_text line ≡ true → is_skipped (words_of line) ≡ false → pieces ws ≡ words_of line → IsFit old →
-    Gives {X = Unit {0}} (λ _. after) (Err stop) (line_gives old.draft.cells.limited (drafted old.draft) (texts ws)) → TakesLine old line (Err told) new
+    Gives {X = Unit {0}} (λ _. after) (Err stop) (line_gives old.draft.cells.limited (draft_parts old.draft) (texts ws)) → TakesLine old line (Err told) new
 stopped_words old new line ws (Bad kind) told after is text words are fit gives =
     subst (λ (t : ModelStop). TakesLine old line (Err t) new) (sym is)
-    (step_words old.need (old.count + 1) (drafted old.draft) line ws old.draft.cells.limited text words are fit.limited
+    (step_words old.need (old.count + 1) (draft_parts old.draft) line ws old.draft.cells.limited text words are fit.limited
     ∙ ap (λ g. onward (old.count + 1) g Ok) gives)
 stopped_words old new line ws NoMemory told after is text words are fit gives = subst (λ (t : ModelStop). TakesLine old line (Err t) new) (sym is) tt
 
@@ -68,29 +70,30 @@ pub stops : (old new : Progress) (line : List ℕ) (stop : ModelStop) → TakesL
 stops old new line (Refused number kind) taken = taken
 stops old new line Memory taken = tt
 
-open_on : (p q : Progress) (given : List ℕ) → HasTaken p q (bare given) → ReadsLine (seen (Open p)) given (seen (Open q))
+open_on : (p q : Progress) (given : List ℕ) → HasTaken p q (without_end given) → ReadsLine (state_view (Open p)) given (state_view (Open q))
 open_on p q given taken =
-    subst (λ (n : Need). ReadsLine (seen (Open p)) given (Ok (record { need = n; count = q.count; stated = drafted q.draft }))) (sym taken.need)
-    (subst (λ (k : ℕ). ReadsLine (seen (Open p)) given (Ok (record { need = p.need; count = k; stated = drafted q.draft }))) (sym taken.count)
-    (read_on (record { need = p.need; count = p.count; stated = drafted p.draft }) given (drafted q.draft) taken.gives))
+    subst (λ (n : Need). ReadsLine (state_view (Open p)) given (Ok (record { need = n; count = q.count; stated = draft_parts q.draft }))) (sym taken.need)
+    (subst (λ (k : ℕ). ReadsLine (state_view (Open p)) given (Ok (record { need = p.need; count = k; stated = draft_parts q.draft }))) (sym taken.count)
+    (read_on (record { need = p.need; count = p.count; stated = draft_parts p.draft }) given (draft_parts q.draft) taken.gives))
 
 stopped_on : (stop : ModelStop) (given : List ℕ) → ReadsLine (Err stop) given (Err stop)
 stopped_on (Refused number kind) given = still_bad given number kind
 stopped_on Memory given = λ need text line whole is same has. absurd has
 
-state_on : (old new : State) (given : List ℕ) → StateTakes old (bare given) new → IsCalm new → ReadsLine (seen old) given (seen new)
+state_on : (old new : State) (given : List ℕ) → StateTakes old (without_end given) new → IsCalm new → ReadsLine (state_view old) given (state_view new)
 state_on (Open p) (Open q) given taken calm = open_on p q given taken
 state_on (Open p) (Stopped (Refused number kind)) given taken calm =
-    read_bad (record { need = p.need; count = p.count; stated = drafted p.draft }) given number kind taken
+    read_bad (record { need = p.need; count = p.count; stated = draft_parts p.draft }) given number kind taken
 state_on (Open p) (Stopped Memory) given taken calm = absurd calm
 state_on (Stopped stop) (Open q) given taken calm = absurd taken
 state_on (Stopped stop) (Stopped again) given taken calm =
     subst (λ (s : ModelStop). ReadsLine (Err stop) given (Err s)) (sym taken) (stopped_on stop given)
 
 -- a line is read, unless memory was wanting
-pub reads : (old new : State) (before : Result SoFar ModelStop) (given : List ℕ) → seen old ≡ before → StateTakes old (bare given) new → IsCalm new →
-    ReadsLine before given (seen new)
-reads old new before given is taken calm = subst (λ (b : Result SoFar ModelStop). ReadsLine b given (seen new)) is (state_on old new given taken calm)
+pub reads : (old new : State) (before : Result SoFar ModelStop) (given : List ℕ) → state_view old ≡ before → StateTakes old (without_end given) new →
+    IsCalm new →
+    ReadsLine before given (state_view new)
+reads old new before given is taken calm = subst (λ (b : Result SoFar ModelStop). ReadsLine b given (state_view new)) is (state_on old new given taken calm)
 
 -- memory isn't wanting, of what contracts see
 abbrev calm_seen : Result SoFar ModelStop → Type 0
@@ -98,7 +101,7 @@ calm_seen (Ok s) = Unit {0}
 calm_seen (Err (Refused number kind)) = Unit {0}
 calm_seen (Err Memory) = ⊥
 
-calm_is : (s : State) → IsCalm s → seen s ≢ Err Memory
+calm_is : (s : State) → IsCalm s → state_view s ≢ Err Memory
 calm_is (Open p) calm = λ e. subst calm_seen e tt
 calm_is (Stopped (Refused number kind)) calm = λ e. subst calm_seen e tt
 calm_is (Stopped Memory) calm = absurd calm
@@ -109,8 +112,8 @@ calm_before (Stopped stop) (Open q) line taken calm = absurd taken
 calm_before (Stopped stop) (Stopped again) line taken calm = subst (λ (s : ModelStop). IsCalm (Stopped s)) taken calm
 
 -- memory wasn't wanting before the line, and isn't behind it
-pub stays_calm : (old new : State) (before : Result SoFar ModelStop) (line : List ℕ) → seen old ≡ before → StateTakes old line new → IsCalm new →
-    (before ≢ Err Memory) × (seen new ≢ Err Memory)
+pub stays_calm : (old new : State) (before : Result SoFar ModelStop) (line : List ℕ) → state_view old ≡ before → StateTakes old line new → IsCalm new →
+    (before ≢ Err Memory) × (state_view new ≢ Err Memory)
 stays_calm old new before line is taken calm =
     (subst (λ (b : Result SoFar ModelStop). b ≢ Err Memory) is (calm_is old (calm_before old new line taken calm)), calm_is new calm)
 
@@ -118,12 +121,12 @@ abbrev stop_of : Result SoFar ModelStop → ModelStop
 stop_of (Ok s) = Memory
 stop_of (Err stop) = stop
 
-wanted_ends : (s : State) (result : Result Model ModelStop) → StateEnds s result → seen s ≡ Err Memory → result ≡ Err Memory
+wanted_ends : (s : State) (result : Result Model ModelStop) → StateEnds s result → state_view s ≡ Err Memory → result ≡ Err Memory
 wanted_ends (Open p) result ends is = absurd (subst calm_seen is tt)
 wanted_ends (Stopped stop) result ends is = ends ∙ ap (λ (r : Result SoFar ModelStop). Err (stop_of r)) is
 
 -- where memory was wanting, the end tells that
-pub ends_wanted : (s : State) (before : Result SoFar ModelStop) (result : Result Model ModelStop) → seen s ≡ before → StateEnds s result →
+pub ends_wanted : (s : State) (before : Result SoFar ModelStop) (result : Result Model ModelStop) → state_view s ≡ before → StateEnds s result →
     before ≡ Err Memory → result ≡ Err Memory
 ends_wanted s before result is end wanted = wanted_ends s result end (is ∙ wanted)
 
@@ -132,39 +135,40 @@ is_model (Ok m) = Unit {0}
 is_model (Err stop) = ⊥
 
 -- a model tells that memory wasn't
-pub ends_calm : (s : State) (before : Result SoFar ModelStop) (result : Result Model ModelStop) → seen s ≡ before → StateEnds s result →
+pub ends_calm : (s : State) (before : Result SoFar ModelStop) (result : Result Model ModelStop) → state_view s ≡ before → StateEnds s result →
     IfOk result (λ m. before ≢ Err Memory)
 ends_calm s before (Ok m) is end = λ wanted. subst is_model (ends_wanted s before (Ok m) is end wanted) tt
 ends_calm s before (Err stop) is end = tt
 
-state_ends : (s : State) (result : Result Model ModelStop) (need : Need) (text : List ℕ) → StateEnds s result → HasRead need text (seen s) →
+state_ends : (s : State) (result : Result Model ModelStop) (need : Need) (text : List ℕ) → StateEnds s result → HasRead need text (state_view s) →
     Reads result (model_reading need text)
 state_ends (Open p) result need text ends has =
     subst (Reads result) (sym (
     reading_by_lines need text ∙ ap (reading_from need 0 nothing) (sym (append-nil (lines_of text))) ∙ has.1 []
-    ∙ ap (λ (n : Need). ended_model n p.count (drafted p.draft)) (sym has.0))) ends
+    ∙ ap (λ (n : Need). ended_model n p.count (draft_parts p.draft)) (sym has.0))) ends
 state_ends (Stopped (Refused number kind)) result need text ends has =
     subst (λ (r : Result Model ModelStop). Reads r (model_reading need text)) (sym ends)
     (reading_by_lines need text ∙ ap (reading_from need 0 nothing) (sym (append-nil (lines_of text))) ∙ has [])
 state_ends (Stopped Memory) result need text ends has = absurd has
 
 -- the end tells the reading of the text
-pub ends : (s : State) (before : Result SoFar ModelStop) (result : Result Model ModelStop) (need : Need) (text : List ℕ) → seen s ≡ before →
+pub ends : (s : State) (before : Result SoFar ModelStop) (result : Result Model ModelStop) (need : Need) (text : List ℕ) → state_view s ≡ before →
     StateEnds s result → HasRead need text before → Reads result (model_reading need text)
 ends s before result need text is end has = state_ends s result need text end (subst (HasRead need text) (sym is) has)
 
 -- what is read is whole, and keeps the limits
-pub whole_read : (need : Need) (text : List ℕ) (r : Result Model ModelStop) → Reads r (model_reading need text) → IfOk r (λ m. IsWhole (stated m))
-whole_read need text (Ok m) e = whole_stated need (cut_of text) (stated m) e
+pub whole_read : (need : Need) (text : List ℕ) (r : Result Model ModelStop) → Reads r (model_reading need text) → IfOk r (λ m. IsWhole (model_parts m))
+whole_read need text (Ok m) e = whole_stated need (cut_of text) (model_parts m) e
 whole_read need text (Err stop) e = tt
 
-pub limits_read : (need : Need) (text : List ℕ) (r : Result Model ModelStop) → Reads r (model_reading need text) → IfOk r (λ m. KeepsLimits need (stated m))
-limits_read need text (Ok m) e = limits_stated need (cut_of text) (stated m) e
+pub limits_read : (need : Need) (text : List ℕ) (r : Result Model ModelStop) → Reads r (model_reading need text) →
+    IfOk r (λ m. KeepsLimits need (model_parts m))
+limits_read need text (Ok m) e = limits_stated need (cut_of text) (model_parts m) e
 limits_read need text (Err stop) e = tt
 
 -- before the first line
-pub fresh_read : (p : Progress) (need : Need) → p.need ≡ need → p.count ≡ 0 → drafted p.draft ≡ nothing → HasRead need [] (seen (Open p))
+pub fresh_read : (p : Progress) (need : Need) → p.need ≡ need → p.count ≡ 0 → draft_parts p.draft ≡ nothing → HasRead need [] (state_view (Open p))
 fresh_read p need need_is count_is none =
-    subst (λ (n : Need). HasRead need [] (Ok (record { need = n; count = p.count; stated = drafted p.draft }))) (sym need_is)
-    (subst (λ (k : ℕ). HasRead need [] (Ok (record { need = need; count = k; stated = drafted p.draft }))) (sym count_is)
-    (subst (λ (m : Stated). HasRead need [] (Ok (record { need = need; count = 0; stated = m }))) (sym none) (none_read need)))
+    subst (λ (n : Need). HasRead need [] (Ok (record { need = n; count = p.count; stated = draft_parts p.draft }))) (sym need_is)
+    (subst (λ (k : ℕ). HasRead need [] (Ok (record { need = need; count = k; stated = draft_parts p.draft }))) (sym count_is)
+    (subst (λ (m : ModelParts). HasRead need [] (Ok (record { need = need; count = 0; stated = m }))) (sym none) (none_read need)))

@@ -12,9 +12,9 @@ use Rattle.ts_model.specs.declared.cells.Cells.{Cells}
 use Rattle.ts_model.specs.declared.draft.Draft.{Draft}
 use Rattle.ts_model.specs.declared.error.ModelKind.TheVariants.{BadPair}
 use Rattle.ts_model.specs.Statement.{SaysTerm}
-use Rattle.ts_model.specs.Stated.{Stated, has_cells, taken, term_made, term_at}
+use Rattle.ts_model.specs.ModelParts.{ModelParts, has_cells, parts_after, term_made, term_at}
 use Rattle.ts_model.specs.Cells.{IsKept}
-use Rattle.ts_model.specs.Views.{parts_of, term_of, drafted, Follows, IsSound}
+use Rattle.ts_model.specs.Views.{parts_of, term_of, draft_parts, Follows, IsSound}
 use Rattle.ts_model.proofs.TermLaws.{term_added}
 
 -- a line that leaves the cells as they are
@@ -25,28 +25,28 @@ follows_on d new sound cells few = record {
   turn = let e = ap (λ (c : Cells). c.turn) cells in omega (arith, e);
 }
 
-clear_pair : (lists : Bool) (m : Stated) (name : List ℕ) (p q : TermParts) (pair : Bool) → is_pair p.aggregator p.feature ≡ pair →
+clear_pair : (lists : Bool) (m : ModelParts) (name : List ℕ) (p q : TermParts) (pair : Bool) → is_pair p.aggregator p.feature ≡ pair →
     cond pair (Ok p) (Err BadPair) ≡ Ok q → has_cells m ≡ true →
     is_some (term_at name m.terms) ≡ false → nat_le 32 (length m.terms) ≡ false →
-    taken lists m (SaysTerm name (Some p)) ≡ Ok (record m { terms = m.terms ++ (name, q) ∷ [] })
+    parts_after lists m (SaysTerm name (Some p)) ≡ Ok (record m { terms = m.terms ++ (name, q) ∷ [] })
 clear_pair lists m name p q false is made some new room = cc
 clear_pair lists m name p q true is made some new room =
     let same : p ≡ q = cc in rw (some, is, new, room) (ap (λ (x : TermParts). Ok (record m { terms = m.terms ++ (name, x) ∷ [] })) same)
 
-clear_term : (lists : Bool) (m : Stated) (name : List ℕ) (parts : Option TermParts) (q : TermParts) → term_made parts ≡ Ok q → has_cells m ≡ true →
+clear_term : (lists : Bool) (m : ModelParts) (name : List ℕ) (parts : Option TermParts) (q : TermParts) → term_made parts ≡ Ok q → has_cells m ≡ true →
     is_some (term_at name m.terms) ≡ false → nat_le 32 (length m.terms) ≡ false →
-    taken lists m (SaysTerm name parts) ≡ Ok (record m { terms = m.terms ++ (name, q) ∷ [] })
+    parts_after lists m (SaysTerm name parts) ≡ Ok (record m { terms = m.terms ++ (name, q) ∷ [] })
 clear_term lists m name None q made some new room = cc
 clear_term lists m name (Some p) q made some new room = clear_pair lists m name p q (is_pair p.aggregator p.feature) refl made some new room
 
 pub took_term : (lists : Bool) (d : Draft) (name : List ℕ) (parts : Option TermParts) (term : Term) (key : String Global)
-    (entries : List (String Global × Term)) → has_cells (drafted d) ≡ true → term_made parts ≡ Ok (parts_of term) →
-    is_some (term_at name (drafted d).terms) ≡ false → nat_le 32 (length (drafted d).terms) ≡ false →
+    (entries : List (String Global × Term)) → has_cells (draft_parts d) ≡ true → term_made parts ≡ Ok (parts_of term) →
+    is_some (term_at name (draft_parts d).terms) ≡ false → nat_le 32 (length (draft_parts d).terms) ≡ false →
     string_bytes key ≡ name → entries ≡ insert_entry string_eq d.terms.entries key term →
-    taken lists (drafted d) (SaysTerm name parts) ≡ Ok (record (drafted d) { terms = map term_of entries })
+    parts_after lists (draft_parts d) (SaysTerm name parts) ≡ Ok (record (draft_parts d) { terms = map term_of entries })
 took_term lists d name parts term key entries some made new room key_is entries_is =
-    clear_term lists (drafted d) name parts (parts_of term) made some new room
-    ∙ ap (λ (x : List (List ℕ × TermParts)). Ok (record (drafted d) { terms = x }))
+    clear_term lists (draft_parts d) name parts (parts_of term) made some new room
+    ∙ ap (λ (x : List (List ℕ × TermParts)). Ok (record (draft_parts d) { terms = x }))
     (sym (ap (map term_of) entries_is ∙ term_added name term key d.terms.entries key_is new))
 
 pub follows_term : (d new : Draft) (old : Option Term) (n : ℕ) → IsSound d → n ≤ 31 → n ≡ index_map_len d.terms →

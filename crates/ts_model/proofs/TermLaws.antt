@@ -10,7 +10,7 @@ use Rattle.std.proofs.lemmas.List.{length-map, map-append}
 use Rattle.std.proofs.Common.{length-append}
 use Rattle.ts_pattern.specs.declared.term.Term.{Term}
 use Rattle.ts_model.specs.declared.statement.TermParts.{TermParts}
-use Rattle.ts_model.specs.Stated.{term_at}
+use Rattle.ts_model.specs.ModelParts.{term_at}
 use Rattle.ts_model.specs.Views.{parts_of, term_of}
 
 module _ {A B : Type 0} (p : A → Bool) (q : B → Bool) (f : A → B) (same : (a : A) → p a ≡ q (f a)) where

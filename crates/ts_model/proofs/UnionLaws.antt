@@ -6,12 +6,12 @@ use Rattle.std.proofs.lemmas.List.Elements.{recursion_from_All, All-from_recursi
 use Rattle.std.specs.Prelude.{filter, Contains, All, int_lt}
 use Rattle.std.specs.List.{AllByRecursion, list_any, zip}
 use Rattle.ts_domain.specs.declared.interval.Interval.{Interval}
-use Rattle.ts_domain.specs.Values.{WithinLimits, Rising, IsDomain, run, values_between}
-use Rattle.ts_domain.specs.Union.{InSome, InSomeRange, SomeEmpty, paired}
+use Rattle.ts_domain.specs.Values.{WithinLimits, IsRising, IsDomain, run, values_between}
+use Rattle.ts_domain.specs.Union.{InSome, InSomeRange, SomeEmpty, intervals_of}
 use Rattle.ts_domain.proofs.Runs.{length-between, between_split, all_between, none_between, between_has, rising_run, all_run}
 use Rattle.ts_domain.proofs.Sets.{contains_filter, each_filter, nothing_in, rising_filter}
 use Rattle.ts_domain.proofs.Unions.{has_number, any_in_some, in_some_any, in_paired, paired_has, empty_any}
-use Rattle.ts_model.specs.Stated.{is_between, is_backward, is_value, is_outside, union_of, digits}
+use Rattle.ts_model.specs.ModelParts.{is_between, is_backward, is_value, is_outside, union_of, digits}
 
 abbrev Among : ℤ → List ℤ → Type 0
 Among v [] = ⊥
@@ -63,9 +63,9 @@ module _ (test : ℤ → Bool) where
       (λ le. let same : x ≡ low = omega (arith, ints, le, from) in let e : test x ≡ test low = ap test same in absurd (cc))
 
   -- what a test leaves of the numbers of a range is the rising list of those that pass it
-  pub all_left : (low : ℤ) (n : ℕ) (d : List ℤ) → Rising d → AllByRecursion (IsIn low n) d → AllByRecursion (λ v. test v ≡ true) d →
+  pub all_left : (low : ℤ) (n : ℕ) (d : List ℤ) → IsRising d → AllByRecursion (IsIn low n) d → AllByRecursion (λ v. test v ≡ true) d →
       ((v : ℤ) → low ≤ℤ v → v <ℤ (low +ℤ pos n) → test v ≡ true → Among v d) → filter test (run low n) ≡ d
-  unfolding run Rising
+  unfolding run IsRising
   all_left low zero [] rising within each only = refl
   all_left low zero (x ∷ xs) rising within each only = let a = within.0.0 in let b = within.0.1 in absurd (omega (arith, ints, a, b))
   all_left low (suc n) [] rising within each only =
@@ -92,7 +92,7 @@ low_of r = r.low
 abbrev high_of : Interval → ℤ
 high_of r = r.high
 
-paired_parts : (rs : List Interval) → paired (map low_of rs) (map high_of rs) ≡ rs
+paired_parts : (rs : List Interval) → intervals_of (map low_of rs) (map high_of rs) ≡ rs
 paired_parts [] = refl
 paired_parts (r ∷ rs) = ap (λ (xs : List Interval). r ∷ xs) (paired_parts rs)
 
@@ -102,12 +102,13 @@ same_length rs = simp length-map
 passes : (rs : List Interval) (v : ℤ) → InSomeRange (map low_of rs) (map high_of rs) v → list_any (has_number v) rs ≡ true
 passes rs v h =
     subst (λ (xs : List Interval). list_any (has_number v) xs ≡ true) (paired_parts rs)
-    (in_some_any (paired (map low_of rs) (map high_of rs)) v (paired_has (map low_of rs) (map high_of rs) v (same_length rs) h))
+    (in_some_any (intervals_of (map low_of rs) (map high_of rs)) v (paired_has (map low_of rs) (map high_of rs) v (same_length rs) h))
 
 passed : (rs : List Interval) (v : ℤ) → list_any (has_number v) rs ≡ true → InSomeRange (map low_of rs) (map high_of rs) v
 passed rs v h =
     in_paired (map low_of rs) (map high_of rs) v (same_length rs)
-    (any_in_some (paired (map low_of rs) (map high_of rs)) v (subst (λ (xs : List Interval). list_any (has_number v) xs ≡ true) (sym (paired_parts rs)) h))
+    (any_in_some (intervals_of (map low_of rs) (map high_of rs)) v
+    (subst (λ (xs : List Interval). list_any (has_number v) xs ≡ true) (sym (paired_parts rs)) h))
 
 within_limits : (v : ℤ) → WithinLimits v → WithinLimits v → IsIn (neg_ℤ (pos 1000000)) 2000001 v
 within_limits v h h' = (h.0, omega (arith, ints, h.1))
@@ -216,7 +217,7 @@ forward_first r rest h = not_below r.high r.low (left (is_backward r) rest h)
     not_below a b h = grind (arith, ints)
 
 pub union_is_domain : (rs : List Interval) → 0 < length rs → list_any is_backward rs ≡ false → list_any is_outside rs ≡ false → IsDomain (union_of rs)
-unfolding union_of values_between Rising InSome
+unfolding union_of values_between IsRising InSome
 union_is_domain [] some forward inside = absurd (omega (arith, some))
 union_is_domain (r ∷ rs) some forward inside =
     let test : ℤ → Bool = λ v. list_any (λ q. is_between q.low v q.high) (r ∷ rs) in
@@ -225,7 +226,7 @@ union_is_domain (r ∷ rs) some forward inside =
     let low = (inside_low (r ∷ rs) inside).0 in
     let has = (contains_filter test all r.low).1
     (between_has (neg_ℤ (pos 1000000)) (pos 1000000) r.low low.0 low.1, in_some_any (r ∷ rs) r.low (inl (omega (arith, ints), ordered))) in record {
-      rising = rising_filter test all (subst Rising (append-nil all) (rising_run (neg_ℤ (pos 1000000)) 2000001 [] tt tt));
+      rising = rising_filter test all (subst IsRising (append-nil all) (rising_run (neg_ℤ (pos 1000000)) 2000001 [] tt tt));
       some = λ none. nothing_in r.low (subst (λ l. Contains l r.low) none has);
       within = each_filter WithinLimits test all
           (all_run (neg_ℤ (pos 1000000)) (neg_ℤ (pos 1000000)) 2000001 (pos 1000000) (omega (arith, ints)) (omega (arith, ints)));

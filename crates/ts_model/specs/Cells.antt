@@ -6,7 +6,7 @@ use Rattle.ts_model.specs.declared.cells.Own.{Own}
 use Rattle.ts_model.specs.declared.cells.Cells.{Cells}
 use Rattle.ts_model.specs.declared.error.ModelKind.{ModelKind}
 use Rattle.ts_model.specs.declared.error.ModelKind.TheVariants.{Limit}
-use Rattle.ts_model.specs.Stated.{total_of}
+use Rattle.ts_model.specs.ModelParts.{total_of}
 
 -- the domain of a cell: its own one if it was set after the common one
 abbrev pub in_force : ℕ → List ℤ → Option Own → List ℤ

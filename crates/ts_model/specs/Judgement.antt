@@ -6,7 +6,7 @@ use Rattle.ts_base.specs.declared.ext.Ext.{Ext}
 use Rattle.ts_model.specs.declared.model.Require.{Require}
 use Rattle.ts_model.specs.Compares.{compares}
 use Rattle.ts_model.specs.Meets.{Meets, values_on}
-use Rattle.ts_model.specs.Stated.{Stated}
+use Rattle.ts_model.specs.ModelParts.{ModelParts}
 
 -- x is one of the values
 abbrev pub is_among : List ℤ → ℤ → Bool
@@ -37,9 +37,9 @@ abbrev pub all_hold : List Bool → List Bool → Bool
 all_hold inside holding = all_true inside && all_true holding
 
 -- whether all of that is so of a series
-abbrev pub is_met : Stated → List ℤ → Bool
+abbrev pub is_met : ModelParts → List ℤ → Bool
 is_met m xs = all_hold (insides m.cells xs) (holdings (values_on m xs) m.requirements)
 
 -- of a series with as many cells, all is so exactly where it meets what is stated
 abbrev pub JudgedIsMet : Type 0
-JudgedIsMet = (m : Stated) (xs : List ℤ) → length xs ≡ length m.cells → IsTrue (is_met m xs) ↔ Meets m xs
+JudgedIsMet = (m : ModelParts) (xs : List ℤ) → length xs ≡ length m.cells → IsTrue (is_met m xs) ↔ Meets m xs

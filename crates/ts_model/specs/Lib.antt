@@ -1,6 +1,6 @@
 pub mod Words
 pub mod Statement
-pub mod Stated
+pub mod ModelParts
 pub mod Cells
 pub mod ModelReading
 pub mod LineByLine

@@ -7,22 +7,22 @@ use Rattle.ts_domain.specs.BoxSeries.{InBox}
 use Rattle.ts_pattern.specs.TermValue.{value_of}
 use Rattle.ts_model.specs.declared.model.Require.{Require}
 use Rattle.ts_model.specs.Compares.{compares}
-use Rattle.ts_model.specs.Stated.{Stated}
+use Rattle.ts_model.specs.ModelParts.{ModelParts}
 
 -- the value of each term on a series, in the order of the text
-abbrev pub values_on : Stated → List ℤ → List Ext
+abbrev pub values_on : ModelParts → List ℤ → List Ext
 values_on m xs = map (λ t. value_of t.1.aggregator t.1.feature t.1.pattern xs) m.terms
 
 -- the value of the term at a place, counted from 0; none where no term stands there
-abbrev pub value_at : Stated → List ℤ → ℕ → Option Ext
+abbrev pub value_at : ModelParts → List ℤ → ℕ → Option Ext
 value_at m xs place = slice_get (values_on m xs) place
 
 -- the requirement's term stands, and its value on the series compares so with the bound
-abbrev pub IsMet : Stated → List ℤ → Require → Type 0
+abbrev pub IsMet : ModelParts → List ℤ → Require → Type 0
 IsMet m xs r = (v : Ext) × (value_at m xs r.term ≡ Some v) × IsTrue (compares r.op r.bound v)
 
 -- the series meets what is stated
-pub record Meets (m : Stated) (xs : List ℤ) : Type 0 where
+pub record Meets (m : ModelParts) (xs : List ℤ) : Type 0 where
   pub cells : length xs ≡ length m.cells
   pub inside : InBox xs m.cells
   pub requirements : AllByRecursion (IsMet m xs) m.requirements

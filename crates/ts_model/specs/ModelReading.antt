@@ -7,8 +7,8 @@ use Rattle.ts_model.specs.declared.model.Need.TheVariants.{Values, List as Listi
 use Rattle.ts_model.specs.declared.error.ModelKind.{ModelKind}
 use Rattle.ts_model.specs.declared.error.ModelKind.TheVariants.{NotText, UnknownLine, Shape, Number, NoCells, NoObjective}
 use Rattle.ts_model.specs.Words.{form_of}
-use Rattle.ts_model.specs.Statement.{Said, has_shape, said_by, parsed}
-use Rattle.ts_model.specs.Stated.{Stated, nothing, with_said, first_kind, kinds, has_cells, taken}
+use Rattle.ts_model.specs.Statement.{Meaning, has_shape, said_by, meaning_in}
+use Rattle.ts_model.specs.ModelParts.{ModelParts, nothing, with_meaning, first_kind, kinds, has_cells, parts_after}
 
 -- all domains together have a limit
 abbrev pub needs_lists : Need → Bool
@@ -26,21 +26,21 @@ texts_of ws = map (λ w. w.text) ws
 
 -- The first bad line, by one test for each kind over a line's words and what the lines before it state.
 
-abbrev pub said_onto : Result Said ModelKind → List Said → List Said
+abbrev pub said_onto : Result Meaning ModelKind → List Meaning → List Meaning
 said_onto (Err k) rest = rest
 said_onto (Ok s) rest = s ∷ rest
 
 -- what lines say
-abbrev pub said_lines : List Row → List Said
+abbrev pub said_lines : List Row → List Meaning
 said_lines [] = []
-said_lines (row ∷ rows) = said_onto (parsed (texts_of row.words)) (said_lines rows)
+said_lines (row ∷ rows) = said_onto (meaning_in (texts_of row.words)) (said_lines rows)
 
-abbrev pub stated_after : Stated → List Said → Stated
+abbrev pub stated_after : ModelParts → List Meaning → ModelParts
 stated_after m [] = m
-stated_after m (s ∷ ss) = stated_after (with_said m s) ss
+stated_after m (s ∷ ss) = stated_after (with_meaning m s) ss
 
 -- what lines state
-abbrev pub so_far : List Row → Stated
+abbrev pub so_far : List Row → ModelParts
 so_far rows = stated_after nothing (said_lines rows)
 
 abbrev pub form_at : List (List ℕ) → Option Form
@@ -60,17 +60,17 @@ bad_number None ws = false
 bad_number (Some form) ws = is_none (said_by form ws)
 
 -- the kinds of a line that says something; none of another line, which one of the first three kinds holds of
-abbrev pub kinds_said : Bool → Stated → Result Said ModelKind → List (Bool × ModelKind)
+abbrev pub kinds_said : Bool → ModelParts → Result Meaning ModelKind → List (Bool × ModelKind)
 kinds_said lists m (Err k) = []
 kinds_said lists m (Ok s) = kinds lists m s
 
 -- the kinds in their order, each with its test of a line with these words after lines that state m
-abbrev pub kinds_of : Bool → Stated → List (List ℕ) → List (Bool × ModelKind)
+abbrev pub kinds_of : Bool → ModelParts → List (List ℕ) → List (Bool × ModelKind)
 kinds_of lists m words =
     (is_none (form_at words), UnknownLine)
     ∷ (bad_shape (form_at words) (rest_at words), Shape)
     ∷ (bad_number (form_at words) (rest_at words), Number)
-    ∷ kinds_said lists m (parsed words)
+    ∷ kinds_said lists m (meaning_in words)
 
 -- the first kind that holds of a line after these lines
 abbrev pub kind_at : Bool → List Row → Row → Option ModelKind
@@ -106,56 +106,56 @@ IsRefused need c line kind =
     (AreGood (needs_lists need) c.rows × IsEnd need c c.not_text line kind)
 
 -- a text states this model
-abbrev pub IsModel : Need → Cut → Stated → Type 0
+abbrev pub IsModel : Need → Cut → ModelParts → Type 0
 IsModel need c m =
     AreGood (needs_lists need) c.rows × (c.not_text ≡ None) × (has_cells m ≡ true) ×
     ((needs_objective need && is_none m.objective) ≡ false) × (m ≡ so_far c.rows)
 
 -- what a text reads as
-abbrev pub IsReading : Need → Cut → Result Stated (ℕ × ModelKind) → Type 0
+abbrev pub IsReading : Need → Cut → Result ModelParts (ℕ × ModelKind) → Type 0
 IsReading need c (Ok m) = IsModel need c m
 IsReading need c (Err e) = IsRefused need c e.0 e.1
 
 -- The same reading as a function, from line to line.
 
-abbrev pub taken_as : Bool → Stated → Result Said ModelKind → Result Stated ModelKind
+abbrev pub taken_as : Bool → ModelParts → Result Meaning ModelKind → Result ModelParts ModelKind
 taken_as lists m (Err k) = Err k
-taken_as lists m (Ok s) = taken lists m s
+taken_as lists m (Ok s) = parts_after lists m s
 
-abbrev pub line_gives : Bool → Stated → List (List ℕ) → Result Stated ModelKind
-line_gives lists m words = taken_as lists m (parsed words)
+abbrev pub line_gives : Bool → ModelParts → List (List ℕ) → Result ModelParts ModelKind
+line_gives lists m words = taken_as lists m (meaning_in words)
 
 -- the line's number beside its kind, or on with what is stated after it
-abbrev pub onward : ℕ → Result Stated ModelKind → (Stated → Result Stated (ℕ × ModelKind)) →
-    Result Stated (ℕ × ModelKind)
+abbrev pub onward : ℕ → Result ModelParts ModelKind → (ModelParts → Result ModelParts (ℕ × ModelKind)) →
+    Result ModelParts (ℕ × ModelKind)
 onward number (Err k) next = Err (number, k)
 onward number (Ok m) next = next m
 
 -- what rows state after m, or the number of the first bad one with its first kind
-abbrev pub read_rows : Bool → Stated → List Row → Result Stated (ℕ × ModelKind)
+abbrev pub read_rows : Bool → ModelParts → List Row → Result ModelParts (ℕ × ModelKind)
 read_rows lists m [] = Ok m
 read_rows lists m (row ∷ rows) =
     onward row.number (line_gives lists m (texts_of row.words)) (λ after. read_rows lists after rows)
 
 -- the end of a text of so many lines, which state m
-abbrev pub ended_model : Need → ℕ → Stated → Result Stated (ℕ × ModelKind)
+abbrev pub ended_model : Need → ℕ → ModelParts → Result ModelParts (ℕ × ModelKind)
 ended_model need count m =
     if not (has_cells m) then Err (count + 1, NoCells)
     else (if needs_objective need && is_none m.objective then Err (count + 1, NoObjective)
     else Ok m)
 
-abbrev pub ended_text : Need → Cut → Stated → Option ℕ → Result Stated (ℕ × ModelKind)
+abbrev pub ended_text : Need → Cut → ModelParts → Option ℕ → Result ModelParts (ℕ × ModelKind)
 ended_text need c m (Some line) = Err (line, NotText)
 ended_text need c m None = ended_model need c.count m
 
-abbrev pub ended : Need → Cut → Result Stated (ℕ × ModelKind) → Result Stated (ℕ × ModelKind)
-ended need c (Err e) = Err e
-ended need c (Ok m) = ended_text need c m c.not_text
+abbrev pub end_reading : Need → Cut → Result ModelParts (ℕ × ModelKind) → Result ModelParts (ℕ × ModelKind)
+end_reading need c (Err e) = Err e
+end_reading need c (Ok m) = ended_text need c m c.not_text
 
 -- the model that the lines of a text state, or the first bad line with the first kind that holds of it
-abbrev pub reading : Need → Cut → Result Stated (ℕ × ModelKind)
-reading need c = ended need c (read_rows (needs_lists need) nothing c.rows)
+abbrev pub reading : Need → Cut → Result ModelParts (ℕ × ModelKind)
+reading need c = end_reading need c (read_rows (needs_lists need) nothing c.rows)
 
 -- the same of the bytes of a text
-abbrev pub model_reading : Need → List ℕ → Result Stated (ℕ × ModelKind)
+abbrev pub model_reading : Need → List ℕ → Result ModelParts (ℕ × ModelKind)
 model_reading need bytes = reading need (cut_of bytes)

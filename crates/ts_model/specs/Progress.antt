@@ -8,7 +8,7 @@ use Rattle.ts_model.specs.declared.reader.State.{State}
 use Rattle.ts_model.specs.declared.reader.State.TheVariants.{Open, Stopped}
 use Rattle.ts_model.specs.LineByLine.{SoFar, line_step}
 use Rattle.ts_model.specs.ModelReading.{ended_model, needs_lists}
-use Rattle.ts_model.specs.Views.{drafted, IsSound, Reads}
+use Rattle.ts_model.specs.Views.{draft_parts, IsSound, Reads}
 
 -- the draft may take a line
 pub record IsFit (p : Progress) : Type 0 where
@@ -26,25 +26,25 @@ pub record HasTaken (old new : Progress) (line : List ℕ) : Type 0 where
   pub fit : IsFit new
   pub need : new.need ≡ old.need
   pub count : new.count ≡ old.count + 1
-  pub gives : line_step old.need (old.count + 1) (drafted old.draft) line ≡ Ok (drafted new.draft)
+  pub gives : line_step old.need (old.count + 1) (draft_parts old.draft) line ≡ Ok (draft_parts new.draft)
 
 -- the line is taken, or is bad, or memory was wanting
 abbrev pub TakesLine : Progress → List ℕ → Result (Unit {0}) ModelStop → Progress → Type 0
 TakesLine old line (Ok _) new = HasTaken old new line
 TakesLine old line (Err (Refused number kind)) new =
-    line_step old.need (old.count + 1) (drafted old.draft) line ≡ Err (number, kind)
+    line_step old.need (old.count + 1) (draft_parts old.draft) line ≡ Err (number, kind)
 TakesLine old line (Err Memory) new = Unit {0}
 
 -- what contracts see of a reader
-abbrev pub seen : State → Result SoFar ModelStop
-seen (Open p) = Ok (record { need = p.need; count = p.count; stated = drafted p.draft })
-seen (Stopped stop) = Err stop
+abbrev pub state_view : State → Result SoFar ModelStop
+state_view (Open p) = Ok (record { need = p.need; count = p.count; stated = draft_parts p.draft })
+state_view (Stopped stop) = Err stop
 
 -- what a reader makes of a line
 abbrev pub StateTakes : State → List ℕ → State → Type 0
 StateTakes (Open old) line (Open new) = HasTaken old new line
 StateTakes (Open old) line (Stopped (Refused number kind)) =
-    line_step old.need (old.count + 1) (drafted old.draft) line ≡ Err (number, kind)
+    line_step old.need (old.count + 1) (draft_parts old.draft) line ≡ Err (number, kind)
 StateTakes (Open old) line (Stopped Memory) = Unit {0}
 StateTakes (Stopped old) line (Open new) = ⊥
 StateTakes (Stopped old) line (Stopped new) = new ≡ old
@@ -57,5 +57,5 @@ IsCalm (Stopped Memory) = ⊥
 
 -- the end behind the last line
 abbrev pub StateEnds : State → Result Model ModelStop → Type 0
-StateEnds (Open p) result = Reads result (ended_model p.need p.count (drafted p.draft))
+StateEnds (Open p) result = Reads result (ended_model p.need p.count (draft_parts p.draft))
 StateEnds (Stopped stop) result = result ≡ Err stop

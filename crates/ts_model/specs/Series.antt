@@ -6,7 +6,7 @@ use Rattle.ts_token.specs.Number.{number_of}
 use Rattle.ts_model.specs.declared.error.SeriesStop.{SeriesStop}
 use Rattle.ts_model.specs.declared.error.SeriesStop.TheVariants.{Shape, Number, Length, Memory}
 use Rattle.ts_model.specs.Words.{onto}
-use Rattle.ts_model.specs.Stated.{is_value}
+use Rattle.ts_model.specs.ModelParts.{is_value}
 use Rattle.ts_model.specs.ModelReading.{texts_of}
 
 unfoldable pub is_series : List ℕ → Bool

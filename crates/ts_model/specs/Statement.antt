@@ -19,13 +19,13 @@ use Rattle.ts_model.specs.Words.{form_of, op_of, is_equals, is_count, is_name, r
 
 -- what a line says: `cells`, `domain`, `cell`, `term`, `require` or `objective` with their arguments. A term has no
 -- parts where its aggregator, its feature or its pattern has a name that isn't in the tables.
-pub data Said : Type 0 where
-  SaysCells : ℤ → Said
-  SaysDomain : List Interval → Said
-  SaysCell : ℤ → List Interval → Said
-  SaysTerm : List ℕ → Option TermParts → Said
-  SaysRequire : List ℕ → Op → Ext → Said
-  SaysObjective : List ℕ → Said
+pub data Meaning : Type 0 where
+  SaysCells : ℤ → Meaning
+  SaysDomain : List Interval → Meaning
+  SaysCell : ℤ → List Interval → Meaning
+  SaysTerm : List ℕ → Option TermParts → Meaning
+  SaysRequire : List ℕ → Op → Ext → Meaning
+  SaysObjective : List ℕ → Meaning
 
 -- the word at a place, from 0
 abbrev pub word_at : List (List ℕ) → ℕ → List ℕ
@@ -57,17 +57,17 @@ parts_said ws =
     if is_count (word_at ws 2) then made_parts (Some Sum) (Some One) (pattern_of (word_at ws 3))
     else made_parts (aggregator_of (word_at ws 2)) (feature_of (word_at ws 3)) (pattern_of (word_at ws 4))
 
-abbrev pub said_cell : Option ℤ → Option (List Interval) → Option Said
+abbrev pub said_cell : Option ℤ → Option (List Interval) → Option Meaning
 said_cell None rs = None
 said_cell (Some k) rs = option_map (SaysCell k) rs
 
-abbrev pub said_require : List ℕ → Option Op → Option Ext → Option Said
+abbrev pub said_require : List ℕ → Option Op → Option Ext → Option Meaning
 said_require name None bound = None
 said_require name (Some op) None = None
 said_require name (Some op) (Some bound) = Some (SaysRequire name op bound)
 
 -- what a line of this shape says; None where a word in the place of a number, range or bound isn't one
-abbrev pub said_by : Form → List (List ℕ) → Option Said
+abbrev pub said_by : Form → List (List ℕ) → Option Meaning
 said_by Cells ws = option_map SaysCells (number_of (word_at ws 0))
 said_by Domain ws = option_map SaysDomain (ranges_of ws)
 said_by Cell ws = said_cell (number_of (word_at ws 0)) (ranges_of (drop 1 ws))
@@ -75,14 +75,14 @@ said_by Term ws = Some (SaysTerm (word_at ws 0) (parts_said ws))
 said_by Require ws = said_require (word_at ws 0) (op_of (word_at ws 1)) (ext_of (word_at ws 2))
 said_by Objective ws = Some (SaysObjective (word_at ws 0))
 
-abbrev pub parsed_by : Form → List (List ℕ) → Result Said ModelKind
+abbrev pub parsed_by : Form → List (List ℕ) → Result Meaning ModelKind
 parsed_by form ws = if has_shape form ws then ok_or (said_by form ws) Number else Err Shape
 
-abbrev pub parsed_as : Option Form → List (List ℕ) → Result Said ModelKind
+abbrev pub parsed_as : Option Form → List (List ℕ) → Result Meaning ModelKind
 parsed_as None ws = Err UnknownLine
 parsed_as (Some form) ws = parsed_by form ws
 
 -- what the words of a line say, or the first kind of `unknownline`, `shape`, `number` that holds
-abbrev pub parsed : List (List ℕ) → Result Said ModelKind
-parsed [] = Err UnknownLine
-parsed (first ∷ ws) = parsed_as (form_of first) ws
+abbrev pub meaning_in : List (List ℕ) → Result Meaning ModelKind
+meaning_in [] = Err UnknownLine
+meaning_in (first ∷ ws) = parsed_as (form_of first) ws

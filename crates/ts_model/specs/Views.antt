@@ -17,21 +17,21 @@ use Rattle.ts_model.specs.declared.error.LineStop.{LineStop}
 use Rattle.ts_model.specs.declared.error.LineStop.TheVariants.{Bad, NoMemory}
 use Rattle.ts_model.specs.declared.error.ModelStop.{ModelStop}
 use Rattle.ts_model.specs.declared.error.ModelStop.TheVariants.{Refused, Memory}
-use Rattle.ts_model.specs.Statement.{Said, SaysCells, SaysDomain, SaysCell, SaysTerm, SaysRequire, SaysObjective}
-use Rattle.ts_model.specs.Stated.{Stated}
+use Rattle.ts_model.specs.Statement.{Meaning, SaysCells, SaysDomain, SaysCell, SaysTerm, SaysRequire, SaysObjective}
+use Rattle.ts_model.specs.ModelParts.{ModelParts}
 use Rattle.ts_model.specs.Cells.{domains, IsKept}
 use Rattle.ts_model.specs.ModelReading.{IsModel, IsRefused}
 
 abbrev pub texts : List Word → List (List ℕ)
 texts ws = map (λ w. w.text.now) ws
 
-abbrev pub said : Statement → Said
-said (CellsLine n) = SaysCells n
-said (DomainLine rs) = SaysDomain rs.items.items
-said (CellLine k rs) = SaysCell k rs.items.items
-said (TermLine name parts) = SaysTerm name.now parts
-said (RequireLine name op bound) = SaysRequire name.now op bound
-said (ObjectiveLine name) = SaysObjective name.now
+abbrev pub meaning_of : Statement → Meaning
+meaning_of (CellsLine n) = SaysCells n
+meaning_of (DomainLine rs) = SaysDomain rs.items.items
+meaning_of (CellLine k rs) = SaysCell k rs.items.items
+meaning_of (TermLine name parts) = SaysTerm name.now parts
+meaning_of (RequireLine name op bound) = SaysRequire name.now op bound
+meaning_of (ObjectiveLine name) = SaysObjective name.now
 
 abbrev pub parts_of : Term → TermParts
 parts_of t = record { aggregator = t.aggregator; feature = t.feature; pattern = t.pattern }
@@ -40,16 +40,16 @@ abbrev pub term_of : String Global × Term → List ℕ × TermParts
 term_of e = (string_bytes e.0, parts_of e.1)
 
 -- a model as lists
-abbrev pub stated : Model → Stated
-stated m = record {
+abbrev pub model_parts : Model → ModelParts
+model_parts m = record {
   cells = m.cells.items;
   terms = map term_of m.terms.entries;
   requirements = m.requirements.items;
   objective = m.objective;
 }
 
-abbrev pub drafted : Draft → Stated
-drafted d = record {
+abbrev pub draft_parts : Draft → ModelParts
+draft_parts d = record {
   cells = domains d.cells;
   terms = map term_of d.terms.entries;
   requirements = d.requirements.items;
@@ -63,20 +63,20 @@ Gives view (Err (Bad k)) read = read ≡ Err k
 Gives view (Err NoMemory) read = Unit {0}
 
 -- a model, or a line with its kind, unless memory ran out
-abbrev pub Reads : Result Model ModelStop → Result Stated (ℕ × ModelKind) → Type 0
-Reads (Ok m) read = read ≡ Ok (stated m)
+abbrev pub Reads : Result Model ModelStop → Result ModelParts (ℕ × ModelKind) → Type 0
+Reads (Ok m) read = read ≡ Ok (model_parts m)
 Reads (Err (Refused line kind)) read = read ≡ Err (line, kind)
 Reads (Err Memory) read = Unit {0}
 
 -- the same of a draft
-abbrev pub Drafts : Result Draft ModelStop → Result Stated (ℕ × ModelKind) → Type 0
-Drafts (Ok d) read = read ≡ Ok (drafted d)
+abbrev pub Drafts : Result Draft ModelStop → Result ModelParts (ℕ × ModelKind) → Type 0
+Drafts (Ok d) read = read ≡ Ok (draft_parts d)
 Drafts (Err (Refused line kind)) read = read ≡ Err (line, kind)
 Drafts (Err Memory) read = Unit {0}
 
 -- what was told of a text is its reading, unless memory ran out
 abbrev pub Tells : Need → Cut → Result Model ModelStop → Type 0
-Tells need c (Ok m) = IsModel need c (stated m)
+Tells need c (Ok m) = IsModel need c (model_parts m)
 Tells need c (Err (Refused line kind)) = IsRefused need c line kind
 Tells need c (Err Memory) = Unit {0}
 

@@ -3,9 +3,9 @@
 ghost use Rattle.std.specs.Prelude.{◌≡◌, ◌+◌, ◌<◌, ◌≤◌, length, pos, false, OnOk, IfOk, IfNone, IfSome};
 ghost use Rattle.ts_base.specs.Limits.{most_terms};
 ghost use Rattle.ts_model.specs.Statement.{SaysCells, SaysDomain, SaysCell, SaysTerm, SaysRequire, SaysObjective};
-ghost use Rattle.ts_model.specs.Stated.{nothing, term_at, has_cells, is_between, taken, IsPlace};
+ghost use Rattle.ts_model.specs.ModelParts.{nothing, term_at, has_cells, is_between, parts_after, IsPlace};
 ghost use Rattle.ts_model.specs.ModelReading.{line_gives};
-ghost use Rattle.ts_model.specs.Views.{texts, said, drafted, Gives, IsSound, Follows};
+ghost use Rattle.ts_model.specs.Views.{texts, meaning_of, draft_parts, Gives, IsSound, Follows};
 
 use crate::cells::Cells;
 use crate::error::{LineStop, ModelKind};
@@ -32,7 +32,7 @@ pub(crate) struct Draft {
 impl Draft {
     /// Nothing is stated; `limited` says whether all domains together have a limit.
     pub(crate) fn new(alloc: Global, limited: bool) -> Result<Draft, Memory>
-        ensures empty { IfOk result (λ draft. drafted draft ≡ nothing) }
+        ensures empty { IfOk result (λ draft. draft_parts draft ≡ nothing) }
         ensures sound { IfOk result IsSound }
         ensures limited { IfOk result (λ draft. draft.cells.limited ≡ limited) }
         ensures turn { IfOk result (λ draft. draft.cells.turn ≡ 0) }
@@ -49,8 +49,8 @@ impl Draft {
     pub(crate) fn read_line(&mut self, alloc: Global, words: &[Word]) -> Result<(), LineStop>
         requires sound { IsSound self.old }
         requires room { self.old.cells.turn < usize.MAX }
-        ensures taken { Gives (λ _. drafted self.new) result
-            (line_gives self.old.cells.limited (drafted self.old) (texts words.now)) }
+        ensures taken { Gives (λ _. draft_parts self.new) result
+            (line_gives self.old.cells.limited (draft_parts self.old) (texts words.now)) }
         ensures follows { OnOk result (Follows self.old self.new) }
     {
         let statement = parse(alloc, words)?;
@@ -61,8 +61,8 @@ impl Draft {
     fn take(&mut self, alloc: Global, statement: Statement) -> Result<(), LineStop>
         requires sound { IsSound self.old }
         requires room { self.old.cells.turn < usize.MAX }
-        ensures taken { Gives (λ _. drafted self.new) result
-            (taken self.old.cells.limited (drafted self.old) (said statement.entry)) }
+        ensures taken { Gives (λ _. draft_parts self.new) result
+            (parts_after self.old.cells.limited (draft_parts self.old) (meaning_of statement.entry)) }
         ensures follows { OnOk result (Follows self.old self.new) }
     {
         match statement {
@@ -77,7 +77,7 @@ impl Draft {
 
     /// Whether a `cells` line stands.
     pub(crate) fn has_cells(&self) -> bool
-        ensures { result ≡ has_cells (drafted self.now) }
+        ensures { result ≡ has_cells (draft_parts self.now) }
     {
         self.cells.len() > 0
     }
@@ -85,7 +85,7 @@ impl Draft {
     /// The number of the term with a name.
     fn term_at(&self, name: &str) -> Option<u32>
         requires { length self.now.terms.entries ≤ most_terms }
-        ensures { result ≡ term_at name.now (drafted self.now).terms }
+        ensures { result ≡ term_at name.now (draft_parts self.now).terms }
     {
         match self.terms.get_index_of(name) {
             Some(place) => Some(place as u32),
@@ -95,8 +95,8 @@ impl Draft {
 
     /// The place of a cell, from 0.
     fn place_of(&self, cell: i64) -> Option<usize>
-        ensures none { IfNone result (is_between (pos 1) cell (pos (length (drafted self.now).cells)) ≡ false) }
-        ensures some { IfSome result (λ place. IsPlace cell (length (drafted self.now).cells) place) }
+        ensures none { IfNone result (is_between (pos 1) cell (pos (length (draft_parts self.now).cells)) ≡ false) }
+        ensures some { IfSome result (λ place. IsPlace cell (length (draft_parts self.now).cells) place) }
     {
         if cell < 1 || cell as u64 > self.cells.len() as u64 {
             return None;
@@ -107,8 +107,8 @@ impl Draft {
     /// Takes a `cells` line.
     fn take_cells(&mut self, alloc: Global, count: i64) -> Result<(), LineStop>
         requires sound { IsSound self.old }
-        ensures taken { Gives (λ _. drafted self.new) result
-            (taken self.old.cells.limited (drafted self.old) (SaysCells count)) }
+        ensures taken { Gives (λ _. draft_parts self.new) result
+            (parts_after self.old.cells.limited (draft_parts self.old) (SaysCells count)) }
         ensures follows { OnOk result (Follows self.old self.new) }
     {
         if self.has_cells() {
@@ -125,8 +125,8 @@ impl Draft {
     fn take_domain(&mut self, alloc: Global, ranges: &Ranges) -> Result<(), LineStop>
         requires sound { IsSound self.old }
         requires room { self.old.cells.turn < usize.MAX }
-        ensures taken { Gives (λ _. drafted self.new) result
-            (taken self.old.cells.limited (drafted self.old) (SaysDomain ranges.now.items.items)) }
+        ensures taken { Gives (λ _. draft_parts self.new) result
+            (parts_after self.old.cells.limited (draft_parts self.old) (SaysDomain ranges.now.items.items)) }
         ensures follows { OnOk result (Follows self.old self.new) }
     {
         if !self.has_cells() {
@@ -140,8 +140,8 @@ impl Draft {
     fn take_cell(&mut self, alloc: Global, cell: i64, ranges: &Ranges) -> Result<(), LineStop>
         requires sound { IsSound self.old }
         requires room { self.old.cells.turn < usize.MAX }
-        ensures taken { Gives (λ _. drafted self.new) result
-            (taken self.old.cells.limited (drafted self.old) (SaysCell cell ranges.now.items.items)) }
+        ensures taken { Gives (λ _. draft_parts self.new) result
+            (parts_after self.old.cells.limited (draft_parts self.old) (SaysCell cell ranges.now.items.items)) }
         ensures follows { OnOk result (Follows self.old self.new) }
     {
         if !self.has_cells() {
@@ -164,8 +164,8 @@ impl Draft {
         parts: Option<TermParts>,
     ) -> Result<(), LineStop>
         requires sound { IsSound self.old }
-        ensures taken { Gives (λ _. drafted self.new) result
-            (taken self.old.cells.limited (drafted self.old) (SaysTerm name.now parts)) }
+        ensures taken { Gives (λ _. draft_parts self.new) result
+            (parts_after self.old.cells.limited (draft_parts self.old) (SaysTerm name.now parts)) }
         ensures follows { OnOk result (Follows self.old self.new) }
     {
         if !self.has_cells() {
@@ -186,8 +186,8 @@ impl Draft {
     /// Takes a `require` line.
     fn take_require(&mut self, name: &str, op: Op, bound: Ext) -> Result<(), LineStop>
         requires sound { IsSound self.old }
-        ensures taken { Gives (λ _. drafted self.new) result
-            (taken self.old.cells.limited (drafted self.old) (SaysRequire name.now op bound)) }
+        ensures taken { Gives (λ _. draft_parts self.new) result
+            (parts_after self.old.cells.limited (draft_parts self.old) (SaysRequire name.now op bound)) }
         ensures follows { OnOk result (Follows self.old self.new) }
     {
         if !self.has_cells() {
@@ -208,8 +208,8 @@ impl Draft {
     /// Takes an `objective` line.
     fn take_objective(&mut self, name: &str) -> Result<(), LineStop>
         requires sound { IsSound self.old }
-        ensures taken { Gives (λ _. drafted self.new) result
-            (taken self.old.cells.limited (drafted self.old) (SaysObjective name.now)) }
+        ensures taken { Gives (λ _. draft_parts self.new) result
+            (parts_after self.old.cells.limited (draft_parts self.old) (SaysObjective name.now)) }
         ensures follows { OnOk result (Follows self.old self.new) }
     {
         if !self.has_cells() {

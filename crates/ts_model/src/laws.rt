@@ -7,7 +7,7 @@ ghost use Rattle.ts_model.specs.declared.model.Need.{Need};
 ghost use Rattle.ts_model.specs.Judgement.{JudgedIsMet};
 ghost use Rattle.ts_model.specs.ModelReading.{IsReading, reading};
 ghost use Rattle.ts_model.specs.Promise.{IsWhole, KeepsLimits};
-ghost use Rattle.ts_model.specs.Stated.{Stated};
+ghost use Rattle.ts_model.specs.ModelParts.{ModelParts};
 
 /// The reading is the model that the lines state, or the first bad line with the first kind that holds of it.
 pub fn reading_is_first()
@@ -16,18 +16,18 @@ pub fn reading_is_first()
 
 /// A text has one reading.
 pub fn one_reading()
-    ensures { (need : Need) (c : Cut) (r s : Result Stated (ℕ × ModelKind)) →
+    ensures { (need : Need) (c : Cut) (r s : Result ModelParts (ℕ × ModelKind)) →
         IsReading need c r → IsReading need c s → r ≡ s }
 {}
 
 /// A model that is read has cells, and each term that it names by a number stands.
 pub fn model_is_whole()
-    ensures { (need : Need) (c : Cut) (m : Stated) → reading need c ≡ Ok m → IsWhole m }
+    ensures { (need : Need) (c : Cut) (m : ModelParts) → reading need c ≡ Ok m → IsWhole m }
 {}
 
 /// A model that is read keeps the limits of its need, and each of its cells has a value.
 pub fn model_keeps_limits()
-    ensures { (need : Need) (c : Cut) (m : Stated) → reading need c ≡ Ok m → KeepsLimits need m }
+    ensures { (need : Need) (c : Cut) (m : ModelParts) → reading need c ≡ Ok m → KeepsLimits need m }
 {}
 
 /// Every cell lies inside and every requirement holds exactly where the series meets the model.

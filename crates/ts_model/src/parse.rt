@@ -4,8 +4,8 @@ ghost use Rattle.std.specs.Prelude.{◌≡◌, ◌==◌, ◌<◌, length, ok_or}
 ghost use Rattle.ts_model.specs.declared.error.ModelKind.{ModelKind};
 ghost use Rattle.ts_model.specs.declared.words.Form.{Form};
 ghost use Rattle.ts_model.specs.Words.{ranges_of};
-ghost use Rattle.ts_model.specs.Statement.{term_length, parts_said, parsed_by, parsed};
-ghost use Rattle.ts_model.specs.Views.{texts, said, Gives};
+ghost use Rattle.ts_model.specs.Statement.{term_length, parts_said, parsed_by, meaning_in};
+ghost use Rattle.ts_model.specs.Views.{texts, meaning_of, Gives};
 
 use crate::error::{LineStop, ModelKind};
 use crate::statement::{Ranges, Statement, TermParts};
@@ -33,7 +33,7 @@ fn ranges_of(alloc: Global, words: &[Word]) -> Result<Ranges, LineStop>
 
 /// What a `cells` line says.
 fn parse_cells<'a>(words: &[Word<'a>]) -> Result<Statement<'a>, LineStop>
-    ensures { Gives said result (parsed_by Form.Cells (texts words.now)) }
+    ensures { Gives meaning_of result (parsed_by Form.Cells (texts words.now)) }
 {
     if words.len() != 1 {
         return Err(LineStop::Bad(ModelKind::Shape));
@@ -46,7 +46,7 @@ fn parse_cells<'a>(words: &[Word<'a>]) -> Result<Statement<'a>, LineStop>
 
 /// What a `domain` line says.
 fn parse_domain<'a>(alloc: Global, words: &[Word<'a>]) -> Result<Statement<'a>, LineStop>
-    ensures { Gives said result (parsed_by Form.Domain (texts words.now)) }
+    ensures { Gives meaning_of result (parsed_by Form.Domain (texts words.now)) }
 {
     if words.len() == 0 {
         return Err(LineStop::Bad(ModelKind::Shape));
@@ -57,7 +57,7 @@ fn parse_domain<'a>(alloc: Global, words: &[Word<'a>]) -> Result<Statement<'a>, 
 
 /// What a `cell` line says.
 fn parse_cell<'a>(alloc: Global, words: &[Word<'a>]) -> Result<Statement<'a>, LineStop>
-    ensures { Gives said result (parsed_by Form.Cell (texts words.now)) }
+    ensures { Gives meaning_of result (parsed_by Form.Cell (texts words.now)) }
 {
     if words.len() < 2 {
         return Err(LineStop::Bad(ModelKind::Shape));
@@ -104,7 +104,7 @@ fn has_term_length(words: &[Word]) -> bool
 
 /// What a `term` line says.
 fn parse_term<'a>(words: &[Word<'a>]) -> Result<Statement<'a>, LineStop>
-    ensures { Gives said result (parsed_by Form.Term (texts words.now)) }
+    ensures { Gives meaning_of result (parsed_by Form.Term (texts words.now)) }
 {
     if !has_term_length(words) {
         return Err(LineStop::Bad(ModelKind::Shape));
@@ -119,7 +119,7 @@ fn parse_term<'a>(words: &[Word<'a>]) -> Result<Statement<'a>, LineStop>
 
 /// What a `require` line says.
 fn parse_require<'a>(words: &[Word<'a>]) -> Result<Statement<'a>, LineStop>
-    ensures { Gives said result (parsed_by Form.Require (texts words.now)) }
+    ensures { Gives meaning_of result (parsed_by Form.Require (texts words.now)) }
 {
     if words.len() != 3 {
         return Err(LineStop::Bad(ModelKind::Shape));
@@ -135,7 +135,7 @@ fn parse_require<'a>(words: &[Word<'a>]) -> Result<Statement<'a>, LineStop>
 
 /// What an `objective` line says.
 fn parse_objective<'a>(words: &[Word<'a>]) -> Result<Statement<'a>, LineStop>
-    ensures { Gives said result (parsed_by Form.Objective (texts words.now)) }
+    ensures { Gives meaning_of result (parsed_by Form.Objective (texts words.now)) }
 {
     if words.len() != 1 {
         return Err(LineStop::Bad(ModelKind::Shape));
@@ -148,7 +148,7 @@ fn parse_objective<'a>(words: &[Word<'a>]) -> Result<Statement<'a>, LineStop>
 
 /// What the words of a line say.
 pub(crate) fn parse<'a>(alloc: Global, words: &[Word<'a>]) -> Result<Statement<'a>, LineStop>
-    ensures { Gives said result (parsed (texts words.now)) }
+    ensures { Gives meaning_of result (meaning_in (texts words.now)) }
 {
     match words.split_first() {
         None => Err(LineStop::Bad(ModelKind::UnknownLine)),

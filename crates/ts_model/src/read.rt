@@ -4,11 +4,11 @@ ghost use Rattle.std.specs.Prelude.{◌≡◌, ℕ, ◌+◌, ◌<◌, ◌≤◌,
 ghost use Rattle.ts_base.specs.Limits.{most_cells};
 ghost use Rattle.ts_model.specs.declared.model.Need.{Need};
 ghost use Rattle.ts_model.specs.declared.error.ModelKind.{ModelKind};
-ghost use Rattle.ts_token.specs.Views.{rows, cut};
-ghost use Rattle.ts_model.specs.Stated.{Stated, nothing};
+ghost use Rattle.ts_token.specs.Views.{rows, cut_view};
+ghost use Rattle.ts_model.specs.ModelParts.{ModelParts, nothing};
 ghost use Rattle.ts_model.specs.ModelReading.{needs_lists, needs_objective, read_rows, ended_model, reading};
 ghost use Rattle.ts_model.specs.Promise.{IsWhole, KeepsLimits};
-ghost use Rattle.ts_model.specs.Views.{texts, stated, drafted, IsSound, Gives, Drafts, Reads, Tells};
+ghost use Rattle.ts_model.specs.Views.{texts, model_parts, draft_parts, IsSound, Gives, Drafts, Reads, Tells};
 
 use crate::draft::Draft;
 use crate::error::{LineStop, ModelKind, ModelStop, at_line};
@@ -50,7 +50,7 @@ fn needs_objective(need: Need) -> bool
 pub(crate) fn ended_draft(draft: Draft, count: u32, need: Need) -> Result<Draft, ModelStop>
     requires few { length draft.cells.own.items ≤ most_cells }
     requires room { count < 4000000000 }
-    ensures ended { Drafts result (ended_model need count (drafted draft)) }
+    ensures ended { Drafts result (ended_model need count (draft_parts draft)) }
     ensures few { IfOk result (λ draft. length draft.cells.own.items ≤ most_cells) }
 {
     let line = count + 1;
@@ -68,7 +68,7 @@ pub(crate) fn ended_draft(draft: Draft, count: u32, need: Need) -> Result<Draft,
 /// What the whole text states, or why it is refused.
 fn read_draft(alloc: Global, tokens: &Tokens, need: Need) -> Result<Draft, ModelStop>
     requires { tokens.now.count < 4000000000 }
-    ensures reading { Drafts result (reading need (cut tokens.now)) }
+    ensures reading { Drafts result (reading need (cut_view tokens.now)) }
     ensures few { IfOk result (λ draft. length draft.cells.own.items ≤ most_cells) }
 {
     let draft = read_lines(alloc, needs_lists(need), &tokens.lines)?;
@@ -84,7 +84,7 @@ fn read_draft(alloc: Global, tokens: &Tokens, need: Need) -> Result<Draft, Model
 /// The model of a draft, each cell with a copy of its domain.
 pub(crate) fn model_of(alloc: Global, draft: Draft) -> Result<Model, Memory>
     requires { length draft.cells.own.items ≤ most_cells }
-    ensures same { IfOk result (λ m. stated m ≡ drafted draft) }
+    ensures same { IfOk result (λ m. model_parts m ≡ draft_parts draft) }
     ensures counted { IfOk result (λ m. m.n ≡ vec_len m.cells) }
 {
     let cells = draft.cells.all(alloc)?;
@@ -101,11 +101,11 @@ pub(crate) fn model_of(alloc: Global, draft: Draft) -> Result<Model, Memory>
 /// kind that holds of it; a missing `cells` line or objective is told at the number of the lines plus 1.
 pub fn read_model(alloc: Global, tokens: &Tokens<'_>, need: Need) -> Result<Model, ModelStop>
     requires { tokens.now.count < 4000000000 }
-    ensures exact { Reads result (reading need (cut tokens.now)) }
-    ensures first { Tells need (cut tokens.now) result }
+    ensures exact { Reads result (reading need (cut_view tokens.now)) }
+    ensures first { Tells need (cut_view tokens.now) result }
     ensures counted { IfOk result (λ m. m.n ≡ vec_len m.cells) }
-    ensures whole { IfOk result (λ m. IsWhole (stated m)) }
-    ensures limits { IfOk result (λ m. KeepsLimits need (stated m)) }
+    ensures whole { IfOk result (λ m. IsWhole (model_parts m)) }
+    ensures limits { IfOk result (λ m. KeepsLimits need (model_parts m)) }
 {
     let draft = read_draft(alloc, tokens, need)?;
     Ok(model_of(alloc, draft)?)

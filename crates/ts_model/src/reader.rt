@@ -2,7 +2,7 @@
 
 ghost use Rattle.std.specs.Prelude.{ℕ, ◌≡◌, ◌≢◌, ◌<◌, List, [], true};
 ghost use Rattle.std.specs.Prelude.{length, vec_len, IfOk, OnErr, OnOk, Err};
-ghost use Rattle.ts_token.specs.Gist.{bare};
+ghost use Rattle.ts_token.specs.Gist.{without_end};
 ghost use Rattle.ts_token.specs.Text.{cut_of, is_text};
 ghost use Rattle.ts_model.specs.declared.error.ModelStop.TheVariants.{Memory as ModelMemory};
 ghost use Rattle.ts_model.specs.declared.model.Need.{Need};
@@ -11,8 +11,8 @@ ghost use Rattle.ts_model.specs.LineByLine.{HasRead, ReadsLine};
 ghost use Rattle.ts_model.specs.ModelReading.{ended_model, model_reading};
 ghost use Rattle.ts_model.specs.Progress.{IsCalm, IsFit, IsFitState, StateEnds, StateTakes, TakesLine};
 ghost use Rattle.ts_model.specs.Promise.{IsWhole, KeepsLimits};
-ghost use Rattle.ts_model.specs.Stated.{nothing};
-ghost use Rattle.ts_model.specs.Views.{drafted, stated, Reads, Tells};
+ghost use Rattle.ts_model.specs.ModelParts.{nothing};
+ghost use Rattle.ts_model.specs.Views.{draft_parts, model_parts, Reads, Tells};
 
 use crate::draft::Draft;
 use crate::error::{ModelKind, ModelStop, at_line};
@@ -38,7 +38,7 @@ impl Progress {
     /// Before the first line.
     fn new(alloc: Global, need: Need) -> Result<Progress, Memory>
         ensures fit { IfOk result IsFit }
-        ensures nothing { IfOk result (λ p. drafted p.draft ≡ nothing) }
+        ensures nothing { IfOk result (λ p. draft_parts p.draft ≡ nothing) }
         ensures need { IfOk result (λ p. p.need ≡ need) }
         ensures count { IfOk result (λ p. p.count ≡ 0) }
     {
@@ -53,9 +53,9 @@ impl Progress {
     /// Takes the next line.
     fn take(&mut self, line: &[u8]) -> Result<(), ModelStop>
         requires { IsFit self.old }
-        ensures taken { TakesLine self.old (bare line.now) result self.new }
+        ensures taken { TakesLine self.old (without_end line.now) result self.new }
         ensures text { result ≡ Err ModelMemory → length line.now < 4000000000 → self.old.count < 3999999999 →
-            is_text (bare line.now) ≡ true }
+            is_text (without_end line.now) ≡ true }
     {
         if line.len() >= TOO_MANY as usize || self.count >= TOO_MANY - 1 {
             return Err(ModelStop::Memory);
@@ -77,7 +77,7 @@ impl Progress {
     /// The end of the text.
     fn end(self) -> Result<Model, ModelStop>
         requires { IsFit self }
-        ensures reads { Reads result (ended_model self.need self.count (drafted self.draft)) }
+        ensures reads { Reads result (ended_model self.need self.count (draft_parts self.draft)) }
         ensures counted { IfOk result (λ m. m.n ≡ vec_len m.cells) }
     {
         let Progress {
@@ -103,7 +103,7 @@ impl State {
     fn take(&mut self, line: &[u8])
         requires { IsFitState self.old }
         ensures fit { IsFitState self.new }
-        ensures read { StateTakes self.old (bare line.now) self.new }
+        ensures read { StateTakes self.old (without_end line.now) self.new }
     {
         let stop = match self {
             State::Open(progress) => match progress.take(line) {
@@ -151,11 +151,11 @@ impl std::marker::Model for ModelReader {
     ghost use Rattle.std.specs.Prelude.{Result};
     ghost use Rattle.ts_model.specs.declared.error.ModelStop.{ModelStop};
     ghost use Rattle.ts_model.specs.LineByLine.{SoFar};
-    ghost use Rattle.ts_model.specs.Progress.{IsFitState, seen};
+    ghost use Rattle.ts_model.specs.Progress.{IsFitState, state_view};
 
     ghost Value = { Result SoFar ModelStop };
 
-    ghost view = { λ r. seen r.state };
+    ghost view = { λ r. state_view r.state };
 
     ghost invariant = { λ r. IsFitState r.state };
 }
@@ -194,9 +194,9 @@ impl ModelReader {
         ensures first { (need : Need) (text : List ℕ) → HasRead need text self → Tells need (cut_of text) result }
         ensures counted { IfOk result (λ m. m.n ≡ vec_len m.cells) }
         ensures whole { (need : Need) (text : List ℕ) → HasRead need text self →
-            IfOk result (λ m. IsWhole (stated m)) }
+            IfOk result (λ m. IsWhole (model_parts m)) }
         ensures limits { (need : Need) (text : List ℕ) → HasRead need text self →
-            IfOk result (λ m. KeepsLimits need (stated m)) }
+            IfOk result (λ m. KeepsLimits need (model_parts m)) }
         ensures wanted { self ≡ Err ModelMemory → result ≡ Err ModelMemory }
         ensures calm { IfOk result (λ m. self ≢ Err ModelMemory) }
     {

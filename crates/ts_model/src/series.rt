@@ -2,7 +2,7 @@
 
 ghost use Rattle.std.specs.Prelude.{◌≡◌, length, ok_or};
 ghost use Rattle.std.specs.Option.{option_map};
-ghost use Rattle.ts_token.specs.Views.{cut};
+ghost use Rattle.ts_token.specs.Views.{cut_view};
 ghost use Rattle.ts_model.specs.declared.error.SeriesStop.{SeriesStop};
 ghost use Rattle.ts_model.specs.Series.{is_series, after_series, value_of, values_of, series_words, series_reading, ReadsSeries};
 ghost use Rattle.ts_model.specs.Views.{texts};
@@ -43,7 +43,8 @@ fn after_series<'t, 'a>(words: &'t [Word<'a>]) -> Option<&'t [Word<'a>]>
 
 /// The words after `series`, if the text is that one line.
 fn series_words<'t, 'a>(tokens: &'t Tokens<'a>) -> Option<&'t [Word<'a>]>
-    ensures { option_map (λ ws. texts ws.now) result ≡ series_words (cut tokens.now) (cut tokens.now).not_text }
+    ensures { option_map (λ ws. texts ws.now) result ≡ series_words (cut_view tokens.now)
+        (cut_view tokens.now).not_text }
 {
     if tokens.not_text.is_some() {
         return None;
@@ -72,7 +73,7 @@ fn values_of(alloc: Global, words: &[Word]) -> Result<Vec<i64>, SeriesStop>
 /// the first that holds: `Shape` where it isn't one such line, `Number` where a word isn't such a number, `Length`
 /// where there aren't `n`.
 pub fn read_series(alloc: Global, tokens: &Tokens<'_>, n: u32) -> Result<Vec<i64>, SeriesStop>
-    ensures { ReadsSeries (λ v. v.items) result (series_reading n (cut tokens.now)) }
+    ensures { ReadsSeries (λ v. v.items) result (series_reading n (cut_view tokens.now)) }
 {
     match series_words(tokens) {
         None => Err(SeriesStop::Shape),

@@ -2,7 +2,7 @@
 
 ghost use Rattle.std.specs.Prelude.{◌≡◌};
 ghost use Rattle.std.specs.List.{list_any};
-ghost use Rattle.ts_model.specs.Stated.{is_backward, is_outside, is_bound, term_made, union_given};
+ghost use Rattle.ts_model.specs.ModelParts.{is_backward, is_outside, is_bound, term_made, union_given};
 ghost use Rattle.ts_model.specs.Views.{parts_of, Gives};
 
 use crate::cells::union_of;

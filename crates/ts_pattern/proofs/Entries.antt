@@ -8,7 +8,7 @@ use Rattle.ts_regex.specs.Shape.{Shape}
 use Rattle.ts_regex.specs.Language.{InLanguage}
 use Rattle.ts_regex.proofs.Laws.{residual_law, no_word, same_law}
 use Rattle.ts_pattern.specs.EachOf.{OneOf}
-use Rattle.ts_pattern.specs.Entries.{Entry, Residuals, shapes, alive, without, keep}
+use Rattle.ts_pattern.specs.Entries.{Entry, Residuals, shapes, live_entries, without, keep}
 use Rattle.ts_pattern.proofs.Elements.{each_filter}
 
 -- the starts rise strictly, from low on
@@ -51,15 +51,15 @@ Covers s v e = (e.mark ≤ s) × InLanguage e.residual v
 
 -- (iii) an entry with a word isn't lost: one that covers as much stays
 pub some_alive : {T : Type 0} (t : Residuals Shape) → AreRight t → (s : ℕ) (v : List Letter) (es : List (Entry ℕ Shape T)) → OneOf (Covers s v) es →
-    OneOf (Covers s v) (alive t es)
+    OneOf (Covers s v) (live_entries t es)
 some_alive t f s v [] h = h
 some_alive t f s v (e ∷ es) h =
     ⊎_elim
-    (λ c. elim (t.has_word e.residual) as (λ b. t.has_word e.residual ≡ b → OneOf (Covers s v) (cond b (e ∷ alive t es) (alive t es))) [
+    (λ c. elim (t.has_word e.residual) as (λ b. t.has_word e.residual ≡ b → OneOf (Covers s v) (cond b (e ∷ live_entries t es) (live_entries t es))) [
       | true ↦ λ q. inl c
       | false ↦ λ q. absurd (f.no_word e.residual v q c.1)
     ] refl)
-    (λ c. elim (t.has_word e.residual) as (λ b. OneOf (Covers s v) (cond b (e ∷ alive t es) (alive t es))) [
+    (λ c. elim (t.has_word e.residual) as (λ b. OneOf (Covers s v) (cond b (e ∷ live_entries t es) (live_entries t es))) [
       | true ↦ inr (some_alive t f s v es c)
       | false ↦ some_alive t f s v es c
     ])

@@ -10,7 +10,7 @@ use Rattle.ts_regex.specs.Shape.{Shape}
 use Rattle.ts_regex.specs.Language.{InLanguage}
 use Rattle.ts_pattern.specs.EachOf.{OneOf}
 use Rattle.std.specs.List.{AllByRecursion}
-use Rattle.ts_pattern.specs.Entries.{Entry, Residuals, derive_entry, derive_entries, alive, survivors}
+use Rattle.ts_pattern.specs.Entries.{Entry, Residuals, derive_entry, derive_entries, live_entries, survivors}
 use Rattle.ts_pattern.proofs.Elements.{each_map, each_filter, each_push, one_left, one_right}
 use Rattle.ts_pattern.proofs.Entries.{Rising, AreRight, Covers, each_keep, rising_filter, rising_keep, some_alive, some_keep}
 
@@ -57,17 +57,18 @@ covers_derived t f l s v (e ∷ es) h = ⊎_elim (λ c. inl (c.0, f.quotient_bac
 -- what holds of each entry before the letter, holds of each survivor, by the derived entry
 pub each_survivor : {X R T : Type 0} (t : Residuals R) (l : Letter) (p q : Entry X R T → Type 0) → ((e : Entry X R T) → p e → q (derive_entry t l e)) →
     (es : List (Entry X R T)) → AllByRecursion p es → AllByRecursion q (survivors t l es)
-each_survivor t l p q f es h = each_keep t q (alive t (derive_entries t l es)) (each_filter q (λ e. t.has_word e.residual) (derive_entries t l es)
+each_survivor t l p q f es h = each_keep t q (live_entries t (derive_entries t l es)) (each_filter q (λ e. t.has_word e.residual) (derive_entries t l es)
     (each_derived t l p q f es h))
 
 pub rising_survivors : {T : Type 0} (t : Residuals Shape) (l : Letter) (a : ℕ) (es : List (Entry ℕ Shape T)) → Rising a es → Rising a (survivors t l es)
-rising_survivors t l a es h = rising_keep t a (alive t (derive_entries t l es))
+rising_survivors t l a es h = rising_keep t a (live_entries t (derive_entries t l es))
     (rising_filter (λ e. t.has_word e.residual) a (derive_entries t l es) (rising_derived t l a es h))
 
 pub covers_survivors : {T : Type 0} (t : Residuals Shape) → AreRight t → (l : Letter) (s : ℕ) (v : List Letter) (a : ℕ) (es : List (Entry ℕ Shape T)) →
     Rising a es → OneOf (Covers s (l ∷ v)) es → OneOf (Covers s v) (survivors t l es)
 covers_survivors t f l s v a es r h =
-    some_keep t f s v a (alive t (derive_entries t l es)) (rising_filter (λ e. t.has_word e.residual) a (derive_entries t l es) (rising_derived t l a es r))
+    some_keep t f s v a (live_entries t (derive_entries t l es))
+        (rising_filter (λ e. t.has_word e.residual) a (derive_entries t l es) (rising_derived t l a es r))
     (some_alive t f s v (derive_entries t l es) (covers_derived t f l s v es h))
 
 -- Rising, Residual and Cover, after the signs w, of entries that start below k

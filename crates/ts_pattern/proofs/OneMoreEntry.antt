@@ -7,7 +7,7 @@ use Rattle.std.proofs.lemmas.List.{map-append}
 use Rattle.std.proofs.lemmas.List.Elements.{filter-append}
 use Rattle.ts_base.specs.declared.letter.Letter.{Letter}
 use Rattle.ts_regex.proofs.Laws.{same_law}
-use Rattle.ts_pattern.specs.Entries.{Entry, Residuals, shapes, derive_entry, derive_entries, alive, without, keep, survivors, with_entry}
+use Rattle.ts_pattern.specs.Entries.{Entry, Residuals, shapes, derive_entry, derive_entries, live_entries, without, keep, survivors, with_entry}
 
 -- two residuals that are the same as a third one are the same
 abbrev pub SameFollows : {R : Type 0} → Residuals R → Type 0
@@ -75,9 +75,10 @@ keep_push {X} {R} {T} t f (x ∷ xs) d =
 pub survivors_push : {X R T : Type 0} (t : Residuals R) → SameFollows t → (l : Letter) (es : List (Entry X R T)) (e : Entry X R T) →
     survivors t l (es ++ e ∷ []) ≡ with_entry t (survivors t l es) (derive_entry t l e)
 survivors_push {X} {R} {T} t f l es e =
-    ap (λ z. keep t (alive t z)) (map-append (λ x. derive_entry t l x) es (e ∷ []))
+    ap (λ z. keep t (live_entries t z)) (map-append (λ x. derive_entry t l x) es (e ∷ []))
     ∙ ap (λ z. keep t z) (filter-append (λ x. t.has_word x.residual) (derive_entries t l es) (derive_entry t l e ∷ []))
-    ∙ go (t.has_word (t.next e.residual l)) (alive t (derive_entries t l es)) (keep_push t f (alive t (derive_entries t l es)) (derive_entry t l e))
+    ∙ go (t.has_word (t.next e.residual l)) (live_entries t (derive_entries t l es))
+        (keep_push t f (live_entries t (derive_entries t l es)) (derive_entry t l e))
   where
     go : (a : Bool) (xs : List (Entry X R T)) →
         keep t (xs ++ derive_entry t l e ∷ []) ≡ cond (list_any (λ (k : Entry X R T). t.same k.residual (t.next e.residual l)) (keep t xs)) (keep t xs)

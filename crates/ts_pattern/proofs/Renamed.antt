@@ -8,7 +8,7 @@ use Rattle.ts_base.specs.declared.range.Kind.{Kind}
 use Rattle.ts_transducer.specs.declared.row.Phase.{Phase}
 use Rattle.ts_transducer.specs.Typing.{is_held}
 use Rattle.ts_pattern.specs.declared.plan.Tag.{Tag}
-use Rattle.ts_pattern.specs.Entries.{Entry, Residuals, derive_entry, derive_entries, alive, without, keep, survivors}
+use Rattle.ts_pattern.specs.Entries.{Entry, Residuals, derive_entry, derive_entries, live_entries, without, keep, survivors}
 use Rattle.ts_pattern.specs.Closed.{is_due, is_ind, is_inc, tag_after, no_ind, retag_entries, implies, is_find, is_match, is_found_e, is_out_a, is_maybe_b, first_passes, acceptance_agrees, find_starts_right, early_find_ends, held_start_first, pending_keeps_start, entries_agree}
 use Rattle.ts_pattern.proofs.Entries.{each_keep}
 
@@ -35,19 +35,19 @@ map_cond f true x xs = refl
 map_cond f false x xs = refl
 
 alive_renamed : {X Y R S T : Type 0} (t : Residuals R) (u : Residuals S) (f : X → Y) (g : R → S) (P : R → Type 0) (l : Letter) (es : List (Entry X R T)) →
-    AllByRecursion (λ e. NextAgrees t u g P l e.residual) es → map (λ e. renamed f g e) (alive t (derive_entries t l es)) ≡ alive u
+    AllByRecursion (λ e. NextAgrees t u g P l e.residual) es → map (λ e. renamed f g e) (live_entries t (derive_entries t l es)) ≡ live_entries u
     (derive_entries u l (map (λ e. renamed f g e) es))
 alive_renamed t u f g P l [] h = refl
 alive_renamed t u f g P l (e ∷ es) h =
-    map_cond (λ e. renamed f g e) (t.has_word (t.next e.residual l)) (derive_entry t l e) (alive t (derive_entries t l es))
+    map_cond (λ e. renamed f g e) (t.has_word (t.next e.residual l)) (derive_entry t l e) (live_entries t (derive_entries t l es))
     ∙ cons_cond (t.has_word (t.next e.residual l)) (u.has_word (u.next (g e.residual) l)) (renamed f g (derive_entry t l e)) (derive_entry u l (renamed f g e))
-    (map (λ e. renamed f g e) (alive t (derive_entries t l es))) (alive u (derive_entries u l (map (λ e. renamed f g e) es))) h.0.has
+    (map (λ e. renamed f g e) (live_entries t (derive_entries t l es))) (live_entries u (derive_entries u l (map (λ e. renamed f g e) es))) h.0.has
     (λ q. ap (λ z. record { mark = f e.mark; residual = z; tag = e.tag }) (h.0.value q)) (alive_renamed t u f g P l es h.1)
 
 alive_left : {X R S T : Type 0} (t : Residuals R) (u : Residuals S) (g : R → S) (P : R → Type 0) (l : Letter) (es : List (Entry X R T)) →
-    AllByRecursion (λ e. NextAgrees t u g P l e.residual) es → AllByRecursion (λ e. P e.residual) (alive t (derive_entries t l es))
+    AllByRecursion (λ e. NextAgrees t u g P l e.residual) es → AllByRecursion (λ e. P e.residual) (live_entries t (derive_entries t l es))
 alive_left t u g P l [] h = tt
-alive_left t u g P l (e ∷ es) h = at P (t.has_word (t.next e.residual l)) (derive_entry t l e) (alive t (derive_entries t l es)) h.0.left
+alive_left t u g P l (e ∷ es) h = at P (t.has_word (t.next e.residual l)) (derive_entry t l e) (live_entries t (derive_entries t l es)) h.0.left
     (alive_left t u g P l es h.1)
   where
     at : {X R T : Type 0} (P : R → Type 0) (b : Bool) (e : Entry X R T) (es : List (Entry X R T)) → (b ≡ true → P e.residual) →
@@ -77,11 +77,11 @@ pub survivors_renamed : {X Y R S T : Type 0} (t : Residuals R) (u : Residuals S)
     (l : Letter) (es : List (Entry X R T)) →
     AllByRecursion (λ e. NextAgrees t u g P l e.residual) es → map (λ e. renamed f g e) (survivors t l es) ≡ survivors u l (map (λ e. renamed f g e) es)
 survivors_renamed t u f g P s l es h =
-    keep_renamed t u f g P s (alive t (derive_entries t l es)) (alive_left t u g P l es h) ∙ ap (λ z. keep u z) (alive_renamed t u f g P l es h)
+    keep_renamed t u f g P s (live_entries t (derive_entries t l es)) (alive_left t u g P l es h) ∙ ap (λ z. keep u z) (alive_renamed t u f g P l es h)
 
 pub survivors_left : {X R S T : Type 0} (t : Residuals R) (u : Residuals S) (g : R → S) (P : R → Type 0) (l : Letter) (es : List (Entry X R T)) →
     AllByRecursion (λ e. NextAgrees t u g P l e.residual) es → AllByRecursion (λ e. P e.residual) (survivors t l es)
-survivors_left t u g P l es h = each_keep t (λ e. P e.residual) (alive t (derive_entries t l es)) (alive_left t u g P l es h)
+survivors_left t u g P l es h = each_keep t (λ e. P e.residual) (live_entries t (derive_entries t l es)) (alive_left t u g P l es h)
 
 pub retag_renamed : {X Y R S : Type 0} (f : X → Y) (g : R → S) (p : Phase) (free : Bool) (es : List (Entry X R Tag)) →
     map (λ e. renamed f g e) (retag_entries p free es) ≡ retag_entries p free (map (λ e. renamed f g e) es)

@@ -213,9 +213,9 @@ pub data LeadsTo {R : Type 0} (s : Subject R) : List Letter → PlainConfigurati
   OneStepOn : (v w : List Letter) (x y : PlainConfiguration R) (l : Letter) →
       LeadsTo s v x → IsTrue (step_listed s x l) → w ≡ v ++ l ∷ [] → y ≡ step_of s x l → LeadsTo s w y
 
-abbrev pub Reached : {R : Type 0} → Subject R → PlainConfiguration R → Type 0
-Reached s x = (w : List Letter) × LeadsTo s w x
+abbrev pub IsReached : {R : Type 0} → Subject R → PlainConfiguration R → Type 0
+IsReached s x = (w : List Letter) × LeadsTo s w x
 
 -- each reached configuration meets the six checks on each letter
 abbrev pub IsClosed : {R : Type 0} → Subject R → Type 0
-IsClosed {R} s = (x : PlainConfiguration R) → Reached s x → (l : Letter) → IsTrue (meets_checks s x l)
+IsClosed {R} s = (x : PlainConfiguration R) → IsReached s x → (l : Letter) → IsTrue (meets_checks s x l)

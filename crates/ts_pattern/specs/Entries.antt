@@ -38,8 +38,8 @@ abbrev pub derive_entries : {X R T : Type 0} → Residuals R → Letter → List
 derive_entries t l es = map (λ e. derive_entry t l e) es
 
 -- without those whose residual has no word
-abbrev pub alive : {X R T : Type 0} → Residuals R → List (Entry X R T) → List (Entry X R T)
-alive t es = filter (λ e. t.has_word e.residual) es
+abbrev pub live_entries : {X R T : Type 0} → Residuals R → List (Entry X R T) → List (Entry X R T)
+live_entries t es = filter (λ e. t.has_word e.residual) es
 
 abbrev pub without : {X R T : Type 0} → Residuals R → R → List (Entry X R T) → List (Entry X R T)
 without t r es = filter (λ e. not (t.same r e.residual)) es
@@ -51,7 +51,7 @@ keep t (e ∷ es) = e ∷ without t e.residual (keep t es)
 
 -- what is left of the entries after the letter
 abbrev pub survivors : {X R T : Type 0} → Residuals R → Letter → List (Entry X R T) → List (Entry X R T)
-survivors t l before = keep t (alive t (derive_entries t l before))
+survivors t l before = keep t (live_entries t (derive_entries t l before))
 
 -- the entry comes last, unless its residual has no word or is that of an earlier one
 abbrev pub with_entry : {X R T : Type 0} → Residuals R → List (Entry X R T) → Entry X R T → List (Entry X R T)

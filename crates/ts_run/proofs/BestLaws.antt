@@ -9,7 +9,7 @@ use Rattle.ts_certificate.specs.Certificate.{Cert, certificate_text}
 use Rattle.ts_model.specs.declared.error.ModelKind.{ModelKind}
 use Rattle.ts_model.specs.declared.model.Need.TheVariants.{List as NeedsList, Best as NeedsBest}
 use Rattle.ts_model.specs.ModelReading.{model_reading}
-use Rattle.ts_model.specs.Stated.{Stated}
+use Rattle.ts_model.specs.ModelParts.{ModelParts}
 use Rattle.ts_spans.specs.Machines.{spans_in}
 use Rattle.ts_search.specs.Laws.{IsBudget}
 use Rattle.ts_search.proofs.Closing.{budget_is_enough, list_budget_is_enough, one_listed, one_solved}
@@ -31,7 +31,7 @@ same_reply c d r s same h k =
     let text = h.text ∙ ap certificate_text same ∙ sym k.text in
     let status = h.status ∙ ap (λ (z : Cert). claim_status z.claim) same ∙ sym k.status in (λ i. record { text = text i; status = status i })
 
-best_reply : (goal : Goal) (budget : ℕ) (reading : Result Stated (ℕ × ModelKind)) (r s : Reply) → OnReading reading (IsBest goal budget) r →
+best_reply : (goal : Goal) (budget : ℕ) (reading : Result ModelParts (ℕ × ModelKind)) (r s : Reply) → OnReading reading (IsBest goal budget) r →
     OnReading reading (IsBest goal budget) s → r ≡ s
 best_reply goal budget (Ok m) r s h k =
     same_reply h.certificate k.certificate r s
@@ -42,7 +42,7 @@ best_reply goal budget (Err bad) r s h k = h ∙ sym k
 pub one_best_reply : OneBestReply
 one_best_reply goal budget bytes r s h k = best_reply goal budget (model_reading NeedsBest bytes) r s h k
 
-list_reply : (count budget : ℕ) (reading : Result Stated (ℕ × ModelKind)) (r s : Reply) → OnReading reading (IsListing count budget) r →
+list_reply : (count budget : ℕ) (reading : Result ModelParts (ℕ × ModelKind)) (r s : Reply) → OnReading reading (IsListing count budget) r →
     OnReading reading (IsListing count budget) s → r ≡ s
 list_reply count budget (Ok m) r s h k =
     same_reply h.certificate k.certificate r s
@@ -73,7 +73,7 @@ pub best_tells : (goal : Goal) (budget : ℕ) (bytes : List ℕ) (faults faults_
     Responds (RepliesWithin 1048576 (Best goal budget) bytes) faults faults_now before after status → TellsBest goal budget bytes before after status
 best_tells goal budget bytes faults faults_now before after status h m small read written calm =
     let t = taken_reply (Best goal budget) 1048576 bytes faults faults_now before after status written calm small h in
-    let b : IsBest goal budget m t.reply = subst (λ (x : Result Stated (ℕ × ModelKind)). OnReading x (IsBest goal budget) t.reply) read t.is in
+    let b : IsBest goal budget m t.reply = subst (λ (x : Result ModelParts (ℕ × ModelKind)). OnReading x (IsBest goal budget) t.reply) read t.is in
     let c = b.certificate in
     let right = are_right m b.whole b.limits.box in
     let s = best_sent m goal budget c b.whole b.limits b.lines b.solved in
@@ -91,7 +91,7 @@ pub list_tells : (count budget : ℕ) (bytes : List ℕ) (faults faults_now : �
     Responds (RepliesWithin 1048576 (Generate count budget) bytes) faults faults_now before after status → TellsList count budget bytes before after status
 list_tells count budget bytes faults faults_now before after status h m small read written calm =
     let t = taken_reply (Generate count budget) 1048576 bytes faults faults_now before after status written calm small h in
-    let b : IsListing count budget m t.reply = subst (λ (x : Result Stated (ℕ × ModelKind)). OnReading x (IsListing count budget) t.reply) read t.is in
+    let b : IsListing count budget m t.reply = subst (λ (x : Result ModelParts (ℕ × ModelKind)). OnReading x (IsListing count budget) t.reply) read t.is in
     let c = b.certificate in
     let right = are_right m b.whole b.limits.box in
     let s = list_sent m count budget c b.whole b.limits b.asked b.lines b.listed in

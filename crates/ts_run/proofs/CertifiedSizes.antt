@@ -28,7 +28,7 @@ use Rattle.ts_model.specs.declared.model.Need.TheVariants.{List as NeedsList, Be
 use Rattle.ts_model.specs.Meets.{Meets}
 use Rattle.ts_model.specs.ModelReading.{model_reading, needs_lists}
 use Rattle.ts_model.specs.Promise.{IsWhole, KeepsLimits}
-use Rattle.ts_model.specs.Stated.{Stated}
+use Rattle.ts_model.specs.ModelParts.{ModelParts}
 use Rattle.ts_filter.specs.Accepts.{Accepts, AllFit, IsAsClaimed, objective_of}
 use Rattle.ts_filter.specs.Rules.{head_of}
 use Rattle.ts_filter.specs.Tree.{Tree, Leaf, Drop, Fork, tree_lines}
@@ -39,14 +39,14 @@ use Rattle.ts_filter.proofs.TreeLaws.{to_steps}
 use Rattle.ts_spans.specs.Machines.{spans_in}
 use Rattle.ts_spans.proofs.OfTerms.{spans_hold_values}
 use Rattle.ts_search.specs.LineOf.{search_for}
-use Rattle.ts_search.specs.Listed.{IsListedBy, Listed}
-use Rattle.ts_search.specs.Solved.{IsSolvedBy, Solved}
+use Rattle.ts_search.specs.Listed.{IsListedBy, IsListAnswer}
+use Rattle.ts_search.specs.Solved.{IsSolvedBy, IsSolution}
 use Rattle.ts_search.proofs.OfProgram.{are_right}
 use Rattle.ts_search.proofs.OpenLines.{solved_opens_few, listed_opens_few}
 use Rattle.ts_search.proofs.Parts.{series_length}
 use Rattle.ts_checker.specs.Verdicts.{AreOf}
 use Rattle.ts_run.specs.AnswerTexts.{IsOffered}
-use Rattle.ts_run.specs.Joined.{GoesToVerify, ended, joined}
+use Rattle.ts_run.specs.Joined.{GoesToVerify, end_line, verify_input}
 use Rattle.ts_run.specs.Quantities.{IsWithin, most_lines, most_series}
 use Rattle.ts_run.proofs.JoinedText.{ended_model_read, joined_halves}
 use Rattle.ts_run.proofs.VerifyLaws.{accepted_reply}
@@ -68,7 +68,7 @@ some_series : (x : List ℤ) → 1 ≤ length x → list_all is_value x ≡ true
 some_series [] some h = absurd (omega (arith, some))
 some_series (v ∷ x) some h = h
 
-module _ (m : Stated) (whole : IsWhole m) (box : IsBox m.cells) where
+module _ (m : ModelParts) (whole : IsWhole m) (box : IsBox m.cells) where
   series_fits : (x : List ℤ) → Meets m x → is_series x ≡ true
   series_fits x h =
       let long = series_length x m.cells h.inside in
@@ -92,7 +92,7 @@ some_lines (Drop k v j t) e = cc
 some_lines (Fork k t lower upper) e = cc
 
 -- the number of the objective is written within 64 bits
-objective_fits : (m : Stated) (x : List ℤ) (v : Ext) → IsWhole m → IsBox m.cells → Meets m x → objective_of m x ≡ Some v → is_ext v ≡ true
+objective_fits : (m : ModelParts) (x : List ℤ) (v : Ext) → IsWhole m → IsBox m.cells → Meets m x → objective_of m x ≡ Some v → is_ext v ≡ true
 objective_fits m x v whole box meets is =
     let long = series_length x m.cells meets.inside in
     let some = whole.some in
@@ -101,7 +101,7 @@ objective_fits m x v whole box meets is =
 
 -- the claims of solved and of listed certificates are in the grammar
 
-module _ (m : Stated) (goal : Goal) (budget : ℕ) (whole : IsWhole m) (box : IsBox m.cells) (c : Cert) (h : Solved m (spans_in m) goal budget c) where
+module _ (m : ModelParts) (goal : Goal) (budget : ℕ) (whole : IsWhole m) (box : IsBox m.cells) (c : Cert) (h : IsSolution m (spans_in m) goal budget c) where
   by_claim : (claim : Claim) → c.claim ≡ claim → is_claim (BestOf goal) claim ≡ true
   by_claim (Best v) e =
       let k = subst (λ z. IsSolvedBy (search_for m (spans_in m) (BestOf goal)) budget z c.series c.tree) e h.claim in
@@ -126,7 +126,7 @@ asked_aim count h = and_from (nat_le 1 count) (nat_le count most_series) (le-leb
 listed_fits : (n : ℕ) → n ≤ most_series → is_listed n ≡ true
 listed_fits n l = and_from (nat_le 0 n) (nat_le n most_series) (le-leb 0 n (omega arith)) (le-leb n most_series l)
 
-module _ (m : Stated) (count budget : ℕ) (c : Cert) (asked : IsWithin 1 most_series count) (h : Listed m (spans_in m) count budget c) where
+module _ (m : ModelParts) (count budget : ℕ) (c : Cert) (asked : IsWithin 1 most_series count) (h : IsListAnswer m (spans_in m) count budget c) where
   by_list_claim : (claim : Claim) → c.claim ≡ claim → is_claim (ListOf count) claim ≡ true
   by_list_claim (Best v) e = absurd (subst (λ z. IsListedBy m count budget z c.series c.tree) e h.claim)
   by_list_claim Infeasible e = absurd (subst (λ z. IsListedBy m count budget z c.series c.tree) e h.claim)
@@ -164,7 +164,7 @@ pub record IsSent (c : Cert) : Type 0 where
   pub within : IsWithinLimits c
   pub few : length c.series + length c.tree < 2 ^ 62
 
-module _ (m : Stated) (need : Need) (whole : IsWhole m) (limits : KeepsLimits need m) (c : Cert) (accepts : Accepts m (spans_in m) c)
+module _ (m : ModelParts) (need : Need) (whole : IsWhole m) (limits : KeepsLimits need m) (c : Cert) (accepts : Accepts m (spans_in m) c)
     (aim : is_aim c.aim ≡ true) (claim : is_claim c.aim c.claim ≡ true) (checked : checked_count c.tree ≤ most_checked)
     (unsearched : open_count c.tree ≤ most_domain_values) where
   is_certificate : IsCertificate c
@@ -193,7 +193,7 @@ module _ (m : Stated) (need : Need) (whole : IsWhole m) (limits : KeepsLimits ne
 
 -- at most one series, or as many as were asked for
 
-one_series : (goal : Goal) (budget : ℕ) (m : Stated) (c : Cert) → Solved m (spans_in m) goal budget c → series_count c.claim ≤ 1
+one_series : (goal : Goal) (budget : ℕ) (m : ModelParts) (c : Cert) → IsSolution m (spans_in m) goal budget c → series_count c.claim ≤ 1
 one_series goal budget m c h = go c.claim h.claim
   where
     go : (claim : Claim) → IsSolvedBy (search_for m (spans_in m) (BestOf goal)) budget claim c.series c.tree → series_count claim ≤ 1
@@ -205,7 +205,7 @@ one_series goal budget m c h = go c.claim h.claim
     go (All n) k = absurd k
     go (BudgetList n) k = absurd k
 
-few_series : (count budget : ℕ) (m : Stated) (c : Cert) → Listed m (spans_in m) count budget c → length c.series ≤ count
+few_series : (count budget : ℕ) (m : ModelParts) (c : Cert) → IsListAnswer m (spans_in m) count budget c → length c.series ≤ count
 few_series count budget m c h = go c.claim h.claim
   where
     go : (claim : Claim) → IsListedBy m count budget claim c.series c.tree → length c.series ≤ count
@@ -217,8 +217,8 @@ few_series count budget m c h = go c.claim h.claim
     go (All n) k = let a = k.0 in let b = k.1 in omega (arith, a, b)
     go (BudgetList n) k = let a = k.0 in let b = k.1 in omega (arith, a, b)
 
-pub best_sent : (m : Stated) (goal : Goal) (budget : ℕ) (c : Cert) → IsWhole m → KeepsLimits NeedsBest m → IsWithin 1 most_lines budget →
-    Solved m (spans_in m) goal budget c → IsSent c
+pub best_sent : (m : ModelParts) (goal : Goal) (budget : ℕ) (c : Cert) → IsWhole m → KeepsLimits NeedsBest m → IsWithin 1 most_lines budget →
+    IsSolution m (spans_in m) goal budget c → IsSent c
 best_sent m goal budget c whole limits asked h =
     let right = are_right m whole limits.box in
     let open_few = solved_opens_few m (spans_in m) goal budget c right (limits.objective refl) h in
@@ -230,8 +230,8 @@ best_sent m goal budget c whole limits asked h =
     sent m NeedsBest whole limits c h.accepts (ap is_aim h.aim) (best_claim m goal budget whole limits.box c h)
     (omega (arith, lines, most)) (omega (arith, open_few, total)) (omega (arith, count, one))
 
-pub list_sent : (m : Stated) (count budget : ℕ) (c : Cert) → IsWhole m → KeepsLimits NeedsList m → IsWithin 1 most_series count →
-    IsWithin 1 most_lines budget → Listed m (spans_in m) count budget c → IsSent c
+pub list_sent : (m : ModelParts) (count budget : ℕ) (c : Cert) → IsWhole m → KeepsLimits NeedsList m → IsWithin 1 most_series count →
+    IsWithin 1 most_lines budget → IsListAnswer m (spans_in m) count budget c → IsSent c
 list_sent m count budget c whole limits wanted asked h =
     let right = are_right m whole limits.box in
     let open_few = listed_opens_few m (spans_in m) count budget c right h in
@@ -254,7 +254,7 @@ lines_are_of c s =
 
 -- behind the bytes of its model
 
-ended_short : (bytes : List ℕ) → length (ended bytes) ≤ length bytes + 1
+ended_short : (bytes : List ℕ) → length (end_line bytes) ≤ length bytes + 1
 ended_short [] = omega arith
 ended_short (b ∷ []) = go (is_lf b)
   where
@@ -263,19 +263,19 @@ ended_short (b ∷ []) = go (is_lf b)
     go false = omega arith
 ended_short (b ∷ c ∷ bs) = let later = ended_short (c ∷ bs) in omega (arith, later)
 
-joined_short : (bytes text : List ℕ) → length (joined bytes text) ≤ length bytes + 4 + length text
+joined_short : (bytes text : List ℕ) → length (verify_input bytes text) ≤ length bytes + 4 + length text
 joined_short bytes text =
-    let all = length-append (ended bytes) (codes "%%\n" ++ text) in
+    let all = length-append (end_line bytes) (codes "%%\n" ++ text) in
     let first = ended_short bytes in
     omega (arith, all, first)
 
-pub goes_to_verify : (m : Stated) (need : Need) (c : Cert) → IsWhole m → IsBox m.cells → Accepts m (spans_in m) c → IsSent c → needs_lists need ≡ true →
+pub goes_to_verify : (m : ModelParts) (need : Need) (c : Cert) → IsWhole m → IsBox m.cells → Accepts m (spans_in m) c → IsSent c → needs_lists need ≡ true →
     (bytes : List ℕ) → length bytes ≤ most_model_bytes → model_reading need bytes ≡ Ok m → GoesToVerify m bytes c
 goes_to_verify m need c whole box accepts s lists bytes small read =
     let text = certificate_text c in
     let fits = text_fits c (length bytes) s.within small in
     let halves = joined_halves need lists bytes m read text in
-    let offered : IsOffered (joined bytes text) m c = record {
+    let offered : IsOffered (verify_input bytes text) m c = record {
       model = ap (λ (h : Halves). model_reading NeedsList h.model) halves ∙ ended_model_read need lists bytes m read;
       certificate = subst (λ (t : List ℕ). AreOf (strict_lines t) c) (sym (ap (λ (h : Halves). unwrap_or h.rest []) halves)) (lines_are_of c s);
     } in
@@ -284,6 +284,6 @@ goes_to_verify m need c whole box accepts s lists bytes small read =
       read = written_read c s.within.certificate s.few;
       fits = fits;
       offered = offered;
-      accepted = λ r h. accepted_reply (joined bytes text) m c r (omega (arith, short, fits)) offered accepts h;
+      accepted = λ r h. accepted_reply (verify_input bytes text) m c r (omega (arith, short, fits)) offered accepts h;
       holds = accepted_holds m (spans_in m) c box (values_are_sound m (spans_in m) (spans_hold_values m whole)) accepts;
     }

@@ -7,7 +7,7 @@ use Rattle.ts_model.specs.declared.error.SeriesStop.TheVariants.{Shape as NoSeri
 use Rattle.ts_token.specs.Text.{cut_of}
 use Rattle.ts_model.specs.Judgement.{is_met}
 use Rattle.ts_model.specs.Meets.{Meets}
-use Rattle.ts_model.specs.Stated.{Stated}
+use Rattle.ts_model.specs.ModelParts.{ModelParts}
 use Rattle.ts_model.proofs.MeetsLaw.{judged_is_met}
 use Rattle.ts_checker.specs.Verified.{rest_part}
 use Rattle.ts_run.specs.AnswerTexts.{CheckReply, DoneIsMeets, IsAsked, OneCheckReply, OnReading, OnSeries, SeriesReply, series_in}
@@ -23,13 +23,13 @@ use Rattle.ts_run.proofs.TakenReply.{taken_reply}
 
 -- there is one reply
 
-pub one_reading_reply : (reading : Result Stated (ℕ × ModelKind)) (next : Stated → Reply → Type 0) →
-    ((m : Stated) (r s : Reply) → next m r → next m s → r ≡ s) →
+pub one_reading_reply : (reading : Result ModelParts (ℕ × ModelKind)) (next : ModelParts → Reply → Type 0) →
+    ((m : ModelParts) (r s : Reply) → next m r → next m s → r ≡ s) →
     (r s : Reply) → OnReading reading next r → OnReading reading next s → r ≡ s
 one_reading_reply (Ok m) next only r s h k = only m r s h k
 one_reading_reply (Err bad) next only r s h k = h ∙ sym k
 
-one_series_reply : (reading : Result (List ℤ) SeriesStop) (m : Stated) (r s : Reply) → OnSeries reading (λ xs x. x ≡ verdict m xs) r →
+one_series_reply : (reading : Result (List ℤ) SeriesStop) (m : ModelParts) (r s : Reply) → OnSeries reading (λ xs x. x ≡ verdict m xs) r →
     OnSeries reading (λ xs x. x ≡ verdict m xs) s → r ≡ s
 one_series_reply (Ok xs) m r s h k = h ∙ sym k
 one_series_reply (Err NoSeries) m r s h k = h ∙ sym k
@@ -43,10 +43,10 @@ one_check_reply bytes r s h k =
 
 -- the status
 
-verdict_given : (bytes : List ℕ) (m : Stated) (xs : List ℤ) (r : Reply) → IsAsked bytes m xs → CheckReply bytes r → r ≡ verdict m xs
+verdict_given : (bytes : List ℕ) (m : ModelParts) (xs : List ℤ) (r : Reply) → IsAsked bytes m xs → CheckReply bytes r → r ≡ verdict m xs
 verdict_given bytes m xs r asked h =
     subst (λ (x : Result (List ℤ) SeriesStop). OnSeries x (λ ys s. s ≡ verdict m ys) r) asked.series
-    (subst (λ (x : Result Stated (ℕ × ModelKind)). OnReading x (SeriesReply (rest_part bytes)) r) asked.model h)
+    (subst (λ (x : Result ModelParts (ℕ × ModelKind)). OnReading x (SeriesReply (rest_part bytes)) r) asked.model h)
 
 done_true : (b : Bool) → cond b Done No ≡ Done → b ≡ true
 done_true true e = refl
@@ -66,17 +66,17 @@ pub check_tells : (bytes : List ℕ) (faults faults_now : ℕ) (before after : O
     Responds (RepliesWithin 2097152 Check bytes) faults faults_now before after status → TellsMeets bytes status
 check_tells bytes faults faults_now before after status h = λ m xs asked. (done m xs asked, no m xs asked, meets m xs asked)
   where
-    done : (m : Stated) (xs : List ℤ) → IsAsked bytes m xs → status ≡ Done → Meets m xs
+    done : (m : ModelParts) (xs : List ℤ) → IsAsked bytes m xs → status ≡ Done → Meets m xs
     done m xs asked e =
         let p = replied Check bytes 2097152 faults faults_now before after status Done (λ x. cc) (λ x. cc) (λ x. cc) (λ r x. x.1) h e in
         (done_is_meets bytes m xs p.0 asked p.1).0 p.2.1
 
-    no : (m : Stated) (xs : List ℤ) → IsAsked bytes m xs → status ≡ No → Meets m xs → ⊥
+    no : (m : ModelParts) (xs : List ℤ) → IsAsked bytes m xs → status ≡ No → Meets m xs → ⊥
     no m xs asked e w =
         let p = replied Check bytes 2097152 faults faults_now before after status No (λ x. cc) (λ x. cc) (λ x. cc) (λ r x. x.1) h e in
         let both = sym p.2.1 ∙ (done_is_meets bytes m xs p.0 asked p.1).1 w in cc
 
-    meets : (m : Stated) (xs : List ℤ) → IsAsked bytes m xs → length bytes ≤ 2097152 → EndsWritten status → (status ≡ ReadFault → ⊥) → Meets m xs →
+    meets : (m : ModelParts) (xs : List ℤ) → IsAsked bytes m xs → length bytes ≤ 2097152 → EndsWritten status → (status ≡ ReadFault → ⊥) → Meets m xs →
         status ≡ Done
     meets m xs asked small written calm w =
         let t = taken_reply Check 2097152 bytes faults faults_now before after status written calm small h in

@@ -10,7 +10,7 @@ use Rattle.ts_model.specs.Judgement.{holdings, insides}
 use Rattle.ts_model.specs.Meets.{values_on}
 use Rattle.ts_model.specs.ModelReading.{model_reading}
 use Rattle.ts_model.specs.Series.{series_reading}
-use Rattle.ts_model.specs.Stated.{Stated}
+use Rattle.ts_model.specs.ModelParts.{ModelParts}
 use Rattle.ts_base.specs.declared.ext.Ext.{Ext}
 use Rattle.ts_checker.specs.Verified.{model_part, rest_part}
 use Rattle.ts_run.specs.AnswerTexts.{CheckReply, OnReading, OnSeries, SeriesReply}
@@ -29,7 +29,7 @@ check_fails bytes text stop given same h e =
     (subst (λ (t : List ℕ). StopsWith (OnReading (model_reading Values t) NoMore) stop) same h) e
 
 -- the series was read, and the verdict on it given
-pub series_replies : (text : List ℕ) (m : Stated) (n : ℕ) (xs : List ℤ) (inside holding : List Bool) (values : List Ext) (r : Reply) → n ≡ length m.cells →
+pub series_replies : (text : List ℕ) (m : ModelParts) (n : ℕ) (xs : List ℤ) (inside holding : List Bool) (values : List Ext) (r : Reply) → n ≡ length m.cells →
     series_reading n (cut_of text) ≡ Ok xs →
     inside ≡ insides m.cells xs → values ≡ values_on m xs → holding ≡ holdings (values_on m xs) m.requirements → r ≡ verdict_of inside holding
     (zip (names_of m) values) → SeriesReply text m r

@@ -11,7 +11,7 @@ use Rattle.ts_pattern.specs.Names.{is_pair}
 use Rattle.ts_model.specs.declared.error.ModelKind.{ModelKind}
 use Rattle.ts_model.specs.declared.model.Need.TheVariants.{Values}
 use Rattle.ts_model.specs.ModelReading.{model_reading}
-use Rattle.ts_model.specs.Stated.{Stated}
+use Rattle.ts_model.specs.ModelParts.{ModelParts}
 use Rattle.ts_model.specs.Views.{parts_of, term_of}
 use Rattle.ts_compile.specs.Compiled.{machine_body, machine_pair}
 use Rattle.ts_compile.specs.ProgramText.{part_text, program_text}
@@ -55,10 +55,10 @@ same_text (s ∷ ss) (t ∷ ts) h =
     let term = by_parts s.1 t.1 (ap (λ p. p.1) one) in
     let rest = same_text ss ts more in (λ i. part_text (name i) (term i) (machine_body (term i)) (machine_pair (term i)) ++ rest i)
 
-one_text : (m : Stated) (x y : List ℕ) → IsProgramText m x → IsProgramText m y → x ≡ y
+one_text : (m : ModelParts) (x y : List ℕ) → IsProgramText m x → IsProgramText m y → x ≡ y
 one_text m x y h k = h.text_is ∙ same_text h.terms k.terms (h.terms_are ∙ sym k.terms_are) ∙ sym k.text_is
 
-one_program_reply : (reading : Result Stated (ℕ × ModelKind)) (r s : Reply) → OnReading reading ProgramReply r → OnReading reading ProgramReply s → r ≡ s
+one_program_reply : (reading : Result ModelParts (ℕ × ModelKind)) (r s : Reply) → OnReading reading ProgramReply r → OnReading reading ProgramReply s → r ≡ s
 one_program_reply (Ok m) r s h k =
     let text = one_text m r.text s.text h.0 k.0 in
     let status = h.1 ∙ sym k.1 in (λ i. record { text = text i; status = status i })
@@ -69,7 +69,7 @@ one_compile_reply bytes r s h k = one_program_reply (model_reading Values bytes)
 
 -- the text has the parts
 
-compiled_of : (m : Stated) (text : List ℕ) → IsProgramText m text → IsCompiled m text
+compiled_of : (m : ModelParts) (text : List ℕ) → IsProgramText m text → IsCompiled m text
 compiled_of m text p = record {
   program = p;
   parts = subst (λ (x : List ℕ). HasParts p.terms x) (sym p.text_is) (parts_in p.terms);
@@ -77,12 +77,12 @@ compiled_of m text p = record {
 
 -- what a call has written whose status is `Done`
 
-record IsDone (reading : Result Stated (ℕ × ModelKind)) (text : List ℕ) : Type 0 where
-  model : Stated
+record IsDone (reading : Result ModelParts (ℕ × ModelKind)) (text : List ℕ) : Type 0 where
+  model : ModelParts
   states : reading ≡ Ok model
   program : IsProgramText model text
 
-done_reading : (reading : Result Stated (ℕ × ModelKind)) (r : Reply) → OnReading reading ProgramReply r → r.status ≡ Done → IsDone reading r.text
+done_reading : (reading : Result ModelParts (ℕ × ModelKind)) (r : Reply) → OnReading reading ProgramReply r → r.status ≡ Done → IsDone reading r.text
 done_reading (Ok m) r h e = record { model = m; states = refl; program = h.0 }
 done_reading (Err bad) r h e = let refused = sym e ∙ ap (λ (x : Reply). x.status) h in cc
 

@@ -16,7 +16,7 @@ use Rattle.ts_base.specs.Words.{strict_lines}
 use Rattle.ts_base.proofs.WordLaws.{lines_are}
 use Rattle.ts_token.specs.Halves.{is_separator, Halves, after_front, halves, halves_of}
 use Rattle.ts_model.specs.declared.error.SeriesStop.TheVariants.{Length}
-use Rattle.ts_model.specs.Stated.{is_value}
+use Rattle.ts_model.specs.ModelParts.{is_value}
 use Rattle.ts_model.specs.Words.{onto}
 use Rattle.ts_model.specs.Series.{within, value_of, values_of, numbers_give, words_give, series_words, series_reading}
 

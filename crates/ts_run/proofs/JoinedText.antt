@@ -12,10 +12,10 @@ use Rattle.ts_model.specs.declared.error.ModelKind.{ModelKind}
 use Rattle.ts_model.specs.declared.error.ModelKind.TheVariants.{NoCells, NoObjective}
 use Rattle.ts_model.specs.declared.model.Need.{Need}
 use Rattle.ts_model.specs.declared.model.Need.TheVariants.{List as NeedsList}
-use Rattle.ts_model.specs.ModelReading.{ended as ended_reading, ended_text, line_gives, model_reading, needs_lists, needs_objective, onward, read_rows, reading, texts_of}
-use Rattle.ts_model.specs.Stated.{Stated, has_cells, nothing}
+use Rattle.ts_model.specs.ModelReading.{end_reading as ended_reading, ended_text, line_gives, model_reading, needs_lists, needs_objective, onward, read_rows, reading, texts_of}
+use Rattle.ts_model.specs.ModelParts.{ModelParts, has_cells, nothing}
 use Rattle.ts_model.specs.Words.{form_of}
-use Rattle.ts_run.specs.Joined.{ended, joined}
+use Rattle.ts_run.specs.Joined.{end_line, verify_input}
 
 -- The lines of a text that isn't empty.
 
@@ -157,20 +157,20 @@ record Begins (c : ℕ) (text : List ℕ) : Type 0 where
   later : List ℕ
   is : text ≡ c ∷ later
 
-ended_begins : (c : ℕ) (cs : List ℕ) → Begins c (ended (c ∷ cs))
+ended_begins : (c : ℕ) (cs : List ℕ) → Begins c (end_line (c ∷ cs))
 ended_begins c [] = go (is_lf c)
   where
     go : (v : Bool) → Begins c (cond v (c ∷ []) (c ∷ 10 ∷ []))
     go true = record { later = []; is = refl }
     go false = record { later = 10 ∷ []; is = refl }
-ended_begins c (d ∷ ds) = record { later = ended (d ∷ ds); is = refl }
+ended_begins c (d ∷ ds) = record { later = end_line (d ∷ ds); is = refl }
 
-ended_some : (c : ℕ) (cs : List ℕ) → HasLine (strict_lines (ended (c ∷ cs)))
+ended_some : (c : ℕ) (cs : List ℕ) → HasLine (strict_lines (end_line (c ∷ cs)))
 ended_some c cs =
     let b = ended_begins c cs in
     subst (λ (z : List ℕ). HasLine (strict_lines z)) (sym b.is) (starts_some c (strict_lines (c ∷ b.later)) (first_starts c b.later))
 
-last_joined : (b : ℕ) (rest : List ℕ) → strict_lines (ended (b ∷ []) ++ rest) ≡ strict_lines (ended (b ∷ [])) ++ strict_lines rest
+last_joined : (b : ℕ) (rest : List ℕ) → strict_lines (end_line (b ∷ []) ++ rest) ≡ strict_lines (end_line (b ∷ [])) ++ strict_lines rest
 last_joined b rest = go (is_lf b) refl
   where
     go : (v : Bool) → is_lf b ≡ v → strict_lines (cond v (b ∷ []) (b ∷ 10 ∷ []) ++ rest) ≡ strict_lines (cond v (b ∷ []) (b ∷ 10 ∷ [])) ++ strict_lines rest
@@ -179,20 +179,20 @@ last_joined b rest = go (is_lf b) refl
         other_first b (10 ∷ rest) e ∙ ap (onto_line b) (lf_first 10 rest lf_is)
         ∙ ap (λ (z : List (List ℕ)). z ++ strict_lines rest) (sym (other_first b (10 ∷ []) e ∙ ap (onto_line b) (lf_first 10 [] lf_is)))
 
-lines_joined : (bytes rest : List ℕ) → strict_lines (ended bytes ++ rest) ≡ strict_lines (ended bytes) ++ strict_lines rest
+lines_joined : (bytes rest : List ℕ) → strict_lines (end_line bytes ++ rest) ≡ strict_lines (end_line bytes) ++ strict_lines rest
 lines_joined [] rest = refl
 lines_joined (b ∷ []) rest = last_joined b rest
 lines_joined (b ∷ c ∷ cs) rest = go (is_lf b) refl (lines_joined (c ∷ cs) rest)
   where
-    go : (v : Bool) → is_lf b ≡ v → strict_lines (ended (c ∷ cs) ++ rest) ≡ strict_lines (ended (c ∷ cs)) ++ strict_lines rest →
-        strict_lines (b ∷ (ended (c ∷ cs) ++ rest)) ≡ strict_lines (b ∷ ended (c ∷ cs)) ++ strict_lines rest
+    go : (v : Bool) → is_lf b ≡ v → strict_lines (end_line (c ∷ cs) ++ rest) ≡ strict_lines (end_line (c ∷ cs)) ++ strict_lines rest →
+        strict_lines (b ∷ (end_line (c ∷ cs) ++ rest)) ≡ strict_lines (b ∷ end_line (c ∷ cs)) ++ strict_lines rest
     go true e later =
-        lf_first b (ended (c ∷ cs) ++ rest) e ∙ ap (λ (z : List (List ℕ)). (b ∷ []) ∷ z) later
-        ∙ ap (λ (z : List (List ℕ)). z ++ strict_lines rest) (sym (lf_first b (ended (c ∷ cs)) e))
+        lf_first b (end_line (c ∷ cs) ++ rest) e ∙ ap (λ (z : List (List ℕ)). (b ∷ []) ∷ z) later
+        ∙ ap (λ (z : List (List ℕ)). z ++ strict_lines rest) (sym (lf_first b (end_line (c ∷ cs)) e))
     go false e later =
-        other_first b (ended (c ∷ cs) ++ rest) e ∙ ap (onto_line b) later
-        ∙ onto_more b (strict_lines (ended (c ∷ cs))) (strict_lines rest) (ended_some c cs)
-        ∙ ap (λ (z : List (List ℕ)). z ++ strict_lines rest) (sym (other_first b (ended (c ∷ cs)) e))
+        other_first b (end_line (c ∷ cs) ++ rest) e ∙ ap (onto_line b) later
+        ∙ onto_more b (strict_lines (end_line (c ∷ cs))) (strict_lines rest) (ended_some c cs)
+        ∙ ap (λ (z : List (List ℕ)). z ++ strict_lines rest) (sym (other_first b (end_line (c ∷ cs)) e))
 
 -- the line `%%`
 
@@ -236,7 +236,7 @@ one_line b e = ap (λ v. cond v ([] ∷ []) (cond (cond (b == 13) false false) [
 lf_line : lines_of (10 ∷ []) ≡ [] ∷ []
 lf_line = ap (λ v. cond v ([] ∷ []) (cond (cond (10 == 13) false false) [] ((10 ∷ []) ∷ []))) lf_is
 
-last_ended : (b : ℕ) → AreText (lines_of (b ∷ [])) → lines_of (ended (b ∷ [])) ≡ lines_of (b ∷ [])
+last_ended : (b : ℕ) → AreText (lines_of (b ∷ [])) → lines_of (end_line (b ∷ [])) ≡ lines_of (b ∷ [])
 last_ended b h = go (is_lf b) refl
   where
     go : (v : Bool) → is_lf b ≡ v → lines_of (cond v (b ∷ []) (b ∷ 10 ∷ [])) ≡ lines_of (b ∷ [])
@@ -248,12 +248,12 @@ last_ended b h = go (is_lf b) refl
         ∙ ap (λ v. cond (cond v (is_lf 10) false) (lines_of (10 ∷ [])) (onto_line b (lines_of (10 ∷ [])))) (not_cr b plain)
         ∙ ap (onto_line b) lf_line ∙ sym (one_line b e)
 
-lines_ended : (bytes : List ℕ) → AreText (lines_of bytes) → lines_of (ended bytes) ≡ lines_of bytes
+lines_ended : (bytes : List ℕ) → AreText (lines_of bytes) → lines_of (end_line bytes) ≡ lines_of bytes
 lines_ended [] h = refl
 lines_ended (b ∷ []) h = last_ended b h
 lines_ended (b ∷ c ∷ cs) h =
     let same = lines_ended (c ∷ cs) (later_text b (lines_of (c ∷ cs)) (is_lf b) (cond (b == 13) (is_lf c) false) h) in
-    ap (before b (is_lf b) (ends_here (ended (c ∷ cs)))) same
+    ap (before b (is_lf b) (ends_here (end_line (c ∷ cs)))) same
     ∙ ap (λ (z : List ℕ). before b (is_lf b) (ends_here z) (lines_of (c ∷ cs))) (ended_begins c cs).is
 
 -- Each line of a text that was read well is text, and none is a separator.
@@ -271,7 +271,7 @@ skipped_no_mark (w ∷ []) h = go (bytes_eq w.text (codes "%%")) refl
     go false e = refl
 skipped_no_mark (w ∷ v ∷ ws) h = refl
 
-parsed_no_mark : (lists : Bool) (m after : Stated) (ws : List Piece) → line_gives lists m (texts_of ws) ≡ Ok after → is_mark ws ≡ false
+parsed_no_mark : (lists : Bool) (m after : ModelParts) (ws : List Piece) → line_gives lists m (texts_of ws) ≡ Ok after → is_mark ws ≡ false
 unfolding form_of
 parsed_no_mark lists m after [] h = refl
 parsed_no_mark lists m after (w ∷ []) h = go (bytes_eq w.text (codes "%%")) refl
@@ -285,12 +285,12 @@ parsed_no_mark lists m after (w ∷ v ∷ ws) h = refl
 abbrev with_row : ℕ → List ℕ → Bool → List Row → List Row
 with_row number line v rows = cond v rows (record { number = number; words = words_of line } ∷ rows)
 
-line_reads : (lists : Bool) (number : ℕ) (old m : Stated) (line : List ℕ) (ls : List (List ℕ)) →
-    ((k : Stated) → read_rows lists k (rows_from (number + 1) ls) ≡ Ok m → ReadsWell ls) → is_text line ≡ true →
+line_reads : (lists : Bool) (number : ℕ) (old m : ModelParts) (line : List ℕ) (ls : List (List ℕ)) →
+    ((k : ModelParts) → read_rows lists k (rows_from (number + 1) ls) ≡ Ok m → ReadsWell ls) → is_text line ≡ true →
     read_rows lists old (row_onto number (words_of line) (rows_from (number + 1) ls)) ≡ Ok m → ReadsWell (line ∷ ls)
 line_reads lists number old m line ls more text read = on (is_skipped (words_of line)) refl read
   where
-    by : (given : Result Stated ModelKind) → line_gives lists old (texts_of (words_of line)) ≡ given →
+    by : (given : Result ModelParts ModelKind) → line_gives lists old (texts_of (words_of line)) ≡ given →
         onward number given (λ after. read_rows lists after (rows_from (number + 1) ls)) ≡ Ok m → ReadsWell (line ∷ ls)
     by (Err kind) e r = absurd (cc)
     by (Ok after) e r =
@@ -301,7 +301,7 @@ line_reads lists number old m line ls more text read = on (is_skipped (words_of 
     on true e r = let later = more old r in record { text = (text, later.text); marks = (skipped_no_mark (words_of line) e, later.marks) }
     on false e r = by (line_gives lists old (texts_of (words_of line))) refl r
 
-lines_read : (lists : Bool) (ls : List (List ℕ)) (number : ℕ) (old m : Stated) → not_text_from number ls ≡ None →
+lines_read : (lists : Bool) (ls : List (List ℕ)) (number : ℕ) (old m : ModelParts) → not_text_from number ls ≡ None →
     read_rows lists old (rows_from number ls) ≡ Ok m → ReadsWell ls
 lines_read lists [] number old m text read = record { text = tt; marks = tt }
 lines_read lists (line ∷ ls) number old m text read =
@@ -309,28 +309,28 @@ lines_read lists (line ∷ ls) number old m text read =
   where
     go : (v : Bool) → is_text line ≡ v → cond v (not_text_from (number + 1) ls) (Some number) ≡ None →
         read_rows lists old (cond v (row_onto number (words_of line) (rows_from (number + 1) ls)) []) ≡ Ok m →
-        ((k : Stated) → not_text_from (number + 1) ls ≡ None → read_rows lists k (rows_from (number + 1) ls) ≡ Ok m → ReadsWell ls) →
+        ((k : ModelParts) → not_text_from (number + 1) ls ≡ None → read_rows lists k (rows_from (number + 1) ls) ≡ Ok m → ReadsWell ls) →
         ReadsWell (line ∷ ls)
     go true e t r more = line_reads lists number old m line ls (λ k. more k t) e r
     go false e t r more = absurd (cc)
 
 -- What is read of a text with the LF that it may lack, and where no objective is needed.
 
-record IsRead (c : Cut) (rows : Result Stated (ℕ × ModelKind)) (m : Stated) : Type 0 where
+record IsRead (c : Cut) (rows : Result ModelParts (ℕ × ModelKind)) (m : ModelParts) : Type 0 where
   rows_give : rows ≡ Ok m
   text : c.not_text ≡ None
   listed : ended_reading NeedsList c rows ≡ Ok m
 
-record IsOnly (k m : Stated) (v : Bool) : Type 0 where
+record IsOnly (k m : ModelParts) (v : Bool) : Type 0 where
   calm : v ≡ false
   same : k ≡ m
 
-only_model : (k m : Stated) (v w : Bool) (bad worse : ℕ × ModelKind) → cond v (Err bad) (cond w (Err worse) (Ok k)) ≡ Ok m → IsOnly k m v
+only_model : (k m : ModelParts) (v w : Bool) (bad worse : ℕ × ModelKind) → cond v (Err bad) (cond w (Err worse) (Ok k)) ≡ Ok m → IsOnly k m v
 only_model k m true w bad worse e = absurd (cc)
 only_model k m false true bad worse e = absurd (cc)
 only_model k m false false bad worse e = record { calm = refl; same = let same : k ≡ m = cc in same }
 
-well_ended : (need : Need) (c : Cut) (rows : Result Stated (ℕ × ModelKind)) (m : Stated) → ended_reading need c rows ≡ Ok m → IsRead c rows m
+well_ended : (need : Need) (c : Cut) (rows : Result ModelParts (ℕ × ModelKind)) (m : ModelParts) → ended_reading need c rows ≡ Ok m → IsRead c rows m
 well_ended need c (Err bad) m h = absurd (cc)
 well_ended need c (Ok k) m h = by c.not_text refl h
   where
@@ -348,7 +348,7 @@ well_ended need c (Ok k) m h = by c.not_text refl h
 abbrev cut_by : List (List ℕ) → Cut
 cut_by ls = record { rows = rows_from 1 ls; count = length ls; not_text = not_text_from 1 ls }
 
-module _ (need : Need) (lists : needs_lists need ≡ true) (bytes : List ℕ) (m : Stated) (read : model_reading need bytes ≡ Ok m) where
+module _ (need : Need) (lists : needs_lists need ≡ true) (bytes : List ℕ) (m : ModelParts) (read : model_reading need bytes ≡ Ok m) where
   read_well : IsRead (cut_of bytes) (read_rows (needs_lists need) nothing (cut_of bytes).rows) m
   read_well = well_ended need (cut_of bytes) (read_rows (needs_lists need) nothing (cut_of bytes).rows) m read
 
@@ -356,18 +356,18 @@ module _ (need : Need) (lists : needs_lists need ≡ true) (bytes : List ℕ) (m
   well = lines_read (needs_lists need) (lines_of bytes) 1 nothing m read_well.text read_well.rows_give
 
   -- the model is read from the bytes with their last LF
-  pub ended_model_read : model_reading NeedsList (ended bytes) ≡ Ok m
+  pub ended_model_read : model_reading NeedsList (end_line bytes) ≡ Ok m
   ended_model_read =
       ap (λ ls. reading NeedsList (cut_by ls)) (lines_ended bytes well.text)
       ∙ ap (λ v. ended_reading NeedsList (cut_of bytes) (read_rows v nothing (cut_of bytes).rows)) (sym lists) ∙ read_well.listed
 
-  separators : NoSeparators (strict_lines (ended bytes))
+  separators : NoSeparators (strict_lines (end_line bytes))
   separators =
-      no_separators (strict_lines (ended bytes)) (subst NoMarks (sym (lines_ended bytes well.text) ∙ lines_each (ended bytes)) well.marks)
+      no_separators (strict_lines (end_line bytes)) (subst NoMarks (sym (lines_ended bytes well.text) ∙ lines_each (end_line bytes)) well.marks)
 
   -- and the two are cut again
-  pub joined_halves : (text : List ℕ) → halves_of (joined bytes text) ≡ record { model = ended bytes; rest = Some text }
+  pub joined_halves : (text : List ℕ) → halves_of (verify_input bytes text) ≡ record { model = end_line bytes; rest = Some text }
   joined_halves text =
-      ap halves (lines_joined bytes (codes "%%\n" ++ text) ∙ ap (λ (z : List (List ℕ)). strict_lines (ended bytes) ++ z) (mark_first text))
-      ∙ halves_at (strict_lines (ended bytes)) (codes "%%\n") (strict_lines text) separators mark_is
-      ∙ (λ i. record { model = lines_are (ended bytes) i; rest = Some (lines_are text i) })
+      ap halves (lines_joined bytes (codes "%%\n" ++ text) ∙ ap (λ (z : List (List ℕ)). strict_lines (end_line bytes) ++ z) (mark_first text))
+      ∙ halves_at (strict_lines (end_line bytes)) (codes "%%\n") (strict_lines text) separators mark_is
+      ∙ (λ i. record { model = lines_are (end_line bytes) i; rest = Some (lines_are text i) })

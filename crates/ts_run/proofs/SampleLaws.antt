@@ -13,11 +13,11 @@ use Rattle.ts_certificate.specs.declared.certificate.Claim.TheVariants.{Best, In
 use Rattle.ts_certificate.specs.declared.certificate.TreeLine.{TreeLine}
 use Rattle.ts_certificate.specs.Certificate.{Cert, certificate_text, checked_count}
 use Rattle.ts_certificate.proofs.CallerLemmas.{text_fits}
-use Rattle.ts_model.specs.Stated.{Stated}
+use Rattle.ts_model.specs.ModelParts.{ModelParts}
 use Rattle.ts_spans.specs.Machines.{spans_in}
 use Rattle.ts_search.specs.Laws.{IsBudget}
 use Rattle.ts_search.specs.LineOf.{search_for}
-use Rattle.ts_search.specs.Solved.{IsSolvedBy, Solved}
+use Rattle.ts_search.specs.Solved.{IsSolvedBy, IsSolution}
 use Rattle.ts_search.proofs.Closing.{budget_is_enough}
 use Rattle.ts_search.proofs.OfProgram.{are_right}
 use Rattle.ts_search.proofs.Parts.{series_length}
@@ -41,7 +41,7 @@ use Rattle.ts_run.proofs.TakenReply.{taken_whole}
 use Rattle.ts_run.proofs.ValueSizes.{cells_within}
 
 module _ (n : ℕ) (asked : IsWithin 1 most_cells n) where
-  abbrev m : Stated
+  abbrev m : ModelParts
   m = sample_stated n
 
   -- a claim that isn't of a best value is one of a spent budget
@@ -56,7 +56,7 @@ module _ (n : ℕ) (asked : IsWithin 1 most_cells n) where
   no_other (All count) series tree h f = absurd h
   no_other (BudgetList count) series tree h f = absurd h
 
-  module _ (c : Cert) (solved : Solved m (spans_in m) Minimise usual_lines c) where
+  module _ (c : Cert) (solved : IsSolution m (spans_in m) Minimise usual_lines c) where
     pub spent_reply : (r : Reply) → ((v : Ext) → c.claim ≡ Best v → ⊥) → r ≡ three_lines n → SampleReply n r
     spent_reply r f is = record {
       asked = asked;
@@ -123,17 +123,17 @@ first_view : {V : Type 0} (view : V → List ℤ) (items : List V) (first : V) (
 first_view view [] first x e is = absurd (cc)
 first_view view (v ∷ vs) first x e is = let head : view v ≡ x = cc in ap view is ∙ head
 
-module _ (n k b : ℕ) (made : Stated) (c : Cert) (value : k ≡ n) (range : IsWithin 1 most_cells k) (is : made ≡ sample_stated k) (budget : b ≡ usual_lines)
-    (solved : Solved made (spans_in made) Minimise b c) where
+module _ (n k b : ℕ) (made : ModelParts) (c : Cert) (value : k ≡ n) (range : IsWithin 1 most_cells k) (is : made ≡ sample_stated k) (budget : b ≡ usual_lines)
+    (solved : IsSolution made (spans_in made) Minimise b c) where
   asked_here : IsWithin 1 most_cells n
   asked_here = subst (IsWithin 1 most_cells) value range
 
   model_here : made ≡ sample_stated n
   model_here = is ∙ ap sample_stated value
 
-  solved_here : Solved (sample_stated n) (spans_in (sample_stated n)) Minimise usual_lines c
+  solved_here : IsSolution (sample_stated n) (spans_in (sample_stated n)) Minimise usual_lines c
   solved_here =
-      subst (λ z. Solved z (spans_in z) Minimise usual_lines c) model_here (subst (λ (z : ℕ). Solved made (spans_in made) Minimise z c) budget solved)
+      subst (λ z. IsSolution z (spans_in z) Minimise usual_lines c) model_here (subst (λ (z : ℕ). IsSolution made (spans_in made) Minimise z c) budget solved)
 
   pub ran_out_given : {E : Type 0} (given : Result GivenReply E) → ((v : Ext) → c.claim ≡ Best v → ⊥) → IfOk given (λ r. reply_of r ≡ three_lines k) →
       IfOk given (λ r. SampleReply n (reply_of r))
@@ -158,7 +158,7 @@ module _ (n k b : ℕ) (made : Stated) (c : Cert) (value : k ≡ n) (range : IsW
     pub first_few : length (view first) ≤ 512
     first_few = subst (λ (z : List ℤ). length z ≤ 512) (sym first_is) best_here.few
 
-    pub found_given : (sum : ℤ) (lines : ℕ) (verdict : Verdict) (last r : Reply) (text : List ℕ) (seen : Stated) → sum ≡ sum_of (view first) →
+    pub found_given : (sum : ℤ) (lines : ℕ) (verdict : Verdict) (last r : Reply) (text : List ℕ) (seen : ModelParts) → sum ≡ sum_of (view first) →
         lines ≡ checked_count c.tree → seen ≡ made → text ≡ certificate_text c → IsVerdict seen (strict_lines text) verdict → last ≡ verdict_reply verdict →
         r ≡ record { text = sample_text k v sum lines ++ last.text; status = last.status } → SampleReply n r
     found_given sum lines verdict last r text seen sum_is lines_is seen_is text_is shown last_is told =

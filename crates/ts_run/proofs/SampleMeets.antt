@@ -13,11 +13,11 @@ use Rattle.ts_pattern.specs.declared.name.PatternId.TheVariants.{Peak}
 use Rattle.ts_pattern.specs.PatternTable.{pattern_a}
 use Rattle.ts_pattern.specs.TermValue.{value_of}
 use Rattle.ts_automaton.specs.declared.state.Mark.TheVariants.{Zero}
-use Rattle.ts_automaton.specs.AutomatonRun.{AreCellValues, Standing, after_from, answer, finish_of, finished, marked, start_of, step_of}
+use Rattle.ts_automaton.specs.AutomatonRun.{AreCellValues, Standing, after_from, answer, finish_of, finish_value, under_mark, start_of, step_of}
 use Rattle.ts_automaton.specs.Body.{Body}
 use Rattle.ts_automaton.specs.Registers.{numbers}
 use Rattle.ts_seed.specs.SeedTable.{seed_table}
-use Rattle.ts_decorate.specs.Decoration.{decorated}
+use Rattle.ts_decorate.specs.Decoration.{decorated_body}
 use Rattle.ts_model.specs.Meets.{Meets}
 use Rattle.ts_run.specs.Quantities.{IsWithin}
 use Rattle.ts_run.specs.SampleModel.{cells_from, least_of, sample_stated, six_from}
@@ -52,7 +52,7 @@ least_taken (suc j) k (suc n) h = ap (λ (z : List ℤ). pos (least_of k) ∷ z)
 
 -- the automaton of the greatest width of a peak
 abbrev widest : Body
-widest = decorated (seed_table Peak).rows (pattern_a Peak) Max Width
+widest = decorated_body (seed_table Peak).rows (pattern_a Peak) Max Width
 
 -- its answer is at most 3, after a series and each front of it
 abbrev is_narrow : Standing Ext → Bool
@@ -74,14 +74,14 @@ all_narrow : stays_narrow (start_of widest) (pos (least_of 1)) (least_from 2 511
 all_narrow = refl
 
 -- the number of cells doesn't matter
-mark_same : (n : ℕ) (v : Ext) → marked Zero n v ≡ marked Zero 1 v
+mark_same : (n : ℕ) (v : Ext) → under_mark Zero n v ≡ under_mark Zero 1 v
 mark_same n NegInf = refl
 mark_same n (Int x) = refl
 mark_same n PosInf = refl
 
 least_answer : (j : ℕ) → j ≤ 511 → ext_le (answer widest (least_from 1 (suc j))) (Int (pos 3)) ≡ true
 least_answer j h =
-    let end = finished numbers widest (after_from widest (start_of widest) (pos (least_of 1)) (least_from 2 j)).regs in
+    let end = finish_value numbers widest (after_from widest (start_of widest) (pos (least_of 1)) (least_from 2 j)).regs in
     let narrow = narrow_front (least_from 2 511) j (pos (least_of 1)) (start_of widest) all_narrow in
     let front = subst (λ (z : List ℤ). is_narrow (after_from widest (start_of widest) (pos (least_of 1)) z) ≡ true) (least_taken j 2 511 h) narrow in
     subst (λ v. ext_le v (Int (pos 3)) ≡ true) (sym (mark_same (length (least_from 1 (suc j))) end)) front

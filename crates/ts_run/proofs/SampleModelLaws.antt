@@ -8,13 +8,13 @@ use Rattle.ts_base.specs.declared.ext.Ext.TheVariants.{Int}
 use Rattle.ts_base.specs.Limits.{IsCellValue, most_cells}
 use Rattle.ts_domain.specs.BoxSeries.{IsBox}
 use Rattle.ts_domain.specs.Union.{InSomeRange}
-use Rattle.ts_domain.specs.Values.{IsDomain, Rising}
+use Rattle.ts_domain.specs.Values.{IsDomain, IsRising}
 use Rattle.ts_domain.proofs.Sets.{contains_cons, each_contains, nothing_in}
 use Rattle.ts_model.specs.declared.model.Need.TheVariants.{Best as NeedsBest}
 use Rattle.ts_model.specs.Promise.{IsWhole, KeepsLimits}
 use Rattle.ts_model.specs.declared.model.Op.TheVariants.{AtMost}
 use Rattle.ts_model.specs.declared.model.Require.{Require}
-use Rattle.ts_model.specs.Stated.{Stated, total_of}
+use Rattle.ts_model.specs.ModelParts.{ModelParts, total_of}
 use Rattle.ts_run.specs.Quantities.{IsWithin}
 use Rattle.ts_run.specs.SampleModel.{cells_from, least_of, sample_stated, six_from}
 
@@ -36,8 +36,8 @@ beyond x y xs ys same above f v h =
     ]
 
 -- two rising lists with the same numbers are one
-same_rising : (xs ys : List ℤ) → Rising xs → Rising ys → ((v : ℤ) → Contains xs v → Contains ys v) → ((v : ℤ) → Contains ys v → Contains xs v) → xs ≡ ys
-unfolding Rising
+same_rising : (xs ys : List ℤ) → IsRising xs → IsRising ys → ((v : ℤ) → Contains xs v → Contains ys v) → ((v : ℤ) → Contains ys v → Contains xs v) → xs ≡ ys
+unfolding IsRising
 same_rising [] [] r s f g = refl
 same_rising [] (y ∷ ys) r s f g = absurd (nothing_in y (g y (here y ys)))
 same_rising (x ∷ xs) [] r s f g = absurd (nothing_in x (f x (here x xs)))
@@ -132,8 +132,8 @@ one_range low high v h = one_at low high v h.0 h.1 h.2 h.3
 in_range : (low high v : ℤ) → low ≤ℤ v → v ≤ℤ high → InSomeRange (low ∷ []) (high ∷ []) v
 in_range low high v a b = (0, omega arith, a, b)
 
-six_rising : (l : ℕ) → Rising (six_from l)
-unfolding Rising
+six_rising : (l : ℕ) → IsRising (six_from l)
+unfolding IsRising
 six_rising l = (
   (omega (arith, ints), (omega (arith, ints), (omega (arith, ints), (omega (arith, ints), (omega (arith, ints), tt))))),
   (
@@ -258,7 +258,7 @@ sample_limits n h =
     }
 
 -- a model of these parts is the one that is asked for
-pub model_is : (n : ℕ) (m : Stated) (old : List Require) → m.cells ≡ cells_from 1 n → m.terms ≡ (sample_stated 1).terms → old ≡ [] →
+pub model_is : (n : ℕ) (m : ModelParts) (old : List Require) → m.cells ≡ cells_from 1 n → m.terms ≡ (sample_stated 1).terms → old ≡ [] →
     m.requirements ≡ old ++ record { term = 1; op = AtMost; bound = Int (pos 3) } ∷ [] → m.objective ≡ Some 0 → m ≡ sample_stated n
 model_is n m old cells terms none requirements objective =
     let one = requirements ∙ ap (λ (z : List Require). z ++ record { term = 1; op = AtMost; bound = Int (pos 3) } ∷ []) none in

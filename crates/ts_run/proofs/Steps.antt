@@ -5,7 +5,7 @@ use Rattle.std.specs.Result.{IsErrAnd}
 use Rattle.ts_model.specs.declared.error.ModelKind.{ModelKind}
 use Rattle.ts_model.specs.declared.model.Need.{Need}
 use Rattle.ts_model.specs.ModelReading.{model_reading}
-use Rattle.ts_model.specs.Stated.{Stated}
+use Rattle.ts_model.specs.ModelParts.{ModelParts}
 use Rattle.ts_run.specs.AnswerTexts.{OnModel, OnReading}
 use Rattle.ts_run.specs.Replies.{Gives, NoMore, StopsWith}
 use Rattle.ts_run.specs.Reply.{Reply, reply_of}
@@ -18,12 +18,13 @@ stops_on Is Js f (Refused r) h = (f (reply_of r) h.0, h.1)
 stops_on Is Js f Memory h = tt
 
 -- a refusal is a reply, whatever would have come next
-model_refusal : (reading : Result Stated (ℕ × ModelKind)) (next : Stated → Reply → Type 0) (r : Reply) → OnReading reading NoMore r → OnReading reading next r
+model_refusal : (reading : Result ModelParts (ℕ × ModelKind)) (next : ModelParts → Reply → Type 0) (r : Reply) → OnReading reading NoMore r →
+    OnReading reading next r
 model_refusal (Ok m) next r h = absurd h
 model_refusal (Err bad) next r h = h
 
 -- the model is refused
-pub model_fails : (need : Need) (text : List ℕ) (next : Stated → Reply → Type 0) (stop : Stop) (given : Result GivenReply Stop) →
+pub model_fails : (need : Need) (text : List ℕ) (next : ModelParts → Reply → Type 0) (stop : Stop) (given : Result GivenReply Stop) →
     StopsWith (OnReading (model_reading need text) NoMore) stop → IsErrAnd given (λ e. e ≡ stop) → Gives (OnModel need text next) given
 model_fails need text next stop (Ok r) h e = absurd e
 model_fails need text next stop (Err f) h e =
@@ -31,6 +32,6 @@ model_fails need text next stop (Err f) h e =
     (stops_on (OnReading (model_reading need text) NoMore) (OnModel need text next) (λ r k. model_refusal (model_reading need text) next r k) stop h)
 
 -- the model was read, and this is a reply to it
-pub model_replies : (need : Need) (text : List ℕ) (next : Stated → Reply → Type 0) (m : Stated) (r : Reply) →
+pub model_replies : (need : Need) (text : List ℕ) (next : ModelParts → Reply → Type 0) (m : ModelParts) (r : Reply) →
     model_reading need text ≡ Ok m → next m r → OnModel need text next r
-model_replies need text next m r read h = subst (λ (x : Result Stated (ℕ × ModelKind)). OnReading x next r) (sym read) h
+model_replies need text next m r read h = subst (λ (x : Result ModelParts (ℕ × ModelKind)). OnReading x next r) (sym read) h

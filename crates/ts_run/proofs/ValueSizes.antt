@@ -16,17 +16,17 @@ use Rattle.ts_pattern.specs.TermValue.{aggregate_of_ranges, value_of}
 use Rattle.ts_validate.proofs.Law.{closed_valid}
 use Rattle.ts_automaton.specs.declared.state.Mark.{Mark}
 use Rattle.ts_automaton.specs.declared.state.Mark.TheVariants.{Same, Zero, Cells}
-use Rattle.ts_automaton.specs.AutomatonRun.{AreCellValues, after_from, answer, marked}
+use Rattle.ts_automaton.specs.AutomatonRun.{AreCellValues, after_from, answer, under_mark}
 use Rattle.ts_seed.specs.SeedTable.{seed_table, table_of}
 use Rattle.ts_seed.proofs.Closed.{rows_closed}
-use Rattle.ts_decorate.specs.Decoration.{decorated, mark_of}
+use Rattle.ts_decorate.specs.Decoration.{decorated_body, mark_of}
 use Rattle.ts_decorate.proofs.CallerLemmas.{answers_ranges, total_exact}
 use Rattle.ts_decorate.proofs.Exact.{exact, held_at_limit}
 use Rattle.ts_decorate.proofs.Runs.{table_start, total_of}
 use Rattle.ts_decorate.proofs.Sizes.{limit, size_of}
 use Rattle.ts_domain.specs.BoxSeries.{InBox, IsBox}
 use Rattle.ts_domain.proofs.Sets.{each_contains}
-use Rattle.ts_model.specs.Stated.{Stated}
+use Rattle.ts_model.specs.ModelParts.{ModelParts}
 use Rattle.ts_compile.proofs.Tables.{table_fits}
 use Rattle.ts_certificate.specs.Ranges.{is_ext}
 use Rattle.ts_filter.specs.Accepts.{objective_of, value_of_term}
@@ -35,7 +35,7 @@ use Rattle.ts_filter.specs.Accepts.{objective_of, value_of_term}
 abbrev most_size : ℕ
 most_size = 100000000000000512
 
-mark_size : (m : Mark) (n : ℕ) (v : Ext) → size_of (marked m n v) ≤ size_of v + n
+mark_size : (m : Mark) (n : ℕ) (v : Ext) → size_of (under_mark m n v) ≤ size_of v + n
 mark_size Same n v = omega arith
 mark_size Zero n NegInf = omega arith
 mark_size Zero n (Int x) = omega arith
@@ -48,16 +48,16 @@ within_size : (s t n : ℕ) → s ≤ t + n → t ≤ limit → n ≤ 512 → s 
 within_size s t n h k l = omega (arith, h, k, l)
 
 module _ (rows : List Row) (typed : is_typed rows ≡ true) (few : length rows ≤ 8) (a : ℕ) (g : Aggregator) (f : Feature) where
-  answer_small : (xs : List ℤ) → 1 ≤ length xs → length xs ≤ 512 → AreCellValues xs → size_of (answer (decorated rows a g f) xs) ≤ most_size
+  answer_small : (xs : List ℤ) → 1 ≤ length xs → length xs ≤ 512 → AreCellValues xs → size_of (answer (decorated_body rows a g f) xs) ≤ most_size
   answer_small [] some short h = absurd (omega (arith, some))
   answer_small (x ∷ ys) some short h =
-      let total = total_of (held_at_limit g f) (after_from (decorated rows a g f) (table_start (exact g f)) x ys).regs in
+      let total = total_of (held_at_limit g f) (after_from (decorated_body rows a g f) (table_start (exact g f)) x ys).regs in
       within_size _ (size_of total) (length (x ∷ ys)) (mark_size (mark_of g f) (length (x ∷ ys)) total)
       (total_exact rows typed few a g f x ys (omega (arith, short)) h.0 h.1).1 short
 
 -- the automaton of a pattern by the rows of its seed answers the value of the term
 pub answers : (id : PatternId) (g : Aggregator) (f : Feature) (xs : List ℤ) → 1 ≤ length xs → length xs ≤ 512 → AreCellValues xs →
-    answer (decorated (seed_table id).rows (pattern_a id) g f) xs ≡ value_of g f id xs
+    answer (decorated_body (seed_table id).rows (pattern_a id) g f) xs ≡ value_of g f id xs
 unfolding value_of
 answers id g f xs some short cells =
     let fits = table_fits id in
@@ -93,12 +93,13 @@ cells_within [] (d ∷ b) h i = absurd h
 cells_within (v ∷ x) [] h i = absurd h
 cells_within (v ∷ x) (d ∷ b) h i = (each_contains IsCellValue d v i.0.within h.0, cells_within x b h.1 i.1)
 
-by_place : (m : Stated) (x : List ℤ) (v : Ext) (o : Option ℕ) → 1 ≤ length x → length x ≤ 512 → AreCellValues x → value_of_term m x o ≡ Some v → is_ext v ≡ true
+by_place : (m : ModelParts) (x : List ℤ) (v : Ext) (o : Option ℕ) → 1 ≤ length x → length x ≤ 512 → AreCellValues x → value_of_term m x o ≡ Some v →
+    is_ext v ≡ true
 by_place m x v None some short cells e = absurd (let g : ◌≡◌ {A = Option Ext} None (Some v) = e in cc)
 by_place m x v (Some term) some short cells e =
     ext_fits v (at_place (λ t. value_of t.1.aggregator t.1.feature t.1.pattern x) (λ t. value_small t.1.pattern t.1.aggregator t.1.feature x some short cells)
     m.terms term v e)
 
 -- the number of the objective is written within 64 bits
-pub objective_fits : (m : Stated) (x : List ℤ) (v : Ext) → 1 ≤ length x → length x ≤ 512 → AreCellValues x → objective_of m x ≡ Some v → is_ext v ≡ true
+pub objective_fits : (m : ModelParts) (x : List ℤ) (v : Ext) → 1 ≤ length x → length x ≤ 512 → AreCellValues x → objective_of m x ≡ Some v → is_ext v ≡ true
 objective_fits m x v some short cells e = by_place m x v m.objective some short cells e

@@ -6,7 +6,7 @@ use Rattle.ts_certificate.specs.Certificate.{Cert}
 use Rattle.ts_model.specs.declared.error.ModelKind.{ModelKind}
 use Rattle.ts_model.specs.declared.model.Need.TheVariants.{List as Listed}
 use Rattle.ts_model.specs.ModelReading.{model_reading}
-use Rattle.ts_model.specs.Stated.{Stated}
+use Rattle.ts_model.specs.ModelParts.{ModelParts}
 use Rattle.ts_filter.specs.Accepts.{Accepts}
 use Rattle.ts_filter.specs.Holds.{Holds}
 use Rattle.ts_checker.specs.declared.verdict.Verdict.{Verdict}
@@ -35,7 +35,7 @@ few_lines bytes few =
 
 -- there is one reply
 
-one_verified : (texts : List (List ℕ)) → length texts < 2 ^ 62 → (m : Stated) (r s : Reply) → IsVerified texts m r → IsVerified texts m s → r ≡ s
+one_verified : (texts : List (List ℕ)) → length texts < 2 ^ 62 → (m : ModelParts) (r s : Reply) → IsVerified texts m r → IsVerified texts m s → r ≡ s
 one_verified texts few m r s h k = h.reply ∙ ap verdict_reply (one_verdict m texts h.verdict k.verdict few h.shown.is k.shown.is) ∙ sym k.reply
 
 pub one_verify_reply : OneVerifyReply
@@ -53,9 +53,9 @@ done_accepted (RefusedAt n) r is e = let wrong : Refused ≡ Done = sym (ap (λ 
 accepted_done : (v : Verdict) (r : Reply) → r ≡ verdict_reply v → v ≡ Accepted → r.status ≡ Done
 accepted_done v r is e = ap (λ (x : Reply). x.status) (is ∙ ap verdict_reply e)
 
-verified_given : (bytes : List ℕ) (m : Stated) (c : Cert) (r : Reply) → IsOffered bytes m c → VerifyReply bytes r → IsVerified (certificate_lines bytes) m r
+verified_given : (bytes : List ℕ) (m : ModelParts) (c : Cert) (r : Reply) → IsOffered bytes m c → VerifyReply bytes r → IsVerified (certificate_lines bytes) m r
 verified_given bytes m c r offered h =
-    subst (λ (x : Result Stated (ℕ × ModelKind)). OnReading x (IsVerified (certificate_lines bytes)) r) offered.model h
+    subst (λ (x : Result ModelParts (ℕ × ModelKind)). OnReading x (IsVerified (certificate_lines bytes)) r) offered.model h
 
 pub done_is_accepted : DoneIsAccepted
 done_is_accepted bytes m c r few offered h =
@@ -68,7 +68,7 @@ done_is_accepted bytes m c r few offered h =
     )
 
 -- of an accepted certificate there is one reply
-pub accepted_reply : (bytes : List ℕ) (m : Stated) (c : Cert) (r : Reply) → length bytes < 2 ^ 62 → IsOffered bytes m c → Accepts m (spans_in m) c →
+pub accepted_reply : (bytes : List ℕ) (m : ModelParts) (c : Cert) (r : Reply) → length bytes < 2 ^ 62 → IsOffered bytes m c → Accepts m (spans_in m) c →
     VerifyReply bytes r → r ≡ verdict_reply Accepted
 accepted_reply bytes m c r few offered accepts h =
     let texts = certificate_lines bytes in
@@ -77,12 +77,12 @@ accepted_reply bytes m c r few offered accepts h =
 
 -- what a call tells
 
-record IsDone (reading : Result Stated (ℕ × ModelKind)) (texts : List (List ℕ)) (r : Reply) : Type 0 where
-  model : Stated
+record IsDone (reading : Result ModelParts (ℕ × ModelKind)) (texts : List (List ℕ)) (r : Reply) : Type 0 where
+  model : ModelParts
   states : reading ≡ Ok model
   verified : IsVerified texts model r
 
-done_reading : (reading : Result Stated (ℕ × ModelKind)) (texts : List (List ℕ)) (r : Reply) → OnReading reading (IsVerified texts) r → r.status ≡ Done →
+done_reading : (reading : Result ModelParts (ℕ × ModelKind)) (texts : List (List ℕ)) (r : Reply) → OnReading reading (IsVerified texts) r → r.status ≡ Done →
     IsDone reading texts r
 done_reading (Ok m) texts r h e = record { model = m; states = refl; verified = h }
 done_reading (Err bad) texts r h e = let refused = sym e ∙ ap (λ (x : Reply). x.status) h in cc
@@ -114,7 +114,7 @@ verify_tells bytes faults faults_now before after status h = (done, exact)
         let most = p.1 in
         shown_by bytes p.0 (omega (arith, most)) p.2 p.3.1
 
-    exact : (m : Stated) (c : Cert) → length bytes ≤ 135266304 → IsOffered bytes m c → EndsWritten status → (status ≡ ReadFault → ⊥) →
+    exact : (m : ModelParts) (c : Cert) → length bytes ≤ 135266304 → IsOffered bytes m c → EndsWritten status → (status ≡ ReadFault → ⊥) →
         (status ≡ Done) ↔ Accepts m (spans_in m) c
     exact m c small offered written calm =
         let t = taken_reply Verify 135266304 bytes faults faults_now before after status written calm small h in

@@ -5,7 +5,7 @@ use Rattle.ts_base.specs.Words.{strict_lines}
 use Rattle.ts_certificate.specs.Reading.{Reading}
 use Rattle.ts_model.specs.declared.error.ModelKind.{ModelKind}
 use Rattle.ts_model.specs.declared.model.Need.TheVariants.{List as Listed}
-use Rattle.ts_model.specs.Stated.{Stated}
+use Rattle.ts_model.specs.ModelParts.{ModelParts}
 use Rattle.ts_checker.specs.declared.verify_end.VerifyEnd.{VerifyEnd}
 use Rattle.ts_checker.specs.declared.verify_end.VerifyEnd.TheVariants.{Model, Verdict as Judged}
 use Rattle.ts_checker.specs.Checking.{Checking, HasChecked, Checks}
@@ -22,7 +22,7 @@ use Rattle.ts_run.proofs.Steps.{model_replies}
 -- how an input ends, in words
 pub end_given : (bytes : List ℕ) (end : VerifyEnd) (r : Reply) → IsVerifyEnd bytes end → r ≡ end_reply end → VerifyReply bytes r
 end_given bytes (Model line kind) r h is =
-    subst (λ (x : Result Stated (ℕ × ModelKind)). OnReading x (IsVerified (certificate_lines bytes)) r) (sym h) is
+    subst (λ (x : Result ModelParts (ℕ × ModelKind)). OnReading x (IsVerified (certificate_lines bytes)) r) (sym h) is
 end_given bytes (Judged v) r h is =
     model_replies Listed (model_part bytes) (IsVerified (certificate_lines bytes)) h.model r h.states (record { verdict = v; shown = h.shown; reply = is })
 
@@ -40,7 +40,7 @@ end_told command v end (Ok r) is ends reply = λ bytes fed.
 end_told command v end (Err e) is ends reply = tt
 
 -- the lines that were fed, and those that are left
-pub record IsFed (text rest : List ℕ) (m : Stated) (c : Checking) : Type 0 where
+pub record IsFed (text rest : List ℕ) (m : ModelParts) (c : Checking) : Type 0 where
   pub done : List (List ℕ)
   pub lines : done ++ strict_lines rest ≡ strict_lines text
   pub checked : HasChecked done c
@@ -48,7 +48,7 @@ pub record IsFed (text rest : List ℕ) (m : Stated) (c : Checking) : Type 0 whe
   pub few : c.reading.next + length rest ≤ 1 + length text
 
 -- one more is fed
-pub fed_more : (text rest line left : List ℕ) (m : Stated) (old new : Checking) → IsFed text rest m old → strict_lines rest ≡ line ∷ strict_lines left →
+pub fed_more : (text rest line left : List ℕ) (m : ModelParts) (old new : Checking) → IsFed text rest m old → strict_lines rest ≡ line ∷ strict_lines left →
     rest ≡ line ++ left → 0 < length line → Checks old line new → new.model ≡ old.model → new.reading.next ≤ old.reading.next + 1 → IsFed text left m new
 fed_more text rest line left m old new f cut parts some checks same next = record {
   done = f.done ++ line ∷ [];
@@ -66,12 +66,12 @@ none_left [] e = refl
 none_left (b ∷ bs) e = absurd (omega (arith, e))
 
 -- all are fed
-pub fed_all : (text rest : List ℕ) (m : Stated) (c : Checking) → IsFed text rest m c → length rest ≡ 0 → HasChecked (strict_lines text) c
+pub fed_all : (text rest : List ℕ) (m : ModelParts) (c : Checking) → IsFed text rest m c → length rest ≡ 0 → HasChecked (strict_lines text) c
 fed_all text rest m c f none =
     let left = none_left rest none in
     subst (λ ts. HasChecked ts c) (sym (append-nil f.done) ∙ ap (λ (z : List ℕ). f.done ++ strict_lines z) (sym left) ∙ f.lines) f.checked
 
-pub none_fed : (text : List ℕ) (m : Stated) (c : Checking) → HasChecked [] c → c.model ≡ m → IsFed text text m c
+pub none_fed : (text : List ℕ) (m : ModelParts) (c : Checking) → HasChecked [] c → c.model ≡ m → IsFed text text m c
 none_fed text m c h same = record {
   done = [];
   lines = refl;

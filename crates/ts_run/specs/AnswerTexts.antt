@@ -13,7 +13,7 @@ use Rattle.ts_base.specs.declared.goal.Goal.{Goal}
 use Rattle.ts_model.specs.Meets.{Meets}
 use Rattle.ts_model.specs.ModelReading.{model_reading}
 use Rattle.ts_model.specs.Series.{series_reading}
-use Rattle.ts_model.specs.Stated.{Stated}
+use Rattle.ts_model.specs.ModelParts.{ModelParts}
 use Rattle.ts_filter.specs.Accepts.{Accepts}
 use Rattle.ts_spans.specs.Machines.{spans_in}
 use Rattle.ts_checker.specs.declared.verify_end.VerifyEnd.{VerifyEnd}
@@ -67,12 +67,12 @@ abbrev pub refused_series : List ℕ → Reply
 refused_series word = record { text = line (codes "refused series " ++ word); status = Refused }
 
 -- a text that was read so is refused, or the reply is one to the model that it states
-abbrev pub OnReading : Result Stated (ℕ × ModelKind) → (Stated → Reply → Type 0) → Reply → Type 0
+abbrev pub OnReading : Result ModelParts (ℕ × ModelKind) → (ModelParts → Reply → Type 0) → Reply → Type 0
 OnReading (Err bad) next r = r ≡ refused_model bad.0 bad.1
 OnReading (Ok m) next r = next m r
 
 -- the refusal of the model in the text, in the limits of the need, or on with it
-abbrev pub OnModel : Need → List ℕ → (Stated → Reply → Type 0) → Reply → Type 0
+abbrev pub OnModel : Need → List ℕ → (ModelParts → Reply → Type 0) → Reply → Type 0
 OnModel need text next r = OnReading (model_reading need text) next r
 
 -- the refusal of a series, or on with it; no reading is want of memory
@@ -84,11 +84,11 @@ OnSeries (Err Length) next r = r ≡ refused_series (codes "length")
 OnSeries (Err NoMemory) next r = ⊥
 
 -- the series in a text, as many numbers as the model has cells
-abbrev pub series_in : Stated → List ℕ → Result (List ℤ) SeriesStop
+abbrev pub series_in : ModelParts → List ℕ → Result (List ℤ) SeriesStop
 series_in m text = series_reading (length m.cells) (cut_of text)
 
 -- the refusal of the series in the text, or the verdict on it
-abbrev pub SeriesReply : List ℕ → Stated → Reply → Type 0
+abbrev pub SeriesReply : List ℕ → ModelParts → Reply → Type 0
 SeriesReply text m r = OnSeries (series_in m text) (λ xs s. s ≡ verdict m xs) r
 
 -- what `check` replies: the refusal of the model, that of the series, or the verdict
@@ -96,7 +96,7 @@ abbrev pub CheckReply : List ℕ → Reply → Type 0
 CheckReply bytes r = OnModel Values (model_part bytes) (SeriesReply (rest_part bytes)) r
 
 -- the program text of what is stated
-abbrev pub ProgramReply : Stated → Reply → Type 0
+abbrev pub ProgramReply : ModelParts → Reply → Type 0
 ProgramReply m r = IsProgramText m r.text × (r.status ≡ Done)
 
 -- what `compile` replies: the refusal of the model, or its program text
@@ -130,7 +130,7 @@ IsReply (Generate count lines) bytes r = ListReply count lines bytes r
 IsReply (Sample cells) bytes r = SampleReply cells r
 
 -- an input of `check` states this model and this series
-pub record IsAsked (bytes : List ℕ) (m : Stated) (xs : List ℤ) : Type 0 where
+pub record IsAsked (bytes : List ℕ) (m : ModelParts) (xs : List ℤ) : Type 0 where
   pub model : model_reading Values (model_part bytes) ≡ Ok m
   pub series : series_in m (rest_part bytes) ≡ Ok xs
 
@@ -145,11 +145,11 @@ OneCompileReply = (bytes : List ℕ) (r s : Reply) → CompileReply bytes r → 
 -- the status of `check` is `Done` exactly where the series meets the model
 abbrev pub DoneIsMeets : Type 0
 DoneIsMeets =
-    (bytes : List ℕ) (m : Stated) (xs : List ℤ) (r : Reply) → IsAsked bytes m xs → CheckReply bytes r →
+    (bytes : List ℕ) (m : ModelParts) (xs : List ℤ) (r : Reply) → IsAsked bytes m xs → CheckReply bytes r →
     (r.status ≡ Done) ↔ Meets m xs
 
 -- an input of `verify` states this model and has this certificate
-pub record IsOffered (bytes : List ℕ) (m : Stated) (c : Cert) : Type 0 where
+pub record IsOffered (bytes : List ℕ) (m : ModelParts) (c : Cert) : Type 0 where
   pub model : model_reading NeedsList (model_part bytes) ≡ Ok m
   pub certificate : AreOf (certificate_lines bytes) c
 
@@ -161,7 +161,7 @@ OneVerifyReply =
 -- the status of `verify` is `Done` exactly where the certificate is accepted
 abbrev pub DoneIsAccepted : Type 0
 DoneIsAccepted =
-    (bytes : List ℕ) (m : Stated) (c : Cert) (r : Reply) → length bytes < 2 ^ 62 → IsOffered bytes m c →
+    (bytes : List ℕ) (m : ModelParts) (c : Cert) (r : Reply) → length bytes < 2 ^ 62 → IsOffered bytes m c →
     VerifyReply bytes r → (r.status ≡ Done) ↔ Accepts m (spans_in m) c
 
 -- `maximise` and `minimise` have one reply to an input, and so has `generate`

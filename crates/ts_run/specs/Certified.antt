@@ -7,10 +7,10 @@ use Rattle.ts_certificate.specs.declared.certificate.Claim.TheVariants.{Full, Al
 use Rattle.ts_certificate.specs.Certificate.{Cert, certificate_text}
 use Rattle.ts_model.specs.declared.model.Need.TheVariants.{Best as NeedsBest, List as NeedsList}
 use Rattle.ts_model.specs.Promise.{IsWhole, KeepsLimits}
-use Rattle.ts_model.specs.Stated.{Stated}
+use Rattle.ts_model.specs.ModelParts.{ModelParts}
 use Rattle.ts_spans.specs.Machines.{spans_in}
-use Rattle.ts_search.specs.Listed.{Listed}
-use Rattle.ts_search.specs.Solved.{Solved}
+use Rattle.ts_search.specs.Listed.{IsListAnswer}
+use Rattle.ts_search.specs.Solved.{IsSolution}
 use Rattle.ts_run.specs.Quantities.{IsWithin, most_lines, most_series}
 use Rattle.ts_run.specs.Reply.{Reply}
 use Rattle.ts_run.specs.declared.status.Status.{Status}
@@ -32,20 +32,20 @@ pub record IsWritten (c : Cert) (r : Reply) : Type 0 where
   pub status : r.status ≡ claim_status c.claim
 
 -- the reply to a model: the certificate is solved by at most so many lines
-pub record IsBest (goal : Goal) (budget : ℕ) (m : Stated) (r : Reply) : Type 0 where
+pub record IsBest (goal : Goal) (budget : ℕ) (m : ModelParts) (r : Reply) : Type 0 where
   pub whole : IsWhole m
   pub limits : KeepsLimits NeedsBest m
   pub lines : IsWithin 1 most_lines budget
   pub certificate : Cert
-  pub solved : Solved m (spans_in m) goal budget certificate
+  pub solved : IsSolution m (spans_in m) goal budget certificate
   pub written : IsWritten certificate r
 
 -- the same of a listing of up to so many series
-pub record IsListing (count budget : ℕ) (m : Stated) (r : Reply) : Type 0 where
+pub record IsListing (count budget : ℕ) (m : ModelParts) (r : Reply) : Type 0 where
   pub whole : IsWhole m
   pub limits : KeepsLimits NeedsList m
   pub asked : IsWithin 1 most_series count
   pub lines : IsWithin 1 most_lines budget
   pub certificate : Cert
-  pub listed : Listed m (spans_in m) count budget certificate
+  pub listed : IsListAnswer m (spans_in m) count budget certificate
   pub written : IsWritten certificate r

@@ -15,9 +15,9 @@ abbrev pub words_in : List (String Global) → List (List ℕ)
 words_in words = map string_bytes words
 
 -- a command without further words
-abbrev pub alone : Command → List (List ℕ) → Option Command
-alone command [] = Some command
-alone command (word ∷ words) = None
+abbrev pub if_alone : Command → List (List ℕ) → Option Command
+if_alone command [] = Some command
+if_alone command (word ∷ words) = None
 
 -- the budget that these words give: `--budget` and a number, or nothing
 abbrev pub budget_of : List (List ℕ) → Option ℕ
@@ -45,12 +45,12 @@ sample_of (number ∷ other ∷ words) = None
 abbrev pub command_of : List (List ℕ) → Option Command
 command_of [] = None
 command_of (word ∷ words) =
-    if bytes_eq word (codes "check") then alone Check words
-    else (if bytes_eq word (codes "compile") then alone Compile words
+    if bytes_eq word (codes "check") then if_alone Check words
+    else (if bytes_eq word (codes "compile") then if_alone Compile words
     else (if bytes_eq word (codes "maximise") then option_map (λ lines. Best Maximise lines) (budget_of words)
     else (if bytes_eq word (codes "minimise") then option_map (λ lines. Best Minimise lines) (budget_of words)
     else (if bytes_eq word (codes "generate") then generate_of words
-    else (if bytes_eq word (codes "verify") then alone Verify words
+    else (if bytes_eq word (codes "verify") then if_alone Verify words
     else (if bytes_eq word (codes "sample") then sample_of words
     else None))))))
 

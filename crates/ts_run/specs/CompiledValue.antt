@@ -16,13 +16,13 @@ use Rattle.ts_automaton.specs.Body.{Body}
 use Rattle.ts_automaton.specs.TextReading.{Reads}
 use Rattle.ts_glue.specs.Glued.{Glued}
 use Rattle.ts_glue.specs.Pairs.{Table, Pair, pair}
-use Rattle.ts_model.specs.Stated.{Stated}
+use Rattle.ts_model.specs.ModelParts.{ModelParts}
 use Rattle.ts_model.specs.Views.{term_of}
 use Rattle.ts_compile.specs.Compiled.{AnswersTerm}
 use Rattle.ts_compile.specs.ProgramText.{glue_text, program_text, term_words}
 
 -- the text is the program text of the terms that are stated
-pub record IsProgramText (m : Stated) (text : List ℕ) : Type 0 where
+pub record IsProgramText (m : ModelParts) (text : List ℕ) : Type 0 where
   pub terms : List (String Global × Term)
   pub terms_are : map term_of terms ≡ m.terms
   pub text_is : text ≡ program_text terms
@@ -66,6 +66,6 @@ HasParts (t ∷ ts) text =
     (part rest : List ℕ) × (text ≡ part ++ rest) × IsPart (string_bytes t.0) t.1 part × HasParts ts rest
 
 -- the text is the program text of what is stated, and has a part for each term
-pub record IsCompiled (m : Stated) (text : List ℕ) : Type 0 where
+pub record IsCompiled (m : ModelParts) (text : List ℕ) : Type 0 where
   pub program : IsProgramText m text
   pub parts : HasParts program.terms text

@@ -5,7 +5,7 @@ use Rattle.ts_certificate.specs.Certificate.{Cert, certificate_text}
 use Rattle.ts_model.specs.declared.model.Need.TheVariants.{Values, List as NeedsList, Best as NeedsBest}
 use Rattle.ts_model.specs.Meets.{Meets}
 use Rattle.ts_model.specs.ModelReading.{model_reading}
-use Rattle.ts_model.specs.Stated.{Stated}
+use Rattle.ts_model.specs.ModelParts.{ModelParts}
 use Rattle.ts_filter.specs.Accepts.{Accepts}
 use Rattle.ts_filter.specs.Holds.{Holds}
 use Rattle.ts_spans.specs.Machines.{spans_in}
@@ -15,8 +15,8 @@ use Rattle.ts_run.specs.AnswerTexts.{IsAsked, IsOffered, IsReply, fault_read, re
 use Rattle.ts_base.specs.declared.goal.Goal.{Goal}
 use Rattle.ts_certificate.specs.Laws.{most_model_bytes, most_verify_bytes}
 use Rattle.ts_domain.specs.BoxSeries.{series_count}
-use Rattle.ts_search.specs.Listed.{Listed}
-use Rattle.ts_search.specs.Solved.{Solved}
+use Rattle.ts_search.specs.Listed.{IsListAnswer}
+use Rattle.ts_search.specs.Solved.{IsSolution}
 use Rattle.ts_run.specs.Certified.{claim_status}
 use Rattle.ts_run.specs.Commands.{input_of}
 use Rattle.ts_run.specs.CompiledValue.{IsCompiled}
@@ -103,14 +103,14 @@ CallSpares (Some command) old new = InputSpares (input_of command) old new
 -- `meets` and `fails` are told of a series exactly where it meets the model and where it doesn't
 abbrev pub TellsMeets : List ℕ → Status → Type 0
 TellsMeets bytes status =
-    (m : Stated) (xs : List ℤ) → IsAsked bytes m xs →
+    (m : ModelParts) (xs : List ℤ) → IsAsked bytes m xs →
     (status ≡ Done → Meets m xs) × (status ≡ No → Meets m xs → ⊥)
     × (length bytes ≤ 2097152 → EndsWritten status → (status ≡ ReadFault → ⊥) → Meets m xs → status ≡ Done)
 
 -- a program was written: the bytes state a model, and what was taken is its program, whose automata answer the values
 -- of the terms, and are glued to them at every cell where the pattern has a partner
 pub record TookProgram (bytes : List ℕ) (before after : Option (List ℕ)) : Type 0 where
-  pub model : Stated
+  pub model : ModelParts
   pub states : model_reading Values bytes ≡ Ok model
   pub text : List ℕ
   pub taken : after ≡ taken_more before text
@@ -119,7 +119,7 @@ pub record TookProgram (bytes : List ℕ) (before after : Option (List ℕ)) : T
 -- `accepted` was written: the bytes state a model and a certificate, which is accepted, and what it claims is true of
 -- the model
 pub record IsShown (bytes : List ℕ) : Type 0 where
-  pub model : Stated
+  pub model : ModelParts
   pub states : model_reading NeedsList (model_part bytes) ≡ Ok model
   pub certificate : Cert
   pub lines : AreOf (certificate_lines bytes) certificate
@@ -130,7 +130,7 @@ pub record IsShown (bytes : List ℕ) : Type 0 where
 abbrev pub TellsVerdict : List ℕ → Status → Type 0
 TellsVerdict bytes status =
     (status ≡ Done → IsShown bytes)
-    × ((m : Stated) (c : Cert) → length bytes ≤ most_verify_bytes → IsOffered bytes m c → EndsWritten status →
+    × ((m : ModelParts) (c : Cert) → length bytes ≤ most_verify_bytes → IsOffered bytes m c → EndsWritten status →
     (status ≡ ReadFault → ⊥) → (status ≡ Done) ↔ Accepts m (spans_in m) c)
 
 -- The headline: for every model text in the grammar and its limits and every line budget, apart from want of memory and
@@ -138,10 +138,10 @@ TellsVerdict bytes status =
 -- pattern definition, or that none exists, or Budget after just that many lines, each with a branch tree that `verify`
 -- accepts; and what `verify` accepts is true (`TellsVerdict`). Of a model with S series, Budget never comes where there
 -- are 2·S - 1 lines.
-pub record TookBest (goal : Goal) (lines : ℕ) (m : Stated) (bytes : List ℕ)
+pub record TookBest (goal : Goal) (lines : ℕ) (m : ModelParts) (bytes : List ℕ)
     (before after : Option (List ℕ)) (status : Status) : Type 0 where
   pub certificate : Cert
-  pub solved : Solved m (spans_in m) goal lines certificate
+  pub solved : IsSolution m (spans_in m) goal lines certificate
   pub taken : after ≡ taken_more before (certificate_text certificate)
   pub status_is : status ≡ claim_status certificate.claim
   pub enough : 2 * series_count m.cells ≤ lines + 1 → status ≡ Budget → ⊥
@@ -149,14 +149,14 @@ pub record TookBest (goal : Goal) (lines : ℕ) (m : Stated) (bytes : List ℕ)
 
 abbrev pub TellsBest : Goal → ℕ → List ℕ → Option (List ℕ) → Option (List ℕ) → Status → Type 0
 TellsBest goal lines bytes before after status =
-    (m : Stated) → length bytes ≤ most_model_bytes → model_reading NeedsBest bytes ≡ Ok m →
+    (m : ModelParts) → length bytes ≤ most_model_bytes → model_reading NeedsBest bytes ≡ Ok m →
     EndsWritten status → (status ≡ ReadFault → ⊥) → TookBest goal lines m bytes before after status
 
 -- the same of a listing: the first series that meet, in order
-pub record TookList (count lines : ℕ) (m : Stated) (bytes : List ℕ)
+pub record TookList (count lines : ℕ) (m : ModelParts) (bytes : List ℕ)
     (before after : Option (List ℕ)) (status : Status) : Type 0 where
   pub certificate : Cert
-  pub listed : Listed m (spans_in m) count lines certificate
+  pub listed : IsListAnswer m (spans_in m) count lines certificate
   pub taken : after ≡ taken_more before (certificate_text certificate)
   pub status_is : status ≡ claim_status certificate.claim
   pub enough : 2 * series_count m.cells ≤ lines + 1 → status ≡ Budget → ⊥
@@ -164,7 +164,7 @@ pub record TookList (count lines : ℕ) (m : Stated) (bytes : List ℕ)
 
 abbrev pub TellsList : ℕ → ℕ → List ℕ → Option (List ℕ) → Option (List ℕ) → Status → Type 0
 TellsList count lines bytes before after status =
-    (m : Stated) → length bytes ≤ most_model_bytes → model_reading NeedsList bytes ≡ Ok m →
+    (m : ModelParts) → length bytes ≤ most_model_bytes → model_reading NeedsList bytes ≡ Ok m →
     EndsWritten status → (status ≡ ReadFault → ⊥) → TookList count lines m bytes before after status
 
 -- what a command tells of its subject beyond the reply

@@ -3,8 +3,8 @@ use Rattle.std.specs.Prelude.{ℕ, ◌≡◌, ℤ, List, Result, Ok, Err}
 use Rattle.ts_model.specs.declared.error.ModelKind.{ModelKind}
 use Rattle.ts_model.specs.declared.error.SeriesStop.{SeriesStop}
 use Rattle.ts_model.specs.declared.model.Model.{Model}
-use Rattle.ts_model.specs.Stated.{Stated}
-use Rattle.ts_model.specs.Views.{stated}
+use Rattle.ts_model.specs.ModelParts.{ModelParts}
+use Rattle.ts_model.specs.Views.{model_parts}
 use Rattle.ts_run.specs.AnswerTexts.{OnReading, OnSeries}
 use Rattle.ts_run.specs.Reply.{ComesOfInput, Reply, reply_of}
 use Rattle.ts_run.specs.declared.reply.Reply.{Reply as GivenReply}
@@ -26,8 +26,8 @@ abbrev pub NoMore : {A : Type 0} → A → Reply → Type 0
 NoMore x r = ⊥
 
 -- the model of a text that was read so, or its refusal
-abbrev pub GivesModel : Result Stated (ℕ × ModelKind) → Result Model Stop → Type 0
-GivesModel reading (Ok m) = reading ≡ Ok (stated m)
+abbrev pub GivesModel : Result ModelParts (ℕ × ModelKind) → Result Model Stop → Type 0
+GivesModel reading (Ok m) = reading ≡ Ok (model_parts m)
 GivesModel reading (Err stop) = StopsWith (OnReading reading NoMore) stop
 
 -- the series of a text that was read so, or its refusal

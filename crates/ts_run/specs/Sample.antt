@@ -12,7 +12,7 @@ use Rattle.ts_certificate.specs.declared.certificate.Claim.TheVariants.{Full, Al
 use Rattle.ts_certificate.specs.declared.certificate.TreeLine.{TreeLine}
 use Rattle.ts_certificate.specs.Certificate.{Cert, checked_count}
 use Rattle.ts_spans.specs.Machines.{spans_in}
-use Rattle.ts_search.specs.Solved.{Solved}
+use Rattle.ts_search.specs.Solved.{IsSolution}
 use Rattle.ts_run.specs.Quantities.{IsWithin, usual_lines}
 use Rattle.ts_run.specs.Reply.{Reply}
 use Rattle.ts_run.specs.SampleModel.{sample_stated}
@@ -54,7 +54,7 @@ IsTold n (BudgetList count) series tree r = ⊥
 pub record SampleReply (n : ℕ) (r : Reply) : Type 0 where
   pub asked : IsWithin 1 most_cells n
   pub certificate : Cert
-  pub solved : Solved (sample_stated n) (spans_in (sample_stated n)) Minimise usual_lines certificate
+  pub solved : IsSolution (sample_stated n) (spans_in (sample_stated n)) Minimise usual_lines certificate
   pub told : IsTold n certificate.claim certificate.series certificate.tree r
 
 -- `sample N` has one reply: the tree leaves no line to choose

@@ -5,7 +5,7 @@ use Rattle.ts_pattern.specs.declared.name.Aggregator.TheVariants.{Sum, Max}
 use Rattle.ts_pattern.specs.declared.name.Feature.TheVariants.{One, Width}
 use Rattle.ts_pattern.specs.declared.name.PatternId.TheVariants.{Peak}
 use Rattle.ts_model.specs.declared.model.Op.TheVariants.{AtMost}
-use Rattle.ts_model.specs.Stated.{Stated}
+use Rattle.ts_model.specs.ModelParts.{ModelParts}
 
 -- the least value of cell k
 abbrev pub least_of : ℕ → ℕ
@@ -20,7 +20,7 @@ cells_from k zero = []
 cells_from k (suc n) = six_from (least_of k) ∷ cells_from (k + 1) n
 
 -- `c = count peak`, `w = max width peak`, `w <= 3`, and the objective `c`
-abbrev pub sample_stated : ℕ → Stated
+abbrev pub sample_stated : ℕ → ModelParts
 sample_stated n = record {
   cells = cells_from 1 n;
   terms = (codes "c", record { aggregator = Sum; feature = One; pattern = Peak })

@@ -7,7 +7,7 @@ use Rattle.ts_base.specs.declared.ext.Ext.{Ext}
 use Rattle.ts_base.specs.Text.{ext_text}
 use Rattle.ts_model.specs.Judgement.{all_hold, holdings, insides}
 use Rattle.ts_model.specs.Meets.{values_on}
-use Rattle.ts_model.specs.Stated.{Stated}
+use Rattle.ts_model.specs.ModelParts.{ModelParts}
 use Rattle.ts_run.specs.Reply.{Reply}
 use Rattle.ts_run.specs.declared.status.Status.TheVariants.{Done, No}
 
@@ -32,7 +32,7 @@ value_lines [] = []
 value_lines (v ∷ vs) = value_line v.0 v.1 ++ value_lines vs
 
 -- the names of the terms
-abbrev pub names_of : Stated → List (List ℕ)
+abbrev pub names_of : ModelParts → List (List ℕ)
 names_of m = map (λ t. t.0) m.terms
 
 -- whether all holds, and then what lies outside, what is broken and the values
@@ -51,6 +51,6 @@ verdict_of inside holding values = record {
 }
 
 -- the verdict on a series
-abbrev pub verdict : Stated → List ℤ → Reply
+abbrev pub verdict : ModelParts → List ℤ → Reply
 verdict m xs =
     verdict_of (insides m.cells xs) (holdings (values_on m xs) m.requirements) (zip (names_of m) (values_on m xs))

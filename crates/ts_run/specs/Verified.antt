@@ -1,7 +1,7 @@
 -- What `verify` says of a certificate: the verdict on its lines, in words.
 use Rattle.std.specs.Prelude.{ℕ, ◌≡◌, List, ◌++◌, codes}
 use Rattle.std.specs.Fmt.{decimal}
-use Rattle.ts_model.specs.Stated.{Stated}
+use Rattle.ts_model.specs.ModelParts.{ModelParts}
 use Rattle.ts_checker.specs.declared.verdict.Verdict.{Verdict}
 use Rattle.ts_checker.specs.declared.verdict.Verdict.TheVariants.{Accepted, Rejected, Refused as RefusedAt}
 use Rattle.ts_checker.specs.Verified.{IsShownBy}
@@ -21,7 +21,7 @@ verdict_reply (Rejected number) = line_reply (codes "rejected line ") number No
 verdict_reply (RefusedAt number) = line_reply (codes "refused certificate line ") number Refused
 
 -- the reply is a verdict that is shown of the model and these lines, in words
-pub record IsVerified (texts : List (List ℕ)) (m : Stated) (r : Reply) : Type 0 where
+pub record IsVerified (texts : List (List ℕ)) (m : ModelParts) (r : Reply) : Type 0 where
   pub verdict : Verdict
   pub shown : IsShownBy texts m verdict
   pub reply : r ≡ verdict_reply verdict

@@ -2,7 +2,7 @@
 
 ghost use Rattle.std.specs.Prelude.{ℕ, ◌≡◌, ◌<◌, length, vec_len};
 ghost use Rattle.ts_model.specs.Promise.{IsWhole};
-ghost use Rattle.ts_model.specs.Views.{stated};
+ghost use Rattle.ts_model.specs.Views.{model_parts};
 ghost use Rattle.ts_run.specs.AnswerTexts.{CheckReply, SeriesReply};
 ghost use Rattle.ts_run.specs.Replies.{Gives};
 
@@ -28,8 +28,8 @@ pub fn check(alloc: Global, bytes: &[u8]) -> Result<Reply, Stop>
 fn check_series(alloc: Global, model: &Model, text: &[u8]) -> Result<Reply, Stop>
     requires few { length text.now < 4000000000 }
     requires counted { model.now.n ≡ vec_len model.now.cells }
-    requires whole { IsWhole (stated model.now) }
-    ensures { Gives (SeriesReply text.now (stated model.now)) result }
+    requires whole { IsWhole (model_parts model.now) }
+    ensures { Gives (SeriesReply text.now (model_parts model.now)) result }
 {
     let series = series_of(alloc, text, model.n)?;
     let judgement = judge(alloc, model, &series)?;

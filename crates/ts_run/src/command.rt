@@ -2,7 +2,7 @@
 
 ghost use Rattle.std.specs.Prelude.{◌≡◌, ◌∷◌, option_map};
 ghost use Rattle.ts_run.specs.declared.command.Command.TheVariants.{Best as BestOf};
-ghost use Rattle.ts_run.specs.Commands.{IsShort, alone, budget_of, command_of, generate_of, input_of, sample_of};
+ghost use Rattle.ts_run.specs.Commands.{IsShort, if_alone, budget_of, command_of, generate_of, input_of, sample_of};
 ghost use Rattle.ts_run.specs.Commands.{words_in};
 
 use crate::quantity::{Budget, Cells, Count};
@@ -83,7 +83,7 @@ fn named(name: &str, rest: &[String]) -> Option<Command>
 
 /// The command, where no words follow its name.
 fn alone(command: Command, rest: &[String]) -> Option<Command>
-    ensures { result ≡ alone command (words_in rest.now) }
+    ensures { result ≡ if_alone command (words_in rest.now) }
 {
     match rest {
         [] => Some(command),

@@ -6,7 +6,7 @@ ghost use Rattle.ts_token.specs.Text.{cut_of};
 ghost use Rattle.ts_model.specs.ModelReading.{model_reading};
 ghost use Rattle.ts_model.specs.Promise.{IsWhole, KeepsLimits};
 ghost use Rattle.ts_model.specs.Series.{series_reading};
-ghost use Rattle.ts_model.specs.Views.{stated};
+ghost use Rattle.ts_model.specs.Views.{model_parts};
 ghost use Rattle.ts_run.specs.Replies.{GivesModel, GivesSeries};
 
 use crate::refusal::{refused_model, refused_series};
@@ -21,8 +21,8 @@ pub fn model_of(alloc: Global, text: &[u8], need: Need) -> Result<Model, Stop>
     requires { length text.now < 4000000000 }
     ensures gives { GivesModel (model_reading need text.now) result }
     ensures counted { IfOk result (λ m. m.n ≡ vec_len m.cells) }
-    ensures whole { IfOk result (λ m. IsWhole (stated m)) }
-    ensures limits { IfOk result (λ m. KeepsLimits need (stated m)) }
+    ensures whole { IfOk result (λ m. IsWhole (model_parts m)) }
+    ensures limits { IfOk result (λ m. KeepsLimits need (model_parts m)) }
 {
     let tokens = cut_tokens(alloc, text)?;
     match read_model(alloc, &tokens, need) {

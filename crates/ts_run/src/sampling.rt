@@ -4,7 +4,7 @@ ghost use Rattle.std.specs.Prelude.{ℕ, ◌≡◌, ◌≤◌, ◌%◌, ◌*◌,
 ghost use Rattle.ts_base.specs.Limits.{most_cells};
 ghost use Rattle.ts_model.specs.declared.model.Need.TheVariants.{Best as NeedsBest};
 ghost use Rattle.ts_model.specs.Promise.{IsWhole, KeepsLimits};
-ghost use Rattle.ts_model.specs.Views.{stated, term_of};
+ghost use Rattle.ts_model.specs.Views.{model_parts, term_of};
 ghost use Rattle.ts_run.specs.Quantities.{IsWithin};
 ghost use Rattle.ts_run.specs.SampleModel.{cells_from, least_of, sample_stated, six_from};
 
@@ -19,10 +19,10 @@ use ts_pattern::{Aggregator, Feature, PatternId, Term};
 /// wider than 3, and their number is the objective.
 pub fn sample_model(alloc: Global, n: u32) -> Result<Model, Memory>
     requires { IsWithin 1 most_cells n }
-    ensures stated { IfOk result (λ m. stated m ≡ sample_stated n) }
+    ensures stated { IfOk result (λ m. model_parts m ≡ sample_stated n) }
     ensures counted { IfOk result (λ m. m.n ≡ vec_len m.cells) }
-    ensures whole { IfOk result (λ m. IsWhole (stated m)) }
-    ensures limits { IfOk result (λ m. KeepsLimits NeedsBest (stated m)) }
+    ensures whole { IfOk result (λ m. IsWhole (model_parts m)) }
+    ensures limits { IfOk result (λ m. KeepsLimits NeedsBest (model_parts m)) }
 {
     let cells = cells(alloc, n)?;
     let terms = terms(alloc)?;

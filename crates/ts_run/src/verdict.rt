@@ -2,7 +2,7 @@
 
 ghost use Rattle.std.specs.Prelude.{ℕ, ◌≡◌, ◌<◌, ◌+◌, ◌++◌, length, string_bytes, IfOk, OnOk};
 ghost use Rattle.std.specs.List.{zip};
-ghost use Rattle.ts_model.specs.Views.{stated};
+ghost use Rattle.ts_model.specs.Views.{model_parts};
 ghost use Rattle.ts_run.specs.Reply.{ComesOfInput, reply_of};
 ghost use Rattle.ts_run.specs.Verdict.{fault_line, fault_lines, names_of, value_line, value_lines, verdict_of};
 
@@ -17,7 +17,7 @@ use ts_model::Model;
 pub fn verdict(alloc: Global, model: &Model, judgement: &Judgement) -> Result<Reply, Memory>
     requires { length judgement.now.values.items ≡ length model.now.terms.entries }
     ensures text { IfOk result (λ r. reply_of r ≡ verdict_of judgement.now.inside.items judgement.now.holding.items
-        (zip (names_of (stated model.now)) judgement.now.values.items)) }
+        (zip (names_of (model_parts model.now)) judgement.now.values.items)) }
     ensures status { IfOk result (λ r. ComesOfInput r.status) }
 {
     let meets = judgement.meets();
@@ -56,7 +56,7 @@ fn push_fault(text: &mut Vec<u8>, word: &[u8], number: usize, test: bool) -> Res
 fn push_values(text: &mut Vec<u8>, model: &Model, values: &[Ext]) -> Result<(), Memory>
     requires { length values.now ≡ length model.now.terms.entries }
     ensures { OnOk result
-        (text.new.items ≡ text.old.items ++ value_lines (zip (names_of (stated model.now)) values.now)) }
+        (text.new.items ≡ text.old.items ++ value_lines (zip (names_of (model_parts model.now)) values.now)) }
 {
     let names = model.terms.keys();
     for k in 0..values.len() {

@@ -9,7 +9,7 @@ use Rattle.ts_domain.specs.BoxSeries.{IsBox}
 use Rattle.ts_domain.proofs.Sets.{same_test}
 use Rattle.ts_bound.specs.TermSpans.{Automata, term_span, IsUsable as IsUsableOf}
 use Rattle.ts_model.specs.declared.model.Require.{Require}
-use Rattle.ts_model.specs.Stated.{Stated}
+use Rattle.ts_model.specs.ModelParts.{ModelParts}
 use Rattle.ts_filter.specs.declared.bar.Bar.{Bar}
 use Rattle.ts_filter.specs.declared.drops.Removal.{Removal as GivenRemoval}
 use Rattle.ts_filter.specs.Boxes.{Box}
@@ -106,7 +106,7 @@ module _ (ms : List Automata) (term : ℕ) (a : Automata) (has : slice_get ms te
     first_refuted_is b n size found h =
         first_is a (Refutes r.op r.bound) b (λ p. is_refuted rs (spans_of ms) j p b) (λ p. test_to p b) (λ p. test_from p b) n size found h
 
-  module _ (m : Stated) (objective : m.objective ≡ Some term) (goal : Goal) (bar : Bar) where
+  module _ (m : ModelParts) (objective : m.objective ≡ Some term) (goal : Goal) (bar : Bar) where
     cut_to : (p : ℕ) (b : Box) → is_cut m (spans_of ms) goal p b bar ≡ true → IsUsableOf a p b × Cuts goal bar (term_span a p b)
     cut_to p b e =
         let d = ((tests_tell (spans_of ms)).cut m goal p b bar).0 e in
@@ -162,7 +162,7 @@ same_drop k c v w i j (inr (e, inl l)) (inr (f, inr g)) = absurd (never_same v w
 same_drop k c v w i j (inr (e, inr l)) (inr (f, inl g)) = absurd (never_same w v g l.0)
 same_drop k c v w i j (inr (e, inr l)) (inr (f, inr g)) = (e, l.0, (let a = l.1 in let b = g.1 in omega (arith, a, b)))
 
-module _ (m : Stated) (s : Spans) (b : Box) (box : IsBox b) where
+module _ (m : ModelParts) (s : Spans) (b : Box) (box : IsBox b) where
   pub drop_is : (found : Option GivenRemoval) → IsFirstDrop m.requirements s b found → removal_of found ≡ next_drop m s b
   drop_is found h = go found h (next_drop m s b) refl
     where

@@ -20,15 +20,15 @@ use Rattle.ts_domain.proofs.Sets.{each_contains}
 use Rattle.ts_pattern.specs.Limits.{IsSeries}
 use Rattle.ts_model.specs.Meets.{value_at}
 use Rattle.ts_model.specs.Promise.{IsWhole}
-use Rattle.ts_model.specs.Stated.{Stated}
+use Rattle.ts_model.specs.ModelParts.{ModelParts}
 use Rattle.ts_filter.specs.Accepts.{value_of_term}
 use Rattle.ts_filter.specs.Boxes.{Box}
 use Rattle.ts_filter.specs.RefutedWorseDrop.{Spans}
 use Rattle.ts_search.specs.Asked.{AreRight}
 use Rattle.ts_search.specs.Dive.{Find, value_of, dive}
-use Rattle.ts_search.specs.Listed.{Listed}
+use Rattle.ts_search.specs.Listed.{IsListAnswer}
 use Rattle.ts_search.specs.LineOf.{Search, search_for}
-use Rattle.ts_search.specs.Solved.{Solved}
+use Rattle.ts_search.specs.Solved.{IsSolution}
 use Rattle.ts_search.specs.Turns.{State, start, turns, left_open, found_or_warm, series_of, done_claim, budget_claim, solve_head, under_head, solve_certificate, ListState, list_start, list_turns, list_claim, list_certificate}
 use Rattle.ts_search.specs.Views.{find_of}
 use Rattle.ts_search.specs.declared.found.FoundSeries.{FoundSeries}
@@ -46,7 +46,7 @@ values_within [] (d ∷ b) h i = absurd h
 values_within (v ∷ x) [] h i = absurd h
 values_within (v ∷ x) (d ∷ b) h i = (each_contains IsCellValue d v i.0.within h.0, values_within x b h.1 i.1)
 
-pub is_series : (m : Stated) (x : List ℤ) → IsWhole m → IsBox m.cells → InBox x m.cells → IsSeries x
+pub is_series : (m : ModelParts) (x : List ℤ) → IsWhole m → IsBox m.cells → InBox x m.cells → IsSeries x
 is_series m x whole box within =
     let long = series_length x m.cells within in
     let some = whole.some in
@@ -58,11 +58,11 @@ is_series m x whole box within =
     }
 
 -- the value as the call tells it is that of the objective
-pub value_is : (m : Stated) (x : List ℤ) (term : ℕ) (v : Ext) → m.objective ≡ Some term → value_at m x term ≡ Some v → v ≡ value_of m x
+pub value_is : (m : ModelParts) (x : List ℤ) (term : ℕ) (v : Ext) → m.objective ≡ Some term → value_at m x term ≡ Some v → v ≡ value_of m x
 value_is m x term v objective told =
     sym (ap (λ o. unwrap_or (value_of_term m x o) NegInf) objective ∙ ap (λ o. unwrap_or o NegInf) told)
 
-pub value_none : (m : Stated) (x : List ℤ) → m.objective ≡ None → NegInf ≡ value_of m x
+pub value_none : (m : ModelParts) (x : List ℤ) → m.objective ≡ None → NegInf ≡ value_of m x
 value_none m x objective = sym (ap (λ o. unwrap_or (value_of_term m x o) NegInf) objective)
 
 -- open lines
@@ -125,15 +125,15 @@ module _ (c : Search) (ls : List TreeLine) (w : List Box) (found : Option Find) 
       ∙ ap (λ h. under_head h (ls ++ left_open w)) (sym (head_left w (λ e. some (size ∙ e))))
 
 -- and it is solved
-pub solved : (m : Stated) (s : Spans) (goal : Goal) (n : ℕ) (c : Search) (state : State) (cert : Cert) → AreRight m s → IsSome m.objective →
-    c ≡ search_for m s (BestOf goal) → state ≡ turns c (BestOf goal) n (start c) → cert ≡ solve_certificate c state → Solved m s goal n cert
+pub solved : (m : ModelParts) (s : Spans) (goal : Goal) (n : ℕ) (c : Search) (state : State) (cert : Cert) → AreRight m s → IsSome m.objective →
+    c ≡ search_for m s (BestOf goal) → state ≡ turns c (BestOf goal) n (start c) → cert ≡ solve_certificate c state → IsSolution m s goal n cert
 solved m s goal n c state cert right some is turned made =
-    subst (Solved m s goal n)
+    subst (IsSolution m s goal n)
     (sym (made ∙ ap (solve_certificate c) turned ∙ ap (λ z. solve_certificate z (turns z (BestOf goal) n (start z))) is))
     (search_solves m s goal n right some)
 
 -- the search with the dive's series
-pub with_dive : (m : Stated) (s : Spans) (goal : Goal) (w : Option Find) → w ≡ dive m s goal →
+pub with_dive : (m : ModelParts) (s : Spans) (goal : Goal) (w : Option Find) → w ≡ dive m s goal →
     let c : Search = record { model = m; spans = s; goal = goal; warm = w } in c ≡ search_for m s (BestOf goal)
 with_dive m s goal w is = (λ i. record { model = m; spans = s; goal = goal; warm = is i })
 
@@ -164,10 +164,10 @@ listed_certificate count ls w xs n listed claim tree size many is_claim is_tree 
       tree = opened ls w n tree size is_tree i;
     })
 
-pub listed : (m : Stated) (s : Spans) (count n : ℕ) (state : ListState) (cert : Cert) (c : Search) → AreRight m s → c ≡ search_for m s (ListOf count) →
-    state ≡ list_turns c count n (list_start c) → cert ≡ list_certificate count state → Listed m s count n cert
+pub listed : (m : ModelParts) (s : Spans) (count n : ℕ) (state : ListState) (cert : Cert) (c : Search) → AreRight m s → c ≡ search_for m s (ListOf count) →
+    state ≡ list_turns c count n (list_start c) → cert ≡ list_certificate count state → IsListAnswer m s count n cert
 listed m s count n state cert c right is turned made =
-    subst (Listed m s count n)
+    subst (IsListAnswer m s count n)
     (sym (made ∙ ap (list_certificate count) turned ∙ ap (λ z. list_certificate count (list_turns z count n (list_start z))) is))
     (search_lists m s count n right)
 

@@ -4,7 +4,7 @@ use Rattle.ts_certificate.specs.declared.certificate.Aim.{Aim}
 use Rattle.ts_certificate.specs.declared.certificate.Aim.TheVariants.{Best as BestOf, List as ListOf}
 use Rattle.ts_certificate.specs.declared.certificate.TreeLine.{TreeLine}
 use Rattle.ts_certificate.specs.declared.certificate.TreeLine.TheVariants.{Split, Remove, No, Worse, Yes}
-use Rattle.ts_model.specs.Stated.{Stated}
+use Rattle.ts_model.specs.ModelParts.{ModelParts}
 use Rattle.ts_filter.specs.Boxes.{Box, values_at}
 use Rattle.ts_filter.specs.RefutedWorseDrop.{Spans, IsRefuted, IsDrop}
 use Rattle.ts_filter.specs.Tests.{is_drop}
@@ -13,7 +13,7 @@ use Rattle.ts_search.specs.Dive.{Find}
 use Rattle.ts_search.specs.Drops.{Removal, least, or_later, drop_of, drop_at, drop_from, next_drop}
 use Rattle.ts_search.specs.Forms.{Form, Alone, Wide, form}
 use Rattle.ts_search.specs.Lean.{has_goal}
-use Rattle.ts_search.specs.LineOf.{Search, last, requirements, inner, refuted, bar_of, cut_by, refuted_last, no_line, first_no, removal_line, branch_line, inner_worse, wide_line, form_line, line_of}
+use Rattle.ts_search.specs.LineOf.{Search, last, requirements, inner, is_refuted_at, bar_of, cut_by, refuted_last, no_line, first_no, removal_line, branch_line, inner_worse, wide_line, form_line, line_of}
 use Rattle.ts_search.proofs.Known.{to_refuted}
 
 pub record IsLeast (q : ℕ → Bool) (f j i : ℕ) : Type 0 where
@@ -47,11 +47,11 @@ least_fits q (suc f) j =
     ] refl
 
 -- the next drop is one that may be made
-abbrev pub DropFits : Stated → Spans → Box → Option Removal → Type 0
+abbrev pub DropFits : ModelParts → Spans → Box → Option Removal → Type 0
 DropFits m s b None = Unit {0}
 DropFits m s b (Some r) = IsDrop m.requirements s r.cell r.value r.requirement b
 
-module _ (m : Stated) (s : Spans) (b : Box) where
+module _ (m : ModelParts) (s : Spans) (b : Box) where
   or_fits : (o later : Option Removal) → DropFits m s b o → DropFits m s b later → DropFits m s b (or_later o later)
   or_fits None later f g = g
   or_fits (Some r) later f g = f
@@ -82,16 +82,16 @@ pub data Choice (c : Search) (aim : Aim) (found : Option Find) (b : Box) : TreeL
   by_refuted : {j p : ℕ} → IsRefuted c.model.requirements c.spans j p b → Choice c aim found b (No j p)
   by_cut : {p : ℕ} → has_goal aim ≡ true → cut_by c (bar_of found c.warm) p b ≡ true → Choice c aim found b (Worse p)
   by_new : {p : ℕ} {x : List ℤ} → has_goal aim ≡ true → p ≡ last c → form b ≡ Alone x →
-      ((j : ℕ) → 1 ≤ j → j ≤ requirements c → refuted c j (last c) b ≡ false) → cut_by c (bar_of found c.warm) (last c) b ≡ false →
+      ((j : ℕ) → 1 ≤ j → j ≤ requirements c → is_refuted_at c j (last c) b ≡ false) → cut_by c (bar_of found c.warm) (last c) b ≡ false →
       Choice c aim found b (Worse p)
   by_yes : {x : List ℤ} → has_goal aim ≡ false → form b ≡ Alone x →
-      ((j : ℕ) → 1 ≤ j → j ≤ requirements c → refuted c j (last c) b ≡ false) → Choice c aim found b Yes
+      ((j : ℕ) → 1 ≤ j → j ≤ requirements c → is_refuted_at c j (last c) b ≡ false) → Choice c aim found b Yes
   by_drop : {k : ℕ} {v : ℤ} {j : ℕ} → IsDrop c.model.requirements c.spans k v j b → Choice c aim found b (Remove k v j)
   by_split : {k : ℕ} {t : ℤ} → form b ≡ Wide k t → Choice c aim found b (Split k t)
 
 module _ (c : Search) (aim : Aim) (found : Option Find) (b : Box) where
-  refuted_first : (o : Option ℕ) → LeastFits (λ j. refuted c j (last c) b) (requirements c) 1 o → (rest : TreeLine) →
-      (((j : ℕ) → 1 ≤ j → j ≤ requirements c → refuted c j (last c) b ≡ false) → Choice c aim found b rest) →
+  refuted_first : (o : Option ℕ) → LeastFits (λ j. is_refuted_at c j (last c) b) (requirements c) 1 o → (rest : TreeLine) →
+      (((j : ℕ) → 1 ≤ j → j ≤ requirements c → is_refuted_at c j (last c) b ≡ false) → Choice c aim found b rest) →
       Choice c aim found b (unwrap_or (option_map (λ j. No j (last c)) o) rest)
   refuted_first None h rest g = g (λ j r s. h j r (omega arith))
   refuted_first (Some j) h rest g = by_refuted (to_refuted c j (last c) b h.holds)
@@ -110,14 +110,15 @@ module _ (c : Search) (aim : Aim) (found : Option Find) (b : Box) where
   NoFits None = Unit {0}
   NoFits (Some l) = Choice c aim found b l
 
-  no_line_fits : (j : ℕ) (o : Option ℕ) → LeastFits (λ p. refuted c j p b) (inner c) 1 o → (rest : Option TreeLine) → NoFits rest → NoFits (no_line j o rest)
+  no_line_fits : (j : ℕ) (o : Option ℕ) → LeastFits (λ p. is_refuted_at c j p b) (inner c) 1 o → (rest : Option TreeLine) → NoFits rest →
+      NoFits (no_line j o rest)
   no_line_fits j None h rest g = g
   no_line_fits j (Some p) h rest g = by_refuted (to_refuted c j p b h.holds)
 
   first_no_fits : (f j : ℕ) → NoFits (first_no c b f j)
   first_no_fits zero j = tt
   first_no_fits (suc f) j =
-      no_line_fits j (least (λ p. refuted c j p b) (inner c) 1) (least_fits (λ p. refuted c j p b) (inner c) 1) (first_no c b f (suc j))
+      no_line_fits j (least (λ p. is_refuted_at c j p b) (inner c) 1) (least_fits (λ p. is_refuted_at c j p b) (inner c) 1) (first_no c b f (suc j))
       (first_no_fits f (suc j))
 
   no_first : (o : Option TreeLine) → NoFits o → (rest : TreeLine) → Choice c aim found b rest → Choice c aim found b (unwrap_or o rest)
@@ -138,7 +139,7 @@ module _ (c : Search) (aim : Aim) (found : Option Find) (b : Box) where
       no_first (first_no c b (requirements c) 1) (first_no_fits (requirements c) 1) (inner_worse c a found b (branch_line c b k t))
       (inner_choice a q (branch_line c b k t) (branch_choice k t f))
 
-  form_choice : (f : Form) → form b ≡ f → (a : Aim) → aim ≡ a → ((j : ℕ) → 1 ≤ j → j ≤ requirements c → refuted c j (last c) b ≡ false) →
+  form_choice : (f : Form) → form b ≡ f → (a : Aim) → aim ≡ a → ((j : ℕ) → 1 ≤ j → j ≤ requirements c → is_refuted_at c j (last c) b ≡ false) →
       Choice c aim found b (form_line c a found b f)
   form_choice (Alone x) f (BestOf goal) q n =
       elim (cut_by c (bar_of found c.warm) (last c) b) as (λ z. cut_by c (bar_of found c.warm) (last c) b ≡ z → Choice c aim found b (Worse (last c))) [
@@ -156,5 +157,5 @@ module _ (c : Search) (aim : Aim) (found : Option Find) (b : Box) where
 
   pub line_choice : Choice c aim found b (line_of c aim found b)
   line_choice =
-      refuted_first (refuted_last c b) (least_fits (λ j. refuted c j (last c) b) (requirements c) 1) (form_line c aim found b (form b))
+      refuted_first (refuted_last c b) (least_fits (λ j. is_refuted_at c j (last c) b) (requirements c) 1) (form_line c aim found b (form b))
       (λ n. form_choice (form b) refl aim refl n)

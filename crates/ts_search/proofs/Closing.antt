@@ -5,16 +5,16 @@ use Rattle.ts_certificate.specs.declared.certificate.Aim.{Aim}
 use Rattle.ts_certificate.specs.declared.certificate.Aim.TheVariants.{Best as BestOf, List as ListOf}
 use Rattle.ts_certificate.specs.Certificate.{Cert}
 use Rattle.ts_model.specs.Meets.{Meets}
-use Rattle.ts_model.specs.Stated.{Stated}
+use Rattle.ts_model.specs.ModelParts.{ModelParts}
 use Rattle.ts_filter.specs.Boxes.{Box}
 use Rattle.ts_filter.specs.RefutedWorseDrop.{Spans}
 use Rattle.ts_search.specs.Dive.{dive_box, value_of}
 use Rattle.ts_search.specs.Forms.{Form, Alone, Wide, form}
 use Rattle.ts_search.specs.Laws.{SearchSolves, SearchLists, OneSolved, OneListed, BudgetIsEnough, ListBudgetIsEnough, DropsEnd, DiveEnds, DiveMeets, DiveEndsEarly}
 use Rattle.ts_search.specs.Lean.{AreLean, most_told, Lean}
-use Rattle.ts_search.specs.Listed.{Listed}
+use Rattle.ts_search.specs.Listed.{IsListAnswer}
 use Rattle.ts_search.specs.LineOf.{search_for}
-use Rattle.ts_search.specs.Solved.{Solved}
+use Rattle.ts_search.specs.Solved.{IsSolution}
 use Rattle.ts_search.specs.Turns.{start, turns, solve_certificate, list_start, list_turns, list_certificate}
 use Rattle.ts_search.proofs.DiveLaws.{IsAlone, dive_alone, dive_fits, dive_early}
 use Rattle.ts_search.proofs.DropLaws.{dropped_done}
@@ -26,7 +26,7 @@ use Rattle.ts_search.proofs.Right.{known, valued, best_known}
 use Rattle.ts_search.proofs.Solves.{HasClaim, solve_solves}
 use Rattle.ts_search.proofs.Unique.{solve_lean, one_certificate, no_budget}
 
-to_lean : (m : Stated) (s : Spans) (a : Cert) (aim : Aim) → a.aim ≡ aim →
+to_lean : (m : ModelParts) (s : Spans) (a : Cert) (aim : Aim) → a.aim ≡ aim →
     AreLean (search_for m s aim) aim (most_told a.claim) None false 0 (m.cells ∷ []) a.tree → Lean m s a
 to_lean m s a aim e h = subst (λ z. AreLean (search_for m s z) z (most_told a.claim) None false 0 (m.cells ∷ []) a.tree) (sym e) h
 
@@ -59,18 +59,18 @@ search_lists m s count n right =
       claim = r.claim;
     }
 
-module _ (m : Stated) (s : Spans) where
-  has_claim : (goal : Goal) (n : ℕ) (a : Cert) → Solved m s goal n a → HasClaim (search_for m s (BestOf goal)) n a
+module _ (m : ModelParts) (s : Spans) where
+  has_claim : (goal : Goal) (n : ℕ) (a : Cert) → IsSolution m s goal n a → HasClaim (search_for m s (BestOf goal)) n a
   has_claim goal n a h = record { aim = h.aim; accepts = h.accepts; within = h.within; claim = h.claim }
 
-  lean_for : (goal : Goal) (n : ℕ) (a : Cert) → Solved m s goal n a →
+  lean_for : (goal : Goal) (n : ℕ) (a : Cert) → IsSolution m s goal n a →
       AreLean (search_for m s (BestOf goal)) (BestOf goal) (most_told a.claim) None false 0 (m.cells ∷ []) a.tree
   lean_for goal n a h = subst (λ z. AreLean (search_for m s z) z (most_told a.claim) None false 0 (m.cells ∷ []) a.tree) h.aim h.lean
 
-  has_list : (count n : ℕ) (a : Cert) → Listed m s count n a → HasList (search_for m s (ListOf count)) count n a
+  has_list : (count n : ℕ) (a : Cert) → IsListAnswer m s count n a → HasList (search_for m s (ListOf count)) count n a
   has_list count n a h = record { aim = h.aim; accepts = h.accepts; within = h.within; first = h.first; claim = h.claim }
 
-  list_lean_for : (count n : ℕ) (a : Cert) → Listed m s count n a →
+  list_lean_for : (count n : ℕ) (a : Cert) → IsListAnswer m s count n a →
       AreLean (search_for m s (ListOf count)) (ListOf count) (most_told a.claim) None false 0 (m.cells ∷ []) a.tree
   list_lean_for count n a h = subst (λ z. AreLean (search_for m s z) z (most_told a.claim) None false 0 (m.cells ∷ []) a.tree) h.aim h.lean
 

@@ -11,7 +11,7 @@ use Rattle.ts_frontier.specs.Halve.{IsSingle, IsHalving, middle_of}
 use Rattle.ts_search.specs.Dive.{Find}
 use Rattle.ts_search.specs.Drops.{least, next_drop}
 use Rattle.ts_search.specs.Forms.{Form, Alone, Wide, after_value, form}
-use Rattle.ts_search.specs.LineOf.{Search, last, requirements, inner, refuted, bar_of, cut_by, refuted_last, no_line, first_no, removal_line, branch_line, inner_worse, wide_line, form_line, line_of}
+use Rattle.ts_search.specs.LineOf.{Search, last, requirements, inner, is_refuted_at, bar_of, cut_by, refuted_last, no_line, first_no, removal_line, branch_line, inner_worse, wide_line, form_line, line_of}
 use Rattle.ts_search.specs.Views.{removal_of}
 
 -- the form of a box, by its halving
@@ -64,7 +64,7 @@ least_here q n m j r z below count is holds h =
 pub least_end : (q : ℕ → Bool) (n m j : ℕ) (z : Option ℕ) → m + 1 ≤ j → m ≡ n → least q (n + 1 - j) j ≡ z → None ≡ z
 least_end q n m j z above count h = let none : 0 ≡ n + 1 - j = omega (arith, above, count) in ap (λ k. least q k j) none ∙ h
 
-pub no_next : (c : Search) (b : Box) (n m j : ℕ) (o : Option ℕ) (z : Option TreeLine) → j < m + 1 → m ≡ n → o ≡ least (λ p. refuted c j p b) (inner c) 1 →
+pub no_next : (c : Search) (b : Box) (n m j : ℕ) (o : Option ℕ) (z : Option TreeLine) → j < m + 1 → m ≡ n → o ≡ least (λ p. is_refuted_at c j p b) (inner c) 1 →
     o ≡ None → first_no c b (n + 1 - j) j ≡ z → first_no c b (n + 1 - (j + 1)) (j + 1) ≡ z
 no_next c b n m j o z below count is fails h =
     let more : n + 1 - j ≡ suc (n + 1 - (j + 1)) = omega (arith, below, count) in
@@ -73,7 +73,8 @@ no_next c b n m j o z below count is fails h =
     ∙ ap (λ p. no_line j p (first_no c b (n + 1 - (j + 1)) (suc j))) (sym fails ∙ is)
     ∙ ap (λ m. first_no c b m j) (sym more) ∙ h
 
-pub no_here : (c : Search) (b : Box) (n m j p : ℕ) (o : Option ℕ) (z : Option TreeLine) → j < m + 1 → m ≡ n → o ≡ least (λ p. refuted c j p b) (inner c) 1 →
+pub no_here : (c : Search) (b : Box) (n m j p : ℕ) (o : Option ℕ) (z : Option TreeLine) → j < m + 1 → m ≡ n →
+    o ≡ least (λ p. is_refuted_at c j p b) (inner c) 1 →
     o ≡ Some p → first_no c b (n + 1 - j) j ≡ z → Some (No j p) ≡ z
 no_here c b n m j p o z below count is some h =
     let more : n + 1 - j ≡ suc (n + 1 - (j + 1)) = omega (arith, below, count) in

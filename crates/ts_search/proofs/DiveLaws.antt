@@ -9,7 +9,7 @@ use Rattle.ts_domain.specs.BoxSeries.{InBox, IsBox}
 use Rattle.ts_domain.proofs.Sets.{contains_cons}
 use Rattle.ts_model.specs.Judgement.{is_met}
 use Rattle.ts_model.specs.Meets.{Meets}
-use Rattle.ts_model.specs.Stated.{Stated, total_of}
+use Rattle.ts_model.specs.ModelParts.{ModelParts, total_of}
 use Rattle.ts_model.proofs.MeetsLaw.{judged_is_met}
 use Rattle.ts_filter.specs.Boxes.{Box, HasCell, values_at, only, without, IsPart}
 use Rattle.ts_filter.specs.Excluded.{is_better}
@@ -17,7 +17,7 @@ use Rattle.ts_filter.specs.Laws.{IsSound}
 use Rattle.ts_filter.specs.RefutedWorseDrop.{Spans, IsRefuted, IsDrop}
 use Rattle.ts_filter.proofs.BoxParts.{place, domain_at, only_part, part_self, inside_length, in_box_inside}
 use Rattle.ts_search.specs.Dive.{value_of, find, promise, most_promising, best_value, least_value, kept_for, kept_value, keep_one, keep_from, dive_box, dive_end, dive}
-use Rattle.ts_search.specs.Drops.{dropped}
+use Rattle.ts_search.specs.Drops.{after_drops}
 use Rattle.ts_search.specs.Forms.{Form, Alone, Wide, after_value, form}
 use Rattle.ts_search.proofs.DropLaws.{drops_keep, dropped_part}
 use Rattle.ts_search.proofs.Parts.{alone_within, series_length}
@@ -71,7 +71,7 @@ one_each_alone ([] ∷ b) h = tt
 one_each_alone ((v ∷ []) ∷ b) h = alone_after v (form b) (one_each_alone b (λ i l. h (suc i) (omega (arith, l))))
 one_each_alone ((v ∷ u ∷ d) ∷ b) h = absurd (omega (arith, h zero (omega arith)))
 
-module _ (m : Stated) (s : Spans) (goal : Goal) where
+module _ (m : ModelParts) (s : Spans) (goal : Goal) where
   pub kept_in : (k : ℕ) (b : Box) → IsPart b m.cells → HasCell k b → Contains (values_at k b) (kept_value m s goal k b)
   kept_in k b i c = kept_there s goal k b m.objective (domain_at b (k - 1) i.box (place k b c)).some
 
@@ -100,7 +100,7 @@ module _ (m : Stated) (s : Spans) (goal : Goal) where
           subst (λ z. length (get_or (set b z (v ∷ [])) i []) ≡ 1) (sym at)
           (subst (λ z. length z ≡ 1) (sym (get_or-set_other b n i (v ∷ []) [] n')) (h i (omega (arith, l, n'))))
 
-  dropped_ones : (n : ℕ) (b : Box) → OneEach n b → OneEach n (dropped m s b)
+  dropped_ones : (n : ℕ) (b : Box) → OneEach n b → OneEach n (after_drops m s b)
   dropped_ones n b h = drops_keep m s (λ d. OneEach n d) (λ r d a k. drop_ones n r.cell r.value r.requirement d a k) (total_of b) b h
 
   record IsKept (n : ℕ) (b : Box) : Type 0 where
@@ -126,7 +126,7 @@ module _ (m : Stated) (s : Spans) (goal : Goal) where
   dive_kept : IsBox m.cells → IsKept (length m.cells) (dive_box m s goal)
   dive_kept box =
       subst (λ z. IsKept z (dive_box m s goal)) (omega arith)
-      (keep_all (length m.cells) zero (dropped m s m.cells) (omega arith)
+      (keep_all (length m.cells) zero (after_drops m s m.cells) (omega arith)
       (record { part = dropped_part m s m.cells m.cells (part_self m.cells box); ones = λ i l. absurd (omega (arith, l)) }))
 
   pub dive_part : IsBox m.cells → IsPart (dive_box m s goal) m.cells

@@ -10,21 +10,21 @@ use Rattle.ts_base.specs.declared.ext.Ext.{Ext}
 use Rattle.ts_base.specs.declared.goal.Goal.{Goal}
 use Rattle.ts_domain.specs.BoxSeries.{IsBox}
 use Rattle.ts_domain.specs.Kept.{values_up_to, values_above, values_without}
-use Rattle.ts_domain.specs.Values.{Rising}
+use Rattle.ts_domain.specs.Values.{IsRising}
 use Rattle.ts_domain.proofs.BoxLaws.{contains_up_to, length-without, some_stay}
 use Rattle.ts_domain.proofs.Sets.{contains_cons, each_contains, filter_none, nothing_in, le_true, le_false}
 use Rattle.ts_model.specs.Judgement.{all_hold, holdings, insides, is_met}
 use Rattle.ts_model.specs.Meets.{values_on}
-use Rattle.ts_model.specs.Stated.{Stated, total_of}
+use Rattle.ts_model.specs.ModelParts.{ModelParts, total_of}
 use Rattle.ts_filter.specs.Boxes.{Box, HasCell, values_at, low_side, high_side, only, without, IsPart}
 use Rattle.ts_filter.specs.Laws.{IsSound}
 use Rattle.ts_filter.specs.RefutedWorseDrop.{Spans, IsRefuted, IsDrop}
 use Rattle.ts_filter.proofs.BoxParts.{place, domain_at, inside_length, others_stay, part_self}
 use Rattle.ts_frontier.specs.Halve.{IsHalving}
 use Rattle.ts_search.specs.Dive.{Find, find, value_of, kept_value, keep_from, dive_end, dive}
-use Rattle.ts_search.specs.Drops.{Removal, next_drop, drops, dropped}
+use Rattle.ts_search.specs.Drops.{Removal, next_drop, drops, after_drops}
 use Rattle.ts_search.specs.Forms.{Alone, form}
-use Rattle.ts_search.specs.LineOf.{Search, last, refuted, refuted_last, requirements}
+use Rattle.ts_search.specs.LineOf.{Search, last, is_refuted_at, refuted_last, requirements}
 use Rattle.ts_search.specs.Views.{IsSettled}
 use Rattle.ts_search.proofs.Choice.{drop_fits, DropFits, least_fits, LeastFits}
 use Rattle.ts_search.proofs.CodeLines.{halving_form}
@@ -34,7 +34,7 @@ use Rattle.ts_search.proofs.Known.{to_refuted}
 
 -- drops
 
-module _ (m : Stated) (s : Spans) where
+module _ (m : ModelParts) (s : Spans) where
   -- a drop takes one value
   one_less : (k : ℕ) (v : ℤ) (j : ℕ) (b : Box) → IsBox b → IsDrop m.requirements s k v j b → total_of (without k v b) + 1 ≡ total_of b
   one_less k v j b i d =
@@ -53,11 +53,11 @@ module _ (m : Stated) (s : Spans) where
   drops_stop zero b e = refl
   drops_stop (suc n) b e = ap (λ o. unwrap_or (option_map (λ r. drops m s n (without r.cell r.value b)) o) b) e
 
-  pub none_more : (b : Box) → next_drop m s b ≡ None → dropped m s b ≡ b
+  pub none_more : (b : Box) → next_drop m s b ≡ None → after_drops m s b ≡ b
   none_more b e = drops_stop (total_of b) b e
 
   -- after the next drop the same drops are left
-  pub one_more : (b : Box) (r : Removal) → IsBox b → next_drop m s b ≡ Some r → dropped m s (without r.cell r.value b) ≡ dropped m s b
+  pub one_more : (b : Box) (r : Removal) → IsBox b → next_drop m s b ≡ Some r → after_drops m s (without r.cell r.value b) ≡ after_drops m s b
   one_more b r box e =
       let left = without r.cell r.value b in
       let less : total_of b ≡ suc (total_of left) = omega (arith, one_less r.cell r.value r.requirement b box (is_next b r e)) in
@@ -82,11 +82,12 @@ pub refuted_some : (c : Search) (b : Box) (o : Option ℕ) → o ≡ refuted_las
     (j p : ℕ) × IsRefuted c.model.requirements c.spans j p b
 refuted_some c b None is none told fails = absurd (let e : ◌≡◌ {A = Bool} false true = told ∙ ap not fails in cc)
 refuted_some c b (Some j) is none told fails =
-    let first = subst (LeastFits (λ j. refuted c j (last c) b) (requirements c) 1) (sym is) (least_fits (λ j. refuted c j (last c) b) (requirements c) 1) in
+    let first = subst (LeastFits (λ j. is_refuted_at c j (last c) b) (requirements c) 1) (sym is)
+    (least_fits (λ j. is_refuted_at c j (last c) b) (requirements c) 1) in
     (j, last c, to_refuted c j (last c) b first.holds)
 
 -- all drops were made
-pub settled_all : (c : Search) (before after : Box) → IsSettled c before after true → after ≡ dropped c.model c.spans before
+pub settled_all : (c : Search) (before after : Box) → IsSettled c before after true → after ≡ after_drops c.model c.spans before
 settled_all c before after h = sym (none_more c.model c.spans after h.settled) ∙ h.same
 
 pub settled_part : (c : Search) (before after : Box) (all : Bool) → IsSettled c before after all → IsPart after c.model.cells
@@ -105,15 +106,15 @@ within_cells k end n below is = omega (arith, below, is)
 
 -- or a requirement is refuted: no series that is left meets
 
-module _ (m : Stated) (s : Spans) (goal : Goal) (sound : IsSound m s) where
+module _ (m : ModelParts) (s : Spans) (goal : Goal) (sound : IsSound m s) where
   refuted_end : (j p : ℕ) (b : Box) → IsPart b m.cells → IsRefuted m.requirements s j p b → (n k : ℕ) → 1 ≤ k → k + n ≤ length m.cells + 1 →
-      dive_end m (form (keep_from m s goal n k (dropped m s b))) ≡ None
+      dive_end m (form (keep_from m s goal n k (after_drops m s b))) ≡ None
   refuted_end j p b i r n k f l =
-      none_inside m s goal sound j p b (keep_from m s goal n k (dropped m s b)) i r
-      (keep_inside m s goal b n k (dropped m s b) f (omega (arith, l, inside_length b m.cells i.inside)) (dropped_part m s b b (part_self b i.box)))
+      none_inside m s goal sound j p b (keep_from m s goal n k (after_drops m s b)) i r
+      (keep_inside m s goal b n k (after_drops m s b) f (omega (arith, l, inside_length b m.cells i.inside)) (dropped_part m s b b (part_self b i.box)))
 
 pub settled_early : (c : Search) (goal : Goal) → IsSound c.model c.spans → (before after : Box) (n k : ℕ) → 1 ≤ k → k + n ≤ length c.model.cells + 1 →
-    IsSettled c before after false → None ≡ dive_end c.model (form (keep_from c.model c.spans goal n k (dropped c.model c.spans before)))
+    IsSettled c before after false → None ≡ dive_end c.model (form (keep_from c.model c.spans goal n k (after_drops c.model c.spans before)))
 settled_early c goal sound before after n k f l h =
     sym (refuted_end c.model c.spans goal sound h.settled.0 h.settled.1 after h.part h.settled.2 n k f l)
     ∙ ap (λ d. dive_end c.model (form (keep_from c.model c.spans goal n k d))) h.same
@@ -129,8 +130,8 @@ below_gone v = grind (arith, ints)
 before_gone : (v w : ℤ) → w <ℤ v → int_lt (v -ℤ pos 1) w ≡ false
 before_gone v w l = grind (arith, ints)
 
-pub kept_alone : (v : ℤ) (d : List ℤ) → Rising d → Contains d v → values_above (v -ℤ pos 1) (values_up_to v d) ≡ v ∷ []
-unfolding Rising
+pub kept_alone : (v : ℤ) (d : List ℤ) → IsRising d → Contains d v → values_above (v -ℤ pos 1) (values_up_to v d) ≡ v ∷ []
+unfolding IsRising
 kept_alone v [] r h = absurd (nothing_in v h)
 kept_alone v (w ∷ d) r h = ⊎_elim here (λ a. later a (kept_alone v d r.1 a)) ((contains_cons w d v).0 h)
   where
@@ -156,7 +157,7 @@ kept_alone v (w ∷ d) r h = ⊎_elim here (λ a. later a (kept_alone v d r.1 a)
 pub low_stays : (v : ℤ) (d : List ℤ) → Contains d v → values_up_to v d ≡ [] → ⊥
 low_stays v d there none = some_stay (values_up_to v d) v ((contains_up_to v d v).1 (there, (omega (arith, ints)))) none
 
-pub high_stays : (v : ℤ) (d low : List ℤ) → Rising d → Contains d v → low ≡ values_up_to v d → values_above (v -ℤ pos 1) low ≡ [] → ⊥
+pub high_stays : (v : ℤ) (d low : List ℤ) → IsRising d → Contains d v → low ≡ values_up_to v d → values_above (v -ℤ pos 1) low ≡ [] → ⊥
 high_stays v d low r there is none = absurd (let e : v ∷ [] ≡ [] = sym (kept_alone v d r there) ∙ ap (values_above (v -ℤ pos 1)) (sym is) ∙ none in cc)
 
 -- as the machine has these two numbers
@@ -201,23 +202,23 @@ kept_box k v b low high box cell there is_low is_high =
 
 -- the loop over the cells
 
-module _ (m : Stated) (s : Spans) (goal : Goal) where
+module _ (m : ModelParts) (s : Spans) (goal : Goal) where
   -- so many cells are still to be kept, from k on
   abbrev pub EndsAs : ℕ → ℕ → Box → Option Find → Type 0
   EndsAs n k b z = dive_end m (form (keep_from m s goal n k b)) ≡ z
 
-  pub ends_first : (b : Box) (n : ℕ) → b ≡ dropped m s m.cells → n ≡ length m.cells → EndsAs (n + 1 - 1) 1 b (dive m s goal)
+  pub ends_first : (b : Box) (n : ℕ) → b ≡ after_drops m s m.cells → n ≡ length m.cells → EndsAs (n + 1 - 1) 1 b (dive m s goal)
   ends_first b n is size =
       let same : n + 1 - 1 ≡ length m.cells = omega (arith, size) in
       ap (λ z. dive_end m (form (keep_from m s goal z 1 b))) same ∙ ap (λ z. dive_end m (form (keep_from m s goal (length m.cells) 1 z))) is
 
-  pub ends_next : (b one after : Box) (n k : ℕ) (z : Option Find) → k < n + 1 → one ≡ only k (kept_value m s goal k b) b → after ≡ dropped m s one →
+  pub ends_next : (b one after : Box) (n k : ℕ) (z : Option Find) → k < n + 1 → one ≡ only k (kept_value m s goal k b) b → after ≡ after_drops m s one →
       EndsAs (n + 1 - k) k b z → EndsAs (n + 1 - (k + 1)) (k + 1) after z
   ends_next b one after n k z below kept all h =
       let more : n + 1 - k ≡ suc (n + 1 - (k + 1)) = omega (arith, below) in
       let next : k + 1 ≡ suc k = omega arith in
       ap (λ i. dive_end m (form (keep_from m s goal (n + 1 - (k + 1)) i after))) next
-      ∙ ap (λ d. dive_end m (form (keep_from m s goal (n + 1 - (k + 1)) (suc k) d))) (all ∙ ap (dropped m s) kept)
+      ∙ ap (λ d. dive_end m (form (keep_from m s goal (n + 1 - (k + 1)) (suc k) d))) (all ∙ ap (after_drops m s) kept)
       ∙ ap (λ i. dive_end m (form (keep_from m s goal i k b))) (sym more) ∙ h
 
   pub ends_now : (b : Box) (n k : ℕ) (z f : Option Find) → n + 1 ≤ k → EndsAs (n + 1 - k) k b z → f ≡ dive_end m (form b) → f ≡ z
@@ -226,21 +227,21 @@ module _ (m : Stated) (s : Spans) (goal : Goal) where
 
   -- a requirement is refuted after cell k has kept its value
   pub ends_early : (b one : Box) (n k : ℕ) (z : Option Find) → k < n + 1 → one ≡ only k (kept_value m s goal k b) b → EndsAs (n + 1 - k) k b z →
-      None ≡ dive_end m (form (keep_from m s goal (n + 1 - (k + 1)) (suc k) (dropped m s one))) → None ≡ z
+      None ≡ dive_end m (form (keep_from m s goal (n + 1 - (k + 1)) (suc k) (after_drops m s one))) → None ≡ z
   ends_early b one n k z below kept h none =
       let more : n + 1 - k ≡ suc (n + 1 - (k + 1)) = omega (arith, below) in
       none
-      ∙ ap (λ d. dive_end m (form (keep_from m s goal (n + 1 - (k + 1)) (suc k) (dropped m s d)))) kept
+      ∙ ap (λ d. dive_end m (form (keep_from m s goal (n + 1 - (k + 1)) (suc k) (after_drops m s d)))) kept
       ∙ ap (λ i. dive_end m (form (keep_from m s goal i k b))) (sym more) ∙ h
 
 -- the series that is left
 
 -- the judgement's lists tell whether it meets
-pub met_is : (m : Stated) (x y : List ℤ) (inside holding : List Bool) (t : Bool) → y ≡ x → t ≡ all_hold inside holding → inside ≡ insides m.cells y →
+pub met_is : (m : ModelParts) (x y : List ℤ) (inside holding : List Bool) (t : Bool) → y ≡ x → t ≡ all_hold inside holding → inside ≡ insides m.cells y →
     holding ≡ holdings (values_on m y) m.requirements → t ≡ is_met m x
 met_is m x y inside holding t same told inside_is holding_is = told ∙ (λ i. all_hold (inside_is i) (holding_is i)) ∙ ap (is_met m) same
 
-module _ (m : Stated) (b : Box) where
+module _ (m : ModelParts) (b : Box) where
   pub left_wide : (k : ℕ) (t : ℤ) → IsHalving k t b → None ≡ dive_end m (form b)
   left_wide k t h = ap (dive_end m) (sym (halving_form b k t h))
 

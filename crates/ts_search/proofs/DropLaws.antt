@@ -4,14 +4,14 @@ use Rattle.std.proofs.lemmas.List.Sums.{sum_by-set}
 use Rattle.ts_domain.specs.BoxSeries.{IsBox}
 use Rattle.ts_domain.specs.Kept.{values_without}
 use Rattle.ts_domain.proofs.BoxLaws.{length-without}
-use Rattle.ts_model.specs.Stated.{Stated, total_of}
+use Rattle.ts_model.specs.ModelParts.{ModelParts, total_of}
 use Rattle.ts_filter.specs.Boxes.{Box, values_at, without, IsPart}
 use Rattle.ts_filter.specs.RefutedWorseDrop.{Spans, IsDrop}
 use Rattle.ts_filter.proofs.BoxParts.{place, domain_at, without_part, others_stay, inside_length, box_total}
-use Rattle.ts_search.specs.Drops.{Removal, next_drop, drops, dropped}
+use Rattle.ts_search.specs.Drops.{Removal, next_drop, drops, after_drops}
 use Rattle.ts_search.proofs.Choice.{DropFits, drop_fits}
 
-module _ (m : Stated) (s : Spans) where
+module _ (m : ModelParts) (s : Spans) where
   pub drop_part : (k : ℕ) (v : ℤ) (j : ℕ) (b : Box) (all : Box) → IsPart b all → IsDrop m.requirements s k v j b → IsPart (without k v b) all
   drop_part k v j b all i d = without_part k v b all i d.cell (others_stay k v b i.box d.cell d.many d.there)
 
@@ -38,7 +38,7 @@ module _ (m : Stated) (s : Spans) where
   drops_keep P g (suc n) b h =
       keep_on P n b h (λ r d. drops_keep P g n (without r.cell r.value b) (g r b d h)) (next_drop m s b) (drop_fits m s b)
 
-  pub dropped_part : (all b : Box) → IsPart b all → IsPart (dropped m s b) all
+  pub dropped_part : (all b : Box) → IsPart b all → IsPart (after_drops m s b) all
   dropped_part all b h =
       drops_keep (λ d. IsPart d all) (λ r d a k. drop_part r.cell r.value r.requirement d all k a) (total_of b) b h
 
@@ -81,5 +81,5 @@ module _ (m : Stated) (s : Spans) where
             inside_length b all i.inside,
           )
 
-  pub dropped_done : (all b : Box) → IsPart b all → next_drop m s (dropped m s b) ≡ None
+  pub dropped_done : (all b : Box) → IsPart b all → next_drop m s (after_drops m s b) ≡ None
   dropped_done all b i = drops_done all (total_of b) b i (omega arith)

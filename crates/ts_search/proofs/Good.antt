@@ -14,7 +14,7 @@ use Rattle.ts_filter.specs.declared.bar.Bar.TheVariants.{Better, AsGood}
 use Rattle.ts_filter.specs.Boxes.{Box, IsPart, InSome, only}
 use Rattle.ts_filter.specs.Excluded.{is_better}
 use Rattle.ts_filter.specs.RefutedWorseDrop.{IsCut}
-use Rattle.ts_filter.specs.Rules.{Head, claimed, KeepsRule}
+use Rattle.ts_filter.specs.Rules.{Head, claimed_value, KeepsRule}
 use Rattle.ts_filter.specs.Steps.{made_by, Steps}
 use Rattle.ts_filter.specs.Tree.{told_by}
 use Rattle.ts_filter.proofs.BoxParts.{from_without, in_a_side, only_or_without, only_part, part_self}
@@ -22,7 +22,7 @@ use Rattle.ts_filter.proofs.TreeLaws.{parts_made, steps_go_on}
 use Rattle.ts_search.specs.Dive.{Find, value_of, find}
 use Rattle.ts_search.specs.Forms.{Form, Alone, Wide, form}
 use Rattle.ts_search.specs.Found.{beats, tally_after, tally, told_or_warm}
-use Rattle.ts_search.specs.LineOf.{Search, last, requirements, refuted, cut, bar_of, cut_by, counts_for, line_of}
+use Rattle.ts_search.specs.LineOf.{Search, last, requirements, is_refuted_at, is_cut_at, bar_of, cut_by, counts_for, line_of}
 use Rattle.ts_search.specs.Turns.{State, start, found_after, after, turn_on, turn, turns, found_or_warm, budget_claim}
 use Rattle.ts_search.proofs.Choice.{Choice, by_refuted, by_cut, by_new, by_yes, by_drop, by_split, line_choice}
 use Rattle.ts_search.proofs.Known.{clash, never_itself, chain, apart, Known, KnownBest, more_cut, to_cut, no_series, cut_counts}
@@ -134,7 +134,7 @@ module _ (c : Search) where
 
   -- the rule of a worse line, under a claim of this
   abbrev IsBelowClaim : Option Find → ℕ → Box → Type 0
-  IsBelowClaim best p b = MatchOption (claimed (budget_claim best)) ⊥ (λ v. IsCut c.model c.spans c.goal p b (Better v))
+  IsBelowClaim best p b = MatchOption (claimed_value (budget_claim best)) ⊥ (λ v. IsCut c.model c.spans c.goal p b (Better v))
 
   -- it stays where the claim gets better
   worse_more : (best : Option Find) (v : Ext) (p : ℕ) (b : Box) → AtLeast c best v → IsBelowClaim best p b → IsCut c.model c.spans c.goal p b (Better v)
@@ -234,7 +234,7 @@ module _ (c : Search) where
 
 -- a box of one series that counts: it becomes the found one
 good_new : (c : Search) → KnownBest c → (s : State) (b : Box) (u : List Box) (p : ℕ) (x : List ℤ) →
-    Good c s → s.pending ≡ b ∷ u → form b ≡ Alone x → ((j : ℕ) → 1 ≤ j → j ≤ requirements c → refuted c j (last c) b ≡ false) →
+    Good c s → s.pending ≡ b ∷ u → form b ≡ Alone x → ((j : ℕ) → 1 ≤ j → j ≤ requirements c → is_refuted_at c j (last c) b ≡ false) →
     counts_for c (bar_of s.found c.warm) (value_of c.model x) ≡ true → IsCut c.model c.spans c.goal p b (Better (value_of c.model x)) →
     Good c (put s b u (Worse p) (Some (find c.model x)))
 good_new c e s b u p x g at alone free count is_cut =
@@ -316,7 +316,7 @@ good_worse c e s b u p g at h =
         ∙ ap (λ z. kept c (tally_after c f z (Worse p)) c.warm) (sym w)))
 
 good_single : (c : Search) → KnownBest c → (s : State) (b : Box) (u : List Box) (p : ℕ) (x : List ℤ) → Good c s → s.pending ≡ b ∷ u → p ≡ last c →
-    form b ≡ Alone x → ((j : ℕ) → 1 ≤ j → j ≤ requirements c → refuted c j (last c) b ≡ false) → cut_by c (bar_of s.found c.warm) (last c) b ≡ false →
+    form b ≡ Alone x → ((j : ℕ) → 1 ≤ j → j ≤ requirements c → is_refuted_at c j (last c) b ≡ false) → cut_by c (bar_of s.found c.warm) (last c) b ≡ false →
     Good c (after c s b u (Worse p))
 good_single c e s b u p x g at end w free h =
     let here = subst (λ z. AreParts c.model.cells z) at g.boxes in
@@ -329,11 +329,11 @@ good_single c e s b u p x g at end w free h =
     counting i None k = refl
     counting i (Some bar) k = e.cut_single b bar x i w k
 
-    not_itself : IsPart b c.model.cells → cut c p b (Better (value_of c.model x)) ≡ true
+    not_itself : IsPart b c.model.cells → is_cut_at c p b (Better (value_of c.model x)) ≡ true
     not_itself i =
-        true_from_ne_false (cut c p b (Better (value_of c.model x)))
+        true_from_ne_false (is_cut_at c p b (Better (value_of c.model x)))
         (λ k. never_itself c.goal (value_of c.model x)
-        (e.cut_single b (Better (value_of c.model x)) x i w (subst (λ n. cut c n b (Better (value_of c.model x)) ≡ false) end k)))
+        (e.cut_single b (Better (value_of c.model x)) x i w (subst (λ n. is_cut_at c n b (Better (value_of c.model x)) ≡ false) end k)))
 
 pub good_choice : (c : Search) → KnownBest c → (s : State) (b : Box) (u : List Box) (l : TreeLine) → Good c s → s.pending ≡ b ∷ u →
     Choice c (BestOf c.goal) s.found b l → Good c (after c s b u l)

@@ -4,7 +4,7 @@ use Rattle.std.proofs.lemmas.Int.{ints}
 use Rattle.std.specs.Prelude.{Contains, is_some}
 use Rattle.ts_base.specs.declared.ext.Ext.{Ext}
 use Rattle.ts_base.specs.declared.goal.Goal.{Goal}
-use Rattle.ts_domain.specs.Values.{IsDomain, Rising}
+use Rattle.ts_domain.specs.Values.{IsDomain, IsRising}
 use Rattle.ts_domain.proofs.Sets.{contains_cons, each_contains, nothing_in}
 use Rattle.ts_glue.specs.Pairs.{Pair}
 use Rattle.ts_bound.specs.TermSpans.{Automata}
@@ -45,9 +45,9 @@ module _ (goal : Goal) (f : ℤ → Ext) where
   worse_too x v w b (inl a) = inl (chain goal (f x) (f w) (f v) a b)
   worse_too x v w b (inr h) = inl (ap (λ z. is_better goal z (f v)) h.0 ∙ b)
 
-  pub promising_wins : (v : ℤ) (values : List ℤ) → Rising (v ∷ values) → (u : ℤ) → Contains (v ∷ values) u →
+  pub promising_wins : (v : ℤ) (values : List ℤ) → IsRising (v ∷ values) → (u : ℤ) → Contains (v ∷ values) u →
       IsPreferred goal f (most_promising f goal v values) u
-  unfolding Rising
+  unfolding IsRising
   promising_wins v [] r u h =
       ⊎_elim (λ e. inr (ap f e, most_itself u v (sym e))) (λ a. absurd (nothing_in u a)) ((contains_cons v [] u).0 h)
   promising_wins v (w ∷ values) r u h =
@@ -77,14 +77,14 @@ module _ (goal : Goal) (f : ℤ → Ext) where
   one_preferred v w (inr h) (inl b) = absurd (never_itself goal (f w) (ap (λ z. is_better goal (f w) z) (sym h.0) ∙ b))
   one_preferred v w (inr h) (inr g) = at_most_both v w h.1 g.1
 
-  best_is : (v : ℤ) (d : List ℤ) → Rising d → Contains d v → ((u : ℤ) → Contains d u → IsPreferred goal f v u) → (there : Contains d (best_value f goal d)) →
+  best_is : (v : ℤ) (d : List ℤ) → IsRising d → Contains d v → ((u : ℤ) → Contains d u → IsPreferred goal f v u) → (there : Contains d (best_value f goal d)) →
       v ≡ best_value f goal d
   best_is v [] r here over there = absurd (nothing_in v here)
   best_is v (w ∷ values) r here over there =
       one_preferred v (most_promising f goal w values) (over (most_promising f goal w values) there) (promising_wins w values r v here)
 
-least_is : (v : ℤ) (d : List ℤ) → Rising d → Contains d v → ((u : ℤ) → Contains d u → v ≤ℤ u) → v ≡ least_value d
-unfolding Rising
+least_is : (v : ℤ) (d : List ℤ) → IsRising d → Contains d v → ((u : ℤ) → Contains d u → v ≤ℤ u) → v ≡ least_value d
+unfolding IsRising
 least_is v [] r here over = absurd (nothing_in v here)
 least_is v (w ∷ values) r here over =
     ⊎_elim (λ e. sym e)

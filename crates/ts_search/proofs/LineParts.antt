@@ -5,7 +5,7 @@ use Rattle.ts_certificate.specs.declared.certificate.TreeLine.TheVariants.{No}
 use Rattle.ts_filter.specs.Boxes.{Box}
 use Rattle.ts_search.specs.Drops.{least}
 use Rattle.ts_search.specs.Laws.{FormsTell, FirstNoFits}
-use Rattle.ts_search.specs.LineOf.{Search, requirements, inner, refuted, no_line, first_no}
+use Rattle.ts_search.specs.LineOf.{Search, requirements, inner, is_refuted_at, no_line, first_no}
 use Rattle.ts_search.proofs.Choice.{LeastFits, least_fits}
 use Rattle.ts_search.proofs.Known.{clash, to_refuted, from_refuted}
 use Rattle.ts_search.proofs.Parts.{FormFits, form_fits, wide_first}
@@ -22,10 +22,10 @@ record Leads (c : Search) (b : Box) (k : ℕ) (l : TreeLine) : Type 0 where
   cell : ℕ
   line : l ≡ No requirement cell
   from : k ≤ requirement
-  holds : refuted c requirement cell b ≡ true
+  holds : is_refuted_at c requirement cell b ≡ true
   some : 1 ≤ cell
   below : cell ≤ inner c
-  first : (j p : ℕ) → k ≤ j → refuted c j p b ≡ true → 1 ≤ p → p ≤ inner c → (requirement < j) ⊎ ((requirement ≡ j) × (cell ≤ p))
+  first : (j p : ℕ) → k ≤ j → is_refuted_at c j p b ≡ true → 1 ≤ p → p ≤ inner c → (requirement < j) ⊎ ((requirement ≡ j) × (cell ≤ p))
 
 some_line : (l k : TreeLine) → ◌≡◌ {A = Option TreeLine} (Some l) (Some k) → l ≡ k
 some_line l k e = cc
@@ -34,7 +34,7 @@ less_or_not : (p q : ℕ) → (p < q) ⊎ (q ≤ p)
 less_or_not p q = grind arith
 
 module _ (c : Search) (b : Box) where
-  here : (k p : ℕ) (l : TreeLine) → LeastFits (λ p. refuted c k p b) (inner c) 1 (Some p) → No k p ≡ l → Leads c b k l
+  here : (k p : ℕ) (l : TreeLine) → LeastFits (λ p. is_refuted_at c k p b) (inner c) 1 (Some p) → No k p ≡ l → Leads c b k l
   here k p l f e = record {
     requirement = k;
     cell = p;
@@ -46,13 +46,13 @@ module _ (c : Search) (b : Box) where
     first = λ j q from r one few. ⊎_elim
         (λ s. inr (
           s,
-          ⊎_elim (λ n. absurd (clash (refuted c k q b) (subst (λ z. refuted c z q b ≡ true) (sym s) r) (f.first q one n))) (λ n. n)
+          ⊎_elim (λ n. absurd (clash (is_refuted_at c k q b) (subst (λ z. is_refuted_at c z q b ≡ true) (sym s) r) (f.first q one n))) (λ n. n)
               (less_or_not q p),
         ))
         (λ n. inl n) (eq-or-lt_of_le from);
   }
 
-  later : (k : ℕ) (l : TreeLine) → LeastFits (λ p. refuted c k p b) (inner c) 1 None → Leads c b (suc k) l → Leads c b k l
+  later : (k : ℕ) (l : TreeLine) → LeastFits (λ p. is_refuted_at c k p b) (inner c) 1 None → Leads c b (suc k) l → Leads c b k l
   later k l f r = record {
     requirement = r.requirement;
     cell = r.cell;
@@ -62,16 +62,16 @@ module _ (c : Search) (b : Box) where
     some = r.some;
     below = r.below;
     first = λ j q from t one few. ⊎_elim
-        (λ s. absurd (clash (refuted c k q b) (subst (λ z. refuted c z q b ≡ true) (sym s) t) (f q one (omega (arith, few)))))
+        (λ s. absurd (clash (is_refuted_at c k q b) (subst (λ z. is_refuted_at c z q b ≡ true) (sym s) t) (f q one (omega (arith, few)))))
         (λ n. r.first j q n t one few) (eq-or-lt_of_le from);
   }
 
   leads : (n k : ℕ) (l : TreeLine) → first_no c b n k ≡ Some l → Leads c b k l
   leads zero k l e = absurd (let f : ◌≡◌ {A = Option TreeLine} None (Some l) = e in cc)
   leads (suc n) k l e =
-      go (least (λ p. refuted c k p b) (inner c) 1) (least_fits (λ p. refuted c k p b) (inner c) 1) e (λ next. leads n (suc k) l next)
+      go (least (λ p. is_refuted_at c k p b) (inner c) 1) (least_fits (λ p. is_refuted_at c k p b) (inner c) 1) e (λ next. leads n (suc k) l next)
     where
-      go : (o : Option ℕ) → LeastFits (λ p. refuted c k p b) (inner c) 1 o → no_line k o (first_no c b n (suc k)) ≡ Some l →
+      go : (o : Option ℕ) → LeastFits (λ p. is_refuted_at c k p b) (inner c) 1 o → no_line k o (first_no c b n (suc k)) ≡ Some l →
           (first_no c b n (suc k) ≡ Some l → Leads c b (suc k) l) → Leads c b k l
       go None f q next = later k l f (next q)
       go (Some p) f q next = here k p l f (some_line (No k p) l q)

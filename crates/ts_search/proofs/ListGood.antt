@@ -16,7 +16,7 @@ use Rattle.ts_filter.specs.Tree.{told_by}
 use Rattle.ts_filter.proofs.BoxParts.{from_without, in_a_side, only_or_without, only_part, part_self}
 use Rattle.ts_filter.proofs.TreeLaws.{parts_made, steps_go_on}
 use Rattle.ts_search.specs.Forms.{Alone, form}
-use Rattle.ts_search.specs.LineOf.{Search, last, requirements, refuted, line_of}
+use Rattle.ts_search.specs.LineOf.{Search, last, requirements, is_refuted_at, line_of}
 use Rattle.ts_search.specs.Turns.{ListState, list_start, listed_after, list_after, list_turn_on, list_turn, list_turns}
 use Rattle.ts_search.proofs.Choice.{Choice, by_refuted, by_cut, by_new, by_yes, by_drop, by_split, line_choice}
 use Rattle.ts_search.proofs.Known.{Known, no_series}
@@ -105,7 +105,7 @@ rising_snoc [] x h g = (tt, tt)
 rising_snoc (a ∷ xs) x h g = (all_snoc (IsBefore a) xs x h.0 (g a (inl refl)), rising_snoc xs x h.1 (λ z i. g z (inr i)))
 
 list_yes : (c : Search) → Known c → (count : ℕ) (s : ListState) (b : Box) (u : List Box) (x : List ℤ) → GoodList c count s → s.pending ≡ b ∷ u →
-    length s.listed < count → form b ≡ Alone x → ((j : ℕ) → 1 ≤ j → j ≤ requirements c → refuted c j (last c) b ≡ false) →
+    length s.listed < count → form b ≡ Alone x → ((j : ℕ) → 1 ≤ j → j ≤ requirements c → is_refuted_at c j (last c) b ≡ false) →
     GoodList c count (list_put s b u Yes (s.listed ++ x ∷ []))
 list_yes c e count s b u x g at room alone free =
     let n = length s.listed in

@@ -11,7 +11,7 @@ use Rattle.ts_certificate.specs.Certificate.{Cert, checked_count}
 use Rattle.ts_certificate.specs.Grammar.{series_count}
 use Rattle.ts_domain.specs.BoxSeries.{IsBefore, AreRising}
 use Rattle.ts_model.specs.Meets.{Meets}
-use Rattle.ts_model.specs.Stated.{Stated}
+use Rattle.ts_model.specs.ModelParts.{ModelParts}
 use Rattle.ts_filter.specs.Accepts.{Accepts, ClaimFits, ComesAfter, IsAsClaimed, AllFit, HasTree}
 use Rattle.ts_filter.specs.Boxes.{Box, InSome}
 use Rattle.ts_filter.specs.Holds.{IsListed}
@@ -77,7 +77,7 @@ listed_of : (P : List ℤ → Type 0) (xs : List (List ℤ)) (x : List ℤ) → 
 listed_of P [] x h i = absurd i
 listed_of P (a ∷ xs) x h i = ⊎_elim (λ e. subst P (sym e) h.0) (λ r. listed_of P xs x h.1 r) i
 
-all_fit : (m : Stated) (claim : Claim) → ((ys : List (List ℤ)) (x : List ℤ) → ComesAfter ys x → IsAsClaimed m claim ys x) → (done xs : List (List ℤ)) →
+all_fit : (m : ModelParts) (claim : Claim) → ((ys : List (List ℤ)) (x : List ℤ) → ComesAfter ys x → IsAsClaimed m claim ys x) → (done xs : List (List ℤ)) →
     ((z x : List ℤ) → IsListed z done → IsListed x xs → IsBefore z x) → AreRising xs → AllByRecursion (Meets m) xs → AllFit m claim done xs
 all_fit m claim g done [] f r h = tt
 all_fit m claim g done (x ∷ xs) f r h = (

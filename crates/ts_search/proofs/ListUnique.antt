@@ -11,11 +11,11 @@ use Rattle.ts_certificate.specs.declared.certificate.TreeLine.TheVariants.{Split
 use Rattle.ts_certificate.specs.Certificate.{Cert, checked_count, open_count}
 use Rattle.ts_domain.specs.BoxSeries.{InBox, series_count}
 use Rattle.ts_model.specs.Meets.{Meets}
-use Rattle.ts_model.specs.Stated.{Stated}
+use Rattle.ts_model.specs.ModelParts.{ModelParts}
 use Rattle.ts_filter.specs.Accepts.{AllTold}
 use Rattle.ts_filter.specs.Boxes.{Box, IsPart}
 use Rattle.ts_filter.specs.RefutedWorseDrop.{Spans}
-use Rattle.ts_filter.specs.Rules.{Head, head_of, claimed, MayStayOpen, IsWorseFor, KeepsRule}
+use Rattle.ts_filter.specs.Rules.{Head, head_of, claimed_value, MayStayOpen, IsWorseFor, KeepsRule}
 use Rattle.ts_filter.specs.Steps.{made_by, Steps}
 use Rattle.ts_filter.specs.Tree.{told_by, told_after}
 use Rattle.ts_filter.proofs.BoxParts.{only_series, part_self}
@@ -26,7 +26,7 @@ use Rattle.ts_search.specs.Forms.{Form, Alone, Wide, form}
 use Rattle.ts_search.specs.Found.{tally_after}
 use Rattle.ts_search.specs.Laws.{IsBudget}
 use Rattle.ts_search.specs.Lean.{IsFree, IsLeanLine, InTime, MayFollow, AreLean, most_told}
-use Rattle.ts_search.specs.LineOf.{Search, last, requirements, refuted, refuted_last, first_no, removal_line, branch_line, form_line, line_of}
+use Rattle.ts_search.specs.LineOf.{Search, last, requirements, is_refuted_at, refuted_last, first_no, removal_line, branch_line, form_line, line_of}
 use Rattle.ts_search.specs.Listed.{IsListedBy}
 use Rattle.ts_search.proofs.Choice.{LeastFits, least_fits}
 use Rattle.ts_search.proofs.Known.{Known, no_series, to_refuted}
@@ -36,7 +36,7 @@ use Rattle.ts_search.proofs.Reason.{least_none, none_least, none_first_no, never
 use Rattle.ts_search.proofs.Unique.{all_lines, tree_size, opens_same, none_after, checked_or, checked_one, closed_steps, steps_of, same_certificate}
 use Rattle.ts_search.proofs.Walk.{IsChecked}
 
-meets_at : (m : Stated) (xs : List (List ℤ)) (i : ℕ) (x : List ℤ) → AllByRecursion (Meets m) xs → slice_get xs i ≡ Some x → Meets m x
+meets_at : (m : ModelParts) (xs : List (List ℤ)) (i : ℕ) (x : List ℤ) → AllByRecursion (Meets m) xs → slice_get xs i ≡ Some x → Meets m x
 meets_at m [] i x h e = absurd (let k : ◌≡◌ {A = Option (List ℤ)} None (Some x) = e in cc)
 meets_at m (a ∷ xs) zero x h e = subst (λ z. Meets m z) (let k : ◌≡◌ {A = Option (List ℤ)} (Some a) (Some x) = e in cc) h.0
 meets_at m (a ∷ xs) (suc i) x h e = meets_at m xs i x h.1 e
@@ -51,14 +51,14 @@ module _ (c : Search) (e : Known c) (count : ℕ) (f found : Option Find) (b : B
       ap (λ o. unwrap_or (option_map (λ j. No j (last c)) o) (form_line c (ListOf count) found b (form b))) p ∙ ap (λ z. form_line c (ListOf count) found b z) w
 
   free_end : IsFree c (ListOf count) f b → refuted_last c b ≡ None
-  free_end h = least_none (λ j. refuted c j (last c) b) (requirements c) 1 (λ j a k. never_refuted c b h.refuted j (last c))
+  free_end h = least_none (λ j. is_refuted_at c j (last c) b) (requirements c) 1 (λ j a k. never_refuted c b h.refuted j (last c))
 
   free_line : (k : ℕ) (t : ℤ) → form b ≡ Wide k t → IsFree c (ListOf count) f b → line_of c (ListOf count) found b ≡ branch_line c b k t
   free_line k t w h =
       list_line (Wide k t) w (free_end h)
       ∙ ap (λ o. unwrap_or o (branch_line c b k t)) (none_first_no c b (requirements c) 1 (never_refuted c b h.refuted))
 
-  list_fixes : (h : Head) (y : ℕ) (l : TreeLine) → claimed h.claim ≡ None → AllByRecursion (Meets c.model) h.series → IsChecked l →
+  list_fixes : (h : Head) (y : ℕ) (l : TreeLine) → claimed_value h.claim ≡ None → AllByRecursion (Meets c.model) h.series → IsChecked l →
       KeepsRule c.model c.spans h y b l → IsLeanLine c (ListOf count) f b l → l ≡ line_of c (ListOf count) found b
   list_fixes h y (Split k t) a q ch r n = sym (free_line k t n.2 n.0 ∙ ap (λ o. unwrap_or (option_map removal_line o) (Split k t)) n.1)
   list_fixes h y (Remove k v j) a q ch r n = sym (go (form b) refl)
@@ -74,7 +74,7 @@ module _ (c : Search) (e : Known c) (count : ℕ) (f found : Option Find) (b : B
 
       by_form : refuted_last c b ≡ None → (g : Form) → form b ≡ g → line_of c (ListOf count) found b ≡ No j p
       by_form z (Alone x) w =
-          let free = none_least (λ j. refuted c j (last c) b) (requirements c) 1 z in
+          let free = none_least (λ j. is_refuted_at c j (last c) b) (requirements c) 1 z in
           let meets = e.single b x i w (λ k u v. free k u (omega (arith, v))) in
           absurd (no_series c e j p b x i (alone_within c.model.cells b x i w) meets r)
       by_form z (Wide k t) w =
@@ -87,9 +87,10 @@ module _ (c : Search) (e : Known c) (count : ℕ) (f found : Option Find) (b : B
           ap (λ o. unwrap_or (option_map (λ j. No j (last c)) o) (form_line c (ListOf count) found b (form b))) z
           ∙ (let s : ◌≡◌ {A = Option TreeLine} (Some (No first (last c))) (Some (No j p)) = reason (Some first) z in cc)
   list_fixes h y (Worse p) a q ch r n = absurd (subst (λ o. MatchOption o ⊥ (λ v. IsWorseFor c.model c.spans h.aim v p b)) a r)
-  list_fixes h y Yes a q ch r n = sym (at_end (refuted_last c b) refl (least_fits (λ j. refuted c j (last c) b) (requirements c) 1))
+  list_fixes h y Yes a q ch r n = sym (at_end (refuted_last c b) refl (least_fits (λ j. is_refuted_at c j (last c) b) (requirements c) 1))
     where
-      at_end : (o : Option ℕ) → refuted_last c b ≡ o → LeastFits (λ j. refuted c j (last c) b) (requirements c) 1 o → line_of c (ListOf count) found b ≡ Yes
+      at_end : (o : Option ℕ) → refuted_last c b ≡ o → LeastFits (λ j. is_refuted_at c j (last c) b) (requirements c) 1 o →
+          line_of c (ListOf count) found b ≡ Yes
       at_end None z k = list_line (Alone r.series) (is_alone b r.series r.alone) z
       at_end (Some j) z k =
           absurd (no_series c e j (last c) b r.series i (alone_within c.model.cells b r.series i (is_alone b r.series r.alone))
@@ -99,7 +100,7 @@ module _ (c : Search) (e : Known c) (count : ℕ) (f found : Option Find) (b : B
 -- what is known of the rest of a tree; spare: the lines that the budget leaves
 pub record ListRest (c : Search) (count : ℕ) (h : Head) (most : Option ℕ) (f : Option Find) (o : Bool) (y z spare : ℕ) (w : List Box)
     (ls : List TreeLine) : Type 0 where
-  pub claim : claimed h.claim ≡ None
+  pub claim : claimed_value h.claim ≡ None
   pub meet : AllByRecursion (Meets c.model) h.series
   pub steps : Steps c.model c.spans h w y ls [] z
   pub lean : AreLean c (ListOf count) most f o y w ls
@@ -116,7 +117,7 @@ told_grows told (Worse p) = omega arith
 told_grows told Yes = omega arith
 told_grows told Unsearched = omega arith
 
-told_more : (m : Stated) (s : Spans) (h : Head) (ls : List TreeLine) (told : ℕ) (w left : List Box) (after : ℕ) → Steps m s h w told ls left after →
+told_more : (m : ModelParts) (s : Spans) (h : Head) (ls : List TreeLine) (told : ℕ) (w left : List Box) (after : ℕ) → Steps m s h w told ls left after →
     told ≤ after
 told_more m s h [] told w left after f = omega (arith, f.1)
 told_more m s h (l ∷ ls) told [] left after f = absurd f
@@ -224,7 +225,7 @@ module _ (c : Search) (count : ℕ) where
 
 -- what the yes lines tell
 
-module _ (m : Stated) (s : Spans) (h g : Head) where
+module _ (m : ModelParts) (s : Spans) (h g : Head) where
   same_count : (ls : List TreeLine) (y : ℕ) (w v v' : List Box) (z z' : ℕ) → Steps m s h w y ls v z → Steps m s g w y ls v' z' → z ≡ z'
   same_count [] y w v v' z z' p q = sym p.1 ∙ q.1
   same_count (l ∷ ls) y [] v v' z z' p q = absurd p
@@ -259,8 +260,8 @@ same_at (x ∷ xs) (y ∷ ys) e h =
 
 -- what a listed certificate's claim says
 
-module _ (m : Stated) (count n : ℕ) where
-  list_claimed : (claim : Claim) (xs : List (List ℤ)) (ls : List TreeLine) → IsListedBy m count n claim xs ls → claimed claim ≡ None
+module _ (m : ModelParts) (count n : ℕ) where
+  list_claimed : (claim : Claim) (xs : List (List ℤ)) (ls : List TreeLine) → IsListedBy m count n claim xs ls → claimed_value claim ≡ None
   list_claimed (Best v) xs ls l = absurd l
   list_claimed Infeasible xs ls l = refl
   list_claimed (BudgetBest v) xs ls l = absurd l

@@ -3,9 +3,9 @@ use Rattle.std.proofs.Common.{◌≡◌, ◌⊎◌, ℕ, zero, suc, ◌+◌, ◌
 use Rattle.std.proofs.lemmas.Option.{slice_get_within}
 use Rattle.std.specs.Prelude.{Contains}
 use Rattle.ts_domain.specs.BoxSeries.{IsBox}
-use Rattle.ts_domain.specs.Values.{Rising}
+use Rattle.ts_domain.specs.Values.{IsRising}
 use Rattle.ts_domain.proofs.Sets.{contains_cons, nothing_in, each_contains}
-use Rattle.ts_model.specs.Stated.{Stated}
+use Rattle.ts_model.specs.ModelParts.{ModelParts}
 use Rattle.ts_filter.specs.Boxes.{Box, values_at}
 use Rattle.ts_filter.specs.RefutedWorseDrop.{Spans, IsDrop}
 use Rattle.ts_filter.specs.Tests.{is_drop}
@@ -28,7 +28,7 @@ neither (Some r) later e = absurd (let f : ◌≡◌ {A = Option Removal} (Some 
 same : (q r : Removal) → ◌≡◌ {A = Option Removal} (Some q) (Some r) → q ≡ r
 same q r e = cc
 
-module _ (m : Stated) (s : Spans) (b : Box) where
+module _ (m : ModelParts) (s : Spans) (b : Box) where
   -- none
 
   none_at : (k : ℕ) (values : List ℤ) → drop_at m s b k values ≡ None → (v : ℤ) → Contains values v → drop_of m s b k v ≡ None
@@ -93,9 +93,9 @@ module _ (m : Stated) (s : Spans) (b : Box) where
   abbrev IsFirst : Removal → ℤ → ℕ → Type 0
   IsFirst r v j = (r.value <ℤ v) ⊎ ((r.value ≡ v) × (r.requirement ≤ j))
 
-  first_at : (k : ℕ) (values : List ℤ) → Rising values → (r : Removal) → drop_at m s b k values ≡ Some r → (v : ℤ) (j : ℕ) → Contains values v →
+  first_at : (k : ℕ) (values : List ℤ) → IsRising values → (r : Removal) → drop_at m s b k values ≡ Some r → (v : ℤ) (j : ℕ) → Contains values v →
       IsDrop m.requirements s k v j b → IsFirst r v j
-  unfolding Rising
+  unfolding IsRising
   first_at k [] up r e v j h d = absurd (nothing_in v h)
   first_at k (u ∷ values) up r e v j h d =
       go (drop_of m s b k u) refl ((contains_cons u values v).0 h) (λ at later. first_at k values up.1 r at v j later d)

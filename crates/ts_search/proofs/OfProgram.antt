@@ -9,8 +9,8 @@ use Rattle.ts_model.specs.declared.model.Model.{Model}
 use Rattle.ts_model.specs.declared.model.Need.{Need}
 use Rattle.ts_model.specs.declared.model.Need.TheVariants.{List as NeedsList, Best as NeedsBest}
 use Rattle.ts_model.specs.Promise.{IsWhole, KeepsLimits}
-use Rattle.ts_model.specs.Stated.{Stated}
-use Rattle.ts_model.specs.Views.{stated, term_of}
+use Rattle.ts_model.specs.ModelParts.{ModelParts}
+use Rattle.ts_model.specs.Views.{model_parts, term_of}
 use Rattle.ts_spans.specs.Machines.{spans_in}
 use Rattle.ts_spans.proofs.OfTerms.{spans_hold_values, spans_tell_singles}
 use Rattle.ts_search.specs.Asked.{AreRight}
@@ -18,25 +18,27 @@ use Rattle.ts_search.specs.Posed.{IsPosed}
 use Rattle.ts_search.specs.declared.problem.Problem.{Problem}
 
 -- all that is asked of them
-pub are_right : (m : Stated) → IsWhole m → IsBox m.cells → AreRight m (spans_in m)
+pub are_right : (m : ModelParts) → IsWhole m → IsBox m.cells → AreRight m (spans_in m)
 are_right m whole box = record { whole = whole; box = box; holds = spans_hold_values m whole; single = spans_tell_singles m whole box }
 
-posed_with : (m : Model) (p : Program) → IsProgramOf p m → IsWhole (stated m) → (need : Need) → KeepsLimits need (stated m) → (q : Problem) →
+posed_with : (m : Model) (p : Program) → IsProgramOf p m → IsWhole (model_parts m) → (need : Need) → KeepsLimits need (model_parts m) → (q : Problem) →
     q.model.now ≡ m → q.program.now ≡ p → IsPosed q
 posed_with m p of whole need limits q is_model is_program =
     let many = length-map m.terms.entries term_of in
     let terms = limits.terms in
     record {
       program = subst (λ z. IsProgramOf q.program.now z) (sym is_model) (subst (λ z. IsProgramOf z m) (sym is_program) of);
-      right = subst (λ z. AreRight (stated z) (spans_in (stated z))) (sym is_model) (are_right (stated m) whole limits.box);
+      right = subst (λ z. AreRight (model_parts z) (spans_in (model_parts z))) (sym is_model) (are_right (model_parts m) whole limits.box);
       terms = subst (λ (z : Model). length z.terms.entries ≤ most_terms) (sym is_model) (omega (arith, many, terms));
       requirements = subst (λ (z : Model). length z.requirements.items ≤ most_requirements) (sym is_model) limits.requirements;
     }
 
-pub posed_best : (m : Model) (p : Program) → IsProgramOf p m → IsWhole (stated m) → KeepsLimits NeedsBest (stated m) → (q : Problem) → q.model.now ≡ m →
+pub posed_best : (m : Model) (p : Program) → IsProgramOf p m → IsWhole (model_parts m) → KeepsLimits NeedsBest (model_parts m) → (q : Problem) →
+    q.model.now ≡ m →
     q.program.now ≡ p → IsPosed q
 posed_best m p of whole limits q is_model is_program = posed_with m p of whole NeedsBest limits q is_model is_program
 
-pub posed_list : (m : Model) (p : Program) → IsProgramOf p m → IsWhole (stated m) → KeepsLimits NeedsList (stated m) → (q : Problem) → q.model.now ≡ m →
+pub posed_list : (m : Model) (p : Program) → IsProgramOf p m → IsWhole (model_parts m) → KeepsLimits NeedsList (model_parts m) → (q : Problem) →
+    q.model.now ≡ m →
     q.program.now ≡ p → IsPosed q
 posed_list m p of whole limits q is_model is_program = posed_with m p of whole NeedsList limits q is_model is_program

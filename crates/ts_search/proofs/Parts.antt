@@ -5,12 +5,12 @@ use Rattle.std.specs.Prelude.{Contains}
 use Rattle.std.specs.List.{AllByRecursion}
 use Rattle.ts_domain.specs.BoxSeries.{InBox, IsBefore, IsBox}
 use Rattle.ts_domain.specs.Kept.{values_up_to, values_above}
-use Rattle.ts_domain.specs.Values.{Rising}
+use Rattle.ts_domain.specs.Values.{IsRising}
 use Rattle.ts_domain.proofs.BoxLaws.{contains_up_to, contains_above, some_stay}
 use Rattle.ts_domain.proofs.Sets.{contains_cons, each_contains, filter_none, le_true, le_false}
 use Rattle.ts_certificate.specs.declared.certificate.TreeLine.{TreeLine}
 use Rattle.ts_certificate.specs.declared.certificate.TreeLine.TheVariants.{Split, Remove, No, Worse, Yes, Unsearched}
-use Rattle.ts_model.specs.Stated.{Stated}
+use Rattle.ts_model.specs.ModelParts.{ModelParts}
 use Rattle.ts_filter.specs.Boxes.{Box, HasCell, values_at, low_side, high_side, box_of, IsPart, InSome}
 use Rattle.ts_filter.specs.RefutedWorseDrop.{Spans, IsDrop}
 use Rattle.ts_filter.specs.Rules.{Head, IsSplit, KeepsRule}
@@ -42,8 +42,8 @@ above_at v z [] j h l = absurd (omega (arith, l))
 above_at v z (u ∷ d) zero h l = h.0
 above_at v z (u ∷ d) (suc j) h l = above_at v z d j h.1 (omega (arith, l))
 
-rising_at : (z : ℤ) (d : List ℤ) (i : ℕ) → Rising d → suc i < length d → get_or d i z <ℤ get_or d (suc i) z
-unfolding Rising
+rising_at : (z : ℤ) (d : List ℤ) (i : ℕ) → IsRising d → suc i < length d → get_or d i z <ℤ get_or d (suc i) z
+unfolding IsRising
 rising_at z [] i h l = absurd (omega (arith, l))
 rising_at z (u ∷ d) zero h l = above_at u z d zero h.0 (omega (arith, l))
 rising_at z (u ∷ d) (suc i) h l = rising_at z d i h.1 (omega (arith, l))
@@ -58,8 +58,8 @@ kept_first : (t u : ℤ) (d : List ℤ) → u ≤ℤ t → length (values_up_to 
 kept_first t u d l = ap (λ b. length (cond b (u ∷ values_up_to t d) (values_up_to t d))) (le_true u t l)
 
 -- as many values are up to the one at a place as stand before it, and itself
-up_to_at : (z : ℤ) (d : List ℤ) (i : ℕ) → Rising d → i < length d → length (values_up_to (get_or d i z) d) ≡ suc i
-unfolding Rising
+up_to_at : (z : ℤ) (d : List ℤ) (i : ℕ) → IsRising d → i < length d → length (values_up_to (get_or d i z) d) ≡ suc i
+unfolding IsRising
 up_to_at z [] i h l = absurd (omega (arith, l))
 up_to_at z (u ∷ d) zero h l = kept_first u u d (at_most_self u) ∙ ap (λ w. suc (length {A = ℤ} w)) (above_none u d h.0)
 up_to_at z (u ∷ d) (suc i) h l =
@@ -68,7 +68,7 @@ up_to_at z (u ∷ d) (suc i) h l =
     less : (a b : ℤ) → a <ℤ b → a ≤ℤ b
     less a b l = omega (arith, ints, l)
 
-wide_here : (v u : ℤ) (d : List ℤ) (b : Box) → Rising (v ∷ u ∷ d) → FormFits ((v ∷ u ∷ d) ∷ b) (Wide 1 (get_or (v ∷ u ∷ d) ((length d + 1) / 2) v))
+wide_here : (v u : ℤ) (d : List ℤ) (b : Box) → IsRising (v ∷ u ∷ d) → FormFits ((v ∷ u ∷ d) ∷ b) (Wide 1 (get_or (v ∷ u ∷ d) ((length d + 1) / 2) v))
 wide_here v u d b r =
     let i = (length d + 1) / 2 in
     let all = v ∷ u ∷ d in
@@ -151,7 +151,7 @@ one_value (v ∷ x) zero = omega arith
 one_value (v ∷ x) (suc i) = one_value x i
 
 -- a box of one series has no drop
-pub drop_not_alone : (m : Stated) (s : Spans) (k : ℕ) (v : ℤ) (j : ℕ) (b : Box) (x : List ℤ) → IsPart b m.cells →
+pub drop_not_alone : (m : ModelParts) (s : Spans) (k : ℕ) (v : ℤ) (j : ℕ) (b : Box) (x : List ℤ) → IsPart b m.cells →
     IsDrop m.requirements s k v j b → form b ≡ Alone x → ⊥
 drop_not_alone m s k v j b x i d e =
     let many = subst (λ z. 2 ≤ length (values_at k z)) (alone_is m.cells b x i e) d.many in
@@ -164,7 +164,7 @@ abbrev pub InOrder : List Box → Type 0
 InOrder [] = Unit {0}
 InOrder (b ∷ w) = ((x y : List ℤ) → InBox x b → InSome w y → IsBefore x y) × InOrder w
 
-pub in_made : (m : Stated) (s : Spans) (h : Head) (told : ℕ) (l : TreeLine) (b : Box) (u : List Box) (y : List ℤ) → KeepsRule m s h told b l →
+pub in_made : (m : ModelParts) (s : Spans) (h : Head) (told : ℕ) (l : TreeLine) (b : Box) (u : List Box) (y : List ℤ) → KeepsRule m s h told b l →
     InSome (made_by l b ++ u) y → InSome (b ∷ u) y
 in_made m s h told (Split k t) b u y r i = ⊎_elim (λ a. inl (from_low k t b y r.cell a).0)
     (λ q. ⊎_elim (λ a. inl (from_high k t b y r.cell a).0) (λ a. inr a) q) i

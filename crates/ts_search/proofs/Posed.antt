@@ -6,7 +6,7 @@ use Rattle.std.specs.Prelude.{IsTrue, IfSome}
 use Rattle.ts_bound.specs.TermSpans.{Automata, term_span}
 use Rattle.ts_domain.specs.Values.{IsDomain}
 use Rattle.ts_model.specs.declared.model.Require.{Require}
-use Rattle.ts_model.specs.Views.{stated, term_of}
+use Rattle.ts_model.specs.Views.{model_parts, term_of}
 use Rattle.ts_spans.specs.Machines.{automata_for, automata_in}
 use Rattle.ts_filter.specs.declared.bar.Bar.{Bar}
 use Rattle.ts_filter.specs.declared.drops.Removal.{Removal as GivenRemoval}
@@ -20,7 +20,7 @@ use Rattle.ts_filter.specs.Tests.{cut_by as cut_by_term}
 use Rattle.ts_filter.proofs.BoxParts.{domain_at, inside_length, place}
 use Rattle.ts_search.specs.Dive.{kept_for, kept_value}
 use Rattle.ts_search.specs.Drops.{least, next_drop}
-use Rattle.ts_search.specs.LineOf.{cut, cut_by, inner, last, refuted}
+use Rattle.ts_search.specs.LineOf.{is_cut_at, cut_by, inner, last, is_refuted_at}
 use Rattle.ts_search.specs.Posed.{AreTablesOf, IsPosed}
 use Rattle.ts_search.specs.Views.{removal_of, search_of}
 use Rattle.ts_search.specs.declared.problem.Problem.{Problem}
@@ -38,7 +38,7 @@ told_of (d ∷ tables) term Is Goal lt h f =
 
 -- the same of the machine among those of the model
 pub told_in : (q : Problem) (tables : List Automata) (term : ℕ) (Is : Automata → Type 0) (Goal : Type 0) → AreTablesOf q tables → term < length tables →
-    OfTerm tables term Is → ((a : Automata) → slice_get (automata_in (stated q.model.now)) term ≡ Some a → Is a → Goal) → Goal
+    OfTerm tables term Is → ((a : Automata) → slice_get (automata_in (model_parts q.model.now)) term ≡ Some a → Is a → Goal) → Goal
 told_in q tables term Is Goal t lt h f = told_of tables term Is Goal lt h (λ a there is. f a (ap (λ l. slice_get l term) (sym t) ∙ there) is)
 
 module _ (q : Problem) (posed : IsPosed q) where
@@ -75,21 +75,21 @@ module _ (q : Problem) (posed : IsPosed q) where
   module _ (b : Box) (i : IsPart b (search_of q).model.cells) where
     -- requirement j with its machine
     module _ (j : ℕ) (r : Require) (a : Automata) (from : 1 ≤ j) (there : slice_get q.model.now.requirements.items (j - 1) ≡ Some r)
-        (machine : slice_get (automata_in (stated q.model.now)) r.term ≡ Some a) where
+        (machine : slice_get (automata_in (model_parts q.model.now)) r.term ≡ Some a) where
       pub refuted_told : (p : ℕ) (told : Bool) → p ≡ length b → IsTrue told ↔ Refutes r.op r.bound (term_span a p b) →
-          told ≡ refuted (search_of q) j (last (search_of q)) b
+          told ≡ is_refuted_at (search_of q) j (last (search_of q)) b
       refuted_told p told at h =
           let size = part_size b i in
           let some = some_cells in
-          refuted_is (automata_in (stated q.model.now)) r.term a machine
+          refuted_is (automata_in (model_parts q.model.now)) r.term a machine
           q.model.now.requirements.items j r (from, there) refl p b
           (record { from = omega (arith, at, size, some); to = omega (arith, at); last = λ e. at }) told h
-          ∙ ap (λ z. refuted (search_of q) j z b) (at ∙ size)
+          ∙ ap (λ z. is_refuted_at (search_of q) j z b) (at ∙ size)
 
       pub first_refuted_told : (found : Option ℕ) → IsFirstCell a (Refutes r.op r.bound) b found →
-          found ≡ least (λ p. refuted (search_of q) j p b) (inner (search_of q)) 1
+          found ≡ least (λ p. is_refuted_at (search_of q) j p b) (inner (search_of q)) 1
       first_refuted_told found h =
-          first_refuted_is (automata_in (stated q.model.now)) r.term a machine
+          first_refuted_is (automata_in (model_parts q.model.now)) r.term a machine
           q.model.now.requirements.items j r (from, there) refl b
           (last (search_of q)) (part_size b i) found h
 
@@ -101,34 +101,34 @@ module _ (q : Problem) (posed : IsPosed q) where
 
     -- the objective with its machine, where there is a bar
     module _ (term : ℕ) (a : Automata) (objective : q.model.now.objective ≡ Some term)
-        (machine : slice_get (automata_in (stated q.model.now)) term ≡ Some a) where
+        (machine : slice_get (automata_in (model_parts q.model.now)) term ≡ Some a) where
       pub cut_told : (bar : Bar) (told : Bool) → IsTrue told ↔ Cuts q.goal bar (term_span a (length b) b) →
-          told ≡ cut (search_of q) (last (search_of q)) b bar
+          told ≡ is_cut_at (search_of q) (last (search_of q)) b bar
       cut_told bar told h =
-          cut_is (automata_in (stated q.model.now)) term a machine (search_of q).model objective q.goal bar b
+          cut_is (automata_in (model_parts q.model.now)) term a machine (search_of q).model objective q.goal bar b
           (last (search_of q)) (part_size b i) some_cells told h
 
       pub first_cut_told : (bar : Bar) (found : Option ℕ) → IsFirstCell a (Cuts q.goal bar) b found →
-          found ≡ least (λ p. cut (search_of q) p b bar) (inner (search_of q)) 1
+          found ≡ least (λ p. is_cut_at (search_of q) p b bar) (inner (search_of q)) 1
       first_cut_told bar found h =
-          first_cut_is (automata_in (stated q.model.now)) term a machine (search_of q).model objective q.goal bar b
+          first_cut_is (automata_in (model_parts q.model.now)) term a machine (search_of q).model objective q.goal bar b
           (last (search_of q)) (part_size b i) found h
 
       pub kept_told : (k : ℕ) (v : ℤ) → HasCell k b → IsKept a q.goal k b v →
           v ≡ kept_value (search_of q).model (search_of q).spans q.goal k b
       kept_told k v cell h =
           let d : IsDomain (values_at k b) = domain_at b (k - 1) i.box (place k b cell) in
-          kept_is (automata_in (stated q.model.now)) term a machine q.goal k b
+          kept_is (automata_in (model_parts q.model.now)) term a machine q.goal k b
           v d (best_there (end_with a q.goal k b) q.goal (values_at k b) d.some) h
           ∙ ap (kept_for (search_of q).spans q.goal k b) (sym objective)
 
     -- by a bar that there is
-    pub cut_by_bar : (o : Option Bar) (bar : Bar) (told : Bool) → o ≡ Some bar → told ≡ cut (search_of q) (last (search_of q)) b bar →
+    pub cut_by_bar : (o : Option Bar) (bar : Bar) (told : Bool) → o ≡ Some bar → told ≡ is_cut_at (search_of q) (last (search_of q)) b bar →
         told ≡ cut_by (search_of q) o (last (search_of q)) b
     cut_by_bar o bar told some h = h ∙ ap (λ z. cut_by (search_of q) z (last (search_of q)) b) (sym some)
 
     pub first_cut_by_bar : (o : Option Bar) (bar : Bar) (found : Option ℕ) → o ≡ Some bar →
-        found ≡ least (λ p. cut (search_of q) p b bar) (inner (search_of q)) 1 → found ≡ least (λ p. cut_by (search_of q) o p b) (inner (search_of q)) 1
+        found ≡ least (λ p. is_cut_at (search_of q) p b bar) (inner (search_of q)) 1 → found ≡ least (λ p. cut_by (search_of q) o p b) (inner (search_of q)) 1
     first_cut_by_bar o bar found some h = h ∙ ap (λ z. least (λ p. cut_by (search_of q) z p b) (inner (search_of q)) 1) (sym some)
 
     -- without a bar nothing is cut
@@ -140,12 +140,12 @@ module _ (q : Problem) (posed : IsPosed q) where
         sym (never_least (inner (search_of q)) 1) ∙ ap (λ z. least (λ p. cut_by (search_of q) z p b) (inner (search_of q)) 1) (sym none)
 
     -- nor without an objective
-    no_term : (bar : Bar) (p : ℕ) → q.model.now.objective ≡ None → false ≡ cut (search_of q) p b bar
+    no_term : (bar : Bar) (p : ℕ) → q.model.now.objective ≡ None → false ≡ is_cut_at (search_of q) p b bar
     no_term bar p none = ap (cut_by_term (search_of q).spans q.goal p b bar) (sym none)
 
-    pub uncut_without : (bar : Bar) → q.model.now.objective ≡ None → false ≡ cut (search_of q) (last (search_of q)) b bar
+    pub uncut_without : (bar : Bar) → q.model.now.objective ≡ None → false ≡ is_cut_at (search_of q) (last (search_of q)) b bar
     uncut_without bar none = no_term bar (last (search_of q)) none
 
-    pub none_cut_without : (bar : Bar) → q.model.now.objective ≡ None → None ≡ least (λ p. cut (search_of q) p b bar) (inner (search_of q)) 1
+    pub none_cut_without : (bar : Bar) → q.model.now.objective ≡ None → None ≡ least (λ p. is_cut_at (search_of q) p b bar) (inner (search_of q)) 1
     none_cut_without bar none =
-        least_is (λ p. cut (search_of q) p b bar) (inner (search_of q)) 1 None (λ p from to. sym (no_term bar p none))
+        least_is (λ p. is_cut_at (search_of q) p b bar) (inner (search_of q)) 1 None (λ p from to. sym (no_term bar p none))

@@ -15,7 +15,7 @@ use Rattle.ts_search.specs.Dive.{Find}
 use Rattle.ts_search.specs.Drops.{Removal, least, or_later, next_drop}
 use Rattle.ts_search.specs.Forms.{Form, Alone, Wide, form}
 use Rattle.ts_search.specs.Lean.{below_told, below_warm, below, worse_line, last_worse, inner_reason, first_reason, IsFree, IsLeanLine}
-use Rattle.ts_search.specs.LineOf.{Search, last, requirements, inner, refuted, cut, bar_of, cut_by, refuted_last, no_line, first_no, removal_line, branch_line, wide_line, form_line, line_of}
+use Rattle.ts_search.specs.LineOf.{Search, last, requirements, inner, is_refuted_at, is_cut_at, bar_of, cut_by, refuted_last, no_line, first_no, removal_line, branch_line, wide_line, form_line, line_of}
 use Rattle.ts_search.proofs.Choice.{LeastFits, least_fits}
 use Rattle.ts_search.proofs.Good.{kept}
 use Rattle.ts_search.proofs.Known.{clash, chain, apart, cut_more, to_refuted, from_refuted, to_cut, part_length}
@@ -35,15 +35,15 @@ implies false y h = refl
 pub one_bar : (c : Search) (p : ℕ) (b : Box) (f warm : Option Find) → (below_told c f p b || below_warm c warm p b) ≡ cut_by c (bar_of (kept c f warm) warm) p b
 one_bar c p b None None = refl
 one_bar c p b None (Some w) = refl
-one_bar c p b (Some f) None = implied (cut c p b (Better f.value)) false (λ e. absurd (let k : ◌≡◌ {A = Bool} false true = e in cc))
+one_bar c p b (Some f) None = implied (is_cut_at c p b (Better f.value)) false (λ e. absurd (let k : ◌≡◌ {A = Bool} false true = e in cc))
 one_bar c p b (Some f) (Some w) =
     elim (is_better c.goal w.value f.value) as (λ t. is_better c.goal w.value f.value ≡ t →
-    (cut c p b (Better f.value) || cut c p b (AsGood w.value)) ≡ cut_by c (bar_of (cond t None (Some f)) (Some w)) p b) [
-      | true ↦ λ e. implies (cut c p b (Better f.value)) (cut c p b (AsGood w.value))
+    (is_cut_at c p b (Better f.value) || is_cut_at c p b (AsGood w.value)) ≡ cut_by c (bar_of (cond t None (Some f)) (Some w)) p b) [
+      | true ↦ λ e. implies (is_cut_at c p b (Better f.value)) (is_cut_at c p b (AsGood w.value))
           (cut_more c p b (Better f.value) (AsGood w.value)
           (λ u k. ⊎_elim (λ a. absurd (clash (is_better c.goal w.value u) a (not-true (is_better c.goal w.value u) k))) (λ a. a)
           (apart c.goal w.value u f.value e)))
-      | false ↦ λ e. implied (cut c p b (Better f.value)) (cut c p b (AsGood w.value))
+      | false ↦ λ e. implied (is_cut_at c p b (Better f.value)) (is_cut_at c p b (AsGood w.value))
           (cut_more c p b (AsGood w.value) (Better f.value)
           (λ u k. ap not (false_from_ne_true (is_better c.goal w.value u)
           (λ a. clash (is_better c.goal w.value f.value) (chain c.goal w.value u f.value a k) e))))
@@ -76,20 +76,21 @@ no_line_none : (j : ℕ) (o : Option ℕ) (r : Option TreeLine) → no_line j o 
 no_line_none j None r e = (refl, e)
 no_line_none j (Some p) r e = absurd (let k : ◌≡◌ {A = Option TreeLine} (Some (No j p)) None = e in cc)
 
-pub first_no_none : (c : Search) (b : Box) (n j : ℕ) → first_no c b n j ≡ None → (i p : ℕ) → j ≤ i → i < j + n → 1 ≤ p → p ≤ inner c → refuted c i p b ≡ false
+pub first_no_none : (c : Search) (b : Box) (n j : ℕ) → first_no c b n j ≡ None → (i p : ℕ) → j ≤ i → i < j + n → 1 ≤ p → p ≤ inner c →
+    is_refuted_at c i p b ≡ false
 first_no_none c b zero j e = λ i p a d k m. absurd (omega arith)
 first_no_none c b (suc n) j e =
-    let r = no_line_none j (least (λ p. refuted c j p b) (inner c) 1) (first_no c b n (suc j)) e in
+    let r = no_line_none j (least (λ p. is_refuted_at c j p b) (inner c) 1) (first_no c b n (suc j)) e in
     let later = first_no_none c b n (suc j) r.1 in
     λ i p a d k m. ⊎_elim
-    (λ q. subst (λ z. refuted c z p b ≡ false) q (none_least (λ z. refuted c j z b) (inner c) 1 r.0 p k (omega arith)))
+    (λ q. subst (λ z. is_refuted_at c z p b ≡ false) q (none_least (λ z. is_refuted_at c j z b) (inner c) 1 r.0 p k (omega arith)))
     (λ q. later i p q (omega arith) k m)
     (eq-or-lt_of_le a)
 
-pub none_first_no : (c : Search) (b : Box) (n j : ℕ) → ((i p : ℕ) → refuted c i p b ≡ false) → first_no c b n j ≡ None
+pub none_first_no : (c : Search) (b : Box) (n j : ℕ) → ((i p : ℕ) → is_refuted_at c i p b ≡ false) → first_no c b n j ≡ None
 none_first_no c b zero j h = refl
 none_first_no c b (suc n) j h =
-    ap (λ o. no_line j o (first_no c b n (suc j))) (least_none (λ p. refuted c j p b) (inner c) 1 (λ p k m. h j p)) ∙ none_first_no c b n (suc j) h
+    ap (λ o. no_line j o (first_no c b n (suc j))) (least_none (λ p. is_refuted_at c j p b) (inner c) 1 (λ p k m. h j p)) ∙ none_first_no c b n (suc j) h
 
 abbrev pub branch_at : Search → Box → Form → TreeLine
 branch_at c b (Alone x) = Worse (last c)
@@ -100,8 +101,8 @@ or_unwrap None r z = refl
 or_unwrap (Some l) r z = refl
 
 -- where no requirement is refuted, the test says so, and the reverse
-pub never_refuted : (c : Search) (b : Box) → ((j p : ℕ) → IsRefuted c.model.requirements c.spans j p b → ⊥) → (j p : ℕ) → refuted c j p b ≡ false
-never_refuted c b h j p = false_from_ne_true (refuted c j p b) (λ e. h j p (to_refuted c j p b e))
+pub never_refuted : (c : Search) (b : Box) → ((j p : ℕ) → IsRefuted c.model.requirements c.spans j p b → ⊥) → (j p : ℕ) → is_refuted_at c j p b ≡ false
+never_refuted c b h j p = false_from_ne_true (is_refuted_at c j p b) (λ e. h j p (to_refuted c j p b e))
 
 at_last_or_inner : (p n : ℕ) → 1 ≤ p → p ≤ n → (p ≡ n) ⊎ (p ≤ n - 1)
 at_last_or_inner p n a b = ⊎_elim (λ e. inl e) (λ l. inr (omega (arith, l))) (eq-or-lt_of_le b)
@@ -134,9 +135,9 @@ free_of_no c b i end below j p r =
     let many : j ≤ requirements c = (let a = r.is.0 in omega (arith, within, a)) in
     let n = part_length c b i in
     ⊎_elim
-    (λ z. clash (refuted c j p b) t (subst (λ y. refuted c j y b ≡ false) (sym z)
-    (none_least (λ k. refuted c k (last c) b) (requirements c) 1 end j r.is.0 (omega (arith, many)))))
-    (λ l. clash (refuted c j p b) t (first_no_none c b (requirements c) 1 below j p r.is.0 (omega (arith, many)) r.usable.cell.0 l))
+    (λ z. clash (is_refuted_at c j p b) t (subst (λ y. is_refuted_at c j y b ≡ false) (sym z)
+    (none_least (λ k. is_refuted_at c k (last c) b) (requirements c) 1 end j r.is.0 (omega (arith, many)))))
+    (λ l. clash (is_refuted_at c j p b) t (first_no_none c b (requirements c) 1 below j p r.is.0 (omega (arith, many)) r.usable.cell.0 l))
     (at_last_or_inner p (last c) r.usable.cell.0 (omega (arith, n, r.usable.cell.1)))
 
 abbrev pub goal_aim : Search → Aim
@@ -175,7 +176,7 @@ module _ (c : Search) (f : Option Find) (b : Box) where
   no_reason : (k : ℕ) (t : ℤ) → form b ≡ Wide k t → IsFree c (goal_aim c) f b → first_reason c (goal_aim c) f b ≡ None
   no_reason k t w h =
       let never = never_refuted c b h.refuted in
-      let end = least_none (λ j. refuted c j (last c) b) (requirements c) 1 (λ j i m. never j (last c)) in
+      let end = least_none (λ j. is_refuted_at c j (last c) b) (requirements c) 1 (λ j i m. never j (last c)) in
       let not_below = λ (p : ℕ). ap (λ z. z || below_warm c c.warm p b) (h.told p refl) ∙ h.warm p refl in
       let below_end : below c f (last c) b ≡ false = not_below (last c) in
       let inside = none_first_no c b (requirements c) 1 never in
@@ -233,7 +234,7 @@ reason_worse (Some p) = tt
 
 pub reason_first_no : (c : Search) (b : Box) (n j : ℕ) → GivesReason (first_no c b n j)
 reason_first_no c b zero j = tt
-reason_first_no c b (suc n) j = go (least (λ p. refuted c j p b) (inner c) 1) (first_no c b n (suc j)) (reason_first_no c b n (suc j))
+reason_first_no c b (suc n) j = go (least (λ p. is_refuted_at c j p b) (inner c) 1) (first_no c b n (suc j)) (reason_first_no c b n (suc j))
   where
     go : (o : Option ℕ) (r : Option TreeLine) → GivesReason r → GivesReason (no_line j o r)
     go None r h = h

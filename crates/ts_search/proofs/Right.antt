@@ -13,7 +13,7 @@ use Rattle.ts_pattern.specs.TermValue.{value_of as value_of_parts}
 use Rattle.ts_model.specs.declared.model.Require.{Require}
 use Rattle.ts_model.specs.Compares.{compares}
 use Rattle.ts_model.specs.Meets.{IsMet, Meets, value_at, values_on}
-use Rattle.ts_model.specs.Stated.{Stated}
+use Rattle.ts_model.specs.ModelParts.{ModelParts}
 use Rattle.ts_filter.specs.declared.bar.Bar.{Bar}
 use Rattle.ts_filter.specs.Accepts.{value_of_term, objective_of}
 use Rattle.ts_filter.specs.Boxes.{Box, IsPart, box_of}
@@ -24,7 +24,7 @@ use Rattle.ts_filter.proofs.SoundLaws.{values_are_sound, singles_are_exact}
 use Rattle.ts_search.specs.Asked.{AreRight}
 use Rattle.ts_search.specs.Dive.{value_of}
 use Rattle.ts_search.specs.Forms.{Alone, form}
-use Rattle.ts_search.specs.LineOf.{Search, search_for, last, requirements, refuted, cut}
+use Rattle.ts_search.specs.LineOf.{Search, search_for, last, requirements, is_refuted_at, is_cut_at}
 use Rattle.ts_search.proofs.DiveLaws.{dive_fits}
 use Rattle.ts_search.proofs.Known.{clash, Known, KnownBest, from_refuted, from_cut}
 use Rattle.ts_search.proofs.Parts.{alone_is, alone_within, series_length}
@@ -38,13 +38,13 @@ each_at P [] i r h e = absurd (let f : ◌≡◌ {A = Option Require} None (Some
 each_at P (q ∷ rs) zero r h e = subst P (let f : ◌≡◌ {A = Option Require} (Some q) (Some r) = e in cc) h.0
 each_at P (q ∷ rs) (suc i) r h e = each_at P rs i r h.1 e
 
-value_there : (m : Stated) (x : List ℤ) (term : ℕ) → term < length m.terms → (v : Ext) × (value_at m x term ≡ Some v)
+value_there : (m : ModelParts) (x : List ℤ) (term : ℕ) → term < length m.terms → (v : Ext) × (value_at m x term ≡ Some v)
 value_there m x term l =
     let n : term < length (values_on m x) =
     omega (arith, l, length-map m.terms (λ t. value_of_parts t.1.aggregator t.1.feature t.1.pattern x)) in
     (get_or (values_on m x) term NegInf, slice_get-get_or (values_on m x) term NegInf n)
 
-module _ (m : Stated) (s : Spans) (right : AreRight m s) where
+module _ (m : ModelParts) (s : Spans) (right : AreRight m s) where
   met : (x : List ℤ) → InBox x m.cells →
       ((j : ℕ) (r : Require) → IsRequirement m.requirements j r → IsRefuted m.requirements s j (length x) (box_of x) → ⊥) → Meets m x
   met x within free = record {
@@ -83,13 +83,13 @@ module _ (m : Stated) (s : Spans) (right : AreRight m s) where
           w.1 ∙ ap (λ o. Some (unwrap_or o NegInf)) (sym w.1)
 
 module _ (c : Search) (right : AreRight c.model c.spans) where
-  single : (b : Box) (x : List ℤ) → IsPart b c.model.cells → form b ≡ Alone x → ((j : ℕ) → 1 ≤ j → j ≤ requirements c → refuted c j (last c) b ≡ false) →
+  single : (b : Box) (x : List ℤ) → IsPart b c.model.cells → form b ≡ Alone x → ((j : ℕ) → 1 ≤ j → j ≤ requirements c → is_refuted_at c j (last c) b ≡ false) →
       Meets c.model x
   single b x i e free =
       let within = in_box_inside b c.model.cells x i.inside (alone_within c.model.cells b x i e) in
       let n : length x ≡ last c = series_length x c.model.cells within in
       met c.model c.spans right x within
-      (λ j r req k. clash (refuted c j (last c) b)
+      (λ j r req k. clash (is_refuted_at c j (last c) b)
       (from_refuted c j (last c) b
       (subst (λ z. IsRefuted c.model.requirements c.spans j z b) n
       (subst (λ z. IsRefuted c.model.requirements c.spans j (length x) z) (sym (alone_is c.model.cells b x i e)) k)))
@@ -98,7 +98,7 @@ module _ (c : Search) (right : AreRight c.model c.spans) where
   pub known : Known c
   known = record { box = right.box; sound = values_are_sound c.model c.spans right.holds; single = single }
 
-  cut_single : IsSome c.model.objective → (b : Box) (bar : Bar) (x : List ℤ) → IsPart b c.model.cells → form b ≡ Alone x → cut c (last c) b bar ≡ false →
+  cut_single : IsSome c.model.objective → (b : Box) (bar : Bar) (x : List ℤ) → IsPart b c.model.cells → form b ≡ Alone x → is_cut_at c (last c) b bar ≡ false →
       counts c.goal bar (value_of c.model x) ≡ true
   cut_single some b bar x i e k = go (counts c.goal bar (value_of c.model x)) refl
     where
@@ -111,9 +111,9 @@ module _ (c : Search) (right : AreRight c.model c.spans) where
           let n : length x ≡ last c = series_length x c.model.cells within in
           let is = ((singles_are_exact c.model c.spans right.whole right.single).cut c.goal bar x (value_of c.model x) within
           (valued c.model c.spans right x some)).1 q in
-          absurd (clash (cut c (last c) b bar)
-          (subst (λ z. cut c (last c) z bar ≡ true) (sym (alone_is c.model.cells b x i e))
-          (subst (λ z. cut c z (box_of x) bar ≡ true) n (from_cut c (length x) (box_of x) bar is))) k)
+          absurd (clash (is_cut_at c (last c) b bar)
+          (subst (λ z. is_cut_at c (last c) z bar ≡ true) (sym (alone_is c.model.cells b x i e))
+          (subst (λ z. is_cut_at c z (box_of x) bar ≡ true) n (from_cut c (length x) (box_of x) bar is))) k)
 
   pub known_best : IsSome c.model.objective → MatchOption c.warm (Unit {0}) (λ w. Meets c.model w.series × (w.value ≡ value_of c.model w.series)) → KnownBest c
   known_best some warm = record {
@@ -124,5 +124,5 @@ module _ (c : Search) (right : AreRight c.model c.spans) where
   }
 
 -- of the search for the best, with the dive's series
-pub best_known : (m : Stated) (s : Spans) (goal : Goal) → AreRight m s → IsSome m.objective → KnownBest (search_for m s (BestOf goal))
+pub best_known : (m : ModelParts) (s : Spans) (goal : Goal) → AreRight m s → IsSome m.objective → KnownBest (search_for m s (BestOf goal))
 best_known m s goal right some = known_best (search_for m s (BestOf goal)) right some (dive_fits m s goal right.box)

@@ -18,7 +18,7 @@ use Rattle.ts_model.specs.Meets.{Meets}
 use Rattle.ts_filter.specs.Accepts.{Accepts, HasTree, value_of_term}
 use Rattle.ts_filter.specs.Boxes.{Box}
 use Rattle.ts_filter.specs.Excluded.{is_better}
-use Rattle.ts_filter.specs.Rules.{Head, claimed, MayStayOpen, KeepsRule, IsWorseFor}
+use Rattle.ts_filter.specs.Rules.{Head, claimed_value, MayStayOpen, KeepsRule, IsWorseFor}
 use Rattle.ts_filter.specs.Steps.{Steps}
 use Rattle.ts_filter.proofs.TreeLaws.{tree_is_steps, steps_go_on}
 use Rattle.ts_search.specs.Dive.{Find, value_of}
@@ -84,8 +84,8 @@ module _ (c : Search) where
 
   -- the rules of checked lines ask the claim's value alone
   same_value : (claim other : Claim) (xs ys : List (List ℤ)) →
-      ((p : ℕ) (b : Box) → MatchOption (claimed claim) ⊥ (λ v. IsWorseFor c.model c.spans (BestOf c.goal) v p b) →
-      MatchOption (claimed other) ⊥ (λ v. IsWorseFor c.model c.spans (BestOf c.goal) v p b)) →
+      ((p : ℕ) (b : Box) → MatchOption (claimed_value claim) ⊥ (λ v. IsWorseFor c.model c.spans (BestOf c.goal) v p b) →
+      MatchOption (claimed_value other) ⊥ (λ v. IsWorseFor c.model c.spans (BestOf c.goal) v p b)) →
       (y : ℕ) (b : Box) (l : TreeLine) → IsChecked l → KeepsRule c.model c.spans (head c claim xs) y b l → KeepsRule c.model c.spans (head c other ys) y b l
   same_value claim other xs ys g y b (Split k t) ch f = f
   same_value claim other xs ys g y b (Remove k v j) ch f = f
@@ -104,7 +104,7 @@ module _ (c : Search) where
       never_itself c.goal w.value (subst (λ z. is_better c.goal w.value z ≡ true) (sym h.1) (g w.series h.0))
 
   none_worse : (warm : Option Find) → WarmFits warm → ((y : List ℤ) → Meets c.model y → Settled c None warm y) → (p : ℕ) (b : Box) →
-      MatchOption (claimed (budget_claim warm)) ⊥ (λ v. IsWorseFor c.model c.spans (BestOf c.goal) v p b) → ⊥
+      MatchOption (claimed_value (budget_claim warm)) ⊥ (λ v. IsWorseFor c.model c.spans (BestOf c.goal) v p b) → ⊥
   none_worse None h g p b k = k
   none_worse (Some w) h g p b k = none_left (Some w) h g w.series h.0
 

@@ -15,7 +15,7 @@ use Rattle.ts_certificate.specs.declared.certificate.TreeLine.TheVariants.{Split
 use Rattle.ts_certificate.specs.Certificate.{Cert, checked_count, open_count}
 use Rattle.ts_domain.specs.BoxSeries.{IsBefore, series_count}
 use Rattle.ts_model.specs.FirstBest.{HasObjective, FirstBest, is_as_good}
-use Rattle.ts_model.specs.Stated.{Stated}
+use Rattle.ts_model.specs.ModelParts.{ModelParts}
 use Rattle.ts_filter.specs.Accepts.{HasTree, objective_of}
 use Rattle.ts_filter.specs.Boxes.{Box}
 use Rattle.ts_filter.specs.RefutedWorseDrop.{Spans}
@@ -220,7 +220,7 @@ module _ (c : Search) where
         (checked_or l)
 
 -- where no line may stay open, none does
-pub closed_steps : (m : Stated) (s : Spans) (h : Head) → (MayStayOpen h.claim → ⊥) → (ls : List TreeLine) (y : ℕ) (w left : List Box) (after : ℕ) →
+pub closed_steps : (m : ModelParts) (s : Spans) (h : Head) → (MayStayOpen h.claim → ⊥) → (ls : List TreeLine) (y : ℕ) (w left : List Box) (after : ℕ) →
     Steps m s h w y ls left after → open_count ls ≡ 0
 closed_steps m s h n [] y w left after f = refl
 closed_steps m s h n (l ∷ ls) y [] left after f = absurd f
@@ -250,7 +250,7 @@ as_good_same : (goal : Goal) (v w : Ext) → is_as_good goal v w ≡ true → is
 as_good_same Maximise v w p q = le_antisym v w q p
 as_good_same Minimise v w p q = le_antisym v w p q
 
-pub one_best : (m : Stated) (goal : Goal) (x y : List ℤ) → FirstBest m goal x → FirstBest m goal y → x ≡ y
+pub one_best : (m : ModelParts) (goal : Goal) (x y : List ℤ) → FirstBest m goal x → FirstBest m goal y → x ≡ y
 one_best m goal x y p q =
     let same = as_good_same goal p.value q.value (p.best y q.value q.meets q.is) (q.best x p.value p.meets p.is) in
     ⊎_elim (λ e. e)
@@ -316,7 +316,7 @@ module _ (c : Search) (n : ℕ) (ls : List TreeLine) (xs ys : List (List ℤ)) w
   same_claim BudgetNone (BudgetList i) s t k m = absurd t
 
 -- the steps of an accepted certificate
-pub steps_of : (m : Stated) (s : Spans) (a : Cert) (t : HasTree m s a) → Steps m s (head_of a) (m.cells ∷ []) 0 a.tree [] (told_after t.tree 0)
+pub steps_of : (m : ModelParts) (s : Spans) (a : Cert) (t : HasTree m s a) → Steps m s (head_of a) (m.cells ∷ []) 0 a.tree [] (told_after t.tree 0)
 steps_of m s a t =
     subst (λ z. Steps m s (head_of a) (m.cells ∷ []) 0 z [] (told_after t.tree 0)) t.lines (to_steps m s (head_of a) m.cells t.tree t.fits)
 

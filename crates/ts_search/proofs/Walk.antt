@@ -3,7 +3,7 @@ use Rattle.std.proofs.Common.{◌≡◌, ℕ, List, [], ◌∷◌, ◌++◌, len
 use Rattle.ts_certificate.specs.declared.certificate.TreeLine.{TreeLine}
 use Rattle.ts_certificate.specs.declared.certificate.TreeLine.TheVariants.{Split, Remove, No, Worse, Yes, Unsearched}
 use Rattle.ts_certificate.specs.Certificate.{checked_count, open_count}
-use Rattle.ts_model.specs.Stated.{Stated}
+use Rattle.ts_model.specs.ModelParts.{ModelParts}
 use Rattle.ts_filter.specs.Boxes.{Box}
 use Rattle.ts_filter.specs.RefutedWorseDrop.{Spans}
 use Rattle.ts_filter.specs.Rules.{Head, MayStayOpen, KeepsRule}
@@ -31,7 +31,7 @@ pub all_checked_snoc : (ls : List TreeLine) (l : TreeLine) → AllChecked ls →
 all_checked_snoc [] l h k = (k, tt)
 all_checked_snoc (m ∷ ls) l h k = (h.0, all_checked_snoc ls l h.1 k)
 
-module _ (m : Stated) (s : Spans) where
+module _ (m : ModelParts) (s : Spans) where
   pub steps_under : (h g : Head) → ((y : ℕ) (b : Box) (l : TreeLine) → IsChecked l → KeepsRule m s h y b l → KeepsRule m s g y b l) →
       (ls : List TreeLine) (y : ℕ) (w left : List Box) (after : ℕ) → AllChecked ls → Steps m s h w y ls left after → Steps m s g w y ls left after
   steps_under h g r [] y w left after a f = f

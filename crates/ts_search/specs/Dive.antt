@@ -5,13 +5,13 @@ use Rattle.ts_base.specs.declared.ext.Ext.{Ext}
 use Rattle.ts_base.specs.declared.ext.Ext.TheVariants.{NegInf}
 use Rattle.ts_base.specs.declared.goal.Goal.{Goal}
 use Rattle.ts_model.specs.Judgement.{is_met}
-use Rattle.ts_model.specs.Stated.{Stated}
+use Rattle.ts_model.specs.ModelParts.{ModelParts}
 use Rattle.ts_filter.specs.Accepts.{objective_of}
 use Rattle.ts_filter.specs.Boxes.{Box, values_at, only}
 use Rattle.ts_filter.specs.Ends.{best_end}
 use Rattle.ts_filter.specs.Excluded.{is_better}
 use Rattle.ts_filter.specs.RefutedWorseDrop.{Spans}
-use Rattle.ts_search.specs.Drops.{dropped}
+use Rattle.ts_search.specs.Drops.{after_drops}
 use Rattle.ts_search.specs.Forms.{Form, Alone, Wide, form}
 
 -- a series with the value of the objective on it
@@ -20,10 +20,10 @@ pub record Find : Type 0 where
   pub value : Ext
 
 -- the value of the objective on a series of the model's box; it stands where the model has an objective
-abbrev pub value_of : Stated → List ℤ → Ext
+abbrev pub value_of : ModelParts → List ℤ → Ext
 value_of m x = unwrap_or (objective_of m x) NegInf
 
-abbrev pub find : Stated → List ℤ → Find
+abbrev pub find : ModelParts → List ℤ → Find
 find m x = record { series = x; value = value_of m x }
 
 -- the better end of the objective's span at cell k, where the cell has the value v
@@ -49,24 +49,24 @@ kept_for s goal k b None = least_value (values_at k b)
 kept_for s goal k b (Some term) =
     cond (s.reversible term) (best_value (promise s goal term k b) goal (values_at k b)) (least_value (values_at k b))
 
-abbrev pub kept_value : Stated → Spans → Goal → ℕ → Box → ℤ
+abbrev pub kept_value : ModelParts → Spans → Goal → ℕ → Box → ℤ
 kept_value m s goal k b = kept_for s goal k b m.objective
 
-abbrev pub keep_one : Stated → Spans → Goal → ℕ → Box → Box
-keep_one m s goal k b = dropped m s (only k (kept_value m s goal k b) b)
+abbrev pub keep_one : ModelParts → Spans → Goal → ℕ → Box → Box
+keep_one m s goal k b = after_drops m s (only k (kept_value m s goal k b) b)
 
 -- so many cells from k on keep one value each
-abbrev pub keep_from : Stated → Spans → Goal → ℕ → ℕ → Box → Box
+abbrev pub keep_from : ModelParts → Spans → Goal → ℕ → ℕ → Box → Box
 keep_from m s goal zero k b = b
 keep_from m s goal (suc n) k b = keep_from m s goal n (suc k) (keep_one m s goal k b)
 
-abbrev pub dive_box : Stated → Spans → Goal → Box
-dive_box m s goal = keep_from m s goal (length m.cells) 1 (dropped m s m.cells)
+abbrev pub dive_box : ModelParts → Spans → Goal → Box
+dive_box m s goal = keep_from m s goal (length m.cells) 1 (after_drops m s m.cells)
 
 -- the one series that is left, where it meets
-abbrev pub dive_end : Stated → Form → Option Find
+abbrev pub dive_end : ModelParts → Form → Option Find
 dive_end m (Alone x) = cond (is_met m x) (Some (find m x)) None
 dive_end m (Wide k t) = None
 
-abbrev pub dive : Stated → Spans → Goal → Option Find
+abbrev pub dive : ModelParts → Spans → Goal → Option Find
 dive m s goal = dive_end m (form (dive_box m s goal))

@@ -1,7 +1,7 @@
 -- The drops of a box: the next one, and as many as are possible.
 use Rattle.std.specs.Prelude.{ℕ, zero, suc, ℤ, Bool, cond, List, [], ◌∷◌, length}
 use Rattle.std.specs.Prelude.{Option, Some, None, option_map, unwrap_or}
-use Rattle.ts_model.specs.Stated.{Stated, total_of}
+use Rattle.ts_model.specs.ModelParts.{ModelParts, total_of}
 use Rattle.ts_filter.specs.Boxes.{Box, values_at, without}
 use Rattle.ts_filter.specs.RefutedWorseDrop.{Spans}
 use Rattle.ts_filter.specs.Tests.{is_drop}
@@ -22,30 +22,30 @@ or_later None later = later
 or_later (Some first) later = Some first
 
 -- the possible drop of value v with the least requirement
-abbrev pub drop_of : Stated → Spans → Box → ℕ → ℤ → Option Removal
+abbrev pub drop_of : ModelParts → Spans → Box → ℕ → ℤ → Option Removal
 drop_of m s b k v =
     option_map (λ j. record { cell = k; value = v; requirement = j })
     (least (λ j. is_drop m.requirements s k v j b) (length m.requirements) 1)
 
 -- that of the least of these values, which rise
-abbrev pub drop_at : Stated → Spans → Box → ℕ → List ℤ → Option Removal
+abbrev pub drop_at : ModelParts → Spans → Box → ℕ → List ℤ → Option Removal
 drop_at m s b k [] = None
 drop_at m s b k (v ∷ values) = or_later (drop_of m s b k v) (drop_at m s b k values)
 
 -- that of the least of so many cells from k on
-abbrev pub drop_from : Stated → Spans → Box → ℕ → ℕ → Option Removal
+abbrev pub drop_from : ModelParts → Spans → Box → ℕ → ℕ → Option Removal
 drop_from m s b zero k = None
 drop_from m s b (suc n) k = or_later (drop_at m s b k (values_at k b)) (drop_from m s b n (suc k))
 
 -- the possible drop with the least cell, then value, then requirement
-abbrev pub next_drop : Stated → Spans → Box → Option Removal
+abbrev pub next_drop : ModelParts → Spans → Box → Option Removal
 next_drop m s b = drop_from m s b (length b) 1
 
 -- the box after at most so many drops
-abbrev pub drops : Stated → Spans → ℕ → Box → Box
+abbrev pub drops : ModelParts → Spans → ℕ → Box → Box
 drops m s zero b = b
 drops m s (suc n) b = unwrap_or (option_map (λ r. drops m s n (without r.cell r.value b)) (next_drop m s b)) b
 
 -- after as many as are possible: each takes one of its values
-abbrev pub dropped : Stated → Spans → Box → Box
-dropped m s b = drops m s (total_of b) b
+abbrev pub after_drops : ModelParts → Spans → Box → Box
+after_drops m s b = drops m s (total_of b) b

@@ -13,44 +13,44 @@ use Rattle.ts_certificate.specs.Certificate.{Cert, open_count}
 use Rattle.ts_domain.specs.BoxSeries.{IsBox, series_count}
 use Rattle.ts_domain.specs.Kept.{values_up_to}
 use Rattle.ts_model.specs.Meets.{Meets}
-use Rattle.ts_model.specs.Stated.{Stated, total_of}
+use Rattle.ts_model.specs.ModelParts.{ModelParts, total_of}
 use Rattle.ts_filter.specs.Accepts.{objective_of}
 use Rattle.ts_filter.specs.Boxes.{Box, values_at, box_of, IsPart}
 use Rattle.ts_filter.specs.RefutedWorseDrop.{Spans, IsRefuted, IsDrop}
 use Rattle.ts_filter.specs.Rules.{IsSplit}
 use Rattle.ts_search.specs.Asked.{AreRight}
 use Rattle.ts_search.specs.Dive.{Find, keep_from, dive_box, dive_end, dive}
-use Rattle.ts_search.specs.Drops.{Removal, next_drop, dropped}
+use Rattle.ts_search.specs.Drops.{Removal, next_drop, after_drops}
 use Rattle.ts_search.specs.Forms.{Alone, Wide, form}
 use Rattle.ts_search.specs.LineOf.{Search, search_for, last, requirements, first_no}
-use Rattle.ts_search.specs.Listed.{Listed}
-use Rattle.ts_search.specs.Solved.{Solved}
+use Rattle.ts_search.specs.Listed.{IsListAnswer}
+use Rattle.ts_search.specs.Solved.{IsSolution}
 use Rattle.ts_search.specs.Turns.{start, turns, solve_certificate, list_start, list_turns, list_certificate}
 
 -- the certificate of so many turns is solved
 abbrev pub SearchSolves : Type 0
 SearchSolves =
-    (m : Stated) (s : Spans) (goal : Goal) (n : ℕ) → AreRight m s → IsSome m.objective →
-    Solved m s goal n (solve_certificate (search_for m s (BestOf goal))
+    (m : ModelParts) (s : Spans) (goal : Goal) (n : ℕ) → AreRight m s → IsSome m.objective →
+    IsSolution m s goal n (solve_certificate (search_for m s (BestOf goal))
     (turns (search_for m s (BestOf goal)) (BestOf goal) n (start (search_for m s (BestOf goal)))))
 
 -- and that of a listing is listed
 abbrev pub SearchLists : Type 0
 SearchLists =
-    (m : Stated) (s : Spans) (count n : ℕ) → AreRight m s →
-    Listed m s count n (list_certificate count
+    (m : ModelParts) (s : Spans) (count n : ℕ) → AreRight m s →
+    IsListAnswer m s count n (list_certificate count
     (list_turns (search_for m s (ListOf count)) count n (list_start (search_for m s (ListOf count)))))
 
 -- there is one such certificate
 abbrev pub OneSolved : Type 0
 OneSolved =
-    (m : Stated) (s : Spans) (goal : Goal) (n : ℕ) (c d : Cert) → AreRight m s → IsSome m.objective →
-    Solved m s goal n c → Solved m s goal n d → c ≡ d
+    (m : ModelParts) (s : Spans) (goal : Goal) (n : ℕ) (c d : Cert) → AreRight m s → IsSome m.objective →
+    IsSolution m s goal n c → IsSolution m s goal n d → c ≡ d
 
 abbrev pub OneListed : Type 0
 OneListed =
-    (m : Stated) (s : Spans) (count n : ℕ) (c d : Cert) → AreRight m s →
-    Listed m s count n c → Listed m s count n d → c ≡ d
+    (m : ModelParts) (s : Spans) (count n : ℕ) (c d : Cert) → AreRight m s →
+    IsListAnswer m s count n c → IsListAnswer m s count n d → c ≡ d
 
 abbrev pub IsBudget : Claim → Type 0
 IsBudget (Best v) = ⊥
@@ -64,23 +64,23 @@ IsBudget (BudgetList count) = Unit {0}
 -- of a model with S series, a budget of 2·S - 1 lines is enough
 abbrev pub BudgetIsEnough : Type 0
 BudgetIsEnough =
-    (m : Stated) (s : Spans) (goal : Goal) (n : ℕ) (c : Cert) → AreRight m s → 2 * series_count m.cells ≤ n + 1 →
-    Solved m s goal n c → IsBudget c.claim → ⊥
+    (m : ModelParts) (s : Spans) (goal : Goal) (n : ℕ) (c : Cert) → AreRight m s → 2 * series_count m.cells ≤ n + 1 →
+    IsSolution m s goal n c → IsBudget c.claim → ⊥
 
 abbrev pub ListBudgetIsEnough : Type 0
 ListBudgetIsEnough =
-    (m : Stated) (s : Spans) (count n : ℕ) (c : Cert) → AreRight m s → 2 * series_count m.cells ≤ n + 1 →
-    Listed m s count n c → IsBudget c.claim → ⊥
+    (m : ModelParts) (s : Spans) (count n : ℕ) (c : Cert) → AreRight m s → 2 * series_count m.cells ≤ n + 1 →
+    IsListAnswer m s count n c → IsBudget c.claim → ⊥
 
 -- few lines are `open`: no more than the values of the domains together
 abbrev pub SolvedOpensFew : Type 0
 SolvedOpensFew =
-    (m : Stated) (s : Spans) (goal : Goal) (n : ℕ) (c : Cert) → AreRight m s → IsSome m.objective →
-    Solved m s goal n c → open_count c.tree ≤ total_of m.cells
+    (m : ModelParts) (s : Spans) (goal : Goal) (n : ℕ) (c : Cert) → AreRight m s → IsSome m.objective →
+    IsSolution m s goal n c → open_count c.tree ≤ total_of m.cells
 
 abbrev pub ListedOpensFew : Type 0
 ListedOpensFew =
-    (m : Stated) (s : Spans) (count n : ℕ) (c : Cert) → AreRight m s → Listed m s count n c →
+    (m : ModelParts) (s : Spans) (count n : ℕ) (c : Cert) → AreRight m s → IsListAnswer m s count n c →
     open_count c.tree ≤ total_of m.cells
 
 -- Drops and the dive.
@@ -91,34 +91,34 @@ IsNoLater r k v j =
     (r.cell < k) ⊎ ((r.cell ≡ k) × ((r.value <ℤ v) ⊎ ((r.value ≡ v) × (r.requirement ≤ j))))
 
 -- the next drop is one that may be made and none comes before it, and there is one where one may be made
-pub record IsNextDrop (m : Stated) (s : Spans) (b : Box) : Type 0 where
+pub record IsNextDrop (m : ModelParts) (s : Spans) (b : Box) : Type 0 where
   pub some : (r : Removal) → next_drop m s b ≡ Some r → IsDrop m.requirements s r.cell r.value r.requirement b
   pub none : next_drop m s b ≡ None → (k : ℕ) (v : ℤ) (j : ℕ) → IsDrop m.requirements s k v j b → ⊥
   pub first : IsBox b → (r : Removal) → next_drop m s b ≡ Some r → (k : ℕ) (v : ℤ) (j : ℕ) →
       IsDrop m.requirements s k v j b → IsNoLater r k v j
 
 abbrev pub NextDropFits : Type 0
-NextDropFits = (m : Stated) (s : Spans) (b : Box) → IsNextDrop m s b
+NextDropFits = (m : ModelParts) (s : Spans) (b : Box) → IsNextDrop m s b
 
 -- after the drops none is possible
 abbrev pub DropsEnd : Type 0
-DropsEnd = (m : Stated) (s : Spans) (b : Box) → IsPart b m.cells → next_drop m s (dropped m s b) ≡ None
+DropsEnd = (m : ModelParts) (s : Spans) (b : Box) → IsPart b m.cells → next_drop m s (after_drops m s b) ≡ None
 
 -- the dive ends at one series
 abbrev pub DiveEnds : Type 0
 DiveEnds =
-    (m : Stated) (s : Spans) (goal : Goal) → AreRight m s → (x : List ℤ) × (form (dive_box m s goal) ≡ Alone x)
+    (m : ModelParts) (s : Spans) (goal : Goal) → AreRight m s → (x : List ℤ) × (form (dive_box m s goal) ≡ Alone x)
 
 -- where it has a series, that one meets and has its value
 abbrev pub DiveMeets : Type 0
 DiveMeets =
-    (m : Stated) (s : Spans) (goal : Goal) (f : Find) → AreRight m s → IsSome m.objective → dive m s goal ≡ Some f →
+    (m : ModelParts) (s : Spans) (goal : Goal) (f : Find) → AreRight m s → IsSome m.objective → dive m s goal ≡ Some f →
     Meets m f.series × (objective_of m f.series ≡ Some f.value)
 
 -- where a requirement is refuted on a box of the dive, cells k and n - 1 more being open, the dive has no series
 abbrev pub DiveEndsEarly : Type 0
 DiveEndsEarly =
-    (m : Stated) (s : Spans) (goal : Goal) (n k : ℕ) (b : Box) (j p : ℕ) → AreRight m s → IsPart b m.cells → 1 ≤ k →
+    (m : ModelParts) (s : Spans) (goal : Goal) (n k : ℕ) (b : Box) (j p : ℕ) → AreRight m s → IsPart b m.cells → 1 ≤ k →
     k + n ≤ length m.cells + 1 → IsRefuted m.requirements s j p b → dive_end m (form (keep_from m s goal n k b)) ≡ None
 
 -- The parts of a line.

@@ -9,7 +9,7 @@ use Rattle.ts_certificate.specs.declared.certificate.Claim.TheVariants.{Full, Al
 use Rattle.ts_certificate.specs.declared.certificate.TreeLine.{TreeLine}
 use Rattle.ts_certificate.specs.declared.certificate.TreeLine.TheVariants.{Split, Remove, No, Worse, Yes, Unsearched}
 use Rattle.ts_certificate.specs.Certificate.{Cert}
-use Rattle.ts_model.specs.Stated.{Stated}
+use Rattle.ts_model.specs.ModelParts.{ModelParts}
 use Rattle.ts_filter.specs.declared.bar.Bar.TheVariants.{Better, AsGood}
 use Rattle.ts_filter.specs.Boxes.{Box}
 use Rattle.ts_filter.specs.RefutedWorseDrop.{Spans, IsRefuted}
@@ -19,17 +19,17 @@ use Rattle.ts_search.specs.Dive.{Find}
 use Rattle.ts_search.specs.Drops.{least, or_later, next_drop}
 use Rattle.ts_search.specs.Forms.{Form, Alone, Wide, form}
 use Rattle.ts_search.specs.Found.{tally_after}
-use Rattle.ts_search.specs.LineOf.{Search, search_for, last, inner, requirements, cut, refuted_last, first_no}
+use Rattle.ts_search.specs.LineOf.{Search, search_for, last, inner, requirements, is_cut_at, refuted_last, first_no}
 
 -- the objective is not better at p than the best series told before; where none was told this holds nowhere
 abbrev pub below_told : Search → Option Find → ℕ → Box → Bool
 below_told c None p b = false
-below_told c (Some f) p b = cut c p b (Better f.value)
+below_told c (Some f) p b = is_cut_at c p b (Better f.value)
 
 -- at p it isn't as good as the warm series; without a warm series this holds nowhere
 abbrev pub below_warm : Search → Option Find → ℕ → Box → Bool
 below_warm c None p b = false
-below_warm c (Some w) p b = cut c p b (AsGood w.value)
+below_warm c (Some w) p b = is_cut_at c p b (AsGood w.value)
 
 abbrev pub below : Search → Option Find → ℕ → Box → Bool
 below c best p b = below_told c best p b || below_warm c c.warm p b
@@ -117,5 +117,5 @@ most_told (Full count) = Some count
 most_told (All count) = None
 most_told (BudgetList count) = None
 
-abbrev pub Lean : Stated → Spans → Cert → Type 0
+abbrev pub Lean : ModelParts → Spans → Cert → Type 0
 Lean m s c = AreLean (search_for m s c.aim) c.aim (most_told c.claim) None false 0 (m.cells ∷ []) c.tree

@@ -8,7 +8,7 @@ use Rattle.ts_certificate.specs.declared.certificate.Aim.{Aim}
 use Rattle.ts_certificate.specs.declared.certificate.Aim.TheVariants.{Best as BestOf, List as ListOf}
 use Rattle.ts_certificate.specs.declared.certificate.TreeLine.{TreeLine}
 use Rattle.ts_certificate.specs.declared.certificate.TreeLine.TheVariants.{Split, Remove, No, Worse, Yes}
-use Rattle.ts_model.specs.Stated.{Stated}
+use Rattle.ts_model.specs.ModelParts.{ModelParts}
 use Rattle.ts_filter.specs.declared.bar.Bar.{Bar}
 use Rattle.ts_filter.specs.declared.bar.Bar.TheVariants.{Better, AsGood}
 use Rattle.ts_filter.specs.Boxes.{Box}
@@ -21,12 +21,12 @@ use Rattle.ts_search.specs.Forms.{Form, Alone, Wide, form}
 
 -- what is searched, and the dive's series. A listing asks neither its goal nor its warm series
 pub record Search : Type 0 where
-  pub model : Stated
+  pub model : ModelParts
   pub spans : Spans
   pub goal : Goal
   pub warm : Option Find
 
-abbrev pub search_for : Stated → Spans → Aim → Search
+abbrev pub search_for : ModelParts → Spans → Aim → Search
 search_for m s (BestOf goal) = record { model = m; spans = s; goal = goal; warm = dive m s goal }
 search_for m s (ListOf count) = record { model = m; spans = s; goal = Maximise; warm = None }
 
@@ -41,11 +41,11 @@ requirements c = length c.model.requirements
 abbrev pub inner : Search → ℕ
 inner c = last c - 1
 
-abbrev pub refuted : Search → ℕ → ℕ → Box → Bool
-refuted c j p b = is_refuted c.model.requirements c.spans j p b
+abbrev pub is_refuted_at : Search → ℕ → ℕ → Box → Bool
+is_refuted_at c j p b = is_refuted c.model.requirements c.spans j p b
 
-abbrev pub cut : Search → ℕ → Box → Bar → Bool
-cut c p b bar = is_cut c.model c.spans c.goal p b bar
+abbrev pub is_cut_at : Search → ℕ → Box → Bar → Bool
+is_cut_at c p b bar = is_cut c.model c.spans c.goal p b bar
 
 -- what a series has to reach: to be better than the found one, or as good as the warm one where none is found
 abbrev pub bar_of : Option Find → Option Find → Option Bar
@@ -55,7 +55,7 @@ bar_of None None = None
 
 abbrev pub cut_by : Search → Option Bar → ℕ → Box → Bool
 cut_by c None p b = false
-cut_by c (Some bar) p b = cut c p b bar
+cut_by c (Some bar) p b = is_cut_at c p b bar
 
 abbrev pub counts_for : Search → Option Bar → Ext → Bool
 counts_for c None v = true
@@ -63,7 +63,7 @@ counts_for c (Some bar) v = counts c.goal bar v
 
 -- the least requirement that is refuted at the last cell
 abbrev pub refuted_last : Search → Box → Option ℕ
-refuted_last c b = least (λ j. refuted c j (last c) b) (requirements c) 1
+refuted_last c b = least (λ j. is_refuted_at c j (last c) b) (requirements c) 1
 
 abbrev pub no_line : ℕ → Option ℕ → Option TreeLine → Option TreeLine
 no_line j None later = later
@@ -72,7 +72,7 @@ no_line j (Some p) later = Some (No j p)
 -- of so many requirements from j on the least that is refuted at a cell below the last one, and the least such cell
 abbrev pub first_no : Search → Box → ℕ → ℕ → Option TreeLine
 first_no c b zero j = None
-first_no c b (suc n) j = no_line j (least (λ p. refuted c j p b) (inner c) 1) (first_no c b n (suc j))
+first_no c b (suc n) j = no_line j (least (λ p. is_refuted_at c j p b) (inner c) 1) (first_no c b n (suc j))
 
 abbrev pub removal_line : Removal → TreeLine
 removal_line r = Remove r.cell r.value r.requirement

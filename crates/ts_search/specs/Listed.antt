@@ -9,19 +9,19 @@ use Rattle.ts_certificate.specs.declared.certificate.TreeLine.{TreeLine}
 use Rattle.ts_certificate.specs.Certificate.{Cert, checked_count, open_count}
 use Rattle.ts_domain.specs.BoxSeries.{IsBefore, AreRising}
 use Rattle.ts_model.specs.Meets.{Meets}
-use Rattle.ts_model.specs.Stated.{Stated}
+use Rattle.ts_model.specs.ModelParts.{ModelParts}
 use Rattle.ts_filter.specs.Accepts.{Accepts}
 use Rattle.ts_filter.specs.Holds.{IsListed}
 use Rattle.ts_filter.specs.RefutedWorseDrop.{Spans}
 use Rattle.ts_search.specs.Lean.{Lean}
 
 -- they meet, in order, and each other series that meets comes after all of them
-pub record AreFirst (m : Stated) (series : List (List ℤ)) : Type 0 where
+pub record AreFirst (m : ModelParts) (series : List (List ℤ)) : Type 0 where
   pub rising : AreRising series
   pub meet : AllByRecursion (Meets m) series
   pub others : (y : List ℤ) → Meets m y → IsListed y series ⊎ ((x : List ℤ) → IsListed x series → IsBefore x y)
 
-abbrev pub IsListedBy : Stated → ℕ → ℕ → Claim → List (List ℤ) → List TreeLine → Type 0
+abbrev pub IsListedBy : ModelParts → ℕ → ℕ → Claim → List (List ℤ) → List TreeLine → Type 0
 IsListedBy m count n (Best v) series ls = ⊥
 IsListedBy m count n Infeasible series ls = ⊥
 IsListedBy m count n (BudgetBest v) series ls = ⊥
@@ -32,7 +32,7 @@ IsListedBy m count n (All k) series ls =
 IsListedBy m count n (BudgetList k) series ls =
     (k ≡ length series) × (k < count) × (checked_count ls ≡ n) × (0 < open_count ls)
 
-pub record Listed (m : Stated) (s : Spans) (count n : ℕ) (c : Cert) : Type 0 where
+pub record IsListAnswer (m : ModelParts) (s : Spans) (count n : ℕ) (c : Cert) : Type 0 where
   pub aim : c.aim ≡ ListOf count
   pub accepts : Accepts m s c
   pub lean : Lean m s c

@@ -4,7 +4,7 @@ use Rattle.ts_base.specs.Limits.{most_requirements, most_terms}
 use Rattle.ts_bound.specs.TermSpans.{Automata}
 use Rattle.ts_compile.specs.Programs.{IsProgramOf}
 use Rattle.ts_filter.specs.Boxes.{Box, IsPart}
-use Rattle.ts_model.specs.Views.{stated}
+use Rattle.ts_model.specs.Views.{model_parts}
 use Rattle.ts_spans.specs.Machines.{automata_in, spans_in}
 use Rattle.ts_search.specs.Asked.{AreRight}
 use Rattle.ts_search.specs.declared.problem.Problem.{Problem}
@@ -12,16 +12,16 @@ use Rattle.ts_search.specs.declared.problem.Problem.{Problem}
 -- the program is the model's, whose terms and requirements are few and whose spans are right
 pub record IsPosed (q : Problem) : Type 0 where
   pub program : IsProgramOf q.program.now q.model.now
-  pub right : AreRight (stated q.model.now) (spans_in (stated q.model.now))
+  pub right : AreRight (model_parts q.model.now) (spans_in (model_parts q.model.now))
   pub terms : length q.model.now.terms.entries ≤ most_terms
   pub requirements : length q.model.now.requirements.items ≤ most_requirements
 
 -- they are the machines of its terms
 abbrev pub AreTablesOf : Problem → List Automata → Type 0
-AreTablesOf q tables = tables ≡ automata_in (stated q.model.now)
+AreTablesOf q tables = tables ≡ automata_in (model_parts q.model.now)
 
 -- the tables may be asked of a box: the problem is posed, they are its tables, and the box lies in the model's
 pub record MayAsk (q : Problem) (machines : List Automata) (b : Box) : Type 0 where
   pub posed : IsPosed q
-  pub part : IsPart b (stated q.model.now).cells
+  pub part : IsPart b (model_parts q.model.now).cells
   pub tables : AreTablesOf q machines

@@ -9,7 +9,7 @@ use Rattle.ts_certificate.specs.declared.certificate.TreeLine.{TreeLine}
 use Rattle.ts_certificate.specs.Certificate.{Cert, checked_count, open_count}
 use Rattle.ts_model.specs.FirstBest.{FirstBest}
 use Rattle.ts_model.specs.Meets.{Meets}
-use Rattle.ts_model.specs.Stated.{Stated}
+use Rattle.ts_model.specs.ModelParts.{ModelParts}
 use Rattle.ts_filter.specs.Accepts.{Accepts, objective_of}
 use Rattle.ts_filter.specs.RefutedWorseDrop.{Spans}
 use Rattle.ts_search.specs.Found.{found_in}
@@ -30,7 +30,7 @@ IsSolvedBy c n (Full count) series ls = ⊥
 IsSolvedBy c n (All count) series ls = ⊥
 IsSolvedBy c n (BudgetList count) series ls = ⊥
 
-pub record Solved (m : Stated) (s : Spans) (goal : Goal) (n : ℕ) (c : Cert) : Type 0 where
+pub record IsSolution (m : ModelParts) (s : Spans) (goal : Goal) (n : ℕ) (c : Cert) : Type 0 where
   pub aim : c.aim ≡ BestOf goal
   pub accepts : Accepts m s c
   pub lean : Lean m s c

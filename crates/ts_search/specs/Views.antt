@@ -1,12 +1,12 @@
 -- How the structs of the code are seen.
 use Rattle.std.specs.Prelude.{◌≡◌, ℕ, Bool, true, false, Option, Some, None, map}
-use Rattle.ts_model.specs.Views.{stated}
+use Rattle.ts_model.specs.Views.{model_parts}
 use Rattle.ts_spans.specs.Machines.{spans_in}
 use Rattle.ts_filter.specs.declared.drops.Removal.{Removal as GivenRemoval}
 use Rattle.ts_filter.specs.Boxes.{Box, IsPart}
 use Rattle.ts_filter.specs.RefutedWorseDrop.{IsRefuted}
 use Rattle.ts_search.specs.Dive.{Find}
-use Rattle.ts_search.specs.Drops.{Removal, dropped, next_drop}
+use Rattle.ts_search.specs.Drops.{Removal, after_drops, next_drop}
 use Rattle.ts_search.specs.LineOf.{Search}
 use Rattle.ts_search.specs.Turns.{State, ListState}
 use Rattle.ts_search.specs.declared.found.FoundSeries.{FoundSeries}
@@ -24,8 +24,8 @@ removal_of (Some r) = Some (record { cell = r.cell; value = r.value; requirement
 
 abbrev pub search_of : Problem → Search
 search_of q = record {
-  model = stated q.model.now;
-  spans = spans_in (stated q.model.now);
+  model = model_parts q.model.now;
+  spans = spans_in (model_parts q.model.now);
   goal = q.goal;
   warm = find_of q.warm;
 }
@@ -48,5 +48,5 @@ SettledBy c b false = (j p : ℕ) × IsRefuted c.model.requirements c.spans j p 
 -- the second box is the first after some drops
 pub record IsSettled (c : Search) (before after : Box) (all : Bool) : Type 0 where
   pub part : IsPart after c.model.cells
-  pub same : dropped c.model c.spans after ≡ dropped c.model c.spans before
+  pub same : after_drops c.model c.spans after ≡ after_drops c.model c.spans before
   pub settled : SettledBy c after all

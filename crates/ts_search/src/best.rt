@@ -6,9 +6,9 @@ ghost use Rattle.ts_certificate.specs.declared.certificate.TreeLine.TheVariants.
 ghost use Rattle.ts_compile.specs.Programs.{IsProgramOf};
 ghost use Rattle.ts_model.specs.declared.model.Need.TheVariants.{Best as NeedsBest};
 ghost use Rattle.ts_model.specs.Promise.{IsWhole, KeepsLimits};
-ghost use Rattle.ts_model.specs.Views.{stated};
+ghost use Rattle.ts_model.specs.Views.{model_parts};
 ghost use Rattle.ts_spans.specs.Machines.{spans_in};
-ghost use Rattle.ts_search.specs.Solved.{Solved};
+ghost use Rattle.ts_search.specs.Solved.{IsSolution};
 ghost use Rattle.ts_search.specs.Turns.{budget_claim, done_claim, series_of, solve_certificate};
 ghost use Rattle.ts_search.specs.Views.{find_of, search_of, state_of};
 
@@ -36,10 +36,10 @@ pub fn solve(
     budget: u64,
 ) -> Result<Certificate, Memory>
     requires program { IsProgramOf p.now m.now }
-    requires whole { IsWhole (stated m.now) }
-    requires limits { KeepsLimits NeedsBest (stated m.now) }
+    requires whole { IsWhole (model_parts m.now) }
+    requires limits { KeepsLimits NeedsBest (model_parts m.now) }
     ensures { IfOk result
-        (λ c. Solved (stated m.now) (spans_in (stated m.now)) goal budget (cert_seen c)) }
+        (λ c. IsSolution (model_parts m.now) (spans_in (model_parts m.now)) goal budget (cert_seen c)) }
 {
     let mut problem = Problem {
         model: m,

@@ -8,9 +8,9 @@ ghost use Rattle.ts_compile.specs.Programs.{IsProgramOf};
 ghost use Rattle.ts_filter.specs.Boxes.{Box, IsPart};
 ghost use Rattle.ts_model.specs.declared.model.Need.TheVariants.{List as NeedsList};
 ghost use Rattle.ts_model.specs.Promise.{IsWhole, KeepsLimits};
-ghost use Rattle.ts_model.specs.Views.{stated};
+ghost use Rattle.ts_model.specs.Views.{model_parts};
 ghost use Rattle.ts_search.specs.Forms.{form};
-ghost use Rattle.ts_search.specs.Listed.{Listed};
+ghost use Rattle.ts_search.specs.Listed.{IsListAnswer};
 ghost use Rattle.ts_search.specs.Posed.{AreTablesOf, IsPosed};
 ghost use Rattle.ts_spans.specs.Machines.{spans_in};
 ghost use Rattle.ts_search.specs.Turns.{list_certificate, list_claim, list_start, list_turn, list_turns, listed_after};
@@ -47,10 +47,10 @@ pub fn list(
     budget: u64,
 ) -> Result<Certificate, Memory>
     requires program { IsProgramOf p.now m.now }
-    requires whole { IsWhole (stated m.now) }
-    requires limits { KeepsLimits NeedsList (stated m.now) }
+    requires whole { IsWhole (model_parts m.now) }
+    requires limits { KeepsLimits NeedsList (model_parts m.now) }
     ensures { IfOk result
-        (λ c. Listed (stated m.now) (spans_in (stated m.now)) count budget (cert_seen c)) }
+        (λ c. IsListAnswer (model_parts m.now) (spans_in (model_parts m.now)) count budget (cert_seen c)) }
 {
     let problem = Problem {
         model: m,

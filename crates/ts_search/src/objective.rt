@@ -5,7 +5,7 @@ ghost use Rattle.ts_domain.specs.BoxSeries.{InBox, IsCell};
 ghost use Rattle.ts_domain.specs.Values.{IsDomain};
 ghost use Rattle.ts_search.specs.Dive.{kept_value, least_value, value_of};
 ghost use Rattle.ts_search.specs.Drops.{least};
-ghost use Rattle.ts_search.specs.LineOf.{bar_of, counts_for, cut, cut_by, inner, last};
+ghost use Rattle.ts_search.specs.LineOf.{bar_of, counts_for, is_cut_at, cut_by, inner, last};
 ghost use Rattle.ts_search.specs.Posed.{IsPosed, MayAsk};
 ghost use Rattle.ts_search.specs.Views.{find_of, search_of};
 
@@ -59,7 +59,7 @@ impl<'a> Problem<'a> {
         requires { MayAsk self.now tables.old cells.now.present }
         ensures same { tables.new ≡ tables.old }
         ensures told { IfOk result
-            (λ told. told ≡ cut (search_of self.now) (last (search_of self.now)) cells.now.present bar) }
+            (λ told. told ≡ is_cut_at (search_of self.now) (last (search_of self.now)) cells.now.present bar) }
     {
         match self.model.objective {
             Some(term) => tables.cut_at_end(alloc, term, self.goal, cells, bar),
@@ -97,7 +97,7 @@ impl<'a> Problem<'a> {
         requires { MayAsk self.now tables.old cells.now.present }
         ensures same { tables.new ≡ tables.old }
         ensures found { IfOk result (λ cell.
-            cell ≡ least (λ p. cut (search_of self.now) p cells.now.present bar) (inner (search_of self.now)) 1) }
+            cell ≡ least (λ p. is_cut_at (search_of self.now) p cells.now.present bar) (inner (search_of self.now)) 1) }
     {
         match self.model.objective {
             Some(term) => tables.first_cut(alloc, term, self.goal, cells, bar),

@@ -3,9 +3,9 @@
 ghost use Rattle.std.specs.Prelude.{◌≡◌, ◌≤◌, IfOk};
 ghost use Rattle.ts_base.specs.Limits.{most_requirements};
 ghost use Rattle.ts_compile.specs.Programs.{IsProgramOf};
-ghost use Rattle.ts_model.specs.Views.{stated};
+ghost use Rattle.ts_model.specs.Views.{model_parts};
 ghost use Rattle.ts_search.specs.Drops.{least, next_drop};
-ghost use Rattle.ts_search.specs.LineOf.{inner, last, refuted, requirements};
+ghost use Rattle.ts_search.specs.LineOf.{inner, last, is_refuted_at, requirements};
 ghost use Rattle.ts_search.specs.Posed.{IsPosed, MayAsk};
 ghost use Rattle.ts_search.specs.Views.{removal_of, search_of};
 ghost use Rattle.ts_spans.specs.Machines.{automata_in};
@@ -59,7 +59,7 @@ impl<'a> Problem<'a> {
         requires to { j ≤ requirements (search_of self.now) }
         ensures same { tables.new ≡ tables.old }
         ensures told { IfOk result
-            (λ told. told ≡ refuted (search_of self.now) j (last (search_of self.now)) cells.now.present) }
+            (λ told. told ≡ is_refuted_at (search_of self.now) j (last (search_of self.now)) cells.now.present) }
     {
         let require = &self.model.requirements[j as usize - 1];
         tables.refuted(alloc, require, cells.cells(), cells)
@@ -77,8 +77,8 @@ impl<'a> Problem<'a> {
         requires from { 1 ≤ j }
         requires to { j ≤ requirements (search_of self.now) }
         ensures same { tables.new ≡ tables.old }
-        ensures found { IfOk result (λ found.
-            found ≡ least (λ p. refuted (search_of self.now) j p cells.now.present) (inner (search_of self.now)) 1) }
+        ensures found { IfOk result (λ found. found
+            ≡ least (λ p. is_refuted_at (search_of self.now) j p cells.now.present) (inner (search_of self.now)) 1) }
     {
         let require = &self.model.requirements[j as usize - 1];
         tables.first_refuted(alloc, require, cells)
@@ -108,7 +108,7 @@ pub(crate) fn tables_of<'a>(
     p: &'a Program,
 ) -> Result<AllTables<'a>, Memory>
     requires { IsProgramOf p.now m.now }
-    ensures { IfOk result (λ t. t ≡ automata_in (stated m.now)) }
+    ensures { IfOk result (λ t. t ≡ automata_in (model_parts m.now)) }
 {
     AllTables::new(alloc, p.machines(), &m.cells)
 }

@@ -13,7 +13,7 @@ use Rattle.ts_pattern.specs.declared.name.PatternId.{PatternId}
 use Rattle.ts_pattern.specs.PatternTable.{pattern_shape, pattern_b, pattern_a}
 use Rattle.ts_pattern.specs.TermValue.{aggregate_of_ranges, value_of}
 use Rattle.ts_validate.proofs.Law.{closed_valid}
-use Rattle.ts_automaton.specs.AutomatonRun.{answer, AreCellValues, Marked}
+use Rattle.ts_automaton.specs.AutomatonRun.{answer, AreCellValues, HoldsMark}
 use Rattle.ts_automaton.specs.Typing.{is_automaton}
 use Rattle.ts_seed.specs.SeedTable.{seed_table, table_of}
 use Rattle.ts_seed.proofs.Closed.{rows_closed}
@@ -28,7 +28,7 @@ use Rattle.ts_bound.specs.TermSpans.{Automata, term_span, IsUsable as IsUsableOf
 use Rattle.ts_bound.proofs.Reached.{spans_hold, within_limits}
 use Rattle.ts_bound.proofs.Singles.{spans_stay_single}
 use Rattle.ts_model.specs.Promise.{IsWhole}
-use Rattle.ts_model.specs.Stated.{Stated}
+use Rattle.ts_model.specs.ModelParts.{ModelParts}
 use Rattle.ts_filter.specs.Boxes.{Box, IsPart, box_of}
 use Rattle.ts_filter.specs.MachineSpans.{HoldsTerm, TellsTerm}
 use Rattle.ts_filter.proofs.BoxParts.{inside_length}
@@ -42,7 +42,7 @@ body_automaton id other g f =
     let fits = table_fits other in
     is_decorated_automaton (seed_table other).rows fits.0 fits.1 (pattern_a id) g f
 
-body_marked : (id : PatternId) (g : Aggregator) (f : Feature) → Marked (body_by id id g f)
+body_marked : (id : PatternId) (g : Aggregator) (f : Feature) → HoldsMark (body_by id id g f)
 body_marked id g f =
     let fits = table_fits id in
     is_marked (seed_table id).rows fits.0 fits.1 (pattern_a id) fits.2 g f
@@ -87,7 +87,7 @@ series_length [] (d ∷ b) h = absurd h
 series_length (v ∷ x) [] h = absurd h
 series_length (v ∷ x) (d ∷ b) h = ap suc (series_length x b h.1)
 
-module _ (m : Stated) (whole : IsWhole m) where
+module _ (m : ModelParts) (whole : IsWhole m) where
   -- the span of a term's machine holds the term's value
   held : (x : List ℤ) (b : Box) (p : ℕ) (id : PatternId) (g : Aggregator) (f : Feature) → IsPart b m.cells → IsUsableOf (automata_for id g f) p b →
       InBox x b → SpanHolds (term_span (automata_for id g f) p b) (value_of g f id x)

@@ -6,19 +6,20 @@ use Rattle.ts_compile.specs.Programs.{IsProgramOf, machines_of}
 use Rattle.ts_domain.specs.BoxSeries.{IsBox}
 use Rattle.ts_model.specs.declared.model.Model.{Model}
 use Rattle.ts_model.specs.Promise.{IsWhole}
-use Rattle.ts_model.specs.Stated.{Stated}
-use Rattle.ts_model.specs.Views.{stated}
+use Rattle.ts_model.specs.ModelParts.{ModelParts}
+use Rattle.ts_model.specs.Views.{model_parts}
 use Rattle.ts_filter.specs.Laws.{HoldsValues, TellsSingles}
 use Rattle.ts_spans.specs.Machines.{automata_in, spans_in}
 
 -- at each cell that may be used they hold the values of their terms on each series of a box
 abbrev pub SpansHoldValues : Type 0
-SpansHoldValues = (m : Stated) → IsWhole m → HoldsValues m (spans_in m)
+SpansHoldValues = (m : ModelParts) → IsWhole m → HoldsValues m (spans_in m)
 
 -- on the box of one series they are at the last cell its values alone
 abbrev pub SpansTellSingles : Type 0
-SpansTellSingles = (m : Stated) → IsWhole m → IsBox m.cells → TellsSingles m (spans_in m)
+SpansTellSingles = (m : ModelParts) → IsWhole m → IsBox m.cells → TellsSingles m (spans_in m)
 
 -- the machines of a model's program are those of its terms
 abbrev pub MachinesAreIn : Type 0
-MachinesAreIn = (p : Program) (m : Model) → IsProgramOf p m → map automata_of (machines_of p) ≡ automata_in (stated m)
+MachinesAreIn = (p : Program) (m : Model) → IsProgramOf p m →
+    map automata_of (machines_of p) ≡ automata_in (model_parts m)

@@ -8,7 +8,7 @@ use Rattle.ts_seed.specs.SeedTable.{seed_table}
 use Rattle.ts_glue.specs.Pairs.{Pair, pair}
 use Rattle.ts_local.specs.TermPairs.{body_by, glue_table_of}
 use Rattle.ts_bound.specs.TermSpans.{Automata}
-use Rattle.ts_model.specs.Stated.{Stated}
+use Rattle.ts_model.specs.ModelParts.{ModelParts}
 use Rattle.ts_filter.specs.MachineSpans.{spans_of}
 use Rattle.ts_filter.specs.RefutedWorseDrop.{Spans}
 
@@ -28,8 +28,8 @@ automata_for id g f = record {
 }
 
 -- those of a model's terms, in the order of the text
-abbrev pub automata_in : Stated → List Automata
+abbrev pub automata_in : ModelParts → List Automata
 automata_in m = map (λ t. automata_for t.1.pattern t.1.aggregator t.1.feature) m.terms
 
-abbrev pub spans_in : Stated → Spans
+abbrev pub spans_in : ModelParts → Spans
 spans_in m = spans_of (automata_in m)

@@ -23,8 +23,8 @@ first_of [] = []
 first_of (line ∷ lines) = line
 
 -- a line without its end, which it may lack
-abbrev pub bare : List ℕ → List ℕ
-bare line = first_of (lines_of line)
+abbrev pub without_end : List ℕ → List ℕ
+without_end line = first_of (lines_of line)
 
 -- a reader finds the same in these bytes as in the line
 abbrev pub StandsFor : List ℕ → List ℕ → Type 0
@@ -32,7 +32,7 @@ StandsFor given line = gists given ≡ gists line
 
 -- one line, with its LF or without
 abbrev pub IsLine : List ℕ → Type 0
-IsLine line = lines_of line ≡ bare line ∷ []
+IsLine line = lines_of line ≡ without_end line ∷ []
 
 -- whatever follows, these bytes are whole lines
 abbrev pub AreEnded : List ℕ → Type 0

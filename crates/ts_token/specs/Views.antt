@@ -20,8 +20,8 @@ row l = record { number = l.number; words = pieces l.words.items }
 abbrev pub rows : List Line → List Row
 rows ls = map row ls
 
-abbrev pub cut : Tokens → Cut
-cut t = record { rows = rows t.lines.items; count = t.count; not_text = t.not_text }
+abbrev pub cut_view : Tokens → Cut
+cut_view t = record { rows = rows t.lines.items; count = t.count; not_text = t.not_text }
 
 abbrev pub parts : Parts → Halves
 parts p = record { model = p.model.now; rest = option_map (λ r. r.now) p.rest }

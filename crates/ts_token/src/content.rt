@@ -1,7 +1,7 @@
 //! What a single line holds.
 
 ghost use Rattle.std.specs.Prelude.{◌≡◌, ◌<◌, true, length, IfOk, OnErr};
-ghost use Rattle.ts_token.specs.Gist.{bare};
+ghost use Rattle.ts_token.specs.Gist.{without_end};
 ghost use Rattle.ts_token.specs.Text.{is_plain, is_text, is_skipped};
 ghost use Rattle.ts_token.specs.Views.{pieces};
 ghost use Rattle.ts_token.specs.Contents.{Holds};
@@ -64,8 +64,8 @@ pub(crate) fn content_of<'a>(alloc: Global, line: &'a [u8]) -> Result<Content<'a
 /// that isn't text takes no memory.
 pub fn line_content<'a>(alloc: Global, line: &'a [u8]) -> Result<Content<'a>, Memory>
     requires { length line.now < 4000000000 }
-    ensures holds { IfOk result (λ content. Holds content (bare line.now)) }
-    ensures text { OnErr result (is_text (bare line.now) ≡ true) }
+    ensures holds { IfOk result (λ content. Holds content (without_end line.now)) }
+    ensures text { OnErr result (is_text (without_end line.now) ≡ true) }
 {
     if line.is_empty() {
         return content_of(alloc, line);

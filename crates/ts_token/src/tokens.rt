@@ -2,7 +2,7 @@
 
 ghost use Rattle.std.specs.Prelude.{◌≡◌, ◌<◌, ◌≤◌, length, IfOk, OnOk};
 ghost use Rattle.ts_token.specs.Text.{cut_of};
-ghost use Rattle.ts_token.specs.Views.{rows, cut};
+ghost use Rattle.ts_token.specs.Views.{rows, cut_view};
 ghost use Rattle.ts_token.specs.Slices.{AreSlices};
 ghost use Rattle.ts_token.specs.Steps.{with_line};
 
@@ -31,7 +31,7 @@ pub struct Tokens<'a> {
 fn take_line<'a>(alloc: Global, tokens: &mut Tokens<'a>, line: &'a [u8]) -> Result<(), Memory>
     requires short { length line.now < 4000000000 }
     requires room { tokens.old.count < 4000000000 }
-    ensures { OnOk result (cut tokens.new ≡ with_line (cut tokens.old) line.now) }
+    ensures { OnOk result (cut_view tokens.new ≡ with_line (cut_view tokens.old) line.now) }
 {
     tokens.count += 1;
     if tokens.not_text.is_some() {
@@ -52,7 +52,7 @@ fn take_line<'a>(alloc: Global, tokens: &mut Tokens<'a>, line: &'a [u8]) -> Resu
 /// the text.
 pub fn cut_tokens<'a>(alloc: Global, text: &'a [u8]) -> Result<Tokens<'a>, Memory>
     requires { length text.now < 4000000000 }
-    ensures tokens { IfOk result (λ tokens. cut tokens ≡ cut_of text.now) }
+    ensures tokens { IfOk result (λ tokens. cut_view tokens ≡ cut_of text.now) }
     ensures slices { IfOk result (λ tokens. AreSlices text.now (rows tokens.lines.items)) }
     ensures counted { IfOk result (λ tokens. tokens.count ≤ length text.now) }
 {

@@ -10,7 +10,7 @@ use Rattle.ts_pattern.specs.Closed.{Subject, meets_checks}
 use Rattle.ts_validate.specs.declared.arrival.Arrival.{Arrival}
 use Rattle.ts_validate.specs.declared.arrival.Tour.{Tour}
 use Rattle.ts_validate.specs.FirstFalse.{first_false}
-use Rattle.ts_validate.specs.Reaches.{value_at, arrival_value, arrival_at, StepArrives, StepsArrive, ArrivalsGrow, AllMeet, FailsFirst, Judged, IsTour}
+use Rattle.ts_validate.specs.Reaches.{value_at, arrival_value, arrival_at, StepArrives, StepsArrive, ArrivalsGrow, AllMeet, FailsFirst, AreJudged, IsTour}
 use Rattle.ts_validate.proofs.Tours.{arrived_grown, follows_each, follows_grown, followed_more, grown_twice, grown_length}
 
 three : (s : Subject Shape) (i : ℕ) → meets_checks s (value_at s i) Less ≡ true → meets_checks s (value_at s i) Equal ≡ true →
@@ -44,14 +44,14 @@ Answers s a o = MatchOption o (AllMeet s a.configuration) (λ l. FailsFirst s a.
 
 -- what was judged stays so in a longer tour
 judged_grown : (s : Subject Shape) (xs ys : List Arrival) (failing : List (Option Letter)) → length failing ≤ length xs → ArrivalsGrow xs ys →
-    Judged s xs failing → Judged s ys failing
+    AreJudged s xs failing → AreJudged s ys failing
 judged_grown s xs ys failing q g h k o e =
     let i : k < length failing = slice_get_within failing k o e in
     let old : arrival_at ys k ≡ arrival_at xs k = arrived_grown xs ys g k (omega arith) in
     subst (λ (z : Arrival). Answers s z o) (sym old) (h k o e)
 
-judged_more : (s : Subject Shape) (xs : List Arrival) (failing : List (Option Letter)) (o : Option Letter) → Judged s xs failing →
-    Answers s (arrival_at xs (length failing)) o → Judged s xs (failing ++ o ∷ [])
+judged_more : (s : Subject Shape) (xs : List Arrival) (failing : List (Option Letter)) (o : Option Letter) → AreJudged s xs failing →
+    Answers s (arrival_at xs (length failing)) o → AreJudged s xs (failing ++ o ∷ [])
 judged_more s xs failing o h a k p e = ⊎_elim
     (λ q. h k p q)
     (λ q. subst (λ z. Answers s (arrival_at xs k) z) q.1 (subst (λ z. Answers s (arrival_at xs z) o) (sym q.0) a))
@@ -64,7 +64,7 @@ pub expanded : (s : Subject Shape) (t : Tour) (ys zs ws : List Arrival) (failing
     StepArrives s ys from Less → StepArrives s zs from Equal → StepArrives s ws from Greater →
     a ≡ meets_checks s (arrival_value s t.arrivals.items from) Less → b ≡ meets_checks s (arrival_value s ys from) Equal →
     c ≡ meets_checks s (arrival_value s zs from) Greater → o ≡ first_false a b c → failing ≡ t.failing.items → more ≡ failing ++ o ∷ [] →
-    StepsArrive s ws (length more) × Judged s ws more × (length more ≤ length ws)
+    StepsArrive s ws (length more) × AreJudged s ws more × (length more ≤ length ws)
 expanded s t ys zs ws failing more from a b c o h e q g1 g2 g3 f1 f2 f3 m1 m2 m3 first same push =
     let xs : List Arrival = t.arrivals.items in
     let done : List (Option Letter) = t.failing.items in
@@ -86,7 +86,7 @@ expanded s t ys zs ws failing more from a b c o h e q g1 g2 g3 f1 f2 f3 m1 m2 m3
     (m3 ∙ ap (λ (z : Arrival). meets_checks s (value_at s z.configuration) Greater) at_zs) in (
       subst (λ z. StepsArrive s ws z) (sym size)
           (followed_more s xs ws (length done) (omega (arith, q, e)) h.followed to_ws (subst (λ z. (l : Letter) → StepArrives s ws z l) e all)),
-      subst (λ z. Judged s ws z) (sym is)
+      subst (λ z. AreJudged s ws z) (sym is)
           (judged_more s ws done o (judged_grown s xs ws done h.inside to_ws h.judged)
           (subst (λ z. Answers s (arrival_at ws z) o) e (subst (λ z. Answers s z o) (sym at_ws) answer))),
       omega (arith, size, q, e, long1, long2, long3),

@@ -19,7 +19,7 @@ use Rattle.ts_pattern.specs.declared.plan.Tag.{Tag}
 use Rattle.std.specs.List.{AllByRecursion}
 use Rattle.ts_pattern.specs.Entries.{Entry, shapes, survivors}
 use Rattle.ts_pattern.specs.OccurrenceList.{AreRanges}
-use Rattle.ts_pattern.specs.Closed.{PlainConfiguration, first_tag, no_ind, retag_entries, with_start, step_of, entries_agree, step_listed, FromStart, OneStepOn, Reached, IsClosed}
+use Rattle.ts_pattern.specs.Closed.{PlainConfiguration, first_tag, no_ind, retag_entries, with_start, step_of, entries_agree, step_listed, FromStart, OneStepOn, IsReached, IsClosed}
 use Rattle.ts_pattern.specs.Plans.{PlainPlan, subject}
 use Rattle.ts_pattern.proofs.CallerLemmas.{ranges_are, are_ranges, shapes_right, renamed, NextAgrees, WordsAgree, survivors_renamed, retag_renamed, no_ind_renamed, agree_renamed}
 use Rattle.ts_pattern.specs.Valid.{IsValid}
@@ -104,7 +104,7 @@ run_decodes rows p0 a b k q x (l ∷ ls) =
 -- the trace after more signs, where the plan is closed
 traced_run : (rows : List Row) → is_typed rows ≡ true → (p : Shape) (b a : ℕ) (plan : PlainPlan) → IsClosed (subject rows p b plan) →
     (ls w : List Letter) (k q : ℕ) (x : Trace) → k ≡ length w → x.state ≡ kind_at rows q →
-    Reached (subject rows p b plan) (record { state = q; live = bare x.live }) → IsTraced p a b w x →
+    IsReached (subject rows p b plan) (record { state = q; live = bare x.live }) → IsTraced p a b w x →
     IsTraced p a b (w ++ ls) (run rows (normal_form p) a b k q x ls)
 traced_run rows ty p b a plan cl [] w k q x e s g h = subst (λ z. IsTraced p a b z x) (sym (append-nil w)) h
 traced_run rows ty p b a plan cl (l ∷ ls) w k q x e s g h =
@@ -126,7 +126,7 @@ traced_run rows ty p b a plan cl (l ∷ ls) w k q x e s g h =
     let long : k + 1 ≡ length (w ++ l ∷ []) = (let n = length-append w (l ∷ []) in omega arith) in
     let same : record { state = next_at rows q l; live = bare y.live } ≡ step_of (subject rows p b plan) at l =
     ap (λ z. record { state = next_at rows q l; live = z }) (bare_step k (normal_form p) b l (phase_at rows q l) x.live) in
-    let on : Reached (subject rows p b plan) (record { state = next_at rows q l; live = bare y.live }) =
+    let on : IsReached (subject rows p b plan) (record { state = next_at rows q l; live = bare y.live }) =
     (g.0 ++ l ∷ [], OneStepOn g.0 (g.0 ++ l ∷ []) at (record { state = next_at rows q l; live = bare y.live }) l g.1 fine.0 refl same) in
     subst (λ z. IsTraced p a b z (run rows (normal_form p) a b (k + 1) (next_at rows q l) y ls)) (append_assoc w (l ∷ []) ls)
     (traced_run rows ty p b a plan cl ls (w ++ l ∷ []) (k + 1) (next_at rows q l) y long refl on one)

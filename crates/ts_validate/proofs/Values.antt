@@ -15,7 +15,7 @@ use Rattle.ts_transducer.specs.declared.row.Row.{Row}
 use Rattle.ts_transducer.specs.Decode.{row_at}
 use Rattle.ts_pattern.specs.declared.plan.Tag.{Tag}
 use Rattle.ts_pattern.specs.EachOf.{OneOf}
-use Rattle.ts_pattern.specs.Entries.{Entry, shapes, derive_entry, derive_entries, alive, without, keep, survivors}
+use Rattle.ts_pattern.specs.Entries.{Entry, shapes, derive_entry, derive_entries, live_entries, without, keep, survivors}
 use Rattle.ts_pattern.specs.Closed.{PlainConfiguration, Subject, first_tag, no_ind, retag_entries, with_start, move_of, entries_before, kept_entries, step_of, entries_agree, same_tag, same_live, same_configuration, step_listed}
 use Rattle.ts_pattern.specs.Plans.{PlainPlan, shape_at, entry_value, configuration_value, subject}
 use Rattle.ts_pattern.proofs.CallerLemmas.{shapes_right, NextAgrees, WordsAgree, survivors_renamed, survivors_left, retag_renamed, no_ind_renamed, agree_renamed, configuration_is}
@@ -152,14 +152,15 @@ same_valued rows p b rs xs i x y h k l a =
 -- where a residual after the letter isn't listed, the step isn't
 
 one_alive : (l : Letter) (d : Shape) (es : List (Entry (Unit {0}) Shape Tag)) → has_word d ≡ true → OneOf (λ e. residual e.residual l ≡ d) es →
-    OneOf (λ e. e.residual ≡ d) (alive shapes (derive_entries shapes l es))
+    OneOf (λ e. e.residual ≡ d) (live_entries shapes (derive_entries shapes l es))
 one_alive l d [] w h = h
 one_alive l d (e ∷ es) w h =
     go (has_word (residual e.residual l)) refl (⊎_elim (λ q. inl q) (λ q. inr (one_alive l d es w q)) h)
   where
     go : (a : Bool) → has_word (residual e.residual l) ≡ a → (residual e.residual l ≡ d) ⊎ OneOf (λ e. e.residual ≡ d)
-        (alive shapes (derive_entries shapes l es)) →
-        OneOf (λ e. e.residual ≡ d) (cond a (derive_entry shapes l e ∷ alive shapes (derive_entries shapes l es)) (alive shapes (derive_entries shapes l es)))
+        (live_entries shapes (derive_entries shapes l es)) →
+        OneOf (λ e. e.residual ≡ d)
+            (cond a (derive_entry shapes l e ∷ live_entries shapes (derive_entries shapes l es)) (live_entries shapes (derive_entries shapes l es)))
     go true t k = k
     go false t k = ⊎_elim (λ q. absurd (false≢true (sym t ∙ ap (λ z. has_word z) q ∙ w))) (λ q. q) k
 
@@ -225,7 +226,7 @@ not_listed rows p b rs xs i x h l a =
     let o : OneOf (λ e. e.residual ≡ m.0) to.live =
     one_retagged (move_of s (configuration_value rs x) l).phase (no_ind (entries_before s (configuration_value rs x))) m.0
     (kept_entries s (configuration_value rs x) l)
-    (one_kept m.0 (alive shapes (derive_entries shapes l (entries_before s (configuration_value rs x))))
+    (one_kept m.0 (live_entries shapes (derive_entries shapes l (entries_before s (configuration_value rs x))))
     (one_alive l m.0 (entries_before s (configuration_value rs x)) m.1 (subst (λ z. OneOf (λ e. residual e.residual l ≡ m.0) z)
     (before_valued rs p b x.live i.whole) m.3))) in
     false_from_ne_true (step_listed s (configuration_value rs x) l) (λ q.

@@ -40,11 +40,11 @@ known_of rs r =
 abbrev pub table_of : List Shape → List Known
 table_of rs = map (λ r. known_of rs r) rs
 
-abbrev pub unknown : Known
-unknown = record { less = 0; equal = 0; greater = 0; own = 0; nullable = false; longer = false }
+abbrev pub nothing_known : Known
+nothing_known = record { less = 0; equal = 0; greater = 0; own = 0; nullable = false; longer = false }
 
 abbrev pub known_or : Option Known → Known
-known_or None = unknown
+known_or None = nothing_known
 known_or (Some k) = k
 
 abbrev pub known_at : List Known → ℕ → Known

@@ -112,8 +112,8 @@ abbrev pub FailsFirst : Subject Shape → ℕ → Letter → Type 0
 FailsFirst s i l = (meets_checks s (value_at s i) l ≡ false) × MeetsBefore s i l
 
 -- of each arrival whose steps were taken: the first letter on which a check fails there, if one does
-abbrev pub Judged : Subject Shape → List Arrival → List (Option Letter) → Type 0
-Judged s arrivals failing =
+abbrev pub AreJudged : Subject Shape → List Arrival → List (Option Letter) → Type 0
+AreJudged s arrivals failing =
     (k : ℕ) (o : Option Letter) → slice_get failing k ≡ Some o →
     MatchOption o (AllMeet s (arrival_at arrivals k).configuration)
     (λ l. FailsFirst s (arrival_at arrivals k).configuration l)
@@ -122,5 +122,5 @@ Judged s arrivals failing =
 pub record IsTour (s : Subject Shape) (t : Tour) : Type 0 where
   pub reaches : Reaches s t.arrivals.items t.places.items
   pub followed : StepsArrive s t.arrivals.items (length t.failing.items)
-  pub judged : Judged s t.arrivals.items t.failing.items
+  pub judged : AreJudged s t.arrivals.items t.failing.items
   pub inside : length t.failing.items ≤ length t.arrivals.items

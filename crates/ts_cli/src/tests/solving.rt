@@ -2,7 +2,7 @@
 
 ghost use Rattle.std.specs.Prelude.{IfSome};
 ghost use Rattle.ts_model.specs.Promise.{IsWhole, KeepsLimits};
-ghost use Rattle.ts_model.specs.Views.{stated};
+ghost use Rattle.ts_model.specs.Views.{model_parts};
 
 use std::alloc::Global;
 use ts_base::Goal;
@@ -22,8 +22,8 @@ const BUDGETS: [u64; 5] = [1, 2, 5, 20, 100_000];
 
 /// The model of a text; in the tests each is short.
 fn model_of(alloc: Global, text: &str, need: Need) -> Option<Model>
-    ensures whole { IfSome result (λ m. IsWhole (stated m)) }
-    ensures limits { IfSome result (λ m. KeepsLimits need (stated m)) }
+    ensures whole { IfSome result (λ m. IsWhole (model_parts m)) }
+    ensures limits { IfSome result (λ m. KeepsLimits need (model_parts m)) }
 {
     if 1000 < text.len() {
         return None;

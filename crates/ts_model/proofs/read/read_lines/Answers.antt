@@ -1,13 +1,13 @@
 use Rattle.std.proofs.Common.{◌≡◌, Bool, Ok, Err, arith, subst, ◌∙◌}
 use Rattle.ts_model.specs.ModelReading.{line_gives}
-use Rattle.ts_model.specs.Views.{drafted, texts, Gives}
+use Rattle.ts_model.specs.Views.{draft_parts, texts, Gives}
 use Rattle.ts_model.proofs.LineLaws.{line_taken, line_stopped}
 use Rattle.ts_model.proofs.read.read_lines.Goals as goal
 
 pub loop-line-preserved : goal.loop-line-preserved
 loop-line-preserved c =
-    let before = drafted c.loop-line.draft in
-    let after = drafted c.read_line.new.self in
+    let before = draft_parts c.loop-line.draft in
+    let after = draft_parts c.read_line.new.self in
     let kept = c.loop-line.invariant in
     let follows = c.in-Ok.ensures.follows in
     record {
@@ -22,8 +22,8 @@ loop-line-preserved c =
 
 pub returns-in-Err-clause-rows : goal.returns-in-Err-clause-rows
 returns-in-Err-clause-rows c =
-    let before = drafted c.loop-line.draft in
-    let after = drafted c.read_line.new.self in
+    let before = draft_parts c.loop-line.draft in
+    let after = draft_parts c.read_line.new.self in
     line_stopped c.args.limited before after c.args.lines.now c.loop-line.line-index c.line-item.result c.deref.result.now c.in-Err.stop c.at_line.result _
     c.at_line.ensures (omega arith)
     c.line-item.is c.deref.ensures.value

@@ -1,9 +1,9 @@
 use Rattle.std.proofs.Common.{◌∙◌, subst}
 use Rattle.ts_certificate.specs.Certificate.{cert_seen}
 use Rattle.ts_model.specs.declared.model.Need.TheVariants.{Best as NeedsBest}
-use Rattle.ts_model.specs.Views.{stated}
+use Rattle.ts_model.specs.Views.{model_parts}
 use Rattle.ts_spans.specs.Machines.{spans_in}
-use Rattle.ts_search.specs.Solved.{Solved}
+use Rattle.ts_search.specs.Solved.{IsSolution}
 use Rattle.ts_run.specs.Certified.{IsBest}
 use Rattle.ts_run.specs.Quantities.{IsWithin, most_lines}
 use Rattle.ts_run.specs.Reply.{reply_of}
@@ -17,14 +17,14 @@ returns-in_err-model c =
 
 pub returns : goal.returns
 returns c =
-    let m = stated c.in_ok-model.model in
+    let m = model_parts c.in_ok-model.model in
     let r = reply_of c.in_ok-certified.field-0 in
     let is : IsBest c.args.goal c.args.budget m r = record {
       whole = c.in_ok-model.ensures.whole;
       limits = c.in_ok-model.ensures.limits;
       lines = subst (IsWithin 1 most_lines) c.lines.ensures.value c.lines.ensures.range;
       certificate = cert_seen c.in_ok-certificate.certificate;
-      solved = subst (λ n. Solved m (spans_in m) c.args.goal n (cert_seen c.in_ok-certificate.certificate)) (c.from.ensures ∙ c.lines.ensures.value)
+      solved = subst (λ n. IsSolution m (spans_in m) c.args.goal n (cert_seen c.in_ok-certificate.certificate)) (c.from.ensures ∙ c.lines.ensures.value)
           c.in_ok-certificate.ensures;
       written = c.in_ok-certified.ensures.written;
     } in

@@ -1,9 +1,9 @@
 use Rattle.std.proofs.Common.{◌∙◌, subst}
 use Rattle.ts_certificate.specs.Certificate.{cert_seen}
 use Rattle.ts_model.specs.declared.model.Need.TheVariants.{List as NeedsList}
-use Rattle.ts_model.specs.Views.{stated}
+use Rattle.ts_model.specs.Views.{model_parts}
 use Rattle.ts_spans.specs.Machines.{spans_in}
-use Rattle.ts_search.specs.Listed.{Listed}
+use Rattle.ts_search.specs.Listed.{IsListAnswer}
 use Rattle.ts_run.specs.Certified.{IsListing}
 use Rattle.ts_run.specs.Quantities.{IsWithin, most_lines, most_series}
 use Rattle.ts_run.specs.Reply.{reply_of}
@@ -17,7 +17,7 @@ returns-in_err-model c =
 
 pub returns : goal.returns
 returns c =
-    let m = stated c.in_ok-model.model in
+    let m = model_parts c.in_ok-model.model in
     let r = reply_of c.in_ok-certified.field-0 in
     let is : IsListing c.args.count c.args.budget m r = record {
       whole = c.in_ok-model.ensures.whole;
@@ -25,8 +25,8 @@ returns c =
       asked = subst (IsWithin 1 most_series) c.series.ensures.value c.series.ensures.range;
       lines = subst (IsWithin 1 most_lines) c.lines.ensures.value c.lines.ensures.range;
       certificate = cert_seen c.in_ok-certificate.certificate;
-      listed = subst (λ n. Listed m (spans_in m) n c.args.budget (cert_seen c.in_ok-certificate.certificate)) c.series.ensures.value
-          (subst (λ n. Listed m (spans_in m) c.series.result n (cert_seen c.in_ok-certificate.certificate)) (c.from-lines.ensures ∙ c.lines.ensures.value)
+      listed = subst (λ n. IsListAnswer m (spans_in m) n c.args.budget (cert_seen c.in_ok-certificate.certificate)) c.series.ensures.value
+          (subst (λ n. IsListAnswer m (spans_in m) c.series.result n (cert_seen c.in_ok-certificate.certificate)) (c.from-lines.ensures ∙ c.lines.ensures.value)
           c.in_ok-certificate.ensures);
       written = c.in_ok-certified.ensures.written;
     } in

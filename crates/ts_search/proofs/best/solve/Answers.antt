@@ -1,9 +1,9 @@
 use Rattle.std.proofs.Common.{refl}
 use Rattle.std.proofs.lemmas.Result.{IfOk-weaker}
 use Rattle.ts_certificate.specs.Certificate.{cert_seen}
-use Rattle.ts_model.specs.Views.{stated}
+use Rattle.ts_model.specs.Views.{model_parts}
 use Rattle.ts_spans.specs.Machines.{spans_in}
-use Rattle.ts_search.specs.Solved.{Solved}
+use Rattle.ts_search.specs.Solved.{IsSolution}
 use Rattle.ts_search.specs.Views.{state_of}
 use Rattle.ts_search.proofs.Certified.{solved, with_dive}
 use Rattle.ts_search.proofs.OfProgram.{are_right, posed_best}
@@ -18,11 +18,11 @@ grow-requires-clause-posed c = posed_best c.args.m.now c.args.p.now c.requires.p
 
 pub returns : goal.returns
 returns c =
-    let m = stated c.args.m.now in
+    let m = model_parts c.args.m.now in
     let s = spans_in m in
     let q = with_dive m s c.args.goal _ c.in_ok-problem.ensures.found in
     IfOk-weaker c.certificate.result _
-    (λ z. Solved m s c.args.goal c.args.budget (cert_seen z))
+    (λ z. IsSolution m s c.args.goal c.args.budget (cert_seen z))
     (λ z made. solved m s c.args.goal c.args.budget _ (state_of c.in_ok-tree.tree) (cert_seen z)
     (are_right m c.requires.whole c.requires.limits.box) (c.requires.limits.objective refl) q
     c.in_ok-tree.ensures.turns made)

@@ -2,9 +2,9 @@ use Rattle.std.proofs.Common.{ap, rules, sym, subst, ◌∙◌, ◌≡◌, ◌<�
 use Rattle.std.proofs.lemmas.Int.{to_z-of_z}
 use mir.Syntax.{w64}
 use Rattle.ts_domain.specs.Kept.{values_without}
-use Rattle.ts_model.specs.Stated.{total_of}
+use Rattle.ts_model.specs.ModelParts.{total_of}
 use Rattle.ts_filter.specs.Boxes.{IsPart, values_at, without}
-use Rattle.ts_search.specs.Drops.{Removal, dropped, next_drop}
+use Rattle.ts_search.specs.Drops.{Removal, after_drops, next_drop}
 use Rattle.ts_search.specs.Views.{removal_of, search_of}
 use Rattle.ts_search.proofs.DiveSteps.{one_more, refuted_some, removal_cell, removal_less, removal_part, removal_stays}
 use Rattle.ts_search.proofs.dive.settle.Goals as goal
@@ -36,7 +36,7 @@ loop-alloc-preserved c =
     record {
       tables = c.next_drop.ensures.same ∙ c.refuted_requirement.ensures.same ∙ c.loop-alloc.invariant.tables;
       part = subst (λ z. IsPart z s.model.cells) (sym after) (removal_part s.model s.spans s.model.cells b r c.loop-alloc.invariant.part next);
-      same = ap (dropped s.model s.spans) after ∙ one_more s.model s.spans b r c.loop-alloc.invariant.part.box next ∙ c.loop-alloc.invariant.same;
+      same = ap (after_drops s.model s.spans) after ∙ one_more s.model s.spans b r c.loop-alloc.invariant.part.box next ∙ c.loop-alloc.invariant.same;
     }
 
 pub loop-alloc-smaller : goal.loop-alloc-smaller

@@ -1,7 +1,7 @@
 use Rattle.std.proofs.Common.{◌≡◌}
-use Rattle.ts_model.specs.Stated.{total_of}
+use Rattle.ts_model.specs.ModelParts.{total_of}
 use Rattle.ts_filter.specs.Boxes.{IsPart}
-use Rattle.ts_search.specs.Drops.{dropped}
+use Rattle.ts_search.specs.Drops.{after_drops}
 use Rattle.ts_search.specs.Views.{search_of}
 use Rattle.ts_search.proofs.dive.settle.Given as goal
 
@@ -10,8 +10,8 @@ abbrev pub invariant-loop-alloc : goal.invariant-loop-alloc
 invariant-loop-alloc l = record {
   tables : l.tables ≡ l.fn.tables;
   part : IsPart l.cells.present (search_of l.problem).model.cells;
-  same : dropped (search_of l.problem).model (search_of l.problem).spans l.cells.present
-      ≡ dropped (search_of l.problem).model (search_of l.problem).spans l.fn.cells.present;
+  same : after_drops (search_of l.problem).model (search_of l.problem).spans l.cells.present
+      ≡ after_drops (search_of l.problem).model (search_of l.problem).spans l.fn.cells.present;
 }
 
 abbrev pub decreases-loop-alloc : goal.decreases-loop-alloc

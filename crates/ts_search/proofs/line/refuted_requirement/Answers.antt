@@ -1,5 +1,5 @@
 use Rattle.std.proofs.Common.{arith, ◌∙◌}
-use Rattle.ts_search.specs.LineOf.{last, refuted, requirements}
+use Rattle.ts_search.specs.LineOf.{last, is_refuted_at, requirements}
 use Rattle.ts_search.specs.Views.{search_of}
 use Rattle.ts_search.proofs.CodeLines.{least_end, least_here, least_next}
 use Rattle.ts_search.proofs.line.refuted_requirement.Goals as goal
@@ -11,7 +11,7 @@ is_refuted-requires-clause-to c =
 pub returns-then-branch-clause-found : goal.returns-then-branch-clause-found
 returns-then-branch-clause-found c =
     let s = search_of c.args.problem.now in
-    least_here (λ j. refuted s j (last s) c.args.cells.now.present) (requirements s) c.requirements-j-end.result c.loop-j.j
+    least_here (λ j. is_refuted_at s j (last s) c.args.cells.now.present) (requirements s) c.requirements-j-end.result c.loop-j.j
     c.in_ok-is_refuted.field-0 _ c.loop-j-test.true c.requirements-j-end.ensures.count c.in_ok-is_refuted.ensures.told c.if-branch.true c.loop-j.invariant.found
 
 pub loop-j-preserved : goal.loop-j-preserved
@@ -19,7 +19,7 @@ loop-j-preserved c =
     let s = search_of c.args.problem.now in
     record {
       same = c.is_refuted.ensures.same ∙ c.loop-j.invariant.same;
-      found = least_next (λ j. refuted s j (last s) c.args.cells.now.present) (requirements s) c.requirements-j-end.result c.loop-j.j
+      found = least_next (λ j. is_refuted_at s j (last s) c.args.cells.now.present) (requirements s) c.requirements-j-end.result c.loop-j.j
           c.in_ok-is_refuted.field-0 _ c.loop-j-test.true c.requirements-j-end.ensures.count c.in_ok-is_refuted.ensures.told c.if-branch.false
           c.loop-j.invariant.found;
     }
@@ -27,5 +27,5 @@ loop-j-preserved c =
 pub returns-clause-found : goal.returns-clause-found
 returns-clause-found c =
     let s = search_of c.args.problem.now in let end = c.loop-j-test.false in
-    least_end (λ j. refuted s j (last s) c.args.cells.now.present) (requirements s) c.requirements-j-end.result c.loop-j.j _ (omega (arith, end))
+    least_end (λ j. is_refuted_at s j (last s) c.args.cells.now.present) (requirements s) c.requirements-j-end.result c.loop-j.j _ (omega (arith, end))
     c.requirements-j-end.ensures.count c.loop-j.invariant.found

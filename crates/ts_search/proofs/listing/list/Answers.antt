@@ -1,8 +1,8 @@
 use Rattle.std.proofs.Common.{◌≡◌, refl}
 use Rattle.std.proofs.lemmas.Result.{IfOk-weaker}
 use Rattle.ts_certificate.specs.Certificate.{cert_seen}
-use Rattle.ts_model.specs.Views.{stated}
-use Rattle.ts_search.specs.Listed.{Listed}
+use Rattle.ts_model.specs.Views.{model_parts}
+use Rattle.ts_search.specs.Listed.{IsListAnswer}
 use Rattle.ts_spans.specs.Machines.{spans_in}
 use Rattle.ts_search.specs.Turns.{list_certificate}
 use Rattle.ts_search.specs.Views.{list_state_of}
@@ -15,10 +15,10 @@ list_grow-requires-clause-posed c = posed_list c.args.m.now c.args.p.now c.requi
 
 pub returns : goal.returns
 returns c =
-    let m = stated c.args.m.now in
+    let m = model_parts c.args.m.now in
     let s = spans_in m in
     IfOk-weaker c.certificate.result (λ z. cert_seen z ≡ list_certificate c.args.count (list_state_of c.in_ok-tree.tree))
-    (λ z. Listed m s c.args.count c.args.budget (cert_seen z))
+    (λ z. IsListAnswer m s c.args.count c.args.budget (cert_seen z))
     (λ z made. listed m s c.args.count c.args.budget (list_state_of c.in_ok-tree.tree) (cert_seen z) _
     (are_right m c.requires.whole c.requires.limits.box) refl c.in_ok-tree.ensures.turns made)
     c.certificate.ensures

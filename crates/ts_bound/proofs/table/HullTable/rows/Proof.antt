@@ -11,7 +11,7 @@ use Rattle.ts_bound.specs.contracts.table.cut as h
 use Rattle.ts_bound.proofs.table.cut.Met.{met as cut_met}
 use Rattle.ts_bound.specs.contracts.table.HullTable.{the_row as R}
 use Rattle.ts_automaton.specs.declared.regs.Hull.{Hull}
-use Rattle.ts_bound.specs.Rows.{row_at, place, joined, with_written}
+use Rattle.ts_bound.specs.Rows.{row_at, place, concat_rows, with_written}
 use Rattle.ts_bound.specs.LendsRows.{LendsRow, LendsTwo, LendsParts}
 use Rattle.std.proofs.Common.{sym}
 use Rattle.ts_bound.proofs.RowLaws.{cut_inside, row_before, row_after_at}
@@ -43,7 +43,7 @@ rows_spec 𝓤 𝓛 𝓜 𝓡 wired =
     let Ref = λ (κ' : List ℕ) (x : MutBor (List (List Hull))). (MutRef (named 0) κ' R).own_val x vs in
     let Slice = MutSlice (named 0) κ hull.the_row in
     let Two = Tuple (Slice ∷ Slice ∷ []) in
-    let both = slice_range (joined self.now) (place self.now (k - 1)) (place self.now (k + 1)) in
+    let both = slice_range (concat_rows self.now) (place self.now (k - 1)) (place self.now (k + 1)) in
     qed 𝓛 (raw (on_entry 𝓛 f.signature κs qs a y.0.4) ∷ raw (fact 𝓤 (1 ≤ k)) ∷ raw (fact 𝓤 (k + 1 ≤ length self.now)) ∷ []) ∵
     move ! (1 ∷ []) $ heard ! _ (λ first. move ! (1 ∷ []) $ heard ! _ (λ last.
     use1 𝓛 ((‵ (flft κ q) ⊛ ‵ ftrue) ⊛ ‵ (Ref κ self) ⊛ ‵ (u32.own_val k (uint_vals w32 k)) ⊛ ‵ ftrue) (id⊢ 𝓤 _) $

@@ -1,14 +1,14 @@
 use Rattle.std.proofs.Common.{[], ap, rules, subst}
 use Rattle.std.specs.Global.{Vec}
 use Rattle.ts_glue.specs.declared.machine.Machine.{Machine}
-use Rattle.ts_model.specs.Views.{stated}
+use Rattle.ts_model.specs.Views.{model_parts}
 use Rattle.ts_checker.specs.Checking.{HasChecked}
 use Rattle.ts_checker.proofs.OfProgram.{tables_are}
 use Rattle.ts_checker.proofs.Verdicts.{none_checked}
 use Rattle.ts_checker.proofs.checker.Checker.new.Goals as goal
 
 pub returns-clause-checked : goal.returns-clause-checked
-returns-clause-checked c = subst (HasChecked []) (search rules) (none_checked (stated c.args.m))
+returns-clause-checked c = subst (HasChecked []) (search rules) (none_checked (model_parts c.args.m))
 
 pub invariant_of-result : goal.invariant_of-result
 invariant_of-result c = (

@@ -1,5 +1,5 @@
 use Rattle.std.proofs.lemmas.Result.{on_ok_weaker}
-use Rattle.ts_token.specs.Gist.{bare}
+use Rattle.ts_token.specs.Gist.{without_end}
 use Rattle.ts_model.proofs.ReaderLaws.{reads, stays_calm}
 use Rattle.ts_model.proofs.reader.ModelReader.line.Goals as goal
 
@@ -11,5 +11,5 @@ returns-clause-read c =
 pub returns-clause-calm : goal.returns-clause-calm
 returns-clause-calm c =
     on_ok_weaker c.answer-2.result
-    (stays_calm c.self.inside.state c.take.new.self c.args.self.now (bare c.args.line.now) c.self.view_is c.take.ensures.read)
+    (stays_calm c.self.inside.state c.take.new.self c.args.self.now (without_end c.args.line.now) c.self.view_is c.take.ensures.read)
     c.answer-2.ensures.calm

@@ -1,7 +1,7 @@
 use Rattle.std.proofs.Common.{◌≡◌, ◌∙◌, sym}
 use Rattle.std.proofs.lemmas.Result.{IfOk-weaker}
 use Rattle.ts_search.specs.Drops.{least}
-use Rattle.ts_search.specs.LineOf.{bar_of, cut, cut_by, inner}
+use Rattle.ts_search.specs.LineOf.{bar_of, is_cut_at, cut_by, inner}
 use Rattle.ts_search.specs.Views.{find_of, search_of}
 use Rattle.ts_search.proofs.Posed.{first_cut_by_bar, none_cut}
 use Rattle.ts_search.proofs.problem.Problem.first_cut.Goals as goal
@@ -11,7 +11,7 @@ returns-in-Some-clause-found c =
     let q = c.args.self.now in
     let b = c.args.cells.now.present in
     let bar = bar_of (find_of c.args.found.now) (search_of q).warm in
-    IfOk-weaker c.first_cut_by.result (λ cell. cell ≡ least (λ p. cut (search_of q) p b c.in-Some.bar) (inner (search_of q)) 1)
+    IfOk-weaker c.first_cut_by.result (λ cell. cell ≡ least (λ p. is_cut_at (search_of q) p b c.in-Some.bar) (inner (search_of q)) 1)
     (λ cell. cell ≡ least (λ p. cut_by (search_of q) bar p b) (inner (search_of q)) 1)
     (λ cell h. first_cut_by_bar q c.requires.posed b c.requires.part bar c.in-Some.bar cell (sym c.bar.ensures ∙ c.in-Some.is) h)
     c.first_cut_by.ensures.found

@@ -4,7 +4,7 @@ use Rattle.ts_filter.specs.Excluded.{Refutes}
 use Rattle.ts_filter.specs.FirstCell.{IsFirstCell}
 use Rattle.ts_filter.specs.OfTerm.{OfTerm}
 use Rattle.ts_search.specs.Drops.{least}
-use Rattle.ts_search.specs.LineOf.{inner, refuted}
+use Rattle.ts_search.specs.LineOf.{inner, is_refuted_at}
 use Rattle.ts_search.specs.Views.{search_of}
 use Rattle.ts_search.proofs.Posed.{first_refuted_told, required_is, required_there, tables_long, told_in}
 use Rattle.ts_search.proofs.problem.Problem.first_refuted.Goals as goal
@@ -20,9 +20,9 @@ returns-clause-found c =
     let q = c.args.self.now in let b = c.args.cells.now.present in let r = c.index-require.result.now in
     let is = required_is q c.requires.asked.posed c.args.j r c.requires.from c.requires.to c.index-require.ensures in
     IfOk-weaker c.first_refuted.result (λ found. OfTerm c.args.tables.now r.term (λ a. IsFirstCell a (Refutes r.op r.bound) b found))
-    (λ found. found ≡ least (λ p. refuted (search_of q) c.args.j p b) (inner (search_of q)) 1)
+    (λ found. found ≡ least (λ p. is_refuted_at (search_of q) c.args.j p b) (inner (search_of q)) 1)
     (λ found g. told_in q c.args.tables.now r.term (λ a. IsFirstCell a (Refutes r.op r.bound) b found)
-    (found ≡ least (λ p. refuted (search_of q) c.args.j p b) (inner (search_of q)) 1) c.requires.asked.tables
+    (found ≡ least (λ p. is_refuted_at (search_of q) c.args.j p b) (inner (search_of q)) 1) c.requires.asked.tables
     (tables_long q c.requires.asked.posed c.args.tables.now r.term c.requires.asked.tables (required_there q c.requires.asked.posed c.args.j r is)) g
     (λ a there h. first_refuted_told q c.requires.asked.posed b c.requires.asked.part c.args.j r a c.requires.from is there found h))
     c.first_refuted.ensures.found

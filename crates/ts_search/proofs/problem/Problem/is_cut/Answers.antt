@@ -1,6 +1,6 @@
 use Rattle.std.proofs.Common.{◌≡◌, ◌∙◌, sym}
 use Rattle.std.proofs.lemmas.Result.{IfOk-weaker}
-use Rattle.ts_search.specs.LineOf.{bar_of, cut, cut_by, last}
+use Rattle.ts_search.specs.LineOf.{bar_of, is_cut_at, cut_by, last}
 use Rattle.ts_search.specs.Views.{find_of, search_of}
 use Rattle.ts_search.proofs.Posed.{cut_by_bar, uncut}
 use Rattle.ts_search.proofs.problem.Problem.is_cut.Goals as goal
@@ -10,7 +10,7 @@ returns-in-Some-clause-told c =
     let q = c.args.self.now in
     let b = c.args.cells.now.present in
     let bar = bar_of (find_of c.args.found.now) (search_of q).warm in
-    IfOk-weaker c.is_cut_by.result (λ told. told ≡ cut (search_of q) (last (search_of q)) b c.in-Some.bar)
+    IfOk-weaker c.is_cut_by.result (λ told. told ≡ is_cut_at (search_of q) (last (search_of q)) b c.in-Some.bar)
     (λ told. told ≡ cut_by (search_of q) bar (last (search_of q)) b)
     (λ told h. cut_by_bar q c.requires.posed b c.requires.part bar c.in-Some.bar told (sym c.bar.ensures ∙ c.in-Some.is) h) c.is_cut_by.ensures.told
 

@@ -4,7 +4,7 @@ use Rattle.std.proofs.lemmas.Result.{IfOk-weaker}
 use Rattle.ts_bound.specs.TermSpans.{term_span}
 use Rattle.ts_filter.specs.Excluded.{Cuts}
 use Rattle.ts_filter.specs.OfTerm.{OfTerm}
-use Rattle.ts_search.specs.LineOf.{cut, last}
+use Rattle.ts_search.specs.LineOf.{is_cut_at, last}
 use Rattle.ts_search.specs.Views.{search_of}
 use Rattle.ts_search.proofs.Posed.{cut_told, objective_there, part_size, some_cells, tables_long, told_in, uncut_without}
 use Rattle.ts_search.proofs.problem.Problem.is_cut_by.Goals as goal
@@ -23,9 +23,9 @@ pub returns-in-Some-clause-told : goal.returns-in-Some-clause-told
 returns-in-Some-clause-told c =
     let q = c.args.self.now in let b = c.args.cells.now.present in let term = c.in-Some.term in
     IfOk-weaker c.cut_at_end.result (λ told. OfTerm c.args.tables.now term (λ a. IsTrue told ↔ Cuts q.goal c.args.bar (term_span a (length b) b)))
-    (λ told. told ≡ cut (search_of q) (last (search_of q)) b c.args.bar)
+    (λ told. told ≡ is_cut_at (search_of q) (last (search_of q)) b c.args.bar)
     (λ told g. told_in q c.args.tables.now term (λ a. IsTrue told ↔ Cuts q.goal c.args.bar (term_span a (length b) b))
-    (told ≡ cut (search_of q) (last (search_of q)) b c.args.bar) c.requires.tables
+    (told ≡ is_cut_at (search_of q) (last (search_of q)) b c.args.bar) c.requires.tables
     (tables_long q c.requires.posed c.args.tables.now term c.requires.tables (objective_there q c.requires.posed term c.in-Some.is)) g
     (λ a there h. cut_told q c.requires.posed b c.requires.part term a c.in-Some.is there c.args.bar told h))
     c.cut_at_end.ensures.told

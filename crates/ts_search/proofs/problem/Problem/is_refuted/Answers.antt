@@ -1,5 +1,5 @@
 use Rattle.std.proofs.lemmas.Result.{IfOk-weaker}
-use Rattle.ts_search.specs.LineOf.{last, refuted}
+use Rattle.ts_search.specs.LineOf.{last, is_refuted_at}
 use Rattle.ts_search.specs.Views.{search_of}
 use Rattle.ts_search.proofs.Posed.{part_size, refuted_told, required_is, required_there, some_cells, tables_long, told_in}
 use Rattle.std.proofs.Common.{arith, ◌↔◌, ◌≡◌}
@@ -29,9 +29,10 @@ returns-clause-told c =
     let q = c.args.self.now in let b = c.args.cells.now.present in let r = c.index-require.result.now in
     let is = required_is q c.requires.asked.posed c.args.j r c.requires.from c.requires.to c.index-require.ensures in
     IfOk-weaker c.refuted.result (λ told. OfTerm c.args.tables.now r.term (λ a. IsTrue told ↔ Refutes r.op r.bound (term_span a c.cells.result b)))
-    (λ told. told ≡ refuted (search_of q) c.args.j (last (search_of q)) b)
+    (λ told. told ≡ is_refuted_at (search_of q) c.args.j (last (search_of q)) b)
     (λ told g. told_in q c.args.tables.now r.term (λ a. IsTrue told ↔ Refutes r.op r.bound (term_span a c.cells.result b))
-    (told ≡ refuted (search_of q) c.args.j (last (search_of q)) b) c.requires.asked.tables
+    (told ≡ is_refuted_at (search_of q) c.args.j (last (search_of q)) b) c.requires.asked.tables
     (tables_long q c.requires.asked.posed c.args.tables.now r.term c.requires.asked.tables (required_there q c.requires.asked.posed c.args.j r is)) g
-    (λ a there h. refuted_told q c.requires.asked.posed b c.requires.asked.part c.args.j r a c.requires.from is there c.cells.result told c.cells.ensures.count h))
+    (λ a there h. refuted_told q c.requires.asked.posed b c.requires.asked.part c.args.j r a c.requires.from is there c.cells.result told
+    c.cells.ensures.count h))
     c.refuted.ensures.told

@@ -17,7 +17,7 @@ use Rattle.ts_model.specs.declared.model.Require.{Require}
 use Rattle.ts_model.specs.declared.statement.TermParts.{TermParts}
 use Rattle.ts_model.specs.declared.error.ModelKind.{ModelKind}
 use Rattle.ts_model.specs.declared.error.ModelKind.TheVariants.{NoCells, CellsTwice, CellRange, Empty, UnknownName, BadPair, UnknownTerm, TermTwice, ObjectiveTwice, Limit}
-use Rattle.ts_model.specs.Statement.{Said, SaysCells, SaysDomain, SaysCell, SaysTerm, SaysRequire, SaysObjective}
+use Rattle.ts_model.specs.Statement.{Meaning, SaysCells, SaysDomain, SaysCell, SaysTerm, SaysRequire, SaysObjective}
 
 abbrev pub is_between : ℤ → ℤ → ℤ → Bool
 is_between low x high = int_le low x && int_le x high
@@ -30,13 +30,13 @@ union_of ranges =
 
 -- what stands in a model: the numbers of each cell in rising order (no cells before the `cells` line), the terms by
 -- name, and the number of the objective's term
-pub record Stated : Type 0 where
+pub record ModelParts : Type 0 where
   pub cells : List (List ℤ)
   pub terms : List (List ℕ × TermParts)
   pub requirements : List Require
   pub objective : Option ℕ
 
-abbrev pub nothing : Stated
+abbrev pub nothing : ModelParts
 nothing = record { cells = []; terms = []; requirements = []; objective = None }
 
 -- the place of the term with this name
@@ -67,29 +67,29 @@ abbrev pub requirement : Option ℕ → Op → Ext → Require
 requirement place op bound = record { term = unwrap_or place 0; op = op; bound = bound }
 
 -- what is stated with one more line, of which no kind holds
-abbrev pub with_said : Stated → Said → Stated
-with_said m (SaysCells n) = record m { cells = replicate (count_of n) (union_of digits) }
-with_said m (SaysDomain rs) = record m { cells = map (λ _. union_of rs) m.cells }
-with_said m (SaysCell k rs) = record m { cells = set m.cells (count_of k - 1) (union_of rs) }
-with_said m (SaysTerm name parts) = record m { terms = m.terms ++ (name, unwrap_or parts unused_parts) ∷ [] }
-with_said m (SaysRequire name op bound) =
+abbrev pub with_meaning : ModelParts → Meaning → ModelParts
+with_meaning m (SaysCells n) = record m { cells = replicate (count_of n) (union_of digits) }
+with_meaning m (SaysDomain rs) = record m { cells = map (λ _. union_of rs) m.cells }
+with_meaning m (SaysCell k rs) = record m { cells = set m.cells (count_of k - 1) (union_of rs) }
+with_meaning m (SaysTerm name parts) = record m { terms = m.terms ++ (name, unwrap_or parts unused_parts) ∷ [] }
+with_meaning m (SaysRequire name op bound) =
     record m { requirements = m.requirements ++ requirement (term_at name m.terms) op bound ∷ [] }
-with_said m (SaysObjective name) = record m { objective = term_at name m.terms }
+with_meaning m (SaysObjective name) = record m { objective = term_at name m.terms }
 
-abbrev pub is_cells : Said → Bool
+abbrev pub is_cells : Meaning → Bool
 is_cells (SaysCells n) = true
 is_cells _ = false
 
-abbrev pub has_cells : Stated → Bool
+abbrev pub has_cells : ModelParts → Bool
 has_cells m = nat_lt 0 (length m.cells)
 
-abbrev pub no_cells : Stated → Said → Bool
+abbrev pub no_cells : ModelParts → Meaning → Bool
 no_cells m s = not (is_cells s) && not (has_cells m)
 
-abbrev pub cells_twice : Stated → Said → Bool
+abbrev pub cells_twice : ModelParts → Meaning → Bool
 cells_twice m s = is_cells s && has_cells m
 
-abbrev pub cell_range : Stated → Said → Bool
+abbrev pub cell_range : ModelParts → Meaning → Bool
 cell_range m (SaysCells n) = not (is_between (pos 1) n (pos most_cells))
 cell_range m (SaysCell k rs) = not (is_between (pos 1) k (pos (length m.cells)))
 cell_range m _ = false
@@ -97,12 +97,12 @@ cell_range m _ = false
 abbrev pub is_backward : Interval → Bool
 is_backward r = int_lt r.high r.low
 
-abbrev pub empty_range : Said → Bool
+abbrev pub empty_range : Meaning → Bool
 empty_range (SaysDomain rs) = list_any is_backward rs
 empty_range (SaysCell k rs) = list_any is_backward rs
 empty_range _ = false
 
-abbrev pub unknown_name : Said → Bool
+abbrev pub unknown_name : Meaning → Bool
 unknown_name (SaysTerm name parts) = is_none parts
 unknown_name _ = false
 
@@ -110,24 +110,24 @@ abbrev pub is_bad : Option TermParts → Bool
 is_bad None = false
 is_bad (Some parts) = not (is_pair parts.aggregator parts.feature)
 
-abbrev pub bad_pair : Said → Bool
+abbrev pub bad_pair : Meaning → Bool
 bad_pair (SaysTerm name parts) = is_bad parts
 bad_pair _ = false
 
-abbrev pub unknown_term : Stated → Said → Bool
+abbrev pub unknown_term : ModelParts → Meaning → Bool
 unknown_term m (SaysRequire name op bound) = is_none (term_at name m.terms)
 unknown_term m (SaysObjective name) = is_none (term_at name m.terms)
 unknown_term m _ = false
 
-abbrev pub term_twice : Stated → Said → Bool
+abbrev pub term_twice : ModelParts → Meaning → Bool
 term_twice m (SaysTerm name parts) = is_some (term_at name m.terms)
 term_twice m _ = false
 
-abbrev pub is_objective : Said → Bool
+abbrev pub is_objective : Meaning → Bool
 is_objective (SaysObjective name) = true
 is_objective _ = false
 
-abbrev pub objective_twice : Stated → Said → Bool
+abbrev pub objective_twice : ModelParts → Meaning → Bool
 objective_twice m s = is_objective s && is_some m.objective
 
 abbrev pub is_value : ℤ → Bool
@@ -145,16 +145,16 @@ is_bound PosInf = true
 abbrev pub total_of : List (List ℤ) → ℕ
 total_of cells = sum_by length cells
 
-abbrev pub over_total : Bool → Stated → Bool
+abbrev pub over_total : Bool → ModelParts → Bool
 over_total lists m = lists && nat_lt most_domain_values (total_of m.cells)
 
 -- a limit is passed by the line; lists says whether all domains together have one
-abbrev pub passes_limit : Bool → Stated → Said → Bool
-passes_limit lists m (SaysCells n) = over_total lists (with_said m (SaysCells n))
+abbrev pub passes_limit : Bool → ModelParts → Meaning → Bool
+passes_limit lists m (SaysCells n) = over_total lists (with_meaning m (SaysCells n))
 passes_limit lists m (SaysDomain rs) =
-    if list_any is_outside rs then true else over_total lists (with_said m (SaysDomain rs))
+    if list_any is_outside rs then true else over_total lists (with_meaning m (SaysDomain rs))
 passes_limit lists m (SaysCell k rs) =
-    if list_any is_outside rs then true else over_total lists (with_said m (SaysCell k rs))
+    if list_any is_outside rs then true else over_total lists (with_meaning m (SaysCell k rs))
 passes_limit lists m (SaysTerm name parts) = nat_le most_terms (length m.terms)
 passes_limit lists m (SaysRequire name op bound) =
     if is_bound bound then nat_le most_requirements (length m.requirements) else true
@@ -171,7 +171,7 @@ union_given rs =
     if list_any is_backward rs then Err Empty else (if list_any is_outside rs then Err Limit else Ok (union_of rs))
 
 -- the kinds in their order, each with its test
-abbrev pub kinds : Bool → Stated → Said → List (Bool × ModelKind)
+abbrev pub kinds : Bool → ModelParts → Meaning → List (Bool × ModelKind)
 kinds lists m s =
     (no_cells m s, NoCells)
     ∷ (cells_twice m s, CellsTwice)
@@ -189,10 +189,10 @@ abbrev pub first_kind : List (Bool × ModelKind) → Option ModelKind
 first_kind [] = None
 first_kind (k ∷ ks) = if k.0 then Some k.1 else first_kind ks
 
-abbrev pub unless_kind : Option ModelKind → Stated → Result Stated ModelKind
+abbrev pub unless_kind : Option ModelKind → ModelParts → Result ModelParts ModelKind
 unless_kind None m = Ok m
 unless_kind (Some k) m = Err k
 
 -- what is stated after the line, or its first kind
-abbrev pub taken : Bool → Stated → Said → Result Stated ModelKind
-taken lists m s = unless_kind (first_kind (kinds lists m s)) (with_said m s)
+abbrev pub parts_after : Bool → ModelParts → Meaning → Result ModelParts ModelKind
+parts_after lists m s = unless_kind (first_kind (kinds lists m s)) (with_meaning m s)
