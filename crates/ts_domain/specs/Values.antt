@@ -1,5 +1,5 @@
 -- Sets of numbers as their rising lists, and the ranges that keep them.
-use Rattle.std.specs.Prelude.{◌≢◌, ℕ, zero, suc, ℤ, pos, negsuc, neg_ℤ, ◌+ℤ◌, ◌-ℤ◌, ◌≤ℤ◌, ◌<ℤ◌, List, [], ◌∷◌, ◌++◌}
+use Rattle.std.specs.Prelude.{◌≢◌, ℕ, zero, suc, ℤ, pos, negsuc, neg_ℤ, ◌+ℤ◌, ◌-ℤ◌, ◌≤ℤ◌, ◌<ℤ◌, List, [], ◌∷◌, ◌++◌, get_or}
 use Rattle.std.specs.List.{AllByRecursion}
 use Rattle.ts_base.specs.Limits.{IsCellValue}
 use Rattle.ts_domain.specs.declared.interval.Interval.{Interval}
@@ -18,6 +18,10 @@ pub record IsDomain (values : List ℤ) : Type 0 where
   pub rising : IsRising values
   pub some : values ≢ []
   pub within : AllByRecursion WithinLimits values
+
+-- the least number of a set
+abbrev pub least_of : List ℤ → ℤ
+least_of values = get_or values 0 (pos 0)
 
 -- a number from 0 on, and 0 for those below
 abbrev pub to_natural : ℤ → ℕ

@@ -5,7 +5,7 @@ ghost use Rattle.std.specs.Prelude.{[], length, slice_get, Some, IsTrue, IfOk, A
 ghost use Rattle.ts_domain.specs.Kept.{values_kept, values_up_to, values_above, values_without};
 ghost use Rattle.ts_domain.specs.Marks.{put_back};
 ghost use Rattle.ts_domain.specs.Union.{InSomeRange, SomeEmpty};
-ghost use Rattle.ts_domain.specs.Values.{IsDomain, WithinLimits, values_of, AreRanges};
+ghost use Rattle.ts_domain.specs.Values.{IsDomain, WithinLimits, least_of, values_of, AreRanges};
 
 use crate::counted::CountedRanges;
 use crate::cut::{above, up_to};
@@ -137,6 +137,19 @@ impl Domain {
         self.piece == other.piece
             && self.marks.is_same(&other.marks)
             && self.ranges.items == other.ranges.items
+    }
+
+    /// The least number.
+    pub fn least(&self) -> i64
+        ensures value { result ≡ least_of self.now }
+        ensures there { Contains self.now result }
+        ensures first { slice_get self.now 0 ≡ Some result }
+        ensures least { (v : ℤ) → Contains self.now v → result ≤ℤ v }
+        ensures domain { IsDomain self.now }
+    {
+        // a set has a number
+        self.size();
+        self.nth(0)
     }
 
     /// The least and the greatest number.

@@ -1,15 +1,14 @@
 -- The value whose end is best, the least of several, by looking at one value after another.
 use Rattle.std.proofs.Common.{◌≡◌, ◌⊎◌, ℕ, ℤ, ◌≤ℤ◌, ◌<ℤ◌, Bool, true, false, not, List, [], ◌∷◌}
-use Rattle.std.proofs.Common.{Option, Some, None, slice_get, refl, sym, ◌∙◌, ap, subst, inl, inr, ⊎_elim, arith}
+use Rattle.std.proofs.Common.{Option, Some, None, refl, sym, ◌∙◌, ap, subst, inl, inr, ⊎_elim, arith}
 use Rattle.std.proofs.lemmas.Int.{ints}
-use Rattle.std.proofs.lemmas.Option.{same_Some}
 use Rattle.std.specs.Prelude.{Contains}
 use Rattle.ts_base.specs.declared.ext.Ext.{Ext}
 use Rattle.ts_base.specs.declared.goal.Goal.{Goal}
 use Rattle.ts_base.specs.declared.goal.Goal.TheVariants.{Maximise, Minimise}
 use Rattle.ts_base.specs.Numbers.{ext_le}
 use Rattle.ts_base.proofs.Order.{le_trans, le_antisym, le_other}
-use Rattle.ts_domain.specs.Values.{IsDomain, IsRising}
+use Rattle.ts_domain.specs.Values.{IsRising}
 use Rattle.ts_domain.proofs.Sets.{contains_cons, nothing_in, each_contains}
 use Rattle.ts_filter.specs.Excluded.{is_better}
 use Rattle.ts_bound.specs.TermSpans.{Automata}
@@ -131,14 +130,6 @@ module _ (goal : Goal) (end : ℤ → Ext) (all : List ℤ) where
 pub told_so : (goal : Goal) (x y e f : Ext) (r t : Bool) → r ≡ is_better goal x y → x ≡ e → y ≡ f → r ≡ t → is_better goal e f ≡ t
 told_so goal x y e f r t h p q s =
     sym (ap (λ z. is_better goal z f) p) ∙ sym (ap (λ z. is_better goal x z) q) ∙ sym h ∙ s
-
--- the first of a rising list is the least
-pub least_first : (all : List ℤ) (x : ℤ) → IsDomain all → slice_get all 0 ≡ Some x → (u : ℤ) → Contains all u → x ≤ℤ u
-least_first [] x d e u c = absurd (nothing_in u c)
-least_first (v ∷ rest) x d e u c =
-    let r = rising_parts v rest d.rising in
-    subst (λ z. z ≤ℤ u) (same_Some v x e)
-    (⊎_elim (λ same. subst (λ z. v ≤ℤ z) same (at_most_self v)) (λ g. less v u (each_contains (λ y. v <ℤ y) rest u r.0 g)) ((contains_cons v rest u).0 c))
 
 module _ (a : Automata) (goal : Goal) (k : ℕ) (b : Box) (v : ℤ) where
   ends_same : (u : ℤ) → HasCell k b → end_in a goal k b u ≡ end_with a goal k b u

@@ -1,9 +1,8 @@
 //! The value of a cell that is kept where one is to be chosen.
 
-ghost use Rattle.std.specs.Prelude.{◌≡◌, ℤ, ◌≤ℤ◌, Contains, IfOk, Some, slice_get};
+ghost use Rattle.std.specs.Prelude.{ℤ, Contains, IfOk};
 ghost use Rattle.ts_bound.specs.TermSpans.{automata_of};
 ghost use Rattle.ts_domain.specs.BoxSeries.{IsCell};
-ghost use Rattle.ts_domain.specs.Values.{IsDomain};
 ghost use Rattle.ts_filter.specs.Boxes.{values_at};
 ghost use Rattle.ts_filter.specs.KeptValue.{IsKept, IsPreferred, end_in};
 ghost use Rattle.ts_filter.specs.Known.{AreKnown, StillKnown};
@@ -14,7 +13,7 @@ use crate::excluded::{best_end, is_better};
 use crate::held::Held;
 use std::alloc::Global;
 use ts_base::{Goal, Memory};
-use ts_domain::{Boxed, Domain};
+use ts_domain::Boxed;
 use ts_glue::Machine;
 
 impl<'a> BoxTables<'a> {
@@ -34,7 +33,7 @@ impl<'a> BoxTables<'a> {
         ensures kept { IfOk result (λ v. IsKept self.old.machine goal k cells.now.present v) }
     {
         if self.is_plain() {
-            return Ok(least(cells.cell(k)));
+            return Ok(cells.cell(k).least());
         }
         self.make_at(alloc, k, cells)?;
         Ok(preferred(&self.hulls_at(k, cells), goal))
@@ -64,7 +63,7 @@ fn preferred(hulls: &CellHulls<'_>, goal: Goal) -> i64
         IsPreferred goal (end_in hulls.now.machine goal hulls.now.cell hulls.now.cells) result u }
 {
     let values = hulls.values();
-    let mut kept = least(values);
+    let mut kept = values.least();
     let mut best = best_end(goal, hulls.span_at(0, kept));
     for i in 0..values.size() {
         let v = values.nth(i);
@@ -75,16 +74,4 @@ fn preferred(hulls: &CellHulls<'_>, goal: Goal) -> i64
         }
     }
     kept
-}
-
-/// The least number of a set.
-fn least(values: &Domain) -> i64
-    ensures there { Contains values.now result }
-    ensures first { slice_get values.now 0 ≡ Some result }
-    ensures least { (u : ℤ) → Contains values.now u → result ≤ℤ u }
-    ensures domain { IsDomain values.now }
-{
-    // a set has a number
-    values.size();
-    values.nth(0)
 }

@@ -1,10 +1,9 @@
 -- The first cell with two or more values, and the values of a box of one series, cell by cell.
-use Rattle.std.proofs.Common.{◌≡◌, ℕ, zero, suc, ◌+◌, ◌-◌, ◌<◌, ◌≤◌, ℤ, List, [], ◌∷◌, ◌++◌, length, get_or, take, map, refl, sym, ap, ◌∙◌, subst, arith}
+use Rattle.std.proofs.Common.{◌≡◌, ℕ, ◌+◌, ◌-◌, ◌<◌, ◌≤◌, ℤ, List, [], ◌∷◌, ◌++◌, length, get_or, take, map, refl, sym, ap, ◌∙◌, subst, arith}
 use Rattle.std.proofs.lemmas.List.{map-append, take_all, take_more}
-use Rattle.ts_domain.specs.BoxSeries.{IsBox}
-use Rattle.ts_domain.specs.Values.{IsDomain}
+use Rattle.ts_domain.specs.Values.{least_of}
 use Rattle.ts_filter.specs.Boxes.{Box, box_of}
-use Rattle.ts_frontier.specs.Halve.{IsSingle, IsHalving, middle_of, least_of}
+use Rattle.ts_frontier.specs.Halve.{IsSingle, IsHalving, middle_of}
 
 -- cell i + 1 stands at place i
 place : (i : ℕ) → i + 1 - 1 ≡ i
@@ -39,16 +38,6 @@ halving_here b i n d t t' below count is some more mid same h = record {
 
 pub all_single : (b : Box) (n m : ℕ) → n ≤ m → n ≡ length b → IsSingle (take m b) → IsSingle b
 all_single b n m end count h = subst (λ z. IsSingle z) (take_all m b (omega (arith, end, count))) h
-
--- the domain of a cell that is read
-box_at : (b : Box) (i : ℕ) → IsBox b → i < length b → IsDomain (get_or b i [])
-box_at [] i h below = absurd (omega (arith, below))
-box_at (d ∷ b) zero h below = h.0
-box_at (d ∷ b) (suc i) h below = box_at b i h.1 (omega (arith, below))
-
-pub domain_read : (b : Box) (i n : ℕ) (d : List ℤ) → IsBox b → i < n → n ≡ length b → d ≡ get_or b (i + 1 - 1) [] → IsDomain d
-domain_read b i n d box below count is =
-    subst IsDomain (sym (is ∙ ap (λ j. get_or b j []) (place i))) (box_at b i box (omega (arith, below, count)))
 
 -- the least values so far, and one more
 pub least_next : (b : Box) (i n : ℕ) (d xs xs' : List ℤ) (v v' : ℤ) → i < n → n ≡ length b → d ≡ get_or b (i + 1 - 1) [] → v ≡ least_of d → v' ≡ v →

@@ -11,9 +11,6 @@ IsSingle b = AllByRecursion (λ d. length d ≡ 1) b
 abbrev pub middle_of : List ℤ → ℤ
 middle_of d = get_or d ((length d - 1) / 2) (pos 0)
 
-abbrev pub least_of : List ℤ → ℤ
-least_of d = get_or d 0 (pos 0)
-
 -- cell k is the first with two or more values, and t the lower middle one of them
 pub record IsHalving (k : ℕ) (t : ℤ) (b : Box) : Type 0 where
   pub cell : HasCell k b

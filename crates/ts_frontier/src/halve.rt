@@ -3,7 +3,7 @@
 ghost use Rattle.std.specs.Prelude.{◌≡◌, MatchOption, IfOk};
 ghost use Rattle.ts_domain.specs.Values.{IsDomain};
 ghost use Rattle.ts_filter.specs.Boxes.{box_of};
-ghost use Rattle.ts_frontier.specs.Halve.{IsSingle, IsHalving, middle_of, least_of};
+ghost use Rattle.ts_frontier.specs.Halve.{IsSingle, IsHalving, middle_of};
 
 use std::alloc::Global;
 use ts_base::Memory;
@@ -39,7 +39,7 @@ pub fn only_series(alloc: Global, b: &Boxed) -> Result<Vec<i64>, Memory>
 {
     let mut series = Vec::new(alloc);
     for i in 0..b.cells() {
-        series.push(least(b.cell(i + 1)))?;
+        series.push(b.cell(i + 1).least())?;
     }
     Ok(series)
 }
@@ -51,12 +51,4 @@ fn lower_middle(domain: &Domain) -> i64
 {
     let size = domain.size();
     domain.nth((size - 1) / 2)
-}
-
-// The least value.
-fn least(domain: &Domain) -> i64
-    requires { IsDomain domain.now }
-    ensures { result ≡ least_of domain.now }
-{
-    domain.nth(0)
 }

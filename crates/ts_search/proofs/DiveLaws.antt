@@ -16,7 +16,8 @@ use Rattle.ts_filter.specs.Excluded.{is_better}
 use Rattle.ts_filter.specs.Laws.{IsSound}
 use Rattle.ts_filter.specs.RefutedWorseDrop.{Spans, IsRefuted, IsDrop}
 use Rattle.ts_filter.proofs.BoxParts.{place, domain_at, only_part, part_self, inside_length, in_box_inside}
-use Rattle.ts_search.specs.Dive.{value_of, find, promise, most_promising, best_value, least_value, kept_for, kept_value, keep_one, keep_from, dive_box, dive_end, dive}
+use Rattle.ts_domain.specs.Values.{least_of}
+use Rattle.ts_search.specs.Dive.{value_of, find, promise, most_promising, best_value, kept_for, kept_value, keep_one, keep_from, dive_box, dive_end, dive}
 use Rattle.ts_search.specs.Drops.{after_drops}
 use Rattle.ts_search.specs.Forms.{Form, Alone, Wide, after_value, form}
 use Rattle.ts_search.proofs.DropLaws.{drops_keep, dropped_part}
@@ -40,7 +41,7 @@ pub best_there : (f : ℤ → Ext) (goal : Goal) (d : List ℤ) → (d ≡ [] �
 best_there f goal [] some = absurd (some refl)
 best_there f goal (v ∷ values) some = promising_there f goal v values
 
-least_there : (d : List ℤ) → (d ≡ [] → ⊥) → Contains d (least_value d)
+least_there : (d : List ℤ) → (d ≡ [] → ⊥) → Contains d (least_of d)
 least_there [] some = absurd (some refl)
 least_there (v ∷ values) some = (contains_cons v values v).1 (inl refl)
 
@@ -48,7 +49,7 @@ kept_there : (s : Spans) (goal : Goal) (k : ℕ) (b : Box) (o : Option ℕ) → 
 kept_there s goal k b None some = least_there (values_at k b) some
 kept_there s goal k b (Some term) some =
     elim (s.reversible term) as (λ t. Contains (values_at k b)
-    (cond t (best_value (promise s goal term k b) goal (values_at k b)) (least_value (values_at k b)))) [
+    (cond t (best_value (promise s goal term k b) goal (values_at k b)) (least_of (values_at k b)))) [
       | true ↦ best_there (promise s goal term k b) goal (values_at k b) some
       | false ↦ least_there (values_at k b) some
     ]

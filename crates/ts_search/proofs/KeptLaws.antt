@@ -4,7 +4,7 @@ use Rattle.std.proofs.lemmas.Int.{ints}
 use Rattle.std.specs.Prelude.{Contains, is_some}
 use Rattle.ts_base.specs.declared.ext.Ext.{Ext}
 use Rattle.ts_base.specs.declared.goal.Goal.{Goal}
-use Rattle.ts_domain.specs.Values.{IsDomain, IsRising}
+use Rattle.ts_domain.specs.Values.{IsDomain, IsRising, least_of}
 use Rattle.ts_domain.proofs.Sets.{contains_cons, each_contains, nothing_in}
 use Rattle.ts_glue.specs.Pairs.{Pair}
 use Rattle.ts_bound.specs.TermSpans.{Automata}
@@ -13,7 +13,7 @@ use Rattle.ts_filter.specs.Ends.{best_end}
 use Rattle.ts_filter.specs.Excluded.{is_better}
 use Rattle.ts_filter.specs.KeptValue.{IsPreferred, IsKeptOver, IsKept, end_with}
 use Rattle.ts_filter.specs.MachineSpans.{is_split, span_of, spans_of}
-use Rattle.ts_search.specs.Dive.{most_promising, best_value, least_value, kept_for}
+use Rattle.ts_search.specs.Dive.{most_promising, best_value, kept_for}
 use Rattle.ts_search.proofs.Known.{clash, never_itself, chain, apart, neither_better}
 
 at_most_both : (v w : ℤ) → v ≤ℤ w → w ≤ℤ v → v ≡ w
@@ -83,7 +83,7 @@ module _ (goal : Goal) (f : ℤ → Ext) where
   best_is v (w ∷ values) r here over there =
       one_preferred v (most_promising f goal w values) (over (most_promising f goal w values) there) (promising_wins w values r v here)
 
-least_is : (v : ℤ) (d : List ℤ) → IsRising d → Contains d v → ((u : ℤ) → Contains d u → v ≤ℤ u) → v ≡ least_value d
+least_is : (v : ℤ) (d : List ℤ) → IsRising d → Contains d v → ((u : ℤ) → Contains d u → v ≤ℤ u) → v ≡ least_of d
 unfolding IsRising
 least_is v [] r here over = absurd (nothing_in v here)
 least_is v (w ∷ values) r here over =
@@ -97,7 +97,7 @@ module _ (ms : List Automata) (term : ℕ) (a : Automata) (has : slice_get ms te
   by_pair : (v : ℤ) → IsDomain (values_at k b) → (p : Option Pair) → Contains (values_at k b) v →
       ((u : ℤ) → Contains (values_at k b) u → IsKeptOver p goal (end_with a goal k b) v u) →
       Contains (values_at k b) (best_value (end_with a goal k b) goal (values_at k b)) →
-      v ≡ cond (is_some p) (best_value (end_with a goal k b) goal (values_at k b)) (least_value (values_at k b))
+      v ≡ cond (is_some p) (best_value (end_with a goal k b) goal (values_at k b)) (least_of (values_at k b))
   by_pair v d None here over there = least_is v (values_at k b) d.rising here over
   by_pair v d (Some p) here over there = best_is goal (end_with a goal k b) v (values_at k b) d.rising here over there
 
@@ -105,4 +105,4 @@ module _ (ms : List Automata) (term : ℕ) (a : Automata) (has : slice_get ms te
       IsKept a goal k b v → v ≡ kept_for (spans_of ms) goal k b (Some term)
   kept_is v d there h =
       by_pair v d a.pair h.there h.over there
-      ∙ sym (ap (λ o. cond (is_split o) (best_value (λ u. best_end goal (span_of o k (only k u b))) goal (values_at k b)) (least_value (values_at k b))) has)
+      ∙ sym (ap (λ o. cond (is_split o) (best_value (λ u. best_end goal (span_of o k (only k u b))) goal (values_at k b)) (least_of (values_at k b))) has)

@@ -1,9 +1,10 @@
 -- The dive: to one series, by keeping the most promising value of each cell and dropping what is refuted.
 use Rattle.std.specs.Prelude.{ℕ, zero, suc, ℤ, pos, cond, List, [], ◌∷◌, length, Option, Some, None}
-use Rattle.std.specs.Prelude.{get_or, unwrap_or}
+use Rattle.std.specs.Prelude.{unwrap_or}
 use Rattle.ts_base.specs.declared.ext.Ext.{Ext}
 use Rattle.ts_base.specs.declared.ext.Ext.TheVariants.{NegInf}
 use Rattle.ts_base.specs.declared.goal.Goal.{Goal}
+use Rattle.ts_domain.specs.Values.{least_of}
 use Rattle.ts_model.specs.Judgement.{is_met}
 use Rattle.ts_model.specs.ModelParts.{ModelParts}
 use Rattle.ts_filter.specs.Accepts.{objective_of}
@@ -40,14 +41,11 @@ abbrev pub best_value : (ℤ → Ext) → Goal → List ℤ → ℤ
 best_value promise goal [] = pos 0
 best_value promise goal (v ∷ values) = most_promising promise goal v values
 
-abbrev pub least_value : List ℤ → ℤ
-least_value values = get_or values 0 (pos 0)
-
 -- the value that cell k keeps: the least one where the objective isn't reversible
 abbrev pub kept_for : Spans → Goal → ℕ → Box → Option ℕ → ℤ
-kept_for s goal k b None = least_value (values_at k b)
+kept_for s goal k b None = least_of (values_at k b)
 kept_for s goal k b (Some term) =
-    cond (s.reversible term) (best_value (promise s goal term k b) goal (values_at k b)) (least_value (values_at k b))
+    cond (s.reversible term) (best_value (promise s goal term k b) goal (values_at k b)) (least_of (values_at k b))
 
 abbrev pub kept_value : ModelParts → Spans → Goal → ℕ → Box → ℤ
 kept_value m s goal k b = kept_for s goal k b m.objective

@@ -2,8 +2,7 @@
 
 ghost use Rattle.std.specs.Prelude.{◌≡◌, IfOk};
 ghost use Rattle.ts_domain.specs.BoxSeries.{InBox, IsCell};
-ghost use Rattle.ts_domain.specs.Values.{IsDomain};
-ghost use Rattle.ts_search.specs.Dive.{kept_value, least_value, value_of};
+ghost use Rattle.ts_search.specs.Dive.{kept_value, value_of};
 ghost use Rattle.ts_search.specs.Drops.{least};
 ghost use Rattle.ts_search.specs.LineOf.{bar_of, counts_for, is_cut_at, cut_by, inner, last};
 ghost use Rattle.ts_search.specs.Posed.{IsPosed, MayAsk};
@@ -14,7 +13,7 @@ use crate::problem::Problem;
 use std::alloc::Global;
 use ts_base::{Ext, Memory};
 use ts_compile::value_of;
-use ts_domain::{Boxed, Domain};
+use ts_domain::Boxed;
 use ts_filter::{AllTables, Bar, counts};
 
 impl<'a> Problem<'a> {
@@ -132,7 +131,7 @@ impl<'a> Problem<'a> {
     {
         match self.model.objective {
             Some(term) => tables.kept_value(alloc, term, self.goal, k, cells),
-            None => Ok(least(cells.cell(k))),
+            None => Ok(cells.cell(k).least()),
         }
     }
 
@@ -147,14 +146,4 @@ impl<'a> Problem<'a> {
             None => Ok(Ext::NegInf),
         }
     }
-}
-
-/// The least value of a domain.
-fn least(domain: &Domain) -> i64
-    ensures least { result ≡ least_value domain.now }
-    ensures domain { IsDomain domain.now }
-{
-    // a domain has a value
-    domain.size();
-    domain.nth(0)
 }

@@ -1,5 +1,5 @@
 use Rattle.std.proofs.Common.{◌≡◌, take, map}
-use Rattle.ts_frontier.specs.Halve.{least_of}
+use Rattle.ts_domain.specs.Values.{least_of}
 use Rattle.ts_frontier.proofs.halve.only_series.Given as goal
 
 abbrev pub invariant-loop-i : goal.invariant-loop-i

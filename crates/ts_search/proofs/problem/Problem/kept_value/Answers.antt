@@ -3,7 +3,8 @@ use Rattle.std.proofs.lemmas.Int.{to_z-of_z}
 use Rattle.std.proofs.lemmas.Result.{IfOk-weaker}
 use Rattle.ts_filter.specs.KeptValue.{IsKept}
 use Rattle.ts_filter.specs.OfTerm.{OfTerm}
-use Rattle.ts_search.specs.Dive.{kept_for, kept_value, least_value}
+use Rattle.ts_domain.specs.Values.{least_of}
+use Rattle.ts_search.specs.Dive.{kept_for, kept_value}
 use Rattle.ts_search.specs.Views.{search_of}
 use Rattle.ts_search.proofs.Posed.{kept_told, objective_there, tables_long, told_in}
 use Rattle.ts_search.proofs.problem.Problem.kept_value.Goals as goal
@@ -29,5 +30,5 @@ returns-in-Some-clause-kept c =
 pub returns-in-None-clause-kept : goal.returns-in-None-clause-kept
 returns-in-None-clause-kept c =
     let q = c.args.self.now in let b = c.args.cells.now.present in
-    to_z-of_z w64 c.least.result (search rules) ∙ c.least.ensures.least ∙ ap least_value c.cell.ensures
+    to_z-of_z w64 c.least.result (search rules) ∙ c.least.ensures.value ∙ ap least_of c.cell.ensures
     ∙ ap (kept_for (search_of q).spans q.goal c.args.k b) (sym c.in-None.is)
