@@ -1,15 +1,22 @@
--- The fronts of moves that keep all registers, or only make D greater by one.
+-- The fronts of moves that keep all registers, or only make D greater by one; and of an operator over a word and two more.
 use Rattle.std.proofs.Common.{◌≡◌, true, ℤ, pos, refl, sym, ap, ◌∙◌, subst}
 use Rattle.ts_base.specs.declared.ext.Ext.TheVariants.{Int}
 use Rattle.ts_base.specs.Spans.{one_span, has_some}
+use Rattle.ts_automaton.specs.declared.expr.Atom.{Atom}
+use Rattle.ts_automaton.specs.declared.expr.Op.{Op}
 use Rattle.ts_automaton.specs.declared.expr.Op.TheVariants.{Add}
+use Rattle.ts_automaton.specs.declared.regs.Hull.{Hull}
+use Rattle.ts_automaton.specs.Formula.{Leaf}
 use Rattle.ts_automaton.specs.Registers.{ext_op}
 use Rattle.ts_bound.specs.declared.packed.Ends.{Ends}
 use Rattle.ts_bound.specs.declared.packed.Packed.{Packed}
+use Rattle.ts_bound.specs.declared.sweep_parts.Part.{Part}
+use Rattle.ts_bound.specs.declared.sweep_parts.Part.TheVariants.{Three}
 use Rattle.ts_bound.specs.declared.sweep_parts.Parts.{Parts}
 use Rattle.ts_bound.specs.Packs.{unpack_span, unpack_hull, IsPackOf}
-use Rattle.ts_bound.specs.Sealed.{by_ends, some_hull}
-use Rattle.ts_bound.specs.Cuts.{front_hull, parts_cut, kept_parts, longer_parts}
+use Rattle.ts_bound.specs.Sealed.{by_ends, some_hull, span_in}
+use Rattle.ts_bound.specs.Cuts.{front_hull, part_split, parts_cut, kept_parts, longer_parts}
+use Rattle.ts_bound.specs.Splits.{front_span}
 use Rattle.ts_bound.proofs.PackLaws.{hull_some, front_packs}
 
 pub kept_packs : (k : Parts) (p : Packed) (x : ℤ) → k ≡ kept_parts → some_hull (unpack_hull p) ≡ true →
@@ -28,3 +35,14 @@ longer_packs k p unit sum x is s e f g =
     let h = hull_some (unpack_hull p) s in
     subst (λ (z : Parts). IsPackOf grown (front_hull (parts_cut z) (unpack_hull p) x)) (sym is)
     (front_packs (parts_cut longer_parts) (unpack_hull p) x grown s refl (f ∙ ap (by_ends (ext_op Add) (unpack_span p.d)) e) refl h.0 g h.2)
+
+pub three_is : (k : Part) (o p : Op) (a b c : Atom) (h : Hull) (x y : ℤ) (first second third inner outer : Ends) → k ≡ Three o a p b c → y ≡ x →
+    unpack_span first ≡ span_in (Leaf a) h y (pos 0) → unpack_span second ≡ span_in (Leaf b) h y (pos 0) → unpack_span third ≡ span_in (Leaf c) h y (pos 0) →
+    unpack_span inner ≡ by_ends (ext_op p) (unpack_span second) (unpack_span third) →
+    unpack_span outer ≡ by_ends (ext_op o) (unpack_span first) (unpack_span inner) → unpack_span outer ≡ front_span (part_split k) h x
+three_is k o p a b c h x y first second third inner outer is same e f g i j =
+    j ∙ ap (λ z. by_ends (ext_op o) z (unpack_span inner)) e
+    ∙ ap (by_ends (ext_op o) (span_in (Leaf a) h y (pos 0)))
+    (i ∙ ap (λ z. by_ends (ext_op p) z (unpack_span third)) f ∙ ap (by_ends (ext_op p) (span_in (Leaf b) h y (pos 0))) g)
+    ∙ ap (λ z. by_ends (ext_op o) (span_in (Leaf a) h z (pos 0)) (by_ends (ext_op p) (span_in (Leaf b) h z (pos 0)) (span_in (Leaf c) h z (pos 0)))) same
+    ∙ sym (ap (λ z. front_span (part_split z) h x) is)

@@ -16,6 +16,9 @@ mod SplitLaws
 pub mod KnownFronts
 pub mod PackLaws
 mod SweepLaws
+pub mod LeadLaws
+pub mod EqualFronts
+pub mod WidenLaws
 pub mod SweptRows
 pub mod ValueLaws
 pub mod Passed

@@ -106,6 +106,8 @@ pub domain_read : (vs : List ℤ) (count : ℕ) (low high : ℤ) (is_run : Bool)
     ((v : ℤ) → Contains vs v → (low ≤ℤ v) × (v ≤ℤ high)) → (is_run ≡ true → high +ℤ pos 1 ≡ low +ℤ pos count) → AreRead vs count low high is_run
 domain_read vs count low high is_run d is has has' all run = record {
   counted = is;
+  few = (let h = domain_few vs d in omega (arith, h, is));
+  small = within_small low (domain_end vs low d has);
   values = domain_values vs d;
   between = λ i lt. all (get_or vs i (pos 0)) (Contains-get_or vs i (pos 0) lt);
   run = λ e i lt. at e i lt;

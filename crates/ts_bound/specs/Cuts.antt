@@ -6,7 +6,7 @@ use Rattle.ts_automaton.specs.declared.expr.Op.TheVariants.{Add}
 use Rattle.ts_automaton.specs.Formula.{Leaf, Join, formula}
 use Rattle.ts_automaton.specs.Body.{Move}
 use Rattle.ts_bound.specs.declared.sweep_parts.Part.{Part}
-use Rattle.ts_bound.specs.declared.sweep_parts.Part.TheVariants.{KeepC, KeepD, KeepR, Word, Two, Front}
+use Rattle.ts_bound.specs.declared.sweep_parts.Part.TheVariants.{KeepC, KeepD, KeepR, Word, Two, Three, Front}
 use Rattle.ts_bound.specs.declared.sweep_parts.Part.TheVariants.{Tail, Double, Pairs}
 use Rattle.ts_bound.specs.declared.sweep_parts.Parts.{Parts}
 use Rattle.ts_bound.specs.Hulls.{none}
@@ -39,6 +39,7 @@ part_split KeepD = FrontOf (Leaf D)
 part_split KeepR = FrontOf (Leaf R)
 part_split (Word a) = FrontOf (Leaf a)
 part_split (Two o a b) = FrontOf (Join o (Leaf a) (Leaf b))
+part_split (Three o a p b c) = FrontOf (Join o (Leaf a) (Join p (Leaf b) (Leaf c)))
 part_split (Front e) = FrontOf (formula e.now)
 part_split (Tail o e) = TailOf o (formula e.now)
 part_split (Double o e f) = TailOf o (Join o (formula e.now) (formula f.now))
@@ -46,6 +47,9 @@ part_split Pairs = ByPairs
 
 abbrev pub parts_cut : Parts → Cut
 parts_cut p = record { c = part_split p.c; d = part_split p.d; r = part_split p.r }
+
+abbrev pub parts_of : Part → Part → Part → Parts
+parts_of c d r = record { c = c; d = d; r = r }
 
 -- the parts of a move that keeps all registers, and of one that only makes D greater by one
 abbrev pub kept_parts : Parts

@@ -1,5 +1,5 @@
 -- Values that rise, and numbers of at most 10^16 in size.
-use Rattle.std.specs.Prelude.{◌≡◌, ℕ, ◌<◌, Bool, true, ◌&&◌, ℤ, pos, neg_ℤ, ◌+ℤ◌, ◌≤ℤ◌, int_lt, int_le, IsTrue, List, length, get_or}
+use Rattle.std.specs.Prelude.{◌≡◌, ℕ, ◌<◌, ◌≤◌, Bool, true, ◌&&◌, ℤ, pos, neg_ℤ, ◌+ℤ◌, ◌≤ℤ◌, int_lt, int_le, IsTrue, List, length, get_or}
 use Rattle.ts_base.specs.declared.ext.Ext.{Ext}
 use Rattle.ts_base.specs.declared.ext.Ext.TheVariants.{NegInf, Int, PosInf}
 use Rattle.ts_base.specs.declared.span.Span.{Span}
@@ -26,6 +26,8 @@ AreBetween vs low high =
 -- no gap
 pub record AreRead (vs : List ℤ) (count : ℕ) (first last : ℤ) (is_run : Bool) : Type 0 where
   pub counted : count ≡ length vs
+  pub few : count ≤ 2000001
+  pub small : small_int first ≡ true
   pub values : AreValues vs
   pub between : AreBetween vs first last
   pub run : is_run ≡ true → (i : ℕ) → i < length vs → first +ℤ pos i ≡ get_or vs i (pos 0)
@@ -41,3 +43,7 @@ small_span s = small s.lo && small s.hi
 
 abbrev pub small_hull : Hull → Bool
 small_hull h = small_span h.c && (small_span h.d && small_span h.r)
+
+-- from a first one on there is no gap
+abbrev pub IsRunFrom : ℤ → List ℤ → Type 0
+IsRunFrom first vs = (i : ℕ) → i < length vs → first +ℤ pos i ≡ get_or vs i (pos 0)

@@ -1,6 +1,6 @@
 -- How sweeps make a row: move by move, each over the values in the order of its letter.
-use Rattle.std.specs.Prelude.{◌≡◌, ℕ, zero, suc, ◌+◌, ◌-◌, ◌*◌, Bool, true, false, cond}
-use Rattle.std.specs.Prelude.{◌&&◌, ◌||◌, int_lt, int_le, ℤ, pos, List, length, get_or, set}
+use Rattle.std.specs.Prelude.{◌≡◌, ℕ, zero, suc, ◌+◌, ◌-◌, ◌*◌, ◌<◌, ◌≤◌, Bool, true, false, cond}
+use Rattle.std.specs.Prelude.{◌&&◌, ◌||◌, nat_lt, int_lt, int_le, ℤ, pos, neg_ℤ, ◌+ℤ◌, ◌-ℤ◌, ◌<ℤ◌, ◌≤ℤ◌, List, length, get_or, set}
 use Rattle.ts_base.specs.declared.letter.Letter.{Letter}
 use Rattle.ts_base.specs.declared.letter.Letter.TheVariants.{Less, Equal, Greater}
 use Rattle.ts_base.specs.Signature.{letter_of}
@@ -100,6 +100,37 @@ compares l twin v w =
 
 abbrev pub takes : Letter → Bool → List ℤ → ℕ → ℤ → Bool
 takes l twin vs i w = compares l twin (get_or vs i (pos 0)) w
+
+-- at step k of a sweep so many values are passed as k and the lead are together
+abbrev pub Leads : Letter → Bool → List ℤ → List ℤ → ℤ → Type 0
+Leads l twin vs ws lead =
+    (i k : ℕ) → i < length vs → k < length ws →
+    takes l twin vs (step_place l (length vs) i) (get_or ws (step_place l (length ws) k) (pos 0))
+    ≡ int_lt (pos i) (pos k +ℤ lead)
+
+-- without a twin, of n values from a on and m next ones from b on
+abbrev pub ahead : Letter → ℤ → ℕ → ℤ → ℕ → ℤ
+ahead Less a n b m = b -ℤ a
+ahead Equal a n b m = b -ℤ a
+ahead Greater a n b m = (a +ℤ pos n) -ℤ (b +ℤ pos m)
+
+abbrev pub IsLead : ℤ → Type 0
+IsLead x = (neg_ℤ (pos 30000000000000000) ≤ℤ x) × (x ≤ℤ pos 30000000000000000)
+
+abbrev pub IsWide : ℤ → Type 0
+IsWide x = (neg_ℤ (pos 40000000000000000) ≤ℤ x) × (x ≤ℤ pos 40000000000000000)
+
+-- of n values those before place `at` are passed, which are those before `to`
+pub record IsReached (n : ℕ) (to : ℤ) (at : ℕ) : Type 0 where
+  pub inside : at ≤ n
+  pub passed : (i : ℕ) → i < at → pos i <ℤ to
+  pub rest : at < n → to ≤ℤ pos at
+
+-- the front of the value at place `at`, where it is equal to the next one at place j
+unfoldable pub equal_front : Cut → ℕ → ℕ → List ℤ → List Hull → List ℤ → ℕ → ℕ → Hull
+equal_front k s q vs row ws j at =
+    let there = nat_lt at (length vs) && fits Equal vs at ws j in
+    hull_of_both none (cond there (front_hull k (hull_in s q row at) (get_or vs at (pos 0))) none)
 
 -- a value from low to high may compare so with a next one from low' to high'
 abbrev pub may_fit : Letter → ℤ → ℤ → ℤ → ℤ → Bool

@@ -1,7 +1,7 @@
 //! The fronts of a move on packed hulls, and what the next cell makes of their hull.
 
 ghost use Rattle.std.specs.Prelude.{◌≡◌, pos, true};
-ghost use Rattle.ts_automaton.specs.Formula.{Leaf};
+ghost use Rattle.ts_automaton.specs.Formula.{Leaf, formula};
 ghost use Rattle.ts_base.specs.Spans.{has_some};
 ghost use Rattle.ts_bound.specs.Cuts.{closed_hull, front_hull, kept_parts, longer_parts, part_split, parts_cut, all_swept};
 ghost use Rattle.ts_bound.specs.Packs.{IsPackOf, unpack_hull, unpack_span};
@@ -10,9 +10,9 @@ ghost use Rattle.ts_bound.specs.Smalls.{small_int};
 ghost use Rattle.ts_bound.specs.Splits.{closed_span, front_span, is_swept};
 
 use crate::packed::{Ends, Packed};
-use crate::packed_exprs::{changed_ends, joined_ends, register_ends};
+use crate::packed_exprs::{joined_ends, register_ends};
 use crate::sweep_parts::{Part, Parts};
-use ts_automaton::{Atom, Op};
+use ts_automaton::{Atom, Expr, Op};
 
 /// The span of a word in a front.
 #[inline(always)]
@@ -34,6 +34,17 @@ fn word_ends(word: Atom, h: &Packed, x: i64) -> Ends
     }
 }
 
+/// The span of a front of any length. A call here keeps short what stands in the loops.
+#[inline(never)]
+fn far_ends(e: &Expr, h: &Packed, x: i64) -> Ends
+    requires hull { some_hull (unpack_hull h.now) ≡ true }
+    requires this { small_int x ≡ true }
+    ensures value { unpack_span result ≡ span_in (formula e.now) (unpack_hull h.now) x (pos 0) }
+    ensures some { has_some (unpack_span result) ≡ true }
+{
+    register_ends(e, h, x, 0)
+}
+
 impl Part<'_> {
     /// The span of the front.
     #[inline(always)]
@@ -50,13 +61,13 @@ impl Part<'_> {
             Part::KeepR => h.r,
             Part::Word(word) => word_ends(word, h, x),
             Part::Two(o, a, b) => joined_ends(o, word_ends(a, h, x), word_ends(b, h, x)),
-            Part::Front(e) => changed_ends(e, h, x, 0),
-            Part::Tail(_, e) => register_ends(e, h, x, 0),
-            Part::Double(o, e, f) => joined_ends(
+            Part::Three(o, a, p, b, c) => joined_ends(
                 o,
-                register_ends(e, h, x, 0),
-                register_ends(f, h, x, 0),
+                word_ends(a, h, x),
+                joined_ends(p, word_ends(b, h, x), word_ends(c, h, x)),
             ),
+            Part::Front(e) | Part::Tail(_, e) => far_ends(e, h, x),
+            Part::Double(o, e, f) => joined_ends(o, far_ends(e, h, x), far_ends(f, h, x)),
             Part::Pairs => unreachable!(),
         }
     }
@@ -76,6 +87,7 @@ impl Part<'_> {
             | Part::KeepR
             | Part::Word(_)
             | Part::Two(_, _, _)
+            | Part::Three(_, _, _, _, _)
             | Part::Front(_) => s,
             Part::Tail(o, _) | Part::Double(o, _, _) => joined_ends(o, s, Ends::one(y)),
             Part::Pairs => unreachable!(),
@@ -133,7 +145,7 @@ impl Parts<'_> {
     }
 
     /// Those of any move.
-    #[inline(never)]
+    #[inline(always)]
     fn mixed_fronts(&self, h: &Packed, x: i64) -> Packed
         requires swept { all_swept (parts_cut self.now) ≡ true }
         requires hull { some_hull (unpack_hull h.now) ≡ true }

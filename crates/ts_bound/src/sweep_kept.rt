@@ -11,8 +11,9 @@ ghost use Rattle.ts_bound.specs.Sweeps.{AllTakeNone, IsSweepable, same_letter, w
 use crate::sweep_down::sweep_down;
 use crate::sweep_move::sweep_move;
 use crate::sweep_parts::Parts;
+use crate::sweep_steps::sweep_steps;
 use crate::sweep_up::sweep_up;
-use crate::sweep_values::Places;
+use crate::sweep_values::{Places, lead_of};
 use ts_automaton::{Hull, Turn};
 use ts_base::Letter;
 
@@ -73,10 +74,14 @@ pub(crate) fn sweep_gapless(
     requires next { length next.old ≡ length next_values.now * s }
     ensures { next.new ≡ with_sweep (move_of t.now) l twin s q values.now before.now next_values.now next.old }
 {
-    match (values.gapless(), next_values.gapless()) {
-        (Some(run), Some(next_run)) => {
-            sweep_move(t, p, l, twin, s, q, &run, before, &next_run, next)
-        }
+    match (
+        values.gapless(),
+        next_values.gapless(),
+        lead_of(l, twin, values, next_values),
+    ) {
+        (Some(run), Some(next_run), Some(lead)) => sweep_steps(
+            t, p, l, twin, lead, s, q, &run, before, &next_run, next,
+        ),
         _ => sweep_gaps(t, p, l, twin, s, q, values, before, next_values, next),
     }
 }

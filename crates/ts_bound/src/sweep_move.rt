@@ -47,7 +47,7 @@ fn with_hull(p: &Parts<'_>, h: &Packed, value: i64, run: Run) -> Run
 
 /// The run with the hull at place `i`, state `q`, for its value.
 #[inline(always)]
-fn with_place(
+pub(crate) fn with_place(
     p: &Parts<'_>,
     s: usize,
     q: usize,
@@ -117,7 +117,7 @@ fn passed(
 
 /// The next value, at place `j`, state `to`, takes in what was passed.
 #[inline(always)]
-fn put_run(
+pub(crate) fn put_run(
     p: &Parts<'_>,
     run: &Run,
     next: &mut [Hull],

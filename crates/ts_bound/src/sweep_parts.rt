@@ -10,7 +10,7 @@ ghost use Rattle.ts_glue.specs.Rules.{is_same_op};
 use ts_automaton::{Atom, Expr, Op, Turn};
 
 /// How an expression reads the next cell: not at all, where most are a register as it is, one word, or an operator over
-/// two words; as the last operand, behind one front or two; or in another way.
+/// two words or over a word and two more; as the last operand, behind one front or two; or in another way.
 #[derive(Clone, Copy)]
 pub(crate) enum Part<'a> {
     KeepC,
@@ -18,6 +18,7 @@ pub(crate) enum Part<'a> {
     KeepR,
     Word(Atom),
     Two(Op, Atom, Atom),
+    Three(Op, Atom, Op, Atom, Atom),
     Front(&'a Expr),
     Tail(Op, &'a Expr),
     Double(Op, &'a Expr, &'a Expr),
@@ -109,13 +110,37 @@ fn word_of(e: &Expr) -> Option<Atom>
     }
 }
 
+/// The operator and the two words that an expression is.
+fn words_of(e: &Expr) -> Option<(Op, Atom, Atom)>
+    ensures { IfSome result (λ words. formula e.now ≡ Join words.0 (Leaf words.1) (Leaf words.2)) }
+{
+    match e {
+        Expr::Add(a, b) => two_words(Op::Add, a, b),
+        Expr::Max(a, b) => two_words(Op::Max, a, b),
+        Expr::Min(a, b) => two_words(Op::Min, a, b),
+        _ => None,
+    }
+}
+
+/// The same of an operator over two operands.
+fn two_words(o: Op, a: &Expr, b: &Expr) -> Option<(Op, Atom, Atom)>
+    ensures { IfSome result (λ words.
+        Join o (formula a.now) (formula b.now) ≡ Join words.0 (Leaf words.1) (Leaf words.2)) }
+{
+    match (word_of(a), word_of(b)) {
+        (Some(first), Some(second)) => Some((o, first, second)),
+        _ => None,
+    }
+}
+
 /// The part of a whole that doesn't read the next cell.
 fn front_part<'a>(whole: &'a Expr, o: Op, a: &Expr, b: &Expr) -> Part<'a>
     requires { formula whole.now ≡ Join o (formula a.now) (formula b.now) }
     ensures { part_split result ≡ FrontOf (Join o (formula a.now) (formula b.now)) }
 {
-    match (word_of(a), word_of(b)) {
-        (Some(first), Some(second)) => Part::Two(o, first, second),
+    match (word_of(a), word_of(b), words_of(b)) {
+        (Some(first), Some(second), _) => Part::Two(o, first, second),
+        (Some(first), _, Some((p, second, third))) => Part::Three(o, first, p, second, third),
         _ => Part::Front(whole),
     }
 }

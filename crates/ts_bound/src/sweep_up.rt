@@ -7,6 +7,7 @@ ghost use Rattle.ts_bound.specs.Cuts.{cut_of, kept_parts, longer_parts, parts_cu
 ghost use Rattle.ts_bound.specs.Sweeps.{AllTakeNone, IsSweepable, with_sweep};
 
 use crate::sweep_kept::sweep_gapless;
+use crate::sweep_mixed_up::mixed_up;
 use crate::sweep_parts::Part::{KeepC, KeepD, KeepR, Two};
 use crate::sweep_parts::Parts;
 use crate::sweep_values::Places;
@@ -106,43 +107,6 @@ fn longer_up(
     sweep_gapless(
         t,
         &Parts::longer(),
-        Letter::Less,
-        twin,
-        s,
-        q,
-        values,
-        before,
-        next_values,
-        next,
-    );
-}
-
-/// The same of any move.
-#[inline(never)]
-fn mixed_up(
-    t: &Turn,
-    p: &Parts<'_>,
-    twin: bool,
-    s: usize,
-    q: usize,
-    values: &Places<'_>,
-    before: &[Hull],
-    next_values: &Places<'_>,
-    next: &mut [Hull],
-)
-    requires parts { parts_cut p.now ≡ cut_of (move_of t.now) }
-    requires swept { all_swept (parts_cut p.now) ≡ true }
-    requires sweepable { IsSweepable values.now next_values.now before.now }
-    requires canonical { AllTakeNone next.old }
-    requires state { q < s }
-    requires leads { t.now.next < s }
-    requires before { length before.now ≡ length values.now * s }
-    requires next { length next.old ≡ length next_values.now * s }
-    ensures { next.new ≡ with_sweep (move_of t.now) Less twin s q values.now before.now next_values.now next.old }
-{
-    sweep_gapless(
-        t,
-        p,
         Letter::Less,
         twin,
         s,

@@ -1,10 +1,13 @@
 //! The values of a cell, read by place.
 
-ghost use Rattle.std.specs.Prelude.{◌≡◌, IfSome, ℕ, ◌<◌, ◌≤◌, pos, true, ◌+ℤ◌, ◌≤ℤ◌, length, get_or};
+ghost use Rattle.std.specs.Prelude.{◌≡◌, IfSome, ℕ, ◌<◌, ◌≤◌, pos, true, false, cond, ◌+ℤ◌, ◌-ℤ◌, ◌≤ℤ◌, length, get_or};
 ghost use Rattle.ts_base.specs.Limits.{IsCellValue};
-ghost use Rattle.ts_bound.specs.Smalls.{AreValues};
+ghost use Rattle.ts_base.specs.declared.letter.Letter.TheVariants.{Equal};
+ghost use Rattle.ts_bound.specs.Smalls.{AreValues, small_int};
+ghost use Rattle.ts_bound.specs.Sweeps.{IsLead, IsWide, Leads, ahead, same_letter};
 
 use std::marker::Model;
+use ts_base::Letter;
 use ts_domain::Domain;
 
 /// The values of a cell in rising order. Where they follow one another without a gap, as most sets do, none has to be
@@ -79,6 +82,7 @@ fn is_run(first: i64, last: i64, count: usize) -> bool
 #[inline(always)]
 pub(crate) fn count_of(p: &Places<'_>) -> usize
     ensures count { result ≡ length p.now }
+    ensures few { result ≤ 2000001 }
     ensures values { AreValues p.now }
 {
     p.count
@@ -112,4 +116,84 @@ pub(crate) fn value_at(p: &Places<'_>, i: usize) -> i64
     } else {
         p.values.nth(i as u64)
     }
+}
+
+/// How many values are passed at the first step of a sweep where neither cell has gaps: at each further step it is one
+/// more. It may be below 0, or above the number of values.
+#[inline(always)]
+pub(crate) fn lead_of(
+    l: Letter,
+    twin: bool,
+    values: &Places<'_>,
+    next_values: &Places<'_>,
+) -> Option<i64>
+    requires unequal { same_letter l Equal ≡ false }
+    ensures { IfSome result (λ lead. IsWide lead × Leads l twin values.now next_values.now lead) }
+{
+    if values.is_run && next_values.is_run {
+        let ahead = ahead(
+            l,
+            values.first,
+            values.count,
+            next_values.first,
+            next_values.count,
+        );
+        Some(with_twin(ahead, twin))
+    } else {
+        None
+    }
+}
+
+/// The lead without a twin, of so many values from a first one on and so many next ones.
+#[inline(always)]
+fn ahead(l: Letter, first: i64, count: usize, next_first: i64, next_count: usize) -> i64
+    requires first { small_int first ≡ true }
+    requires few { count ≤ 2000001 }
+    requires next_first { small_int next_first ≡ true }
+    requires next_few { next_count ≤ 2000001 }
+    ensures { result ≡ ahead l first count next_first next_count }
+{
+    match l {
+        Letter::Greater => minus(end_of(first, count), end_of(next_first, next_count)),
+        _ => minus(next_first, first),
+    }
+}
+
+/// What comes behind so many values from a first one on.
+#[inline(always)]
+fn end_of(first: i64, count: usize) -> i64
+    requires first { small_int first ≡ true }
+    requires few { count ≤ 2000001 }
+    ensures { result ≡ first +ℤ pos count }
+{
+    first + count as i64
+}
+
+/// How far the first number is above the second.
+#[inline(always)]
+fn minus(above: i64, below: i64) -> i64
+    requires above { IsLead above }
+    requires below { IsLead below }
+    ensures { result ≡ above -ℤ below }
+{
+    above - below
+}
+
+/// An equal value is passed too.
+#[inline(always)]
+fn with_twin(ahead: i64, twin: bool) -> i64
+    requires small { IsLead ahead }
+    ensures { result ≡ cond twin (ahead +ℤ pos 1) ahead }
+{
+    if twin { ahead + 1 } else { ahead }
+}
+
+/// How many values are passed by step `k`, counted from 0.
+#[inline(always)]
+pub(crate) fn reach_of(lead: i64, k: usize) -> i64
+    requires lead { IsWide lead }
+    requires few { k ≤ 2000001 }
+    ensures { result ≡ pos k +ℤ lead }
+{
+    k as i64 + lead
 }

@@ -3,8 +3,9 @@
 ghost use Rattle.std.specs.Prelude.{◌≡◌, true, not};
 ghost use Rattle.ts_base.specs.Numbers.{ext_le, ext_max, ext_min};
 ghost use Rattle.ts_base.specs.Spans.{has_some, none_span, span_hull};
+ghost use Rattle.ts_base.specs.declared.ext.Ext.TheVariants.{Int};
 ghost use Rattle.ts_bound.specs.Hulls.{hull_of_both, none};
-ghost use Rattle.ts_bound.specs.Packs.{unpack, unpack_hull, unpack_span};
+ghost use Rattle.ts_bound.specs.Packs.{span_from, unpack, unpack_hull, unpack_span};
 ghost use Rattle.ts_bound.specs.Sealed.{some_hull};
 
 use crate::packed::{End, Ends, Packed};
@@ -61,10 +62,63 @@ impl End {
     }
 }
 
+/// A lower end takes in a number.
+#[inline(always)]
+fn lower_to(x: i64, end: &mut Ext)
+    ensures { end.new ≡ ext_min end.old (Int x) }
+{
+    if let Ext::Int(y) = *end {
+        if x < y {
+            *end = Ext::Int(x);
+        }
+    } else if let Ext::PosInf = *end {
+        *end = Ext::Int(x);
+    }
+}
+
+/// An upper end takes in a number.
+#[inline(always)]
+fn raise_to(x: i64, end: &mut Ext)
+    ensures { end.new ≡ ext_max end.old (Int x) }
+{
+    if let Ext::Int(y) = *end {
+        if y < x {
+            *end = Ext::Int(x);
+        }
+    } else if let Ext::NegInf = *end {
+        *end = Ext::Int(x);
+    }
+}
+
 impl Ends {
-    /// A span takes in one that isn't none.
+    /// Whether neither end is an infinity.
+    #[inline(always)]
+    fn are_numbers(self) -> bool
+        requires some { has_some (unpack_span self) ≡ true }
+        ensures { result ≡ true → unpack_span self ≡ span_from (Int self.lo.at) (Int self.hi.at) }
+    {
+        i64::MIN < self.lo.at && self.hi.at < i64::MAX
+    }
+
+    /// A span takes in one that isn't none, most of which are between two numbers.
     #[inline(always)]
     fn widen(self, there: &mut Span)
+        requires some { has_some (unpack_span self) ≡ true }
+        requires canonical { span_hull there.old none_span ≡ there.old }
+        ensures { there.new ≡ span_hull there.old (unpack_span self) }
+    {
+        if self.are_numbers() {
+            lower_to(self.lo.at, &mut there.lo);
+            raise_to(self.hi.at, &mut there.hi);
+        } else {
+            self.widen_far(there);
+        }
+    }
+
+    /// The same of any.
+    #[cold]
+    #[inline(never)]
+    fn widen_far(self, there: &mut Span)
         requires some { has_some (unpack_span self) ≡ true }
         requires canonical { span_hull there.old none_span ≡ there.old }
         ensures { there.new ≡ span_hull there.old (unpack_span self) }

@@ -4,7 +4,7 @@ use Rattle.ts_automaton.specs.Body.{move_of}
 use Rattle.ts_bound.specs.Sweeps.{step_place, move_entry}
 use Rattle.ts_bound.proofs.PackLaws.{running_some}
 use Rattle.ts_bound.proofs.SweepLaws.{puts_begun, puts_more, puts_done, puts_are_canonical, all_passed, later_passed}
-use Rattle.ts_bound.proofs.sweep_equal.equal_move.Goals as goal
+use Rattle.ts_bound.proofs.sweep_equal.equal_gaps.Goals as goal
 
 pub loop-j-init : goal.loop-j-init
 loop-j-init c = record {

@@ -1,0 +1,44 @@
+use mir.Val.{SFits}
+use Rattle.std.proofs.Common.{false, ap, ◌∙◌, refl, ◌+◌, ◌*◌, length, w64, rules}
+use Rattle.std.proofs.lemmas.Int.{to_z-of_z}
+use Rattle.ts_base.specs.declared.letter.Letter.TheVariants.{Equal}
+use Rattle.ts_bound.specs.Hulls.{none}
+use Rattle.ts_bound.specs.Cuts.{parts_cut}
+use Rattle.ts_bound.specs.Smalls.{small_int}
+use Rattle.ts_bound.specs.Sweeps.{fits}
+use Rattle.ts_bound.proofs.EqualFronts.{no_equal, an_equal, equal_inside}
+use Rattle.ts_bound.proofs.PackLaws.{running_some, runs_empty}
+use Rattle.ts_bound.proofs.sweep_equal_parts.equal_front.Goals as goal
+
+pub value_at-requires : goal.value_at-requires
+value_at-requires c =
+    equal_inside c.args.at (length c.args.values.now) c.is_equal.result (fits Equal c.args.values.now c.args.at c.args.next_values.now c.args.j)
+    c.is_equal.ensures c.if-is_equal.true
+
+pub with_place-requires-clause-inside : goal.with_place-requires-clause-inside
+with_place-requires-clause-inside c =
+    equal_inside c.args.at (length c.args.values.now) c.is_equal.result (fits Equal c.args.values.now c.args.at c.args.next_values.now c.args.j)
+    c.is_equal.ensures c.if-is_equal.true
+
+pub with_place-requires-clause-begun : goal.with_place-requires-clause-begun
+with_place-requires-clause-begun c = running_some false c.of_zeros.result none (runs_empty c.of_zeros.result none refl)
+
+pub with_place-requires-clause-small : goal.with_place-requires-clause-small
+with_place-requires-clause-small c = c.requires.sweepable.small (c.args.at * c.args.s + c.args.q)
+
+pub with_place-requires-clause-this : goal.with_place-requires-clause-this
+with_place-requires-clause-this c =
+    let fits : SFits w64 c.value_at.result = search rules in
+    ap small_int (to_z-of_z w64 c.value_at.result fits ∙ c.value_at.ensures) ∙ c.requires.sweepable.small_values c.args.at
+
+pub returns-then-is_equal : goal.returns-then-is_equal
+returns-then-is_equal c =
+    let f : SFits w64 c.value_at.result = search rules in
+    an_equal (parts_cut c.args.p.now) c.args.s c.args.q c.args.values.now c.args.next_values.now c.args.before.now c.args.j c.args.at _
+    c.with_place.result.any c.is_equal.result c.with_place.result.hull (to_z-of_z w64 c.value_at.result f ∙ c.value_at.ensures)
+    c.is_equal.ensures c.if-is_equal.true (c.with_place.ensures.hull none (runs_empty c.of_zeros.result none refl))
+
+pub returns-else-is_equal : goal.returns-else-is_equal
+returns-else-is_equal c =
+    no_equal (parts_cut c.args.p.now) c.args.s c.args.q c.args.values.now c.args.next_values.now c.args.before.now c.args.j c.args.at
+    false c.is_equal.result c.of_zeros.result c.is_equal.ensures c.if-is_equal.false (runs_empty c.of_zeros.result none refl)
