@@ -3,7 +3,9 @@
 ghost use Rattle.std.specs.Prelude.{◌≡◌, pos, true};
 ghost use Rattle.ts_automaton.specs.Formula.{Leaf, formula};
 ghost use Rattle.ts_base.specs.Spans.{has_some};
-ghost use Rattle.ts_bound.specs.Cuts.{closed_hull, front_hull, kept_parts, longer_parts, part_split, parts_cut, all_swept};
+ghost use Rattle.ts_bound.specs.declared.sweep_parts.Part.TheVariants.{KeepR, Three, Two, Word};
+ghost use Rattle.ts_bound.specs.Cuts.{closed_hull, front_hull, kept_parts, longer_parts, part_split, parts_cut};
+ghost use Rattle.ts_bound.specs.Cuts.{parts_of, all_swept};
 ghost use Rattle.ts_bound.specs.Packs.{IsPackOf, unpack_hull, unpack_span};
 ghost use Rattle.ts_bound.specs.Sealed.{some_hull, span_in};
 ghost use Rattle.ts_bound.specs.Smalls.{small_int};
@@ -96,8 +98,8 @@ impl Part<'_> {
 }
 
 impl Parts<'_> {
-    /// The fronts on a hull in which registers lie. Most moves keep all registers, or make `D` greater by one: that is
-    /// so short that it stands in the loop over the values without a call.
+    /// The fronts on a hull in which registers lie. Those of most moves have a form of their own: each is so short that
+    /// it stands in the loop over the values without a call.
     #[inline(always)]
     pub(crate) fn front_packed(&self, h: &Packed, x: i64) -> Packed
         requires swept { all_swept (parts_cut self.now) ≡ true }
@@ -109,6 +111,15 @@ impl Parts<'_> {
             (Part::KeepC, Part::KeepD, Part::KeepR) => self.kept_fronts(h, x),
             (Part::KeepC, Part::Two(Op::Add, Atom::D, Atom::Unit), Part::KeepR) => {
                 self.longer_fronts(h, x)
+            }
+            (Part::Two(o, a, b), Part::Word(w), Part::KeepR) => {
+                self.found_fronts(o, a, b, w, h, x)
+            }
+            (Part::Three(o, a, p, b, c), Part::Word(w), Part::KeepR) => {
+                self.inside_fronts(o, a, p, b, c, w, h, x)
+            }
+            (Part::Word(v), Part::Word(w), Part::Two(o, a, b)) => {
+                self.anew_fronts(v, w, o, a, b, h, x)
             }
             _ => self.mixed_fronts(h, x),
         }
@@ -141,6 +152,62 @@ impl Parts<'_> {
             c: h.c,
             d: joined_ends(Op::Add, h.d, Ends::one(1)),
             r: h.r,
+        }
+    }
+
+    /// Those of a move that makes `C` of two words, begins `D` anew and keeps `R`.
+    #[inline(always)]
+    fn found_fronts(&self, o: Op, a: Atom, b: Atom, w: Atom, h: &Packed, x: i64) -> Packed
+        requires found { self.now ≡ parts_of (Two o a b) (Word w) KeepR }
+        requires hull { some_hull (unpack_hull h.now) ≡ true }
+        requires this { small_int x ≡ true }
+        ensures { IsPackOf result (front_hull (parts_cut self.now) (unpack_hull h.now) x) }
+    {
+        Packed {
+            c: joined_ends(o, word_ends(a, h, x), word_ends(b, h, x)),
+            d: word_ends(w, h, x),
+            r: h.r,
+        }
+    }
+
+    /// Those of a move that makes `C` of three words, begins `D` anew and keeps `R`.
+    #[inline(always)]
+    fn inside_fronts(
+        &self,
+        o: Op,
+        a: Atom,
+        u: Op,
+        b: Atom,
+        c: Atom,
+        w: Atom,
+        h: &Packed,
+        x: i64,
+    ) -> Packed
+        requires inside { self.now ≡ parts_of (Three o a u b c) (Word w) KeepR }
+        requires hull { some_hull (unpack_hull h.now) ≡ true }
+        requires this { small_int x ≡ true }
+        ensures { IsPackOf result (front_hull (parts_cut self.now) (unpack_hull h.now) x) }
+    {
+        let inner = joined_ends(u, word_ends(b, h, x), word_ends(c, h, x));
+        Packed {
+            c: joined_ends(o, word_ends(a, h, x), inner),
+            d: word_ends(w, h, x),
+            r: h.r,
+        }
+    }
+
+    /// Those of a move that begins `C` and `D` anew and makes `R` of two words.
+    #[inline(always)]
+    fn anew_fronts(&self, v: Atom, w: Atom, o: Op, a: Atom, b: Atom, h: &Packed, x: i64) -> Packed
+        requires anew { self.now ≡ parts_of (Word v) (Word w) (Two o a b) }
+        requires hull { some_hull (unpack_hull h.now) ≡ true }
+        requires this { small_int x ≡ true }
+        ensures { IsPackOf result (front_hull (parts_cut self.now) (unpack_hull h.now) x) }
+    {
+        Packed {
+            c: word_ends(v, h, x),
+            d: word_ends(w, h, x),
+            r: joined_ends(o, word_ends(a, h, x), word_ends(b, h, x)),
         }
     }
 
