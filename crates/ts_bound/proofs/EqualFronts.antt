@@ -63,19 +63,19 @@ equal_closed m s q vs ws row j at sw able passed rest = go (below_or_not at (len
         ∙ ap (λ z. closed_hull (cut_of m) z w) none_takes_none ∙ closed_hull_none (cut_of m) w)
 
 -- without an equal value there is nothing
-pub no_equal : (k : Cut) (s q : ℕ) (vs ws : List ℤ) (row : List Hull) (j at : ℕ) (any t : Bool) (p : Packed) →
-    t ≡ (nat_lt at (length vs) && fits Equal vs at ws j) → t ≡ false → IsRunning any p none → IsRunning any p (equal_front k s q vs row ws j at)
+pub no_equal : (k : Cut) (s q : ℕ) (vs ws : List ℤ) (row : List Hull) (j at : ℕ) (t : Bool) (p : Packed) →
+    t ≡ (nat_lt at (length vs) && fits Equal vs at ws j) → t ≡ false → IsRunning p none → IsRunning p (equal_front k s q vs row ws j at)
 unfolding equal_front
-no_equal k s q vs ws row j at any t p is h run =
-    subst (λ (z : Hull). IsRunning any p z)
+no_equal k s q vs ws row j at t p is h run =
+    subst (λ (z : Hull). IsRunning p z)
     (sym (ap (λ b. hull_of_both none (cond b (front_hull k (hull_in s q row at) (get_or vs at (pos 0))) none)) (sym is ∙ h) ∙ none_takes_none)) run
 
-pub an_equal : (k : Cut) (s q : ℕ) (vs ws : List ℤ) (row : List Hull) (j at : ℕ) (x : ℤ) (any t : Bool) (p : Packed) →
+pub an_equal : (k : Cut) (s q : ℕ) (vs ws : List ℤ) (row : List Hull) (j at : ℕ) (x : ℤ) (t : Bool) (p : Packed) →
     x ≡ get_or vs at (pos 0) → t ≡ (nat_lt at (length vs) && fits Equal vs at ws j) → t ≡ true →
-    IsRunning any p (hull_of_both none (front_hull k (hull_in s q row at) x)) → IsRunning any p (equal_front k s q vs row ws j at)
+    IsRunning p (hull_of_both none (front_hull k (hull_in s q row at) x)) → IsRunning p (equal_front k s q vs row ws j at)
 unfolding equal_front
-an_equal k s q vs ws row j at x any t p e is h run =
-    subst (λ (z : Hull). IsRunning any p z)
+an_equal k s q vs ws row j at x t p e is h run =
+    subst (λ (z : Hull). IsRunning p z)
     (ap (λ v. hull_of_both none (front_hull k (hull_in s q row at) v)) e
     ∙ sym (ap (λ b. hull_of_both none (cond b (front_hull k (hull_in s q row at) (get_or vs at (pos 0))) none)) (sym is ∙ h))) run
 

@@ -19,7 +19,7 @@ use Rattle.ts_bound.specs.declared.packed.End.{End}
 use Rattle.ts_bound.specs.declared.packed.Ends.{Ends}
 use Rattle.ts_bound.specs.declared.packed.Packed.{Packed}
 use Rattle.ts_bound.specs.Hulls.{none, hull_of_both}
-use Rattle.ts_bound.specs.Packs.{unpack, IsPlain, ArePlain, span_from, unpack_span, unpack_hull, IsPackOf, IsRunning}
+use Rattle.ts_bound.specs.Packs.{unpack, IsPlain, ArePlain, span_from, unpack_span, unpack_hull, IsPackOf, IsSomeOrNone, IsRunning}
 use Rattle.ts_bound.specs.Sealed.{least_span, by_ends, span_in, hull_with, some_hull, after_move}
 use Rattle.ts_bound.specs.Splits.{front_span, closed_span}
 use Rattle.ts_bound.specs.Cuts.{Cut, front_hull, closed_hull}
@@ -217,18 +217,6 @@ below x y b e h = let k : int_le b x ≡ false = ap (int_le b) (sym e) ∙ h in 
 
 -- hulls
 
-pub hull_ends : (a b : Ends) (lo hi : End) → has_some (unpack_span a) ≡ true → has_some (unpack_span b) ≡ true →
-    unpack lo ≡ ext_min (unpack a.lo) (unpack b.lo) → unpack hi ≡ ext_max (unpack a.hi) (unpack b.hi) →
-    span_from (unpack lo) (unpack hi) ≡ least_span (unpack_span a) (unpack_span b)
-hull_ends a b lo hi h k e f =
-    ap (λ z. span_from z (unpack hi)) e ∙ ap (span_from (ext_min (unpack a.lo) (unpack b.lo))) f ∙ sym (hull_both (unpack_span a) (unpack_span b) h k)
-
-pub hull_ends_some : (a b : Ends) (lo hi : End) → has_some (unpack_span a) ≡ true → has_some (unpack_span b) ≡ true →
-    unpack lo ≡ ext_min (unpack a.lo) (unpack b.lo) → unpack hi ≡ ext_max (unpack a.hi) (unpack b.hi) →
-    has_some (span_from (unpack lo) (unpack hi)) ≡ true
-hull_ends_some a b lo hi h k e f =
-    ap has_some (ap (λ z. span_from z (unpack hi)) e ∙ ap (span_from (ext_min (unpack a.lo) (unpack b.lo))) f) ∙ both_some (unpack_span a) (unpack_span b) h
-
 -- a span, and a hull, that take in one that isn't none: end by end
 
 least_none : (t : Span) → span_from (ext_min PosInf t.lo) (ext_max NegInf t.hi) ≡ t
@@ -250,6 +238,15 @@ widened_is s t lo hi h c e f =
     go false k =
         let empty : s ≡ none_span = sym c ∙ hull_neither s none_span k refl in
         ap (λ z. span_from (ext_min z.lo t.lo) (ext_max z.hi t.hi)) empty ∙ least_none t ∙ sym (hull_second s t k h)
+
+pub widened_some : (s t : Span) (lo hi : Ext) → has_some t ≡ true → span_hull s none_span ≡ s → lo ≡ ext_min s.lo t.lo → hi ≡ ext_max s.hi t.hi →
+    has_some (span_from lo hi) ≡ true
+unfolding least_span
+widened_some s t lo hi h c e f = ap has_some (widened_is s t lo hi h c e f) ∙ go (has_some s) refl
+  where
+    go : (b : Bool) → has_some s ≡ b → has_some (span_hull s t) ≡ true
+    go true k = ap has_some (hull_both s t k h) ∙ both_some s t k
+    go false k = ap has_some (hull_second s t k h) ∙ h
 
 pub canonical_parts : (h : Hull) → hull_of_both h none ≡ h →
     (span_hull h.c none_span ≡ h.c) × (span_hull h.d none_span ≡ h.d) × (span_hull h.r none_span ≡ h.r)
@@ -406,57 +403,65 @@ front_of_packs k h u x x' p e f i = subst (λ (z : Hull). IsPackOf p (front_hull
 pub pack_some : (p : Packed) (h : Hull) → IsPackOf p h → some_hull (unpack_hull p) ≡ true
 pack_some p h i = ap some_hull i.value ∙ i.some
 
-pub running_some : (any : Bool) (p : Packed) (t : Hull) → IsRunning any p t → any ≡ true → some_hull (unpack_hull p) ≡ true
-running_some any p t i e = pack_some p t (i.begun e)
+pub running_begun : (p : Packed) (t : Hull) → IsRunning p t → IsSomeOrNone (unpack_hull p)
+running_begun p t i = subst (λ (z : Hull). IsSomeOrNone z) (sym i.value) i.begun
+
+-- where no registers lie in it, nothing was taken in
+pub running_nothing : (b : Bool) (p : Packed) (t : Hull) → b ≡ some_hull (unpack_hull p) → b ≡ false → IsRunning p t → t ≡ none
+running_nothing b p t e f i = go i.begun
+  where
+    go : IsSomeOrNone t → t ≡ none
+    go (inl s) = let k : true ≡ false = sym s ∙ sym (ap some_hull i.value) ∙ sym e ∙ f in cc
+    go (inr n) = n
 
 pub some_canonical : (h : Hull) → some_hull h ≡ true → hull_of_both h none ≡ h
 some_canonical h e =
     let s = hull_some h e in
     both_is h none ∙ same_hull _ _ _ _ _ _ (hull_first h.c none_span s.0 refl) (hull_first h.d none_span s.1 refl) (hull_first h.r none_span s.2 refl)
 
-running_canonical : (any : Bool) (p : Packed) (t : Hull) → IsRunning any p t → hull_of_both t none ≡ t
-running_canonical true p t i = some_canonical t (i.begun refl).some
-running_canonical false p t i = subst (λ (z : Hull). hull_of_both z none ≡ z) (sym (i.empty refl)) none_takes_none
+pub begun_canonical : (h : Hull) → IsSomeOrNone h → hull_of_both h none ≡ h
+begun_canonical h (inl s) = some_canonical h s
+begun_canonical h (inr n) = subst (λ (z : Hull). hull_of_both z none ≡ z) (sym n) none_takes_none
+
+-- one register tells whether registers lie in it
+pub begun_is : (b : Bool) (h : Hull) → IsSomeOrNone h → b ≡ has_some h.c → b ≡ some_hull h
+begun_is b h (inl s) e = e ∙ (hull_some h s).0 ∙ sym s
+begun_is b h (inr n) e = e ∙ ap (λ (z : Hull). has_some z.c) n ∙ sym (ap some_hull n)
 
 -- the same step from what a hull is in packed form
-pub front_steps : (k : Cut) (any any' : Bool) (p p' : Packed) (u h : Hull) (x x' : ℤ) → u ≡ h → x' ≡ x →
-    ((t : Hull) → IsRunning any p t → IsRunning any' p' (hull_of_both t (front_hull k u x'))) → (t : Hull) → IsRunning any p t →
-    IsRunning any' p' (hull_of_both t (front_hull k h x))
-front_steps k any any' p p' u h x x' e f step t i =
-    subst (λ (z : Hull). IsRunning any' p' (hull_of_both t (front_hull k z x))) e
-    (subst (λ (z : ℤ). IsRunning any' p' (hull_of_both t (front_hull k u z))) f (step t i))
+pub front_steps : (k : Cut) (p p' : Packed) (u h : Hull) (x x' : ℤ) → u ≡ h → x' ≡ x →
+    ((t : Hull) → IsRunning p t → IsRunning p' (hull_of_both t (front_hull k u x'))) → (t : Hull) → IsRunning p t →
+    IsRunning p' (hull_of_both t (front_hull k h x))
+front_steps k p p' u h x x' e f step t i =
+    subst (λ (z : Hull). IsRunning p' (hull_of_both t (front_hull k z x))) e
+    (subst (λ (z : ℤ). IsRunning p' (hull_of_both t (front_hull k u z))) f (step t i))
 
 pub front_at : (k : Cut) (p : Packed) (h : Hull) (x x' : ℤ) → x' ≡ x → IsPackOf p (front_hull k h x') → IsPackOf p (front_hull k h x)
 front_at k p h x x' e = subst (λ (z : ℤ). IsPackOf p (front_hull k h z)) e
 
-pub move_steps : (m : Move) (any any' : Bool) (p p' : Packed) (u h : Hull) (x y : ℤ) → u ≡ h →
-    ((t : Hull) → IsRunning any p t → IsRunning any' p' (hull_of_both t (after_move m u x y))) → (t : Hull) → IsRunning any p t →
-    IsRunning any' p' (hull_of_both t (after_move m h x y))
-move_steps m any any' p p' u h x y e step t i = subst (λ (z : Hull). IsRunning any' p' (hull_of_both t (after_move m z x y))) e (step t i)
+pub move_steps : (m : Move) (p p' : Packed) (u h : Hull) (x y : ℤ) → u ≡ h →
+    ((t : Hull) → IsRunning p t → IsRunning p' (hull_of_both t (after_move m u x y))) → (t : Hull) → IsRunning p t →
+    IsRunning p' (hull_of_both t (after_move m h x y))
+move_steps m p p' u h x y e step t i = subst (λ (z : Hull). IsRunning p' (hull_of_both t (after_move m z x y))) e (step t i)
 
 -- a front more
-pub joined_first : (p : Packed) (t f : Hull) → t ≡ none → IsPackOf p f → IsPackOf p (hull_of_both t f)
-joined_first p t f e i =
-    let same : hull_of_both t f ≡ f = ap (λ z. hull_of_both z f) e ∙ none_left f (some_canonical f i.some) in
-    record { value = i.value ∙ sym same; some = ap some_hull same ∙ i.some }
-
-pub joined_next : (p r g : Packed) (t f : Hull) → IsPackOf p t → IsPackOf g f → unpack_hull r ≡ hull_of_both (unpack_hull p) (unpack_hull g) →
+pub joined_next : (p r g : Packed) (t f : Hull) → IsRunning p t → IsPackOf g f → unpack_hull r ≡ hull_of_both (unpack_hull p) (unpack_hull g) →
     some_hull (unpack_hull r) ≡ true → IsPackOf r (hull_of_both t f)
 joined_next p r g t f i j e s =
     let same : unpack_hull r ≡ hull_of_both t f = e ∙ ap (λ z. hull_of_both z (unpack_hull g)) i.value ∙ ap (hull_of_both t) j.value in
     record { value = same; some = ap some_hull (sym same) ∙ s }
 
-pub runs_on : (p : Packed) (h : Hull) → IsPackOf p h → IsRunning true p h
-runs_on p h i = record { begun = λ e. i; empty = λ e. cc }
+pub runs_on : (p : Packed) (h : Hull) → IsPackOf p h → IsRunning p h
+runs_on p h i = record { value = i.value; begun = inl i.some }
 
 -- a hull that is none gives nothing
 pub front_none : (k : Cut) (h : Hull) (x : ℤ) → some_hull h ≡ false → front_hull k h x ≡ none
 unfolding front_hull
 front_none k h x e = ap (λ v. cond v (hull_with (front_span k.c h x) (front_span k.d h x) (front_span k.r h x)) none) e
 
-pub runs_past : (any : Bool) (p : Packed) (t f : Hull) → f ≡ none → IsRunning any p t → IsRunning any p (hull_of_both t f)
-runs_past any p t f e i =
-    subst (λ (z : Hull). IsRunning any p z) (sym (ap (hull_of_both t) e ∙ running_canonical any p t i)) i
+pub runs_past : (p : Packed) (t f : Hull) → f ≡ none → IsRunning p t → IsRunning p (hull_of_both t f)
+runs_past p t f e i =
+    subst (λ (z : Hull). IsRunning p z) (sym (ap (hull_of_both t) e ∙ begun_canonical t i.begun)) i
 
 -- a move on one pair of values
 
@@ -482,8 +487,8 @@ moved_of_packs m h u x x' y y' p e f g i =
 pub moved_none : (m : Move) (h : Hull) (x y : ℤ) → some_hull h ≡ false → after_move m h x y ≡ none
 moved_none m h x y e = after_is m h x y false e
 
-pub runs_empty : (p : Packed) (t : Hull) → t ≡ none → IsRunning false p t
-runs_empty p t e = record { begun = λ f. cc; empty = λ f. e }
+pub runs_empty : (p : Packed) → unpack_hull p ≡ none → IsRunning p none
+runs_empty p e = record { value = e; begun = inr refl }
 
-pub runs_as : (any : Bool) (p : Packed) (t u : Hull) → t ≡ u → IsRunning any p t → IsRunning any p u
-runs_as any p t u e i = subst (λ (z : Hull). IsRunning any p z) e i
+pub runs_as : (p : Packed) (t u : Hull) → t ≡ u → IsRunning p t → IsRunning p u
+runs_as p t u e i = subst (λ (z : Hull). IsRunning p z) e i

@@ -12,8 +12,8 @@ use Rattle.ts_automaton.specs.declared.regs.Hull.{Hull}
 use Rattle.ts_automaton.specs.Body.{Move}
 use Rattle.ts_bound.specs.declared.packed.Packed.{Packed}
 use Rattle.ts_bound.specs.Hulls.{none, hull_of_both}
-use Rattle.ts_bound.specs.Packs.{IsRunning}
-use Rattle.ts_bound.specs.Sealed.{after_move}
+use Rattle.ts_bound.specs.Packs.{IsRunning, unpack_hull}
+use Rattle.ts_bound.specs.Sealed.{after_move, some_hull}
 use Rattle.ts_bound.specs.Cuts.{Cut, cut_of, all_swept, front_hull, closed_hull}
 use Rattle.ts_bound.specs.Smalls.{Rises, small_int}
 use Rattle.ts_bound.specs.Sweeps.{AllTakeNone, IsSweepable, total, hull_in, step_place, fronts, compares, fits, takes, same_letter, pair_gives, move_entry, sweep_entry, puts, with_move, with_sweep}
@@ -21,17 +21,17 @@ use Rattle.ts_bound.proofs.HullLaws.{TakesNone, both_takes_none, none_takes_none
 use Rattle.ts_bound.proofs.SpanHulls.{both_comm, both_assoc}
 use Rattle.ts_bound.proofs.Sums.{total_nothing, total_same, total_join, total_canon, total_cut, total_first, total_canonical}
 use Rattle.ts_bound.proofs.SplitLaws.{closed_hull_none, total_closed, moved_is, hull_small, small_within}
-use Rattle.ts_bound.proofs.PackLaws.{runs_past}
+use Rattle.ts_bound.proofs.PackLaws.{runs_past, runs_empty, running_nothing}
 
-pub fronts_more : (k : Cut) (l : Letter) (s q : ℕ) (vs : List ℤ) (row : List Hull) (n n' i : ℕ) (x : ℤ) (any any' : Bool) (p p' : Packed) →
-    x ≡ get_or vs i (pos 0) → i ≡ step_place l (length vs) n → n' ≡ n + 1 → IsRunning any p (fronts k l s q vs row n) →
-    ((t : Hull) → IsRunning any p t → IsRunning any' p' (hull_of_both t (front_hull k (hull_in s q row i) x))) →
-    IsRunning any' p' (fronts k l s q vs row n')
+pub fronts_more : (k : Cut) (l : Letter) (s q : ℕ) (vs : List ℤ) (row : List Hull) (n n' i : ℕ) (x : ℤ) (p p' : Packed) →
+    x ≡ get_or vs i (pos 0) → i ≡ step_place l (length vs) n → n' ≡ n + 1 → IsRunning p (fronts k l s q vs row n) →
+    ((t : Hull) → IsRunning p t → IsRunning p' (hull_of_both t (front_hull k (hull_in s q row i) x))) →
+    IsRunning p' (fronts k l s q vs row n')
 unfolding fronts total
-fronts_more k l s q vs row n n' i x any any' p p' x_is is e run step =
+fronts_more k l s q vs row n n' i x p p' x_is is e run step =
     let more : n' ≡ suc n = omega arith in
     let F : ℕ → Hull = λ m. front_hull k (hull_in s q row (step_place l (length vs) m)) (get_or vs (step_place l (length vs) m) (pos 0)) in
-    subst (λ (z : Hull). IsRunning any' p' z)
+    subst (λ (z : Hull). IsRunning p' z)
     (ap (λ z. hull_of_both (total n F) (front_hull k (hull_in s q row i) z)) x_is
     ∙ ap (λ m. hull_of_both (total n F) (front_hull k (hull_in s q row m) (get_or vs m (pos 0)))) is ∙ sym (ap (λ m. total m F) more))
     (step (total n F) run)
@@ -47,11 +47,11 @@ passed_more l twin vs w from n n' i b is m e t below k low high =
     (λ le. ap (λ m. takes l twin vs m w) (sym is) ∙ sym e ∙ t) k (omega arith) low
 
 -- a run of nothing leaves the next row
-pub put_skipped : (k : Cut) (any : Bool) (p : Packed) (next : List Hull) (q : ℕ) (y : ℤ) (t : Hull) → any ≡ false →
-    hull_of_both (get_or next q none) none ≡ get_or next q none → IsRunning any p t →
+pub put_skipped : (k : Cut) (b : Bool) (p : Packed) (next : List Hull) (q : ℕ) (y : ℤ) (t : Hull) → b ≡ some_hull (unpack_hull p) → b ≡ false →
+    hull_of_both (get_or next q none) none ≡ get_or next q none → IsRunning p t →
     next ≡ set next q (hull_of_both (get_or next q none) (closed_hull k t y))
-put_skipped k any p next q y t e c i =
-    sym (ap (λ z. set next q (hull_of_both (get_or next q none) z)) (ap (λ z. closed_hull k z y) (i.empty e) ∙ closed_hull_none k y)
+put_skipped k b p next q y t e f c i =
+    sym (ap (λ z. set next q (hull_of_both (get_or next q none) z)) (ap (λ z. closed_hull k z y) (running_nothing b p t e f i) ∙ closed_hull_none k y)
     ∙ ap (set next q) c ∙ set-get_or next q none)
 
 set_canonical : (xs : List Hull) (q : ℕ) (v : Hull) → AllTakeNone xs → TakesNone v → AllTakeNone (set xs q v)
@@ -351,13 +351,13 @@ puts_more s to order f first next next' k j h d is inv e step =
 
 -- the next value takes in what was passed
 pub put_is : (m : Move) (pc : Cut) (l : Letter) (twin : Bool) (s q to : ℕ) (vs ws : List ℤ) (row next next' : List Hull) (j : ℕ) (w : ℤ) (at : ℕ)
-    (any : Bool) (p : Packed) → same_letter l Equal ≡ false → all_swept (cut_of m) ≡ true → IsSweepable vs ws row → small_int w ≡ true →
-    pc ≡ cut_of m → at ≤ length vs → IsRunning any p (fronts pc l s q vs row at) →
-    ((t : Hull) → IsRunning any p t → next' ≡ set next (j * s + to) (hull_of_both (get_or next (j * s + to) none) (closed_hull pc t w))) →
+    (p : Packed) → same_letter l Equal ≡ false → all_swept (cut_of m) ≡ true → IsSweepable vs ws row → small_int w ≡ true →
+    pc ≡ cut_of m → at ≤ length vs → IsRunning p (fronts pc l s q vs row at) →
+    ((t : Hull) → IsRunning p t → next' ≡ set next (j * s + to) (hull_of_both (get_or next (j * s + to) none) (closed_hull pc t w))) →
     ((k : ℕ) → k < at → takes l twin vs (step_place l (length vs) k) w ≡ true) →
     (at < length vs → takes l twin vs (step_place l (length vs) at) w ≡ false) →
     next' ≡ set next (j * s + to) (hull_of_both (get_or next (j * s + to) none) (sweep_entry m l twin s q vs row w))
-put_is m pc l twin s q to vs ws row next next' j w at any p u sw able small is inside run step passed rest =
+put_is m pc l twin s q to vs ws row next next' j w at p u sw able small is inside run step passed rest =
     step (fronts pc l s q vs row at) run
     ∙ ap (λ z. set next (j * s + to) (hull_of_both (get_or next (j * s + to) none) z))
     (ap (λ z. closed_hull z (fronts z l s q vs row at) w) is ∙ sym (entry_is m l twin s q vs ws row w at u sw able small inside passed rest))
@@ -366,9 +366,10 @@ pub puts_begun : (s to : ℕ) (order : ℕ → ℕ) (f : ℕ → Hull) (first : 
 unfolding puts
 puts_begun s to order f first = refl
 
-pub fronts_begun : (k : Cut) (l : Letter) (s q : ℕ) (vs : List ℤ) (row : List Hull) (p : Packed) → IsRunning false p (fronts k l s q vs row 0)
+pub fronts_begun : (k : Cut) (l : Letter) (s q : ℕ) (vs : List ℤ) (row : List Hull) (p : Packed) → unpack_hull p ≡ none →
+    IsRunning p (fronts k l s q vs row 0)
 unfolding fronts total
-fronts_begun k l s q vs row p = record { begun = λ e. cc; empty = λ e. refl }
+fronts_begun k l s q vs row p e = runs_empty p e
 
 pub parts_swept : (pc : Cut) (m : Move) → pc ≡ cut_of m → all_swept pc ≡ true → all_swept (cut_of m) ≡ true
 parts_swept pc m e h = ap all_swept (sym e) ∙ h
@@ -462,38 +463,39 @@ equal_none m s q vs ws row j at x r passed rest le e =
 
 -- a run over pairs
 
-pub run_begun : (f : ℕ → Hull) (any : Bool) (p : Packed) → IsRunning any p none → IsRunning any p (total 0 f)
+pub run_begun : (f : ℕ → Hull) (p : Packed) → IsRunning p none → IsRunning p (total 0 f)
 unfolding total
-run_begun f any p i = i
+run_begun f p i = i
 
-pub run_more : (f : ℕ → Hull) (i : ℕ) (any any' : Bool) (p p' : Packed) → IsRunning any p (total i f) →
-    ((r : Hull) → IsRunning any p r → IsRunning any' p' (hull_of_both r (f i))) → IsRunning any' p' (total (i + 1) f)
+pub run_more : (f : ℕ → Hull) (i : ℕ) (p p' : Packed) → IsRunning p (total i f) →
+    ((r : Hull) → IsRunning p r → IsRunning p' (hull_of_both r (f i))) → IsRunning p' (total (i + 1) f)
 unfolding total
-run_more f i any any' p p' run step =
-    let more : suc i ≡ i + 1 = omega arith in subst (λ (z : Hull). IsRunning any' p' z) (ap (λ n. total n f) more) (step (total i f) run)
+run_more f i p p' run step =
+    let more : suc i ≡ i + 1 = omega arith in subst (λ (z : Hull). IsRunning p' z) (ap (λ n. total n f) more) (step (total i f) run)
 
-pub run_done : (m : Move) (l : Letter) (s q : ℕ) (vs : List ℤ) (row : List Hull) (w : ℤ) (i : ℕ) (any : Bool) (p : Packed) → length vs ≤ i →
-    i ≤ length vs → IsRunning any p (total i (λ k. pair_gives m l s q vs row w k)) →
-    IsRunning any p (move_entry m l s q vs row w)
-run_done m l s q vs row w i any p low high run =
-    subst (λ (z : Hull). IsRunning any p z) (entry_done m l s q vs row w i (total i (λ k. pair_gives m l s q vs row w k)) low high refl) run
+pub run_done : (m : Move) (l : Letter) (s q : ℕ) (vs : List ℤ) (row : List Hull) (w : ℤ) (i : ℕ) (p : Packed) → length vs ≤ i →
+    i ≤ length vs → IsRunning p (total i (λ k. pair_gives m l s q vs row w k)) →
+    IsRunning p (move_entry m l s q vs row w)
+run_done m l s q vs row w i p low high run =
+    subst (λ (z : Hull). IsRunning p z) (entry_done m l s q vs row w i (total i (λ k. pair_gives m l s q vs row w k)) low high refl) run
 
-pub pair_true : (m : Move) (l : Letter) (s q : ℕ) (vs ws : List ℤ) (row : List Hull) (j i : ℕ) (b any : Bool) (p : Packed) (r : Hull) →
+pub pair_true : (m : Move) (l : Letter) (s q : ℕ) (vs ws : List ℤ) (row : List Hull) (j i : ℕ) (b : Bool) (p : Packed) (r : Hull) →
     b ≡ fits l vs i ws j → b ≡ true →
-    IsRunning any p (hull_of_both r (after_move m (hull_in s q row i) (get_or vs i (pos 0)) (get_or ws j (pos 0)))) →
-    IsRunning any p (hull_of_both r (pair_gives m l s q vs row (get_or ws j (pos 0)) i))
-pair_true m l s q vs ws row j i b any p r is t run =
-    subst (λ (z : Hull). IsRunning any p z) (ap (λ v. hull_of_both r
+    IsRunning p (hull_of_both r (after_move m (hull_in s q row i) (get_or vs i (pos 0)) (get_or ws j (pos 0)))) →
+    IsRunning p (hull_of_both r (pair_gives m l s q vs row (get_or ws j (pos 0)) i))
+pair_true m l s q vs ws row j i b p r is t run =
+    subst (λ (z : Hull). IsRunning p z) (ap (λ v. hull_of_both r
     (cond v (after_move m (hull_in s q row i) (get_or vs i (pos 0)) (get_or ws j (pos 0))) none)) (sym t ∙ is)) run
 
-pub pair_false : (m : Move) (l : Letter) (s q : ℕ) (vs ws : List ℤ) (row : List Hull) (j i : ℕ) (b any : Bool) (p : Packed) (r : Hull) →
+pub pair_false : (m : Move) (l : Letter) (s q : ℕ) (vs ws : List ℤ) (row : List Hull) (j i : ℕ) (b : Bool) (p : Packed) (r : Hull) →
     b ≡ fits l vs i ws j → b ≡ false →
-    IsRunning any p r → IsRunning any p (hull_of_both r (pair_gives m l s q vs row (get_or ws j (pos 0)) i))
-pair_false m l s q vs ws row j i b any p r is f run =
-    runs_past any p r (pair_gives m l s q vs row (get_or ws j (pos 0)) i)
+    IsRunning p r → IsRunning p (hull_of_both r (pair_gives m l s q vs row (get_or ws j (pos 0)) i))
+pair_false m l s q vs ws row j i b p r is f run =
+    runs_past p r (pair_gives m l s q vs row (get_or ws j (pos 0)) i)
     (ap (λ v. cond v (after_move m (hull_in s q row i) (get_or vs i (pos 0)) (get_or ws j (pos 0))) none) (sym is ∙ f)) run
 
-pub put_nothing : (any : Bool) (p : Packed) (next : List Hull) (q : ℕ) (r : Hull) → any ≡ false →
-    hull_of_both (get_or next q none) none ≡ get_or next q none → IsRunning any p r →
+pub put_nothing : (b : Bool) (p : Packed) (next : List Hull) (q : ℕ) (r : Hull) → b ≡ some_hull (unpack_hull p) → b ≡ false →
+    hull_of_both (get_or next q none) none ≡ get_or next q none → IsRunning p r →
     next ≡ set next q (hull_of_both (get_or next q none) r)
-put_nothing any p next q r e c i = sym (ap (λ z. set next q (hull_of_both (get_or next q none) z)) (i.empty e) ∙ ap (set next q) c ∙ set-get_or next q none)
+put_nothing b p next q r e f c i =
+    sym (ap (λ z. set next q (hull_of_both (get_or next q none) z)) (running_nothing b p r e f i) ∙ ap (set next q) c ∙ set-get_or next q none)

@@ -1,5 +1,5 @@
 -- What a packed number, span or hull stands for.
-use Rattle.std.specs.Prelude.{◌≡◌, Bool, true, false, ℤ, pos, negsuc, neg_ℤ, ◌≤ℤ◌, int_le, if◌then◌else◌}
+use Rattle.std.specs.Prelude.{◌≡◌, ◌⊎◌, true, ℤ, pos, negsuc, neg_ℤ, ◌≤ℤ◌, int_le, if◌then◌else◌}
 use Rattle.ts_base.specs.declared.ext.Ext.{Ext}
 use Rattle.ts_base.specs.declared.ext.Ext.TheVariants.{NegInf, Int, PosInf}
 use Rattle.ts_base.specs.declared.span.Span.{Span}
@@ -39,7 +39,11 @@ pub record IsPackOf (p : Packed) (h : Hull) : Type 0 where
   pub value : unpack_hull p ≡ h
   pub some : some_hull h ≡ true
 
--- a running hull in packed form: of nothing yet, or of what it stands for
-pub record IsRunning (any : Bool) (p : Packed) (h : Hull) : Type 0 where
-  pub begun : any ≡ true → IsPackOf p h
-  pub empty : any ≡ false → h ≡ none
+-- registers lie in it, or it is none
+abbrev pub IsSomeOrNone : Hull → Type 0
+IsSomeOrNone h = (some_hull h ≡ true) ⊎ (h ≡ none)
+
+-- a running hull in packed form: none where nothing was taken in
+pub record IsRunning (p : Packed) (h : Hull) : Type 0 where
+  pub value : unpack_hull p ≡ h
+  pub begun : IsSomeOrNone h

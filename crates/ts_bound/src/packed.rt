@@ -3,11 +3,11 @@
 
 ghost use Rattle.std.specs.Prelude.{◌≡◌, true};
 ghost use Rattle.ts_base.specs.Numbers.{ext_max, ext_min};
-ghost use Rattle.ts_base.specs.Spans.{has_some, one_span};
+ghost use Rattle.ts_base.specs.Spans.{has_some, none_span, one_span, span_hull};
 ghost use Rattle.ts_base.specs.declared.ext.Ext.TheVariants.{Int, NegInf, PosInf};
-ghost use Rattle.ts_bound.specs.Hulls.{hull_of_both};
-ghost use Rattle.ts_bound.specs.Packs.{unpack, unpack_hull, unpack_span};
-ghost use Rattle.ts_bound.specs.Sealed.{least_span, some_hull};
+ghost use Rattle.ts_bound.specs.Hulls.{hull_of_both, none};
+ghost use Rattle.ts_bound.specs.Packs.{IsSomeOrNone, unpack, unpack_hull, unpack_span};
+ghost use Rattle.ts_bound.specs.Sealed.{some_hull};
 ghost use Rattle.ts_bound.specs.Smalls.{small, small_hull, small_int, small_span};
 
 use ts_automaton::Hull;
@@ -150,12 +150,12 @@ impl Ends {
         Ends { lo: e, hi: e }
     }
 
-    /// The hull of two spans that aren't none.
+    /// The hull of a span that stays as it is beside none, and of one that isn't none.
     #[inline(always)]
     fn hull(self, other: Ends) -> Ends
-        requires first { has_some (unpack_span self) ≡ true }
-        requires second { has_some (unpack_span other) ≡ true }
-        ensures value { unpack_span result ≡ least_span (unpack_span self) (unpack_span other) }
+        requires canonical { span_hull (unpack_span self) none_span ≡ unpack_span self }
+        requires some { has_some (unpack_span other) ≡ true }
+        ensures value { unpack_span result ≡ span_hull (unpack_span self) (unpack_span other) }
         ensures some { has_some (unpack_span result) ≡ true }
     {
         Ends {
@@ -187,23 +187,38 @@ impl Packed {
         self.c.is_some() && self.d.is_some() && self.r.is_some()
     }
 
-    /// Zeros, where nothing is known yet.
+    /// The hull of nothing: each lower end is the greatest number and each upper end the least, so that what it is
+    /// joined with stays as it is.
+    #[tactic(auto, unfolding(crate::specs::Packs::unpack))]
     #[inline(always)]
-    pub(crate) fn of_zeros() -> Packed {
-        let zero = End { at: 0 };
-        let zeros = Ends { lo: zero, hi: zero };
+    pub(crate) fn nothing() -> Packed
+        ensures { unpack_hull result ≡ none }
+    {
+        let nothing = Ends {
+            lo: End { at: i64::MAX },
+            hi: End { at: i64::MIN },
+        };
         Packed {
-            c: zeros,
-            d: zeros,
-            r: zeros,
+            c: nothing,
+            d: nothing,
+            r: nothing,
         }
     }
 
-    /// The hull of two hulls in which registers lie.
+    /// Whether registers lie in it, where it is else none: one of them tells it.
+    #[inline(always)]
+    pub(crate) fn is_begun(&self) -> bool
+        requires { IsSomeOrNone (unpack_hull self.now) }
+        ensures { result ≡ some_hull (unpack_hull self.now) }
+    {
+        self.c.is_some()
+    }
+
+    /// The hull of one that stays as it is beside none, and of one in which registers lie.
     #[inline(always)]
     pub(crate) fn joined(self, other: Packed) -> Packed
-        requires first { some_hull (unpack_hull self) ≡ true }
-        requires second { some_hull (unpack_hull other) ≡ true }
+        requires canonical { hull_of_both (unpack_hull self) none ≡ unpack_hull self }
+        requires some { some_hull (unpack_hull other) ≡ true }
         ensures value { unpack_hull result ≡ hull_of_both (unpack_hull self) (unpack_hull other) }
         ensures some { some_hull (unpack_hull result) ≡ true }
     {

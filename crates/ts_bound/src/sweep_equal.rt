@@ -34,7 +34,7 @@ fn equal_entry(
     requires before { length before.now ≡ length values.now * s }
     requires passed { (k : ℕ) → k < at → fits Less values.now k next_values.now j ≡ true }
     requires rest { at < length values.now → fits Less values.now at next_values.now j ≡ false }
-    ensures { IsRunning result.any result.hull
+    ensures { IsRunning result.hull
         (move_entry (move_of t.now) Equal s q values.now before.now (get_or next_values.now j (pos 0))) }
 {
     if at < count_of(values) {

@@ -180,13 +180,12 @@ fn equal_front(
     requires sweepable { IsSweepable values.now next_values.now before.now }
     requires state { q < s }
     requires before { length before.now ≡ length values.now * s }
-    ensures { IsRunning result.any result.hull
+    ensures { IsRunning result.hull
         (equal_front (parts_cut p.now) s q values.now before.now next_values.now j at) }
 {
     let nothing = Run {
         at: 0,
-        any: false,
-        hull: Packed::of_zeros(),
+        hull: Packed::nothing(),
     };
     if is_equal(values, at, next_values, j) {
         with_place(p, s, q, values, before, at, value_at(values, at), nothing)

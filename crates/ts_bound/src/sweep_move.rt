@@ -6,7 +6,7 @@ ghost use Rattle.ts_automaton.specs.declared.regs.Hull.{Hull};
 ghost use Rattle.ts_base.specs.declared.letter.Letter.TheVariants.{Equal};
 ghost use Rattle.ts_bound.specs.Cuts.{closed_hull, cut_of, front_hull, parts_cut, all_swept};
 ghost use Rattle.ts_bound.specs.Hulls.{hull_of_both, none};
-ghost use Rattle.ts_bound.specs.Packs.{IsPackOf, IsRunning, unpack_hull};
+ghost use Rattle.ts_bound.specs.Packs.{IsPackOf, IsRunning, IsSomeOrNone, unpack_hull};
 ghost use Rattle.ts_bound.specs.Sealed.{some_hull};
 ghost use Rattle.ts_bound.specs.Smalls.{small_hull, small_int};
 ghost use Rattle.ts_bound.specs.Sweeps.{AllTakeNone, IsSweepable, fronts, hull_in, same_letter};
@@ -25,21 +25,19 @@ fn with_hull(p: &Parts<'_>, h: &Packed, value: i64, run: Run) -> Run
     requires room { run.at < 18446744073709551615 }
     requires swept { all_swept (parts_cut p.now) ≡ true }
     requires this { small_int value ≡ true }
-    requires begun { run.any ≡ true → some_hull (unpack_hull run.hull) ≡ true }
+    requires begun { IsSomeOrNone (unpack_hull run.hull) }
     ensures at { result.at ≡ run.at + 1 }
-    ensures hull { (t : Hull) → IsRunning run.any run.hull t → IsRunning result.any result.hull
+    ensures hull { (t : Hull) → IsRunning run.hull t → IsRunning result.hull
         (hull_of_both t (front_hull (parts_cut p.now) (unpack_hull h.now) value)) }
 {
     if h.is_some() {
         Run {
             at: run.at + 1,
-            any: true,
-            hull: with_next(run.any, run.hull, p.front_packed(h, value)),
+            hull: with_next(run.hull, p.front_packed(h, value)),
         }
     } else {
         Run {
             at: run.at + 1,
-            any: run.any,
             hull: run.hull,
         }
     }
@@ -64,9 +62,9 @@ pub(crate) fn with_place(
     requires swept { all_swept (parts_cut p.now) ≡ true }
     requires small { small_hull (hull_in s q before.now i) ≡ true }
     requires this { small_int value ≡ true }
-    requires begun { run.any ≡ true → some_hull (unpack_hull run.hull) ≡ true }
+    requires begun { IsSomeOrNone (unpack_hull run.hull) }
     ensures at { result.at ≡ run.at + 1 }
-    ensures hull { (t : Hull) → IsRunning run.any run.hull t → IsRunning result.any result.hull
+    ensures hull { (t : Hull) → IsRunning run.hull t → IsRunning result.hull
         (hull_of_both t (front_hull (parts_cut p.now) (hull_in s q before.now i) value)) }
 {
     with_hull(p, &packed_at(before, s, q, values, i), value, run)
@@ -92,10 +90,10 @@ fn passed(
     requires state { q < s }
     requires before { length before.now ≡ length values.now * s }
     requires begun { from.at ≤ length values.now }
-    requires fronts { IsRunning from.any from.hull (fronts (parts_cut p.now) l s q values.now before.now from.at) }
+    requires fronts { IsRunning from.hull (fronts (parts_cut p.now) l s q values.now before.now from.at) }
     ensures inside { result.at ≤ length values.now }
     ensures later { from.at ≤ result.at }
-    ensures fronts { IsRunning result.any result.hull
+    ensures fronts { IsRunning result.hull
         (fronts (parts_cut p.now) l s q values.now before.now result.at) }
     ensures passed { (k : ℕ) → from.at ≤ k → k < result.at →
         takes l twin values.now (step_place l (length values.now) k) next_value ≡ true }
@@ -129,12 +127,12 @@ pub(crate) fn put_run(
     requires inside { j * s + to < length next.old }
     requires swept { all_swept (parts_cut p.now) ≡ true }
     requires small { small_int next_value ≡ true }
-    requires begun { run.now.any ≡ true → some_hull (unpack_hull run.now.hull) ≡ true }
+    requires begun { IsSomeOrNone (unpack_hull run.now.hull) }
     requires canonical { hull_of_both (get_or next.old (j * s + to) none) none ≡ get_or next.old (j * s + to) none }
-    ensures { (t : Hull) → IsRunning run.now.any run.now.hull t → next.new ≡ with_hull_at next.old (j * s + to)
+    ensures { (t : Hull) → IsRunning run.now.hull t → next.new ≡ with_hull_at next.old (j * s + to)
         (closed_hull (parts_cut p.now) t next_value) }
 {
-    if run.any {
+    if run.hull.is_begun() {
         put(next, s, to, j, &p.closed_packed(&run.hull, next_value));
     }
 }
@@ -169,8 +167,7 @@ pub(crate) fn sweep_move(
     let to = t.next as usize;
     let mut run = Run {
         at: 0,
-        any: false,
-        hull: Packed::of_zeros(),
+        hull: Packed::nothing(),
     };
     for k in 0..count_of(next_values) {
         let j = step_place(l, n, k);

@@ -4,7 +4,7 @@ ghost use Rattle.std.specs.Prelude.{◌≡◌, ◌+◌, ◌*◌, ◌<◌, pos, t
 ghost use Rattle.ts_automaton.specs.Body.{move_of};
 ghost use Rattle.ts_automaton.specs.declared.regs.Hull.{Hull};
 ghost use Rattle.ts_bound.specs.Hulls.{hull_of_both, none};
-ghost use Rattle.ts_bound.specs.Packs.{IsPackOf, IsRunning, unpack_hull};
+ghost use Rattle.ts_bound.specs.Packs.{IsPackOf, IsRunning, IsSomeOrNone, unpack_hull};
 ghost use Rattle.ts_bound.specs.Sealed.{after_move, some_hull};
 ghost use Rattle.ts_bound.specs.Smalls.{small_hull, small_int};
 ghost use Rattle.ts_bound.specs.Sweeps.{AllTakeNone, IsSweepable, fits, hull_in, move_entry, pair_gives};
@@ -53,16 +53,15 @@ fn with_moved_hull(
     requires second { j < length next_values.now }
     requires this { small_int (get_or values.now i (pos 0)) ≡ true }
     requires next { small_int (get_or next_values.now j (pos 0)) ≡ true }
-    requires begun { run.any ≡ true → some_hull (unpack_hull run.hull) ≡ true }
-    ensures { (r : Hull) → IsRunning run.any run.hull r → IsRunning result.any result.hull
+    requires begun { IsSomeOrNone (unpack_hull run.hull) }
+    ensures { (r : Hull) → IsRunning run.hull r → IsRunning result.hull
         (hull_of_both r (after_move (move_of t.now)
         (unpack_hull h.now) (get_or values.now i (pos 0)) (get_or next_values.now j (pos 0)))) }
 {
     if h.is_some() {
         Run {
             at: run.at,
-            any: true,
-            hull: with_next(run.any, run.hull, moved_of(t, h, values, i, next_values, j)),
+            hull: with_next(run.hull, moved_of(t, h, values, i, next_values, j)),
         }
     } else {
         run
@@ -89,8 +88,8 @@ fn with_moved(
     requires small { small_hull (hull_in s q before.now i) ≡ true }
     requires this { small_int (get_or values.now i (pos 0)) ≡ true }
     requires next { small_int (get_or next_values.now j (pos 0)) ≡ true }
-    requires begun { run.any ≡ true → some_hull (unpack_hull run.hull) ≡ true }
-    ensures { (r : Hull) → IsRunning run.any run.hull r → IsRunning result.any result.hull
+    requires begun { IsSomeOrNone (unpack_hull run.hull) }
+    ensures { (r : Hull) → IsRunning run.hull r → IsRunning result.hull
         (hull_of_both r (after_move (move_of t.now)
         (hull_in s q before.now i) (get_or values.now i (pos 0)) (get_or next_values.now j (pos 0)))) }
 {
@@ -124,8 +123,8 @@ pub(crate) fn with_pair(
     requires sweepable { IsSweepable values.now next_values.now before.now }
     requires state { q < s }
     requires before { length before.now ≡ length values.now * s }
-    requires begun { run.any ≡ true → some_hull (unpack_hull run.hull) ≡ true }
-    ensures { (r : Hull) → IsRunning run.any run.hull r → IsRunning result.any result.hull
+    requires begun { IsSomeOrNone (unpack_hull run.hull) }
+    ensures { (r : Hull) → IsRunning run.hull r → IsRunning result.hull
         (hull_of_both r
         (pair_gives (move_of t.now) l s q values.now before.now (get_or next_values.now j (pos 0)) i)) }
 {
@@ -151,7 +150,7 @@ fn pair_entry(
     requires sweepable { IsSweepable values.now next_values.now before.now }
     requires state { q < s }
     requires before { length before.now ≡ length values.now * s }
-    ensures { IsRunning result.any result.hull
+    ensures { IsRunning result.hull
         (move_entry (move_of t.now) l s q values.now before.now (get_or next_values.now j (pos 0))) }
 {
     let mut run = Run::empty();
@@ -165,11 +164,11 @@ fn pair_entry(
 #[inline(always)]
 pub(crate) fn put_packed(run: &Run, next: &mut [Hull], s: usize, to: usize, j: usize)
     requires inside { j * s + to < length next.old }
-    requires begun { run.now.any ≡ true → some_hull (unpack_hull run.now.hull) ≡ true }
+    requires begun { IsSomeOrNone (unpack_hull run.now.hull) }
     requires canonical { hull_of_both (get_or next.old (j * s + to) none) none ≡ get_or next.old (j * s + to) none }
-    ensures { (r : Hull) → IsRunning run.now.any run.now.hull r → next.new ≡ with_hull_at next.old (j * s + to) r }
+    ensures { (r : Hull) → IsRunning run.now.hull r → next.new ≡ with_hull_at next.old (j * s + to) r }
 {
-    if run.any {
+    if run.hull.is_begun() {
         put(next, s, to, j, &run.hull);
     }
 }

@@ -4,7 +4,7 @@ ghost use Rattle.std.specs.Prelude.{◌≡◌, ◌+◌, ◌*◌, ◌<◌, true, 
 ghost use Rattle.ts_automaton.specs.declared.regs.Hull.{Hull};
 ghost use Rattle.ts_base.specs.Signature.{letter_of};
 ghost use Rattle.ts_bound.specs.Hulls.{hull_of_both, none};
-ghost use Rattle.ts_bound.specs.Packs.{IsPackOf, IsRunning, unpack_hull};
+ghost use Rattle.ts_bound.specs.Packs.{IsPackOf, IsRunning, IsSomeOrNone, unpack_hull};
 ghost use Rattle.ts_bound.specs.Sealed.{some_hull};
 ghost use Rattle.ts_bound.specs.Smalls.{small_hull};
 ghost use Rattle.ts_bound.specs.Sweeps.{compares, fits, hull_in, same_letter, step_place, with_hull_at};
@@ -14,12 +14,10 @@ use crate::sweep_values::{Places, value_at};
 use ts_automaton::Hull;
 use ts_base::Letter;
 
-/// How many values were passed, whether one of them had a hull in which registers lie, and the hull of what was taken
-/// in.
+/// How many values were passed, and the hull of what was taken in: none where none of them had registers.
 #[derive(Clone, Copy)]
 pub(crate) struct Run {
     pub(crate) at: usize,
-    pub(crate) any: bool,
     pub(crate) hull: Packed,
 }
 
@@ -27,12 +25,11 @@ impl Run {
     /// The run of nothing.
     #[inline(always)]
     pub(crate) fn empty() -> Run
-        ensures { IsRunning result.any result.hull none }
+        ensures { IsRunning result.hull none }
     {
         Run {
             at: 0,
-            any: false,
-            hull: Packed::of_zeros(),
+            hull: Packed::nothing(),
         }
     }
 }
@@ -117,12 +114,12 @@ pub(crate) fn packed_at(
 
 /// The running hull with one hull more.
 #[inline(always)]
-pub(crate) fn with_next(any: bool, hull: Packed, front: Packed) -> Packed
-    requires begun { any ≡ true → some_hull (unpack_hull hull) ≡ true }
+pub(crate) fn with_next(hull: Packed, front: Packed) -> Packed
+    requires begun { IsSomeOrNone (unpack_hull hull) }
     requires some { some_hull (unpack_hull front) ≡ true }
-    ensures { (t f : Hull) → IsRunning any hull t → IsPackOf front f → IsPackOf result (hull_of_both t f) }
+    ensures { (t f : Hull) → IsRunning hull t → IsPackOf front f → IsPackOf result (hull_of_both t f) }
 {
-    if any { hull.joined(front) } else { front }
+    hull.joined(front)
 }
 
 /// A hull in which registers lie is taken in at place `j`, state `to` of `s`.

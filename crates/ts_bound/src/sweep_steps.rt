@@ -36,14 +36,13 @@ fn fronts_before(
     requires state { q < s }
     requires before { length before.now ≡ length values.now * s }
     ensures reached { IsReached (length values.now) to result.at }
-    ensures fronts { IsRunning result.any result.hull
+    ensures fronts { IsRunning result.hull
         (fronts (parts_cut p.now) l s q values.now before.now result.at) }
 {
     let n = count_of(values);
     let mut run = Run {
         at: 0,
-        any: false,
-        hull: Packed::of_zeros(),
+        hull: Packed::nothing(),
     };
     while run.at < n {
         if !is_before(run.at, to) {
@@ -100,9 +99,9 @@ fn with_step(
     requires state { q < s }
     requires before { length before.now ≡ length values.now * s }
     requires reached { IsReached (length values.now) (to -ℤ pos 1) run.at }
-    requires fronts { IsRunning run.any run.hull (fronts (parts_cut p.now) l s q values.now before.now run.at) }
+    requires fronts { IsRunning run.hull (fronts (parts_cut p.now) l s q values.now before.now run.at) }
     ensures reached { IsReached (length values.now) to result.at }
-    ensures fronts { IsRunning result.any result.hull
+    ensures fronts { IsRunning result.hull
         (fronts (parts_cut p.now) l s q values.now before.now result.at) }
 {
     let n = count_of(values);

@@ -3,19 +3,19 @@ use Rattle.ts_base.specs.declared.letter.Letter.TheVariants.{Equal}
 use Rattle.ts_bound.specs.Hulls.{none, hull_of_both}
 use Rattle.ts_automaton.specs.Body.{move_of}
 use Rattle.ts_bound.specs.Sweeps.{pair_gives, move_entry}
-use Rattle.ts_bound.proofs.PackLaws.{runs_as, running_some}
+use Rattle.ts_bound.proofs.PackLaws.{runs_as, running_begun}
 use Rattle.ts_bound.proofs.SweepLaws.{equal_one, equal_none}
 use Rattle.ts_bound.proofs.sweep_equal.equal_entry.Goals as goal
 
 pub with_pair-requires-clause-begun : goal.with_pair-requires-clause-begun
-with_pair-requires-clause-begun c = running_some c.empty.result.any c.empty.result.hull none c.empty.ensures
+with_pair-requires-clause-begun c = running_begun c.empty.result.hull none c.empty.ensures
 
 pub returns-then-at-count_of : goal.returns-then-at-count_of
 returns-then-at-count_of c =
     let m = move_of c.args.t.now in
     let w = get_or c.args.next_values.now c.args.j (pos 0) in
     let x = hull_of_both none (pair_gives m Equal c.args.s c.args.q c.args.values.now c.args.before.now w c.args.at) in
-    runs_as c.with_pair.result.any c.with_pair.result.hull x (move_entry m Equal c.args.s c.args.q c.args.values.now c.args.before.now w)
+    runs_as c.with_pair.result.hull x (move_entry m Equal c.args.s c.args.q c.args.values.now c.args.before.now w)
     (equal_one m c.args.s c.args.q c.args.values.now c.args.next_values.now c.args.before.now c.args.j c.args.at none x c.requires.sweepable.rises
     c.requires.passed c.requires.rest (omega (arith, c.if-at-count_of.true, c.count_of.ensures.count)) refl refl)
     (c.with_pair.ensures none c.empty.ensures)
@@ -24,7 +24,7 @@ pub returns-else-at-count_of : goal.returns-else-at-count_of
 returns-else-at-count_of c =
     let m = move_of c.args.t.now in
     let w = get_or c.args.next_values.now c.args.j (pos 0) in
-    runs_as c.empty-else-at-count_of.result.any c.empty-else-at-count_of.result.hull none
+    runs_as c.empty-else-at-count_of.result.hull none
     (move_entry m Equal c.args.s c.args.q c.args.values.now c.args.before.now w)
     (equal_none m c.args.s c.args.q c.args.values.now c.args.next_values.now c.args.before.now c.args.j c.args.at none c.requires.sweepable.rises
     c.requires.passed c.requires.rest (omega (arith, c.if-at-count_of.false, c.count_of.ensures.count)) refl)

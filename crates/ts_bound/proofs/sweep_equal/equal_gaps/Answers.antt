@@ -2,7 +2,7 @@ use Rattle.std.proofs.Common.{false, refl, ◌+◌, ◌*◌, pos, length, get_or
 use Rattle.ts_base.specs.declared.letter.Letter.TheVariants.{Less, Equal}
 use Rattle.ts_automaton.specs.Body.{move_of}
 use Rattle.ts_bound.specs.Sweeps.{step_place, move_entry}
-use Rattle.ts_bound.proofs.PackLaws.{running_some}
+use Rattle.ts_bound.proofs.PackLaws.{running_begun}
 use Rattle.ts_bound.proofs.SweepLaws.{puts_begun, puts_more, puts_done, puts_are_canonical, all_passed, later_passed}
 use Rattle.ts_bound.proofs.sweep_equal.equal_gaps.Goals as goal
 
@@ -22,7 +22,7 @@ put_packed-requires-clause-canonical c =
 
 pub put_packed-requires-clause-begun : goal.put_packed-requires-clause-begun
 put_packed-requires-clause-begun c =
-    running_some c.equal_entry-run.result.any c.equal_entry-run.result.hull
+    running_begun c.equal_entry-run.result.hull
     (move_entry (move_of c.args.t.now) Equal c.args.s c.args.q c.args.values.now c.args.before.now
     (get_or c.args.next_values.now c.loop-j.j (pos 0))) c.equal_entry-run.ensures
 

@@ -7,7 +7,7 @@ use Rattle.ts_bound.specs.Cuts.{parts_cut}
 use Rattle.ts_bound.specs.Smalls.{small_int}
 use Rattle.ts_bound.specs.Sweeps.{fits}
 use Rattle.ts_bound.proofs.EqualFronts.{no_equal, an_equal, equal_inside}
-use Rattle.ts_bound.proofs.PackLaws.{running_some, runs_empty}
+use Rattle.ts_bound.proofs.PackLaws.{running_begun, runs_empty}
 use Rattle.ts_bound.proofs.sweep_equal_parts.equal_front.Goals as goal
 
 pub value_at-requires : goal.value_at-requires
@@ -21,7 +21,7 @@ with_place-requires-clause-inside c =
     c.is_equal.ensures c.if-is_equal.true
 
 pub with_place-requires-clause-begun : goal.with_place-requires-clause-begun
-with_place-requires-clause-begun c = running_some false c.of_zeros.result none (runs_empty c.of_zeros.result none refl)
+with_place-requires-clause-begun c = running_begun c.nothing.result none (runs_empty c.nothing.result c.nothing.ensures)
 
 pub with_place-requires-clause-small : goal.with_place-requires-clause-small
 with_place-requires-clause-small c = c.requires.sweepable.small (c.args.at * c.args.s + c.args.q)
@@ -35,10 +35,10 @@ pub returns-then-is_equal : goal.returns-then-is_equal
 returns-then-is_equal c =
     let f : SFits w64 c.value_at.result = search rules in
     an_equal (parts_cut c.args.p.now) c.args.s c.args.q c.args.values.now c.args.next_values.now c.args.before.now c.args.j c.args.at _
-    c.with_place.result.any c.is_equal.result c.with_place.result.hull (to_z-of_z w64 c.value_at.result f ∙ c.value_at.ensures)
-    c.is_equal.ensures c.if-is_equal.true (c.with_place.ensures.hull none (runs_empty c.of_zeros.result none refl))
+    c.is_equal.result c.with_place.result.hull (to_z-of_z w64 c.value_at.result f ∙ c.value_at.ensures)
+    c.is_equal.ensures c.if-is_equal.true (c.with_place.ensures.hull none (runs_empty c.nothing.result c.nothing.ensures))
 
 pub returns-else-is_equal : goal.returns-else-is_equal
 returns-else-is_equal c =
     no_equal (parts_cut c.args.p.now) c.args.s c.args.q c.args.values.now c.args.next_values.now c.args.before.now c.args.j c.args.at
-    false c.is_equal.result c.of_zeros.result c.is_equal.ensures c.if-is_equal.false (runs_empty c.of_zeros.result none refl)
+    c.is_equal.result c.nothing.result c.is_equal.ensures c.if-is_equal.false (runs_empty c.nothing.result c.nothing.ensures)

@@ -8,7 +8,7 @@ use Rattle.ts_bound.specs.Smalls.{small_int}
 use Rattle.ts_bound.specs.Sweeps.{step_place, move_entry, equal_front}
 use Rattle.ts_bound.proofs.EqualFronts.{equal_closed}
 use Rattle.ts_bound.proofs.LeadLaws.{reached_passed, reached_rest}
-use Rattle.ts_bound.proofs.PackLaws.{running_some}
+use Rattle.ts_bound.proofs.PackLaws.{running_begun}
 use Rattle.ts_bound.proofs.SweepLaws.{parts_swept, puts_begun, puts_more, puts_done, puts_are_canonical}
 use Rattle.ts_bound.proofs.sweep_equal_parts.equal_sweep.Goals as goal
 
@@ -24,7 +24,7 @@ put_run-requires-clause-canonical c =
 
 pub put_run-requires-clause-begun : goal.put_run-requires-clause-begun
 put_run-requires-clause-begun c =
-    running_some c.equal_front-run.result.any c.equal_front-run.result.hull
+    running_begun c.equal_front-run.result.hull
     (equal_front (parts_cut c.args.p.now) c.args.s c.args.q c.args.values.now c.args.before.now c.args.next_values.now c.loop-j.j c.reached_at-at.result)
     c.equal_front-run.ensures
 

@@ -4,13 +4,13 @@ use Rattle.std.proofs.lemmas.Int.{to_z-of_z}
 use Rattle.ts_bound.specs.Cuts.{parts_cut}
 use Rattle.ts_bound.specs.Smalls.{small_int}
 use Rattle.ts_bound.specs.Sweeps.{fronts, step_place, takes}
-use Rattle.ts_bound.proofs.PackLaws.{running_some}
+use Rattle.ts_bound.proofs.PackLaws.{running_begun}
 use Rattle.ts_bound.proofs.SweepLaws.{compares_is, fronts_more, passed_more}
 use Rattle.ts_bound.proofs.sweep_move.passed.Goals as goal
 
 pub with_place-run-requires-clause-begun : goal.with_place-run-requires-clause-begun
 with_place-run-requires-clause-begun c =
-    running_some c.loop-run.run.any c.loop-run.run.hull (fronts (parts_cut c.args.p.now) c.args.l c.args.s c.args.q c.args.values.now
+    running_begun c.loop-run.run.hull (fronts (parts_cut c.args.p.now) c.args.l c.args.s c.args.q c.args.values.now
     c.args.before.now c.loop-run.run.at) c.loop-run.invariant.fronts
 
 pub with_place-run-requires-clause-small : goal.with_place-run-requires-clause-small
@@ -34,7 +34,7 @@ loop-run-preserved c =
       later = omega arith;
       fronts =
           fronts_more (parts_cut c.args.p.now) c.args.l c.args.s c.args.q c.args.values.now c.args.before.now c.loop-run.run.at
-          c.with_place-run.result.at c.step_place-i.result _ c.loop-run.run.any c.with_place-run.result.any c.loop-run.run.hull
+          c.with_place-run.result.at c.step_place-i.result _ c.loop-run.run.hull
           c.with_place-run.result.hull (x_is ∙ c.value_at-value.ensures) i_is c.with_place-run.ensures.at c.loop-run.invariant.fronts
           c.with_place-run.ensures.hull;
       passed =

@@ -8,7 +8,7 @@ abbrev pub invariant-loop-run : goal.invariant-loop-run
 invariant-loop-run l = record {
   inside : l.run.at ≤ length l.values;
   later : l.fn.from.at ≤ l.run.at;
-  fronts : IsRunning l.run.any l.run.hull (fronts (parts_cut l.p) l.l l.s l.q l.values l.before l.run.at);
+  fronts : IsRunning l.run.hull (fronts (parts_cut l.p) l.l l.s l.q l.values l.before l.run.at);
   passed : (k : ℕ) → l.fn.from.at ≤ k → k < l.run.at → takes l.l l.twin l.values (step_place l.l (length l.values) k) l.fn.next_value ≡ true;
 }
 

@@ -5,7 +5,7 @@ use Rattle.ts_automaton.specs.Body.{move_of}
 use Rattle.ts_bound.specs.Cuts.{parts_cut}
 use Rattle.ts_bound.specs.Smalls.{small_int}
 use Rattle.ts_bound.specs.Sweeps.{step_place, sweep_entry, fronts}
-use Rattle.ts_bound.proofs.PackLaws.{running_some}
+use Rattle.ts_bound.proofs.PackLaws.{running_begun}
 use Rattle.ts_bound.proofs.SweepLaws.{parts_swept, puts_begun, fronts_begun, all_passed, later_passed, puts_more, put_is, sweep_done, puts_are_canonical}
 use Rattle.ts_bound.proofs.sweep_move.sweep_move.Goals as goal
 
@@ -13,13 +13,13 @@ pub loop-k-init : goal.loop-k-init
 loop-k-init c = record {
   next = puts_begun _ _ _ _ _;
   inside = omega arith;
-  fronts = fronts_begun _ _ _ _ _ _ _;
+  fronts = fronts_begun _ _ _ _ _ _ _ c.nothing.ensures;
   passed = λ i h n low high. absurd (omega arith);
 }
 
 pub put_run-requires-clause-begun : goal.put_run-requires-clause-begun
 put_run-requires-clause-begun c =
-    running_some c.passed-run.result.any c.passed-run.result.hull
+    running_begun c.passed-run.result.hull
     (fronts (parts_cut c.args.p.now) c.args.l c.args.s c.args.q c.args.values.now c.args.before.now c.passed-run.result.at) c.passed-run.ensures.fronts
 
 pub put_run-requires-clause-canonical : goal.put_run-requires-clause-canonical
@@ -47,7 +47,7 @@ loop-k-preserved c =
           puts_more c.args.s c.args.t.now.next (step_place c.args.l (length ws)) (λ j. entry (get_or ws j (pos 0))) c.args.next.now c.loop-k.next
           c.put_run.new.next c.loop-k.k c.step_place-j.result (entry w) (entry w) j_is c.loop-k.invariant.next (ap entry w_is)
           (put_is m (parts_cut c.args.p.now) c.args.l c.args.twin c.args.s c.args.q c.args.t.now.next vs ws c.args.before.now c.loop-k.next
-          c.put_run.new.next c.step_place-j.result w c.passed-run.result.at c.passed-run.result.any c.passed-run.result.hull c.requires.unequal
+          c.put_run.new.next c.step_place-j.result w c.passed-run.result.at c.passed-run.result.hull c.requires.unequal
           (parts_swept (parts_cut c.args.p.now) m c.requires.parts c.requires.swept) c.requires.sweepable
           (ap small_int w_is ∙ c.requires.sweepable.small_next c.step_place-j.result) c.requires.parts c.passed-run.ensures.inside
           c.passed-run.ensures.fronts c.put_run.ensures all c.passed-run.ensures.rest);

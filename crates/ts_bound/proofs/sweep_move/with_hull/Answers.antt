@@ -17,5 +17,5 @@ returns-then-is_some-clause-hull c t i =
 pub returns-else-is_some-clause-hull : goal.returns-else-is_some-clause-hull
 returns-else-is_some-clause-hull c t i =
     let x = c.args.value in
-    runs_past c.args.run.any c.args.run.hull t (front_hull (parts_cut c.args.p.now) (unpack_hull c.args.h.now) x)
+    runs_past c.args.run.hull t (front_hull (parts_cut c.args.p.now) (unpack_hull c.args.h.now) x)
     (front_none (parts_cut c.args.p.now) (unpack_hull c.args.h.now) x (sym c.is_some.ensures ∙ c.if-is_some.false)) i

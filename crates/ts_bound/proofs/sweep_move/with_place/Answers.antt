@@ -8,6 +8,6 @@ use Rattle.ts_bound.proofs.sweep_move.with_place.Goals as goal
 
 pub returns-clause-hull : goal.returns-clause-hull
 returns-clause-hull c =
-    front_steps (parts_cut c.args.p.now) c.args.run.any c.with_hull.result.any c.args.run.hull c.with_hull.result.hull (unpack_hull c.packed_at.result)
+    front_steps (parts_cut c.args.p.now) c.args.run.hull c.with_hull.result.hull (unpack_hull c.packed_at.result)
     (hull_in c.args.s c.args.q c.args.before.now c.args.i) c.args.value _ c.packed_at.ensures (to_z-of_z w64 c.args.value c.ranges.value)
     c.with_hull.ensures.hull

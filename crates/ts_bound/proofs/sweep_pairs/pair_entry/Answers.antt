@@ -1,27 +1,27 @@
 use Rattle.std.proofs.Common.{arith, pos, get_or}
 use Rattle.ts_automaton.specs.Body.{move_of}
 use Rattle.ts_bound.specs.Sweeps.{total, pair_gives}
-use Rattle.ts_bound.proofs.PackLaws.{running_some}
+use Rattle.ts_bound.proofs.PackLaws.{running_begun}
 use Rattle.ts_bound.proofs.SweepLaws.{run_begun, run_more, run_done}
 use Rattle.ts_bound.proofs.sweep_pairs.pair_entry.Goals as goal
 
 pub loop-i-init : goal.loop-i-init
-loop-i-init c = run_begun _ _ _ c.empty-run.ensures
+loop-i-init c = run_begun _ _ c.empty-run.ensures
 
 pub with_pair-run-requires-clause-begun : goal.with_pair-run-requires-clause-begun
 with_pair-run-requires-clause-begun c =
-    running_some c.loop-i.run.any c.loop-i.run.hull (total c.loop-i.i
+    running_begun c.loop-i.run.hull (total c.loop-i.i
     (λ k. pair_gives (move_of c.args.t.now) c.args.l c.args.s c.args.q c.args.values.now c.args.before.now
     (get_or c.args.next_values.now c.args.j (pos 0)) k)) c.loop-i.invariant
 
 pub loop-i-preserved : goal.loop-i-preserved
 loop-i-preserved c =
     run_more (λ k. pair_gives (move_of c.args.t.now) c.args.l c.args.s c.args.q c.args.values.now c.args.before.now
-    (get_or c.args.next_values.now c.args.j (pos 0)) k) c.loop-i.i c.loop-i.run.any c.with_pair-run.result.any
+    (get_or c.args.next_values.now c.args.j (pos 0)) k) c.loop-i.i
     c.loop-i.run.hull c.with_pair-run.result.hull c.loop-i.invariant c.with_pair-run.ensures
 
 pub returns : goal.returns
 returns c =
     run_done (move_of c.args.t.now) c.args.l c.args.s c.args.q c.args.values.now c.args.before.now (get_or c.args.next_values.now c.args.j (pos 0))
-    c.loop-i.i c.loop-i.run.any c.loop-i.run.hull (omega (arith, c.loop-i-test.false, c.count_of-i-end.ensures.count))
+    c.loop-i.i c.loop-i.run.hull (omega (arith, c.loop-i-test.false, c.count_of-i-end.ensures.count))
     (omega (arith, c.loop-i.auto.i-end, c.count_of-i-end.ensures.count)) c.loop-i.invariant

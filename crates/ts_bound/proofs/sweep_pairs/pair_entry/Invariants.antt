@@ -5,5 +5,5 @@ use Rattle.ts_bound.specs.Sweeps.{total, pair_gives}
 use Rattle.ts_bound.proofs.sweep_pairs.pair_entry.Given as goal
 
 abbrev pub invariant-loop-i : goal.invariant-loop-i
-invariant-loop-i l = IsRunning l.run.any l.run.hull (total l.i
+invariant-loop-i l = IsRunning l.run.hull (total l.i
     (λ k. pair_gives (move_of l.t) l.l l.s l.q l.values l.before (get_or l.next_values l.j (pos 0)) k))

@@ -1,7 +1,7 @@
 use Rattle.std.proofs.Common.{ap, ◌∙◌, arith, refl, ◌+◌, ◌*◌, length, pos, get_or}
 use Rattle.ts_automaton.specs.Body.{move_of}
 use Rattle.ts_bound.specs.Sweeps.{step_place, move_entry}
-use Rattle.ts_bound.proofs.PackLaws.{running_some}
+use Rattle.ts_bound.proofs.PackLaws.{running_begun}
 use Rattle.ts_bound.proofs.SweepLaws.{puts_begun, puts_more, puts_done, puts_are_canonical}
 use Rattle.ts_bound.proofs.sweep_pairs.pair_move.Goals as goal
 
@@ -17,7 +17,7 @@ put_packed-requires-clause-canonical c =
 
 pub put_packed-requires-clause-begun : goal.put_packed-requires-clause-begun
 put_packed-requires-clause-begun c =
-    running_some c.pair_entry-run.result.any c.pair_entry-run.result.hull
+    running_begun c.pair_entry-run.result.hull
     (move_entry (move_of c.args.t.now) c.args.l c.args.s c.args.q c.args.values.now c.args.before.now
     (get_or c.args.next_values.now c.step_place-j.result (pos 0))) c.pair_entry-run.ensures
 

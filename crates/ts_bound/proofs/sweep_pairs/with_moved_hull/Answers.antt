@@ -9,5 +9,5 @@ pub returns-else-is_some : goal.returns-else-is_some
 returns-else-is_some c r i =
     let x = get_or c.args.values.now c.args.i (pos 0) in
     let y = get_or c.args.next_values.now c.args.j (pos 0) in
-    runs_past c.args.run.any c.args.run.hull r (after_move (move_of c.args.t.now) (unpack_hull c.args.h.now) x y)
+    runs_past c.args.run.hull r (after_move (move_of c.args.t.now) (unpack_hull c.args.h.now) x y)
     (moved_none (move_of c.args.t.now) (unpack_hull c.args.h.now) x y (sym c.is_some.ensures ∙ c.if-is_some.false)) i

@@ -5,10 +5,10 @@ use Rattle.ts_bound.proofs.sweep_pairs.with_pair.Goals as goal
 pub returns-then-fits : goal.returns-then-fits
 returns-then-fits c r i =
     pair_true (move_of c.args.t.now) c.args.l c.args.s c.args.q c.args.values.now c.args.next_values.now c.args.before.now c.args.j c.args.i
-    c.fits.result c.with_moved.result.any c.with_moved.result.hull r c.fits.ensures c.if-fits.true
+    c.fits.result c.with_moved.result.hull r c.fits.ensures c.if-fits.true
     (c.with_moved.ensures r i)
 
 pub returns-else-fits : goal.returns-else-fits
 returns-else-fits c r i =
     pair_false (move_of c.args.t.now) c.args.l c.args.s c.args.q c.args.values.now c.args.next_values.now c.args.before.now c.args.j c.args.i
-    c.fits.result c.args.run.any c.args.run.hull r c.fits.ensures c.if-fits.false i
+    c.fits.result c.args.run.hull r c.fits.ensures c.if-fits.false i

@@ -5,13 +5,13 @@ use Rattle.ts_bound.specs.Cuts.{parts_cut}
 use Rattle.ts_bound.specs.Smalls.{small_int}
 use Rattle.ts_bound.specs.Sweeps.{fronts, step_place}
 use Rattle.ts_bound.proofs.LeadLaws.{before_more, before_done, before_all}
-use Rattle.ts_bound.proofs.PackLaws.{running_some}
+use Rattle.ts_bound.proofs.PackLaws.{running_begun}
 use Rattle.ts_bound.proofs.SweepLaws.{fronts_begun, fronts_more}
 use Rattle.ts_bound.proofs.sweep_steps.fronts_before.Goals as goal
 
 pub with_place-run-requires-clause-begun : goal.with_place-run-requires-clause-begun
 with_place-run-requires-clause-begun c =
-    running_some c.loop-run.run.any c.loop-run.run.hull (fronts (parts_cut c.args.p.now) c.args.l c.args.s c.args.q c.args.values.now
+    running_begun c.loop-run.run.hull (fronts (parts_cut c.args.p.now) c.args.l c.args.s c.args.q c.args.values.now
     c.args.before.now c.loop-run.run.at) c.loop-run.invariant.fronts
 
 pub with_place-run-requires-clause-small : goal.with_place-run-requires-clause-small
@@ -26,7 +26,7 @@ pub loop-run-init : goal.loop-run-init
 loop-run-init c = record {
   inside = omega arith;
   passed = λ i lt. absurd (omega (arith, lt));
-  fronts = fronts_begun _ _ _ _ _ _ _;
+  fronts = fronts_begun _ _ _ _ _ _ _ c.nothing.ensures;
 }
 
 pub loop-run-preserved : goal.loop-run-preserved
@@ -39,7 +39,7 @@ loop-run-preserved c =
           c.if-not-is_before.false c.loop-run.invariant.passed;
       fronts =
           fronts_more (parts_cut c.args.p.now) c.args.l c.args.s c.args.q c.args.values.now c.args.before.now c.loop-run.run.at
-          c.with_place-run.result.at c.step_place-i.result _ c.loop-run.run.any c.with_place-run.result.any c.loop-run.run.hull
+          c.with_place-run.result.at c.step_place-i.result _ c.loop-run.run.hull
           c.with_place-run.result.hull (to_z-of_z w64 c.value_at.result fits ∙ c.value_at.ensures) i_is c.with_place-run.ensures.at
           c.loop-run.invariant.fronts c.with_place-run.ensures.hull;
     }

@@ -8,7 +8,7 @@ abbrev pub invariant-loop-run : goal.invariant-loop-run
 invariant-loop-run l = record {
   inside : l.run.at ≤ length l.values;
   passed : (i : ℕ) → i < l.run.at → pos i <ℤ l.fn.to;
-  fronts : IsRunning l.run.any l.run.hull (fronts (parts_cut l.p) l.l l.s l.q l.values l.before l.run.at);
+  fronts : IsRunning l.run.hull (fronts (parts_cut l.p) l.l l.s l.q l.values l.before l.run.at);
 }
 
 abbrev pub decreases-loop-run : goal.decreases-loop-run

@@ -6,14 +6,14 @@ use Rattle.ts_bound.specs.Cuts.{parts_cut}
 use Rattle.ts_bound.specs.Smalls.{small_int}
 use Rattle.ts_bound.specs.Sweeps.{step_place, sweep_entry, fronts, IsReached, takes}
 use Rattle.ts_bound.proofs.LeadLaws.{reached_passed, reached_rest, inside_row}
-use Rattle.ts_bound.proofs.PackLaws.{running_some}
+use Rattle.ts_bound.proofs.PackLaws.{running_begun}
 use Rattle.ts_bound.proofs.SweptRows.{length-puts}
 use Rattle.ts_bound.proofs.SweepLaws.{parts_swept, puts_begun, puts_more, put_is, sweep_done, puts_are_canonical}
 use Rattle.ts_bound.proofs.sweep_steps.sweep_steps.Goals as goal
 
 pub put_run-requires-clause-begun : goal.put_run-requires-clause-begun
 put_run-requires-clause-begun c =
-    running_some c.with_step-run.result.any c.with_step-run.result.hull
+    running_begun c.with_step-run.result.hull
     (fronts (parts_cut c.args.p.now) c.args.l c.args.s c.args.q c.args.values.now c.args.before.now c.with_step-run.result.at)
     c.with_step-run.ensures.fronts
 
@@ -72,7 +72,7 @@ loop-k-preserved c =
           puts_more c.args.s c.args.t.now.next (step_place c.args.l (length ws)) (λ j. entry (get_or ws j (pos 0))) c.args.next.now c.loop-k.next
           c.put_run.new.next c.loop-k.k c.step_place-j.result (entry w) (entry w) j_is c.loop-k.invariant.next (ap entry w_is)
           (put_is m (parts_cut c.args.p.now) c.args.l c.args.twin c.args.s c.args.q c.args.t.now.next vs ws c.args.before.now c.loop-k.next
-          c.put_run.new.next c.step_place-j.result w c.with_step-run.result.at c.with_step-run.result.any c.with_step-run.result.hull c.requires.unequal
+          c.put_run.new.next c.step_place-j.result w c.with_step-run.result.at c.with_step-run.result.hull c.requires.unequal
           (parts_swept (parts_cut c.args.p.now) m c.requires.parts c.requires.swept) c.requires.sweepable
           (ap small_int w_is ∙ c.requires.sweepable.small_next c.step_place-j.result) c.requires.parts reached.inside
           c.with_step-run.ensures.fronts c.put_run.ensures

@@ -10,5 +10,5 @@ invariant-loop-k l = record {
   next : l.next ≡ puts l.s l.state (step_place l.l (length l.next_values))
       (λ j. sweep_entry (move_of l.fn.t) l.l l.twin l.s l.q l.values l.before (get_or l.next_values j (pos 0))) l.fn.next l.k;
   reached : IsReached (length l.values) ((pos l.k +ℤ l.lead) -ℤ pos 1) l.run.at;
-  fronts : IsRunning l.run.any l.run.hull (fronts (parts_cut l.p) l.l l.s l.q l.values l.before l.run.at);
+  fronts : IsRunning l.run.hull (fronts (parts_cut l.p) l.l l.s l.q l.values l.before l.run.at);
 }

@@ -5,7 +5,7 @@ use Rattle.ts_bound.specs.Cuts.{parts_cut}
 use Rattle.ts_bound.specs.Smalls.{small_int}
 use Rattle.ts_bound.specs.Sweeps.{fronts, step_place}
 use Rattle.ts_bound.proofs.LeadLaws.{step_passed, step_is, step_begins, step_inside, step_skipped}
-use Rattle.ts_bound.proofs.PackLaws.{running_some}
+use Rattle.ts_bound.proofs.PackLaws.{running_begun}
 use Rattle.ts_bound.proofs.SweepLaws.{fronts_more}
 use Rattle.ts_bound.proofs.sweep_steps.with_step.Goals as goal
 
@@ -14,7 +14,7 @@ passed_by-requires c = step_begins _ _ c.passes.result c.passes.ensures c.if-pas
 
 pub with_place-requires-clause-begun : goal.with_place-requires-clause-begun
 with_place-requires-clause-begun c =
-    running_some c.args.run.any c.args.run.hull (fronts (parts_cut c.args.p.now) c.args.l c.args.s c.args.q c.args.values.now c.args.before.now c.args.run.at)
+    running_begun c.args.run.hull (fronts (parts_cut c.args.p.now) c.args.l c.args.s c.args.q c.args.values.now c.args.before.now c.args.run.at)
     c.requires.fronts
 
 pub with_place-requires-clause-small : goal.with_place-requires-clause-small
@@ -47,7 +47,7 @@ returns-then-passes-clause-fronts c =
     let i_is = c.step_place-i.ensures.value ∙ ap (λ z. step_place c.args.l z c.passed_by.result) c.count_of-n.ensures.count
     ∙ ap (step_place c.args.l (length c.args.values.now)) at_is in
     fronts_more (parts_cut c.args.p.now) c.args.l c.args.s c.args.q c.args.values.now c.args.before.now c.args.run.at
-    c.with_place.result.at c.step_place-i.result _ c.args.run.any c.with_place.result.any c.args.run.hull
+    c.with_place.result.at c.step_place-i.result _ c.args.run.hull
     c.with_place.result.hull (to_z-of_z w64 c.value_at.result fits ∙ c.value_at.ensures) i_is c.with_place.ensures.at
     c.requires.fronts c.with_place.ensures.hull
 
