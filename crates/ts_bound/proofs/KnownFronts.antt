@@ -87,8 +87,8 @@ inside_packs k o u a b c w p x y first second third inner outer word is same s e
     (three_is (Three o a u b c) o u a b c (unpack_hull p) x y first second third inner outer refl same e f g i j)
     (word_is w (unpack_hull p) x y word same l) refl js ks h.2)
 
-pub anew_packs : (k : Parts) (o : Op) (a b v w : Atom) (p : Packed) (x y : ℤ) (first second sum word other : Ends) → k ≡ parts_of (Word v) (Word w) (Two o a b) →
-    y ≡ x → some_hull (unpack_hull p) ≡ true → unpack_span first ≡ span_in (Leaf a) (unpack_hull p) y (pos 0) →
+pub anew_packs : (k : Parts) (o : Op) (a b v w : Atom) (p : Packed) (x y : ℤ) (first second sum word other : Ends) →
+    k ≡ parts_of (Word v) (Word w) (Two o a b) → y ≡ x → some_hull (unpack_hull p) ≡ true → unpack_span first ≡ span_in (Leaf a) (unpack_hull p) y (pos 0) →
     unpack_span second ≡ span_in (Leaf b) (unpack_hull p) y (pos 0) → unpack_span sum ≡ by_ends (ext_op o) (unpack_span first) (unpack_span second) →
     unpack_span word ≡ span_in (Leaf v) (unpack_hull p) y (pos 0) → unpack_span other ≡ span_in (Leaf w) (unpack_hull p) y (pos 0) →
     has_some (unpack_span sum) ≡ true → has_some (unpack_span word) ≡ true → has_some (unpack_span other) ≡ true →
