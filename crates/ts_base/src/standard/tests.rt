@@ -95,6 +95,19 @@ fn one_call_inside(rt: HostRuntime) -> Result<(), Fail> {
         ),
         (2, 1, false)
     );
+
+    let mut again = StdOut::new(Device::new(2));
+    assert_eq!(rt; again.finish(), Ok(()));
+    assert_eq!(rt; again.finish(), Err(Failed));
+    assert_eq!(rt;
+        (
+            again.inner.calls,
+            again.inner.flushes,
+            again.faults,
+            again.finished
+        ),
+        (2, 2, 1, false)
+    );
     Ok(())
 }
 
