@@ -54,7 +54,7 @@ series_runs (x ∷ xs) h =
     (each.0, subst (λ (s : State). Runs s (map SaysSeries xs) (InTree 0 0)) (sym (paid (length xs))) rest) in
     subst (λ (s : State). Runs s (map SaysSeries (x ∷ xs)) (InTree 0 0)) (sym (owes (length xs))) from
 
--- tree lines, which are count_text
+-- tree lines, which are counted
 proving : (a b c d : ℕ) → a ≡ c → b ≡ d → InTree a b ≡ InTree c d
 proving a b c d e f = ap (λ (x : ℕ). InTree x b) e ∙ ap (InTree c) f
 

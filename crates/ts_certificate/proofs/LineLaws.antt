@@ -1,4 +1,4 @@
--- A line is reading_with exactly where it is the text of a line that may come there.
+-- A line is read exactly where it is the text of a line that may come there.
 use Rattle.std.proofs.Common.{◌≡◌, ℕ, ◌^◌, ◌<◌, ◌+◌, Bool, true, false, not, cond, Option, Some, None, Ok, Err, List, refl, sym, ap, subst, ◌∙◌, codes, ◌&&◌, arith}
 use Rattle.std.specs.Prelude.{◌==◌}
 use Rattle.std.specs.Str.{bytes_eq}
@@ -67,7 +67,7 @@ line_only s text (Some line) l e h =
     let read = words_only s (words_of line) l h in
     (text_is text line e ∙ ap full_line read.0, read.1)
 
--- a line that is reading_with is the text of what it says, which may come there
+-- a line that is read is the text of what it says, which may come there
 pub line_of_only : (s : State) (text : List ℕ) (l : CertLine) → line_of s text ≡ Ok l → (text ≡ line_text l) × (may_follow s l ≡ true)
 line_of_only s text l h = line_only s text (without_lf text) l refl h
 
@@ -117,7 +117,7 @@ words_taken (InTree c u) (SaysEnd p o) few h =
     ap (end_or_stop c u) (end_again p o k.3 k.4) ∙ end_taken c u p o few h
 words_taken s l few h = cc
 
--- the text of a line that may come there is reading_with, and says that line
+-- the text of a line that may come there is read, and says that line
 pub line_of_again : (s : State) (l : CertLine) → tree_lines s < 2 ^ 63 → may_follow s l ≡ true → line_of s (line_text l) ≡ Ok l
 line_of_again s l few h =
     ap (line_if s) (text_again (line_words l))

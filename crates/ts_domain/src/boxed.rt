@@ -135,7 +135,7 @@ impl Boxed {
 }
 
 impl Boxed {
-    // One more box, in which cell `k` has the values that `keep` keeps; the memory is taken before the first change.
+    /// One more box, in which cell `k` has the values that `keep` keeps; the memory is taken before the first change.
     fn narrow(&mut self, k: u32, keep: Keep) -> Result<(), Memory>
         requires cell { IsCell k self.old }
         requires stays { values_kept keep (cell_of k self.old) ≢ [] }
@@ -153,7 +153,7 @@ impl Boxed {
         Ok(())
     }
 
-    // One more box, in which cell `k` has lost a value that it had.
+    /// One more box, in which cell `k` has lost a value that it had.
     fn take_out(&mut self, k: u32, v: i64) -> Result<(), Memory>
         requires cell { IsCell k self.old }
         requires has { Contains (cell_of k self.old) v }
@@ -174,7 +174,7 @@ impl Boxed {
         Ok(())
     }
 
-    // Back to the box before.
+    /// Back to the box before.
     fn undo_one(&mut self)
         requires { 0 < length self.old.earlier }
         ensures { self.new ≡ back_to (length self.old.earlier - 1) self.old }
@@ -185,7 +185,7 @@ impl Boxed {
     }
 }
 
-// Puts a cell's domain before a change in the place of the one after it.
+/// Puts a cell's domain before a change in the place of the one after it.
 fn bring_back(cell: &mut Domain, back: Back)
     requires { BackFits back cell.old }
     ensures { cell.new ≡ before back cell.old }

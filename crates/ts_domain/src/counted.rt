@@ -55,7 +55,7 @@ impl CountedRanges {
     }
 }
 
-// Of each range how many numbers lie before it.
+/// Of each range how many numbers lie before it.
 fn counts(alloc: Global, ranges: &[Interval]) -> Result<SmallVec<u32, 2>, Memory>
     requires { RangesFrom (neg_ℤ (pos 1000000)) ranges.now }
     ensures { IfOk result (λ before. before.items ≡ counts_from 0 ranges.now) }
@@ -70,7 +70,7 @@ fn counts(alloc: Global, ranges: &[Interval]) -> Result<SmallVec<u32, 2>, Memory
     Ok(before)
 }
 
-// The number of the range that has the number at a place.
+/// The number of the range that has the number at a place.
 fn range_of_place(ranges: &[Interval], before: &[u32], i: u64) -> usize
     requires apart { RangesFrom (neg_ℤ (pos 1000000)) ranges.now }
     requires counted { before.now ≡ counts_from 0 ranges.now }

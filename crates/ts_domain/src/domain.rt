@@ -200,7 +200,7 @@ impl Domain {
         }
     }
 
-    // The numbers up to `t`.
+    /// The numbers up to `t`.
     fn low_part(&self, t: i64) -> Result<Domain, Memory>
         requires { values_up_to t self.now ≢ [] }
         ensures kept { IfOk result (λ d. d ≡ values_up_to t self.now) }
@@ -217,7 +217,7 @@ impl Domain {
         }
     }
 
-    // The numbers above `t`.
+    /// The numbers above `t`.
     fn high_part(&self, t: i64) -> Result<Domain, Memory>
         requires { values_above t self.now ≢ [] }
         ensures kept { IfOk result (λ d. d ≡ values_above t self.now) }
@@ -234,7 +234,7 @@ impl Domain {
         }
     }
 
-    // The numbers without one, which need not be among them.
+    /// The numbers without one, which need not be among them.
     fn without(&self, gone: i64) -> Result<Domain, Memory>
         requires { values_without gone self.now ≢ [] }
         ensures kept { IfOk result (λ d. d ≡ values_without gone self.now) }
@@ -247,7 +247,7 @@ impl Domain {
         }
     }
 
-    // What `keep` keeps, on ranges of its own.
+    /// What `keep` keeps, on ranges of its own.
     fn renewed(&self, keep: Keep) -> Result<Domain, Memory>
         requires { values_kept keep self.now ≢ [] }
         ensures kept { IfOk result (λ d. d ≡ values_kept keep self.now) }
@@ -274,7 +274,7 @@ impl Domain {
     }
 }
 
-// The set that these ranges are.
+/// The set that these ranges are.
 fn whole(alloc: Global, ranges: SmallVec<Interval, 2>) -> Result<Domain, Memory>
     requires { AreRanges ranges.items }
     ensures same { IfOk result (λ d. d ≡ values_of ranges.items) }
@@ -294,7 +294,7 @@ fn whole(alloc: Global, ranges: SmallVec<Interval, 2>) -> Result<Domain, Memory>
     })
 }
 
-// The union of ranges of which none is empty.
+/// The union of ranges of which none is empty.
 fn union_of(alloc: Global, lows: &[i64], highs: &[i64]) -> Result<Domain, Memory>
     requires pairs { length lows.now ≡ length highs.now }
     requires lows_within { All WithinLimits lows.now }

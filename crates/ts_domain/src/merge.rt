@@ -11,7 +11,7 @@ use smallvec::SmallVec;
 use std::alloc::Global;
 use ts_base::Memory;
 
-// Whether some low is above its high.
+/// Whether some low is above its high.
 fn has_empty(lows: &[i64], highs: &[i64]) -> bool
     ensures { result ≡ list_any (λ p. int_lt p.1 p.0) (zip lows.now highs.now) }
 {
@@ -26,7 +26,7 @@ pub(crate) fn has_no_union(lows: &[i64], highs: &[i64]) -> bool
     lows.is_empty() || has_empty(lows, highs)
 }
 
-// The two lists as one list of ranges.
+/// The two lists as one list of ranges.
 fn ranges_of(alloc: Global, lows: &[i64], highs: &[i64]) -> Result<Vec<Interval>, Memory>
     ensures { IfOk result (λ v. v.items ≡ intervals_of lows.now highs.now) }
 {

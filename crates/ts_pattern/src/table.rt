@@ -97,7 +97,7 @@ fn trim_after(id: PatternId) -> u8
 
 // The expressions: `up` and `down` are `<` and `>`, or the other way round in a mirrored pattern.
 
-// The letter, once or more often.
+/// The letter, once or more often.
 fn plus(alloc: Global, letter: Letter) -> Result<Regex, Memory>
     ensures { IfOk result (λ r. shape_of r ≡ plus (One letter)) }
 {
@@ -111,7 +111,7 @@ fn any_of(alloc: Global, one: Letter, other: Letter) -> Result<Regex, Memory>
     star(alloc, alt(alloc, Regex::One(one), Regex::One(other))?)
 }
 
-// The first letter, the middle part, the last letter.
+/// The first letter, the middle part, the last letter.
 fn between(alloc: Global, first: Letter, middle: Regex, last: Letter) -> Result<Regex, Memory>
     ensures { IfOk result (λ r. shape_of r ≡
         Cat (One first) (Cat (shape_of middle) (One last))) }

@@ -1,6 +1,6 @@
 //! Normal forms, of the same language: meant to give one form to expressions that differ in brackets, order and repeats
 //! alone, so that what a word leaves, read letter by letter, doesn't grow with it. Proved are the language, and that of
-//! the members of a union each comes before the next.
+//! the members of an `Alt` each comes before the next.
 
 ghost use Rattle.std.specs.Prelude.{◌≡◌, ◌↔◌, ◌≤◌, List, ◌∷◌, map, length, IfOk, OnOk, MatchResult};
 ghost use Rattle.std.specs.List.{insert};
@@ -52,7 +52,7 @@ impl Regex {
         }
     }
 
-    /// Puts the members that aren't unions into their places.
+    /// Puts the members that are no `Alt` into their places.
     #[tactic(auto, using(crate::proofs::Members::all_append))]
     fn collect_members(self, found: &mut Vec<Regex>) -> Result<(), Memory>
         ensures { OnOk result (map shape_of found.new.items
@@ -143,7 +143,7 @@ fn place_of(found: &[Regex], r: &Regex) -> Result<usize, usize>
     Err(found.len())
 }
 
-/// The union of the members, nested to the right.
+/// The `Alt` of the members, nested to the right.
 fn nest(alloc: Global, mut found: Vec<Regex>) -> Result<Regex, Memory>
     ensures { IfOk result (λ n. shape_of n ≡ nest (map shape_of found.items)) }
 {

@@ -189,7 +189,7 @@ not_in : (rs : List Shape) (d : Shape) (es : List (Entry (Unit {0}) ℕ Tag)) �
 not_in rs d [] n h o = o
 not_in rs d (e ∷ es) n h o = ⊎_elim (λ q. n e.residual h.0 q) (λ q. not_in rs d es n h.1 q) o
 
--- an entry whose residual after the letter is d, a word of no listed residual
+-- an entry whose residual after the letter is d, which has a word and isn't listed
 missing : (rs : List Shape) (l : Letter) (es : List (Entry (Unit {0}) ℕ Tag)) → AreNumbers rs es → all_listed (table_of rs) l es ≡ false →
     (d : Shape) × (has_word d ≡ true) × ((j : ℕ) → j < length rs → shape_at rs j ≡ d → ⊥) × OneOf (λ e. residual e.residual l ≡ d) (valued_entries rs es)
 missing rs l [] h q = absurd (false≢true (sym q))

@@ -49,7 +49,7 @@ start_value rows p plan q =
     (list_all (λ x. list_all (λ e. nat_lt e.residual (length (plain_plan plan).residuals)) x.live) (plain_plan plan).configurations) h.1 in
     first_value (plain_plan plan).residuals (plain_plan plan).configurations k.0
 
--- each reached configuration has arrival_at, by its least number
+-- each reached configuration has arrived, by its least number
 
 abbrev Arrives : Subject Shape → List Arrival → PlainConfiguration Shape → Type 0
 Arrives s xs x = (m : ℕ) × (m < length xs) × IsFirst s x (arrival_at xs m).configuration
@@ -85,7 +85,7 @@ meets_there s t h full k q none =
         let c = (arrival_at t.arrivals.items k).configuration in
         absurd (none-some (record { configuration = c; place = k; letter = l }) (sym n ∙ ap (λ z. failure_on c k z) e))
 
--- the checks hold at each reached configuration that arrival_at below a number without a failure
+-- where no configuration below a number fails, the checks hold at each below it that arrived
 arrives_meets : (s : Subject Shape) (t : Tour) → IsTour s t → length t.failing.items ≡ length t.arrivals.items → (n : ℕ) →
     ((i : ℕ) → i < n → failure_at t i ≡ None) → (x : PlainConfiguration Shape) (a : Arrives s t.arrivals.items x) →
     (arrival_at t.arrivals.items a.0).configuration < n → (l : Letter) → meets_checks s x l ≡ true

@@ -14,7 +14,7 @@ abbrev pub failure_from : Tour → ℕ → Option ℕ → Option Failure
 failure_from t i None = None
 failure_from t i (Some k) = failure_on i k (slice_get t.failing.items k)
 
--- the failure of configuration i, if it has arrival_at and fails
+-- the failure of configuration i, if it has arrived and fails
 abbrev pub failure_at : Tour → ℕ → Option Failure
 failure_at t i = failure_from t i (place_at t.places.items i)
 

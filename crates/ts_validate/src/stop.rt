@@ -15,7 +15,7 @@ pub enum ValidateStop {
         letter: Letter,
         signature: Vec<Letter>,
     },
-    /// No memory was to be had.
+    /// There was no memory.
     #[error("out of memory")]
     Memory,
 }

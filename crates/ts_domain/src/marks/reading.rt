@@ -84,7 +84,7 @@ impl Marks {
     }
 }
 
-// Another number for each, with no order in them: numbers at equal steps would else rise for long.
+/// Another number for each, with no order in them: numbers at equal steps would else rise for long.
 fn mixed(n: u64) -> u64 {
     let n = n.wrapping_mul(0x9E37_79B9_7F4A_7C15);
     (n ^ (n >> 32)).wrapping_mul(0xD6E8_FEB8_6659_FD93)
