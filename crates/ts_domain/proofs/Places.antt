@@ -228,7 +228,7 @@ first_in f t (r ∷ rs) d w a h le = by_test (int_lt r.high t) refl (λ there. f
 
     by_test : (b : Bool) → int_lt r.high t ≡ b →
         (InSome rs w → (leading_count (λ r. int_lt r.high t) rs < length rs)
-            × FirstIn rs t (int_max (get_or rs (leading_count (λ r. int_lt r.high t) rs) d).low t)) →
+        × FirstIn rs t (int_max (get_or rs (leading_count (λ r. int_lt r.high t) rs) d).low t)) →
         let n = cond b (suc (leading_count (λ r. int_lt r.high t) rs)) zero in (n < length (r ∷ rs)) × FirstIn (r ∷ rs) t (int_max (get_or (r ∷ rs) n d).low t)
     by_test true e later =
         elim h [

@@ -98,7 +98,7 @@ between_split low t high from to =
     let a = natural_is ((t +ℤ pos 1) -ℤ low) (omega (arith, ints, from)) in let b = natural_is ((high +ℤ pos 1) -ℤ (t +ℤ pos 1)) (omega (arith, ints, to)) in
     let c = natural_is ((high +ℤ pos 1) -ℤ low) (omega (arith, ints, from, to)) in
     let e : to_natural ((high +ℤ pos 1) -ℤ low) ≡ to_natural ((t +ℤ pos 1) -ℤ low) + to_natural ((high +ℤ pos 1) -ℤ (t +ℤ pos 1)) =
-        omega (arith, ints, a, b, c) in
+    omega (arith, ints, a, b, c) in
     let f : low +ℤ pos (to_natural ((t +ℤ pos 1) -ℤ low)) ≡ t +ℤ pos 1 = omega (arith, ints, a) in
     ap (run low) e ∙ run_split low (to_natural ((t +ℤ pos 1) -ℤ low)) (to_natural ((high +ℤ pos 1) -ℤ (t +ℤ pos 1))) ∙
     ap (λ x. run low (to_natural ((t +ℤ pos 1) -ℤ low)) ++ run x (to_natural ((high +ℤ pos 1) -ℤ (t +ℤ pos 1)))) f

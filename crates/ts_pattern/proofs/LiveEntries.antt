@@ -68,7 +68,7 @@ pub covers_survivors : {T : Type 0} (t : Residuals Shape) → AreRight t → (l 
     Rising a es → OneOf (Covers s (l ∷ v)) es → OneOf (Covers s v) (survivors t l es)
 covers_survivors t f l s v a es r h =
     some_keep t f s v a (live_entries t (derive_entries t l es))
-        (rising_filter (λ e. t.has_word e.residual) a (derive_entries t l es) (rising_derived t l a es r))
+    (rising_filter (λ e. t.has_word e.residual) a (derive_entries t l es) (rising_derived t l a es r))
     (some_alive t f s v (derive_entries t l es) (covers_derived t f l s v es h))
 
 -- Rising, Residual and Cover, after the signs w, of entries that start below k

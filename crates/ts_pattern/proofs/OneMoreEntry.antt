@@ -78,7 +78,7 @@ survivors_push {X} {R} {T} t f l es e =
     ap (λ z. keep t (live_entries t z)) (map-append (λ x. derive_entry t l x) es (e ∷ []))
     ∙ ap (λ z. keep t z) (filter-append (λ x. t.has_word x.residual) (derive_entries t l es) (derive_entry t l e ∷ []))
     ∙ go (t.has_word (t.next e.residual l)) (live_entries t (derive_entries t l es))
-        (keep_push t f (live_entries t (derive_entries t l es)) (derive_entry t l e))
+    (keep_push t f (live_entries t (derive_entries t l es)) (derive_entry t l e))
   where
     go : (a : Bool) (xs : List (Entry X R T)) →
         keep t (xs ++ derive_entry t l e ∷ []) ≡ cond (list_any (λ (k : Entry X R T). t.same k.residual (t.next e.residual l)) (keep t xs)) (keep t xs)

@@ -160,7 +160,7 @@ one_alive l d (e ∷ es) w h =
     go : (a : Bool) → has_word (residual e.residual l) ≡ a → (residual e.residual l ≡ d) ⊎ OneOf (λ e. e.residual ≡ d)
         (live_entries shapes (derive_entries shapes l es)) →
         OneOf (λ e. e.residual ≡ d)
-            (cond a (derive_entry shapes l e ∷ live_entries shapes (derive_entries shapes l es)) (live_entries shapes (derive_entries shapes l es)))
+        (cond a (derive_entry shapes l e ∷ live_entries shapes (derive_entries shapes l es)) (live_entries shapes (derive_entries shapes l es)))
     go true t k = k
     go false t k = ⊎_elim (λ q. absurd (false≢true (sym t ∙ ap (λ z. has_word z) q ∙ w))) (λ q. q) k
 
