@@ -3,7 +3,7 @@ use Rattle.std.specs.Prelude.{ℕ, ◌+◌, List, [], ◌∷◌, Option, Some, N
 use Rattle.ts_certificate.specs.declared.state.State.{State}
 use Rattle.ts_certificate.specs.declared.state.State.TheVariants.{Start, InSeries, InTree, AfterEnd}
 use Rattle.ts_certificate.specs.declared.stop.CertStop.{CertStop}
-use Rattle.ts_certificate.specs.declared.stop.CertStop.TheVariants.{Text, CountDiffers, Memory as WantOfMemory}
+use Rattle.ts_certificate.specs.declared.stop.CertStop.TheVariants.{Text, CountDiffers, Memory as NoMemory}
 use Rattle.ts_certificate.specs.declared.stop.LineStop.{LineStop}
 use Rattle.ts_certificate.specs.declared.stop.LineStop.TheVariants.{Grammar, Counts, Memory}
 use Rattle.ts_certificate.specs.Grammar.{CertLine, next_state}
@@ -23,7 +23,7 @@ WantsSeries s = ⊥
 abbrev pub stop_at : ℕ → LineStop → CertStop
 stop_at line Grammar = Text line
 stop_at line (Counts said found) = CountDiffers line said found
-stop_at line Memory = WantOfMemory
+stop_at line Memory = NoMemory
 
 -- where the certificate stands, the number of the next line, and the stop, once there is one
 pub record Reading : Type 0 where

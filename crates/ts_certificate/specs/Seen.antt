@@ -3,7 +3,7 @@ use Rattle.std.specs.Prelude.{◌≡◌, Result, Ok, Err}
 use Rattle.ts_certificate.specs.declared.certificate.Parsed.{Parsed}
 use Rattle.ts_certificate.specs.declared.certificate.Parsed.TheVariants.{Aim, Claim, Series, Tree, End}
 use Rattle.ts_certificate.specs.declared.stop.CertStop.{CertStop}
-use Rattle.ts_certificate.specs.declared.stop.CertStop.TheVariants.{Text, CountDiffers, Memory as WantOfMemory}
+use Rattle.ts_certificate.specs.declared.stop.CertStop.TheVariants.{Text, CountDiffers, Memory as NoMemory}
 use Rattle.ts_certificate.specs.declared.stop.LineStop.{LineStop}
 use Rattle.ts_certificate.specs.declared.stop.LineStop.TheVariants.{Grammar, Counts, Memory}
 use Rattle.ts_certificate.specs.Grammar.{CertLine, SaysAim, SaysClaim, SaysSeries, SaysTree, SaysEnd}
@@ -28,4 +28,4 @@ abbrev pub Tells : {X Y : Type 0} → (X → Y) → Result X CertStop → Result
 Tells view (Ok x) read = read ≡ Ok (view x)
 Tells view (Err (Text line)) read = read ≡ Err (Text line)
 Tells view (Err (CountDiffers line said found)) read = read ≡ Err (CountDiffers line said found)
-Tells view (Err WantOfMemory) read = Unit {0}
+Tells view (Err NoMemory) read = Unit {0}

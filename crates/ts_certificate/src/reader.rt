@@ -23,14 +23,14 @@ pub struct LineReader {
 
 impl Model for LineReader {
     ghost use Rattle.std.specs.Prelude.{◌≢◌, ◌<◌, Some};
-    ghost use Rattle.ts_certificate.specs.declared.stop.CertStop.TheVariants.{Memory as WantOfMemory};
+    ghost use Rattle.ts_certificate.specs.declared.stop.CertStop.TheVariants.{Memory as NoMemory};
     ghost use Rattle.ts_certificate.specs.Reading.{Reading, tree_lines};
 
     ghost Value = { Reading };
 
     ghost view = { λ r. record { state = r.state; next = r.next; stop = r.stop } };
 
-    ghost invariant = { λ r. (tree_lines r.state < r.next) × (r.stop ≢ Some WantOfMemory) };
+    ghost invariant = { λ r. (tree_lines r.state < r.next) × (r.stop ≢ Some NoMemory) };
 }
 
 impl LineReader {

@@ -48,10 +48,10 @@ pub enum DomainStop {
     Memory,
 }
 
-ghost use Rattle.ts_domain.specs.declared.domain.DomainStop.TheVariants.{Memory as OutOfMemory};
+ghost use Rattle.ts_domain.specs.declared.domain.DomainStop.TheVariants.{Memory as NoMemory};
 
 impl From<Memory> for DomainStop {
-    ghost from_gives = { λ _ stop. stop ≡ OutOfMemory };
+    ghost from_gives = { λ _ stop. stop ≡ NoMemory };
 
     fn from(_error: Memory) -> DomainStop {
         DomainStop::Memory

@@ -3,7 +3,7 @@
 ghost use Rattle.std.specs.Prelude.{◌≡◌};
 
 use thiserror::Error;
-use ts_base::{Letter, Memory as NoMemory};
+use ts_base::{Letter, Memory};
 
 /// Why a transducer isn't validated.
 #[derive(Debug, Drop, Error)]
@@ -20,12 +20,12 @@ pub enum ValidateStop {
     Memory,
 }
 
-impl From<NoMemory> for ValidateStop {
-    ghost use Rattle.ts_validate.specs.declared.stop.ValidateStop.TheVariants.{Memory as OutOfMemory};
+impl From<Memory> for ValidateStop {
+    ghost use Rattle.ts_validate.specs.declared.stop.ValidateStop.TheVariants.{Memory as NoMemory};
 
-    ghost from_gives = { λ _ e. e ≡ OutOfMemory };
+    ghost from_gives = { λ _ e. e ≡ NoMemory };
 
-    fn from(_error: NoMemory) -> ValidateStop {
+    fn from(_error: Memory) -> ValidateStop {
         ValidateStop::Memory
     }
 }
