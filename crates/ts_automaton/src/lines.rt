@@ -1,7 +1,6 @@
 //! What the words of a head, state, start or end line say.
 
 ghost use Rattle.std.specs.Prelude.{◌≡◌, ◌==◌, option_map};
-ghost use Rattle.std.specs.List.{list_any};
 ghost use Rattle.ts_automaton.specs.FormulaText.{texts};
 ghost use Rattle.ts_automaton.specs.Registers.{regs_of};
 ghost use Rattle.ts_automaton.specs.Typing.{is_name};

@@ -3,7 +3,7 @@
 ghost use Rattle.std.specs.Prelude.{◌≡◌, ◌<◌, ◌≤◌, ◌==◌, ◌/◌, ◌%◌, length, Some, IfOk, option_map};
 ghost use Rattle.std.specs.List.{position};
 ghost use Rattle.ts_automaton.specs.Formula.{formula};
-ghost use Rattle.ts_automaton.specs.FormulaText.{texts, formula_of};
+ghost use Rattle.ts_automaton.specs.FormulaText.{texts};
 ghost use Rattle.ts_automaton.specs.Body.{move_of};
 ghost use Rattle.ts_automaton.specs.AutomatonText.{sign_word};
 ghost use Rattle.ts_automaton.specs.Lines.{place_of, is_move_head, all_three, move_made, three_of, cut_of, read_move};

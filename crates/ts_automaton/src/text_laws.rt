@@ -1,6 +1,6 @@
 //! Laws of the text: what was written is read as the same automaton, and nothing else is read as it.
 
-ghost use Rattle.std.specs.Prelude.{◌≡◌, ◌≢◌, ◌≤◌, ◌++◌, ◌↔◌, ℕ, IsTrue, List, length, Some, Ok, Err, Result};
+ghost use Rattle.std.specs.Prelude.{◌≡◌, ◌≢◌, ◌≤◌, ◌++◌, ◌↔◌, ℕ, IsTrue, List, Some, Ok, Err, Result};
 ghost use Rattle.ts_automaton.specs.declared.stop.AutoStop.{AutoStop};
 ghost use Rattle.ts_automaton.specs.declared.stop.AutoStop.TheVariants.{Memory as NoMemory};
 ghost use Rattle.ts_automaton.specs.declared.draft.Way.{Way as TheWay};

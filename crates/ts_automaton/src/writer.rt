@@ -33,7 +33,7 @@ pub fn write_head(way: Way, text: &mut Vec<u8>) -> Result<(), Memory>
 pub fn write(m: &Automaton, text: &mut Vec<u8>) -> Result<(), Memory>
     ensures { OnOk result (text.new.items ≡ text.old.items ++ body_text m.now) }
 {
-    Ok(push_body(text, m.parts())?)
+    push_body(text, m.parts())
 }
 
 /// Puts the lines of a block but the head behind `text`.

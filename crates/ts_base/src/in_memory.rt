@@ -1,6 +1,6 @@
 //! A source and a sink in memory, for tests: they go in steps, and fail at the calls that they are told to fail at.
 
-ghost use Rattle.std.specs.Prelude.{ℕ, ◌≡◌, ◌<◌, ◌≤◌, ◌+◌, ◌⊎◌, ◌↔◌, [], length, take, min, Contains, false, IsTrue};
+ghost use Rattle.std.specs.Prelude.{◌≡◌, ◌<◌, ◌≤◌, ◌+◌, ◌⊎◌, ◌↔◌, [], length, take, min, Contains, false, IsTrue};
 ghost use Rattle.std.specs.Prelude.{Some, IfOk, IsErr, OnErr, MatchResult};
 ghost use Rattle.ts_base.specs.Outside.{has_faults, one_more};
 

@@ -1,6 +1,6 @@
 //! Standard input and output, the trusted edge: no clause says which bytes the system gives or takes.
 
-ghost use Rattle.std.specs.Prelude.{ℕ, ◌≡◌, ◌<◌, ◌≤◌, length, false, IsTrue, is_ok, ⊤, Ok, None};
+ghost use Rattle.std.specs.Prelude.{◌≡◌, ◌<◌, ◌≤◌, length, false, IsTrue, is_ok, ⊤, Ok, None};
 ghost use Rattle.std.specs.Prelude.{IfOk, IsErr, OnErr, MatchResult};
 ghost use Rattle.std.specs.Io.KnownBytes.{Keeps, ReadConsumes, WriteAppends};
 ghost use Rattle.ts_base.specs.Outside.{faults_after, has_faults, one_more};

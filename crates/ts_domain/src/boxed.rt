@@ -3,7 +3,6 @@
 ghost use Rattle.std.specs.Prelude.{◌≡◌, ◌≢◌, ◌-◌, ◌<◌, ◌≤◌, [], length, IfOk, OnOk, OnErr, Contains};
 ghost use Rattle.ts_domain.specs.Kept.{values_kept, values_up_to, values_above, values_without};
 ghost use Rattle.ts_domain.specs.BoxSeries.{IsBox, IsCell, cell_of, box_with, back_to};
-ghost use Rattle.ts_domain.specs.Values.{IsDomain};
 ghost use Rattle.ts_domain.specs.Trail.{before, BackFits};
 
 use crate::domain::Domain;

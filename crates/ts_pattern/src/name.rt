@@ -1,6 +1,6 @@
 //! The names that a term is made of: its pattern, feature and aggregator.
 
-ghost use Rattle.std.specs.Prelude.{◌≡◌, ◌↔◌, List, [], ◌∷◌};
+ghost use Rattle.std.specs.Prelude.{◌≡◌, ◌↔◌};
 ghost use Rattle.std.specs.List.{find};
 ghost use Rattle.std.specs.Str.{bytes_eq};
 ghost use Rattle.ts_pattern.specs.Names.{all_patterns, pattern_name, feature_name, aggregator_name};

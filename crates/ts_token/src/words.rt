@@ -1,9 +1,9 @@
 //! The words of a line: its bytes between blanks.
 
-ghost use Rattle.std.specs.Prelude.{◌≡◌, ◌+◌, ◌<◌, ◌^◌, [], ◌∷◌, length, IfOk, IfNone, IfSome};
-ghost use Rattle.std.specs.List.{position, position_or_len};
+ghost use Rattle.std.specs.Prelude.{◌≡◌, ◌+◌, ◌<◌, ◌^◌, [], length, IfOk, IfNone, IfSome};
+ghost use Rattle.std.specs.List.{position};
 ghost use Rattle.ts_token.specs.Text.{is_blank, words_of, words_from};
-ghost use Rattle.ts_token.specs.Views.{piece, pieces};
+ghost use Rattle.ts_token.specs.Views.{pieces};
 ghost use Rattle.ts_token.specs.Steps.{is_solid, IsNext};
 
 use std::alloc::Global;

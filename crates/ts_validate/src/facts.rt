@@ -2,7 +2,7 @@
 
 ghost use Rattle.std.specs.Prelude.{◌≡◌, ◌&&◌, ◌||◌, not, map};
 ghost use Rattle.std.specs.List.{list_any};
-ghost use Rattle.ts_pattern.specs.Closed.{is_due, is_ind, is_inc, tag_after, implies, first_passes, is_match, is_find, entries_agree};
+ghost use Rattle.ts_pattern.specs.Closed.{is_due, is_ind, is_inc, tag_after, implies, first_passes, is_match, is_find};
 ghost use Rattle.ts_pattern.specs.Plans.{plain_live};
 ghost use Rattle.ts_validate.specs.Numbers.{known_at, numbers};
 ghost use Rattle.ts_validate.specs.Facts.{facts_of, facts_agree};

@@ -1,6 +1,6 @@
 //! The step of a configuration by the numbers of its residuals.
 
-ghost use Rattle.std.specs.Prelude.{◌≡◌, ◌&&◌, not, map, slice_get, IfOk};
+ghost use Rattle.std.specs.Prelude.{◌≡◌, ◌&&◌, not, slice_get, IfOk};
 ghost use Rattle.std.specs.List.{list_all, list_any, position, zip};
 ghost use Rattle.ts_pattern.specs.Entries.{derive_entry, survivors, with_entry};
 ghost use Rattle.ts_pattern.specs.Closed.{same_tag, tag_after, retag_entries, with_start, same_live, same_configuration};
