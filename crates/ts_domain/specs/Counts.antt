@@ -1,5 +1,6 @@
 -- How many numbers lie before each range of a set, and the place of a number in it.
 use Rattle.std.specs.Prelude.{◌≡◌, ℕ, ◌+◌, ◌-◌, ◌≤◌, ℤ, pos, neg_ℤ, ◌+ℤ◌, ◌≤ℤ◌, Some, List, [], ◌∷◌, length, get_or, slice_get}
+use Rattle.ts_base.specs.Limits.{greatest_value}
 use Rattle.ts_domain.specs.declared.interval.Interval.{Interval}
 use Rattle.ts_domain.specs.Values.{values_between, values_of}
 
@@ -13,6 +14,6 @@ pub record HasPlace (ranges : List Interval) (before : List ℕ) (i k : ℕ) : T
   pub from : get_or before k 0 ≤ i
   pub small : i - get_or before k 0 ≤ 2000003
   pub within : (e : Interval) →
-      (neg_ℤ (pos 1000000) ≤ℤ (get_or ranges k e).low) × ((get_or ranges k e).low ≤ℤ pos 1000000)
+      (neg_ℤ greatest_value ≤ℤ (get_or ranges k e).low) × ((get_or ranges k e).low ≤ℤ greatest_value)
   pub value : (e : Interval) (v : ℤ) → v ≡ (get_or ranges k e).low +ℤ pos (i - get_or before k 0) →
       slice_get (values_of ranges) i ≡ Some v

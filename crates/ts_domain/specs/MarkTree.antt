@@ -1,5 +1,6 @@
 -- The marks of a tree in order: those before its topmost one, that one, and those behind it.
-use Rattle.std.specs.Prelude.{◌≡◌, pos, neg_ℤ, List, [], ◌∷◌, ◌++◌}
+use Rattle.std.specs.Prelude.{◌≡◌, neg_ℤ, List, [], ◌∷◌, ◌++◌}
+use Rattle.ts_base.specs.Limits.{greatest_value}
 use Rattle.ts_domain.specs.declared.marks.Mark.{Mark}
 use Rattle.ts_domain.specs.declared.marks.Root.{Root}
 use Rattle.ts_domain.specs.declared.marks.Root.TheVariants.{Empty, Full}
@@ -13,5 +14,5 @@ marks_of (Full node) = node.value.before ++ node.value.mark ∷ node.value.behin
 abbrev pub RootFits : Root → Type 0
 RootFits Empty = Unit {0}
 RootFits (Full node) =
-    MarksFrom (neg_ℤ (pos 1000000)) (node.value.before ++ node.value.mark ∷ node.value.behind)
+    MarksFrom (neg_ℤ greatest_value) (node.value.before ++ node.value.mark ∷ node.value.behind)
     × (node.value.more ≡ gain (node.value.before ++ node.value.mark ∷ node.value.behind))

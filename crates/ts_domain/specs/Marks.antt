@@ -3,6 +3,7 @@ use Rattle.std.specs.Prelude.{ℤ, pos, neg_ℤ, ◌+ℤ◌, ◌≤ℤ◌, Bool,
 use Rattle.std.specs.Prelude.{List, [], ◌∷◌, not, int_le, IsTrue, ◌↔◌, ◌++◌, filter, Contains}
 use Rattle.std.specs.Ordering.{int_eq}
 use Rattle.std.specs.List.{AllByRecursion}
+use Rattle.ts_base.specs.Limits.{greatest_value}
 use Rattle.ts_domain.specs.declared.marks.Mark.{Mark}
 use Rattle.ts_domain.specs.Kept.{values_up_to, values_above}
 use Rattle.ts_domain.specs.declared.keep.Keep.{Keep}
@@ -19,7 +20,7 @@ gain (m ∷ ms) = gain_of m +ℤ gain ms
 -- marks at rising numbers, from one on, within the limits
 unfoldable pub MarksFrom : ℤ → List Mark → Type 0
 MarksFrom from [] = Unit {0}
-MarksFrom from (m ∷ ms) = (from ≤ℤ m.value) × (m.value ≤ℤ pos 1000000) × MarksFrom (m.value +ℤ pos 1) ms
+MarksFrom from (m ∷ ms) = (from ≤ℤ m.value) × (m.value ≤ℤ greatest_value) × MarksFrom (m.value +ℤ pos 1) ms
 
 -- what the mark at a number says, if there is one
 unfoldable pub mark_at : ℤ → List Mark → Option Bool

@@ -1,6 +1,7 @@
 -- A piece of a set: the numbers of it between two of them; and a set that differs from a piece at marks.
-use Rattle.std.specs.Prelude.{◌≡◌, ◌≢◌, ℕ, zero, suc, ℤ, pos, neg_ℤ, ◌≤ℤ◌, Bool, int_le, ◌&&◌, if◌then◌else◌}
+use Rattle.std.specs.Prelude.{◌≡◌, ◌≢◌, ℕ, zero, suc, ℤ, neg_ℤ, ◌≤ℤ◌, Bool, int_le, ◌&&◌, if◌then◌else◌}
 use Rattle.std.specs.Prelude.{Option, MatchOption, List, [], ◌∷◌, filter, Contains}
+use Rattle.ts_base.specs.Limits.{greatest_value}
 use Rattle.ts_domain.specs.declared.interval.Interval.{Interval}
 use Rattle.ts_domain.specs.declared.marks.Mark.{Mark}
 use Rattle.ts_domain.specs.Marks.{MarksFrom, AreTold, numbers}
@@ -22,7 +23,7 @@ IsPiece all p = (p.low ≤ℤ p.high) × Contains all p.low × Contains all p.hi
 pub record IsMarked (ranges : List Interval) (p : Interval) (marks : List Mark) : Type 0 where
   pub set : AreRanges ranges
   pub piece : IsPiece (values_of ranges) p
-  pub rising : MarksFrom (neg_ℤ (pos 1000000)) marks
+  pub rising : MarksFrom (neg_ℤ greatest_value) marks
   pub told : AreTold (values_in (values_of ranges) p) marks
   pub some : numbers (values_in (values_of ranges) p) marks ≢ []
 

@@ -1,6 +1,7 @@
 -- The union of ranges that are given by two lists of one length, the low ends and the high ends.
 use Rattle.std.specs.Prelude.{ℕ, ◌<◌, ℤ, pos, ◌≤ℤ◌, ◌<ℤ◌, ◌⊎◌, List, [], ◌∷◌, length, get_or, map}
 use Rattle.std.specs.List.{zip}
+use Rattle.ts_base.specs.Limits.{greatest_value}
 use Rattle.ts_domain.specs.declared.interval.Interval.{Interval}
 
 -- some range has the number
@@ -23,4 +24,4 @@ InSome (r ∷ rs) v = ((r.low ≤ℤ v) × (v ≤ℤ r.high)) ⊎ InSome rs v
 -- no range is empty, none ends beyond the limits, and their low ends rise from a number on
 unfoldable pub LowsRise : ℤ → List Interval → Type 0
 LowsRise from [] = Unit {0}
-LowsRise from (r ∷ rs) = (from ≤ℤ r.low) × (r.low ≤ℤ r.high) × (r.high ≤ℤ pos 1000000) × LowsRise r.low rs
+LowsRise from (r ∷ rs) = (from ≤ℤ r.low) × (r.low ≤ℤ r.high) × (r.high ≤ℤ greatest_value) × LowsRise r.low rs

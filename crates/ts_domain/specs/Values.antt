@@ -1,7 +1,7 @@
 -- Sets of numbers as their rising lists, and the ranges that keep them.
 use Rattle.std.specs.Prelude.{◌≢◌, ℕ, zero, suc, ℤ, pos, negsuc, neg_ℤ, ◌+ℤ◌, ◌-ℤ◌, ◌≤ℤ◌, ◌<ℤ◌, List, [], ◌∷◌, ◌++◌, get_or}
 use Rattle.std.specs.List.{AllByRecursion}
-use Rattle.ts_base.specs.Limits.{IsCellValue}
+use Rattle.ts_base.specs.Limits.{greatest_value, IsCellValue}
 use Rattle.ts_domain.specs.declared.interval.Interval.{Interval}
 
 -- a number of a domain or of a series
@@ -46,9 +46,9 @@ values_of (r ∷ rs) = values_between r.low r.high ++ values_of rs
 unfoldable pub RangesFrom : ℤ → List Interval → Type 0
 RangesFrom from [] = Unit {0}
 RangesFrom from (r ∷ rs) =
-    (from ≤ℤ r.low) × (r.low ≤ℤ r.high) × (r.high ≤ℤ pos 1000000) × RangesFrom (r.high +ℤ pos 2) rs
+    (from ≤ℤ r.low) × (r.low ≤ℤ r.high) × (r.high ≤ℤ greatest_value) × RangesFrom (r.high +ℤ pos 2) rs
 
 -- the ranges of a set in its one form
 pub record AreRanges (ranges : List Interval) : Type 0 where
-  pub apart : RangesFrom (neg_ℤ (pos 1000000)) ranges
+  pub apart : RangesFrom (neg_ℤ greatest_value) ranges
   pub some : ranges ≢ []

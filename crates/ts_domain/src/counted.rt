@@ -1,6 +1,7 @@
 //! The ranges that sets share, with what lies before each: so a place is found by halving.
 
-ghost use Rattle.std.specs.Prelude.{◌≡◌, ◌<◌, ℕ, ℤ, pos, neg_ℤ, length, slice_get, Some, IsTrue, IfOk, Contains};
+ghost use Rattle.std.specs.Prelude.{◌≡◌, ◌<◌, neg_ℤ, length, slice_get, Some, IfOk, Contains};
+ghost use Rattle.ts_base.specs.Limits.{greatest_value};
 ghost use Rattle.ts_domain.specs.Counts.{counts_from, HasPlace};
 ghost use Rattle.ts_domain.specs.Values.{AreRanges, RangesFrom, values_of};
 
@@ -30,7 +31,7 @@ impl CountedRanges {
 
     /// The place of one of the numbers, counted from 0.
     pub(crate) fn place_of(&self, v: i64) -> u64
-        requires apart { RangesFrom (neg_ℤ (pos 1000000)) self.now.items.items }
+        requires apart { RangesFrom (neg_ℤ greatest_value) self.now.items.items }
         requires has { Contains (values_of self.now.items.items) v }
         ensures { slice_get (values_of self.now.items.items) result ≡ Some v }
     {
@@ -43,7 +44,7 @@ impl CountedRanges {
 
     /// The number at a place.
     pub(crate) fn at_place(&self, i: u64) -> i64
-        requires apart { RangesFrom (neg_ℤ (pos 1000000)) self.now.items.items }
+        requires apart { RangesFrom (neg_ℤ greatest_value) self.now.items.items }
         requires below { i < length (values_of self.now.items.items) }
         ensures { slice_get (values_of self.now.items.items) i ≡ Some result }
     {
@@ -57,7 +58,7 @@ impl CountedRanges {
 
 /// Of each range how many numbers lie before it.
 fn counts(alloc: Global, ranges: &[Interval]) -> Result<SmallVec<u32, 2>, Memory>
-    requires { RangesFrom (neg_ℤ (pos 1000000)) ranges.now }
+    requires { RangesFrom (neg_ℤ greatest_value) ranges.now }
     ensures { IfOk result (λ before. before.items ≡ counts_from 0 ranges.now) }
 {
     let mut before = SmallVec::new(alloc);
@@ -72,7 +73,7 @@ fn counts(alloc: Global, ranges: &[Interval]) -> Result<SmallVec<u32, 2>, Memory
 
 /// The number of the range that has the number at a place.
 fn range_of_place(ranges: &[Interval], before: &[u32], i: u64) -> usize
-    requires apart { RangesFrom (neg_ℤ (pos 1000000)) ranges.now }
+    requires apart { RangesFrom (neg_ℤ greatest_value) ranges.now }
     requires counted { before.now ≡ counts_from 0 ranges.now }
     requires below { i < length (values_of ranges.now) }
     ensures in_ranges { result < length ranges.now }

@@ -22,12 +22,13 @@ use std::mem;
 use std::rc::Rc;
 use thiserror::Error;
 use ts_base::Memory;
+use ts_base::limits::CELL_VALUE;
 
 /// A set that has lost so many numbers more gets ranges of its own where it is copied, since a copy copies the marks.
 const MOST_MARKS: i64 = 128;
 
 /// A number below all of them.
-const BELOW_ALL: i64 = -1_000_001;
+const BELOW_ALL: i64 = -CELL_VALUE - 1;
 
 /// A non-empty set of numbers from -1,000,000 to 1,000,000, which contracts see as its rising list. It differs from
 /// what of the ranges lies in its piece at the marks alone; copies and smaller sets share the ranges.

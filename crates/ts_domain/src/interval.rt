@@ -1,6 +1,7 @@
 //! Ranges of numbers.
 
-ghost use Rattle.std.specs.Prelude.{◌≡◌, ℤ, pos, ◌+ℤ◌, neg_ℤ, ◌≤ℤ◌, IsTrue, ◌↔◌, length};
+ghost use Rattle.std.specs.Prelude.{◌≡◌, ℤ, neg_ℤ, ◌≤ℤ◌, IsTrue, ◌↔◌, length};
+ghost use Rattle.ts_base.specs.Limits.{greatest_value};
 ghost use Rattle.ts_domain.specs.Values.{values_between};
 
 /// The numbers from `low` to `high`, both among them.
@@ -13,9 +14,9 @@ pub struct Interval {
 impl Interval {
     /// How many numbers it has, of which none is beyond the limits.
     pub(crate) fn count(self) -> u64
-        requires from { neg_ℤ (pos 1000000) ≤ℤ self.low }
+        requires from { neg_ℤ greatest_value ≤ℤ self.low }
         requires ordered { self.low ≤ℤ self.high }
-        requires to { self.high ≤ℤ pos 1000000 }
+        requires to { self.high ≤ℤ greatest_value }
         ensures { result ≡ length (values_between self.low self.high) }
     {
         (self.high - self.low) as u64 + 1

@@ -1,6 +1,7 @@
 //! Where a number lies among the ranges of a set, found by halving.
 
-ghost use Rattle.std.specs.Prelude.{◌≡◌, ◌≤◌, ℤ, pos, neg_ℤ, ◌≤ℤ◌, IsTrue, ◌↔◌, length, map, int_le, int_lt, Contains};
+ghost use Rattle.std.specs.Prelude.{◌≡◌, ◌≤◌, neg_ℤ, IsTrue, ◌↔◌, length, int_le, int_lt, Contains};
+ghost use Rattle.ts_base.specs.Limits.{greatest_value};
 ghost use Rattle.ts_domain.specs.Values.{RangesFrom, values_of};
 ghost use Rattle.ts_domain.specs.Pieces.{leading_count, IsLastUpTo, IsFirstFrom, SomeUpTo, SomeFrom};
 
@@ -8,7 +9,7 @@ use crate::interval::Interval;
 
 /// How many ranges end below `t`.
 pub(crate) fn ended_below(ranges: &[Interval], t: i64) -> usize
-    requires { RangesFrom (neg_ℤ (pos 1000000)) ranges.now }
+    requires { RangesFrom (neg_ℤ greatest_value) ranges.now }
     ensures count { result ≡ leading_count (λ r. int_lt r.high t) ranges.now }
     ensures bound { result ≤ length ranges.now }
 {
@@ -17,7 +18,7 @@ pub(crate) fn ended_below(ranges: &[Interval], t: i64) -> usize
 
 /// How many ranges begin at `t` or below.
 pub(crate) fn begun_by(ranges: &[Interval], t: i64) -> usize
-    requires { RangesFrom (neg_ℤ (pos 1000000)) ranges.now }
+    requires { RangesFrom (neg_ℤ greatest_value) ranges.now }
     ensures count { result ≡ leading_count (λ r. int_le r.low t) ranges.now }
     ensures bound { result ≤ length ranges.now }
 {
@@ -26,7 +27,7 @@ pub(crate) fn begun_by(ranges: &[Interval], t: i64) -> usize
 
 /// Whether some range has the number.
 pub(crate) fn has(ranges: &[Interval], v: i64) -> bool
-    requires { RangesFrom (neg_ℤ (pos 1000000)) ranges.now }
+    requires { RangesFrom (neg_ℤ greatest_value) ranges.now }
     ensures { IsTrue result ↔ Contains (values_of ranges.now) v }
 {
     let at = ended_below(ranges, v);
@@ -35,7 +36,7 @@ pub(crate) fn has(ranges: &[Interval], v: i64) -> bool
 
 /// The greatest number up to `t`.
 pub(crate) fn last_up_to(ranges: &[Interval], t: i64) -> i64
-    requires apart { RangesFrom (neg_ℤ (pos 1000000)) ranges.now }
+    requires apart { RangesFrom (neg_ℤ greatest_value) ranges.now }
     requires some { SomeUpTo (values_of ranges.now) t }
     ensures { IsLastUpTo (values_of ranges.now) t result }
 {
@@ -45,7 +46,7 @@ pub(crate) fn last_up_to(ranges: &[Interval], t: i64) -> i64
 
 /// The least number from `t` on.
 pub(crate) fn first_from(ranges: &[Interval], t: i64) -> i64
-    requires apart { RangesFrom (neg_ℤ (pos 1000000)) ranges.now }
+    requires apart { RangesFrom (neg_ℤ greatest_value) ranges.now }
     requires some { SomeFrom (values_of ranges.now) t }
     ensures { IsFirstFrom (values_of ranges.now) t result }
 {

@@ -4,9 +4,10 @@
 //! depth is logarithmic in practice, and one set of marks has one form. Where a mark goes in, its node was made before;
 //! so no change here needs memory.
 
-ghost use Rattle.std.specs.Prelude.{◌≡◌, ◌≢◌, true, false, ◌∷◌, [], ◌++◌, ◌<ℤ◌, ◌≤ℤ◌, neg_ℤ, pos, IfOk};
+ghost use Rattle.std.specs.Prelude.{◌≡◌, ◌≢◌, true, false, ◌∷◌, [], ◌++◌, ◌<ℤ◌, ◌≤ℤ◌, neg_ℤ, IfOk};
 ghost use Rattle.std.specs.Prelude.{filter, int_le, int_lt};
 ghost use Rattle.std.specs.List.{AllByRecursion};
+ghost use Rattle.ts_base.specs.Limits.{greatest_value};
 ghost use Rattle.ts_domain.specs.Marks.{gain, gain_of, flip_mark, MarksFrom};
 
 use std::alloc::Global;
@@ -178,9 +179,9 @@ impl Marks {
 
     /// The marks with this one, or without the one at its number; the node is for a mark that comes in.
     pub(crate) fn flipped(self, mark: Mark, mut spare: Box<Node>) -> Marks
-        requires rising { MarksFrom (neg_ℤ (pos 1000000)) self }
-        requires from { neg_ℤ (pos 1000000) ≤ℤ mark.value }
-        requires to { mark.value ≤ℤ pos 1000000 }
+        requires rising { MarksFrom (neg_ℤ greatest_value) self }
+        requires from { neg_ℤ greatest_value ≤ℤ mark.value }
+        requires to { mark.value ≤ℤ greatest_value }
         ensures { result ≡ flip_mark mark self }
     {
         let cut = self.split(mark.value);
@@ -194,7 +195,7 @@ impl Marks {
 
     /// The marks up to a number.
     pub(crate) fn up_to(self, t: i64) -> Marks
-        requires { MarksFrom (neg_ℤ (pos 1000000)) self }
+        requires { MarksFrom (neg_ℤ greatest_value) self }
         ensures { result ≡ filter (λ m. int_le m.value t) self }
     {
         let cut = self.split(t);
@@ -241,7 +242,7 @@ impl Cut {
 
 /// These marks, with the one in the node between them.
 fn joined_at(mut node: Box<Node>, before: Marks, behind: Marks) -> Marks
-    requires { MarksFrom (neg_ℤ (pos 1000000)) (before ++ node.value.mark ∷ behind) }
+    requires { MarksFrom (neg_ℤ greatest_value) (before ++ node.value.mark ∷ behind) }
     ensures { result ≡ before ++ node.value.mark ∷ behind }
 {
     let mark = node.mark;
@@ -259,7 +260,7 @@ fn joined_at(mut node: Box<Node>, before: Marks, behind: Marks) -> Marks
 
 /// The first marks, and the others behind them.
 fn joined(before: Marks, behind: Marks) -> Marks
-    requires { MarksFrom (neg_ℤ (pos 1000000)) (before ++ behind) }
+    requires { MarksFrom (neg_ℤ greatest_value) (before ++ behind) }
     ensures { result ≡ before ++ behind }
 {
     if before.is_empty() {

@@ -1,8 +1,9 @@
 //! The union of ranges that may come in any order and overlap.
 
-ghost use Rattle.std.specs.Prelude.{◌≡◌, ◌<◌, ◌↔◌, ℤ, pos, neg_ℤ, ◌⊎◌};
+ghost use Rattle.std.specs.Prelude.{◌≡◌, ◌<◌, ◌↔◌, ℤ, neg_ℤ, ◌⊎◌};
 ghost use Rattle.std.specs.Prelude.{[], length, IsTrue, IfOk, All, Contains, int_lt};
 ghost use Rattle.std.specs.List.{list_any, zip};
+ghost use Rattle.ts_base.specs.Limits.{greatest_value};
 ghost use Rattle.ts_domain.specs.Union.{InSomeRange, SomeEmpty, InSome, LowsRise, intervals_of};
 ghost use Rattle.ts_domain.specs.Values.{WithinLimits, values_of, AreRanges};
 
@@ -51,7 +52,7 @@ pub(crate) fn sorted_ranges(
     requires lows_within { All WithinLimits lows.now }
     requires highs_within { All WithinLimits highs.now }
     requires ordered { SomeEmpty lows.now highs.now → ⊥ }
-    ensures sorted { IfOk result (λ v. LowsRise (neg_ℤ (pos 1000000)) v.items) }
+    ensures sorted { IfOk result (λ v. LowsRise (neg_ℤ greatest_value) v.items) }
     ensures same { IfOk result (λ v. (n : ℤ) → InSome v.items n ↔ InSomeRange lows.now highs.now n) }
     ensures len { IfOk result (λ v. length v.items ≡ length lows.now) }
 {
@@ -63,7 +64,7 @@ pub(crate) fn sorted_ranges(
 /// The union of ranges that come by rising lows: each is joined with the last one where no gap lies between them.
 pub(crate) fn joined(alloc: Global, sorted: &[Interval]) -> Result<SmallVec<Interval, 2>, Memory>
     requires some { 0 < length sorted.now }
-    requires sorted { LowsRise (neg_ℤ (pos 1000000)) sorted.now }
+    requires sorted { LowsRise (neg_ℤ greatest_value) sorted.now }
     ensures union { IfOk result (λ ranges. (v : ℤ) → Contains (values_of ranges.items) v ↔ InSome sorted.now v) }
     ensures apart { IfOk result (λ ranges. AreRanges ranges.items) }
 {

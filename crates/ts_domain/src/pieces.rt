@@ -2,6 +2,7 @@
 
 ghost use Rattle.std.specs.Prelude.{◌≡◌, ◌<◌, ◌≤◌, ◌<ℤ◌, ◌≤ℤ◌, ◌+ℤ◌, ◌↔◌, IsTrue, Contains, pos, neg_ℤ, filter};
 ghost use Rattle.std.specs.Prelude.{int_lt, length, slice_get, Some};
+ghost use Rattle.ts_base.specs.Limits.{greatest_value};
 ghost use Rattle.ts_domain.specs.Kept.{values_up_to, values_above};
 ghost use Rattle.ts_domain.specs.Values.{RangesFrom, values_of};
 ghost use Rattle.ts_domain.specs.Pieces.{IsPiece, values_in};
@@ -13,7 +14,7 @@ use crate::lookup::has;
 
 /// Whether a piece has the number.
 pub(crate) fn has_in(ranges: &[Interval], piece: Interval, v: i64) -> bool
-    requires apart { RangesFrom (neg_ℤ (pos 1000000)) ranges.now }
+    requires apart { RangesFrom (neg_ℤ greatest_value) ranges.now }
     requires piece { IsPiece (values_of ranges.now) piece }
     ensures { IsTrue result ↔ Contains (values_in (values_of ranges.now) piece) v }
 {
@@ -22,7 +23,7 @@ pub(crate) fn has_in(ranges: &[Interval], piece: Interval, v: i64) -> bool
 
 /// How many numbers lie in a piece.
 pub(crate) fn count_in(ranges: &CountedRanges, piece: Interval) -> u64
-    requires apart { RangesFrom (neg_ℤ (pos 1000000)) ranges.now.items.items }
+    requires apart { RangesFrom (neg_ℤ greatest_value) ranges.now.items.items }
     requires piece { IsPiece (values_of ranges.now.items.items) piece }
     ensures { result ≡ length (values_in (values_of ranges.now.items.items) piece) }
 {
@@ -33,7 +34,7 @@ pub(crate) fn count_in(ranges: &CountedRanges, piece: Interval) -> u64
 
 /// How many numbers of a piece are at most `t`.
 pub(crate) fn count_up_to(ranges: &CountedRanges, piece: Interval, t: i64) -> u64
-    requires apart { RangesFrom (neg_ℤ (pos 1000000)) ranges.now.items.items }
+    requires apart { RangesFrom (neg_ℤ greatest_value) ranges.now.items.items }
     requires piece { IsPiece (values_of ranges.now.items.items) piece }
     ensures { result ≡ length (values_up_to t (values_in (values_of ranges.now.items.items) piece)) }
 {
@@ -45,7 +46,7 @@ pub(crate) fn count_up_to(ranges: &CountedRanges, piece: Interval, t: i64) -> u6
 
 /// How many numbers of a piece lie above `t` and below `u`.
 pub(crate) fn count_between(ranges: &CountedRanges, piece: Interval, t: i64, u: i64) -> u64
-    requires apart { RangesFrom (neg_ℤ (pos 1000000)) ranges.now.items.items }
+    requires apart { RangesFrom (neg_ℤ greatest_value) ranges.now.items.items }
     requires piece { IsPiece (values_of ranges.now.items.items) piece }
     requires rising { t <ℤ u }
     ensures { result
@@ -66,7 +67,7 @@ pub(crate) fn with_more(count: u64, more: i64) -> u64
 
 /// The number at place `i` of a piece.
 pub(crate) fn nth_in(ranges: &CountedRanges, piece: Interval, i: u64) -> i64
-    requires apart { RangesFrom (neg_ℤ (pos 1000000)) ranges.now.items.items }
+    requires apart { RangesFrom (neg_ℤ greatest_value) ranges.now.items.items }
     requires piece { IsPiece (values_of ranges.now.items.items) piece }
     requires below { i < length (values_in (values_of ranges.now.items.items) piece) }
     ensures { slice_get (values_in (values_of ranges.now.items.items) piece) i ≡ Some result }

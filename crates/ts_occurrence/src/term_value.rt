@@ -3,12 +3,11 @@
 //! Sums are whole numbers within 512 * 512 * 1,000,000, far from the ends of an `i64` and from the clamp of
 //! `Ext::plus`.
 
-ghost use Rattle.std.specs.Prelude.{◌≡◌, ◌≤◌, ℤ, pos, neg_ℤ, ◌+ℤ◌, ◌≤ℤ◌, List, map, length, IfOk, IfSome};
-ghost use Rattle.std.specs.List.{All, fold, AllByRecursion};
-ghost use Rattle.std.specs.Int.{int_max, int_min};
+ghost use Rattle.std.specs.Prelude.{◌≡◌, ◌≤◌, map, length, IfOk, IfSome};
+ghost use Rattle.std.specs.List.{All, AllByRecursion};
 ghost use Rattle.ts_base.specs.Signature.{signature_of};
 ghost use Rattle.ts_pattern.specs.Limits.{IsSeries};
-ghost use Rattle.ts_base.specs.Limits.{IsCellValue};
+ghost use Rattle.ts_base.specs.Limits.{IsCellValue, most_cells};
 ghost use Rattle.ts_pattern.specs.FeatureValue.{over, or_zero, feature_of_cells, feature_value};
 ghost use Rattle.ts_transducer.specs.Inside.{IsInside};
 ghost use Rattle.ts_occurrence.specs.Total.{IsWithin, with_one};
@@ -48,7 +47,7 @@ pub fn value_with(
 /// The aggregator over the features of at most 512 ranges inside of the series, as a transducer decodes them.
 pub fn aggregate(g: Aggregator, f: Feature, ranges: &[Range], series: &[i64]) -> Ext
     requires series { IsSeries series.now }
-    requires few { length ranges.now ≤ 512 }
+    requires few { length ranges.now ≤ most_cells }
     requires inside { AllByRecursion (λ r. IsInside (length series.now) r) ranges.now }
     ensures { result ≡ aggregate_of_ranges g f ranges.now series.now }
 {
@@ -60,7 +59,7 @@ pub fn aggregate(g: Aggregator, f: Feature, ranges: &[Range], series: &[i64]) ->
 
 fn total(g: Aggregator, f: Feature, ranges: &[Range], series: &[i64]) -> Option<i64>
     requires series { IsSeries series.now }
-    requires few { length ranges.now ≤ 512 }
+    requires few { length ranges.now ≤ most_cells }
     requires inside { AllByRecursion (λ r. IsInside (length series.now) r) ranges.now }
     ensures { result ≡ over (combine g) (map (λ r. feature_value f r series.now) ranges.now) }
 {
@@ -88,7 +87,7 @@ fn join(g: Aggregator, total: Option<i64>, x: i64) -> i64
 
 /// The value without an occurrence, in a series of `n` cells.
 fn value_of_none(g: Aggregator, f: Feature, n: usize) -> Ext
-    requires { n ≤ 512 }
+    requires { n ≤ most_cells }
     ensures { result ≡ value_of_none g f n }
 {
     match (g, f) {
@@ -110,7 +109,7 @@ fn feature_at(f: Feature, r: Range, series: &[i64]) -> i64
 
 /// The feature of an e-range with those cells.
 fn feature(f: Feature, cells: &[i64]) -> i64
-    requires few { length cells.now ≤ 512 }
+    requires few { length cells.now ≤ most_cells }
     requires cells { All IsCellValue cells.now }
     ensures exact { result ≡ feature_of_cells f cells.now }
     ensures within { IsWithin 512000000 result }
@@ -126,7 +125,7 @@ fn feature(f: Feature, cells: &[i64]) -> i64
 
 /// The sum, the greatest or the least of the cells; 0 where there is none.
 fn over(g: Aggregator, cells: &[i64]) -> i64
-    requires few { length cells.now ≤ 512 }
+    requires few { length cells.now ≤ most_cells }
     requires cells { All IsCellValue cells.now }
     ensures exact { result ≡ or_zero (over (combine g) cells.now) }
     ensures within { IsWithin 512000000 result }

@@ -1,7 +1,8 @@
 //! What is read of marks, and of a set that differs from a piece of ranges at them.
 
-ghost use Rattle.std.specs.Prelude.{◌≡◌, ◌<◌, ◌<ℤ◌, neg_ℤ, pos, IsTrue, length, slice_get, Some};
+ghost use Rattle.std.specs.Prelude.{◌≡◌, ◌<◌, ◌<ℤ◌, neg_ℤ, IsTrue, length, slice_get, Some};
 ghost use Rattle.std.specs.List.{AllByRecursion};
+ghost use Rattle.ts_base.specs.Limits.{greatest_value};
 ghost use Rattle.ts_domain.specs.Kept.{values_above};
 ghost use Rattle.ts_domain.specs.Marks.{mark_at, AreTold, numbers};
 ghost use Rattle.ts_domain.specs.Pieces.{IsPiece, values_in};
@@ -42,7 +43,7 @@ impl Marks {
     /// The number at place `i` of those above `t`, in the set that differs from a piece of ranges at the marks, which
     /// are above `t` too.
     pub(crate) fn nth_above(&self, ranges: &CountedRanges, piece: Interval, t: i64, i: u64) -> i64
-        requires apart { RangesFrom (neg_ℤ (pos 1000000)) ranges.now.items.items }
+        requires apart { RangesFrom (neg_ℤ greatest_value) ranges.now.items.items }
         requires piece { IsPiece (values_of ranges.now.items.items) piece }
         requires told { AreTold (values_in (values_of ranges.now.items.items) piece) self.now }
         requires above { AllByRecursion (λ m. t <ℤ m.value) self.now }
