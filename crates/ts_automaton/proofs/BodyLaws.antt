@@ -5,11 +5,10 @@ use Rattle.std.proofs.Common.{refl, sym, ap, subst, ◌∙◌, ◌&&◌, arith, 
 use Rattle.std.specs.Prelude.{◌==◌, ◌||◌, nat_eq}
 use Rattle.std.specs.Cmp.Derive.{both_true}
 use Rattle.std.specs.List.{list_all, list_any}
-use Rattle.std.proofs.lemmas.Bool.{eqb-true, not-true}
+use Rattle.std.proofs.lemmas.Bool.{eqb-true, not-true, and_parts, leb-true, or_parts, or_left, eq-eqb}
 use Rattle.std.proofs.lemmas.Bool.Decides.{nat_tests}
-use Rattle.std.proofs.lemmas.List.{take_more, length-map}
+use Rattle.std.proofs.lemmas.List.{take_more, length-map, map_push}
 use Rattle.std.proofs.lemmas.List.Folds.{list_any-append}
-use Rattle.ts_base.proofs.WordLaws.{and_parts}
 use Rattle.ts_automaton.specs.declared.draft.Way.{Way}
 use Rattle.ts_automaton.specs.declared.draft.StateLine.{StateLine}
 use Rattle.ts_automaton.specs.declared.state.State.{State}
@@ -18,8 +17,7 @@ use Rattle.ts_automaton.specs.Body.{Move, Node, Body, move_of, node_of}
 use Rattle.ts_automaton.specs.Typing.{each_is, is_name, is_short, are_different, leads_below, has_short_moves, has_few_states, has_names, has_constants, has_targets, has_short_expressions, is_formed}
 use Rattle.ts_automaton.specs.AutomatonText.{Sheet, state_lines, all_moves, sheet_of}
 use Rattle.ts_automaton.specs.Grammar.{is_named, is_new, are_new, is_move, IsSheet}
-use Rattle.ts_automaton.proofs.LineLaws.{le, three_parts, three_true}
-use Rattle.ts_automaton.proofs.GrowLaws.{map_more}
+use Rattle.ts_automaton.proofs.LineLaws.{three_parts, three_true}
 
 -- the states of these lines with these moves, three each
 abbrev pub grouped : List StateLine → List Move → List Node
@@ -49,13 +47,6 @@ pub body_again : (way : Way) (m : Body) → sheet_body (sheet_of way m) ≡ m
 body_again way m = ap (λ (x : List Node). record m { states = x }) (grouped_again m.states)
 
 -- names that differ
-no_other : (a b : Bool) → (a || b) ≡ false → (a ≡ false) × (b ≡ false)
-no_other false b h = (refl, h)
-no_other true b h = cc
-
-or_left : (a b : Bool) → a ≡ true → (a || b) ≡ true
-or_left true b h = refl
-or_left false b h = cc
 
 -- a letter before isn't a letter behind
 behind_not : (before ns : List StateLine) (b : ℕ) → are_new before ns ≡ true → is_named before b ≡ true → list_any (λ n. n.name == b) ns ≡ false
@@ -72,11 +63,8 @@ behind_not before (n ∷ ns) b h k =
 
 named_last : (before : List StateLine) (n : StateLine) → is_named (before ++ n ∷ []) n.name ≡ true
 named_last before n =
-    list_any-append (λ (m : StateLine). m.name == n.name) before (n ∷ []) ∙ last (is_named before n.name) (n.name == n.name) (self n.name)
+    list_any-append (λ (m : StateLine). m.name == n.name) before (n ∷ []) ∙ last (is_named before n.name) (n.name == n.name) (eq-eqb n.name n.name refl)
   where
-    self : (k : ℕ) → k == k ≡ true
-    self k = grind (arith, nat_tests)
-
     last : (a b : Bool) → b ≡ true → (a || (b || false)) ≡ true
     last true b h = refl
     last false true h = refl
@@ -106,7 +94,7 @@ fresh_more : (before : List StateLine) (n : StateLine) (ss : List Node) → are_
 fresh_more before n [] h k = refl
 fresh_more before n (s ∷ ss) h k =
     let each = and_parts (not (is_named before s.name)) (are_fresh before ss) h in
-    let none = no_other (nat_eq s.name n.name) (list_any (λ (t : Node). nat_eq t.name n.name) ss) k in
+    let none = or_parts (nat_eq s.name n.name) (list_any (λ (t : Node). nat_eq t.name n.name) ss) k in
     let here : is_named (before ++ n ∷ []) s.name ≡ false =
     list_any-append (λ (m : StateLine). m.name == s.name) before (n ∷ [])
     ∙ neither (is_named before s.name) (n.name == s.name) (not-true (is_named before s.name) each.0) (swapped s.name n.name none.0) in
@@ -191,8 +179,8 @@ pub formed_sheet : (way : Way) (m : Body) → is_formed m ≡ true → IsSheet (
 formed_sheet way m h =
     let is = formed_parts m h in
     let count = and_parts (nat_le 1 (length m.states)) (nat_le (length m.states) 8) is.few in
-    let some = le 1 (length m.states) count.0 in
-    let few = le (length m.states) 8 count.1 in
+    let some = leb-true 1 (length m.states) count.0 in
+    let few = leb-true (length m.states) 8 count.1 in
     let size = as_many_lines m.states in
     let moves = as_many_moves m.states in
     let names = and_parts (list_all (λ (s : Node). is_name s.name) m.states) (are_different m.states) is.names in
@@ -242,7 +230,7 @@ taken_line lines i d line old new s h at p e so_far =
     let name = ap (λ (x : ℕ). record { name = x; held = s.held }) p.0 in
     let same : ◌≡◌ {A = StateLine} (record { name = s.name; held = s.held }) line = name ∙ ap (λ (x : Bool). record { name = line.name; held = x }) p.1 in
     ap (λ (x : List State). state_lines (map node_of x)) e
-    ∙ ap state_lines (map_more node_of old s)
+    ∙ ap state_lines (map_push node_of old s)
     ∙ one_more_line (map node_of old) (node_of s)
     ∙ ap (λ (ns : List StateLine). ns ++ (record { name = s.name; held = s.held } ∷ [])) so_far
     ∙ ap (λ (n : StateLine). take i lines ++ (n ∷ [])) (same ∙ at)
@@ -253,7 +241,7 @@ pub taken_moves : (old new : List State) (s : State) (before after : List Turn) 
     all_moves (map node_of new) ++ map move_of after ≡ all
 taken_moves old new s before after all m e so_far =
     ap (λ (x : List State). all_moves (map node_of x) ++ map move_of after) e
-    ∙ ap (λ (x : List Node). all_moves x ++ map move_of after) (map_more node_of old s)
+    ∙ ap (λ (x : List Node). all_moves x ++ map move_of after) (map_push node_of old s)
     ∙ ap (λ (x : List Move). x ++ map move_of after) (three_more_moves (map node_of old) (node_of s))
     ∙ append_assoc (all_moves (map node_of old)) (all_moves (node_of s ∷ [])) (map move_of after)
     ∙ ap (λ (x : List Move). all_moves (map node_of old) ++ x) (sym m)

@@ -3,12 +3,12 @@ use Rattle.std.proofs.Common.{◌≡◌, ℕ, zero, suc, ◌<◌, ◌≤◌, ◌
 use Rattle.std.specs.Prelude.{◌==◌}
 use Rattle.std.specs.Option.{option_map}
 use Rattle.std.specs.List.{list_all}
-use Rattle.std.proofs.lemmas.Bool.{not-true}
-use Rattle.std.proofs.lemmas.Bool.Decides.{nat_tests}
+use Rattle.std.proofs.lemmas.Bool.{not-true, and_parts, ltb-true, le-ltb, lt-ltb, eq-eqb}
 use Rattle.std.proofs.lemmas.List.Folds.{list_any_at}
 use Rattle.std.proofs.lemmas.List.Sums.{position_or_len_is}
+use Rattle.std.proofs.lemmas.List.{length_push}
 use Rattle.ts_base.specs.declared.ext.Ext.{Ext}
-use Rattle.ts_base.proofs.WordLaws.{and_parts, AreSolid}
+use Rattle.ts_base.proofs.WordLaws.{AreSolid}
 use Rattle.ts_automaton.specs.declared.draft.Way.{Way}
 use Rattle.ts_automaton.specs.declared.draft.StateLine.{StateLine}
 use Rattle.ts_automaton.specs.Registers.{EachOf}
@@ -18,10 +18,9 @@ use Rattle.ts_automaton.specs.AutomatonText.{Sheet, no_state, name_at, state_wor
 use Rattle.ts_automaton.specs.Grammar.{is_named, is_new, are_new, is_move, IsFront, IsSheet, Part, AtHead, AtStates, AtMoves, AtEnd, Whole, front_words, open_words, part_words, IsPart}
 use Rattle.ts_automaton.specs.Lines.{place_by, read_move, read_finish}
 use Rattle.ts_automaton.specs.Reading.{with_state, with_start, with_move, with_finish, with_words}
-use Rattle.ts_automaton.proofs.LineLaws.{W, lt, way_again, state_again, start_again}
+use Rattle.ts_automaton.proofs.LineLaws.{W, way_again, state_again, start_again}
 use Rattle.ts_automaton.proofs.MoveLaws.{move_again, finish_again}
 use Rattle.ts_automaton.proofs.SolidLaws.{way_solid, state_solid, start_solid, move_solid, finish_solid, end_solid}
-use Rattle.ts_automaton.proofs.GrowLaws.{less, not_lt, length_more}
 
 -- lines that are read one after the other
 abbrev pub Follows : Part → List W → Part → Type 0
@@ -68,14 +67,11 @@ differs states j k h below within = go (name_at states j == name_at states k) re
       (ap (λ (n : StateLine). n.name == name_at states k) (taken_at states j k below) ∙ e) in
       sym found ∙ none
 
-equal_self : (n : ℕ) → n == n ≡ true
-equal_self n = grind (arith, nat_tests)
-
 place_again : (states : List StateLine) (k : ℕ) → are_new [] states ≡ true → k < length states → place_by states (Some (name_at states k)) ≡ Some k
 place_again states k h within =
     let at = position_or_len_is (λ (n : StateLine). n.name == name_at states k) states k no_state (omega (arith, within))
-    (λ j below. differs states j k h below within) (λ here. equal_self (name_at states k)) in
-    ap (λ (n : ℕ). cond (nat_lt n (length states)) (Some n) None) at ∙ ap (λ t. cond t (Some k) None) (lt k (length states) within)
+    (λ j below. differs states j k h below within) (λ here. eq-eqb (name_at states k) (name_at states k) refl) in
+    ap (λ (n : ℕ). cond (nat_lt n (length states)) (Some n) None) at ∙ ap (λ t. cond t (Some k) None) (lt-ltb k (length states) within)
 
 -- the lines of what was read follow one another
 states_follow : (way : Way) (more before : List StateLine) → are_new before more ≡ true → length before + length more ≤ 8 →
@@ -83,10 +79,10 @@ states_follow : (way : Way) (more before : List StateLine) → are_new before mo
 states_follow way [] before h few = ap (AtStates way) (sym (append-nil before))
 states_follow way (n ∷ more) before h few =
     let each = and_parts (is_new before n.name) (are_new (before ++ n ∷ []) more) h in
-    let size = length_more before n in (
+    let size = length_push before n in (
       AtStates way (before ++ n ∷ []),
       ap (with_state way before) (state_again before n each.0)
-          ∙ ap (λ t. cond t (Some (AtStates way (before ++ n ∷ []))) None) (lt (length before) 8 (omega (arith, few))),
+          ∙ ap (λ t. cond t (Some (AtStates way (before ++ n ∷ []))) None) (lt-ltb (length before) 8 (omega (arith, few))),
       state_solid n (and_parts (is_name n.name) (not (is_named before n.name)) each.0).0,
       subst (λ (y : List StateLine). Follows (AtStates way (before ++ n ∷ [])) (map state_words more) (AtStates way y)) (append_assoc before (n ∷ []) more)
           (states_follow way more (before ++ n ∷ []) each.1 (omega (arith, few, size))),
@@ -101,13 +97,13 @@ moves_follow : (way : Way) (states : List StateLine) (start : EachOf Ext) (more 
 moves_follow way states start [] before names h few = ap (AtMoves way states start) (sym (append-nil before))
 moves_follow way states start (t ∷ more) before names h few =
     let each = and_parts (is_move states t) (list_all (is_move states) more) h in
-    let target = less t.next (length states) (and_parts (nat_lt t.next (length states)) (each_is is_short t.to) each.0).0 in
+    let target = ltb-true t.next (length states) (and_parts (nat_lt t.next (length states)) (each_is is_short t.to) each.0).0 in
     let room : length before < 3 * length states = omega (arith, few) in
-    let size = length_more before t in
+    let size = length_push before t in
     let rest = moves_follow way states start more (before ++ t ∷ []) names each.1 (omega (arith, few, size)) in (
       AtMoves way states start (before ++ t ∷ []),
       ap (λ b. cond b (with_move way states start before (read_move states (length before) (move_words states (length before) t)))
-          (with_finish way states start before (read_finish (move_words states (length before) t)))) (lt (length before) (3 * length states) room)
+          (with_finish way states start before (read_finish (move_words states (length before) t)))) (lt-ltb (length before) (3 * length states) room)
           ∙ ap (with_move way states start before) (move_again states (length before) t (place_again states t.next names target) each.0),
       move_solid states (length before) t (letter_at states (length before / 3) names (third (length before) (length states) room))
           (letter_at states t.next names target),
@@ -128,7 +124,8 @@ moving_follows way states start moves is count =
     let moving = moves_follow way states start moves [] is.names is.turns (omega (arith, count)) in
     let begun : Follows (AtStates way states) (start_words start ∷ moves_words states 0 moves) (AtMoves way states start moves) = (
       AtMoves way states start [],
-      ap (with_start way states) (start_again start is.constants) ∙ ap (λ t. cond t (Some (AtMoves way states start [])) None) (lt 0 (length states) is.some),
+      ap (with_start way states) (start_again start is.constants)
+          ∙ ap (λ t. cond t (Some (AtMoves way states start [])) None) (lt-ltb 0 (length states) is.some),
       start_solid start is.constants,
       moving,
     ) in
@@ -143,7 +140,7 @@ closing_follows b is =
     let finish : Follows (AtMoves b.way b.states b.start b.moves) (finish_words b.finish b.mark ∷ []) (AtEnd b) = (
       AtEnd b,
       ap (λ t. cond t (with_move b.way b.states b.start b.moves (read_move b.states (length b.moves) (finish_words b.finish b.mark)))
-          (with_finish b.way b.states b.start b.moves (read_finish (finish_words b.finish b.mark)))) (not_lt (length b.moves) (3 * length b.states) full)
+          (with_finish b.way b.states b.start b.moves (read_finish (finish_words b.finish b.mark)))) (le-ltb (length b.moves) (3 * length b.states) full)
           ∙ ap (with_finish b.way b.states b.start b.moves) (finish_again b.finish b.mark is.finish),
       finish_solid b.finish b.mark,
       refl,

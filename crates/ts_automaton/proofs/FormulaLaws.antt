@@ -3,6 +3,7 @@ use Rattle.std.specs.Prelude.{◌↔◌}
 use Rattle.std.proofs.Common.{◌≡◌, ℕ, ◌≤◌, Bool, true, false, cond, Option, Some, None, List, [], ◌∷◌, ◌++◌, length, refl, sym, ap, ◌∙◌, codes, append_assoc, append-nil, arith, nat_le}
 use Rattle.std.proofs.lemmas.Bool.Decides.{nat_tests}
 use Rattle.std.proofs.lemmas.List.{length-append}
+use Rattle.std.proofs.lemmas.Bool.{le-leb}
 use Rattle.ts_base.proofs.WordLaws.{keyword_or}
 use Rattle.ts_automaton.specs.declared.expr.Atom.{Atom}
 use Rattle.ts_automaton.specs.declared.expr.Atom.TheVariants.{C as AtomC, D as AtomD, R as AtomR, This as AtomThis, Next as AtomNext, Zero as AtomZero, Unit as AtomUnit, NegInf as AtomNegInf, PosInf as AtomPosInf}
@@ -135,9 +136,7 @@ words_formula f = ap (λ (x : List (List ℕ)). only_one (stack_of x)) (sym (app
 
 pub formula_again : (f : Formula) (ws : List (List ℕ)) → ws ≡ formula_words f → length ws ≤ 15 → formula_of ws ≡ Some f
 formula_again f ws is few =
-    ap (λ t. cond t (only_one (stack_of ws)) None) (small (length ws) few) ∙ ap (λ (x : List (List ℕ)). only_one (stack_of x)) is ∙ words_formula f where
-      small : (n : ℕ) → n ≤ 15 → nat_le n 15 ≡ true
-      small n h = grind (arith, nat_tests)
+    ap (λ t. cond t (only_one (stack_of ws)) None) (le-leb (length ws) 15 few) ∙ ap (λ (x : List (List ℕ)). only_one (stack_of x)) is ∙ words_formula f
 
 -- an expression has as many words as its count says
 pub words_count : (f : Formula) → length (formula_words f) ≡ words_in f

@@ -3,11 +3,10 @@ use Rattle.std.proofs.Common.{◌≡◌, ℕ, suc, ◌<◌, ◌≤◌, ◌+◌, 
 use Rattle.std.specs.Option.{option_map}
 use Rattle.std.specs.Cmp.Derive.{both_true}
 use Rattle.std.specs.Str.{bytes_eq}
-use Rattle.std.proofs.lemmas.Bool.Decides.{nat_tests}
-use Rattle.std.proofs.lemmas.List.{length-append}
+use Rattle.std.proofs.lemmas.List.{length-append, map_push, length_push}
 use Rattle.std.proofs.lemmas.List.Folds.{list_all-append}
+use Rattle.std.proofs.lemmas.Bool.{and_parts, ltb-true, ltb-false}
 use Rattle.ts_base.specs.declared.ext.Ext.{Ext}
-use Rattle.ts_base.proofs.WordLaws.{and_parts}
 use Rattle.ts_automaton.specs.declared.draft.Way.{Way}
 use Rattle.ts_automaton.specs.declared.state.Mark.{Mark}
 use Rattle.ts_automaton.specs.declared.draft.StateLine.{StateLine}
@@ -21,23 +20,7 @@ use Rattle.ts_automaton.specs.Reading.{with_state, with_start, with_move, with_f
 use Rattle.ts_automaton.proofs.LineLaws.{W, way_only, state_only, start_only, end_only}
 use Rattle.ts_automaton.proofs.MoveLaws.{move_only, finish_only}
 
-pub less : (m n : ℕ) → nat_lt m n ≡ true → m < n
-less m n h = grind (arith, nat_tests)
-
-pub not_less : (m n : ℕ) → nat_lt m n ≡ false → n ≤ m
-not_less m n h = grind (arith, nat_tests)
-
-pub not_lt : (m n : ℕ) → n ≤ m → nat_lt m n ≡ false
-not_lt m n h = grind (arith, nat_tests)
-
 -- one more
-pub map_more : {X Y : Type 0} (f : X → Y) (xs : List X) (x : X) → map f (xs ++ x ∷ []) ≡ map f xs ++ (f x ∷ [])
-map_more f [] x = refl
-map_more f (y ∷ xs) x = ap (λ ys. f y ∷ ys) (map_more f xs x)
-
-pub length_more : {X : Type 0} (xs : List X) (x : X) → length (xs ++ x ∷ []) ≡ length xs + 1
-length_more xs x = length-append xs (x ∷ [])
-
 new_more : (before xs : List StateLine) (n : StateLine) → are_new before xs ≡ true → is_new (before ++ xs) n.name ≡ true → are_new before (xs ++ n ∷ []) ≡ true
 new_more before [] n h k = both_true {t = true} (ap (λ (y : List StateLine). is_new y n.name) (sym (append-nil before)) ∙ k) refl
 new_more before (x ∷ xs) n h k =
@@ -86,10 +69,10 @@ state_grows way states ws (Some n) e is f h = go (nat_lt (length states) 8) refl
   go true k g =
       let same : AtStates way (states ++ n ∷ []) ≡ e = cc in
       let read = state_only states ws n f in
-      let more = length_more states n in
-      let small = less (length states) 8 k in
+      let more = length_push states n in
+      let small = ltb-true (length states) 8 k in
       subst (Grows (AtStates way states) ws) same (
-        ap (λ (y : List W). (way_word way ∷ []) ∷ y) (map_more state_words states n ∙ ap (λ (y : W). map state_words states ++ (y ∷ [])) (sym read.0)),
+        ap (λ (y : List W). (way_word way ∷ []) ∷ y) (map_push state_words states n ∙ ap (λ (y : W). map state_words states ++ (y ∷ [])) (sym read.0)),
         record { few = omega (arith, more, small); names = new_more [] states n is.names read.1 },
       )
 
@@ -104,7 +87,10 @@ start_grows way states ws (Some r) e is f h = go (nat_lt 0 (length states)) refl
       let read = start_only ws r f in
       subst (Grows (AtStates way states) ws) same (
         ap (λ (y : W). (way_word way ∷ []) ∷ (map state_words states ++ (y ∷ []))) (sym read.0),
-        record { front = record { some = less 0 (length states) k; few = is.few; names = is.names; constants = read.1; turns = refl }; count = omega arith },
+        record {
+          front = record { some = ltb-true 0 (length states) k; few = is.few; names = is.names; constants = read.1; turns = refl };
+          count = omega arith;
+        },
       )
 
 naming_grows : (way : Way) (states : List StateLine) (ws : W) (t : Bool) (e : Part) → IsStates states →
@@ -119,7 +105,7 @@ move_grows way states start moves ws None e is room f h = cc
 move_grows way states start moves ws (Some t) e is room f h =
     let same : AtMoves way states start (moves ++ t ∷ []) ≡ e = cc in
     let read = move_only states (length moves) ws t f in
-    let more = length_more moves t in
+    let more = length_push moves t in
     let all = list_all-append (is_move states) moves (t ∷ []) ∙ both_true is.front.turns (both_true {t = true} read.1 refl) in
     let old = is.front in
     subst (Grows (AtMoves way states start moves) ws) same (
@@ -148,9 +134,9 @@ moving_grows : (way : Way) (states : List StateLine) (start : EachOf Ext) (moves
     cond t (with_move way states start moves (read_move states (length moves) ws)) (with_finish way states start moves (read_finish ws)) ≡ Some e →
     Grows (AtMoves way states start moves) ws e
 moving_grows way states start moves ws true e is f h =
-    move_grows way states start moves ws (read_move states (length moves) ws) e is (less (length moves) (3 * length states) f) refl h
+    move_grows way states start moves ws (read_move states (length moves) ws) e is (ltb-true (length moves) (3 * length states) f) refl h
 moving_grows way states start moves ws false e is f h =
-    finish_grows way states start moves ws (read_finish ws) e is (not_less (length moves) (3 * length states) f) refl h
+    finish_grows way states start moves ws (read_finish ws) e is (ltb-false (length moves) (3 * length states) f) refl h
 
 end_grows : (b : Sheet) (ws : W) (t : Bool) (e : Part) → IsSheet b → is_end ws ≡ t → cond t (Some (Whole b)) None ≡ Some e → Grows (AtEnd b) ws e
 end_grows b ws false e is f h = cc
@@ -197,7 +183,7 @@ front_count way states start moves =
 open_few : (b : Sheet) → IsSheet b → length (open_words b) ≤ 35
 open_few b is =
     let front = front_count b.way b.states b.start b.moves in
-    let more = length_more (front_words b.way b.states b.start b.moves) (finish_words b.finish b.mark) in
+    let more = length_push (front_words b.way b.states b.start b.moves) (finish_words b.finish b.mark) in
     let few = is.front.few in
     let count = is.count in
     omega (arith, front, more, few, count)
@@ -213,5 +199,5 @@ few_lines (AtMoves way states start moves) is =
 few_lines (AtEnd b) is = let few = open_few b is in omega (arith, few)
 few_lines (Whole b) is =
     let few = open_few b is in
-    let more = length_more (open_words b) (codes "end" ∷ []) in
+    let more = length_push (open_words b) (codes "end" ∷ []) in
     omega (arith, few, more)

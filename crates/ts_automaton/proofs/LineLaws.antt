@@ -1,15 +1,15 @@
 -- The words of a line are read as what they spell, and what is read from words is spelled by them.
-use Rattle.std.proofs.Common.{◌≡◌, ℕ, ◌<◌, ◌≤◌, Bool, true, false, cond, Option, Some, None, List, [], ◌∷◌, length, drop}
-use Rattle.std.proofs.Common.{refl, sym, ap, subst, ◌∙◌, ◌&&◌, codes, arith, nat_le, nat_lt}
+use Rattle.std.proofs.Common.{◌≡◌, ℕ, ◌≤◌, Bool, true, false, cond, Option, Some, None, List, [], ◌∷◌, length, drop}
+use Rattle.std.proofs.Common.{refl, sym, ap, subst, ◌∙◌, ◌&&◌, codes, arith}
 use Rattle.std.specs.Prelude.{ℤ, pos, ◌==◌, ◌||◌}
 use Rattle.std.specs.Ordering.{int_eq}
 use Rattle.std.specs.Str.{bytes_eq}
 use Rattle.std.proofs.lemmas.Slice.Eq.{bytes_eq-Decides}
-use Rattle.std.proofs.lemmas.Bool.{eqb-true}
-use Rattle.std.proofs.lemmas.Bool.Decides.{nat_tests, Decides-int_eq}
+use Rattle.std.proofs.lemmas.Bool.{eqb-true, and_parts}
+use Rattle.std.proofs.lemmas.Bool.Decides.{Decides-int_eq}
 use Rattle.ts_base.specs.declared.ext.Ext.{Ext}
 use Rattle.ts_base.specs.declared.ext.Ext.TheVariants.{NegInf, Int, PosInf}
-use Rattle.ts_base.proofs.WordLaws.{and_parts, keyword_or}
+use Rattle.ts_base.proofs.WordLaws.{keyword_or}
 use Rattle.ts_automaton.specs.declared.draft.Way.{Way}
 use Rattle.ts_automaton.specs.declared.draft.Way.TheVariants.{Forward, Reverse}
 use Rattle.ts_automaton.specs.declared.draft.StateLine.{StateLine}
@@ -49,12 +49,6 @@ four (a ∷ b ∷ []) h = cc
 four (a ∷ b ∷ c ∷ []) h = cc
 four (a ∷ b ∷ c ∷ d ∷ []) h = refl
 four (a ∷ b ∷ c ∷ d ∷ e ∷ ws) h = let k = eqb-true (length (a ∷ b ∷ c ∷ d ∷ e ∷ ws)) 4 h in absurd (omega (arith, k))
-
-pub le : (m n : ℕ) → nat_le m n ≡ true → m ≤ n
-le m n h = grind (arith, nat_tests)
-
-pub lt : (m n : ℕ) → m < n → nat_lt m n ≡ true
-lt m n h = grind (arith, nat_tests)
 
 pub five : (ws : W) → 5 ≤ length ws → ws ≡ word_at ws 0 ∷ word_at ws 1 ∷ word_at ws 2 ∷ word_at ws 3 ∷ word_at ws 4 ∷ drop 5 ws
 five [] h = absurd (omega arith)

@@ -5,10 +5,10 @@ use Rattle.std.specs.Prelude.{◌==◌}
 use Rattle.std.specs.Cmp.Derive.{both_true}
 use Rattle.std.specs.List.{position, AllByRecursion}
 use Rattle.std.specs.Str.{bytes_eq}
-use Rattle.std.proofs.lemmas.Bool.{eqb-true}
+use Rattle.std.proofs.lemmas.Bool.{eqb-true, and_parts, leb-true, lt-ltb, le-leb}
 use Rattle.std.proofs.lemmas.Bool.Decides.{nat_tests}
 use Rattle.std.proofs.lemmas.List.Quantifiers.{position-Some}
-use Rattle.ts_base.proofs.WordLaws.{and_parts, keyword_or}
+use Rattle.ts_base.proofs.WordLaws.{keyword_or}
 use Rattle.ts_automaton.specs.declared.draft.StateLine.{StateLine}
 use Rattle.ts_automaton.specs.declared.state.Mark.{Mark}
 use Rattle.ts_automaton.specs.declared.state.Mark.TheVariants.{Same, Zero as ZeroMark, Cells}
@@ -25,7 +25,7 @@ use Rattle.ts_automaton.specs.AutomatonText.{no_state, name_at, mark_word, sign_
 use Rattle.ts_automaton.specs.Grammar.{is_move}
 use Rattle.ts_automaton.specs.Lines.{word_at, letter_of, all_three, is_semi, onto_cut, cut_of, place_by, place_of, move_made, last_two, three_of, is_move_head, read_move, mark_of, finish_made, finish_of, read_finish}
 use Rattle.ts_automaton.proofs.FormulaLaws.{formula_only, formula_again, words_count}
-use Rattle.ts_automaton.proofs.LineLaws.{W, letter_only, equal, same, le, lt, five, pass, go_on, three_parts, three_true}
+use Rattle.ts_automaton.proofs.LineLaws.{W, letter_only, equal, same, five, pass, go_on, three_parts, three_true}
 
 -- words cut at the first `;`
 cut_step : (w : List ℕ) (ws : W) (t : Bool) (o : Option (W × W)) (p : W × W) → is_semi w ≡ t → ((q : W × W) → o ≡ Some q → ws ≡ q.0 ++ (semi ∷ q.1)) →
@@ -91,17 +91,14 @@ place_only states w (Some b) k e h =
     (p.0, letter_only w b e ∙ ap (λ (x : ℕ). x ∷ []) (sym p.1))
 
 -- the three expressions of a move
-small : (n : ℕ) → n ≤ 15 → nat_le n 15 ≡ true
-small n h = grind (arith, nat_tests)
-
 short : (ws : W) (f : Formula) → formula_of ws ≡ Some f → (ws ≡ formula_words f) × (is_short f ≡ true)
 short ws f h =
     let read = formula_only ws f h in
     let count = ap length read.0 ∙ words_count f in
-    (read.0, small (words_in f) (omega (arith, count, read)))
+    (read.0, le-leb (words_in f) 15 (omega (arith, count, read)))
 
 short_again : (f : Formula) → is_short f ≡ true → formula_of (formula_words f) ≡ Some f
-short_again f h = let count = words_count f in let most = le (words_in f) 15 h in formula_again f (formula_words f) refl (omega (arith, count, most))
+short_again f h = let count = words_count f in let most = leb-true (words_in f) 15 h in formula_again f (formula_words f) refl (omega (arith, count, most))
 
 abbrev AreThree : W → EachOf Formula → Type 0
 AreThree rest to = (rest ≡ three_words to) × (each_is is_short to ≡ true)
@@ -142,7 +139,7 @@ turn_only states w rest (Some n) (Some to) t e f h =
     let is : record { next = n; to = to } ≡ t = cc in
     let target = place_only states w (letter_of w) n refl e in
     let read = three_only rest (cut_of rest) to refl f in
-    let here : IsTurn states w rest (record { next = n; to = to }) = (target.1, read.0, both_true (lt n (length states) target.0) read.1) in
+    let here : IsTurn states w rest (record { next = n; to = to }) = (target.1, read.0, both_true (lt-ltb n (length states) target.0) read.1) in
     subst (IsTurn states w rest) is here
 
 pub move_only : (states : List StateLine) (k : ℕ) (ws : W) (t : Move) → read_move states k ws ≡ Some t →
@@ -162,7 +159,7 @@ move_only states k ws t h =
     let third = equal (word_at ws 2) (sign_word (k % 3)) c.0 in
     let fifth = equal (word_at ws 4) (codes ";") c.1 in (
       all_words (word_at ws 0) (word_at ws 1) (word_at ws 2) (word_at ws 3) (word_at ws 4) (drop 5 ws)
-          (five ws (le 5 (length ws) p.0)) first second third s.0 fifth s.1,
+          (five ws (leb-true 5 (length ws) p.0)) first second third s.0 fifth s.1,
       s.2,
     )
   where
@@ -234,7 +231,7 @@ pub finish_only : (ws : W) (x : Formula × Mark) → read_finish ws ≡ Some x �
 finish_only ws x h =
     let p = pass (nat_le 2 (length ws)) (cond (bytes_eq (word_at ws 0) (codes "finish")) (finish_of (drop 1 ws)) None) x h in
     let q = pass (bytes_eq (word_at ws 0) (codes "finish")) (finish_of (drop 1 ws)) x p.1 in
-    let cut = head_tail ws (le 2 (length ws) p.0) in
+    let cut = head_tail ws (leb-true 2 (length ws) p.0) in
     let rest = drop 1 ws in
     let n = length (drop 1 ws) - 1 in
     let s = finish_parts (take n rest) (word_at rest n) (formula_of (take n rest)) (mark_of (word_at rest n)) x refl refl q.1 in

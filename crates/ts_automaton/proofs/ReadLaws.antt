@@ -2,14 +2,14 @@
 use Rattle.std.proofs.Common.{◌≡◌, ◌≢◌, inl, inr, ℕ, ◌+◌, Option, Some, None, Ok, Err, List, [], ◌∷◌, ◌++◌, length, map, refl, sym, ap, subst, ◌∙◌, append_assoc, append-nil, arith}
 use Rattle.std.specs.Prelude.{Result}
 use Rattle.std.specs.List.{concat}
-use Rattle.std.proofs.lemmas.List.{length-map}
+use Rattle.std.proofs.lemmas.List.{length-map, map_push, length_push}
 use Rattle.ts_base.specs.Words.{Words, strict_lines, without_lf, words_of, all_words, behind}
 use Rattle.ts_base.proofs.WordLaws.{AreSolid, words_again, text_is, text_again, words_no_lf, line_first, lines_are}
 use Rattle.ts_automaton.specs.AutomatonText.{Sheet, words_text, lines_text, block_lines}
 use Rattle.ts_automaton.specs.Grammar.{IsSheet, Part, AtHead, AtStates, AtMoves, AtEnd, Whole, part_words, IsPart, IsFirstBad, IsOpen, IsAgainstGrammar}
 use Rattle.ts_automaton.specs.Reading.{with_words, with_text, with_line, onward, with_lines, end_sheet, sheet_reading}
 use Rattle.ts_automaton.proofs.LineLaws.{W}
-use Rattle.ts_automaton.proofs.GrowLaws.{map_more, length_more, grows, no_words}
+use Rattle.ts_automaton.proofs.GrowLaws.{grows, no_words}
 use Rattle.ts_automaton.proofs.FollowLaws.{Follows, follow, whole_follows}
 
 -- the text of a line has its words
@@ -48,7 +48,7 @@ pub line_grows : (d e : Part) (text : List ℕ) → IsPart d → with_line d tex
 line_grows d e text is h =
     let line = line_words d e text (without_lf text) refl h in
     let more = grows d line.0 e is line.2 in
-    (more.1, ap length more.0 ∙ length_more (part_words d) line.0)
+    (more.1, ap length more.0 ∙ length_push (part_words d) line.0)
 
 -- lines that are read are those of what was read
 record AreRead (d : Part) (texts : List (List ℕ)) (e : Part) : Type 0 where
@@ -136,7 +136,7 @@ against_all d text is none e ws is_e words same =
     let front = text_read d is in
     let cut = lines_append AtHead d 1 (map words_text (part_words d)) (words_text ws ∷ []) front in
     let parts : map words_text (part_words e) ≡ map words_text (part_words d) ++ (words_text ws ∷ []) = ap (map words_text) words
-    ∙ map_more words_text (part_words d) ws in
+    ∙ map_push words_text (part_words d) ws in
     let stop : with_lines d cut.0 (words_text ws ∷ []) ≡ Err cut.0 = ap (λ o. onward cut.0 o (λ f. Ok f)) (ap (with_line d) (sym same) ∙ none) in
     let wrong : Ok e ≡ Err cut.0 = sym whole ∙ ap (with_lines AtHead 1) parts ∙ cut.1 ∙ stop in
     cc

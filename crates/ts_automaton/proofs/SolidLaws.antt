@@ -4,8 +4,9 @@ use Rattle.std.proofs.Common.{refl, codes, arith, nat_le}
 use Rattle.std.specs.Prelude.{◌==◌, not}
 use Rattle.std.specs.Cmp.Derive.{both_true}
 use Rattle.std.proofs.lemmas.Bool.Decides.{nat_tests}
+use Rattle.std.proofs.lemmas.Bool.{and_parts, leb-true}
 use Rattle.ts_base.specs.declared.ext.Ext.{Ext}
-use Rattle.ts_base.proofs.WordLaws.{and_parts, is_inner, is_solid, AreSolid}
+use Rattle.ts_base.proofs.WordLaws.{is_inner, is_solid, AreSolid}
 use Rattle.ts_automaton.specs.declared.draft.Way.{Way}
 use Rattle.ts_automaton.specs.declared.draft.Way.TheVariants.{Forward, Reverse}
 use Rattle.ts_automaton.specs.declared.draft.StateLine.{StateLine}
@@ -22,13 +23,13 @@ use Rattle.ts_automaton.specs.Typing.{each_is, is_name, is_constant}
 use Rattle.ts_automaton.specs.FormulaText.{atom_word, op_word, formula_words}
 use Rattle.ts_automaton.specs.AutomatonText.{name_at, way_word, held_word, mark_word, sign_word, semi, state_words, constant_word, start_words, three_words, move_words, finish_words}
 use Rattle.ts_base.specs.Words.{is_space, is_lf}
-use Rattle.ts_automaton.proofs.LineLaws.{W, le, three_parts, constants_four}
+use Rattle.ts_automaton.proofs.LineLaws.{W, three_parts, constants_four}
 
 letter_inner : (b : ℕ) → is_name b ≡ true → is_inner b ≡ true
 unfolding is_space is_lf
 letter_inner b h =
     let e = and_parts (nat_le 97 b) (nat_le b 122) h in
-    both_true (other b (le 97 b e.0)) (far b (le 97 b e.0))
+    both_true (other b (leb-true 97 b e.0)) (far b (leb-true 97 b e.0))
   where
     other : (b : ℕ) → 97 ≤ b → not (b == 32) ≡ true
     other b h = grind (arith, nat_tests)

@@ -1,7 +1,7 @@
 -- In an automaton each operator meets operands that it takes, and a move gives the registers the kinds of the state that it reaches.
 use Rattle.std.proofs.Common.{◌≡◌, ◌<◌, ℕ, Bool, true, false, not, cond, ℤ, length, inl, inr, refl, sym, ◌∙◌, subst, arith}
 use Rattle.std.specs.Prelude.{IsTrue, is_some, pos, Option, None, Some}
-use Rattle.std.proofs.lemmas.Bool.{and_parts, not-false}
+use Rattle.std.proofs.lemmas.Bool.{and_parts, not-false, both_ways}
 use Rattle.ts_base.specs.declared.ext.Ext.{Ext}
 use Rattle.ts_base.specs.declared.span.Span.{Span}
 use Rattle.ts_base.specs.declared.letter.Letter.{Letter}
@@ -71,10 +71,7 @@ stands_after b a s h l u e x y r i = record {
 
 -- where the hull isn't none, its spans have their kinds
 pub spans_have : (k : EachOf RegKind) (h : EachOf Span) → HullHasKinds k h → has_registers h ≡ true → Each SpanHasKind k h
-spans_have k h (inl e) t = absurd (not_both (has_registers h) e t)
-  where
-    not_both : (v : Bool) → v ≡ false → v ≡ true → ⊥
-    not_both v p q = cc
+spans_have k h (inl e) t = absurd (both_ways (has_registers h) e t)
 spans_have k h (inr g) t = g
 
 pub hull_takes : (b : Body) → IsTrue (is_automaton b) → (s : Standing Span) → HullStands b s → (l : Letter) (u : Move) →

@@ -1,5 +1,6 @@
 -- Spans hold the results of what they hold. For crates above: all that is `pub` here.
 use Rattle.std.proofs.Common.{◌≡◌, ◌∙◌, ◌&&◌, ◌↔◌, Bool, true, false, cond, IsTrue, ℤ, ◌+ℤ◌, int_le, refl, ap, arith}
+use Rattle.std.proofs.lemmas.Bool.{both_ways}
 use Rattle.std.proofs.lemmas.Int.{ints}
 use Rattle.ts_base.specs.declared.ext.Ext.{Ext}
 use Rattle.ts_base.specs.declared.ext.Ext.TheVariants.{NegInf, Int, PosInf}
@@ -52,12 +53,8 @@ holds_one e = (le_refl e, le_refl e)
 
 -- none where no number is held, and nowhere else
 pub none_held : (s : Span) → (has_some s ≡ false) ↔ ((e : Ext) → Holds s e → ⊥)
-none_held s = (λ none e h. clash (has_some s) none (holds_some s e h), back (has_some s) refl)
+none_held s = (λ none e h. both_ways (has_some s) none (holds_some s e h), back (has_some s) refl)
   where
-    clash : (v : Bool) → v ≡ false → v ≡ true → ⊥
-    clash true none some = grind arith
-    clash false none some = grind arith
-
     back : (v : Bool) → has_some s ≡ v → ((e : Ext) → Holds s e → ⊥) → v ≡ false
     back true some none = elim (none s.lo (le_refl s.lo, some)) [ ]
     back false some none = refl

@@ -1,11 +1,10 @@
 -- A text cut behind its first LF, and a line cut before its LF and at its first space.
-use Rattle.std.proofs.Common.{◌≡◌, ℕ, suc, zero, ◌+◌, ◌-◌, ◌<◌, ◌≤◌, Bool, true, false, not, cond, Some, None, List, [], ◌∷◌, length, take, drop, get_or, refl, sym, ap, ◌∙◌, arith, nat_lt, eq-eqb, ne_eqb}
-use Rattle.std.specs.Option.{option_map}
+use Rattle.std.proofs.Common.{◌≡◌, ℕ, suc, ◌+◌, ◌-◌, ◌<◌, ◌≤◌, Bool, true, false, not, cond, Some, None, List, [], ◌∷◌, length, take, drop, refl, sym, ap, ◌∙◌, arith, nat_lt}
 use Rattle.std.specs.List.{position, position_or_len}
 use Rattle.std.proofs.lemmas.Bool.{ltb-false}
 use Rattle.std.proofs.lemmas.Option.{cond_some}
 use Rattle.std.proofs.lemmas.List.{take_all, drop_all, take_rest}
-use Rattle.ts_base.specs.Words.{is_lf, is_space, onto_line, strict_lines, without_lf, Words, after_space, onto_word, words_of, all_words}
+use Rattle.ts_base.specs.Words.{is_lf, is_space, onto_line, strict_lines, Words, after_space, onto_word, words_of, all_words}
 
 one_plus : (n : ℕ) → 1 + n ≡ suc n
 one_plus n = omega arith

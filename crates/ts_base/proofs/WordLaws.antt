@@ -7,14 +7,10 @@ use Rattle.std.specs.Option.{option_map}
 use Rattle.std.specs.List.{list_all, AllByRecursion, concat}
 use Rattle.std.specs.Str.{bytes_eq}
 use Rattle.std.proofs.lemmas.Bool.{eqb-true, not-true}
+pub use Rattle.std.proofs.lemmas.Bool.{and_parts}
 use Rattle.std.proofs.lemmas.List.Folds.{list_all-append}
 use Rattle.std.proofs.lemmas.Slice.Eq.{bytes_eq-Decides}
 use Rattle.ts_base.specs.Words.{is_lf, is_space, onto_line, strict_lines, without_lf, Words, after_space, onto_word, words_of, all_words, behind, plain_line, full_line}
-
--- two tests that both hold
-pub and_parts : (a b : Bool) → (a && b) ≡ true → (a ≡ true) × (b ≡ true)
-and_parts true b h = (refl, h)
-and_parts false b h = cc
 
 -- a word that is a keyword, or another
 pub keyword_or : {X : Type 0} (P : Type 0) (word text : List ℕ) (here there : Option X) (x : X) → (word ≡ text → here ≡ Some x → P) → (there ≡ Some x → P) →

@@ -2,7 +2,7 @@
 use Rattle.std.proofs.Common.{◌≡◌, ◌≢◌, ℕ, suc, ◌<◌, ◌+◌, ◌-◌, Bool, true, false, not, cond, List, [], ◌∷◌, ◌++◌, length, map, refl, sym, ap, subst, ◌∙◌, ◌&&◌, arith}
 use Rattle.std.specs.Prelude.{ℤ, ◌==◌}
 use Rattle.std.specs.List.{list_all}
-use Rattle.std.proofs.lemmas.Bool.{eqb-true}
+use Rattle.std.proofs.lemmas.Bool.{eqb-true, and_parts, eq-eqb}
 use Rattle.std.proofs.lemmas.Bool.Decides.{nat_tests}
 use Rattle.ts_certificate.specs.declared.certificate.Aim.{Aim}
 use Rattle.ts_certificate.specs.declared.certificate.Claim.{Claim}
@@ -14,7 +14,6 @@ use Rattle.ts_certificate.specs.HeadLines.{is_aim, is_claim, is_series}
 use Rattle.ts_certificate.specs.Grammar.{CertLine, SaysAim, SaysClaim, SaysSeries, SaysTree, SaysEnd, series_left, series_count, is_open, is_end, after_series, after_tree, next_state, state_after, may_follow}
 use Rattle.ts_certificate.specs.FirstStop.{MayFollow}
 use Rattle.ts_certificate.specs.Certificate.{Cert, checked_count, open_count, end_line, cert_lines, IsCertificate}
-use Rattle.ts_base.proofs.WordLaws.{and_parts}
 use Rattle.std.specs.Cmp.Derive.{both_true}
 
 -- each line may follow those before, and they lead from one state to another
@@ -78,16 +77,13 @@ counts_all (l ∷ ls) = go (is_open l) (counts_all ls) where
   go true e = omega (arith, e)
   go false e = omega (arith, e)
 
-equal : (n : ℕ) → n == n ≡ true
-equal n = grind (arith, nat_tests)
-
 nonzero : (n : ℕ) → 0 < n → not (n == 0) ≡ true
 nonzero n h = ap not (no n h) where
   no : (n : ℕ) → 0 < n → n == 0 ≡ false
   no n h = grind (arith, nat_tests)
 
 end_may : (c u : ℕ) → 0 < c + u → is_end c u c u ≡ true
-end_may c u h = both_true (nonzero (c + u) h) (both_true (equal c) (equal u))
+end_may c u h = both_true (nonzero (c + u) h) (both_true (eq-eqb c c refl) (eq-eqb u u refl))
 
 some_length : (ls : List TreeLine) → ls ≢ [] → 0 < length ls
 some_length [] h = absurd (h refl)

@@ -19,8 +19,9 @@ use Rattle.ts_certificate.specs.Ranges.{count_text, is_value, is_ext, value_of, 
 use Rattle.ts_certificate.specs.HeadLines.{aim_words, is_aim, list_from, aim_of, claim_words, is_best_claim, is_list_claim, is_claim, best_from, budget_from, best_claim_of, count_from, list_claim_of, claim_of, series_words, is_series, onto_values, values_of, some_values, series_of}
 use Rattle.ts_certificate.specs.Grammar.{end_words}
 use Rattle.ts_certificate.specs.LineOf.{end_made, end_from, end_of}
-use Rattle.ts_base.proofs.WordLaws.{and_parts, is_solid, AreSolid, different, keyword_or}
+use Rattle.ts_base.proofs.WordLaws.{is_solid, AreSolid, different, keyword_or}
 use Rattle.std.specs.Cmp.Derive.{both_true}
+use Rattle.std.proofs.lemmas.Bool.{and_parts}
 use Rattle.ts_certificate.proofs.NumberLaws.{count_only, count_again, count_solid, whole_only, whole_again, decimal_solid, value_only, value_again, value_solid, ext_only, ext_again, ext_solid}
 use Rattle.ts_certificate.proofs.TreeLaws.{alone_only, at_word, made_of, one_only, two_only}
 

@@ -3,7 +3,7 @@ use Rattle.std.proofs.Common.{◌≡◌, ℕ, ◌^◌, ◌<◌, ◌+◌, Bool, t
 use Rattle.std.specs.Prelude.{◌==◌}
 use Rattle.std.specs.Str.{bytes_eq}
 use Rattle.std.proofs.lemmas.Slice.Eq.{bytes_eq-Decides}
-use Rattle.std.proofs.lemmas.Bool.{eqb-true, not-true}
+use Rattle.std.proofs.lemmas.Bool.{eqb-true, not-true, and_parts}
 use Rattle.ts_certificate.specs.declared.certificate.TreeLine.{TreeLine}
 use Rattle.ts_certificate.specs.declared.certificate.TreeLine.TheVariants.{Split, Remove, No, Worse, Yes, Unsearched}
 use Rattle.ts_certificate.specs.declared.stop.LineStop.TheVariants.{Grammar, Counts}
@@ -15,7 +15,7 @@ use Rattle.ts_certificate.specs.HeadLines.{aim_of, claim_of, series_of}
 use Rattle.ts_certificate.specs.Grammar.{CertLine, SaysAim, SaysClaim, SaysSeries, SaysTree, SaysEnd, line_words, line_text, is_end, may_follow}
 use Rattle.ts_certificate.specs.LineOf.{as_line, end_of, end_or_stop, line_of_words, line_if, line_of}
 use Rattle.ts_certificate.specs.Reading.{tree_lines}
-use Rattle.ts_base.proofs.WordLaws.{and_parts, AreSolid, words_again, text_is, text_again}
+use Rattle.ts_base.proofs.WordLaws.{AreSolid, words_again, text_is, text_again}
 use Rattle.ts_certificate.proofs.TreeLaws.{tree_only, tree_again, tree_solid}
 use Rattle.ts_certificate.proofs.HeadLaws.{aim_only, aim_again, aim_solid, claim_only, claim_again, claim_solid, series_only, series_again, series_solid, end_only, end_again, end_solid}
 

@@ -5,7 +5,7 @@ use Rattle.std.specs.Option.{option_map}
 use Rattle.std.specs.Int.Signed.{mag}
 use Rattle.std.specs.Fmt.{signed_decimal}
 use Rattle.std.specs.Str.{bytes_eq}
-use Rattle.std.proofs.lemmas.Bool.{eqb-true}
+use Rattle.std.proofs.lemmas.Bool.{eqb-true, and_parts}
 use Rattle.std.proofs.lemmas.Bool.Decides.{nat_tests}
 use Rattle.ts_base.specs.declared.ext.Ext.{Ext}
 use Rattle.ts_base.specs.declared.ext.Ext.TheVariants.{NegInf, Int, PosInf}
@@ -14,7 +14,7 @@ use Rattle.ts_token.specs.Number.{is_digit, digits_from, unsigned_number, at_mos
 use Rattle.ts_base.specs.Words.{is_lf, is_space}
 use Rattle.ts_token.proofs.NumberTexts.{number_written, written_number}
 use Rattle.ts_certificate.specs.Ranges.{count_text, is_value, only_value, value_of, only_whole, whole_of, is_count, only_count, count_of, is_ext}
-use Rattle.ts_base.proofs.WordLaws.{and_parts, is_inner, is_solid, keyword_or, different}
+use Rattle.ts_base.proofs.WordLaws.{is_inner, is_solid, keyword_or, different}
 use Rattle.std.specs.Cmp.Derive.{both_true}
 
 -- a digit ends neither a word nor a line, nor does a minus

@@ -3,11 +3,11 @@ use Rattle.std.proofs.Common.{◌≡◌, ◌≢◌, ℕ, ◌^◌, ◌<◌, ◌+�
 use Rattle.std.specs.Prelude.{Result, ◌==◌}
 use Rattle.std.specs.Cmp.Derive.{both_true}
 use Rattle.std.specs.Str.{bytes_eq}
-use Rattle.std.proofs.lemmas.Bool.{not-true, not_from_false}
+use Rattle.std.proofs.lemmas.Bool.{not-true, not_from_false, and_parts}
 use Rattle.std.proofs.lemmas.Bool.Decides.{nat_tests}
 use Rattle.std.proofs.lemmas.Slice.Eq.{bytes_eq-Decides}
 use Rattle.ts_base.specs.Words.{Words, without_lf, words_of, full_line}
-use Rattle.ts_base.proofs.WordLaws.{and_parts, words_again, text_is, text_again}
+use Rattle.ts_base.proofs.WordLaws.{words_again, text_is, text_again}
 use Rattle.ts_certificate.specs.declared.state.State.{State}
 use Rattle.ts_certificate.specs.declared.state.State.TheVariants.{Start, AfterAim, InSeries, InTree, AfterEnd}
 use Rattle.ts_certificate.specs.declared.stop.LineStop.{LineStop}

@@ -9,8 +9,9 @@ use Rattle.ts_base.specs.Words.{is_lf, is_space, Words, all_words}
 use Rattle.ts_certificate.specs.WordCounts.{one_of, two_of, three_of, if_alone}
 use Rattle.ts_certificate.specs.Ranges.{count_text, is_value, value_of, is_cell, cell_of, is_requirement, requirement_of}
 use Rattle.ts_certificate.specs.TreeLines.{tree_words, is_tree_line, split_made, remove_made, no_made, worse_made, split_from, remove_from, no_from, worse_from, split_of, remove_of, no_of, worse_of, tree_of}
-use Rattle.ts_base.proofs.WordLaws.{and_parts, is_solid, AreSolid, keyword_or}
+use Rattle.ts_base.proofs.WordLaws.{is_solid, AreSolid, keyword_or}
 use Rattle.std.specs.Cmp.Derive.{both_true}
+use Rattle.std.proofs.lemmas.Bool.{and_parts}
 use Rattle.ts_certificate.proofs.NumberLaws.{count_only, count_again, count_solid, value_only, value_again, value_solid}
 
 -- at this first word

@@ -2,6 +2,7 @@
 use Rattle.std.specs.Prelude.{◌≡◌, ℕ, zero, suc, ◌+◌, ◌-◌, ◌<◌, ◌≤◌, List, [], ◌∷◌, ◌++◌, length, take, drop, get_or, slice_range, fold, refl}
 use Rattle.std.specs.List.{AllByRecursion}
 use Rattle.std.proofs.Common.{sym, ◌∙◌, ap, arith, length-drop, append-nil, append_assoc, take-suc, get_or-drop}
+use Rattle.std.proofs.lemmas.List.Sums.{fold-append}
 
 -- the laws of phi with its neutral value, on good values
 pub record FoldLaws {V : Type 0} (phi : V → V → V) (neutral : V) (good : V → Type 0) : Type 0 where
@@ -21,10 +22,6 @@ fold_shift f a b [] g k h = refl
 fold_shift {phi = phi} f a b (y ∷ ys) g k h =
     fold_shift f a (phi b y) ys g (f.closed b y k h.0) h.1 ∙ ap (λ z. fold phi z ys) (sym (f.assoc a b y g k h.0))
 
-pub fold_append : {A B : Type 0} (f : B → A → B) (a : B) (xs ys : List A) → fold f a (xs ++ ys) ≡ fold f (fold f a xs) ys
-fold_append f a [] ys = refl
-fold_append f a (x ∷ xs) ys = fold_append f (f a x) xs ys
-
 pub fold_join : {V : Type 0} (phi : V → V → V) (neutral : V) (good : V → Type 0) → FoldLaws phi neutral good →
     (xs ys : List V) → AllByRecursion good xs → AllByRecursion good ys →
     phi (fold phi neutral xs) (fold phi neutral ys) ≡ fold phi neutral (xs ++ ys)
@@ -32,7 +29,7 @@ fold_join phi neutral good f xs ys g h =
     let a = fold_good f neutral xs f.neutral_good g in
     fold_shift f (fold phi neutral xs) neutral ys a f.neutral_good h
     ∙ ap (λ z. fold phi z ys) (f.right (fold phi neutral xs) a)
-    ∙ sym (fold_append phi neutral xs ys)
+    ∙ sym (fold-append phi neutral xs ys)
 
 -- the items first to last, counted from 1
 abbrev pub items_of : {V : Type 0} → List V → ℕ → ℕ → List V
@@ -71,7 +68,7 @@ two_parts xs z f e (suc j) p q r =
 pub fold_more : {V : Type 0} (phi : V → V → V) (neutral : V) (xs : List V) (z : V) (f e : ℕ) → 1 ≤ f → f ≤ e + 1 → e < length xs →
     phi (fold phi neutral (items_of xs f e)) (get_or xs e z) ≡ fold phi neutral (items_of xs f (e + 1))
 fold_more phi neutral xs z f e p q r =
-    sym (fold_append phi neutral (items_of xs f e) (get_or xs e z ∷ [])) ∙ ap (λ y. fold phi neutral y) (sym (one_more xs z f e p q r))
+    sym (fold-append phi neutral (items_of xs f e) (get_or xs e z ∷ [])) ∙ ap (λ y. fold phi neutral y) (sym (one_more xs z f e p q r))
 
 all_take : {A : Type 0} (p : A → Type 0) (n : ℕ) (xs : List A) → AllByRecursion p xs → AllByRecursion p (take n xs)
 all_take p zero [] h = tt

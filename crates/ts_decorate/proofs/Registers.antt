@@ -5,6 +5,7 @@ use Rattle.std.specs.List.{AllByRecursion}
 use Rattle.std.specs.Option.{option_to_list}
 use Rattle.std.proofs.Common.{sym, ◌∙◌, ap, subst, arith, append-nil}
 use Rattle.std.proofs.lemmas.List.{map-append}
+use Rattle.std.proofs.lemmas.List.Sums.{fold-append}
 use Rattle.ts_base.specs.declared.range.Range.{Range}
 use Rattle.ts_base.specs.declared.range.Kind.{Kind}
 use Rattle.ts_base.specs.declared.range.Kind.TheVariants.{Idle, Pending, Held}
@@ -14,7 +15,7 @@ use Rattle.ts_transducer.specs.Decode.{begins, ends_at, start_after, held_after,
 use Rattle.ts_transducer.proofs.CallerLemmas.{IsFree, Typed}
 use Rattle.ts_automaton.specs.Registers.{EachOf}
 use Rattle.ts_decorate.specs.Operators.{Operators, with_last, with_all, after_phase}
-use Rattle.ts_decorate.proofs.Folds.{FoldLaws, fold_append, fold_join, items_of, all_items, no_items, two_parts, fold_more}
+use Rattle.ts_decorate.proofs.Folds.{FoldLaws, fold_join, items_of, all_items, no_items, two_parts, fold_more}
 
 -- the fold over the items of a range
 abbrev pub range_value : {V : Type 0} → Operators V → List V → Range → V
@@ -178,7 +179,7 @@ module _ {V : Type 0} (o : Operators V) (good : V → Type 0) (laws : FoldLaws o
   ranges_more : (rs : List Range) (y : Range) → ranges_value o xs (rs ++ y ∷ []) ≡ o.g (ranges_value o xs rs) (range_value o xs y)
   ranges_more rs y =
       ap (λ u. fold o.g o.default u) (map-append (range_value o xs) rs (y ∷ []))
-      ∙ fold_append o.g o.default (map (range_value o xs) rs) (range_value o xs y ∷ [])
+      ∙ fold-append o.g o.default (map (range_value o xs) rs) (range_value o xs y ∷ [])
 
   same_ranges : (rs : List Range) (v : V) → v ≡ ranges_value o xs rs → v ≡ ranges_value o xs (rs ++ [])
   same_ranges rs v e = e ∙ ap (λ u. ranges_value o xs u) (sym (append-nil rs))

@@ -12,25 +12,13 @@ use Rattle.std.specs.List.{AllByRecursion, flat_map}
 use Rattle.ts_domain.specs.Values.{IsRising, IsDomain, WithinLimits}
 use Rattle.ts_domain.specs.Kept.{values_up_to, values_above, values_without}
 use Rattle.ts_domain.specs.BoxSeries.{Boxes, InBox, IsBox, all_series, series_count, cell_of}
-use Rattle.ts_domain.proofs.Sets.{contains_cons, contains_filter, each_filter, rising_filter, differs, itself}
+use Rattle.ts_domain.proofs.Sets.{contains_cons, contains_filter, each_filter, rising_filter, differs, itself, le_true, true_le, lt_true, true_lt}
 
 pub contains_up_to : (t : ℤ) (xs : List ℤ) (v : ℤ) → Contains (values_up_to t xs) v ↔ (Contains xs v × (v ≤ℤ t))
-contains_up_to t xs v = let f = contains_filter (λ v. int_le v t) xs v in (λ h. ((f.0 h).0, from_test v t (f.0 h).1), λ h. f.1 (h.0, to_test v t h.1))
-  where
-    from_test : (a b : ℤ) → int_le a b ≡ true → a ≤ℤ b
-    from_test a b h = grind (arith, ints)
-
-    to_test : (a b : ℤ) → a ≤ℤ b → int_le a b ≡ true
-    to_test a b h = grind (arith, ints)
+contains_up_to t xs v = let f = contains_filter (λ v. int_le v t) xs v in (λ h. ((f.0 h).0, true_le v t (f.0 h).1), λ h. f.1 (h.0, le_true v t h.1))
 
 pub contains_above : (t : ℤ) (xs : List ℤ) (v : ℤ) → Contains (values_above t xs) v ↔ (Contains xs v × (t <ℤ v))
-contains_above t xs v = let f = contains_filter (λ v. int_lt t v) xs v in (λ h. ((f.0 h).0, from_test t v (f.0 h).1), λ h. f.1 (h.0, to_test t v h.1))
-  where
-    from_test : (a b : ℤ) → int_lt a b ≡ true → a <ℤ b
-    from_test a b h = grind (arith, ints)
-
-    to_test : (a b : ℤ) → a <ℤ b → int_lt a b ≡ true
-    to_test a b h = grind (arith, ints)
+contains_above t xs v = let f = contains_filter (λ v. int_lt t v) xs v in (λ h. ((f.0 h).0, true_lt t v (f.0 h).1), λ h. f.1 (h.0, lt_true t v h.1))
 
 pub contains_without : (gone : ℤ) (xs : List ℤ) (v : ℤ) → Contains (values_without gone xs) v ↔ (Contains xs v × (v ≡ gone → ⊥))
 contains_without gone xs v = let f = contains_filter (λ v. not (int_eq v gone)) xs v in

@@ -7,6 +7,7 @@ use Rattle.std.proofs.Math.ListN.{get_or-append}
 use Rattle.std.specs.Prelude.{filter, int_lt, Contains}
 use Rattle.std.specs.List.{AllByRecursion}
 use Rattle.std.specs.List.Sorted.{IsPartitionPoint, IsPartitionedBy}
+use Rattle.std.proofs.lemmas.Bool.{false_from_ne_true, leb-true, leb-false, ltb-true, ltb-false}
 use Rattle.ts_domain.specs.declared.interval.Interval.{Interval}
 use Rattle.ts_domain.specs.Counts.{counts_from, HasPlace}
 use Rattle.ts_domain.specs.Values.{IsRising, values_between, values_of, RangesFrom}
@@ -114,15 +115,11 @@ stops test (r ∷ rs) e h = by_test (test r) refl (stops test rs e) h
     by_test false is later h = is
 
 -- a number beyond an end of a piece is not in it
-not_true : (b : Bool) → (b ≡ true → ⊥) → b ≡ false
-not_true true h = absurd (h refl)
-not_true false h = refl
-
 above_out : (p : Interval) (v : ℤ) → p.high <ℤ v → is_in p v ≡ false
-above_out p v h = not_true (is_in p v) (λ yes. let e = in_ends p v yes in omega (arith, ints, e.1, h))
+above_out p v h = false_from_ne_true (is_in p v) (λ yes. let e = in_ends p v yes in omega (arith, ints, e.1, h))
 
 below_out : (p : Interval) (v : ℤ) → v <ℤ p.low → is_in p v ≡ false
-below_out p v h = not_true (is_in p v) (λ yes. let e = in_ends p v yes in omega (arith, ints, e.0, h))
+below_out p v h = false_from_ne_true (is_in p v) (λ yes. let e = in_ends p v yes in omega (arith, ints, e.0, h))
 
 above_first : (x l v : ℤ) → x ≡ l → x <ℤ v → l <ℤ v
 above_first x l v e h = omega (arith, ints, e, h)
@@ -245,17 +242,11 @@ found rs bs v k e apart counted has at =
     reach : (x v : ℤ) → int_lt x v ≡ false → v ≤ℤ x
     reach x v is = grind (arith, ints)
 
-true_le : (x y : ℕ) → nat_le x y ≡ true → x ≤ y
-true_le x y h = grind arith
-
-false_lt : (x y : ℕ) → nat_le x y ≡ false → y < x
-false_lt x y h = grind arith
-
 -- the first count is 0
 no_start : (rs : List Interval) (i : ℕ) → i < length (values_of rs) → (0 < length (counts_from 0 rs) → nat_le (get_or (counts_from 0 rs) 0 0) i ≡ false) → ⊥
 unfolding counts_from values_of
 no_start [] i below h = omega (arith, below)
-no_start (r ∷ rs) i below h = omega (arith, false_lt 0 i (h (omega arith)))
+no_start (r ∷ rs) i below h = omega (arith, leb-false 0 i (h (omega arith)))
 
 -- a place before the next count is in the range
 ends_behind : (rs : List Interval) (bs : List ℕ) (i k : ℕ) (e : Interval) → bs ≡ counts_from 0 rs → k < length rs → i < length (values_of rs) →
@@ -265,20 +256,14 @@ ends_behind rs bs i k e counted within below beyond = by_size (nat_lt (suc k) (l
     count_is : get_or bs k 0 ≡ get_or (counts_from 0 rs) k 0
     count_is = ap (λ l. get_or l k 0) counted
 
-    yes_lt : (x y : ℕ) → nat_lt x y ≡ true → x < y
-    yes_lt x y h = grind arith
-
-    no_lt : (x y : ℕ) → nat_lt x y ≡ false → y ≤ x
-    no_lt x y h = grind arith
-
     by_size : (b : Bool) → nat_lt (suc k) (length rs) ≡ b → i < get_or bs k 0 + length (values_between (get_or rs k e).low (get_or rs k e).high)
     by_size true is =
-        let j = yes_lt (suc k) (length rs) is in
+        let j = ltb-true (suc k) (length rs) is in
         let up = beyond j in
         let next = ap (λ l. get_or l (suc k) 0) counted ∙ next_count 0 rs k e j in
         omega (arith, up, next, count_is)
     by_size false is =
-        let j = no_lt (suc k) (length rs) is in
+        let j = ltb-false (suc k) (length rs) is in
         let last = last_count 0 rs k e (omega (arith, j, within)) in
         omega (arith, last, below, count_is)
 
@@ -293,7 +278,7 @@ passed rs bs i (suc k) apart counted below fits at =
     let size = ap length counted ∙ length-counts 0 rs in
     let within : k < length rs = omega (arith, fits, size) in
     let count_is : get_or bs k 0 ≡ get_or (counts_from 0 rs) k 0 = ap (λ l. get_or l k 0) counted in
-    let from : get_or bs k 0 ≤ i = true_le (get_or bs k 0) i (at.0 k 0 (omega arith) (omega arith)) in
+    let from : get_or bs k 0 ≤ i = leb-true (get_or bs k 0) i (at.0 k 0 (omega arith) (omega arith)) in
     let place : (get_or (counts_from 0 rs) k 0 + (i - get_or bs k 0)) - 0 ≡ i = omega (arith, count_is, from) in (
       omega arith,
       omega (arith, within),
@@ -304,7 +289,7 @@ passed rs bs i (suc k) apart counted below fits at =
         within = λ e. (let shape = range_at (neg_ℤ (pos 1000000)) rs k e apart within in (shape.0, omega (arith, ints, shape.1, shape.2)));
         value = λ e v is. (let shape = range_at (neg_ℤ (pos 1000000)) rs k e apart within in
             let to = ends_behind rs bs i k e counted within below
-            (λ j. false_lt (get_or bs (suc k) 0) i (at.1 (suc k) 0 (omega arith) (omega (arith, size, j)))) in
+            (λ j. leb-false (get_or bs (suc k) 0) i (at.1 (suc k) 0 (omega arith) (omega (arith, size, j)))) in
             let there = at_range 0 rs k (i - get_or bs k 0) e within shape.1 (omega (arith, from, to)) in
             read_at (values_of rs) i v below (ap (λ i. get_or (values_of rs) i (pos 0)) (sym place) ∙ there.2 ∙ sym is));
       }),

@@ -3,7 +3,6 @@ use Rattle.std.proofs.Common.{◌≡◌, ℕ, zero, suc, ◌+◌, ◌<◌, ◌�
 use Rattle.std.proofs.lemmas.Int.{ints, by_lt_z, to_z-of_z}
 use mir.Val.{SFits, to_z, of_z}
 use mir.Syntax.{w64}
-use Rattle.std.proofs.Math.Seq.{drop-cons}
 use Rattle.std.specs.Prelude.{Contains}
 use Rattle.std.specs.Int.{int_max}
 use Rattle.ts_domain.specs.declared.interval.Interval.{Interval}
@@ -12,6 +11,7 @@ use Rattle.ts_domain.specs.Union.{InSome, LowsRise}
 use Rattle.ts_domain.proofs.Ranges.{value_in_some, some_has_value}
 use Rattle.ts_domain.proofs.Places.{small_fits}
 use Rattle.ts_domain.proofs.Unions.{rises_from, last_range, last_grown, one_more_range, in_append, in_left, in_right}
+use Rattle.ts_domain.proofs.PieceReads.{off}
 
 -- the ranges done stand apart, the last of them may still grow, and the next one begins no earlier than it does
 pub record Joining (sorted done : List Interval) (last : Interval) (i : ℕ) : Type 0 where
@@ -31,10 +31,6 @@ joining_none (r ∷ rs) done d h a e = record {
   where
     first_has : (r : Interval) (rs : List Interval) (v : ℤ) → ((r.low ≤ℤ v) × (v ≤ℤ r.high)) ⊎ ⊥ → ((r.low ≤ℤ v) × (v ≤ℤ r.high)) ⊎ InSome rs v
     first_has r rs v p = elim p [ inl here ↦ inl here | inr never ↦ absurd never ]
-
--- the next range, taken off what is left
-next_off : (sorted : List Interval) (i : ℕ) (d : Interval) → i < length sorted → drop i sorted ≡ get_or sorted i d ∷ drop (i + 1) sorted
-next_off sorted i d h = let e : suc i ≡ i + 1 = omega arith in drop-cons sorted i d h ∙ ap (λ n. get_or sorted i d ∷ drop n sorted) e
 
 next_rises : (f : ℤ) (r : Interval) (rs ds : List Interval) → ds ≡ r ∷ rs → LowsRise f ds →
     (f ≤ℤ r.low) × (r.low ≤ℤ r.high) × (r.high ≤ℤ pos 1000000) × LowsRise r.low rs
@@ -102,16 +98,16 @@ pub joining_grown : (sorted done done' : List Interval) (last grown : Interval) 
     done' ≡ done → grown.low ≡ last.low → grown.high ≡ int_max last.high (get_or sorted i d).high → Joining sorted done' grown (i + 1)
 joining_grown sorted done done' last grown i d h j touch kept low high =
     let next = get_or sorted i d in let rest = drop (i + 1) sorted in
-    let off = next_off sorted i d h in let r = next_rises last.low next rest (drop i sorted) off j.rest in
+    let left = off sorted i d h in let r = next_rises last.low next rest (drop i sorted) left j.rest in
     let l = last_range (neg_ℤ (pos 1000000)) done last j.apart in
     subst (λ x. Joining sorted x grown (i + 1)) (sym kept) (record {
       rest = rises_from grown.low next.low rest (omega (arith, ints, low, r.0)) r.3;
       apart = last_grown (neg_ℤ (pos 1000000)) done last grown j.apart (sym low)
           (ordered last.low last.high next.high grown.low grown.high low high l.1) (within last.high next.high grown.high high l.2 r.2);
       same = λ v. let g = grown_numbers done last next grown rest v low high r.0 touch in let s = j.same v in (
-        λ w. s.0 (subst (λ l. InSome (done ++ last ∷ []) v ⊎ InSome l v) (sym off) (g.0 w)),
+        λ w. s.0 (subst (λ l. InSome (done ++ last ∷ []) v ⊎ InSome l v) (sym left) (g.0 w)),
         λ w. g.1
-            (subst (λ l. InSome (done ++ last ∷ []) v ⊎ InSome l v) off (s.1 w)),
+            (subst (λ l. InSome (done ++ last ∷ []) v ⊎ InSome l v) left (s.1 w)),
       );
     })
   where
@@ -126,22 +122,22 @@ pub joining_more : (sorted done done' : List Interval) (last next : Interval) (i
     (last.high +ℤ pos 1) <ℤ (get_or sorted i d).low →
     done' ≡ done ++ last ∷ [] → next ≡ get_or sorted i d → Joining sorted done' next (i + 1)
 joining_more sorted done done' last next i d h j gap grown is =
-    let rest = drop (i + 1) sorted in let off = next_off sorted i d h ∙ ap (λ r. r ∷ rest) (sym is) in
-    let r = next_rises last.low next rest (drop i sorted) off j.rest in let apart = subst (λ x. (last.high +ℤ pos 1) <ℤ x.low) (sym is) gap in
+    let rest = drop (i + 1) sorted in let left = off sorted i d h ∙ ap (λ r. r ∷ rest) (sym is) in
+    let r = next_rises last.low next rest (drop i sorted) left j.rest in let apart = subst (λ x. (last.high +ℤ pos 1) <ℤ x.low) (sym is) gap in
     subst (λ x. Joining sorted x next (i + 1)) (sym grown) (record {
       rest = r.3;
       apart = one_more_range (neg_ℤ (pos 1000000)) done last next j.apart (omega (arith, ints, apart)) r.1 r.2;
       same = λ v. let s = j.same v in (
         λ w. s.0 (elim w [
           | inl p ↦ elim (in_append (done ++ last ∷ []) (next ∷ []) v p)
-              [ inl a ↦ inl a | inr b ↦ inr (subst (λ l. InSome l v) (sym off) (next_in next rest v (inl (one_in next v b)))) ]
+              [ inl a ↦ inl a | inr b ↦ inr (subst (λ l. InSome l v) (sym left) (next_in next rest v (inl (one_in next v b)))) ]
           | inr q ↦ inr
-              (subst (λ l. InSome l v) (sym off) (next_in next rest v (inr q)))
+              (subst (λ l. InSome l v) (sym left) (next_in next rest v (inr q)))
         ]),
         λ w. elim (s.1 w) [
           | inl a ↦ inl (in_left (done ++ last ∷ []) (next ∷ []) v a)
           | inr q ↦ left_over v
-              (in_next next rest v (subst (λ l. InSome l v) off q))
+              (in_next next rest v (subst (λ l. InSome l v) left q))
         ],
       );
     })
@@ -179,7 +175,7 @@ pub next_within : (sorted done : List Interval) (last : Interval) (i : ℕ) (d :
     ((get_or sorted i d).high ≤ℤ pos 1000000)
 next_within sorted done last i d j h =
     let l = last_range (neg_ℤ (pos 1000000)) done last j.apart in
-    let r = next_rises last.low (get_or sorted i d) (drop (i + 1) sorted) (drop i sorted) (next_off sorted i d h) j.rest in
+    let r = next_rises last.low (get_or sorted i d) (drop (i + 1) sorted) (drop i sorted) (off sorted i d h) j.rest in
     (omega (arith, ints, l.0, r.0), omega (arith, ints, r.1, r.2), omega (arith, ints, l.0, r.0, r.1), r.2)
 
 pub max_is : (a b m h : ℤ) → neg_ℤ (pos 1000000) ≤ℤ a → a ≤ℤ pos 1000000 → neg_ℤ (pos 1000000) ≤ℤ b → b ≤ℤ pos 1000000 → SFits w64 m →

@@ -1,8 +1,9 @@
 -- Pieces of a set: what a test leaves of a piece, and the numbers of pieces that rise.
 use Rattle.std.proofs.Common.{◌≡◌, ℤ, pos, ◌+ℤ◌, ◌≤ℤ◌, ◌<ℤ◌, ◌↔◌, Bool, true, false, ◌&&◌}
-use Rattle.std.proofs.Common.{List, [], refl, sym, ◌∙◌, arith}
+use Rattle.std.proofs.Common.{List, [], sym, ◌∙◌, arith}
 use Rattle.std.proofs.lemmas.Int.{ints}
 use Rattle.std.specs.Prelude.{filter, int_le, int_lt, Contains}
+use Rattle.std.proofs.lemmas.Bool.{and_from, and_parts}
 use Rattle.ts_domain.specs.declared.interval.Interval.{Interval}
 use Rattle.ts_domain.specs.Pieces.{is_in, values_in, IsPiece, IsLastUpTo, IsFirstFrom, IsPartOf}
 use Rattle.ts_domain.proofs.Sets.{contains_filter, filter_alike, filter_none, filter_both, same_test}
@@ -27,17 +28,9 @@ pub part_same : (all : List ℤ) (test : ℤ → Bool) (p q : Interval) →
 unfolding values_in
 part_same all test p q h =
     filter_alike (is_in q) (λ v. is_in p v && test v) all (λ v has. same_test (is_in q v) (is_in p v && test v)
-    (λ yes. let e = in_ends q v yes in let b = (h v has).1 e in both_true (is_in p v) (test v) (ends_in p v b.0 b.1) b.2)
-    (λ yes. let e = true_both (is_in p v) (test v) yes in let d = in_ends p v e.0 in let g = (h v has).0 (d.0, d.1, e.1) in ends_in q v g.0 g.1)) ∙
+    (λ yes. let e = in_ends q v yes in let b = (h v has).1 e in and_from (is_in p v) (test v) (ends_in p v b.0 b.1) b.2)
+    (λ yes. let e = and_parts (is_in p v) (test v) yes in let d = in_ends p v e.0 in let g = (h v has).0 (d.0, d.1, e.1) in ends_in q v g.0 g.1)) ∙
     sym (filter_both test (is_in p) all)
-  where
-    both_true : (a b : Bool) → a ≡ true → b ≡ true → (a && b) ≡ true
-    both_true true b e f = f
-    both_true false b e f = cc
-
-    true_both : (a b : Bool) → (a && b) ≡ true → (a ≡ true) × (b ≡ true)
-    true_both true b e = (refl, e)
-    true_both false b e = cc
 
 pub part_none : (all : List ℤ) (test : ℤ → Bool) (p : Interval) → ((v : ℤ) → p.low ≤ℤ v → v ≤ℤ p.high → test v ≡ false) → filter test (values_in all p) ≡ []
 part_none all test p h = filter_none test (values_in all p) (λ v has. let i = (contains_in all p v).0 has in h v i.1 i.2)

@@ -12,6 +12,7 @@ use Rattle.ts_domain.specs.Values.{values_of, RangesFrom}
 use Rattle.ts_domain.specs.Union.{InSome}
 use Rattle.ts_domain.specs.Pieces.{leading_count, IsLastUpTo, IsFirstFrom, SomeUpTo, SomeFrom}
 use Rattle.ts_domain.proofs.Ranges.{value_in_some, some_has_value, range_at}
+use Rattle.ts_domain.proofs.Sets.{le_true, true_le}
 
 abbrev bottom : ℤ
 bottom = neg_ℤ (pos 1000000)
@@ -280,13 +281,7 @@ has_then v rs d n a is below fits =
     let low = (ends_are rs n d a below).0 in
     let same : int_le (to_z w64 (of_z w64 (get_or rs n d).low)) (to_z w64 (of_z w64 v)) ≡ int_le (get_or rs n d).low v = ap
     (λ x. int_le x (to_z w64 (of_z w64 v))) low ∙ ap (int_le (get_or rs n d).low) (to_z-of_z w64 v fits) in
-    (λ yes. h.0 (below, from_test (get_or rs n d).low v (sym same ∙ yes)), λ has. same ∙ to_test (get_or rs n d).low v (h.1 has).1)
-  where
-    from_test : (x y : ℤ) → int_le x y ≡ true → x ≤ℤ y
-    from_test x y h = grind (arith, ints)
-
-    to_test : (x y : ℤ) → x ≤ℤ y → int_le x y ≡ true
-    to_test x y h = grind (arith, ints)
+    (λ yes. h.0 (below, true_le (get_or rs n d).low v (sym same ∙ yes)), λ has. same ∙ le_true (get_or rs n d).low v (h.1 has).1)
 
 pub has_else : (v : ℤ) (rs : List Interval) (d : Interval) (n : ℕ) → RangesFrom bottom rs → n ≡ leading_count (λ r. int_lt r.high v) rs → length rs ≤ n →
     IsTrue (nat_lt n (length rs)) ↔ Contains (values_of rs) v

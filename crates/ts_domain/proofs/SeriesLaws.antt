@@ -2,19 +2,16 @@
 -- that each stands there once.
 use Rattle.std.specs.Prelude.{◌≡◌, ◌↔◌, ℤ, ◌<ℤ◌, List, [], ◌∷◌, ◌++◌, map, refl, Contains}
 use Rattle.std.specs.List.{AllByRecursion, flat_map}
-use Rattle.std.proofs.Common.{sym, ◌∙◌, ap, subst, inl, inr, arith, ⊎_elim}
+use Rattle.std.proofs.Common.{sym, ◌∙◌, ap, subst, inl, inr, ⊎_elim}
 use Rattle.std.proofs.lemmas.List.Elements.{Contains-append_left, Contains-append_right, Contains-append_cases}
 use Rattle.ts_domain.specs.Values.{IsRising}
 use Rattle.ts_domain.specs.BoxSeries.{InBox, IsBox, IsBefore, AreRising, all_series}
-use Rattle.ts_domain.proofs.Sets.{contains_cons, all_append}
+use Rattle.ts_domain.proofs.Sets.{contains_cons, all_append, nothing_in}
 
 -- lists
 
-nothing : {A : Type 0} (v : A) → Contains [] v → ⊥
-nothing v h = absurd (omega (arith, h.1))
-
 contains_map : {A B : Type 0} (f : A → B) (xs : List A) (y : B) → Contains (map f xs) y ↔ ((x : A) × Contains xs x × (f x ≡ y))
-contains_map f [] y = (λ h. absurd (nothing y h), λ h. absurd (nothing h.0 h.1))
+contains_map f [] y = (λ h. absurd (nothing_in y h), λ h. absurd (nothing_in h.0 h.1))
 contains_map f (x ∷ xs) y = (
   λ h. ⊎_elim (λ e. (x, (contains_cons x xs x).1 (inl refl), e)) (λ t. let r = (contains_map f xs y).0 t in
       (r.0, (contains_cons x xs r.0).1 (inr r.1), r.2)) ((contains_cons (f x) (map f xs) y).0 h),
@@ -23,7 +20,7 @@ contains_map f (x ∷ xs) y = (
 )
 
 contains_flat_map : {A B : Type 0} (f : A → List B) (xs : List A) (y : B) → Contains (flat_map f xs) y ↔ ((x : A) × Contains xs x × Contains (f x) y)
-contains_flat_map f [] y = (λ h. absurd (nothing y h), λ h. absurd (nothing h.0 h.1))
+contains_flat_map f [] y = (λ h. absurd (nothing_in y h), λ h. absurd (nothing_in h.0 h.1))
 contains_flat_map f (x ∷ xs) y = (
   λ h. ⊎_elim (λ e. (x, (contains_cons x xs x).1 (inl refl), e)) (λ t. let r = (contains_flat_map f xs y).0 t in
       (r.0, (contains_cons x xs r.0).1 (inr r.1), r.2)) (Contains-append_cases (f x) (flat_map f xs) y h),
@@ -51,7 +48,7 @@ rest_same x v ys vs e = cc
 pub series_of_box : (cells : List (List ℤ)) (vs : List ℤ) → Contains (all_series cells) vs ↔ InBox vs cells
 unfolding all_series
 series_of_box [] [] = (λ h. tt, λ h. (contains_cons [] [] []).1 (inl refl))
-series_of_box [] (v ∷ vs) = (λ h. ⊎_elim (λ e. empty_apart v vs e) (λ t. nothing (v ∷ vs) t) ((contains_cons [] [] (v ∷ vs)).0 h), λ h. absurd h)
+series_of_box [] (v ∷ vs) = (λ h. ⊎_elim (λ e. empty_apart v vs e) (λ t. nothing_in (v ∷ vs) t) ((contains_cons [] [] (v ∷ vs)).0 h), λ h. absurd h)
 series_of_box (d ∷ ds) [] = (
   λ h. let r = (contains_flat_map (λ v. map (λ vs. v ∷ vs) (all_series ds)) d []).0 h in
       let s = (contains_map (λ vs. r.0 ∷ vs) (all_series ds) []).0 r.2 in empty_apart r.0 s.0 (sym s.2),

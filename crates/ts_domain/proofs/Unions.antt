@@ -1,7 +1,7 @@
 -- The union of ranges: which numbers it has, in the order of the lists and in the order of their low ends.
 use Rattle.std.proofs.Common.{◌≡◌, ℕ, zero, suc, ◌+◌, ◌<◌, ◌≤◌, ℤ, pos, neg_ℤ, ◌+ℤ◌, ◌≤ℤ◌, ◌<ℤ◌, ◌⊎◌, inl, inr, ◌↔◌, Bool, true, false, ◌&&◌, ◌||◌, List, [], ◌∷◌, ◌++◌, length, get_or, take, drop, cond, IsTrue, refl, sym, ap, ◌∙◌, subst, arith, IsPermutation, is_lt, int_cmp}
 use Rattle.std.proofs.lemmas.Int.{ints}
-use Rattle.std.proofs.lemmas.Bool.{or_cases, both_ways}
+use Rattle.std.proofs.lemmas.Bool.{or_cases, both_ways, or_left, or_right}
 use Rattle.std.proofs.lemmas.List.Sorted.{All-permutation, list_any-IsPermutation, length_permutation}
 use Rattle.std.proofs.Math.Seq.{take-append_seam}
 use Rattle.std.specs.Ordering.{ordering_then}
@@ -33,21 +33,13 @@ unfolding InSome
 in_some_any [] v h = absurd h
 in_some_any (r ∷ rs) v h =
     elim h [
-      | inl here ↦ either_left (has_number v r) (list_any (has_number v) rs) (to_test r v here.0 here.1)
-      | inr there ↦ either_right
+      | inl here ↦ or_left (has_number v r) (list_any (has_number v) rs) (to_test r v here.0 here.1)
+      | inr there ↦ or_right
           (has_number v r) (list_any (has_number v) rs) (in_some_any rs v there)
     ]
   where
     to_test : (r : Interval) (v : ℤ) → r.low ≤ℤ v → v ≤ℤ r.high → has_number v r ≡ true
     to_test r v from to = grind (arith, ints)
-
-    either_left : (a b : Bool) → a ≡ true → (a || b) ≡ true
-    either_left true b h = refl
-    either_left false b h = cc
-
-    either_right : (a b : Bool) → b ≡ true → (a || b) ≡ true
-    either_right true b h = refl
-    either_right false b h = h
 
 -- in the ranges of two lists
 pub in_paired : (lows highs : List ℤ) (v : ℤ) → length lows ≡ length highs → InSome (intervals_of lows highs) v → InSomeRange lows highs v

@@ -9,6 +9,7 @@ use Rattle.std.proofs.lemmas.List.Quantifiers.{position-Some}
 use Rattle.std.proofs.lemmas.List.Sums.{fails_before_first}
 use Rattle.std.proofs.lemmas.Option.{same_Some, none-some, slice_get-map, slice_get-get_or, slice_get_within, get_or_from_slice_get}
 use Rattle.std.proofs.Math.Seq.{map-set_same}
+use Rattle.ts_pattern.proofs.CallerLemmas.{front_or_last}
 use Rattle.ts_base.specs.declared.letter.Letter.{Letter}
 use Rattle.ts_base.specs.declared.letter.Letter.TheVariants.{Less, Equal, Greater}
 use Rattle.ts_regex.specs.declared.regex.Regex.{Regex}
@@ -29,14 +30,6 @@ front (y ∷ xs) ys (suc k) x q = front xs ys k x q
 last : {A : Type 0} (xs : List A) (x : A) → slice_get (xs ++ x ∷ []) (length xs) ≡ Some x
 last [] x = refl
 last (y ∷ xs) x = last xs x
-
--- what stands in a list with one more element
-front_or_last : {A : Type 0} (xs : List A) (y : A) (k : ℕ) (x : A) → slice_get (xs ++ y ∷ []) k ≡ Some x →
-    (slice_get xs k ≡ Some x) ⊎ ((k ≡ length xs) × (y ≡ x))
-front_or_last [] y zero x q = inr (refl, same_Some y x q)
-front_or_last [] y (suc k) x q = absurd (none-some x q)
-front_or_last (z ∷ xs) y zero x q = inl q
-front_or_last (z ∷ xs) y (suc k) x q = ⊎_elim (λ h. inl h) (λ h. inr (ap (λ n. suc n) h.0, h.1)) (front_or_last xs y k x q)
 
 pub known_get : (ms : List Met) (k : ℕ) (m : Met) → slice_get ms k ≡ Some m → IsNumber (shapes_met ms) (shape_of m.residual) k
 known_get ms k m q = slice_get-map (λ x. shape_of x.residual) ms k ∙ ap (λ o. option_map (λ (x : Met). shape_of x.residual) o) q

@@ -1,7 +1,7 @@
 -- What is noted at a letter keeps the list the list of the occurrences.
 use Rattle.std.specs.Prelude.{◌≡◌, ℕ, zero, suc, ◌+◌, ◌-◌, ◌<◌, ◌≤◌, true, false, cond, List, [], ◌∷◌, ◌++◌, map, length, take, drop, slice_get, Option, None, Some, refl}
 use Rattle.std.proofs.Common.{sym, ◌∙◌, ap, subst, arith, ⊎_elim, length-append, length-drop, append-nil}
-use Rattle.std.proofs.lemmas.List.{map-append, length-take}
+use Rattle.std.proofs.lemmas.List.{map-append, length-take, drop-map, take-map, take-append-drop}
 use Rattle.ts_base.specs.declared.letter.Letter.{Letter}
 use Rattle.ts_base.specs.declared.range.Range.{Range}
 use Rattle.ts_regex.specs.Shape.{Shape}
@@ -84,21 +84,6 @@ found_below k m es h q =
     omega arith
 
 -- ranges and places
-drop_map : {A B : Type 0} (f : A → B) (n : ℕ) (xs : List A) → drop n (map f xs) ≡ map f (drop n xs)
-drop_map f zero xs = refl
-drop_map f (suc n) [] = refl
-drop_map f (suc n) (x ∷ xs) = drop_map f n xs
-
-take_map : {A B : Type 0} (f : A → B) (n : ℕ) (xs : List A) → take n (map f xs) ≡ map f (take n xs)
-take_map f zero xs = refl
-take_map f (suc n) [] = refl
-take_map f (suc n) (x ∷ xs) = ap (λ z. f x ∷ z) (take_map f n xs)
-
-take_and_drop : {A : Type 0} (n : ℕ) (xs : List A) → take n xs ++ drop n xs ≡ xs
-take_and_drop zero xs = refl
-take_and_drop (suc n) [] = refl
-take_and_drop (suc n) (x ∷ xs) = ap (λ z. x ∷ z) (take_and_drop n xs)
-
 get_map : {A B : Type 0} (f : A → B) (n : ℕ) (xs : List A) (x : A) → slice_get xs n ≡ Some x → slice_get (map f xs) n ≡ Some (f x)
 get_map f n [] x q = cc
 get_map f zero (y ∷ xs) x q = ap (λ z. Some (f z)) (let e : y ≡ x = cc in e)
@@ -139,17 +124,17 @@ noted_step p b a w l es old new h n r = go (first_ending es) refl n
         let last : Place = record { start = m; end = length w + 1 } in (
           take kept places ++ last ∷ [],
           occurrences_some p w l m (take kept places) (drop kept places) (least_found p w l es m h q)
-              (subst (λ z. AreOccurrences p w z) (sym (take_and_drop kept places)) r.1)
+              (subst (λ z. AreOccurrences p w z) (sym (take-append-drop kept places)) r.1)
               (before_start m 0 kept places r.1.rising (inside_places places kept cut.inside)
               (λ x k z g. let i : kept - 1 ≡ k = omega arith in
               let y = cut.before (e_range b a x) (omega arith)
               (get_map (λ x. e_range b a x) (kept - 1) places x (subst (λ j. slice_get places j ≡ Some x) (sym i) g)) in omega arith))
               (each_map (λ x. m + 1 + b ≤ (e_range b a x).first) (λ x. m ≤ x.start) (λ x k. omega arith) (drop kept places)
               (each_of_map (λ g. m + 1 + b ≤ g.first) (λ x. e_range b a x) (drop kept places)
-              (subst (λ z. AllByRecursion (λ g. m + 1 + b ≤ g.first) z) (drop_map (λ x. e_range b a x) kept places) cut.behind))),
+              (subst (λ z. AllByRecursion (λ g. m + 1 + b ≤ g.first) z) (drop-map (λ x. e_range b a x) kept places) cut.behind))),
           e
               ∙ ap (λ z. take kept z ++ e_range b a last ∷ []) r.2
-              ∙ ap (λ z. z ++ e_range b a last ∷ []) (take_map (λ x. e_range b a x) kept places)
+              ∙ ap (λ z. z ++ e_range b a last ∷ []) (take-map (λ x. e_range b a x) kept places)
               ∙ sym (map-append (λ x. e_range b a x) (take kept places) (last ∷ [])),
         )
       where

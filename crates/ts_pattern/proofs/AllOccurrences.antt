@@ -11,7 +11,7 @@ use Rattle.ts_pattern.specs.Occurrences.{IsMatch, IsOccurrence}
 use Rattle.ts_pattern.specs.EachOf.{OneOf}
 use Rattle.ts_pattern.specs.OccurrenceList.{Place, RisingPlaces, IsPlace, AreOccurrences, e_range, AreRanges}
 use Rattle.ts_pattern.specs.AllOccurrences.{places_from, places_after, match_places, is_not_wider, occurrence_places, occurrence_ranges}
-use Rattle.ts_pattern.proofs.Elements.{each_map, each_and, each_filter, one_left, one_right}
+use Rattle.ts_pattern.proofs.Elements.{each_map, each_and, each_filter, one_left, one_right, each_append}
 use Rattle.ts_pattern.proofs.Places.{place_is, same_start_same, occurrences_unique}
 
 same_number : (a b : ℕ) → a == b ≡ true → a ≡ b
@@ -19,10 +19,6 @@ same_number a b h = grind arith
 
 other_number : (a b : ℕ) → a == b ≡ false → a ≡ b → ⊥
 other_number a b h q = grind arith
-
-each_append : {A : Type 0} (p : A → Type 0) (xs ys : List A) → AllByRecursion p xs → AllByRecursion p ys → AllByRecursion p (xs ++ ys)
-each_append p [] ys h k = k
-each_append p (x ∷ xs) ys h k = (h.0, each_append p xs ys h.1 k)
 
 -- what passes the filter passes the test
 each_passes : {A : Type 0} (q : A → Bool) (es : List A) → AllByRecursion (λ x. q x ≡ true) (filter q es)

@@ -12,7 +12,7 @@ pub use Rattle.ts_pattern.proofs.Renamed.{renamed, NextAgrees, WordsAgree, SameA
 pub use Rattle.ts_pattern.proofs.Renamed.{retag_renamed, no_ind_renamed, agree_renamed}
 -- the list of all occurrences, closed plans, and the names of the tables
 pub use Rattle.ts_pattern.proofs.AllOccurrences.{ranges_are, are_ranges}
-pub use Rattle.ts_pattern.proofs.Tested.{closed_by_test, configuration_is}
+pub use Rattle.ts_pattern.proofs.Tested.{closed_by_test, configuration_is, blank_value}
 pub use Rattle.ts_pattern.proofs.Names.{found_name, found_by_name}
--- lists of which each element has a property
-pub use Rattle.ts_pattern.proofs.Elements.{each_map, each_and, each_push, each_left, one_left}
+-- lists of which each element has a property, and what stands in a longer one
+pub use Rattle.ts_pattern.proofs.Elements.{each_map, each_and, each_append, each_push, each_left, one_left, front_or_last}

@@ -1,7 +1,8 @@
 -- Lists of which each element, or some element, has a property.
-use Rattle.std.specs.Prelude.{Bool, true, false, cond, List, [], ◌∷◌, ◌++◌}
+use Rattle.std.specs.Prelude.{◌≡◌, ◌⊎◌, ℕ, zero, suc, Bool, true, false, cond, List, [], ◌∷◌, ◌++◌, length, slice_get, Some, refl}
 use Rattle.std.specs.List.{filter, AllByRecursion}
-use Rattle.std.proofs.Common.{inl, inr, ⊎_elim}
+use Rattle.std.proofs.Common.{inl, inr, ⊎_elim, ap}
+use Rattle.std.proofs.lemmas.Option.{none-some, same_Some}
 use Rattle.ts_pattern.specs.EachOf.{OneOf}
 
 pub each_map : {A : Type 0} (p q : A → Type 0) → ((x : A) → p x → q x) → (es : List A) → AllByRecursion p es → AllByRecursion q es
@@ -21,6 +22,10 @@ pub each_push : {A : Type 0} (p : A → Type 0) (es : List A) (e : A) → AllByR
 each_push p [] e h k = (k, tt)
 each_push p (x ∷ es) e h k = (h.0, each_push p es e h.1 k)
 
+pub each_append : {A : Type 0} (p : A → Type 0) (xs ys : List A) → AllByRecursion p xs → AllByRecursion p ys → AllByRecursion p (xs ++ ys)
+each_append p [] ys h k = k
+each_append p (x ∷ xs) ys h k = (h.0, each_append p xs ys h.1 k)
+
 pub each_left : {A : Type 0} (p : A → Type 0) (es fs : List A) → AllByRecursion p (es ++ fs) → AllByRecursion p es
 each_left p [] fs h = tt
 each_left p (x ∷ es) fs h = (h.0, each_left p es fs h.1)
@@ -32,3 +37,11 @@ one_left p (x ∷ es) fs h = ⊎_elim (λ a. inl a) (λ a. inr (one_left p es fs
 pub one_right : {A : Type 0} (p : A → Type 0) (es fs : List A) → OneOf p fs → OneOf p (es ++ fs)
 one_right p [] fs h = h
 one_right p (x ∷ es) fs h = inr (one_right p es fs h)
+
+-- what stands in a list with one more element
+pub front_or_last : {A : Type 0} (xs : List A) (y : A) (k : ℕ) (x : A) → slice_get (xs ++ y ∷ []) k ≡ Some x →
+    (slice_get xs k ≡ Some x) ⊎ ((k ≡ length xs) × (y ≡ x))
+front_or_last [] y zero x q = inr (refl, same_Some y x q)
+front_or_last [] y (suc k) x q = absurd (none-some x q)
+front_or_last (z ∷ xs) y zero x q = inl q
+front_or_last (z ∷ xs) y (suc k) x q = ⊎_elim (λ h. inl h) (λ h. inr (ap (λ n. suc n) h.0, h.1)) (front_or_last xs y k x q)

@@ -75,18 +75,22 @@ listed_one t r (x ∷ xs) y q = go (same_configuration t x y) (list_any (λ x. s
     go true c here there p h = inl (here p)
     go false c here there p h = inr (there h)
 
--- the first configuration is the start with no entry
-first_blank : (rs : List Shape) (xs : List (PlainConfiguration ℕ)) → first_passes (λ x. is_blank x) xs ≡ true →
-    OneOf (λ y. y ≡ record { state = 0; live = [] }) (map (λ x. configuration_value rs x) xs)
-first_blank rs [] q = false≢true q
-first_blank rs (x ∷ xs) q =
+-- a configuration without an entry, at state 0
+pub blank_value : (rs : List Shape) (x : PlainConfiguration ℕ) → is_blank x ≡ true → configuration_value rs x ≡ record { state = 0; live = [] }
+blank_value rs x q =
     let h = and_parts (x.state == 0) (is_empty x.live) q in
-    inl (ap (λ z. record { state = z; live = (configuration_value rs x).live }) (eqb-true x.state 0 h.0)
-    ∙ ap (λ z. record { state = 0; live = z }) (gone x.live h.1))
+    ap (λ z. record { state = z; live = (configuration_value rs x).live }) (eqb-true x.state 0 h.0)
+    ∙ ap (λ z. record { state = 0; live = z }) (gone x.live h.1)
   where
     gone : (es : List (Entry (Unit {0}) ℕ Tag)) → is_empty es ≡ true → (configuration_value rs (record { state = 0; live = es })).live ≡ []
     gone [] q = refl
     gone (e ∷ es) q = absurd (false≢true q)
+
+-- the first configuration is the start with no entry
+first_blank : (rs : List Shape) (xs : List (PlainConfiguration ℕ)) → first_passes (λ x. is_blank x) xs ≡ true →
+    OneOf (λ y. y ≡ record { state = 0; live = [] }) (map (λ x. configuration_value rs x) xs)
+first_blank rs [] q = false≢true q
+first_blank rs (x ∷ xs) q = inl (blank_value rs x q)
 
 -- each reached configuration is listed
 reached_listed : (rows : List Row) (p : Shape) (b : ℕ) (plan : PlainPlan) → is_plan_of p plan ≡ true → (w : List Letter) (x : PlainConfiguration Shape) →

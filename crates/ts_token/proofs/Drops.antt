@@ -1,8 +1,9 @@
 -- A byte that adds nothing to a line, whatever comes behind.
 use Rattle.std.proofs.Common.{◌≡◌, ℕ, ◌<◌, ◌≤◌, Bool, true, false, cond, not, ◌&&◌, Some, None, List, [], ◌∷◌, ◌++◌, length, map, refl, sym, ap, subst, ◌∙◌, arith, append_assoc, append-nil, length-append, ◌==◌, eqb-true}
-use Rattle.std.specs.List.{list_all}
 use Rattle.std.proofs.lemmas.List.Folds.{list_all-append}
+use Rattle.std.proofs.lemmas.Bool.{and_parts, not-true, and_left}
 use Rattle.ts_base.specs.Words.{is_lf}
+use Rattle.ts_base.proofs.WordLaws.{has_no_lf}
 use Rattle.ts_token.specs.Text.{is_blank, is_plain, is_text, lines_of}
 use Rattle.ts_token.specs.Gist.{gist, gists}
 use Rattle.ts_token.specs.Places.{is_comment, EndsBlank, EndsSolid}
@@ -10,17 +11,6 @@ use Rattle.ts_token.specs.Steps.{without_cr}
 use Rattle.ts_token.proofs.Fronts.{front, ending}
 use Rattle.ts_token.proofs.LineLaws.{cut_by, first_cut}
 use Rattle.ts_token.proofs.Heads.{AreAlike, alike_behind, long_alike, blank_alike, word_heads, gist_by, gist_is, comment_passed}
-
-abbrev pub has_no_lf : List ℕ → Bool
-has_no_lf bytes = list_all (λ b. not (is_lf b)) bytes
-
-no_true : (v : Bool) → not v ≡ true → v ≡ false
-no_true true e = cc
-no_true false e = refl
-
-both : (a b : Bool) → (a && b) ≡ true → (a ≡ true) × (b ≡ true)
-both true b e = (refl, e)
-both false b e = cc
 
 pub plain_no_lf : (b : ℕ) → is_plain b ≡ true → is_lf b ≡ false
 unfolding is_lf is_plain
@@ -39,13 +29,13 @@ plain_no_cr b plain = go (b == 13) refl where
 pub text_no_lf : (k : List ℕ) → is_text k ≡ true → has_no_lf k ≡ true
 text_no_lf [] text = refl
 text_no_lf (b ∷ bs) text =
-    let t = both (is_plain b) (is_text bs) text in
+    let t = and_parts (is_plain b) (is_text bs) text in
     ap (λ v. not v && has_no_lf bs) (plain_no_lf b t.0) ∙ text_no_lf bs t.1
 
 pub text_no_cr : (k : List ℕ) → is_text k ≡ true → without_cr k ≡ k
 text_no_cr [] text = refl
-text_no_cr (b ∷ []) text = ap (λ v. cond v [] (b ∷ [])) (plain_no_cr b (both (is_plain b) true text).0)
-text_no_cr (b ∷ c ∷ bs) text = ap (λ (x : List ℕ). b ∷ x) (text_no_cr (c ∷ bs) (both (is_plain b) (is_text (c ∷ bs)) text).1)
+text_no_cr (b ∷ []) text = ap (λ v. cond v [] (b ∷ [])) (plain_no_cr b (and_parts (is_plain b) true text).0)
+text_no_cr (b ∷ c ∷ bs) text = ap (λ (x : List ℕ). b ∷ x) (text_no_cr (c ∷ bs) (and_parts (is_plain b) (is_text (c ∷ bs)) text).1)
 
 -- where an end is cut off, it is cut off what comes last
 pub cr_behind : (k : List ℕ) (x : ℕ) (xs : List ℕ) → without_cr (k ++ x ∷ xs) ≡ k ++ without_cr (x ∷ xs)
@@ -56,14 +46,14 @@ cr_behind (b ∷ c ∷ bs) x xs = ap (λ (y : List ℕ). b ∷ y) (cr_behind (c 
 front_behind : (k more : List ℕ) → has_no_lf k ≡ true → front is_lf (k ++ more) ≡ k ++ front is_lf more
 front_behind [] more none = refl
 front_behind (b ∷ bs) more none =
-    let n = both (not (is_lf b)) (has_no_lf bs) none in
-    ap (λ v. cond v [] (b ∷ front is_lf (bs ++ more))) (no_true (is_lf b) n.0) ∙ ap (λ (x : List ℕ). b ∷ x) (front_behind bs more n.1)
+    let n = and_parts (not (is_lf b)) (has_no_lf bs) none in
+    ap (λ v. cond v [] (b ∷ front is_lf (bs ++ more))) (not-true (is_lf b) n.0) ∙ ap (λ (x : List ℕ). b ∷ x) (front_behind bs more n.1)
 
 ending_behind : (k more : List ℕ) → has_no_lf k ≡ true → ending is_lf (k ++ more) ≡ ending is_lf more
 ending_behind [] more none = refl
 ending_behind (b ∷ bs) more none =
-    let n = both (not (is_lf b)) (has_no_lf bs) none in
-    ap (λ v. cond v (b ∷ bs ++ more) (ending is_lf (bs ++ more))) (no_true (is_lf b) n.0) ∙ ending_behind bs more n.1
+    let n = and_parts (not (is_lf b)) (has_no_lf bs) none in
+    ap (λ v. cond v (b ∷ bs ++ more) (ending is_lf (bs ++ more))) (not-true (is_lf b) n.0) ∙ ending_behind bs more n.1
 
 -- the lines of bytes without an LF and of what comes behind
 pub cut_behind : (b : ℕ) (bs more : List ℕ) → has_no_lf (b ∷ bs) ≡ true →
@@ -91,7 +81,7 @@ same_gists b c bs cs more none none' same =
 abbrev pub AddsNothing : List ℕ → ℕ → Type 0
 AddsNothing k b = (more : List ℕ) → gists (k ++ more) ≡ gists (k ++ b ∷ more)
 
-no_lf_more : (k : List ℕ) (b : ℕ) → has_no_lf k ≡ true → is_lf b ≡ false → has_no_lf (k ++ b ∷ []) ≡ true
+pub no_lf_more : (k : List ℕ) (b : ℕ) → has_no_lf k ≡ true → is_lf b ≡ false → has_no_lf (k ++ b ∷ []) ≡ true
 no_lf_more k b none other =
     list_all-append (λ x. not (is_lf x)) k (b ∷ []) ∙ ap (λ v. v && (not (is_lf b) && true)) none ∙ ap (λ v. not v && true) other
 
@@ -173,16 +163,12 @@ comment_adds (c ∷ cs) b text is plain = text_adds (c ∷ cs) b (omega arith) t
   on more =
       comment_gist (c ∷ cs) more is ∙ ap (λ v. cond v (Some []) None) (text_kept (c ∷ cs) more b plain) ∙ sym (comment_gist (c ∷ cs) (b ∷ more) is)
 
-not_both : (a b : Bool) → a ≡ false → (a && b) ≡ false
-not_both true b e = cc
-not_both false b e = refl
-
 not_text : (line : List ℕ) → is_text line ≡ false → gist line ≡ None
 not_text line bad = gist_is line ∙ ap (λ v. gist_by v (word_heads line)) bad
 
 -- bytes behind one that isn't text
 bad_on : (k more : List ℕ) → is_text k ≡ false → gist (k ++ more) ≡ None
-bad_on k more bad = not_text (k ++ more) (list_all-append is_plain k more ∙ not_both (is_text k) (is_text more) bad)
+bad_on k more bad = not_text (k ++ more) (list_all-append is_plain k more ∙ and_left (is_text k) (is_text more) bad)
 
 before_more : (t a b : Bool) → (a ≡ false → b ≡ false) → (t && a) ≡ false → (t && b) ≡ false
 before_more true a b later e = later e

@@ -1,8 +1,9 @@
 -- The first bytes of the words of a line, where bytes are left out behind others.
-use Rattle.std.proofs.Common.{◌≡◌, ℕ, ◌+◌, ◌≤◌, Bool, true, false, cond, not, ◌&&◌, Some, None, List, [], ◌∷◌, ◌++◌, length, take, refl, sym, ap, ◌∙◌, arith, take-take, ◌==◌}
+use Rattle.std.proofs.Common.{◌≡◌, ℕ, ◌+◌, ◌≤◌, Bool, true, false, cond, Some, None, List, [], ◌∷◌, ◌++◌, length, take, refl, sym, ap, ◌∙◌, arith, take-take, ◌==◌}
 use Rattle.std.proofs.lemmas.List.{take-append-le}
 use Rattle.std.specs.Prelude.{Option}
 use Rattle.std.specs.List.{list_all}
+use Rattle.std.proofs.lemmas.Bool.{not-true, and_parts}
 use Rattle.ts_token.specs.Text.{is_blank, is_text, stops_here, onto_word, words_from, words_of, Piece, is_skipped, starts_hash}
 use Rattle.ts_token.specs.Gist.{heads, gist}
 use Rattle.ts_token.specs.Places.{is_comment}
@@ -68,33 +69,25 @@ first_head b (c ∷ cs) solid =
     ap (λ v. cond v (word_heads (c ∷ cs)) (cond (is_blank c) ((b ∷ []) ∷ word_heads (c ∷ cs)) (onto_head b (word_heads (c ∷ cs))))) solid
     ∙ head_step b c cs (is_blank c) refl (first_head c cs)
 
-not_blank : (v : Bool) → not v ≡ true → v ≡ false
-not_blank true e = cc
-not_blank false e = refl
-
-both : (a b : Bool) → (a && b) ≡ true → (a ≡ true) × (b ≡ true)
-both true b e = (refl, e)
-both false b e = cc
-
 -- a word goes on
 front_on : (word rest : List ℕ) → list_all is_solid word ≡ true → front is_blank (word ++ rest) ≡ word ++ front is_blank rest
 front_on [] rest solid = refl
 front_on (b ∷ bs) rest solid =
-    let s = both (is_solid b) (list_all is_solid bs) solid in
-    ap (λ v. cond v [] (b ∷ front is_blank (bs ++ rest))) (not_blank (is_blank b) s.0) ∙ ap (λ (x : List ℕ). b ∷ x) (front_on bs rest s.1)
+    let s = and_parts (is_solid b) (list_all is_solid bs) solid in
+    ap (λ v. cond v [] (b ∷ front is_blank (bs ++ rest))) (not-true (is_blank b) s.0) ∙ ap (λ (x : List ℕ). b ∷ x) (front_on bs rest s.1)
 
 ending_on : (word rest : List ℕ) → list_all is_solid word ≡ true → ending is_blank (word ++ rest) ≡ ending is_blank rest
 ending_on [] rest solid = refl
 ending_on (b ∷ bs) rest solid =
-    let s = both (is_solid b) (list_all is_solid bs) solid in
-    ap (λ v. cond v (b ∷ bs ++ rest) (ending is_blank (bs ++ rest))) (not_blank (is_blank b) s.0) ∙ ending_on bs rest s.1
+    let s = and_parts (is_solid b) (list_all is_solid bs) solid in
+    ap (λ v. cond v (b ∷ bs ++ rest) (ending is_blank (bs ++ rest))) (not-true (is_blank b) s.0) ∙ ending_on bs rest s.1
 
 -- the words of a line that begins with these bytes
 head_on : (b : ℕ) (bs rest : List ℕ) → list_all is_solid (b ∷ bs) ≡ true → 64 ≤ length (b ∷ bs) →
     word_heads ((b ∷ bs) ++ rest) ≡ take 64 (b ∷ bs) ∷ word_heads (ending is_blank rest)
 head_on b bs rest solid long =
-    let s = both (is_solid b) (list_all is_solid bs) solid in
-    first_head b (bs ++ rest) (not_blank (is_blank b) s.0)
+    let s = and_parts (is_solid b) (list_all is_solid bs) solid in
+    first_head b (bs ++ rest) (not-true (is_blank b) s.0)
     ∙ ap (λ (x : List ℕ). take 64 (b ∷ x) ∷ word_heads (ending is_blank (bs ++ rest))) (front_on bs rest s.1)
     ∙ ap (λ (x : List ℕ). x ∷ word_heads (ending is_blank (bs ++ rest))) (take-append-le 64 (b ∷ bs) (front is_blank rest) long)
     ∙ ap (λ (x : List ℕ). take 64 (b ∷ bs) ∷ word_heads x) (ending_on bs rest s.1)

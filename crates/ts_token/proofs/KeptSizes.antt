@@ -8,6 +8,7 @@ use Rattle.ts_token.specs.declared.short.Place.TheVariants.{Start, Margin, Blank
 use Rattle.ts_token.specs.Places.{EndsBlank, IsAt, IsSmallAt, IsSmallEnded, blank_place, solid_place, text_place, place_on, place_after}
 use Rattle.ts_token.specs.Slices.{after_lf}
 use Rattle.ts_token.specs.Text.{is_blank, is_plain, stops_here, onto_word, words_from, words_of, Piece}
+use Rattle.ts_token.proofs.PlaceLaws.{ends_blank}
 
 -- the number of words, without columns
 abbrev words_in : List ℕ → ℕ
@@ -83,9 +84,6 @@ next line b ends solid =
     let same = ap (λ (x : List ℕ). length (words_of x)) (append_assoc ends.front (ends.blank ∷ []) (b ∷ [])) in
     let in_all = rises_in ends.front ends.blank b ends.is solid in
     omega (arith, few, more, same, in_all))
-
-ends_blank : (line : List ℕ) (b : ℕ) → is_blank b ≡ true → EndsBlank (line ++ b ∷ [])
-ends_blank line b blank = record { front = line; blank = b; parts = refl; is = blank }
 
 -- one byte more: it is kept and leads on, or adds nothing
 abbrev IsSmallBehind : Place → List ℕ → ℕ → ℕ → Option Place → Type 0

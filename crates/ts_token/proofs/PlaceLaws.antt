@@ -2,15 +2,16 @@
 use Rattle.std.proofs.Common.{◌≡◌, ℕ, ◌+◌, Bool, true, false, cond, not, ◌&&◌, Some, None, List, [], ◌∷◌, ◌++◌, refl, ap, subst, ◌∙◌, arith, append_assoc, length-append, nat_lt, ◌==◌, eqb-true}
 use Rattle.std.specs.Prelude.{Option}
 use Rattle.std.specs.List.{list_all}
-use Rattle.std.proofs.lemmas.Bool.{ltb-false}
+use Rattle.std.proofs.lemmas.Bool.{ltb-false, and_parts}
 use Rattle.std.proofs.lemmas.List.Folds.{list_all-append}
 use Rattle.ts_base.specs.Words.{is_lf}
+use Rattle.ts_base.proofs.WordLaws.{has_no_lf}
 use Rattle.ts_token.specs.declared.short.Place.{Place}
 use Rattle.ts_token.specs.declared.short.Place.TheVariants.{Start, Margin, Blank, Word, Comment, Return, NotText, Ended}
 use Rattle.ts_token.specs.Text.{is_blank, is_plain, is_text}
 use Rattle.ts_token.specs.Places.{is_comment, EndsBlank, EndsSolid, IsAt, blank_place, solid_place, text_place, place_on, place_after}
 use Rattle.ts_token.specs.Steps.{is_solid}
-use Rattle.ts_token.proofs.Drops.{has_no_lf, AddsNothing, text_no_lf, blank_adds, long_adds, comment_adds, bad_adds, cr_behind}
+use Rattle.ts_token.proofs.Drops.{AddsNothing, text_no_lf, blank_adds, long_adds, comment_adds, bad_adds, cr_behind, no_lf_more}
 
 -- where a byte leads from bytes at a place: on to another place, or it adds nothing
 abbrev Leads : List ℕ → ℕ → Option Place → Type 0
@@ -26,24 +27,16 @@ bad_more k b text bad = list_all-append is_plain k (b ∷ []) ∙ ap (λ v. v &&
 still_bad : (k : List ℕ) (b : ℕ) → is_text k ≡ false → is_text (k ++ b ∷ []) ≡ false
 still_bad k b bad = list_all-append is_plain k (b ∷ []) ∙ ap (λ v. v && (is_plain b && true)) bad
 
-no_lf_more : (k : List ℕ) (b : ℕ) → has_no_lf k ≡ true → is_lf b ≡ false → has_no_lf (k ++ b ∷ []) ≡ true
-no_lf_more k b none other =
-    list_all-append (λ x. not (is_lf x)) k (b ∷ []) ∙ ap (λ v. v && (not (is_lf b) && true)) none ∙ ap (λ v. not v && true) other
-
 blanks_more : (k : List ℕ) (b : ℕ) → list_all is_blank k ≡ true → is_blank b ≡ true → list_all is_blank (k ++ b ∷ []) ≡ true
 blanks_more k b all blank = list_all-append is_blank k (b ∷ []) ∙ ap (λ v. v && (is_blank b && true)) all ∙ ap (λ v. v && true) blank
-
-both : (a b : Bool) → (a && b) ≡ true → (a ≡ true) × (b ≡ true)
-both true b e = (refl, e)
-both false b e = cc
 
 hash_more : (k : List ℕ) (b : ℕ) → list_all is_blank k ≡ true → is_blank b ≡ false → (b == 35) ≡ true → is_comment (k ++ b ∷ []) ≡ true
 hash_more [] b all solid hash = ap (λ v. cond v false (b == 35)) solid ∙ hash
 hash_more (c ∷ cs) b all solid hash =
-    let s = both (is_blank c) (list_all is_blank cs) all in
+    let s = and_parts (is_blank c) (list_all is_blank cs) all in
     ap (λ v. cond v (is_comment (cs ++ b ∷ [])) (c == 35)) s.0 ∙ hash_more cs b s.1 solid hash
 
-ends_blank : (k : List ℕ) (b : ℕ) → is_blank b ≡ true → EndsBlank (k ++ b ∷ [])
+pub ends_blank : (k : List ℕ) (b : ℕ) → is_blank b ≡ true → EndsBlank (k ++ b ∷ [])
 ends_blank k b blank = record { front = k; blank = b; parts = refl; is = blank }
 
 one_solid : (k : List ℕ) (b : ℕ) → is_blank b ≡ false → EndsSolid 1 (k ++ b ∷ [])

@@ -2,6 +2,7 @@
 use Rattle.std.proofs.Common.{◌≡◌, ℕ, ◌+◌, ◌<◌, Bool, true, false, not, cond, List, [], ◌∷◌, length, take, drop, get_or, refl, sym, ap, subst, ◌∙◌, arith}
 use Rattle.std.specs.Prelude.{unwrap_or}
 use Rattle.std.specs.List.{position, position_or_len}
+use Rattle.std.proofs.lemmas.Bool.{not-true}
 use Rattle.ts_token.specs.Text.{is_blank, stops_here, onto_word, words_from, Piece}
 use Rattle.ts_token.specs.Steps.{is_solid}
 use Rattle.ts_token.proofs.Fronts.{front, ending, take_front, drop_front, passes, place_is}
@@ -57,14 +58,10 @@ pub word_front : (column b : ℕ) (bs : List ℕ) → is_blank b ≡ false → H
 word_front column b [] h = ap (λ v. cond v [] (word column (b ∷ []) ∷ [])) h
 word_front column b (c ∷ cs) h = front_step column b c cs (is_blank c) h refl (word_front (column + 1) c cs)
 
-not_true : (v : Bool) → not v ≡ true → v ≡ false
-not_true true e = cc
-not_true false e = refl
-
 taken : (line : List ℕ) → 0 < length line → is_solid (get_or line 0 0) ≡ true → 0 < position_or_len is_blank line
 taken [] some h = absurd (omega arith)
 taken (b ∷ bs) some h =
-    let P : Bool → Type 0 = λ v. 0 < cond (not v) (1 + position_or_len is_blank bs) 0 in subst P (sym (not_true (is_blank b) h)) (omega arith)
+    let P : Bool → Type 0 = λ v. 0 < cond (not v) (1 + position_or_len is_blank bs) 0 in subst P (sym (not-true (is_blank b) h)) (omega arith)
 
 -- the same, with the word found by its length
 front_found : (column : ℕ) (line : List ℕ) → 0 < length line → is_solid (get_or line 0 0) ≡ true →
@@ -72,7 +69,7 @@ front_found : (column : ℕ) (line : List ℕ) → 0 < length line → is_solid 
     ∷ words_from (column + position_or_len is_blank line) (drop (position_or_len is_blank line) line)
 front_found column [] some h = absurd (omega arith)
 front_found column (b ∷ bs) some h =
-    let solid : is_blank b ≡ false = not_true (is_blank b) h in
+    let solid : is_blank b ≡ false = not-true (is_blank b) h in
     let P : Bool → Type 0 =
     λ v. words_from column (b ∷ bs)
     ≡ word column (cond v [] (b ∷ front is_blank bs))

@@ -1,12 +1,12 @@
 -- The first letter on which a check fails, at each arrival whose steps were taken.
-use Rattle.std.specs.Prelude.{◌≡◌, ◌⊎◌, ℕ, zero, suc, ◌+◌, ◌<◌, ◌≤◌, Bool, true, false, List, [], ◌∷◌, ◌++◌, Option, Some, MatchOption, length, refl}
-use Rattle.std.specs.List.{slice_get}
-use Rattle.std.proofs.Common.{sym, ◌∙◌, ap, subst, inl, inr, arith, ⊎_elim, length-append}
-use Rattle.std.proofs.lemmas.Option.{none-some, same_Some, slice_get_within}
+use Rattle.std.specs.Prelude.{◌≡◌, ℕ, ◌+◌, ◌<◌, ◌≤◌, Bool, true, false, List, [], ◌∷◌, ◌++◌, Option, MatchOption, length}
+use Rattle.std.proofs.Common.{sym, ◌∙◌, ap, subst, arith, ⊎_elim, length-append}
+use Rattle.std.proofs.lemmas.Option.{slice_get_within}
 use Rattle.ts_base.specs.declared.letter.Letter.{Letter}
 use Rattle.ts_base.specs.declared.letter.Letter.TheVariants.{Less, Equal, Greater}
 use Rattle.ts_regex.specs.Shape.{Shape}
 use Rattle.ts_pattern.specs.Closed.{Subject, meets_checks}
+use Rattle.ts_pattern.proofs.CallerLemmas.{front_or_last}
 use Rattle.ts_validate.specs.declared.arrival.Arrival.{Arrival}
 use Rattle.ts_validate.specs.declared.arrival.Tour.{Tour}
 use Rattle.ts_validate.specs.FirstFalse.{first_false}
@@ -29,14 +29,6 @@ by_cases s i true true true p q r = three s i (sym p) (sym q) (sym r)
 failing_is : (s : Subject Shape) (i : ℕ) (a b c : Bool) (o : Option Letter) → o ≡ first_false a b c → a ≡ meets_checks s (value_at s i) Less →
     b ≡ meets_checks s (value_at s i) Equal → c ≡ meets_checks s (value_at s i) Greater → MatchOption o (AllMeet s i) (λ l. FailsFirst s i l)
 failing_is s i a b c o e p q r = subst (λ z. MatchOption z (AllMeet s i) (λ l. FailsFirst s i l)) (sym e) (by_cases s i a b c p q r)
-
--- what stands in a list with one more element
-front_or_last : {A : Type 0} (xs : List A) (y : A) (k : ℕ) (x : A) → slice_get (xs ++ y ∷ []) k ≡ Some x →
-    (slice_get xs k ≡ Some x) ⊎ ((k ≡ length xs) × (y ≡ x))
-front_or_last [] y zero x q = inr (refl, same_Some y x q)
-front_or_last [] y (suc k) x q = absurd (none-some x q)
-front_or_last (z ∷ xs) y zero x q = inl q
-front_or_last (z ∷ xs) y (suc k) x q = ⊎_elim (λ h. inl h) (λ h. inr (ap (λ n. suc n) h.0, h.1)) (front_or_last xs y k x q)
 
 -- the answer for one arrival
 abbrev Answers : Subject Shape → Arrival → Option Letter → Type 0

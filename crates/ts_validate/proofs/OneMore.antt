@@ -18,7 +18,7 @@ use Rattle.std.specs.List.{AllByRecursion}
 use Rattle.ts_pattern.specs.OccurrenceList.{Place, AreOccurrences, e_range}
 use Rattle.ts_pattern.specs.Entries.{Entry}
 use Rattle.ts_pattern.specs.Closed.{tag_after, retag_entries, is_match, is_find}
-use Rattle.ts_pattern.proofs.CallerLemmas.{IsLeastStart, each_push, AreLive, Accepts, none_ends, least_ends, each_map, before_last, occurrences_none, occurrences_some}
+use Rattle.ts_pattern.proofs.CallerLemmas.{IsLeastStart, each_push, AreLive, Accepts, none_ends, least_ends, each_map, before_last, occurrences_none, occurrences_some, each_append}
 use Rattle.ts_transducer.proofs.CallerLemmas.{IsFree, Typed}
 use Rattle.ts_validate.proofs.Keeps.{first_of, held_range, first_mark, done_after, pair_after, TagHolds}
 use Rattle.ts_validate.proofs.Traces.{After, Strictly, early_old}
@@ -135,13 +135,9 @@ pub early_step : (n : ℕ) (f : Phase) (free : Bool) (sv : List (Entry ℕ Shape
     AllByRecursion (λ y. AllByRecursion (After y.start) (retag_entries f free sv)) (done_after f n sv ps x)
 early_step n Out free sv ps x h u v = early_old Out free sv ps h
 early_step n OutR free sv ps x h u v = early_old OutR free sv ps h
-early_step n OutA free sv ps x h u v = each_joined (λ y. AllByRecursion (After y.start) (retag_entries OutA free sv)) ps (option_to_list x)
+early_step n OutA free sv ps x h u v = each_append (λ y. AllByRecursion (After y.start) (retag_entries OutA free sv)) ps (option_to_list x)
     (early_old OutA free sv ps h)
     (v refl)
-  where
-    each_joined : {A : Type 0} (p : A → Type 0) (es fs : List A) → AllByRecursion p es → AllByRecursion p fs → AllByRecursion p (es ++ fs)
-    each_joined p [] fs h k = k
-    each_joined p (e ∷ es) fs h k = (h.0, each_joined p es fs h.1 k)
 early_step n MaybeB free sv ps x h u v = early_old MaybeB free sv ps h
 early_step n MaybeA free sv ps x h u v = early_old MaybeA free sv ps h
 early_step n Found free sv ps x h u v = early_old Found free sv ps h

@@ -2,7 +2,7 @@
 use Rattle.std.specs.Prelude.{◌≡◌, ℕ, zero, suc, ◌+◌, ◌<◌, ◌≤◌, nat_lt, Bool, true, false, cond, not, ◌&&◌, ◌||◌, List, [], ◌∷◌, Option, None, Some, is_some, map, length, get_or, refl}
 use Rattle.std.specs.List.{list_all, list_any, position, position_or_len, AllByRecursion}
 use Rattle.std.proofs.Common.{sym, ◌∙◌, ap, subst, arith}
-use Rattle.std.proofs.lemmas.Bool.{eq-eqb, and_parts, false≢true}
+use Rattle.std.proofs.lemmas.Bool.{eq-eqb, and_parts, false≢true, ltb-true, ltb-false}
 use Rattle.std.proofs.lemmas.Option.{none-some, same_Some}
 use Rattle.std.proofs.lemmas.List.{length-map}
 use Rattle.ts_base.specs.declared.letter.Letter.{Letter}
@@ -25,14 +25,11 @@ use Rattle.ts_validate.proofs.Values.{AreNumbers, HasNumbers, IsFor, plan_of, by
 
 -- what a plan of the pattern is
 
-number_below : (i n : ℕ) → nat_lt i n ≡ true → i < n
-number_below i n q = grind (arith, q)
-
 entries_below : (rs : List Shape) (es : List (Entry (Unit {0}) ℕ Tag)) → list_all (λ e. nat_lt e.residual (length rs)) es ≡ true → AreNumbers rs es
 entries_below rs [] q = tt
 entries_below rs (e ∷ es) q =
     let h = and_parts (nat_lt e.residual (length rs)) (list_all (λ e. nat_lt e.residual (length rs)) es) q in
-    (number_below e.residual (length rs) h.0, entries_below rs es h.1)
+    (ltb-true e.residual (length rs) h.0, entries_below rs es h.1)
 
 all_below : (rs : List Shape) (xs : List (PlainConfiguration ℕ)) → list_all (λ x. list_all (λ e. nat_lt e.residual (length rs)) x.live) xs ≡ true →
     AllByRecursion (HasNumbers rs) xs
@@ -58,23 +55,17 @@ plan_for p rs xs q =
 place_some : {A : Type 0} (p : A → Bool) (xs : List A) (j : ℕ) → position p xs ≡ Some j → (j ≡ position_or_len p xs) × (position_or_len p xs < length xs)
 place_some p xs j q = go (nat_lt (position_or_len p xs) (length xs)) refl q
   where
-    below : (m n : ℕ) → nat_lt m n ≡ true → m < n
-    below m n q = grind (arith, q)
-
     go : (b : Bool) → nat_lt (position_or_len p xs) (length xs) ≡ b → cond b (Some (position_or_len p xs)) None ≡ Some j →
         (j ≡ position_or_len p xs) × (position_or_len p xs < length xs)
-    go true e s = (cc, below (position_or_len p xs) (length xs) e)
+    go true e s = (cc, ltb-true (position_or_len p xs) (length xs) e)
     go false e s = absurd (none-some j s)
 
 place_none : {A : Type 0} (p : A → Bool) (xs : List A) → position p xs ≡ None → length xs ≤ position_or_len p xs
 place_none p xs q = go (nat_lt (position_or_len p xs) (length xs)) refl q
   where
-    above : (m n : ℕ) → nat_lt m n ≡ false → n ≤ m
-    above m n q = grind (arith, q)
-
     go : (b : Bool) → nat_lt (position_or_len p xs) (length xs) ≡ b → cond b (Some (position_or_len p xs)) None ≡ None → length xs ≤ position_or_len p xs
     go true e s = absurd (none-some (position_or_len p xs) (sym s))
-    go false e s = above (position_or_len p xs) (length xs) e
+    go false e s = ltb-false (position_or_len p xs) (length xs) e
 
 -- where a test of numbers and one of values agree
 

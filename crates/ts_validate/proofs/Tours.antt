@@ -1,12 +1,11 @@
 -- How the tour of the reached configurations grows.
-use Rattle.std.specs.Prelude.{◌≡◌, ◌⊎◌, ℕ, zero, suc, ◌+◌, ◌<◌, ◌≤◌, nat_lt, true, ◌&&◌, List, [], ◌∷◌, ◌++◌, Option, None, Some, map, length, set, replicate, reverse, refl}
-use Rattle.std.proofs.Common.{sym, ◌∙◌, ap, subst, inl, inr, arith, ⊎_elim, length-append, append_assoc}
+use Rattle.std.specs.Prelude.{◌≡◌, ℕ, zero, suc, ◌+◌, ◌<◌, ◌≤◌, nat_lt, true, ◌&&◌, List, [], ◌∷◌, ◌++◌, Option, None, Some, map, length, set, replicate, reverse, refl}
+use Rattle.std.proofs.Common.{sym, ◌∙◌, ap, subst, arith, ⊎_elim, length-append, append_assoc}
 use Rattle.std.proofs.Math.Nat.{eq-or-lt_of_le}
-use Rattle.std.proofs.lemmas.Bool.Decides.{eqb_tells}
 use Rattle.ts_base.specs.declared.letter.Letter.{Letter}
 use Rattle.ts_base.specs.declared.letter.Letter.TheVariants.{Less, Equal, Greater}
 use Rattle.std.specs.List.{list_all, slice_get}
-use Rattle.std.proofs.lemmas.Bool.{and_parts, false≢true}
+use Rattle.std.proofs.lemmas.Bool.{and_parts, false≢true, cases_eq}
 use Rattle.std.proofs.lemmas.List.{reverse-append, length-map, length-set, length-replicate, get_or-set_same, get_or-set_other}
 use Rattle.std.proofs.lemmas.Option.{none-some, same_Some}
 use Rattle.ts_regex.specs.Shape.{Shape, shape_of}
@@ -60,9 +59,6 @@ none_there : (n c : ℕ) → place_at (replicate n None) c ≡ None
 none_there zero c = refl
 none_there (suc n) zero = refl
 none_there (suc n) (suc c) = none_there n c
-
-eq_or_not : (m n : ℕ) → (m ≡ n) ⊎ (m ≡ n → ⊥)
-eq_or_not m n = ⊎_elim (λ q. inl q.1) (λ q. inr (λ z. q.1 z)) (eqb_tells m n)
 
 -- the start
 
@@ -198,7 +194,7 @@ more_reached s xs os h next from l f i e t v =
         × ((arrival_at (xs ++ arrival next from l ∷ []) k).configuration ≡ z)) e
         (same k r u (subst (λ z. place_at (set os next (Some (length xs))) z ≡ Some k) (sym e) q)))
         (λ n. apart c k n q)
-        (eq_or_not next c)
+        (cases_eq next c)
 
 pub add_reached : (s : Subject Shape) (xs ys : List Arrival) (os ps : List (Option ℕ)) → Reaches s xs os → (next from : ℕ) (l : Letter) → from < length xs →
     IsFirst s (step_of s (arrival_value s xs from) l) next → step_listed s (arrival_value s xs from) l ≡ true → None ≡ place_at os next →

@@ -2,7 +2,7 @@
 -- listed; and where one isn't, the step isn't listed.
 use Rattle.std.specs.Prelude.{◌≡◌, ◌⊎◌, ℕ, zero, suc, ◌+◌, ◌<◌, ◌≤◌, ◌==◌, nat_le, Bool, true, false, cond, not, List, [], ◌∷◌, map, length, refl}
 use Rattle.std.proofs.Common.{sym, ◌∙◌, ap, subst, inl, inr, arith, ⊎_elim, add-one}
-use Rattle.std.proofs.lemmas.Bool.{eqb-true, eq-eqb, false≢true}
+use Rattle.std.proofs.lemmas.Bool.{eqb-true, eq-eqb, false≢true, leb-true, leb-false}
 use Rattle.std.proofs.lemmas.List.{length-map}
 use Rattle.ts_base.specs.declared.letter.Letter.{Letter}
 use Rattle.ts_base.specs.declared.letter.Letter.TheVariants.{Less, Equal, Greater}
@@ -91,9 +91,6 @@ numbers_same rs i j p q =
 
 -- after the letter
 
-le_true : (a b : ℕ) → nat_le a b ≡ true → a ≤ b
-le_true a b q = grind (arith, q)
-
 next_cases : (rs : List Shape) (r : Shape) → (b : Bool) → has_word r ≡ b → cond b (number_of rs r) (length rs) ≤ length rs →
     (not (cond b (number_of rs r) (length rs) == length rs) ≡ b) × ((b ≡ true) → shape_at rs (cond b (number_of rs r) (length rs)) ≡ r)
     × ((b ≡ true) → cond b (number_of rs r) (length rs) < length rs)
@@ -118,7 +115,7 @@ numbers_agree rs l i p q =
     let n : length (table_of rs) ≡ length rs = length-map rs (λ r. known_of rs r) in
     let r : Shape = residual (shape_at rs i) l in
     let h = next_cases rs r (has_word r) refl (subst (λ z. z ≤ length rs) e
-    (subst (λ z. next_on l (known_at (table_of rs) i) ≤ z) n (le_true (next_on l (known_at (table_of rs) i)) (length (table_of rs)) q))) in
+    (subst (λ z. next_on l (known_at (table_of rs) i) ≤ z) n (leb-true (next_on l (known_at (table_of rs) i)) (length (table_of rs)) q))) in
     let has : not (next_on l (known_at (table_of rs) i) == length (table_of rs)) ≡ has_word r = ap (λ z. not (z == length (table_of rs))) e
     ∙ ap (λ z. not (next_number rs (shape_at rs i) l == z)) n ∙ h.0 in
     record {
@@ -140,14 +137,11 @@ unlisted rs l i p q =
     let r : Shape = residual (shape_at rs i) l in
     go r (has_word r) refl (sym (ap (λ z. nat_le z (length (table_of rs))) e ∙ ap (λ z. nat_le (next_number rs (shape_at rs i) l) z) n) ∙ q)
   where
-    above : (a b : ℕ) → nat_le a b ≡ false → b < a
-    above a b q = grind (arith, q)
-
     go : (r : Shape) (b : Bool) → has_word r ≡ b → nat_le (cond b (number_of rs r) (length rs)) (length rs) ≡ false →
         (has_word r ≡ true) × ((j : ℕ) → j < length rs → shape_at rs j ≡ r → ⊥)
-    go r false e q = absurd (let h = above (length rs) (length rs) q in omega arith)
+    go r false e q = absurd (let h = leb-false (length rs) (length rs) q in omega arith)
     go r true e q = (
       e,
-      λ j s h. let a = above (number_of rs r) (length rs) q in
+      λ j s h. let a = leb-false (number_of rs r) (length rs) q in
           let k : number_of rs r ≤ j = subst (λ z. number_of rs z ≤ j) h (number_small rs j s) in omega arith,
     )

@@ -1,8 +1,8 @@
 -- The tour reaches each reached configuration, and so its verdict is that of Closed.
-use Rattle.std.specs.Prelude.{◌≡◌, ℕ, ◌<◌, ◌≤◌, ◌==◌, nat_lt, true, ◌&&◌, List, [], ◌∷◌, Option, None, Some, map, length, get_or, refl}
+use Rattle.std.specs.Prelude.{◌≡◌, ℕ, ◌<◌, ◌≤◌, nat_lt, true, ◌&&◌, List, [], ◌∷◌, Option, None, Some, map, length, get_or, refl}
 use Rattle.std.specs.List.{list_all, slice_get}
 use Rattle.std.proofs.Common.{sym, ◌∙◌, ap, subst, arith}
-use Rattle.std.proofs.lemmas.Bool.{eqb-true, and_parts, false≢true}
+use Rattle.std.proofs.lemmas.Bool.{and_parts, false≢true}
 use Rattle.std.proofs.lemmas.Option.{none-some, same_Some, slice_get-get_or}
 use Rattle.ts_base.specs.declared.letter.Letter.{Letter}
 use Rattle.ts_regex.specs.Shape.{Shape, shape_of}
@@ -10,10 +10,9 @@ use Rattle.ts_regex.specs.NormalForm.{normal_form, same_shape}
 use Rattle.ts_transducer.specs.declared.row.Row.{Row}
 use Rattle.ts_pattern.specs.declared.pattern.Pattern.{Pattern}
 use Rattle.ts_pattern.specs.declared.plan.Plan.{Plan}
-use Rattle.ts_pattern.specs.declared.plan.Tag.{Tag}
-use Rattle.ts_pattern.specs.Entries.{Entry}
 use Rattle.ts_pattern.specs.Closed.{PlainConfiguration, Subject, first_passes, step_of, step_listed, meets_checks, LeadsTo, FromStart, OneStepOn, IsClosed}
-use Rattle.ts_pattern.specs.Plans.{plain_plan, configuration_value, is_empty, is_blank, is_plan_of}
+use Rattle.ts_pattern.specs.Plans.{plain_plan, configuration_value, is_blank, is_plan_of}
+use Rattle.ts_pattern.proofs.CallerLemmas.{blank_value}
 use Rattle.ts_validate.specs.declared.arrival.Arrival.{Arrival}
 use Rattle.ts_validate.specs.declared.arrival.Tour.{Tour}
 use Rattle.ts_validate.specs.declared.failure.Failure.{Failure}
@@ -26,18 +25,10 @@ blank = record { state = 0; live = [] }
 
 -- configuration 0 is the start
 
-gone : (rs : List Shape) (n : ℕ) (es : List (Entry (Unit {0}) ℕ Tag)) → is_empty es ≡ true →
-    (configuration_value rs (record { state = n; live = es })).live ≡ []
-gone rs n [] q = refl
-gone rs n (e ∷ es) q = absurd (false≢true q)
-
 first_value : (rs : List Shape) (xs : List (PlainConfiguration ℕ)) → first_passes (λ x. is_blank x) xs ≡ true →
     configuration_at (map (λ x. configuration_value rs x) xs) 0 ≡ blank
 first_value rs [] q = absurd (false≢true q)
-first_value rs (x ∷ xs) q =
-    let h = and_parts (x.state == 0) (is_empty x.live) q in
-    ap (λ z. record { state = z; live = (configuration_value rs x).live }) (eqb-true x.state 0 h.0)
-    ∙ ap (λ z. record { state = 0; live = z }) (gone rs x.state x.live h.1)
+first_value rs (x ∷ xs) q = blank_value rs x q
 
 start_value : (rows : List Row) (p : Pattern) (plan : Plan) → is_plan_of (shape_of p.regex) (plain_plan plan) ≡ true →
     value_at (against rows p plan) 0 ≡ blank
