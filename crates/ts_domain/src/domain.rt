@@ -14,13 +14,13 @@ use crate::keep::{Keep, singles};
 use crate::marks::{Mark, Marks, Node};
 use crate::merge::{has_no_union, joined, sorted_ranges};
 use crate::pieces::{count_in, has_in, with_more};
+use crate::stop::DomainStop;
 use crate::values::{Values, walk};
 use smallvec::SmallVec;
 use std::alloc::Global;
 use std::marker::Model;
 use std::mem;
 use std::rc::Rc;
-use thiserror::Error;
 use ts_base::Memory;
 use ts_base::limits::CELL_VALUE;
 
@@ -38,25 +38,6 @@ pub struct Domain {
     ranges: Rc<CountedRanges, Global>,
     piece: Interval,
     marks: Marks,
-}
-
-/// Why ranges make no domain: there is none, or one is empty; or there was no memory.
-#[derive(Clone, Copy, Debug, PartialEq, Eq, Error)]
-pub enum DomainStop {
-    #[error("a range is empty, or there is none")]
-    Empty,
-    #[error("out of memory")]
-    Memory,
-}
-
-ghost use Rattle.ts_domain.specs.declared.domain.DomainStop.TheVariants.{Memory as NoMemory};
-
-impl From<Memory> for DomainStop {
-    ghost from_gives = { λ _ stop. stop ≡ NoMemory };
-
-    fn from(_error: Memory) -> DomainStop {
-        DomainStop::Memory
-    }
 }
 
 impl Model for Domain {

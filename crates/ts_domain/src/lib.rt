@@ -35,11 +35,13 @@ mod lookup;
 mod marks;
 mod merge;
 mod pieces;
+mod stop;
 mod values;
 
 pub use boxed::Boxed;
-pub use domain::{Domain, DomainStop};
+pub use domain::Domain;
 pub use interval::Interval;
+pub use stop::DomainStop;
 pub use values::Values;
 
 #[cfg(test)]
