@@ -1,7 +1,7 @@
 -- A table whose rows are filled with one thing: where its rows begin.
-use Rattle.std.proofs.Common.{◌≡◌, ℕ, zero, suc, ◌+◌, ◌-◌, ◌<◌, ◌≤◌, List, [], ◌∷◌, ◌++◌, length, map, take, replicate, get_or, ℤ, ◌*◌, refl, sym, ap, ◌∙◌, arith, subst}
+use Rattle.std.proofs.Common.{◌≡◌, ℕ, ◌+◌, ◌-◌, ◌<◌, ◌≤◌, List, [], ◌∷◌, ◌++◌, length, map, take, replicate, get_or, ℤ, ◌*◌, refl, sym, ap, ◌∙◌, arith, subst}
 use Rattle.std.specs.Prelude.{sum}
-use Rattle.std.proofs.lemmas.List.{take_more, length-replicate, take_all, drop-replicate}
+use Rattle.std.proofs.lemmas.List.{take_more, length-replicate, take_all, drop-replicate, take-replicate}
 use Rattle.std.proofs.lemmas.List.Sums.{fold_more, sum_by-append}
 use Rattle.std.proofs.lemmas.List.{get_or-map, length-map}
 use Rattle.ts_bound.specs.Rows.{rows_from, rows_of, Ends, Starts}
@@ -29,11 +29,6 @@ ends_ok a [] = omega arith
 ends_ok a (n ∷ ns) = let s = sum_first n ns in let e : (a + n) + sum ns ≡ a + sum (n ∷ ns) = omega (arith, s) in
     (omega arith, subst (Ends (a + n) (ends_of (a + n) ns)) e (ends_ok (a + n) ns))
 
-take_replicate : {X : Type 0} (n m : ℕ) (x : X) → n ≤ m → take n (replicate m x) ≡ replicate n x
-take_replicate zero m x h = refl
-take_replicate (suc n) zero x h = absurd (omega (arith, h))
-take_replicate (suc n) (suc m) x h = ap (λ l. x ∷ l) (take_replicate n m x (omega (arith, h)))
-
 rows_same : {X : Type 0} (a m : ℕ) (ns : List ℕ) (x : X) → a + sum ns ≤ m → rows_from a (ends_of a ns) (replicate m x) ≡ map (λ n. replicate n x) ns
 unfolding rows_from
 rows_same a m [] x h = refl
@@ -41,7 +36,7 @@ rows_same a m (n ∷ ns) x h =
     let s = sum_first n ns in let e : a + n - a ≡ n = omega arith in
     ap (λ l. take (a + n - a) l ∷ rows_from (a + n) (ends_of (a + n) ns) (replicate m x)) (drop-replicate a m x)
     ∙ ap (λ k. take k (replicate (m - a) x) ∷ rows_from (a + n) (ends_of (a + n) ns) (replicate m x)) e ∙
-    ap (λ l. l ∷ rows_from (a + n) (ends_of (a + n) ns) (replicate m x)) (take_replicate n (m - a) x (omega (arith, s, h)))
+    ap (λ l. l ∷ rows_from (a + n) (ends_of (a + n) ns) (replicate m x)) (take-replicate n (m - a) x (omega (arith, s, h)))
     ∙ ap (λ l. replicate n x ∷ l) (rows_same (a + n) m ns x (omega (arith, s, h)))
 
 -- the loop over the sizes

@@ -2,7 +2,7 @@
 use Rattle.std.proofs.Common.{◌≡◌, ℕ, zero, suc, ◌+◌, ◌*◌, ◌-◌, ◌<◌, ◌≤◌, ℤ, Bool, true, false, cond, nat_eq, List, [], ◌∷◌, ◌++◌, length, map, take, drop, set, get_or, replicate, refl, sym, ap, ◌∙◌, subst, arith}
 use Rattle.std.specs.Prelude.{IsTrue, fold, flat_map, slice_range}
 use Rattle.std.specs.List.{AllByRecursion}
-use Rattle.std.proofs.lemmas.List.{take_all, append_assoc, append-nil, length-append, length-drop, length-take-le, length-set, set-append_left, set-append_right, get_or-append-add, get_or_append_left, get_or-set_same, get_or-set_other, get_or_default, length-replicate, get_or-replicate, drop_all, drop_more}
+use Rattle.std.proofs.lemmas.List.{take_all, append_assoc, append-nil, length-append, length-drop, length-take-le, length-set, set-append_left, set-append_right, get_or-append-add, get_or_append_left, get_or-set_same, get_or-set_other, get_or_default, length-replicate, get_or-replicate, drop_all, drop_more, drop-drop}
 use Rattle.std.proofs.lemmas.Bool.{eqb-true, eqb-false}
 use Rattle.std.proofs.lemmas.List.Sums.{fold-append}
 use Rattle.std.proofs.lemmas.List.FromFn.{fill_by_all, length-map-range_with_len}
@@ -21,6 +21,7 @@ use Rattle.ts_bound.specs.NextRow.{Source, standing_at, sources_from, sources, h
 use Rattle.ts_bound.specs.Filling.{over, taken_in}
 use Rattle.ts_bound.specs.HullTables.{start_hull, hull_at, hulls_at, row_of}
 use Rattle.ts_bound.proofs.HullLaws.{TakesNone, both_takes_none, none_takes_none}
+use Rattle.ts_bound.proofs.SpanRuns.{length-hulls_at}
 
 -- lists: ws over xs from place i on
 
@@ -52,11 +53,6 @@ over_end [] ws x h = absurd (omega (arith, h))
 over_end (y ∷ ys) [] x h = refl
 over_end (y ∷ ys) (w ∷ ws) x h = ap (λ l. w ∷ l) (over_end (y ∷ ys) ws x h)
 
-drop_twice : {X : Type 0} (n m : ℕ) (xs : List X) → drop n (drop m xs) ≡ drop (m + n) xs
-drop_twice n zero xs = let e : 0 + n ≡ n = omega arith in ap (λ k. drop k xs) (sym e)
-drop_twice n (suc m) [] = drop_all n [] (omega arith) ∙ sym (drop_all (suc m + n) [] (omega arith))
-drop_twice n (suc m) (x ∷ xs) = let e : suc m + n ≡ suc (m + n) = omega arith in drop_twice n m xs ∙ ap (λ k. drop k (x ∷ xs)) (sym e)
-
 over_more : {X : Type 0} (xs : List X) (i : ℕ) (ws : List X) (x : X) → i + length ws < length xs →
     set (over xs i ws) (i + length ws) x ≡ over xs i (ws ++ x ∷ [])
 over_more xs i ws x h =
@@ -66,7 +62,7 @@ over_more xs i ws x h =
     set-append_right (take i xs) (ws ++ drop (i + length ws) xs) i (i + length ws) x l (omega arith)
     ∙ ap (λ n. take i xs ++ set (ws ++ drop (i + length ws) xs) n x) back
     ∙ ap (λ t. take i xs ++ t) (over_end (drop (i + length ws) xs) ws x rest)
-    ∙ ap (λ t. take i xs ++ ((ws ++ x ∷ []) ++ t)) (drop_twice 1 (i + length ws) xs ∙ ap (λ n. drop n xs) long)
+    ∙ ap (λ t. take i xs ++ ((ws ++ x ∷ []) ++ t)) (drop-drop 1 (i + length ws) xs ∙ ap (λ n. drop n xs) long)
 
 replicate_more : {X : Type 0} (n : ℕ) (x : X) → replicate n x ++ x ∷ [] ≡ replicate (suc n) x
 replicate_more zero x = refl
@@ -178,7 +174,7 @@ sources_next n left left' v from row is =
     let e : n ≡ (from + n) - from = omega arith in
     ap (λ t. sources n t (drop from row)) is
     ∙ ap (λ k. sources_from v 0 (take k (drop from row)) ++ sources n left' (drop n (drop from row))) e
-    ∙ ap (λ t. sources_from v 0 (slice_range row from (from + n)) ++ sources n left' t) (drop_twice n from row)
+    ∙ ap (λ t. sources_from v 0 (slice_range row from (from + n)) ++ sources n left' t) (drop-drop n from row)
 
 all_left : {A : Type 0} (P : A → Type 0) (xs ys : List A) → AllByRecursion P (xs ++ ys) → AllByRecursion P xs
 all_left P [] ys h = tt
@@ -404,10 +400,6 @@ start_set xs next at n h some fits is =
     let l = length-replicate n none in let e : at ≡ at + 0 = omega arith in
     ap (λ t. set t at h) is ∙ ap (λ k. set (over xs at (replicate n none)) k h) e
     ∙ over_write xs at (replicate n none) 0 h (omega (arith, l, fits)) (omega (arith, l, some))
-
-length-hulls_at : (b : Body) (before : List (List ℤ)) (v : ℤ) → length (hulls_at b before v) ≡ length b.states
-unfolding hulls_at
-length-hulls_at b before v = length-map-range_with_len (hull_at b before v) 0 (length b.states)
 
 abbrev pub LeftOfStart : Body → List ℤ → List ℤ → ℕ → List Hull → Type 0
 LeftOfStart b ws left at next = LeftOf (length b.states) (hulls_at b []) ws left at next

@@ -1,15 +1,13 @@
 -- A smaller box has smaller hulls, and where the mark leaves answers as they are, smaller spans.
-use Rattle.std.proofs.Common.{◌≡◌, ℕ, zero, suc, ◌+◌, ◌-◌, ◌<◌, ◌≤◌, inl, inr, ⊎_elim, ℤ, pos, Bool, true, false, cond, ◌&&◌, nat_eq, List, [], ◌∷◌, ◌++◌, length, map, take, drop, get_or, refl, sym, ap, ◌∙◌, subst, arith}
+use Rattle.std.proofs.Common.{◌≡◌, ℕ, zero, suc, ◌+◌, ◌-◌, ◌<◌, ◌≤◌, inl, inr, ⊎_elim, ℤ, pos, Bool, true, false, cond, nat_eq, List, [], ◌∷◌, ◌++◌, length, map, take, drop, get_or, refl, sym, ap, ◌∙◌, subst, arith}
 use Rattle.std.specs.Prelude.{fold, flat_map, reverse, Contains, Option, None, Some, IfSome}
 use Rattle.std.specs.List.{range_with_len, AllByRecursion}
-use Rattle.std.proofs.lemmas.Bool.{and_from, and_parts}
 use Rattle.std.proofs.lemmas.List.{reverse-append}
 use Rattle.ts_base.specs.declared.ext.Ext.TheVariants.{Int as Number}
 use Rattle.ts_base.specs.declared.span.Span.{Span}
 use Rattle.ts_base.specs.SpanLayer.{IsWithin}
-use Rattle.ts_base.specs.Spans.{none_span, one_span, has_some, Holds, span_hull}
-use Rattle.ts_base.proofs.Order.{le_refl, le_trans}
-use Rattle.ts_base.proofs.SpanLaws.{holds_some, none_empty, hull_left, hull_right, hull_least, lifted_within}
+use Rattle.ts_base.specs.Spans.{none_span, one_span, Holds, span_hull}
+use Rattle.ts_base.proofs.SpanLaws.{none_empty, hull_left, hull_right, hull_least, lifted_within}
 use Rattle.ts_automaton.specs.declared.state.Mark.TheVariants.{Same}
 use Rattle.ts_automaton.specs.declared.regs.Hull.{Hull}
 use Rattle.ts_automaton.specs.Formula.{Formula}
@@ -19,17 +17,17 @@ use Rattle.ts_automaton.specs.AutomatonRun.{move_between, registers_after, finis
 use Rattle.ts_automaton.specs.SpanRun.{none_hull, has_registers, moved_hull, finished_span, marked_span, finish_span_of}
 use Rattle.ts_automaton.proofs.Evaluation.{value_related}
 use Rattle.ts_automaton.proofs.KindLaws.{op_mono}
-use Rattle.ts_automaton.proofs.RunLaws.{marks_hold}
-use Rattle.ts_domain.proofs.Sets.{contains_cons}
+use Rattle.ts_domain.proofs.Sets.{contains_cons, all_append}
 use Rattle.ts_glue.specs.Pairs.{Pair}
 use Rattle.ts_glue.specs.Glued.{glue_span_at, glued_span}
-use Rattle.ts_glue.proofs.SpanGlue.{glued_spans_grow}
+use Rattle.ts_glue.proofs.SpanGlue.{glued_spans_grow, wider_registers, same_grows}
 use Rattle.ts_bound.specs.Hulls.{hull_of, none, hull_of_both, hull_of_all}
 use Rattle.ts_bound.specs.NextRow.{Source, source, hull_from, next_hull, states_of}
 use Rattle.ts_bound.specs.HullTables.{hull_at, cells_before, cells_after, values_at}
 use Rattle.ts_bound.specs.TermSpans.{Automata, standing_in, span_of_all, finish_spans, glued_spans, spans_at, value_span, term_span}
 use Rattle.ts_bound.specs.Laws.{Splits, AreAutomata, AreWithin, SmallerBoxesAreWithin}
 use Rattle.ts_bound.proofs.Reached.{Any, any_of_map, any_flat, any_range, any_flat_range, any_mapped, spans_take}
+use Rattle.ts_bound.proofs.TableLaws.{all_range}
 
 abbrev pub HullWithin : EachOf Span → EachOf Span → Type 0
 HullWithin h k = Each IsWithin h k
@@ -39,16 +37,6 @@ within_self s e h = h
 
 none_within : (k : EachOf Span) → HullWithin none_hull k
 none_within k = (λ e h. absurd (none_empty e h), λ e h. absurd (none_empty e h), λ e h. absurd (none_empty e h))
-
-some_within : (s t : Span) → IsWithin s t → has_some s ≡ true → has_some t ≡ true
-some_within s t w h = holds_some t s.lo (w s.lo (le_refl s.lo, h))
-
-registers_within : (h k : EachOf Span) → HullWithin h k → has_registers h ≡ true → has_registers k ≡ true
-registers_within h k w e =
-    let p = and_parts (has_some h.c && has_some h.d) (has_some h.r) e in let q = and_parts (has_some h.c) (has_some h.d) p.0 in
-    and_from (has_some k.c && has_some k.d) (has_some k.r) (and_from (has_some k.c) (has_some k.d) (some_within h.c k.c w.0 q.0)
-    (some_within h.d k.d w.1 q.1))
-    (some_within h.r k.r w.2 p.1)
 
 value_within : (f : Formula) (h k : EachOf Span) (x y : ℤ) → HullWithin h k → IsWithin (value_in spans h x y f) (value_in spans k x y f)
 value_within f h k x y w =
@@ -61,7 +49,7 @@ moved_within m h k x y w = go (has_registers h) refl
     go : (t : Bool) → has_registers h ≡ t → HullWithin (cond t (registers_after spans h x y m) none_hull) (moved_hull k x y m)
     go false e = none_within (moved_hull k x y m)
     go true e =
-        subst (λ t. HullWithin (registers_after spans h x y m) (cond t (registers_after spans k x y m) none_hull)) (sym (registers_within h k w e))
+        subst (λ t. HullWithin (registers_after spans h x y m) (cond t (registers_after spans k x y m) none_hull)) (sym (wider_registers h k w e))
         (value_within m.to.c h k x y w, value_within m.to.d h k x y w, value_within m.to.r h k x y w)
 
 given_within : (b : Body) (v : ℤ) (q : ℕ) (u : ℤ) (p : ℕ) (h k : Hull) → HullWithin (spans_of h) (spans_of k) →
@@ -103,10 +91,6 @@ is_in s (k ∷ hs) h a = ⊎_elim (λ w. stays_in s hs (hull_of_both h k) (secon
 
 -- lists over the values of a set and the states
 
-all_append : {A : Type 0} (P : A → Type 0) (xs ys : List A) → AllByRecursion P xs → AllByRecursion P ys → AllByRecursion P (xs ++ ys)
-all_append P [] ys h k = k
-all_append P (x ∷ xs) ys h k = (h.0, all_append P xs ys h.1 k)
-
 all_flat : {A : Type 0} (P : A → Type 0) (f : ℤ → List A) (us : List ℤ) → ((u : ℤ) → Contains us u → AllByRecursion P (f u)) →
     AllByRecursion P (flat_map f us)
 all_flat P f [] h = tt
@@ -116,10 +100,6 @@ all_flat P f (u ∷ us) h = all_append P (f u) (flat_map f us) (h u ((contains_c
 all_mapped : {A : Type 0} (P : A → Type 0) (f : ℤ → A) (us : List ℤ) → ((u : ℤ) → Contains us u → P (f u)) → AllByRecursion P (map f us)
 all_mapped P f [] h = tt
 all_mapped P f (u ∷ us) h = (h u ((contains_cons u us u).1 (inl refl)), all_mapped P f us (λ w c. h w ((contains_cons u us w).1 (inr c))))
-
-all_range : {A : Type 0} (P : A → Type 0) (f : ℕ → A) (m q n : ℕ) → q + n ≤ m → ((p : ℕ) → p < m → P (f p)) → AllByRecursion P (map f (range_with_len q n))
-all_range P f m q zero le h = tt
-all_range P f m q (suc n) le h = (h q (omega (arith, le)), all_range P f m (q + 1) n (omega (arith, le)) h)
 
 all_flat_range : {A : Type 0} (P : A → Type 0) (f : ℕ → List A) (m q n : ℕ) → q + n ≤ m → ((p : ℕ) → p < m → AllByRecursion P (f p)) →
     AllByRecursion P (flat_map f (range_with_len q n))
@@ -161,19 +141,11 @@ hull_grows b (us ∷ before) (ws ∷ wider) v q a = next_within b v q us ws (hul
 
 -- spans, where the mark leaves them
 
-same_mark : (n : ℕ) (s t : Span) → IsWithin s t → IsWithin (marked_span Same n s) (marked_span Same n t)
-same_mark n s t w e h = marks_hold Same n t e (w e (go (has_some s) refl h)) tt
-  where
-    go : (b : Bool) → has_some s ≡ b → Holds (cond b (span_hull (one_span s.lo) (one_span s.hi)) none_span) e → Holds s e
-    go true some h =
-        hull_least (one_span s.lo) (one_span s.hi) s (λ x p. (p.0, le_trans x s.lo s.hi p.1 some)) (λ x p. (le_trans s.lo s.hi x some p.0, p.1)) e h
-    go false some h = absurd (none_empty e h)
-
 finished_within : (b : Body) (h k : EachOf Span) → HullWithin h k → IsWithin (finished_span b h) (finished_span b k)
 finished_within b h k w = go (has_registers h) refl
   where
     go : (t : Bool) → has_registers h ≡ t → IsWithin (cond t (finish_value spans b h) none_span) (finished_span b k)
-    go true e = subst (λ t. IsWithin (finish_value spans b h) (cond t (finish_value spans b k) none_span)) (sym (registers_within h k w e))
+    go true e = subst (λ t. IsWithin (finish_value spans b h) (cond t (finish_value spans b k) none_span)) (sym (wider_registers h k w e))
         (value_within b.finish h k (pos 0) (pos 0) w)
     go false e = λ x p. absurd (none_empty x p)
 
@@ -201,7 +173,7 @@ finishes_grow b mark n before wider v a =
     span_in (f q) (map g (states_of b)) (any_range (λ t. IsWithin (f q) t) g 0 (length b.states) q (omega arith) (omega (arith, lt))
     (subst (λ m. IsWithin (marked_span m n (finished_span b (spans_of (hull_at b before v q))))
     (marked_span m n (finished_span b (spans_of (hull_at b wider v q))))) (sym mark)
-    (same_mark n _ _ (finished_within b _ _ (hull_grows b before wider v q a)))))))
+    (same_grows n _ _ (finished_within b _ _ (hull_grows b before wider v q a)))))))
 
 glued_grow : (p : Pair) → p.forward.mark ≡ Same → (n : ℕ) (before wider behind rest : List (List ℤ)) (v : ℤ) → AreWithin before wider →
     AreWithin behind rest →
@@ -220,7 +192,7 @@ glued_grow p mark n before wider behind rest v a c =
     (any_range (λ t. IsWithin (f q r) t) (g q) 0 (length p.reverse.states) r (omega arith) (omega (arith, l))
     (subst (λ m. IsWithin (marked_span m n (glue_span_at p (standing_in p.forward before v q) (standing_in p.reverse behind v r) v))
     (marked_span m n (glue_span_at p (standing_in p.forward wider v q) (standing_in p.reverse rest v r) v))) (sym mark)
-    (same_mark n _ _ (glued_spans_grow p q r (spans_of (hull_at p.forward before v q)) (spans_of (hull_at p.reverse behind v r))
+    (same_grows n _ _ (glued_spans_grow p q r (spans_of (hull_at p.forward before v q)) (spans_of (hull_at p.reverse behind v r))
     (spans_of (hull_at p.forward wider v q))
     (spans_of (hull_at p.reverse rest v r)) v (hull_grows p.forward before wider v q a) (hull_grows p.reverse behind rest v r c)))))))))
 

@@ -1,7 +1,7 @@
 -- Rows in one list: where they begin, and what they are after one was written.
 use Rattle.std.proofs.Common.{◌≡◌, ℕ, zero, suc, ◌+◌, ◌-◌, ◌<◌, ◌≤◌, List, [], ◌∷◌, ◌++◌, length, take, drop, set, get_or, slice_get, Some, refl, sym, ap, ◌∙◌, arith}
 use Rattle.std.specs.Prelude.{slice_range}
-use Rattle.std.proofs.lemmas.List.{take-append-le, take_all, append_assoc, length-append, drop_all, length-drop, length-take-le, drop-take, length-set, set-get_or}
+use Rattle.std.proofs.lemmas.List.{take-append-le, take_all, append_assoc, length-append, drop_all, length-drop, length-take-le, drop-take, length-set, set-get_or, take-take}
 use Rattle.std.proofs.lemmas.Option.{get_or_from_slice_get}
 use Rattle.std.proofs.lemmas.List.Folds.{drop_split}
 use Rattle.std.proofs.Math.Seq.{drop-append_seam, drop-append-add, take-append_seam, take-append-add}
@@ -249,12 +249,6 @@ both_are ss xs ys v p q p' q' h e is_p is_q is =
     is ∙ ap (λ n. slice_range xs n q) is_p ∙ ap (λ n. slice_range xs p' n) is_q
     ∙ ap (λ l. slice_range l p' q') (sym (ap concat_rows (sym e) ∙ joined_rows ss xs h))
 
-take_less : {X : Type 0} (n m : ℕ) (xs : List X) → n ≤ m → take n (take m xs) ≡ take n xs
-take_less zero m xs h = refl
-take_less (suc n) zero xs h = absurd (omega (arith, h))
-take_less (suc n) (suc m) [] h = refl
-take_less (suc n) (suc m) (x ∷ xs) h = ap (λ l. x ∷ l) (take_less n m xs (omega (arith, h)))
-
 -- the first of two rows ends inside them
 pub cut_inside : {X : Type 0} (v : List (List X)) (k n : ℕ) (r : List X) → 1 ≤ k → place v (k - 1) + n ≡ place v k →
     r ≡ slice_range (concat_rows v) (place v (k - 1)) (place v (k + 1)) → n ≤ length r
@@ -270,7 +264,7 @@ first_row v k n r a first last wide is_r is_a =
     (arith, g, wide) in
     let more = place_rises v k in let e' : suc k ≡ k + 1 = omega arith in let f' = ap (place v) e' in
     row_got v (k - 1) (omega (arith, first, last)) ∙ ap Some (ap (λ m. take m (drop (place v (k - 1)) (concat_rows v))) f ∙
-    sym (is_a ∙ ap (take n) is_r ∙ take_less n (place v (k + 1) - place v (k - 1)) (drop (place v (k - 1)) (concat_rows v)) (omega (arith, wide, more, f'))))
+    sym (is_a ∙ ap (take n) is_r ∙ take-take n (place v (k + 1) - place v (k - 1)) (drop (place v (k - 1)) (concat_rows v)) (omega (arith, wide, more, f'))))
 
 pub second_row : {X : Type 0} (v : List (List X)) (k n : ℕ) (r a : List X) → 1 ≤ k → k + 1 ≤ length v → place v (k - 1) + n ≡ place v k →
     r ≡ slice_range (concat_rows v) (place v (k - 1)) (place v (k + 1)) → a ≡ drop n r → slice_get v k ≡ Some a

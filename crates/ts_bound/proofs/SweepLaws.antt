@@ -2,6 +2,7 @@
 use Rattle.std.proofs.Common.{◌≡◌, ℕ, zero, suc, ◌+◌, ◌-◌, ◌*◌, ◌<◌, ◌≤◌, Bool, true, false, cond, ◌||◌, ℤ, pos, List, [], ◌∷◌, length, get_or, set, refl, sym, ◌∙◌, ap, subst, arith, int_lt, ◌⊎◌, inl, inr}
 use Rattle.std.specs.Ordering.{int_eq}
 use Rattle.std.proofs.lemmas.Bool.Decides.{Decides-int_eq}
+use Rattle.std.proofs.lemmas.Bool.{or_cases, or_parts, cases_lt}
 use Rattle.std.proofs.lemmas.Int.{ints}
 use Rattle.std.proofs.lemmas.List.{set-get_or}
 use borrow.Author.Count.{below_more}
@@ -214,14 +215,6 @@ equal_rest l vs ws j at i u r le high f e = go (same_or_less at i le)
     go (inl s) = ap (λ m. fits Equal vs (step_place l (length vs) m) ws j) (sym s) ∙ e
     go (inr lt) = later l u lt f
 
-or_true : (a b : Bool) → (a || b) ≡ true → (a ≡ true) ⊎ (b ≡ true)
-or_true true b h = inl refl
-or_true false b h = inr h
-
-or_false : (a b : Bool) → (a || b) ≡ false → (a ≡ false) × (b ≡ false)
-or_false true b h = cc
-or_false false b h = (refl, h)
-
 -- the same of both, where a twin is taken in too
 
 takes_later : (l : Letter) (twin : Bool) (vs ws : List ℤ) (i k n : ℕ) → same_letter l Equal ≡ false → Rises ws → k < n → n < length ws →
@@ -229,7 +222,7 @@ takes_later : (l : Letter) (twin : Bool) (vs ws : List ℤ) (i k n : ℕ) → sa
 takes_later l false vs ws i k n u r lt high f = fits_later l vs ws i k n u r lt high f
 takes_later l true vs ws i k n u r lt high f =
     ap (λ b. b || fits Equal vs i ws (step_place l (length ws) n))
-    (go (or_true (fits l vs i ws (step_place l (length ws) k)) (fits Equal vs i ws (step_place l (length ws) k)) f))
+    (go (or_cases (fits l vs i ws (step_place l (length ws) k)) (fits Equal vs i ws (step_place l (length ws) k)) f))
   where
     go : (fits l vs i ws (step_place l (length ws) k) ≡ true) ⊎ (fits Equal vs i ws (step_place l (length ws) k) ≡ true) →
         fits l vs i ws (step_place l (length ws) n) ≡ true
@@ -241,7 +234,7 @@ takes_rest : (l : Letter) (twin : Bool) (vs : List ℤ) (w : ℤ) (at i : ℕ) �
 takes_rest l false vs w at i u r le high f = fits_rest l vs (w ∷ []) 0 at i u r le high f
 takes_rest l true vs w at i u r le high f =
     let ws = w ∷ [] in
-    let here = or_false (fits l vs (step_place l (length vs) at) ws 0) (fits Equal vs (step_place l (length vs) at) ws 0) f in
+    let here = or_parts (fits l vs (step_place l (length vs) at) ws 0) (fits Equal vs (step_place l (length vs) at) ws 0) f in
     ap (λ b. b || fits Equal vs (step_place l (length vs) i) ws 0) (fits_rest l vs ws 0 at i u r le high here.0)
     ∙ equal_rest l vs ws 0 at i u r le high here.0 here.1
 
@@ -313,16 +306,13 @@ entry_is m l twin s q vs ws row w at u sw able small inside passed rest =
     (small_within (get_or vs (step_place l n k) (pos 0)) (able.small_values (step_place l n k))) (small_within w small))
     ∙ total_closed at (cut_of m) F w
 
-below_cases : (a b : ℕ) → (a < b) ⊎ (b ≤ a)
-below_cases a b = grind arith
-
 -- all that was passed so far, before the next value at place j
 pub all_passed : (l : Letter) (twin : Bool) (vs ws : List ℤ) (k j : ℕ) (w : ℤ) (at at' : ℕ) → w ≡ get_or ws j (pos 0) → j ≡ step_place l (length ws) k →
     k < length ws → ((i : ℕ) → i < at → (n : ℕ) → k ≤ n → n < length ws →
     takes l twin vs (step_place l (length vs) i) (get_or ws (step_place l (length ws) n) (pos 0)) ≡ true) →
     ((i : ℕ) → at ≤ i → i < at' → takes l twin vs (step_place l (length vs) i) w ≡ true) → (i : ℕ) → i < at' →
     takes l twin vs (step_place l (length vs) i) w ≡ true
-all_passed l twin vs ws k j w at at' w_is is lt old new i high = go (below_cases i at)
+all_passed l twin vs ws k j w at at' w_is is lt old new i high = go (cases_lt i at)
   where
     go : (i < at) ⊎ (at ≤ i) → takes l twin vs (step_place l (length vs) i) w ≡ true
     go (inl h) = ap (takes l twin vs (step_place l (length vs) i)) (w_is ∙ ap (λ z. get_or ws z (pos 0)) is) ∙ old i h k (omega arith) lt
@@ -409,7 +399,7 @@ entry_done m l s q vs row w i h low high e = let same : i ≡ length vs = omega 
 total_one : (n at : ℕ) (f : ℕ → Hull) → at < n → ((i : ℕ) → i < n → (i ≡ at → ⊥) → f i ≡ none) → total n f ≡ hull_of_both none (f at)
 unfolding total
 total_one zero at f lt h = absurd (omega arith)
-total_one (suc n) at f lt h = go (total_one n at f) (below_cases at n)
+total_one (suc n) at f lt h = go (total_one n at f) (cases_lt at n)
   where
     none_before : (k : ℕ) → k ≤ n → k ≤ at → total k f ≡ none
     none_before zero le le' = refl
@@ -432,7 +422,7 @@ above a b w h k = grind (arith, ints)
 others : (vs ws : List ℤ) (j at i : ℕ) → Rises vs → ((k : ℕ) → k < at → fits Less vs k ws j ≡ true) →
     (at < length vs → fits Less vs at ws j ≡ false) → i < length vs → (i ≡ at → ⊥) →
     fits Equal vs i ws j ≡ false
-others vs ws j at i r passed rest lt ne = go (below_cases i at)
+others vs ws j at i r passed rest lt ne = go (cases_lt i at)
   where
     go : (i < at) ⊎ (at ≤ i) → fits Equal vs i ws j ≡ false
     go (inl l) = less_not_equal (get_or vs i (pos 0)) (get_or ws j (pos 0)) (sym (less_is (get_or vs i (pos 0)) (get_or ws j (pos 0))) ∙ passed i l)

@@ -2,7 +2,7 @@
 use Rattle.std.proofs.Common.{◌≡◌, ℕ, zero, suc, ◌+◌, ◌*◌, ◌<◌, ◌≤◌, ◌⊎◌, inl, inr, Bool, true, false, cond, nat_eq, ℤ, pos, List, [], ◌∷◌, ◌++◌, length, map, take, drop, get_or, set, replicate, refl, sym, ◌∙◌, ap, subst, arith}
 use Rattle.std.specs.Prelude.{IsTrue, fold, flat_map}
 use Rattle.std.specs.List.{range_with_len, list_all}
-use Rattle.std.proofs.lemmas.Bool.{and_parts, eqb-true, eqb-false}
+use Rattle.std.proofs.lemmas.Bool.{and_parts, eqb-true, eqb-false, cases_lt}
 use Rattle.std.proofs.lemmas.List.{get_or-set_other, get_or-set_same, get_or-take, get_or-drop, get_or_append_left, get_or-replicate, length-replicate, take-append-drop, length-take-le, length-drop, length-set, map-append, get_or_past}
 use Rattle.std.proofs.lemmas.List.FromFn.{fill_by_all}
 use Rattle.std.proofs.Math.Nat.{mul-le-mul_right}
@@ -418,11 +418,8 @@ with_states_canonical a vs row ws (suc n) next h =
 pub states_canonical : (a : Body) (vs : List ℤ) (row : List Hull) (ws : List ℤ) (n : ℕ) (first next : List Hull) →
     next ≡ with_states a vs row ws n first → ((p : ℕ) → p < length first → get_or first p none ≡ none) → AllTakeNone next
 states_canonical a vs row ws n first next e clear = subst (λ (z : List Hull). AllTakeNone z) (sym e)
-    (with_states_canonical a vs row ws n first (λ p. go p (cases p (length first))))
+    (with_states_canonical a vs row ws n first (λ p. go p (cases_lt p (length first))))
   where
-    cases : (p n : ℕ) → (p < n) ⊎ (n ≤ p)
-    cases p n = grind arith
-
     none_is : (h : Hull) → h ≡ none → TakesNone h
     none_is h e = subst (λ (z : Hull). TakesNone z) (sym e) none_takes_none
 

@@ -27,6 +27,7 @@ use Rattle.ts_bound.specs.NextRow.{Source, source, standing_at, sources_from, so
 use Rattle.ts_bound.specs.Rows.{IsRow, row_at, concat_rows, place, with_written}
 use Rattle.ts_bound.proofs.RowLaws.{row_written, next_written, both_written, row_before, row_after, row_after_at}
 use Rattle.ts_bound.specs.HullTables.{start_hull, hull_at, hulls_at, row_of, rows_behind, forward_rows, backward_rows}
+use Rattle.ts_domain.proofs.Sets.{all_append}
 
 -- the sources of a row
 
@@ -120,6 +121,10 @@ kept_all : (b : Body) (q : ℕ) (h : Hull) (hs : List Hull) → IsKept b q h →
 kept_all b q h [] k ks = k
 kept_all b q h (x ∷ hs) k ks = kept_all b q (hull_of_both h x) hs (kept_both b q h x k ks.0) ks.1
 
+pub all_range : {A : Type 0} (P : A → Type 0) (f : ℕ → A) (m q n : ℕ) → q + n ≤ m → ((p : ℕ) → p < m → P (f p)) → AllByRecursion P (map f (range_with_len q n))
+all_range P f m q zero le h = tt
+all_range P f m q (suc n) le h = (h q (omega (arith, le)), all_range P f m (q + 1) n (omega (arith, le)) h)
+
 module _ (b : Body) (rules : IsTrue (is_automaton b)) where
   kept_step : (s : Source) → HullStands b (standing_at s) → (w : ℤ) → let to = span_step b (standing_at s) s.value w in IsKept b to.state (hull_of to.regs)
   kept_step s h w = go (has_registers (spans_of s.hull)) refl
@@ -148,14 +153,6 @@ module _ (b : Body) (rules : IsTrue (is_automaton b)) where
       AllByRecursion (IsKept b q) (map (hull_from b w q) ss)
   kept_givens [] h w q = tt
   kept_givens (s ∷ ss) h w q = (kept_given s h.0 w q, kept_givens ss h.1 w q)
-
-  all_append : {A : Type 0} (P : A → Type 0) (xs ys : List A) → AllByRecursion P xs → AllByRecursion P ys → AllByRecursion P (xs ++ ys)
-  all_append P [] ys h k = k
-  all_append P (x ∷ xs) ys h k = (h.0, all_append P xs ys h.1 k)
-
-  all_range : {A : Type 0} (P : A → Type 0) (f : ℕ → A) (m q n : ℕ) → q + n ≤ m → ((p : ℕ) → p < m → P (f p)) → AllByRecursion P (map f (range_with_len q n))
-  all_range P f m q zero le h = tt
-  all_range P f m q (suc n) le h = (h q (omega (arith, le)), all_range P f m (q + 1) n (omega (arith, le)) h)
 
   all_stand : (before : List (List ℤ)) (us : List ℤ) → ((u : ℤ) (p : ℕ) → IsKept b p (hull_at b before u p)) →
       AllByRecursion (λ s. HullStands b (standing_at s)) (flat_map (λ u. map (λ p. source u p (hull_at b before u p)) (states_of b)) us)

@@ -1,6 +1,7 @@
 -- The move on `=` that is the same as the one on `<` or `>`: one sweep takes in both.
 use Rattle.std.proofs.Common.{◌≡◌, ℕ, zero, suc, ◌+◌, ◌-◌, ◌*◌, ◌<◌, ◌≤◌, ◌⊎◌, inl, inr, Bool, true, false, cond, nat_eq, ℤ, pos, List, length, get_or, refl, sym, ◌∙◌, ap, arith}
 use Rattle.std.proofs.lemmas.List.FromFn.{fill_by_all}
+use Rattle.std.proofs.lemmas.Bool.{cases_lt}
 use Rattle.ts_base.specs.declared.letter.Letter.{Letter}
 use Rattle.ts_base.specs.declared.letter.Letter.TheVariants.{Less, Equal, Greater}
 use Rattle.ts_automaton.specs.declared.regs.Hull.{Hull}
@@ -22,11 +23,8 @@ place_later s n p le (j, t, lt, b, e) = (suc j, t, omega (arith, lt), b, omega (
 
 place_of : (s n p : ℕ) → p < n * s → IsPlace s n p
 place_of s zero p h = absurd (omega arith)
-place_of s (suc n) p h = go (place_of s n (p - s)) (below_or_above p s)
+place_of s (suc n) p h = go (place_of s n (p - s)) (cases_lt p s)
   where
-    below_or_above : (a b : ℕ) → (a < b) ⊎ (b ≤ a)
-    below_or_above a b = grind arith
-
     go : (p - s < n * s → IsPlace s n (p - s)) → (p < s) ⊎ (s ≤ p) → IsPlace s (suc n) p
     go rest (inl l) = (0, p, omega arith, l, omega arith)
     go rest (inr le) = place_later s n p le (rest (omega (arith, h, le)))

@@ -9,11 +9,9 @@ use Rattle.ts_domain.specs.BoxSeries.{IsBefore}
 use Rattle.ts_domain.specs.Kept.{values_up_to, values_above}
 use Rattle.ts_domain.proofs.BoxLaws.{contains_up_to, contains_above, some_stay}
 use Rattle.ts_domain.proofs.Sets.{filter_none, le_false, lt_false}
+use Rattle.ts_filter.proofs.BoxParts.{at_most_or_above}
 
 -- the ends of a domain
-
-low_or_above : (v t : ℤ) → (v ≤ℤ t) ⊎ (t <ℤ v)
-low_or_above v t = grind (arith, ints)
 
 above_all : (low v t : ℤ) → low ≤ℤ v → t <ℤ low → t <ℤ v
 above_all low v t h l = omega (arith, ints, h, l)
@@ -27,7 +25,7 @@ low_some d low t here least = (
   λ l. some_stay (values_up_to t d) low ((contains_up_to t d low).1 (here, l)),
   λ n. ⊎_elim (λ l. l)
       (λ l. absurd (n (filter_none (λ v. int_le v t) d (λ v c. le_false v t (above_all low v t (least v c) l)))))
-      (low_or_above low t),
+      (at_most_or_above low t),
 )
 
 pub high_some : (d : List ℤ) (high t : ℤ) → Contains d high → ((v : ℤ) → Contains d v → v ≤ℤ high) → (t <ℤ high) ↔ (values_above t d ≡ [] → ⊥)
@@ -35,7 +33,7 @@ high_some d high t here greatest = (
   λ k. some_stay (values_above t d) high ((contains_above t d high).1 (here, k)),
   λ none. ⊎_elim
       (λ k. absurd (none (filter_none (λ v. int_lt t v) d (λ v c. lt_false t v (below_all high v t (greatest v c) k)))))
-      (λ k. k) (low_or_above high t),
+      (λ k. k) (at_most_or_above high t),
 )
 
 high_test : (a b : ℤ) → (int_lt a b ≡ true) ↔ (a <ℤ b)

@@ -1,5 +1,5 @@
 -- An input of `verify` has one end, and one first line that fails.
-use Rattle.std.proofs.Common.{◌≡◌, ℕ, zero, suc, ◌+◌, ◌<◌, ◌≤◌, ◌^◌, Bool, true, false, cond, Option, Some, None, Ok, Err, List, [], ◌∷◌, ◌++◌, length, map, refl, sym, ap, ◌∙◌, subst, arith}
+use Rattle.std.proofs.Common.{◌≡◌, ℕ, suc, ◌+◌, ◌<◌, ◌≤◌, ◌^◌, Bool, true, false, cond, Option, Some, None, Ok, Err, List, [], ◌∷◌, ◌++◌, length, map, refl, sym, ap, ◌∙◌, subst, arith}
 use Rattle.std.specs.Prelude.{Result, filter, unwrap_or}
 use Rattle.std.specs.List.{concat}
 use Rattle.std.proofs.lemmas.List.{length-append, length-map}
@@ -15,8 +15,8 @@ use Rattle.ts_model.specs.declared.error.ModelKind.{ModelKind}
 use Rattle.ts_model.specs.declared.model.Need.TheVariants.{List as Listed}
 use Rattle.ts_model.specs.ModelReading.{model_reading}
 use Rattle.ts_model.specs.ModelParts.{ModelParts}
-use Rattle.ts_filter.proofs.LineLaws.{fails_once}
-use Rattle.ts_filter.specs.Lines.{FailsAt, IsOutcome, Leads, Stand, first_stand, stand_after}
+use Rattle.ts_filter.proofs.LineLaws.{fails_once, fails_not_leads}
+use Rattle.ts_filter.specs.Lines.{IsOutcome, Stand, first_stand}
 use Rattle.ts_filter.specs.RefutedWorseDrop.{Spans}
 use Rattle.ts_spans.specs.Machines.{spans_in}
 use Rattle.ts_checker.specs.declared.verdict.Verdict.TheVariants.{Accepted}
@@ -88,16 +88,10 @@ same_lines (l ∷ ls) (k ∷ ks) e =
     ap (λ (z : CertLine). z ∷ ls) each.0 ∙ ap (λ (z : List CertLine). k ∷ z) (same_lines ls ks each.1)
 
 module _ (m : ModelParts) (s : Spans) where
-  fails_or_leads : (t u : Stand) (ls : List CertLine) (n : ℕ) → FailsAt m s t ls n → Leads m s t ls u → ⊥
-  fails_or_leads t u [] n p r = p
-  fails_or_leads t u (l ∷ ls) zero p r = p
-  fails_or_leads t u (l ∷ ls) (suc zero) p r = p r.0
-  fails_or_leads t u (l ∷ ls) (suc (suc n)) p r = fails_or_leads (stand_after t l) u ls (suc n) p.1 r.1
-
   found_once : (ls : List CertLine) (t u : Stand) (a b : Option ℕ) → IsOutcome m s ls t a → IsOutcome m s ls u b → a ≡ b
   found_once ls t u None None p q = refl
-  found_once ls t u None (Some n) p q = absurd (fails_or_leads (first_stand m) t ls n q p)
-  found_once ls t u (Some n) None p q = absurd (fails_or_leads (first_stand m) u ls n p q)
+  found_once ls t u None (Some n) p q = absurd (fails_not_leads m s (first_stand m) t ls n q p)
+  found_once ls t u (Some n) None p q = absurd (fails_not_leads m s (first_stand m) u ls n p q)
   found_once ls t u (Some k) (Some n) p q = ap (λ (z : ℕ). Some z) (fails_once m s (first_stand m) ls k n p q)
 
 -- one first line that breaks its rule

@@ -4,11 +4,11 @@ use Rattle.std.specs.Prelude.{◌==◌, MatchOption, filter, is_some}
 use Rattle.std.specs.Cmp.Derive.{both_true}
 use Rattle.std.specs.List.{list_all, AllByRecursion}
 use Rattle.std.specs.Option.{option_map}
-use Rattle.std.proofs.lemmas.Bool.{not-true}
+use Rattle.std.proofs.lemmas.Bool.{not-true, and_parts}
 use Rattle.std.proofs.lemmas.List.Elements.{filter-append}
 use Rattle.std.proofs.lemmas.List.Folds.{list_all-append}
 use Rattle.ts_base.specs.Words.{is_lf, onto_line, strict_lines, without_lf}
-use Rattle.ts_base.proofs.WordLaws.{and_parts, lf_again, lf_is, lines_are}
+use Rattle.ts_base.proofs.WordLaws.{lf_again, lf_is, lines_are}
 use Rattle.ts_token.specs.Halves.{Halves, after_front, halves, halves_of, is_separator}
 use Rattle.ts_checker.specs.Feeding.{IsFinished, IsPart, IsUnfinished, last_line}
 use Rattle.ts_checker.specs.Verified.{is_ended}

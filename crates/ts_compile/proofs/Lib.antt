@@ -2,5 +2,5 @@ pub mod Answers
 mod JudgeLaws
 mod Pairs
 pub mod Tables
-mod Terms
+pub mod Terms
 mod Texts

@@ -9,7 +9,7 @@ use Rattle.ts_pattern.specs.TermValue.{term_value, value_of}
 use Rattle.ts_model.specs.Views.{term_of}
 
 -- an element and those behind it
-drop_at : {A : Type 0} (xs : List A) (k : ℕ) (x : A) → slice_get xs k ≡ Some x → drop k xs ≡ x ∷ drop (k + 1) xs
+pub drop_at : {A : Type 0} (xs : List A) (k : ℕ) (x : A) → slice_get xs k ≡ Some x → drop k xs ≡ x ∷ drop (k + 1) xs
 drop_at [] k x e = grind arith
 drop_at (y ∷ ys) zero x e = let same : y ≡ x = cc in ap (λ z. z ∷ ys) same
 drop_at (y ∷ ys) (suc k) x e =

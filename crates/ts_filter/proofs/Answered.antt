@@ -61,7 +61,7 @@ more_told (was_told a) = was_told (record { place = a.place; from = (let n = a.f
 
 module _ (m : ModelParts) (s : Spans) (h : Head) where
   -- the number of `yes` lines only grows
-  told_more : (ls : List TreeLine) (told : ℕ) (w left : List Box) (after : ℕ) → Steps m s h w told ls left after → told ≤ after
+  pub told_more : (ls : List TreeLine) (told : ℕ) (w left : List Box) (after : ℕ) → Steps m s h w told ls left after → told ≤ after
   told_more [] told w left after f = omega (arith, f.1)
   told_more (l ∷ ls) told [] left after f = absurd f
   told_more (Split k t ∷ ls) told (b ∷ w) left after f = told_more ls told (low_side k t b ∷ high_side k t b ∷ w) left after f.1

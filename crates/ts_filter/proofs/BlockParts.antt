@@ -4,6 +4,7 @@ use Rattle.std.specs.Prelude.{flat_map, Option, None, Some, IsSome, IfSome}
 use Rattle.std.specs.List.{range_with_len}
 use Rattle.std.proofs.lemmas.List.{append-nil, get_or_default, map-append}
 use Rattle.std.proofs.lemmas.List.Concat.{flat_map-append}
+use Rattle.std.proofs.lemmas.Bool.{not-true}
 use Rattle.ts_base.specs.declared.span.Span.{Span}
 use Rattle.ts_base.specs.Spans.{none_span}
 use Rattle.ts_automaton.specs.declared.regs.Hull.{Hull}
@@ -19,7 +20,6 @@ use Rattle.ts_bound.specs.Hulls.{none}
 use Rattle.ts_filter.specs.declared.so_far.SoFar.{SoFar}
 use Rattle.ts_filter.specs.SoFar.{IsSoFar, WithParts}
 use Rattle.ts_filter.proofs.SoFarLaws.{begun, passed, stopped, with_more}
-use Rattle.ts_filter.proofs.SpanEnds.{from_not_true}
 
 -- a range is its front and the rest
 
@@ -63,7 +63,7 @@ state_is hulls q h d lt is = ap (λ (z : Hull). record { state = q; regs = spans
 none_there : (hulls : List Hull) (q : ℕ) (h d : Hull) (told : Bool) → q < length hulls → h ≡ get_or hulls q d → told ≡ not (has_registers (spans_of h)) →
     told ≡ true → has_registers (standing_of hulls q).regs ≡ false
 none_there hulls q h d told lt is e so =
-    sym (ap (λ z. has_registers (spans_of z)) (there hulls q h d lt is)) ∙ from_not_true (has_registers (spans_of h)) (sym e ∙ so)
+    sym (ap (λ z. has_registers (spans_of z)) (there hulls q h d lt is)) ∙ not-true (has_registers (spans_of h)) (sym e ∙ so)
 
 -- the loop over the states of the last cell
 

@@ -55,7 +55,7 @@ from_without k v b x c h =
     let r = from_box_set x b (k - 1) (values_without v d) (place k b c) h (λ u g. ((contains_without v d u).0 g).0) in
     (r.0, ((contains_without v d (get_or x (k - 1) (pos 0))).0 r.1).1)
 
-at_most_or_above : (v t : ℤ) → (v ≤ℤ t) ⊎ (t <ℤ v)
+pub at_most_or_above : (v t : ℤ) → (v ≤ℤ t) ⊎ (t <ℤ v)
 at_most_or_above v t = grind (arith, ints)
 
 same_or_other : (u v : ℤ) → (u ≡ v) ⊎ (u ≡ v → ⊥)

@@ -2,6 +2,7 @@
 use Rattle.std.proofs.Common.{◌≡◌, ◌⊎◌, ℕ, ℤ, ◌≤ℤ◌, ◌<ℤ◌, Bool, true, false, not, List, [], ◌∷◌}
 use Rattle.std.proofs.Common.{Option, Some, None, refl, sym, ◌∙◌, ap, subst, inl, inr, ⊎_elim, arith}
 use Rattle.std.proofs.lemmas.Int.{ints}
+use Rattle.std.proofs.lemmas.Bool.{not-false, not-true, not_from_false}
 use Rattle.std.specs.Prelude.{Contains}
 use Rattle.ts_base.specs.declared.ext.Ext.{Ext}
 use Rattle.ts_base.specs.declared.goal.Goal.{Goal}
@@ -20,39 +21,30 @@ use Rattle.ts_filter.specs.KeptValue.{IsPreferred, IsKeptOver, IsKept, end_with,
 use Rattle.ts_filter.specs.CellHulls.{AtCell, at_cell}
 use Rattle.ts_filter.proofs.DropLaws.{rising_parts}
 
-not_true : (t : Bool) → not t ≡ false → t ≡ true
-not_true t e = grind arith
-
-not_false : (t : Bool) → not t ≡ true → t ≡ false
-not_false t e = grind arith
-
-to_not : (t : Bool) → t ≡ false → not t ≡ true
-to_not t e = grind arith
-
 -- v isn't better than w: then w is better, or they are the same
 not_better : (goal : Goal) (v w : Ext) → is_better goal v w ≡ false → (is_better goal w v ≡ true) ⊎ (w ≡ v)
 not_better Maximise v w e = go (ext_le w v) refl
   where
     go : (t : Bool) → ext_le w v ≡ t → (not (ext_le w v) ≡ true) ⊎ (w ≡ v)
-    go true f = inr (le_antisym w v f (not_true (ext_le v w) e))
-    go false f = inl (to_not (ext_le w v) f)
+    go true f = inr (le_antisym w v f (not-false (ext_le v w) e))
+    go false f = inl (not_from_false (ext_le w v) f)
 not_better Minimise v w e = go (ext_le v w) refl
   where
     go : (t : Bool) → ext_le v w ≡ t → (not (ext_le v w) ≡ true) ⊎ (w ≡ v)
-    go true f = inr (le_antisym w v (not_true (ext_le w v) e) f)
-    go false f = inl (to_not (ext_le v w) f)
+    go true f = inr (le_antisym w v (not-false (ext_le w v) e) f)
+    go false f = inl (not_from_false (ext_le v w) f)
 
 -- the order of what isn't at most
 strict : (a b c : Ext) → not (ext_le a b) ≡ true → not (ext_le b c) ≡ true → not (ext_le a c) ≡ true
 strict a b c e f = go (ext_le a c) refl
   where
     go : (t : Bool) → ext_le a c ≡ t → not (ext_le a c) ≡ true
-    go false g = to_not (ext_le a c) g
+    go false g = not_from_false (ext_le a c) g
     go true g =
-        let h = le_trans b a c (le_other a b (not_false (ext_le a b) e)) g in
-        let n = not_false (ext_le b c) f in absurd (let z : ◌≡◌ {A = Bool} true false = sym h ∙ n in cc)
+        let h = le_trans b a c (le_other a b (not-true (ext_le a b) e)) g in
+        let n = not-true (ext_le b c) f in absurd (let z : ◌≡◌ {A = Bool} true false = sym h ∙ n in cc)
 
-better_trans : (goal : Goal) (u v w : Ext) → is_better goal u v ≡ true → is_better goal v w ≡ true → is_better goal u w ≡ true
+pub better_trans : (goal : Goal) (u v w : Ext) → is_better goal u v ≡ true → is_better goal v w ≡ true → is_better goal u w ≡ true
 better_trans Maximise u v w e f = strict u v w e f
 better_trans Minimise u v w e f = strict w v u f e
 

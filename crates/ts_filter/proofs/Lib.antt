@@ -19,7 +19,7 @@ mod Removals
 mod SameHulls
 mod DropLaws
 mod EarlyCells
-mod KeptLaws
+pub mod KeptLaws
 mod KnownRows
 mod LaidRows
 mod CellLaws

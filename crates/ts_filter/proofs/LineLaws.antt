@@ -41,7 +41,7 @@ module _ (m : ModelParts) (s : Spans) where
   fails_more t (l ∷ ls) ms (suc zero) p = p
   fails_more t (l ∷ ls) ms (suc (suc n)) p = (p.0, fails_more (stand_after t l) ls ms (suc n) p.1)
 
-  fails_not_leads : (t u : Stand) (ls : List CertLine) (n : ℕ) → FailsAt m s t ls n → Leads m s t ls u → ⊥
+  pub fails_not_leads : (t u : Stand) (ls : List CertLine) (n : ℕ) → FailsAt m s t ls n → Leads m s t ls u → ⊥
   fails_not_leads t u [] n p r = p
   fails_not_leads t u (l ∷ ls) zero p r = p
   fails_not_leads t u (l ∷ ls) (suc zero) p r = p r.0

@@ -1,7 +1,7 @@
 -- The requirements of one term that a span refutes, by looking at them one after another.
 use Rattle.std.proofs.Common.{◌≡◌, ◌↔◌, ◌⊎◌, ℕ, ◌+◌, ◌-◌, ◌<◌, ◌≤◌, Bool, true, false, cond, List}
 use Rattle.std.proofs.Common.{length, Option, Some, None, slice_get, get_or, refl, sym, ◌∙◌, ap, subst, ⊎_elim, arith}
-use Rattle.std.proofs.lemmas.Bool.{eq-eqb, eqb-true, ltb-false}
+use Rattle.std.proofs.lemmas.Bool.{eq-eqb, eqb-true, ltb-false, cases_lt}
 use Rattle.std.proofs.lemmas.List.Quantifiers.{position-Some}
 use Rattle.std.proofs.lemmas.List.Sums.{fails_before_first}
 use Rattle.std.proofs.lemmas.Option.{same_Some, slice_get_within, slice_get-get_or, get_or_from_slice_get}
@@ -34,14 +34,11 @@ module _ (rs : List Require) (term : ℕ) (s : Span) where
   own_at : (i : ℕ) → (h : IsRefuting rs term s i) → is_own (get_or rs (i - 1) h.require) ≡ true
   own_at i h = ap is_own (get_or_from_slice_get rs (i - 1) h.require h.require h.is.1) ∙ eq-eqb h.require.term term h.of_term
 
-  below_or_not : (a b : ℕ) → (a < b) ⊎ (b ≤ a)
-  below_or_not a b = grind arith
-
   -- none comes before the first requirement of the term
   pub none_before_first : (first : ℕ) → position is_own rs ≡ Some first → NoneOf first
   none_before_first first e i h =
       ⊎_elim (λ l. absurd (clash _ (own_at i h) ((position-Some is_own rs first h.require e).2 (i - 1) l)))
-      (λ l. let some = h.is.0 in omega (arith, l, some)) (below_or_not (i - 1) first)
+      (λ l. let some = h.is.0 in omega (arith, l, some)) (cases_lt (i - 1) first)
 
   -- where no requirement is of the term, none is refuted
   pub none_of_term : (i : ℕ) → position is_own rs ≡ None → IsRefuting rs term s i → ⊥

@@ -3,6 +3,7 @@
 use Rattle.std.proofs.Common.{◌≡◌, ◌↔◌, ℕ, zero, suc, ◌-◌, ◌<◌, ℤ, Bool, true, false, List, [], ◌∷◌, length, get_or, Option, Some, None, slice_get, refl, sym, ◌∙◌, ap, subst, ⊎_elim, arith}
 use Rattle.std.proofs.lemmas.List.{length-map}
 use Rattle.std.proofs.lemmas.Option.{same_Some, slice_get-get_or}
+use Rattle.std.proofs.lemmas.Bool.{false_from_ne_true}
 use Rattle.std.specs.List.{AllByRecursion}
 use Rattle.ts_base.specs.declared.ext.Ext.{Ext}
 use Rattle.ts_base.specs.declared.ext.Ext.TheVariants.{NegInf}
@@ -24,6 +25,7 @@ use Rattle.ts_filter.specs.Excluded.{counts}
 use Rattle.ts_filter.specs.Laws.{HoldsValues, ValuesAreSound, TellsSingles, SinglesAreExact, HigherBarCutsMore, DropLosesNone}
 use Rattle.ts_filter.specs.RefutedWorseDrop.{Spans, IsUsable, IsRequirement, IsRefuted, IsCut}
 use Rattle.ts_filter.proofs.BoxParts.{only_part, only_or_without}
+use Rattle.ts_filter.proofs.SpanEnds.{false_by}
 
 pub clash : (t : Bool) → t ≡ true → t ≡ false → ⊥
 clash t e f = grind arith
@@ -75,14 +77,10 @@ module _ (m : ModelParts) (s : Spans) (whole : IsWhole m) (tells : TellsSingles 
       IsRefuted m.requirements s j (length x) (box_of x) ↔ (IsMet m x r → ⊥)
   refuted_single j r x h i = (λ f q. there f q, λ n. made n)
     where
-      never_true : (t : Bool) → (t ≡ true → ⊥) → t ≡ false
-      never_true true f = absurd (f refl)
-      never_true false f = refl
-
       one_only : (r : Require) (w v : Ext) → (IsMet m x r → ⊥) → value_at m x r.term ≡ Some w → Holds (one_span w) v → compares r.op r.bound v ≡ false
       one_only r w v n e o =
           let same = le_antisym w v o.0 o.1 in
-          never_true (compares r.op r.bound v) (λ t. n (w, e, subst (λ z. compares r.op r.bound z ≡ true) (sym same) t))
+          false_from_ne_true (compares r.op r.bound v) (λ t. n (w, e, subst (λ z. compares r.op r.bound z ≡ true) (sym same) t))
 
       there : IsRefuted m.requirements s j (length x) (box_of x) → IsMet m x r → ⊥
       there f q =
@@ -132,12 +130,8 @@ higher_bar m s goal p b lower higher f c = record {
   term = c.term;
   is = c.is;
   usable = c.usable;
-  cuts = λ v h. fewer (counts goal higher v) (counts goal lower v) (f v) (c.cuts v h);
+  cuts = λ v h. false_by (counts goal higher v) (counts goal lower v) (f v) (c.cuts v h);
 }
-  where
-    fewer : (high low : Bool) → (high ≡ true → low ≡ true) → low ≡ false → high ≡ false
-    fewer true low g e = sym (g refl) ∙ e
-    fewer false low g e = refl
 
 pub drop_loses_none : DropLosesNone
 drop_loses_none m s k v j b x sound i d h q =

@@ -1,6 +1,6 @@
 -- What no number of a span does is told by its ends.
 use Rattle.std.proofs.Common.{◌≡◌, ◌&&◌, ◌↔◌, Bool, true, false, not, refl, sym, ◌∙◌, ap, arith}
-use Rattle.std.proofs.lemmas.Bool.{and_from, and_parts}
+use Rattle.std.proofs.lemmas.Bool.{and_from, and_parts, not_from_false, not_from_true, not-false, not-true}
 use Rattle.std.specs.Prelude.{◌||◌, IsTrue}
 use Rattle.ts_base.specs.declared.ext.Ext.{Ext}
 use Rattle.ts_base.specs.declared.goal.Goal.{Goal}
@@ -20,28 +20,14 @@ use Rattle.ts_filter.specs.Excluded.{Refutes, counts, Cuts}
 
 -- tests
 
-not_false : (x : Bool) → x ≡ false → not x ≡ true
-not_false x e = ap not e
-
-not_true : (x : Bool) → x ≡ true → not x ≡ false
-not_true x e = ap not e
-
-from_not_false : (x : Bool) → not x ≡ false → x ≡ true
-from_not_false true e = refl
-from_not_false false e = grind arith
-
-pub from_not_true : (x : Bool) → not x ≡ true → x ≡ false
-from_not_true true e = grind arith
-from_not_true false e = refl
-
 not_not : (x : Bool) → x ≡ true → not (not x) ≡ true
 not_not x e = ap (λ b. not (not b)) e
 
 from_not_not : (x : Bool) → not (not x) ≡ true → x ≡ true
-from_not_not x e = from_not_false x (from_not_true (not x) e)
+from_not_not x e = not-false x (not-true (not x) e)
 
 -- what implies a false test is false
-false_by : (x y : Bool) → (x ≡ true → y ≡ true) → y ≡ false → x ≡ false
+pub false_by : (x y : Bool) → (x ≡ true → y ≡ true) → y ≡ false → x ≡ false
 false_by true y f e = sym (f refl) ∙ e
 false_by false y f e = refl
 
@@ -65,11 +51,11 @@ ends_exclude Equal b lo hi v h p q =
     not_both (ext_le v b) (ext_le b v) (ext_le lo b) (ext_le b hi) h (λ e. le_trans lo v b p e) (λ e. le_trans b v hi e q)
 ends_exclude Unequal b lo hi v h p q =
     let e = and_parts (ext_le b lo) (ext_le hi b) h in
-    not_true (ext_le v b && ext_le b v) (and_from (ext_le v b) (ext_le b v) (le_trans v hi b q e.1) (le_trans b lo v e.0 p))
-ends_exclude AtMost b lo hi v h p q = false_by (ext_le v b) (ext_le lo b) (λ e. le_trans lo v b p e) (from_not_true (ext_le lo b) h)
-ends_exclude AtLeast b lo hi v h p q = false_by (ext_le b v) (ext_le b hi) (λ e. le_trans b v hi e q) (from_not_true (ext_le b hi) h)
-ends_exclude Below b lo hi v h p q = not_true (ext_le b v) (le_trans b lo v h p)
-ends_exclude Above b lo hi v h p q = not_true (ext_le v b) (le_trans v hi b q h)
+    not_from_true (ext_le v b && ext_le b v) (and_from (ext_le v b) (ext_le b v) (le_trans v hi b q e.1) (le_trans b lo v e.0 p))
+ends_exclude AtMost b lo hi v h p q = false_by (ext_le v b) (ext_le lo b) (λ e. le_trans lo v b p e) (not-true (ext_le lo b) h)
+ends_exclude AtLeast b lo hi v h p q = false_by (ext_le b v) (ext_le b hi) (λ e. le_trans b v hi e q) (not-true (ext_le b hi) h)
+ends_exclude Below b lo hi v h p q = not_from_true (ext_le b v) (le_trans b lo v h p)
+ends_exclude Above b lo hi v h p q = not_from_true (ext_le v b) (le_trans v hi b q h)
 
 -- where neither end nor the bound between them compares so, the ends tell it
 ends_tell : (op : Op) (b : Ext) (s : Span) → IsTrue (ext_le s.lo s.hi) → Refutes op b s → ends_refute op b s.lo s.hi ≡ true
@@ -78,13 +64,13 @@ ends_tell Equal b s some f = one_of (ext_le s.lo b) (ext_le b s.hi) (λ p q. cla
     clash : ext_le b b ≡ true → (ext_le b b && ext_le b b) ≡ false → ⊥
     clash e g = grind (arith, and_from (ext_le b b) (ext_le b b) e e)
 ends_tell Unequal b s some f =
-    let low = from_not_false (ext_le s.lo b && ext_le b s.lo) (f s.lo (le_refl s.lo, some)) in
-    let high = from_not_false (ext_le s.hi b && ext_le b s.hi) (f s.hi (some, le_refl s.hi)) in
+    let low = not-false (ext_le s.lo b && ext_le b s.lo) (f s.lo (le_refl s.lo, some)) in
+    let high = not-false (ext_le s.hi b && ext_le b s.hi) (f s.hi (some, le_refl s.hi)) in
     and_from (ext_le b s.lo) (ext_le s.hi b) (and_parts (ext_le s.lo b) (ext_le b s.lo) low).1 (and_parts (ext_le s.hi b) (ext_le b s.hi) high).0
-ends_tell AtMost b s some f = not_false (ext_le s.lo b) (f s.lo (le_refl s.lo, some))
-ends_tell AtLeast b s some f = not_false (ext_le b s.hi) (f s.hi (some, le_refl s.hi))
-ends_tell Below b s some f = from_not_false (ext_le b s.lo) (f s.lo (le_refl s.lo, some))
-ends_tell Above b s some f = from_not_false (ext_le s.hi b) (f s.hi (some, le_refl s.hi))
+ends_tell AtMost b s some f = not_from_false (ext_le s.lo b) (f s.lo (le_refl s.lo, some))
+ends_tell AtLeast b s some f = not_from_false (ext_le b s.hi) (f s.hi (some, le_refl s.hi))
+ends_tell Below b s some f = not-false (ext_le b s.lo) (f s.lo (le_refl s.lo, some))
+ends_tell Above b s some f = not-false (ext_le s.hi b) (f s.hi (some, le_refl s.hi))
 
 pub refutes_exact : (op : Op) (b : Ext) (s : Span) → IsTrue (refutes op b s) ↔ Refutes op b s
 refutes_exact op b s = by_some (has_some s) refl
@@ -98,10 +84,10 @@ refutes_exact op b s = by_some (has_some s) refl
 -- where a number of the span counts, its better end does
 best_counts : (goal : Goal) (bar : Bar) (s : Span) (v : Ext) → Holds s v → counts goal bar v ≡ true → counts goal bar (best_end goal s) ≡ true
 best_counts Maximise (Better w) s v i e =
-    not_false (ext_le s.hi w) (false_by (ext_le s.hi w) (ext_le v w) (λ h. le_trans v s.hi w i.1 h) (from_not_true (ext_le v w) e))
+    not_from_false (ext_le s.hi w) (false_by (ext_le s.hi w) (ext_le v w) (λ h. le_trans v s.hi w i.1 h) (not-true (ext_le v w) e))
 best_counts Maximise (AsGood w) s v i e = not_not (ext_le w s.hi) (le_trans w v s.hi (from_not_not (ext_le w v) e) i.1)
 best_counts Minimise (Better w) s v i e =
-    not_false (ext_le w s.lo) (false_by (ext_le w s.lo) (ext_le w v) (λ h. le_trans w s.lo v h i.0) (from_not_true (ext_le w v) e))
+    not_from_false (ext_le w s.lo) (false_by (ext_le w s.lo) (ext_le w v) (λ h. le_trans w s.lo v h i.0) (not-true (ext_le w v) e))
 best_counts Minimise (AsGood w) s v i e = not_not (ext_le s.lo w) (le_trans s.lo v w i.0 (from_not_not (ext_le v w) e))
 
 best_held : (goal : Goal) (s : Span) → IsTrue (ext_le s.lo s.hi) → Holds s (best_end goal s)
@@ -110,10 +96,10 @@ best_held Minimise s some = (le_refl s.lo, some)
 
 end_excludes : (goal : Goal) (bar : Bar) (s : Span) (v : Ext) → not (counts goal bar (best_end goal s)) ≡ true → Holds s v → counts goal bar v ≡ false
 end_excludes goal bar s v h i =
-    false_by (counts goal bar v) (counts goal bar (best_end goal s)) (best_counts goal bar s v i) (from_not_true (counts goal bar (best_end goal s)) h)
+    false_by (counts goal bar v) (counts goal bar (best_end goal s)) (best_counts goal bar s v i) (not-true (counts goal bar (best_end goal s)) h)
 
 end_tells : (goal : Goal) (bar : Bar) (s : Span) → IsTrue (ext_le s.lo s.hi) → Cuts goal bar s → not (counts goal bar (best_end goal s)) ≡ true
-end_tells goal bar s some f = not_false (counts goal bar (best_end goal s)) (f (best_end goal s) (best_held goal s some))
+end_tells goal bar s some f = not_from_false (counts goal bar (best_end goal s)) (f (best_end goal s) (best_held goal s some))
 
 pub cuts_exact : (goal : Goal) (bar : Bar) (s : Span) → IsTrue (cuts goal bar s) ↔ Cuts goal bar s
 cuts_exact goal bar s = by_some (has_some s) refl
@@ -126,5 +112,5 @@ cuts_exact goal bar s = by_some (has_some s) refl
 pub some_refutes : (op : Op) (b : Ext) (s : Span) (none told : Bool) → none ≡ not (has_some s) → none ≡ false → told ≡ ends_refute op b s.lo s.hi →
     IsTrue told ↔ Refutes op b s
 some_refutes op b s none told e f g =
-    let some = from_not_false (has_some s) (sym e ∙ f) in
+    let some = not-false (has_some s) (sym e ∙ f) in
     (λ h v i. ends_exclude op b s.lo s.hi v (sym g ∙ h) i.0 i.1, λ h. g ∙ ends_tell op b s some h)

@@ -1,6 +1,6 @@
 -- The tests that compute tell what is refuted, cut and may be dropped.
 use Rattle.std.proofs.Common.{◌≡◌, ◌↔◌, ◌&&◌, ℕ, ◌-◌, ◌≤◌, ℤ, Bool, true, false, List, length, Option, Some, None, slice_get, refl, sym, subst, arith}
-use Rattle.std.proofs.lemmas.Bool.{and_from, and_parts}
+use Rattle.std.proofs.lemmas.Bool.{and_from, and_parts, leb-true, le-leb}
 use Rattle.std.proofs.lemmas.Cmp.{int_eq_equiv}
 use Rattle.std.proofs.lemmas.Map.Views.{list_any-from_Contains, Contains-from_any}
 use Rattle.std.specs.Prelude.{◌||◌, IsTrue, nat_eq, nat_le}
@@ -17,16 +17,10 @@ use Rattle.ts_filter.specs.RefutedWorseDrop.{Spans, IsUsable, IsRefuted, IsCut, 
 use Rattle.ts_filter.specs.Tests.{has_cell, is_usable, refuted_by, is_refuted, cut_by, is_cut, has_others, is_drop}
 use Rattle.ts_filter.proofs.SpanEnds.{refutes_exact, cuts_exact}
 
-at_most : (a b : ℕ) → nat_le a b ≡ true → a ≤ b
-at_most a b e = grind arith
-
-to_at_most : (a b : ℕ) → a ≤ b → nat_le a b ≡ true
-to_at_most a b e = grind arith
-
 cell_tells : (k : ℕ) (b : Box) → IsTrue (has_cell k b) ↔ HasCell k b
 cell_tells k b = (
-  λ h. let e = and_parts (nat_le 1 k) (nat_le k (length b)) h in (at_most 1 k e.0, at_most k (length b) e.1),
-  λ c. and_from (nat_le 1 k) (nat_le k (length b)) (to_at_most 1 k c.0) (to_at_most k (length b) c.1),
+  λ h. let e = and_parts (nat_le 1 k) (nat_le k (length b)) h in (leb-true 1 k e.0, leb-true k (length b) e.1),
+  λ c. and_from (nat_le 1 k) (nat_le k (length b)) (le-leb 1 k c.0) (le-leb k (length b) c.1),
 )
 
 last_told : (t : Bool) (p n : ℕ) → (t || nat_eq p n) ≡ true → t ≡ false → p ≡ n
@@ -67,8 +61,8 @@ module _ (rs : List Require) (s : Spans) where
   refuted_tells : (j p : ℕ) (b : Box) → IsTrue (is_refuted rs s j p b) ↔ IsRefuted rs s j p b
   refuted_tells j p b = (
     λ h. let e = and_parts (nat_le 1 j) (refuted_by s p b (slice_get rs (j - 1))) h in
-        refuted_told j p b (slice_get rs (j - 1)) refl (at_most 1 j e.0) e.1,
-    λ r. and_from (nat_le 1 j) (refuted_by s p b (slice_get rs (j - 1))) (to_at_most 1 j r.is.0)
+        refuted_told j p b (slice_get rs (j - 1)) refl (leb-true 1 j e.0) e.1,
+    λ r. and_from (nat_le 1 j) (refuted_by s p b (slice_get rs (j - 1))) (le-leb 1 j r.is.0)
         (to_refuted p b r.require (slice_get rs (j - 1)) r.is.1 r.usable
         ((refutes_exact r.require.op r.require.bound (s.span_at r.require.term p b)).1 r.refutes)),
   )
@@ -81,13 +75,13 @@ module _ (rs : List Require) (s : Spans) where
         let g = and_parts (nat_le 2 (length (values_at k b))) (is_among (values_at k b) v) f.0 in
         record {
           cell = (cell_tells k b).0 e.0;
-          many = at_most 2 (length (values_at k b)) g.0;
+          many = leb-true 2 (length (values_at k b)) g.0;
           there = Contains-from_any int_same v (values_at k b) g.1;
           refuted = (refuted_tells j k (only k v b)).0 f.1;
         },
     λ d. and_from (has_cell k b) (has_others k v b && is_refuted rs s j k (only k v b)) ((cell_tells k b).1 d.cell)
         (and_from (has_others k v b) (is_refuted rs s j k (only k v b))
-        (and_from (nat_le 2 (length (values_at k b))) (is_among (values_at k b) v) (to_at_most 2 (length (values_at k b)) d.many)
+        (and_from (nat_le 2 (length (values_at k b))) (is_among (values_at k b) v) (le-leb 2 (length (values_at k b)) d.many)
         (list_any-from_Contains int_eq_equiv v (values_at k b) d.there)) ((refuted_tells j k (only k v b)).1 d.refuted)),
   )
 

@@ -84,7 +84,7 @@ glue_grows u h i h' i' k l =
 wider_some : (s t : Span) → IsWithin s t → has_some s ≡ true → has_some t ≡ true
 wider_some s t w e = holds_some t s.lo (w s.lo (le_refl s.lo, e))
 
-wider_registers : (h h' : EachOf Span) → Each IsWithin h h' → has_registers h ≡ true → has_registers h' ≡ true
+pub wider_registers : (h h' : EachOf Span) → Each IsWithin h h' → has_registers h ≡ true → has_registers h' ≡ true
 wider_registers h h' w e =
     let a = and_parts (has_some h.c && has_some h.d) (has_some h.r) e in
     let b = and_parts (has_some h.c) (has_some h.d) a.0 in
@@ -115,7 +115,7 @@ same_within n s e = go (has_some s) refl
         hull_least (one_span s.lo) (one_span s.hi) s (λ d k. (k.0, le_trans d s.lo s.hi k.1 i)) (λ d k. (le_trans s.lo s.hi d i k.0, k.1)) e h
     go false i h = elim (none_empty e h) [ ]
 
-same_grows : (n : ℕ) (s t : Span) → IsWithin s t → IsWithin (marked_span Same n s) (marked_span Same n t)
+pub same_grows : (n : ℕ) (s t : Span) → IsWithin s t → IsWithin (marked_span Same n s) (marked_span Same n t)
 same_grows n s t w e h = marks_hold Same n t e (w e (same_within n s e h)) tt
 
 pub unmarked_spans_grow : UnmarkedSpansGrow

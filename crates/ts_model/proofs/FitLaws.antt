@@ -6,6 +6,7 @@ use Rattle.std.specs.List.{AllByRecursion, list_any}
 use Rattle.std.specs.Str.{bytes_eq}
 use Rattle.std.proofs.lemmas.Int.{ints}
 use Rattle.std.proofs.lemmas.Bool.Decides.{nat_tests}
+use Rattle.std.proofs.lemmas.Bool.{leb-false}
 use Rattle.std.proofs.lemmas.List.{length-map, length-set}
 use Rattle.std.proofs.lemmas.List.Quantifiers.{position-Some}
 use Rattle.ts_domain.specs.BoxSeries.{IsBox}
@@ -53,9 +54,6 @@ under false n h e = cc
 second : (a b : Bool) → cond a true b ≡ false → b ≡ false
 second true b h = cc
 second false b h = h
-
-under_most : (k n : ℕ) → nat_le k n ≡ false → n < k
-under_most k n h = grind (arith, nat_tests)
 
 counted : (n : ℤ) → not (is_between (pos 1) n (pos 512)) ≡ false → count_of n ≤ 512
 counted (pos k) h = grind (arith, ints, nat_tests)
@@ -151,7 +149,7 @@ fit_after lists m (SaysTerm name parts) has fit none =
       box = fit.box;
       few = fit.few;
       total = fit.total;
-      terms = omega (arith, more, under_most 32 (length m.terms) all.1.1.1.1.1.1.1.1.1.0);
+      terms = omega (arith, more, leb-false 32 (length m.terms) all.1.1.1.1.1.1.1.1.1.0);
       requirements = fit.requirements;
       each = lifted (length m.terms) (length (with_meaning m (SaysTerm name parts)).terms) (omega (arith, more)) m.requirements fit.each;
       bounds = fit.bounds;
@@ -165,7 +163,7 @@ fit_after lists m (SaysRequire name op bound) has fit none =
       few = fit.few;
       total = fit.total;
       terms = fit.terms;
-      requirements = omega (arith, more, under_most 64 (length m.requirements) tests.1);
+      requirements = omega (arith, more, leb-false 64 (length m.requirements) tests.1);
       each = pushed (λ r. r.term < length m.terms) m.requirements _ fit.each
           (known_there (length m.terms) (term_at name m.terms) all.1.1.1.1.1.1.0 (term_there name m.terms (term_at name m.terms) refl));
       bounds = pushed (λ r. is_bound r.bound ≡ true) m.requirements _ fit.bounds tests.0;

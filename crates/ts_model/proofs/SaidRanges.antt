@@ -1,9 +1,9 @@
 -- A line that says ranges says one at least.
-use Rattle.std.proofs.Common.{◌≡◌, ℕ, suc, ◌-◌, ◌<◌, ℤ, Bool, true, false, cond, Option, Some, None, Ok, Err, List, [], ◌∷◌, length, drop}
-use Rattle.std.proofs.Common.{refl, sym, ap, subst, ◌∙◌, arith, nat_lt}
+use Rattle.std.proofs.Common.{◌≡◌, ℕ, suc, ◌<◌, ℤ, Bool, true, false, cond, Option, Some, None, Ok, Err, List, [], ◌∷◌, length, drop}
+use Rattle.std.proofs.Common.{refl, sym, ap, subst, ◌∙◌, arith}
 use Rattle.std.specs.Prelude.{Result, ok_or}
 use Rattle.std.specs.Option.{option_map}
-use Rattle.std.proofs.lemmas.Bool.Decides.{nat_tests}
+use Rattle.std.proofs.lemmas.Bool.{ltb-true}
 use Rattle.std.proofs.lemmas.List.{length-drop}
 use Rattle.std.proofs.lemmas.Option.{same_Some}
 use Rattle.ts_base.specs.declared.ext.Ext.{Ext}
@@ -60,14 +60,11 @@ require_said name None bound s h = cc
 require_said name (Some op) None s h = cc
 require_said name (Some op) (Some bound) s h = said_is (SaysRequire name op bound) s tt h
 
-above : (n k : ℕ) → nat_lt n k ≡ true → n < k
-above n k h = grind (arith, nat_tests)
-
 by_form : (form : Form) (ws : List (List ℕ)) (s : Meaning) → has_shape form ws ≡ true → said_by form ws ≡ Some s → HasRanges s
 by_form Cells ws s shape h = cells_said (number_of (word_at ws 0)) s h
-by_form Domain ws s shape h = domain_said (length ws) (ranges_of ws) s (above 0 (length ws) shape) (many ws) h
+by_form Domain ws s shape h = domain_said (length ws) (ranges_of ws) s (ltb-true 0 (length ws) shape) (many ws) h
 by_form Cell ws s shape h =
-    let more = above 1 (length ws) shape in
+    let more = ltb-true 1 (length ws) shape in
     cell_said (length (drop 1 ws)) (number_of (word_at ws 0)) (ranges_of (drop 1 ws)) s (omega (arith, length-drop 1 ws, more)) (many (drop 1 ws)) h
 by_form Term ws s shape h = said_is (SaysTerm (word_at ws 0) (parts_said ws)) s tt h
 by_form Require ws s shape h = require_said (word_at ws 0) (op_of (word_at ws 1)) (ext_of (word_at ws 2)) s h

@@ -34,7 +34,7 @@ use Rattle.ts_filter.specs.Rules.{head_of}
 use Rattle.ts_filter.specs.Tree.{Tree, Leaf, Drop, Fork, tree_lines}
 use Rattle.ts_filter.proofs.Answered.{accepted_holds}
 use Rattle.ts_filter.proofs.RangeLaws.{lines_in_range}
-use Rattle.ts_filter.proofs.SoundLaws.{values_are_sound}
+use Rattle.ts_filter.proofs.SoundLaws.{values_are_sound, series_length}
 use Rattle.ts_filter.proofs.TreeLaws.{to_steps}
 use Rattle.ts_spans.specs.Machines.{spans_in}
 use Rattle.ts_spans.proofs.OfTerms.{spans_hold_values}
@@ -43,7 +43,6 @@ use Rattle.ts_search.specs.Listed.{IsListedBy, IsListAnswer}
 use Rattle.ts_search.specs.Solved.{IsSolvedBy, IsSolution}
 use Rattle.ts_search.proofs.OfProgram.{are_right}
 use Rattle.ts_search.proofs.OpenLines.{solved_opens_few, listed_opens_few}
-use Rattle.ts_search.proofs.Parts.{series_length}
 use Rattle.ts_checker.specs.Verdicts.{AreOf}
 use Rattle.ts_run.specs.AnswerTexts.{IsOffered}
 use Rattle.ts_run.specs.Joined.{GoesToVerify, end_line, verify_input}

@@ -8,15 +8,9 @@ use Rattle.ts_pattern.specs.declared.term.Term.{Term}
 use Rattle.std.specs.List.{zip}
 use Rattle.ts_model.specs.Views.{term_of}
 use Rattle.ts_run.specs.Verdict.{value_line, value_lines}
+use Rattle.ts_compile.proofs.Terms.{drop_at}
 
 -- an element and those behind it
-pub drop_at : {A : Type 0} (xs : List A) (k : ℕ) (x : A) → slice_get xs k ≡ Some x → drop k xs ≡ x ∷ drop (k + 1) xs
-drop_at [] k x e = grind arith
-drop_at (y ∷ ys) zero x e = let same : y ≡ x = cc in ap (λ z. z ∷ ys) same
-drop_at (y ∷ ys) (suc k) x e =
-    let more : suc k + 1 ≡ suc (k + 1) = omega arith in
-    drop_at ys k x e ∙ ap (λ n. x ∷ drop n (y ∷ ys)) (sym more)
-
 -- the name of the term at a place
 pub name_at : (entries : List (String Global × Term)) (k : ℕ) (name : String Global) → slice_get (map (λ e. e.0) entries) k ≡ Some name →
     slice_get (map (λ t. t.0) (map term_of entries)) k ≡ Some (string_bytes name)

@@ -4,8 +4,9 @@ use Rattle.std.specs.Prelude.{◌==◌, codes, is_none, Result}
 use Rattle.std.specs.List.{AllByRecursion, concat}
 use Rattle.std.specs.Str.{bytes_eq}
 use Rattle.std.proofs.lemmas.Slice.Eq.{bytes_eq-Decides}
+use Rattle.std.proofs.lemmas.Bool.{and_parts}
 use Rattle.ts_base.specs.Words.{is_lf, onto_line, strict_lines}
-use Rattle.ts_base.proofs.WordLaws.{and_parts, has_no_lf, line_first, lines_are}
+use Rattle.ts_base.proofs.WordLaws.{has_no_lf, line_first, lines_are}
 use Rattle.ts_token.specs.Text.{Cut, Piece, Row, cut_of, ends_here, is_blank, is_plain, is_skipped, is_text, lines_of, not_text_from, row_onto, rows_from, starts_hash, words_of}
 use Rattle.ts_token.specs.Halves.{Halves, after_front, halves, halves_of, is_mark, is_mark_line, is_separator}
 use Rattle.ts_model.specs.declared.error.ModelKind.{ModelKind}

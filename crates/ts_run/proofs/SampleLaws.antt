@@ -20,7 +20,6 @@ use Rattle.ts_search.specs.LineOf.{search_for}
 use Rattle.ts_search.specs.Solved.{IsSolvedBy, IsSolution}
 use Rattle.ts_search.proofs.Closing.{budget_is_enough}
 use Rattle.ts_search.proofs.OfProgram.{are_right}
-use Rattle.ts_search.proofs.Parts.{series_length}
 use Rattle.ts_checker.specs.declared.verdict.Verdict.{Verdict}
 use Rattle.ts_checker.specs.declared.verdict.Verdict.TheVariants.{Accepted}
 use Rattle.ts_checker.specs.Verdicts.{IsVerdict}
@@ -39,6 +38,7 @@ use Rattle.ts_run.proofs.SampleMeets.{sample_meets}
 use Rattle.ts_run.proofs.SampleModelLaws.{cells_count, sample_limits, sample_whole}
 use Rattle.ts_run.proofs.TakenReply.{taken_whole}
 use Rattle.ts_run.proofs.ValueSizes.{cells_within}
+use Rattle.ts_filter.proofs.SoundLaws.{series_length}
 
 module _ (n : ℕ) (asked : IsWithin 1 most_cells n) where
   abbrev m : ModelParts

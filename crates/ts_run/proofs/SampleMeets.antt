@@ -1,11 +1,11 @@
 -- The model of `sample` has a series that meets: each cell at its least value, where no peak is wider than 3.
 use Rattle.std.proofs.Common.{◌≡◌, ℕ, zero, suc, ◌+◌, ◌≤◌, ℤ, pos, Bool, true, ◌&&◌, List, [], ◌∷◌, length, take, refl, sym, ◌∙◌, ap, subst, arith}
+use Rattle.std.proofs.lemmas.Bool.{and_parts}
 use Rattle.std.specs.Prelude.{Contains}
 use Rattle.ts_base.specs.declared.ext.Ext.{Ext}
 use Rattle.ts_base.specs.declared.ext.Ext.TheVariants.{NegInf, Int, PosInf}
 use Rattle.ts_base.specs.Limits.{most_cells}
 use Rattle.ts_base.specs.Numbers.{ext_le}
-use Rattle.ts_base.proofs.WordLaws.{and_parts}
 use Rattle.ts_domain.specs.BoxSeries.{InBox}
 use Rattle.ts_pattern.specs.declared.name.Aggregator.TheVariants.{Max}
 use Rattle.ts_pattern.specs.declared.name.Feature.TheVariants.{Width}

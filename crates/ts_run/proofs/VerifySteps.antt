@@ -1,5 +1,6 @@
 -- The steps of `verify`: what comes of its input; and the lines that are fed one after the other.
 use Rattle.std.proofs.Common.{◌≡◌, ℕ, ◌+◌, ◌<◌, ◌≤◌, List, [], ◌∷◌, ◌++◌, length, refl, sym, ◌∙◌, ap, subst, arith, append_assoc, append-nil, length-append}
+use Rattle.std.proofs.lemmas.List.{nil_from_length}
 use Rattle.std.specs.Prelude.{Result, Ok, Err, IfOk}
 use Rattle.ts_base.specs.Words.{strict_lines}
 use Rattle.ts_certificate.specs.Reading.{Reading}
@@ -61,14 +62,10 @@ fed_more text rest line left m old new f cut parts some checks same next = recor
     shorter : (rest line left : List ℕ) → rest ≡ line ++ left → length rest ≡ length line + length left
     shorter rest line left e = ap length e ∙ length-append line left
 
-none_left : (rest : List ℕ) → length rest ≡ 0 → rest ≡ []
-none_left [] e = refl
-none_left (b ∷ bs) e = absurd (omega (arith, e))
-
 -- all are fed
 pub fed_all : (text rest : List ℕ) (m : ModelParts) (c : Checking) → IsFed text rest m c → length rest ≡ 0 → HasChecked (strict_lines text) c
 fed_all text rest m c f none =
-    let left = none_left rest none in
+    let left = nil_from_length rest none in
     subst (λ ts. HasChecked ts c) (sym (append-nil f.done) ∙ ap (λ (z : List ℕ). f.done ++ strict_lines z) (sym left) ∙ f.lines) f.checked
 
 pub none_fed : (text : List ℕ) (m : ModelParts) (c : Checking) → HasChecked [] c → c.model ≡ m → IsFed text text m c

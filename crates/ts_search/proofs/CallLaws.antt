@@ -21,11 +21,11 @@ use Rattle.ts_filter.specs.RefutedWorseDrop.{Spans, IsUsable, IsRequirement, IsR
 use Rattle.ts_filter.specs.Tests.{is_refuted, is_cut}
 use Rattle.ts_filter.proofs.MachineLaws.{spans_are_of_machines}
 use Rattle.ts_filter.proofs.TestLaws.{tests_tell}
+use Rattle.ts_filter.proofs.SoundLaws.{clash}
 use Rattle.ts_search.specs.Drops.{Removal, least, next_drop}
 use Rattle.ts_search.specs.Laws.{IsNextDrop}
 use Rattle.ts_search.specs.Views.{removal_of}
 use Rattle.ts_search.proofs.Choice.{LeastFits, least_fits}
-use Rattle.ts_search.proofs.Known.{clash}
 use Rattle.ts_search.proofs.NextDrop.{next_drop_fits}
 
 -- the least of so many numbers is one

@@ -24,6 +24,7 @@ use Rattle.ts_model.specs.ModelParts.{ModelParts}
 use Rattle.ts_filter.specs.Accepts.{value_of_term}
 use Rattle.ts_filter.specs.Boxes.{Box}
 use Rattle.ts_filter.specs.RefutedWorseDrop.{Spans}
+use Rattle.ts_filter.proofs.SoundLaws.{series_length}
 use Rattle.ts_search.specs.Asked.{AreRight}
 use Rattle.ts_search.specs.Dive.{Find, value_of, dive}
 use Rattle.ts_search.specs.Listed.{IsListAnswer}
@@ -34,7 +35,6 @@ use Rattle.ts_search.specs.Views.{find_of}
 use Rattle.ts_search.specs.declared.found.FoundSeries.{FoundSeries}
 use Rattle.ts_search.proofs.Closing.{search_solves, search_lists}
 use Rattle.ts_search.proofs.ListGood.{list_good_start, list_good_turns}
-use Rattle.ts_search.proofs.Parts.{series_length}
 use Rattle.ts_search.proofs.Right.{known}
 use Rattle.std.specs.Prelude.{IsSome}
 

@@ -16,12 +16,13 @@ use Rattle.ts_filter.specs.Excluded.{is_better}
 use Rattle.ts_filter.specs.Laws.{IsSound}
 use Rattle.ts_filter.specs.RefutedWorseDrop.{Spans, IsRefuted, IsDrop}
 use Rattle.ts_filter.proofs.BoxParts.{place, domain_at, only_part, part_self, inside_length, in_box_inside}
+use Rattle.ts_filter.proofs.SoundLaws.{series_length}
 use Rattle.ts_domain.specs.Values.{least_of}
 use Rattle.ts_search.specs.Dive.{value_of, find, promise, most_promising, best_value, kept_for, kept_value, keep_one, keep_from, dive_box, dive_end, dive}
 use Rattle.ts_search.specs.Drops.{after_drops}
 use Rattle.ts_search.specs.Forms.{Form, Alone, Wide, after_value, form}
 use Rattle.ts_search.proofs.DropLaws.{drops_keep, dropped_part}
-use Rattle.ts_search.proofs.Parts.{alone_within, series_length}
+use Rattle.ts_search.proofs.Parts.{alone_within}
 
 -- the kept value is one of its cell
 

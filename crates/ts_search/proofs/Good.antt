@@ -19,13 +19,15 @@ use Rattle.ts_filter.specs.Steps.{made_by, Steps}
 use Rattle.ts_filter.specs.Tree.{told_by}
 use Rattle.ts_filter.proofs.BoxParts.{from_without, in_a_side, only_or_without, only_part, part_self}
 use Rattle.ts_filter.proofs.TreeLaws.{parts_made, steps_go_on}
+use Rattle.ts_filter.proofs.SoundLaws.{clash}
+use Rattle.ts_filter.proofs.KeptLaws.{better_trans}
 use Rattle.ts_search.specs.Dive.{Find, value_of, find}
 use Rattle.ts_search.specs.Forms.{Form, Alone, Wide, form}
 use Rattle.ts_search.specs.Found.{beats, tally_after, tally, told_or_warm}
 use Rattle.ts_search.specs.LineOf.{Search, last, requirements, is_refuted_at, is_cut_at, bar_of, cut_by, counts_for, line_of}
 use Rattle.ts_search.specs.Turns.{State, start, found_after, after, turn_on, turn, turns, found_or_warm, budget_claim}
 use Rattle.ts_search.proofs.Choice.{Choice, by_refuted, by_cut, by_new, by_yes, by_drop, by_split, line_choice}
-use Rattle.ts_search.proofs.Known.{clash, never_itself, chain, apart, Known, KnownBest, more_cut, to_cut, no_series, cut_counts}
+use Rattle.ts_search.proofs.Known.{never_itself, apart, Known, KnownBest, more_cut, to_cut, no_series, cut_counts}
 use Rattle.ts_search.proofs.Parts.{AreParts, InOrder, in_made, in_parts, ordered_split, single, alone_within, wide_split, wide_order}
 use Rattle.ts_search.proofs.Walk.{IsChecked, AllChecked, all_checked_snoc, steps_under, tally_snoc}
 
@@ -121,7 +123,7 @@ module _ (c : Search) where
   -- what counts for the bar is as good as all that is known
   counts_best : (found warm : Option Find) (v : Ext) → counts_for c (bar_of found warm) v ≡ true → AtLeast c (found_or_warm found warm) v
   counts_best (Some f) warm v h =
-      false_from_ne_true (is_better c.goal f.value v) (λ e. never_itself c.goal v (chain c.goal v f.value v h e))
+      false_from_ne_true (is_better c.goal f.value v) (λ e. never_itself c.goal v (better_trans c.goal v f.value v h e))
   counts_best None (Some w) v h = not-true (is_better c.goal w.value v) h
   counts_best None None v h = tt
 
@@ -129,7 +131,7 @@ module _ (c : Search) where
       AtLeast c warm v
   counts_warm found None v k h = tt
   counts_warm (Some f) (Some w) v k h =
-      false_from_ne_true (is_better c.goal w.value v) (λ e. clash (is_better c.goal w.value f.value) (chain c.goal w.value v f.value e h) k)
+      false_from_ne_true (is_better c.goal w.value v) (λ e. clash (is_better c.goal w.value f.value) (better_trans c.goal w.value v f.value e h) k)
   counts_warm None (Some w) v k h = not-true (is_better c.goal w.value v) h
 
   -- the rule of a worse line, under a claim of this
@@ -144,7 +146,7 @@ module _ (c : Search) where
       (λ u e. ⊎_elim (λ a. a) (λ a. absurd (clash (is_better c.goal f.value v) a h)) (apart c.goal u f.value v e)) k
 
   not_worse : (w u : Ext) → is_better c.goal u w ≡ true → not (is_better c.goal w u) ≡ true
-  not_worse w u e = ap not (false_from_ne_true (is_better c.goal w u) (λ a. never_itself c.goal u (chain c.goal u w u e a)))
+  not_worse w u e = ap not (false_from_ne_true (is_better c.goal w u) (λ a. never_itself c.goal u (better_trans c.goal u w u e a)))
 
   -- the line worse, by the bar
   worse_now : (found warm : Option Find) (p : ℕ) (b : Box) → cut_by c (bar_of found warm) p b ≡ true → IsBelowClaim (found_or_warm found warm) p b
@@ -163,14 +165,14 @@ module _ (c : Search) where
   settled_new (Some f) warm x y h g =
       let vx = value_of c.model x in
       let vy = value_of c.model y in (
-        false_from_ne_true (is_better c.goal vy vx) (λ e. clash (is_better c.goal vy f.value) (chain c.goal vy vx f.value e h) g.0),
+        false_from_ne_true (is_better c.goal vy vx) (λ e. clash (is_better c.goal vy f.value) (better_trans c.goal vy vx f.value e h) g.0),
         λ q. absurd (clash (is_better c.goal vy f.value) (subst (λ z. is_better c.goal z f.value ≡ true) (sym q) h) g.0),
       )
   settled_new None (Some w) x y h g =
       let vx = value_of c.model x in
       let vy = value_of c.model y in
       let n = not-true (is_better c.goal w.value vx) h in (
-        false_from_ne_true (is_better c.goal vy vx) (λ e. clash (is_better c.goal w.value vx) (chain c.goal w.value vy vx g e) n),
+        false_from_ne_true (is_better c.goal vy vx) (λ e. clash (is_better c.goal w.value vx) (better_trans c.goal w.value vy vx g e) n),
         λ q. absurd (clash (is_better c.goal w.value vx) (subst (λ z. is_better c.goal w.value z ≡ true) q g) n),
       )
   settled_new None None x y h g = absurd g

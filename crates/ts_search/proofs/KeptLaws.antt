@@ -13,8 +13,10 @@ use Rattle.ts_filter.specs.Ends.{best_end}
 use Rattle.ts_filter.specs.Excluded.{is_better}
 use Rattle.ts_filter.specs.KeptValue.{IsPreferred, IsKeptOver, IsKept, end_with}
 use Rattle.ts_filter.specs.MachineSpans.{is_split, span_of, spans_of}
+use Rattle.ts_filter.proofs.SoundLaws.{clash}
+use Rattle.ts_filter.proofs.KeptLaws.{better_trans}
 use Rattle.ts_search.specs.Dive.{most_promising, best_value, kept_for}
-use Rattle.ts_search.proofs.Known.{clash, never_itself, chain, apart, neither_better}
+use Rattle.ts_search.proofs.Known.{never_itself, apart, neither_better}
 
 at_most_both : (v w : ℤ) → v ≤ℤ w → w ≤ℤ v → v ≡ w
 at_most_both v w l g = omega (arith, ints, l, g)
@@ -42,7 +44,7 @@ module _ (goal : Goal) (f : ℤ → Ext) where
 
   -- and to one that is worse
   worse_too : (x v w : ℤ) → is_better goal (f w) (f v) ≡ true → IsPreferred goal f x w → IsPreferred goal f x v
-  worse_too x v w b (inl a) = inl (chain goal (f x) (f w) (f v) a b)
+  worse_too x v w b (inl a) = inl (better_trans goal (f x) (f w) (f v) a b)
   worse_too x v w b (inr h) = inl (ap (λ z. is_better goal z (f v)) h.0 ∙ b)
 
   pub promising_wins : (v : ℤ) (values : List ℤ) → IsRising (v ∷ values) → (u : ℤ) → Contains (v ∷ values) u →
@@ -72,7 +74,7 @@ module _ (goal : Goal) (f : ℤ → Ext) where
 
   -- two that are preferred to each other are one
   pub one_preferred : (v w : ℤ) → IsPreferred goal f v w → IsPreferred goal f w v → v ≡ w
-  one_preferred v w (inl a) (inl b) = absurd (never_itself goal (f v) (chain goal (f v) (f w) (f v) a b))
+  one_preferred v w (inl a) (inl b) = absurd (never_itself goal (f v) (better_trans goal (f v) (f w) (f v) a b))
   one_preferred v w (inl a) (inr h) = absurd (never_itself goal (f v) (ap (λ z. is_better goal (f v) z) (sym h.0) ∙ a))
   one_preferred v w (inr h) (inl b) = absurd (never_itself goal (f w) (ap (λ z. is_better goal (f w) z) (sym h.0) ∙ b))
   one_preferred v w (inr h) (inr g) = at_most_both v w h.1 g.1

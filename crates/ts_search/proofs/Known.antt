@@ -1,11 +1,11 @@
 -- What is known of a search, from what is asked of its spans.
-use Rattle.std.proofs.Common.{◌≡◌, ◌⊎◌, ℕ, ◌≤◌, ℤ, Bool, true, false, not, List, length, Some, MatchOption, refl, ap, inl, inr, ⊎_elim}
-use Rattle.std.proofs.lemmas.Bool.{not-true, not-false}
+use Rattle.std.proofs.Common.{◌≡◌, ◌⊎◌, ℕ, ◌≤◌, ℤ, true, false, not, List, length, Some, MatchOption, inl, inr, ⊎_elim}
+use Rattle.std.proofs.lemmas.Bool.{not-true, not-false, not_from_false, cases_Bool}
 use Rattle.ts_base.specs.declared.ext.Ext.{Ext}
 use Rattle.ts_base.specs.declared.goal.Goal.{Goal}
 use Rattle.ts_base.specs.declared.goal.Goal.TheVariants.{Maximise, Minimise}
 use Rattle.ts_base.specs.Numbers.{ext_le}
-use Rattle.ts_base.proofs.Order.{le_refl, le_trans, le_antisym, le_other}
+use Rattle.ts_base.proofs.Order.{le_refl, le_trans, le_antisym}
 use Rattle.ts_domain.specs.BoxSeries.{InBox, IsBox}
 use Rattle.ts_model.specs.Meets.{Meets}
 use Rattle.ts_filter.specs.declared.bar.Bar.{Bar}
@@ -15,7 +15,7 @@ use Rattle.ts_filter.specs.Excluded.{is_better, counts}
 use Rattle.ts_filter.specs.Laws.{IsSound}
 use Rattle.ts_filter.specs.RefutedWorseDrop.{IsRefuted, IsCut}
 use Rattle.ts_filter.proofs.BoxParts.{inside_length, in_box_inside}
-use Rattle.ts_filter.proofs.SoundLaws.{higher_bar}
+use Rattle.ts_filter.proofs.SoundLaws.{higher_bar, clash}
 use Rattle.ts_filter.proofs.TestLaws.{tests_tell}
 use Rattle.ts_search.specs.Dive.{value_of}
 use Rattle.ts_search.specs.Forms.{Alone, form}
@@ -23,39 +23,23 @@ use Rattle.ts_search.specs.LineOf.{Search, last, requirements, is_refuted_at, is
 
 -- what is better under a goal
 
-pub clash : (t : Bool) → t ≡ true → t ≡ false → ⊥
-clash t p q = cc
-
 le_clash : (a b c : Ext) → ext_le a b ≡ true → ext_le b c ≡ true → ext_le a c ≡ false → ⊥
 le_clash a b c p q n = clash (ext_le a c) (le_trans a b c p q) n
 
 not_le : (a b : Ext) → not (ext_le a b) ≡ true → ext_le a b ≡ false
 not_le a b e = not-true (ext_le a b) e
 
-to_not : (t : Bool) → t ≡ false → not t ≡ true
-to_not t e = ap not e
-
 pub never_itself : (g : Goal) (u : Ext) → is_better g u u ≡ true → ⊥
 never_itself Maximise u e = clash (ext_le u u) (le_refl u) (not_le u u e)
 never_itself Minimise u e = clash (ext_le u u) (le_refl u) (not_le u u e)
 
-either : (t : Bool) → (t ≡ true) ⊎ (t ≡ false)
-either true = inl refl
-either false = inr refl
-
-pub chain : (g : Goal) (u v w : Ext) → is_better g u v ≡ true → is_better g v w ≡ true → is_better g u w ≡ true
-chain Maximise u v w p q =
-    to_not (ext_le u w) (⊎_elim (λ t. absurd (le_clash u w v t (le_other v w (not_le v w q)) (not_le u v p))) (λ f. f) (either (ext_le u w)))
-chain Minimise u v w p q =
-    to_not (ext_le w u) (⊎_elim (λ t. absurd (le_clash v w u (le_other w v (not_le w v q)) t (not_le v u p))) (λ f. f) (either (ext_le w u)))
-
 pub apart : (g : Goal) (u v w : Ext) → is_better g u w ≡ true → (is_better g u v ≡ true) ⊎ (is_better g v w ≡ true)
 apart Maximise u v w p =
-    ⊎_elim (λ t. inr (⊎_elim (λ s. absurd (le_clash u v w t s (not_le u w p))) (λ f. to_not (ext_le v w) f) (either (ext_le v w))))
-    (λ f. inl (to_not (ext_le u v) f)) (either (ext_le u v))
+    ⊎_elim (λ t. inr (⊎_elim (λ s. absurd (le_clash u v w t s (not_le u w p))) (λ f. not_from_false (ext_le v w) f) (cases_Bool (ext_le v w))))
+    (λ f. inl (not_from_false (ext_le u v) f)) (cases_Bool (ext_le u v))
 apart Minimise u v w p =
-    ⊎_elim (λ t. inr (⊎_elim (λ s. absurd (le_clash w v u s t (not_le w u p))) (λ f. to_not (ext_le w v) f) (either (ext_le w v))))
-    (λ f. inl (to_not (ext_le v u) f)) (either (ext_le v u))
+    ⊎_elim (λ t. inr (⊎_elim (λ s. absurd (le_clash w v u s t (not_le w u p))) (λ f. not_from_false (ext_le w v) f) (cases_Bool (ext_le w v))))
+    (λ f. inl (not_from_false (ext_le v u) f)) (cases_Bool (ext_le v u))
 
 pub neither_better : (g : Goal) (u v : Ext) → is_better g u v ≡ false → is_better g v u ≡ false → u ≡ v
 neither_better Maximise u v p q = le_antisym u v (not-false (ext_le u v) p) (not-false (ext_le v u) q)

@@ -1,13 +1,15 @@
 -- The parts of a line mean what they are meant to: the first open cell, and the first requirement that is refuted.
 use Rattle.std.proofs.Common.{◌≡◌, ◌⊎◌, ℕ, zero, suc, ◌<◌, ◌≤◌, true, Option, Some, None, sym, subst, inl, inr, ⊎_elim, arith, eq-or-lt_of_le}
+use Rattle.std.proofs.lemmas.Bool.{cases_lt}
 use Rattle.ts_certificate.specs.declared.certificate.TreeLine.{TreeLine}
 use Rattle.ts_certificate.specs.declared.certificate.TreeLine.TheVariants.{No}
 use Rattle.ts_filter.specs.Boxes.{Box}
+use Rattle.ts_filter.proofs.SoundLaws.{clash}
 use Rattle.ts_search.specs.Drops.{least}
 use Rattle.ts_search.specs.Laws.{FormsTell, FirstNoFits}
 use Rattle.ts_search.specs.LineOf.{Search, requirements, inner, is_refuted_at, no_line, first_no}
 use Rattle.ts_search.proofs.Choice.{LeastFits, least_fits}
-use Rattle.ts_search.proofs.Known.{clash, to_refuted, from_refuted}
+use Rattle.ts_search.proofs.Known.{to_refuted, from_refuted}
 use Rattle.ts_search.proofs.Parts.{FormFits, form_fits, wide_first}
 
 pub forms_tell : FormsTell
@@ -30,9 +32,6 @@ record Leads (c : Search) (b : Box) (k : ℕ) (l : TreeLine) : Type 0 where
 some_line : (l k : TreeLine) → ◌≡◌ {A = Option TreeLine} (Some l) (Some k) → l ≡ k
 some_line l k e = cc
 
-less_or_not : (p q : ℕ) → (p < q) ⊎ (q ≤ p)
-less_or_not p q = grind arith
-
 module _ (c : Search) (b : Box) where
   here : (k p : ℕ) (l : TreeLine) → LeastFits (λ p. is_refuted_at c k p b) (inner c) 1 (Some p) → No k p ≡ l → Leads c b k l
   here k p l f e = record {
@@ -47,7 +46,7 @@ module _ (c : Search) (b : Box) where
         (λ s. inr (
           s,
           ⊎_elim (λ n. absurd (clash (is_refuted_at c k q b) (subst (λ z. is_refuted_at c z q b ≡ true) (sym s) r) (f.first q one n))) (λ n. n)
-              (less_or_not q p),
+              (cases_lt q p),
         ))
         (λ n. inl n) (eq-or-lt_of_le from);
   }

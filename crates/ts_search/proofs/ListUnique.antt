@@ -20,6 +20,7 @@ use Rattle.ts_filter.specs.Steps.{made_by, Steps}
 use Rattle.ts_filter.specs.Tree.{told_by, told_after}
 use Rattle.ts_filter.proofs.BoxParts.{only_series, part_self}
 use Rattle.ts_filter.proofs.TreeLaws.{parts_made}
+use Rattle.ts_filter.proofs.Answered.{told_more}
 use Rattle.ts_search.specs.Dive.{Find}
 use Rattle.ts_search.specs.Drops.{or_later}
 use Rattle.ts_search.specs.Forms.{Form, Alone, Wide, form}
@@ -107,22 +108,6 @@ pub record ListRest (c : Search) (count : ℕ) (h : Head) (most : Option ℕ) (f
   pub few : checked_count ls ≤ spare
   pub all : 0 < open_count ls → (checked_count ls ≡ spare) ⊎ (z ≡ count)
   pub room : (most ≡ Some count) ⊎ (z < count)
-
--- the number of `yes` lines only grows
-told_grows : (told : ℕ) (l : TreeLine) → told ≤ told_by l told
-told_grows told (Split k t) = omega arith
-told_grows told (Remove k v j) = omega arith
-told_grows told (No j p) = omega arith
-told_grows told (Worse p) = omega arith
-told_grows told Yes = omega arith
-told_grows told Unsearched = omega arith
-
-told_more : (m : ModelParts) (s : Spans) (h : Head) (ls : List TreeLine) (told : ℕ) (w left : List Box) (after : ℕ) → Steps m s h w told ls left after →
-    told ≤ after
-told_more m s h [] told w left after f = omega (arith, f.1)
-told_more m s h (l ∷ ls) told [] left after f = absurd f
-told_more m s h (l ∷ ls) told (b ∷ w) left after f =
-    omega (arith, told_grows told l, told_more m s h ls (told_by l told) (made_by l b ++ w) left after f.1)
 
 -- no yes line after an open one
 none_told_after : (c : Search) (aim : Aim) (most : Option ℕ) (h : Head) (ls : List TreeLine) (f : Option Find) (y : ℕ) (w left : List Box) (z : ℕ) →

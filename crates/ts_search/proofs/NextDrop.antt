@@ -11,10 +11,10 @@ use Rattle.ts_filter.specs.RefutedWorseDrop.{Spans, IsDrop}
 use Rattle.ts_filter.specs.Tests.{is_drop}
 use Rattle.ts_filter.proofs.BoxParts.{place, domain_at}
 use Rattle.ts_filter.proofs.TestLaws.{tests_tell}
+use Rattle.ts_filter.proofs.SoundLaws.{clash}
 use Rattle.ts_search.specs.Drops.{Removal, least, or_later, drop_of, drop_at, drop_from, next_drop}
 use Rattle.ts_search.specs.Laws.{IsNoLater, NextDropFits}
 use Rattle.ts_search.proofs.Choice.{LeastFits, least_fits, DropFits, drop_fits}
-use Rattle.ts_search.proofs.Known.{clash}
 use Rattle.ts_search.proofs.Reason.{none_least}
 
 none_of : (o : Option ℕ) (k : ℕ) (v : ℤ) → ◌≡◌ {A = Option Removal} (option_map (λ j. record { cell = k; value = v; requirement = j }) o) None → o ≡ None

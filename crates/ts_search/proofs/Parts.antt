@@ -48,9 +48,6 @@ rising_at z [] i h l = absurd (omega (arith, l))
 rising_at z (u ∷ d) zero h l = above_at u z d zero h.0 (omega (arith, l))
 rising_at z (u ∷ d) (suc i) h l = rising_at z d i h.1 (omega (arith, l))
 
-at_most_self : (t : ℤ) → t ≤ℤ t
-at_most_self t = omega (arith, ints)
-
 above_none : (u : ℤ) (d : List ℤ) → AllByRecursion (λ y. u <ℤ y) d → values_up_to u d ≡ []
 above_none u d h = filter_none (λ v. int_le v u) d (λ v c. le_false v u (each_contains (λ y. u <ℤ y) d v h c))
 
@@ -61,12 +58,10 @@ kept_first t u d l = ap (λ b. length (cond b (u ∷ values_up_to t d) (values_u
 up_to_at : (z : ℤ) (d : List ℤ) (i : ℕ) → IsRising d → i < length d → length (values_up_to (get_or d i z) d) ≡ suc i
 unfolding IsRising
 up_to_at z [] i h l = absurd (omega (arith, l))
-up_to_at z (u ∷ d) zero h l = kept_first u u d (at_most_self u) ∙ ap (λ w. suc (length {A = ℤ} w)) (above_none u d h.0)
+up_to_at z (u ∷ d) zero h l = kept_first u u d (omega (arith, ints)) ∙ ap (λ w. suc (length {A = ℤ} w)) (above_none u d h.0)
 up_to_at z (u ∷ d) (suc i) h l =
-    kept_first (get_or d i z) u d (less u (get_or d i z) (above_at u z d i h.0 (omega (arith, l)))) ∙ ap suc (up_to_at z d i h.1 (omega (arith, l)))
-  where
-    less : (a b : ℤ) → a <ℤ b → a ≤ℤ b
-    less a b l = omega (arith, ints, l)
+    let above = above_at u z d i h.0 (omega (arith, l)) in
+    kept_first (get_or d i z) u d (omega (arith, ints, above)) ∙ ap suc (up_to_at z d i h.1 (omega (arith, l)))
 
 wide_here : (v u : ℤ) (d : List ℤ) (b : Box) → IsRising (v ∷ u ∷ d) → FormFits ((v ∷ u ∷ d) ∷ b) (Wide 1 (get_or (v ∷ u ∷ d) ((length d + 1) / 2) v))
 wide_here v u d b r =
@@ -75,7 +70,7 @@ wide_here v u d b r =
     let t = get_or all i v in
     let next = get_or all (suc i) v in
     let near : suc i < suc (suc (length d)) = omega arith in
-    let below = (contains_up_to t all t).1 (contains_at v all i (omega (arith, near)), at_most_self t) in
+    let below = (contains_up_to t all t).1 (contains_at v all i (omega (arith, near)), omega (arith, ints)) in
     let above = (contains_above t all next).1 (contains_at v all (suc i) near, rising_at v all i r near) in (
       record {
         cell = ((omega arith), (omega arith));
@@ -110,12 +105,6 @@ form_fits ((v ∷ u ∷ d) ∷ b) h = wide_here v u d b h.0.rising
 
 pub alone_is : (m b : Box) (x : List ℤ) → IsPart b m → form b ≡ Alone x → b ≡ box_of x
 alone_is m b x i e = subst (λ g. FormFits b g) e (form_fits b i.box)
-
-pub series_length : (x : List ℤ) (b : Box) → InBox x b → length x ≡ length b
-series_length [] [] h = refl
-series_length [] (d ∷ b) h = absurd h
-series_length (v ∷ x) [] h = absurd h
-series_length (v ∷ x) (d ∷ b) h = ap suc (series_length x b h.1)
 
 pub in_box_of : (x : List ℤ) → InBox x (box_of x)
 in_box_of [] = tt

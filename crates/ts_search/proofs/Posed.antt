@@ -18,6 +18,7 @@ use Rattle.ts_filter.specs.KeptValue.{IsKept, end_with}
 use Rattle.ts_filter.specs.OfTerm.{OfTerm}
 use Rattle.ts_filter.specs.Tests.{cut_by as cut_by_term}
 use Rattle.ts_filter.proofs.BoxParts.{domain_at, inside_length, place}
+use Rattle.ts_filter.proofs.SoundLaws.{each_at}
 use Rattle.ts_search.specs.Dive.{kept_for, kept_value}
 use Rattle.ts_search.specs.Drops.{least, next_drop}
 use Rattle.ts_search.specs.LineOf.{is_cut_at, cut_by, inner, last, is_refuted_at}
@@ -27,7 +28,6 @@ use Rattle.ts_search.specs.declared.problem.Problem.{Problem}
 use Rattle.ts_search.proofs.CallLaws.{least_is, refuted_is, first_refuted_is, cut_is, first_cut_is, never_least, drop_is}
 use Rattle.ts_search.proofs.DiveLaws.{best_there}
 use Rattle.ts_search.proofs.KeptLaws.{kept_is}
-use Rattle.ts_search.proofs.Right.{each_at}
 
 -- what is told of a term's machine, of a term that there is
 pub told_of : (tables : List Automata) (term : ℕ) (Is : Automata → Type 0) (Goal : Type 0) → term < length tables → OfTerm tables term Is →

@@ -11,6 +11,8 @@ use Rattle.ts_filter.specs.Boxes.{Box, HasCell, IsPart}
 use Rattle.ts_filter.specs.Excluded.{is_better}
 use Rattle.ts_filter.specs.RefutedWorseDrop.{IsRefuted}
 use Rattle.ts_filter.specs.Rules.{Head, IsListing, KeepsRule}
+use Rattle.ts_filter.proofs.SoundLaws.{clash}
+use Rattle.ts_filter.proofs.KeptLaws.{better_trans}
 use Rattle.ts_search.specs.Dive.{Find}
 use Rattle.ts_search.specs.Drops.{Removal, least, or_later, next_drop}
 use Rattle.ts_search.specs.Forms.{Form, Alone, Wide, form}
@@ -18,7 +20,7 @@ use Rattle.ts_search.specs.Lean.{below_told, below_warm, below, worse_line, last
 use Rattle.ts_search.specs.LineOf.{Search, last, requirements, inner, is_refuted_at, is_cut_at, bar_of, cut_by, refuted_last, no_line, first_no, removal_line, branch_line, wide_line, form_line, line_of}
 use Rattle.ts_search.proofs.Choice.{LeastFits, least_fits}
 use Rattle.ts_search.proofs.Good.{kept}
-use Rattle.ts_search.proofs.Known.{clash, chain, apart, cut_more, to_refuted, from_refuted, to_cut, part_length}
+use Rattle.ts_search.proofs.Known.{apart, cut_more, to_refuted, from_refuted, to_cut, part_length}
 use Rattle.ts_search.proofs.Parts.{drop_not_alone}
 use Rattle.ts_search.proofs.Walk.{IsChecked}
 
@@ -46,7 +48,7 @@ one_bar c p b (Some f) (Some w) =
       | false ↦ λ e. implied (is_cut_at c p b (Better f.value)) (is_cut_at c p b (AsGood w.value))
           (cut_more c p b (AsGood w.value) (Better f.value)
           (λ u k. ap not (false_from_ne_true (is_better c.goal w.value u)
-          (λ a. clash (is_better c.goal w.value f.value) (chain c.goal w.value u f.value a k) e))))
+          (λ a. clash (is_better c.goal w.value f.value) (better_trans c.goal w.value u f.value a k) e))))
     ] refl
 
 least_same : (q r : ℕ → Bool) → ((i : ℕ) → q i ≡ r i) → (n j : ℕ) → least q n j ≡ least r n j

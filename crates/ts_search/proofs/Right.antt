@@ -20,23 +20,18 @@ use Rattle.ts_filter.specs.Boxes.{Box, IsPart, box_of}
 use Rattle.ts_filter.specs.Excluded.{counts}
 use Rattle.ts_filter.specs.RefutedWorseDrop.{Spans, IsRequirement, IsRefuted}
 use Rattle.ts_filter.proofs.BoxParts.{in_box_inside}
-use Rattle.ts_filter.proofs.SoundLaws.{values_are_sound, singles_are_exact}
+use Rattle.ts_filter.proofs.SoundLaws.{values_are_sound, singles_are_exact, clash, series_length, each_at}
 use Rattle.ts_search.specs.Asked.{AreRight}
 use Rattle.ts_search.specs.Dive.{value_of}
 use Rattle.ts_search.specs.Forms.{Alone, form}
 use Rattle.ts_search.specs.LineOf.{Search, search_for, last, requirements, is_refuted_at, is_cut_at}
 use Rattle.ts_search.proofs.DiveLaws.{dive_fits}
-use Rattle.ts_search.proofs.Known.{clash, Known, KnownBest, from_refuted, from_cut}
-use Rattle.ts_search.proofs.Parts.{alone_is, alone_within, series_length}
+use Rattle.ts_search.proofs.Known.{Known, KnownBest, from_refuted, from_cut}
+use Rattle.ts_search.proofs.Parts.{alone_is, alone_within}
 
 each_from : (P : Require → Type 0) (rs : List Require) → ((i : ℕ) (r : Require) → slice_get rs i ≡ Some r → P r) → AllByRecursion P rs
 each_from P [] f = tt
 each_from P (r ∷ rs) f = (f zero r refl, each_from P rs (λ i q e. f (suc i) q e))
-
-pub each_at : (P : Require → Type 0) (rs : List Require) (i : ℕ) (r : Require) → AllByRecursion P rs → slice_get rs i ≡ Some r → P r
-each_at P [] i r h e = absurd (let f : ◌≡◌ {A = Option Require} None (Some r) = e in cc)
-each_at P (q ∷ rs) zero r h e = subst P (let f : ◌≡◌ {A = Option Require} (Some q) (Some r) = e in cc) h.0
-each_at P (q ∷ rs) (suc i) r h e = each_at P rs i r h.1 e
 
 value_there : (m : ModelParts) (x : List ℤ) (term : ℕ) → term < length m.terms → (v : Ext) × (value_at m x term ≡ Some v)
 value_there m x term l =

@@ -233,10 +233,6 @@ closed_steps m s h n (Unsearched ∷ ls) y (b ∷ w) left after f = absurd (n f.
 
 -- the first best series is one
 
-before_not : (x : List ℤ) → IsBefore x x → ⊥
-before_not [] e = e
-before_not (v ∷ x) e = ⊎_elim (λ a. absurd (omega (arith, ints, a))) (λ a. before_not x a.1) e
-
 before_back : (x y : List ℤ) → IsBefore x y → IsBefore y x → ⊥
 before_back [] y p q = absurd p
 before_back (a ∷ x) [] p q = absurd p

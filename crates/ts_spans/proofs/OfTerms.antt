@@ -33,6 +33,7 @@ use Rattle.ts_filter.specs.Boxes.{Box, IsPart, box_of}
 use Rattle.ts_filter.specs.MachineSpans.{HoldsTerm, TellsTerm}
 use Rattle.ts_filter.proofs.BoxParts.{inside_length}
 use Rattle.ts_filter.proofs.MachineLaws.{machines_hold, machines_tell}
+use Rattle.ts_filter.proofs.SoundLaws.{series_length}
 use Rattle.ts_spans.specs.Laws.{SpansHoldValues, SpansTellSingles}
 use Rattle.ts_spans.specs.Machines.{forward_for, pair_for, automata_for, automata_in}
 
@@ -80,12 +81,6 @@ at_term : {T : Type 0} (machine : T → Automata) (value : T → Ext) (ts : List
 at_term machine value [] k a v e f = absurd (let g : ◌≡◌ {A = Option Automata} None (Some a) = e in cc)
 at_term machine value (t ∷ ts) zero a v e f = record { term = t; is_machine = same_Some (machine t) a e; is_value = same_Some (value t) v f }
 at_term machine value (t ∷ ts) (suc k) a v e f = at_term machine value ts k a v e f
-
-series_length : (x : List ℤ) (b : Box) → InBox x b → length x ≡ length b
-series_length [] [] h = refl
-series_length [] (d ∷ b) h = absurd h
-series_length (v ∷ x) [] h = absurd h
-series_length (v ∷ x) (d ∷ b) h = ap suc (series_length x b h.1)
 
 module _ (m : ModelParts) (whole : IsWhole m) where
   -- the span of a term's machine holds the term's value

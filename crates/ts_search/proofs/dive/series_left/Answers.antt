@@ -1,11 +1,12 @@
 use Rattle.std.proofs.Common.{sym, ◌∙◌, ap}
 use Rattle.ts_filter.specs.Boxes.{box_of}
+use Rattle.ts_filter.proofs.SoundLaws.{series_length}
 use Rattle.ts_search.specs.Dive.{value_of}
 use Rattle.ts_search.specs.Views.{search_of}
 use Rattle.ts_search.proofs.Certified.{is_series}
 use Rattle.ts_search.proofs.CodeFound.{halving_told, left_within, single_told}
 use Rattle.ts_search.proofs.DiveSteps.{left_fails, left_meets, left_wide, met_is}
-use Rattle.ts_search.proofs.Parts.{is_alone, series_length}
+use Rattle.ts_search.proofs.Parts.{is_alone}
 use Rattle.ts_search.proofs.dive.series_left.Goals as goal
 
 -- several series are left, which doesn't come
@@ -37,7 +38,7 @@ value-requires-clause-series c =
     let one = c.in_ok-series.ensures single ∙ ap box_of (sym c.deref-2.ensures.value) in
     left_within s.model.cells c.args.cells.now.present c.deref-2.result.now c.requires.part one
 
--- `meets` answers is_met: the judgement's lists are those of the definition
+-- `meets` answers whether the series meets: the judgement's lists are those of the definition
 pub returns-then-not-meets : goal.returns-then-not-meets
 returns-then-not-meets c =
     let m = (search_of c.args.problem.now).model in
