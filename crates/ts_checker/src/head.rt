@@ -13,7 +13,7 @@ ghost use Rattle.ts_checker.specs.Subjects.{series_of, value_in};
 use std::alloc::Global;
 use ts_base::{Ext, Memory};
 use ts_certificate::{Aim, Claim};
-use ts_compile::judge::judge;
+use ts_compile::judge;
 use ts_model::Model;
 
 /// After `maximise` and `minimise` the model has an objective.

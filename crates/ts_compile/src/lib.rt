@@ -14,7 +14,7 @@
 
 mod compile;
 mod glue_text;
-pub mod judge;
+mod judging;
 pub mod laws;
 mod program;
 mod text;
@@ -22,6 +22,7 @@ mod values;
 mod words;
 
 pub use compile::{compile_model, compile_term};
+pub use judging::{Judgement, judge};
 pub use program::Program;
 pub use text::write_program;
 pub use values::value_of;

@@ -10,7 +10,7 @@ use crate::parts::{model_of, series_of};
 use crate::reply::{Reply, Stop};
 use crate::verdict::verdict;
 use std::alloc::Global;
-use ts_compile::judge::judge;
+use ts_compile::judge;
 use ts_model::{Model, Need};
 use ts_token::cut_parts;
 

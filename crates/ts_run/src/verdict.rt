@@ -10,7 +10,7 @@ use crate::reply::Reply;
 use crate::status::Status;
 use std::alloc::Global;
 use ts_base::{Ext, Memory, push_ext, push_number};
-use ts_compile::judge::Judgement;
+use ts_compile::Judgement;
 use ts_model::Model;
 
 /// Whether the series meets the model, each cell and requirement at fault, and the value of each term.

@@ -14,7 +14,7 @@ use crate::line::refuted_requirement;
 use crate::problem::Problem;
 use std::alloc::Global;
 use ts_base::Memory;
-use ts_compile::judge::judge;
+use ts_compile::judge;
 use ts_domain::Boxed;
 use ts_filter::AllTables;
 use ts_frontier::{first_halving, only_series};

@@ -1,7 +1,7 @@
 use Rattle.std.proofs.Common.{rules}
 use Rattle.ts_model.specs.Views.{model_parts}
 use Rattle.ts_model.proofs.MeetsLaw.{met_by}
-use Rattle.ts_compile.proofs.judge.judge.Goals as goal
+use Rattle.ts_compile.proofs.judging.judge.Goals as goal
 
 pub returns-clause-meets : goal.returns-clause-meets
 returns-clause-meets c =

@@ -3,7 +3,7 @@ use Rattle.ts_model.specs.Views.{model_parts}
 use Rattle.ts_model.specs.Meets.{values_on}
 use Rattle.ts_compile.proofs.JudgeLaws.{taken}
 use Rattle.ts_compile.proofs.Terms.{value_found}
-use Rattle.ts_compile.proofs.judge.values_on.Goals as goal
+use Rattle.ts_compile.proofs.judging.values_on.Goals as goal
 
 pub loop-k-preserved : goal.loop-k-preserved
 loop-k-preserved c =

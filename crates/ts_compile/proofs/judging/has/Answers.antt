@@ -2,7 +2,7 @@ use Rattle.std.proofs.Common.{◌∙◌, ap, to_z, of_z, w64}
 use Rattle.std.proofs.lemmas.Int.{to_z-of_z}
 use Rattle.ts_model.specs.Judgement.{is_among}
 use Rattle.ts_compile.proofs.JudgeLaws.{contains_is}
-use Rattle.ts_compile.proofs.judge.has.Goals as goal
+use Rattle.ts_compile.proofs.judging.has.Goals as goal
 
 pub returns : goal.returns
 returns c =
