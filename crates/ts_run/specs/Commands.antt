@@ -4,6 +4,7 @@ use Rattle.std.specs.Global.{Global}
 use Rattle.std.specs.Str.{bytes_eq}
 use Rattle.ts_base.specs.declared.goal.Goal.TheVariants.{Maximise, Minimise}
 use Rattle.ts_base.specs.Limits.{most_cells}
+use Rattle.ts_certificate.specs.Laws.{most_model_bytes, most_verify_bytes}
 use Rattle.ts_run.specs.Quantities.{most_lines, most_series, number_within, usual_lines}
 use Rattle.ts_run.specs.declared.command.Command.{Command}
 use Rattle.ts_run.specs.declared.command.Command.TheVariants.{Check, Compile, Verify, Best, Generate, Sample}
@@ -57,10 +58,10 @@ command_of (word ∷ words) =
 -- how a command takes its input: the whole, so many bytes at most, or nothing of it
 abbrev pub input_of : Command → Input
 input_of Check = Whole 2097152
-input_of Compile = Whole 1048576
-input_of Verify = Whole 135266304
-input_of (Best goal lines) = Whole 1048576
-input_of (Generate count lines) = Whole 1048576
+input_of Compile = Whole most_model_bytes
+input_of Verify = Whole most_verify_bytes
+input_of (Best goal lines) = Whole most_model_bytes
+input_of (Generate count lines) = Whole most_model_bytes
 input_of (Sample cells) = Nothing
 
 -- no input is longer than what memory is counted in

@@ -1,6 +1,7 @@
 //! The parts of an input: its model and its series, or the refusal of a bad one.
 
 ghost use Rattle.std.specs.Prelude.{ℕ, ◌≡◌, ◌<◌, ◌≤◌, length, map, IfOk, vec_len};
+ghost use Rattle.ts_base.specs.Limits.{most_cells};
 ghost use Rattle.ts_pattern.specs.Limits.{IsSeries};
 ghost use Rattle.ts_token.specs.Text.{cut_of};
 ghost use Rattle.ts_model.specs.ModelReading.{model_reading};
@@ -37,7 +38,7 @@ pub fn model_of(alloc: Global, text: &[u8], need: Need) -> Result<Model, Stop>
 /// The series of `n` values that the text states, or its refusal.
 pub fn series_of(alloc: Global, text: &[u8], n: u32) -> Result<Vec<i64>, Stop>
     requires few { length text.now < 4000000000 }
-    requires cells { (1 ≤ n) × (n ≤ 512) }
+    requires cells { (1 ≤ n) × (n ≤ most_cells) }
     ensures gives { GivesSeries (λ xs. xs.items) (series_reading n (cut_of text.now)) result }
     ensures count { IfOk result (λ xs. length xs.items ≡ n) }
     ensures series { IfOk result (λ xs. IsSeries xs.items) }

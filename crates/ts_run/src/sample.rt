@@ -3,6 +3,7 @@
 ghost use Rattle.std.specs.Prelude.{ℕ, ◌≡◌, ◌≤◌, ◌<◌, ◌++◌, Bool, not, codes, length, IfOk, OnOk};
 ghost use Rattle.std.specs.Fmt.{decimal, signed_decimal};
 ghost use Rattle.ts_automaton.specs.AutomatonRun.{AreCellValues};
+ghost use Rattle.ts_base.specs.Limits.{most_cells};
 ghost use Rattle.ts_certificate.specs.Certificate.{checked_count};
 ghost use Rattle.ts_certificate.specs.Grammar.{is_open};
 ghost use Rattle.ts_run.specs.Reply.{ComesOfInput, reply_of};
@@ -104,7 +105,7 @@ fn push_counted(text: &mut Vec<u8>, words: &[u8], number: i64) -> Result<(), Mem
 
 /// The sum of a series.
 fn sum_of(series: &[i64]) -> i64
-    requires few { length series.now ≤ 512 }
+    requires few { length series.now ≤ most_cells }
     requires cells { AreCellValues series.now }
     ensures { result ≡ sum_of series.now }
 {

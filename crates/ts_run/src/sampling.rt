@@ -43,7 +43,7 @@ pub fn sample_model(alloc: Global, n: u32) -> Result<Model, Memory>
 
 /// The domains of its cells.
 fn cells(alloc: Global, n: u32) -> Result<Vec<Domain>, Memory>
-    requires { n ≤ 512 }
+    requires { n ≤ most_cells }
     ensures { IfOk result (λ cells. cells.items ≡ cells_from 1 n) }
 {
     let mut cells = Vec::new(alloc);
