@@ -1,7 +1,7 @@
 -- The verdict on a certificate, given as the texts of its lines.
 use Rattle.std.specs.Prelude.{◌≡◌, ℕ, List, map, Option, Some, None}
 use Rattle.ts_certificate.specs.declared.stop.CertStop.{CertStop}
-use Rattle.ts_certificate.specs.declared.stop.CertStop.TheVariants.{Text, CountDiffers, Memory as WantOfMemory}
+use Rattle.ts_certificate.specs.declared.stop.CertStop.TheVariants.{Text, CountDiffers, Memory as NoMemory}
 use Rattle.ts_certificate.specs.Certificate.{Cert, IsCertificate, cert_lines}
 use Rattle.ts_certificate.specs.Grammar.{line_text}
 use Rattle.ts_certificate.specs.Reading.{fresh, reading_after, end_stop}
@@ -22,7 +22,7 @@ pub record AreOf (texts : List (List ℕ)) (c : Cert) : Type 0 where
 abbrev pub stop_line : CertStop → ℕ
 stop_line (Text line) = line
 stop_line (CountDiffers line said found) = line
-stop_line WantOfMemory = 0
+stop_line NoMemory = 0
 
 -- the reading of the texts stops at this line: the first against the grammar, an end line with other counts, or the
 -- line that is missing at the end

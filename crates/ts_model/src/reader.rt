@@ -4,7 +4,7 @@ ghost use Rattle.std.specs.Prelude.{ℕ, ◌≡◌, ◌≢◌, ◌<◌, List, []
 ghost use Rattle.std.specs.Prelude.{length, vec_len, IfOk, OnErr, OnOk, Err};
 ghost use Rattle.ts_token.specs.Gist.{without_end};
 ghost use Rattle.ts_token.specs.Text.{cut_of, is_text};
-ghost use Rattle.ts_model.specs.declared.error.ModelStop.TheVariants.{Memory as ModelMemory};
+ghost use Rattle.ts_model.specs.declared.error.ModelStop.TheVariants.{Memory as NoMemory};
 ghost use Rattle.ts_model.specs.declared.model.Need.{Need};
 ghost use Rattle.ts_model.specs.declared.reader.State.TheVariants.{Stopped};
 ghost use Rattle.ts_model.specs.LineByLine.{HasRead, ReadsLine};
@@ -54,7 +54,7 @@ impl Progress {
     fn take(&mut self, line: &[u8]) -> Result<(), ModelStop>
         requires { IsFit self.old }
         ensures taken { TakesLine self.old (without_end line.now) result self.new }
-        ensures text { result ≡ Err ModelMemory → length line.now < 4000000000 → self.old.count < 3999999999 →
+        ensures text { result ≡ Err NoMemory → length line.now < 4000000000 → self.old.count < 3999999999 →
             is_text (without_end line.now) ≡ true }
     {
         if line.len() >= TOO_MANY as usize || self.count >= TOO_MANY - 1 {
@@ -118,7 +118,7 @@ impl State {
     /// `Memory` where memory was wanting.
     fn answer(&self) -> Result<(), Memory>
         ensures calm { OnOk result (IsCalm self.now) }
-        ensures wanted { OnErr result (self.now ≡ Stopped ModelMemory) }
+        ensures wanted { OnErr result (self.now ≡ Stopped NoMemory) }
     {
         match self {
             State::Open(_) => Ok(()),
@@ -176,8 +176,8 @@ impl ModelReader {
     pub fn line(&mut self, line: &[u8]) -> Result<(), Memory>
         ensures read { OnOk result (ReadsLine self.old line.now self.new) }
         ensures none { line.now ≡ [] → self.new ≡ self.old }
-        ensures wanted { OnErr result (self.new ≡ Err ModelMemory) }
-        ensures calm { OnOk result ((self.old ≢ Err ModelMemory) × (self.new ≢ Err ModelMemory)) }
+        ensures wanted { OnErr result (self.new ≡ Err NoMemory) }
+        ensures calm { OnOk result ((self.old ≢ Err NoMemory) × (self.new ≢ Err NoMemory)) }
     {
         if line.is_empty() {
             return self.state.answer();
@@ -197,8 +197,8 @@ impl ModelReader {
             IfOk result (λ m. IsWhole (model_parts m)) }
         ensures limits { (need : Need) (text : List ℕ) → HasRead need text self →
             IfOk result (λ m. KeepsLimits need (model_parts m)) }
-        ensures wanted { self ≡ Err ModelMemory → result ≡ Err ModelMemory }
-        ensures calm { IfOk result (λ m. self ≢ Err ModelMemory) }
+        ensures wanted { self ≡ Err NoMemory → result ≡ Err NoMemory }
+        ensures calm { IfOk result (λ m. self ≢ Err NoMemory) }
     {
         let ModelReader { state } = self;
         state.end()
