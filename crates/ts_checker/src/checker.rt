@@ -156,7 +156,7 @@ impl Checker {
         }
     }
 
-    // The verdict, by where the reading stops and by the first line that breaks its rule.
+    /// The verdict, by where the reading stops and by the first line that breaks its rule.
     fn verdict(&self) -> Verdict
         ensures { result ≡ verdict_by (end_stop self.now.reading) self.now.failed }
     {
@@ -167,7 +167,7 @@ impl Checker {
         }
     }
 
-    // The next line: what the reader makes of it is judged, and nothing waits once the reader stops.
+    /// The next line: what the reader makes of it is judged, and nothing waits once the reader stops.
     fn step(&mut self, line: &[u8]) -> Result<(), Memory>
         requires { self.old.reading.next ≤ 4000000000 }
         ensures takes { OnOk result (Takes self.old line.now self.new) }
@@ -185,7 +185,7 @@ impl Checker {
         }
     }
 
-    // Line `number` by its rule: it leads on, or it is the first that breaks its rule.
+    /// Line `number` by its rule: it leads on, or it is the first that breaks its rule.
     fn judge(&mut self, number: u32, line: Parsed) -> Result<(), Memory>
         requires { AreValues line }
         ensures takes { OnOk result (TakesOn self.old.model (spans_in self.old.model) self.old.stand self.old.failed
@@ -213,7 +213,7 @@ impl Checker {
     }
 }
 
-// The line at which a reading stops; none stops for want of memory.
+/// The line at which a reading stops; none stops for want of memory.
 fn line_of(stop: CertStop) -> u32
     ensures { result ≡ stop_line stop }
 {

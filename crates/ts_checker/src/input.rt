@@ -62,7 +62,7 @@ impl Input {
         }
     }
 
-    // Takes bytes of one line, whose last may be its LF.
+    /// Takes bytes of one line, whose last may be its LF.
     fn take_part(&mut self, part: &[u8]) -> Result<(), Memory>
         requires part { IsPart part.now }
         requires taken { (bytes : List ℕ) × HasTaken bytes self.old }
@@ -75,7 +75,7 @@ impl Input {
         if ended { self.end_model() } else { Ok(()) }
     }
 
-    // The model's line `%%` has come: what the model gives stands in its place.
+    /// The model's line `%%` has come: what the model gives stands in its place.
     fn end_model(&mut self) -> Result<(), Memory>
         requires { (bytes : List ℕ) × EndsIn bytes self.old }
         ensures { OnOk result ((bytes : List ℕ) → EndsIn bytes self.old → HasTaken bytes self.new) }

@@ -95,7 +95,7 @@ impl Judging {
 }
 
 impl Judging {
-    // The line has its LF.
+    /// The line has its LF.
     fn end_line(&mut self) -> Result<(), Memory>
         ensures judged { OnOk result (JudgesLine self.old self.new) }
         ensures cleared { OnOk result (self.new.line.bytes.items ≡ []) }
@@ -109,7 +109,7 @@ impl Judging {
     }
 }
 
-// Judges the next line; the result is the line that is refused by now.
+/// Judges the next line; the result is the line that is refused by now.
 fn judge(checker: &mut Checker, refused: Option<u32>, text: &[u8]) -> Result<Option<u32>, Memory>
     ensures takes { OnOk result (Takes checker.old text.now checker.new) }
     ensures refused { IfOk result (λ now. now ≡ refused_now refused checker.old.reading.next checker.new.reading.next) }
@@ -124,14 +124,14 @@ fn judge(checker: &mut Checker, refused: Option<u32>, text: &[u8]) -> Result<Opt
     Ok(refused_now(refused, number, checker.next_line()))
 }
 
-// A line of this number isn't judged.
+/// A line of this number isn't judged.
 fn is_past_limit(number: u32) -> bool
     ensures { result ≡ nat_lt 4000000000 number }
 {
     number > MOST_LINES
 }
 
-// The line that was refused before; else line `number`, where the next one still has that number.
+/// The line that was refused before; else line `number`, where the next one still has that number.
 fn refused_now(before: Option<u32>, number: u32, next: u32) -> Option<u32>
     ensures { result ≡ refused_now before number next }
 {

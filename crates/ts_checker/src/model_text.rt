@@ -64,7 +64,7 @@ impl ModelText {
 }
 
 impl ModelText {
-    // The line has its LF: it is one more of the model, or the line `%%`.
+    /// The line has its LF: it is one more of the model, or the line `%%`.
     fn end_line(&mut self) -> Result<bool, Memory>
         ensures { IfOk result (λ ended. (bytes : List ℕ) → AtLine IsFinished bytes self.old →
             IsAt bytes ended self.new) }
@@ -77,7 +77,7 @@ impl ModelText {
         Ok(false)
     }
 
-    // A last line without an LF is one of the model, unless it is the line `%%`.
+    /// A last line without an LF is one of the model, unless it is the line `%%`.
     fn end_last_line(&mut self) -> Result<(), Memory>
         ensures { OnOk result (ReadsLast self.old self.new) }
     {
@@ -87,7 +87,7 @@ impl ModelText {
         self.read_line()
     }
 
-    // Gives the line to the reader.
+    /// Gives the line to the reader.
     fn read_line(&mut self) -> Result<(), Memory>
         ensures { OnOk result (ReadsOn self.old self.new) }
     {
@@ -97,8 +97,8 @@ impl ModelText {
         }
     }
 
-    // Makes the reader, and gives the line to it. A call clears the places of all its values, a reader's too, so this
-    // stands apart from `read_line`.
+    /// Makes the reader, and gives the line to it. A call clears the places of all its values, a reader's too, so this
+    /// stands apart from `read_line`.
     fn read_first_line(&mut self) -> Result<(), Memory>
         requires { self.old.reader ≡ None }
         ensures { OnOk result (ReadsOn self.old self.new) }

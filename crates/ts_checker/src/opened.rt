@@ -66,7 +66,7 @@ impl Opened {
     }
 }
 
-// The reader, which is made where no line came.
+/// The reader, which is made where no line came.
 fn reader_of(alloc: Global, reader: Option<ModelReader>) -> Result<ModelReader, Memory>
     ensures { IfOk result (λ r. (text : List ℕ) → HasLines text reader → HasRead Listed text r) }
 {

@@ -62,7 +62,7 @@ impl Standing {
 }
 
 impl Standing {
-    // The present box gives way to the boxes that the line makes.
+    /// The present box gives way to the boxes that the line makes.
     fn step(&mut self, line: TreeLine) -> Result<(), Memory>
         requires { MayStep self.old line }
         ensures ok { OnOk result (stand_of self.new ≡ stand_after (stand_of self.old) (SaysTree line)) }

@@ -44,7 +44,7 @@ pub fn only_series(alloc: Global, b: &Boxed) -> Result<Vec<i64>, Memory>
     Ok(series)
 }
 
-// The value in the middle, the lower one of two.
+/// The value in the middle, the lower one of two.
 fn lower_middle(domain: &Domain) -> i64
     ensures middle { result ≡ middle_of domain.now }
     ensures domain { IsDomain domain.now }
