@@ -34,7 +34,7 @@ abbrev pub GluedSpansHold : Type 0
 GluedSpansHold =
     (p : Pair) (q r : ℕ) (h i : EachOf Span) (s t : EachOf Ext) (x : ℤ) → HoldsRegs h s → HoldsRegs i t →
     Holds (glue_span_at p (standing_with q h) (standing_with r i) x)
-        (glue_at numbers p (standing_with q s) (standing_with r t) x)
+    (glue_at numbers p (standing_with q s) (standing_with r t) x)
 
 -- under the mark too, where the glued value keeps the promise of the mark
 abbrev pub MarkedSpansHold : Type 0
@@ -52,7 +52,7 @@ GluedSpansHoldAnswers =
     HoldsRegs h (left_at p xs k).regs → HoldsRegs i (right_at p xs k).regs →
     Holds
     (glued_span p (standing_with (left_at p xs k).state h) (standing_with (right_at p xs k).state i) (cell_at xs k)
-        (length xs))
+    (length xs))
     (answer p.forward xs)
 
 -- a glued span is none where a hull is none

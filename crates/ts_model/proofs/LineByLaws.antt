@@ -81,7 +81,7 @@ same_step : (need : Need) (number : ℕ) (m : ModelParts) (given line : List ℕ
     line_step need number m (without_end line) ≡ line_step need number m (without_end given)
 same_step need number m given line same is =
     by_gist need number m (without_end line) ∙ ap (gist_gives need number m) (sym (same_gist given line same is)) ∙
-        sym (by_gist need number m (without_end given))
+    sym (by_gist need number m (without_end given))
 
 -- one line more of a text
 one_more : (need : Need) (text line : List ℕ) (more : List (List ℕ)) → AreEnded text → IsLine line →
@@ -109,7 +109,7 @@ read_bad old given number kind gives need text line whole is same has = λ more.
     one_more need text line more whole is ∙ has.1 (without_end line ∷ more)
     ∙ ap (λ r. then_on r (λ a. reading_from need (old.count + 1) a more))
     (same_step need (old.count + 1) old.stated given line same is ∙ ap (λ (n : Need). line_step n (old.count + 1) old.stated (without_end given)) (sym has.0) ∙
-        gives)
+    gives)
 
 -- a line before was bad
 pub still_bad : (given : List ℕ) (number : ℕ) (kind : ModelKind) → ReadsLine (Err (Refused number kind)) given (Err (Refused number kind))
