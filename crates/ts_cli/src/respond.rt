@@ -1,7 +1,7 @@
 //! The words of the command line, given to `run`, and the exit status.
 
 ghost use Rattle.std.specs.IoError.{error_kind};
-ghost use Rattle.std.specs.Prelude.{ℕ, ◌≡◌, ◌≢◌, ◌↔◌, Ok, Err, drop, IfOk, IsErr, MatchResult};
+ghost use Rattle.std.specs.Prelude.{◌≡◌, ◌≢◌, ◌↔◌, Ok, Err, drop, IfOk, IsErr, MatchResult};
 ghost use Rattle.std.specs.Vec.Iter.{into_iter_items};
 ghost use Rattle.ts_cli.specs.Ends.{no_words_code};
 ghost use Rattle.ts_run.specs.Commands.{command_of, words_in};

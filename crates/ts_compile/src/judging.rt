@@ -2,7 +2,7 @@
 //!
 //! Nothing here speaks of texts or commands, so that a search and a checker may take it as it is.
 
-ghost use Rattle.std.specs.Prelude.{ℕ, ◌≡◌, ◌↔◌, ◌++◌, length, slice_get, IfOk, IsTrue};
+ghost use Rattle.std.specs.Prelude.{◌≡◌, ◌↔◌, length, IfOk, IsTrue};
 ghost use Rattle.ts_pattern.specs.Limits.{IsSeries};
 ghost use Rattle.ts_model.specs.Judgement.{all_hold, all_true, holdings, holds, insides, is_among};
 ghost use Rattle.ts_model.specs.Meets.{Meets, values_on};

@@ -1,6 +1,6 @@
 //! The spans of one value of a cell, from its hulls, as parts of a span.
 
-ghost use Rattle.std.specs.Prelude.{◌≡◌, ◌<◌, length};
+ghost use Rattle.std.specs.Prelude.{◌≡◌, length};
 ghost use Rattle.ts_automaton.specs.SpanRun.{HullStands, hull_standing};
 ghost use Rattle.ts_base.specs.Limits.{IsCellValue};
 ghost use Rattle.ts_bound.specs.Blocks.{HullsStand, OfReverse, finishes, glued_all, glued_with};

@@ -1,5 +1,5 @@
 -- What a line on domains gives: the new domains of the cells, or that they are over the limit.
-use Rattle.std.proofs.Common.{◌≡◌, ℕ, ◌-◌, ℤ, pos, Bool, true, false, cond, ◌&&◌, Ok, Err, Some, None, List, map, set, length, refl, ap, subst, ◌∙◌, sym}
+use Rattle.std.proofs.Common.{◌≡◌, ℕ, ℤ, Bool, true, false, cond, Ok, Err, Some, None, List, map, set, length, refl, ap, subst, sym}
 use Rattle.std.specs.Prelude.{Result}
 use Rattle.std.specs.List.{list_any}
 use Rattle.ts_domain.specs.declared.interval.Interval.{Interval}
@@ -8,7 +8,7 @@ use Rattle.ts_model.specs.declared.error.ModelKind.TheVariants.{Empty, Limit}
 use Rattle.ts_model.specs.declared.error.LineStop.{LineStop}
 use Rattle.ts_model.specs.declared.error.LineStop.TheVariants.{Bad, NoMemory}
 use Rattle.ts_model.specs.Statement.{SaysDomain, SaysCell}
-use Rattle.ts_model.specs.ModelParts.{ModelParts, IsPlace, has_cells, is_backward, is_outside, is_between, over_total, parts_after, union_given, union_of, unless_kind}
+use Rattle.ts_model.specs.ModelParts.{ModelParts, IsPlace, has_cells, is_backward, is_outside, over_total, parts_after, union_given, union_of, unless_kind}
 use Rattle.ts_model.specs.Cells.{within_total}
 use Rattle.ts_model.specs.Views.{Gives}
 

@@ -1,6 +1,6 @@
 //! The domains of the cells while lines are read.
 
-ghost use Rattle.std.specs.Prelude.{◌≡◌, ◌+◌, ◌*◌, ◌<◌, ◌≤◌, Bool, true, false, [], length, map, set, replicate, nat_lt, get_or, ◌&&◌, IfOk, OnOk, OnSome, IfNone, IfSome, pos};
+ghost use Rattle.std.specs.Prelude.{◌≡◌, ◌+◌, ◌*◌, ◌<◌, ◌≤◌, true, false, [], length, map, set, replicate, nat_lt, get_or, ◌&&◌, IfOk, OnOk, OnSome, IfNone, IfSome};
 ghost use Rattle.std.specs.List.{list_any};
 ghost use Rattle.ts_base.specs.Limits.{most_cells, most_domain_values};
 ghost use Rattle.ts_model.specs.ModelParts.{is_backward, is_outside, union_of, digits};

@@ -1,6 +1,6 @@
 //! The model while lines are read.
 
-ghost use Rattle.std.specs.Prelude.{◌≡◌, ◌+◌, ◌<◌, ◌≤◌, length, pos, false, OnOk, IfOk, IfNone, IfSome};
+ghost use Rattle.std.specs.Prelude.{◌≡◌, ◌<◌, ◌≤◌, length, pos, false, OnOk, IfOk, IfNone, IfSome};
 ghost use Rattle.ts_base.specs.Limits.{most_terms};
 ghost use Rattle.ts_model.specs.Statement.{SaysCells, SaysDomain, SaysCell, SaysTerm, SaysRequire, SaysObjective};
 ghost use Rattle.ts_model.specs.ModelParts.{nothing, term_at, has_cells, is_between, parts_after, IsPlace};

@@ -1,17 +1,17 @@
 //! The model of a text, or the first bad line with the first kind that holds of it.
 
-ghost use Rattle.std.specs.Prelude.{◌≡◌, ℕ, ◌+◌, ◌<◌, ◌≤◌, Bool, Result, length, vec_len, IfOk, OnOk};
+ghost use Rattle.std.specs.Prelude.{◌≡◌, ◌+◌, ◌<◌, ◌≤◌, Result, length, vec_len, IfOk};
 ghost use Rattle.ts_base.specs.Limits.{most_cells};
 ghost use Rattle.ts_model.specs.declared.model.Need.{Need};
 ghost use Rattle.ts_model.specs.declared.error.ModelKind.{ModelKind};
 ghost use Rattle.ts_token.specs.Views.{rows, cut_view};
-ghost use Rattle.ts_model.specs.ModelParts.{ModelParts, nothing};
+ghost use Rattle.ts_model.specs.ModelParts.{nothing};
 ghost use Rattle.ts_model.specs.ModelReading.{needs_lists, needs_objective, read_rows, ended_model, reading};
 ghost use Rattle.ts_model.specs.Promise.{IsWhole, KeepsLimits};
-ghost use Rattle.ts_model.specs.Views.{texts, model_parts, draft_parts, IsSound, Gives, Drafts, Reads, Tells};
+ghost use Rattle.ts_model.specs.Views.{model_parts, draft_parts, Drafts, Reads, Tells};
 
 use crate::draft::Draft;
-use crate::error::{LineStop, ModelKind, ModelStop, at_line};
+use crate::error::{ModelKind, ModelStop, at_line};
 use crate::model::{Model, Need};
 use std::alloc::Global;
 use ts_base::Memory;

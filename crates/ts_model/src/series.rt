@@ -1,6 +1,6 @@
 //! The series of a text.
 
-ghost use Rattle.std.specs.Prelude.{◌≡◌, length, ok_or};
+ghost use Rattle.std.specs.Prelude.{◌≡◌, ok_or};
 ghost use Rattle.std.specs.Option.{option_map};
 ghost use Rattle.ts_token.specs.Views.{cut_view};
 ghost use Rattle.ts_model.specs.declared.error.SeriesStop.{SeriesStop};

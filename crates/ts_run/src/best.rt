@@ -1,6 +1,6 @@
 //! `maximise` and `minimise`: the first best series of a model, with a certificate.
 
-ghost use Rattle.std.specs.Prelude.{ℕ, ◌<◌, length};
+ghost use Rattle.std.specs.Prelude.{◌<◌, length};
 ghost use Rattle.ts_run.specs.AnswerTexts.{BestReply};
 ghost use Rattle.ts_run.specs.Replies.{Gives};
 

@@ -1,6 +1,6 @@
 //! `check`: whether a series meets a model.
 
-ghost use Rattle.std.specs.Prelude.{ℕ, ◌≡◌, ◌<◌, length, vec_len};
+ghost use Rattle.std.specs.Prelude.{◌≡◌, ◌<◌, length, vec_len};
 ghost use Rattle.ts_model.specs.Promise.{IsWhole};
 ghost use Rattle.ts_model.specs.Views.{model_parts};
 ghost use Rattle.ts_run.specs.AnswerTexts.{CheckReply, SeriesReply};

@@ -1,6 +1,6 @@
 //! `compile`: the automata of a model's terms as a text.
 
-ghost use Rattle.std.specs.Prelude.{ℕ, ◌<◌, length};
+ghost use Rattle.std.specs.Prelude.{◌<◌, length};
 ghost use Rattle.ts_run.specs.AnswerTexts.{CompileReply};
 ghost use Rattle.ts_run.specs.Replies.{Gives};
 

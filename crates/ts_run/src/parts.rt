@@ -1,6 +1,6 @@
 //! The parts of an input: its model and its series, or the refusal of a bad one.
 
-ghost use Rattle.std.specs.Prelude.{ℕ, ◌≡◌, ◌<◌, ◌≤◌, length, map, IfOk, vec_len};
+ghost use Rattle.std.specs.Prelude.{◌≡◌, ◌<◌, ◌≤◌, length, IfOk, vec_len};
 ghost use Rattle.ts_base.specs.Limits.{most_cells};
 ghost use Rattle.ts_pattern.specs.Limits.{IsSeries};
 ghost use Rattle.ts_token.specs.Text.{cut_of};

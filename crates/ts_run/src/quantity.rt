@@ -1,6 +1,6 @@
 //! Numbers in the words of commands, each a type that keeps its range.
 
-ghost use Rattle.std.specs.Prelude.{◌≡◌, ◌≤◌};
+ghost use Rattle.std.specs.Prelude.{◌≡◌};
 ghost use Rattle.ts_base.specs.Limits.{most_cells};
 ghost use Rattle.ts_run.specs.Quantities.{IsWithin, most_lines, most_series, number_within, usual_lines};
 

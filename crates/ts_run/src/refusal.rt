@@ -1,6 +1,6 @@
 //! The texts of the refusals.
 
-ghost use Rattle.std.specs.Prelude.{ℕ, ◌≡◌, ◌++◌, IfOk};
+ghost use Rattle.std.specs.Prelude.{◌≡◌, IfOk};
 ghost use Rattle.ts_run.specs.AnswerTexts.{kind_word, refused_model, refused_series};
 ghost use Rattle.ts_run.specs.Reply.{reply_of};
 

@@ -1,11 +1,10 @@
 //! `sample N`: a model that is made, minimised and checked.
 
-ghost use Rattle.std.specs.Prelude.{ℕ, ◌≡◌, ◌≤◌, ◌<◌, ◌++◌, Bool, not, codes, length, IfOk, OnOk};
-ghost use Rattle.std.specs.Fmt.{decimal, signed_decimal};
+ghost use Rattle.std.specs.Prelude.{◌≡◌, ◌≤◌, ◌<◌, ◌++◌, length, IfOk, OnOk};
+ghost use Rattle.std.specs.Fmt.{signed_decimal};
 ghost use Rattle.ts_automaton.specs.AutomatonRun.{AreCellValues};
 ghost use Rattle.ts_base.specs.Limits.{most_cells};
 ghost use Rattle.ts_certificate.specs.Certificate.{checked_count};
-ghost use Rattle.ts_certificate.specs.Grammar.{is_open};
 ghost use Rattle.ts_run.specs.Reply.{ComesOfInput, reply_of};
 ghost use Rattle.ts_run.specs.Sample.{SampleReply, head_lines, sample_text, sum_of, three_lines};
 ghost use Rattle.ts_run.specs.Verdict.{line};

@@ -1,12 +1,12 @@
 //! The model of `sample N`.
 
-ghost use Rattle.std.specs.Prelude.{ℕ, ◌≡◌, ◌≤◌, ◌%◌, ◌*◌, IfOk, map, vec_len};
+ghost use Rattle.std.specs.Prelude.{◌≡◌, ◌≤◌, ◌%◌, ◌*◌, IfOk, map, vec_len};
 ghost use Rattle.ts_base.specs.Limits.{most_cells};
 ghost use Rattle.ts_model.specs.declared.model.Need.TheVariants.{Best as NeedsBest};
 ghost use Rattle.ts_model.specs.Promise.{IsWhole, KeepsLimits};
 ghost use Rattle.ts_model.specs.Views.{model_parts, term_of};
 ghost use Rattle.ts_run.specs.Quantities.{IsWithin};
-ghost use Rattle.ts_run.specs.SampleModel.{cells_from, least_of, sample_stated, six_from};
+ghost use Rattle.ts_run.specs.SampleModel.{cells_from, sample_stated, six_from};
 
 use indexmap::IndexMap;
 use std::alloc::Global;

@@ -1,6 +1,6 @@
 //! The verdict of `check` in words.
 
-ghost use Rattle.std.specs.Prelude.{ℕ, ◌≡◌, ◌<◌, ◌+◌, ◌++◌, length, string_bytes, IfOk, OnOk};
+ghost use Rattle.std.specs.Prelude.{◌≡◌, ◌<◌, ◌+◌, ◌++◌, length, string_bytes, IfOk, OnOk};
 ghost use Rattle.std.specs.List.{zip};
 ghost use Rattle.ts_model.specs.Views.{model_parts};
 ghost use Rattle.ts_run.specs.Reply.{ComesOfInput, reply_of};

@@ -1,4 +1,4 @@
-use Rattle.std.proofs.Common.{◌≡◌, ◌-◌, ◌≤◌, drop, length}
+use Rattle.std.proofs.Common.{◌≡◌, ◌≤◌, drop, length}
 use Rattle.ts_filter.proofs.meeting.last_other.Given as goal
 
 abbrev pub invariant-loop-last : goal.invariant-loop-last
