@@ -13,7 +13,10 @@ const AFTER_BLANKS: &[u8] =
 /// An input of `compile`.
 const FALLS: &[u8] = b"cells 3\nterm falls = count decreasing\n";
 
-static FAULTS: [Fault; 26] = [
+/// A model with one series, behind a line.
+const ONE_SERIES: &[u8] = b"\ncells 1\ndomain 3\nterm c = count peak\nobjective c\n";
+
+static FAULTS: [Fault; 28] = [
     Fault {
         words: "check",
         spaces: 0,
@@ -196,12 +199,30 @@ static FAULTS: [Fault; 26] = [
     },
     Fault {
         words: "maximise",
+        spaces: 1_048_526,
+        input: ONE_SERIES,
+        source: (65536, 0),
+        sink: (4096, 0),
+        taken: b"maximise\nbest 0\nseries 3\nworse 1\nend 1 0\n",
+        status: Status::Done,
+    },
+    Fault {
+        words: "maximise",
         spaces: 1_048_577,
         input: b"",
         source: (65536, 0),
         sink: (4096, 0),
         taken: b"refused length\n",
         status: Status::Refused,
+    },
+    Fault {
+        words: "generate 1",
+        spaces: 1_048_526,
+        input: ONE_SERIES,
+        source: (65536, 0),
+        sink: (4096, 0),
+        taken: b"generate 1\nfull 1\nseries 3\nyes\nend 1 0\n",
+        status: Status::Done,
     },
     Fault {
         words: "generate 1",
