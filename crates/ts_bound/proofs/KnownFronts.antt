@@ -11,7 +11,7 @@ use Rattle.ts_automaton.specs.Registers.{ext_op}
 use Rattle.ts_bound.specs.declared.packed.Ends.{Ends}
 use Rattle.ts_bound.specs.declared.packed.Packed.{Packed}
 use Rattle.ts_bound.specs.declared.sweep_parts.Part.{Part}
-use Rattle.ts_bound.specs.declared.sweep_parts.Part.TheVariants.{KeepR, Word, Two, Three}
+use Rattle.ts_bound.specs.declared.sweep_parts.Part.TheVariants.{KeepR, Word, Two, Three, Tail}
 use Rattle.ts_bound.specs.declared.sweep_parts.Parts.{Parts}
 use Rattle.ts_bound.specs.Packs.{unpack_span, unpack_hull, IsPackOf}
 use Rattle.ts_bound.specs.Sealed.{by_ends, some_hull, span_in}
@@ -59,7 +59,8 @@ word_is : (a : Atom) (h : Hull) (x y : ℤ) (word : Ends) → y ≡ x → unpack
     unpack_span word ≡ span_in (Leaf a) h x (pos 0)
 word_is a h x y word same e = e ∙ ap (λ z. span_in (Leaf a) h z (pos 0)) same
 
-pub found_packs : (k : Parts) (o : Op) (a b w : Atom) (p : Packed) (x y : ℤ) (first second sum word : Ends) → k ≡ parts_of (Two o a b) (Word w) KeepR → y ≡ x →
+pub found_packs : (k : Parts) (o : Op) (a b w : Atom) (p : Packed) (x y : ℤ) (first second sum word : Ends) →
+    k ≡ parts_of (Two o a b) (Word w) KeepR → y ≡ x →
     some_hull (unpack_hull p) ≡ true → unpack_span first ≡ span_in (Leaf a) (unpack_hull p) y (pos 0) →
     unpack_span second ≡ span_in (Leaf b) (unpack_hull p) y (pos 0) → unpack_span sum ≡ by_ends (ext_op o) (unpack_span first) (unpack_span second) →
     unpack_span word ≡ span_in (Leaf w) (unpack_hull p) y (pos 0) → has_some (unpack_span sum) ≡ true → has_some (unpack_span word) ≡ true →
@@ -98,3 +99,26 @@ anew_packs k o a b v w p x y first second sum word other is same s e f g i j js 
     subst (λ (z : Parts). IsPackOf whole (front_hull (parts_cut z) (unpack_hull p) x)) (sym is)
     (front_packs (parts_cut (parts_of (Word v) (Word w) (Two o a b))) (unpack_hull p) x whole s (word_is v (unpack_hull p) x y word same i)
     (word_is w (unpack_hull p) x y other same j) (two_is o a b (unpack_hull p) x y first second sum same e f g) ks ls js)
+
+pub reset_packs : (k : Parts) (v w : Atom) (p : Packed) (x y : ℤ) (word other : Ends) → k ≡ parts_of (Word v) (Word w) KeepR → y ≡ x →
+    some_hull (unpack_hull p) ≡ true → unpack_span word ≡ span_in (Leaf v) (unpack_hull p) y (pos 0) →
+    unpack_span other ≡ span_in (Leaf w) (unpack_hull p) y (pos 0) → has_some (unpack_span word) ≡ true → has_some (unpack_span other) ≡ true →
+    IsPackOf (record { c = word; d = other; r = p.r }) (front_hull (parts_cut k) (unpack_hull p) x)
+reset_packs k v w p x y word other is same s e f js ks =
+    let whole : Packed = record { c = word; d = other; r = p.r } in
+    let h = hull_some (unpack_hull p) s in
+    subst (λ (z : Parts). IsPackOf whole (front_hull (parts_cut z) (unpack_hull p) x)) (sym is)
+    (front_packs (parts_cut (parts_of (Word v) (Word w) KeepR)) (unpack_hull p) x whole s (word_is v (unpack_hull p) x y word same e)
+    (word_is w (unpack_hull p) x y other same f) refl js ks h.2)
+
+-- a front of C of any form, beside a word for D
+pub beside_word : (k : Parts) (c : Part) (w : Atom) (p : Packed) (x y : ℤ) (front word : Ends) → k ≡ parts_of c (Word w) KeepR → y ≡ x →
+    some_hull (unpack_hull p) ≡ true → unpack_span front ≡ front_span (part_split c) (unpack_hull p) y →
+    unpack_span word ≡ span_in (Leaf w) (unpack_hull p) y (pos 0) → has_some (unpack_span front) ≡ true → has_some (unpack_span word) ≡ true →
+    IsPackOf (record { c = front; d = word; r = p.r }) (front_hull (parts_cut k) (unpack_hull p) x)
+beside_word k c w p x y front word is same s e f js ks =
+    let whole : Packed = record { c = front; d = word; r = p.r } in
+    let h = hull_some (unpack_hull p) s in
+    subst (λ (z : Parts). IsPackOf whole (front_hull (parts_cut z) (unpack_hull p) x)) (sym is)
+    (front_packs (parts_cut (parts_of c (Word w) KeepR)) (unpack_hull p) x whole s (e ∙ ap (front_span (part_split c) (unpack_hull p)) same)
+    (word_is w (unpack_hull p) x y word same f) refl js ks h.2)

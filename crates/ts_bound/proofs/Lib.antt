@@ -17,6 +17,7 @@ pub mod KnownFronts
 pub mod PackLaws
 mod SweepLaws
 pub mod LeadLaws
+pub mod FirstSteps
 pub mod EqualFronts
 pub mod WidenLaws
 pub mod SweptRows

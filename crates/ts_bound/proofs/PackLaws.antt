@@ -26,7 +26,6 @@ use Rattle.ts_bound.specs.Cuts.{Cut, front_hull, closed_hull}
 use Rattle.ts_bound.specs.Smalls.{small_int}
 use Rattle.ts_bound.proofs.HullLaws.{same_hull, none_takes_none}
 use Rattle.ts_bound.proofs.SpanHulls.{both_is, both_some, hull_both, hull_first, hull_second, hull_neither, lifted_both, lifted_some}
-use Rattle.ts_bound.proofs.Sums.{none_left}
 use Rattle.ts_bound.proofs.SplitLaws.{after_is}
 
 abbrev pub end : ℤ → End

@@ -388,14 +388,12 @@ unfolding with_sweep sweep_entry with_move
 sweep_alone m l s q vs row ws next = refl
 
 -- by pairs
-
 pub entry_done : (m : Move) (l : Letter) (s q : ℕ) (vs : List ℤ) (row : List Hull) (w : ℤ) (i : ℕ) (h : Hull) → length vs ≤ i → i ≤ length vs →
     h ≡ total i (λ k. pair_gives m l s q vs row w k) → h ≡ move_entry m l s q vs row w
 unfolding move_entry
 entry_done m l s q vs row w i h low high e = let same : i ≡ length vs = omega arith in e ∙ ap (λ n. total n (λ k. pair_gives m l s q vs row w k)) same
 
 -- by equal values
-
 total_one : (n at : ℕ) (f : ℕ → Hull) → at < n → ((i : ℕ) → i < n → (i ≡ at → ⊥) → f i ≡ none) → total n f ≡ hull_of_both none (f at)
 unfolding total
 total_one zero at f lt h = absurd (omega arith)

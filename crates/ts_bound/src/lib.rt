@@ -35,6 +35,8 @@ mod sweep_mixed_up;
 mod sweep_move;
 mod sweep_pairs;
 mod sweep_parts;
+mod sweep_rest_down;
+mod sweep_rest_up;
 mod sweep_run;
 mod sweep_state;
 mod sweep_steps;

@@ -2,8 +2,10 @@
 
 ghost use Rattle.std.specs.Prelude.{◌≡◌, pos, true};
 ghost use Rattle.ts_automaton.specs.Formula.{Leaf, formula};
+ghost use Rattle.ts_automaton.specs.declared.expr.Atom.TheVariants.{C, D, R};
+ghost use Rattle.ts_automaton.specs.declared.expr.Op.TheVariants.{Add};
 ghost use Rattle.ts_base.specs.Spans.{has_some};
-ghost use Rattle.ts_bound.specs.declared.sweep_parts.Part.TheVariants.{KeepR, Three, Two, Word};
+ghost use Rattle.ts_bound.specs.declared.sweep_parts.Part.TheVariants.{KeepR, Tail, Three, Two, Word};
 ghost use Rattle.ts_bound.specs.Cuts.{closed_hull, front_hull, kept_parts, longer_parts, part_split, parts_cut};
 ghost use Rattle.ts_bound.specs.Cuts.{parts_of, all_swept};
 ghost use Rattle.ts_bound.specs.Packs.{IsPackOf, unpack_hull, unpack_span};
@@ -47,6 +49,21 @@ fn far_ends(e: &Expr, h: &Packed, x: i64) -> Ends
     register_ends(e, h, x, 0)
 }
 
+/// The same of one that mostly is a register.
+#[inline(always)]
+fn near_ends(e: &Expr, h: &Packed, x: i64) -> Ends
+    requires hull { some_hull (unpack_hull h.now) ≡ true }
+    requires this { small_int x ≡ true }
+    ensures value { unpack_span result ≡ span_in (formula e.now) (unpack_hull h.now) x (pos 0) }
+    ensures some { has_some (unpack_span result) ≡ true }
+{
+    match e {
+        Expr::C => h.c,
+        Expr::D => h.d,
+        _ => far_ends(e, h, x),
+    }
+}
+
 impl Part<'_> {
     /// The span of the front.
     #[inline(always)]
@@ -68,7 +85,8 @@ impl Part<'_> {
                 word_ends(a, h, x),
                 joined_ends(p, word_ends(b, h, x), word_ends(c, h, x)),
             ),
-            Part::Front(e) | Part::Tail(_, e) => far_ends(e, h, x),
+            Part::Front(e) => far_ends(e, h, x),
+            Part::Tail(_, e) => near_ends(e, h, x),
             Part::Double(o, e, f) => joined_ends(o, far_ends(e, h, x), far_ends(f, h, x)),
             Part::Pairs => unreachable!(),
         }
@@ -112,15 +130,17 @@ impl Parts<'_> {
             (Part::KeepC, Part::Two(Op::Add, Atom::D, Atom::Unit), Part::KeepR) => {
                 self.longer_fronts(h, x)
             }
-            (Part::Two(o, a, b), Part::Word(w), Part::KeepR) => {
-                self.found_fronts(o, a, b, w, h, x)
+            (Part::Two(o, Atom::D, b), Part::Word(w), Part::KeepR) => {
+                self.found_fronts(o, b, w, h, x)
             }
-            (Part::Three(o, a, p, b, c), Part::Word(w), Part::KeepR) => {
-                self.inside_fronts(o, a, p, b, c, w, h, x)
+            (Part::Three(Op::Add, Atom::C, Op::Add, Atom::D, c), Part::Word(w), Part::KeepR) => {
+                self.inside_fronts(c, w, h, x)
             }
-            (Part::Word(v), Part::Word(w), Part::Two(o, a, b)) => {
-                self.anew_fronts(v, w, o, a, b, h, x)
+            (Part::Word(v), Part::Word(w), Part::Two(o, Atom::R, Atom::C)) => {
+                self.anew_fronts(v, w, o, h, x)
             }
+            (Part::Word(v), Part::Word(w), Part::KeepR) => self.reset_fronts(v, w, h, x),
+            (Part::Tail(o, e), Part::Word(w), Part::KeepR) => self.tail_fronts(o, e, w, h, x),
             _ => self.mixed_fronts(h, x),
         }
     }
@@ -155,51 +175,41 @@ impl Parts<'_> {
         }
     }
 
-    /// Those of a move that makes `C` of two words, begins `D` anew and keeps `R`.
-    #[inline(always)]
-    fn found_fronts(&self, o: Op, a: Atom, b: Atom, w: Atom, h: &Packed, x: i64) -> Packed
-        requires found { self.now ≡ parts_of (Two o a b) (Word w) KeepR }
+    /// Those of a move that makes `C` of `D` and a word, begins `D` anew and keeps `R`.
+    #[inline]
+    fn found_fronts(&self, o: Op, b: Atom, w: Atom, h: &Packed, x: i64) -> Packed
+        requires found { self.now ≡ parts_of (Two o D b) (Word w) KeepR }
         requires hull { some_hull (unpack_hull h.now) ≡ true }
         requires this { small_int x ≡ true }
         ensures { IsPackOf result (front_hull (parts_cut self.now) (unpack_hull h.now) x) }
     {
         Packed {
-            c: joined_ends(o, word_ends(a, h, x), word_ends(b, h, x)),
+            c: joined_ends(o, h.d, word_ends(b, h, x)),
             d: word_ends(w, h, x),
             r: h.r,
         }
     }
 
-    /// Those of a move that makes `C` of three words, begins `D` anew and keeps `R`.
-    #[inline(always)]
-    fn inside_fronts(
-        &self,
-        o: Op,
-        a: Atom,
-        u: Op,
-        b: Atom,
-        c: Atom,
-        w: Atom,
-        h: &Packed,
-        x: i64,
-    ) -> Packed
-        requires inside { self.now ≡ parts_of (Three o a u b c) (Word w) KeepR }
+    /// Those of a move that makes `C` the sum of `C`, `D` and a word, begins `D` anew and keeps `R`.
+    #[inline]
+    fn inside_fronts(&self, c: Atom, w: Atom, h: &Packed, x: i64) -> Packed
+        requires inside { self.now ≡ parts_of (Three Add C Add D c) (Word w) KeepR }
         requires hull { some_hull (unpack_hull h.now) ≡ true }
         requires this { small_int x ≡ true }
         ensures { IsPackOf result (front_hull (parts_cut self.now) (unpack_hull h.now) x) }
     {
-        let inner = joined_ends(u, word_ends(b, h, x), word_ends(c, h, x));
+        let inner = joined_ends(Op::Add, h.d, word_ends(c, h, x));
         Packed {
-            c: joined_ends(o, word_ends(a, h, x), inner),
+            c: joined_ends(Op::Add, h.c, inner),
             d: word_ends(w, h, x),
             r: h.r,
         }
     }
 
-    /// Those of a move that begins `C` and `D` anew and makes `R` of two words.
-    #[inline(always)]
-    fn anew_fronts(&self, v: Atom, w: Atom, o: Op, a: Atom, b: Atom, h: &Packed, x: i64) -> Packed
-        requires anew { self.now ≡ parts_of (Word v) (Word w) (Two o a b) }
+    /// Those of a move that begins `C` and `D` anew and makes `R` of `R` and `C`.
+    #[inline]
+    fn anew_fronts(&self, v: Atom, w: Atom, o: Op, h: &Packed, x: i64) -> Packed
+        requires anew { self.now ≡ parts_of (Word v) (Word w) (Two o R C) }
         requires hull { some_hull (unpack_hull h.now) ≡ true }
         requires this { small_int x ≡ true }
         ensures { IsPackOf result (front_hull (parts_cut self.now) (unpack_hull h.now) x) }
@@ -207,7 +217,37 @@ impl Parts<'_> {
         Packed {
             c: word_ends(v, h, x),
             d: word_ends(w, h, x),
-            r: joined_ends(o, word_ends(a, h, x), word_ends(b, h, x)),
+            r: joined_ends(o, h.r, h.c),
+        }
+    }
+
+    /// Those of a move that begins `C` and `D` anew and keeps `R`.
+    #[inline]
+    fn reset_fronts(&self, v: Atom, w: Atom, h: &Packed, x: i64) -> Packed
+        requires reset { self.now ≡ parts_of (Word v) (Word w) KeepR }
+        requires hull { some_hull (unpack_hull h.now) ≡ true }
+        requires this { small_int x ≡ true }
+        ensures { IsPackOf result (front_hull (parts_cut self.now) (unpack_hull h.now) x) }
+    {
+        Packed {
+            c: word_ends(v, h, x),
+            d: word_ends(w, h, x),
+            r: h.r,
+        }
+    }
+
+    /// Those of a move that reads the next cell in `C`, begins `D` anew and keeps `R`.
+    #[inline]
+    fn tail_fronts(&self, o: Op, e: &Expr, w: Atom, h: &Packed, x: i64) -> Packed
+        requires tail { self.now ≡ parts_of (Tail o e) (Word w) KeepR }
+        requires hull { some_hull (unpack_hull h.now) ≡ true }
+        requires this { small_int x ≡ true }
+        ensures { IsPackOf result (front_hull (parts_cut self.now) (unpack_hull h.now) x) }
+    {
+        Packed {
+            c: near_ends(e, h, x),
+            d: word_ends(w, h, x),
+            r: h.r,
         }
     }
 

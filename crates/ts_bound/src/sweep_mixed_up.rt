@@ -2,6 +2,8 @@
 
 ghost use Rattle.std.specs.Prelude.{◌≡◌, ◌*◌, ◌<◌, true, length};
 ghost use Rattle.ts_automaton.specs.Body.{move_of};
+ghost use Rattle.ts_automaton.specs.declared.expr.Atom.TheVariants.{C, D};
+ghost use Rattle.ts_automaton.specs.declared.expr.Op.TheVariants.{Add};
 ghost use Rattle.ts_base.specs.declared.letter.Letter.TheVariants.{Less};
 ghost use Rattle.ts_bound.specs.declared.sweep_parts.Part.TheVariants.{KeepR, Three, Two, Word};
 ghost use Rattle.ts_bound.specs.Cuts.{cut_of, parts_cut, parts_of, all_swept};
@@ -10,6 +12,7 @@ ghost use Rattle.ts_bound.specs.Sweeps.{AllTakeNone, IsSweepable, with_sweep};
 use crate::sweep_kept::sweep_gapless;
 use crate::sweep_parts::Part::{KeepR, Three, Two, Word};
 use crate::sweep_parts::Parts;
+use crate::sweep_rest_up::rest_up;
 use crate::sweep_values::Places;
 use ts_automaton::{Atom, Hull, Op, Turn};
 use ts_base::Letter;
@@ -38,10 +41,9 @@ pub(crate) fn mixed_up(
     ensures { next.new ≡ with_sweep (move_of t.now) Less twin s q values.now before.now next_values.now next.old }
 {
     match (p.c, p.d, p.r) {
-        (Two(o, a, b), Word(w), KeepR) => found_up(
+        (Two(o, Atom::D, b), Word(w), KeepR) => found_up(
             t,
             o,
-            a,
             b,
             w,
             twin,
@@ -52,12 +54,8 @@ pub(crate) fn mixed_up(
             next_values,
             next,
         ),
-        (Three(o, a, u, b, c), Word(w), KeepR) => inside_up(
+        (Three(Op::Add, Atom::C, Op::Add, Atom::D, c), Word(w), KeepR) => inside_up(
             t,
-            o,
-            a,
-            u,
-            b,
             c,
             w,
             twin,
@@ -68,31 +66,15 @@ pub(crate) fn mixed_up(
             next_values,
             next,
         ),
-        (Word(v), Word(w), Two(o, a, b)) => anew_up(
-            t,
-            v,
-            w,
-            o,
-            a,
-            b,
-            twin,
-            s,
-            q,
-            values,
-            before,
-            next_values,
-            next,
-        ),
-        _ => any_up(t, p, twin, s, q, values, before, next_values, next),
+        _ => rest_up(t, p, twin, s, q, values, before, next_values, next),
     }
 }
 
-/// A move that makes `C` of two words, begins `D` anew and keeps `R`.
+/// A move that makes `C` of `D` and a word, begins `D` anew and keeps `R`.
 #[inline(never)]
 fn found_up(
     t: &Turn,
     o: Op,
-    a: Atom,
     b: Atom,
     w: Atom,
     twin: bool,
@@ -103,8 +85,8 @@ fn found_up(
     next_values: &Places<'_>,
     next: &mut [Hull],
 )
-    requires parts { parts_cut (parts_of (Two o a b) (Word w) KeepR) ≡ cut_of (move_of t.now) }
-    requires swept { all_swept (parts_cut (parts_of (Two o a b) (Word w) KeepR)) ≡ true }
+    requires parts { parts_cut (parts_of (Two o D b) (Word w) KeepR) ≡ cut_of (move_of t.now) }
+    requires swept { all_swept (parts_cut (parts_of (Two o D b) (Word w) KeepR)) ≡ true }
     requires sweepable { IsSweepable values.now next_values.now before.now }
     requires canonical { AllTakeNone next.old }
     requires state { q < s }
@@ -114,7 +96,7 @@ fn found_up(
     ensures { next.new ≡ with_sweep (move_of t.now) Less twin s q values.now before.now next_values.now next.old }
 {
     let p = Parts {
-        c: Two(o, a, b),
+        c: Two(o, Atom::D, b),
         d: Word(w),
         r: KeepR,
     };
@@ -132,14 +114,10 @@ fn found_up(
     );
 }
 
-/// The same of a move that makes `C` of three words, begins `D` anew and keeps `R`.
+/// The same of a move that makes `C` the sum of `C`, `D` and a word, begins `D` anew and keeps `R`.
 #[inline(never)]
 fn inside_up(
     t: &Turn,
-    o: Op,
-    a: Atom,
-    u: Op,
-    b: Atom,
     c: Atom,
     w: Atom,
     twin: bool,
@@ -150,8 +128,8 @@ fn inside_up(
     next_values: &Places<'_>,
     next: &mut [Hull],
 )
-    requires parts { parts_cut (parts_of (Three o a u b c) (Word w) KeepR) ≡ cut_of (move_of t.now) }
-    requires swept { all_swept (parts_cut (parts_of (Three o a u b c) (Word w) KeepR)) ≡ true }
+    requires parts { parts_cut (parts_of (Three Add C Add D c) (Word w) KeepR) ≡ cut_of (move_of t.now) }
+    requires swept { all_swept (parts_cut (parts_of (Three Add C Add D c) (Word w) KeepR)) ≡ true }
     requires sweepable { IsSweepable values.now next_values.now before.now }
     requires canonical { AllTakeNone next.old }
     requires state { q < s }
@@ -161,96 +139,13 @@ fn inside_up(
     ensures { next.new ≡ with_sweep (move_of t.now) Less twin s q values.now before.now next_values.now next.old }
 {
     let p = Parts {
-        c: Three(o, a, u, b, c),
+        c: Three(Op::Add, Atom::C, Op::Add, Atom::D, c),
         d: Word(w),
         r: KeepR,
     };
     sweep_gapless(
         t,
         &p,
-        Letter::Less,
-        twin,
-        s,
-        q,
-        values,
-        before,
-        next_values,
-        next,
-    );
-}
-
-/// The same of a move that begins `C` and `D` anew and makes `R` of two words.
-#[inline(never)]
-fn anew_up(
-    t: &Turn,
-    v: Atom,
-    w: Atom,
-    o: Op,
-    a: Atom,
-    b: Atom,
-    twin: bool,
-    s: usize,
-    q: usize,
-    values: &Places<'_>,
-    before: &[Hull],
-    next_values: &Places<'_>,
-    next: &mut [Hull],
-)
-    requires parts { parts_cut (parts_of (Word v) (Word w) (Two o a b)) ≡ cut_of (move_of t.now) }
-    requires swept { all_swept (parts_cut (parts_of (Word v) (Word w) (Two o a b))) ≡ true }
-    requires sweepable { IsSweepable values.now next_values.now before.now }
-    requires canonical { AllTakeNone next.old }
-    requires state { q < s }
-    requires leads { t.now.next < s }
-    requires before { length before.now ≡ length values.now * s }
-    requires next { length next.old ≡ length next_values.now * s }
-    ensures { next.new ≡ with_sweep (move_of t.now) Less twin s q values.now before.now next_values.now next.old }
-{
-    let p = Parts {
-        c: Word(v),
-        d: Word(w),
-        r: Two(o, a, b),
-    };
-    sweep_gapless(
-        t,
-        &p,
-        Letter::Less,
-        twin,
-        s,
-        q,
-        values,
-        before,
-        next_values,
-        next,
-    );
-}
-
-/// The same of any move.
-#[inline(never)]
-fn any_up(
-    t: &Turn,
-    p: &Parts<'_>,
-    twin: bool,
-    s: usize,
-    q: usize,
-    values: &Places<'_>,
-    before: &[Hull],
-    next_values: &Places<'_>,
-    next: &mut [Hull],
-)
-    requires parts { parts_cut p.now ≡ cut_of (move_of t.now) }
-    requires swept { all_swept (parts_cut p.now) ≡ true }
-    requires sweepable { IsSweepable values.now next_values.now before.now }
-    requires canonical { AllTakeNone next.old }
-    requires state { q < s }
-    requires leads { t.now.next < s }
-    requires before { length before.now ≡ length values.now * s }
-    requires next { length next.old ≡ length next_values.now * s }
-    ensures { next.new ≡ with_sweep (move_of t.now) Less twin s q values.now before.now next_values.now next.old }
-{
-    sweep_gapless(
-        t,
-        p,
         Letter::Less,
         twin,
         s,

@@ -1,10 +1,10 @@
 //! Expressions split into a front, which doesn't read the next cell, and what the next cell makes of it.
 
-ghost use Rattle.std.specs.Prelude.{◌≡◌, IfSome};
+ghost use Rattle.std.specs.Prelude.{◌≡◌, IfSome, false};
 ghost use Rattle.ts_automaton.specs.Body.{move_of};
 ghost use Rattle.ts_automaton.specs.Formula.{Join, Leaf, formula};
 ghost use Rattle.ts_bound.specs.Cuts.{cut_of, kept_parts, longer_parts, part_split, parts_cut, all_swept};
-ghost use Rattle.ts_bound.specs.Splits.{FrontOf, is_double, is_front, is_next, is_swept, operands, split_formula, tail_of};
+ghost use Rattle.ts_bound.specs.Splits.{is_double, is_front, is_next, is_next_word, is_swept, operands, split_formula, tail_of};
 ghost use Rattle.ts_glue.specs.Rules.{is_same_op};
 
 use ts_automaton::{Atom, Expr, Op, Turn};
@@ -96,9 +96,9 @@ fn split_of<'a>(e: &'a Expr) -> Part<'a>
     }
 }
 
-/// The word that an expression is.
+/// The word that an expression is, which isn't the next cell.
 fn word_of(e: &Expr) -> Option<Atom>
-    ensures { IfSome result (λ word. formula e.now ≡ Leaf word) }
+    ensures { IfSome result (λ word. (formula e.now ≡ Leaf word) × (is_next_word word ≡ false)) }
 {
     match e {
         Expr::C => Some(Atom::C),
@@ -112,7 +112,8 @@ fn word_of(e: &Expr) -> Option<Atom>
 
 /// The operator and the two words that an expression is.
 fn words_of(e: &Expr) -> Option<(Op, Atom, Atom)>
-    ensures { IfSome result (λ words. formula e.now ≡ Join words.0 (Leaf words.1) (Leaf words.2)) }
+    ensures { IfSome result (λ words. (formula e.now ≡ Join words.0 (Leaf words.1) (Leaf words.2))
+        × (is_next_word words.1 ≡ false) × (is_next_word words.2 ≡ false)) }
 {
     match e {
         Expr::Add(a, b) => two_words(Op::Add, a, b),
@@ -124,8 +125,9 @@ fn words_of(e: &Expr) -> Option<(Op, Atom, Atom)>
 
 /// The same of an operator over two operands.
 fn two_words(o: Op, a: &Expr, b: &Expr) -> Option<(Op, Atom, Atom)>
-    ensures { IfSome result (λ words.
-        Join o (formula a.now) (formula b.now) ≡ Join words.0 (Leaf words.1) (Leaf words.2)) }
+    ensures { IfSome result (λ words. (Join o (formula a.now) (formula b.now)
+        ≡ Join words.0 (Leaf words.1) (Leaf words.2)) × (is_next_word words.1 ≡ false)
+        × (is_next_word words.2 ≡ false)) }
 {
     match (word_of(a), word_of(b)) {
         (Some(first), Some(second)) => Some((o, first, second)),
@@ -133,25 +135,38 @@ fn two_words(o: Op, a: &Expr, b: &Expr) -> Option<(Op, Atom, Atom)>
     }
 }
 
-/// The part of a whole that doesn't read the next cell.
-fn front_part<'a>(whole: &'a Expr, o: Op, a: &Expr, b: &Expr) -> Part<'a>
-    requires { formula whole.now ≡ Join o (formula a.now) (formula b.now) }
-    ensures { part_split result ≡ FrontOf (Join o (formula a.now) (formula b.now)) }
-{
-    match (word_of(a), word_of(b), words_of(b)) {
-        (Some(first), Some(second), _) => Part::Two(o, first, second),
-        (Some(first), _, Some((p, second, third))) => Part::Three(o, first, p, second, third),
-        _ => Part::Front(whole),
-    }
-}
-
-/// The same of an operator over two operands.
+/// The same of an operator over two operands, most of which are words.
 fn part_of<'a>(whole: &'a Expr, o: Op, a: &'a Expr, b: &'a Expr) -> Part<'a>
     requires { formula whole.now ≡ Join o (formula a.now) (formula b.now) }
     ensures { part_split result ≡ split_formula (Join o (formula a.now) (formula b.now)) }
 {
+    match (word_of(a), word_of(b)) {
+        (Some(first), Some(second)) => Part::Two(o, first, second),
+        (Some(first), None) => behind_word(whole, o, first, a, b),
+        _ => any_part(whole, o, a, b),
+    }
+}
+
+/// The same where the first operand is a word.
+fn behind_word<'a>(whole: &'a Expr, o: Op, first: Atom, a: &'a Expr, b: &'a Expr) -> Part<'a>
+    requires whole { formula whole.now ≡ Join o (formula a.now) (formula b.now) }
+    requires word { formula a.now ≡ Leaf first }
+    requires front { is_next_word first ≡ false }
+    ensures { part_split result ≡ split_formula (Join o (formula a.now) (formula b.now)) }
+{
+    match words_of(b) {
+        Some((p, second, third)) => Part::Three(o, first, p, second, third),
+        None => any_part(whole, o, a, b),
+    }
+}
+
+/// The same of any operands.
+fn any_part<'a>(whole: &'a Expr, o: Op, a: &'a Expr, b: &'a Expr) -> Part<'a>
+    requires { formula whole.now ≡ Join o (formula a.now) (formula b.now) }
+    ensures { part_split result ≡ split_formula (Join o (formula a.now) (formula b.now)) }
+{
     if is_front(a) && is_front(b) {
-        front_part(whole, o, a, b)
+        Part::Front(whole)
     } else {
         tail_part(o, a, b)
     }

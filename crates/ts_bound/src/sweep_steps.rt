@@ -1,7 +1,7 @@
 //! Sweeps over two cells without gaps: how many values are passed at a step is known, so that none is compared.
 
 ghost use Rattle.std.specs.Prelude.{◌≡◌, ℕ, ◌*◌, ◌<◌, ◌≤◌, pos, true};
-ghost use Rattle.std.specs.Prelude.{false, ◌&&◌, int_lt, int_le, ◌-ℤ◌, ◌<ℤ◌, length, get_or};
+ghost use Rattle.std.specs.Prelude.{false, ◌&&◌, int_lt, int_le, ◌+ℤ◌, ◌-ℤ◌, ◌<ℤ◌, ◌≤ℤ◌, length, get_or};
 ghost use Rattle.ts_automaton.specs.Body.{move_of};
 ghost use Rattle.ts_base.specs.declared.letter.Letter.TheVariants.{Equal};
 ghost use Rattle.ts_bound.specs.Cuts.{cut_of, parts_cut, all_swept};
@@ -63,13 +63,31 @@ fn is_before(at: usize, to: i64) -> bool
     (at as i64) < to
 }
 
-/// Whether the step to `to` passes one of so many values.
+/// Whether the step to `to` passes one of so many values, where one was begun with.
 #[inline(always)]
 fn passes(to: i64, count: usize) -> bool
-    requires { count ≤ 2000001 }
+    requires begun { pos 0 <ℤ to }
+    requires few { count ≤ 2000001 }
     ensures { result ≡ (int_lt (pos 0) to && int_le to (pos count)) }
 {
-    0 < to && to <= count as i64
+    to <= count as i64
+}
+
+/// The first of so many steps at which a value is passed, or how many there are: nothing is taken in before it.
+fn first_step(lead: i64, count: usize) -> usize
+    requires lead { IsWide lead }
+    requires few { count ≤ 2000001 }
+    ensures before { (k : ℕ) → k < result → (pos k +ℤ lead) ≤ℤ pos 0 }
+    ensures from { (k : ℕ) → result ≤ k → k < count → pos 0 <ℤ (pos k +ℤ lead) }
+    ensures inside { result ≤ count }
+{
+    if 0 < lead {
+        0
+    } else if count as i64 <= -lead {
+        count
+    } else {
+        (1 - lead) as usize
+    }
 }
 
 /// Which one it is, counted from 0.
@@ -98,6 +116,7 @@ fn with_step(
     requires small_values { (i : ℕ) → small_int (get_or values.now i (pos 0)) ≡ true }
     requires state { q < s }
     requires before { length before.now ≡ length values.now * s }
+    requires begun { pos 0 <ℤ to }
     requires reached { IsReached (length values.now) (to -ℤ pos 1) run.at }
     requires fronts { IsRunning run.hull (fronts (parts_cut p.now) l s q values.now before.now run.at) }
     ensures reached { IsReached (length values.now) to result.at }
@@ -152,8 +171,9 @@ pub(crate) fn sweep_steps(
 {
     let n = count_of(next_values);
     let state = t.next as usize;
+    let first = first_step(lead, n);
     let mut run = fronts_before(p, l, before_of(lead), s, q, values, before);
-    for k in 0..count_of(next_values) {
+    for k in first..count_of(next_values) {
         let j = step_place(l, n, k);
         run = with_step(p, l, reach_of(lead, k), s, q, values, before, run);
         put_run(p, &run, next, s, state, j, value_at(next_values, j));

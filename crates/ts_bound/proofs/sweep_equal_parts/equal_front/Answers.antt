@@ -1,5 +1,5 @@
 use mir.Val.{SFits}
-use Rattle.std.proofs.Common.{false, ap, ◌∙◌, refl, ◌+◌, ◌*◌, length, w64, rules}
+use Rattle.std.proofs.Common.{ap, ◌∙◌, ◌+◌, ◌*◌, length, w64, rules}
 use Rattle.std.proofs.lemmas.Int.{to_z-of_z}
 use Rattle.ts_base.specs.declared.letter.Letter.TheVariants.{Equal}
 use Rattle.ts_bound.specs.Hulls.{none}

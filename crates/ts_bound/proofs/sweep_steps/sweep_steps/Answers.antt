@@ -1,15 +1,24 @@
 use mir.Val.{SFits}
-use Rattle.std.proofs.Common.{ap, subst, ◌∙◌, ℤ, w64, to_z, of_z, rules, ◌+◌, ◌*◌, ◌<◌, ◌+ℤ◌, pos, length, get_or, arith}
+use Rattle.std.proofs.Common.{ap, sym, subst, ◌∙◌, ◌-ℤ◌, ℕ, ℤ, ◌≤ℤ◌, w64, to_z, of_z, rules, ◌+◌, ◌*◌, ◌<◌, ◌+ℤ◌, pos, length, get_or, arith}
 use Rattle.std.proofs.lemmas.Int.{to_z-of_z, ints}
 use Rattle.ts_automaton.specs.Body.{move_of}
 use Rattle.ts_bound.specs.Cuts.{parts_cut}
 use Rattle.ts_bound.specs.Smalls.{small_int}
 use Rattle.ts_bound.specs.Sweeps.{step_place, sweep_entry, fronts, IsReached, takes}
+use Rattle.ts_bound.proofs.FirstSteps.{nothing_before, reached_first}
 use Rattle.ts_bound.proofs.LeadLaws.{reached_passed, reached_rest, inside_row}
 use Rattle.ts_bound.proofs.PackLaws.{running_begun}
 use Rattle.ts_bound.proofs.SweptRows.{length-puts}
-use Rattle.ts_bound.proofs.SweepLaws.{parts_swept, puts_begun, puts_more, put_is, sweep_done, puts_are_canonical}
+use Rattle.ts_bound.proofs.SweepLaws.{parts_swept, puts_more, put_is, sweep_done, puts_are_canonical}
 use Rattle.ts_bound.proofs.sweep_steps.sweep_steps.Goals as goal
+
+pub with_step-run-requires-clause-begun : goal.with_step-run-requires-clause-begun
+with_step-run-requires-clause-begun c =
+    let fr : SFits w64 c.reach_of.result = search rules in
+    let to_is = to_z-of_z w64 c.reach_of.result fr ∙ c.reach_of.ensures in
+    let h = c.first_step-first.ensures.from c.loop-k.k (omega (arith, c.loop-k.auto.k))
+    (omega (arith, c.loop-k-test.true, c.count_of-k-end.ensures.count, c.count_of-n.ensures.count)) in
+    omega (arith, ints, h, to_is)
 
 pub put_run-requires-clause-begun : goal.put_run-requires-clause-begun
 put_run-requires-clause-begun c =
@@ -45,10 +54,21 @@ pub loop-k-init : goal.loop-k-init
 loop-k-init c =
     let f : SFits w64 c.before_of.result = search rules in
     let begin_is = to_z-of_z w64 c.before_of.result f ∙ c.before_of.ensures in
+    let lead_is = to_z-of_z w64 c.args.lead c.ranges.lead in
+    let low = λ (k : ℕ) (lt : k < c.first_step-first.result).
+    (let h = c.first_step-first.ensures.before k lt in let low : (pos k +ℤ c.args.lead) ≤ℤ pos 0 = omega (arith, ints, h, lead_is) in low) in
     record {
-      next = puts_begun _ _ _ _ _;
-      reached = subst (λ (z : ℤ). IsReached (length c.args.values.now) z c.fronts_before-run.result.at) (omega (arith, ints, begin_is))
-          c.fronts_before-run.ensures.reached;
+      next =
+          nothing_before (move_of c.args.t.now) c.args.l c.args.twin c.args.s c.args.q c.args.values.now c.args.next_values.now c.args.before.now
+          c.args.lead c.args.next.now c.first_step-first.result c.requires.unequal
+          (parts_swept (parts_cut c.args.p.now) (move_of c.args.t.now) c.requires.parts c.requires.swept) c.requires.sweepable c.requires.leads_on
+          c.requires.canonical (omega (arith, c.first_step-first.ensures.inside, c.count_of-n.ensures.count)) low;
+      reached =
+          subst (λ (z : ℤ). IsReached (length c.args.values.now) ((pos c.first_step-first.result +ℤ z) -ℤ pos 1) c.fronts_before-run.result.at)
+          (sym lead_is)
+          (reached_first (length c.args.values.now) c.fronts_before-run.result.at c.first_step-first.result c.args.lead
+          (subst (λ (z : ℤ). IsReached (length c.args.values.now) z c.fronts_before-run.result.at) (omega (arith, ints, begin_is))
+          c.fronts_before-run.ensures.reached) low);
       fronts = c.fronts_before-run.ensures.fronts;
     }
 
