@@ -13,3 +13,4 @@ pub mod Cuts
 pub mod Smalls
 pub mod Packs
 pub mod Sweeps
+pub mod SweptMoves

@@ -27,6 +27,11 @@ same_letter Greater Less = false
 same_letter Greater Equal = false
 same_letter Greater Greater = true
 
+-- the letter of a sweep on `<`, or else on `>`
+abbrev pub letter_for : Bool → Letter
+letter_for true = Less
+letter_for false = Greater
+
 -- the hull at place i, state q of s
 abbrev pub hull_in : ℕ → ℕ → List Hull → ℕ → Hull
 hull_in s q row i = get_or row (i * s + q) none

@@ -44,10 +44,23 @@ impl End {
     {
         if let Ext::Int(x) = e {
             End { at: x }
-        } else if let Ext::PosInf = e {
-            End { at: i64::MAX }
         } else {
-            End { at: i64::MIN }
+            End::of_infinity(e)
+        }
+    }
+
+    /// The same of what is no number. A call here has the code ask for a number first.
+    #[tactic(auto, using(crate::proofs::PackLaws::unpack_small), unfolding(crate::specs::Packs::unpack))]
+    #[cold]
+    #[inline(never)]
+    fn of_infinity(e: Ext) -> End
+        requires { small e ≡ true }
+        ensures { unpack result ≡ e }
+    {
+        match e {
+            Ext::NegInf => End { at: i64::MIN },
+            Ext::Int(x) => End { at: x },
+            Ext::PosInf => End { at: i64::MAX },
         }
     }
 

@@ -207,7 +207,7 @@ impl Parts<'_> {
     }
 
     /// Those of a move that begins `C` and `D` anew and makes `R` of `R` and `C`.
-    #[inline]
+    #[inline(always)]
     fn anew_fronts(&self, v: Atom, w: Atom, o: Op, h: &Packed, x: i64) -> Packed
         requires anew { self.now ≡ parts_of (Word v) (Word w) (Two o R C) }
         requires hull { some_hull (unpack_hull h.now) ≡ true }
@@ -221,8 +221,9 @@ impl Parts<'_> {
         }
     }
 
-    /// Those of a move that begins `C` and `D` anew and keeps `R`.
-    #[inline]
+    /// Those of a move that begins `C` and `D` anew and keeps `R`. With a call here those of the other moves are short
+    /// enough to stand in their sweeps.
+    #[inline(never)]
     fn reset_fronts(&self, v: Atom, w: Atom, h: &Packed, x: i64) -> Packed
         requires reset { self.now ≡ parts_of (Word v) (Word w) KeepR }
         requires hull { some_hull (unpack_hull h.now) ≡ true }
