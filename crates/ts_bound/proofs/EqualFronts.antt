@@ -4,7 +4,7 @@ use Rattle.ts_base.specs.declared.letter.Letter.TheVariants.{Less, Equal}
 use Rattle.ts_automaton.specs.declared.regs.Hull.{Hull}
 use Rattle.ts_automaton.specs.Body.{Move}
 use Rattle.ts_bound.specs.Hulls.{none, hull_of_both}
-use Rattle.ts_bound.specs.declared.packed.Packed.{Packed}
+use Rattle.ts_bound.specs.declared.packed.PackedHull.{PackedHull}
 use Rattle.ts_bound.specs.Packs.{IsRunning}
 use Rattle.ts_bound.specs.Sealed.{after_move}
 use Rattle.ts_bound.specs.Cuts.{Cut, cut_of, all_swept, front_hull, closed_hull}
@@ -63,14 +63,14 @@ equal_closed m s q vs ws row j at sw able passed rest = go (below_or_not at (len
         ∙ ap (λ z. closed_hull (cut_of m) z w) none_takes_none ∙ closed_hull_none (cut_of m) w)
 
 -- without an equal value there is nothing
-pub no_equal : (k : Cut) (s q : ℕ) (vs ws : List ℤ) (row : List Hull) (j at : ℕ) (t : Bool) (p : Packed) →
+pub no_equal : (k : Cut) (s q : ℕ) (vs ws : List ℤ) (row : List Hull) (j at : ℕ) (t : Bool) (p : PackedHull) →
     t ≡ (nat_lt at (length vs) && fits Equal vs at ws j) → t ≡ false → IsRunning p none → IsRunning p (equal_front k s q vs row ws j at)
 unfolding equal_front
 no_equal k s q vs ws row j at t p is h run =
     subst (λ (z : Hull). IsRunning p z)
     (sym (ap (λ b. hull_of_both none (cond b (front_hull k (hull_in s q row at) (get_or vs at (pos 0))) none)) (sym is ∙ h) ∙ none_takes_none)) run
 
-pub an_equal : (k : Cut) (s q : ℕ) (vs ws : List ℤ) (row : List Hull) (j at : ℕ) (x : ℤ) (t : Bool) (p : Packed) →
+pub an_equal : (k : Cut) (s q : ℕ) (vs ws : List ℤ) (row : List Hull) (j at : ℕ) (x : ℤ) (t : Bool) (p : PackedHull) →
     x ≡ get_or vs at (pos 0) → t ≡ (nat_lt at (length vs) && fits Equal vs at ws j) → t ≡ true →
     IsRunning p (hull_of_both none (front_hull k (hull_in s q row at) x)) → IsRunning p (equal_front k s q vs row ws j at)
 unfolding equal_front

@@ -8,7 +8,7 @@ use Rattle.ts_automaton.specs.Body.{Body, Move}
 use Rattle.ts_bound.specs.Hulls.{none, hull_of_both}
 use Rattle.ts_bound.specs.Sealed.{after_move, move_at, some_hull}
 use Rattle.ts_bound.specs.Packs.{IsPackOf, unpack_hull}
-use Rattle.ts_bound.specs.declared.packed.Packed.{Packed}
+use Rattle.ts_bound.specs.declared.packed.PackedHull.{PackedHull}
 use Rattle.ts_bound.specs.Sweeps.{AllTakeNone, hull_in, step_place, fits, same_letter, total, pair_gives, move_entry, puts, with_hull_at, with_move, with_state}
 use Rattle.ts_bound.proofs.HullLaws.{TakesNone}
 use Rattle.ts_bound.proofs.PackLaws.{some_canonical}
@@ -82,7 +82,7 @@ one_move m l s q vs row ws next h is one one' e c =
     first_place Greater = refl
 
 -- a state in which registers lie
-pub one_state : (a : Body) (vs : List ℤ) (row : List Hull) (ws : List ℤ) (q s : ℕ) (l : Letter) (m : Move) (next next' : List Hull) (h p : Packed) →
+pub one_state : (a : Body) (vs : List ℤ) (row : List Hull) (ws : List ℤ) (q s : ℕ) (l : Letter) (m : Move) (next next' : List Hull) (h p : PackedHull) →
     l ≡ letter_of (get_or vs 0 (pos 0)) (get_or ws 0 (pos 0)) → m ≡ move_at a q l → length vs ≡ 1 → length ws ≡ 1 → AllTakeNone next →
     s ≡ length a.states → unpack_hull h ≡ hull_in s q row 0 →
     IsPackOf p (after_move m (unpack_hull h) (get_or vs 0 (pos 0)) (get_or ws 0 (pos 0))) →
@@ -96,7 +96,7 @@ one_state a vs row ws q s l m next next' h p is move one one' c e from pack step
     ∙ one_of_three a vs row ws q l next (sym is) one one' c
 
 -- a state in which none do
-pub one_unreached : (a : Body) (vs : List ℤ) (row : List Hull) (ws : List ℤ) (q s : ℕ) (next : List Hull) (h : Packed) (b : Bool) → length vs ≡ 1 →
+pub one_unreached : (a : Body) (vs : List ℤ) (row : List Hull) (ws : List ℤ) (q s : ℕ) (next : List Hull) (h : PackedHull) (b : Bool) → length vs ≡ 1 →
     AllTakeNone next → s ≡ length a.states → unpack_hull h ≡ hull_in s q row 0 → b ≡ some_hull (unpack_hull h) → b ≡ false →
     next ≡ with_state a vs row ws q next
 one_unreached a vs row ws q s next h b one c e from is none_there =

@@ -1,4 +1,4 @@
--- Packed numbers are ordered as what they stand for, and their sums, greatest and least stand for those.
+-- PackedHull numbers are ordered as what they stand for, and their sums, greatest and least stand for those.
 use Rattle.std.proofs.Common.{◌≡◌, ◌⊎◌, inl, inr, Bool, true, false, cond, not, ◌&&◌, IsTrue, ℤ, pos, neg_ℤ, ◌+ℤ◌, ◌≤ℤ◌, ◌<ℤ◌, int_le, int_lt, refl, sym, ◌∙◌, ap, subst, arith}
 use Rattle.std.proofs.lemmas.Bool.{and_parts}
 use Rattle.std.proofs.lemmas.Int.{ints, clamps}
@@ -17,7 +17,7 @@ use Rattle.ts_automaton.specs.Body.{Move}
 use Rattle.ts_automaton.proofs.KindLaws.{op_mono}
 use Rattle.ts_bound.specs.declared.packed.End.{End}
 use Rattle.ts_bound.specs.declared.packed.Ends.{Ends}
-use Rattle.ts_bound.specs.declared.packed.Packed.{Packed}
+use Rattle.ts_bound.specs.declared.packed.PackedHull.{PackedHull}
 use Rattle.ts_bound.specs.Hulls.{none, hull_of_both}
 use Rattle.ts_bound.specs.Packs.{unpack, IsPlain, ArePlain, span_from, unpack_span, unpack_hull, IsPackOf, IsSomeOrNone, IsRunning}
 use Rattle.ts_bound.specs.Sealed.{least_span, by_ends, span_in, hull_with, some_hull, after_move}
@@ -373,7 +373,7 @@ unfolding front_hull
 front_is k h x c d r s e f g =
     same_hull _ _ _ _ _ _ e f g ∙ sym (ap (λ v. cond v (hull_with (front_span k.c h x) (front_span k.d h x) (front_span k.r h x)) none) s)
 
-pub front_packs : (k : Cut) (h : Hull) (x : ℤ) (p : Packed) → some_hull h ≡ true → unpack_span p.c ≡ front_span k.c h x →
+pub front_packs : (k : Cut) (h : Hull) (x : ℤ) (p : PackedHull) → some_hull h ≡ true → unpack_span p.c ≡ front_span k.c h x →
     unpack_span p.d ≡ front_span k.d h x → unpack_span p.r ≡ front_span k.r h x →
     has_some (unpack_span p.c) ≡ true → has_some (unpack_span p.d) ≡ true → has_some (unpack_span p.r) ≡ true → IsPackOf p (front_hull k h x)
 front_packs k h x p s e f g a b c =
@@ -385,7 +385,7 @@ pub closed_packs : (k : Cut) (h : Hull) (y : ℤ) (c d r : Span) → c ≡ close
 unfolding closed_hull
 closed_packs k h y c d r e f g = same_hull _ _ _ _ _ _ e f g
 
-pub front_packs_at : (k : Cut) (h : Hull) (x x' : ℤ) (p : Packed) → x' ≡ x → some_hull h ≡ true →
+pub front_packs_at : (k : Cut) (h : Hull) (x x' : ℤ) (p : PackedHull) → x' ≡ x → some_hull h ≡ true →
     unpack_span p.c ≡ front_span k.c h x' → unpack_span p.d ≡ front_span k.d h x' → unpack_span p.r ≡ front_span k.r h x' →
     has_some (unpack_span p.c) ≡ true → has_some (unpack_span p.d) ≡ true → has_some (unpack_span p.r) ≡ true → IsPackOf p (front_hull k h x)
 front_packs_at k h x x' p is s e f g a b c = subst (λ (z : ℤ). IsPackOf p (front_hull k h z)) is (front_packs k h x' p s e f g a b c)
@@ -394,19 +394,19 @@ pub closed_packs_at : (k : Cut) (h : Hull) (y y' : ℤ) (c d r : Span) → y' �
     r ≡ closed_span k.r h.r y' → hull_with c d r ≡ closed_hull k h y
 closed_packs_at k h y y' c d r is e f g = closed_packs k h y' c d r e f g ∙ ap (closed_hull k h) is
 
-pub front_of_packs : (k : Cut) (h u : Hull) (x x' : ℤ) (p : Packed) → u ≡ h → x' ≡ x → IsPackOf p (front_hull k u x') → IsPackOf p (front_hull k h x)
+pub front_of_packs : (k : Cut) (h u : Hull) (x x' : ℤ) (p : PackedHull) → u ≡ h → x' ≡ x → IsPackOf p (front_hull k u x') → IsPackOf p (front_hull k h x)
 front_of_packs k h u x x' p e f i = subst (λ (z : Hull). IsPackOf p (front_hull k z x)) e (subst (λ (z : ℤ). IsPackOf p (front_hull k u z)) f i)
 
 -- a running hull
 
-pub pack_some : (p : Packed) (h : Hull) → IsPackOf p h → some_hull (unpack_hull p) ≡ true
+pub pack_some : (p : PackedHull) (h : Hull) → IsPackOf p h → some_hull (unpack_hull p) ≡ true
 pack_some p h i = ap some_hull i.value ∙ i.some
 
-pub running_begun : (p : Packed) (t : Hull) → IsRunning p t → IsSomeOrNone (unpack_hull p)
+pub running_begun : (p : PackedHull) (t : Hull) → IsRunning p t → IsSomeOrNone (unpack_hull p)
 running_begun p t i = subst (λ (z : Hull). IsSomeOrNone z) (sym i.value) i.begun
 
 -- where no registers lie in it, nothing was taken in
-pub running_nothing : (b : Bool) (p : Packed) (t : Hull) → b ≡ some_hull (unpack_hull p) → b ≡ false → IsRunning p t → t ≡ none
+pub running_nothing : (b : Bool) (p : PackedHull) (t : Hull) → b ≡ some_hull (unpack_hull p) → b ≡ false → IsRunning p t → t ≡ none
 running_nothing b p t e f i = go i.begun
   where
     go : IsSomeOrNone t → t ≡ none
@@ -428,29 +428,29 @@ begun_is b h (inl s) e = e ∙ (hull_some h s).0 ∙ sym s
 begun_is b h (inr n) e = e ∙ ap (λ (z : Hull). has_some z.c) n ∙ sym (ap some_hull n)
 
 -- the same step from what a hull is in packed form
-pub front_steps : (k : Cut) (p p' : Packed) (u h : Hull) (x x' : ℤ) → u ≡ h → x' ≡ x →
+pub front_steps : (k : Cut) (p p' : PackedHull) (u h : Hull) (x x' : ℤ) → u ≡ h → x' ≡ x →
     ((t : Hull) → IsRunning p t → IsRunning p' (hull_of_both t (front_hull k u x'))) → (t : Hull) → IsRunning p t →
     IsRunning p' (hull_of_both t (front_hull k h x))
 front_steps k p p' u h x x' e f step t i =
     subst (λ (z : Hull). IsRunning p' (hull_of_both t (front_hull k z x))) e
     (subst (λ (z : ℤ). IsRunning p' (hull_of_both t (front_hull k u z))) f (step t i))
 
-pub front_at : (k : Cut) (p : Packed) (h : Hull) (x x' : ℤ) → x' ≡ x → IsPackOf p (front_hull k h x') → IsPackOf p (front_hull k h x)
+pub front_at : (k : Cut) (p : PackedHull) (h : Hull) (x x' : ℤ) → x' ≡ x → IsPackOf p (front_hull k h x') → IsPackOf p (front_hull k h x)
 front_at k p h x x' e = subst (λ (z : ℤ). IsPackOf p (front_hull k h z)) e
 
-pub move_steps : (m : Move) (p p' : Packed) (u h : Hull) (x y : ℤ) → u ≡ h →
+pub move_steps : (m : Move) (p p' : PackedHull) (u h : Hull) (x y : ℤ) → u ≡ h →
     ((t : Hull) → IsRunning p t → IsRunning p' (hull_of_both t (after_move m u x y))) → (t : Hull) → IsRunning p t →
     IsRunning p' (hull_of_both t (after_move m h x y))
 move_steps m p p' u h x y e step t i = subst (λ (z : Hull). IsRunning p' (hull_of_both t (after_move m z x y))) e (step t i)
 
 -- a front more
-pub joined_next : (p r g : Packed) (t f : Hull) → IsRunning p t → IsPackOf g f → unpack_hull r ≡ hull_of_both (unpack_hull p) (unpack_hull g) →
+pub joined_next : (p r g : PackedHull) (t f : Hull) → IsRunning p t → IsPackOf g f → unpack_hull r ≡ hull_of_both (unpack_hull p) (unpack_hull g) →
     some_hull (unpack_hull r) ≡ true → IsPackOf r (hull_of_both t f)
 joined_next p r g t f i j e s =
     let same : unpack_hull r ≡ hull_of_both t f = e ∙ ap (λ z. hull_of_both z (unpack_hull g)) i.value ∙ ap (hull_of_both t) j.value in
     record { value = same; some = ap some_hull (sym same) ∙ s }
 
-pub runs_on : (p : Packed) (h : Hull) → IsPackOf p h → IsRunning p h
+pub runs_on : (p : PackedHull) (h : Hull) → IsPackOf p h → IsRunning p h
 runs_on p h i = record { value = i.value; begun = inl i.some }
 
 -- a hull that is none gives nothing
@@ -458,26 +458,26 @@ pub front_none : (k : Cut) (h : Hull) (x : ℤ) → some_hull h ≡ false → fr
 unfolding front_hull
 front_none k h x e = ap (λ v. cond v (hull_with (front_span k.c h x) (front_span k.d h x) (front_span k.r h x)) none) e
 
-pub runs_past : (p : Packed) (t f : Hull) → f ≡ none → IsRunning p t → IsRunning p (hull_of_both t f)
+pub runs_past : (p : PackedHull) (t f : Hull) → f ≡ none → IsRunning p t → IsRunning p (hull_of_both t f)
 runs_past p t f e i =
     subst (λ (z : Hull). IsRunning p z) (sym (ap (hull_of_both t) e ∙ begun_canonical t i.begun)) i
 
 -- a move on one pair of values
 
-pub moved_packs : (m : Move) (h : Hull) (x y : ℤ) (p : Packed) → some_hull h ≡ true → unpack_span p.c ≡ span_in m.to.c h x y →
+pub moved_packs : (m : Move) (h : Hull) (x y : ℤ) (p : PackedHull) → some_hull h ≡ true → unpack_span p.c ≡ span_in m.to.c h x y →
     unpack_span p.d ≡ span_in m.to.d h x y → unpack_span p.r ≡ span_in m.to.r h x y →
     has_some (unpack_span p.c) ≡ true → has_some (unpack_span p.d) ≡ true → has_some (unpack_span p.r) ≡ true → IsPackOf p (after_move m h x y)
 moved_packs m h x y p s e f g a b c =
     let v = same_hull _ _ _ _ _ _ e f g ∙ sym (after_is m h x y true s) in
     record { value = v; some = ap some_hull (sym v) ∙ packed_some (unpack_span p.c) (unpack_span p.d) (unpack_span p.r) a b c }
 
-pub moved_packs_at : (m : Move) (h : Hull) (x x' y y' : ℤ) (p : Packed) → x' ≡ x → y' ≡ y → some_hull h ≡ true →
+pub moved_packs_at : (m : Move) (h : Hull) (x x' y y' : ℤ) (p : PackedHull) → x' ≡ x → y' ≡ y → some_hull h ≡ true →
     unpack_span p.c ≡ span_in m.to.c h x' y' → unpack_span p.d ≡ span_in m.to.d h x' y' → unpack_span p.r ≡ span_in m.to.r h x' y' →
     has_some (unpack_span p.c) ≡ true → has_some (unpack_span p.d) ≡ true → has_some (unpack_span p.r) ≡ true → IsPackOf p (after_move m h x y)
 moved_packs_at m h x x' y y' p is js s e f g a b c =
     subst (λ (z : ℤ). IsPackOf p (after_move m h z y)) is (subst (λ (z : ℤ). IsPackOf p (after_move m h x' z)) js (moved_packs m h x' y' p s e f g a b c))
 
-pub moved_of_packs : (m : Move) (h u : Hull) (x x' y y' : ℤ) (p : Packed) → u ≡ h → x' ≡ x → y' ≡ y → IsPackOf p (after_move m u x' y') →
+pub moved_of_packs : (m : Move) (h u : Hull) (x x' y y' : ℤ) (p : PackedHull) → u ≡ h → x' ≡ x → y' ≡ y → IsPackOf p (after_move m u x' y') →
     IsPackOf p (after_move m h x y)
 moved_of_packs m h u x x' y y' p e f g i =
     subst (λ (z : Hull). IsPackOf p (after_move m z x y)) e (subst (λ (z : ℤ). IsPackOf p (after_move m u z y)) f
@@ -486,8 +486,8 @@ moved_of_packs m h u x x' y y' p e f g i =
 pub moved_none : (m : Move) (h : Hull) (x y : ℤ) → some_hull h ≡ false → after_move m h x y ≡ none
 moved_none m h x y e = after_is m h x y false e
 
-pub runs_empty : (p : Packed) → unpack_hull p ≡ none → IsRunning p none
+pub runs_empty : (p : PackedHull) → unpack_hull p ≡ none → IsRunning p none
 runs_empty p e = record { value = e; begun = inr refl }
 
-pub runs_as : (p : Packed) (t u : Hull) → t ≡ u → IsRunning p t → IsRunning p u
+pub runs_as : (p : PackedHull) (t u : Hull) → t ≡ u → IsRunning p t → IsRunning p u
 runs_as p t u e i = subst (λ (z : Hull). IsRunning p z) e i

@@ -11,7 +11,7 @@ use Rattle.ts_base.specs.declared.letter.Letter.TheVariants.{Less, Equal, Greate
 use Rattle.ts_base.specs.Signature.{letter_of}
 use Rattle.ts_automaton.specs.declared.regs.Hull.{Hull}
 use Rattle.ts_automaton.specs.Body.{Move}
-use Rattle.ts_bound.specs.declared.packed.Packed.{Packed}
+use Rattle.ts_bound.specs.declared.packed.PackedHull.{PackedHull}
 use Rattle.ts_bound.specs.Hulls.{none, hull_of_both}
 use Rattle.ts_bound.specs.Packs.{IsRunning, unpack_hull}
 use Rattle.ts_bound.specs.Sealed.{after_move, some_hull}
@@ -24,7 +24,7 @@ use Rattle.ts_bound.proofs.Sums.{total_nothing, total_same, total_join, total_ca
 use Rattle.ts_bound.proofs.SplitLaws.{closed_hull_none, total_closed, moved_is, hull_small, small_within}
 use Rattle.ts_bound.proofs.PackLaws.{runs_past, runs_empty, running_nothing}
 
-pub fronts_more : (k : Cut) (l : Letter) (s q : ℕ) (vs : List ℤ) (row : List Hull) (n n' i : ℕ) (x : ℤ) (p p' : Packed) →
+pub fronts_more : (k : Cut) (l : Letter) (s q : ℕ) (vs : List ℤ) (row : List Hull) (n n' i : ℕ) (x : ℤ) (p p' : PackedHull) →
     x ≡ get_or vs i (pos 0) → i ≡ step_place l (length vs) n → n' ≡ n + 1 → IsRunning p (fronts k l s q vs row n) →
     ((t : Hull) → IsRunning p t → IsRunning p' (hull_of_both t (front_hull k (hull_in s q row i) x))) →
     IsRunning p' (fronts k l s q vs row n')
@@ -48,7 +48,7 @@ passed_more l twin vs w from n n' i b is m e t below k low high =
     (λ le. ap (λ m. takes l twin vs m w) (sym is) ∙ sym e ∙ t) k (omega arith) low
 
 -- a run of nothing leaves the next row
-pub put_skipped : (k : Cut) (b : Bool) (p : Packed) (next : List Hull) (q : ℕ) (y : ℤ) (t : Hull) → b ≡ some_hull (unpack_hull p) → b ≡ false →
+pub put_skipped : (k : Cut) (b : Bool) (p : PackedHull) (next : List Hull) (q : ℕ) (y : ℤ) (t : Hull) → b ≡ some_hull (unpack_hull p) → b ≡ false →
     hull_of_both (get_or next q none) none ≡ get_or next q none → IsRunning p t →
     next ≡ set next q (hull_of_both (get_or next q none) (closed_hull k t y))
 put_skipped k b p next q y t e f c i =
@@ -341,7 +341,7 @@ puts_more s to order f first next next' k j h d is inv e step =
 
 -- the next value takes in what was passed
 pub put_is : (m : Move) (pc : Cut) (l : Letter) (twin : Bool) (s q to : ℕ) (vs ws : List ℤ) (row next next' : List Hull) (j : ℕ) (w : ℤ) (at : ℕ)
-    (p : Packed) → same_letter l Equal ≡ false → all_swept (cut_of m) ≡ true → IsSweepable vs ws row → small_int w ≡ true →
+    (p : PackedHull) → same_letter l Equal ≡ false → all_swept (cut_of m) ≡ true → IsSweepable vs ws row → small_int w ≡ true →
     pc ≡ cut_of m → at ≤ length vs → IsRunning p (fronts pc l s q vs row at) →
     ((t : Hull) → IsRunning p t → next' ≡ set next (j * s + to) (hull_of_both (get_or next (j * s + to) none) (closed_hull pc t w))) →
     ((k : ℕ) → k < at → takes l twin vs (step_place l (length vs) k) w ≡ true) →
@@ -356,7 +356,7 @@ pub puts_begun : (s to : ℕ) (order : ℕ → ℕ) (f : ℕ → Hull) (first : 
 unfolding puts
 puts_begun s to order f first = refl
 
-pub fronts_begun : (k : Cut) (l : Letter) (s q : ℕ) (vs : List ℤ) (row : List Hull) (p : Packed) → unpack_hull p ≡ none →
+pub fronts_begun : (k : Cut) (l : Letter) (s q : ℕ) (vs : List ℤ) (row : List Hull) (p : PackedHull) → unpack_hull p ≡ none →
     IsRunning p (fronts k l s q vs row 0)
 unfolding fronts total
 fronts_begun k l s q vs row p e = runs_empty p e
@@ -451,23 +451,23 @@ equal_none m s q vs ws row j at x r passed rest le e =
 
 -- a run over pairs
 
-pub run_begun : (f : ℕ → Hull) (p : Packed) → IsRunning p none → IsRunning p (total 0 f)
+pub run_begun : (f : ℕ → Hull) (p : PackedHull) → IsRunning p none → IsRunning p (total 0 f)
 unfolding total
 run_begun f p i = i
 
-pub run_more : (f : ℕ → Hull) (i : ℕ) (p p' : Packed) → IsRunning p (total i f) →
+pub run_more : (f : ℕ → Hull) (i : ℕ) (p p' : PackedHull) → IsRunning p (total i f) →
     ((r : Hull) → IsRunning p r → IsRunning p' (hull_of_both r (f i))) → IsRunning p' (total (i + 1) f)
 unfolding total
 run_more f i p p' run step =
     let more : suc i ≡ i + 1 = omega arith in subst (λ (z : Hull). IsRunning p' z) (ap (λ n. total n f) more) (step (total i f) run)
 
-pub run_done : (m : Move) (l : Letter) (s q : ℕ) (vs : List ℤ) (row : List Hull) (w : ℤ) (i : ℕ) (p : Packed) → length vs ≤ i →
+pub run_done : (m : Move) (l : Letter) (s q : ℕ) (vs : List ℤ) (row : List Hull) (w : ℤ) (i : ℕ) (p : PackedHull) → length vs ≤ i →
     i ≤ length vs → IsRunning p (total i (λ k. pair_gives m l s q vs row w k)) →
     IsRunning p (move_entry m l s q vs row w)
 run_done m l s q vs row w i p low high run =
     subst (λ (z : Hull). IsRunning p z) (entry_done m l s q vs row w i (total i (λ k. pair_gives m l s q vs row w k)) low high refl) run
 
-pub pair_true : (m : Move) (l : Letter) (s q : ℕ) (vs ws : List ℤ) (row : List Hull) (j i : ℕ) (b : Bool) (p : Packed) (r : Hull) →
+pub pair_true : (m : Move) (l : Letter) (s q : ℕ) (vs ws : List ℤ) (row : List Hull) (j i : ℕ) (b : Bool) (p : PackedHull) (r : Hull) →
     b ≡ fits l vs i ws j → b ≡ true →
     IsRunning p (hull_of_both r (after_move m (hull_in s q row i) (get_or vs i (pos 0)) (get_or ws j (pos 0)))) →
     IsRunning p (hull_of_both r (pair_gives m l s q vs row (get_or ws j (pos 0)) i))
@@ -475,14 +475,14 @@ pair_true m l s q vs ws row j i b p r is t run =
     subst (λ (z : Hull). IsRunning p z) (ap (λ v. hull_of_both r
     (cond v (after_move m (hull_in s q row i) (get_or vs i (pos 0)) (get_or ws j (pos 0))) none)) (sym t ∙ is)) run
 
-pub pair_false : (m : Move) (l : Letter) (s q : ℕ) (vs ws : List ℤ) (row : List Hull) (j i : ℕ) (b : Bool) (p : Packed) (r : Hull) →
+pub pair_false : (m : Move) (l : Letter) (s q : ℕ) (vs ws : List ℤ) (row : List Hull) (j i : ℕ) (b : Bool) (p : PackedHull) (r : Hull) →
     b ≡ fits l vs i ws j → b ≡ false →
     IsRunning p r → IsRunning p (hull_of_both r (pair_gives m l s q vs row (get_or ws j (pos 0)) i))
 pair_false m l s q vs ws row j i b p r is f run =
     runs_past p r (pair_gives m l s q vs row (get_or ws j (pos 0)) i)
     (ap (λ v. cond v (after_move m (hull_in s q row i) (get_or vs i (pos 0)) (get_or ws j (pos 0))) none) (sym is ∙ f)) run
 
-pub put_nothing : (b : Bool) (p : Packed) (next : List Hull) (q : ℕ) (r : Hull) → b ≡ some_hull (unpack_hull p) → b ≡ false →
+pub put_nothing : (b : Bool) (p : PackedHull) (next : List Hull) (q : ℕ) (r : Hull) → b ≡ some_hull (unpack_hull p) → b ≡ false →
     hull_of_both (get_or next q none) none ≡ get_or next q none → IsRunning p r →
     next ≡ set next q (hull_of_both (get_or next q none) r)
 put_nothing b p next q r e f c i =

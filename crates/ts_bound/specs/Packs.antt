@@ -6,7 +6,7 @@ use Rattle.ts_base.specs.declared.span.Span.{Span}
 use Rattle.ts_automaton.specs.declared.regs.Hull.{Hull}
 use Rattle.ts_bound.specs.declared.packed.End.{End}
 use Rattle.ts_bound.specs.declared.packed.Ends.{Ends}
-use Rattle.ts_bound.specs.declared.packed.Packed.{Packed}
+use Rattle.ts_bound.specs.declared.packed.PackedHull.{PackedHull}
 use Rattle.ts_bound.specs.Hulls.{none}
 use Rattle.ts_bound.specs.Sealed.{hull_with, some_hull}
 
@@ -31,11 +31,11 @@ span_from lo hi = record { lo = lo; hi = hi }
 abbrev pub unpack_span : Ends → Span
 unpack_span e = span_from (unpack e.lo) (unpack e.hi)
 
-abbrev pub unpack_hull : Packed → Hull
+abbrev pub unpack_hull : PackedHull → Hull
 unpack_hull p = hull_with (unpack_span p.c) (unpack_span p.d) (unpack_span p.r)
 
 -- it stands for that hull, in which registers lie
-pub record IsPackOf (p : Packed) (h : Hull) : Type 0 where
+pub record IsPackOf (p : PackedHull) (h : Hull) : Type 0 where
   pub value : unpack_hull p ≡ h
   pub some : some_hull h ≡ true
 
@@ -44,6 +44,6 @@ abbrev pub IsSomeOrNone : Hull → Type 0
 IsSomeOrNone h = (some_hull h ≡ true) ⊎ (h ≡ none)
 
 -- a running hull in packed form: none where nothing was taken in
-pub record IsRunning (p : Packed) (h : Hull) : Type 0 where
+pub record IsRunning (p : PackedHull) (h : Hull) : Type 0 where
   pub value : unpack_hull p ≡ h
   pub begun : IsSomeOrNone h

@@ -28,7 +28,7 @@ pub(crate) struct Ends {
 
 /// Both ends for each register.
 #[derive(Clone, Copy, Debug, PartialEq, Eq)]
-pub(crate) struct Packed {
+pub(crate) struct PackedHull {
     pub(crate) c: Ends,
     pub(crate) d: Ends,
     pub(crate) r: Ends,
@@ -165,14 +165,14 @@ impl Ends {
     }
 }
 
-impl Packed {
+impl PackedHull {
     /// In packed form.
     #[inline(always)]
-    pub(crate) fn of(h: &Hull) -> Packed
+    pub(crate) fn of(h: &Hull) -> PackedHull
         requires { small_hull h.now ≡ true }
         ensures { unpack_hull result ≡ h.now }
     {
-        Packed {
+        PackedHull {
             c: Ends::of(h.c),
             d: Ends::of(h.d),
             r: Ends::of(h.r),
@@ -191,14 +191,14 @@ impl Packed {
     /// joined with stays as it is.
     #[tactic(auto, unfolding(crate::specs::Packs::unpack))]
     #[inline(always)]
-    pub(crate) fn nothing() -> Packed
+    pub(crate) fn nothing() -> PackedHull
         ensures { unpack_hull result ≡ none }
     {
         let nothing = Ends {
             lo: End { at: i64::MAX },
             hi: End { at: i64::MIN },
         };
-        Packed {
+        PackedHull {
             c: nothing,
             d: nothing,
             r: nothing,
@@ -216,13 +216,13 @@ impl Packed {
 
     /// The hull of one that stays as it is beside none, and of one in which registers lie.
     #[inline(always)]
-    pub(crate) fn joined(self, other: Packed) -> Packed
+    pub(crate) fn joined(self, other: PackedHull) -> PackedHull
         requires canonical { hull_of_both (unpack_hull self) none ≡ unpack_hull self }
         requires some { some_hull (unpack_hull other) ≡ true }
         ensures value { unpack_hull result ≡ hull_of_both (unpack_hull self) (unpack_hull other) }
         ensures some { some_hull (unpack_hull result) ≡ true }
     {
-        Packed {
+        PackedHull {
             c: self.c.hull(other.c),
             d: self.d.hull(other.d),
             r: self.r.hull(other.r),

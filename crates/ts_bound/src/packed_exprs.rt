@@ -9,7 +9,7 @@ ghost use Rattle.ts_bound.specs.Packs.{IsPackOf, unpack_hull, unpack_span};
 ghost use Rattle.ts_bound.specs.Sealed.{after_move, by_ends, some_hull, span_in};
 ghost use Rattle.ts_bound.specs.Smalls.{small_int};
 
-use crate::packed::{Ends, Packed};
+use crate::packed::{Ends, PackedHull};
 use ts_automaton::{Expr, Op, Turn};
 
 /// The operator on packed spans that aren't none, end by end.
@@ -34,7 +34,7 @@ pub(crate) fn joined_ends(o: Op, a: Ends, b: Ends) -> Ends
 }
 
 /// The span of an expression on a packed hull in which registers lie; this cell and the next are small.
-fn ends_of(e: &Expr, h: &Packed, x: i64, y: i64) -> Ends
+fn ends_of(e: &Expr, h: &PackedHull, x: i64, y: i64) -> Ends
     requires hull { some_hull (unpack_hull h.now) ≡ true }
     requires this { small_int x ≡ true }
     requires next { small_int y ≡ true }
@@ -59,7 +59,7 @@ fn ends_of(e: &Expr, h: &Packed, x: i64, y: i64) -> Ends
 
 /// The same of an operand, which mostly is one word: that is read without a call.
 #[inline(always)]
-fn operand_ends(e: &Expr, h: &Packed, x: i64, y: i64) -> Ends
+fn operand_ends(e: &Expr, h: &PackedHull, x: i64, y: i64) -> Ends
     requires hull { some_hull (unpack_hull h.now) ≡ true }
     requires this { small_int x ≡ true }
     requires next { small_int y ≡ true }
@@ -79,7 +79,7 @@ fn operand_ends(e: &Expr, h: &Packed, x: i64, y: i64) -> Ends
 
 /// The same of an expression that changes a register, which mostly is one operator.
 #[inline(always)]
-pub(crate) fn changed_ends(e: &Expr, h: &Packed, x: i64, y: i64) -> Ends
+pub(crate) fn changed_ends(e: &Expr, h: &PackedHull, x: i64, y: i64) -> Ends
     requires hull { some_hull (unpack_hull h.now) ≡ true }
     requires this { small_int x ≡ true }
     requires next { small_int y ≡ true }
@@ -97,7 +97,7 @@ pub(crate) fn changed_ends(e: &Expr, h: &Packed, x: i64, y: i64) -> Ends
 
 /// The same of the expression of a register: a move leaves most as they are.
 #[inline(always)]
-pub(crate) fn register_ends(e: &Expr, h: &Packed, x: i64, y: i64) -> Ends
+pub(crate) fn register_ends(e: &Expr, h: &PackedHull, x: i64, y: i64) -> Ends
     requires hull { some_hull (unpack_hull h.now) ≡ true }
     requires this { small_int x ≡ true }
     requires next { small_int y ≡ true }
@@ -114,13 +114,13 @@ pub(crate) fn register_ends(e: &Expr, h: &Packed, x: i64, y: i64) -> Ends
 
 /// The move on a hull in which registers lie.
 #[inline(always)]
-pub(crate) fn moved_packed(t: &Turn, h: &Packed, x: i64, y: i64) -> Packed
+pub(crate) fn moved_packed(t: &Turn, h: &PackedHull, x: i64, y: i64) -> PackedHull
     requires hull { some_hull (unpack_hull h.now) ≡ true }
     requires this { small_int x ≡ true }
     requires next { small_int y ≡ true }
     ensures { IsPackOf result (after_move (move_of t.now) (unpack_hull h.now) x y) }
 {
-    Packed {
+    PackedHull {
         c: register_ends(&t.c, h, x, y),
         d: register_ends(&t.d, h, x, y),
         r: register_ends(&t.r, h, x, y),

@@ -8,7 +8,7 @@ ghost use Rattle.ts_bound.specs.Cuts.{cut_of, kept_parts, longer_parts, parts_cu
 ghost use Rattle.ts_bound.specs.Packs.{IsRunning};
 ghost use Rattle.ts_bound.specs.Sweeps.{AllTakeNone, IsWide, IsSweepable, Leads, equal_front, fits, with_move};
 
-use crate::packed::Packed;
+use crate::packed::PackedHull;
 use crate::sweep_equal::reached_at;
 use crate::sweep_move::{put_run, with_place};
 use crate::sweep_parts::Part::{KeepC, KeepD, KeepR, Two};
@@ -185,7 +185,7 @@ fn equal_front(
 {
     let nothing = Run {
         at: 0,
-        hull: Packed::nothing(),
+        hull: PackedHull::nothing(),
     };
     if is_equal(values, at, next_values, j) {
         with_place(p, s, q, values, before, at, value_at(values, at), nothing)

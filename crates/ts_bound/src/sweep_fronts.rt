@@ -13,14 +13,14 @@ ghost use Rattle.ts_bound.specs.Sealed.{some_hull, span_in};
 ghost use Rattle.ts_bound.specs.Smalls.{small_int};
 ghost use Rattle.ts_bound.specs.Splits.{closed_span, front_span, is_swept};
 
-use crate::packed::{Ends, Packed};
+use crate::packed::{Ends, PackedHull};
 use crate::packed_exprs::{joined_ends, register_ends};
 use crate::sweep_parts::{Part, Parts};
 use ts_automaton::{Atom, Expr, Op};
 
 /// The span of a word in a front.
 #[inline(always)]
-fn word_ends(word: Atom, h: &Packed, x: i64) -> Ends
+fn word_ends(word: Atom, h: &PackedHull, x: i64) -> Ends
     requires hull { some_hull (unpack_hull h.now) ≡ true }
     requires this { small_int x ≡ true }
     ensures value { unpack_span result ≡ span_in (Leaf word) (unpack_hull h.now) x (pos 0) }
@@ -40,7 +40,7 @@ fn word_ends(word: Atom, h: &Packed, x: i64) -> Ends
 
 /// The span of a front of any length. A call here keeps short what stands in the loops.
 #[inline(never)]
-fn far_ends(e: &Expr, h: &Packed, x: i64) -> Ends
+fn far_ends(e: &Expr, h: &PackedHull, x: i64) -> Ends
     requires hull { some_hull (unpack_hull h.now) ≡ true }
     requires this { small_int x ≡ true }
     ensures value { unpack_span result ≡ span_in (formula e.now) (unpack_hull h.now) x (pos 0) }
@@ -51,7 +51,7 @@ fn far_ends(e: &Expr, h: &Packed, x: i64) -> Ends
 
 /// The same of one that mostly is a register.
 #[inline(always)]
-fn near_ends(e: &Expr, h: &Packed, x: i64) -> Ends
+fn near_ends(e: &Expr, h: &PackedHull, x: i64) -> Ends
     requires hull { some_hull (unpack_hull h.now) ≡ true }
     requires this { small_int x ≡ true }
     ensures value { unpack_span result ≡ span_in (formula e.now) (unpack_hull h.now) x (pos 0) }
@@ -67,7 +67,7 @@ fn near_ends(e: &Expr, h: &Packed, x: i64) -> Ends
 impl Part<'_> {
     /// The span of the front.
     #[inline(always)]
-    fn front_ends(&self, h: &Packed, x: i64) -> Ends
+    fn front_ends(&self, h: &PackedHull, x: i64) -> Ends
         requires swept { is_swept (part_split self.now) ≡ true }
         requires hull { some_hull (unpack_hull h.now) ≡ true }
         requires this { small_int x ≡ true }
@@ -119,7 +119,7 @@ impl Parts<'_> {
     /// The fronts on a hull in which registers lie. Those of most moves have a form of their own: each is so short that
     /// it stands in the loop over the values without a call.
     #[inline(always)]
-    pub(crate) fn front_packed(&self, h: &Packed, x: i64) -> Packed
+    pub(crate) fn front_packed(&self, h: &PackedHull, x: i64) -> PackedHull
         requires swept { all_swept (parts_cut self.now) ≡ true }
         requires hull { some_hull (unpack_hull h.now) ≡ true }
         requires this { small_int x ≡ true }
@@ -147,13 +147,13 @@ impl Parts<'_> {
 
     /// Those of a move that keeps all registers.
     #[inline(always)]
-    fn kept_fronts(&self, h: &Packed, x: i64) -> Packed
+    fn kept_fronts(&self, h: &PackedHull, x: i64) -> PackedHull
         requires kept { self.now ≡ kept_parts }
         requires hull { some_hull (unpack_hull h.now) ≡ true }
         requires this { small_int x ≡ true }
         ensures { IsPackOf result (front_hull (parts_cut self.now) (unpack_hull h.now) x) }
     {
-        Packed {
+        PackedHull {
             c: h.c,
             d: h.d,
             r: h.r,
@@ -162,13 +162,13 @@ impl Parts<'_> {
 
     /// Those of a move that only makes `D` greater by one.
     #[inline(always)]
-    fn longer_fronts(&self, h: &Packed, x: i64) -> Packed
+    fn longer_fronts(&self, h: &PackedHull, x: i64) -> PackedHull
         requires longer { self.now ≡ longer_parts }
         requires hull { some_hull (unpack_hull h.now) ≡ true }
         requires this { small_int x ≡ true }
         ensures { IsPackOf result (front_hull (parts_cut self.now) (unpack_hull h.now) x) }
     {
-        Packed {
+        PackedHull {
             c: h.c,
             d: joined_ends(Op::Add, h.d, Ends::one(1)),
             r: h.r,
@@ -177,13 +177,13 @@ impl Parts<'_> {
 
     /// Those of a move that makes `C` of `D` and a word, begins `D` anew and keeps `R`.
     #[inline]
-    fn found_fronts(&self, o: Op, b: Atom, w: Atom, h: &Packed, x: i64) -> Packed
+    fn found_fronts(&self, o: Op, b: Atom, w: Atom, h: &PackedHull, x: i64) -> PackedHull
         requires found { self.now ≡ parts_of (Two o D b) (Word w) KeepR }
         requires hull { some_hull (unpack_hull h.now) ≡ true }
         requires this { small_int x ≡ true }
         ensures { IsPackOf result (front_hull (parts_cut self.now) (unpack_hull h.now) x) }
     {
-        Packed {
+        PackedHull {
             c: joined_ends(o, h.d, word_ends(b, h, x)),
             d: word_ends(w, h, x),
             r: h.r,
@@ -192,14 +192,14 @@ impl Parts<'_> {
 
     /// Those of a move that makes `C` the sum of `C`, `D` and a word, begins `D` anew and keeps `R`.
     #[inline]
-    fn inside_fronts(&self, c: Atom, w: Atom, h: &Packed, x: i64) -> Packed
+    fn inside_fronts(&self, c: Atom, w: Atom, h: &PackedHull, x: i64) -> PackedHull
         requires inside { self.now ≡ parts_of (Three Add C Add D c) (Word w) KeepR }
         requires hull { some_hull (unpack_hull h.now) ≡ true }
         requires this { small_int x ≡ true }
         ensures { IsPackOf result (front_hull (parts_cut self.now) (unpack_hull h.now) x) }
     {
         let inner = joined_ends(Op::Add, h.d, word_ends(c, h, x));
-        Packed {
+        PackedHull {
             c: joined_ends(Op::Add, h.c, inner),
             d: word_ends(w, h, x),
             r: h.r,
@@ -208,13 +208,13 @@ impl Parts<'_> {
 
     /// Those of a move that begins `C` and `D` anew and makes `R` of `R` and `C`.
     #[inline(always)]
-    fn anew_fronts(&self, v: Atom, w: Atom, o: Op, h: &Packed, x: i64) -> Packed
+    fn anew_fronts(&self, v: Atom, w: Atom, o: Op, h: &PackedHull, x: i64) -> PackedHull
         requires anew { self.now ≡ parts_of (Word v) (Word w) (Two o R C) }
         requires hull { some_hull (unpack_hull h.now) ≡ true }
         requires this { small_int x ≡ true }
         ensures { IsPackOf result (front_hull (parts_cut self.now) (unpack_hull h.now) x) }
     {
-        Packed {
+        PackedHull {
             c: word_ends(v, h, x),
             d: word_ends(w, h, x),
             r: joined_ends(o, h.r, h.c),
@@ -224,13 +224,13 @@ impl Parts<'_> {
     /// Those of a move that begins `C` and `D` anew and keeps `R`. With a call here those of the other moves are short
     /// enough to stand in their sweeps.
     #[inline(never)]
-    fn reset_fronts(&self, v: Atom, w: Atom, h: &Packed, x: i64) -> Packed
+    fn reset_fronts(&self, v: Atom, w: Atom, h: &PackedHull, x: i64) -> PackedHull
         requires reset { self.now ≡ parts_of (Word v) (Word w) KeepR }
         requires hull { some_hull (unpack_hull h.now) ≡ true }
         requires this { small_int x ≡ true }
         ensures { IsPackOf result (front_hull (parts_cut self.now) (unpack_hull h.now) x) }
     {
-        Packed {
+        PackedHull {
             c: word_ends(v, h, x),
             d: word_ends(w, h, x),
             r: h.r,
@@ -239,13 +239,13 @@ impl Parts<'_> {
 
     /// Those of a move that reads the next cell in `C`, begins `D` anew and keeps `R`.
     #[inline]
-    fn tail_fronts(&self, o: Op, e: &Expr, w: Atom, h: &Packed, x: i64) -> Packed
+    fn tail_fronts(&self, o: Op, e: &Expr, w: Atom, h: &PackedHull, x: i64) -> PackedHull
         requires tail { self.now ≡ parts_of (Tail o e) (Word w) KeepR }
         requires hull { some_hull (unpack_hull h.now) ≡ true }
         requires this { small_int x ≡ true }
         ensures { IsPackOf result (front_hull (parts_cut self.now) (unpack_hull h.now) x) }
     {
-        Packed {
+        PackedHull {
             c: near_ends(e, h, x),
             d: word_ends(w, h, x),
             r: h.r,
@@ -254,13 +254,13 @@ impl Parts<'_> {
 
     /// Those of any move.
     #[inline(always)]
-    fn mixed_fronts(&self, h: &Packed, x: i64) -> Packed
+    fn mixed_fronts(&self, h: &PackedHull, x: i64) -> PackedHull
         requires swept { all_swept (parts_cut self.now) ≡ true }
         requires hull { some_hull (unpack_hull h.now) ≡ true }
         requires this { small_int x ≡ true }
         ensures { IsPackOf result (front_hull (parts_cut self.now) (unpack_hull h.now) x) }
     {
-        Packed {
+        PackedHull {
             c: self.c.front_ends(h, x),
             d: self.d.front_ends(h, x),
             r: self.r.front_ends(h, x),
@@ -269,14 +269,14 @@ impl Parts<'_> {
 
     /// What the next cell makes of the hull of fronts.
     #[inline(always)]
-    pub(crate) fn closed_packed(&self, h: &Packed, y: i64) -> Packed
+    pub(crate) fn closed_packed(&self, h: &PackedHull, y: i64) -> PackedHull
         requires swept { all_swept (parts_cut self.now) ≡ true }
         requires hull { some_hull (unpack_hull h.now) ≡ true }
         requires next { small_int y ≡ true }
         ensures value { unpack_hull result ≡ closed_hull (parts_cut self.now) (unpack_hull h.now) y }
         ensures some { some_hull (unpack_hull result) ≡ true }
     {
-        Packed {
+        PackedHull {
             c: self.c.closed_ends(h.c, y),
             d: self.d.closed_ends(h.d, y),
             r: self.r.closed_ends(h.r, y),

@@ -12,7 +12,7 @@ ghost use Rattle.ts_bound.specs.Smalls.{small_hull, small_int};
 ghost use Rattle.ts_bound.specs.Sweeps.{AllTakeNone, IsSweepable, fronts, hull_in, same_letter};
 ghost use Rattle.ts_bound.specs.Sweeps.{step_place, takes, with_hull_at, with_sweep};
 
-use crate::packed::Packed;
+use crate::packed::PackedHull;
 use crate::sweep_parts::Parts;
 use crate::sweep_run::{Run, compares, packed_at, put, step_place, with_next};
 use crate::sweep_values::{Places, count_of, value_at};
@@ -21,7 +21,7 @@ use ts_base::Letter;
 
 /// The run with one hull more, for its value.
 #[inline(always)]
-fn with_hull(p: &Parts<'_>, h: &Packed, value: i64, run: Run) -> Run
+fn with_hull(p: &Parts<'_>, h: &PackedHull, value: i64, run: Run) -> Run
     requires room { run.at < 18446744073709551615 }
     requires swept { all_swept (parts_cut p.now) ≡ true }
     requires this { small_int value ≡ true }
@@ -167,7 +167,7 @@ pub(crate) fn sweep_move(
     let to = t.next as usize;
     let mut run = Run {
         at: 0,
-        hull: Packed::nothing(),
+        hull: PackedHull::nothing(),
     };
     for k in 0..count_of(next_values) {
         let j = step_place(l, n, k);

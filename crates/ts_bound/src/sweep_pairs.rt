@@ -10,7 +10,7 @@ ghost use Rattle.ts_bound.specs.Smalls.{small_hull, small_int};
 ghost use Rattle.ts_bound.specs.Sweeps.{AllTakeNone, IsSweepable, fits, hull_in, move_entry, pair_gives};
 ghost use Rattle.ts_bound.specs.Sweeps.{with_hull_at, with_move};
 
-use crate::packed::Packed;
+use crate::packed::PackedHull;
 use crate::packed_exprs::moved_packed;
 use crate::sweep_run::{Run, fits, packed_at, put, step_place, with_next};
 use crate::sweep_values::{Places, count_of, value_at};
@@ -21,12 +21,12 @@ use ts_base::Letter;
 #[inline(always)]
 pub(crate) fn moved_of(
     t: &Turn,
-    h: &Packed,
+    h: &PackedHull,
     values: &Places<'_>,
     i: usize,
     next_values: &Places<'_>,
     j: usize,
-) -> Packed
+) -> PackedHull
     requires first { i < length values.now }
     requires second { j < length next_values.now }
     requires some { some_hull (unpack_hull h.now) ≡ true }
@@ -42,7 +42,7 @@ pub(crate) fn moved_of(
 #[inline(always)]
 fn with_moved_hull(
     t: &Turn,
-    h: &Packed,
+    h: &PackedHull,
     values: &Places<'_>,
     i: usize,
     next_values: &Places<'_>,

@@ -9,7 +9,7 @@ ghost use Rattle.ts_bound.specs.Sealed.{some_hull};
 ghost use Rattle.ts_bound.specs.Smalls.{small_hull};
 ghost use Rattle.ts_bound.specs.Sweeps.{compares, fits, hull_in, same_letter, step_place, with_hull_at};
 
-use crate::packed::Packed;
+use crate::packed::PackedHull;
 use crate::sweep_values::{Places, value_at};
 use ts_automaton::Hull;
 use ts_base::Letter;
@@ -18,7 +18,7 @@ use ts_base::Letter;
 #[derive(Clone, Copy)]
 pub(crate) struct Run {
     pub(crate) at: usize,
-    pub(crate) hull: Packed,
+    pub(crate) hull: PackedHull,
 }
 
 impl Run {
@@ -29,7 +29,7 @@ impl Run {
     {
         Run {
             at: 0,
-            hull: Packed::nothing(),
+            hull: PackedHull::nothing(),
         }
     }
 }
@@ -102,19 +102,19 @@ pub(crate) fn packed_at(
     q: usize,
     values: &Places<'_>,
     i: usize,
-) -> Packed
+) -> PackedHull
     requires inside { i < length values.now }
     requires state { q < s }
     requires before { length before.now ≡ length values.now * s }
     requires small { small_hull (hull_in s q before.now i) ≡ true }
     ensures { unpack_hull result ≡ hull_in s q before.now i }
 {
-    Packed::of(&before[i * s + q])
+    PackedHull::of(&before[i * s + q])
 }
 
 /// The running hull with one hull more.
 #[inline(always)]
-pub(crate) fn with_next(hull: Packed, front: Packed) -> Packed
+pub(crate) fn with_next(hull: PackedHull, front: PackedHull) -> PackedHull
     requires begun { IsSomeOrNone (unpack_hull hull) }
     requires some { some_hull (unpack_hull front) ≡ true }
     ensures { (t f : Hull) → IsRunning hull t → IsPackOf front f → IsPackOf result (hull_of_both t f) }
@@ -124,7 +124,7 @@ pub(crate) fn with_next(hull: Packed, front: Packed) -> Packed
 
 /// A hull in which registers lie is taken in at place `j`, state `to` of `s`.
 #[inline(always)]
-pub(crate) fn put(next: &mut [Hull], s: usize, to: usize, j: usize, h: &Packed)
+pub(crate) fn put(next: &mut [Hull], s: usize, to: usize, j: usize, h: &PackedHull)
     requires inside { j * s + to < length next.old }
     requires some { some_hull (unpack_hull h.now) ≡ true }
     requires canonical { hull_of_both (get_or next.old (j * s + to) none) none ≡ get_or next.old (j * s + to) none }

@@ -11,7 +11,7 @@ ghost use Rattle.ts_bound.specs.Smalls.{small_hull, small_int};
 ghost use Rattle.ts_bound.specs.Sweeps.{AllTakeNone, IsWide, IsReached, IsSweepable};
 ghost use Rattle.ts_bound.specs.Sweeps.{Leads, fronts, same_letter, with_sweep};
 
-use crate::packed::Packed;
+use crate::packed::PackedHull;
 use crate::sweep_move::{put_run, with_place};
 use crate::sweep_parts::Parts;
 use crate::sweep_run::{Run, step_place};
@@ -42,7 +42,7 @@ fn fronts_before(
     let n = count_of(values);
     let mut run = Run {
         at: 0,
-        hull: Packed::nothing(),
+        hull: PackedHull::nothing(),
     };
     while run.at < n {
         if !is_before(run.at, to) {

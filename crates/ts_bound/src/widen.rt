@@ -8,7 +8,7 @@ ghost use Rattle.ts_bound.specs.Hulls.{hull_of_both, none};
 ghost use Rattle.ts_bound.specs.Packs.{span_from, unpack, unpack_hull, unpack_span};
 ghost use Rattle.ts_bound.specs.Sealed.{some_hull};
 
-use crate::packed::{End, Ends, Packed};
+use crate::packed::{End, Ends, PackedHull};
 use ts_automaton::Hull;
 use ts_base::{Ext, Span};
 
@@ -128,7 +128,7 @@ impl Ends {
     }
 }
 
-impl Packed {
+impl PackedHull {
     /// A hull takes in one in which registers lie.
     #[inline(always)]
     pub(crate) fn widen(&self, there: &mut Hull)

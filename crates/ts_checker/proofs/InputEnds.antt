@@ -10,8 +10,8 @@ use Rattle.ts_model.specs.ModelParts.{ModelParts}
 use Rattle.ts_filter.specs.Lines.{first_stand}
 use Rattle.ts_checker.specs.declared.judging.Judging.{Judging as AtWork}
 use Rattle.ts_checker.specs.declared.model_text.ModelText.{ModelText}
-use Rattle.ts_checker.specs.declared.opened.Opened.{Opened}
-use Rattle.ts_checker.specs.declared.opened.Opened.TheVariants.{Refused, Judging}
+use Rattle.ts_checker.specs.declared.opened_model.OpenedModel.{OpenedModel}
+use Rattle.ts_checker.specs.declared.opened_model.OpenedModel.TheVariants.{Refused, Judging}
 use Rattle.ts_checker.specs.declared.verify_end.VerifyEnd.{VerifyEnd}
 use Rattle.ts_checker.specs.declared.verify_end.VerifyEnd.TheVariants.{Model, Verdict}
 use Rattle.ts_checker.specs.Feeding.{EndsModel, EndsOpened, IsBehind, IsInModel, IsOpened, OpenedFails}
@@ -33,7 +33,7 @@ module _ (bytes text front rest : List ℕ) (whole : bytes ≡ front ++ rest) (e
   reads : (found : Result ModelParts (ℕ × ModelKind)) → model_reading Listed text ≡ found → model_reading Listed (model_part bytes) ≡ found
   reads found is = ap (model_reading Listed) model_is ∙ is
 
-pub ends_behind : (bytes : List ℕ) (o : Opened) (end : VerifyEnd) → IsBehind bytes o → EndsOpened o end → IsVerifyEnd bytes end
+pub ends_behind : (bytes : List ℕ) (o : OpenedModel) (end : VerifyEnd) → IsBehind bytes o → EndsOpened o end → IsVerifyEnd bytes end
 ends_behind bytes (Refused n kind) (Model number what) h t =
     reads bytes h.text h.front h.rest h.parts h.ends (Err (n, kind)) h.reading ∙ ap (λ (k : ℕ). Err (k, kind)) (sym t.0)
     ∙ ap (λ (k : ModelKind). Err (number, k)) (sym t.1)
@@ -48,7 +48,7 @@ ends_behind bytes (Judging j) (Verdict v) h t = record {
 
 -- the model ends with the input
 
-ends_at_once : (bytes : List ℕ) (o : Opened) (end : VerifyEnd) → rest_part bytes ≡ [] → IsOpened (model_part bytes) o → EndsOpened o end →
+ends_at_once : (bytes : List ℕ) (o : OpenedModel) (end : VerifyEnd) → rest_part bytes ≡ [] → IsOpened (model_part bytes) o → EndsOpened o end →
     IsVerifyEnd bytes end
 ends_at_once bytes (Refused n kind) (Model number what) none is t =
     is ∙ ap (λ (k : ℕ). Err (k, kind)) (sym t.0) ∙ ap (λ (k : ModelKind). Err (number, k)) (sym t.1)
@@ -60,7 +60,8 @@ ends_at_once bytes (Judging j) (Verdict v) none is t = record {
   shown = subst (λ (x : List ℕ). IsShownBy (strict_lines x) j.checker.model v) (sym none) (t [] is.1);
 }
 
-pub ends_in_model : (bytes : List ℕ) (t : ModelText) (o : Opened) (end : VerifyEnd) → IsInModel bytes t → IsOpened (model_part bytes) o → EndsOpened o end →
+pub ends_in_model : (bytes : List ℕ) (t : ModelText) (o : OpenedModel) (end : VerifyEnd) → IsInModel bytes t → IsOpened (model_part bytes) o →
+    EndsOpened o end →
     IsVerifyEnd bytes end
 ends_in_model bytes t o end h is e = ends_at_once bytes o end (nothing_behind bytes t h) is e
 
@@ -87,6 +88,6 @@ line_failed bytes j failed fails c =
     (subst (λ (x : List ℕ). FailsFirst j.checker.model (ended_lines x) failed) (sym (rest_is bytes c.text c.front c.rest c.parts c.ends))
     (fails c.rest c.read))
 
-pub behind_failed : (o : Opened) (failed : Option ℕ) → OpenedFails o failed → (bytes : List ℕ) → IsBehind bytes o → IsFailed bytes failed
+pub behind_failed : (o : OpenedModel) (failed : Option ℕ) → OpenedFails o failed → (bytes : List ℕ) → IsBehind bytes o → IsFailed bytes failed
 behind_failed (Refused n kind) failed fails bytes h = subst (IsFailed bytes) (sym fails) (refused_failed bytes n kind h)
 behind_failed (Judging j) failed fails bytes h = line_failed bytes j failed fails h

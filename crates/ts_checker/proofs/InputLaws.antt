@@ -6,8 +6,8 @@ use Rattle.ts_model.specs.ModelParts.{ModelParts}
 use Rattle.ts_checker.specs.declared.input.Input.{Input}
 use Rattle.ts_checker.specs.declared.input.Input.TheVariants.{InModel, Behind}
 use Rattle.ts_checker.specs.declared.model_text.ModelText.{ModelText}
-use Rattle.ts_checker.specs.declared.opened.Opened.{Opened}
-use Rattle.ts_checker.specs.declared.opened.Opened.TheVariants.{Refused, Judging}
+use Rattle.ts_checker.specs.declared.opened_model.OpenedModel.{OpenedModel}
+use Rattle.ts_checker.specs.declared.opened_model.OpenedModel.TheVariants.{Refused, Judging}
 use Rattle.ts_checker.specs.Feeding.{EndsIn, HasTaken, IsAt, IsBehind, IsBehindRefusal, IsCalm, IsOpened, TakesBytes, TakesInModel, TakesPart}
 
 -- more bytes of one line
@@ -23,7 +23,7 @@ behind_more bytes part n kind h = record {
 }
 
 -- more bytes behind the model
-pub behind_taken : (o p : Opened) (part : List ℕ) → TakesPart o part p → TakesBytes (Behind o) part (Behind p)
+pub behind_taken : (o p : OpenedModel) (part : List ℕ) → TakesPart o part p → TakesBytes (Behind o) part (Behind p)
 behind_taken (Refused n kind) p part t bytes h = subst (IsBehind (bytes ++ part)) (sym t) (behind_more bytes part n kind h)
 behind_taken (Judging j) (Refused n kind) part t bytes h = absurd t
 behind_taken (Judging j) (Judging k) part t bytes h = record {
@@ -38,7 +38,7 @@ behind_taken (Judging j) (Judging k) part t bytes h = record {
 
 -- the same of the whole input
 
-pub behind_goes_on : (old : Input) (o p : Opened) (part : List ℕ) → old ≡ Behind o → TakesPart o part p → TakesBytes old part (Behind p)
+pub behind_goes_on : (old : Input) (o p : OpenedModel) (part : List ℕ) → old ≡ Behind o → TakesPart o part p → TakesBytes old part (Behind p)
 behind_goes_on old o p part is t bytes h = behind_taken o p part t bytes (subst (HasTaken bytes) is h)
 
 pub model_goes_on : (old : Input) (text new : ModelText) (ended : Bool) (part : List ℕ) → old ≡ InModel text → ended ≡ false →
@@ -52,11 +52,11 @@ mark_taken old text new ended part bytes is mark t h = subst (λ e. IsAt (bytes 
 
 -- behind the model memory wasn't wanting
 
-pub opened_calm : (text : List ℕ) (o : Opened) → IsOpened text o → IsCalm o
+pub opened_calm : (text : List ℕ) (o : OpenedModel) → IsOpened text o → IsCalm o
 opened_calm text (Refused n kind) h = tt
 opened_calm text (Judging j) h = h.1.judged.checked.calm
 
-pub behind_calm : (bytes : List ℕ) (o : Opened) → IsBehind bytes o → IsCalm o
+pub behind_calm : (bytes : List ℕ) (o : OpenedModel) → IsBehind bytes o → IsCalm o
 behind_calm bytes (Refused n kind) h = tt
 behind_calm bytes (Judging j) h = h.read.judged.checked.calm
 

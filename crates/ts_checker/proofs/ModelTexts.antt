@@ -16,8 +16,8 @@ use Rattle.ts_model.specs.LineByLine.{HasRead, ReadsLine, SoFar}
 use Rattle.ts_model.specs.ModelReading.{model_reading}
 use Rattle.ts_model.specs.Views.{Reads}
 use Rattle.ts_checker.specs.declared.model_text.ModelText.{ModelText}
-use Rattle.ts_checker.specs.declared.opened.Opened.{Opened}
-use Rattle.ts_checker.specs.declared.opened.Opened.TheVariants.{Refused, Judging}
+use Rattle.ts_checker.specs.declared.opened_model.OpenedModel.{OpenedModel}
+use Rattle.ts_checker.specs.declared.opened_model.OpenedModel.TheVariants.{Refused, Judging}
 use Rattle.ts_checker.specs.Feeding.{AreOfModel, AtLine, EndsModel, HasLines, IsBehind, IsFinished, IsInModel, IsMark, IsOpened, IsPart, IsUnfinished, ReadsLast, ReadsOn}
 use Rattle.ts_checker.specs.Verified.{model_part, rest_part}
 use Rattle.ts_checker.proofs.Pieces.{finished_halves, halves_by, joins, part_ends, part_open, unfinished_halves}
@@ -124,7 +124,7 @@ module _ (bytes : List ℕ) (old : ModelText) (h : AtLine IsMark bytes old) wher
       cut h.text h.line more true h.lines h.is.0 h.is.1
       ∙ ap (λ (x : List ℕ). record { model = x; rest = Some more }) (append-nil h.text)
 
-  pub ended_by : (o : Opened) → ((text : List ℕ) → HasLines text old.reader → IsOpened text o) → IsBehind bytes o
+  pub ended_by : (o : OpenedModel) → ((text : List ℕ) → HasLines text old.reader → IsOpened text o) → IsBehind bytes o
   ended_by (Refused n kind) gives = record {
     text = h.text;
     front = h.text ++ h.line;

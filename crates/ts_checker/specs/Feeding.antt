@@ -17,8 +17,8 @@ use Rattle.ts_checker.specs.declared.input.Input.{Input}
 use Rattle.ts_checker.specs.declared.input.Input.TheVariants.{InModel, Behind}
 use Rattle.ts_checker.specs.declared.judging.Judging.{Judging as AtWork}
 use Rattle.ts_checker.specs.declared.model_text.ModelText.{ModelText}
-use Rattle.ts_checker.specs.declared.opened.Opened.{Opened}
-use Rattle.ts_checker.specs.declared.opened.Opened.TheVariants.{Refused, Judging}
+use Rattle.ts_checker.specs.declared.opened_model.OpenedModel.{OpenedModel}
+use Rattle.ts_checker.specs.declared.opened_model.OpenedModel.TheVariants.{Refused, Judging}
 use Rattle.ts_checker.specs.declared.verify_end.VerifyEnd.{VerifyEnd}
 use Rattle.ts_checker.specs.declared.verify_end.VerifyEnd.TheVariants.{Model, Verdict}
 use Rattle.ts_checker.specs.Checking.{HasChecked}
@@ -84,18 +84,18 @@ last_line [] = []
 last_line (b ∷ bs) = (b ∷ bs) ∷ []
 
 -- what the model of a text gives
-abbrev pub IsOpened : List ℕ → Opened → Type 0
+abbrev pub IsOpened : List ℕ → OpenedModel → Type 0
 IsOpened text (Refused line kind) = model_reading Listed text ≡ Err (line, kind)
 IsOpened text (Judging j) = (model_reading Listed text ≡ Ok j.checker.model) × HasRead [] j
 
 -- bytes of the certificate are taken
-abbrev pub TakesPart : Opened → List ℕ → Opened → Type 0
+abbrev pub TakesPart : OpenedModel → List ℕ → OpenedModel → Type 0
 TakesPart (Refused line kind) part new = new ≡ Refused line kind
 TakesPart (Judging old) part (Judging new) = Reads old part new × (new.checker.model ≡ old.checker.model)
 TakesPart (Judging old) part (Refused line kind) = ⊥
 
 -- the end of the input
-abbrev pub EndsOpened : Opened → VerifyEnd → Type 0
+abbrev pub EndsOpened : OpenedModel → VerifyEnd → Type 0
 EndsOpened (Refused n k) (Model line kind) = (line ≡ n) × (kind ≡ k)
 EndsOpened (Refused n k) (Verdict v) = ⊥
 EndsOpened (Judging j) (Model line kind) = ⊥
@@ -103,12 +103,12 @@ EndsOpened (Judging j) (Verdict v) =
     (bytes : List ℕ) → HasRead bytes j → IsShownBy (strict_lines bytes) j.checker.model v
 
 -- memory wasn't wanting so far
-abbrev pub IsCalm : Opened → Type 0
+abbrev pub IsCalm : OpenedModel → Type 0
 IsCalm (Refused line kind) = Unit {0}
 IsCalm (Judging j) = j.checker.wanting ≡ false
 
 -- the first line that fails
-abbrev pub OpenedFails : Opened → Option ℕ → Type 0
+abbrev pub OpenedFails : OpenedModel → Option ℕ → Type 0
 OpenedFails (Refused line kind) failed = failed ≡ None
 OpenedFails (Judging j) failed =
     (bytes : List ℕ) → HasRead bytes j → FailsFirst j.checker.model (ended_lines bytes) failed
@@ -167,7 +167,7 @@ pub record IsInCertificate (bytes : List ℕ) (j : AtWork) : Type 0 where
   pub read : HasRead rest j
 
 -- the model has ended
-abbrev pub IsBehind : List ℕ → Opened → Type 0
+abbrev pub IsBehind : List ℕ → OpenedModel → Type 0
 IsBehind bytes (Refused line kind) = IsBehindRefusal bytes line kind
 IsBehind bytes (Judging j) = IsInCertificate bytes j
 

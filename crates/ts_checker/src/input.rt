@@ -5,7 +5,7 @@ ghost use Rattle.ts_checker.specs.Feeding.{EndsIn, HasTaken, IsPart, TakesBytes}
 ghost use Rattle.ts_checker.specs.Verified.{IsFailed, IsVerifyEnd};
 
 use crate::model_text::ModelText;
-use crate::opened::Opened;
+use crate::opened_model::OpenedModel;
 use crate::verify_end::VerifyEnd;
 use std::alloc::Global;
 use ts_base::{Memory, first_line};
@@ -16,7 +16,7 @@ pub(crate) enum Input {
     /// Its model hasn't ended.
     InModel(ModelText),
     /// What stands behind the model.
-    Behind(Opened),
+    Behind(OpenedModel),
 }
 
 impl Input {
@@ -81,7 +81,7 @@ impl Input {
         ensures { OnOk result ((bytes : List ℕ) → EndsIn bytes self.old → HasTaken bytes self.new) }
     {
         let opened = match self {
-            Input::InModel(text) => text.opened()?,
+            Input::InModel(text) => text.open()?,
             Input::Behind(_) => return Ok(()),
         };
         *self = Input::Behind(opened);

@@ -30,7 +30,7 @@ mod judging;
 pub mod laws;
 mod lines;
 mod model_text;
-mod opened;
+mod opened_model;
 mod rules;
 mod standing;
 mod subject;

@@ -5,7 +5,7 @@ ghost use Rattle.ts_checker.specs.Feeding.{AtLine, IsAt, IsBehind, IsFinished, I
 ghost use Rattle.ts_checker.specs.Feeding.{ReadsLast, ReadsOn, TakesInModel};
 ghost use Rattle.ts_checker.specs.Verified.{model_part};
 
-use crate::opened::Opened;
+use crate::opened_model::OpenedModel;
 use std::alloc::Global;
 use ts_base::{Memory, without_lf};
 use ts_model::{ModelReader, Need};
@@ -44,22 +44,22 @@ impl ModelText {
     }
 
     /// What the model gives, whose line `%%` has come.
-    pub(crate) fn opened(&mut self) -> Result<Opened, Memory>
+    pub(crate) fn open(&mut self) -> Result<OpenedModel, Memory>
         requires { (bytes : List ℕ) × AtLine IsMark bytes self.old }
         ensures { IfOk result (λ opened. (bytes : List ℕ) → AtLine IsMark bytes self.old → IsBehind bytes opened) }
     {
-        Opened::of(self.alloc, self.reader.take())
+        OpenedModel::of(self.alloc, self.reader.take())
     }
 
     /// The end of the text, behind bytes that may be a last line without an LF.
-    pub(crate) fn end(self) -> Result<Opened, Memory>
+    pub(crate) fn end(self) -> Result<OpenedModel, Memory>
         requires { (bytes : List ℕ) × IsInModel bytes self }
         ensures { IfOk result (λ opened. (bytes : List ℕ) → IsInModel bytes self →
             IsOpened (model_part bytes) opened) }
     {
         let mut text = self;
         text.end_last_line()?;
-        Opened::of(text.alloc, text.reader)
+        OpenedModel::of(text.alloc, text.reader)
     }
 }
 

@@ -5,7 +5,7 @@ ghost use Rattle.ts_bound.specs.TermSpans.{IsUsable};
 ghost use Rattle.ts_filter.specs.OfTerm.{OfTerm};
 ghost use Rattle.ts_filter.specs.RefutedWorseDrop.{IsRequirement};
 ghost use Rattle.ts_filter.specs.Rules.{claimed_value};
-ghost use Rattle.ts_model.specs.declared.model.Require.{Require as Asked};
+ghost use Rattle.ts_model.specs.declared.model.Require.{Require as Requirement};
 
 use ts_base::Ext;
 use ts_certificate::{Aim, Claim};
@@ -24,7 +24,7 @@ pub(crate) struct Head<'a> {
 
 /// Requirement `j` of these, counted from 1.
 pub(crate) fn requirement(requirements: &[Require], j: u32) -> Option<Require>
-    ensures { MatchOption result ((r : Asked) → IsRequirement requirements.now j r → ⊥)
+    ensures { MatchOption result ((r : Requirement) → IsRequirement requirements.now j r → ⊥)
         (λ r. IsRequirement requirements.now j r) }
 {
     if j == 0 {

@@ -136,6 +136,7 @@ fn expect_ends(rt: &impl Abort, domain: &Domain, wanted: &[(i64, i64)]) {
     let ends = domain.ends();
     assert_eq!(rt; wanted.first().map(|range| range.0), Some(ends.low));
     assert_eq!(rt; wanted.last().map(|range| range.1), Some(ends.high));
+    assert_eq!(rt; domain.least(), ends.low);
 }
 
 /// Changes cell `k`, where the value `stays`.

@@ -14,7 +14,7 @@ use Rattle.ts_filter.specs.Boxes.{Box}
 use Rattle.ts_filter.specs.CellHulls.{ahead_row, IsBackRow}
 use Rattle.ts_filter.specs.declared.rows.Way.{Way}
 use Rattle.ts_filter.specs.declared.rows.Way.TheVariants.{FromFirst, FromLast}
-use Rattle.ts_filter.specs.Known.{in_order, AreFirst, AreBehind}
+use Rattle.ts_filter.specs.KnownRows.{in_order, AreFirst, AreBehind}
 use Rattle.ts_filter.specs.RowStacks.{Rows}
 
 -- lists from their ends

@@ -9,7 +9,7 @@ use Rattle.ts_bound.specs.NextRow.{next_row}
 use Rattle.ts_bound.specs.TermSpans.{Automata}
 use Rattle.ts_bound.proofs.TableLaws.{row_on}
 use Rattle.ts_filter.specs.Boxes.{Box}
-use Rattle.ts_filter.specs.Known.{AreFirst, AreRows, AreBehind, GoOnBehind, Known, StayKnown}
+use Rattle.ts_filter.specs.KnownRows.{AreFirst, AreRows, AreBehind, GoOnBehind, KnownRows, StayKnown}
 use Rattle.ts_filter.specs.RowStacks.{Rows, Laid, Stack, IsFollowed, GoOn, Stands, IsOneMore, IsCut, with_row}
 use Rattle.ts_glue.specs.Pairs.{Pair}
 use Rattle.ts_filter.proofs.KnownRows.{few_known, known_at, one_more, reverse_take, stay_first, behind_stay, turned_front}
@@ -209,7 +209,7 @@ turned_rest n before b later e f same =
     ∙ ap (λ m. drop (m - before) (reverse b)) e
 
 -- the tables of a machine with these rows
-abbrev pub tables : Automata → Stack → Stack → Known
+abbrev pub tables : Automata → Stack → Stack → KnownRows
 tables a x y = record { machine = a; ahead = x.known; behind = y.known; laid_ahead = x.laid; laid_behind = y.laid }
 
 pub tables_stay : (a : Automata) (first last n : ℕ) (x y x' y' : Stack) → IsCut (first - 1) last x x' → IsCut (n - last) (n - (first - 1)) y y' →
@@ -224,7 +224,7 @@ tables_stay a first last n x y x' y' f g b later d h =
           (turned_rest n (first - 1) b later d.count d.count_later d.before);
     }
 
-pub stay_known : (a : Automata) (first last n before rest : ℕ) (x y x' y' : Stack) (old new : Known) → before ≡ first - 1 → rest ≡ n - before →
+pub stay_known : (a : Automata) (first last n before rest : ℕ) (x y x' y' : Stack) (old new : KnownRows) → before ≡ first - 1 → rest ≡ n - before →
     IsCut before last x x' → IsCut (n - last) rest y y' → tables a x y ≡ old → tables a x' y' ≡ new → StayKnown first last n old new
 stay_known a first last n before rest x y x' y' old new e is f g was now =
     let f' = subst (λ m. IsCut m last x x') e f in let g' = subst (λ m. IsCut (n - last) m y y') (is ∙ ap (λ m. n - m) e) g in

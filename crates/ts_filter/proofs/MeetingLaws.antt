@@ -2,7 +2,7 @@
 use Rattle.std.proofs.Common.{◌≡◌, ℕ, ◌+◌, ◌-◌, ◌≤◌, ◌++◌, length, take, drop, sym, ap, ◌∙◌, subst, arith}
 use Rattle.std.proofs.lemmas.List.{take-append-drop, drop-drop}
 use Rattle.ts_filter.specs.Boxes.{Box}
-use Rattle.ts_filter.specs.Known.{Known, AreKnown, DifferFrom, StayKnown}
+use Rattle.ts_filter.specs.KnownRows.{KnownRows, AreKnown, DifferFrom, StayKnown}
 
 -- lists from their ends
 
@@ -28,6 +28,6 @@ all_taken first last old seen cells at t end rest =
 
 -- tables of what is seen
 
-pub known_taken : (first last n : ℕ) (old seen : Box) (before after : Known) → StayKnown (first + 1) last n before after → length old ≡ n →
+pub known_taken : (first last n : ℕ) (old seen : Box) (before after : KnownRows) → StayKnown (first + 1) last n before after → length old ≡ n →
     DifferFrom (first + 1) last (length old) old seen → AreKnown old before → AreKnown seen after
 known_taken first last n old seen before after stay e d h = stay old seen (subst (λ m. DifferFrom (first + 1) last m old seen) e d) h

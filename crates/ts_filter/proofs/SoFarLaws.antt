@@ -11,11 +11,11 @@ use Rattle.ts_base.proofs.Order.{le_antisym, le_refl}
 use Rattle.ts_base.proofs.SpanLaws.{holds_some, hull_left, hull_right, hull_least, none_empty}
 use Rattle.ts_bound.specs.TermSpans.{Automata, span_of_all, spans_at, term_span, value_span}
 use Rattle.ts_bound.proofs.HullLaws.{IsCanonical, hull_canonical}
-use Rattle.ts_filter.specs.declared.asked.Asked.{Asked}
-use Rattle.ts_filter.specs.declared.asked.Asked.TheVariants.{Compares, MeetsEach, Counts, Nothing}
+use Rattle.ts_filter.specs.declared.question.Question.{Question}
+use Rattle.ts_filter.specs.declared.question.Question.TheVariants.{Compares, MeetsEach, Counts, Nothing}
 use Rattle.ts_filter.specs.declared.so_far.SoFar.{SoFar}
 use Rattle.ts_filter.specs.declared.term_requirements.TermRequirements.{TermRequirements}
-use Rattle.ts_filter.specs.Asked.{Excludes}
+use Rattle.ts_filter.specs.Question.{Excludes}
 use Rattle.ts_filter.specs.Boxes.{Box, values_at}
 use Rattle.ts_filter.specs.SoFar.{IsSoFar, WithParts}
 use Rattle.ts_filter.specs.TermDrops.{IsFirstRefuting, RefutesSome}
@@ -25,7 +25,7 @@ use Rattle.ts_filter.proofs.SoundLaws.{clash}
 
 -- what a span excludes, each part of it does
 
-pub part_excludes : (asked : Asked) (s t : Span) → IsWithin s t → Excludes asked t → Excludes asked s
+pub part_excludes : (asked : Question) (s t : Span) → IsWithin s t → Excludes asked t → Excludes asked s
 part_excludes (Compares op bound) s t within none = λ v held. none v (within v held)
 part_excludes (MeetsEach own) s t within none =
     let h = none.1 in (none.0, record { require = h.require; is = h.is; of_term = h.of_term; refutes = λ v held. h.refutes v (within v held) })
@@ -33,7 +33,7 @@ part_excludes (Counts goal bar) s t within none = λ v held. none v (within v he
 part_excludes Nothing s t within none = tt
 
 -- a span without numbers has nothing that is asked
-pub none_excludes : (asked : Asked) → Excludes asked none_span
+pub none_excludes : (asked : Question) → Excludes asked none_span
 none_excludes (Compares op bound) = λ v held. absurd (none_empty v held)
 none_excludes (MeetsEach own) = (own.first + 1, first_of_none own.all.now own.term none_span own.first own.is_first none_empty)
 none_excludes (Counts goal bar) = λ v held. absurd (none_empty v held)
@@ -142,7 +142,7 @@ one_told s part both told is h = (
 alone_within : (s : SoFar) (part : Span) → s.span ≡ none_span → IsWithin (span_hull s.span part) part
 alone_within s part e = hull_least s.span part part (λ v held. absurd (none_empty v (subst (λ t. Holds t v) e held))) (λ v held. held)
 
-pub alone_told : (s : SoFar) (asked : Asked) (part : Span) (o : Option SoFar) (told : Bool) → s.asked ≡ asked → s.span ≡ none_span → told ≡ is_some o →
+pub alone_told : (s : SoFar) (asked : Question) (part : Span) (o : Option SoFar) (told : Bool) → s.asked ≡ asked → s.span ≡ none_span → told ≡ is_some o →
     WithParts s (part ∷ []) o → (told ≡ true) ↔ Excludes asked part
 alone_told s asked part None told a e is stop = (
   λ so. absurd (let f : ◌≡◌ false true = sym is ∙ so in cc),
@@ -158,7 +158,8 @@ pub alone_is : (s t : SoFar) (part : Span) → s.span ≡ none_span → IsCanoni
 alone_is s t part e can h = h.1 ∙ ap (λ z. span_hull z part) e ∙ can
 
 -- where it stops, none of the requirements is refuted that would be excluded
-pub none_refuted : (own : TermRequirements) (asked : Asked) → ((t : Span) → Excludes asked t ↔ RefutesSome own.all.now own.term t) → (s : SoFar) (part : Span) →
+pub none_refuted : (own : TermRequirements) (asked : Question) → ((t : Span) → Excludes asked t ↔ RefutesSome own.all.now own.term t) →
+    (s : SoFar) (part : Span) →
     s.asked ≡ asked → s.span ≡ none_span → WithParts s (part ∷ []) None → IsFirstRefuting own.all.now own.term part None
 none_refuted own asked tells s part a e stop j h = stop
     (subst (λ z. Excludes z (span_hull s.span part)) (sym a)
@@ -171,7 +172,8 @@ value_canonical m k b v = fold_canonical (spans_at m.forward m.pair k b v) none_
 
 -- the parts are the spans of the values of a cell
 
-module _ (known : SoFar) (asked : Asked) (m : Automata) (k : ℕ) (b : Box) (values : List ℤ) (i : ℕ) (same : known.asked ≡ asked) (all : values ≡ values_at k b)
+module _ (known : SoFar) (asked : Question) (m : Automata) (k : ℕ) (b : Box) (values : List ℤ) (i : ℕ)
+    (same : known.asked ≡ asked) (all : values ≡ values_at k b)
     (so_far : known.span ≡ span_of_all (map (value_span m k b) (take i values))) where
   pub value_more : (more : SoFar) (v w : ℤ) → i < length values → slice_get values i ≡ Some v → w ≡ v →
       WithParts known (value_span m k b w ∷ []) (Some more) →

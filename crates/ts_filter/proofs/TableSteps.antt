@@ -4,10 +4,10 @@ use Rattle.std.specs.Prelude.{MatchOption}
 use Rattle.ts_automaton.specs.declared.regs.Hull.{Hull}
 use Rattle.ts_filter.specs.Boxes.{Box, HasCell}
 use Rattle.ts_filter.specs.CellHulls.{AreHulls, IsBackRow}
-use Rattle.ts_filter.specs.Known.{Known, AreKnown, HasRows}
+use Rattle.ts_filter.specs.KnownRows.{KnownRows, AreKnown, HasRows}
 use Rattle.ts_filter.proofs.KnownRows.{ahead_there, behind_there}
 
-pub back_row_of : (b : Box) (t : Known) (k : ℕ) (row d : List Hull) → HasCell k b → (t.machine.pair ≡ None → k ≡ length b) → AreKnown b t → HasRows k b t →
+pub back_row_of : (b : Box) (t : KnownRows) (k : ℕ) (row d : List Hull) → HasCell k b → (t.machine.pair ≡ None → k ≡ length b) → AreKnown b t → HasRows k b t →
     (k ≡ length b → ⊥) → row ≡ get_or t.behind (length b - k) d → IsBackRow t.machine.pair k b row
 back_row_of b t k row d c usable known rows below is =
     let to = c.1 in
@@ -16,7 +16,7 @@ back_row_of b t k row d c usable known rows below is =
     lower : (m n : ℕ) → m ≤ n → (m ≡ n → ⊥) → m < n
     lower m n l ne = grind (arith, l, ne)
 
-pub hulls_are : (b : Box) (t : Known) (k : ℕ) (row d : List Hull) (back : Option (List Hull)) → HasCell k b → (t.machine.pair ≡ None → k ≡ length b) →
+pub hulls_are : (b : Box) (t : KnownRows) (k : ℕ) (row d : List Hull) (back : Option (List Hull)) → HasCell k b → (t.machine.pair ≡ None → k ≡ length b) →
     AreKnown b t → HasRows k b t → row ≡ get_or t.ahead (k - 1) d → MatchOption back (k ≡ length b) (IsBackRow t.machine.pair k b) →
     AreHulls t.machine b k row back
 hulls_are b t k row d back c usable known rows is behind = record {

@@ -3,7 +3,7 @@ use Rattle.std.specs.Prelude.{◌≡◌, List, fold, Option, None, Some}
 use Rattle.ts_base.specs.declared.span.Span.{Span}
 use Rattle.ts_base.specs.Spans.{none_span, span_hull}
 use Rattle.ts_filter.specs.declared.so_far.SoFar.{SoFar}
-use Rattle.ts_filter.specs.Asked.{Excludes}
+use Rattle.ts_filter.specs.Question.{Excludes}
 
 -- the hull has its one form where it is none, and doesn't have what is asked
 pub record IsSoFar (s : SoFar) : Type 0 where

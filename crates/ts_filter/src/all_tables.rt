@@ -14,11 +14,11 @@ ghost use Rattle.ts_filter.specs.OfTerm.{OfTerm};
 ghost use Rattle.ts_filter.specs.TermDrops.{IsTermDrop};
 ghost use Rattle.ts_filter.specs.declared.bar.Bar.TheVariants.{Better};
 
-use crate::asked::Asked;
 use crate::bar::Bar;
 use crate::drops::{Removal, earlier};
-use crate::held::Held;
+use crate::held_machine::HeldMachine;
 use crate::live_tables::LiveTables;
+use crate::question::Question;
 use crate::room::has_room;
 use std::alloc::Global;
 use std::marker::Model;
@@ -60,7 +60,7 @@ impl<'a> AllTables<'a> {
     {
         let mut each = Vec::new(alloc);
         for machine in machines {
-            each.push(LiveTables::new(alloc, Held::Lent(machine)))?;
+            each.push(LiveTables::new(alloc, HeldMachine::Lent(machine)))?;
         }
         let keeps = has_room(machines, cells);
         Ok(AllTables { each, keeps })
@@ -77,7 +77,7 @@ impl<'a> AllTables<'a> {
         let keeps = has_room(&machines, cells);
         let mut each = Vec::new(alloc);
         for machine in machines {
-            each.push(LiveTables::new(alloc, Held::Own(machine)))?;
+            each.push(LiveTables::new(alloc, HeldMachine::Own(machine)))?;
         }
         Ok(AllTables { each, keeps })
     }
@@ -106,7 +106,7 @@ impl<'a> AllTables<'a> {
         ensures told { IfOk result (λ told. OfTerm self.old r.now.term (λ a. IsTrue told
             ↔ Refutes r.now.op r.now.bound (term_span a p cells.now.present))) }
     {
-        let asked = Asked::Compares(r.op, r.bound);
+        let asked = Question::Compares(r.op, r.bound);
         let told = self.each[r.term as usize].excluded_at(alloc, asked, p, cells);
         self.after_question(r.term);
         told
@@ -130,7 +130,7 @@ impl<'a> AllTables<'a> {
         ensures told { IfOk result (λ told. OfTerm self.old term (λ a. IsTrue told
             ↔ Cuts goal (Better bar) (term_span a p cells.now.present))) }
     {
-        let asked = Asked::Counts(goal, Bar::Better(bar));
+        let asked = Question::Counts(goal, Bar::Better(bar));
         let told = self.each[term as usize].excluded_at(alloc, asked, p, cells);
         self.after_question(term);
         told
@@ -154,7 +154,7 @@ impl<'a> AllTables<'a> {
         ensures told { IfOk result (λ told. OfTerm self.old r.now.term (λ a. IsTrue told
             ↔ Refutes r.now.op r.now.bound (term_span a k (only k v cells.now.present)))) }
     {
-        let asked = Asked::Compares(r.op, r.bound);
+        let asked = Question::Compares(r.op, r.bound);
         let told = self.each[r.term as usize].value_excluded_at(alloc, asked, k, v, cells);
         self.after_question(r.term);
         told
@@ -172,7 +172,7 @@ impl<'a> AllTables<'a> {
         ensures found { IfOk result (λ found. OfTerm self.old r.now.term
             (λ a. IsFirstCell a (Refutes r.now.op r.now.bound) cells.now.present found)) }
     {
-        let asked = Asked::Compares(r.op, r.bound);
+        let asked = Question::Compares(r.op, r.bound);
         let found = self.each[r.term as usize].first_excluded(alloc, asked, cells);
         self.after_question(r.term);
         found
@@ -194,7 +194,7 @@ impl<'a> AllTables<'a> {
             ↔ Cuts goal bar (term_span a (length cells.now.present) cells.now.present))) }
     {
         let n = cells.cells();
-        let asked = Asked::Counts(goal, bar);
+        let asked = Question::Counts(goal, bar);
         let told = self.each[term as usize].excluded_at(alloc, asked, n, cells);
         self.after_question(term);
         told
@@ -215,7 +215,7 @@ impl<'a> AllTables<'a> {
         ensures found { IfOk result
             (λ found. OfTerm self.old term (λ a. IsFirstCell a (Cuts goal bar) cells.now.present found)) }
     {
-        let asked = Asked::Counts(goal, bar);
+        let asked = Question::Counts(goal, bar);
         let found = self.each[term as usize].first_excluded(alloc, asked, cells);
         self.after_question(term);
         found

@@ -3,17 +3,17 @@
 ghost use Rattle.std.specs.Prelude.{◌≡◌, ◌↔◌, ◌≤◌, Contains, IfOk, IsTrue, None, length};
 ghost use Rattle.ts_bound.specs.TermSpans.{automata_of, term_span};
 ghost use Rattle.ts_domain.specs.BoxSeries.{IsCell, cell_of};
-ghost use Rattle.ts_filter.specs.Asked.{Excludes};
+ghost use Rattle.ts_filter.specs.Question.{Excludes};
 ghost use Rattle.ts_filter.specs.Boxes.{only};
 ghost use Rattle.ts_filter.specs.Excluded.{Cuts, Refutes};
-ghost use Rattle.ts_filter.specs.Known.{AreKnown, StillKnown};
+ghost use Rattle.ts_filter.specs.KnownRows.{AreKnown, StillKnown};
 ghost use Rattle.ts_filter.specs.declared.bar.Bar.TheVariants.{Better};
 ghost use Rattle.ts_glue.specs.Machines.{pair_of};
 
-use crate::asked::Asked;
 use crate::bar::Bar;
 use crate::box_tables::BoxTables;
-use crate::held::Held;
+use crate::held_machine::HeldMachine;
+use crate::question::Question;
 use std::alloc::Global;
 use ts_base::{Ext, Goal, Memory};
 use ts_domain::Boxed;
@@ -26,7 +26,7 @@ impl<'a> BoxTables<'a> {
     pub(crate) fn excluded_at(
         &mut self,
         alloc: Global,
-        asked: Asked<'_>,
+        asked: Question<'_>,
         p: u32,
         cells: &Boxed,
     ) -> Result<bool, Memory>
@@ -45,7 +45,7 @@ impl<'a> BoxTables<'a> {
     pub(crate) fn value_excluded_at(
         &mut self,
         alloc: Global,
-        asked: Asked<'_>,
+        asked: Question<'_>,
         k: u32,
         v: i64,
         cells: &Boxed,
@@ -77,8 +77,8 @@ pub fn refuted(
     ensures { IfOk result (λ told. IsTrue told
         ↔ Refutes r.now.op r.now.bound (term_span (automata_of m.now) p cells.now.present)) }
 {
-    let asked = Asked::Compares(r.op, r.bound);
-    BoxTables::new(alloc, Held::Lent(m)).excluded_at(alloc, asked, p, cells)
+    let asked = Question::Compares(r.op, r.bound);
+    BoxTables::new(alloc, HeldMachine::Lent(m)).excluded_at(alloc, asked, p, cells)
 }
 
 /// Whether the objective isn't better at cell `p`: no number of its span there is better than `bar`. `m` is taken as
@@ -96,8 +96,8 @@ pub fn worse(
     ensures { IfOk result (λ told. IsTrue told
         ↔ Cuts goal (Better bar) (term_span (automata_of m.now) p cells.now.present)) }
 {
-    let asked = Asked::Counts(goal, Bar::Better(bar));
-    BoxTables::new(alloc, Held::Lent(m)).excluded_at(alloc, asked, p, cells)
+    let asked = Question::Counts(goal, Bar::Better(bar));
+    BoxTables::new(alloc, HeldMachine::Lent(m)).excluded_at(alloc, asked, p, cells)
 }
 
 /// Whether no number of the objective's span at the last cell counts for the bar.
@@ -113,8 +113,8 @@ pub fn cut_at_end(
         ↔ Cuts goal bar (term_span (automata_of m.now) (length cells.now.present) cells.now.present)) }
 {
     let n = cells.cells();
-    let asked = Asked::Counts(goal, bar);
-    BoxTables::new(alloc, Held::Lent(m)).excluded_at(alloc, asked, n, cells)
+    let asked = Question::Counts(goal, bar);
+    BoxTables::new(alloc, HeldMachine::Lent(m)).excluded_at(alloc, asked, n, cells)
 }
 
 /// Whether the requirement is refuted at cell `k` on the box with the value `v` alone there: the condition of a drop
@@ -133,6 +133,6 @@ pub fn refuted_value(
     ensures { IfOk result (λ told. IsTrue told
         ↔ Refutes r.now.op r.now.bound (term_span (automata_of m.now) k (only k v cells.now.present))) }
 {
-    let asked = Asked::Compares(r.op, r.bound);
-    BoxTables::new(alloc, Held::Lent(m)).value_excluded_at(alloc, asked, k, v, cells)
+    let asked = Question::Compares(r.op, r.bound);
+    BoxTables::new(alloc, HeldMachine::Lent(m)).value_excluded_at(alloc, asked, k, v, cells)
 }

@@ -5,12 +5,12 @@ ghost use Rattle.std.specs.Prelude.{◌≡◌, ◌↔◌, ◌<◌, ◌≤◌, �
 ghost use Rattle.ts_bound.specs.TermSpans.{automata_of};
 ghost use Rattle.ts_filter.specs.Boxes.{Box, HasCell};
 ghost use Rattle.ts_filter.specs.CellHulls.{IsBackRow, at_cell};
-ghost use Rattle.ts_filter.specs.Held.{machine_in};
-ghost use Rattle.ts_filter.specs.Known.{AreKnown, HasRows, StayKnown, StillKnown};
+ghost use Rattle.ts_filter.specs.HeldMachine.{machine_in};
+ghost use Rattle.ts_filter.specs.KnownRows.{AreKnown, HasRows, StayKnown, StillKnown};
 ghost use Rattle.ts_filter.specs.RowStacks.{nothing_laid};
 
 use crate::cell_hulls::CellHulls;
-use crate::held::Held;
+use crate::held_machine::HeldMachine;
 use crate::row_stack::RowStack;
 use crate::rows::{Way, make_rows};
 use std::alloc::Global;
@@ -26,7 +26,7 @@ use ts_domain::Boxed;
 /// are known, forward ones from the first cell on, backward ones from the last cell back; and those that are kept.
 #[derive(Drop)]
 pub(crate) struct BoxTables<'a> {
-    machine: Held<'a>,
+    machine: HeldMachine<'a>,
     ahead: RowStack,
     behind: RowStack,
 }
@@ -35,10 +35,10 @@ impl<'a> Model for BoxTables<'a> {
     ghost use Rattle.std.specs.Coded.{codes};
     ghost use Rattle.ts_automaton.specs.Codes.{formula_code};
     ghost use Rattle.ts_bound.specs.TermSpans.{automata_of};
-    ghost use Rattle.ts_filter.specs.Held.{machine_in};
-    ghost use Rattle.ts_filter.specs.Known.{Known};
+    ghost use Rattle.ts_filter.specs.HeldMachine.{machine_in};
+    ghost use Rattle.ts_filter.specs.KnownRows.{KnownRows};
 
-    ghost Value = { Known };
+    ghost Value = { KnownRows };
 
     ghost coded = { Prim.hlevel (codes, formula_code) };
 
@@ -53,7 +53,7 @@ impl<'a> Model for BoxTables<'a> {
 
 impl<'a> BoxTables<'a> {
     /// Nothing is known of any box yet.
-    pub(crate) fn new(alloc: Global, machine: Held<'a>) -> BoxTables<'a>
+    pub(crate) fn new(alloc: Global, machine: HeldMachine<'a>) -> BoxTables<'a>
         ensures value { result ≡ record {
           machine = automata_of (machine_in machine.entry);
           ahead = [];

@@ -6,15 +6,15 @@ ghost use Rattle.ts_automaton.specs.Typing.{is_automaton};
 ghost use Rattle.ts_bound.specs.Blocks.{OfReverse, back_states, last_at, split_at};
 ghost use Rattle.ts_bound.specs.TermSpans.{IsUsable, automata_of, term_span, value_span};
 ghost use Rattle.ts_domain.specs.BoxSeries.{IsCell};
-ghost use Rattle.ts_filter.specs.Asked.{Excludes};
+ghost use Rattle.ts_filter.specs.Question.{Excludes};
 ghost use Rattle.ts_filter.specs.Boxes.{values_at};
 ghost use Rattle.ts_filter.specs.CellHulls.{IsBackRow, ahead_row, at_cell};
 ghost use Rattle.ts_filter.specs.SoFar.{IsSoFar, WithParts};
 ghost use Rattle.ts_filter.specs.TermDrops.{IsFirstRefuting};
 ghost use Rattle.ts_glue.specs.Machines.{forward_of, pair_of};
 
-use crate::asked::Asked;
 use crate::blocks::{finish_block, glue_block};
+use crate::question::Question;
 use crate::so_far::SoFar;
 use crate::term_requirements::TermRequirements;
 use std::marker::Model;
@@ -70,7 +70,7 @@ impl<'a> CellHulls<'a> {
 
     /// Whether the span there doesn't have what is asked. That span is the hull of those of the values, and the first
     /// part of it that has this tells: in most cells that is the first of all.
-    pub(crate) fn excludes(&self, asked: Asked<'_>) -> bool
+    pub(crate) fn excludes(&self, asked: Question<'_>) -> bool
         ensures { IsTrue result ↔ Excludes asked.entry (term_span self.now.machine self.now.cell self.now.cells) }
     {
         let values = self.values();
@@ -86,7 +86,7 @@ impl<'a> CellHulls<'a> {
     }
 
     /// The same of the span on the box with the value `v` alone there.
-    pub(crate) fn value_excludes(&self, asked: Asked<'_>, v: i64) -> bool
+    pub(crate) fn value_excludes(&self, asked: Question<'_>, v: i64) -> bool
         requires { Contains (values_at self.now.cell self.now.cells) v }
         ensures { IsTrue result ↔ Excludes asked.entry (value_span self.now.machine self.now.cell self.now.cells v) }
     {
@@ -94,7 +94,7 @@ impl<'a> CellHulls<'a> {
     }
 
     /// The same of the value that stands at place `i`, counted from 0.
-    fn excludes_at(&self, asked: Asked<'_>, i: u64, v: i64) -> bool
+    fn excludes_at(&self, asked: Question<'_>, i: u64, v: i64) -> bool
         requires { slice_get (values_at self.now.cell self.now.cells) i ≡ Some v }
         ensures { IsTrue result ↔ Excludes asked.entry (value_span self.now.machine self.now.cell self.now.cells v) }
     {
@@ -113,7 +113,7 @@ impl<'a> CellHulls<'a> {
         ensures { IsFirstRefuting requirements.entry.all.now requirements.entry.term
             (value_span self.now.machine self.now.cell self.now.cells v) result }
     {
-        let asked = Asked::each_met(requirements);
+        let asked = Question::each_met(requirements);
         let known = self.with_value(SoFar::none(asked), i, v)?;
         requirements.first_refuted(known.span)
     }
@@ -123,7 +123,7 @@ impl<'a> CellHulls<'a> {
         requires { slice_get (values_at self.now.cell self.now.cells) i ≡ Some v }
         ensures { result ≡ value_span self.now.machine self.now.cell self.now.cells v }
     {
-        match self.with_value(SoFar::none(Asked::Nothing), i, v) {
+        match self.with_value(SoFar::none(Question::Nothing), i, v) {
             Some(known) => known.span,
             None => unreachable!(),
         }

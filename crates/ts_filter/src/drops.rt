@@ -5,13 +5,13 @@ ghost use Rattle.std.specs.List.{AllByRecursion};
 ghost use Rattle.ts_bound.specs.TermSpans.{automata_of, IsUsable};
 ghost use Rattle.ts_filter.specs.Drops.{IsFirstDrop, IsFirstOf};
 ghost use Rattle.ts_filter.specs.Boxes.{HasCell};
-ghost use Rattle.ts_filter.specs.Known.{AreKnown, StillKnown};
+ghost use Rattle.ts_filter.specs.KnownRows.{AreKnown, StillKnown};
 ghost use Rattle.ts_filter.specs.MachineSpans.{spans_of};
 ghost use Rattle.ts_filter.specs.TermDrops.{IsDropAt, IsTermDrop, comes_before, earlier_of};
 
 use crate::box_tables::BoxTables;
 use crate::cell_hulls::CellHulls;
-use crate::held::Held;
+use crate::held_machine::HeldMachine;
 use crate::term_requirements::TermRequirements;
 use std::alloc::Global;
 use ts_base::Memory;
@@ -45,7 +45,7 @@ pub fn next_drop(
 {
     let mut first = None;
     for term in 0..machines.len() {
-        let mut tables = BoxTables::new(alloc, Held::Lent(&machines[term]));
+        let mut tables = BoxTables::new(alloc, HeldMachine::Lent(&machines[term]));
         let found = tables.first_drop(alloc, term as u32, requirements, cells)?;
         first = earlier(first, found);
     }

@@ -2,15 +2,15 @@
 
 ghost use Rattle.std.specs.Prelude.{IfOk};
 ghost use Rattle.ts_bound.specs.TermSpans.{automata_of};
-ghost use Rattle.ts_filter.specs.Asked.{Excludes};
+ghost use Rattle.ts_filter.specs.Question.{Excludes};
 ghost use Rattle.ts_filter.specs.Excluded.{Cuts, Refutes};
 ghost use Rattle.ts_filter.specs.FirstCell.{IsFirstCell};
-ghost use Rattle.ts_filter.specs.Known.{AreKnown, StillKnown};
+ghost use Rattle.ts_filter.specs.KnownRows.{AreKnown, StillKnown};
 
-use crate::asked::Asked;
 use crate::bar::Bar;
 use crate::box_tables::BoxTables;
-use crate::held::Held;
+use crate::held_machine::HeldMachine;
+use crate::question::Question;
 use std::alloc::Global;
 use ts_base::{Goal, Memory};
 use ts_domain::Boxed;
@@ -23,7 +23,7 @@ impl<'a> BoxTables<'a> {
     pub(crate) fn first_excluded(
         &mut self,
         alloc: Global,
-        asked: Asked<'_>,
+        asked: Question<'_>,
         cells: &Boxed,
     ) -> Result<Option<u32>, Memory>
         requires { AreKnown cells.now.present self.old }
@@ -55,7 +55,11 @@ pub fn first_cut(
 ) -> Result<Option<u32>, Memory>
     ensures { IfOk result (λ found. IsFirstCell (automata_of m.now) (Cuts goal bar) cells.now.present found) }
 {
-    BoxTables::new(alloc, Held::Lent(m)).first_excluded(alloc, Asked::Counts(goal, bar), cells)
+    BoxTables::new(alloc, HeldMachine::Lent(m)).first_excluded(
+        alloc,
+        Question::Counts(goal, bar),
+        cells,
+    )
 }
 
 /// The least cell below the last at which the requirement is refuted. None exactly where there is no such cell, as for
@@ -69,6 +73,6 @@ pub fn first_refuted(
     ensures { IfOk result
         (λ found. IsFirstCell (automata_of m.now) (Refutes r.now.op r.now.bound) cells.now.present found) }
 {
-    let asked = Asked::Compares(r.op, r.bound);
-    BoxTables::new(alloc, Held::Lent(m)).first_excluded(alloc, asked, cells)
+    let asked = Question::Compares(r.op, r.bound);
+    BoxTables::new(alloc, HeldMachine::Lent(m)).first_excluded(alloc, asked, cells)
 }

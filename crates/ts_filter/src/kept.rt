@@ -5,12 +5,12 @@ ghost use Rattle.ts_bound.specs.TermSpans.{automata_of};
 ghost use Rattle.ts_domain.specs.BoxSeries.{IsCell};
 ghost use Rattle.ts_filter.specs.Boxes.{values_at};
 ghost use Rattle.ts_filter.specs.KeptValue.{IsKept, IsPreferred, end_in};
-ghost use Rattle.ts_filter.specs.Known.{AreKnown, StillKnown};
+ghost use Rattle.ts_filter.specs.KnownRows.{AreKnown, StillKnown};
 
 use crate::box_tables::BoxTables;
 use crate::cell_hulls::CellHulls;
 use crate::excluded::{best_end, is_better};
-use crate::held::Held;
+use crate::held_machine::HeldMachine;
 use std::alloc::Global;
 use ts_base::{Goal, Memory};
 use ts_domain::Boxed;
@@ -53,7 +53,7 @@ pub fn kept_value(
     requires { IsCell k cells.now }
     ensures { IfOk result (λ v. IsKept (automata_of m.now) goal k cells.now.present v) }
 {
-    BoxTables::new(alloc, Held::Lent(m)).kept_value(alloc, goal, k, cells)
+    BoxTables::new(alloc, HeldMachine::Lent(m)).kept_value(alloc, goal, k, cells)
 }
 
 /// The value of the cell whose span has the best end, the least of several.

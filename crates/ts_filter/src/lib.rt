@@ -25,7 +25,6 @@
 #![tactic(auto)]
 
 mod all_tables;
-mod asked;
 mod at_cell;
 mod bar;
 mod blocks;
@@ -34,11 +33,12 @@ mod cell_hulls;
 mod drops;
 mod excluded;
 mod first_cell;
-mod held;
+mod held_machine;
 mod kept;
 pub mod laws;
 mod live_tables;
 mod meeting;
+mod question;
 mod room;
 mod row_stack;
 mod rows;

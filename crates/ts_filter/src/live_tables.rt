@@ -3,19 +3,19 @@
 ghost use Rattle.std.specs.Prelude.{◌≡◌, ◌↔◌, ◌<◌, Contains, IfOk, IsTrue, None, length};
 ghost use Rattle.ts_bound.specs.TermSpans.{automata_of, term_span};
 ghost use Rattle.ts_domain.specs.BoxSeries.{IsCell, cell_of};
-ghost use Rattle.ts_filter.specs.Asked.{Excludes};
+ghost use Rattle.ts_filter.specs.Question.{Excludes};
 ghost use Rattle.ts_filter.specs.Boxes.{only};
 ghost use Rattle.ts_filter.specs.Drops.{IsFirstOf};
 ghost use Rattle.ts_filter.specs.FirstCell.{IsFirstCell};
-ghost use Rattle.ts_filter.specs.Held.{machine_in};
+ghost use Rattle.ts_filter.specs.HeldMachine.{machine_in};
 ghost use Rattle.ts_filter.specs.KeptValue.{IsKept};
 ghost use Rattle.ts_filter.specs.TermDrops.{IsTermDrop};
 
-use crate::asked::Asked;
 use crate::box_tables::BoxTables;
 use crate::drops::Removal;
-use crate::held::Held;
+use crate::held_machine::HeldMachine;
 use crate::meeting::meet;
+use crate::question::Question;
 use std::alloc::Global;
 use std::marker::Model;
 use ts_base::{Goal, Memory};
@@ -34,7 +34,7 @@ impl<'a> Model for LiveTables<'a> {
     ghost use Rattle.std.specs.Coded.{codes};
     ghost use Rattle.ts_automaton.specs.Codes.{formula_code};
     ghost use Rattle.ts_bound.specs.TermSpans.{Automata};
-    ghost use Rattle.ts_filter.specs.Known.{AreKnown};
+    ghost use Rattle.ts_filter.specs.KnownRows.{AreKnown};
 
     ghost Value = { Automata };
 
@@ -47,7 +47,7 @@ impl<'a> Model for LiveTables<'a> {
 
 impl<'a> LiveTables<'a> {
     /// Nothing is known of any box yet.
-    pub(crate) fn new(alloc: Global, machine: Held<'a>) -> LiveTables<'a>
+    pub(crate) fn new(alloc: Global, machine: HeldMachine<'a>) -> LiveTables<'a>
         ensures { result ≡ automata_of (machine_in machine.entry) }
     {
         LiveTables {
@@ -75,7 +75,7 @@ impl<'a> LiveTables<'a> {
     pub(crate) fn excluded_at(
         &mut self,
         alloc: Global,
-        asked: Asked<'_>,
+        asked: Question<'_>,
         p: u32,
         cells: &Boxed,
     ) -> Result<bool, Memory>
@@ -93,7 +93,7 @@ impl<'a> LiveTables<'a> {
     pub(crate) fn value_excluded_at(
         &mut self,
         alloc: Global,
-        asked: Asked<'_>,
+        asked: Question<'_>,
         k: u32,
         v: i64,
         cells: &Boxed,
@@ -114,7 +114,7 @@ impl<'a> LiveTables<'a> {
     pub(crate) fn first_excluded(
         &mut self,
         alloc: Global,
-        asked: Asked<'_>,
+        asked: Question<'_>,
         cells: &Boxed,
     ) -> Result<Option<u32>, Memory>
         ensures same { self.new ≡ self.old }

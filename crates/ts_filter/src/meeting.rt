@@ -1,7 +1,7 @@
 //! Tables of a box become those of another one: what depends on a cell that differs is forgotten.
 
 ghost use Rattle.std.specs.Prelude.{◌≡◌, ◌+◌, ◌≤◌, IfOk, OnOk, drop, length, take};
-ghost use Rattle.ts_filter.specs.Known.{AreKnown, DifferFrom};
+ghost use Rattle.ts_filter.specs.KnownRows.{AreKnown, DifferFrom};
 
 use crate::box_tables::BoxTables;
 use std::alloc::Global;

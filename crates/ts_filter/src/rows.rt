@@ -3,7 +3,7 @@
 ghost use Rattle.std.specs.Prelude.{◌≡◌, ◌*◌, ◌<◌, ◌≤◌, [], ◌++◌, IfOk, OnOk, get_or, length, map};
 ghost use Rattle.ts_bound.specs.HullTables.{forward_rows, row_of, start_hull};
 ghost use Rattle.ts_bound.specs.NextRow.{states_of};
-ghost use Rattle.ts_filter.specs.Known.{AreFirst, AreRows, in_order};
+ghost use Rattle.ts_filter.specs.KnownRows.{AreFirst, AreRows, in_order};
 
 use crate::row_stack::{HullRow, RowStack};
 use std::alloc::Global;

@@ -4,19 +4,19 @@ ghost use Rattle.std.specs.Prelude.{◌≡◌, [], ◌∷◌};
 ghost use Rattle.ts_base.specs.Spans.{none_span};
 ghost use Rattle.ts_filter.specs.SoFar.{IsSoFar, WithParts};
 
-use crate::asked::Asked;
+use crate::question::Question;
 use ts_base::Span;
 
 /// The hull of the parts that were taken in so far, which doesn't have what is asked.
 #[derive(Clone, Copy)]
 pub(crate) struct SoFar<'a> {
-    pub(crate) asked: Asked<'a>,
+    pub(crate) asked: Question<'a>,
     pub(crate) span: Span,
 }
 
 impl<'a> SoFar<'a> {
     /// Nothing was taken in.
-    pub(crate) fn none(asked: Asked<'a>) -> SoFar<'a>
+    pub(crate) fn none(asked: Question<'a>) -> SoFar<'a>
         ensures asked { result.asked ≡ asked.entry }
         ensures span { result.span ≡ none_span }
         ensures known { IsSoFar result }

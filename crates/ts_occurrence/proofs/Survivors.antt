@@ -13,7 +13,7 @@ use Rattle.ts_regex.proofs.Laws.{same_law}
 use Rattle.ts_pattern.specs.Entries.{shapes, survivors, with_entry}
 use Rattle.ts_pattern.proofs.CallerLemmas.{survivors_push, shapes_follow}
 use Rattle.ts_occurrence.specs.declared.live.LiveStart.{LiveStart}
-use Rattle.ts_occurrence.specs.declared.residuals.Met.{Met}
+use Rattle.ts_occurrence.specs.declared.residuals.MetResidual.{MetResidual}
 use Rattle.ts_occurrence.specs.Residuals.{shapes_met, IsNumber, AreConsistent, Grows}
 use Rattle.ts_occurrence.specs.Live.{entry, entry_of, entries_of, AreKnown}
 use Rattle.ts_occurrence.proofs.Known.{known_length}
@@ -69,7 +69,7 @@ survivors_step l old now new live kept next k n x y d c q ex ey shapes_met g h k
     ∙ ap (λ z. survivors shapes l z) (sym grown)
 
 -- residuals that are met stand once, so that their numbers tell them apart
-pub stands_by_number : (ms : List Met) → AreConsistent ms → (es : List LiveStart) → AreKnown (shapes_met ms) es → (n : ℕ) → n < length (shapes_met ms) →
+pub stands_by_number : (ms : List MetResidual) → AreConsistent ms → (es : List LiveStart) → AreKnown (shapes_met ms) es → (n : ℕ) → n < length (shapes_met ms) →
     list_any (λ e. e.residual == n) es ≡ list_any (λ x. same_shape x.residual (get_or (shapes_met ms) n Empty)) (entries_of (shapes_met ms) es)
 stands_by_number ms h [] k n q = refl
 stands_by_number ms h (e ∷ es) k n q =
@@ -92,7 +92,7 @@ stands_by_number ms h (e ∷ es) k n q =
         (slice_get-get_or (shapes_met ms) n Empty q)))
 
 -- whether a start is kept, by the number of its residual
-pub kept_by_number : (ms : List Met) → AreConsistent ms → (es : List LiveStart) → AreKnown (shapes_met ms) es → (start n : ℕ) → n < length ms →
+pub kept_by_number : (ms : List MetResidual) → AreConsistent ms → (es : List LiveStart) → AreKnown (shapes_met ms) es → (start n : ℕ) → n < length ms →
     (same : List LiveStart) →
     same ≡ es → (b : Bool) → b ≡ (has_word (get_or (shapes_met ms) n Empty) && not (list_any (λ e. e.residual == n) same)) →
     with_entry shapes (entries_of (shapes_met ms) es) (entry start (get_or (shapes_met ms) n Empty))

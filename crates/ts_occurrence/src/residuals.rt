@@ -15,7 +15,7 @@ use ts_regex::{Regex, has_word, nullable, residual};
 /// A residual in normal form, whether it has a word and the empty word, and the number of what each letter leaves of
 /// it, where that was asked for.
 #[derive(Drop)]
-pub struct Met {
+pub struct MetResidual {
     residual: Regex,
     has_word: bool,
     nullable: bool,
@@ -27,7 +27,7 @@ pub struct Met {
 /// The residuals met so far. A number stays that of its residual.
 #[derive(Drop)]
 pub struct Residuals {
-    met: Vec<Met>,
+    met: Vec<MetResidual>,
 }
 
 impl Residuals {
@@ -37,7 +37,7 @@ impl Residuals {
         ensures right { IfOk result (λ t. AreConsistent t.met.items) }
     {
         let mut met = Vec::new(alloc);
-        met.push(Met::new(whole))?;
+        met.push(MetResidual::new(whole))?;
         Ok(Residuals { met })
     }
 
@@ -98,7 +98,7 @@ impl Residuals {
             Some(number) => Ok(number),
             None => {
                 let number = self.met.len();
-                self.met.push(Met::new(rest))?;
+                self.met.push(MetResidual::new(rest))?;
                 Ok(number)
             }
         }
@@ -112,12 +112,12 @@ impl Residuals {
     }
 }
 
-impl Met {
+impl MetResidual {
     /// A residual of which nothing was asked yet.
-    fn new(residual: Regex) -> Met
+    fn new(residual: Regex) -> MetResidual
         ensures { result ≡ met_of residual }
     {
-        Met {
+        MetResidual {
             has_word: has_word(&residual),
             nullable: nullable(&residual),
             residual,

@@ -25,7 +25,7 @@ use Rattle.ts_filter.specs.Accepts.{value_of_term}
 use Rattle.ts_filter.specs.Boxes.{Box}
 use Rattle.ts_filter.specs.RefutedWorseDrop.{Spans}
 use Rattle.ts_filter.proofs.SoundLaws.{series_length}
-use Rattle.ts_search.specs.Asked.{AreRight}
+use Rattle.ts_search.specs.RightSpans.{AreRight}
 use Rattle.ts_search.specs.Dive.{Find, value_of, dive}
 use Rattle.ts_search.specs.Listed.{IsListAnswer}
 use Rattle.ts_search.specs.LineOf.{Search, search_for}

@@ -13,7 +13,7 @@ use Rattle.ts_model.specs.ModelParts.{ModelParts}
 use Rattle.ts_model.specs.Views.{model_parts, term_of}
 use Rattle.ts_spans.specs.Machines.{spans_in}
 use Rattle.ts_spans.proofs.OfTerms.{spans_hold_values, spans_tell_singles}
-use Rattle.ts_search.specs.Asked.{AreRight}
+use Rattle.ts_search.specs.RightSpans.{AreRight}
 use Rattle.ts_search.specs.Posed.{IsPosed}
 use Rattle.ts_search.specs.declared.problem.Problem.{Problem}
 

@@ -18,7 +18,7 @@ use Rattle.ts_filter.specs.Accepts.{objective_of}
 use Rattle.ts_filter.specs.Boxes.{Box, values_at, box_of, IsPart}
 use Rattle.ts_filter.specs.RefutedWorseDrop.{Spans, IsRefuted, IsDrop}
 use Rattle.ts_filter.specs.Rules.{IsSplit}
-use Rattle.ts_search.specs.Asked.{AreRight}
+use Rattle.ts_search.specs.RightSpans.{AreRight}
 use Rattle.ts_search.specs.Dive.{Find, keep_from, dive_box, dive_end, dive}
 use Rattle.ts_search.specs.Drops.{Removal, next_drop, after_drops}
 use Rattle.ts_search.specs.Forms.{Alone, Wide, form}

@@ -1,4 +1,3 @@
-pub mod Asked
 pub mod Dive
 pub mod Drops
 pub mod Forms
@@ -8,6 +7,7 @@ pub mod Lean
 pub mod LineOf
 pub mod Listed
 pub mod Posed
+pub mod RightSpans
 pub mod Solved
 pub mod Turns
 pub mod Views

@@ -6,7 +6,7 @@ use Rattle.ts_compile.specs.Programs.{IsProgramOf}
 use Rattle.ts_filter.specs.Boxes.{Box, IsPart}
 use Rattle.ts_model.specs.Views.{model_parts}
 use Rattle.ts_spans.specs.Machines.{automata_in, spans_in}
-use Rattle.ts_search.specs.Asked.{AreRight}
+use Rattle.ts_search.specs.RightSpans.{AreRight}
 use Rattle.ts_search.specs.declared.problem.Problem.{Problem}
 
 -- the program is the model's, whose terms and requirements are few and whose spans are right

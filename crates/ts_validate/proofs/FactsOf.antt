@@ -6,7 +6,7 @@ use Rattle.ts_transducer.specs.declared.row.Phase.{Phase}
 use Rattle.ts_pattern.specs.declared.plan.Live.{Live}
 use Rattle.ts_pattern.specs.Closed.{is_due, is_ind, is_inc, tag_after, first_passes}
 use Rattle.ts_pattern.specs.Plans.{plain_live}
-use Rattle.ts_validate.specs.declared.known.Known.{Known}
+use Rattle.ts_validate.specs.declared.knowledge.Knowledge.{Knowledge}
 use Rattle.ts_validate.specs.declared.facts.Facts.{Facts}
 use Rattle.ts_validate.specs.Numbers.{known_at, numbers}
 use Rattle.ts_validate.specs.Facts.{facts_of}
@@ -17,7 +17,7 @@ seven : {a a' b b' c c' d d' e e' f f' g g' : Bool} → a ≡ a' → b ≡ b' �
     ≡ record { some_nullable = a'; first_nullable = b'; first_starts = c'; first_ends = d'; first_holds = e'; some_held = f'; some_keeps = g' }
 seven p q r s t u v = cc
 
-pub facts_are : (table : List Known) (f : Phase) (free : Bool) (es : List Live) (a b c d e g h : Bool) →
+pub facts_are : (table : List Knowledge) (f : Phase) (free : Bool) (es : List Live) (a b c d e g h : Bool) →
     a ≡ list_any (λ e. (known_at table e.residual).nullable) es → b ≡ first_passes (λ e. (known_at table e.residual).nullable) es →
     c ≡ first_passes (λ e. is_ind e.tag || (is_due e.tag && free)) es → d ≡ first_passes (λ e. not (known_at table e.residual).longer) es →
     e ≡ first_passes (λ e. is_inc (tag_after f free e.tag)) es → g ≡ list_any (λ e. is_inc e.tag) es → h ≡ list_any (λ e. is_ind (tag_after f free e.tag)) es →

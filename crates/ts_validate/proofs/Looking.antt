@@ -19,7 +19,7 @@ use Rattle.ts_pattern.specs.declared.plan.Configuration.{Configuration}
 use Rattle.ts_pattern.specs.Entries.{Entry, survivors}
 use Rattle.ts_pattern.specs.Closed.{PlainConfiguration, Subject, is_ind, first_tag, tag_after, no_ind, retag_entries, with_start, move_of, entries_before, kept_entries, step_of, entries_agree, same_tag, same_live, same_configuration}
 use Rattle.ts_pattern.specs.Plans.{plain_live, plain_configuration}
-use Rattle.ts_validate.specs.declared.known.Known.{Known}
+use Rattle.ts_validate.specs.declared.knowledge.Knowledge.{Knowledge}
 use Rattle.ts_validate.specs.declared.facts.Facts.{Facts}
 use Rattle.ts_validate.specs.declared.step.Look.{Look}
 use Rattle.ts_validate.specs.Numbers.{known_at, plain_lives, plain_configurations, configuration_after, numbers, numbered_subject, is_listed, all_listed, next_place, number_meets}
@@ -34,7 +34,7 @@ row_is (r ∷ rows) (suc q) = row_is rows q
 
 -- the two live lists, entry by entry
 
-abbrev entry_same : List Known → Phase → Bool → Live → Live → Bool
+abbrev entry_same : List Knowledge → Phase → Bool → Live → Live → Bool
 entry_same table f free x e = ((known_at table x.residual).own == (known_at table e.residual).own) && same_tag x.tag (tag_after f free e.tag)
 
 assoc : (a b c : Bool) → (a && b) && c ≡ a && (b && c)
@@ -46,7 +46,7 @@ swap true b c = refl
 swap false true c = refl
 swap false false c = refl
 
-zip_same : (table : List Known) (f : Phase) (free : Bool) (xs es : List Live) →
+zip_same : (table : List Knowledge) (f : Phase) (free : Bool) (xs es : List Live) →
     (length xs == length es) && list_all (λ p. entry_same table f free p.0 p.1) (zip xs es)
     ≡ same_live (numbers table) (plain_lives xs) (retag_entries f free (plain_lives es))
 zip_same table f free [] [] = refl
@@ -59,13 +59,13 @@ zip_same table f free (x ∷ xs) (e ∷ es) =
     ∙ assoc ((known_at table x.residual).own == (known_at table e.residual).own) (same_tag x.tag (tag_after f free e.tag))
     (same_live (numbers table) (plain_lives xs) (retag_entries f free (plain_lives es)))
 
-pub same_yes : (table : List Known) (f : Phase) (free : Bool) (xs es : List Live) (r : Bool) →
+pub same_yes : (table : List Knowledge) (f : Phase) (free : Bool) (xs es : List Live) (r : Bool) →
     r ≡ list_all (λ p. entry_same table f free p.0 p.1) (zip xs es) → length xs ≡ length es →
     r ≡ same_live (numbers table) (plain_lives xs) (retag_entries f free (plain_lives es))
 same_yes table f free xs es r e q =
     e ∙ ap (λ z. z && list_all (λ p. entry_same table f free p.0 p.1) (zip xs es)) (sym (eq-eqb (length xs) (length es) q)) ∙ zip_same table f free xs es
 
-pub same_no : (table : List Known) (f : Phase) (free : Bool) (xs es : List Live) → (length xs ≡ length es → ⊥) →
+pub same_no : (table : List Knowledge) (f : Phase) (free : Bool) (xs es : List Live) → (length xs ≡ length es → ⊥) →
     (length xs == length es) ≡ same_live (numbers table) (plain_lives xs) (retag_entries f free (plain_lives es))
 same_no table f free xs es q = ⊎_elim
     (λ c. absurd (q c.1))
@@ -91,7 +91,7 @@ free_is b live =
     ∙ sym (and_true (list_all (λ (e : Entry (Unit {0}) ℕ Tag). not (is_ind e.tag)) (plain_lives live)) (not (is_ind (first_tag b))) (new_free b))
     ∙ sym (all_push (λ (e : Entry (Unit {0}) ℕ Tag). not (is_ind e.tag)) (plain_lives live) (record { mark = tt; residual = 0; tag = first_tag b }))
 
-listed_is : (table : List Known) (l : Letter) (b : ℕ) (live : List Live) →
+listed_is : (table : List Knowledge) (l : Letter) (b : ℕ) (live : List Live) →
     list_all (λ e. is_listed table l e.residual) live && is_listed table l 0
     ≡ all_listed table l (with_start tt 0 b (plain_lives live))
 listed_is table l b live =
@@ -118,7 +118,7 @@ look_meets true n a = refl
 look_meets false n a = refl
 
 -- what was computed on the way
-pub record Computed (rows : List Row) (table : List Known) (b : ℕ) (cs : List Configuration) (here : Configuration) (l : Letter) (arrow : Arrow)
+pub record Computed (rows : List Row) (table : List Knowledge) (b : ℕ) (cs : List Configuration) (here : Configuration) (l : Letter) (arrow : Arrow)
     (left : List Live) (free listed : Bool) (next : Option ℕ) : Type 0 where
   pub arrow_is : arrow ≡ arrow_on l (row_at rows here.state)
   pub left_is : plain_lives left ≡ survivors (numbers table) l (with_start tt 0 b (plain_lives here.live.items))
@@ -127,7 +127,7 @@ pub record Computed (rows : List Row) (table : List Known) (b : ℕ) (cs : List 
   pub next_is : next ≡ position (λ y. same_configuration (numbers table) (plain_configuration y)
       (configuration_after arrow free left)) cs
 
-next_of : (rows : List Row) (table : List Known) (b : ℕ) (cs : List Configuration) (here : Configuration) (l : Letter) (arrow : Arrow) (left : List Live)
+next_of : (rows : List Row) (table : List Knowledge) (b : ℕ) (cs : List Configuration) (here : Configuration) (l : Letter) (arrow : Arrow) (left : List Live)
     (free listed : Bool) (next : Option ℕ) → Computed rows table b cs here l arrow left free listed next →
     cond listed next None ≡ next_place table (numbered_subject rows table b (plain_configurations cs)) (plain_configuration here) l
 next_of rows table b cs here l arrow left free listed next h =
@@ -143,13 +143,15 @@ next_of rows table b cs here l arrow left free listed next h =
     (h.next_is ∙ ap (λ z. position (λ y. same_configuration (numbers table) (plain_configuration y) z) cs) same
     ∙ place_mapped (λ y. same_configuration (numbers table) y to) (λ y. plain_configuration y) cs)
 
-pub next_seen : (rows : List Row) (table : List Known) (b : ℕ) (cs : List Configuration) (here : Configuration) (l : Letter) (arrow : Arrow) (left : List Live)
+pub next_seen : (rows : List Row) (table : List Knowledge) (b : ℕ) (cs : List Configuration) (here : Configuration) (l : Letter) (arrow : Arrow)
+    (left : List Live)
     (free listed : Bool) (next : Option ℕ) (agree : Bool) (look : Look) → Computed rows table b cs here l arrow left free listed next →
     look ≡ look_of listed next agree → look.next ≡ next_place table (numbered_subject rows table b (plain_configurations cs)) (plain_configuration here) l
 next_seen rows table b cs here l arrow left free listed next agree look h q =
     ap (λ (z : Look). z.next) q ∙ look_next listed next agree ∙ next_of rows table b cs here l arrow left free listed next h
 
-pub meets_seen : (rows : List Row) (table : List Known) (b : ℕ) (cs : List Configuration) (here : Configuration) (l : Letter) (arrow : Arrow) (left : List Live)
+pub meets_seen : (rows : List Row) (table : List Knowledge) (b : ℕ) (cs : List Configuration) (here : Configuration) (l : Letter) (arrow : Arrow)
+    (left : List Live)
     (free listed : Bool) (next : Option ℕ) (agree : Bool) (look : Look) → Computed rows table b cs here l arrow left free listed next →
     look ≡ look_of listed next agree → (facts : Facts) (kind : Kind) → facts ≡ facts_of (numbers table) arrow.phase free (plain_lives left) →
     kind ≡ (row_at rows arrow.next).kind → agree ≡ facts_agree facts arrow.phase kind →
@@ -167,7 +169,7 @@ meets_seen rows table b cs here l arrow left free listed next agree look h q fac
     ∙ ap (λ z. is_some z && agree) (next_of rows table b cs here l arrow left free listed next h)
     ∙ ap (λ z. is_some (next_place table s x l) && z) agreed
 
-pub computed : (rows : List Row) (table : List Known) (b : ℕ) (cs : List Configuration) (here : Configuration) (l : Letter) (arrow : Arrow)
+pub computed : (rows : List Row) (table : List Knowledge) (b : ℕ) (cs : List Configuration) (here : Configuration) (l : Letter) (arrow : Arrow)
     (left live : List Live) (free listed : Bool) (next : Option ℕ) (row : Row) (slice : List Live) →
     live ≡ here.live.items → row ≡ row_or (slice_get rows here.state) → arrow ≡ arrow_on l row →
     plain_lives left ≡ survivors (numbers table) l (with_start tt 0 b (plain_lives live)) →

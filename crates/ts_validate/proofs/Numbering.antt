@@ -7,7 +7,7 @@ use Rattle.std.proofs.lemmas.Simd.{map-map}
 use Rattle.ts_regex.specs.Shape.{Shape, shape_of}
 use Rattle.ts_regex.specs.NormalForm.{same_shape}
 use Rattle.ts_regex.specs.declared.regex.Regex.{Regex}
-use Rattle.ts_validate.specs.declared.known.Known.{Known}
+use Rattle.ts_validate.specs.declared.knowledge.Knowledge.{Knowledge}
 use Rattle.ts_validate.specs.Numbers.{number_of, known_of}
 
 -- the first place at which a test holds; where it holds nowhere, the length plus 1
@@ -46,7 +46,7 @@ pub number_none : (xs : List Regex) (r : Shape) → None ≡ position (λ s. sam
 number_none xs r q = none_of_option (position_or_len (λ s. same_shape (shape_of s) r) xs) (length xs) q ∙ sym (number_place xs r)
 
 -- a table that was filled to the end
-pub filled : (rs : List Shape) (xs : List Regex) (i : ℕ) (table : List Known) → length xs ≤ i → table ≡ map (λ r. known_of rs (shape_of r)) (take i xs) →
+pub filled : (rs : List Shape) (xs : List Regex) (i : ℕ) (table : List Knowledge) → length xs ≤ i → table ≡ map (λ r. known_of rs (shape_of r)) (take i xs) →
     table ≡ map (λ r. known_of rs r) (map (λ s. shape_of s) xs)
 filled rs xs i table q h =
     h ∙ ap (λ z. map (λ r. known_of rs (shape_of r)) z) (take_all i xs q) ∙ sym (map-map (λ r. known_of rs r) (λ s. shape_of s) xs)

@@ -17,7 +17,7 @@ use Rattle.ts_pattern.specs.Entries.{Entry, shapes}
 use Rattle.ts_pattern.specs.Closed.{PlainConfiguration, Subject, step_of, first_passes, same_tag, same_live, same_configuration, step_listed, meets_checks}
 use Rattle.ts_pattern.specs.Plans.{shape_at, configuration_value, subject, plain_configuration, is_plan_of, is_blank}
 use Rattle.ts_pattern.proofs.CallerLemmas.{shapes_right, configuration_is}
-use Rattle.ts_validate.specs.declared.known.Known.{Known}
+use Rattle.ts_validate.specs.declared.knowledge.Knowledge.{Knowledge}
 use Rattle.ts_validate.specs.declared.step.Look.{Look}
 use Rattle.ts_validate.specs.Numbers.{table_of, numbered_subject, next_place, number_meets}
 use Rattle.ts_validate.specs.Reaches.{configuration_at, value_at, IsFirst, Sees}
@@ -238,7 +238,7 @@ numbers_at rs [] i h q = absurd (omega (arith, q))
 numbers_at rs (x ∷ xs) zero h q = h.0
 numbers_at rs (x ∷ xs) (suc i) h q = numbers_at rs xs i h.1 (omega (arith, q))
 
-sees_at : (rows : List Row) (p : Shape) (b : ℕ) (rs : List Shape) (cs : List Configuration) (table : List Known) →
+sees_at : (rows : List Row) (p : Shape) (b : ℕ) (rs : List Shape) (cs : List Configuration) (table : List Knowledge) →
     is_plan_of p (plan_of rs (map (λ x. plain_configuration x) cs)) ≡ true → table ≡ table_of rs →
     (i : ℕ) (d here : Configuration) → i < length cs → here ≡ get_or cs i d → (l : Letter) (k : Look) →
     k.next ≡ next_place table (numbered_subject rows table b (map (λ x. plain_configuration x) cs)) (plain_configuration here) l →
@@ -258,7 +258,7 @@ sees_at rows p b rs cs table f t i d here q e l k n m =
     (m ∙ ap (λ z. number_meets z (numbered_subject rows z b xs) (plain_configuration here) l) t
     ∙ ap (λ z. number_meets (table_of rs) (by_number rows b rs xs) z l) is))
 
-pub sees_plan : (rows : List Row) (p : Shape) (b : ℕ) (rs : List Shape) (slice cs : List Configuration) (table : List Known) → slice ≡ cs →
+pub sees_plan : (rows : List Row) (p : Shape) (b : ℕ) (rs : List Shape) (slice cs : List Configuration) (table : List Knowledge) → slice ≡ cs →
     is_plan_of p (plan_of rs (map (λ x. plain_configuration x) cs)) ≡ true → table ≡ table_of rs →
     (i : ℕ) (here : Configuration) → i < length cs → here ≡ get_or slice i here → (l : Letter) (k : Look) →
     k.next ≡ next_place table (numbered_subject rows table b (map (λ x. plain_configuration x) slice)) (plain_configuration here) l →

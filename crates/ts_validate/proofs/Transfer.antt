@@ -13,7 +13,7 @@ use Rattle.ts_regex.proofs.Laws.{same_law}
 use Rattle.ts_pattern.specs.Entries.{shapes}
 use Rattle.ts_pattern.specs.Plans.{shape_at}
 use Rattle.ts_pattern.proofs.CallerLemmas.{NextAgrees, WordsAgree, SameAgrees}
-use Rattle.ts_validate.specs.declared.known.Known.{Known}
+use Rattle.ts_validate.specs.declared.knowledge.Knowledge.{Knowledge}
 use Rattle.ts_validate.specs.Numbers.{number_of, next_number, known_of, table_of, known_at, next_on, numbers}
 
 -- the number of a residual is that of its least place
@@ -126,7 +126,7 @@ numbers_agree rs l i p q =
 
 pub words_agree : (rs : List Shape) (i : ℕ) → IsListedNumber rs i → WordsAgree (numbers (table_of rs)) shapes (λ i. shape_at rs i) i
 words_agree rs i p =
-    record { nullable = ap (λ (k : Known). k.nullable) (known_is rs i p); longer = ap (λ (k : Known). k.longer) (known_is rs i p) }
+    record { nullable = ap (λ (k : Knowledge). k.nullable) (known_is rs i p); longer = ap (λ (k : Knowledge). k.longer) (known_is rs i p) }
 
 -- a residual after the letter that has a word and isn't listed
 pub unlisted : (rs : List Shape) (l : Letter) (i : ℕ) → IsListedNumber rs i → nat_le (next_on l (known_at (table_of rs) i)) (length (table_of rs)) ≡ false →

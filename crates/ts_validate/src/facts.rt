@@ -7,7 +7,7 @@ ghost use Rattle.ts_pattern.specs.Plans.{plain_live};
 ghost use Rattle.ts_validate.specs.Numbers.{known_at, numbers};
 ghost use Rattle.ts_validate.specs.Facts.{facts_of, facts_agree};
 
-use crate::known::{Known, look_up};
+use crate::knowledge::{Knowledge, look_up};
 use crate::tags::{is_inc, is_ind, starts, tag_after};
 use ts_base::Kind;
 use ts_pattern::Live;
@@ -33,7 +33,7 @@ pub struct Facts {
 }
 
 /// The answers for entries that a step with this phase letter keeps; `free` says that no entry had InD before it.
-pub fn answers(table: &[Known], phase: Phase, free: bool, kept: &[Live]) -> Facts
+pub fn answers(table: &[Knowledge], phase: Phase, free: bool, kept: &[Live]) -> Facts
     ensures { result ≡ facts_of (numbers table.now) phase free (map (λ e. plain_live e) kept.now) }
 {
     Facts {
@@ -84,13 +84,13 @@ fn is_find(phase: Phase) -> bool
     matches!(phase, Phase::Found | Phase::FoundE)
 }
 
-fn some_nullable(table: &[Known], kept: &[Live]) -> bool
+fn some_nullable(table: &[Knowledge], kept: &[Live]) -> bool
     ensures { result ≡ list_any (λ e. (known_at table.now e.residual).nullable) kept.now }
 {
     kept.iter().any(|e| look_up(table, e.residual).nullable)
 }
 
-fn first_nullable(table: &[Known], kept: &[Live]) -> bool
+fn first_nullable(table: &[Knowledge], kept: &[Live]) -> bool
     ensures { result ≡ first_passes (λ e. (known_at table.now e.residual).nullable) kept.now }
 {
     match kept {
@@ -108,7 +108,7 @@ fn first_starts(free: bool, kept: &[Live]) -> bool
     }
 }
 
-fn first_ends(table: &[Known], kept: &[Live]) -> bool
+fn first_ends(table: &[Knowledge], kept: &[Live]) -> bool
     ensures { result ≡ first_passes (λ e. not (known_at table.now e.residual).longer) kept.now }
 {
     match kept {

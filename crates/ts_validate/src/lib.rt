@@ -18,7 +18,7 @@ mod arrival;
 mod closure;
 mod facts;
 mod failure;
-mod known;
+mod knowledge;
 pub mod laws;
 mod step;
 mod stop;

@@ -11,7 +11,7 @@ ghost use Rattle.ts_validate.specs.Numbers.{next_place, number_meets};
 ghost use Rattle.ts_validate.specs.Numbers.{plain_lives, plain_configurations};
 
 use crate::facts::answers;
-use crate::known::{Known, look_up};
+use crate::knowledge::{Knowledge, look_up};
 use crate::tags::{first_tag, none_kept, same_tag, tag_after};
 use std::alloc::Global;
 use ts_base::{Letter, Memory};
@@ -19,14 +19,14 @@ use ts_pattern::{Configuration, Live};
 use ts_transducer::{Arrow, Phase, Row};
 
 /// Whether an entry that is kept has the residual of this number.
-fn stands(table: &[Known], residual: u32, kept: &[Live]) -> bool
+fn stands(table: &[Knowledge], residual: u32, kept: &[Live]) -> bool
     ensures { result ≡ list_any (λ k. (numbers table.now).same k.residual residual) kept.now }
 {
     kept.iter().any(|k| look_up(table, k.residual).own == look_up(table, residual).own)
 }
 
 /// Whether the residual has a word and no entry that is kept has it.
-fn is_new(table: &[Known], residual: u32, kept: &[Live]) -> bool
+fn is_new(table: &[Knowledge], residual: u32, kept: &[Live]) -> bool
     ensures { result ≡ ((numbers table.now).has_word residual
         && not (list_any (λ k. (numbers table.now).same k.residual residual) kept.now)) }
 {
@@ -35,7 +35,7 @@ fn is_new(table: &[Known], residual: u32, kept: &[Live]) -> bool
 
 /// Adds what the letter leaves of an entry: nothing where its residual has no word, or is that of an earlier one.
 fn add_left(
-    table: &[Known],
+    table: &[Knowledge],
     letter: Letter,
     entry: Live,
     kept: &mut Vec<Live>,
@@ -58,7 +58,7 @@ fn add_left(
 /// The entries that the letter leaves, with their tags before it.
 fn left(
     alloc: Global,
-    table: &[Known],
+    table: &[Knowledge],
     letter: Letter,
     b: u8,
     live: &[Live],
@@ -79,21 +79,21 @@ fn left(
 }
 
 /// Whether a residual after the letter is listed, or has no word.
-fn is_listed(table: &[Known], letter: Letter, residual: u32) -> bool
+fn is_listed(table: &[Knowledge], letter: Letter, residual: u32) -> bool
     ensures { result ≡ is_listed table.now letter residual }
 {
     look_up(table, residual).next(letter) as usize <= table.len()
 }
 
 /// The same of each entry.
-fn each_listed(table: &[Known], letter: Letter, live: &[Live]) -> bool
+fn each_listed(table: &[Knowledge], letter: Letter, live: &[Live]) -> bool
     ensures { result ≡ list_all (λ e. is_listed table.now letter e.residual) live.now }
 {
     live.iter().all(|e| is_listed(table, letter, e.residual))
 }
 
 /// The same of each entry, and of the start at the sign now read.
-fn all_listed(table: &[Known], letter: Letter, live: &[Live]) -> bool
+fn all_listed(table: &[Knowledge], letter: Letter, live: &[Live]) -> bool
     ensures { result ≡ (list_all (λ e. is_listed table.now letter e.residual) live.now
         && is_listed table.now letter 0) }
 {
@@ -101,7 +101,7 @@ fn all_listed(table: &[Known], letter: Letter, live: &[Live]) -> bool
 }
 
 /// Whether a listed entry is the one that is kept, with its tag after the step.
-fn same_entry(table: &[Known], phase: Phase, free: bool, listed: Live, kept: Live) -> bool
+fn same_entry(table: &[Knowledge], phase: Phase, free: bool, listed: Live, kept: Live) -> bool
     ensures { result ≡ ((numbers table.now).same listed.residual kept.residual
         && same_tag listed.tag (tag_after phase free kept.tag)) }
 {
@@ -109,7 +109,7 @@ fn same_entry(table: &[Known], phase: Phase, free: bool, listed: Live, kept: Liv
         && same_tag(listed.tag, tag_after(phase, free, kept.tag))
 }
 
-fn each_same(table: &[Known], phase: Phase, free: bool, listed: &[Live], kept: &[Live]) -> bool
+fn each_same(table: &[Knowledge], phase: Phase, free: bool, listed: &[Live], kept: &[Live]) -> bool
     ensures { result ≡ list_all (λ p. (numbers table.now).same p.0.residual p.1.residual
         && same_tag p.0.tag (tag_after phase free p.1.tag)) (zip listed.now kept.now) }
 {
@@ -120,7 +120,7 @@ fn each_same(table: &[Known], phase: Phase, free: bool, listed: &[Live], kept: &
 }
 
 /// Whether the listed entries are those that are kept.
-fn same_live(table: &[Known], phase: Phase, free: bool, listed: &[Live], kept: &[Live]) -> bool
+fn same_live(table: &[Knowledge], phase: Phase, free: bool, listed: &[Live], kept: &[Live]) -> bool
     ensures { result
         ≡ same_live (numbers table.now) (plain_lives listed.now) (retag_entries phase free (plain_lives kept.now)) }
 {
@@ -128,7 +128,13 @@ fn same_live(table: &[Known], phase: Phase, free: bool, listed: &[Live], kept: &
 }
 
 /// Whether a listed configuration is the state with the kept entries, with their tags after the step.
-fn is_same(table: &[Known], arrow: Arrow, free: bool, kept: &[Live], listed: &Configuration) -> bool
+fn is_same(
+    table: &[Knowledge],
+    arrow: Arrow,
+    free: bool,
+    kept: &[Live],
+    listed: &Configuration,
+) -> bool
     ensures { result ≡ same_configuration (numbers table.now) (plain_configuration listed.now)
         (configuration_after arrow free kept.now) }
 {
@@ -138,7 +144,7 @@ fn is_same(table: &[Known], arrow: Arrow, free: bool, kept: &[Live], listed: &Co
 
 /// Where the step is listed first.
 fn place(
-    table: &[Known],
+    table: &[Knowledge],
     arrow: Arrow,
     free: bool,
     kept: &[Live],
@@ -175,7 +181,7 @@ pub struct Look {
 pub fn look_at(
     alloc: Global,
     rows: &[Row],
-    table: &[Known],
+    table: &[Knowledge],
     b: u8,
     configurations: &[Configuration],
     here: &Configuration,

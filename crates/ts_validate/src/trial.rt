@@ -5,7 +5,7 @@ ghost use Rattle.ts_regex.specs.Shape.{shape_of};
 ghost use Rattle.ts_pattern.specs.Plans.{plain_plan, is_plan_of};
 ghost use Rattle.ts_validate.specs.Numbers.{table_of};
 
-use crate::known::{Known, know_all};
+use crate::knowledge::{Knowledge, know_all};
 use crate::step::{Look, look_at};
 use std::alloc::Global;
 use ts_base::{Letter, Memory};
@@ -18,7 +18,7 @@ pub struct Trial<'a> {
     pub rows: &'a [Row],
     pub pattern: &'a Pattern,
     pub plan: &'a Plan,
-    pub table: Vec<Known>,
+    pub table: Vec<Knowledge>,
     pub ghost fits: { IsTrue (is_plan_of (shape_of pattern.now.regex) (plain_plan plan.now)) },
     pub ghost known: { table.items ≡ table_of (plain_plan plan.now).residuals },
 }

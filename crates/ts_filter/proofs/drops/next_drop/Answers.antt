@@ -1,7 +1,7 @@
 use Rattle.std.proofs.Common.{map, sym, subst, arith, ◌+◌}
 use Rattle.ts_bound.specs.TermSpans.{automata_of}
 use Rattle.ts_filter.specs.Drops.{IsFirstOf}
-use Rattle.ts_filter.specs.Known.{Known}
+use Rattle.ts_filter.specs.KnownRows.{KnownRows}
 use Rattle.ts_filter.specs.TermDrops.{IsTermDrop}
 use Rattle.ts_filter.proofs.DropLaws.{DropBelow, first_below_more, first_of_all, machine_there}
 use Rattle.ts_filter.proofs.drops.next_drop.Goals as goal
@@ -13,7 +13,7 @@ loop-term-preserved c =
     (first_below_more rs (map automata_of ms) b c.loop-term.term (automata_of c.index-machines-term.result)
     (machine_there ms c.loop-term.term c.index-machines-term.result c.loop-term-test.true c.index-machines-term.is)
     c.loop-term.first c.in_ok-found.found c.loop-term.invariant
-    (subst (λ (t : Known). IsFirstOf (IsTermDrop rs c.loop-term.term t.machine b) c.in_ok-found.found) c.new-tables.ensures.value c.in_ok-found.ensures.found))
+    (subst (λ (t : KnownRows). IsFirstOf (IsTermDrop rs c.loop-term.term t.machine b) c.in_ok-found.found) c.new-tables.ensures.value c.in_ok-found.ensures.found))
 
 pub returns : goal.returns
 returns c =

@@ -1,5 +1,5 @@
 use Rattle.std.proofs.Common.{◌≡◌, ◌<◌, length, sym, subst, arith}
-use Rattle.ts_filter.specs.Known.{AreRows, in_order}
+use Rattle.ts_filter.specs.KnownRows.{AreRows, in_order}
 use Rattle.ts_filter.specs.RowStacks.{Stack, IsOneMore}
 use Rattle.ts_filter.proofs.KnownRows.{order_long}
 use Rattle.ts_filter.proofs.LaidRows.{all_rows_stand, one_more_row, either_way}

@@ -1,5 +1,5 @@
 use Rattle.std.proofs.Common.{◌-◌, length}
-use Rattle.ts_filter.specs.Known.{AreRows, in_order}
+use Rattle.ts_filter.specs.KnownRows.{AreRows, in_order}
 use Rattle.ts_filter.proofs.rows.make_rows.Given as goal
 
 abbrev pub invariant-loop-alloc : goal.invariant-loop-alloc

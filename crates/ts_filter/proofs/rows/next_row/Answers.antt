@@ -1,5 +1,5 @@
 use Rattle.std.proofs.Common.{refl, ap, ◌∙◌, sym, length, [], get_or, arith, ◌-◌, ◌*◌}
-use Rattle.ts_filter.specs.Known.{in_order}
+use Rattle.ts_filter.specs.KnownRows.{in_order}
 use Rattle.ts_filter.proofs.CellLaws.{all_written}
 use Rattle.ts_filter.proofs.KnownRows.{order_long, first_behind, before_is, before_long, before_stands, next_behind}
 use Rattle.ts_bound.proofs.TableLaws.{length-next_row}

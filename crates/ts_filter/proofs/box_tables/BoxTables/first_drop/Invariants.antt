@@ -1,4 +1,4 @@
-use Rattle.ts_filter.specs.Known.{StillKnown}
+use Rattle.ts_filter.specs.KnownRows.{StillKnown}
 use Rattle.ts_filter.proofs.DropLaws.{NoneUpTo}
 use Rattle.ts_filter.proofs.box_tables.BoxTables.first_drop.Given as goal
 

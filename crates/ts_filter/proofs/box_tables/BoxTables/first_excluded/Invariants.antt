@@ -1,5 +1,5 @@
-use Rattle.ts_filter.specs.Asked.{Excludes}
-use Rattle.ts_filter.specs.Known.{StillKnown}
+use Rattle.ts_filter.specs.Question.{Excludes}
+use Rattle.ts_filter.specs.KnownRows.{StillKnown}
 use Rattle.ts_filter.proofs.EarlyCells.{NoneBefore}
 use Rattle.ts_filter.proofs.box_tables.BoxTables.first_excluded.Given as goal
 

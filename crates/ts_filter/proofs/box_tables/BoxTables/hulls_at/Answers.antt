@@ -2,7 +2,7 @@ use Rattle.std.proofs.Common.{ap, ◌∙◌, sym, subst, [], get_or, option_map,
 use Rattle.ts_bound.specs.TermSpans.{automata_of}
 use Rattle.ts_glue.specs.declared.machine.Machine.{Machine}
 use Rattle.ts_filter.specs.CellHulls.{AreHulls, IsBackRow}
-use Rattle.ts_filter.specs.Known.{Known}
+use Rattle.ts_filter.specs.KnownRows.{KnownRows}
 use Rattle.ts_filter.proofs.TableSteps.{hulls_are, match_seen}
 use Rattle.ts_filter.proofs.box_tables.BoxTables.hulls_at.Goals as goal
 
@@ -10,8 +10,8 @@ pub invariant_of-result : goal.invariant_of-result
 invariant_of-result c =
     let t = c.args.self.now in let b = c.args.cells.now.present in
     subst (λ (m : Machine). AreHulls (automata_of m) b c.args.k c.row.result.now (option_map (λ r. r.now) c.back_row.result)) (sym c.get.ensures)
-    (subst (λ (u : Known). AreHulls u.machine b c.args.k c.row.result.now (option_map (λ r. r.now) c.back_row.result)) (sym c.self.view_is)
+    (subst (λ (u : KnownRows). AreHulls u.machine b c.args.k c.row.result.now (option_map (λ r. r.now) c.back_row.result)) (sym c.self.view_is)
     (hulls_are b t c.args.k c.row.result.now [] (option_map (λ r. r.now) c.back_row.result) c.requires.cell c.requires.usable
     c.requires.known c.requires.there
-    (c.row.ensures ∙ ap (λ (u : Known). get_or u.ahead (c.args.k - 1) []) c.self.view_is)
+    (c.row.ensures ∙ ap (λ (u : KnownRows). get_or u.ahead (c.args.k - 1) []) c.self.view_is)
     (match_seen (λ r. r.now) c.back_row.result (c.args.k ≡ length b) (IsBackRow t.machine.pair c.args.k b) c.back_row.ensures)))

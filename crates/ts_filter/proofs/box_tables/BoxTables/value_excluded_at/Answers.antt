@@ -3,7 +3,7 @@ use Rattle.std.proofs.lemmas.Int.{to_z-of_z}
 use Rattle.std.specs.Prelude.{IsTrue}
 use Rattle.ts_bound.specs.TermSpans.{Automata, value_span}
 use Rattle.ts_bound.proofs.Reached.{values_narrowed}
-use Rattle.ts_filter.specs.Asked.{Excludes}
+use Rattle.ts_filter.specs.Question.{Excludes}
 use Rattle.ts_filter.specs.CellHulls.{AtCell}
 use Rattle.ts_filter.proofs.box_tables.BoxTables.value_excluded_at.Goals as goal
 

@@ -1,7 +1,7 @@
 use Rattle.std.proofs.Common.{◌↔◌, ◌≡◌, true, subst, w64, ℤ}
 use Rattle.std.proofs.lemmas.Int.{to_z-of_z}
 use Rattle.ts_bound.specs.TermSpans.{value_span}
-use Rattle.ts_filter.specs.Asked.{Excludes}
+use Rattle.ts_filter.specs.Question.{Excludes}
 use Rattle.ts_filter.proofs.SoFarLaws.{alone_told}
 use Rattle.ts_filter.proofs.cell_hulls.CellHulls.excludes_at.Goals as goal
 

@@ -1,7 +1,7 @@
 use Rattle.std.proofs.Common.{◌↔◌, IsTrue, ◌∙◌, subst}
 use Rattle.std.specs.Prelude.{IfOk}
 use Rattle.ts_bound.specs.TermSpans.{Automata, term_span}
-use Rattle.ts_filter.specs.Asked.{Excludes}
+use Rattle.ts_filter.specs.Question.{Excludes}
 use Rattle.ts_filter.proofs.live_tables.LiveTables.excluded_at.Goals as goal
 
 pub returns-clause-told : goal.returns-clause-told

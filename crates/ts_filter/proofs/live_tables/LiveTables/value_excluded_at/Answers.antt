@@ -2,7 +2,7 @@ use Rattle.std.proofs.Common.{◌↔◌, ℤ, IsTrue, ◌∙◌, subst, w64, to_
 use Rattle.std.specs.Prelude.{IfOk}
 use Rattle.std.proofs.lemmas.Int.{to_z-of_z}
 use Rattle.ts_bound.specs.TermSpans.{Automata, term_span}
-use Rattle.ts_filter.specs.Asked.{Excludes}
+use Rattle.ts_filter.specs.Question.{Excludes}
 use Rattle.ts_filter.specs.Boxes.{only}
 use Rattle.ts_filter.proofs.live_tables.LiveTables.value_excluded_at.Goals as goal
 

@@ -1,0 +1,46 @@
+//! What is asked of the numbers of a span.
+
+ghost use Rattle.std.specs.Prelude.{◌↔◌, IsTrue};
+ghost use Rattle.ts_base.specs.declared.span.Span.{Span};
+ghost use Rattle.ts_filter.specs.Question.{Excludes};
+ghost use Rattle.ts_filter.specs.TermDrops.{RefutesSome};
+
+use crate::bar::Bar;
+use crate::excluded::{cuts, refutes};
+use crate::term_requirements::TermRequirements;
+use ts_base::{Ext, Goal, Span};
+use ts_model::Op;
+
+/// What is asked of the numbers of a span: one that compares so with a bound, for each requirement of a term one that
+/// meets it, one that counts for a bar, or what no span has.
+#[derive(Clone, Copy)]
+pub(crate) enum Question<'a> {
+    Compares(Op, Ext),
+    MeetsEach(TermRequirements<'a>),
+    Counts(Goal, Bar),
+    Nothing,
+}
+
+impl<'a> Question<'a> {
+    /// That each of these requirements is met by some number: where there is only one of them, that is one comparison.
+    pub(crate) fn each_met(requirements: TermRequirements<'a>) -> Question<'a>
+        ensures { (s : Span) → Excludes result s ↔ RefutesSome requirements.entry.all.now requirements.entry.term s }
+    {
+        match requirements.only() {
+            Some(r) => Question::Compares(r.op, r.bound),
+            None => Question::MeetsEach(requirements),
+        }
+    }
+
+    /// Whether the span doesn't have what is asked.
+    pub(crate) fn excludes(self, span: Span) -> bool
+        ensures { IsTrue result ↔ Excludes self.entry span }
+    {
+        match self {
+            Question::Compares(op, bound) => refutes(op, bound, span),
+            Question::MeetsEach(requirements) => requirements.first_refuted(span).is_some(),
+            Question::Counts(goal, bar) => cuts(goal, bar, span),
+            Question::Nothing => true,
+        }
+    }
+}
