@@ -13,7 +13,7 @@ use Rattle.ts_checker.specs.Verified.{rest_part}
 use Rattle.ts_run.specs.AnswerTexts.{CheckReply, DoneIsMeets, IsAsked, OneCheckReply, OnReading, OnSeries, SeriesReply, series_in}
 use Rattle.ts_run.specs.Endings.{RepliesWithin, Responds, TellsMeets}
 use Rattle.ts_run.specs.Reply.{EndsWritten, Reply}
-use Rattle.ts_run.specs.Verdict.{verdict}
+use Rattle.ts_run.specs.Verdict.{verdict, with_head}
 use Rattle.ts_run.specs.declared.command.Command.TheVariants.{Check}
 use Rattle.ts_run.specs.declared.status.Status.{Status}
 use Rattle.ts_run.specs.declared.status.Status.TheVariants.{Done, No, ReadFault}
@@ -48,6 +48,10 @@ verdict_given bytes m xs r asked h =
     subst (λ (x : Result (List ℤ) SeriesStop). OnSeries x (λ ys s. s ≡ verdict m ys) r) asked.series
     (subst (λ (x : Result ModelParts (ℕ × ModelKind)). OnReading x (SeriesReply (rest_part bytes)) r) asked.model h)
 
+head_status : (b : Bool) (rest : List ℕ) → (with_head b rest).status ≡ cond b Done No
+head_status true rest = refl
+head_status false rest = refl
+
 done_true : (b : Bool) → cond b Done No ≡ Done → b ≡ true
 done_true true e = refl
 done_true false e = cc
@@ -57,7 +61,7 @@ true_done b e = ap (λ (t : Bool). cond t Done No) e
 
 pub done_is_meets : DoneIsMeets
 done_is_meets bytes m xs r asked h =
-    let same = ap (λ (x : Reply). x.status) (verdict_given bytes m xs r asked h) in
+    let same = ap (λ (x : Reply). x.status) (verdict_given bytes m xs r asked h) ∙ head_status (is_met m xs) _ in
     let law = judged_is_met m xs (series_count (length m.cells) (cut_of (rest_part bytes)) xs asked.series) in
     (λ e. law.0 (done_true (is_met m xs) (sym same ∙ e)), λ w. same ∙ true_done (is_met m xs) (law.1 w))
 

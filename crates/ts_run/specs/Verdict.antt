@@ -1,6 +1,6 @@
 -- What `check` says of a series: whether it meets the model, each cell and requirement at fault, and the value of each
 -- term.
-use Rattle.std.specs.Prelude.{ℕ, ◌+◌, ℤ, Bool, true, false, List, [], ◌∷◌, ◌++◌, map, codes, if◌then◌else◌}
+use Rattle.std.specs.Prelude.{ℕ, ◌+◌, ℤ, Bool, true, false, List, [], ◌∷◌, ◌++◌, map, codes}
 use Rattle.std.specs.List.{zip}
 use Rattle.std.specs.Fmt.{decimal}
 use Rattle.ts_base.specs.declared.ext.Ext.{Ext}
@@ -35,20 +35,16 @@ value_lines (v ∷ vs) = value_line v.0 v.1 ++ value_lines vs
 abbrev pub names_of : ModelParts → List (List ℕ)
 names_of m = map (λ t. t.0) m.terms
 
--- whether all holds, and then what lies outside, what is broken and the values
-abbrev pub verdict_text : Bool → List Bool → List Bool → List (List ℕ × Ext) → List ℕ
-verdict_text meets inside holding values =
-    (if meets then codes "meets\n" else codes "fails\n")
-    ++ fault_lines (codes "outside ") 1 inside
-    ++ fault_lines (codes "broken ") 1 holding
-    ++ value_lines values
+-- what is said first, and the status, as all holds or not; then the rest
+abbrev pub with_head : Bool → List ℕ → Reply
+with_head true rest = record { text = codes "meets\n" ++ rest; status = Done }
+with_head false rest = record { text = codes "fails\n" ++ rest; status = No }
 
 -- the verdict by what lies inside, what holds, and the values
 abbrev pub verdict_of : List Bool → List Bool → List (List ℕ × Ext) → Reply
-verdict_of inside holding values = record {
-  text = verdict_text (all_hold inside holding) inside holding values;
-  status = if all_hold inside holding then Done else No;
-}
+verdict_of inside holding values =
+    with_head (all_hold inside holding)
+    (fault_lines (codes "outside ") 1 inside ++ fault_lines (codes "broken ") 1 holding ++ value_lines values)
 
 -- the verdict on a series
 abbrev pub verdict : ModelParts → List ℤ → Reply

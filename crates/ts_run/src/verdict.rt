@@ -20,12 +20,15 @@ pub fn verdict(alloc: Global, model: &Model, judgement: &Judgement) -> Result<Re
         (zip (names_of (model_parts model.now)) judgement.now.values.items)) }
     ensures status { IfOk result (λ r. ComesOfInput r.status) }
 {
-    let meets = judgement.meets();
-    let mut text = Vec::from_slice(alloc, if meets { b"meets\n" } else { b"fails\n" })?;
+    let (head, status): (&[u8], Status) = if judgement.meets() {
+        (b"meets\n", Status::Done)
+    } else {
+        (b"fails\n", Status::No)
+    };
+    let mut text = Vec::from_slice(alloc, head)?;
     push_faults(&mut text, b"outside ", &judgement.inside)?;
     push_faults(&mut text, b"broken ", &judgement.holding)?;
     push_values(&mut text, model, &judgement.values)?;
-    let status = if meets { Status::Done } else { Status::No };
     Ok(Reply { text, status })
 }
 
