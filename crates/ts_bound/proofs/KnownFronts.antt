@@ -11,7 +11,7 @@ use Rattle.ts_automaton.specs.Registers.{ext_op}
 use Rattle.ts_bound.specs.declared.packed.Ends.{Ends}
 use Rattle.ts_bound.specs.declared.packed.PackedHull.{PackedHull}
 use Rattle.ts_bound.specs.declared.sweep_parts.Part.{Part}
-use Rattle.ts_bound.specs.declared.sweep_parts.Part.TheVariants.{KeepR, Word, Two, Three, Tail}
+use Rattle.ts_bound.specs.declared.sweep_parts.Part.TheVariants.{KeepR, Word, Two, Three}
 use Rattle.ts_bound.specs.declared.sweep_parts.Parts.{Parts}
 use Rattle.ts_bound.specs.Packs.{unpack_span, unpack_hull, IsPackOf}
 use Rattle.ts_bound.specs.Sealed.{by_ends, some_hull, span_in}

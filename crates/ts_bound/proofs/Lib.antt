@@ -25,3 +25,4 @@ pub mod ValueLaws
 pub mod Passed
 pub mod OneValue
 mod Twins
+pub mod SameState

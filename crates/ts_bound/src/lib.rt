@@ -15,6 +15,7 @@
 mod block;
 mod fill;
 pub mod laws;
+mod other_moves;
 mod packed;
 mod packed_exprs;
 mod packed_sums;

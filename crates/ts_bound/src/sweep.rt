@@ -8,7 +8,8 @@ ghost use Rattle.ts_bound.specs.Hulls.{none};
 ghost use Rattle.ts_bound.specs.NextRow.{next_row};
 ghost use Rattle.ts_bound.specs.Sealed.{move_at};
 ghost use Rattle.ts_bound.specs.Smalls.{small_hull};
-ghost use Rattle.ts_bound.specs.Sweeps.{AllTakeNone, IsSweepable, fits, may_fit, same_letter, with_move};
+ghost use Rattle.ts_bound.specs.Sweeps.{fits, may_fit, same_letter};
+ghost use Rattle.ts_bound.specs.SweptMoves.{IsNextRow, with_taken_move};
 
 use crate::fill::clear;
 use crate::sweep_equal::equal_move;
@@ -17,6 +18,7 @@ use crate::sweep_pairs::pair_move;
 use crate::sweep_parts::Parts;
 use crate::sweep_state::take_state;
 use crate::sweep_values::{Places, count_of, greatest_of, least_of};
+use crate::swept_move::SweptMove;
 use ts_automaton::{Automaton, Hull, State, Turn};
 use ts_base::Letter;
 
@@ -68,62 +70,34 @@ fn may_occur(l: Letter, values: &Places<'_>, next_values: &Places<'_>) -> bool
 
 /// A move on `<` or `>` is taken in: by a sweep where it can be swept, else by pairs.
 #[inline(always)]
-fn unequal_move(
-    t: &Turn,
-    l: Letter,
-    s: usize,
-    q: usize,
-    values: &Places<'_>,
-    before: &[Hull],
-    next_values: &Places<'_>,
-    next: &mut [Hull],
-)
+fn unequal_move(m: &SweptMove<'_>, l: Letter, next: &mut [Hull])
     requires unequal { same_letter l Equal ≡ false }
-    requires sweepable { IsSweepable values.now next_values.now before.now }
-    requires canonical { AllTakeNone next.old }
-    requires state { q < s }
-    requires leads { t.now.next < s }
-    requires before { length before.now ≡ length values.now * s }
-    requires next { length next.old ≡ length next_values.now * s }
-    ensures { next.new ≡ with_move (move_of t.now) l s q values.now before.now next_values.now next.old }
+    requires alone { m.now.twin ≡ false }
+    requires next { IsNextRow m.now next.old }
+    ensures { next.new ≡ with_taken_move m.now l next.old }
 {
-    let p = Parts::of(t);
+    let p = Parts::of(m.turn);
     if p.is_swept() {
-        sweep_kept(t, &p, l, false, s, q, values, before, next_values, next);
+        sweep_kept(m, &p, l, next);
     } else {
-        pair_move(t, l, s, q, values, before, next_values, next);
+        pair_move(m, l, next);
     }
 }
 
 /// A move is taken in: by equal values on `=`, else by a sweep or by pairs. One next value alone needs no sweep.
 #[inline(always)]
-fn take_move(
-    t: &Turn,
-    l: Letter,
-    s: usize,
-    q: usize,
-    values: &Places<'_>,
-    before: &[Hull],
-    next_values: &Places<'_>,
-    next: &mut [Hull],
-)
-    requires sweepable { IsSweepable values.now next_values.now before.now }
-    requires canonical { AllTakeNone next.old }
-    requires state { q < s }
-    requires leads { t.now.next < s }
-    requires before { length before.now ≡ length values.now * s }
-    requires next { length next.old ≡ length next_values.now * s }
-    ensures { next.new ≡ with_move (move_of t.now) l s q values.now before.now next_values.now next.old }
+fn take_move(m: &SweptMove<'_>, l: Letter, next: &mut [Hull])
+    requires alone { m.now.twin ≡ false }
+    requires next { IsNextRow m.now next.old }
+    ensures { next.new ≡ with_taken_move m.now l next.old }
 {
     match l {
-        Letter::Equal => {
-            equal_move(t, s, q, values, before, next_values, next);
-        }
+        Letter::Equal => equal_move(m, next),
         _ => {
-            if count_of(next_values) > 1 {
-                unequal_move(t, l, s, q, values, before, next_values, next);
+            if count_of(m.next_values) > 1 {
+                unequal_move(m, l, next);
             } else {
-                pair_move(t, l, s, q, values, before, next_values, next);
+                pair_move(m, l, next);
             }
         }
     }
@@ -131,26 +105,13 @@ fn take_move(
 
 /// A move is taken in, if there may be a pair of values for it.
 #[inline(always)]
-pub(crate) fn add_move(
-    t: &Turn,
-    l: Letter,
-    s: usize,
-    q: usize,
-    values: &Places<'_>,
-    before: &[Hull],
-    next_values: &Places<'_>,
-    next: &mut [Hull],
-)
-    requires sweepable { IsSweepable values.now next_values.now before.now }
-    requires canonical { AllTakeNone next.old }
-    requires state { q < s }
-    requires leads { t.now.next < s }
-    requires before { length before.now ≡ length values.now * s }
-    requires next { length next.old ≡ length next_values.now * s }
-    ensures { next.new ≡ with_move (move_of t.now) l s q values.now before.now next_values.now next.old }
+pub(crate) fn add_move(m: &SweptMove<'_>, l: Letter, next: &mut [Hull])
+    requires alone { m.now.twin ≡ false }
+    requires next { IsNextRow m.now next.old }
+    ensures { next.new ≡ with_taken_move m.now l next.old }
 {
-    if may_occur(l, values, next_values) {
-        take_move(t, l, s, q, values, before, next_values, next);
+    if may_occur(l, m.values, m.next_values) {
+        take_move(m, l, next);
     }
 }
 

@@ -1,22 +1,22 @@
 //! A move on `<` or `>` by a sweep: one running hull of the fronts that were passed.
 
 ghost use Rattle.std.specs.Prelude.{◌≡◌, ℕ, ◌+◌, ◌*◌, ◌<◌, ◌≤◌, pos, true, false, length, get_or};
-ghost use Rattle.ts_automaton.specs.Body.{move_of};
 ghost use Rattle.ts_automaton.specs.declared.regs.Hull.{Hull};
 ghost use Rattle.ts_base.specs.declared.letter.Letter.TheVariants.{Equal};
-ghost use Rattle.ts_bound.specs.Cuts.{closed_hull, cut_of, front_hull, parts_cut, all_swept};
+ghost use Rattle.ts_bound.specs.Cuts.{closed_hull, front_hull, parts_cut, all_swept};
 ghost use Rattle.ts_bound.specs.Hulls.{hull_of_both, none};
 ghost use Rattle.ts_bound.specs.Packs.{IsPackOf, IsRunning, IsSomeOrNone, unpack_hull};
 ghost use Rattle.ts_bound.specs.Sealed.{some_hull};
 ghost use Rattle.ts_bound.specs.Smalls.{small_hull, small_int};
-ghost use Rattle.ts_bound.specs.Sweeps.{AllTakeNone, IsSweepable, fronts, hull_in, same_letter};
-ghost use Rattle.ts_bound.specs.Sweeps.{step_place, takes, with_hull_at, with_sweep};
+ghost use Rattle.ts_bound.specs.Sweeps.{fronts, hull_in, same_letter, step_place, takes, with_hull_at};
+ghost use Rattle.ts_bound.specs.SweptMoves.{AreSweptParts, IsNextRow, with_swept_move};
 
 use crate::packed::PackedHull;
 use crate::sweep_parts::Parts;
 use crate::sweep_run::{Run, compares, packed_at, put, step_place, with_next};
 use crate::sweep_values::{Places, count_of, value_at};
-use ts_automaton::{Hull, Turn};
+use crate::swept_move::SweptMove;
+use ts_automaton::Hull;
 use ts_base::Letter;
 
 /// The run with one hull more, for its value.
@@ -139,32 +139,24 @@ pub(crate) fn put_run(
 
 /// A move on `<` or `>` by a sweep over its parts: each next value, in the letter's order, takes in the fronts that
 /// were passed.
-#[inline(always)]
-pub(crate) fn sweep_move(
-    t: &Turn,
-    p: &Parts<'_>,
-    l: Letter,
-    twin: bool,
-    s: usize,
-    q: usize,
-    values: &Places<'_>,
-    before: &[Hull],
-    next_values: &Places<'_>,
-    next: &mut [Hull],
-)
+#[inline(never)]
+pub(crate) fn sweep_move(m: &SweptMove<'_>, p: &Parts<'_>, l: Letter, next: &mut [Hull])
     requires unequal { same_letter l Equal ≡ false }
-    requires parts { parts_cut p.now ≡ cut_of (move_of t.now) }
-    requires swept { all_swept (parts_cut p.now) ≡ true }
-    requires sweepable { IsSweepable values.now next_values.now before.now }
-    requires canonical { AllTakeNone next.old }
-    requires state { q < s }
-    requires leads { t.now.next < s }
-    requires before { length before.now ≡ length values.now * s }
-    requires next { length next.old ≡ length next_values.now * s }
-    ensures { next.new ≡ with_sweep (move_of t.now) l twin s q values.now before.now next_values.now next.old }
+    requires parts { AreSweptParts m.now p.now }
+    requires next { IsNextRow m.now next.old }
+    ensures { next.new ≡ with_swept_move m.now l next.old }
 {
+    let SweptMove {
+        turn,
+        twin,
+        states,
+        state,
+        values,
+        before,
+        next_values,
+    } = *m;
     let n = count_of(next_values);
-    let to = t.next as usize;
+    let to = turn.next as usize;
     let mut run = Run {
         at: 0,
         hull: PackedHull::nothing(),
@@ -172,7 +164,7 @@ pub(crate) fn sweep_move(
     for k in 0..count_of(next_values) {
         let j = step_place(l, n, k);
         let next_value = value_at(next_values, j);
-        run = passed(p, l, twin, s, q, values, before, next_value, run);
-        put_run(p, &run, next, s, to, j, next_value);
+        run = passed(p, l, twin, states, state, values, before, next_value, run);
+        put_run(p, &run, next, states, to, j, next_value);
     }
 }

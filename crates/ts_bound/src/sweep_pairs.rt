@@ -7,13 +7,14 @@ ghost use Rattle.ts_bound.specs.Hulls.{hull_of_both, none};
 ghost use Rattle.ts_bound.specs.Packs.{IsPackOf, IsRunning, IsSomeOrNone, unpack_hull};
 ghost use Rattle.ts_bound.specs.Sealed.{after_move, some_hull};
 ghost use Rattle.ts_bound.specs.Smalls.{small_hull, small_int};
-ghost use Rattle.ts_bound.specs.Sweeps.{AllTakeNone, IsSweepable, fits, hull_in, move_entry, pair_gives};
-ghost use Rattle.ts_bound.specs.Sweeps.{with_hull_at, with_move};
+ghost use Rattle.ts_bound.specs.Sweeps.{hull_in, pair_gives, with_hull_at};
+ghost use Rattle.ts_bound.specs.SweptMoves.{IsNextRow, taken_entry, with_taken_move};
 
 use crate::packed::PackedHull;
 use crate::packed_exprs::moved_packed;
 use crate::sweep_run::{Run, fits, packed_at, put, step_place, with_next};
 use crate::sweep_values::{Places, count_of, value_at};
+use crate::swept_move::SweptMove;
 use ts_automaton::{Hull, Turn};
 use ts_base::Letter;
 
@@ -68,37 +69,22 @@ fn with_moved_hull(
     }
 }
 
-/// The run with the move at place `i`, state `q`.
+/// The run with the move at place `i`.
 #[inline(always)]
-fn with_moved(
-    t: &Turn,
-    s: usize,
-    q: usize,
-    values: &Places<'_>,
-    before: &[Hull],
-    i: usize,
-    next_values: &Places<'_>,
-    j: usize,
-    run: Run,
-) -> Run
-    requires first { i < length values.now }
-    requires second { j < length next_values.now }
-    requires state { q < s }
-    requires before { length before.now ≡ length values.now * s }
-    requires small { small_hull (hull_in s q before.now i) ≡ true }
-    requires this { small_int (get_or values.now i (pos 0)) ≡ true }
-    requires next { small_int (get_or next_values.now j (pos 0)) ≡ true }
+fn with_moved(m: &SweptMove<'_>, i: usize, j: usize, run: Run) -> Run
+    requires first { i < length m.now.values.now }
+    requires second { j < length m.now.next_values.now }
     requires begun { IsSomeOrNone (unpack_hull run.hull) }
     ensures { (r : Hull) → IsRunning run.hull r → IsRunning result.hull
-        (hull_of_both r (after_move (move_of t.now)
-        (hull_in s q before.now i) (get_or values.now i (pos 0)) (get_or next_values.now j (pos 0)))) }
+        (hull_of_both r (after_move (move_of m.now.turn.now) (hull_in m.now.states m.now.state m.now.before.now i)
+        (get_or m.now.values.now i (pos 0)) (get_or m.now.next_values.now j (pos 0)))) }
 {
     with_moved_hull(
-        t,
-        &packed_at(before, s, q, values, i),
-        values,
+        m.turn,
+        &packed_at(m.before, m.states, m.state, m.values, i),
+        m.values,
         i,
-        next_values,
+        m.next_values,
         j,
         run,
     )
@@ -106,56 +92,29 @@ fn with_moved(
 
 /// The run with what one pair of values gives.
 #[inline(always)]
-pub(crate) fn with_pair(
-    t: &Turn,
-    l: Letter,
-    s: usize,
-    q: usize,
-    values: &Places<'_>,
-    before: &[Hull],
-    i: usize,
-    next_values: &Places<'_>,
-    j: usize,
-    run: Run,
-) -> Run
-    requires first { i < length values.now }
-    requires second { j < length next_values.now }
-    requires sweepable { IsSweepable values.now next_values.now before.now }
-    requires state { q < s }
-    requires before { length before.now ≡ length values.now * s }
+pub(crate) fn with_pair(m: &SweptMove<'_>, l: Letter, i: usize, j: usize, run: Run) -> Run
+    requires first { i < length m.now.values.now }
+    requires second { j < length m.now.next_values.now }
     requires begun { IsSomeOrNone (unpack_hull run.hull) }
     ensures { (r : Hull) → IsRunning run.hull r → IsRunning result.hull
-        (hull_of_both r
-        (pair_gives (move_of t.now) l s q values.now before.now (get_or next_values.now j (pos 0)) i)) }
+        (hull_of_both r (pair_gives (move_of m.now.turn.now) l m.now.states m.now.state
+        m.now.values.now m.now.before.now (get_or m.now.next_values.now j (pos 0)) i)) }
 {
-    if fits(l, values, i, next_values, j) {
-        with_moved(t, s, q, values, before, i, next_values, j, run)
+    if fits(l, m.values, i, m.next_values, j) {
+        with_moved(m, i, j, run)
     } else {
         run
     }
 }
 
 /// What the move gives to the next value at place `j`, over all pairs.
-fn pair_entry(
-    t: &Turn,
-    l: Letter,
-    s: usize,
-    q: usize,
-    values: &Places<'_>,
-    before: &[Hull],
-    next_values: &Places<'_>,
-    j: usize,
-) -> Run
-    requires second { j < length next_values.now }
-    requires sweepable { IsSweepable values.now next_values.now before.now }
-    requires state { q < s }
-    requires before { length before.now ≡ length values.now * s }
-    ensures { IsRunning result.hull
-        (move_entry (move_of t.now) l s q values.now before.now (get_or next_values.now j (pos 0))) }
+fn pair_entry(m: &SweptMove<'_>, l: Letter, j: usize) -> Run
+    requires second { j < length m.now.next_values.now }
+    ensures { IsRunning result.hull (taken_entry m.now l (get_or m.now.next_values.now j (pos 0))) }
 {
     let mut run = Run::empty();
-    for i in 0..count_of(values) {
-        run = with_pair(t, l, s, q, values, before, i, next_values, j, run);
+    for i in 0..count_of(m.values) {
+        run = with_pair(m, l, i, j, run);
     }
     run
 }
@@ -174,29 +133,15 @@ pub(crate) fn put_packed(run: &Run, next: &mut [Hull], s: usize, to: usize, j: u
 }
 
 /// A move on `<` or `>` by pairs.
-pub(crate) fn pair_move(
-    t: &Turn,
-    l: Letter,
-    s: usize,
-    q: usize,
-    values: &Places<'_>,
-    before: &[Hull],
-    next_values: &Places<'_>,
-    next: &mut [Hull],
-)
-    requires sweepable { IsSweepable values.now next_values.now before.now }
-    requires canonical { AllTakeNone next.old }
-    requires state { q < s }
-    requires leads { t.now.next < s }
-    requires before { length before.now ≡ length values.now * s }
-    requires next { length next.old ≡ length next_values.now * s }
-    ensures { next.new ≡ with_move (move_of t.now) l s q values.now before.now next_values.now next.old }
+pub(crate) fn pair_move(m: &SweptMove<'_>, l: Letter, next: &mut [Hull])
+    requires next { IsNextRow m.now next.old }
+    ensures { next.new ≡ with_taken_move m.now l next.old }
 {
-    let n = count_of(next_values);
-    let to = t.next as usize;
-    for k in 0..count_of(next_values) {
+    let n = count_of(m.next_values);
+    let to = m.turn.next as usize;
+    for k in 0..count_of(m.next_values) {
         let j = step_place(l, n, k);
-        let run = pair_entry(t, l, s, q, values, before, next_values, j);
-        put_packed(&run, next, s, to, j);
+        let run = pair_entry(m, l, j);
+        put_packed(&run, next, m.states, to, j);
     }
 }

@@ -5,7 +5,8 @@ ghost use Rattle.std.specs.Prelude.{◌≡◌, ℕ, ◌*◌, ◌<◌, true, fals
 ghost use Rattle.ts_automaton.specs.Body.{move_of};
 ghost use Rattle.ts_base.specs.declared.letter.Letter.TheVariants.{Equal};
 ghost use Rattle.ts_bound.specs.Sealed.{some_hull};
-ghost use Rattle.ts_bound.specs.Sweeps.{AllTakeNone, IsSweepable, hull_in, same_letter, with_move, with_state};
+ghost use Rattle.ts_bound.specs.Sweeps.{AllTakeNone, IsSweepable, hull_in, same_letter, with_state};
+ghost use Rattle.ts_bound.specs.SweptMoves.{IsNextRow, with_move_of, with_taken_move};
 
 use crate::same_moves::is_same_turn;
 use crate::single::step_state;
@@ -14,6 +15,7 @@ use crate::sweep_kept::sweep_kept;
 use crate::sweep_parts::Parts;
 use crate::sweep_run::has_registers;
 use crate::sweep_values::{Places, count_of};
+use crate::swept_move::SweptMove;
 use ts_automaton::{Automaton, Hull, Turn};
 use ts_base::Letter;
 use ts_base::Letter::{Greater, Less};
@@ -45,43 +47,19 @@ fn is_reached(before: &[Hull], s: usize, q: usize, values: &Places<'_>) -> bool
 
 /// The moves on `<` or `>` and on `=` are taken in: by one sweep where they are the same and can be swept.
 #[inline(always)]
-fn add_both(
-    t: &Turn,
-    equal: &Turn,
-    l: Letter,
-    s: usize,
-    q: usize,
-    values: &Places<'_>,
-    before: &[Hull],
-    next_values: &Places<'_>,
-    next: &mut [Hull],
-)
+fn add_both(m: &SweptMove<'_>, equal: &Turn, l: Letter, next: &mut [Hull])
     requires unequal { same_letter l Equal ≡ false }
-    requires sweepable { IsSweepable values.now next_values.now before.now }
-    requires canonical { AllTakeNone next.old }
-    requires state { q < s }
-    requires leads { t.now.next < s }
-    requires leads_equal { equal.now.next < s }
-    requires before { length before.now ≡ length values.now * s }
-    requires next { length next.old ≡ length next_values.now * s }
-    ensures { next.new ≡ with_move (move_of equal.now) Equal s q values.now before.now next_values.now
-        (with_move (move_of t.now) l s q values.now before.now next_values.now next.old) }
+    requires alone { m.now.twin ≡ false }
+    requires leads { equal.now.next < m.now.states }
+    requires next { IsNextRow m.now next.old }
+    ensures { next.new ≡ with_move_of m.now (move_of equal.now) Equal (with_taken_move m.now l next.old) }
 {
-    let p = Parts::of(t);
-    if count_of(next_values) > 1 && p.is_swept() && is_same_turn(t, equal) {
-        sweep_kept(t, &p, l, true, s, q, values, before, next_values, next);
+    let p = Parts::of(m.turn);
+    if count_of(m.next_values) > 1 && p.is_swept() && is_same_turn(m.turn, equal) {
+        sweep_kept(&m.with(m.turn, true), &p, l, next);
     } else {
-        add_move(t, l, s, q, values, before, next_values, next);
-        add_move(
-            equal,
-            Letter::Equal,
-            s,
-            q,
-            values,
-            before,
-            next_values,
-            next,
-        );
+        add_move(m, l, next);
+        add_move(&m.with(equal, false), Letter::Equal, next);
     }
 }
 
@@ -109,22 +87,21 @@ fn add_state(
     let less = turn(a, q, Less);
     let same = turn(a, q, Letter::Equal);
     let more = turn(a, q, Greater);
+    let m = SweptMove {
+        turn: less,
+        twin: false,
+        states: s,
+        state: at,
+        values,
+        before,
+        next_values,
+    };
     if is_same_turn(less, same) {
-        add_both(less, same, Less, s, at, values, before, next_values, next);
-        add_move(more, Greater, s, at, values, before, next_values, next);
+        add_both(&m, same, Less, next);
+        add_move(&m.with(more, false), Greater, next);
     } else {
-        add_move(less, Less, s, at, values, before, next_values, next);
-        add_both(
-            more,
-            same,
-            Greater,
-            s,
-            at,
-            values,
-            before,
-            next_values,
-            next,
-        );
+        add_move(&m, Less, next);
+        add_both(&m.with(more, false), same, Greater, next);
     }
 }
 

@@ -1,4 +1,4 @@
-//! What a sweep of a move reads.
+//! What a move of a state between two cells reads.
 
 ghost use Rattle.std.specs.Prelude.{◌≡◌, ◌*◌, ◌<◌, length};
 ghost use Rattle.ts_bound.specs.Sweeps.{IsSweepable};

@@ -6,8 +6,8 @@ use Rattle.ts_bound.proofs.sweep_equal.equal_gaps.Given as goal
 
 abbrev pub invariant-loop-j : goal.invariant-loop-j
 invariant-loop-j l = record {
-  next : l.next ≡ puts l.s l.to (step_place Equal (length l.next_values))
-      (λ j. move_entry (move_of l.t) Equal l.s l.q l.values l.before (get_or l.next_values j (pos 0))) l.fn.next l.j;
-  inside : l.at ≤ length l.values;
-  passed : (i : ℕ) → i < l.at → (n : ℕ) → l.j ≤ n → n < length l.next_values → fits Less l.values i l.next_values n ≡ true;
+  next : l.next ≡ puts l.m.states l.to (step_place Equal (length l.m.next_values.now))
+      (λ j. move_entry (move_of l.m.turn.now) Equal l.m.states l.m.state l.m.values.now l.m.before.now (get_or l.m.next_values.now j (pos 0))) l.fn.next l.j;
+  inside : l.at ≤ length l.m.values.now;
+  passed : (i : ℕ) → i < l.at → (n : ℕ) → l.j ≤ n → n < length l.m.next_values.now → fits Less l.m.values.now i l.m.next_values.now n ≡ true;
 }

@@ -6,5 +6,5 @@ use Rattle.ts_bound.proofs.sweep_equal_parts.equal_sweep.Given as goal
 
 abbrev pub invariant-loop-j : goal.invariant-loop-j
 invariant-loop-j l =
-    l.next ≡ puts l.s l.to (step_place Equal (length l.next_values))
-    (λ j. move_entry (move_of l.t) Equal l.s l.q l.values l.before (get_or l.next_values j (pos 0))) l.fn.next l.j
+    l.next ≡ puts l.m.states l.to (step_place Equal (length l.m.next_values.now))
+    (λ j. move_entry (move_of l.m.turn.now) Equal l.m.states l.m.state l.m.values.now l.m.before.now (get_or l.m.next_values.now j (pos 0))) l.fn.next l.j

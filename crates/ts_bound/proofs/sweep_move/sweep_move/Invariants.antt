@@ -7,10 +7,10 @@ use Rattle.ts_bound.proofs.sweep_move.sweep_move.Given as goal
 
 abbrev pub invariant-loop-k : goal.invariant-loop-k
 invariant-loop-k l = record {
-  next : l.next ≡ puts l.s l.to (step_place l.l (length l.next_values))
-      (λ j. sweep_entry (move_of l.fn.t) l.l l.twin l.s l.q l.values l.before (get_or l.next_values j (pos 0))) l.fn.next l.k;
+  next : l.next ≡ puts l.states l.to (step_place l.l (length l.next_values))
+      (λ j. sweep_entry (move_of l.fn.m.turn.now) l.l l.twin l.states l.state l.values l.before (get_or l.next_values j (pos 0))) l.fn.next l.k;
   inside : l.run.at ≤ length l.values;
-  fronts : IsRunning l.run.hull (fronts (parts_cut l.p) l.l l.s l.q l.values l.before l.run.at);
+  fronts : IsRunning l.run.hull (fronts (parts_cut l.p) l.l l.states l.state l.values l.before l.run.at);
   passed : (i : ℕ) → i < l.run.at → (n : ℕ) → l.k ≤ n → n < length l.next_values →
       takes l.l l.twin l.values (step_place l.l (length l.values) i) (get_or l.next_values (step_place l.l (length l.next_values) n) (pos 0)) ≡ true;
 }

@@ -10,18 +10,21 @@ loop-i-init c = run_begun _ _ c.empty-run.ensures
 
 pub with_pair-run-requires-clause-begun : goal.with_pair-run-requires-clause-begun
 with_pair-run-requires-clause-begun c =
+    let m = c.args.m.now in
     running_begun c.loop-i.run.hull (total c.loop-i.i
-    (λ k. pair_gives (move_of c.args.t.now) c.args.l c.args.s c.args.q c.args.values.now c.args.before.now
-    (get_or c.args.next_values.now c.args.j (pos 0)) k)) c.loop-i.invariant
+    (λ k. pair_gives (move_of m.turn.now) c.args.l m.states m.state m.values.now m.before.now
+    (get_or m.next_values.now c.args.j (pos 0)) k)) c.loop-i.invariant
 
 pub loop-i-preserved : goal.loop-i-preserved
 loop-i-preserved c =
-    run_more (λ k. pair_gives (move_of c.args.t.now) c.args.l c.args.s c.args.q c.args.values.now c.args.before.now
-    (get_or c.args.next_values.now c.args.j (pos 0)) k) c.loop-i.i
+    let m = c.args.m.now in
+    run_more (λ k. pair_gives (move_of m.turn.now) c.args.l m.states m.state m.values.now m.before.now
+    (get_or m.next_values.now c.args.j (pos 0)) k) c.loop-i.i
     c.loop-i.run.hull c.with_pair-run.result.hull c.loop-i.invariant c.with_pair-run.ensures
 
 pub returns : goal.returns
 returns c =
-    run_done (move_of c.args.t.now) c.args.l c.args.s c.args.q c.args.values.now c.args.before.now (get_or c.args.next_values.now c.args.j (pos 0))
+    let m = c.args.m.now in
+    run_done (move_of m.turn.now) c.args.l m.states m.state m.values.now m.before.now (get_or m.next_values.now c.args.j (pos 0))
     c.loop-i.i c.loop-i.run.hull (omega (arith, c.loop-i-test.false, c.count_of-i-end.ensures.count))
     (omega (arith, c.loop-i.auto.i-end, c.count_of-i-end.ensures.count)) c.loop-i.invariant

@@ -6,4 +6,4 @@ use Rattle.ts_bound.proofs.sweep_pairs.pair_entry.Given as goal
 
 abbrev pub invariant-loop-i : goal.invariant-loop-i
 invariant-loop-i l = IsRunning l.run.hull (total l.i
-    (λ k. pair_gives (move_of l.t) l.l l.s l.q l.values l.before (get_or l.next_values l.j (pos 0)) k))
+    (λ k. pair_gives (move_of l.m.turn.now) l.l l.m.states l.m.state l.m.values.now l.m.before.now (get_or l.m.next_values.now l.j (pos 0)) k))

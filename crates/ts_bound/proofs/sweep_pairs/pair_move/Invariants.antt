@@ -4,5 +4,5 @@ use Rattle.ts_bound.specs.Sweeps.{step_place, puts, move_entry}
 use Rattle.ts_bound.proofs.sweep_pairs.pair_move.Given as goal
 
 abbrev pub invariant-loop-k : goal.invariant-loop-k
-invariant-loop-k l = l.next ≡ puts l.s l.to (step_place l.l (length l.next_values))
-    (λ j. move_entry (move_of l.t) l.l l.s l.q l.values l.before (get_or l.next_values j (pos 0))) l.fn.next l.k
+invariant-loop-k l = l.next ≡ puts l.m.states l.to (step_place l.l (length l.m.next_values.now))
+    (λ j. move_entry (move_of l.m.turn.now) l.l l.m.states l.m.state l.m.values.now l.m.before.now (get_or l.m.next_values.now j (pos 0))) l.fn.next l.k

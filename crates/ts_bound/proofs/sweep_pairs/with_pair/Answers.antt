@@ -4,11 +4,13 @@ use Rattle.ts_bound.proofs.sweep_pairs.with_pair.Goals as goal
 
 pub returns-then-fits : goal.returns-then-fits
 returns-then-fits c r i =
-    pair_true (move_of c.args.t.now) c.args.l c.args.s c.args.q c.args.values.now c.args.next_values.now c.args.before.now c.args.j c.args.i
+    let m = c.args.m.now in
+    pair_true (move_of m.turn.now) c.args.l m.states m.state m.values.now m.next_values.now m.before.now c.args.j c.args.i
     c.fits.result c.with_moved.result.hull r c.fits.ensures c.if-fits.true
     (c.with_moved.ensures r i)
 
 pub returns-else-fits : goal.returns-else-fits
 returns-else-fits c r i =
-    pair_false (move_of c.args.t.now) c.args.l c.args.s c.args.q c.args.values.now c.args.next_values.now c.args.before.now c.args.j c.args.i
+    let m = c.args.m.now in
+    pair_false (move_of m.turn.now) c.args.l m.states m.state m.values.now m.next_values.now m.before.now c.args.j c.args.i
     c.fits.result c.args.run.hull r c.fits.ensures c.if-fits.false i
