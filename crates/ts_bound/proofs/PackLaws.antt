@@ -259,94 +259,8 @@ widened_hull h k c d r e f g = same_hull _ _ _ _ _ _ e f g
 
 -- an end below or above another
 
-lt_means : (a b : ℤ) → int_lt a b ≡ true → a <ℤ b
-lt_means a b h = grind (arith, ints)
-
 lt_not : (a b : ℤ) → int_lt a b ≡ false → b ≤ℤ a
 lt_not a b h = grind (arith, ints)
-
-le_not : (a b : ℤ) → int_le a b ≡ false → b <ℤ a
-le_not a b h = grind (arith, ints)
-
-le_holds : (a b : ℤ) → a ≤ℤ b → int_le a b ≡ true
-le_holds a b h = grind (arith, ints)
-
-le_fails : (a b : ℤ) → b <ℤ a → int_le a b ≡ false
-le_fails a b h = grind (arith, ints)
-
--- an end that is no infinity above
-below_high : (s : End) (e : Ext) → s.at <ℤ pos 9223372036854775807 → ext_le e NegInf ≡ false → ext_le e (Int s.at) ≡ false →
-    ext_le e (unpack s) ≡ false
-below_high s e h low between = go (int_le s.at (negsuc 9223372036854775807)) refl
-  where
-    go : (b : Bool) → int_le s.at (negsuc 9223372036854775807) ≡ b → ext_le e (unpack s) ≡ false
-    go true k = ap (ext_le e) (unpack_low s k) ∙ low
-    go false k = ap (ext_le e) (unpack_between s k (le_fails (pos 9223372036854775807) s.at h)) ∙ between
-
--- and one that is no infinity below
-over_low : (s : End) (e : Ext) → negsuc 9223372036854775807 <ℤ s.at → ext_le PosInf e ≡ false → ext_le (Int s.at) e ≡ false →
-    ext_le (unpack s) e ≡ false
-over_low s e h high between = go (above_low s h)
-  where
-    go : (unpack s ≡ PosInf) ⊎ (unpack s ≡ Int s.at) → ext_le (unpack s) e ≡ false
-    go (inl k) = ap (λ z. ext_le z e) k ∙ high
-    go (inr k) = ap (λ z. ext_le z e) k ∙ between
-
-pub below_then : (s : End) (e : Ext) (x v w : ℤ) → v ≡ s.at → w ≡ x → e ≡ Int x → x ≤ℤ pos 9223372036854775807 → int_lt v w ≡ true →
-    int_lt v w ≡ not (ext_le e (unpack s))
-below_then s e x v w i j is h t =
-    let less : s.at <ℤ x = lt_means s.at x (sym (ap (λ z. int_lt z w) i ∙ ap (int_lt s.at) j) ∙ t) in
-    t ∙ sym (ap not (ap (λ z. ext_le z (unpack s)) is ∙ below_high s (Int x) (omega (arith, ints, less, h)) refl (le_fails x s.at less)))
-
-pub below_else : (s : End) (e : Ext) (x v w : ℤ) → v ≡ s.at → w ≡ x → e ≡ Int x → int_lt v w ≡ false →
-    int_le v (negsuc 9223372036854775807) ≡ not (ext_le e (unpack s))
-below_else s e x v w i j is t = ap (λ z. int_le z (negsuc 9223372036854775807)) i ∙ go (int_le s.at (negsuc 9223372036854775807)) refl
-  where
-    behind : x ≤ℤ s.at
-    behind = lt_not s.at x (sym (ap (λ z. int_lt z w) i ∙ ap (int_lt s.at) j) ∙ t)
-
-    at_least : (unpack s ≡ PosInf) ⊎ (unpack s ≡ Int s.at) → ext_le (Int x) (unpack s) ≡ true
-    at_least (inl k) = ap (ext_le (Int x)) k
-    at_least (inr k) = ap (ext_le (Int x)) k ∙ le_holds x s.at behind
-
-    go : (b : Bool) → int_le s.at (negsuc 9223372036854775807) ≡ b → int_le s.at (negsuc 9223372036854775807) ≡ not (ext_le e (unpack s))
-    go true k = k ∙ sym (ap not (ap (λ z. ext_le z (unpack s)) is ∙ ap (ext_le (Int x)) (unpack_low s k)))
-    go false k = k ∙ sym (ap not (ap (λ z. ext_le z (unpack s)) is ∙ at_least (above_low s (le_not s.at (negsuc 9223372036854775807) k))))
-
-pub below_infinity : (s : End) (e : Ext) (v : ℤ) → v ≡ s.at → e ≡ PosInf → int_lt v (pos 9223372036854775807) ≡ not (ext_le e (unpack s))
-below_infinity s e v i is = ap (λ z. int_lt z (pos 9223372036854775807)) i ∙ go (int_lt s.at (pos 9223372036854775807)) refl
-  where
-    go : (b : Bool) → int_lt s.at (pos 9223372036854775807) ≡ b → int_lt s.at (pos 9223372036854775807) ≡ not (ext_le e (unpack s))
-    go true k = k ∙ sym (ap not (ap (λ z. ext_le z (unpack s)) is ∙ below_high s PosInf (lt_means s.at (pos 9223372036854775807) k) refl refl))
-    go false k = k ∙ sym (ap not (ap (λ z. ext_le z (unpack s)) is ∙ ap (ext_le PosInf) (is_high s (lt_not s.at (pos 9223372036854775807) k))))
-
-pub above_then : (s : End) (e : Ext) (x v w : ℤ) → v ≡ s.at → w ≡ x → e ≡ Int x → negsuc 9223372036854775807 ≤ℤ x → int_lt w v ≡ true →
-    int_lt w v ≡ not (ext_le (unpack s) e)
-above_then s e x v w i j is h t =
-    let less : x <ℤ s.at = lt_means x s.at (sym (ap (λ z. int_lt z v) j ∙ ap (int_lt x) i) ∙ t) in
-    t ∙ sym (ap not (ap (ext_le (unpack s)) is ∙ over_low s (Int x) (omega (arith, ints, less, h)) refl (le_fails s.at x less)))
-
-pub above_else : (s : End) (e : Ext) (x v w : ℤ) → v ≡ s.at → w ≡ x → e ≡ Int x → int_lt w v ≡ false →
-    int_le (pos 9223372036854775807) v ≡ not (ext_le (unpack s) e)
-above_else s e x v w i j is t = ap (int_le (pos 9223372036854775807)) i ∙ go (int_le (pos 9223372036854775807) s.at) refl
-  where
-    before : s.at ≤ℤ x
-    before = lt_not x s.at (sym (ap (λ z. int_lt z v) j ∙ ap (int_lt x) i) ∙ t)
-
-    at_most : int_le (pos 9223372036854775807) s.at ≡ false → (b : Bool) → int_le s.at (negsuc 9223372036854775807) ≡ b → ext_le (unpack s) (Int x) ≡ true
-    at_most k true l = ap (λ z. ext_le z (Int x)) (unpack_low s l)
-    at_most k false l = ap (λ z. ext_le z (Int x)) (unpack_between s l k) ∙ le_holds s.at x before
-
-    go : (b : Bool) → int_le (pos 9223372036854775807) s.at ≡ b → int_le (pos 9223372036854775807) s.at ≡ not (ext_le (unpack s) e)
-    go true k = k ∙ sym (ap not (ap (ext_le (unpack s)) is ∙ ap (λ z. ext_le z (Int x)) (is_high s (le_means (pos 9223372036854775807) s.at k))))
-    go false k = k ∙ sym (ap not (ap (ext_le (unpack s)) is ∙ at_most k (int_le s.at (negsuc 9223372036854775807)) refl))
-
-pub above_infinity : (s : End) (e : Ext) (v : ℤ) → v ≡ s.at → e ≡ NegInf → int_lt (negsuc 9223372036854775807) v ≡ not (ext_le (unpack s) e)
-above_infinity s e v i is = ap (int_lt (negsuc 9223372036854775807)) i ∙ go (int_lt (negsuc 9223372036854775807) s.at) refl
-  where
-    go : (b : Bool) → int_lt (negsuc 9223372036854775807) s.at ≡ b → int_lt (negsuc 9223372036854775807) s.at ≡ not (ext_le (unpack s) e)
-    go true k = k ∙ sym (ap not (ap (ext_le (unpack s)) is ∙ over_low s NegInf (lt_means (negsuc 9223372036854775807) s.at k) refl refl))
-    go false k = k ∙ sym (ap not (ap (ext_le (unpack s)) is ∙ ap (λ z. ext_le z NegInf) (is_low s (lt_not (negsuc 9223372036854775807) s.at k))))
 
 -- moves
 
@@ -491,3 +405,58 @@ runs_empty p e = record { value = e; begun = inr refl }
 
 pub runs_as : (p : PackedHull) (t u : Hull) → t ≡ u → IsRunning p t → IsRunning p u
 runs_as p t u e i = subst (λ (z : Hull). IsRunning p z) e i
+
+-- an infinity beside an end
+
+min_least : (e : Ext) → NegInf ≡ ext_min e NegInf
+min_least NegInf = refl
+min_least (Int x) = refl
+min_least PosInf = refl
+
+min_most : (e : Ext) → e ≡ ext_min e PosInf
+min_most NegInf = refl
+min_most (Int x) = refl
+min_most PosInf = refl
+
+max_most : (e : Ext) → PosInf ≡ ext_max e PosInf
+max_most NegInf = refl
+max_most (Int x) = refl
+max_most PosInf = refl
+
+max_least : (e : Ext) → e ≡ ext_max e NegInf
+max_least NegInf = refl
+max_least (Int x) = refl
+max_least PosInf = refl
+
+pub lower_least : (s : End) (e : Ext) (v : ℤ) → v ≡ s.at → int_le v (negsuc 9223372036854775807) ≡ true → NegInf ≡ ext_min e (unpack s)
+lower_least s e v i h = min_least e ∙ ap (ext_min e) (sym (unpack_low s (ap (λ z. int_le z (negsuc 9223372036854775807)) (sym i) ∙ h)))
+
+pub lower_most : (s : End) (e : Ext) (v : ℤ) → v ≡ s.at → int_lt v (pos 9223372036854775807) ≡ false → e ≡ ext_min e (unpack s)
+lower_most s e v i h = min_most e ∙ ap (ext_min e) (sym (is_high s (lt_not s.at (pos 9223372036854775807) (ap (λ z. int_lt z (pos 9223372036854775807)) (sym i) ∙ h))))
+
+number_between : (s : End) (v w : ℤ) → v ≡ s.at → w ≡ s.at → int_le v (negsuc 9223372036854775807) ≡ false → int_le (pos 9223372036854775807) v ≡ false → Int w ≡ unpack s
+number_between s v w i j h k =
+    ap Int j ∙ sym (unpack_between s (ap (λ z. int_le z (negsuc 9223372036854775807)) (sym i) ∙ h) (ap (int_le (pos 9223372036854775807)) (sym i) ∙ k))
+
+pub lower_between : (s : End) (e r : Ext) (v w : ℤ) → v ≡ s.at → w ≡ s.at → int_le v (negsuc 9223372036854775807) ≡ false → int_lt v (pos 9223372036854775807) ≡ true → r ≡ ext_min e (Int w) →
+    r ≡ ext_min e (unpack s)
+lower_between s e r v w i j h k is = is ∙ ap (ext_min e) (number_between s v w i j h (turned v (pos 9223372036854775807) k))
+  where
+    turned : (a b : ℤ) → int_lt a b ≡ true → int_le b a ≡ false
+    turned a b t = grind (arith, ints)
+
+pub raise_most : (s : End) (e : Ext) (v : ℤ) → v ≡ s.at → int_le (pos 9223372036854775807) v ≡ true → PosInf ≡ ext_max e (unpack s)
+raise_most s e v i h = max_most e ∙ ap (ext_max e) (sym (is_high s (le_means (pos 9223372036854775807) s.at (ap (int_le (pos 9223372036854775807)) (sym i) ∙ h))))
+
+pub raise_least : (s : End) (e : Ext) (v : ℤ) → v ≡ s.at → int_lt (negsuc 9223372036854775807) v ≡ false → e ≡ ext_max e (unpack s)
+raise_least s e v i h = max_least e ∙ ap (ext_max e) (sym (unpack_low s (turned (negsuc 9223372036854775807) s.at (ap (int_lt (negsuc 9223372036854775807)) (sym i) ∙ h))))
+  where
+    turned : (a b : ℤ) → int_lt a b ≡ false → int_le b a ≡ true
+    turned a b t = grind (arith, ints)
+
+pub raise_between : (s : End) (e r : Ext) (v w : ℤ) → v ≡ s.at → w ≡ s.at → int_le (pos 9223372036854775807) v ≡ false → int_lt (negsuc 9223372036854775807) v ≡ true → r ≡ ext_max e (Int w) →
+    r ≡ ext_max e (unpack s)
+raise_between s e r v w i j h k is = is ∙ ap (ext_max e) (number_between s v w i j (turned (negsuc 9223372036854775807) v k) h)
+  where
+    turned : (a b : ℤ) → int_lt a b ≡ true → int_le b a ≡ false
+    turned a b t = grind (arith, ints)

@@ -9,7 +9,7 @@ ghost use Rattle.ts_bound.specs.Cuts.{kept_parts, longer_parts, parts_of};
 ghost use Rattle.ts_bound.specs.Sweeps.{letter_for};
 ghost use Rattle.ts_bound.specs.SweptMoves.{AreSweptParts, IsNextRow, with_swept_move};
 
-use crate::sweep_kept::sweep_gapless;
+use crate::sweep_kept::{sweep_gapless, sweep_lent};
 use crate::sweep_parts::Part::{KeepC, KeepD, KeepR, Tail, Three, Two, Word};
 use crate::sweep_parts::Parts;
 use crate::swept_move::SweptMove;
@@ -113,7 +113,7 @@ fn reset_move<const UP: bool>(m: &SweptMove<'_>, v: Atom, w: Atom, next: &mut [H
         d: Word(w),
         r: KeepR,
     };
-    sweep_gapless::<UP>(m, &p, next);
+    sweep_lent::<UP>(m, &p, next);
 }
 
 /// The same of a move that reads the next cell in `C`, begins `D` anew and keeps `R`.
@@ -128,7 +128,7 @@ fn tail_move<const UP: bool>(m: &SweptMove<'_>, o: Op, e: &Expr, w: Atom, next: 
         d: Word(w),
         r: KeepR,
     };
-    sweep_gapless::<UP>(m, &p, next);
+    sweep_lent::<UP>(m, &p, next);
 }
 
 /// The same of any move.

@@ -68,3 +68,24 @@ pub(crate) fn sweep_gapless<const UP: bool>(m: &SweptMove<'_>, p: &Parts<'_>, ne
         _ => sweep_move(m, p, l, next),
     }
 }
+
+/// The same, with what the move reads taken through the reference: the loops over the values are shorter so where a move
+/// begins `D` anew and keeps `R`.
+#[inline(always)]
+pub(crate) fn sweep_lent<const UP: bool>(m: &SweptMove<'_>, p: &Parts<'_>, next: &mut [Hull])
+    requires parts { AreSweptParts m.now p.now }
+    requires next { IsNextRow m.now next.old }
+    ensures { next.new ≡ with_swept_move m.now (letter_for UP) next.old }
+{
+    let l = letter_for::<UP>();
+    match (
+        m.values.gapless(),
+        m.next_values.gapless(),
+        lead_of(l, m.twin, m.values, m.next_values),
+    ) {
+        (Some(run), Some(next_run), Some(lead)) => sweep_steps(
+            m.turn, p, l, m.twin, lead, m.states, m.state, &run, m.before, &next_run, next,
+        ),
+        _ => sweep_move(m, p, l, next),
+    }
+}

@@ -1,7 +1,7 @@
 //! A hull of a row takes in a packed one: only the ends that move are unpacked and written.
 
-ghost use Rattle.std.specs.Prelude.{◌≡◌, true, not};
-ghost use Rattle.ts_base.specs.Numbers.{ext_le, ext_max, ext_min};
+ghost use Rattle.std.specs.Prelude.{◌≡◌, true};
+ghost use Rattle.ts_base.specs.Numbers.{ext_max, ext_min};
 ghost use Rattle.ts_base.specs.Spans.{has_some, none_span, span_hull};
 ghost use Rattle.ts_base.specs.declared.ext.Ext.TheVariants.{Int};
 ghost use Rattle.ts_bound.specs.Hulls.{hull_of_both, none};
@@ -13,41 +13,15 @@ use ts_automaton::Hull;
 use ts_base::{Ext, Span};
 
 impl End {
-    /// Whether it is below a number or an infinity.
-    #[inline(always)]
-    fn is_below(self, e: Ext) -> bool
-        ensures { result ≡ not (ext_le e (unpack self)) }
-    {
-        if let Ext::Int(x) = e {
-            self.at < x || self.at <= i64::MIN
-        } else if let Ext::PosInf = e {
-            self.at < i64::MAX
-        } else {
-            false
-        }
-    }
-
-    /// Whether it is above a number or an infinity.
-    #[inline(always)]
-    fn is_above(self, e: Ext) -> bool
-        ensures { result ≡ not (ext_le (unpack self) e) }
-    {
-        if let Ext::Int(x) = e {
-            x < self.at || i64::MAX <= self.at
-        } else if let Ext::NegInf = e {
-            i64::MIN < self.at
-        } else {
-            false
-        }
-    }
-
     /// A lower end takes it in.
     #[inline(always)]
     fn lower(self, end: &mut Ext)
         ensures { end.new ≡ ext_min end.old (unpack self) }
     {
-        if self.is_below(*end) {
-            *end = self.unpacked();
+        if self.at <= i64::MIN {
+            *end = Ext::NegInf;
+        } else if self.at < i64::MAX {
+            lower_to(self.at, end);
         }
     }
 
@@ -56,8 +30,10 @@ impl End {
     fn raise(self, end: &mut Ext)
         ensures { end.new ≡ ext_max end.old (unpack self) }
     {
-        if self.is_above(*end) {
-            *end = self.unpacked();
+        if i64::MAX <= self.at {
+            *end = Ext::PosInf;
+        } else if i64::MIN < self.at {
+            raise_to(self.at, end);
         }
     }
 }
