@@ -2,8 +2,8 @@
 //! function that is compiled apart, since what is very long isn't put in place of a call.
 
 ghost use Rattle.std.specs.Prelude.{◌≡◌};
-ghost use Rattle.ts_automaton.specs.declared.expr.Atom.TheVariants.{C, D, R};
-ghost use Rattle.ts_automaton.specs.declared.expr.Op.TheVariants.{Add};
+ghost use Rattle.ts_automaton.specs.declared.expr.Atom.TheVariants.{C, D, NegInf, R, Unit, Zero};
+ghost use Rattle.ts_automaton.specs.declared.expr.Op.TheVariants.{Add, Max};
 ghost use Rattle.ts_bound.specs.declared.sweep_parts.Part.TheVariants.{KeepR, Tail, Three, Two, Word};
 ghost use Rattle.ts_bound.specs.Cuts.{kept_parts, longer_parts, parts_of};
 ghost use Rattle.ts_bound.specs.Sweeps.{letter_for};
@@ -25,10 +25,20 @@ pub(crate) fn sweep_by_parts<const UP: bool>(m: &SweptMove<'_>, p: &Parts<'_>, n
     match (p.c, p.d, p.r) {
         (KeepC, KeepD, KeepR) => kept_move::<UP>(m, next),
         (KeepC, Two(Op::Add, Atom::D, Atom::Unit), KeepR) => longer_move::<UP>(m, next),
+        (Two(Op::Add, Atom::D, Atom::Unit), Word(Atom::Zero), KeepR) => counted_move::<UP>(m, next),
         (Two(o, Atom::D, b), Word(w), KeepR) => found_move::<UP>(m, o, b, w, next),
+        (Three(Op::Add, Atom::C, Op::Add, Atom::D, Atom::Unit), Word(Atom::Zero), KeepR) => {
+            counted_inside_move::<UP>(m, next)
+        }
         (Three(Op::Add, Atom::C, Op::Add, Atom::D, c), Word(w), KeepR) => inside_move::<UP>(
             m, c, w, next,
         ),
+        (Word(Atom::Zero), Word(Atom::Zero), Two(Op::Add, Atom::R, Atom::C)) => {
+            summed_move::<UP>(m, next)
+        }
+        (Word(Atom::NegInf), Word(Atom::Zero), Two(Op::Max, Atom::R, Atom::C)) => {
+            greatest_move::<UP>(m, next)
+        }
         (Word(v), Word(w), Two(o, Atom::R, Atom::C)) => anew_move::<UP>(m, v, w, o, next),
         (Word(v), Word(w), KeepR) => reset_move::<UP>(m, v, w, next),
         (Tail(o, e), Word(w), KeepR) => tail_move::<UP>(m, o, e, w, next),
@@ -56,6 +66,21 @@ fn longer_move<const UP: bool>(m: &SweptMove<'_>, next: &mut [Hull])
     sweep_gapless::<UP>(m, &Parts::longer(), next);
 }
 
+/// The same of a move that makes `C` greater by one than `D`, makes `D` zero and keeps `R`: no word is asked for.
+#[inline(never)]
+fn counted_move<const UP: bool>(m: &SweptMove<'_>, next: &mut [Hull])
+    requires parts { AreSweptParts m.now (parts_of (Two Add D Unit) (Word Zero) KeepR) }
+    requires next { IsNextRow m.now next.old }
+    ensures { next.new ≡ with_swept_move m.now (letter_for UP) next.old }
+{
+    let p = Parts {
+        c: Two(Op::Add, Atom::D, Atom::Unit),
+        d: Word(Atom::Zero),
+        r: KeepR,
+    };
+    sweep_gapless::<UP>(m, &p, next);
+}
+
 /// The same of a move that makes `C` of `D` and a word, begins `D` anew and keeps `R`.
 #[inline(never)]
 fn found_move<const UP: bool>(m: &SweptMove<'_>, o: Op, b: Atom, w: Atom, next: &mut [Hull])
@@ -66,6 +91,21 @@ fn found_move<const UP: bool>(m: &SweptMove<'_>, o: Op, b: Atom, w: Atom, next: 
     let p = Parts {
         c: Two(o, Atom::D, b),
         d: Word(w),
+        r: KeepR,
+    };
+    sweep_gapless::<UP>(m, &p, next);
+}
+
+/// The same of a move that adds `D` and one to `C`, makes `D` zero and keeps `R`.
+#[inline(never)]
+fn counted_inside_move<const UP: bool>(m: &SweptMove<'_>, next: &mut [Hull])
+    requires parts { AreSweptParts m.now (parts_of (Three Add C Add D Unit) (Word Zero) KeepR) }
+    requires next { IsNextRow m.now next.old }
+    ensures { next.new ≡ with_swept_move m.now (letter_for UP) next.old }
+{
+    let p = Parts {
+        c: Three(Op::Add, Atom::C, Op::Add, Atom::D, Atom::Unit),
+        d: Word(Atom::Zero),
         r: KeepR,
     };
     sweep_gapless::<UP>(m, &p, next);
@@ -82,6 +122,36 @@ fn inside_move<const UP: bool>(m: &SweptMove<'_>, c: Atom, w: Atom, next: &mut [
         c: Three(Op::Add, Atom::C, Op::Add, Atom::D, c),
         d: Word(w),
         r: KeepR,
+    };
+    sweep_gapless::<UP>(m, &p, next);
+}
+
+/// The same of a move that makes `C` and `D` zero and adds `C` to `R`.
+#[inline(never)]
+fn summed_move<const UP: bool>(m: &SweptMove<'_>, next: &mut [Hull])
+    requires parts { AreSweptParts m.now (parts_of (Word Zero) (Word Zero) (Two Add R C)) }
+    requires next { IsNextRow m.now next.old }
+    ensures { next.new ≡ with_swept_move m.now (letter_for UP) next.old }
+{
+    let p = Parts {
+        c: Word(Atom::Zero),
+        d: Word(Atom::Zero),
+        r: Two(Op::Add, Atom::R, Atom::C),
+    };
+    sweep_gapless::<UP>(m, &p, next);
+}
+
+/// The same of a move that begins `C` and `D` anew and makes `R` the greater of `R` and `C`.
+#[inline(never)]
+fn greatest_move<const UP: bool>(m: &SweptMove<'_>, next: &mut [Hull])
+    requires parts { AreSweptParts m.now (parts_of (Word NegInf) (Word Zero) (Two Max R C)) }
+    requires next { IsNextRow m.now next.old }
+    ensures { next.new ≡ with_swept_move m.now (letter_for UP) next.old }
+{
+    let p = Parts {
+        c: Word(Atom::NegInf),
+        d: Word(Atom::Zero),
+        r: Two(Op::Max, Atom::R, Atom::C),
     };
     sweep_gapless::<UP>(m, &p, next);
 }
