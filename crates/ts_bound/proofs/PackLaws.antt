@@ -429,33 +429,42 @@ max_least (Int x) = refl
 max_least PosInf = refl
 
 pub lower_least : (s : End) (e : Ext) (v : ℤ) → v ≡ s.at → int_le v (negsuc 9223372036854775807) ≡ true → NegInf ≡ ext_min e (unpack s)
-lower_least s e v i h = min_least e ∙ ap (ext_min e) (sym (unpack_low s (ap (λ z. int_le z (negsuc 9223372036854775807)) (sym i) ∙ h)))
+lower_least s e v i h =
+    min_least e ∙ ap (ext_min e) (sym (unpack_low s (ap (λ z. int_le z (negsuc 9223372036854775807)) (sym i) ∙ h)))
 
 pub lower_most : (s : End) (e : Ext) (v : ℤ) → v ≡ s.at → int_lt v (pos 9223372036854775807) ≡ false → e ≡ ext_min e (unpack s)
-lower_most s e v i h = min_most e ∙ ap (ext_min e) (sym (is_high s (lt_not s.at (pos 9223372036854775807) (ap (λ z. int_lt z (pos 9223372036854775807)) (sym i) ∙ h))))
+lower_most s e v i h =
+    min_most e ∙ ap (ext_min e) (sym (is_high s (lt_not s.at (pos 9223372036854775807)
+    (ap (λ z. int_lt z (pos 9223372036854775807)) (sym i) ∙ h))))
 
-number_between : (s : End) (v w : ℤ) → v ≡ s.at → w ≡ s.at → int_le v (negsuc 9223372036854775807) ≡ false → int_le (pos 9223372036854775807) v ≡ false → Int w ≡ unpack s
+number_between : (s : End) (v w : ℤ) → v ≡ s.at → w ≡ s.at → int_le v (negsuc 9223372036854775807) ≡ false →
+    int_le (pos 9223372036854775807) v ≡ false → Int w ≡ unpack s
 number_between s v w i j h k =
-    ap Int j ∙ sym (unpack_between s (ap (λ z. int_le z (negsuc 9223372036854775807)) (sym i) ∙ h) (ap (int_le (pos 9223372036854775807)) (sym i) ∙ k))
+    ap Int j
+    ∙ sym (unpack_between s (ap (λ z. int_le z (negsuc 9223372036854775807)) (sym i) ∙ h) (ap (int_le (pos 9223372036854775807)) (sym i) ∙ k))
 
-pub lower_between : (s : End) (e r : Ext) (v w : ℤ) → v ≡ s.at → w ≡ s.at → int_le v (negsuc 9223372036854775807) ≡ false → int_lt v (pos 9223372036854775807) ≡ true → r ≡ ext_min e (Int w) →
-    r ≡ ext_min e (unpack s)
+pub lower_between : (s : End) (e r : Ext) (v w : ℤ) → v ≡ s.at → w ≡ s.at → int_le v (negsuc 9223372036854775807) ≡ false →
+    int_lt v (pos 9223372036854775807) ≡ true → r ≡ ext_min e (Int w) → r ≡ ext_min e (unpack s)
 lower_between s e r v w i j h k is = is ∙ ap (ext_min e) (number_between s v w i j h (turned v (pos 9223372036854775807) k))
   where
     turned : (a b : ℤ) → int_lt a b ≡ true → int_le b a ≡ false
     turned a b t = grind (arith, ints)
 
 pub raise_most : (s : End) (e : Ext) (v : ℤ) → v ≡ s.at → int_le (pos 9223372036854775807) v ≡ true → PosInf ≡ ext_max e (unpack s)
-raise_most s e v i h = max_most e ∙ ap (ext_max e) (sym (is_high s (le_means (pos 9223372036854775807) s.at (ap (int_le (pos 9223372036854775807)) (sym i) ∙ h))))
+raise_most s e v i h =
+    max_most e ∙ ap (ext_max e) (sym (is_high s (le_means (pos 9223372036854775807) s.at
+    (ap (int_le (pos 9223372036854775807)) (sym i) ∙ h))))
 
 pub raise_least : (s : End) (e : Ext) (v : ℤ) → v ≡ s.at → int_lt (negsuc 9223372036854775807) v ≡ false → e ≡ ext_max e (unpack s)
-raise_least s e v i h = max_least e ∙ ap (ext_max e) (sym (unpack_low s (turned (negsuc 9223372036854775807) s.at (ap (int_lt (negsuc 9223372036854775807)) (sym i) ∙ h))))
+raise_least s e v i h =
+    max_least e ∙ ap (ext_max e) (sym (unpack_low s (turned (negsuc 9223372036854775807) s.at
+    (ap (int_lt (negsuc 9223372036854775807)) (sym i) ∙ h))))
   where
     turned : (a b : ℤ) → int_lt a b ≡ false → int_le b a ≡ true
     turned a b t = grind (arith, ints)
 
-pub raise_between : (s : End) (e r : Ext) (v w : ℤ) → v ≡ s.at → w ≡ s.at → int_le (pos 9223372036854775807) v ≡ false → int_lt (negsuc 9223372036854775807) v ≡ true → r ≡ ext_max e (Int w) →
-    r ≡ ext_max e (unpack s)
+pub raise_between : (s : End) (e r : Ext) (v w : ℤ) → v ≡ s.at → w ≡ s.at → int_le (pos 9223372036854775807) v ≡ false →
+    int_lt (negsuc 9223372036854775807) v ≡ true → r ≡ ext_max e (Int w) → r ≡ ext_max e (unpack s)
 raise_between s e r v w i j h k is = is ∙ ap (ext_max e) (number_between s v w i j (turned (negsuc 9223372036854775807) v k) h)
   where
     turned : (a b : ℤ) → int_lt a b ≡ true → int_le b a ≡ false

@@ -41,6 +41,7 @@ pub(crate) fn sweep_by_parts<const UP: bool>(m: &SweptMove<'_>, p: &Parts<'_>, n
         }
         (Word(v), Word(w), Two(o, Atom::R, Atom::C)) => anew_move::<UP>(m, v, w, o, next),
         (Word(v), Word(w), KeepR) => reset_move::<UP>(m, v, w, next),
+        (Tail(Op::Add, e), Word(Atom::Zero), KeepR) => added_tail_move::<UP>(m, e, next),
         (Tail(o, e), Word(w), KeepR) => tail_move::<UP>(m, o, e, w, next),
         _ => any_move::<UP>(m, p, next),
     }
@@ -181,6 +182,21 @@ fn reset_move<const UP: bool>(m: &SweptMove<'_>, v: Atom, w: Atom, next: &mut [H
     let p = Parts {
         c: Word(v),
         d: Word(w),
+        r: KeepR,
+    };
+    sweep_lent::<UP>(m, &p, next);
+}
+
+/// The same of a move that adds the next cell in `C`, makes `D` zero and keeps `R`.
+#[inline(never)]
+fn added_tail_move<const UP: bool>(m: &SweptMove<'_>, e: &Expr, next: &mut [Hull])
+    requires parts { AreSweptParts m.now (parts_of (Tail Add e) (Word Zero) KeepR) }
+    requires next { IsNextRow m.now next.old }
+    ensures { next.new ≡ with_swept_move m.now (letter_for UP) next.old }
+{
+    let p = Parts {
+        c: Tail(Op::Add, e),
+        d: Word(Atom::Zero),
         r: KeepR,
     };
     sweep_lent::<UP>(m, &p, next);

@@ -69,8 +69,8 @@ pub(crate) fn sweep_gapless<const UP: bool>(m: &SweptMove<'_>, p: &Parts<'_>, ne
     }
 }
 
-/// The same, with what the move reads taken through the reference: the loops over the values are shorter so where a move
-/// begins `D` anew and keeps `R`.
+/// The same, with what the move reads taken through the reference: so the loops over the values are shorter where a
+/// move begins `D` anew and keeps `R`.
 #[inline(always)]
 pub(crate) fn sweep_lent<const UP: bool>(m: &SweptMove<'_>, p: &Parts<'_>, next: &mut [Hull])
     requires parts { AreSweptParts m.now p.now }
