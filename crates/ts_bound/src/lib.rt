@@ -27,6 +27,7 @@ mod spans;
 mod start;
 mod sweep;
 mod sweep_by_parts;
+mod sweep_by_words;
 mod sweep_equal;
 mod sweep_equal_parts;
 mod sweep_fronts;

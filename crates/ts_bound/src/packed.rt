@@ -49,10 +49,9 @@ impl End {
         }
     }
 
-    /// The same of what is no number. A call here has the code ask for a number first.
+    /// The same of what is no number: apart, so that a number is asked for first.
     #[tactic(auto, using(crate::proofs::PackLaws::unpack_small), unfolding(crate::specs::Packs::unpack))]
-    #[cold]
-    #[inline(never)]
+    #[inline(always)]
     fn of_infinity(e: Ext) -> End
         requires { small e ≡ true }
         ensures { unpack result ≡ e }

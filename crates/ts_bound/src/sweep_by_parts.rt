@@ -2,13 +2,17 @@
 //! function that is compiled apart, since what is very long isn't put in place of a call.
 
 ghost use Rattle.std.specs.Prelude.{◌≡◌};
-ghost use Rattle.ts_automaton.specs.declared.expr.Atom.TheVariants.{C, D, NegInf, R, Unit, Zero};
-ghost use Rattle.ts_automaton.specs.declared.expr.Op.TheVariants.{Add, Max};
-ghost use Rattle.ts_bound.specs.declared.sweep_parts.Part.TheVariants.{KeepR, Tail, Three, Two, Word};
+ghost use Rattle.ts_automaton.specs.declared.expr.Atom.TheVariants.{C, D, R};
+ghost use Rattle.ts_automaton.specs.declared.expr.Op.TheVariants.{Add};
+ghost use Rattle.ts_bound.specs.declared.sweep_parts.Part.TheVariants.{KeepC, KeepR, Tail, Three, Two, Word};
 ghost use Rattle.ts_bound.specs.Cuts.{kept_parts, longer_parts, parts_of};
 ghost use Rattle.ts_bound.specs.Sweeps.{letter_for};
 ghost use Rattle.ts_bound.specs.SweptMoves.{AreSweptParts, IsNextRow, with_swept_move};
 
+use crate::sweep_by_words::{
+    added_tail_move, counted_inside_move, counted_move, greatest_move, higher_move,
+    highest_inside_move, highest_move, summed_move,
+};
 use crate::sweep_kept::{sweep_gapless, sweep_lent};
 use crate::sweep_parts::Part::{KeepC, KeepD, KeepR, Tail, Three, Two, Word};
 use crate::sweep_parts::Parts;
@@ -25,10 +29,18 @@ pub(crate) fn sweep_by_parts<const UP: bool>(m: &SweptMove<'_>, p: &Parts<'_>, n
     match (p.c, p.d, p.r) {
         (KeepC, KeepD, KeepR) => kept_move::<UP>(m, next),
         (KeepC, Two(Op::Add, Atom::D, Atom::Unit), KeepR) => longer_move::<UP>(m, next),
+        (KeepC, Two(Op::Max, Atom::D, Atom::This), KeepR) => higher_move::<UP>(m, next),
+        (KeepC, Two(o, Atom::D, b), KeepR) => extended_move::<UP>(m, o, b, next),
         (Two(Op::Add, Atom::D, Atom::Unit), Word(Atom::Zero), KeepR) => counted_move::<UP>(m, next),
+        (Two(Op::Max, Atom::D, Atom::This), Word(Atom::NegInf), KeepR) => highest_move::<UP>(
+            m, next,
+        ),
         (Two(o, Atom::D, b), Word(w), KeepR) => found_move::<UP>(m, o, b, w, next),
         (Three(Op::Add, Atom::C, Op::Add, Atom::D, Atom::Unit), Word(Atom::Zero), KeepR) => {
             counted_inside_move::<UP>(m, next)
+        }
+        (Three(Op::Max, Atom::C, Op::Max, Atom::D, Atom::This), Word(Atom::NegInf), KeepR) => {
+            highest_inside_move::<UP>(m, next)
         }
         (Three(Op::Add, Atom::C, Op::Add, Atom::D, c), Word(w), KeepR) => inside_move::<UP>(
             m, c, w, next,
@@ -67,16 +79,16 @@ fn longer_move<const UP: bool>(m: &SweptMove<'_>, next: &mut [Hull])
     sweep_gapless::<UP>(m, &Parts::longer(), next);
 }
 
-/// The same of a move that makes `C` greater by one than `D`, makes `D` zero and keeps `R`: no word is asked for.
+/// The same of a move that only makes `D` of `D` and a word.
 #[inline(never)]
-fn counted_move<const UP: bool>(m: &SweptMove<'_>, next: &mut [Hull])
-    requires parts { AreSweptParts m.now (parts_of (Two Add D Unit) (Word Zero) KeepR) }
+fn extended_move<const UP: bool>(m: &SweptMove<'_>, o: Op, b: Atom, next: &mut [Hull])
+    requires parts { AreSweptParts m.now (parts_of KeepC (Two o D b) KeepR) }
     requires next { IsNextRow m.now next.old }
     ensures { next.new ≡ with_swept_move m.now (letter_for UP) next.old }
 {
     let p = Parts {
-        c: Two(Op::Add, Atom::D, Atom::Unit),
-        d: Word(Atom::Zero),
+        c: KeepC,
+        d: Two(o, Atom::D, b),
         r: KeepR,
     };
     sweep_gapless::<UP>(m, &p, next);
@@ -97,21 +109,6 @@ fn found_move<const UP: bool>(m: &SweptMove<'_>, o: Op, b: Atom, w: Atom, next: 
     sweep_gapless::<UP>(m, &p, next);
 }
 
-/// The same of a move that adds `D` and one to `C`, makes `D` zero and keeps `R`.
-#[inline(never)]
-fn counted_inside_move<const UP: bool>(m: &SweptMove<'_>, next: &mut [Hull])
-    requires parts { AreSweptParts m.now (parts_of (Three Add C Add D Unit) (Word Zero) KeepR) }
-    requires next { IsNextRow m.now next.old }
-    ensures { next.new ≡ with_swept_move m.now (letter_for UP) next.old }
-{
-    let p = Parts {
-        c: Three(Op::Add, Atom::C, Op::Add, Atom::D, Atom::Unit),
-        d: Word(Atom::Zero),
-        r: KeepR,
-    };
-    sweep_gapless::<UP>(m, &p, next);
-}
-
 /// The same of a move that makes `C` the sum of `C`, `D` and a word, begins `D` anew and keeps `R`.
 #[inline(never)]
 fn inside_move<const UP: bool>(m: &SweptMove<'_>, c: Atom, w: Atom, next: &mut [Hull])
@@ -123,36 +120,6 @@ fn inside_move<const UP: bool>(m: &SweptMove<'_>, c: Atom, w: Atom, next: &mut [
         c: Three(Op::Add, Atom::C, Op::Add, Atom::D, c),
         d: Word(w),
         r: KeepR,
-    };
-    sweep_gapless::<UP>(m, &p, next);
-}
-
-/// The same of a move that makes `C` and `D` zero and adds `C` to `R`.
-#[inline(never)]
-fn summed_move<const UP: bool>(m: &SweptMove<'_>, next: &mut [Hull])
-    requires parts { AreSweptParts m.now (parts_of (Word Zero) (Word Zero) (Two Add R C)) }
-    requires next { IsNextRow m.now next.old }
-    ensures { next.new ≡ with_swept_move m.now (letter_for UP) next.old }
-{
-    let p = Parts {
-        c: Word(Atom::Zero),
-        d: Word(Atom::Zero),
-        r: Two(Op::Add, Atom::R, Atom::C),
-    };
-    sweep_gapless::<UP>(m, &p, next);
-}
-
-/// The same of a move that begins `C` and `D` anew and makes `R` the greater of `R` and `C`.
-#[inline(never)]
-fn greatest_move<const UP: bool>(m: &SweptMove<'_>, next: &mut [Hull])
-    requires parts { AreSweptParts m.now (parts_of (Word NegInf) (Word Zero) (Two Max R C)) }
-    requires next { IsNextRow m.now next.old }
-    ensures { next.new ≡ with_swept_move m.now (letter_for UP) next.old }
-{
-    let p = Parts {
-        c: Word(Atom::NegInf),
-        d: Word(Atom::Zero),
-        r: Two(Op::Max, Atom::R, Atom::C),
     };
     sweep_gapless::<UP>(m, &p, next);
 }
@@ -182,21 +149,6 @@ fn reset_move<const UP: bool>(m: &SweptMove<'_>, v: Atom, w: Atom, next: &mut [H
     let p = Parts {
         c: Word(v),
         d: Word(w),
-        r: KeepR,
-    };
-    sweep_lent::<UP>(m, &p, next);
-}
-
-/// The same of a move that adds the next cell in `C`, makes `D` zero and keeps `R`.
-#[inline(never)]
-fn added_tail_move<const UP: bool>(m: &SweptMove<'_>, e: &Expr, next: &mut [Hull])
-    requires parts { AreSweptParts m.now (parts_of (Tail Add e) (Word Zero) KeepR) }
-    requires next { IsNextRow m.now next.old }
-    ensures { next.new ≡ with_swept_move m.now (letter_for UP) next.old }
-{
-    let p = Parts {
-        c: Tail(Op::Add, e),
-        d: Word(Atom::Zero),
         r: KeepR,
     };
     sweep_lent::<UP>(m, &p, next);
