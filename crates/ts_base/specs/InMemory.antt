@@ -1,18 +1,21 @@
 -- A source and a sink in memory, which fail at the calls that they were told to fail at.
 use Rattle.std.specs.Prelude.{ℕ, Bool, true, false, List, ◌++◌, drop}
-use Rattle.ts_base.specs.Outside.{one_more}
+use Rattle.ts_base.specs.Outside.{ends_after, one_more}
 
--- the bytes left, the most that a call gives, the numbers of the calls that fail, the calls and faults so far
+-- the bytes left, the most that a call gives, the numbers of the calls that fail, the calls, the faults and the reads
+-- that found the end so far
 pub record SourceState : Type 0 where
   pub left : List ℕ
   pub step : ℕ
   pub fails : List ℕ
   pub calls : ℕ
   pub faults : ℕ
+  pub ends : ℕ
 
--- after a call that gave m bytes
-abbrev pub after_giving : ℕ → SourceState → SourceState
-after_giving m s = record s { left = drop m s.left; calls = one_more s.calls }
+-- after a call that gave m bytes into a buffer with this room
+abbrev pub after_giving : ℕ → ℕ → SourceState → SourceState
+after_giving room m s =
+    record s { left = drop m s.left; calls = one_more s.calls; ends = ends_after room m s.ends }
 
 -- after a call that failed
 abbrev pub after_refusing : SourceState → SourceState

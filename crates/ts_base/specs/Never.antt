@@ -1,6 +1,15 @@
--- A sink in memory that never fails.
-use Rattle.std.specs.Prelude.{ℕ, Bool, List, ◌++◌, take, false, true}
-use Rattle.ts_base.specs.Outside.{one_more}
+-- A source and a sink in memory that never fail.
+use Rattle.std.specs.Prelude.{ℕ, Bool, List, ◌++◌, take, drop, false, true}
+use Rattle.ts_base.specs.Outside.{ends_after, one_more}
+
+-- the bytes left, and the reads that found the end so far
+pub record BytesState : Type 0 where
+  pub left : List ℕ
+  pub ends : ℕ
+
+-- after a call that gave m bytes into a buffer with this room
+abbrev pub after_sending : ℕ → ℕ → BytesState → BytesState
+after_sending room m s = record { left = drop m s.left; ends = ends_after room m s.ends }
 
 -- the bytes kept, how many are kept at the most, whether it is finished, and the calls of `finish` so far
 pub record RoomState : Type 0 where

@@ -1,5 +1,6 @@
 -- What a source has left and what a sink has taken, where they tell it, and how faults and calls are counted.
-use Rattle.std.specs.Prelude.{ℕ, ◌≡◌, ◌<◌, ◌≤◌, ◌+◌, ◌⊎◌, Bool, nat_lt, min, List, [], ◌++◌, length, take, drop}
+use Rattle.std.specs.Prelude.{ℕ, ◌≡◌, ◌==◌, ◌<◌, ◌≤◌, ◌+◌, ◌&&◌, ◌⊎◌, Bool, nat_lt, min, if◌then◌else◌}
+use Rattle.std.specs.Prelude.{List, [], ◌++◌, length, take, drop}
 use Rattle.std.specs.Prelude.{Option, Some, None, IfSome, Result, Ok, Err}
 
 -- a count rose in a call: it is greater afterwards, or stands at the last value of 64 bits
@@ -14,6 +15,11 @@ one_more n = min (n + 1) 18446744073709551615
 abbrev pub faults_after : {A E : Type 0} → Result A E → ℕ → ℕ
 faults_after (Ok a) faults = faults
 faults_after (Err e) faults = one_more faults
+
+-- the count of reads that found the end, after one that gave m bytes into a buffer with this room: it found the end
+-- where there was room and it gave none
+abbrev pub ends_after : ℕ → ℕ → ℕ → ℕ
+ends_after room m ends = if nat_lt 0 room && m == 0 then one_more ends else ends
 
 -- a fault was counted
 abbrev pub has_faults : ℕ → Bool

@@ -1,8 +1,12 @@
--- How a number is written.
-use Rattle.std.specs.Prelude.{ℕ, List, codes}
+-- How lines and numbers are written.
+use Rattle.std.specs.Prelude.{ℕ, List, [], ◌∷◌, ◌++◌, codes}
 use Rattle.std.specs.Fmt.{signed_decimal}
 use Rattle.ts_base.specs.declared.ext.Ext.{Ext}
 use Rattle.ts_base.specs.declared.ext.Ext.TheVariants.{NegInf, Int, PosInf}
+
+-- the text with its LF
+abbrev pub line : List ℕ → List ℕ
+line text = text ++ 10 ∷ []
 
 -- the decimal number, `-inf` or `+inf`
 abbrev pub ext_text : Ext → List ℕ

@@ -18,6 +18,7 @@ pub struct MemorySource {
     fails: Vec<u64>,
     calls: u64,
     faults: u64,
+    ends: u64,
 }
 
 impl Model for MemorySource {
@@ -33,6 +34,7 @@ impl Model for MemorySource {
           fails = s.fails.items;
           calls = s.calls;
           faults = s.faults;
+          ends = s.ends;
         } };
 
     ghost invariant = { λ s. (s.at ≤ vec_len s.bytes) × (0 < s.step) };
@@ -42,7 +44,14 @@ impl MemorySource {
     /// Gives `bytes`, at most `step` in a call, and fails at the calls whose numbers, from 1, are in `fails`.
     pub fn new(bytes: Vec<u8>, step: usize, fails: Vec<u64>) -> MemorySource
         requires { 0 < step }
-        ensures { result ≡ record { left = bytes.items; step = step; fails = fails.items; calls = 0; faults = 0 } }
+        ensures { result ≡ record {
+          left = bytes.items;
+          step = step;
+          fails = fails.items;
+          calls = 0;
+          faults = 0;
+          ends = 0;
+        } }
     {
         MemorySource {
             bytes,
@@ -51,6 +60,7 @@ impl MemorySource {
             fails,
             calls: 0,
             faults: 0,
+            ends: 0,
         }
     }
 }
@@ -64,11 +74,13 @@ impl Source for MemorySource {
 
     ghost source_broken = { λ s. has_faults s.faults };
 
+    ghost source_ends = { λ s. s.ends };
+
     fn read(&mut self, into: &mut [u8]) -> Result<usize, Failed>
         ensures fails { IsErr result ↔ Contains self.old.fails (one_more self.old.calls) }
         ensures amount { IfOk result (λ m. m ≡ min (min self.old.step (length into.new)) (length self.old.left)) }
         ensures bytes { IfOk result (λ m. take m into.new ≡ take m self.old.left) }
-        ensures after { MatchResult result (λ m. self.new ≡ after_giving m self.old)
+        ensures after { MatchResult result (λ m. self.new ≡ after_giving (length into.new) m self.old)
             (λ _. self.new ≡ after_refusing self.old) }
         ensures end { IfOk result (λ m. m ≡ 0 → 0 < length into.new → self.old.left ≡ []) }
         ensures broken { OnErr result (IsTrue (has_faults self.new.faults)) }
@@ -83,6 +95,9 @@ impl Source for MemorySource {
         let count = self.step.min(into.len()).min(rest.len());
         into[..count].copy_from_slice(&rest[..count]);
         self.at += count;
+        if !into.is_empty() && count == 0 {
+            self.ends = self.ends.saturating_add(1);
+        }
         Ok(count)
     }
 }

@@ -3,7 +3,8 @@
 ghost use Rattle.std.specs.Prelude.{ℕ, ◌≡◌, ◌↔◌, false};
 ghost use Rattle.std.specs.Ordering.{nat_cmp};
 ghost use Rattle.ts_base.specs.Limits.{most_cells, most_domain_values, most_requirements, most_terms};
-ghost use Rattle.ts_base.specs.Limits.{greatest_bound, greatest_value};
+ghost use Rattle.ts_base.specs.Limits.{greatest_bound, greatest_value, most_checked, most_listed, too_many};
+ghost use Rattle.ts_base.specs.Limits.{most_check_bytes, most_model_bytes, most_verify_bytes};
 ghost use Rattle.ts_base.specs.Numbers.{ext_le, ext_max, ext_min, ext_plus};
 ghost use Rattle.ts_base.specs.Orders.{IsGreater, IsLesser, IsMonotone, IsTotalOrder, ext_cmp};
 ghost use Rattle.ts_base.specs.Outside.{Rose};
@@ -13,7 +14,10 @@ ghost use Rattle.ts_base.specs.Spans.{Holds, has_some, span_greatest, span_hull,
 
 use crate::ext::Ext;
 use crate::letter::Letter;
-use crate::limits::{BOUND, CELL_VALUE, CELLS, DOMAIN_VALUES, REQUIREMENTS, TERMS};
+use crate::limits::{
+    BOUND, CELL_VALUE, CELLS, CHECK_BYTES, CHECKED, DOMAIN_VALUES, LISTED, MODEL_BYTES,
+    REQUIREMENTS, TERMS, TOO_MANY, VERIFY_BYTES,
+};
 use crate::span::Span;
 
 /// Numbers with infinities are in order, the greater and the lesser of two are what their names say, and greater
@@ -59,4 +63,7 @@ pub fn count_rises()
 pub fn limits_agree()
     ensures cells { (CELLS ≡ most_cells) × (CELL_VALUE ≡ greatest_value) × (DOMAIN_VALUES ≡ most_domain_values) }
     ensures terms { (TERMS ≡ most_terms) × (REQUIREMENTS ≡ most_requirements) × (BOUND ≡ greatest_bound) }
+    ensures inputs { (MODEL_BYTES ≡ most_model_bytes) × (CHECK_BYTES ≡ most_check_bytes)
+        × (VERIFY_BYTES ≡ most_verify_bytes) × (TOO_MANY ≡ too_many) }
+    ensures certificates { (CHECKED ≡ most_checked) × (LISTED ≡ most_listed) }
 {}

@@ -7,19 +7,21 @@ use crate::error::Failed;
 use crate::outside::{Sink, Source};
 use std::marker::Model;
 
-/// Gives the bytes that it was made with. A value is seen as the bytes left.
+/// Gives the bytes that it was made with.
 #[derive(Drop)]
 pub struct NeverSource {
     bytes: Vec<u8>,
     at: usize,
+    ends: u64,
 }
 
 impl Model for NeverSource {
-    ghost use Rattle.std.specs.Prelude.{ℕ, List, ◌≤◌, drop, vec_len};
+    ghost use Rattle.std.specs.Prelude.{◌≤◌, drop, vec_len};
+    ghost use Rattle.ts_base.specs.Never.{BytesState};
 
-    ghost Value = { List ℕ };
+    ghost Value = { BytesState };
 
-    ghost view = { λ s. drop s.at s.bytes.items };
+    ghost view = { λ s. record { left = drop s.at s.bytes.items; ends = s.ends } };
 
     ghost invariant = { λ s. s.at ≤ vec_len s.bytes };
 }
@@ -27,30 +29,41 @@ impl Model for NeverSource {
 impl NeverSource {
     /// Gives `bytes`, as many in a call as there is room for.
     pub fn new(bytes: Vec<u8>) -> NeverSource
-        ensures { result ≡ bytes.items }
+        ensures { result ≡ record { left = bytes.items; ends = 0 } }
     {
-        NeverSource { bytes, at: 0 }
+        NeverSource {
+            bytes,
+            at: 0,
+            ends: 0,
+        }
     }
 }
 
 impl Source for NeverSource {
-    ghost left = { λ s. Some s };
+    ghost use Rattle.ts_base.specs.Never.{after_sending};
+
+    ghost left = { λ s. Some s.left };
 
     ghost source_faults = { λ _. 0 };
 
     ghost source_broken = { λ _. false };
 
+    ghost source_ends = { λ s. s.ends };
+
     fn read(&mut self, into: &mut [u8]) -> Result<usize, Failed>
         ensures never { IsOk result }
-        ensures amount { IfOk result (λ m. m ≡ min (length into.new) (length self.old)) }
-        ensures bytes { IfOk result (λ m. take m into.new ≡ take m self.old) }
-        ensures after { IfOk result (λ m. self.new ≡ drop m self.old) }
-        ensures end { IfOk result (λ m. m ≡ 0 → 0 < length into.new → self.old ≡ []) }
+        ensures amount { IfOk result (λ m. m ≡ min (length into.new) (length self.old.left)) }
+        ensures bytes { IfOk result (λ m. take m into.new ≡ take m self.old.left) }
+        ensures after { IfOk result (λ m. self.new ≡ after_sending (length into.new) m self.old) }
+        ensures end { IfOk result (λ m. m ≡ 0 → 0 < length into.new → self.old.left ≡ []) }
     {
         let rest = &self.bytes[self.at..];
         let count = into.len().min(rest.len());
         into[..count].copy_from_slice(&rest[..count]);
         self.at += count;
+        if !into.is_empty() && count == 0 {
+            self.ends = self.ends.saturating_add(1);
+        }
         Ok(count)
     }
 }

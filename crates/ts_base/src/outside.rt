@@ -1,15 +1,17 @@
 //! Where bytes come from and where they go.
 
 ghost use Rattle.std.specs.Prelude.{ℕ, ◌≡◌, ◌<◌, ◌≤◌, Bool, IsTrue, false, List, length, take};
-ghost use Rattle.std.specs.Prelude.{Option, IfOk, OnOk, OnErr};
+ghost use Rattle.std.specs.Prelude.{Option, IfOk, MatchResult, OnOk, OnErr};
 ghost use Rattle.ts_base.specs.Outside.{AtEnd, Rose, one_more, put_back, taken_more};
 
 use crate::error::Failed;
 
-/// Gives bytes: `left` are those that it still has, where it tells them, and `source_faults` counts its failed reads.
+/// Gives bytes: `left` are those that it still has, where it tells them, `source_faults` counts its failed reads, and
+/// `source_ends` those that found its end.
 ///
-/// A read that failed leaves the source broken, and no other read promises that: whoever promises it at the end has
-/// not read again.
+/// A read that failed leaves the source broken, and no other read promises that: whoever promises it has not read
+/// again. So it is with the end: whoever promises that it was found once, and never before a read that failed, reads
+/// no more once it is found.
 pub trait Source {
     ghost left: { Self → Option (List ℕ) };
 
@@ -17,10 +19,13 @@ pub trait Source {
 
     ghost source_broken: { Self → Bool };
 
+    ghost source_ends: { Self → ℕ };
+
     /// Moves the first of the bytes left to the front of `into` and says how many.
     ///
-    /// Into a buffer with room it gives none only at the end. `Failed` comes only where the count of faults rose, and
-    /// leaves the bytes as they were; a read that goes well leaves the count. The count never falls.
+    /// Into a buffer with room it gives none only at the end, and has found the end then; a read that gives some, or
+    /// fails, has not. `Failed` comes only where the count of faults rose, and leaves the bytes as they were; a read
+    /// that goes well leaves the count. The count never falls.
     fn read(&mut self, into: &mut [u8]) -> Result<usize, Failed>
         ensures within { IfOk result (λ m. m ≤ length into.new) }
         ensures gave { IfOk result (λ m. left self.old ≡ put_back (take m into.new) (left self.new)) }
@@ -29,6 +34,10 @@ pub trait Source {
         ensures cause { OnErr result (Rose (source_faults self.old) (source_faults self.new)) }
         ensures calm { OnOk result (source_faults self.new ≡ source_faults self.old) }
         ensures broken { OnErr result (IsTrue (source_broken self.new)) }
+        ensures found { IfOk result (λ m. m ≡ 0 → 0 < length into.new →
+            source_ends self.new ≡ one_more (source_ends self.old)) }
+        ensures before { MatchResult result (λ m. 0 < m → source_ends self.new ≡ source_ends self.old)
+            (λ _. source_ends self.new ≡ source_ends self.old) }
         ensures later { source_faults self.old ≤ source_faults self.new };
 }
 

@@ -1,9 +1,10 @@
 //! The whole of a source, by one loop whose bytes go to an intake, and the whole of a text to a sink.
 
 ghost use Rattle.std.specs.Prelude.{◌≡◌, ◌≢◌, ◌<◌, ◌≤◌, ◌+◌, [], length, take, vec_len, false, IsTrue};
-ghost use Rattle.std.specs.Prelude.{Err, IfOk, IfSome, OnOk, OnErr};
+ghost use Rattle.std.specs.Prelude.{Err, IfOk, IfSome, MatchResult, OnOk, OnErr};
+ghost use Rattle.ts_base.specs.Limits.{too_many};
 ghost use Rattle.ts_base.specs.Outside.{AtEnd, GaveAtMost, HasMoreThan, Prefix, Rose};
-ghost use Rattle.ts_base.specs.Outside.{left_after, put_back, taken_more};
+ghost use Rattle.ts_base.specs.Outside.{left_after, one_more, put_back, taken_more};
 ghost use Rattle.ts_base.specs.Taken.{TookAll};
 ghost use Rattle.ts_base.specs.declared.read_write.ReadStop.TheVariants.{ReadFault as FaultOfReading};
 ghost use Rattle.ts_base.specs.declared.read_write.ReadStop.TheVariants.{Memory as NoMemory};
@@ -47,13 +48,16 @@ const PIECE: usize = 65_536;
 /// All bytes that `source` has left, where they are at most `limit`.
 ///
 /// `TooLong` comes exactly where there are more, and then one byte more than `limit` was taken. `ReadFault` comes
-/// only where a read failed, and the source isn't read again then. At most `limit + 1` bytes are taken in every case.
+/// only where a read failed. The source isn't read again after that, nor once its end was found. At most `limit + 1`
+/// bytes are taken in every case.
 pub fn read_all<S: Source>(alloc: Global, source: &mut S, limit: usize) -> Result<Vec<u8>, ReadStop>
-    requires { limit < 4000000000 }
+    requires { limit < too_many }
     ensures all { IfOk result (λ bytes. IfSome (S.left source.old) (λ left. left ≡ bytes.items)) }
     ensures gave_all { IfOk result (λ bytes. S.left source.old ≡ put_back bytes.items (S.left source.new)) }
     ensures end { OnOk result (AtEnd (S.left source.new)) }
     ensures within { IfOk result (λ bytes. length bytes.items ≤ limit) }
+    ensures ended { OnOk result (S.source_ends source.new ≡ one_more (S.source_ends source.old)) }
+    ensures before { OnErr result (S.source_ends source.new ≡ S.source_ends source.old) }
 
     ensures too_long { result ≡ Err ReadStop.TooLong → HasMoreThan limit (S.left source.old) }
     ensures one_more { result ≡ Err ReadStop.TooLong → S.left source.new ≡ left_after (limit + 1) (S.left source.old) }
@@ -73,17 +77,19 @@ pub fn read_all<S: Source>(alloc: Global, source: &mut S, limit: usize) -> Resul
 /// Gives all bytes that `source` has left to `intake`, where they are at most `limit`, piece by piece.
 ///
 /// `TooLong` comes exactly where there are more, and then one byte more than `limit` was read. `ReadFault` comes only
-/// where a read failed, and the source isn't read again then. `Memory` comes before the first read, or is what the
-/// intake answered to a piece within the limit.
+/// where a read failed. The source isn't read again after that, nor once its end was found. `Memory` comes before the
+/// first read, or is what the intake answered to a piece within the limit.
 pub fn take_all<S: Source, I: Intake>(
     alloc: Global,
     source: &mut S,
     limit: usize,
     intake: &mut I,
 ) -> Result<(), ReadStop>
-    requires few { limit < 4000000000 }
+    requires few { limit < too_many }
     requires none { I.took [] intake.old }
     ensures all { OnOk result (TookAll I.took limit (S.left source.old) (S.left source.new) intake.new) }
+    ensures ended { OnOk result (S.source_ends source.new ≡ one_more (S.source_ends source.old)) }
+    ensures before { OnErr result (S.source_ends source.new ≡ S.source_ends source.old) }
 
     ensures too_long { result ≡ Err ReadStop.TooLong → HasMoreThan limit (S.left source.old) }
     ensures one_more { result ≡ Err ReadStop.TooLong → S.left source.new ≡ left_after (limit + 1) (S.left source.old) }
@@ -118,6 +124,9 @@ fn read_front<S: Source>(source: &mut S, buffer: &mut [u8], room: usize) -> Resu
     ensures within { IfOk result (λ m. m ≤ room) }
     ensures gave { IfOk result (λ m. S.left source.old ≡ put_back (take m buffer.new) (S.left source.new)) }
     ensures end { IfOk result (λ m. m ≡ 0 → AtEnd (S.left source.old)) }
+    ensures found { IfOk result (λ m. m ≡ 0 → S.source_ends source.new ≡ one_more (S.source_ends source.old)) }
+    ensures before { MatchResult result (λ m. 0 < m → S.source_ends source.new ≡ S.source_ends source.old)
+        (λ _. S.source_ends source.new ≡ S.source_ends source.old) }
     ensures kept { OnErr result (S.left source.new ≡ S.left source.old) }
     ensures cause { OnErr result (Rose (S.source_faults source.old) (S.source_faults source.new)) }
     ensures broken { OnErr result (IsTrue (S.source_broken source.new)) }

@@ -3,7 +3,7 @@
 ghost use Rattle.std.specs.Prelude.{◌≡◌, ◌<◌, ◌≤◌, length, false, IsTrue, is_ok, ⊤, Ok, None};
 ghost use Rattle.std.specs.Prelude.{IfOk, IsErr, OnErr, MatchResult};
 ghost use Rattle.std.specs.Io.KnownBytes.{Keeps, ReadConsumes, WriteAppends};
-ghost use Rattle.ts_base.specs.Outside.{faults_after, has_faults, one_more};
+ghost use Rattle.ts_base.specs.Outside.{ends_after, faults_after, has_faults, one_more};
 
 #[cfg(test)]
 mod tests;
@@ -13,11 +13,12 @@ use crate::outside::{Sink, Source};
 use std::io::{self, ErrorKind, Read, Write};
 use std::marker::Model;
 
-/// A source over a reader. It counts the reader's errors, up to the last value of its counter.
+/// A source over a reader. It counts the reader's errors and the ends that it found, up to the last value of a counter.
 #[derive(Drop)]
 pub struct StdIn<R> {
     inner: R,
     faults: u64,
+    ends: u64,
 }
 
 impl<R> Model for StdIn<R> {
@@ -25,15 +26,19 @@ impl<R> Model for StdIn<R> {
 
     ghost Value = { InputState R };
 
-    ghost view = { λ s. record { inner = s.inner; faults = s.faults } };
+    ghost view = { λ s. record { inner = s.inner; faults = s.faults; ends = s.ends } };
 }
 
 impl<R: Read + Drop> StdIn<R> {
     /// Reads from `inner`; no read has failed yet.
     pub fn new(inner: R) -> StdIn<R>
-        ensures { result ≡ record { inner = inner; faults = 0 } }
+        ensures { result ≡ record { inner = inner; faults = 0; ends = 0 } }
     {
-        StdIn { inner, faults: 0 }
+        StdIn {
+            inner,
+            faults: 0,
+            ends: 0,
+        }
     }
 }
 
@@ -44,15 +49,23 @@ impl<R: Read + Drop> Source for StdIn<R> {
 
     ghost source_broken = { λ s. has_faults s.faults };
 
+    ghost source_ends = { λ s. s.ends };
+
     fn read(&mut self, into: &mut [u8]) -> Result<usize, Failed>
         ensures count { self.new.faults ≡ faults_after result self.old.faults }
         ensures bytes { ReadConsumes (R.remaining self.old.inner) (R.remaining self.new.inner) result into.new }
         ensures within { IfOk result (λ m. m ≤ length into.new) }
+        ensures ends { MatchResult result (λ m. self.new.ends ≡ ends_after (length into.new) m self.old.ends)
+            (λ _. self.new.ends ≡ self.old.ends) }
         ensures broken { OnErr result (IsTrue (has_faults self.new.faults)) }
         ensures later { self.old.faults ≤ self.new.faults }
     {
         let got = self.inner.read(into);
-        counted_result(got, &mut self.faults)
+        let given = counted_result(got, &mut self.faults)?;
+        if !into.is_empty() && given == 0 {
+            self.ends = self.ends.saturating_add(1);
+        }
+        Ok(given)
     }
 }
 
