@@ -26,5 +26,5 @@ pub use name::{
 };
 pub use pattern::Pattern;
 pub use plan::{Configuration, Live, Plan, Tag};
-pub use table::pattern_by_id;
+pub use table::{pattern_by_id, trim_after};
 pub use term::Term;

@@ -79,8 +79,10 @@ fn trim_before(id: PatternId) -> u8
     }
 }
 
-fn trim_after(id: PatternId) -> u8
-    ensures { result ≡ pattern_a id }
+/// How many cells an occurrence of that pattern leaves out at its end, 0 or 1. It costs no memory, unlike the pattern.
+pub fn trim_after(id: PatternId) -> u8
+    ensures value { result ≡ pattern_a id }
+    ensures small { result ≤ 1 }
 {
     match id {
         PatternId::Increasing

@@ -1,6 +1,6 @@
 -- The seed of each pattern: its transducer, its plan, and how an occurrence is split between a forward and a reverse
 -- reading (Global Constraint Catalog, Volume II).
-use Rattle.std.specs.Prelude.{List, Option, Some, None}
+use Rattle.std.specs.Prelude.{Bool, true, nat_eq, nat_lt, ◌&&◌, ◌||◌, List, [], ◌∷◌, Option, Some, None}
 use Rattle.ts_base.specs.declared.range.Join.{Join}
 use Rattle.ts_transducer.specs.declared.row.Row.{Row}
 use Rattle.ts_pattern.specs.declared.name.PatternId.{PatternId}
@@ -41,20 +41,37 @@ table_of Zigzag = zigzag
 table_of DipOnIncreasingSequence = dip_on_increasing_sequence
 table_of BumpOnDecreasingSequence = mirror_of dip_on_increasing_sequence
 
--- the pattern that finds the same occurrences where the series is read from its end, if there is one
+-- the pattern whose e-ranges are the same cells where the series is read from its end, if there is one
 abbrev pub partner_of : PatternId → Option PatternId
 partner_of Increasing = Some Decreasing
 partner_of Decreasing = Some Increasing
+partner_of Steady = Some Steady
 partner_of IncreasingSequence = Some DecreasingSequence
 partner_of DecreasingSequence = Some IncreasingSequence
 partner_of StrictlyIncreasingSequence = Some StrictlyDecreasingSequence
 partner_of StrictlyDecreasingSequence = Some StrictlyIncreasingSequence
+partner_of SteadySequence = Some SteadySequence
 partner_of IncreasingTerrace = Some DecreasingTerrace
 partner_of DecreasingTerrace = Some IncreasingTerrace
 partner_of Inflexion = None
+partner_of Peak = Some Peak
+partner_of Valley = Some Valley
+partner_of Plateau = Some Plateau
+partner_of Plain = Some Plain
+partner_of ProperPlateau = Some ProperPlateau
+partner_of ProperPlain = Some ProperPlain
+partner_of Summit = Some Summit
+partner_of Gorge = Some Gorge
+partner_of Zigzag = Some Zigzag
 partner_of DipOnIncreasingSequence = None
 partner_of BumpOnDecreasingSequence = None
-partner_of itself = Some itself
+
+-- by the forward states, and for one of them by the reverse states
+abbrev pub are_rising : List Join → Bool
+are_rising [] = true
+are_rising (j ∷ []) = true
+are_rising (j ∷ k ∷ ks) =
+    (nat_lt j.forward k.forward || (nat_eq j.forward k.forward && nat_lt j.reverse k.reverse)) && are_rising (k ∷ ks)
 
 pub record SeedTable : Type 0 where
   pub rows : List Row

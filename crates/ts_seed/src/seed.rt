@@ -8,7 +8,7 @@ ghost use Rattle.ts_transducer.specs.Typing.{is_typed};
 ghost use Rattle.ts_pattern.specs.PatternTable.{pattern_shape, pattern_b};
 ghost use Rattle.ts_pattern.specs.Plans.{subject, plain_plan, is_plan_of};
 ghost use Rattle.ts_pattern.specs.Closed.{IsClosed};
-ghost use Rattle.ts_seed.specs.SeedTable.{table_of, partner_of, seed_table};
+ghost use Rattle.ts_seed.specs.SeedTable.{table_of, seed_table};
 ghost use Rattle.ts_seed.specs.Seeds.{seed_of};
 ghost use Rattle.ts_seed.specs.Written.{from_earlier, table_read};
 
@@ -28,8 +28,9 @@ use ts_pattern::{PatternId, Plan, pattern_by_id};
 use ts_transducer::Transducer;
 
 /// A pattern's transducer with the plan by which it is validated, and how its reading of a series is split at a cell:
-/// the pattern that reads the same occurrences from the end, if there is one, and the pairs of a forward and a
-/// reverse state between which one occurrence goes on. A state's number is its place among the rows, from 0.
+/// the pattern that has the same e-ranges where the series is read from its end, if there is one, and the pairs of a
+/// forward and a reverse state between which one occurrence goes on. A state's number is its place among the rows,
+/// from 0.
 #[derive(Drop)]
 pub struct Seed {
     pub transducer: Transducer,
@@ -53,7 +54,7 @@ pub fn seed_by_id(alloc: Global, id: PatternId) -> Result<Seed, Memory>
     Ok(Seed {
         transducer: table.transducer(reading),
         plan: table.plan(alloc, &pattern.regex, reading)?,
-        partner: partner_of(id),
+        partner: partner_by_id(id),
         joins: table.joins(alloc)?,
     })
 }
@@ -101,9 +102,10 @@ fn table_of(id: PatternId) -> (PrintedTable, Reading)
     }
 }
 
-/// The pattern that reads the same occurrences from the end of the series.
-fn partner_of(id: PatternId) -> Option<PatternId>
-    ensures { result ≡ partner_of id }
+/// The pattern that has the same e-ranges where the series is read from its end. Three have none: `inflexion`, and the
+/// dip and the bump, which leave out two cells at one end and one at the other. It costs no memory.
+pub fn partner_by_id(id: PatternId) -> Option<PatternId>
+    ensures { result ≡ (seed_table id).partner }
 {
     match id {
         PatternId::Increasing => Some(PatternId::Decreasing),
@@ -114,11 +116,30 @@ fn partner_of(id: PatternId) -> Option<PatternId>
         PatternId::StrictlyDecreasingSequence => Some(PatternId::StrictlyIncreasingSequence),
         PatternId::IncreasingTerrace => Some(PatternId::DecreasingTerrace),
         PatternId::DecreasingTerrace => Some(PatternId::IncreasingTerrace),
-        PatternId::Inflexion => None,
-        PatternId::DipOnIncreasingSequence => None,
-        PatternId::BumpOnDecreasingSequence => None,
-        itself => Some(itself),
+        PatternId::Inflexion
+        | PatternId::DipOnIncreasingSequence
+        | PatternId::BumpOnDecreasingSequence => None,
+        PatternId::Steady
+        | PatternId::SteadySequence
+        | PatternId::Peak
+        | PatternId::Valley
+        | PatternId::Plateau
+        | PatternId::Plain
+        | PatternId::ProperPlateau
+        | PatternId::ProperPlain
+        | PatternId::Summit
+        | PatternId::Gorge
+        | PatternId::Zigzag => Some(id),
     }
+}
+
+/// The pairs of a forward state of that pattern and a reverse state of its partner between which one occurrence goes
+/// on, by rising forward and then reverse states; none where there is no partner. Of memory it takes the list's alone.
+pub fn joins_by_id(alloc: Global, id: PatternId) -> Result<Vec<Join>, Memory>
+    ensures { IfOk result (λ js. js.items ≡ (seed_table id).joins) }
+{
+    let (table, _) = table_of(id);
+    table.joins(alloc)
 }
 
 #[cfg(test)]
@@ -220,7 +241,10 @@ mod tests {
                 );
                 assert_eq!(rt; counted.as_str(), stated.as_str(), "{pattern}");
                 assert_eq!(rt; name(seed.partner), partner.as_bytes(), "{pattern}");
+                assert_eq!(rt; name(partner_by_id(id)), partner.as_bytes(), "{pattern}");
                 assert_eq!(rt; pairs(alloc, &seed.joins)?.as_str(), *joins, "{pattern}");
+                let alone = joins_by_id(alloc, id)?;
+                assert_eq!(rt; pairs(alloc, &alone)?.as_str(), *joins, "{pattern}");
             }
         }
         Ok(())
