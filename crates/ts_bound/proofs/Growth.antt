@@ -19,8 +19,8 @@ use Rattle.ts_automaton.proofs.Evaluation.{value_related}
 use Rattle.ts_automaton.proofs.KindLaws.{op_mono}
 use Rattle.ts_domain.proofs.Sets.{contains_cons, all_append}
 use Rattle.ts_glue.specs.Pairs.{Pair}
-use Rattle.ts_glue.specs.Glued.{glue_span_at, glued_span}
-use Rattle.ts_glue.proofs.SpanGlue.{glued_spans_grow, wider_registers, same_grows}
+use Rattle.ts_glue.specs.Glued.{glued_span}
+use Rattle.ts_glue.proofs.SpanGlue.{unmarked_spans_grow, wider_registers, same_grows}
 use Rattle.ts_bound.specs.Hulls.{hull_of, none, hull_of_both, hull_of_all}
 use Rattle.ts_bound.specs.NextRow.{Source, source, hull_from, next_hull, states_of}
 use Rattle.ts_bound.specs.HullTables.{hull_at, cells_before, cells_after, values_at}
@@ -190,11 +190,9 @@ glued_grow p mark n before wider behind rest v a c =
     span_in (f q r) (flat_map G (states_of p.forward)) (any_flat_range (λ t. IsWithin (f q r) t) G 0 (length p.forward.states) q (omega arith)
     (omega (arith, lt))
     (any_range (λ t. IsWithin (f q r) t) (g q) 0 (length p.reverse.states) r (omega arith) (omega (arith, l))
-    (subst (λ m. IsWithin (marked_span m n (glue_span_at p (standing_in p.forward before v q) (standing_in p.reverse behind v r) v))
-    (marked_span m n (glue_span_at p (standing_in p.forward wider v q) (standing_in p.reverse rest v r) v))) (sym mark)
-    (same_grows n _ _ (glued_spans_grow p q r (spans_of (hull_at p.forward before v q)) (spans_of (hull_at p.reverse behind v r))
-    (spans_of (hull_at p.forward wider v q))
-    (spans_of (hull_at p.reverse rest v r)) v (hull_grows p.forward before wider v q a) (hull_grows p.reverse behind rest v r c)))))))))
+    (unmarked_spans_grow p mark q r (spans_of (hull_at p.forward before v q)) (spans_of (hull_at p.reverse behind v r))
+    (spans_of (hull_at p.forward wider v q)) (spans_of (hull_at p.reverse rest v r)) v n
+    (hull_grows p.forward before wider v q a) (hull_grows p.reverse behind rest v r c)))))))
 
 -- boxes
 

@@ -14,6 +14,6 @@ same_up_to_last value e n last next (suc d) k some i =
     next k some (omega (arith, i)) ∙ same_up_to_last value e n last next d (k + 1) (omega arith) (omega (arith, i))
 
 pub local_is_answer : LocalIsAnswer
-local_is_answer p l xs few cells k some most =
+local_is_answer n p l xs few cells k some most =
     let h = l xs (omega (arith, some, most)) few cells in
     same_up_to_last (Glued p xs) (answer p.forward xs) (length xs) h.0 h.1 (length xs - k) k some (omega (arith, some, most))

@@ -1,5 +1,5 @@
 -- Glued spans hold glued values, stay single and none, and grow with their hulls.
-use Rattle.std.proofs.Common.{◌≡◌, inl, inr, ℕ, Bool, true, false, cond, ◌&&◌, length, refl, sym, ◌∙◌, ap, subst, arith}
+use Rattle.std.proofs.Common.{◌≡◌, inl, inr, ℕ, Bool, true, false, cond, ◌&&◌, refl, sym, ◌∙◌, ap, subst}
 use Rattle.std.proofs.lemmas.Bool.{and_parts, and_from}
 use Rattle.ts_base.specs.declared.ext.Ext.{Ext}
 use Rattle.ts_base.specs.declared.span.Span.{Span}
@@ -9,16 +9,14 @@ use Rattle.ts_base.proofs.Order.{le_refl, le_trans}
 use Rattle.ts_base.proofs.SpanLaws.{holds_some, holds_one, none_empty, hull_least, lifted_holds, lifted_one, lifted_within}
 use Rattle.ts_automaton.specs.declared.state.Mark.TheVariants.{Same}
 use Rattle.ts_automaton.specs.Registers.{EachOf, Each, numbers, spans, ext_op}
-use Rattle.ts_automaton.specs.AutomatonRun.{IsInMark}
 use Rattle.ts_automaton.specs.SpanRun.{has_registers, one_hull, HoldsRegs, marked_span}
 use Rattle.ts_automaton.specs.Laws.{standing_with}
 use Rattle.ts_automaton.proofs.KindLaws.{op_mono}
 use Rattle.ts_automaton.proofs.RunLaws.{holds_registers, one_registers, mark_single, marks_hold}
 use Rattle.ts_glue.specs.Glue.{Glue, glue_in, glue_of}
-use Rattle.ts_glue.specs.Glued.{glue_at, glue_span_at, glued_span, left_at, right_at, cell_at}
-use Rattle.ts_glue.specs.Laws.{GluedSpansHold, MarkedSpansHold, GluedSpansHoldAnswers, NoneGluesToNone, GluedStaysSingle, GluedSpansGrow, UnmarkedSpansGrow}
+use Rattle.ts_glue.specs.Glued.{glue_at, glue_span_at}
+use Rattle.ts_glue.specs.Laws.{GluedSpansHold, MarkedSpansHold, NoneGluesToNone, GluedStaysSingle, GluedSpansGrow, UnmarkedSpansGrow}
 use Rattle.ts_glue.proofs.Expressions.{glue_related}
-use Rattle.ts_glue.proofs.Locality.{local_is_answer}
 
 glue_holds : (u : Glue) (s t : EachOf Ext) (h i : EachOf Span) → HoldsRegs h s → HoldsRegs i t → Holds (glue_in spans h i u) (glue_in numbers s t u)
 glue_holds u s t h i k l =
@@ -36,16 +34,6 @@ pub marked_spans_hold : MarkedSpansHold
 marked_spans_hold p q r h i s t x n k l =
     marks_hold p.forward.mark n (glue_span_at p (standing_with q h) (standing_with r i) x) (glue_at numbers p (standing_with q s) (standing_with r t) x)
     (glued_spans_hold p q r h i s t x k l)
-
-pub glued_spans_hold_answers : GluedSpansHoldAnswers
-glued_spans_hold_answers p l marked xs few cells k some most h i u v =
-    let left = left_at p xs k in
-    let right = right_at p xs k in
-    let n = length xs in
-    let e = local_is_answer p l xs few cells k some most in
-    let in_mark = subst (IsInMark p.forward.mark n) (sym e) (marked xs (omega (arith, some, most)) few cells) in
-    subst (Holds (glued_span p (standing_with left.state h) (standing_with right.state i) (cell_at xs k) n)) e
-    (marked_spans_hold p left.state right.state h i left.regs right.regs (cell_at xs k) n u v in_mark)
 
 none_second : (a : Bool) (s : Span) → cond (a && false) s none_span ≡ none_span
 none_second true s = refl

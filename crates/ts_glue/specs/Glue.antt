@@ -67,7 +67,7 @@ worth ValueCell x = x
 abbrev pub is_join : Table → ℕ → ℕ → Bool
 is_join t q r = list_any (λ j. nat_eq j.forward q && nat_eq j.reverse r) t.joins
 
--- no occurrence holds the cell: the answers of both sides
+-- no occurrence has a sign before the cell and one after it: the answers of both sides
 abbrev pub apart : Op → Glue
 apart g = With g (With g LeftR LeftC) (With g RightR RightC)
 

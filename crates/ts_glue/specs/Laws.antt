@@ -2,31 +2,30 @@
 use Rattle.std.specs.Prelude.{◌≡◌, ◌≤◌, ℕ, ℤ, List, length, false, IsTrue, ◌⊎◌, Some}
 use Rattle.ts_base.specs.declared.ext.Ext.{Ext}
 use Rattle.ts_base.specs.declared.span.Span.{Span}
-use Rattle.ts_base.specs.Limits.{most_cells}
 use Rattle.ts_base.specs.SpanLayer.{IsWithin}
 use Rattle.ts_base.specs.Spans.{none_span, one_span, Holds}
 use Rattle.ts_automaton.specs.declared.state.Mark.TheVariants.{Same}
 use Rattle.ts_automaton.specs.Registers.{EachOf, Each, numbers, spans}
 use Rattle.ts_automaton.specs.Kinds.{Fits, SpansFit}
 use Rattle.ts_automaton.specs.Typing.{is_automaton}
-use Rattle.ts_automaton.specs.AutomatonRun.{Standing, Stands, start_of, finish_of, answer, IsInMark, AreCellValues, HoldsMark}
+use Rattle.ts_automaton.specs.AutomatonRun.{Standing, Stands, start_of, finish_of, answer, IsInMark, AreCellValues}
 use Rattle.ts_automaton.specs.SpanRun.{has_registers, one_hull, HoldsRegs, HullStands, finish_span_of}
 use Rattle.ts_automaton.specs.Laws.{standing_with}
 use Rattle.ts_glue.specs.declared.machine.Machine.{Machine}
 use Rattle.ts_glue.specs.Pairs.{Pair}
 use Rattle.ts_glue.specs.Machines.{pair_of}
 use Rattle.ts_glue.specs.Glue.{GlueTakes, glue_of}
-use Rattle.ts_glue.specs.Glued.{glue_at, glued_value, glue_span_at, glued_span, left_at, right_at, cell_at, Glued, Local}
+use Rattle.ts_glue.specs.Glued.{glue_at, glued_value, glue_span_at, glued_span, Glued, LocalUpTo}
 use Rattle.ts_glue.specs.Rules.{keeps_rules, IsGluing}
 
 -- a machine that can be split keeps what is asked of its pair
 abbrev pub MachinesKeepRules : Type 0
 MachinesKeepRules = (m : Machine) (p : Pair) → pair_of m ≡ Some p → IsGluing p
 
--- at every cell of every series the glued value is the forward answer
+-- where the law holds of the series of at most n cells, the glued value at every cell of each is the forward answer
 abbrev pub LocalIsAnswer : Type 0
 LocalIsAnswer =
-    (p : Pair) → Local p → (xs : List ℤ) → length xs ≤ most_cells → AreCellValues xs →
+    (n : ℕ) (p : Pair) → LocalUpTo n p → (xs : List ℤ) → length xs ≤ n → AreCellValues xs →
     (k : ℕ) → 1 ≤ k → k ≤ length xs → Glued p xs k ≡ answer p.forward xs
 
 -- before the mark, a glued span holds the glued value of any registers in the two hulls
@@ -42,18 +41,6 @@ MarkedSpansHold =
     (p : Pair) (q r : ℕ) (h i : EachOf Span) (s t : EachOf Ext) (x : ℤ) (n : ℕ) → HoldsRegs h s → HoldsRegs i t →
     let e = glued_value p (standing_with q s) (standing_with r t) x n in
     IsInMark p.forward.mark n e → Holds (glued_span p (standing_with q h) (standing_with r i) x n) e
-
--- and where it does for all answers, the glued span at a cell holds the answer of each series whose two runs lie in the
--- hulls
-abbrev pub GluedSpansHoldAnswers : Type 0
-GluedSpansHoldAnswers =
-    (p : Pair) → Local p → HoldsMark p.forward → (xs : List ℤ) → length xs ≤ most_cells → AreCellValues xs →
-    (k : ℕ) → 1 ≤ k → k ≤ length xs → (h i : EachOf Span) →
-    HoldsRegs h (left_at p xs k).regs → HoldsRegs i (right_at p xs k).regs →
-    Holds
-    (glued_span p (standing_with (left_at p xs k).state h) (standing_with (right_at p xs k).state i) (cell_at xs k)
-    (length xs))
-    (answer p.forward xs)
 
 -- a glued span is none where a hull is none
 abbrev pub NoneGluesToNone : Type 0

@@ -1,6 +1,6 @@
 //! Laws of glued values, for the layers above. Each is a statement of `specs/Laws` that the checker has proved.
 
-ghost use Rattle.ts_glue.specs.Laws.{GluedSpansGrow, GluedSpansHold, GluedSpansHoldAnswers, GluedStaysSingle, LocalIsAnswer, MachinesKeepRules, MarkedSpansHold, NoneGluesToNone, OperandsFit, StartGluesToFinish, TwoFormsAgree, UnmarkedSpansGrow};
+ghost use Rattle.ts_glue.specs.Laws.{GluedSpansGrow, GluedSpansHold, GluedStaysSingle, LocalIsAnswer, MachinesKeepRules, MarkedSpansHold, NoneGluesToNone, OperandsFit, StartGluesToFinish, TwoFormsAgree, UnmarkedSpansGrow};
 
 /// A machine that can be split keeps what `Machine::glued` asks of its pair.
 pub fn machines_keep_rules()
@@ -8,7 +8,7 @@ pub fn machines_keep_rules()
 {}
 
 /// Where the glued value is the same at all cells of a series, and at the last one the forward answer, it is the
-/// forward answer at every cell.
+/// forward answer at every cell: for series of any length up to which the first holds.
 #[tactic(auto, using(crate::proofs::Locality::local_is_answer))]
 pub fn local_is_answer()
     ensures { LocalIsAnswer }
@@ -22,12 +22,6 @@ pub fn glued_spans_hold()
 /// Under the mark it holds the glued values that keep the promise of the mark.
 pub fn marked_spans_hold()
     ensures { MarkedSpansHold }
-{}
-
-/// The glued span at a cell holds the answer of each series whose two runs lie in the hulls, where all answers keep the
-/// promise of the mark.
-pub fn glued_spans_hold_answers()
-    ensures { GluedSpansHoldAnswers }
 {}
 
 /// A glued span is none where a hull is none.

@@ -12,7 +12,7 @@ use ts_automaton::{Expr, Op};
 /// How the values of two runs are glued at a cell, by the states in which they stand.
 #[derive(Clone, Copy, Debug, PartialEq, Eq)]
 pub(crate) enum Shape {
-    /// No occurrence has cells on both sides.
+    /// No occurrence has a sign before the cell and one after it.
     Apart,
     /// One occurrence goes on, and neither side has folded the cell: it stands between what the two have open.
     Between {

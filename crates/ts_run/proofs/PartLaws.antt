@@ -3,6 +3,7 @@ use Rattle.std.proofs.Common.{◌≡◌, ℕ, Option, Some, None, List, [], ◌�
 use Rattle.std.specs.Prelude.{IsTrue, option_map, string_bytes}
 use Rattle.std.specs.Global.{Global}
 use Rattle.std.proofs.lemmas.Bool.{leb-true}
+use Rattle.ts_base.specs.Limits.{most_cells}
 use Rattle.ts_pattern.specs.declared.name.PatternId.{PatternId}
 use Rattle.ts_pattern.specs.declared.term.Term.{Term}
 use Rattle.ts_pattern.specs.PatternTable.{pattern_a}
@@ -33,7 +34,7 @@ module _ (t : Term) (partner : PatternId) (has : (seed_table t.pattern).partner 
   -- the glued value is the forward answer, which is the value
   glues_term : GluesTerm (pair_with t partner) t
   glues_term xs few cells k some most =
-      local_is_answer (pair_with t partner) (terms_glue t.pattern partner has t.aggregator t.feature).1 xs few cells k some most
+      local_is_answer most_cells (pair_with t partner) (terms_glue t.pattern partner has t.aggregator t.feature).1 xs few cells k some most
       ∙ compiled_answers t xs (omega (arith, some, most)) (omega (arith, few)) cells
 
 tail_of : (t : Term) (partner : Option PatternId) → (seed_table t.pattern).partner ≡ partner →
