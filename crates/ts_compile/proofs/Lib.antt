@@ -1,6 +1,17 @@
-pub mod Answers
+mod Facts
+mod Forms
+mod Instances
 mod JudgeLaws
+mod Local
 mod Pairs
+pub mod Partners
+mod Patterns
+mod Rules
+mod Series
+mod Small
+mod Steps
 pub mod Tables
 pub mod Terms
+mod Tests
 mod Texts
+mod Whole

@@ -7,14 +7,20 @@ use Rattle.ts_pattern.specs.declared.term.Term.{Term}
 use Rattle.ts_pattern.specs.declared.name.PatternId.{PatternId}
 use Rattle.ts_pattern.specs.PatternTable.{pattern_a}
 use Rattle.ts_automaton.specs.Body.{Body}
-use Rattle.ts_seed.specs.SeedTable.{SeedTable, seed_table}
+use Rattle.ts_seed.specs.SeedTable.{seed_table}
 use Rattle.ts_decorate.specs.Decoration.{decorated_body}
 use Rattle.ts_glue.specs.declared.half.Half.{Half}
 use Rattle.ts_glue.specs.Pairs.{Table, table_view, Pair, pair}
 use Rattle.ts_glue.specs.Rules.{IsGluing}
-use Rattle.ts_local.specs.TermPairs.{glue_table_by}
-use Rattle.ts_local.proofs.Terms.{terms_glue}
-use Rattle.ts_compile.specs.Compiled.{pair_with, machine_pair}
+use Rattle.ts_compile.specs.TermPairs.{glue_table_by}
+use Rattle.ts_compile.proofs.Partners.{terms_glue}
+use Rattle.ts_compile.specs.Compiled.{machine_body, pair_with, machine_pair}
+
+-- the decorated rows of the table are the body of the term
+pub body_is : (b : Body) (t : Term) (rows : List Row) (a : ℕ) → rows ≡ (seed_table t.pattern).rows → a ≡ pattern_a t.pattern →
+    b ≡ decorated_body rows a t.aggregator t.feature → b ≡ machine_body t
+body_is b t rows a same trim made =
+    made ∙ ap (λ z. decorated_body z a t.aggregator t.feature) same ∙ ap (λ z. decorated_body (seed_table t.pattern).rows z t.aggregator t.feature) trim
 
 -- what is made of the seed's rows, the partner's rows, the trim and the pairs of states is the pair of the term
 pub pair_is : (t : Term) (partner : PatternId) (rows back : List Row) (a : ℕ) (joins : List Join) (f b : Body) (table : Table) →
@@ -32,14 +38,13 @@ pair_is t partner rows back a joins f b table e1 e2 e3 e4 e5 e6 e7 =
     ∙ ap (λ z. whole (seed_table t.pattern).rows (seed_table partner).rows z joins) e3
     ∙ ap (λ z. whole (seed_table t.pattern).rows (seed_table partner).rows (pattern_a t.pattern) z) e4
 
--- what is made by the seed of the term and the rows of its partner fits, and a machine of it is split as the tables say
-pub made_by_seed : (t : Term) (partner : PatternId) (s : SeedTable) (back : List Row) (a : ℕ) (f b : Body) (table : Table) →
-    s ≡ seed_table t.pattern → s.partner ≡ Some partner → back ≡ (seed_table partner).rows → a ≡ pattern_a t.pattern →
-    f ≡ decorated_body s.rows a t.aggregator t.feature → b ≡ decorated_body back a t.aggregator t.feature → table ≡ glue_table_by a t.feature s.joins →
-    IsGluing (pair f b table) × ((o : Option Pair) → o ≡ Some (pair f b table) → o ≡ machine_pair t)
-made_by_seed t partner s back a f b table e found e2 e3 e5 e6 e7 =
-    let same = pair_is t partner s.rows back a s.joins f b table (ap (λ z. z.rows) e) e2 e3 (ap (λ z. z.joins) e) e5 e6 e7 in
-    let has : (seed_table t.pattern).partner ≡ Some partner = sym (ap (λ z. z.partner) e) ∙ found in (
+-- it fits, and a machine of it is split as the tables say
+pub made_by_tables : (t : Term) (partner : PatternId) (rows back : List Row) (a : ℕ) (joins : List Join) (f b : Body) (table : Table) →
+    (seed_table t.pattern).partner ≡ Some partner → rows ≡ (seed_table t.pattern).rows → back ≡ (seed_table partner).rows → a ≡ pattern_a t.pattern →
+    joins ≡ (seed_table t.pattern).joins → f ≡ decorated_body rows a t.aggregator t.feature → b ≡ decorated_body back a t.aggregator t.feature →
+    table ≡ glue_table_by a t.feature joins → IsGluing (pair f b table) × ((o : Option Pair) → o ≡ Some (pair f b table) → o ≡ machine_pair t)
+made_by_tables t partner rows back a joins f b table has e1 e2 e3 e4 e5 e6 e7 =
+    let same = pair_is t partner rows back a joins f b table e1 e2 e3 e4 e5 e6 e7 in (
       subst IsGluing (sym same) (terms_glue t.pattern partner has t.aggregator t.feature),
       λ o made. made ∙ ap Some same ∙ ap (option_map (pair_with t)) (sym has),
     )

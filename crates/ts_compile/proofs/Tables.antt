@@ -1,19 +1,27 @@
 -- The seeds' tables keep what a decorated table is asked for, and the machine of each term answers its value.
-use Rattle.std.specs.Prelude.{◌≡◌, ◌≤◌, true, IsTrue, length, refl}
-use Rattle.std.proofs.Common.{arith}
+use Rattle.std.specs.Prelude.{◌≡◌, ◌≤◌, ℤ, true, IsTrue, List, length, Some, refl}
+use Rattle.std.proofs.Common.{◌∙◌, ap, arith}
+use Rattle.ts_base.specs.Signature.{signature_of}
 use Rattle.ts_transducer.specs.Typing.{is_typed}
+use Rattle.ts_pattern.specs.declared.name.Aggregator.{Aggregator}
+use Rattle.ts_pattern.specs.declared.name.Feature.{Feature}
 use Rattle.ts_pattern.specs.declared.term.Term.{Term}
 use Rattle.ts_pattern.specs.declared.name.PatternId.{PatternId}
 use Rattle.ts_pattern.specs.declared.name.PatternId.TheVariants.{Increasing, Decreasing, Steady, IncreasingSequence, DecreasingSequence, StrictlyIncreasingSequence, StrictlyDecreasingSequence, SteadySequence, IncreasingTerrace, DecreasingTerrace, Inflexion, Peak, Valley, Plateau, Plain, ProperPlateau, ProperPlain, Summit, Gorge, Zigzag, DipOnIncreasingSequence, BumpOnDecreasingSequence}
-use Rattle.ts_pattern.specs.PatternTable.{pattern_a}
-use Rattle.ts_automaton.specs.AutomatonRun.{HoldsMark}
+use Rattle.ts_pattern.specs.PatternTable.{pattern_shape, pattern_b, pattern_a}
+use Rattle.ts_pattern.specs.TermValue.{aggregate_of_ranges, value_of}
+use Rattle.ts_validate.proofs.Law.{closed_valid}
+use Rattle.ts_automaton.specs.AutomatonRun.{answer, AreCellValues, HoldsMark}
 use Rattle.ts_automaton.specs.Typing.{is_automaton}
 use Rattle.ts_seed.specs.SeedTable.{seed_table, table_of}
 use Rattle.ts_seed.proofs.Closed.{rows_closed}
+use Rattle.ts_decorate.specs.Answers.{longest}
 use Rattle.ts_decorate.proofs.CallerLemmas.{answers_ranges, is_marked}
 use Rattle.ts_decorate.proofs.Typed.{is_decorated_automaton}
-use Rattle.ts_compile.specs.Compiled.{AnswersTerm, machine_body, are_rising}
-use Rattle.ts_compile.proofs.Answers.{answers_term}
+use Rattle.ts_glue.proofs.Locality.{local_is_answer}
+use Rattle.ts_compile.specs.Compiled.{AnswersTerm, GluesTerm, machine_body, pair_with}
+use Rattle.ts_compile.specs.TermPairs.{body_by}
+use Rattle.ts_compile.proofs.Partners.{terms_are_local}
 
 -- the rows are typed and at most eight, and the trim is 0 or 1
 pub table_fits : (id : PatternId) → (is_typed (seed_table id).rows ≡ true) × (length (seed_table id).rows ≤ 8) × (pattern_a id ≤ 1)
@@ -40,47 +48,37 @@ table_fits Zigzag = (refl, omega arith, omega arith)
 table_fits DipOnIncreasingSequence = (refl, omega arith, omega arith)
 table_fits BumpOnDecreasingSequence = (refl, omega arith, omega arith)
 
-pub compiled_automaton : (t : Term) → IsTrue (is_automaton (machine_body t))
-compiled_automaton t =
-    let id = t.pattern in
+-- the automaton of a pattern by the rows of a seed, its own or its partner's, keeps every rule of automata
+pub body_automaton : (id other : PatternId) (g : Aggregator) (f : Feature) → IsTrue (is_automaton (body_by id other g f))
+body_automaton id other g f =
+    let fits = table_fits other in
+    is_decorated_automaton (seed_table other).rows fits.0 fits.1 (pattern_a id) g f
+
+-- by its own rows it keeps its mark, and answers the value, since its seed is closed
+pub body_marked : (id : PatternId) (g : Aggregator) (f : Feature) → HoldsMark (body_by id id g f)
+body_marked id g f =
     let fits = table_fits id in
-    is_decorated_automaton (seed_table id).rows fits.0 fits.1 (pattern_a id) t.aggregator t.feature
+    is_marked (seed_table id).rows fits.0 fits.1 (pattern_a id) fits.2 g f
+
+pub body_answers : (id : PatternId) (g : Aggregator) (f : Feature) (xs : List ℤ) → 1 ≤ length xs → length xs ≤ longest → AreCellValues xs →
+    answer (body_by id id g f) xs ≡ value_of g f id xs
+unfolding value_of
+body_answers id g f xs some short cells =
+    let fits = table_fits id in
+    let rows = (seed_table id).rows in
+    answers_ranges rows fits.0 fits.1 (pattern_a id) fits.2 g f xs some short cells
+    ∙ ap (λ z. aggregate_of_ranges g f z xs)
+    (closed_valid rows fits.0 (pattern_shape id) (pattern_b id) (pattern_a id) (seed_table id).plan (rows_closed id (table_of id) (table_of id).rows refl refl)
+    (signature_of xs))
 
 pub compiled_answers : (t : Term) → AnswersTerm (machine_body t) t
-compiled_answers t =
-    let id = t.pattern in
-    let fits = table_fits id in
-    answers_term (machine_body t) t (seed_table id).rows (pattern_a id) (seed_table id).plan fits.0 refl
-    (rows_closed id (table_of id) (table_of id).rows refl refl)
-    (answers_ranges (seed_table id).rows fits.0 fits.1 (pattern_a id) fits.2 t.aggregator t.feature)
+compiled_answers t = body_answers t.pattern t.aggregator t.feature
 
 pub compiled_marked : (t : Term) → HoldsMark (machine_body t)
-compiled_marked t =
-    let id = t.pattern in
-    let fits = table_fits id in
-    is_marked (seed_table id).rows fits.0 fits.1 (pattern_a id) fits.2 t.aggregator t.feature
+compiled_marked t = body_marked t.pattern t.aggregator t.feature
 
--- the pairs of states stand in order
-pub joins_rise : (id : PatternId) → are_rising (seed_table id).joins ≡ true
-joins_rise Increasing = refl
-joins_rise Decreasing = refl
-joins_rise Steady = refl
-joins_rise IncreasingSequence = refl
-joins_rise DecreasingSequence = refl
-joins_rise StrictlyIncreasingSequence = refl
-joins_rise StrictlyDecreasingSequence = refl
-joins_rise SteadySequence = refl
-joins_rise IncreasingTerrace = refl
-joins_rise DecreasingTerrace = refl
-joins_rise Inflexion = refl
-joins_rise Peak = refl
-joins_rise Valley = refl
-joins_rise Plateau = refl
-joins_rise Plain = refl
-joins_rise ProperPlateau = refl
-joins_rise ProperPlain = refl
-joins_rise Summit = refl
-joins_rise Gorge = refl
-joins_rise Zigzag = refl
-joins_rise DipOnIncreasingSequence = refl
-joins_rise BumpOnDecreasingSequence = refl
+-- where the pattern has a partner, the glued value is the forward answer, which is the value
+pub glued_value : (t : Term) (partner : PatternId) → (seed_table t.pattern).partner ≡ Some partner → GluesTerm (pair_with t partner) t
+glued_value t partner has xs few cells k some most =
+    local_is_answer longest (pair_with t partner) (terms_are_local t.pattern partner has t.aggregator t.feature) xs few cells k some most
+    ∙ compiled_answers t xs (omega (arith, some, most)) few cells

@@ -1,46 +1,41 @@
 -- The machine that the tables give a term, and what a machine of a term answers.
-use Rattle.std.specs.Prelude.{◌≡◌, ◌≤◌, ℤ, Bool, true, nat_eq, nat_lt, ◌&&◌, ◌||◌}
-use Rattle.std.specs.Prelude.{List, [], ◌∷◌, length, map, Option, option_map}
+use Rattle.std.specs.Prelude.{◌≡◌, ◌≤◌, ℕ, ℤ, List, length, map, Option, option_map}
 use Rattle.std.specs.Coded.{Coded-set, codes}
-use Rattle.ts_base.specs.declared.range.Join.{Join}
 use Rattle.ts_pattern.specs.declared.name.PatternId.{PatternId}
 use Rattle.ts_pattern.specs.declared.term.Term.{Term}
-use Rattle.ts_pattern.specs.PatternTable.{pattern_a}
 use Rattle.ts_pattern.specs.TermValue.{term_value}
 use Rattle.ts_automaton.specs.Body.{Body}
 use Rattle.ts_automaton.specs.AutomatonRun.{answer, AreCellValues}
 use Rattle.ts_automaton.specs.Codes.{formula_code}
 use Rattle.ts_seed.specs.SeedTable.{seed_table}
-use Rattle.ts_decorate.specs.Decoration.{decorated_body}
 use Rattle.ts_decorate.specs.Answers.{longest}
 use Rattle.ts_glue.specs.declared.machine.Machine.{Machine}
-use Rattle.ts_glue.specs.Pairs.{Pair, pair}
+use Rattle.ts_glue.specs.Glued.{Glued}
+use Rattle.ts_glue.specs.Pairs.{Pair}
 use Rattle.ts_glue.specs.Machines.{forward_of, pair_of}
-use Rattle.ts_local.specs.TermPairs.{body_by, glue_table_of}
+use Rattle.ts_compile.specs.TermPairs.{body_by, pair_by}
 
--- the rows of the pattern's seed with the pattern's trim at the end, decorated for the aggregator and the feature
+-- the rows of the pattern's seed, decorated for the aggregator, the feature and the pattern's trim at the end
 abbrev pub machine_body : Term → Body
-machine_body t = decorated_body (seed_table t.pattern).rows (pattern_a t.pattern) t.aggregator t.feature
+machine_body t = body_by t.pattern t.pattern t.aggregator t.feature
 
 -- that automaton, the one by the partner's rows and the glue table, where the pattern has a partner
 abbrev pub pair_with : Term → PatternId → Pair
-pair_with t partner =
-    pair (machine_body t) (body_by t.pattern partner t.aggregator t.feature) (glue_table_of t.pattern t.feature)
+pair_with t partner = pair_by t.pattern partner t.aggregator t.feature
 
 abbrev pub machine_pair : Term → Option Pair
 machine_pair t = option_map (pair_with t) (seed_table t.pattern).partner
-
--- by the forward states, and for one of them by the reverse states
-abbrev pub are_rising : List Join → Bool
-are_rising [] = true
-are_rising (j ∷ []) = true
-are_rising (j ∷ k ∷ ks) =
-    (nat_lt j.forward k.forward || (nat_eq j.forward k.forward && nat_lt j.reverse k.reverse)) && are_rising (k ∷ ks)
 
 -- on each series of 1 to 100,000 cells within the limits the answer is the value of the term
 abbrev pub AnswersTerm : Body → Term → Type 0
 AnswersTerm b t =
     (xs : List ℤ) → 1 ≤ length xs → length xs ≤ longest → AreCellValues xs → answer b xs ≡ term_value t xs
+
+-- and the glued value at every cell is that value
+abbrev pub GluesTerm : Pair → Term → Type 0
+GluesTerm p t =
+    (xs : List ℤ) → length xs ≤ longest → AreCellValues xs →
+    (k : ℕ) → 1 ≤ k → k ≤ length xs → Glued p xs k ≡ term_value t xs
 
 -- the machines have the bodies, and are split as the tables give the terms
 abbrev pub HaveBodies : List Machine → List Term → Type 0

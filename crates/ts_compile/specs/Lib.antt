@@ -1,3 +1,4 @@
+pub mod TermPairs
 pub mod Compiled
 pub mod Programs
 pub mod ProgramText

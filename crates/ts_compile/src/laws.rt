@@ -1,8 +1,12 @@
-//! What the machines of all terms answer, and the order of the pairs of states by which they are split.
+//! What the machines of all terms answer, and what is glued of the two runs of those that can be split.
 
-ghost use Rattle.std.specs.Prelude.{IsTrue};
+ghost use Rattle.std.specs.Prelude.{◌≡◌, Some};
 ghost use Rattle.ts_automaton.specs.AutomatonRun.{HoldsMark};
-ghost use Rattle.ts_compile.specs.Compiled.{AnswersTerm, are_rising, machine_body};
+ghost use Rattle.ts_compile.specs.Compiled.{AnswersTerm, GluesTerm, machine_body, pair_with};
+ghost use Rattle.ts_compile.specs.TermPairs.{ForPartners, pair_by};
+ghost use Rattle.ts_decorate.specs.Answers.{longest};
+ghost use Rattle.ts_glue.specs.Glued.{LocalUpTo};
+ghost use Rattle.ts_glue.specs.Rules.{IsGluing};
 ghost use Rattle.ts_pattern.specs.declared.name.PatternId.{PatternId};
 ghost use Rattle.ts_pattern.specs.declared.term.Term.{Term};
 ghost use Rattle.ts_seed.specs.SeedTable.{seed_table};
@@ -13,8 +17,20 @@ pub fn compiled_value()
     ensures marked { (t : Term) → HoldsMark (machine_body t) }
 {}
 
-/// The pairs of states stand by the forward states, and for one of them by the reverse states: so do their lines in the
-/// text of a program.
-pub fn joins_rise()
-    ensures { (id : PatternId) → IsTrue (are_rising (seed_table id).joins) }
+/// The pair of the term's automaton and of the automaton by its partner's rows, with its glue table, keeps every rule
+/// of a machine that can be split, and the local law.
+pub fn terms_glue()
+    ensures { ForPartners (λ id partner g f. IsGluing (pair_by id partner g f)) }
+{}
+
+/// The local law holds on series of up to 100,000 cells: the glued value at the last cell is the forward answer, and
+/// at each other cell that at the next one.
+pub fn terms_are_local()
+    ensures { ForPartners (λ id partner g f. LocalUpTo longest (pair_by id partner g f)) }
+{}
+
+/// So where the pattern has a partner, the glued value at every cell of these series is the value of the term.
+pub fn glued_value()
+    ensures { (t : Term) (partner : PatternId) → (seed_table t.pattern).partner ≡ Some partner →
+        GluesTerm (pair_with t partner) t }
 {}

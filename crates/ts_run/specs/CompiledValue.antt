@@ -1,24 +1,20 @@
 -- What the text of a program is worth: for each term of a model it has the line of the term and the block of an
 -- automaton, which answers the value of the term on every series; and where the pattern has a partner, the block of a
 -- reverse automaton and a glue table, by which the two give that value at every cell.
-use Rattle.std.specs.Prelude.{◌≡◌, ◌≤◌, ℕ, ℤ, codes, List, [], ◌∷◌, ◌++◌, length, map, Option, Some, None, Ok}
+use Rattle.std.specs.Prelude.{◌≡◌, ℕ, codes, List, [], ◌∷◌, ◌++◌, map, Option, Some, None, Ok}
 use Rattle.std.specs.Prelude.{String, string_bytes}
 use Rattle.std.specs.Global.{Global}
-use Rattle.ts_base.specs.Limits.{most_cells}
 use Rattle.ts_pattern.specs.declared.name.PatternId.{PatternId}
 use Rattle.ts_pattern.specs.declared.term.Term.{Term}
-use Rattle.ts_pattern.specs.TermValue.{term_value}
 use Rattle.ts_seed.specs.SeedTable.{seed_table}
 use Rattle.ts_automaton.specs.declared.draft.Way.TheVariants.{Forward, Reverse}
-use Rattle.ts_automaton.specs.AutomatonRun.{AreCellValues}
 use Rattle.ts_automaton.specs.AutomatonText.{head_text, words_text}
 use Rattle.ts_automaton.specs.Body.{Body}
 use Rattle.ts_automaton.specs.TextReading.{Reads}
-use Rattle.ts_glue.specs.Glued.{Glued}
-use Rattle.ts_glue.specs.Pairs.{Table, Pair, pair}
+use Rattle.ts_glue.specs.Pairs.{Table, pair}
 use Rattle.ts_model.specs.ModelParts.{ModelParts}
 use Rattle.ts_model.specs.Views.{term_of}
-use Rattle.ts_compile.specs.Compiled.{AnswersTerm}
+use Rattle.ts_compile.specs.Compiled.{AnswersTerm, GluesTerm}
 use Rattle.ts_compile.specs.ProgramText.{glue_text, program_text, term_words}
 
 -- the text is the program text of the terms that are stated
@@ -27,14 +23,8 @@ pub record IsProgramText (m : ModelParts) (text : List ℕ) : Type 0 where
   pub terms_are : map term_of terms ≡ m.terms
   pub text_is : text ≡ program_text terms
 
--- on each series of 1 to 512 cells within the limits the glued value at every cell is the value of the term
-abbrev pub GluesTerm : Pair → Term → Type 0
-GluesTerm p t =
-    (xs : List ℤ) → length xs ≤ most_cells → AreCellValues xs →
-    (k : ℕ) → 1 ≤ k → k ≤ length xs → Glued p xs k ≡ term_value t xs
-
 -- a reverse block and a glue part. The block is read as an automaton and the part is the text of a table, by which the
--- forward automaton and this one are glued to the value of the term.
+-- forward automaton and this one are glued to the value of the term, at every cell of a series of 1 to 100,000 cells.
 pub record IsSplit (t : Term) (forward : Body) (tail : List ℕ) : Type 0 where
   pub lines : List ℕ
   pub body : Body

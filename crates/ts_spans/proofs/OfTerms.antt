@@ -1,28 +1,19 @@
 -- The spans of a model's terms hold their values, and tell those of a single series.
-use Rattle.std.proofs.Common.{◌≡◌, ℕ, zero, suc, ◌≤◌, ℤ, List, [], ◌∷◌, length, map, Option, Some, None, slice_get, refl, sym, ◌∙◌, ap, subst, arith}
-use Rattle.std.specs.Prelude.{IsTrue, IfSome, option_map}
+use Rattle.std.proofs.Common.{◌≡◌, ℕ, zero, suc, ℤ, List, [], ◌∷◌, length, map, Option, Some, None, slice_get, refl, sym, ◌∙◌, ap, subst, arith}
+use Rattle.std.specs.Prelude.{IfSome, option_map}
 use Rattle.std.proofs.lemmas.List.{length-map}
 use Rattle.std.proofs.lemmas.Option.{same_Some}
 use Rattle.ts_base.specs.declared.ext.Ext.{Ext}
-use Rattle.ts_base.specs.Signature.{signature_of}
 use Rattle.ts_base.specs.Spans.{Holds as SpanHolds, one_span}
 use Rattle.ts_domain.specs.BoxSeries.{InBox, IsBox}
 use Rattle.ts_pattern.specs.declared.name.Aggregator.{Aggregator}
 use Rattle.ts_pattern.specs.declared.name.Feature.{Feature}
 use Rattle.ts_pattern.specs.declared.name.PatternId.{PatternId}
-use Rattle.ts_pattern.specs.PatternTable.{pattern_shape, pattern_b, pattern_a}
-use Rattle.ts_pattern.specs.TermValue.{aggregate_of_ranges, value_of}
-use Rattle.ts_validate.proofs.Law.{closed_valid}
-use Rattle.ts_automaton.specs.AutomatonRun.{answer, AreCellValues, HoldsMark}
-use Rattle.ts_automaton.specs.Typing.{is_automaton}
-use Rattle.ts_seed.specs.SeedTable.{seed_table, table_of}
-use Rattle.ts_seed.proofs.Closed.{rows_closed}
-use Rattle.ts_decorate.specs.Answers.{longest}
-use Rattle.ts_decorate.proofs.CallerLemmas.{answers_ranges, is_marked}
-use Rattle.ts_decorate.proofs.Typed.{is_decorated_automaton}
-use Rattle.ts_local.specs.TermPairs.{body_by}
-use Rattle.ts_local.proofs.Terms.{terms_glue}
-use Rattle.ts_compile.proofs.Tables.{table_fits}
+use Rattle.ts_pattern.specs.TermValue.{value_of}
+use Rattle.ts_seed.specs.SeedTable.{seed_table}
+use Rattle.ts_compile.specs.TermPairs.{pair_by}
+use Rattle.ts_compile.proofs.Partners.{terms_glue}
+use Rattle.ts_compile.proofs.Tables.{body_automaton, body_marked, body_answers}
 use Rattle.ts_bound.specs.Laws.{Splits, AreAutomata}
 use Rattle.ts_bound.specs.TermSpans.{Automata, term_span, IsUsable as IsUsableOf}
 use Rattle.ts_bound.proofs.Reached.{spans_hold, within_limits}
@@ -35,36 +26,13 @@ use Rattle.ts_filter.proofs.BoxParts.{inside_length}
 use Rattle.ts_filter.proofs.MachineLaws.{machines_hold, machines_tell}
 use Rattle.ts_filter.proofs.SoundLaws.{series_length}
 use Rattle.ts_spans.specs.Laws.{SpansHoldValues, SpansTellSingles}
-use Rattle.ts_spans.specs.Machines.{forward_for, pair_for, automata_for, automata_in}
-
--- the automaton of a pattern by the rows of a seed, its own or its partner's, keeps every rule of automata
-body_automaton : (id other : PatternId) (g : Aggregator) (f : Feature) → IsTrue (is_automaton (body_by id other g f))
-body_automaton id other g f =
-    let fits = table_fits other in
-    is_decorated_automaton (seed_table other).rows fits.0 fits.1 (pattern_a id) g f
-
-body_marked : (id : PatternId) (g : Aggregator) (f : Feature) → HoldsMark (body_by id id g f)
-body_marked id g f =
-    let fits = table_fits id in
-    is_marked (seed_table id).rows fits.0 fits.1 (pattern_a id) fits.2 g f
-
--- its answer is the value of the term
-body_answers : (id : PatternId) (g : Aggregator) (f : Feature) (xs : List ℤ) → 1 ≤ length xs → length xs ≤ longest → AreCellValues xs →
-    answer (body_by id id g f) xs ≡ value_of g f id xs
-unfolding value_of
-body_answers id g f xs some short cells =
-    let fits = table_fits id in
-    let rows = (seed_table id).rows in
-    answers_ranges rows fits.0 fits.1 (pattern_a id) fits.2 g f xs some short cells
-    ∙ ap (λ z. aggregate_of_ranges g f z xs)
-    (closed_valid rows fits.0 (pattern_shape id) (pattern_b id) (pattern_a id) (seed_table id).plan (rows_closed id (table_of id) (table_of id).rows refl refl)
-    (signature_of xs))
+use Rattle.ts_spans.specs.Machines.{forward_for, automata_for, automata_in}
 
 -- the machine of a term is whole
 pub term_whole : (id : PatternId) (g : Aggregator) (f : Feature) → AreAutomata (automata_for id g f)
 term_whole id g f = record { forward = body_automaton id id g f; pair = split (seed_table id).partner refl }
   where
-    split : (o : Option PatternId) → (seed_table id).partner ≡ o → IfSome (option_map (pair_for id g f) o) (Splits (forward_for id g f))
+    split : (o : Option PatternId) → (seed_table id).partner ≡ o → IfSome (option_map (λ partner. pair_by id partner g f) o) (Splits (forward_for id g f))
     split None e = tt
     split (Some partner) e =
         let glue = terms_glue id partner e g f in

@@ -5,8 +5,8 @@ use Rattle.ts_pattern.specs.declared.name.Feature.{Feature}
 use Rattle.ts_pattern.specs.declared.name.PatternId.{PatternId}
 use Rattle.ts_automaton.specs.Body.{Body}
 use Rattle.ts_seed.specs.SeedTable.{seed_table}
-use Rattle.ts_glue.specs.Pairs.{Pair, pair}
-use Rattle.ts_local.specs.TermPairs.{body_by, glue_table_of}
+use Rattle.ts_glue.specs.Pairs.{pair}
+use Rattle.ts_compile.specs.TermPairs.{body_by, pair_by}
 use Rattle.ts_bound.specs.TermSpans.{Automata}
 use Rattle.ts_model.specs.ModelParts.{ModelParts}
 use Rattle.ts_filter.specs.MachineSpans.{spans_of}
@@ -16,15 +16,11 @@ use Rattle.ts_filter.specs.RefutedWorseDrop.{Spans}
 abbrev pub forward_for : PatternId → Aggregator → Feature → Body
 forward_for id g f = body_by id id g f
 
--- that one and the automaton by the partner's rows, with the glue table
-abbrev pub pair_for : PatternId → Aggregator → Feature → PatternId → Pair
-pair_for id g f partner = pair (forward_for id g f) (body_by id partner g f) (glue_table_of id f)
-
 -- the machine of a term: it can be split where its pattern has a partner
 abbrev pub automata_for : PatternId → Aggregator → Feature → Automata
 automata_for id g f = record {
   forward = forward_for id g f;
-  pair = option_map (pair_for id g f) (seed_table id).partner;
+  pair = option_map (λ partner. pair_by id partner g f) (seed_table id).partner;
 }
 
 -- those of a model's terms, in the order of the text

@@ -25,15 +25,15 @@ use Rattle.ts_glue.specs.Pairs.{Pair, pair}
 use Rattle.ts_glue.specs.Glue.{fold_op, worth, glue_in, glue_of}
 use Rattle.ts_glue.specs.Glued.{glue_at, LocalUpTo}
 use Rattle.ts_glue.proofs.CallerLemmas.{AnswersAtCuts, local_by_cuts}
-use Rattle.ts_local.specs.TermPairs.{fold_op_of, cell_unit_of, glue_table_by}
-use Rattle.ts_local.proofs.Facts.{Good, glued as proof_form}
-use Rattle.ts_local.proofs.Tests.{kind_at, AreFitting}
-use Rattle.ts_local.proofs.Whole.{table_back, Stands, stands_start, stands_after, stands_back, glued_is}
-use Rattle.ts_local.proofs.Instances.{exact_joined, PartOf, FoldedOf, cell_part, laws_of}
-use Rattle.ts_local.proofs.Small.{glue_same}
-use Rattle.ts_local.proofs.Forms.{form_of, form_is, form_size}
-use Rattle.ts_local.proofs.Patterns.{is_pair}
-use Rattle.ts_local.proofs.Series.{table_run, run_more, back_is, cells_join, cells_parts, cells_back, run_is}
+use Rattle.ts_compile.specs.TermPairs.{fold_op_of, cell_unit_of, glue_table_by}
+use Rattle.ts_compile.proofs.Facts.{Good, glued as proof_form}
+use Rattle.ts_compile.proofs.Tests.{kind_at, AreFitting}
+use Rattle.ts_compile.proofs.Whole.{table_back, Stands, stands_start, stands_after, stands_back, glued_is}
+use Rattle.ts_compile.proofs.Instances.{exact_joined, PartOf, FoldedOf, cell_part, laws_of}
+use Rattle.ts_compile.proofs.Small.{glue_same}
+use Rattle.ts_compile.proofs.Forms.{form_of, form_is, form_size}
+use Rattle.ts_compile.proofs.Patterns.{is_pair}
+use Rattle.ts_compile.proofs.Series.{table_run, run_more, back_is, cells_join, cells_parts, cells_back, run_is}
 
 fold_op_is : (f : Feature) → fold_op (fold_op_of f) ≡ cell_op f
 fold_op_is One = refl

@@ -2,7 +2,7 @@
 
 ghost use Rattle.std.specs.Prelude.{◌≡◌};
 ghost use Rattle.ts_glue.specs.Pairs.{table_view};
-ghost use Rattle.ts_local.specs.TermPairs.{cell_unit_of, fold_op_of, glue_table_by};
+ghost use Rattle.ts_compile.specs.TermPairs.{cell_unit_of, fold_op_of, glue_table_by};
 
 use ts_base::Join;
 use ts_glue::{CellUnit, FoldOp, GlueTable};
@@ -10,7 +10,7 @@ use ts_pattern::Feature;
 
 /// The glue table of a term with this feature. Its pattern says how many cells an occurrence leaves out at its end,
 /// 0 or 1, and between which forward and reverse states one occurrence goes on.
-pub fn glue_table(a: u8, feature: Feature, joins: Vec<Join>) -> GlueTable
+pub(crate) fn glue_table(a: u8, feature: Feature, joins: Vec<Join>) -> GlueTable
     ensures { table_view result ≡ glue_table_by a feature joins.items }
 {
     GlueTable {
@@ -32,7 +32,7 @@ fn fold_op(feature: Feature) -> FoldOp
     }
 }
 
-/// What a cell is worth to the feature: its value, or 1 where cells are counted.
+/// What a cell is worth to the feature: its value, or 1 where an occurrence counts 1 or its cells are counted.
 fn cell_unit(feature: Feature) -> CellUnit
     ensures { result ≡ cell_unit_of feature }
 {

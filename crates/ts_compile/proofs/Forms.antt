@@ -16,11 +16,11 @@ use Rattle.ts_decorate.specs.Decoration.{cell_op, range_op}
 use Rattle.ts_decorate.proofs.Exact.{exact_op, exact}
 use Rattle.ts_decorate.proofs.Sizes.{size_of, size_of_all}
 use Rattle.ts_glue.specs.Glue.{Glue, LeftC, LeftD, RightC, RightD, With, glue_in, apart, counted_once, fold_of, join_of}
-use Rattle.ts_local.proofs.Facts.{opened, Good, glued}
-use Rattle.ts_local.proofs.Steps.{opened_part}
-use Rattle.ts_local.proofs.Tests.{HeldPair}
-use Rattle.ts_local.proofs.Instances.{exact_joined, PartOf, FoldedOf, laws_of}
-use Rattle.ts_local.proofs.Small.{exact_numbers, size_in}
+use Rattle.ts_compile.proofs.Facts.{opened, Good, glued}
+use Rattle.ts_compile.proofs.Steps.{opened_part}
+use Rattle.ts_compile.proofs.Tests.{HeldPair}
+use Rattle.ts_compile.proofs.Instances.{exact_joined, PartOf, FoldedOf, laws_of}
+use Rattle.ts_compile.proofs.Small.{exact_numbers, size_in}
 
 -- what stands for the glued value, by the operators of the ranges and of the cells
 abbrev pub form_of : ℕ → Op → Op → Bool → Bool → Bool → ℤ → Glue

@@ -13,7 +13,7 @@ use Rattle.ts_glue.specs.declared.table.FoldOp.{FoldOp}
 use Rattle.ts_glue.specs.declared.table.FoldOp.TheVariants.{Add, Max, Min}
 use Rattle.ts_glue.specs.declared.table.CellUnit.{CellUnit}
 use Rattle.ts_glue.specs.declared.table.CellUnit.TheVariants.{Unit as UnitCell, Value as ValueCell}
-use Rattle.ts_glue.specs.Pairs.{Table}
+use Rattle.ts_glue.specs.Pairs.{Table, Pair, pair}
 
 -- how a feature joins the cells of an occurrence, and what a cell is worth in it
 
@@ -41,6 +41,10 @@ glue_table_of id f = glue_table_by (pattern_a id) f (seed_table id).joins
 -- the automaton of a term of the pattern id by the rows of another seed: its own, or its partner's
 abbrev pub body_by : PatternId → PatternId → Aggregator → Feature → Body
 body_by id other g f = decorated_body (seed_table other).rows (pattern_a id) g f
+
+-- the two automata with the table
+abbrev pub pair_by : PatternId → PatternId → Aggregator → Feature → Pair
+pair_by id partner g f = pair (body_by id id g f) (body_by id partner g f) (glue_table_of id f)
 
 -- of a pattern and its partner, and each aggregator and feature
 abbrev pub ForPartners : (PatternId → PatternId → Aggregator → Feature → Type 0) → Type 0

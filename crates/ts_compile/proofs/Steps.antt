@@ -10,8 +10,8 @@ use Rattle.ts_transducer.specs.declared.row.Phase.TheVariants.{Out, OutR, OutA, 
 use Rattle.ts_automaton.specs.Registers.{EachOf}
 use Rattle.ts_decorate.specs.Operators.{Operators, with_all, after_phase}
 use Rattle.ts_decorate.proofs.Runs.{total_of}
-use Rattle.ts_local.proofs.Rules.{Move, Out_idle, Out_pending, OutR_idle, OutR_pending, OutA_idle, OutA_pending, MaybeB_idle, MaybeB_pending, MaybeA_held, Found_idle, Found_pending, FoundE_idle_idle, FoundE_idle_pending, FoundE_pending_idle, FoundE_pending_pending, Inside_held, impossible, keeps, closes, completes, extends, hands_over, begins, stands_alone, goes_on, grows, fits}
-use Rattle.ts_local.proofs.Facts.{GlueLaws, opened, Kept, Good, glued}
+use Rattle.ts_compile.proofs.Rules.{Move, Out_idle, Out_pending, OutR_idle, OutR_pending, OutA_idle, OutA_pending, MaybeB_idle, MaybeB_pending, MaybeA_held, Found_idle, Found_pending, FoundE_idle_idle, FoundE_idle_pending, FoundE_pending_idle, FoundE_pending_pending, Inside_held, impossible, keeps, closes, completes, extends, hands_over, begins, stands_alone, goes_on, grows, fits}
+use Rattle.ts_compile.proofs.Facts.{GlueLaws, opened, Kept, Good, glued}
 
 module _ {V : Type 0} (o : Operators V) (joined : V → V → V → V) (Part : V → Type 0) (Folded : V → V → Type 0)
     (laws : GlueLaws o joined Part Folded) where

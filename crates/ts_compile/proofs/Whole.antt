@@ -13,10 +13,10 @@ use Rattle.ts_automaton.specs.Registers.{each}
 use Rattle.ts_automaton.specs.AutomatonRun.{Standing}
 use Rattle.ts_decorate.specs.Operators.{Operators}
 use Rattle.ts_decorate.proofs.Runs.{table_start, table_step, table_after, total_of}
-use Rattle.ts_local.proofs.Rules.{Move, move_of, fits}
-use Rattle.ts_local.proofs.Facts.{GlueLaws, Good, glued}
-use Rattle.ts_local.proofs.Steps.{g_right, good_step, step}
-use Rattle.ts_local.proofs.Tests.{kind_at, AreFitting}
+use Rattle.ts_compile.proofs.Rules.{Move, move_of, fits}
+use Rattle.ts_compile.proofs.Facts.{GlueLaws, Good, glued}
+use Rattle.ts_compile.proofs.Steps.{g_right, good_step, step}
+use Rattle.ts_compile.proofs.Tests.{kind_at, AreFitting}
 
 pub letter_back : (x y : ℤ) → letter_of y x ≡ flip_of (letter_of x y)
 letter_back x y = by_cases (int_lt x y) (int_lt y x) refl refl

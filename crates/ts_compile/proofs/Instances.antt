@@ -14,7 +14,7 @@ use Rattle.ts_automaton.specs.declared.expr.Op.{Op}
 use Rattle.ts_automaton.specs.declared.expr.Op.TheVariants.{Add, Max, Min}
 use Rattle.ts_decorate.specs.Decoration.{cell_op, range_op, default_value}
 use Rattle.ts_decorate.proofs.Exact.{exact_plus, exact_op, exact, cell_value, max_assoc, min_assoc, plus_assoc, range_right}
-use Rattle.ts_local.proofs.Facts.{GlueLaws}
+use Rattle.ts_compile.proofs.Facts.{GlueLaws}
 
 abbrev pub negated : Ext → Ext
 negated NegInf = PosInf

@@ -13,17 +13,12 @@ use Rattle.ts_pattern.specs.declared.name.PatternId.TheVariants.{Increasing, Dec
 use Rattle.ts_pattern.specs.PatternTable.{pattern_a}
 use Rattle.ts_seed.specs.SeedTable.{seed_table}
 use Rattle.ts_glue.specs.Rules.{keeps_rules}
-use Rattle.ts_glue.specs.Pairs.{Pair, pair}
-use Rattle.ts_local.specs.TermPairs.{glue_table_of, body_by}
-use Rattle.ts_local.proofs.Tests.{are_fitting}
+use Rattle.ts_compile.specs.TermPairs.{pair_by}
+use Rattle.ts_compile.proofs.Tests.{are_fitting}
 
 -- one occurrence goes on between the two states
 abbrev pub is_pair : List Join → ℕ → ℕ → Bool
 is_pair js q r = list_any (λ j. nat_eq j.forward q && nat_eq j.reverse r) js
-
--- the automata and the glue table of a term
-abbrev pub term_pair : PatternId → PatternId → Aggregator → Feature → Pair
-term_pair id partner g f = pair (body_by id id g f) (body_by id partner g f) (glue_table_of id f)
 
 -- a test of all terms
 abbrev pub on_features : (Feature → Bool) → Bool
@@ -42,7 +37,7 @@ abbrev pub has_few_rows : PatternId → Bool
 has_few_rows id = nat_le (length (seed_table id).rows) 8
 
 abbrev pub terms_keep_rules : PatternId → PatternId → Bool
-terms_keep_rules id p = on_terms (λ g f. keeps_rules (term_pair id p g f))
+terms_keep_rules id p = on_terms (λ g f. keeps_rules (pair_by id p g f))
 
 abbrev pub are_tested : PatternId → PatternId → Bool
 are_tested id p = tables_fit id p && (has_few_rows id && (has_few_rows p && terms_keep_rules id p))

@@ -12,7 +12,7 @@ use Rattle.ts_base.specs.Signature.{flip_of}
 use Rattle.ts_transducer.specs.declared.row.Row.{Row}
 use Rattle.ts_transducer.specs.Typing.{is_held, is_typed}
 use Rattle.ts_transducer.specs.Decode.{row_at, arrow_at}
-use Rattle.ts_local.proofs.Rules.{impossible, fits}
+use Rattle.ts_compile.proofs.Rules.{impossible, fits}
 
 abbrev pub kind_at : List Row → ℕ → Kind
 kind_at rows q = (row_at rows q).kind

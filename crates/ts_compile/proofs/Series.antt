@@ -14,7 +14,7 @@ use Rattle.ts_decorate.proofs.Exact.{exact, cell_value}
 use Rattle.ts_decorate.proofs.Evaluation.{after_is}
 use Rattle.ts_decorate.proofs.Runs.{table_start, table_step, table_after}
 use Rattle.ts_decorate.proofs.Sizes.{size_of_all, neutral_size, default_size, after_same, cost_small}
-use Rattle.ts_local.proofs.Whole.{some_row, table_back}
+use Rattle.ts_compile.proofs.Whole.{some_row, table_back}
 
 abbrev pub table_run : {V : Type 0} → Operators V → (ℤ → V) → ℕ → List Row → List ℤ → Standing V
 table_run o over a rows [] = table_start o
