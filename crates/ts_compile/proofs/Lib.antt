@@ -7,6 +7,7 @@ mod Pairs
 pub mod Partners
 mod Patterns
 mod Rules
+mod Seeds
 mod Series
 mod Small
 mod Steps

@@ -3,6 +3,7 @@
 ghost use Rattle.std.specs.Prelude.{◌≡◌, Some};
 ghost use Rattle.ts_automaton.specs.AutomatonRun.{HoldsMark};
 ghost use Rattle.ts_compile.specs.Compiled.{AnswersTerm, GluesTerm, machine_body, pair_with};
+ghost use Rattle.ts_compile.specs.Seeds.{SeedsAreValidated};
 ghost use Rattle.ts_compile.specs.TermPairs.{ForPartners, pair_by};
 ghost use Rattle.ts_decorate.specs.Answers.{longest};
 ghost use Rattle.ts_glue.specs.Glued.{LocalUpTo};
@@ -33,4 +34,10 @@ pub fn terms_are_local()
 pub fn glued_value()
     ensures { (t : Term) (partner : PatternId) → (seed_table t.pattern).partner ≡ Some partner →
         GluesTerm (pair_with t partner) t }
+{}
+
+/// `validate` refuses no seed: given a seed, its own plan and the pattern's expression and trim, it answers the
+/// transducer or want of memory. So a machine may be made of a seed that isn't validated again.
+pub fn seeds_are_validated()
+    ensures { SeedsAreValidated }
 {}
