@@ -1,6 +1,6 @@
 //! The text of an automaton: one body, the lines of its block behind the head.
 
-ghost use Rattle.std.specs.Prelude.{◌≡◌, ◌++◌, [], ◌∷◌, ◌+◌, ◌*◌, ◌<◌, ◌≤◌, ◌/◌, ◌%◌, codes, map, length, OnOk};
+ghost use Rattle.std.specs.Prelude.{◌≡◌, ◌++◌, [], ◌∷◌, ◌+◌, ◌*◌, ◌<◌, ◌≤◌, ◌/◌, ◌%◌, codes, map, length, OnErr, OnOk};
 ghost use Rattle.ts_base.specs.Words.{behind};
 ghost use Rattle.ts_automaton.specs.Formula.{formula};
 ghost use Rattle.ts_automaton.specs.Registers.{regs_of};
@@ -18,9 +18,10 @@ use crate::regs::Regs;
 use crate::state::{Mark, State, Turn};
 use ts_base::{Ext, Memory};
 
-/// Puts the head line of a block behind `text`.
+/// Puts the head line of a block behind `text`, which stays as it is after `Memory`.
 pub fn write_head(way: Way, text: &mut Vec<u8>) -> Result<(), Memory>
-    ensures { OnOk result (text.new.items ≡ text.old.items ++ head_text way) }
+    ensures ok { OnOk result (text.new.items ≡ text.old.items ++ head_text way) }
+    ensures err { OnErr result (text.new.items ≡ text.old.items) }
 {
     match way {
         Way::Forward => text.extend_from_slice(b"forward\n")?,
@@ -29,11 +30,16 @@ pub fn write_head(way: Way, text: &mut Vec<u8>) -> Result<(), Memory>
     Ok(())
 }
 
-/// Puts the one body of an automaton behind `text`.
+/// Puts the one body of an automaton behind `text`, which stays as it is after `Memory`: the body is written apart, and
+/// `text` grows once, before it changes.
 pub fn write(m: &Automaton, text: &mut Vec<u8>) -> Result<(), Memory>
-    ensures { OnOk result (text.new.items ≡ text.old.items ++ body_text m.now) }
+    ensures ok { OnOk result (text.new.items ≡ text.old.items ++ body_text m.now) }
+    ensures err { OnErr result (text.new.items ≡ text.old.items) }
 {
-    push_body(text, m.parts())
+    let mut body = Vec::new(*text.allocator());
+    push_body(&mut body, m.parts())?;
+    text.extend_from_slice(&body)?;
+    Ok(())
 }
 
 /// Puts the lines of a block but the head behind `text`.
