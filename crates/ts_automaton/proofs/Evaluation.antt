@@ -5,7 +5,7 @@ use Rattle.ts_base.specs.declared.ext.Ext.{Ext}
 use Rattle.ts_base.specs.declared.ext.Ext.TheVariants.{NegInf, Int as Number, PosInf}
 use Rattle.ts_automaton.specs.declared.kind.RegKind.{RegKind}
 use Rattle.ts_automaton.specs.declared.expr.Atom.TheVariants.{C, D, R, This, Next, Zero, Unit as UnitAtom, NegInf as LowAtom, PosInf as HighAtom}
-use Rattle.ts_automaton.specs.declared.expr.Op.{Op}
+use Rattle.ts_base.specs.declared.op.Op.{Op}
 use Rattle.ts_automaton.specs.Formula.{Formula, Leaf, Join}
 use Rattle.ts_automaton.specs.Registers.{EachOf, map_each, Each, Values, value_in, Takes}
 use Rattle.ts_automaton.specs.Kinds.{kind_of, op_kind, join_kind, kinds, formula_kind}

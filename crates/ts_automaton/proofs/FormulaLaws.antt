@@ -7,8 +7,8 @@ use Rattle.std.proofs.lemmas.Bool.{le-leb}
 use Rattle.ts_base.proofs.WordLaws.{keyword_or}
 use Rattle.ts_automaton.specs.declared.expr.Atom.{Atom}
 use Rattle.ts_automaton.specs.declared.expr.Atom.TheVariants.{C as AtomC, D as AtomD, R as AtomR, This as AtomThis, Next as AtomNext, Zero as AtomZero, Unit as AtomUnit, NegInf as AtomNegInf, PosInf as AtomPosInf}
-use Rattle.ts_automaton.specs.declared.expr.Op.{Op}
-use Rattle.ts_automaton.specs.declared.expr.Op.TheVariants.{Add as OpAdd, Max as OpMax, Min as OpMin}
+use Rattle.ts_base.specs.declared.op.Op.{Op}
+use Rattle.ts_base.specs.declared.op.Op.TheVariants.{Add as OpAdd, Max as OpMax, Min as OpMin}
 use Rattle.ts_automaton.specs.Formula.{Formula, Leaf, Join, words_in}
 use Rattle.ts_automaton.specs.FormulaText.{atom_word, op_word, formula_words, atom_of, op_of, stacked_by, onto_stack, stack_of, only_one, formula_of}
 

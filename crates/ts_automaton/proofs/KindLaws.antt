@@ -1,16 +1,16 @@
 -- Typing is right about values: numbers and spans of a kind, and what operators make of them.
-use Rattle.std.proofs.Common.{◌≡◌, true, false, cond, ◌&&◌, refl, sym, ◌∙◌, ap, subst}
+use Rattle.std.proofs.Common.{◌≡◌, true, false, cond, refl, sym, subst}
 use Rattle.std.specs.Prelude.{IsTrue, int_le, is_some, Some}
 use Rattle.ts_base.specs.declared.ext.Ext.{Ext}
 use Rattle.ts_base.specs.declared.ext.Ext.TheVariants.{NegInf, Int as Number, PosInf}
 use Rattle.ts_base.specs.declared.span.Span.{Span}
 use Rattle.ts_base.specs.Numbers.{ext_le}
-use Rattle.ts_base.specs.Spans.{none_span, has_some, end_by_end}
+use Rattle.ts_base.specs.Spans.{end_by_end}
 use Rattle.ts_base.proofs.Order.{le_refl}
-use Rattle.ts_base.proofs.SpanLaws.{max_mono, min_mono, plus_mono}
+use Rattle.ts_base.proofs.SpanLaws.{lifted_ends, max_mono, min_mono, plus_mono}
 use Rattle.ts_automaton.specs.declared.kind.RegKind.{RegKind}
-use Rattle.ts_automaton.specs.declared.expr.Op.{Op}
-use Rattle.ts_automaton.specs.declared.expr.Op.TheVariants.{Add, Max, Min}
+use Rattle.ts_base.specs.declared.op.Op.{Op}
+use Rattle.ts_base.specs.declared.op.Op.TheVariants.{Add, Max, Min}
 use Rattle.ts_automaton.specs.Registers.{Values, numbers, spans, ext_op}
 use Rattle.ts_automaton.specs.Kinds.{kind_of, is_within, HasKind, SpanHasKind, op_kind, Fits, SpansFit}
 use Rattle.ts_automaton.proofs.Tables.{within_refl, within_trans, narrower, made_kind, within_any, made_within}
@@ -63,15 +63,9 @@ op_mono Add = plus_mono
 op_mono Max = max_mono
 op_mono Min = min_mono
 
-pub lifted_ends : (o : Op) (s t : Span) → has_some s ≡ true → has_some t ≡ true →
-    end_by_end (ext_op o) s t ≡ record { lo = ext_op o s.lo t.lo; hi = ext_op o s.hi t.hi }
-lifted_ends o s t p q =
-    ap (λ v. cond (v && has_some t) (record { lo = ext_op o s.lo t.lo; hi = ext_op o s.hi t.hi }) none_span) p
-    ∙ ap (λ v. cond v (record { lo = ext_op o s.lo t.lo; hi = ext_op o s.hi t.hi }) none_span) q
-
 made_span : (o : Op) (j k i : RegKind) (s t : Span) → op_kind o j k ≡ Some i → SpanHasKind j s → SpanHasKind k t → SpanHasKind i (end_by_end (ext_op o) s t)
 made_span o j k i s t e h g =
-    subst (SpanHasKind i) (sym (lifted_ends o s t h.0 g.0))
+    subst (SpanHasKind i) (sym (lifted_ends (ext_op o) s t h.0 g.0))
     (op_mono o s.lo s.hi t.lo t.hi h.0 g.0, made_number o j k i s.lo t.lo e h.1 g.1, made_number o j k i s.hi t.hi e h.2 g.2)
 
 pub spans_typed : TypedValues spans SpanHasKind SpansFit

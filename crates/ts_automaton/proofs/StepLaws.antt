@@ -6,7 +6,7 @@ use Rattle.ts_base.specs.declared.ext.Ext.{Ext}
 use Rattle.ts_base.specs.declared.span.Span.{Span}
 use Rattle.ts_base.specs.declared.letter.Letter.{Letter}
 use Rattle.ts_automaton.specs.declared.kind.RegKind.{RegKind}
-use Rattle.ts_automaton.specs.declared.expr.Op.{Op}
+use Rattle.ts_base.specs.declared.op.Op.{Op}
 use Rattle.ts_automaton.specs.Formula.{Formula}
 use Rattle.ts_automaton.specs.Registers.{EachOf, Each, Values, numbers, spans, value_in, Takes, TakesAll}
 use Rattle.ts_automaton.specs.Kinds.{kind_of, HasKind, SpanHasKind, Fits, SpansFit, formula_kind}

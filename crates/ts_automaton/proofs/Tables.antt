@@ -4,8 +4,8 @@ use Rattle.std.specs.Prelude.{IsTrue, is_some, Option, None, Some}
 use Rattle.std.proofs.lemmas.Bool.{and_parts}
 use Rattle.ts_automaton.specs.declared.kind.RegKind.{RegKind}
 use Rattle.ts_automaton.specs.declared.kind.RegKind.TheVariants.{Int, Low, High}
-use Rattle.ts_automaton.specs.declared.expr.Op.{Op}
-use Rattle.ts_automaton.specs.declared.expr.Op.TheVariants.{Add, Max, Min}
+use Rattle.ts_base.specs.declared.op.Op.{Op}
+use Rattle.ts_base.specs.declared.op.Op.TheVariants.{Add, Max, Min}
 use Rattle.ts_automaton.specs.Kinds.{is_within, op_kind}
 
 abbrev pub on_kinds : (RegKind → Bool) → Bool

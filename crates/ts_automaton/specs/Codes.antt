@@ -4,9 +4,9 @@ use Rattle.std.specs.Coded.{Coded, code_by, coded_list, coded⊎}
 use Rattle.std.proofs.Common.{inl, inr, ap, ◌∙◌}
 use Rattle.ts_automaton.specs.declared.expr.Atom.{Atom}
 use Rattle.ts_automaton.specs.declared.expr.Atom.TheVariants.{C}
-use Rattle.ts_automaton.specs.declared.expr.Op.{Op}
+use Rattle.ts_base.specs.declared.op.Op.{Op}
 use Rattle.ts_automaton.specs.contracts.expr.Atom as atom
-use Rattle.ts_automaton.specs.contracts.expr.Op as op
+use Rattle.ts_base.specs.contracts.op.Op as op
 use Rattle.ts_automaton.specs.Formula.{Formula, Leaf, Join}
 
 -- its words before those that follow

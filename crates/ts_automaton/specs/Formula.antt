@@ -2,14 +2,23 @@
 use Rattle.std.specs.Prelude.{ℕ, ◌+◌}
 use Rattle.ts_automaton.specs.declared.expr.Atom.{Atom}
 use Rattle.ts_automaton.specs.declared.expr.Atom.TheVariants.{C as AtomC, D as AtomD, R as AtomR, This as AtomThis, Next as AtomNext, Zero as AtomZero, Unit as AtomUnit, NegInf as AtomNegInf, PosInf as AtomPosInf}
-use Rattle.ts_automaton.specs.declared.expr.Op.{Op}
-use Rattle.ts_automaton.specs.declared.expr.Op.TheVariants.{Add as OpAdd, Max as OpMax, Min as OpMin}
+use Rattle.ts_base.specs.declared.op.Op.{Op}
+use Rattle.ts_base.specs.declared.constant.Constant.{Constant}
+use Rattle.ts_base.specs.declared.constant.Constant.TheVariants.{Zero as ZeroConstant, Unit as UnitConstant, NegInf as LowConstant, PosInf as HighConstant}
+use Rattle.ts_base.specs.declared.op.Op.TheVariants.{Add as OpAdd, Max as OpMax, Min as OpMin}
 use Rattle.ts_automaton.specs.declared.expr.Expr.{Expr, C, D, R, This, Next, Zero, Unit as UnitExpr, NegInf, PosInf, Add', Max', Min'}
 
 -- an expression: one word, or an operator over two expressions
 pub data Formula : Type 0 where
   Leaf : Atom → Formula
   Join : Op → Formula → Formula → Formula
+
+-- a constant as an expression of one word
+abbrev pub constant_atom : Constant → Atom
+constant_atom ZeroConstant = AtomZero
+constant_atom UnitConstant = AtomUnit
+constant_atom LowConstant = AtomNegInf
+constant_atom HighConstant = AtomPosInf
 
 -- what contracts see of an expression
 abbrev pub formula : Expr → Formula

@@ -7,8 +7,8 @@ use Rattle.ts_base.specs.Spans.{has_some}
 use Rattle.ts_automaton.specs.declared.kind.Kinds.{Kinds}
 use Rattle.ts_automaton.specs.declared.kind.RegKind.{RegKind}
 use Rattle.ts_automaton.specs.declared.kind.RegKind.TheVariants.{Int, Low, High}
-use Rattle.ts_automaton.specs.declared.expr.Op.{Op}
-use Rattle.ts_automaton.specs.declared.expr.Op.TheVariants.{Add, Max, Min}
+use Rattle.ts_base.specs.declared.op.Op.{Op}
+use Rattle.ts_base.specs.declared.op.Op.TheVariants.{Add, Max, Min}
 use Rattle.ts_automaton.specs.Formula.{Formula}
 use Rattle.ts_automaton.specs.Registers.{EachOf, each, map_each, Values, value_in}
 

@@ -3,12 +3,11 @@ use Rattle.std.specs.Prelude.{ℤ, pos}
 use Rattle.ts_base.specs.declared.ext.Ext.{Ext}
 use Rattle.ts_base.specs.declared.ext.Ext.TheVariants.{NegInf, Int, PosInf}
 use Rattle.ts_base.specs.declared.span.Span.{Span}
-use Rattle.ts_base.specs.Numbers.{ext_plus, ext_max, ext_min}
+pub use Rattle.ts_base.specs.Operators.{ext_op}
 use Rattle.ts_base.specs.Spans.{one_span, end_by_end}
 use Rattle.ts_automaton.specs.declared.expr.Atom.{Atom}
 use Rattle.ts_automaton.specs.declared.expr.Atom.TheVariants.{C, D, R, This, Next, Zero, Unit as UnitAtom, NegInf as LowAtom, PosInf as HighAtom}
-use Rattle.ts_automaton.specs.declared.expr.Op.{Op}
-use Rattle.ts_automaton.specs.declared.expr.Op.TheVariants.{Add, Max, Min}
+use Rattle.ts_base.specs.declared.op.Op.{Op}
 use Rattle.ts_automaton.specs.declared.regs.Regs.{Regs}
 use Rattle.ts_automaton.specs.declared.regs.Hull.{Hull}
 use Rattle.ts_automaton.specs.Formula.{Formula, Leaf, Join}
@@ -40,12 +39,6 @@ spans_of h = each h.c h.d h.r
 pub record Values (A : Type 0) : Type 0 where
   pub constant : Ext → A
   pub join : Op → A → A → A
-
--- the operators on numbers
-abbrev pub ext_op : Op → Ext → Ext → Ext
-ext_op Add a b = ext_plus a b
-ext_op Max a b = ext_max a b
-ext_op Min a b = ext_min a b
 
 abbrev pub numbers : Values Ext
 numbers = record { constant = λ e. e; join = ext_op }

@@ -1,10 +1,10 @@
 //! Expressions over the registers and two neighbouring cells.
 
 ghost use Rattle.std.specs.Prelude.{◌≡◌, IfOk};
-ghost use Rattle.ts_automaton.specs.Formula.{Join, formula};
+ghost use Rattle.ts_automaton.specs.Formula.{Join, Leaf, constant_atom, formula};
 
 use std::alloc::Global;
-use ts_base::Memory;
+use ts_base::{Constant, Memory, Op};
 
 /// The registers, the cell read (`This`) and the next one, constants, and operators over two expressions.
 #[derive(Debug, PartialEq, Eq, Drop)]
@@ -37,22 +37,26 @@ pub enum Atom {
     PosInf,
 }
 
-/// An operator over two expressions: the sum, the greater and the lesser of two.
-#[derive(Clone, Copy, Debug, PartialEq, Eq)]
-pub enum Op {
-    Add,
-    Max,
-    Min,
-}
+impl Expr {
+    /// The expression of a constant.
+    pub fn constant(constant: Constant) -> Expr
+        ensures { formula result ≡ Leaf (constant_atom constant) }
+    {
+        match constant {
+            Constant::Zero => Expr::Zero,
+            Constant::Unit => Expr::Unit,
+            Constant::NegInf => Expr::NegInf,
+            Constant::PosInf => Expr::PosInf,
+        }
+    }
 
-impl Op {
-    /// The expression that is this operator over two.
-    pub fn join(self, alloc: Global, left: Expr, right: Expr) -> Result<Expr, Memory>
-        ensures { IfOk result (λ e. formula e ≡ Join self (formula left) (formula right)) }
+    /// The expression of an operator over two.
+    pub fn over(alloc: Global, op: Op, left: Expr, right: Expr) -> Result<Expr, Memory>
+        ensures { IfOk result (λ e. formula e ≡ Join op (formula left) (formula right)) }
     {
         let first = Box::new(alloc, left)?;
         let second = Box::new(alloc, right)?;
-        match self {
+        match op {
             Op::Add => Ok(Expr::Add(first, second)),
             Op::Max => Ok(Expr::Max(first, second)),
             Op::Min => Ok(Expr::Min(first, second)),

@@ -5,9 +5,9 @@ ghost use Rattle.ts_base.specs.Words.{behind};
 ghost use Rattle.ts_automaton.specs.Formula.{Leaf, formula};
 ghost use Rattle.ts_automaton.specs.FormulaText.{atom_of, op_of, formula_words, stack_word, only_one, formula_of, texts, stack_seen};
 
-use crate::expr::{Atom, Expr, Op};
+use crate::expr::{Atom, Expr};
 use std::alloc::Global;
-use ts_base::Memory;
+use ts_base::{Memory, Op};
 
 /// The operand that a word is.
 #[tactic(auto, unfolding(crate::specs::FormulaText::atom_of))]
@@ -85,7 +85,7 @@ fn stacked(alloc: Global, stack: &mut Vec<Expr>, word: &[u8]) -> Result<bool, Me
         None => match op_of(word) {
             Some(op) => match (stack.pop(), stack.pop()) {
                 (Some(e), Some(f)) => {
-                    stack.push(op.join(alloc, e, f)?)?;
+                    stack.push(Expr::over(alloc, op, e, f)?)?;
                     Ok(true)
                 }
                 _ => Ok(false),

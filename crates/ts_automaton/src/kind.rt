@@ -3,8 +3,7 @@
 ghost use Rattle.std.specs.Prelude.{◌≡◌};
 ghost use Rattle.ts_automaton.specs.Kinds.{is_within, kind_of, op_kind};
 
-use crate::expr::Op;
-use ts_base::Ext;
+use ts_base::{Ext, Op};
 
 /// What a register or an expression may be: numbers; numbers and -inf; numbers and +inf.
 #[derive(Clone, Copy, Debug, PartialEq, Eq)]

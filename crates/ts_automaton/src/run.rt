@@ -5,13 +5,13 @@ ghost use Rattle.ts_automaton.specs.AutomatonRun.{Stands, finish_of, under_mark,
 ghost use Rattle.ts_automaton.specs.Body.{move_of};
 ghost use Rattle.ts_automaton.specs.Formula.{formula};
 ghost use Rattle.ts_automaton.specs.Kinds.{Fits};
-ghost use Rattle.ts_automaton.specs.Registers.{Takes, TakesAll, ext_op, numbers, regs_of, value_in};
+ghost use Rattle.ts_automaton.specs.Registers.{Takes, TakesAll, numbers, regs_of, value_in};
 
 use crate::automaton::Automaton;
-use crate::expr::{Expr, Op};
+use crate::expr::Expr;
 use crate::regs::{At, Regs};
 use crate::state::{Mark, Turn};
-use ts_base::{Ext, letter_of};
+use ts_base::{Ext, Op, letter_of};
 
 impl Automaton {
     /// The first state with the start constants.
@@ -91,21 +91,6 @@ impl Expr {
                 a.value(regs, this, next),
                 b.value(regs, this, next),
             ),
-        }
-    }
-}
-
-impl Op {
-    /// What it makes of two values that it takes.
-    pub fn applied(self, a: Ext, b: Ext) -> Ext
-        requires { Fits self a b }
-        ensures { result ≡ ext_op self a b }
-    {
-        match (self, a, b) {
-            (Op::Add, Ext::Int(_), Ext::Int(_)) => a.plus(b),
-            (Op::Max, Ext::NegInf | Ext::Int(_), Ext::NegInf | Ext::Int(_)) => a.greater(b),
-            (Op::Min, Ext::PosInf | Ext::Int(_), Ext::PosInf | Ext::Int(_)) => a.lesser(b),
-            _ => unreachable!(),
         }
     }
 }

@@ -4,15 +4,14 @@ ghost use Rattle.std.specs.Prelude.{◌≡◌, IsTrue, not};
 ghost use Rattle.ts_automaton.specs.Body.{move_of};
 ghost use Rattle.ts_automaton.specs.Formula.{formula};
 ghost use Rattle.ts_automaton.specs.Kinds.{SpansFit};
-ghost use Rattle.ts_automaton.specs.Registers.{Takes, TakesAll, ext_op, regs_of, spans, spans_of, value_in};
+ghost use Rattle.ts_automaton.specs.Registers.{Takes, TakesAll, regs_of, spans, spans_of, value_in};
 ghost use Rattle.ts_automaton.specs.SpanRun.{HullStands, finish_span_of, has_registers, hull_standing, marked_span, moved_hull, none_hull, one_hull, span_step};
-ghost use Rattle.ts_base.specs.Spans.{end_by_end};
 
 use crate::automaton::Automaton;
-use crate::expr::{Expr, Op};
+use crate::expr::Expr;
 use crate::regs::{Hull, HullAt, Regs};
 use crate::state::{Mark, Turn};
-use ts_base::{Ext, Span, letter_of};
+use ts_base::{Ext, Op, Span, letter_of};
 
 impl Hull {
     /// The form of every hull that holds no registers.
@@ -121,20 +120,6 @@ impl Expr {
                 a.span(hull, this, next),
                 b.span(hull, this, next),
             ),
-        }
-    }
-}
-
-impl Op {
-    /// What it makes of two spans that it takes, end by end.
-    #[tactic(auto, using(crate::proofs::KindLaws::lifted_ends))]
-    pub fn applied_to_spans(self, s: Span, t: Span) -> Span
-        requires { SpansFit self s t }
-        ensures { result ≡ end_by_end (ext_op self) s t }
-    {
-        Span {
-            lo: self.applied(s.lo, t.lo),
-            hi: self.applied(s.hi, t.hi),
         }
     }
 }

@@ -7,11 +7,11 @@ ghost use Rattle.ts_automaton.specs.Formula.{formula};
 ghost use Rattle.ts_automaton.specs.Kinds.{formula_kind, kinds_of};
 ghost use Rattle.ts_automaton.specs.Typing.{fits_kind, fits_kinds, kinds_at, kinds_where, reads_registers, is_finish_typed, is_finish_typed_where_held, is_automaton, move_fault, typing_fault};
 
-use crate::expr::{Expr, Op};
+use crate::expr::Expr;
 use crate::kind::{Kinds, RegKind};
 use crate::parts::Parts;
 use crate::state::{State, Turn};
-use ts_base::Letter;
+use ts_base::{Letter, Op};
 
 /// A place of an automaton's parts that is typed: the first state, which has to be free; the move of a state on a
 /// letter; and the finish expression.

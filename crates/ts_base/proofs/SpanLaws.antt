@@ -71,6 +71,13 @@ lifted_holds op m s t a b h k =
     let j = holds_some t b k in
     rw (i, j) (m s.lo a t.lo b h.0 k.0, m a s.hi b t.hi h.1 k.1)
 
+-- the ends of what is made of two spans that hold a number
+pub lifted_ends : (op : Ext → Ext → Ext) (s t : Span) → has_some s ≡ true → has_some t ≡ true →
+    end_by_end op s t ≡ record { lo = op s.lo t.lo; hi = op s.hi t.hi }
+lifted_ends op s t p q =
+    ap (λ v. cond (v && has_some t) (record { lo = op s.lo t.lo; hi = op s.hi t.hi }) none_span) p
+    ∙ ap (λ v. cond v (record { lo = op s.lo t.lo; hi = op s.hi t.hi }) none_span) q
+
 -- single numbers stay single
 pub lifted_one : (op : Ext → Ext → Ext) (a b : Ext) → end_by_end op (one_span a) (one_span b) ≡ one_span (op a b)
 lifted_one op a b = rw (one_some a, one_some b) refl

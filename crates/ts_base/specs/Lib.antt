@@ -2,6 +2,7 @@ pub mod InMemory
 pub mod Limits
 pub mod Never
 pub mod Numbers
+pub mod Operators
 pub mod Orders
 pub mod Outside
 pub mod Signature

@@ -12,6 +12,7 @@
 //! ```
 #![tactic(auto)]
 
+mod constant;
 mod error;
 mod ext;
 mod goal;
@@ -21,6 +22,7 @@ mod laws;
 mod letter;
 pub mod limits;
 mod never;
+mod op;
 mod outside;
 mod range;
 mod read_write;
@@ -31,6 +33,7 @@ mod tests;
 mod text;
 mod words;
 
+pub use constant::Constant;
 pub use error::{Failed, Memory};
 pub use ext::Ext;
 pub use goal::Goal;
@@ -42,6 +45,7 @@ pub use laws::{
 };
 pub use letter::{Letter, flip, letter_of};
 pub use never::{NeverSink, NeverSource};
+pub use op::Op;
 pub use outside::{Sink, Source};
 pub use range::{Join, Kind, Range};
 pub use read_write::{ReadStop, read_all, take_all, write_all};

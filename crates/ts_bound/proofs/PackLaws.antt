@@ -10,7 +10,7 @@ use Rattle.ts_base.specs.Numbers.{ext_le, ext_max, ext_min, ext_plus, clamp}
 use Rattle.ts_base.specs.Spans.{none_span, one_span, has_some, span_hull}
 use Rattle.ts_base.proofs.Order.{le_antisym}
 use Rattle.ts_base.proofs.SpanLaws.{one_some}
-use Rattle.ts_automaton.specs.declared.expr.Op.{Op}
+use Rattle.ts_base.specs.declared.op.Op.{Op}
 use Rattle.ts_automaton.specs.declared.regs.Hull.{Hull}
 use Rattle.ts_automaton.specs.Registers.{ext_op}
 use Rattle.ts_automaton.specs.Body.{Move}

@@ -12,8 +12,8 @@ use Rattle.ts_base.proofs.Order.{le_refl}
 use Rattle.ts_base.proofs.SpanLaws.{one_some}
 use Rattle.ts_automaton.specs.declared.expr.Atom.{Atom}
 use Rattle.ts_automaton.specs.declared.expr.Atom.TheVariants.{C, D, R, This, Next, Zero, Unit as UnitAtom, NegInf as LowAtom, PosInf as HighAtom}
-use Rattle.ts_automaton.specs.declared.expr.Op.{Op}
-use Rattle.ts_automaton.specs.declared.expr.Op.TheVariants.{Add, Max, Min}
+use Rattle.ts_base.specs.declared.op.Op.{Op}
+use Rattle.ts_base.specs.declared.op.Op.TheVariants.{Add, Max, Min}
 use Rattle.ts_automaton.specs.declared.regs.Hull.{Hull}
 use Rattle.ts_automaton.specs.Formula.{Formula, Leaf, Join}
 use Rattle.ts_automaton.specs.Registers.{EachOf, ext_op, spans, spans_of, value_in}

@@ -2,7 +2,7 @@
 use Rattle.std.specs.Prelude.{Bool, cond, ◌&&◌, ℤ}
 use Rattle.ts_automaton.specs.declared.regs.Hull.{Hull}
 use Rattle.ts_automaton.specs.declared.expr.Atom.TheVariants.{C, D, R, Unit}
-use Rattle.ts_automaton.specs.declared.expr.Op.TheVariants.{Add}
+use Rattle.ts_base.specs.declared.op.Op.TheVariants.{Add}
 use Rattle.ts_automaton.specs.Formula.{Leaf, Join, formula}
 use Rattle.ts_automaton.specs.Body.{Move}
 use Rattle.ts_bound.specs.declared.sweep_parts.Part.{Part}

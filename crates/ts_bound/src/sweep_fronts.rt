@@ -3,7 +3,7 @@
 ghost use Rattle.std.specs.Prelude.{◌≡◌, pos, true};
 ghost use Rattle.ts_automaton.specs.Formula.{Leaf, formula};
 ghost use Rattle.ts_automaton.specs.declared.expr.Atom.TheVariants.{C, D, R};
-ghost use Rattle.ts_automaton.specs.declared.expr.Op.TheVariants.{Add};
+ghost use Rattle.ts_base.specs.declared.op.Op.TheVariants.{Add};
 ghost use Rattle.ts_base.specs.Spans.{has_some};
 ghost use Rattle.ts_bound.specs.declared.sweep_parts.Part.TheVariants.{KeepR, Tail, Three, Two, Word};
 ghost use Rattle.ts_bound.specs.Cuts.{closed_hull, front_hull, kept_parts, longer_parts, part_split, parts_cut};

@@ -9,10 +9,10 @@ use Rattle.ts_base.specs.declared.range.Kind.TheVariants.{Idle, Pending, Held}
 use Rattle.ts_transducer.specs.Typing.{is_held}
 use Rattle.ts_pattern.specs.declared.name.Aggregator.{Aggregator}
 use Rattle.ts_pattern.specs.declared.name.Feature.{Feature}
-use Rattle.ts_automaton.specs.declared.expr.Op.{Op}
-use Rattle.ts_automaton.specs.declared.expr.Op.TheVariants.{Add, Max, Min}
+use Rattle.ts_pattern.specs.Arithmetic.{cell_op, range_op}
+use Rattle.ts_base.specs.declared.op.Op.{Op}
+use Rattle.ts_base.specs.declared.op.Op.TheVariants.{Add, Max, Min}
 use Rattle.ts_automaton.specs.Registers.{EachOf}
-use Rattle.ts_decorate.specs.Decoration.{cell_op, range_op}
 use Rattle.ts_decorate.proofs.Exact.{exact_op, exact}
 use Rattle.ts_decorate.proofs.Sizes.{size_of, size_of_all}
 use Rattle.ts_glue.specs.Glue.{Glue, LeftC, LeftD, RightC, RightD, With, glue_in, apart, counted_once, fold_of, join_of}

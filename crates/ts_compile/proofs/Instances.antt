@@ -10,10 +10,10 @@ use Rattle.ts_pattern.specs.declared.name.Aggregator.{Aggregator}
 use Rattle.ts_pattern.specs.declared.name.Aggregator.TheVariants.{Sum, Max as MaxOf, Min as MinOf}
 use Rattle.ts_pattern.specs.declared.name.Feature.{Feature}
 use Rattle.ts_pattern.specs.declared.name.Feature.TheVariants.{One, Width, Surf, Max as MaxFeature, Min as MinFeature}
-use Rattle.ts_automaton.specs.declared.expr.Op.{Op}
-use Rattle.ts_automaton.specs.declared.expr.Op.TheVariants.{Add, Max, Min}
-use Rattle.ts_decorate.specs.Decoration.{cell_op, range_op, default_value}
-use Rattle.ts_decorate.proofs.Exact.{exact_plus, exact_op, exact, cell_value, max_assoc, min_assoc, plus_assoc, range_right}
+use Rattle.ts_pattern.specs.Arithmetic.{cell_op, range_op, default_value, cell_value}
+use Rattle.ts_base.specs.declared.op.Op.{Op}
+use Rattle.ts_base.specs.declared.op.Op.TheVariants.{Add, Max, Min}
+use Rattle.ts_decorate.proofs.Exact.{exact_plus, exact_op, exact, max_assoc, min_assoc, plus_assoc, range_right}
 use Rattle.ts_compile.proofs.Facts.{GlueLaws}
 
 abbrev pub negated : Ext → Ext

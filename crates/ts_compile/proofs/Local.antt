@@ -9,14 +9,18 @@ use Rattle.ts_transducer.specs.declared.row.Row.{Row}
 use Rattle.ts_transducer.specs.Typing.{is_held}
 use Rattle.ts_pattern.specs.declared.name.Aggregator.{Aggregator}
 use Rattle.ts_pattern.specs.declared.name.Feature.{Feature}
-use Rattle.ts_pattern.specs.declared.name.Feature.TheVariants.{One, Width, Surf, Max as MaxFeature, Min as MinFeature}
+use Rattle.ts_base.specs.declared.op.Op.{Op}
+use Rattle.ts_base.specs.declared.op.Op.TheVariants.{Add, Max, Min}
+use Rattle.ts_pattern.specs.declared.arithmetic.Worth.{Worth}
+use Rattle.ts_pattern.specs.declared.arithmetic.Worth.TheVariants.{Unit as UnitWorth, Cell as CellWorth}
+use Rattle.ts_pattern.specs.Arithmetic.{cell_fold, cell_op, cell_value, range_op, worth_of}
 use Rattle.ts_automaton.specs.Registers.{numbers}
 use Rattle.ts_automaton.specs.Body.{Body, node_at}
 use Rattle.ts_automaton.specs.AutomatonRun.{Standing, after, under_mark}
 use Rattle.ts_decorate.specs.Answers.{longest}
 use Rattle.ts_decorate.specs.Operators.{Operators}
-use Rattle.ts_decorate.specs.Decoration.{cell_op, range_op, mark_of, state_names, decorated_body}
-use Rattle.ts_decorate.proofs.Exact.{exact, held_at_limit, cell_value}
+use Rattle.ts_decorate.specs.Decoration.{mark_of, state_names, decorated_body}
+use Rattle.ts_decorate.proofs.Exact.{exact, held_at_limit}
 use Rattle.ts_decorate.proofs.Evaluation.{node_is}
 use Rattle.ts_decorate.proofs.Runs.{table_start, total_of}
 use Rattle.ts_decorate.proofs.Sizes.{limit, size_of, size_of_all, total_same, cost_small}
@@ -35,26 +39,24 @@ use Rattle.ts_compile.proofs.Forms.{form_of, form_is, form_size}
 use Rattle.ts_compile.proofs.Patterns.{is_pair}
 use Rattle.ts_compile.proofs.Series.{table_run, run_more, back_is, cells_join, cells_parts, cells_back, run_is}
 
-fold_op_is : (f : Feature) → fold_op (fold_op_of f) ≡ cell_op f
-fold_op_is One = refl
-fold_op_is Width = refl
-fold_op_is Surf = refl
-fold_op_is MaxFeature = refl
-fold_op_is MinFeature = refl
+fold_op_is : (o : Op) → fold_op (fold_op_of o) ≡ o
+fold_op_is Add = refl
+fold_op_is Max = refl
+fold_op_is Min = refl
 
-worth_is : (f : Feature) (x : ℤ) → cell_value f x ≡ Int (worth (cell_unit_of f) x)
-worth_is One x = refl
-worth_is Width x = refl
-worth_is Surf x = refl
-worth_is MaxFeature x = refl
-worth_is MinFeature x = refl
+unit_is : (w : Worth) (x : ℤ) → worth_of w x ≡ worth (cell_unit_of w) x
+unit_is UnitWorth x = refl
+unit_is CellWorth x = refl
+
+worth_is : (f : Feature) (x : ℤ) → cell_value f x ≡ Int (worth (cell_unit_of (cell_fold f).worth) x)
+worth_is f x = ap Int (unit_is (cell_fold f).worth x)
 
 -- a state is held where its row is
 held_is : (rows : List Row) → length rows ≤ 8 → (a : ℕ) (g : Aggregator) (f : Feature) (q : ℕ) → q < length rows →
     (node_at (decorated_body rows a g f).states q).held ≡ is_held (kind_at rows q)
 held_is rows few a g f q h = ap (λ n. n.held) (node_is a g f state_names rows q h few).1
 
-worth_size : (f : Feature) (x : ℤ) → IsCellValue x → size_of (Int (worth (cell_unit_of f) x)) ≤ 1000000
+worth_size : (f : Feature) (x : ℤ) → IsCellValue x → size_of (Int (worth (cell_unit_of (cell_fold f).worth) x)) ≤ 1000000
 worth_size f x h = let c = cost_small f (x ∷ []) x h (h, tt) in let e = ap size_of (worth_is f x) in omega (arith, c, e)
 
 module _ (a : ℕ) (js : List Join) (fs bs : List Row) (t : AreFitting a (is_pair js) fs bs) (few_f : length fs ≤ 8) (few_b : length bs ≤ 8)
@@ -80,12 +82,12 @@ module _ (a : ℕ) (js : List Join) (fs bs : List Row) (t : AreFitting a (is_pai
   -- what stands for the glued value
   glue_is : (q r : ℕ) (x : ℤ) → q < length fs → r < length bs →
       glue_of the_pair q r x
-      ≡ form_of a (range_op g) (cell_op f) (is_pair js q r) (is_held (kind_at fs q)) (is_held (kind_at bs r)) (worth (cell_unit_of f) x)
+      ≡ form_of a (range_op g) (cell_op f) (is_pair js q r) (is_held (kind_at fs q)) (is_held (kind_at bs r)) (worth (cell_unit_of (cell_fold f).worth) x)
   glue_is q r x hq hr =
-      let w = worth (cell_unit_of f) x in
+      let w = worth (cell_unit_of (cell_fold f).worth) x in
       let u = (node_at ahead.states q).held in
       let v = (node_at behind.states r).held in
-      ap (λ z. form_of a (range_op g) z (is_pair js q r) u v w) (fold_op_is f)
+      ap (λ z. form_of a (range_op g) z (is_pair js q r) u v w) (fold_op_is (cell_op f))
       ∙ ap (λ z. form_of a (range_op g) (cell_op f) (is_pair js q r) z v w) (held_is fs few_f a g f q hq)
       ∙ ap (λ z. form_of a (range_op g) (cell_op f) (is_pair js q r) (is_held (kind_at fs q)) z w) (held_is bs few_b a g f r hr)
 
@@ -111,7 +113,7 @@ module _ (a : ℕ) (js : List Join) (fs bs : List Row) (t : AreFitting a (is_pai
       glue_at numbers the_pair left right x
       ≡ proof_form o joined a (is_pair js left.state right.state) (kind_at fs left.state) (kind_at bs right.state) left.regs right.regs (over x)
   value_is left right x inside small i j =
-      let w = worth (cell_unit_of f) x in
+      let w = worth (cell_unit_of (cell_fold f).worth) x in
       let e = worth_is f x in
       let k = kind_at fs left.state in
       let l = kind_at bs right.state in

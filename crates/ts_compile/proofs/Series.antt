@@ -10,7 +10,8 @@ use Rattle.ts_pattern.specs.declared.name.Feature.{Feature}
 use Rattle.ts_automaton.specs.AutomatonRun.{Standing, after, AreCellValues}
 use Rattle.ts_decorate.specs.Operators.{Operators}
 use Rattle.ts_decorate.specs.Decoration.{decorated_body}
-use Rattle.ts_decorate.proofs.Exact.{exact, cell_value}
+use Rattle.ts_decorate.proofs.Exact.{exact}
+use Rattle.ts_pattern.specs.Arithmetic.{cell_value}
 use Rattle.ts_decorate.proofs.Evaluation.{after_is}
 use Rattle.ts_decorate.proofs.Runs.{table_start, table_step, table_after}
 use Rattle.ts_decorate.proofs.Sizes.{size_of_all, neutral_size, default_size, after_same, cost_small}

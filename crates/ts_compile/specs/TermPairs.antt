@@ -1,39 +1,39 @@
 -- The automata and the glue table of a term whose pattern has a partner.
 use Rattle.std.specs.Prelude.{◌≡◌, ℕ, List, Some}
+use Rattle.ts_base.specs.declared.op.Op.{Op}
+use Rattle.ts_base.specs.declared.op.Op.TheVariants.{Add, Max, Min}
 use Rattle.ts_base.specs.declared.range.Join.{Join}
 use Rattle.ts_pattern.specs.declared.name.Aggregator.{Aggregator}
 use Rattle.ts_pattern.specs.declared.name.Feature.{Feature}
-use Rattle.ts_pattern.specs.declared.name.Feature.TheVariants.{One, Width, Surf, Max as MaxFeature, Min as MinFeature}
 use Rattle.ts_pattern.specs.declared.name.PatternId.{PatternId}
+use Rattle.ts_pattern.specs.declared.arithmetic.Worth.{Worth}
+use Rattle.ts_pattern.specs.declared.arithmetic.Worth.TheVariants.{Unit as UnitWorth, Cell as CellWorth}
+use Rattle.ts_pattern.specs.Arithmetic.{cell_fold}
 use Rattle.ts_pattern.specs.PatternTable.{pattern_a}
 use Rattle.ts_automaton.specs.Body.{Body}
 use Rattle.ts_decorate.specs.Decoration.{decorated_body}
 use Rattle.ts_seed.specs.SeedTable.{seed_table}
 use Rattle.ts_glue.specs.declared.table.FoldOp.{FoldOp}
-use Rattle.ts_glue.specs.declared.table.FoldOp.TheVariants.{Add, Max, Min}
+use Rattle.ts_glue.specs.declared.table.FoldOp.TheVariants.{Add as FoldAdd, Max as FoldMax, Min as FoldMin}
 use Rattle.ts_glue.specs.declared.table.CellUnit.{CellUnit}
 use Rattle.ts_glue.specs.declared.table.CellUnit.TheVariants.{Unit as UnitCell, Value as ValueCell}
 use Rattle.ts_glue.specs.Pairs.{Table, Pair, pair}
 
--- how a feature joins the cells of an occurrence, and what a cell is worth in it
+-- an operator, and what a cell is worth, as a glue table names them
+abbrev pub fold_op_of : Op → FoldOp
+fold_op_of Add = FoldAdd
+fold_op_of Max = FoldMax
+fold_op_of Min = FoldMin
 
-abbrev pub fold_op_of : Feature → FoldOp
-fold_op_of One = Max
-fold_op_of Width = Add
-fold_op_of Surf = Add
-fold_op_of MaxFeature = Max
-fold_op_of MinFeature = Min
-
-abbrev pub cell_unit_of : Feature → CellUnit
-cell_unit_of One = UnitCell
-cell_unit_of Width = UnitCell
-cell_unit_of Surf = ValueCell
-cell_unit_of MaxFeature = ValueCell
-cell_unit_of MinFeature = ValueCell
+abbrev pub cell_unit_of : Worth → CellUnit
+cell_unit_of UnitWorth = UnitCell
+cell_unit_of CellWorth = ValueCell
 
 -- the glue table of a feature, where an occurrence leaves out a cells at its end, and goes on between these states
 abbrev pub glue_table_by : ℕ → Feature → List Join → Table
-glue_table_by a f js = record { a = a; op = fold_op_of f; unit = cell_unit_of f; joins = js }
+glue_table_by a f js =
+    let cells = cell_fold f in
+    record { a = a; op = fold_op_of cells.op; unit = cell_unit_of cells.worth; joins = js }
 
 abbrev pub glue_table_of : PatternId → Feature → Table
 glue_table_of id f = glue_table_by (pattern_a id) f (seed_table id).joins

@@ -4,40 +4,41 @@ ghost use Rattle.std.specs.Prelude.{◌≡◌};
 ghost use Rattle.ts_glue.specs.Pairs.{table_view};
 ghost use Rattle.ts_compile.specs.TermPairs.{cell_unit_of, fold_op_of, glue_table_by};
 
-use ts_base::Join;
+use ts_base::{Join, Op};
 use ts_glue::{CellUnit, FoldOp, GlueTable};
-use ts_pattern::Feature;
+use ts_pattern::{Feature, Worth};
 
 /// The glue table of a term with this feature. Its pattern says how many cells an occurrence leaves out at its end,
 /// 0 or 1, and between which forward and reverse states one occurrence goes on.
 pub(crate) fn glue_table(a: u8, feature: Feature, joins: Vec<Join>) -> GlueTable
     ensures { table_view result ≡ glue_table_by a feature joins.items }
 {
+    let cells = feature.fold();
     GlueTable {
         a,
-        op: fold_op(feature),
-        unit: cell_unit(feature),
+        op: fold_op(cells.op),
+        unit: cell_unit(cells.worth),
         joins,
     }
 }
 
-/// How the feature joins the cells of an occurrence.
-fn fold_op(feature: Feature) -> FoldOp
-    ensures { result ≡ fold_op_of feature }
+/// An operator as a glue table names it.
+fn fold_op(op: Op) -> FoldOp
+    ensures { result ≡ fold_op_of op }
 {
-    match feature {
-        Feature::One | Feature::Max => FoldOp::Max,
-        Feature::Width | Feature::Surf => FoldOp::Add,
-        Feature::Min => FoldOp::Min,
+    match op {
+        Op::Add => FoldOp::Add,
+        Op::Max => FoldOp::Max,
+        Op::Min => FoldOp::Min,
     }
 }
 
-/// What a cell is worth to the feature: its value, or 1 where an occurrence counts 1 or its cells are counted.
-fn cell_unit(feature: Feature) -> CellUnit
-    ensures { result ≡ cell_unit_of feature }
+/// What a cell is worth as a glue table names it.
+fn cell_unit(worth: Worth) -> CellUnit
+    ensures { result ≡ cell_unit_of worth }
 {
-    match feature {
-        Feature::One | Feature::Width => CellUnit::Unit,
-        Feature::Surf | Feature::Max | Feature::Min => CellUnit::Value,
+    match worth {
+        Worth::Unit => CellUnit::Unit,
+        Worth::Cell => CellUnit::Value,
     }
 }

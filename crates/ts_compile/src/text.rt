@@ -5,7 +5,6 @@ ghost use Rattle.ts_automaton.specs.AutomatonText.{words_text};
 ghost use Rattle.ts_compile.specs.ProgramText.{part_text, program_text, term_words};
 ghost use Rattle.ts_compile.specs.Programs.{IsProgramOf};
 ghost use Rattle.ts_glue.specs.Machines.{forward_of, pair_of};
-ghost use Rattle.ts_pattern.specs.Names.{aggregator_name, feature_name};
 
 use crate::glue_text::push_reverse;
 use crate::program::Program;
@@ -15,7 +14,7 @@ use ts_automaton::{Way, write, write_head};
 use ts_base::Memory;
 use ts_glue::Machine;
 use ts_model::Model;
-use ts_pattern::{Aggregator, Feature, Term, pattern_name};
+use ts_pattern::{Term, aggregator_name, feature_name, pattern_name};
 
 /// The text of the program `p` of a model: for each term its line, its forward block, and either its reverse block and
 /// how the two are glued, or the line `no reverse`. It is empty for a model without terms.
@@ -56,28 +55,4 @@ fn push_term(text: &mut Vec<u8>, name: &String, t: &Term) -> Result<(), Memory>
     push_word(text, pattern_name(t.pattern))?;
     text.push(b'\n')?;
     Ok(())
-}
-
-/// The name of an aggregator, as it stands in a text.
-fn aggregator_name(g: Aggregator) -> &'static [u8]
-    ensures { result.now ≡ aggregator_name g }
-{
-    match g {
-        Aggregator::Sum => b"sum",
-        Aggregator::Max => b"max",
-        Aggregator::Min => b"min",
-    }
-}
-
-/// The name of a feature, as it stands in a text.
-fn feature_name(f: Feature) -> &'static [u8]
-    ensures { result.now ≡ feature_name f }
-{
-    match f {
-        Feature::One => b"one",
-        Feature::Width => b"width",
-        Feature::Surf => b"surf",
-        Feature::Max => b"max",
-        Feature::Min => b"min",
-    }
 }

@@ -12,10 +12,11 @@ use Rattle.ts_transducer.specs.Inside.{IsInside}
 use Rattle.ts_transducer.proofs.CallerLemmas.{move_stays, decode_inside_each}
 use Rattle.ts_pattern.specs.declared.name.Aggregator.{Aggregator}
 use Rattle.ts_pattern.specs.declared.name.Feature.{Feature}
+use Rattle.ts_pattern.specs.Arithmetic.{range_op, cell_value}
 use Rattle.ts_automaton.specs.AutomatonRun.{after_from, under_mark, IsInMark, AreCellValues, HoldsMark}
-use Rattle.ts_decorate.specs.Decoration.{mark_of, decorated_body, range_op}
+use Rattle.ts_decorate.specs.Decoration.{mark_of, decorated_body}
 use Rattle.ts_decorate.specs.Answers.{AnswersRanges, KeepsMark}
-use Rattle.ts_decorate.proofs.Exact.{exact, held_at_limit, cell_value, IsGood, cell_good, cell_laws, range_right}
+use Rattle.ts_decorate.proofs.Exact.{exact, held_at_limit, IsGood, cell_good, cell_laws, range_right}
 use Rattle.ts_decorate.proofs.Runs.{table_start, table_after, total_of}
 use Rattle.ts_decorate.proofs.Evaluation.{after_is}
 use Rattle.ts_decorate.proofs.Sizes.{limit, size_of, op_size, neutral_size, default_size, after_same, total_same, cost_small}

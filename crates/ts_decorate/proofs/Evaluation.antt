@@ -1,7 +1,11 @@
 -- The run of a decorated automaton is the run of its table by the operators of the term.
 use Rattle.std.specs.Prelude.{◌≡◌, ℕ, zero, suc, ◌<◌, ◌≤◌, ℤ, true, List, [], ◌∷◌, length, refl}
 use Rattle.std.proofs.Common.{◌∙◌, ap, arith}
+use Rattle.ts_base.specs.declared.constant.Constant.{Constant}
+use Rattle.ts_base.specs.declared.constant.Constant.TheVariants.{Zero as ZeroConstant, Unit as UnitConstant, NegInf as LowConstant, PosInf as HighConstant}
 use Rattle.ts_base.specs.declared.ext.Ext.{Ext}
+use Rattle.ts_base.specs.declared.ext.Ext.TheVariants.{Int}
+use Rattle.ts_base.specs.Operators.{constant_value}
 use Rattle.ts_base.specs.declared.letter.Letter.{Letter}
 use Rattle.ts_base.specs.declared.letter.Letter.TheVariants.{Less, Equal, Greater}
 use Rattle.ts_base.specs.Signature.{letter_of}
@@ -12,44 +16,43 @@ use Rattle.ts_transducer.specs.Typing.{is_typed}
 use Rattle.ts_transducer.specs.Decode.{row_at, arrow_on, arrow_at}
 use Rattle.ts_transducer.proofs.CallerLemmas.{move_stays}
 use Rattle.ts_pattern.specs.declared.name.Aggregator.{Aggregator}
-use Rattle.ts_pattern.specs.declared.name.Aggregator.TheVariants.{Sum, Max as MaxOf, Min as MinOf}
 use Rattle.ts_pattern.specs.declared.name.Feature.{Feature}
-use Rattle.ts_pattern.specs.declared.name.Feature.TheVariants.{One, Width, Surf, Max as MaxFeature, Min as MinFeature}
+use Rattle.ts_pattern.specs.declared.arithmetic.Worth.{Worth}
+use Rattle.ts_pattern.specs.declared.arithmetic.Worth.TheVariants.{Unit as UnitWorth, Cell as CellWorth}
+use Rattle.ts_pattern.specs.Arithmetic.{cell_fold, cell_op, cell_value, neutral_value, range_fold, range_op, default_value, worth_of}
+use Rattle.ts_automaton.specs.declared.expr.Atom.{Atom}
 use Rattle.ts_automaton.specs.declared.expr.Atom.TheVariants.{This, Next}
-use Rattle.ts_automaton.specs.Formula.{Leaf}
+use Rattle.ts_automaton.specs.Formula.{Leaf, constant_atom}
 use Rattle.ts_automaton.specs.Registers.{EachOf, each, numbers, value_in, ext_op}
 use Rattle.ts_automaton.specs.Body.{move_on, node_at}
 use Rattle.ts_automaton.specs.AutomatonRun.{Standing, registers_after, step_of, after_from}
 use Rattle.ts_decorate.specs.Operators.{with_last, with_all, after_phase}
-use Rattle.ts_decorate.specs.Decoration.{cell_op, neutral_atom, neutral_value, worth, range_op, default_atom, default_value, expression_operators, registers, move_made, node_made, nodes_made, state_names, decorated_body}
-use Rattle.ts_decorate.proofs.Exact.{held_at_limit, cell_value}
+use Rattle.ts_decorate.specs.Decoration.{worth_atom, here, next, expression_operators, registers, move_made, node_made, nodes_made, state_names, decorated_body}
+use Rattle.ts_decorate.proofs.Exact.{held_at_limit}
 use Rattle.ts_decorate.proofs.Runs.{table_step, table_after}
 
-neutral_is : (f : Feature) (s : EachOf Ext) (x y : ℤ) → value_in numbers s x y (Leaf (neutral_atom f)) ≡ neutral_value f
-neutral_is One s x y = refl
-neutral_is Width s x y = refl
-neutral_is Surf s x y = refl
-neutral_is MaxFeature s x y = refl
-neutral_is MinFeature s x y = refl
+constant_is : (k : Constant) (s : EachOf Ext) (x y : ℤ) → value_in numbers s x y (Leaf (constant_atom k)) ≡ constant_value k
+constant_is ZeroConstant s x y = refl
+constant_is UnitConstant s x y = refl
+constant_is LowConstant s x y = refl
+constant_is HighConstant s x y = refl
 
-default_is : (g : Aggregator) (s : EachOf Ext) (x y : ℤ) → value_in numbers s x y (Leaf (default_atom g)) ≡ default_value g
-default_is Sum s x y = refl
-default_is MaxOf s x y = refl
-default_is MinOf s x y = refl
+neutral_is : (f : Feature) (s : EachOf Ext) (x y : ℤ) → value_in numbers s x y (Leaf (constant_atom (cell_fold f).neutral)) ≡ neutral_value f
+neutral_is f s x y = constant_is (cell_fold f).neutral s x y
 
-this_is : (f : Feature) (s : EachOf Ext) (x y : ℤ) → value_in numbers s x y (Leaf (worth f This)) ≡ cell_value f x
-this_is One s x y = refl
-this_is Width s x y = refl
-this_is Surf s x y = refl
-this_is MaxFeature s x y = refl
-this_is MinFeature s x y = refl
+default_is : (g : Aggregator) (s : EachOf Ext) (x y : ℤ) → value_in numbers s x y (Leaf (constant_atom (range_fold g).default)) ≡ default_value g
+default_is g s x y = constant_is (range_fold g).default s x y
 
-next_is : (f : Feature) (s : EachOf Ext) (x y : ℤ) → value_in numbers s x y (Leaf (worth f Next)) ≡ cell_value f y
-next_is One s x y = refl
-next_is Width s x y = refl
-next_is Surf s x y = refl
-next_is MaxFeature s x y = refl
-next_is MinFeature s x y = refl
+worth_is : (w : Worth) (cell : Atom) (z : ℤ) (s : EachOf Ext) (x y : ℤ) → value_in numbers s x y (Leaf cell) ≡ Int z →
+    value_in numbers s x y (Leaf (worth_atom w cell)) ≡ Int (worth_of w z)
+worth_is UnitWorth cell z s x y h = refl
+worth_is CellWorth cell z s x y h = h
+
+this_is : (f : Feature) (s : EachOf Ext) (x y : ℤ) → value_in numbers s x y (here f) ≡ cell_value f x
+this_is f s x y = worth_is (cell_fold f).worth This x s x y refl
+
+next_is : (f : Feature) (s : EachOf Ext) (x y : ℤ) → value_in numbers s x y (next f) ≡ cell_value f y
+next_is f s x y = worth_is (cell_fold f).worth Next y s x y refl
 
 each_same : {c c' d d' r r' : Ext} → c ≡ c' → d ≡ d' → r ≡ r' → each c d r ≡ each c' d' r'
 each_same p q e = cc
@@ -58,18 +61,18 @@ module _ (g : Aggregator) (f : Feature) (s : EachOf Ext) (x y : ℤ) where
   abbrev phi : Ext → Ext → Ext
   phi = ext_op (cell_op f)
 
-  with_this : phi s.d (value_in numbers s x y (Leaf (worth f This))) ≡ phi s.d (cell_value f x)
+  with_this : phi s.d (value_in numbers s x y (here f)) ≡ phi s.d (cell_value f x)
   with_this = ap (phi s.d) (this_is f s x y)
 
-  last_is : (a : ℕ) → value_in numbers s x y (with_last (expression_operators g f) a (registers.d) (Leaf (worth f This)) (Leaf (worth f Next)))
+  last_is : (a : ℕ) → value_in numbers s x y (with_last (expression_operators g f) a (registers.d) (here f) (next f))
       ≡ with_last (held_at_limit g f) a s.d (cell_value f x) (cell_value f y)
   last_is zero = ap (phi s.d) (next_is f s x y)
   last_is (suc a) = with_this
 
-  all_is : (a : ℕ) → value_in numbers s x y (with_all (expression_operators g f) a (registers.d) (Leaf (worth f This)) (Leaf (worth f Next)))
+  all_is : (a : ℕ) → value_in numbers s x y (with_all (expression_operators g f) a (registers.d) (here f) (next f))
       ≡ with_all (held_at_limit g f) a s.d (cell_value f x) (cell_value f y)
   all_is zero =
-      ap (λ u. phi u (value_in numbers s x y (Leaf (worth f Next)))) with_this ∙ ap (phi (phi s.d (cell_value f x))) (next_is f s x y)
+      ap (λ u. phi u (value_in numbers s x y (next f))) with_this ∙ ap (phi (phi s.d (cell_value f x))) (next_is f s x y)
   all_is (suc a) = with_this
 
   -- the expressions of a move compute what its phase letter does

@@ -10,11 +10,11 @@ use Rattle.ts_pattern.specs.declared.name.Aggregator.{Aggregator}
 use Rattle.ts_pattern.specs.declared.name.Aggregator.TheVariants.{Sum, Max as MaxOf, Min as MinOf}
 use Rattle.ts_pattern.specs.declared.name.Feature.{Feature}
 use Rattle.ts_pattern.specs.declared.name.Feature.TheVariants.{One, Width, Surf, Max as MaxFeature, Min as MinFeature}
-use Rattle.ts_automaton.specs.declared.expr.Op.{Op}
-use Rattle.ts_automaton.specs.declared.expr.Op.TheVariants.{Add, Max, Min}
-use Rattle.ts_automaton.specs.Registers.{ext_op}
+use Rattle.ts_pattern.specs.Arithmetic.{cell_op, cell_value, neutral_value, range_op, default_value}
+use Rattle.ts_base.specs.declared.op.Op.{Op}
+use Rattle.ts_base.specs.declared.op.Op.TheVariants.{Add, Max, Min}
+use Rattle.ts_base.specs.Operators.{ext_op}
 use Rattle.ts_decorate.specs.Operators.{Operators}
-use Rattle.ts_decorate.specs.Decoration.{cell_op, neutral_value, range_op, default_value}
 use Rattle.ts_decorate.proofs.Folds.{FoldLaws}
 
 -- the sum of numbers as it is
@@ -42,14 +42,6 @@ exact g f = operators_by exact_op g f
 -- as the automaton computes them
 abbrev pub held_at_limit : Aggregator → Feature → Operators Ext
 held_at_limit g f = operators_by ext_op g f
-
--- what a cell is worth
-abbrev pub cell_value : Feature → ℤ → Ext
-cell_value One x = Int (pos 1)
-cell_value Width x = Int (pos 1)
-cell_value Surf x = Int x
-cell_value MaxFeature x = Int x
-cell_value MinFeature x = Int x
 
 -- the values that the feature joins: those of `one` are 1, all others may be any
 abbrev pub IsGood : Feature → Ext → Type 0

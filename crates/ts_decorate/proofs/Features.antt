@@ -12,12 +12,13 @@ use Rattle.ts_pattern.specs.declared.name.Aggregator.{Aggregator}
 use Rattle.ts_pattern.specs.declared.name.Aggregator.TheVariants.{Sum, Max as MaxOf, Min as MinOf}
 use Rattle.ts_pattern.specs.declared.name.Feature.{Feature}
 use Rattle.ts_pattern.specs.declared.name.Feature.TheVariants.{One, Width, Surf, Max as MaxFeature, Min as MinFeature}
+use Rattle.ts_pattern.specs.Arithmetic.{cell_op, neutral_value, range_op, default_value, cell_value}
 use Rattle.ts_pattern.specs.FeatureValue.{cells_of, over, feature_of_cells, feature_value}
 use Rattle.ts_pattern.specs.TermValue.{combine, or_none, aggregate, value_of_none, aggregate_of_ranges}
 use Rattle.ts_transducer.specs.Inside.{IsInside}
 use Rattle.ts_automaton.specs.AutomatonRun.{under_mark}
-use Rattle.ts_decorate.specs.Decoration.{cell_op, neutral_value, range_op, default_value, mark_of}
-use Rattle.ts_decorate.proofs.Exact.{exact_plus, exact_op, exact, cell_value}
+use Rattle.ts_decorate.specs.Decoration.{mark_of}
+use Rattle.ts_decorate.proofs.Exact.{exact_plus, exact_op, exact}
 use Rattle.ts_decorate.proofs.Registers.{range_value, ranges_value}
 
 max_is : (x y : ℤ) → ext_max (Int x) (Int y) ≡ Int (int_max x y)

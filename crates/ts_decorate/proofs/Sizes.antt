@@ -15,13 +15,13 @@ use Rattle.ts_pattern.specs.declared.name.Aggregator.{Aggregator}
 use Rattle.ts_pattern.specs.declared.name.Aggregator.TheVariants.{Sum, Max as MaxOf, Min as MinOf}
 use Rattle.ts_pattern.specs.declared.name.Feature.{Feature}
 use Rattle.ts_pattern.specs.declared.name.Feature.TheVariants.{One, Width, Surf, Max as MaxFeature, Min as MinFeature}
-use Rattle.ts_automaton.specs.declared.expr.Op.{Op}
-use Rattle.ts_automaton.specs.declared.expr.Op.TheVariants.{Add, Max, Min}
+use Rattle.ts_pattern.specs.Arithmetic.{cell_op, neutral_value, range_op, default_value, cell_value}
+use Rattle.ts_base.specs.declared.op.Op.{Op}
+use Rattle.ts_base.specs.declared.op.Op.TheVariants.{Add, Max, Min}
 use Rattle.ts_automaton.specs.Registers.{EachOf, each, ext_op}
 use Rattle.ts_automaton.specs.AutomatonRun.{Standing, AreCellValues}
 use Rattle.ts_decorate.specs.Operators.{Operators, with_last, with_all, after_phase}
-use Rattle.ts_decorate.specs.Decoration.{cell_op, neutral_value, range_op, default_value}
-use Rattle.ts_decorate.proofs.Exact.{exact_plus, exact_op, exact, held_at_limit, cell_value}
+use Rattle.ts_decorate.proofs.Exact.{exact_plus, exact_op, exact, held_at_limit}
 use Rattle.ts_decorate.proofs.Runs.{table_step, table_after, total_of}
 
 abbrev pub limit : ℕ

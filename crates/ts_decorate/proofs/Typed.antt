@@ -21,10 +21,11 @@ use Rattle.ts_pattern.specs.declared.name.Aggregator.{Aggregator}
 use Rattle.ts_pattern.specs.declared.name.Aggregator.TheVariants.{Sum, Max as MaxOf, Min as MinOf}
 use Rattle.ts_pattern.specs.declared.name.Feature.{Feature}
 use Rattle.ts_pattern.specs.declared.name.Feature.TheVariants.{One, Width, Surf, Max as MaxFeature, Min as MinFeature}
+use Rattle.ts_pattern.specs.Arithmetic.{neutral_value, default_value}
 use Rattle.ts_automaton.specs.Kinds.{formula_kind}
 use Rattle.ts_automaton.specs.Body.{Node, Body, move_on, node_at}
 use Rattle.ts_automaton.specs.Typing.{has_names, has_short_moves, each_is, is_short, is_constant, leads_below, is_formed, is_typed as is_body_typed, is_typed_at, is_move_typed, is_finish_typed, fits_kinds, kinds_where, moves_from, is_automaton, has_few_states, has_constants, has_targets, has_short_expressions}
-use Rattle.ts_decorate.specs.Decoration.{neutral_value, default_value, move_made, node_made, nodes_made, state_names, decorated_body}
+use Rattle.ts_decorate.specs.Decoration.{move_made, node_made, nodes_made, state_names, decorated_body}
 use Rattle.ts_decorate.proofs.Evaluation.{node_is, move_on_is}
 
 -- a test of all aggregators and features

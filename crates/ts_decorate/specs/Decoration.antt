@@ -1,71 +1,36 @@
 -- The automaton that a transducer becomes, with the registers of an aggregator and a feature
 -- (Global Constraint Catalog, Volume II: decoration of transducers).
-use Rattle.std.specs.Prelude.{ℕ, codes, pos, List, [], ◌∷◌}
-use Rattle.ts_base.specs.declared.ext.Ext.{Ext}
-use Rattle.ts_base.specs.declared.ext.Ext.TheVariants.{NegInf, Int, PosInf}
+use Rattle.std.specs.Prelude.{ℕ, codes, List, [], ◌∷◌}
 use Rattle.ts_transducer.specs.declared.row.Arrow.{Arrow}
 use Rattle.ts_transducer.specs.declared.row.Row.{Row}
 use Rattle.ts_transducer.specs.Typing.{is_held}
 use Rattle.ts_pattern.specs.declared.name.Aggregator.{Aggregator}
-use Rattle.ts_pattern.specs.declared.name.Aggregator.TheVariants.{Sum, Max as MaxOf, Min as MinOf}
+use Rattle.ts_pattern.specs.declared.name.Aggregator.TheVariants.{Max as MaxOf, Min as MinOf}
 use Rattle.ts_pattern.specs.declared.name.Feature.{Feature}
-use Rattle.ts_pattern.specs.declared.name.Feature.TheVariants.{One, Width, Surf, Max as MaxFeature, Min as MinFeature}
+use Rattle.ts_pattern.specs.declared.name.Feature.TheVariants.{Width}
+use Rattle.ts_pattern.specs.declared.arithmetic.Worth.{Worth}
+use Rattle.ts_pattern.specs.declared.arithmetic.Worth.TheVariants.{Unit as UnitWorth, Cell as CellWorth}
+use Rattle.ts_pattern.specs.Arithmetic.{cell_fold, cell_op, neutral_value, range_fold, range_op, default_value}
 use Rattle.ts_automaton.specs.declared.expr.Atom.{Atom}
-use Rattle.ts_automaton.specs.declared.expr.Atom.TheVariants.{C, D, R, This, Next, Zero, Unit as UnitAtom, NegInf as LowAtom, PosInf as HighAtom}
-use Rattle.ts_automaton.specs.declared.expr.Op.{Op}
-use Rattle.ts_automaton.specs.declared.expr.Op.TheVariants.{Add, Max, Min}
+use Rattle.ts_automaton.specs.declared.expr.Atom.TheVariants.{C, D, R, This, Next, Unit as UnitAtom}
 use Rattle.ts_automaton.specs.declared.state.Mark.{Mark}
 use Rattle.ts_automaton.specs.declared.state.Mark.TheVariants.{Same, Zero as ZeroMark, Cells}
-use Rattle.ts_automaton.specs.Formula.{Formula, Leaf, Join}
+use Rattle.ts_automaton.specs.Formula.{Formula, Leaf, Join, constant_atom}
 use Rattle.ts_automaton.specs.Registers.{EachOf, each}
 use Rattle.ts_automaton.specs.Body.{Move, Node, Body}
 use Rattle.ts_decorate.specs.Operators.{Operators, after_phase}
 
--- the operator that joins the cells of a range, the constant that it leaves as it is, and what a cell is worth
-abbrev pub cell_op : Feature → Op
-cell_op One = Max
-cell_op Width = Add
-cell_op Surf = Add
-cell_op MaxFeature = Max
-cell_op MinFeature = Min
+-- what a cell is worth, as a word of an expression
+abbrev pub worth_atom : Worth → Atom → Atom
+worth_atom UnitWorth cell = UnitAtom
+worth_atom CellWorth cell = cell
 
-abbrev pub neutral_atom : Feature → Atom
-neutral_atom One = UnitAtom
-neutral_atom Width = Zero
-neutral_atom Surf = Zero
-neutral_atom MaxFeature = LowAtom
-neutral_atom MinFeature = HighAtom
+-- so the cell read, and the next one
+abbrev pub here : Feature → Formula
+here f = Leaf (worth_atom (cell_fold f).worth This)
 
-abbrev pub worth : Feature → Atom → Atom
-worth One cell = UnitAtom
-worth Width cell = UnitAtom
-worth Surf cell = cell
-worth MaxFeature cell = cell
-worth MinFeature cell = cell
-
--- the operator that joins the ranges, and the constant where there is none
-abbrev pub range_op : Aggregator → Op
-range_op Sum = Add
-range_op MaxOf = Max
-range_op MinOf = Min
-
-abbrev pub default_atom : Aggregator → Atom
-default_atom Sum = Zero
-default_atom MaxOf = LowAtom
-default_atom MinOf = HighAtom
-
--- the same constants as values
-abbrev pub neutral_value : Feature → Ext
-neutral_value One = Int (pos 1)
-neutral_value Width = Int (pos 0)
-neutral_value Surf = Int (pos 0)
-neutral_value MaxFeature = NegInf
-neutral_value MinFeature = PosInf
-
-abbrev pub default_value : Aggregator → Ext
-default_value Sum = Int (pos 0)
-default_value MaxOf = NegInf
-default_value MinOf = PosInf
+abbrev pub next : Feature → Formula
+next f = Leaf (worth_atom (cell_fold f).worth Next)
 
 -- without an occurrence the greatest width is 0, and the least the number of the cells
 abbrev pub mark_of : Aggregator → Feature → Mark
@@ -78,9 +43,9 @@ abbrev pub expression_operators : Aggregator → Feature → Operators Formula
 expression_operators g f =
     record {
       phi = Join (cell_op f);
-      neutral = Leaf (neutral_atom f);
+      neutral = Leaf (constant_atom (cell_fold f).neutral);
       g = Join (range_op g);
-      default = Leaf (default_atom g);
+      default = Leaf (constant_atom (range_fold g).default);
     }
 
 abbrev pub registers : EachOf Formula
@@ -88,8 +53,7 @@ registers = each (Leaf C) (Leaf D) (Leaf R)
 
 abbrev pub move_made : ℕ → Aggregator → Feature → Arrow → Move
 move_made a g f m =
-    let to = after_phase (expression_operators g f) a m.phase registers (Leaf (worth f This)) (Leaf (worth f Next)) in
-    record { next = m.next; to = to }
+    record { next = m.next; to = after_phase (expression_operators g f) a m.phase registers (here f) (next f) }
 
 abbrev pub node_made : ℕ → Aggregator → Feature → ℕ → Row → Node
 node_made a g f name r = record {

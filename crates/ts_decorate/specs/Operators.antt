@@ -5,8 +5,8 @@ use Rattle.ts_transducer.specs.declared.row.Phase.{Phase}
 use Rattle.ts_transducer.specs.declared.row.Phase.TheVariants.{Out, OutR, OutA, MaybeB, MaybeA, Found, FoundE, Inside}
 use Rattle.ts_automaton.specs.Registers.{EachOf, each}
 
--- phi joins the cells of a range, and leaves `neutral` as it is; g joins the ranges, and `default` stands where there
--- is none
+-- phi joins the cells of a range, and beside `neutral` leaves each of them as it is; g joins the ranges, and `default`
+-- stands where there is none
 pub record Operators (V : Type 0) : Type 0 where
   pub phi : V → V → V
   pub neutral : V

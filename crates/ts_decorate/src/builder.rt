@@ -2,16 +2,15 @@
 
 ghost use Rattle.std.specs.Prelude.{◌≡◌, IfOk};
 ghost use Rattle.ts_automaton.specs.Body.{move_of, node_of};
-ghost use Rattle.ts_automaton.specs.Formula.{Join, Leaf, formula};
-ghost use Rattle.ts_automaton.specs.declared.expr.Atom.TheVariants.{This as CellRead, Next as CellNext};
-ghost use Rattle.ts_decorate.specs.Decoration.{cell_op, default_atom, expression_operators, move_made, neutral_atom, node_made, range_op, registers, worth};
+ghost use Rattle.ts_automaton.specs.Formula.{Join, Leaf, constant_atom, formula};
+ghost use Rattle.ts_decorate.specs.Decoration.{expression_operators, here, move_made, next, node_made, registers};
 ghost use Rattle.ts_decorate.specs.Operators.{with_all, with_last};
+ghost use Rattle.ts_pattern.specs.Arithmetic.{cell_fold, cell_op, range_fold, range_op};
 
-use crate::table;
 use std::alloc::Global;
 use ts_automaton::{Expr, State, Turn};
 use ts_base::{Kind, Memory};
-use ts_pattern::{Aggregator, Feature};
+use ts_pattern::{Aggregator, Feature, Worth};
 use ts_transducer::{Arrow, Phase, Row};
 
 /// A term, and how many cells its occurrences leave out at their end.
@@ -28,47 +27,47 @@ impl Builder {
     fn phi(&self, left: Expr, right: Expr) -> Result<Expr, Memory>
         ensures { IfOk result (λ e. formula e ≡ Join (cell_op self.now.feature) (formula left) (formula right)) }
     {
-        table::cell_op(self.feature).join(self.alloc, left, right)
+        Expr::over(self.alloc, self.feature.fold().op, left, right)
     }
 
     /// Ranges joined with further ones.
     pub(crate) fn g(&self, left: Expr, right: Expr) -> Result<Expr, Memory>
         ensures { IfOk result (λ e. formula e ≡ Join (range_op self.now.aggregator) (formula left) (formula right)) }
     {
-        table::range_op(self.aggregator).join(self.alloc, left, right)
+        Expr::over(self.alloc, self.aggregator.fold().op, left, right)
     }
 
     /// The value of no cell.
     fn neutral(&self) -> Expr
-        ensures { formula result ≡ Leaf (neutral_atom self.now.feature) }
+        ensures { formula result ≡ Leaf (constant_atom (cell_fold self.now.feature).neutral) }
     {
-        table::neutral(self.feature)
+        Expr::constant(self.feature.fold().neutral)
     }
 
     /// The value of no range.
     fn default(&self) -> Expr
-        ensures { formula result ≡ Leaf (default_atom self.now.aggregator) }
+        ensures { formula result ≡ Leaf (constant_atom (range_fold self.now.aggregator).default) }
     {
-        table::default(self.aggregator)
+        Expr::constant(self.aggregator.fold().default)
     }
 
     /// What the cell read is worth.
     fn here(&self) -> Expr
-        ensures { formula result ≡ Leaf (worth self.now.feature CellRead) }
+        ensures { formula result ≡ here self.now.feature }
     {
-        match self.feature {
-            Feature::One | Feature::Width => Expr::Unit,
-            Feature::Surf | Feature::Max | Feature::Min => Expr::This,
+        match self.feature.fold().worth {
+            Worth::Unit => Expr::Unit,
+            Worth::Cell => Expr::This,
         }
     }
 
     /// What the next cell is worth.
     fn next(&self) -> Expr
-        ensures { formula result ≡ Leaf (worth self.now.feature CellNext) }
+        ensures { formula result ≡ next self.now.feature }
     {
-        match self.feature {
-            Feature::One | Feature::Width => Expr::Unit,
-            Feature::Surf | Feature::Max | Feature::Min => Expr::Next,
+        match self.feature.fold().worth {
+            Worth::Unit => Expr::Unit,
+            Worth::Cell => Expr::Next,
         }
     }
 
@@ -76,7 +75,7 @@ impl Builder {
     fn with_last(&self) -> Result<Expr, Memory>
         ensures { IfOk result (λ e. formula e
             ≡ with_last (expression_operators self.now.aggregator self.now.feature) self.now.a registers.d
-            (Leaf (worth self.now.feature CellRead)) (Leaf (worth self.now.feature CellNext))) }
+            (here self.now.feature) (next self.now.feature)) }
     {
         let last = if self.a == 0 {
             self.next()
@@ -90,7 +89,7 @@ impl Builder {
     fn with_all(&self) -> Result<Expr, Memory>
         ensures { IfOk result (λ e. formula e
             ≡ with_all (expression_operators self.now.aggregator self.now.feature) self.now.a registers.d
-            (Leaf (worth self.now.feature CellRead)) (Leaf (worth self.now.feature CellNext))) }
+            (here self.now.feature) (next self.now.feature)) }
     {
         let read = self.phi(Expr::D, self.here())?;
         if self.a == 0 {

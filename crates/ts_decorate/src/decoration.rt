@@ -40,10 +40,11 @@ pub fn decorate(
         feature,
     };
     let states = states_of(&builder, t.rows())?;
+    let none = aggregator.fold().default.value();
     let start = Regs {
-        c: table::default_value(aggregator),
-        d: table::neutral_value(feature),
-        r: table::default_value(aggregator),
+        c: none,
+        d: feature.fold().neutral.value(),
+        r: none,
     };
     let finish = builder.g(Expr::R, Expr::C)?;
     Ok(Automaton::new(states, start, finish, table::mark(aggregator, feature)).unwrap())

@@ -4,7 +4,7 @@ use Rattle.std.specs.Prelude.{IsTrue, is_some, Option, Some}
 use Rattle.ts_base.specs.declared.ext.Ext.{Ext}
 use Rattle.ts_base.specs.declared.ext.Ext.TheVariants.{Int}
 use Rattle.ts_automaton.specs.declared.kind.RegKind.{RegKind}
-use Rattle.ts_automaton.specs.declared.expr.Op.{Op}
+use Rattle.ts_base.specs.declared.op.Op.{Op}
 use Rattle.ts_automaton.specs.Registers.{EachOf, map_each, Each, Values}
 use Rattle.ts_automaton.specs.Kinds.{kinds}
 use Rattle.ts_automaton.proofs.Evaluation.{parted, HasIfSome, joins}

@@ -7,14 +7,14 @@ use Rattle.ts_base.specs.declared.ext.Ext.TheVariants.{NegInf, Int, PosInf}
 use Rattle.ts_base.specs.declared.span.Span.{Span}
 use Rattle.ts_base.specs.Numbers.{clamp, ext_plus, ext_max, ext_min}
 use Rattle.ts_base.specs.Spans.{none_span, one_span, has_some, end_by_end}
-use Rattle.ts_base.proofs.SpanLaws.{one_some, lifted_one}
-use Rattle.ts_automaton.specs.declared.expr.Op.{Op}
-use Rattle.ts_automaton.specs.declared.expr.Op.TheVariants.{Add, Max, Min}
+use Rattle.ts_base.proofs.SpanLaws.{one_some, lifted_ends, lifted_one}
+use Rattle.ts_base.specs.declared.op.Op.{Op}
+use Rattle.ts_base.specs.declared.op.Op.TheVariants.{Add, Max, Min}
 use Rattle.ts_automaton.specs.Registers.{EachOf, Values, numbers, spans, ext_op, value_in}
 use Rattle.ts_automaton.specs.Body.{node_at}
 use Rattle.ts_automaton.specs.AutomatonRun.{under_mark}
 use Rattle.ts_automaton.specs.SpanRun.{has_registers, one_hull, marked_span}
-use Rattle.ts_automaton.proofs.KindLaws.{op_mono, lifted_ends}
+use Rattle.ts_automaton.proofs.KindLaws.{op_mono}
 use Rattle.ts_automaton.proofs.RunLaws.{one_registers}
 use Rattle.ts_glue.specs.Pairs.{Pair}
 use Rattle.ts_glue.specs.Glue.{glue_in, glue_of, apart, join_of, fold_of, fold_op, worth, result_op}
@@ -65,9 +65,9 @@ span_neutral : (o : Op) (s t : Span) → has_some s ≡ true → has_some t ≡ 
 span_neutral o s t h k =
     let n = neutral_of o in
     let u : Span = record { lo = ext_op o s.lo t.lo; hi = ext_op o s.hi t.hi } in
-    let i = lifted_ends o s t h k in
+    let i = lifted_ends (ext_op o) s t h k in
     ap (λ z. end_by_end (ext_op o) z (one_span n)) i
-    ∙ lifted_ends o u (one_span n) (op_mono o s.lo s.hi t.lo t.hi h k) (one_some n)
+    ∙ lifted_ends (ext_op o) u (one_span n) (op_mono o s.lo s.hi t.lo t.hi h k) (one_some n)
     ∙ ap (λ z. record { lo = z; hi = ext_op o (ext_op o s.hi t.hi) n }) (neutral_changes_none o s.lo t.lo)
     ∙ ap (λ z. record { lo = ext_op o s.lo t.lo; hi = z }) (neutral_changes_none o s.hi t.hi)
     ∙ sym i

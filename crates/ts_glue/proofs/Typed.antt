@@ -4,8 +4,8 @@ use Rattle.std.specs.Prelude.{IsTrue, is_some}
 use Rattle.ts_base.specs.declared.ext.Ext.{Ext}
 use Rattle.ts_base.specs.declared.span.Span.{Span}
 use Rattle.ts_automaton.specs.declared.kind.RegKind.{RegKind}
-use Rattle.ts_automaton.specs.declared.expr.Op.{Op}
-use Rattle.ts_automaton.specs.declared.expr.Op.TheVariants.{Add, Max, Min}
+use Rattle.ts_base.specs.declared.op.Op.{Op}
+use Rattle.ts_base.specs.declared.op.Op.TheVariants.{Add, Max, Min}
 use Rattle.ts_automaton.specs.Registers.{EachOf, numbers, spans}
 use Rattle.ts_automaton.specs.Kinds.{HasKind, SpanHasKind, op_kind, join_kind, Fits, SpansFit, formula_kind}
 use Rattle.ts_automaton.specs.Body.{Body, node_at}

@@ -1,6 +1,6 @@
 -- What contracts see of the shape of a glued value: the expression.
 use Rattle.ts_base.specs.Limits.{IsCellValue}
-use Rattle.ts_automaton.specs.declared.expr.Op.{Op}
+use Rattle.ts_base.specs.declared.op.Op.{Op}
 use Rattle.ts_glue.specs.declared.shape.Shape.{Shape}
 use Rattle.ts_glue.specs.declared.shape.Shape.TheVariants.{Apart, Between, Both}
 use Rattle.ts_glue.specs.Glue.{Glue, apart, join_of, folded_between, folded_both}

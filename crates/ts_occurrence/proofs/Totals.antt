@@ -4,10 +4,10 @@ use Rattle.std.specs.List.{fold, AllByRecursion}
 use Rattle.std.proofs.Common.{sym, ◌∙◌, ap, subst, arith, get_or}
 use Rattle.std.proofs.lemmas.Int.{ints, clamps}
 use Rattle.std.proofs.lemmas.List.{take_more, map-append}
-use Rattle.ts_pattern.specs.declared.name.Aggregator.{Aggregator}
-use Rattle.ts_pattern.specs.declared.name.Aggregator.TheVariants.{Sum, Max, Min}
+use Rattle.ts_base.specs.declared.op.Op.{Op}
+use Rattle.ts_base.specs.declared.op.Op.TheVariants.{Add, Max, Min}
+use Rattle.ts_base.specs.Operators.{int_op}
 use Rattle.ts_pattern.specs.FeatureValue.{over}
-use Rattle.ts_pattern.specs.TermValue.{combine}
 use Rattle.ts_occurrence.specs.Total.{IsWithin, with_one}
 
 fold_last : (op : ℤ → ℤ → ℤ) (x y : ℤ) (xs : List ℤ) → fold op x (xs ++ y ∷ []) ≡ op (fold op x xs) y
@@ -38,20 +38,20 @@ over_map_more op f xs k d x t o q e b h =
     ∙ ap (λ z. over op z) (sym (map-append f (take k xs) (get_or xs k d ∷ [])))
     ∙ ap (λ z. over op (map f z)) (sym (take_more xs k d q))
 
-joined_within : (g : Aggregator) (m n : ℕ) (t x : ℤ) → IsWithin m t → IsWithin n x → IsWithin (m + n) (combine g t x)
-joined_within Sum m n t x h k = let h0 = h.0 in let h1 = h.1 in let k0 = k.0 in let k1 = k.1 in (omega (arith, ints), omega (arith, ints))
+joined_within : (o : Op) (m n : ℕ) (t x : ℤ) → IsWithin m t → IsWithin n x → IsWithin (m + n) (int_op o t x)
+joined_within Add m n t x h k = let h0 = h.0 in let h1 = h.1 in let k0 = k.0 in let k1 = k.1 in (omega (arith, ints), omega (arith, ints))
 joined_within Max m n t x h k = let h0 = h.0 in let h1 = h.1 in let k0 = k.0 in let k1 = k.1 in (omega (arith, ints, clamps), omega (arith, ints, clamps))
 joined_within Min m n t x h k = let h0 = h.0 in let h1 = h.1 in let k0 = k.0 in let k1 = k.1 in (omega (arith, ints, clamps), omega (arith, ints, clamps))
 
-pub within_more : (g : Aggregator) (n k : ℕ) (x t : ℤ) (o : Option ℤ) → IfSome o (λ s. IsWithin (n * k) s) → IsWithin n x → t ≡ with_one (combine g) o x →
+pub within_more : (p : Op) (n k : ℕ) (x t : ℤ) (o : Option ℤ) → IfSome o (λ s. IsWithin (n * k) s) → IsWithin n x → t ≡ with_one (int_op p) o x →
     IsWithin (n * (k + 1)) t
-within_more g n k x t None h b e = let b0 = b.0 in let b1 = b.1 in subst (λ s. IsWithin (n * (k + 1)) s) (sym e) (wider n (n * (k + 1)) x (omega arith) b)
+within_more p n k x t None h b e = let b0 = b.0 in let b1 = b.1 in subst (λ s. IsWithin (n * (k + 1)) s) (sym e) (wider n (n * (k + 1)) x (omega arith) b)
   where
     wider : (m n : ℕ) (x : ℤ) → m ≤ n → IsWithin m x → IsWithin n x
     wider m n x q h = let h0 = h.0 in let h1 = h.1 in (omega (arith, ints), omega (arith, ints))
-within_more g n k x t (Some s) h b e =
+within_more p n k x t (Some s) h b e =
     subst (λ m. IsWithin m t) (let q : n * k + n ≡ n * (k + 1) = omega arith in q)
-    (subst (λ z. IsWithin (n * k + n) z) (sym e) (joined_within g (n * k) n s x h b))
+    (subst (λ z. IsWithin (n * k + n) z) (sym e) (joined_within p (n * k) n s x h b))
 
 -- a range in the list of ranges
 pub each_at : {A : Type 0} (P : A → Type 0) (xs : List A) (k : ℕ) (d : A) → AllByRecursion P xs → k < length xs → P (get_or xs k d)

@@ -8,15 +8,16 @@ ghost use Rattle.std.specs.List.{All, AllByRecursion};
 ghost use Rattle.ts_base.specs.Signature.{signature_of};
 ghost use Rattle.ts_pattern.specs.Limits.{IsSeries};
 ghost use Rattle.ts_base.specs.Limits.{IsCellValue, most_cells};
+ghost use Rattle.ts_base.specs.Operators.{int_op};
 ghost use Rattle.ts_pattern.specs.FeatureValue.{over, or_zero, feature_of_cells, feature_value};
 ghost use Rattle.ts_transducer.specs.Inside.{IsInside};
 ghost use Rattle.ts_occurrence.specs.Total.{IsWithin, with_one};
-ghost use Rattle.ts_pattern.specs.TermValue.{combine, value_of_none, aggregate_of_ranges, term_value};
+ghost use Rattle.ts_pattern.specs.TermValue.{value_of_none, aggregate_of_ranges, term_value};
 
 use crate::occurrence::occurrences;
 use crate::series::{part, signature};
 use std::alloc::Global;
-use ts_base::{Ext, Letter, Memory, Range};
+use ts_base::{Ext, Letter, Memory, Op, Range};
 use ts_pattern::{Aggregator, Feature, Term, pattern_by_id};
 
 /// The value of the term on a series of 1 to 512 cells from -1,000,000 to 1,000,000.
@@ -51,37 +52,38 @@ pub fn aggregate(g: Aggregator, f: Feature, ranges: &[Range], series: &[i64]) ->
     requires inside { AllByRecursion (λ r. IsInside (length series.now) r) ranges.now }
     ensures { result ≡ aggregate_of_ranges g f ranges.now series.now }
 {
-    match total(g, f, ranges, series) {
+    match total(g.fold().op, f, ranges, series) {
         Some(x) => Ext::Int(x),
         None => value_of_none(g, f, series.len()),
     }
 }
 
-fn total(g: Aggregator, f: Feature, ranges: &[Range], series: &[i64]) -> Option<i64>
+/// The features of the ranges joined; None where there is no range.
+fn total(op: Op, f: Feature, ranges: &[Range], series: &[i64]) -> Option<i64>
     requires series { IsSeries series.now }
     requires few { length ranges.now ≤ most_cells }
     requires inside { AllByRecursion (λ r. IsInside (length series.now) r) ranges.now }
-    ensures { result ≡ over (combine g) (map (λ r. feature_value f r series.now) ranges.now) }
+    ensures { result ≡ over (int_op op) (map (λ r. feature_value f r series.now) ranges.now) }
 {
     let mut total = None;
     for k in 0..ranges.len() {
         let x = feature_at(f, ranges[k], series);
-        total = Some(join(g, total, x));
+        total = Some(join(op, total, x));
     }
     total
 }
 
-/// The total joined with one more feature.
-fn join(g: Aggregator, total: Option<i64>, x: i64) -> i64
+/// The total joined with one more number.
+fn join(op: Op, total: Option<i64>, x: i64) -> i64
     requires total { IfSome total (λ t. IsWithin 1000000000000 t) }
     requires feature { IsWithin 512000000 x }
-    ensures { result ≡ with_one (combine g) total x }
+    ensures { result ≡ with_one (int_op op) total x }
 {
-    match (g, total) {
+    match (op, total) {
         (_, None) => x,
-        (Aggregator::Sum, Some(t)) => t + x,
-        (Aggregator::Max, Some(t)) => t.max(x),
-        (Aggregator::Min, Some(t)) => t.min(x),
+        (Op::Add, Some(t)) => t + x,
+        (Op::Max, Some(t)) => t.max(x),
+        (Op::Min, Some(t)) => t.min(x),
     }
 }
 
@@ -91,10 +93,9 @@ fn value_of_none(g: Aggregator, f: Feature, n: usize) -> Ext
     ensures { result ≡ value_of_none g f n }
 {
     match (g, f) {
-        (Aggregator::Sum, _) | (Aggregator::Max, Feature::Width) => Ext::Int(0),
-        (Aggregator::Max, _) => Ext::NegInf,
+        (Aggregator::Max, Feature::Width) => Ext::Int(0),
         (Aggregator::Min, Feature::Width) => Ext::Int(n as i64),
-        (Aggregator::Min, _) => Ext::PosInf,
+        _ => g.fold().default.value(),
     }
 }
 
@@ -117,23 +118,23 @@ fn feature(f: Feature, cells: &[i64]) -> i64
     match f {
         Feature::One => 1,
         Feature::Width => cells.len() as i64,
-        Feature::Surf => over(Aggregator::Sum, cells),
-        Feature::Max => over(Aggregator::Max, cells),
-        Feature::Min => over(Aggregator::Min, cells),
+        Feature::Surf => over(Op::Add, cells),
+        Feature::Max => over(Op::Max, cells),
+        Feature::Min => over(Op::Min, cells),
     }
 }
 
 /// The sum, the greatest or the least of the cells; 0 where there is none.
-fn over(g: Aggregator, cells: &[i64]) -> i64
+fn over(op: Op, cells: &[i64]) -> i64
     requires few { length cells.now ≤ most_cells }
     requires cells { All IsCellValue cells.now }
-    ensures exact { result ≡ or_zero (over (combine g) cells.now) }
+    ensures exact { result ≡ or_zero (over (int_op op) cells.now) }
     ensures within { IsWithin 512000000 result }
 {
     let mut total = None;
     for k in 0..cells.len() {
         let x = cells[k];
-        total = Some(join(g, total, x));
+        total = Some(join(op, total, x));
     }
     total.unwrap_or(0)
 }

@@ -6,6 +6,7 @@ pub mod EachOf
 pub mod OccurrenceList
 pub mod AllOccurrences
 pub mod Limits
+pub mod Arithmetic
 pub mod FeatureValue
 pub mod TermValue
 pub mod Entries

@@ -1,33 +1,31 @@
 -- The value of a term on a series: its aggregator over the features of all occurrences, and a value of its own where
 -- there is none (Global Constraint Catalog, Volume II: aggregators).
-use Rattle.std.specs.Prelude.{ℕ, ℤ, pos, ◌+ℤ◌, List, map, length, Option, None, Some}
-use Rattle.std.specs.Int.{int_max, int_min}
+use Rattle.std.specs.Prelude.{ℕ, ℤ, pos, List, map, length, Option, None, Some}
 use Rattle.ts_base.specs.declared.ext.Ext.{Ext}
-use Rattle.ts_base.specs.declared.ext.Ext.TheVariants.{NegInf, Int, PosInf}
+use Rattle.ts_base.specs.declared.ext.Ext.TheVariants.{Int}
 use Rattle.ts_base.specs.declared.range.Range.{Range}
+use Rattle.ts_base.specs.Operators.{int_op}
 use Rattle.ts_base.specs.Signature.{signature_of}
 use Rattle.ts_pattern.specs.declared.name.Aggregator.{Aggregator}
-use Rattle.ts_pattern.specs.declared.name.Aggregator.TheVariants.{Sum, Max, Min}
+use Rattle.ts_pattern.specs.declared.name.Aggregator.TheVariants.{Max, Min}
 use Rattle.ts_pattern.specs.declared.name.Feature.{Feature}
 use Rattle.ts_pattern.specs.declared.name.Feature.TheVariants.{Width}
 use Rattle.ts_pattern.specs.declared.name.PatternId.{PatternId}
 use Rattle.ts_pattern.specs.declared.term.Term.{Term}
 use Rattle.ts_pattern.specs.PatternTable.{pattern_shape, pattern_b, pattern_a}
 use Rattle.ts_pattern.specs.AllOccurrences.{occurrence_ranges}
+use Rattle.ts_pattern.specs.Arithmetic.{range_op, default_value}
 use Rattle.ts_pattern.specs.FeatureValue.{over, feature_value}
 
+-- what joins two features
 abbrev pub combine : Aggregator → ℤ → ℤ → ℤ
-combine Sum x y = x +ℤ y
-combine Max x y = int_max x y
-combine Min x y = int_min x y
+combine g = int_op (range_op g)
 
--- the value without an occurrence, in a series of n cells
+-- the value without an occurrence, in a series of n cells: the greatest width is 0, the least one n
 abbrev pub value_of_none : Aggregator → Feature → ℕ → Ext
-value_of_none Sum f n = Int (pos 0)
 value_of_none Max Width n = Int (pos 0)
-value_of_none Max f n = NegInf
 value_of_none Min Width n = Int (pos n)
-value_of_none Min f n = PosInf
+value_of_none g f n = default_value g
 
 -- a number, or in its place the value for none
 abbrev pub or_none : Ext → Option ℤ → Ext

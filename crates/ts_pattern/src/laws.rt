@@ -1,10 +1,14 @@
-//! Laws of the definitions: what the list of occurrences holds, and what the test of a plan shows.
+//! Laws of the definitions: what the list of occurrences holds, how features count, and what the test of a plan shows.
 
-ghost use Rattle.std.specs.Prelude.{◌≡◌, ℕ, List, IsTrue};
+ghost use Rattle.std.specs.Prelude.{◌≡◌, ℕ, ℤ, ◌∷◌, List, map, IsTrue, Some};
 ghost use Rattle.ts_base.specs.declared.letter.Letter.{Letter};
 ghost use Rattle.ts_base.specs.declared.range.Range.{Range};
+ghost use Rattle.ts_base.specs.Operators.{int_op};
 ghost use Rattle.ts_regex.specs.Shape.{Shape};
 ghost use Rattle.ts_transducer.specs.declared.row.Row.{Row};
+ghost use Rattle.ts_pattern.specs.declared.name.Feature.{Feature as AnyFeature};
+ghost use Rattle.ts_pattern.specs.Arithmetic.{cell_fold, cell_op, worth_of};
+ghost use Rattle.ts_pattern.specs.FeatureValue.{feature_of_cells, over};
 ghost use Rattle.ts_pattern.specs.OccurrenceList.{AreRanges};
 ghost use Rattle.ts_pattern.specs.AllOccurrences.{occurrence_ranges};
 ghost use Rattle.ts_pattern.specs.Closed.{IsClosed};
@@ -16,6 +20,13 @@ pub fn all_occurrences()
     ensures all { (p : Shape) (b a : ℕ) (w : List Letter) → AreRanges p b a w (occurrence_ranges p b a w) }
     ensures one { (p : Shape) (b a : ℕ) (w : List Letter) (ranges : List Range) →
         AreRanges p b a w ranges → ranges ≡ occurrence_ranges p b a w }
+{}
+
+/// The feature of at least one cell is what its row joins of what the cells are worth.
+#[tactic(auto, using(crate::proofs::FeatureFolds::features_are_folds))]
+pub fn features_are_folds()
+    ensures { (f : AnyFeature) (x : ℤ) (xs : List ℤ) →
+        over (int_op (cell_op f)) (map (worth_of (cell_fold f).worth) (x ∷ xs)) ≡ Some (feature_of_cells f (x ∷ xs)) }
 {}
 
 /// Where the test that computes is true, the plan is closed.

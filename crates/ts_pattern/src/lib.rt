@@ -14,6 +14,7 @@
 //! ```
 #![tactic(auto)]
 
+mod arithmetic;
 pub mod laws;
 mod name;
 mod pattern;
@@ -21,8 +22,10 @@ mod plan;
 mod table;
 mod term;
 
+pub use arithmetic::{CellFold, RangeFold, Worth};
 pub use name::{
-    Aggregator, Feature, PatternId, aggregator_of, feature_of, pattern_name, pattern_of,
+    Aggregator, Feature, PatternId, aggregator_name, aggregator_of, feature_name, feature_of,
+    pattern_name, pattern_of,
 };
 pub use pattern::Pattern;
 pub use plan::{Configuration, Live, Plan, Tag};

@@ -125,6 +125,19 @@ fn find_name(word: &[u8]) -> Option<PatternId>
         .find(|id| pattern_name(*id) == word)
 }
 
+/// The name of a feature, as it stands in a text.
+pub fn feature_name(f: Feature) -> &'static [u8]
+    ensures { result.now ≡ feature_name f }
+{
+    match f {
+        Feature::One => b"one",
+        Feature::Width => b"width",
+        Feature::Surf => b"surf",
+        Feature::Max => b"max",
+        Feature::Min => b"min",
+    }
+}
+
 /// The feature of that name; None exactly where the word is no feature's name.
 pub fn feature_of(word: &[u8]) -> Option<Feature>
     ensures { (f : Feature) → (result ≡ Some f) ↔ (feature_name f ≡ word.now) }
@@ -136,6 +149,17 @@ pub fn feature_of(word: &[u8]) -> Option<Feature>
         b"max" => Some(Feature::Max),
         b"min" => Some(Feature::Min),
         _ => None,
+    }
+}
+
+/// The name of an aggregator, as it stands in a text.
+pub fn aggregator_name(g: Aggregator) -> &'static [u8]
+    ensures { result.now ≡ aggregator_name g }
+{
+    match g {
+        Aggregator::Sum => b"sum",
+        Aggregator::Max => b"max",
+        Aggregator::Min => b"min",
     }
 }
 

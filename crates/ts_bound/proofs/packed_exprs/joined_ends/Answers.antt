@@ -1,4 +1,4 @@
-use Rattle.ts_automaton.specs.declared.expr.Op.TheVariants.{Max, Min}
+use Rattle.ts_base.specs.declared.op.Op.TheVariants.{Max, Min}
 use Rattle.ts_bound.proofs.PackLaws.{ends_lifted, ends_some}
 use Rattle.ts_bound.proofs.packed_exprs.joined_ends.Goals as goal
 

@@ -7,7 +7,7 @@ use Rattle.ts_decorate.proofs.decoration.decorate.Goals as goal
 
 pub unwrap-requires : goal.unwrap-requires
 unwrap-requires c =
-    let start : Regs = record { c = c.default_value.result; d = c.neutral_value.result; r = c.default_value-2.result } in
+    let start : Regs = record { c = c.value-none.result; d = c.value.result; r = c.value-none.result } in
     c.new.ensures.exactly.1
     (is_made (rows_of c.args.t.now) c.rows.result.now c.args.t.now.typed c.rows.ensures.rows c.rows.ensures.few c.args.a c.args.aggregator c.args.feature
     (body_of c.in_ok-states.states.items start c.in_ok-finish.finish c.mark.result) (search rules))

@@ -2,7 +2,7 @@ use Rattle.std.proofs.Common.{◌≡◌, ◌+◌, ◌*◌, pos, Some, take, get_
 use Rattle.std.proofs.lemmas.Int.{to_z-of_z}
 use mir.Val.{SFits}
 use Rattle.ts_pattern.specs.FeatureValue.{over}
-use Rattle.ts_pattern.specs.TermValue.{combine}
+use Rattle.ts_base.specs.Operators.{int_op}
 use Rattle.ts_base.specs.Limits.{IsCellValue}
 use Rattle.ts_occurrence.specs.Total.{IsWithin}
 use Rattle.ts_occurrence.proofs.Totals.{over_more, within_more}
@@ -16,11 +16,11 @@ loop-k-preserved c =
     let cell : to_z w64 (of_z w64 (get_or c.args.cells.now c.loop-k.k (pos 0))) ≡ get_or c.args.cells.now c.loop-k.k (pos 0) =
     to_z-of_z w64 (get_or c.args.cells.now c.loop-k.k (pos 0)) cell_fits in
     record {
-      so_far = subst (λ z. Some z ≡ over (combine c.args.g) (take (c.loop-k.k + 1) c.args.cells.now)) (sym back)
-          (over_more (combine c.args.g) c.args.cells.now c.loop-k.k (pos 0) (to_z w64 (of_z w64 (get_or c.args.cells.now c.loop-k.k (pos 0)))) c.join.result
+      so_far = subst (λ z. Some z ≡ over (int_op c.args.op) (take (c.loop-k.k + 1) c.args.cells.now)) (sym back)
+          (over_more (int_op c.args.op) c.args.cells.now c.loop-k.k (pos 0) (to_z w64 (of_z w64 (get_or c.args.cells.now c.loop-k.k (pos 0)))) c.join.result
           c.loop-k.total c.loop-k-test.true cell c.loop-k.invariant.so_far c.join.ensures);
       within = subst (λ z. IsWithin (1000000 * (c.loop-k.k + 1)) z) (sym back)
-          (within_more c.args.g 1000000 c.loop-k.k (to_z w64 (of_z w64 (get_or c.args.cells.now c.loop-k.k (pos 0)))) c.join.result c.loop-k.total
+          (within_more c.args.op 1000000 c.loop-k.k (to_z w64 (of_z w64 (get_or c.args.cells.now c.loop-k.k (pos 0)))) c.join.result c.loop-k.total
           c.loop-k.invariant.within
           (subst IsCellValue (sym cell) (c.requires.cells c.loop-k.k (pos 0) c.loop-k-test.true)) c.join.ensures);
     }

@@ -1,10 +1,10 @@
 use Rattle.std.proofs.Common.{◌≡◌, ◌*◌, take}
 use Rattle.std.specs.Prelude.{IfSome}
 use Rattle.ts_pattern.specs.FeatureValue.{over}
-use Rattle.ts_pattern.specs.TermValue.{combine}
+use Rattle.ts_base.specs.Operators.{int_op}
 use Rattle.ts_occurrence.specs.Total.{IsWithin}
 use Rattle.ts_occurrence.proofs.term_value.over.Given as goal
 
 abbrev pub invariant-loop-k : goal.invariant-loop-k
 invariant-loop-k l =
-    record { so_far : l.total ≡ over (combine l.g) (take l.k l.cells); within : IfSome l.total (λ t. IsWithin (1000000 * l.k) t) }
+    record { so_far : l.total ≡ over (int_op l.op) (take l.k l.cells); within : IfSome l.total (λ t. IsWithin (1000000 * l.k) t) }

@@ -1,4 +1,4 @@
-use Rattle.ts_automaton.specs.declared.expr.Op.TheVariants.{Add}
+use Rattle.ts_base.specs.declared.op.Op.TheVariants.{Add}
 use Rattle.std.proofs.Common.{refl}
 use Rattle.ts_bound.proofs.PackLaws.{ends_lifted, ends_some}
 use Rattle.ts_bound.proofs.packed.Ends.clamped_plus.Goals as goal
