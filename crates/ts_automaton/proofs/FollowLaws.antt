@@ -1,4 +1,4 @@
--- The lines of a part are read one after the other.
+-- The lines of a prefix are read one after the other.
 use Rattle.std.proofs.Common.{◌≡◌, ℕ, zero, suc, ◌<◌, ◌≤◌, ◌+◌, ◌*◌, ◌/◌, Bool, true, false, not, cond, Some, None, List, [], ◌∷◌, ◌++◌, length, map, take, get_or, refl, sym, ap, subst, ◌∙◌, codes, append_assoc, append-nil, arith, nat_lt}
 use Rattle.std.specs.Prelude.{◌==◌}
 use Rattle.std.specs.Option.{option_map}
@@ -15,7 +15,7 @@ use Rattle.ts_automaton.specs.Registers.{EachOf}
 use Rattle.ts_automaton.specs.Body.{Move}
 use Rattle.ts_automaton.specs.Typing.{each_is, is_name, is_short}
 use Rattle.ts_automaton.specs.AutomatonText.{Sheet, no_state, name_at, state_words, start_words, move_words, finish_words, moves_words}
-use Rattle.ts_automaton.specs.Grammar.{is_named, is_new, are_new, is_move, IsFront, IsSheet, Part, AtHead, AtStates, AtMoves, AtEnd, Whole, front_words, open_words, part_words, IsPart}
+use Rattle.ts_automaton.specs.Grammar.{is_named, is_new, are_new, is_move, IsFront, IsSheet, Prefix, AtHead, AtStates, AtMoves, AtEnd, Whole, front_words, open_words, prefix_words, IsPrefix}
 use Rattle.ts_automaton.specs.Lines.{place_by, read_move, read_finish}
 use Rattle.ts_automaton.specs.Reading.{with_state, with_start, with_move, with_finish, with_words}
 use Rattle.ts_automaton.proofs.LineLaws.{W, way_again, state_again, start_again}
@@ -23,12 +23,12 @@ use Rattle.ts_automaton.proofs.MoveLaws.{move_again, finish_again}
 use Rattle.ts_automaton.proofs.SolidLaws.{way_solid, state_solid, start_solid, move_solid, finish_solid, end_solid}
 
 -- lines that are read one after the other
-abbrev pub Follows : Part → List W → Part → Type 0
+abbrev pub Follows : Prefix → List W → Prefix → Type 0
 Follows d [] e = d ≡ e
-Follows d (l ∷ ls) e = (f : Part) × (with_words d l ≡ Some f) × AreSolid l × Follows f ls e
+Follows d (l ∷ ls) e = (f : Prefix) × (with_words d l ≡ Some f) × AreSolid l × Follows f ls e
 
-follows_append : (d e f : Part) (xs ys : List W) → Follows d xs e → Follows e ys f → Follows d (xs ++ ys) f
-follows_append d e f [] ys h k = subst (λ (x : Part). Follows x ys f) (sym h) k
+follows_append : (d e f : Prefix) (xs ys : List W) → Follows d xs e → Follows e ys f → Follows d (xs ++ ys) f
+follows_append d e f [] ys h k = subst (λ (x : Prefix). Follows x ys f) (sym h) k
 follows_append d e f (x ∷ xs) ys h k = (h.0, h.1, h.2, follows_append h.0 e f xs ys h.3 k)
 
 -- letters that differ
@@ -114,7 +114,7 @@ moves_follow way states start (t ∷ more) before names h few =
     )
 
 states_lines_follow : (way : Way) (states : List StateLine) → are_new [] states ≡ true → length states ≤ 8 →
-    Follows AtHead (part_words (AtStates way states)) (AtStates way states)
+    Follows AtHead (prefix_words (AtStates way states)) (AtStates way states)
 states_lines_follow way states h few =
     (AtStates way [], ap (option_map (λ w. AtStates w [])) (way_again way), way_solid way, states_follow way states [] h (omega (arith, few)))
 
@@ -129,7 +129,7 @@ moving_follows way states start moves is count =
       start_solid start is.constants,
       moving,
     ) in
-    follows_append AtHead (AtStates way states) (AtMoves way states start moves) (part_words (AtStates way states))
+    follows_append AtHead (AtStates way states) (AtMoves way states start moves) (prefix_words (AtStates way states))
     (start_words start ∷ moves_words states 0 moves) (states_lines_follow way states is.names is.few) begun
 
 closing_follows : (b : Sheet) → IsSheet b → Follows AtHead (open_words b) (AtEnd b)
@@ -148,10 +148,10 @@ closing_follows b is =
     follows_append AtHead (AtMoves b.way b.states b.start b.moves) (AtEnd b) (front_words b.way b.states b.start b.moves)
     (finish_words b.finish b.mark ∷ []) (moving_follows b.way b.states b.start b.moves is.front most) finish
 
-pub whole_follows : (b : Sheet) → IsSheet b → Follows AtHead (part_words (Whole b)) (Whole b)
+pub whole_follows : (b : Sheet) → IsSheet b → Follows AtHead (prefix_words (Whole b)) (Whole b)
 whole_follows b is = follows_append AtHead (AtEnd b) (Whole b) (open_words b) ((codes "end" ∷ []) ∷ []) (closing_follows b is) (Whole b, refl, end_solid, refl)
 
-pub follow : (e : Part) → IsPart e → Follows AtHead (part_words e) e
+pub follow : (e : Prefix) → IsPrefix e → Follows AtHead (prefix_words e) e
 follow AtHead is = refl
 follow (AtStates way states) is = states_lines_follow way states is.names is.few
 follow (AtMoves way states start moves) is = moving_follows way states start moves is.front is.count

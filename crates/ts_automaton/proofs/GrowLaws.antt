@@ -1,4 +1,4 @@
--- One more line that is read is one more line of the part, which stays in the grammar.
+-- One more line that is read is one more line of the prefix, which stays in the grammar.
 use Rattle.std.proofs.Common.{◌≡◌, ℕ, suc, ◌<◌, ◌≤◌, ◌+◌, ◌*◌, Bool, true, false, cond, Option, Some, None, List, [], ◌∷◌, ◌++◌, length, map, refl, sym, ap, subst, ◌∙◌, codes, append_assoc, append-nil, arith, nat_lt}
 use Rattle.std.specs.Option.{option_map}
 use Rattle.std.specs.Cmp.Derive.{both_true}
@@ -14,7 +14,7 @@ use Rattle.ts_automaton.specs.Formula.{Formula}
 use Rattle.ts_automaton.specs.Registers.{EachOf}
 use Rattle.ts_automaton.specs.Body.{Move}
 use Rattle.ts_automaton.specs.AutomatonText.{Sheet, way_word, state_words, start_words, move_words, finish_words, moves_words}
-use Rattle.ts_automaton.specs.Grammar.{is_new, are_new, is_move, IsSheet, Part, AtHead, AtStates, AtMoves, AtEnd, Whole, front_words, open_words, part_words, IsStates, IsMoves, IsPart}
+use Rattle.ts_automaton.specs.Grammar.{is_new, are_new, is_move, IsSheet, Prefix, AtHead, AtStates, AtMoves, AtEnd, Whole, front_words, open_words, prefix_words, IsStates, IsMoves, IsPrefix}
 use Rattle.ts_automaton.specs.Lines.{word_at, read_way, read_state, read_start, read_move, read_finish, is_end}
 use Rattle.ts_automaton.specs.Reading.{with_state, with_start, with_move, with_finish, with_words}
 use Rattle.ts_automaton.proofs.LineLaws.{W, way_only, state_only, start_only, end_only}
@@ -51,16 +51,16 @@ front_more way states start moves t =
     zero_plus n = omega arith
 
 -- what is read with one more line is that of the lines with it
-abbrev Grows : Part → W → Part → Type 0
-Grows d ws e = (part_words e ≡ part_words d ++ (ws ∷ [])) × IsPart e
+abbrev Grows : Prefix → W → Prefix → Type 0
+Grows d ws e = (prefix_words e ≡ prefix_words d ++ (ws ∷ [])) × IsPrefix e
 
-way_grows : (ws : W) (o : Option Way) (e : Part) → read_way ws ≡ o → option_map (λ w. AtStates w []) o ≡ Some e → Grows AtHead ws e
+way_grows : (ws : W) (o : Option Way) (e : Prefix) → read_way ws ≡ o → option_map (λ w. AtStates w []) o ≡ Some e → Grows AtHead ws e
 way_grows ws None e f h = cc
 way_grows ws (Some w) e f h =
     let is : AtStates w [] ≡ e = cc in
     subst (Grows AtHead ws) is (ap (λ (y : W). y ∷ []) (sym (way_only ws w f)), record { few = omega arith; names = refl })
 
-state_grows : (way : Way) (states : List StateLine) (ws : W) (o : Option StateLine) (e : Part) → IsStates states → read_state states ws ≡ o →
+state_grows : (way : Way) (states : List StateLine) (ws : W) (o : Option StateLine) (e : Prefix) → IsStates states → read_state states ws ≡ o →
     with_state way states o ≡ Some e → Grows (AtStates way states) ws e
 state_grows way states ws None e is f h = cc
 state_grows way states ws (Some n) e is f h = go (nat_lt (length states) 8) refl h where
@@ -76,7 +76,7 @@ state_grows way states ws (Some n) e is f h = go (nat_lt (length states) 8) refl
         record { few = omega (arith, more, small); names = new_more [] states n is.names read.1 },
       )
 
-start_grows : (way : Way) (states : List StateLine) (ws : W) (o : Option (EachOf Ext)) (e : Part) → IsStates states → read_start ws ≡ o →
+start_grows : (way : Way) (states : List StateLine) (ws : W) (o : Option (EachOf Ext)) (e : Prefix) → IsStates states → read_start ws ≡ o →
     with_start way states o ≡ Some e → Grows (AtStates way states) ws e
 start_grows way states ws None e is f h = cc
 start_grows way states ws (Some r) e is f h = go (nat_lt 0 (length states)) refl h where
@@ -93,12 +93,12 @@ start_grows way states ws (Some r) e is f h = go (nat_lt 0 (length states)) refl
         },
       )
 
-naming_grows : (way : Way) (states : List StateLine) (ws : W) (t : Bool) (e : Part) → IsStates states →
+naming_grows : (way : Way) (states : List StateLine) (ws : W) (t : Bool) (e : Prefix) → IsStates states →
     cond t (with_state way states (read_state states ws)) (with_start way states (read_start ws)) ≡ Some e → Grows (AtStates way states) ws e
 naming_grows way states ws true e is h = state_grows way states ws (read_state states ws) e is refl h
 naming_grows way states ws false e is h = start_grows way states ws (read_start ws) e is refl h
 
-move_grows : (way : Way) (states : List StateLine) (start : EachOf Ext) (moves : List Move) (ws : W) (o : Option Move) (e : Part) →
+move_grows : (way : Way) (states : List StateLine) (start : EachOf Ext) (moves : List Move) (ws : W) (o : Option Move) (e : Prefix) →
     IsMoves states start moves → length moves < 3 * length states → read_move states (length moves) ws ≡ o → with_move way states start moves o ≡ Some e →
     Grows (AtMoves way states start moves) ws e
 move_grows way states start moves ws None e is room f h = cc
@@ -116,7 +116,7 @@ move_grows way states start moves ws (Some t) e is room f h =
       },
     )
 
-finish_grows : (way : Way) (states : List StateLine) (start : EachOf Ext) (moves : List Move) (ws : W) (o : Option (Formula × Mark)) (e : Part) →
+finish_grows : (way : Way) (states : List StateLine) (start : EachOf Ext) (moves : List Move) (ws : W) (o : Option (Formula × Mark)) (e : Prefix) →
     IsMoves states start moves → 3 * length states ≤ length moves → read_finish ws ≡ o → with_finish way states start moves o ≡ Some e →
     Grows (AtMoves way states start moves) ws e
 finish_grows way states start moves ws None e is full f h = cc
@@ -129,7 +129,7 @@ finish_grows way states start moves ws (Some x) e is full f h =
       record { front = is.front; count = omega (arith, full, most); finish = read.1 },
     )
 
-moving_grows : (way : Way) (states : List StateLine) (start : EachOf Ext) (moves : List Move) (ws : W) (t : Bool) (e : Part) →
+moving_grows : (way : Way) (states : List StateLine) (start : EachOf Ext) (moves : List Move) (ws : W) (t : Bool) (e : Prefix) →
     IsMoves states start moves → nat_lt (length moves) (3 * length states) ≡ t →
     cond t (with_move way states start moves (read_move states (length moves) ws)) (with_finish way states start moves (read_finish ws)) ≡ Some e →
     Grows (AtMoves way states start moves) ws e
@@ -138,13 +138,13 @@ moving_grows way states start moves ws true e is f h =
 moving_grows way states start moves ws false e is f h =
     finish_grows way states start moves ws (read_finish ws) e is (ltb-false (length moves) (3 * length states) f) refl h
 
-end_grows : (b : Sheet) (ws : W) (t : Bool) (e : Part) → IsSheet b → is_end ws ≡ t → cond t (Some (Whole b)) None ≡ Some e → Grows (AtEnd b) ws e
+end_grows : (b : Sheet) (ws : W) (t : Bool) (e : Prefix) → IsSheet b → is_end ws ≡ t → cond t (Some (Whole b)) None ≡ Some e → Grows (AtEnd b) ws e
 end_grows b ws false e is f h = cc
 end_grows b ws true e is f h =
     let same : Whole b ≡ e = cc in
     subst (Grows (AtEnd b) ws) same (ap (λ (y : W). open_words b ++ (y ∷ [])) (sym (end_only ws f)), is)
 
-pub grows : (d : Part) (ws : W) (e : Part) → IsPart d → with_words d ws ≡ Some e → Grows d ws e
+pub grows : (d : Prefix) (ws : W) (e : Prefix) → IsPrefix d → with_words d ws ≡ Some e → Grows d ws e
 grows AtHead ws e is h = way_grows ws (read_way ws) e refl h
 grows (AtStates way states) ws e is h = naming_grows way states ws (bytes_eq (word_at ws 0) (codes "state")) e is h
 grows (AtMoves way states start moves) ws e is h = moving_grows way states start moves ws (nat_lt (length moves) (3 * length states)) e is refl h
@@ -152,7 +152,7 @@ grows (AtEnd b) ws e is h = end_grows b ws (is_end ws) e is refl h
 grows (Whole b) ws e is h = cc
 
 -- a line without words is read nowhere
-pub no_words : (d e : Part) → with_words d [] ≡ Some e → ⊥
+pub no_words : (d e : Prefix) → with_words d [] ≡ Some e → ⊥
 no_words AtHead e h = cc
 no_words (AtStates way states) e h = cc
 no_words (AtMoves way states start moves) e h = go (nat_lt (length moves) (3 * length states)) h where
@@ -163,7 +163,7 @@ no_words (AtMoves way states start moves) e h = go (nat_lt (length moves) (3 * l
 no_words (AtEnd b) e h = cc
 no_words (Whole b) e h = cc
 
--- a part has at most 36 lines
+-- a prefix has at most 36 lines
 moves_count : (states : List StateLine) (k : ℕ) (ts : List Move) → length (moves_words states k ts) ≡ length ts
 moves_count states k [] = refl
 moves_count states k (t ∷ ts) = ap suc (moves_count states (k + 1) ts)
@@ -188,7 +188,7 @@ open_few b is =
     let count = is.count in
     omega (arith, front, more, few, count)
 
-pub few_lines : (d : Part) → IsPart d → length (part_words d) ≤ 36
+pub few_lines : (d : Prefix) → IsPrefix d → length (prefix_words d) ≤ 36
 few_lines AtHead is = omega arith
 few_lines (AtStates way states) is = let count = states_count states in let few = is.few in omega (arith, count, few)
 few_lines (AtMoves way states start moves) is =

@@ -17,7 +17,7 @@ use Rattle.ts_automaton.specs.Registers.{EachOf, each}
 use Rattle.ts_automaton.specs.Typing.{each_is, is_constant}
 use Rattle.ts_automaton.specs.AutomatonText.{way_word, held_word, state_words, constant_word, start_words}
 use Rattle.ts_automaton.specs.Grammar.{is_new}
-use Rattle.ts_automaton.specs.Lines.{word_at, way_of, read_way, held_of, letter_of, new_name, state_made, read_state, constant_of, all_three, read_start, is_end}
+use Rattle.ts_automaton.specs.Lines.{word_at, way_of, read_way, held_of, only_byte, new_name, state_made, read_state, constant_of, all_three, read_start, is_end}
 
 -- a list of words
 abbrev pub W : Type 0
@@ -107,7 +107,7 @@ held_again : (h : Bool) → held_of (held_word h) ≡ Some h
 held_again true = refl
 held_again false = refl
 
-pub letter_only : (w : List ℕ) (b : ℕ) → letter_of w ≡ Some b → w ≡ b ∷ []
+pub letter_only : (w : List ℕ) (b : ℕ) → only_byte w ≡ Some b → w ≡ b ∷ []
 letter_only [] b h = cc
 letter_only (a ∷ []) b h = let e : a ≡ b = cc in ap (λ (x : ℕ). x ∷ []) e
 letter_only (a ∷ c ∷ w) b h = cc
@@ -123,18 +123,18 @@ abbrev IsState : List StateLine → List ℕ → List ℕ → StateLine → Type
 IsState states v w n = (v ≡ n.name ∷ []) × (w ≡ held_word n.held) × (is_new states n.name ≡ true)
 
 state_parts : (states : List StateLine) (v w : List ℕ) (o : Option ℕ) (h : Option Bool) (n : StateLine) →
-    new_name states (letter_of v) ≡ o → held_of w ≡ h → state_made o h ≡ Some n → IsState states v w n
+    new_name states (only_byte v) ≡ o → held_of w ≡ h → state_made o h ≡ Some n → IsState states v w n
 state_parts states v w None h n e f k = cc
 state_parts states v w (Some b) None n e f k = cc
 state_parts states v w (Some b) (Some h) n e f k =
     let is : record { name = b; held = h } ≡ n = cc in
-    let read = new_only states (letter_of v) b e in
+    let read = new_only states (only_byte v) b e in
     let here : IsState states v w (record { name = b; held = h }) = (letter_only v b read.0, held_only w h f, read.1) in
     subst (IsState states v w) is here
 
 pub state_only : (states : List StateLine) (ws : W) (n : StateLine) → read_state states ws ≡ Some n → (ws ≡ state_words n) × (is_new states n.name ≡ true)
 state_only states ws n h =
-    let name = new_name states (letter_of (word_at ws 1)) in
+    let name = new_name states (only_byte (word_at ws 1)) in
     let held = held_of (word_at ws 2) in
     let p = pass (length ws == 3) (cond (bytes_eq (word_at ws 0) (codes "state")) (state_made name held) None) n h in
     let q = pass (bytes_eq (word_at ws 0) (codes "state")) (state_made name held) n p.1 in

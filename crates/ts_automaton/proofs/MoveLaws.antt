@@ -23,7 +23,7 @@ use Rattle.ts_automaton.specs.Typing.{each_is, is_short}
 use Rattle.ts_automaton.specs.FormulaText.{atom_word, op_word, formula_words, formula_of}
 use Rattle.ts_automaton.specs.AutomatonText.{no_state, name_at, mark_word, sign_word, semi, three_words, move_words, finish_words}
 use Rattle.ts_automaton.specs.Grammar.{is_move}
-use Rattle.ts_automaton.specs.Lines.{word_at, letter_of, all_three, is_semi, onto_cut, cut_of, place_by, place_of, move_made, last_two, three_of, is_move_head, read_move, mark_of, finish_made, finish_of, read_finish}
+use Rattle.ts_automaton.specs.Lines.{word_at, only_byte, all_three, is_semi, onto_cut, cut_of, place_by, place_of, move_made, last_two, three_of, is_move_head, read_move, mark_of, finish_made, expression_and_mark, read_finish}
 use Rattle.ts_automaton.proofs.FormulaLaws.{formula_only, formula_again, words_count}
 use Rattle.ts_automaton.proofs.LineLaws.{W, letter_only, equal, same, five, pass, go_on, three_parts, three_true}
 
@@ -83,7 +83,7 @@ named_at states b k h =
     let p = position-Some (λ (n : StateLine). n.name == b) states k no_state h in
     (p.0, eqb-true (name_at states k) b p.1)
 
-place_only : (states : List StateLine) (w : List ℕ) (o : Option ℕ) (k : ℕ) → letter_of w ≡ o → place_by states o ≡ Some k →
+place_only : (states : List StateLine) (w : List ℕ) (o : Option ℕ) (k : ℕ) → only_byte w ≡ o → place_by states o ≡ Some k →
     (k < length states) × (w ≡ name_at states k ∷ [])
 place_only states w None k e h = cc
 place_only states w (Some b) k e h =
@@ -137,7 +137,7 @@ turn_only states w rest None p t e f h = cc
 turn_only states w rest (Some n) None t e f h = cc
 turn_only states w rest (Some n) (Some to) t e f h =
     let is : record { next = n; to = to } ≡ t = cc in
-    let target = place_only states w (letter_of w) n refl e in
+    let target = place_only states w (only_byte w) n refl e in
     let read = three_only rest (cut_of rest) to refl f in
     let here : IsTurn states w rest (record { next = n; to = to }) = (target.1, read.0, both_true (lt-ltb n (length states) target.0) read.1) in
     subst (IsTurn states w rest) is here
@@ -229,8 +229,8 @@ head_tail (w ∷ v ∷ ws) h = (refl, back (length ws)) where
 
 pub finish_only : (ws : W) (x : Formula × Mark) → read_finish ws ≡ Some x → (ws ≡ finish_words x.0 x.1) × (is_short x.0 ≡ true)
 finish_only ws x h =
-    let p = pass (nat_le 2 (length ws)) (cond (bytes_eq (word_at ws 0) (codes "finish")) (finish_of (drop 1 ws)) None) x h in
-    let q = pass (bytes_eq (word_at ws 0) (codes "finish")) (finish_of (drop 1 ws)) x p.1 in
+    let p = pass (nat_le 2 (length ws)) (cond (bytes_eq (word_at ws 0) (codes "finish")) (expression_and_mark (drop 1 ws)) None) x h in
+    let q = pass (bytes_eq (word_at ws 0) (codes "finish")) (expression_and_mark (drop 1 ws)) x p.1 in
     let cut = head_tail ws (leb-true 2 (length ws) p.0) in
     let rest = drop 1 ws in
     let n = length (drop 1 ws) - 1 in

@@ -13,8 +13,8 @@ use Rattle.ts_automaton.specs.declared.state.State.{State}
 use Rattle.ts_automaton.specs.declared.state.Turn.{Turn}
 use Rattle.ts_automaton.specs.Body.{Body, move_of, node_of}
 use Rattle.ts_automaton.specs.Typing.{is_formed, is_typed, is_automaton, typing_fault}
-use Rattle.ts_automaton.specs.AutomatonText.{Sheet, sheet_of, block_lines, lines_text, head_text, body_text, IsBlockOf}
-use Rattle.ts_automaton.specs.Grammar.{IsSheet}
+use Rattle.ts_automaton.specs.AutomatonText.{Sheet, sheet_of, lines_text, head_text, body_text, IsBlockOf}
+use Rattle.ts_automaton.specs.Grammar.{IsSheet, Whole, prefix_words}
 use Rattle.ts_automaton.specs.Reading.{sheet_reading, ReadsSheet}
 use Rattle.ts_automaton.specs.TextReading.{line_at, line_of, Judges, Reads}
 use Rattle.ts_automaton.proofs.Listed.{typed_or_fault}
@@ -29,7 +29,7 @@ block_read text m formed is = ap sheet_reading is.1 ∙ written_read (sheet_of i
 pub sheet_block : (text : List ℕ) (b : Sheet) (m : Body) → sheet_reading text ≡ Ok b → sheet_of b.way m ≡ b → IsTrue (is_formed m) × IsBlockOf text m
 sheet_block text b m h same =
     let read = read_written text b h in
-    (sheet_formed b.way m (subst IsSheet (sym same) read.0), (b.way, read.1 ∙ ap (λ (x : Sheet). lines_text (block_lines x)) (sym same)))
+    (sheet_formed b.way m (subst IsSheet (sym same) read.0), (b.way, read.1 ∙ ap (λ (x : Sheet). lines_text (prefix_words (Whole x))) (sym same)))
 
 -- the one reading of a text
 abbrev typed : Body → Option Place → Result Body AutoStop

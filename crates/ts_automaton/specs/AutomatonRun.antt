@@ -1,6 +1,7 @@
 -- The run of an automaton over a series: it starts at the first state with the start constants, makes the move of each
 -- pair of neighbours, and answers its finish expression under its mark.
 use Rattle.std.specs.Prelude.{◌<◌, ◌≤◌, ℕ, ℤ, pos, IsTrue, List, [], ◌∷◌, length}
+use Rattle.std.specs.List.{AllByRecursion}
 use Rattle.ts_base.specs.declared.ext.Ext.{Ext}
 use Rattle.ts_base.specs.declared.ext.Ext.TheVariants.{NegInf, Int, PosInf}
 use Rattle.ts_base.specs.Limits.{most_cells, IsCellValue}
@@ -81,11 +82,12 @@ IsInMark Zero n e = IsTrue (ext_le (Int (pos 0)) e)
 IsInMark Cells n e = IsTrue (ext_le e (Int (pos n)))
 
 abbrev pub AreCellValues : List ℤ → Type 0
-AreCellValues [] = Unit {0}
-AreCellValues (x ∷ xs) = IsCellValue x × AreCellValues xs
+AreCellValues = AllByRecursion IsCellValue
 
--- the mark's promise holds of the answer on every series within the limits
+-- the mark's promise holds of the answer on every series of at most n cells within the limits
+abbrev pub HoldsMarkUpTo : ℕ → Body → Type 0
+HoldsMarkUpTo n b =
+    (xs : List ℤ) → 1 ≤ length xs → length xs ≤ n → AreCellValues xs → IsInMark b.mark (length xs) (answer b xs)
+
 abbrev pub HoldsMark : Body → Type 0
-HoldsMark b =
-    (xs : List ℤ) → 1 ≤ length xs → length xs ≤ most_cells → AreCellValues xs →
-    IsInMark b.mark (length xs) (answer b xs)
+HoldsMark = HoldsMarkUpTo most_cells

@@ -104,15 +104,17 @@ abbrev pub moves_words : List StateLine → ℕ → List Move → List (List (Li
 moves_words states k [] = []
 moves_words states k (t ∷ ts) = move_words states k t ∷ moves_words states (k + 1) ts
 
--- the lines behind the head
-abbrev pub body_lines : Sheet → List (List (List ℕ))
-body_lines b =
-    map state_words b.states ++ (start_words b.start ∷ moves_words b.states 0 b.moves)
-    ++ (finish_words b.finish b.mark ∷ [])
-    ++ ((codes "end" ∷ []) ∷ [])
+-- the lines behind the head, up to the moves
+abbrev pub lines_to_moves : List StateLine → EachOf Ext → List Move → List (List (List ℕ))
+lines_to_moves states start moves = map state_words states ++ (start_words start ∷ moves_words states 0 moves)
 
-abbrev pub block_lines : Sheet → List (List (List ℕ))
-block_lines b = (way_word b.way ∷ []) ∷ body_lines b
+-- up to the finish line
+abbrev pub lines_to_finish : List StateLine → EachOf Ext → List Move → Formula → Mark → List (List (List ℕ))
+lines_to_finish states start moves finish mark = lines_to_moves states start moves ++ (finish_words finish mark ∷ [])
+
+-- and all
+abbrev pub body_lines : List StateLine → EachOf Ext → List Move → Formula → Mark → List (List (List ℕ))
+body_lines states start moves finish mark = lines_to_finish states start moves finish mark ++ ((codes "end" ∷ []) ∷ [])
 
 -- the text of the words of a line: single spaces between them, and an LF behind
 abbrev pub words_text : List (List ℕ) → List ℕ
@@ -128,7 +130,7 @@ head_text way = words_text (way_word way ∷ [])
 
 -- the one body of an automaton
 abbrev pub body_text : Body → List ℕ
-body_text m = lines_text (body_lines (sheet_of Forward m))
+body_text m = lines_text (body_lines (state_lines m.states) m.start (all_moves m.states) m.finish m.mark)
 
 -- the text is the block of this automaton, under either head
 abbrev pub IsBlockOf : List ℕ → Body → Type 0

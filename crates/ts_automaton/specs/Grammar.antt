@@ -1,5 +1,5 @@
 -- Which blocks are in the grammar, and the first line of a text that is in none.
-use Rattle.std.specs.Prelude.{◌≡◌, ◌≢◌, ◌⊎◌, ℕ, codes, ◌+◌, ◌*◌, ◌==◌, ◌<◌, ◌≤◌, Bool, true, not, ◌&&◌}
+use Rattle.std.specs.Prelude.{◌≡◌, ◌≢◌, ◌⊎◌, ℕ, ◌+◌, ◌*◌, ◌==◌, ◌<◌, ◌≤◌, Bool, true, not, ◌&&◌}
 use Rattle.std.specs.Prelude.{List, [], ◌∷◌, ◌++◌, length, map, nat_lt}
 use Rattle.std.specs.List.{list_any, list_all}
 use Rattle.ts_base.specs.declared.ext.Ext.{Ext}
@@ -8,7 +8,7 @@ use Rattle.ts_automaton.specs.declared.draft.StateLine.{StateLine}
 use Rattle.ts_automaton.specs.Registers.{EachOf}
 use Rattle.ts_automaton.specs.Body.{Move}
 use Rattle.ts_automaton.specs.Typing.{each_is, is_name, is_constant, is_short}
-use Rattle.ts_automaton.specs.AutomatonText.{Sheet, way_word, state_words, start_words, finish_words, moves_words, words_text}
+use Rattle.ts_automaton.specs.AutomatonText.{Sheet, way_word, state_words, lines_to_moves, lines_to_finish, body_lines, words_text}
 
 -- some state has this letter
 abbrev pub is_named : List StateLine → ℕ → Bool
@@ -43,27 +43,26 @@ pub record IsSheet (b : Sheet) : Type 0 where
 
 -- the lines of a block up to some line, by what comes next: the head, a state or the start, a move or the finish,
 -- the end, or nothing
-pub data Part : Type 0 where
-  AtHead : Part
-  AtStates : Way → List StateLine → Part
-  AtMoves : Way → List StateLine → EachOf Ext → List Move → Part
-  AtEnd : Sheet → Part
-  Whole : Sheet → Part
+pub data Prefix : Type 0 where
+  AtHead : Prefix
+  AtStates : Way → List StateLine → Prefix
+  AtMoves : Way → List StateLine → EachOf Ext → List Move → Prefix
+  AtEnd : Sheet → Prefix
+  Whole : Sheet → Prefix
 
--- these lines
+-- these lines, from the head on
 abbrev pub front_words : Way → List StateLine → EachOf Ext → List Move → List (List (List ℕ))
-front_words way states start moves =
-    (way_word way ∷ []) ∷ (map state_words states ++ (start_words start ∷ moves_words states 0 moves))
+front_words way states start moves = (way_word way ∷ []) ∷ lines_to_moves states start moves
 
 abbrev pub open_words : Sheet → List (List (List ℕ))
-open_words b = front_words b.way b.states b.start b.moves ++ (finish_words b.finish b.mark ∷ [])
+open_words b = (way_word b.way ∷ []) ∷ lines_to_finish b.states b.start b.moves b.finish b.mark
 
-abbrev pub part_words : Part → List (List (List ℕ))
-part_words AtHead = []
-part_words (AtStates way states) = (way_word way ∷ []) ∷ map state_words states
-part_words (AtMoves way states start moves) = front_words way states start moves
-part_words (AtEnd b) = open_words b
-part_words (Whole b) = open_words b ++ ((codes "end" ∷ []) ∷ [])
+abbrev pub prefix_words : Prefix → List (List (List ℕ))
+prefix_words AtHead = []
+prefix_words (AtStates way states) = (way_word way ∷ []) ∷ map state_words states
+prefix_words (AtMoves way states start moves) = front_words way states start moves
+prefix_words (AtEnd b) = open_words b
+prefix_words (Whole b) = (way_word b.way ∷ []) ∷ body_lines b.states b.start b.moves b.finish b.mark
 
 pub record IsStates (states : List StateLine) : Type 0 where
   pub few : length states ≤ 8
@@ -74,25 +73,25 @@ pub record IsMoves (states : List StateLine) (start : EachOf Ext) (moves : List 
   pub count : length moves ≤ 3 * length states
 
 -- these lines are in the grammar
-abbrev pub IsPart : Part → Type 0
-IsPart AtHead = Unit {0}
-IsPart (AtStates way states) = IsStates states
-IsPart (AtMoves way states start moves) = IsMoves states start moves
-IsPart (AtEnd b) = IsSheet b
-IsPart (Whole b) = IsSheet b
+abbrev pub IsPrefix : Prefix → Type 0
+IsPrefix AtHead = Unit {0}
+IsPrefix (AtStates way states) = IsStates states
+IsPrefix (AtMoves way states start moves) = IsMoves states start moves
+IsPrefix (AtEnd b) = IsSheet b
+IsPrefix (Whole b) = IsSheet b
 
--- the first line against the grammar: the lines before are those of a part, and no line with it is
+-- the first line against the grammar: the lines before are those of a prefix, and no line with it is
 pub record IsFirstBad (texts : List (List ℕ)) (number : ℕ) : Type 0 where
-  pub before : Part
+  pub before : Prefix
   pub text : List ℕ
   pub after : List (List ℕ)
-  pub is : IsPart before
-  pub parts : texts ≡ map words_text (part_words before) ++ (text ∷ after)
-  pub place : number ≡ length (part_words before) + 1
-  pub against : (e : Part) (ws : List (List ℕ)) →
-      IsPart e → part_words e ≡ part_words before ++ (ws ∷ []) → text ≢ words_text ws
+  pub is : IsPrefix before
+  pub parts : texts ≡ map words_text (prefix_words before) ++ (text ∷ after)
+  pub place : number ≡ length (prefix_words before) + 1
+  pub against : (e : Prefix) (ws : List (List ℕ)) →
+      IsPrefix e → prefix_words e ≡ prefix_words before ++ (ws ∷ []) → text ≢ words_text ws
 
-abbrev pub IsOpen : Part → Type 0
+abbrev pub IsOpen : Prefix → Type 0
 IsOpen AtHead = Unit {0}
 IsOpen (AtStates way states) = Unit {0}
 IsOpen (AtMoves way states start moves) = Unit {0}
@@ -101,10 +100,10 @@ IsOpen (Whole b) = ⊥
 
 -- the lines stop before the end line, which is named as the line behind them
 pub record IsCutShort (texts : List (List ℕ)) (number : ℕ) : Type 0 where
-  pub part : Part
-  pub is : IsPart part
-  pub open_still : IsOpen part
-  pub are : texts ≡ map words_text (part_words part)
+  pub prefix : Prefix
+  pub is : IsPrefix prefix
+  pub open_still : IsOpen prefix
+  pub are : texts ≡ map words_text (prefix_words prefix)
   pub place : number ≡ length texts + 1
 
 -- a text with these lines is against the grammar, first at the line of this number

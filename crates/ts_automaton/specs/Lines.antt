@@ -36,11 +36,11 @@ held_of w =
     else (if bytes_eq w (codes "held") then Some true
     else None)
 
--- the letter of a word of one letter
-abbrev pub letter_of : List ℕ → Option ℕ
-letter_of [] = None
-letter_of (b ∷ []) = Some b
-letter_of (b ∷ c ∷ bs) = None
+-- the byte of a word that has one
+abbrev pub only_byte : List ℕ → Option ℕ
+only_byte [] = None
+only_byte (b ∷ []) = Some b
+only_byte (b ∷ c ∷ bs) = None
 
 -- the letter, if it is a name that no state has
 abbrev pub new_name : List StateLine → Option ℕ → Option ℕ
@@ -56,7 +56,7 @@ abbrev pub read_state : List StateLine → List (List ℕ) → Option StateLine
 read_state states ws =
     if length ws == 3
     then (if bytes_eq (word_at ws 0) (codes "state")
-    then state_made (new_name states (letter_of (word_at ws 1))) (held_of (word_at ws 2))
+    then state_made (new_name states (only_byte (word_at ws 1))) (held_of (word_at ws 2))
     else None)
     else None
 
@@ -101,7 +101,7 @@ place_by states (Some b) = position (λ n. n.name == b) states
 
 -- the place of the state with this letter
 abbrev pub place_of : List StateLine → List ℕ → Option ℕ
-place_of states w = place_by states (letter_of w)
+place_of states w = place_by states (only_byte w)
 
 abbrev pub move_made : Option ℕ → Option (EachOf Formula) → Option Move
 move_made None to = None
@@ -145,13 +145,13 @@ finish_made (Some f) None = None
 finish_made (Some f) (Some m) = Some (f, m)
 
 -- an expression, and the mark as the last word
-abbrev pub finish_of : List (List ℕ) → Option (Formula × Mark)
-finish_of ws = finish_made (formula_of (take (length ws - 1) ws)) (mark_of (word_at ws (length ws - 1)))
+abbrev pub expression_and_mark : List (List ℕ) → Option (Formula × Mark)
+expression_and_mark ws = finish_made (formula_of (take (length ws - 1) ws)) (mark_of (word_at ws (length ws - 1)))
 
 abbrev pub read_finish : List (List ℕ) → Option (Formula × Mark)
 read_finish ws =
     if nat_le 2 (length ws)
-    then (if bytes_eq (word_at ws 0) (codes "finish") then finish_of (drop 1 ws) else None)
+    then (if bytes_eq (word_at ws 0) (codes "finish") then expression_and_mark (drop 1 ws) else None)
     else None
 
 abbrev pub is_end : List (List ℕ) → Bool

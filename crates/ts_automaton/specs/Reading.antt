@@ -7,9 +7,9 @@ use Rattle.ts_base.specs.declared.ext.Ext.{Ext}
 use Rattle.ts_base.specs.Words.{strict_lines, without_lf, words_of, all_words}
 use Rattle.ts_automaton.specs.declared.draft.Way.{Way}
 use Rattle.ts_automaton.specs.declared.draft.StateLine.{StateLine}
-use Rattle.ts_automaton.specs.declared.draft.Sheet.{Sheet as HeldSheet}
-use Rattle.ts_automaton.specs.declared.draft.Draft.{Draft}
-use Rattle.ts_automaton.specs.declared.draft.Draft.TheVariants.{AtHead as HeldHead, AtStates as HeldStates, AtMoves as HeldMoves, AtEnd as HeldEnd, Whole as HeldWhole}
+use Rattle.ts_automaton.specs.declared.draft.Block.{Block}
+use Rattle.ts_automaton.specs.declared.draft.Prefix.{Prefix as HeldPrefix}
+use Rattle.ts_automaton.specs.declared.draft.Prefix.TheVariants.{AtHead as HeldHead, AtStates as HeldStates, AtMoves as HeldMoves, AtEnd as HeldEnd, Whole as HeldWhole}
 use Rattle.ts_automaton.specs.declared.state.Mark.{Mark}
 use Rattle.ts_automaton.specs.declared.stop.AutoStop.{AutoStop}
 use Rattle.ts_automaton.specs.declared.stop.AutoStop.TheVariants.{Text, Typing, Memory}
@@ -17,22 +17,22 @@ use Rattle.ts_automaton.specs.Formula.{Formula, formula}
 use Rattle.ts_automaton.specs.Registers.{EachOf, regs_of}
 use Rattle.ts_automaton.specs.Body.{Move, move_of}
 use Rattle.ts_automaton.specs.AutomatonText.{Sheet}
-use Rattle.ts_automaton.specs.Grammar.{Part, AtHead, AtStates, AtMoves, AtEnd, Whole}
+use Rattle.ts_automaton.specs.Grammar.{Prefix, AtHead, AtStates, AtMoves, AtEnd, Whole}
 use Rattle.ts_automaton.specs.Lines.{word_at, read_way, read_state, read_start, read_move, read_finish, is_end}
 
-abbrev pub with_state : Way → List StateLine → Option StateLine → Option Part
+abbrev pub with_state : Way → List StateLine → Option StateLine → Option Prefix
 with_state way states None = None
 with_state way states (Some n) = if nat_lt (length states) 8 then Some (AtStates way (states ++ n ∷ [])) else None
 
-abbrev pub with_start : Way → List StateLine → Option (EachOf Ext) → Option Part
+abbrev pub with_start : Way → List StateLine → Option (EachOf Ext) → Option Prefix
 with_start way states None = None
 with_start way states (Some r) = if nat_lt 0 (length states) then Some (AtMoves way states r []) else None
 
-abbrev pub with_move : Way → List StateLine → EachOf Ext → List Move → Option Move → Option Part
+abbrev pub with_move : Way → List StateLine → EachOf Ext → List Move → Option Move → Option Prefix
 with_move way states start moves None = None
 with_move way states start moves (Some t) = Some (AtMoves way states start (moves ++ t ∷ []))
 
-abbrev pub with_finish : Way → List StateLine → EachOf Ext → List Move → Option (Formula × Mark) → Option Part
+abbrev pub with_finish : Way → List StateLine → EachOf Ext → List Move → Option (Formula × Mark) → Option Prefix
 with_finish way states start moves None = None
 with_finish way states start moves (Some f) = Some (AtEnd (record {
   way = way;
@@ -46,8 +46,8 @@ with_finish way states start moves (Some f) = Some (AtEnd (record {
 abbrev pub is_state_line : List (List ℕ) → Bool
 is_state_line ws = bytes_eq (word_at ws 0) (codes "state")
 
--- the part with the line of these words; None where that is against the grammar
-abbrev pub with_words : Part → List (List ℕ) → Option Part
+-- the prefix with the line of these words; None where that is against the grammar
+abbrev pub with_words : Prefix → List (List ℕ) → Option Prefix
 with_words AtHead ws = option_map (λ w. AtStates w []) (read_way ws)
 with_words (AtStates way states) ws =
     if is_state_line ws then with_state way states (read_state states ws) else with_start way states (read_start ws)
@@ -58,24 +58,24 @@ with_words (AtMoves way states start moves) ws =
 with_words (AtEnd b) ws = if is_end ws then Some (Whole b) else None
 with_words (Whole b) ws = None
 
-abbrev pub with_text : Part → Option (List ℕ) → Option Part
+abbrev pub with_text : Prefix → Option (List ℕ) → Option Prefix
 with_text d None = None
 with_text d (Some line) = with_words d (all_words (words_of line))
 
 -- the same of a line with its LF
-abbrev pub with_line : Part → List ℕ → Option Part
+abbrev pub with_line : Prefix → List ℕ → Option Prefix
 with_line d text = with_text d (without_lf text)
 
-abbrev pub onward : ℕ → Option Part → (Part → Result Part ℕ) → Result Part ℕ
+abbrev pub onward : ℕ → Option Prefix → (Prefix → Result Prefix ℕ) → Result Prefix ℕ
 onward n None f = Err n
 onward n (Some d) f = f d
 
--- the part with all these lines, or the number of the first that is against the grammar
-abbrev pub with_lines : Part → ℕ → List (List ℕ) → Result Part ℕ
+-- the prefix with all these lines, or the number of the first that is against the grammar
+abbrev pub with_lines : Prefix → ℕ → List (List ℕ) → Result Prefix ℕ
 with_lines d n [] = Ok d
 with_lines d n (t ∷ ts) = onward n (with_line d t) (λ e. with_lines e (n + 1) ts)
 
-abbrev pub end_sheet : ℕ → Result Part ℕ → Result Sheet ℕ
+abbrev pub end_sheet : ℕ → Result Prefix ℕ → Result Sheet ℕ
 end_sheet n (Err k) = Err k
 end_sheet n (Ok AtHead) = Err n
 end_sheet n (Ok (AtStates way states)) = Err n
@@ -88,7 +88,7 @@ abbrev pub sheet_reading : List ℕ → Result Sheet ℕ
 sheet_reading text = end_sheet (length (strict_lines text) + 1) (with_lines AtHead 1 (strict_lines text))
 
 -- what the code holds, as plain data
-abbrev pub sheet_seen : HeldSheet → Sheet
+abbrev pub sheet_seen : Block → Sheet
 sheet_seen b = record {
   way = b.way;
   states = b.states.items;
@@ -98,15 +98,15 @@ sheet_seen b = record {
   mark = b.mark;
 }
 
-abbrev pub part_seen : Draft → Part
-part_seen HeldHead = AtHead
-part_seen (HeldStates way states) = AtStates way states.items
-part_seen (HeldMoves way states start moves) = AtMoves way states.items (regs_of start) (map move_of moves.items)
-part_seen (HeldEnd b) = AtEnd (sheet_seen b)
-part_seen (HeldWhole b) = Whole (sheet_seen b)
+abbrev pub prefix_seen : HeldPrefix → Prefix
+prefix_seen HeldHead = AtHead
+prefix_seen (HeldStates way states) = AtStates way states.items
+prefix_seen (HeldMoves way states start moves) = AtMoves way states.items (regs_of start) (map move_of moves.items)
+prefix_seen (HeldEnd b) = AtEnd (sheet_seen b)
+prefix_seen (HeldWhole b) = Whole (sheet_seen b)
 
 -- at most eight states so far
-abbrev pub HasFew : Part → Type 0
+abbrev pub HasFew : Prefix → Type 0
 HasFew AtHead = Unit {0}
 HasFew (AtStates way states) = length states ≤ 8
 HasFew (AtMoves way states start moves) = length states ≤ 8
@@ -114,7 +114,7 @@ HasFew (AtEnd b) = Unit {0}
 HasFew (Whole b) = Unit {0}
 
 -- the result is what the text reads as, unless memory ran out
-abbrev pub ReadsSheet : Result HeldSheet AutoStop → Result Sheet ℕ → Type 0
+abbrev pub ReadsSheet : Result Block AutoStop → Result Sheet ℕ → Type 0
 ReadsSheet (Ok b) read = read ≡ Ok (sheet_seen b)
 ReadsSheet (Err (Text line)) read = read ≡ Err line
 ReadsSheet (Err (Typing line)) read = ⊥

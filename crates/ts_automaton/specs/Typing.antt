@@ -101,12 +101,12 @@ reads_registers (Leaf LowAtom) = true
 reads_registers (Leaf HighAtom) = true
 reads_registers (Join o f g) = reads_registers f && reads_registers g
 
+-- the finish expression has a kind with the C of held states, if there are any
 abbrev pub is_finish_typed_where_held : Body → Bool
 is_finish_typed_where_held b =
     not (list_any (λ s. s.held) b.states) || is_some (formula_kind (kinds_where b true) b.finish)
 
--- the finish expression has a kind with the C of held states, if there are any
--- it reads no cell, and has a kind with the C of free states too
+-- it reads no cell, and has a kind with the C of free states and with that of held ones
 abbrev pub is_finish_typed : Body → Bool
 is_finish_typed b =
     reads_registers b.finish

@@ -8,7 +8,7 @@ ghost use Rattle.ts_automaton.specs.Reading.{sheet_seen};
 ghost use Rattle.ts_automaton.specs.TextReading.{rank, line_at, Judges, Reads};
 
 use crate::automaton::Automaton;
-use crate::draft::{Sheet, StateLine};
+use crate::draft::{Block, StateLine};
 use crate::parts::Parts;
 use crate::reader::read_sheet;
 use crate::state::{State, Turn};
@@ -24,17 +24,17 @@ pub fn read(alloc: Global, text: &[u8]) -> Result<Automaton, AutoStop>
     ensures { Reads text.now result }
 {
     match read_sheet(alloc, text) {
-        Ok(sheet) => judged(alloc, sheet),
+        Ok(block) => judged(alloc, block),
         Err(stop) => Err(stop),
     }
 }
 
 /// The automaton that has this block, or its first line against the typing.
-fn judged(alloc: Global, sheet: Sheet) -> Result<Automaton, AutoStop>
-    requires { IsSheet (sheet_seen sheet) }
-    ensures { Judges (sheet_seen sheet) result }
+fn judged(alloc: Global, block: Block) -> Result<Automaton, AutoStop>
+    requires { IsSheet (sheet_seen block) }
+    ensures { Judges (sheet_seen block) result }
 {
-    let parts = parts_in(alloc, sheet)?;
+    let parts = parts_in(alloc, block)?;
     match parts.first_fault() {
         None => Ok(Automaton::from_parts(parts)),
         Some(place) => Err(AutoStop::Typing(line_at(parts.states.len(), place))),
@@ -42,18 +42,18 @@ fn judged(alloc: Global, sheet: Sheet) -> Result<Automaton, AutoStop>
 }
 
 /// The parts of an automaton that has this block.
-fn parts_in(alloc: Global, sheet: Sheet) -> Result<Parts, Memory>
-    requires { length sheet.moves.items ≡ 3 * length sheet.states.items }
-    ensures { IfOk result (λ p. sheet_of sheet.way (parts_of p) ≡ sheet_seen sheet) }
+fn parts_in(alloc: Global, block: Block) -> Result<Parts, Memory>
+    requires { length block.moves.items ≡ 3 * length block.states.items }
+    ensures { IfOk result (λ p. sheet_of block.way (parts_of p) ≡ sheet_seen block) }
 {
-    let Sheet {
+    let Block {
         way: _,
         states: lines,
         start,
         moves,
         finish,
         mark,
-    } = sheet;
+    } = block;
     let states = grouped(alloc, &lines, moves)?;
     Ok(Parts {
         states,

@@ -21,7 +21,7 @@ pub struct StateLine {
 
 /// The lines of a block: its moves stand for each state in order, on `<`, `=` and `>`.
 #[derive(Drop)]
-pub(crate) struct Sheet {
+pub(crate) struct Block {
     pub(crate) way: Way,
     pub(crate) states: Vec<StateLine>,
     pub(crate) start: Regs,
@@ -33,7 +33,7 @@ pub(crate) struct Sheet {
 /// The lines of a block up to some line, by what may come next: the head, a state or the start, a move or the
 /// finish, the end, or nothing more.
 #[derive(Drop)]
-pub(crate) enum Draft {
+pub(crate) enum Prefix {
     AtHead,
     AtStates {
         way: Way,
@@ -45,6 +45,6 @@ pub(crate) enum Draft {
         start: Regs,
         moves: VecDeque<Turn>,
     },
-    AtEnd(Sheet),
-    Whole(Sheet),
+    AtEnd(Block),
+    Whole(Block),
 }

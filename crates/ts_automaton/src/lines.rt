@@ -6,7 +6,7 @@ ghost use Rattle.ts_automaton.specs.Registers.{regs_of};
 ghost use Rattle.ts_automaton.specs.Typing.{is_name};
 ghost use Rattle.ts_automaton.specs.AutomatonText.{name_at};
 ghost use Rattle.ts_automaton.specs.Grammar.{is_named};
-ghost use Rattle.ts_automaton.specs.Lines.{way_of, read_way, held_of, letter_of, new_name, read_state, constant_of, read_start, is_end};
+ghost use Rattle.ts_automaton.specs.Lines.{way_of, read_way, held_of, only_byte, new_name, read_state, constant_of, read_start, is_end};
 
 use crate::draft::{StateLine, Way};
 use crate::line_words::{word_at, word_count};
@@ -50,9 +50,9 @@ fn held_of(word: &[u8]) -> Option<bool>
     }
 }
 
-/// The letter of a word of one letter.
-pub(crate) fn letter_of(word: &[u8]) -> Option<u8>
-    ensures { result ≡ letter_of word.now }
+/// The byte of a word that has one.
+pub(crate) fn only_byte(word: &[u8]) -> Option<u8>
+    ensures { result ≡ only_byte word.now }
 {
     match word {
         [b] => Some(*b),
@@ -76,9 +76,9 @@ fn is_named(states: &[StateLine], b: u8) -> bool
 
 /// The letter that a word is, if it is a name and no state has it.
 fn new_name(states: &[StateLine], word: &[u8]) -> Option<u8>
-    ensures { result ≡ new_name states.now (letter_of word.now) }
+    ensures { result ≡ new_name states.now (only_byte word.now) }
 {
-    match letter_of(word) {
+    match only_byte(word) {
         Some(b) if is_name(b) && !is_named(states, b) => Some(b),
         _ => None,
     }

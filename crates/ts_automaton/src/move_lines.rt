@@ -7,13 +7,13 @@ ghost use Rattle.ts_automaton.specs.FormulaText.{texts};
 ghost use Rattle.ts_automaton.specs.Body.{move_of};
 ghost use Rattle.ts_automaton.specs.AutomatonText.{sign_word};
 ghost use Rattle.ts_automaton.specs.Lines.{place_of, is_move_head, all_three, move_made, three_of, cut_of, read_move};
-ghost use Rattle.ts_automaton.specs.Lines.{mark_of, finish_of, read_finish};
+ghost use Rattle.ts_automaton.specs.Lines.{mark_of, expression_and_mark, read_finish};
 
 use crate::draft::StateLine;
 use crate::expr::Expr;
 use crate::expr_text::read_expr;
 use crate::line_words::{cut_at_semi, is_semi, word_at, word_count, words_from, words_up_to};
-use crate::lines::{letter_of, name_at};
+use crate::lines::{name_at, only_byte};
 use crate::state::{Mark, Turn};
 use std::alloc::Global;
 use ts_base::Memory;
@@ -42,7 +42,7 @@ fn place_at(states: &[StateLine], b: u8) -> Option<usize>
 fn place_of(states: &[StateLine], word: &[u8]) -> Option<usize>
     ensures { result ≡ place_of states.now word.now }
 {
-    match letter_of(word) {
+    match only_byte(word) {
         None => None,
         Some(b) => place_at(states, b),
     }
@@ -127,9 +127,9 @@ fn mark_of(word: &[u8]) -> Option<Mark>
 }
 
 /// An expression, and the mark that is the last word.
-fn finish_of(alloc: Global, words: &[&[u8]]) -> Result<Option<(Expr, Mark)>, Memory>
+fn expression_and_mark(alloc: Global, words: &[&[u8]]) -> Result<Option<(Expr, Mark)>, Memory>
     requires { 1 ≤ length (texts words.now) }
-    ensures { IfOk result (λ f. option_map (λ p. (formula p.0, p.1)) f ≡ finish_of (texts words.now)) }
+    ensures { IfOk result (λ f. option_map (λ p. (formula p.0, p.1)) f ≡ expression_and_mark (texts words.now)) }
 {
     let last = word_count(words) - 1;
     let finish = read_expr(alloc, words_up_to(words, last))?;
@@ -149,5 +149,5 @@ pub(crate) fn read_finish(alloc: Global, words: &[&[u8]]) -> Result<Option<(Expr
     if word_at(words, 0) != b"finish".as_slice() {
         return Ok(None);
     }
-    finish_of(alloc, words_from(words, 1))
+    expression_and_mark(alloc, words_from(words, 1))
 }

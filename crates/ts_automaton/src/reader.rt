@@ -5,9 +5,9 @@ ghost use Rattle.ts_automaton.specs.FormulaText.{texts};
 ghost use Rattle.ts_automaton.specs.Registers.{regs_of};
 ghost use Rattle.ts_automaton.specs.Body.{move_of};
 ghost use Rattle.ts_automaton.specs.Grammar.{AtStates, AtMoves};
-ghost use Rattle.ts_automaton.specs.Reading.{is_state_line, with_words, with_line, end_sheet, sheet_reading, part_seen, HasFew, ReadsSheet};
+ghost use Rattle.ts_automaton.specs.Reading.{is_state_line, with_words, with_line, end_sheet, sheet_reading, prefix_seen, HasFew, ReadsSheet};
 
-use crate::draft::{Draft, Sheet, StateLine, Way};
+use crate::draft::{Block, Prefix, StateLine, Way};
 use crate::line_words::{word_at, word_count, words_in};
 use crate::lines::{is_end, read_start, read_state, read_way};
 use crate::move_lines::{read_finish, read_move};
@@ -31,20 +31,20 @@ fn named(
     way: Way,
     mut states: Vec<StateLine>,
     words: &[&[u8]],
-) -> Result<Option<Draft>, Memory>
-    ensures { IfOk result (λ d. option_map part_seen d ≡ with_words (AtStates way states.items) (texts words.now)) }
+) -> Result<Option<Prefix>, Memory>
+    ensures { IfOk result (λ d. option_map prefix_seen d ≡ with_words (AtStates way states.items) (texts words.now)) }
 {
     if is_state_line(words) {
         match read_state(&states, words) {
             Some(name) if states.len() < 8 => {
                 states.push(name)?;
-                Ok(Some(Draft::AtStates { way, states }))
+                Ok(Some(Prefix::AtStates { way, states }))
             }
             _ => Ok(None),
         }
     } else {
         match read_start(words) {
-            Some(start) if states.len() > 0 => Ok(Some(Draft::AtMoves {
+            Some(start) if states.len() > 0 => Ok(Some(Prefix::AtMoves {
                 way,
                 states,
                 start,
@@ -63,17 +63,17 @@ fn moved(
     start: Regs,
     mut moves: VecDeque<Turn>,
     words: &[&[u8]],
-) -> Result<Option<Draft>, Memory>
+) -> Result<Option<Prefix>, Memory>
     requires { length states.items ≤ 8 }
     ensures { let before = AtMoves way states.items (regs_of start) (map move_of moves.items) in
-        IfOk result (λ d. option_map part_seen d ≡ with_words before (texts words.now)) }
+        IfOk result (λ d. option_map prefix_seen d ≡ with_words before (texts words.now)) }
 {
     if moves.len() < 3 * states.len() {
         match read_move(alloc, &states, moves.len(), words)? {
             None => Ok(None),
             Some(turn) => {
                 moves.push_back(turn)?;
-                Ok(Some(Draft::AtMoves {
+                Ok(Some(Prefix::AtMoves {
                     way,
                     states,
                     start,
@@ -84,7 +84,7 @@ fn moved(
     } else {
         match read_finish(alloc, words)? {
             None => Ok(None),
-            Some((finish, mark)) => Ok(Some(Draft::AtEnd(Sheet {
+            Some((finish, mark)) => Ok(Some(Prefix::AtEnd(Block {
                 way,
                 states,
                 start,
@@ -97,75 +97,75 @@ fn moved(
 }
 
 /// What was read with the line of these words; None where that is against the grammar.
-fn with_words(alloc: Global, draft: Draft, words: &[&[u8]]) -> Result<Option<Draft>, Memory>
-    requires { HasFew (part_seen draft) }
-    ensures { IfOk result (λ d. option_map part_seen d ≡ with_words (part_seen draft) (texts words.now)) }
+fn with_words(alloc: Global, prefix: Prefix, words: &[&[u8]]) -> Result<Option<Prefix>, Memory>
+    requires { HasFew (prefix_seen prefix) }
+    ensures { IfOk result (λ d. option_map prefix_seen d ≡ with_words (prefix_seen prefix) (texts words.now)) }
 {
-    match draft {
-        Draft::AtHead => match read_way(words) {
+    match prefix {
+        Prefix::AtHead => match read_way(words) {
             None => Ok(None),
-            Some(way) => Ok(Some(Draft::AtStates {
+            Some(way) => Ok(Some(Prefix::AtStates {
                 way,
                 states: Vec::new(alloc),
             })),
         },
-        Draft::AtStates { way, states } => named(alloc, way, states, words),
-        Draft::AtMoves {
+        Prefix::AtStates { way, states } => named(alloc, way, states, words),
+        Prefix::AtMoves {
             way,
             states,
             start,
             moves,
         } => moved(alloc, way, states, start, moves, words),
-        Draft::AtEnd(sheet) => {
+        Prefix::AtEnd(block) => {
             if is_end(words) {
-                Ok(Some(Draft::Whole(sheet)))
+                Ok(Some(Prefix::Whole(block)))
             } else {
                 Ok(None)
             }
         }
-        Draft::Whole(_) => Ok(None),
+        Prefix::Whole(_) => Ok(None),
     }
 }
 
 /// The same of a line with its LF.
-fn with_line(alloc: Global, draft: Draft, text: &[u8]) -> Result<Option<Draft>, Memory>
-    requires { HasFew (part_seen draft) }
-    ensures { IfOk result (λ d. option_map part_seen d ≡ with_line (part_seen draft) text.now) }
+fn with_line(alloc: Global, prefix: Prefix, text: &[u8]) -> Result<Option<Prefix>, Memory>
+    requires { HasFew (prefix_seen prefix) }
+    ensures { IfOk result (λ d. option_map prefix_seen d ≡ with_line (prefix_seen prefix) text.now) }
 {
     match without_lf(text) {
         None => Ok(None),
         Some(line) => {
             let words = words_in(alloc, line)?;
-            with_words(alloc, draft, &words)
+            with_words(alloc, prefix, &words)
         }
     }
 }
 
 /// The block that was read up to this line, or the line where its end is missing.
-fn ended(line: u32, draft: Draft) -> Result<Sheet, AutoStop>
-    ensures { ReadsSheet result (end_sheet line (Ok (part_seen draft))) }
+fn ended(line: u32, prefix: Prefix) -> Result<Block, AutoStop>
+    ensures { ReadsSheet result (end_sheet line (Ok (prefix_seen prefix))) }
 {
-    match draft {
-        Draft::Whole(sheet) => Ok(sheet),
+    match prefix {
+        Prefix::Whole(block) => Ok(block),
         _ => Err(AutoStop::Text(line)),
     }
 }
 
 /// The block of a text, or its first line against the grammar.
-pub(crate) fn read_sheet(alloc: Global, text: &[u8]) -> Result<Sheet, AutoStop>
+pub(crate) fn read_sheet(alloc: Global, text: &[u8]) -> Result<Block, AutoStop>
     ensures { ReadsSheet result (sheet_reading text.now) }
 {
-    let mut draft = Draft::AtHead;
+    let mut prefix = Prefix::AtHead;
     let mut rest = text;
     let mut line: u32 = 1;
     while !rest.is_empty() {
         let (first, left) = first_line(rest);
-        match with_line(alloc, draft, first)? {
+        match with_line(alloc, prefix, first)? {
             None => return Err(AutoStop::Text(line)),
-            Some(next) => draft = next,
+            Some(next) => prefix = next,
         }
         rest = left;
         line += 1;
     }
-    ended(line, draft)
+    ended(line, prefix)
 }

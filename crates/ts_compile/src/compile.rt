@@ -1,9 +1,10 @@
 //! The machine of a term, and the machines of a model's terms.
 
 ghost use Rattle.std.specs.Prelude.{◌≡◌, IfOk};
-ghost use Rattle.ts_automaton.specs.AutomatonRun.{HoldsMark};
+ghost use Rattle.ts_automaton.specs.AutomatonRun.{HoldsMarkUpTo};
 ghost use Rattle.ts_compile.specs.Compiled.{AnswersTerm, machine_body, machine_pair};
 ghost use Rattle.ts_compile.specs.Programs.{IsProgramOf};
+ghost use Rattle.ts_decorate.specs.Answers.{longest};
 ghost use Rattle.ts_glue.specs.Machines.{forward_of, pair_of};
 
 use crate::gluing::glue_table;
@@ -23,7 +24,7 @@ pub fn compile_term(alloc: Global, t: &Term) -> Result<Machine, Memory>
     ensures body { IfOk result (λ m. forward_of m ≡ machine_body t.now) }
     ensures pair { IfOk result (λ m. pair_of m ≡ machine_pair t.now) }
     ensures answer { IfOk result (λ m. AnswersTerm (forward_of m) t.now) }
-    ensures marked { IfOk result (λ m. HoldsMark (forward_of m)) }
+    ensures marked { IfOk result (λ m. HoldsMarkUpTo longest (forward_of m)) }
 {
     let a = trim_after(t.pattern);
     let rows = transducer_by_id(t.pattern);

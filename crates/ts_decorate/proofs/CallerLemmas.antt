@@ -13,9 +13,9 @@ use Rattle.ts_transducer.proofs.CallerLemmas.{move_stays, decode_inside_each}
 use Rattle.ts_pattern.specs.declared.name.Aggregator.{Aggregator}
 use Rattle.ts_pattern.specs.declared.name.Feature.{Feature}
 use Rattle.ts_pattern.specs.Arithmetic.{range_op, cell_value}
-use Rattle.ts_automaton.specs.AutomatonRun.{after_from, under_mark, IsInMark, AreCellValues, HoldsMark}
+use Rattle.ts_automaton.specs.AutomatonRun.{after_from, under_mark, IsInMark, AreCellValues, HoldsMark, HoldsMarkUpTo}
 use Rattle.ts_decorate.specs.Decoration.{mark_of, decorated_body}
-use Rattle.ts_decorate.specs.Answers.{AnswersRanges, KeepsMark}
+use Rattle.ts_decorate.specs.Answers.{AnswersRanges, longest}
 use Rattle.ts_decorate.proofs.Exact.{exact, held_at_limit, IsGood, cell_good, cell_laws, range_right}
 use Rattle.ts_decorate.proofs.Runs.{table_start, table_after, total_of}
 use Rattle.ts_decorate.proofs.Evaluation.{after_is}
@@ -77,7 +77,7 @@ module _ (rows : List Row) (typed : is_typed rows ≡ true) (few : length rows �
       ap (λ v. under_mark (mark_of g f) (length (x ∷ ys)) v) (total_is x ys (omega (arith, short)) h.0 h.1)
       ∙ aggregate_is g f (decode rows a (signature_of (x ∷ ys))) (x ∷ ys) (ranges_in x ys)
 
-  pub keeps_mark : KeepsMark (decorated_body rows a g f)
+  pub keeps_mark : HoldsMarkUpTo longest (decorated_body rows a g f)
   keeps_mark [] some short h = absurd (omega (arith, some))
   keeps_mark (x ∷ ys) some short h =
       subst (λ v. IsInMark (mark_of g f) (length (x ∷ ys)) v) (sym (answers_ranges (x ∷ ys) some short h))

@@ -8,7 +8,7 @@ use Rattle.ts_pattern.specs.declared.name.Aggregator.{Aggregator}
 use Rattle.ts_pattern.specs.declared.name.Feature.{Feature}
 use Rattle.ts_pattern.specs.TermValue.{aggregate_of_ranges}
 use Rattle.ts_automaton.specs.Body.{Body}
-use Rattle.ts_automaton.specs.AutomatonRun.{answer, IsInMark, AreCellValues}
+use Rattle.ts_automaton.specs.AutomatonRun.{answer, AreCellValues}
 
 -- the most cells on which the answer is promised
 abbrev pub longest : ℕ
@@ -19,11 +19,6 @@ abbrev pub AnswersRanges : Body → List Row → ℕ → Aggregator → Feature 
 AnswersRanges b rows a g f =
     (xs : List ℤ) → 1 ≤ length xs → length xs ≤ longest → AreCellValues xs →
     answer b xs ≡ aggregate_of_ranges g f (decode rows a (signature_of xs)) xs
-
--- on each series the answer keeps the promise of the mark
-abbrev pub KeepsMark : Body → Type 0
-KeepsMark b =
-    (xs : List ℤ) → 1 ≤ length xs → length xs ≤ longest → AreCellValues xs → IsInMark b.mark (length xs) (answer b xs)
 
 -- of the rows of each transducer, a trim of 0 or 1, and each aggregator and feature
 abbrev pub ForRows : (List Row → ℕ → Aggregator → Feature → Type 0) → Type 0

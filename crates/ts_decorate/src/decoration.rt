@@ -1,9 +1,9 @@
 //! The automaton of a transducer.
 
 ghost use Rattle.std.specs.Prelude.{◌≡◌, ◌≤◌, IfOk, length, map};
-ghost use Rattle.ts_automaton.specs.AutomatonRun.{HoldsMark};
+ghost use Rattle.ts_automaton.specs.AutomatonRun.{HoldsMarkUpTo};
 ghost use Rattle.ts_automaton.specs.Body.{node_of};
-ghost use Rattle.ts_decorate.specs.Answers.{AnswersRanges, KeepsMark};
+ghost use Rattle.ts_decorate.specs.Answers.{AnswersRanges, longest};
 ghost use Rattle.ts_decorate.specs.Decoration.{decorated_body, nodes_made, state_names};
 ghost use Rattle.ts_transducer.specs.Rows.{rows_of};
 
@@ -30,8 +30,7 @@ pub fn decorate(
     requires { a ≤ 1 }
     ensures body { IfOk result (λ m. m ≡ decorated_body (rows_of t.now) a aggregator feature) }
     ensures answer { IfOk result (λ m. AnswersRanges m (rows_of t.now) a aggregator feature) }
-    ensures mark { IfOk result (λ m. KeepsMark m) }
-    ensures marked { IfOk result (λ m. HoldsMark m) }
+    ensures mark { IfOk result (λ m. HoldsMarkUpTo longest m) }
 {
     let builder = Builder {
         alloc,

@@ -2,7 +2,7 @@ use Rattle.std.proofs.Common.{rules}
 use Rattle.ts_automaton.specs.declared.regs.Regs.{Regs}
 use Rattle.ts_automaton.specs.Body.{body_of}
 use Rattle.ts_transducer.specs.Rows.{rows_of}
-use Rattle.ts_decorate.proofs.Made.{is_made, answers, keeps, marks}
+use Rattle.ts_decorate.proofs.Made.{is_made, answers, keeps}
 use Rattle.ts_decorate.proofs.decoration.decorate.Goals as goal
 
 pub unwrap-requires : goal.unwrap-requires
@@ -20,9 +20,4 @@ returns-clause-answer c =
 pub returns-clause-mark : goal.returns-clause-mark
 returns-clause-mark c =
     keeps (rows_of c.args.t.now) c.rows.result.now c.args.t.now.typed c.rows.ensures.rows c.rows.ensures.few c.args.a c.args.aggregator c.args.feature
-    c.unwrap.result (search rules) c.requires
-
-pub returns-clause-marked : goal.returns-clause-marked
-returns-clause-marked c =
-    marks (rows_of c.args.t.now) c.rows.result.now c.args.t.now.typed c.rows.ensures.rows c.rows.ensures.few c.args.a c.args.aggregator c.args.feature
     c.unwrap.result (search rules) c.requires

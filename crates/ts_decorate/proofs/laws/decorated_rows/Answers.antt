@@ -1,5 +1,5 @@
 use Rattle.ts_decorate.proofs.Typed.{is_decorated_automaton}
-use Rattle.ts_decorate.proofs.CallerLemmas.{answers_ranges, keeps_mark, is_marked}
+use Rattle.ts_decorate.proofs.CallerLemmas.{answers_ranges, keeps_mark}
 use Rattle.ts_decorate.proofs.laws.decorated_rows.Goals as goal
 
 abbrev pub returns-clause-rules : goal.returns-clause-rules
@@ -10,6 +10,3 @@ returns-clause-answer c = answers_ranges
 
 abbrev pub returns-clause-mark : goal.returns-clause-mark
 returns-clause-mark c = keeps_mark
-
-abbrev pub returns-clause-marked : goal.returns-clause-marked
-returns-clause-marked c = is_marked
