@@ -5,7 +5,7 @@ mod runs;
 use std::alloc::{AllocError, Global};
 use ts_automaton::{Automaton, Expr, Mark, Regs, State, Turn};
 use ts_base::Letter::{Equal, Greater, Less};
-use ts_base::{Ext, Letter};
+use ts_base::{Ext, Letter, Memory, Op};
 
 /// One change to the automaton of peaks.
 #[derive(Clone, Copy)]
@@ -230,5 +230,18 @@ fn broken_rules(rt: HostRuntime) -> Result<(), AllocError> {
     for (place, (change, taken)) in changes().iter().enumerate() {
         assert!(rt; is_taken(rt.alloc(), *change)? == *taken, "row {place}");
     }
+    Ok(())
+}
+
+#[test]
+fn operators_over_two(rt: HostRuntime) -> Result<(), Memory> {
+    let alloc = rt.alloc();
+    assert!(rt;
+        Expr::over(alloc, Op::Add, Expr::D, Expr::This)? == add(alloc, Expr::D, Expr::This)?
+    );
+    assert!(rt; Expr::over(alloc, Op::Max, Expr::R, Expr::C)? == max(alloc, Expr::R, Expr::C)?);
+    assert!(rt;
+        Expr::over(alloc, Op::Min, Expr::C, Expr::Next)? == min(alloc, Expr::C, Expr::Next)?
+    );
     Ok(())
 }

@@ -3,8 +3,8 @@
 use std::alloc::Global;
 use ts_base::{Letter, Memory};
 use ts_pattern::{
-    Aggregator, Configuration, Feature, Live, PatternId, Plan, Tag, Term, aggregator_of,
-    feature_of, pattern_by_id, pattern_name, pattern_of,
+    Aggregator, Configuration, Feature, Live, PatternId, Plan, Tag, Term, aggregator_name,
+    aggregator_of, feature_name, feature_of, pattern_by_id, pattern_name, pattern_of,
 };
 use ts_regex::{Regex, member};
 
@@ -26,6 +26,8 @@ fn names_terms_and_patterns(rt: HostRuntime) -> Result<(), Memory> {
     assert!(rt; aggregator_of(b"max") == Some(Aggregator::Max));
     assert!(rt; aggregator_of(b"min") == Some(Aggregator::Min));
     assert!(rt; aggregator_of(b"count").is_none());
+    assert!(rt; feature_name(Feature::Surf) == b"surf".as_slice());
+    assert!(rt; aggregator_name(Aggregator::Sum) == b"sum".as_slice());
     assert!(rt; Term::new(Aggregator::Max, Feature::One, PatternId::Peak).is_none());
     assert!(rt; Term::new(Aggregator::Min, Feature::One, PatternId::Peak).is_none());
     assert!(rt; Term::new(Aggregator::Sum, Feature::One, PatternId::Peak).is_some());
