@@ -1,5 +1,0 @@
-use Rattle.std.proofs.Common.{length}
-use Rattle.ts_spans.proofs.tests.certificates.read_into.Given as goal
-
-abbrev pub decreases-loop-reader : goal.decreases-loop-reader
-decreases-loop-reader l = length l.rest
