@@ -1,24 +1,28 @@
 -- Folds with the exact operators of a term are features of ranges and their aggregate.
-use Rattle.std.specs.Prelude.{◌≡◌, ℕ, suc, ◌+◌, ◌-◌, ◌≤◌, ℤ, pos, ◌+ℤ◌, List, [], ◌∷◌, length, take, drop, map, fold, Option, None, Some, refl}
+use Rattle.std.specs.Prelude.{◌≡◌, ℕ, ◌-◌, ◌≤◌, ℤ, pos, ◌+ℤ◌, List, [], ◌∷◌, length, take, drop, map, fold, Option, None, Some, refl}
 use Rattle.std.specs.List.{AllByRecursion}
 use Rattle.std.specs.Int.{int_max, int_min}
 use Rattle.std.proofs.Common.{◌∙◌, ap, arith, length-drop}
 use Rattle.std.proofs.lemmas.Int.{ints}
 use Rattle.std.proofs.lemmas.List.{take-map, drop-map, length-take-le}
 use Rattle.ts_base.specs.declared.ext.Ext.TheVariants.{Int}
+use Rattle.ts_base.specs.declared.op.Op.{Op}
+use Rattle.ts_base.specs.declared.op.Op.TheVariants.{Add, Max, Min}
 use Rattle.ts_base.specs.declared.range.Range.{Range}
 use Rattle.ts_base.specs.Numbers.{ext_max, ext_min}
+use Rattle.ts_base.specs.Operators.{int_op}
 use Rattle.ts_pattern.specs.declared.name.Aggregator.{Aggregator}
 use Rattle.ts_pattern.specs.declared.name.Aggregator.TheVariants.{Sum, Max as MaxOf, Min as MinOf}
 use Rattle.ts_pattern.specs.declared.name.Feature.{Feature}
 use Rattle.ts_pattern.specs.declared.name.Feature.TheVariants.{One, Width, Surf, Max as MaxFeature, Min as MinFeature}
-use Rattle.ts_pattern.specs.Arithmetic.{cell_op, neutral_value, range_op, default_value, cell_value}
+use Rattle.ts_pattern.specs.Arithmetic.{cell_fold, cell_op, cell_value, neutral_value, range_op, default_value, worth_of}
 use Rattle.ts_pattern.specs.FeatureValue.{cells_of, over, feature_of_cells, feature_value}
 use Rattle.ts_pattern.specs.TermValue.{combine, or_none, aggregate, value_of_none, aggregate_of_ranges}
+use Rattle.ts_pattern.proofs.CallerLemmas.{features_are_folds}
 use Rattle.ts_transducer.specs.Inside.{IsInside}
 use Rattle.ts_automaton.specs.AutomatonRun.{under_mark}
 use Rattle.ts_decorate.specs.Decoration.{mark_of}
-use Rattle.ts_decorate.proofs.Exact.{exact_plus, exact_op, exact}
+use Rattle.ts_decorate.proofs.Exact.{exact_op, exact}
 use Rattle.ts_decorate.proofs.Registers.{range_value, ranges_value}
 
 max_is : (x y : ℤ) → ext_max (Int x) (Int y) ≡ Int (int_max x y)
@@ -27,34 +31,48 @@ max_is x y = grind (arith, ints)
 min_is : (x y : ℤ) → ext_min (Int x) (Int y) ≡ Int (int_min x y)
 min_is x y = grind (arith, ints)
 
-maxes : (xs : List ℤ) (x : ℤ) → fold ext_max (Int x) (map Int xs) ≡ Int (fold int_max x xs)
-maxes [] x = refl
-maxes (y ∷ ys) x = ap (λ u. fold ext_max u (map Int ys)) (max_is x y) ∙ maxes ys (int_max x y)
+-- numbers joined by an exact operator
+int_is : (o : Op) (x y : ℤ) → exact_op o (Int x) (Int y) ≡ Int (int_op o x y)
+int_is Add x y = refl
+int_is Max x y = max_is x y
+int_is Min x y = min_is x y
 
-mins : (xs : List ℤ) (x : ℤ) → fold ext_min (Int x) (map Int xs) ≡ Int (fold int_min x xs)
-mins [] x = refl
-mins (y ∷ ys) x = ap (λ u. fold ext_min u (map Int ys)) (min_is x y) ∙ mins ys (int_min x y)
+ints_are : (o : Op) (xs : List ℤ) (x : ℤ) → fold (exact_op o) (Int x) (map Int xs) ≡ Int (fold (int_op o) x xs)
+ints_are o [] x = refl
+ints_are o (y ∷ ys) x = ap (λ u. fold (exact_op o) u (map Int ys)) (int_is o x y) ∙ ints_are o ys (int_op o x y)
 
-sums : (xs : List ℤ) (x : ℤ) → fold exact_plus (Int x) (map Int xs) ≡ Int (fold ◌+ℤ◌ x xs)
-sums [] x = refl
-sums (y ∷ ys) x = sums ys (x +ℤ y)
+cells_are : (f : Feature) (xs : List ℤ) → map (cell_value f) xs ≡ map Int (map (worth_of (cell_fold f).worth) xs)
+cells_are f [] = refl
+cells_are f (x ∷ xs) = ap (λ es. cell_value f x ∷ es) (cells_are f xs)
 
-ones : (xs : List ℤ) → fold ext_max (Int (pos 1)) (map (λ x. Int (pos 1)) xs) ≡ Int (pos 1)
-ones [] = refl
-ones (x ∷ xs) = ones xs
+zero_left : (x : ℤ) → pos 0 +ℤ x ≡ x
+zero_left x = omega (arith, ints)
 
-counts : (xs : List ℤ) (n : ℕ) → fold exact_plus (Int (pos n)) (map (λ x. Int (pos 1)) xs) ≡ Int (pos (n + length xs))
-counts [] n = ap (λ m. Int (pos m)) (let e : n ≡ n + 0 = omega arith in e)
-counts (x ∷ xs) n = counts xs (n + 1) ∙ ap (λ m. Int (pos m)) (let e : n + 1 + length xs ≡ n + suc (length xs) = omega arith in e)
+-- beside what a cell is worth the neutral constant changes nothing, beside a feature the default doesn't
+neutral_left : (f : Feature) (x : ℤ) → exact_op (cell_op f) (neutral_value f) (cell_value f x) ≡ cell_value f x
+neutral_left One x = refl
+neutral_left Width x = refl
+neutral_left Surf x = ap Int (zero_left x)
+neutral_left MaxFeature x = refl
+neutral_left MinFeature x = refl
+
+default_left : (g : Aggregator) (x : ℤ) → exact_op (range_op g) (default_value g) (Int x) ≡ Int x
+default_left Sum x = ap Int (zero_left x)
+default_left MaxOf x = refl
+default_left MinOf x = refl
+
+some_same : (x y : ℤ) → ◌≡◌ {A = Option ℤ} (Some x) (Some y) → x ≡ y
+some_same x y e = cc
 
 -- of a range with a cell
 pub feature_is : (f : Feature) (x : ℤ) (xs : List ℤ) →
     fold (exact_op (cell_op f)) (neutral_value f) (map (cell_value f) (x ∷ xs)) ≡ Int (feature_of_cells f (x ∷ xs))
-feature_is One x xs = ones xs
-feature_is Width x xs = counts xs 1 ∙ ap (λ m. Int (pos m)) (let e : 1 + length xs ≡ suc (length xs) = omega arith in e)
-feature_is Surf x xs = sums (x ∷ xs) (pos 0)
-feature_is MaxFeature x xs = maxes xs x
-feature_is MinFeature x xs = mins xs x
+feature_is f x xs =
+    let w = (cell_fold f).worth in
+    ap (λ u. fold (exact_op (cell_op f)) u (map (cell_value f) xs)) (neutral_left f x)
+    ∙ ap (λ es. fold (exact_op (cell_op f)) (cell_value f x) es) (cells_are f xs)
+    ∙ ints_are (cell_op f) (map (worth_of w) xs) (worth_of w x)
+    ∙ ap Int (some_same (fold (int_op (cell_op f)) (worth_of w x) (map (worth_of w) xs)) (feature_of_cells f (x ∷ xs)) (features_are_folds f x xs))
 
 some_cells : (f : Feature) (cells : List ℤ) → 1 ≤ length cells →
     fold (exact_op (cell_op f)) (neutral_value f) (map (cell_value f) cells) ≡ Int (feature_of_cells f cells)
@@ -89,12 +107,8 @@ features_are g f (r ∷ rs) xs h =
 
 -- numbers joined from the default on
 joined : (g : Aggregator) (zs : List ℤ) → fold (exact_op (range_op g)) (default_value g) (map Int zs) ≡ aggregate g (default_value g) zs
-joined Sum [] = refl
-joined Sum (z ∷ zs) = sums zs (pos 0 +ℤ z) ∙ ap (λ u. Int (fold ◌+ℤ◌ u zs)) (let e : pos 0 +ℤ z ≡ z = omega (arith, ints) in e)
-joined MaxOf [] = refl
-joined MaxOf (z ∷ zs) = maxes zs z
-joined MinOf [] = refl
-joined MinOf (z ∷ zs) = mins zs z
+joined g [] = refl
+joined g (z ∷ zs) = ap (λ u. fold (exact_op (range_op g)) u (map Int zs)) (default_left g z) ∙ ints_are (range_op g) zs z
 
 -- the default is turned into the value for none by the mark
 mark_is : (g : Aggregator) (f : Feature) (n : ℕ) (o : Option ℤ) → under_mark (mark_of g f) n (or_none (default_value g) o) ≡ or_none (value_of_none g f n) o

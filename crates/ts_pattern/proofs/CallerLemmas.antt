@@ -10,6 +10,8 @@ pub use Rattle.ts_pattern.proofs.OneMoreEntry.{SameFollows, survivors_push, shap
 -- residuals by numbers, or by other names
 pub use Rattle.ts_pattern.proofs.Renamed.{renamed, NextAgrees, WordsAgree, SameAgrees, survivors_renamed, survivors_left}
 pub use Rattle.ts_pattern.proofs.Renamed.{retag_renamed, no_ind_renamed, agree_renamed}
+-- a feature is what its row joins
+pub use Rattle.ts_pattern.proofs.FeatureFolds.{features_are_folds}
 -- the list of all occurrences, closed plans, and the names of the tables
 pub use Rattle.ts_pattern.proofs.AllOccurrences.{ranges_are, are_ranges}
 pub use Rattle.ts_pattern.proofs.Tested.{closed_by_test, configuration_is, blank_value}
