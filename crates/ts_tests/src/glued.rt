@@ -57,7 +57,7 @@ fn glued_at(machine: &Machine, series: &[i64], k: usize) -> Option<Ext>
     Some(glue_value(machine, left, right, cell, series.len() as u32))
 }
 
-/// Whether another pattern reads the same occurrences from the end of a series.
+/// Whether a pattern, itself or another one, has the same e-ranges where the series is read from its end.
 fn has_partner(pattern: PatternId) -> bool {
     !matches!(
         pattern,

@@ -23,6 +23,8 @@ mod first_values;
 #[cfg(test)]
 mod glued;
 #[cfg(test)]
+mod judged;
+#[cfg(test)]
 mod last_values;
 #[cfg(test)]
 mod models;
@@ -32,6 +34,8 @@ mod occurrences;
 mod patterns;
 #[cfg(test)]
 mod programs;
+#[cfg(test)]
+mod seed_tables;
 #[cfg(test)]
 mod seeds;
 #[cfg(test)]

@@ -66,7 +66,7 @@ fn cases() -> &'static [Case] {
 }
 
 /// The model of a text; in the tests each is short.
-fn model_of(alloc: Global, text: &[u8]) -> Option<Model> {
+pub fn model_of(alloc: Global, text: &[u8]) -> Option<Model> {
     if 1000 < text.len() {
         return None;
     }

@@ -1,0 +1,84 @@
+//! Series judged by a model; what is said of them was worked out by hand.
+
+use crate::programs::model_of;
+use std::alloc::Global;
+use ts_base::{Ext, Memory};
+use ts_compile::judge;
+
+/// A model, and what it says of 1 3 3 2 2 1 4: which cells lie in their domains, which requirements hold, what the terms
+/// are worth, and whether the series meets it.
+type Case = (
+    &'static str,
+    &'static [bool],
+    &'static [bool],
+    &'static [Ext],
+    bool,
+);
+
+static CASES: [Case; 5] = [
+    (
+        "cells 7\ndomain 1..4\n",
+        &[true, true, true, true, true, true, true],
+        &[],
+        &[],
+        true,
+    ),
+    (
+        "cells 7\ndomain 1..4\nterm c = count peak\nterm w = sum width peak\nrequire c = 1\nrequire w <= 4\n",
+        &[true, true, true, true, true, true, true],
+        &[true, true],
+        &[Ext::Int(1), Ext::Int(4)],
+        true,
+    ),
+    (
+        "cells 7\ndomain 1..4\nterm c = count peak\nterm w = sum width peak\nrequire w > 4\nrequire c >= 1\n",
+        &[true, true, true, true, true, true, true],
+        &[false, true],
+        &[Ext::Int(1), Ext::Int(4)],
+        false,
+    ),
+    (
+        "cells 7\ndomain 1..3\ncell 3 1 2\nterm m = max surf dip_on_increasing_sequence\nrequire m = -inf\n",
+        &[true, true, false, true, true, true, false],
+        &[true],
+        &[Ext::NegInf],
+        false,
+    ),
+    (
+        "cells 7\nterm k = min width steady_sequence\nrequire k < 3\nrequire k != 2\n",
+        &[true, true, true, true, true, true, true],
+        &[true, false],
+        &[Ext::Int(2)],
+        false,
+    ),
+];
+
+// The table behind a function, so that the proof of the test doesn't read it.
+fn cases() -> &'static [Case] {
+    &CASES
+}
+
+fn case_holds(alloc: Global, case: &Case) -> Result<bool, Memory> {
+    let (text, inside, holding, values, meets) = *case;
+    let Some(model) = model_of(alloc, text.as_bytes()) else {
+        return Ok(false);
+    };
+    if model.cells.len() != 7 {
+        return Ok(false);
+    }
+    let judgement = judge(alloc, &model, &[1, 3, 3, 2, 2, 1, 4])?;
+    Ok(
+        judgement.inside.as_slice() == inside
+            && judgement.holding.as_slice() == holding
+            && judgement.values.as_slice() == values
+            && judgement.meets() == meets,
+    )
+}
+
+#[test]
+fn judgements(rt: HostRuntime) -> Result<(), Memory> {
+    for case in cases() {
+        assert!(rt; case_holds(rt.alloc(), case)?, "{}", case.0);
+    }
+    Ok(())
+}
