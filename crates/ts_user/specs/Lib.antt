@@ -1,0 +1,4 @@
+pub mod SignatureOrder
+pub mod FirstReached
+pub mod BuildAnswers
+pub mod Numbered
