@@ -20,12 +20,13 @@ use Rattle.ts_pattern.specs.Entries.{Entry, survivors}
 use Rattle.ts_pattern.specs.Closed.{PlainConfiguration, Subject, is_ind, first_tag, tag_after, no_ind, retag_entries, with_start, move_of, entries_before, kept_entries, step_of, entries_agree, same_tag, same_live, same_configuration}
 use Rattle.ts_pattern.specs.Plans.{plain_live, plain_configuration}
 use Rattle.ts_validate.specs.declared.knowledge.Knowledge.{Knowledge}
-use Rattle.ts_validate.specs.declared.facts.Facts.{Facts}
+use Rattle.ts_validate.specs.declared.facts.Kept.{Kept}
 use Rattle.ts_validate.specs.declared.step.Look.{Look}
-use Rattle.ts_validate.specs.Numbers.{known_at, plain_lives, plain_configurations, configuration_after, numbers, numbered_subject, is_listed, all_listed, next_place, number_meets}
+use Rattle.ts_validate.specs.Numbers.{known_at, kept_at, plain_lives, plain_configurations, configuration_after, numbers, numbered_subject, is_listed, all_listed, next_place, number_meets}
 use Rattle.ts_validate.specs.Facts.{facts_of, facts_agree}
 use Rattle.ts_validate.specs.Looks.{look_of, row_or}
 use Rattle.ts_validate.proofs.Plain.{all_mapped}
+use Rattle.ts_validate.proofs.FactsOf.{facts_law, seen_are}
 
 pub row_is : (rows : List Row) (q : ℕ) → row_or (slice_get rows q) ≡ row_at rows q
 row_is [] q = refl
@@ -153,15 +154,17 @@ next_seen rows table b cs here l arrow left free listed next agree look h q =
 pub meets_seen : (rows : List Row) (table : List Knowledge) (b : ℕ) (cs : List Configuration) (here : Configuration) (l : Letter) (arrow : Arrow)
     (left : List Live)
     (free listed : Bool) (next : Option ℕ) (agree : Bool) (look : Look) → Computed rows table b cs here l arrow left free listed next →
-    look ≡ look_of listed next agree → (facts : Facts) (kind : Kind) → facts ≡ facts_of (numbers table) arrow.phase free (plain_lives left) →
-    kind ≡ (row_at rows arrow.next).kind → agree ≡ facts_agree facts arrow.phase kind →
+    look ≡ look_of listed next agree → (seen : List Kept) (kind : Kind) → seen ≡ map (λ e. kept_at table e) left →
+    kind ≡ (row_at rows arrow.next).kind → agree ≡ facts_agree (facts_of arrow.phase free seen) arrow.phase kind →
     look.meets ≡ number_meets table (numbered_subject rows table b (plain_configurations cs)) (plain_configuration here) l
-meets_seen rows table b cs here l arrow left free listed next agree look h q facts kind u v w =
+meets_seen rows table b cs here l arrow left free listed next agree look h q seen kind u v w =
     let s : Subject ℕ = numbered_subject rows table b (plain_configurations cs) in
     let x : PlainConfiguration ℕ = plain_configuration here in
     let agreed : agree ≡ entries_agree (numbers table) (move_of s x l).phase (row_at rows (move_of s x l).next).kind (no_ind (entries_before s x))
     (kept_entries s x l) =
-    w ∙ ap (λ z. facts_agree z arrow.phase kind) u ∙ ap (λ z. entries_agree (numbers table) arrow.phase z free (plain_lives left)) v
+    w ∙ ap (λ z. facts_agree (facts_of arrow.phase free z) arrow.phase kind) (u ∙ seen_are table left)
+    ∙ facts_law (numbers table) arrow.phase kind free (plain_lives left)
+    ∙ ap (λ z. entries_agree (numbers table) arrow.phase z free (plain_lives left)) v
     ∙ ap (λ (z : Arrow). entries_agree (numbers table) z.phase (row_at rows z.next).kind free (plain_lives left)) h.arrow_is
     ∙ ap (λ z. entries_agree (numbers table) (move_of s x l).phase (row_at rows (move_of s x l).next).kind z (plain_lives left)) h.free_is
     ∙ ap (λ z. entries_agree (numbers table) (move_of s x l).phase (row_at rows (move_of s x l).next).kind (no_ind (entries_before s x)) z) h.left_is in

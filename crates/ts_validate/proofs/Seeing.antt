@@ -146,7 +146,7 @@ live_itself (e ∷ es) =
     ap (λ z. z && (same_tag e.tag e.tag && same_live shapes es es)) ((same_law e.residual e.residual).1 refl)
     ∙ ap (λ z. z && same_live shapes es es) (tag_itself e.tag) ∙ live_itself es
 
-configuration_itself : (x : PlainConfiguration Shape) → same_configuration shapes x x ≡ true
+pub configuration_itself : (x : PlainConfiguration Shape) → same_configuration shapes x x ≡ true
 configuration_itself x = ap (λ z. z && same_live shapes x.live x.live) (eq-eqb x.state x.state refl) ∙ live_itself x.live
 
 sees : (rows : List Row) (p : Shape) (b : ℕ) (rs : List Shape) (xs : List (PlainConfiguration ℕ)) → IsFor p rs xs → (x : PlainConfiguration ℕ) →

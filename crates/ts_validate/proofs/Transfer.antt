@@ -126,7 +126,7 @@ numbers_agree rs l i p q =
 
 pub words_agree : (rs : List Shape) (i : ℕ) → IsListedNumber rs i → WordsAgree (numbers (table_of rs)) shapes (λ i. shape_at rs i) i
 words_agree rs i p =
-    record { nullable = ap (λ (k : Knowledge). k.nullable) (known_is rs i p); longer = ap (λ (k : Knowledge). k.longer) (known_is rs i p) }
+    record { nullable = ap (λ (k : Knowledge). k.words.nullable) (known_is rs i p); longer = ap (λ (k : Knowledge). k.words.longer) (known_is rs i p) }
 
 -- a residual after the letter that has a word and isn't listed
 pub unlisted : (rs : List Shape) (l : Letter) (i : ℕ) → IsListedNumber rs i → nat_le (next_on l (known_at (table_of rs) i)) (length (table_of rs)) ≡ false →

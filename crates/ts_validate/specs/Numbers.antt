@@ -5,7 +5,7 @@ use Rattle.std.specs.List.{list_all, position}
 use Rattle.ts_base.specs.declared.letter.Letter.{Letter}
 use Rattle.ts_base.specs.declared.letter.Letter.TheVariants.{Less, Equal, Greater}
 use Rattle.ts_regex.specs.Shape.{Shape}
-use Rattle.ts_regex.specs.Derivative.{nullable, has_word, has_longer}
+use Rattle.ts_regex.specs.Derivative.{has_word}
 use Rattle.ts_regex.specs.NormalForm.{residual, same_shape}
 use Rattle.ts_transducer.specs.declared.row.Arrow.{Arrow}
 use Rattle.ts_transducer.specs.declared.row.Row.{Row}
@@ -17,6 +17,8 @@ use Rattle.ts_pattern.specs.Entries.{Entry, Residuals}
 use Rattle.ts_pattern.specs.Closed.{PlainConfiguration, Subject, no_ind, retag_entries, move_of, entries_before, kept_entries, step_of, entries_agree, same_configuration}
 use Rattle.ts_transducer.specs.Decode.{row_at}
 use Rattle.ts_validate.specs.declared.knowledge.Knowledge.{Knowledge}
+use Rattle.ts_validate.specs.declared.facts.Kept.{Kept}
+use Rattle.ts_validate.specs.Facts.{words_of}
 
 -- the least number of a residual, or the number of all plus 1
 abbrev pub number_of : List Shape → Shape → ℕ
@@ -33,15 +35,15 @@ known_of rs r =
       equal = next_number rs r Equal;
       greater = next_number rs r Greater;
       own = number_of rs r;
-      nullable = nullable r;
-      longer = has_longer r;
+      words = words_of r;
     }
 
 abbrev pub table_of : List Shape → List Knowledge
 table_of rs = map (λ r. known_of rs r) rs
 
 abbrev pub nothing_known : Knowledge
-nothing_known = record { less = 0; equal = 0; greater = 0; own = 0; nullable = false; longer = false }
+nothing_known =
+    record { less = 0; equal = 0; greater = 0; own = 0; words = record { nullable = false; longer = false } }
 
 abbrev pub known_or : Option Knowledge → Knowledge
 known_or None = nothing_known
@@ -54,6 +56,10 @@ abbrev pub next_on : Letter → Knowledge → ℕ
 next_on Less k = k.less
 next_on Equal k = k.equal
 next_on Greater k = k.greater
+
+-- a kept entry, as the checks see it
+abbrev pub kept_at : List Knowledge → Live → Kept
+kept_at table e = record { words = (known_at table e.residual).words; tag = e.tag }
 
 -- live entries and configurations in plain form
 abbrev pub plain_lives : List Live → List (Entry (Unit {0}) ℕ Tag)
@@ -73,8 +79,8 @@ numbers table =
     record {
       next = λ i l. next_on l (known_at table i);
       has_word = λ i. not (i == length table);
-      nullable = λ i. (known_at table i).nullable;
-      has_longer = λ i. (known_at table i).longer;
+      nullable = λ i. (known_at table i).words.nullable;
+      has_longer = λ i. (known_at table i).words.longer;
       same = λ i j. (known_at table i).own == (known_at table j).own;
     }
 

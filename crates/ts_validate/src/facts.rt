@@ -1,17 +1,30 @@
 //! What the checks ask of the entries that a step keeps, and the checks themselves.
 
-ghost use Rattle.std.specs.Prelude.{◌≡◌, ◌&&◌, ◌||◌, not, map};
+ghost use Rattle.std.specs.Prelude.{◌≡◌, ◌&&◌, ◌||◌, not};
 ghost use Rattle.std.specs.List.{list_any};
 ghost use Rattle.ts_pattern.specs.Closed.{is_due, is_ind, is_inc, tag_after, implies, first_passes, is_match, is_find};
-ghost use Rattle.ts_pattern.specs.Plans.{plain_live};
-ghost use Rattle.ts_validate.specs.Numbers.{known_at, numbers};
 ghost use Rattle.ts_validate.specs.Facts.{facts_of, facts_agree};
 
-use crate::knowledge::{Knowledge, look_up};
 use crate::tags::{is_inc, is_ind, starts, tag_after};
+use crate::words::Words;
 use ts_base::Kind;
-use ts_pattern::Live;
+use ts_pattern::Tag;
 use ts_transducer::Phase;
+
+/// An entry that a step keeps, as the checks see it: which words its residual has after the step, and its tag before.
+#[derive(Clone, Copy, Debug, PartialEq, Eq)]
+pub struct Kept {
+    pub words: Words,
+    pub tag: Tag,
+}
+
+/// Whether the checks hold of the entries that a step with this phase letter keeps, with the kind of the next state;
+/// `free` says that no entry had InD before the step.
+pub fn kept_agree(phase: Phase, kind: Kind, free: bool, kept: &[Kept]) -> bool
+    ensures { result ≡ facts_agree (facts_of phase free kept.now) phase kind }
+{
+    answers(phase, free, kept).agree(phase, kind)
+}
 
 /// The answers that the checks of one step need. Of an entry the tag before the step counts, unless said.
 #[derive(Clone, Copy, Debug, PartialEq, Eq)]
@@ -32,15 +45,15 @@ pub struct Facts {
     pub some_keeps: bool,
 }
 
-/// The answers for entries that a step with this phase letter keeps; `free` says that no entry had InD before it.
-pub fn answers(table: &[Knowledge], phase: Phase, free: bool, kept: &[Live]) -> Facts
-    ensures { result ≡ facts_of (numbers table.now) phase free (map (λ e. plain_live e) kept.now) }
+/// The answers for entries that a step with this phase letter keeps.
+fn answers(phase: Phase, free: bool, kept: &[Kept]) -> Facts
+    ensures { result ≡ facts_of phase free kept.now }
 {
     Facts {
-        some_nullable: some_nullable(table, kept),
-        first_nullable: first_nullable(table, kept),
+        some_nullable: some_nullable(kept),
+        first_nullable: first_nullable(kept),
         first_starts: first_starts(free, kept),
-        first_ends: first_ends(table, kept),
+        first_ends: first_ends(kept),
         first_holds: first_holds(phase, free, kept),
         some_held: some_held(kept),
         some_keeps: some_keeps(phase, free, kept),
@@ -49,7 +62,7 @@ pub fn answers(table: &[Knowledge], phase: Phase, free: bool, kept: &[Live]) -> 
 
 impl Facts {
     /// Whether the checks of the kept entries hold at this phase letter, with the kind of the next state.
-    pub fn agree(&self, phase: Phase, kind: Kind) -> bool
+    fn agree(&self, phase: Phase, kind: Kind) -> bool
         ensures { result ≡ facts_agree self.now phase kind }
     {
         let accepted = implied(self.some_nullable, is_match(phase))
@@ -84,22 +97,22 @@ fn is_find(phase: Phase) -> bool
     matches!(phase, Phase::Found | Phase::FoundE)
 }
 
-fn some_nullable(table: &[Knowledge], kept: &[Live]) -> bool
-    ensures { result ≡ list_any (λ e. (known_at table.now e.residual).nullable) kept.now }
+fn some_nullable(kept: &[Kept]) -> bool
+    ensures { result ≡ list_any (λ e. e.words.nullable) kept.now }
 {
-    kept.iter().any(|e| look_up(table, e.residual).nullable)
+    kept.iter().any(|e| e.words.nullable)
 }
 
-fn first_nullable(table: &[Knowledge], kept: &[Live]) -> bool
-    ensures { result ≡ first_passes (λ e. (known_at table.now e.residual).nullable) kept.now }
+fn first_nullable(kept: &[Kept]) -> bool
+    ensures { result ≡ first_passes (λ e. e.words.nullable) kept.now }
 {
     match kept {
-        [e, ..] => look_up(table, e.residual).nullable,
+        [e, ..] => e.words.nullable,
         [] => false,
     }
 }
 
-fn first_starts(free: bool, kept: &[Live]) -> bool
+fn first_starts(free: bool, kept: &[Kept]) -> bool
     ensures { result ≡ first_passes (λ e. is_ind e.tag || (is_due e.tag && free)) kept.now }
 {
     match kept {
@@ -108,16 +121,16 @@ fn first_starts(free: bool, kept: &[Live]) -> bool
     }
 }
 
-fn first_ends(table: &[Knowledge], kept: &[Live]) -> bool
-    ensures { result ≡ first_passes (λ e. not (known_at table.now e.residual).longer) kept.now }
+fn first_ends(kept: &[Kept]) -> bool
+    ensures { result ≡ first_passes (λ e. not e.words.longer) kept.now }
 {
     match kept {
-        [e, ..] => !look_up(table, e.residual).longer,
+        [e, ..] => !e.words.longer,
         [] => false,
     }
 }
 
-fn first_holds(phase: Phase, free: bool, kept: &[Live]) -> bool
+fn first_holds(phase: Phase, free: bool, kept: &[Kept]) -> bool
     ensures { result ≡ first_passes (λ e. is_inc (tag_after phase free e.tag)) kept.now }
 {
     match kept {
@@ -126,13 +139,13 @@ fn first_holds(phase: Phase, free: bool, kept: &[Live]) -> bool
     }
 }
 
-fn some_held(kept: &[Live]) -> bool
+fn some_held(kept: &[Kept]) -> bool
     ensures { result ≡ list_any (λ e. is_inc e.tag) kept.now }
 {
     kept.iter().any(|e| is_inc(e.tag))
 }
 
-fn some_keeps(phase: Phase, free: bool, kept: &[Live]) -> bool
+fn some_keeps(phase: Phase, free: bool, kept: &[Kept]) -> bool
     ensures { result ≡ list_any (λ e. is_ind (tag_after phase free e.tag)) kept.now }
 {
     kept.iter().any(|e| is_ind(tag_after(phase, free, e.tag)))

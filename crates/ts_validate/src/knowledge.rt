@@ -6,20 +6,20 @@ ghost use Rattle.ts_regex.specs.NormalForm.{same_shape};
 ghost use Rattle.ts_regex.specs.Shape.{shape_of};
 ghost use Rattle.ts_validate.specs.Numbers.{number_of, next_number, known_of, table_of, known_at, next_on};
 
+use crate::words::Words;
 use std::alloc::Global;
 use ts_base::{Letter, Memory};
-use ts_regex::{Regex, has_longer, has_word, nullable, residual};
+use ts_regex::{Regex, has_word, residual};
 
-/// A residual: the numbers of the residuals after each letter, the least number with its value, and what the
-/// checks ask of its words.
+/// A residual: the numbers of the residuals after each letter, the least number with its value, and which words it
+/// has.
 #[derive(Clone, Copy, Debug, PartialEq, Eq)]
 pub struct Knowledge {
     pub less: u32,
     pub equal: u32,
     pub greater: u32,
     pub own: u32,
-    pub nullable: bool,
-    pub longer: bool,
+    pub words: Words,
 }
 
 /// What stands past the last residual.
@@ -28,8 +28,10 @@ pub const UNKNOWN: Knowledge = Knowledge {
     equal: 0,
     greater: 0,
     own: 0,
-    nullable: false,
-    longer: false,
+    words: Words {
+        nullable: false,
+        longer: false,
+    },
 };
 
 impl Knowledge {
@@ -94,8 +96,7 @@ fn know(alloc: Global, residuals: &[Regex], r: &Regex) -> Result<Knowledge, Memo
         equal: next(alloc, residuals, r, Letter::Equal)?,
         greater: next(alloc, residuals, r, Letter::Greater)?,
         own: number(residuals, r),
-        nullable: nullable(r),
-        longer: has_longer(r),
+        words: Words::of(r),
     })
 }
 

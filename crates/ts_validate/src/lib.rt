@@ -25,7 +25,12 @@ mod stop;
 mod tags;
 mod trial;
 mod validated;
+mod words;
 
 pub use closure::validate;
+pub use facts::{Kept, kept_agree};
+pub use step::row;
 pub use stop::ValidateStop;
+pub use tags::{first_tag, none_kept, tag_after};
 pub use validated::Validated;
+pub use words::Words;

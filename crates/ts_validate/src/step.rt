@@ -1,6 +1,6 @@
 //! The step of a configuration by the numbers of its residuals.
 
-ghost use Rattle.std.specs.Prelude.{◌≡◌, ◌&&◌, not, slice_get, IfOk};
+ghost use Rattle.std.specs.Prelude.{◌≡◌, ◌&&◌, not, map, slice_get, IfOk};
 ghost use Rattle.std.specs.List.{list_all, list_any, position, zip};
 ghost use Rattle.ts_pattern.specs.Entries.{derive_entry, survivors, with_entry};
 ghost use Rattle.ts_pattern.specs.Closed.{same_tag, tag_after, retag_entries, with_start, same_live, same_configuration};
@@ -8,9 +8,9 @@ ghost use Rattle.ts_pattern.specs.Plans.{plain_live, plain_configuration};
 ghost use Rattle.ts_validate.specs.Looks.{look_of, row_or};
 ghost use Rattle.ts_validate.specs.Numbers.{numbers, numbered_subject, is_listed, configuration_after};
 ghost use Rattle.ts_validate.specs.Numbers.{next_place, number_meets};
-ghost use Rattle.ts_validate.specs.Numbers.{plain_lives, plain_configurations};
+ghost use Rattle.ts_validate.specs.Numbers.{plain_lives, plain_configurations, kept_at};
 
-use crate::facts::answers;
+use crate::facts::{Kept, kept_agree};
 use crate::knowledge::{Knowledge, look_up};
 use crate::tags::{first_tag, none_kept, same_tag, tag_after};
 use std::alloc::Global;
@@ -160,14 +160,28 @@ fn place(
         .position(|listed| is_same(table, arrow, free, kept, listed))
 }
 
-/// The row of a state.
-fn row(rows: &[Row], state: u8) -> Row
+/// The row of a state; past the last row one that rests.
+pub fn row(rows: &[Row], state: u8) -> Row
     ensures { result ≡ row_or (slice_get rows.now state) }
 {
     match rows.get(state as usize) {
         Some(row) => *row,
         None => Row::default(),
     }
+}
+
+/// The entries that are kept, as the checks see them.
+fn seen(alloc: Global, table: &[Knowledge], kept: &[Live]) -> Result<Vec<Kept>, Memory>
+    ensures { IfOk result (λ v. v.items ≡ map (λ e. kept_at table.now e) kept.now) }
+{
+    let mut seen = Vec::with_capacity(alloc, kept.len())?;
+    for entry in kept {
+        seen.push(Kept {
+            words: look_up(table, entry.residual).words,
+            tag: entry.tag,
+        })?;
+    }
+    Ok(seen)
 }
 
 /// What a step shows: the place at which it is listed first, if it is, and whether the six checks hold.
@@ -199,9 +213,9 @@ pub fn look_at(
     let kept = left(alloc, table, letter, b, live)?;
     let free = none_kept(live);
     let listed = all_listed(table, letter, live);
-    let facts = answers(table, arrow.phase, free, kept.as_slice());
     let kind = row(rows, arrow.next).kind;
-    let agree = facts.agree(arrow.phase, kind);
+    let seen = seen(alloc, table, kept.as_slice())?;
+    let agree = kept_agree(arrow.phase, kind, free, seen.as_slice());
     let next = place(table, arrow, free, kept.as_slice(), configurations);
     Ok(looked(listed, next, agree))
 }
