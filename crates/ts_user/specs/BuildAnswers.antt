@@ -30,7 +30,7 @@ pub record IsRefused (s : Subject Shape) (w : List Letter) : Type 0 where
   pub front : List Letter
   pub letter : Letter
   pub is : w ≡ front ++ letter ∷ []
-  pub signature : IsFirst s front
+  pub first : IsFirst s front
   pub fails : agrees s (reached s front) letter ≡ false
   pub before : PassBelow s (place w)
   pub listed : List (List Letter)
@@ -39,11 +39,11 @@ pub record IsRefused (s : Subject Shape) (w : List Letter) : Type 0 where
 
 -- some configuration is reached after 512 others, and no check fails until then
 pub record IsTooMany (s : Subject Shape) : Type 0 where
-  pub word : List Letter
-  pub signature : IsFirst s word
-  pub pass : PassBelow s (place word + 1)
+  pub signature : List Letter
+  pub first : IsFirst s signature
+  pub pass : PassBelow s (place signature + 1)
   pub listed : List (List Letter)
-  pub signatures : AreFirst s listed (place word)
+  pub signatures : AreFirst s listed (place signature)
   pub full : length listed ≡ most_configurations
 
 abbrev pub IsStop : Subject Shape → BuildStop → Type 0

@@ -12,10 +12,16 @@
 //! ```
 #![tactic(auto)]
 
+mod book;
 mod build_stop;
+pub mod laws;
+mod listing;
+mod plan;
+mod step;
 mod user_pattern;
 mod user_stop;
 
 pub use build_stop::BuildStop;
+pub use plan::build_plan;
 pub use user_pattern::UserPattern;
 pub use user_stop::{UserKind, UserStop};

@@ -1,0 +1,191 @@
+//! The configurations that are listed, each with the signature by which it was first reached.
+
+ghost use Rattle.std.specs.Prelude.{◌≡◌, ◌↔◌, ◌+◌, ◌<◌, ◌≤◌, ◌++◌, [], ◌∷◌, ℕ, Some, IfOk, IfErr, MatchOption, IsTrue, length, slice_get};
+ghost use Rattle.ts_regex.specs.Shape.{shape_of};
+ghost use Rattle.ts_pattern.specs.declared.plan.Configuration.{Configuration};
+ghost use Rattle.ts_user.specs.SignatureOrder.{place, signature_at};
+ghost use Rattle.ts_user.specs.BuildAnswers.{unplanned_of, IsStop};
+ghost use Rattle.ts_user.specs.Listings.{IsTaken, IsReady, IsListed, AreSame, IsNew, IsFull, signatures_of};
+
+use crate::book::Book;
+use crate::build_stop::BuildStop;
+use crate::step::make_step;
+use std::alloc::Global;
+use ts_base::{Letter, Memory};
+use ts_pattern::{Configuration, Pattern, Plan};
+use ts_transducer::Row;
+
+/// The most configurations of a plan that is built.
+const MOST: usize = 512;
+
+/// Configurations in the order in which they are first reached, their signatures, and the residuals that stand in
+/// them.
+#[derive(Drop)]
+pub struct Listing {
+    pub book: Book,
+    pub configurations: Vec<Configuration>,
+    pub signatures: Vec<Vec<Letter>>,
+}
+
+impl Listing {
+    /// The start state with no entry, by no signs.
+    pub fn new(alloc: Global, rows: &[Row], p: &Pattern) -> Result<Listing, Memory>
+        ensures listed { IfOk result (λ t. IsListed (unplanned_of rows.now p.now) (shape_of p.now.regex) t) }
+        ensures ready { IfOk result (λ t. IsReady (unplanned_of rows.now p.now) (signatures_of t) 0) }
+    {
+        let book = Book::new(alloc, p)?;
+        let blank = Configuration {
+            state: 0,
+            live: Vec::new(alloc),
+        };
+        let mut configurations = Vec::new(alloc);
+        configurations.push(blank)?;
+        let mut signatures = Vec::new(alloc);
+        signatures.push(Vec::new(alloc))?;
+        Ok(Listing {
+            book,
+            configurations,
+            signatures,
+        })
+    }
+
+    /// Looks at the step of configuration `from` on a letter, and lists what is new. `rows` and `p` are those that the
+    /// listing was begun with.
+    fn take(
+        &mut self,
+        alloc: Global,
+        rows: &[Row],
+        p: &Pattern,
+        from: usize,
+        letter: Letter,
+    ) -> Result<(), BuildStop>
+        requires listed { IsListed (unplanned_of rows.now p.now) (shape_of p.now.regex) self.old }
+        requires there { from < length self.old.configurations.items }
+        requires taken { IsTaken (unplanned_of rows.now p.now) (signatures_of self.old)
+            (place (signature_at (signatures_of self.old) from ++ letter ∷ [])) }
+        ensures listed { IfOk result (λ _. IsListed (unplanned_of rows.now p.now) (shape_of p.now.regex) self.new) }
+        ensures taken { IfOk result (λ _. IsTaken (unplanned_of rows.now p.now) (signatures_of self.new)
+            (place (signature_at (signatures_of self.old) from ++ letter ∷ []) + 1)) }
+        ensures same { IfOk result (λ _. signature_at (signatures_of self.new) from ≡ signature_at (signatures_of self.old) from) }
+        ensures longer { IfOk result (λ _.
+            length self.old.configurations.items ≤ length self.new.configurations.items) }
+        ensures stop { IfErr result (λ e. IsStop (unplanned_of rows.now p.now) e) }
+    {
+        let here = &self.configurations[from];
+        let seen = make_step(alloc, &mut self.book, rows, p, here, letter)?;
+        let signature = longer(alloc, &self.signatures[from], letter)?;
+        if !seen.agrees {
+            return Err(BuildStop::Refused { signature });
+        }
+        match position(&self.configurations, &seen.to) {
+            Some(_) => Ok(()),
+            None => match self.list(seen.to, signature) {
+                Ok(()) => Ok(()),
+                Err(stop) => Err(stop),
+            },
+        }
+    }
+
+    /// Lists a configuration, unless there are 512.
+    fn list(&mut self, to: Configuration, signature: Vec<Letter>) -> Result<(), BuildStop>
+        ensures book { self.new.book ≡ self.old.book }
+        ensures configurations { IfOk result (λ _.
+            self.new.configurations.items ≡ self.old.configurations.items ++ to ∷ []) }
+        ensures signatures { IfOk result (λ _.
+            self.new.signatures.items ≡ self.old.signatures.items ++ signature ∷ []) }
+        ensures few { IfOk result (λ _. length self.old.configurations.items < 512) }
+        ensures full { IfErr result (λ e. IsFull (length self.old.configurations.items) e) }
+    {
+        if self.configurations.len() >= MOST {
+            return Err(BuildStop::TooMany);
+        }
+        self.push(to, signature)?;
+        Ok(())
+    }
+
+    fn push(&mut self, to: Configuration, signature: Vec<Letter>) -> Result<(), Memory>
+        ensures book { self.new.book ≡ self.old.book }
+        ensures configurations { IfOk result (λ _.
+            self.new.configurations.items ≡ self.old.configurations.items ++ to ∷ []) }
+        ensures signatures { IfOk result (λ _.
+            self.new.signatures.items ≡ self.old.signatures.items ++ signature ∷ []) }
+    {
+        self.configurations.push(to)?;
+        self.signatures.push(signature)?;
+        Ok(())
+    }
+
+    /// Takes the steps of configuration `from` on all letters.
+    pub fn expand(
+        &mut self,
+        alloc: Global,
+        rows: &[Row],
+        p: &Pattern,
+        from: usize,
+    ) -> Result<(), BuildStop>
+        requires listed { IsListed (unplanned_of rows.now p.now) (shape_of p.now.regex) self.old }
+        requires there { from < length self.old.configurations.items }
+        requires ready { IsReady (unplanned_of rows.now p.now) (signatures_of self.old) from }
+        ensures listed { IfOk result (λ _. IsListed (unplanned_of rows.now p.now) (shape_of p.now.regex) self.new) }
+        ensures ready { IfOk result (λ _. IsReady (unplanned_of rows.now p.now) (signatures_of self.new) (from + 1)) }
+        ensures longer { IfOk result (λ _.
+            length self.old.configurations.items ≤ length self.new.configurations.items) }
+        ensures stop { IfErr result (λ e. IsStop (unplanned_of rows.now p.now) e) }
+    {
+        self.take(alloc, rows, p, from, Letter::Less)?;
+        self.take(alloc, rows, p, from, Letter::Equal)?;
+        self.take(alloc, rows, p, from, Letter::Greater)?;
+        Ok(())
+    }
+
+    /// The plan of what is listed.
+    pub fn into_plan(self) -> Plan
+        ensures residuals { result.residuals.items ≡ self.book.residuals.items }
+        ensures configurations { result.configurations.items ≡ self.configurations.items }
+    {
+        let Listing {
+            book,
+            configurations,
+            signatures: _,
+        } = self;
+        let Book {
+            residuals,
+            words: _,
+            nexts: _,
+        } = book;
+        Plan {
+            residuals,
+            configurations,
+        }
+    }
+}
+
+/// The signs with one more.
+fn longer(alloc: Global, signs: &[Letter], letter: Letter) -> Result<Vec<Letter>, Memory>
+    ensures { IfOk result (λ w. w.items ≡ signs.now ++ letter ∷ []) }
+{
+    let mut all = Vec::with_capacity(alloc, signs.len())?;
+    all.extend_from_slice(signs)?;
+    all.push(letter)?;
+    Ok(all)
+}
+
+/// Whether the two have the same state and the same entries.
+fn same(x: &Configuration, y: &Configuration) -> bool
+    ensures { IsTrue result ↔ AreSame x.now y.now }
+{
+    x.state == y.state && x.live.as_slice() == y.live.as_slice()
+}
+
+/// Where a configuration is listed.
+fn position(configurations: &[Configuration], to: &Configuration) -> Option<usize>
+    ensures { MatchOption result (IsNew configurations.now to.now)
+        (λ i. (x : Configuration) × (slice_get configurations.now i ≡ Some x) × AreSame x to.now) }
+{
+    for i in 0..configurations.len() {
+        if same(&configurations[i], to) {
+            return Some(i);
+        }
+    }
+    None
+}
