@@ -18,7 +18,7 @@ use Rattle.ts_automaton.proofs.Rules.{rules_of}
 use Rattle.ts_domain.proofs.Sets.{contains_cons}
 use Rattle.ts_domain.specs.BoxSeries.{IsBox}
 use Rattle.ts_glue.specs.declared.machine.Machine.{Machine}
-use Rattle.ts_glue.specs.declared.half.Half.{Half}
+use Rattle.ts_glue.specs.declared.machine.Half.{Half}
 use Rattle.ts_glue.specs.Pairs.{Pair, pair, table_view}
 use Rattle.ts_glue.specs.Machines.{forward_of, pair_of, reverse_of}
 use Rattle.ts_glue.specs.Glued.{glued_span}

@@ -9,7 +9,7 @@ use Rattle.ts_pattern.specs.PatternTable.{pattern_a}
 use Rattle.ts_automaton.specs.Body.{Body}
 use Rattle.ts_seed.specs.SeedTable.{seed_table}
 use Rattle.ts_decorate.specs.Decoration.{decorated_body}
-use Rattle.ts_glue.specs.declared.half.Half.{Half}
+use Rattle.ts_glue.specs.declared.machine.Half.{Half}
 use Rattle.ts_glue.specs.Pairs.{Table, table_view, Pair, pair}
 use Rattle.ts_glue.specs.Rules.{IsGluing}
 use Rattle.ts_compile.specs.TermPairs.{glue_table_by}

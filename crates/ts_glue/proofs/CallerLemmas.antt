@@ -9,7 +9,7 @@ use Rattle.ts_automaton.specs.Body.{Body}
 use Rattle.ts_automaton.specs.Typing.{is_automaton}
 use Rattle.ts_automaton.specs.AutomatonRun.{Standing, Stands, start_of, step_of, after_from, after, answer, AreCellValues}
 use Rattle.ts_automaton.proofs.RunLaws.{kinds_are_kept}
-use Rattle.ts_glue.specs.declared.half.Half.{Half}
+use Rattle.ts_glue.specs.declared.machine.Half.{Half}
 use Rattle.ts_glue.specs.Pairs.{table_view, Pair, pair}
 use Rattle.ts_glue.specs.Glued.{glued_value, left_at, right_at, cell_at, Glued, LocalUpTo}
 use Rattle.ts_glue.specs.Rules.{IsGluing}

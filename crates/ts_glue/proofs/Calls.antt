@@ -1,66 +1,144 @@
--- What the calls of a machine that can be split need: the shape is the expression, and each operator in it meets values that it takes.
-use Rattle.std.proofs.Common.{◌≡◌, ℕ, zero, suc, Bool, true, cond, ℤ, refl, sym, ◌∙◌, ap, subst}
-use Rattle.std.specs.Prelude.{IsTrue, IfSome, option_map, Some}
+-- What the calls of a machine that can be split need: the shapes are those of its pair, a shape with its operators and its worth is the expression
+-- of the pair, and each operator in it meets values that it takes.
+use Rattle.std.proofs.Common.{◌≡◌, ◌<◌, ◌⊎◌, ℕ, zero, suc, ◌+◌, Bool, true, false, cond, ℤ, List, length, set, get_or, refl, sym, ◌∙◌, ap, subst, ⊎_elim, inl, inr, arith}
+use Rattle.std.proofs.lemmas.List.{get_or-set_same, get_or-set_other}
+use Rattle.std.specs.Prelude.{IsTrue, IfSome, IsSome, ◌&&◌, Option, None, Some, option_map}
 use Rattle.ts_base.specs.declared.ext.Ext.{Ext}
 use Rattle.ts_base.specs.declared.span.Span.{Span}
 use Rattle.ts_base.specs.declared.op.Op.{Op}
+use Rattle.ts_base.specs.Spans.{none_span}
 use Rattle.ts_automaton.specs.Registers.{numbers, spans}
 use Rattle.ts_automaton.specs.Kinds.{Fits, SpansFit}
 use Rattle.ts_automaton.specs.Body.{Body, node_at}
 use Rattle.ts_automaton.specs.Typing.{is_automaton}
 use Rattle.ts_automaton.specs.AutomatonRun.{Standing, Stands}
-use Rattle.ts_automaton.specs.SpanRun.{has_registers, HullStands}
-use Rattle.ts_glue.specs.declared.half.Half.{Half}
+use Rattle.ts_automaton.specs.declared.state.Mark.{Mark}
+use Rattle.ts_automaton.specs.SpanRun.{has_registers, HullStands, marked_span}
+use Rattle.ts_glue.specs.declared.machine.Half.{Half}
 use Rattle.ts_glue.specs.declared.machine.Machine.{Machine}
+use Rattle.ts_glue.specs.declared.gluing.Gluing.{Gluing}
 use Rattle.ts_glue.specs.declared.shape.Shape.{Shape}
+use Rattle.ts_glue.specs.declared.shape.Shape.TheVariants.{Apart}
+use Rattle.ts_glue.specs.declared.shape.Shapes.{Shapes}
 use Rattle.ts_glue.specs.Pairs.{Pair, pair, table_view}
-use Rattle.ts_glue.specs.Machines.{forward_of, reverse_of}
-use Rattle.ts_glue.specs.Glue.{GlueTakes, first_op, fold_op, worth, is_join, apart, folded_between, fold_of, join_of, result_op, glue_of}
+use Rattle.ts_glue.specs.Machines.{forward_of, reverse_of, pair_of}
+use Rattle.ts_glue.specs.Glued.{glued_span}
+use Rattle.ts_glue.specs.Glue.{Glue, GlueTakes, glue_in, fold_op, worth, is_join, apart, fold_of, join_of, result_op, glue_of}
 use Rattle.ts_glue.specs.Rules.{keeps_rules}
-use Rattle.ts_glue.specs.Shapes.{shape_glue}
+use Rattle.ts_glue.specs.Shapes.{glue_by, expression, join_shape, shape_of, shape_at, AreShapes}
 use Rattle.ts_glue.proofs.Facts.{facts_of}
 use Rattle.ts_glue.proofs.Typed.{glue_fits, hulls_fit}
 
-between_where : (a : ℕ) (o : Op) (u v : Bool) (d : ℤ) → (a ≡ 0 → ⊥) → folded_between o u v d ≡ fold_of a o u v d
-between_where zero o u v d h = absurd (h refl)
-between_where (suc a) o u v d h = refl
+impossible : {B : Type 0} → false ≡ true → B
+impossible e = cc
 
-pub between_is : (p : Pair) (q r : ℕ) (x : ℤ) (o : Op) (u v : Bool) (d : ℤ) → is_join p.table q r ≡ true → (p.table.a ≡ 0 → ⊥) →
-    o ≡ fold_op p.table.op → u ≡ (node_at p.forward.states q).held → v ≡ (node_at p.reverse.states r).held → d ≡ worth p.table.unit x →
-    join_of (result_op p) (folded_between o u v d) ≡ glue_of p q r x
-between_is p q r x o u v d j a eo eu ev ed =
-    let g = result_op p in
-    let fold = fold_op p.table.op in
-    let left = (node_at p.forward.states q).held in
-    let right = (node_at p.reverse.states r).held in
-    let cell = worth p.table.unit x in
-    ap (λ z. join_of g (folded_between z u v d)) eo ∙ ap (λ z. join_of g (folded_between fold z v d)) eu ∙ ap (λ z. join_of g (folded_between fold left z d)) ev
-    ∙ ap (λ z. join_of g (folded_between fold left right z)) ed
-    ∙ ap (join_of g) (between_where p.table.a fold left right cell a)
-    ∙ sym (ap (λ t. cond t (join_of g (fold_of p.table.a fold left right cell)) (apart g)) j)
+below_or_same : (i k : ℕ) → i < k + 1 → (i < k) ⊎ (i ≡ k)
+below_or_same i k l = grind arith
 
--- b is the forward body as it was lent, g its first operator, s the shape of the two states
-module _ (m : Machine) (h : Half) (e : m.half ≡ Some h) (b : Body) (lent : b ≡ forward_of m) where
-  abbrev lent_pair : Pair
-  lent_pair = pair b h.reverse (table_view h.table)
+-- a list that is right up to a place is so up to the next one, when that is filled
+pub filled_more : {X : Type 0} (Is : ℕ → X → Type 0) (xs : List X) (k : ℕ) (x d : X) → k < length xs → ((i : ℕ) → i < k → Is i (get_or xs i d)) → Is k x →
+    (i : ℕ) → i < k + 1 → Is i (get_or (set xs k x) i d)
+filled_more Is xs k x d within before here i l =
+    ⊎_elim
+    (λ b. subst (Is i) (sym (get_or-set_other xs k i x d (λ e. absurd (omega (arith, b, e))))) (before i b))
+    (λ e. subst (λ j. Is j (get_or (set xs k x) j d)) (sym e) (subst (Is k) (sym (get_or-set_same xs k x d within)) here))
+    (below_or_same i k l)
 
-  rules : IsTrue (keeps_rules lent_pair)
-  rules = subst (λ z. IsTrue (keeps_rules (pair z h.reverse (table_view h.table)))) (sym lent) (m.rules h e)
+-- the shape where one occurrence goes on is its fold
+join_shape_is : (a : ℕ) (g o : Op) (u v : Bool) (d : ℤ) → glue_by g o d (join_shape a u v) ≡ join_of g (fold_of a o u v d)
+join_shape_is zero g o u v d = refl
+join_shape_is (suc a) g o u v d = refl
 
-  on_reverse : (P : Body → Type 0) → IfSome (reverse_of m) P → P h.reverse
-  on_reverse P k = subst (λ o. IfSome (option_map (λ p. p.reverse) (option_map (λ i. pair m.forward i.reverse (table_view i.table)) o)) P) e k
+module _ (p : Pair) (q r : ℕ) (x : ℤ) where
+  abbrev held_left : Bool
+  held_left = (node_at p.forward.states q).held
 
-  pub value_fits : IsTrue (is_automaton b) → IsTrue (is_automaton h.reverse) → (left right : Standing Ext) → Stands (forward_of m) left →
-      IfSome (reverse_of m) (λ r. Stands r right) → (x : ℤ) (g : Op) → g ≡ first_op b.finish → (s : Shape) →
-      shape_glue (first_op b.finish) s ≡ glue_of lent_pair left.state right.state x → GlueTakes Fits numbers left.regs right.regs (shape_glue g s)
-  value_fits a c left right l r x g eg s es =
-      glue_fits lent_pair (facts_of lent_pair rules) a c left right (subst (λ z. Stands z left) (sym lent) l) (on_reverse (λ z. Stands z right) r) x
-      (shape_glue g s) (ap (λ z. shape_glue z s) eg ∙ es)
+  abbrev held_right : Bool
+  held_right = (node_at p.reverse.states r).held
 
-  pub spans_fit : IsTrue (is_automaton b) → IsTrue (is_automaton h.reverse) → (left right : Standing Span) → HullStands (forward_of m) left →
-      IfSome (reverse_of m) (λ r. HullStands r right) → has_registers left.regs ≡ true → has_registers right.regs ≡ true → (x : ℤ) (g : Op) →
-      g ≡ first_op b.finish → (s : Shape) → shape_glue (first_op b.finish) s ≡ glue_of lent_pair left.state right.state x →
-      GlueTakes SpansFit spans left.regs right.regs (shape_glue g s)
-  spans_fit a c left right l r some_left some_right x g eg s es =
-      hulls_fit lent_pair (facts_of lent_pair rules) a c left right (subst (λ z. HullStands z left) (sym lent) l) (on_reverse (λ z. HullStands z right) r)
-      some_left some_right x (shape_glue g s) (ap (λ z. shape_glue z s) eg ∙ es)
+  -- the shape of a pair of states is its expression
+  pub shape_is : glue_by (result_op p) (fold_op p.table.op) (worth p.table.unit x) (shape_of p q r) ≡ glue_of p q r x
+  shape_is = go (is_join p.table q r)
+    where
+      go : (b : Bool) →
+          glue_by (result_op p) (fold_op p.table.op) (worth p.table.unit x) (cond b (join_shape p.table.a held_left held_right) Apart)
+          ≡ cond b (join_of (result_op p) (fold_of p.table.a (fold_op p.table.op) held_left held_right (worth p.table.unit x))) (apart (result_op p))
+      go true = join_shape_is p.table.a (result_op p) (fold_op p.table.op) held_left held_right (worth p.table.unit x)
+      go false = refl
+
+-- what a table of shapes tells of a pair of states
+pub gluing_is : (t : Shapes) (g : Gluing) (left right : ℕ) (x : ℤ) → g.result ≡ t.result → g.fold ≡ t.fold → g.worth ≡ worth t.unit x →
+    g.shape ≡ shape_at t left right → (p : Pair) → AreShapes p t → left < length p.forward.states → right < length p.reverse.states →
+    expression g ≡ glue_of p left right x
+gluing_is t g left right x er ef ew es p h l r =
+    ap (λ z. glue_by z g.fold g.worth g.shape) (er ∙ h.0)
+    ∙ ap (λ z. glue_by (result_op p) z g.worth g.shape) (ef ∙ h.1)
+    ∙ ap (λ z. glue_by (result_op p) (fold_op p.table.op) z g.shape) (ew ∙ ap (λ u. worth u x) h.2)
+    ∙ ap (glue_by (result_op p) (fold_op p.table.op) (worth p.table.unit x)) (es ∙ h.3 left l right r)
+    ∙ shape_is p left right x
+
+-- the expression is that of the machine's pair in the states where the two runs stand
+module _ (m : Machine) (split : IsSome (pair_of m)) (forward : IsTrue (is_automaton (forward_of m)))
+    (reverse : IfSome (reverse_of m) (λ b. IsTrue (is_automaton b))) (u : Glue) where
+  abbrev with_half : Half → Pair
+  with_half h = pair m.forward h.reverse (table_view h.table)
+
+  module _ (h : Half) (e : m.half ≡ Some h) where
+    of_pair : (P : Pair → Type 0) → IfSome (pair_of m) P → P (with_half h)
+    of_pair P k = subst (λ o. IfSome (option_map with_half o) P) e k
+
+    of_reverse : (P : Body → Type 0) → IfSome (reverse_of m) P → P h.reverse
+    of_reverse P k = subst (λ o. IfSome (option_map (λ (p : Pair). p.reverse) (option_map with_half o)) P) e k
+
+  pub value_fits : (left right : Standing Ext) → Stands (forward_of m) left → IfSome (reverse_of m) (λ b. Stands b right) → (x : ℤ) →
+      IfSome (pair_of m) (λ p. u ≡ glue_of p left.state right.state x) → GlueTakes Fits numbers left.regs right.regs u
+  value_fits left right l r x e = go m.half refl
+    where
+      go : (o : Option Half) → m.half ≡ o → GlueTakes Fits numbers left.regs right.regs u
+      go None f = impossible (subst (λ o. IsSome (option_map with_half o)) f split)
+      go (Some h) f =
+          glue_fits (with_half h) (facts_of (with_half h) (m.rules h f)) forward (of_reverse h f (λ b. IsTrue (is_automaton b)) reverse) left right l
+          (of_reverse h f (λ b. Stands b right) r) x u (of_pair h f (λ p. u ≡ glue_of p left.state right.state x) e)
+
+  pub spans_fit : (left right : Standing Span) → HullStands (forward_of m) left → IfSome (reverse_of m) (λ b. HullStands b right) →
+      has_registers left.regs ≡ true → has_registers right.regs ≡ true → (x : ℤ) →
+      IfSome (pair_of m) (λ p. u ≡ glue_of p left.state right.state x) → GlueTakes SpansFit spans left.regs right.regs u
+  spans_fit left right l r some_left some_right x e = go m.half refl
+    where
+      go : (o : Option Half) → m.half ≡ o → GlueTakes SpansFit spans left.regs right.regs u
+      go None f = impossible (subst (λ o. IsSome (option_map with_half o)) f split)
+      go (Some h) f =
+          hulls_fit (with_half h) (facts_of (with_half h) (m.rules h f)) forward (of_reverse h f (λ b. IsTrue (is_automaton b)) reverse) left right l
+          (of_reverse h f (λ b. HullStands b right) r) some_left some_right x u (of_pair h f (λ p. u ≡ glue_of p left.state right.state x) e)
+
+-- the gluing that a machine's shapes tell is that of its pair
+pub gluing_of_pair : (m : Machine) (h : Half) → m.half ≡ Some h → (u : Glue) (left right : ℕ) (x : ℤ) →
+    ((p : Pair) → AreShapes p h.shapes → left < length p.forward.states → right < length p.reverse.states → u ≡ glue_of p left right x) →
+    left < length (forward_of m).states → IfSome (reverse_of m) (λ b. right < length b.states) → IfSome (pair_of m) (λ p. u ≡ glue_of p left right x)
+gluing_of_pair m h e u left right x tells l r =
+    subst (λ o. IfSome (option_map (λ (i : Half). pair m.forward i.reverse (table_view i.table)) o) (λ p. u ≡ glue_of p left right x)) (sym e)
+    (tells (pair m.forward h.reverse (table_view h.table)) (m.shapes h e) l
+    (subst
+    (λ o. IfSome (option_map (λ (p : Pair). p.reverse) (option_map (λ (i : Half). pair m.forward i.reverse (table_view i.table)) o))
+    (λ b. right < length b.states)) e r))
+
+-- the forward automaton of its pair is the machine's
+pub forward_in_pair : (m : Machine) → IfSome (pair_of m) (λ p. p.forward ≡ forward_of m)
+forward_in_pair m = go m.half
+  where
+    go : (o : Option Half) → IfSome (option_map (λ (i : Half). pair m.forward i.reverse (table_view i.table)) o) (λ p. p.forward ≡ m.forward)
+    go None = tt
+    go (Some h) = refl
+
+-- two hulls that aren't none, glued by that and marked
+pub spans_told : (o : Option Pair) (b : Body) (u : Glue) (left right : Standing Span) (x : ℤ) (n : ℕ) (k : Mark) (s t : Span) →
+    IfSome o (λ p. p.forward ≡ b) → IfSome o (λ p. u ≡ glue_of p left.state right.state x) →
+    has_registers left.regs ≡ true → has_registers right.regs ≡ true → k ≡ b.mark → s ≡ glue_in spans left.regs right.regs u → t ≡ marked_span k n s →
+    IfSome o (λ p. t ≡ glued_span p left right x n)
+spans_told None b u left right x n k s t eb eu l r ek es et = tt
+spans_told (Some p) b u left right x n k s t eb eu l r ek es et =
+    let both : has_registers left.regs && has_registers right.regs ≡ true = ap (λ z. z && has_registers right.regs) l ∙ r in
+    et ∙ ap (λ z. marked_span z n s) (ek ∙ ap (λ z. z.mark) (sym eb))
+    ∙ ap (marked_span p.forward.mark n)
+    (es ∙ ap (glue_in spans left.regs right.regs) eu
+    ∙ sym (ap (λ z. cond z (glue_in spans left.regs right.regs (glue_of p left.state right.state x)) none_span) both))

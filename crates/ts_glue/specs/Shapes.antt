@@ -1,17 +1,47 @@
--- What contracts see of the shape of a glued value: the expression.
-use Rattle.ts_base.specs.Limits.{IsCellValue}
+-- How the two runs of a machine are glued, pair of states by pair of states: the expression at a cell follows from the
+-- shape of the pair and from what the cell is worth.
+use Rattle.std.specs.Prelude.{◌≡◌, ◌<◌, ℕ, ℤ, zero, suc, Bool, if◌then◌else◌, List, [], get_or, length}
 use Rattle.ts_base.specs.declared.op.Op.{Op}
+use Rattle.ts_automaton.specs.Body.{node_at}
+use Rattle.ts_glue.specs.declared.gluing.Gluing.{Gluing}
 use Rattle.ts_glue.specs.declared.shape.Shape.{Shape}
 use Rattle.ts_glue.specs.declared.shape.Shape.TheVariants.{Apart, Between, Both}
-use Rattle.ts_glue.specs.Glue.{Glue, apart, join_of, folded_between, folded_both}
+use Rattle.ts_glue.specs.declared.shape.Shapes.{Shapes}
+use Rattle.ts_glue.specs.Glue.{Glue, apart, join_of, folded_between, folded_both, fold_op, is_join, result_op}
+use Rattle.ts_glue.specs.Pairs.{Pair}
 
-abbrev pub shape_glue : Op → Shape → Glue
-shape_glue g Apart = apart g
-shape_glue g (Between o held_left held_right d) = join_of g (folded_between o held_left held_right d)
-shape_glue g (Both o d) = join_of g (folded_both o d)
+-- the expression of a shape, where g joins results, o folds, and the cell is worth d
+abbrev pub glue_by : Op → Op → ℤ → Shape → Glue
+glue_by g o d Apart = apart g
+glue_by g o d (Between held_left held_right) = join_of g (folded_between o held_left held_right d)
+glue_by g o d Both = join_of g (folded_both o d)
 
--- its cell is worth no more than a cell's value may be
-abbrev pub IsWorth : Shape → Type 0
-IsWorth Apart = Unit {0}
-IsWorth (Between o held_left held_right d) = IsCellValue d
-IsWorth (Both o d) = IsCellValue d
+abbrev pub expression : Gluing → Glue
+expression g = glue_by g.result g.fold g.worth g.shape
+
+-- the shape where one occurrence goes on: by what it leaves out at its end, and whether C is held on each side
+abbrev pub join_shape : ℕ → Bool → Bool → Shape
+join_shape zero held_left held_right = Both
+join_shape (suc a) held_left held_right = Between held_left held_right
+
+-- the shape of a forward and a reverse state
+abbrev pub shape_of : Pair → ℕ → ℕ → Shape
+shape_of p q r =
+    if is_join p.table q r
+    then join_shape p.table.a (node_at p.forward.states q).held (node_at p.reverse.states r).held
+    else Apart
+
+abbrev pub shape_at : Shapes → ℕ → ℕ → Shape
+shape_at t q r = get_or (get_or t.rows q []) r Apart
+
+-- the row has the shapes of the forward state q
+abbrev pub AreShapesOf : Pair → ℕ → List Shape → Type 0
+AreShapesOf p q row = (r : ℕ) → r < length p.reverse.states → get_or row r Apart ≡ shape_of p q r
+
+-- they are the shapes of the pair, with its operators and its unit
+abbrev pub AreShapes : Pair → Shapes → Type 0
+AreShapes p t =
+    (t.result ≡ result_op p)
+    × (t.fold ≡ fold_op p.table.op)
+    × (t.unit ≡ p.table.unit)
+    × ((q : ℕ) → q < length p.forward.states → AreShapesOf p q (get_or t.rows q []))

@@ -12,16 +12,15 @@
 #![tactic(auto)]
 
 mod glue;
-mod half;
+mod gluing;
 pub mod laws;
 mod machine;
+mod operand;
 mod shape;
-mod span_glue;
 mod table;
 #[cfg(test)]
 mod tests;
 
-pub use glue::glue_value;
+pub use glue::{glue_span, glue_value};
 pub use machine::Machine;
-pub use span_glue::glue_span;
 pub use table::{CellUnit, FoldOp, GlueTable};

@@ -1,14 +1,27 @@
 //! What stands for a term: automata that answer its value.
 
-ghost use Rattle.std.specs.Prelude.{◌≡◌, IsTrue, None, Some, option_map};
+ghost use Rattle.std.specs.Prelude.{◌≡◌, ◌<◌, IfSome, IsSome, IsTrue, None, Some, length, option_map};
+ghost use Rattle.ts_automaton.specs.Typing.{is_automaton};
+ghost use Rattle.ts_base.specs.Limits.{IsCellValue};
+ghost use Rattle.ts_glue.specs.Glue.{glue_of};
 ghost use Rattle.ts_glue.specs.Glued.{Local};
-ghost use Rattle.ts_glue.specs.declared.half.Half.{Half};
 ghost use Rattle.ts_glue.specs.Pairs.{pair, table_view};
 ghost use Rattle.ts_glue.specs.Rules.{keeps_rules};
+ghost use Rattle.ts_glue.specs.Shapes.{AreShapes, expression};
+ghost use Rattle.ts_glue.specs.declared.machine.Half.{Half};
 
-use crate::half::Half;
+use crate::gluing::Gluing;
+use crate::shape::Shapes;
 use crate::table::GlueTable;
 use ts_automaton::Automaton;
+
+/// A reverse automaton, and how its values are glued to those of the forward one.
+#[derive(Drop)]
+pub(crate) struct Half {
+    pub(crate) reverse: Automaton,
+    pub(crate) table: GlueTable,
+    pub(crate) shapes: Shapes,
+}
 
 /// A forward automaton, and either nothing or a reverse automaton with a glue table: then it can be split at each cell,
 /// and at every cell of every series of 1 to 512 cells from -1,000,000 to 1,000,000 the glued value of the two runs is
@@ -20,6 +33,8 @@ pub struct Machine {
     pub ghost rules: { (h : Half) → half ≡ Some h →
         IsTrue (keeps_rules (pair forward h.reverse (table_view h.table))) },
     pub ghost local: { (h : Half) → half ≡ Some h → Local (pair forward h.reverse (table_view h.table)) },
+    pub ghost shapes: { (h : Half) → half ≡ Some h →
+        AreShapes (pair forward h.reverse (table_view h.table)) h.shapes },
 }
 
 impl Machine {
@@ -45,17 +60,37 @@ impl Machine {
         requires local { Local (pair forward reverse (table_view table)) }
         ensures { pair_of result ≡ Some (pair forward reverse (table_view table)) }
     {
+        let shapes = Shapes::of(&forward, &reverse, &table);
         Machine {
             forward,
-            half: Some(Half { reverse, table }),
+            half: Some(Half {
+                reverse,
+                table,
+                shapes,
+            }),
         }
     }
 
-    /// What it has beside its forward automaton.
-    pub(crate) fn half(&self) -> Option<&Half>
-        ensures { option_map (λ h. h.now) result ≡ self.now.half }
+    /// How the runs are glued at a cell where the forward one stands in the state `left`, the reverse one in `right`.
+    pub(crate) fn gluing(&self, left: u8, right: u8, cell: i64) -> Gluing
+        requires split { IsSome (pair_of self.now) }
+        requires left { left < length (forward_of self.now).states }
+        requires right { IfSome (reverse_of self.now) (λ b. right < length b.states) }
+        requires cell { IsCellValue cell }
+        ensures value { IfSome (pair_of self.now) (λ p. expression result ≡ glue_of p left right cell) }
+        ensures worth { IsCellValue result.worth }
+        ensures forward_rules { IsTrue (is_automaton (forward_of self.now)) }
+        ensures reverse_rules { IfSome (reverse_of self.now) (λ b. IsTrue (is_automaton b)) }
     {
-        self.half.as_ref()
+        // both have few states
+        self.forward.states();
+        match &self.half {
+            Some(half) => {
+                half.reverse.states();
+                half.shapes.gluing(left, right, cell)
+            }
+            None => unreachable!(),
+        }
     }
 
     /// Its forward automaton.

@@ -1,31 +1,115 @@
-//! The shape of a glued value: whether one occurrence goes on through the cell, and how its parts are folded.
+//! The shapes of glued values: whether one occurrence goes on through a cell, and how its parts are folded. They depend
+//! on the states alone in which the two runs stand, so a machine finds them once.
 
-ghost use Rattle.std.specs.Prelude.{◌≡◌, neg_ℤ};
+ghost use Rattle.std.specs.Prelude.{◌≡◌, ◌<◌, ◌≤◌, [], get_or, length};
 ghost use Rattle.ts_automaton.specs.Formula.{formula};
 ghost use Rattle.ts_base.specs.Limits.{IsCellValue};
-ghost use Rattle.ts_glue.specs.Glue.{first_op, fold_op, is_join, worth};
-ghost use Rattle.ts_glue.specs.Pairs.{table_view};
+ghost use Rattle.ts_glue.specs.Glue.{first_op, fold_op, glue_of, is_join, worth};
+ghost use Rattle.ts_glue.specs.Pairs.{Pair, pair, table_view};
+ghost use Rattle.ts_glue.specs.Shapes.{AreShapes, AreShapesOf, expression, shape_at, shape_of};
+ghost use Rattle.ts_glue.specs.declared.shape.Shape.TheVariants.{Apart as NoJoin};
 
+use crate::gluing::Gluing;
 use crate::table::{CellUnit, FoldOp, GlueTable};
-use ts_automaton::{Expr, Op};
+use ts_automaton::{Automaton, Expr, Op};
+
+/// The most states that an automaton has.
+const STATES: usize = 8;
 
 /// How the values of two runs are glued at a cell, by the states in which they stand.
 #[derive(Clone, Copy, Debug, PartialEq, Eq)]
-pub(crate) enum Shape {
+pub enum Shape {
     /// No occurrence has a sign before the cell and one after it.
     Apart,
     /// One occurrence goes on, and neither side has folded the cell: it stands between what the two have open.
-    Between {
-        fold: Op,
-        held_left: bool,
-        held_right: bool,
-        worth: i64,
-    },
+    Between { held_left: bool, held_right: bool },
     /// One occurrence goes on, and both sides have folded the cell.
-    Both {
-        fold: Op,
-        worth: i64,
-    },
+    Both,
+}
+
+/// How the two runs of a machine are glued: the operator that joins results, the one that folds the cells of an
+/// occurrence, what a cell is worth in it, and the shape of each pair of states.
+#[derive(Drop)]
+pub struct Shapes {
+    pub result: Op,
+    pub fold: Op,
+    pub unit: CellUnit,
+    pub(crate) rows: [[Shape; STATES]; STATES],
+}
+
+impl Shapes {
+    /// Those of two automata and a glue table.
+    pub(crate) fn of(forward: &Automaton, reverse: &Automaton, table: &GlueTable) -> Shapes
+        ensures { AreShapes (pair forward.now reverse.now (table_view table.now)) result }
+    {
+        let mut rows = [[Shape::Apart; STATES]; STATES];
+        for q in 0..forward.states() {
+            rows[q as usize] = row_of(forward, reverse, table, q);
+        }
+        Shapes {
+            result: first_op(forward.finish_expr()),
+            fold: table.op.op(),
+            unit: table.unit,
+            rows,
+        }
+    }
+
+    /// How values are glued at a cell where the forward run stands in the state `left`, the reverse one in `right`.
+    pub(crate) fn gluing(&self, left: u8, right: u8, cell: i64) -> Gluing
+        requires left { left < 8 }
+        requires right { right < 8 }
+        requires cell { IsCellValue cell }
+        ensures value { (p : Pair) → AreShapes p self.now → left < length p.forward.states →
+            right < length p.reverse.states → expression result ≡ glue_of p left right cell }
+        ensures worth { IsCellValue result.worth }
+    {
+        Gluing {
+            result: self.result,
+            fold: self.fold,
+            worth: self.unit.worth(cell),
+            shape: self.at(left, right),
+        }
+    }
+
+    /// The shape where the forward run stands in the state `left`, the reverse run in the state `right`.
+    pub fn at(&self, left: u8, right: u8) -> Shape
+        requires left { left < 8 }
+        requires right { right < 8 }
+        ensures { result ≡ shape_at self.now left right }
+    {
+        self.rows[left as usize][right as usize]
+    }
+}
+
+/// The shapes of the forward state `q` beside each reverse one.
+fn row_of(forward: &Automaton, reverse: &Automaton, table: &GlueTable, q: u8) -> [Shape; STATES]
+    requires { q < length forward.now.states }
+    ensures length { length result ≡ 8 }
+    ensures shapes { AreShapesOf (pair forward.now reverse.now (table_view table.now)) q result }
+{
+    let mut row = [Shape::Apart; STATES];
+    for r in 0..reverse.states() {
+        row[r as usize] = shape_of(forward, reverse, table, q, r);
+    }
+    row
+}
+
+/// The shape of a pair of states.
+fn shape_of(forward: &Automaton, reverse: &Automaton, table: &GlueTable, q: u8, r: u8) -> Shape
+    requires forward { q < length forward.now.states }
+    requires reverse { r < length reverse.now.states }
+    ensures { result ≡ shape_of (pair forward.now reverse.now (table_view table.now)) q r }
+{
+    if !table.is_join(q, r) {
+        return Shape::Apart;
+    }
+    if table.a == 0 {
+        return Shape::Both;
+    }
+    Shape::Between {
+        held_left: forward.state(q).held,
+        held_right: reverse.state(r).held,
+    }
 }
 
 impl GlueTable {
@@ -54,7 +138,7 @@ impl FoldOp {
 
 impl CellUnit {
     /// What a cell of this value is worth.
-    pub(crate) fn worth(self, cell: i64) -> i64
+    pub fn worth(self, cell: i64) -> i64
         ensures { result ≡ worth self cell }
     {
         match self {
@@ -65,7 +149,7 @@ impl CellUnit {
 }
 
 /// The operator with which a finish expression begins.
-pub(crate) fn first_op(finish: &Expr) -> Op
+fn first_op(finish: &Expr) -> Op
     ensures { result ≡ first_op (formula finish.now) }
 {
     match finish {
@@ -73,12 +157,4 @@ pub(crate) fn first_op(finish: &Expr) -> Op
         Expr::Min(_, _) => Op::Min,
         _ => Op::Add,
     }
-}
-
-/// What takes the worth of a cell away again where it is added.
-pub(crate) fn opposite(worth: i64) -> i64
-    requires { IsCellValue worth }
-    ensures { result ≡ neg_ℤ worth }
-{
-    -worth
 }

@@ -31,7 +31,7 @@ fn right(state: u8) -> Standing {
 
 fn value_at(pair: &Pair, place: usize) -> Option<Ext> {
     let (q, r) = *pairs().get(place)?;
-    glued(&pair.forward, &pair.half, left(q), right(r), 9)
+    glued(pair, left(q), right(r), 9)
 }
 
 /// Whether the glued value in each pair of states is that of the row.
@@ -77,7 +77,7 @@ fn upper_right(state: u8) -> Standing {
 fn span_at(pair: &Pair, place: usize) -> Option<Span> {
     let (q, r) = *pairs().get(place)?;
     let (left, right) = ((left(q), upper_left(q)), (right(r), upper_right(r)));
-    glued_span(&pair.forward, &pair.half, left, right, 9)
+    glued_span(pair, left, right, 9)
 }
 
 fn told_span(lo: i64, hi: i64) -> Option<Span> {
@@ -126,7 +126,7 @@ fn backward() -> &'static [i64] {
 fn stands_in_the_peak(pair: &Pair) -> bool {
     let (left, right) = (
         run(&pair.forward, series(), 4),
-        run(&pair.half.reverse, backward(), 4),
+        run(&pair.reverse, backward(), 4),
     );
     let (c, d) = ((2, 2, 0), (1, 0, 1));
     left == standing(c) && right == standing(d)
@@ -141,8 +141,8 @@ fn width_at(pair: &Pair, cell: usize) -> Option<Ext>
     requires { cell ≤ 8 }
 {
     let left = run(&pair.forward, series(), cell)?;
-    let right = run(&pair.half.reverse, backward(), 8 - cell)?;
-    glued(&pair.forward, &pair.half, left, right, 0)
+    let right = run(&pair.reverse, backward(), 8 - cell)?;
+    glued(pair, left, right, 0)
 }
 
 fn is_glued_at_each_cell(pair: &Pair) -> bool {

@@ -6,8 +6,8 @@ ghost use Rattle.ts_automaton.specs.Kinds.{HasKind, SpanHasKind};
 ghost use Rattle.ts_automaton.specs.Registers.{Each, each, regs_of, spans_of};
 ghost use Rattle.ts_automaton.specs.declared.kind.RegKind.TheVariants.{Int as Whole};
 
-use crate::half::Half;
-use crate::shape::first_op;
+use crate::operand::Side;
+use crate::shape::Shapes;
 use crate::{CellUnit, FoldOp, GlueTable};
 use std::alloc::Global;
 use ts_automaton::{At, Automaton, Hull, Regs, read};
@@ -56,7 +56,8 @@ fn table(alloc: Global, a: u8, op: FoldOp, unit: CellUnit) -> Result<GlueTable, 
 #[derive(Drop)]
 pub(crate) struct Pair {
     pub(crate) forward: Automaton,
-    pub(crate) half: Half,
+    pub(crate) reverse: Automaton,
+    pub(crate) shapes: Shapes,
 }
 
 pub(crate) fn pair_of(
@@ -69,9 +70,11 @@ pub(crate) fn pair_of(
     let table = table(alloc, a, op, unit).ok()?;
     let reverse = automaton(alloc, finish)?;
     let forward = automaton(alloc, finish)?;
+    let shapes = Shapes::of(&forward, &reverse, &table);
     Some(Pair {
         forward,
-        half: Half { reverse, table },
+        reverse,
+        shapes,
     })
 }
 
@@ -138,41 +141,32 @@ fn span(lo: i64, hi: i64) -> Option<Span>
 
 /// The glued value before the mark.
 #[tactic(auto, using(crate::proofs::Whole::numbers_meet))]
-pub(crate) fn glued(
-    forward: &Automaton,
-    half: &Half,
-    left: Standing,
-    right: Standing,
-    cell: i64,
-) -> Option<Ext> {
-    if !(left.state < forward.states() && right.state < half.reverse.states()) {
+pub(crate) fn glued(pair: &Pair, left: Standing, right: Standing, cell: i64) -> Option<Ext> {
+    if 8 <= left.state || 8 <= right.state {
         return None;
     }
     if cell < -1_000_000 || 1_000_000 < cell {
         return None;
     }
-    let shape = half.shape(forward, left.state, right.state, cell);
-    let result_op = first_op(forward.finish_expr());
-    Some(shape.value(result_op, &regs(left), &regs(right)))
+    let gluing = pair.shapes.gluing(left.state, right.state, cell);
+    Some(gluing.glued(Side::of_run(regs(left)), Side::of_run(regs(right))))
 }
 
 /// The glued span before the mark; each side has its lower and its upper ends.
 #[tactic(auto, using(crate::proofs::Whole::spans_meet))]
 pub(crate) fn glued_span(
-    forward: &Automaton,
-    half: &Half,
+    pair: &Pair,
     left: (Standing, Standing),
     right: (Standing, Standing),
     cell: i64,
 ) -> Option<Span> {
-    if !(left.0.state < forward.states() && right.0.state < half.reverse.states()) {
+    if 8 <= left.0.state || 8 <= right.0.state {
         return None;
     }
     if cell < -1_000_000 || 1_000_000 < cell {
         return None;
     }
-    let shape = half.shape(forward, left.0.state, right.0.state, cell);
-    let result_op = first_op(forward.finish_expr());
+    let gluing = pair.shapes.gluing(left.0.state, right.0.state, cell);
     let (left, right) = (hull(left.0, left.1)?, hull(right.0, right.1)?);
-    Some(shape.span(result_op, &left, &right))
+    Some(gluing.glued(Side::of_hull(left), Side::of_hull(right)))
 }
