@@ -24,7 +24,7 @@ impl OpenedModel {
         requires { (text : List ℕ) × HasLines text reader }
         ensures { IfOk result (λ o. (text : List ℕ) → HasLines text reader → IsOpened text o) }
     {
-        match reader_of(alloc, reader)?.end() {
+        match reader_of(alloc, reader)?.finish() {
             Ok(model) => Ok(OpenedModel::Judging(Judging::new(alloc, model)?)),
             Err(ModelStop::Refused { line, kind }) => Ok(OpenedModel::Refused { line, kind }),
             Err(ModelStop::Memory) => Err(Memory),

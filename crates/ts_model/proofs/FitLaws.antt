@@ -19,7 +19,7 @@ use Rattle.ts_model.specs.declared.error.ModelKind.{ModelKind}
 use Rattle.ts_model.specs.declared.error.ModelKind.TheVariants.{NoCells, NoObjective}
 use Rattle.ts_model.specs.Statement.{Meaning, SaysCells, SaysDomain, SaysCell, SaysTerm, SaysRequire, SaysObjective, meaning_in}
 use Rattle.ts_model.specs.ModelParts.{ModelParts, nothing, with_meaning, count_of, is_between, is_outside, is_bound, has_cells, over_total, term_at, total_of, union_of, digits, unused_parts, first_kind, kinds, unless_kind}
-use Rattle.ts_model.specs.ModelReading.{needs_lists, needs_objective, texts_of, taken_as, onward, read_rows, end_reading, ended_text, reading}
+use Rattle.ts_model.specs.ModelReading.{needs_lists, needs_objective, texts_of, taken_as, onward, read_rows, then_on, unless_bad, ended_model, reading}
 use Rattle.ts_model.specs.Promise.{IsWhole, KeepsLimits}
 use Rattle.ts_model.proofs.SaidRanges.{HasRanges, said_ranges}
 use Rattle.ts_model.proofs.UnionLaws.{union_is_domain, digits_are_domain}
@@ -212,14 +212,13 @@ ended_ok need c n m false aim rows has obj h = cc
 ended_ok need c n m true true rows has obj h = cc
 ended_ok need c n m true false rows has obj h = let same : n ≡ m = cc in subst (IsEnded need c) same (record { rows = rows; some = has; objective = obj })
 
-text_ok : (need : Need) (c : Cut) (n m : ModelParts) (bad : Option ℕ) → read_rows (needs_lists need) nothing c.rows ≡ Ok n → ended_text need c n bad ≡ Ok m →
-    IsEnded need c m
+text_ok : (need : Need) (c : Cut) (n m : ModelParts) (bad : Option ℕ) → read_rows (needs_lists need) nothing c.rows ≡ Ok n →
+    then_on (unless_bad bad n) (ended_model need c.count) ≡ Ok m → IsEnded need c m
 text_ok need c n m (Some line) rows h = cc
 text_ok need c n m None rows h = ended_ok need c n m (has_cells n) (needs_objective need && is_none n.objective) rows refl refl h
 
 rows_ok : (need : Need) (c : Cut) (m : ModelParts) (r : Result ModelParts (ℕ × ModelKind)) → read_rows (needs_lists need) nothing c.rows ≡ r →
-    end_reading need c r ≡ Ok m →
-    IsEnded need c m
+    then_on (then_on r (unless_bad c.not_text)) (ended_model need c.count) ≡ Ok m → IsEnded need c m
 rows_ok need c m (Err e) rows h = cc
 rows_ok need c m (Ok n) rows h = text_ok need c n m c.not_text rows h
 

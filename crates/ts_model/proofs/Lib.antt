@@ -9,11 +9,11 @@ mod Takes
 mod LineLaws
 mod ReadingLaws
 mod OnlyLaws
-mod Told
 mod LongWords
 mod LineByLaws
 mod ReaderLaws
 mod ValueLaws
 mod SaidRanges
 mod FitLaws
+mod Told
 pub mod MeetsLaw

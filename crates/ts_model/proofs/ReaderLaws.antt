@@ -1,69 +1,81 @@
 -- A reader of a model takes a line, and comes to the end.
-use Rattle.std.proofs.Common.{◌≡◌, ◌≢◌, ℕ, ◌+◌, Bool, true, false, cond, Ok, Err, List, [], sym, ap, subst, ◌∙◌, append-nil}
-use Rattle.std.specs.Prelude.{Result, IfOk}
+use Rattle.std.proofs.Common.{◌≡◌, ◌≢◌, ℕ, ◌+◌, ◌<◌, Bool, true, false, cond, Some, None, Ok, Err, List, [], ◌∷◌, length, refl, sym, ap, subst, ◌∙◌, arith}
+use Rattle.std.specs.Prelude.{Result, IfOk, OnOk}
 use Rattle.ts_token.specs.declared.words.Word.{Word}
 use Rattle.ts_token.specs.Gist.{without_end}
-use Rattle.ts_token.specs.Text.{Piece, is_text, is_skipped, lines_of, words_of, cut_of}
+use Rattle.ts_token.specs.Text.{Piece, is_text, is_skipped, lines_of, row_onto, words_of, cut_of}
 use Rattle.ts_token.specs.Views.{pieces}
-use Rattle.ts_model.specs.declared.error.LineStop.{LineStop}
-use Rattle.ts_model.specs.declared.error.LineStop.TheVariants.{Bad, NoMemory}
+use Rattle.ts_model.specs.declared.error.ModelKind.{ModelKind}
 use Rattle.ts_model.specs.declared.error.ModelKind.TheVariants.{NotText}
 use Rattle.ts_model.specs.declared.error.ModelStop.{ModelStop}
 use Rattle.ts_model.specs.declared.error.ModelStop.TheVariants.{Refused, Memory}
+use Rattle.ts_model.specs.declared.draft.Draft.{Draft}
 use Rattle.ts_model.specs.declared.model.Model.{Model}
 use Rattle.ts_model.specs.declared.model.Need.{Need}
 use Rattle.ts_model.specs.declared.reader.Progress.{Progress}
 use Rattle.ts_model.specs.declared.reader.State.{State}
 use Rattle.ts_model.specs.declared.reader.State.TheVariants.{Open, Stopped}
-use Rattle.ts_model.specs.LineByLine.{words_give, line_step, reading_from, SoFar, HasRead, ReadsLine}
-use Rattle.ts_model.specs.ModelReading.{needs_lists, texts_of, line_gives, onward, ended_model, model_reading}
+use Rattle.ts_model.specs.LineByLine.{line_step, SoFar, HasRead, ReadsLine}
+use Rattle.ts_model.specs.ModelReading.{needs_lists, texts_of, line_gives, onward, read_rows, then_on, unless_bad, lines_reading, ended_model, model_reading}
 use Rattle.ts_model.specs.Progress.{IsFit, HasTaken, TakesLine, state_view, StateTakes, IsCalm, StateEnds}
-use Rattle.ts_model.specs.Promise.{IsWhole, KeepsLimits}
 use Rattle.ts_model.specs.ModelParts.{ModelParts, nothing}
-use Rattle.ts_model.specs.Views.{texts, model_parts, draft_parts, at_line, Gives, Reads}
-use Rattle.ts_model.proofs.FitLaws.{whole_stated, limits_stated}
-use Rattle.ts_model.proofs.LineByLaws.{reading_by_lines, read_on, read_bad, still_bad, none_read}
+use Rattle.ts_model.specs.Views.{texts, draft_parts, Adds, Follows, Reads}
+use Rattle.ts_model.proofs.LineByLaws.{one_row, read_on, read_bad, still_bad, none_read}
 use Rattle.ts_model.proofs.LineLaws.{texts_pieces}
 
 -- a line that isn't text
 pub step_bad : (need : Need) (n : ℕ) (m : ModelParts) (line : List ℕ) → is_text line ≡ false → line_step need n m line ≡ Err (n, NotText)
-step_bad need n m line bad = ap (λ v. cond v (words_give need n m (words_of line)) (Err (n, NotText))) bad
+step_bad need n m line bad =
+    ap (λ v. then_on (read_rows (needs_lists need) m (cond v (row_onto n (words_of line) []) [])) (unless_bad (cond v None (Some n)))) bad
 
-pub step_text : (need : Need) (n : ℕ) (m : ModelParts) (line : List ℕ) → is_text line ≡ true → line_step need n m line ≡ words_give need n m (words_of line)
-step_text need n m line text = ap (λ v. cond v (words_give need n m (words_of line)) (Err (n, NotText))) text
+step_text : (need : Need) (n : ℕ) (m : ModelParts) (line : List ℕ) → is_text line ≡ true →
+    line_step need n m line ≡ then_on (read_rows (needs_lists need) m (row_onto n (words_of line) [])) (unless_bad None)
+step_text need n m line text =
+    ap (λ v. then_on (read_rows (needs_lists need) m (cond v (row_onto n (words_of line) []) [])) (unless_bad (cond v None (Some n)))) text
+
+step_row : (need : Need) (n : ℕ) (m : ModelParts) (line : List ℕ) (skipped : Bool) → is_text line ≡ true → is_skipped (words_of line) ≡ skipped →
+    line_step need n m line
+    ≡ then_on (read_rows (needs_lists need) m (cond skipped [] (record { number = n; words = words_of line } ∷ []))) (unless_bad None)
+step_row need n m line skipped text is =
+    step_text need n m line text
+    ∙ ap (λ v. then_on (read_rows (needs_lists need) m (cond v [] (record { number = n; words = words_of line } ∷ []))) (unless_bad None)) is
 
 -- a skipped one
 pub step_skipped : (need : Need) (n : ℕ) (m : ModelParts) (line : List ℕ) → is_text line ≡ true → is_skipped (words_of line) ≡ true →
     line_step need n m line ≡ Ok m
-step_skipped need n m line text skipped =
-    step_text need n m line text ∙ ap (λ v. cond v (Ok m) (onward n (line_gives (needs_lists need) m (texts_of (words_of line))) Ok)) skipped
+step_skipped need n m line text skipped = step_row need n m line true text skipped
 
 -- one with words
 pub step_words : (need : Need) (n : ℕ) (m : ModelParts) (line : List ℕ) (ws : List Word) (lists : Bool) → is_text line ≡ true →
     is_skipped (words_of line) ≡ false →
     pieces ws ≡ words_of line → lists ≡ needs_lists need → line_step need n m line ≡ onward n (line_gives lists m (texts ws)) Ok
 step_words need n m line ws lists text words are limited =
-    step_text need n m line text
-    ∙ ap (λ v. cond v (Ok m) (onward n (line_gives (needs_lists need) m (texts_of (words_of line))) Ok)) words
+    step_row need n m line false text words
+    ∙ one_row n (line_gives (needs_lists need) m (texts_of (words_of line)))
     ∙ ap (λ (x : List Piece). onward n (line_gives (needs_lists need) m (texts_of x)) Ok) (sym are)
     ∙ ap (λ (x : List (List ℕ)). onward n (line_gives (needs_lists need) m x) Ok) (texts_pieces ws)
     ∙ ap (λ v. onward n (line_gives v m (texts ws)) Ok) (sym limited)
 
--- the words add something, or are bad
-pub took_words : (need : Need) (n : ℕ) (m after : ModelParts) (line : List ℕ) (ws : List Word) (lists : Bool) → is_text line ≡ true →
-    is_skipped (words_of line) ≡ false → pieces ws ≡ words_of line → lists ≡ needs_lists need → line_gives lists m (texts ws) ≡ Ok after →
-    line_step need n m line ≡ Ok after
-took_words need n m after line ws lists text words are limited gives =
-    step_words need n m line ws lists text words are limited ∙ ap (λ g. onward n g Ok) gives
-
-pub stopped_words : (old new : Progress) (line : List ℕ) (ws : List Word) (stop : LineStop) (told : ModelStop) (after : ModelParts) →
-    told ≡ at_line (old.count + 1) stop → is_text line ≡ true → is_skipped (words_of line) ≡ false → pieces ws ≡ words_of line → IsFit old →
-    Gives {X = Unit {0}} (λ _. after) (Err stop) (line_gives old.draft.cells.limited (draft_parts old.draft) (texts ws)) → TakesLine old line (Err told) new
-stopped_words old new line ws (Bad kind) told after is text words are fit gives =
-    subst (λ (t : ModelStop). TakesLine old line (Err t) new) (sym is)
-    (step_words old.need (old.count + 1) (draft_parts old.draft) line ws old.draft.cells.limited text words are fit.limited
-    ∙ ap (λ g. onward (old.count + 1) g Ok) gives)
-stopped_words old new line ws NoMemory told after is text words are fit gives = subst (λ (t : ModelStop). TakesLine old line (Err t) new) (sym is) tt
+-- a line of these words is taken, or is bad
+pub line_read : (old : Progress) (draft : Draft) (line : List ℕ) (ws : List Word) (result : Result (Unit {0}) ModelStop) → is_text line ≡ true →
+    is_skipped (words_of line) ≡ false → pieces ws ≡ words_of line → IsFit old → old.count < 3999999999 →
+    Adds (draft_parts draft) result (onward (old.count + 1) (line_gives old.draft.cells.limited (draft_parts old.draft) (texts ws)) Ok) →
+    OnOk result (Follows old.draft draft) →
+    TakesLine old line result (record { alloc = old.alloc; need = old.need; count = old.count + 1; draft = draft })
+line_read old draft line ws (Ok u) text words are fit room gives follows = record {
+  fit = record {
+    sound = follows.sound;
+    limited = follows.limited ∙ fit.limited;
+    turn = let turn = follows.turn in let before = fit.turn in omega (arith, turn, before);
+    few = omega (arith, room);
+  };
+  need = refl;
+  count = refl;
+  gives = step_words old.need (old.count + 1) (draft_parts old.draft) line ws old.draft.cells.limited text words are fit.limited ∙ gives;
+}
+line_read old draft line ws (Err (Refused number kind)) text words are fit room gives follows =
+    step_words old.need (old.count + 1) (draft_parts old.draft) line ws old.draft.cells.limited text words are fit.limited ∙ gives
+line_read old draft line ws (Err Memory) text words are fit room gives follows = tt
 
 -- the stop is kept
 pub stops : (old new : Progress) (line : List ℕ) (stop : ModelStop) → TakesLine old line (Err stop) new → StateTakes (Open old) line (Stopped stop)
@@ -140,31 +152,25 @@ pub ends_calm : (s : State) (before : Result SoFar ModelStop) (result : Result M
 ends_calm s before (Ok m) is end = λ wanted. subst is_model (ends_wanted s before (Ok m) is end wanted) tt
 ends_calm s before (Err stop) is end = tt
 
+-- a text whose lines read so, and its end
+text_ends : (need : Need) (text : List ℕ) (read : Result ModelParts (ℕ × ModelKind)) → lines_reading need (cut_of text) ≡ read →
+    model_reading need text ≡ then_on read (ended_model need (length (lines_of text)))
+text_ends need text read is = ap (λ r. then_on r (ended_model need (length (lines_of text)))) is
+
 state_ends : (s : State) (result : Result Model ModelStop) (need : Need) (text : List ℕ) → StateEnds s result → HasRead need text (state_view s) →
     Reads result (model_reading need text)
 state_ends (Open p) result need text ends has =
     subst (Reads result) (sym (
-    reading_by_lines need text ∙ ap (reading_from need 0 nothing) (sym (append-nil (lines_of text))) ∙ has.1 []
+    text_ends need text (Ok (draft_parts p.draft)) has.2 ∙ ap (λ (k : ℕ). ended_model need k (draft_parts p.draft)) (sym has.1)
     ∙ ap (λ (n : Need). ended_model n p.count (draft_parts p.draft)) (sym has.0))) ends
 state_ends (Stopped (Refused number kind)) result need text ends has =
-    subst (λ (r : Result Model ModelStop). Reads r (model_reading need text)) (sym ends)
-    (reading_by_lines need text ∙ ap (reading_from need 0 nothing) (sym (append-nil (lines_of text))) ∙ has [])
+    subst (λ (r : Result Model ModelStop). Reads r (model_reading need text)) (sym ends) (text_ends need text (Err (number, kind)) has)
 state_ends (Stopped Memory) result need text ends has = absurd has
 
 -- the end tells the reading of the text
 pub ends : (s : State) (before : Result SoFar ModelStop) (result : Result Model ModelStop) (need : Need) (text : List ℕ) → state_view s ≡ before →
     StateEnds s result → HasRead need text before → Reads result (model_reading need text)
 ends s before result need text is end has = state_ends s result need text end (subst (HasRead need text) (sym is) has)
-
--- what is read is whole, and keeps the limits
-pub whole_read : (need : Need) (text : List ℕ) (r : Result Model ModelStop) → Reads r (model_reading need text) → IfOk r (λ m. IsWhole (model_parts m))
-whole_read need text (Ok m) e = whole_stated need (cut_of text) (model_parts m) e
-whole_read need text (Err stop) e = tt
-
-pub limits_read : (need : Need) (text : List ℕ) (r : Result Model ModelStop) → Reads r (model_reading need text) →
-    IfOk r (λ m. KeepsLimits need (model_parts m))
-limits_read need text (Ok m) e = limits_stated need (cut_of text) (model_parts m) e
-limits_read need text (Err stop) e = tt
 
 -- before the first line
 pub fresh_read : (p : Progress) (need : Need) → p.need ≡ need → p.count ≡ 0 → draft_parts p.draft ≡ nothing → HasRead need [] (state_view (Open p))

@@ -10,7 +10,7 @@ use Rattle.ts_model.specs.declared.model.Need.{Need}
 use Rattle.ts_model.specs.Words.{form_of}
 use Rattle.ts_model.specs.Statement.{Meaning, has_shape, said_by, parsed_as, meaning_in}
 use Rattle.ts_model.specs.ModelParts.{ModelParts, nothing, with_meaning, first_kind, kinds, has_cells, unless_kind}
-use Rattle.ts_model.specs.ModelReading.{needs_lists, needs_objective, said_onto, said_lines, stated_after, so_far, bad_shape, bad_number, kinds_said, kinds_of, kind_at, AreGood, FirstBad, IsEnd, IsReading, texts_of, taken_as, line_gives, onward, read_rows, ended_text, end_reading, reading}
+use Rattle.ts_model.specs.ModelReading.{needs_lists, needs_objective, said_onto, said_lines, stated_after, so_far, bad_shape, bad_number, kinds_said, kinds_of, kind_at, AreGood, FirstBad, IsEnd, IsReading, texts_of, taken_as, line_gives, onward, read_rows, then_on, unless_bad, ended_model, reading}
 
 -- the first of all kinds is that of the words, or the first of those of what they say
 abbrev Joins : Bool → ModelParts → Result Meaning ModelKind → Option ModelKind → Type 0
@@ -166,12 +166,12 @@ end_cells need c m true good is text has = end_aim need c m (needs_objective nee
 end_cells need c m false good is text has = inr (good, subst (λ t. IsEnd need c t (c.count + 1) NoCells) (sym text) (inl (ap has_cells is ∙ has, refl, refl)))
 
 end_text : (need : Need) (c : Cut) (m : ModelParts) (bad : Option ℕ) → AreGood (needs_lists need) c.rows → so_far c.rows ≡ m → c.not_text ≡ bad →
-    IsReading need c (ended_text need c m bad)
+    IsReading need c (then_on (unless_bad bad m) (ended_model need c.count))
 end_text need c m None good is text = end_cells need c m (has_cells m) good is text refl
 end_text need c m (Some line) good is text = inr (good, subst (λ t. IsEnd need c t line NotText) (sym text) (refl, refl))
 
 end_rows : (need : Need) (c : Cut) (read : Result ModelParts (ℕ × ModelKind)) → Found (needs_lists need) [] c.rows read →
-    IsReading need c (end_reading need c read)
+    IsReading need c (then_on (then_on read (unless_bad c.not_text)) (ended_model need c.count))
 end_rows need c (Err e) bad = inl (bad_first (needs_lists need) c.rows e.0 e.1 bad)
 end_rows need c (Ok m) found = end_text need c m c.not_text found.0 found.1 refl
 

@@ -1,6 +1,6 @@
 -- The model that a text states, or its first bad line with the first kind that holds of it.
 use Rattle.std.specs.Prelude.{◌≡◌, ℕ, ◌<◌, Bool, false, true, not, ◌&&◌, List, [], ◌∷◌, ◌+◌, ◌⊎◌, map, take, slice_get, if◌then◌else◌, Option, Some, None, Result, Ok, Err, is_none}
-use Rattle.ts_token.specs.Text.{Piece, Row, Cut, cut_of}
+use Rattle.ts_token.specs.Text.{Piece, Row, Cut, cut_of, rows_from, not_text_from}
 use Rattle.ts_model.specs.declared.words.Form.{Form}
 use Rattle.ts_model.specs.declared.model.Need.{Need}
 use Rattle.ts_model.specs.declared.model.Need.TheVariants.{Values, List as Listing, Best}
@@ -144,17 +144,29 @@ ended_model need count m =
     else (if needs_objective need && is_none m.objective then Err (count + 1, NoObjective)
     else Ok m)
 
-abbrev pub ended_text : Need → Cut → ModelParts → Option ℕ → Result ModelParts (ℕ × ModelKind)
-ended_text need c m (Some line) = Err (line, NotText)
-ended_text need c m None = ended_model need c.count m
+-- on with what is stated, or a refusal stays
+abbrev pub then_on : Result ModelParts (ℕ × ModelKind) → (ModelParts → Result ModelParts (ℕ × ModelKind)) →
+    Result ModelParts (ℕ × ModelKind)
+then_on (Err e) next = Err e
+then_on (Ok m) next = next m
 
-abbrev pub end_reading : Need → Cut → Result ModelParts (ℕ × ModelKind) → Result ModelParts (ℕ × ModelKind)
-end_reading need c (Err e) = Err e
-end_reading need c (Ok m) = ended_text need c m c.not_text
+-- the refusal of the first line that isn't text, where there is one
+abbrev pub unless_bad : Option ℕ → ModelParts → Result ModelParts (ℕ × ModelKind)
+unless_bad None m = Ok m
+unless_bad (Some line) m = Err (line, NotText)
 
--- the model that the lines of a text state, or the first bad line with the first kind that holds of it
+-- what these lines, the first of which has this number, make of m, or the first bad one with its first kind
+abbrev pub lines_from : Need → ℕ → ModelParts → List (List ℕ) → Result ModelParts (ℕ × ModelKind)
+lines_from need number m lines =
+    then_on (read_rows (needs_lists need) m (rows_from number lines)) (unless_bad (not_text_from number lines))
+
+-- what the lines of a text state, or the first bad one with its first kind
+abbrev pub lines_reading : Need → Cut → Result ModelParts (ℕ × ModelKind)
+lines_reading need c = then_on (read_rows (needs_lists need) nothing c.rows) (unless_bad c.not_text)
+
+-- the model that a text states, or its first bad line with its first kind, or what is missing at its end
 abbrev pub reading : Need → Cut → Result ModelParts (ℕ × ModelKind)
-reading need c = end_reading need c (read_rows (needs_lists need) nothing c.rows)
+reading need c = then_on (lines_reading need c) (ended_model need c.count)
 
 -- the same of the bytes of a text
 abbrev pub model_reading : Need → List ℕ → Result ModelParts (ℕ × ModelKind)

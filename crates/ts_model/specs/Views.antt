@@ -68,11 +68,11 @@ Reads (Ok m) read = read ≡ Ok (model_parts m)
 Reads (Err (Refused line kind)) read = read ≡ Err (line, kind)
 Reads (Err Memory) read = Unit {0}
 
--- the same of a draft
-abbrev pub Drafts : Result Draft ModelStop → Result ModelParts (ℕ × ModelKind) → Type 0
-Drafts (Ok d) read = read ≡ Ok (draft_parts d)
-Drafts (Err (Refused line kind)) read = read ≡ Err (line, kind)
-Drafts (Err Memory) read = Unit {0}
+-- the same of what is added to a draft, which then states this
+abbrev pub Adds : ModelParts → Result (Unit {0}) ModelStop → Result ModelParts (ℕ × ModelKind) → Type 0
+Adds after (Ok _) read = read ≡ Ok after
+Adds after (Err (Refused line kind)) read = read ≡ Err (line, kind)
+Adds after (Err Memory) read = Unit {0}
 
 -- what was told of a text is its reading, unless memory ran out
 abbrev pub Tells : Need → Cut → Result Model ModelStop → Type 0

@@ -1,14 +1,14 @@
 //! The model while lines are read.
 
-ghost use Rattle.std.specs.Prelude.{◌≡◌, ◌<◌, ◌≤◌, length, pos, false, OnOk, IfOk, IfNone, IfSome};
+ghost use Rattle.std.specs.Prelude.{◌≡◌, ◌<◌, ◌≤◌, length, pos, false, Ok, OnOk, IfOk, IfNone, IfSome};
 ghost use Rattle.ts_base.specs.Limits.{most_terms};
 ghost use Rattle.ts_model.specs.Statement.{SaysCells, SaysDomain, SaysCell, SaysTerm, SaysRequire, SaysObjective};
 ghost use Rattle.ts_model.specs.ModelParts.{nothing, term_at, has_cells, is_between, parts_after, IsPlace};
-ghost use Rattle.ts_model.specs.ModelReading.{line_gives};
-ghost use Rattle.ts_model.specs.Views.{texts, meaning_of, draft_parts, Gives, IsSound, Follows};
+ghost use Rattle.ts_model.specs.ModelReading.{line_gives, onward};
+ghost use Rattle.ts_model.specs.Views.{texts, meaning_of, draft_parts, Adds, Gives, IsSound, Follows};
 
 use crate::cells::Cells;
-use crate::error::{LineStop, ModelKind};
+use crate::error::{LineStop, ModelKind, ModelStop, at_line};
 use crate::model::{Op, Require};
 use crate::parse::parse;
 use crate::statement::{Ranges, Statement, TermParts};
@@ -45,8 +45,27 @@ impl Draft {
         })
     }
 
-    /// Adds what one line says, or gives the first kind that holds of the line.
-    pub(crate) fn read_line(&mut self, alloc: Global, words: &[Word]) -> Result<(), LineStop>
+    /// Adds what line `number` says, or refuses it by the first kind that holds of it.
+    pub(crate) fn line(
+        &mut self,
+        alloc: Global,
+        number: u32,
+        words: &[Word],
+    ) -> Result<(), ModelStop>
+        requires sound { IsSound self.old }
+        requires room { self.old.cells.turn < usize.MAX }
+        ensures added { Adds (draft_parts self.new) result (onward number
+            (line_gives self.old.cells.limited (draft_parts self.old) (texts words.now)) Ok) }
+        ensures follows { OnOk result (Follows self.old self.new) }
+    {
+        match self.take_words(alloc, words) {
+            Ok(()) => Ok(()),
+            Err(stop) => Err(at_line(number, stop)),
+        }
+    }
+
+    /// Adds what the words of a line say, or gives the first kind that holds of it.
+    fn take_words(&mut self, alloc: Global, words: &[Word]) -> Result<(), LineStop>
         requires sound { IsSound self.old }
         requires room { self.old.cells.turn < usize.MAX }
         ensures taken { Gives (λ _. draft_parts self.new) result

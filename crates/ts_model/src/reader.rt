@@ -15,14 +15,14 @@ ghost use Rattle.ts_model.specs.ModelParts.{nothing};
 ghost use Rattle.ts_model.specs.Views.{draft_parts, model_parts, Reads, Tells};
 
 use crate::draft::Draft;
-use crate::error::{ModelKind, ModelStop, at_line};
+use crate::error::{ModelKind, ModelStop};
 use crate::model::{Model, Need};
-use crate::read::{ended_draft, model_of, needs_lists};
+use crate::read::{finish, needs_lists};
 use std::alloc::Global;
 use ts_base::Memory;
 use ts_token::{Content, line_content};
 
-/// Lines of so many bytes, and lines behind so many others, aren't read.
+/// Lines of so many bytes, and lines after so many others, aren't read.
 const TOO_MANY: u32 = 4_000_000_000;
 
 /// What the lines so far state, none of them bad.
@@ -50,10 +50,10 @@ impl Progress {
         })
     }
 
-    /// Takes the next line.
-    fn take(&mut self, line: &[u8]) -> Result<(), ModelStop>
+    /// Reads the next line.
+    fn line(&mut self, line: &[u8]) -> Result<(), ModelStop>
         requires { IsFit self.old }
-        ensures taken { TakesLine self.old (without_end line.now) result self.new }
+        ensures read { TakesLine self.old (without_end line.now) result self.new }
         ensures text { result ≡ Err NoMemory → length line.now < 4000000000 → self.old.count < 3999999999 →
             is_text (without_end line.now) ≡ true }
     {
@@ -67,27 +67,17 @@ impl Progress {
                 kind: ModelKind::NotText,
             }),
             Content::Skipped => Ok(()),
-            Content::Words(words) => match self.draft.read_line(self.alloc, &words) {
-                Ok(()) => Ok(()),
-                Err(stop) => Err(at_line(self.count, stop)),
-            },
+            Content::Words(words) => self.draft.line(self.alloc, self.count, &words),
         }
     }
 
     /// The end of the text.
-    fn end(self) -> Result<Model, ModelStop>
+    fn finish(self) -> Result<Model, ModelStop>
         requires { IsFit self }
         ensures reads { Reads result (ended_model self.need self.count (draft_parts self.draft)) }
         ensures counted { IfOk result (λ m. m.n ≡ vec_len m.cells) }
     {
-        let Progress {
-            alloc,
-            need,
-            count,
-            draft,
-        } = self;
-        let draft = ended_draft(draft, count, need)?;
-        Ok(model_of(alloc, draft)?)
+        finish(self.alloc, self.draft, self.count, self.need)
     }
 }
 
@@ -99,14 +89,14 @@ pub(crate) enum State {
 }
 
 impl State {
-    /// Takes the next line; a stop stays, and nothing else is kept behind it.
-    fn take(&mut self, line: &[u8])
+    /// Reads the next line; a stop stays, and nothing else is kept after it.
+    fn line(&mut self, line: &[u8])
         requires { IsFitState self.old }
         ensures fit { IsFitState self.new }
         ensures read { StateTakes self.old (without_end line.now) self.new }
     {
         let stop = match self {
-            State::Open(progress) => match progress.take(line) {
+            State::Open(progress) => match progress.line(line) {
                 Ok(()) => return,
                 Err(stop) => stop,
             },
@@ -128,19 +118,19 @@ impl State {
     }
 
     /// The end of the text.
-    fn end(self) -> Result<Model, ModelStop>
+    fn finish(self) -> Result<Model, ModelStop>
         requires { IsFitState self }
         ensures ends { StateEnds self result }
         ensures counted { IfOk result (λ m. m.n ≡ vec_len m.cells) }
     {
         match self {
-            State::Open(progress) => progress.end(),
+            State::Open(progress) => progress.finish(),
             State::Stopped(stop) => Err(stop),
         }
     }
 }
 
-/// Reads the model of a text line by line. It keeps what the lines so far state; behind the first bad line it keeps the
+/// Reads the model of a text line by line. It keeps what the lines so far state; after the first bad line it keeps the
 /// refusal alone. Contracts see what the lines state and how many they are, or the stop.
 #[derive(Drop)]
 pub struct ModelReader {
@@ -172,7 +162,7 @@ impl ModelReader {
 
     /// Reads the next line: given with its LF, which the last line may lack, or as bytes that stand for it. No bytes
     /// are no line, and change nothing. Each line after `Memory`, and the end, is answered `Memory`; it comes too where
-    /// a line has 4,000,000,000 bytes, and for a line behind 3,999,999,999 others.
+    /// a line has 4,000,000,000 bytes, and for a line after 3,999,999,999 others.
     pub fn line(&mut self, line: &[u8]) -> Result<(), Memory>
         ensures read { OnOk result (ReadsLine self.old line.now self.new) }
         ensures none { line.now ≡ [] → self.new ≡ self.old }
@@ -182,13 +172,13 @@ impl ModelReader {
         if line.is_empty() {
             return self.state.answer();
         }
-        self.state.take(line);
+        self.state.line(line);
         self.state.answer()
     }
 
     /// The model that the lines state, or the first bad line with the first kind that holds of it, as `read_model`
     /// tells them; each of these tells too that no line was answered `Memory`.
-    pub fn end(self) -> Result<Model, ModelStop>
+    pub fn finish(self) -> Result<Model, ModelStop>
         ensures exact { (need : Need) (text : List ℕ) → HasRead need text self →
             Reads result (model_reading need text) }
         ensures first { (need : Need) (text : List ℕ) → HasRead need text self → Tells need (cut_of text) result }
@@ -201,6 +191,6 @@ impl ModelReader {
         ensures calm { IfOk result (λ m. self ≢ Err NoMemory) }
     {
         let ModelReader { state } = self;
-        state.end()
+        state.finish()
     }
 }

@@ -107,7 +107,7 @@ fn read_by_lines(
         read_line(alloc, &mut reader, line, shortened)?;
         rest = left;
     }
-    reader.end()
+    reader.finish()
 }
 
 fn read_line(
