@@ -190,12 +190,22 @@ fn push_end(text: &mut Vec<u8>, tree: &[TreeLine]) -> Result<(), Memory>
     Ok(())
 }
 
+/// No fewer bytes than the text of a certificate has whose numbers are within their ranges: 21 for each line of its tree,
+/// 9 for each number of a series and 7 for the rest of its line, and 60 for the three other lines.
+fn room_for(c: &Certificate) -> usize {
+    let mut room = c.tree.len().saturating_mul(21).saturating_add(60);
+    for values in &c.series {
+        room = room.saturating_add(values.len().saturating_mul(9).saturating_add(7));
+    }
+    room
+}
+
 /// The one text of a certificate: a line for its aim, its claim, each of its series and each line of its tree, and the
-/// end line with the counts of its tree.
+/// end line with the counts of its tree. Its room is taken at once: a text that grew would be held twice at times.
 pub fn write_certificate(alloc: Global, c: &Certificate) -> Result<Vec<u8>, Memory>
     ensures { IfOk result (λ text. text.items ≡ certificate_text (cert_seen c.now)) }
 {
-    let mut text = Vec::new(alloc);
+    let mut text = Vec::with_capacity(alloc, room_for(c))?;
     push_aim(&mut text, c.aim)?;
     push_claim(&mut text, c.claim)?;
     push_all_series(&mut text, &c.series)?;

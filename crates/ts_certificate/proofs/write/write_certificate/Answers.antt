@@ -9,8 +9,8 @@ returns c =
     let cert = c.args.c.now in
     five_parts (line_text (SaysAim cert.aim)) (line_text (SaysClaim cert.claim)) (map SaysSeries (map (λ v. v.items) cert.series.items))
     (map SaysTree cert.tree.items) (end_line cert.tree.items)
-    c.new-text.result.items c.push_aim.new.text.items c.push_claim.new.text.items c.push_all_series.new.text.items c.push_tree.new.text.items
-    c.push_end.new.text.items c.new-text.ensures.items c.in_ok-push_aim.ensures c.in_ok-push_claim.ensures
+    c.in_ok-text.text.items c.push_aim.new.text.items c.push_claim.new.text.items c.push_all_series.new.text.items c.push_tree.new.text.items
+    c.push_end.new.text.items c.in_ok-text.ensures.items c.in_ok-push_aim.ensures c.in_ok-push_claim.ensures
     (c.in_ok-push_all_series.ensures ∙ ap (λ xs. c.push_claim.new.text.items ++ series_text (map (λ v. v.items) xs)) c.deref.ensures.value)
     (c.in_ok-push_tree.ensures ∙ ap (λ xs. c.push_all_series.new.text.items ++ tree_text xs) c.deref-2.ensures.value)
     (c.in_ok-push_end.ensures ∙ ap (λ xs. c.push_tree.new.text.items ++ line_text (end_line xs)) c.deref-3.ensures.value)
