@@ -35,6 +35,8 @@ mod patterns;
 #[cfg(test)]
 mod programs;
 #[cfg(test)]
+mod readings;
+#[cfg(test)]
 mod seed_tables;
 #[cfg(test)]
 mod seeds;
