@@ -52,6 +52,13 @@ impl LineReader {
         self.next
     }
 
+    /// The stop, once a line was refused.
+    pub fn stop(&self) -> Option<CertStop>
+        ensures { result ≡ self.now.stop }
+    {
+        self.stop
+    }
+
     /// Reads the next line, given with its LF, where fewer than 4,000,000,000 were read so far. The first line against
     /// the grammar is `Text`, an end line with other counts `CountDiffers`; each further line gets the same stop.
     /// `Memory` comes only where a series line is to come, and the reader is then as before.

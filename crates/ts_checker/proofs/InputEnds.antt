@@ -1,5 +1,5 @@
 -- The end of an input of `verify`, and its first failing line, by what is known of the input so far.
-use Rattle.std.proofs.Common.{◌≡◌, ℕ, Option, Some, None, Ok, Err, List, [], ◌++◌, refl, sym, ap, ◌∙◌, subst}
+use Rattle.std.proofs.Common.{◌≡◌, ℕ, inr, Option, Some, None, Ok, Err, List, [], ◌++◌, refl, sym, ap, ◌∙◌, subst}
 use Rattle.std.specs.Prelude.{Result, unwrap_or}
 use Rattle.ts_base.specs.Words.{strict_lines}
 use Rattle.ts_token.specs.Halves.{Halves, halves_of}
@@ -68,7 +68,7 @@ ends_in_model bytes t o end h is e = ends_at_once bytes o end (nothing_behind by
 -- the first failing line
 
 none_fails : (found : Result ModelParts (ℕ × ModelKind)) → FailsIn found [] None
-none_fails (Ok m) = record { lines = []; are = refl; follow = tt; stand = first_stand m; found = refl }
+none_fails (Ok m) = inr (record { lines = []; are = refl; follow = tt; stand = first_stand m; found = refl })
 none_fails (Err bad) = refl
 
 pub none_failed : (bytes : List ℕ) (t : ModelText) → IsInModel bytes t → IsFailed bytes None

@@ -1,24 +1,15 @@
 -- A checker at work: the line that it refused, and the first that fails.
-use Rattle.std.proofs.Common.{◌≡◌, ℕ, ◌+◌, ◌<◌, ◌≤◌, inl, length, Bool, true, false, cond, Option, Some, None, Ok, Err, List, [], ◌∷◌, ◌++◌, refl, sym, ap, ◌∙◌, subst, append_assoc, append-nil, arith}
-use Rattle.std.specs.Prelude.{◌==◌, codes, filter, is_some, OnOk, Result}
+use Rattle.std.proofs.Common.{◌≡◌, ◌≢◌, ℕ, ◌<◌, ◌≤◌, inl, inr, length, Bool, true, false, Option, Some, None, Ok, Err, List, [], ◌∷◌, ◌++◌, refl, sym, ap, ◌∙◌, subst, append_assoc, append-nil, arith}
+use Rattle.std.specs.Prelude.{◌==◌, filter, is_some, OnOk, Result}
 use Rattle.std.specs.Option.{option_map}
-use Rattle.std.specs.Str.{bytes_eq}
 use Rattle.std.proofs.lemmas.Bool.{eqb-true}
 use Rattle.std.proofs.lemmas.Bool.Decides.{nat_tests}
 use Rattle.std.proofs.lemmas.List.Elements.{filter-append}
 use Rattle.ts_base.specs.declared.error.Memory.{Memory as NoMemory}
-use Rattle.ts_base.specs.Words.{Words, strict_lines, words_of, without_lf}
+use Rattle.ts_base.specs.Words.{strict_lines, without_lf}
 use Rattle.ts_base.proofs.WordLaws.{lf_is}
-use Rattle.ts_certificate.specs.declared.state.State.{State}
-use Rattle.ts_certificate.specs.declared.state.State.TheVariants.{Start, AfterAim, InSeries, InTree, AfterEnd}
 use Rattle.ts_certificate.specs.declared.stop.CertStop.{CertStop}
-use Rattle.ts_certificate.specs.declared.stop.LineStop.{LineStop}
-use Rattle.ts_certificate.specs.declared.stop.LineStop.TheVariants.{Grammar, Counts, Memory}
-use Rattle.ts_certificate.specs.Grammar.{CertLine, SaysAim, SaysClaim, SaysSeries, SaysTree, SaysEnd}
-use Rattle.ts_certificate.specs.HeadLines.{aim_of, claim_of, series_of}
-use Rattle.ts_certificate.specs.LineOf.{as_line, end_of, end_or_stop, line_if, line_of, line_of_words, tree_or_end}
-use Rattle.ts_certificate.specs.Reading.{Reading, reading_by, reading_unless, reading_with, stop_at}
-use Rattle.ts_certificate.specs.TreeLines.{tree_of}
+use Rattle.ts_certificate.specs.Reading.{Reading}
 use Rattle.ts_model.specs.ModelParts.{ModelParts}
 use Rattle.ts_filter.specs.Lines.{IsOutcome}
 use Rattle.ts_spans.specs.Machines.{spans_in}
@@ -26,88 +17,22 @@ use Rattle.ts_checker.specs.declared.judging.Judging.{Judging}
 use Rattle.ts_checker.specs.declared.verdict.Verdict.{Verdict}
 use Rattle.ts_checker.specs.declared.verdict.Verdict.TheVariants.{Accepted}
 use Rattle.ts_checker.specs.Checking.{Checking, HasChecked, Takes, first_checking}
-use Rattle.ts_checker.specs.Feeding.{HasJudged, HasRead, IsFinished, IsPart, IsUnfinished, JudgesLine, Reads, last_line, refused_now}
+use Rattle.ts_checker.specs.Feeding.{HasJudged, HasRead, IsFinished, IsPart, IsUnfinished, JudgesLine, Reads, last_line}
 use Rattle.ts_checker.specs.Shortened.{Extends, IsKeptOf, IsSmall}
-use Rattle.ts_checker.specs.Verdicts.{IsTrueOf, IsVerdict, stop_line}
-use Rattle.ts_checker.specs.Verified.{FailsBy, FailsFirst, IsShownBy, ended_lines, is_ended}
+use Rattle.ts_checker.specs.Verdicts.{IsTrueOf, IsVerdict, refused_line}
+use Rattle.ts_checker.specs.Verified.{FailsFirst, IsShownBy, ended_lines, is_ended}
 use Rattle.ts_checker.proofs.KeptLines.{last_for, line_for, none_kept_of, some_kept_of, stopped_for}
 use Rattle.ts_checker.proofs.Pieces.{ended_more, finished_first, joins, none_ended, part_ends, part_open, unfinished_alone}
-use Rattle.ts_checker.proofs.Verdicts.{one_line_more}
-
--- no line says that memory was wanting
-
-as_line_said : {X : Type 0} (f : X → CertLine) (o : Option X) → as_line f o ≡ Err Memory → ⊥
-as_line_said f None e = cc
-as_line_said f (Some x) e = cc
-
-counts_said : (t u : Bool) (n k p q r s : ℕ) → cond t (cond u (Ok (SaysEnd n k)) (Err (Counts p q))) (Err (Counts r s)) ≡ Err Memory → ⊥
-counts_said true true n k p q r s e = cc
-counts_said true false n k p q r s e = cc
-counts_said false u n k p q r s e = cc
-
-end_said : (c u : ℕ) (o : Option (ℕ × ℕ)) → end_or_stop c u o ≡ Err Memory → ⊥
-end_said c u None e = cc
-end_said c u (Some p) e = go (c + u == 0) e
-  where
-    go : (t : Bool) → cond t (Err Grammar) (cond (p.0 == c) (cond (p.1 == u) (Ok (SaysEnd p.0 p.1)) (Err (Counts p.1 u))) (Err (Counts p.0 c))) ≡ Err Memory → ⊥
-    go true k = cc
-    go false k = counts_said (p.0 == c) (p.1 == u) p.0 p.1 p.1 u p.0 c k
-
-tree_said : (c u : ℕ) (w : Words) → tree_or_end c u w ≡ Err Memory → ⊥
-tree_said c u w e = go (bytes_eq w.first (codes "end")) e
-  where
-    go : (t : Bool) → cond t (end_or_stop c u (end_of w.more)) (as_line SaysTree (tree_of w)) ≡ Err Memory → ⊥
-    go true k = end_said c u (end_of w.more) k
-    go false k = as_line_said SaysTree (tree_of w) k
-
-words_said : (s : State) (w : Words) → line_of_words s w ≡ Err Memory → ⊥
-words_said Start w e = as_line_said SaysAim (aim_of w) e
-words_said (AfterAim a) w e = as_line_said SaysClaim (claim_of a w) e
-words_said (InSeries n) w e = as_line_said SaysSeries (series_of w) e
-words_said (InTree c u) w e = tree_said c u w e
-words_said AfterEnd w e = cc
-
-line_said : (s : State) (o : Option (List ℕ)) → line_if s o ≡ Err Memory → ⊥
-line_said s None e = cc
-line_said s (Some line) e = words_said s (words_of line) e
-
--- a line is refused where the next one keeps its number
-
-same_number : (n : ℕ) → (n == n) ≡ true
-same_number n = grind (arith, nat_tests)
-
-next_number : (n : ℕ) → (n + 1 == n) ≡ false
-next_number n = grind (arith, nat_tests)
-
-module _ (r : Reading) (text : List ℕ) where
-  by_stop : (why : LineStop) → (why ≡ Memory → ⊥) → stop_line (stop_at r.next why) ≡ r.next
-  by_stop Grammar h = refl
-  by_stop (Counts said found) h = refl
-  by_stop Memory h = absurd (h refl)
-
-  by_line : (g : Result CertLine LineStop) → line_of r.state text ≡ g →
-      refused_now None r.next (reading_by r g).next ≡ option_map stop_line (reading_by r g).stop
-  by_line (Ok l) e = ap (λ t. cond t (Some r.next) None) (next_number r.next)
-  by_line (Err why) e =
-      ap (λ t. cond t (Some r.next) None) (same_number r.next)
-      ∙ ap (λ (n : ℕ). Some n) (sym (by_stop why (λ is. line_said r.state (without_lf text) (e ∙ ap (λ (w : LineStop). Err w) is))))
-
-  pub refused_told : refused_now (option_map stop_line r.stop) r.next (reading_with r text).next ≡ option_map stop_line (reading_with r text).stop
-  refused_told = go r.stop refl
-    where
-      go : (o : Option CertStop) → r.stop ≡ o →
-          refused_now (option_map stop_line o) r.next (reading_unless r o text).next ≡ option_map stop_line (reading_unless r o text).stop
-      go None e = by_line (line_of r.state text) refl
-      go (Some stop) e = ap (option_map stop_line) (sym e)
+use Rattle.ts_checker.proofs.Verdicts.{one_line_more, stopped_against}
 
 -- before the first byte
 
 none_small : (kept : List ℕ) → kept ≡ [] → IsSmall kept
 none_small kept empty = let size = ap length empty in omega (arith, size)
 
-pub none_judged : (m : ModelParts) (j : Judging) → j.checker ≡ first_checking m → j.refused ≡ None → j.line.bytes.items ≡ [] → length m.cells ≤ 512 →
+pub none_judged : (m : ModelParts) (j : Judging) → j.checker ≡ first_checking m → j.line.bytes.items ≡ [] → length m.cells ≤ 512 →
     HasChecked [] j.checker → HasRead [] j
-none_judged m j is none empty few h = record {
+none_judged m j is empty few h = record {
   seen = [];
   texts = [];
   line = [];
@@ -117,7 +42,6 @@ none_judged m j is none empty few h = record {
   free = refl;
   judged = record {
     checked = h;
-    refused = none ∙ ap (λ (z : Checking). option_map stop_line z.reading.stop) (sym is);
     few = subst (λ (z : Checking). length z.model.cells ≤ 512) (sym is) few;
   };
   kept = λ e. inl empty;
@@ -128,45 +52,38 @@ none_judged m j is none empty few h = record {
 -- one line more
 
 more_judged : (texts : List (List ℕ)) (old new : Judging) (text : List ℕ) → HasJudged texts old → Takes old.checker text new.checker →
-    new.refused ≡ refused_now old.refused old.checker.reading.next new.checker.reading.next → HasJudged (texts ++ text ∷ []) new
-more_judged texts old new text h t refused = record {
-  checked = one_line_more texts text old.checker new.checker h.checked t;
-  refused =
-      refused ∙ ap (λ o. refused_now o old.checker.reading.next new.checker.reading.next) h.refused
-      ∙ ap (λ (r : Reading). refused_now (option_map stop_line old.checker.reading.stop) old.checker.reading.next r.next) t.reading
-      ∙ refused_told old.checker.reading text ∙ ap (λ (r : Reading). option_map stop_line r.stop) (sym t.reading);
+    old.checker.reading.next ≤ 4000000000 → HasJudged (texts ++ text ∷ []) new
+more_judged texts old new text h t next = record {
+  checked = one_line_more texts text old.checker new.checker h.checked t (λ none. next);
   few = subst (λ (m : ModelParts). length m.cells ≤ 512) (sym t.model) h.few;
 }
 
 pub line_judged : (old new : Judging) (kept text lent : List ℕ) → kept ≡ old.line.bytes.items → text ≡ kept ++ 10 ∷ [] → lent ≡ text →
-    Takes old.checker lent new.checker → old.checker.reading.next ≤ 4000000000 →
-    new.refused ≡ refused_now old.refused old.checker.reading.next new.checker.reading.next → JudgesLine old new
-line_judged old new kept text lent this is same t next refused = λ texts line h k.
+    Takes old.checker lent new.checker → old.checker.reading.next ≤ 4000000000 → JudgesLine old new
+line_judged old new kept text lent this is same t next = λ texts line h k.
     more_judged texts old new (line ++ 10 ∷ []) h
     (line_for texts old.checker new.checker kept line h.checked next h.few (subst (λ (x : List ℕ). IsKeptOf x line) (sym this) k)
     (subst (λ (x : List ℕ). Takes old.checker x new.checker) (same ∙ is) t))
-    refused
+    next
 
--- behind a line that was refused
+-- after a line that was refused
 
-stop_told : (o : Option CertStop) (n : ℕ) → Some n ≡ option_map stop_line o → (stop : CertStop) × (o ≡ Some stop)
-stop_told None n e = cc
-stop_told (Some stop) n e = (stop, refl)
+not_none : (r : Reading) (stop : CertStop) → r.stop ≡ Some stop → r.stop ≢ None
+not_none r stop is none = let wrong : ◌≡◌ {A = Option CertStop} None (Some stop) = sym none ∙ is in cc
 
-more_unjudged : (texts : List (List ℕ)) (j : Judging) (n : ℕ) (text : List ℕ) → j.refused ≡ Some n → HasJudged texts j → HasJudged (texts ++ text ∷ []) j
-more_unjudged texts j n text is h =
-    let stop = stop_told j.checker.reading.stop n (sym is ∙ h.refused) in
-    record {
-      checked = one_line_more texts text j.checker j.checker h.checked (stopped_for texts j.checker stop.0 text h.checked stop.1);
-      refused = h.refused;
-      few = h.few;
-    }
+more_unjudged : (texts : List (List ℕ)) (j : Judging) (stop : CertStop) (text : List ℕ) → j.checker.reading.stop ≡ Some stop → HasJudged texts j →
+    HasJudged (texts ++ text ∷ []) j
+more_unjudged texts j stop text is h = record {
+  checked = one_line_more texts text j.checker j.checker h.checked (stopped_for texts j.checker stop text h.checked is)
+      (λ none. absurd (not_none j.checker.reading stop is none));
+  few = h.few;
+}
 
 -- more bytes of a line
 
 module _ (bytes part : List ℕ) (old new : Judging) (h : HasRead bytes old) where
-  goes_on : IsUnfinished part → HasJudged h.texts new → (new.refused ≡ None → IsKeptOf new.line.bytes.items (h.line ++ part)) →
-      IsSmall new.line.bytes.items → (is_some new.refused ≡ true → new.line.bytes.items ≡ []) → HasRead (bytes ++ part) new
+  goes_on : IsUnfinished part → HasJudged h.texts new → (new.checker.reading.stop ≡ None → IsKeptOf new.line.bytes.items (h.line ++ part)) →
+      IsSmall new.line.bytes.items → (new.checker.reading.stop ≢ None → new.line.bytes.items ≡ []) → HasRead (bytes ++ part) new
   goes_on free judged kept small dropped = record {
     seen = h.seen;
     texts = h.texts;
@@ -201,50 +118,54 @@ module _ (bytes part : List ℕ) (old new : Judging) (h : HasRead bytes old) whe
       }
 
 -- nothing more is kept once a line was refused
-pub refusal_stands : (j : Judging) (part : List ℕ) (n : ℕ) → j.refused ≡ Some n → IsPart part → Reads j part j
-refusal_stands j part n is whole = λ bytes h. by bytes h (without_lf part) refl
+refusal_stands : (j : Judging) (part : List ℕ) (stop : CertStop) → j.checker.reading.stop ≡ Some stop → IsPart part → Reads j part j
+refusal_stands j part stop is whole = λ bytes h. by bytes h (without_lf part) refl
   where
-    never : {P : Type 0} → j.refused ≡ None → P
-    never e = absurd (let wrong : ◌≡◌ {A = Option ℕ} None (Some n) = sym e ∙ is in cc)
-
     by : (bytes : List ℕ) (h : HasRead bytes j) (o : Option (List ℕ)) → without_lf part ≡ o → HasRead (bytes ++ part) j
-    by bytes h None e = goes_on bytes part j j h (part_open part e whole) h.judged (λ k. never k) h.small h.dropped
+    by bytes h None e =
+        goes_on bytes part j j h (part_open part e whole) h.judged (λ none. absurd (not_none j.checker.reading stop is none)) h.small h.dropped
     by bytes h (Some bare) e =
-        ends bytes part j j h (part_ends h.line part bare h.free e whole) (more_unjudged h.texts j n (h.line ++ part) is h.judged)
-        (h.dropped (ap (λ (o : Option ℕ). is_some o) is))
+        ends bytes part j j h (part_ends h.line part bare h.free e whole) (more_unjudged h.texts j stop (h.line ++ part) is h.judged)
+        (h.dropped (not_none j.checker.reading stop is))
 
-some_told : (o : Option ℕ) → is_some o ≡ true → (n : ℕ) × (o ≡ Some n)
-some_told None e = cc
-some_told (Some n) e = (n, refl)
+some_stop : (next : ℕ) (o : Option CertStop) → is_some (option_map (λ (stop : CertStop). next) o) ≡ true → (stop : CertStop) × (o ≡ Some stop)
+some_stop next None e = cc
+some_stop next (Some stop) e = (stop, refl)
 
-pub some_stands : (j : Judging) (part : List ℕ) → is_some j.refused ≡ true → IsPart part → Reads j part j
-some_stands j part some whole = let told = some_told j.refused some in refusal_stands j part told.0 told.1 whole
+none_stop : (next : ℕ) (o : Option CertStop) → is_some (option_map (λ (stop : CertStop). next) o) ≡ false → o ≡ None
+none_stop next None e = refl
+none_stop next (Some stop) e = cc
+
+pub some_stands : (j : Judging) (part : List ℕ) → is_some (refused_line j.checker.reading) ≡ true → IsPart part → Reads j part j
+some_stands j part some whole =
+    let held = some_stop j.checker.reading.next j.checker.reading.stop some in refusal_stands j part held.0 held.1 whole
 
 -- the line goes on
-line_open : (old new : Judging) (part : List ℕ) → new.checker ≡ old.checker → new.refused ≡ old.refused → is_some old.refused ≡ false →
+line_open : (old new : Judging) (part : List ℕ) → new.checker ≡ old.checker → is_some (refused_line old.checker.reading) ≡ false →
     without_lf part ≡ None → IsPart part → Extends old.line.bytes.items part new.line.bytes.items → IsSmall new.line.bytes.items → Reads old part new
-line_open old new part same still going none whole more small = λ bytes h.
+line_open old new part same going none whole more small = λ bytes h.
+    let stop : new.checker.reading.stop ≡ old.checker.reading.stop = ap (λ (z : Checking). z.reading.stop) same in
+    let none_yet = none_stop old.checker.reading.next old.checker.reading.stop going in
     goes_on bytes part old new h (part_open part none whole)
     (record {
       checked = subst (HasChecked h.texts) (sym same) h.judged.checked;
-      refused = still ∙ h.judged.refused ∙ ap (λ (z : Checking). option_map stop_line z.reading.stop) (sym same);
       few = subst (λ (z : Checking). length z.model.cells ≤ 512) (sym same) h.judged.few;
     })
-    (λ e. more h.line (h.kept (sym still ∙ e)))
+    (λ e. more h.line (h.kept none_yet))
     small
-    (λ some. let wrong : true ≡ false = sym some ∙ ap (λ (o : Option ℕ). is_some o) still ∙ going in cc)
+    (λ some. absurd (some (stop ∙ none_yet)))
 
-pub open_ok : (given : Result (Unit {0}) NoMemory) (old new : Judging) (part : List ℕ) → new.checker ≡ old.checker → new.refused ≡ old.refused →
-    is_some old.refused ≡ false → without_lf part ≡ None → IsPart part → OnOk given (Extends old.line.bytes.items part new.line.bytes.items) →
-    OnOk given (IsSmall new.line.bytes.items) → OnOk given (Reads old part new)
-open_ok (Ok u) old new part same still going none whole more small = line_open old new part same still going none whole more small
-open_ok (Err e) old new part same still going none whole more small = tt
+pub open_ok : (given : Result (Unit {0}) NoMemory) (old new : Judging) (part : List ℕ) → new.checker ≡ old.checker →
+    is_some (refused_line old.checker.reading) ≡ false → without_lf part ≡ None → IsPart part →
+    OnOk given (Extends old.line.bytes.items part new.line.bytes.items) → OnOk given (IsSmall new.line.bytes.items) → OnOk given (Reads old part new)
+open_ok (Ok u) old new part same going none whole more small = line_open old new part same going none whole more small
+open_ok (Err e) old new part same going none whole more small = tt
 
 -- the line has its LF
-pub line_closed : (old mid new : Judging) (part bare : List ℕ) → mid.checker ≡ old.checker → mid.refused ≡ old.refused → old.refused ≡ None →
+line_closed : (old mid new : Judging) (part bare : List ℕ) → mid.checker ≡ old.checker → old.checker.reading.stop ≡ None →
     without_lf part ≡ Some bare → IsPart part → Extends old.line.bytes.items bare mid.line.bytes.items → JudgesLine mid new → new.line.bytes.items ≡ [] →
     Reads old part new
-line_closed old mid new part bare same still none some whole more judges empty = λ bytes h.
+line_closed old mid new part bare same none some whole more judges empty = λ bytes h.
     let is : h.line ++ part ≡ (h.line ++ bare) ++ 10 ∷ [] =
     ap (λ (x : List ℕ). h.line ++ x) (lf_is part bare some) ∙ sym (append_assoc h.line bare (10 ∷ [])) in
     ends bytes part old new h (part_ends h.line part bare h.free some whole)
@@ -252,37 +173,32 @@ line_closed old mid new part bare same still none some whole more judges empty =
     (judges h.texts (h.line ++ bare)
     (record {
       checked = subst (HasChecked h.texts) (sym same) h.judged.checked;
-      refused = still ∙ h.judged.refused ∙ ap (λ (z : Checking). option_map stop_line z.reading.stop) (sym same);
       few = subst (λ (z : Checking). length z.model.cells ≤ 512) (sym same) h.judged.few;
     })
     (more h.line (h.kept none))))
     empty
 
-none_refused : (o : Option ℕ) → is_some o ≡ false → o ≡ None
-none_refused None e = refl
-none_refused (Some n) e = cc
-
-pub closed_ok : (given : Result (Unit {0}) NoMemory) (old mid new : Judging) (part bare : List ℕ) → mid.checker ≡ old.checker → mid.refused ≡ old.refused →
-    is_some old.refused ≡ false → without_lf part ≡ Some bare → IsPart part → Extends old.line.bytes.items bare mid.line.bytes.items →
-    OnOk given (JudgesLine mid new) → OnOk given (new.line.bytes.items ≡ []) → OnOk given (Reads old part new)
-closed_ok (Ok u) old mid new part bare same still none some whole more judges empty =
-    line_closed old mid new part bare same still (none_refused old.refused none) some whole more judges empty
-closed_ok (Err e) old mid new part bare same still none some whole more judges empty = tt
+pub closed_ok : (given : Result (Unit {0}) NoMemory) (old mid new : Judging) (part bare : List ℕ) → mid.checker ≡ old.checker →
+    is_some (refused_line old.checker.reading) ≡ false → without_lf part ≡ Some bare → IsPart part →
+    Extends old.line.bytes.items bare mid.line.bytes.items → OnOk given (JudgesLine mid new) → OnOk given (new.line.bytes.items ≡ []) →
+    OnOk given (Reads old part new)
+closed_ok (Ok u) old mid new part bare same going some whole more judges empty =
+    line_closed old mid new part bare same (none_stop old.checker.reading.next old.checker.reading.stop going) some whole more judges empty
+closed_ok (Err e) old mid new part bare same going some whole more judges empty = tt
 
 -- the first line that fails
 
-fails_by : (texts : List (List ℕ)) (c : Checking) (o : Option CertStop) (failed : Option ℕ) → HasChecked texts c → c.reading.stop ≡ o →
-    None ≡ option_map stop_line o → failed ≡ c.failed → FailsBy c.model texts o failed
-fails_by texts c (Some stop) failed h e none is = let wrong : ◌≡◌ {A = Option ℕ} None (Some (stop_line stop)) = none in cc
-fails_by texts c None failed h e none is =
-    let g = h.going e in
-    record {
+fails_by : (texts : List (List ℕ)) (c : Checking) (failed : Option ℕ) → HasChecked texts c → c.reading.stop ≡ None → failed ≡ c.failed →
+    FailsFirst c.model texts failed
+fails_by texts c failed h none is =
+    let g = h.going none in
+    inr (record {
       lines = g.are.lines;
       are = g.are.are;
       follow = g.are.follow;
       stand = c.stand;
       found = subst (λ f. IsOutcome c.model (spans_in c.model) g.are.lines c.stand f) (sym is) g.found;
-    }
+    })
 
 -- the lines that have their LF
 ended_are : (bytes : List ℕ) (j : Judging) (h : HasRead bytes j) → ended_lines bytes ≡ h.texts
@@ -291,22 +207,30 @@ ended_are bytes j h =
     ∙ filter-append is_ended h.texts (last_line h.line) ∙ ap (λ (x : List (List ℕ)). x ++ filter is_ended (last_line h.line)) h.ended
     ∙ ap (λ (x : List (List ℕ)). h.texts ++ x) (none_ended h.line h.free) ∙ append-nil h.texts
 
-pub fails_first : (bytes : List ℕ) (j : Judging) (failed : Option ℕ) → j.refused ≡ None → failed ≡ j.checker.failed → HasRead bytes j →
+none_line : (next : ℕ) (o : Option CertStop) → option_map (λ (stop : CertStop). next) o ≡ None → o ≡ None
+none_line next None e = refl
+none_line next (Some stop) e = cc
+
+some_line : (next n : ℕ) (o : Option CertStop) → option_map (λ (stop : CertStop). next) o ≡ Some n → (stop : CertStop) × (o ≡ Some stop) × (next ≡ n)
+some_line next n None e = cc
+some_line next n (Some stop) e = (stop, refl, cc)
+
+pub fails_first : (bytes : List ℕ) (j : Judging) (failed : Option ℕ) → refused_line j.checker.reading ≡ None → failed ≡ j.checker.failed → HasRead bytes j →
     FailsFirst j.checker.model (ended_lines bytes) failed
 fails_first bytes j failed none is h =
     subst (λ (x : List (List ℕ)). FailsFirst j.checker.model x failed) (sym (ended_are bytes j h))
-    (subst (λ (r : Reading). FailsBy j.checker.model h.texts r.stop failed) h.judged.checked.reading
-    (fails_by h.texts j.checker j.checker.reading.stop failed h.judged.checked refl (sym none ∙ h.judged.refused) is))
+    (fails_by h.texts j.checker failed h.judged.checked (none_line j.checker.reading.next j.checker.reading.stop none) is)
 
-refused_by : (m : ModelParts) (texts : List (List ℕ)) (o : Option CertStop) (n : ℕ) → Some n ≡ option_map stop_line o → FailsBy m texts o (Some n)
-refused_by m texts None n e = cc
-refused_by m texts (Some stop) n e = e
-
-pub refused_first : (bytes : List ℕ) (j : Judging) (n : ℕ) → j.refused ≡ Some n → HasRead bytes j → FailsFirst j.checker.model (ended_lines bytes) (Some n)
+pub refused_first : (bytes : List ℕ) (j : Judging) (n : ℕ) → refused_line j.checker.reading ≡ Some n → HasRead bytes j →
+    FailsFirst j.checker.model (ended_lines bytes) (Some n)
 refused_first bytes j n is h =
+    let held = some_line j.checker.reading.next n j.checker.reading.stop is in
     subst (λ (x : List (List ℕ)). FailsFirst j.checker.model x (Some n)) (sym (ended_are bytes j h))
-    (subst (λ (r : Reading). FailsBy j.checker.model h.texts r.stop (Some n)) h.judged.checked.reading
-    (refused_by j.checker.model h.texts j.checker.reading.stop n (sym is ∙ h.judged.refused)))
+    (inl (
+      j.checker.reading.next,
+      stopped_against h.texts j.checker h.judged.checked held.0 held.1,
+      ap (λ (k : ℕ). Some k) (sym held.2),
+    ))
 
 -- the verdict behind the last line
 
@@ -326,20 +250,21 @@ all_lines bytes j h = ap strict_lines h.parts ∙ h.lines h.line ∙ ap (λ (x :
 
 -- a last line without an LF was judged
 module _ (j : Judging) (end : Checking) (v : Verdict) (final : IsFinal end v) where
-  pub shown_after : j.refused ≡ None → 0 < length j.line.bytes.items → Takes j.checker (63 ∷ []) end → (bytes : List ℕ) → HasRead bytes j →
+  pub shown_after : j.checker.reading.stop ≡ None → 0 < length j.line.bytes.items → Takes j.checker (63 ∷ []) end →
+      j.checker.reading.next ≤ 4000000000 → (bytes : List ℕ) → HasRead bytes j →
       IsShownBy (strict_lines bytes) j.checker.model v
-  shown_after none some t bytes h =
+  shown_after none some t next bytes h =
       subst (λ (x : List (List ℕ)). IsShownBy x j.checker.model v) (sym (all_lines bytes j h))
       (go h.line (some_kept_of j.line.bytes.items h.line some (h.kept none)) (last_for j.checker end (63 ∷ []) h.line h.judged.few refl h.free t))
     where
       go : (line : List ℕ) → 0 < length line → Takes j.checker line end → IsShownBy (h.texts ++ last_line line) j.checker.model v
       go [] some t = absurd (omega (arith, some))
       go (b ∷ bs) some t =
-          shown end j.checker.model v t.model final (h.texts ++ (b ∷ bs) ∷ []) (one_line_more h.texts (b ∷ bs) j.checker end h.judged.checked t)
+          shown end j.checker.model v t.model final (h.texts ++ (b ∷ bs) ∷ []) (one_line_more h.texts (b ∷ bs) j.checker end h.judged.checked t (λ none. next))
 
 -- none was, as none stands there or a line was refused before
 module _ (j : Judging) (v : Verdict) (final : IsFinal j.checker v) where
-  pub shown_at_once : length j.line.bytes.items ≡ 0 → j.refused ≡ None → (bytes : List ℕ) → HasRead bytes j → IsShownBy (strict_lines bytes) j.checker.model v
+  pub shown_at_once : length j.line.bytes.items ≡ 0 → j.checker.reading.stop ≡ None → (bytes : List ℕ) → HasRead bytes j → IsShownBy (strict_lines bytes) j.checker.model v
   shown_at_once empty none bytes h =
       subst (λ (x : List (List ℕ)). IsShownBy x j.checker.model v) (sym (all_lines bytes j h))
       (go h.line (none_kept_of j.line.bytes.items h.line empty (h.kept none)))
@@ -349,15 +274,15 @@ module _ (j : Judging) (v : Verdict) (final : IsFinal j.checker v) where
           (shown j.checker j.checker.model v refl final h.texts h.judged.checked)
       go (b ∷ bs) e = absurd (omega (arith, e))
 
-  pub shown_refused : (n : ℕ) → j.refused ≡ Some n → (bytes : List ℕ) → HasRead bytes j → IsShownBy (strict_lines bytes) j.checker.model v
-  shown_refused n is bytes h =
+  pub shown_refused : (stop : CertStop) → j.checker.reading.stop ≡ Some stop → (bytes : List ℕ) → HasRead bytes j → IsShownBy (strict_lines bytes) j.checker.model v
+  shown_refused stop is bytes h =
       subst (λ (x : List (List ℕ)). IsShownBy x j.checker.model v) (sym (all_lines bytes j h)) (go h.line)
     where
       go : (line : List ℕ) → IsShownBy (h.texts ++ last_line line) j.checker.model v
       go [] = subst (λ (x : List (List ℕ)). IsShownBy x j.checker.model v) (sym (append-nil h.texts))
           (shown j.checker j.checker.model v refl final h.texts h.judged.checked)
       go (b ∷ bs) =
-          shown j.checker j.checker.model v refl final (h.texts ++ (b ∷ bs) ∷ []) (more_unjudged h.texts j n (b ∷ bs) is h.judged).checked
+          shown j.checker j.checker.model v refl final (h.texts ++ (b ∷ bs) ∷ []) (more_unjudged h.texts j stop (b ∷ bs) is h.judged).checked
 
 -- the same by the tests of the code
 
@@ -368,23 +293,21 @@ none_tested : (n : ℕ) (t : Bool) → t ≡ (n == 0) → t ≡ true → n ≡ 0
 none_tested n t test e = eqb-true n 0 (sym test ∙ e)
 
 module _ (j : Judging) (last : Checking) where
-  pub some_shown : (end : Checking) (v : Verdict) → IsFinal last v → last ≡ end → is_some j.refused ≡ false → (t : Bool) →
-      t ≡ (length j.line.bytes.items == 0) → t ≡ false → Takes j.checker (63 ∷ []) end → (bytes : List ℕ) → HasRead bytes j →
-      IsShownBy (strict_lines bytes) j.checker.model v
-  some_shown end v final is none t test some takes =
-      shown_after j last v final (none_refused j.refused none) (some_tested (length j.line.bytes.items) t test some)
-      (subst (Takes j.checker (63 ∷ [])) (sym is) takes)
+  pub some_shown : (end : Checking) (v : Verdict) → IsFinal last v → last ≡ end → is_some (refused_line j.checker.reading) ≡ false → (t : Bool) →
+      t ≡ (length j.line.bytes.items == 0) → t ≡ false → Takes j.checker (63 ∷ []) end → j.checker.reading.next ≤ 4000000000 →
+      (bytes : List ℕ) → HasRead bytes j → IsShownBy (strict_lines bytes) j.checker.model v
+  some_shown end v final is going t test some takes next =
+      shown_after j last v final (none_stop j.checker.reading.next j.checker.reading.stop going) (some_tested (length j.line.bytes.items) t test some)
+      (subst (Takes j.checker (63 ∷ [])) (sym is) takes) next
 
-  pub empty_shown : (v : Verdict) → IsFinal last v → last ≡ j.checker → is_some j.refused ≡ false → (t : Bool) →
+  pub empty_shown : (v : Verdict) → IsFinal last v → last ≡ j.checker → is_some (refused_line j.checker.reading) ≡ false → (t : Bool) →
       t ≡ (length j.line.bytes.items == 0) → t ≡ true → (bytes : List ℕ) → HasRead bytes j → IsShownBy (strict_lines bytes) j.checker.model v
-  empty_shown v final is none t test closed =
+  empty_shown v final is going t test closed =
       shown_at_once j v (subst (λ (z : Checking). IsFinal z v) is final) (none_tested (length j.line.bytes.items) t test closed)
-      (none_refused j.refused none)
+      (none_stop j.checker.reading.next j.checker.reading.stop going)
 
-  pub refused_shown : (v : Verdict) → IsFinal last v → last ≡ j.checker → is_some j.refused ≡ true → (bytes : List ℕ) → HasRead bytes j →
-      IsShownBy (strict_lines bytes) j.checker.model v
-  refused_shown v final is some = go j.refused refl some
-    where
-      go : (o : Option ℕ) → j.refused ≡ o → is_some o ≡ true → (bytes : List ℕ) → HasRead bytes j → IsShownBy (strict_lines bytes) j.checker.model v
-      go None e k = cc
-      go (Some n) e k = shown_refused j v (subst (λ (z : Checking). IsFinal z v) is final) n e
+  pub refused_shown : (v : Verdict) → IsFinal last v → last ≡ j.checker → is_some (refused_line j.checker.reading) ≡ true → (bytes : List ℕ) →
+      HasRead bytes j → IsShownBy (strict_lines bytes) j.checker.model v
+  refused_shown v final is some =
+      let held = some_stop j.checker.reading.next j.checker.reading.stop some in
+      shown_refused j v (subst (λ (z : Checking). IsFinal z v) is final) held.0 held.1

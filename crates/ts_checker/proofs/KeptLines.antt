@@ -10,16 +10,17 @@ use Rattle.ts_certificate.specs.declared.state.State.TheVariants.{Start}
 use Rattle.ts_certificate.specs.declared.stop.CertStop.{CertStop}
 use Rattle.ts_certificate.specs.declared.stop.LineStop.{LineStop}
 use Rattle.ts_certificate.specs.declared.stop.LineStop.TheVariants.{Grammar}
-use Rattle.ts_certificate.specs.Grammar.{CertLine, SaysSeries, next_state, state_after}
+use Rattle.ts_certificate.specs.Grammar.{CertLine, SaysSeries}
 use Rattle.ts_certificate.specs.LineOf.{line_if, line_of, line_of_words}
 use Rattle.ts_certificate.specs.Reading.{answer_at, answer_unless, reading_by, reading_unless, tree_lines}
-use Rattle.ts_certificate.proofs.CallerLemmas.{moved_few, stop_kept}
+use Rattle.ts_certificate.proofs.CallerLemmas.{stop_kept}
 use Rattle.ts_model.specs.ModelParts.{ModelParts}
 use Rattle.ts_filter.specs.Accepts.{SeriesFits}
 use Rattle.ts_filter.specs.Lines.{KeepsLine, Stand}
 use Rattle.ts_filter.specs.RefutedWorseDrop.{Spans}
 use Rattle.ts_spans.specs.Machines.{spans_in}
 use Rattle.ts_checker.specs.Checking.{Checking, HasChecked, Takes, TakesBy, TakesFirst, TakesOn}
+use Rattle.ts_checker.proofs.Verdicts.{state_few}
 use Rattle.ts_checker.specs.Feeding.{IsUnfinished}
 use Rattle.ts_checker.specs.Shortened.{AreAlike, Extends, IsKeptOf, ReadAlike, Shortens}
 use Rattle.ts_checker.proofs.Pieces.{none_without}
@@ -143,12 +144,6 @@ module _ (old new : Checking) (kept line : List ℕ) (t : Takes old kept new) wh
       go : (o : Option CertStop) → old.reading.stop ≡ o → Takes old line new
       go None e = alike_taken (line_of old.reading.state kept) (line_of old.reading.state line) refl refl few e (alike e)
       go (Some stop) e = given (Some stop) e refl (taken_at (Some stop) e)
-
--- fewer tree lines than lines were read
-
-state_few : (s : State) (ls : List CertLine) → tree_lines (state_after s ls) ≤ tree_lines s + length ls
-state_few s [] = omega arith
-state_few s (l ∷ ls) = let a = moved_few s l in let b = state_few (next_state s l) ls in omega (arith, a, b)
 
 few_read : (texts : List (List ℕ)) (c : Checking) → HasChecked texts c → c.reading.next ≤ 4000000000 → c.reading.stop ≡ None →
     tree_lines c.reading.state < 2 ^ 63

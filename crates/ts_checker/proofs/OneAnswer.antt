@@ -1,5 +1,5 @@
 -- An input of `verify` has one end, and one first line that fails.
-use Rattle.std.proofs.Common.{◌≡◌, ℕ, suc, ◌+◌, ◌<◌, ◌≤◌, ◌^◌, Bool, true, false, cond, Option, Some, None, Ok, Err, List, [], ◌∷◌, ◌++◌, length, map, refl, sym, ap, ◌∙◌, subst, arith}
+use Rattle.std.proofs.Common.{◌≡◌, ℕ, suc, ◌+◌, ◌<◌, ◌≤◌, ◌^◌, Bool, true, false, cond, inl, inr, Option, Some, None, Ok, Err, List, [], ◌∷◌, ◌++◌, length, map, refl, sym, ap, ◌∙◌, subst, arith}
 use Rattle.std.specs.Prelude.{Result, filter, unwrap_or}
 use Rattle.std.specs.List.{concat}
 use Rattle.std.proofs.lemmas.List.{length-append, length-map}
@@ -9,7 +9,7 @@ use Rattle.ts_token.specs.Halves.{after_front, halves, is_separator}
 use Rattle.ts_certificate.specs.declared.state.State.TheVariants.{Start}
 use Rattle.ts_certificate.specs.declared.stop.CertStop.{CertStop}
 use Rattle.ts_certificate.specs.Grammar.{CertLine, line_text}
-use Rattle.ts_certificate.specs.Reading.{answers_to, fresh, reading_after}
+use Rattle.ts_certificate.specs.Reading.{answers_to, fresh}
 use Rattle.ts_certificate.proofs.CallerLemmas.{lines_again}
 use Rattle.ts_model.specs.declared.error.ModelKind.{ModelKind}
 use Rattle.ts_model.specs.declared.model.Need.TheVariants.{List as Listed}
@@ -24,8 +24,8 @@ use Rattle.ts_checker.specs.declared.verify_end.VerifyEnd.{VerifyEnd}
 use Rattle.ts_checker.specs.declared.verify_end.VerifyEnd.TheVariants.{Model, Verdict as Judged}
 use Rattle.ts_checker.specs.Laws.{OneEnd, OneFailed}
 use Rattle.ts_checker.specs.Verdicts.{IsVerdict}
-use Rattle.ts_checker.specs.Verified.{BreaksFirst, FailsBy, FailsIn, certificate_lines, ended_lines, is_ended, model_part, rest_part}
-use Rattle.ts_checker.proofs.Verdicts.{one_verdict}
+use Rattle.ts_checker.specs.Verified.{BreaksFirst, FailsFirst, FailsIn, certificate_lines, ended_lines, is_ended, model_part, rest_part}
+use Rattle.ts_checker.proofs.Verdicts.{not_against, one_verdict, same_stop}
 
 -- a certificate has no more lines than its input has bytes
 
@@ -107,14 +107,15 @@ broken_once m texts a b short h k =
     found_once m (spans_in m) h.lines h.stand k.stand a b h.found
     (subst (λ (ls : List CertLine). IsOutcome m (spans_in m) ls k.stand b) same k.found)
 
-failed_by : (m : ModelParts) (texts : List (List ℕ)) (o : Option CertStop) (a b : Option ℕ) → length texts < 2 ^ 62 → FailsBy m texts o a →
-    FailsBy m texts o b → a ≡ b
-failed_by m texts None a b short h k = broken_once m texts a b short h k
-failed_by m texts (Some stop) a b short h k = h ∙ sym k
+failed_once : (m : ModelParts) (texts : List (List ℕ)) (a b : Option ℕ) → length texts < 2 ^ 62 → FailsFirst m texts a → FailsFirst m texts b → a ≡ b
+failed_once m texts a b short (inl h) (inl k) = h.2 ∙ ap (λ (n : ℕ). Some n) (same_stop texts short h.0 k.0 (inl h.1) (inl k.1)) ∙ sym k.2
+failed_once m texts a b short (inl h) (inr k) = absurd (not_against texts short k.lines h.0 k.are k.follow h.1)
+failed_once m texts a b short (inr h) (inl k) = absurd (not_against texts short h.lines k.0 h.are h.follow k.1)
+failed_once m texts a b short (inr h) (inr k) = broken_once m texts a b short h k
 
 failed_in : (found : Result ModelParts (ℕ × ModelKind)) (texts : List (List ℕ)) (a b : Option ℕ) → length texts < 2 ^ 62 → FailsIn found texts a →
     FailsIn found texts b → a ≡ b
-failed_in (Ok m) texts a b short h k = failed_by m texts (reading_after fresh texts).stop a b short h k
+failed_in (Ok m) texts a b short h k = failed_once m texts a b short h k
 failed_in (Err bad) texts a b short h k = h ∙ sym k
 
 pub one_failed : OneFailed

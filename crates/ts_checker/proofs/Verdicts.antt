@@ -1,5 +1,5 @@
 -- What is known of the lines so far, after one more; and of all lines, where it is the verdict.
-use Rattle.std.proofs.Common.{◌≡◌, ◌≢◌, ℕ, ◌^◌, ◌+◌, ◌<◌, inl, inr, ⊎_elim, true, List, [], ◌∷◌, ◌++◌, length, map, Option, Some, None, Ok, Err, refl, sym, ◌∙◌, ap, subst, arith, append_assoc}
+use Rattle.std.proofs.Common.{◌≡◌, ◌≢◌, ℕ, ◌^◌, ◌+◌, ◌<◌, ◌≤◌, inl, inr, ⊎_elim, true, List, [], ◌∷◌, ◌++◌, length, map, Option, Some, None, Ok, Err, refl, sym, ◌∙◌, ap, subst, arith, append_assoc}
 use Rattle.std.specs.Prelude.{MatchOption, Result}
 use Rattle.std.specs.List.{concat}
 use Rattle.std.proofs.lemmas.List.{length-map, length_push, map-append}
@@ -7,13 +7,15 @@ use Rattle.std.proofs.lemmas.Option.{same_Some}
 use Rattle.ts_certificate.specs.declared.state.State.{State}
 use Rattle.ts_certificate.specs.declared.state.State.TheVariants.{Start, AfterAim, InSeries, InTree, AfterEnd}
 use Rattle.ts_certificate.specs.declared.stop.CertStop.{CertStop}
+use Rattle.ts_certificate.specs.declared.stop.CertStop.TheVariants.{Text, CountDiffers, Memory as NoMemory}
 use Rattle.ts_certificate.specs.declared.stop.LineStop.{LineStop}
+use Rattle.ts_certificate.specs.declared.stop.LineStop.TheVariants.{Grammar, Counts, Memory}
 use Rattle.ts_certificate.specs.Certificate.{Cert, cert_lines}
 use Rattle.ts_certificate.specs.FirstStop.{MayFollow, AreLines}
-use Rattle.ts_certificate.specs.Grammar.{CertLine, line_text, may_follow, next_state, state_after}
+use Rattle.ts_certificate.specs.Grammar.{CertLine, IsLine, line_text, may_follow, next_state, state_after}
 use Rattle.ts_certificate.specs.LineOf.{line_of}
-use Rattle.ts_certificate.specs.Reading.{Reading, fresh, reading_by, reading_unless, reading_with, reading_after, answer_at, answer_unless, answer_to, end_stop_at, end_stop_unless, end_stop}
-use Rattle.ts_certificate.proofs.CallerLemmas.{line_of_only, at_line, lines_again, certificate_runs, runs_certificate, runs_from, runs_give, one_value, lines_count, stop_kept}
+use Rattle.ts_certificate.specs.Reading.{Reading, fresh, reading_by, reading_unless, reading_with, reading_after, stop_at, tree_lines, answer_at, answer_unless, answer_to, end_stop_at, end_stop_unless, end_stop}
+use Rattle.ts_certificate.proofs.CallerLemmas.{line_of_only, at_line, first_told, line_is, moved_few, lines_again, certificate_runs, runs_certificate, runs_from, runs_give, one_value, lines_count, stop_kept}
 use Rattle.ts_model.specs.Promise.{IsWhole}
 use Rattle.ts_model.specs.ModelParts.{ModelParts}
 use Rattle.ts_domain.specs.BoxSeries.{IsBox}
@@ -26,7 +28,7 @@ use Rattle.ts_checker.specs.declared.verdict.Verdict.TheVariants.{Accepted, Reje
 use Rattle.ts_checker.specs.Checking.{Checking, TakesFirst, TakesOn, TakesBy, Takes, IsGoing, IsStopped, IsOver, HasChecked}
 use Rattle.ts_checker.specs.Laws.{NoneChecked, OneVerdict}
 use Rattle.ts_spans.specs.Machines.{spans_in}
-use Rattle.ts_checker.specs.Verdicts.{AreOf, IsRefused, IsTrueOf, IsVerdict, stop_line, verdict_by}
+use Rattle.ts_checker.specs.Verdicts.{AreOf, IsAgainst, IsRefused, IsTrueOf, IsUnended, IsVerdict, verdict_by}
 use Rattle.ts_checker.proofs.Truth.{accepted_is_true}
 
 -- lists of lines, one longer
@@ -89,6 +91,7 @@ still_stopped texts text old new model failed s = record {
   before = s.before;
   reading = s.reading;
   unstopped = s.unstopped;
+  few = s.few;
   going = s.going;
   refused = s.refused;
   model = model ∙ s.model;
@@ -101,7 +104,8 @@ record IsRest (texts : List (List ℕ)) (c : Checking) : Type 0 where
   stopped : c.reading.stop ≢ None → IsStopped texts c
   emptied : IsOver c → c.stand.waiting ≡ []
 
-module _ (texts : List (List ℕ)) (text : List ℕ) (old new : Checking) (h : HasChecked texts old) (t : Takes old text new) where
+module _ (texts : List (List ℕ)) (text : List ℕ) (old new : Checking) (h : HasChecked texts old) (t : Takes old text new)
+    (near : old.reading.stop ≡ None → old.reading.next ≤ 4000000000) where
   abbrev pub longer : List (List ℕ)
   longer = texts ++ text ∷ []
 
@@ -148,6 +152,7 @@ module _ (texts : List (List ℕ)) (text : List ℕ) (old new : Checking) (h : H
           before = old;
           reading = h.reading;
           unstopped = none;
+          few = near none;
           going = h.going none;
           refused = λ e. some (ap (λ (r : Reading). r.stop) t.reading ∙ e);
           model = t.model;
@@ -221,6 +226,85 @@ ended : (r : Reading) (o : Option CertStop) → r.stop ≡ o → end_stop_unless
 ended r None is e = record { stop = is; state = ended_at r.next r.state e }
 ended r (Some stop) is e = cc
 
+-- the line that is refused
+
+after_append : (r : Reading) (xs ys : List (List ℕ)) → reading_after r (xs ++ ys) ≡ reading_after (reading_after r xs) ys
+after_append r [] ys = refl
+after_append r (x ∷ xs) ys = after_append (reading_with r x) xs ys
+
+stays_after : (r : Reading) (stop : CertStop) (texts : List (List ℕ)) → r.stop ≡ Some stop → reading_after r texts ≡ r
+stays_after r stop [] e = refl
+stays_after r stop (t ∷ ts) e =
+    let kept = stop_kept r stop t e in ap (λ (q : Reading). reading_after q ts) kept.1 ∙ stays_after r stop ts e
+
+-- fewer tree lines than lines were read
+pub state_few : (s : State) (ls : List CertLine) → tree_lines (state_after s ls) ≤ tree_lines s + length ls
+state_few s [] = omega arith
+state_few s (l ∷ ls) = let a = moved_few s l in let b = state_few (next_state s l) ls in omega (arith, a, b)
+
+module _ (texts : List (List ℕ)) (c : Checking) (h : HasChecked texts c) where
+  module _ (s : IsStopped texts c) where
+    reads_to : c.reading ≡ reading_after (reading_with s.before.reading s.line) s.more
+    reads_to =
+        h.reading ∙ ap (reading_after fresh) s.parts ∙ after_append fresh s.front (s.line ∷ s.more)
+        ∙ ap (λ (r : Reading). reading_after (reading_with r s.line) s.more) (sym s.reading)
+
+    read_as : (g : Result CertLine LineStop) → line_of s.before.reading.state s.line ≡ g → reading_with s.before.reading s.line ≡ reading_by s.before.reading g
+    read_as g e = ap (λ o. reading_unless s.before.reading o s.line) s.unstopped ∙ ap (reading_by s.before.reading) e
+
+    few_before : tree_lines s.before.reading.state < 2 ^ 63
+    few_before =
+        let are = s.going.are in
+        let count = are.next in
+        let few = state_few Start are.lines in
+        let same = ap tree_lines are.state in
+        let near = s.few in
+        omega (arith, count, few, same, near)
+
+    against_by : (g : Result CertLine LineStop) → line_of s.before.reading.state s.line ≡ g → IsAgainst texts c.reading.next
+    against_by (Ok l) e = absurd (s.refused (ap (λ (r : Reading). r.stop) (read_as (Ok l) e)))
+    against_by (Err why) e =
+        let are = s.going.are in
+        let reads = read_as (Err why) e in
+        let stays = stays_after (reading_with s.before.reading s.line) (stop_at s.before.reading.next why) s.more (ap (λ (r : Reading). r.stop) reads) in
+        record {
+          stop = stop_at (1 + length are.lines) why;
+          first = record {
+            before = are.lines;
+            text = s.line;
+            after = s.more;
+            parts = s.parts ∙ ap (λ (x : List (List ℕ)). x ++ s.line ∷ s.more) are.are;
+            follow = are.follow;
+            why = why;
+            line = subst (λ (t : State). IsLine t s.line (Err why)) are.state
+                (subst (IsLine s.before.reading.state s.line) e (line_is s.before.reading.state s.line few_before));
+            is = refl;
+          };
+          number = ap (λ (r : Reading). r.next) (reads_to ∙ stays ∙ reads) ∙ are.next;
+        }
+
+  pub stopped_against : (stop : CertStop) → c.reading.stop ≡ Some stop → IsAgainst texts c.reading.next
+  stopped_against stop e =
+      let s = h.stopped (λ none. let wrong : ◌≡◌ {A = Option CertStop} None (Some stop) = sym none ∙ e in cc) in
+      against_by s (line_of s.before.reading.state s.line) refl
+
+  unended : c.reading.stop ≡ None → c.reading.state ≢ AfterEnd → IsUnended texts c.reading.next
+  unended none before =
+      let are = (h.going none).are in record {
+        lines = are.lines;
+        are = are.are;
+        follow = are.follow;
+        before_end = λ e. before (are.state ∙ e);
+        number = let next = are.next in let count = ap length are.are ∙ length-map are.lines line_text in omega (arith, next, count);
+      }
+
+  refused_by : (o : Option CertStop) (stop : CertStop) → c.reading.stop ≡ o → end_stop_unless c.reading o ≡ Some stop → IsRefused texts c.reading.next
+  refused_by None stop is e =
+      inr (unended is (λ ended. let wrong : ◌≡◌ {A = Option CertStop} None (Some stop) = sym (ap (end_stop_at c.reading.next) ended) ∙ e in cc))
+  refused_by (Some held) stop is e = inl (stopped_against held is)
+
+-- what is accepted or rejected
+
 record IsWholly (texts : List (List ℕ)) (c : Checking) (f : Option ℕ) : Type 0 where
   cert : Cert
   lines : AreOf texts cert
@@ -241,14 +325,14 @@ whole texts c f h is end =
 
 -- the verdict by where the reading stops and by the first line that breaks its rule is the one of the definitions
 pub verdict_is : (texts : List (List ℕ)) (c : Checking) (o : Option CertStop) (f : Option ℕ) → HasChecked texts c → end_stop c.reading ≡ o →
-    c.failed ≡ f → IsVerdict c.model texts (verdict_by o f)
-verdict_is texts c (Some stop) f h e is = record { stop = stop; is = ap end_stop (sym h.reading) ∙ e; at = refl }
+    c.failed ≡ f → IsVerdict c.model texts (verdict_by c.reading.next o f)
+verdict_is texts c (Some stop) f h e is = refused_by texts c h c.reading.stop stop refl e
 verdict_is texts c None None h e is =
     let w = whole texts c None h is (ended c.reading c.reading.stop refl e) in (w.cert, w.lines, w.judged)
 verdict_is texts c None (Some n) h e is =
     let w = whole texts c (Some n) h is (ended c.reading c.reading.stop refl e) in (w.cert, w.lines, w.judged.0)
 
-pub verdict_given : (texts : List (List ℕ)) (c : Checking) (v : Verdict) → v ≡ verdict_by (end_stop c.reading) c.failed → HasChecked texts c →
+pub verdict_given : (texts : List (List ℕ)) (c : Checking) (v : Verdict) → v ≡ verdict_by c.reading.next (end_stop c.reading) c.failed → HasChecked texts c →
     IsVerdict c.model texts v
 verdict_given texts c v is h =
     subst (λ z. IsVerdict c.model texts z) (sym is) (verdict_is texts c (end_stop c.reading) c.failed h refl refl)
@@ -259,6 +343,24 @@ accepted_true m texts v whole box is h =
     let a = subst (λ z. IsVerdict m texts z) is h in (a.0, a.1, accepted_is_true m a.0 whole box a.2)
 
 -- there is one verdict
+
+-- the number of the line at which a reading stops
+abbrev stop_line : CertStop → ℕ
+stop_line (Text line) = line
+stop_line (CountDiffers line said found) = line
+stop_line NoMemory = 0
+
+line_told : (n : ℕ) (why : LineStop) (s : State) (text : List ℕ) → IsLine s text (Err why) → stop_line (stop_at n why) ≡ n
+line_told n Grammar s text is = refl
+line_told n (Counts said found) s text is = refl
+line_told n Memory s text is = absurd is
+
+missed : (s : State) (n : ℕ) → s ≢ AfterEnd → end_stop_at n s ≡ Some (Text n)
+missed Start n before = refl
+missed (AfterAim a) n before = refl
+missed (InSeries k) n before = refl
+missed (InTree c u) n before = refl
+missed AfterEnd n before = absurd (before refl)
 
 module _ (texts : List (List ℕ)) (short : length texts < 2 ^ 62) where
   count_of : (c : Cert) → AreOf texts c → length texts ≡ length c.series + length c.tree + 3
@@ -281,8 +383,44 @@ module _ (texts : List (List ℕ)) (short : length texts < 2 ^ 62) where
       ap (λ ts. end_stop (reading_after fresh ts)) a.are ∙ ap end_stop read.0
       ∙ ap (λ (s : State). end_stop (at_line s (1 + length (cert_lines c)))) runs.1
 
+  -- the lines of a certificate so far are read so
+  read_lines : (lines : List CertLine) → texts ≡ map line_text lines → MayFollow Start lines →
+      reading_after fresh texts ≡ at_line (state_after Start lines) (1 + length lines)
+  read_lines lines are follow =
+      let count = ap length are ∙ length-map lines line_text in
+      let less : 0 + length lines < 2 ^ 63 = omega (arith, count, short) in
+      ap (reading_after fresh) are ∙ (lines_again Start 1 lines less follow).0
+
+  stopped_at : (n : ℕ) (a : IsAgainst texts n) → (reading_after fresh texts).stop ≡ Some a.stop
+  stopped_at n a = first_told texts a.stop (omega (arith, short)) a.first
+
+  pub not_against : (lines : List CertLine) (n : ℕ) → texts ≡ map line_text lines → MayFollow Start lines → IsAgainst texts n → ⊥
+  not_against lines n are follow a =
+      let wrong : ◌≡◌ {A = Option CertStop} None (Some a.stop) = sym (ap (λ (r : Reading). r.stop) (read_lines lines are follow)) ∙ stopped_at n a in cc
+
+  -- what the reading tells of the line that is refused
+  record IsTold (n : ℕ) : Type 0 where
+    stop : CertStop
+    is : end_stop (reading_after fresh texts) ≡ Some stop
+    at : stop_line stop ≡ n
+
+  told : (n : ℕ) → IsRefused texts n → IsTold n
+  told n (inl a) = record {
+    stop = a.stop;
+    is = ap (end_stop_unless (reading_after fresh texts)) (stopped_at n a);
+    at = ap stop_line a.first.is ∙ line_told (1 + length a.first.before) a.first.why (state_after Start a.first.before) a.first.text a.first.line ∙ sym a.number;
+  }
+  told n (inr u) =
+      let count = ap length u.are ∙ length-map u.lines line_text in
+      let number = u.number in
+      record {
+        stop = Text (1 + length u.lines);
+        is = ap end_stop (read_lines u.lines u.are u.follow) ∙ missed (state_after Start u.lines) (1 + length u.lines) u.before_end;
+        at = omega (arith, count, number);
+      }
+
   not_refused : (c : Cert) (n : ℕ) → AreOf texts c → IsRefused texts n → ⊥
-  not_refused c n a r = let e : ◌≡◌ {A = Option CertStop} None (Some r.stop) = sym (ended_of c a) ∙ r.is in cc
+  not_refused c n a r = let t = told n r in let e : ◌≡◌ {A = Option CertStop} None (Some t.stop) = sym (ended_of c a) ∙ t.is in cc
 
   not_both : (m : ModelParts) (c d : Cert) (n : ℕ) → AreOf texts c → AreOf texts d → Accepts m (spans_in m) c → IsFirstFailing m (spans_in m) d n → ⊥
   not_both m c d n a b acc f = failing_is_rejected m (spans_in m) c n (subst (λ z. IsFirstFailing m (spans_in m) z n) (one_of d c b a) f) acc
@@ -291,8 +429,11 @@ module _ (texts : List (List ℕ)) (short : length texts < 2 ^ 62) where
       IsFirstFailing m (spans_in m) d n → k ≡ n
   same_line m c d k n a b f g = one_first_failing m (spans_in m) c k n f (subst (λ z. IsFirstFailing m (spans_in m) z n) (one_of d c b a) g)
 
-  same_stop : (k n : ℕ) → IsRefused texts k → IsRefused texts n → k ≡ n
-  same_stop k n r q = sym r.at ∙ ap stop_line (same_Some r.stop q.stop (sym r.is ∙ q.is)) ∙ q.at
+  pub same_stop : (k n : ℕ) → IsRefused texts k → IsRefused texts n → k ≡ n
+  same_stop k n r q =
+      let t = told k r in
+      let u = told n q in
+      sym t.at ∙ ap stop_line (same_Some t.stop u.stop (sym t.is ∙ u.is)) ∙ u.at
 
   pub only_verdict : (m : ModelParts) (v w : Verdict) → IsVerdict m texts v → IsVerdict m texts w → v ≡ w
   only_verdict m Accepted Accepted h k = refl

@@ -1,7 +1,6 @@
 -- An input of `verify` as far as it was fed: what is kept of the bytes, and what is known of it.
-use Rattle.std.specs.Prelude.{◌≡◌, ℕ, ◌==◌, ◌≤◌, Bool, true, false, not, List, [], ◌∷◌, ◌++◌, filter, length}
-use Rattle.std.specs.Prelude.{if◌then◌else◌, Option, Some, None, is_some, MatchOption, Result, Ok, Err}
-use Rattle.std.specs.Option.{option_map}
+use Rattle.std.specs.Prelude.{◌≡◌, ◌≢◌, ℕ, ◌≤◌, Bool, true, false, not, List, [], ◌∷◌, ◌++◌, filter, length}
+use Rattle.std.specs.Prelude.{Option, Some, None, MatchOption, Result, Ok, Err}
 use Rattle.std.specs.List.{list_all}
 use Rattle.ts_base.specs.Limits.{most_cells}
 use Rattle.ts_base.specs.Words.{is_lf, strict_lines, without_lf}
@@ -23,18 +22,11 @@ use Rattle.ts_checker.specs.declared.verify_end.VerifyEnd.{VerifyEnd}
 use Rattle.ts_checker.specs.declared.verify_end.VerifyEnd.TheVariants.{Model, Verdict}
 use Rattle.ts_checker.specs.Checking.{HasChecked}
 use Rattle.ts_checker.specs.Shortened.{IsKeptOf, IsSmall}
-use Rattle.ts_checker.specs.Verdicts.{stop_line}
 use Rattle.ts_checker.specs.Verified.{FailsFirst, IsShownBy, ended_lines, is_ended, model_part}
 
--- the line that was refused before; else this one, where the next one still has its number
-abbrev pub refused_now : Option ℕ → ℕ → ℕ → Option ℕ
-refused_now (Some line) number next = Some line
-refused_now None number next = if next == number then Some number else None
-
--- the checker has checked lines with these texts, and this one of them is refused, if any is
+-- the checker has checked lines with these texts
 pub record HasJudged (texts : List (List ℕ)) (j : AtWork) : Type 0 where
   pub checked : HasChecked texts j.checker
-  pub refused : j.refused ≡ option_map stop_line j.checker.reading.stop
   pub few : length j.checker.model.cells ≤ most_cells
 
 -- whatever lines came before, the one that what is kept stands for has come too, with its LF
@@ -70,9 +62,9 @@ pub record HasRead (bytes : List ℕ) (j : AtWork) : Type 0 where
   pub ended : filter is_ended texts ≡ texts
   pub free : IsUnfinished line
   pub judged : HasJudged texts j
-  pub kept : j.refused ≡ None → IsKeptOf j.line.bytes.items line
+  pub kept : j.checker.reading.stop ≡ None → IsKeptOf j.line.bytes.items line
   pub small : IsSmall j.line.bytes.items
-  pub dropped : is_some j.refused ≡ true → j.line.bytes.items ≡ []
+  pub dropped : j.checker.reading.stop ≢ None → j.line.bytes.items ≡ []
 
 -- whatever bytes of the certificate came before, these have come too
 abbrev pub Reads : AtWork → List ℕ → AtWork → Type 0

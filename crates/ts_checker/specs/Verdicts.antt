@@ -1,10 +1,12 @@
 -- The verdict on a certificate, given as the texts of its lines.
-use Rattle.std.specs.Prelude.{◌≡◌, ℕ, List, map, Option, Some, None}
+use Rattle.std.specs.Prelude.{◌≡◌, ◌≢◌, ◌⊎◌, ℕ, ◌+◌, List, length, map, Option, Some, None}
+use Rattle.std.specs.Option.{option_map}
+use Rattle.ts_certificate.specs.declared.state.State.TheVariants.{Start, AfterEnd}
 use Rattle.ts_certificate.specs.declared.stop.CertStop.{CertStop}
-use Rattle.ts_certificate.specs.declared.stop.CertStop.TheVariants.{Text, CountDiffers, Memory as NoMemory}
 use Rattle.ts_certificate.specs.Certificate.{Cert, IsCertificate, cert_lines}
-use Rattle.ts_certificate.specs.Grammar.{line_text}
-use Rattle.ts_certificate.specs.Reading.{fresh, reading_after, end_stop}
+use Rattle.ts_certificate.specs.FirstStop.{IsFirst, MayFollow}
+use Rattle.ts_certificate.specs.Grammar.{CertLine, line_text, state_after}
+use Rattle.ts_certificate.specs.Reading.{Reading}
 use Rattle.ts_model.specs.ModelParts.{ModelParts}
 use Rattle.ts_filter.specs.Accepts.{Accepts}
 use Rattle.ts_filter.specs.Holds.{Holds}
@@ -18,18 +20,24 @@ pub record AreOf (texts : List (List ℕ)) (c : Cert) : Type 0 where
   pub certificate : IsCertificate c
   pub are : texts ≡ map line_text (cert_lines c)
 
--- the number of the line at which a reading stops; no reading stops for want of memory
-abbrev pub stop_line : CertStop → ℕ
-stop_line (Text line) = line
-stop_line (CountDiffers line said found) = line
-stop_line NoMemory = 0
-
--- the reading of the texts stops at this line: the first against the grammar, an end line with other counts, or the
--- line that is missing at the end
-pub record IsRefused (texts : List (List ℕ)) (line : ℕ) : Type 0 where
+-- the texts before this line are those of lines that may follow one another, and this one is of none that may come
+-- there, or an end line with other counts
+pub record IsAgainst (texts : List (List ℕ)) (line : ℕ) : Type 0 where
   pub stop : CertStop
-  pub is : end_stop (reading_after fresh texts) ≡ Some stop
-  pub at : stop_line stop ≡ line
+  pub first : IsFirst Start 1 texts stop
+  pub number : line ≡ 1 + length first.before
+
+-- the texts are those of lines that may follow one another, and behind the last of them, at this line, `end` is missing
+pub record IsUnended (texts : List (List ℕ)) (line : ℕ) : Type 0 where
+  pub lines : List CertLine
+  pub are : texts ≡ map line_text lines
+  pub follow : MayFollow Start lines
+  pub before_end : state_after Start lines ≢ AfterEnd
+  pub number : line ≡ length texts + 1
+
+-- the first line that is against the grammar or has other counts, or that is missing
+abbrev pub IsRefused : List (List ℕ) → ℕ → Type 0
+IsRefused texts line = IsAgainst texts line ⊎ IsUnended texts line
 
 -- refused at a line, whatever its lines are worth; else accepted, or rejected at the first line that breaks its rule
 abbrev pub IsVerdict : ModelParts → List (List ℕ) → Verdict → Type 0
@@ -41,8 +49,12 @@ IsVerdict m texts (Refused line) = IsRefused texts line
 abbrev pub IsTrueOf : ModelParts → List (List ℕ) → Type 0
 IsTrueOf m texts = (c : Cert) × AreOf texts c × Holds m c
 
+-- the line that was refused: the reading stays at its number
+abbrev pub refused_line : Reading → Option ℕ
+refused_line r = option_map (λ _. r.next) r.stop
+
 -- the verdict by where the reading stops, and by the first line that breaks its rule
-abbrev pub verdict_by : Option CertStop → Option ℕ → Verdict
-verdict_by (Some stop) failed = Refused (stop_line stop)
-verdict_by None (Some line) = Rejected line
-verdict_by None None = Accepted
+abbrev pub verdict_by : ℕ → Option CertStop → Option ℕ → Verdict
+verdict_by next (Some stop) failed = Refused next
+verdict_by next None (Some line) = Rejected line
+verdict_by next None None = Accepted

@@ -1,12 +1,10 @@
 -- What `verify` says of an input: the refusal of its model, or the verdict on the lines of its certificate.
-use Rattle.std.specs.Prelude.{◌≡◌, ℕ, Bool, List, [], map, filter, is_some, Option, Some, None, Result, Ok, Err}
+use Rattle.std.specs.Prelude.{◌≡◌, ◌⊎◌, ℕ, Bool, List, [], map, filter, is_some, Option, Some, None, Result, Ok, Err}
 use Rattle.std.specs.Prelude.{unwrap_or}
 use Rattle.ts_base.specs.Words.{strict_lines, without_lf}
 use Rattle.ts_certificate.specs.declared.state.State.TheVariants.{Start}
-use Rattle.ts_certificate.specs.declared.stop.CertStop.{CertStop}
 use Rattle.ts_certificate.specs.FirstStop.{MayFollow}
 use Rattle.ts_certificate.specs.Grammar.{CertLine, line_text}
-use Rattle.ts_certificate.specs.Reading.{fresh, reading_after}
 use Rattle.ts_token.specs.Halves.{halves_of}
 use Rattle.ts_model.specs.declared.error.ModelKind.{ModelKind}
 use Rattle.ts_model.specs.declared.model.Need.TheVariants.{List as Listed}
@@ -18,7 +16,7 @@ use Rattle.ts_checker.specs.declared.verdict.Verdict.{Verdict}
 use Rattle.ts_checker.specs.declared.verdict.Verdict.TheVariants.{Accepted}
 use Rattle.ts_checker.specs.declared.verify_end.VerifyEnd.{VerifyEnd}
 use Rattle.ts_checker.specs.declared.verify_end.VerifyEnd.TheVariants.{Model, Verdict as Judged}
-use Rattle.ts_checker.specs.Verdicts.{IsTrueOf, IsVerdict, stop_line}
+use Rattle.ts_checker.specs.Verdicts.{IsAgainst, IsTrueOf, IsVerdict}
 
 -- the first part of an input
 abbrev pub model_part : List ℕ → List ℕ
@@ -64,13 +62,10 @@ pub record BreaksFirst (m : ModelParts) (texts : List (List ℕ)) (failed : Opti
   pub stand : Stand
   pub found : IsOutcome m (spans_in m) lines stand failed
 
--- by where the reading of the texts stops: the line that is refused, or else the first that breaks its rule
-abbrev pub FailsBy : ModelParts → List (List ℕ) → Option CertStop → Option ℕ → Type 0
-FailsBy m texts (Some stop) failed = failed ≡ Some (stop_line stop)
-FailsBy m texts None failed = BreaksFirst m texts failed
-
+-- the line that is refused, or else the first that breaks its rule
 abbrev pub FailsFirst : ModelParts → List (List ℕ) → Option ℕ → Type 0
-FailsFirst m texts failed = FailsBy m texts (reading_after fresh texts).stop failed
+FailsFirst m texts failed =
+    ((line : ℕ) × IsAgainst texts line × (failed ≡ Some line)) ⊎ BreaksFirst m texts failed
 
 -- the same where the model is valid; no line fails where it isn't
 abbrev pub FailsIn : Result ModelParts (ℕ × ModelKind) → List (List ℕ) → Option ℕ → Type 0

@@ -1,7 +1,7 @@
 //! A certificate checked line by line.
 
 ghost use Rattle.std.specs.Prelude.{ℕ, ◌≡◌, ◌≤◌, ◌+◌, List, [], IfOk, IsTrue, OnErr, OnOk, false, length};
-ghost use Rattle.ts_certificate.specs.Reading.{end_stop, reading_with};
+ghost use Rattle.ts_certificate.specs.Reading.{end_stop};
 ghost use Rattle.ts_certificate.specs.Seen.{line_seen};
 ghost use Rattle.ts_compile.specs.Programs.{IsProgramOf};
 ghost use Rattle.ts_model.specs.Promise.{IsWhole, KeepsLimits};
@@ -11,7 +11,7 @@ ghost use Rattle.ts_checker.specs.Checking.{Checks, HasChecked, Takes, TakesOn, 
 ghost use Rattle.ts_checker.specs.Laws.{WaitsByLines};
 ghost use Rattle.ts_spans.specs.Machines.{spans_in};
 ghost use Rattle.ts_checker.specs.Standings.{AreValues};
-ghost use Rattle.ts_checker.specs.Verdicts.{IsTrueOf, IsVerdict, stop_line, verdict_by};
+ghost use Rattle.ts_checker.specs.Verdicts.{IsTrueOf, IsVerdict, refused_line, verdict_by};
 
 use crate::lines::keeps_line;
 use crate::standing::Standing;
@@ -94,14 +94,23 @@ impl Checker {
     pub fn feed_line(&mut self, line: &[u8]) -> Result<(), Memory>
         requires { self.old.reading.next ≤ 4000000000 }
         ensures checked { OnOk result (Checks self.old line.now self.new) }
-        ensures reading { OnOk result (self.new.reading ≡ reading_with self.old.reading line.now) }
+        ensures takes { OnOk result (Takes self.old line.now self.new) }
         ensures next { OnOk result (self.new.reading.next ≤ self.old.reading.next + 1) }
         ensures model { self.new.model ≡ self.old.model }
         ensures failed { OnErr result (self.new.failed ≡ self.old.failed) }
         ensures wanted { OnErr result (IsTrue self.new.wanting) }
         ensures calm { OnOk result ((self.old.wanting ≡ false) × (self.new.wanting ≡ false)) }
     {
-        self.take_line(line)
+        if self.wanting {
+            return Err(Memory);
+        }
+        match self.step(line) {
+            Ok(()) => Ok(()),
+            Err(Memory) => {
+                self.wanting = true;
+                Err(Memory)
+            }
+        }
     }
 
     /// How many boxes still wait for their line: 1 and one for each `split`, less one for each `no`, `worse`, `yes` and
@@ -113,6 +122,16 @@ impl Checker {
         ensures by_lines { (texts : List (List ℕ)) → HasChecked texts self.now → WaitsByLines texts self.now result }
     {
         self.standing.frontier.waiting()
+    }
+
+    /// The first line so far that was against the grammar, or an end line with other counts.
+    pub fn refused_line(&self) -> Option<u32>
+        ensures { result ≡ refused_line self.now.reading }
+    {
+        match self.reader.stop() {
+            Some(_) => Some(self.reader.next_line()),
+            None => None,
+        }
     }
 
     /// The first line so far that broke its rule, where none was refused before it; a line that is refused later leaves
@@ -135,33 +154,12 @@ impl Checker {
 }
 
 impl Checker {
-    /// Takes the next line as `feed_line` does, and promises what that makes of the checker.
-    pub(crate) fn take_line(&mut self, line: &[u8]) -> Result<(), Memory>
-        requires { self.old.reading.next ≤ 4000000000 }
-        ensures takes { OnOk result (Takes self.old line.now self.new) }
-        ensures model { self.new.model ≡ self.old.model }
-        ensures failed { OnErr result (self.new.failed ≡ self.old.failed) }
-        ensures wanted { OnErr result (IsTrue self.new.wanting) }
-        ensures calm { OnOk result ((self.old.wanting ≡ false) × (self.new.wanting ≡ false)) }
-    {
-        if self.wanting {
-            return Err(Memory);
-        }
-        match self.step(line) {
-            Ok(()) => Ok(()),
-            Err(Memory) => {
-                self.wanting = true;
-                Err(Memory)
-            }
-        }
-    }
-
     /// The verdict, by where the reading stops and by the first line that breaks its rule.
     fn verdict(&self) -> Verdict
-        ensures { result ≡ verdict_by (end_stop self.now.reading) self.now.failed }
+        ensures { result ≡ verdict_by self.now.reading.next (end_stop self.now.reading) self.now.failed }
     {
         match (self.reader.finish(), self.failed) {
-            (Err(stop), _) => Verdict::Refused(line_of(stop)),
+            (Err(_), _) => Verdict::Refused(self.reader.next_line()),
             (Ok(()), Some(line)) => Verdict::Rejected(line),
             (Ok(()), None) => Verdict::Accepted,
         }
@@ -210,15 +208,5 @@ impl Checker {
         self.standing.clear();
         self.failed = Some(number);
         Ok(())
-    }
-}
-
-/// The line at which a reading stops; none stops for want of memory.
-fn line_of(stop: CertStop) -> u32
-    ensures { result ≡ stop_line stop }
-{
-    match stop {
-        CertStop::Text { line } | CertStop::CountDiffers { line, .. } => line,
-        CertStop::Memory => 0,
     }
 }

@@ -1,4 +1,4 @@
-//! A checker at work on the bytes of a certificate, and the first line that was refused.
+//! A checker at work on the bytes of a certificate.
 
 ghost use Rattle.std.specs.Prelude.{ℕ, ◌≡◌, ◌≤◌, List, [], IfOk, OnOk, None, false, nat_lt};
 ghost use Rattle.ts_base.specs.Words.{strict_lines};
@@ -6,7 +6,7 @@ ghost use Rattle.ts_model.specs.Promise.{IsWhole, KeepsLimits};
 ghost use Rattle.ts_model.specs.Views.{model_parts};
 ghost use Rattle.ts_model.specs.declared.model.Need.TheVariants.{List as Listed};
 ghost use Rattle.ts_checker.specs.Checking.{Takes};
-ghost use Rattle.ts_checker.specs.Feeding.{HasRead, IsPart, JudgesLine, Reads, refused_now};
+ghost use Rattle.ts_checker.specs.Feeding.{HasRead, IsPart, JudgesLine, Reads};
 ghost use Rattle.ts_checker.specs.Verified.{FailsFirst, IsShownBy, ended_lines};
 
 use crate::certificate_line::CertificateLine;
@@ -20,13 +20,12 @@ use ts_model::Model;
 /// The most lines that are judged.
 const MOST_LINES: u32 = 4_000_000_000;
 
-/// A checker, what is kept of the line that has no LF yet, and the number of the line that was refused. Behind that
-/// line nothing more is kept or judged.
+/// A checker, and what is kept of the line that has no LF yet. After a line that was refused nothing more is kept or
+/// judged.
 #[derive(Drop)]
 pub(crate) struct Judging {
     pub checker: Checker,
     pub line: CertificateLine,
-    pub refused: Option<u32>,
 }
 
 impl Judging {
@@ -41,7 +40,6 @@ impl Judging {
         Ok(Judging {
             checker: Checker::new(alloc, model, program)?,
             line: CertificateLine::new(alloc),
-            refused: None,
         })
     }
 
@@ -53,7 +51,7 @@ impl Judging {
         ensures model { OnOk result (self.new.checker.model ≡ self.old.checker.model) }
         ensures calm { OnOk result (self.new.checker.wanting ≡ false) }
     {
-        if self.refused.is_some() {
+        if self.checker.refused_line().is_some() {
             return Ok(());
         }
         match without_lf(part) {
@@ -70,7 +68,7 @@ impl Judging {
         ensures { (bytes : List ℕ) → HasRead bytes self.now →
             FailsFirst self.now.checker.model (ended_lines bytes) result }
     {
-        match self.refused {
+        match self.checker.refused_line() {
             Some(line) => Some(line),
             None => self.checker.broken_line(),
         }
@@ -82,13 +80,9 @@ impl Judging {
         ensures { IfOk result (λ verdict. (bytes : List ℕ) → HasRead bytes self →
             IsShownBy (strict_lines bytes) self.checker.model verdict) }
     {
-        let Judging {
-            mut checker,
-            line,
-            refused,
-        } = self;
-        if refused.is_none() && !line.is_empty() {
-            judge(&mut checker, None, b"?")?;
+        let Judging { mut checker, line } = self;
+        if checker.refused_line().is_none() && !line.is_empty() {
+            judge(&mut checker, b"?")?;
         }
         Ok(checker.finish())
     }
@@ -103,25 +97,22 @@ impl Judging {
         ensures calm { OnOk result (self.new.checker.wanting ≡ false) }
     {
         self.line.end()?;
-        self.refused = judge(&mut self.checker, self.refused, &self.line.bytes)?;
+        judge(&mut self.checker, &self.line.bytes)?;
         self.line.clear();
         Ok(())
     }
 }
 
-/// Judges the next line; the result is the line that is refused by now.
-fn judge(checker: &mut Checker, refused: Option<u32>, text: &[u8]) -> Result<Option<u32>, Memory>
+/// Judges the next line.
+fn judge(checker: &mut Checker, text: &[u8]) -> Result<(), Memory>
     ensures takes { OnOk result (Takes checker.old text.now checker.new) }
-    ensures refused { IfOk result (λ now. now ≡ refused_now refused checker.old.reading.next checker.new.reading.next) }
     ensures few { OnOk result (checker.old.reading.next ≤ 4000000000) }
     ensures calm { OnOk result (checker.new.wanting ≡ false) }
 {
-    let number = checker.next_line();
-    if is_past_limit(number) {
+    if is_past_limit(checker.next_line()) {
         return Err(Memory);
     }
-    checker.take_line(text)?;
-    Ok(refused_now(refused, number, checker.next_line()))
+    checker.feed_line(text)
 }
 
 /// A line of this number isn't judged.
@@ -129,14 +120,4 @@ fn is_past_limit(number: u32) -> bool
     ensures { result ≡ nat_lt 4000000000 number }
 {
     number > MOST_LINES
-}
-
-/// The line that was refused before; else line `number`, where the next one still has that number.
-fn refused_now(before: Option<u32>, number: u32, next: u32) -> Option<u32>
-    ensures { result ≡ refused_now before number next }
-{
-    match before {
-        Some(line) => Some(line),
-        None => { if next == number { Some(number) } else { None } }
-    }
 }
