@@ -5,7 +5,6 @@ use Rattle.ts_pattern.specs.declared.name.Feature.{Feature}
 use Rattle.ts_pattern.specs.declared.name.PatternId.{PatternId}
 use Rattle.ts_automaton.specs.Body.{Body}
 use Rattle.ts_seed.specs.SeedTable.{seed_table}
-use Rattle.ts_glue.specs.Pairs.{pair}
 use Rattle.ts_compile.specs.TermPairs.{body_by, pair_by}
 use Rattle.ts_bound.specs.TermSpans.{Automata}
 use Rattle.ts_model.specs.ModelParts.{ModelParts}
