@@ -6,3 +6,11 @@ pub mod Sameness
 pub mod Listings
 pub mod Plans
 pub mod OneAnswer
+pub mod ShortWords
+pub mod ExpressionLaws
+pub mod TableNames
+pub mod ReadingLaws
+pub mod OnlyLaws
+pub mod LineLaws
+pub mod Told
+pub mod EndLaws

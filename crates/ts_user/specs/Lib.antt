@@ -4,3 +4,12 @@ pub mod BuildAnswers
 pub mod Numbered
 pub mod Books
 pub mod Listings
+pub mod Grammar
+pub mod FromTheEnd
+pub mod Expressions
+pub mod Shortest
+pub mod Words
+pub mod Statement
+pub mod Stated
+pub mod PatternReading
+pub mod Views

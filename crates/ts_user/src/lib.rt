@@ -6,7 +6,12 @@
 //! plan that it gives is closed, so `validate` takes it; else it says by which signature a check fails, or that there
 //! are more than 512 configurations.
 //!
+//! `read_pattern` reads a pattern text, line by line, as models are read. Its expression is read from the last byte to
+//! the first, with a list of the bracket levels that are open: a sequence or a union nests to the right by itself, a
+//! repeat sign is met before what it repeats, and no recursion follows the brackets of a long line.
+//!
 //! ```text
+//! let user = read_pattern(alloc, &cut_tokens(alloc, text)?)?;
 //! let plan = build_plan(alloc, &user.transducer, &user.pattern)?;
 //! let validated = validate(alloc, user.transducer, &user.pattern, &plan)?;
 //! ```
@@ -14,14 +19,28 @@
 
 mod book;
 mod build_stop;
+mod draft;
+mod ended;
+mod expression;
 pub mod laws;
+mod levels;
 mod listing;
+mod parse;
+mod part;
 mod plan;
+mod read;
+mod shortest;
+mod stated;
+mod statement;
 mod step;
+mod symbol;
+pub mod text_laws;
 mod user_pattern;
 mod user_stop;
+mod words;
 
 pub use build_stop::BuildStop;
 pub use plan::build_plan;
+pub use read::read_pattern;
 pub use user_pattern::UserPattern;
 pub use user_stop::{UserKind, UserStop};

@@ -1,7 +1,10 @@
 //! What may be wrong with a pattern text.
 
 ghost use Rattle.std.specs.Prelude.{◌≡◌};
+ghost use Rattle.ts_user.specs.declared.user_stop.LineStop.TheVariants.{NoMemory as NoMemoryLeft};
+ghost use Rattle.ts_user.specs.Views.{at_line};
 
+use std::alloc::AllocFailed;
 use thiserror::Error;
 use ts_base::Memory;
 
@@ -50,5 +53,38 @@ impl From<Memory> for UserStop {
 
     fn from(_error: Memory) -> UserStop {
         UserStop::Memory
+    }
+}
+
+/// Why a line adds nothing: the first kind that holds of it, or want of memory.
+#[derive(Clone, Copy, Debug, PartialEq, Eq)]
+pub(crate) enum LineStop {
+    Bad(UserKind),
+    NoMemory,
+}
+
+impl From<Memory> for LineStop {
+    ghost from_gives = { λ _ stop. stop ≡ NoMemoryLeft };
+
+    fn from(_error: Memory) -> LineStop {
+        LineStop::NoMemory
+    }
+}
+
+impl<T: Drop> From<AllocFailed<T>> for LineStop {
+    ghost from_gives = { λ _ stop. stop ≡ NoMemoryLeft };
+
+    fn from(_error: AllocFailed<T>) -> LineStop {
+        LineStop::NoMemory
+    }
+}
+
+/// The stop of a line by its number.
+pub(crate) fn at_line(line: u32, stop: LineStop) -> UserStop
+    ensures { result ≡ at_line line stop }
+{
+    match stop {
+        LineStop::Bad(kind) => UserStop::Refused { line, kind },
+        LineStop::NoMemory => UserStop::Memory,
     }
 }
