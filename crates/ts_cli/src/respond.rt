@@ -5,7 +5,7 @@ ghost use Rattle.std.specs.Prelude.{◌≡◌, ◌≢◌, ◌↔◌, Ok, Err, dr
 ghost use Rattle.std.specs.Vec.Iter.{into_iter_items};
 ghost use Rattle.ts_cli.specs.Ends.{no_words_code};
 ghost use Rattle.ts_run.specs.Commands.{command_of, words_in};
-ghost use Rattle.ts_run.specs.Endings.{CallEnds};
+ghost use Rattle.ts_run.specs.Endings.{RunEnds};
 ghost use Rattle.ts_run.specs.Reply.{status_code};
 ghost use Rattle.ts_run.specs.declared.status.Status.{Status};
 
@@ -60,8 +60,8 @@ fn without_name(alloc: Global, args: Args) -> Result<Vec<String>, NoWords>
     }
 }
 
-/// Does what the words ask for by `run`, and gives the exit status: that of the call, or without words 6 or 7, with
-/// nothing read and nothing written.
+/// Does what the words ask for by `run`, and gives the exit status: that of the call, which ends as `run` promises, or
+/// without words 6 or 7, with nothing read and nothing written.
 pub fn respond<S: Source, K: Sink>(
     alloc: Global,
     words: Result<Vec<String>, NoWords>,
@@ -69,9 +69,21 @@ pub fn respond<S: Source, K: Sink>(
     sink: &mut K,
 ) -> u8
     ensures answer { MatchResult words
-        (λ given. (status : Status) × (result ≡ status_code status)
-        × CallEnds (command_of (words_in given.items)) (S.left source.old) (S.source_faults source.old)
-        (S.source_faults source.new) (K.taken sink.old) (K.taken sink.new) status)
+        (λ given. (status : Status) × (result ≡ status_code status) × RunEnds
+        (record {
+          left = S.left;
+          faults = S.source_faults;
+          is_broken = S.source_broken;
+          ends = S.source_ends;
+        })
+        (record {
+          taken = K.taken;
+          faults = K.sink_faults;
+          is_broken = K.sink_broken;
+          is_finished = K.finished;
+          finishes = K.finishes;
+        })
+        (command_of (words_in given.items)) source.old source.new sink.old sink.new status)
         (λ none. result ≡ no_words_code none) }
     ensures silent { IsErr words → (source.new ≡ source.old) × (sink.new ≡ sink.old) }
 {

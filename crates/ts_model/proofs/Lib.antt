@@ -14,6 +14,6 @@ mod LineByLaws
 mod ReaderLaws
 mod ValueLaws
 mod SaidRanges
-mod FitLaws
+pub mod FitLaws
 mod Told
 pub mod MeetsLaw

@@ -5,7 +5,7 @@ use Rattle.std.specs.List.{AllByRecursion, list_all}
 use Rattle.std.specs.Prelude.{codes, nat_le, unwrap_or}
 use Rattle.ts_base.specs.declared.ext.Ext.{Ext}
 use Rattle.ts_base.specs.declared.goal.Goal.{Goal}
-use Rattle.ts_base.specs.Limits.{most_cells, most_domain_values, IsCellValue}
+use Rattle.ts_base.specs.Limits.{IsCellValue, most_cells, most_checked, most_domain_values, most_listed, most_model_bytes}
 use Rattle.ts_base.specs.Words.{is_lf, strict_lines}
 use Rattle.ts_token.specs.Halves.{Halves}
 use Rattle.ts_certificate.specs.declared.certificate.Aim.TheVariants.{Best as BestOf, List as ListOf}
@@ -17,7 +17,7 @@ use Rattle.ts_certificate.specs.declared.state.State.TheVariants.{Start, AfterEn
 use Rattle.ts_certificate.specs.Certificate.{Cert, IsCertificate, cert_lines, certificate_text, checked_count, open_count}
 use Rattle.ts_certificate.specs.Grammar.{series_count}
 use Rattle.ts_certificate.specs.HeadLines.{is_aim, is_claim, is_series}
-use Rattle.ts_certificate.specs.Laws.{IsWithinLimits, most_checked, most_model_bytes}
+use Rattle.ts_certificate.specs.Laws.{IsWithinLimits}
 use Rattle.ts_certificate.specs.Ranges.{is_ext, is_listed, is_value}
 use Rattle.ts_certificate.specs.TreeLines.{is_tree_line}
 use Rattle.ts_certificate.proofs.CallerLemmas.{certificate_runs, lines_count, lines_cut, runs_give, text_fits, written_read}
@@ -46,7 +46,7 @@ use Rattle.ts_search.proofs.OpenLines.{solved_opens_few, listed_opens_few}
 use Rattle.ts_checker.specs.Verdicts.{AreOf}
 use Rattle.ts_run.specs.AnswerTexts.{IsOffered}
 use Rattle.ts_run.specs.Joined.{GoesToVerify, end_line, verify_input}
-use Rattle.ts_run.specs.Quantities.{IsWithin, most_lines, most_series}
+use Rattle.ts_run.specs.Quantities.{IsWithin}
 use Rattle.ts_run.proofs.JoinedText.{ended_model_read, joined_halves}
 use Rattle.ts_run.proofs.VerifyLaws.{accepted_reply}
 use Rattle.ts_run.proofs.ValueSizes.{cells_within, objective_fits as value_fits_text}
@@ -119,13 +119,13 @@ module _ (m : ModelParts) (goal : Goal) (budget : ℕ) (whole : IsWhole m) (box 
   best_claim = ap (λ a. is_claim a c.claim) h.aim ∙ by_claim c.claim refl
 
 -- so many series may be asked for, and listed
-asked_aim : (count : ℕ) → IsWithin 1 most_series count → is_aim (ListOf count) ≡ true
-asked_aim count h = and_from (nat_le 1 count) (nat_le count most_series) (le-leb 1 count h.0) (le-leb count most_series h.1)
+asked_aim : (count : ℕ) → IsWithin 1 most_listed count → is_aim (ListOf count) ≡ true
+asked_aim count h = and_from (nat_le 1 count) (nat_le count most_listed) (le-leb 1 count h.0) (le-leb count most_listed h.1)
 
-listed_fits : (n : ℕ) → n ≤ most_series → is_listed n ≡ true
-listed_fits n l = and_from (nat_le 0 n) (nat_le n most_series) (le-leb 0 n (omega arith)) (le-leb n most_series l)
+listed_fits : (n : ℕ) → n ≤ most_listed → is_listed n ≡ true
+listed_fits n l = and_from (nat_le 0 n) (nat_le n most_listed) (le-leb 0 n (omega arith)) (le-leb n most_listed l)
 
-module _ (m : ModelParts) (count budget : ℕ) (c : Cert) (asked : IsWithin 1 most_series count) (h : IsListAnswer m (spans_in m) count budget c) where
+module _ (m : ModelParts) (count budget : ℕ) (c : Cert) (asked : IsWithin 1 most_listed count) (h : IsListAnswer m (spans_in m) count budget c) where
   by_list_claim : (claim : Claim) → c.claim ≡ claim → is_claim (ListOf count) claim ≡ true
   by_list_claim (Best v) e = absurd (subst (λ z. IsListedBy m count budget z c.series c.tree) e h.claim)
   by_list_claim Infeasible e = absurd (subst (λ z. IsListedBy m count budget z c.series c.tree) e h.claim)
@@ -216,7 +216,7 @@ few_series count budget m c h = go c.claim h.claim
     go (All n) k = let a = k.0 in let b = k.1 in omega (arith, a, b)
     go (BudgetList n) k = let a = k.0 in let b = k.1 in omega (arith, a, b)
 
-pub best_sent : (m : ModelParts) (goal : Goal) (budget : ℕ) (c : Cert) → IsWhole m → KeepsLimits NeedsBest m → IsWithin 1 most_lines budget →
+pub best_sent : (m : ModelParts) (goal : Goal) (budget : ℕ) (c : Cert) → IsWhole m → KeepsLimits NeedsBest m → IsWithin 1 most_checked budget →
     IsSolution m (spans_in m) goal budget c → IsSent c
 best_sent m goal budget c whole limits asked h =
     let right = are_right m whole limits.box in
@@ -229,8 +229,8 @@ best_sent m goal budget c whole limits asked h =
     sent m NeedsBest whole limits c h.accepts (ap is_aim h.aim) (best_claim m goal budget whole limits.box c h)
     (omega (arith, lines, most)) (omega (arith, open_few, total)) (omega (arith, count, one))
 
-pub list_sent : (m : ModelParts) (count budget : ℕ) (c : Cert) → IsWhole m → KeepsLimits NeedsList m → IsWithin 1 most_series count →
-    IsWithin 1 most_lines budget → IsListAnswer m (spans_in m) count budget c → IsSent c
+pub list_sent : (m : ModelParts) (count budget : ℕ) (c : Cert) → IsWhole m → KeepsLimits NeedsList m → IsWithin 1 most_listed count →
+    IsWithin 1 most_checked budget → IsListAnswer m (spans_in m) count budget c → IsSent c
 list_sent m count budget c whole limits wanted asked h =
     let right = are_right m whole limits.box in
     let open_few = listed_opens_few m (spans_in m) count budget c right h in

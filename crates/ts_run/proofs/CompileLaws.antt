@@ -17,13 +17,9 @@ use Rattle.ts_compile.specs.Compiled.{machine_body, machine_pair}
 use Rattle.ts_compile.specs.ProgramText.{part_text, program_text}
 use Rattle.ts_run.specs.AnswerTexts.{OneCompileReply, OnReading, ProgramReply}
 use Rattle.ts_run.specs.CompiledValue.{HasParts, IsCompiled, IsProgramText}
-use Rattle.ts_run.specs.Endings.{RepliesWithin, Responds, TookProgram}
+use Rattle.ts_run.specs.Headline.{SaysProgram}
 use Rattle.ts_run.specs.Reply.{Reply}
-use Rattle.ts_run.specs.declared.command.Command.TheVariants.{Compile}
-use Rattle.ts_run.specs.declared.status.Status.{Status}
-use Rattle.ts_run.specs.declared.status.Status.TheVariants.{Done}
 use Rattle.ts_run.proofs.PartLaws.{parts_in}
-use Rattle.ts_run.proofs.Replied.{replied}
 
 -- there is one program text
 
@@ -75,26 +71,6 @@ compiled_of m text p = record {
   parts = subst (λ (x : List ℕ). HasParts p.terms x) (sym p.text_is) (parts_in p.terms);
 }
 
--- what a call has written whose status is `Done`
-
-record IsDone (reading : Result ModelParts (ℕ × ModelKind)) (text : List ℕ) : Type 0 where
-  model : ModelParts
-  states : reading ≡ Ok model
-  program : IsProgramText model text
-
-done_reading : (reading : Result ModelParts (ℕ × ModelKind)) (r : Reply) → OnReading reading ProgramReply r → r.status ≡ Done → IsDone reading r.text
-done_reading (Ok m) r h e = record { model = m; states = refl; program = h.0 }
-done_reading (Err bad) r h e = let refused = sym e ∙ ap (λ (x : Reply). x.status) h in cc
-
-pub compile_tells : (bytes : List ℕ) (limit faults faults_now : ℕ) (before after : Option (List ℕ)) (status : Status) →
-    Responds (RepliesWithin limit Compile bytes) faults faults_now before after status → status ≡ Done → TookProgram bytes before after
-compile_tells bytes limit faults faults_now before after status h e =
-    let p = replied Compile bytes limit faults faults_now before after status Done (λ x. cc) (λ x. cc) (λ x. cc) (λ r x. x.1) h e in
-    let d = done_reading (model_reading Values bytes) p.0 p.1 p.2.1 in
-    record {
-      model = d.model;
-      states = d.states;
-      text = p.0.text;
-      taken = p.2.0;
-      compiled = compiled_of d.model p.0.text d.program;
-    }
+-- the reply to a model
+pub says_program : (m : ModelParts) (r : Reply) → ProgramReply m r → SaysProgram m r
+says_program m r h = record { compiled = compiled_of m r.text h.0; done = h.1 }

@@ -4,10 +4,9 @@ use Rattle.std.specs.Prelude.{IfSome}
 use Rattle.std.proofs.lemmas.List.{length-replicate}
 use Rattle.ts_base.specs.Outside.{AtEnd, GaveAtMost, HasMoreThan, put_back}
 use Rattle.ts_base.proofs.Pieces.{gave_bytes}
-use Rattle.ts_run.specs.AnswerTexts.{IsReply, refused_length}
+use Rattle.ts_run.specs.AnswerTexts.{refused_length}
 use Rattle.ts_run.specs.Endings.{OfBytes, RepliesWithin, Responds, WholeEnds, WholeTakes}
 use Rattle.ts_run.specs.Reply.{ComesOfInput, Ends, EndsWritten, Reply}
-use Rattle.ts_run.specs.declared.command.Command.{Command}
 use Rattle.ts_run.specs.declared.status.Status.{Status}
 use Rattle.ts_run.specs.declared.status.Status.TheVariants.{Refused, ReadFault, Memory}
 
@@ -35,9 +34,9 @@ takes_want limit left left_now most want = record { most = most; whole = λ h. a
 
 -- what was written
 
-module _ (limit : ℕ) (command : Command) (faults faults_now : ℕ) (before after : Option (List ℕ)) (status : Status) where
+module _ (limit : ℕ) (Is : List ℕ → Reply → Type 0) (faults faults_now : ℕ) (before after : Option (List ℕ)) (status : Status) where
   abbrev Replied : Option (List ℕ) → Type 0
-  Replied left = OfBytes left (λ bytes. Responds (RepliesWithin limit command bytes) faults faults_now before after status)
+  Replied left = OfBytes left (λ bytes. Responds (RepliesWithin limit Is bytes) faults faults_now before after status)
 
   over_reply : (left : Option (List ℕ)) → faults_now ≡ faults → HasMoreThan limit left → Ends refused_length before after status → Replied left
   over_reply None calm more ends =
@@ -48,24 +47,23 @@ module _ (limit : ℕ) (command : Command) (faults faults_now : ℕ) (before aft
 
   -- there were more bytes than the command reads
   pub ends_over : (left : Option (List ℕ)) → faults_now ≡ faults → HasMoreThan limit left → Ends refused_length before after status →
-      (EndsWritten status → status ≡ Refused) → WholeEnds limit command left faults faults_now before after status
+      (EndsWritten status → status ≡ Refused) → WholeEnds limit Is left faults faults_now before after status
   ends_over left calm more ends written = record {
     reply = over_reply left calm more ends;
     fault = λ e. absurd (no_fault status Refused written tt e);
   }
 
   given_reply : (left : Option (List ℕ)) (bytes : List ℕ) (r : Reply) → faults_now ≡ faults → IfSome left (λ told. told ≡ bytes) → length bytes ≤ limit →
-      IsReply command bytes r → Ends r before after status → Replied left
+      Is bytes r → Ends r before after status → Replied left
   given_reply None bytes r calm told few is ends = (bytes, inl (calm, inr (r, inl (few, is), ends)))
   given_reply (Some found) bytes r calm told few is ends =
-      subst (λ (xs : List ℕ). Responds (RepliesWithin limit command xs) faults faults_now before after status) (sym told)
+      subst (λ (xs : List ℕ). Responds (RepliesWithin limit Is xs) faults faults_now before after status) (sym told)
       (inl (calm, inr (r, inl (few, is), ends)))
 
   -- the command replied to the bytes
   pub ends_given : (left : Option (List ℕ)) (bytes : List ℕ) (r : Reply) → faults_now ≡ faults → IfSome left (λ told. told ≡ bytes) → length bytes ≤ limit →
-      IsReply command bytes r →
-      ComesOfInput r.status →
-      (EndsWritten status → status ≡ r.status) → Ends r before after status → WholeEnds limit command left faults faults_now before after status
+      Is bytes r → ComesOfInput r.status →
+      (EndsWritten status → status ≡ r.status) → Ends r before after status → WholeEnds limit Is left faults faults_now before after status
   ends_given left bytes r calm told few is input written ends = record {
     reply = given_reply left bytes r calm told few is ends;
     fault = λ e. absurd (no_fault status r.status written input e);

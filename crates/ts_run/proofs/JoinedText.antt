@@ -13,7 +13,7 @@ use Rattle.ts_model.specs.declared.error.ModelKind.{ModelKind}
 use Rattle.ts_model.specs.declared.error.ModelKind.TheVariants.{NoCells, NoObjective}
 use Rattle.ts_model.specs.declared.model.Need.{Need}
 use Rattle.ts_model.specs.declared.model.Need.TheVariants.{List as NeedsList}
-use Rattle.ts_model.specs.ModelReading.{end_reading as ended_reading, ended_text, line_gives, model_reading, needs_lists, needs_objective, onward, read_rows, reading, texts_of}
+use Rattle.ts_model.specs.ModelReading.{ended_model, line_gives, model_reading, needs_lists, needs_objective, onward, read_rows, reading, texts_of, then_on, unless_bad}
 use Rattle.ts_model.specs.ModelParts.{ModelParts, has_cells, nothing}
 use Rattle.ts_model.specs.Words.{form_of}
 use Rattle.ts_run.specs.Joined.{end_line, verify_input}
@@ -316,6 +316,13 @@ lines_read lists (line ∷ ls) number old m text read =
     go false e t r more = absurd (cc)
 
 -- What is read of a text with the LF that it may lack, and where no objective is needed.
+
+-- how a text ends of which the rows of words state this
+abbrev ended_text : Need → Cut → ModelParts → Option ℕ → Result ModelParts (ℕ × ModelKind)
+ended_text need c m bad = then_on (unless_bad bad m) (ended_model need c.count)
+
+abbrev ended_reading : Need → Cut → Result ModelParts (ℕ × ModelKind) → Result ModelParts (ℕ × ModelKind)
+ended_reading need c rows = then_on (then_on rows (unless_bad c.not_text)) (ended_model need c.count)
 
 record IsRead (c : Cut) (rows : Result ModelParts (ℕ × ModelKind)) (m : ModelParts) : Type 0 where
   rows_give : rows ≡ Ok m

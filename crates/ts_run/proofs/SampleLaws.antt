@@ -3,7 +3,7 @@ use Rattle.std.proofs.Common.{◌≡◌, ℕ, ◌<◌, ◌≤◌, ◌+◌, ℤ, 
 use Rattle.std.specs.Prelude.{IfOk, Result}
 use Rattle.ts_base.specs.declared.ext.Ext.{Ext}
 use Rattle.ts_base.specs.declared.goal.Goal.TheVariants.{Minimise}
-use Rattle.ts_base.specs.Limits.{most_cells}
+use Rattle.ts_base.specs.Limits.{most_cells, too_many}
 use Rattle.ts_base.specs.Words.{strict_lines}
 use Rattle.ts_base.proofs.WordLaws.{lines_few}
 use Rattle.ts_automaton.specs.AutomatonRun.{AreCellValues}
@@ -24,19 +24,17 @@ use Rattle.ts_checker.specs.declared.verdict.Verdict.{Verdict}
 use Rattle.ts_checker.specs.declared.verdict.Verdict.TheVariants.{Accepted}
 use Rattle.ts_checker.specs.Verdicts.{IsVerdict}
 use Rattle.ts_checker.proofs.Verdicts.{one_verdict}
-use Rattle.ts_run.specs.Endings.{TookSample}
+use Rattle.ts_run.specs.Headline.{SaysSample}
 use Rattle.ts_run.specs.Quantities.{IsWithin, usual_lines}
-use Rattle.ts_run.specs.Reply.{EndsWith, EndsWritten, Reply, reply_of}
+use Rattle.ts_run.specs.Reply.{Reply, reply_of}
 use Rattle.ts_run.specs.Sample.{IsTold, SampleReply, sample_text, six_lines, sum_of, three_lines}
 use Rattle.ts_run.specs.SampleModel.{sample_stated}
 use Rattle.ts_run.specs.Verified.{verdict_reply}
 use Rattle.ts_run.specs.declared.reply.Reply.{Reply as GivenReply}
-use Rattle.ts_run.specs.declared.status.Status.{Status}
 use Rattle.ts_run.specs.declared.status.Status.TheVariants.{Done, Budget}
 use Rattle.ts_run.proofs.CertifiedSizes.{IsSent, best_sent, lines_are_of}
 use Rattle.ts_run.proofs.SampleMeets.{sample_meets}
 use Rattle.ts_run.proofs.SampleModelLaws.{cells_count, sample_limits, sample_whole}
-use Rattle.ts_run.proofs.TakenReply.{taken_whole}
 use Rattle.ts_run.proofs.ValueSizes.{cells_within}
 use Rattle.ts_filter.proofs.SoundLaws.{series_length}
 
@@ -70,7 +68,7 @@ module _ (n : ℕ) (asked : IsWithin 1 most_cells n) where
 
     -- its text is short, and is accepted
 
-    pub text_short : length (certificate_text c) < 4000000000
+    pub text_short : length (certificate_text c) < too_many
     text_short = let fits = text_fits c 0 is_sent.within (omega arith) in omega (arith, fits)
 
     pub text_accepted : (v : Verdict) → IsVerdict m (strict_lines (certificate_text c)) v → v ≡ Accepted
@@ -140,8 +138,8 @@ module _ (n k b : ℕ) (made : ModelParts) (c : Cert) (value : k ≡ n) (range :
   ran_out_given (Ok r) f h = spent_reply n asked_here c solved_here (reply_of r) f (h ∙ ap three_lines value)
   ran_out_given (Err e) f h = tt
 
-  pub text_given : (text : List ℕ) → text ≡ certificate_text c → length text < 4000000000
-  text_given text same = subst (λ (z : List ℕ). length z < 4000000000) (sym same) (text_short n asked_here c solved_here)
+  pub text_given : (text : List ℕ) → text ≡ certificate_text c → length text < too_many
+  text_given text same = subst (λ (z : List ℕ). length z < too_many) (sym same) (text_short n asked_here c solved_here)
 
   -- the series of a best value stands first
   module _ {V : Type 0} (view : V → List ℤ) (items : List V) (first : V) (v : Ext) (all : map view items ≡ c.series) (at : first ≡ get_or items 0 first)
@@ -167,7 +165,7 @@ module _ (n k b : ℕ) (made : ModelParts) (c : Cert) (value : k ≡ n) (range :
         best_reply n asked_here c solved_here v best (view first) sum lines verdict last r (best_here.is ∙ ap (λ (z : List ℤ). z ∷ []) (sym first_is)) sum_is
         lines_is here last_is (told ∙ ap (λ (z : ℕ). let r : Reply = record { text = sample_text z v sum lines ++ last.text; status = last.status } in r) value)
 
--- what a call tells
+-- what is said of the model
 
 pub spent_claim : (n : ℕ) (claim : Claim) (series : List (List ℤ)) (tree : List TreeLine) (r : Reply) → IsTold n claim series tree r →
     r.status ≡ Budget → IsBudget claim
@@ -179,19 +177,12 @@ spent_claim n (Full count) series tree r h e = absurd h
 spent_claim n (All count) series tree r h e = absurd h
 spent_claim n (BudgetList count) series tree r h e = absurd h
 
-pub sample_tells : (n : ℕ) (before after : Option (List ℕ)) (status : Status) → EndsWith (SampleReply n) before after status → EndsWritten status →
-    TookSample n before after status
-sample_tells n before after status h written =
-    let t = taken_whole (SampleReply n) before after status written h in
-    let s = t.is in
+pub says_sample : (n : ℕ) (r : Reply) → SampleReply n r → SaysSample n r
+says_sample n r s =
     let m = sample_stated n in
     let c = s.certificate in
     record {
-      reply = t.reply;
       is = s;
-      taken = t.taken;
-      status_is = t.status_is;
       enough = λ many e. budget_is_enough m (spans_in m) Minimise usual_lines c (are_right m (sample_whole n s.asked) (sample_limits n s.asked).box) many
-          s.solved
-          (spent_claim n c.claim c.series c.tree t.reply s.told (t.status_is ∙ e));
+          s.solved (spent_claim n c.claim c.series c.tree r s.told e);
     }

@@ -1,6 +1,6 @@
 -- The reply of `verify`: there is one, it is `accepted` exactly where the certificate is accepted, and what is accepted is true.
-use Rattle.std.proofs.Common.{◌≡◌, ℕ, ◌^◌, ◌<◌, ◌≤◌, Option, Ok, Err, List, length, refl, sym, ◌∙◌, ap, subst, arith}
-use Rattle.std.specs.Prelude.{◌↔◌, Result}
+use Rattle.std.proofs.Common.{◌≡◌, ℕ, ◌^◌, ◌<◌, Some, Ok, Err, List, length, refl, sym, ◌∙◌, ap, subst, arith}
+use Rattle.std.specs.Prelude.{Result}
 use Rattle.ts_base.proofs.WordLaws.{lines_few}
 use Rattle.ts_certificate.specs.Certificate.{Cert}
 use Rattle.ts_model.specs.declared.error.ModelKind.{ModelKind}
@@ -16,16 +16,12 @@ use Rattle.ts_checker.specs.Verdicts.{IsVerdict}
 use Rattle.ts_checker.specs.Verified.{certificate_lines, model_part, rest_part}
 use Rattle.ts_checker.proofs.Verdicts.{one_of, one_verdict}
 use Rattle.ts_run.specs.AnswerTexts.{DoneIsAccepted, IsOffered, OnReading, OneVerifyReply, VerifyReply}
-use Rattle.ts_run.specs.Endings.{IsShown, RepliesWithin, Responds, TellsVerdict}
-use Rattle.ts_run.specs.Reply.{EndsWritten, Reply}
+use Rattle.ts_run.specs.Headline.{IsShown, SaysVerdict}
+use Rattle.ts_run.specs.Reply.{Reply}
 use Rattle.ts_run.specs.Verified.{IsVerified, verdict_reply}
-use Rattle.ts_run.specs.declared.command.Command.TheVariants.{Verify}
-use Rattle.ts_run.specs.declared.status.Status.{Status}
-use Rattle.ts_run.specs.declared.status.Status.TheVariants.{Done, No, Refused, ReadFault}
+use Rattle.ts_run.specs.declared.status.Status.TheVariants.{Done, No, Refused}
 use Rattle.ts_run.proofs.CheckLaws.{one_reading_reply}
 use Rattle.ts_run.proofs.Inputs.{parts_within}
-use Rattle.ts_run.proofs.Replied.{replied_few}
-use Rattle.ts_run.proofs.TakenReply.{taken_reply}
 
 few_lines : (bytes : List ℕ) → length bytes < 2 ^ 62 → length (certificate_lines bytes) < 2 ^ 62
 few_lines bytes few =
@@ -75,7 +71,7 @@ accepted_reply bytes m c r few offered accepts h =
     let v = verified_given bytes m c r offered h in
     v.reply ∙ ap verdict_reply (one_verdict m texts v.verdict Accepted (few_lines bytes few) v.shown.is (c, offered.certificate, accepts))
 
--- what a call tells
+-- what is said of an input
 
 record IsDone (reading : Result ModelParts (ℕ × ModelKind)) (texts : List (List ℕ)) (r : Reply) : Type 0 where
   model : ModelParts
@@ -97,26 +93,15 @@ shown_by bytes r few h e =
     let t = v.shown.holds accepted in
     record {
       model = d.model;
-      states = d.states;
+      states = ap Some d.states;
       certificate = a.0;
       lines = a.1;
       accepted = a.2;
       holds = subst (λ z. Holds d.model z) (one_of texts (few_lines bytes few) t.0 a.0 t.1 a.1) t.2;
     }
 
-pub verify_tells : (bytes : List ℕ) (faults faults_now : ℕ) (before after : Option (List ℕ)) (status : Status) →
-    Responds (RepliesWithin 135266304 Verify bytes) faults faults_now before after status → TellsVerdict bytes status
-verify_tells bytes faults faults_now before after status h = (done, exact)
-  where
-    done : status ≡ Done → IsShown bytes
-    done e =
-        let p = replied_few Verify bytes 135266304 faults faults_now before after status Done (λ x. cc) (λ x. cc) (λ x. cc) (λ r x. x.1) h e in
-        let most = p.1 in
-        shown_by bytes p.0 (omega (arith, most)) p.2 p.3.1
-
-    exact : (m : ModelParts) (c : Cert) → length bytes ≤ 135266304 → IsOffered bytes m c → EndsWritten status → (status ≡ ReadFault → ⊥) →
-        (status ≡ Done) ↔ Accepts m (spans_in m) c
-    exact m c small offered written calm =
-        let t = taken_reply Verify 135266304 bytes faults faults_now before after status written calm small h in
-        let tells = done_is_accepted bytes m c t.reply (omega (arith, small)) offered t.is in
-        (λ e. tells.0 (t.status_is ∙ e), λ a. sym t.status_is ∙ tells.1 a)
+pub says_verdict : (bytes : List ℕ) (r : Reply) → length bytes < 2 ^ 62 → VerifyReply bytes r → SaysVerdict bytes r
+says_verdict bytes r few h = record {
+  shown = λ e. shown_by bytes r few h e;
+  exact = λ m c offered. done_is_accepted bytes m c r few offered h;
+}

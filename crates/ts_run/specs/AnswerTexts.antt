@@ -10,6 +10,7 @@ use Rattle.ts_model.specs.declared.error.SeriesStop.TheVariants.{Shape as NoSeri
 use Rattle.ts_model.specs.declared.model.Need.{Need}
 use Rattle.ts_model.specs.declared.model.Need.TheVariants.{Values, List as NeedsList, Best as NeedsBest}
 use Rattle.ts_base.specs.declared.goal.Goal.{Goal}
+use Rattle.ts_base.specs.Text.{line}
 use Rattle.ts_model.specs.Meets.{Meets}
 use Rattle.ts_model.specs.ModelReading.{model_reading}
 use Rattle.ts_model.specs.Series.{series_reading}
@@ -24,7 +25,7 @@ use Rattle.ts_run.specs.Certified.{IsBest, IsListing}
 use Rattle.ts_run.specs.CompiledValue.{IsProgramText}
 use Rattle.ts_run.specs.Reply.{Reply}
 use Rattle.ts_run.specs.Sample.{SampleReply}
-use Rattle.ts_run.specs.Verdict.{line, verdict}
+use Rattle.ts_run.specs.Verdict.{verdict}
 use Rattle.ts_run.specs.Verified.{IsVerified, verdict_reply}
 use Rattle.ts_run.specs.declared.command.Command.{Command}
 use Rattle.ts_run.specs.declared.command.Command.TheVariants.{Check, Compile, Verify, Best, Generate, Sample}

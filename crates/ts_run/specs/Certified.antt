@@ -5,13 +5,10 @@ use Rattle.ts_certificate.specs.declared.certificate.Claim.{Claim}
 use Rattle.ts_certificate.specs.declared.certificate.Claim.TheVariants.{Best, Infeasible, BudgetBest, BudgetNone}
 use Rattle.ts_certificate.specs.declared.certificate.Claim.TheVariants.{Full, All, BudgetList}
 use Rattle.ts_certificate.specs.Certificate.{Cert, certificate_text}
-use Rattle.ts_model.specs.declared.model.Need.TheVariants.{Best as NeedsBest, List as NeedsList}
-use Rattle.ts_model.specs.Promise.{IsWhole, KeepsLimits}
 use Rattle.ts_model.specs.ModelParts.{ModelParts}
 use Rattle.ts_spans.specs.Machines.{spans_in}
 use Rattle.ts_search.specs.Listed.{IsListAnswer}
 use Rattle.ts_search.specs.Solved.{IsSolution}
-use Rattle.ts_run.specs.Quantities.{IsWithin, most_lines, most_series}
 use Rattle.ts_run.specs.Reply.{Reply}
 use Rattle.ts_run.specs.declared.status.Status.{Status}
 use Rattle.ts_run.specs.declared.status.Status.TheVariants.{Done, No, Budget}
@@ -31,21 +28,16 @@ pub record IsWritten (c : Cert) (r : Reply) : Type 0 where
   pub text : r.text ≡ certificate_text c
   pub status : r.status ≡ claim_status c.claim
 
--- the reply to a model: the certificate is solved by at most so many lines
-pub record IsBest (goal : Goal) (budget : ℕ) (m : ModelParts) (r : Reply) : Type 0 where
-  pub whole : IsWhole m
-  pub limits : KeepsLimits NeedsBest m
-  pub lines : IsWithin 1 most_lines budget
+-- the reply is the text of a certificate of this kind
+pub record WritesOne (Is : Cert → Type 0) (r : Reply) : Type 0 where
   pub certificate : Cert
-  pub solved : IsSolution m (spans_in m) goal budget certificate
+  pub is : Is certificate
   pub written : IsWritten certificate r
 
--- the same of a listing of up to so many series
-pub record IsListing (count budget : ℕ) (m : ModelParts) (r : Reply) : Type 0 where
-  pub whole : IsWhole m
-  pub limits : KeepsLimits NeedsList m
-  pub asked : IsWithin 1 most_series count
-  pub lines : IsWithin 1 most_lines budget
-  pub certificate : Cert
-  pub listed : IsListAnswer m (spans_in m) count budget certificate
-  pub written : IsWritten certificate r
+-- the reply to a model: a certificate that is solved by at most so many lines
+abbrev pub IsBest : Goal → ℕ → ModelParts → Reply → Type 0
+IsBest goal lines m r = WritesOne (IsSolution m (spans_in m) goal lines) r
+
+-- a certificate of a listing of up to so many series
+abbrev pub IsListing : ℕ → ℕ → ModelParts → Reply → Type 0
+IsListing count lines m r = WritesOne (IsListAnswer m (spans_in m) count lines) r

@@ -3,9 +3,9 @@ use Rattle.std.specs.Prelude.{ℕ, ◌<◌, List, [], ◌∷◌, codes, map, Opt
 use Rattle.std.specs.Global.{Global}
 use Rattle.std.specs.Str.{bytes_eq}
 use Rattle.ts_base.specs.declared.goal.Goal.TheVariants.{Maximise, Minimise}
-use Rattle.ts_base.specs.Limits.{most_cells}
-use Rattle.ts_certificate.specs.Laws.{most_model_bytes, most_verify_bytes}
-use Rattle.ts_run.specs.Quantities.{most_lines, most_series, number_within, usual_lines}
+use Rattle.ts_base.specs.Limits.{most_cells, most_check_bytes, most_checked, most_listed, most_model_bytes}
+use Rattle.ts_base.specs.Limits.{most_verify_bytes, too_many}
+use Rattle.ts_run.specs.Quantities.{IsWithin, number_within, usual_lines}
 use Rattle.ts_run.specs.declared.command.Command.{Command}
 use Rattle.ts_run.specs.declared.command.Command.TheVariants.{Check, Compile, Verify, Best, Generate, Sample}
 use Rattle.ts_run.specs.declared.command.Input.{Input}
@@ -24,7 +24,7 @@ if_alone command (word ∷ words) = None
 abbrev pub budget_of : List (List ℕ) → Option ℕ
 budget_of [] = Some usual_lines
 budget_of (word ∷ []) = None
-budget_of (word ∷ number ∷ []) = if bytes_eq word (codes "--budget") then number_within 1 most_lines number else None
+budget_of (word ∷ number ∷ []) = if bytes_eq word (codes "--budget") then number_within 1 most_checked number else None
 budget_of (word ∷ number ∷ other ∷ words) = None
 
 -- a number of series, and the budget
@@ -34,7 +34,7 @@ generate_by (Some count) budget = option_map (λ lines. Generate count lines) bu
 
 abbrev pub generate_of : List (List ℕ) → Option Command
 generate_of [] = None
-generate_of (number ∷ words) = generate_by (number_within 1 most_series number) (budget_of words)
+generate_of (number ∷ words) = generate_by (number_within 1 most_listed number) (budget_of words)
 
 -- a number of cells
 abbrev pub sample_of : List (List ℕ) → Option Command
@@ -57,14 +57,21 @@ command_of (word ∷ words) =
 
 -- how a command takes its input: the whole, so many bytes at most, or nothing of it
 abbrev pub input_of : Command → Input
-input_of Check = Whole 2097152
+input_of Check = Whole most_check_bytes
 input_of Compile = Whole most_model_bytes
 input_of Verify = Whole most_verify_bytes
 input_of (Best goal lines) = Whole most_model_bytes
 input_of (Generate count lines) = Whole most_model_bytes
 input_of (Sample cells) = Nothing
 
--- no input is longer than what memory is counted in
+-- the limit of an input is below that of every call that takes a text
 abbrev pub IsShort : Input → Type 0
-IsShort (Whole limit) = limit < 4000000000
+IsShort (Whole limit) = limit < too_many
 IsShort Nothing = Unit {0}
+
+-- the numbers of a command are in the ranges of its words
+abbrev pub KeepsRanges : Command → Type 0
+KeepsRanges (Best goal lines) = IsWithin 1 most_checked lines
+KeepsRanges (Generate count lines) = IsWithin 1 most_listed count × IsWithin 1 most_checked lines
+KeepsRanges (Sample cells) = IsWithin 1 most_cells cells
+KeepsRanges _ = Unit {0}

@@ -1,8 +1,8 @@
 -- What a command wrote of a model goes to `verify`: behind the bytes of the model, after a line `%%`.
 use Rattle.std.specs.Prelude.{◌≡◌, ℕ, ◌+◌, ◌≤◌, List, [], ◌∷◌, ◌++◌, codes, length, if◌then◌else◌}
+use Rattle.ts_base.specs.Limits.{most_verify_bytes}
 use Rattle.ts_base.specs.Words.{is_lf}
 use Rattle.ts_certificate.specs.Certificate.{Cert, ReadsAs, certificate_text}
-use Rattle.ts_certificate.specs.Laws.{most_verify_bytes}
 use Rattle.ts_model.specs.ModelParts.{ModelParts}
 use Rattle.ts_filter.specs.Holds.{Holds}
 use Rattle.ts_checker.specs.declared.verdict.Verdict.TheVariants.{Accepted}

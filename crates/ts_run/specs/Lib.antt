@@ -3,6 +3,7 @@ pub mod Certified
 pub mod Commands
 pub mod CompiledValue
 pub mod Endings
+pub mod Headline
 pub mod Joined
 pub mod Quantities
 pub mod Replies

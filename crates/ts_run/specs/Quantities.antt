@@ -2,17 +2,9 @@
 use Rattle.std.specs.Prelude.{ℕ, ◌≤◌, ◌&&◌, ℤ, pos, negsuc, List, if◌then◌else◌, nat_le, Option, Some, None}
 use Rattle.ts_token.specs.Number.{number_of}
 
--- the most lines of a budget
-abbrev pub most_lines : ℕ
-most_lines = 4000000
-
 -- the lines of the budget where none is given
 abbrev pub usual_lines : ℕ
 usual_lines = 100000
-
--- the most series that are listed
-abbrev pub most_series : ℕ
-most_series = 5000
 
 -- from least to most
 abbrev pub IsWithin : ℕ → ℕ → ℕ → Type 0

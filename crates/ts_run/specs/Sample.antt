@@ -5,7 +5,7 @@ use Rattle.std.specs.Fmt.{decimal, signed_decimal}
 use Rattle.ts_base.specs.declared.ext.Ext.{Ext}
 use Rattle.ts_base.specs.declared.goal.Goal.TheVariants.{Minimise}
 use Rattle.ts_base.specs.Limits.{most_cells}
-use Rattle.ts_base.specs.Text.{ext_text}
+use Rattle.ts_base.specs.Text.{ext_text, line}
 use Rattle.ts_certificate.specs.declared.certificate.Claim.{Claim}
 use Rattle.ts_certificate.specs.declared.certificate.Claim.TheVariants.{Best, Infeasible, BudgetBest, BudgetNone}
 use Rattle.ts_certificate.specs.declared.certificate.Claim.TheVariants.{Full, All, BudgetList}
@@ -16,7 +16,6 @@ use Rattle.ts_search.specs.Solved.{IsSolution}
 use Rattle.ts_run.specs.Quantities.{IsWithin, usual_lines}
 use Rattle.ts_run.specs.Reply.{Reply}
 use Rattle.ts_run.specs.SampleModel.{sample_stated}
-use Rattle.ts_run.specs.Verdict.{line}
 use Rattle.ts_run.specs.declared.status.Status.TheVariants.{Done, Budget}
 
 -- the sum of a series

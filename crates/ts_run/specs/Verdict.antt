@@ -4,15 +4,12 @@ use Rattle.std.specs.Prelude.{ℕ, ◌+◌, ℤ, Bool, true, false, List, [], �
 use Rattle.std.specs.List.{zip}
 use Rattle.std.specs.Fmt.{decimal}
 use Rattle.ts_base.specs.declared.ext.Ext.{Ext}
-use Rattle.ts_base.specs.Text.{ext_text}
+use Rattle.ts_base.specs.Text.{ext_text, line}
 use Rattle.ts_model.specs.Judgement.{all_hold, holdings, insides}
 use Rattle.ts_model.specs.Meets.{values_on}
 use Rattle.ts_model.specs.ModelParts.{ModelParts}
 use Rattle.ts_run.specs.Reply.{Reply}
 use Rattle.ts_run.specs.declared.status.Status.TheVariants.{Done, No}
-
-abbrev pub line : List ℕ → List ℕ
-line text = text ++ 10 ∷ []
 
 -- a line with the number k, where the test fails
 abbrev pub fault_line : List ℕ → ℕ → Bool → List ℕ

@@ -1,12 +1,12 @@
 -- What `verify` says of a certificate: the verdict on its lines, in words.
 use Rattle.std.specs.Prelude.{ℕ, ◌≡◌, List, ◌++◌, codes}
 use Rattle.std.specs.Fmt.{decimal}
+use Rattle.ts_base.specs.Text.{line}
 use Rattle.ts_model.specs.ModelParts.{ModelParts}
 use Rattle.ts_checker.specs.declared.verdict.Verdict.{Verdict}
 use Rattle.ts_checker.specs.declared.verdict.Verdict.TheVariants.{Accepted, Rejected, Refused as RefusedAt}
 use Rattle.ts_checker.specs.Verified.{IsShownBy}
 use Rattle.ts_run.specs.Reply.{Reply}
-use Rattle.ts_run.specs.Verdict.{line}
 use Rattle.ts_run.specs.declared.status.Status.{Status}
 use Rattle.ts_run.specs.declared.status.Status.TheVariants.{Done, No, Refused}
 

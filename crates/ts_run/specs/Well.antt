@@ -1,14 +1,18 @@
 -- What a call does to its source and its sink beside what it reads and writes, by its status.
-use Rattle.std.specs.Prelude.{ℕ, ◌≡◌, ◌≤◌, Bool, IsTrue}
+use Rattle.std.specs.Prelude.{ℕ, ◌≡◌, ◌≤◌, ◌⊎◌, Bool, IsTrue}
 use Rattle.ts_base.specs.Outside.{Rose, one_more}
 use Rattle.ts_run.specs.Reply.{EndsWritten, TellsNoFault}
 use Rattle.ts_run.specs.declared.status.Status.{Status}
 use Rattle.ts_run.specs.declared.status.Status.TheVariants.{ReadFault, WriteFault}
 
--- a fault of the source is told only where one was counted, and none is passed over
-pub record ReadsWell {S : Type 0} (faults : S → ℕ) (is_broken : S → Bool) (old new : S) (status : Status) : Type 0 where
+-- a fault of the source is told only where one was counted, and none is passed over; nothing is read after it, nor once
+-- the end of the source was found
+pub record ReadsWell {S : Type 0} (faults : S → ℕ) (is_broken : S → Bool) (ends : S → ℕ) (old new : S)
+    (status : Status) : Type 0 where
   pub fault : status ≡ ReadFault → Rose (faults old) (faults new)
   pub broken : status ≡ ReadFault → IsTrue (is_broken new)
+  pub before : status ≡ ReadFault → ends new ≡ ends old
+  pub stops : (ends new ≡ ends old) ⊎ (ends new ≡ one_more (ends old))
   pub calm : TellsNoFault status → faults new ≡ faults old
   pub later : faults old ≤ faults new
 

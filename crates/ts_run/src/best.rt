@@ -1,6 +1,7 @@
 //! `maximise` and `minimise`: the first best series of a model, with a certificate.
 
 ghost use Rattle.std.specs.Prelude.{◌<◌, length};
+ghost use Rattle.ts_base.specs.Limits.{too_many};
 ghost use Rattle.ts_run.specs.AnswerTexts.{BestReply};
 ghost use Rattle.ts_run.specs.Replies.{Gives};
 
@@ -16,7 +17,7 @@ use ts_search::solve;
 
 /// The refusal of the model, or the certificate of its first best series.
 pub fn best(alloc: Global, bytes: &[u8], goal: Goal, budget: Budget) -> Result<Reply, Stop>
-    requires { length bytes.now < 4000000000 }
+    requires { length bytes.now < too_many }
     ensures { Gives (BestReply goal budget bytes.now) result }
 {
     let model = model_of(alloc, bytes, Need::Best)?;

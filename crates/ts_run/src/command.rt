@@ -7,6 +7,7 @@ ghost use Rattle.ts_run.specs.Commands.{words_in};
 
 use crate::quantity::{Budget, Cells, Count};
 use ts_base::Goal;
+use ts_base::limits::{CHECK_BYTES, MODEL_BYTES, VERIFY_BYTES};
 
 /// What the program is asked to do.
 #[derive(Clone, Copy, Debug, PartialEq, Eq)]
@@ -48,10 +49,12 @@ impl Command {
         ensures short { IsShort result }
     {
         match self {
-            Command::Check => Input::Whole { limit: 2_097_152 },
-            Command::Verify => Input::Whole { limit: 135_266_304 },
+            Command::Check => Input::Whole { limit: CHECK_BYTES },
+            Command::Verify => Input::Whole {
+                limit: VERIFY_BYTES,
+            },
             Command::Compile | Command::Best { .. } | Command::Generate { .. } => {
-                Input::Whole { limit: 1_048_576 }
+                Input::Whole { limit: MODEL_BYTES }
             }
             Command::Sample { .. } => Input::Nothing,
         }

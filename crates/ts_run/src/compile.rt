@@ -1,6 +1,7 @@
 //! `compile`: the automata of a model's terms as a text.
 
 ghost use Rattle.std.specs.Prelude.{◌<◌, length};
+ghost use Rattle.ts_base.specs.Limits.{too_many};
 ghost use Rattle.ts_run.specs.AnswerTexts.{CompileReply};
 ghost use Rattle.ts_run.specs.Replies.{Gives};
 
@@ -13,7 +14,7 @@ use ts_model::Need;
 
 /// The refusal of the model, or the text of its program.
 pub fn compile(alloc: Global, bytes: &[u8]) -> Result<Reply, Stop>
-    requires { length bytes.now < 4000000000 }
+    requires { length bytes.now < too_many }
     ensures { Gives (CompileReply bytes.now) result }
 {
     let model = model_of(alloc, bytes, Need::Values)?;

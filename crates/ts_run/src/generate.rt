@@ -1,6 +1,7 @@
 //! `generate`: the first series of a model, with a certificate.
 
 ghost use Rattle.std.specs.Prelude.{◌<◌, length};
+ghost use Rattle.ts_base.specs.Limits.{too_many};
 ghost use Rattle.ts_run.specs.AnswerTexts.{ListReply};
 ghost use Rattle.ts_run.specs.Replies.{Gives};
 
@@ -15,7 +16,7 @@ use ts_search::list;
 
 /// The refusal of the model, or the certificate of its first `count` series.
 pub fn generate(alloc: Global, bytes: &[u8], count: Count, budget: Budget) -> Result<Reply, Stop>
-    requires { length bytes.now < 4000000000 }
+    requires { length bytes.now < too_many }
     ensures { Gives (ListReply count budget bytes.now) result }
 {
     let model = model_of(alloc, bytes, Need::List)?;

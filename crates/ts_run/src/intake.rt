@@ -1,6 +1,7 @@
 //! What takes the bytes of an input piece by piece, and then replies to all of them.
 
-ghost use Rattle.std.specs.Prelude.{ℕ, ◌<◌, List, length, IfOk};
+ghost use Rattle.std.specs.Prelude.{ℕ, ◌≢◌, ◌<◌, List, length, IfOk};
+ghost use Rattle.ts_base.specs.Limits.{too_many};
 ghost use Rattle.ts_run.specs.AnswerTexts.{IsReply};
 ghost use Rattle.ts_run.specs.Reply.{ComesOfInput, reply_of};
 
@@ -19,15 +20,17 @@ pub trait Respond: Intake + Drop {
     /// What the command replies to the bytes that were taken.
     fn reply(self, alloc: Global, command: &Command) -> Result<Reply, Memory>
         requires serves { serves command.now }
-        requires few { (bytes : List ℕ) × Self.took bytes self × (length bytes < 4000000000) }
+        requires few { (bytes : List ℕ) × Self.took bytes self × (length bytes < too_many) }
         ensures reply { IfOk result (λ r.
             (bytes : List ℕ) → Self.took bytes self → IsReply command.now bytes (reply_of r)) }
         ensures status { IfOk result (λ r. ComesOfInput r.status) };
 }
 
-/// Serves every command by its reply to the whole.
+/// Serves every command but `verify`, by its reply to the whole.
 impl Respond for Vec<u8> {
-    ghost serves = { λ _. Unit {0} };
+    ghost use Rattle.ts_run.specs.declared.command.Command.TheVariants.{Verify};
+
+    ghost serves = { λ command. command ≢ Verify };
 
     fn reply(self, alloc: Global, command: &Command) -> Result<Reply, Memory> {
         reply_to(alloc, command, &self)

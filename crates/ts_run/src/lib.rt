@@ -38,7 +38,7 @@ mod verdict;
 mod verify;
 mod write;
 
-pub use call::run;
+pub use call::{run, run_over_never};
 pub use laws::{
     done_is_accepted, done_is_meets, few_cells_are_done, one_best_reply, one_check_reply,
     one_compile_reply, one_list_reply, one_sample_reply, one_verify_reply,

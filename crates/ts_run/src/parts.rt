@@ -1,7 +1,7 @@
 //! The parts of an input: its model and its series, or the refusal of a bad one.
 
 ghost use Rattle.std.specs.Prelude.{◌≡◌, ◌<◌, ◌≤◌, length, IfOk, vec_len};
-ghost use Rattle.ts_base.specs.Limits.{most_cells};
+ghost use Rattle.ts_base.specs.Limits.{most_cells, too_many};
 ghost use Rattle.ts_pattern.specs.Limits.{IsSeries};
 ghost use Rattle.ts_token.specs.Text.{cut_of};
 ghost use Rattle.ts_model.specs.ModelReading.{model_reading};
@@ -19,7 +19,7 @@ use ts_token::cut_tokens;
 /// The model that the text states, in the limits of the need, or its refusal: the first step of each command that has
 /// a model.
 pub fn model_of(alloc: Global, text: &[u8], need: Need) -> Result<Model, Stop>
-    requires { length text.now < 4000000000 }
+    requires { length text.now < too_many }
     ensures gives { GivesModel (model_reading need text.now) result }
     ensures counted { IfOk result (λ m. m.n ≡ vec_len m.cells) }
     ensures whole { IfOk result (λ m. IsWhole (model_parts m)) }
@@ -37,7 +37,7 @@ pub fn model_of(alloc: Global, text: &[u8], need: Need) -> Result<Model, Stop>
 
 /// The series of `n` values that the text states, or its refusal.
 pub fn series_of(alloc: Global, text: &[u8], n: u32) -> Result<Vec<i64>, Stop>
-    requires few { length text.now < 4000000000 }
+    requires few { length text.now < too_many }
     requires cells { (1 ≤ n) × (n ≤ most_cells) }
     ensures gives { GivesSeries (λ xs. xs.items) (series_reading n (cut_of text.now)) result }
     ensures count { IfOk result (λ xs. length xs.items ≡ n) }

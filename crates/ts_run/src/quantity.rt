@@ -1,11 +1,11 @@
 //! Numbers in the words of commands, each a type that keeps its range.
 
 ghost use Rattle.std.specs.Prelude.{◌≡◌};
-ghost use Rattle.ts_base.specs.Limits.{most_cells};
-ghost use Rattle.ts_run.specs.Quantities.{IsWithin, most_lines, most_series, number_within, usual_lines};
+ghost use Rattle.ts_base.specs.Limits.{most_cells, most_checked, most_listed};
+ghost use Rattle.ts_run.specs.Quantities.{IsWithin, number_within, usual_lines};
 
 use std::marker::Model;
-use ts_base::limits::CELLS;
+use ts_base::limits::{CELLS, CHECKED, LISTED};
 use ts_token::number;
 
 /// How many lines a search may check, 1 to 4,000,000; 100,000 where no number is given.
@@ -16,36 +16,34 @@ pub struct Budget {
 
 impl Model for Budget {
     ghost use Rattle.std.specs.Prelude.{ℕ};
-    ghost use Rattle.ts_run.specs.Quantities.{IsWithin, most_lines};
+    ghost use Rattle.ts_base.specs.Limits.{most_checked};
+    ghost use Rattle.ts_run.specs.Quantities.{IsWithin};
 
     ghost Value = { ℕ };
 
     ghost view = { λ b. b.lines };
 
-    ghost invariant = { λ b. IsWithin 1 most_lines b.lines };
+    ghost invariant = { λ b. IsWithin 1 most_checked b.lines };
 
     ghost inverse = { λ n. record { lines = n } };
 }
 
 impl Budget {
-    /// The most lines of a budget.
-    pub const MOST: u32 = 4_000_000;
-
     /// The lines of the budget where no number is given.
     pub const USUAL: u32 = 100_000;
 
     /// The budget that the word is: None exactly where it isn't a number from 1 to 4,000,000.
     pub fn of(word: &[u8]) -> Option<Self>
-        ensures { result ≡ number_within 1 most_lines word.now }
+        ensures { result ≡ number_within 1 most_checked word.now }
     {
-        let lines = number_within(word, 1, Budget::MOST)?;
+        let lines = number_within(word, 1, CHECKED)?;
         Some(Budget { lines })
     }
 
     /// The lines, 1 to 4,000,000.
     pub fn lines(self) -> u32
         ensures value { result ≡ self }
-        ensures range { IsWithin 1 most_lines result }
+        ensures range { IsWithin 1 most_checked result }
     {
         self.lines
     }
@@ -70,33 +68,31 @@ pub struct Count {
 
 impl Model for Count {
     ghost use Rattle.std.specs.Prelude.{ℕ};
-    ghost use Rattle.ts_run.specs.Quantities.{IsWithin, most_series};
+    ghost use Rattle.ts_base.specs.Limits.{most_listed};
+    ghost use Rattle.ts_run.specs.Quantities.{IsWithin};
 
     ghost Value = { ℕ };
 
     ghost view = { λ c. c.series };
 
-    ghost invariant = { λ c. IsWithin 1 most_series c.series };
+    ghost invariant = { λ c. IsWithin 1 most_listed c.series };
 
     ghost inverse = { λ n. record { series = n } };
 }
 
 impl Count {
-    /// The most series that are listed.
-    pub const MOST: u32 = 5_000;
-
     /// The count that the word is: None exactly where it isn't a number from 1 to 5,000.
     pub fn of(word: &[u8]) -> Option<Self>
-        ensures { result ≡ number_within 1 most_series word.now }
+        ensures { result ≡ number_within 1 most_listed word.now }
     {
-        let series = number_within(word, 1, Count::MOST)?;
+        let series = number_within(word, 1, LISTED)?;
         Some(Count { series })
     }
 
     /// The series, 1 to 5,000.
     pub fn series(self) -> u32
         ensures value { result ≡ self }
-        ensures range { IsWithin 1 most_series result }
+        ensures range { IsWithin 1 most_listed result }
     {
         self.series
     }

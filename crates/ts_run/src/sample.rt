@@ -4,10 +4,10 @@ ghost use Rattle.std.specs.Prelude.{◌≡◌, ◌≤◌, ◌<◌, ◌++◌, len
 ghost use Rattle.std.specs.Fmt.{signed_decimal};
 ghost use Rattle.ts_automaton.specs.AutomatonRun.{AreCellValues};
 ghost use Rattle.ts_base.specs.Limits.{most_cells};
+ghost use Rattle.ts_base.specs.Text.{line};
 ghost use Rattle.ts_certificate.specs.Certificate.{checked_count};
 ghost use Rattle.ts_run.specs.Reply.{ComesOfInput, reply_of};
 ghost use Rattle.ts_run.specs.Sample.{SampleReply, head_lines, sample_text, sum_of, three_lines};
-ghost use Rattle.ts_run.specs.Verdict.{line};
 
 use crate::quantity::{Budget, Cells};
 use crate::reply::Reply;

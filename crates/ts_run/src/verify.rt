@@ -1,11 +1,12 @@
 //! `verify`: whether a certificate shows what it claims of a model.
 
 ghost use Rattle.std.specs.Prelude.{◌≡◌, ◌<◌, [], IfOk, length};
+ghost use Rattle.ts_base.specs.Limits.{too_many};
 ghost use Rattle.ts_base.specs.Words.{strict_lines};
 ghost use Rattle.ts_checker.specs.Checking.{HasChecked};
 ghost use Rattle.ts_checker.specs.Feeding.{HasFed};
 ghost use Rattle.ts_checker.specs.Verified.{IsShownBy};
-ghost use Rattle.ts_run.specs.AnswerTexts.{VerifyReply, end_reply};
+ghost use Rattle.ts_run.specs.AnswerTexts.{end_reply};
 ghost use Rattle.ts_run.specs.Reply.{ComesOfInput, reply_of};
 ghost use Rattle.ts_run.specs.Verified.{line_reply, verdict_reply};
 ghost use Rattle.ts_run.specs.declared.command.Command.TheVariants.{Verify};
@@ -49,17 +50,6 @@ impl Respond for Verifying {
     }
 }
 
-/// The refusal of the model, or the verdict on the certificate behind it.
-pub fn verify(alloc: Global, bytes: &[u8]) -> Result<Reply, Memory>
-    ensures reply { IfOk result (λ r. VerifyReply bytes.now (reply_of r)) }
-    ensures status { IfOk result (λ r. ComesOfInput r.status) }
-{
-    let mut verifier = Verifier::new(alloc);
-    verifier.feed(bytes)?;
-    let end = verifier.finish()?;
-    end_reply(alloc, end)
-}
-
 /// How an input ends, in words.
 fn end_reply(alloc: Global, end: VerifyEnd) -> Result<Reply, Memory>
     ensures reply { IfOk result (λ r. reply_of r ≡ end_reply end) }
@@ -73,7 +63,7 @@ fn end_reply(alloc: Global, end: VerifyEnd) -> Result<Reply, Memory>
 
 /// The verdict of a checker that was fed no line on the lines of this text.
 pub fn verdict_on(checker: Checker, text: &[u8]) -> Result<Verdict, Memory>
-    requires few { length text.now < 4000000000 }
+    requires few { length text.now < too_many }
     requires unfed { HasChecked [] checker }
     ensures { IfOk result (λ verdict. IsShownBy (strict_lines text.now) checker.model verdict) }
 {

@@ -8,7 +8,8 @@ use ts_base::{Ext, Memory};
 use ts_compile::compile_model;
 use ts_monitor::Monitor;
 
-static TEXT: &[u8] = b"cells 1\nterm w = sum width peak\nterm c = count peak\nterm m = min width peak\nterm t = max max peak\n";
+static TEXT: &[u8] =
+    b"cells 1\nterm w = sum width peak\nterm c = count peak\nterm m = min width peak\nterm t = max max peak\n";
 
 /// A reading, and the values of the four terms from then on.
 type Row = (i64, &'static [Ext]);

@@ -4,7 +4,8 @@ use super::Fault;
 use ts_run::Status;
 
 /// An input of `check`.
-const PEAK: &[u8] = b"cells 7\ndomain 0..9\nterm w = sum width peak\n%%\nseries 1 3 3 2 2 1 4\n";
+pub(super) const PEAK: &[u8] =
+    b"cells 7\ndomain 0..9\nterm w = sum width peak\n%%\nseries 1 3 3 2 2 1 4\n";
 
 /// The same behind a line.
 const AFTER_BLANKS: &[u8] =

@@ -5,7 +5,6 @@ use Rattle.ts_model.specs.Views.{model_parts}
 use Rattle.ts_spans.specs.Machines.{spans_in}
 use Rattle.ts_search.specs.Solved.{IsSolution}
 use Rattle.ts_run.specs.Certified.{IsBest}
-use Rattle.ts_run.specs.Quantities.{IsWithin, most_lines}
 use Rattle.ts_run.specs.Reply.{reply_of}
 use Rattle.ts_run.proofs.Steps.{model_fails, model_replies}
 use Rattle.ts_run.proofs.best.best.Goals as goal
@@ -20,11 +19,8 @@ returns c =
     let m = model_parts c.in_ok-model.model in
     let r = reply_of c.in_ok-certified.field-0 in
     let is : IsBest c.args.goal c.args.budget m r = record {
-      whole = c.in_ok-model.ensures.whole;
-      limits = c.in_ok-model.ensures.limits;
-      lines = subst (IsWithin 1 most_lines) c.lines.ensures.value c.lines.ensures.range;
       certificate = cert_seen c.in_ok-certificate.certificate;
-      solved = subst (λ n. IsSolution m (spans_in m) c.args.goal n (cert_seen c.in_ok-certificate.certificate)) (c.from.ensures ∙ c.lines.ensures.value)
+      is = subst (λ n. IsSolution m (spans_in m) c.args.goal n (cert_seen c.in_ok-certificate.certificate)) (c.from.ensures ∙ c.lines.ensures.value)
           c.in_ok-certificate.ensures;
       written = c.in_ok-certified.ensures.written;
     } in

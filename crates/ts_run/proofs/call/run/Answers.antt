@@ -1,16 +1,41 @@
-use Rattle.std.proofs.Common.{rules}
+use Rattle.std.proofs.Common.{sym}
 use Rattle.ts_run.specs.Commands.{command_of, words_in}
-use Rattle.ts_run.proofs.Told.{told, told_unread}
+use Rattle.ts_run.proofs.Ranges.{keeps_ranges}
+use Rattle.ts_run.proofs.Runs.{other_than_verify, unread_run, whole_run}
 use Rattle.ts_run.proofs.call.run.Goals as goal
 
-pub returns-in-Whole-clause-tells : goal.returns-in-Whole-clause-tells
-returns-in-Whole-clause-tells g c =
-    told (command_of (words_in c.args.words.now.items)) (g.S.Source.left c.args.source.now) (g.S.Source.source_faults c.args.source.now)
-    (g.S.Source.source_faults c.run_whole.new.source)
-    (g.K.Sink.taken c.args.sink.now) (g.K.Sink.taken c.run_whole.new.sink) c.run_whole.result (search rules)
+pub run_unread-requires : goal.run_unread-requires
+run_unread-requires g c = other_than_verify c.in-Some.command (sym c.in-Nothing.ensures.input)
 
-pub returns-in-Nothing-clause-tells_unread : goal.returns-in-Nothing-clause-tells_unread
-returns-in-Nothing-clause-tells_unread g c =
-    told_unread (command_of (words_in c.args.words.now.items)) (g.S.Source.left c.args.source.now) (g.S.Source.source_faults c.args.source.now)
-    (g.S.Source.source_faults c.args.source.now)
-    (g.K.Sink.taken c.args.sink.now) (g.K.Sink.taken c.run_unread.new.sink) c.run_unread.result (search rules)
+pub returns-in-Whole : goal.returns-in-Whole
+returns-in-Whole g c =
+    let whole = c.run_whole in
+    let words = words_in c.args.words.now.items in
+    whole_run
+    (record { left = g.S.Source.left; faults = g.S.Source.source_faults; is_broken = g.S.Source.source_broken; ends = g.S.Source.source_ends })
+    (record {
+      taken = g.K.Sink.taken;
+      faults = g.K.Sink.sink_faults;
+      is_broken = g.K.Sink.sink_broken;
+      is_finished = g.K.Sink.finished;
+      finishes = g.K.Sink.finishes;
+    })
+    (command_of words) c.args.source.now c.args.sink.now whole.new.sink whole.result whole.ensures.writes c.in-Some.command (sym c.in-Some.ensures)
+    (keeps_ranges words) whole.ensures.memory whole.new.source c.in-Whole.limit (sym c.in-Whole.ensures.input) whole.ensures.ends whole.ensures.takes
+    whole.ensures.reads
+
+pub returns-in-Nothing : goal.returns-in-Nothing
+returns-in-Nothing g c =
+    let unread = c.run_unread in
+    let words = words_in c.args.words.now.items in
+    unread_run
+    (record { left = g.S.Source.left; faults = g.S.Source.source_faults; is_broken = g.S.Source.source_broken; ends = g.S.Source.source_ends })
+    (record {
+      taken = g.K.Sink.taken;
+      faults = g.K.Sink.sink_faults;
+      is_broken = g.K.Sink.sink_broken;
+      is_finished = g.K.Sink.finished;
+      finishes = g.K.Sink.finishes;
+    })
+    (command_of words) c.args.source.now c.args.sink.now unread.new.sink unread.result unread.ensures.writes c.in-Some.command (sym c.in-Some.ensures)
+    (keeps_ranges words) unread.ensures.memory (sym c.in-Nothing.ensures.input) unread.ensures.ends unread.ensures.reads

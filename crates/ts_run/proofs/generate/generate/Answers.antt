@@ -5,7 +5,6 @@ use Rattle.ts_model.specs.Views.{model_parts}
 use Rattle.ts_spans.specs.Machines.{spans_in}
 use Rattle.ts_search.specs.Listed.{IsListAnswer}
 use Rattle.ts_run.specs.Certified.{IsListing}
-use Rattle.ts_run.specs.Quantities.{IsWithin, most_lines, most_series}
 use Rattle.ts_run.specs.Reply.{reply_of}
 use Rattle.ts_run.proofs.Steps.{model_fails, model_replies}
 use Rattle.ts_run.proofs.generate.generate.Goals as goal
@@ -20,12 +19,8 @@ returns c =
     let m = model_parts c.in_ok-model.model in
     let r = reply_of c.in_ok-certified.field-0 in
     let is : IsListing c.args.count c.args.budget m r = record {
-      whole = c.in_ok-model.ensures.whole;
-      limits = c.in_ok-model.ensures.limits;
-      asked = subst (IsWithin 1 most_series) c.series.ensures.value c.series.ensures.range;
-      lines = subst (IsWithin 1 most_lines) c.lines.ensures.value c.lines.ensures.range;
       certificate = cert_seen c.in_ok-certificate.certificate;
-      listed = subst (λ n. IsListAnswer m (spans_in m) n c.args.budget (cert_seen c.in_ok-certificate.certificate)) c.series.ensures.value
+      is = subst (λ n. IsListAnswer m (spans_in m) n c.args.budget (cert_seen c.in_ok-certificate.certificate)) c.series.ensures.value
           (subst (λ n. IsListAnswer m (spans_in m) c.series.result n (cert_seen c.in_ok-certificate.certificate)) (c.from-lines.ensures ∙ c.lines.ensures.value)
           c.in_ok-certificate.ensures);
       written = c.in_ok-certified.ensures.written;

@@ -1,0 +1,127 @@
+-- The theorem: what each command answers to the bytes of its input. `run` writes such an answer and no other
+-- (`Endings`), unless memory is wanting, or reading or writing fails. The words mean what their definitions say: a series
+-- meets a model (`Meets`) by occurrences, ranges and plain sums alone.
+use Rattle.std.specs.Prelude.{ℕ, ◌≡◌, ◌<◌, ◌≤◌, ◌+◌, ◌*◌, ◌↔◌, ℤ, List, [], ◌∷◌, Result, Ok, Err, Option, Some, None}
+use Rattle.ts_base.specs.declared.ext.Ext.{Ext}
+use Rattle.ts_base.specs.declared.goal.Goal.{Goal}
+use Rattle.ts_certificate.specs.declared.certificate.Claim.TheVariants.{Best as BestIs, Infeasible, All}
+use Rattle.ts_certificate.specs.Certificate.{Cert, checked_count, open_count}
+use Rattle.ts_domain.specs.BoxSeries.{series_count}
+use Rattle.ts_model.specs.declared.error.ModelKind.{ModelKind}
+use Rattle.ts_model.specs.declared.model.Need.TheVariants.{Values, List as NeedsList, Best as NeedsBest}
+use Rattle.ts_model.specs.FirstBest.{FirstBest}
+use Rattle.ts_model.specs.Meets.{Meets}
+use Rattle.ts_model.specs.ModelParts.{ModelParts}
+use Rattle.ts_model.specs.ModelReading.{model_reading}
+use Rattle.ts_filter.specs.Accepts.{Accepts, objective_of}
+use Rattle.ts_filter.specs.Holds.{Holds, IsListed}
+use Rattle.ts_spans.specs.Machines.{spans_in}
+use Rattle.ts_search.specs.Listed.{AreFirst, IsListAnswer}
+use Rattle.ts_search.specs.Solved.{IsSolution}
+use Rattle.ts_checker.specs.Verdicts.{AreOf}
+use Rattle.ts_checker.specs.Verified.{certificate_lines, model_part}
+use Rattle.ts_run.specs.AnswerTexts.{IsAsked, IsOffered, IsReply, refused_model}
+use Rattle.ts_run.specs.Certified.{IsWritten}
+use Rattle.ts_run.specs.CompiledValue.{IsCompiled}
+use Rattle.ts_run.specs.Joined.{GoesToVerify}
+use Rattle.ts_run.specs.Quantities.{usual_lines}
+use Rattle.ts_run.specs.Reply.{Reply}
+use Rattle.ts_run.specs.Sample.{SampleReply}
+use Rattle.ts_run.specs.SampleModel.{sample_stated}
+use Rattle.ts_run.specs.Verdict.{verdict}
+use Rattle.ts_run.specs.declared.command.Command.{Command}
+use Rattle.ts_run.specs.declared.command.Command.TheVariants.{Check, Compile, Verify, Best, Generate, Sample}
+use Rattle.ts_run.specs.declared.status.Status.TheVariants.{Done, No, Budget}
+
+-- how the model in the input of a command is read, in the limits of what it needs: the model that its lines state, or
+-- its first bad line with the first kind that holds of it
+abbrev pub reading_of : Command → List ℕ → Option (Result ModelParts (ℕ × ModelKind))
+reading_of Check bytes = Some (model_reading Values (model_part bytes))
+reading_of Compile bytes = Some (model_reading Values bytes)
+reading_of Verify bytes = Some (model_reading NeedsList (model_part bytes))
+reading_of (Best goal lines) bytes = Some (model_reading NeedsBest bytes)
+reading_of (Generate count lines) bytes = Some (model_reading NeedsList bytes)
+reading_of (Sample cells) bytes = None
+
+-- the input states this model
+abbrev pub States : Command → List ℕ → ModelParts → Type 0
+States command bytes m = reading_of command bytes ≡ Some (Ok m)
+
+-- `meets` is said of a series exactly where it meets the model, else `fails`; the value of each term is said too
+pub record SaysMeets (m : ModelParts) (xs : List ℤ) (answer : Reply) : Type 0 where
+  pub text : answer ≡ verdict m xs
+  pub meets : (answer.status ≡ Done) ↔ Meets m xs
+  pub fails : (answer.status ≡ No) ↔ (Meets m xs → ⊥)
+
+-- the program of a model: its automata answer the values of the terms, and are glued to them at every cell where the
+-- pattern has a partner
+pub record SaysProgram (m : ModelParts) (answer : Reply) : Type 0 where
+  pub compiled : IsCompiled m answer.text
+  pub done : answer.status ≡ Done
+
+-- a certificate, the only one of its kind, with the status of its claim: `verify` accepts it behind its model, and what
+-- it claims is true. The budget is said to be spent only where just so many lines were checked and a box is open, and
+-- never of a model with S series where it has 2·S - 1 lines.
+pub record SaysCertificate (Is : Cert → Type 0) (lines : ℕ) (m : ModelParts) (bytes : List ℕ)
+    (answer : Reply) : Type 0 where
+  pub certificate : Cert
+  pub is : Is certificate
+  pub only : (other : Cert) → Is other → other ≡ certificate
+  pub written : IsWritten certificate answer
+  pub spent : answer.status ≡ Budget → (checked_count certificate.tree ≡ lines) × (0 < open_count certificate.tree)
+  pub enough : 2 * series_count m.cells ≤ lines + 1 → answer.status ≡ Budget → ⊥
+  pub verified : GoesToVerify m bytes certificate
+
+-- `best` is said of the first, in lexicographic order, of the best series that meet; `infeasible` where none meets
+pub record SaysBest (goal : Goal) (lines : ℕ) (m : ModelParts) (bytes : List ℕ) (answer : Reply) : Type 0 where
+  pub says : SaysCertificate (IsSolution m (spans_in m) goal lines) lines m bytes answer
+  pub best : (v : Ext) → says.certificate.claim ≡ BestIs v →
+      (x : List ℤ) × (says.certificate.series ≡ x ∷ []) × FirstBest m goal x × (objective_of m x ≡ Some v)
+  pub infeasible : says.certificate.claim ≡ Infeasible → (x : List ℤ) → Meets m x → ⊥
+
+-- the series of a listing are the first that meet, in order; `all` is said where no other one meets
+pub record SaysList (count lines : ℕ) (m : ModelParts) (bytes : List ℕ) (answer : Reply) : Type 0 where
+  pub says : SaysCertificate (IsListAnswer m (spans_in m) count lines) lines m bytes answer
+  pub first : AreFirst m says.certificate.series
+  pub all : (n : ℕ) → says.certificate.claim ≡ All n → (x : List ℤ) → Meets m x → IsListed x says.certificate.series
+
+-- the input states a model and has a certificate, which is accepted, and what it claims is true of the model
+pub record IsShown (bytes : List ℕ) : Type 0 where
+  pub model : ModelParts
+  pub states : States Verify bytes model
+  pub certificate : Cert
+  pub lines : AreOf (certificate_lines bytes) certificate
+  pub accepted : Accepts model (spans_in model) certificate
+  pub holds : Holds model certificate
+
+-- `accepted` is said of a certificate exactly where each line keeps its rule, and only of what is true
+pub record SaysVerdict (bytes : List ℕ) (answer : Reply) : Type 0 where
+  pub shown : answer.status ≡ Done → IsShown bytes
+  pub exact : (m : ModelParts) (c : Cert) → IsOffered bytes m c → (answer.status ≡ Done) ↔ Accepts m (spans_in m) c
+
+-- of a model that was made, minimised and checked; that the lines ran out isn't said where 2·S - 1 are enough
+pub record SaysSample (cells : ℕ) (answer : Reply) : Type 0 where
+  pub is : SampleReply cells answer
+  pub enough : 2 * series_count (sample_stated cells).cells ≤ usual_lines + 1 → answer.status ≡ Budget → ⊥
+
+-- The theorem, by the rows of the table of promises: each says what is answered to an input of a command.
+pub record Headline (command : Command) (bytes : List ℕ) (answer : Reply) : Type 0 where
+  -- a text is read as its lines state, or refused at its first bad line with the first reason
+  pub refuses : (line : ℕ) (kind : ModelKind) → reading_of command bytes ≡ Some (Err (line, kind)) →
+      answer ≡ refused_model line kind
+  -- `check` says `meets` exactly where the series meets the model, and the value of each term
+  pub checks : command ≡ Check → (m : ModelParts) (xs : List ℤ) → IsAsked bytes m xs → SaysMeets m xs answer
+  -- `maximise` and `minimise`: the first best series, or that there is none, or that so many lines were spent
+  pub solves : (goal : Goal) (lines : ℕ) (m : ModelParts) → command ≡ Best goal lines → States command bytes m →
+      SaysBest goal lines m bytes answer
+  -- `generate`: the first series that meet
+  pub lists : (count lines : ℕ) (m : ModelParts) → command ≡ Generate count lines → States command bytes m →
+      SaysList count lines m bytes answer
+  -- `verify` accepts exactly where each line keeps its rule, and what it accepts is true
+  pub verifies : command ≡ Verify → SaysVerdict bytes answer
+  -- an automaton of `compile` answers its term's value on each series up to 100,000 cells
+  pub compiles : (m : ModelParts) → command ≡ Compile → States command bytes m → SaysProgram m answer
+  -- `sample` solves and checks a model of its own
+  pub samples : (cells : ℕ) → command ≡ Sample cells → SaysSample cells answer
+  -- and the answer is one that the definitions give for the bytes
+  pub reply : IsReply command bytes answer
