@@ -33,6 +33,8 @@ mod occurrences;
 #[cfg(test)]
 mod patterns;
 #[cfg(test)]
+mod planned;
+#[cfg(test)]
 mod programs;
 #[cfg(test)]
 mod readings;
