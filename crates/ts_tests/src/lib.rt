@@ -49,6 +49,8 @@ mod tokens;
 #[cfg(test)]
 mod transducers;
 #[cfg(test)]
+mod user_texts;
+#[cfg(test)]
 mod validated;
 #[cfg(test)]
 mod validation;
