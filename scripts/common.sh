@@ -1,0 +1,57 @@
+# Read by the scripts at the top: how they end, and the folder in which they work.
+# Exit statuses of their own: 64 the words are wrong, 65 what was read isn't what they take, 66 a file can't be read,
+# 70 the program can't be run, 73 a file can't be made, 74 writing failed.
+# shellcheck shell=sh
+
+self=$(basename "$0")
+scratch=''
+
+# STATUS TEXT: one sentence on standard error, and the end.
+fail() {
+    code=$1
+    shift
+    echo "$self: $*" >&2
+    exit "$code"
+}
+
+# Where a script has more to end than its folder it has a `clean` of its own.
+clean() {
+    [ -z "$scratch" ] || rm -rf "$scratch"
+}
+
+# After an interrupt the script ends by that signal, as whoever started it expects.
+ended_by() {
+    trap - EXIT "$1"
+    clean
+    kill -s "$1" $$
+    exit 1
+}
+
+trap clean EXIT
+trap 'ended_by HUP' HUP
+trap 'ended_by INT' INT
+trap 'ended_by TERM' TERM
+
+make_scratch() {
+    scratch=$(mktemp -d 2>/dev/null) || fail 74 "there is no room for a folder in ${TMPDIR:-/tmp}"
+}
+
+# [FILE]: the file, or standard input where none is named, in $scratch/input, without the CR in front of a line's end.
+read_input() {
+    [ -z "${1:-}" ] || [ -f "$1" ] || [ -p "$1" ] || fail 66 "there is no file $1"
+    if [ -n "${1:-}" ]; then
+        [ -r "$1" ] || fail 66 "the file $1 can't be read"
+        exec <"$1"
+    fi
+    cat >"$scratch/whole" 2>"$scratch/error" || fail 74 "the input can't be read: $(sed 's/.*: //' "$scratch/error")"
+    tr -d '\r' <"$scratch/whole" >"$scratch/input" || fail 74 "there is no room for the input in ${TMPDIR:-/tmp}"
+    rm -f "$scratch/whole"
+}
+
+# FILE: writes it to standard output, whole, or says that this failed.
+write_out() {
+    cat "$1" 2>/dev/null && return
+    code=$?
+    [ "$code" -le 128 ] || exit "$code"
+    fail 74 "writing failed"
+}
