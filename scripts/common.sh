@@ -14,14 +14,23 @@ fail() {
     exit "$code"
 }
 
-# Where a script has more to end than its folder it has a `clean` of its own.
+running=''
+
 clean() {
+    if [ -n "$running" ]; then
+        kill "$running" 2>/dev/null
+        wait "$running" 2>/dev/null
+    fi
     [ -z "$scratch" ] || rm -rf "$scratch"
 }
+
+# What a script still has to say after an interrupt; one that has something says it by another `last_words`.
+last_words() { :; }
 
 # After an interrupt the script ends by that signal, as whoever started it expects.
 ended_by() {
     trap - EXIT "$1"
+    last_words
     clean
     kill -s "$1" $$
     exit 1
