@@ -1,0 +1,177 @@
+# Read by `wishes`: goes through all series of some cells and says of each whether a wish means it, by the wish's own
+# words. A line for each series, in order: 1 or 0, or the amount that a wish wants great or small, a tab, the series.
+# Level stretches: the greatest parts of the series with one value.
+function stretch(    i) {
+    stretches = 0
+    for (i = 1; i <= cells; i++) {
+        if (i == 1 || x[i] != x[i - 1]) { stretches++; from[stretches] = i; level[stretches] = x[i] }
+        to[stretches] = i
+    }
+}
+function take(i, j) { parts++; first[parts] = i; last[parts] = j }
+
+# Runs and pauses: stretches above, or below, both neighbours. At the ends a stretch counts only where `ends` is set.
+function runs(up, ends,    i) {
+    parts = 0
+    for (i = 1; i <= stretches; i++)
+        if ((i > 1 ? up * (level[i] - level[i - 1]) > 0 : ends) &&
+            (i < stretches ? up * (level[i] - level[i + 1]) > 0 : ends))
+            take(from[i], to[i])
+}
+# Hills and hollows: from a run or a pause down to the feet on both sides, the feet left out.
+function hills(up, ends,    i, l, r) {
+    parts = 0
+    for (i = 1; i <= stretches; i++) {
+        for (l = i; l > 1 && up * (level[l] - level[l - 1]) > 0;) l--
+        for (r = i; r < stretches && up * (level[r] - level[r + 1]) > 0;) r++
+        if (l == 1 && ends) l = 0
+        if (r == stretches && ends) r++
+        if (l < i && i < r) take(l ? to[l] + 1 : 1, r > stretches ? cells : from[r] - 1)
+    }
+}
+# Landings: stretches of two hours or more, between two rises (up is 1) or two falls.
+function landings(up,    i) {
+    parts = 0
+    for (i = 2; i < stretches; i++)
+        if (to[i] > from[i] && up * (level[i] - level[i - 1]) > 0 && up * (level[i + 1] - level[i]) > 0)
+            take(from[i], to[i])
+}
+function all_stretches(    i) { parts = 0; for (i = 1; i <= stretches; i++) take(from[i], to[i]) }
+
+function shortest(    k, n) { n = 999; for (k = 1; k <= parts; k++) if (hours(k) < n) n = hours(k); return n }
+function longest(    k, n) { n = 0; for (k = 1; k <= parts; k++) if (hours(k) > n) n = hours(k); return n }
+function hours(k) { return last[k] - first[k] + 1 }
+function all_hours(    k, n) { n = 0; for (k = 1; k <= parts; k++) n += hours(k); return n }
+function units(k,    i, n) { n = 0; for (i = first[k]; i <= last[k]; i++) n += x[i]; return n }
+function most_units(    k, n) { n = 0; for (k = 1; k <= parts; k++) if (units(k) > n) n = units(k); return n }
+function all_units(    k, n) { n = 0; for (k = 1; k <= parts; k++) n += units(k); return n }
+function top(k,    i, n) { n = x[first[k]]; for (i = first[k]; i <= last[k]; i++) if (x[i] > n) n = x[i]; return n }
+function floor(k,    i, n) { n = x[first[k]]; for (i = first[k]; i <= last[k]; i++) if (x[i] < n) n = x[i]; return n }
+function highest_top(    k, n) { n = -999; for (k = 1; k <= parts; k++) if (top(k) > n) n = top(k); return n }
+function lowest_top(    k, n) { n = 999; for (k = 1; k <= parts; k++) if (top(k) < n) n = top(k); return n }
+function lowest_floor(    k, n) { n = 999; for (k = 1; k <= parts; k++) if (floor(k) < n) n = floor(k); return n }
+function all_tops(    k, n) { n = 0; for (k = 1; k <= parts; k++) n += top(k); return n }
+
+function steps(up,    i, n) { n = 0; for (i = 1; i < cells; i++) n += up * (x[i + 1] - x[i]) > 0; return n }
+function steps_running(up,    i, n, most) {
+    n = most = 0
+    for (i = 1; i < cells; i++) { n = up * (x[i + 1] - x[i]) > 0 ? n + 1 : 0; if (n > most) most = n }
+    return most
+}
+# The hours from the first rise to the last one of a climb that never falls, that of its foot too.
+function longest_climb(up,    i, j, k, most) {
+    most = 0
+    for (i = 1; i < cells; i++)
+        for (j = i + 1; j <= cells && up * (x[j] - x[j - 1]) >= 0; j++)
+            if (x[i] != x[i + 1] && x[j] != x[j - 1] && j - i + 1 > most) most = j - i + 1
+    return most
+}
+function turns(    i, n, way, now) {
+    n = way = 0
+    for (i = 1; i < cells; i++) {
+        now = (x[i + 1] > x[i]) - (x[i + 1] < x[i])
+        if (now) { n += way && now != way; way = now }
+    }
+    return n
+}
+# Changes of level that follow each other at once, up and down in turn.
+function in_turn(    i, n, most, way, now) {
+    n = most = way = 0
+    for (i = 1; i < cells; i++) {
+        now = (x[i + 1] > x[i]) - (x[i + 1] < x[i])
+        n = !now ? 0 : now == -way ? n + 1 : 1
+        if (n > most) most = n
+        way = now
+    }
+    return most
+}
+function total(    i, n) { n = 0; for (i = 1; i <= cells; i++) n += x[i]; return n }
+function level_hours(    i, n) {
+    n = 0
+    for (i = 1; i <= stretches; i++) if (to[i] > from[i]) n += to[i] - from[i] + 1
+    return n
+}
+function inner_shortest(    i, n) {
+    n = 999
+    for (i = 2; i < stretches; i++) if (to[i] - from[i] + 1 < n) n = to[i] - from[i] + 1
+    return n
+}
+
+function is(words) { if (wish == "?") print words; return wish == words }
+
+# Whether the wish means the series; of a wish for as much or as little as possible the amount.
+function wanted() {
+    if (is("exactly two runs")) { runs(1); return parts == 2 }
+    if (is("no run shorter than three hours")) { runs(1); return shortest() >= 3 }
+    if (is("no run longer than four hours")) { runs(1); return longest() <= 4 }
+    if (is("at most three hours of runs in all")) { runs(1); return all_hours() <= 3 }
+    if (is("no pause shorter than two hours")) { runs(-1); return shortest() >= 2 }
+    if (is("no pause longer than two hours")) { runs(-1); return longest() <= 2 }
+    if (is("at most two hills")) { hills(1); return parts <= 2 }
+    if (is("first up, then down, and never up again")) return !dips()
+    if (is("no hill shorter than three hours")) { hills(1); return shortest() >= 3 }
+    if (is("at most four hours of hills in all")) { hills(1); return all_hours() <= 4 }
+    if (is("the hills do not go above 80")) { hills(1); return highest_top() <= 80 }
+    if (is("each hill reaches 50")) { hills(1); return lowest_top() >= 50 }
+    if (is("the hollows do not go below 20")) { hills(-1); return lowest_floor() >= 20 }
+    if (is("at most 60 units in a hill, over all its hours")) { hills(1); return most_units() <= 60 }
+    if (is("as much as possible on the tops of the hills, each counted once")) { hills(1); return all_tops() }
+    if (is("as few units in the hills as possible")) { hills(1); return all_units() }
+    if (is("no rise in two hours running")) return steps_running(1) <= 1
+    if (is("at most two rises in all")) return steps(1) <= 2
+    if (is("no fall at all")) return steps(-1) == 0
+    if (is("no climb longer than four hours, with its level hours")) return longest_climb(1) <= 4
+    if (is("no level kept for more than three hours")) { all_stretches(); return longest() <= 3 }
+    if (is("at least one level kept for four hours")) { all_stretches(); return longest() >= 4 }
+    if (is("at least five hours at levels kept for two hours or more")) return level_hours() >= 5
+    if (is("a landing on the way up lasts at least three hours")) { landings(1); return shortest() >= 3 }
+    if (is("at most two turns between up and down")) return turns() <= 2
+    if (is("at most three changes running, up and down in turn")) return in_turn() <= 3
+    if (is("each level but the first and the last is kept for at least two hours")) return inner_shortest() >= 2
+    if (is("each level but the first and the last is kept for at least three hours")) return inner_shortest() >= 3
+    if (is("no run shorter than three hours, at the ends too")) { runs(1, 1); return shortest() >= 3 }
+    if (is("at most two hills, at the ends too")) { hills(1, 1); return parts <= 2 }
+    if (is("no pause shorter than two hours, at the ends too")) { runs(-1, 1); return shortest() >= 2 }
+    if (is("the hollows do not go below 20, at the ends too")) { hills(-1, 1); return lowest_floor() >= 20 }
+    if (is("of a machine that is on or off: no run shorter than three hours, at the ends too")) {
+        runs(1, 1)
+        return all_on_stretches() >= 3
+    }
+    if (is("at most five units in all: of B = 0, 1, .. 5 one has a plan")) return total() <= 5
+    if (is("as few units in all as possible, with at most one hill")) {
+        hills(1, 1)
+        return parts <= 1 ? total() : "out"
+    }
+    return "unknown"
+}
+# Whether it rises somewhere behind a fall.
+function dips(    i, fell) {
+    for (i = 1; i < cells; i++) {
+        if (x[i + 1] < x[i]) fell = 1
+        if (x[i + 1] > x[i] && fell) return 1
+    }
+    return 0
+}
+# The shortest stretch of hours that are on.
+function all_on_stretches(    i) {
+    parts = 0
+    for (i = 1; i <= stretches; i++) if (level[i] > 0) take(from[i], to[i])
+    return shortest()
+}
+
+BEGIN {
+    if (wish == "?") { wanted(); exit }
+    choices = split(values, value, " ")
+    for (i = 1; i <= cells; i++) at[i] = 1
+    do {
+        for (i = 1; i <= cells; i++) x[i] = value[at[i]]
+        stretch()
+        is_meant = wanted()
+        if (is_meant == "unknown") { print is_meant; exit }
+        printf "%s\tseries", is_meant
+        for (i = 1; i <= cells; i++) printf " %d", x[i]
+        print ""
+        for (i = cells; i > 0 && at[i] == choices; i--) at[i] = 1
+        at[i]++
+    } while (i > 0)
+}
