@@ -2,10 +2,11 @@
 //!
 //! The patterns, features and aggregators are those of the Global Constraint Catalog, Volume II. A term of a model
 //! is an aggregator over a feature of a pattern's occurrences, each known by its name. This crate has the table of the
-//! 22 patterns, says what an occurrence is and what a term is worth on a series, and holds the plans by which a
-//! transducer is shown to find the occurrences. It promises to the layers above that a name is read as exactly the
-//! pattern, feature or aggregator of that name, that a `Term` never joins `one` with another aggregator than `sum`,
-//! that no word of a pattern is shorter than its two trims together, and that the list of occurrences is the list of
+//! 22 patterns and a row for each feature and aggregator of how it counts, says what an occurrence is and what a term
+//! is worth on a series, and holds the plans by which a transducer is shown to find the occurrences. It promises to the
+//! layers above that a name is read as exactly the pattern, feature or aggregator of that name, that a `Term` never
+//! joins `one` with another aggregator than `sum`, that no word of a pattern is shorter than its two trims together,
+//! that a feature is what its row joins (`laws::features_are_folds`), and that the list of occurrences is the list of
 //! the maximal matches over words (`laws::all_occurrences`).
 //!
 //! ```text
