@@ -39,7 +39,7 @@ use Rattle.ts_compile.proofs.Forms.{form_of, form_is, form_size}
 use Rattle.ts_compile.proofs.Patterns.{is_pair}
 use Rattle.ts_compile.proofs.Series.{table_run, run_more, back_is, cells_join, cells_parts, cells_back, run_is}
 
-fold_op_is : (o : Op) → fold_op (fold_op_of o) ≡ o
+pub fold_op_is : (o : Op) → fold_op (fold_op_of o) ≡ o
 fold_op_is Add = refl
 fold_op_is Max = refl
 fold_op_is Min = refl
@@ -48,7 +48,7 @@ unit_is : (w : Worth) (x : ℤ) → worth_of w x ≡ worth (cell_unit_of w) x
 unit_is UnitWorth x = refl
 unit_is CellWorth x = refl
 
-worth_is : (f : Feature) (x : ℤ) → cell_value f x ≡ Int (worth (cell_unit_of (cell_fold f).worth) x)
+pub worth_is : (f : Feature) (x : ℤ) → cell_value f x ≡ Int (worth (cell_unit_of (cell_fold f).worth) x)
 worth_is f x = ap Int (unit_is (cell_fold f).worth x)
 
 -- a state is held where its row is

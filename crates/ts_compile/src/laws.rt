@@ -1,13 +1,17 @@
 //! What the machines of all terms answer, and what is glued of the two runs of those that can be split.
 
-ghost use Rattle.std.specs.Prelude.{◌≡◌, Some};
+ghost use Rattle.std.specs.Prelude.{◌≡◌, ℤ, Some};
 ghost use Rattle.ts_automaton.specs.AutomatonRun.{HoldsMark};
+ghost use Rattle.ts_base.specs.declared.ext.Ext.TheVariants.{Int};
 ghost use Rattle.ts_compile.specs.Compiled.{AnswersTerm, GluesTerm, machine_body, pair_with};
 ghost use Rattle.ts_compile.specs.Seeds.{SeedsAreValidated};
-ghost use Rattle.ts_compile.specs.TermPairs.{ForPartners, pair_by};
+ghost use Rattle.ts_compile.specs.TermPairs.{ForPartners, glue_table_of, pair_by};
 ghost use Rattle.ts_decorate.specs.Answers.{longest};
+ghost use Rattle.ts_glue.specs.Glue.{fold_op, worth};
 ghost use Rattle.ts_glue.specs.Glued.{LocalUpTo};
 ghost use Rattle.ts_glue.specs.Rules.{IsGluing};
+ghost use Rattle.ts_pattern.specs.Arithmetic.{cell_op, cell_value};
+ghost use Rattle.ts_pattern.specs.declared.name.Feature.{Feature};
 ghost use Rattle.ts_pattern.specs.declared.name.PatternId.{PatternId};
 ghost use Rattle.ts_pattern.specs.declared.term.Term.{Term};
 ghost use Rattle.ts_seed.specs.SeedTable.{seed_table};
@@ -16,6 +20,13 @@ ghost use Rattle.ts_seed.specs.SeedTable.{seed_table};
 pub fn compiled_value()
     ensures answer { (t : Term) → AnswersTerm (machine_body t) t }
     ensures marked { (t : Term) → HoldsMark (machine_body t) }
+{}
+
+/// A term's glue table joins cells by the operator of its feature, and takes a cell for what it is worth in it.
+pub fn tables_count_as_features()
+    ensures op { (id : PatternId) (f : Feature) → fold_op (glue_table_of id f).op ≡ cell_op f }
+    ensures worth { (id : PatternId) (f : Feature) (x : ℤ) →
+        Int (worth (glue_table_of id f).unit x) ≡ cell_value f x }
 {}
 
 /// The pair of the term's automaton and of the automaton by its partner's rows, with its glue table, keeps every rule
