@@ -1,6 +1,7 @@
 -- The one line `series v_1 .. v_n` of a text, or the first kind that holds of the text.
-use Rattle.std.specs.Prelude.{◌≡◌, ℕ, codes, ◌==◌, ℤ, Bool, List, [], ◌∷◌, length, if◌then◌else◌, Option, Some, None, Result, Ok, Err}
+use Rattle.std.specs.Prelude.{◌≡◌, ℕ, codes, ◌&&◌, nat_le, ℤ, Bool, List, [], ◌∷◌, length, if◌then◌else◌, Option, Some, None, Result, Ok, Err}
 use Rattle.std.specs.Str.{bytes_eq}
+use Rattle.ts_base.specs.Limits.{most_cells}
 use Rattle.ts_token.specs.Text.{Row, Cut}
 use Rattle.ts_token.specs.Number.{number_of}
 use Rattle.ts_model.specs.declared.error.SeriesStop.{SeriesStop}
@@ -40,20 +41,29 @@ abbrev pub series_words : Cut → Option ℕ → Option (List (List ℕ))
 series_words c (Some line) = None
 series_words c None = only_row c.rows
 
-abbrev pub of_length : ℕ → List ℤ → Result (List ℤ) SeriesStop
-of_length n values = if length values == n then Ok values else Err Length
+abbrev pub of_length : ℕ → ℕ → List ℤ → Result (List ℤ) SeriesStop
+of_length least most values =
+    if nat_le least (length values) && nat_le (length values) most then Ok values else Err Length
 
-abbrev pub numbers_give : ℕ → Option (List ℤ) → Result (List ℤ) SeriesStop
-numbers_give n None = Err Number
-numbers_give n (Some values) = of_length n values
+abbrev pub numbers_give : ℕ → ℕ → Option (List ℤ) → Result (List ℤ) SeriesStop
+numbers_give least most None = Err Number
+numbers_give least most (Some values) = of_length least most values
 
-abbrev pub words_give : ℕ → Option (List (List ℕ)) → Result (List ℤ) SeriesStop
-words_give n None = Err Shape
-words_give n (Some words) = numbers_give n (values_of words)
+abbrev pub words_give : ℕ → ℕ → Option (List (List ℕ)) → Result (List ℤ) SeriesStop
+words_give least most None = Err Shape
+words_give least most (Some words) = numbers_give least most (values_of words)
 
--- the series, or the first of `shape`, `number` and `length` that holds
+-- the series of at least so many and at most so many numbers, or the first of `shape`, `number` and `length` that holds
+abbrev pub series_within : ℕ → ℕ → Cut → Result (List ℤ) SeriesStop
+series_within least most c = words_give least most (series_words c c.not_text)
+
+-- the series of n numbers
 abbrev pub series_reading : ℕ → Cut → Result (List ℤ) SeriesStop
-series_reading n c = words_give n (series_words c c.not_text)
+series_reading n c = series_within n n c
+
+-- the series of as many numbers as there may be cells
+abbrev pub any_series_reading : Cut → Result (List ℤ) SeriesStop
+any_series_reading c = series_within 1 most_cells c
 
 -- the result is what the text reads as, unless memory ran out
 abbrev pub ReadsSeries : {X : Type 0} → (X → List ℤ) → Result X SeriesStop → Result (List ℤ) SeriesStop → Type 0

@@ -4,8 +4,9 @@
 //! the series (Global Constraint Catalog, Volume II), what is required of their values, and which term is the
 //! objective. `read_model` gives the model that the lines state together, or the first bad line with the first of
 //! fifteen kinds that holds of it, and a `ModelReader` the same of a text that comes line by line; `read_series` gives
-//! the numbers of a `series` line. Each is an exact reading: every text has one answer, want of memory aside. What
-//! stands above knows of a model that its numbers of cells and terms exist and that it keeps the limits of its need.
+//! the numbers of a `series` line, `read_any_series` where no model says how many. Each is an exact reading: every text
+//! has one answer, want of memory aside. What stands above knows of a model that its numbers of cells and terms exist
+//! and that it keeps the limits of its need.
 //!
 //! A text is read in one pass: a line costs its words, a name is looked up in the map of the terms, and a `domain`
 //! line doesn't touch the cells one by one.
@@ -35,4 +36,4 @@ pub use laws::{judged_is_met, model_is_whole, model_keeps_limits, one_reading, r
 pub use model::{Model, Need, Op, Require, satisfies};
 pub use read::read_model;
 pub use reader::ModelReader;
-pub use series::read_series;
+pub use series::{read_any_series, read_series};

@@ -4,12 +4,13 @@ ghost use Rattle.std.specs.Prelude.{◌≡◌, ok_or};
 ghost use Rattle.std.specs.Option.{option_map};
 ghost use Rattle.ts_token.specs.Views.{cut_view};
 ghost use Rattle.ts_model.specs.declared.error.SeriesStop.{SeriesStop};
-ghost use Rattle.ts_model.specs.Series.{is_series, after_series, value_of, values_of, series_words, series_reading, ReadsSeries};
+ghost use Rattle.ts_model.specs.Series.{is_series, after_series, value_of, values_of, series_words, ReadsSeries};
+ghost use Rattle.ts_model.specs.Series.{any_series_reading, series_reading, series_within};
 ghost use Rattle.ts_model.specs.Views.{texts};
 
 use crate::error::SeriesStop;
 use std::alloc::Global;
-use ts_base::limits::CELL_VALUE;
+use ts_base::limits::{CELL_VALUE, CELLS};
 use ts_token::{Tokens, Word, number};
 
 /// Whether the word is `series`.
@@ -69,20 +70,40 @@ fn values_of(alloc: Global, words: &[Word]) -> Result<Vec<i64>, SeriesStop>
     Ok(values)
 }
 
+/// The numbers of the one line `series` of a text, at least `least` and at most `most` of them.
+fn read_within(
+    alloc: Global,
+    tokens: &Tokens<'_>,
+    least: usize,
+    most: usize,
+) -> Result<Vec<i64>, SeriesStop>
+    ensures { ReadsSeries (λ v. v.items) result (series_within least most (cut_view tokens.now)) }
+{
+    match series_words(tokens) {
+        None => Err(SeriesStop::Shape),
+        Some(words) => {
+            let values = values_of(alloc, words)?;
+            if least <= values.len() && values.len() <= most {
+                Ok(values)
+            } else {
+                Err(SeriesStop::Length)
+            }
+        }
+    }
+}
+
 /// The `n` numbers of a text whose one unskipped line is `series` and numbers from -1,000,000 to 1,000,000; else
 /// the first that holds: `Shape` where it isn't one such line, `Number` where a word isn't such a number, `Length`
 /// where there aren't `n`.
 pub fn read_series(alloc: Global, tokens: &Tokens<'_>, n: u32) -> Result<Vec<i64>, SeriesStop>
     ensures { ReadsSeries (λ v. v.items) result (series_reading n (cut_view tokens.now)) }
 {
-    match series_words(tokens) {
-        None => Err(SeriesStop::Shape),
-        Some(words) => {
-            let values = values_of(alloc, words)?;
-            if values.len() as u64 != u64::from(n) {
-                return Err(SeriesStop::Length);
-            }
-            Ok(values)
-        }
-    }
+    read_within(alloc, tokens, n as usize, n as usize)
+}
+
+/// The same of 1 to 512 numbers, where no model says how many: `Length` where there are more, or none.
+pub fn read_any_series(alloc: Global, tokens: &Tokens<'_>) -> Result<Vec<i64>, SeriesStop>
+    ensures { ReadsSeries (λ v. v.items) result (any_series_reading (cut_view tokens.now)) }
+{
+    read_within(alloc, tokens, 1, CELLS)
 }

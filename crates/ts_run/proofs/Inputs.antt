@@ -1,15 +1,15 @@
 -- What is read is within the limits: the parts of an input are no longer than it, and a series that was read has cells
 -- from -1,000,000 to 1,000,000.
 use Rattle.std.proofs.Common.{◌≡◌, ℕ, ◌≤◌, ℤ, Bool, true, false, cond, Option, Some, None, Ok, Err, List, [], ◌∷◌, ◌++◌, length, refl, subst, arith, length-append}
-use Rattle.std.specs.Prelude.{◌==◌, unwrap_or}
+use Rattle.std.specs.Prelude.{◌&&◌, nat_le, unwrap_or}
 use Rattle.std.specs.Option.{option_map}
 use Rattle.std.specs.Borrow.{Bor}
 use Rattle.std.specs.List.{AllByRecursion, concat}
-use Rattle.std.proofs.lemmas.Bool.Decides.{nat_tests}
+use Rattle.std.proofs.lemmas.Bool.{and_parts, leb-true}
 use Rattle.std.proofs.lemmas.Int.{ints}
 use Rattle.std.proofs.lemmas.List.Elements.{All-from_recursion}
 use Rattle.ts_pattern.specs.Limits.{IsSeries}
-use Rattle.ts_base.specs.Limits.{IsCellValue}
+use Rattle.ts_base.specs.Limits.{IsCellValue, most_cells}
 use Rattle.ts_token.specs.Text.{Cut}
 use Rattle.ts_token.specs.Number.{number_of}
 use Rattle.ts_base.specs.Words.{strict_lines}
@@ -18,7 +18,9 @@ use Rattle.ts_token.specs.Halves.{is_separator, Halves, after_front, halves, hal
 use Rattle.ts_model.specs.declared.error.SeriesStop.TheVariants.{Length}
 use Rattle.ts_model.specs.ModelParts.{is_value}
 use Rattle.ts_model.specs.Words.{onto}
-use Rattle.ts_model.specs.Series.{within, value_of, values_of, numbers_give, words_give, series_words, series_reading}
+use Rattle.ts_model.specs.Series.{within, value_of, values_of, numbers_give, words_give, series_words}
+use Rattle.ts_model.specs.Series.{any_series_reading, series_reading, series_within}
+use Rattle.ts_run.specs.Quantities.{IsWithin}
 
 -- neither part is longer than n
 pub record AreWithin (n : ℕ) (h : Halves) : Type 0 where
@@ -72,31 +74,48 @@ words_cells : (words : List (List ℕ)) (xs : List ℤ) → values_of words ≡ 
 words_cells [] xs e = let same : [] ≡ xs = cc in subst (λ (z : List ℤ). AllByRecursion IsCellValue z) same tt
 words_cells (w ∷ ws) xs e = more_cells (value_of w) (values_of ws) xs (λ x h. word_cell w x h) (λ ys h. words_cells ws ys h) e
 
-record Fits (n : ℕ) (xs : List ℤ) : Type 0 where
-  count : length xs ≡ n
+record Fits (least most : ℕ) (xs : List ℤ) : Type 0 where
+  few : least ≤ length xs
+  many : length xs ≤ most
   cells : AllByRecursion IsCellValue xs
 
-counted : (b : Bool) (n : ℕ) (vs xs : List ℤ) → length vs == n ≡ b → AllByRecursion IsCellValue vs → cond b (Ok vs) (Err Length) ≡ Ok xs → Fits n xs
-counted true n vs xs t cells e =
+counted : (b : Bool) (least most : ℕ) (vs xs : List ℤ) → (nat_le least (length vs) && nat_le (length vs) most) ≡ b → AllByRecursion IsCellValue vs →
+    cond b (Ok vs) (Err Length) ≡ Ok xs → Fits least most xs
+counted true least most vs xs t cells e =
     let same : vs ≡ xs = cc in
-    subst (λ (z : List ℤ). Fits n z) same (record { count = grind (arith, nat_tests, t); cells = cells })
-counted false n vs xs t cells e = cc
+    let both = and_parts (nat_le least (length vs)) (nat_le (length vs) most) t in
+    subst (λ (z : List ℤ). Fits least most z) same
+    (record { few = leb-true least (length vs) both.0; many = leb-true (length vs) most both.1; cells = cells })
+counted false least most vs xs t cells e = cc
 
-numbers_fit : (n : ℕ) (o : Option (List ℤ)) (xs : List ℤ) → ((ys : List ℤ) → o ≡ Some ys → AllByRecursion IsCellValue ys) → numbers_give n o ≡ Ok xs → Fits n xs
-numbers_fit n None xs f e = cc
-numbers_fit n (Some vs) xs f e = counted (length vs == n) n vs xs refl (f vs refl) e
+numbers_fit : (least most : ℕ) (o : Option (List ℤ)) (xs : List ℤ) → ((ys : List ℤ) → o ≡ Some ys → AllByRecursion IsCellValue ys) →
+    numbers_give least most o ≡ Ok xs → Fits least most xs
+numbers_fit least most None xs f e = cc
+numbers_fit least most (Some vs) xs f e = counted (nat_le least (length vs) && nat_le (length vs) most) least most vs xs refl (f vs refl) e
 
-words_fit : (n : ℕ) (o : Option (List (List ℕ))) (xs : List ℤ) → words_give n o ≡ Ok xs → Fits n xs
-words_fit n None xs e = cc
-words_fit n (Some words) xs e = numbers_fit n (values_of words) xs (λ ys h. words_cells words ys h) e
+words_fit : (least most : ℕ) (o : Option (List (List ℕ))) (xs : List ℤ) → words_give least most o ≡ Ok xs → Fits least most xs
+words_fit least most None xs e = cc
+words_fit least most (Some words) xs e = numbers_fit least most (values_of words) xs (λ ys h. words_cells words ys h) e
+
+within_fits : (least most : ℕ) (c : Cut) (xs : List ℤ) → series_within least most c ≡ Ok xs → Fits least most xs
+within_fits least most c xs e = words_fit least most (series_words c c.not_text) xs e
 
 -- a series that was read has as many values as were asked for
 pub series_count : (n : ℕ) (c : Cut) (xs : List ℤ) → series_reading n c ≡ Ok xs → length xs ≡ n
-series_count n c xs e = (words_fit n (series_words c c.not_text) xs e).count
+series_count n c xs e =
+    let f = within_fits n n c xs e in
+    let few = f.few in
+    let many = f.many in
+    omega (arith, few, many)
 
 -- a series that was read for a model of 1 to 512 cells
 pub series_fits : (n : ℕ) (c : Cut) (xs : List ℤ) → series_reading n c ≡ Ok xs → 1 ≤ n → n ≤ 512 → IsSeries xs
 series_fits n c xs e some few =
-    let f = words_fit n (series_words c c.not_text) xs e in
-    let count = f.count in
-    record { some = omega arith; few = omega arith; cells = All-from_recursion IsCellValue xs f.cells }
+    let f = within_fits n n c xs e in
+    let least = f.few in
+    let most = f.many in
+    record { some = omega (arith, least, some); few = omega (arith, most, few); cells = All-from_recursion IsCellValue xs f.cells }
+
+-- a series of any number of values has 1 to 512 of them
+pub any_series_fits : (c : Cut) (xs : List ℤ) → any_series_reading c ≡ Ok xs → IsWithin 1 most_cells (length xs)
+any_series_fits c xs e = let f = within_fits 1 most_cells c xs e in (f.few, f.many)
