@@ -1,1 +1,3 @@
-pub mod Texts
+mod Texts
+pub mod Holders
+mod Counts

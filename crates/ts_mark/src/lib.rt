@@ -9,6 +9,7 @@
 //! ```
 #![tactic(auto)]
 
+pub mod laws;
 mod ranges;
 mod text;
 

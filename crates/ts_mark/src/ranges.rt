@@ -13,14 +13,16 @@ use ts_transducer::decoded;
 use ts_validate::Validated;
 
 /// The e-ranges of the occurrences of the pattern in the series, in cells counted from 1, by rising start (Global
-/// Constraint Catalog, Volume II). `a` is the pattern's trim after, 0 or 1; the series has at least one value.
+/// Constraint Catalog, Volume II); there are no more of them than cells. `a` is the pattern's trim after, 0 or 1; the
+/// series has at least one value.
 pub fn marks(alloc: Global, v: &Validated, a: u8, series: &[i64]) -> Result<Vec<Range>, Memory>
     requires trim { a ≡ (pattern_of v.now).a }
     requires small { a ≤ 1 }
     requires some { 1 ≤ length series.now }
     requires few { length series.now < 4000000000 }
-    ensures { IfOk result (λ ranges. ranges.items ≡ occurrence_ranges
+    ensures ranges { IfOk result (λ ranges. ranges.items ≡ occurrence_ranges
         (shape_of (pattern_of v.now).regex) (pattern_of v.now).b a (signature_of series.now)) }
+    ensures few { IfOk result (λ ranges. length ranges.items ≤ length series.now) }
 {
     let letters = signature(alloc, series)?;
     decoded(alloc, v.transducer(), a, &letters)
