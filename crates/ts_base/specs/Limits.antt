@@ -33,7 +33,7 @@ most_domain_values = 65536
 abbrev pub most_model_bytes : ℕ
 most_model_bytes = 1048576
 
--- the most bytes of a model and a series
+-- the most bytes of a model or a pattern with what follows it: a series, or a stream of readings
 abbrev pub most_check_bytes : ℕ
 most_check_bytes = 2097152
 

@@ -21,7 +21,7 @@ pub const DOMAIN_VALUES: u64 = 65_536;
 /// The most bytes of an input that is a model.
 pub const MODEL_BYTES: usize = 1_048_576;
 
-/// The most bytes of a model and a series.
+/// The most bytes of a model or a pattern with what follows it: a series, or a stream of readings.
 pub const CHECK_BYTES: usize = 2_097_152;
 
 /// The most bytes of a model and a certificate.

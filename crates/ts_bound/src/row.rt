@@ -14,7 +14,8 @@ use ts_domain::Domain;
 /// cell before and all states. Both rows have a hull for each value and state, value by value in rising order, and the
 /// hulls of `before` are none or have the kinds of their states. It takes no memory. The steps are in proportion to the
 /// values of both cells for each move of which no expression reads the next cell but in its last operand, and to their
-/// pairs for the others; and to all pairs where a hull of `before` has a number above 10^16 in size.
+/// pairs for the others, and to all pairs where a hull of `before` has a number above 10^16 in size; a cell whose values have
+/// gaps costs a search by halving for each value beside that.
 pub fn fill_row(
     a: &Automaton,
     before_values: &Domain,

@@ -1,5 +1,5 @@
-//! Sweeps apart for each letter and for cells without gaps: neither is asked again at each value. The letter is a const
-//! parameter, so that the compiler makes both copies.
+//! Sweeps apart for each letter where cells have no gaps: it is asked at no value there, since it is a const parameter, of
+//! which the compiler makes both copies. Where a cell has gaps one sweep serves both letters and asks.
 
 ghost use Rattle.std.specs.Prelude.{◌≡◌, false};
 ghost use Rattle.ts_base.specs.declared.letter.Letter.TheVariants.{Equal};

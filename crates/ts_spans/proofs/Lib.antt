@@ -1,3 +1,2 @@
 pub mod OfProgram
 pub mod OfTerms
-mod Splits
