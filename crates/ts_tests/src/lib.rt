@@ -27,6 +27,8 @@ mod judged;
 #[cfg(test)]
 mod last_values;
 #[cfg(test)]
+mod marked;
+#[cfg(test)]
 mod models;
 #[cfg(test)]
 mod occurrences;
