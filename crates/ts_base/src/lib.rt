@@ -28,8 +28,6 @@ mod range;
 mod read_write;
 mod span;
 mod standard;
-#[cfg(test)]
-mod tests;
 mod text;
 mod words;
 

@@ -5,9 +5,6 @@ ghost use Rattle.std.specs.Prelude.{IfOk, IsErr, OnErr, MatchResult};
 ghost use Rattle.std.specs.Io.KnownBytes.{Keeps, ReadConsumes, WriteAppends};
 ghost use Rattle.ts_base.specs.Outside.{ends_after, faults_after, has_faults, one_more};
 
-#[cfg(test)]
-mod tests;
-
 use crate::error::Failed;
 use crate::outside::{Sink, Source};
 use std::io::{self, ErrorKind, Read, Write};

@@ -1,5 +1,4 @@
-//! Whole runs over a source and a sink in memory: what stands in the sink, and the status. The searches and the words
-//! of commands are tried here too: a crate with tests is proved twice, and the program has little to prove of its own.
+//! Whole runs over a source and a sink in memory: what stands in the sink, and the status.
 
 use std::alloc::{AllocError, Global};
 use ts_base::{MemorySink, MemorySource};
@@ -8,12 +7,10 @@ use ts_run::{Status, run};
 mod check;
 mod compile;
 mod faults;
-mod quantities;
 mod readings;
 mod rules;
 mod sample;
 mod searches;
-mod solving;
 mod verify;
 
 /// An input, what is taken of the answer, and the status.

@@ -43,6 +43,3 @@ pub use domain::Domain;
 pub use interval::Interval;
 pub use stop::DomainStop;
 pub use values::Values;
-
-#[cfg(test)]
-mod tests;

@@ -34,6 +34,3 @@ mod lines;
 pub use frontier::Frontier;
 pub use halve::{Halving, first_halving, only_series};
 pub use lines::follow;
-
-#[cfg(test)]
-mod tests;

@@ -21,21 +21,6 @@ struct Fault {
     status: Status,
 }
 
-/// The status of a call, and the exit status of the program.
-static CODES: [(Status, u8); 7] = [
-    (Status::Done, 0),
-    (Status::No, 1),
-    (Status::Refused, 2),
-    (Status::Budget, 3),
-    (Status::ReadFault, 4),
-    (Status::WriteFault, 5),
-    (Status::Memory, 6),
-];
-
-fn codes() -> &'static [(Status, u8)] {
-    &CODES
-}
-
 fn source_of(alloc: Global, fault: &Fault) -> Result<MemorySource, AllocError> {
     let (step, call) = fault.source;
     let bytes = behind(alloc, fault.spaces, fault.input)?;
@@ -116,11 +101,4 @@ fn each_write_fails(rt: HostRuntime) -> Result<(), AllocError> {
     assert!(rt; ends(alloc, (16, 0), (1, 17), MEETS, Status::WriteFault)?);
     assert!(rt; ends(alloc, (16, 0), (1, 18), MEETS, Status::Done)?);
     Ok(())
-}
-
-#[test]
-fn codes_of_statuses(rt: HostRuntime) {
-    for (status, code) in codes() {
-        assert!(rt; status.code() == *code, "{code}");
-    }
 }

@@ -2,9 +2,8 @@
 
 use super::{gives, outcome};
 use std::alloc::{AllocError, Global};
-use ts_base::{Ext, Memory, push_number};
-use ts_model::{Op, Require};
-use ts_run::{Status, sample_model};
+use ts_base::{Memory, push_number};
+use ts_run::Status;
 
 /// The words, what is taken of the answer, and the status.
 type Case = (&'static str, &'static [u8], Status);
@@ -103,26 +102,5 @@ fn lines_of_sample(rt: HostRuntime) -> Result<(), Memory> {
     for &(cells, end) in ends() {
         assert!(rt; ends_with(rt.alloc(), cells, end)?, "{cells}");
     }
-    Ok(())
-}
-
-/// The one requirement of its model: peaks are no wider than 3. No answer of `sample` shows it, since the first best
-/// series has no wider peak anyway.
-fn has_requirement(alloc: Global) -> Result<bool, Memory> {
-    let model = sample_model(alloc, 1)?;
-    let wanted = Require {
-        term: 1,
-        op: Op::AtMost,
-        bound: Ext::Int(3),
-    };
-    match model.requirements.as_slice() {
-        [only] => Ok(*only == wanted),
-        _ => Ok(false),
-    }
-}
-
-#[test]
-fn requirement_of_sample(rt: HostRuntime) -> Result<(), Memory> {
-    assert!(rt; has_requirement(rt.alloc())?);
     Ok(())
 }

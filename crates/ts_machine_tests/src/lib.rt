@@ -1,0 +1,26 @@
+//! The tests of automata, of how they are glued, of boxes, and of what spans exclude.
+//!
+//! Why tests stand in crates of their own is told in `ts_pattern_tests`. Each module is named for what it tries, and each
+//! expected value comes from outside the program: from a definition worked out by hand, or by enumeration.
+#![tactic(auto)]
+
+#[cfg(test)]
+mod automata;
+#[cfg(test)]
+mod automaton_texts;
+#[cfg(test)]
+mod boxes;
+#[cfg(test)]
+mod decorated;
+#[cfg(test)]
+mod filters;
+#[cfg(test)]
+mod first_values;
+#[cfg(test)]
+mod glued;
+#[cfg(test)]
+mod last_values;
+#[cfg(test)]
+mod terms;
+#[cfg(test)]
+mod waiting;

@@ -1,0 +1,37 @@
+//! The tests of what is read and told of texts, letters, words and patterns.
+//!
+//! A crate with tests is proved twice, once without them and once with them. So tests of public calls stand in three crates,
+//! where nothing else is proved: here, in `ts_machine_tests` those of automata, boxes and spans, in `ts_tests` those of models,
+//! certificates and searches. Only what reads private fields is tried beside its code, and whole runs in `ts_cli`.
+//! Each module is named for what it tries, and each expected value comes from outside the program: from a definition
+//! worked out by hand, or by enumeration.
+#![tactic(auto)]
+
+#[cfg(test)]
+mod base;
+#[cfg(test)]
+mod expressions;
+#[cfg(test)]
+mod marked;
+#[cfg(test)]
+mod occurrences;
+#[cfg(test)]
+mod patterns;
+#[cfg(test)]
+mod planned;
+#[cfg(test)]
+mod seed_tables;
+#[cfg(test)]
+mod seeds;
+#[cfg(test)]
+mod standard;
+#[cfg(test)]
+mod tokens;
+#[cfg(test)]
+mod transducers;
+#[cfg(test)]
+mod user_texts;
+#[cfg(test)]
+mod validated;
+#[cfg(test)]
+mod validation;
