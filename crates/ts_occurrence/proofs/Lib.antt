@@ -6,3 +6,4 @@ pub mod Pairs
 pub mod Totals
 pub mod Values
 pub mod Known
+mod Features

@@ -9,7 +9,8 @@ ghost use Rattle.ts_base.specs.Signature.{signature_of};
 ghost use Rattle.ts_pattern.specs.Limits.{IsSeries};
 ghost use Rattle.ts_base.specs.Limits.{IsCellValue, most_cells};
 ghost use Rattle.ts_base.specs.Operators.{int_op};
-ghost use Rattle.ts_pattern.specs.FeatureValue.{over, or_zero, feature_of_cells, feature_value};
+ghost use Rattle.ts_pattern.specs.FeatureValue.{over, feature_of_cells, feature_value};
+ghost use Rattle.ts_pattern.specs.Arithmetic.{worth_of};
 ghost use Rattle.ts_transducer.specs.Inside.{IsInside};
 ghost use Rattle.ts_occurrence.specs.Total.{IsWithin, with_one};
 ghost use Rattle.ts_pattern.specs.TermValue.{value_of_none, aggregate_of_ranges, term_value};
@@ -18,7 +19,7 @@ use crate::occurrence::occurrences;
 use crate::series::{part, signature};
 use std::alloc::Global;
 use ts_base::{Ext, Letter, Memory, Op, Range};
-use ts_pattern::{Aggregator, Feature, Term, pattern_by_id};
+use ts_pattern::{Aggregator, Feature, Term, Worth, pattern_by_id};
 
 /// The value of the term on a series of 1 to 512 cells from -1,000,000 to 1,000,000.
 pub fn value(alloc: Global, t: &Term, series: &[i64]) -> Result<Ext, Memory>
@@ -108,33 +109,41 @@ fn feature_at(f: Feature, r: Range, series: &[i64]) -> i64
     feature(f, part(r, series))
 }
 
-/// The feature of an e-range with those cells.
+/// The feature of an e-range with those cells: its row's operator over what each cell is worth there.
 fn feature(f: Feature, cells: &[i64]) -> i64
+    requires some { 1 ≤ length cells.now }
     requires few { length cells.now ≤ most_cells }
     requires cells { All IsCellValue cells.now }
     ensures exact { result ≡ feature_of_cells f cells.now }
     ensures within { IsWithin 512000000 result }
 {
-    match f {
-        Feature::One => 1,
-        Feature::Width => cells.len() as i64,
-        Feature::Surf => over(Op::Add, cells),
-        Feature::Max => over(Op::Max, cells),
-        Feature::Min => over(Op::Min, cells),
-    }
+    let row = f.fold();
+    over(row.op, row.worth, cells).unwrap_or(0)
 }
 
-/// The sum, the greatest or the least of the cells; 0 where there is none.
-fn over(op: Op, cells: &[i64]) -> i64
+/// What the cells are worth, joined; None where there is none.
+fn over(op: Op, worth: Worth, cells: &[i64]) -> Option<i64>
     requires few { length cells.now ≤ most_cells }
     requires cells { All IsCellValue cells.now }
-    ensures exact { result ≡ or_zero (over (int_op op) cells.now) }
-    ensures within { IsWithin 512000000 result }
+    ensures exact { result ≡ over (int_op op) (map (worth_of worth) cells.now) }
+    ensures within { IfSome result (λ x. IsWithin 512000000 x) }
 {
     let mut total = None;
     for k in 0..cells.len() {
-        let x = cells[k];
+        let x = worth_at(worth, cells[k]);
         total = Some(join(op, total, x));
     }
-    total.unwrap_or(0)
+    total
+}
+
+/// What a cell of this value is worth.
+fn worth_at(worth: Worth, cell: i64) -> i64
+    requires { IsCellValue cell }
+    ensures exact { result ≡ worth_of worth cell }
+    ensures within { IsWithin 1000000 result }
+{
+    match worth {
+        Worth::Unit => 1,
+        Worth::Cell => cell,
+    }
 }

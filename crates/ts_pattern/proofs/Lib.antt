@@ -9,7 +9,7 @@ pub mod Renamed
 pub mod Tested
 pub mod LeastLength
 pub mod AllOccurrences
-mod FeatureFolds
+pub mod FeatureFolds
 pub mod OneMoreEntry
 pub mod PlanTest
 pub mod CallerLemmas
