@@ -24,7 +24,7 @@ use Rattle.ts_user.specs.declared.listing.Listing.{Listing}
 use Rattle.ts_user.specs.SignatureOrder.{place, signature_at}
 use Rattle.ts_user.specs.FirstReached.{blank, reached, agrees}
 use Rattle.ts_user.specs.BuildAnswers.{most_configurations, unplanned_of, values_of, IsListing}
-use Rattle.ts_user.specs.Numbered.{AreNumbered, IsNumbered, live_numbers, entry_numbers}
+use Rattle.ts_user.specs.Numbered.{AreDifferent, HasResidualsOnce, AreNumbered, IsNumbered, live_numbers, entry_numbers}
 use Rattle.ts_user.specs.Books.{residuals_of, values, value_of}
 use Rattle.ts_user.specs.Listings.{IsReady, IsWhole, signatures_of, IsListed}
 use Rattle.ts_user.proofs.Places.{place_same}
@@ -114,6 +114,10 @@ plan_numbered rows p plan t h r c =
     subst (λ z. AreNumbered 1 (entry_numbers z) (length plan.residuals.items)) (sym c)
     (subst (λ z. AreNumbered 1 (entry_numbers t.configurations.items) (length z)) (sym r)
     (subst (λ z. AreNumbered 1 (entry_numbers t.configurations.items) z) (length-map t.book.residuals.items (λ s. shape_of s)) h.numbered))
+
+pub plan_once : (rows : List Row) (p : Pattern) (plan : Plan) (t : Listing) → IsListed (unplanned_of rows p) (shape_of p.regex) t →
+    plan.residuals.items ≡ t.book.residuals.items → HasResidualsOnce plan
+plan_once rows p plan t h r = subst (λ z. AreDifferent (map (λ s. shape_of s) z)) (sym r) h.book.once
 
 -- it is a plan of the pattern
 

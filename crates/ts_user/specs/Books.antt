@@ -20,7 +20,7 @@ use Rattle.ts_user.specs.declared.book.Next.TheVariants.{Unread, NoWord, Number}
 use Rattle.ts_user.specs.declared.book.Nexts.{Nexts}
 use Rattle.ts_user.specs.declared.book.Book.{Book}
 use Rattle.ts_user.specs.FirstReached.{agrees}
-use Rattle.ts_user.specs.Numbered.{AreNumbered, live_numbers}
+use Rattle.ts_user.specs.Numbered.{AreDifferent, AreNumbered, live_numbers}
 
 abbrev pub residuals_of : Book → List Shape
 residuals_of b = map (λ r. shape_of r) b.residuals.items
@@ -56,8 +56,7 @@ pub record IsBook (p : Shape) (b : Book) : Type 0 where
   pub whole : shape_at (residuals_of b) 0 ≡ normal_form p
   pub words : b.words.items ≡ map (λ r. words_of r) (residuals_of b)
   pub as_many_nexts : length b.nexts.items ≡ length (residuals_of b)
-  pub once : (i j : ℕ) → i < length (residuals_of b) → j < length (residuals_of b) →
-      shape_at (residuals_of b) i ≡ shape_at (residuals_of b) j → i ≡ j
+  pub once : AreDifferent (residuals_of b)
   pub nexts : (i : ℕ) (n : Nexts) → slice_get b.nexts.items i ≡ Some n →
       NextsSay (residuals_of b) (shape_at (residuals_of b) i) n
 

@@ -7,7 +7,7 @@ ghost use Rattle.ts_pattern.specs.Closed.{IsClosed};
 ghost use Rattle.ts_pattern.specs.Plans.{plain_plan, is_plan_of};
 ghost use Rattle.ts_validate.specs.Reaches.{against};
 ghost use Rattle.ts_user.specs.BuildAnswers.{unplanned_of, values_of, IsListing, IsStop};
-ghost use Rattle.ts_user.specs.Numbered.{IsNumbered};
+ghost use Rattle.ts_user.specs.Numbered.{HasResidualsOnce, IsNumbered};
 ghost use Rattle.ts_user.specs.Listings.{IsListed, IsWhole, signatures_of};
 
 use crate::build_stop::BuildStop;
@@ -33,7 +33,7 @@ fn list_all(alloc: Global, rows: &[Row], p: &Pattern) -> Result<Listing, BuildSt
 
 /// The plan of a transducer for a pattern: the at most 512 configurations in which the two can stand together, in the
 /// order in which they are first reached from the start state, the steps of each listed one taken in turn on `<`, `=`
-/// and `>`, and the residuals in the order in which they first stand. It is closed, so `validate` takes it.
+/// and `>`, and the residuals, each once, in the order in which they first stand. It is closed, so `validate` takes it.
 ///
 /// Each step is checked before its configuration is listed. `Refused` comes exactly where a check fails before a 513th
 /// configuration would be listed, and has the signature of the first such step; `TooMany` comes exactly where none fails
@@ -46,6 +46,7 @@ pub fn build_plan(alloc: Global, t: &Transducer, p: &Pattern) -> Result<Plan, Bu
     ensures listed { IfOk result (λ plan.
         IsListing (unplanned_of (rows_of t.now) p.now) (values_of (rows_of t.now) p.now plan)) }
     ensures numbered { IfOk result (λ plan. IsNumbered plan) }
+    ensures once { IfOk result (λ plan. HasResidualsOnce plan) }
     ensures stop { IfErr result (λ e. IsStop (unplanned_of (rows_of t.now) p.now) e) }
 {
     let listing = list_all(alloc, t.rows(), p)?;

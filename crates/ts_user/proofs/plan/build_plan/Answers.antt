@@ -1,5 +1,5 @@
 use Rattle.ts_transducer.specs.Rows.{rows_of}
-use Rattle.ts_user.proofs.Plans.{closed_lent, listing_lent, plan_numbered, plan_fits, plan_few}
+use Rattle.ts_user.proofs.Plans.{closed_lent, listing_lent, plan_numbered, plan_once, plan_fits, plan_few}
 use Rattle.ts_user.proofs.plan.build_plan.Goals as goal
 
 pub returns-clause-fits : goal.returns-clause-fits
@@ -25,3 +25,7 @@ pub returns-clause-numbered : goal.returns-clause-numbered
 returns-clause-numbered c =
     plan_numbered c.rows.result.now c.args.p.now c.into_plan.result c.in_ok-listing.listing c.in_ok-listing.ensures.listed c.into_plan.ensures.residuals
     c.into_plan.ensures.configurations
+
+pub returns-clause-once : goal.returns-clause-once
+returns-clause-once c =
+    plan_once c.rows.result.now c.args.p.now c.into_plan.result c.in_ok-listing.listing c.in_ok-listing.ensures.listed c.into_plan.ensures.residuals
