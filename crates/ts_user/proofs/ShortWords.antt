@@ -1,12 +1,12 @@
 -- How short the words of an expression are.
-use Rattle.std.specs.Prelude.{ℕ, ◌+◌, ◌≤◌, ◌<◌, ◌≡◌, min, max, List, [], ◌∷◌, ◌++◌, length, Bool, true, false, nat_lt}
+use Rattle.std.specs.Prelude.{ℕ, ◌+◌, ◌≤◌, ◌<◌, ◌≡◌, ◌↔◌, ◌⊎◌, min, max, List, [], ◌∷◌, ◌++◌, length, Bool, true, false, nat_lt}
 use Rattle.std.proofs.Common.{sym, subst, arith, length-append, ⊎_elim, refl, inl, inr}
 use Rattle.std.proofs.str.Laws.{order}
 use Rattle.ts_base.specs.declared.letter.Letter.{Letter}
 use Rattle.ts_regex.specs.Shape.{Shape, Empty, Eps, One, Cat, Alt, Star}
 use Rattle.ts_regex.specs.Language.{InLanguage, NoMore}
 use Rattle.ts_pattern.specs.Trims.{HasLongWords}
-use Rattle.ts_user.specs.Shortest.{short_length, has_short_word}
+use Rattle.ts_user.specs.Shortest.{short_length, has_short_word, HasShortWord}
 
 pub no_shorter : (r : Shape) (w : List Letter) → InLanguage r w → short_length r ≤ length w
 no_shorter Empty w h = absurd h
@@ -55,3 +55,23 @@ none_short p b a few few' long = by (nat_lt (short_length p) (max 1 (b + a))) re
         let y1 = y.1 in
         let n = x.2 in
         absurd (grind arith)
+
+one_is_short : (n k : ℕ) (w : List Letter) → length w ≡ n → n < max 1 k → (length w < k) ⊎ (w ≡ [])
+one_is_short n k [] e h = inr refl
+one_is_short n k (l ∷ w) e h = inl (grind arith)
+
+-- the test is true exactly where there is a short word
+pub short_words : (p : Shape) (b a : ℕ) → b ≤ 2 → a ≤ 1 → (has_short_word p b a ≡ true) ↔ HasShortWord p b a
+short_words p b a few few' = (
+  λ short.
+      let x = shortest p (grind arith) in
+      (x.0, x.1, one_is_short (short_length p) (b + a) x.0 x.2 (grind arith)),
+  λ h. let least = no_shorter p h.0 h.1 in by (nat_lt (short_length p) (max 1 (b + a))) refl h.0 least h.2,
+)
+  where
+    by : (v : Bool) → nat_lt (short_length p) (max 1 (b + a)) ≡ v → (w : List Letter) → short_length p ≤ length w → (length w < b + a) ⊎ (w ≡ []) →
+        nat_lt (short_length p) (max 1 (b + a)) ≡ true
+    by true e w least h = e
+    by false e w least (inl few) = absurd (grind arith)
+    by false e [] least (inr none) = absurd (grind arith)
+    by false e (l ∷ w) least (inr none) = cc

@@ -1,6 +1,8 @@
 -- How short a word of an expression may be.
-use Rattle.std.specs.Prelude.{ℕ, ◌+◌, min, max, Bool, nat_lt}
+use Rattle.std.specs.Prelude.{◌≡◌, ◌⊎◌, ℕ, ◌+◌, ◌<◌, min, max, Bool, nat_lt, List, [], length}
+use Rattle.ts_base.specs.declared.letter.Letter.{Letter}
 use Rattle.ts_regex.specs.Shape.{Shape, Empty, Eps, One, Cat, Alt, Star}
+use Rattle.ts_regex.specs.Language.{InLanguage}
 
 -- the length of the shortest word; 3 where it is longer, or where there is none
 abbrev pub short_length : Shape → ℕ
@@ -14,3 +16,7 @@ short_length (Star r) = 0
 -- some word has fewer letters than both trims together take, or none at all
 abbrev pub has_short_word : Shape → ℕ → ℕ → Bool
 has_short_word p b a = nat_lt (short_length p) (max 1 (b + a))
+
+-- the same, said of the words
+abbrev pub HasShortWord : Shape → ℕ → ℕ → Type 0
+HasShortWord p b a = (w : List Letter) × InLanguage p w × ((length w < b + a) ⊎ (w ≡ []))
