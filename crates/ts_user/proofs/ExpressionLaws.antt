@@ -359,3 +359,7 @@ none_here word most (suc k) x e some within read h =
     none_at word most k e
     (ap (levels_of most) (drop-cons word k 0 (omega arith)) ∙ ap (byte_read most (get_or word k 0)) read
     ∙ ap (λ (j : ℕ). symbol_read most (symbol_of (get_or word j 0)) x) one ∙ h)
+
+-- the nodes of a word that isn't too long
+pub short_nodes : (word : List ℕ) → length word ≤ 64 → 256 ≡ most_nodes word
+short_nodes word few = let short : nat_le (length word) 64 ≡ true = grind arith in ap (λ b. cond b 256 0) (sym short)

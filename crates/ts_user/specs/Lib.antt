@@ -6,6 +6,7 @@ pub mod Books
 pub mod Listings
 pub mod Grammar
 pub mod FromTheEnd
+pub mod Outlines
 pub mod Expressions
 pub mod Shortest
 pub mod Words

@@ -25,6 +25,7 @@ mod expression;
 pub mod laws;
 mod levels;
 mod listing;
+mod outline;
 mod parse;
 mod part;
 mod plan;
