@@ -1,5 +1,5 @@
 -- A series has no more occurrences than cells.
-use Rattle.std.proofs.Common.{◌≡◌, ℕ, ◌+◌, ◌≤◌, ℤ, Ok, Err, List, Vec, length, sym, ◌∙◌, subst, arith}
+use Rattle.std.proofs.Common.{◌≡◌, ℕ, ◌≤◌, ℤ, Ok, Err, List, Vec, length, sym, subst, arith}
 use Rattle.std.specs.Prelude.{IfOk, Result}
 use Rattle.std.specs.Global.{Global}
 use Rattle.ts_base.specs.declared.error.Memory.{Memory}

@@ -1,5 +1,5 @@
 -- The numbers in the word of a cell are those of the ranges that hold it.
-use Rattle.std.proofs.Common.{◌≡◌, ℕ, zero, suc, ◌+◌, ◌≤◌, inl, inr, Bool, true, false, cond, Some, List, [], ◌∷◌, sym, ◌∙◌, subst, refl, arith}
+use Rattle.std.proofs.Common.{◌≡◌, ℕ, zero, suc, ◌+◌, ◌≤◌, inl, inr, Bool, true, false, cond, Some, List, [], ◌∷◌, sym, subst, refl, arith}
 use Rattle.std.specs.Prelude.{◌&&◌, nat_le, slice_get}
 use Rattle.std.specs.List.{AllByRecursion}
 use Rattle.std.proofs.lemmas.Bool.{and_from, and_parts, false≢true, le-leb, leb-true}
@@ -64,7 +64,7 @@ each_holds cell n (r ∷ rs) = one_holds cell n r rs (holds cell r) refl (holdin
 
 found_first : (b : Bool) (n m : ℕ) (rest : List ℕ) → b ≡ true → m ≡ n → OneOf (λ i. i ≡ m) (cond b (n ∷ rest) rest)
 found_first true n m rest e is = inl (sym is)
-found_first false n m rest e is = false≢true e
+found_first false n m rest e is = absurd (false≢true e)
 
 found_behind : (b : Bool) (n m : ℕ) (rest : List ℕ) → OneOf (λ i. i ≡ m) rest → OneOf (λ i. i ≡ m) (cond b (n ∷ rest) rest)
 found_behind true n m rest h = inr h

@@ -1,3 +1,5 @@
+mod Walk
 mod Texts
 pub mod Holders
 mod Counts
+mod Rising

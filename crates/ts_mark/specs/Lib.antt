@@ -1,2 +1,4 @@
 pub mod MarkText
 pub mod Holders
+pub mod Rising
+pub mod Walk

@@ -31,8 +31,12 @@ abbrev pub cell_words : List Range → ℕ → ℕ → List ℕ
 cell_words ranges cell zero = []
 cell_words ranges cell (suc left) = codes " " ++ joined (holding cell 1 ranges) ++ cell_words ranges (cell + 1) left
 
+abbrev pub count_line : ℕ → List ℕ
+count_line count = codes "occurrences " ++ decimal count ++ codes "\n"
+
+abbrev pub mark_line : ℕ → List Range → List ℕ
+mark_line cells ranges = codes "mark" ++ cell_words ranges 1 cells ++ codes "\n"
+
 -- the answer on a series of so many cells
 abbrev pub marks_text : ℕ → List Range → List ℕ
-marks_text cells ranges =
-    codes "occurrences " ++ decimal (length ranges) ++ codes "\n" ++ range_lines ranges
-    ++ codes "mark" ++ cell_words ranges 1 cells ++ codes "\n"
+marks_text cells ranges = count_line (length ranges) ++ range_lines ranges ++ mark_line cells ranges

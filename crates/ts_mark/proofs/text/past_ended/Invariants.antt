@@ -1,0 +1,12 @@
+use Rattle.std.proofs.Common.{◌≡◌, ◌+◌, ◌-◌, ◌≤◌, drop, length}
+use Rattle.ts_mark.specs.Walk.{ended}
+use Rattle.ts_mark.proofs.text.past_ended.Given as goal
+
+abbrev pub invariant-loop-place : goal.invariant-loop-place
+invariant-loop-place l = record {
+  exact : l.place + ended l.cell (drop l.place l.ranges) ≡ l.from + ended l.cell (drop l.from l.ranges);
+  inside : l.place ≤ length l.ranges;
+}
+
+abbrev pub decreases-loop-place : goal.decreases-loop-place
+decreases-loop-place l = length l.ranges - l.place
