@@ -1,5 +1,5 @@
 -- The value that a cell keeps is one.
-use Rattle.std.proofs.Common.{◌≡◌, ◌⊎◌, ℕ, ℤ, ◌≤ℤ◌, ◌<ℤ◌, Bool, true, false, cond, List, [], ◌∷◌, Option, Some, None, slice_get, refl, sym, ◌∙◌, ap, subst, inl, inr, ⊎_elim, arith}
+use Rattle.std.proofs.Common.{◌≡◌, ◌⊎◌, ℕ, ◌-◌, ℤ, ◌≤ℤ◌, ◌<ℤ◌, Bool, true, false, cond, List, [], ◌∷◌, Option, Some, None, slice_get, refl, sym, ◌∙◌, ap, subst, inl, inr, ⊎_elim, arith}
 use Rattle.std.proofs.lemmas.Int.{ints}
 use Rattle.std.specs.Prelude.{Contains, is_some}
 use Rattle.ts_base.specs.declared.ext.Ext.{Ext}
@@ -13,9 +13,12 @@ use Rattle.ts_filter.specs.Ends.{best_end}
 use Rattle.ts_filter.specs.Excluded.{is_better}
 use Rattle.ts_filter.specs.KeptValue.{IsPreferred, IsKeptOver, IsKept, end_with}
 use Rattle.ts_filter.specs.MachineSpans.{is_split, span_of, spans_of}
+use Rattle.ts_filter.proofs.BoxParts.{domain_at, place}
 use Rattle.ts_filter.proofs.SoundLaws.{clash}
 use Rattle.ts_filter.proofs.KeptLaws.{better_trans}
-use Rattle.ts_search.specs.Dive.{most_promising, best_value, kept_for}
+use Rattle.ts_search.specs.Dive.{most_promising, best_value, promise, kept_for}
+use Rattle.ts_search.specs.Laws.{IsMostPromising, KeptFits}
+use Rattle.ts_search.proofs.DiveLaws.{best_there}
 use Rattle.ts_search.proofs.Known.{never_itself, apart, neither_better}
 
 at_most_both : (v w : ℤ) → v ≤ℤ w → w ≤ℤ v → v ≡ w
@@ -72,6 +75,10 @@ module _ (goal : Goal) (f : ℤ → Ext) where
           (later_too (most_promising f goal v values) v w r.0.0 e (with_v v ((contains_cons v values v).1 (inl refl)))))
           (λ b. with_v u ((contains_cons v values u).1 (inr b))) ((contains_cons w values u).0 a)) ((contains_cons v (w ∷ values) u).0 h)
 
+  best_wins : (d : List ℤ) → IsRising d → (u : ℤ) → Contains d u → IsPreferred goal f (best_value f goal d) u
+  best_wins [] r u h = absurd (nothing_in u h)
+  best_wins (v ∷ values) r u h = promising_wins v values r u h
+
   -- two that are preferred to each other are one
   pub one_preferred : (v w : ℤ) → IsPreferred goal f v w → IsPreferred goal f w v → v ≡ w
   one_preferred v w (inl a) (inl b) = absurd (never_itself goal (f v) (better_trans goal (f v) (f w) (f v) a b))
@@ -84,6 +91,17 @@ module _ (goal : Goal) (f : ℤ → Ext) where
   best_is v [] r here over there = absurd (nothing_in v here)
   best_is v (w ∷ values) r here over there =
       one_preferred v (most_promising f goal w values) (over (most_promising f goal w values) there) (promising_wins w values r v here)
+
+pub kept_fits : KeptFits
+kept_fits m s goal term k b box cell is rev =
+    let d : IsDomain (values_at k b) = domain_at b (k - 1) box (place k b cell) in
+    subst (λ o. IsMostPromising s goal term k b (kept_for s goal k b o)) (sym is)
+    (subst
+    (λ t. IsMostPromising s goal term k b (cond t (best_value (promise s goal term k b) goal (values_at k b)) (least_of (values_at k b)))) (sym rev)
+    (record {
+      there = best_there (promise s goal term k b) goal (values_at k b) d.some;
+      over = best_wins goal (promise s goal term k b) (values_at k b) d.rising;
+    }))
 
 least_is : (v : ℤ) (d : List ℤ) → IsRising d → Contains d v → ((u : ℤ) → Contains d u → v ≤ℤ u) → v ≡ least_of d
 unfolding IsRising

@@ -1,5 +1,5 @@
 -- What is promised of the search.
-use Rattle.std.specs.Prelude.{◌≡◌, ◌⊎◌, ℕ, ◌+◌, ◌-◌, ◌*◌, ◌/◌, ◌<◌, ◌≤◌, ℤ, ◌<ℤ◌, List, Contains, length, take}
+use Rattle.std.specs.Prelude.{◌≡◌, ◌⊎◌, ℕ, ◌+◌, ◌-◌, ◌*◌, ◌/◌, ◌<◌, ◌≤◌, ℤ, ◌<ℤ◌, true, List, Contains, length, take}
 use Rattle.std.specs.Prelude.{IsSome, Some, None}
 use Rattle.std.specs.List.{AllByRecursion}
 use Rattle.ts_base.specs.declared.goal.Goal.{Goal}
@@ -15,11 +15,12 @@ use Rattle.ts_domain.specs.Kept.{values_up_to}
 use Rattle.ts_model.specs.Meets.{Meets}
 use Rattle.ts_model.specs.ModelParts.{ModelParts, total_of}
 use Rattle.ts_filter.specs.Accepts.{objective_of}
-use Rattle.ts_filter.specs.Boxes.{Box, values_at, box_of, IsPart}
+use Rattle.ts_filter.specs.Boxes.{Box, HasCell, values_at, box_of, IsPart}
+use Rattle.ts_filter.specs.KeptValue.{IsPreferred}
 use Rattle.ts_filter.specs.RefutedWorseDrop.{Spans, IsRefuted, IsDrop}
 use Rattle.ts_filter.specs.Rules.{IsSplit}
 use Rattle.ts_search.specs.RightSpans.{AreRight}
-use Rattle.ts_search.specs.Dive.{Find, keep_from, dive_box, dive_end, dive}
+use Rattle.ts_search.specs.Dive.{Find, promise, kept_value, keep_from, dive_box, dive_end, dive}
 use Rattle.ts_search.specs.Drops.{Removal, next_drop, after_drops}
 use Rattle.ts_search.specs.Forms.{Alone, Wide, form}
 use Rattle.ts_search.specs.LineOf.{Search, search_for, last, requirements, first_no}
@@ -103,6 +104,17 @@ NextDropFits = (m : ModelParts) (s : Spans) (b : Box) → IsNextDrop m s b
 -- after the drops none is possible
 abbrev pub DropsEnd : Type 0
 DropsEnd = (m : ModelParts) (s : Spans) (b : Box) → IsPart b m.cells → next_drop m s (after_drops m s b) ≡ None
+
+-- of the values of cell k none has a better promise than v, and none that is less has one as good
+pub record IsMostPromising (s : Spans) (goal : Goal) (term k : ℕ) (b : Box) (v : ℤ) : Type 0 where
+  pub there : Contains (values_at k b) v
+  pub over : (u : ℤ) → Contains (values_at k b) u → IsPreferred goal (promise s goal term k b) v u
+
+-- so is the value that a cell keeps, where the objective is reversible
+abbrev pub KeptFits : Type 0
+KeptFits =
+    (m : ModelParts) (s : Spans) (goal : Goal) (term k : ℕ) (b : Box) → IsBox b → HasCell k b →
+    m.objective ≡ Some term → s.reversible term ≡ true → IsMostPromising s goal term k b (kept_value m s goal k b)
 
 -- the dive ends at one series
 abbrev pub DiveEnds : Type 0

@@ -2,7 +2,7 @@
 
 ghost use Rattle.ts_search.specs.Laws.{BudgetIsEnough, ListBudgetIsEnough, OneListed, OneSolved};
 ghost use Rattle.ts_search.specs.Laws.{DiveEnds, DiveEndsEarly, DiveMeets, DropsEnd, NextDropFits};
-ghost use Rattle.ts_search.specs.Laws.{FirstNoFits, FormsTell, ListedOpensFew, SolvedOpensFew};
+ghost use Rattle.ts_search.specs.Laws.{FirstNoFits, FormsTell, KeptFits, ListedOpensFew, SolvedOpensFew};
 ghost use Rattle.ts_search.specs.Laws.{SearchLists, SearchSolves};
 
 /// The certificate of a search names the first best series, or that none meets, or what a spent budget leaves.
@@ -43,9 +43,11 @@ pub fn drops_end()
     ensures end { DropsEnd }
 {}
 
-/// The dive ends at one series; where it meets, that is the dive's series, with its value. Where a requirement is
-/// refuted on the way, it has none.
+/// Each cell keeps the value that leaves the best end of the objective's span open, the least of several. The dive ends
+/// at one series; where it meets, that is the dive's series, with its value. Where a requirement is refuted on the way,
+/// it has none.
 pub fn dive_ends()
+    ensures kept { KeptFits }
     ensures alone { DiveEnds }
     ensures meets { DiveMeets }
     ensures early { DiveEndsEarly }

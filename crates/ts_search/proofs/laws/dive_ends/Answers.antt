@@ -1,5 +1,9 @@
 use Rattle.ts_search.proofs.Closing.{dive_ends, dive_meets, dive_ends_early}
+use Rattle.ts_search.proofs.KeptLaws.{kept_fits}
 use Rattle.ts_search.proofs.laws.dive_ends.Goals as goal
+
+pub returns-clause-kept : goal.returns-clause-kept
+returns-clause-kept c = kept_fits
 
 pub returns-clause-alone : goal.returns-clause-alone
 returns-clause-alone c = dive_ends
