@@ -11,11 +11,14 @@
 //! | `remove` | the next one loses a value of a cell | one change of a cell |
 //! | `close`, `clear` | all but the next one; none | none |
 //!
-//! [`follow`] does to them what a line of a tree says. A split or a removal costs by the pieces of one cell, an advance
-//! by these and by the changes since the box was split: none costs by the number of cells. After want of memory nothing
-//! has changed. However many lines are followed, few boxes wait: by the law `few_wait` at most one more than the values
-//! of all cells of the first box, less its cells. [`first_halving`] says where a box is split, [`only_series`] the
-//! series of a box of one.
+//! [`follow`] does to them what a line of a tree says. A split finds an end of one cell's set by halving and copies the
+//! set's marks, or makes its ranges anew where it has lost more than 128 numbers by marks; a removal sets a mark; an
+//! advance costs what a split does, and by the changes since its box was split. None costs by the number of cells.
+//! After want of memory nothing has changed.
+//!
+//! However many lines are followed, few boxes wait: by the law `few_wait` at most one more than the values of all cells
+//! of the first box, less its cells. [`first_halving`] says where a box is split, [`only_series`] the series of a box of
+//! one.
 //!
 //! ```text
 //! let mut frontier = Frontier::new(alloc, cells);
