@@ -1,5 +1,5 @@
 mod Fronts
-mod LineLaws
+pub mod LineLaws
 mod WordLaws
 mod RowLaws
 mod EndLaws

@@ -1,8 +1,8 @@
 -- The first line of a text.
-use Rattle.std.proofs.Common.{◌≡◌, ℕ, Bool, true, false, cond, List, [], ◌∷◌, length, take, refl, sym, ap, ◌∙◌, arith, get_or, suc, zero, eq-eqb, ne_eqb}
+use Rattle.std.proofs.Common.{◌≡◌, ℕ, Bool, true, false, cond, List, [], ◌∷◌, length, ◌≤◌, take, refl, sym, ap, ◌∙◌, arith, get_or, suc, zero, eq-eqb, ne_eqb}
 use Rattle.std.specs.Prelude.{◌==◌}
 use Rattle.ts_base.specs.Words.{is_lf, onto_line}
-use Rattle.ts_token.specs.Text.{lines_of}
+use Rattle.ts_token.specs.Text.{ends_here, lines_of}
 use Rattle.ts_token.specs.Steps.{without_cr}
 use Rattle.ts_token.proofs.Fronts.{front, ending}
 
@@ -69,3 +69,22 @@ cr_kept (suc n) (b ∷ c ∷ cs) e h = ap (λ (x : List ℕ). b ∷ x) (cr_kept 
 pub cr_none : (xs : List ℕ) → length xs ≡ 0 → xs ≡ without_cr xs
 cr_none [] e = refl
 cr_none (b ∷ bs) e = absurd (omega arith)
+
+-- a text has no more lines than bytes
+
+joined_few : (b : ℕ) (lines : List (List ℕ)) → length (onto_line b lines) ≤ suc (length lines)
+joined_few b [] = omega arith
+joined_few b (line ∷ lines) = omega arith
+
+pub text_lines_few : (text : List ℕ) → length (lines_of text) ≤ length text
+text_lines_few [] = omega arith
+text_lines_few (b ∷ bs) =
+    let later = text_lines_few bs in
+    let more = joined_few b (lines_of bs) in
+    by (is_lf b) (cond (b == 13) (ends_here bs) false) later more
+  where
+    by : (t u : Bool) → length (lines_of bs) ≤ length bs → length (onto_line b (lines_of bs)) ≤ suc (length (lines_of bs)) →
+        length (cond t ([] ∷ lines_of bs) (cond u (lines_of bs) (onto_line b (lines_of bs)))) ≤ suc (length bs)
+    by true u later more = omega (arith, later)
+    by false true later more = omega (arith, later)
+    by false false later more = omega (arith, later, more)

@@ -22,10 +22,13 @@ pub few_now : (line given : List ℕ) (s : ShortLine) → given ≡ s.kept.items
 few_now line given s is short =
     subst (λ (x : List ℕ). length x ≤ most_of line) (sym is) (few_kept s.place line s.kept.items short.place short.small)
 
+pub short_now : (line given : List ℕ) (s : ShortLine) → given ≡ s.kept.items → IsShort line s → length given ≤ length line
+short_now line given s is short = subst (λ (x : List ℕ). length x ≤ length line) (sym is) short.few
+
 -- one byte more is kept
 pub keeps : (old new : ShortLine) (b : ℕ) (place : Place) → new.kept.items ≡ old.kept.items ++ b ∷ [] → new.place ≡ place →
-    place_after old.place b ≡ Some place → length old.kept.items < 3999999999 → TakesIn old (b ∷ []) new
-keeps old new b place kept place_is after room line short = record {
+    place_after old.place b ≡ Some place → TakesIn old (b ∷ []) new
+keeps old new b place kept place_is after line short = record {
   stands = λ more.
       ap (λ (x : List ℕ). gists (x ++ more)) kept ∙ ap gists (append_assoc old.kept.items (b ∷ []) more) ∙ short.stands (b ∷ more)
       ∙ ap gists (sym (append_assoc line (b ∷ []) more));
@@ -33,7 +36,7 @@ keeps old new b place kept place_is after room line short = record {
       (subst (λ (p : Place). IsAt p (old.kept.items ++ b ∷ [])) (sym place_is) (next_place old.place place old.kept.items b short.place after));
   small = subst (λ (p : Place). IsSmallAt p (line ++ b ∷ []) (length new.kept.items)) (sym place_is)
       (small_kept old.place place line old.kept.items new.kept.items b short.place short.small after kept);
-  few = omega (arith, ap length kept, length-append old.kept.items (b ∷ []), room);
+  few = omega (arith, ap length kept, length-append old.kept.items (b ∷ []), length-append line (b ∷ []), short.few);
 }
 
 -- one byte more is left out
@@ -43,7 +46,7 @@ leaves_out old b none line short = record {
       left_out old.place old.kept.items b short.place none more ∙ short.stands (b ∷ more) ∙ ap gists (sym (append_assoc line (b ∷ []) more));
   place = short.place;
   small = small_left old.place line old.kept.items b short.place short.small none;
-  few = short.few;
+  few = omega (arith, length-append line (b ∷ []), short.few);
 }
 
 -- nothing more is kept
@@ -55,7 +58,7 @@ as_before old new kept place line short = record {
   small = subst (λ (k : List ℕ). IsSmallAt new.place (line ++ []) (length k)) (sym kept)
       (subst (λ (p : Place). IsSmallAt p (line ++ []) (length old.kept.items)) (sym place)
       (subst (λ (x : List ℕ). IsSmallAt old.place x (length old.kept.items)) (sym (append-nil line)) short.small));
-  few = omega (arith, ap length kept, short.few);
+  few = omega (arith, ap length kept, ap length (append-nil line), short.few);
 }
 
 empty_by : (lines : List ℕ) → length (lines_of lines) ≡ 0 → lines ≡ []

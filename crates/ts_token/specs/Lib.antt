@@ -8,3 +8,4 @@ pub mod Gist
 pub mod Contents
 pub mod Places
 pub mod Short
+pub mod Singles

@@ -1,5 +1,5 @@
 -- What is kept of a line.
-use Rattle.std.specs.Prelude.{ℕ, ◌+◌, ◌*◌, ◌<◌, List, ◌++◌, length, take}
+use Rattle.std.specs.Prelude.{ℕ, ◌+◌, ◌*◌, ◌≤◌, List, ◌++◌, length, take}
 use Rattle.ts_token.specs.declared.short.ShortLine.{ShortLine}
 use Rattle.ts_token.specs.Gist.{StandsFor}
 use Rattle.ts_token.specs.Places.{IsAt, IsSmallAt}
@@ -11,7 +11,7 @@ pub record IsShort (line : List ℕ) (s : ShortLine) : Type 0 where
   pub stands : (more : List ℕ) → StandsFor (s.kept.items ++ more) (line ++ more)
   pub place : IsAt s.place s.kept.items
   pub small : IsSmallAt s.place line (length s.kept.items)
-  pub few : length s.kept.items < 4000000000
+  pub few : length s.kept.items ≤ length line
 
 -- no more bytes are kept of a line: 65 a word, where its LF counts as a byte of a word, and all behind the LF
 abbrev pub most_of : List ℕ → ℕ

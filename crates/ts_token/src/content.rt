@@ -1,6 +1,7 @@
 //! What a single line holds.
 
 ghost use Rattle.std.specs.Prelude.{◌≡◌, ◌<◌, true, length, IfOk, OnErr};
+ghost use Rattle.ts_base.specs.Limits.{too_many};
 ghost use Rattle.ts_token.specs.Gist.{without_end};
 ghost use Rattle.ts_token.specs.Text.{is_plain, is_text, is_skipped};
 ghost use Rattle.ts_token.specs.Views.{pieces};
@@ -20,7 +21,7 @@ pub enum Content<'a> {
 }
 
 /// All bytes are from ` ` to `~`, or tabs.
-fn is_text(line: &[u8]) -> bool
+pub(crate) fn is_text(line: &[u8]) -> bool
     ensures { result ≡ is_text line.now }
 {
     line.iter().all(|b| is_plain(*b))
@@ -46,7 +47,7 @@ fn is_skipped(words: &[Word]) -> bool
 
 /// What a line without its end holds.
 pub(crate) fn content_of<'a>(alloc: Global, line: &'a [u8]) -> Result<Content<'a>, Memory>
-    requires { length line.now < 4000000000 }
+    requires { length line.now < too_many }
     ensures holds { IfOk result (λ content. Holds content line.now) }
     ensures text { OnErr result (is_text line.now ≡ true) }
 {
@@ -63,7 +64,7 @@ pub(crate) fn content_of<'a>(alloc: Global, line: &'a [u8]) -> Result<Content<'a
 /// What a line of fewer than 4,000,000,000 bytes holds; it is given with its LF, which a last line may lack. A line
 /// that isn't text takes no memory.
 pub fn line_content<'a>(alloc: Global, line: &'a [u8]) -> Result<Content<'a>, Memory>
-    requires { length line.now < 4000000000 }
+    requires { length line.now < too_many }
     ensures holds { IfOk result (λ content. Holds content (without_end line.now)) }
     ensures text { OnErr result (is_text (without_end line.now) ≡ true) }
 {

@@ -19,6 +19,7 @@ mod lines;
 mod numbers;
 mod parts;
 mod short;
+mod single;
 mod tokens;
 mod words;
 
@@ -26,5 +27,6 @@ pub use content::{Content, line_content};
 pub use numbers::{ext_of, number};
 pub use parts::{Parts, cut_parts};
 pub use short::ShortLine;
+pub use single::{Single, single_word};
 pub use tokens::{Line, Tokens, cut_tokens};
 pub use words::Word;

@@ -1,6 +1,7 @@
 //! A text before and after its first line `%%`.
 
 ghost use Rattle.std.specs.Prelude.{◌≡◌, ◌<◌, length};
+ghost use Rattle.ts_base.specs.Limits.{too_many};
 ghost use Rattle.ts_token.specs.Halves.{is_mark, is_separator, halves_of};
 ghost use Rattle.ts_token.specs.Text.{words_of};
 ghost use Rattle.ts_token.specs.Views.{parts};
@@ -18,7 +19,7 @@ pub struct Parts<'a> {
 
 /// Whether `%%` is the only word of a line, which is given without its end.
 fn is_mark(line: &[u8]) -> bool
-    requires { length line.now < 4000000000 }
+    requires { length line.now < too_many }
     ensures { result ≡ is_mark (words_of line.now) }
 {
     match next_word(line, 1) {
@@ -33,7 +34,7 @@ fn is_mark(line: &[u8]) -> bool
 /// Whether `%%` is the only word of a line, which is given with its end.
 pub(crate) fn is_separator(line: &[u8]) -> bool
     requires some { 0 < length line.now }
-    requires short { length line.now < 4000000000 }
+    requires short { length line.now < too_many }
     ensures { result ≡ is_separator line.now }
 {
     let (bare, _) = first_line(line);
@@ -42,7 +43,7 @@ pub(crate) fn is_separator(line: &[u8]) -> bool
 
 /// The parts of a text of fewer than 4,000,000,000 bytes.
 pub fn cut_parts<'a>(text: &'a [u8]) -> Parts<'a>
-    requires { length text.now < 4000000000 }
+    requires { length text.now < too_many }
     ensures { parts result ≡ halves_of text.now }
 {
     let mut at = 0;

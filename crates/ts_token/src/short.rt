@@ -1,6 +1,7 @@
 //! A line without the bytes that its reader can't ask for.
 
 ghost use Rattle.std.specs.Prelude.{ℕ, ◌≡◌, ◌<◌, ◌≤◌, List, [], ◌∷◌, true, false, length, OnErr, OnOk};
+ghost use Rattle.ts_base.specs.Limits.{too_many};
 ghost use Rattle.ts_token.specs.Gist.{StandsFor};
 ghost use Rattle.ts_token.specs.Halves.{is_separator};
 ghost use Rattle.ts_token.specs.Places.{blank_place, solid_place, text_place, place_after};
@@ -14,9 +15,6 @@ use ts_base::Memory;
 
 /// No more bytes of a word are kept.
 const MOST_KEPT: usize = 64;
-
-/// So many bytes of a line aren't kept.
-const TOO_LONG: usize = 4_000_000_000;
 
 /// Where the bytes of a line have led.
 #[derive(Clone, Copy, Debug, PartialEq, Eq)]
@@ -127,9 +125,9 @@ impl ShortLine {
         }
     }
 
-    /// Takes more bytes of the line, whose LF may be the last of them. `Memory` comes too where 4,000,000,000 bytes
-    /// would be kept; then some first bytes of these have come, and the line can be cleared.
-    pub fn push(&mut self, bytes: &[u8]) -> Result<(), Memory>
+    /// Takes more bytes of the line, whose LF may be the last of them. After `Memory` some first bytes of these have come,
+    /// and the line can be cleared.
+    pub fn feed(&mut self, bytes: &[u8]) -> Result<(), Memory>
         ensures taken { OnOk result (TakesIn self.old bytes.now self.new) }
         ensures first { OnErr result (TakesFirst self.old bytes.now self.new) }
     {
@@ -143,6 +141,7 @@ impl ShortLine {
     pub fn bytes(&self) -> &[u8]
         ensures stands { (line : List ℕ) → IsShort line self.now → StandsFor result.now line }
         ensures few { (line : List ℕ) → IsShort line self.now → length result.now ≤ most_of line }
+        ensures short { (line : List ℕ) → IsShort line self.now → length result.now ≤ length line }
     {
         &self.kept
     }
@@ -155,11 +154,12 @@ impl ShortLine {
         self.kept.is_empty()
     }
 
-    /// Whether `%%` is the only word of the line.
+    /// Whether `%%` is the only word of the line, which has fewer than 4,000,000,000 bytes.
     pub fn is_separator(&self) -> bool
+        requires { (line : List ℕ) × IsShort line self.now × (length line < too_many) }
         ensures { (line : List ℕ) → IsShort line self.now → result ≡ is_separator line }
     {
-        if self.kept.is_empty() || self.kept.len() >= TOO_LONG {
+        if self.kept.is_empty() {
             return false;
         }
         parts::is_separator(&self.kept)
@@ -181,9 +181,6 @@ impl ShortLine {
         match place_after(self.place, byte) {
             None => Ok(()),
             Some(place) => {
-                if self.kept.len() >= TOO_LONG - 1 {
-                    return Err(Memory);
-                }
                 self.kept.push(byte)?;
                 self.place = place;
                 Ok(())

@@ -1,6 +1,7 @@
 //! The lines of a text, with their numbers and words.
 
 ghost use Rattle.std.specs.Prelude.{◌≡◌, ◌<◌, ◌≤◌, length, IfOk, OnOk};
+ghost use Rattle.ts_base.specs.Limits.{too_many};
 ghost use Rattle.ts_token.specs.Text.{cut_of};
 ghost use Rattle.ts_token.specs.Views.{rows, cut_view};
 ghost use Rattle.ts_token.specs.Slices.{AreSlices};
@@ -29,8 +30,8 @@ pub struct Tokens<'a> {
 
 /// Counts one more line, and keeps it if it belongs to the tokens.
 fn take_line<'a>(alloc: Global, tokens: &mut Tokens<'a>, line: &'a [u8]) -> Result<(), Memory>
-    requires short { length line.now < 4000000000 }
-    requires room { tokens.old.count < 4000000000 }
+    requires short { length line.now < too_many }
+    requires room { tokens.old.count < too_many }
     ensures { OnOk result (cut_view tokens.new ≡ with_line (cut_view tokens.old) line.now) }
 {
     tokens.count += 1;
@@ -51,7 +52,7 @@ fn take_line<'a>(alloc: Global, tokens: &mut Tokens<'a>, line: &'a [u8]) -> Resu
 /// The lines and words of a text of fewer than 4,000,000,000 bytes, in time in proportion to it; each word is lent from
 /// the text.
 pub fn cut_tokens<'a>(alloc: Global, text: &'a [u8]) -> Result<Tokens<'a>, Memory>
-    requires { length text.now < 4000000000 }
+    requires { length text.now < too_many }
     ensures tokens { IfOk result (λ tokens. cut_view tokens ≡ cut_of text.now) }
     ensures slices { IfOk result (λ tokens. AreSlices text.now (rows tokens.lines.items)) }
     ensures counted { IfOk result (λ tokens. tokens.count ≤ length text.now) }

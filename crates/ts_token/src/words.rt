@@ -2,6 +2,7 @@
 
 ghost use Rattle.std.specs.Prelude.{◌≡◌, ◌+◌, ◌<◌, ◌^◌, [], length, IfOk, IfNone, IfSome};
 ghost use Rattle.std.specs.List.{position};
+ghost use Rattle.ts_base.specs.Limits.{too_many};
 ghost use Rattle.ts_token.specs.Text.{is_blank, words_of, words_from};
 ghost use Rattle.ts_token.specs.Views.{pieces};
 ghost use Rattle.ts_token.specs.Steps.{is_solid, IsNext};
@@ -69,7 +70,7 @@ pub(crate) fn next_word<'a>(rest: &'a [u8], column: u32) -> Option<NextWord<'a>>
 
 /// All words of a line.
 pub(crate) fn cut_words<'a>(alloc: Global, line: &'a [u8]) -> Result<Vec<Word<'a>>, Memory>
-    requires { length line.now < 4000000000 }
+    requires { length line.now < too_many }
     ensures { IfOk result (λ words. pieces words.items ≡ words_of line.now) }
 {
     let mut words = Vec::new(alloc);

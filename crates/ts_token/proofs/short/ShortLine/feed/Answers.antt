@@ -1,6 +1,6 @@
 use Rattle.std.proofs.Common.{arith}
 use Rattle.ts_token.proofs.ShortLaws.{takes_none, takes_next, takes_all, takes_first, on_err}
-use Rattle.ts_token.proofs.short.ShortLine.push.Goals as goal
+use Rattle.ts_token.proofs.short.ShortLine.feed.Goals as goal
 
 pub loop-byte-init : goal.loop-byte-init
 loop-byte-init c = takes_none c.args.self.now
