@@ -9,7 +9,7 @@ mod Takes
 mod LineLaws
 mod ReadingLaws
 mod OnlyLaws
-mod LongWords
+pub mod LongWords
 mod LineByLaws
 mod ReaderLaws
 mod ValueLaws
@@ -17,3 +17,5 @@ mod SaidRanges
 pub mod FitLaws
 mod Told
 pub mod MeetsLaw
+pub mod LinePieces
+pub mod ModelTexts

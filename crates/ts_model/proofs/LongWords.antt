@@ -31,6 +31,7 @@ use Rattle.ts_model.specs.declared.model.Op.TheVariants.{Equal, Unequal, AtMost,
 use Rattle.ts_model.specs.declared.error.ModelKind.TheVariants.{Shape, Number}
 use Rattle.ts_model.specs.ModelReading.{texts_of, taken_as, line_gives}
 use Rattle.ts_model.specs.ModelParts.{ModelParts}
+use Rattle.ts_model.specs.Series.{value_of, within}
 use Rattle.ts_model.specs.Statement.{SaysCells, SaysDomain, SaysTerm, SaysObjective, word_at, term_length, has_shape, made_parts, parts_said, said_cell, said_require, said_by, parsed_by, parsed_as, meaning_in}
 use Rattle.ts_model.specs.Words.{form_of, op_of, is_equals, is_count, is_letter, is_name_byte, is_name, made_range, is_dot, starts_dot, range_cut, range_of, onto, ranges_of, aggregator_of, feature_of, pattern_of}
 
@@ -124,6 +125,17 @@ number_small w n e =
 
 number_short : (w : List ℕ) (n : ℤ) → number_of w ≡ Some n → length w < 64
 number_short w n e = omega (arith, number_small w n e)
+
+value_short : (w : List ℕ) (n : ℤ) → value_of w ≡ Some n → length w < 64
+unfolding value_of
+value_short w n e = go (number_of w) refl e where
+  go : (o : Option ℤ) → number_of w ≡ o → within o ≡ Some n → length w < 64
+  go None h f = cc
+  go (Some m) h f = number_short w m h
+
+-- a number that a cell may have
+pub value_kept : (w : List ℕ) → value_of (take 64 w) ≡ value_of w
+value_kept w = kept value_of value_short w
 
 ext_short : (w : List ℕ) (x : Ext) → ext_of w ≡ Some x → length w < 64
 unfolding ext_of

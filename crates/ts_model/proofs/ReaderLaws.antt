@@ -1,5 +1,5 @@
 -- A reader of a model takes a line, and comes to the end.
-use Rattle.std.proofs.Common.{◌≡◌, ◌≢◌, ℕ, ◌+◌, ◌<◌, Bool, true, false, cond, Some, None, Ok, Err, List, [], ◌∷◌, length, refl, sym, ap, subst, ◌∙◌, arith}
+use Rattle.std.proofs.Common.{◌≡◌, ◌≢◌, ℕ, ◌+◌, ◌<◌, ◌≤◌, Bool, true, false, cond, Some, None, Ok, Err, List, [], ◌∷◌, length, refl, sym, ap, subst, ◌∙◌, arith, ◌⊎◌, inl, inr}
 use Rattle.std.specs.Prelude.{Result, IfOk, OnOk}
 use Rattle.ts_token.specs.declared.words.Word.{Word}
 use Rattle.ts_token.specs.Gist.{without_end}
@@ -15,7 +15,7 @@ use Rattle.ts_model.specs.declared.model.Need.{Need}
 use Rattle.ts_model.specs.declared.reader.Progress.{Progress}
 use Rattle.ts_model.specs.declared.reader.State.{State}
 use Rattle.ts_model.specs.declared.reader.State.TheVariants.{Open, Stopped}
-use Rattle.ts_model.specs.LineByLine.{line_step, SoFar, HasRead, ReadsLine}
+use Rattle.ts_model.specs.LineByLine.{line_step, SoFar, HasRead, ReadsLine, lines_read}
 use Rattle.ts_model.specs.ModelReading.{needs_lists, texts_of, line_gives, onward, read_rows, then_on, unless_bad, lines_reading, ended_model, model_reading}
 use Rattle.ts_model.specs.Progress.{IsFit, HasTaken, TakesLine, state_view, StateTakes, IsCalm, StateEnds}
 use Rattle.ts_model.specs.ModelParts.{ModelParts, nothing}
@@ -58,7 +58,7 @@ step_words need n m line ws lists text words are limited =
 
 -- a line of these words is taken, or is bad
 pub line_read : (old : Progress) (draft : Draft) (line : List ℕ) (ws : List Word) (result : Result (Unit {0}) ModelStop) → is_text line ≡ true →
-    is_skipped (words_of line) ≡ false → pieces ws ≡ words_of line → IsFit old → old.count < 3999999999 →
+    is_skipped (words_of line) ≡ false → pieces ws ≡ words_of line → IsFit old → old.count + 1 < 4000000000 →
     Adds (draft_parts draft) result (onward (old.count + 1) (line_gives old.draft.cells.limited (draft_parts old.draft) (texts ws)) Ok) →
     OnOk result (Follows old.draft draft) →
     TakesLine old line result (record { alloc = old.alloc; need = old.need; count = old.count + 1; draft = draft })
@@ -128,6 +128,27 @@ pub stays_calm : (old new : State) (before : Result SoFar ModelStop) (line : Lis
     (before ≢ Err Memory) × (state_view new ≢ Err Memory)
 stays_calm old new before line is taken calm =
     (subst (λ (b : Result SoFar ModelStop). b ≢ Err Memory) is (calm_is old (calm_before old new line taken calm)), calm_is new calm)
+
+-- one line more is counted, or none
+pub counts : (old new : State) (before : Result SoFar ModelStop) (line : List ℕ) → state_view old ≡ before → StateTakes old line new →
+    lines_read (state_view new) ≤ lines_read before + 1
+counts old new before line is taken = subst (λ (b : Result SoFar ModelStop). lines_read (state_view new) ≤ lines_read b + 1) is (go old new taken)
+  where
+    go : (o n : State) → StateTakes o line n → lines_read (state_view n) ≤ lines_read (state_view o) + 1
+    go (Open p) (Open q) t = let count = t.count in omega (arith, count)
+    go (Open p) (Stopped stop) t = omega arith
+    go (Stopped stop) (Open q) t = absurd t
+    go (Stopped stop) (Stopped again) t = omega arith
+
+-- want of memory tells that the line is text, unless it was wanting before
+pub wanted_text : (old new : State) (before : Result SoFar ModelStop) (given : List ℕ) → state_view old ≡ before →
+    (new ≡ Stopped Memory → (old ≡ Stopped Memory) ⊎ (is_text (without_end given) ≡ true)) → new ≡ Stopped Memory →
+    (before ≡ Err Memory) ⊎ (is_text (without_end given) ≡ true)
+wanted_text old new before given is told wanted = go (told wanted)
+  where
+    go : (old ≡ Stopped Memory) ⊎ (is_text (without_end given) ≡ true) → (before ≡ Err Memory) ⊎ (is_text (without_end given) ≡ true)
+    go (inl e) = inl (sym is ∙ ap state_view e)
+    go (inr t) = inr t
 
 abbrev stop_of : Result SoFar ModelStop → ModelStop
 stop_of (Ok s) = Memory

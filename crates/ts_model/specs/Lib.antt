@@ -12,3 +12,4 @@ pub mod FirstBest
 pub mod Judgement
 pub mod Views
 pub mod Progress
+pub mod ModelTexts

@@ -1,5 +1,6 @@
 -- The reading of a text line by line.
-use Rattle.std.specs.Prelude.{ℕ, ◌≡◌, ◌++◌, List, [], ◌∷◌, length, Result, Ok, Err}
+use Rattle.std.specs.Prelude.{ℕ, ◌≡◌, ◌+◌, ◌<◌, ◌++◌, List, [], ◌∷◌, length, Result, Ok, Err}
+use Rattle.ts_base.specs.Limits.{too_many}
 use Rattle.ts_token.specs.Gist.{AreEnded, IsLine, StandsFor}
 use Rattle.ts_token.specs.Text.{lines_of, cut_of}
 use Rattle.ts_model.specs.declared.error.ModelKind.{ModelKind}
@@ -25,6 +26,15 @@ HasRead need text (Ok s) =
     (s.need ≡ need) × (s.count ≡ length (lines_of text)) × (lines_reading need (cut_of text) ≡ Ok s.stated)
 HasRead need text (Err (Refused line kind)) = lines_reading need (cut_of text) ≡ Err (line, kind)
 HasRead need text (Err Memory) = ⊥
+
+-- how many lines were read; behind a stop none is counted
+abbrev pub lines_read : Result SoFar ModelStop → ℕ
+lines_read (Ok s) = s.count
+lines_read (Err stop) = 0
+
+-- one line more may be counted
+abbrev pub HasRoom : Result SoFar ModelStop → Type 0
+HasRoom reader = lines_read reader + 1 < too_many
 
 -- whatever whole lines were read before, a line that these bytes stand for has been read too
 abbrev pub ReadsLine : Result SoFar ModelStop → List ℕ → Result SoFar ModelStop → Type 0

@@ -1,5 +1,6 @@
 -- What a reader of a model keeps between lines.
 use Rattle.std.specs.Prelude.{ℕ, ◌≡◌, ◌+◌, ◌<◌, ◌≤◌, List, Result, Ok, Err}
+use Rattle.ts_base.specs.Limits.{too_many}
 use Rattle.ts_model.specs.declared.error.ModelStop.{ModelStop}
 use Rattle.ts_model.specs.declared.error.ModelStop.TheVariants.{Refused, Memory}
 use Rattle.ts_model.specs.declared.model.Model.{Model}
@@ -15,7 +16,7 @@ pub record IsFit (p : Progress) : Type 0 where
   pub sound : IsSound p.draft
   pub limited : p.draft.cells.limited ≡ needs_lists p.need
   pub turn : p.draft.cells.turn ≤ p.count
-  pub few : p.count < 4000000000
+  pub few : p.count < too_many
 
 abbrev pub IsFitState : State → Type 0
 IsFitState (Open p) = IsFit p

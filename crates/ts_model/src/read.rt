@@ -1,7 +1,7 @@
 //! The model of a text, or the first bad line with the first kind that holds of it.
 
 ghost use Rattle.std.specs.Prelude.{◌≡◌, ◌<◌, ◌≤◌, length, vec_len, IfOk};
-ghost use Rattle.ts_base.specs.Limits.{most_cells};
+ghost use Rattle.ts_base.specs.Limits.{most_cells, too_many};
 ghost use Rattle.ts_model.specs.declared.model.Need.{Need};
 ghost use Rattle.ts_model.specs.declared.error.ModelKind.{ModelKind};
 ghost use Rattle.ts_token.specs.Views.{cut_view};
@@ -54,7 +54,7 @@ pub(crate) fn finish(
     need: Need,
 ) -> Result<Model, ModelStop>
     requires few { length draft.cells.own.items ≤ most_cells }
-    requires room { count < 4000000000 }
+    requires room { count < too_many }
     ensures reads { Reads result (ended_model need count (draft_parts draft)) }
     ensures counted { IfOk result (λ m. m.n ≡ vec_len m.cells) }
 {
@@ -73,7 +73,7 @@ pub(crate) fn finish(
 /// The model that a text states, in the limits of the need, or its first bad line, counted from 1, with the first
 /// kind that holds of it; a missing `cells` line or objective is told at the number of the lines plus 1.
 pub fn read_model(alloc: Global, tokens: &Tokens<'_>, need: Need) -> Result<Model, ModelStop>
-    requires { tokens.now.count < 4000000000 }
+    requires { tokens.now.count < too_many }
     ensures exact { Reads result (reading need (cut_view tokens.now)) }
     ensures first { Tells need (cut_view tokens.now) result }
     ensures counted { IfOk result (λ m. m.n ≡ vec_len m.cells) }

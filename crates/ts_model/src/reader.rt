@@ -1,15 +1,16 @@
 //! The model of a text that comes line by line.
 
-ghost use Rattle.std.specs.Prelude.{ℕ, ◌≡◌, ◌≢◌, ◌<◌, List, [], true};
+ghost use Rattle.std.specs.Prelude.{ℕ, ◌≡◌, ◌≢◌, ◌+◌, ◌<◌, ◌≤◌, ◌⊎◌, List, [], true};
 ghost use Rattle.std.specs.Prelude.{length, vec_len, IfOk, OnErr, OnOk, Err};
+ghost use Rattle.ts_base.specs.Limits.{too_many};
 ghost use Rattle.ts_token.specs.Gist.{without_end};
 ghost use Rattle.ts_token.specs.Text.{cut_of, is_text};
 ghost use Rattle.ts_model.specs.declared.error.ModelStop.TheVariants.{Memory as NoMemory};
 ghost use Rattle.ts_model.specs.declared.model.Need.{Need};
 ghost use Rattle.ts_model.specs.declared.reader.State.TheVariants.{Stopped};
-ghost use Rattle.ts_model.specs.LineByLine.{HasRead, ReadsLine};
+ghost use Rattle.ts_model.specs.LineByLine.{HasRead, HasRoom, ReadsLine, lines_read};
 ghost use Rattle.ts_model.specs.ModelReading.{ended_model, model_reading};
-ghost use Rattle.ts_model.specs.Progress.{IsCalm, IsFit, IsFitState, StateEnds, StateTakes, TakesLine};
+ghost use Rattle.ts_model.specs.Progress.{IsCalm, IsFit, IsFitState, StateEnds, StateTakes, TakesLine, state_view};
 ghost use Rattle.ts_model.specs.Promise.{IsWhole, KeepsLimits};
 ghost use Rattle.ts_model.specs.ModelParts.{nothing};
 ghost use Rattle.ts_model.specs.Views.{draft_parts, model_parts, Reads, Tells};
@@ -21,9 +22,6 @@ use crate::read::{finish, needs_lists};
 use std::alloc::Global;
 use ts_base::Memory;
 use ts_token::{Content, line_content};
-
-/// Lines of so many bytes, and lines after so many others, aren't read.
-const TOO_MANY: u32 = 4_000_000_000;
 
 /// What the lines so far state, none of them bad.
 #[derive(Drop)]
@@ -52,14 +50,12 @@ impl Progress {
 
     /// Reads the next line.
     fn line(&mut self, line: &[u8]) -> Result<(), ModelStop>
-        requires { IsFit self.old }
+        requires fit { IsFit self.old }
+        requires room { self.old.count + 1 < too_many }
+        requires short { length line.now < too_many }
         ensures read { TakesLine self.old (without_end line.now) result self.new }
-        ensures text { result ≡ Err NoMemory → length line.now < 4000000000 → self.old.count < 3999999999 →
-            is_text (without_end line.now) ≡ true }
+        ensures text { result ≡ Err NoMemory → is_text (without_end line.now) ≡ true }
     {
-        if line.len() >= TOO_MANY as usize || self.count >= TOO_MANY - 1 {
-            return Err(ModelStop::Memory);
-        }
         self.count += 1;
         match line_content(self.alloc, line)? {
             Content::NotText => Err(ModelStop::Refused {
@@ -91,9 +87,13 @@ pub(crate) enum State {
 impl State {
     /// Reads the next line; a stop stays, and nothing else is kept after it.
     fn line(&mut self, line: &[u8])
-        requires { IsFitState self.old }
+        requires fit { IsFitState self.old }
+        requires room { HasRoom (state_view self.old) }
+        requires short { length line.now < too_many }
         ensures fit { IsFitState self.new }
         ensures read { StateTakes self.old (without_end line.now) self.new }
+        ensures text { self.new ≡ Stopped NoMemory → (self.old ≡ Stopped NoMemory)
+            ⊎ (is_text (without_end line.now) ≡ true) }
     {
         let stop = match self {
             State::Open(progress) => match progress.line(line) {
@@ -160,14 +160,18 @@ impl ModelReader {
         })
     }
 
-    /// Reads the next line: given with its LF, which the last line may lack, or as bytes that stand for it. No bytes
-    /// are no line, and change nothing. Each line after `Memory`, and the end, is answered `Memory`; it comes too where
-    /// a line has 4,000,000,000 bytes, and for a line after 3,999,999,999 others.
+    /// Reads the next line of fewer than 4,000,000,000 bytes, after fewer than 3,999,999,999 others: given with its LF,
+    /// which the last line may lack, or as bytes that stand for it. No bytes are no line, and change nothing. `Memory`
+    /// comes for a line of text alone; each line after it, and the end, is answered `Memory`.
     pub fn line(&mut self, line: &[u8]) -> Result<(), Memory>
+        requires room { HasRoom self.old }
+        requires short { length line.now < too_many }
         ensures read { OnOk result (ReadsLine self.old line.now self.new) }
         ensures none { line.now ≡ [] → self.new ≡ self.old }
         ensures wanted { OnErr result (self.new ≡ Err NoMemory) }
         ensures calm { OnOk result ((self.old ≢ Err NoMemory) × (self.new ≢ Err NoMemory)) }
+        ensures text { OnErr result ((self.old ≡ Err NoMemory) ⊎ (is_text (without_end line.now) ≡ true)) }
+        ensures counted { lines_read self.new ≤ lines_read self.old + 1 }
     {
         if line.is_empty() {
             return self.state.answer();

@@ -23,7 +23,7 @@ fn is_series(word: &[u8]) -> bool
 
 /// The word as a number from -1,000,000 to 1,000,000, if it is one.
 #[tactic(auto, unfolding(crate::specs::Series::value_of))]
-fn value_of(word: &[u8]) -> Option<i64>
+pub fn value_of(word: &[u8]) -> Option<i64>
     ensures { result ≡ value_of word.now }
 {
     match number(word) {
