@@ -11,7 +11,7 @@ use Rattle.std.proofs.lemmas.Bool.{and_parts}
 use Rattle.ts_base.specs.declared.ext.Ext.{Ext}
 use Rattle.ts_base.specs.declared.ext.Ext.TheVariants.{NegInf, Int, PosInf}
 use Rattle.ts_base.specs.declared.goal.Goal.TheVariants.{Maximise, Minimise}
-use Rattle.ts_base.specs.Limits.{most_cells}
+use Rattle.ts_base.specs.Limits.{most_cells, most_checked}
 use Rattle.ts_base.specs.Text.{ext_text}
 use Rattle.ts_base.specs.Words.{behind, full_line}
 use Rattle.ts_certificate.specs.declared.certificate.Aim.{Aim}
@@ -23,7 +23,7 @@ use Rattle.ts_certificate.specs.declared.certificate.TreeLine.TheVariants.{Split
 use Rattle.ts_certificate.specs.Certificate.{Cert, checked_count, open_count, end_line, lines_text, certificate_text, series_text, tree_text}
 use Rattle.ts_certificate.specs.Grammar.{SaysAim, SaysClaim, SaysSeries, SaysTree, SaysEnd, line_text, series_count, is_open}
 use Rattle.ts_certificate.specs.HeadLines.{is_aim, is_best_claim, is_list_claim, is_claim, is_series}
-use Rattle.ts_certificate.specs.Laws.{most_checked, IsWithinLimits}
+use Rattle.ts_certificate.specs.Laws.{IsWithinLimits}
 use Rattle.ts_certificate.specs.Ranges.{count_text, is_value, is_count, is_cell, is_requirement, is_listed, is_ext}
 use Rattle.ts_certificate.specs.TreeLines.{is_tree_line}
 use Rattle.ts_certificate.proofs.NumberLaws.{count_small, fits_ext}

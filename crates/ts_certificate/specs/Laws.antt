@@ -1,7 +1,7 @@
 -- What is promised of texts both ways, and of their size.
 use Rattle.std.specs.Prelude.{◌≡◌, ◌≢◌, ◌↔◌, ℕ, ◌+◌, ◌*◌, ◌<◌, ◌≤◌, ◌^◌, ℤ, List, length, Some, None, Result, Err}
 use Rattle.std.specs.List.{AllByRecursion}
-use Rattle.ts_base.specs.Limits.{most_cells, most_domain_values}
+use Rattle.ts_base.specs.Limits.{most_cells, most_checked, most_domain_values, most_model_bytes, most_verify_bytes}
 use Rattle.ts_base.specs.Words.{strict_lines}
 use Rattle.ts_certificate.specs.declared.state.State.{State}
 use Rattle.ts_certificate.specs.declared.state.State.TheVariants.{Start, AfterEnd}
@@ -60,16 +60,6 @@ OneCertificate =
     (c d : Cert) → IsCertificate c → IsCertificate d →
     length c.series + length c.tree < 2 ^ 62 → length d.series + length d.tree < 2 ^ 62 →
     certificate_text c ≡ certificate_text d → c ≡ d
-
--- the most checked lines that a command can be asked for, and the most bytes of a model and of what `verify` reads
-abbrev pub most_checked : ℕ
-most_checked = 4000000
-
-abbrev pub most_model_bytes : ℕ
-most_model_bytes = 1048576
-
-abbrev pub most_verify_bytes : ℕ
-most_verify_bytes = 135266304
 
 -- what a solving command can write: at most the greatest budget of checked lines, an `open` line for each value of the
 -- domains together at most, and series of no more numbers than a model has cells

@@ -5,12 +5,8 @@ use Rattle.std.specs.Fmt.{signed_decimal}
 use Rattle.std.specs.Int.Signed.{mag}
 use Rattle.ts_base.specs.declared.ext.Ext.{Ext}
 use Rattle.ts_base.specs.declared.ext.Ext.TheVariants.{NegInf, Int, PosInf}
-use Rattle.ts_base.specs.Limits.{most_cells, greatest_value, most_requirements}
+use Rattle.ts_base.specs.Limits.{greatest_value, most_cells, most_listed, most_requirements}
 use Rattle.ts_token.specs.Number.{number_of}
-
--- the most series of a listing
-abbrev pub most_listed : ℕ
-most_listed = 5000
 
 -- a value that a cell may have
 abbrev pub is_value : ℤ → Bool

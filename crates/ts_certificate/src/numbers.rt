@@ -4,11 +4,8 @@ ghost use Rattle.std.specs.Prelude.{◌≡◌};
 ghost use Rattle.ts_certificate.specs.Ranges.{value_of, whole_of, count_of, cell_of, requirement_of};
 ghost use Rattle.ts_certificate.specs.Ranges.{asked_of, listed_of};
 
-use ts_base::limits::{CELL_VALUE, CELLS, REQUIREMENTS};
+use ts_base::limits::{CELL_VALUE, CELLS, LISTED, REQUIREMENTS};
 use ts_token::number;
-
-/// The most series of a listing.
-const LISTED: u32 = 5_000;
 
 /// A value that a cell may have.
 pub(crate) fn value_of(word: &[u8]) -> Option<i64>

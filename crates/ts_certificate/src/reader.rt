@@ -1,6 +1,7 @@
 //! The reader of a certificate, line by line.
 
 ghost use Rattle.std.specs.Prelude.{◌≡◌, ◌≢◌, ◌≤◌, Ok, Err, MatchResult, Some, None};
+ghost use Rattle.ts_base.specs.Limits.{too_many};
 ghost use Rattle.ts_certificate.specs.declared.stop.CertStop.{CertStop};
 ghost use Rattle.ts_certificate.specs.Reading.{WantsSeries, fresh, reading_with, answer_to, end_stop};
 ghost use Rattle.ts_certificate.specs.Seen.{line_seen, Tells};
@@ -63,7 +64,7 @@ impl LineReader {
     /// the grammar is `Text`, an end line with other counts `CountDiffers`; each further line gets the same stop.
     /// `Memory` comes only where a series line is to come, and the reader is then as before.
     pub fn line(&mut self, alloc: Global, text: &[u8]) -> Result<Parsed, CertStop>
-        requires { self.old.next ≤ 4000000000 }
+        requires { self.old.next ≤ too_many }
         ensures answer { Tells line_seen result (answer_to self.old text.now) }
         ensures reading { result ≢ Err CertStop.Memory → self.new ≡ reading_with self.old text.now }
         ensures kept { result ≡ Err CertStop.Memory → self.new ≡ self.old }
