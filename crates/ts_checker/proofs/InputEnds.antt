@@ -9,14 +9,15 @@ use Rattle.ts_model.specs.ModelReading.{model_reading}
 use Rattle.ts_model.specs.ModelParts.{ModelParts}
 use Rattle.ts_filter.specs.Lines.{first_stand}
 use Rattle.ts_checker.specs.declared.judging.Judging.{Judging as AtWork}
-use Rattle.ts_checker.specs.declared.model_text.ModelText.{ModelText}
+use Rattle.ts_model.specs.declared.model_text.ModelText.{ModelText}
+use Rattle.ts_model.specs.ModelTexts.{EndsModel, IsInModel}
+use Rattle.ts_model.proofs.ModelTexts.{nothing_behind}
 use Rattle.ts_checker.specs.declared.opened_model.OpenedModel.{OpenedModel}
 use Rattle.ts_checker.specs.declared.opened_model.OpenedModel.TheVariants.{Refused, Judging}
 use Rattle.ts_checker.specs.declared.verify_end.VerifyEnd.{VerifyEnd}
 use Rattle.ts_checker.specs.declared.verify_end.VerifyEnd.TheVariants.{Model, Verdict}
-use Rattle.ts_checker.specs.Feeding.{EndsModel, EndsOpened, IsBehind, IsInModel, IsOpened, OpenedFails}
+use Rattle.ts_checker.specs.Feeding.{EndsOpened, IsBehind, IsOpened, OpenedFails}
 use Rattle.ts_checker.specs.Verified.{FailsFirst, FailsIn, IsFailed, IsShownBy, IsVerifyEnd, ended_lines, model_part, rest_part}
-use Rattle.ts_checker.proofs.ModelTexts.{nothing_behind}
 
 -- the model has ended
 

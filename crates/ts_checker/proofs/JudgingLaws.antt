@@ -1,28 +1,30 @@
 -- A checker at work: the line that it refused, and the first that fails.
-use Rattle.std.proofs.Common.{◌≡◌, ◌≢◌, ℕ, ◌<◌, ◌≤◌, inl, inr, length, Bool, true, false, Option, Some, None, Ok, Err, List, [], ◌∷◌, ◌++◌, refl, sym, ap, ◌∙◌, subst, append_assoc, append-nil, arith}
-use Rattle.std.specs.Prelude.{◌==◌, filter, is_some, OnOk, Result}
+use Rattle.std.proofs.Common.{◌≡◌, ◌≢◌, ℕ, ◌+◌, ◌<◌, ◌≤◌, inl, inr, length, Bool, true, false, cond, Option, Some, None, Ok, Err, List, [], ◌∷◌, ◌++◌, refl, sym, ap, ◌∙◌, subst, append_assoc, append-nil, length-append, arith}
+use Rattle.std.specs.Prelude.{◌==◌, filter, is_some, OnErr, OnOk, Result}
 use Rattle.std.specs.Option.{option_map}
 use Rattle.std.proofs.lemmas.Bool.{eqb-true}
 use Rattle.std.proofs.lemmas.Bool.Decides.{nat_tests}
 use Rattle.std.proofs.lemmas.List.Elements.{filter-append}
 use Rattle.ts_base.specs.declared.error.Memory.{Memory as NoMemory}
 use Rattle.ts_base.specs.Words.{strict_lines, without_lf}
-use Rattle.ts_base.proofs.WordLaws.{lf_is}
+use Rattle.ts_base.proofs.WordLaws.{lf_is, lines_few}
 use Rattle.ts_certificate.specs.declared.stop.CertStop.{CertStop}
-use Rattle.ts_certificate.specs.Reading.{Reading}
+use Rattle.ts_certificate.specs.Reading.{Reading, fresh, reading_after, reading_with}
+use Rattle.ts_certificate.proofs.CallerLemmas.{next_few}
 use Rattle.ts_model.specs.ModelParts.{ModelParts}
+use Rattle.ts_model.specs.ModelTexts.{IsFinished, IsPart, IsUnfinished, has_lf}
+use Rattle.ts_model.proofs.LinePieces.{finished_first, joins, last_line, none_ended, part_ends, part_open, unfinished_alone}
 use Rattle.ts_filter.specs.Lines.{IsOutcome}
 use Rattle.ts_spans.specs.Machines.{spans_in}
 use Rattle.ts_checker.specs.declared.judging.Judging.{Judging}
 use Rattle.ts_checker.specs.declared.verdict.Verdict.{Verdict}
 use Rattle.ts_checker.specs.declared.verdict.Verdict.TheVariants.{Accepted}
 use Rattle.ts_checker.specs.Checking.{Checking, HasChecked, Takes, first_checking}
-use Rattle.ts_checker.specs.Feeding.{HasJudged, HasRead, IsFinished, IsPart, IsUnfinished, JudgesLine, Reads, last_line}
+use Rattle.ts_checker.specs.Feeding.{HasJudged, HasRead, JudgesLine, Reads}
 use Rattle.ts_checker.specs.Shortened.{Extends, IsKeptOf, IsSmall}
 use Rattle.ts_checker.specs.Verdicts.{IsTrueOf, IsVerdict, refused_line}
-use Rattle.ts_checker.specs.Verified.{FailsFirst, IsShownBy, ended_lines, is_ended}
+use Rattle.ts_checker.specs.Verified.{FailsFirst, IsShownBy, ended_lines}
 use Rattle.ts_checker.proofs.KeptLines.{last_for, line_for, none_kept_of, some_kept_of, stopped_for}
-use Rattle.ts_checker.proofs.Pieces.{ended_more, finished_first, joins, none_ended, part_ends, part_open, unfinished_alone}
 use Rattle.ts_checker.proofs.Verdicts.{one_line_more, stopped_against}
 
 -- before the first byte
@@ -49,7 +51,29 @@ none_judged m j is empty few h = record {
   dropped = λ e. empty;
 }
 
+-- lines are no more than bytes
+
+next_reads : (r : Reading) (texts : List (List ℕ)) → (reading_after r texts).next ≤ r.next + length texts
+next_reads r [] = omega arith
+next_reads r (text ∷ texts) =
+    let more = next_reads (reading_with r text) texts in let one = next_few r text in omega (arith, more, one)
+
+pub few_lines : (bytes : List ℕ) (j : Judging) (more : ℕ) → HasRead bytes j → length bytes + more < 4000000000 → j.checker.reading.next ≤ 4000000000
+few_lines bytes j more h few =
+    let next = ap (λ (r : Reading). r.next) h.judged.checked.reading in
+    let reads = next_reads fresh h.texts in
+    let whole = ap length (ap strict_lines (sym (append-nil h.seen)) ∙ h.lines [] ∙ append-nil h.texts) in
+    let lines = lines_few h.seen in
+    let size = ap length h.parts ∙ length-append h.seen h.line in
+    omega (arith, next, reads, whole, lines, size, few)
+
 -- one line more
+
+ended_more : (texts : List (List ℕ)) (line : List ℕ) → filter has_lf texts ≡ texts → IsFinished line →
+    filter has_lf (texts ++ line ∷ []) ≡ texts ++ line ∷ []
+ended_more texts line h f =
+    filter-append has_lf texts (line ∷ []) ∙ ap (λ (x : List (List ℕ)). x ++ filter has_lf (line ∷ [])) h
+    ∙ ap (λ o. texts ++ cond (is_some o) (line ∷ []) []) f.1
 
 more_judged : (texts : List (List ℕ)) (old new : Judging) (text : List ℕ) → HasJudged texts old → Takes old.checker text new.checker →
     old.checker.reading.next ≤ 4000000000 → HasJudged (texts ++ text ∷ []) new
@@ -136,6 +160,17 @@ none_stop : (next : ℕ) (o : Option CertStop) → is_some (option_map (λ (stop
 none_stop next None e = refl
 none_stop next (Some stop) e = cc
 
+pub unstopped : (r : Reading) → is_some (refused_line r) ≡ false → r.stop ≡ None
+unstopped r going = none_stop r.next r.stop going
+
+pub on_err : {T E P : Type 0} (r : Result T E) → P → OnErr r P
+on_err (Ok x) p = tt
+on_err (Err e) p = p
+
+pub on_ok : {T E P : Type 0} (r : Result T E) → P → OnOk r P
+on_ok (Ok x) p = p
+on_ok (Err e) p = tt
+
 pub some_stands : (j : Judging) (part : List ℕ) → is_some (refused_line j.checker.reading) ≡ true → IsPart part → Reads j part j
 some_stands j part some whole =
     let held = some_stop j.checker.reading.next j.checker.reading.stop some in refusal_stands j part held.0 held.1 whole
@@ -203,8 +238,8 @@ fails_by texts c failed h none is =
 -- the lines that have their LF
 ended_are : (bytes : List ℕ) (j : Judging) (h : HasRead bytes j) → ended_lines bytes ≡ h.texts
 ended_are bytes j h =
-    ap (filter is_ended) (ap strict_lines h.parts ∙ h.lines h.line ∙ ap (λ (x : List (List ℕ)). h.texts ++ x) (unfinished_alone h.line h.free))
-    ∙ filter-append is_ended h.texts (last_line h.line) ∙ ap (λ (x : List (List ℕ)). x ++ filter is_ended (last_line h.line)) h.ended
+    ap (filter has_lf) (ap strict_lines h.parts ∙ h.lines h.line ∙ ap (λ (x : List (List ℕ)). h.texts ++ x) (unfinished_alone h.line h.free))
+    ∙ filter-append has_lf h.texts (last_line h.line) ∙ ap (λ (x : List (List ℕ)). x ++ filter has_lf (last_line h.line)) h.ended
     ∙ ap (λ (x : List (List ℕ)). h.texts ++ x) (none_ended h.line h.free) ∙ append-nil h.texts
 
 none_line : (next : ℕ) (o : Option CertStop) → option_map (λ (stop : CertStop). next) o ≡ None → o ≡ None

@@ -1,5 +1,5 @@
 -- Few bytes that are kept of an unfinished line stand for it when bytes come behind both, and are checked as the line.
-use Rattle.std.proofs.Common.{◌≡◌, ℕ, ◌+◌, ◌^◌, ◌<◌, ◌≤◌, inl, inr, Option, Some, None, Ok, Err, List, [], ◌∷◌, ◌++◌, length, refl, sym, ap, subst, ◌∙◌, arith, append_assoc, append-nil}
+use Rattle.std.proofs.Common.{◌≡◌, ℕ, ◌^◌, ◌<◌, ◌≤◌, inl, inr, Option, Some, None, Ok, Err, List, [], ◌∷◌, ◌++◌, length, refl, sym, ap, subst, ◌∙◌, arith, append_assoc, append-nil}
 use Rattle.std.specs.Prelude.{ℤ, MatchOption, Result}
 use Rattle.std.proofs.lemmas.List.{length-append}
 use Rattle.ts_base.specs.Words.{without_lf, words_of}
@@ -19,11 +19,11 @@ use Rattle.ts_filter.specs.Accepts.{SeriesFits}
 use Rattle.ts_filter.specs.Lines.{KeepsLine, Stand}
 use Rattle.ts_filter.specs.RefutedWorseDrop.{Spans}
 use Rattle.ts_spans.specs.Machines.{spans_in}
+use Rattle.ts_model.specs.ModelTexts.{IsUnfinished}
+use Rattle.ts_model.proofs.LinePieces.{none_without}
 use Rattle.ts_checker.specs.Checking.{Checking, HasChecked, Takes, TakesBy, TakesFirst, TakesOn}
 use Rattle.ts_checker.proofs.Verdicts.{state_few}
-use Rattle.ts_checker.specs.Feeding.{IsUnfinished}
 use Rattle.ts_checker.specs.Shortened.{AreAlike, Extends, IsKeptOf, ReadAlike, Shortens}
-use Rattle.ts_checker.proofs.Pieces.{none_without}
 
 -- bytes behind both
 

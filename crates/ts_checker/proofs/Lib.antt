@@ -7,12 +7,11 @@ mod RuleLaws
 mod Waits
 mod OfProgram
 pub mod Truth
-mod Pieces
 mod LineSizes
 mod LongLines
 mod KeptLines
 mod JudgingLaws
-mod ModelTexts
 mod InputLaws
 mod InputEnds
+mod WholeSteps
 mod OneAnswer

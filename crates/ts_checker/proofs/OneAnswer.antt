@@ -19,12 +19,13 @@ use Rattle.ts_filter.proofs.LineLaws.{fails_once, fails_not_leads}
 use Rattle.ts_filter.specs.Lines.{IsOutcome, Stand, first_stand}
 use Rattle.ts_filter.specs.RefutedWorseDrop.{Spans}
 use Rattle.ts_spans.specs.Machines.{spans_in}
+use Rattle.ts_model.specs.ModelTexts.{has_lf}
 use Rattle.ts_checker.specs.declared.verdict.Verdict.TheVariants.{Accepted}
 use Rattle.ts_checker.specs.declared.verify_end.VerifyEnd.{VerifyEnd}
 use Rattle.ts_checker.specs.declared.verify_end.VerifyEnd.TheVariants.{Model, Verdict as Judged}
 use Rattle.ts_checker.specs.Laws.{OneEnd, OneFailed}
 use Rattle.ts_checker.specs.Verdicts.{IsVerdict}
-use Rattle.ts_checker.specs.Verified.{BreaksFirst, FailsFirst, FailsIn, certificate_lines, ended_lines, is_ended, model_part, rest_part}
+use Rattle.ts_checker.specs.Verified.{BreaksFirst, FailsFirst, FailsIn, certificate_lines, ended_lines, model_part, rest_part}
 use Rattle.ts_checker.proofs.Verdicts.{not_against, one_verdict, same_stop}
 
 -- a certificate has no more lines than its input has bytes
@@ -45,11 +46,11 @@ lines_short bytes =
     let c = ap length (lines_are bytes) in
     omega (arith, a, b, c)
 
-kept_few : (lines : List (List ℕ)) → length (filter is_ended lines) ≤ length lines
+kept_few : (lines : List (List ℕ)) → length (filter has_lf lines) ≤ length lines
 kept_few [] = omega arith
 kept_few (l ∷ ls) =
     let more = kept_few ls in
-    elim (is_ended l) as (λ t. length (cond t (l ∷ filter is_ended ls) (filter is_ended ls)) ≤ suc (length ls)) [
+    elim (has_lf l) as (λ t. length (cond t (l ∷ filter has_lf ls) (filter has_lf ls)) ≤ suc (length ls)) [
       | true ↦ omega (arith, more)
       | false ↦ omega (arith, more)
     ]

@@ -1,5 +1,6 @@
 -- What a checker knows of a certificate after so many of its lines, and what one more makes of that.
 use Rattle.std.specs.Prelude.{◌≡◌, ◌≢◌, ◌⊎◌, ℕ, ◌≤◌, Bool, false, List, [], ◌∷◌, ◌++◌, Option, Some, None, Result, Ok, Err}
+use Rattle.ts_base.specs.Limits.{too_many}
 use Rattle.ts_certificate.specs.declared.state.State.TheVariants.{Start}
 use Rattle.ts_certificate.specs.declared.stop.CertStop.{CertStop}
 use Rattle.ts_certificate.specs.FirstStop.{AreLines}
@@ -61,7 +62,7 @@ pub record IsStopped (texts : List (List ℕ)) (c : Checking) : Type 0 where
   pub before : Checking
   pub reading : before.reading ≡ reading_after fresh front
   pub unstopped : before.reading.stop ≡ None
-  pub few : before.reading.next ≤ 4000000000
+  pub few : before.reading.next ≤ too_many
   pub going : IsGoing front before
   pub refused : (reading_with before.reading line).stop ≢ None
   pub model : c.model ≡ before.model

@@ -1,7 +1,7 @@
 -- What `verify` says of an input: the refusal of its model, or the verdict on the lines of its certificate.
-use Rattle.std.specs.Prelude.{◌≡◌, ◌⊎◌, ℕ, Bool, List, [], map, filter, is_some, Option, Some, None, Result, Ok, Err}
+use Rattle.std.specs.Prelude.{◌≡◌, ◌⊎◌, ℕ, List, [], map, filter, Option, Some, None, Result, Ok, Err}
 use Rattle.std.specs.Prelude.{unwrap_or}
-use Rattle.ts_base.specs.Words.{strict_lines, without_lf}
+use Rattle.ts_base.specs.Words.{strict_lines}
 use Rattle.ts_certificate.specs.declared.state.State.TheVariants.{Start}
 use Rattle.ts_certificate.specs.FirstStop.{MayFollow}
 use Rattle.ts_certificate.specs.Grammar.{CertLine, line_text}
@@ -9,6 +9,7 @@ use Rattle.ts_token.specs.Halves.{halves_of}
 use Rattle.ts_model.specs.declared.error.ModelKind.{ModelKind}
 use Rattle.ts_model.specs.declared.model.Need.TheVariants.{List as Listed}
 use Rattle.ts_model.specs.ModelReading.{model_reading}
+use Rattle.ts_model.specs.ModelTexts.{has_lf}
 use Rattle.ts_model.specs.ModelParts.{ModelParts}
 use Rattle.ts_filter.specs.Lines.{IsOutcome, Stand}
 use Rattle.ts_spans.specs.Machines.{spans_in}
@@ -46,13 +47,9 @@ abbrev pub IsVerifyEnd : List ℕ → VerifyEnd → Type 0
 IsVerifyEnd bytes (Model line kind) = model_reading Listed (model_part bytes) ≡ Err (line, kind)
 IsVerifyEnd bytes (Judged verdict) = IsJudged bytes verdict
 
--- a line that ends with its LF
-abbrev pub is_ended : List ℕ → Bool
-is_ended line = is_some (without_lf line)
-
 -- the lines of a text that end with their LF
 abbrev pub ended_lines : List ℕ → List (List ℕ)
-ended_lines text = filter is_ended (strict_lines text)
+ended_lines text = filter has_lf (strict_lines text)
 
 -- the texts are those of lines of a certificate, and this one, if any, is the first that breaks its rule
 pub record BreaksFirst (m : ModelParts) (texts : List (List ℕ)) (failed : Option ℕ) : Type 0 where

@@ -38,7 +38,7 @@ impl CertificateLine {
     }
 
     /// Takes more bytes of the line, none of which is its LF.
-    pub(crate) fn take(&mut self, part: &[u8]) -> Result<(), Memory>
+    pub(crate) fn feed(&mut self, part: &[u8]) -> Result<(), Memory>
         ensures extends { OnOk result (Extends self.old.bytes.items part.now self.new.bytes.items) }
         ensures small { OnOk result (IsSmall self.new.bytes.items) }
     {

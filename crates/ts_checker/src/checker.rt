@@ -1,6 +1,7 @@
 //! A certificate checked line by line.
 
 ghost use Rattle.std.specs.Prelude.{ℕ, ◌≡◌, ◌≤◌, ◌+◌, List, [], IfOk, IsTrue, OnErr, OnOk, false, length};
+ghost use Rattle.ts_base.specs.Limits.{too_many};
 ghost use Rattle.ts_certificate.specs.Reading.{end_stop};
 ghost use Rattle.ts_certificate.specs.Seen.{line_seen};
 ghost use Rattle.ts_compile.specs.Programs.{IsProgramOf};
@@ -92,7 +93,7 @@ impl Checker {
     /// Takes the next line, given with its LF, where fewer than 4,000,000,000 were fed so far. After `Memory` each
     /// further line is answered `Memory`, and `broken_line` tells what it told before.
     pub fn feed_line(&mut self, line: &[u8]) -> Result<(), Memory>
-        requires { self.old.reading.next ≤ 4000000000 }
+        requires { self.old.reading.next ≤ too_many }
         ensures checked { OnOk result (Checks self.old line.now self.new) }
         ensures takes { OnOk result (Takes self.old line.now self.new) }
         ensures next { OnOk result (self.new.reading.next ≤ self.old.reading.next + 1) }
@@ -167,7 +168,7 @@ impl Checker {
 
     /// The next line: what the reader makes of it is judged, and nothing waits once the reader stops.
     fn step(&mut self, line: &[u8]) -> Result<(), Memory>
-        requires { self.old.reading.next ≤ 4000000000 }
+        requires { self.old.reading.next ≤ too_many }
         ensures takes { OnOk result (Takes self.old line.now self.new) }
         ensures model { self.new.model ≡ self.old.model }
         ensures failed { OnErr result (self.new.failed ≡ self.old.failed) }

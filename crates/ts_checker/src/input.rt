@@ -1,14 +1,17 @@
 //! The input of `verify` as far as it was fed.
 
-ghost use Rattle.std.specs.Prelude.{ℕ, List, [], IfOk, OnOk};
-ghost use Rattle.ts_checker.specs.Feeding.{EndsIn, HasTaken, IsPart, TakesBytes};
-ghost use Rattle.ts_checker.specs.Verified.{IsFailed, IsVerifyEnd};
+ghost use Rattle.std.specs.Prelude.{ℕ, ◌≡◌, ◌<◌, List, [], length, IfOk, OnErr, OnOk};
+ghost use Rattle.ts_base.specs.Limits.{too_many};
+ghost use Rattle.ts_model.specs.ModelTexts.{IsInModel, IsPart};
+ghost use Rattle.ts_model.specs.declared.model.Need.TheVariants.{List as Listed};
+ghost use Rattle.ts_checker.specs.Feeding.{EndsIn, HasRoomFor, HasTaken, IsOpened, IsUnrefused, TakesBytes};
+ghost use Rattle.ts_checker.specs.Verified.{IsFailed, IsVerifyEnd, model_part};
 
-use crate::model_text::ModelText;
 use crate::opened_model::OpenedModel;
 use crate::verify_end::VerifyEnd;
 use std::alloc::Global;
 use ts_base::{Memory, first_line};
+use ts_model::{ModelText, Need};
 
 /// What is kept of an input.
 #[derive(Drop)]
@@ -24,18 +27,19 @@ impl Input {
     pub(crate) fn new(alloc: Global) -> Input
         ensures { HasTaken [] result }
     {
-        Input::InModel(ModelText::new(alloc))
+        Input::InModel(ModelText::new(alloc, Need::List))
     }
 
-    /// Takes these bytes.
-    pub(crate) fn take(&mut self, piece: &[u8]) -> Result<(), Memory>
-        requires { (bytes : List ℕ) × HasTaken bytes self.old }
-        ensures { OnOk result (TakesBytes self.old piece.now self.new) }
+    /// Takes these bytes; behind a refusal it wants no memory.
+    pub(crate) fn feed(&mut self, alloc: Global, piece: &[u8]) -> Result<(), Memory>
+        requires { HasRoomFor self.old (length piece.now) }
+        ensures taken { OnOk result (TakesBytes self.old piece.now self.new) }
+        ensures unrefused { OnErr result (IsUnrefused self.old) }
     {
         let mut rest = piece;
         while !rest.is_empty() {
             let (part, left) = first_line(rest);
-            self.take_part(part)?;
+            self.feed_part(alloc, part)?;
             rest = left;
         }
         Ok(())
@@ -52,39 +56,51 @@ impl Input {
     }
 
     /// The end of the input, behind bytes that may be a last line without an LF.
-    pub(crate) fn end(self) -> Result<VerifyEnd, Memory>
-        requires { (bytes : List ℕ) × HasTaken bytes self }
+    pub(crate) fn finish(self, alloc: Global) -> Result<VerifyEnd, Memory>
+        requires { HasRoomFor self 0 }
         ensures { IfOk result (λ end. (bytes : List ℕ) → HasTaken bytes self → IsVerifyEnd bytes end) }
     {
         match self {
-            Input::InModel(text) => text.end()?.end(),
-            Input::Behind(opened) => opened.end(),
+            Input::InModel(text) => ended(alloc, text)?.finish(),
+            Input::Behind(opened) => opened.finish(),
         }
     }
 
     /// Takes bytes of one line, whose last may be its LF.
-    fn take_part(&mut self, part: &[u8]) -> Result<(), Memory>
+    fn feed_part(&mut self, alloc: Global, part: &[u8]) -> Result<(), Memory>
         requires part { IsPart part.now }
-        requires taken { (bytes : List ℕ) × HasTaken bytes self.old }
-        ensures { OnOk result (TakesBytes self.old part.now self.new) }
+        requires room { HasRoomFor self.old (length part.now) }
+        ensures taken { OnOk result (TakesBytes self.old part.now self.new) }
+        ensures unrefused { OnErr result (IsUnrefused self.old) }
+        ensures stays { OnOk result (IsUnrefused self.new → IsUnrefused self.old) }
     {
         let ended = match self {
-            Input::Behind(opened) => return opened.take(part),
-            Input::InModel(text) => text.take(part)?,
+            Input::Behind(opened) => return opened.feed(part),
+            Input::InModel(text) => text.feed(part)?,
         };
-        if ended { self.end_model() } else { Ok(()) }
+        if ended { self.end_model(alloc) } else { Ok(()) }
     }
 
     /// The model's line `%%` has come: what the model gives stands in its place.
-    fn end_model(&mut self) -> Result<(), Memory>
+    fn end_model(&mut self, alloc: Global) -> Result<(), Memory>
         requires { (bytes : List ℕ) × EndsIn bytes self.old }
         ensures { OnOk result ((bytes : List ℕ) → EndsIn bytes self.old → HasTaken bytes self.new) }
     {
         let opened = match self {
-            Input::InModel(text) => text.open()?,
+            Input::InModel(text) => OpenedModel::of(alloc, text.model())?,
             Input::Behind(_) => return Ok(()),
         };
         *self = Input::Behind(opened);
         Ok(())
     }
+}
+
+/// What a model gives whose text has ended with the input.
+fn ended(alloc: Global, text: ModelText) -> Result<OpenedModel, Memory>
+    requires need { text.need ≡ Listed }
+    requires few { (bytes : List ℕ) × IsInModel bytes text × (length bytes < too_many) }
+    ensures { IfOk result (λ opened. (bytes : List ℕ) → IsInModel bytes text → IsOpened (model_part bytes) opened) }
+{
+    let mut text = text;
+    OpenedModel::of(alloc, text.finish())
 }

@@ -1,12 +1,13 @@
 //! A checker at work on the bytes of a certificate.
 
-ghost use Rattle.std.specs.Prelude.{ℕ, ◌≡◌, ◌≤◌, List, [], IfOk, OnOk, None, false, nat_lt};
+ghost use Rattle.std.specs.Prelude.{ℕ, ◌≡◌, ◌+◌, ◌<◌, ◌≤◌, List, [], length, IfOk, OnErr, OnOk, None, false};
+ghost use Rattle.ts_base.specs.Limits.{too_many};
 ghost use Rattle.ts_base.specs.Words.{strict_lines};
+ghost use Rattle.ts_model.specs.ModelTexts.{IsPart};
 ghost use Rattle.ts_model.specs.Promise.{IsWhole, KeepsLimits};
 ghost use Rattle.ts_model.specs.Views.{model_parts};
 ghost use Rattle.ts_model.specs.declared.model.Need.TheVariants.{List as Listed};
-ghost use Rattle.ts_checker.specs.Checking.{Takes};
-ghost use Rattle.ts_checker.specs.Feeding.{HasRead, IsPart, JudgesLine, Reads};
+ghost use Rattle.ts_checker.specs.Feeding.{HasRead, JudgesLine, Reads};
 ghost use Rattle.ts_checker.specs.Verified.{FailsFirst, IsShownBy, ended_lines};
 
 use crate::certificate_line::CertificateLine;
@@ -16,9 +17,6 @@ use std::alloc::Global;
 use ts_base::{Memory, without_lf};
 use ts_compile::compile_model;
 use ts_model::Model;
-
-/// The most lines that are judged.
-const MOST_LINES: u32 = 4_000_000_000;
 
 /// A checker, and what is kept of the line that has no LF yet. After a line that was refused nothing more is kept or
 /// judged.
@@ -44,20 +42,23 @@ impl Judging {
     }
 
     /// Takes bytes of one line, whose last may be its LF.
-    pub(crate) fn take(&mut self, part: &[u8]) -> Result<(), Memory>
+    pub(crate) fn feed(&mut self, part: &[u8]) -> Result<(), Memory>
         requires part { IsPart part.now }
         requires calm { self.old.checker.wanting ≡ false }
+        requires few { (bytes : List ℕ) × HasRead bytes self.old × (length bytes + length part.now < too_many) }
         ensures read { OnOk result (Reads self.old part.now self.new) }
         ensures model { OnOk result (self.new.checker.model ≡ self.old.checker.model) }
         ensures calm { OnOk result (self.new.checker.wanting ≡ false) }
+        ensures going { OnErr result (self.old.checker.reading.stop ≡ None) }
+        ensures stays { OnOk result (self.new.checker.reading.stop ≡ None → self.old.checker.reading.stop ≡ None) }
     {
         if self.checker.refused_line().is_some() {
             return Ok(());
         }
         match without_lf(part) {
-            None => self.line.take(part),
+            None => self.line.feed(part),
             Some(last) => {
-                self.line.take(last)?;
+                self.line.feed(last)?;
                 self.end_line()
             }
         }
@@ -75,14 +76,15 @@ impl Judging {
     }
 
     /// The verdict behind the last byte. A last line without an LF is none of a certificate, whatever it says.
-    pub(crate) fn end(self) -> Result<Verdict, Memory>
-        requires { self.checker.wanting ≡ false }
+    pub(crate) fn finish(self) -> Result<Verdict, Memory>
+        requires calm { self.checker.wanting ≡ false }
+        requires few { (bytes : List ℕ) × HasRead bytes self × (length bytes + 0 < too_many) }
         ensures { IfOk result (λ verdict. (bytes : List ℕ) → HasRead bytes self →
             IsShownBy (strict_lines bytes) self.checker.model verdict) }
     {
         let Judging { mut checker, line } = self;
         if checker.refused_line().is_none() && !line.is_empty() {
-            judge(&mut checker, b"?")?;
+            checker.feed_line(b"?")?;
         }
         Ok(checker.finish())
     }
@@ -91,33 +93,15 @@ impl Judging {
 impl Judging {
     /// The line has its LF.
     fn end_line(&mut self) -> Result<(), Memory>
+        requires { self.old.checker.reading.next ≤ too_many }
         ensures judged { OnOk result (JudgesLine self.old self.new) }
         ensures cleared { OnOk result (self.new.line.bytes.items ≡ []) }
         ensures model { OnOk result (self.new.checker.model ≡ self.old.checker.model) }
         ensures calm { OnOk result (self.new.checker.wanting ≡ false) }
     {
         self.line.end()?;
-        judge(&mut self.checker, &self.line.bytes)?;
+        self.checker.feed_line(&self.line.bytes)?;
         self.line.clear();
         Ok(())
     }
-}
-
-/// Judges the next line.
-fn judge(checker: &mut Checker, text: &[u8]) -> Result<(), Memory>
-    ensures takes { OnOk result (Takes checker.old text.now checker.new) }
-    ensures few { OnOk result (checker.old.reading.next ≤ 4000000000) }
-    ensures calm { OnOk result (checker.new.wanting ≡ false) }
-{
-    if is_past_limit(checker.next_line()) {
-        return Err(Memory);
-    }
-    checker.feed_line(text)
-}
-
-/// A line of this number isn't judged.
-fn is_past_limit(number: u32) -> bool
-    ensures { result ≡ nat_lt 4000000000 number }
-{
-    number > MOST_LINES
 }

@@ -29,7 +29,6 @@ mod input;
 mod judging;
 pub mod laws;
 mod lines;
-mod model_text;
 mod opened_model;
 mod rules;
 mod standing;
@@ -37,11 +36,13 @@ mod subject;
 mod verdict;
 mod verifier;
 mod verify_end;
+mod whole;
 
 pub use checker::Checker;
 pub use verdict::Verdict;
 pub use verifier::Verifier;
 pub use verify_end::VerifyEnd;
+pub use whole::verdict_on;
 
 #[cfg(test)]
 mod tests;

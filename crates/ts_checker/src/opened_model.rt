@@ -1,15 +1,17 @@
 //! What the model in an input of `verify` gives, once its text has ended.
 
-ghost use Rattle.std.specs.Prelude.{ℕ, List, IfOk, OnOk};
+ghost use Rattle.std.specs.Prelude.{ℕ, List, length, Err, IfOk, OnErr, OnOk};
+ghost use Rattle.ts_model.specs.ModelReading.{model_reading};
+ghost use Rattle.ts_model.specs.ModelTexts.{IsPart};
+ghost use Rattle.ts_model.specs.Views.{Reads};
 ghost use Rattle.ts_model.specs.declared.model.Need.TheVariants.{List as Listed};
-ghost use Rattle.ts_model.specs.LineByLine.{HasRead};
-ghost use Rattle.ts_checker.specs.Feeding.{EndsOpened, HasLines, IsCalm, IsOpened, IsPart, OpenedFails, TakesPart};
+ghost use Rattle.ts_checker.specs.Feeding.{EndsOpened, HasFew, IsCalm, IsGoing, IsOpened, OpenedFails, TakesPart};
 
 use crate::judging::Judging;
 use crate::verify_end::VerifyEnd;
 use std::alloc::Global;
 use ts_base::Memory;
-use ts_model::{ModelKind, ModelReader, ModelStop, Need};
+use ts_model::{Model, ModelKind, ModelStop};
 
 /// The refusal of a model, or the judging of certificates for it.
 #[derive(Drop)]
@@ -19,28 +21,30 @@ pub(crate) enum OpenedModel {
 }
 
 impl OpenedModel {
-    /// What the model gives whose lines were read so; where no line came there is no reader.
-    pub(crate) fn of(alloc: Global, reader: Option<ModelReader>) -> Result<OpenedModel, Memory>
-        requires { (text : List ℕ) × HasLines text reader }
-        ensures { IfOk result (λ o. (text : List ℕ) → HasLines text reader → IsOpened text o) }
+    /// What a text gives that was read as this.
+    pub(crate) fn of(alloc: Global, read: Result<Model, ModelStop>) -> Result<OpenedModel, Memory>
+        requires { (text : List ℕ) × Reads read (model_reading Listed text) }
+        ensures { IfOk result (λ o. (text : List ℕ) → Reads read (model_reading Listed text) → IsOpened text o) }
     {
-        match reader_of(alloc, reader)?.finish() {
+        match read {
             Ok(model) => Ok(OpenedModel::Judging(Judging::new(alloc, model)?)),
-            Err(ModelStop::Refused { line, kind }) => Ok(OpenedModel::Refused { line, kind }),
-            Err(ModelStop::Memory) => Err(Memory),
+            Err(stop) => refused(stop),
         }
     }
 
-    /// Takes bytes of one line of the certificate, whose last may be its LF; a refusal stays.
-    pub(crate) fn take(&mut self, part: &[u8]) -> Result<(), Memory>
+    /// Takes bytes of one line of the certificate, whose last may be its LF; a refusal stays, and wants no memory.
+    pub(crate) fn feed(&mut self, part: &[u8]) -> Result<(), Memory>
         requires part { IsPart part.now }
         requires calm { IsCalm self.old }
+        requires few { HasFew self.old (length part.now) }
         ensures taken { OnOk result (TakesPart self.old part.now self.new) }
         ensures calm { OnOk result (IsCalm self.new) }
+        ensures going { OnErr result (IsGoing self.old) }
+        ensures stays { OnOk result (IsGoing self.new → IsGoing self.old) }
     {
         match self {
             OpenedModel::Refused { .. } => Ok(()),
-            OpenedModel::Judging(judging) => judging.take(part),
+            OpenedModel::Judging(judging) => judging.feed(part),
         }
     }
 
@@ -55,23 +59,24 @@ impl OpenedModel {
     }
 
     /// The end of the input.
-    pub(crate) fn end(self) -> Result<VerifyEnd, Memory>
-        requires { IsCalm self }
+    pub(crate) fn finish(self) -> Result<VerifyEnd, Memory>
+        requires calm { IsCalm self }
+        requires few { HasFew self 0 }
         ensures { IfOk result (λ end. EndsOpened self end) }
     {
         match self {
             OpenedModel::Refused { line, kind } => Ok(VerifyEnd::Model { line, kind }),
-            OpenedModel::Judging(judging) => Ok(VerifyEnd::Verdict(judging.end()?)),
+            OpenedModel::Judging(judging) => Ok(VerifyEnd::Verdict(judging.finish()?)),
         }
     }
 }
 
-/// The reader, which is made where no line came.
-fn reader_of(alloc: Global, reader: Option<ModelReader>) -> Result<ModelReader, Memory>
-    ensures { IfOk result (λ r. (text : List ℕ) → HasLines text reader → HasRead Listed text r) }
+/// The refusal of a model, unless memory was wanting.
+fn refused(stop: ModelStop) -> Result<OpenedModel, Memory>
+    ensures { IfOk result (λ o. (text : List ℕ) → Reads (Err stop) (model_reading Listed text) → IsOpened text o) }
 {
-    match reader {
-        Some(reader) => Ok(reader),
-        None => ModelReader::new(alloc, Need::List),
+    match stop {
+        ModelStop::Refused { line, kind } => Ok(OpenedModel::Refused { line, kind }),
+        ModelStop::Memory => Err(Memory),
     }
 }

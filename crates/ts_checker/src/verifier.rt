@@ -1,7 +1,8 @@
 //! An input of `verify`, fed in pieces.
 
-ghost use Rattle.std.specs.Prelude.{ℕ, ◌≡◌, ◌++◌, List, [], IfOk, IsTrue, OnErr, OnOk, false};
-ghost use Rattle.ts_checker.specs.Feeding.{HasFed};
+ghost use Rattle.std.specs.Prelude.{ℕ, ◌≡◌, ◌⊎◌, ◌+◌, ◌<◌, ◌≤◌, ◌++◌, List, [], length, IfOk, IsTrue, OnErr, OnOk, false};
+ghost use Rattle.ts_base.specs.Limits.{too_many};
+ghost use Rattle.ts_checker.specs.Feeding.{HasFed, IsUnrefused};
 ghost use Rattle.ts_checker.specs.Verified.{IsFailed, IsVerifyEnd};
 
 use crate::input::Input;
@@ -15,18 +16,22 @@ use ts_base::Memory;
 /// and a piece. Contracts see what is kept, and whether memory was wanting.
 #[derive(Drop)]
 pub struct Verifier {
+    alloc: Global,
     input: Input,
+    count: usize,
     wanting: bool,
 }
 
 impl std::marker::Model for Verifier {
+    ghost use Rattle.std.specs.Prelude.{◌<◌};
+    ghost use Rattle.ts_base.specs.Limits.{too_many};
     ghost use Rattle.ts_checker.specs.Feeding.{IsReady, Verifying};
 
     ghost Value = { Verifying };
 
-    ghost view = { λ v. record { input = v.input; wanting = v.wanting } };
+    ghost view = { λ v. record { input = v.input; count = v.count; wanting = v.wanting } };
 
-    ghost invariant = { λ v. IsReady v.wanting v.input };
+    ghost invariant = { λ v. IsReady v.wanting v.count v.input × (v.count < too_many) };
 }
 
 impl Verifier {
@@ -34,25 +39,39 @@ impl Verifier {
     pub fn new(alloc: Global) -> Verifier
         ensures fed { HasFed [] result }
         ensures calm { result.wanting ≡ false }
+        ensures none { result.count ≡ 0 }
     {
         Verifier {
+            alloc,
             input: Input::new(alloc),
+            count: 0,
             wanting: false,
         }
     }
 
-    /// Takes more bytes. After `Memory` each further piece is answered `Memory`, and so is the end; it comes too where
-    /// 4,000,000,000 bytes of a line of the model would be kept, where the model has as many lines, or the certificate
-    /// more.
+    /// How many bytes were fed.
+    pub fn count(&self) -> usize
+        ensures count { result ≡ self.now.count }
+        ensures few { result < too_many }
+    {
+        self.count
+    }
+
+    /// Takes more bytes, all together fewer than 4,000,000,000. After `Memory` each further piece is answered `Memory`,
+    /// and so is the end. Behind a refusal nothing more is kept, so `Memory` doesn't come.
     pub fn feed(&mut self, piece: &[u8]) -> Result<(), Memory>
+        requires { self.old.count + length piece.now < too_many }
         ensures fed { OnOk result ((bytes : List ℕ) → HasFed bytes self.old → HasFed (bytes ++ piece.now) self.new) }
         ensures wanted { OnErr result (IsTrue self.new.wanting) }
         ensures calm { OnOk result ((self.old.wanting ≡ false) × (self.new.wanting ≡ false)) }
+        ensures counted { self.new.count ≤ self.old.count + length piece.now }
+        ensures unrefused { OnErr result (IsTrue self.old.wanting ⊎ IsUnrefused self.old.input) }
     {
         if self.wanting {
             return Err(Memory);
         }
-        match self.input.take(piece) {
+        self.count += piece.len();
+        match self.input.feed(self.alloc, piece) {
             Ok(()) => Ok(()),
             Err(Memory) => {
                 self.wanting = true;
@@ -75,10 +94,15 @@ impl Verifier {
         ensures end { IfOk result (λ end. (bytes : List ℕ) → HasFed bytes self → IsVerifyEnd bytes end) }
         ensures calm { IfOk result (λ end. self.wanting ≡ false) }
     {
-        let Verifier { input, wanting } = self;
+        let Verifier {
+            alloc,
+            input,
+            wanting,
+            ..
+        } = self;
         if wanting {
             return Err(Memory);
         }
-        input.end()
+        input.finish(alloc)
     }
 }

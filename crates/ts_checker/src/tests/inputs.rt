@@ -1,6 +1,6 @@
 //! Inputs of `verify` in pieces, how each ends, and which line has failed on the way.
 
-ghost use Rattle.std.specs.Prelude.{◌≡◌, ◌<◌, IfOk, false};
+ghost use Rattle.std.specs.Prelude.{◌≡◌, ◌<◌, IfOk, false, length};
 
 use crate::tests::{peaks, proof};
 use crate::{Verdict, Verifier, VerifyEnd};
@@ -158,20 +158,29 @@ fn long_inputs() -> &'static [(&'static str, &'static str, &'static str, VerifyE
     &LONG
 }
 
+/// Rows have no longer texts, and lists no more rows.
+const MOST: usize = 1_000_000;
+
 /// A verifier that was fed a text in pieces of so many bytes.
 fn fed(alloc: Global, text: &[u8], size: usize) -> Result<Verifier, Memory>
-    requires { 0 < size }
+    requires some { 0 < size }
+    requires few { length text.now < 2000000 }
     ensures { IfOk result (λ v. v.wanting ≡ false) }
 {
     let mut verifier = Verifier::new(alloc);
-    for piece in text.chunks(size) {
+    let mut rest = text;
+    while !rest.is_empty() {
+        let (piece, left) = rest.split_at(size.min(rest.len()));
         verifier.feed(piece)?;
+        rest = left;
     }
     Ok(verifier)
 }
 
 /// The text ends so, wherever it is cut.
-fn ends_so(alloc: Global, text: &[u8], end: VerifyEnd) -> Result<bool, Memory> {
+fn ends_so(alloc: Global, text: &[u8], end: VerifyEnd) -> Result<bool, Memory>
+    requires { length text.now < 2000000 }
+{
     Ok(
         fed(alloc, text, 1)?.finish()? == end
             && fed(alloc, text, 7)?.finish()? == end
@@ -179,7 +188,9 @@ fn ends_so(alloc: Global, text: &[u8], end: VerifyEnd) -> Result<bool, Memory> {
     )
 }
 
-fn fails_so(alloc: Global, text: &[u8], failed: Option<u32>) -> Result<bool, Memory> {
+fn fails_so(alloc: Global, text: &[u8], failed: Option<u32>) -> Result<bool, Memory>
+    requires { length text.now < 2000000 }
+{
     Ok(fed(alloc, text, 7)?.failed() == failed)
 }
 
@@ -188,6 +199,9 @@ fn first_wrong_input(alloc: Global) -> Result<Option<usize>, Memory> {
     let rows = inputs();
     for k in 0..rows.len() {
         let (text, end, failed) = rows[k];
+        if text.len() > MOST {
+            return Ok(Some(k));
+        }
         if !ends_so(alloc, text.as_bytes(), end)? || !fails_so(alloc, text.as_bytes(), failed)? {
             return Ok(Some(k));
         }
@@ -201,6 +215,9 @@ fn first_wrong_feed(alloc: Global) -> Result<Option<usize>, Memory> {
     let mut verifier = Verifier::new(alloc);
     for k in 0..rows.len() {
         let (piece, failed) = rows[k];
+        if k > 1_000 || piece.len() > 1_000 {
+            return Ok(Some(k));
+        }
         verifier.feed(piece.as_bytes())?;
         if verifier.failed() != failed {
             return Ok(Some(k));
@@ -223,6 +240,9 @@ fn filled(alloc: Global, head: &str, word: &str, tail: &str) -> Result<Vec<u8>, 
 fn long_ends_so(alloc: Global, row: &(&str, &str, &str, VerifyEnd)) -> Result<bool, Memory> {
     let (head, word, tail, end) = *row;
     let text = filled(alloc, head, word, tail)?;
+    if text.len() > MOST {
+        return Ok(false);
+    }
     ends_so(alloc, &text, end)
 }
 
@@ -238,7 +258,10 @@ fn first_wrong_long(alloc: Global) -> Result<Option<usize>, Memory> {
 }
 
 /// How a model ends with this certificate behind it.
-fn end_behind(alloc: Global, model: &[u8], certificate: &[u8]) -> Result<VerifyEnd, Memory> {
+fn end_behind(alloc: Global, model: &[u8], certificate: &[u8]) -> Result<VerifyEnd, Memory>
+    requires model { length model.now < 2000000 }
+    requires certificate { length certificate.now < 2000000 }
+{
     let mut verifier = Verifier::new(alloc);
     verifier.feed(model)?;
     verifier.feed(b"%%\n")?;
@@ -247,11 +270,10 @@ fn end_behind(alloc: Global, model: &[u8], certificate: &[u8]) -> Result<VerifyE
 }
 
 /// The first length such that the certificate, cut there, isn't refused at its next line.
-fn first_wrong_cut(
-    alloc: Global,
-    model: &[u8],
-    certificate: &[u8],
-) -> Result<Option<usize>, Memory> {
+fn first_wrong_cut(alloc: Global, model: &[u8], certificate: &[u8]) -> Result<Option<usize>, Memory>
+    requires model { length model.now < 2000000 }
+    requires certificate { length certificate.now < 2000000 }
+{
     let mut line: u32 = 1;
     for length in 0..certificate.len() {
         if end_behind(alloc, model, &certificate[..length])? != VerifyEnd::Verdict(Refused(line)) {
@@ -284,8 +306,10 @@ fn long_lines(rt: HostRuntime) -> Result<(), Fail> {
 
 #[test]
 fn cuts(rt: HostRuntime) -> Result<(), Fail> {
+    let (model, certificate) = (peaks(), proof());
+    assert!(rt; model.len() < MOST && certificate.len() < MOST);
     assert_eq!(rt;
-        first_wrong_cut(rt.alloc(), peaks().as_bytes(), proof().as_bytes())?,
+        first_wrong_cut(rt.alloc(), model.as_bytes(), certificate.as_bytes())?,
         None
     );
     Ok(())

@@ -8,4 +8,4 @@ returns-in-Behind c = λ bytes h.
     behind_failed c.in-Behind.opened c.failed.result c.failed.ensures bytes (subst (HasTaken bytes) c.in-Behind.is h)
 
 pub returns-in-InModel : goal.returns-in-InModel
-returns-in-InModel c = λ bytes h. none_failed bytes c.in-InModel.field-0 (subst (HasTaken bytes) c.in-InModel.is h)
+returns-in-InModel c = λ bytes h. none_failed bytes c.in-InModel.field-0 (subst (HasTaken bytes) c.in-InModel.is h).0
