@@ -13,11 +13,11 @@ use crate::quantity::{Budget, Cells};
 use crate::reply::Reply;
 use crate::sampling::sample_model;
 use crate::status::Status;
-use crate::verify::{verdict_on, verdict_reply};
+use crate::verify::verdict_reply;
 use std::alloc::Global;
 use ts_base::{Ext, Goal, Memory, push_ext, push_number};
 use ts_certificate::{Claim, TreeLine, write_certificate};
-use ts_checker::Checker;
+use ts_checker::{Checker, verdict_on};
 use ts_compile::compile_model;
 use ts_search::solve;
 

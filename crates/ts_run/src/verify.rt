@@ -1,11 +1,7 @@
 //! `verify`: whether a certificate shows what it claims of a model.
 
-ghost use Rattle.std.specs.Prelude.{◌≡◌, ◌<◌, [], IfOk, length};
-ghost use Rattle.ts_base.specs.Limits.{too_many};
-ghost use Rattle.ts_base.specs.Words.{strict_lines};
-ghost use Rattle.ts_checker.specs.Checking.{HasChecked};
+ghost use Rattle.std.specs.Prelude.{◌≡◌, [], IfOk};
 ghost use Rattle.ts_checker.specs.Feeding.{HasFed};
-ghost use Rattle.ts_checker.specs.Verified.{IsShownBy};
 ghost use Rattle.ts_run.specs.AnswerTexts.{end_reply};
 ghost use Rattle.ts_run.specs.Reply.{ComesOfInput, reply_of};
 ghost use Rattle.ts_run.specs.Verified.{line_reply, verdict_reply};
@@ -17,8 +13,9 @@ use crate::refusal::refused_model;
 use crate::reply::Reply;
 use crate::status::Status;
 use std::alloc::Global;
-use ts_base::{Intake, Memory, first_line, push_number};
-use ts_checker::{Checker, Verdict, Verifier, VerifyEnd};
+use ts_base::limits::TOO_MANY;
+use ts_base::{Intake, Memory, push_number};
+use ts_checker::{Verdict, Verifier, VerifyEnd};
 
 /// Takes the input of `verify`, and keeps no bytes but those of a model or a line that hasn't ended.
 #[derive(Drop)]
@@ -37,6 +34,10 @@ impl Intake for Verifying {
     ghost took = { λ bytes v. HasFed bytes v.0 };
 
     fn take(&mut self, piece: &[u8]) -> Result<(), Memory> {
+        // the limit of an input keeps this from coming
+        if piece.len() >= TOO_MANY as usize - self.0.count() {
+            return Err(Memory);
+        }
         self.0.feed(piece)
     }
 }
@@ -59,22 +60,6 @@ fn end_reply(alloc: Global, end: VerifyEnd) -> Result<Reply, Memory>
         VerifyEnd::Model { line, kind } => refused_model(alloc, line, kind),
         VerifyEnd::Verdict(verdict) => verdict_reply(alloc, verdict),
     }
-}
-
-/// The verdict of a checker that was fed no line on the lines of this text.
-pub fn verdict_on(checker: Checker, text: &[u8]) -> Result<Verdict, Memory>
-    requires few { length text.now < too_many }
-    requires unfed { HasChecked [] checker }
-    ensures { IfOk result (λ verdict. IsShownBy (strict_lines text.now) checker.model verdict) }
-{
-    let mut checker = checker;
-    let mut rest = text;
-    while !rest.is_empty() {
-        let (line, left) = first_line(rest);
-        checker.feed_line(line)?;
-        rest = left;
-    }
-    Ok(checker.finish())
 }
 
 /// The verdict in words.
