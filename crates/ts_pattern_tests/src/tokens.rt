@@ -1,8 +1,11 @@
 //! Texts with their words and parts, and words with their numbers, worked out by hand.
 
+ghost use Rattle.std.specs.Prelude.{◌<◌, [], length};
+ghost use Rattle.ts_token.specs.Short.{IsShort};
+
 use std::process::Abort;
 use std::test::Fail;
-use ts_base::Ext;
+use ts_base::{Ext, Memory};
 use ts_token::{
     Content, Parts, ShortLine, Tokens, cut_parts, cut_tokens, ext_of, line_content, number,
 };
@@ -250,19 +253,29 @@ fn texts_and_numbers(rt: HostRuntime) -> Result<(), Fail> {
     Ok(())
 }
 
+/// Gives the line in two parts, and tells whether `%%` is its only word.
+fn feed_halves(short: &mut ShortLine, line: &[u8]) -> Result<bool, Memory>
+    requires none { IsShort [] short.old }
+    requires few { length line.now < 1000 }
+{
+    let (front, back) = line.split_at(line.len() / 2);
+    short.feed(front)?;
+    short.feed(back)?;
+    Ok(short.is_separator())
+}
+
 #[test]
 fn single_lines(rt: HostRuntime) -> Result<(), Fail> {
     let alloc = rt.alloc();
     let mut short = ShortLine::new(alloc);
     for (line, kept, separator) in short_lines() {
+        assert!(rt; line.len() < 1000);
         short.clear();
         assert!(rt; short.is_empty());
-        let (front, back) = line.as_bytes().split_at(line.len() / 2);
-        short.push(front)?;
-        short.push(back)?;
+        let found = feed_halves(&mut short, line.as_bytes())?;
         assert_eq!(rt; short.bytes(), kept.as_bytes(), "of {line:?}");
         assert_eq!(rt; short.is_empty(), line.is_empty(), "of {line:?}");
-        assert_eq!(rt; short.is_separator(), *separator, "of {line:?}");
+        assert_eq!(rt; found, *separator, "of {line:?}");
     }
     for (line, want) in contents() {
         assert!(rt; line.len() < 1000);

@@ -3,7 +3,8 @@
 //! A table is one literal of rows: what is told, a `|`, and the text of which it is told, in which `/` stands for LF. A
 //! row without `|` is a heading.
 
-ghost use Rattle.std.specs.Prelude.{◌<◌, length};
+ghost use Rattle.std.specs.Prelude.{◌+◌, ◌<◌, ◌≤◌, length};
+ghost use Rattle.ts_model.specs.LineByLine.{HasRoom, lines_read};
 
 use std::alloc::{AllocError, Global};
 use std::process::Abort;
@@ -99,7 +100,9 @@ fn read_by_lines(
     need: Need,
     text: &[u8],
     shortened: bool,
-) -> Result<Model, ModelStop> {
+) -> Result<Model, ModelStop>
+    requires { length text.now < 10000 }
+{
     let mut reader = ModelReader::new(alloc, need)?;
     let mut rest = text;
     while !rest.is_empty() {
@@ -115,11 +118,15 @@ fn read_line(
     reader: &mut ModelReader,
     line: &[u8],
     shortened: bool,
-) -> Result<(), Memory> {
+) -> Result<(), Memory>
+    requires room { HasRoom reader.old }
+    requires short { length line.now < 10000 }
+    ensures { lines_read reader.new ≤ lines_read reader.old + 1 }
+{
     if !shortened {
         return reader.line(line);
     }
     let mut kept = ShortLine::new(alloc);
-    kept.push(line)?;
+    kept.feed(line)?;
     reader.line(kept.bytes())
 }
