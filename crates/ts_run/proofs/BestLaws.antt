@@ -21,7 +21,8 @@ use Rattle.ts_search.specs.Listed.{IsListedBy}
 use Rattle.ts_search.specs.Solved.{IsSolvedBy}
 use Rattle.ts_search.proofs.Closing.{budget_is_enough, list_budget_is_enough, one_listed, one_solved}
 use Rattle.ts_search.proofs.OfProgram.{are_right}
-use Rattle.ts_run.specs.AnswerTexts.{BestReply, ListReply, OneBestReply, OneListReply, OnReading}
+use Rattle.ts_run.specs.AnswerTexts.{BestReply, ListReply, OneBestReply, OneListReply}
+use Rattle.ts_run.specs.Refusals.{OnReading}
 use Rattle.ts_run.specs.Certified.{IsBest, IsListing, IsWritten, claim_status}
 use Rattle.ts_run.specs.Headline.{SaysBest, SaysList}
 use Rattle.ts_run.specs.Quantities.{IsWithin}

@@ -6,11 +6,13 @@ use Rattle.ts_model.specs.declared.error.SeriesStop.{SeriesStop}
 use Rattle.ts_model.specs.declared.error.SeriesStop.TheVariants.{Shape as NoSeries, Number as NoNumber, Length, Memory as NoMemory}
 use Rattle.ts_token.specs.Text.{cut_of}
 use Rattle.ts_model.specs.Judgement.{is_met}
-use Rattle.ts_model.specs.Meets.{Meets}
 use Rattle.ts_model.specs.ModelParts.{ModelParts}
+use Rattle.ts_model.specs.ModelReading.{model_reading}
+use Rattle.ts_model.specs.declared.model.Need.TheVariants.{Values}
 use Rattle.ts_model.proofs.MeetsLaw.{judged_is_met}
-use Rattle.ts_checker.specs.Verified.{rest_part}
-use Rattle.ts_run.specs.AnswerTexts.{CheckReply, DoneIsMeets, IsAsked, OneCheckReply, OnReading, OnSeries, SeriesReply, series_in}
+use Rattle.ts_checker.specs.Verified.{model_part, rest_part}
+use Rattle.ts_run.specs.AnswerTexts.{CheckReply, DoneIsMeets, IsAsked, OneCheckReply, SeriesReply, series_in}
+use Rattle.ts_run.specs.Refusals.{OnReading, OnSeries}
 use Rattle.ts_run.specs.Headline.{SaysMeets}
 use Rattle.ts_run.specs.Reply.{Reply}
 use Rattle.ts_run.specs.Verdict.{verdict, with_head}
@@ -25,17 +27,17 @@ pub one_reading_reply : (reading : Result ModelParts (ℕ × ModelKind)) (next :
 one_reading_reply (Ok m) next only r s h k = only m r s h k
 one_reading_reply (Err bad) next only r s h k = h ∙ sym k
 
-one_series_reply : (reading : Result (List ℤ) SeriesStop) (m : ModelParts) (r s : Reply) → OnSeries reading (λ xs x. x ≡ verdict m xs) r →
-    OnSeries reading (λ xs x. x ≡ verdict m xs) s → r ≡ s
-one_series_reply (Ok xs) m r s h k = h ∙ sym k
-one_series_reply (Err NoSeries) m r s h k = h ∙ sym k
-one_series_reply (Err NoNumber) m r s h k = h ∙ sym k
-one_series_reply (Err Length) m r s h k = h ∙ sym k
-one_series_reply (Err NoMemory) m r s h k = absurd h
+pub one_series_reply : (reading : Result (List ℤ) SeriesStop) (answer : List ℤ → Reply) (r s : Reply) → OnSeries reading (λ xs x. x ≡ answer xs) r →
+    OnSeries reading (λ xs x. x ≡ answer xs) s → r ≡ s
+one_series_reply (Ok xs) answer r s h k = h ∙ sym k
+one_series_reply (Err NoSeries) answer r s h k = h ∙ sym k
+one_series_reply (Err NoNumber) answer r s h k = h ∙ sym k
+one_series_reply (Err Length) answer r s h k = h ∙ sym k
+one_series_reply (Err NoMemory) answer r s h k = absurd h
 
 pub one_check_reply : OneCheckReply
 one_check_reply bytes r s h k =
-    one_reading_reply _ (SeriesReply (rest_part bytes)) (λ m x y p q. one_series_reply (series_in m (rest_part bytes)) m x y p q) r s h k
+    one_reading_reply _ (SeriesReply (rest_part bytes)) (λ m x y p q. one_series_reply (series_in m (rest_part bytes)) (verdict m) x y p q) r s h k
 
 -- the status
 
@@ -77,3 +79,19 @@ says_meets bytes m xs r asked h =
       meets = done;
       fails = (λ e w. let both : No ≡ Done = sym e ∙ done.1 w in cc, λ f. same ∙ false_no (is_met m xs) (λ t. f (law.0 t)));
     }
+
+-- the reply to a model and what is read as its series
+series_says : (bytes : List ℕ) (m : ModelParts) (r : Reply) → model_reading Values (model_part bytes) ≡ Ok m → CheckReply bytes r →
+    (reading : Result (List ℤ) SeriesStop) → series_in m (rest_part bytes) ≡ reading → OnSeries reading (λ xs s. s ≡ verdict m xs) r →
+    OnSeries reading (SaysMeets m) r
+series_says bytes m r states h (Ok xs) is given = says_meets bytes m xs r (record { model = states; series = is }) h
+series_says bytes m r states h (Err NoSeries) is given = given
+series_says bytes m r states h (Err NoNumber) is given = given
+series_says bytes m r states h (Err Length) is given = given
+series_says bytes m r states h (Err NoMemory) is given = given
+
+pub says_checked : (bytes : List ℕ) (m : ModelParts) (r : Reply) → model_reading Values (model_part bytes) ≡ Ok m → CheckReply bytes r →
+    OnSeries (series_in m (rest_part bytes)) (SaysMeets m) r
+says_checked bytes m r states h =
+    series_says bytes m r states h (series_in m (rest_part bytes)) refl
+    (subst (λ (x : Result ModelParts (ℕ × ModelKind)). OnReading x (SeriesReply (rest_part bytes)) r) states h)

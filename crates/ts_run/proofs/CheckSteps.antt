@@ -13,7 +13,8 @@ use Rattle.ts_model.specs.Series.{series_reading}
 use Rattle.ts_model.specs.ModelParts.{ModelParts}
 use Rattle.ts_base.specs.declared.ext.Ext.{Ext}
 use Rattle.ts_checker.specs.Verified.{model_part, rest_part}
-use Rattle.ts_run.specs.AnswerTexts.{CheckReply, OnReading, OnSeries, SeriesReply}
+use Rattle.ts_run.specs.AnswerTexts.{CheckReply, SeriesReply}
+use Rattle.ts_run.specs.Refusals.{OnReading, OnSeries}
 use Rattle.ts_run.specs.Replies.{Gives, NoMore, StopsWith}
 use Rattle.ts_run.specs.Reply.{Reply}
 use Rattle.ts_run.specs.Verdict.{names_of, verdict, verdict_of}

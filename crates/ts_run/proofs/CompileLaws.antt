@@ -15,7 +15,8 @@ use Rattle.ts_model.specs.ModelParts.{ModelParts}
 use Rattle.ts_model.specs.Views.{parts_of, term_of}
 use Rattle.ts_compile.specs.Compiled.{machine_body, machine_pair}
 use Rattle.ts_compile.specs.ProgramText.{part_text, program_text}
-use Rattle.ts_run.specs.AnswerTexts.{OneCompileReply, OnReading, ProgramReply}
+use Rattle.ts_run.specs.AnswerTexts.{OneCompileReply, ProgramReply}
+use Rattle.ts_run.specs.Refusals.{OnReading}
 use Rattle.ts_run.specs.CompiledValue.{HasParts, IsCompiled, IsProgramText}
 use Rattle.ts_run.specs.Headline.{SaysProgram}
 use Rattle.ts_run.specs.Reply.{Reply}

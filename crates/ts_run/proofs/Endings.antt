@@ -4,7 +4,7 @@ use Rattle.std.specs.Prelude.{IfSome}
 use Rattle.std.proofs.lemmas.List.{length-replicate}
 use Rattle.ts_base.specs.Outside.{AtEnd, GaveAtMost, HasMoreThan, put_back}
 use Rattle.ts_base.proofs.Pieces.{gave_bytes}
-use Rattle.ts_run.specs.AnswerTexts.{refused_length}
+use Rattle.ts_run.specs.Refusals.{refused_length}
 use Rattle.ts_run.specs.Endings.{OfBytes, RepliesWithin, Responds, WholeEnds, WholeTakes}
 use Rattle.ts_run.specs.Reply.{ComesOfInput, Ends, EndsWritten, Reply}
 use Rattle.ts_run.specs.declared.status.Status.{Status}

@@ -7,19 +7,21 @@ use Rattle.ts_model.specs.declared.model.Need.TheVariants.{Values, List as Needs
 use Rattle.ts_model.specs.ModelParts.{ModelParts}
 use Rattle.ts_model.specs.ModelReading.{model_reading}
 use Rattle.ts_checker.specs.Verified.{certificate_lines, model_part, rest_part}
-use Rattle.ts_run.specs.AnswerTexts.{IsReply, OnReading, ProgramReply, SeriesReply, refused_model}
+use Rattle.ts_run.specs.AnswerTexts.{IsReply, ProgramReply, SeriesReply}
+use Rattle.ts_run.specs.Refusals.{OnReading, refused_model}
 use Rattle.ts_run.specs.Certified.{IsBest, IsListing}
 use Rattle.ts_run.specs.Commands.{KeepsRanges, input_of}
 use Rattle.ts_run.specs.Headline.{Headline, SaysProgram, States, reading_of}
 use Rattle.ts_run.specs.Reply.{Reply}
 use Rattle.ts_run.specs.Verified.{IsVerified}
 use Rattle.ts_run.specs.declared.command.Command.{Command}
-use Rattle.ts_run.specs.declared.command.Command.TheVariants.{Check, Compile, Verify, Best, Generate, Sample}
+use Rattle.ts_run.specs.declared.command.Command.TheVariants.{Check, Compile, Verify, Best, Generate, Sample, Mark}
 use Rattle.ts_run.specs.declared.command.Input.{Input}
 use Rattle.ts_run.specs.declared.command.Input.TheVariants.{Whole, Nothing}
 use Rattle.ts_run.proofs.BestLaws.{says_best, says_list}
-use Rattle.ts_run.proofs.CheckLaws.{says_meets}
+use Rattle.ts_run.proofs.CheckLaws.{says_checked}
 use Rattle.ts_run.proofs.CompileLaws.{says_program}
+use Rattle.ts_run.proofs.MarkLaws.{says_marks}
 use Rattle.ts_run.proofs.SampleLaws.{says_sample}
 use Rattle.ts_run.proofs.VerifyLaws.{says_verdict}
 
@@ -42,6 +44,7 @@ module _ (line : ℕ) (kind : ModelKind) (r : Reply) where
   is_refused (Best goal lines) bytes h e = refused (IsBest goal lines) (model_reading NeedsBest bytes) e h
   is_refused (Generate count lines) bytes h e = refused (IsListing count lines) (model_reading NeedsList bytes) e h
   is_refused (Sample cells) bytes h e = absurd (cc)
+  is_refused Mark bytes h e = absurd (cc)
 
 compiled : (bytes : List ℕ) (m : ModelParts) (r : Reply) → States Compile bytes m → IsReply Compile bytes r → SaysProgram m r
 compiled bytes m r states h =
@@ -64,7 +67,10 @@ module _ (command : Command) (bytes : List ℕ) (r : Reply) (ranges : KeepsRange
   pub headline : Headline command bytes r
   headline = record {
     refuses = λ line kind e. is_refused line kind r command bytes is e;
-    checks = λ e m xs asked. says_meets bytes m xs r asked (reply_as Check e);
+    checks = λ m e states.
+        let here : States Check bytes m = states_as Check e m states in
+        let read : model_reading Values (model_part bytes) ≡ Ok m = cc in
+        says_checked bytes m r read (reply_as Check e);
     solves = λ goal lines m e states.
         let other = Best goal lines in
         let here : States other bytes m = states_as other e m states in
@@ -79,5 +85,6 @@ module _ (command : Command) (bytes : List ℕ) (r : Reply) (ranges : KeepsRange
     verifies = λ e. let few : length bytes ≤ 135266304 = fits_as Verify e in says_verdict bytes r (omega (arith, few)) (reply_as Verify e);
     compiles = λ m e states. compiled bytes m r (states_as Compile e m states) (reply_as Compile e);
     samples = λ cells e. says_sample cells r (reply_as (Sample cells) e);
+    marks = λ e. says_marks bytes r (reply_as Mark e);
     reply = is;
   }

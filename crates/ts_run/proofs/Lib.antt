@@ -5,11 +5,14 @@ mod Entries
 mod Inputs
 mod JoinedText
 mod Headlines
+mod MarkLaws
+mod MarkSteps
 mod SampleCounts
 mod SampleLaws
 mod SampleMeets
 mod SampleModelLaws
 mod SampleSums
+mod SeriesSteps
 mod Steps
 mod Ranges
 mod CheckLaws

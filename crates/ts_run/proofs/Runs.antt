@@ -2,7 +2,8 @@
 use Rattle.std.proofs.Common.{◌≡◌, ℕ, ◌≤◌, inl, inr, Option, Some, None, List, [], length, refl, sym, ◌∙◌, ap, subst, arith}
 use Rattle.std.specs.Prelude.{IfSome, IsSome}
 use Rattle.ts_base.specs.Outside.{Rose}
-use Rattle.ts_run.specs.AnswerTexts.{IsReply, fault_read, refused_words}
+use Rattle.ts_run.specs.AnswerTexts.{IsReply}
+use Rattle.ts_run.specs.Refusals.{fault_read, refused_words}
 use Rattle.ts_run.specs.Commands.{KeepsRanges, input_of}
 use Rattle.ts_run.specs.Endings.{CallEnds, CallTakes, InputEnds, InputTakes, OfBytes, RepliesWithin, Responds, RunEnds, SinkTells, SourceTells, WholeEnds, WholeTakes}
 use Rattle.ts_run.specs.Headline.{Headline}

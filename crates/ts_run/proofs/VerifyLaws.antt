@@ -9,16 +9,18 @@ use Rattle.ts_model.specs.ModelReading.{model_reading}
 use Rattle.ts_model.specs.ModelParts.{ModelParts}
 use Rattle.ts_filter.specs.Accepts.{Accepts}
 use Rattle.ts_filter.specs.Holds.{Holds}
+use Rattle.ts_filter.specs.Lines.{IsFirstFailing}
 use Rattle.ts_checker.specs.declared.verdict.Verdict.{Verdict}
 use Rattle.ts_checker.specs.declared.verdict.Verdict.TheVariants.{Accepted, Rejected, Refused as RefusedAt}
 use Rattle.ts_spans.specs.Machines.{spans_in}
-use Rattle.ts_checker.specs.Verdicts.{IsVerdict}
+use Rattle.ts_checker.specs.Verdicts.{IsRefused, IsVerdict}
 use Rattle.ts_checker.specs.Verified.{certificate_lines, model_part, rest_part}
 use Rattle.ts_checker.proofs.Verdicts.{one_of, one_verdict}
-use Rattle.ts_run.specs.AnswerTexts.{DoneIsAccepted, IsOffered, OnReading, OneVerifyReply, VerifyReply}
+use Rattle.ts_run.specs.AnswerTexts.{DoneIsAccepted, IsOffered, OneVerifyReply, VerifyReply}
+use Rattle.ts_run.specs.Refusals.{OnReading}
 use Rattle.ts_run.specs.Headline.{IsShown, SaysVerdict}
 use Rattle.ts_run.specs.Reply.{Reply}
-use Rattle.ts_run.specs.Verified.{IsVerified, verdict_reply}
+use Rattle.ts_run.specs.Verified.{IsVerified, refused_certificate, rejected_certificate, verdict_reply}
 use Rattle.ts_run.specs.declared.status.Status.TheVariants.{Done, No, Refused}
 use Rattle.ts_run.proofs.CheckLaws.{one_reading_reply}
 use Rattle.ts_run.proofs.Inputs.{parts_within}
@@ -100,8 +102,24 @@ shown_by bytes r few h e =
       holds = subst (λ z. Holds d.model z) (one_of texts (few_lines bytes few) t.0 a.0 t.1 a.1) t.2;
     }
 
+rejected_given : (bytes : List ℕ) (r : Reply) → length bytes < 2 ^ 62 → VerifyReply bytes r → (m : ModelParts) (c : Cert) (line : ℕ) → IsOffered bytes m c →
+    IsFirstFailing m (spans_in m) c line → r ≡ rejected_certificate line
+rejected_given bytes r few h m c line offered failing =
+    let v = verified_given bytes m c r offered h in
+    v.reply ∙ ap verdict_reply (one_verdict m (certificate_lines bytes) v.verdict (Rejected line) (few_lines bytes few) v.shown.is
+    (c, offered.certificate, failing))
+
+refused_given : (bytes : List ℕ) (r : Reply) → length bytes < 2 ^ 62 → VerifyReply bytes r → (m : ModelParts) (line : ℕ) →
+    model_reading Listed (model_part bytes) ≡ Ok m → IsRefused (certificate_lines bytes) line → r ≡ refused_certificate line
+refused_given bytes r few h m line states against =
+    let v = subst (λ (x : Result ModelParts (ℕ × ModelKind)). OnReading x (IsVerified (certificate_lines bytes)) r) states h in
+    v.reply ∙ ap verdict_reply (one_verdict m (certificate_lines bytes) v.verdict (RefusedAt line) (few_lines bytes few) v.shown.is against)
+
 pub says_verdict : (bytes : List ℕ) (r : Reply) → length bytes < 2 ^ 62 → VerifyReply bytes r → SaysVerdict bytes r
 says_verdict bytes r few h = record {
   shown = λ e. shown_by bytes r few h e;
   exact = λ m c offered. done_is_accepted bytes m c r few offered h;
+  rejects = λ m c line offered failing. rejected_given bytes r few h m c line offered failing;
+  refuses = λ m line states against.
+      let read : model_reading Listed (model_part bytes) ≡ Ok m = cc in refused_given bytes r few h m line read against;
 }

@@ -8,7 +8,8 @@ use Rattle.ts_checker.specs.declared.verify_end.VerifyEnd.{VerifyEnd}
 use Rattle.ts_checker.specs.declared.verify_end.VerifyEnd.TheVariants.{Model, Verdict as Judged}
 use Rattle.ts_checker.specs.Feeding.{HasFed, Verifying}
 use Rattle.ts_checker.specs.Verified.{IsVerifyEnd, certificate_lines, model_part}
-use Rattle.ts_run.specs.AnswerTexts.{IsReply, OnReading, VerifyReply, end_reply}
+use Rattle.ts_run.specs.AnswerTexts.{IsReply, VerifyReply, end_reply}
+use Rattle.ts_run.specs.Refusals.{OnReading}
 use Rattle.ts_run.specs.Reply.{Reply, reply_of}
 use Rattle.ts_run.specs.Verified.{IsVerified}
 use Rattle.ts_run.specs.declared.command.Command.{Command}

@@ -1,16 +1,10 @@
 -- What each command replies to the bytes of its input.
-use Rattle.std.specs.Prelude.{ℕ, ◌≡◌, ◌<◌, ◌^◌, ◌↔◌, ℤ, List, ◌++◌, length, codes, Result, Ok, Err}
-use Rattle.std.specs.Fmt.{decimal}
+use Rattle.std.specs.Prelude.{ℕ, ◌≡◌, ◌<◌, ◌^◌, ◌↔◌, ℤ, List, length, Result, Ok}
 use Rattle.ts_certificate.specs.Certificate.{Cert}
 use Rattle.ts_token.specs.Text.{cut_of}
-use Rattle.ts_model.specs.declared.error.ModelKind.{ModelKind}
-use Rattle.ts_model.specs.declared.error.ModelKind.TheVariants.{NotText, UnknownLine, Shape, Number, NoCells, CellsTwice, CellRange, Empty, UnknownName, BadPair, UnknownTerm, TermTwice, ObjectiveTwice, Limit, NoObjective}
 use Rattle.ts_model.specs.declared.error.SeriesStop.{SeriesStop}
-use Rattle.ts_model.specs.declared.error.SeriesStop.TheVariants.{Shape as NoSeries, Number as NoNumber, Length, Memory as NoMemory}
-use Rattle.ts_model.specs.declared.model.Need.{Need}
 use Rattle.ts_model.specs.declared.model.Need.TheVariants.{Values, List as NeedsList, Best as NeedsBest}
 use Rattle.ts_base.specs.declared.goal.Goal.{Goal}
-use Rattle.ts_base.specs.Text.{line}
 use Rattle.ts_model.specs.Meets.{Meets}
 use Rattle.ts_model.specs.ModelReading.{model_reading}
 use Rattle.ts_model.specs.Series.{series_reading}
@@ -23,66 +17,15 @@ use Rattle.ts_checker.specs.Verdicts.{AreOf}
 use Rattle.ts_checker.specs.Verified.{certificate_lines, model_part, rest_part}
 use Rattle.ts_run.specs.Certified.{IsBest, IsListing}
 use Rattle.ts_run.specs.CompiledValue.{IsProgramText}
+use Rattle.ts_run.specs.MarkReply.{MarkReply}
+use Rattle.ts_run.specs.Refusals.{OnModel, OnSeries, refused_model}
 use Rattle.ts_run.specs.Reply.{Reply}
 use Rattle.ts_run.specs.Sample.{SampleReply}
 use Rattle.ts_run.specs.Verdict.{verdict}
 use Rattle.ts_run.specs.Verified.{IsVerified, verdict_reply}
 use Rattle.ts_run.specs.declared.command.Command.{Command}
-use Rattle.ts_run.specs.declared.command.Command.TheVariants.{Check, Compile, Verify, Best, Generate, Sample}
-use Rattle.ts_run.specs.declared.status.Status.TheVariants.{Done, Refused, ReadFault}
-
-abbrev pub refused_words : Reply
-refused_words = record { text = codes "refused words\n"; status = Refused }
-
-abbrev pub fault_read : Reply
-fault_read = record { text = codes "fault read\n"; status = ReadFault }
-
-abbrev pub refused_length : Reply
-refused_length = record { text = codes "refused length\n"; status = Refused }
-
--- the kind of a bad line, as it is printed
-abbrev pub kind_word : ModelKind → List ℕ
-kind_word NotText = codes "nottext"
-kind_word UnknownLine = codes "unknownline"
-kind_word Shape = codes "shape"
-kind_word Number = codes "number"
-kind_word NoCells = codes "nocells"
-kind_word CellsTwice = codes "cellstwice"
-kind_word CellRange = codes "cellrange"
-kind_word Empty = codes "empty"
-kind_word UnknownName = codes "unknownname"
-kind_word BadPair = codes "badpair"
-kind_word UnknownTerm = codes "unknownterm"
-kind_word TermTwice = codes "termtwice"
-kind_word ObjectiveTwice = codes "objectivetwice"
-kind_word Limit = codes "limit"
-kind_word NoObjective = codes "noobjective"
-
-abbrev pub refused_model : ℕ → ModelKind → Reply
-refused_model number kind = record {
-  text = line (codes "refused model line " ++ decimal number ++ codes " " ++ kind_word kind);
-  status = Refused;
-}
-
-abbrev pub refused_series : List ℕ → Reply
-refused_series word = record { text = line (codes "refused series " ++ word); status = Refused }
-
--- a text that was read so is refused, or the reply is one to the model that it states
-abbrev pub OnReading : Result ModelParts (ℕ × ModelKind) → (ModelParts → Reply → Type 0) → Reply → Type 0
-OnReading (Err bad) next r = r ≡ refused_model bad.0 bad.1
-OnReading (Ok m) next r = next m r
-
--- the refusal of the model in the text, in the limits of the need, or on with it
-abbrev pub OnModel : Need → List ℕ → (ModelParts → Reply → Type 0) → Reply → Type 0
-OnModel need text next r = OnReading (model_reading need text) next r
-
--- the refusal of a series, or on with it; no reading is want of memory
-abbrev pub OnSeries : Result (List ℤ) SeriesStop → (List ℤ → Reply → Type 0) → Reply → Type 0
-OnSeries (Ok xs) next r = next xs r
-OnSeries (Err NoSeries) next r = r ≡ refused_series (codes "shape")
-OnSeries (Err NoNumber) next r = r ≡ refused_series (codes "number")
-OnSeries (Err Length) next r = r ≡ refused_series (codes "length")
-OnSeries (Err NoMemory) next r = ⊥
+use Rattle.ts_run.specs.declared.command.Command.TheVariants.{Check, Compile, Verify, Best, Generate, Sample, Mark}
+use Rattle.ts_run.specs.declared.status.Status.TheVariants.{Done}
 
 -- the series in a text, as many numbers as the model has cells
 abbrev pub series_in : ModelParts → List ℕ → Result (List ℤ) SeriesStop
@@ -129,6 +72,7 @@ IsReply Verify bytes r = VerifyReply bytes r
 IsReply (Best goal lines) bytes r = BestReply goal lines bytes r
 IsReply (Generate count lines) bytes r = ListReply count lines bytes r
 IsReply (Sample cells) bytes r = SampleReply cells r
+IsReply Mark bytes r = MarkReply bytes r
 
 -- an input of `check` states this model and this series
 pub record IsAsked (bytes : List ℕ) (m : ModelParts) (xs : List ℤ) : Type 0 where

@@ -7,7 +7,7 @@ use Rattle.ts_base.specs.Limits.{most_cells, most_check_bytes, most_checked, mos
 use Rattle.ts_base.specs.Limits.{most_verify_bytes, too_many}
 use Rattle.ts_run.specs.Quantities.{IsWithin, number_within, usual_lines}
 use Rattle.ts_run.specs.declared.command.Command.{Command}
-use Rattle.ts_run.specs.declared.command.Command.TheVariants.{Check, Compile, Verify, Best, Generate, Sample}
+use Rattle.ts_run.specs.declared.command.Command.TheVariants.{Check, Compile, Verify, Best, Generate, Sample, Mark}
 use Rattle.ts_run.specs.declared.command.Input.{Input}
 use Rattle.ts_run.specs.declared.command.Input.TheVariants.{Whole, Nothing}
 
@@ -53,7 +53,8 @@ command_of (word ∷ words) =
     else (if bytes_eq word (codes "generate") then generate_of words
     else (if bytes_eq word (codes "verify") then if_alone Verify words
     else (if bytes_eq word (codes "sample") then sample_of words
-    else None))))))
+    else (if bytes_eq word (codes "mark") then if_alone Mark words
+    else None)))))))
 
 -- how a command takes its input: the whole, so many bytes at most, or nothing of it
 abbrev pub input_of : Command → Input
@@ -63,6 +64,7 @@ input_of Verify = Whole most_verify_bytes
 input_of (Best goal lines) = Whole most_model_bytes
 input_of (Generate count lines) = Whole most_model_bytes
 input_of (Sample cells) = Nothing
+input_of Mark = Whole most_check_bytes
 
 -- the limit of an input is below that of every call that takes a text
 abbrev pub IsShort : Input → Type 0

@@ -1,7 +1,7 @@
 -- How a call ends, by its words: what was written, what was read, and that each fault was counted.
 use Rattle.std.specs.Prelude.{ℕ, ◌≡◌, ◌<◌, ◌≤◌, ◌+◌, ◌⊎◌, Bool, IsSome, List, [], length, Option, Some, None}
 use Rattle.ts_base.specs.Outside.{AtEnd, GaveAtMost, HasMoreThan, Rose, left_after}
-use Rattle.ts_run.specs.AnswerTexts.{fault_read, refused_length, refused_words}
+use Rattle.ts_run.specs.Refusals.{fault_read, refused_length, refused_words}
 use Rattle.ts_run.specs.Commands.{input_of}
 use Rattle.ts_run.specs.Headline.{Headline}
 use Rattle.ts_run.specs.Reply.{ComesOfInput, Ends, EndsWith, Reply}

@@ -1,8 +1,14 @@
 -- The theorem: what each command answers to the bytes of its input. `run` writes such an answer and no other
 -- (`Endings`), unless memory is wanting, or reading or writing fails. The words mean what their definitions say: a series
 -- meets a model (`Meets`) by occurrences, ranges and plain sums alone.
-use Rattle.std.specs.Prelude.{ℕ, ◌≡◌, ◌<◌, ◌≤◌, ◌+◌, ◌*◌, ◌↔◌, ℤ, List, [], ◌∷◌, Result, Ok, Err, Option, Some, None}
+use Rattle.std.specs.Prelude.{ℕ, ◌≡◌, ◌<◌, ◌≤◌, ◌+◌, ◌*◌, ◌↔◌, ℤ, List, [], ◌∷◌, length}
+use Rattle.std.specs.Prelude.{Option, Some, None, Result, Ok, Err}
 use Rattle.ts_base.specs.declared.ext.Ext.{Ext}
+use Rattle.ts_base.specs.declared.letter.Letter.{Letter}
+use Rattle.ts_base.specs.declared.range.Range.{Range}
+use Rattle.ts_base.specs.Signature.{signature_of}
+use Rattle.ts_token.specs.Text.{cut_of}
+use Rattle.ts_pattern.specs.OccurrenceList.{AreRanges}
 use Rattle.ts_base.specs.declared.goal.Goal.{Goal}
 use Rattle.ts_certificate.specs.declared.certificate.Claim.TheVariants.{Best as BestIs, Infeasible, All}
 use Rattle.ts_certificate.specs.Certificate.{Cert, checked_count, open_count}
@@ -13,24 +19,35 @@ use Rattle.ts_model.specs.FirstBest.{FirstBest}
 use Rattle.ts_model.specs.Meets.{Meets}
 use Rattle.ts_model.specs.ModelParts.{ModelParts}
 use Rattle.ts_model.specs.ModelReading.{model_reading}
+use Rattle.ts_model.specs.Series.{any_series_reading}
+use Rattle.ts_user.specs.declared.user_stop.UserKind.{UserKind}
+use Rattle.ts_user.specs.BuildAnswers.{IsRefused, IsTooMany}
+use Rattle.ts_user.specs.PatternReading.{pattern_reading}
+use Rattle.ts_user.specs.Stated.{Described}
+use Rattle.ts_mark.specs.MarkText.{holding, marks_text}
+use Rattle.ts_mark.specs.Holders.{AreHolders}
 use Rattle.ts_filter.specs.Accepts.{Accepts, objective_of}
 use Rattle.ts_filter.specs.Holds.{Holds, IsListed}
+use Rattle.ts_filter.specs.Lines.{IsFirstFailing}
 use Rattle.ts_spans.specs.Machines.{spans_in}
 use Rattle.ts_search.specs.Listed.{AreFirst, IsListAnswer}
 use Rattle.ts_search.specs.Solved.{IsSolution}
-use Rattle.ts_checker.specs.Verdicts.{AreOf}
-use Rattle.ts_checker.specs.Verified.{certificate_lines, model_part}
-use Rattle.ts_run.specs.AnswerTexts.{IsAsked, IsOffered, IsReply, refused_model}
+use Rattle.ts_checker.specs.Verdicts.{AreOf, IsRefused as IsRefusedAt}
+use Rattle.ts_checker.specs.Verified.{certificate_lines, model_part, rest_part}
+use Rattle.ts_run.specs.AnswerTexts.{IsOffered, IsReply, series_in}
 use Rattle.ts_run.specs.Certified.{IsWritten}
 use Rattle.ts_run.specs.CompiledValue.{IsCompiled}
 use Rattle.ts_run.specs.Joined.{GoesToVerify}
+use Rattle.ts_run.specs.MarkReply.{IsPlanned, unplanned_in}
 use Rattle.ts_run.specs.Quantities.{usual_lines}
+use Rattle.ts_run.specs.Refusals.{OnSeries, refused_closure, refused_model, refused_pattern, refused_toomany}
 use Rattle.ts_run.specs.Reply.{Reply}
 use Rattle.ts_run.specs.Sample.{SampleReply}
 use Rattle.ts_run.specs.SampleModel.{sample_stated}
 use Rattle.ts_run.specs.Verdict.{verdict}
+use Rattle.ts_run.specs.Verified.{refused_certificate, rejected_certificate}
 use Rattle.ts_run.specs.declared.command.Command.{Command}
-use Rattle.ts_run.specs.declared.command.Command.TheVariants.{Check, Compile, Verify, Best, Generate, Sample}
+use Rattle.ts_run.specs.declared.command.Command.TheVariants.{Check, Compile, Verify, Best, Generate, Sample, Mark}
 use Rattle.ts_run.specs.declared.status.Status.TheVariants.{Done, No, Budget}
 
 -- how the model in the input of a command is read, in the limits of what it needs: the model that its lines state, or
@@ -42,6 +59,7 @@ reading_of Verify bytes = Some (model_reading NeedsList (model_part bytes))
 reading_of (Best goal lines) bytes = Some (model_reading NeedsBest bytes)
 reading_of (Generate count lines) bytes = Some (model_reading NeedsList bytes)
 reading_of (Sample cells) bytes = None
+reading_of Mark bytes = None
 
 -- the input states this model
 abbrev pub States : Command → List ℕ → ModelParts → Type 0
@@ -94,23 +112,51 @@ pub record IsShown (bytes : List ℕ) : Type 0 where
   pub accepted : Accepts model (spans_in model) certificate
   pub holds : Holds model certificate
 
--- `accepted` is said of a certificate exactly where each line keeps its rule, and only of what is true
+-- `accepted` is said of a certificate exactly where each line keeps its rule, and only of what is true; else the first
+-- line that breaks its rule is named; and of lines that are no certificate, the first that is against the grammar
 pub record SaysVerdict (bytes : List ℕ) (answer : Reply) : Type 0 where
   pub shown : answer.status ≡ Done → IsShown bytes
   pub exact : (m : ModelParts) (c : Cert) → IsOffered bytes m c → (answer.status ≡ Done) ↔ Accepts m (spans_in m) c
+  pub rejects : (m : ModelParts) (c : Cert) (line : ℕ) → IsOffered bytes m c → IsFirstFailing m (spans_in m) c line →
+      answer ≡ rejected_certificate line
+  pub refuses : (m : ModelParts) (line : ℕ) → States Verify bytes m → IsRefusedAt (certificate_lines bytes) line →
+      answer ≡ refused_certificate line
 
 -- of a model that was made, minimised and checked; that the lines ran out isn't said where 2·S - 1 are enough
 pub record SaysSample (cells : ℕ) (answer : Reply) : Type 0 where
   pub is : SampleReply cells answer
   pub enough : 2 * series_count (sample_stated cells).cells ≤ usual_lines + 1 → answer.status ≡ Budget → ⊥
 
+-- of a pattern and a series: the ranges are those of the occurrences, by rising start, and the word of each cell has
+-- the numbers of exactly those ranges that hold it
+pub record SaysOccurrences (d : Described) (xs : List ℤ) (answer : Reply) : Type 0 where
+  pub ranges : List Range
+  pub are : AreRanges d.expression d.b d.a (signature_of xs) ranges
+  pub text : answer.text ≡ marks_text (length xs) ranges
+  pub names : (cell : ℕ) → AreHolders cell ranges (holding cell 1 ranges)
+  pub done : answer.status ≡ Done
+
+-- a pattern text is refused at its first bad line with the first reason; what it describes, by the first signature on
+-- whose last letter a check fails, or where more than 512 configurations are reached before; the series behind it, by
+-- the first reason; and else the occurrences are told
+pub record SaysMarks (bytes : List ℕ) (answer : Reply) : Type 0 where
+  pub pattern : (line : ℕ) (kind : UserKind) → pattern_reading (model_part bytes) ≡ Err (line, kind) →
+      answer ≡ refused_pattern line kind
+  pub closure : (d : Described) (w : List Letter) → pattern_reading (model_part bytes) ≡ Ok d →
+      IsRefused (unplanned_in d) w → answer ≡ refused_closure w
+  pub toomany : (d : Described) → pattern_reading (model_part bytes) ≡ Ok d →
+      IsTooMany (unplanned_in d) → answer ≡ refused_toomany
+  pub occurrences : (d : Described) → pattern_reading (model_part bytes) ≡ Ok d → IsPlanned d →
+      OnSeries (any_series_reading (cut_of (rest_part bytes))) (SaysOccurrences d) answer
+
 -- The theorem, by the rows of the table of promises: each says what is answered to an input of a command.
 pub record Headline (command : Command) (bytes : List ℕ) (answer : Reply) : Type 0 where
   -- a text is read as its lines state, or refused at its first bad line with the first reason
   pub refuses : (line : ℕ) (kind : ModelKind) → reading_of command bytes ≡ Some (Err (line, kind)) →
       answer ≡ refused_model line kind
-  -- `check` says `meets` exactly where the series meets the model, and the value of each term
-  pub checks : command ≡ Check → (m : ModelParts) (xs : List ℤ) → IsAsked bytes m xs → SaysMeets m xs answer
+  -- `check` refuses a series by the first reason, says `meets` exactly where it meets the model, and the value of each term
+  pub checks : (m : ModelParts) → command ≡ Check → States command bytes m →
+      OnSeries (series_in m (rest_part bytes)) (SaysMeets m) answer
   -- `maximise` and `minimise`: the first best series, or that there is none, or that so many lines were spent
   pub solves : (goal : Goal) (lines : ℕ) (m : ModelParts) → command ≡ Best goal lines → States command bytes m →
       SaysBest goal lines m bytes answer
@@ -123,5 +169,7 @@ pub record Headline (command : Command) (bytes : List ℕ) (answer : Reply) : Ty
   pub compiles : (m : ModelParts) → command ≡ Compile → States command bytes m → SaysProgram m answer
   -- `sample` solves and checks a model of its own
   pub samples : (cells : ℕ) → command ≡ Sample cells → SaysSample cells answer
+  -- `mark` tells the occurrences of a pattern of the user's own
+  pub marks : command ≡ Mark → SaysMarks bytes answer
   -- and the answer is one that the definitions give for the bytes
   pub reply : IsReply command bytes answer

@@ -5,7 +5,9 @@ pub mod CompiledValue
 pub mod Endings
 pub mod Headline
 pub mod Joined
+pub mod MarkReply
 pub mod Quantities
+pub mod Refusals
 pub mod Replies
 pub mod Reply
 pub mod Sample

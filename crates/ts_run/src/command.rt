@@ -21,6 +21,8 @@ pub enum Command {
     Generate { count: Count, budget: Budget },
     /// A model with so many cells that is made, minimised and checked.
     Sample { cells: Cells },
+    /// The occurrences of a pattern in a series.
+    Mark,
 }
 
 /// How a command takes its input.
@@ -49,7 +51,7 @@ impl Command {
         ensures short { IsShort result }
     {
         match self {
-            Command::Check => Input::Whole { limit: CHECK_BYTES },
+            Command::Check | Command::Mark => Input::Whole { limit: CHECK_BYTES },
             Command::Verify => Input::Whole {
                 limit: VERIFY_BYTES,
             },
@@ -79,6 +81,8 @@ fn named(name: &str, rest: &[String]) -> Option<Command>
         alone(Command::Verify, rest)
     } else if name == "sample" {
         sample(rest)
+    } else if name == "mark" {
+        alone(Command::Mark, rest)
     } else {
         None
     }

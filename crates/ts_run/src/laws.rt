@@ -2,6 +2,7 @@
 
 ghost use Rattle.ts_run.specs.AnswerTexts.{DoneIsAccepted, DoneIsMeets};
 ghost use Rattle.ts_run.specs.AnswerTexts.{OneBestReply, OneCheckReply, OneCompileReply, OneListReply, OneVerifyReply};
+ghost use Rattle.ts_run.specs.MarkReply.{OneMarkReply};
 ghost use Rattle.ts_run.specs.Sample.{FewCellsAreDone, OneSampleReply};
 
 /// `check` has one reply to an input.
@@ -47,4 +48,9 @@ pub fn one_sample_reply()
 /// `sample` of up to 6 cells never runs out of lines.
 pub fn few_cells_are_done()
     ensures { FewCellsAreDone }
+{}
+
+/// `mark` has one reply to an input.
+pub fn one_mark_reply()
+    ensures { OneMarkReply }
 {}

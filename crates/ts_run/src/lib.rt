@@ -26,6 +26,7 @@ mod compile;
 mod generate;
 mod intake;
 mod laws;
+mod mark;
 mod parts;
 mod quantity;
 mod refusal;
@@ -41,7 +42,7 @@ mod write;
 pub use call::{run, run_over_never};
 pub use laws::{
     done_is_accepted, done_is_meets, few_cells_are_done, one_best_reply, one_check_reply,
-    one_compile_reply, one_list_reply, one_sample_reply, one_verify_reply,
+    one_compile_reply, one_list_reply, one_mark_reply, one_sample_reply, one_verify_reply,
 };
 pub use quantity::{Budget, Cells, Count};
 pub use sampling::sample_model;

@@ -1,4 +1,4 @@
-//! The parts of an input: its model and its series, or the refusal of a bad one.
+//! The parts of an input: its model or its pattern, and its series; or the refusal of a bad one.
 
 ghost use Rattle.std.specs.Prelude.{◌≡◌, ◌<◌, ◌≤◌, length, IfOk, vec_len};
 ghost use Rattle.ts_base.specs.Limits.{most_cells, too_many};
@@ -6,15 +6,19 @@ ghost use Rattle.ts_pattern.specs.Limits.{IsSeries};
 ghost use Rattle.ts_token.specs.Text.{cut_of};
 ghost use Rattle.ts_model.specs.ModelReading.{model_reading};
 ghost use Rattle.ts_model.specs.Promise.{IsWhole, KeepsLimits};
-ghost use Rattle.ts_model.specs.Series.{series_reading};
+ghost use Rattle.ts_model.specs.Series.{any_series_reading, series_reading};
 ghost use Rattle.ts_model.specs.Views.{model_parts};
-ghost use Rattle.ts_run.specs.Replies.{GivesModel, GivesSeries};
+ghost use Rattle.ts_user.specs.PatternReading.{pattern_reading};
+ghost use Rattle.ts_user.specs.Views.{IsFit};
+ghost use Rattle.ts_run.specs.Quantities.{IsWithin};
+ghost use Rattle.ts_run.specs.Replies.{GivesModel, GivesPattern, GivesSeries};
 
-use crate::refusal::{refused_model, refused_series};
+use crate::refusal::{refused_model, refused_pattern, refused_series};
 use crate::reply::Stop;
 use std::alloc::Global;
-use ts_model::{Model, ModelStop, Need, SeriesStop, read_model, read_series};
+use ts_model::{Model, ModelStop, Need, read_any_series, read_model, read_series};
 use ts_token::cut_tokens;
+use ts_user::{UserPattern, UserStop, read_pattern};
 
 /// The model that the text states, in the limits of the need, or its refusal: the first step of each command that has
 /// a model.
@@ -35,6 +39,22 @@ pub fn model_of(alloc: Global, text: &[u8], need: Need) -> Result<Model, Stop>
     }
 }
 
+/// The pattern that the text states with its transducer, or its refusal.
+pub fn pattern_of(alloc: Global, text: &[u8]) -> Result<UserPattern, Stop>
+    requires { length text.now < too_many }
+    ensures gives { GivesPattern (pattern_reading text.now) result }
+    ensures fit { IfOk result IsFit }
+{
+    let tokens = cut_tokens(alloc, text)?;
+    match read_pattern(alloc, &tokens) {
+        Ok(user) => Ok(user),
+        Err(UserStop::Refused { line, kind }) => {
+            Err(Stop::Refused(refused_pattern(alloc, line, kind)?))
+        }
+        Err(UserStop::Memory) => Err(Stop::Memory),
+    }
+}
+
 /// The series of `n` values that the text states, or its refusal.
 pub fn series_of(alloc: Global, text: &[u8], n: u32) -> Result<Vec<i64>, Stop>
     requires few { length text.now < too_many }
@@ -44,12 +64,27 @@ pub fn series_of(alloc: Global, text: &[u8], n: u32) -> Result<Vec<i64>, Stop>
     ensures series { IfOk result (λ xs. IsSeries xs.items) }
 {
     let tokens = cut_tokens(alloc, text)?;
-    let word = match read_series(alloc, &tokens, n) {
-        Ok(series) => return Ok(series),
-        Err(SeriesStop::Shape) => b"shape".as_slice(),
-        Err(SeriesStop::Number) => b"number".as_slice(),
-        Err(SeriesStop::Length) => b"length".as_slice(),
-        Err(SeriesStop::Memory) => return Err(Stop::Memory),
-    };
-    Err(Stop::Refused(refused_series(alloc, word)?))
+    match read_series(alloc, &tokens, n) {
+        Ok(series) => Ok(series),
+        Err(stop) => {
+            let reply = refused_series(alloc, stop)?;
+            Err(Stop::Refused(reply))
+        }
+    }
+}
+
+/// The series of 1 to 512 values that the text states, or its refusal.
+pub fn any_series_of(alloc: Global, text: &[u8]) -> Result<Vec<i64>, Stop>
+    requires { length text.now < too_many }
+    ensures gives { GivesSeries (λ xs. xs.items) (any_series_reading (cut_of text.now)) result }
+    ensures count { IfOk result (λ xs. IsWithin 1 most_cells (length xs.items)) }
+{
+    let tokens = cut_tokens(alloc, text)?;
+    match read_any_series(alloc, &tokens) {
+        Ok(series) => Ok(series),
+        Err(stop) => {
+            let reply = refused_series(alloc, stop)?;
+            Err(Stop::Refused(reply))
+        }
+    }
 }

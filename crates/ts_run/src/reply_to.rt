@@ -11,6 +11,7 @@ use crate::check::check;
 use crate::command::Command;
 use crate::compile::compile;
 use crate::generate::generate;
+use crate::mark::mark;
 use crate::reply::{Reply, or_refusal};
 use crate::sample::sample;
 use std::alloc::Global;
@@ -30,5 +31,6 @@ pub fn reply_to(alloc: Global, command: &Command, bytes: &[u8]) -> Result<Reply,
         Command::Best { goal, budget } => or_refusal(best(alloc, bytes, goal, budget)),
         Command::Generate { count, budget } => or_refusal(generate(alloc, bytes, count, budget)),
         Command::Sample { cells } => sample(alloc, cells),
+        Command::Mark => or_refusal(mark(alloc, bytes)),
     }
 }
