@@ -7,6 +7,7 @@ use ts_run::{Status, run};
 mod check;
 mod compile;
 mod faults;
+mod mark;
 mod readings;
 mod rules;
 mod sample;
