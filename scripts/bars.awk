@@ -73,6 +73,25 @@ function label_row(first, last,    i, row, room) {
     tell(row)
 }
 
+# The ranges of an answer of mark, each from its first to its last cell, with its number where it has room. Where the
+# cells are wide a number ends below the first bar, as those of the other rows do.
+function mark_lines(first, last,    k, r, row, from_cell, to_cell, line, number) {
+    for (r = 1; r <= mark_rows; r++) {
+        row = r == 1 ? " range" : ""
+        for (k = 1; k <= marks; k++) {
+            if (mark_row[k] != r || mark_first[k] > last || mark_last[k] < first) continue
+            from_cell = mark_first[k] > first ? mark_first[k] : first
+            to_cell = mark_last[k] < last ? mark_last[k] : last
+            line = repeat("-", (to_cell - from_cell) * width + 1)
+            number = k ""
+            if (length(number) < width) line = number substr(line, 2)
+            else if (length(number) <= length(line)) line = number substr(line, length(number) + 1)
+            row = put(row, margin + (to_cell - first + 1) * width, line)
+        }
+        tell(row)
+    }
+}
+
 function draw_piece(first, last,    i, r, row, at, sign) {
     label_row(first, last)
     for (r = above; r >= 1; r--) {
@@ -101,6 +120,7 @@ function draw_piece(first, last,    i, r, row, at, sign) {
         for (i = first; i <= last; i++) row = put(row, margin + (i - first + 1) * width, value[i] "")
         tell(row)
     }
+    if (marks) mark_lines(first, last)
 }
 
 # The values in rows of ten, where the columns of the bars are too narrow for them.

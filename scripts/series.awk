@@ -1,5 +1,6 @@
-# Reads what `draw` takes: the series, the aim and the claim of an answer, and of a model what each cell may be. Ends
-# with 65 where it isn't that, and with 1 where it has no series. bars.awk or svg.awk draws it by `draw_all`.
+# Reads what `draw` takes: the series, the aim and the claim of an answer, of a model what each cell may be, and of an
+# answer of mark the ranges. Ends with 65 where it isn't that, and with 1 where it has no series. bars.awk or svg.awk
+# draws it by `draw_all`.
 
 function floor(x) { return x < int(x) ? int(x) - 1 : int(x) }
 function emit(text) { drawing[++drawn_lines] = text }
@@ -54,14 +55,28 @@ function ranges(first,    i, part, all) {
     return all
 }
 
+# A range of an answer of mark, in the first row where it touches no other one: two ranges may share cells.
+function take_range(    row) {
+    cells = split(series[1], value, " ")
+    if (NF != 3 || $2 !~ /^[1-9][0-9]*$/ || $3 !~ /^[1-9][0-9]*$/ || $2 + 0 > $3 + 0 || $3 + 0 > cells)
+        give_up(65, "line " NR " isn't a range of cells of the series")
+    for (row = 1; row <= mark_rows && row_end[row] + 1 >= $2 + 0; ) row++
+    if (row > mark_rows) mark_rows = row
+    row_end[row] = $3 + 0
+    mark_row[++marks] = row
+    mark_first[marks] = $2 + 0
+    mark_last[marks] = $3 + 0
+}
+
 function title(    text) {
+    if (is_marked) return shape ", " (marks == 1 ? "1 occurrence" : marks + 0 " occurrences")
     text = aim
     if (objective != "" && aim ~ /imise$/) text = text " " objective
     return text == "" ? "" : text ", " claim
 }
 
 BEGIN {
-    takes = "it takes an answer of maximise, minimise or generate, or an input of check or verify"
+    takes = "it takes an answer of maximise, minimise or generate, or an input of check, verify or mark"
     is_clock = from ~ /:/
     split(from, clock, ":")
     first_label = is_clock ? clock[1] * 60 + clock[2] : from + 0
@@ -81,12 +96,16 @@ $1 == "%%" { behind = 1; next }
 !behind && $1 == "domain" { domain = ranges(2); for (i in allowed) delete allowed[i]; next }
 !behind && $1 == "cell" { allowed[$2 + 0] = ranges(3); next }
 !behind && $1 == "objective" { objective = $2; next }
+!behind && ($1 == "catalogue" || $1 == "pattern") { shape = $2; next }
+behind && count && $1 == "occurrences" { is_marked = 1; next }
+is_marked && $1 == "range" { take_range(); next }
 $1 == "series" {
     if (!is_series()) give_up(65, "line " NR " isn't a series of 1 to 512 whole numbers from -1000000 to 1000000")
     sub(/^[ \t]*series[ \t]+/, "")
     series[++count] = $0
 }
 $1 == "refused" && NR == 1 { refused = $0 }
+behind && $1 == "refused" && shape != "" { refused = $0; count = 0 }
 
 END {
     if (ended) exit ended

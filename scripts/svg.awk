@@ -5,6 +5,13 @@ function text_at(x, y, anchor, what, more) {
     emit("<text x=\"" x "\" y=\"" y "\" text-anchor=\"" anchor "\"" more ">" what "</text>")
 }
 
+function escaped(text) {
+    gsub(/&/, "\\&amp;", text)
+    gsub(/</, "\\&lt;", text)
+    gsub(/>/, "\\&gt;", text)
+    return text
+}
+
 # A round number, 1, 2 or 5 times a power of ten, such that at most so many of them make the height.
 function round_step(height, most,    power) {
     for (power = 1; ; power *= 10) {
@@ -141,6 +148,20 @@ function draw_labels(    i, apart, x, bottom) {
     }
 }
 
+# The ranges of an answer of mark below the labels, each with its number where it has room.
+function draw_marks(    k, y, wide, path) {
+    path = ""
+    for (k = 1; k <= marks; k++) {
+        y = top + plot + 10 + 14 * mark_row[k]
+        wide = (mark_last[k] - mark_first[k] + 1) * width
+        path = path "M" across(mark_first[k]) " " y "h" wide "v11h-" wide "z"
+    }
+    emit("<path fill=\"#e0b040\" stroke=\"#fff\" d=\"" path "\"/>")
+    for (k = 1; k <= marks; k++)
+        if (6 * length(k) + 2 <= (mark_last[k] - mark_first[k] + 1) * width)
+            text_at((across(mark_first[k]) + across(mark_last[k] + 1)) / 2, top + plot + 19 + 14 * mark_row[k], "middle", k)
+}
+
 function draw_all(    number, i, heading, picture_width, picture_height, panel, head) {
     measure()
     width = floor(880 / cells)
@@ -149,7 +170,7 @@ function draw_all(    number, i, heading, picture_width, picture_height, panel, 
     left = 14 + 7 * (length(low) > length(high) ? length(low) : length(high))
     plot = count > 1 ? 110 : 170
     head = title() == "" ? 18 : 36
-    panel = plot + head + 24
+    panel = plot + head + 24 + 14 * mark_rows
     picture_width = left + cells * width + 26
     if (picture_width < 240) picture_width = 240
     picture_height = count * panel + 8
@@ -159,7 +180,7 @@ function draw_all(    number, i, heading, picture_width, picture_height, panel, 
     for (number = 1; number <= count; number++) {
         take_series(number)
         top = (number - 1) * panel + head
-        heading = title()
+        heading = escaped(title())
         if (wanted > 1) heading = heading ", series " number " of " wanted
         emit("<g><title>" (heading == "" ? "series" : heading) ": " series[number] "</title>")
         if (heading != "") text_at(left, top - 20, "start", heading, " font-weight=\"bold\"")
@@ -168,6 +189,7 @@ function draw_all(    number, i, heading, picture_width, picture_height, panel, 
         draw_bars()
         draw_values()
         draw_labels()
+        if (marks) draw_marks()
         emit("</g>")
     }
     emit("</svg>")
