@@ -1,5 +1,5 @@
 -- The theorem: each reply of a command to an input within its limit says what is promised.
-use Rattle.std.proofs.Common.{◌≡◌, ℕ, ◌≤◌, Option, Some, None, Ok, Err, List, length, refl, sym, subst, arith}
+use Rattle.std.proofs.Common.{◌≡◌, ℕ, ◌≤◌, Option, Some, None, Ok, Err, List, length, refl, sym, ◌∙◌, ap, subst, arith}
 use Rattle.std.specs.Prelude.{Result}
 use Rattle.ts_base.specs.declared.goal.Goal.{Goal}
 use Rattle.ts_model.specs.declared.error.ModelKind.{ModelKind}
@@ -14,20 +14,23 @@ use Rattle.ts_run.specs.Commands.{KeepsRanges, input_of}
 use Rattle.ts_run.specs.Headline.{Headline, SaysProgram, States, reading_of}
 use Rattle.ts_run.specs.Reply.{Reply}
 use Rattle.ts_run.specs.Verified.{IsVerified}
+use Rattle.ts_run.specs.Watch.{reply_on}
 use Rattle.ts_run.specs.declared.command.Command.{Command}
-use Rattle.ts_run.specs.declared.command.Command.TheVariants.{Check, Compile, Verify, Best, Generate, Sample, Mark}
+use Rattle.ts_run.specs.declared.command.Command.TheVariants.{Check, Compile, Verify, Best, Generate, Sample, Mark, Watch}
 use Rattle.ts_run.specs.declared.command.Input.{Input}
-use Rattle.ts_run.specs.declared.command.Input.TheVariants.{Whole, Nothing}
+use Rattle.ts_run.specs.declared.command.Input.TheVariants.{Whole, Live, Nothing}
 use Rattle.ts_run.proofs.BestLaws.{says_best, says_list}
 use Rattle.ts_run.proofs.CheckLaws.{says_checked}
 use Rattle.ts_run.proofs.CompileLaws.{says_program}
 use Rattle.ts_run.proofs.MarkLaws.{says_marks}
 use Rattle.ts_run.proofs.SampleLaws.{says_sample}
 use Rattle.ts_run.proofs.VerifyLaws.{says_verdict}
+use Rattle.ts_run.proofs.WatchReplies.{says_values}
 
 -- the input is within its limit
 abbrev pub FitsIn : List ℕ → Input → Type 0
 FitsIn bytes (Whole limit) = length bytes ≤ limit
+FitsIn bytes (Live limit) = length bytes ≤ limit
 FitsIn bytes Nothing = Unit {0}
 
 -- where the model is refused, so is the input
@@ -45,6 +48,9 @@ module _ (line : ℕ) (kind : ModelKind) (r : Reply) where
   is_refused (Generate count lines) bytes h e = refused (IsListing count lines) (model_reading NeedsList bytes) e h
   is_refused (Sample cells) bytes h e = absurd (cc)
   is_refused Mark bytes h e = absurd (cc)
+  is_refused Watch bytes h e =
+      let read : model_reading Values (model_part bytes) ≡ Err (line, kind) = cc in
+      h ∙ ap (λ (x : Result ModelParts (ℕ × ModelKind)). reply_on x (rest_part bytes)) read
 
 compiled : (bytes : List ℕ) (m : ModelParts) (r : Reply) → States Compile bytes m → IsReply Compile bytes r → SaysProgram m r
 compiled bytes m r states h =
@@ -86,5 +92,9 @@ module _ (command : Command) (bytes : List ℕ) (r : Reply) (ranges : KeepsRange
     compiles = λ m e states. compiled bytes m r (states_as Compile e m states) (reply_as Compile e);
     samples = λ cells e. says_sample cells r (reply_as (Sample cells) e);
     marks = λ e. says_marks bytes r (reply_as Mark e);
+    watches = λ m e states.
+        let here : States Watch bytes m = states_as Watch e m states in
+        let read : model_reading Values (model_part bytes) ≡ Ok m = cc in
+        says_values bytes m r read (reply_as Watch e);
     reply = is;
   }

@@ -60,7 +60,7 @@ within_cell : (o : Option ℤ) (x : ℤ) → within o ≡ Some x → IsCellValue
 within_cell None x e = cc
 within_cell (Some v) x e = chosen (is_value v) v x (λ h. value_cell v h) e
 
-word_cell : (word : List ℕ) (x : ℤ) → value_of word ≡ Some x → IsCellValue x
+pub word_cell : (word : List ℕ) (x : ℤ) → value_of word ≡ Some x → IsCellValue x
 unfolding value_of
 word_cell word x e = within_cell (number_of word) x e
 

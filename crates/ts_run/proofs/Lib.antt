@@ -14,6 +14,9 @@ mod SampleModelLaws
 mod SampleSums
 mod SeriesSteps
 mod Steps
+mod StreamCalls
+mod StreamLaws
+mod StreamPieces
 mod Ranges
 mod CheckLaws
 mod CheckSteps
@@ -23,3 +26,10 @@ mod Runs
 mod ValueSizes
 mod VerifyLaws
 mod VerifySteps
+mod WatchReplies
+mod WatchReadings
+mod FirstBad
+mod WatchStream
+mod ReadingSteps
+mod WatchSteps
+mod ReadingTexts

@@ -10,7 +10,7 @@ use Rattle.ts_token.specs.Number.{number_of}
 use Rattle.ts_run.specs.Commands.{KeepsRanges, budget_of, command_of, generate_by, generate_of, if_alone, sample_of}
 use Rattle.ts_run.specs.Quantities.{IsWithin, kept_within, number_within, usual_lines}
 use Rattle.ts_run.specs.declared.command.Command.{Command}
-use Rattle.ts_run.specs.declared.command.Command.TheVariants.{Check, Compile, Verify, Best, Generate, Sample, Mark}
+use Rattle.ts_run.specs.declared.command.Command.TheVariants.{Check, Compile, Verify, Best, Generate, Sample, Mark, Watch}
 
 -- a number that is kept is in its range
 range_kept : (least most : ℕ) (o : Option ℤ) → IfSome (kept_within least most o) (IsWithin least most)
@@ -73,4 +73,5 @@ keeps_ranges (word ∷ words) =
     (chosen KeepsRanges (bytes_eq word (codes "generate")) _ _ (generated words)
     (chosen KeepsRanges (bytes_eq word (codes "verify")) _ _ (alone Verify tt words)
     (chosen KeepsRanges (bytes_eq word (codes "sample")) _ _ (sampled words)
-    (chosen KeepsRanges (bytes_eq word (codes "mark")) _ _ (alone Mark tt words) tt)))))))
+    (chosen KeepsRanges (bytes_eq word (codes "mark")) _ _ (alone Mark tt words)
+    (chosen KeepsRanges (bytes_eq word (codes "watch")) _ _ (alone Watch tt words) tt))))))))

@@ -18,13 +18,14 @@ use Rattle.ts_checker.specs.Verified.{certificate_lines, model_part, rest_part}
 use Rattle.ts_run.specs.Certified.{IsBest, IsListing}
 use Rattle.ts_run.specs.CompiledValue.{IsProgramText}
 use Rattle.ts_run.specs.MarkReply.{MarkReply}
-use Rattle.ts_run.specs.Refusals.{OnModel, OnSeries, refused_model}
+use Rattle.ts_run.specs.Refusals.{OnModel, OnSeries, refused_model, refused_series}
 use Rattle.ts_run.specs.Reply.{Reply}
 use Rattle.ts_run.specs.Sample.{SampleReply}
 use Rattle.ts_run.specs.Verdict.{verdict}
 use Rattle.ts_run.specs.Verified.{IsVerified, verdict_reply}
+use Rattle.ts_run.specs.Watch.{watch_reply}
 use Rattle.ts_run.specs.declared.command.Command.{Command}
-use Rattle.ts_run.specs.declared.command.Command.TheVariants.{Check, Compile, Verify, Best, Generate, Sample, Mark}
+use Rattle.ts_run.specs.declared.command.Command.TheVariants.{Check, Compile, Verify, Best, Generate, Sample, Mark, Watch}
 use Rattle.ts_run.specs.declared.status.Status.TheVariants.{Done}
 
 -- the series in a text, as many numbers as the model has cells
@@ -73,6 +74,7 @@ IsReply (Best goal lines) bytes r = BestReply goal lines bytes r
 IsReply (Generate count lines) bytes r = ListReply count lines bytes r
 IsReply (Sample cells) bytes r = SampleReply cells r
 IsReply Mark bytes r = MarkReply bytes r
+IsReply Watch bytes r = r ≡ watch_reply bytes
 
 -- an input of `check` states this model and this series
 pub record IsAsked (bytes : List ℕ) (m : ModelParts) (xs : List ℤ) : Type 0 where

@@ -7,9 +7,9 @@ use Rattle.ts_base.specs.Limits.{most_cells, most_check_bytes, most_checked, mos
 use Rattle.ts_base.specs.Limits.{most_verify_bytes, too_many}
 use Rattle.ts_run.specs.Quantities.{IsWithin, number_within, usual_lines}
 use Rattle.ts_run.specs.declared.command.Command.{Command}
-use Rattle.ts_run.specs.declared.command.Command.TheVariants.{Check, Compile, Verify, Best, Generate, Sample, Mark}
+use Rattle.ts_run.specs.declared.command.Command.TheVariants.{Check, Compile, Verify, Best, Generate, Sample, Mark, Watch}
 use Rattle.ts_run.specs.declared.command.Input.{Input}
-use Rattle.ts_run.specs.declared.command.Input.TheVariants.{Whole, Nothing}
+use Rattle.ts_run.specs.declared.command.Input.TheVariants.{Whole, Live, Nothing}
 
 -- the words as bytes
 abbrev pub words_in : List (String Global) → List (List ℕ)
@@ -54,9 +54,10 @@ command_of (word ∷ words) =
     else (if bytes_eq word (codes "verify") then if_alone Verify words
     else (if bytes_eq word (codes "sample") then sample_of words
     else (if bytes_eq word (codes "mark") then if_alone Mark words
-    else None)))))))
+    else (if bytes_eq word (codes "watch") then if_alone Watch words
+    else None))))))))
 
--- how a command takes its input: the whole, so many bytes at most, or nothing of it
+-- how a command takes its input: the whole, so many bytes at most; as a stream, so many at most; or nothing of it
 abbrev pub input_of : Command → Input
 input_of Check = Whole most_check_bytes
 input_of Compile = Whole most_model_bytes
@@ -65,10 +66,12 @@ input_of (Best goal lines) = Whole most_model_bytes
 input_of (Generate count lines) = Whole most_model_bytes
 input_of (Sample cells) = Nothing
 input_of Mark = Whole most_check_bytes
+input_of Watch = Live most_check_bytes
 
 -- the limit of an input is below that of every call that takes a text
 abbrev pub IsShort : Input → Type 0
 IsShort (Whole limit) = limit < too_many
+IsShort (Live limit) = limit < too_many
 IsShort Nothing = Unit {0}
 
 -- the numbers of a command are in the ranges of its words
@@ -77,3 +80,9 @@ KeepsRanges (Best goal lines) = IsWithin 1 most_checked lines
 KeepsRanges (Generate count lines) = IsWithin 1 most_listed count × IsWithin 1 most_checked lines
 KeepsRanges (Sample cells) = IsWithin 1 most_cells cells
 KeepsRanges _ = Unit {0}
+
+-- it replies to all its bytes at once: `verify` takes them piece by piece, and `watch` replies piece by piece
+abbrev pub RepliesAtOnce : Command → Type 0
+RepliesAtOnce Verify = ⊥
+RepliesAtOnce Watch = ⊥
+RepliesAtOnce _ = Unit {0}

@@ -1,14 +1,18 @@
 -- How a call ends, by its words: what was written, what was read, and that each fault was counted.
-use Rattle.std.specs.Prelude.{ℕ, ◌≡◌, ◌<◌, ◌≤◌, ◌+◌, ◌⊎◌, Bool, IsSome, List, [], length, Option, Some, None}
+use Rattle.std.specs.Prelude.{ℕ, ◌≡◌, ◌<◌, ◌≤◌, ◌+◌, ◌⊎◌, Bool, List, [], length, Option, Some, None}
 use Rattle.ts_base.specs.Outside.{AtEnd, GaveAtMost, HasMoreThan, Rose, left_after}
 use Rattle.ts_run.specs.Refusals.{fault_read, refused_length, refused_words}
 use Rattle.ts_run.specs.Commands.{input_of}
 use Rattle.ts_run.specs.Headline.{Headline}
+use Rattle.ts_run.specs.LiveEndings.{LiveEnds}
 use Rattle.ts_run.specs.Reply.{ComesOfInput, Ends, EndsWith, Reply}
+use Rattle.ts_run.specs.Streams.{Due, nothing_due}
+use Rattle.ts_run.specs.Watch.{watch_due}
 use Rattle.ts_run.specs.Well.{ReadsWell, WritesWell}
 use Rattle.ts_run.specs.declared.command.Command.{Command}
+use Rattle.ts_run.specs.declared.command.Command.TheVariants.{Watch}
 use Rattle.ts_run.specs.declared.command.Input.{Input}
-use Rattle.ts_run.specs.declared.command.Input.TheVariants.{Whole, Nothing}
+use Rattle.ts_run.specs.declared.command.Input.TheVariants.{Whole, Live, Nothing}
 use Rattle.ts_run.specs.declared.status.Status.{Status}
 use Rattle.ts_run.specs.declared.status.Status.TheVariants.{ReadFault, Memory}
 
@@ -47,24 +51,34 @@ pub record WholeTakes (limit : ℕ) (left left_now : Option (List ℕ)) (status 
   pub whole : ComesOfInput status → IsRead limit left left_now
   pub memory : status ≡ Memory → GaveAtMost limit left left_now
 
--- how a call ends that takes its input so and replies so
-abbrev pub InputEnds : Input → (List ℕ → Reply → Type 0) → Option (List ℕ) → ℕ → ℕ → Option (List ℕ) →
-    Option (List ℕ) → Status → Type 0
-InputEnds (Whole limit) Is left faults faults_after before after status =
+-- what a command that takes its input as a stream owes once some bytes have come
+abbrev pub due_of : Command → List ℕ → Due
+due_of Watch bytes = watch_due bytes
+due_of _ bytes = nothing_due
+
+-- how a call ends that takes its input so and replies so; of a stream, what is owed before its end is known
+abbrev pub InputEnds : Input → (List ℕ → Reply → Type 0) → (List ℕ → Due) → Option (List ℕ) → Option (List ℕ) →
+    ℕ → ℕ → Option (List ℕ) → Option (List ℕ) → Status → Type 0
+InputEnds (Whole limit) Is due left left_now faults faults_after before after status =
     WholeEnds limit Is left faults faults_after before after status
-InputEnds Nothing Is left faults faults_after before after status =
+InputEnds (Live limit) Is due left left_now faults faults_after before after status =
+    LiveEnds limit Is due left left_now faults faults_after before after status
+InputEnds Nothing Is due left left_now faults faults_after before after status =
     (faults_after ≡ faults) × EndsWith (Is []) before after status
 
--- what it has read
+-- what it has read; of a stream its end tells that
 abbrev pub InputTakes : Input → {S : Type 0} → (S → Option (List ℕ)) → S → S → Status → Type 0
 InputTakes (Whole limit) left old new status = WholeTakes limit (left old) (left new) status
+InputTakes (Live limit) left old new status = GaveAtMost (limit + 1) (left old) (left new)
 InputTakes Nothing left old new status = new ≡ old
 
 -- how a call ends whose words are this command, or no command's
-abbrev pub CallEnds : Option Command → Option (List ℕ) → ℕ → ℕ → Option (List ℕ) → Option (List ℕ) → Status → Type 0
-CallEnds None left faults faults_after before after status = Ends refused_words before after status
-CallEnds (Some command) left faults faults_after before after status =
-    InputEnds (input_of command) (Headline command) left faults faults_after before after status
+abbrev pub CallEnds : Option Command → Option (List ℕ) → Option (List ℕ) → ℕ → ℕ → Option (List ℕ) →
+    Option (List ℕ) → Status → Type 0
+CallEnds None left left_now faults faults_after before after status = Ends refused_words before after status
+CallEnds (Some command) left left_now faults faults_after before after status =
+    InputEnds (input_of command) (Headline command) (due_of command) left left_now faults faults_after before after
+    status
 
 -- what it has read; nothing where the words are no command's
 abbrev pub CallTakes : Option Command → {S : Type 0} → (S → Option (List ℕ)) → S → S → Status → Type 0
@@ -88,14 +102,26 @@ pub record SinkTells (K : Type 0) : Type 0 where
   pub is_finished : K → Bool
   pub finishes : K → ℕ
 
+-- what a call without memory leaves of its sink: nothing was written, or of a stream what its end tells; then nothing
+-- was finished, and no fault was counted
+abbrev pub InputSpares : Input → {K : Type 0} → SinkTells K → K → K → Type 0
+InputSpares (Whole limit) k old new = new ≡ old
+InputSpares (Live limit) k old new = (k.faults new ≡ k.faults old) × (k.finishes new ≡ k.finishes old)
+InputSpares Nothing k old new = new ≡ old
+
+-- words that are no command's are refused without any memory
+abbrev pub CallSpares : Option Command → {K : Type 0} → SinkTells K → K → K → Type 0
+CallSpares None k old new = ⊥
+CallSpares (Some command) k old new = InputSpares (input_of command) k old new
+
 -- all that is promised of a call with these words: the sink took the answer of the theorem, or a fault or want of memory
 -- is told; no more was read than that asked for; a fault is told only where one was counted; and without memory, which
--- no refusal of the words is for want of, nothing was written
+-- no refusal of the words is for want of, nothing was written, or the first lines of a stream's answer
 pub record RunEnds {S K : Type 0} (s : SourceTells S) (k : SinkTells K) (given : Option Command) (source source_now : S)
     (sink sink_now : K) (status : Status) : Type 0 where
-  pub answers : CallEnds given (s.left source) (s.faults source) (s.faults source_now)
+  pub answers : CallEnds given (s.left source) (s.left source_now) (s.faults source) (s.faults source_now)
       (k.taken sink) (k.taken sink_now) status
   pub takes : CallTakes given s.left source source_now status
   pub reads : ReadsWell s.faults s.is_broken s.ends source source_now status
   pub writes : WritesWell k.faults k.is_broken k.is_finished k.finishes sink sink_now status
-  pub spares : status ≡ Memory → IsSome given × (sink_now ≡ sink)
+  pub spares : status ≡ Memory → CallSpares given k sink sink_now

@@ -1,8 +1,7 @@
 -- The theorem: what each command answers to the bytes of its input. `run` writes such an answer and no other
 -- (`Endings`), unless memory is wanting, or reading or writing fails. The words mean what their definitions say: a series
 -- meets a model (`Meets`) by occurrences, ranges and plain sums alone.
-use Rattle.std.specs.Prelude.{ℕ, ◌≡◌, ◌<◌, ◌≤◌, ◌+◌, ◌*◌, ◌↔◌, ℤ, List, [], ◌∷◌, length}
-use Rattle.std.specs.Prelude.{Option, Some, None, Result, Ok, Err}
+use Rattle.std.specs.Prelude.{ℕ, ◌≡◌, ◌<◌, ◌≤◌, ◌+◌, ◌*◌, ◌↔◌, ℤ, List, [], ◌∷◌, length, Option, Some, None, Result, Ok, Err, ◌++◌, IsSome}
 use Rattle.ts_base.specs.declared.ext.Ext.{Ext}
 use Rattle.ts_base.specs.declared.letter.Letter.{Letter}
 use Rattle.ts_base.specs.declared.range.Range.{Range}
@@ -46,9 +45,10 @@ use Rattle.ts_run.specs.Sample.{SampleReply}
 use Rattle.ts_run.specs.SampleModel.{sample_stated}
 use Rattle.ts_run.specs.Verdict.{verdict}
 use Rattle.ts_run.specs.Verified.{refused_certificate, rejected_certificate}
+use Rattle.ts_run.specs.Watch.{last_line, readings_of, values_lines}
 use Rattle.ts_run.specs.declared.command.Command.{Command}
-use Rattle.ts_run.specs.declared.command.Command.TheVariants.{Check, Compile, Verify, Best, Generate, Sample, Mark}
-use Rattle.ts_run.specs.declared.status.Status.TheVariants.{Done, No, Budget}
+use Rattle.ts_run.specs.declared.command.Command.TheVariants.{Check, Compile, Verify, Best, Generate, Sample, Mark, Watch}
+use Rattle.ts_run.specs.declared.status.Status.TheVariants.{Done, No, Budget, Refused}
 
 -- how the model in the input of a command is read, in the limits of what it needs: the model that its lines state, or
 -- its first bad line with the first kind that holds of it
@@ -60,6 +60,7 @@ reading_of (Best goal lines) bytes = Some (model_reading NeedsBest bytes)
 reading_of (Generate count lines) bytes = Some (model_reading NeedsList bytes)
 reading_of (Sample cells) bytes = None
 reading_of Mark bytes = None
+reading_of Watch bytes = Some (model_reading Values (model_part bytes))
 
 -- the input states this model
 abbrev pub States : Command → List ℕ → ModelParts → Type 0
@@ -149,6 +150,14 @@ pub record SaysMarks (bytes : List ℕ) (answer : Reply) : Type 0 where
   pub occurrences : (d : Described) → pattern_reading (model_part bytes) ≡ Ok d → IsPlanned d →
       OnSeries (any_series_reading (cut_of (rest_part bytes))) (SaysOccurrences d) answer
 
+-- after each reading the values of the terms on all readings so far; then the end with their number, or the refusal of
+-- the first bad line
+pub record SaysValues (m : ModelParts) (text : List ℕ) (answer : Reply) : Type 0 where
+  pub lines : answer.text ≡ values_lines m [] (readings_of text).values
+      ++ (last_line (readings_of text).bad (length (readings_of text).values)).text
+  pub done : (answer.status ≡ Done) ↔ ((readings_of text).bad ≡ None)
+  pub refused : (answer.status ≡ Refused) ↔ IsSome (readings_of text).bad
+
 -- The theorem, by the rows of the table of promises: each says what is answered to an input of a command.
 pub record Headline (command : Command) (bytes : List ℕ) (answer : Reply) : Type 0 where
   -- a text is read as its lines state, or refused at its first bad line with the first reason
@@ -171,5 +180,7 @@ pub record Headline (command : Command) (bytes : List ℕ) (answer : Reply) : Ty
   pub samples : (cells : ℕ) → command ≡ Sample cells → SaysSample cells answer
   -- `mark` tells the occurrences of a pattern of the user's own
   pub marks : command ≡ Mark → SaysMarks bytes answer
+  -- `watch` says the values of the terms on each prefix of the readings
+  pub watches : (m : ModelParts) → command ≡ Watch → States command bytes m → SaysValues m (rest_part bytes) answer
   -- and the answer is one that the definitions give for the bytes
   pub reply : IsReply command bytes answer

@@ -3,8 +3,11 @@ pub mod Certified
 pub mod Commands
 pub mod CompiledValue
 pub mod Endings
+pub mod FirstBad
 pub mod Headline
 pub mod Joined
+pub mod LiveEndings
+pub mod LiveSteps
 pub mod MarkReply
 pub mod Quantities
 pub mod Refusals
@@ -12,6 +15,9 @@ pub mod Replies
 pub mod Reply
 pub mod Sample
 pub mod SampleModel
+pub mod Streams
 pub mod Verdict
 pub mod Verified
+pub mod Watch
+pub mod Watching
 pub mod Well

@@ -1,5 +1,5 @@
 -- What a command replies, and what its sink took when the call ended.
-use Rattle.std.specs.Prelude.{ℕ, ◌≡◌, ◌⊎◌, List, Option}
+use Rattle.std.specs.Prelude.{ℕ, ◌≡◌, ◌⊎◌, List, ◌++◌, Option}
 use Rattle.ts_base.specs.Outside.{taken_more, Prefix}
 use Rattle.ts_run.specs.declared.reply.Reply.{Reply as GivenReply}
 use Rattle.ts_run.specs.declared.status.Status.{Status}
@@ -19,6 +19,10 @@ status_code Memory = 6
 pub record Reply : Type 0 where
   pub text : List ℕ
   pub status : Status
+
+-- a reply behind a text
+abbrev pub behind_text : List ℕ → Reply → Reply
+behind_text text r = record { text = text ++ r.text; status = r.status }
 
 -- the program's reply, its text as a list
 abbrev pub reply_of : GivenReply → Reply

@@ -3,17 +3,20 @@
 ghost use Rattle.std.specs.Prelude.{◌≡◌, ◌≢◌, ◌<◌, []};
 ghost use Rattle.ts_base.specs.Limits.{too_many};
 ghost use Rattle.ts_run.specs.AnswerTexts.{IsReply};
-ghost use Rattle.ts_run.specs.Commands.{command_of, words_in};
-ghost use Rattle.ts_run.specs.Endings.{RunEnds, WholeEnds, WholeTakes};
+ghost use Rattle.ts_run.specs.Commands.{RepliesAtOnce, command_of, input_of, words_in};
+ghost use Rattle.ts_run.specs.Endings.{RunEnds, WholeEnds, WholeTakes, due_of};
+ghost use Rattle.ts_run.specs.LiveEndings.{LiveEnds};
 ghost use Rattle.ts_run.specs.Reply.{EndsWith, TellsNoFault};
 ghost use Rattle.ts_run.specs.Well.{ReadsWell, WritesWell};
-ghost use Rattle.ts_run.specs.declared.command.Command.TheVariants.{Verify};
+ghost use Rattle.ts_run.specs.declared.command.Input.TheVariants.{Live, Whole};
 
 use crate::command::{Command, Input};
 use crate::intake::Respond;
 use crate::reply_to::reply_to;
 use crate::status::Status;
+use crate::stream::run_live;
 use crate::verify::Verifying;
+use crate::watch::Watching;
 use crate::write::write_reply;
 use std::alloc::Global;
 use ts_base::{Memory, NeverSink, NeverSource, ReadStop, Sink, Source, take_all};
@@ -26,6 +29,10 @@ use ts_base::{Memory, NeverSink, NeverSource, ReadStop, Sink, Source, take_all};
 /// `WriteFault`, which comes only where a count tells it, it has taken a prefix of the reply. After every other status
 /// the reply was taken whole, the sink was finished once, and no fault of its own was counted. Nothing is read once a
 /// read failed, or the end of the source was found.
+///
+/// `watch` takes its input as a stream: what a piece of it owes is written before the next is read. So a failed read,
+/// or a byte more than the limit, is told behind what was owed before, and after `Memory` the sink has taken whole
+/// lines.
 pub fn run<S: Source, K: Sink>(
     alloc: Global,
     words: &Vec<String>,
@@ -53,6 +60,7 @@ pub fn run<S: Source, K: Sink>(
     };
     match command.input() {
         Input::Whole { limit } => run_whole(alloc, &command, limit, source, sink),
+        Input::Live { limit } => run_stream(alloc, &command, limit, source, sink),
         Input::Nothing => run_unread(alloc, &command, sink),
     }
 }
@@ -71,7 +79,7 @@ pub fn run_over_never(
 
 /// The call of a command that reads nothing: its reply is that to an empty input.
 fn run_unread<K: Sink>(alloc: Global, command: &Command, sink: &mut K) -> Status
-    requires { command.now ≢ Verify }
+    requires { RepliesAtOnce command.now }
     ensures ends { EndsWith (IsReply command.now []) (K.taken sink.old) (K.taken sink.new) result }
     ensures reads { result ≢ Status.ReadFault }
     ensures writes { WritesWell K.sink_faults K.sink_broken K.finished K.finishes sink.old sink.new result }
@@ -92,7 +100,8 @@ fn run_whole<S: Source, K: Sink>(
     source: &mut S,
     sink: &mut K,
 ) -> Status
-    requires { limit < too_many }
+    requires few { limit < too_many }
+    requires whole { input_of command.now ≡ Whole limit }
     ensures ends { WholeEnds limit (IsReply command.now) (S.left source.old)
         (S.source_faults source.old) (S.source_faults source.new) (K.taken sink.old) (K.taken sink.new) result }
     ensures takes { WholeTakes limit (S.left source.old) (S.left source.new) result }
@@ -104,6 +113,30 @@ fn run_whole<S: Source, K: Sink>(
     match *command {
         Command::Verify => run_into(alloc, command, Verifying::new(alloc), limit, source, sink),
         _ => run_into(alloc, command, Vec::new(alloc), limit, source, sink),
+    }
+}
+
+/// The call of a command that answers its input, of at most `limit` bytes, as it comes.
+fn run_stream<S: Source, K: Sink>(
+    alloc: Global,
+    command: &Command,
+    limit: usize,
+    source: &mut S,
+    sink: &mut K,
+) -> Status
+    requires few { limit < too_many }
+    requires live { input_of command.now ≡ Live limit }
+    ensures ends { LiveEnds limit (IsReply command.now) (due_of command.now) (S.left source.old) (S.left source.new)
+        (S.source_faults source.old) (S.source_faults source.new) (K.taken sink.old) (K.taken sink.new) result }
+
+    ensures reads { ReadsWell S.source_faults S.source_broken S.source_ends source.old source.new result }
+    ensures writes { WritesWell K.sink_faults K.sink_broken K.finished K.finishes sink.old sink.new result }
+    ensures calm { result ≡ Status.Memory → K.sink_faults sink.new ≡ K.sink_faults sink.old }
+    ensures unfinished { result ≡ Status.Memory → K.finishes sink.new ≡ K.finishes sink.old }
+{
+    match *command {
+        Command::Watch => run_live(alloc, &mut Watching::new(alloc), limit, source, sink),
+        _ => unreachable!(),
     }
 }
 

@@ -23,6 +23,8 @@ pub enum Command {
     Sample { cells: Cells },
     /// The occurrences of a pattern in a series.
     Mark,
+    /// The values of a model's terms after each reading.
+    Watch,
 }
 
 /// How a command takes its input.
@@ -30,6 +32,8 @@ pub enum Command {
 pub enum Input {
     /// The whole, of at most `limit` bytes, before anything is written.
     Whole { limit: usize },
+    /// As a stream of at most `limit` bytes: what a piece of it owes is written before the next is read.
+    Live { limit: usize },
     /// Nothing is read.
     Nothing,
 }
@@ -59,6 +63,7 @@ impl Command {
                 Input::Whole { limit: MODEL_BYTES }
             }
             Command::Sample { .. } => Input::Nothing,
+            Command::Watch => Input::Live { limit: CHECK_BYTES },
         }
     }
 }
@@ -83,6 +88,8 @@ fn named(name: &str, rest: &[String]) -> Option<Command>
         sample(rest)
     } else if name == "mark" {
         alone(Command::Mark, rest)
+    } else if name == "watch" {
+        alone(Command::Watch, rest)
     } else {
         None
     }

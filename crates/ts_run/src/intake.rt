@@ -1,6 +1,6 @@
 //! What takes the bytes of an input piece by piece, and then replies to all of them.
 
-ghost use Rattle.std.specs.Prelude.{ℕ, ◌≢◌, ◌<◌, List, length, IfOk};
+ghost use Rattle.std.specs.Prelude.{ℕ, ◌<◌, List, length, IfOk};
 ghost use Rattle.ts_base.specs.Limits.{too_many};
 ghost use Rattle.ts_run.specs.AnswerTexts.{IsReply};
 ghost use Rattle.ts_run.specs.Reply.{ComesOfInput, reply_of};
@@ -26,11 +26,11 @@ pub trait Respond: Intake + Drop {
         ensures status { IfOk result (λ r. ComesOfInput r.status) };
 }
 
-/// Serves every command but `verify`, by its reply to the whole.
+/// Serves the commands that reply to all bytes at once.
 impl Respond for Vec<u8> {
-    ghost use Rattle.ts_run.specs.declared.command.Command.TheVariants.{Verify};
+    ghost use Rattle.ts_run.specs.Commands.{RepliesAtOnce};
 
-    ghost serves = { λ command. command ≢ Verify };
+    ghost serves = { λ command. RepliesAtOnce command };
 
     fn reply(self, alloc: Global, command: &Command) -> Result<Reply, Memory> {
         reply_to(alloc, command, &self)

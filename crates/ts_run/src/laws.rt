@@ -2,6 +2,7 @@
 
 ghost use Rattle.ts_run.specs.AnswerTexts.{DoneIsAccepted, DoneIsMeets};
 ghost use Rattle.ts_run.specs.AnswerTexts.{OneBestReply, OneCheckReply, OneCompileReply, OneListReply, OneVerifyReply};
+ghost use Rattle.ts_run.specs.FirstBad.{ReadingsEndAtFirstBad};
 ghost use Rattle.ts_run.specs.MarkReply.{OneMarkReply};
 ghost use Rattle.ts_run.specs.Sample.{FewCellsAreDone, OneSampleReply};
 
@@ -53,4 +54,9 @@ pub fn few_cells_are_done()
 /// `mark` has one reply to an input.
 pub fn one_mark_reply()
     ensures { OneMarkReply }
+{}
+
+/// The line that `watch` refuses is the first bad one of all lines, and the readings are those of the lines before it.
+pub fn readings_end_at_first_bad()
+    ensures { ReadingsEndAtFirstBad }
 {}

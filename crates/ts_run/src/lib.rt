@@ -1,7 +1,7 @@
 //! The top of the program: from the words of a command and the bytes of its input to a text and a status.
 //!
-//! `run` reads its input through a `Source`, makes the whole reply in memory, and writes it through a `Sink`. What is
-//! replied is a definition over the bytes; a fault comes only where a count tells it.
+//! `run` reads its input through a `Source`, makes the whole reply in memory, and writes it through a `Sink`; `watch`
+//! alone writes as it reads. What is replied is a definition over the bytes; a fault comes only where a count tells it.
 //!
 //! ```text
 //! let status = run(alloc, &words, &mut StdIn::new(reader), &mut StdOut::new(writer));
@@ -11,7 +11,8 @@
 //! A command says how it takes its input. One that takes the whole is a function from bytes to a reply, as `check`
 //! and `maximise` are, and knows of no source and no sink: a new one is a word, a relation between bytes and reply, and
 //! that function. The bytes go in pieces to an intake, which keeps them for these commands. That of `verify` checks
-//! them as they come and keeps none of its lines.
+//! them as they come and keeps none of its lines. One that answers a stream is a `Live`: of each piece of its input it
+//! says what is owed, and one loop writes that before it reads on.
 //!
 //! A number among the words of a command is a `Budget`, a `Count` or a number of `Cells`: each keeps its range, and is
 //! read from a word exactly where the word writes a number within it.
@@ -26,23 +27,28 @@ mod compile;
 mod generate;
 mod intake;
 mod laws;
+mod live;
 mod mark;
 mod parts;
 mod quantity;
+mod readings;
 mod refusal;
 mod reply;
 mod reply_to;
 mod sample;
 mod sampling;
 mod status;
+mod stream;
 mod verdict;
 mod verify;
+mod watch;
 mod write;
 
 pub use call::{run, run_over_never};
 pub use laws::{
     done_is_accepted, done_is_meets, few_cells_are_done, one_best_reply, one_check_reply,
     one_compile_reply, one_list_reply, one_mark_reply, one_sample_reply, one_verify_reply,
+    readings_end_at_first_bad,
 };
 pub use quantity::{Budget, Cells, Count};
 pub use sampling::sample_model;

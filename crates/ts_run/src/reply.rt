@@ -1,6 +1,6 @@
 //! What a command replies, and why it goes no further.
 
-ghost use Rattle.std.specs.Prelude.{◌≡◌, ◌⊎◌, Ok, Err, IfOk, OnErr};
+ghost use Rattle.std.specs.Prelude.{◌≡◌, ◌⊎◌, ◌++◌, Ok, Err, IfOk, OnErr};
 ghost use Rattle.ts_run.specs.declared.reply.Stop.TheVariants.{Memory as NoMemory};
 
 use crate::status::Status;
@@ -38,4 +38,14 @@ pub fn or_refusal(reply: Result<Reply, Stop>) -> Result<Reply, Memory>
         Err(Stop::Refused(reply)) => Ok(reply),
         Err(Stop::Memory) => Err(Memory),
     }
+}
+
+/// Puts the text of a reply behind this one, which stays as it is after `Memory`; the status is the reply's.
+pub fn push_reply(text: &mut Vec<u8>, reply: &Reply) -> Result<Status, Memory>
+    ensures ok { IfOk result (λ status.
+        (text.new.items ≡ text.old.items ++ reply.now.text.items) × (status ≡ reply.now.status)) }
+    ensures err { OnErr result (text.new.items ≡ text.old.items) }
+{
+    text.extend_from_slice(&reply.text)?;
+    Ok(reply.status)
 }

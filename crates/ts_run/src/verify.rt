@@ -80,7 +80,7 @@ pub fn verdict_reply(alloc: Global, verdict: Verdict) -> Result<Reply, Memory>
 }
 
 /// The words with the number of a line.
-fn line_reply(alloc: Global, words: &[u8], line: u32, status: Status) -> Result<Reply, Memory>
+pub fn line_reply(alloc: Global, words: &[u8], line: u32, status: Status) -> Result<Reply, Memory>
     ensures { IfOk result (λ r. reply_of r ≡ line_reply words.now line status) }
 {
     let mut text = Vec::from_slice(alloc, words)?;

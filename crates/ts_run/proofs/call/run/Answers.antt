@@ -1,11 +1,11 @@
 use Rattle.std.proofs.Common.{sym}
 use Rattle.ts_run.specs.Commands.{command_of, words_in}
 use Rattle.ts_run.proofs.Ranges.{keeps_ranges}
-use Rattle.ts_run.proofs.Runs.{other_than_verify, unread_run, whole_run}
+use Rattle.ts_run.proofs.Runs.{live_run, unread_at_once, unread_run, whole_run}
 use Rattle.ts_run.proofs.call.run.Goals as goal
 
 pub run_unread-requires : goal.run_unread-requires
-run_unread-requires g c = other_than_verify c.in-Some.command (sym c.in-Nothing.ensures.input)
+run_unread-requires g c = unread_at_once c.in-Some.command (sym c.in-Nothing.ensures.input)
 
 pub returns-in-Whole : goal.returns-in-Whole
 returns-in-Whole g c =
@@ -21,7 +21,7 @@ returns-in-Whole g c =
       finishes = g.K.Sink.finishes;
     })
     (command_of words) c.args.source.now c.args.sink.now whole.new.sink whole.result whole.ensures.writes c.in-Some.command (sym c.in-Some.ensures)
-    (keeps_ranges words) whole.ensures.memory whole.new.source c.in-Whole.limit (sym c.in-Whole.ensures.input) whole.ensures.ends whole.ensures.takes
+    (keeps_ranges words) whole.new.source c.in-Whole.limit whole.ensures.memory (sym c.in-Whole.ensures.input) whole.ensures.ends whole.ensures.takes
     whole.ensures.reads
 
 pub returns-in-Nothing : goal.returns-in-Nothing
@@ -39,3 +39,20 @@ returns-in-Nothing g c =
     })
     (command_of words) c.args.source.now c.args.sink.now unread.new.sink unread.result unread.ensures.writes c.in-Some.command (sym c.in-Some.ensures)
     (keeps_ranges words) unread.ensures.memory (sym c.in-Nothing.ensures.input) unread.ensures.ends unread.ensures.reads
+
+pub returns-in-Live : goal.returns-in-Live
+returns-in-Live g c =
+    let live = c.run_stream in
+    let words = words_in c.args.words.now.items in
+    live_run
+    (record { left = g.S.Source.left; faults = g.S.Source.source_faults; is_broken = g.S.Source.source_broken; ends = g.S.Source.source_ends })
+    (record {
+      taken = g.K.Sink.taken;
+      faults = g.K.Sink.sink_faults;
+      is_broken = g.K.Sink.sink_broken;
+      is_finished = g.K.Sink.finished;
+      finishes = g.K.Sink.finishes;
+    })
+    (command_of words) c.args.source.now c.args.sink.now live.new.sink live.result live.ensures.writes c.in-Some.command
+    (sym c.in-Some.ensures) (keeps_ranges words) live.new.source c.in-Live.limit
+    (λ e. (live.ensures.calm e, live.ensures.unfinished e)) (sym c.in-Live.ensures.input) live.ensures.ends live.ensures.reads

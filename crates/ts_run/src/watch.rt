@@ -1,0 +1,140 @@
+//! `watch`: the values of a model's terms after each reading.
+
+ghost use Rattle.std.specs.Prelude.{ℕ, ◌≡◌, List, [], ◌+◌, ◌<◌, ◌++◌, length, None, IfOk, OnErr, OnOk};
+ghost use Rattle.ts_base.specs.Limits.{too_many};
+ghost use Rattle.ts_model.specs.ModelTexts.{IsPart};
+ghost use Rattle.ts_run.specs.Streams.{AddsDue};
+ghost use Rattle.ts_run.specs.Watch.{watch_due};
+ghost use Rattle.ts_run.specs.Watching.{EndsIn, HasCome, IsOwed, IsRefusedBy};
+
+use crate::live::Live;
+use crate::readings::{Readings, push_end};
+use crate::refusal::refused_model;
+use crate::reply::push_reply;
+use crate::status::Status;
+use std::alloc::Global;
+use ts_base::{Memory, first_line};
+use ts_model::{ModelStop, ModelText, Need};
+
+/// Where a stream has led.
+#[derive(Drop)]
+pub(crate) enum Stage {
+    /// Its model hasn't ended.
+    InModel(ModelText),
+    /// Behind the line `%%`.
+    InReadings(Readings),
+}
+
+/// Takes a model, a line `%%` and readings, one a line, and answers each with the values of the model's terms on all
+/// readings so far. Of the model it keeps what its whole lines state, of the readings what a monitor keeps, and of the
+/// unfinished line a short form.
+#[derive(Drop)]
+pub(crate) struct Watching {
+    pub alloc: Global,
+    pub stage: Stage,
+}
+
+impl Watching {
+    /// Before the first byte.
+    pub(crate) fn new(alloc: Global) -> Watching
+        ensures { HasCome [] result.stage }
+    {
+        Watching {
+            alloc,
+            stage: Stage::InModel(ModelText::new(alloc, Need::Values)),
+        }
+    }
+
+    /// Takes bytes of one line, whose last may be its LF. After `Memory` the text is as it was.
+    fn take_part(&mut self, part: &[u8], text: &mut Vec<u8>) -> Result<Option<Status>, Memory>
+        requires part { IsPart part.now }
+        requires some { (bytes : List ℕ) × HasCome bytes self.old.stage × (length bytes + length part.now < too_many) }
+        ensures put { OnOk result ((bytes : List ℕ) → HasCome bytes self.old.stage →
+            AddsDue watch_due bytes part.now text.old.items text.new.items) }
+        ensures ended { IfOk result (λ ended. (bytes : List ℕ) → HasCome bytes self.old.stage →
+            (watch_due (bytes ++ part.now)).ended ≡ ended) }
+        ensures goes_on { IfOk result (λ ended. ended ≡ None → (bytes : List ℕ) → HasCome bytes self.old.stage →
+            HasCome (bytes ++ part.now) self.new.stage) }
+        ensures kept { OnErr result (text.new.items ≡ text.old.items) }
+    {
+        let ended = match &mut self.stage {
+            Stage::InReadings(readings) => return readings.take(part, text),
+            Stage::InModel(model) => model.feed(part)?,
+        };
+        if ended {
+            self.end_model(text)
+        } else {
+            Ok(None)
+        }
+    }
+
+    /// The line `%%` has come: readings of the model stand in its place, or it is refused.
+    fn end_model(&mut self, text: &mut Vec<u8>) -> Result<Option<Status>, Memory>
+        requires some { (bytes : List ℕ) × EndsIn bytes self.old.stage }
+        ensures put { IfOk result (λ ended. (bytes : List ℕ) → EndsIn bytes self.old.stage →
+            IsOwed (watch_due bytes) text.old.items text.new.items ended) }
+        ensures goes_on { IfOk result (λ ended. ended ≡ None → (bytes : List ℕ) → EndsIn bytes self.old.stage →
+            HasCome bytes self.new.stage) }
+        ensures kept { OnErr result (text.new.items ≡ text.old.items) }
+    {
+        let read = match &mut self.stage {
+            Stage::InModel(model) => model.model(),
+            Stage::InReadings(_) => unreachable!(),
+        };
+        match read {
+            Ok(model) => {
+                self.stage = Stage::InReadings(Readings::new(self.alloc, &model)?);
+                Ok(None)
+            }
+            Err(stop) => {
+                let status = push_stop(self.alloc, text, stop)?;
+                Ok(Some(status))
+            }
+        }
+    }
+}
+
+impl Live for Watching {
+    ghost use Rattle.ts_run.specs.Watch.{watch_due, watch_reply};
+    ghost use Rattle.ts_run.specs.Watching.{HasCome};
+
+    ghost due = { watch_due };
+
+    ghost reply = { watch_reply };
+
+    ghost came = { λ bytes w. HasCome bytes w.stage };
+
+    fn take(&mut self, piece: &[u8], text: &mut Vec<u8>) -> Result<Option<Status>, Memory> {
+        let mut rest = piece;
+        while !rest.is_empty() {
+            let (part, left) = first_line(rest);
+            if let Some(status) = self.take_part(part, text)? {
+                return Ok(Some(status));
+            }
+            rest = left;
+        }
+        Ok(None)
+    }
+
+    fn finish(&mut self, text: &mut Vec<u8>) -> Result<Status, Memory> {
+        let read = match &mut self.stage {
+            Stage::InReadings(readings) => return readings.end(text),
+            Stage::InModel(model) => model.finish(),
+        };
+        let Err(stop) = read else {
+            return push_end(self.alloc, text, 0);
+        };
+        push_stop(self.alloc, text, stop)
+    }
+}
+
+/// Puts the refusal of the model behind the text, which is as it was after `Memory`.
+fn push_stop(alloc: Global, text: &mut Vec<u8>, stop: ModelStop) -> Result<Status, Memory>
+    ensures put { IfOk result (λ status. IsRefusedBy stop text.old.items text.new.items status) }
+    ensures kept { OnErr result (text.new.items ≡ text.old.items) }
+{
+    match stop {
+        ModelStop::Refused { line, kind } => push_reply(text, &refused_model(alloc, line, kind)?),
+        ModelStop::Memory => Err(Memory),
+    }
+}
