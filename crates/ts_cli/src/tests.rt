@@ -13,6 +13,7 @@ mod rules;
 mod sample;
 mod searches;
 mod verify;
+mod watch;
 
 /// An input, what is taken of the answer, and the status.
 #[derive(Clone, Copy)]
