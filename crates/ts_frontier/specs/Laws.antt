@@ -1,14 +1,24 @@
--- What is promised of lines that are followed.
-use Rattle.std.specs.Prelude.{ℕ, ◌+◌, ◌≤◌, List, [], ◌∷◌, length, Option}
+-- What is promised of the form of a box, and of lines that are followed.
+use Rattle.std.specs.Prelude.{◌≡◌, ℕ, ◌+◌, ◌≤◌, ℤ, List, [], ◌∷◌, length, Option}
 use Rattle.ts_certificate.specs.declared.certificate.TreeLine.{TreeLine}
 use Rattle.ts_certificate.specs.Grammar.{CertLine}
 use Rattle.ts_domain.specs.BoxSeries.{IsBox}
 use Rattle.ts_model.specs.ModelParts.{ModelParts, total_of}
-use Rattle.ts_filter.specs.Boxes.{Box}
+use Rattle.ts_filter.specs.Boxes.{Box, box_of}
 use Rattle.ts_filter.specs.Lines.{Stand, IsOutcome}
 use Rattle.ts_filter.specs.RefutedWorseDrop.{Spans}
 use Rattle.ts_filter.specs.Rules.{Head, KeepsRule}
 use Rattle.ts_frontier.specs.Follow.{MayFollow, LeadTo, WaitAfter}
+use Rattle.ts_frontier.specs.Forms.{Alone, Wide, form}
+use Rattle.ts_frontier.specs.Halve.{IsHalving}
+
+-- the form of a box is its one series, or where it is split
+pub record FormTells (b : Box) : Type 0 where
+  pub alone : (x : List ℤ) → form b ≡ Alone x → b ≡ box_of x
+  pub wide : (k : ℕ) (t : ℤ) → form b ≡ Wide k t → IsHalving k t b
+
+abbrev pub FormsTell : Type 0
+FormsTell = (b : Box) → IsBox b → FormTells b
 
 -- a line that keeps its rule may be followed
 abbrev pub RulesFollow : Type 0

@@ -1,4 +1,5 @@
 pub mod Follow
+pub mod Forms
 pub mod Halve
 pub mod Laws
 pub mod Uppers

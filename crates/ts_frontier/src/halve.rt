@@ -3,6 +3,7 @@
 ghost use Rattle.std.specs.Prelude.{◌≡◌, MatchOption, IfOk};
 ghost use Rattle.ts_domain.specs.Values.{IsDomain};
 ghost use Rattle.ts_filter.specs.Boxes.{box_of};
+ghost use Rattle.ts_frontier.specs.Forms.{form, form_seen};
 ghost use Rattle.ts_frontier.specs.Halve.{IsSingle, IsHalving, middle_of};
 
 use std::alloc::Global;
@@ -14,6 +15,23 @@ use ts_domain::{Boxed, Domain};
 pub struct Halving {
     pub cell: u32,
     pub at: i64,
+}
+
+/// What a box is: its one series, or where it is split.
+#[derive(Debug, PartialEq, Eq, Drop)]
+pub enum Form {
+    Alone(Vec<i64>),
+    Wide(Halving),
+}
+
+/// The one series of a box, or its first cell with two or more values and the lower middle one of them.
+pub fn form_of(alloc: Global, b: &Boxed) -> Result<Form, Memory>
+    ensures { IfOk result (λ f. form_seen f ≡ form b.now.present) }
+{
+    match first_halving(b) {
+        Some(halving) => Ok(Form::Wide(halving)),
+        None => Ok(Form::Alone(only_series(alloc, b)?)),
+    }
 }
 
 /// The first cell with two or more values, and of its m values the one at place (m + 1) / 2, rounded down and counted
@@ -34,7 +52,7 @@ pub fn first_halving(b: &Boxed) -> Option<Halving>
 }
 
 /// The series of a box of one.
-pub fn only_series(alloc: Global, b: &Boxed) -> Result<Vec<i64>, Memory>
+pub(crate) fn only_series(alloc: Global, b: &Boxed) -> Result<Vec<i64>, Memory>
     ensures { IfOk result (λ x. IsSingle b.now.present → b.now.present ≡ box_of x.items) }
 {
     let mut series = Vec::new(alloc);

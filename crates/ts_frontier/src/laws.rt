@@ -1,6 +1,11 @@
 //! Laws of the definitions: functions that do nothing, each with what it proves as its clause.
 
-ghost use Rattle.ts_frontier.specs.Laws.{FewWait, FewWaitAfter, RulesFollow};
+ghost use Rattle.ts_frontier.specs.Laws.{FewWait, FewWaitAfter, FormsTell, RulesFollow};
+
+/// The form of a box is its one series, or its first cell with two or more values and the lower middle one of them.
+pub fn form_tells()
+    ensures { FormsTell }
+{}
 
 /// A line that keeps its rule may be followed.
 pub fn rules_follow()

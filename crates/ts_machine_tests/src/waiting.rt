@@ -10,7 +10,7 @@ use std::process::Abort;
 use std::test::Fail;
 use ts_certificate::TreeLine;
 use ts_domain::{Boxed, Domain, DomainStop};
-use ts_frontier::{Frontier, first_halving, follow, only_series};
+use ts_frontier::{Form, Frontier, follow, form_of};
 
 /// The first and last values of the next box's cells, a line on that box, and how many boxes wait after it.
 static TREE: [(&[(i64, i64)], TreeLine, u64); 12] = [
@@ -150,11 +150,12 @@ fn places_to_split_at(rt: HostRuntime) -> Result<(), Fail> {
     let alloc = rt.alloc();
     for (cells, place, series) in forms() {
         let present = box_of(&rt, alloc, cells)?;
-        let found = first_halving(&present).map(|halving| (halving.cell, halving.at));
-        assert_eq!(rt; found, *place);
-        if found.is_none() {
-            let only = only_series(alloc, &present)?;
-            assert_eq!(rt; only.as_slice(), *series);
+        match form_of(alloc, &present)? {
+            Form::Alone(only) => {
+                assert!(rt; place.is_none());
+                assert_eq!(rt; only.as_slice(), *series);
+            }
+            Form::Wide(halving) => assert_eq!(rt; Some((halving.cell, halving.at)), *place),
         }
     }
     Ok(())

@@ -1,5 +1,5 @@
 -- What the calls on a machine's spans tell is what the definitions test.
-use Rattle.std.proofs.Common.{◌≡◌, ◌⊎◌, ◌↔◌, ℕ, ◌-◌, ◌<◌, ◌≤◌, ℤ, ◌<ℤ◌, Bool, true, false, List, length, Option, Some, None, slice_get, refl, sym, ◌∙◌, ap, subst, inl, inr, arith}
+use Rattle.std.proofs.Common.{◌≡◌, ◌↔◌, ℕ, ◌-◌, ◌<◌, ◌≤◌, ℤ, ◌<ℤ◌, Bool, true, false, List, length, Option, Some, None, slice_get, refl, sym, ◌∙◌, ap, subst, inl, inr, arith}
 use Rattle.std.proofs.lemmas.Bool.{false_from_ne_true}
 use Rattle.std.proofs.lemmas.Int.{ints}
 use Rattle.std.specs.Prelude.{IsTrue}
@@ -11,9 +11,9 @@ use Rattle.ts_bound.specs.TermSpans.{Automata, term_span, IsUsable as IsUsableOf
 use Rattle.ts_model.specs.declared.model.Require.{Require}
 use Rattle.ts_model.specs.ModelParts.{ModelParts}
 use Rattle.ts_filter.specs.declared.bar.Bar.{Bar}
-use Rattle.ts_filter.specs.declared.drops.Removal.{Removal as GivenRemoval}
+use Rattle.ts_filter.specs.declared.drops.Removal.{Removal}
 use Rattle.ts_filter.specs.Boxes.{Box}
-use Rattle.ts_filter.specs.Drops.{IsFirstDrop}
+use Rattle.ts_filter.specs.Drops.{IsNoLater, IsFirstDrop}
 use Rattle.ts_filter.specs.Excluded.{Refutes, Cuts}
 use Rattle.ts_filter.specs.FirstCell.{IsEarly, IsFirstCell}
 use Rattle.ts_filter.specs.MachineSpans.{spans_of, AreOfMachine}
@@ -22,9 +22,7 @@ use Rattle.ts_filter.specs.Tests.{is_refuted, is_cut}
 use Rattle.ts_filter.proofs.MachineLaws.{spans_are_of_machines}
 use Rattle.ts_filter.proofs.TestLaws.{tests_tell}
 use Rattle.ts_filter.proofs.SoundLaws.{clash}
-use Rattle.ts_search.specs.Drops.{Removal, least, next_drop}
-use Rattle.ts_search.specs.Laws.{IsNextDrop}
-use Rattle.ts_search.specs.Views.{removal_of}
+use Rattle.ts_search.specs.Drops.{least, next_drop}
 use Rattle.ts_search.proofs.Choice.{LeastFits, least_fits}
 use Rattle.ts_search.proofs.NextDrop.{next_drop_fits}
 
@@ -143,40 +141,29 @@ never_least n j = sym (least_is (λ p. false) n j None (λ i from to. refl))
 
 -- the drop that comes first is one
 
--- it doesn't come after the other: by the cell, then by the value, then by the requirement
-abbrev NoLater : ℕ → ℤ → ℕ → ℕ → ℤ → ℕ → Type 0
-NoLater k v i c w j = (k < c) ⊎ ((k ≡ c) × ((v <ℤ w) ⊎ ((v ≡ w) × (i ≤ j))))
-
 never_below : (v w : ℤ) → v <ℤ w → w <ℤ v → ⊥
 never_below v w l g = omega (arith, ints, l, g)
 
 never_same : (v w : ℤ) → v <ℤ w → w ≡ v → ⊥
 never_same v w l g = omega (arith, ints, l, g)
 
-same_drop : (k c : ℕ) (v w : ℤ) (i j : ℕ) → NoLater k v i c w j → NoLater c w j k v i → (k ≡ c) × (v ≡ w) × (i ≡ j)
-same_drop k c v w i j (inl a) (inl b) = absurd (omega (arith, a, b))
-same_drop k c v w i j (inl a) (inr b) = absurd (let e = b.0 in omega (arith, a, e))
-same_drop k c v w i j (inr a) (inl b) = absurd (let e = a.0 in omega (arith, b, e))
-same_drop k c v w i j (inr (e, inl l)) (inr (f, inl g)) = absurd (never_below v w l g)
-same_drop k c v w i j (inr (e, inl l)) (inr (f, inr g)) = absurd (never_same v w l g.0)
-same_drop k c v w i j (inr (e, inr l)) (inr (f, inl g)) = absurd (never_same w v g l.0)
-same_drop k c v w i j (inr (e, inr l)) (inr (f, inr g)) = (e, l.0, (let a = l.1 in let b = g.1 in omega (arith, a, b)))
+same_drop : (r t : Removal) → IsNoLater r t → IsNoLater t r → r ≡ t
+same_drop r t (inl a) (inl b) = absurd (omega (arith, a, b))
+same_drop r t (inl a) (inr b) = absurd (let e = b.0 in omega (arith, a, e))
+same_drop r t (inr a) (inl b) = absurd (let e = a.0 in omega (arith, b, e))
+same_drop r t (inr (e, inl l)) (inr (f, inl g)) = absurd (never_below r.value t.value l g)
+same_drop r t (inr (e, inl l)) (inr (f, inr g)) = absurd (never_same r.value t.value l g.0)
+same_drop r t (inr (e, inr l)) (inr (f, inl g)) = absurd (never_same t.value r.value g l.0)
+same_drop r t (inr (e, inr l)) (inr (f, inr g)) =
+    let least : r.require ≡ t.require = (let a = l.1 in let b = g.1 in omega (arith, a, b)) in
+    (λ i. record { cell = e i; value = l.0 i; require = least i })
 
 module _ (m : ModelParts) (s : Spans) (b : Box) (box : IsBox b) where
-  pub drop_is : (found : Option GivenRemoval) → IsFirstDrop m.requirements s b found → removal_of found ≡ next_drop m s b
-  drop_is found h = go found h (next_drop m s b) refl
+  pub drop_is : (found : Option Removal) → IsFirstDrop m.requirements s b found → found ≡ next_drop m s b
+  drop_is found h = one found (next_drop m s b) h (next_drop_fits m s b box)
     where
-      fits : IsNextDrop m s b
-      fits = next_drop_fits m s b
-
-      given : Removal → GivenRemoval
-      given r = record { cell = r.cell; value = r.value; require = r.requirement }
-
-      go : (found : Option GivenRemoval) → IsFirstDrop m.requirements s b found → (o : Option Removal) → next_drop m s b ≡ o → removal_of found ≡ o
-      go None h None e = refl
-      go None h (Some r) e = absurd (h (given r) (fits.some r e))
-      go (Some t) h None e = absurd (fits.none e t.cell t.value t.require h.0)
-      go (Some t) h (Some r) e =
-          let same = same_drop t.cell r.cell t.value r.value t.require r.requirement (h.1 (given r) (fits.some r e))
-          (fits.first box r e t.cell t.value t.require h.0) in
-          (λ i. Some (record { cell = same.0 i; value = same.1 i; requirement = same.2 i }))
+      one : (found next : Option Removal) → IsFirstDrop m.requirements s b found → IsFirstDrop m.requirements s b next → found ≡ next
+      one None None h g = refl
+      one None (Some r) h g = absurd (h r g.0)
+      one (Some t) None h g = absurd (g t h.0)
+      one (Some t) (Some r) h g = ap Some (same_drop t r (h.1 r g.0) (g.1 t h.0))

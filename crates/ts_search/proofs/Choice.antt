@@ -10,8 +10,9 @@ use Rattle.ts_filter.specs.RefutedWorseDrop.{Spans, IsRefuted, IsDrop}
 use Rattle.ts_filter.specs.Tests.{is_drop}
 use Rattle.ts_filter.proofs.TestLaws.{tests_tell}
 use Rattle.ts_search.specs.Dive.{Find}
-use Rattle.ts_search.specs.Drops.{Removal, least, or_later, drop_of, drop_at, drop_from, next_drop}
-use Rattle.ts_search.specs.Forms.{Form, Alone, Wide, form}
+use Rattle.ts_filter.specs.declared.drops.Removal.{Removal}
+use Rattle.ts_search.specs.Drops.{least, or_later, drop_of, drop_at, drop_from, next_drop}
+use Rattle.ts_frontier.specs.Forms.{Form, Alone, Wide, form}
 use Rattle.ts_search.specs.Lean.{has_goal}
 use Rattle.ts_search.specs.LineOf.{Search, last, requirements, inner, is_refuted_at, bar_of, cut_by, refuted_last, no_line, first_no, removal_line, branch_line, inner_worse, wide_line, form_line, line_of}
 use Rattle.ts_search.proofs.Known.{to_refuted}
@@ -49,7 +50,7 @@ least_fits q (suc f) j =
 -- the next drop is one that may be made
 abbrev pub DropFits : ModelParts → Spans → Box → Option Removal → Type 0
 DropFits m s b None = Unit {0}
-DropFits m s b (Some r) = IsDrop m.requirements s r.cell r.value r.requirement b
+DropFits m s b (Some r) = IsDrop m.requirements s r.cell r.value r.require b
 
 module _ (m : ModelParts) (s : Spans) (b : Box) where
   or_fits : (o later : Option Removal) → DropFits m s b o → DropFits m s b later → DropFits m s b (or_later o later)
@@ -61,7 +62,7 @@ module _ (m : ModelParts) (s : Spans) (b : Box) where
       (least_fits (λ j. is_drop m.requirements s k v j b) (length m.requirements) 1)
     where
       go : (o : Option ℕ) → LeastFits (λ j. is_drop m.requirements s k v j b) (length m.requirements) 1 o →
-          DropFits m s b (option_map (λ j. record { cell = k; value = v; requirement = j }) o)
+          DropFits m s b (option_map (λ j. record { cell = k; value = v; require = j }) o)
       go None f = tt
       go (Some j) f = ((tests_tell s).drop m.requirements k v j b).0 f.holds
 

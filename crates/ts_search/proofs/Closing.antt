@@ -9,7 +9,7 @@ use Rattle.ts_model.specs.ModelParts.{ModelParts}
 use Rattle.ts_filter.specs.Boxes.{Box}
 use Rattle.ts_filter.specs.RefutedWorseDrop.{Spans}
 use Rattle.ts_search.specs.Dive.{dive_box, value_of}
-use Rattle.ts_search.specs.Forms.{Form, Alone, Wide, form}
+use Rattle.ts_frontier.specs.Forms.{Form, Alone, Wide, form}
 use Rattle.ts_search.specs.Laws.{SearchSolves, SearchLists, OneSolved, OneListed, BudgetIsEnough, ListBudgetIsEnough, DropsEnd, DiveEnds, DiveMeets, DiveEndsEarly}
 use Rattle.ts_search.specs.Lean.{AreLean, most_told, Lean}
 use Rattle.ts_search.specs.Listed.{IsListAnswer}

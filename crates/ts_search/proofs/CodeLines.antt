@@ -1,49 +1,17 @@
 -- The line of a box as the code finds it: its loops over the requirements, and each place where it ends.
-use Rattle.std.proofs.Common.{◌≡◌, ℕ, zero, suc, ◌+◌, ◌-◌, ◌/◌, ◌<◌, ◌≤◌, ℤ, pos, Bool, true, false, cond, List, [], ◌∷◌, length, get_or, take, Option, Some, None, option_map, unwrap_or, refl, sym, ◌∙◌, ap, arith}
-use Rattle.std.proofs.lemmas.List.{get_or_default}
+use Rattle.std.proofs.Common.{◌≡◌, ℕ, suc, ◌+◌, ◌-◌, ◌<◌, ◌≤◌, ℤ, Bool, true, false, cond, Option, Some, None, option_map, unwrap_or, sym, ◌∙◌, ap, arith}
 use Rattle.ts_certificate.specs.declared.certificate.Aim.{Aim}
 use Rattle.ts_certificate.specs.declared.certificate.Aim.TheVariants.{Best as BestOf, List as ListOf}
 use Rattle.ts_certificate.specs.declared.certificate.TreeLine.{TreeLine}
 use Rattle.ts_certificate.specs.declared.certificate.TreeLine.TheVariants.{Split, Remove, No, Worse, Yes}
 use Rattle.ts_filter.specs.Boxes.{Box}
-use Rattle.ts_filter.specs.declared.drops.Removal.{Removal as GivenRemoval}
-use Rattle.ts_frontier.specs.Halve.{IsSingle, IsHalving, middle_of}
+use Rattle.ts_filter.specs.declared.drops.Removal.{Removal}
+use Rattle.ts_frontier.specs.Halve.{IsSingle, IsHalving}
+use Rattle.ts_frontier.proofs.Halves.{halving_form, single_form}
 use Rattle.ts_search.specs.Dive.{Find}
 use Rattle.ts_search.specs.Drops.{least, next_drop}
-use Rattle.ts_search.specs.Forms.{Form, Alone, Wide, after_value, form}
+use Rattle.ts_frontier.specs.Forms.{Form, Alone, Wide, form}
 use Rattle.ts_search.specs.LineOf.{Search, last, requirements, inner, is_refuted_at, bar_of, cut_by, refuted_last, no_line, first_no, removal_line, branch_line, inner_worse, wide_line, form_line, line_of}
-use Rattle.ts_search.specs.Views.{removal_of}
-
--- the form of a box, by its halving
-
-pub single_form : (b : Box) → IsSingle b → (x : List ℤ) × (form b ≡ Alone x)
-single_form [] h = ([], refl)
-single_form ([] ∷ b) h = absurd (let one = h.0 in omega (arith, one))
-single_form ((v ∷ []) ∷ b) h = let later = single_form b h.1 in (v ∷ later.0, ap (after_value v) later.1)
-single_form ((v ∷ u ∷ d) ∷ b) h = absurd (let one = h.0 in omega (arith, one))
-
-wide_here : (d : List ℤ) (b : Box) (t : ℤ) → 2 ≤ length d → t ≡ middle_of d → form (d ∷ b) ≡ Wide 1 t
-wide_here [] b t many is = absurd (omega (arith, many))
-wide_here (v ∷ []) b t many is = absurd (omega (arith, many))
-wide_here (v ∷ u ∷ d) b t many is =
-    let i : (length d + 1) / 2 ≡ (length (v ∷ u ∷ d) - 1) / 2 = omega arith in
-    ap (Wide 1)
-    (get_or_default (v ∷ u ∷ d) ((length d + 1) / 2) v (pos 0) (omega arith) ∙ ap (λ n. get_or (v ∷ u ∷ d) n (pos 0)) i ∙ sym is)
-
-wide_at : (b : Box) (i : ℕ) (t : ℤ) → i < length b → IsSingle (take i b) → 2 ≤ length (get_or b i []) → t ≡ middle_of (get_or b i []) →
-    form b ≡ Wide (suc i) t
-wide_at [] i t l before many is = absurd (omega (arith, l))
-wide_at (d ∷ b) zero t l before many is = wide_here d b t many is
-wide_at ([] ∷ b) (suc i) t l before many is = absurd (let one = before.0 in omega (arith, one))
-wide_at ((v ∷ []) ∷ b) (suc i) t l before many is = ap (after_value v) (wide_at b i t (omega (arith, l)) before.1 many is)
-wide_at ((v ∷ u ∷ d) ∷ b) (suc i) t l before many is = absurd (let one = before.0 in omega (arith, one))
-
-pub halving_form : (b : Box) (k : ℕ) (t : ℤ) → IsHalving k t b → form b ≡ Wide k t
-halving_form b k t h =
-    let from = h.cell.0 in
-    let to = h.cell.1 in
-    let at : suc (k - 1) ≡ k = omega (arith, from) in
-    wide_at b (k - 1) t (omega (arith, from, to)) h.before h.many h.middle ∙ ap (λ n. Wide n t) at
 
 -- the loops over the requirements
 
@@ -102,15 +70,15 @@ module _ (c : Search) (aim : Aim) (found : Option Find) (b : Box) where
   wide_on l k t e is = is ∙ ap (λ o. unwrap_or o (inner_worse c aim found b (branch_line c b k t))) (sym e)
 
 -- a drop where one is possible, else the split; the numbers are as the code has them
-module _ (c : Search) (b : Box) (o : Option GivenRemoval) (is : removal_of o ≡ next_drop c.model c.spans b) where
-  pub branch_drop : (r : GivenRemoval) (v : ℤ) (k : ℕ) (t : ℤ) → o ≡ Some r → v ≡ r.value → Remove r.cell v r.require ≡ branch_line c b k t
+module _ (c : Search) (b : Box) (o : Option Removal) (is : o ≡ next_drop c.model c.spans b) where
+  pub branch_drop : (r : Removal) (v : ℤ) (k : ℕ) (t : ℤ) → o ≡ Some r → v ≡ r.value → Remove r.cell v r.require ≡ branch_line c b k t
   branch_drop r v k t some same =
       ap (λ z. Remove r.cell z r.require) same
-      ∙ ap (λ z. unwrap_or (option_map removal_line z) (Split k t)) (sym (ap removal_of some) ∙ is)
+      ∙ ap (λ z. unwrap_or (option_map removal_line z) (Split k t)) (sym some ∙ is)
 
   pub branch_split : (k : ℕ) (t u : ℤ) → o ≡ None → u ≡ t → Split k u ≡ branch_line c b k t
   branch_split k t u none same =
-      ap (Split k) same ∙ ap (λ z. unwrap_or (option_map removal_line z) (Split k t)) (sym (ap removal_of none) ∙ is)
+      ap (Split k) same ∙ ap (λ z. unwrap_or (option_map removal_line z) (Split k t)) (sym none ∙ is)
 
 module _ (c : Search) (found : Option Find) (b : Box) (k : ℕ) (t : ℤ) where
   -- of a box of several series that is neither refuted nor cut at the last cell

@@ -20,7 +20,7 @@ use Rattle.ts_filter.proofs.SoundLaws.{series_length}
 use Rattle.ts_domain.specs.Values.{least_of}
 use Rattle.ts_search.specs.Dive.{value_of, find, promise, most_promising, best_value, kept_for, kept_value, keep_one, keep_from, dive_box, dive_end, dive}
 use Rattle.ts_search.specs.Drops.{after_drops}
-use Rattle.ts_search.specs.Forms.{Form, Alone, Wide, after_value, form}
+use Rattle.ts_frontier.specs.Forms.{Form, Alone, Wide, after_value, form}
 use Rattle.ts_search.proofs.DropLaws.{drops_keep, dropped_part}
 use Rattle.ts_search.proofs.Parts.{alone_within}
 
@@ -103,7 +103,7 @@ module _ (m : ModelParts) (s : Spans) (goal : Goal) where
           (subst (λ z. length z ≡ 1) (sym (get_or-set_other b n i (v ∷ []) [] n')) (h i (omega (arith, l, n'))))
 
   dropped_ones : (n : ℕ) (b : Box) → OneEach n b → OneEach n (after_drops m s b)
-  dropped_ones n b h = drops_keep m s (λ d. OneEach n d) (λ r d a k. drop_ones n r.cell r.value r.requirement d a k) (total_of b) b h
+  dropped_ones n b h = drops_keep m s (λ d. OneEach n d) (λ r d a k. drop_ones n r.cell r.value r.require d a k) (total_of b) b h
 
   record IsKept (n : ℕ) (b : Box) : Type 0 where
     part : IsPart b m.cells

@@ -20,14 +20,13 @@ use Rattle.ts_filter.specs.Boxes.{Box, HasCell, values_at, low_side, high_side, 
 use Rattle.ts_filter.specs.Laws.{IsSound}
 use Rattle.ts_filter.specs.RefutedWorseDrop.{Spans, IsRefuted, IsDrop}
 use Rattle.ts_filter.proofs.BoxParts.{place, domain_at, inside_length, others_stay, part_self}
-use Rattle.ts_frontier.specs.Halve.{IsHalving}
 use Rattle.ts_search.specs.Dive.{Find, find, value_of, kept_value, keep_from, dive_end, dive}
-use Rattle.ts_search.specs.Drops.{Removal, next_drop, drops, after_drops}
-use Rattle.ts_search.specs.Forms.{Alone, form}
+use Rattle.ts_filter.specs.declared.drops.Removal.{Removal}
+use Rattle.ts_search.specs.Drops.{next_drop, drops, after_drops}
+use Rattle.ts_frontier.specs.Forms.{Alone, Wide, form}
 use Rattle.ts_search.specs.LineOf.{Search, last, is_refuted_at, refuted_last, requirements}
 use Rattle.ts_search.specs.Views.{IsSettled}
 use Rattle.ts_search.proofs.Choice.{drop_fits, DropFits, least_fits, LeastFits}
-use Rattle.ts_search.proofs.CodeLines.{halving_form}
 use Rattle.ts_search.proofs.DiveLaws.{keep_inside, kept_in, kept_part, none_inside}
 use Rattle.ts_search.proofs.DropLaws.{drop_part, dropped_part}
 use Rattle.ts_search.proofs.Known.{to_refuted}
@@ -45,7 +44,7 @@ module _ (m : ModelParts) (s : Spans) where
         length-without v values (domain_at b (k - 1) i (place k b d.cell)).rising d.there,
       )
 
-  pub is_next : (b : Box) (r : Removal) → next_drop m s b ≡ Some r → IsDrop m.requirements s r.cell r.value r.requirement b
+  pub is_next : (b : Box) (r : Removal) → next_drop m s b ≡ Some r → IsDrop m.requirements s r.cell r.value r.require b
   is_next b r e = subst (λ o. DropFits m s b o) e (drop_fits m s b)
 
   -- where none is possible, none is made
@@ -60,7 +59,7 @@ module _ (m : ModelParts) (s : Spans) where
   pub one_more : (b : Box) (r : Removal) → IsBox b → next_drop m s b ≡ Some r → after_drops m s (without r.cell r.value b) ≡ after_drops m s b
   one_more b r box e =
       let left = without r.cell r.value b in
-      let less : total_of b ≡ suc (total_of left) = omega (arith, one_less r.cell r.value r.requirement b box (is_next b r e)) in
+      let less : total_of b ≡ suc (total_of left) = omega (arith, one_less r.cell r.value r.require b box (is_next b r e)) in
       ap (λ o. unwrap_or (option_map (λ (r : Removal). drops m s (total_of left) (without r.cell r.value b)) o) b) (sym e)
       ∙ ap (λ n. drops m s n b) (sym less)
 
@@ -72,10 +71,10 @@ module _ (m : ModelParts) (s : Spans) where
   removal_stays b r box e = let d = is_next b r e in others_stay r.cell r.value b box d.cell d.many d.there
 
   pub removal_part : (all b : Box) (r : Removal) → IsPart b all → next_drop m s b ≡ Some r → IsPart (without r.cell r.value b) all
-  removal_part all b r i e = drop_part m s r.cell r.value r.requirement b all i (is_next b r e)
+  removal_part all b r i e = drop_part m s r.cell r.value r.require b all i (is_next b r e)
 
   pub removal_less : (b : Box) (r : Removal) → IsBox b → next_drop m s b ≡ Some r → total_of (without r.cell r.value b) < total_of b
-  removal_less b r box e = omega (arith, one_less r.cell r.value r.requirement b box (is_next b r e))
+  removal_less b r box e = omega (arith, one_less r.cell r.value r.require b box (is_next b r e))
 
 -- the code found a requirement that is refuted at the last cell
 pub refuted_some : (c : Search) (b : Box) (o : Option ℕ) → o ≡ refuted_last c b → (none : Bool) → is_some o ≡ not none → none ≡ false →
@@ -242,8 +241,8 @@ pub met_is : (m : ModelParts) (x y : List ℤ) (inside holding : List Bool) (t :
 met_is m x y inside holding t same told inside_is holding_is = told ∙ (λ i. all_hold (inside_is i) (holding_is i)) ∙ ap (is_met m) same
 
 module _ (m : ModelParts) (b : Box) where
-  pub left_wide : (k : ℕ) (t : ℤ) → IsHalving k t b → None ≡ dive_end m (form b)
-  left_wide k t h = ap (dive_end m) (sym (halving_form b k t h))
+  pub left_wide : (k : ℕ) (t : ℤ) → form b ≡ Wide k t → None ≡ dive_end m (form b)
+  left_wide k t wide = ap (dive_end m) (sym wide)
 
   pub left_fails : (x : List ℤ) (t : Bool) → form b ≡ Alone x → t ≡ is_met m x → t ≡ false → None ≡ dive_end m (form b)
   left_fails x t alone is fails = ap (λ z. cond z (Some (find m x)) None) (sym fails ∙ is) ∙ ap (dive_end m) (sym alone)

@@ -22,7 +22,7 @@ use Rattle.ts_filter.proofs.TreeLaws.{parts_made, steps_go_on}
 use Rattle.ts_filter.proofs.SoundLaws.{clash}
 use Rattle.ts_filter.proofs.KeptLaws.{better_trans}
 use Rattle.ts_search.specs.Dive.{Find, value_of, find}
-use Rattle.ts_search.specs.Forms.{Form, Alone, Wide, form}
+use Rattle.ts_frontier.specs.Forms.{Form, Alone, Wide, form}
 use Rattle.ts_search.specs.Found.{beats, tally_after, tally, told_or_warm}
 use Rattle.ts_search.specs.LineOf.{Search, last, requirements, is_refuted_at, is_cut_at, bar_of, cut_by, counts_for, line_of}
 use Rattle.ts_search.specs.Turns.{State, start, found_after, after, turn_on, turn, turns, found_or_warm, budget_claim}

@@ -18,7 +18,7 @@ use Rattle.ts_filter.proofs.BoxParts.{inside_length, in_box_inside}
 use Rattle.ts_filter.proofs.SoundLaws.{higher_bar, clash}
 use Rattle.ts_filter.proofs.TestLaws.{tests_tell}
 use Rattle.ts_search.specs.Dive.{value_of}
-use Rattle.ts_search.specs.Forms.{Alone, form}
+use Rattle.ts_frontier.specs.Forms.{Alone, form}
 use Rattle.ts_search.specs.LineOf.{Search, last, requirements, is_refuted_at, is_cut_at}
 
 -- what is better under a goal

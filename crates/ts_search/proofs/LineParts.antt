@@ -1,4 +1,4 @@
--- The parts of a line mean what they are meant to: the first open cell, and the first requirement that is refuted.
+-- `no J P` below the last cell names the first requirement that is refuted there, and its first cell.
 use Rattle.std.proofs.Common.{◌≡◌, ◌⊎◌, ℕ, zero, suc, ◌<◌, ◌≤◌, true, Option, Some, None, sym, subst, inl, inr, ⊎_elim, arith, eq-or-lt_of_le}
 use Rattle.std.proofs.lemmas.Bool.{cases_lt}
 use Rattle.ts_certificate.specs.declared.certificate.TreeLine.{TreeLine}
@@ -6,17 +6,10 @@ use Rattle.ts_certificate.specs.declared.certificate.TreeLine.TheVariants.{No}
 use Rattle.ts_filter.specs.Boxes.{Box}
 use Rattle.ts_filter.proofs.SoundLaws.{clash}
 use Rattle.ts_search.specs.Drops.{least}
-use Rattle.ts_search.specs.Laws.{FormsTell, FirstNoFits}
+use Rattle.ts_search.specs.Laws.{FirstNoFits}
 use Rattle.ts_search.specs.LineOf.{Search, requirements, inner, is_refuted_at, no_line, first_no}
 use Rattle.ts_search.proofs.Choice.{LeastFits, least_fits}
 use Rattle.ts_search.proofs.Known.{to_refuted, from_refuted}
-use Rattle.ts_search.proofs.Parts.{FormFits, form_fits, wide_first}
-
-pub forms_tell : FormsTell
-forms_tell b i = record {
-  alone = λ x e. subst (λ g. FormFits b g) e (form_fits b i);
-  wide = λ k t e. let f = wide_first b k t i e in record { split = f.0; before = f.1; there = f.2.0; middle = f.2.1 };
-}
 
 -- of the requirements from k on
 record Leads (c : Search) (b : Box) (k : ℕ) (l : TreeLine) : Type 0 where

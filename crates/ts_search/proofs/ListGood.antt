@@ -15,7 +15,7 @@ use Rattle.ts_filter.specs.Steps.{made_by, Steps}
 use Rattle.ts_filter.specs.Tree.{told_by}
 use Rattle.ts_filter.proofs.BoxParts.{from_without, in_a_side, only_or_without, only_part, part_self}
 use Rattle.ts_filter.proofs.TreeLaws.{parts_made, steps_go_on}
-use Rattle.ts_search.specs.Forms.{Alone, form}
+use Rattle.ts_frontier.specs.Forms.{Alone, form}
 use Rattle.ts_search.specs.LineOf.{Search, last, requirements, is_refuted_at, line_of}
 use Rattle.ts_search.specs.Turns.{ListState, list_start, listed_after, list_after, list_turn_on, list_turn, list_turns}
 use Rattle.ts_search.proofs.Choice.{Choice, by_refuted, by_cut, by_new, by_yes, by_drop, by_split, line_choice}

@@ -9,7 +9,7 @@ use Rattle.ts_filter.specs.Steps.{made_by, Steps}
 use Rattle.ts_filter.specs.Tree.{told_by}
 use Rattle.ts_search.specs.Dive.{Find}
 use Rattle.ts_search.specs.Drops.{or_later, next_drop}
-use Rattle.ts_search.specs.Forms.{Form, Alone, Wide, form}
+use Rattle.ts_frontier.specs.Forms.{Form, Alone, Wide, form}
 use Rattle.ts_search.specs.Found.{tally_after, tally}
 use Rattle.ts_search.specs.Lean.{IsFree, IsLeanLine, MayFollow, or_open, AreLean, most_told}
 use Rattle.ts_search.specs.LineOf.{Search, last, requirements, refuted_last, first_no, branch_line, form_line, line_of}

@@ -23,7 +23,7 @@ use Rattle.ts_filter.proofs.TreeLaws.{parts_made}
 use Rattle.ts_filter.proofs.Answered.{told_more}
 use Rattle.ts_search.specs.Dive.{Find}
 use Rattle.ts_search.specs.Drops.{or_later}
-use Rattle.ts_search.specs.Forms.{Form, Alone, Wide, form}
+use Rattle.ts_frontier.specs.Forms.{Form, Alone, Wide, form}
 use Rattle.ts_search.specs.Found.{tally_after}
 use Rattle.ts_search.specs.Laws.{IsBudget}
 use Rattle.ts_search.specs.Lean.{IsFree, IsLeanLine, InTime, MayFollow, AreLean, most_told}
@@ -32,7 +32,8 @@ use Rattle.ts_search.specs.Listed.{IsListedBy}
 use Rattle.ts_search.proofs.Choice.{LeastFits, least_fits}
 use Rattle.ts_search.proofs.Known.{Known, no_series, to_refuted}
 use Rattle.ts_search.proofs.ListSolves.{HasList}
-use Rattle.ts_search.proofs.Parts.{AreParts, is_alone, in_box_of, alone_within, drop_not_alone}
+use Rattle.ts_frontier.proofs.Halves.{is_alone}
+use Rattle.ts_search.proofs.Parts.{AreParts, in_box_of, alone_within, drop_not_alone}
 use Rattle.ts_search.proofs.Reason.{least_none, none_least, none_first_no, never_refuted}
 use Rattle.ts_search.proofs.Unique.{all_lines, tree_size, opens_same, none_after, checked_or, checked_one, closed_steps, steps_of, same_certificate}
 use Rattle.ts_search.proofs.Walk.{IsChecked}

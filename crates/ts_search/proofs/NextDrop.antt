@@ -7,19 +7,21 @@ use Rattle.ts_domain.specs.Values.{IsRising}
 use Rattle.ts_domain.proofs.Sets.{contains_cons, nothing_in, each_contains}
 use Rattle.ts_model.specs.ModelParts.{ModelParts}
 use Rattle.ts_filter.specs.Boxes.{Box, values_at}
+use Rattle.ts_filter.specs.Drops.{IsNoLater, IsFirstDrop}
 use Rattle.ts_filter.specs.RefutedWorseDrop.{Spans, IsDrop}
 use Rattle.ts_filter.specs.Tests.{is_drop}
 use Rattle.ts_filter.proofs.BoxParts.{place, domain_at}
 use Rattle.ts_filter.proofs.TestLaws.{tests_tell}
 use Rattle.ts_filter.proofs.SoundLaws.{clash}
-use Rattle.ts_search.specs.Drops.{Removal, least, or_later, drop_of, drop_at, drop_from, next_drop}
-use Rattle.ts_search.specs.Laws.{IsNoLater, NextDropFits}
+use Rattle.ts_filter.specs.declared.drops.Removal.{Removal}
+use Rattle.ts_search.specs.Drops.{least, or_later, drop_of, drop_at, drop_from, next_drop}
+use Rattle.ts_search.specs.Laws.{NextDropFits}
 use Rattle.ts_search.proofs.Choice.{LeastFits, least_fits, DropFits, drop_fits}
 use Rattle.ts_search.proofs.Reason.{none_least}
 
-none_of : (o : Option ℕ) (k : ℕ) (v : ℤ) → ◌≡◌ {A = Option Removal} (option_map (λ j. record { cell = k; value = v; requirement = j }) o) None → o ≡ None
+none_of : (o : Option ℕ) (k : ℕ) (v : ℤ) → ◌≡◌ {A = Option Removal} (option_map (λ j. record { cell = k; value = v; require = j }) o) None → o ≡ None
 none_of None k v e = refl
-none_of (Some j) k v e = absurd (let f : ◌≡◌ {A = Option Removal} (Some (record { cell = k; value = v; requirement = j })) None = e in cc)
+none_of (Some j) k v e = absurd (let f : ◌≡◌ {A = Option Removal} (Some (record { cell = k; value = v; require = j })) None = e in cc)
 
 neither : (o later : Option Removal) → or_later o later ≡ None → (o ≡ None) × (later ≡ None)
 neither None later e = (refl, e)
@@ -61,7 +63,7 @@ module _ (m : ModelParts) (s : Spans) (b : Box) where
   record IsOf (k : ℕ) (v : ℤ) (r : Removal) : Type 0 where
     cell : r.cell ≡ k
     value : r.value ≡ v
-    first : (j : ℕ) → IsDrop m.requirements s k v j b → r.requirement ≤ j
+    first : (j : ℕ) → IsDrop m.requirements s k v j b → r.require ≤ j
 
   first_of : (k : ℕ) (v : ℤ) (r : Removal) → drop_of m s b k v ≡ Some r → IsOf k v r
   first_of k v r e = go (least q (length m.requirements) 1) (least_fits q (length m.requirements) 1) e
@@ -76,10 +78,10 @@ module _ (m : ModelParts) (s : Spans) (b : Box) where
       below_or_not : (i j : ℕ) → (j < i) ⊎ (i ≤ j)
       below_or_not i j = grind arith
 
-      go : (o : Option ℕ) → LeastFits q (length m.requirements) 1 o → option_map (λ j. record { cell = k; value = v; requirement = j }) o ≡ Some r → IsOf k v r
+      go : (o : Option ℕ) → LeastFits q (length m.requirements) 1 o → option_map (λ j. record { cell = k; value = v; require = j }) o ≡ Some r → IsOf k v r
       go None f h = absurd (let g : ◌≡◌ {A = Option Removal} None (Some r) = h in cc)
       go (Some i) f h =
-          subst (λ z. IsOf k v z) (same (record { cell = k; value = v; requirement = i }) r h)
+          subst (λ z. IsOf k v z) (same (record { cell = k; value = v; require = i }) r h)
           (record { cell = refl; value = refl; first = λ j d. no_less i f j d (below_or_not i j) })
 
   cell_at : (k : ℕ) (values : List ℤ) (r : Removal) → drop_at m s b k values ≡ Some r → r.cell ≡ k
@@ -91,7 +93,7 @@ module _ (m : ModelParts) (s : Spans) (b : Box) where
       go (Some first) q next = (first_of k u r (q ∙ ap (λ o. or_later o (drop_at m s b k values)) (sym q) ∙ e)).cell
 
   abbrev IsFirst : Removal → ℤ → ℕ → Type 0
-  IsFirst r v j = (r.value <ℤ v) ⊎ ((r.value ≡ v) × (r.requirement ≤ j))
+  IsFirst r v j = (r.value <ℤ v) ⊎ ((r.value ≡ v) × (r.require ≤ j))
 
   first_at : (k : ℕ) (values : List ℤ) → IsRising values → (r : Removal) → drop_at m s b k values ≡ Some r → (v : ℤ) (j : ℕ) → Contains values v →
       IsDrop m.requirements s k v j b → IsFirst r v j
@@ -112,15 +114,19 @@ module _ (m : ModelParts) (s : Spans) (b : Box) where
           let f = first_of k u r (q ∙ ap (λ o. or_later o (drop_at m s b k values)) (sym q) ∙ e) in
           inl (subst (λ z. z <ℤ v) (sym f.value) (above later))
 
+  -- it doesn't come after the drop of value v of cell i by requirement j
+  abbrev IsBy : Removal → ℕ → ℤ → ℕ → Type 0
+  IsBy r i v j = IsNoLater r (record { cell = i; value = v; require = j })
+
   first_from : IsBox b → (n k : ℕ) (r : Removal) → drop_from m s b n k ≡ Some r → (i : ℕ) (v : ℤ) (j : ℕ) → k ≤ i → i < k + n →
       IsDrop m.requirements s i v j b →
-      IsNoLater r i v j
+      IsBy r i v j
   first_from box zero k r e i v j a l d = absurd (omega arith)
   first_from box (suc n) k r e i v j a l d =
       go (drop_at m s b k (values_at k b)) refl (eq-or-lt_of_le a) (λ at more. first_from box n (suc k) r at i v j more (omega (arith, l)) d)
     where
       go : (o : Option Removal) → drop_at m s b k (values_at k b) ≡ o → (k ≡ i) ⊎ (k < i) →
-          (drop_from m s b n (suc k) ≡ Some r → k < i → IsNoLater r i v j) → IsNoLater r i v j
+          (drop_from m s b n (suc k) ≡ Some r → k < i → IsBy r i v j) → IsBy r i v j
       go None q (inl is) next = absurd (never_of i v j (none_at i (values_at i b) (subst (λ z. drop_at m s b z (values_at z b) ≡ None) is q) v d.there) d)
       go None q (inr more) next = next (ap (λ o. or_later o (drop_from m s b n (suc k))) (sym q) ∙ e) more
       go (Some first) q (inl is) next =
@@ -135,8 +141,8 @@ module _ (m : ModelParts) (s : Spans) (b : Box) where
           inl (subst (λ z. z < i) (sym (cell_at k (values_at k b) r at)) more)
 
 pub next_drop_fits : NextDropFits
-next_drop_fits m s b = record {
-  some = λ r e. subst (λ o. DropFits m s b o) e (drop_fits m s b);
-  none = none_may m s b;
-  first = λ box r e k v j d. first_from m s b box (length b) 1 r e k v j d.cell.0 (let c = d.cell.1 in omega arith) d;
-}
+next_drop_fits m s b box = go (next_drop m s b) refl (drop_fits m s b)
+  where
+    go : (o : Option Removal) → next_drop m s b ≡ o → DropFits m s b o → IsFirstDrop m.requirements s b o
+    go None e f = λ t d. none_may m s b e t.cell t.value t.require d
+    go (Some r) e f = (f, λ t d. first_from m s b box (length b) 1 r e t.cell t.value t.require d.cell.0 (let c = d.cell.1 in omega arith) d)

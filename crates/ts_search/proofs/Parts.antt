@@ -1,5 +1,5 @@
 -- Boxes by their form: one series, or two sides of which the lower comes first.
-use Rattle.std.proofs.Common.{◌≡◌, ◌⊎◌, ℕ, zero, suc, ◌+◌, ◌-◌, ◌/◌, ◌<◌, ◌≤◌, ℤ, ◌<ℤ◌, ◌≤ℤ◌, List, [], ◌∷◌, ◌++◌, length, get_or, take, refl, sym, ◌∙◌, ap, subst, inl, inr, ⊎_elim, arith, int_le, cond}
+use Rattle.std.proofs.Common.{◌≡◌, ◌⊎◌, ℕ, zero, suc, ◌+◌, ◌-◌, ◌/◌, ◌<◌, ◌≤◌, ℤ, pos, ◌<ℤ◌, List, [], ◌∷◌, ◌++◌, length, get_or, take, refl, sym, ap, subst, inl, inr, ⊎_elim, arith}
 use Rattle.std.proofs.lemmas.Int.{ints}
 use Rattle.std.specs.Prelude.{Contains}
 use Rattle.std.specs.List.{AllByRecursion}
@@ -7,7 +7,7 @@ use Rattle.ts_domain.specs.BoxSeries.{InBox, IsBefore, IsBox}
 use Rattle.ts_domain.specs.Kept.{values_up_to, values_above}
 use Rattle.ts_domain.specs.Values.{IsRising}
 use Rattle.ts_domain.proofs.BoxLaws.{contains_up_to, contains_above, some_stay}
-use Rattle.ts_domain.proofs.Sets.{contains_cons, each_contains, filter_none, le_true, le_false}
+use Rattle.ts_domain.proofs.Sets.{contains_cons}
 use Rattle.ts_certificate.specs.declared.certificate.TreeLine.{TreeLine}
 use Rattle.ts_certificate.specs.declared.certificate.TreeLine.TheVariants.{Split, Remove, No, Worse, Yes, Unsearched}
 use Rattle.ts_model.specs.ModelParts.{ModelParts}
@@ -16,21 +16,18 @@ use Rattle.ts_filter.specs.RefutedWorseDrop.{Spans, IsDrop}
 use Rattle.ts_filter.specs.Rules.{Head, IsSplit, KeepsRule}
 use Rattle.ts_filter.specs.Steps.{made_by}
 use Rattle.ts_filter.proofs.BoxParts.{from_low, from_high, from_without, lower_first, only_series}
-use Rattle.ts_search.specs.Forms.{Form, Alone, Wide, after_value, form}
+use Rattle.ts_frontier.specs.Forms.{Form, Alone, Wide, after_value, form}
+use Rattle.ts_frontier.specs.Halve.{IsSingle, middle_of}
 
 abbrev pub AreParts : Box → List Box → Type 0
 AreParts m w = AllByRecursion (λ b. IsPart b m) w
 
 -- the form of a box
 
--- it is one of the values, and half of them, rounded up, are up to it
-abbrev pub IsMiddle : ℤ → List ℤ → Type 0
-IsMiddle t values = Contains values t × (length (values_up_to t values) ≡ (length values + 1) / 2)
-
-abbrev pub FormFits : Box → Form → Type 0
+abbrev FormFits : Box → Form → Type 0
 FormFits b (Alone x) = b ≡ box_of x
 FormFits b (Wide k t) =
-    IsSplit k t b × AllByRecursion (λ d. length d ≡ 1) (take (k - 1) b) × IsMiddle t (values_at k b)
+    IsSplit k t b × IsSingle (take (k - 1) b)
 
 contains_at : (z : ℤ) (d : List ℤ) (i : ℕ) → i < length d → Contains d (get_or d i z)
 contains_at z [] i l = absurd (omega (arith, l))
@@ -48,37 +45,21 @@ rising_at z [] i h l = absurd (omega (arith, l))
 rising_at z (u ∷ d) zero h l = above_at u z d zero h.0 (omega (arith, l))
 rising_at z (u ∷ d) (suc i) h l = rising_at z d i h.1 (omega (arith, l))
 
-above_none : (u : ℤ) (d : List ℤ) → AllByRecursion (λ y. u <ℤ y) d → values_up_to u d ≡ []
-above_none u d h = filter_none (λ v. int_le v u) d (λ v c. le_false v u (each_contains (λ y. u <ℤ y) d v h c))
-
-kept_first : (t u : ℤ) (d : List ℤ) → u ≤ℤ t → length (values_up_to t (u ∷ d)) ≡ suc (length (values_up_to t d))
-kept_first t u d l = ap (λ b. length (cond b (u ∷ values_up_to t d) (values_up_to t d))) (le_true u t l)
-
--- as many values are up to the one at a place as stand before it, and itself
-up_to_at : (z : ℤ) (d : List ℤ) (i : ℕ) → IsRising d → i < length d → length (values_up_to (get_or d i z) d) ≡ suc i
-unfolding IsRising
-up_to_at z [] i h l = absurd (omega (arith, l))
-up_to_at z (u ∷ d) zero h l = kept_first u u d (omega (arith, ints)) ∙ ap (λ w. suc (length {A = ℤ} w)) (above_none u d h.0)
-up_to_at z (u ∷ d) (suc i) h l =
-    let above = above_at u z d i h.0 (omega (arith, l)) in
-    kept_first (get_or d i z) u d (omega (arith, ints, above)) ∙ ap suc (up_to_at z d i h.1 (omega (arith, l)))
-
-wide_here : (v u : ℤ) (d : List ℤ) (b : Box) → IsRising (v ∷ u ∷ d) → FormFits ((v ∷ u ∷ d) ∷ b) (Wide 1 (get_or (v ∷ u ∷ d) ((length d + 1) / 2) v))
+wide_here : (v u : ℤ) (d : List ℤ) (b : Box) → IsRising (v ∷ u ∷ d) → FormFits ((v ∷ u ∷ d) ∷ b) (Wide 1 (middle_of (v ∷ u ∷ d)))
 wide_here v u d b r =
-    let i = (length d + 1) / 2 in
     let all = v ∷ u ∷ d in
-    let t = get_or all i v in
-    let next = get_or all (suc i) v in
+    let i = (length all - 1) / 2 in
+    let t = middle_of all in
+    let next = get_or all (suc i) (pos 0) in
     let near : suc i < suc (suc (length d)) = omega arith in
-    let below = (contains_up_to t all t).1 (contains_at v all i (omega (arith, near)), omega (arith, ints)) in
-    let above = (contains_above t all next).1 (contains_at v all (suc i) near, rising_at v all i r near) in (
+    let below = (contains_up_to t all t).1 (contains_at (pos 0) all i (omega (arith, near)), omega (arith, ints)) in
+    let above = (contains_above t all next).1 (contains_at (pos 0) all (suc i) near, rising_at (pos 0) all i r near) in (
       record {
         cell = ((omega arith), (omega arith));
         below = some_stay (values_up_to t all) t below;
         above = some_stay (values_above t all) next above;
       },
       tt,
-      (contains_at v all i (omega (arith, near)), (let up = up_to_at v all i r (omega (arith, near)) in omega (arith, up))),
     )
 
 wide_later : (v : ℤ) (b : Box) (g : Form) → FormFits b g → FormFits ((v ∷ []) ∷ b) (after_value v g)
@@ -93,11 +74,10 @@ wide_later v b (Wide (suc k) t) h =
         below = subst (λ i. values_up_to t (get_or all i []) ≡ [] → ⊥) (sym f) (subst (λ i. values_up_to t (get_or b i []) ≡ [] → ⊥) e h.0.below);
         above = subst (λ i. values_above t (get_or all i []) ≡ [] → ⊥) (sym f) (subst (λ i. values_above t (get_or b i []) ≡ [] → ⊥) e h.0.above);
       },
-      subst (λ i. AllByRecursion (λ d. length d ≡ 1) (take i all)) (sym f) (refl, subst (λ i. AllByRecursion (λ d. length d ≡ 1) (take i b)) e h.1),
-      subst (λ i. IsMiddle t (get_or all i [])) (sym f) (subst (λ i. IsMiddle t (get_or b i [])) e h.2),
+      subst (λ i. IsSingle (take i all)) (sym f) (refl, subst (λ i. IsSingle (take i b)) e h.1),
     )
 
-pub form_fits : (b : Box) → IsBox b → FormFits b (form b)
+form_fits : (b : Box) → IsBox b → FormFits b (form b)
 form_fits [] h = refl
 form_fits ([] ∷ b) h = absurd (h.0.some refl)
 form_fits ((v ∷ []) ∷ b) h = wide_later v b (form b) (form_fits b h.1)
@@ -110,13 +90,6 @@ pub in_box_of : (x : List ℤ) → InBox x (box_of x)
 in_box_of [] = tt
 in_box_of (v ∷ x) = ((contains_cons v [] v).1 (inl refl), in_box_of x)
 
-pub form_of : (x : List ℤ) → form (box_of x) ≡ Alone x
-form_of [] = refl
-form_of (v ∷ x) = ap (after_value v) (form_of x)
-
-pub is_alone : (b : Box) (x : List ℤ) → b ≡ box_of x → form b ≡ Alone x
-is_alone b x e = ap form e ∙ form_of x
-
 pub single : (m b : Box) (x y : List ℤ) → IsPart b m → form b ≡ Alone x → InBox y b → y ≡ x
 single m b x y i e a = only_series x y (subst (λ z. InBox y z) (alone_is m b x i e) a)
 
@@ -125,9 +98,6 @@ alone_within m b x i e = subst (λ z. InBox x z) (sym (alone_is m b x i e)) (in_
 
 pub wide_split : (m b : Box) (k : ℕ) (t : ℤ) → IsPart b m → form b ≡ Wide k t → IsSplit k t b
 wide_split m b k t i e = (subst (λ g. FormFits b g) e (form_fits b i.box)).0
-
-pub wide_first : (b : Box) (k : ℕ) (t : ℤ) → IsBox b → form b ≡ Wide k t → FormFits b (Wide k t)
-wide_first b k t i e = subst (λ g. FormFits b g) e (form_fits b i)
 
 pub wide_order : (m b : Box) (k : ℕ) (t : ℤ) → IsPart b m → form b ≡ Wide k t → (x y : List ℤ) → InBox x (low_side k t b) →
     InBox y (high_side k t b) → IsBefore x y

@@ -9,7 +9,7 @@ use Rattle.ts_model.specs.declared.model.Require.{Require}
 use Rattle.ts_model.specs.Views.{model_parts, term_of}
 use Rattle.ts_spans.specs.Machines.{automata_for, automata_in}
 use Rattle.ts_filter.specs.declared.bar.Bar.{Bar}
-use Rattle.ts_filter.specs.declared.drops.Removal.{Removal as GivenRemoval}
+use Rattle.ts_filter.specs.declared.drops.Removal.{Removal}
 use Rattle.ts_filter.specs.Boxes.{Box, HasCell, IsPart, values_at}
 use Rattle.ts_filter.specs.Drops.{IsFirstDrop}
 use Rattle.ts_filter.specs.Excluded.{Refutes, Cuts}
@@ -23,7 +23,7 @@ use Rattle.ts_search.specs.Dive.{kept_for, kept_value}
 use Rattle.ts_search.specs.Drops.{least, next_drop}
 use Rattle.ts_search.specs.LineOf.{is_cut_at, cut_by, inner, last, is_refuted_at}
 use Rattle.ts_search.specs.Posed.{AreTablesOf, IsPosed}
-use Rattle.ts_search.specs.Views.{removal_of, search_of}
+use Rattle.ts_search.specs.Views.{search_of}
 use Rattle.ts_search.specs.declared.problem.Problem.{Problem}
 use Rattle.ts_search.proofs.CallLaws.{least_is, refuted_is, first_refuted_is, cut_is, first_cut_is, never_least, drop_is}
 use Rattle.ts_search.proofs.DiveLaws.{best_there}
@@ -93,9 +93,9 @@ module _ (q : Problem) (posed : IsPosed q) where
           q.model.now.requirements.items j r (from, there) refl b
           (last (search_of q)) (part_size b i) found h
 
-    pub next_drop_told : (found : Option GivenRemoval) →
+    pub next_drop_told : (found : Option Removal) →
         IsFirstDrop q.model.now.requirements.items (search_of q).spans b found →
-        removal_of found ≡ next_drop (search_of q).model (search_of q).spans b
+        found ≡ next_drop (search_of q).model (search_of q).spans b
     next_drop_told found h =
         drop_is (search_of q).model (search_of q).spans b i.box found h
 

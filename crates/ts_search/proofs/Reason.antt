@@ -14,8 +14,9 @@ use Rattle.ts_filter.specs.Rules.{Head, IsListing, KeepsRule}
 use Rattle.ts_filter.proofs.SoundLaws.{clash}
 use Rattle.ts_filter.proofs.KeptLaws.{better_trans}
 use Rattle.ts_search.specs.Dive.{Find}
-use Rattle.ts_search.specs.Drops.{Removal, least, or_later, next_drop}
-use Rattle.ts_search.specs.Forms.{Form, Alone, Wide, form}
+use Rattle.ts_filter.specs.declared.drops.Removal.{Removal}
+use Rattle.ts_search.specs.Drops.{least, or_later, next_drop}
+use Rattle.ts_frontier.specs.Forms.{Form, Alone, Wide, form}
 use Rattle.ts_search.specs.Lean.{below_told, below_warm, below, worse_line, last_worse, inner_reason, first_reason, IsFree, IsLeanLine}
 use Rattle.ts_search.specs.LineOf.{Search, last, requirements, inner, is_refuted_at, is_cut_at, bar_of, cut_by, refuted_last, no_line, first_no, removal_line, branch_line, wide_line, form_line, line_of}
 use Rattle.ts_search.proofs.Choice.{LeastFits, least_fits}

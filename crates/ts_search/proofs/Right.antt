@@ -23,7 +23,7 @@ use Rattle.ts_filter.proofs.BoxParts.{in_box_inside}
 use Rattle.ts_filter.proofs.SoundLaws.{values_are_sound, singles_are_exact, clash, series_length, each_at}
 use Rattle.ts_search.specs.RightSpans.{AreRight}
 use Rattle.ts_search.specs.Dive.{value_of}
-use Rattle.ts_search.specs.Forms.{Alone, form}
+use Rattle.ts_frontier.specs.Forms.{Alone, form}
 use Rattle.ts_search.specs.LineOf.{Search, search_for, last, requirements, is_refuted_at, is_cut_at}
 use Rattle.ts_search.proofs.DiveLaws.{dive_fits}
 use Rattle.ts_search.proofs.Known.{Known, KnownBest, from_refuted, from_cut}

@@ -25,7 +25,7 @@ use Rattle.ts_filter.specs.Tree.{told_by, told_after}
 use Rattle.ts_filter.proofs.BoxParts.{part_self}
 use Rattle.ts_filter.proofs.TreeLaws.{parts_made, to_steps, formed_short, fit_formed}
 use Rattle.ts_search.specs.Dive.{Find}
-use Rattle.ts_search.specs.Forms.{form}
+use Rattle.ts_frontier.specs.Forms.{form}
 use Rattle.ts_search.specs.Found.{tally_after, tally}
 use Rattle.ts_search.specs.Laws.{IsBudget}
 use Rattle.ts_search.specs.Lean.{MayFollow, or_open, IsLeanLine, AreLean, most_told}

@@ -10,7 +10,7 @@ use Rattle.ts_filter.specs.Rules.{Head, MayStayOpen, KeepsRule}
 use Rattle.ts_filter.specs.Steps.{made_by, Steps}
 use Rattle.ts_filter.specs.Tree.{told_by}
 use Rattle.ts_search.specs.Dive.{Find}
-use Rattle.ts_search.specs.Forms.{form}
+use Rattle.ts_frontier.specs.Forms.{form}
 use Rattle.ts_search.specs.Found.{tally_after, tally}
 use Rattle.ts_search.specs.LineOf.{Search}
 use Rattle.ts_search.specs.Turns.{left_open}

@@ -13,7 +13,7 @@ use Rattle.ts_filter.specs.Ends.{best_end}
 use Rattle.ts_filter.specs.Excluded.{is_better}
 use Rattle.ts_filter.specs.RefutedWorseDrop.{Spans}
 use Rattle.ts_search.specs.Drops.{after_drops}
-use Rattle.ts_search.specs.Forms.{Form, Alone, Wide, form}
+use Rattle.ts_frontier.specs.Forms.{Form, Alone, Wide, form}
 
 -- a series with the value of the objective on it
 pub record Find : Type 0 where

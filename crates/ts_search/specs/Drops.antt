@@ -2,15 +2,10 @@
 use Rattle.std.specs.Prelude.{ℕ, zero, suc, ℤ, Bool, cond, List, [], ◌∷◌, length}
 use Rattle.std.specs.Prelude.{Option, Some, None, option_map, unwrap_or}
 use Rattle.ts_model.specs.ModelParts.{ModelParts, total_of}
+use Rattle.ts_filter.specs.declared.drops.Removal.{Removal}
 use Rattle.ts_filter.specs.Boxes.{Box, values_at, without}
 use Rattle.ts_filter.specs.RefutedWorseDrop.{Spans}
 use Rattle.ts_filter.specs.Tests.{is_drop}
-
--- a value that leaves a cell, and the requirement that is refuted with it
-pub record Removal : Type 0 where
-  pub cell : ℕ
-  pub value : ℤ
-  pub requirement : ℕ
 
 -- the least of so many numbers from j on with the test
 abbrev pub least : (ℕ → Bool) → ℕ → ℕ → Option ℕ
@@ -24,7 +19,7 @@ or_later (Some first) later = Some first
 -- the possible drop of value v with the least requirement
 abbrev pub drop_of : ModelParts → Spans → Box → ℕ → ℤ → Option Removal
 drop_of m s b k v =
-    option_map (λ j. record { cell = k; value = v; requirement = j })
+    option_map (λ j. record { cell = k; value = v; require = j })
     (least (λ j. is_drop m.requirements s k v j b) (length m.requirements) 1)
 
 -- that of the least of these values, which rise

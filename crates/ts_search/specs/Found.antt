@@ -8,7 +8,7 @@ use Rattle.ts_filter.specs.Boxes.{Box}
 use Rattle.ts_filter.specs.Excluded.{is_better}
 use Rattle.ts_filter.specs.Steps.{made_by}
 use Rattle.ts_search.specs.Dive.{Find, value_of, find}
-use Rattle.ts_search.specs.Forms.{Form, Alone, Wide, form}
+use Rattle.ts_frontier.specs.Forms.{Form, Alone, Wide, form}
 use Rattle.ts_search.specs.LineOf.{Search}
 
 abbrev pub beats : Search → Option Find → Ext → Bool

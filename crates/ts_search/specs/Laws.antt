@@ -1,7 +1,6 @@
 -- What is promised of the search.
-use Rattle.std.specs.Prelude.{◌≡◌, ◌⊎◌, ℕ, ◌+◌, ◌-◌, ◌*◌, ◌/◌, ◌<◌, ◌≤◌, ℤ, ◌<ℤ◌, true, List, Contains, length, take}
+use Rattle.std.specs.Prelude.{◌≡◌, ◌⊎◌, ℕ, ◌+◌, ◌*◌, ◌<◌, ◌≤◌, ℤ, true, List, Contains, length}
 use Rattle.std.specs.Prelude.{IsSome, Some, None}
-use Rattle.std.specs.List.{AllByRecursion}
 use Rattle.ts_base.specs.declared.goal.Goal.{Goal}
 use Rattle.ts_certificate.specs.declared.certificate.Aim.TheVariants.{Best as BestOf, List as ListOf}
 use Rattle.ts_certificate.specs.declared.certificate.Claim.{Claim}
@@ -11,18 +10,17 @@ use Rattle.ts_certificate.specs.declared.certificate.TreeLine.{TreeLine}
 use Rattle.ts_certificate.specs.declared.certificate.TreeLine.TheVariants.{No}
 use Rattle.ts_certificate.specs.Certificate.{Cert, open_count}
 use Rattle.ts_domain.specs.BoxSeries.{IsBox, series_count}
-use Rattle.ts_domain.specs.Kept.{values_up_to}
 use Rattle.ts_model.specs.Meets.{Meets}
 use Rattle.ts_model.specs.ModelParts.{ModelParts, total_of}
 use Rattle.ts_filter.specs.Accepts.{objective_of}
-use Rattle.ts_filter.specs.Boxes.{Box, HasCell, values_at, box_of, IsPart}
+use Rattle.ts_filter.specs.Boxes.{Box, HasCell, values_at, IsPart}
+use Rattle.ts_filter.specs.Drops.{IsFirstDrop}
 use Rattle.ts_filter.specs.KeptValue.{IsPreferred}
-use Rattle.ts_filter.specs.RefutedWorseDrop.{Spans, IsRefuted, IsDrop}
-use Rattle.ts_filter.specs.Rules.{IsSplit}
+use Rattle.ts_filter.specs.RefutedWorseDrop.{Spans, IsRefuted}
 use Rattle.ts_search.specs.RightSpans.{AreRight}
 use Rattle.ts_search.specs.Dive.{Find, promise, kept_value, keep_from, dive_box, dive_end, dive}
-use Rattle.ts_search.specs.Drops.{Removal, next_drop, after_drops}
-use Rattle.ts_search.specs.Forms.{Alone, Wide, form}
+use Rattle.ts_search.specs.Drops.{next_drop, after_drops}
+use Rattle.ts_frontier.specs.Forms.{Alone, form}
 use Rattle.ts_search.specs.LineOf.{Search, search_for, last, requirements, first_no}
 use Rattle.ts_search.specs.Listed.{IsListAnswer}
 use Rattle.ts_search.specs.Solved.{IsSolution}
@@ -86,20 +84,9 @@ ListedOpensFew =
 
 -- Drops and the dive.
 
--- r is the drop of value v of cell k by requirement j, or comes before it by cell, then value, then requirement
-abbrev pub IsNoLater : Removal → ℕ → ℤ → ℕ → Type 0
-IsNoLater r k v j =
-    (r.cell < k) ⊎ ((r.cell ≡ k) × ((r.value <ℤ v) ⊎ ((r.value ≡ v) × (r.requirement ≤ j))))
-
--- the next drop is one that may be made and none comes before it, and there is one where one may be made
-pub record IsNextDrop (m : ModelParts) (s : Spans) (b : Box) : Type 0 where
-  pub some : (r : Removal) → next_drop m s b ≡ Some r → IsDrop m.requirements s r.cell r.value r.requirement b
-  pub none : next_drop m s b ≡ None → (k : ℕ) (v : ℤ) (j : ℕ) → IsDrop m.requirements s k v j b → ⊥
-  pub first : IsBox b → (r : Removal) → next_drop m s b ≡ Some r → (k : ℕ) (v : ℤ) (j : ℕ) →
-      IsDrop m.requirements s k v j b → IsNoLater r k v j
-
+-- the next drop is the first of those that may be made, and there is one where one may be made
 abbrev pub NextDropFits : Type 0
-NextDropFits = (m : ModelParts) (s : Spans) (b : Box) → IsNextDrop m s b
+NextDropFits = (m : ModelParts) (s : Spans) (b : Box) → IsBox b → IsFirstDrop m.requirements s b (next_drop m s b)
 
 -- after the drops none is possible
 abbrev pub DropsEnd : Type 0
@@ -132,24 +119,6 @@ abbrev pub DiveEndsEarly : Type 0
 DiveEndsEarly =
     (m : ModelParts) (s : Spans) (goal : Goal) (n k : ℕ) (b : Box) (j p : ℕ) → AreRight m s → IsPart b m.cells → 1 ≤ k →
     k + n ≤ length m.cells + 1 → IsRefuted m.requirements s j p b → dive_end m (form (keep_from m s goal n k b)) ≡ None
-
--- The parts of a line.
-
--- cell k is the first with two or more values, and t the lower middle one of its values: half of them, rounded up,
--- are up to t, which is one of them
-pub record IsFirstOpen (k : ℕ) (t : ℤ) (b : Box) : Type 0 where
-  pub split : IsSplit k t b
-  pub before : AllByRecursion (λ d. length d ≡ 1) (take (k - 1) b)
-  pub there : Contains (values_at k b) t
-  pub middle : length (values_up_to t (values_at k b)) ≡ (length (values_at k b) + 1) / 2
-
--- the form of a box is its one series, or that cell and that value
-pub record FormTells (b : Box) : Type 0 where
-  pub alone : (x : List ℤ) → form b ≡ Alone x → b ≡ box_of x
-  pub wide : (k : ℕ) (t : ℤ) → form b ≡ Wide k t → IsFirstOpen k t b
-
-abbrev pub FormsTell : Type 0
-FormsTell = (b : Box) → IsBox b → FormTells b
 
 -- `no J P` below the last cell: J is the least requirement that is refuted at such a cell, and P the least such cell
 pub record IsFirstNo (c : Search) (b : Box) (l : TreeLine) : Type 0 where

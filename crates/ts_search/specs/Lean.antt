@@ -17,7 +17,7 @@ use Rattle.ts_filter.specs.Steps.{made_by}
 use Rattle.ts_filter.specs.Tree.{told_by}
 use Rattle.ts_search.specs.Dive.{Find}
 use Rattle.ts_search.specs.Drops.{least, or_later, next_drop}
-use Rattle.ts_search.specs.Forms.{Form, Alone, Wide, form}
+use Rattle.ts_frontier.specs.Forms.{Form, Alone, Wide, form}
 use Rattle.ts_search.specs.Found.{tally_after}
 use Rattle.ts_search.specs.LineOf.{Search, search_for, last, inner, requirements, is_cut_at, refuted_last, first_no}
 
@@ -73,7 +73,7 @@ abbrev pub IsLeanLine : Search → Aim → Option Find → Box → TreeLine → 
 IsLeanLine c aim best b (Split k t) =
     IsFree c aim best b × (next_drop c.model c.spans b ≡ None) × (form b ≡ Wide k t)
 IsLeanLine c aim best b (Remove k v j) =
-    IsFree c aim best b × (next_drop c.model c.spans b ≡ Some (record { cell = k; value = v; requirement = j }))
+    IsFree c aim best b × (next_drop c.model c.spans b ≡ Some (record { cell = k; value = v; require = j }))
 IsLeanLine c aim best b (No j p) = first_reason c aim best b ≡ Some (No j p)
 IsLeanLine c aim best b (Worse p) = first_reason c aim best b ≡ Some (Worse p)
 IsLeanLine c aim best b Yes = Unit {0}

@@ -1,6 +1,5 @@
 pub mod Dive
 pub mod Drops
-pub mod Forms
 pub mod Found
 pub mod Laws
 pub mod Lean

@@ -16,8 +16,9 @@ use Rattle.ts_filter.specs.Excluded.{counts}
 use Rattle.ts_filter.specs.RefutedWorseDrop.{Spans}
 use Rattle.ts_filter.specs.Tests.{is_refuted, is_cut}
 use Rattle.ts_search.specs.Dive.{Find, dive}
-use Rattle.ts_search.specs.Drops.{Removal, least, next_drop}
-use Rattle.ts_search.specs.Forms.{Form, Alone, Wide, form}
+use Rattle.ts_filter.specs.declared.drops.Removal.{Removal}
+use Rattle.ts_search.specs.Drops.{least, next_drop}
+use Rattle.ts_frontier.specs.Forms.{Form, Alone, Wide, form}
 
 -- what is searched, and the dive's series. A listing asks neither its goal nor its warm series
 pub record Search : Type 0 where
@@ -75,7 +76,7 @@ first_no c b zero j = None
 first_no c b (suc n) j = no_line j (least (λ p. is_refuted_at c j p b) (inner c) 1) (first_no c b n (suc j))
 
 abbrev pub removal_line : Removal → TreeLine
-removal_line r = Remove r.cell r.value r.requirement
+removal_line r = Remove r.cell r.value r.require
 
 -- a drop where one is possible, else the split
 abbrev pub branch_line : Search → Box → ℕ → ℤ → TreeLine

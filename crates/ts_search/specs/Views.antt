@@ -2,11 +2,10 @@
 use Rattle.std.specs.Prelude.{◌≡◌, ℕ, Bool, true, false, Option, Some, None, map}
 use Rattle.ts_model.specs.Views.{model_parts}
 use Rattle.ts_spans.specs.Machines.{spans_in}
-use Rattle.ts_filter.specs.declared.drops.Removal.{Removal as GivenRemoval}
 use Rattle.ts_filter.specs.Boxes.{Box, IsPart}
 use Rattle.ts_filter.specs.RefutedWorseDrop.{IsRefuted}
 use Rattle.ts_search.specs.Dive.{Find}
-use Rattle.ts_search.specs.Drops.{Removal, after_drops, next_drop}
+use Rattle.ts_search.specs.Drops.{after_drops, next_drop}
 use Rattle.ts_search.specs.LineOf.{Search}
 use Rattle.ts_search.specs.Turns.{State, ListState}
 use Rattle.ts_search.specs.declared.found.FoundSeries.{FoundSeries}
@@ -17,10 +16,6 @@ use Rattle.ts_search.specs.declared.tree.Tree.{Tree}
 abbrev pub find_of : Option FoundSeries → Option Find
 find_of None = None
 find_of (Some f) = Some (record { series = f.series.items; value = f.value })
-
-abbrev pub removal_of : Option GivenRemoval → Option Removal
-removal_of None = None
-removal_of (Some r) = Some (record { cell = r.cell; value = r.value; requirement = r.require })
 
 abbrev pub search_of : Problem → Search
 search_of q = record {

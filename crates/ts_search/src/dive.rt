@@ -5,7 +5,7 @@ ghost use Rattle.ts_domain.specs.BoxSeries.{IsCell};
 ghost use Rattle.ts_filter.specs.Boxes.{IsPart, only};
 ghost use Rattle.ts_search.specs.Dive.{dive, dive_end, kept_value};
 ghost use Rattle.ts_search.specs.Drops.{next_drop};
-ghost use Rattle.ts_search.specs.Forms.{form};
+ghost use Rattle.ts_frontier.specs.Forms.{form};
 ghost use Rattle.ts_search.specs.Posed.{AreTablesOf, IsPosed, MayAsk};
 ghost use Rattle.ts_search.specs.Views.{IsSettled, find_of, search_of};
 
@@ -17,7 +17,7 @@ use ts_base::Memory;
 use ts_compile::judge;
 use ts_domain::Boxed;
 use ts_filter::AllTables;
-use ts_frontier::{first_halving, only_series};
+use ts_frontier::{Form, form_of};
 
 /// The dive's series, where the one that is left meets. It ends early where a requirement is refuted on the way: no
 /// series that is left meets then.
@@ -98,10 +98,9 @@ fn series_left(
     ensures { IfOk result
         (λ found. find_of found ≡ dive_end (search_of problem.now).model (form cells.now.present)) }
 {
-    if first_halving(cells).is_some() {
+    let Form::Alone(series) = form_of(alloc, cells)? else {
         return Ok(None);
-    }
-    let series = only_series(alloc, cells)?;
+    };
     if !judge(alloc, problem.model, &series)?.meets() {
         return Ok(None);
     }

@@ -2,7 +2,7 @@
 
 ghost use Rattle.ts_search.specs.Laws.{BudgetIsEnough, ListBudgetIsEnough, OneListed, OneSolved};
 ghost use Rattle.ts_search.specs.Laws.{DiveEnds, DiveEndsEarly, DiveMeets, DropsEnd, NextDropFits};
-ghost use Rattle.ts_search.specs.Laws.{FirstNoFits, FormsTell, KeptFits, ListedOpensFew, SolvedOpensFew};
+ghost use Rattle.ts_search.specs.Laws.{FirstNoFits, KeptFits, ListedOpensFew, SolvedOpensFew};
 ghost use Rattle.ts_search.specs.Laws.{SearchLists, SearchSolves};
 
 /// The certificate of a search names the first best series, or that none meets, or what a spent budget leaves.
@@ -53,9 +53,7 @@ pub fn dive_ends()
     ensures early { DiveEndsEarly }
 {}
 
-/// A box is split at its first open cell and the lower middle of its values; `no J P` below the last cell names the
-/// least requirement, and then the least cell.
-pub fn parts_fit()
-    ensures form { FormsTell }
-    ensures no { FirstNoFits }
+/// `no J P` below the last cell names the least requirement, and then the least cell.
+pub fn first_no_fits()
+    ensures { FirstNoFits }
 {}

@@ -9,7 +9,7 @@ ghost use Rattle.ts_filter.specs.Boxes.{Box, IsPart};
 ghost use Rattle.ts_model.specs.declared.model.Need.TheVariants.{List as NeedsList};
 ghost use Rattle.ts_model.specs.Promise.{IsWhole, KeepsLimits};
 ghost use Rattle.ts_model.specs.Views.{model_parts};
-ghost use Rattle.ts_search.specs.Forms.{form};
+ghost use Rattle.ts_frontier.specs.Forms.{form};
 ghost use Rattle.ts_search.specs.Listed.{IsListAnswer};
 ghost use Rattle.ts_search.specs.Posed.{AreTablesOf, IsPosed};
 ghost use Rattle.ts_spans.specs.Machines.{spans_in};
@@ -25,7 +25,7 @@ use ts_certificate::{Aim, Certificate, Claim, TreeLine};
 use ts_compile::Program;
 use ts_domain::Boxed;
 use ts_filter::AllTables;
-use ts_frontier::{Frontier, first_halving, follow, only_series};
+use ts_frontier::{Form, Frontier, follow, form_of};
 use ts_model::Model;
 
 /// The lines so far, the boxes that wait for theirs, and the series that were listed.
@@ -142,10 +142,9 @@ fn list_only(alloc: Global, cells: &Boxed, listed: &mut Vec<Vec<i64>>) -> Result
     ensures { OnOk result (map (λ x. x.items) listed.new.items
         ≡ listed_after (map (λ x. x.items) listed.old.items) (form cells.now.present) YesLine) }
 {
-    if first_halving(cells).is_some() {
+    let Form::Alone(series) = form_of(alloc, cells)? else {
         return Ok(());
-    }
-    let series = only_series(alloc, cells)?;
+    };
     listed.push(series)?;
     Ok(())
 }

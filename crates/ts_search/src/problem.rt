@@ -7,7 +7,7 @@ ghost use Rattle.ts_model.specs.Views.{model_parts};
 ghost use Rattle.ts_search.specs.Drops.{least, next_drop};
 ghost use Rattle.ts_search.specs.LineOf.{inner, last, is_refuted_at, requirements};
 ghost use Rattle.ts_search.specs.Posed.{IsPosed, MayAsk};
-ghost use Rattle.ts_search.specs.Views.{removal_of, search_of};
+ghost use Rattle.ts_search.specs.Views.{search_of};
 ghost use Rattle.ts_spans.specs.Machines.{automata_in};
 
 use crate::found::FoundSeries;
@@ -94,7 +94,7 @@ impl<'a> Problem<'a> {
         requires { MayAsk self.now tables.old cells.now.present }
         ensures same { tables.new ≡ tables.old }
         ensures found { IfOk result (λ found.
-            removal_of found ≡ next_drop (search_of self.now).model (search_of self.now).spans cells.now.present) }
+            found ≡ next_drop (search_of self.now).model (search_of self.now).spans cells.now.present) }
     {
         tables.next_drop(alloc, &self.model.requirements, cells)
     }

@@ -5,7 +5,7 @@ ghost use Rattle.std.specs.List.{AllByRecursion};
 ghost use Rattle.ts_certificate.specs.declared.certificate.Aim.TheVariants.{Best as BestOf};
 ghost use Rattle.ts_certificate.specs.declared.certificate.TreeLine.TheVariants.{Worse as WorseLine};
 ghost use Rattle.ts_filter.specs.Boxes.{IsPart};
-ghost use Rattle.ts_search.specs.Forms.{form};
+ghost use Rattle.ts_frontier.specs.Forms.{form};
 ghost use Rattle.ts_search.specs.Posed.{AreTablesOf, IsPosed};
 ghost use Rattle.ts_search.specs.Turns.{found_after, start, turn, turns};
 ghost use Rattle.ts_search.specs.Views.{find_of, search_of, state_of};
@@ -18,7 +18,7 @@ use ts_base::Memory;
 use ts_certificate::TreeLine;
 use ts_domain::Boxed;
 use ts_filter::AllTables;
-use ts_frontier::{Frontier, first_halving, follow, only_series};
+use ts_frontier::{Form, Frontier, follow, form_of};
 
 /// The lines so far, the boxes that wait for theirs, and the best series that was found.
 #[derive(Drop)]
@@ -111,10 +111,9 @@ fn found_at(
     ensures { IfOk result (λ f. (p : ℕ) →
         find_of f ≡ found_after (search_of problem.now) (find_of found) (form cells.now.present) (WorseLine p)) }
 {
-    if first_halving(cells).is_some() {
+    let Form::Alone(series) = form_of(alloc, cells)? else {
         return Ok(found);
-    }
-    let series = only_series(alloc, cells)?;
+    };
     let value = problem.value(alloc, &series)?;
     if problem.counts(&found, value) {
         return Ok(Some(FoundSeries { series, value }));

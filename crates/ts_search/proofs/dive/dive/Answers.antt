@@ -4,7 +4,7 @@ use Rattle.ts_filter.proofs.SoundLaws.{values_are_sound}
 use Rattle.ts_filter.specs.Boxes.{IsPart}
 use Rattle.std.proofs.lemmas.Result.{IfOk-weaker}
 use Rattle.ts_search.specs.Dive.{dive, dive_end}
-use Rattle.ts_search.specs.Forms.{form}
+use Rattle.ts_frontier.specs.Forms.{form}
 use Rattle.ts_search.specs.Views.{IsSettled, find_of, search_of}
 use Rattle.ts_search.proofs.DiveSteps.{cell_there, end_is, ends_early, ends_first, ends_next, ends_now, kept_inside, settled_all, settled_early, settled_part, within_cells}
 use Rattle.ts_search.proofs.dive.dive.Goals as goal

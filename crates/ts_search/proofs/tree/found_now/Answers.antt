@@ -1,7 +1,7 @@
 use Rattle.std.proofs.Common.{◌≡◌, ℕ, ap, sym, ◌∙◌}
 use Rattle.std.proofs.lemmas.Result.{IfOk-weaker}
 use Rattle.ts_certificate.specs.declared.certificate.TreeLine.TheVariants.{Worse}
-use Rattle.ts_search.specs.Forms.{form}
+use Rattle.ts_frontier.specs.Forms.{form}
 use Rattle.ts_search.specs.Turns.{found_after}
 use Rattle.ts_search.specs.Views.{find_of, search_of}
 use Rattle.ts_search.proofs.tree.found_now.Goals as goal

@@ -4,7 +4,7 @@ use Rattle.std.proofs.lemmas.Result.{IfOk-weaker}
 use Rattle.ts_filter.specs.Drops.{IsFirstDrop}
 use Rattle.ts_filter.specs.MachineSpans.{spans_of}
 use Rattle.ts_search.specs.Drops.{next_drop}
-use Rattle.ts_search.specs.Views.{removal_of, search_of}
+use Rattle.ts_search.specs.Views.{search_of}
 use Rattle.ts_search.proofs.Posed.{next_drop_told, tables_count, term_count}
 use Rattle.ts_search.proofs.problem.Problem.next_drop.Goals as goal
 
@@ -30,7 +30,7 @@ returns-clause-found c =
     let q = c.args.self.now in let b = c.args.cells.now.present in
     IfOk-weaker c.next_drop.result
     (λ found. IsFirstDrop c.deref.result.now (spans_of c.args.tables.now) b found)
-    (λ found. removal_of found ≡ next_drop (search_of q).model (search_of q).spans b)
+    (λ found. found ≡ next_drop (search_of q).model (search_of q).spans b)
     (λ found h. next_drop_told q c.requires.posed b c.requires.part found
     (subst (λ rs. IsFirstDrop rs (search_of q).spans b found) c.deref.ensures.value
     (subst (λ ms. IsFirstDrop c.deref.result.now (spans_of ms) b found) c.requires.tables h)))
