@@ -14,9 +14,9 @@ use Rattle.ts_domain.specs.BoxSeries.{InBox}
 use Rattle.ts_model.specs.Meets.{Meets}
 use Rattle.ts_model.specs.ModelParts.{ModelParts}
 use Rattle.ts_filter.specs.declared.bar.Bar.TheVariants.{Better}
-use Rattle.ts_filter.specs.Accepts.{ClaimFits, objective_of}
+use Rattle.ts_model.specs.FirstBest.{objective_of, is_better}
+use Rattle.ts_filter.specs.Accepts.{ClaimFits}
 use Rattle.ts_filter.specs.Boxes.{Box, low_side, high_side, without, only, IsPart, InSome}
-use Rattle.ts_filter.specs.Excluded.{is_better}
 use Rattle.ts_filter.specs.Holds.{IsBetter, IsListed, ClaimHolds}
 use Rattle.ts_filter.specs.Laws.{IsSound, AcceptedHolds}
 use Rattle.ts_filter.specs.RefutedWorseDrop.{Spans, IsDrop}

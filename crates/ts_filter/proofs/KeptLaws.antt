@@ -11,7 +11,7 @@ use Rattle.ts_base.specs.Numbers.{ext_le}
 use Rattle.ts_base.proofs.Order.{le_trans, le_antisym, le_other}
 use Rattle.ts_domain.specs.Values.{IsRising}
 use Rattle.ts_domain.proofs.Sets.{contains_cons, nothing_in, each_contains}
-use Rattle.ts_filter.specs.Excluded.{is_better}
+use Rattle.ts_model.specs.FirstBest.{is_better}
 use Rattle.ts_bound.specs.TermSpans.{Automata}
 use Rattle.ts_bound.proofs.Reached.{values_narrowed}
 use Rattle.ts_glue.specs.Pairs.{Pair}

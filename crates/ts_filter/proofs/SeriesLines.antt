@@ -10,7 +10,8 @@ use Rattle.ts_certificate.specs.Grammar.{series_count}
 use Rattle.ts_domain.specs.BoxSeries.{IsBefore}
 use Rattle.ts_model.specs.Meets.{Meets}
 use Rattle.ts_model.specs.ModelParts.{ModelParts}
-use Rattle.ts_filter.specs.Accepts.{objective_of, ComesAfter, IsAsClaimed, AllFit}
+use Rattle.ts_model.specs.FirstBest.{objective_of}
+use Rattle.ts_filter.specs.Accepts.{ComesAfter, IsAsClaimed, AllFit}
 use Rattle.ts_filter.specs.Boxes.{Box, InSome}
 use Rattle.ts_filter.specs.Holds.{IsOne, IsListed, AllDiffer, ListHolds}
 

@@ -19,7 +19,7 @@ use Rattle.ts_model.specs.Meets.{IsMet, Meets, value_at, values_on}
 use Rattle.ts_model.specs.Promise.{IsWhole}
 use Rattle.ts_model.specs.ModelParts.{ModelParts}
 use Rattle.ts_filter.specs.declared.bar.Bar.{Bar}
-use Rattle.ts_filter.specs.Accepts.{value_of_term, objective_of}
+use Rattle.ts_model.specs.FirstBest.{value_of_term, objective_of}
 use Rattle.ts_filter.specs.Boxes.{Box, only, box_of, IsPart}
 use Rattle.ts_filter.specs.Excluded.{counts}
 use Rattle.ts_filter.specs.Laws.{HoldsValues, ValuesAreSound, TellsSingles, SinglesAreExact, HigherBarCutsMore, DropLosesNone}

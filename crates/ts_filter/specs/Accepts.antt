@@ -1,6 +1,5 @@
 -- A certificate is accepted where each of its lines keeps its rule and its tree lines are one tree for the model's box.
-use Rattle.std.specs.Prelude.{◌≡◌, ℕ, ◌<◌, ℤ, List, [], ◌∷◌, ◌++◌, length, Option, Some, None, IsSome}
-use Rattle.ts_base.specs.declared.ext.Ext.{Ext}
+use Rattle.std.specs.Prelude.{◌≡◌, ℕ, ◌<◌, ℤ, List, [], ◌∷◌, ◌++◌, length, Some, IsSome}
 use Rattle.ts_certificate.specs.declared.certificate.Aim.{Aim}
 use Rattle.ts_certificate.specs.declared.certificate.Aim.TheVariants.{Best as BestOf, List as ListOf}
 use Rattle.ts_certificate.specs.declared.certificate.Claim.{Claim}
@@ -9,7 +8,8 @@ use Rattle.ts_certificate.specs.declared.certificate.Claim.TheVariants.{Full, Al
 use Rattle.ts_certificate.specs.Certificate.{Cert}
 use Rattle.ts_certificate.specs.Grammar.{series_count}
 use Rattle.ts_domain.specs.BoxSeries.{IsBefore}
-use Rattle.ts_model.specs.Meets.{Meets, value_at}
+use Rattle.ts_model.specs.FirstBest.{objective_of}
+use Rattle.ts_model.specs.Meets.{Meets}
 use Rattle.ts_model.specs.ModelParts.{ModelParts}
 use Rattle.ts_filter.specs.RefutedWorseDrop.{Spans}
 use Rattle.ts_filter.specs.Rules.{head_of}
@@ -36,14 +36,6 @@ ClaimFits (ListOf count) BudgetNone = ⊥
 ClaimFits (ListOf count) (Full c) = c ≡ count
 ClaimFits (ListOf count) (All c) = c < count
 ClaimFits (ListOf count) (BudgetList c) = c < count
-
-abbrev pub value_of_term : ModelParts → List ℤ → Option ℕ → Option Ext
-value_of_term m x None = None
-value_of_term m x (Some term) = value_at m x term
-
--- the value of the objective on a series; none where the model has no objective
-abbrev pub objective_of : ModelParts → List ℤ → Option Ext
-objective_of m x = value_of_term m x m.objective
 
 -- the last series before it comes earlier in lexicographic order
 abbrev pub ComesAfter : List (List ℤ) → List ℤ → Type 0

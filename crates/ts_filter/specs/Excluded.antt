@@ -2,23 +2,17 @@
 use Rattle.std.specs.Prelude.{◌≡◌, Bool, false, not}
 use Rattle.ts_base.specs.declared.ext.Ext.{Ext}
 use Rattle.ts_base.specs.declared.goal.Goal.{Goal}
-use Rattle.ts_base.specs.declared.goal.Goal.TheVariants.{Maximise, Minimise}
 use Rattle.ts_base.specs.declared.span.Span.{Span}
-use Rattle.ts_base.specs.Numbers.{ext_le}
 use Rattle.ts_base.specs.Spans.{Holds}
 use Rattle.ts_model.specs.declared.model.Op.{Op}
 use Rattle.ts_model.specs.Compares.{compares}
+use Rattle.ts_model.specs.FirstBest.{is_better}
 use Rattle.ts_filter.specs.declared.bar.Bar.{Bar}
 use Rattle.ts_filter.specs.declared.bar.Bar.TheVariants.{Better, AsGood}
 
 -- no number of the span compares so with the bound
 abbrev pub Refutes : Op → Ext → Span → Type 0
 Refutes op bound s = (v : Ext) → Holds s v → compares op bound v ≡ false
-
--- v is better than w: greater where the greatest is best, less where the least is
-abbrev pub is_better : Goal → Ext → Ext → Bool
-is_better Maximise v w = not (ext_le v w)
-is_better Minimise v w = not (ext_le w v)
 
 -- v is better than the bar's number, or at least as good
 abbrev pub counts : Goal → Bar → Ext → Bool

@@ -11,9 +11,8 @@ use Rattle.ts_certificate.specs.declared.certificate.Claim.TheVariants.{Full, Al
 use Rattle.ts_certificate.specs.Certificate.{Cert}
 use Rattle.ts_model.specs.Meets.{Meets}
 use Rattle.ts_model.specs.ModelParts.{ModelParts}
-use Rattle.ts_filter.specs.Accepts.{objective_of}
+use Rattle.ts_model.specs.FirstBest.{objective_of, is_better}
 use Rattle.ts_filter.specs.Boxes.{Box, InSome}
-use Rattle.ts_filter.specs.Excluded.{is_better}
 use Rattle.ts_filter.specs.Steps.{open_boxes}
 
 -- the one series meets and has the objective v

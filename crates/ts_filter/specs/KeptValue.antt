@@ -6,7 +6,7 @@ use Rattle.ts_bound.specs.TermSpans.{Automata, term_span, value_span}
 use Rattle.ts_glue.specs.Pairs.{Pair}
 use Rattle.ts_filter.specs.Boxes.{Box, values_at, only}
 use Rattle.ts_filter.specs.Ends.{best_end}
-use Rattle.ts_filter.specs.Excluded.{is_better}
+use Rattle.ts_model.specs.FirstBest.{is_better}
 
 -- the best number that the span at cell k leaves open on the box with the value v alone there
 abbrev pub end_with : Automata → Goal → ℕ → Box → ℤ → Ext

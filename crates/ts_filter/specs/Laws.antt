@@ -17,7 +17,8 @@ use Rattle.ts_model.specs.Meets.{IsMet, Meets, value_at}
 use Rattle.ts_model.specs.Promise.{IsWhole}
 use Rattle.ts_model.specs.ModelParts.{ModelParts, total_of}
 use Rattle.ts_filter.specs.declared.bar.Bar.{Bar}
-use Rattle.ts_filter.specs.Accepts.{Accepts, objective_of}
+use Rattle.ts_model.specs.FirstBest.{objective_of}
+use Rattle.ts_filter.specs.Accepts.{Accepts}
 use Rattle.ts_filter.specs.Boxes.{Box, HasCell, low_side, high_side, without, box_of, IsPart}
 use Rattle.ts_filter.specs.Excluded.{counts}
 use Rattle.ts_filter.specs.Holds.{Holds}

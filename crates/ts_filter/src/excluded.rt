@@ -2,7 +2,8 @@
 
 ghost use Rattle.std.specs.Prelude.{◌≡◌, ◌↔◌, IsTrue};
 ghost use Rattle.ts_filter.specs.Ends.{best_end, cuts, ends_refute, refutes};
-ghost use Rattle.ts_filter.specs.Excluded.{Cuts, Refutes, counts, is_better};
+ghost use Rattle.ts_model.specs.FirstBest.{is_better};
+ghost use Rattle.ts_filter.specs.Excluded.{Cuts, Refutes, counts};
 
 use crate::bar::Bar;
 use ts_base::{Ext, Goal, Span};

@@ -25,11 +25,12 @@ use Rattle.ts_domain.specs.BoxSeries.{InBox, IsBox}
 use Rattle.ts_domain.proofs.Sets.{each_contains, le_true}
 use Rattle.ts_model.specs.declared.model.Need.{Need}
 use Rattle.ts_model.specs.declared.model.Need.TheVariants.{List as NeedsList, Best as NeedsBest}
+use Rattle.ts_model.specs.FirstBest.{objective_of}
 use Rattle.ts_model.specs.Meets.{Meets}
 use Rattle.ts_model.specs.ModelReading.{model_reading, needs_lists}
 use Rattle.ts_model.specs.Promise.{IsWhole, KeepsLimits}
 use Rattle.ts_model.specs.ModelParts.{ModelParts}
-use Rattle.ts_filter.specs.Accepts.{Accepts, AllFit, IsAsClaimed, objective_of}
+use Rattle.ts_filter.specs.Accepts.{Accepts, AllFit, IsAsClaimed}
 use Rattle.ts_filter.specs.Rules.{head_of}
 use Rattle.ts_filter.specs.Tree.{Tree, Leaf, Drop, Fork, tree_lines}
 use Rattle.ts_filter.proofs.Answered.{accepted_holds}

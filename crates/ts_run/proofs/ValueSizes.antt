@@ -26,10 +26,10 @@ use Rattle.ts_decorate.proofs.Runs.{table_start, total_of}
 use Rattle.ts_decorate.proofs.Sizes.{limit, size_of}
 use Rattle.ts_domain.specs.BoxSeries.{InBox, IsBox}
 use Rattle.ts_domain.proofs.Sets.{each_contains}
+use Rattle.ts_model.specs.FirstBest.{objective_of, value_of_term}
 use Rattle.ts_model.specs.ModelParts.{ModelParts}
 use Rattle.ts_compile.proofs.Tables.{table_fits}
 use Rattle.ts_certificate.specs.Ranges.{is_ext}
-use Rattle.ts_filter.specs.Accepts.{objective_of, value_of_term}
 
 -- the size at which sums are held, and 512 cells
 abbrev most_size : ℕ

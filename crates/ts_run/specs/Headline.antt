@@ -14,7 +14,7 @@ use Rattle.ts_certificate.specs.Certificate.{Cert, checked_count, open_count}
 use Rattle.ts_domain.specs.BoxSeries.{series_count}
 use Rattle.ts_model.specs.declared.error.ModelKind.{ModelKind}
 use Rattle.ts_model.specs.declared.model.Need.TheVariants.{Values, List as NeedsList, Best as NeedsBest}
-use Rattle.ts_model.specs.FirstBest.{FirstBest}
+use Rattle.ts_model.specs.FirstBest.{FirstBest, objective_of}
 use Rattle.ts_model.specs.Meets.{Meets}
 use Rattle.ts_model.specs.ModelParts.{ModelParts}
 use Rattle.ts_model.specs.ModelReading.{model_reading}
@@ -25,7 +25,7 @@ use Rattle.ts_user.specs.PatternReading.{pattern_reading}
 use Rattle.ts_user.specs.Stated.{Described}
 use Rattle.ts_mark.specs.MarkText.{holding, marks_text}
 use Rattle.ts_mark.specs.Holders.{AreHolders}
-use Rattle.ts_filter.specs.Accepts.{Accepts, objective_of}
+use Rattle.ts_filter.specs.Accepts.{Accepts}
 use Rattle.ts_filter.specs.Holds.{Holds, IsListed}
 use Rattle.ts_filter.specs.Lines.{IsFirstFailing}
 use Rattle.ts_spans.specs.Machines.{spans_in}

@@ -18,10 +18,10 @@ use Rattle.ts_certificate.specs.Certificate.{Cert}
 use Rattle.ts_domain.specs.BoxSeries.{InBox, IsBox}
 use Rattle.ts_domain.proofs.Sets.{each_contains}
 use Rattle.ts_pattern.specs.Limits.{IsSeries}
+use Rattle.ts_model.specs.FirstBest.{value_of_term}
 use Rattle.ts_model.specs.Meets.{value_at}
 use Rattle.ts_model.specs.Promise.{IsWhole}
 use Rattle.ts_model.specs.ModelParts.{ModelParts}
-use Rattle.ts_filter.specs.Accepts.{value_of_term}
 use Rattle.ts_filter.specs.Boxes.{Box}
 use Rattle.ts_filter.specs.RefutedWorseDrop.{Spans}
 use Rattle.ts_filter.proofs.SoundLaws.{series_length}

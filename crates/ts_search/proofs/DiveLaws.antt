@@ -7,12 +7,12 @@ use Rattle.ts_base.specs.declared.ext.Ext.{Ext}
 use Rattle.ts_base.specs.declared.goal.Goal.{Goal}
 use Rattle.ts_domain.specs.BoxSeries.{InBox, IsBox}
 use Rattle.ts_domain.proofs.Sets.{contains_cons}
+use Rattle.ts_model.specs.FirstBest.{is_better}
 use Rattle.ts_model.specs.Judgement.{is_met}
 use Rattle.ts_model.specs.Meets.{Meets}
 use Rattle.ts_model.specs.ModelParts.{ModelParts, total_of}
 use Rattle.ts_model.proofs.MeetsLaw.{judged_is_met}
 use Rattle.ts_filter.specs.Boxes.{Box, HasCell, values_at, only, without, IsPart}
-use Rattle.ts_filter.specs.Excluded.{is_better}
 use Rattle.ts_filter.specs.Laws.{IsSound}
 use Rattle.ts_filter.specs.RefutedWorseDrop.{Spans, IsRefuted, IsDrop}
 use Rattle.ts_filter.proofs.BoxParts.{place, domain_at, only_part, part_self, inside_length, in_box_inside}

@@ -6,13 +6,13 @@ use Rattle.ts_certificate.specs.declared.certificate.Aim.TheVariants.{Best as Be
 use Rattle.ts_certificate.specs.declared.certificate.TreeLine.{TreeLine}
 use Rattle.ts_certificate.specs.declared.certificate.TreeLine.TheVariants.{Split, Remove, No, Worse, Yes, Unsearched}
 use Rattle.ts_domain.specs.BoxSeries.{InBox, IsBefore}
+use Rattle.ts_model.specs.FirstBest.{is_better}
 use Rattle.ts_model.specs.Judgement.{is_met}
 use Rattle.ts_model.specs.Meets.{Meets}
 use Rattle.ts_model.proofs.MeetsLaw.{judged_is_met}
 use Rattle.ts_filter.specs.declared.bar.Bar.{Bar}
 use Rattle.ts_filter.specs.declared.bar.Bar.TheVariants.{Better, AsGood}
 use Rattle.ts_filter.specs.Boxes.{Box, IsPart, InSome, only}
-use Rattle.ts_filter.specs.Excluded.{is_better}
 use Rattle.ts_filter.specs.RefutedWorseDrop.{IsCut}
 use Rattle.ts_filter.specs.Rules.{Head, claimed_value, KeepsRule}
 use Rattle.ts_filter.specs.Steps.{made_by, Steps}

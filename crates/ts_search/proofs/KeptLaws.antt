@@ -8,9 +8,9 @@ use Rattle.ts_domain.specs.Values.{IsDomain, IsRising, least_of}
 use Rattle.ts_domain.proofs.Sets.{contains_cons, each_contains, nothing_in}
 use Rattle.ts_glue.specs.Pairs.{Pair}
 use Rattle.ts_bound.specs.TermSpans.{Automata}
+use Rattle.ts_model.specs.FirstBest.{is_better}
 use Rattle.ts_filter.specs.Boxes.{Box, values_at, only}
 use Rattle.ts_filter.specs.Ends.{best_end}
-use Rattle.ts_filter.specs.Excluded.{is_better}
 use Rattle.ts_filter.specs.KeptValue.{IsPreferred, IsKeptOver, IsKept, end_with}
 use Rattle.ts_filter.specs.MachineSpans.{is_split, span_of, spans_of}
 use Rattle.ts_filter.proofs.BoxParts.{domain_at, place}

@@ -7,11 +7,11 @@ use Rattle.ts_base.specs.declared.goal.Goal.TheVariants.{Maximise, Minimise}
 use Rattle.ts_base.specs.Numbers.{ext_le}
 use Rattle.ts_base.proofs.Order.{le_refl, le_trans, le_antisym}
 use Rattle.ts_domain.specs.BoxSeries.{InBox, IsBox}
+use Rattle.ts_model.specs.FirstBest.{objective_of, is_better}
 use Rattle.ts_model.specs.Meets.{Meets}
 use Rattle.ts_filter.specs.declared.bar.Bar.{Bar}
-use Rattle.ts_filter.specs.Accepts.{objective_of}
 use Rattle.ts_filter.specs.Boxes.{Box, IsPart}
-use Rattle.ts_filter.specs.Excluded.{is_better, counts}
+use Rattle.ts_filter.specs.Excluded.{counts}
 use Rattle.ts_filter.specs.Laws.{IsSound}
 use Rattle.ts_filter.specs.RefutedWorseDrop.{IsRefuted, IsCut}
 use Rattle.ts_filter.proofs.BoxParts.{inside_length, in_box_inside}

@@ -6,9 +6,9 @@ use Rattle.ts_certificate.specs.declared.certificate.Aim.{Aim}
 use Rattle.ts_certificate.specs.declared.certificate.Aim.TheVariants.{Best as BestOf}
 use Rattle.ts_certificate.specs.declared.certificate.TreeLine.{TreeLine}
 use Rattle.ts_certificate.specs.declared.certificate.TreeLine.TheVariants.{Split, Remove, No, Worse, Yes, Unsearched}
+use Rattle.ts_model.specs.FirstBest.{is_better}
 use Rattle.ts_filter.specs.declared.bar.Bar.TheVariants.{Better, AsGood}
 use Rattle.ts_filter.specs.Boxes.{Box, HasCell, IsPart}
-use Rattle.ts_filter.specs.Excluded.{is_better}
 use Rattle.ts_filter.specs.RefutedWorseDrop.{IsRefuted}
 use Rattle.ts_filter.specs.Rules.{Head, IsListing, KeepsRule}
 use Rattle.ts_filter.proofs.SoundLaws.{clash}

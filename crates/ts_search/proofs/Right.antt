@@ -12,10 +12,10 @@ use Rattle.ts_domain.specs.BoxSeries.{InBox}
 use Rattle.ts_pattern.specs.TermValue.{value_of as value_of_parts}
 use Rattle.ts_model.specs.declared.model.Require.{Require}
 use Rattle.ts_model.specs.Compares.{compares}
+use Rattle.ts_model.specs.FirstBest.{value_of_term, objective_of}
 use Rattle.ts_model.specs.Meets.{IsMet, Meets, value_at, values_on}
 use Rattle.ts_model.specs.ModelParts.{ModelParts}
 use Rattle.ts_filter.specs.declared.bar.Bar.{Bar}
-use Rattle.ts_filter.specs.Accepts.{value_of_term, objective_of}
 use Rattle.ts_filter.specs.Boxes.{Box, IsPart, box_of}
 use Rattle.ts_filter.specs.Excluded.{counts}
 use Rattle.ts_filter.specs.RefutedWorseDrop.{Spans, IsRequirement, IsRefuted}

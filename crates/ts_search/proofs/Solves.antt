@@ -1,11 +1,8 @@
 -- At its end the search has a certificate that is solved.
 use Rattle.std.proofs.Common.{◌≡◌, ◌⊎◌, ℕ, zero, suc, ◌+◌, ◌<◌, ◌≤◌, ℤ, true, false, List, [], ◌∷◌, ◌++◌, length, Option, Some, None, MatchOption, refl, sym, ◌∙◌, ap, subst, inl, inr, ⊎_elim, arith, append-nil}
-use Rattle.std.proofs.lemmas.Bool.{not-false}
 use Rattle.std.proofs.lemmas.List.{length_push}
 use Rattle.std.specs.Prelude.{IsSome}
 use Rattle.ts_base.specs.declared.ext.Ext.{Ext}
-use Rattle.ts_base.specs.declared.goal.Goal.{Goal}
-use Rattle.ts_base.specs.declared.goal.Goal.TheVariants.{Maximise, Minimise}
 use Rattle.ts_certificate.specs.declared.certificate.Aim.{Aim}
 use Rattle.ts_certificate.specs.declared.certificate.Aim.TheVariants.{Best as BestOf}
 use Rattle.ts_certificate.specs.declared.certificate.Claim.{Claim}
@@ -13,11 +10,10 @@ use Rattle.ts_certificate.specs.declared.certificate.Claim.TheVariants.{Best, In
 use Rattle.ts_certificate.specs.declared.certificate.TreeLine.{TreeLine}
 use Rattle.ts_certificate.specs.declared.certificate.TreeLine.TheVariants.{Split, Remove, No, Worse, Yes, Unsearched}
 use Rattle.ts_certificate.specs.Certificate.{Cert, checked_count, open_count}
-use Rattle.ts_model.specs.FirstBest.{HasObjective, FirstBest, is_as_good}
+use Rattle.ts_model.specs.FirstBest.{FirstBest, objective_of, is_better}
 use Rattle.ts_model.specs.Meets.{Meets}
-use Rattle.ts_filter.specs.Accepts.{Accepts, HasTree, value_of_term}
+use Rattle.ts_filter.specs.Accepts.{Accepts, HasTree}
 use Rattle.ts_filter.specs.Boxes.{Box}
-use Rattle.ts_filter.specs.Excluded.{is_better}
 use Rattle.ts_filter.specs.Rules.{Head, claimed_value, MayStayOpen, KeepsRule, IsWorseFor}
 use Rattle.ts_filter.specs.Steps.{Steps}
 use Rattle.ts_filter.proofs.TreeLaws.{tree_is_steps, steps_go_on}
@@ -117,16 +113,8 @@ module _ (c : Search) where
   budget_open (Some f) = tt
 
   -- the values of the objective
-  has_value : KnownBest c → (x : List ℤ) → Meets c.model x → HasObjective c.model x (value_of c.model x)
-  has_value e x m = go c.model.objective refl (e.valued x m.inside)
-    where
-      go : (o : Option ℕ) → c.model.objective ≡ o → value_of_term c.model x o ≡ Some (value_of c.model x) → HasObjective c.model x (value_of c.model x)
-      go None q v = absurd (let k : ◌≡◌ {A = Option Ext} None (Some (value_of c.model x)) = v in cc)
-      go (Some term) q v = record { term = term; objective = q; is = v }
-
-  is_value : KnownBest c → (x : List ℤ) (v : Ext) → Meets c.model x → HasObjective c.model x v → value_of c.model x ≡ v
-  is_value e x v m h =
-      let k : ◌≡◌ {A = Option Ext} (Some (value_of c.model x)) (Some v) = sym (e.valued x m.inside) ∙ ap (value_of_term c.model x) h.objective ∙ h.is in cc
+  is_value : KnownBest c → (x : List ℤ) (v : Ext) → Meets c.model x → objective_of c.model x ≡ Some v → value_of c.model x ≡ v
+  is_value e x v m h = let k : ◌≡◌ {A = Option Ext} (Some (value_of c.model x)) (Some v) = sym (e.valued x m.inside) ∙ h in cc
 
 -- what a certificate has, but for being lean
 pub record HasClaim (c : Search) (n : ℕ) (cert : Cert) : Type 0 where
@@ -134,10 +122,6 @@ pub record HasClaim (c : Search) (n : ℕ) (cert : Cert) : Type 0 where
   pub accepts : Accepts c.model c.spans cert
   pub within : checked_count cert.tree ≤ n
   pub claim : IsSolvedBy c n cert.claim cert.series cert.tree
-
-as_good : (goal : Goal) (v w : Ext) → is_better goal w v ≡ false → is_as_good goal v w ≡ true
-as_good Maximise v w e = not-false _ e
-as_good Minimise v w e = not-false _ e
 
 solved_budget : (c : Search) → KnownBest c → IsSome c.model.objective → (n : ℕ) (o : Option Find) (ls : List TreeLine) →
     Steps c.model c.spans (head c (budget_claim o) (series_of o)) (c.model.cells ∷ []) 0 ls [] 0 →
@@ -192,8 +176,8 @@ found_end c e some n ls f g few =
     first = record {
       meets = g.found_ok.meets;
       value = f.value;
-      is = subst (λ z. HasObjective c.model f.series z) (sym g.found_ok.value) (has_value c e f.series g.found_ok.meets);
-      best = λ y v m h. as_good c.goal f.value v (subst (λ z. is_better c.goal z f.value ≡ false) (is_value c e y v m h) (treated y m).0);
+      is = e.valued f.series g.found_ok.meets.inside ∙ ap Some (sym g.found_ok.value);
+      best = λ y v m h. subst (λ z. is_better c.goal z f.value ≡ false) (is_value c e y v m h) (treated y m).0;
       first = λ y m h. (treated y m).1 (is_value c e y f.value m h);
     }
 

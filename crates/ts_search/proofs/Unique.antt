@@ -1,10 +1,7 @@
 -- The tree of a search is lean, there is one solved certificate, and a large budget is never spent.
 use Rattle.std.proofs.Common.{◌≡◌, ◌⊎◌, ℕ, zero, suc, ◌+◌, ◌-◌, ◌*◌, ◌<◌, ◌≤◌, ℤ, Bool, true, false, List, [], ◌∷◌, ◌++◌, length, Option, Some, None, MatchOption, refl, sym, ◌∙◌, ap, subst, inl, inr, ⊎_elim, arith}
 use Rattle.std.proofs.lemmas.Int.{ints}
-use Rattle.ts_base.specs.declared.ext.Ext.{Ext}
 use Rattle.ts_base.specs.declared.goal.Goal.{Goal}
-use Rattle.ts_base.specs.declared.goal.Goal.TheVariants.{Maximise, Minimise}
-use Rattle.ts_base.proofs.Order.{le_antisym}
 use Rattle.ts_certificate.specs.declared.certificate.Aim.{Aim}
 use Rattle.ts_certificate.specs.declared.certificate.Aim.TheVariants.{Best as BestOf}
 use Rattle.ts_certificate.specs.declared.certificate.Claim.{Claim}
@@ -14,9 +11,9 @@ use Rattle.ts_certificate.specs.declared.certificate.TreeLine.{TreeLine}
 use Rattle.ts_certificate.specs.declared.certificate.TreeLine.TheVariants.{Split, Remove, No, Worse, Yes, Unsearched}
 use Rattle.ts_certificate.specs.Certificate.{Cert, checked_count, open_count}
 use Rattle.ts_domain.specs.BoxSeries.{IsBefore, series_count}
-use Rattle.ts_model.specs.FirstBest.{HasObjective, FirstBest, is_as_good}
+use Rattle.ts_model.specs.FirstBest.{FirstBest, objective_of}
 use Rattle.ts_model.specs.ModelParts.{ModelParts}
-use Rattle.ts_filter.specs.Accepts.{HasTree, objective_of}
+use Rattle.ts_filter.specs.Accepts.{HasTree}
 use Rattle.ts_filter.specs.Boxes.{Box}
 use Rattle.ts_filter.specs.RefutedWorseDrop.{Spans}
 use Rattle.ts_filter.specs.Rules.{Head, head_of, MayStayOpen}
@@ -33,7 +30,7 @@ use Rattle.ts_search.specs.LineOf.{Search, line_of}
 use Rattle.ts_search.specs.Solved.{IsSolvedBy}
 use Rattle.ts_search.specs.Turns.{State, turn_on, turn, turns, start, left_open, found_or_warm, budget_claim, solve_head, solve_certificate}
 use Rattle.ts_search.proofs.Good.{Good, head_now, good_start, good_turn, good_turns}
-use Rattle.ts_search.proofs.Known.{Known, KnownBest}
+use Rattle.ts_search.proofs.Known.{Known, KnownBest, neither_better}
 use Rattle.ts_search.proofs.Parts.{AreParts}
 use Rattle.ts_search.proofs.Reason.{lean_fixes, lean_has}
 use Rattle.ts_search.proofs.Solves.{HasClaim}
@@ -242,16 +239,12 @@ before_back (a ∷ x) (b ∷ y) p q =
     (λ f. ⊎_elim (λ g. absurd (omega (arith, ints, f.0, g))) (λ g. before_back x y f.1 g.1) q)
     p
 
-as_good_same : (goal : Goal) (v w : Ext) → is_as_good goal v w ≡ true → is_as_good goal w v ≡ true → v ≡ w
-as_good_same Maximise v w p q = le_antisym v w q p
-as_good_same Minimise v w p q = le_antisym v w p q
-
 pub one_best : (m : ModelParts) (goal : Goal) (x y : List ℤ) → FirstBest m goal x → FirstBest m goal y → x ≡ y
 one_best m goal x y p q =
-    let same = as_good_same goal p.value q.value (p.best y q.value q.meets q.is) (q.best x p.value p.meets p.is) in
+    let same = neither_better goal p.value q.value (q.best x p.value p.meets p.is) (p.best y q.value q.meets q.is) in
     ⊎_elim (λ e. e)
-    (λ a. ⊎_elim (λ e. sym e) (λ d. absurd (before_back x y a d)) (q.first x p.meets (subst (λ z. HasObjective m x z) same p.is)))
-    (p.first y q.meets (subst (λ z. HasObjective m y z) (sym same) q.is))
+    (λ a. ⊎_elim (λ e. sym e) (λ d. absurd (before_back x y a d)) (q.first x p.meets (subst (λ z. objective_of m x ≡ Some z) same p.is)))
+    (p.first y q.meets (subst (λ z. objective_of m y ≡ Some z) (sym same) q.is))
 
 spent : (c : Search) (n : ℕ) (claim : Claim) (xs : List (List ℤ)) (ls : List TreeLine) → IsSolvedBy c n claim xs ls →
     ((MayStayOpen claim → ⊥) → open_count ls ≡ 0) → 0 < open_count ls → checked_count ls ≡ n

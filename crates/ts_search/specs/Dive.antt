@@ -5,12 +5,11 @@ use Rattle.ts_base.specs.declared.ext.Ext.{Ext}
 use Rattle.ts_base.specs.declared.ext.Ext.TheVariants.{NegInf}
 use Rattle.ts_base.specs.declared.goal.Goal.{Goal}
 use Rattle.ts_domain.specs.Values.{least_of}
+use Rattle.ts_model.specs.FirstBest.{objective_of, is_better}
 use Rattle.ts_model.specs.Judgement.{is_met}
 use Rattle.ts_model.specs.ModelParts.{ModelParts}
-use Rattle.ts_filter.specs.Accepts.{objective_of}
 use Rattle.ts_filter.specs.Boxes.{Box, values_at, only}
 use Rattle.ts_filter.specs.Ends.{best_end}
-use Rattle.ts_filter.specs.Excluded.{is_better}
 use Rattle.ts_filter.specs.RefutedWorseDrop.{Spans}
 use Rattle.ts_search.specs.Drops.{after_drops}
 use Rattle.ts_frontier.specs.Forms.{Form, Alone, Wide, form}

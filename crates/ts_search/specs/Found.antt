@@ -3,9 +3,9 @@ use Rattle.std.specs.Prelude.{Bool, true, cond, ◌&&◌, List, [], ◌∷◌, �
 use Rattle.ts_base.specs.declared.ext.Ext.{Ext}
 use Rattle.ts_certificate.specs.declared.certificate.TreeLine.{TreeLine}
 use Rattle.ts_certificate.specs.declared.certificate.TreeLine.TheVariants.{Split, Remove, No, Worse, Yes, Unsearched}
+use Rattle.ts_model.specs.FirstBest.{is_better}
 use Rattle.ts_model.specs.Judgement.{is_met}
 use Rattle.ts_filter.specs.Boxes.{Box}
-use Rattle.ts_filter.specs.Excluded.{is_better}
 use Rattle.ts_filter.specs.Steps.{made_by}
 use Rattle.ts_search.specs.Dive.{Find, value_of, find}
 use Rattle.ts_frontier.specs.Forms.{Form, Alone, Wide, form}

@@ -10,9 +10,9 @@ use Rattle.ts_certificate.specs.declared.certificate.TreeLine.{TreeLine}
 use Rattle.ts_certificate.specs.declared.certificate.TreeLine.TheVariants.{No}
 use Rattle.ts_certificate.specs.Certificate.{Cert, open_count}
 use Rattle.ts_domain.specs.BoxSeries.{IsBox, series_count}
+use Rattle.ts_model.specs.FirstBest.{objective_of}
 use Rattle.ts_model.specs.Meets.{Meets}
 use Rattle.ts_model.specs.ModelParts.{ModelParts, total_of}
-use Rattle.ts_filter.specs.Accepts.{objective_of}
 use Rattle.ts_filter.specs.Boxes.{Box, HasCell, values_at, IsPart}
 use Rattle.ts_filter.specs.Drops.{IsFirstDrop}
 use Rattle.ts_filter.specs.KeptValue.{IsPreferred}

@@ -7,10 +7,10 @@ use Rattle.ts_certificate.specs.declared.certificate.Claim.TheVariants.{Best, In
 use Rattle.ts_certificate.specs.declared.certificate.Claim.TheVariants.{Full, All, BudgetList}
 use Rattle.ts_certificate.specs.declared.certificate.TreeLine.{TreeLine}
 use Rattle.ts_certificate.specs.Certificate.{Cert, checked_count, open_count}
-use Rattle.ts_model.specs.FirstBest.{FirstBest}
+use Rattle.ts_model.specs.FirstBest.{FirstBest, objective_of}
 use Rattle.ts_model.specs.Meets.{Meets}
 use Rattle.ts_model.specs.ModelParts.{ModelParts}
-use Rattle.ts_filter.specs.Accepts.{Accepts, objective_of}
+use Rattle.ts_filter.specs.Accepts.{Accepts}
 use Rattle.ts_filter.specs.RefutedWorseDrop.{Spans}
 use Rattle.ts_search.specs.Found.{found_in}
 use Rattle.ts_search.specs.Lean.{Lean}
