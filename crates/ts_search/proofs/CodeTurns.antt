@@ -1,6 +1,6 @@
 -- The loop of a search and of a listing, over plain variables.
 use Rattle.std.proofs.Common.{◌≡◌, ℕ, suc, ◌+◌, ◌-◌, ◌<◌, ◌≤◌, ℤ, true, false, cond, nat_lt, List, [], ◌∷◌, ◌++◌, length, map, Vec, Global, inl, inr, Option, None, refl, sym, ap, ◌∙◌, subst, arith}
-use Rattle.std.proofs.lemmas.Bool.{le-ltb}
+use Rattle.std.proofs.lemmas.Bool.{lt-ltb, le-ltb}
 use Rattle.std.proofs.lemmas.List.{length-map}
 use Rattle.ts_certificate.specs.declared.certificate.Aim.{Aim}
 use Rattle.ts_certificate.specs.declared.certificate.Aim.TheVariants.{List as ListOf}
@@ -12,9 +12,10 @@ use Rattle.ts_filter.specs.Steps.{made_by}
 use Rattle.ts_filter.proofs.BoxParts.{low_part, high_part, without_part, others_stay, part_self}
 use Rattle.ts_frontier.specs.Follow.{MayFollow}
 use Rattle.ts_frontier.specs.Waiting.{Waiting, first, rest}
+use Rattle.ts_frontier.specs.Forms.{form}
 use Rattle.ts_search.specs.Dive.{Find}
 use Rattle.ts_search.specs.LineOf.{Search, line_of}
-use Rattle.ts_search.specs.Turns.{State, start, turn_on, turn, turns, ListState, list_start, list_turn_on, list_turn, list_turns}
+use Rattle.ts_search.specs.Turns.{State, start, turn_on, turn, turns, ListState, list_start, listed_after, list_after, list_turn_on, list_turn, list_turns}
 use Rattle.ts_search.proofs.Choice.{Choice, by_refuted, by_cut, by_new, by_yes, by_drop, by_split, line_choice}
 use Rattle.ts_search.proofs.ListSolves.{done_stop}
 use Rattle.ts_search.proofs.Parts.{AreParts, wide_split}
@@ -138,3 +139,27 @@ list_first c ls w b xs none alone same empty =
   where
     state : List TreeLine → List Box → List (List ℤ) → ListState
     state l p x = record { lines = l; pending = p; listed = x }
+
+-- a turn as the code makes it, with room for one more series: the first box that waits gets its line
+pub list_turned : (c : Search) (count : ℕ) (old : ListState) (ls : List TreeLine) (w after : List Box) (xs : List (List ℤ)) (b here : Box) (l : TreeLine) →
+    length old.listed < count → w ≡ old.pending → w ≡ b ∷ rest w → l ≡ line_of c (ListOf count) None b → ls ≡ old.lines ++ l ∷ [] →
+    w ≡ here ∷ rest w → xs ≡ listed_after old.listed (form here) l → after ≡ made_by l (first w) ++ rest w →
+    let new : ListState = record { lines = ls; pending = after; listed = xs } in new ≡ list_turn c count old
+list_turned c count old ls w after xs b here l room same front is lines again listed boxes =
+    made
+    ∙ ap (list_after old b (rest w)) is
+    ∙ ap (list_turn_on c count old) (sym front ∙ same)
+    ∙ ap (λ t. cond t (list_turn_on c count old old.pending) old) (sym (lt-ltb (length old.listed) count room))
+  where
+    pending : after ≡ made_by l b ++ rest w
+    pending = boxes ∙ ap (λ z. made_by l z ++ rest w) (ap first front)
+
+    all : xs ≡ listed_after old.listed (form b) l
+    all = listed ∙ ap (λ z. listed_after old.listed (form z) l) (sym (ap first again) ∙ ap first front)
+
+    made : let new : ListState = record { lines = ls; pending = after; listed = xs } in new ≡ list_after old b (rest w) l
+    made = λ i. record { lines = lines i; pending = pending i; listed = all i }
+
+-- of the list that the code has
+pub room_for : (m : ℕ) (xs : List (Vec ℤ Global)) → length xs < m → length (map (λ x. x.items) xs) < m
+room_for m xs room = let same = length-map xs (λ (v : Vec ℤ Global). v.items) in omega (arith, room, same)

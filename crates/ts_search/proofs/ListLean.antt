@@ -11,7 +11,7 @@ use Rattle.ts_search.specs.Dive.{Find}
 use Rattle.ts_search.specs.Drops.{or_later, next_drop}
 use Rattle.ts_frontier.specs.Forms.{Form, Alone, Wide, form}
 use Rattle.ts_search.specs.Found.{tally_after, tally}
-use Rattle.ts_search.specs.Lean.{IsFree, IsLeanLine, MayFollow, or_open, AreLean, most_told}
+use Rattle.ts_search.specs.Lean.{IsFree, IsLeanLine, StandsInTime, or_open, AreLean, most_told}
 use Rattle.ts_search.specs.LineOf.{Search, last, requirements, refuted_last, first_no, branch_line, form_line, line_of}
 use Rattle.ts_search.specs.Turns.{ListState, list_turn_on, list_turn, list_turns, list_start, left_open, list_claim, list_certificate}
 use Rattle.ts_search.proofs.Known.{Known}
@@ -75,7 +75,7 @@ module _ (c : Search) (count : ℕ) where
 
 -- without the limit on yes lines
 
-free_follow : (count : ℕ) (o : Bool) (y : ℕ) (l : TreeLine) → MayFollow (Some count) o y l → MayFollow None o y l
+free_follow : (count : ℕ) (o : Bool) (y : ℕ) (l : TreeLine) → StandsInTime (Some count) o y l → StandsInTime None o y l
 free_follow count o y (Split k t) h = (h.0, tt)
 free_follow count o y (Remove k v j) h = (h.0, tt)
 free_follow count o y (No j p) h = (h.0, tt)

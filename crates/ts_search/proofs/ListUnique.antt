@@ -26,7 +26,7 @@ use Rattle.ts_search.specs.Drops.{or_later}
 use Rattle.ts_frontier.specs.Forms.{Form, Alone, Wide, form}
 use Rattle.ts_search.specs.Found.{tally_after}
 use Rattle.ts_search.specs.Laws.{IsBudget}
-use Rattle.ts_search.specs.Lean.{IsFree, IsLeanLine, InTime, MayFollow, AreLean, most_told}
+use Rattle.ts_search.specs.Lean.{IsFree, IsLeanLine, InTime, StandsInTime, AreLean, most_told}
 use Rattle.ts_search.specs.LineOf.{Search, last, requirements, is_refuted_at, refuted_last, first_no, removal_line, branch_line, form_line, line_of}
 use Rattle.ts_search.specs.Listed.{IsListedBy}
 use Rattle.ts_search.proofs.Choice.{LeastFits, least_fits}
@@ -123,7 +123,7 @@ none_told_after c aim most h (Yes ∷ ls) f y (b ∷ w) left z n s = absurd (let
 none_told_after c aim most h (Unsearched ∷ ls) f y (b ∷ w) left z n s =
     none_told_after c aim most h ls (tally_after c f (form b) Unsearched) y w left z n.2 s.1
 
-in_time : (most : Option ℕ) (o : Bool) (y : ℕ) (l : TreeLine) → IsChecked l → MayFollow most o y l → InTime most o y
+in_time : (most : Option ℕ) (o : Bool) (y : ℕ) (l : TreeLine) → IsChecked l → StandsInTime most o y l → InTime most o y
 in_time most o y (Split k t) h n = n
 in_time most o y (Remove k v j) h n = n
 in_time most o y (No j p) h n = n

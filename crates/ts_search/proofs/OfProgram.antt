@@ -2,8 +2,6 @@
 use Rattle.std.proofs.Common.{◌≡◌, ◌≤◌, length, sym, subst, arith}
 use Rattle.std.proofs.lemmas.List.{length-map}
 use Rattle.ts_base.specs.Limits.{most_requirements, most_terms}
-use Rattle.ts_compile.specs.declared.program.Program.{Program}
-use Rattle.ts_compile.specs.Programs.{IsProgramOf}
 use Rattle.ts_domain.specs.BoxSeries.{IsBox}
 use Rattle.ts_model.specs.declared.model.Model.{Model}
 use Rattle.ts_model.specs.declared.model.Need.{Need}
@@ -21,24 +19,18 @@ use Rattle.ts_search.specs.declared.problem.Problem.{Problem}
 pub are_right : (m : ModelParts) → IsWhole m → IsBox m.cells → AreRight m (spans_in m)
 are_right m whole box = record { whole = whole; box = box; holds = spans_hold_values m whole; single = spans_tell_singles m whole box }
 
-posed_with : (m : Model) (p : Program) → IsProgramOf p m → IsWhole (model_parts m) → (need : Need) → KeepsLimits need (model_parts m) → (q : Problem) →
-    q.model.now ≡ m → q.program.now ≡ p → IsPosed q
-posed_with m p of whole need limits q is_model is_program =
+posed_with : (m : Model) → IsWhole (model_parts m) → (need : Need) → KeepsLimits need (model_parts m) → (q : Problem) → q.model.now ≡ m → IsPosed q
+posed_with m whole need limits q is_model =
     let many = length-map m.terms.entries term_of in
     let terms = limits.terms in
     record {
-      program = subst (λ z. IsProgramOf q.program.now z) (sym is_model) (subst (λ z. IsProgramOf z m) (sym is_program) of);
       right = subst (λ z. AreRight (model_parts z) (spans_in (model_parts z))) (sym is_model) (are_right (model_parts m) whole limits.box);
       terms = subst (λ (z : Model). length z.terms.entries ≤ most_terms) (sym is_model) (omega (arith, many, terms));
       requirements = subst (λ (z : Model). length z.requirements.items ≤ most_requirements) (sym is_model) limits.requirements;
     }
 
-pub posed_best : (m : Model) (p : Program) → IsProgramOf p m → IsWhole (model_parts m) → KeepsLimits NeedsBest (model_parts m) → (q : Problem) →
-    q.model.now ≡ m →
-    q.program.now ≡ p → IsPosed q
-posed_best m p of whole limits q is_model is_program = posed_with m p of whole NeedsBest limits q is_model is_program
+pub posed_best : (m : Model) → IsWhole (model_parts m) → KeepsLimits NeedsBest (model_parts m) → (q : Problem) → q.model.now ≡ m → IsPosed q
+posed_best m whole limits q is_model = posed_with m whole NeedsBest limits q is_model
 
-pub posed_list : (m : Model) (p : Program) → IsProgramOf p m → IsWhole (model_parts m) → KeepsLimits NeedsList (model_parts m) → (q : Problem) →
-    q.model.now ≡ m →
-    q.program.now ≡ p → IsPosed q
-posed_list m p of whole limits q is_model is_program = posed_with m p of whole NeedsList limits q is_model is_program
+pub posed_list : (m : Model) → IsWhole (model_parts m) → KeepsLimits NeedsList (model_parts m) → (q : Problem) → q.model.now ≡ m → IsPosed q
+posed_list m whole limits q is_model = posed_with m whole NeedsList limits q is_model

@@ -25,7 +25,7 @@ use Rattle.ts_search.specs.Dive.{Find}
 use Rattle.ts_frontier.specs.Forms.{form}
 use Rattle.ts_search.specs.Found.{tally_after, tally}
 use Rattle.ts_search.specs.Laws.{IsBudget}
-use Rattle.ts_search.specs.Lean.{MayFollow, or_open, IsLeanLine, AreLean, most_told}
+use Rattle.ts_search.specs.Lean.{StandsInTime, or_open, IsLeanLine, AreLean, most_told}
 use Rattle.ts_search.specs.LineOf.{Search, line_of}
 use Rattle.ts_search.specs.Solved.{IsSolvedBy}
 use Rattle.ts_search.specs.Turns.{State, turn_on, turn, turns, start, left_open, found_or_warm, budget_claim, solve_head, solve_certificate}
@@ -62,7 +62,7 @@ lean_append c aim most h o (l ∷ ls) ms f y (b ∷ w) left after a st n m =
           (subst (λ z. AreLean c aim most next z (told_by l y) (made_by l b ++ w) ls) same n.2) m),
     )
 
-pub may_follow : (most : Option ℕ) (y : ℕ) (l : TreeLine) → MatchOption most (Unit {0}) (λ m. y < m) → MayFollow most false y l
+pub may_follow : (most : Option ℕ) (y : ℕ) (l : TreeLine) → MatchOption most (Unit {0}) (λ m. y < m) → StandsInTime most false y l
 may_follow most y (Split k t) h = (refl, h)
 may_follow most y (Remove k v j) h = (refl, h)
 may_follow most y (No j p) h = (refl, h)

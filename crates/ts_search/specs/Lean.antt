@@ -83,13 +83,13 @@ IsLeanLine c aim best b Unsearched = Unit {0}
 abbrev pub InTime : Option ℕ → Bool → ℕ → Type 0
 InTime most opened told = (opened ≡ false) × MatchOption most (Unit {0}) (λ count. told < count)
 
-abbrev pub MayFollow : Option ℕ → Bool → ℕ → TreeLine → Type 0
-MayFollow most opened told (Split k t) = InTime most opened told
-MayFollow most opened told (Remove k v j) = InTime most opened told
-MayFollow most opened told (No j p) = InTime most opened told
-MayFollow most opened told (Worse p) = InTime most opened told
-MayFollow most opened told Yes = InTime most opened told
-MayFollow most opened told Unsearched = Unit {0}
+abbrev pub StandsInTime : Option ℕ → Bool → ℕ → TreeLine → Type 0
+StandsInTime most opened told (Split k t) = InTime most opened told
+StandsInTime most opened told (Remove k v j) = InTime most opened told
+StandsInTime most opened told (No j p) = InTime most opened told
+StandsInTime most opened told (Worse p) = InTime most opened told
+StandsInTime most opened told Yes = InTime most opened told
+StandsInTime most opened told Unsearched = Unit {0}
 
 abbrev pub or_open : Bool → TreeLine → Bool
 or_open opened (Split k t) = opened
@@ -104,7 +104,7 @@ abbrev pub AreLean : Search → Aim → Option ℕ → Option Find → Bool → 
 AreLean c aim most best opened told waiting [] = Unit {0}
 AreLean c aim most best opened told [] (l ∷ ls) = ⊥
 AreLean c aim most best opened told (b ∷ waiting) (l ∷ ls) =
-    MayFollow most opened told l × IsLeanLine c aim best b l
+    StandsInTime most opened told l × IsLeanLine c aim best b l
     × AreLean c aim most (tally_after c best (form b) l) (or_open opened l) (told_by l told) (made_by l b ++ waiting) ls
 
 -- how many `yes` lines end a tree

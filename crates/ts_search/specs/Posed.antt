@@ -2,16 +2,14 @@
 use Rattle.std.specs.Prelude.{◌≡◌, ◌≤◌, List, length}
 use Rattle.ts_base.specs.Limits.{most_requirements, most_terms}
 use Rattle.ts_bound.specs.TermSpans.{Automata}
-use Rattle.ts_compile.specs.Programs.{IsProgramOf}
 use Rattle.ts_filter.specs.Boxes.{Box, IsPart}
 use Rattle.ts_model.specs.Views.{model_parts}
 use Rattle.ts_spans.specs.Machines.{automata_in, spans_in}
 use Rattle.ts_search.specs.RightSpans.{AreRight}
 use Rattle.ts_search.specs.declared.problem.Problem.{Problem}
 
--- the program is the model's, whose terms and requirements are few and whose spans are right
+-- the model's terms and requirements are few, and its spans are right
 pub record IsPosed (q : Problem) : Type 0 where
-  pub program : IsProgramOf q.program.now q.model.now
   pub right : AreRight (model_parts q.model.now) (spans_in (model_parts q.model.now))
   pub terms : length q.model.now.terms.entries ≤ most_terms
   pub requirements : length q.model.now.requirements.items ≤ most_requirements

@@ -1,4 +1,5 @@
--- The search, one line a turn; and its certificate.
+-- How the code goes: one line a turn, and the certificate at the end. No public call promises it: what is promised
+-- stands in `Solved` and `Listed`.
 use Rattle.std.specs.Prelude.{ℕ, zero, suc, ℤ, Bool, true, false, cond, nat_lt, List, [], ◌∷◌, ◌++◌, length}
 use Rattle.std.specs.Prelude.{Option, Some, None}
 use Rattle.ts_certificate.specs.declared.certificate.Aim.{Aim}

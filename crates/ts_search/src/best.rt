@@ -43,7 +43,6 @@ pub fn solve(
 {
     let mut problem = Problem {
         model: m,
-        program: p,
         goal,
         warm: None,
     };

@@ -1,6 +1,6 @@
 //! The line of a box: the first of its rules that holds, each asked of the box as it is.
 
-ghost use Rattle.std.specs.Prelude.{◌≡◌, IfOk, None};
+ghost use Rattle.std.specs.Prelude.{◌≡◌, ℕ, IfOk, None};
 ghost use Rattle.ts_certificate.specs.declared.certificate.Aim.TheVariants.{Best as BestOf, List as ListOf};
 ghost use Rattle.ts_search.specs.LineOf.{branch_line, first_no, line_of, refuted_last, requirements, wide_line};
 ghost use Rattle.ts_search.specs.Posed.{MayAsk};
@@ -43,17 +43,17 @@ pub(crate) fn solve_line(
     inner_line(alloc, problem, tables, cells, found, halving)
 }
 
-/// The line of a box in a listing of up to `count` series.
+/// The line of a box in a listing, of however many series.
 pub(crate) fn listing_line(
     alloc: Global,
     problem: &Problem<'_>,
     tables: &mut AllTables<'_>,
     cells: &Boxed,
-    count: u32,
 ) -> Result<TreeLine, Memory>
     requires { MayAsk problem.now tables.old cells.now.present }
     ensures same { tables.new ≡ tables.old }
-    ensures line { IfOk result (λ l. l ≡ line_of (search_of problem.now) (ListOf count) None cells.now.present) }
+    ensures line { IfOk result (λ l. (count : ℕ) →
+        l ≡ line_of (search_of problem.now) (ListOf count) None cells.now.present) }
 {
     if let Some(j) = refuted_requirement(alloc, problem, tables, cells)? {
         let p = problem.last();

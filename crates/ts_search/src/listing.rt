@@ -1,6 +1,6 @@
 //! The first series of a model in lexicographic order, and their certificate.
 
-ghost use Rattle.std.specs.Prelude.{◌≡◌, ◌<◌, ◌≤◌, IfOk, List, OnOk, length, map, nat_lt};
+ghost use Rattle.std.specs.Prelude.{◌≡◌, ℕ, ◌<◌, ◌≤◌, IfOk, List, OnOk, length, map, nat_lt};
 ghost use Rattle.std.specs.List.{AllByRecursion};
 ghost use Rattle.ts_certificate.specs.Certificate.{cert_seen};
 ghost use Rattle.ts_certificate.specs.declared.certificate.TreeLine.TheVariants.{Yes as YesLine};
@@ -54,7 +54,6 @@ pub fn list(
 {
     let problem = Problem {
         model: m,
-        program: p,
         goal: Goal::Maximise,
         warm: None,
     };
@@ -91,31 +90,29 @@ fn list_grow(
         if tree.frontier.is_empty() {
             return Ok(tree);
         }
-        list_treat(alloc, problem, tables, count, &mut tree)?;
+        list_treat(alloc, problem, tables, &mut tree)?;
     }
     Ok(tree)
 }
 
-/// One turn: the next box gets its line.
+/// One turn, where fewer series are listed than are asked for: the next box gets its line.
 fn list_treat(
     alloc: Global,
     problem: &Problem<'_>,
     tables: &mut AllTables<'_>,
-    count: u32,
     tree: &mut ListTree,
 ) -> Result<(), Memory>
     requires posed { IsPosed problem.now }
     requires parts { AllByRecursion (λ b. IsPart b (search_of problem.now).model.cells) tree.old.frontier.boxes }
-    requires room { length tree.old.listed.items < count }
     requires tables { AreTablesOf problem.now tables.old }
     ensures same { tables.new ≡ tables.old }
-    ensures turn { OnOk result
-        (list_state_of tree.new ≡ list_turn (search_of problem.now) count (list_state_of tree.old)) }
+    ensures turn { OnOk result ((count : ℕ) → length tree.old.listed.items < count →
+        list_state_of tree.new ≡ list_turn (search_of problem.now) count (list_state_of tree.old)) }
 {
     if !tree.frontier.advance()? {
         return Ok(());
     }
-    let line = listing_line(alloc, problem, tables, tree.frontier.present(), count)?;
+    let line = listing_line(alloc, problem, tables, tree.frontier.present())?;
     tree.lines.push(line)?;
     listed_now(alloc, tree.frontier.present(), line, &mut tree.listed)?;
     follow(&mut tree.frontier, &line)

@@ -1,4 +1,4 @@
-//! A model with its program, and what its requirements exclude on a box.
+//! A model, and what its requirements exclude on a box.
 
 ghost use Rattle.std.specs.Prelude.{◌≡◌, ◌≤◌, IfOk};
 ghost use Rattle.ts_base.specs.Limits.{most_requirements};
@@ -18,12 +18,11 @@ use ts_domain::Boxed;
 use ts_filter::{AllTables, Removal};
 use ts_model::Model;
 
-/// A model with its program and a goal; and the series of the dive, where there is one. A listing has neither goal nor
-/// dive, and its goal is never asked.
+/// A model and a goal; and the series of the dive, where there is one. A listing has neither goal nor dive, and its goal
+/// is never asked.
 #[derive(Drop)]
 pub(crate) struct Problem<'a> {
     pub(crate) model: &'a Model,
-    pub(crate) program: &'a Program,
     pub(crate) goal: Goal,
     pub(crate) warm: Option<FoundSeries>,
 }

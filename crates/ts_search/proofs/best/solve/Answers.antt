@@ -11,10 +11,10 @@ use Rattle.ts_search.proofs.best.solve.Goals as goal
 
 -- the problem may be asked: its spans are right
 pub dive-requires-clause-posed : goal.dive-requires-clause-posed
-dive-requires-clause-posed c = posed_best c.args.m.now c.args.p.now c.requires.program c.requires.whole c.requires.limits _ refl refl
+dive-requires-clause-posed c = posed_best c.args.m.now c.requires.whole c.requires.limits _ refl
 
 pub grow-requires-clause-posed : goal.grow-requires-clause-posed
-grow-requires-clause-posed c = posed_best c.args.m.now c.args.p.now c.requires.program c.requires.whole c.requires.limits _ refl refl
+grow-requires-clause-posed c = posed_best c.args.m.now c.requires.whole c.requires.limits _ refl
 
 pub returns : goal.returns
 returns c =

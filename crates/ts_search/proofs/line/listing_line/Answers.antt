@@ -1,4 +1,4 @@
-use Rattle.std.proofs.Common.{◌≡◌, sym, ◌∙◌, None, subst}
+use Rattle.std.proofs.Common.{◌≡◌, ℕ, sym, ◌∙◌, None, subst}
 use Rattle.std.specs.Prelude.{MatchOption}
 use Rattle.std.proofs.lemmas.Result.{IfOk-weaker}
 use Rattle.ts_certificate.specs.declared.certificate.Aim.TheVariants.{List as ListOf}
@@ -9,20 +9,20 @@ use Rattle.ts_search.proofs.CodeLines.{line_refuted, listed_alone, listed_branch
 use Rattle.ts_search.proofs.line.listing_line.Goals as goal
 
 pub returns-in-Some-clause-line : goal.returns-in-Some-clause-line
-returns-in-Some-clause-line c =
-    line_refuted (search_of c.args.problem.now) (ListOf c.args.count) None c.args.cells.now.present c.in-Some.j c.last-p.result
+returns-in-Some-clause-line c = λ count.
+    line_refuted (search_of c.args.problem.now) (ListOf count) None c.args.cells.now.present c.in-Some.j c.last-p.result
     (sym c.in_ok-j.ensures.found ∙ c.in-Some.is) c.last-p.ensures
 
 pub returns-in_default-first_halving-clause-line : goal.returns-in_default-first_halving-clause-line
-returns-in_default-first_halving-clause-line c =
+returns-in_default-first_halving-clause-line c = λ count.
     let b = c.args.cells.now.present in
-    listed_alone (search_of c.args.problem.now) c.args.count b (sym c.in_ok-j.ensures.found ∙ c.in_default.is)
+    listed_alone (search_of c.args.problem.now) count b (sym c.in_ok-j.ensures.found ∙ c.in_default.is)
     (subst (λ o. MatchOption o (IsSingle b) (λ h. IsHalving h.cell h.at b)) c.in_default-first_halving.is c.first_halving.ensures)
 
 pub returns-in-Some-2-clause-line : goal.returns-in-Some-2-clause-line
-returns-in-Some-2-clause-line c =
+returns-in-Some-2-clause-line c = λ count.
     let b = c.args.cells.now.present in
-    listed_no (search_of c.args.problem.now) c.args.count b (sym c.in_ok-j.ensures.found ∙ c.in_default.is)
+    listed_no (search_of c.args.problem.now) count b (sym c.in_ok-j.ensures.found ∙ c.in_default.is)
     c.in-Some-first_halving.halving.cell c.in-Some-first_halving.halving.at
     (subst (λ o. MatchOption o (IsSingle b) (λ h. IsHalving h.cell h.at b)) c.in-Some-first_halving.is c.first_halving.ensures)
     c.in_ok-line.field-0 c.in-Some-2.line
@@ -33,8 +33,8 @@ returns-clause-line c =
     let b = c.args.cells.now.present in
     let s = search_of c.args.problem.now in
     let halving = c.in-Some-first_halving.halving in
-    IfOk-weaker c.branch-alloc.result (λ l. l ≡ branch_line s b halving.cell halving.at) (λ l. l ≡ line_of s (ListOf c.args.count) None b)
-    (λ l h. listed_branch s c.args.count b (sym c.in_ok-j.ensures.found ∙ c.in_default.is) halving.cell halving.at
+    IfOk-weaker c.branch-alloc.result (λ l. l ≡ branch_line s b halving.cell halving.at) (λ l. (count : ℕ) → l ≡ line_of s (ListOf count) None b)
+    (λ l h count. listed_branch s count b (sym c.in_ok-j.ensures.found ∙ c.in_default.is) halving.cell halving.at
     (subst (λ o. MatchOption o (IsSingle b) (λ h. IsHalving h.cell h.at b)) c.in-Some-first_halving.is c.first_halving.ensures) c.in_ok-line.field-0 l
     c.in_ok-line.ensures.line c.in_default-2.is h)
     c.branch-alloc.ensures.line

@@ -11,7 +11,7 @@ use Rattle.ts_search.proofs.OfProgram.{are_right, posed_list}
 use Rattle.ts_search.proofs.listing.list.Goals as goal
 
 pub list_grow-requires-clause-posed : goal.list_grow-requires-clause-posed
-list_grow-requires-clause-posed c = posed_list c.args.m.now c.args.p.now c.requires.program c.requires.whole c.requires.limits _ refl refl
+list_grow-requires-clause-posed c = posed_list c.args.m.now c.requires.whole c.requires.limits _ refl
 
 pub returns : goal.returns
 returns c =

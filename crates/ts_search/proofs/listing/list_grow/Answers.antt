@@ -32,11 +32,15 @@ returns-then-is_empty-clause-turns c =
 pub loop-preserved : goal.loop-preserved
 loop-preserved c =
     let s = search_of c.args.problem.now in
+    let out = c.if-len-count.false in
+    let is = c.len.ensures in
+    let long = c.loop.tree.listed.ok.0 in
+    let turn = c.in_ok-list_treat.ensures.turn c.args.count (omega (arith, out, is, long)) in
     record {
       same = c.list_treat.ensures.same ∙ c.loop.invariant.same;
       turned = list_more s c.args.count c.args.budget c.loop.counter (list_state_of c.loop.tree) (list_state_of c.list_treat.new.tree) _
-          c.loop-test.true c.in_ok-list_treat.ensures.turn c.loop.invariant.turned;
-      parts = list_parts s c.args.count (list_state_of c.loop.tree) (list_state_of c.list_treat.new.tree) c.in_ok-list_treat.ensures.turn
+          c.loop-test.true turn c.loop.invariant.turned;
+      parts = list_parts s c.args.count (list_state_of c.loop.tree) (list_state_of c.list_treat.new.tree) turn
           c.loop.invariant.parts;
     }
 
