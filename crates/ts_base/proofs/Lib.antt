@@ -4,3 +4,4 @@ pub mod SpanLaws
 mod Taking
 mod WordCuts
 pub mod WordLaws
+pub mod WindowLaws

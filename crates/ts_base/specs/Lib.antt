@@ -11,4 +11,5 @@ pub mod Spans
 pub mod Standard
 pub mod Taken
 pub mod Text
+pub mod Windows
 pub mod Words

@@ -6,4 +6,5 @@ pub mod Pairs
 pub mod Totals
 pub mod Values
 pub mod Known
+pub mod Looked
 mod Features

@@ -24,5 +24,5 @@ mod series;
 mod term_value;
 
 pub use occurrence::occurrences;
-pub use series::{part, signature};
+pub use series::{looked_at, part, signature};
 pub use term_value::{aggregate, value, value_with};

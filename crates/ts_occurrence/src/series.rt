@@ -1,8 +1,10 @@
-//! A series' signature, and the cells of a range.
+//! A series' signature, and the cells of a range or a window.
 
 ghost use Rattle.std.specs.Prelude.{◌≡◌, ◌≤◌, length, IfOk};
+ghost use Rattle.ts_base.specs.Windows.{LooksInside, looked_at};
 ghost use Rattle.ts_base.specs.Signature.{signature_of};
 ghost use Rattle.ts_pattern.specs.FeatureValue.{cells_of};
+ghost use Rattle.ts_pattern.specs.Limits.{IsSeries};
 ghost use Rattle.ts_transducer.specs.Inside.{IsInside};
 
 use std::alloc::Global;
@@ -26,4 +28,16 @@ pub fn part<'a>(r: Range, series: &'a [i64]) -> &'a [i64]
     ensures { result.now ≡ cells_of r series.now }
 {
     &series[r.first as usize - 1..r.last as usize]
+}
+
+/// The cells that are looked at: all, which are lent as they are, or those of the window, which lies in the series.
+pub fn looked_at<'a>(window: Option<Range>, series: &'a [i64]) -> &'a [i64]
+    requires { LooksInside (length series.now) window }
+    ensures cells { result.now ≡ looked_at window series.now }
+    ensures series { IsSeries series.now → IsSeries result.now }
+{
+    match window {
+        None => series,
+        Some(window) => part(window, series),
+    }
 }

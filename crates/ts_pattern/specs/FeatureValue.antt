@@ -1,14 +1,11 @@
 -- What an e-range of a series is worth (Global Constraint Catalog, Volume II: features).
-use Rattle.std.specs.Prelude.{◌-◌, ℤ, pos, ◌+ℤ◌, List, [], ◌∷◌, length, slice_range, Option, None, Some}
+use Rattle.std.specs.Prelude.{ℤ, pos, ◌+ℤ◌, List, [], ◌∷◌, length, Option, None, Some}
 use Rattle.std.specs.List.{fold}
 use Rattle.std.specs.Int.{int_max, int_min}
 use Rattle.ts_base.specs.declared.range.Range.{Range}
+pub use Rattle.ts_base.specs.Windows.{cells_of}
 use Rattle.ts_pattern.specs.declared.name.Feature.{Feature}
 use Rattle.ts_pattern.specs.declared.name.Feature.TheVariants.{One, Width, Surf, Max, Min}
-
--- the cells of a range, whose ends are counted from 1
-abbrev pub cells_of : Range → List ℤ → List ℤ
-cells_of r xs = slice_range xs (r.first - 1) r.last
 
 -- the first number, joined with each further one; nothing where there is none
 abbrev pub over : (ℤ → ℤ → ℤ) → List ℤ → Option ℤ
