@@ -1,8 +1,10 @@
-//! What stands for a term: automata that answer its value.
+//! What stands for a term: automata that answer its value, over all cells or over a window.
 
-ghost use Rattle.std.specs.Prelude.{◌≡◌, ◌<◌, IfSome, IsSome, IsTrue, None, Some, length, option_map};
+ghost use Rattle.std.proofs.Props.{props};
+ghost use Rattle.std.specs.Prelude.{◌≡◌, ◌<◌, ◌≤◌, IfSome, IsSome, IsTrue, None, Some, length, option_map};
 ghost use Rattle.ts_automaton.specs.Typing.{is_automaton};
-ghost use Rattle.ts_base.specs.Limits.{IsCellValue};
+ghost use Rattle.ts_base.specs.Limits.{IsCellValue, most_cells};
+ghost use Rattle.ts_base.specs.Windows.{LooksInside};
 ghost use Rattle.ts_glue.specs.Glue.{glue_of};
 ghost use Rattle.ts_glue.specs.Glued.{Local};
 ghost use Rattle.ts_glue.specs.Pairs.{pair, table_view};
@@ -14,6 +16,7 @@ use crate::gluing::Gluing;
 use crate::shape::Shapes;
 use crate::table::GlueTable;
 use ts_automaton::Automaton;
+use ts_base::Range;
 
 /// A reverse automaton, and how its values are glued to those of the forward one.
 #[derive(Drop)]
@@ -25,11 +28,13 @@ pub(crate) struct Half {
 
 /// A forward automaton, and either nothing or a reverse automaton with a glue table: then it can be split at each cell,
 /// and at every cell of every series of 1 to 512 cells from -1,000,000 to 1,000,000 the glued value of the two runs is
-/// the forward automaton's answer.
+/// the forward automaton's answer. The series is that of all cells, or that of the cells of the machine's window.
 #[derive(Drop)]
 pub struct Machine {
     forward: Automaton,
     half: Option<Half>,
+    window: Option<Range>,
+    pub ghost inside: { LooksInside most_cells window } by { Prim.hlevel props },
     pub ghost rules: { (h : Half) → half ≡ Some h →
         IsTrue (keeps_rules (pair forward h.reverse (table_view h.table))) },
     pub ghost local: { (h : Half) → half ≡ Some h → Local (pair forward h.reverse (table_view h.table)) },
@@ -38,16 +43,18 @@ pub struct Machine {
 }
 
 impl Machine {
-    ghost use Rattle.ts_glue.specs.Machines.{forward_of, pair_of, reverse_of, table_of};
+    ghost use Rattle.ts_glue.specs.Machines.{forward_of, pair_of, reverse_of, table_of, window_of};
 
     /// The machine of a forward automaton alone. It can't be split.
     pub fn plain(forward: Automaton) -> Machine
         ensures forward { forward_of result ≡ forward }
         ensures plain { pair_of result ≡ None }
+        ensures whole { window_of result ≡ None }
     {
         Machine {
             forward,
             half: None,
+            window: None,
         }
     }
 
@@ -58,7 +65,8 @@ impl Machine {
     pub fn glued(forward: Automaton, reverse: Automaton, table: GlueTable) -> Machine
         requires rules { IsTrue (keeps_rules (pair forward reverse (table_view table))) }
         requires local { Local (pair forward reverse (table_view table)) }
-        ensures { pair_of result ≡ Some (pair forward reverse (table_view table)) }
+        ensures pair { pair_of result ≡ Some (pair forward reverse (table_view table)) }
+        ensures whole { window_of result ≡ None }
     {
         let shapes = Shapes::of(&forward, &reverse, &table);
         Machine {
@@ -68,6 +76,24 @@ impl Machine {
                 table,
                 shapes,
             }),
+            window: None,
+        }
+    }
+
+    /// The same machine over the cells from `first` to `last` alone, counted from 1. It has no window yet.
+    pub fn over(self, first: u32, last: u32) -> Machine
+        requires first { 1 ≤ first }
+        requires order { first ≤ last }
+        requires last { last ≤ most_cells }
+        requires whole { window_of self ≡ None }
+        ensures forward { forward_of result ≡ forward_of self }
+        ensures pair { pair_of result ≡ pair_of self }
+        ensures window { window_of result ≡ Some (record { first = first; last = last }) }
+    {
+        Machine {
+            forward: self.forward,
+            half: self.half,
+            window: Some(Range { first, last }),
         }
     }
 
@@ -108,6 +134,13 @@ impl Machine {
             Some(half) => Some(&half.reverse),
             None => None,
         }
+    }
+
+    /// The cells that it looks at. None, which is all of them, exactly where it wasn't made by `over`.
+    pub fn window(&self) -> Option<Range>
+        ensures { result ≡ window_of self.now }
+    {
+        self.window
     }
 
     /// Its glue table. None exactly where it was made by `plain`.
