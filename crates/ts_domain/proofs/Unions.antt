@@ -10,7 +10,7 @@ use Rattle.std.specs.Prelude.{int_le, int_lt, All}
 use Rattle.std.specs.List.{list_any, zip}
 use Rattle.ts_domain.specs.declared.interval.Interval.{Interval}
 use Rattle.ts_domain.specs.Values.{RangesFrom, WithinLimits}
-use Rattle.ts_domain.specs.Union.{InSomeRange, SomeEmpty, InSome, LowsRise, intervals_of}
+use Rattle.ts_domain.specs.Union.{InSomeRange, SomeEmpty, InSome, IsUsable, LowsRise, intervals_of}
 
 -- the test that a range has a number
 abbrev pub has_number : ℤ → Interval → Bool
@@ -102,10 +102,6 @@ get_or-paired (l ∷ ls) [] i d e h = absurd (omega (arith, e))
 get_or-paired (l ∷ ls) (r ∷ hs) zero d e h = refl
 get_or-paired (l ∷ ls) (r ∷ hs) (suc i) d e h = get_or-paired ls hs i d (omega (arith, e)) (omega (arith, h))
 
--- not empty, and within the limits
-abbrev pub IsUsable : Interval → Type 0
-IsUsable r = (neg_ℤ (pos 1000000) ≤ℤ r.low) × (r.low ≤ℤ r.high) × (r.high ≤ℤ pos 1000000)
-
 pub usable_paired : (lows highs : List ℤ) → length lows ≡ length highs → All WithinLimits lows → All WithinLimits highs → (SomeEmpty lows highs → ⊥) →
     All IsUsable (intervals_of lows highs)
 usable_paired lows highs e a b full i d below =
@@ -115,6 +111,12 @@ usable_paired lows highs e a b full i d below =
   where
     not_below : (l h : ℤ) → (h <ℤ l → ⊥) → l ≤ℤ h
     not_below l h n = grind (arith, ints)
+
+-- there is a range
+pub paired_some : (lows highs : List ℤ) → length lows ≡ length highs → ((lows ≡ []) ⊎ SomeEmpty lows highs → ⊥) → 0 < length (intervals_of lows highs)
+paired_some [] highs e full = absurd (full (inl refl))
+paired_some (l ∷ ls) [] e full = absurd (omega (arith, e))
+paired_some (l ∷ ls) (h ∷ hs) e full = omega arith
 
 -- usable ranges whose neighbours rise by their low ends
 pub lows_rise : (from : ℤ) (rs : List Interval) → ((d : Interval) → 0 < length rs → from ≤ℤ (get_or rs 0 d).low) →
@@ -139,13 +141,13 @@ low_first r s h = by_test (int_lt s.low r.low) refl
         (ap (λ b. is_lt (ordering_then (cond b Less (cond (int_lt r.low s.low) Greater Equal)) (int_cmp s.high r.high))) e))
     by_test false e = grind (arith, ints)
 
-pub sorted_rise : (lows highs : List ℤ) (given ys : List Interval) → length lows ≡ length highs → All WithinLimits lows → All WithinLimits highs →
-    (SomeEmpty lows highs → ⊥) → given ≡ intervals_of lows highs → IsPermutation given ys →
+-- ranges in the order of a sort
+pub sorted_rise : (items given ys : List Interval) → All IsUsable items → given ≡ items → IsPermutation given ys →
     ((k : ℕ) (d : Interval) → 0 ≤ k → k + 1 < length ys → is_lt
     (ordering_then (int_cmp (get_or ys (k + 1) d).low (get_or ys k d).low) (int_cmp (get_or ys (k + 1) d).high (get_or ys k d).high)) ≡ false) →
     LowsRise (neg_ℤ (pos 1000000)) ys
-sorted_rise lows highs given ys e a b full is moved sorted =
-    let usable : All IsUsable ys = All-permutation IsUsable given ys moved (subst (All IsUsable) (sym is) (usable_paired lows highs e a b full)) in
+sorted_rise items given ys all is moved sorted =
+    let usable : All IsUsable ys = All-permutation IsUsable given ys moved (subst (All IsUsable) (sym is) all) in
     lows_rise (neg_ℤ (pos 1000000)) ys (λ d below. (usable 0 d below).0) (λ k d below. next k d (sorted k d (omega arith) (omega (arith, below)))) usable
   where
     next : (k : ℕ) (d : Interval) → is_lt (ordering_then (int_cmp (get_or ys (k + 1) d).low (get_or ys k d).low)
@@ -153,22 +155,20 @@ sorted_rise lows highs given ys e a b full is moved sorted =
     next k d h = let s : k + 1 ≡ suc k = omega arith in subst (λ n. (get_or ys k d).low ≤ℤ (get_or ys n d).low) s
         (low_first (get_or ys k d) (get_or ys (k + 1) d) h)
 
-pub sorted_same : (lows highs : List ℤ) (given ys : List Interval) (v : ℤ) → length lows ≡ length highs → given ≡ intervals_of lows highs →
-    IsPermutation given ys → InSome ys v ↔ InSomeRange lows highs v
-sorted_same lows highs given ys v e is moved =
-    let alike : list_any (has_number v) (intervals_of lows highs) ≡ list_any (has_number v) ys = ap (list_any (has_number v)) (sym is)
+pub sorted_same : (items given ys : List Interval) (v : ℤ) → given ≡ items → IsPermutation given ys → InSome ys v ↔ InSome items v
+sorted_same items given ys v is moved =
+    let alike : list_any (has_number v) items ≡ list_any (has_number v) ys = ap (list_any (has_number v)) (sym is)
     ∙ list_any-IsPermutation (has_number v) given ys moved in (
-      λ h. in_paired lows highs v e (any_in_some (intervals_of lows highs) v (alike ∙ in_some_any ys v h)),
-      λ h. any_in_some ys v (sym alike ∙ in_some_any (intervals_of lows highs) v (paired_has lows highs v e h)),
+      λ h. any_in_some items v (alike ∙ in_some_any ys v h),
+      λ h. any_in_some ys v (sym alike ∙ in_some_any items v h),
     )
 
 -- a list that a sort wrote back over the items of a vector
 pub written_back : (items ys : List Interval) (n : ℕ) → n ≡ length items → length ys ≡ length items → take n (ys ++ drop (length ys) items) ≡ ys
 written_back items ys n size same = ap (λ k. take k (ys ++ drop (length ys) items)) (size ∙ sym same) ∙ take-append_seam ys (drop (length ys) items)
 
-pub length-sorted : (lows highs : List ℤ) (given ys : List Interval) → length lows ≡ length highs → given ≡ intervals_of lows highs → IsPermutation given ys →
-    length ys ≡ length lows
-length-sorted lows highs given ys e is moved = length_permutation given ys moved ∙ ap length is ∙ length-paired lows highs e
+pub length-sorted : (items given ys : List Interval) → given ≡ items → IsPermutation given ys → length ys ≡ length items
+length-sorted items given ys is moved = length_permutation given ys moved ∙ ap length is
 
 -- some range is empty, as the test tells it
 pub some_empty : (lows highs : List ℤ) (b : Bool) → length lows ≡ length highs → b ≡ list_any (λ p. int_lt p.1 p.0) (zip lows highs) →

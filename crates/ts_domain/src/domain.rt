@@ -4,7 +4,7 @@ ghost use Rattle.std.specs.Prelude.{◌≡◌, ◌≢◌, ◌<◌, ◌≤ℤ◌,
 ghost use Rattle.std.specs.Prelude.{[], length, slice_get, Some, IsTrue, IfOk, All, Contains};
 ghost use Rattle.ts_domain.specs.Kept.{values_kept, values_up_to, values_above, values_without};
 ghost use Rattle.ts_domain.specs.Marks.{put_back};
-ghost use Rattle.ts_domain.specs.Union.{InSomeRange, SomeEmpty};
+ghost use Rattle.ts_domain.specs.Union.{InSome, InSomeRange, IsUsable, SomeEmpty};
 ghost use Rattle.ts_domain.specs.Values.{IsDomain, WithinLimits, least_of, values_of, AreRanges};
 
 use crate::counted::CountedRanges;
@@ -12,7 +12,7 @@ use crate::cut::{above, up_to};
 use crate::interval::Interval;
 use crate::keep::{Keep, singles};
 use crate::marks::{Mark, Marks, Node};
-use crate::merge::{has_no_union, joined, sorted_ranges};
+use crate::merge::{has_no_union, joined, ranges_of, union_of};
 use crate::pieces::{count_in, has_in, with_more};
 use crate::stop::DomainStop;
 use crate::values::{Values, walk};
@@ -68,7 +68,19 @@ impl Domain {
         if has_no_union(lows, highs) {
             return Err(DomainStop::Empty);
         }
-        Ok(union_of(alloc, lows, highs)?)
+        Ok(of_pairs(alloc, lows, highs)?)
+    }
+
+    /// The union of ranges, none of them empty or beyond the limits. It sorts them where they stand, and gives their
+    /// memory back before it counts what it keeps.
+    pub fn from_intervals(alloc: Global, ranges: Vec<Interval>) -> Result<Domain, Memory>
+        requires some { 0 < length ranges.items }
+        requires usable { All IsUsable ranges.items }
+        ensures union { IfOk result (λ d. (v : ℤ) → Contains d v ↔ InSome ranges.items v) }
+        ensures domain { IfOk result IsDomain }
+    {
+        let union = union_of(alloc, ranges)?;
+        whole(alloc, union)
     }
 
     /// The same set once more, on the same ranges: it costs a count, and its marks.
@@ -276,8 +288,8 @@ fn whole(alloc: Global, ranges: SmallVec<Interval, 2>) -> Result<Domain, Memory>
     })
 }
 
-/// The union of ranges of which none is empty.
-fn union_of(alloc: Global, lows: &[i64], highs: &[i64]) -> Result<Domain, Memory>
+/// The union of ranges of which none is empty, given by their ends.
+fn of_pairs(alloc: Global, lows: &[i64], highs: &[i64]) -> Result<Domain, Memory>
     requires pairs { length lows.now ≡ length highs.now }
     requires lows_within { All WithinLimits lows.now }
     requires highs_within { All WithinLimits highs.now }
@@ -285,6 +297,6 @@ fn union_of(alloc: Global, lows: &[i64], highs: &[i64]) -> Result<Domain, Memory
     ensures union { IfOk result (λ d. (v : ℤ) → Contains d v ↔ InSomeRange lows.now highs.now v) }
     ensures domain { IfOk result IsDomain }
 {
-    let sorted = sorted_ranges(alloc, lows, highs)?;
-    whole(alloc, joined(alloc, &sorted)?)
+    let ranges = ranges_of(alloc, lows, highs)?;
+    Domain::from_intervals(alloc, ranges)
 }

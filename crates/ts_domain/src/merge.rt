@@ -1,11 +1,11 @@
 //! The union of ranges that may come in any order and overlap.
 
-ghost use Rattle.std.specs.Prelude.{◌≡◌, ◌<◌, ◌↔◌, ℤ, neg_ℤ, ◌⊎◌};
+ghost use Rattle.std.specs.Prelude.{◌≡◌, ◌<◌, ◌≤◌, ◌↔◌, ℤ, neg_ℤ, ◌⊎◌};
 ghost use Rattle.std.specs.Prelude.{[], length, IsTrue, IfOk, All, Contains, int_lt};
 ghost use Rattle.std.specs.List.{list_any, zip};
 ghost use Rattle.ts_base.specs.Limits.{greatest_value};
-ghost use Rattle.ts_domain.specs.Union.{InSomeRange, SomeEmpty, InSome, LowsRise, intervals_of};
-ghost use Rattle.ts_domain.specs.Values.{WithinLimits, values_of, AreRanges};
+ghost use Rattle.ts_domain.specs.Union.{SomeEmpty, InSome, IsUsable, LowsRise, intervals_of};
+ghost use Rattle.ts_domain.specs.Values.{values_of, AreRanges};
 
 use crate::interval::Interval;
 use smallvec::SmallVec;
@@ -28,7 +28,7 @@ pub(crate) fn has_no_union(lows: &[i64], highs: &[i64]) -> bool
 }
 
 /// The two lists as one list of ranges.
-fn ranges_of(alloc: Global, lows: &[i64], highs: &[i64]) -> Result<Vec<Interval>, Memory>
+pub(crate) fn ranges_of(alloc: Global, lows: &[i64], highs: &[i64]) -> Result<Vec<Interval>, Memory>
     ensures { IfOk result (λ v. v.items ≡ intervals_of lows.now highs.now) }
 {
     let ranges = lows
@@ -42,33 +42,42 @@ fn ranges_of(alloc: Global, lows: &[i64], highs: &[i64]) -> Result<Vec<Interval>
     Ok(ranges)
 }
 
-/// The ranges by rising lows.
-pub(crate) fn sorted_ranges(
-    alloc: Global,
-    lows: &[i64],
-    highs: &[i64],
-) -> Result<Vec<Interval>, Memory>
-    requires pairs { length lows.now ≡ length highs.now }
-    requires lows_within { All WithinLimits lows.now }
-    requires highs_within { All WithinLimits highs.now }
-    requires ordered { SomeEmpty lows.now highs.now → ⊥ }
-    ensures sorted { IfOk result (λ v. LowsRise (neg_ℤ greatest_value) v.items) }
-    ensures same { IfOk result (λ v. (n : ℤ) → InSome v.items n ↔ InSomeRange lows.now highs.now n) }
-    ensures len { IfOk result (λ v. length v.items ≡ length lows.now) }
+/// The ranges by rising lows, in the same memory.
+fn sorted_ranges(ranges: Vec<Interval>) -> Vec<Interval>
+    requires { All IsUsable ranges.items }
+    ensures sorted { LowsRise (neg_ℤ greatest_value) result.items }
+    ensures same { (v : ℤ) → InSome result.items v ↔ InSome ranges.items v }
+    ensures len { length result.items ≡ length ranges.items }
 {
-    let mut ranges = ranges_of(alloc, lows, highs)?;
-    ranges.as_mut_slice().sort_unstable();
-    Ok(ranges)
+    let mut sorted = ranges;
+    sorted.as_mut_slice().sort_unstable();
+    sorted
 }
 
-/// The union of ranges that come by rising lows: each is joined with the last one where no gap lies between them.
+/// How many ranges are left of those that come by rising lows when they are joined.
+fn joined_count(sorted: &[Interval]) -> usize
+    ensures { result ≤ length sorted.now }
+{
+    let mut count = 0;
+    let mut high = i64::MIN;
+    for next in sorted {
+        if next.low > high.saturating_add(1) {
+            count += 1;
+        }
+        high = high.max(next.high);
+    }
+    count
+}
+
+/// The union of ranges that come by rising lows: each is joined with the last one where no gap lies between them. Its
+/// memory is as large as it has to be, however many ranges are joined.
 pub(crate) fn joined(alloc: Global, sorted: &[Interval]) -> Result<SmallVec<Interval, 2>, Memory>
     requires some { 0 < length sorted.now }
     requires sorted { LowsRise (neg_ℤ greatest_value) sorted.now }
     ensures union { IfOk result (λ ranges. (v : ℤ) → Contains (values_of ranges.items) v ↔ InSome sorted.now v) }
     ensures apart { IfOk result (λ ranges. AreRanges ranges.items) }
 {
-    let mut ranges = SmallVec::new(alloc);
+    let mut ranges = SmallVec::with_capacity(alloc, joined_count(sorted))?;
     let mut last = sorted[0];
     for next in sorted {
         if next.low <= last.high + 1 {
@@ -80,4 +89,18 @@ pub(crate) fn joined(alloc: Global, sorted: &[Interval]) -> Result<SmallVec<Inte
     }
     ranges.push(last)?;
     Ok(ranges)
+}
+
+/// The union of ranges, none of them empty or beyond the limits. Their own memory is given back before it returns.
+pub(crate) fn union_of(
+    alloc: Global,
+    ranges: Vec<Interval>,
+) -> Result<SmallVec<Interval, 2>, Memory>
+    requires some { 0 < length ranges.items }
+    requires usable { All IsUsable ranges.items }
+    ensures union { IfOk result (λ union. (v : ℤ) → Contains (values_of union.items) v ↔ InSome ranges.items v) }
+    ensures apart { IfOk result (λ union. AreRanges union.items) }
+{
+    let sorted = sorted_ranges(ranges);
+    joined(alloc, &sorted)
 }

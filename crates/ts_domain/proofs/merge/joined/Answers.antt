@@ -5,7 +5,7 @@ use Rattle.ts_domain.proofs.merge.joined.Goals as goal
 use Rattle.ts_domain.proofs.merge.joined.Goals.{then-next-last, else-next-last+in_ok-push}
 
 pub loop-next-init : goal.loop-next-init
-loop-next-init c = joining_none c.args.sorted.now _ _ c.requires.some c.requires.sorted c.new-ranges.ensures.items
+loop-next-init c = joining_none c.args.sorted.now _ _ c.requires.some c.requires.sorted c.in_ok-ranges.ensures.items
 
 pub overflow_add-last : goal.overflow_add-last
 overflow_add-last c = let l = last_within c.args.sorted.now _ _ _ c.loop-next.invariant in omega (arith, ints, l.0, l.1)
