@@ -7,6 +7,7 @@ mod DomainLines
 mod TermLaws
 mod Takes
 mod LineLaws
+mod FewWords
 mod ReadingLaws
 mod OnlyLaws
 pub mod LongWords
@@ -19,3 +20,4 @@ mod Told
 pub mod MeetsLaw
 pub mod LinePieces
 pub mod ModelTexts
+mod WholeTexts

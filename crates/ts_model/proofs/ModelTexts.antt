@@ -80,7 +80,7 @@ finished_some line f =
 pub short_line : (t : ModelText) (given : List ℕ) → ((l : List ℕ) → IsShort l t.line → length given ≤ length l) → MayRead t → length given < 4000000000
 short_line t given kept may = let less = kept may.line may.short in omega (arith, less, may.few)
 
-room_left : (need : Need) (r : Result SoFar ModelStop) (text line : List ℕ) → HasRead need text r → 0 < length line →
+pub room_left : (need : Need) (r : Result SoFar ModelStop) (text line : List ℕ) → HasRead need text r → 0 < length line →
     length text + length line < 4000000000 → HasRoom r
 room_left need (Ok s) text line has some few = let lines = text_lines_few text in omega (arith, has.1, lines, some, few)
 room_left need (Err stop) text line has some few = omega arith

@@ -1,10 +1,8 @@
 -- A reader of a model takes a line, and comes to the end.
 use Rattle.std.proofs.Common.{◌≡◌, ◌≢◌, ℕ, ◌+◌, ◌<◌, ◌≤◌, Bool, true, false, cond, Some, None, Ok, Err, List, [], ◌∷◌, length, refl, sym, ap, subst, ◌∙◌, arith, ◌⊎◌, inl, inr}
 use Rattle.std.specs.Prelude.{Result, IfOk, OnOk}
-use Rattle.ts_token.specs.declared.words.Word.{Word}
 use Rattle.ts_token.specs.Gist.{without_end}
-use Rattle.ts_token.specs.Text.{Piece, is_text, is_skipped, lines_of, row_onto, words_of, cut_of}
-use Rattle.ts_token.specs.Views.{pieces}
+use Rattle.ts_token.specs.Text.{is_text, is_skipped, lines_of, row_onto, words_of, cut_of}
 use Rattle.ts_model.specs.declared.error.ModelKind.{ModelKind}
 use Rattle.ts_model.specs.declared.error.ModelKind.TheVariants.{NotText}
 use Rattle.ts_model.specs.declared.error.ModelStop.{ModelStop}
@@ -19,9 +17,8 @@ use Rattle.ts_model.specs.LineByLine.{line_step, SoFar, HasRead, ReadsLine, line
 use Rattle.ts_model.specs.ModelReading.{needs_lists, texts_of, line_gives, onward, read_rows, then_on, unless_bad, lines_reading, ended_model, model_reading}
 use Rattle.ts_model.specs.Progress.{IsFit, HasTaken, TakesLine, state_view, StateTakes, IsCalm, StateEnds}
 use Rattle.ts_model.specs.ModelParts.{ModelParts, nothing}
-use Rattle.ts_model.specs.Views.{texts, draft_parts, Adds, Follows, Reads}
+use Rattle.ts_model.specs.Views.{draft_parts, Adds, Follows, Reads}
 use Rattle.ts_model.proofs.LineByLaws.{one_row, read_on, read_bad, still_bad, none_read}
-use Rattle.ts_model.proofs.LineLaws.{texts_pieces}
 
 -- a line that isn't text
 pub step_bad : (need : Need) (n : ℕ) (m : ModelParts) (line : List ℕ) → is_text line ≡ false → line_step need n m line ≡ Err (n, NotText)
@@ -46,23 +43,21 @@ pub step_skipped : (need : Need) (n : ℕ) (m : ModelParts) (line : List ℕ) �
 step_skipped need n m line text skipped = step_row need n m line true text skipped
 
 -- one with words
-pub step_words : (need : Need) (n : ℕ) (m : ModelParts) (line : List ℕ) (ws : List Word) (lists : Bool) → is_text line ≡ true →
-    is_skipped (words_of line) ≡ false →
-    pieces ws ≡ words_of line → lists ≡ needs_lists need → line_step need n m line ≡ onward n (line_gives lists m (texts ws)) Ok
-step_words need n m line ws lists text words are limited =
+pub step_words : (need : Need) (n : ℕ) (m : ModelParts) (line given : List ℕ) (lists : Bool) → is_text line ≡ true → is_skipped (words_of line) ≡ false →
+    given ≡ line → lists ≡ needs_lists need → line_step need n m line ≡ onward n (line_gives lists m (texts_of (words_of given))) Ok
+step_words need n m line given lists text words are limited =
     step_row need n m line false text words
     ∙ one_row n (line_gives (needs_lists need) m (texts_of (words_of line)))
-    ∙ ap (λ (x : List Piece). onward n (line_gives (needs_lists need) m (texts_of x)) Ok) (sym are)
-    ∙ ap (λ (x : List (List ℕ)). onward n (line_gives (needs_lists need) m x) Ok) (texts_pieces ws)
-    ∙ ap (λ v. onward n (line_gives v m (texts ws)) Ok) (sym limited)
+    ∙ ap (λ (x : List ℕ). onward n (line_gives (needs_lists need) m (texts_of (words_of x))) Ok) (sym are)
+    ∙ ap (λ v. onward n (line_gives v m (texts_of (words_of given))) Ok) (sym limited)
 
--- a line of these words is taken, or is bad
-pub line_read : (old : Progress) (draft : Draft) (line : List ℕ) (ws : List Word) (result : Result (Unit {0}) ModelStop) → is_text line ≡ true →
-    is_skipped (words_of line) ≡ false → pieces ws ≡ words_of line → IsFit old → old.count + 1 < 4000000000 →
-    Adds (draft_parts draft) result (onward (old.count + 1) (line_gives old.draft.cells.limited (draft_parts old.draft) (texts ws)) Ok) →
+-- a line of words is taken, or is bad
+pub line_read : (old : Progress) (draft : Draft) (line given : List ℕ) (result : Result (Unit {0}) ModelStop) → is_text line ≡ true →
+    is_skipped (words_of line) ≡ false → given ≡ line → IsFit old → old.count + 1 < 4000000000 →
+    Adds (draft_parts draft) result (onward (old.count + 1) (line_gives old.draft.cells.limited (draft_parts old.draft) (texts_of (words_of given))) Ok) →
     OnOk result (Follows old.draft draft) →
     TakesLine old line result (record { alloc = old.alloc; need = old.need; count = old.count + 1; draft = draft })
-line_read old draft line ws (Ok u) text words are fit room gives follows = record {
+line_read old draft line given (Ok u) text words are fit room gives follows = record {
   fit = record {
     sound = follows.sound;
     limited = follows.limited ∙ fit.limited;
@@ -71,11 +66,11 @@ line_read old draft line ws (Ok u) text words are fit room gives follows = recor
   };
   need = refl;
   count = refl;
-  gives = step_words old.need (old.count + 1) (draft_parts old.draft) line ws old.draft.cells.limited text words are fit.limited ∙ gives;
+  gives = step_words old.need (old.count + 1) (draft_parts old.draft) line given old.draft.cells.limited text words are fit.limited ∙ gives;
 }
-line_read old draft line ws (Err (Refused number kind)) text words are fit room gives follows =
-    step_words old.need (old.count + 1) (draft_parts old.draft) line ws old.draft.cells.limited text words are fit.limited ∙ gives
-line_read old draft line ws (Err Memory) text words are fit room gives follows = tt
+line_read old draft line given (Err (Refused number kind)) text words are fit room gives follows =
+    step_words old.need (old.count + 1) (draft_parts old.draft) line given old.draft.cells.limited text words are fit.limited ∙ gives
+line_read old draft line given (Err Memory) text words are fit room gives follows = tt
 
 -- the stop is kept
 pub stops : (old new : Progress) (line : List ℕ) (stop : ModelStop) → TakesLine old line (Err stop) new → StateTakes (Open old) line (Stopped stop)

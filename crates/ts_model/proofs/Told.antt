@@ -1,11 +1,8 @@
 -- What was told of a text is its reading.
-use Rattle.std.proofs.Common.{◌≡◌, ℕ, Ok, Err, subst, sym}
+use Rattle.std.proofs.Common.{Ok, Err, subst}
 use Rattle.std.specs.Prelude.{Result, IfOk}
-use Rattle.std.specs.Result.{IsErrAnd}
 use Rattle.ts_token.specs.Text.{Cut}
 use Rattle.ts_model.specs.declared.model.Model.{Model}
-use Rattle.ts_model.specs.declared.error.ModelKind.{ModelKind}
-use Rattle.ts_model.specs.ModelParts.{ModelParts}
 use Rattle.ts_model.specs.declared.error.ModelStop.{ModelStop}
 use Rattle.ts_model.specs.declared.error.ModelStop.TheVariants.{Refused, Memory}
 use Rattle.ts_model.specs.declared.model.Need.{Need}
@@ -29,9 +26,3 @@ whole_read need c (Err stop) e = tt
 pub limits_read : (need : Need) (c : Cut) (r : Result Model ModelStop) → Reads r (reading need c) → IfOk r (λ m. KeepsLimits need (model_parts m))
 limits_read need c (Ok m) e = limits_stated need c (model_parts m) e
 limits_read need c (Err stop) e = tt
-
--- a stop that is passed on
-pub passed_on : (stop : ModelStop) (r : Result Model ModelStop) (read : Result ModelParts (ℕ × ModelKind)) → Reads (Err stop) read →
-    IsErrAnd r (λ e. e ≡ stop) → Reads r read
-passed_on stop (Ok m) read h is = absurd is
-passed_on stop (Err e) read h is = subst (λ (s : ModelStop). Reads (Err s) read) (sym is) h

@@ -1,16 +1,15 @@
 -- The union of ranges is the one rising list of the numbers that some range has.
-use Rattle.std.proofs.Common.{◌≡◌, ℕ, zero, suc, ◌<◌, ℤ, pos, neg_ℤ, ◌+ℤ◌, ◌≤ℤ◌, ◌<ℤ◌, ◌⊎◌, inl, inr, ◌↔◌, Bool, true, false, cond, not, ◌&&◌, ◌||◌, List, [], ◌∷◌, ◌++◌, length, get_or, map, refl, sym, ap, subst, ◌∙◌, arith, append-nil}
+use Rattle.std.proofs.Common.{◌≡◌, ℕ, zero, suc, ◌<◌, ℤ, pos, neg_ℤ, ◌+ℤ◌, ◌≤ℤ◌, ◌<ℤ◌, ◌⊎◌, inl, inr, ◌↔◌, Bool, true, false, cond, not, ◌&&◌, ◌||◌, Ok, Err, List, [], ◌∷◌, ◌++◌, length, get_or, refl, sym, ap, subst, ◌∙◌, arith, append-nil}
 use Rattle.std.proofs.lemmas.Int.{ints, by_lt_z}
-use Rattle.std.proofs.lemmas.List.{length-map}
 use Rattle.std.proofs.lemmas.List.Elements.{recursion_from_All, All-from_recursion, Contains-get_or, filter-append}
-use Rattle.std.specs.Prelude.{filter, Contains, All, int_lt}
-use Rattle.std.specs.List.{AllByRecursion, list_any, zip}
+use Rattle.std.specs.Prelude.{filter, Contains, All, int_lt, Result, IfOk}
+use Rattle.std.specs.List.{AllByRecursion, list_any}
 use Rattle.ts_domain.specs.declared.interval.Interval.{Interval}
 use Rattle.ts_domain.specs.Values.{WithinLimits, IsRising, IsDomain, run, values_between}
-use Rattle.ts_domain.specs.Union.{InSome, InSomeRange, SomeEmpty, intervals_of}
+use Rattle.ts_domain.specs.Union.{InSome, IsUsable}
 use Rattle.ts_domain.proofs.Runs.{length-between, between_split, all_between, none_between, between_has, rising_run, all_run}
 use Rattle.ts_domain.proofs.Sets.{contains_filter, each_filter, nothing_in, rising_filter}
-use Rattle.ts_domain.proofs.Unions.{has_number, any_in_some, in_some_any, in_paired, paired_has, empty_any}
+use Rattle.ts_domain.proofs.Unions.{has_number, any_in_some, in_some_any}
 use Rattle.ts_model.specs.ModelParts.{is_between, is_backward, is_value, is_outside, union_of, digits}
 
 abbrev Among : ℤ → List ℤ → Type 0
@@ -86,67 +85,22 @@ module _ (test : ℤ → Bool) where
       beyond : AllByRecursion (IsIn (low +ℤ pos 1) n) xs
       beyond = both_all (λ y. x <ℤ y) (IsIn low (suc n)) (IsIn (low +ℤ pos 1) n) (next_in low x n within.0.0) xs rising.0 within.1
 
-abbrev low_of : Interval → ℤ
-low_of r = r.low
-
-abbrev high_of : Interval → ℤ
-high_of r = r.high
-
-paired_parts : (rs : List Interval) → intervals_of (map low_of rs) (map high_of rs) ≡ rs
-paired_parts [] = refl
-paired_parts (r ∷ rs) = ap (λ (xs : List Interval). r ∷ xs) (paired_parts rs)
-
-same_length : (rs : List Interval) → length (map low_of rs) ≡ length (map high_of rs)
-same_length rs = simp length-map
-
-passes : (rs : List Interval) (v : ℤ) → InSomeRange (map low_of rs) (map high_of rs) v → list_any (has_number v) rs ≡ true
-passes rs v h =
-    subst (λ (xs : List Interval). list_any (has_number v) xs ≡ true) (paired_parts rs)
-    (in_some_any (intervals_of (map low_of rs) (map high_of rs)) v (paired_has (map low_of rs) (map high_of rs) v (same_length rs) h))
-
-passed : (rs : List Interval) (v : ℤ) → list_any (has_number v) rs ≡ true → InSomeRange (map low_of rs) (map high_of rs) v
-passed rs v h =
-    in_paired (map low_of rs) (map high_of rs) v (same_length rs)
-    (any_in_some (intervals_of (map low_of rs) (map high_of rs)) v
-    (subst (λ (xs : List Interval). list_any (has_number v) xs ≡ true) (sym (paired_parts rs)) h))
-
 within_limits : (v : ℤ) → WithinLimits v → WithinLimits v → IsIn (neg_ℤ (pos 1000000)) 2000001 v
 within_limits v h h' = (h.0, omega (arith, ints, h.1))
 
-union_is : (rs : List Interval) (d : List ℤ) → IsDomain d → ((v : ℤ) → Contains d v ↔ InSomeRange (map low_of rs) (map high_of rs) v) → d ≡ union_of rs
+union_is : (rs : List Interval) (d : List ℤ) → IsDomain d → ((v : ℤ) → Contains d v ↔ InSome rs v) → d ≡ union_of rs
 unfolding union_of values_between
 union_is rs d dom has =
     sym (all_left (λ v. list_any (has_number v) rs) (neg_ℤ (pos 1000000)) 2000001 d dom.rising
     (both_all WithinLimits WithinLimits (IsIn (neg_ℤ (pos 1000000)) 2000001) within_limits d dom.within dom.within)
     (recursion_from_All (λ v. list_any (has_number v) rs ≡ true) d
-    (λ k e below. passes rs (get_or d k e) ((has (get_or d k e)).0 (Contains-get_or d k e below))))
-    (λ v from to t. let c = (has v).1 (passed rs v t) in among_at d v c.0 c.1 c.2))
+    (λ k e below. in_some_any rs (get_or d k e) ((has (get_or d k e)).0 (Contains-get_or d k e below))))
+    (λ v from to t. let c = (has v).1 (any_in_some rs v t) in among_at d v c.0 c.1 c.2))
 
-pub union_made : (rs : List Interval) (d lows highs : List ℤ) → lows ≡ map (λ r. r.low) rs → highs ≡ map (λ r. r.high) rs → IsDomain d →
-    ((v : ℤ) → Contains d v ↔ InSomeRange lows highs v) → d ≡ union_of rs
-union_made rs d lows highs lows_are highs_are dom has =
-    union_is rs d dom
-    (subst (λ (ls : List ℤ). (v : ℤ) → Contains d v ↔ InSomeRange ls (map high_of rs) v) lows_are
-    (subst (λ (hs : List ℤ). (v : ℤ) → Contains d v ↔ InSomeRange lows hs v) highs_are has))
-
--- no range is empty
-backward_parts : (rs : List Interval) → list_any (λ p. int_lt p.1 p.0) (zip (map low_of rs) (map high_of rs)) ≡ list_any is_backward rs
-backward_parts [] = refl
-backward_parts (r ∷ rs) = ap (λ (b : Bool). is_backward r || b) (backward_parts rs)
-
-none_empty : (rs : List Interval) → 0 < length rs → list_any is_backward rs ≡ false → ((map low_of rs ≡ []) ⊎ SomeEmpty (map low_of rs) (map high_of rs)) → ⊥
-none_empty [] some forward h = omega (arith, some)
-none_empty (r ∷ rs) some forward (inl e) = cc
-none_empty (r ∷ rs) some forward (inr e) =
-    let back = empty_any (map low_of (r ∷ rs)) (map high_of (r ∷ rs)) (same_length (r ∷ rs)) e in
-    let same = backward_parts (r ∷ rs) in
-    let both : ◌≡◌ {A = Bool} true false = sym back ∙ same ∙ forward in cc
-
-pub never_empty : (rs : List Interval) (lows highs : List ℤ) → lows ≡ map (λ r. r.low) rs → highs ≡ map (λ r. r.high) rs → 0 < length rs →
-    list_any is_backward rs ≡ false → ((lows ≡ []) ⊎ SomeEmpty lows highs) → ⊥
-never_empty rs lows highs lows_are highs_are some forward h =
-    none_empty rs some forward
-    (subst (λ (ls : List ℤ). (ls ≡ []) ⊎ SomeEmpty ls (map high_of rs)) lows_are (subst (λ (hs : List ℤ). (lows ≡ []) ⊎ SomeEmpty lows hs) highs_are h))
+pub union_made : {E : Type 0} (rs : List Interval) (result : Result (List ℤ) E) → IfOk result IsDomain →
+    IfOk result (λ d. (v : ℤ) → Contains d v ↔ InSome rs v) → IfOk result (λ d. d ≡ union_of rs)
+union_made rs (Ok d) dom has = union_is rs d dom has
+union_made rs (Err stop) dom has = tt
 
 -- the ends of ranges of which none passes the limits
 is_within : (v : ℤ) → is_value v ≡ true → WithinLimits v
@@ -157,19 +111,8 @@ inside_parts true true rest h = (refl, refl, h)
 inside_parts true false rest h = cc
 inside_parts false b rest h = cc
 
-inside_low : (rs : List Interval) → list_any is_outside rs ≡ false → AllByRecursion WithinLimits (map low_of rs)
-inside_low [] h = tt
-inside_low (r ∷ rs) h = let p = inside_parts (is_value r.low) (is_value r.high) (list_any is_outside rs) h in (is_within r.low p.0, inside_low rs p.2)
-
-inside_high : (rs : List Interval) → list_any is_outside rs ≡ false → AllByRecursion WithinLimits (map high_of rs)
-inside_high [] h = tt
-inside_high (r ∷ rs) h = let p = inside_parts (is_value r.low) (is_value r.high) (list_any is_outside rs) h in (is_within r.high p.1, inside_high rs p.2)
-
-pub lows_within : (rs : List Interval) (lows : List ℤ) → lows ≡ map (λ r. r.low) rs → list_any is_outside rs ≡ false → All WithinLimits lows
-lows_within rs lows are inside = subst (All WithinLimits) (sym are) (All-from_recursion WithinLimits (map low_of rs) (inside_low rs inside))
-
-pub highs_within : (rs : List Interval) (highs : List ℤ) → highs ≡ map (λ r. r.high) rs → list_any is_outside rs ≡ false → All WithinLimits highs
-highs_within rs highs are inside = subst (All WithinLimits) (sym are) (All-from_recursion WithinLimits (map high_of rs) (inside_high rs inside))
+first_inside : (r : Interval) (rest : Bool) → (is_outside r || rest) ≡ false → WithinLimits r.low × WithinLimits r.high
+first_inside r rest h = let p = inside_parts (is_value r.low) (is_value r.high) rest h in (is_within r.low p.0, is_within r.high p.1)
 
 -- the digits
 digit_test : (v : ℤ) → list_any (λ r. is_between r.low v r.high) digits ≡ is_between (pos 0) v (pos 9)
@@ -205,7 +148,7 @@ ten_digits =
     outside v (inl h) = grind (arith, ints)
     outside v (inr h) = grind (arith, ints)
 
--- the union of ranges of which none is empty and none passes the limits is a domain
+-- ranges of which none is empty and none passes the limits may be united
 forward_first : (r : Interval) (rest : Bool) → (is_backward r || rest) ≡ false → r.low ≤ℤ r.high
 forward_first r rest h = not_below r.high r.low (left (is_backward r) rest h)
   where
@@ -216,6 +159,23 @@ forward_first r rest h = not_below r.high r.low (left (is_backward r) rest h)
     not_below : (a b : ℤ) → int_lt a b ≡ false → b ≤ℤ a
     not_below a b h = grind (arith, ints)
 
+right : (a b : Bool) → (a || b) ≡ false → b ≡ false
+right true b h = cc
+right false b h = h
+
+each_usable : (rs : List Interval) → list_any is_backward rs ≡ false → list_any is_outside rs ≡ false → AllByRecursion IsUsable rs
+each_usable [] forward inside = tt
+each_usable (r ∷ rs) forward inside =
+    let ends = first_inside r (list_any is_outside rs) inside in
+    let ordered = forward_first r (list_any is_backward rs) forward in (
+      (ends.0.0, ordered, ends.1.1),
+      each_usable rs (right (is_backward r) (list_any is_backward rs) forward) (right (is_outside r) (list_any is_outside rs) inside),
+    )
+
+pub all_usable : (rs : List Interval) → list_any is_backward rs ≡ false → list_any is_outside rs ≡ false → All IsUsable rs
+all_usable rs forward inside = All-from_recursion IsUsable rs (each_usable rs forward inside)
+
+-- and their union is a domain
 pub union_is_domain : (rs : List Interval) → 0 < length rs → list_any is_backward rs ≡ false → list_any is_outside rs ≡ false → IsDomain (union_of rs)
 unfolding union_of values_between IsRising InSome
 union_is_domain [] some forward inside = absurd (omega (arith, some))
@@ -223,7 +183,7 @@ union_is_domain (r ∷ rs) some forward inside =
     let test : ℤ → Bool = λ v. list_any (λ q. is_between q.low v q.high) (r ∷ rs) in
     let all = run (neg_ℤ (pos 1000000)) 2000001 in
     let ordered = forward_first r (list_any is_backward rs) forward in
-    let low = (inside_low (r ∷ rs) inside).0 in
+    let low = (first_inside r (list_any is_outside rs) inside).0 in
     let has = (contains_filter test all r.low).1
     (between_has (neg_ℤ (pos 1000000)) (pos 1000000) r.low low.0 low.1, in_some_any (r ∷ rs) r.low (inl (omega (arith, ints), ordered))) in record {
       rising = rising_filter test all (subst IsRising (append-nil all) (rising_run (neg_ℤ (pos 1000000)) 2000001 [] tt tt));

@@ -44,6 +44,15 @@ has_shape Term ws = (length ws == term_length ws) && (is_name (word_at ws 0) && 
 has_shape Require ws = (length ws == 3) && (is_name (word_at ws 0) && is_some (op_of (word_at ws 1)))
 has_shape Objective ws = (length ws == 1) && is_name (word_at ws 0)
 
+-- a line of the form has no ranges, and so few words
+abbrev pub HasFew : Form → Type 0
+HasFew Cells = Unit {0}
+HasFew Domain = ⊥
+HasFew Cell = ⊥
+HasFew Term = Unit {0}
+HasFew Require = Unit {0}
+HasFew Objective = Unit {0}
+
 -- the parts of three names, where each is in its table
 abbrev pub made_parts : Option Aggregator → Option Feature → Option PatternId → Option TermParts
 made_parts None f p = None

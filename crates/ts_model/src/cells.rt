@@ -11,7 +11,7 @@ use crate::error::{LineStop, ModelKind};
 use std::alloc::Global;
 use ts_base::Memory;
 use ts_base::limits::DOMAIN_VALUES;
-use ts_domain::{Domain, DomainStop, Interval};
+use ts_domain::{Domain, Interval};
 
 /// The domain that a `cell` line gave a cell, and the turn at which it did.
 #[derive(Drop)]
@@ -36,43 +36,31 @@ pub(crate) struct Cells {
     pub total: u64,
 }
 
-/// The lower ends.
-fn lows(alloc: Global, ranges: &[Interval]) -> Result<Vec<i64>, Memory>
-    ensures { IfOk result (λ lows. lows.items ≡ map (λ r. r.low) ranges.now) }
+/// The union of ranges, none of them empty or beyond the limits, whose memory it takes.
+pub(crate) fn union_of(alloc: Global, ranges: Vec<Interval>) -> Result<Domain, Memory>
+    requires some { 0 < length ranges.items }
+    requires forward { list_any is_backward ranges.items ≡ false }
+    requires inside { list_any is_outside ranges.items ≡ false }
+    ensures { IfOk result (λ d. d ≡ union_of ranges.items) }
 {
-    let lows = ranges.iter().map(|range| range.low).collect(alloc)?;
-    Ok(lows)
+    Domain::from_intervals(alloc, ranges)
 }
 
-/// The upper ends.
-fn highs(alloc: Global, ranges: &[Interval]) -> Result<Vec<i64>, Memory>
-    ensures { IfOk result (λ highs. highs.items ≡ map (λ r. r.high) ranges.now) }
+/// The one range from 0 to 9.
+fn digit_range(alloc: Global) -> Result<Vec<Interval>, Memory>
+    ensures { IfOk result (λ ranges. ranges.items ≡ digits) }
 {
-    let highs = ranges.iter().map(|range| range.high).collect(alloc)?;
-    Ok(highs)
-}
-
-/// The union of ranges, none of them empty or beyond the limits.
-pub(crate) fn union_of(alloc: Global, ranges: &[Interval]) -> Result<Domain, Memory>
-    requires some { 0 < length ranges.now }
-    requires forward { list_any is_backward ranges.now ≡ false }
-    requires inside { list_any is_outside ranges.now ≡ false }
-    ensures { IfOk result (λ d. d ≡ union_of ranges.now) }
-{
-    let lows = lows(alloc, ranges)?;
-    let highs = highs(alloc, ranges)?;
-    match Domain::from_ranges(alloc, &lows, &highs) {
-        Ok(domain) => Ok(domain),
-        Err(DomainStop::Memory) => Err(Memory),
-        Err(DomainStop::Empty) => unreachable!(),
-    }
+    let mut ranges = Vec::with_capacity(alloc, 1)?;
+    ranges.push(Interval { low: 0, high: 9 })?;
+    Ok(ranges)
 }
 
 /// The domain that no line sets: 0 to 9.
 fn digits(alloc: Global) -> Result<Domain, Memory>
     ensures { IfOk result (λ d. d ≡ union_of digits) }
 {
-    union_of(alloc, &[Interval { low: 0, high: 9 }])
+    let ranges = digit_range(alloc)?;
+    union_of(alloc, ranges)
 }
 
 /// No cell has a domain of its own.

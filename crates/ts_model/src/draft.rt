@@ -1,11 +1,12 @@
 //! The model while lines are read.
 
 ghost use Rattle.std.specs.Prelude.{◌≡◌, ◌<◌, ◌≤◌, length, pos, false, Ok, OnOk, IfOk, IfNone, IfSome};
-ghost use Rattle.ts_base.specs.Limits.{most_terms};
+ghost use Rattle.ts_base.specs.Limits.{most_terms, too_many};
+ghost use Rattle.ts_token.specs.Text.{words_of};
 ghost use Rattle.ts_model.specs.Statement.{SaysCells, SaysDomain, SaysCell, SaysTerm, SaysRequire, SaysObjective};
 ghost use Rattle.ts_model.specs.ModelParts.{nothing, term_at, has_cells, is_between, parts_after, IsPlace};
-ghost use Rattle.ts_model.specs.ModelReading.{line_gives, onward};
-ghost use Rattle.ts_model.specs.Views.{texts, meaning_of, draft_parts, Adds, Gives, IsSound, Follows};
+ghost use Rattle.ts_model.specs.ModelReading.{line_gives, onward, texts_of};
+ghost use Rattle.ts_model.specs.Views.{meaning_of, draft_parts, Adds, Gives, IsSound, Follows};
 
 use crate::cells::Cells;
 use crate::error::{LineStop, ModelKind, ModelStop, at_line};
@@ -18,7 +19,6 @@ use std::alloc::Global;
 use ts_base::limits::{CELLS, REQUIREMENTS, TERMS};
 use ts_base::{Ext, Memory};
 use ts_pattern::Term;
-use ts_token::Word;
 
 /// What the lines so far state.
 #[derive(Drop)]
@@ -45,34 +45,31 @@ impl Draft {
         })
     }
 
-    /// Adds what line `number` says, or refuses it by the first kind that holds of it.
-    pub(crate) fn line(
-        &mut self,
-        alloc: Global,
-        number: u32,
-        words: &[Word],
-    ) -> Result<(), ModelStop>
+    /// Adds what line `number` says, given without its end, or refuses it by the first kind that holds of it.
+    pub(crate) fn line(&mut self, alloc: Global, number: u32, line: &[u8]) -> Result<(), ModelStop>
         requires sound { IsSound self.old }
         requires room { self.old.cells.turn < usize.MAX }
+        requires short { length line.now < too_many }
         ensures added { Adds (draft_parts self.new) result (onward number
-            (line_gives self.old.cells.limited (draft_parts self.old) (texts words.now)) Ok) }
+            (line_gives self.old.cells.limited (draft_parts self.old) (texts_of (words_of line.now))) Ok) }
         ensures follows { OnOk result (Follows self.old self.new) }
     {
-        match self.take_words(alloc, words) {
+        match self.take_words(alloc, line) {
             Ok(()) => Ok(()),
             Err(stop) => Err(at_line(number, stop)),
         }
     }
 
     /// Adds what the words of a line say, or gives the first kind that holds of it.
-    fn take_words(&mut self, alloc: Global, words: &[Word]) -> Result<(), LineStop>
+    fn take_words(&mut self, alloc: Global, line: &[u8]) -> Result<(), LineStop>
         requires sound { IsSound self.old }
         requires room { self.old.cells.turn < usize.MAX }
+        requires short { length line.now < too_many }
         ensures taken { Gives (λ _. draft_parts self.new) result
-            (line_gives self.old.cells.limited (draft_parts self.old) (texts words.now)) }
+            (line_gives self.old.cells.limited (draft_parts self.old) (texts_of (words_of line.now))) }
         ensures follows { OnOk result (Follows self.old self.new) }
     {
-        let statement = parse(alloc, words)?;
+        let statement = parse(alloc, line)?;
         self.take(alloc, statement)
     }
 
@@ -86,8 +83,8 @@ impl Draft {
     {
         match statement {
             Statement::Cells(count) => self.take_cells(alloc, count),
-            Statement::Domain(ranges) => self.take_domain(alloc, &ranges),
-            Statement::Cell(cell, ranges) => self.take_cell(alloc, cell, &ranges),
+            Statement::Domain(ranges) => self.take_domain(alloc, ranges),
+            Statement::Cell(cell, ranges) => self.take_cell(alloc, cell, ranges),
             Statement::Term(name, parts) => self.take_term(alloc, name, parts),
             Statement::Require(name, op, bound) => self.take_require(name, op, bound),
             Statement::Objective(name) => self.take_objective(name),
@@ -141,11 +138,11 @@ impl Draft {
     }
 
     /// Takes a `domain` line.
-    fn take_domain(&mut self, alloc: Global, ranges: &Ranges) -> Result<(), LineStop>
+    fn take_domain(&mut self, alloc: Global, ranges: Ranges) -> Result<(), LineStop>
         requires sound { IsSound self.old }
         requires room { self.old.cells.turn < usize.MAX }
         ensures taken { Gives (λ _. draft_parts self.new) result
-            (parts_after self.old.cells.limited (draft_parts self.old) (SaysDomain ranges.now.items.items)) }
+            (parts_after self.old.cells.limited (draft_parts self.old) (SaysDomain ranges.items.items)) }
         ensures follows { OnOk result (Follows self.old self.new) }
     {
         if !self.has_cells() {
@@ -156,11 +153,11 @@ impl Draft {
     }
 
     /// Takes a `cell` line.
-    fn take_cell(&mut self, alloc: Global, cell: i64, ranges: &Ranges) -> Result<(), LineStop>
+    fn take_cell(&mut self, alloc: Global, cell: i64, ranges: Ranges) -> Result<(), LineStop>
         requires sound { IsSound self.old }
         requires room { self.old.cells.turn < usize.MAX }
         ensures taken { Gives (λ _. draft_parts self.new) result
-            (parts_after self.old.cells.limited (draft_parts self.old) (SaysCell cell ranges.now.items.items)) }
+            (parts_after self.old.cells.limited (draft_parts self.old) (SaysCell cell ranges.items.items)) }
         ensures follows { OnOk result (Follows self.old self.new) }
     {
         if !self.has_cells() {

@@ -8,12 +8,13 @@
 //! has one answer, want of memory aside. What stands above knows of a model that its numbers of cells and terms exist
 //! and that it keeps the limits of its need.
 //!
-//! A text is read in one pass: a line costs its words, a name is looked up in the map of the terms, and a `domain`
-//! line doesn't touch the cells one by one.
+//! A text is read in one pass, by one reader: a line costs its words, a name is looked up in the map of the terms, and
+//! a `domain` line doesn't touch the cells one by one. Of the words of a line the ranges alone are listed, at 16 bytes
+//! each, and the first six of a line without ranges.
 //!
 //! ```text
 //! let text = b"cells 3\ndomain 0..1\nterm c = count peak\nrequire c >= 1\nobjective c\n";
-//! let model = read_model(alloc, &cut_tokens(alloc, text)?, Need::Best)?;
+//! let model = read_model(alloc, text, Need::Best)?;
 //! satisfies(model.requirements[0].op, model.requirements[0].bound, Ext::Int(1)) // true
 //! ```
 #![tactic(auto)]
@@ -30,12 +31,13 @@ mod reader;
 mod series;
 mod statement;
 mod take;
+mod whole;
 mod words;
 
 pub use error::{ModelKind, ModelStop, SeriesStop};
 pub use laws::{judged_is_met, model_is_whole, model_keeps_limits, one_reading, reading_is_first};
 pub use model::{Model, Need, Op, Require, satisfies};
 pub use model_text::ModelText;
-pub use read::read_model;
 pub use reader::ModelReader;
 pub use series::{read_any_series, read_series, value_of};
+pub use whole::read_model;

@@ -1,10 +1,14 @@
-//! What a line says, from its words alone.
+//! What a line says, from its words alone. The ranges of a line are read word by word; of another line the first words
+//! tell what it says, however long it is.
 
-ghost use Rattle.std.specs.Prelude.{◌≡◌, ◌==◌, ◌<◌, length, ok_or};
+ghost use Rattle.std.specs.Prelude.{◌≡◌, ◌==◌, ◌+◌, ◌<◌, ◌^◌, ◌∷◌, length, ok_or};
+ghost use Rattle.ts_base.specs.Limits.{too_many};
+ghost use Rattle.ts_token.specs.Text.{words_from, words_of};
 ghost use Rattle.ts_model.specs.declared.error.ModelKind.{ModelKind};
 ghost use Rattle.ts_model.specs.declared.words.Form.{Form};
-ghost use Rattle.ts_model.specs.Words.{ranges_of};
-ghost use Rattle.ts_model.specs.Statement.{term_length, parts_said, parsed_by, meaning_in};
+ghost use Rattle.ts_model.specs.ModelReading.{texts_of};
+ghost use Rattle.ts_model.specs.Words.{range_of, ranges_of};
+ghost use Rattle.ts_model.specs.Statement.{HasFew, term_length, parts_said, parsed_as, parsed_by, meaning_in};
 ghost use Rattle.ts_model.specs.Views.{texts, meaning_of, Gives};
 
 use crate::error::{LineStop, ModelKind};
@@ -13,20 +17,38 @@ use crate::words::{
     Form, form_of, is_count, is_equals, name_of, number_at, op_of, range_of, text_at,
 };
 use std::alloc::Global;
+use ts_domain::Interval;
 use ts_pattern::{Aggregator, Feature, aggregator_of, feature_of, pattern_of};
-use ts_token::{Word, ext_of};
+use ts_token::{Word, count_words, ext_of, first_words, next_word, number};
 
-/// The ranges that the words are.
-fn ranges_of(alloc: Global, words: &[Word]) -> Result<Ranges, LineStop>
-    requires { 0 < length words.now }
-    ensures { Gives (λ rs. rs.items.items) result (ok_or (ranges_of (texts words.now)) ModelKind.Number) }
+/// Of so many words after the first the number tells whether a line without ranges has its shape: each form has fewer.
+const MOST_WORDS: usize = 6;
+
+/// The range that the word is.
+fn range_in(word: &[u8]) -> Result<Interval, LineStop>
+    ensures { Gives (λ r. r) result (ok_or (range_of word.now) ModelKind.Number) }
 {
-    let mut items = Vec::new(alloc);
-    for word in words {
-        match range_of(word.text) {
-            None => return Err(LineStop::Bad(ModelKind::Number)),
-            Some(range) => items.push(range)?,
-        }
+    match range_of(word) {
+        None => Err(LineStop::Bad(ModelKind::Number)),
+        Some(range) => Ok(range),
+    }
+}
+
+/// The ranges that the words of the bytes from a column on are, in memory for as many and no more.
+fn ranges_of(alloc: Global, bytes: &[u8], column: u32) -> Result<Ranges, LineStop>
+    requires place { column + length bytes.now < 2 ^ 32 }
+    requires some { 0 < length (words_from column bytes.now) }
+    ensures { Gives (λ rs. rs.items.items) result
+        (ok_or (ranges_of (texts_of (words_from column bytes.now))) ModelKind.Number) }
+{
+    let mut items = Vec::with_capacity(alloc, count_words(bytes, column))?;
+    let mut rest = bytes;
+    let mut at = column;
+    while let Some(next) = next_word(rest, at) {
+        let range = range_in(next.word.text)?;
+        items.push(range)?;
+        rest = next.rest;
+        at = next.column;
     }
     Ok(Ranges { items })
 }
@@ -44,30 +66,49 @@ fn parse_cells<'a>(words: &[Word<'a>]) -> Result<Statement<'a>, LineStop>
     }
 }
 
-/// What a `domain` line says.
-fn parse_domain<'a>(alloc: Global, words: &[Word<'a>]) -> Result<Statement<'a>, LineStop>
-    ensures { Gives meaning_of result (parsed_by Form.Domain (texts words.now)) }
+/// What a `domain` line says, whose words after the first are those of the bytes from a column on.
+fn parse_domain<'a>(alloc: Global, bytes: &'a [u8], column: u32) -> Result<Statement<'a>, LineStop>
+    requires { column + length bytes.now < 2 ^ 32 }
+    ensures { Gives meaning_of result (parsed_by Form.Domain (texts_of (words_from column bytes.now))) }
 {
-    if words.len() == 0 {
+    if count_words(bytes, column) == 0 {
         return Err(LineStop::Bad(ModelKind::Shape));
     }
-    let ranges = ranges_of(alloc, words)?;
+    let ranges = ranges_of(alloc, bytes, column)?;
     Ok(Statement::Domain(ranges))
 }
 
-/// What a `cell` line says.
-fn parse_cell<'a>(alloc: Global, words: &[Word<'a>]) -> Result<Statement<'a>, LineStop>
-    ensures { Gives meaning_of result (parsed_by Form.Cell (texts words.now)) }
+/// What a `cell` line says of the cell that a word is, whose words after that are those of the bytes from a column on.
+fn parse_cell_at<'a>(
+    alloc: Global,
+    word: &'a [u8],
+    bytes: &'a [u8],
+    column: u32,
+) -> Result<Statement<'a>, LineStop>
+    requires { column + length bytes.now < 2 ^ 32 }
+    ensures { Gives meaning_of result
+        (parsed_by Form.Cell (word.now ∷ texts_of (words_from column bytes.now))) }
 {
-    if words.len() < 2 {
+    if count_words(bytes, column) == 0 {
         return Err(LineStop::Bad(ModelKind::Shape));
     }
-    match number_at(words, 0) {
+    match number(word) {
         Some(cell) => {
-            let ranges = ranges_of(alloc, &words[1..])?;
+            let ranges = ranges_of(alloc, bytes, column)?;
             Ok(Statement::Cell(cell, ranges))
         }
         None => Err(LineStop::Bad(ModelKind::Number)),
+    }
+}
+
+/// What a `cell` line says, whose words after the first are those of the bytes from a column on.
+fn parse_cell<'a>(alloc: Global, bytes: &'a [u8], column: u32) -> Result<Statement<'a>, LineStop>
+    requires { column + length bytes.now < 2 ^ 32 }
+    ensures { Gives meaning_of result (parsed_by Form.Cell (texts_of (words_from column bytes.now))) }
+{
+    match next_word(bytes, column) {
+        None => Err(LineStop::Bad(ModelKind::Shape)),
+        Some(first) => parse_cell_at(alloc, first.word.text, first.rest, first.column),
     }
 }
 
@@ -146,20 +187,66 @@ fn parse_objective<'a>(words: &[Word<'a>]) -> Result<Statement<'a>, LineStop>
     }
 }
 
-/// What the words of a line say.
-pub(crate) fn parse<'a>(alloc: Global, words: &[Word<'a>]) -> Result<Statement<'a>, LineStop>
-    ensures { Gives meaning_of result (meaning_in (texts words.now)) }
+/// What a line of a form without ranges says, by its first words after that of the form.
+fn parse_few<'a>(form: Form, words: &[Word<'a>]) -> Result<Statement<'a>, LineStop>
+    requires { HasFew form }
+    ensures { Gives meaning_of result (parsed_by form (texts words.now)) }
 {
-    match words.split_first() {
+    match form {
+        Form::Cells => parse_cells(words),
+        Form::Term => parse_term(words),
+        Form::Require => parse_require(words),
+        Form::Objective => parse_objective(words),
+        Form::Domain | Form::Cell => unreachable!(),
+    }
+}
+
+/// The same, whose words after that of the form are those of the bytes from a column on.
+fn parse_first<'a>(
+    alloc: Global,
+    form: Form,
+    bytes: &'a [u8],
+    column: u32,
+) -> Result<Statement<'a>, LineStop>
+    requires few { HasFew form }
+    requires place { column + length bytes.now < 2 ^ 32 }
+    ensures { Gives meaning_of result (parsed_by form (texts_of (words_from column bytes.now))) }
+{
+    let words = first_words(alloc, bytes, column, MOST_WORDS)?;
+    parse_few(form, &words)
+}
+
+/// What a line of this form says, or of none, whose words after the first are those of the bytes from a column on.
+fn parse_as<'a>(
+    alloc: Global,
+    form: Option<Form>,
+    bytes: &'a [u8],
+    column: u32,
+) -> Result<Statement<'a>, LineStop>
+    requires { column + length bytes.now < 2 ^ 32 }
+    ensures { Gives meaning_of result (parsed_as form (texts_of (words_from column bytes.now))) }
+{
+    match form {
         None => Err(LineStop::Bad(ModelKind::UnknownLine)),
-        Some((first, rest)) => match form_of(first.text) {
-            None => Err(LineStop::Bad(ModelKind::UnknownLine)),
-            Some(Form::Cells) => parse_cells(rest),
-            Some(Form::Domain) => parse_domain(alloc, rest),
-            Some(Form::Cell) => parse_cell(alloc, rest),
-            Some(Form::Term) => parse_term(rest),
-            Some(Form::Require) => parse_require(rest),
-            Some(Form::Objective) => parse_objective(rest),
-        },
+        Some(Form::Domain) => parse_domain(alloc, bytes, column),
+        Some(Form::Cell) => parse_cell(alloc, bytes, column),
+        Some(Form::Cells) => parse_first(alloc, Form::Cells, bytes, column),
+        Some(Form::Term) => parse_first(alloc, Form::Term, bytes, column),
+        Some(Form::Require) => parse_first(alloc, Form::Require, bytes, column),
+        Some(Form::Objective) => parse_first(alloc, Form::Objective, bytes, column),
+    }
+}
+
+/// What a line says, which is given without its end.
+pub(crate) fn parse<'a>(alloc: Global, line: &'a [u8]) -> Result<Statement<'a>, LineStop>
+    requires { length line.now < too_many }
+    ensures { Gives meaning_of result (meaning_in (texts_of (words_of line.now))) }
+{
+    match next_word(line, 1) {
+        None => Err(LineStop::Bad(ModelKind::UnknownLine)),
+        Some(first) => {
+            let form = form_of(first.word.text);
+            parse_as(alloc, form, first.rest, first.column)
+        }
     }
 }

@@ -1,20 +1,17 @@
-//! The model of a text, or the first bad line with the first kind that holds of it.
+//! The end of a text: the model that its lines state, or what is missing.
 
 ghost use Rattle.std.specs.Prelude.{◌≡◌, ◌<◌, ◌≤◌, length, vec_len, IfOk};
 ghost use Rattle.ts_base.specs.Limits.{most_cells, too_many};
 ghost use Rattle.ts_model.specs.declared.model.Need.{Need};
 ghost use Rattle.ts_model.specs.declared.error.ModelKind.{ModelKind};
-ghost use Rattle.ts_token.specs.Views.{cut_view};
-ghost use Rattle.ts_model.specs.ModelReading.{needs_lists, needs_objective, ended_model, reading};
-ghost use Rattle.ts_model.specs.Promise.{IsWhole, KeepsLimits};
-ghost use Rattle.ts_model.specs.Views.{model_parts, draft_parts, Reads, Tells};
+ghost use Rattle.ts_model.specs.ModelReading.{needs_lists, needs_objective, ended_model};
+ghost use Rattle.ts_model.specs.Views.{model_parts, draft_parts, Reads};
 
 use crate::draft::Draft;
 use crate::error::{ModelKind, ModelStop};
 use crate::model::{Model, Need};
 use std::alloc::Global;
 use ts_base::Memory;
-use ts_token::Tokens;
 
 /// Whether all domains together have a limit.
 pub(crate) fn needs_lists(need: Need) -> bool
@@ -68,27 +65,4 @@ pub(crate) fn finish(
         return Err(ModelStop::Refused { line, kind });
     }
     Ok(model_of(alloc, draft)?)
-}
-
-/// The model that a text states, in the limits of the need, or its first bad line, counted from 1, with the first
-/// kind that holds of it; a missing `cells` line or objective is told at the number of the lines plus 1.
-pub fn read_model(alloc: Global, tokens: &Tokens<'_>, need: Need) -> Result<Model, ModelStop>
-    requires { tokens.now.count < too_many }
-    ensures exact { Reads result (reading need (cut_view tokens.now)) }
-    ensures first { Tells need (cut_view tokens.now) result }
-    ensures counted { IfOk result (λ m. m.n ≡ vec_len m.cells) }
-    ensures whole { IfOk result (λ m. IsWhole (model_parts m)) }
-    ensures limits { IfOk result (λ m. KeepsLimits need (model_parts m)) }
-{
-    let mut draft = Draft::new(alloc, needs_lists(need))?;
-    for line in &tokens.lines {
-        draft.line(alloc, line.number, &line.words)?;
-    }
-    match tokens.not_text {
-        Some(line) => Err(ModelStop::Refused {
-            line,
-            kind: ModelKind::NotText,
-        }),
-        None => finish(alloc, draft, tokens.count, need),
-    }
 }

@@ -57,13 +57,13 @@ impl Progress {
         ensures text { result ≡ Err NoMemory → is_text (without_end line.now) ≡ true }
     {
         self.count += 1;
-        match line_content(self.alloc, line)? {
+        match line_content(line) {
             Content::NotText => Err(ModelStop::Refused {
                 line: self.count,
                 kind: ModelKind::NotText,
             }),
             Content::Skipped => Ok(()),
-            Content::Words(words) => self.draft.line(self.alloc, self.count, &words),
+            Content::Words(bare) => self.draft.line(self.alloc, self.count, bare),
         }
     }
 

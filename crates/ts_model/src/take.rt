@@ -38,17 +38,18 @@ fn has_outside(ranges: &[Interval]) -> bool
     ranges.iter().any(|range| is_outside(*range))
 }
 
-/// The union of the ranges, or the kind of bad ones.
-pub(crate) fn domain_of(alloc: Global, ranges: &Ranges) -> Result<Domain, LineStop>
-    ensures { Gives (λ d. d) result (union_given ranges.now.items.items) }
+/// The union of the ranges, whose memory it takes, or the kind of bad ones.
+pub(crate) fn domain_of(alloc: Global, ranges: Ranges) -> Result<Domain, LineStop>
+    ensures { Gives (λ d. d) result (union_given ranges.items.items) }
 {
-    if has_backward(&ranges.items) {
+    let Ranges { items } = ranges;
+    if has_backward(&items) {
         return Err(LineStop::Bad(ModelKind::Empty));
     }
-    if has_outside(&ranges.items) {
+    if has_outside(&items) {
         return Err(LineStop::Bad(ModelKind::Limit));
     }
-    Ok(union_of(alloc, &ranges.items)?)
+    Ok(union_of(alloc, items)?)
 }
 
 /// The term of the parts, or the kind of bad names.

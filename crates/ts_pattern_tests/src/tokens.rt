@@ -7,7 +7,8 @@ use std::process::Abort;
 use std::test::Fail;
 use ts_base::{Ext, Memory};
 use ts_token::{
-    Content, Parts, ShortLine, Tokens, cut_parts, cut_tokens, ext_of, line_content, number,
+    Content, Parts, ShortLine, Tokens, count_words, cut_parts, cut_tokens, ext_of, line_content,
+    number,
 };
 
 /// A line's number, a column and the word that stands there.
@@ -279,10 +280,13 @@ fn single_lines(rt: HostRuntime) -> Result<(), Fail> {
     }
     for (line, want) in contents() {
         assert!(rt; line.len() < 1000);
-        let told = match line_content(alloc, line.as_bytes())? {
+        let told = match line_content(line.as_bytes()) {
             Content::NotText => format!(in alloc; "not text")?,
             Content::Skipped => format!(in alloc; "skipped")?,
-            Content::Words(words) => format!(in alloc; "{}", words.len())?,
+            Content::Words(bytes) if bytes.len() < 1000 => {
+                format!(in alloc; "{}", count_words(bytes, 1))?
+            }
+            Content::Words(_) => format!(in alloc; "long")?,
         };
         assert_eq!(rt; told.as_str(), *want, "of {line:?}");
     }

@@ -29,8 +29,7 @@ pub fn model_of(alloc: Global, text: &[u8], need: Need) -> Result<Model, Stop>
     ensures whole { IfOk result (λ m. IsWhole (model_parts m)) }
     ensures limits { IfOk result (λ m. KeepsLimits need (model_parts m)) }
 {
-    let tokens = cut_tokens(alloc, text)?;
-    match read_model(alloc, &tokens, need) {
+    match read_model(alloc, text, need) {
         Ok(model) => Ok(model),
         Err(ModelStop::Refused { line, kind }) => {
             Err(Stop::Refused(refused_model(alloc, line, kind)?))

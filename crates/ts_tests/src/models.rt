@@ -11,7 +11,7 @@ use std::process::Abort;
 use std::test::Fail;
 use ts_base::{Memory, first_line};
 use ts_model::{Model, ModelReader, ModelStop, Need, read_model};
-use ts_token::{ShortLine, cut_tokens};
+use ts_token::ShortLine;
 
 mod comparisons;
 mod held;
@@ -82,17 +82,10 @@ fn read_by(alloc: Global, need: Need, text: &[u8], way: Way) -> Result<Model, Mo
     requires { length text.now < 10000 }
 {
     match way {
-        Way::Together => read_together(alloc, need, text),
+        Way::Together => read_model(alloc, text, need),
         Way::OneByOne => read_by_lines(alloc, need, text, false),
         Way::Shortened => read_by_lines(alloc, need, text, true),
     }
-}
-
-fn read_together(alloc: Global, need: Need, text: &[u8]) -> Result<Model, ModelStop>
-    requires { length text.now < 10000 }
-{
-    let tokens = cut_tokens(alloc, text)?;
-    read_model(alloc, &tokens, need)
 }
 
 fn read_by_lines(

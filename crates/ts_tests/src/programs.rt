@@ -4,7 +4,6 @@ use std::alloc::Global;
 use ts_base::{Ext, Memory};
 use ts_compile::{compile_model, value_of, write_program};
 use ts_model::{Model, Need, read_model};
-use ts_token::cut_tokens;
 
 /// A model, the text of its program, and the values of its terms on 1 3 3 2 2 1 4.
 type Case = (&'static str, &'static str, &'static [Ext]);
@@ -70,8 +69,7 @@ pub fn model_of(alloc: Global, text: &[u8]) -> Option<Model> {
     if 1000 < text.len() {
         return None;
     }
-    let tokens = cut_tokens(alloc, text).ok()?;
-    read_model(alloc, &tokens, Need::Values).ok()
+    read_model(alloc, text, Need::Values).ok()
 }
 
 fn has_program(alloc: Global, model: &Model, wanted: &str, terms: usize) -> Result<bool, Memory> {

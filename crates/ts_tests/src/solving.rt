@@ -10,7 +10,6 @@ use ts_certificate::{Certificate, Claim, TreeLine, write_certificate};
 use ts_compile::compile_model;
 use ts_model::{Model, Need, read_model};
 use ts_search::{list, solve};
-use ts_token::cut_tokens;
 
 mod rows;
 mod small_models;
@@ -28,8 +27,7 @@ fn model_of(alloc: Global, text: &str, need: Need) -> Option<Model>
     if 1000 < text.len() {
         return None;
     }
-    let tokens = cut_tokens(alloc, text.as_bytes()).ok()?;
-    read_model(alloc, &tokens, need).ok()
+    read_model(alloc, text.as_bytes(), need).ok()
 }
 
 /// The certificate of the best series of the model in the text.

@@ -5,11 +5,12 @@ use Rattle.std.proofs.Math.Seq.{drop-append_seam}
 use Rattle.std.proofs.lemmas.Bool.{eqb-true}
 use Rattle.ts_base.specs.Words.{is_lf, onto_line, strict_lines, without_lf}
 use Rattle.ts_base.proofs.WordLaws.{lf_is, lf_again}
-use Rattle.ts_token.specs.Gist.{first_of}
+use Rattle.ts_token.specs.Gist.{first_of, AreEnded, IsLine}
 use Rattle.ts_token.specs.Halves.{is_mark, is_separator}
 use Rattle.ts_token.specs.Steps.{without_end, bare_by}
 use Rattle.ts_token.specs.Text.{lines_of, words_of}
 use Rattle.ts_token.proofs.Fronts.{front, ending, passes}
+use Rattle.ts_token.proofs.GistLaws.{ended_lf}
 use Rattle.ts_token.proofs.LineLaws.{cut_by, first_cut}
 
 -- the strict lines of a line and what follows it
@@ -135,6 +136,29 @@ pub line_marks : (text line rest bare : List ℕ) (t : Bool) → 0 < length line
 line_marks text line rest bare t some cut bare_is t_is =
     marks line (without_end line) [] (cut_whole line line [] some (line_alone text line rest cut) (sym (append-nil line)))
     ∙ ap (λ (x : List ℕ). is_mark (words_of x)) (sym bare_is) ∙ sym t_is
+
+-- what is cut with its LF is one line
+pub one_line : (text line rest : List ℕ) → 0 < length line → strict_lines text ≡ line ∷ strict_lines rest → IsLine line
+one_line text line rest some cut =
+    let e = cut_whole line line [] some (line_alone text line rest cut) (sym (append-nil line)) in
+    e ∙ ap (λ (x : List ℕ). x ∷ []) (sym (ap first_of e))
+
+rest_strict : (rest : List ℕ) → 0 < length rest → 0 < length (strict_lines rest)
+rest_strict [] some = absurd (omega arith)
+rest_strict (b ∷ bs) some = some_strict b bs
+
+-- where bytes stand behind it, it ends with its LF
+pub ended_before : (text line rest : List ℕ) → strict_lines text ≡ line ∷ strict_lines rest → 0 < length rest → AreEnded line
+ended_before [] line rest cut some = absurd (omega (arith, ap length cut))
+ended_before (b ∷ bs) line rest cut some =
+    go (front is_lf (b ∷ bs)) (ending is_lf (b ∷ bs)) (passes is_lf (b ∷ bs)) (sym (strict_cut b bs) ∙ cut)
+  where
+    go : (f e : List ℕ) → (0 < length e → is_lf (get_or e 0 0) ≡ true) → strict_by f e ≡ line ∷ strict_lines rest → AreEnded line
+    go f [] ends same = absurd (omega (arith, ap length same, rest_strict rest some))
+    go f (x ∷ after) ends same =
+        let is : f ++ x ∷ [] ≡ line = ap first_of same in
+        let ten : x ≡ 10 = lf x (ends (omega arith)) in
+        subst AreEnded (ap (λ (y : ℕ). f ++ y ∷ []) (sym ten) ∙ is) (ended_lf f)
 
 -- it is no longer without its end
 pub end_shorter : (line bare : List ℕ) → without_lf line ≡ Some bare → length bare ≤ length line

@@ -1,8 +1,8 @@
 mod Fronts
 pub mod LineLaws
 mod WordLaws
+mod FewWords
 mod RowLaws
-mod EndLaws
 pub mod HalfLaws
 mod NumberLaws
 mod SliceLaws
@@ -11,5 +11,6 @@ mod Drops
 mod PlaceLaws
 mod KeptSizes
 pub mod GistLaws
+pub mod EndLaws
 mod ShortLaws
 pub mod NumberTexts

@@ -2,6 +2,7 @@
 use Rattle.std.proofs.Common.{◌≡◌, ℕ, Bool, true, false, cond, List, [], ◌∷◌, length, ◌≤◌, take, refl, sym, ap, ◌∙◌, arith, get_or, suc, zero, eq-eqb, ne_eqb}
 use Rattle.std.specs.Prelude.{◌==◌}
 use Rattle.ts_base.specs.Words.{is_lf, onto_line}
+use Rattle.ts_token.specs.Gist.{first_of, without_end}
 use Rattle.ts_token.specs.Text.{ends_here, lines_of}
 use Rattle.ts_token.specs.Steps.{without_cr}
 use Rattle.ts_token.proofs.Fronts.{front, ending}
@@ -85,6 +86,25 @@ text_lines_few (b ∷ bs) =
   where
     by : (t u : Bool) → length (lines_of bs) ≤ length bs → length (onto_line b (lines_of bs)) ≤ suc (length (lines_of bs)) →
         length (cond t ([] ∷ lines_of bs) (cond u (lines_of bs) (onto_line b (lines_of bs)))) ≤ suc (length bs)
+    by true u later more = omega (arith, later)
+    by false true later more = omega (arith, later)
+    by false false later more = omega (arith, later, more)
+
+-- a line is no longer without its end
+
+onto_within : (b : ℕ) (lines : List (List ℕ)) → length (first_of (onto_line b lines)) ≤ suc (length (first_of lines))
+onto_within b [] = omega arith
+onto_within b (line ∷ lines) = omega arith
+
+pub end_within : (line : List ℕ) → length (without_end line) ≤ length line
+end_within [] = omega arith
+end_within (b ∷ bs) =
+    let later = end_within bs in
+    let more = onto_within b (lines_of bs) in
+    by (is_lf b) (cond (b == 13) (ends_here bs) false) later more
+  where
+    by : (t u : Bool) → length (first_of (lines_of bs)) ≤ length bs → length (first_of (onto_line b (lines_of bs))) ≤ suc (length (first_of (lines_of bs))) →
+        length (first_of (cond t ([] ∷ lines_of bs) (cond u (lines_of bs) (onto_line b (lines_of bs))))) ≤ suc (length bs)
     by true u later more = omega (arith, later)
     by false true later more = omega (arith, later)
     by false false later more = omega (arith, later, more)

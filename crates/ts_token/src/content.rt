@@ -1,23 +1,20 @@
 //! What a single line holds.
 
-ghost use Rattle.std.specs.Prelude.{◌≡◌, ◌<◌, true, length, IfOk, OnErr};
+ghost use Rattle.std.specs.Prelude.{◌≡◌, ◌<◌, length};
 ghost use Rattle.ts_base.specs.Limits.{too_many};
 ghost use Rattle.ts_token.specs.Gist.{without_end};
-ghost use Rattle.ts_token.specs.Text.{is_plain, is_text, is_skipped};
-ghost use Rattle.ts_token.specs.Views.{pieces};
+ghost use Rattle.ts_token.specs.Text.{is_plain, is_text};
 ghost use Rattle.ts_token.specs.Contents.{Holds};
 
 use crate::lines::first_line;
-use crate::words::{Word, cut_words};
-use std::alloc::Global;
-use ts_base::Memory;
+use crate::words::next_word;
 
-/// A line that isn't text, one that is skipped, or the words of another one.
-#[derive(Drop)]
+/// A line that isn't text, one that is skipped, or the bytes of another one without its end.
+#[derive(Clone, Copy, Debug)]
 pub enum Content<'a> {
     NotText,
     Skipped,
-    Words(Vec<Word<'a>>),
+    Words(&'a [u8]),
 }
 
 /// All bytes are from ` ` to `~`, or tabs.
@@ -35,42 +32,32 @@ pub(crate) fn is_plain(b: u8) -> bool
     b >= b' ' && b <= b'~' || b == b'\t'
 }
 
-/// No word stands in the line, or the first one begins with `#`.
-fn is_skipped(words: &[Word]) -> bool
-    ensures { result ≡ is_skipped (pieces words.now) }
-{
-    match words.first() {
-        None => true,
-        Some(word) => word.text.first() == Some(&b'#'),
-    }
-}
-
 /// What a line without its end holds.
-pub(crate) fn content_of<'a>(alloc: Global, line: &'a [u8]) -> Result<Content<'a>, Memory>
+pub(crate) fn content_of<'a>(line: &'a [u8]) -> Content<'a>
     requires { length line.now < too_many }
-    ensures holds { IfOk result (λ content. Holds content line.now) }
-    ensures text { OnErr result (is_text line.now ≡ true) }
+    ensures { Holds result line.now }
 {
     if !is_text(line) {
-        return Ok(Content::NotText);
+        return Content::NotText;
     }
-    let words = cut_words(alloc, line)?;
-    if is_skipped(&words) {
-        return Ok(Content::Skipped);
+    let Some(first) = next_word(line, 1) else {
+        return Content::Skipped;
+    };
+    if first.word.text.first() == Some(&b'#') {
+        return Content::Skipped;
     }
-    Ok(Content::Words(words))
+    Content::Words(line)
 }
 
-/// What a line of fewer than 4,000,000,000 bytes holds; it is given with its LF, which a last line may lack. A line
-/// that isn't text takes no memory.
-pub fn line_content<'a>(alloc: Global, line: &'a [u8]) -> Result<Content<'a>, Memory>
+/// What a line of fewer than 4,000,000,000 bytes holds; it is given with its LF, which a last line may lack. Nothing is
+/// allocated.
+pub fn line_content<'a>(line: &'a [u8]) -> Content<'a>
     requires { length line.now < too_many }
-    ensures holds { IfOk result (λ content. Holds content (without_end line.now)) }
-    ensures text { OnErr result (is_text (without_end line.now) ≡ true) }
+    ensures { Holds result (without_end line.now) }
 {
     if line.is_empty() {
-        return content_of(alloc, line);
+        return Content::Skipped;
     }
     let (bare, _) = first_line(line);
-    content_of(alloc, bare)
+    content_of(bare)
 }

@@ -5,7 +5,7 @@
 //! knows of each word its bytes, its column and the number of its line, and which line first isn't text.
 //!
 //! A text that comes in pieces is read line by line: a `ShortLine` keeps those bytes of a line that tell what it holds,
-//! and `line_content` tells it.
+//! `line_content` tells it, and `next_word` gives its words one by one, so that a long line takes no memory.
 //!
 //! ```text
 //! let parts = cut_parts(b"cells 4\r\n%%\nseries 1 2 3 4\n");
@@ -29,4 +29,4 @@ pub use parts::{Parts, cut_parts};
 pub use short::ShortLine;
 pub use single::{Single, single_word};
 pub use tokens::{Line, Tokens, cut_tokens};
-pub use words::Word;
+pub use words::{NextWord, Word, count_words, first_words, next_word};

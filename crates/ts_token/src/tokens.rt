@@ -9,7 +9,7 @@ ghost use Rattle.ts_token.specs.Steps.{with_line};
 
 use crate::content::{Content, content_of};
 use crate::lines::first_line;
-use crate::words::Word;
+use crate::words::{Word, cut_words};
 use std::alloc::Global;
 use ts_base::Memory;
 
@@ -38,13 +38,16 @@ fn take_line<'a>(alloc: Global, tokens: &mut Tokens<'a>, line: &'a [u8]) -> Resu
     if tokens.not_text.is_some() {
         return Ok(());
     }
-    match content_of(alloc, line)? {
+    match content_of(line) {
         Content::NotText => tokens.not_text = Some(tokens.count),
         Content::Skipped => {}
-        Content::Words(words) => tokens.lines.push(Line {
-            number: tokens.count,
-            words,
-        })?,
+        Content::Words(_) => {
+            let words = cut_words(alloc, line)?;
+            tokens.lines.push(Line {
+                number: tokens.count,
+                words,
+            })?;
+        }
     }
     Ok(())
 }

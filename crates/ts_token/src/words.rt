@@ -1,6 +1,6 @@
 //! The words of a line: its bytes between blanks.
 
-ghost use Rattle.std.specs.Prelude.{◌≡◌, ◌+◌, ◌<◌, ◌^◌, [], length, IfOk, IfNone, IfSome};
+ghost use Rattle.std.specs.Prelude.{◌≡◌, ◌+◌, ◌<◌, ◌^◌, [], length, take, IfOk, IfNone, IfSome};
 ghost use Rattle.std.specs.List.{position};
 ghost use Rattle.ts_base.specs.Limits.{too_many};
 ghost use Rattle.ts_token.specs.Text.{is_blank, words_of, words_from};
@@ -18,8 +18,8 @@ pub struct Word<'a> {
 }
 
 /// A word, and the bytes after it with their column.
-#[derive(Clone, Copy)]
-pub(crate) struct NextWord<'a> {
+#[derive(Clone, Copy, Debug)]
+pub struct NextWord<'a> {
     pub word: Word<'a>,
     pub rest: &'a [u8],
     pub column: u32,
@@ -47,8 +47,8 @@ fn blank_at(text: &[u8]) -> Option<usize>
     text.iter().position(|b| is_blank(*b))
 }
 
-/// The first word of the bytes from a column on.
-pub(crate) fn next_word<'a>(rest: &'a [u8], column: u32) -> Option<NextWord<'a>>
+/// The first word of the bytes from a column on; the others are words of the bytes after it, from their column on.
+pub fn next_word<'a>(rest: &'a [u8], column: u32) -> Option<NextWord<'a>>
     requires { column + length rest.now < 2 ^ 32 }
     ensures none { IfNone result (words_from column rest.now ≡ []) }
     ensures some { IfSome result (λ next. IsNext column rest.now next) }
@@ -80,6 +80,48 @@ pub(crate) fn cut_words<'a>(alloc: Global, line: &'a [u8]) -> Result<Vec<Word<'a
         words.push(next.word)?;
         rest = next.rest;
         column = next.column;
+    }
+    Ok(words)
+}
+
+/// How many words the bytes from a column on have.
+pub fn count_words(bytes: &[u8], column: u32) -> usize
+    requires { column + length bytes.now < 2 ^ 32 }
+    ensures { result ≡ length (words_from column bytes.now) }
+{
+    let mut count = 0;
+    let mut rest = bytes;
+    let mut at = column;
+    while let Some(next) = next_word(rest, at) {
+        count += 1;
+        rest = next.rest;
+        at = next.column;
+    }
+    count
+}
+
+/// The first words of the bytes from a column on, at most so many.
+pub fn first_words<'a>(
+    alloc: Global,
+    bytes: &'a [u8],
+    column: u32,
+    most: usize,
+) -> Result<Vec<Word<'a>>, Memory>
+    requires { column + length bytes.now < 2 ^ 32 }
+    ensures { IfOk result (λ words. pieces words.items ≡ take most (words_from column bytes.now)) }
+{
+    let mut words = Vec::new(alloc);
+    let mut rest = bytes;
+    let mut at = column;
+    for _ in 0..most {
+        match next_word(rest, at) {
+            None => return Ok(words),
+            Some(next) => {
+                words.push(next.word)?;
+                rest = next.rest;
+                at = next.column;
+            }
+        }
     }
     Ok(words)
 }

@@ -10,7 +10,6 @@ use std::test::Fail;
 use ts_base::{Memory, first_line};
 use ts_compile::compile_model;
 use ts_model::{Need, read_model};
-use ts_token::cut_tokens;
 
 /// A model, a certificate, and its verdict.
 static CASES: [(&str, &str, Verdict); 17] = [
@@ -159,8 +158,7 @@ fn checker_of(alloc: Global, model: &str) -> Result<Checker, Memory>
     if text.len() >= 1000 {
         return Err(Memory);
     }
-    let tokens = cut_tokens(alloc, text)?;
-    match read_model(alloc, &tokens, Need::List) {
+    match read_model(alloc, text, Need::List) {
         Ok(model) => {
             let program = compile_model(alloc, &model)?;
             Checker::new(alloc, model, program)

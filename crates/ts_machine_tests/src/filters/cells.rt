@@ -16,7 +16,6 @@ use ts_domain::Boxed;
 use ts_filter::{Bar, Removal, cuts, first_cut, first_refuted, next_drop, refutes};
 use ts_glue::Machine;
 use ts_model::{Model, Need, Op, Require, read_model};
-use ts_token::cut_tokens;
 
 /// The first of the cells below the last at which the requirement is refuted.
 fn first_refuting(rows: &[CellRow], op: Op, bound: Ext) -> Option<u32>
@@ -164,8 +163,7 @@ fn model_of(alloc: Global, text: &str) -> Option<Model> {
     if 1000 < text.len() {
         return None;
     }
-    let tokens = cut_tokens(alloc, text.as_bytes()).ok()?;
-    read_model(alloc, &tokens, Need::List).ok()
+    read_model(alloc, text.as_bytes(), Need::List).ok()
 }
 
 /// Whether the one machine of a program is told so; it can be split.

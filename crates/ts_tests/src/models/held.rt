@@ -2,10 +2,10 @@
 
 ghost use Rattle.std.specs.Prelude.{◌<◌, length};
 
-use super::{Asked, expect_rows, read_together};
+use super::{Asked, expect_rows};
 use std::alloc::{AllocError, Global};
 use std::test::Fail;
-use ts_model::{Model, Need};
+use ts_model::{Model, Need, read_model};
 
 /// The number of cells, the values of each behind a colon, the objective, the requirements and the terms.
 static HELD: &str = "\
@@ -16,6 +16,7 @@ static HELD: &str = "\
 2: 0 1: 0 1 None [] {}|cells 2/cell 1 5/domain 0 1/
 2: 2: 0 1 2 3 4 5 6 7 8 9 None [] {}|cells 2/cell 1 5/cell 1 2/
 2: 5 6: 5 6 None [] {}|cells 2/domain 0..3/domain 5..6/
+2: 0 1 2 3 4 7 9: 0 1 2 3 4 7 9 None [] {}|cells 2/domain 9 0..2 7 2..4 1 7 3 0 0/
 3: 0 1: 5 6 7: 0 1 Some(1) \
     [Require { term: 1, op: AtMost, bound: NegInf }, Require { term: 0, op: Above, bound: Int(4) }] \
     {\"w\": Term { aggregator: Sum, feature: Width, pattern: Peak }, \
@@ -32,7 +33,7 @@ fn held() -> &'static str {
 pub(super) fn held_told(alloc: Global, text: &[u8]) -> Result<String, Fail>
     requires { length text.now < 10000 }
 {
-    let model = read_together(alloc, Need::Values, text)?;
+    let model = read_model(alloc, text, Need::Values)?;
     Ok(parts_of(alloc, &model)?)
 }
 

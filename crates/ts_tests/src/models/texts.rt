@@ -20,6 +20,7 @@ ok|cells 2\r/\tdomain  0..1 \r/
 ok|cells 1/domain -1000000..1000000/
 ok|cells 2/cell 2 0 3..5 -7..-6 4/
 ok|cells 2/cell 1 5/domain 0 1/cell 1 2/
+ok|cells 2/domain 0 9 1 8 2 7 3 6 4 5 0 0 0/cell 2 9 8 7 6 5 4 3 2 1 0/
 ok|cells 2/term a_1 = sum width peak/require a_1 >= 3/
 ok|cells 2/term count = count peak/objective count/
 ok|cells 2/term count = sum width peak/
@@ -69,6 +70,11 @@ ok|cells 512/domain 0..128/
 1 Shape|require a- = 1/
 1 Shape|objective/
 1 Shape|objective a b/
+1 Shape|cells 2 2 2 2 2 2 2 2/
+1 Shape|term a = sum width peak b/
+1 Shape|term a = count peak b c d/
+1 Shape|require a = 1 2 3 4 5 6/
+1 Shape|objective a b c d e f g/
 -- words in the place of numbers
 1 Number|cells x/
 1 Number|cells 02/
@@ -77,6 +83,8 @@ ok|cells 512/domain 0..128/
 1 Number|domain 1..x/
 1 Number|domain 0 1.2/
 1 Number|domain 0..1..2/
+1 Number|domain 0 1 2 3 4 5 6 7 8 x/
+1 Number|cell 1 0 1 2 3 4 5 6 7 8 x/
 1 Number|domain ..1/
 1 Number|domain 1../
 2 Number|cells 3/cells x/

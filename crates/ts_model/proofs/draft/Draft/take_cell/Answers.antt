@@ -9,5 +9,5 @@ pub returns-in_ok-domain-in-Some-clause-taken : goal.returns-in_ok-domain-in-Som
 returns-in_ok-domain-in-Some-clause-taken c =
     let old = draft_parts c.args.self.now in
     let at = subst (λ (k : ℤ). IsPlace k (length old.cells) c.in-Some.place) (to_z-of_z w64 c.args.cell c.ranges.cell) c.in-Some.ensures.some in
-    cell_line c.args.self.now.cells.limited old c.args.ranges.now.items.items c.in_ok-domain-in-Some.domain c.set_one.result _
+    cell_line c.args.self.now.cells.limited old c.args.ranges.items.items c.in_ok-domain-in-Some.domain c.set_one.result _
     c.args.cell c.in-Some.place (sym c.has_cells.ensures ∙ c.if-not-has_cells.false) at c.in_ok-domain-in-Some.ensures c.set_one.ensures.set

@@ -5,5 +5,5 @@ use Rattle.ts_model.proofs.draft.Draft.take_domain.Goals as goal
 
 pub returns-clause-taken : goal.returns-clause-taken
 returns-clause-taken c =
-    domain_line c.args.self.now.cells.limited (draft_parts c.args.self.now) c.args.ranges.now.items.items c.in_ok-domain.domain c.set_all.result _
+    domain_line c.args.self.now.cells.limited (draft_parts c.args.self.now) c.args.ranges.items.items c.in_ok-domain.domain c.set_all.result _
     (sym c.has_cells.ensures ∙ c.if-not-has_cells.false) c.in_ok-domain.ensures c.set_all.ensures.set
