@@ -43,6 +43,3 @@ pub use verdict::Verdict;
 pub use verifier::Verifier;
 pub use verify_end::VerifyEnd;
 pub use whole::verdict_on;
-
-#[cfg(test)]
-mod tests;

@@ -1,5 +1,5 @@
 use Rattle.std.proofs.Common.{◌≡◌, false, length}
-use Rattle.ts_checker.proofs.tests.certificates.feed_all.Given as goal
+use Rattle.ts_search_tests.proofs.checked.certificates.feed_all.Given as goal
 
 abbrev pub invariant-loop-checker : goal.invariant-loop-checker
 invariant-loop-checker l = l.checker.wanting ≡ false

@@ -2,12 +2,12 @@
 
 ghost use Rattle.std.specs.Prelude.{◌≡◌, ◌<◌, IfOk, false, length};
 
-use crate::tests::{peaks, proof};
-use crate::{Verdict, Verifier, VerifyEnd};
+use crate::checked::{peaks, proof};
 use Verdict::{Accepted, Refused, Rejected};
 use std::alloc::Global;
 use std::test::Fail;
 use ts_base::Memory;
+use ts_checker::{Verdict, Verifier, VerifyEnd};
 use ts_model::ModelKind;
 
 /// Inputs of `verify`, how each ends, and the line that has failed before its end.

@@ -2,12 +2,12 @@
 
 ghost use Rattle.std.specs.Prelude.{◌≡◌, IfOk, OnOk, false};
 
-use crate::tests::{PEAKS, PROOF, peaks};
-use crate::{Checker, Verdict};
+use crate::checked::{PEAKS, PROOF, peaks};
 use Verdict::{Accepted, Refused, Rejected};
 use std::alloc::Global;
 use std::test::Fail;
 use ts_base::{Memory, first_line};
+use ts_checker::{Checker, Verdict};
 use ts_compile::compile_model;
 use ts_model::{Need, read_model};
 
