@@ -1,17 +1,14 @@
 -- A book of residuals: what it says goes on to hold while residuals come last and answers are kept.
-use Rattle.std.specs.Prelude.{◌≡◌, ◌⊎◌, ℕ, zero, suc, ◌+◌, ◌<◌, ◌≤◌, nat_lt, Bool, true, false, cond, not, List, [], ◌∷◌, ◌++◌, None, Some, IfSome, map, length, slice_get, slice_set, get_or, refl}
-use Rattle.std.specs.List.{position, position_or_len}
+use Rattle.std.specs.Prelude.{◌≡◌, ◌⊎◌, ℕ, zero, suc, ◌+◌, ◌<◌, ◌≤◌, true, false, List, [], ◌∷◌, ◌++◌, None, Some, IfSome, Option, map, length, slice_get, slice_set, get_or, refl}
 use Rattle.std.proofs.Common.{sym, ◌∙◌, ap, subst, inl, inr, arith, ⊎_elim}
-use Rattle.std.proofs.lemmas.Bool.{false≢true, ltb-true, ltb-false}
-use Rattle.std.proofs.lemmas.Option.{none-some, same_Some}
+use Rattle.std.proofs.lemmas.Option.{none-some, same_Some, slice_get_within}
 use Rattle.std.proofs.lemmas.List.{length-map, map-append}
 use Rattle.ts_base.specs.declared.letter.Letter.{Letter}
 use Rattle.ts_base.specs.declared.letter.Letter.TheVariants.{Less, Equal, Greater}
 use Rattle.ts_regex.specs.Shape.{Shape, shape_of}
 use Rattle.ts_regex.specs.Derivative.{has_word}
-use Rattle.ts_regex.specs.NormalForm.{residual, normal_form, same_shape}
+use Rattle.ts_regex.specs.NormalForm.{residual, normal_form}
 use Rattle.ts_regex.specs.declared.regex.Regex.{Regex}
-use Rattle.ts_regex.proofs.Laws.{same_law}
 use Rattle.ts_pattern.specs.Plans.{shape_at}
 use Rattle.ts_validate.specs.Facts.{words_of}
 use Rattle.ts_user.specs.declared.book.Next.{Next}
@@ -19,7 +16,9 @@ use Rattle.ts_user.specs.declared.book.Next.TheVariants.{Unread, NoWord, Number}
 use Rattle.ts_user.specs.declared.book.Nexts.{Nexts}
 use Rattle.ts_user.specs.declared.book.Book.{Book}
 use Rattle.ts_user.specs.Books.{residuals_of, next_on, next_with, all_unread, IsNumberOf, NextSays, NextsSay, IsBook, Grows, IsFound, IsAfter}
+use Rattle.ts_user.specs.Keys.{key_lists, regex_key, IsPlaced}
 use Rattle.ts_user.proofs.Places.{at_most}
+use Rattle.ts_user.proofs.KeyLaws.{key_at, key_there, same_regex}
 
 -- a list with one more
 
@@ -67,62 +66,23 @@ get_there [] i q = absurd (omega (arith, q))
 get_there (x ∷ xs) zero q = (x, refl)
 get_there (x ∷ xs) (suc i) q = get_there xs i (omega (arith, q))
 
--- the number of a residual that stands there
+-- the number of a residual is the place of its key
 
-found_place : (xs : List Regex) (r : Shape) → position_or_len (λ s. same_shape (shape_of s) r) xs < length xs →
-    shape_at (map (λ s. shape_of s) xs) (position_or_len (λ s. same_shape (shape_of s) r) xs) ≡ r
-found_place [] r q = absurd (omega (arith, q))
-found_place (x ∷ xs) r q = go (same_shape (shape_of x) r) refl (found_place xs r) q
-  where
-    on : (n : ℕ) → shape_at (map (λ s. shape_of s) xs) n ≡ r → shape_at (map (λ s. shape_of s) (x ∷ xs)) (1 + n) ≡ r
-    on n t = ap (λ z. shape_at (map (λ s. shape_of s) (x ∷ xs)) z) (let u : 1 + n ≡ suc n = omega arith in u) ∙ t
+shape_got : (rs : List Shape) (i : ℕ) (r : Shape) → slice_get rs i ≡ Some r → shape_at rs i ≡ r
+shape_got [] i r q = absurd (none-some r q)
+shape_got (s ∷ rs) zero r q = same_Some s r q
+shape_got (s ∷ rs) (suc i) r q = shape_got rs i r q
 
-    go : (b : Bool) → same_shape (shape_of x) r ≡ b → (position_or_len (λ s. same_shape (shape_of s) r) xs < length xs →
-        shape_at (map (λ s. shape_of s) xs) (position_or_len (λ s. same_shape (shape_of s) r) xs) ≡ r) →
-        cond (not b) (1 + position_or_len (λ s. same_shape (shape_of s) r) xs) 0 < suc (length xs) →
-        shape_at (map (λ s. shape_of s) (x ∷ xs)) (cond (not b) (1 + position_or_len (λ s. same_shape (shape_of s) r) xs) 0) ≡ r
-    go true e h s = (same_law (shape_of x) r).0 e
-    go false e h s = on (position_or_len (λ s. same_shape (shape_of s) r) xs) (h (omega (arith, s)))
+pub number_there : (rs : List Shape) (r : Shape) (i : ℕ) → slice_get (map (λ s. regex_key s) rs) i ≡ Some (regex_key r) → IsNumberOf rs r i
+number_there rs r i q =
+    let x = key_at (λ s. regex_key s) rs i (regex_key r) q in
+    (slice_get_within rs i x.0 x.1, shape_got rs i x.0 x.1 ∙ same_regex x.0 r x.2)
 
-none_place : (xs : List Regex) (r : Shape) (i : ℕ) → i < position_or_len (λ s. same_shape (shape_of s) r) xs → i < length xs →
-    shape_at (map (λ s. shape_of s) xs) i ≡ r → ⊥
-none_place [] r i q p e = omega (arith, p)
-none_place (x ∷ xs) r zero q p e = go (same_shape (shape_of x) r) ((same_law (shape_of x) r).1 e) q
-  where
-    go : (b : Bool) → b ≡ true → 0 < cond (not b) (1 + position_or_len (λ s. same_shape (shape_of s) r) xs) 0 → ⊥
-    go true t s = omega (arith, s)
-    go false t s = false≢true t
-none_place (x ∷ xs) r (suc i) q p e =
-    go (same_shape (shape_of x) r) (λ h. none_place xs r i h (omega (arith, p)) e) q
-  where
-    go : (b : Bool) → (i < position_or_len (λ s. same_shape (shape_of s) r) xs → ⊥) →
-        suc i < cond (not b) (1 + position_or_len (λ s. same_shape (shape_of s) r) xs) 0 → ⊥
-    go true h s = omega (arith, s)
-    go false h s = h (omega (arith, s))
-
-pub place_some : (xs : List Regex) (r : Shape) (i : ℕ) → Some i ≡ position (λ s. same_shape (shape_of s) r) xs → IsNumberOf (map (λ s. shape_of s) xs) r i
-place_some xs r i q = go (nat_lt (position_or_len (λ s. same_shape (shape_of s) r) xs) (length xs)) refl q
-  where
-    go : (b : Bool) → nat_lt (position_or_len (λ s. same_shape (shape_of s) r) xs) (length xs) ≡ b →
-        Some i ≡ cond b (Some (position_or_len (λ s. same_shape (shape_of s) r) xs)) None → IsNumberOf (map (λ s. shape_of s) xs) r i
-    go true e s =
-        let same : i ≡ position_or_len (λ s. same_shape (shape_of s) r) xs = same_Some i (position_or_len (λ s. same_shape (shape_of s) r) xs) s in
-        let low = ltb-true (position_or_len (λ s. same_shape (shape_of s) r) xs) (length xs) e in
-        let size : length (map (λ s. shape_of s) xs) ≡ length xs = length-map xs (λ s. shape_of s) in
-        (omega (arith, same, low, size), ap (λ z. shape_at (map (λ s. shape_of s) xs) z) same ∙ found_place xs r low)
-    go false e s = absurd (none-some i (sym s))
-
-pub place_none : (xs : List Regex) (r : Shape) → None ≡ position (λ s. same_shape (shape_of s) r) xs → (i : ℕ) → i < length (map (λ s. shape_of s) xs) →
-    shape_at (map (λ s. shape_of s) xs) i ≡ r → ⊥
-place_none xs r q i p e = go (nat_lt (position_or_len (λ s. same_shape (shape_of s) r) xs) (length xs)) refl q
-  where
-    go : (b : Bool) → nat_lt (position_or_len (λ s. same_shape (shape_of s) r) xs) (length xs) ≡ b →
-        None ≡ cond b (Some (position_or_len (λ s. same_shape (shape_of s) r) xs)) None → ⊥
-    go true t s = none-some (position_or_len (λ s. same_shape (shape_of s) r) xs) s
-    go false t s =
-        let far = ltb-false (position_or_len (λ s. same_shape (shape_of s) r) xs) (length xs) t in
-        let size : length (map (λ s. shape_of s) xs) ≡ length xs = length-map xs (λ s. shape_of s) in
-        none_place xs r i (omega (arith, far, p, size)) (omega (arith, p, size)) e
+pub number_nowhere : (rs : List Shape) (r : Shape) → ((i : ℕ) → slice_get (map (λ s. regex_key s) rs) i ≡ Some (regex_key r) → ⊥) →
+    (i : ℕ) → i < length rs → shape_at rs i ≡ r → ⊥
+number_nowhere rs r h i q e =
+    let x = get_there rs i q in
+    h i (key_there (λ s. regex_key s) rs i x.0 x.1 ∙ ap (λ z. Some (regex_key z)) (sym (shape_got rs i x.0 x.1) ∙ e))
 
 -- what is known goes on to hold
 
@@ -163,9 +123,10 @@ added_residuals old new r e = ap (λ z. map (λ s. shape_of s) z) e ∙ map-appe
 pub book_added : (p : Shape) (old new : Book) (r : Regex) → IsBook p old →
     ((i : ℕ) → i < length (residuals_of old) → shape_at (residuals_of old) i ≡ shape_of r → ⊥) →
     new.residuals.items ≡ old.residuals.items ++ r ∷ [] →
+    key_lists new.keys ≡ map (λ s. regex_key s) (residuals_of old) ++ regex_key (shape_of r) ∷ [] →
     new.words.items ≡ old.words.items ++ words_of (shape_of r) ∷ [] →
     new.nexts.items ≡ old.nexts.items ++ all_unread ∷ [] → IsBook p new
-book_added p old new r h none e w x =
+book_added p old new r h none e ks w x =
     let rs : List Shape = residuals_of old in
     let d : Shape = shape_of r in
     let is : residuals_of new ≡ rs ++ d ∷ [] = added_residuals old new r e in
@@ -175,6 +136,7 @@ book_added p old new r h none e w x =
     record {
       some = omega (arith, size);
       whole = ap (λ z. shape_at z 0) is ∙ shape_old rs (d ∷ []) 0 some ∙ whole;
+      keys = ks ∙ sym (map-append (λ s. regex_key s) rs (d ∷ [])) ∙ ap (λ z. map (λ s. regex_key s) z) (sym is);
       words = w ∙ ap (λ z. z ++ words_of d ∷ []) h.words ∙ sym (map-append (λ r. words_of r) rs (d ∷ [])) ∙ ap (λ z. map (λ r. words_of r) z) (sym is);
       as_many_nexts = omega (arith, size, nexts_size, as_nexts);
       once = λ i j a b q. once_in i j (at_most i (length rs) (omega (arith, a, size))) (at_most j (length rs) (omega (arith, b, size)))
@@ -213,9 +175,9 @@ found_added old new r j e q =
 -- an answer that is kept
 
 pub book_noted : (p : Shape) (old new : Book) (i : ℕ) (l : Letter) (x : Next) → IsBook p old → new.residuals.items ≡ old.residuals.items →
-    new.words.items ≡ old.words.items → IfSome (slice_get old.nexts.items i) (λ n. new.nexts.items ≡ slice_set old.nexts.items i (next_with n l x)) →
+    new.keys ≡ old.keys → new.words.items ≡ old.words.items → IfSome (slice_get old.nexts.items i) (λ n. new.nexts.items ≡ slice_set old.nexts.items i (next_with n l x)) →
     i < length (residuals_of old) → NextSays (residuals_of old) (residual (shape_at (residuals_of old) i) l) x → IsBook p new
-book_noted p old new i l x h e w s q k =
+book_noted p old new i l x h e ks w s q k =
     let as_nexts = h.as_many_nexts in
     let there = get_there old.nexts.items i (omega (arith, as_nexts, q)) in
     let set : new.nexts.items ≡ slice_set old.nexts.items i (next_with there.0 l x) =
@@ -226,6 +188,7 @@ book_noted p old new i l x h e w s q k =
     record {
       some = subst (λ z. 0 < length z) is h.some;
       whole = subst (λ z. shape_at z 0 ≡ normal_form p) is h.whole;
+      keys = ap (λ z. key_lists z) ks ∙ h.keys ∙ ap (λ z. map (λ s. regex_key s) z) is;
       words = w ∙ h.words ∙ ap (λ z. map (λ r. words_of r) z) is;
       as_many_nexts = ap (λ z. length z) set ∙ set_length old.nexts.items i (next_with there.0 l x) ∙ as_nexts ∙ ap (λ z. length z) is;
       once = subst (λ (z : List Shape). (i j : ℕ) → i < length z → j < length z → shape_at z i ≡ shape_at z j → i ≡ j) is h.once;
@@ -258,13 +221,22 @@ shape_there [] x i q = absurd (omega (arith, q))
 shape_there (y ∷ xs) x zero q = refl
 shape_there (y ∷ xs) x (suc i) q = shape_there xs x i (omega (arith, q))
 
-pub number_some : (b : Book) (xs : List Regex) (r : Shape) (i : ℕ) → xs ≡ b.residuals.items → Some i ≡ position (λ s. same_shape (shape_of s) r) xs →
-    IsFound (residuals_of b) (residuals_of b) r i
-number_some b xs r i e q = (inl refl, place_some b.residuals.items r i (q ∙ ap (λ z. position (λ s. same_shape (shape_of s) r) z) e))
+-- the key of r was looked up
 
-pub number_none : (b : Book) (xs : List Regex) (r : Shape) → xs ≡ b.residuals.items → None ≡ position (λ s. same_shape (shape_of s) r) xs → (i : ℕ) →
-    i < length (residuals_of b) → shape_at (residuals_of b) i ≡ r → ⊥
-number_none b xs r e q = place_none b.residuals.items r (q ∙ ap (λ z. position (λ s. same_shape (shape_of s) r) z) e)
+pub number_some : (p : Shape) (b : Book) (new : List (List ℕ)) (r : Shape) (key : List ℕ) (o : Option ℕ) (i : ℕ) → IsBook p b → key ≡ regex_key r →
+    IsPlaced (key_lists b.keys) new key o → o ≡ Some i → IsFound (residuals_of b) (residuals_of b) r i
+number_some p b new r key o i h e q t =
+    let placed = subst (λ z. IsPlaced (key_lists b.keys) new key z) t q in
+    (inl refl, number_there (residuals_of b) r i (ap (λ z. slice_get z i) (sym h.keys) ∙ placed.1 ∙ ap (λ z. Some z) e))
+
+pub number_none : (p : Shape) (b : Book) (new : List (List ℕ)) (r : Shape) (key : List ℕ) (o : Option ℕ) → IsBook p b → key ≡ regex_key r →
+    IsPlaced (key_lists b.keys) new key o → o ≡ None →
+    (new ≡ map (λ s. regex_key s) (residuals_of b) ++ regex_key r ∷ []) × ((i : ℕ) → i < length (residuals_of b) → shape_at (residuals_of b) i ≡ r → ⊥)
+number_none p b new r key o h e q t =
+    let placed = subst (λ z. IsPlaced (key_lists b.keys) new key z) t q in (
+      placed.0 ∙ ap (λ z. z ++ key ∷ []) h.keys ∙ ap (λ z. map (λ s. regex_key s) (residuals_of b) ++ z ∷ []) e,
+      number_nowhere (residuals_of b) r (λ i n. placed.1 i (ap (λ z. slice_get z i) h.keys ∙ n ∙ ap (λ z. Some z) (sym e))),
+    )
 
 pub rest_is : (b : Book) (x : Regex) (i : ℕ) (l : Letter) (d : Shape) → i < length b.residuals.items → x ≡ get_or b.residuals.items i x →
     d ≡ residual (shape_of x) l → d ≡ residual (shape_at (residuals_of b) i) l
@@ -272,14 +244,14 @@ rest_is b x i l d q r e = e ∙ ap (λ z. residual z l) (ap (λ z. shape_of z) r
 
 pub read_some_book : (p : Shape) (b0 b1 b2 : Book) (i j : ℕ) (l : Letter) (d : Shape) → IsBook p b1 → IsFound (residuals_of b0) (residuals_of b1) d j →
     i < length b0.residuals.items → d ≡ residual (shape_at (residuals_of b0) i) l → true ≡ has_word d → b2.residuals.items ≡ b1.residuals.items →
-    b2.words.items ≡ b1.words.items → IfSome (slice_get b1.nexts.items i) (λ n. b2.nexts.items ≡ slice_set b1.nexts.items i (next_with n l (Number j))) →
+    b2.keys ≡ b1.keys → b2.words.items ≡ b1.words.items → IfSome (slice_get b1.nexts.items i) (λ n. b2.nexts.items ≡ slice_set b1.nexts.items i (next_with n l (Number j))) →
     IsBook p b2
-read_some_book p b0 b1 b2 i j l d h f q e t r w n =
+read_some_book p b0 b1 b2 i j l d h f q e t r ks w n =
     let size : length (residuals_of b0) ≡ length b0.residuals.items = length-map b0.residuals.items (λ s. shape_of s) in
     let low : i < length (residuals_of b0) = omega (arith, q, size) in
     let long = found_longer (residuals_of b0) (residuals_of b1) d j f in
     let is : d ≡ residual (shape_at (residuals_of b1) i) l = e ∙ ap (λ z. residual z l) (sym (found_old (residuals_of b0) (residuals_of b1) d j i f low)) in
-    book_noted p b1 b2 i l (Number j) h r w n (omega (arith, low, long)) (ap (λ z. has_word z) (sym is) ∙ sym t, subst (λ z. IsNumberOf (residuals_of b1) z j) is f.1)
+    book_noted p b1 b2 i l (Number j) h r ks w n (omega (arith, low, long)) (ap (λ z. has_word z) (sym is) ∙ sym t, subst (λ z. IsNumberOf (residuals_of b1) z j) is f.1)
 
 pub read_some_after : (b0 b1 b2 : Book) (i j : ℕ) (l : Letter) (d : Shape) → IsFound (residuals_of b0) (residuals_of b1) d j →
     d ≡ residual (shape_at (residuals_of b0) i) l → true ≡ has_word d → b2.residuals.items ≡ b1.residuals.items →
@@ -289,11 +261,11 @@ read_some_after b0 b1 b2 i j l d f e t r =
     (subst (λ z. IsAfter (residuals_of b0) (residuals_of b1) z (Some j)) e (sym t, f))
 
 pub read_none_book : (p : Shape) (b0 b2 : Book) (i : ℕ) (l : Letter) (d : Shape) → IsBook p b0 → i < length b0.residuals.items →
-    d ≡ residual (shape_at (residuals_of b0) i) l → false ≡ has_word d → b2.residuals.items ≡ b0.residuals.items → b2.words.items ≡ b0.words.items →
+    d ≡ residual (shape_at (residuals_of b0) i) l → false ≡ has_word d → b2.residuals.items ≡ b0.residuals.items → b2.keys ≡ b0.keys → b2.words.items ≡ b0.words.items →
     IfSome (slice_get b0.nexts.items i) (λ n. b2.nexts.items ≡ slice_set b0.nexts.items i (next_with n l NoWord)) → IsBook p b2
-read_none_book p b0 b2 i l d h q e t r w n =
+read_none_book p b0 b2 i l d h q e t r ks w n =
     let size : length (residuals_of b0) ≡ length b0.residuals.items = length-map b0.residuals.items (λ s. shape_of s) in
-    book_noted p b0 b2 i l NoWord h r w n (omega (arith, q, size)) (ap (λ z. has_word z) (sym e) ∙ sym t)
+    book_noted p b0 b2 i l NoWord h r ks w n (omega (arith, q, size)) (ap (λ z. has_word z) (sym e) ∙ sym t)
 
 pub read_none_after : (b0 b2 : Book) (i : ℕ) (l : Letter) (d : Shape) → d ≡ residual (shape_at (residuals_of b0) i) l → false ≡ has_word d →
     b2.residuals.items ≡ b0.residuals.items → IsAfter (residuals_of b0) (residuals_of b2) (residual (shape_at (residuals_of b0) i) l) None

@@ -1,5 +1,5 @@
 -- One more step of a listing: what it shows, and what it lists.
-use Rattle.std.specs.Prelude.{◌≡◌, ◌⊎◌, ℕ, zero, suc, ◌+◌, ◌*◌, ◌<◌, ◌≤◌, Bool, true, false, List, [], ◌∷◌, ◌++◌, Some, map, length, get_or, slice_get, refl}
+use Rattle.std.specs.Prelude.{◌≡◌, ◌⊎◌, ℕ, zero, suc, ◌+◌, ◌*◌, ◌<◌, ◌≤◌, Bool, true, false, List, [], ◌∷◌, ◌++◌, Option, None, Some, map, length, get_or, slice_get, refl}
 use Rattle.std.specs.List.{AllByRecursion}
 use Rattle.std.proofs.Common.{Vec, Global, sym, ◌∙◌, ap, subst, inl, inr, arith, ⊎_elim}
 use Rattle.std.proofs.lemmas.List.{length-map, length-append, map-append}
@@ -21,9 +21,12 @@ use Rattle.ts_user.specs.SignatureOrder.{digit, place, signature_at}
 use Rattle.ts_user.specs.FirstReached.{blank, reached, agrees}
 use Rattle.ts_user.specs.BuildAnswers.{most_configurations, IsRefused, IsStop}
 use Rattle.ts_user.specs.Numbered.{AreNumbered, live_numbers, entry_numbers}
+use Rattle.ts_user.specs.declared.keys.Keys.{Keys}
+use Rattle.ts_user.specs.Keys.{key_lists, configuration_key, IsPlaced}
 use Rattle.ts_user.specs.Books.{residuals_of, IsBook, Grows, AreListed, values, value_of, IsStep}
 use Rattle.ts_user.specs.Listings.{IsTaken, IsReady, signatures_of, IsListed, AreSame, IsNew, IsFull}
 use Rattle.ts_user.proofs.Places.{place_push}
+use Rattle.ts_user.proofs.KeyLaws.{key_at, key_there, same_configuration, configuration_keys_same}
 use Rattle.ts_user.proofs.Books.{push_length, get_push, get_there}
 use Rattle.ts_user.proofs.Steps.{listed_grow, values_grow}
 use Rattle.ts_user.proofs.Taking.{reached_push, at_old, at_new, pass_more, take_old, take_new, ready_next, signatures_are}
@@ -184,13 +187,35 @@ is_refused s p t k l book to ok h q w e =
 
 -- the configuration is listed
 
-with_book : Listing → Book → Listing
-with_book t b = record { book = b; configurations = t.configurations; signatures = t.signatures }
+-- its key is there
+pub key_found : (cs : List Configuration) (old new : List (List ℕ)) (to : Configuration) (key : List ℕ) (o : Option ℕ) (i : ℕ) →
+    old ≡ map (λ x. configuration_key x) cs → key ≡ configuration_key to → IsPlaced old new key o → o ≡ Some i →
+    (x : Configuration) × (slice_get cs i ≡ Some x) × AreSame x to × (new ≡ map (λ x. configuration_key x) cs)
+key_found cs old new to key o i e k h q =
+    let placed = subst (λ z. IsPlaced old new key z) q h in
+    let x = key_at (λ x. configuration_key x) cs i key (ap (λ z. slice_get z i) (sym e) ∙ placed.1) in
+    (x.0, x.1, same_configuration x.0 to (x.2 ∙ k), placed.0 ∙ e)
+
+-- or it wasn't, and is now
+pub key_added : (cs : List Configuration) (old new : List (List ℕ)) (to : Configuration) (key : List ℕ) (o : Option ℕ) →
+    old ≡ map (λ x. configuration_key x) cs → key ≡ configuration_key to → IsPlaced old new key o → o ≡ None →
+    IsNew cs to × (new ≡ map (λ x. configuration_key x) cs ++ configuration_key to ∷ [])
+key_added cs old new to key o e k h q =
+    let placed = subst (λ z. IsPlaced old new key z) q h in (
+      λ i x t a. placed.1 i
+          (ap (λ z. slice_get z i) e ∙ key_there (λ x. configuration_key x) cs i x t ∙ ap (λ z. Some z) (configuration_keys_same x to a ∙ sym k)),
+      placed.0 ∙ ap (λ z. z ++ key ∷ []) e ∙ ap (λ z. map (λ x. configuration_key x) cs ++ z ∷ []) k,
+    )
+
+pub first_key : (old new : List (List ℕ)) (key : List ℕ) (o : Option ℕ) → old ≡ [] → IsPlaced old new key o → new ≡ key ∷ []
+first_key old new key None e h = h.0 ∙ ap (λ z. z ++ key ∷ []) e
+first_key old new key (Some i) e h = absurd (none-some key (ap (λ z. slice_get z i) (sym e) ∙ h.1))
 
 pub old_listed : (s : Subject Shape) (p : Shape) (t : Listing) (k : ℕ) (l : Letter) (book : Book) (to : Configuration) (ok : Bool) →
     IsLook s p t k l book to ok → (i : ℕ) (x : Configuration) → slice_get t.configurations.items i ≡ Some x → AreSame x to →
-    IsListed s p (record { book = book; configurations = t.configurations; signatures = t.signatures })
-old_listed s p t k l book to ok h i x e a =
+    (keys : Keys) → key_lists keys ≡ map (λ x. configuration_key x) t.configurations.items →
+    IsListed s p (record { book = book; configurations = t.configurations; signatures = t.signatures; keys = keys })
+old_listed s p t k l book to ok h i x e a keys ks =
     let was : AreListed (residuals_of t.book) x.live.items = (h.listed).listed i x e in
     let none : AllByRecursion (λ i. i < length (residuals_of t.book)) (live_numbers to.live.items) =
     subst (λ z. AllByRecursion (λ i. i < length (residuals_of t.book)) (live_numbers z)) a.1 was in
@@ -198,6 +223,7 @@ old_listed s p t k l book to ok h i x e a =
     none_new (length (residuals_of t.book)) (live_numbers to.live.items) (length (residuals_of book)) h.numbered none in
     record {
       book = h.is_book;
+      keys = ks;
       size = (h.listed).size;
       values = λ j y q. grown_value (residuals_of t.book) (residuals_of book) y h.grows ((h.listed).listed j y q) ∙ (h.listed).values j y q;
       listed = λ j y q. listed_grow (residuals_of t.book) (residuals_of book) y.live.items h.grows ((h.listed).listed j y q);
@@ -244,14 +270,16 @@ new_taken s p t new k l book to ok h q none e =
 
 pub new_listed : (s : Subject Shape) (p : Shape) (t new : Listing) (k : ℕ) (l : Letter) (book : Book) (to : Configuration) (ok : Bool) →
     IsLook s p t k l book to ok → new.book ≡ book → new.configurations.items ≡ t.configurations.items ++ to ∷ [] →
-    signatures_of new ≡ signatures_of t ++ (signature_at (signatures_of t) k ++ l ∷ []) ∷ [] → length t.configurations.items < most_configurations → IsListed s p new
-new_listed s p t new k l book to ok h eb ec ew few =
+    signatures_of new ≡ signatures_of t ++ (signature_at (signatures_of t) k ++ l ∷ []) ∷ [] → length t.configurations.items < most_configurations →
+    key_lists new.keys ≡ map (λ x. configuration_key x) t.configurations.items ++ configuration_key to ∷ [] → IsListed s p new
+new_listed s p t new k l book to ok h eb ec ew few ks =
     let w : List Letter = signature_at (signatures_of t) k ++ l ∷ [] in
     let size = (h.listed).size in
     let sc : length new.configurations.items ≡ length t.configurations.items + 1 = ap (λ z. length z) ec ∙ push_length t.configurations.items to in
     let sw : length (signatures_of new) ≡ length (signatures_of t) + 1 = ap (λ z. length z) ew ∙ push_length (signatures_of t) w in
     record {
       book = subst (λ z. IsBook p z) (sym eb) h.is_book;
+      keys = ks ∙ sym (map-append (λ x. configuration_key x) t.configurations.items (to ∷ [])) ∙ ap (λ z. map (λ x. configuration_key x) z) (sym ec);
       size = omega (arith, size, sc, sw);
       values = λ j y q. subst (λ z. value_of (residuals_of z) y ≡ reached s (signature_at (signatures_of new) j)) (sym eb)
           (subst (λ z. value_of (residuals_of book) y ≡ reached s (signature_at z j)) (sym ew)
@@ -352,10 +380,11 @@ taken_ready s p old new k g q e h =
 -- the first configuration
 
 pub first_listed : (s : Subject Shape) (p : Shape) (t : Listing) (x : Configuration) (w : Shape) → IsBook p t.book → residuals_of t.book ≡ w ∷ [] →
-    t.configurations.items ≡ x ∷ [] → x.state ≡ 0 → x.live.items ≡ [] → signatures_of t ≡ [] ∷ [] → IsListed s p t
-first_listed s p t x w b r c st lv ws =
+    t.configurations.items ≡ x ∷ [] → x.state ≡ 0 → x.live.items ≡ [] → signatures_of t ≡ [] ∷ [] → key_lists t.keys ≡ configuration_key x ∷ [] → IsListed s p t
+first_listed s p t x w b r c st lv ws ks =
     record {
       book = b;
+      keys = ks ∙ ap (λ z. map (λ x. configuration_key x) z) (sym c);
       size = ap (λ z. length z) c ∙ sym (ap (λ z. length z) ws);
       values = λ i y q. value_in i y (ap (λ z. slice_get z i) (sym c) ∙ q) ∙ ap (λ z. reached s (signature_at z i)) (sym ws);
       listed = λ i y q. listed_in i y (ap (λ z. slice_get z i) (sym c) ∙ q);

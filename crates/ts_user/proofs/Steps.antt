@@ -1,9 +1,9 @@
 -- The step of a configuration by numbers of residuals that are found on the way is the step by the residuals
 -- themselves.
-use Rattle.std.specs.Prelude.{◌≡◌, ℕ, zero, suc, ◌+◌, ◌<◌, ◌≤◌, ◌==◌, Bool, true, false, cond, not, ◌&&◌, ◌||◌, List, [], ◌∷◌, ◌++◌, None, Some, map, take, length, get_or, slice_get, refl}
+use Rattle.std.specs.Prelude.{◌≡◌, ℕ, zero, suc, ◌+◌, ◌<◌, ◌≤◌, ◌==◌, Bool, true, false, cond, not, ◌&&◌, ◌||◌, List, [], ◌∷◌, ◌++◌, None, Some, map, take, length, get_or, slice_get, nat_eq, if◌then◌else◌, refl}
 use Rattle.std.specs.List.{list_all, list_any, AllByRecursion}
 use Rattle.std.proofs.Common.{sym, ◌∙◌, ap, subst, inl, inr, arith, ⊎_elim, take_all}
-use Rattle.std.proofs.lemmas.Bool.{eqb-true, eq-eqb}
+use Rattle.std.proofs.lemmas.Bool.{false≢true, eqb-true, eq-eqb}
 use Rattle.std.proofs.lemmas.List.{length-map, map-append, take_more}
 use Rattle.ts_base.specs.declared.letter.Letter.{Letter}
 use Rattle.ts_regex.specs.Shape.{Shape, shape_of}
@@ -161,6 +161,32 @@ numbers_push es j g = map-append (λ (e : Live). e.residual) es (record { residu
 all_push : (n j : ℕ) (is : List ℕ) → j < n → AllByRecursion (λ i. i < n) is → AllByRecursion (λ i. i < n) (is ++ j ∷ [])
 all_push n j [] q h = (q, tt)
 all_push n j (i ∷ is) q h = (h.0, all_push n j is q h.1)
+
+-- whether a number stands among those of the entries
+stands_same : (j : ℕ) (es : List Live) → list_any (nat_eq j) (live_numbers es) ≡ list_any (λ (e : Live). e.residual == j) es
+stands_same j [] = refl
+stands_same j (e ∷ es) =
+    ap (λ z. z || list_any (nat_eq j) (live_numbers es))
+    (bools_same (nat_eq j e.residual) (e.residual == j) (λ q. eq-eqb e.residual j (sym (eqb-true j e.residual q)))
+    (λ q. eq-eqb j e.residual (sym (eqb-true e.residual j q))))
+    ∙ ap (λ z. (e.residual == j) || z) (stands_same j es)
+
+abbrev pub entry_on : Bool → List Live → ℕ → Tag → List Live
+entry_on stands es j g = if stands then es else es ++ record { residual = j; tag = g } ∷ []
+
+-- an entry is added, since its number is new, or isn't
+pub entry_told : (stands : Bool) (es new : List Live) (ns : List ℕ) (j : ℕ) (g : Tag) (is_new : Bool) → ns ≡ live_numbers es →
+    is_new ≡ not (list_any (nat_eq j) ns) → is_new ≡ not stands → new ≡ entry_on stands es j g → new ≡ with_new es j g
+entry_told stands es new ns j g is_new e a q n =
+    let any : list_any (nat_eq j) (live_numbers es) ≡ stands =
+    nots_same (list_any (nat_eq j) (live_numbers es)) stands (ap (λ z. not (list_any (nat_eq j) z)) (sym e) ∙ sym a ∙ q) in
+    n ∙ ap (λ z. entry_on z es j g) (sym any ∙ stands_same j es)
+  where
+    nots_same : (b d : Bool) → not b ≡ not d → b ≡ d
+    nots_same true true q = refl
+    nots_same true false q = absurd (false≢true q)
+    nots_same false true q = absurd (false≢true (sym q))
+    nots_same false false q = refl
 
 pub added_some : (old new : List Shape) (l : Letter) (e : Live) (es after : List Live) (j : ℕ) → AreListed old es →
     IsAfter old new (residual (shape_at old e.residual) l) (Some j) → ((i k : ℕ) → i < length new → k < length new → shape_at new i ≡ shape_at new k → i ≡ k) →

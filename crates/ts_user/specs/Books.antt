@@ -19,6 +19,8 @@ use Rattle.ts_user.specs.declared.book.Next.{Next}
 use Rattle.ts_user.specs.declared.book.Next.TheVariants.{Unread, NoWord, Number}
 use Rattle.ts_user.specs.declared.book.Nexts.{Nexts}
 use Rattle.ts_user.specs.declared.book.Book.{Book}
+use Rattle.ts_user.specs.declared.step.KeptEntries.{KeptEntries}
+use Rattle.ts_user.specs.Keys.{key_lists, regex_key}
 use Rattle.ts_user.specs.FirstReached.{agrees}
 use Rattle.ts_user.specs.Numbered.{AreDifferent, AreNumbered, live_numbers}
 
@@ -54,6 +56,7 @@ NextsSay rs r n = (l : Letter) → NextSays rs (residual r l) (next_on l n)
 pub record IsBook (p : Shape) (b : Book) : Type 0 where
   pub some : 0 < length (residuals_of b)
   pub whole : shape_at (residuals_of b) 0 ≡ normal_form p
+  pub keys : key_lists b.keys ≡ map regex_key (residuals_of b)
   pub words : b.words.items ≡ map (λ r. words_of r) (residuals_of b)
   pub as_many_nexts : length b.nexts.items ≡ length (residuals_of b)
   pub once : AreDifferent (residuals_of b)
@@ -99,6 +102,10 @@ pub record IsLeft (old new : List Shape) (whole : Shape) (b : ℕ) (l : Letter) 
   pub value : values new kept ≡ survivors shapes l (with_start tt whole b (values old live))
   pub listed : AreListed new kept
   pub numbered : AreNumbered (length old) (live_numbers kept) (length new)
+
+-- the numbers of the residuals stand beside the entries
+abbrev pub HasNumbers : KeptEntries → Type 0
+HasNumbers kept = kept.numbers.keys ≡ live_numbers kept.live.items
 
 -- an entry with residual j, unless one stands there
 abbrev pub with_new : List Live → ℕ → Tag → List Live

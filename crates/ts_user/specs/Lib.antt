@@ -2,6 +2,7 @@ pub mod SignatureOrder
 pub mod FirstReached
 pub mod BuildAnswers
 pub mod Numbered
+pub mod Keys
 pub mod Books
 pub mod Listings
 pub mod Grammar

@@ -8,6 +8,7 @@ use Rattle.ts_user.specs.declared.listing.Listing.{Listing}
 use Rattle.ts_user.specs.declared.build_stop.BuildStop.{BuildStop}
 use Rattle.ts_user.specs.declared.build_stop.BuildStop.TheVariants.{Refused, TooMany, Memory}
 use Rattle.ts_user.specs.BuildAnswers.{most_configurations}
+use Rattle.ts_user.specs.Keys.{key_lists, configuration_key}
 use Rattle.ts_user.specs.Books.{residuals_of, IsBook, AreListed, value_of}
 use Rattle.ts_user.specs.Numbered.{AreNumbered, entry_numbers}
 use Rattle.ts_user.specs.SignatureOrder.{place, signature_at}
@@ -45,6 +46,7 @@ signatures_of t = map (λ w. w.items) t.signatures.items
 -- configuration i has at most i entries
 pub record IsListed (s : Subject Shape) (p : Shape) (t : Listing) : Type 0 where
   pub book : IsBook p t.book
+  pub keys : key_lists t.keys ≡ map configuration_key t.configurations.items
   pub size : length t.configurations.items ≡ length (signatures_of t)
   pub values : (i : ℕ) (x : Configuration) → slice_get t.configurations.items i ≡ Some x →
       value_of (residuals_of t.book) x ≡ reached s (signature_at (signatures_of t) i)

@@ -1,15 +1,15 @@
 //! The residuals that have come up, each once, and what a letter leaves of each, as far as it was asked.
 
 ghost use Rattle.std.specs.Prelude.{◌≡◌, ◌<◌, ◌++◌, [], ◌∷◌, ℕ, IfOk, IfSome, MatchOption, Option, length, map, slice_set, slice_get};
-ghost use Rattle.std.specs.List.{position};
 ghost use Rattle.ts_regex.specs.Shape.{shape_of};
-ghost use Rattle.ts_regex.specs.NormalForm.{residual, normal_form, same_shape};
+ghost use Rattle.ts_regex.specs.NormalForm.{residual, normal_form};
 ghost use Rattle.ts_pattern.specs.Entries.{shapes};
 ghost use Rattle.ts_pattern.specs.Plans.{shape_at};
 ghost use Rattle.ts_validate.specs.Facts.{words_of, kept_by};
 ghost use Rattle.ts_user.specs.Books.{residuals_of, next_on, next_with, NextSays, IsBook, IsFound, IsAfter, IsNumberOf};
 ghost use Rattle.ts_user.specs.Books.{all_unread, AreListed, values};
 
+use crate::keys::{Keys, regex_key};
 use std::alloc::Global;
 use ts_base::{Letter, Memory};
 use ts_pattern::{Live, Pattern};
@@ -70,10 +70,12 @@ impl Nexts {
     }
 }
 
-/// Residuals, no two of them the same, the whole pattern first; of each which words it has, and what a letter leaves.
+/// Residuals, no two of them the same, the whole pattern first; of each its key, which words it has,
+/// and what a letter leaves.
 #[derive(Drop)]
 pub struct Book {
     pub residuals: Vec<Regex>,
+    pub keys: Keys,
     pub words: Vec<Words>,
     pub nexts: Vec<Nexts>,
 }
@@ -85,6 +87,8 @@ impl Book {
         ensures whole { IfOk result (λ b. residuals_of b ≡ normal_form (shape_of p.now.regex) ∷ []) }
     {
         let whole = normal(alloc, &p.regex)?;
+        let mut keys = Keys::new(alloc);
+        keys.place(regex_key(alloc, &whole)?)?;
         let mut words = Vec::new(alloc);
         words.push(Words::of(&whole))?;
         let mut nexts = Vec::new(alloc);
@@ -93,15 +97,17 @@ impl Book {
         residuals.push(whole)?;
         Ok(Book {
             residuals,
+            keys,
             words,
             nexts,
         })
     }
 
-    /// Adds a residual as the last.
+    /// Adds a residual as the last; its key is there.
     fn add(&mut self, r: Regex) -> Result<u32, Memory>
         requires { length self.old.residuals.items < 4000000000 }
         ensures number { IfOk result (λ j. j ≡ length self.old.residuals.items) }
+        ensures keys { self.new.keys ≡ self.old.keys }
         ensures residuals { IfOk result (λ _. self.new.residuals.items ≡ self.old.residuals.items ++ r ∷ []) }
         ensures words { IfOk result (λ _. self.new.words.items ≡ self.old.words.items ++ words_of (shape_of r) ∷ []) }
         ensures nexts { IfOk result (λ _. self.new.nexts.items ≡ self.old.nexts.items ++ all_unread ∷ []) }
@@ -114,13 +120,13 @@ impl Book {
     }
 
     /// The number of a residual, which is added where it hasn't come up.
-    fn number(&mut self, r: Regex, p: &Pattern) -> Result<u32, Memory>
+    fn number(&mut self, alloc: Global, r: Regex, p: &Pattern) -> Result<u32, Memory>
         requires book { IsBook (shape_of p.now.regex) self.old }
         requires room { length self.old.residuals.items < 4000000000 }
         ensures book { IfOk result (λ _. IsBook (shape_of p.now.regex) self.new) }
         ensures found { IfOk result (λ j. IsFound (residuals_of self.old) (residuals_of self.new) (shape_of r) j) }
     {
-        match position(&self.residuals, &r) {
+        match self.keys.place(regex_key(alloc, &r)?)? {
             Some(i) => Ok(i as u32),
             None => {
                 let last = self.add(r)?;
@@ -168,7 +174,7 @@ impl Book {
     {
         let rest = residual(alloc, &self.residuals[i as usize], letter)?;
         if has_word(&rest) {
-            let j = self.number(rest, p)?;
+            let j = self.number(alloc, rest, p)?;
             self.note(i, letter, Next::Number(j));
             Ok(Some(j))
         } else {
@@ -197,6 +203,7 @@ impl Book {
     fn note(&mut self, i: u32, letter: Letter, next: Next)
         requires { i < length self.old.nexts.items }
         ensures residuals { self.new.residuals.items ≡ self.old.residuals.items }
+        ensures keys { self.new.keys ≡ self.old.keys }
         ensures words { self.new.words.items ≡ self.old.words.items }
         ensures nexts { IfSome (slice_get self.old.nexts.items i) (λ n.
             self.new.nexts.items ≡ slice_set self.old.nexts.items i (next_with n letter next)) }
@@ -204,11 +211,4 @@ impl Book {
         let known = self.nexts[i as usize];
         self.nexts[i as usize] = known.with(letter, next);
     }
-}
-
-/// The place of a residual among others.
-fn position(residuals: &[Regex], r: &Regex) -> Option<usize>
-    ensures { result ≡ position (λ s. same_shape (shape_of s) (shape_of r.now)) residuals.now }
-{
-    residuals.iter().position(|s| s.same(r))
 }

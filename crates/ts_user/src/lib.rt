@@ -22,6 +22,7 @@ mod build_stop;
 mod draft;
 mod ended;
 mod expression;
+mod keys;
 pub mod laws;
 mod levels;
 mod listing;

@@ -1,14 +1,14 @@
 //! The configurations that are listed, each with the signature by which it was first reached.
 
-ghost use Rattle.std.specs.Prelude.{◌≡◌, ◌↔◌, ◌+◌, ◌<◌, ◌≤◌, ◌++◌, [], ◌∷◌, ℕ, Some, IfOk, IfErr, MatchOption, IsTrue, length, slice_get};
+ghost use Rattle.std.specs.Prelude.{◌≡◌, ◌+◌, ◌<◌, ◌≤◌, ◌++◌, [], ◌∷◌, IfOk, IfErr, length};
 ghost use Rattle.ts_regex.specs.Shape.{shape_of};
-ghost use Rattle.ts_pattern.specs.declared.plan.Configuration.{Configuration};
 ghost use Rattle.ts_user.specs.SignatureOrder.{place, signature_at};
 ghost use Rattle.ts_user.specs.BuildAnswers.{unplanned_of, IsStop};
-ghost use Rattle.ts_user.specs.Listings.{IsTaken, IsReady, IsListed, AreSame, IsNew, IsFull, signatures_of};
+ghost use Rattle.ts_user.specs.Listings.{IsTaken, IsReady, IsListed, IsFull, signatures_of};
 
 use crate::book::Book;
 use crate::build_stop::BuildStop;
+use crate::keys::{Keys, configuration_key};
 use crate::step::make_step;
 use std::alloc::Global;
 use ts_base::{Letter, Memory};
@@ -18,13 +18,14 @@ use ts_transducer::Row;
 /// The most configurations of a plan that is built.
 const MOST: usize = 512;
 
-/// Configurations in the order in which they are first reached, their signatures, and the residuals that stand in
-/// them.
+/// Configurations in the order in which they are first reached, their signatures and keys, and the residuals
+/// that stand in them.
 #[derive(Drop)]
 pub struct Listing {
     pub book: Book,
     pub configurations: Vec<Configuration>,
     pub signatures: Vec<Vec<Letter>>,
+    pub keys: Keys,
 }
 
 impl Listing {
@@ -38,6 +39,9 @@ impl Listing {
             state: 0,
             live: Vec::new(alloc),
         };
+        let mut keys = Keys::new(alloc);
+        let key = configuration_key(alloc, &blank)?;
+        keys.place(key)?;
         let mut configurations = Vec::new(alloc);
         configurations.push(blank)?;
         let mut signatures = Vec::new(alloc);
@@ -46,6 +50,7 @@ impl Listing {
             book,
             configurations,
             signatures,
+            keys,
         })
     }
 
@@ -77,7 +82,9 @@ impl Listing {
         if !seen.agrees {
             return Err(BuildStop::Refused { signature });
         }
-        match position(&self.configurations, &seen.to) {
+        let key = configuration_key(alloc, &seen.to)?;
+        let listed = self.keys.place(key)?;
+        match listed {
             Some(_) => Ok(()),
             None => match self.list(seen.to, signature) {
                 Ok(()) => Ok(()),
@@ -86,9 +93,10 @@ impl Listing {
         }
     }
 
-    /// Lists a configuration, unless there are 512.
+    /// Lists a configuration whose key is there, unless there are 512.
     fn list(&mut self, to: Configuration, signature: Vec<Letter>) -> Result<(), BuildStop>
         ensures book { self.new.book ≡ self.old.book }
+        ensures keys { self.new.keys ≡ self.old.keys }
         ensures configurations { IfOk result (λ _.
             self.new.configurations.items ≡ self.old.configurations.items ++ to ∷ []) }
         ensures signatures { IfOk result (λ _.
@@ -105,6 +113,7 @@ impl Listing {
 
     fn push(&mut self, to: Configuration, signature: Vec<Letter>) -> Result<(), Memory>
         ensures book { self.new.book ≡ self.old.book }
+        ensures keys { self.new.keys ≡ self.old.keys }
         ensures configurations { IfOk result (λ _.
             self.new.configurations.items ≡ self.old.configurations.items ++ to ∷ []) }
         ensures signatures { IfOk result (λ _.
@@ -147,9 +156,11 @@ impl Listing {
             book,
             configurations,
             signatures: _,
+            keys: _,
         } = self;
         let Book {
             residuals,
+            keys: _,
             words: _,
             nexts: _,
         } = book;
@@ -168,24 +179,4 @@ fn longer(alloc: Global, signs: &[Letter], letter: Letter) -> Result<Vec<Letter>
     all.extend_from_slice(signs)?;
     all.push(letter)?;
     Ok(all)
-}
-
-/// Whether the two have the same state and the same entries.
-fn same(x: &Configuration, y: &Configuration) -> bool
-    ensures { IsTrue result ↔ AreSame x.now y.now }
-{
-    x.state == y.state && x.live.as_slice() == y.live.as_slice()
-}
-
-/// Where a configuration is listed.
-fn position(configurations: &[Configuration], to: &Configuration) -> Option<usize>
-    ensures { MatchOption result (IsNew configurations.now to.now)
-        (λ i. (x : Configuration) × (slice_get configurations.now i ≡ Some x) × AreSame x to.now) }
-{
-    for i in 0..configurations.len() {
-        if same(&configurations[i], to) {
-            return Some(i);
-        }
-    }
-    None
 }

@@ -1,40 +1,52 @@
 //! The step of a configuration on a letter, and whether the checks hold of it.
 
-ghost use Rattle.std.specs.Prelude.{◌≡◌, ◌==◌, ◌+◌, ◌<◌, IfOk, length};
-ghost use Rattle.std.specs.List.{list_any};
+ghost use Rattle.std.specs.Prelude.{◌≡◌, ◌+◌, ◌<◌, [], IfOk, length};
 ghost use Rattle.ts_regex.specs.Shape.{shape_of};
 ghost use Rattle.ts_regex.specs.NormalForm.{normal_form};
 ghost use Rattle.ts_pattern.specs.Closed.{retag_entries};
 ghost use Rattle.ts_validate.specs.Numbers.{plain_lives};
 ghost use Rattle.ts_user.specs.Numbered.{live_numbers};
 ghost use Rattle.ts_user.specs.BuildAnswers.{unplanned_of};
-ghost use Rattle.ts_user.specs.Books.{residuals_of, IsBook, AreListed, IsAdded, IsLeft, IsStep, with_new};
+ghost use Rattle.ts_user.specs.Books.{residuals_of, IsBook, AreListed, IsAdded, IsLeft, IsStep, HasNumbers, with_new};
 
 use crate::book::Book;
+use indexmap::IndexSet;
 use std::alloc::Global;
 use ts_base::{Letter, Memory};
-use ts_pattern::{Configuration, Live, Pattern};
+use ts_pattern::{Configuration, Live, Pattern, Tag};
 use ts_transducer::{Phase, Row};
 use ts_validate::{first_tag, kept_agree, none_kept, row, tag_after};
 
-/// Whether an entry that is kept has the residual of this number.
-fn stands(residual: u32, kept: &[Live]) -> bool
-    ensures { result ≡ list_any (λ k. k.residual == residual) kept.now }
-{
-    kept.iter().any(|k| k.residual == residual)
+/// The entries that a step keeps, and the numbers of their residuals, which are found by their hashes.
+#[derive(Drop)]
+pub struct KeptEntries {
+    pub live: Vec<Live>,
+    pub numbers: IndexSet<u32>,
 }
 
-/// Adds an entry with this residual, unless one stands there.
-fn add_new(residual: u32, entry: Live, kept: &mut Vec<Live>) -> Result<(), Memory>
-    ensures { IfOk result (λ _. kept.new.items ≡ with_new kept.old.items residual entry.tag) }
-{
-    if !stands(residual, kept) {
-        kept.push(Live {
-            residual,
-            tag: entry.tag,
-        })?;
+impl KeptEntries {
+    /// No entry.
+    fn new(alloc: Global) -> KeptEntries
+        ensures none { result.live.items ≡ [] }
+        ensures found { HasNumbers result }
+    {
+        KeptEntries {
+            live: Vec::new(alloc),
+            numbers: IndexSet::new(alloc),
+        }
     }
-    Ok(())
+
+    /// Adds an entry with this residual, unless one stands there.
+    fn add(&mut self, residual: u32, tag: Tag) -> Result<(), Memory>
+        requires { HasNumbers self.old }
+        ensures added { IfOk result (λ _. self.new.live.items ≡ with_new self.old.live.items residual tag) }
+        ensures found { IfOk result (λ _. HasNumbers self.new) }
+    {
+        if self.numbers.insert(residual)? {
+            self.live.push(Live { residual, tag })?;
+        }
+        Ok(())
+    }
 }
 
 /// Adds what the letter leaves of an entry: nothing where its residual has no word, or is that of an earlier one.
@@ -44,20 +56,23 @@ fn add_left(
     p: &Pattern,
     letter: Letter,
     entry: Live,
-    kept: &mut Vec<Live>,
+    kept: &mut KeptEntries,
 ) -> Result<(), Memory>
     requires book { IsBook (shape_of p.now.regex) book.old }
     requires there { entry.residual < length book.old.residuals.items }
-    requires listed { AreListed (residuals_of book.old) kept.old.items }
+    requires listed { AreListed (residuals_of book.old) kept.old.live.items }
+    requires found { HasNumbers kept.old }
     requires room { length book.old.residuals.items < 4000000000 }
     ensures book { IfOk result (λ _. IsBook (shape_of p.now.regex) book.new) }
     ensures added { IfOk result (λ _.
-        IsAdded (residuals_of book.old) (residuals_of book.new) letter entry kept.old.items kept.new.items) }
+        IsAdded (residuals_of book.old) (residuals_of book.new) letter entry kept.old.live.items
+        kept.new.live.items) }
+    ensures found { IfOk result (λ _. HasNumbers kept.new) }
 {
     match book.after(alloc, p, entry.residual, letter)? {
         None => Ok(()),
         Some(residual) => {
-            add_new(residual, entry, kept)?;
+            kept.add(residual, entry.tag)?;
             Ok(())
         }
     }
@@ -78,7 +93,7 @@ fn left(
     ensures left { IfOk result (λ v. IsLeft (residuals_of book.old) (residuals_of book.new)
         (normal_form (shape_of p.now.regex)) p.now.b letter live.now v.items) }
 {
-    let mut kept = Vec::new(alloc);
+    let mut kept = KeptEntries::new(alloc);
     for entry in live {
         add_left(alloc, book, p, letter, *entry, &mut kept)?;
     }
@@ -87,7 +102,7 @@ fn left(
         tag: first_tag(p.b),
     };
     add_left(alloc, book, p, letter, new, &mut kept)?;
-    Ok(kept)
+    Ok(kept.live)
 }
 
 /// The entries with their tags after the step.

@@ -1,8 +1,8 @@
-use Rattle.std.proofs.Common.{◌∙◌, subst, ap, sym, slice_get}
+use Rattle.std.proofs.Common.{◌∙◌, ap}
 use Rattle.ts_regex.specs.Shape.{shape_of}
 use Rattle.ts_user.specs.BuildAnswers.{unplanned_of}
-use Rattle.ts_user.specs.Listings.{IsNew}
-use Rattle.ts_user.proofs.Listings.{here_listed, room_for, looked, longer_is, words_pushed, is_refused, old_listed, old_taken, new_listed, new_taken, new_words, is_full}
+use Rattle.ts_user.specs.Keys.{key_lists}
+use Rattle.ts_user.proofs.Listings.{here_listed, room_for, looked, key_found, key_added, longer_is, words_pushed, is_refused, old_listed, old_taken, new_listed, new_taken, new_words, is_full}
 use Rattle.ts_user.proofs.listing.Listing.take.Goals as goal
 
 pub make_step-requires-clause-listed : goal.make_step-requires-clause-listed
@@ -37,9 +37,10 @@ returns-in-Some-clause-listed c =
     let ok = c.in_ok-seen.seen.agrees in
     let look = looked s p t c.args.from c.args.letter c.make_step.new.book c.index-here.result.now to ok c.requires.listed c.requires.there c.requires.taken
     c.index-here.ensures c.in_ok-seen.ensures.book c.in_ok-seen.ensures.step in
-    let x = c.in-Some.ensures in
-    let there = ap (λ z. slice_get z c.in-Some.field-0) (sym c.deref-2.ensures.value) ∙ x.1 in
-    old_listed s p t c.args.from c.args.letter c.make_step.new.book to ok look c.in-Some.field-0 x.0 there x.2
+    let x = key_found t.configurations.items (key_lists t.keys) (key_lists c.place.new.self) to c.in_ok-key.key.items c.in_ok-listed.listed c.in-Some.field-0
+    c.requires.listed.keys c.in_ok-key.ensures c.in_ok-listed.ensures c.in-Some.is in
+    old_listed s p t c.args.from c.args.letter c.make_step.new.book to ok look c.in-Some.field-0 x.0 x.1 x.2
+    c.place.new.self x.3
 
 pub returns-in-Some-clause-taken : goal.returns-in-Some-clause-taken
 returns-in-Some-clause-taken c =
@@ -50,9 +51,9 @@ returns-in-Some-clause-taken c =
     let ok = c.in_ok-seen.seen.agrees in
     let look = looked s p t c.args.from c.args.letter c.make_step.new.book c.index-here.result.now to ok c.requires.listed c.requires.there c.requires.taken
     c.index-here.ensures c.in_ok-seen.ensures.book c.in_ok-seen.ensures.step in
-    let x = c.in-Some.ensures in
-    let there = ap (λ z. slice_get z c.in-Some.field-0) (sym c.deref-2.ensures.value) ∙ x.1 in
-    old_taken s p t c.args.from c.args.letter c.make_step.new.book to ok look c.if-not-seen.false c.in-Some.field-0 x.0 there x.2
+    let x = key_found t.configurations.items (key_lists t.keys) (key_lists c.place.new.self) to c.in_ok-key.key.items c.in_ok-listed.listed c.in-Some.field-0
+    c.requires.listed.keys c.in_ok-key.ensures c.in_ok-listed.ensures c.in-Some.is in
+    old_taken s p t c.args.from c.args.letter c.make_step.new.book to ok look c.if-not-seen.false c.in-Some.field-0 x.0 x.1 x.2
 
 pub returns-in-Err-clause-stop : goal.returns-in-Err-clause-stop
 returns-in-Err-clause-stop c =
@@ -63,8 +64,9 @@ returns-in-Err-clause-stop c =
     let ok = c.in_ok-seen.seen.agrees in
     let look = looked s p t c.args.from c.args.letter c.make_step.new.book c.index-here.result.now to ok c.requires.listed c.requires.there c.requires.taken
     c.index-here.ensures c.in_ok-seen.ensures.book c.in_ok-seen.ensures.step in
-    let none = subst (λ z. IsNew z to) c.deref-2.ensures.value c.in-None.ensures in
-    is_full s p t c.args.from c.args.letter c.make_step.new.book to ok look c.if-not-seen.false none c.in-Err.stop c.in-Err.ensures.full
+    let added = key_added t.configurations.items (key_lists t.keys) (key_lists c.place.new.self) to c.in_ok-key.key.items c.in_ok-listed.listed
+    c.requires.listed.keys c.in_ok-key.ensures c.in_ok-listed.ensures c.in-None.is in
+    is_full s p t c.args.from c.args.letter c.make_step.new.book to ok look c.if-not-seen.false added.0 c.in-Err.stop c.in-Err.ensures.full
 
 pub returns-in-Ok-clause-listed : goal.returns-in-Ok-clause-listed
 returns-in-Ok-clause-listed c =
@@ -75,11 +77,13 @@ returns-in-Ok-clause-listed c =
     let ok = c.in_ok-seen.seen.agrees in
     let look = looked s p t c.args.from c.args.letter c.make_step.new.book c.index-here.result.now to ok c.requires.listed c.requires.there c.requires.taken
     c.index-here.ensures c.in_ok-seen.ensures.book c.in_ok-seen.ensures.step in
+    let added = key_added t.configurations.items (key_lists t.keys) (key_lists c.place.new.self) to c.in_ok-key.key.items c.in_ok-listed.listed
+    c.requires.listed.keys c.in_ok-key.ensures c.in_ok-listed.ensures c.in-None.is in
     let longer = longer_is t c.args.from c.args.letter c.index.result.now c.deref.result.now c.in_ok-signature.signature.items c.requires.there
     c.requires.listed.size c.index.ensures c.deref.ensures.value c.in_ok-signature.ensures in
     let words = words_pushed t c.list.new.self c.in_ok-signature.signature _ c.in-Ok.ensures.signatures longer in
     new_listed s p t c.list.new.self c.args.from c.args.letter c.make_step.new.book to ok look c.in-Ok.ensures.book c.in-Ok.ensures.configurations words
-    c.in-Ok.ensures.few
+    c.in-Ok.ensures.few (ap key_lists c.in-Ok.ensures.keys ∙ added.1)
 
 pub returns-in-Ok-clause-taken : goal.returns-in-Ok-clause-taken
 returns-in-Ok-clause-taken c =
@@ -90,11 +94,12 @@ returns-in-Ok-clause-taken c =
     let ok = c.in_ok-seen.seen.agrees in
     let look = looked s p t c.args.from c.args.letter c.make_step.new.book c.index-here.result.now to ok c.requires.listed c.requires.there c.requires.taken
     c.index-here.ensures c.in_ok-seen.ensures.book c.in_ok-seen.ensures.step in
-    let none = subst (λ z. IsNew z to) c.deref-2.ensures.value c.in-None.ensures in
+    let added = key_added t.configurations.items (key_lists t.keys) (key_lists c.place.new.self) to c.in_ok-key.key.items c.in_ok-listed.listed
+    c.requires.listed.keys c.in_ok-key.ensures c.in_ok-listed.ensures c.in-None.is in
     let longer = longer_is t c.args.from c.args.letter c.index.result.now c.deref.result.now c.in_ok-signature.signature.items c.requires.there
     c.requires.listed.size c.index.ensures c.deref.ensures.value c.in_ok-signature.ensures in
     let words = words_pushed t c.list.new.self c.in_ok-signature.signature _ c.in-Ok.ensures.signatures longer in
-    new_taken s p t c.list.new.self c.args.from c.args.letter c.make_step.new.book to ok look c.if-not-seen.false none words
+    new_taken s p t c.list.new.self c.args.from c.args.letter c.make_step.new.book to ok look c.if-not-seen.false added.0 words
 
 pub returns-in-Ok-clause-same : goal.returns-in-Ok-clause-same
 returns-in-Ok-clause-same c =
