@@ -1,7 +1,6 @@
 -- An expression that is read from its end is the one of the grammar.
 use Rattle.std.specs.Prelude.{◌≡◌, ◌↔◌, ℕ, take, drop, ◌+◌, ◌≤◌, ◌==◌, Bool, true, false, List, [], ◌∷◌, ◌++◌, nat_le, Option, Some, None, cond}
-use Rattle.std.proofs.Math.Seq.{drop-cons}
-use Rattle.std.proofs.Common.{zero, suc, ◌<◌, ◌-◌, length, get_or, refl, sym, ap, subst, ◌∙◌, arith, append_assoc, append-nil}
+use Rattle.std.proofs.Common.{◌-◌, length, refl, sym, ap, subst, ◌∙◌, arith, append_assoc, append-nil}
 use Rattle.std.proofs.lemmas.Option.{same_Some}
 use Rattle.std.proofs.lemmas.List.{take-append-drop}
 use Rattle.ts_base.specs.declared.letter.Letter.{Letter}
@@ -12,7 +11,7 @@ use Rattle.ts_user.specs.declared.symbol.Symbol.TheVariants.{Sign, Open, Close, 
 use Rattle.ts_user.specs.declared.symbol.Repeat.{Repeat}
 use Rattle.ts_user.specs.declared.symbol.Repeat.TheVariants.{AnyTimes, OnceOrMore}
 use Rattle.ts_user.specs.Grammar.{byte_of, Level, Whole, Sequence, Repetition, Atom, Means, SignMeans, InBrackets, OneTime, ManyTimes, SomeTimes, LastPart, MoreParts, LastChoice, MoreChoices, nodes}
-use Rattle.ts_user.specs.FromTheEnd.{symbol_of, bounded, bounded_star, bounded_cat, bounded_alt, Within, Levels, blank_level, blank_levels, repeated, onto_sequence, with_atom, closed_as, closed, repeat_read, or_read, open_read, symbol_read, byte_read, levels_of, ended_at, ended, read_within, most_nodes, expression_of, IsExpression}
+use Rattle.ts_user.specs.FromTheEnd.{symbol_of, bounded, bounded_star, bounded_cat, bounded_alt, Within, Levels, blank_level, blank_levels, repeated, onto_sequence, with_atom, closed_as, closed, repeat_read, or_read, open_read, symbol_read, byte_read, read_onto, levels_of, ended_at, ended, read_within, most_nodes, expression_of, IsExpression}
 
 -- a bound of the parts is a bound of the whole
 star_bounded : (most : ℕ) (r : Shape) → bounded_star most (bounded most r) ≡ bounded most (Star r)
@@ -65,18 +64,9 @@ symbol_is b s h = by (b == 60) (b == 61) (b == 62) (b == 40) (b == 41) (b == 42)
     by false false false false false false false false e1 e2 e3 e4 e5 e6 e7 e8 h = cc
 
 module _ (most : ℕ) where
-  -- bytes read after, which stand before
-  abbrev read_onto : List ℕ → Option Levels → Option Levels
-  read_onto [] x = x
-  read_onto (b ∷ bs) x = byte_read most b (read_onto bs x)
-
-  onto_append : (u v : List ℕ) (x : Option Levels) → read_onto (u ++ v) x ≡ read_onto u (read_onto v x)
+  pub onto_append : (u v : List ℕ) (x : Option Levels) → read_onto most (u ++ v) x ≡ read_onto most u (read_onto most v x)
   onto_append [] v x = refl
   onto_append (b ∷ bs) v x = ap (byte_read most b) (onto_append bs v x)
-
-  onto_levels : (w : List ℕ) → read_onto w (Some blank_levels) ≡ levels_of most w
-  onto_levels [] = refl
-  onto_levels (b ∷ bs) = ap (byte_read most b) (onto_levels bs)
 
   abbrev at : Within → List Within → Option Levels
   at x xs = Some (record { inner = x; outer = xs })
@@ -86,12 +76,12 @@ module _ (most : ℕ) where
 
   -- what the bytes of an expression of each level do to the levels before which they stand
   abbrev Does : Level → List ℕ → Shape → Type 0
-  Does Atom w r = (x : Within) (xs : List Within) → read_onto w (at x xs) ≡ at (with_atom most (bounded most r) x) xs
+  Does Atom w r = (x : Within) (xs : List Within) → read_onto most w (at x xs) ≡ at (with_atom most (bounded most r) x) xs
   Does Repetition w r = (s c : Option (Option Shape)) (xs : List Within) →
-      read_onto w (at (within None s c) xs) ≡ at (within None (Some (onto_sequence most (bounded most r) s)) c) xs
+      read_onto most w (at (within None s c) xs) ≡ at (within None (Some (onto_sequence most (bounded most r) s)) c) xs
   Does Sequence w r = (c : Option (Option Shape)) (xs : List Within) →
-      read_onto w (at (within None None c) xs) ≡ at (within None (Some (bounded most r)) c) xs
-  Does Whole w r = (xs : List Within) → (x : Within) × (read_onto w (at blank_level xs) ≡ at x xs) × (closed most x ≡ Some (bounded most r))
+      read_onto most w (at (within None None c) xs) ≡ at (within None (Some (bounded most r)) c) xs
+  Does Whole w r = (xs : List Within) → (x : Within) × (read_onto most w (at blank_level xs) ≡ at x xs) × (closed most x ≡ Some (bounded most r))
 
   sign_read : (l : Letter) (x : Within) (xs : List Within) → byte_read most (byte_of (Sign l)) (at x xs) ≡ at (with_atom most (bounded most (One l)) x) xs
   sign_read Less x xs = refl
@@ -99,38 +89,38 @@ module _ (most : ℕ) where
   sign_read Greater x xs = refl
 
   does : (level : Level) (w : List ℕ) (r : Shape) → Means level w r → Does level w r
-  does level w r (SignMeans l w' e) = λ x xs. ap (λ v. read_onto v (at x xs)) e ∙ sign_read l x xs
+  does level w r (SignMeans l w' e) = λ x xs. ap (λ v. read_onto most v (at x xs)) e ∙ sign_read l x xs
   does level w r (InBrackets w' v r' m e) = λ x xs.
       let inside = does Whole v r m (x ∷ xs) in
-      ap (λ u. read_onto u (at x xs)) e
+      ap (λ u. read_onto most u (at x xs)) e
       ∙ ap (byte_read most (byte_of Open)) (onto_append v (byte_of Close ∷ []) (at x xs) ∙ inside.1)
       ∙ ap (λ p. open_read most p (x ∷ xs)) inside.2
   does level w r (OneTime w' r' m) = λ s c xs. does Atom w r m (within None s c) xs
   does level w r (ManyTimes w' v r' m e) = λ s c xs.
-      ap (λ u. read_onto u (at (within None s c) xs)) e
+      ap (λ u. read_onto most u (at (within None s c) xs)) e
       ∙ onto_append v (byte_of (Repeated AnyTimes) ∷ []) (at (within None s c) xs)
       ∙ does Atom v r' m (within (Some AnyTimes) s c) xs
       ∙ ap (λ p. at (within None (Some (onto_sequence most p s)) c) xs) (star_bounded most r')
   does level w r (SomeTimes w' v r' m e) = λ s c xs.
-      ap (λ u. read_onto u (at (within None s c) xs)) e
+      ap (λ u. read_onto most u (at (within None s c) xs)) e
       ∙ onto_append v (byte_of (Repeated OnceOrMore) ∷ []) (at (within None s c) xs)
       ∙ does Atom v r' m (within (Some OnceOrMore) s c) xs
       ∙ ap (λ p. at (within None (Some (onto_sequence most p s)) c) xs) (plus_bounded most r')
   does level w r (LastPart w' r' m) = λ c xs. does Repetition w r m None c xs
   does level w r (MoreParts w' u v r' s' m n e) = λ c xs.
-      ap (λ y. read_onto y (at (within None None c) xs)) e
+      ap (λ y. read_onto most y (at (within None None c) xs)) e
       ∙ onto_append u v (at (within None None c) xs)
-      ∙ ap (read_onto u) (does Sequence v s' n c xs)
+      ∙ ap (read_onto most u) (does Sequence v s' n c xs)
       ∙ does Repetition u r' m (Some (bounded most s')) c xs
       ∙ ap (λ p. at (within None (Some p) c) xs) (cat_bounded most r' s')
   does level w r (LastChoice w' r' m) = λ xs. (within None (Some (bounded most r)) None, does Sequence w r m None xs, refl)
   does level w r (MoreChoices w' u v r' s' m n e) = λ xs.
       let behind = does Whole v s' n xs in (
         within None (Some (bounded most r')) (Some (bounded most s')),
-        ap (λ y. read_onto y (at blank_level xs)) e
+        ap (λ y. read_onto most y (at blank_level xs)) e
             ∙ onto_append u (byte_of Or ∷ v) (at blank_level xs)
-            ∙ ap (λ y. read_onto u (byte_read most (byte_of Or) y)) behind.1
-            ∙ ap (λ p. read_onto u (or_read p xs)) behind.2
+            ∙ ap (λ y. read_onto most u (byte_read most (byte_of Or) y)) behind.1
+            ∙ ap (λ p. read_onto most u (or_read p xs)) behind.2
             ∙ does Sequence u r' m (Some (bounded most s')) xs,
         ap Some (alt_bounded most r' s'),
       )
@@ -139,7 +129,7 @@ module _ (most : ℕ) where
   pub reads_meaning : (w : List ℕ) (r : Shape) → Means Whole w r → read_within most w ≡ Some (bounded most r)
   reads_meaning w r m =
       let all = does Whole w r m [] in
-      ap (ended most) (sym (onto_levels w)) ∙ ap (ended most) all.1 ∙ all.2
+      ap (ended most) all.1 ∙ all.2
 
   -- The reverse: what each level that is open after some bytes has read of them.
 
@@ -326,12 +316,8 @@ one_expression w r s m n =
     let both : ◌≡◌ {A = Option (Option Shape)} (Some (bounded most r)) (Some (bounded most s)) = sym (reads_meaning most w r m) ∙ reads_meaning most w s n in
     same_Some r s (sym (enough most r (omega arith)) ∙ same_Some (bounded most r) (bounded most s) both ∙ enough most s (omega arith))
 
-levels_append : (most : ℕ) (u v : List ℕ) → levels_of most (u ++ v) ≡ read_onto most u (levels_of most v)
-levels_append most [] v = refl
-levels_append most (b ∷ bs) v = ap (byte_read most b) (levels_append most bs v)
-
 -- a byte that can't stand where it does
-not_read : (most : ℕ) (w : List ℕ) → read_onto most w None ≡ None
+pub not_read : (most : ℕ) (w : List ℕ) → read_onto most w None ≡ None
 not_read most [] = refl
 not_read most (b ∷ bs) = ap (byte_read most b) (not_read most bs)
 
@@ -339,7 +325,7 @@ pub none_at : (word : List ℕ) (most k : ℕ) → most ≡ most_nodes word → 
 unfolding expression_of
 none_at word most k e h =
     let all : levels_of most word ≡ None =
-    ap (levels_of most) (sym (take-append-drop k word)) ∙ levels_append most (take k word) (drop k word) ∙ ap (read_onto most (take k word)) h
+    ap (levels_of most) (sym (take-append-drop k word)) ∙ onto_append most (take k word) (drop k word) (Some blank_levels) ∙ ap (read_onto most (take k word)) h
     ∙ not_read most (take k word) in
     sym (ap (ended most) all) ∙ ap (λ m. read_within m word) e
 
@@ -350,15 +336,6 @@ unfolding expression_of
 all_read word most n x e h k =
     let none : n ≡ 0 = omega arith in
     sym (ap (ended most) (sym (ap (λ j. levels_of most (drop j word)) none) ∙ k)) ∙ ap (λ m. read_within m word) e
-
-pub none_here : (word : List ℕ) (most n : ℕ) (x : Levels) → most ≡ most_nodes word → 0 < n → n ≤ length word → levels_of most (drop n word) ≡ Some x →
-    symbol_read most (symbol_of (get_or word (n - 1) 0)) x ≡ None → None ≡ expression_of word
-none_here word most zero x e some within read h = absurd (omega arith)
-none_here word most (suc k) x e some within read h =
-    let one : k ≡ suc k - 1 = omega arith in
-    none_at word most k e
-    (ap (levels_of most) (drop-cons word k 0 (omega arith)) ∙ ap (byte_read most (get_or word k 0)) read
-    ∙ ap (λ (j : ℕ). symbol_read most (symbol_of (get_or word j 0)) x) one ∙ h)
 
 -- the nodes of a word that isn't too long
 pub short_nodes : (word : List ℕ) → length word ≤ 64 → 256 ≡ most_nodes word

@@ -8,6 +8,7 @@ pub mod Plans
 pub mod OneAnswer
 pub mod ShortWords
 pub mod ExpressionLaws
+pub mod DescentLaws
 pub mod OutlineLaws
 pub mod TableNames
 pub mod ReadingLaws

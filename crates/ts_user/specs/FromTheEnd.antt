@@ -113,10 +113,13 @@ abbrev pub byte_read : ℕ → ℕ → Option Levels → Option Levels
 byte_read most b None = None
 byte_read most b (Some x) = symbol_read most (symbol_of b) x
 
--- the levels that are open after these bytes were read from the last one on
+-- the levels that are open after these bytes too were read, from the last one on
+abbrev pub read_onto : ℕ → List ℕ → Option Levels → Option Levels
+read_onto most [] x = x
+read_onto most (b ∷ bs) x = byte_read most b (read_onto most bs x)
+
 abbrev pub levels_of : ℕ → List ℕ → Option Levels
-levels_of most [] = Some blank_levels
-levels_of most (b ∷ bs) = byte_read most b (levels_of most bs)
+levels_of most bytes = read_onto most bytes (Some blank_levels)
 
 abbrev pub ended_at : ℕ → Within → List Within → Option (Option Shape)
 ended_at most x [] = closed most x
@@ -125,6 +128,10 @@ ended_at most x (y ∷ ys) = None
 abbrev pub ended : ℕ → Option Levels → Option (Option Shape)
 ended most None = None
 ended most (Some x) = ended_at most x.inner x.outer
+
+-- what a word is of which these levels have been read, and these bytes stand before them
+abbrev pub read_on : ℕ → List ℕ → Levels → Option (Option Shape)
+read_on most bytes x = ended most (read_onto most bytes (Some x))
 
 -- the expression that the bytes are, or None in its place where it has more than so many nodes; None where they aren't
 -- one

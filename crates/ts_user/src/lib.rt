@@ -6,9 +6,9 @@
 //! plan that it gives is closed, so `validate` takes it; else it says by which signature a check fails, or that there
 //! are more than 512 configurations.
 //!
-//! `read_pattern` reads a pattern text, line by line, as models are read. Its expression is read from the last byte to
-//! the first, with a list of the bracket levels that are open: a sequence or a union nests to the right by itself, a
-//! repeat sign is met before what it repeats, and no recursion follows the brackets of a long line.
+//! `read_pattern` reads a pattern text, line by line, as models are read. An expression of at most 64 bytes is read by
+//! a recursive descent from its last byte to its first: a sequence or a union nests to the right by itself, and a
+//! repeat sign is met before what it repeats. Of a longer one only the outline is read, which takes no recursion.
 //!
 //! ```text
 //! let user = read_pattern(alloc, &cut_tokens(alloc, text)?)?;
@@ -24,7 +24,7 @@ mod ended;
 mod expression;
 mod keys;
 pub mod laws;
-mod levels;
+mod level;
 mod listing;
 mod outline;
 mod parse;
