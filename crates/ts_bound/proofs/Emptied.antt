@@ -1,10 +1,15 @@
 -- A table whose rows are filled with one thing: where its rows begin.
-use Rattle.std.proofs.Common.{◌≡◌, ℕ, ◌+◌, ◌-◌, ◌<◌, ◌≤◌, List, [], ◌∷◌, ◌++◌, length, map, take, replicate, get_or, ℤ, ◌*◌, refl, sym, ap, ◌∙◌, arith, subst}
+use Rattle.std.proofs.Common.{◌≡◌, Bool, true, false, cond, Option, ℕ, ◌+◌, ◌-◌, ◌<◌, ◌≤◌, List, [], ◌∷◌, ◌++◌, length, map, take, replicate, get_or, ℤ, ◌*◌, refl, sym, ap, ◌∙◌, arith, subst}
 use Rattle.std.specs.Prelude.{sum}
 use Rattle.std.proofs.lemmas.List.{take_more, length-replicate, take_all, drop-replicate, take-replicate}
 use Rattle.std.proofs.lemmas.List.Sums.{fold_more, sum_by-append}
 use Rattle.std.proofs.lemmas.List.{get_or-map, length-map}
+use Rattle.ts_base.specs.declared.range.Range.{Range}
+use Rattle.ts_base.specs.Windows.{LooksInside, looked_at}
+use Rattle.ts_bound.specs.HullTables.{only_looked}
+use Rattle.ts_bound.specs.Looks.{is_looked}
 use Rattle.ts_bound.specs.Rows.{rows_from, rows_of, Ends, Starts}
+use Rattle.ts_bound.proofs.Looking.{looked_length, looked_get, windowed_at, windowed_length, windowed_outside}
 
 -- where the rows of these sizes end, the first beginning at a
 abbrev pub ends_of : ℕ → List ℕ → List ℕ
@@ -104,3 +109,17 @@ pub box_rows : {X : Type 0} (n : ℕ) (starts : List ℕ) (total : ℕ) (cells :
 box_rows n starts total cells k xs x h b is =
     empty_rows starts total (sizes n cells) k xs x (let l = length-map cells (λ d. length d * n) in omega (arith, l, h)) b is
     ∙ map_twice (λ m. replicate m x) (λ d. length d * n) cells
+
+-- the box of which a table has rows
+
+pub only_length : (w : Option Range) (cells : List (List ℤ)) → LooksInside (length cells) w → length (only_looked w cells) ≡ length cells
+only_length w cells looks = windowed_length (length cells) (looked_at w cells) w looks (looked_length w cells looks)
+
+pub only_size : (w : Option Range) (cells : List (List ℤ)) (k size : ℕ) → LooksInside (length cells) w → 1 ≤ k → k ≤ length cells →
+    size ≡ cond (is_looked w k) (length (get_or cells (k - 1) [])) 0 → size ≡ length (get_or (only_looked w cells) (k - 1) [])
+only_size w cells k size looks some few is = is ∙ go (is_looked w k) refl
+  where
+    go : (t : Bool) → is_looked w k ≡ t → cond t (length (get_or cells (k - 1) [])) 0 ≡ length (get_or (only_looked w cells) (k - 1) [])
+    go true there =
+        ap length (sym (windowed_at (length cells) (looked_at w cells) k w looks (looked_length w cells looks) there ∙ looked_get cells k w [] looks there))
+    go false there = ap length (sym (windowed_outside (length cells) (looked_at w cells) k w looks (looked_length w cells looks) some few there))

@@ -4,9 +4,11 @@ use Rattle.std.specs.Prelude.{fold, flat_map, reverse, Contains, Option, None, S
 use Rattle.std.specs.List.{range_with_len, AllByRecursion}
 use Rattle.std.proofs.lemmas.List.{reverse-append}
 use Rattle.ts_base.specs.declared.ext.Ext.TheVariants.{Int as Number}
+use Rattle.ts_base.specs.declared.range.Range.{Range}
 use Rattle.ts_base.specs.declared.span.Span.{Span}
 use Rattle.ts_base.specs.SpanLayer.{IsWithin}
 use Rattle.ts_base.specs.Spans.{none_span, one_span, Holds, span_hull}
+use Rattle.ts_base.specs.Windows.{looked_at}
 use Rattle.ts_base.proofs.SpanLaws.{none_empty, hull_left, hull_right, hull_least, lifted_within}
 use Rattle.ts_automaton.specs.declared.state.Mark.TheVariants.{Same}
 use Rattle.ts_automaton.specs.declared.regs.Hull.{Hull}
@@ -24,7 +26,8 @@ use Rattle.ts_glue.proofs.SpanGlue.{unmarked_spans_grow, wider_registers, same_g
 use Rattle.ts_bound.specs.Hulls.{hull_of, none, hull_of_both, hull_of_all}
 use Rattle.ts_bound.specs.NextRow.{Source, source, hull_from, next_hull, states_of}
 use Rattle.ts_bound.specs.HullTables.{hull_at, cells_before, cells_after, values_at}
-use Rattle.ts_bound.specs.TermSpans.{Automata, standing_in, span_of_all, finish_spans, glued_spans, spans_at, value_span, term_span}
+use Rattle.ts_bound.specs.Looks.{place_in}
+use Rattle.ts_bound.specs.TermSpans.{Automata, standing_in, span_of_all, finish_spans, glued_spans, spans_at, inner_value_span, inner_span, term_span}
 use Rattle.ts_bound.specs.Laws.{Splits, AreAutomata, AreWithin, SmallerBoxesAreWithin}
 use Rattle.ts_bound.proofs.Reached.{Any, any_of_map, any_flat, any_range, any_flat_range, any_mapped, spans_take}
 use Rattle.ts_bound.proofs.TableLaws.{all_range}
@@ -254,16 +257,26 @@ by_pair b (Some p) mark s k cells wider v a =
     (within_reverse _ _ (within_take (k - 1) cells wider a)) (within_drop k cells wider a))
 
 value_grows : (m : Automata) → AreAutomata m → m.forward.mark ≡ Same → (k : ℕ) (cells wider : List (List ℤ)) (v : ℤ) → AreWithin cells wider →
-    IsWithin (value_span m k cells v) (value_span m k wider v)
-unfolding value_span
+    IsWithin (inner_value_span m k cells v) (inner_value_span m k wider v)
+unfolding inner_value_span
 value_grows m are mark k cells wider v a = by_pair m.forward m.pair mark are.pair k cells wider v a
+
+inner_grows : (m : Automata) → AreAutomata m → m.forward.mark ≡ Same → (cells wider : List (List ℤ)) → AreWithin cells wider → (k : ℕ) →
+    IsWithin (inner_span m k cells) (inner_span m k wider)
+unfolding inner_span
+inner_grows m are mark cells wider a k =
+    let x = span_of_all (map (inner_value_span m k wider) (values_at k wider)) in
+    spans_within x (map (inner_value_span m k cells) (values_at k cells)) none_span (λ e h. absurd (none_empty e h))
+    (all_mapped (λ t. IsWithin t x) (inner_value_span m k cells) (values_at k cells) (λ v c.
+    span_in (inner_value_span m k cells v) (map (inner_value_span m k wider) (values_at k wider))
+    (any_mapped (λ t. IsWithin (inner_value_span m k cells v) t) (inner_value_span m k wider) (values_at k wider) v (within_at (k - 1) cells wider a v c)
+    (value_grows m are mark k cells wider v a))))
+
+looked_within : (w : Option Range) (cells wider : List (List ℤ)) → AreWithin cells wider → AreWithin (looked_at w cells) (looked_at w wider)
+looked_within None cells wider a = a
+looked_within (Some r) cells wider a = within_take (r.last - (r.first - 1)) _ _ (within_drop (r.first - 1) cells wider a)
 
 pub smaller_within : SmallerBoxesAreWithin
 unfolding term_span
 smaller_within m are mark cells wider a k =
-    let x = span_of_all (map (value_span m k wider) (values_at k wider)) in
-    spans_within x (map (value_span m k cells) (values_at k cells)) none_span (λ e h. absurd (none_empty e h))
-    (all_mapped (λ t. IsWithin t x) (value_span m k cells) (values_at k cells) (λ v c.
-    span_in (value_span m k cells v) (map (value_span m k wider) (values_at k wider))
-    (any_mapped (λ t. IsWithin (value_span m k cells v) t) (value_span m k wider) (values_at k wider) v (within_at (k - 1) cells wider a v c)
-    (value_grows m are mark k cells wider v a))))
+    inner_grows m are mark (looked_at m.window cells) (looked_at m.window wider) (looked_within m.window cells wider a) (place_in m.window k)

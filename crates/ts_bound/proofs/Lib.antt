@@ -1,8 +1,10 @@
+pub mod Looking
 pub mod HullLaws
 mod Filled
 pub mod RowLaws
 mod Emptied
 pub mod TableLaws
+pub mod WindowedTables
 mod Steps
 mod Follows
 pub mod Reached

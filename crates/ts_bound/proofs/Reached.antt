@@ -6,9 +6,13 @@ use Rattle.std.proofs.lemmas.Bool.{eq-eqb, eqb-true, eqb-false}
 use Rattle.std.proofs.lemmas.List.{reverse-append, length-set, drop_all, get_or-set_same}
 use Rattle.ts_base.specs.declared.ext.Ext.{Ext}
 use Rattle.ts_base.specs.declared.span.Span.{Span}
+use Rattle.ts_base.specs.declared.range.Range.{Range}
 use Rattle.ts_base.specs.Limits.{most_cells}
+use Rattle.ts_base.specs.Windows.{LooksInside, looked_at}
+use Rattle.ts_base.specs.SpanLayer.{IsWithin}
 use Rattle.ts_base.specs.Spans.{none_span, has_some, Holds, span_hull}
 use Rattle.ts_base.proofs.SpanLaws.{holds_one, hull_left, hull_right}
+use Rattle.ts_base.proofs.WindowLaws.{few_looked, each_looked}
 use Rattle.ts_automaton.specs.declared.regs.Hull.{Hull}
 use Rattle.ts_automaton.specs.Registers.{EachOf, spans_of, numbers}
 use Rattle.ts_automaton.specs.Typing.{is_automaton}
@@ -16,7 +20,7 @@ use Rattle.ts_automaton.specs.Body.{Body}
 use Rattle.ts_automaton.specs.AutomatonRun.{Standing, step_of, after, answer, finish_of, finish_value, under_mark, IsInMark, HoldsMark, AreCellValues}
 use Rattle.ts_automaton.specs.SpanRun.{HoldsRegs, span_step, finished_span, finish_span_of}
 use Rattle.ts_automaton.proofs.RunLaws.{steps_hold, finishes_hold, marks_hold}
-use Rattle.ts_domain.specs.Values.{WithinLimits}
+use Rattle.ts_domain.specs.Values.{IsDomain, WithinLimits}
 use Rattle.ts_domain.specs.BoxSeries.{InBox, IsBox}
 use Rattle.ts_domain.proofs.Sets.{contains_cons}
 use Rattle.ts_glue.specs.Pairs.{Pair}
@@ -26,9 +30,11 @@ use Rattle.ts_glue.proofs.CallerLemmas.{after_back, after_stands, cut_at, answer
 use Rattle.ts_bound.specs.Hulls.{hull_of, none, hull_of_both}
 use Rattle.ts_bound.specs.NextRow.{Source, source, standing_at, hull_from, next_hull, states_of}
 use Rattle.ts_bound.specs.HullTables.{start_hull, hull_at, cells_before, values_at}
-use Rattle.ts_bound.specs.TermSpans.{Automata, standing_in, span_of_all, finish_spans, glued_spans, spans_at, value_span, term_span, IsUsable}
+use Rattle.ts_bound.specs.TermSpans.{Automata, LooksIn, standing_in, span_of_all, finish_spans, glued_spans, spans_at, inner_value_span, inner_span, value_span, term_span, IsUsable}
 use Rattle.ts_bound.specs.Laws.{Splits, AreAutomata, SpansHold, ValueSpansAreNarrowed, ValueSpansAreWithin}
+use Rattle.ts_bound.specs.Looks.{is_looked, place_in}
 use Rattle.ts_bound.proofs.HullLaws.{IsCanonical, hull_canonical}
+use Rattle.ts_bound.proofs.Looking.{looked_length, place_bounds, place_usable, looked_get, looked_set, looked_miss}
 
 -- some element has it
 abbrev pub Any : {A : Type 0} → (A → Type 0) → List A → Type 0
@@ -299,28 +305,53 @@ module _ (m : Automata) (under_mark : HoldsMark m.forward) (cells : List (List �
       (get_or xs (k - 1) (pos 0)))) back
       (glued_hold rules p splits (k - 1) (omega (arith, back, to)))
 
-  pub value_holds : AreAutomata m → (k : ℕ) → IsUsable m k cells → Holds (value_span m k cells (get_or xs (k - 1) (pos 0))) (answer m.forward xs)
-  unfolding value_span
+  pub value_holds : AreAutomata m → (k : ℕ) → IsUsable m k cells → Holds (inner_value_span m k cells (get_or xs (k - 1) (pos 0))) (answer m.forward xs)
+  unfolding inner_value_span
   value_holds are k usable =
       spans_take (answer m.forward xs) (spans_at m.forward m.pair k cells (get_or xs (k - 1) (pos 0))) none_span
       (at_value are.forward m.pair are.pair k usable.from usable.to usable.last)
 
-  pub term_holds : AreAutomata m → (k : ℕ) → IsUsable m k cells → Holds (term_span m k cells) (answer m.forward xs)
-  unfolding term_span
-  term_holds are k usable =
+  pub inner_holds : AreAutomata m → (k : ℕ) → IsUsable m k cells → Holds (inner_span m k cells) (answer m.forward xs)
+  unfolding inner_span
+  inner_holds are k usable =
       let from = usable.from in
       let to = usable.to in
-      spans_take (answer m.forward xs) (map (value_span m k cells) (values_at k cells)) none_span
-      (any_mapped (λ t. Holds t (answer m.forward xs)) (value_span m k cells) (values_at k cells) (get_or xs (k - 1) (pos 0))
+      spans_take (answer m.forward xs) (map (inner_value_span m k cells) (values_at k cells)) none_span
+      (any_mapped (λ t. Holds t (answer m.forward xs)) (inner_value_span m k cells) (values_at k cells) (get_or xs (k - 1) (pos 0))
       (box_at (k - 1) xs cells (omega (arith, from, to)) inside) (value_holds are k usable))
 
+looked_box : (w : Option Range) (xs : List ℤ) (cells : List (List ℤ)) → InBox xs cells → InBox (looked_at w xs) (looked_at w cells)
+looked_box None xs cells h = h
+looked_box (Some r) xs cells h = box_take (r.last - (r.first - 1)) (drop (r.first - 1) xs) (drop (r.first - 1) cells) (box_drop (r.first - 1) xs cells h)
+
 pub spans_hold : SpansHold
-spans_hold m are under_mark cells few box k usable xs inside = term_holds m under_mark cells few box xs inside are k usable
+unfolding term_span
+spans_hold m are under_mark cells few box looks k usable xs inside =
+    let w = m.window in
+    let fewer = few_looked w cells looks in
+    inner_holds m under_mark (looked_at w cells) (omega (arith, fewer, few)) (each_looked IsDomain w cells box) (looked_at w xs)
+    (looked_box w xs cells inside) are (place_in w k) (place_usable m k cells looks usable)
+
+pub inner_within : (m : Automata) (cells : List (List ℤ)) (k : ℕ) (v : ℤ) → Contains (values_at k cells) v →
+    IsWithin (inner_value_span m k cells v) (inner_span m k cells)
+unfolding inner_span
+inner_within m cells k v c e h =
+    spans_take e (map (inner_value_span m k cells) (values_at k cells)) none_span
+    (any_mapped (λ t. Holds t e) (inner_value_span m k cells) (values_at k cells) v c h)
 
 pub values_within : ValueSpansAreWithin
-unfolding term_span
-values_within m cells k v c e h =
-    spans_take e (map (value_span m k cells) (values_at k cells)) none_span (any_mapped (λ t. Holds t e) (value_span m k cells) (values_at k cells) v c h)
+unfolding value_span term_span
+values_within m cells looks k v c = go (is_looked m.window k) refl
+  where
+    w : Option Range
+    w = m.window
+
+    s : Span
+    s = inner_span m (place_in w k) (looked_at w cells)
+
+    go : (t : Bool) → is_looked w k ≡ t → IsWithin (cond t (inner_value_span m (place_in w k) (looked_at w cells) v) s) s
+    go true is = inner_within m (looked_at w cells) (place_in w k) v (subst (λ d. Contains d v) (sym (looked_get cells k w [] looks is)) c)
+    go false is = λ e h. h
 
 -- the box with one value alone at a cell
 
@@ -350,16 +381,17 @@ spans_same b (Some p) k cells d v some =
     glued_spans' : Pair → List (List ℤ) → List Span
     glued_spans' p t = glued_spans p (length cells) (reverse (take (k - 1) cells)) t v
 
-value_same : (m : Automata) (k : ℕ) (cells : List (List ℤ)) (d : List ℤ) (v : ℤ) → 1 ≤ k → value_span m k (set cells (k - 1) d) v ≡ value_span m k cells v
-unfolding value_span
+value_same : (m : Automata) (k : ℕ) (cells : List (List ℤ)) (d : List ℤ) (v : ℤ) → 1 ≤ k →
+    inner_value_span m k (set cells (k - 1) d) v ≡ inner_value_span m k cells v
+unfolding inner_value_span
 value_same m k cells d v some = ap span_of_all (spans_same m.forward m.pair k cells d v some)
 
 all_canonical : (ss : List Span) (s : Span) → IsCanonical s → IsCanonical (fold span_hull s ss)
 all_canonical [] s h = h
 all_canonical (t ∷ ss) s h = all_canonical ss (span_hull s t) (hull_canonical s t)
 
-value_canonical : (m : Automata) (k : ℕ) (cells : List (List ℤ)) (v : ℤ) → IsCanonical (value_span m k cells v)
-unfolding value_span
+value_canonical : (m : Automata) (k : ℕ) (cells : List (List ℤ)) (v : ℤ) → IsCanonical (inner_value_span m k cells v)
+unfolding inner_value_span
 value_canonical m k cells v = all_canonical (spans_at m.forward m.pair k cells v) none_span refl
 
 none_before : (s : Span) → IsCanonical s → span_hull none_span s ≡ s
@@ -369,9 +401,28 @@ none_before s h = go (has_some s) refl
     go true e = refl
     go false e = sym (ap (λ v. cond v s none_span) e) ∙ h
 
-pub values_narrowed : ValueSpansAreNarrowed
-unfolding term_span
-values_narrowed m cells k some to v =
+pub inner_narrowed : (m : Automata) (cells : List (List ℤ)) (k : ℕ) → 1 ≤ k → k ≤ length cells → (v : ℤ) →
+    inner_span m k (set cells (k - 1) (v ∷ [])) ≡ inner_value_span m k cells v
+unfolding inner_span
+inner_narrowed m cells k some to v =
     let here : get_or (set cells (k - 1) (v ∷ [])) (k - 1) [] ≡ v ∷ [] = get_or-set_same cells (k - 1) (v ∷ []) [] (omega (arith, some, to)) in
-    ap (λ d. span_of_all (map (value_span m k (set cells (k - 1) (v ∷ []))) d)) here
-    ∙ ap (λ s. span_hull none_span s) (value_same m k cells (v ∷ []) v some) ∙ none_before (value_span m k cells v) (value_canonical m k cells v)
+    ap (λ d. span_of_all (map (inner_value_span m k (set cells (k - 1) (v ∷ []))) d)) here
+    ∙ ap (λ s. span_hull none_span s) (value_same m k cells (v ∷ []) v some) ∙ none_before (inner_value_span m k cells v) (value_canonical m k cells v)
+
+pub values_narrowed : ValueSpansAreNarrowed
+unfolding value_span term_span
+values_narrowed m cells looks k some to v = go (is_looked m.window k) refl
+  where
+    w : Option Range
+    w = m.window
+
+    p : ℕ
+    p = place_in w k
+
+    go : (t : Bool) → is_looked w k ≡ t →
+        inner_span m p (looked_at w (set cells (k - 1) (v ∷ []))) ≡ cond t (inner_value_span m p (looked_at w cells) v) (inner_span m p (looked_at w cells))
+    go true is =
+        let b = place_bounds w (length cells) k looks some to in
+        ap (inner_span m p) (looked_set cells k w (v ∷ []) looks is)
+        ∙ inner_narrowed m (looked_at w cells) p b.0 (subst (λ n. p ≤ n) (sym (looked_length w cells looks)) b.1) v
+    go false is = ap (inner_span m p) (looked_miss cells k w (v ∷ []) looks some is)

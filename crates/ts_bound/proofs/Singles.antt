@@ -1,12 +1,14 @@
 -- On a box of one series the span at the last cell is exactly its answer.
-use Rattle.std.proofs.Common.{◌≡◌, ℕ, zero, suc, ◌+◌, ◌-◌, ◌<◌, ◌≤◌, ℤ, pos, Bool, true, false, cond, nat_eq, List, [], ◌∷◌, ◌++◌, length, map, take, get_or, refl, sym, ap, ◌∙◌, arith}
+use Rattle.std.proofs.Common.{◌≡◌, subst, ℕ, zero, suc, ◌+◌, ◌-◌, ◌<◌, ◌≤◌, ℤ, pos, Bool, true, false, cond, nat_eq, List, [], ◌∷◌, ◌++◌, length, map, take, get_or, refl, sym, ap, ◌∙◌, arith}
 use Rattle.std.specs.Prelude.{IsTrue, fold, reverse}
 use Rattle.std.specs.List.{range_with_len}
 use Rattle.std.proofs.lemmas.Bool.{eqb-true, eqb-false}
 use Rattle.std.proofs.lemmas.List.{append-nil, length-map, get_or-map, reverse-append, drop_all}
 use Rattle.ts_base.specs.declared.ext.Ext.{Ext}
 use Rattle.ts_base.specs.Spans.{none_span, one_span, span_hull}
+use Rattle.ts_base.specs.Windows.{LooksInside, looked_at}
 use Rattle.ts_base.proofs.SpanLaws.{one_some}
+use Rattle.ts_base.proofs.WindowLaws.{some_looked}
 use Rattle.ts_automaton.specs.declared.regs.Hull.{Hull}
 use Rattle.ts_automaton.specs.Registers.{EachOf, spans_of}
 use Rattle.ts_automaton.specs.Typing.{is_automaton}
@@ -18,10 +20,12 @@ use Rattle.ts_glue.proofs.CallerLemmas.{after_back, after_stands, cut_at}
 use Rattle.ts_bound.specs.Hulls.{hull_of, none, hull_of_both, hull_of_all}
 use Rattle.ts_bound.specs.NextRow.{Source, source, standing_at, hull_from, next_hull, states_of}
 use Rattle.ts_bound.specs.HullTables.{start_hull, hull_at, cells_before, values_at}
-use Rattle.ts_bound.specs.TermSpans.{standing_in, span_of_all, finish_spans, value_span, term_span}
+use Rattle.ts_bound.specs.Looks.{place_in}
+use Rattle.ts_bound.specs.TermSpans.{Automata, standing_in, span_of_all, finish_spans, inner_value_span, inner_span, term_span}
 use Rattle.ts_bound.specs.Blocks.{last_at}
-use Rattle.ts_bound.specs.Laws.{SpansStaySingle}
+use Rattle.ts_bound.specs.Laws.{AreAutomata, SpansStaySingle}
 use Rattle.ts_bound.proofs.HullLaws.{IsCanonical, some_canonical, same_hull}
+use Rattle.ts_bound.proofs.Looking.{looked_length, looked_map, place_end}
 use Rattle.ts_bound.proofs.Reached.{run, turned}
 use Rattle.ts_bound.proofs.SpanEnds.{last_value_ends, finishes_are}
 
@@ -176,9 +180,9 @@ finishes_single b rules n vs v =
     ∙ (nones_stay b p (spans_of none) refl).1 n)
     0 (length b.states) (omega arith) (let e = (after_stands b rules (reverse (v ∷ vs))).exists in omega (arith, e))
 
-pub spans_stay_single : SpansStaySingle
-unfolding term_span last_at
-spans_stay_single m are xs some few cells =
+pub inner_single : (m : Automata) → AreAutomata m → (xs : List ℤ) → 1 ≤ length xs → inner_span m (length xs) (alone xs) ≡ one_span (answer m.forward xs)
+unfolding inner_span last_at
+inner_single m are xs some =
     let n = length xs in
     let i = n - 1 in
     let b = m.forward in
@@ -190,8 +194,17 @@ spans_stay_single m are xs some few cells =
     let before : cells_before n box ≡ alone (reverse (take i xs)) = ap reverse (alone_take i xs) ∙ sym (alone_reverse (take i xs)) in
     let whole : reverse (x ∷ reverse (take i xs)) ≡ xs =
     turned (take i xs) x ∙ ap (λ t. take i xs ++ x ∷ t) (sym (drop_all (suc i) xs (omega (arith, some)))) ∙ cut_at xs i (pos 0) lt in
-    let value : value_span m n box x ≡ one_span (answer b xs) =
+    let value : inner_value_span m n box x ≡ one_span (answer b xs) =
     sym (last_value_ends m are n box x last) ∙ ap span_of_all (finishes_are b (cells_before n box) x (length box))
     ∙ ap (λ t. span_of_all (finish_spans b (length box) t x)) before ∙ finishes_single b are.forward (length box) (reverse (take i xs)) x
     ∙ ap (λ k. one_span (finish_of b (run b x (reverse (take i xs))) k)) (sym last) ∙ ap (λ ys. one_span (finish_of b (after b ys) n)) whole in
-    ap (λ d. span_of_all (map (value_span m n box) d)) here ∙ ap (span_hull none_span) value ∙ none_one (answer b xs)
+    ap (λ d. span_of_all (map (inner_value_span m n box) d)) here ∙ ap (span_hull none_span) value ∙ none_one (answer b xs)
+
+pub spans_stay_single : SpansStaySingle
+unfolding term_span
+spans_stay_single m are xs some few limits looks =
+    let w = m.window in
+    let h : LooksInside (length xs) w = subst (λ n. LooksInside n w) (length-map xs (λ x. x ∷ [])) looks in
+    let last : place_in w (length xs) ≡ length (looked_at w xs) = place_end w (length xs) h ∙ sym (looked_length w xs h) in
+    ap (inner_span m (place_in w (length xs))) (looked_map (λ x. x ∷ []) w xs) ∙ ap (λ k. inner_span m k (alone (looked_at w xs))) last
+    ∙ inner_single m are (looked_at w xs) (some_looked w xs some h)

@@ -9,6 +9,7 @@ use Rattle.std.proofs.lemmas.List.FromFn.{get_or-map-range_with_len}
 use Rattle.ts_base.specs.declared.span.Span.{Span}
 use Rattle.ts_base.specs.Limits.{IsCellValue}
 use Rattle.ts_base.specs.Spans.{none_span, span_hull}
+use Rattle.ts_base.specs.Windows.{looked_at}
 use Rattle.ts_automaton.specs.declared.regs.Hull.{Hull}
 use Rattle.ts_automaton.specs.Registers.{spans_of}
 use Rattle.ts_automaton.specs.Typing.{is_automaton}
@@ -28,10 +29,12 @@ use Rattle.ts_glue.proofs.TwoForms.{two_forms_agree}
 use Rattle.ts_bound.specs.Hulls.{hull_of, none}
 use Rattle.ts_bound.specs.NextRow.{states_of}
 use Rattle.ts_bound.specs.HullTables.{start_hull, hull_at, hulls_at, cells_before, cells_after, values_at}
-use Rattle.ts_bound.specs.TermSpans.{Automata, automata_of, standing_in, span_of_all, finish_spans, glued_spans, spans_at, value_span, term_span}
+use Rattle.ts_bound.specs.TermSpans.{Automata, LooksIn, automata_of, standing_in, span_of_all, finish_spans, glued_spans, spans_at, inner_value_span, inner_span, value_span, term_span}
 use Rattle.ts_bound.specs.Laws.{Splits, AreAutomata}
 use Rattle.ts_bound.specs.Blocks.{standing_of, HullsStand, finishes, glued_with, glued_all, OfReverse, back_hulls, back_states, split_at, last_at}
+use Rattle.ts_bound.specs.Looks.{is_looked, read_at, place_in}
 use Rattle.ts_bound.proofs.HullLaws.{IsCanonical, hull_canonical}
+use Rattle.ts_bound.proofs.Looking.{looked_length, looked_get, place_end, place_read, read_inside_box}
 use Rattle.ts_bound.proofs.SpanRuns.{length-hulls_at, hulls_stand}
 
 -- lists over a range that agree at each place
@@ -78,28 +81,32 @@ glued_are p before behind v n =
 abbrev pub IsPairOf : Body → Option Pair → Type 0
 IsPairOf b o = IfSome o (λ p. p.forward ≡ b)
 
-split_is : (b : Body) (o : Option Pair) (k : ℕ) (cells : List (List ℤ)) (v : ℤ) → IsSome o → IsPairOf b o →
-    split_at b o k cells v ≡ value_span (record { forward = b; pair = o }) k cells v
-unfolding split_at value_span spans_at
-split_is b None k cells v some is = cc
-split_is b (Some p) k cells v some is =
-    ap (λ f. span_of_all (glued_all (Some p) (hulls_at f (cells_before k cells) v) (hulls_at p.reverse (cells_after k cells) v) v (length cells)
-    (length p.reverse.states)
-    (length f.states))) (sym is)
-    ∙ ap span_of_all (glued_are p (cells_before k cells) (cells_after k cells) v (length cells))
+split_is : (m : Automata) (k : ℕ) (cells : List (List ℤ)) (v : ℤ) → IsSome m.pair → IsPairOf m.forward m.pair →
+    split_at m.forward m.pair k cells v ≡ inner_value_span m k cells v
+unfolding split_at inner_value_span spans_at
+split_is m k cells v some is = go m.forward m.pair some is
+  where
+    go : (b : Body) (o : Option Pair) → IsSome o → IsPairOf b o → split_at b o k cells v ≡ span_of_all (spans_at b o k cells v)
+    go b None some is = cc
+    go b (Some p) some is =
+        ap (λ f. span_of_all (glued_all (Some p) (hulls_at f (cells_before k cells) v) (hulls_at p.reverse (cells_after k cells) v) v (length cells)
+        (length p.reverse.states)
+        (length f.states))) (sym is)
+        ∙ ap span_of_all (glued_are p (cells_before k cells) (cells_after k cells) v (length cells))
 
 pub same_map : {A : Type 0} (f g : ℤ → A) (vs : List ℤ) → ((v : ℤ) → f v ≡ g v) → map f vs ≡ map g vs
 same_map f g [] h = refl
 same_map f g (v ∷ vs) h = ap (λ x. x ∷ map f vs) (h v) ∙ ap (λ l. g v ∷ l) (same_map f g vs h)
 
-pub split_ends : (b : Body) (o : Option Pair) (k : ℕ) (cells : List (List ℤ)) → IsSome o → IsPairOf b o →
-    span_of_all (map (split_at b o k cells) (values_at k cells)) ≡ term_span (record { forward = b; pair = o }) k cells
-unfolding term_span
-split_ends b o k cells some is = ap span_of_all (same_map (split_at b o k cells) _ (values_at k cells) (λ v. split_is b o k cells v some is))
+pub split_ends : (m : Automata) (k : ℕ) (cells : List (List ℤ)) → IsSome m.pair → IsPairOf m.forward m.pair →
+    span_of_all (map (split_at m.forward m.pair k cells) (values_at k cells)) ≡ inner_span m k cells
+unfolding inner_span
+split_ends m k cells some is =
+    ap span_of_all (same_map (split_at m.forward m.pair k cells) (inner_value_span m k cells) (values_at k cells) (λ v. split_is m k cells v some is))
 
-pub split_value_ends : (b : Body) (o : Option Pair) (k : ℕ) (cells : List (List ℤ)) (v : ℤ) → IsSome o → IsPairOf b o →
-    split_at b o k cells v ≡ value_span (record { forward = b; pair = o }) k cells v
-split_value_ends b o k cells v some is = split_is b o k cells v some is
+pub split_value_ends : (m : Automata) (k : ℕ) (cells : List (List ℤ)) (v : ℤ) → IsSome m.pair → IsPairOf m.forward m.pair →
+    split_at m.forward m.pair k cells v ≡ inner_value_span m k cells v
+split_value_ends m k cells v some is = split_is m k cells v some is
 
 -- at the last cell
 
@@ -141,8 +148,9 @@ two_forms p rules some n before v =
     others q r h = none_glues_to_none p (standing_in p.forward before v q) (standing_in p.reverse [] v r) v n
         (inr (ap (λ x. has_registers (spans_of x)) (not_start r h)))
 
-last_is : (m : Automata) → AreAutomata m → (k : ℕ) (cells : List (List ℤ)) → k ≡ length cells → (v : ℤ) → last_at m.forward k cells v ≡ value_span m k cells v
-unfolding last_at value_span spans_at
+last_is : (m : Automata) → AreAutomata m → (k : ℕ) (cells : List (List ℤ)) → k ≡ length cells → (v : ℤ) →
+    last_at m.forward k cells v ≡ inner_value_span m k cells v
+unfolding last_at inner_value_span spans_at
 last_is m are k cells last v =
     ap span_of_all (finishes_are m.forward (cells_before k cells) v (length cells)) ∙ by_pair m.forward m.pair are.pair
   where
@@ -157,13 +165,16 @@ last_is m are k cells last v =
         ∙ ap (λ t. span_of_all (glued_spans p (length cells) (cells_before k cells) t v)) (sym none_after)
 
 pub last_value_ends : (m : Automata) → AreAutomata m → (k : ℕ) (cells : List (List ℤ)) (v : ℤ) → k ≡ length cells →
-    last_at m.forward k cells v ≡ value_span m k cells v
+    last_at m.forward k cells v ≡ inner_value_span m k cells v
 last_value_ends m are k cells v last = last_is m are k cells last v
 
+place_last : (m : Automata) (p : ℕ) (cells : List (List ℤ)) → LooksIn m cells → p ≡ length cells → place_in m.window p ≡ length (looked_at m.window cells)
+place_last m p cells looks last = ap (place_in m.window) last ∙ place_end m.window (length cells) looks ∙ sym (looked_length m.window cells looks)
+
 pub last_ends : (m : Automata) → AreAutomata m → (k : ℕ) (cells : List (List ℤ)) → k ≡ length cells →
-    span_of_all (map (last_at m.forward k cells) (values_at k cells)) ≡ term_span m k cells
-unfolding term_span
-last_ends m are k cells last = ap span_of_all (same_map (last_at m.forward k cells) (value_span m k cells) (values_at k cells)
+    span_of_all (map (last_at m.forward k cells) (values_at k cells)) ≡ inner_span m k cells
+unfolding inner_span
+last_ends m are k cells last = ap span_of_all (same_map (last_at m.forward k cells) (inner_value_span m k cells) (values_at k cells)
     (λ v. last_is m are k cells last v))
 
 -- what the type of a machine keeps
@@ -197,6 +208,54 @@ pub right_kinds : (o : Option Pair) (m : ℕ) (behind : List (List ℤ)) (v : �
     hs ≡ back_hulls o behind v → OfReverse o (λ b. (length b.states ≡ m) × HullsStand b hs)
 right_kinds None m behind v hs h is_m is = absurd h
 right_kinds (Some p) m behind v hs h is_m is = (sym is_m, hulls_stand p.reverse h behind v hs is)
+
+-- spans at a cell of the box, read where it is looked at
+
+module _ (m : Automata) (k p : ℕ) (cells : List (List ℤ)) (looks : LooksIn m cells) (some : 1 ≤ p) (few : p ≤ length cells)
+    (read : k ≡ read_at m.window p) where
+  place_same : place_in m.window k ≡ place_in m.window p
+  place_same = ap (place_in m.window) read ∙ place_read m.window (length cells) p looks some few
+
+  here : (f : ℤ → Span) → span_of_all (map f (values_at k cells)) ≡ span_of_all (map f (values_at (place_in m.window k) (looked_at m.window cells)))
+  here f =
+      let r = (read_inside_box m.window (length cells) p looks some few).2 in
+      let is : is_looked m.window k ≡ true = ap (is_looked m.window) read ∙ r in
+      ap (λ d. span_of_all (map f d)) (sym (looked_get cells k m.window [] looks is))
+
+  pub term_split : (s : Span) → IsSome m.pair → IsPairOf m.forward m.pair →
+      s ≡ span_of_all (map (split_at m.forward m.pair (place_in m.window k) (looked_at m.window cells)) (values_at k cells)) → s ≡ term_span m p cells
+  unfolding term_span
+  term_split s split is e =
+      e ∙ here (split_at m.forward m.pair (place_in m.window k) (looked_at m.window cells))
+      ∙ split_ends m (place_in m.window k) (looked_at m.window cells) split is ∙ ap (λ j. inner_span m j (looked_at m.window cells)) place_same
+
+  pub term_last : (s : Span) → AreAutomata m → p ≡ length cells →
+      s ≡ span_of_all (map (last_at m.forward (place_in m.window k) (looked_at m.window cells)) (values_at k cells)) → s ≡ term_span m p cells
+  unfolding term_span
+  term_last s are last e =
+      e ∙ here (last_at m.forward (place_in m.window k) (looked_at m.window cells))
+      ∙ last_ends m are (place_in m.window k) (looked_at m.window cells) (place_same ∙ place_last m p cells looks last)
+      ∙ ap (λ j. inner_span m j (looked_at m.window cells)) place_same
+
+module _ (m : Automata) (p : ℕ) (cells : List (List ℤ)) (v : ℤ) where
+  pub value_split : (s : Span) → is_looked m.window p ≡ true → IsSome m.pair → IsPairOf m.forward m.pair →
+      s ≡ split_at m.forward m.pair (place_in m.window p) (looked_at m.window cells) v → s ≡ value_span m p cells v
+  unfolding value_span
+  value_split s there split is e =
+      e ∙ split_value_ends m (place_in m.window p) (looked_at m.window cells) v split is
+      ∙ sym (ap (λ t. cond t (inner_value_span m (place_in m.window p) (looked_at m.window cells) v) (term_span m p cells)) there)
+
+  pub value_last : (s : Span) → LooksIn m cells → is_looked m.window p ≡ true → AreAutomata m → p ≡ length cells →
+      s ≡ last_at m.forward (place_in m.window p) (looked_at m.window cells) v → s ≡ value_span m p cells v
+  unfolding value_span
+  value_last s looks there are last e =
+      e ∙ last_value_ends m are (place_in m.window p) (looked_at m.window cells) v (place_last m p cells looks last)
+      ∙ sym (ap (λ t. cond t (inner_value_span m (place_in m.window p) (looked_at m.window cells) v) (term_span m p cells)) there)
+
+  pub value_outside : (s : Span) → is_looked m.window p ≡ false → s ≡ term_span m p cells → s ≡ value_span m p cells v
+  unfolding value_span
+  value_outside s there e =
+      e ∙ sym (ap (λ t. cond t (inner_value_span m (place_in m.window p) (looked_at m.window cells) v) (term_span m p cells)) there)
 
 -- the loops over the values of a cell
 

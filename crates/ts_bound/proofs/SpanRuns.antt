@@ -1,5 +1,5 @@
 -- What the loops over the values of a cell and over the states of a value keep, where spans are read off rows.
-use Rattle.std.proofs.Common.{◌≡◌, ℕ, zero, suc, ◌+◌, ◌-◌, ◌<◌, ◌≤◌, ℤ, List, [], ◌∷◌, ◌++◌, length, map, take, drop, get_or, refl, sym, ap, ◌∙◌, subst, arith}
+use Rattle.std.proofs.Common.{◌≡◌, true, ℕ, zero, suc, ◌+◌, ◌-◌, ◌<◌, ◌≤◌, ℤ, List, [], ◌∷◌, ◌++◌, length, map, take, drop, get_or, refl, sym, ap, ◌∙◌, subst, arith}
 use Rattle.std.specs.Prelude.{IsTrue, IsSome, fold, flat_map, reverse, Option, None, Some, IfSome, option_map}
 use Rattle.std.specs.List.{range_with_len}
 use Rattle.std.proofs.lemmas.List.{append-nil, append_assoc, get_or_default, length-append, reverse-append, map_push}
@@ -17,11 +17,15 @@ use Rattle.ts_automaton.specs.SpanRun.{HullStands, finish_span_of}
 use Rattle.ts_glue.specs.Pairs.{Pair}
 use Rattle.ts_glue.specs.Glued.{glued_span}
 use Rattle.ts_bound.specs.Hulls.{none}
-use Rattle.ts_bound.specs.HullTables.{hull_at, hulls_at, row_of, cells_before, cells_after, rows_behind, forward_rows, backward_rows}
+use Rattle.ts_bound.specs.HullTables.{hull_at, hulls_at, row_of, cells_before, cells_after, values_at, rows_behind, forward_rows, backward_rows, forward_table}
 use Rattle.ts_bound.specs.TermSpans.{span_of_all}
 use Rattle.ts_bound.specs.Blocks.{standing_of, HullsStand, glued_by, finishes, glued_with, glued_all, OfReverse, AreBackRows, back_hulls}
 use Rattle.ts_bound.proofs.TableLaws.{hull_kept, kept_stands, length-forward, length-backward}
-use Rattle.ts_bound.specs.Rows.{IsRow}
+use Rattle.ts_bound.specs.Rows.{IsRow, row_at, windowed}
+use Rattle.ts_bound.specs.Looks.{is_looked, count_looked, place_in}
+use Rattle.ts_bound.proofs.Looking.{looked_length, looked_get, place_bounds, windowed_at, windowed_length}
+use Rattle.ts_base.specs.declared.range.Range.{Range}
+use Rattle.ts_base.specs.Windows.{LooksInside, looked_at}
 
 -- the loops over states
 
@@ -164,32 +168,60 @@ backward_row b [] i h = absurd (omega (arith, h))
 backward_row b (c ∷ cells) zero h = refl
 backward_row b (c ∷ cells) (suc i) h = backward_row b cells i (omega (arith, h))
 
-pub ahead_begun : (b : Body) (cells : List (List ℤ)) (k : ℕ) (t : List (List Hull)) (row : List Hull) (left : List ℤ) → 1 ≤ k → k ≤ length cells →
-    t ≡ forward_rows b cells →
-    row ≡ get_or t (k - 1) [] → left ≡ get_or cells (k - 1) [] → row ≡ flat_map (hulls_at b (cells_before k cells)) left
+ahead_inner : (b : Body) (cells : List (List ℤ)) (k : ℕ) → 1 ≤ k → k ≤ length cells →
+    row_at k (forward_rows b cells) ≡ flat_map (hulls_at b (cells_before k cells)) (values_at k cells)
 unfolding row_of
-ahead_begun b cells k t row left some to is_t is_row is_left =
-    is_row ∙ ap (λ t. get_or t (k - 1) []) is_t ∙ forward_row b [] cells (k - 1) (omega (arith, some, to))
-    ∙ ap (λ z. row_of b z (get_or cells (k - 1) [])) (append-nil (reverse (take (k - 1) cells)))
-    ∙ ap (flat_map (hulls_at b (cells_before k cells))) (sym is_left)
+ahead_inner b cells k some to =
+    forward_row b [] cells (k - 1) (omega (arith, some, to)) ∙ ap (λ z. row_of b z (values_at k cells)) (append-nil (cells_before k cells))
 
-pub back_begun : (p : Option Pair) (cells : List (List ℤ)) (k : ℕ) (t : List (List Hull)) (row : List Hull) (left : List ℤ) → 1 ≤ k →
-    k ≤ length cells → AreBackRows p cells t →
-    row ≡ get_or t (k - 1) [] → left ≡ get_or cells (k - 1) [] → row ≡ flat_map (back_hulls p (cells_after k cells)) left
+back_inner : (b : Body) (cells : List (List ℤ)) (k : ℕ) → 1 ≤ k → k ≤ length cells →
+    row_at k (backward_rows b cells) ≡ flat_map (hulls_at b (cells_after k cells)) (values_at k cells)
 unfolding row_of
-back_begun None cells k t row left some to is_t is_row is_left = absurd is_t
-back_begun (Some p) cells k t row left some to is_t is_row is_left =
+back_inner b cells k some to =
     let back : suc (k - 1) ≡ k = omega (arith, some) in
-    is_row ∙ ap (λ t. get_or t (k - 1) []) is_t ∙ backward_row p.reverse cells (k - 1) (omega (arith, some, to))
-    ∙ ap (λ j. row_of p.reverse (drop j cells) (get_or cells (k - 1) [])) back
-    ∙ ap (flat_map (hulls_at p.reverse (cells_after k cells))) (sym is_left)
+    backward_row b cells (k - 1) (omega (arith, some, to)) ∙ ap (λ j. row_of b (drop j cells) (values_at k cells)) back
 
-pub row_there : (b : Body) (cells : List (List ℤ)) (k : ℕ) (t : List (List Hull)) → (1 ≤ k) × (k ≤ length cells) → t ≡ forward_rows b cells → IsRow k t
-row_there b cells k t h is =
-    let l = ap length is ∙ length-forward b [] cells in let first = h.0 in let last = h.1 in (first, omega (arith, l, last))
+-- a cell that is looked at has its row where the window puts it
+module _ (w : Option Range) (cells : List (List ℤ)) (looks : LooksInside (length cells) w) (k : ℕ) (some : 1 ≤ k) (to : k ≤ length cells) where
+  abbrev pub inner : List (List ℤ)
+  inner = looked_at w cells
 
-pub back_row_there : (o : Option Pair) (cells : List (List ℤ)) (k : ℕ) (t : List (List Hull)) → (1 ≤ k) × (k ≤ length cells) → AreBackRows o cells t →
-    IsRow k t
-back_row_there None cells k t h is = absurd is
-back_row_there (Some p) cells k t h is =
-    let l = ap length is ∙ length-backward p.reverse cells in let first = h.0 in let last = h.1 in (first, omega (arith, l, last))
+  bounds : (1 ≤ place_in w k) × (place_in w k ≤ length inner)
+  bounds =
+      let b = place_bounds w (length cells) k looks some to in
+      (b.0, subst (λ n. place_in w k ≤ n) (sym (looked_length w cells looks)) b.1)
+
+  read_row : (rows : List (List Hull)) (f : ℤ → List Hull) (t : List (List Hull)) (row : List Hull) (left : List ℤ) → length rows ≡ length inner →
+      row_at (place_in w k) rows ≡ flat_map f (values_at (place_in w k) inner) → is_looked w k ≡ true → t ≡ windowed w (length cells) rows →
+      row ≡ get_or t (k - 1) [] → left ≡ get_or cells (k - 1) [] → row ≡ flat_map f left
+  read_row rows f t row left long is there is_t is_row is_left =
+      is_row ∙ ap (row_at k) is_t ∙ windowed_at (length cells) rows k w looks (long ∙ looked_length w cells looks) there ∙ is
+      ∙ ap (flat_map f) (looked_get cells k w [] looks there ∙ sym is_left)
+
+  pub ahead_begun : (b : Body) (t : List (List Hull)) (row : List Hull) (left : List ℤ) → is_looked w k ≡ true → t ≡ forward_table b w cells →
+      row ≡ get_or t (k - 1) [] → left ≡ get_or cells (k - 1) [] → row ≡ flat_map (hulls_at b (cells_before (place_in w k) inner)) left
+  ahead_begun b t row left there is_t is_row is_left =
+      read_row (forward_rows b inner) (hulls_at b (cells_before (place_in w k) inner)) t row left (length-forward b [] inner)
+      (ahead_inner b inner (place_in w k) bounds.0 bounds.1) there is_t is_row is_left
+
+  pub back_begun : (p : Option Pair) (t : List (List Hull)) (row : List Hull) (left : List ℤ) → is_looked w k ≡ true → AreBackRows p w cells t →
+      row ≡ get_or t (k - 1) [] → left ≡ get_or cells (k - 1) [] → row ≡ flat_map (back_hulls p (cells_after (place_in w k) inner)) left
+  back_begun None t row left there is_t is_row is_left = absurd is_t
+  back_begun (Some p) t row left there is_t is_row is_left =
+      read_row (backward_rows p.reverse inner) (hulls_at p.reverse (cells_after (place_in w k) inner)) t row left (length-backward p.reverse inner)
+      (back_inner p.reverse inner (place_in w k) bounds.0 bounds.1) there is_t is_row is_left
+
+  row_of_all : (rows t : List (List Hull)) → length rows ≡ length inner → t ≡ windowed w (length cells) rows → IsRow k t
+  row_of_all rows t long is =
+      let l = ap length is ∙ windowed_length (length cells) rows w looks (long ∙ looked_length w cells looks) in (some, omega (arith, l, to))
+
+  pub row_there : (b : Body) (t : List (List Hull)) → t ≡ forward_table b w cells → IsRow k t
+  row_there b t is = row_of_all (forward_rows b inner) t (length-forward b [] inner) is
+
+  pub back_row_there : (p : Option Pair) (t : List (List Hull)) → AreBackRows p w cells t → IsRow k t
+  back_row_there None t is = absurd is
+  back_row_there (Some p) t is = row_of_all (backward_rows p.reverse inner) t (length-backward p.reverse inner) is
+
+  -- the number that a mark takes
+  pub count_is : (n total : ℕ) → total ≡ length cells → n ≡ count_looked w total → n ≡ length inner
+  count_is n total is_total is = is ∙ ap (count_looked w) is_total ∙ sym (looked_length w cells looks)

@@ -290,7 +290,7 @@ empty_sizes n m cells t is_m is = ap (map length) (is ∙ ap (λ k. map (λ d. r
 abbrev pub FilledTo : Body → List (List ℤ) → ℕ → List (List Hull) → Type 0
 FilledTo b cells k t = (take k t ≡ take k (forward_rows b cells)) × HasSizes (length b.states) cells t
 
-set_sized : (n : ℕ) (cells : List (List ℤ)) (t t' : List (List Hull)) (i : ℕ) (row : List Hull) → i < length cells → t' ≡ set t i row →
+pub set_sized : (n : ℕ) (cells : List (List ℤ)) (t t' : List (List Hull)) (i : ℕ) (row : List Hull) → i < length cells → t' ≡ set t i row →
     length row ≡ length (get_or cells i []) * n → HasSizes n cells t → HasSizes n cells t'
 set_sized n cells t t' i row lt is long h = ap (map length) is ∙ sizes_set t i row (long ∙ sym (size_at n cells t i h lt)) ∙ h
 

@@ -1,6 +1,7 @@
 -- The spans of one value of a cell from its hulls: a list of hulls has one for each state.
 use Rattle.std.specs.Prelude.{◌≡◌, ◌<◌, ℕ, ℤ, List, [], length, map, flat_map, get_or, Option, None, Some}
 use Rattle.std.specs.List.{range_with_len}
+use Rattle.ts_base.specs.declared.range.Range.{Range}
 use Rattle.ts_base.specs.declared.span.Span.{Span}
 use Rattle.ts_base.specs.Spans.{none_span}
 use Rattle.ts_automaton.specs.declared.regs.Hull.{Hull}
@@ -11,7 +12,7 @@ use Rattle.ts_automaton.specs.SpanRun.{HullStands, finish_span_of}
 use Rattle.ts_glue.specs.Pairs.{Pair}
 use Rattle.ts_glue.specs.Glued.{glued_span}
 use Rattle.ts_bound.specs.Hulls.{none}
-use Rattle.ts_bound.specs.HullTables.{hulls_at, cells_before, cells_after, backward_rows}
+use Rattle.ts_bound.specs.HullTables.{hulls_at, cells_before, cells_after, backward_table}
 use Rattle.ts_bound.specs.TermSpans.{span_of_all}
 
 -- the state q with its hull
@@ -45,8 +46,8 @@ OfReverse None P = ⊥
 OfReverse (Some p) P = P p.reverse
 
 -- the rows are those of the reverse automaton
-abbrev pub AreBackRows : Option Pair → List (List ℤ) → List (List Hull) → Type 0
-AreBackRows p cells rows = OfReverse p (λ b. rows ≡ backward_rows b cells)
+abbrev pub AreBackRows : Option Pair → Option Range → List (List ℤ) → List (List Hull) → Type 0
+AreBackRows p window cells rows = OfReverse p (λ b. rows ≡ backward_table b window cells)
 
 -- the hulls of the value v for a reverse automaton, and the number of its states
 abbrev pub back_hulls : Option Pair → List (List ℤ) → ℤ → List Hull

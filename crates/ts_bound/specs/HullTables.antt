@@ -1,12 +1,15 @@
 -- The hulls of all series of a box: at each cell, for each of its values and each state, the hull of the registers that
 -- runs over series up to that cell can have there.
 use Rattle.std.specs.Prelude.{ℕ, ◌-◌, ℤ, nat_eq, if◌then◌else◌, List, [], ◌∷◌, map, flat_map, take, drop}
-use Rattle.std.specs.Prelude.{get_or, reverse}
+use Rattle.std.specs.Prelude.{get_or, length, reverse, Option}
+use Rattle.ts_base.specs.declared.range.Range.{Range}
+use Rattle.ts_base.specs.Windows.{looked_at}
 use Rattle.ts_automaton.specs.declared.regs.Hull.{Hull}
 use Rattle.ts_automaton.specs.Body.{Body}
 use Rattle.ts_automaton.specs.SpanRun.{one_hull}
 use Rattle.ts_bound.specs.Hulls.{hull_of, none}
 use Rattle.ts_bound.specs.NextRow.{source, states_of, next_hull}
+use Rattle.ts_bound.specs.Rows.{windowed}
 
 -- at the cell where a run starts: the start registers, in the start state alone
 unfoldable pub start_hull : Body → ℕ → Hull
@@ -49,3 +52,14 @@ forward_rows b cells = rows_behind b [] cells
 unfoldable pub backward_rows : Body → List (List ℤ) → List (List Hull)
 backward_rows b [] = []
 backward_rows b (values ∷ cells) = row_of b cells values ∷ backward_rows b cells
+
+-- the box without the values of the cells that aren't looked at
+abbrev pub only_looked : Option Range → List (List ℤ) → List (List ℤ)
+only_looked window cells = windowed window (length cells) (looked_at window cells)
+
+-- the tables of a box for an automaton that looks at these cells alone: the rows of the others are empty
+abbrev pub forward_table : Body → Option Range → List (List ℤ) → List (List Hull)
+forward_table b window cells = windowed window (length cells) (forward_rows b (looked_at window cells))
+
+abbrev pub backward_table : Body → Option Range → List (List ℤ) → List (List Hull)
+backward_table b window cells = windowed window (length cells) (backward_rows b (looked_at window cells))

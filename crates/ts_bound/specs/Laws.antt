@@ -1,6 +1,7 @@
 -- What the layers above know of spans; nothing here speaks of hulls.
 use Rattle.std.specs.Prelude.{◌≡◌, ◌≤◌, ℕ, ◌-◌, ℤ, IsTrue, IfSome, Contains, List, [], ◌∷◌, length, map, set}
 use Rattle.ts_base.specs.Limits.{most_cells}
+use Rattle.ts_base.specs.Windows.{looked_at}
 use Rattle.ts_base.specs.SpanLayer.{IsWithin}
 use Rattle.ts_base.specs.Spans.{one_span, Holds}
 use Rattle.ts_automaton.specs.declared.state.Mark.TheVariants.{Same}
@@ -12,7 +13,7 @@ use Rattle.ts_glue.specs.Pairs.{Pair}
 use Rattle.ts_glue.specs.Glued.{Local}
 use Rattle.ts_glue.specs.Rules.{keeps_rules}
 use Rattle.ts_bound.specs.HullTables.{values_at}
-use Rattle.ts_bound.specs.TermSpans.{Automata, IsUsable, term_span, value_span}
+use Rattle.ts_bound.specs.TermSpans.{Automata, LooksIn, IsUsable, term_span, value_span}
 
 -- a pair that splits the automaton at each cell
 pub record Splits (b : Body) (p : Pair) : Type 0 where
@@ -26,23 +27,26 @@ pub record AreAutomata (m : Automata) : Type 0 where
   pub forward : IsTrue (is_automaton m.forward)
   pub pair : IfSome m.pair (Splits m.forward)
 
--- the span of a box at any cell that may be used holds the answer on each series of the box
+-- the span of a box at any cell that may be used holds the answer on the cells of each series that are looked at
 abbrev pub SpansHold : Type 0
 SpansHold =
     (m : Automata) → AreAutomata m → HoldsMark m.forward →
-    (cells : List (List ℤ)) → length cells ≤ most_cells → IsBox cells → (k : ℕ) → IsUsable m k cells →
-    (xs : List ℤ) → InBox xs cells → Holds (term_span m k cells) (answer m.forward xs)
+    (cells : List (List ℤ)) → length cells ≤ most_cells → IsBox cells → LooksIn m cells →
+    (k : ℕ) → IsUsable m k cells →
+    (xs : List ℤ) → InBox xs cells → Holds (term_span m k cells) (answer m.forward (looked_at m.window xs))
 
 -- the span of the box with one value alone at a cell is read off the whole box there
 abbrev pub ValueSpansAreNarrowed : Type 0
 ValueSpansAreNarrowed =
-    (m : Automata) (cells : List (List ℤ)) (k : ℕ) → 1 ≤ k → k ≤ length cells → (v : ℤ) →
+    (m : Automata) (cells : List (List ℤ)) → LooksIn m cells →
+    (k : ℕ) → 1 ≤ k → k ≤ length cells → (v : ℤ) →
     term_span m k (set cells (k - 1) (v ∷ [])) ≡ value_span m k cells v
 
 -- it lies in the span of the whole box
 abbrev pub ValueSpansAreWithin : Type 0
 ValueSpansAreWithin =
-    (m : Automata) (cells : List (List ℤ)) (k : ℕ) (v : ℤ) → Contains (values_at k cells) v →
+    (m : Automata) (cells : List (List ℤ)) → LooksIn m cells →
+    (k : ℕ) (v : ℤ) → Contains (values_at k cells) v →
     IsWithin (value_span m k cells v) (term_span m k cells)
 
 -- each set of the first box is within that of the second
@@ -59,8 +63,10 @@ SmallerBoxesAreWithin =
     (cells wider : List (List ℤ)) → AreWithin cells wider → (k : ℕ) →
     IsWithin (term_span m k cells) (term_span m k wider)
 
--- on a box of one series the span at the last cell is exactly the answer
+-- on a box of one series the span at the last cell is exactly the answer on the cells that are looked at
 abbrev pub SpansStaySingle : Type 0
 SpansStaySingle =
-    (m : Automata) → AreAutomata m → (xs : List ℤ) → 1 ≤ length xs → length xs ≤ most_cells → AreCellValues xs →
-    term_span m (length xs) (map (λ x. x ∷ []) xs) ≡ one_span (answer m.forward xs)
+    (m : Automata) → AreAutomata m →
+    (xs : List ℤ) → 1 ≤ length xs → length xs ≤ most_cells → AreCellValues xs →
+    let cells = map (λ x. x ∷ []) xs in
+    LooksIn m cells → term_span m (length xs) cells ≡ one_span (answer m.forward (looked_at m.window xs))

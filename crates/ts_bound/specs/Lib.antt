@@ -1,8 +1,9 @@
 pub mod Hulls
 pub mod NextRow
 pub mod Filling
-pub mod HullTables
 pub mod Rows
+pub mod HullTables
+pub mod Looks
 pub mod LendsRows
 pub mod TermSpans
 pub mod Laws

@@ -1,5 +1,7 @@
 -- Rows one after another in one list, and where each begins.
 use Rattle.std.specs.Prelude.{◌≡◌, ℕ, zero, suc, ◌+◌, ◌-◌, ◌≤◌, List, [], ◌∷◌, ◌++◌, length, take, drop, get_or, slice_range}
+use Rattle.std.specs.Prelude.{replicate, Option, None, Some}
+use Rattle.ts_base.specs.declared.range.Range.{Range}
 
 -- k is the number of a cell, counted from 1, that has a row
 abbrev pub IsRow : {X : Type 0} → ℕ → List (List X) → Type 0
@@ -8,6 +10,11 @@ IsRow k rows = (1 ≤ k) × (k ≤ length rows)
 -- the row of cell k
 abbrev pub row_at : {X : Type 0} → ℕ → List (List X) → List X
 row_at k rows = get_or rows (k - 1) []
+
+-- a row for each of n cells: those of the cells that are looked at, and an empty one for each cell outside the window
+abbrev pub windowed : {X : Type 0} → Option Range → ℕ → List (List X) → List (List X)
+windowed None n rows = rows
+windowed (Some w) n rows = replicate (w.first - 1) [] ++ (rows ++ replicate (n - w.last) [])
 
 unfoldable pub concat_rows : {X : Type 0} → List (List X) → List X
 concat_rows [] = []

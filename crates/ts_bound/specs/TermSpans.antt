@@ -1,25 +1,34 @@
 -- The span of a machine at a cell of a box: of its answers on the series of the box, as far as the hulls there tell.
-use Rattle.std.specs.Prelude.{◌≡◌, ℕ, ◌≤◌, ℤ, List, length, map, flat_map, fold, Option, None, Some}
+use Rattle.std.specs.Prelude.{◌≡◌, ℕ, ◌≤◌, ℤ, List, length, map, flat_map, fold, if◌then◌else◌, Option, None, Some}
+use Rattle.ts_base.specs.declared.range.Range.{Range}
 use Rattle.ts_base.specs.declared.span.Span.{Span}
 use Rattle.ts_base.specs.Spans.{none_span, span_hull}
+use Rattle.ts_base.specs.Windows.{LooksInside, looked_at}
 use Rattle.ts_automaton.specs.Registers.{spans_of}
 use Rattle.ts_automaton.specs.Body.{Body}
 use Rattle.ts_automaton.specs.AutomatonRun.{Standing}
 use Rattle.ts_automaton.specs.SpanRun.{finish_span_of}
 use Rattle.ts_glue.specs.declared.machine.Machine.{Machine}
 use Rattle.ts_glue.specs.Pairs.{Pair}
-use Rattle.ts_glue.specs.Machines.{forward_of, pair_of}
+use Rattle.ts_glue.specs.Machines.{forward_of, pair_of, window_of}
 use Rattle.ts_glue.specs.Glued.{glued_span}
 use Rattle.ts_bound.specs.NextRow.{states_of}
 use Rattle.ts_bound.specs.HullTables.{hull_at, cells_before, cells_after, values_at}
+use Rattle.ts_bound.specs.Looks.{is_looked, place_in}
 
--- a machine as contracts see it: its forward automaton, and the pair that it was made of, if it can be split
+-- a machine as contracts see it: its forward automaton, the pair that it was made of, if it can be split, and its
+-- window, if it looks at some of the cells alone
 pub record Automata : Type 0 where
   pub forward : Body
   pub pair : Option Pair
+  pub window : Option Range
 
 abbrev pub automata_of : Machine → Automata
-automata_of m = record { forward = forward_of m; pair = pair_of m }
+automata_of m = record { forward = forward_of m; pair = pair_of m; window = window_of m }
+
+-- the window ends at a cell of the box
+abbrev pub LooksIn : Automata → List (List ℤ) → Type 0
+LooksIn m cells = LooksInside (length cells) m.window
 
 -- the hull of all spans, in their order; none where there is none
 abbrev pub span_of_all : List Span → Span
@@ -46,13 +55,25 @@ unfoldable pub spans_at : Body → Option Pair → ℕ → List (List ℤ) → �
 spans_at b None k cells v = finish_spans b (length cells) (cells_before k cells) v
 spans_at b (Some p) k cells v = glued_spans p (length cells) (cells_before k cells) (cells_after k cells) v
 
+-- over cells that are all looked at: the span at cell k, with the value v there
+unfoldable pub inner_value_span : Automata → ℕ → List (List ℤ) → ℤ → Span
+inner_value_span m k cells v = span_of_all (spans_at m.forward m.pair k cells v)
+
+-- and the hull of the spans of its values
+unfoldable pub inner_span : Automata → ℕ → List (List ℤ) → Span
+inner_span m k cells = span_of_all (map (inner_value_span m k cells) (values_at k cells))
+
+-- the span at cell k of a box: that of the cells that are looked at, at its place there; at a cell outside the window
+-- the span at the window's last cell
+unfoldable pub term_span : Automata → ℕ → List (List ℤ) → Span
+term_span m k cells = inner_span m (place_in m.window k) (looked_at m.window cells)
+
 -- the span at cell k, with the value v there
 unfoldable pub value_span : Automata → ℕ → List (List ℤ) → ℤ → Span
-value_span m k cells v = span_of_all (spans_at m.forward m.pair k cells v)
-
--- the span at cell k: the hull of the spans of its values
-unfoldable pub term_span : Automata → ℕ → List (List ℤ) → Span
-term_span m k cells = span_of_all (map (value_span m k cells) (values_at k cells))
+value_span m k cells v =
+    if is_looked m.window k
+    then inner_value_span m (place_in m.window k) (looked_at m.window cells) v
+    else term_span m k cells
 
 -- k is a cell at which the machine has a span: any that there is, but the last alone where it can't be split
 pub record IsUsable (m : Automata) (k : ℕ) (cells : List (List ℤ)) : Type 0 where

@@ -4,7 +4,8 @@
 //! which holds the registers of every run of an automaton that stands there. The layer above may rely on this: a table
 //! is exactly the one of the definition, whatever way its rows are filled; a span is exactly the hull of what its hulls
 //! tell, and holds the answer of the machine on every series of the box; and the span of the box with one value alone
-//! at a cell is read off the tables of the whole box.
+//! at a cell is read off the tables of the whole box. A machine with a window has rows at the window's cells alone; at
+//! a cell outside it has the span of the window's last cell.
 //!
 //! ```text
 //! let ahead = forward(alloc, &machine, &cells)?;
@@ -15,6 +16,7 @@
 mod block;
 mod fill;
 pub mod laws;
+mod looks;
 mod other_moves;
 mod packed;
 mod packed_exprs;
@@ -42,10 +44,9 @@ mod sweep_values;
 mod swept_move;
 mod table;
 mod tables;
-#[cfg(test)]
-mod tests;
 mod widen;
 
+pub use looks::{ends, is_looked, looked_count, read_at};
 pub use row::fill_row;
 pub use spans::{term_span, value_span};
 pub use table::HullTable;

@@ -1,21 +1,27 @@
 //! A table of hulls in one vector.
 
-ghost use Rattle.std.specs.Prelude.{◌≡◌, ◌+◌, ◌*◌, ◌-◌, ◌≤◌, IfOk, length, map, take, drop, slice_range};
+ghost use Rattle.std.specs.Prelude.{◌≡◌, ◌+◌, ◌*◌, ◌-◌, ◌≤◌, if◌then◌else◌, IfOk, length, map, take, drop, slice_range};
 ghost use Rattle.std.specs.Borrow.{sem};
 ghost use Rattle.std.proofs.Common.{replicate};
+ghost use Rattle.ts_base.specs.Windows.{LooksInside};
+ghost use Rattle.ts_bound.specs.HullTables.{only_looked};
 ghost use Rattle.ts_bound.specs.Hulls.{none};
 ghost use Rattle.ts_bound.specs.LendsRows.{LendsParts, LendsRow, LendsTwo};
+ghost use Rattle.ts_bound.specs.Looks.{is_looked};
 ghost use Rattle.ts_bound.specs.Rows.{IsRow, concat_rows, place, row_at};
+ghost use Rattle.ts_domain.specs.BoxSeries.{IsCell, cell_of};
 
+use crate::looks::is_looked;
 use std::alloc::Global;
 use std::marker::Model;
 use ts_automaton::Hull;
-use ts_base::Memory;
+use ts_base::{Memory, Range};
 use ts_domain::Boxed;
 
 /// One hull per cell, value and state, in one vector: that of the value at place `i` in rising order and of the state
 /// `q`, both counted from 0, stands in the row of its cell at place `i` times the number of states plus `q`. Contracts
-/// see the rows, one after the other. What no series reaches has a hull that is none.
+/// see the rows, one after the other. What no series reaches has a hull that is none. A cell that isn't looked at has
+/// an empty row.
 #[derive(Drop)]
 pub struct HullTable {
     hulls: Vec<Hull>,
@@ -36,15 +42,23 @@ impl Model for HullTable {
 }
 
 impl HullTable {
-    /// The rows of a box for so many states, in which every hull is none.
-    pub(crate) fn empty(alloc: Global, cells: &Boxed, states: u8) -> Result<HullTable, Memory>
-        ensures { IfOk result (λ t. t ≡ map (λ d. replicate (length d * states) none) cells.now.present) }
+    /// The rows of a box for so many states, in which every hull is none; the rows of the cells that aren't looked at
+    /// are empty.
+    pub(crate) fn empty(
+        alloc: Global,
+        cells: &Boxed,
+        window: Option<Range>,
+        states: u8,
+    ) -> Result<HullTable, Memory>
+        requires { LooksInside (length cells.now.present) window }
+        ensures { IfOk result (λ t. t
+            ≡ map (λ d. replicate (length d * states) none) (only_looked window cells.now.present)) }
     {
         let mut starts = Vec::new(alloc);
         starts.push(0)?;
         let mut total = 0;
         for k in 0..cells.cells() {
-            total = end_of(total, cells.cell(k + 1).size(), states)?;
+            total = end_of(total, looked_size(cells, window, k + 1), states)?;
             starts.push(total)?;
         }
         Ok(HullTable {
@@ -125,6 +139,18 @@ impl HullTable {
     {
         let (from, to) = self.bounds(k, 1);
         to - from
+    }
+}
+
+/// How many values of cell `k` are looked at: all, or none.
+fn looked_size(cells: &Boxed, window: Option<Range>, k: u32) -> u64
+    requires { IsCell k cells.now }
+    ensures { result ≡ (if is_looked window k then length (cell_of k cells.now) else 0) }
+{
+    if is_looked(window, k) {
+        cells.cell(k).size()
+    } else {
+        0
     }
 }
 

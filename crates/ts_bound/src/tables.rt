@@ -1,67 +1,87 @@
 //! The tables of a box.
 
 ghost use Rattle.std.specs.Prelude.{◌≡◌, ◌+◌, ◌*◌, ◌-◌, ◌<◌, ◌≤◌, IfOk, IfSome, IsSome, [], length, set};
-ghost use Rattle.ts_bound.specs.HullTables.{backward_rows, forward_rows, row_of};
+ghost use Rattle.ts_base.specs.Windows.{LooksInside};
+ghost use Rattle.ts_bound.specs.HullTables.{backward_table, forward_table, row_of};
 ghost use Rattle.ts_bound.specs.NextRow.{RowStands, next_row};
 ghost use Rattle.ts_bound.specs.Rows.{IsRow, row_at};
+ghost use Rattle.ts_bound.specs.TermSpans.{LooksIn, automata_of};
 ghost use Rattle.ts_domain.specs.BoxSeries.{IsCell, cell_of};
-ghost use Rattle.ts_glue.specs.Machines.{forward_of, pair_of, reverse_of};
+ghost use Rattle.ts_glue.specs.Machines.{forward_of, pair_of, reverse_of, window_of};
 
+use crate::looks::ends;
 use crate::row::fill_row;
 use crate::start::fill_start;
 use crate::table::HullTable;
 use std::alloc::Global;
 use ts_automaton::Automaton;
-use ts_base::Memory;
+use ts_base::{Memory, Range};
 use ts_domain::Boxed;
 use ts_glue::Machine;
 
-/// The hulls of a box for the machine's forward automaton, which reads the cells from the first to the last.
+/// The hulls of a box for the machine's forward automaton, which reads the cells from the first to the last, or those
+/// of its window alone.
 pub fn forward(alloc: Global, m: &Machine, cells: &Boxed) -> Result<HullTable, Memory>
-    ensures { IfOk result (λ t. t ≡ forward_rows (forward_of m.now) cells.now.present) }
+    requires { LooksIn (automata_of m.now) cells.now.present }
+    ensures { IfOk result (λ t. t ≡ forward_table (forward_of m.now) (window_of m.now) cells.now.present) }
 {
-    from_first(alloc, m.forward(), cells)
+    from_first(alloc, m.forward(), m.window(), cells)
 }
 
-/// The hulls of a box for the machine's reverse automaton, which reads the cells from the last to the first. Only for a
-/// machine that can be split.
+/// The hulls of a box for the machine's reverse automaton, which reads these cells from the last to the first. Only for
+/// a machine that can be split.
 pub fn backward(alloc: Global, m: &Machine, cells: &Boxed) -> Result<HullTable, Memory>
-    requires { IsSome (pair_of m.now) }
-    ensures { IfOk result (λ t. IfSome (reverse_of m.now) (λ b. t ≡ backward_rows b cells.now.present)) }
+    requires split { IsSome (pair_of m.now) }
+    requires looks { LooksIn (automata_of m.now) cells.now.present }
+    ensures { IfOk result (λ t. IfSome (reverse_of m.now)
+        (λ b. t ≡ backward_table b (window_of m.now) cells.now.present)) }
 {
     match m.reverse() {
-        Some(reverse) => from_last(alloc, reverse, cells),
+        Some(reverse) => from_last(alloc, reverse, m.window(), cells),
         None => unreachable!(),
     }
 }
 
 /// The rows from the first cell on.
-pub(crate) fn from_first(alloc: Global, a: &Automaton, cells: &Boxed) -> Result<HullTable, Memory>
-    ensures { IfOk result (λ t. t ≡ forward_rows a.now cells.now.present) }
+pub(crate) fn from_first(
+    alloc: Global,
+    a: &Automaton,
+    window: Option<Range>,
+    cells: &Boxed,
+) -> Result<HullTable, Memory>
+    requires { LooksInside (length cells.now.present) window }
+    ensures { IfOk result (λ t. t ≡ forward_table a.now window cells.now.present) }
 {
-    let mut table = HullTable::empty(alloc, cells, a.states())?;
-    let last = cells.cells();
+    let mut table = HullTable::empty(alloc, cells, window, a.states())?;
+    let (first, last) = ends(window, cells.cells());
     if last == 0 {
         return Ok(table);
     }
-    start_at(&mut table, a, cells, 1);
-    for k in 1..last {
+    start_at(&mut table, a, cells, first);
+    for k in first..last {
         step_on(&mut table, a, cells, k);
     }
     Ok(table)
 }
 
 /// The rows from the last cell back.
-pub(crate) fn from_last(alloc: Global, a: &Automaton, cells: &Boxed) -> Result<HullTable, Memory>
-    ensures { IfOk result (λ t. t ≡ backward_rows a.now cells.now.present) }
+pub(crate) fn from_last(
+    alloc: Global,
+    a: &Automaton,
+    window: Option<Range>,
+    cells: &Boxed,
+) -> Result<HullTable, Memory>
+    requires { LooksInside (length cells.now.present) window }
+    ensures { IfOk result (λ t. t ≡ backward_table a.now window cells.now.present) }
 {
-    let mut table = HullTable::empty(alloc, cells, a.states())?;
-    let mut k = cells.cells();
-    if k == 0 {
+    let mut table = HullTable::empty(alloc, cells, window, a.states())?;
+    let (first, last) = ends(window, cells.cells());
+    if last == 0 {
         return Ok(table);
     }
-    start_at(&mut table, a, cells, k);
-    while k > 1 {
+    start_at(&mut table, a, cells, last);
+    let mut k = last;
+    while k > first {
         k -= 1;
         step_back(&mut table, a, cells, k);
     }

@@ -1,5 +1,8 @@
 use Rattle.std.proofs.Common.{◌≡◌}
 use Rattle.std.specs.Prelude.{flat_map}
+use Rattle.ts_base.specs.Windows.{looked_at}
+use Rattle.ts_glue.specs.Machines.{window_of}
+use Rattle.ts_bound.specs.Looks.{place_in}
 use Rattle.ts_bound.specs.HullTables.{hulls_at, cells_before, values_at}
 use Rattle.ts_bound.specs.Blocks.{last_at}
 use Rattle.ts_bound.proofs.SpanEnds.{Taken}
@@ -7,5 +10,5 @@ use Rattle.ts_bound.proofs.spans.last_span.Given as goal
 
 abbrev pub invariant-loop-value : goal.invariant-loop-value
 invariant-loop-value l =
-    Taken (last_at l.a l.p l.cells.present) (values_at l.p l.cells.present) l._value-iterator l.span
-    × (l.row ≡ flat_map (hulls_at l.a (cells_before l.p l.cells.present)) l._value-iterator)
+    Taken (last_at l.a (place_in (window_of l.m) l.k) (looked_at (window_of l.m) l.cells.present)) (values_at l.k l.cells.present) l._value-iterator l.span
+    × (l.row ≡ flat_map (hulls_at l.a (cells_before (place_in (window_of l.m) l.k) (looked_at (window_of l.m) l.cells.present))) l._value-iterator)
