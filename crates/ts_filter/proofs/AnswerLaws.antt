@@ -1,7 +1,9 @@
 -- Machines that answer the values of their terms have spans that hold the values, and tell that of a single series.
 use Rattle.std.proofs.Common.{ℕ, ◌≤◌, ℤ, List, [], ◌∷◌, sym, ◌∙◌, ap, subst}
+use Rattle.std.proofs.lemmas.List.{length-map}
 use Rattle.ts_base.specs.Limits.{most_cells}
 use Rattle.ts_base.specs.Spans.{Holds, one_span}
+use Rattle.ts_base.specs.Windows.{LooksInside}
 use Rattle.ts_automaton.specs.AutomatonRun.{AreCellValues}
 use Rattle.ts_bound.specs.TermSpans.{Automata, term_span}
 use Rattle.ts_bound.proofs.Reached.{spans_hold}
@@ -27,13 +29,15 @@ module _ (m : ModelParts) (term : ℕ) (a : Automata) (box : IsBox m.cells) (who
   holds_term : HoldsTerm m term a
   holds_term p b x v i u c e =
       let few = subst (λ k. k ≤ most_cells) (sym (inside_length b m.cells i.inside)) whole.few in
+      let looks = subst (λ k. LooksInside k a.window) (sym (inside_length b m.cells i.inside)) h.looks in
       subst (λ w. Holds (term_span a p b) w) (h.answers x v (in_box_inside b m.cells x i.inside c) e)
-      (spans_hold a h.machine h.marked b few i.box p u x c)
+      (spans_hold a h.machine h.marked b few i.box looks p u x c)
 
   tells_term : TellsTerm m term a
   tells_term x v c e =
       let n = sym (series_length x m.cells c) in
-      spans_stay_single a h.machine x (subst (λ k. 1 ≤ k) n whole.some) (subst (λ k. k ≤ most_cells) n whole.few) (cell_values x m.cells box c)
+      let looks = subst (λ k. LooksInside k a.window) (n ∙ sym (length-map x (λ v. v ∷ []))) h.looks in
+      spans_stay_single a h.machine x (subst (λ k. 1 ≤ k) n whole.some) (subst (λ k. k ≤ most_cells) n whole.few) (cell_values x m.cells box c) looks
       ∙ ap one_span (h.answers x v c e)
 
 pub answers_are_enough : AnswersAreEnough

@@ -2,7 +2,7 @@
 use Rattle.std.proofs.Common.{◌≡◌, ℕ, zero, suc, ◌+◌, ◌*◌, ◌-◌, ◌<◌, ◌≤◌, ℤ, List, [], ◌∷◌, ◌++◌, length, map, take, drop, slice_get, Bool, true, false, cond, nat_eq, Option, Some, None, refl, sym, ap, ◌∙◌, subst, arith}
 use Rattle.std.specs.Prelude.{Contains, flat_map, slice_range}
 use Rattle.std.specs.List.{AllByRecursion, range_with_len}
-use Rattle.std.proofs.lemmas.List.{append_assoc, take_at, drop_at, drop-drop, take_more, take_all, drop_more, length-append, map-append}
+use Rattle.std.proofs.lemmas.List.{append_assoc, take_at, drop_at, drop-drop, take_more, drop_more, length-append, map-append}
 use Rattle.std.proofs.lemmas.List.Sums.{fold-append}
 use Rattle.std.proofs.lemmas.List.FromFn.{map-range_with_len_more}
 use Rattle.std.proofs.lemmas.Bool.{eqb-true}
@@ -15,16 +15,15 @@ use Rattle.ts_automaton.specs.Body.{Body}
 use Rattle.ts_automaton.specs.Registers.{spans_of}
 use Rattle.ts_automaton.specs.SpanRun.{none_hull, one_hull}
 use Rattle.ts_domain.specs.BoxSeries.{IsBox}
-use Rattle.ts_bound.specs.Blocks.{back_hulls, back_states}
+use Rattle.ts_bound.specs.Blocks.{OfReverse, back_hulls, back_states}
 use Rattle.ts_bound.specs.Hulls.{hull_of, none}
-use Rattle.ts_bound.specs.HullTables.{start_hull, hull_at, hulls_at, row_of, cells_after, values_at}
+use Rattle.ts_bound.specs.HullTables.{start_hull, hull_at, hulls_at, row_of, values_at}
 use Rattle.ts_bound.specs.NextRow.{states_of}
-use Rattle.ts_bound.specs.TermSpans.{Automata, span_of_all, term_span, value_span}
+use Rattle.ts_bound.specs.TermSpans.{span_of_all}
 use Rattle.ts_bound.proofs.SpanEnds.{still_there, within_of, back_length}
 use Rattle.ts_bound.proofs.SpanRuns.{length-hulls_at}
 use Rattle.ts_glue.specs.Pairs.{Pair}
 use Rattle.ts_filter.specs.Boxes.{Box}
-use Rattle.ts_filter.specs.CellHulls.{IsBackRow}
 
 -- the hulls of one value in a row
 
@@ -61,15 +60,16 @@ row_block a before values i v row hs s is_s is e is_hs =
     is_hs ∙ ap (λ w. take w (drop (i * s) row)) wide ∙ ap (λ l. take s (drop (i * s) l)) is
     ∙ part_at s (hulls_at a before) (λ u. length-hulls_at a before u ∙ sym is_s) values i v (i * s) refl e
 
-pub back_holds : (p : Option Pair) (k : ℕ) (b : Box) (i : ℕ) (v : ℤ) (row : List Hull) (s : ℕ) → s ≡ back_states p → IsBackRow p k b row →
-    slice_get (values_at k b) i ≡ Some v → i * s + s ≤ length row
-back_holds None k b i v row s is_s is e = absurd is
-back_holds (Some p) k b i v row s is_s is e = row_holds p.reverse (cells_after k b) (values_at k b) i v row s is_s is e
+pub back_holds : (p : Option Pair) (behind : Box) (values : List ℤ) (i : ℕ) (v : ℤ) (row : List Hull) (s : ℕ) → s ≡ back_states p →
+    OfReverse p (λ r. row ≡ row_of r behind values) → slice_get values i ≡ Some v → i * s + s ≤ length row
+back_holds None behind values i v row s is_s is e = absurd is
+back_holds (Some p) behind values i v row s is_s is e = row_holds p.reverse behind values i v row s is_s is e
 
-pub back_block : (p : Option Pair) (k : ℕ) (b : Box) (i : ℕ) (v : ℤ) (row hs : List Hull) (s : ℕ) → s ≡ back_states p → IsBackRow p k b row →
-    slice_get (values_at k b) i ≡ Some v → hs ≡ slice_range row (i * s) (i * s + s) → hs ≡ back_hulls p (cells_after k b) v
-back_block None k b i v row hs s is_s is e is_hs = absurd is
-back_block (Some p) k b i v row hs s is_s is e is_hs = row_block p.reverse (cells_after k b) (values_at k b) i v row hs s is_s is e is_hs
+pub back_block : (p : Option Pair) (behind : Box) (values : List ℤ) (i : ℕ) (v : ℤ) (row hs : List Hull) (s : ℕ) → s ≡ back_states p →
+    OfReverse p (λ r. row ≡ row_of r behind values) → slice_get values i ≡ Some v → hs ≡ slice_range row (i * s) (i * s + s) →
+    hs ≡ back_hulls p behind v
+back_block None behind values i v row hs s is_s is e is_hs = absurd is
+back_block (Some p) behind values i v row hs s is_s is e is_hs = row_block p.reverse behind values i v row hs s is_s is e is_hs
 
 pub ahead_long : (a : Body) (before : Box) (v : ℤ) (hs : List Hull) → hs ≡ hulls_at a before v → length hs ≡ length a.states
 ahead_long a before v hs is = ap length is ∙ length-hulls_at a before v
@@ -97,12 +97,6 @@ span_more f values i v span one both lt e is_one is_both inv =
     is_both ∙ ap (λ s. span_hull s one) inv ∙ ap (span_hull so_far) is_one
     ∙ sym (ap (λ l. span_of_all (map f l)) (take_more values i v lt ∙ ap (λ x. take i values ++ x ∷ []) (get_or_from_slice_get values i v v e))
     ∙ ap span_of_all (map-append f (take i values) (v ∷ [])) ∙ fold-append span_hull none_span (map f (take i values)) (f v ∷ []))
-
-pub span_all : (m : Automata) (k : ℕ) (b : Box) (values : List ℤ) (i : ℕ) (span : Span) → values ≡ values_at k b → length values ≤ i →
-    span ≡ span_of_all (map (value_span m k b) (take i values)) → span ≡ term_span m k b
-unfolding term_span
-span_all m k b values i span is all inv =
-    inv ∙ ap (λ l. span_of_all (map (value_span m k b) l)) (take_all i values all ∙ is)
 
 -- the place of a value
 

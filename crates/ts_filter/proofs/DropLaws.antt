@@ -1,23 +1,26 @@
 -- The drops by the requirements of one term, value by value and cell by cell, and those of all terms.
-use Rattle.std.proofs.Common.{◌≡◌, ◌⊎◌, ℕ, ◌+◌, ◌-◌, ◌<◌, ◌≤◌, ℤ, ◌<ℤ◌, List, ◌∷◌, length, map}
+use Rattle.std.proofs.Common.{◌≡◌, ◌⊎◌, ℕ, zero, suc, ◌+◌, ◌-◌, ◌<◌, ◌≤◌, ℤ, ◌<ℤ◌, Bool, true, false, List, [], ◌∷◌, length, map}
 use Rattle.std.proofs.Common.{Option, Some, None, option_map, slice_get, get_or, refl, sym, ◌∙◌, ap, subst, inl, inr, ⊎_elim, arith}
 use Rattle.std.proofs.lemmas.Option.{slice_get-map, slice_get_read}
 use Rattle.std.specs.Prelude.{Contains}
 use Rattle.std.specs.List.{AllByRecursion}
-use Rattle.ts_bound.specs.TermSpans.{Automata, automata_of, value_span, IsUsable as IsUsableOf}
+use Rattle.ts_bound.specs.Looks.{is_looked}
+use Rattle.ts_bound.specs.TermSpans.{Automata, LooksIn, automata_of, term_span, value_span, IsUsable as IsUsableOf}
 use Rattle.ts_bound.proofs.Reached.{values_narrowed}
 use Rattle.ts_glue.specs.declared.machine.Machine.{Machine}
 use Rattle.ts_domain.specs.Values.{IsRising}
 use Rattle.ts_domain.proofs.Sets.{contains_cons, each_contains}
 use Rattle.ts_model.specs.declared.model.Require.{Require}
 use Rattle.ts_filter.specs.declared.drops.Removal.{Removal}
+use Rattle.ts_filter.specs.declared.term_requirements.TermRequirements.{TermRequirements}
 use Rattle.ts_filter.specs.Boxes.{Box, values_at, only}
 use Rattle.ts_filter.specs.Drops.{MayDrop, IsNoLater, IsFirstOf, IsFirstDrop}
 use Rattle.ts_filter.specs.Excluded.{Refutes}
 use Rattle.ts_filter.specs.MachineSpans.{spans_of}
 use Rattle.ts_filter.specs.RefutedWorseDrop.{IsUsable}
-use Rattle.ts_filter.specs.TermDrops.{IsRefuting, IsFirstRefuting, IsTermDrop, IsDropAt, earlier_of}
+use Rattle.ts_filter.specs.TermDrops.{IsRefuting, IsFirstRefuting, IsRefutedOutside, MayHaveDrop, IsTermDrop, IsDropAt, earlier_of, least_drop}
 use Rattle.ts_filter.proofs.CallLaws.{usable_only, usable_whole}
+use Rattle.ts_filter.proofs.Looked.{value_outside}
 use Rattle.ts_filter.proofs.MachineLaws.{spans_are_of_machines}
 use Rattle.ts_filter.proofs.Removals.{first_of_both, first_same}
 use Rattle.ts_filter.proofs.SoundLaws.{each_at}
@@ -88,16 +91,64 @@ module _ (rs : List Require) (term : ℕ) (a : Automata) (b : Box) where
   abbrev pub NoneUpTo : ℕ → Type 0
   NoneUpTo n = (t : Removal) → IsTermDrop rs term a b t → n < t.cell
 
+  -- outside the window all values of a cell have one span
+
+  pub refuting_outside : (t : Removal) → IsTermDrop rs term a b t → is_looked a.window t.cell ≡ false → IsRefuting rs term (term_span a t.cell b) t.require
+  refuting_outside t h e = subst (λ s. IsRefuting rs term s t.require) (value_outside a t.cell b t.value e) h.refuting
+
+  pub least_outside : (k : ℕ) (outside : Option ℕ) → IsUsableOf a k b → is_looked a.window k ≡ false → IsRefutedOutside rs term a b outside →
+      IsRising (values_at k b) → IsFirstOf (IsDropAt rs term a b k) (least_drop k (values_at k b) outside)
+  least_outside k outside u e refuted rises = by_values (values_at k b) refl outside (refuted k u e)
+    where
+      by_values : (values : List ℤ) → values_at k b ≡ values → (o : Option ℕ) → IsFirstRefuting rs term (term_span a k b) o →
+          IsFirstOf (IsDropAt rs term a b k) (least_drop k values o)
+      by_values [] is o f = λ t h. few (values_at t.cell b) (ap (λ c. values_at c b) h.0 ∙ is) h.1.many
+        where
+          few : (values : List ℤ) → values ≡ [] → 2 ≤ length values → ⊥
+          few values e many = let n = ap length e in omega (arith, n, many)
+      by_values (v ∷ []) is o f = λ t h. few (values_at t.cell b) (ap (λ c. values_at c b) h.0 ∙ is) h.1.many
+        where
+          few : (values : List ℤ) → values ≡ v ∷ [] → 2 ≤ length values → ⊥
+          few values e many = let n = ap length e in omega (arith, n, many)
+      by_values (v ∷ w ∷ vs) is None f = λ t h.
+          f t.require (subst (λ c. IsRefuting rs term (term_span a c b) t.require) h.0
+          (refuting_outside t h.1 (subst (λ c. is_looked a.window c ≡ false) (sym h.0) e)))
+      by_values (v ∷ w ∷ vs) is (Some j) f =
+          let same = sym (value_outside a k b v e) in
+          drop_found rs term a b k (v ∷ w ∷ vs) (w ∷ vs) v j (record {
+            inside = λ x c. subst (λ l. Contains l x) (sym is) c;
+            rises = subst IsRising is rises;
+            ahead = λ t h. subst (λ l. Contains l t.value) is (there rs term a b k t h);
+          }) refl u (subst (λ l. 2 ≤ length l) (sym is) (omega arith)) (subst (λ s. IsFirstRefuting rs term s (Some j)) same f)
+
+  -- no drop is outside where no requirement is refuted there
+  pub may_have : (outside : Option ℕ) → IsRefutedOutside rs term a b outside → (t : Removal) → IsTermDrop rs term a b t → MayHaveDrop a outside t.cell
+  may_have None refuted t h = by_test (is_looked a.window t.cell) refl
+    where
+      by_test : (z : Bool) → is_looked a.window t.cell ≡ z → MayHaveDrop a None t.cell
+      by_test true e = inl e
+      by_test false e = absurd (refuted t.cell h.usable e t.require (refuting_outside t h e))
+  may_have (Some j) refuted t h = inr refl
+
+  pub none_up_to_first : (outside : Option ℕ) (first : ℕ) → IsRefutedOutside rs term a b outside →
+      ((k : ℕ) → IsUsableOf a k b → MayHaveDrop a outside k → first < k) → NoneUpTo first
+  none_up_to_first outside first refuted all t h = all t.cell h.usable (may_have outside refuted t h)
+
+  pub none_behind_last : (outside : Option ℕ) (last n : ℕ) → IsRefutedOutside rs term a b outside →
+      ((k : ℕ) → IsUsableOf a k b → MayHaveDrop a outside k → k ≤ last) → last ≤ n → NoneUpTo n → IsFirstOf (IsTermDrop rs term a b) None
+  none_behind_last outside last n refuted all le none t h =
+      let from = none t h in let to = all t.cell h.usable (may_have outside refuted t h) in omega (arith, from, to, le)
+
 module _ (rs : List Require) (ms : List Automata) (b : Box) where
   -- a drop by a requirement of the first terms
   abbrev pub DropBelow : ℕ → Removal → Type 0
   DropBelow n r = (d : MayDrop rs (spans_of ms) b r) × (d.refuted.require.term < n)
 
-  module _ (term : ℕ) (a : Automata) (has : slice_get ms term ≡ Some a) where
+  module _ (term : ℕ) (a : Automata) (has : slice_get ms term ≡ Some a) (looks : LooksIn a b) where
     span_is : (z k : ℕ) (v : ℤ) → z ≡ term → IsUsableOf a k b → (spans_of ms).span_at z k (only k v b) ≡ value_span a k b v
     span_is z k v e u =
         ap (λ i. (spans_of ms).span_at i k (only k v b)) e ∙ (spans_are_of_machines ms term a has).span k (only k v b)
-        ∙ values_narrowed a b k u.from u.to v
+        ∙ values_narrowed a b looks k u.from u.to v
 
     to_drop : (t : Removal) → IsTermDrop rs term a b t → MayDrop rs (spans_of ms) b t
     to_drop t h =
@@ -166,3 +217,15 @@ pub machine_there : (machines : List Machine) (term : ℕ) (m : Machine) → ter
     slice_get (map automata_of machines) term ≡ Some (automata_of m)
 machine_there machines term m l e =
     slice_get-map automata_of machines term ∙ ap (option_map automata_of) (slice_get_read machines (length machines) term m refl l e)
+
+pub machine_looks : (b : Box) (machines : List Machine) (term : ℕ) (m : Machine) → AllByRecursion (λ x. LooksIn (automata_of x) b) machines →
+    term < length machines → m ≡ get_or machines term m → LooksIn (automata_of m) b
+machine_looks b [] term m h l e = absurd (omega (arith, l))
+machine_looks b (x ∷ machines) zero m h l e = subst (λ z. LooksIn (automata_of z) b) (sym e) h.0
+machine_looks b (x ∷ machines) (suc term) m h l e = machine_looks b machines term m h.1 (omega (arith, l)) e
+
+-- what is refuted by the requirements of a term, as the code holds them
+pub refuted_of : (own : TermRequirements) (rs : List Require) (term : ℕ) (a : Automata) (b : Box) (outside : Option ℕ) → own.all.now ≡ rs → own.term ≡ term →
+    IsRefutedOutside own.all.now own.term a b outside → IsRefutedOutside rs term a b outside
+refuted_of own rs term a b outside is_all is_term h =
+    subst (λ z. IsRefutedOutside rs z a b outside) is_term (subst (λ z. IsRefutedOutside z own.term a b outside) is_all h)

@@ -3,6 +3,7 @@ use Rattle.std.proofs.Common.{◌≡◌, ◌⊎◌, ℕ, ℤ, ◌≤ℤ◌, ◌<
 use Rattle.std.proofs.Common.{Option, Some, None, refl, sym, ◌∙◌, ap, subst, inl, inr, ⊎_elim, arith}
 use Rattle.std.proofs.lemmas.Int.{ints}
 use Rattle.std.proofs.lemmas.Bool.{not-false, not-true, not_from_false}
+use Rattle.std.proofs.lemmas.Option.{none-some}
 use Rattle.std.specs.Prelude.{Contains}
 use Rattle.ts_base.specs.declared.ext.Ext.{Ext}
 use Rattle.ts_base.specs.declared.goal.Goal.{Goal}
@@ -12,7 +13,8 @@ use Rattle.ts_base.proofs.Order.{le_trans, le_antisym, le_other}
 use Rattle.ts_domain.specs.Values.{IsRising}
 use Rattle.ts_domain.proofs.Sets.{contains_cons, nothing_in, each_contains}
 use Rattle.ts_model.specs.FirstBest.{is_better}
-use Rattle.ts_bound.specs.TermSpans.{Automata}
+use Rattle.ts_bound.specs.Looks.{is_looked}
+use Rattle.ts_bound.specs.TermSpans.{Automata, LooksIn}
 use Rattle.ts_bound.proofs.Reached.{values_narrowed}
 use Rattle.ts_glue.specs.Pairs.{Pair}
 use Rattle.ts_filter.specs.Boxes.{Box, HasCell, values_at}
@@ -20,6 +22,7 @@ use Rattle.ts_filter.specs.Ends.{best_end}
 use Rattle.ts_filter.specs.KeptValue.{IsPreferred, IsKeptOver, IsKept, end_with, end_in}
 use Rattle.ts_filter.specs.CellHulls.{AtCell, at_cell}
 use Rattle.ts_filter.proofs.DropLaws.{rising_parts}
+use Rattle.ts_filter.proofs.Looked.{value_outside}
 
 -- v isn't better than w: then w is better, or they are the same
 not_better : (goal : Goal) (v w : Ext) → is_better goal v w ≡ false → (is_better goal w v ≡ true) ⊎ (w ≡ v)
@@ -123,9 +126,9 @@ pub told_so : (goal : Goal) (x y e f : Ext) (r t : Bool) → r ≡ is_better goa
 told_so goal x y e f r t h p q s =
     sym (ap (λ z. is_better goal z f) p) ∙ sym (ap (λ z. is_better goal x z) q) ∙ sym h ∙ s
 
-module _ (a : Automata) (goal : Goal) (k : ℕ) (b : Box) (v : ℤ) where
+module _ (a : Automata) (goal : Goal) (k : ℕ) (b : Box) (v : ℤ) (looks : LooksIn a b) where
   ends_same : (u : ℤ) → HasCell k b → end_in a goal k b u ≡ end_with a goal k b u
-  ends_same u c = ap (best_end goal) (sym (values_narrowed a b k c.0 c.1 u))
+  ends_same u c = ap (best_end goal) (sym (values_narrowed a b looks k c.0 c.1 u))
 
   by_same_ends : (u : ℤ) → HasCell k b → IsPreferred goal (end_in a goal k b) v u → IsPreferred goal (end_with a goal k b) v u
   by_same_ends u c (inl h) =
@@ -141,9 +144,22 @@ module _ (a : Automata) (goal : Goal) (k : ℕ) (b : Box) (v : ℤ) where
       go u g None e = absurd (n e)
       go u g (Some p) e = by_same_ends u c (best u g)
 
-pub kept_by : (t : AtCell) (a : Automata) (b : Box) (goal : Goal) (k : ℕ) (v : ℤ) → t ≡ at_cell a b k → (a.pair ≡ None → ⊥) → HasCell k b →
+  -- where the machine can't be split the least value is kept, and outside the window, where all ends are one
+  pub kept_least : (a.pair ≡ None) ⊎ (is_looked a.window k ≡ false) → HasCell k b → Contains (values_at k b) v →
+      ((u : ℤ) → Contains (values_at k b) u → v ≤ℤ u) → IsKept a goal k b v
+  kept_least why c there least = record { there = there; over = λ u g. go u (least u g) a.pair refl why }
+    where
+      go : (u : ℤ) → v ≤ℤ u → (o : Option Pair) → a.pair ≡ o → (a.pair ≡ None) ⊎ (is_looked a.window k ≡ false) → IsKeptOver o goal (end_with a goal k b) v u
+      go u le None is why = le
+      go u le (Some p) is (inl plain) = absurd (none-some p (sym plain ∙ is))
+      go u le (Some p) is (inr e) = inr (
+        sym (ends_same v c) ∙ ap (best_end goal) (value_outside a k b v e ∙ sym (value_outside a k b u e)) ∙ ends_same u c,
+        le,
+      )
+
+pub kept_by : (t : AtCell) (a : Automata) (b : Box) (goal : Goal) (k : ℕ) (v : ℤ) → LooksIn a b → t ≡ at_cell a b k → (a.pair ≡ None → ⊥) → HasCell k b →
     Contains (values_at t.cell t.cells) v → ((u : ℤ) → Contains (values_at t.cell t.cells) u → IsPreferred goal (end_in t.machine goal t.cell t.cells) v u) →
     IsKept a goal k b v
-kept_by t a b goal k v e n c there best =
-    kept_split a goal k b v n c (subst (λ z. Contains (values_at z.cell z.cells) v) e there)
+kept_by t a b goal k v looks e n c there best =
+    kept_split a goal k b v looks n c (subst (λ z. Contains (values_at z.cell z.cells) v) e there)
     (subst (λ z. (u : ℤ) → Contains (values_at z.cell z.cells) u → IsPreferred goal (end_in z.machine goal z.cell z.cells) v u) e best)

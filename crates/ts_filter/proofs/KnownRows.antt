@@ -5,16 +5,17 @@ use Rattle.std.proofs.lemmas.List.{append-nil, take_more, take_at, drop_at, leng
 use Rattle.ts_automaton.specs.declared.regs.Hull.{Hull}
 use Rattle.ts_automaton.specs.Body.{Body}
 use Rattle.ts_automaton.specs.Typing.{is_automaton}
-use Rattle.ts_bound.specs.HullTables.{row_of, rows_behind, forward_rows, cells_after, values_at}
+use Rattle.ts_bound.specs.Blocks.{OfReverse}
+use Rattle.ts_bound.specs.HullTables.{row_of, rows_behind, forward_rows, cells_before, cells_after, values_at}
 use Rattle.ts_bound.specs.NextRow.{RowStands, next_row}
 use Rattle.ts_bound.proofs.SpanRuns.{forward_row}
 use Rattle.ts_bound.proofs.TableLaws.{length-forward, length-row_of, row_on, rows_stand}
 use Rattle.ts_glue.specs.Pairs.{Pair}
 use Rattle.ts_filter.specs.Boxes.{Box}
-use Rattle.ts_filter.specs.CellHulls.{ahead_row, IsBackRow}
-use Rattle.ts_filter.specs.declared.rows.Way.{Way}
-use Rattle.ts_filter.specs.declared.rows.Way.TheVariants.{FromFirst, FromLast}
-use Rattle.ts_filter.specs.KnownRows.{in_order, AreFirst, AreBehind}
+use Rattle.ts_filter.specs.declared.reading.Way.{Way}
+use Rattle.ts_filter.specs.declared.reading.Way.TheVariants.{FromFirst, FromLast}
+use Rattle.ts_filter.specs.KnownRows.{AreFirst, AreBehind}
+use Rattle.ts_filter.specs.Reading.{in_order}
 use Rattle.ts_filter.specs.RowStacks.{Rows}
 
 -- lists from their ends
@@ -121,7 +122,7 @@ next_behind a cells rows row before before_values values i at lt is is_before is
 -- the rows of a cell
 
 pub ahead_there : (a : Body) (b : Box) (rows : Rows) (row d : List Hull) (k : ℕ) → AreFirst a b rows → 1 ≤ k → k ≤ length rows → row ≡ get_or rows (k - 1) d →
-    row ≡ ahead_row a k b
+    row ≡ row_of a (cells_before k b) (values_at k b)
 ahead_there a b rows row d k h some to is =
     let few = few_known a b rows h in
     before_is a b rows row d (k - 1) h (omega (arith, some, to)) is ∙ row_at_place a b (k - 1) (omega (arith, some, to, few))
@@ -144,6 +145,6 @@ back_there a b rows row d k h some to lt is =
     ∙ ap (λ z. row_of a z (get_or (reverse b) (length b - k) [])) (turned_before b k to) ∙ ap (row_of a (drop k b)) (turned_at b k some to)
 
 pub behind_there : (p : Option Pair) (b : Box) (rows : Rows) (row d : List Hull) (k : ℕ) → (p ≡ None → ⊥) → AreBehind p b rows → 1 ≤ k → k ≤ length b →
-    length b - k < length rows → row ≡ get_or rows (length b - k) d → IsBackRow p k b row
+    length b - k < length rows → row ≡ get_or rows (length b - k) d → OfReverse p (λ a. row ≡ row_of a (cells_after k b) (values_at k b))
 behind_there None b rows row d k some h from to lt is = absurd (some refl)
 behind_there (Some p) b rows row d k some h from to lt is = back_there p.reverse b rows row d k h from to lt is

@@ -1,17 +1,22 @@
 -- Rows above those that are known: what a change leaves of them, and when they are known too.
-use Rattle.std.proofs.Common.{◌≡◌, ℕ, zero, suc, ◌+◌, ◌-◌, ◌<◌, ◌≤◌, ◌⊎◌, inl, inr, List, [], ◌∷◌, ◌++◌, length, take, drop, reverse, set, get_or, Option, Some, None, sym, ap, ◌∙◌, subst, arith}
+use Rattle.std.proofs.Common.{◌≡◌, ℕ, zero, suc, ◌+◌, ◌-◌, ◌<◌, ◌≤◌, ◌⊎◌, inl, inr, List, [], ◌∷◌, ◌++◌, length, take, drop, reverse, set, get_or, Option, Some, None, option_map, refl, sym, ap, ◌∙◌, subst, arith}
 use Rattle.std.specs.Prelude.{Result, Ok, Err, OnOk, OnErr}
+use Rattle.std.proofs.lemmas.Option.{same_Some}
 use Rattle.std.proofs.lemmas.List.{append_assoc, get_or_default, take_at, take_more, take_all, set_split, get_or-take, get_or-drop, get_or-append-add, length-append, length-take, length-drop, length-reverse}
 use Rattle.ts_automaton.specs.declared.regs.Hull.{Hull}
 use Rattle.ts_automaton.specs.Body.{Body}
+use Rattle.ts_base.specs.declared.range.Range.{Range}
+use Rattle.ts_base.specs.Windows.{looked_at}
 use Rattle.ts_bound.specs.HullTables.{forward_rows}
 use Rattle.ts_bound.specs.NextRow.{next_row}
 use Rattle.ts_bound.specs.TermSpans.{Automata}
 use Rattle.ts_bound.proofs.TableLaws.{row_on}
 use Rattle.ts_filter.specs.Boxes.{Box}
-use Rattle.ts_filter.specs.KnownRows.{AreFirst, AreRows, AreBehind, GoOnBehind, KnownRows, StayKnown}
-use Rattle.ts_filter.specs.RowStacks.{Rows, Laid, Stack, IsFollowed, GoOn, Stands, IsOneMore, IsCut, with_row}
+use Rattle.ts_filter.specs.KnownRows.{AreFirst, AreKnown, AreRows, AreRowsOf, AreBehind, GoOnBehind, KnownRows, StayKnown, StillKnown}
+use Rattle.ts_filter.specs.RowStacks.{Rows, Laid, Stack, IsFollowed, GoOn, Stands, IsOneMore, IsCut, no_rows, nothing_laid, with_row}
+use Rattle.ts_domain.proofs.Sets.{nothing_in}
 use Rattle.ts_glue.specs.Pairs.{Pair}
+use Rattle.ts_model.specs.declared.model.Require.{Require}
 use Rattle.ts_filter.proofs.KnownRows.{few_known, known_at, one_more, reverse_take, stay_first, behind_stay, turned_front}
 
 -- rows that are known
@@ -208,25 +213,89 @@ turned_rest n before b later e f same =
     ap (λ m. drop (m - before) (reverse later)) (sym f) ∙ sym (reverse_take before later) ∙ ap reverse same ∙ reverse_take before b
     ∙ ap (λ m. drop (m - before) (reverse b)) e
 
--- the tables of a machine with these rows
-abbrev pub tables : Automata → Stack → Stack → KnownRows
-tables a x y = record { machine = a; ahead = x.known; behind = y.known; laid_ahead = x.laid; laid_behind = y.laid }
+-- the tables of a machine with these rows, and these requirements by which nothing is found
+abbrev pub tables : Automata → Stack → Stack → List Require → KnownRows
+tables a x y quiet =
+    record { machine = a; ahead = x.known; behind = y.known; laid_ahead = x.laid; laid_behind = y.laid; quiet = quiet }
 
-pub tables_stay : (a : Automata) (first last n : ℕ) (x y x' y' : Stack) → IsCut (first - 1) last x x' → IsCut (n - last) (n - (first - 1)) y y' →
-    StayKnown first last n (tables a x y) (tables a x' y')
-tables_stay a first last n x y x' y' f g b later d h =
+pub tables_stay : (a : Automata) (first last n : ℕ) (x y x' y' : Stack) (quiet : List Require) → IsCut first last x x' →
+    IsCut (n - last) (n - first) y y' → StayKnown first last n (tables a x y quiet) (tables a x' y' [])
+tables_stay a first last n x y x' y' quiet f g b later d h =
     let count = d.count_later ∙ sym d.count in
     record {
-      ahead = stay_first a.forward b later (first - 1) x.known x'.known f.known d.before h.ahead;
+      ahead = stay_first a.forward b later first x.known x'.known f.known d.before h.ahead;
       behind = behind_stay a.pair b later (n - last) y.known y'.known g.known (turned_front n last b later d.count d.count_later d.behind) h.behind;
       laid_ahead = laid_stay a.forward b later last x.known x.laid x'.laid h.ahead h.laid_ahead f.from f.rows f.above count d.behind;
-      laid_behind = laid_behind_stay a.pair b later (n - (first - 1)) y.known y.laid y'.laid h.behind h.laid_behind g.from g.rows g.above count
-          (turned_rest n (first - 1) b later d.count d.count_later d.before);
+      laid_behind = laid_behind_stay a.pair b later (n - first) y.known y.laid y'.laid h.behind h.laid_behind g.from g.rows g.above count
+          (turned_rest n first b later d.count d.count_later d.before);
+      quiet = λ r c. absurd (nothing_in r c);
     }
 
-pub stay_known : (a : Automata) (first last n before rest : ℕ) (x y x' y' : Stack) (old new : KnownRows) → before ≡ first - 1 → rest ≡ n - before →
-    IsCut before last x x' → IsCut (n - last) rest y y' → tables a x y ≡ old → tables a x' y' ≡ new → StayKnown first last n old new
-stay_known a first last n before rest x y x' y' old new e is f g was now =
-    let f' = subst (λ m. IsCut m last x x') e f in let g' = subst (λ m. IsCut (n - last) m y y') (is ∙ ap (λ m. n - m) e) g in
-    subst (StayKnown first last n old) now
-    (subst (λ t. StayKnown first last n t (tables a x' y')) was (tables_stay a first last n x y x' y' f' g'))
+-- the same, as the code makes it
+pub stay_known : (a : Automata) (first last n : ℕ) (x y x' y' : Stack) (quiet quiet' : List Require) (old new : KnownRows) → IsCut first last x x' →
+    IsCut (n - last) (n - first) y y' → quiet' ≡ [] → tables a x y quiet ≡ old → tables a x' y' quiet' ≡ new → StayKnown first last n old new
+stay_known a first last n x y x' y' quiet quiet' old new f g none was now =
+    subst (StayKnown first last n old) (ap (tables a x' y') (sym none) ∙ now)
+    (subst (λ t. StayKnown first last n t (tables a x' y' [])) was (tables_stay a first last n x y x' y' quiet f g))
+
+-- tables of which nothing is known
+
+no_behind : (p : Option Pair) (cells : Box) → AreBehind p cells [] × GoOnBehind p cells nothing_laid
+no_behind None cells = (tt, tt)
+no_behind (Some p) cells = (refl, record { few = omega arith; each = λ i le lt. absurd (omega (arith, lt)) })
+
+pub nothing_known : (a : Automata) (x y : Stack) (quiet : List Require) (t : KnownRows) (cells : Box) → x ≡ no_rows → y ≡ no_rows → quiet ≡ [] →
+    tables a x y quiet ≡ t → AreRowsOf cells t
+nothing_known a x y quiet t cells is is' none now =
+    let empty : AreRowsOf cells (tables a no_rows no_rows []) = record {
+      ahead = refl;
+      behind = (no_behind a.pair cells).0;
+      laid_ahead = record { few = omega arith; each = λ i le lt. absurd (omega (arith, lt)) };
+      laid_behind = (no_behind a.pair cells).1;
+      quiet = λ r c. absurd (nothing_in r c);
+    } in
+    subst (AreRowsOf cells)
+    (ap (λ z. tables a z no_rows []) (sym is) ∙ ap (λ z. tables a x z []) (sym is') ∙ ap (tables a x y) (sym none) ∙ now) empty
+
+-- tables with more rows
+
+module _ (a : Automata) (b : Box) (quiet : List Require) (old new : KnownRows) (row : Body) (w : Option Range) (is_window : w ≡ a.window)
+    (h : AreKnown b old) where
+  pub ahead_known : (x x' y : Stack) → row ≡ a.forward → AreRows row (looked_at w b) x' → tables a x y quiet ≡ old → tables a x' y quiet ≡ new →
+      StillKnown b old new
+  ahead_known x x' y is rows was now =
+      let known = subst (AreKnown b) (sym was) h in
+      let more = subst (λ v. AreRows a.forward (looked_at v b) x') is_window (subst (λ f. AreRows f (looked_at w b) x') is rows) in
+      subst (StillKnown b old) now
+      (subst (λ t. StillKnown b t (tables a x' y quiet)) was (record {
+        machine = refl;
+        known = record {
+          ahead = more.known;
+          behind = known.behind;
+          laid_ahead = more.laid;
+          laid_behind = known.laid_behind;
+          quiet = known.quiet;
+        };
+      }))
+
+  rows_behind : (p : Option Pair) (cells : Box) (s : Stack) → Some row ≡ option_map (λ q. q.reverse) p → AreRows row (reverse cells) s →
+      AreBehind p cells s.known × GoOnBehind p cells s.laid
+  rows_behind None cells s e rows = (tt, tt)
+  rows_behind (Some p) cells s e rows = let r = subst (λ f. AreRows f (reverse cells) s) (same_Some row p.reverse e) rows in (r.known, r.laid)
+
+  pub behind_known : (x y y' : Stack) → Some row ≡ option_map (λ q. q.reverse) a.pair → AreRows row (reverse (looked_at w b)) y' → tables a x y quiet ≡ old →
+      tables a x y' quiet ≡ new → StillKnown b old new
+  behind_known x y y' is rows was now =
+      let known = subst (AreKnown b) (sym was) h in
+      let more = rows_behind a.pair (looked_at a.window b) y' is (subst (λ v. AreRows row (reverse (looked_at v b)) y') is_window rows) in
+      subst (StillKnown b old) now
+      (subst (λ t. StillKnown b t (tables a x y' quiet)) was (record {
+        machine = refl;
+        known = record {
+          ahead = known.ahead;
+          behind = more.0;
+          laid_ahead = known.laid_ahead;
+          laid_behind = more.1;
+          quiet = known.quiet;
+        };
+      }))

@@ -10,6 +10,7 @@ pub mod SoundLaws
 pub mod TestLaws
 pub mod RangeLaws
 pub mod MachineLaws
+mod Looked
 mod MeetingLaws
 mod TermsAsked
 pub mod CallLaws
@@ -22,5 +23,6 @@ mod EarlyCells
 pub mod KeptLaws
 mod KnownRows
 mod LaidRows
+mod Quiet
 mod CellLaws
 mod TableSteps

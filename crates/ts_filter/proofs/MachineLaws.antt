@@ -7,7 +7,7 @@ use Rattle.ts_base.specs.declared.ext.Ext.{Ext}
 use Rattle.ts_base.specs.declared.ext.Ext.TheVariants.{NegInf, Int, PosInf}
 use Rattle.ts_base.specs.Spans.{Holds, one_span}
 use Rattle.ts_domain.specs.BoxSeries.{InBox}
-use Rattle.ts_pattern.specs.TermValue.{value_of}
+use Rattle.ts_model.specs.TermValue.{stated_value}
 use Rattle.ts_model.specs.Meets.{value_at, values_on}
 use Rattle.ts_model.specs.ModelParts.{ModelParts}
 use Rattle.ts_glue.specs.Pairs.{Pair}
@@ -60,7 +60,7 @@ machines_hold m machines each term p b x v i u h e = held_by m machines each ter
 pub machines_tell : MachinesTell
 machines_tell m machines all each term x v h e =
     let n = slice_get_within (values_on m x) term v e in
-    let k = length-map m.terms (λ t. value_of t.1.aggregator t.1.feature t.1.pattern x) in
+    let k = length-map m.terms (λ t. stated_value t.1 x) in
     by_machine (slice_get machines term) refl (slice_get-some machines term (omega (arith, n, k, all)))
   where
     by_machine : (o : Option Automata) → slice_get machines term ≡ o → (a : Automata) × (slice_get machines term ≡ Some a) →

@@ -1,8 +1,8 @@
--- Cells that were seen against those of a box, from both ends, and tables that become those of the box.
+-- Cells that were seen against those that are looked at, from both ends, and tables that become those of the latter.
 use Rattle.std.proofs.Common.{◌≡◌, ℕ, ◌+◌, ◌-◌, ◌≤◌, ◌++◌, length, take, drop, sym, ap, ◌∙◌, subst, arith}
 use Rattle.std.proofs.lemmas.List.{take-append-drop, drop-drop}
 use Rattle.ts_filter.specs.Boxes.{Box}
-use Rattle.ts_filter.specs.KnownRows.{KnownRows, AreKnown, DifferFrom, StayKnown}
+use Rattle.ts_filter.specs.KnownRows.{KnownRows, AreRowsOf, DifferFrom, StayKnown}
 
 -- lists from their ends
 
@@ -15,10 +15,10 @@ rest_same xs ys k n le e =
     let sum : n + (k - n) ≡ k = omega (arith, le) in
     ap (λ m. drop m xs) (sym sum) ∙ sym (drop-drop (k - n) n xs) ∙ ap (drop (k - n)) e ∙ drop-drop (k - n) n ys ∙ ap (λ m. drop m ys) sum
 
--- what was seen, while the cells from `first` up to `last` are taken over: the first `at` cells are those of the box, and
--- the cells outside are as they were
+-- what was seen, while the places from `first` up to `last` are taken over: the first `at` cells are those that are looked
+-- at, and the cells outside are as they were
 pub record TakenOver (first last : ℕ) (old seen cells : Box) (at : ℕ) : Type 0 where
-  pub differ : DifferFrom (first + 1) last (length old) old seen
+  pub differ : DifferFrom first last (length old) old seen
   pub front : take at cells ≡ take at seen
 
 pub all_taken : (first last : ℕ) (old seen cells : Box) (at : ℕ) → TakenOver first last old seen cells at → last ≤ at →
@@ -28,6 +28,6 @@ all_taken first last old seen cells at t end rest =
 
 -- tables of what is seen
 
-pub known_taken : (first last n : ℕ) (old seen : Box) (before after : KnownRows) → StayKnown (first + 1) last n before after → length old ≡ n →
-    DifferFrom (first + 1) last (length old) old seen → AreKnown old before → AreKnown seen after
-known_taken first last n old seen before after stay e d h = stay old seen (subst (λ m. DifferFrom (first + 1) last m old seen) e d) h
+pub known_taken : (first last n : ℕ) (old seen : Box) (before after : KnownRows) → StayKnown first last n before after → length old ≡ n →
+    DifferFrom first last (length old) old seen → AreRowsOf old before → AreRowsOf seen after
+known_taken first last n old seen before after stay e d h = stay old seen (subst (λ m. DifferFrom first last m old seen) e d) h

@@ -1,7 +1,7 @@
 -- A span of which the parts are taken in: more parts, and what a front that has what is asked tells of all parts.
 use Rattle.std.proofs.Common.{◌≡◌, ◌↔◌, ℕ, ◌+◌, ◌<◌, ◌≤◌, ℤ, List, [], ◌∷◌, ◌++◌, length, map, take, drop, slice_get, Bool, true, false, cond, refl, sym, ap, ◌∙◌, subst}
 use Rattle.std.specs.Prelude.{fold, is_some, Option, None, Some}
-use Rattle.std.proofs.lemmas.List.{map-append, take-append-drop}
+use Rattle.std.proofs.lemmas.List.{map-append, take-append-drop, take_all}
 use Rattle.std.proofs.lemmas.List.Sums.{fold-append}
 use Rattle.ts_base.specs.declared.ext.Ext.{Ext}
 use Rattle.ts_base.specs.declared.span.Span.{Span}
@@ -9,17 +9,20 @@ use Rattle.ts_base.specs.SpanLayer.{IsWithin}
 use Rattle.ts_base.specs.Spans.{Holds, has_some, none_span, span_hull}
 use Rattle.ts_base.proofs.Order.{le_antisym, le_refl}
 use Rattle.ts_base.proofs.SpanLaws.{holds_some, hull_left, hull_right, hull_least, none_empty}
-use Rattle.ts_bound.specs.TermSpans.{Automata, span_of_all, spans_at, term_span, value_span}
+use Rattle.ts_base.specs.Windows.{looked_at}
+use Rattle.ts_bound.specs.HullTables.{values_at as bound_values_at}
+use Rattle.ts_bound.specs.Looks.{is_looked, place_in}
+use Rattle.ts_bound.specs.TermSpans.{Automata, inner_span, inner_value_span, span_of_all, spans_at, term_span, value_span}
 use Rattle.ts_bound.proofs.HullLaws.{IsCanonical, hull_canonical}
 use Rattle.ts_filter.specs.declared.question.Question.{Question}
 use Rattle.ts_filter.specs.declared.question.Question.TheVariants.{Compares, MeetsEach, Counts, Nothing}
 use Rattle.ts_filter.specs.declared.so_far.SoFar.{SoFar}
 use Rattle.ts_filter.specs.declared.term_requirements.TermRequirements.{TermRequirements}
 use Rattle.ts_filter.specs.Question.{Excludes}
-use Rattle.ts_filter.specs.Boxes.{Box, values_at}
-use Rattle.ts_filter.specs.SoFar.{IsSoFar, WithParts}
+use Rattle.ts_filter.specs.Boxes.{Box}
+use Rattle.ts_filter.specs.SoFar.{IsSoFar, IsWholeSpan, WithParts}
 use Rattle.ts_filter.specs.TermDrops.{IsFirstRefuting, RefutesSome}
-use Rattle.ts_filter.proofs.CellLaws.{span_all, span_more}
+use Rattle.ts_filter.proofs.CellLaws.{span_more}
 use Rattle.ts_filter.proofs.Refuting.{first_of_none}
 use Rattle.ts_filter.proofs.SoundLaws.{clash}
 
@@ -165,40 +168,63 @@ none_refuted own asked tells s part a e stop j h = stop
     (subst (λ z. Excludes z (span_hull s.span part)) (sym a)
     (part_excludes asked (span_hull s.span part) part (alone_within s part e) ((tells part).1 (j, h))))
 
--- the span of a value has its one form
+-- the span of a value has its one form, and so has that of a cell
+
+inner_canonical : (m : Automata) (k : ℕ) (b : Box) (v : ℤ) → IsCanonical (inner_value_span m k b v)
+unfolding inner_value_span
+inner_canonical m k b v = fold_canonical (spans_at m.forward m.pair k b v) none_span refl
+
+term_canonical : (m : Automata) (k : ℕ) (b : Box) → IsCanonical (term_span m k b)
+unfolding term_span inner_span
+term_canonical m k b =
+    let place = place_in m.window k in let cells = looked_at m.window b in
+    fold_canonical (map (inner_value_span m place cells) (bound_values_at place cells)) none_span refl
+
 pub value_canonical : (m : Automata) (k : ℕ) (b : Box) (v : ℤ) → IsCanonical (value_span m k b v)
 unfolding value_span
-value_canonical m k b v = fold_canonical (spans_at m.forward m.pair k b v) none_span refl
+value_canonical m k b v = by_test (is_looked m.window k)
+  where
+    by_test : (t : Bool) → IsCanonical (cond t (inner_value_span m (place_in m.window k) (looked_at m.window b) v) (term_span m k b))
+    by_test true = inner_canonical m (place_in m.window k) (looked_at m.window b) v
+    by_test false = term_canonical m k b
 
--- the parts are the spans of the values of a cell
+-- the parts are the spans of the values of a cell, and their hull is the whole
 
-module _ (known : SoFar) (asked : Question) (m : Automata) (k : ℕ) (b : Box) (values : List ℤ) (i : ℕ)
-    (same : known.asked ≡ asked) (all : values ≡ values_at k b)
-    (so_far : known.span ≡ span_of_all (map (value_span m k b) (take i values))) where
-  pub value_more : (more : SoFar) (v w : ℤ) → i < length values → slice_get values i ≡ Some v → w ≡ v →
-      WithParts known (value_span m k b w ∷ []) (Some more) →
-      (more.asked ≡ asked) × (more.span ≡ span_of_all (map (value_span m k b) (take (i + 1) values))) × IsSoFar more
+module _ (known : SoFar) (asked : Question) (f : ℤ → Span) (values : List ℤ) (whole : Span) (i : ℕ)
+    (same : known.asked ≡ asked) (all : whole ≡ span_of_all (map f values)) (so_far : known.span ≡ span_of_all (map f (take i values))) where
+  pub value_more : (more : SoFar) (v w : ℤ) → i < length values → slice_get values i ≡ Some v → w ≡ v → WithParts known (f w ∷ []) (Some more) →
+      (more.asked ≡ asked) × (more.span ≡ span_of_all (map f (take (i + 1) values))) × IsSoFar more
   value_more more v w lt e is h = (
     h.0 ∙ same,
-    span_more (value_span m k b) values i v known.span (value_span m k b w) more.span lt e (ap (value_span m k b) is) h.1 so_far,
+    span_more f values i v known.span (f w) more.span lt e (ap f is) h.1 so_far,
     h.2,
   )
 
-  pub value_stops : (v w : ℤ) → i < length values → slice_get values i ≡ Some v → w ≡ v → WithParts known (value_span m k b w ∷ []) None →
-      Excludes asked (term_span m k b) → ⊥
-  unfolding term_span
+  pub value_stops : (v w : ℤ) → i < length values → slice_get values i ≡ Some v → w ≡ v → WithParts known (f w ∷ []) None → Excludes asked whole → ⊥
   value_stops v w lt e is stop none =
-      let f = value_span m k b in let both = span_hull known.span (f w) in
+      let both = span_hull known.span (f w) in
       let front = map f (take (i + 1) values) in let rest = map f (drop (i + 1) values) in
-      let whole : map f values ≡ front ++ rest =
+      let split : map f values ≡ front ++ rest =
       ap (map f) (sym (take-append-drop (i + 1) values)) ∙ map-append f (take (i + 1) values) (drop (i + 1) values) in
       let both_is : both ≡ span_of_all front = span_more f values i v known.span (f w) both lt e (ap f is) refl so_far in
       let none_here : Excludes asked (span_of_all (front ++ rest)) =
-      subst (λ l. Excludes asked (span_of_all l)) whole (subst (λ l. Excludes asked (span_of_all (map f l))) (sym all) none) in
+      subst (λ l. Excludes asked (span_of_all l)) split (subst (Excludes asked) all none) in
       stop (subst (λ a. Excludes a both) (sym same) (subst (Excludes asked) (sym both_is)
       (part_excludes asked (span_of_all front) (span_of_all (front ++ rest)) (front_within none_span front rest) none_here)))
 
-  pub values_done : IsSoFar known → length values ≤ i → Excludes asked (term_span m k b)
+  pub values_done : IsSoFar known → length values ≤ i → IsWholeSpan asked whole (Some known)
   values_done h done =
-      subst (λ a. Excludes a (term_span m k b)) same
-      (subst (Excludes known.asked) (span_all m k b values i known.span all done so_far) h.excluded)
+      let is : known.span ≡ whole = so_far ∙ ap (λ l. span_of_all (map f l)) (take_all i values done) ∙ sym all in (
+        is,
+        subst (λ a. Excludes a whole) same (subst (Excludes known.asked) is h.excluded),
+      )
+
+-- the whole span
+
+pub whole_told : (asked : Question) (s : Span) (o : Option SoFar) (told : Bool) → told ≡ is_some o → IsWholeSpan asked s o → (told ≡ true) ↔ Excludes asked s
+whole_told asked s None told is h = (λ so. absurd (let f : ◌≡◌ false true = sym is ∙ so in cc), λ none. absurd (h none))
+whole_told asked s (Some t) told is h = (λ so. h.1, λ none. is)
+
+pub none_by_whole : (own : TermRequirements) (asked : Question) (s : Span) → ((t : Span) → Excludes asked t ↔ RefutesSome own.all.now own.term t) →
+    IsWholeSpan asked s None → IsFirstRefuting own.all.now own.term s None
+none_by_whole own asked s tells stop j h = stop ((tells s).1 (j, h))

@@ -12,7 +12,7 @@ use Rattle.ts_base.specs.Spans.{Holds, one_span}
 use Rattle.ts_base.proofs.Order.{le_antisym}
 use Rattle.ts_base.proofs.SpanLaws.{holds_one}
 use Rattle.ts_domain.specs.BoxSeries.{InBox}
-use Rattle.ts_pattern.specs.TermValue.{value_of}
+use Rattle.ts_model.specs.TermValue.{stated_value}
 use Rattle.ts_model.specs.declared.model.Require.{Require}
 use Rattle.ts_model.specs.Compares.{compares}
 use Rattle.ts_model.specs.Meets.{IsMet, Meets, value_at, values_on}
@@ -70,7 +70,7 @@ module _ (m : ModelParts) (s : Spans) (whole : IsWhole m) (tells : TellsSingles 
 
   has_value : (x : List ℤ) (term : ℕ) → term < length m.terms → (v : Ext) × (value_at m x term ≡ Some v)
   has_value x term l =
-      let n : term < length (values_on m x) = omega (arith, l, length-map m.terms (λ t. value_of t.1.aggregator t.1.feature t.1.pattern x)) in
+      let n : term < length (values_on m x) = omega (arith, l, length-map m.terms (λ t. stated_value t.1 x)) in
       (get_or (values_on m x) term NegInf, slice_get-get_or (values_on m x) term NegInf n)
 
   refuted_single : (j : ℕ) (r : Require) (x : List ℤ) → InBox x m.cells → IsRequirement m.requirements j r →

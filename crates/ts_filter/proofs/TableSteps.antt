@@ -1,29 +1,82 @@
 -- The hulls of a cell, from the rows that are known.
-use Rattle.std.proofs.Common.{◌≡◌, ℕ, ◌-◌, ◌<◌, ◌≤◌, List, length, get_or, Option, Some, None, option_map, arith}
+use Rattle.std.proofs.Common.{◌≡◌, ℕ, ◌+◌, ◌-◌, ◌<◌, ◌≤◌, List, length, get_or, Option, Some, None, option_map, sym, ap, ◌∙◌, subst, arith}
 use Rattle.std.specs.Prelude.{MatchOption}
 use Rattle.ts_automaton.specs.declared.regs.Hull.{Hull}
-use Rattle.ts_filter.specs.Boxes.{Box, HasCell}
-use Rattle.ts_filter.specs.CellHulls.{AreHulls, IsBackRow}
+use Rattle.ts_base.specs.Windows.{looked_at}
+use Rattle.ts_bound.specs.Blocks.{OfReverse}
+use Rattle.ts_bound.specs.HullTables.{row_of}
+use Rattle.ts_bound.specs.Looks.{first_looked, last_looked, place_in}
+use Rattle.ts_bound.proofs.Looking.{ends_inside}
+use Rattle.ts_filter.specs.Boxes.{Box}
+use Rattle.ts_filter.specs.CellHulls.{AreHulls, HasHulls, IsBackRow, seen_after, seen_before}
 use Rattle.ts_filter.specs.KnownRows.{KnownRows, AreKnown, HasRows}
 use Rattle.ts_filter.proofs.KnownRows.{ahead_there, behind_there}
+use Rattle.ts_filter.proofs.Looked.{inner_values, place_behind, place_from, place_is, place_to}
 
-pub back_row_of : (b : Box) (t : KnownRows) (k : ℕ) (row d : List Hull) → HasCell k b → (t.machine.pair ≡ None → k ≡ length b) → AreKnown b t → HasRows k b t →
-    (k ≡ length b → ⊥) → row ≡ get_or t.behind (length b - k) d → IsBackRow t.machine.pair k b row
-back_row_of b t k row d c usable known rows below is =
-    let to = c.1 in
-    behind_there t.machine.pair b t.behind row d k (λ e. below (usable e)) known.behind c.0 c.1 (rows.behind (lower k (length b) to below)) is
-  where
-    lower : (m n : ℕ) → m ≤ n → (m ≡ n → ⊥) → m < n
-    lower m n l ne = grind (arith, l, ne)
+lower : (m n : ℕ) → m ≤ n → (m ≡ n → ⊥) → m < n
+lower m n l ne = grind (arith, l, ne)
 
-pub hulls_are : (b : Box) (t : KnownRows) (k : ℕ) (row d : List Hull) (back : Option (List Hull)) → HasCell k b → (t.machine.pair ≡ None → k ≡ length b) →
-    AreKnown b t → HasRows k b t → row ≡ get_or t.ahead (k - 1) d → MatchOption back (k ≡ length b) (IsBackRow t.machine.pair k b) →
-    AreHulls t.machine b k row back
-hulls_are b t k row d back c usable known rows is behind = record {
-  usable = record { from = c.0; to = c.1; last = usable };
-  ahead = ahead_there t.machine.forward b t.ahead row d k known.ahead c.0 rows.ahead is;
-  behind = behind;
-}
+module _ (b : Box) (t : KnownRows) (k : ℕ) (h : HasHulls t.machine k b) where
+  -- the rows that are wanting of the cell
+  pub rows_there : k - first_looked t.machine.window + 1 ≤ length t.ahead →
+      (k < last_looked t.machine.window (length b) → last_looked t.machine.window (length b) - k + 1 ≤ length t.behind) → HasRows k b t
+  rows_there ahead behind =
+      let is = place_is t.machine k b h in let first = (ends_inside t.machine.window (length b) h.looks).0 in let from = h.from in
+      let rest = place_behind t.machine k b h in
+      record {
+        ahead = omega (arith, ahead, is, first, from);
+        behind = λ lt. (let more = behind (omega (arith, lt, rest)) in omega (arith, more, rest));
+      }
+
+  -- they are so many
+  pub ahead_count : k - first_looked t.machine.window + 1 ≤ length (looked_at t.machine.window b)
+  ahead_count =
+      let is = place_is t.machine k b h in let to = place_to t.machine k b h in let first = (ends_inside t.machine.window (length b) h.looks).0 in
+      let from = h.from in omega (arith, is, to, first, from)
+
+  pub behind_count : k < last_looked t.machine.window (length b) →
+      last_looked t.machine.window (length b) - k + 1 ≤ length (looked_at t.machine.window b)
+  behind_count lt =
+      let rest = place_behind t.machine k b h in let some = place_from t.machine k b h in let to = place_to t.machine k b h in
+      omega (arith, lt, rest, some, to)
+
+  pub split_there : k < last_looked t.machine.window (length b) → t.machine.pair ≡ None → ⊥
+  split_there lt e = let last = h.last e in omega (arith, lt, last)
+
+  module _ (known : AreKnown b t) (rows : HasRows k b t) where
+    pub ahead_inside : k - first_looked t.machine.window < length t.ahead
+    ahead_inside =
+        let is = place_is t.machine k b h in let first = (ends_inside t.machine.window (length b) h.looks).0 in let from = h.from in
+        let there = rows.ahead in omega (arith, there, is, first, from)
+
+    pub behind_inside : (k ≡ last_looked t.machine.window (length b) → ⊥) → last_looked t.machine.window (length b) - k < length t.behind
+    behind_inside below =
+        let rest = place_behind t.machine k b h in
+        let lt = lower k (last_looked t.machine.window (length b)) h.to below in
+        let there = rows.behind (omega (arith, lt, rest)) in omega (arith, there, rest)
+
+    pub back_row_of : (row d : List Hull) → (k ≡ last_looked t.machine.window (length b) → ⊥) →
+        row ≡ get_or t.behind (last_looked t.machine.window (length b) - k) d → IsBackRow t.machine k b row
+    back_row_of row d below is =
+        let rest = place_behind t.machine k b h in
+        let place = place_in t.machine.window k in let cells = looked_at t.machine.window b in
+        let there = behind_inside below in
+        subst (λ vs. OfReverse t.machine.pair (λ r. row ≡ row_of r (seen_after t.machine k b) vs)) (inner_values t.machine k b h)
+        (behind_there t.machine.pair cells t.behind row d place (λ e. below (h.last e)) known.behind (place_from t.machine k b h)
+        (place_to t.machine k b h) (omega (arith, there, rest)) (is ∙ sym (ap (λ i. get_or t.behind i d) rest)))
+
+    pub hulls_are : (row d : List Hull) (back : Option (List Hull)) → row ≡ get_or t.ahead (k - first_looked t.machine.window) d →
+        MatchOption back (k ≡ last_looked t.machine.window (length b)) (IsBackRow t.machine k b) → AreHulls t.machine b k row back
+    hulls_are row d back is behind =
+        let at = place_is t.machine k b h in let first = (ends_inside t.machine.window (length b) h.looks).0 in let from = h.from in
+        let same : k - first_looked t.machine.window ≡ place_in t.machine.window k - 1 = omega (arith, at, first, from) in
+        record {
+          there = h;
+          ahead = ahead_there t.machine.forward (looked_at t.machine.window b) t.ahead row d (place_in t.machine.window k) known.ahead
+              (place_from t.machine k b h) rows.ahead (is ∙ ap (λ i. get_or t.ahead i d) same)
+              ∙ ap (row_of t.machine.forward (seen_before t.machine k b)) (inner_values t.machine k b h);
+          behind = behind;
+        }
 
 -- an option of what lends rows, as the rows
 pub match_seen : {X : Type 0} (f : X → List Hull) (o : Option X) (N : Type 0) (P : List Hull → Type 0) → MatchOption o N (λ x. P (f x)) →

@@ -1,11 +1,11 @@
 -- The hulls of one cell: its row of the forward automaton, and that of the reverse one.
-use Rattle.std.specs.Prelude.{◌≡◌, ℕ, List, length, Option, MatchOption}
+use Rattle.std.specs.Prelude.{◌≡◌, ◌≤◌, ℕ, List, length, Option, None, MatchOption}
+use Rattle.ts_base.specs.Windows.{looked_at}
 use Rattle.ts_automaton.specs.declared.regs.Hull.{Hull}
-use Rattle.ts_automaton.specs.Body.{Body}
 use Rattle.ts_bound.specs.Blocks.{OfReverse}
 use Rattle.ts_bound.specs.HullTables.{row_of, cells_before, cells_after}
-use Rattle.ts_bound.specs.TermSpans.{Automata, IsUsable}
-use Rattle.ts_glue.specs.Pairs.{Pair}
+use Rattle.ts_bound.specs.Looks.{first_looked, last_looked, place_in}
+use Rattle.ts_bound.specs.TermSpans.{Automata, LooksIn}
 use Rattle.ts_filter.specs.Boxes.{Box, values_at}
 
 -- what contracts see of them: whose they are, and where
@@ -17,16 +17,30 @@ pub record AtCell : Type 0 where
 abbrev pub at_cell : Automata → Box → ℕ → AtCell
 at_cell a b k = record { machine = a; cells = b; cell = k }
 
--- the row of cell k of an automaton that reads the cells before it
-abbrev pub ahead_row : Body → ℕ → Box → List Hull
-ahead_row a k b = row_of a (cells_before k b) (values_at k b)
+-- the machine has hulls at cell k: it looks at that cell, and where it can't be split, at none behind it
+pub record HasHulls (a : Automata) (k : ℕ) (b : Box) : Type 0 where
+  pub looks : LooksIn a b
+  pub from : first_looked a.window ≤ k
+  pub to : k ≤ last_looked a.window (length b)
+  pub last : a.pair ≡ None → k ≡ last_looked a.window (length b)
+
+-- the cells before cell k that are looked at, and those after it, the nearest first
+abbrev pub seen_before : Automata → ℕ → Box → Box
+seen_before a k b = cells_before (place_in a.window k) (looked_at a.window b)
+
+abbrev pub seen_after : Automata → ℕ → Box → Box
+seen_after a k b = cells_after (place_in a.window k) (looked_at a.window b)
+
+-- the row of cell k of the forward automaton, which reads the cells before it
+abbrev pub ahead_row : Automata → ℕ → Box → List Hull
+ahead_row a k b = row_of a.forward (seen_before a k b) (values_at k b)
 
 -- the row is that of the reverse automaton, which reads the cells after it
-abbrev pub IsBackRow : Option Pair → ℕ → Box → List Hull → Type 0
-IsBackRow p k b row = OfReverse p (λ a. row ≡ row_of a (cells_after k b) (values_at k b))
+abbrev pub IsBackRow : Automata → ℕ → Box → List Hull → Type 0
+IsBackRow a k b row = OfReverse a.pair (λ r. row ≡ row_of r (seen_after a k b) (values_at k b))
 
--- the rows are those of the cell; the last cell needs none of the reverse automaton
+-- the rows are those of the cell; the last cell that is looked at needs none of the reverse automaton
 pub record AreHulls (a : Automata) (b : Box) (k : ℕ) (row : List Hull) (back : Option (List Hull)) : Type 0 where
-  pub usable : IsUsable a k b
-  pub ahead : row ≡ ahead_row a.forward k b
-  pub behind : MatchOption back (k ≡ length b) (IsBackRow a.pair k b)
+  pub there : HasHulls a k b
+  pub ahead : row ≡ ahead_row a k b
+  pub behind : MatchOption back (k ≡ last_looked a.window (length b)) (IsBackRow a k b)

@@ -10,6 +10,10 @@ pub record IsEarly (a : Automata) (Excluded : Span → Type 0) (b : Box) (p : �
   pub below : p < length b
   pub excluded : Excluded (term_span a p b)
 
+-- none of the cells before p is one
+abbrev pub NoneBefore : Automata → (Span → Type 0) → Box → ℕ → Type 0
+NoneBefore a Excluded b p = (q : ℕ) → IsEarly a Excluded b q → p ≤ q
+
 -- the least of these cells; none where there is none, as for every machine that can't be split
 abbrev pub IsFirstCell : Automata → (Span → Type 0) → Box → Option ℕ → Type 0
 IsFirstCell a Excluded b None = (p : ℕ) → IsEarly a Excluded b p → ⊥

@@ -1,18 +1,19 @@
--- What is known of the hulls of a machine on a box: the rows of the first cells forward, of the last ones backward.
-use Rattle.std.specs.Prelude.{◌≡◌, ◌<◌, ◌≤◌, ℕ, ◌-◌, length, take, drop, reverse, Option, None, Some}
+-- What is known of the hulls of a machine on a box: of the cells that it looks at, the rows of the first ones forward,
+-- of the last ones backward.
+use Rattle.std.specs.Prelude.{◌≡◌, ◌<◌, ◌≤◌, ℕ, ◌-◌, List, Contains, length, take, drop, Option, None, Some}
+use Rattle.ts_base.specs.Windows.{looked_at}
 use Rattle.ts_automaton.specs.Body.{Body}
 use Rattle.ts_bound.specs.HullTables.{forward_rows}
-use Rattle.ts_bound.specs.TermSpans.{Automata}
+use Rattle.ts_bound.specs.Looks.{place_in}
+use Rattle.ts_bound.specs.TermSpans.{Automata, LooksIn}
 use Rattle.ts_glue.specs.Pairs.{Pair}
-use Rattle.ts_filter.specs.declared.rows.Way.{Way}
-use Rattle.ts_filter.specs.declared.rows.Way.TheVariants.{FromFirst, FromLast}
+use Rattle.ts_model.specs.declared.model.Require.{Require}
+use Rattle.ts_filter.specs.declared.reading.Way.TheVariants.{FromFirst, FromLast}
 use Rattle.ts_filter.specs.Boxes.{Box}
+use Rattle.ts_filter.specs.Drops.{IsFirstOf}
+use Rattle.ts_filter.specs.Reading.{in_order}
 use Rattle.ts_filter.specs.RowStacks.{Rows, Laid, GoOn, Stack}
-
--- the cells in that order
-abbrev pub in_order : Way → Box → Box
-in_order FromFirst b = b
-in_order FromLast b = reverse b
+use Rattle.ts_filter.specs.TermDrops.{IsQuiet, IsTermDrop}
 
 -- these are the rows of the cells that the automaton reads first
 abbrev pub AreFirst : Body → Box → Rows → Type 0
@@ -24,13 +25,14 @@ pub record AreRows (a : Body) (cells : Box) (s : Stack) : Type 0 where
   pub laid : GoOn a cells s.laid.rows s.laid.from
 
 -- the rows of a machine: forward ones, and backward ones, that of the last cell first; and with them those that aren't
--- known to be of the present box
+-- known to be of the present box; and requirements by which no drop is possible
 pub record KnownRows : Type 0 where
   pub machine : Automata
   pub ahead : Rows
   pub behind : Rows
   pub laid_ahead : Laid
   pub laid_behind : Laid
+  pub quiet : List Require
 
 -- these are backward rows; a machine that can't be split has none
 abbrev pub AreBehind : Option Pair → Box → Rows → Type 0
@@ -42,31 +44,46 @@ abbrev pub GoOnBehind : Option Pair → Box → Laid → Type 0
 GoOnBehind None b l = Unit {0}
 GoOnBehind (Some p) b l = GoOn p.reverse (in_order FromLast b) l.rows l.from
 
--- they are rows of the box
-pub record AreKnown (b : Box) (t : KnownRows) : Type 0 where
-  pub ahead : AreFirst t.machine.forward (in_order FromFirst b) t.ahead
-  pub behind : AreBehind t.machine.pair b t.behind
-  pub laid_ahead : GoOn t.machine.forward (in_order FromFirst b) t.laid_ahead.rows t.laid_ahead.from
-  pub laid_behind : GoOnBehind t.machine.pair b t.laid_behind
+-- they are rows of these cells, and no drop is possible at these by the requirements
+pub record AreRowsOf (cells : Box) (t : KnownRows) : Type 0 where
+  pub ahead : AreFirst t.machine.forward (in_order FromFirst cells) t.ahead
+  pub behind : AreBehind t.machine.pair cells t.behind
+  pub laid_ahead : GoOn t.machine.forward (in_order FromFirst cells) t.laid_ahead.rows t.laid_ahead.from
+  pub laid_behind : GoOnBehind t.machine.pair cells t.laid_behind
+  pub quiet : (r : Require) → Contains t.quiet r → IsQuiet t.machine cells r
+
+-- they are rows of the box, of the cells that the machine looks at
+abbrev pub AreKnown : Box → KnownRows → Type 0
+AreKnown b t = AreRowsOf (looked_at t.machine.window b) t
 
 -- of the same machine, and again rows of the box
 pub record StillKnown (b : Box) (old new : KnownRows) : Type 0 where
   pub machine : new.machine ≡ old.machine
   pub known : AreKnown b new
 
--- two boxes of n cells that differ in the cells from `first` to `last` alone
-pub record DifferFrom (first last n : ℕ) (b later : Box) : Type 0 where
-  pub count : length b ≡ n
-  pub count_later : length later ≡ n
-  pub before : take (first - 1) later ≡ take (first - 1) b
-  pub behind : drop last later ≡ drop last b
+-- what was known of a box is known still, wherever no drop is possible by the requirements of the term
+abbrev pub KnownWhereNone : List Require → ℕ → KnownRows → KnownRows → Type 0
+KnownWhereNone requirements term old new =
+    (b : Box) → LooksIn old.machine b → IsFirstOf (IsTermDrop requirements term old.machine b) None → AreKnown b old →
+    StillKnown b old new
 
--- what was known of a box is, as far as it's left, known of each box that differs from it there alone
+-- two lists of n cells that differ in those behind the first `first`, up to the first `last`, alone
+pub record DifferFrom (first last n : ℕ) (cells later : Box) : Type 0 where
+  pub count : length cells ≡ n
+  pub count_later : length later ≡ n
+  pub before : take first later ≡ take first cells
+  pub behind : drop last later ≡ drop last cells
+
+-- what was known of cells is, as far as it's left, known of all that differ from them there alone
 abbrev pub StayKnown : ℕ → ℕ → ℕ → KnownRows → KnownRows → Type 0
 StayKnown first last n old new =
-    (b later : Box) → DifferFrom first last n b later → AreKnown b old → AreKnown later new
+    (cells later : Box) → DifferFrom first last n cells later → AreRowsOf cells old → AreRowsOf later new
 
--- the rows of cell k are known; of the last cell the forward one is enough
-pub record HasRows (k : ℕ) (b : Box) (t : KnownRows) : Type 0 where
+-- the rows of cell k of these are known; of the last cell the forward one is enough
+pub record HasRowsAt (k : ℕ) (cells : Box) (t : KnownRows) : Type 0 where
   pub ahead : k ≤ length t.ahead
-  pub behind : k < length b → length b - k < length t.behind
+  pub behind : k < length cells → length cells - k < length t.behind
+
+-- those of cell k of the box are, which is looked at
+abbrev pub HasRows : ℕ → Box → KnownRows → Type 0
+HasRows k b t = HasRowsAt (place_in t.machine.window k) (looked_at t.machine.window b) t

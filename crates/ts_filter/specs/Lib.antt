@@ -14,6 +14,7 @@ pub mod Lines
 pub mod MachineSpans
 pub mod OfTerm
 pub mod Question
+pub mod Reading
 pub mod RefutedWorseDrop
 pub mod RowStacks
 pub mod Rules

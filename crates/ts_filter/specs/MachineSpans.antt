@@ -6,13 +6,14 @@ use Rattle.ts_base.specs.declared.ext.Ext.TheVariants.{NegInf, PosInf}
 use Rattle.ts_base.specs.declared.goal.Goal.{Goal}
 use Rattle.ts_base.specs.declared.span.Span.{Span}
 use Rattle.ts_base.specs.Spans.{Holds, one_span}
+use Rattle.ts_base.specs.Windows.{looked_at}
 use Rattle.ts_automaton.specs.AutomatonRun.{answer, HoldsMark}
 use Rattle.ts_domain.specs.BoxSeries.{InBox, IsBox}
 use Rattle.ts_model.specs.declared.model.Require.{Require}
 use Rattle.ts_model.specs.Meets.{value_at}
 use Rattle.ts_model.specs.Promise.{IsWhole}
 use Rattle.ts_model.specs.ModelParts.{ModelParts}
-use Rattle.ts_bound.specs.TermSpans.{Automata, term_span, IsUsable as IsUsableOf}
+use Rattle.ts_bound.specs.TermSpans.{Automata, LooksIn, term_span, IsUsable as IsUsableOf}
 use Rattle.ts_bound.specs.Laws.{AreAutomata}
 use Rattle.ts_filter.specs.declared.bar.Bar.{Bar}
 use Rattle.ts_filter.specs.Boxes.{Box, values_at, only, box_of, IsPart}
@@ -90,11 +91,13 @@ CallsTell =
     (m : ModelParts) (requirements : List Require) (machines : List Automata) (term : ℕ) (a : Automata) →
     slice_get machines term ≡ Some a → TellOf m requirements (spans_of machines) term a
 
--- a machine whose answer on each series of the model's box is the term's value
+-- a machine that looks at cells of the model's box, and whose answer on these of each of its series is the term's value
 pub record AnswersTerm (m : ModelParts) (term : ℕ) (a : Automata) : Type 0 where
   pub machine : AreAutomata a
   pub marked : HoldsMark a.forward
-  pub answers : (x : List ℤ) (v : Ext) → InBox x m.cells → value_at m x term ≡ Some v → answer a.forward x ≡ v
+  pub looks : LooksIn a m.cells
+  pub answers : (x : List ℤ) (v : Ext) → InBox x m.cells → value_at m x term ≡ Some v →
+      answer a.forward (looked_at a.window x) ≡ v
 
 -- one for each term, in their order
 pub record AnswerTerms (m : ModelParts) (machines : List Automata) : Type 0 where

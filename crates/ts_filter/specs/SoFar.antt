@@ -2,6 +2,7 @@
 use Rattle.std.specs.Prelude.{◌≡◌, List, fold, Option, None, Some}
 use Rattle.ts_base.specs.declared.span.Span.{Span}
 use Rattle.ts_base.specs.Spans.{none_span, span_hull}
+use Rattle.ts_filter.specs.declared.question.Question.{Question}
 use Rattle.ts_filter.specs.declared.so_far.SoFar.{SoFar}
 use Rattle.ts_filter.specs.Question.{Excludes}
 
@@ -14,3 +15,8 @@ pub record IsSoFar (s : SoFar) : Type 0 where
 abbrev pub WithParts : SoFar → List Span → Option SoFar → Type 0
 WithParts s parts None = Excludes s.asked (fold span_hull s.span parts) → ⊥
 WithParts s parts (Some t) = (t.asked ≡ s.asked) × (t.span ≡ fold span_hull s.span parts) × IsSoFar t
+
+-- it is the whole span, which doesn't have what is asked; none where that has it
+abbrev pub IsWholeSpan : Question → Span → Option SoFar → Type 0
+IsWholeSpan asked s None = Excludes asked s → ⊥
+IsWholeSpan asked s (Some t) = (t.span ≡ s) × Excludes asked s

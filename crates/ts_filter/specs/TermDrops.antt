@@ -1,12 +1,14 @@
 -- Drops by the requirements of one term, and the first of two drops.
-use Rattle.std.specs.Prelude.{◌≡◌, ℕ, ◌<◌, ◌≤◌, Bool, ◌&&◌, ◌||◌, nat_eq, nat_lt, int_lt, if◌then◌else◌}
-use Rattle.std.specs.Prelude.{List, Contains, length, slice_get, Option, Some, None}
+use Rattle.std.specs.Prelude.{◌≡◌, ◌⊎◌, ℕ, ◌<◌, ◌≤◌, ℤ, Bool, true, false, ◌&&◌, ◌||◌, nat_eq, nat_lt, int_lt}
+use Rattle.std.specs.Prelude.{if◌then◌else◌, List, [], ◌∷◌, Contains, length, slice_get, Option, Some, None, IsSome}
+use Rattle.std.specs.Prelude.{option_map}
 use Rattle.std.specs.Ordering.{int_eq}
 use Rattle.ts_base.specs.declared.span.Span.{Span}
-use Rattle.ts_bound.specs.TermSpans.{Automata, value_span, IsUsable}
+use Rattle.ts_bound.specs.Looks.{is_looked}
+use Rattle.ts_bound.specs.TermSpans.{Automata, inner_value_span, term_span, value_span, IsUsable}
 use Rattle.ts_model.specs.declared.model.Require.{Require}
 use Rattle.ts_filter.specs.declared.drops.Removal.{Removal}
-use Rattle.ts_filter.specs.Boxes.{Box, values_at}
+use Rattle.ts_filter.specs.Boxes.{Box, HasCell, values_at}
 use Rattle.ts_filter.specs.Excluded.{Refutes}
 use Rattle.ts_filter.specs.RefutedWorseDrop.{IsRequirement}
 
@@ -42,6 +44,32 @@ pub record IsTermDrop (requirements : List Require) (term : ℕ) (a : Automata) 
 -- the same at cell k alone
 abbrev pub IsDropAt : List Require → ℕ → Automata → Box → ℕ → Removal → Type 0
 IsDropAt requirements term a b k r = (r.cell ≡ k) × IsTermDrop requirements term a b r
+
+-- the first requirement of the term that the span of the cells outside the window refutes, where one may be used
+abbrev pub IsRefutedOutside : List Require → ℕ → Automata → Box → Option ℕ → Type 0
+IsRefutedOutside requirements term a b found =
+    (k : ℕ) → IsUsable a k b → is_looked a.window k ≡ false → IsFirstRefuting requirements term (term_span a k b) found
+
+-- the cells are those that are looked at: with no value alone at one of them that has others is the requirement refuted
+abbrev pub IsQuiet : Automata → Box → Require → Type 0
+IsQuiet a cells r =
+    (k : ℕ) (v : ℤ) → HasCell k cells → 2 ≤ length (values_at k cells) → Contains (values_at k cells) v →
+    Refutes r.op r.bound (inner_value_span a k cells v) → ⊥
+
+-- each requirement of the term is one of these
+abbrev pub AreAmong : List Require → ℕ → List Require → Type 0
+AreAmong requirements term others =
+    (i : ℕ) (r : Require) → slice_get requirements i ≡ Some r → r.term ≡ term → Contains others r
+
+-- cell k is looked at, or some requirement is refuted outside
+abbrev pub MayHaveDrop : Automata → Option ℕ → ℕ → Type 0
+MayHaveDrop a outside k = (is_looked a.window k ≡ true) ⊎ IsSome outside
+
+-- the drop of the least of two or more values of cell k
+abbrev pub least_drop : ℕ → List ℤ → Option ℕ → Option Removal
+least_drop k [] refuted = None
+least_drop k (v ∷ []) refuted = None
+least_drop k (v ∷ w ∷ vs) refuted = option_map (λ j. record { cell = k; value = v; require = j }) refuted
 
 -- r comes before t: by the cell, then by the value, then by the requirement
 abbrev pub comes_before : Removal → Removal → Bool

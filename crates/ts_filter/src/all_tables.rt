@@ -2,7 +2,7 @@
 
 ghost use Rattle.std.specs.Prelude.{◌≡◌, ◌↔◌, ◌<◌, ◌≤◌, Contains, IfOk, IsTrue, None, length, map};
 ghost use Rattle.std.specs.List.{AllByRecursion};
-ghost use Rattle.ts_bound.specs.TermSpans.{Automata, automata_of, term_span};
+ghost use Rattle.ts_bound.specs.TermSpans.{Automata, LooksIn, automata_of, term_span};
 ghost use Rattle.ts_domain.specs.BoxSeries.{IsCell, cell_of};
 ghost use Rattle.ts_filter.specs.Boxes.{only};
 ghost use Rattle.ts_filter.specs.Drops.{IsFirstDrop, IsFirstOf};
@@ -28,7 +28,8 @@ use ts_glue::Machine;
 use ts_model::Require;
 
 /// The machines of the terms, in their order, each with the rows of hulls of the box that it was asked of last. Where
-/// the rows of all might take too much memory, a question leaves none behind. Contracts see the machines alone.
+/// the rows of all might take too much memory, a question leaves none behind. Contracts see the machines alone. The
+/// window of each machine that a question is put to has to end at a cell of the box.
 #[derive(Drop)]
 pub struct AllTables<'a> {
     each: Vec<LiveTables<'a>>,
@@ -102,6 +103,7 @@ impl<'a> AllTables<'a> {
         requires there { r.now.term < length self.old }
         requires cell { IsCell p cells.now }
         requires usable { OfTerm self.old r.now.term (λ a. a.pair ≡ None → p ≡ length cells.now.present) }
+        requires looks { OfTerm self.old r.now.term (λ a. LooksIn a cells.now.present) }
         ensures same { self.new ≡ self.old }
         ensures told { IfOk result (λ told. OfTerm self.old r.now.term (λ a. IsTrue told
             ↔ Refutes r.now.op r.now.bound (term_span a p cells.now.present))) }
@@ -126,6 +128,7 @@ impl<'a> AllTables<'a> {
         requires there { term < length self.old }
         requires cell { IsCell p cells.now }
         requires usable { OfTerm self.old term (λ a. a.pair ≡ None → p ≡ length cells.now.present) }
+        requires looks { OfTerm self.old term (λ a. LooksIn a cells.now.present) }
         ensures same { self.new ≡ self.old }
         ensures told { IfOk result (λ told. OfTerm self.old term (λ a. IsTrue told
             ↔ Cuts goal (Better bar) (term_span a p cells.now.present))) }
@@ -149,6 +152,7 @@ impl<'a> AllTables<'a> {
         requires there { r.now.term < length self.old }
         requires cell { IsCell k cells.now }
         requires usable { OfTerm self.old r.now.term (λ a. a.pair ≡ None → k ≡ length cells.now.present) }
+        requires looks { OfTerm self.old r.now.term (λ a. LooksIn a cells.now.present) }
         requires value { Contains (cell_of k cells.now) v }
         ensures same { self.new ≡ self.old }
         ensures told { IfOk result (λ told. OfTerm self.old r.now.term (λ a. IsTrue told
@@ -167,7 +171,8 @@ impl<'a> AllTables<'a> {
         r: &Require,
         cells: &Boxed,
     ) -> Result<Option<u32>, Memory>
-        requires { r.now.term < length self.old }
+        requires there { r.now.term < length self.old }
+        requires looks { OfTerm self.old r.now.term (λ a. LooksIn a cells.now.present) }
         ensures same { self.new ≡ self.old }
         ensures found { IfOk result (λ found. OfTerm self.old r.now.term
             (λ a. IsFirstCell a (Refutes r.now.op r.now.bound) cells.now.present found)) }
@@ -189,6 +194,7 @@ impl<'a> AllTables<'a> {
     ) -> Result<bool, Memory>
         requires there { term < length self.old }
         requires some { 1 ≤ length cells.now.present }
+        requires looks { OfTerm self.old term (λ a. LooksIn a cells.now.present) }
         ensures same { self.new ≡ self.old }
         ensures told { IfOk result (λ told. OfTerm self.old term (λ a. IsTrue told
             ↔ Cuts goal bar (term_span a (length cells.now.present) cells.now.present))) }
@@ -210,7 +216,8 @@ impl<'a> AllTables<'a> {
         cells: &Boxed,
         bar: Bar,
     ) -> Result<Option<u32>, Memory>
-        requires { term < length self.old }
+        requires there { term < length self.old }
+        requires looks { OfTerm self.old term (λ a. LooksIn a cells.now.present) }
         ensures same { self.new ≡ self.old }
         ensures found { IfOk result
             (λ found. OfTerm self.old term (λ a. IsFirstCell a (Cuts goal bar) cells.now.present found)) }
@@ -232,6 +239,7 @@ impl<'a> AllTables<'a> {
     ) -> Result<i64, Memory>
         requires there { term < length self.old }
         requires cell { IsCell k cells.now }
+        requires looks { OfTerm self.old term (λ a. LooksIn a cells.now.present) }
         ensures same { self.new ≡ self.old }
         ensures kept { IfOk result (λ v. OfTerm self.old term (λ a. IsKept a goal k cells.now.present v)) }
     {
@@ -251,6 +259,7 @@ impl<'a> AllTables<'a> {
         requires machines { length self.old < 4000000000 }
         requires requirements { length requirements.now < 4000000000 }
         requires terms { AllByRecursion (λ r. r.term < length self.old) requirements.now }
+        requires looks { AllByRecursion (λ a. LooksIn a cells.now.present) self.old }
         ensures same { self.new ≡ self.old }
         ensures found { IfOk result
             (λ found. IsFirstDrop requirements.now (spans_of self.old) cells.now.present found) }
@@ -275,6 +284,7 @@ impl<'a> AllTables<'a> {
     ) -> Result<Option<Removal>, Memory>
         requires there { term < length self.old }
         requires requirements { length requirements.now < 4000000000 }
+        requires looks { OfTerm self.old term (λ a. LooksIn a cells.now.present) }
         ensures same { self.new ≡ self.old }
         ensures found { IfOk result (λ found. OfTerm self.old term
             (λ a. IsFirstOf (IsTermDrop requirements.now term a cells.now.present) found)) }

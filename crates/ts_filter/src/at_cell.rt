@@ -1,7 +1,7 @@
 //! What the span of a box at one cell excludes.
 
 ghost use Rattle.std.specs.Prelude.{◌≡◌, ◌↔◌, ◌≤◌, Contains, IfOk, IsTrue, None, length};
-ghost use Rattle.ts_bound.specs.TermSpans.{automata_of, term_span};
+ghost use Rattle.ts_bound.specs.TermSpans.{LooksIn, automata_of, term_span};
 ghost use Rattle.ts_domain.specs.BoxSeries.{IsCell, cell_of};
 ghost use Rattle.ts_filter.specs.Question.{Excludes};
 ghost use Rattle.ts_filter.specs.Boxes.{only};
@@ -32,13 +32,15 @@ impl<'a> BoxTables<'a> {
     ) -> Result<bool, Memory>
         requires cell { IsCell p cells.now }
         requires usable { self.old.machine.pair ≡ None → p ≡ length cells.now.present }
+        requires looks { LooksIn self.old.machine cells.now.present }
         requires known { AreKnown cells.now.present self.old }
         ensures known { StillKnown cells.now.present self.old self.new }
         ensures told { IfOk result (λ told. IsTrue told
             ↔ Excludes asked.entry (term_span self.old.machine p cells.now.present)) }
     {
-        self.make_at(alloc, p, cells)?;
-        Ok(self.hulls_at(p, cells).excludes(asked))
+        let k = self.read_at(p);
+        self.make_at(alloc, k, cells)?;
+        Ok(self.hulls_at(k, cells).excludes(asked))
     }
 
     /// The same of cell `k` on the box with the value `v` alone there.
@@ -52,19 +54,24 @@ impl<'a> BoxTables<'a> {
     ) -> Result<bool, Memory>
         requires cell { IsCell k cells.now }
         requires usable { self.old.machine.pair ≡ None → k ≡ length cells.now.present }
+        requires looks { LooksIn self.old.machine cells.now.present }
         requires known { AreKnown cells.now.present self.old }
         requires value { Contains (cell_of k cells.now) v }
         ensures known { StillKnown cells.now.present self.old self.new }
         ensures told { IfOk result (λ told. IsTrue told
             ↔ Excludes asked.entry (term_span self.old.machine k (only k v cells.now.present))) }
     {
+        if !self.looks_at(k) {
+            return self.excluded_at(alloc, asked, k, cells);
+        }
         self.make_at(alloc, k, cells)?;
         Ok(self.hulls_at(k, cells).value_excludes(asked, v))
     }
 }
 
 /// Whether the requirement is refuted at cell `p`: no number of its term's span there compares with the bound as it
-/// says. `m` is taken as the machine of the term; where it can't be split, only the last cell may be asked.
+/// says. `m` is taken as the machine of the term; where it can't be split, only the last cell may be asked. Here, as in
+/// every question, its window has to end at a cell of the box.
 pub fn refuted(
     alloc: Global,
     m: &Machine,
@@ -74,6 +81,7 @@ pub fn refuted(
 ) -> Result<bool, Memory>
     requires cell { IsCell p cells.now }
     requires usable { pair_of m.now ≡ None → p ≡ length cells.now.present }
+    requires looks { LooksIn (automata_of m.now) cells.now.present }
     ensures { IfOk result (λ told. IsTrue told
         ↔ Refutes r.now.op r.now.bound (term_span (automata_of m.now) p cells.now.present)) }
 {
@@ -93,6 +101,7 @@ pub fn worse(
 ) -> Result<bool, Memory>
     requires cell { IsCell p cells.now }
     requires usable { pair_of m.now ≡ None → p ≡ length cells.now.present }
+    requires looks { LooksIn (automata_of m.now) cells.now.present }
     ensures { IfOk result (λ told. IsTrue told
         ↔ Cuts goal (Better bar) (term_span (automata_of m.now) p cells.now.present)) }
 {
@@ -108,7 +117,8 @@ pub fn cut_at_end(
     cells: &Boxed,
     bar: Bar,
 ) -> Result<bool, Memory>
-    requires { 1 ≤ length cells.now.present }
+    requires some { 1 ≤ length cells.now.present }
+    requires looks { LooksIn (automata_of m.now) cells.now.present }
     ensures { IfOk result (λ told. IsTrue told
         ↔ Cuts goal bar (term_span (automata_of m.now) (length cells.now.present) cells.now.present)) }
 {
@@ -129,6 +139,7 @@ pub fn refuted_value(
 ) -> Result<bool, Memory>
     requires cell { IsCell k cells.now }
     requires usable { pair_of m.now ≡ None → k ≡ length cells.now.present }
+    requires looks { LooksIn (automata_of m.now) cells.now.present }
     requires value { Contains (cell_of k cells.now) v }
     ensures { IfOk result (λ told. IsTrue told
         ↔ Refutes r.now.op r.now.bound (term_span (automata_of m.now) k (only k v cells.now.present))) }

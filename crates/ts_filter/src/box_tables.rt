@@ -1,34 +1,46 @@
 //! The hulls of a machine that are known of a box while the box changes.
 //! What is asked of them stands in `at_cell`, `first_cell`, `drops` and `kept`.
 
-ghost use Rattle.std.specs.Prelude.{◌≡◌, ◌↔◌, ◌<◌, ◌≤◌, ◌-◌, [], IsTrue, MatchOption, OnOk, None, length, take};
-ghost use Rattle.ts_bound.specs.TermSpans.{automata_of};
+ghost use Rattle.std.specs.Prelude.{◌≡◌, ◌↔◌, ◌-◌, ◌≤◌, [], IsTrue, MatchOption, OnOk, None, length, take};
+ghost use Rattle.ts_base.specs.Windows.{looked_at};
+ghost use Rattle.ts_bound.specs.Looks.{first_looked, is_looked, last_looked, read_at};
+ghost use Rattle.ts_bound.specs.TermSpans.{LooksIn, automata_of};
 ghost use Rattle.ts_filter.specs.Boxes.{Box, HasCell};
-ghost use Rattle.ts_filter.specs.CellHulls.{IsBackRow, at_cell};
+ghost use Rattle.ts_filter.specs.CellHulls.{HasHulls, IsBackRow, at_cell};
 ghost use Rattle.ts_filter.specs.HeldMachine.{machine_in};
-ghost use Rattle.ts_filter.specs.KnownRows.{AreKnown, HasRows, StayKnown, StillKnown};
+ghost use Rattle.ts_filter.specs.KnownRows.{AreKnown, AreRowsOf, HasRows, KnownWhereNone, StayKnown, StillKnown};
+ghost use Rattle.ts_filter.specs.Reading.{cells_read};
 ghost use Rattle.ts_filter.specs.RowStacks.{nothing_laid};
+ghost use Rattle.ts_filter.specs.TermDrops.{AreAmong};
 
 use crate::cell_hulls::CellHulls;
 use crate::held_machine::HeldMachine;
+use crate::reading::{Reading, Way};
 use crate::row_stack::RowStack;
-use crate::rows::{Way, make_rows};
+use crate::rows::make_rows;
+use crate::term_requirements::TermRequirements;
 use std::alloc::Global;
 use std::marker::Model;
+use std::mem;
 use ts_automaton::Hull;
 use ts_base::Memory;
+use ts_bound::{ends, is_looked, read_at};
 use ts_domain::Boxed;
+use ts_model::Require;
 
 /// What one machine tells of a box and of the boxes that it becomes: rows of hulls are made when a question first asks
-/// for them, and after a change those that it doesn't reach stay. The others aren't known then, but are kept: as soon
-/// as a row behind the changed cells is made again as it was, those behind it are known too. The box isn't inside: each
-/// question takes it, and each change of it has to be told by `changed`. Contracts see the machine and the rows that
-/// are known, forward ones from the first cell on, backward ones from the last cell back; and those that are kept.
+/// for them, for the cells that the machine looks at alone, and after a change those that it doesn't reach stay. The
+/// others aren't known then, but are kept: as soon as a row behind the changed cells is made again as it was, those
+/// behind it are known too. The box isn't inside: each question takes it, and each change of it has to be told by
+/// `changed`. Contracts see the machine and the rows that are known, forward ones from the first cell on that is looked
+/// at, backward ones from the last one back; those that are kept; and requirements by which no drop was found at a cell
+/// that is looked at, nor is any there before one of these cells changes.
 #[derive(Drop)]
 pub(crate) struct BoxTables<'a> {
     machine: HeldMachine<'a>,
     ahead: RowStack,
     behind: RowStack,
+    quiet: Vec<Require>,
 }
 
 impl<'a> Model for BoxTables<'a> {
@@ -48,6 +60,7 @@ impl<'a> Model for BoxTables<'a> {
       behind = t.behind.known;
       laid_ahead = t.ahead.laid;
       laid_behind = t.behind.laid;
+      quiet = t.quiet.items;
     } };
 }
 
@@ -60,40 +73,67 @@ impl<'a> BoxTables<'a> {
           behind = [];
           laid_ahead = nothing_laid;
           laid_behind = nothing_laid;
+          quiet = [];
         } }
-        ensures known { (b : Box) → AreKnown b result }
+        ensures known { (cells : Box) → AreRowsOf cells result }
     {
         BoxTables {
             machine,
             ahead: RowStack::new(alloc),
             behind: RowStack::new(alloc),
+            quiet: Vec::new(alloc),
         }
     }
 
-    /// Forgets what a change reaches: that of the cells from `first` to `last` of `n`. After a change of one cell both
-    /// are that cell; after one that leads back over several, they are the first and the last of these.
-    pub(crate) fn changed(&mut self, first: u32, last: u32, n: u32)
-        requires { last ≤ n }
+    /// Forgets what a change reaches: that of the places from `first` up to `last`, counted from 0, of the `count`
+    /// cells that are looked at.
+    pub(crate) fn changed(&mut self, first: usize, last: usize, count: usize)
+        requires order { first ≤ last }
+        requires within { last ≤ count }
         ensures machine { self.new.machine ≡ self.old.machine }
-        ensures ahead { self.new.ahead ≡ take (first - 1) self.old.ahead }
-        ensures behind { self.new.behind ≡ take (n - last) self.old.behind }
-        ensures known { StayKnown first last n self.old self.new }
+        ensures ahead { self.new.ahead ≡ take first self.old.ahead }
+        ensures behind { self.new.behind ≡ take (count - last) self.old.behind }
+        ensures known { StayKnown first last count self.old self.new }
     {
-        let before = first.saturating_sub(1);
-        self.ahead.truncate(before as usize, last as usize);
-        self.behind
-            .truncate((n - last) as usize, n.saturating_sub(before) as usize);
+        self.ahead.truncate(first, last);
+        self.behind.truncate(count - last, count - first);
+        self.quiet.clear();
     }
 }
 
 impl<'a> BoxTables<'a> {
-    /// Forgets all rows, and so frees their memory.
+    /// Forgets all that is known, and so frees the memory of the rows.
     pub(crate) fn forget(&mut self)
         ensures machine { self.new.machine ≡ self.old.machine }
-        ensures known { (b : Box) → AreKnown b self.new }
+        ensures known { (cells : Box) → AreRowsOf cells self.new }
     {
         self.ahead.clear();
         self.behind.clear();
+        self.quiet.clear();
+    }
+
+    /// Whether it's known that no drop by these requirements is at a cell that is looked at.
+    pub(crate) fn is_quiet(&self, own: TermRequirements<'_>) -> bool
+        ensures { IsTrue result → AreAmong own.entry.all.now own.entry.term self.now.quiet }
+    {
+        own.are_among(self.quiet.as_slice())
+    }
+
+    /// Remembers that there is no drop by these requirements. A machine that can't be split is asked of the last cell
+    /// alone: nothing is known of the others, and asking one cell again costs little.
+    pub(crate) fn found_nothing(
+        &mut self,
+        alloc: Global,
+        own: TermRequirements<'_>,
+    ) -> Result<(), Memory>
+        ensures { KnownWhereNone own.entry.all.now own.entry.term self.old self.new }
+    {
+        if self.is_plain() {
+            return Ok(());
+        }
+        let quiet = own.copied(alloc)?;
+        drop(mem::replace(&mut self.quiet, quiet));
+        Ok(())
     }
 
     /// Whether the machine can't be split.
@@ -103,93 +143,126 @@ impl<'a> BoxTables<'a> {
         self.machine.get().reverse().is_none()
     }
 
-    /// Makes the rows of cell `k` that are wanting. At the last cell no backward row is asked for.
+    /// Whether the machine looks at cell `k`.
+    pub(crate) fn looks_at(&self, k: u32) -> bool
+        ensures { result ≡ is_looked self.now.machine.window k }
+    {
+        is_looked(self.machine.get().window(), k)
+    }
+
+    /// The cell whose hulls tell what is asked of cell `p`: that cell, or the last one that the machine looks at.
+    pub(crate) fn read_at(&self, p: u32) -> u32
+        ensures { result ≡ read_at self.now.machine.window p }
+    {
+        read_at(self.machine.get().window(), p)
+    }
+
+    /// The cells that the machine looks at, from the first one on.
+    pub(crate) fn looked<'b>(&self, cells: &'b Boxed) -> Reading<'b>
+        requires { LooksIn self.now.machine cells.now.present }
+        ensures { cells_read result ≡ looked_at self.now.machine.window cells.now.present }
+    {
+        Reading {
+            cells,
+            window: self.machine.get().window(),
+            way: Way::FromFirst,
+        }
+    }
+
+    /// The first and the last cell that the machine looks at.
+    pub(crate) fn ends(&self, cells: &Boxed) -> (u32, u32)
+        ensures first { result.0 ≡ first_looked self.now.machine.window }
+        ensures last { result.1 ≡ last_looked self.now.machine.window (length cells.now.present) }
+    {
+        ends(self.machine.get().window(), cells.cells())
+    }
+}
+
+impl<'a> BoxTables<'a> {
+    /// Makes the rows of cell `k` that are wanting. At the last cell that is looked at no backward row is asked for.
     pub(crate) fn make_at(&mut self, alloc: Global, k: u32, cells: &Boxed) -> Result<(), Memory>
-        requires cell { HasCell k cells.now.present }
-        requires usable { self.old.machine.pair ≡ None → k ≡ length cells.now.present }
+        requires hulls { HasHulls self.old.machine k cells.now.present }
         requires known { AreKnown cells.now.present self.old }
         ensures known { StillKnown cells.now.present self.old self.new }
         ensures there { OnOk result (HasRows k cells.now.present self.new) }
     {
-        self.make_ahead(alloc, k, cells)?;
-        if k < cells.cells() {
-            self.make_behind(alloc, k, cells)?;
+        let (first, last) = self.ends(cells);
+        self.make_ahead(alloc, (k - first) as usize + 1, cells)?;
+        if k < last {
+            self.make_behind(alloc, (last - k) as usize + 1, cells)?;
         }
         Ok(())
     }
 
     /// The hulls of cell `k`, whose rows are known.
     pub(crate) fn hulls_at<'b>(&'b self, k: u32, cells: &'b Boxed) -> CellHulls<'b>
-        requires cell { HasCell k cells.now.present }
-        requires usable { self.now.machine.pair ≡ None → k ≡ length cells.now.present }
+        requires hulls { HasHulls self.now.machine k cells.now.present }
         requires known { AreKnown cells.now.present self.now }
         requires there { HasRows k cells.now.present self.now }
         ensures { result ≡ at_cell self.now.machine cells.now.present k }
     {
+        let (first, last) = self.ends(cells);
         CellHulls {
             machine: self.machine.get(),
             cells,
             cell: k,
-            row: self.ahead.row(k as usize - 1),
-            back: self.back_row(k, cells),
+            row: self.ahead.row((k - first) as usize),
+            back: self.back_row(k, last, cells),
         }
     }
 
-    /// The backward row of cell `k`; none at the last cell.
-    fn back_row(&self, k: u32, cells: &Boxed) -> Option<&[Hull]>
-        requires cell { HasCell k cells.now.present }
-        requires usable { self.now.machine.pair ≡ None → k ≡ length cells.now.present }
+    /// The backward row of cell `k`; none at the last cell that is looked at.
+    fn back_row(&self, k: u32, last: u32, cells: &Boxed) -> Option<&[Hull]>
+        requires hulls { HasHulls self.now.machine k cells.now.present }
+        requires last { last ≡ last_looked self.now.machine.window (length cells.now.present) }
         requires known { AreKnown cells.now.present self.now }
         requires there { HasRows k cells.now.present self.now }
-        ensures { MatchOption result (k ≡ length cells.now.present)
-            (λ r. IsBackRow self.now.machine.pair k cells.now.present r.now) }
+        ensures { MatchOption result (k ≡ last_looked self.now.machine.window (length cells.now.present))
+            (λ r. IsBackRow self.now.machine k cells.now.present r.now) }
     {
-        let n = cells.cells();
-        if k == n {
+        if k == last {
             return None;
         }
-        Some(self.behind.row((n - k) as usize))
+        Some(self.behind.row((last - k) as usize))
     }
 
-    /// Makes the forward rows that are wanting up to that of cell `k`.
-    fn make_ahead(&mut self, alloc: Global, k: u32, cells: &Boxed) -> Result<(), Memory>
-        requires cell { k ≤ length cells.now.present }
+    /// Makes the forward rows that are wanting of the first `count` cells that are looked at.
+    fn make_ahead(&mut self, alloc: Global, count: usize, cells: &Boxed) -> Result<(), Memory>
+        requires looks { LooksIn self.old.machine cells.now.present }
+        requires cells { count ≤ length (looked_at self.old.machine.window cells.now.present) }
         requires known { AreKnown cells.now.present self.old }
         ensures known { StillKnown cells.now.present self.old self.new }
         ensures behind { self.new.behind ≡ self.old.behind }
-        ensures enough { OnOk result (k ≤ length self.new.ahead) }
+        ensures enough { OnOk result (count ≤ length self.new.ahead) }
     {
         let machine = self.machine.get();
-        make_rows(
-            alloc,
-            &mut self.ahead,
-            machine.forward(),
+        let reading = Reading {
             cells,
-            Way::FromFirst,
-            k as usize,
-        )
+            window: machine.window(),
+            way: Way::FromFirst,
+        };
+        make_rows(alloc, &mut self.ahead, machine.forward(), reading, count)
     }
 
-    /// Makes the backward rows that are wanting down to that of cell `k`. A machine that can't be split has none.
-    fn make_behind(&mut self, alloc: Global, k: u32, cells: &Boxed) -> Result<(), Memory>
-        requires cell { HasCell k cells.now.present }
+    /// Makes the backward rows that are wanting of the last `count` cells that are looked at. A machine that can't be
+    /// split has none.
+    fn make_behind(&mut self, alloc: Global, count: usize, cells: &Boxed) -> Result<(), Memory>
+        requires looks { LooksIn self.old.machine cells.now.present }
+        requires cells { count ≤ length (looked_at self.old.machine.window cells.now.present) }
         requires split { self.old.machine.pair ≡ None → ⊥ }
         requires known { AreKnown cells.now.present self.old }
         ensures known { StillKnown cells.now.present self.old self.new }
         ensures ahead { self.new.ahead ≡ self.old.ahead }
-        ensures enough { OnOk result (length cells.now.present - k < length self.new.behind) }
+        ensures enough { OnOk result (count ≤ length self.new.behind) }
     {
         let machine = self.machine.get();
-        let count = (cells.cells() - k) as usize + 1;
+        let reading = Reading {
+            cells,
+            window: machine.window(),
+            way: Way::FromLast,
+        };
         match machine.reverse() {
-            Some(reverse) => make_rows(
-                alloc,
-                &mut self.behind,
-                reverse,
-                cells,
-                Way::FromLast,
-                count,
-            ),
+            Some(reverse) => make_rows(alloc, &mut self.behind, reverse, reading, count),
             None => unreachable!(),
         }
     }

@@ -3,15 +3,16 @@
 ghost use Rattle.std.specs.Prelude.{◌≡◌, ◌↔◌, ◌+◌, ◌*◌, ◌≤◌, [], ◌∷◌, Contains, IsSome, IsTrue, Some, length};
 ghost use Rattle.std.specs.Prelude.{slice_get, slice_range};
 ghost use Rattle.ts_automaton.specs.Typing.{is_automaton};
+ghost use Rattle.ts_base.specs.Windows.{looked_at};
 ghost use Rattle.ts_bound.specs.Blocks.{OfReverse, back_states, last_at, split_at};
-ghost use Rattle.ts_bound.specs.TermSpans.{IsUsable, automata_of, term_span, value_span};
-ghost use Rattle.ts_domain.specs.BoxSeries.{IsCell};
+ghost use Rattle.ts_bound.specs.Looks.{place_in};
+ghost use Rattle.ts_bound.specs.TermSpans.{automata_of, term_span, value_span};
 ghost use Rattle.ts_filter.specs.Question.{Excludes};
 ghost use Rattle.ts_filter.specs.Boxes.{values_at};
-ghost use Rattle.ts_filter.specs.CellHulls.{IsBackRow, ahead_row, at_cell};
-ghost use Rattle.ts_filter.specs.SoFar.{IsSoFar, WithParts};
+ghost use Rattle.ts_filter.specs.CellHulls.{HasHulls, IsBackRow, ahead_row, at_cell};
+ghost use Rattle.ts_filter.specs.SoFar.{IsSoFar, IsWholeSpan, WithParts};
 ghost use Rattle.ts_filter.specs.TermDrops.{IsFirstRefuting};
-ghost use Rattle.ts_glue.specs.Machines.{forward_of, pair_of};
+ghost use Rattle.ts_glue.specs.Machines.{forward_of, pair_of, window_of};
 
 use crate::blocks::{finish_block, glue_block};
 use crate::question::Question;
@@ -21,11 +22,12 @@ use std::marker::Model;
 use ts_automaton::{Automaton, Hull};
 use ts_base::Span;
 use ts_bound::laws::machine_is_whole;
+use ts_bound::looked_count;
 use ts_domain::{Boxed, Domain};
 use ts_glue::Machine;
 
-/// The rows of one cell of a box: that of the forward automaton, and that of the reverse one, which the last cell can
-/// do without. Contracts see the machine, the box and the cell.
+/// The rows of one cell of a box that the machine looks at: that of the forward automaton, and that of the reverse one,
+/// which the last of these cells can do without. Contracts see the machine, the box and the cell.
 #[derive(Drop)]
 pub(crate) struct CellHulls<'a> {
     pub(crate) machine: &'a Machine,
@@ -55,34 +57,47 @@ impl<'a> Model for CellHulls<'a> {
 impl<'a> CellHulls<'a> {
     /// The number of the cell, counted from 1.
     pub(crate) fn cell(&self) -> u32
-        ensures number { result ≡ self.now.cell }
-        ensures usable { IsUsable self.now.machine self.now.cell self.now.cells }
+        ensures { result ≡ self.now.cell }
     {
         self.cell
     }
 
     /// The values of the cell.
     pub(crate) fn values(&self) -> &Domain
-        ensures { result.now ≡ values_at self.now.cell self.now.cells }
+        ensures values { result.now ≡ values_at self.now.cell self.now.cells }
+        ensures there { HasHulls self.now.machine self.now.cell self.now.cells }
     {
         self.cells.cell(self.cell)
     }
 
-    /// Whether the span there doesn't have what is asked. That span is the hull of those of the values, and the first
-    /// part of it that has this tells: in most cells that is the first of all.
+    /// Whether the span there doesn't have what is asked.
     pub(crate) fn excludes(&self, asked: Question<'_>) -> bool
         ensures { IsTrue result ↔ Excludes asked.entry (term_span self.now.machine self.now.cell self.now.cells) }
+    {
+        self.with_all(asked).is_some()
+    }
+
+    /// The number of the first of these requirements that the span there refutes.
+    pub(crate) fn first_refuted_by_all(&self, requirements: TermRequirements<'_>) -> Option<u32>
+        ensures { IsFirstRefuting requirements.entry.all.now requirements.entry.term
+            (term_span self.now.machine self.now.cell self.now.cells) result }
+    {
+        let known = self.with_all(Question::each_met(requirements))?;
+        requirements.first_refuted(known.span)
+    }
+
+    /// The span there, where it doesn't have what is asked. It is the hull of those of the values, and the first part
+    /// of it that has this tells: in most cells that is the first of all.
+    fn with_all<'b>(&self, asked: Question<'b>) -> Option<SoFar<'b>>
+        ensures { IsWholeSpan asked.entry (term_span self.now.machine self.now.cell self.now.cells) result }
     {
         let values = self.values();
         let mut known = SoFar::none(asked);
         for i in 0..values.size() {
             let v = values.nth(i);
-            match self.with_value(known, i, v) {
-                Some(more) => known = more,
-                None => return false,
-            }
+            known = self.with_value(known, i, v)?;
         }
-        true
+        Some(known)
     }
 
     /// The same of the span on the box with the value `v` alone there.
@@ -148,15 +163,7 @@ impl<'a> CellHulls<'a> {
             ),
             None => {
                 machine_is_whole(self.machine);
-                last_value(
-                    so_far,
-                    self.machine.forward(),
-                    self.row,
-                    self.cells,
-                    self.cell,
-                    i,
-                    v,
-                )
+                last_value(so_far, self.machine, self.row, self.cells, self.cell, i, v)
             }
         }
     }
@@ -179,7 +186,7 @@ fn place_of(values: &Domain, v: i64) -> u64
 /// With the finish span at the value `v` of cell `k`, which stands at place `i`.
 fn last_value<'a>(
     so_far: SoFar<'a>,
-    a: &Automaton,
+    m: &Machine,
     row: &[Hull],
     cells: &Boxed,
     k: u32,
@@ -187,12 +194,14 @@ fn last_value<'a>(
     v: i64,
 ) -> Option<SoFar<'a>>
     requires known { IsSoFar so_far }
-    requires cell { IsCell k cells.now }
-    requires row { row.now ≡ ahead_row a.now k cells.now.present }
+    requires hulls { HasHulls (automata_of m.now) k cells.now.present }
+    requires row { row.now ≡ ahead_row (automata_of m.now) k cells.now.present }
     requires value { slice_get (values_at k cells.now.present) i ≡ Some v }
-    ensures { WithParts so_far.entry (last_at a.now k cells.now.present v ∷ []) result }
+    ensures { WithParts so_far.entry (last_at (forward_of m.now)
+        (place_in (window_of m.now) k) (looked_at (window_of m.now) cells.now.present) v ∷ []) result }
 {
-    let n = cells.cells();
+    let n = looked_count(m.window(), cells.cells());
+    let a = m.forward();
     let states = a.states();
     finish_block(so_far, a, block(row, states, i), n)
 }
@@ -209,13 +218,14 @@ fn split_value<'a>(
     v: i64,
 ) -> Option<SoFar<'a>>
     requires known { IsSoFar so_far }
-    requires cell { IsCell k cells.now }
-    requires row { row.now ≡ ahead_row (forward_of m.now) k cells.now.present }
-    requires back { IsBackRow (pair_of m.now) k cells.now.present back.now }
+    requires hulls { HasHulls (automata_of m.now) k cells.now.present }
+    requires row { row.now ≡ ahead_row (automata_of m.now) k cells.now.present }
+    requires back { IsBackRow (automata_of m.now) k cells.now.present back.now }
     requires value { slice_get (values_at k cells.now.present) i ≡ Some v }
-    ensures { WithParts so_far.entry (split_at (forward_of m.now) (pair_of m.now) k cells.now.present v ∷ []) result }
+    ensures { WithParts so_far.entry (split_at (forward_of m.now) (pair_of m.now)
+        (place_in (window_of m.now) k) (looked_at (window_of m.now) cells.now.present) v ∷ []) result }
 {
-    let n = cells.cells();
+    let n = looked_count(m.window(), cells.cells());
     let states = m.forward().states();
     let back_states = reverse_states(m);
     let left = block(row, states, i);

@@ -2,12 +2,14 @@
 
 ghost use Rattle.std.specs.Prelude.{◌≡◌, ◌+◌, ◌<◌, ◌≤◌, ℕ, IfOk, length, map};
 ghost use Rattle.std.specs.List.{AllByRecursion};
-ghost use Rattle.ts_bound.specs.TermSpans.{automata_of, IsUsable};
+ghost use Rattle.ts_bound.specs.TermSpans.{IsUsable, LooksIn, automata_of};
+ghost use Rattle.ts_domain.specs.Values.{IsDomain};
 ghost use Rattle.ts_filter.specs.Drops.{IsFirstDrop, IsFirstOf};
-ghost use Rattle.ts_filter.specs.Boxes.{HasCell};
+ghost use Rattle.ts_filter.specs.Boxes.{HasCell, values_at};
 ghost use Rattle.ts_filter.specs.KnownRows.{AreKnown, StillKnown};
 ghost use Rattle.ts_filter.specs.MachineSpans.{spans_of};
-ghost use Rattle.ts_filter.specs.TermDrops.{IsDropAt, IsTermDrop, comes_before, earlier_of};
+ghost use Rattle.ts_filter.specs.TermDrops.{IsDropAt, IsRefutedOutside, IsTermDrop, MayHaveDrop};
+ghost use Rattle.ts_filter.specs.TermDrops.{comes_before, earlier_of, least_drop};
 
 use crate::box_tables::BoxTables;
 use crate::cell_hulls::CellHulls;
@@ -40,6 +42,7 @@ pub fn next_drop(
     requires machines { length machines.now < 4000000000 }
     requires requirements { length requirements.now < 4000000000 }
     requires terms { AllByRecursion (λ r. r.term < length machines.now) requirements.now }
+    requires looks { AllByRecursion (λ m. LooksIn (automata_of m) cells.now.present) machines.now }
     ensures { IfOk result
         (λ found. IsFirstDrop requirements.now (spans_of (map automata_of machines.now)) cells.now.present found) }
 {
@@ -54,7 +57,8 @@ pub fn next_drop(
 
 impl<'a> BoxTables<'a> {
     /// The first of the drops by the requirements of the term whose machine this is: that with the least cell, then the
-    /// least value, then the least requirement. None exactly where none is possible.
+    /// least value, then the least requirement. None exactly where none is possible. Where there was none, the
+    /// cells that are looked at aren't asked again before one of them changes.
     pub(crate) fn first_drop(
         &mut self,
         alloc: Global,
@@ -63,6 +67,7 @@ impl<'a> BoxTables<'a> {
         cells: &Boxed,
     ) -> Result<Option<Removal>, Memory>
         requires requirements { length requirements.now < 4000000000 }
+        requires looks { LooksIn self.old.machine cells.now.present }
         requires known { AreKnown cells.now.present self.old }
         ensures known { StillKnown cells.now.present self.old self.new }
         ensures found { IfOk result
@@ -72,15 +77,103 @@ impl<'a> BoxTables<'a> {
             Some(own) => own,
             None => return Ok(None),
         };
-        for before in self.unusable(cells)..cells.cells() {
-            let k = before + 1;
-            self.make_at(alloc, k, cells)?;
-            let found = drop_in_cell(&self.hulls_at(k, cells), own);
+        let outside = self.refuted_outside(alloc, own, cells)?;
+        if outside.is_none() && self.is_quiet(own) {
+            return Ok(None);
+        }
+        let found = self.drop_in_cells(alloc, own, outside, cells)?;
+        if found.is_some() {
+            return Ok(found);
+        }
+        self.found_nothing(alloc, own)?;
+        Ok(None)
+    }
+
+    /// The first of the drops by these requirements, where `outside` is refuted outside the window.
+    fn drop_in_cells(
+        &mut self,
+        alloc: Global,
+        own: TermRequirements<'_>,
+        outside: Option<u32>,
+        cells: &Boxed,
+    ) -> Result<Option<Removal>, Memory>
+        requires outside { IsRefutedOutside own.all.now own.term self.old.machine cells.now.present outside }
+        requires looks { LooksIn self.old.machine cells.now.present }
+        requires known { AreKnown cells.now.present self.old }
+        ensures known { StillKnown cells.now.present self.old self.new }
+        ensures found { IfOk result (λ found. IsFirstOf
+            (IsTermDrop own.entry.all.now own.entry.term self.old.machine cells.now.present) found) }
+    {
+        let (from, to) = self.asked_for_drops(outside, cells);
+        for before in from..to {
+            let found = self.drop_at(alloc, before + 1, own, outside, cells)?;
             if found.is_some() {
                 return Ok(found);
             }
         }
         Ok(None)
+    }
+
+    /// The first requirement that is refuted at each cell outside the window, whatever value it has: all these cells
+    /// have one span. Where none of them may be used, none is looked for.
+    fn refuted_outside(
+        &mut self,
+        alloc: Global,
+        own: TermRequirements<'_>,
+        cells: &Boxed,
+    ) -> Result<Option<u32>, Memory>
+        requires looks { LooksIn self.old.machine cells.now.present }
+        requires known { AreKnown cells.now.present self.old }
+        ensures known { StillKnown cells.now.present self.old self.new }
+        ensures found { IfOk result
+            (λ found. IsRefutedOutside own.entry.all.now own.entry.term self.old.machine cells.now.present found) }
+    {
+        let (first, last) = self.ends(cells);
+        if first <= self.unusable(cells) + 1 && last == cells.cells() {
+            return Ok(None);
+        }
+        self.make_at(alloc, last, cells)?;
+        Ok(self.hulls_at(last, cells).first_refuted_by_all(own))
+    }
+
+    /// The cells at which drops are looked for: those behind the first number, up to the second. They are all that may
+    /// be used, or where no drop can be outside the window those inside.
+    fn asked_for_drops(&self, outside: Option<u32>, cells: &Boxed) -> (u32, u32)
+        requires { LooksIn self.now.machine cells.now.present }
+        ensures each { (k : ℕ) → result.0 < k → k ≤ result.1 → IsUsable self.now.machine k cells.now.present }
+        ensures all { (k : ℕ) → IsUsable self.now.machine k cells.now.present →
+            MayHaveDrop self.now.machine outside k → (result.0 < k) × (k ≤ result.1) }
+    {
+        let unusable = self.unusable(cells);
+        let (first, last) = self.ends(cells);
+        match outside {
+            Some(_) => (unusable, cells.cells()),
+            None => (unusable.max(first - 1), last),
+        }
+    }
+
+    /// The first of the drops at cell `k`, where `outside` is refuted if that is outside the window.
+    fn drop_at(
+        &mut self,
+        alloc: Global,
+        k: u32,
+        own: TermRequirements<'_>,
+        outside: Option<u32>,
+        cells: &Boxed,
+    ) -> Result<Option<Removal>, Memory>
+        requires usable { IsUsable self.old.machine k cells.now.present }
+        requires outside { IsRefutedOutside own.all.now own.term self.old.machine cells.now.present outside }
+        requires looks { LooksIn self.old.machine cells.now.present }
+        requires known { AreKnown cells.now.present self.old }
+        ensures known { StillKnown cells.now.present self.old self.new }
+        ensures found { IfOk result (λ found. IsFirstOf
+            (IsDropAt own.entry.all.now own.entry.term self.old.machine cells.now.present k) found) }
+    {
+        if !self.looks_at(k) {
+            return Ok(drop_outside(k, cells, outside));
+        }
+        self.make_at(alloc, k, cells)?;
+        Ok(drop_in_cell(&self.hulls_at(k, cells), own))
     }
 
     /// How many cells come before the first that may be used: all but the last where the machine can't be split.
@@ -100,6 +193,7 @@ impl<'a> BoxTables<'a> {
 
 /// The first of the drops at one cell by these requirements.
 fn drop_in_cell(hulls: &CellHulls<'_>, own: TermRequirements<'_>) -> Option<Removal>
+    requires { IsUsable hulls.now.machine hulls.now.cell hulls.now.cells }
     ensures { IsFirstOf (IsDropAt own.entry.all.now own.entry.term
         hulls.now.machine hulls.now.cells hulls.now.cell) result }
 {
@@ -119,6 +213,24 @@ fn drop_in_cell(hulls: &CellHulls<'_>, own: TermRequirements<'_>) -> Option<Remo
         }
     }
     None
+}
+
+/// The drop of the least value of cell `k` by a requirement that is refuted whatever value the cell has.
+fn drop_outside(k: u32, cells: &Boxed, refuted: Option<u32>) -> Option<Removal>
+    requires { HasCell k cells.now.present }
+    ensures least { result ≡ least_drop k (values_at k cells.now.present) refuted }
+    ensures domain { IsDomain (values_at k cells.now.present) }
+{
+    let values = cells.cell(k);
+    let many = values.size() >= 2;
+    match refuted {
+        Some(require) if many => Some(Removal {
+            cell: k,
+            value: values.least(),
+            require,
+        }),
+        _ => None,
+    }
 }
 
 /// The one of two drops that comes first.

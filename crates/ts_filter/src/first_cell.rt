@@ -1,10 +1,11 @@
 //! The first cell below the last at which a span is excluded.
 
-ghost use Rattle.std.specs.Prelude.{IfOk};
-ghost use Rattle.ts_bound.specs.TermSpans.{automata_of};
+ghost use Rattle.std.specs.Prelude.{◌≡◌, ◌⊎◌, ◌≤◌, ◌+◌, IfOk, IsTrue, None, Some, false};
+ghost use Rattle.ts_bound.specs.Looks.{first_looked};
+ghost use Rattle.ts_bound.specs.TermSpans.{LooksIn, automata_of};
 ghost use Rattle.ts_filter.specs.Question.{Excludes};
 ghost use Rattle.ts_filter.specs.Excluded.{Cuts, Refutes};
-ghost use Rattle.ts_filter.specs.FirstCell.{IsFirstCell};
+ghost use Rattle.ts_filter.specs.FirstCell.{IsFirstCell, NoneBefore};
 ghost use Rattle.ts_filter.specs.KnownRows.{AreKnown, StillKnown};
 
 use crate::bar::Bar;
@@ -26,7 +27,8 @@ impl<'a> BoxTables<'a> {
         asked: Question<'_>,
         cells: &Boxed,
     ) -> Result<Option<u32>, Memory>
-        requires { AreKnown cells.now.present self.old }
+        requires looks { LooksIn self.old.machine cells.now.present }
+        requires known { AreKnown cells.now.present self.old }
         ensures known { StillKnown cells.now.present self.old self.new }
         ensures found { IfOk result
             (λ found. IsFirstCell self.old.machine (Excludes asked.entry) cells.now.present found) }
@@ -34,14 +36,49 @@ impl<'a> BoxTables<'a> {
         if self.is_plain() {
             return Ok(None);
         }
-        for p in 1..cells.cells() {
-            self.make_at(alloc, p, cells)?;
-            if self.hulls_at(p, cells).excludes(asked) {
+        if self.excluded_before(alloc, asked, cells)? {
+            return Ok(Some(1));
+        }
+        let (first, last) = self.ends(cells);
+        let end = end_of_walk(last, cells.cells());
+        for p in first..end {
+            if self.excluded_at(alloc, asked, p, cells)? {
                 return Ok(Some(p));
             }
         }
         Ok(None)
     }
+
+    /// Whether the cells before the window are excluded: each of them says what the last cell of the window says.
+    fn excluded_before(
+        &mut self,
+        alloc: Global,
+        asked: Question<'_>,
+        cells: &Boxed,
+    ) -> Result<bool, Memory>
+        requires split { self.old.machine.pair ≡ None → ⊥ }
+        requires looks { LooksIn self.old.machine cells.now.present }
+        requires known { AreKnown cells.now.present self.old }
+        ensures known { StillKnown cells.now.present self.old self.new }
+        ensures first { IfOk result (λ told. IsTrue told →
+            IsFirstCell self.old.machine (Excludes asked.entry) cells.now.present (Some 1)) }
+        ensures none { IfOk result (λ told. told ≡ false → NoneBefore
+            self.old.machine (Excludes asked.entry) cells.now.present (first_looked self.old.machine.window)) }
+    {
+        let (first, last) = self.ends(cells);
+        if first == 1 {
+            return Ok(false);
+        }
+        self.excluded_at(alloc, asked, last, cells)
+    }
+}
+
+/// The cell behind those that are asked one by one: they end with the last one that is looked at, or before the last.
+fn end_of_walk(last: u32, n: u32) -> u32
+    ensures within { result ≤ n }
+    ensures far { (n ≤ result) ⊎ (last + 1 ≤ result) }
+{
+    if last < n { last + 1 } else { n }
 }
 
 /// The least cell below the last at which no number of the objective's span counts for the bar. None exactly where
@@ -53,6 +90,7 @@ pub fn first_cut(
     cells: &Boxed,
     bar: Bar,
 ) -> Result<Option<u32>, Memory>
+    requires { LooksIn (automata_of m.now) cells.now.present }
     ensures { IfOk result (λ found. IsFirstCell (automata_of m.now) (Cuts goal bar) cells.now.present found) }
 {
     BoxTables::new(alloc, HeldMachine::Lent(m)).first_excluded(
@@ -70,6 +108,7 @@ pub fn first_refuted(
     r: &Require,
     cells: &Boxed,
 ) -> Result<Option<u32>, Memory>
+    requires { LooksIn (automata_of m.now) cells.now.present }
     ensures { IfOk result
         (λ found. IsFirstCell (automata_of m.now) (Refutes r.now.op r.now.bound) cells.now.present found) }
 {

@@ -1,7 +1,7 @@
 //! The value of a cell that is kept where one is to be chosen.
 
 ghost use Rattle.std.specs.Prelude.{ℤ, Contains, IfOk};
-ghost use Rattle.ts_bound.specs.TermSpans.{automata_of};
+ghost use Rattle.ts_bound.specs.TermSpans.{LooksIn, automata_of};
 ghost use Rattle.ts_domain.specs.BoxSeries.{IsCell};
 ghost use Rattle.ts_filter.specs.Boxes.{values_at};
 ghost use Rattle.ts_filter.specs.KeptValue.{IsKept, IsPreferred, end_in};
@@ -19,7 +19,7 @@ use ts_glue::Machine;
 impl<'a> BoxTables<'a> {
     /// The value of cell `k` that leaves the objective the best number open: of the values with x_k alone there, the
     /// one whose span at `k` has the greatest upper end, or under `Minimise` the least lower end, and of several the
-    /// least. For a machine that can't be split it is the least value of the cell.
+    /// least. For a machine that can't be split, and at a cell outside the window, it is the least value of the cell.
     pub(crate) fn kept_value(
         &mut self,
         alloc: Global,
@@ -28,11 +28,12 @@ impl<'a> BoxTables<'a> {
         cells: &Boxed,
     ) -> Result<i64, Memory>
         requires cell { IsCell k cells.now }
+        requires looks { LooksIn self.old.machine cells.now.present }
         requires known { AreKnown cells.now.present self.old }
         ensures known { StillKnown cells.now.present self.old self.new }
         ensures kept { IfOk result (λ v. IsKept self.old.machine goal k cells.now.present v) }
     {
-        if self.is_plain() {
+        if self.is_plain() || !self.looks_at(k) {
             return Ok(cells.cell(k).least());
         }
         self.make_at(alloc, k, cells)?;
@@ -42,7 +43,7 @@ impl<'a> BoxTables<'a> {
 
 /// The value of cell `k` that leaves the objective the best number open: of the values with x_k alone there, the one
 /// whose span at `k` has the greatest upper end, or under `Minimise` the least lower end, and of several the least. For
-/// a machine that can't be split it is the least value of the cell.
+/// a machine that can't be split, and at a cell outside the window, it is the least value of the cell.
 pub fn kept_value(
     alloc: Global,
     m: &Machine,
@@ -50,7 +51,8 @@ pub fn kept_value(
     k: u32,
     cells: &Boxed,
 ) -> Result<i64, Memory>
-    requires { IsCell k cells.now }
+    requires cell { IsCell k cells.now }
+    requires looks { LooksIn (automata_of m.now) cells.now.present }
     ensures { IfOk result (λ v. IsKept (automata_of m.now) goal k cells.now.present v) }
 {
     BoxTables::new(alloc, HeldMachine::Lent(m)).kept_value(alloc, goal, k, cells)

@@ -39,6 +39,7 @@ pub mod laws;
 mod live_tables;
 mod meeting;
 mod question;
+mod reading;
 mod room;
 mod row_stack;
 mod rows;

@@ -1,7 +1,7 @@
 //! Tables that follow a box: each question first looks which cells have changed since the last one.
 
 ghost use Rattle.std.specs.Prelude.{◌≡◌, ◌↔◌, ◌<◌, Contains, IfOk, IsTrue, None, length};
-ghost use Rattle.ts_bound.specs.TermSpans.{automata_of, term_span};
+ghost use Rattle.ts_bound.specs.TermSpans.{LooksIn, automata_of, term_span};
 ghost use Rattle.ts_domain.specs.BoxSeries.{IsCell, cell_of};
 ghost use Rattle.ts_filter.specs.Question.{Excludes};
 ghost use Rattle.ts_filter.specs.Boxes.{only};
@@ -22,8 +22,9 @@ use ts_base::{Goal, Memory};
 use ts_domain::{Boxed, Domain};
 use ts_model::Require;
 
-/// A machine with the rows of hulls of the box that was asked last. A question on another box makes anew only the rows
-/// that depend on a cell that differs; callers need not tell what changed. Contracts see the machine alone.
+/// A machine with the rows of hulls of the box that was asked last, and with the cells of it that the machine looks at.
+/// A question on another box makes anew only the rows that depend on a cell that differs; callers need not tell what
+/// changed. Contracts see the machine alone.
 #[derive(Drop)]
 pub(crate) struct LiveTables<'a> {
     tables: BoxTables<'a>,
@@ -34,7 +35,7 @@ impl<'a> Model for LiveTables<'a> {
     ghost use Rattle.std.specs.Coded.{codes};
     ghost use Rattle.ts_automaton.specs.Codes.{formula_code};
     ghost use Rattle.ts_bound.specs.TermSpans.{Automata};
-    ghost use Rattle.ts_filter.specs.KnownRows.{AreKnown};
+    ghost use Rattle.ts_filter.specs.KnownRows.{AreRowsOf};
 
     ghost Value = { Automata };
 
@@ -42,7 +43,7 @@ impl<'a> Model for LiveTables<'a> {
 
     ghost view = { λ t. t.tables.machine };
 
-    ghost invariant = { λ t. AreKnown t.seen.items t.tables };
+    ghost invariant = { λ t. AreRowsOf t.seen.items t.tables };
 }
 
 impl<'a> LiveTables<'a> {
@@ -81,6 +82,7 @@ impl<'a> LiveTables<'a> {
     ) -> Result<bool, Memory>
         requires cell { IsCell p cells.now }
         requires usable { self.old.pair ≡ None → p ≡ length cells.now.present }
+        requires looks { LooksIn self.old cells.now.present }
         ensures same { self.new ≡ self.old }
         ensures told { IfOk result (λ told. IsTrue told
             ↔ Excludes asked.entry (term_span self.old p cells.now.present)) }
@@ -100,6 +102,7 @@ impl<'a> LiveTables<'a> {
     ) -> Result<bool, Memory>
         requires cell { IsCell k cells.now }
         requires usable { self.old.pair ≡ None → k ≡ length cells.now.present }
+        requires looks { LooksIn self.old cells.now.present }
         requires value { Contains (cell_of k cells.now) v }
         ensures same { self.new ≡ self.old }
         ensures told { IfOk result (λ told. IsTrue told
@@ -117,6 +120,7 @@ impl<'a> LiveTables<'a> {
         asked: Question<'_>,
         cells: &Boxed,
     ) -> Result<Option<u32>, Memory>
+        requires { LooksIn self.old cells.now.present }
         ensures same { self.new ≡ self.old }
         ensures found { IfOk result
             (λ found. IsFirstCell self.old (Excludes asked.entry) cells.now.present found) }
@@ -127,7 +131,7 @@ impl<'a> LiveTables<'a> {
 
     /// The value of cell `k` that leaves the objective the best number open: of the values with x_k alone there, the
     /// one whose span at `k` has the greatest upper end, or under `Minimise` the least lower end, and of several the
-    /// least. For a machine that can't be split it is the least value of the cell.
+    /// least. For a machine that can't be split, and at a cell outside the window, it is the least value of the cell.
     pub(crate) fn kept_value(
         &mut self,
         alloc: Global,
@@ -135,7 +139,8 @@ impl<'a> LiveTables<'a> {
         k: u32,
         cells: &Boxed,
     ) -> Result<i64, Memory>
-        requires { IsCell k cells.now }
+        requires cell { IsCell k cells.now }
+        requires looks { LooksIn self.old cells.now.present }
         ensures same { self.new ≡ self.old }
         ensures kept { IfOk result (λ v. IsKept self.old goal k cells.now.present v) }
     {
@@ -152,7 +157,8 @@ impl<'a> LiveTables<'a> {
         requirements: &[Require],
         cells: &Boxed,
     ) -> Result<Option<Removal>, Memory>
-        requires { length requirements.now < 4000000000 }
+        requires requirements { length requirements.now < 4000000000 }
+        requires looks { LooksIn self.old cells.now.present }
         ensures same { self.new ≡ self.old }
         ensures found { IfOk result
             (λ found. IsFirstOf (IsTermDrop requirements.now term self.old cells.now.present) found) }

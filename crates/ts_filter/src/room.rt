@@ -1,5 +1,7 @@
 //! Whether the rows of all machines may be kept from box to box.
 
+use ts_base::Range;
+use ts_bound::is_looked;
 use ts_domain::Domain;
 use ts_glue::Machine;
 
@@ -10,29 +12,40 @@ const HULL: u64 = 96;
 /// have memory for twice its hulls.
 const MOST: u64 = 200_000_000;
 
-/// Whether the rows of these machines, of a box with at most these values in its cells, take no more.
+/// Whether the rows of these machines, of a box with at most these values in its cells, take no more. A machine with a
+/// window has rows of the cells of it alone.
 pub(crate) fn has_room(machines: &[Machine], cells: &[Domain]) -> bool {
-    values_of(cells).saturating_mul(states_of(machines)) <= MOST / HULL / 2
+    let mut hulls = 0u64;
+    for m in machines {
+        hulls = hulls.saturating_add(values_of(m.window(), cells).saturating_mul(states_of(m)));
+    }
+    hulls <= MOST / HULL / 2
 }
 
-/// How many values all cells have together.
-fn values_of(cells: &[Domain]) -> u64 {
+/// How many values the cells have together that are looked at.
+fn values_of(window: Option<Range>, cells: &[Domain]) -> u64 {
     let mut values = 0u64;
-    for domain in cells {
-        values = values.saturating_add(domain.size());
+    for i in 0..cells.len() {
+        if is_inside(window, i) {
+            values = values.saturating_add(cells[i].size());
+        }
     }
     values
 }
 
-/// How many states the automata of these machines have, forward and reverse ones.
-fn states_of(machines: &[Machine]) -> u64 {
-    let mut states = 0u64;
-    for m in machines {
-        let reverse = match m.reverse() {
-            Some(a) => a.states(),
-            None => 0,
-        };
-        states = states.saturating_add(m.forward().states() as u64 + reverse as u64);
+/// Whether the cell at place `i`, counted from 0, is looked at.
+fn is_inside(window: Option<Range>, i: usize) -> bool {
+    match u32::try_from(i.saturating_add(1)) {
+        Ok(k) => is_looked(window, k),
+        Err(_) => true,
     }
-    states
+}
+
+/// How many states the automata of the machine have, the forward and the reverse one.
+fn states_of(m: &Machine) -> u64 {
+    let reverse = match m.reverse() {
+        Some(a) => a.states(),
+        None => 0,
+    };
+    m.forward().states() as u64 + reverse as u64
 }

@@ -3,38 +3,32 @@
 ghost use Rattle.std.specs.Prelude.{◌≡◌, ◌*◌, ◌<◌, ◌≤◌, [], ◌++◌, IfOk, OnOk, get_or, length, map};
 ghost use Rattle.ts_bound.specs.HullTables.{forward_rows, row_of, start_hull};
 ghost use Rattle.ts_bound.specs.NextRow.{states_of};
-ghost use Rattle.ts_filter.specs.KnownRows.{AreFirst, AreRows, in_order};
+ghost use Rattle.ts_filter.specs.KnownRows.{AreFirst, AreRows};
+ghost use Rattle.ts_filter.specs.Reading.{cells_read};
 
+use crate::reading::Reading;
 use crate::row_stack::{HullRow, RowStack};
 use std::alloc::Global;
 use ts_automaton::{Automaton, Hull};
 use ts_base::Memory;
 use ts_bound::fill_row;
-use ts_domain::{Boxed, Domain};
-
-/// The order in which the cells are read.
-#[derive(Clone, Copy)]
-pub(crate) enum Way {
-    FromFirst,
-    FromLast,
-}
+use ts_domain::Domain;
 
 /// Makes the rows that are wanting of the `count` cells that the automaton reads first.
 pub(crate) fn make_rows(
     alloc: Global,
     rows: &mut RowStack,
     a: &Automaton,
-    cells: &Boxed,
-    way: Way,
+    reading: Reading<'_>,
     count: usize,
 ) -> Result<(), Memory>
-    requires cells { count ≤ length cells.now.present }
-    requires known { AreRows a.now (in_order way cells.now.present) rows.old }
-    ensures known { AreRows a.now (in_order way cells.now.present) rows.new }
+    requires cells { count ≤ length (cells_read reading) }
+    requires known { AreRows a.now (cells_read reading) rows.old }
+    ensures known { AreRows a.now (cells_read reading.entry) rows.new }
     ensures enough { OnOk result (count ≤ length rows.new.known) }
 {
     while rows.len() < count {
-        make_row(alloc, rows, a, cells, way)?;
+        make_row(alloc, rows, a, reading)?;
     }
     Ok(())
 }
@@ -44,16 +38,15 @@ fn make_row(
     alloc: Global,
     rows: &mut RowStack,
     a: &Automaton,
-    cells: &Boxed,
-    way: Way,
+    reading: Reading<'_>,
 ) -> Result<(), Memory>
-    requires more { length rows.old.known < length cells.now.present }
-    requires known { AreRows a.now (in_order way cells.now.present) rows.old }
-    ensures known { AreRows a.now (in_order way cells.now.present) rows.new }
+    requires more { length rows.old.known < length (cells_read reading) }
+    requires known { AreRows a.now (cells_read reading) rows.old }
+    ensures known { AreRows a.now (cells_read reading.entry) rows.new }
     ensures more { OnOk result (length rows.old.known < length rows.new.known) }
 {
     let spare = rows.take_spare(alloc);
-    let row = next_row(alloc, rows, a, cells, way, spare)?;
+    let row = next_row(alloc, rows, a, reading, spare)?;
     if rows.stands(&row) {
         rows.know_all(row);
         return Ok(());
@@ -66,42 +59,23 @@ fn next_row(
     alloc: Global,
     rows: &RowStack,
     a: &Automaton,
-    cells: &Boxed,
-    way: Way,
+    reading: Reading<'_>,
     spare: HullRow,
 ) -> Result<HullRow, Memory>
-    requires more { length rows.now.known < length cells.now.present }
-    requires known { AreFirst a.now (in_order way cells.now.present) rows.now.known }
+    requires more { length rows.now.known < length (cells_read reading) }
+    requires known { AreFirst a.now (cells_read reading) rows.now.known }
     ensures { IfOk result
-        (λ row. row ≡ get_or (forward_rows a.now (in_order way cells.now.present)) (length rows.now.known) []) }
+        (λ row. row ≡ get_or (forward_rows a.now (cells_read reading.entry)) (length rows.now.known) []) }
 {
     let i = rows.len();
-    let values = read_at(cells, way, i);
+    let values = reading.at(i);
     if i == 0 {
         return Ok(first_row(alloc, a, values, spare)?);
     }
     let before = rows.row(i - 1);
     let mut hulls = resized(alloc, spare, values.size(), a.states())?;
-    fill_row(
-        a,
-        read_at(cells, way, i - 1),
-        before,
-        values,
-        hulls.as_mut_slice(),
-    );
+    fill_row(a, reading.at(i - 1), before, values, hulls.as_mut_slice());
     Ok(HullRow { hulls })
-}
-
-/// The values of the cell that is read at place `i`, counted from 0.
-fn read_at(cells: &Boxed, way: Way, i: usize) -> &Domain
-    requires { i < length cells.now.present }
-    ensures { result.now ≡ get_or (in_order way cells.now.present) i [] }
-{
-    let n = cells.cells();
-    match way {
-        Way::FromFirst => cells.cell(i as u32 + 1),
-        Way::FromLast => cells.cell(n - i as u32),
-    }
 }
 
 /// The row of the cell that is read first: at each value the start registers in the start state alone.

@@ -1,13 +1,15 @@
 //! The requirements of one term among those of a model.
 
-ghost use Rattle.std.specs.Prelude.{◌≡◌, ◌↔◌, ◌<◌, ◌≤◌, IsTrue, MatchOption, None, Some, length, nat_eq};
+ghost use Rattle.std.specs.Prelude.{◌≡◌, ◌↔◌, ◌<◌, ◌≤◌, Contains, IfOk, IsTrue, MatchOption, None, Some};
+ghost use Rattle.std.specs.Prelude.{false, filter, length, nat_eq};
 ghost use Rattle.std.specs.List.{position};
 ghost use Rattle.ts_base.specs.declared.span.Span.{Span};
 ghost use Rattle.ts_filter.specs.Excluded.{Refutes};
-ghost use Rattle.ts_filter.specs.TermDrops.{IsFirstRefuting, NoneFrom, RefutesSome};
+ghost use Rattle.ts_filter.specs.TermDrops.{AreAmong, IsFirstRefuting, NoneFrom, RefutesSome};
 
 use crate::excluded::refutes;
-use ts_base::Span;
+use std::alloc::Global;
+use ts_base::{Memory, Span};
 use ts_model::Require;
 
 /// The requirements of a term that has some: the one at place `first`, and those of the term behind it up to `end`.
@@ -66,6 +68,35 @@ impl<'a> TermRequirements<'a> {
     }
 }
 
+impl<'a> TermRequirements<'a> {
+    /// Whether each of them is one of the others.
+    pub(crate) fn are_among(self, others: &[Require]) -> bool
+        ensures { IsTrue result → AreAmong self.entry.all.now self.entry.term others.now }
+    {
+        for i in self.first..self.end {
+            if is_missing(&self.all[i], self.term, others) {
+                return false;
+            }
+        }
+        true
+    }
+
+    /// They alone.
+    pub(crate) fn copied(self, alloc: Global) -> Result<Vec<Require>, Memory>
+        ensures { IfOk result
+            (λ own. own.items ≡ filter (λ r. nat_eq r.term self.entry.term) self.entry.all.now) }
+    {
+        let term = self.term;
+        let own = self
+            .all
+            .iter()
+            .copied()
+            .filter(|r| r.term == term)
+            .collect(alloc)?;
+        Ok(own)
+    }
+}
+
 /// The place of the first requirement of the term.
 fn first_of(all: &[Require], term: u32) -> Option<usize>
     ensures { result ≡ position (λ r. nat_eq r.term term) all.now }
@@ -93,6 +124,25 @@ fn is_of(r: &Require, term: u32) -> bool
     ensures { IsTrue result ↔ (r.now.term ≡ term) }
 {
     r.term == term
+}
+
+/// Whether the requirement is of the term, and none of the others.
+fn is_missing(r: &Require, term: u32, others: &[Require]) -> bool
+    ensures { result ≡ false → r.now.term ≡ term → Contains others.now r.now }
+{
+    is_of(r, term) && !is_one_of(r, others)
+}
+
+/// Whether the requirement is one of the others.
+fn is_one_of(r: &Require, others: &[Require]) -> bool
+    ensures { IsTrue result → Contains others.now r.now }
+{
+    for i in 0..others.len() {
+        if others[i] == *r {
+            return true;
+        }
+    }
+    false
 }
 
 /// Whether the requirement is of the term, and the span refutes it.

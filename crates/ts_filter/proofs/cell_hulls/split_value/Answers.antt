@@ -1,80 +1,89 @@
-use Rattle.std.proofs.Common.{List, ap, ◌∙◌, refl, sym, subst, length, w64, to_z, of_z}
+use Rattle.std.proofs.Common.{◌≡◌, List, ap, ◌∙◌, refl, sym, subst, length, w64, to_z, of_z}
 use Rattle.std.specs.Prelude.{IsTrue}
 use Rattle.std.proofs.lemmas.Int.{to_z-of_z}
 use Rattle.ts_automaton.specs.Typing.{is_automaton}
 use Rattle.ts_base.specs.Limits.{IsCellValue}
+use Rattle.ts_base.specs.Windows.{looked_at}
 use Rattle.ts_bound.proofs.SpanRuns.{hulls_stand}
 use Rattle.ts_bound.proofs.SpanEnds.{split_one, right_kinds}
 use Rattle.ts_base.specs.declared.span.Span.{Span}
 use Rattle.ts_bound.specs.Blocks.{glued_all, split_at}
-use Rattle.ts_bound.specs.TermSpans.{span_of_all}
-use Rattle.ts_bound.specs.HullTables.{cells_before, cells_after}
-use Rattle.ts_glue.specs.Machines.{forward_of, pair_of}
+use Rattle.ts_bound.specs.Looks.{place_in}
+use Rattle.ts_bound.specs.TermSpans.{automata_of, span_of_all}
+use Rattle.ts_glue.specs.Machines.{forward_of, pair_of, window_of}
 use Rattle.ts_filter.specs.Boxes.{values_at}
+use Rattle.ts_filter.specs.CellHulls.{seen_after, seen_before}
 use Rattle.ts_filter.proofs.CellLaws.{row_holds, row_block, back_holds, back_block, ahead_long, back_long, cell_value}
+use Rattle.ts_filter.proofs.Looked.{cell_there, counted}
 use Rattle.ts_filter.proofs.SoFarLaws.{as_one}
 use Rattle.ts_filter.proofs.cell_hulls.split_value.Goals as goal
 
 pub block-left-requires : goal.block-left-requires
 block-left-requires c =
     let b = c.args.cells.now.present in let m = c.args.m.now in
-    row_holds (forward_of m) (cells_before c.args.k b) (values_at c.args.k b) c.args.i c.args.v c.args.row.now c.states-states.result
+    row_holds (forward_of m) (seen_before (automata_of m) c.args.k b) (values_at c.args.k b) c.args.i c.args.v c.args.row.now c.states-states.result
     (c.states-states.ensures.count ∙ ap (λ a. length a.states) c.forward.ensures) c.requires.row c.requires.value
 
 pub block-right-requires : goal.block-right-requires
 block-right-requires c =
     let b = c.args.cells.now.present in let m = c.args.m.now in
-    back_holds (pair_of m) c.args.k b c.args.i c.args.v c.args.back.now c.reverse_states-back_states.result c.reverse_states-back_states.ensures.count
-    c.requires.back c.requires.value
+    back_holds (pair_of m) (seen_after (automata_of m) c.args.k b) (values_at c.args.k b) c.args.i c.args.v c.args.back.now
+    c.reverse_states-back_states.result c.reverse_states-back_states.ensures.count c.requires.back c.requires.value
 
 pub glue_block-requires-clause-left_states : goal.glue_block-requires-clause-left_states
 glue_block-requires-clause-left_states c =
-    let b = c.args.cells.now.present in let m = c.args.m.now in
-    ahead_long (forward_of m) (cells_before c.args.k b) c.args.v c.block-left.result.now
-    (row_block (forward_of m) (cells_before c.args.k b) (values_at c.args.k b) c.args.i c.args.v c.args.row.now c.block-left.result.now c.states-states.result
+    let b = c.args.cells.now.present in let m = c.args.m.now in let before = seen_before (automata_of m) c.args.k b in
+    ahead_long (forward_of m) before c.args.v c.block-left.result.now
+    (row_block (forward_of m) before (values_at c.args.k b) c.args.i c.args.v c.args.row.now c.block-left.result.now c.states-states.result
     (c.states-states.ensures.count ∙ ap (λ a. length a.states) c.forward.ensures) c.requires.row c.requires.value c.block-left.ensures)
 
 pub glue_block-requires-clause-left_kinds : goal.glue_block-requires-clause-left_kinds
 glue_block-requires-clause-left_kinds c =
-    let b = c.args.cells.now.present in let m = c.args.m.now in
-    hulls_stand (forward_of m) (subst (λ a. IsTrue (is_automaton a)) c.forward.ensures c.states-states.ensures.rules) (cells_before c.args.k b) c.args.v
+    let b = c.args.cells.now.present in let m = c.args.m.now in let before = seen_before (automata_of m) c.args.k b in
+    hulls_stand (forward_of m) (subst (λ a. IsTrue (is_automaton a)) c.forward.ensures c.states-states.ensures.rules) before c.args.v
     c.block-left.result.now
-    (row_block (forward_of m) (cells_before c.args.k b) (values_at c.args.k b) c.args.i c.args.v c.args.row.now c.block-left.result.now c.states-states.result
+    (row_block (forward_of m) before (values_at c.args.k b) c.args.i c.args.v c.args.row.now c.block-left.result.now c.states-states.result
     (c.states-states.ensures.count ∙ ap (λ a. length a.states) c.forward.ensures) c.requires.row c.requires.value c.block-left.ensures)
 
 pub glue_block-requires-clause-right_states : goal.glue_block-requires-clause-right_states
 glue_block-requires-clause-right_states c =
-    let b = c.args.cells.now.present in let m = c.args.m.now in
-    back_long (pair_of m) (cells_after c.args.k b) c.args.v c.block-right.result.now c.reverse_states-back_states.result
+    let b = c.args.cells.now.present in let m = c.args.m.now in let behind = seen_after (automata_of m) c.args.k b in
+    back_long (pair_of m) behind c.args.v c.block-right.result.now c.reverse_states-back_states.result
     c.reverse_states-back_states.ensures.count
-    (back_block (pair_of m) c.args.k b c.args.i c.args.v c.args.back.now c.block-right.result.now c.reverse_states-back_states.result
+    (back_block (pair_of m) behind (values_at c.args.k b) c.args.i c.args.v c.args.back.now c.block-right.result.now c.reverse_states-back_states.result
     c.reverse_states-back_states.ensures.count c.requires.back c.requires.value c.block-right.ensures)
 
 pub glue_block-requires-clause-right_kinds : goal.glue_block-requires-clause-right_kinds
 glue_block-requires-clause-right_kinds c =
-    let b = c.args.cells.now.present in let m = c.args.m.now in
-    right_kinds (pair_of m) c.reverse_states-back_states.result (cells_after c.args.k b) c.args.v c.block-right.result.now
+    let b = c.args.cells.now.present in let m = c.args.m.now in let behind = seen_after (automata_of m) c.args.k b in
+    right_kinds (pair_of m) c.reverse_states-back_states.result behind c.args.v c.block-right.result.now
     c.reverse_states-back_states.ensures.rules c.reverse_states-back_states.ensures.count
-    (back_block (pair_of m) c.args.k b c.args.i c.args.v c.args.back.now c.block-right.result.now c.reverse_states-back_states.result
+    (back_block (pair_of m) behind (values_at c.args.k b) c.args.i c.args.v c.args.back.now c.block-right.result.now c.reverse_states-back_states.result
     c.reverse_states-back_states.ensures.count c.requires.back c.requires.value c.block-right.ensures)
 
 pub glue_block-requires-clause-cell : goal.glue_block-requires-clause-cell
 glue_block-requires-clause-cell c =
+    let b = c.args.cells.now.present in let there = cell_there (automata_of c.args.m.now) c.args.k b c.requires.hulls in
     subst IsCellValue (sym (to_z-of_z w64 c.args.v c.ranges.v))
-    (cell_value c.args.cells.now.present c.args.k c.args.i c.args.v c.cells-n.ensures.domains c.requires.cell.0 c.requires.cell.1 c.requires.value)
+    (cell_value b c.args.k c.args.i c.args.v c.cells.ensures.domains there.0 there.1 c.requires.value)
 
 pub returns : goal.returns
 returns c =
     let b = c.args.cells.now.present in let m = c.args.m.now in let states = c.reverse_states-back_states.result in
+    let before = seen_before (automata_of m) c.args.k b in let behind = seen_after (automata_of m) c.args.k b in
+    let place = place_in (window_of m) c.args.k in let cells = looked_at (window_of m) b in
+    let count : c.looked_count-n.result ≡ length cells =
+    counted c.args.m.now b c.window.result c.cells.result c.looked_count-n.result c.requires.hulls.looks c.window.ensures c.cells.ensures.count
+    c.looked_count-n.ensures in
     let parts : List Span =
-    glued_all (pair_of m) c.block-left.result.now c.block-right.result.now (to_z w64 (of_z w64 c.args.v)) c.cells-n.result states
+    glued_all (pair_of m) c.block-left.result.now c.block-right.result.now (to_z w64 (of_z w64 c.args.v)) c.looked_count-n.result states
     (length (forward_of m).states) in
-    as_one c.args.so_far parts (split_at (forward_of m) (pair_of m) c.args.k b c.args.v) c.glue_block.result c.requires.known
-    (sym (split_one (forward_of m) (pair_of m) c.args.k b c.args.v _ c.block-left.result.now c.block-right.result.now c.cells-n.result states
+    as_one c.args.so_far parts (split_at (forward_of m) (pair_of m) place cells c.args.v) c.glue_block.result c.requires.known
+    (sym (split_one (forward_of m) (pair_of m) place cells c.args.v _ c.block-left.result.now c.block-right.result.now c.looked_count-n.result states
     (span_of_all parts) (to_z-of_z w64 c.args.v c.ranges.v)
-    (row_block (forward_of m) (cells_before c.args.k b) (values_at c.args.k b) c.args.i c.args.v c.args.row.now c.block-left.result.now c.states-states.result
+    (row_block (forward_of m) before (values_at c.args.k b) c.args.i c.args.v c.args.row.now c.block-left.result.now c.states-states.result
     (c.states-states.ensures.count ∙ ap (λ a. length a.states) c.forward.ensures) c.requires.row c.requires.value c.block-left.ensures)
-    (back_block (pair_of m) c.args.k b c.args.i c.args.v c.args.back.now c.block-right.result.now states
+    (back_block (pair_of m) behind (values_at c.args.k b) c.args.i c.args.v c.args.back.now c.block-right.result.now states
     c.reverse_states-back_states.ensures.count c.requires.back c.requires.value c.block-right.ensures)
-    c.cells-n.ensures.count c.reverse_states-back_states.ensures.count refl))
+    count c.reverse_states-back_states.ensures.count refl))
     c.glue_block.ensures

@@ -11,22 +11,22 @@ use Rattle.ts_filter.proofs.drops.drop_in_cell.Goals as goal
 pub returns-in-Some : goal.returns-in-Some
 returns-in-Some c =
     let fits : SFits w64 c.nth-value.result = search rules in
-    let t = c.args.hulls.now in let all = values_at t.cell t.cells in let long = ap length c.values-values.ensures in
+    let t = c.args.hulls.now in let all = values_at t.cell t.cells in let long = ap length c.values-values.ensures.values in
     let many : 2 ≤ length all = search rules in
     let left = left_is all c.loop-i.i c.nth-value.result (omega (arith, long, c.loop-i-test.true, c.size-i-end.ensures.size))
-    (sym (ap (λ l. slice_get l c.loop-i.i) c.values-values.ensures) ∙ c.nth-value.ensures) in
+    (sym (ap (λ l. slice_get l c.loop-i.i) c.values-values.ensures.values) ∙ c.nth-value.ensures) in
     subst (λ k. IsFirstOf (IsDropAt c.args.own.all.now c.args.own.term t.machine t.cells t.cell)
     (Some (record { cell = k; value = to_z w64 (of_z w64 c.nth-value.result); require = c.in-Some.require })))
-    (sym c.cell-cell.ensures.number)
+    (sym c.cell-cell.ensures)
     (drop_found_as c.args.own.all.now c.args.own.term t.machine t.cells t.cell (drop c.loop-i.i all) (drop (c.loop-i.i + 1) all) c.nth-value.result _
-    c.in-Some.require (to_z-of_z w64 c.nth-value.result fits) c.loop-i.invariant left c.cell-cell.ensures.usable many
+    c.in-Some.require (to_z-of_z w64 c.nth-value.result fits) c.loop-i.invariant left c.requires many
     c.in-Some.ensures)
 
 pub loop-i-preserved : goal.loop-i-preserved
 loop-i-preserved c =
     let fits : SFits w64 c.nth-value.result = search rules in
-    let t = c.args.hulls.now in let all = values_at t.cell t.cells in let long = ap length c.values-values.ensures in
+    let t = c.args.hulls.now in let all = values_at t.cell t.cells in let long = ap length c.values-values.ensures.values in
     let left = left_is all c.loop-i.i c.nth-value.result (omega (arith, long, c.loop-i-test.true, c.size-i-end.ensures.size))
-    (sym (ap (λ l. slice_get l c.loop-i.i) c.values-values.ensures) ∙ c.nth-value.ensures) in
+    (sym (ap (λ l. slice_get l c.loop-i.i) c.values-values.ensures.values) ∙ c.nth-value.ensures) in
     fewer_left_as c.args.own.all.now c.args.own.term t.machine t.cells t.cell (drop c.loop-i.i all) (drop (c.loop-i.i + 1) all) c.nth-value.result _
     (to_z-of_z w64 c.nth-value.result fits) c.loop-i.invariant left c.in_default.ensures

@@ -16,10 +16,10 @@ loop-i-preserved c =
     let t = c.args.hulls.now in let end = end_in t.machine c.args.goal t.cell t.cells in let all = values_at t.cell t.cells in
     let same = to_z-of_z w64 c.nth-v.result fits in
     let ends = c.best_end-end.ensures ∙ ap (best_end c.args.goal) c.span_at-in-loop-i.ensures in
-    let long = ap length c.values-values.ensures in
+    let long = ap length c.values-values.ensures.values in
     let rest = drop (c.loop-i.i + 1) all in
     let left = left_is all c.loop-i.i c.nth-v.result (omega (arith, long, c.loop-i-test.true, c.size-i-end.ensures.size))
-    (sym (ap (λ l. slice_get l c.loop-i.i) c.values-values.ensures) ∙ c.nth-v.ensures) in
+    (sym (ap (λ l. slice_get l c.loop-i.i) c.values-values.ensures.values) ∙ c.nth-v.ensures) in
     elim c.if-is_better.branch [
       | then-is_better w ↦ (
         subst (λ (u : ℤ). IsSoFar c.args.goal end all rest u) (sym (w.kept-is ∙ same))
@@ -38,6 +38,6 @@ loop-i-preserved c =
 pub returns-clause-best : goal.returns-clause-best
 returns-clause-best c =
     let t = c.args.hulls.now in let end = end_in t.machine c.args.goal t.cell t.cells in let all = values_at t.cell t.cells in
-    let long = ap length c.values-values.ensures in
+    let long = ap length c.values-values.ensures.values in
     kept_of_all c.args.goal end all (drop c.loop-i.i all) _ c.loop-i.invariant.0
     (drop_all c.loop-i.i all (omega (arith, long, c.loop-i-test.false, c.size-i-end.ensures.size)))

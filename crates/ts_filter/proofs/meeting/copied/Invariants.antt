@@ -1,5 +1,6 @@
 use Rattle.std.proofs.Common.{◌≡◌, take}
+use Rattle.ts_filter.specs.Reading.{cells_read}
 use Rattle.ts_filter.proofs.meeting.copied.Given as goal
 
-abbrev pub invariant-loop-k : goal.invariant-loop-k
-invariant-loop-k l = l.copies.items ≡ take l.k l.cells.present
+abbrev pub invariant-loop-at : goal.invariant-loop-at
+invariant-loop-at l = l.copies.items ≡ take l.at (cells_read l.looked)

@@ -1,10 +1,17 @@
-use Rattle.std.proofs.Common.{rules, ◌<◌, ◌≤◌, ◌∙◌, length, subst}
+use Rattle.std.proofs.Common.{rules, ◌<◌, ◌≤◌, ◌∙◌, length, subst, sym}
+use Rattle.ts_bound.specs.TermSpans.{LooksIn}
 use Rattle.ts_filter.specs.Drops.{IsFirstOf}
 use Rattle.ts_filter.specs.OfTerm.{OfTerm}
 use Rattle.ts_filter.specs.TermDrops.{IsTermDrop}
 use Rattle.ts_filter.proofs.DropLaws.{first_of_all}
-use Rattle.ts_filter.proofs.TermsAsked.{drops_more}
+use Rattle.ts_filter.proofs.TermsAsked.{drops_more, looks_of}
 use Rattle.ts_filter.proofs.all_tables.AllTables.next_drop.Goals as goal
+
+pub first_drop-requires-clause-looks : goal.first_drop-requires-clause-looks
+first_drop-requires-clause-looks c =
+    let b = c.args.cells.now.present in
+    subst (λ all. OfTerm all c.loop-term.term (λ a. LooksIn a b)) (sym c.loop-term.invariant.same)
+    (looks_of b c.args.self.now c.loop-term.term c.requires.looks)
 
 pub loop-term-preserved : goal.loop-term-preserved
 loop-term-preserved c =
@@ -12,7 +19,8 @@ loop-term-preserved c =
     let below : term < length c.args.self.now = search rules in
     record {
       same = c.first_drop.ensures.same ∙ c.loop-term.invariant.same;
-      first = drops_more rs c.args.self.now b term c.loop-term.first c.in_ok-found.found c.earlier-first.result below c.loop-term.invariant.first
+      first = drops_more rs c.args.self.now b term c.loop-term.first c.in_ok-found.found c.earlier-first.result below
+          c.requires.looks c.loop-term.invariant.first
           (subst (λ all. OfTerm all term (λ a. IsFirstOf (IsTermDrop rs term a b) c.in_ok-found.found)) c.loop-term.invariant.same c.in_ok-found.ensures.found)
           c.earlier-first.ensures;
     }

@@ -4,5 +4,5 @@ use Rattle.ts_filter.proofs.box_tables.BoxTables.changed.Goals as goal
 
 pub returns-clause-known : goal.returns-clause-known
 returns-clause-known c =
-    stay_known _ c.args.first c.args.last c.args.n c.saturating_sub-before.result c.saturating_sub.result _ _ _ _ c.args.self.now _
-    c.saturating_sub-before.ensures c.saturating_sub.ensures c.truncate.ensures c.truncate-2.ensures c.self.view_is refl
+    stay_known _ c.args.first c.args.last c.args.count _ _ _ _ _ _ c.args.self.now _ c.truncate.ensures c.truncate-2.ensures
+    c.clear.ensures.items c.self.view_is refl

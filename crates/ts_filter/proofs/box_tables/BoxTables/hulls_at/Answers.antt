@@ -1,4 +1,5 @@
 use Rattle.std.proofs.Common.{ap, ◌∙◌, sym, subst, [], get_or, option_map, length, ◌≡◌, ◌-◌}
+use Rattle.ts_bound.specs.Looks.{last_looked}
 use Rattle.ts_bound.specs.TermSpans.{automata_of}
 use Rattle.ts_glue.specs.declared.machine.Machine.{Machine}
 use Rattle.ts_filter.specs.CellHulls.{AreHulls, IsBackRow}
@@ -11,7 +12,7 @@ invariant_of-result c =
     let t = c.args.self.now in let b = c.args.cells.now.present in
     subst (λ (m : Machine). AreHulls (automata_of m) b c.args.k c.row.result.now (option_map (λ r. r.now) c.back_row.result)) (sym c.get.ensures)
     (subst (λ (u : KnownRows). AreHulls u.machine b c.args.k c.row.result.now (option_map (λ r. r.now) c.back_row.result)) (sym c.self.view_is)
-    (hulls_are b t c.args.k c.row.result.now [] (option_map (λ r. r.now) c.back_row.result) c.requires.cell c.requires.usable
-    c.requires.known c.requires.there
-    (c.row.ensures ∙ ap (λ (u : KnownRows). get_or u.ahead (c.args.k - 1) []) c.self.view_is)
-    (match_seen (λ r. r.now) c.back_row.result (c.args.k ≡ length b) (IsBackRow t.machine.pair c.args.k b) c.back_row.ensures)))
+    (hulls_are b t c.args.k c.requires.hulls c.requires.known c.requires.there c.row.result.now [] (option_map (λ r. r.now) c.back_row.result)
+    (c.row.ensures ∙ ap (λ (u : KnownRows). get_or u.ahead (c.args.k - c.ends-first.result.0) []) c.self.view_is
+    ∙ ap (λ first. get_or t.ahead (c.args.k - first) []) c.ends-first.ensures.first)
+    (match_seen (λ r. r.now) c.back_row.result (c.args.k ≡ last_looked t.machine.window (length b)) (IsBackRow t.machine c.args.k b) c.back_row.ensures)))

@@ -1,11 +1,23 @@
-use Rattle.std.proofs.Common.{◌↔◌, sym, ap, ◌∙◌, subst, w64}
+use Rattle.std.proofs.Common.{◌↔◌, ◌∙◌, sym, ap, subst, w64}
 use Rattle.std.proofs.lemmas.Int.{to_z-of_z}
-use Rattle.std.specs.Prelude.{IsTrue}
+use Rattle.std.specs.Prelude.{IfOk, IsTrue}
 use Rattle.ts_bound.specs.TermSpans.{Automata, value_span}
 use Rattle.ts_bound.proofs.Reached.{values_narrowed}
 use Rattle.ts_filter.specs.Question.{Excludes}
-use Rattle.ts_filter.specs.CellHulls.{AtCell}
+use Rattle.ts_filter.specs.CellHulls.{AtCell, HasHulls}
+use Rattle.ts_filter.proofs.Looked.{hulls_inside, value_outside}
 use Rattle.ts_filter.proofs.box_tables.BoxTables.value_excluded_at.Goals as goal
+
+pub make_at-requires-clause-hulls : goal.make_at-requires-clause-hulls
+make_at-requires-clause-hulls c =
+    hulls_inside c.args.self.now.machine c.args.cells.now.present c.args.k c.requires.looks c.requires.cell c.requires.usable
+    (sym c.looks_at.ensures ∙ c.if-not-looks_at.false)
+
+pub hulls_at-requires-clause-hulls : goal.hulls_at-requires-clause-hulls
+hulls_at-requires-clause-hulls c =
+    subst (λ (a : Automata). HasHulls a c.args.k c.args.cells.now.present) (sym c.in_ok-make_at.ensures.known.machine)
+    (hulls_inside c.args.self.now.machine c.args.cells.now.present c.args.k c.requires.looks c.requires.cell c.requires.usable
+    (sym c.looks_at.ensures ∙ c.if-not-looks_at.false))
 
 pub returns-clause-told : goal.returns-clause-told
 returns-clause-told c =
@@ -14,5 +26,13 @@ returns-clause-told c =
     (ap (value_span h.machine h.cell h.cells) (to_z-of_z w64 v c.ranges.v)
     ∙ ap (λ (x : AtCell). value_span x.machine x.cell x.cells v) c.hulls_at.ensures
     ∙ ap (λ (a : Automata). value_span a k b v) c.in_ok-make_at.ensures.known.machine
-    ∙ sym (values_narrowed c.args.self.now.machine b k c.requires.cell.0 c.requires.cell.1 v))
+    ∙ sym (values_narrowed c.args.self.now.machine b c.requires.looks k c.requires.cell.0 c.requires.cell.1 v))
     c.value_excludes.ensures
+
+pub returns-then-not-looks_at-clause-told : goal.returns-then-not-looks_at-clause-told
+returns-then-not-looks_at-clause-told c =
+    let a = c.args.self.now.machine in let b = c.args.cells.now.present in let k = c.args.k in let v = c.args.v in
+    subst (λ s. IfOk c.excluded_at.result (λ told. IsTrue told ↔ Excludes c.args.asked s))
+    (sym (values_narrowed a b c.requires.looks k c.requires.cell.0 c.requires.cell.1 v
+    ∙ value_outside a k b v (sym c.looks_at.ensures ∙ c.if-not-looks_at.true)))
+    c.excluded_at.ensures.told

@@ -1,42 +1,8 @@
-use mir.Val.{SFits}
-use Rattle.std.proofs.Common.{◌≡◌, true, false, ap, ◌∙◌, sym, refl, length, slice_get, w64, rules, arith}
-use Rattle.std.proofs.lemmas.Int.{to_z-of_z}
-use Rattle.ts_bound.specs.TermSpans.{value_span}
-use Rattle.ts_filter.specs.Boxes.{values_at}
-use Rattle.ts_filter.proofs.CellLaws.{span_begun}
-use Rattle.ts_filter.proofs.SoFarLaws.{value_more, value_stops, values_done}
+use Rattle.ts_bound.specs.TermSpans.{term_span}
+use Rattle.ts_filter.proofs.SoFarLaws.{whole_told}
 use Rattle.ts_filter.proofs.cell_hulls.CellHulls.excludes.Goals as goal
-
-pub loop-i-init : goal.loop-i-init
-loop-i-init c =
-    let t = c.args.self.now in (
-      c.none-known.ensures.asked,
-      span_begun (value_span t.machine t.cell t.cells) (values_at t.cell t.cells) c.none-known.result.span c.none-known.ensures.span,
-      c.none-known.ensures.known,
-    )
-
-pub loop-i-preserved : goal.loop-i-preserved
-loop-i-preserved c =
-    let fits : SFits w64 c.nth-v.result = search rules in
-    let t = c.args.self.now in let all = values_at t.cell t.cells in let long = ap length c.values-values.ensures in
-    value_more c.loop-i.known c.args.asked t.machine t.cell t.cells all c.loop-i.i c.loop-i.invariant.0 refl c.loop-i.invariant.1 c.in-Some.more
-    c.nth-v.result _ (omega (arith, long, c.loop-i-test.true, c.size-i-end.ensures.size))
-    (sym (ap (λ l. slice_get l c.loop-i.i) c.values-values.ensures) ∙ c.nth-v.ensures) (to_z-of_z w64 c.nth-v.result fits) c.in-Some.ensures
-
-pub returns-in-None : goal.returns-in-None
-returns-in-None c =
-    let fits : SFits w64 c.nth-v.result = search rules in
-    let t = c.args.self.now in let all = values_at t.cell t.cells in let long = ap length c.values-values.ensures in (
-      λ e. absurd (let f : ◌≡◌ false true = e in cc),
-      λ none. absurd (value_stops c.loop-i.known c.args.asked t.machine t.cell t.cells all c.loop-i.i c.loop-i.invariant.0 refl c.loop-i.invariant.1
-          c.nth-v.result _ (omega (arith, long, c.loop-i-test.true, c.size-i-end.ensures.size))
-          (sym (ap (λ l. slice_get l c.loop-i.i) c.values-values.ensures) ∙ c.nth-v.ensures) (to_z-of_z w64 c.nth-v.result fits) c.in-None.ensures none),
-    )
 
 pub returns : goal.returns
 returns c =
-    let t = c.args.self.now in let all = values_at t.cell t.cells in let long = ap length c.values-values.ensures in (
-      λ e. values_done c.loop-i.known c.args.asked t.machine t.cell t.cells all c.loop-i.i c.loop-i.invariant.0 refl c.loop-i.invariant.1 c.loop-i.invariant.2
-          (omega (arith, long, c.loop-i-test.false, c.size-i-end.ensures.size)),
-      λ none. refl,
-    )
+    let t = c.args.self.now in
+    whole_told c.args.asked (term_span t.machine t.cell t.cells) c.with_all.result c.is_some.result c.is_some.ensures c.with_all.ensures

@@ -3,7 +3,7 @@ use Rattle.std.specs.Prelude.{◌≡◌}
 use Rattle.ts_bound.specs.TermSpans.{span_of_all, value_span}
 use Rattle.ts_filter.specs.Boxes.{values_at}
 use Rattle.ts_filter.specs.SoFar.{IsSoFar}
-use Rattle.ts_filter.proofs.cell_hulls.CellHulls.excludes.Given as goal
+use Rattle.ts_filter.proofs.cell_hulls.CellHulls.with_all.Given as goal
 
 abbrev pub invariant-loop-i : goal.invariant-loop-i
 invariant-loop-i l =

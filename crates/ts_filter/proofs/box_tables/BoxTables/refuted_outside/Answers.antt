@@ -1,0 +1,15 @@
+use Rattle.std.proofs.Common.{ap, ◌∙◌, subst}
+use Rattle.ts_bound.specs.TermSpans.{Automata, term_span}
+use Rattle.ts_filter.specs.CellHulls.{AtCell}
+use Rattle.ts_filter.specs.TermDrops.{IsFirstRefuting}
+use Rattle.ts_filter.proofs.Looked.{span_outside}
+use Rattle.ts_filter.proofs.box_tables.BoxTables.refuted_outside.Goals as goal
+
+pub returns-clause-found : goal.returns-clause-found
+returns-clause-found c = λ k u e.
+    let a = c.args.self.now.machine in let b = c.args.cells.now.present in let own = c.args.own in let last = c.ends-first.result.1 in
+    subst (λ s. IsFirstRefuting own.all.now own.term s c.first_refuted_by_all.result)
+    (ap (λ (x : AtCell). term_span x.machine x.cell x.cells) c.hulls_at.ensures
+    ∙ ap (λ (x : Automata). term_span x last b) c.in_ok-make_at.ensures.known.machine
+    ∙ ap (λ l. term_span a l b) c.ends-first.ensures.last ∙ span_outside a b k c.requires.looks (u.from, u.to) e)
+    c.first_refuted_by_all.ensures

@@ -1,0 +1,15 @@
+-- The cells that a machine looks at, in the order in which one of its automata reads them.
+use Rattle.std.specs.Prelude.{reverse}
+use Rattle.ts_base.specs.Windows.{looked_at}
+use Rattle.ts_filter.specs.declared.reading.Reading.{Reading}
+use Rattle.ts_filter.specs.declared.reading.Way.{Way}
+use Rattle.ts_filter.specs.declared.reading.Way.TheVariants.{FromFirst, FromLast}
+use Rattle.ts_filter.specs.Boxes.{Box}
+
+-- the cells in that order
+abbrev pub in_order : Way → Box → Box
+in_order FromFirst b = b
+in_order FromLast b = reverse b
+
+abbrev pub cells_read : Reading → Box
+cells_read r = in_order r.way (looked_at r.window r.cells.now.present)

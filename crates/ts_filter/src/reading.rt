@@ -1,0 +1,59 @@
+//! The cells that a machine looks at, in the order in which one of its automata reads them.
+
+ghost use Rattle.std.proofs.Props.{props};
+ghost use Rattle.std.specs.Prelude.{◌≡◌, ◌<◌, [], get_or, length};
+ghost use Rattle.ts_base.specs.Windows.{LooksInside};
+
+use ts_base::Range;
+use ts_bound::{ends, looked_count};
+use ts_domain::{Boxed, Domain};
+
+/// The order in which the cells are read.
+#[derive(Clone, Copy)]
+pub(crate) enum Way {
+    FromFirst,
+    FromLast,
+}
+
+/// The cells of a box that are looked at, in the order in which an automaton reads them.
+#[derive(Clone, Copy)]
+pub(crate) struct Reading<'a> {
+    pub(crate) cells: &'a Boxed,
+    pub(crate) window: Option<Range>,
+    pub(crate) way: Way,
+    pub(crate) ghost looks: { LooksInside (length cells.now.present) window } by { Prim.hlevel props },
+}
+
+impl<'a> Reading<'a> {
+    ghost use Rattle.ts_domain.specs.BoxSeries.{IsCell};
+    ghost use Rattle.ts_filter.specs.Boxes.{values_at};
+    ghost use Rattle.ts_filter.specs.Reading.{cells_read};
+
+    /// How many cells are read.
+    pub(crate) fn count(self) -> usize
+        ensures { result ≡ length (cells_read self.entry) }
+    {
+        looked_count(self.window, self.cells.cells()) as usize
+    }
+
+    /// The values of the cell that is read at place `i`, counted from 0.
+    pub(crate) fn at(self, i: usize) -> &'a Domain
+        requires { i < length (cells_read self) }
+        ensures { result.now ≡ get_or (cells_read self.entry) i [] }
+    {
+        self.cells.cell(self.cell_of_place(i))
+    }
+
+    /// The number of that cell.
+    fn cell_of_place(self, i: usize) -> u32
+        requires { i < length (cells_read self) }
+        ensures cell { IsCell result self.entry.cells.now }
+        ensures values { values_at result self.entry.cells.now.present ≡ get_or (cells_read self.entry) i [] }
+    {
+        let (first, last) = ends(self.window, self.cells.cells());
+        match self.way {
+            Way::FromFirst => first + i as u32,
+            Way::FromLast => last - i as u32,
+        }
+    }
+}
