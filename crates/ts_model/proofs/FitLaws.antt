@@ -14,13 +14,15 @@ use Rattle.ts_domain.specs.Values.{IsDomain}
 use Rattle.ts_token.specs.Text.{Row, Cut}
 use Rattle.ts_model.specs.declared.model.Need.{Need}
 use Rattle.ts_model.specs.declared.model.Require.{Require}
-use Rattle.ts_model.specs.declared.statement.TermParts.{TermParts}
+use Rattle.ts_base.specs.Windows.{LooksInside}
+use Rattle.ts_base.proofs.WindowLaws.{inside_longer}
 use Rattle.ts_model.specs.declared.error.ModelKind.{ModelKind}
 use Rattle.ts_model.specs.declared.error.ModelKind.TheVariants.{NoCells, NoObjective}
 use Rattle.ts_model.specs.Statement.{Meaning, SaysCells, SaysDomain, SaysCell, SaysTerm, SaysRequire, SaysObjective, meaning_in}
-use Rattle.ts_model.specs.ModelParts.{ModelParts, nothing, with_meaning, count_of, is_between, is_outside, is_bound, has_cells, over_total, term_at, total_of, union_of, digits, unused_parts, first_kind, kinds, unless_kind}
+use Rattle.ts_model.specs.ModelParts.{ModelParts, StatedTerm, nothing, stated_term, term_said, with_meaning, count_of, is_between, is_outside, is_bound, has_cells, over_total, term_at, total_of, union_of, digits, unused_parts, first_kind, kinds, unless_kind}
 use Rattle.ts_model.specs.ModelReading.{needs_lists, needs_objective, texts_of, taken_as, onward, read_rows, then_on, unless_bad, ended_model, reading}
 use Rattle.ts_model.specs.Promise.{IsWhole, KeepsLimits}
+use Rattle.ts_model.proofs.TermWindows.{tail_inside}
 use Rattle.ts_model.proofs.SaidRanges.{HasRanges, said_ranges}
 use Rattle.ts_model.proofs.UnionLaws.{union_is_domain, digits_are_domain}
 
@@ -29,6 +31,7 @@ record IsFit (lists : Bool) (m : ModelParts) : Type 0 where
   few : length m.cells ≤ 512
   total : lists ≡ true → total_of m.cells ≤ 65536
   terms : length m.terms ≤ 32
+  windows : AllByRecursion (λ t. LooksInside (length m.cells) t.1.window) m.terms
   requirements : length m.requirements ≤ 64
   each : AllByRecursion (λ r. r.term < length m.terms) m.requirements
   bounds : AllByRecursion (λ r. is_bound r.bound ≡ true) m.requirements
@@ -75,9 +78,24 @@ pushed : (P : Require → Type 0) (rs : List Require) (r : Require) → AllByRec
 pushed P [] r all p = (p, tt)
 pushed P (x ∷ xs) r all p = (all.0, pushed P xs r all.1 p)
 
-term_there : (name : List ℕ) (terms : List (List ℕ × TermParts)) (o : Option ℕ) → term_at name terms ≡ o → IfSome o (λ t. t < length terms)
+-- windows in the cells lie in as many cells, or more
+wider : (n more : ℕ) → n ≤ more → (terms : List (List ℕ × StatedTerm)) → AllByRecursion (λ t. LooksInside n t.1.window) terms →
+    AllByRecursion (λ t. LooksInside more t.1.window) terms
+wider n more h [] all = tt
+wider n more h (t ∷ ts) all = (inside_longer n more t.1.window h all.0, wider n more h ts all.1)
+
+windowed : (n : ℕ) (terms : List (List ℕ × StatedTerm)) (t : List ℕ × StatedTerm) → AllByRecursion (λ t. LooksInside n t.1.window) terms →
+    LooksInside n t.1.window → AllByRecursion (λ t. LooksInside n t.1.window) (terms ++ t ∷ [])
+windowed n [] t all p = (p, tt)
+windowed n (x ∷ xs) t all p = (all.0, windowed n xs t all.1 p)
+
+-- before the `cells` line there is no cell
+no_cell : (m : ModelParts) → has_cells m ≡ false → length m.cells ≡ 0
+no_cell m h = grind (arith, nat_tests)
+
+term_there : (name : List ℕ) (terms : List (List ℕ × StatedTerm)) (o : Option ℕ) → term_at name terms ≡ o → IfSome o (λ t. t < length terms)
 term_there name terms None e = tt
-term_there name terms (Some t) e = (position-Some (λ (x : List ℕ × TermParts). bytes_eq name x.0) terms t (name, unused_parts) e).0
+term_there name terms (Some t) e = (position-Some (λ (x : List ℕ × StatedTerm). bytes_eq name x.0) terms t (name, stated_term unused_parts None) e).0
 
 known_there : (n : ℕ) (o : Option ℕ) → is_none o ≡ false → IfSome o (λ t. t < n) → unwrap_or o 0 < n
 known_there n None h all = cc
@@ -112,6 +130,9 @@ fit_after lists m (SaysCells n) has fit none =
       few = let e = length_replicate (count_of n) (union_of digits) in omega (arith, e, counted n all.1.1.0);
       total = under lists (total_of (replicate (count_of n) (union_of digits))) all.1.1.1.1.1.1.1.1.1.0;
       terms = fit.terms;
+      windows =
+          let none_yet = no_cell m all.1.0 in
+          wider (length m.cells) (length (replicate (count_of n) (union_of digits))) (omega (arith, none_yet)) m.terms fit.windows;
       requirements = fit.requirements;
       each = fit.each;
       bounds = fit.bounds;
@@ -125,6 +146,9 @@ fit_after lists m (SaysDomain rs) has fit none =
       total = under lists (total_of (map (λ _. union_of rs) m.cells))
           (second (list_any is_outside rs) (over_total lists (with_meaning m (SaysDomain rs))) all.1.1.1.1.1.1.1.1.1.0);
       terms = fit.terms;
+      windows =
+          let e : length (map (λ _. union_of rs) m.cells) ≡ length m.cells = simp length-map in
+          wider (length m.cells) (length (map (λ _. union_of rs) m.cells)) (omega (arith, e)) m.terms fit.windows;
       requirements = fit.requirements;
       each = fit.each;
       bounds = fit.bounds;
@@ -138,22 +162,26 @@ fit_after lists m (SaysCell k rs) has fit none =
       total = under lists (total_of (with_meaning m (SaysCell k rs)).cells)
           (second (list_any is_outside rs) (over_total lists (with_meaning m (SaysCell k rs))) all.1.1.1.1.1.1.1.1.1.0);
       terms = fit.terms;
+      windows =
+          let e : length (with_meaning m (SaysCell k rs)).cells ≡ length m.cells = simp length-set in
+          wider (length m.cells) (length (with_meaning m (SaysCell k rs)).cells) (omega (arith, e)) m.terms fit.windows;
       requirements = fit.requirements;
       each = fit.each;
       bounds = fit.bounds;
       objective = fit.objective;
     }
-fit_after lists m (SaysTerm name parts) has fit none =
-    let all = all_fail (kinds lists m (SaysTerm name parts)) none in
-    let more : length (with_meaning m (SaysTerm name parts)).terms ≡ length m.terms + 1 = simp length-append in record {
+fit_after lists m (SaysTerm name tail parts) has fit none =
+    let all = all_fail (kinds lists m (SaysTerm name tail parts)) none in
+    let more : length (with_meaning m (SaysTerm name tail parts)).terms ≡ length m.terms + 1 = simp length-append in record {
       box = fit.box;
       few = fit.few;
       total = fit.total;
       terms = omega (arith, more, leb-false 32 (length m.terms) all.1.1.1.1.1.1.1.1.1.0);
+      windows = windowed (length m.cells) m.terms (name, term_said tail parts) fit.windows (tail_inside (length m.cells) tail all.1.1.0 all.1.1.1.0);
       requirements = fit.requirements;
-      each = lifted (length m.terms) (length (with_meaning m (SaysTerm name parts)).terms) (omega (arith, more)) m.requirements fit.each;
+      each = lifted (length m.terms) (length (with_meaning m (SaysTerm name tail parts)).terms) (omega (arith, more)) m.requirements fit.each;
       bounds = fit.bounds;
-      objective = lifted_objective (length m.terms) (length (with_meaning m (SaysTerm name parts)).terms) (omega (arith, more)) m.objective fit.objective;
+      objective = lifted_objective (length m.terms) (length (with_meaning m (SaysTerm name tail parts)).terms) (omega (arith, more)) m.objective fit.objective;
     }
 fit_after lists m (SaysRequire name op bound) has fit none =
     let all = all_fail (kinds lists m (SaysRequire name op bound)) none in
@@ -163,6 +191,7 @@ fit_after lists m (SaysRequire name op bound) has fit none =
       few = fit.few;
       total = fit.total;
       terms = fit.terms;
+      windows = fit.windows;
       requirements = omega (arith, more, leb-false 64 (length m.requirements) tests.1);
       each = pushed (λ r. r.term < length m.terms) m.requirements _ fit.each
           (known_there (length m.terms) (term_at name m.terms) all.1.1.1.1.1.1.0 (term_there name m.terms (term_at name m.terms) refl));
@@ -174,6 +203,7 @@ fit_after lists m (SaysObjective name) has fit none = record {
   few = fit.few;
   total = fit.total;
   terms = fit.terms;
+  windows = fit.windows;
   requirements = fit.requirements;
   each = fit.each;
   bounds = fit.bounds;
@@ -224,7 +254,7 @@ rows_ok need c m (Ok n) rows h = text_ok need c n m c.not_text rows h
 
 nothing_fits : (lists : Bool) → IsFit lists nothing
 nothing_fits lists =
-    record { box = tt; few = omega arith; total = λ _. omega arith; terms = omega arith; requirements = omega arith; each = tt; bounds = tt; objective = tt }
+    record { box = tt; few = omega arith; total = λ _. omega arith; terms = omega arith; windows = tt; requirements = omega arith; each = tt; bounds = tt; objective = tt }
 
 ended_is : (need : Need) (c : Cut) (m : ModelParts) → reading need c ≡ Ok m → IsEnded need c m
 ended_is need c m h = rows_ok need c m (read_rows (needs_lists need) nothing c.rows) refl h
@@ -246,6 +276,7 @@ whole_stated need c m read =
     let fit = fits need c m read in record {
       some = some_cells m (ended_is need c m read).some;
       few = fit.few;
+      windows = fit.windows;
       requirements = fit.each;
       objective = fit.objective;
     }

@@ -4,6 +4,8 @@ mod RangeLaws
 mod UnionLaws
 mod CellLaws
 mod DomainLines
+mod TermLines
+pub mod TermWindows
 mod TermLaws
 mod Takes
 mod LineLaws

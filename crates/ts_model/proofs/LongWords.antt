@@ -1,6 +1,6 @@
 -- A word says the same by its first bytes: no number, name or other word of a model is longer.
 use Rattle.std.proofs.Common.{◌≡◌, ℕ, zero, suc, ◌+◌, ◌^◌, ◌<◌, ◌≤◌, ℤ, pos, negsuc, Bool, true, false, cond, ◌&&◌, Option, Some, None, Err, List, [], ◌∷◌, length, take, drop, map, refl, sym, ap, subst, ◌∙◌, arith, take_all, length-take, length-drop, codes, nat_lt, ◌==◌}
-use Rattle.std.specs.Prelude.{ok_or, nat_le, is_some}
+use Rattle.std.specs.Prelude.{ok_or, nat_le, is_some, ◌||◌}
 use Rattle.std.specs.List.{find, list_all, position}
 use Rattle.std.specs.Option.{option_map}
 use Rattle.std.specs.Str.{bytes_eq}
@@ -32,8 +32,8 @@ use Rattle.ts_model.specs.declared.error.ModelKind.TheVariants.{Shape, Number}
 use Rattle.ts_model.specs.ModelReading.{texts_of, taken_as, line_gives}
 use Rattle.ts_model.specs.ModelParts.{ModelParts}
 use Rattle.ts_model.specs.Series.{value_of, within}
-use Rattle.ts_model.specs.Statement.{SaysCells, SaysDomain, SaysTerm, SaysObjective, word_at, term_length, has_shape, made_parts, parts_said, said_cell, said_require, said_by, parsed_by, parsed_as, meaning_in}
-use Rattle.ts_model.specs.Words.{form_of, op_of, is_equals, is_count, is_letter, is_name_byte, is_name, made_range, is_dot, starts_dot, range_cut, range_of, onto, ranges_of, aggregator_of, feature_of, pattern_of}
+use Rattle.ts_model.specs.Statement.{SaysCells, SaysDomain, SaysObjective, word_at, term_length, has_tail, has_term_length, has_shape, made_parts, parts_said, tail_said, said_cell, said_require, said_term, said_by, parsed_by, parsed_as, meaning_in}
+use Rattle.ts_model.specs.Words.{form_of, op_of, is_equals, is_count, is_in, is_letter, is_name_byte, is_name, made_range, is_dot, starts_dot, range_cut, range_of, onto, ranges_of, aggregator_of, feature_of, pattern_of}
 
 abbrev cut : List ℕ → List ℕ
 cut w = take 64 w
@@ -101,6 +101,10 @@ equals_short w e = same_short w (codes "=") refl e
 count_short : (w : List ℕ) → is_count w ≡ true → length w < 64
 unfolding is_count
 count_short w e = same_short w (codes "count") refl e
+
+in_short : (w : List ℕ) → is_in w ≡ true → length w < 64
+unfolding is_in
+in_short w e = same_short w (codes "in") refl e
 
 name_short : (w : List ℕ) → is_name w ≡ true → length w < 64
 unfolding is_name
@@ -225,15 +229,30 @@ at_test f short ws k = ap f (word_cut ws k) ∙ kept_test f short (word_at ws k)
 term_cut : (ws : List (List ℕ)) → term_length (cut_all ws) ≡ term_length ws
 term_cut ws = ap (λ v. cond v 4 5) (at_test is_count count_short ws 2)
 
+tail_cut : (n : ℕ) (ws : List (List ℕ)) → has_tail n (cut_all ws) ≡ has_tail n ws
+tail_cut n ws =
+    ap (λ (k : ℕ). (k == n + 2) && is_in (word_at (cut_all ws) n)) (count_cut ws) ∙ ap (λ v. (length ws == n + 2) && v) (at_test is_in in_short ws n)
+
+ends_cut : (ws : List (List ℕ)) → has_term_length (cut_all ws) ≡ has_term_length ws
+ends_cut ws =
+    ap (λ (n : ℕ). (length (cut_all ws) == n) || has_tail n (cut_all ws)) (term_cut ws)
+    ∙ ap (λ (k : ℕ). (k == term_length ws) || has_tail (term_length ws) (cut_all ws)) (count_cut ws)
+    ∙ ap (λ v. (length ws == term_length ws) || v) (tail_cut (term_length ws) ws)
+
+range_cut_at : (ws : List (List ℕ)) → tail_said (cut_all ws) ≡ tail_said ws
+range_cut_at ws =
+    ap (λ (n : ℕ). cond (length (cut_all ws) == n) (Some None) (option_map Some (range_of (word_at (cut_all ws) (n + 1))))) (term_cut ws)
+    ∙ ap (λ (k : ℕ). cond (k == term_length ws) (Some None) (option_map Some (range_of (word_at (cut_all ws) (term_length ws + 1))))) (count_cut ws)
+    ∙ ap (λ r. cond (length ws == term_length ws) (Some None) (option_map Some r)) (at_option range_of range_short ws (term_length ws + 1))
+
 shape_cut : (form : Form) (ws : List (List ℕ)) → has_shape form (cut_all ws) ≡ has_shape form ws
 shape_cut Cells ws = ap (λ (n : ℕ). n == 1) (count_cut ws)
 shape_cut Domain ws = ap (λ (n : ℕ). nat_lt 0 n) (count_cut ws)
 shape_cut Cell ws = ap (λ (n : ℕ). nat_lt 1 n) (count_cut ws)
 shape_cut Term ws =
-    ap (λ (n : ℕ). (n == term_length (cut_all ws)) && (is_name (word_at (cut_all ws) 0) && is_equals (word_at (cut_all ws) 1))) (count_cut ws)
-    ∙ ap (λ (n : ℕ). (length ws == n) && (is_name (word_at (cut_all ws) 0) && is_equals (word_at (cut_all ws) 1))) (term_cut ws)
-    ∙ ap (λ v. (length ws == term_length ws) && (v && is_equals (word_at (cut_all ws) 1))) (at_test is_name name_short ws 0)
-    ∙ ap (λ v. (length ws == term_length ws) && (is_name (word_at ws 0) && v)) (at_test is_equals equals_short ws 1)
+    ap (λ v. v && (is_name (word_at (cut_all ws) 0) && is_equals (word_at (cut_all ws) 1))) (ends_cut ws)
+    ∙ ap (λ v. has_term_length ws && (v && is_equals (word_at (cut_all ws) 1))) (at_test is_name name_short ws 0)
+    ∙ ap (λ v. has_term_length ws && (is_name (word_at ws 0) && v)) (at_test is_equals equals_short ws 1)
 shape_cut Require ws =
     ap (λ (n : ℕ). (n == 3) && (is_name (word_at (cut_all ws) 0) && is_some (op_of (word_at (cut_all ws) 1)))) (count_cut ws)
     ∙ ap (λ v. (length ws == 3) && (v && is_some (op_of (word_at (cut_all ws) 1)))) (at_test is_name name_short ws 0)
@@ -267,9 +286,11 @@ said_cut Cell ws e =
     ap (λ n. said_cell n (ranges_of (drop 1 (cut_all ws)))) (at_option number_of number_short ws 0)
     ∙ ap (said_cell (number_of (word_at ws 0))) (ap ranges_of (rest_cut ws) ∙ ranges_cut (drop 1 ws))
 said_cut Term ws e =
-    let p = (and_parts (length ws == term_length ws) (is_name (word_at ws 0) && is_equals (word_at ws 1)) e).1 in
+    let p = (and_parts (has_term_length ws) (is_name (word_at ws 0) && is_equals (word_at ws 1)) e).1 in
     let name = (and_parts (is_name (word_at ws 0)) (is_equals (word_at ws 1)) p).0 in
-    ap (λ (x : List ℕ). Some (SaysTerm x (parts_said (cut_all ws)))) (first_kept ws name) ∙ ap (λ p. Some (SaysTerm (word_at ws 0) p)) (parts_cut ws)
+    ap (λ (x : List ℕ). said_term x (tail_said (cut_all ws)) (parts_said (cut_all ws))) (first_kept ws name)
+    ∙ ap (λ t. said_term (word_at ws 0) t (parts_said (cut_all ws))) (range_cut_at ws)
+    ∙ ap (said_term (word_at ws 0) (tail_said ws)) (parts_cut ws)
 said_cut Require ws e =
     let p = (and_parts (length ws == 3) (is_name (word_at ws 0) && is_some (op_of (word_at ws 1))) e).1 in
     let name = (and_parts (is_name (word_at ws 0)) (is_some (op_of (word_at ws 1))) p).0 in

@@ -10,19 +10,20 @@ use Rattle.ts_base.specs.declared.ext.Ext.{Ext}
 use Rattle.ts_domain.specs.declared.interval.Interval.{Interval}
 use Rattle.ts_token.specs.Number.{number_of, ext_of}
 use Rattle.ts_model.specs.declared.model.Op.{Op}
+use Rattle.ts_model.specs.declared.statement.TermParts.{TermParts}
 use Rattle.ts_model.specs.declared.words.Form.{Form}
 use Rattle.ts_model.specs.declared.words.Form.TheVariants.{Cells, Domain, Cell, Term, Require, Objective}
 use Rattle.ts_model.specs.declared.error.ModelKind.{ModelKind}
 use Rattle.ts_model.specs.declared.error.ModelKind.TheVariants.{Shape, Number}
 use Rattle.ts_model.specs.Words.{form_of, op_of, onto, range_of, ranges_of}
 use Rattle.ts_model.specs.Statement.{Meaning, SaysCells, SaysDomain, SaysCell, SaysTerm, SaysRequire, SaysObjective}
-use Rattle.ts_model.specs.Statement.{word_at, has_shape, said_cell, said_require, parts_said, said_by, parsed_as, meaning_in}
+use Rattle.ts_model.specs.Statement.{word_at, has_shape, said_cell, said_require, said_term, parts_said, tail_said, said_by, parsed_as, meaning_in}
 
 abbrev pub HasRanges : Meaning → Type 0
 HasRanges (SaysCells n) = Unit {0}
 HasRanges (SaysDomain rs) = 0 < length rs
 HasRanges (SaysCell k rs) = 0 < length rs
-HasRanges (SaysTerm name parts) = Unit {0}
+HasRanges (SaysTerm name tail parts) = Unit {0}
 HasRanges (SaysRequire name op bound) = Unit {0}
 HasRanges (SaysObjective name) = Unit {0}
 
@@ -60,13 +61,17 @@ require_said name None bound s h = cc
 require_said name (Some op) None s h = cc
 require_said name (Some op) (Some bound) s h = said_is (SaysRequire name op bound) s tt h
 
+term_said : (name : List ℕ) (tail : Option (Option Interval)) (names : Option TermParts) (s : Meaning) → said_term name tail names ≡ Some s → HasRanges s
+term_said name None names s h = cc
+term_said name (Some tail) names s h = said_is (SaysTerm name tail names) s tt h
+
 by_form : (form : Form) (ws : List (List ℕ)) (s : Meaning) → has_shape form ws ≡ true → said_by form ws ≡ Some s → HasRanges s
 by_form Cells ws s shape h = cells_said (number_of (word_at ws 0)) s h
 by_form Domain ws s shape h = domain_said (length ws) (ranges_of ws) s (ltb-true 0 (length ws) shape) (many ws) h
 by_form Cell ws s shape h =
     let more = ltb-true 1 (length ws) shape in
     cell_said (length (drop 1 ws)) (number_of (word_at ws 0)) (ranges_of (drop 1 ws)) s (omega (arith, length-drop 1 ws, more)) (many (drop 1 ws)) h
-by_form Term ws s shape h = said_is (SaysTerm (word_at ws 0) (parts_said ws)) s tt h
+by_form Term ws s shape h = term_said (word_at ws 0) (tail_said ws) (parts_said ws) s h
 by_form Require ws s shape h = require_said (word_at ws 0) (op_of (word_at ws 1)) (ext_of (word_at ws 2)) s h
 by_form Objective ws s shape h = said_is (SaysObjective (word_at ws 0)) s tt h
 

@@ -1,67 +1,114 @@
 -- A line of which no kind holds.
-use Rattle.std.proofs.Common.{◌≡◌, ℕ, ◌+◌, ◌≤◌, Bool, true, false, cond, Some, None, Ok, Err, List, [], ◌∷◌, ◌++◌, length, map, refl, sym, ap, subst, ◌∙◌, arith, nat_le, String, Global}
-use Rattle.std.specs.Prelude.{Option, is_some}
+use Rattle.std.proofs.Common.{◌≡◌, ℕ, ◌+◌, ◌≤◌, Bool, true, false, cond, Some, None, Ok, Err, List, [], ◌∷◌, ◌++◌, length, length-append, map, refl, sym, ap, subst, ◌∙◌, arith, nat_le, String, Global}
+use Rattle.std.specs.Prelude.{Option, is_some, option_map}
+use Rattle.ts_base.specs.declared.range.Range.{Range}
+use Rattle.ts_domain.specs.declared.interval.Interval.{Interval}
 use Rattle.std.proofs.lemmas.Bool.Decides.{nat_tests}
-use Rattle.std.proofs.lemmas.List.{length-map}
 use Rattle.std.specs.String.{string_bytes, string_eq}
-use Rattle.indexmap.specs.IndexMap.{insert_entry, index_map_len}
+use Rattle.indexmap.specs.IndexMap.{insert_entry}
 use Rattle.ts_pattern.specs.declared.term.Term.{Term}
 use Rattle.ts_pattern.specs.Names.{is_pair}
 use Rattle.ts_model.specs.declared.statement.TermParts.{TermParts}
 use Rattle.ts_model.specs.declared.cells.Cells.{Cells}
 use Rattle.ts_model.specs.declared.draft.Draft.{Draft}
-use Rattle.ts_model.specs.declared.error.ModelKind.TheVariants.{BadPair}
+use Rattle.ts_model.specs.declared.error.ModelKind.TheVariants.{BadPair, Limit}
 use Rattle.ts_model.specs.Statement.{SaysTerm}
-use Rattle.ts_model.specs.ModelParts.{ModelParts, has_cells, parts_after, term_made, term_at}
+use Rattle.ts_model.specs.declared.model.Window.{Window}
+use Rattle.ts_model.specs.ModelParts.{ModelParts, StatedTerm, cells_between, has_cells, looks_backward, looks_beyond, parts_after, stated_term, term_made, term_at, window_made}
 use Rattle.ts_model.specs.Cells.{IsKept}
-use Rattle.ts_model.specs.Views.{parts_of, term_of, draft_parts, Follows, IsSound}
-use Rattle.ts_model.proofs.TermLaws.{term_added}
+use Rattle.ts_model.specs.Views.{parts_of, range_in, term_of, with_windows, draft_parts, Follows, IsSound}
+use Rattle.ts_model.proofs.TermLaws.{count_added, term_added}
+use Rattle.ts_model.proofs.TermWindows.{made_good, terms_count}
 
 -- a line that leaves the cells as they are
-follows_on : (d new : Draft) → IsSound d → new.cells ≡ d.cells → length new.terms.entries ≤ 32 → Follows d new
-follows_on d new sound cells few = record {
-  sound = record { cells = subst IsKept (sym cells) sound.cells; terms = few };
+follows_on : (d new : Draft) → IsSound d → new.cells ≡ d.cells → length new.terms.entries ≤ 32 → length new.windows.items ≡ length new.terms.entries →
+    Follows d new
+follows_on d new sound cells few many = record {
+  sound = record { cells = subst IsKept (sym cells) sound.cells; terms = few; windows = many };
   limited = ap (λ (c : Cells). c.limited) cells;
   turn = let e = ap (λ (c : Cells). c.turn) cells in omega (arith, e);
 }
 
-clear_pair : (lists : Bool) (m : ModelParts) (name : List ℕ) (p q : TermParts) (pair : Bool) → is_pair p.aggregator p.feature ≡ pair →
-    cond pair (Ok p) (Err BadPair) ≡ Ok q → has_cells m ≡ true →
-    is_some (term_at name m.terms) ≡ false → nat_le 32 (length m.terms) ≡ false →
-    parts_after lists m (SaysTerm name (Some p)) ≡ Ok (record m { terms = m.terms ++ (name, q) ∷ [] })
-clear_pair lists m name p q false is made some new room = cc
-clear_pair lists m name p q true is made some new room =
-    let same : p ≡ q = cc in rw (some, is, new, room) (ap (λ (x : TermParts). Ok (record m { terms = m.terms ++ (name, x) ∷ [] })) same)
+-- no kind holds of a term whose tail lies in the cells
 
-clear_term : (lists : Bool) (m : ModelParts) (name : List ℕ) (parts : Option TermParts) (q : TermParts) → term_made parts ≡ Ok q → has_cells m ≡ true →
+clear_pair : (lists : Bool) (m : ModelParts) (name : List ℕ) (tail : Option Interval) (w : Option Range) (p q : TermParts) (pair : Bool) →
+    is_pair p.aggregator p.feature ≡ pair → cond pair (Ok p) (Err BadPair) ≡ Ok q → has_cells m ≡ true →
+    looks_beyond (length m.cells) tail ≡ false → looks_backward tail ≡ false → option_map cells_between tail ≡ w →
     is_some (term_at name m.terms) ≡ false → nat_le 32 (length m.terms) ≡ false →
-    parts_after lists m (SaysTerm name parts) ≡ Ok (record m { terms = m.terms ++ (name, q) ∷ [] })
-clear_term lists m name None q made some new room = cc
-clear_term lists m name (Some p) q made some new room = clear_pair lists m name p q (is_pair p.aggregator p.feature) refl made some new room
+    parts_after lists m (SaysTerm name tail (Some p)) ≡ Ok (record m { terms = m.terms ++ (name, stated_term q w) ∷ [] })
+clear_pair lists m name tail w p q false is made some within order window new room = cc
+clear_pair lists m name tail w p q true is made some within order window new room =
+    let same : p ≡ q = cc in
+    rw (some, within, order, is, new, room)
+    (ap (λ (x : TermParts). Ok (record m { terms = m.terms ++ (name, stated_term x (option_map cells_between tail)) ∷ [] })) same
+    ∙ ap (λ (x : Option Range). Ok (record m { terms = m.terms ++ (name, stated_term q x) ∷ [] })) window)
 
-pub took_term : (lists : Bool) (d : Draft) (name : List ℕ) (parts : Option TermParts) (term : Term) (key : String Global)
-    (entries : List (String Global × Term)) → has_cells (draft_parts d) ≡ true → term_made parts ≡ Ok (parts_of term) →
+clear_term : (lists : Bool) (m : ModelParts) (name : List ℕ) (tail : Option Interval) (w : Option Range) (parts : Option TermParts) (q : TermParts) →
+    window_made (length m.cells) tail ≡ Ok w → term_made parts ≡ Ok q → has_cells m ≡ true →
+    is_some (term_at name m.terms) ≡ false → nat_le 32 (length m.terms) ≡ false →
+    parts_after lists m (SaysTerm name tail parts) ≡ Ok (record m { terms = m.terms ++ (name, stated_term q w) ∷ [] })
+clear_term lists m name tail w None q window made some new room = cc
+clear_term lists m name tail w (Some p) q window made some new room =
+    let good = made_good (length m.cells) tail w window in
+    clear_pair lists m name tail w p q (is_pair p.aggregator p.feature) refl made some good.within good.order good.is new room
+
+-- or that of the limit alone
+
+full_pair : (lists : Bool) (m : ModelParts) (name : List ℕ) (tail : Option Interval) (p q : TermParts) (pair : Bool) →
+    is_pair p.aggregator p.feature ≡ pair → cond pair (Ok p) (Err BadPair) ≡ Ok q → has_cells m ≡ true →
+    looks_beyond (length m.cells) tail ≡ false → looks_backward tail ≡ false →
+    is_some (term_at name m.terms) ≡ false → nat_le 32 (length m.terms) ≡ true →
+    parts_after lists m (SaysTerm name tail (Some p)) ≡ Err Limit
+full_pair lists m name tail p q false is made some within order new full = cc
+full_pair lists m name tail p q true is made some within order new full = rw (some, within, order, is, new, full) refl
+
+pub full_term : (lists : Bool) (m : ModelParts) (name : List ℕ) (tail : Option Interval) (w : Option Range) (parts : Option TermParts) (q : TermParts) →
+    window_made (length m.cells) tail ≡ Ok w → term_made parts ≡ Ok q → has_cells m ≡ true →
+    is_some (term_at name m.terms) ≡ false → nat_le 32 (length m.terms) ≡ true →
+    parts_after lists m (SaysTerm name tail parts) ≡ Err Limit
+full_term lists m name tail w None q window made some new full = cc
+full_term lists m name tail w (Some p) q window made some new full =
+    let good = made_good (length m.cells) tail w window in
+    full_pair lists m name tail p q (is_pair p.aggregator p.feature) refl made some good.within good.order new full
+
+pub took_term : (lists : Bool) (d : Draft) (name : List ℕ) (tail : Option Interval) (parts : Option TermParts) (window : Option Window) (term : Term)
+    (key : String Global) (entries : List (String Global × Term)) (windows : List (Option Window)) → has_cells (draft_parts d) ≡ true →
+    window_made (length (draft_parts d).cells) tail ≡ Ok (option_map range_in window) → term_made parts ≡ Ok (parts_of term) →
     is_some (term_at name (draft_parts d).terms) ≡ false → nat_le 32 (length (draft_parts d).terms) ≡ false →
-    string_bytes key ≡ name → entries ≡ insert_entry string_eq d.terms.entries key term →
-    parts_after lists (draft_parts d) (SaysTerm name parts) ≡ Ok (record (draft_parts d) { terms = map term_of entries })
-took_term lists d name parts term key entries some made new room key_is entries_is =
-    clear_term lists (draft_parts d) name parts (parts_of term) made some new room
-    ∙ ap (λ (x : List (List ℕ × TermParts)). Ok (record (draft_parts d) { terms = x }))
-    (sym (ap (map term_of) entries_is ∙ term_added name term key d.terms.entries key_is new))
+    length d.windows.items ≡ length d.terms.entries → string_bytes key ≡ name → entries ≡ insert_entry string_eq d.terms.entries key term →
+    windows ≡ d.windows.items ++ window ∷ [] →
+    parts_after lists (draft_parts d) (SaysTerm name tail parts) ≡ Ok (record (draft_parts d) { terms = map term_of (with_windows entries windows) })
+took_term lists d name tail parts window term key entries windows some looked made new room many key_is entries_is windows_is =
+    clear_term lists (draft_parts d) name tail (option_map range_in window) parts (parts_of term) looked made some new room
+    ∙ ap (λ (x : List (List ℕ × StatedTerm)). Ok (record (draft_parts d) { terms = x }))
+    (sym (ap (λ (es : List (String Global × Term)). map term_of (with_windows es windows)) entries_is
+    ∙ ap (λ (ws : List (Option Window)). map term_of (with_windows (insert_entry string_eq d.terms.entries key term) ws)) windows_is
+    ∙ term_added name term window key d.terms.entries d.windows.items key_is many new))
 
-pub follows_term : (d new : Draft) (old : Option Term) (n : ℕ) → IsSound d → n ≤ 31 → n ≡ index_map_len d.terms →
-    index_map_len new.terms ≡ index_map_len d.terms + cond (is_some old) 0 1 → new.cells ≡ d.cells → Follows d new
-follows_term d new old n sound few count added cells =
-    follows_on d new sound cells (fits (is_some old) (length new.terms.entries) (length d.terms.entries) n few count added)
-  where
-    fits : (b : Bool) (k m n : ℕ) → n ≤ 31 → n ≡ m → k ≡ m + cond b 0 1 → k ≤ 32
-    fits true k m n a e f = omega arith
-    fits false k m n a e f = omega arith
+pub follows_term : (d new : Draft) (name : List ℕ) (term : Term) (window : Option Window) (key : String Global) (n : ℕ) → IsSound d → n ≤ 31 →
+    n ≡ length d.terms.entries → string_bytes key ≡ name → is_some (term_at name (draft_parts d).terms) ≡ false →
+    new.terms.entries ≡ insert_entry string_eq d.terms.entries key term → new.windows.items ≡ d.windows.items ++ window ∷ [] →
+    new.cells ≡ d.cells → Follows d new
+follows_term d new name term window key n sound few count key_is fresh entries windows cells =
+    let more = ap length entries ∙ count_added name term key d.terms.entries d.windows.items key_is fresh in
+    let longer = ap length windows ∙ length-append d.windows.items (window ∷ []) in
+    let many = sound.windows in
+    follows_on d new sound cells (omega (arith, more, count, few)) (omega (arith, more, longer, many))
 
-pub few_terms : (es : List (String Global × Term)) (n : ℕ) → n ≤ 31 → n ≡ length es → nat_le 32 (length (map term_of es)) ≡ false
-few_terms es n few count =
-    let e : length (map term_of es) ≡ length es = simp length-map in
-    below (length (map term_of es)) (omega (arith, e, count, few))
+pub few_terms : (es : List (String Global × Term)) (ws : List (Option Window)) (n : ℕ) → n ≤ 31 → n ≡ length es →
+    nat_le 32 (length (map term_of (with_windows es ws))) ≡ false
+few_terms es ws n few count =
+    let e = terms_count es ws in
+    below (length (map term_of (with_windows es ws))) (omega (arith, e, count, few))
   where
     below : (k : ℕ) → k ≤ 31 → nat_le 32 k ≡ false
     below k h = grind (arith, nat_tests)
+
+pub many_terms : (es : List (String Global × Term)) (ws : List (Option Window)) (n : ℕ) → 32 ≤ n → n ≡ length es →
+    nat_le 32 (length (map term_of (with_windows es ws))) ≡ true
+many_terms es ws n many count =
+    let e = terms_count es ws in
+    above (length (map term_of (with_windows es ws))) (omega (arith, e, count, many))
+  where
+    above : (k : ℕ) → 32 ≤ k → nat_le 32 k ≡ true
+    above k h = grind (arith, nat_tests)

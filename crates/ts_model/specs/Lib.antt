@@ -6,6 +6,7 @@ pub mod ModelReading
 pub mod LineByLine
 pub mod Promise
 pub mod Series
+pub mod TermValue
 pub mod Compares
 pub mod Meets
 pub mod FirstBest

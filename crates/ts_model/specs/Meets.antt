@@ -4,14 +4,14 @@ use Rattle.std.specs.Prelude.{ℕ, ◌≡◌, ℤ, List, length, map, IsTrue, Op
 use Rattle.std.specs.List.{AllByRecursion}
 use Rattle.ts_base.specs.declared.ext.Ext.{Ext}
 use Rattle.ts_domain.specs.BoxSeries.{InBox}
-use Rattle.ts_pattern.specs.TermValue.{value_of}
 use Rattle.ts_model.specs.declared.model.Require.{Require}
 use Rattle.ts_model.specs.Compares.{compares}
 use Rattle.ts_model.specs.ModelParts.{ModelParts}
+use Rattle.ts_model.specs.TermValue.{stated_value}
 
 -- the value of each term on a series, in the order of the text
 abbrev pub values_on : ModelParts → List ℤ → List Ext
-values_on m xs = map (λ t. value_of t.1.aggregator t.1.feature t.1.pattern xs) m.terms
+values_on m xs = map (λ t. stated_value t.1 xs) m.terms
 
 -- the value of the term at a place, counted from 0; none where no term stands there
 abbrev pub value_at : ModelParts → List ℤ → ℕ → Option Ext

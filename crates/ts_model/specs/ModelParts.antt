@@ -1,15 +1,19 @@
 -- What lines state together, and the kinds of bad lines from `nocells` on: one test for each, of what a line says
 -- after the lines that state m.
-use Rattle.std.specs.Prelude.{ℕ, ◌≡◌, ◌<◌, ◌-◌, ℤ, pos, negsuc, neg_ℤ, int_le, int_lt, Bool, true, false, not, ◌&&◌, List, [], ◌∷◌, ◌++◌, length, map, filter, set, replicate, if◌then◌else◌, nat_le, nat_lt, Option, Some, None, Result, Ok, Err, is_some, is_none, unwrap_or}
+use Rattle.std.specs.Prelude.{ℕ, ◌≡◌, ◌<◌, ◌-◌, ℤ, pos, negsuc, neg_ℤ, int_le, int_lt, Bool, true, false, not, ◌&&◌, List, [], ◌∷◌, ◌++◌, length, map, filter, set, replicate, if◌then◌else◌, nat_le, nat_lt, Option, Some, None, Result, Ok, Err, is_some, is_none, option_map, unwrap_or}
 use Rattle.std.specs.List.{list_any, position, sum_by}
 use Rattle.std.specs.Str.{bytes_eq}
 use Rattle.ts_base.specs.declared.ext.Ext.{Ext}
 use Rattle.ts_base.specs.declared.ext.Ext.TheVariants.{NegInf, Int, PosInf}
+use Rattle.ts_base.specs.declared.range.Range.{Range}
 use Rattle.ts_base.specs.Limits.{greatest_bound, greatest_value, most_cells, most_domain_values, most_requirements, most_terms}
 use Rattle.ts_domain.specs.declared.interval.Interval.{Interval}
 use Rattle.ts_domain.specs.Values.{values_between}
+use Rattle.ts_pattern.specs.declared.name.Aggregator.{Aggregator}
 use Rattle.ts_pattern.specs.declared.name.Aggregator.TheVariants.{Sum}
+use Rattle.ts_pattern.specs.declared.name.Feature.{Feature}
 use Rattle.ts_pattern.specs.declared.name.Feature.TheVariants.{One}
+use Rattle.ts_pattern.specs.declared.name.PatternId.{PatternId}
 use Rattle.ts_pattern.specs.declared.name.PatternId.TheVariants.{Increasing}
 use Rattle.ts_pattern.specs.Names.{is_pair}
 use Rattle.ts_model.specs.declared.model.Op.{Op}
@@ -28,11 +32,22 @@ union_of ranges =
     filter (λ v. list_any (λ r. is_between r.low v r.high) ranges)
     (values_between (neg_ℤ greatest_value) greatest_value)
 
+-- a term that stands in a model: what its three names say, and the cells that it looks at, where these aren't all
+pub record StatedTerm : Type 0 where
+  pub aggregator : Aggregator
+  pub feature : Feature
+  pub pattern : PatternId
+  pub window : Option Range
+
+abbrev pub stated_term : TermParts → Option Range → StatedTerm
+stated_term parts window =
+    record { aggregator = parts.aggregator; feature = parts.feature; pattern = parts.pattern; window = window }
+
 -- what stands in a model: the numbers of each cell in rising order (no cells before the `cells` line), the terms by
 -- name, and the number of the objective's term
 pub record ModelParts : Type 0 where
   pub cells : List (List ℤ)
-  pub terms : List (List ℕ × TermParts)
+  pub terms : List (List ℕ × StatedTerm)
   pub requirements : List Require
   pub objective : Option ℕ
 
@@ -40,13 +55,17 @@ abbrev pub nothing : ModelParts
 nothing = record { cells = []; terms = []; requirements = []; objective = None }
 
 -- the place of the term with this name
-abbrev pub term_at : List ℕ → List (List ℕ × TermParts) → Option ℕ
+abbrev pub term_at : List ℕ → List (List ℕ × StatedTerm) → Option ℕ
 term_at name terms = position (λ t. bytes_eq name t.0) terms
 
 -- the number as a count; 0 where it is negative
 abbrev pub count_of : ℤ → ℕ
 count_of (pos n) = n
 count_of (negsuc n) = 0
+
+-- the cells from the first number to the last one
+abbrev pub cells_between : Interval → Range
+cells_between r = record { first = count_of r.low; last = count_of r.high }
 
 -- of count cells, this one stands at the place
 pub record IsPlace (cell : ℤ) (count place : ℕ) : Type 0 where
@@ -62,6 +81,10 @@ digits = record { low = pos 0; high = pos 9 } ∷ []
 abbrev pub unused_parts : TermParts
 unused_parts = record { aggregator = Sum; feature = One; pattern = Increasing }
 
+-- the term of a tail and three names
+abbrev pub term_said : Option Interval → Option TermParts → StatedTerm
+term_said tail parts = stated_term (unwrap_or parts unused_parts) (option_map cells_between tail)
+
 -- a requirement of the term at this place, which a line of which no kind holds has
 abbrev pub requirement : Option ℕ → Op → Ext → Require
 requirement place op bound = record { term = unwrap_or place 0; op = op; bound = bound }
@@ -71,7 +94,7 @@ abbrev pub with_meaning : ModelParts → Meaning → ModelParts
 with_meaning m (SaysCells n) = record m { cells = replicate (count_of n) (union_of digits) }
 with_meaning m (SaysDomain rs) = record m { cells = map (λ _. union_of rs) m.cells }
 with_meaning m (SaysCell k rs) = record m { cells = set m.cells (count_of k - 1) (union_of rs) }
-with_meaning m (SaysTerm name parts) = record m { terms = m.terms ++ (name, unwrap_or parts unused_parts) ∷ [] }
+with_meaning m (SaysTerm name tail parts) = record m { terms = m.terms ++ (name, term_said tail parts) ∷ [] }
 with_meaning m (SaysRequire name op bound) =
     record m { requirements = m.requirements ++ requirement (term_at name m.terms) op bound ∷ [] }
 with_meaning m (SaysObjective name) = record m { objective = term_at name m.terms }
@@ -89,21 +112,35 @@ no_cells m s = not (is_cells s) && not (has_cells m)
 abbrev pub cells_twice : ModelParts → Meaning → Bool
 cells_twice m s = is_cells s && has_cells m
 
+-- an end of the range is none of count cells
+abbrev pub is_beyond : ℕ → Interval → Bool
+is_beyond count r = not (is_between (pos 1) r.low (pos count) && is_between (pos 1) r.high (pos count))
+
+abbrev pub looks_beyond : ℕ → Option Interval → Bool
+looks_beyond count None = false
+looks_beyond count (Some r) = is_beyond count r
+
 abbrev pub cell_range : ModelParts → Meaning → Bool
 cell_range m (SaysCells n) = not (is_between (pos 1) n (pos most_cells))
 cell_range m (SaysCell k rs) = not (is_between (pos 1) k (pos (length m.cells)))
+cell_range m (SaysTerm name tail parts) = looks_beyond (length m.cells) tail
 cell_range m _ = false
 
 abbrev pub is_backward : Interval → Bool
 is_backward r = int_lt r.high r.low
 
+abbrev pub looks_backward : Option Interval → Bool
+looks_backward None = false
+looks_backward (Some r) = is_backward r
+
 abbrev pub empty_range : Meaning → Bool
 empty_range (SaysDomain rs) = list_any is_backward rs
 empty_range (SaysCell k rs) = list_any is_backward rs
+empty_range (SaysTerm name tail parts) = looks_backward tail
 empty_range _ = false
 
 abbrev pub unknown_name : Meaning → Bool
-unknown_name (SaysTerm name parts) = is_none parts
+unknown_name (SaysTerm name tail parts) = is_none parts
 unknown_name _ = false
 
 abbrev pub is_bad : Option TermParts → Bool
@@ -111,7 +148,7 @@ is_bad None = false
 is_bad (Some parts) = not (is_pair parts.aggregator parts.feature)
 
 abbrev pub bad_pair : Meaning → Bool
-bad_pair (SaysTerm name parts) = is_bad parts
+bad_pair (SaysTerm name tail parts) = is_bad parts
 bad_pair _ = false
 
 abbrev pub unknown_term : ModelParts → Meaning → Bool
@@ -120,7 +157,7 @@ unknown_term m (SaysObjective name) = is_none (term_at name m.terms)
 unknown_term m _ = false
 
 abbrev pub term_twice : ModelParts → Meaning → Bool
-term_twice m (SaysTerm name parts) = is_some (term_at name m.terms)
+term_twice m (SaysTerm name tail parts) = is_some (term_at name m.terms)
 term_twice m _ = false
 
 abbrev pub is_objective : Meaning → Bool
@@ -155,7 +192,7 @@ passes_limit lists m (SaysDomain rs) =
     if list_any is_outside rs then true else over_total lists (with_meaning m (SaysDomain rs))
 passes_limit lists m (SaysCell k rs) =
     if list_any is_outside rs then true else over_total lists (with_meaning m (SaysCell k rs))
-passes_limit lists m (SaysTerm name parts) = nat_le most_terms (length m.terms)
+passes_limit lists m (SaysTerm name tail parts) = nat_le most_terms (length m.terms)
 passes_limit lists m (SaysRequire name op bound) =
     if is_bound bound then nat_le most_requirements (length m.requirements) else true
 passes_limit lists m (SaysObjective name) = false
@@ -164,6 +201,12 @@ passes_limit lists m (SaysObjective name) = false
 abbrev pub term_made : Option TermParts → Result TermParts ModelKind
 term_made None = Err UnknownName
 term_made (Some parts) = if is_pair parts.aggregator parts.feature then Ok parts else Err BadPair
+
+-- the window of a tail over count cells, or the kind of a bad one
+abbrev pub window_made : ℕ → Option Interval → Result (Option Range) ModelKind
+window_made count None = Ok None
+window_made count (Some r) =
+    if is_beyond count r then Err CellRange else (if is_backward r then Err Empty else Ok (Some (cells_between r)))
 
 -- the union of ranges, or the kind of bad ones
 abbrev pub union_given : List Interval → Result (List ℤ) ModelKind

@@ -1,5 +1,5 @@
 -- What a line says, from its words alone; or the first of the kinds `unknownline`, `shape` and `number` that holds.
-use Rattle.std.specs.Prelude.{ℕ, ◌==◌, ℤ, Bool, ◌&&◌, List, [], ◌∷◌, length, drop, if◌then◌else◌, nat_lt, Option, Some, None, Result, Err, is_some, unwrap_or, ok_or, slice_get}
+use Rattle.std.specs.Prelude.{ℕ, ◌+◌, ◌==◌, ℤ, Bool, ◌&&◌, ◌||◌, List, [], ◌∷◌, length, drop, if◌then◌else◌, nat_lt, Option, Some, None, Result, Err, is_some, unwrap_or, ok_or, slice_get}
 use Rattle.std.specs.Option.{option_map}
 use Rattle.ts_base.specs.declared.ext.Ext.{Ext}
 use Rattle.ts_domain.specs.declared.interval.Interval.{Interval}
@@ -15,15 +15,16 @@ use Rattle.ts_model.specs.declared.model.Op.{Op}
 use Rattle.ts_model.specs.declared.statement.TermParts.{TermParts}
 use Rattle.ts_model.specs.declared.error.ModelKind.{ModelKind}
 use Rattle.ts_model.specs.declared.error.ModelKind.TheVariants.{UnknownLine, Shape, Number}
-use Rattle.ts_model.specs.Words.{form_of, op_of, is_equals, is_count, is_name, ranges_of, aggregator_of, feature_of, pattern_of}
+use Rattle.ts_model.specs.Words.{form_of, op_of, is_equals, is_count, is_in, is_name, range_of, ranges_of, aggregator_of, feature_of, pattern_of}
 
--- what a line says: `cells`, `domain`, `cell`, `term`, `require` or `objective` with their arguments. A term has no
--- parts where its aggregator, its feature or its pattern has a name that isn't in the tables.
+-- what a line says: `cells`, `domain`, `cell`, `term`, `require` or `objective` with their arguments. A term may have a
+-- range of cells that it looks at; it has no parts where its aggregator, its feature or its pattern has a name that isn't
+-- in the tables.
 pub data Meaning : Type 0 where
   SaysCells : ℤ → Meaning
   SaysDomain : List Interval → Meaning
   SaysCell : ℤ → List Interval → Meaning
-  SaysTerm : List ℕ → Option TermParts → Meaning
+  SaysTerm : List ℕ → Option Interval → Option TermParts → Meaning
   SaysRequire : List ℕ → Op → Ext → Meaning
   SaysObjective : List ℕ → Meaning
 
@@ -31,16 +32,24 @@ pub data Meaning : Type 0 where
 abbrev pub word_at : List (List ℕ) → ℕ → List ℕ
 word_at words k = unwrap_or (slice_get words k) []
 
--- how many words stand after `term`
+-- how many words stand after `term`, up to the name of the pattern
 abbrev pub term_length : List (List ℕ) → ℕ
 term_length ws = if is_count (word_at ws 2) then 4 else 5
+
+-- behind so many words two more stand, the first of which is `in`
+abbrev pub has_tail : ℕ → List (List ℕ) → Bool
+has_tail n ws = (length ws == n + 2) && is_in (word_at ws n)
+
+-- the words end with the name of the pattern, or with a tail behind it
+abbrev pub has_term_length : List (List ℕ) → Bool
+has_term_length ws = (length ws == term_length ws) || has_tail (term_length ws) ws
 
 -- the words after the first fit the form
 abbrev pub has_shape : Form → List (List ℕ) → Bool
 has_shape Cells ws = length ws == 1
 has_shape Domain ws = nat_lt 0 (length ws)
 has_shape Cell ws = nat_lt 1 (length ws)
-has_shape Term ws = (length ws == term_length ws) && (is_name (word_at ws 0) && is_equals (word_at ws 1))
+has_shape Term ws = has_term_length ws && (is_name (word_at ws 0) && is_equals (word_at ws 1))
 has_shape Require ws = (length ws == 3) && (is_name (word_at ws 0) && is_some (op_of (word_at ws 1)))
 has_shape Objective ws = (length ws == 1) && is_name (word_at ws 0)
 
@@ -66,6 +75,15 @@ parts_said ws =
     if is_count (word_at ws 2) then made_parts (Some Sum) (Some One) (pattern_of (word_at ws 3))
     else made_parts (aggregator_of (word_at ws 2)) (feature_of (word_at ws 3)) (pattern_of (word_at ws 4))
 
+-- the range of the tail, if the words end with the name of the pattern or the last one is a range
+abbrev pub tail_said : List (List ℕ) → Option (Option Interval)
+tail_said ws =
+    if length ws == term_length ws then Some None else option_map Some (range_of (word_at ws (term_length ws + 1)))
+
+abbrev pub said_term : List ℕ → Option (Option Interval) → Option TermParts → Option Meaning
+said_term name None parts = None
+said_term name (Some tail) parts = Some (SaysTerm name tail parts)
+
 abbrev pub said_cell : Option ℤ → Option (List Interval) → Option Meaning
 said_cell None rs = None
 said_cell (Some k) rs = option_map (SaysCell k) rs
@@ -80,7 +98,7 @@ abbrev pub said_by : Form → List (List ℕ) → Option Meaning
 said_by Cells ws = option_map SaysCells (number_of (word_at ws 0))
 said_by Domain ws = option_map SaysDomain (ranges_of ws)
 said_by Cell ws = said_cell (number_of (word_at ws 0)) (ranges_of (drop 1 ws))
-said_by Term ws = Some (SaysTerm (word_at ws 0) (parts_said ws))
+said_by Term ws = said_term (word_at ws 0) (tail_said ws) (parts_said ws)
 said_by Require ws = said_require (word_at ws 0) (op_of (word_at ws 1)) (ext_of (word_at ws 2))
 said_by Objective ws = Some (SaysObjective (word_at ws 0))
 

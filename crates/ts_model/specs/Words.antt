@@ -40,6 +40,9 @@ is_equals word = bytes_eq word (codes "=")
 unfoldable pub is_count : List ℕ → Bool
 is_count word = bytes_eq word (codes "count")
 
+unfoldable pub is_in : List ℕ → Bool
+is_in word = bytes_eq word (codes "in")
+
 unfoldable pub is_letter : ℕ → Bool
 is_letter b = nat_le 97 b && nat_le b 122
 

@@ -10,14 +10,15 @@ ghost use Rattle.ts_model.specs.Views.{meaning_of, draft_parts, Adds, Gives, IsS
 
 use crate::cells::Cells;
 use crate::error::{LineStop, ModelKind, ModelStop, at_line};
-use crate::model::{Op, Require};
+use crate::model::{Op, Require, Window};
 use crate::parse::parse;
 use crate::statement::{Ranges, Statement, TermParts};
-use crate::take::{domain_of, is_bound, term_of};
+use crate::take::{domain_of, is_bound, term_of, window_of};
 use indexmap::IndexMap;
 use std::alloc::Global;
 use ts_base::limits::{CELLS, REQUIREMENTS, TERMS};
 use ts_base::{Ext, Memory};
+use ts_domain::Interval;
 use ts_pattern::Term;
 
 /// What the lines so far state.
@@ -25,6 +26,7 @@ use ts_pattern::Term;
 pub(crate) struct Draft {
     pub cells: Cells,
     pub terms: IndexMap<String, Term>,
+    pub windows: Vec<Option<Window>>,
     pub requirements: Vec<Require>,
     pub objective: Option<u32>,
 }
@@ -40,6 +42,7 @@ impl Draft {
         Ok(Draft {
             cells: Cells::new(alloc, 0, limited)?,
             terms: IndexMap::new(alloc),
+            windows: Vec::new(alloc),
             requirements: Vec::new(alloc),
             objective: None,
         })
@@ -85,7 +88,7 @@ impl Draft {
             Statement::Cells(count) => self.take_cells(alloc, count),
             Statement::Domain(ranges) => self.take_domain(alloc, ranges),
             Statement::Cell(cell, ranges) => self.take_cell(alloc, cell, ranges),
-            Statement::Term(name, parts) => self.take_term(alloc, name, parts),
+            Statement::Term(name, tail, parts) => self.take_term(alloc, name, tail, parts),
             Statement::Require(name, op, bound) => self.take_require(name, op, bound),
             Statement::Objective(name) => self.take_objective(name),
         }
@@ -177,16 +180,18 @@ impl Draft {
         &mut self,
         alloc: Global,
         name: &str,
+        tail: Option<Interval>,
         parts: Option<TermParts>,
     ) -> Result<(), LineStop>
         requires sound { IsSound self.old }
         ensures taken { Gives (λ _. draft_parts self.new) result
-            (parts_after self.old.cells.limited (draft_parts self.old) (SaysTerm name.now parts)) }
+            (parts_after self.old.cells.limited (draft_parts self.old) (SaysTerm name.now tail parts)) }
         ensures follows { OnOk result (Follows self.old self.new) }
     {
         if !self.has_cells() {
             return Err(LineStop::Bad(ModelKind::NoCells));
         }
+        let window = window_of(tail, self.cells.len())?;
         let term = term_of(parts)?;
         if self.term_at(name).is_some() {
             return Err(LineStop::Bad(ModelKind::TermTwice));
@@ -195,6 +200,7 @@ impl Draft {
             return Err(LineStop::Bad(ModelKind::Limit));
         }
         let name = String::from_str(alloc, name)?;
+        self.windows.push(window)?;
         self.terms.insert(name, term)?;
         Ok(())
     }

@@ -5,8 +5,9 @@
 //! objective. `read_model` gives the model that the lines state together, or the first bad line with the first of
 //! fifteen kinds that holds of it, and a `ModelReader` the same of a text that comes line by line; `read_series` gives
 //! the numbers of a `series` line, `read_any_series` where no model says how many. Each is an exact reading: every text
-//! has one answer, want of memory aside. What stands above knows of a model that its numbers of cells and terms exist
-//! and that it keeps the limits of its need.
+//! has one answer, want of memory aside. What stands above knows of a model that its numbers of cells and terms exist,
+//! those of its windows too, and that it keeps the limits of its need. A term has the value of the cells that it looks at:
+//! all, or those of its window.
 //!
 //! A text is read in one pass, by one reader: a line costs its words, a name is looked up in the map of the terms, and
 //! a `domain` line doesn't touch the cells one by one. Of the words of a line the ranges alone are listed, at 16 bytes
@@ -36,7 +37,7 @@ mod words;
 
 pub use error::{ModelKind, ModelStop, SeriesStop};
 pub use laws::{judged_is_met, model_is_whole, model_keeps_limits, one_reading, reading_is_first};
-pub use model::{Model, Need, Op, Require, satisfies};
+pub use model::{Model, ModelTerm, Need, Op, Require, Window, satisfies};
 pub use model_text::ModelText;
 pub use reader::ModelReader;
 pub use series::{read_any_series, read_series, value_of};

@@ -1,20 +1,20 @@
 //! What a line says, from its words alone. The ranges of a line are read word by word; of another line the first words
 //! tell what it says, however long it is.
 
-ghost use Rattle.std.specs.Prelude.{◌≡◌, ◌==◌, ◌+◌, ◌<◌, ◌^◌, ◌∷◌, length, ok_or};
+ghost use Rattle.std.specs.Prelude.{◌≡◌, ◌+◌, ◌<◌, ◌≤◌, ◌^◌, ◌∷◌, length, ok_or, true};
 ghost use Rattle.ts_base.specs.Limits.{too_many};
 ghost use Rattle.ts_token.specs.Text.{words_from, words_of};
 ghost use Rattle.ts_model.specs.declared.error.ModelKind.{ModelKind};
 ghost use Rattle.ts_model.specs.declared.words.Form.{Form};
 ghost use Rattle.ts_model.specs.ModelReading.{texts_of};
 ghost use Rattle.ts_model.specs.Words.{range_of, ranges_of};
-ghost use Rattle.ts_model.specs.Statement.{HasFew, term_length, parts_said, parsed_as, parsed_by, meaning_in};
+ghost use Rattle.ts_model.specs.Statement.{HasFew, has_term_length, term_length, parts_said, tail_said, parsed_as, parsed_by, meaning_in};
 ghost use Rattle.ts_model.specs.Views.{texts, meaning_of, Gives};
 
 use crate::error::{LineStop, ModelKind};
 use crate::statement::{Ranges, Statement, TermParts};
 use crate::words::{
-    Form, form_of, is_count, is_equals, name_of, number_at, op_of, range_of, text_at,
+    Form, form_of, is_count, is_equals, is_in, name_of, number_at, op_of, range_of, text_at,
 };
 use std::alloc::Global;
 use ts_domain::Interval;
@@ -22,7 +22,7 @@ use ts_pattern::{Aggregator, Feature, aggregator_of, feature_of, pattern_of};
 use ts_token::{Word, count_words, ext_of, first_words, next_word, number};
 
 /// Of so many words after the first the number tells whether a line without ranges has its shape: each form has fewer.
-const MOST_WORDS: usize = 6;
+const MOST_WORDS: usize = 8;
 
 /// The range that the word is.
 fn range_in(word: &[u8]) -> Result<Interval, LineStop>
@@ -112,9 +112,11 @@ fn parse_cell<'a>(alloc: Global, bytes: &'a [u8], column: u32) -> Result<Stateme
     }
 }
 
-/// The parts of a term, whose words have its shape; `count` stands for `sum one`. None where a name is unknown.
+/// The parts of a term, whose words reach up to the name of the pattern; `count` stands for `sum one`. None where a name
+/// is unknown.
+#[tactic(auto, using(crate::proofs::TermLines::names_there, crate::proofs::TermLines::last_there))]
 fn parts_said(words: &[Word]) -> Option<TermParts>
-    requires { length (texts words.now) ≡ term_length (texts words.now) }
+    requires { term_length (texts words.now) ≤ length (texts words.now) }
     ensures { result ≡ parts_said (texts words.now) }
 {
     if is_count(text_at(words, 2)) {
@@ -131,19 +133,46 @@ fn parts_said(words: &[Word]) -> Option<TermParts>
     })
 }
 
-/// The words after `term` are as many as its form has.
+/// How many words stand after `term`, up to the name of the pattern.
+fn term_length(words: &[Word]) -> usize
+    requires { 2 < length (texts words.now) }
+    ensures value { result ≡ term_length (texts words.now) }
+    ensures most { result ≤ 5 }
+{
+    if is_count(text_at(words, 2)) { 4 } else { 5 }
+}
+
+/// Whether the words after `term` end with the name of the pattern, or with a tail behind it.
+#[tactic(auto, using(crate::proofs::TermLines::too_short))]
 fn has_term_length(words: &[Word]) -> bool
-    ensures { result ≡ (length (texts words.now) == term_length (texts words.now)) }
+    ensures { result ≡ has_term_length (texts words.now) }
 {
     let count = words.len();
-    if count > 2 && is_count(text_at(words, 2)) {
-        count == 4
-    } else {
-        count == 5
+    if count < 4 {
+        return false;
+    }
+    let length = term_length(words);
+    count == length || count == length + 2 && is_in(text_at(words, length))
+}
+
+/// The range of the tail, where the words have one. None where its word is no range.
+#[tactic(auto, using(crate::proofs::TermLines::term_long, crate::proofs::TermLines::tail_there, crate::proofs::TermLines::tail_none, crate::proofs::TermLines::tail_some))]
+fn tail_said(words: &[Word]) -> Option<Option<Interval>>
+    requires { has_term_length (texts words.now) ≡ true }
+    ensures { result ≡ tail_said (texts words.now) }
+{
+    let length = term_length(words);
+    if words.len() == length {
+        return Some(None);
+    }
+    match range_of(text_at(words, length + 1)) {
+        Some(range) => Some(Some(range)),
+        None => None,
     }
 }
 
 /// What a `term` line says.
+#[tactic(auto, using(crate::proofs::TermLines::term_long, crate::proofs::TermLines::term_fits))]
 fn parse_term<'a>(words: &[Word<'a>]) -> Result<Statement<'a>, LineStop>
     ensures { Gives meaning_of result (parsed_by Form.Term (texts words.now)) }
 {
@@ -151,9 +180,10 @@ fn parse_term<'a>(words: &[Word<'a>]) -> Result<Statement<'a>, LineStop>
         return Err(LineStop::Bad(ModelKind::Shape));
     }
     match name_of(text_at(words, 0)) {
-        Some(name) if is_equals(text_at(words, 1)) => {
-            Ok(Statement::Term(name, parts_said(words)))
-        }
+        Some(name) if is_equals(text_at(words, 1)) => match tail_said(words) {
+            Some(tail) => Ok(Statement::Term(name, tail, parts_said(words))),
+            None => Err(LineStop::Bad(ModelKind::Number)),
+        },
         _ => Err(LineStop::Bad(ModelKind::Shape)),
     }
 }

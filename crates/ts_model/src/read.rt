@@ -29,15 +29,18 @@ fn needs_objective(need: Need) -> bool
 
 /// The model of a draft, each cell with a copy of its domain.
 fn model_of(alloc: Global, draft: Draft) -> Result<Model, Memory>
-    requires { length draft.cells.own.items ≤ most_cells }
+    requires few { length draft.cells.own.items ≤ most_cells }
+    requires windows { length draft.windows.items ≡ length draft.terms.entries }
     ensures same { IfOk result (λ m. model_parts m ≡ draft_parts draft) }
     ensures counted { IfOk result (λ m. m.n ≡ vec_len m.cells) }
+    ensures windows { IfOk result (λ m. length m.windows.items ≡ length m.terms.entries) }
 {
     let cells = draft.cells.all(alloc)?;
     Ok(Model {
         n: cells.len() as u32,
         cells,
         terms: draft.terms,
+        windows: draft.windows,
         requirements: draft.requirements,
         objective: draft.objective,
     })
@@ -51,9 +54,11 @@ pub(crate) fn finish(
     need: Need,
 ) -> Result<Model, ModelStop>
     requires few { length draft.cells.own.items ≤ most_cells }
+    requires windows { length draft.windows.items ≡ length draft.terms.entries }
     requires room { count < too_many }
     ensures reads { Reads result (ended_model need count (draft_parts draft)) }
     ensures counted { IfOk result (λ m. m.n ≡ vec_len m.cells) }
+    ensures windows { IfOk result (λ m. length m.windows.items ≡ length m.terms.entries) }
 {
     let line = count + 1;
     if !draft.has_cells() {

@@ -72,6 +72,7 @@ impl Progress {
         requires { IsFit self }
         ensures reads { Reads result (ended_model self.need self.count (draft_parts self.draft)) }
         ensures counted { IfOk result (λ m. m.n ≡ vec_len m.cells) }
+        ensures windows { IfOk result (λ m. length m.windows.items ≡ length m.terms.entries) }
     {
         finish(self.alloc, self.draft, self.count, self.need)
     }
@@ -122,6 +123,7 @@ impl State {
         requires { IsFitState self }
         ensures ends { StateEnds self result }
         ensures counted { IfOk result (λ m. m.n ≡ vec_len m.cells) }
+        ensures windows { IfOk result (λ m. length m.windows.items ≡ length m.terms.entries) }
     {
         match self {
             State::Open(progress) => progress.finish(),
@@ -187,6 +189,7 @@ impl ModelReader {
             Reads result (model_reading need text) }
         ensures first { (need : Need) (text : List ℕ) → HasRead need text self → Tells need (cut_of text) result }
         ensures counted { IfOk result (λ m. m.n ≡ vec_len m.cells) }
+        ensures windows { IfOk result (λ m. length m.windows.items ≡ length m.terms.entries) }
         ensures whole { (need : Need) (text : List ℕ) → HasRead need text self →
             IfOk result (λ m. IsWhole (model_parts m)) }
         ensures limits { (need : Need) (text : List ℕ) → HasRead need text self →

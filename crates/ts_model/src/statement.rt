@@ -22,13 +22,14 @@ pub(crate) struct TermParts {
     pub pattern: PatternId,
 }
 
-/// What a line says; a term has no parts where one of its names is unknown.
+/// What a line says; a term may have a range of cells that it looks at, and has no parts where one of its names is
+/// unknown.
 #[derive(Drop)]
 pub(crate) enum Statement<'a> {
     Cells(i64),
     Domain(Ranges),
     Cell(i64, Ranges),
-    Term(&'a str, Option<TermParts>),
+    Term(&'a str, Option<Interval>, Option<TermParts>),
     Require(&'a str, Op, Ext),
     Objective(&'a str),
 }

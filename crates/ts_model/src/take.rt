@@ -1,12 +1,14 @@
-//! The parts of a statement that a draft takes: domains, terms and bounds, or the kind that holds of bad ones.
+//! The parts of a statement that a draft takes: domains, windows, terms and bounds, or the kind that holds of bad ones.
 
-ghost use Rattle.std.specs.Prelude.{◌≡◌};
+ghost use Rattle.std.specs.Prelude.{◌≡◌, ◌≤◌, true, false, pos, IfNone, IfSome, option_map};
 ghost use Rattle.std.specs.List.{list_any};
-ghost use Rattle.ts_model.specs.ModelParts.{is_backward, is_outside, is_bound, term_made, union_given};
-ghost use Rattle.ts_model.specs.Views.{parts_of, Gives};
+ghost use Rattle.ts_base.specs.Limits.{most_cells};
+ghost use Rattle.ts_model.specs.ModelParts.{count_of, is_backward, is_between, is_outside, is_bound, term_made, union_given, window_made};
+ghost use Rattle.ts_model.specs.Views.{parts_of, range_in, Gives};
 
 use crate::cells::union_of;
 use crate::error::{LineStop, ModelKind};
+use crate::model::Window;
 use crate::statement::{Ranges, TermParts};
 use std::alloc::Global;
 use ts_base::Ext;
@@ -50,6 +52,38 @@ pub(crate) fn domain_of(alloc: Global, ranges: Ranges) -> Result<Domain, LineSto
         return Err(LineStop::Bad(ModelKind::Limit));
     }
     Ok(union_of(alloc, items)?)
+}
+
+/// The cell with this number, of `count` cells.
+fn cell_at(cell: i64, count: usize) -> Option<u32>
+    requires { count ≤ most_cells }
+    ensures none { IfNone result (is_between (pos 1) cell (pos count) ≡ false) }
+    ensures some { IfSome result (λ k. (is_between (pos 1) cell (pos count) ≡ true) × (count_of cell ≡ k)) }
+{
+    if cell < 1 || cell as u64 > count as u64 {
+        return None;
+    }
+    Some(cell as u32)
+}
+
+/// The window of a tail over `count` cells, or the kind of a bad one.
+#[tactic(auto, using(crate::proofs::TermWindows::window_good, crate::proofs::TermWindows::window_reversed, crate::proofs::TermWindows::window_low, crate::proofs::TermWindows::window_high))]
+pub(crate) fn window_of(tail: Option<Interval>, count: usize) -> Result<Option<Window>, LineStop>
+    requires { count ≤ most_cells }
+    ensures { Gives (option_map range_in) result (window_made count tail) }
+{
+    let Some(range) = tail else {
+        return Ok(None);
+    };
+    match (cell_at(range.low, count), cell_at(range.high, count)) {
+        (Some(first), Some(last)) => {
+            if range.high < range.low {
+                return Err(LineStop::Bad(ModelKind::Empty));
+            }
+            Ok(Some(Window { first, last }))
+        }
+        _ => Err(LineStop::Bad(ModelKind::CellRange)),
+    }
 }
 
 /// The term of the parts, or the kind of bad names.

@@ -22,6 +22,7 @@ pub fn read_model(alloc: Global, text: &[u8], need: Need) -> Result<Model, Model
     ensures exact { Reads result (model_reading need text.now) }
     ensures first { Tells need (cut_of text.now) result }
     ensures counted { IfOk result (λ m. m.n ≡ vec_len m.cells) }
+    ensures windows { IfOk result (λ m. length m.windows.items ≡ length m.terms.entries) }
     ensures whole { IfOk result (λ m. IsWhole (model_parts m)) }
     ensures limits { IfOk result (λ m. KeepsLimits need (model_parts m)) }
 {

@@ -3,7 +3,7 @@
 ghost use Rattle.std.specs.Prelude.{◌≡◌, ◌<◌, true, false, length, MatchOption};
 ghost use Rattle.std.specs.List.{list_all, position};
 ghost use Rattle.ts_token.specs.Number.{number_of};
-ghost use Rattle.ts_model.specs.Words.{form_of, op_of, is_equals, is_count, is_letter, is_name_byte, is_name, is_dot, range_of};
+ghost use Rattle.ts_model.specs.Words.{form_of, op_of, is_equals, is_count, is_in, is_letter, is_name_byte, is_name, is_dot, range_of};
 ghost use Rattle.ts_model.specs.Statement.{word_at};
 ghost use Rattle.ts_model.specs.Views.{texts};
 
@@ -81,6 +81,14 @@ pub(crate) fn is_count(word: &[u8]) -> bool
     ensures { result ≡ is_count word.now }
 {
     word == b"count".as_slice()
+}
+
+/// Whether the word is `in`.
+#[tactic(auto, unfolding(crate::specs::Words::is_in))]
+pub(crate) fn is_in(word: &[u8]) -> bool
+    ensures { result ≡ is_in word.now }
+{
+    word == b"in".as_slice()
 }
 
 /// Whether the byte is one of a to z.
