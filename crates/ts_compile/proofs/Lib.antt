@@ -3,6 +3,7 @@ mod Forms
 mod Instances
 mod JudgeLaws
 mod Local
+pub mod Over
 mod Pairs
 pub mod Partners
 mod Patterns

@@ -1,12 +1,16 @@
 -- The machine that the tables give a term, and what a machine of a term answers.
 use Rattle.std.specs.Prelude.{◌≡◌, ◌≤◌, ℕ, ℤ, List, length, map, Option, option_map}
 use Rattle.std.specs.Coded.{Coded-set, codes}
+use Rattle.ts_base.specs.Windows.{LooksInside, looked_at}
 use Rattle.ts_pattern.specs.declared.name.PatternId.{PatternId}
 use Rattle.ts_pattern.specs.declared.term.Term.{Term}
 use Rattle.ts_pattern.specs.TermValue.{term_value}
 use Rattle.ts_automaton.specs.Body.{Body}
 use Rattle.ts_automaton.specs.AutomatonRun.{answer, AreCellValues}
 use Rattle.ts_automaton.specs.Codes.{formula_code}
+use Rattle.ts_model.specs.declared.model.ModelTerm.{ModelTerm}
+use Rattle.ts_model.specs.TermValue.{stated_value}
+use Rattle.ts_model.specs.Views.{stated_of}
 use Rattle.ts_seed.specs.SeedTable.{seed_table}
 use Rattle.ts_decorate.specs.Answers.{longest}
 use Rattle.ts_glue.specs.declared.machine.Machine.{Machine}
@@ -36,6 +40,18 @@ abbrev pub GluesTerm : Pair → Term → Type 0
 GluesTerm p t =
     (xs : List ℤ) → length xs ≤ longest → AreCellValues xs →
     (k : ℕ) → 1 ≤ k → k ≤ length xs → Glued p xs k ≡ term_value t xs
+
+-- the same of a term of a model, on the cells that it looks at, which the series has
+abbrev pub AnswersOver : Body → ModelTerm → Type 0
+AnswersOver b t =
+    (xs : List ℤ) → 1 ≤ length xs → length xs ≤ longest → LooksInside (length xs) t.window → AreCellValues xs →
+    answer b (looked_at t.window xs) ≡ stated_value (stated_of t) xs
+
+abbrev pub GluesOver : Pair → ModelTerm → Type 0
+GluesOver p t =
+    (xs : List ℤ) → length xs ≤ longest → LooksInside (length xs) t.window → AreCellValues xs →
+    (k : ℕ) → 1 ≤ k → k ≤ length (looked_at t.window xs) →
+    Glued p (looked_at t.window xs) k ≡ stated_value (stated_of t) xs
 
 -- the machines have the bodies, and are split as the tables give the terms
 abbrev pub HaveBodies : List Machine → List Term → Type 0

@@ -2,9 +2,11 @@
 -- there is no reverse one, or the reverse block and how the two are glued.
 use Rattle.std.specs.Prelude.{ℕ, codes, ◌==◌, if◌then◌else◌, List, [], ◌∷◌, ◌++◌, map, Option, Some, None}
 use Rattle.std.specs.Prelude.{String, string_bytes}
+use Rattle.std.specs.Fmt.{decimal}
 use Rattle.std.specs.Global.{Global}
 use Rattle.ts_base.specs.declared.range.Join.{Join}
-use Rattle.ts_pattern.specs.declared.term.Term.{Term}
+use Rattle.ts_base.specs.declared.range.Range.{Range}
+use Rattle.ts_model.specs.declared.model.ModelTerm.{ModelTerm}
 use Rattle.ts_pattern.specs.Names.{aggregator_name, feature_name, pattern_name}
 use Rattle.ts_automaton.specs.Body.{Body}
 use Rattle.ts_automaton.specs.declared.draft.Way.TheVariants.{Forward, Reverse}
@@ -16,10 +18,20 @@ use Rattle.ts_glue.specs.declared.table.CellUnit.TheVariants.{Unit as UnitCell, 
 use Rattle.ts_glue.specs.Pairs.{Table, Pair}
 use Rattle.ts_compile.specs.Compiled.{machine_body, machine_pair}
 
+-- the cells from the first to the last one
+abbrev pub range_word : Range → List ℕ
+range_word r = decimal r.first ++ (codes ".." ++ decimal r.last)
+
+-- the tail of a term that looks at some of the cells alone
+abbrev pub window_words : Option Range → List (List ℕ)
+window_words None = []
+window_words (Some window) = codes "in" ∷ range_word window ∷ []
+
 -- a count is the sum of the feature one
-abbrev pub term_words : List ℕ → Term → List (List ℕ)
+abbrev pub term_words : List ℕ → ModelTerm → List (List ℕ)
 term_words name t =
-    codes "term" ∷ name ∷ aggregator_name t.aggregator ∷ feature_name t.feature ∷ pattern_name t.pattern ∷ []
+    codes "term" ∷ name ∷ aggregator_name t.term.aggregator ∷ feature_name t.term.feature ∷ pattern_name t.term.pattern
+    ∷ window_words t.window
 
 -- a trim is 0 or 1
 abbrev pub trim_word : ℕ → List ℕ
@@ -55,11 +67,11 @@ reverse_text None = codes "no reverse\n"
 reverse_text (Some p) = head_text Reverse ++ (body_text p.reverse ++ glue_text p)
 
 -- the part of a term with this machine
-abbrev pub part_text : List ℕ → Term → Body → Option Pair → List ℕ
+abbrev pub part_text : List ℕ → ModelTerm → Body → Option Pair → List ℕ
 part_text name t body split =
     words_text (term_words name t) ++ (head_text Forward ++ (body_text body ++ reverse_text split))
 
 -- the parts of the terms, in order
-abbrev pub program_text : List (String Global × Term) → List ℕ
+abbrev pub program_text : List (String Global × ModelTerm) → List ℕ
 program_text [] = []
-program_text (e ∷ es) = part_text (string_bytes e.0) e.1 (machine_body e.1) (machine_pair e.1) ++ program_text es
+program_text (e ∷ es) = part_text (string_bytes e.0) e.1 (machine_body e.1.term) (machine_pair e.1.term) ++ program_text es

@@ -6,13 +6,15 @@ ghost use Rattle.std.specs.Prelude.{◌≡◌, ◌↔◌, length, IfOk, IsTrue};
 ghost use Rattle.ts_pattern.specs.Limits.{IsSeries};
 ghost use Rattle.ts_model.specs.Judgement.{all_hold, all_true, holdings, holds, insides, is_among};
 ghost use Rattle.ts_model.specs.Meets.{Meets, values_on};
+ghost use Rattle.ts_model.specs.Promise.{IsWhole};
 ghost use Rattle.ts_model.specs.Views.{model_parts};
 
+use crate::values::value_by;
 use std::alloc::Global;
 use ts_base::{Ext, Memory};
 use ts_domain::Domain;
 use ts_model::{Model, Require, satisfies};
-use ts_occurrence::{signature, value_with};
+use ts_occurrence::signature;
 
 /// For each cell whether its value lies in its domain, for each requirement whether it holds, and the value of each
 /// term.
@@ -34,6 +36,7 @@ impl Judgement {
 
 /// The judgement of a series with as many cells as the model.
 pub fn judge(alloc: Global, model: &Model, series: &[i64]) -> Result<Judgement, Memory>
+    requires whole { IsWhole (model_parts model.now) }
     requires series { IsSeries series.now }
     requires cells { length series.now ≡ length model.now.cells.items }
     ensures inside { IfOk result (λ j. j.inside.items ≡ insides model.now.cells.items series.now) }
@@ -73,15 +76,17 @@ fn has(domain: &Domain, value: i64) -> bool
     domain.contains(value)
 }
 
-/// The value of each term, all by one signature.
+/// The value of each term; one signature serves all terms that look at all cells.
 fn values_on(alloc: Global, model: &Model, series: &[i64]) -> Result<Vec<Ext>, Memory>
-    requires { IsSeries series.now }
+    requires whole { IsWhole (model_parts model.now) }
+    requires series { IsSeries series.now }
+    requires cells { length series.now ≡ length model.now.cells.items }
     ensures { IfOk result (λ values. values.items ≡ values_on (model_parts model.now) series.now) }
 {
     let letters = signature(alloc, series)?;
     let mut values = Vec::new(alloc);
     for k in 0..model.terms.len() {
-        values.push(value_with(alloc, &model.terms[k], series, &letters)?)?;
+        values.push(value_by(alloc, &model.term(k), series, &letters)?)?;
     }
     Ok(values)
 }

@@ -3,6 +3,7 @@
 ghost use Rattle.std.specs.Prelude.{ℤ, ◌≡◌, ◌<◌, ◌≤◌, ◌+◌, ◌++◌, ◌∷◌, List, [], Some, IfOk, length, map, slice_get};
 ghost use Rattle.ts_automaton.specs.AutomatonRun.{standing_of, start_of};
 ghost use Rattle.ts_base.specs.Limits.{IsCellValue};
+ghost use Rattle.ts_compile.specs.Programs.{LooksAtAll};
 ghost use Rattle.ts_decorate.specs.Answers.{longest};
 ghost use Rattle.ts_glue.specs.Machines.{forward_of};
 ghost use Rattle.ts_monitor.specs.Monitors.{AllStand, StandsFor, moved, moved_after};
@@ -47,8 +48,9 @@ impl Model for Monitor {
 }
 
 impl Monitor {
-    /// Before the first reading.
+    /// Before the first reading. No machine has a window: each term looks at all readings.
     pub fn new(alloc: Global, p: Program) -> Result<Monitor, Memory>
+        requires { LooksAtAll p }
         ensures terms { IfOk result (λ m. m.terms ≡ p.terms.items) }
         ensures stands { IfOk result (λ m. StandsFor m []) }
     {
