@@ -1,5 +1,5 @@
 -- A tree line on the box that waits for it: whether it keeps its rule, and may be followed.
-use Rattle.std.proofs.Common.{◌≡◌, ◌↔◌, ℕ, ◌<◌, ℤ, Bool, IsTrue, List, ◌∷◌, length, Option, Some, sym, ◌∙◌, ap, subst}
+use Rattle.std.proofs.Common.{◌≡◌, ◌↔◌, ℕ, ◌<◌, ℤ, Bool, IsTrue, List, [], ◌∷◌, length, Option, Some, None, sym, ◌∙◌, ap, subst}
 use Rattle.std.specs.Global.{Vec}
 use Rattle.std.specs.Prelude.{IfOk, Result, Ok, Err}
 use Rattle.std.proofs.lemmas.List.{length-map}
@@ -13,6 +13,7 @@ use Rattle.ts_certificate.specs.declared.certificate.TreeLine.{TreeLine}
 use Rattle.ts_certificate.specs.declared.certificate.TreeLine.TheVariants.{Yes}
 use Rattle.ts_certificate.specs.Seen.{line_seen}
 use Rattle.ts_model.specs.ModelParts.{ModelParts}
+use Rattle.ts_domain.specs.BoxSeries.{Boxes}
 use Rattle.ts_filter.specs.Boxes.{Box}
 use Rattle.ts_filter.specs.Lines.{Stand, KeepsLine, KeepsTreeRule}
 use Rattle.ts_filter.specs.RefutedWorseDrop.{Spans}
@@ -20,8 +21,8 @@ use Rattle.ts_filter.specs.Rules.{Head, KeepsRule}
 use Rattle.ts_frontier.specs.Follow.{MayFollow}
 use Rattle.ts_frontier.specs.Waiting.{first, rest}
 use Rattle.ts_checker.specs.declared.standing.Standing.{Standing}
-use Rattle.ts_checker.specs.Standings.{MayStep, MayTake}
-use Rattle.ts_checker.specs.Subjects.{series_of}
+use Rattle.ts_checker.specs.Standings.{MayStep, MayTake, stand_of}
+use Rattle.ts_checker.specs.Subjects.{AreSized, series_of}
 
 -- the rule of a tree line, where the aim, the claim and the first box are told
 pub rule_told : (m : ModelParts) (s : Spans) (aim : Option Aim) (claim : Option Claim) (xs : List (List ℤ)) (boxes : List Box) (told : ℕ) (l : TreeLine)
@@ -82,3 +83,14 @@ as_tree m s t p l r is h = subst (λ q. IfOk r (λ keeps. IsTrue keeps ↔ Keeps
 pub may_as_tree : (t : Standing) (p : Parsed) (l : TreeLine) (r : Result Bool Memory) → p ≡ Tree l → IfOk r (λ keeps. IsTrue keeps → MayStep t l) →
     IfOk r (λ keeps. IsTrue keeps → MayTake t p)
 may_as_tree t p l r is h = subst (λ q. IfOk r (λ keeps. IsTrue keeps → MayTake t q)) (sym is) h
+
+-- boxes keep their number of cells
+
+pub new_sized : (m : ModelParts) (t : Standing) (root : Boxes) (cells : List (List ℤ)) →
+    stand_of t ≡ record { aim = None; claim = None; series = []; waiting = root.present ∷ []; told = 0 } →
+    root ≡ record { earlier = []; present = cells } → cells ≡ m.cells → AreSized m t.frontier.boxes
+new_sized m t root cells unfed alone all =
+    subst (λ (s : Stand). AreSized m s.waiting) (sym unfed) (ap length (ap (λ (b : Boxes). b.present) alone ∙ all), tt)
+
+pub first_sized : (m : ModelParts) (boxes now : List Box) (b : Box) → now ≡ boxes → now ≡ b ∷ rest now → AreSized m boxes → length b ≡ length m.cells
+first_sized m boxes now b same front h = (subst (AreSized m) (sym same ∙ front) h).0

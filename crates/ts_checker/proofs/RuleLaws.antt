@@ -1,15 +1,16 @@
 -- The rules of the lines of a tree, by what the code asks of a term's machine.
-use Rattle.std.proofs.Common.{◌≡◌, ◌↔◌, ℕ, ◌-◌, ◌<◌, ◌≤◌, ℤ, Bool, IsTrue, List, length, Option, Some, None, slice_get, refl, sym, ◌∙◌, ap, subst, arith}
+use Rattle.std.proofs.Common.{◌≡◌, ◌↔◌, ℕ, ◌-◌, ◌<◌, ◌≤◌, ℤ, Bool, true, false, IsTrue, List, length, Option, Some, None, slice_get, refl, sym, ◌∙◌, ap, subst, arith}
 use Rattle.std.specs.Prelude.{Contains, IfOk, IfSome, MatchOption, Result, Ok, Err}
 use Rattle.std.proofs.lemmas.List.{length-map}
 use Rattle.std.proofs.lemmas.Option.{same_Some}
 use Rattle.ts_base.specs.declared.error.Memory.{Memory}
 use Rattle.ts_base.specs.declared.ext.Ext.{Ext}
 use Rattle.ts_base.specs.declared.goal.Goal.{Goal}
+use Rattle.ts_base.specs.Windows.{LooksInside}
 use Rattle.ts_certificate.specs.declared.certificate.Aim.TheVariants.{Best as BestOf}
 use Rattle.ts_certificate.specs.declared.certificate.TreeLine.{TreeLine}
 use Rattle.ts_domain.specs.BoxSeries.{IsBox}
-use Rattle.ts_bound.specs.TermSpans.{Automata, term_span, IsUsable as IsUsableOf}
+use Rattle.ts_bound.specs.TermSpans.{Automata, LooksIn, term_span, IsUsable as IsUsableOf}
 use Rattle.ts_model.specs.declared.model.Require.{Require}
 use Rattle.ts_model.specs.ModelParts.{ModelParts}
 use Rattle.ts_filter.specs.declared.bar.Bar.TheVariants.{Better}
@@ -17,14 +18,15 @@ use Rattle.ts_filter.specs.Boxes.{Box, HasCell, values_at, only}
 use Rattle.ts_filter.specs.Excluded.{Refutes, Cuts}
 use Rattle.ts_filter.specs.MachineSpans.{spans_of}
 use Rattle.ts_filter.specs.OfTerm.{OfTerm}
-use Rattle.ts_filter.specs.RefutedWorseDrop.{Spans, IsRequirement, IsCut, IsDrop, IsRefuted}
+use Rattle.ts_filter.specs.RefutedWorseDrop.{Spans, IsUsable, IsRequirement, IsCut, IsDrop, IsRefuted}
 use Rattle.ts_filter.specs.Rules.{Head, KeepsRule, claimed_value, IsWorseFor, MayBeWorse}
 use Rattle.ts_filter.specs.Tree.{Removes}
 use Rattle.ts_filter.proofs.BoxParts.{others_stay}
-use Rattle.ts_filter.proofs.CallLaws.{calls_tell}
-use Rattle.ts_filter.proofs.MachineLaws.{slice_get-some}
+use Rattle.ts_filter.proofs.CallLaws.{calls_tell, usable_whole}
+use Rattle.ts_filter.proofs.MachineLaws.{slice_get-some, spans_are_of_machines}
 use Rattle.ts_filter.proofs.SoundLaws.{each_at}
 use Rattle.ts_spans.specs.Machines.{automata_for, automata_in, spans_in}
+use Rattle.ts_spans.proofs.OfTerms.{window_looks}
 use Rattle.ts_checker.specs.Subjects.{AreTables}
 
 -- the machine of a term
@@ -35,7 +37,12 @@ some_at P (Some u) t h e = subst P (same_Some u t e) h
 
 module _ (m : ModelParts) (tables : List Automata) (is : AreTables m tables) where
   tables_count : length tables ≡ length m.terms
-  tables_count = ap length is.machines ∙ length-map m.terms (λ t. automata_for t.1.pattern t.1.aggregator t.1.feature)
+  tables_count = ap length is.machines ∙ length-map m.terms (λ t. automata_for t.1)
+
+  -- its window ends at a cell of each box that has the model's cells
+  pub box_looks : (b : Box) → length b ≡ length m.cells → (term : ℕ) → OfTerm tables term (λ a. LooksIn a b)
+  box_looks b size term a has =
+      subst (λ n. LooksInside n a.window) (sym size) (window_looks m is.whole term a (ap (λ l. slice_get l term) (sym is.machines) ∙ has))
 
   -- each requirement's term has one, and so has the objective
   require_stands : (j : ℕ) (r : Require) → IsRequirement m.requirements j r → r.term < length tables
@@ -91,6 +98,19 @@ others_seen : (d : List ℤ) (k : ℕ) (b : Box) (v v' : ℤ) → d ≡ values_a
 others_seen d k b v v' is same h =
     (subst (λ z. 2 ≤ length z) is h.0, subst (λ z. Contains z v) is (subst (λ z. Contains d z) same h.1))
 
+-- there is no drop where the cell lacks the value or has it alone
+pub no_others : (rs : List Require) (s : Spans) (k : ℕ) (v v' : ℤ) (j : ℕ) (b : Box) (d : List ℤ) (o : Bool) → v' ≡ v → d ≡ values_at k b → o ≡ false →
+    (IsTrue o ↔ ((2 ≤ length d) × Contains d v')) → IsTrue false ↔ IsDrop rs s k v j b
+no_others rs s k v v' j b d o same here none told = (
+  λ e. absurd (let f : ◌≡◌ {A = Bool} false true = e in cc),
+  λ h.
+      sym none ∙ told.1 (
+        subst (λ z. 2 ≤ length z) (sym here) h.many,
+        subst (λ z. Contains z v') (sym here)
+            (subst (λ z. Contains (values_at k b) z) (sym same) h.there),
+      ),
+)
+
 -- what is known of a term's machine, of the tables that are asked and so of the model's
 module _ (m : ModelParts) (tables : List Automata) (is : AreTables m tables) (b : Box) where
   -- the machine of a term that stands
@@ -117,6 +137,20 @@ module _ (m : ModelParts) (tables : List Automata) (is : AreTables m tables) (b 
       let at = at_term r.term (asked_stands m tables is j r rs all req) in
       drop_told m (automata_in m) j r require at.0 at.2 k v b t (others_seen d k b v v' here same others) ((usable at.0 at.1).0 able)
       (subst (λ z. IsTrue t ↔ Refutes r.op r.bound (term_span at.0 k (only k z b))) same (h at.0 at.1))
+
+  -- nor where the cell can't be used
+  pub drop_unusable : (k : ℕ) (v : ℤ) (j : ℕ) (r : Require) (rs : List Require) (u : Bool) → rs ≡ m.requirements → IsRequirement rs j r → u ≡ false →
+      OfTerm tables r.term (λ a. IsTrue u ↔ IsUsableOf a k b) → IsTrue false ↔ IsDrop m.requirements (spans_in m) k v j b
+  drop_unusable k v j r rs u all req unable usable = (
+    λ e. absurd (let f : ◌≡◌ {A = Bool} false true = e in cc),
+    λ d.
+        let require = subst (λ z. IsRequirement z j r) all req in
+        let at = at_term r.term (asked_stands m tables is j r rs all req) in
+        let seen = subst (λ (q : Require). IsUsable (spans_in m) q.term k (only k v b)) (same_Some d.refuted.require r (sym d.refuted.is.1 ∙ require.1))
+        d.refuted.usable in
+        let there = ((spans_are_of_machines (automata_in m) r.term at.0 at.2).usable k (only k v b)).0 seen in
+        sym unable ∙ (usable at.0 at.1).1 (usable_whole at.0 b k v there),
+  )
 
   pub refuted_answered : (p j : ℕ) (r : Require) (rs : List Require) (u : Bool) (t : Result Bool Memory) → rs ≡ m.requirements → IsRequirement rs j r →
       IsTrue u → OfTerm tables r.term (λ a. IsTrue u ↔ IsUsableOf a p b) →

@@ -1,10 +1,12 @@
 -- What the rules of lines are asked of: the tables of a model's terms, and what the lines before the tree say.
-use Rattle.std.specs.Prelude.{◌≡◌, ℕ, ℤ, List, map, Option, Some, None, slice_get}
+use Rattle.std.specs.Prelude.{◌≡◌, ℕ, ℤ, List, length, map, Option, Some, None, slice_get}
+use Rattle.std.specs.List.{AllByRecursion}
 use Rattle.std.specs.Global.{Vec}
 use Rattle.ts_base.specs.declared.ext.Ext.{Ext}
 use Rattle.ts_bound.specs.TermSpans.{Automata}
 use Rattle.ts_model.specs.Promise.{IsWhole}
 use Rattle.ts_model.specs.ModelParts.{ModelParts}
+use Rattle.ts_filter.specs.Boxes.{Box}
 use Rattle.ts_filter.specs.Rules.{Head}
 use Rattle.ts_checker.specs.declared.subject.Head.{Head as GivenHead}
 use Rattle.ts_spans.specs.Machines.{automata_in}
@@ -13,6 +15,10 @@ use Rattle.ts_spans.specs.Machines.{automata_in}
 pub record AreTables (m : ModelParts) (tables : List Automata) : Type 0 where
   pub machines : tables ≡ automata_in m
   pub whole : IsWhole m
+
+-- each of the boxes has as many cells as the model
+abbrev pub AreSized : ModelParts → List Box → Type 0
+AreSized m boxes = AllByRecursion (λ b. length b ≡ length m.cells) boxes
 
 -- series as lists
 abbrev pub series_of : List (Vec ℤ) → List (List ℤ)

@@ -44,7 +44,7 @@ impl std::marker::Model for Checker {
     ghost use Rattle.ts_model.specs.Views.{model_parts};
     ghost use Rattle.ts_checker.specs.Checking.{Checking};
     ghost use Rattle.ts_checker.specs.Standings.{stand_of};
-    ghost use Rattle.ts_checker.specs.Subjects.{AreTables};
+    ghost use Rattle.ts_checker.specs.Subjects.{AreSized, AreTables};
 
     ghost Value = { Checking };
 
@@ -57,7 +57,8 @@ impl std::marker::Model for Checker {
     } };
 
     ghost invariant = { λ c.
-        AreTables (model_parts c.model) c.tables × IsBox (model_parts c.model).cells };
+        AreTables (model_parts c.model) c.tables × IsBox (model_parts c.model).cells
+        × AreSized (model_parts c.model) c.standing.frontier.boxes };
 }
 
 impl Checker {

@@ -10,7 +10,7 @@ ghost use Rattle.ts_model.specs.Promise.{IsWhole};
 ghost use Rattle.ts_model.specs.Views.{model_parts};
 ghost use Rattle.ts_spans.specs.Machines.{spans_in};
 ghost use Rattle.ts_checker.specs.Standings.{AreValues, MayStep, MayTake, stand_of};
-ghost use Rattle.ts_checker.specs.Subjects.{AreTables, series_of};
+ghost use Rattle.ts_checker.specs.Subjects.{AreSized, AreTables, series_of};
 
 use crate::head::{aim_fits, all_told, claim_fits, series_fits};
 use crate::rules::keeps_rule;
@@ -31,6 +31,7 @@ pub(crate) fn keeps_line(
     line: &Parsed,
 ) -> Result<bool, Memory>
     requires tables { AreTables (model_parts model.now) tables.old }
+    requires sized { AreSized (model_parts model.now) standing.old.frontier.boxes }
     requires values { AreValues line.now }
     ensures tables { tables.new ≡ tables.old }
     ensures same { stand_of standing.new ≡ stand_of standing.old }
@@ -84,7 +85,8 @@ fn keeps_tree(
     standing: &mut Standing,
     line: TreeLine,
 ) -> Result<bool, Memory>
-    requires { AreTables (model_parts model.now) tables.old }
+    requires tables { AreTables (model_parts model.now) tables.old }
+    requires sized { AreSized (model_parts model.now) standing.old.frontier.boxes }
     ensures tables { tables.new ≡ tables.old }
     ensures same { stand_of standing.new ≡ stand_of standing.old }
     ensures keeps { IfOk result (λ keeps. IsTrue keeps

@@ -28,7 +28,8 @@ pub(crate) fn keeps_rule(
     b: &Boxed,
     line: TreeLine,
 ) -> Result<bool, Memory>
-    requires { AreTables (model_parts model.now) tables.old }
+    requires tables { AreTables (model_parts model.now) tables.old }
+    requires size { length b.now.present ≡ length (model_parts model.now).cells }
     ensures same { tables.new ≡ tables.old }
     ensures keeps { IfOk result
         (λ keeps. IsTrue keeps ↔ KeepsRule (model_parts model.now) (spans_in (model_parts model.now))
@@ -62,7 +63,8 @@ fn is_drop(
     v: i64,
     j: u32,
 ) -> Result<bool, Memory>
-    requires { AreTables (model_parts model.now) tables.old }
+    requires tables { AreTables (model_parts model.now) tables.old }
+    requires size { length b.now.present ≡ length (model_parts model.now).cells }
     ensures same { tables.new ≡ tables.old }
     ensures keeps { IfOk result (λ keeps. IsTrue keeps
         ↔ IsDrop (model_parts model.now).requirements (spans_in (model_parts model.now)) k v j b.now.present) }
@@ -92,7 +94,8 @@ fn is_refuted(
     j: u32,
     p: u32,
 ) -> Result<bool, Memory>
-    requires { AreTables (model_parts model.now) tables.old }
+    requires tables { AreTables (model_parts model.now) tables.old }
+    requires size { length b.now.present ≡ length (model_parts model.now).cells }
     ensures same { tables.new ≡ tables.old }
     ensures keeps { IfOk result (λ keeps. IsTrue keeps
         ↔ IsRefuted (model_parts model.now).requirements (spans_in (model_parts model.now)) j p b.now.present) }
@@ -115,7 +118,8 @@ fn may_be_worse(
     b: &Boxed,
     p: u32,
 ) -> Result<bool, Memory>
-    requires { AreTables (model_parts model.now) tables.old }
+    requires tables { AreTables (model_parts model.now) tables.old }
+    requires size { length b.now.present ≡ length (model_parts model.now).cells }
     ensures same { tables.new ≡ tables.old }
     ensures keeps { IfOk result (λ keeps. IsTrue keeps
         ↔ MayBeWorse (model_parts model.now) (spans_in (model_parts model.now)) (head_in head.now) p b.now.present) }

@@ -1,6 +1,5 @@
 -- The spans of a model's terms are right, and a model that keeps its limits makes a problem that may be asked.
 use Rattle.std.proofs.Common.{◌≡◌, ◌≤◌, length, sym, subst, arith}
-use Rattle.std.proofs.lemmas.List.{length-map}
 use Rattle.ts_base.specs.Limits.{most_requirements, most_terms}
 use Rattle.ts_domain.specs.BoxSeries.{IsBox}
 use Rattle.ts_model.specs.declared.model.Model.{Model}
@@ -8,7 +7,8 @@ use Rattle.ts_model.specs.declared.model.Need.{Need}
 use Rattle.ts_model.specs.declared.model.Need.TheVariants.{List as NeedsList, Best as NeedsBest}
 use Rattle.ts_model.specs.Promise.{IsWhole, KeepsLimits}
 use Rattle.ts_model.specs.ModelParts.{ModelParts}
-use Rattle.ts_model.specs.Views.{model_parts, term_of}
+use Rattle.ts_model.specs.Views.{model_parts}
+use Rattle.ts_model.proofs.TermWindows.{terms_count}
 use Rattle.ts_spans.specs.Machines.{spans_in}
 use Rattle.ts_spans.proofs.OfTerms.{spans_hold_values, spans_tell_singles}
 use Rattle.ts_search.specs.RightSpans.{AreRight}
@@ -21,7 +21,7 @@ are_right m whole box = record { whole = whole; box = box; holds = spans_hold_va
 
 posed_with : (m : Model) → IsWhole (model_parts m) → (need : Need) → KeepsLimits need (model_parts m) → (q : Problem) → q.model.now ≡ m → IsPosed q
 posed_with m whole need limits q is_model =
-    let many = length-map m.terms.entries term_of in
+    let many = terms_count m.terms.entries m.windows.items in
     let terms = limits.terms in
     record {
       right = subst (λ z. AreRight (model_parts z) (spans_in (model_parts z))) (sym is_model) (are_right (model_parts m) whole limits.box);

@@ -3,11 +3,15 @@ use Rattle.std.proofs.Common.{◌≡◌, ◌↔◌, ℕ, ◌-◌, ◌<◌, ◌�
 use Rattle.std.proofs.lemmas.List.{length-map}
 use Rattle.std.proofs.lemmas.Option.{slice_get-get_or}
 use Rattle.std.specs.Prelude.{IsTrue, IfSome}
-use Rattle.ts_bound.specs.TermSpans.{Automata, term_span}
+use Rattle.std.specs.List.{AllByRecursion}
+use Rattle.ts_base.specs.Windows.{LooksInside}
+use Rattle.ts_bound.specs.TermSpans.{Automata, LooksIn, term_span}
 use Rattle.ts_domain.specs.Values.{IsDomain}
 use Rattle.ts_model.specs.declared.model.Require.{Require}
-use Rattle.ts_model.specs.Views.{model_parts, term_of}
+use Rattle.ts_model.specs.Views.{model_parts}
+use Rattle.ts_model.proofs.TermWindows.{terms_count}
 use Rattle.ts_spans.specs.Machines.{automata_for, automata_in}
+use Rattle.ts_spans.proofs.OfTerms.{window_looks, windows_look}
 use Rattle.ts_filter.specs.declared.bar.Bar.{Bar}
 use Rattle.ts_filter.specs.declared.drops.Removal.{Removal}
 use Rattle.ts_filter.specs.Boxes.{Box, HasCell, IsPart, values_at}
@@ -44,7 +48,7 @@ told_in q tables term Is Goal t lt h f = told_of tables term Is Goal lt h (λ a 
 module _ (q : Problem) (posed : IsPosed q) where
   -- the machines, one a term
   pub tables_count : (tables : List Automata) → AreTablesOf q tables → length tables ≡ length (search_of q).model.terms
-  tables_count tables t = ap length t ∙ length-map (search_of q).model.terms (λ z. automata_for z.1.pattern z.1.aggregator z.1.feature)
+  tables_count tables t = ap length t ∙ length-map (search_of q).model.terms (λ z. automata_for z.1)
 
   pub tables_long : (tables : List Automata) (term : ℕ) → AreTablesOf q tables → term < length (search_of q).model.terms → term < length tables
   tables_long tables term t lt = let same = tables_count tables t in omega (arith, same, lt)
@@ -64,7 +68,7 @@ module _ (q : Problem) (posed : IsPosed q) where
 
   -- the terms of the text are as many as those that are stated
   pub term_count : length (search_of q).model.terms ≡ length q.model.now.terms.entries
-  term_count = length-map q.model.now.terms.entries term_of
+  term_count = terms_count q.model.now.terms.entries q.model.now.windows.items
 
   pub part_size : (b : Box) → IsPart b (search_of q).model.cells → length b ≡ last (search_of q)
   part_size b i = inside_length b (search_of q).model.cells i.inside
@@ -73,6 +77,19 @@ module _ (q : Problem) (posed : IsPosed q) where
   some_cells = posed.right.whole.some
 
   module _ (b : Box) (i : IsPart b (search_of q).model.cells) where
+    -- the window of each machine ends at a cell of the box
+
+    pub each_looks : (tables : List Automata) → AreTablesOf q tables → AllByRecursion (λ a. LooksIn a b) tables
+    each_looks tables t =
+        subst (AllByRecursion (λ a. LooksIn a b)) (sym t)
+        (subst (λ n. AllByRecursion (λ (a : Automata). LooksInside n a.window) (automata_in (search_of q).model)) (sym (part_size b i))
+        (windows_look (search_of q).model posed.right.whole))
+
+    pub looks_of : (tables : List Automata) (term : ℕ) → AreTablesOf q tables → OfTerm tables term (λ a. LooksIn a b)
+    looks_of tables term t a has =
+        subst (λ n. LooksInside n a.window) (sym (part_size b i))
+        (window_looks (search_of q).model posed.right.whole term a (ap (λ l. slice_get l term) (sym t) ∙ has))
+
     -- requirement j with its machine
     module _ (j : ℕ) (r : Require) (a : Automata) (from : 1 ≤ j) (there : slice_get q.model.now.requirements.items (j - 1) ≡ Some r)
         (machine : slice_get (automata_in (model_parts q.model.now)) r.term ≡ Some a) where

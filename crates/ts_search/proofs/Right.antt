@@ -9,7 +9,7 @@ use Rattle.ts_base.specs.declared.ext.Ext.TheVariants.{NegInf}
 use Rattle.ts_base.specs.declared.goal.Goal.{Goal}
 use Rattle.ts_certificate.specs.declared.certificate.Aim.TheVariants.{Best as BestOf}
 use Rattle.ts_domain.specs.BoxSeries.{InBox}
-use Rattle.ts_pattern.specs.TermValue.{value_of as value_of_parts}
+use Rattle.ts_model.specs.TermValue.{stated_value}
 use Rattle.ts_model.specs.declared.model.Require.{Require}
 use Rattle.ts_model.specs.Compares.{compares}
 use Rattle.ts_model.specs.FirstBest.{value_of_term, objective_of}
@@ -36,7 +36,7 @@ each_from P (r ∷ rs) f = (f zero r refl, each_from P rs (λ i q e. f (suc i) q
 value_there : (m : ModelParts) (x : List ℤ) (term : ℕ) → term < length m.terms → (v : Ext) × (value_at m x term ≡ Some v)
 value_there m x term l =
     let n : term < length (values_on m x) =
-    omega (arith, l, length-map m.terms (λ t. value_of_parts t.1.aggregator t.1.feature t.1.pattern x)) in
+    omega (arith, l, length-map m.terms (λ t. stated_value t.1 x)) in
     (get_or (values_on m x) term NegInf, slice_get-get_or (values_on m x) term NegInf n)
 
 module _ (m : ModelParts) (s : Spans) (right : AreRight m s) where

@@ -18,8 +18,8 @@ use ts_domain::Boxed;
 use ts_filter::{AllTables, Removal};
 use ts_model::Model;
 
-/// A model and a goal; and the series of the dive, where there is one. A listing has neither goal nor dive, and its goal
-/// is never asked.
+/// A model and a goal; and the series of the dive, where there is one. A listing has neither goal nor dive, and its
+/// goal is never asked.
 #[derive(Drop)]
 pub(crate) struct Problem<'a> {
     pub(crate) model: &'a Model,

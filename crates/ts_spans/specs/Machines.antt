@@ -7,7 +7,7 @@ use Rattle.ts_automaton.specs.Body.{Body}
 use Rattle.ts_seed.specs.SeedTable.{seed_table}
 use Rattle.ts_compile.specs.TermPairs.{body_by, pair_by}
 use Rattle.ts_bound.specs.TermSpans.{Automata}
-use Rattle.ts_model.specs.ModelParts.{ModelParts}
+use Rattle.ts_model.specs.ModelParts.{ModelParts, StatedTerm}
 use Rattle.ts_filter.specs.MachineSpans.{spans_of}
 use Rattle.ts_filter.specs.RefutedWorseDrop.{Spans}
 
@@ -15,16 +15,17 @@ use Rattle.ts_filter.specs.RefutedWorseDrop.{Spans}
 abbrev pub forward_for : PatternId → Aggregator → Feature → Body
 forward_for id g f = body_by id id g f
 
--- the machine of a term: it can be split where its pattern has a partner
-abbrev pub automata_for : PatternId → Aggregator → Feature → Automata
-automata_for id g f = record {
-  forward = forward_for id g f;
-  pair = option_map (λ partner. pair_by id partner g f) (seed_table id).partner;
+-- the machine of a term: it can be split where its pattern has a partner, and looks at the cells that the term names
+abbrev pub automata_for : StatedTerm → Automata
+automata_for t = record {
+  forward = forward_for t.pattern t.aggregator t.feature;
+  pair = option_map (λ partner. pair_by t.pattern partner t.aggregator t.feature) (seed_table t.pattern).partner;
+  window = t.window;
 }
 
 -- those of a model's terms, in the order of the text
 abbrev pub automata_in : ModelParts → List Automata
-automata_in m = map (λ t. automata_for t.1.pattern t.1.aggregator t.1.feature) m.terms
+automata_in m = map (λ t. automata_for t.1) m.terms
 
 abbrev pub spans_in : ModelParts → Spans
 spans_in m = spans_of (automata_in m)

@@ -15,6 +15,9 @@ returns-in_default c =
     let w = wide_told c.in_ok-series.field-0 (form b) c.in_ok-series.ensures c.in_default.not-Alone in
     left_wide (search_of c.args.problem.now).model b w.0 w.1 w.2
 
+pub judge-requires-clause-whole : goal.judge-requires-clause-whole
+judge-requires-clause-whole c = c.requires.posed.right.whole
+
 -- the box is that of the one series
 pub judge-requires-clause-series : goal.judge-requires-clause-series
 judge-requires-clause-series c =

@@ -6,13 +6,18 @@ use Rattle.ts_filter.specs.OfTerm.{OfTerm}
 use Rattle.ts_search.specs.Drops.{least}
 use Rattle.ts_search.specs.LineOf.{is_cut_at, inner}
 use Rattle.ts_search.specs.Views.{search_of}
-use Rattle.ts_search.proofs.Posed.{first_cut_told, none_cut_without, objective_there, tables_long, told_in}
+use Rattle.ts_search.proofs.Posed.{first_cut_told, looks_of, none_cut_without, objective_there, tables_long, told_in}
 use Rattle.ts_search.proofs.problem.Problem.first_cut_by.Goals as goal
 
-pub first_cut-requires : goal.first_cut-requires
-first_cut-requires c =
+pub first_cut-requires-clause-there : goal.first_cut-requires-clause-there
+first_cut-requires-clause-there c =
     let q = c.args.self.now in
     tables_long q c.requires.posed c.args.tables.now c.in-Some.term c.requires.tables (objective_there q c.requires.posed c.in-Some.term c.in-Some.is)
+
+pub first_cut-requires-clause-looks : goal.first_cut-requires-clause-looks
+first_cut-requires-clause-looks c =
+    let q = c.args.self.now in
+    looks_of q c.requires.posed c.args.cells.now.present c.requires.part c.args.tables.now c.in-Some.term c.requires.tables
 
 pub returns-in-Some-clause-found : goal.returns-in-Some-clause-found
 returns-in-Some-clause-found c =

@@ -6,14 +6,19 @@ use Rattle.ts_filter.specs.OfTerm.{OfTerm}
 use Rattle.ts_search.specs.Drops.{least}
 use Rattle.ts_search.specs.LineOf.{inner, is_refuted_at}
 use Rattle.ts_search.specs.Views.{search_of}
-use Rattle.ts_search.proofs.Posed.{first_refuted_told, required_is, required_there, tables_long, told_in}
+use Rattle.ts_search.proofs.Posed.{first_refuted_told, looks_of, required_is, required_there, tables_long, told_in}
 use Rattle.ts_search.proofs.problem.Problem.first_refuted.Goals as goal
 
-pub first_refuted-requires : goal.first_refuted-requires
-first_refuted-requires c =
+pub first_refuted-requires-clause-there : goal.first_refuted-requires-clause-there
+first_refuted-requires-clause-there c =
     let q = c.args.self.now in let r = c.index-require.result.now in
     tables_long q c.requires.asked.posed c.args.tables.now r.term c.requires.asked.tables
     (required_there q c.requires.asked.posed c.args.j r (required_is q c.requires.asked.posed c.args.j r c.requires.from c.requires.to c.index-require.ensures))
+
+pub first_refuted-requires-clause-looks : goal.first_refuted-requires-clause-looks
+first_refuted-requires-clause-looks c =
+    let q = c.args.self.now in
+    looks_of q c.requires.asked.posed c.args.cells.now.present c.requires.asked.part c.args.tables.now c.index-require.result.now.term c.requires.asked.tables
 
 pub returns-clause-found : goal.returns-clause-found
 returns-clause-found c =

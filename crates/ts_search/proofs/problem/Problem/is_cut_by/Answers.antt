@@ -6,7 +6,7 @@ use Rattle.ts_filter.specs.Excluded.{Cuts}
 use Rattle.ts_filter.specs.OfTerm.{OfTerm}
 use Rattle.ts_search.specs.LineOf.{is_cut_at, last}
 use Rattle.ts_search.specs.Views.{search_of}
-use Rattle.ts_search.proofs.Posed.{cut_told, objective_there, part_size, some_cells, tables_long, told_in, uncut_without}
+use Rattle.ts_search.proofs.Posed.{cut_told, looks_of, objective_there, part_size, some_cells, tables_long, told_in, uncut_without}
 use Rattle.ts_search.proofs.problem.Problem.is_cut_by.Goals as goal
 
 pub cut_at_end-requires-clause-there : goal.cut_at_end-requires-clause-there
@@ -18,6 +18,11 @@ pub cut_at_end-requires-clause-some : goal.cut_at_end-requires-clause-some
 cut_at_end-requires-clause-some c =
     let size = part_size c.args.self.now c.requires.posed c.args.cells.now.present c.requires.part in
     let some = some_cells c.args.self.now c.requires.posed in omega (arith, size, some)
+
+pub cut_at_end-requires-clause-looks : goal.cut_at_end-requires-clause-looks
+cut_at_end-requires-clause-looks c =
+    let q = c.args.self.now in
+    looks_of q c.requires.posed c.args.cells.now.present c.requires.part c.args.tables.now c.in-Some.term c.requires.tables
 
 pub returns-in-Some-clause-told : goal.returns-in-Some-clause-told
 returns-in-Some-clause-told c =

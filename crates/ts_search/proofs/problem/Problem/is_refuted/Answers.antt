@@ -1,7 +1,7 @@
 use Rattle.std.proofs.lemmas.Result.{IfOk-weaker}
 use Rattle.ts_search.specs.LineOf.{last, is_refuted_at}
 use Rattle.ts_search.specs.Views.{search_of}
-use Rattle.ts_search.proofs.Posed.{part_size, refuted_told, required_is, required_there, some_cells, tables_long, told_in}
+use Rattle.ts_search.proofs.Posed.{looks_of, part_size, refuted_told, required_is, required_there, some_cells, tables_long, told_in}
 use Rattle.std.proofs.Common.{arith, ◌↔◌, ◌≡◌}
 use Rattle.std.specs.Prelude.{IsTrue}
 use Rattle.ts_bound.specs.TermSpans.{term_span}
@@ -23,6 +23,11 @@ refuted-requires-clause-cell c =
 
 pub refuted-requires-clause-usable : goal.refuted-requires-clause-usable
 refuted-requires-clause-usable c = λ a is plain. c.cells.ensures.count
+
+pub refuted-requires-clause-looks : goal.refuted-requires-clause-looks
+refuted-requires-clause-looks c =
+    let q = c.args.self.now in
+    looks_of q c.requires.asked.posed c.args.cells.now.present c.requires.asked.part c.args.tables.now c.index-require.result.now.term c.requires.asked.tables
 
 pub returns-clause-told : goal.returns-clause-told
 returns-clause-told c =

@@ -6,7 +6,7 @@ use Rattle.ts_filter.specs.OfTerm.{OfTerm}
 use Rattle.ts_domain.specs.Values.{least_of}
 use Rattle.ts_search.specs.Dive.{kept_for, kept_value}
 use Rattle.ts_search.specs.Views.{search_of}
-use Rattle.ts_search.proofs.Posed.{kept_told, objective_there, tables_long, told_in}
+use Rattle.ts_search.proofs.Posed.{kept_told, looks_of, objective_there, tables_long, told_in}
 use Rattle.ts_search.proofs.problem.Problem.kept_value.Goals as goal
 
 pub kept_value-requires-clause-there : goal.kept_value-requires-clause-there
@@ -14,6 +14,11 @@ kept_value-requires-clause-there c =
     let q = c.args.self.now in
     tables_long q c.requires.asked.posed c.args.tables.now c.in-Some.term c.requires.asked.tables
     (objective_there q c.requires.asked.posed c.in-Some.term c.in-Some.is)
+
+pub kept_value-requires-clause-looks : goal.kept_value-requires-clause-looks
+kept_value-requires-clause-looks c =
+    let q = c.args.self.now in
+    looks_of q c.requires.asked.posed c.args.cells.now.present c.requires.asked.part c.args.tables.now c.in-Some.term c.requires.asked.tables
 
 pub returns-in-Some-clause-kept : goal.returns-in-Some-clause-kept
 returns-in-Some-clause-kept c =

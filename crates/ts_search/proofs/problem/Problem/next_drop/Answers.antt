@@ -5,7 +5,7 @@ use Rattle.ts_filter.specs.Drops.{IsFirstDrop}
 use Rattle.ts_filter.specs.MachineSpans.{spans_of}
 use Rattle.ts_search.specs.Drops.{next_drop}
 use Rattle.ts_search.specs.Views.{search_of}
-use Rattle.ts_search.proofs.Posed.{next_drop_told, tables_count, term_count}
+use Rattle.ts_search.proofs.Posed.{each_looks, next_drop_told, tables_count, term_count}
 use Rattle.ts_search.proofs.problem.Problem.next_drop.Goals as goal
 
 -- the machines are as many as the terms, which a model has few of
@@ -24,6 +24,11 @@ next_drop-requires-clause-terms c =
     subst (λ n. AllByRecursion (λ r. r.term < n) c.deref.result.now) (sym (tables_count c.args.self.now c.requires.posed c.args.tables.now c.requires.tables))
     (subst (AllByRecursion (λ r. r.term < length (search_of c.args.self.now).model.terms)) (sym c.deref.ensures.value)
     c.requires.posed.right.whole.requirements)
+
+pub next_drop-requires-clause-looks : goal.next_drop-requires-clause-looks
+next_drop-requires-clause-looks c =
+    let q = c.args.self.now in
+    each_looks q c.requires.posed c.args.cells.now.present c.requires.part c.args.tables.now c.requires.tables
 
 pub returns-clause-found : goal.returns-clause-found
 returns-clause-found c =

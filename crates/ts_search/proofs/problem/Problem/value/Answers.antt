@@ -1,11 +1,18 @@
 use Rattle.std.proofs.Common.{◌≡◌, arith, Some}
 use Rattle.std.proofs.lemmas.Result.{IfOk-weaker}
 use Rattle.ts_model.specs.Meets.{value_at}
+use Rattle.ts_filter.proofs.SoundLaws.{series_length}
 use Rattle.ts_search.specs.Dive.{value_of}
 use Rattle.ts_search.specs.Views.{search_of}
 use Rattle.ts_search.proofs.Certified.{is_series, value_is, value_none}
 use Rattle.ts_search.proofs.Posed.{objective_there, term_count}
 use Rattle.ts_search.proofs.problem.Problem.value.Goals as goal
+
+pub value_of-requires-clause-whole : goal.value_of-requires-clause-whole
+value_of-requires-clause-whole c = c.requires.posed.right.whole
+
+pub value_of-requires-clause-cells : goal.value_of-requires-clause-cells
+value_of-requires-clause-cells c = series_length c.args.series.now (search_of c.args.self.now).model.cells c.requires.series
 
 pub value_of-requires-clause-term : goal.value_of-requires-clause-term
 value_of-requires-clause-term c =
