@@ -3,6 +3,7 @@ use Rattle.std.proofs.Common.{◌≡◌, ℕ, ◌+◌, ◌^◌, ◌<◌, ◌≤�
 use Rattle.std.proofs.lemmas.Bool.{and_from, le-leb}
 use Rattle.std.specs.List.{AllByRecursion, list_all}
 use Rattle.std.specs.Prelude.{codes, nat_le, unwrap_or}
+use Rattle.ts_base.specs.Windows.{LooksInside}
 use Rattle.ts_base.specs.declared.ext.Ext.{Ext}
 use Rattle.ts_base.specs.declared.goal.Goal.{Goal}
 use Rattle.ts_base.specs.Limits.{IsCellValue, most_cells, most_checked, most_domain_values, most_listed, most_model_bytes}
@@ -97,7 +98,8 @@ objective_fits m x v whole box meets is =
     let long = series_length x m.cells meets.inside in
     let some = whole.some in
     let few = whole.few in
-    value_fits_text m x v (omega (arith, long, some)) (omega (arith, long, few)) (cells_within x m.cells meets.inside box) is
+    value_fits_text m x v (omega (arith, long, some)) (omega (arith, long, few)) (cells_within x m.cells meets.inside box)
+    (subst (λ (n : ℕ). AllByRecursion (λ t. LooksInside n t.1.window) m.terms) (sym long) whole.windows) is
 
 -- the claims of solved and of listed certificates are in the grammar
 

@@ -12,7 +12,8 @@ use Rattle.ts_model.specs.declared.error.ModelKind.{ModelKind}
 use Rattle.ts_model.specs.declared.model.Need.TheVariants.{Values}
 use Rattle.ts_model.specs.ModelReading.{model_reading}
 use Rattle.ts_model.specs.ModelParts.{ModelParts}
-use Rattle.ts_model.specs.Views.{parts_of, term_of}
+use Rattle.ts_model.specs.declared.model.ModelTerm.{ModelTerm}
+use Rattle.ts_model.specs.Views.{model_term, stated_of, term_of}
 use Rattle.ts_compile.specs.Compiled.{machine_body, machine_pair}
 use Rattle.ts_compile.specs.ProgramText.{part_text, program_text}
 use Rattle.ts_run.specs.AnswerTexts.{OneCompileReply, ProgramReply}
@@ -35,13 +36,15 @@ same_term g h f e id other p q same_g same_f same_id =
     (subst (λ (z : Aggregator). (r : is_pair z f ≡ true) → term_with g f id p ≡ term_with z f id r) same_g
     (λ r. ap (term_with g f id) (Bool-set (is_pair g f) true p r))) q)
 
--- a term is its three names
-by_parts : (s t : Term) → parts_of s ≡ parts_of t → s ≡ t
+-- a term is its three names, and its window
+by_parts : (s t : ModelTerm) → stated_of s ≡ stated_of t → s ≡ t
 by_parts s t e =
-    same_term s.aggregator t.aggregator s.feature t.feature s.pattern t.pattern s.pair t.pair
-    (ap (λ p. p.aggregator) e) (ap (λ p. p.feature) e) (ap (λ p. p.pattern) e)
+    let term =
+    same_term s.term.aggregator t.term.aggregator s.term.feature t.term.feature s.term.pattern t.term.pattern s.term.pair t.term.pair
+    (ap (λ p. p.aggregator) e) (ap (λ p. p.feature) e) (ap (λ p. p.pattern) e) in
+    let window = ap (λ p. p.window) e in (λ i. model_term (term i) (window i))
 
-same_text : (ss ts : List (String Global × Term)) → map term_of ss ≡ map term_of ts → program_text ss ≡ program_text ts
+same_text : (ss ts : List (String Global × ModelTerm)) → map term_of ss ≡ map term_of ts → program_text ss ≡ program_text ts
 same_text [] [] h = refl
 same_text [] (t ∷ ts) h = cc
 same_text (s ∷ ss) [] h = cc
@@ -50,7 +53,7 @@ same_text (s ∷ ss) (t ∷ ts) h =
     let more : map term_of ss ≡ map term_of ts = cc in
     let name = ap (λ p. p.0) one in
     let term = by_parts s.1 t.1 (ap (λ p. p.1) one) in
-    let rest = same_text ss ts more in (λ i. part_text (name i) (term i) (machine_body (term i)) (machine_pair (term i)) ++ rest i)
+    let rest = same_text ss ts more in (λ i. part_text (name i) (term i) (machine_body (term i).term) (machine_pair (term i).term) ++ rest i)
 
 one_text : (m : ModelParts) (x y : List ℕ) → IsProgramText m x → IsProgramText m y → x ≡ y
 one_text m x y h k = h.text_is ∙ same_text h.terms k.terms (h.terms_are ∙ sym k.terms_are) ∙ sym k.text_is

@@ -25,7 +25,7 @@ use Rattle.ts_run.proofs.CompileLaws.{says_program}
 use Rattle.ts_run.proofs.MarkLaws.{says_marks}
 use Rattle.ts_run.proofs.SampleLaws.{says_sample}
 use Rattle.ts_run.proofs.VerifyLaws.{says_verdict}
-use Rattle.ts_run.proofs.WatchReplies.{says_values}
+use Rattle.ts_run.proofs.WatchReplies.{says_watched}
 
 -- the input is within its limit
 abbrev pub FitsIn : List ℕ → Input → Type 0
@@ -95,6 +95,6 @@ module _ (command : Command) (bytes : List ℕ) (r : Reply) (ranges : KeepsRange
     watches = λ m e states.
         let here : States Watch bytes m = states_as Watch e m states in
         let read : model_reading Values (model_part bytes) ≡ Ok m = cc in
-        says_values bytes m r read (reply_as Watch e);
+        says_watched bytes m r read (reply_as Watch e);
     reply = is;
   }

@@ -9,9 +9,14 @@ use Rattle.ts_base.specs.Limits.{most_terms, too_many}
 use Rattle.ts_base.specs.Words.{without_lf}
 use Rattle.ts_compile.specs.Programs.{terms_of}
 use Rattle.ts_pattern.specs.declared.term.Term.{Term}
-use Rattle.ts_pattern.specs.TermValue.{term_value, value_of as value_on}
+use Rattle.ts_pattern.specs.TermValue.{term_value}
 use Rattle.ts_model.specs.declared.model.Model.{Model}
-use Rattle.ts_model.specs.Views.{model_parts, term_of}
+use Rattle.ts_base.specs.Windows.{looked_at}
+use Rattle.ts_base.specs.declared.range.Range.{Range}
+use Rattle.ts_model.specs.declared.model.ModelTerm.{ModelTerm}
+use Rattle.ts_model.specs.TermValue.{has_window, stated_value}
+use Rattle.ts_model.specs.Views.{model_parts, stated_of, term_of, terms_in}
+use Rattle.ts_model.proofs.TermWindows.{any_window, none_windowed}
 use Rattle.ts_decorate.specs.Answers.{longest}
 use Rattle.ts_token.specs.Gist.{AreEnded, IsLine, StandsFor, first_of, gist, heads, without_end}
 use Rattle.ts_token.specs.Short.{IsShort, TakesIn}
@@ -31,7 +36,7 @@ use Rattle.ts_model.proofs.ModelTexts.{ended_line, one_line}
 use Rattle.ts_monitor.specs.Monitors.{StandsFor as Stands, Watched}
 use Rattle.ts_run.specs.Reply.{Reply}
 use Rattle.ts_run.specs.Streams.{AddsDue, AddsReply, Due}
-use Rattle.ts_run.specs.Watch.{Readings as ReadingsOf, after_values, bad_at, due_from, due_on, end_of, line_gives, line_onto, only_value, readings_from, readings_of, refused_reading, reply_on, values_due, values_line, values_lines, values_reply, words_give}
+use Rattle.ts_run.specs.Watch.{Readings as ReadingsOf, after_values, bad_at, end_of, line_gives, line_onto, lines_due, only_value, readings_due, readings_from, readings_of, readings_reply, refused_reading, values_due, values_line, values_lines, values_reply, words_give}
 use Rattle.ts_run.specs.Watching.{AreReadings, EndsLine, HasTaken, HasTerms, IsNext, MayRead, ReadsLine}
 use Rattle.ts_run.specs.declared.readings.Reading.{Reading}
 use Rattle.ts_run.specs.declared.readings.Reading.TheVariants.{Skipped, Value, Bad}
@@ -193,9 +198,9 @@ module _ (m : ModelParts) (bytes part : List ℕ) (old : Readings) (h : AreReadi
   whole_is =
       ap whole_lines h.parts ∙ h.whole h.line ∙ ap (λ (x : List ℕ). h.text ++ x) (whole_unfinished h.line h.free) ∙ append-nil h.text
 
-  pub due_is : due_from (Ok m) bytes ≡ record { text = values_lines m [] h.values; ended = None }
+  pub due_is : readings_due m bytes ≡ record { text = values_lines m [] h.values; ended = None }
   due_is =
-      ap (due_on (Ok m)) whole_is ∙ ap (values_due m) h.taken.good
+      ap (lines_due m) whole_is ∙ ap (values_due m) h.taken.good
       ∙ ap (λ (t : List ℕ). record { text = t; ended = None }) (append-nil (values_lines m [] h.values))
 
   parts_more : bytes ++ part ≡ h.text ++ (h.line ++ part)
@@ -234,11 +239,11 @@ module _ (m : ModelParts) (bytes part : List ℕ) (old : Readings) (h : AreReadi
         ap whole_lines (parts_more ∙ sym (append-nil (h.text ++ (h.line ++ part))))
         ∙ whole_append h.text (h.line ++ part) h.whole (whole_finished (h.line ++ part) line_is) [] ∙ append-nil (h.text ++ (h.line ++ part))
 
-    due_now : (r : ReadingsOf) → readings_of (h.text ++ (h.line ++ part)) ≡ r → due_from (Ok m) (bytes ++ part) ≡ values_due m r
-    due_now r e = ap (due_on (Ok m)) whole_now ∙ ap (values_due m) e
+    due_now : (r : ReadingsOf) → readings_of (h.text ++ (h.line ++ part)) ≡ r → readings_due m (bytes ++ part) ≡ values_due m r
+    due_now r e = ap (lines_due m) whole_now ∙ ap (values_due m) e
 
     pub line_adds : (before after : List ℕ) (ended : Option Status) (new : Readings) → EndsLine m (h.text ++ (h.line ++ part)) h.values before after ended new →
-        AddsDue (due_from (Ok m)) bytes part before after
+        AddsDue (readings_due m) bytes part before after
     line_adds before after None new e = (
       values_lines m h.values e.0,
       e.1,
@@ -253,7 +258,7 @@ module _ (m : ModelParts) (bytes part : List ℕ) (old : Readings) (h : AreReadi
     )
 
     pub line_ends : (before after : List ℕ) (ended : Option Status) (new : Readings) → EndsLine m (h.text ++ (h.line ++ part)) h.values before after ended new →
-        (due_from (Ok m) (bytes ++ part)).ended ≡ ended
+        (readings_due m (bytes ++ part)).ended ≡ ended
     line_ends before after None new e = ap (λ (d : Due). d.ended) (due_now (record { values = h.values ++ e.0; bad = None }) e.2.good)
     line_ends before after (Some status) new e =
         ap (λ (d : Due). d.ended) (due_now (record { values = h.values; bad = Some e.0 }) e.1) ∙ ap (λ (s : Status). Some s) (sym e.2)
@@ -278,15 +283,15 @@ module _ (m : ModelParts) (bytes part : List ℕ) (old new : Readings) (h : AreR
   then_on_line : AreReadings m (bytes ++ part) new
   then_on_line = on_line m bytes part old h new lines monitor pushed none is
 
-  pub on_line_adds : (before after : List ℕ) → after ≡ before → AddsDue (due_from (Ok m)) bytes part before after
+  pub on_line_adds : (before after : List ℕ) → after ≡ before → AddsDue (readings_due m) bytes part before after
   unfolding then_on_line on_line
   on_line_adds before after same = (
     [],
     same ∙ sym (append-nil before),
-    ap (λ (d : Due). d.text) (due_is m (bytes ++ part) [] new then_on_line ∙ sym (due_is m bytes [] old h)) ∙ sym (append-nil (due_from (Ok m) bytes).text),
+    ap (λ (d : Due). d.text) (due_is m (bytes ++ part) [] new then_on_line ∙ sym (due_is m bytes [] old h)) ∙ sym (append-nil (readings_due m bytes).text),
   )
 
-  pub on_line_open : (due_from (Ok m) (bytes ++ part)).ended ≡ None
+  pub on_line_open : (readings_due m (bytes ++ part)).ended ≡ None
   on_line_open = ap (λ (d : Due). d.ended) (due_is m (bytes ++ part) [] new then_on_line)
 
 -- the line of a part with its LF is read
@@ -362,7 +367,7 @@ few_kept r kept h short =
 module _ (m : ModelParts) (bytes : List ℕ) (old : Readings) (h : AreReadings m bytes old) where
   replies : (r : ReadingsOf) (before after more : List ℕ) (status : Status) → readings_of bytes ≡ r → after ≡ before ++ more →
       values_reply m r ≡ record { text = values_lines m [] h.values ++ more; status = status } →
-      AddsReply (due_from (Ok m) bytes) (reply_on (Ok m) bytes) before after status
+      AddsReply (readings_due m bytes) (readings_reply m bytes) before after status
   replies r before after more status e put is = (
     more,
     put,
@@ -371,7 +376,7 @@ module _ (m : ModelParts) (bytes : List ℕ) (old : Readings) (h : AreReadings m
 
   -- behind a line with its LF
   pub ends_none : (before after : List ℕ) (count : ℕ) (status : Status) → ((l : List ℕ) → IsShort l old.line → l ≡ []) → count ≡ old.monitor.count →
-      after ≡ before ++ (end_of count).text → status ≡ Done → AddsReply (due_from (Ok m) bytes) (reply_on (Ok m) bytes) before after status
+      after ≡ before ++ (end_of count).text → status ≡ Done → AddsReply (readings_due m bytes) (readings_reply m bytes) before after status
   ends_none before after count status none counted put same =
       let whole : bytes ≡ h.text = h.parts ∙ ap (λ (x : List ℕ). h.text ++ x) (none h.line h.short) ∙ append-nil h.text in
       let long : count ≡ length h.values = counted ∙ h.taken.stands.count in
@@ -386,7 +391,7 @@ module _ (m : ModelParts) (bytes : List ℕ) (old : Readings) (h : AreReadings m
 
     -- behind a last line without one, which is good
     pub ends_good : (after : List ℕ) (count : ℕ) (status : Status) → ReadsLine old before mid None new → count ≡ new.monitor.count →
-        after ≡ mid ++ (end_of count).text → status ≡ Done → AddsReply (due_from (Ok m) bytes) (reply_on (Ok m) bytes) before after status
+        after ≡ mid ++ (end_of count).text → status ≡ Done → AddsReply (readings_due m bytes) (readings_reply m bytes) before after status
     ends_good after count status reads counted put same =
         let e = last_line_come None reads in
         let long : count ≡ length (h.values ++ e.0) = counted ∙ e.2.stands.count in
@@ -400,7 +405,7 @@ module _ (m : ModelParts) (bytes : List ℕ) (old : Readings) (h : AreReadings m
         ∙ append_assoc (values_lines m [] h.values) (values_lines m h.values e.0) (end_of count).text))
 
     -- or bad
-    pub ends_bad : (status : Status) → ReadsLine old before mid (Some status) new → AddsReply (due_from (Ok m) bytes) (reply_on (Ok m) bytes) before mid status
+    pub ends_bad : (status : Status) → ReadsLine old before mid (Some status) new → AddsReply (readings_due m bytes) (readings_reply m bytes) before mid status
     ends_bad status reads =
         let e = last_line_come (Some status) reads in
         replies (record { values = h.values; bad = Some e.0 }) before mid (refused_reading e.0).text status (ap readings_of h.parts ∙ e.1) e.3
@@ -408,21 +413,26 @@ module _ (m : ModelParts) (bytes : List ℕ) (old : Readings) (h : AreReadings m
 
 -- before the first reading
 
-term_values : (xs : List ℤ) (es : List (String Global × Term)) →
-    map (λ t. term_value t xs) (map (λ e. e.1) es) ≡ map (λ t. value_on t.1.aggregator t.1.feature t.1.pattern xs) (map term_of es)
-term_values xs [] = refl
-term_values xs (e ∷ es) = ap (λ (vs : List Ext). term_value e.1 xs ∷ vs) (term_values xs es)
+-- the terms of a model without windows have the values of all readings
+term_values : (xs : List ℤ) (es : List (String Global × ModelTerm)) → any_window es ≡ false →
+    map (λ t. term_value t xs) (map (λ e. e.1.term) es) ≡ map (λ t. stated_value t.1 xs) (map term_of es)
+term_values xs [] none = refl
+term_values xs (e ∷ es) none =
+    let whole = none_windowed e es none in
+    ap (λ (w : Option Range). term_value e.1.term (looked_at w xs) ∷ map (λ t. term_value t xs) (map (λ e. e.1.term) es)) (sym whole.0)
+    ∙ ap (λ (vs : List Ext). stated_value (stated_of e.1) xs ∷ vs) (term_values xs es whole.1)
 
-few_first : (es : List (String Global × Term)) (ts : List Term) → ts ≡ map (λ e. e.1) es → length (map term_of es) ≤ most_terms → length ts ≤ most_terms
+few_first : (es : List (String Global × ModelTerm)) (ts : List Term) → ts ≡ map (λ e. e.1.term) es → length (map term_of es) ≤ most_terms →
+    length ts ≤ most_terms
 few_first es ts is few =
     let same = ap (λ (x : List Term). length x) is in
-    let firsts = length-map es (λ e. e.1) in
+    let firsts = length-map es (λ e. e.1.term) in
     let all = length-map es term_of in
     omega (arith, same, firsts, all, few)
 
-pub first_readings : (model : Model) (r : Readings) → length (model_parts model).terms ≤ most_terms → r.lines ≡ 0 → Stands r.monitor [] →
+pub first_readings : (model : Model) (r : Readings) → length (model_parts model).terms ≤ most_terms → has_window (model_parts model) ≡ false → r.lines ≡ 0 → Stands r.monitor [] →
     r.monitor.terms ≡ terms_of model → IsShort [] r.line → AreReadings (model_parts model) [] r
-first_readings model r few none stands terms short = record {
+first_readings model r few windowless none stands terms short = record {
   text = [];
   line = [];
   values = [];
@@ -434,8 +444,8 @@ first_readings model r few none stands terms short = record {
     count = none;
     stands = stands;
     terms = record {
-      values = λ xs. ap (map (λ t. term_value t xs)) terms ∙ term_values xs model.terms.entries;
-      few = few_first model.terms.entries r.monitor.terms terms few;
+      values = λ xs. ap (map (λ t. term_value t xs)) terms ∙ term_values xs (terms_in model) windowless;
+      few = few_first (terms_in model) r.monitor.terms terms few;
     };
   };
   free = refl;

@@ -1,8 +1,9 @@
 -- The parts of the model of `sample`, as they are made; and that it keeps the limits of a model with an objective.
-use Rattle.std.proofs.Common.{◌≡◌, ℕ, zero, suc, ◌+◌, ◌-◌, ◌*◌, ◌%◌, ◌<◌, ◌≤◌, ℤ, pos, negsuc, ◌+ℤ◌, w64, to_z, of_z, inl, inr, ◌↔◌, List, [], ◌∷◌, ◌++◌, length, get_or, refl, sym, ◌∙◌, ap, subst, arith, mod-lt}
+use Rattle.std.proofs.Common.{◌≡◌, ℕ, zero, suc, ◌+◌, ◌-◌, ◌*◌, ◌%◌, ◌<◌, ◌≤◌, ℤ, pos, negsuc, ◌+ℤ◌, w64, to_z, of_z, inl, inr, ◌↔◌, List, [], ◌∷◌, ◌++◌, length, get_or, map, refl, sym, ◌∙◌, ap, subst, arith, mod-lt}
 use Rattle.std.proofs.lemmas.Int.{fits_signed_from_abs, ints, to_z-of_z}
 use Rattle.std.proofs.lemmas.List.Sums.{sum_by-cons}
-use Rattle.std.specs.Prelude.{Contains, Some, unsigned_abs, ◌≤ℤ◌, ◌<ℤ◌}
+use Rattle.std.specs.Prelude.{Contains, Option, String, Some, unsigned_abs, ◌≤ℤ◌, ◌<ℤ◌}
+use Rattle.std.specs.Global.{Global}
 use Rattle.std.specs.List.{AllByRecursion}
 use Rattle.ts_base.specs.declared.ext.Ext.TheVariants.{Int}
 use Rattle.ts_base.specs.Limits.{IsCellValue, most_cells}
@@ -16,7 +17,10 @@ use Rattle.ts_model.specs.declared.model.Op.TheVariants.{AtMost}
 use Rattle.ts_model.specs.declared.model.Require.{Require}
 use Rattle.ts_model.specs.ModelParts.{ModelParts, total_of}
 use Rattle.ts_run.specs.Quantities.{IsWithin}
-use Rattle.ts_run.specs.SampleModel.{cells_from, least_of, sample_stated, six_from}
+use Rattle.ts_model.specs.declared.model.Window.{Window}
+use Rattle.ts_model.specs.Views.{term_of, with_windows}
+use Rattle.ts_pattern.specs.declared.term.Term.{Term}
+use Rattle.ts_run.specs.SampleModel.{cells_from, least_of, no_windows, sample_stated, six_from}
 
 -- Six values as a set.
 
@@ -240,6 +244,7 @@ sample_whole n h =
     record {
       some = omega (arith, count, some);
       few = omega (arith, count, few);
+      windows = (tt, (tt, tt));
       requirements = (omega arith, tt);
       objective = omega arith;
     }
@@ -256,6 +261,11 @@ sample_limits n h =
       bounds = (refl, tt);
       objective = λ e. refl;
     }
+
+-- the terms with the windows that were made
+pub windows_made : (es : List (String Global × Term)) (ws : List (Option Window)) → ws ≡ no_windows →
+    map term_of (with_windows es no_windows) ≡ (sample_stated 1).terms → map term_of (with_windows es ws) ≡ (sample_stated 1).terms
+windows_made es ws none is = ap (λ (z : List (Option Window)). map term_of (with_windows es z)) none ∙ is
 
 -- a model of these parts is the one that is asked for
 pub model_is : (n : ℕ) (m : ModelParts) (old : List Require) → m.cells ≡ cells_from 1 n → m.terms ≡ (sample_stated 1).terms → old ≡ [] →

@@ -12,6 +12,11 @@ use Rattle.ts_pattern.specs.declared.name.Aggregator.{Aggregator}
 use Rattle.ts_pattern.specs.declared.name.Feature.{Feature}
 use Rattle.ts_pattern.specs.declared.name.PatternId.{PatternId}
 use Rattle.ts_pattern.specs.PatternTable.{pattern_shape, pattern_b, pattern_a}
+use Rattle.std.specs.List.{AllByRecursion}
+use Rattle.ts_base.specs.Windows.{LooksInside, looked_at}
+use Rattle.ts_base.proofs.WindowLaws.{each_looked, few_looked, some_looked}
+use Rattle.ts_model.specs.ModelParts.{StatedTerm}
+use Rattle.ts_model.specs.TermValue.{stated_value}
 use Rattle.ts_pattern.specs.TermValue.{aggregate_of_ranges, value_of}
 use Rattle.ts_validate.proofs.Law.{closed_valid}
 use Rattle.ts_automaton.specs.declared.state.Mark.{Mark}
@@ -80,11 +85,17 @@ ext_fits (Int (pos n)) h = lt-ltb n 9223372036854775808 (omega (arith, h))
 ext_fits (Int (negsuc n)) h = lt-ltb n 9223372036854775808 (omega (arith, h))
 ext_fits PosInf h = refl
 
-at_place : {T : Type 0} (value : T → Ext) → ((t : T) → size_of (value t) ≤ most_size) → (ts : List T) (k : ℕ) (v : Ext) →
-    slice_get (map value ts) k ≡ Some v → size_of v ≤ most_size
-at_place value small [] k v e = absurd (let g : ◌≡◌ {A = Option Ext} None (Some v) = e in cc)
-at_place value small (t ∷ ts) zero v e = subst (λ z. size_of z ≤ most_size) (same_Some (value t) v e) (small t)
-at_place value small (t ∷ ts) (suc k) v e = at_place value small ts k v e
+at_place : (x : List ℤ) → 1 ≤ length x → length x ≤ 512 → AreCellValues x → (ts : List (List ℕ × StatedTerm)) →
+    AllByRecursion (λ t. LooksInside (length x) t.1.window) ts → (k : ℕ) (v : Ext) → slice_get (map (λ t. stated_value t.1 x) ts) k ≡ Some v →
+    size_of v ≤ most_size
+at_place x some short cells [] inside k v e = absurd (let g : ◌≡◌ {A = Option Ext} None (Some v) = e in cc)
+at_place x some short cells (t ∷ ts) inside zero v e =
+    let w = t.1.window in
+    let few = few_looked w x inside.0 in
+    subst (λ z. size_of z ≤ most_size) (same_Some (stated_value t.1 x) v e)
+    (value_small t.1.pattern t.1.aggregator t.1.feature (looked_at w x) (some_looked w x some inside.0) (omega (arith, few, short))
+    (each_looked IsCellValue w x cells))
+at_place x some short cells (t ∷ ts) inside (suc k) v e = at_place x some short cells ts inside.1 k v e
 
 -- a series of a box has values of cells
 pub cells_within : (x : List ℤ) (b : List (List ℤ)) → InBox x b → IsBox b → AreCellValues x
@@ -93,13 +104,12 @@ cells_within [] (d ∷ b) h i = absurd h
 cells_within (v ∷ x) [] h i = absurd h
 cells_within (v ∷ x) (d ∷ b) h i = (each_contains IsCellValue d v i.0.within h.0, cells_within x b h.1 i.1)
 
-by_place : (m : ModelParts) (x : List ℤ) (v : Ext) (o : Option ℕ) → 1 ≤ length x → length x ≤ 512 → AreCellValues x → value_of_term m x o ≡ Some v →
-    is_ext v ≡ true
-by_place m x v None some short cells e = absurd (let g : ◌≡◌ {A = Option Ext} None (Some v) = e in cc)
-by_place m x v (Some term) some short cells e =
-    ext_fits v (at_place (λ t. value_of t.1.aggregator t.1.feature t.1.pattern x) (λ t. value_small t.1.pattern t.1.aggregator t.1.feature x some short cells)
-    m.terms term v e)
+by_place : (m : ModelParts) (x : List ℤ) (v : Ext) (o : Option ℕ) → 1 ≤ length x → length x ≤ 512 → AreCellValues x →
+    AllByRecursion (λ t. LooksInside (length x) t.1.window) m.terms → value_of_term m x o ≡ Some v → is_ext v ≡ true
+by_place m x v None some short cells inside e = absurd (let g : ◌≡◌ {A = Option Ext} None (Some v) = e in cc)
+by_place m x v (Some term) some short cells inside e = ext_fits v (at_place x some short cells m.terms inside term v e)
 
 -- the number of the objective is written within 64 bits
-pub objective_fits : (m : ModelParts) (x : List ℤ) (v : Ext) → 1 ≤ length x → length x ≤ 512 → AreCellValues x → objective_of m x ≡ Some v → is_ext v ≡ true
-objective_fits m x v some short cells e = by_place m x v m.objective some short cells e
+pub objective_fits : (m : ModelParts) (x : List ℤ) (v : Ext) → 1 ≤ length x → length x ≤ 512 → AreCellValues x →
+    AllByRecursion (λ t. LooksInside (length x) t.1.window) m.terms → objective_of m x ≡ Some v → is_ext v ≡ true
+objective_fits m x v some short cells inside e = by_place m x v m.objective some short cells inside e

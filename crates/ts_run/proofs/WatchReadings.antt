@@ -10,10 +10,11 @@ use Rattle.ts_token.specs.Text.{lines_of}
 use Rattle.ts_model.specs.declared.error.ModelKind.{ModelKind}
 use Rattle.ts_model.specs.Meets.{values_on}
 use Rattle.ts_model.specs.ModelParts.{ModelParts}
-use Rattle.ts_run.specs.Refusals.{kind_word, refused_model}
+use Rattle.ts_model.specs.TermValue.{has_window}
+use Rattle.ts_run.specs.Refusals.{kind_word, refused_model, refused_window}
 use Rattle.ts_run.specs.Reply.{ComesOfInput, Reply}
 use Rattle.ts_run.specs.Streams.{Due, IsFront, IsLines}
-use Rattle.ts_run.specs.Watch.{Readings, after_values, bad_at, due_on, end_due, last_line, line_gives, line_onto, readings_from, readings_of, refusal_due, reply_on, values_due, values_line, values_lines, values_reply}
+use Rattle.ts_run.specs.Watch.{Readings, after_values, bad_at, due_on, end_due, last_line, line_gives, line_onto, lines_due, readings_from, readings_of, readings_reply, refusal_due, refused_due, reply_on, values_due, values_line, values_lines, values_reply}
 use Rattle.ts_run.specs.declared.status.Status.{Status}
 use Rattle.ts_run.specs.declared.status.Status.TheVariants.{Refused}
 use Rattle.ts_run.proofs.StreamLaws.{front_all, lines_behind}
@@ -135,42 +136,84 @@ module _ (m : ModelParts) where
             ∙ ap (λ s. record { text = (values_due m r).text; status = s }) status_is,
       )
 
--- by how the model in front was read
+-- readings behind whole lines of others
 
-module _ (rest more : List ℕ) (ended : AreEnded rest) where
+module _ (m : ModelParts) (rest more : List ℕ) (ended : AreEnded rest) where
   abbrev again : Readings
   again = readings_from (0 + length (readings_of rest).values) (1 + length (lines_of rest)) (lines_of more)
 
-  pub due_grows : (found : Result ModelParts (ℕ × ModelKind)) → IsFront (due_on found rest).text (due_on found (rest ++ more)).text
-  due_grows (Err bad) = front_all (refused_model bad.0 bad.1).text
-  due_grows (Ok m) =
+  lines_grow : IsFront (lines_due m rest).text (lines_due m (rest ++ more)).text
+  lines_grow =
       subst (λ (x : Readings). IsFront (values_due m (readings_of rest)).text (values_due m x).text) (sym (more_text rest more ended))
       (owed_by m (readings_of rest).bad (readings_of rest).values again (readings_of rest) refl)
 
-  pub due_begins : (found : Result ModelParts (ℕ × ModelKind)) → IsFront (due_on found rest).text (reply_on found (rest ++ more)).text
-  due_begins (Err bad) = front_all (refused_model bad.0 bad.1).text
-  due_begins (Ok m) =
+  lines_begin : IsFront (lines_due m rest).text (readings_reply m (rest ++ more)).text
+  lines_begin =
       subst (λ (x : Readings). IsFront (values_due m (readings_of rest)).text (values_reply m x).text) (sym (more_text rest more ended))
       (replied_by m (readings_of rest).bad (readings_of rest).values again (readings_of rest) refl)
+
+  lines_over : (status : Status) → (lines_due m rest).ended ≡ Some status → lines_due m (rest ++ more) ≡ lines_due m rest
+  lines_over status e =
+      ap (values_due m) (more_text rest more ended ∙ (closed_by m (readings_of rest).bad status (readings_of rest) again refl e).0)
+
+  lines_close : (status : Status) → (lines_due m rest).ended ≡ Some status →
+      readings_reply m (rest ++ more) ≡ record { text = (lines_due m rest).text; status = status }
+  lines_close status e =
+      let closed = closed_by m (readings_of rest).bad status (readings_of rest) again refl e in
+      ap (values_reply m) (more_text rest more ended ∙ closed.0) ∙ closed.1
+
+-- a refusal stays what it is
+
+refusal_over : (r : Reply) (status : Status) → r.status ≡ Refused → (refused_due r).ended ≡ Some status →
+    r ≡ record { text = (refused_due r).text; status = status }
+refusal_over r status is e =
+    let same : Refused ≡ status = cc in ap (λ s. record { text = r.text; status = s }) (is ∙ same)
+
+-- by how the model in front was read
+
+module _ (rest more : List ℕ) (ended : AreEnded rest) where
+  pub due_grows : (found : Result ModelParts (ℕ × ModelKind)) → IsFront (due_on found rest).text (due_on found (rest ++ more)).text
+  due_grows (Err bad) = front_all (refused_model bad.0 bad.1).text
+  due_grows (Ok m) = go (has_window m) where
+    go : (b : Bool) → IsFront (cond b (refused_due refused_window) (lines_due m rest)).text
+        (cond b (refused_due refused_window) (lines_due m (rest ++ more))).text
+    go true = front_all refused_window.text
+    go false = lines_grow m rest more ended
+
+  pub due_begins : (found : Result ModelParts (ℕ × ModelKind)) → IsFront (due_on found rest).text (reply_on found (rest ++ more)).text
+  due_begins (Err bad) = front_all (refused_model bad.0 bad.1).text
+  due_begins (Ok m) = go (has_window m) where
+    go : (b : Bool) → IsFront (cond b (refused_due refused_window) (lines_due m rest)).text
+        (cond b refused_window (readings_reply m (rest ++ more))).text
+    go true = front_all refused_window.text
+    go false = lines_begin m rest more ended
 
   pub due_over : (found : Result ModelParts (ℕ × ModelKind)) (status : Status) → (due_on found rest).ended ≡ Some status →
       due_on found (rest ++ more) ≡ due_on found rest
   due_over (Err bad) status e = refl
-  due_over (Ok m) status e =
-      ap (values_due m) (more_text rest more ended ∙ (closed_by m (readings_of rest).bad status (readings_of rest) again refl e).0)
+  due_over (Ok m) status e = go (has_window m) e where
+    go : (b : Bool) → (cond b (refused_due refused_window) (lines_due m rest)).ended ≡ Some status →
+        cond b (refused_due refused_window) (lines_due m (rest ++ more)) ≡ cond b (refused_due refused_window) (lines_due m rest)
+    go true e = refl
+    go false e = lines_over m rest more ended status e
 
   pub due_closes : (found : Result ModelParts (ℕ × ModelKind)) (status : Status) → (due_on found rest).ended ≡ Some status →
       reply_on found (rest ++ more) ≡ record { text = (due_on found rest).text; status = status }
-  due_closes (Err bad) status e =
-      let same : Refused ≡ status = cc in ap (λ s. record { text = (refused_model bad.0 bad.1).text; status = s }) same
-  due_closes (Ok m) status e =
-      let closed = closed_by m (readings_of rest).bad status (readings_of rest) again refl e in
-      ap (values_reply m) (more_text rest more ended ∙ closed.0) ∙ closed.1
+  due_closes (Err bad) status e = refusal_over (refused_model bad.0 bad.1) status refl e
+  due_closes (Ok m) status e = go (has_window m) e where
+    go : (b : Bool) → (cond b (refused_due refused_window) (lines_due m rest)).ended ≡ Some status →
+        cond b refused_window (readings_reply m (rest ++ more))
+        ≡ record { text = (cond b (refused_due refused_window) (lines_due m rest)).text; status = status }
+    go true e = refusal_over refused_window status refl e
+    go false e = lines_close m rest more ended status e
 
 pub due_lines : (found : Result ModelParts (ℕ × ModelKind)) (rest : List ℕ) → IsLines (due_on found rest).text
 due_lines (Err bad) rest = inr (codes "refused model line " ++ decimal bad.0 ++ codes " " ++ kind_word bad.1, refl)
-due_lines (Ok m) rest =
-    let r = readings_of rest in lines_behind (values_lines m [] r.values) (refusal_due r.bad) (are_lines m [] r.values) (refusal_lines r.bad)
+due_lines (Ok m) rest = go (has_window m) where
+  go : (b : Bool) → IsLines (cond b (refused_due refused_window) (lines_due m rest)).text
+  go true = inr (codes "refused window", refl)
+  go false =
+      let r = readings_of rest in lines_behind (values_lines m [] r.values) (refusal_due r.bad) (are_lines m [] r.values) (refusal_lines r.bad)
 
 last_input : (bad : Option ℕ) (count : ℕ) → ComesOfInput (last_line bad count).status
 last_input None count = tt
@@ -178,4 +221,7 @@ last_input (Some number) count = tt
 
 pub reply_input : (found : Result ModelParts (ℕ × ModelKind)) (rest : List ℕ) → ComesOfInput (reply_on found rest).status
 reply_input (Err bad) rest = tt
-reply_input (Ok m) rest = let r = readings_of rest in last_input r.bad (length r.values)
+reply_input (Ok m) rest = go (has_window m) where
+  go : (b : Bool) → ComesOfInput (cond b refused_window (readings_reply m rest)).status
+  go true = tt
+  go false = let r = readings_of rest in last_input r.bad (length r.values)

@@ -1,5 +1,5 @@
 -- A stream of `watch` that comes part by part: its model, and what stands behind it.
-use Rattle.std.proofs.Common.{◌≡◌, ℕ, inl, inr, Bool, true, false, Option, Some, None, Ok, Err, List, [], ◌++◌, length, refl, sym, ◌∙◌, ap, subst, append_assoc, append-nil, length-append, ◌+◌, ◌<◌, ◌≤◌, arith}
+use Rattle.std.proofs.Common.{◌≡◌, ℕ, inl, inr, Bool, true, false, cond, Option, Some, None, Ok, Err, List, [], ◌++◌, length, refl, sym, ◌∙◌, ap, subst, append_assoc, append-nil, length-append, ◌+◌, ◌<◌, ◌≤◌, arith}
 use Rattle.std.specs.Prelude.{Result, unwrap_or}
 use Rattle.std.proofs.lemmas.List.{nil_from_length}
 use Rattle.ts_base.specs.Limits.{most_terms, too_many}
@@ -16,15 +16,17 @@ use Rattle.ts_model.specs.ModelParts.{ModelParts}
 use Rattle.ts_model.specs.ModelReading.{model_reading}
 use Rattle.ts_model.specs.ModelTexts.{AreWhole, EndsModel, EndsSo, IsAt, IsInModel, TakesInModel, whole_lines}
 use Rattle.ts_model.specs.Views.{Reads, model_parts}
-use Rattle.ts_model.proofs.FitLaws.{limits_stated}
+use Rattle.ts_model.specs.Promise.{IsWhole}
+use Rattle.ts_model.specs.TermValue.{has_window}
+use Rattle.ts_model.proofs.FitLaws.{limits_stated, whole_stated}
 use Rattle.ts_model.proofs.ModelTexts.{none_marked, nothing_behind}
-use Rattle.ts_run.specs.Refusals.{refused_model}
+use Rattle.ts_run.specs.Refusals.{refused_model, refused_window}
 use Rattle.ts_run.specs.Streams.{AddsDue, AddsLines, AddsReply, Due, IsFront, IsLines, nothing_due}
-use Rattle.ts_run.specs.Watch.{due_from, due_in, due_on, end_of, reply_on, watch_due, watch_reply}
-use Rattle.ts_run.specs.Watching.{AreReadings, EndsIn, HasCome, IsBehindModel, IsOwed, IsRefusedBy}
+use Rattle.ts_run.specs.Watch.{due_in, due_on, end_of, lines_due, readings_due, readings_reply, refused_due, reply_on, watch_due, watch_reply}
+use Rattle.ts_run.specs.Watching.{AreReadings, EndsIn, HasCome, IsBehindModel, IsOwed, IsPut, IsRefusedBy}
 use Rattle.ts_run.specs.declared.readings.Readings.{Readings}
 use Rattle.ts_run.specs.declared.status.Status.{Status}
-use Rattle.ts_run.specs.declared.status.Status.TheVariants.{Done, Refused}
+use Rattle.ts_run.specs.declared.status.Status.TheVariants.{Refused}
 use Rattle.ts_run.specs.declared.watch.Stage.{Stage}
 use Rattle.ts_run.specs.declared.watch.Stage.TheVariants.{InModel, InReadings}
 use Rattle.ts_run.proofs.ReadingSteps.{due_is}
@@ -44,29 +46,52 @@ in_model_adds bytes part before after old new h k same = (
   ap (λ (d : Due). d.text) (in_model_due (bytes ++ part) new k ∙ sym (in_model_due bytes old h)) ∙ sym (append-nil (watch_due bytes).text),
 )
 
+-- where no term has a window, readings are asked for
+open_due : (m : ModelParts) (text : List ℕ) → has_window m ≡ false → due_on (Ok m) text ≡ lines_due m text
+open_due m text windowless = ap (λ b. cond b (refused_due refused_window) (lines_due m text)) windowless
+
+open_reply : (m : ModelParts) (text : List ℕ) → has_window m ≡ false → reply_on (Ok m) text ≡ readings_reply m text
+open_reply m text windowless = ap (λ b. cond b refused_window (readings_reply m text)) windowless
+
+-- without readings: the refusal of a window, or the end
+
+module _ (m : ModelParts) (before after : List ℕ) (status : Status) where
+  abbrev is_put_by : Bool → Type 0
+  is_put_by windowed = IsPut (cond windowed refused_window (readings_reply m [])) before after status
+
+  pub none_windowed : has_window m ≡ true → IsPut refused_window before after status → IsPut (reply_on (Ok m) []) before after status
+  none_windowed windowed put = subst is_put_by (sym windowed) put
+
+  pub none_open : has_window m ≡ false → IsPut (end_of 0) before after status → IsPut (reply_on (Ok m) []) before after status
+  none_open windowless put = subst is_put_by (sym windowless) put
+
 -- behind it
 
 module _ (bytes : List ℕ) (r : Readings) (h : IsBehindModel bytes r) where
-  pub behind_due : watch_due bytes ≡ due_from (Ok h.model) h.rest
+  pub behind_due : watch_due bytes ≡ readings_due h.model h.rest
   behind_due =
       ap watch_due h.parts ∙ due_behind_model h.text h.front h.ends h.whole h.rest ∙ ap (λ f. due_on f (whole_lines h.rest)) h.reads
+      ∙ open_due h.model (whole_lines h.rest) h.windowless
 
-  pub behind_reply : watch_reply bytes ≡ reply_on (Ok h.model) h.rest
-  behind_reply = ap watch_reply h.parts ∙ reply_behind_model h.text h.front h.ends h.whole h.rest ∙ ap (λ f. reply_on f h.rest) h.reads
+  pub behind_reply : watch_reply bytes ≡ readings_reply h.model h.rest
+  behind_reply =
+      ap watch_reply h.parts ∙ reply_behind_model h.text h.front h.ends h.whole h.rest ∙ ap (λ f. reply_on f h.rest) h.reads
+      ∙ open_reply h.model h.rest h.windowless
 
-  behind_later : (part : List ℕ) → watch_due (bytes ++ part) ≡ due_from (Ok h.model) (h.rest ++ part)
+  behind_later : (part : List ℕ) → watch_due (bytes ++ part) ≡ readings_due h.model (h.rest ++ part)
   behind_later part =
       ap watch_due (ap (λ (x : List ℕ). x ++ part) h.parts ∙ append_assoc h.front h.rest part)
       ∙ due_behind_model h.text h.front h.ends h.whole (h.rest ++ part) ∙ ap (λ f. due_on f (whole_lines (h.rest ++ part))) h.reads
+      ∙ open_due h.model (whole_lines (h.rest ++ part)) h.windowless
 
-  pub behind_adds : (part before after : List ℕ) → AddsDue (due_from (Ok h.model)) h.rest part before after → AddsDue watch_due bytes part before after
+  pub behind_adds : (part before after : List ℕ) → AddsDue (readings_due h.model) h.rest part before after → AddsDue watch_due bytes part before after
   behind_adds part before after a = (
     a.0,
     a.1,
     ap (λ (d : Due). d.text) (behind_later part) ∙ a.2 ∙ ap (λ (d : Due). d.text ++ a.0) (sym behind_due),
   )
 
-  pub behind_ends : (part : List ℕ) (ended : Option Status) → (due_from (Ok h.model) (h.rest ++ part)).ended ≡ ended → (watch_due (bytes ++ part)).ended ≡ ended
+  pub behind_ends : (part : List ℕ) (ended : Option Status) → (readings_due h.model (h.rest ++ part)).ended ≡ ended → (watch_due (bytes ++ part)).ended ≡ ended
   behind_ends part ended e = ap (λ (d : Due). d.ended) (behind_later part) ∙ e
 
   pub behind_on : (part : List ℕ) (new : Readings) → AreReadings h.model (h.rest ++ part) new → IsBehindModel (bytes ++ part) new
@@ -79,10 +104,11 @@ module _ (bytes : List ℕ) (r : Readings) (h : IsBehindModel bytes r) where
     whole = h.whole;
     model = h.model;
     reads = h.reads;
+    windowless = h.windowless;
     readings = k;
   }
 
-  pub behind_replies : (before after : List ℕ) (status : Status) → AddsReply (due_from (Ok h.model) h.rest) (reply_on (Ok h.model) h.rest) before after status →
+  pub behind_replies : (before after : List ℕ) (status : Status) → AddsReply (readings_due h.model h.rest) (readings_reply h.model h.rest) before after status →
       AddsReply (watch_due bytes) (watch_reply bytes) before after status
   behind_replies before after status a = (
     a.0,
@@ -116,8 +142,9 @@ module _ (bytes : List ℕ) (need : Need) (is : need ≡ Values) where
       ap watch_due (sym (append-nil bytes)) ∙ due_behind_model text bytes ends whole []
       ∙ ap (λ f. due_on f []) (ap (λ n. model_reading n text) (sym is) ∙ reads)
 
-  pub model_opens : (model : Model) (r : Readings) → EndsSo need bytes (Ok model) → AreReadings (model_parts model) [] r → IsBehindModel bytes r
-  model_opens model r e k = record {
+  pub model_opens : (model : Model) (r : Readings) → EndsSo need bytes (Ok model) → has_window (model_parts model) ≡ false →
+      AreReadings (model_parts model) [] r → IsBehindModel bytes r
+  model_opens model r e windowless k = record {
     text = e.text;
     front = bytes;
     rest = [];
@@ -126,14 +153,27 @@ module _ (bytes : List ℕ) (need : Need) (is : need ≡ Values) where
     whole = e.whole;
     model = model_parts model;
     reads = ap (λ n. model_reading n e.text) (sym is) ∙ e.reads;
+    windowless = windowless;
     readings = k;
   }
 
-  pub opens_owed : (model : Model) (before after : List ℕ) → EndsSo need bytes (Ok model) → after ≡ before → IsOwed (watch_due bytes) before after None
-  opens_owed model before after e same =
-      let due = ended_due (Ok (model_parts model)) e.text e.ends e.whole e.reads in (
+  pub opens_owed : (model : Model) (before after : List ℕ) → EndsSo need bytes (Ok model) → has_window (model_parts model) ≡ false → after ≡ before →
+      IsOwed (watch_due bytes) before after None
+  opens_owed model before after e windowless same =
+      let due = ended_due (Ok (model_parts model)) e.text e.ends e.whole e.reads ∙ open_due (model_parts model) [] windowless in (
         same ∙ sym (append-nil before) ∙ ap (λ (d : Due). before ++ d.text) (sym due),
         ap (λ (d : Due). d.ended) due,
+      )
+
+  -- or a window in it is refused
+  pub window_owed : (model : Model) (before after : List ℕ) (status : Status) → EndsSo need bytes (Ok model) → has_window (model_parts model) ≡ true →
+      IsPut refused_window before after status → IsOwed (watch_due bytes) before after (Some status)
+  window_owed model before after status e windowed put =
+      let due =
+      ended_due (Ok (model_parts model)) e.text e.ends e.whole e.reads
+      ∙ ap (λ b. cond b (refused_due refused_window) (lines_due (model_parts model) [])) windowed in (
+        put.0 ∙ ap (λ (d : Due). before ++ d.text) (sym due),
+        ap (λ (d : Due). d.ended) due ∙ ap (λ (s : Status). Some s) (sym put.1),
       )
 
   refused_owed : (line : ℕ) (kind : ModelKind) (before after : List ℕ) (status : Status) → EndsSo need bytes (Err (RefusedModel line kind)) →
@@ -149,7 +189,10 @@ module _ (bytes : List ℕ) (need : Need) (is : need ≡ Values) where
   stop_owed (RefusedModel line kind) before after status e put = refused_owed line kind before after status e put.0 put.1
   stop_owed NoMemory before after status e put = absurd put
 
--- a model that is read has few terms
+-- a model that is read is whole, and has few terms
+pub whole_model : (bytes : List ℕ) (need : Need) (model : Model) → EndsSo need bytes (Ok model) → IsWhole (model_parts model)
+whole_model bytes need model e = whole_stated need (cut_of e.text) (model_parts model) e.reads
+
 pub few_terms : (bytes : List ℕ) (need : Need) (model : Model) → EndsSo need bytes (Ok model) → length (model_parts model).terms ≤ most_terms
 few_terms bytes need model e = (limits_stated need (cut_of e.text) (model_parts model) e.reads).terms
 
@@ -193,12 +236,12 @@ module _ (bytes : List ℕ) (t : ModelText) (h : IsInModel bytes t) (is : t.need
       ∙ ap (λ f. reply_on f []) (ap (λ n. model_reading n (halves_of bytes).model) (sym is) ∙ reads)
 
   pub none_replied : (model : ModelParts) (before after : List ℕ) (status : Status) → model_reading t.need (halves_of bytes).model ≡ Ok model →
-      after ≡ before ++ (end_of 0).text → status ≡ Done → AddsReply (watch_due bytes) (watch_reply bytes) before after status
-  none_replied model before after status reads put same = (
-    (end_of 0).text,
-    put,
-    reply_is (Ok model) reads ∙ ap (λ (s : Status). record { text = (end_of 0).text; status = s }) (sym same)
-        ∙ ap (λ (d : Due). record { text = d.text ++ (end_of 0).text; status = status }) (sym (in_model_due bytes t h)),
+      IsPut (reply_on (Ok model) []) before after status → AddsReply (watch_due bytes) (watch_reply bytes) before after status
+  none_replied model before after status reads put = (
+    (reply_on (Ok model) []).text,
+    put.0,
+    reply_is (Ok model) reads ∙ ap (λ (s : Status). record { text = (reply_on (Ok model) []).text; status = s }) (sym put.1)
+        ∙ ap (λ (d : Due). record { text = d.text ++ (reply_on (Ok model) []).text; status = status }) (sym (in_model_due bytes t h)),
   )
 
   refusal_replied : (line : ℕ) (kind : ModelKind) (before after : List ℕ) (status : Status) →

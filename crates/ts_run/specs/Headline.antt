@@ -1,7 +1,7 @@
 -- The theorem: what each command answers to the bytes of its input. `run` writes such an answer and no other
 -- (`Endings`), unless memory is wanting, or reading or writing fails. The words mean what their definitions say: a series
 -- meets a model (`Meets`) by occurrences, ranges and plain sums alone.
-use Rattle.std.specs.Prelude.{ℕ, ◌≡◌, ◌<◌, ◌≤◌, ◌+◌, ◌*◌, ◌↔◌, ℤ, List, [], ◌∷◌, length, Option, Some, None, Result, Ok, Err, ◌++◌, IsSome}
+use Rattle.std.specs.Prelude.{ℕ, ◌≡◌, ◌<◌, ◌≤◌, ◌+◌, ◌*◌, ◌↔◌, ℤ, List, [], ◌∷◌, length, Option, Some, None, Result, Ok, Err, ◌++◌, IsSome, true, false}
 use Rattle.ts_base.specs.declared.ext.Ext.{Ext}
 use Rattle.ts_base.specs.declared.letter.Letter.{Letter}
 use Rattle.ts_base.specs.declared.range.Range.{Range}
@@ -18,6 +18,7 @@ use Rattle.ts_model.specs.FirstBest.{FirstBest, objective_of}
 use Rattle.ts_model.specs.Meets.{Meets}
 use Rattle.ts_model.specs.ModelParts.{ModelParts}
 use Rattle.ts_model.specs.ModelReading.{model_reading}
+use Rattle.ts_model.specs.TermValue.{has_window}
 use Rattle.ts_model.specs.Series.{any_series_reading}
 use Rattle.ts_user.specs.declared.user_stop.UserKind.{UserKind}
 use Rattle.ts_user.specs.BuildAnswers.{IsRefused, IsTooMany}
@@ -39,7 +40,7 @@ use Rattle.ts_run.specs.CompiledValue.{IsCompiled}
 use Rattle.ts_run.specs.Joined.{GoesToVerify}
 use Rattle.ts_run.specs.MarkReply.{IsPlanned, unplanned_in}
 use Rattle.ts_run.specs.Quantities.{usual_lines}
-use Rattle.ts_run.specs.Refusals.{OnSeries, refused_closure, refused_model, refused_pattern, refused_toomany}
+use Rattle.ts_run.specs.Refusals.{OnSeries, refused_closure, refused_model, refused_pattern, refused_toomany, refused_window}
 use Rattle.ts_run.specs.Reply.{Reply}
 use Rattle.ts_run.specs.Sample.{SampleReply}
 use Rattle.ts_run.specs.SampleModel.{sample_stated}
@@ -158,6 +159,11 @@ pub record SaysValues (m : ModelParts) (text : List ℕ) (answer : Reply) : Type
   pub done : (answer.status ≡ Done) ↔ ((readings_of text).bad ≡ None)
   pub refused : (answer.status ≡ Refused) ↔ IsSome (readings_of text).bad
 
+-- a window is refused, since all readings are asked for; without one the values are said
+pub record SaysWatched (m : ModelParts) (text : List ℕ) (answer : Reply) : Type 0 where
+  pub window : has_window m ≡ true → answer ≡ refused_window
+  pub values : has_window m ≡ false → SaysValues m text answer
+
 -- The theorem, by the rows of the table of promises: each says what is answered to an input of a command.
 pub record Headline (command : Command) (bytes : List ℕ) (answer : Reply) : Type 0 where
   -- a text is read as its lines state, or refused at its first bad line with the first reason
@@ -180,7 +186,7 @@ pub record Headline (command : Command) (bytes : List ℕ) (answer : Reply) : Ty
   pub samples : (cells : ℕ) → command ≡ Sample cells → SaysSample cells answer
   -- `mark` tells the occurrences of a pattern of the user's own
   pub marks : command ≡ Mark → SaysMarks bytes answer
-  -- `watch` says the values of the terms on each prefix of the readings
-  pub watches : (m : ModelParts) → command ≡ Watch → States command bytes m → SaysValues m (rest_part bytes) answer
+  -- `watch` says the values of the terms on each prefix of the readings, and refuses a window
+  pub watches : (m : ModelParts) → command ≡ Watch → States command bytes m → SaysWatched m (rest_part bytes) answer
   -- and the answer is one that the definitions give for the bytes
   pub reply : IsReply command bytes answer

@@ -25,6 +25,10 @@ fault_read = record { text = codes "fault read\n"; status = ReadFault }
 abbrev pub refused_length : Reply
 refused_length = record { text = codes "refused length\n"; status = Refused }
 
+-- a term looks at some of the cells alone, where all readings are asked for
+abbrev pub refused_window : Reply
+refused_window = record { text = codes "refused window\n"; status = Refused }
+
 -- the kind of a bad line, as it is printed
 abbrev pub kind_word : ModelKind → List ℕ
 kind_word NotText = codes "nottext"

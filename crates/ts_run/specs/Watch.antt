@@ -15,8 +15,9 @@ use Rattle.ts_model.specs.ModelParts.{ModelParts}
 use Rattle.ts_model.specs.ModelReading.{model_reading}
 use Rattle.ts_model.specs.ModelTexts.{whole_lines}
 use Rattle.ts_model.specs.Series.{value_of}
+use Rattle.ts_model.specs.TermValue.{has_window}
 use Rattle.ts_checker.specs.Verified.{model_part, rest_part}
-use Rattle.ts_run.specs.Refusals.{refused_model}
+use Rattle.ts_run.specs.Refusals.{refused_model, refused_window}
 use Rattle.ts_run.specs.Reply.{Reply, behind_text}
 use Rattle.ts_run.specs.Streams.{Due, nothing_due}
 use Rattle.ts_run.specs.declared.status.Status.{Status}
@@ -93,10 +94,14 @@ last_line (Some number) count = refused_reading number
 abbrev pub values_reply : ModelParts → Readings → Reply
 values_reply m r = behind_text (values_lines m [] r.values) (last_line r.bad (length r.values))
 
--- the refusal of the model, or the reply to the readings in the text behind it
+-- the same by their text
+abbrev pub readings_reply : ModelParts → List ℕ → Reply
+readings_reply m text = values_reply m (readings_of text)
+
+-- the refusal of the model or of a window in it, or the reply to the readings in the text behind it
 abbrev pub reply_on : Result ModelParts (ℕ × ModelKind) → List ℕ → Reply
 reply_on (Err bad) text = refused_model bad.0 bad.1
-reply_on (Ok m) text = values_reply m (readings_of text)
+reply_on (Ok m) text = if has_window m then refused_window else readings_reply m text
 
 -- what `watch` replies to an input: each line of readings counts, the last without an LF too
 abbrev pub watch_reply : List ℕ → Reply
@@ -115,14 +120,21 @@ end_due (Some number) = Some Refused
 abbrev pub values_due : ModelParts → Readings → Due
 values_due m r = record { text = values_lines m [] r.values ++ refusal_due r.bad; ended = end_due r.bad }
 
--- the same by how the model in front was read
-abbrev pub due_on : Result ModelParts (ℕ × ModelKind) → List ℕ → Due
-due_on (Err bad) text = record { text = (refused_model bad.0 bad.1).text; ended = Some Refused }
-due_on (Ok m) text = values_due m (readings_of text)
+-- the same of a text of whole lines, and of any bytes behind a model
+abbrev pub lines_due : ModelParts → List ℕ → Due
+lines_due m text = values_due m (readings_of text)
 
--- what is owed of the bytes behind a model that was read so
-abbrev pub due_from : Result ModelParts (ℕ × ModelKind) → List ℕ → Due
-due_from found bytes = due_on found (whole_lines bytes)
+abbrev pub readings_due : ModelParts → List ℕ → Due
+readings_due m bytes = lines_due m (whole_lines bytes)
+
+-- a refusal is owed, and nothing behind it
+abbrev pub refused_due : Reply → Due
+refused_due r = record { text = r.text; ended = Some Refused }
+
+-- what is owed by how the model in front was read
+abbrev pub due_on : Result ModelParts (ℕ × ModelKind) → List ℕ → Due
+due_on (Err bad) text = refused_due (refused_model bad.0 bad.1)
+due_on (Ok m) text = if has_window m then refused_due refused_window else lines_due m text
 
 -- nothing is owed before the line `%%`
 abbrev pub due_behind : List ℕ → Option (List ℕ) → Due

@@ -1,5 +1,5 @@
 -- A stream of `watch` as far as it came: what is known of the bytes, by what is kept of them.
-use Rattle.std.specs.Prelude.{ℕ, ◌≡◌, ◌+◌, ◌<◌, ◌≤◌, ℤ, List, [], ◌∷◌, ◌++◌, length, map, Option, Some, None, Ok}
+use Rattle.std.specs.Prelude.{ℕ, ◌≡◌, ◌+◌, ◌<◌, ◌≤◌, ℤ, false, List, [], ◌∷◌, ◌++◌, length, map, Option, Some, None, Ok}
 use Rattle.ts_base.specs.Limits.{IsCellValue, most_terms, too_many}
 use Rattle.ts_decorate.specs.Answers.{longest}
 use Rattle.ts_token.specs.Gist.{AreEnded, IsLine}
@@ -10,11 +10,13 @@ use Rattle.ts_model.specs.declared.error.ModelStop.{ModelStop}
 use Rattle.ts_model.specs.declared.error.ModelStop.TheVariants.{Refused as RefusedModel, Memory as NoMemory}
 use Rattle.ts_model.specs.declared.model.Need.TheVariants.{Values}
 use Rattle.ts_model.specs.Meets.{values_on}
+use Rattle.ts_model.specs.TermValue.{has_window}
 use Rattle.ts_model.specs.ModelParts.{ModelParts}
 use Rattle.ts_model.specs.ModelReading.{model_reading}
 use Rattle.ts_model.specs.ModelTexts.{AreWhole, AtLine, EndsModel, IsInModel, IsMark, IsUnfinished}
 use Rattle.ts_monitor.specs.Monitors.{StandsFor, Watched}
 use Rattle.ts_run.specs.Refusals.{refused_model}
+use Rattle.ts_run.specs.Reply.{Reply}
 use Rattle.ts_run.specs.Streams.{Due}
 use Rattle.ts_run.specs.Watch.{Readings as ReadingsOf, bad_at, line_onto, readings_of, refused_reading, values_lines}
 use Rattle.ts_run.specs.declared.readings.Reading.{Reading}
@@ -91,7 +93,7 @@ ReadsLine old before after ended new =
     (m : ModelParts) (text line : List ℕ) (values : List ℤ) → AreEnded text → IsLine line → IsShort line old.line →
     HasTaken m text values old → EndsLine m (text ++ line) values before after ended new
 
--- the model in front was read, and readings came behind it
+-- the model in front was read, each of its terms looks at all cells, and readings came behind it
 pub record IsBehindModel (bytes : List ℕ) (r : Readings) : Type 0 where
   pub text : List ℕ
   pub front : List ℕ
@@ -101,6 +103,7 @@ pub record IsBehindModel (bytes : List ℕ) (r : Readings) : Type 0 where
   pub whole : AreWhole front
   pub model : ModelParts
   pub reads : model_reading Values text ≡ Ok model
+  pub windowless : has_window model ≡ false
   pub readings : AreReadings model rest r
 
 -- these bytes have come
@@ -118,6 +121,10 @@ abbrev pub IsRefusedBy : ModelStop → List ℕ → List ℕ → Status → Type
 IsRefusedBy (RefusedModel line kind) before after status =
     (after ≡ before ++ (refused_model line kind).text) × (status ≡ Refused)
 IsRefusedBy NoMemory before after status = ⊥
+
+-- the whole reply was put behind the text
+abbrev pub IsPut : Reply → List ℕ → List ℕ → Status → Type 0
+IsPut r before after status = (after ≡ before ++ r.text) × (status ≡ r.status)
 
 -- all that is owed was put behind the text
 abbrev pub IsOwed : Due → List ℕ → List ℕ → Option Status → Type 0

@@ -1,18 +1,20 @@
 //! The readings of a stream, one a line, and the values that they add.
 
-ghost use Rattle.std.specs.Prelude.{ℕ, ℤ, ◌≡◌, ◌<◌, ◌≤◌, ◌+◌, ◌++◌, ◌∷◌, List, [], length, None, Ok, IfOk, OnErr, OnOk};
+ghost use Rattle.std.specs.Prelude.{ℕ, ℤ, ◌≡◌, ◌<◌, ◌≤◌, ◌+◌, ◌++◌, ◌∷◌, List, [], length, false, None, IfOk, OnErr, OnOk};
 ghost use Rattle.std.specs.Fmt.{decimal};
 ghost use Rattle.ts_base.specs.Limits.{most_terms, too_many};
 ghost use Rattle.ts_base.specs.Text.{ext_text};
 ghost use Rattle.ts_model.specs.ModelParts.{ModelParts};
 ghost use Rattle.ts_model.specs.ModelTexts.{IsPart};
+ghost use Rattle.ts_model.specs.Promise.{IsWhole};
+ghost use Rattle.ts_model.specs.TermValue.{has_window};
 ghost use Rattle.ts_model.specs.Views.{model_parts};
 ghost use Rattle.ts_monitor.specs.Monitors.{StandsFor};
 ghost use Rattle.ts_token.specs.Gist.{without_end};
 ghost use Rattle.ts_token.specs.Short.{IsShort};
 ghost use Rattle.ts_run.specs.Reply.{reply_of};
 ghost use Rattle.ts_run.specs.Streams.{AddsDue, AddsReply};
-ghost use Rattle.ts_run.specs.Watch.{due_from, end_of, line_gives, refused_reading, reply_on, values_line};
+ghost use Rattle.ts_run.specs.Watch.{end_of, line_gives, readings_due, readings_reply, refused_reading, values_line};
 ghost use Rattle.ts_run.specs.Watching.{AreReadings, HasTaken, HasTerms, IsCellReading, IsNext, MayRead, ReadsLine, given};
 
 use crate::reply::{Reply, push_reply};
@@ -47,9 +49,11 @@ pub(crate) struct Readings {
 }
 
 impl Readings {
-    /// Before the first reading.
+    /// Before the first reading. No term looks at some of the cells alone.
     pub(crate) fn new(alloc: Global, model: &Model) -> Result<Readings, Memory>
         requires few { length (model_parts model.now).terms ≤ most_terms }
+        requires whole { IsWhole (model_parts model.now) }
+        requires windowless { has_window (model_parts model.now) ≡ false }
         ensures stand { IfOk result (λ r. AreReadings (model_parts model.now) [] r) }
     {
         Ok(Readings {
@@ -67,9 +71,9 @@ impl Readings {
         requires some { (m : ModelParts) × (bytes : List ℕ) × AreReadings m bytes self.old
             × (length bytes + length part.now < too_many) }
         ensures put { OnOk result ((m : ModelParts) (bytes : List ℕ) → AreReadings m bytes self.old →
-            AddsDue (due_from (Ok m)) bytes part.now text.old.items text.new.items) }
+            AddsDue (readings_due m) bytes part.now text.old.items text.new.items) }
         ensures ended { IfOk result (λ ended. (m : ModelParts) (bytes : List ℕ) → AreReadings m bytes self.old →
-            (due_from (Ok m) (bytes ++ part.now)).ended ≡ ended) }
+            (readings_due m (bytes ++ part.now)).ended ≡ ended) }
         ensures goes_on { IfOk result (λ ended. ended ≡ None → (m : ModelParts) (bytes : List ℕ) →
             AreReadings m bytes self.old → AreReadings m (bytes ++ part.now) self.new) }
         ensures kept { OnErr result (text.new.items ≡ text.old.items) }
@@ -86,7 +90,7 @@ impl Readings {
         requires some { (m : ModelParts) × (bytes : List ℕ) × AreReadings m bytes self.old
             × (length bytes < too_many) }
         ensures put { IfOk result (λ status. (m : ModelParts) (bytes : List ℕ) → AreReadings m bytes self.old →
-            AddsReply (due_from (Ok m) bytes) (reply_on (Ok m) bytes) text.old.items text.new.items status) }
+            AddsReply (readings_due m bytes) (readings_reply m bytes) text.old.items text.new.items status) }
     {
         if self.line.is_empty() {
             return push_end(self.alloc, text, self.monitor.count());

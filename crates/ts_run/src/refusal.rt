@@ -1,7 +1,7 @@
 //! The texts of the refusals.
 
 ghost use Rattle.std.specs.Prelude.{◌≡◌, ◌++◌, Err, IfOk, OnOk, map};
-ghost use Rattle.ts_run.specs.Refusals.{OnSeries, kind_word, refused_model, refused_series};
+ghost use Rattle.ts_run.specs.Refusals.{OnSeries, kind_word, refused_model, refused_series, refused_window};
 ghost use Rattle.ts_run.specs.Refusals.{refused_closure, refused_pattern, refused_toomany, sign_of, user_kind_word};
 ghost use Rattle.ts_run.specs.Replies.{NoMore, TellsStop};
 ghost use Rattle.ts_run.specs.Reply.{ComesOfInput, reply_of};
@@ -45,6 +45,15 @@ pub fn refused_model(alloc: Global, line: u32, kind: ModelKind) -> Result<Reply,
     text.push(b' ')?;
     text.extend_from_slice(kind_word(kind))?;
     text.push(b'\n')?;
+    let status = Status::Refused;
+    Ok(Reply { text, status })
+}
+
+/// The refusal of a window, where all readings are asked for.
+pub(crate) fn refused_window(alloc: Global) -> Result<Reply, Memory>
+    ensures { IfOk result (λ r. reply_of r ≡ refused_window) }
+{
+    let text = Vec::from_slice(alloc, b"refused window\n")?;
     let status = Status::Refused;
     Ok(Reply { text, status })
 }

@@ -1,20 +1,22 @@
 //! `watch`: the values of a model's terms after each reading.
 
-ghost use Rattle.std.specs.Prelude.{ℕ, ◌≡◌, List, [], ◌+◌, ◌<◌, ◌++◌, length, None, IfOk, OnErr, OnOk};
+ghost use Rattle.std.specs.Prelude.{ℕ, ◌≡◌, List, [], ◌+◌, ◌<◌, ◌++◌, length, None, Ok, IfOk, OnErr, OnOk};
 ghost use Rattle.ts_base.specs.Limits.{too_many};
 ghost use Rattle.ts_model.specs.ModelTexts.{IsPart};
+ghost use Rattle.ts_model.specs.Views.{model_parts};
+ghost use Rattle.ts_run.specs.Refusals.{refused_window as refusal};
 ghost use Rattle.ts_run.specs.Streams.{AddsDue};
-ghost use Rattle.ts_run.specs.Watch.{watch_due};
-ghost use Rattle.ts_run.specs.Watching.{EndsIn, HasCome, IsOwed, IsRefusedBy};
+ghost use Rattle.ts_run.specs.Watch.{reply_on, watch_due};
+ghost use Rattle.ts_run.specs.Watching.{EndsIn, HasCome, IsOwed, IsPut, IsRefusedBy};
 
 use crate::live::Live;
 use crate::readings::{Readings, push_end};
-use crate::refusal::refused_model;
+use crate::refusal::{refused_model, refused_window};
 use crate::reply::push_reply;
 use crate::status::Status;
 use std::alloc::Global;
 use ts_base::{Memory, first_line};
-use ts_model::{ModelStop, ModelText, Need};
+use ts_model::{Model, ModelStop, ModelText, Need};
 
 /// Where a stream has led.
 #[derive(Drop)]
@@ -68,7 +70,7 @@ impl Watching {
         }
     }
 
-    /// The line `%%` has come: readings of the model stand in its place, or it is refused.
+    /// The line `%%` has come: readings of the model stand in its place, or it is refused, or a window in it.
     fn end_model(&mut self, text: &mut Vec<u8>) -> Result<Option<Status>, Memory>
         requires some { (bytes : List ℕ) × EndsIn bytes self.old.stage }
         ensures put { IfOk result (λ ended. (bytes : List ℕ) → EndsIn bytes self.old.stage →
@@ -83,6 +85,10 @@ impl Watching {
         };
         match read {
             Ok(model) => {
+                if model.has_window() {
+                    let status = push_window(self.alloc, text)?;
+                    return Ok(Some(status));
+                }
                 self.stage = Stage::InReadings(Readings::new(self.alloc, &model)?);
                 Ok(None)
             }
@@ -121,11 +127,31 @@ impl Live for Watching {
             Stage::InReadings(readings) => return readings.end(text),
             Stage::InModel(model) => model.finish(),
         };
-        let Err(stop) = read else {
-            return push_end(self.alloc, text, 0);
-        };
-        push_stop(self.alloc, text, stop)
+        match read {
+            Ok(model) => push_none(self.alloc, text, &model),
+            Err(stop) => push_stop(self.alloc, text, stop),
+        }
     }
+}
+
+/// Puts the end without readings behind the text, or the refusal of a window.
+fn push_none(alloc: Global, text: &mut Vec<u8>, model: &Model) -> Result<Status, Memory>
+    ensures { IfOk result (λ status.
+        IsPut (reply_on (Ok (model_parts model.now)) []) text.old.items text.new.items status) }
+{
+    if model.has_window() {
+        push_window(alloc, text)
+    } else {
+        push_end(alloc, text, 0)
+    }
+}
+
+/// Puts the refusal of a window behind the text, which is as it was after `Memory`.
+fn push_window(alloc: Global, text: &mut Vec<u8>) -> Result<Status, Memory>
+    ensures put { IfOk result (λ status. IsPut refusal text.old.items text.new.items status) }
+    ensures kept { OnErr result (text.new.items ≡ text.old.items) }
+{
+    push_reply(text, &refused_window(alloc)?)
 }
 
 /// Puts the refusal of the model behind the text, which is as it was after `Memory`.

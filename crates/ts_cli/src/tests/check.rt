@@ -4,7 +4,7 @@ use super::{Case, first_wrong};
 use std::alloc::AllocError;
 use ts_run::Status;
 
-static CASES: [Case; 36] = [
+static CASES: [Case; 41] = [
     Case {
         input: b"cells 7\ndomain 0..9\nterm w = sum width peak\n%%\nseries 1 3 3 2 2 1 4\n",
         taken: b"meets\nvalue w 4\n",
@@ -184,6 +184,32 @@ static CASES: [Case; 36] = [
     Case {
         input: b"caf\xc3\xa9\n",
         taken: b"refused model line 1 nottext\n",
+        status: Status::Refused,
+    },
+    // windows
+    Case {
+        input: b"cells 7\nterm w = sum width peak in 1..4\nterm v = sum width peak in 2..7\nterm m = min width peak in 2..7\n%%\nseries 1 3 3 2 2 1 4\n",
+        taken: b"meets\nvalue w 2\nvalue v 0\nvalue m 6\n",
+        status: Status::Done,
+    },
+    Case {
+        input: b"cells 7\nterm w = sum width peak in 0..4\n",
+        taken: b"refused model line 2 cellrange\n",
+        status: Status::Refused,
+    },
+    Case {
+        input: b"cells 7\nterm w = sum width peak in 5..4\n",
+        taken: b"refused model line 2 empty\n",
+        status: Status::Refused,
+    },
+    Case {
+        input: b"cells 7\nterm w = sum width peak in x\n",
+        taken: b"refused model line 2 number\n",
+        status: Status::Refused,
+    },
+    Case {
+        input: b"cells 7\nterm w = sum width peak at 1..4\n",
+        taken: b"refused model line 2 shape\n",
         status: Status::Refused,
     },
 ];

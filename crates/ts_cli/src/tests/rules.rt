@@ -6,7 +6,7 @@ use super::{Case, first_wrong};
 use std::alloc::AllocError;
 use ts_run::Status;
 
-static RULES: [Case; 42] = [
+static RULES: [Case; 51] = [
     // aim: an objective is asked of `generate` too
     Case {
         input: b"cells 1\ncell 1 0 3\nterm t0 = sum one peak\n%%\ngenerate 1\nall 0\nno 1 1\nend 1 0\n",
@@ -258,6 +258,60 @@ static RULES: [Case; 42] = [
         input: b"cells 1\ncell 1 2\nterm t0 = sum one inflexion\nobjective t0\n%%\ngenerate 3\nbudget 1\nseries 2\nopen\nend 0 1\n",
         taken: b"rejected line 5\n",
         status: Status::No,
+    },
+    // a window: a cell before it isn't asked
+    Case {
+        input: b"cells 5\ndomain 0\ncell 5 0..1\nterm c = count peak in 2..4\nrequire c >= 1\n%%\ngenerate 1\nall 0\nno 1 1\nend 1 0\n",
+        taken: b"accepted\n",
+        status: Status::Done,
+    },
+    // a window: a cell behind it has no span
+    Case {
+        input: b"cells 5\ndomain 0\ncell 5 0..1\nterm c = count peak in 2..4\nrequire c >= 1\n%%\ngenerate 1\nall 0\nno 1 5\nend 1 0\n",
+        taken: b"accepted\n",
+        status: Status::Done,
+    },
+    // a window: a value of a cell behind it can't be left out
+    Case {
+        input: b"cells 5\ndomain 0\ncell 5 0..1\nterm c = count peak in 2..4\nrequire c >= 1\n%%\ngenerate 1\nall 0\ndrop 5 1 1\nno 1 2\nend 2 0\n",
+        taken: b"accepted\n",
+        status: Status::Done,
+    },
+    // a window: the span of a cell behind it is none
+    Case {
+        input: b"cells 5\ndomain 0..1\ncell 2 0\nterm c = count peak in 2..4\nrequire c >= 1\n%%\ngenerate 1\nall 0\nno 1 5\nend 1 0\n",
+        taken: b"rejected line 3\n",
+        status: Status::No,
+    },
+    // a window: what a value of a cell before it makes of the series is read
+    Case {
+        input: b"cells 5\ndomain 0..1\ncell 2 0\nterm c = count peak in 2..4\nrequire c >= 1\n%%\ngenerate 1\nall 0\ndrop 1 0 1\nno 1 1\nend 2 0\n",
+        taken: b"rejected line 3\n",
+        status: Status::No,
+    },
+    // a window: a term without a way back is asked at its last cell
+    Case {
+        input: b"cells 5\ndomain 0\ncell 5 0..1\nterm c = count inflexion in 2..4\nrequire c >= 1\n%%\ngenerate 1\nall 0\nno 1 4\nend 1 0\n",
+        taken: b"rejected line 3\n",
+        status: Status::No,
+    },
+    // a window: a term without a way back isn't asked at the last cell of all
+    Case {
+        input: b"cells 5\ndomain 0\ncell 5 0..1\nterm c = count inflexion in 2..4\nrequire c >= 1\n%%\ngenerate 1\nall 0\nno 1 5\nend 1 0\n",
+        taken: b"accepted\n",
+        status: Status::Done,
+    },
+    // a window: the objective isn't asked before it
+    Case {
+        input: b"cells 5\ndomain 0..1\ncell 2 1\nterm c = count peak in 2..4\nobjective c\n%%\nmaximise\nbest 0\nseries 0 1 0 0 0\nworse 1\nend 1 0\n",
+        taken: b"accepted\n",
+        status: Status::Done,
+    },
+    // a window: `min width` of nothing counts all cells
+    Case {
+        input: b"cells 5\ndomain 0\nterm c = min width peak in 2..4\nrequire c != 3\n%%\ngenerate 1\nall 0\nno 1 5\nend 1 0\n",
+        taken: b"accepted\n",
+        status: Status::Done,
     },
 ];
 

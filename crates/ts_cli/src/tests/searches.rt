@@ -10,7 +10,7 @@ type Case = (&'static str, &'static [u8], &'static [u8], Status);
 
 const ONE_PEAK: &[u8] = b"cells 3\ndomain 0..1\nterm c = count peak\nobjective c\n";
 
-static CASES: [Case; 14] = [
+static CASES: [Case; 16] = [
     (
         "maximise",
         ONE_PEAK,
@@ -95,6 +95,20 @@ static CASES: [Case; 14] = [
         "generate 5000",
         b"cells 1\ndomain 7\n",
         b"generate 5000\nall 1\nseries 7\nyes\nend 1 0\n",
+        Status::Done,
+    ),
+    // a window without a peak, though the cells have one
+    (
+        "maximise",
+        b"cells 3\ndomain 0..1\nterm c = count peak in 1..2\nobjective c\n",
+        b"maximise\nbest 0\nseries 0 0 0\nsplit 1 0\nsplit 2 0\nsplit 3 0\nworse 3\nworse 3\nworse 3\n\
+            worse 3\nend 7 0\n",
+        Status::Done,
+    ),
+    (
+        "generate 5",
+        b"cells 4\ndomain 0..1\nterm c = count peak in 2..4\nrequire c = 1\n",
+        b"generate 5\nall 2\nseries 0 0 1 0\nseries 1 0 1 0\ndrop 2 1 1\ndrop 3 0 1\ndrop 4 1 1\nsplit 1 0\nyes\nyes\nend 6 0\n",
         Status::Done,
     ),
 ];

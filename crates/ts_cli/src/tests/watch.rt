@@ -5,7 +5,7 @@ use std::alloc::{AllocError, Global};
 use ts_base::{MemorySink, MemorySource, read_all};
 use ts_run::{Status, run};
 
-static STREAMS: [Case; 19] = [
+static STREAMS: [Case; 23] = [
     Case {
         input: b"cells 1\nterm w = sum width peak\nterm c = count peak\n%%\n1\n3\n3\n2\n2\n1\n4\n",
         taken: b"1 0 0\n2 0 0\n3 0 0\n4 2 1\n5 2 1\n6 4 1\n7 4 1\nend 7\n",
@@ -107,6 +107,27 @@ static STREAMS: [Case; 19] = [
         input: b"cells 2\ndomain 0..1\nterm c = count peak\nrequire c >= 5\nobjective c\n%%\n1\n7\n3\n",
         taken: b"1 0\n2 0\n3 1\nend 3\n",
         status: Status::Done,
+    },
+    // a window is refused where the model ends, if no line of it is bad
+    Case {
+        input: b"cells 7\nterm c = count peak\nterm w = count peak in 1..4\n%%\n1\nx\n",
+        taken: b"refused window\n",
+        status: Status::Refused,
+    },
+    Case {
+        input: b"cells 7\nterm w = count peak in 1..7\n%%\n",
+        taken: b"refused window\n",
+        status: Status::Refused,
+    },
+    Case {
+        input: b"cells 7\nterm w = count peak in 3",
+        taken: b"refused window\n",
+        status: Status::Refused,
+    },
+    Case {
+        input: b"cells 7\nterm w = count peak in 3\nfoo\n%%\n1\n",
+        taken: b"refused model line 3 unknownline\n",
+        status: Status::Refused,
     },
 ];
 

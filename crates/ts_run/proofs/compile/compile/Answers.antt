@@ -1,6 +1,6 @@
 use Rattle.std.proofs.Common.{refl}
 use Rattle.ts_model.specs.declared.model.Need.TheVariants.{Values}
-use Rattle.ts_model.specs.Views.{model_parts}
+use Rattle.ts_model.specs.Views.{model_parts, terms_in}
 use Rattle.ts_run.specs.AnswerTexts.{ProgramReply}
 use Rattle.ts_run.specs.CompiledValue.{IsProgramText}
 use Rattle.ts_run.proofs.Steps.{model_fails, model_replies}
@@ -13,7 +13,7 @@ returns-in_err-model c =
 pub returns : goal.returns
 returns c =
     let program : IsProgramText (model_parts c.in_ok-model.model) c.in_ok-text.text.items = record {
-      terms = c.in_ok-model.model.terms.entries;
+      terms = terms_in c.in_ok-model.model;
       terms_are = refl;
       text_is = c.in_ok-text.ensures;
     } in

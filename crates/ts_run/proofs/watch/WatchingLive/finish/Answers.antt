@@ -27,19 +27,19 @@ finish-read-requires c =
 
 -- the input ended in the model, which is read
 
-pub returns-in_default : goal.returns-in_default
-returns-in_default c = record {
-  put = IfOk-weaker c.push_end.result _ _
+pub returns-in-Ok : goal.returns-in-Ok
+returns-in-Ok c = record {
+  put = IfOk-weaker c.push_none.result _ _
       (λ status put bytes h.
       let at = subst (HasCome bytes) c.in-InModel.is h in
-      none_replied bytes c.in-InModel.model at.0 at.1 _ c.args.text.now.items c.push_end.new.text.items status (c.in_default.ensures bytes at.0) put.0 put.1)
-      c.push_end.ensures;
+      none_replied bytes c.in-InModel.model at.0 at.1 _ c.args.text.now.items c.push_none.new.text.items status (c.in-Ok.ensures bytes at.0) put)
+      c.push_none.ensures;
 }
 
 -- or refused
 
-pub returns : goal.returns
-returns c = record {
+pub returns-in-Err : goal.returns-in-Err
+returns-in-Err c = record {
   put = IfOk-weaker c.push_stop.result _ _
       (λ status put bytes h.
       let at = subst (HasCome bytes) c.in-InModel.is h in
