@@ -18,8 +18,6 @@ mod machine;
 mod operand;
 mod shape;
 mod table;
-#[cfg(test)]
-mod tests;
 
 pub use glue::{glue_span, glue_value};
 pub use machine::Machine;

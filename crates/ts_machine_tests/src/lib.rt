@@ -1,13 +1,15 @@
-//! The tests of automata, of how they are glued, of boxes, and of what spans exclude.
+//! The tests of automata, of how they are glued, of boxes, of their hulls and spans, and of what spans exclude.
 //!
-//! Why tests stand in crates of their own is told in `ts_pattern_tests`. Each module is named for what it tries, and each
-//! expected value comes from outside the program: from a definition worked out by hand, or by enumeration.
+//! Why tests stand in crates of their own is told in `ts_pattern_tests`. Each module is named for what it tries, and
+//! each expected value comes from outside the program: from a definition worked out by hand, or by enumeration.
 #![tactic(auto)]
 
 #[cfg(test)]
 mod automata;
 #[cfg(test)]
 mod automaton_texts;
+#[cfg(test)]
+mod bounds;
 #[cfg(test)]
 mod boxes;
 #[cfg(test)]
@@ -18,6 +20,8 @@ mod filters;
 mod first_values;
 #[cfg(test)]
 mod glued;
+#[cfg(test)]
+mod glued_values;
 #[cfg(test)]
 mod last_values;
 #[cfg(test)]

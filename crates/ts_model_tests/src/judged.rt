@@ -5,8 +5,8 @@ use std::alloc::Global;
 use ts_base::{Ext, Memory};
 use ts_compile::judge;
 
-/// A model, and what it says of 1 3 3 2 2 1 4: which cells lie in their domains, which requirements hold, what the terms
-/// are worth, and whether the series meets it.
+/// A model, and what it says of 1 3 3 2 2 1 4: which cells lie in their domains, which requirements hold, what the
+/// terms are worth, and whether the series meets it.
 type Case = (
     &'static str,
     &'static [bool],
@@ -15,7 +15,7 @@ type Case = (
     bool,
 );
 
-static CASES: [Case; 5] = [
+static CASES: [Case; 7] = [
     (
         "cells 7\ndomain 1..4\n",
         &[true, true, true, true, true, true, true],
@@ -50,6 +50,35 @@ static CASES: [Case; 5] = [
         &[true, false],
         &[Ext::Int(2)],
         false,
+    ),
+    // windows: what occurs in their cells alone, and their cells where nothing occurs
+    (
+        "cells 7\nterm w = sum width peak in 1..4\nterm v = sum width peak in 2..7\n\
+         term m = min width peak in 2..7\nterm o = min width peak in 4\nterm s = max surf peak in 4..4\n\
+         term d = count decreasing in 3..6\nterm p = max surf peak in 1..6\n\
+         term q = max surf peak in 1..7\nrequire w = 2\nrequire m > 6\n",
+        &[true, true, true, true, true, true, true],
+        &[true, false],
+        &[
+            Ext::Int(2),
+            Ext::Int(0),
+            Ext::Int(6),
+            Ext::Int(1),
+            Ext::NegInf,
+            Ext::Int(2),
+            Ext::Int(10),
+            Ext::Int(10),
+        ],
+        false,
+    ),
+    // beside terms that look at all cells
+    (
+        "cells 7\ndomain 1..4\nterm a = sum width peak\nterm w = sum width peak in 1..5\n\
+         term b = min width steady_sequence\nterm k = min width steady_sequence in 3..4\nrequire w < 3\n",
+        &[true, true, true, true, true, true, true],
+        &[true],
+        &[Ext::Int(4), Ext::Int(2), Ext::Int(2), Ext::Int(2)],
+        true,
     ),
 ];
 

@@ -1,14 +1,18 @@
 //! The texts of programs, worked out from the tables alone, and values of their terms.
 
+ghost use Rattle.std.specs.Prelude.{IfSome};
+ghost use Rattle.ts_model.specs.Promise.{IsWhole};
+ghost use Rattle.ts_model.specs.Views.{model_parts};
+
 use std::alloc::Global;
-use ts_base::{Ext, Memory};
+use ts_base::{Ext, Memory, Range};
 use ts_compile::{compile_model, value_of, write_program};
 use ts_model::{Model, Need, read_model};
 
 /// A model, the text of its program, and the values of its terms on 1 3 3 2 2 1 4.
 type Case = (&'static str, &'static str, &'static [Ext]);
 
-static CASES: [Case; 5] = [
+static CASES: [Case; 6] = [
     ("cells 7\n", "", &[]),
     (
         "cells 7\nterm c = count decreasing\n",
@@ -17,6 +21,19 @@ static CASES: [Case; 5] = [
          reverse\nstate s free\nstart 0 1 0\nmove s < s ; C ; 1 ; add R max max D 1 1\n\
          move s = s ; C ; D ; R\nmove s > s ; C ; D ; R\nfinish add R C same\nend\nglue 0 max 1\nend\n",
         &[Ext::Int(2)],
+    ),
+    // the same automata over a window
+    (
+        "cells 7\nterm c = count decreasing in 3..6\nterm e = count decreasing in 6\n",
+        "term c sum one decreasing in 3..6\nforward\nstate s free\nstart 0 1 0\nmove s < s ; C ; D ; R\n\
+         move s = s ; C ; D ; R\nmove s > s ; C ; 1 ; add R max max D 1 1\nfinish add R C same\nend\n\
+         reverse\nstate s free\nstart 0 1 0\nmove s < s ; C ; 1 ; add R max max D 1 1\n\
+         move s = s ; C ; D ; R\nmove s > s ; C ; D ; R\nfinish add R C same\nend\nglue 0 max 1\nend\n\
+         term e sum one decreasing in 6..6\nforward\nstate s free\nstart 0 1 0\nmove s < s ; C ; D ; R\n\
+         move s = s ; C ; D ; R\nmove s > s ; C ; 1 ; add R max max D 1 1\nfinish add R C same\nend\n\
+         reverse\nstate s free\nstart 0 1 0\nmove s < s ; C ; 1 ; add R max max D 1 1\n\
+         move s = s ; C ; D ; R\nmove s > s ; C ; D ; R\nfinish add R C same\nend\nglue 0 max 1\nend\n",
+        &[Ext::Int(2), Ext::Int(0)],
     ),
     (
         "cells 7\nterm w = sum width peak\n",
@@ -65,20 +82,29 @@ fn cases() -> &'static [Case] {
 }
 
 /// The model of a text; in the tests each is short.
-pub fn model_of(alloc: Global, text: &[u8]) -> Option<Model> {
+pub fn model_of(alloc: Global, text: &[u8]) -> Option<Model>
+    ensures { IfSome result (λ m. IsWhole (model_parts m)) }
+{
     if 1000 < text.len() {
         return None;
     }
     read_model(alloc, text, Need::Values).ok()
 }
 
-fn has_program(alloc: Global, model: &Model, wanted: &str, terms: usize) -> Result<bool, Memory> {
+fn has_program(alloc: Global, model: &Model, wanted: &str, terms: usize) -> Result<bool, Memory>
+    requires { IsWhole (model_parts model.now) }
+{
     let program = compile_model(alloc, model)?;
     let written = write_program(alloc, model, &program)?;
     Ok(program.machines().len() == terms && written.as_slice() == wanted.as_bytes())
 }
 
-fn has_values(alloc: Global, model: &Model, values: &[Ext]) -> Result<bool, Memory> {
+fn has_values(alloc: Global, model: &Model, values: &[Ext]) -> Result<bool, Memory>
+    requires { IsWhole (model_parts model.now) }
+{
+    if model.cells.len() != 7 {
+        return Ok(false);
+    }
     for term in 0..values.len() {
         if model.terms.len() <= term || 100 < term {
             return Ok(false);
@@ -105,5 +131,29 @@ fn programs(rt: HostRuntime) -> Result<(), Memory> {
     for case in cases() {
         assert!(rt; case_holds(rt.alloc(), case)?, "{}", case.0);
     }
+    Ok(())
+}
+
+static WINDOWS: &[u8] =
+    b"cells 7\nterm a = count peak\nterm b = count peak in 2..5\nterm c = count zigzag in 7\n";
+
+fn has_windows(alloc: Global) -> Result<bool, Memory> {
+    let Some(model) = model_of(alloc, WINDOWS) else {
+        return Ok(false);
+    };
+    let program = compile_model(alloc, &model)?;
+    match program.machines() {
+        [a, b, c] => Ok(
+            a.window().is_none()
+                && b.window() == Some(Range { first: 2, last: 5 })
+                && c.window() == Some(Range { first: 7, last: 7 }),
+        ),
+        _ => Ok(false),
+    }
+}
+
+#[test]
+fn machines_have_the_windows_of_their_terms(rt: HostRuntime) -> Result<(), Memory> {
+    assert!(rt; has_windows(rt.alloc())?);
     Ok(())
 }

@@ -42,10 +42,14 @@ fn values(alloc: Global, monitor: &Monitor) -> Result<Vec<Ext>, Memory>
 }
 
 /// The number of readings up to which all values are as they should be.
+#[tactic(auto, using(ts_compile::proofs::Over::looks_at_all))]
 fn right_readings(alloc: Global) -> Result<Option<u32>, Memory> {
     let Some(model) = model_of(alloc, TEXT) else {
         return Ok(None);
     };
+    if model.has_window() {
+        return Ok(None);
+    }
     let mut monitor = Monitor::new(alloc, compile_model(alloc, &model)?)?;
     for (reading, wanted) in readings() {
         if monitor.count() >= 100_000 || *reading < -1_000_000 || 1_000_000 < *reading {

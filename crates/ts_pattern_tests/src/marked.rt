@@ -1,5 +1,5 @@
-//! The 22 patterns of the catalogue, each written out with its expression and its transducer, as a user states a pattern
-//! that isn't in it: they mark what the catalogue's names mark, in all series of six cells of three values.
+//! The 22 patterns of the catalogue, each written out with its expression and its transducer, as a user states a
+//! pattern that isn't in it: they mark what the catalogue's names mark, in all series of six cells of three values.
 //!
 //! The table is one literal of rows: a name, how many occurrences all those series have together, a `|`, and the text,
 //! in which `/` stands for LF. The numbers were found by trying the expressions on all parts of the signatures.

@@ -59,8 +59,8 @@ const PENDING: State = (
 );
 
 /// The catalogue's table of peak, with its plan; the same where a rise after a peak is taken for no rise; and two
-/// patterns under a transducer that finds nothing. There a configuration says at which of the last signs a match may have
-/// begun: with eight signs between two `<` there are 512 when the first match ends, and with nine there are more.
+/// patterns under a transducer that finds nothing. There a configuration says at which of the last signs a match may
+/// have begun: with eight signs between two `<` there are 512 when the first match ends, and with nine there are more.
 const BUILT: [Built; 4] = [
     Built {
         pattern: PEAK,

@@ -1,7 +1,7 @@
 //! Pattern texts, and what is told of them, worked out by hand.
 //!
-//! The table is one literal of rows: what is told, a `|`, and the text of which it is told, in which `/` stands for LF. A
-//! row without `|` is a heading.
+//! The table is one literal of rows: what is told, a `|`, and the text of which it is told, in which `/` stands for LF.
+//! A row without `|` is a heading.
 
 ghost use Rattle.std.specs.Prelude.{◌<◌, length};
 

@@ -1,7 +1,7 @@
 //! The tests of searches, and of what checks their certificates.
 //!
-//! Why tests stand in crates of their own is told in `ts_pattern_tests`. Each module is named for what it tries, and each
-//! expected value comes from outside the program: from a definition worked out by hand, or by enumeration.
+//! Why tests stand in crates of their own is told in `ts_pattern_tests`. Each module is named for what it tries, and
+//! each expected value comes from outside the program: from a definition worked out by hand, or by enumeration.
 #![tactic(auto)]
 
 #[cfg(test)]

@@ -13,9 +13,11 @@ use ts_search::{list, solve};
 
 mod rows;
 mod small_models;
+mod windowed_models;
 
 use rows::{Asked, Row, rows};
 use small_models::{Answer, Case, cases};
+use windowed_models::windowed_cases;
 
 const BUDGETS: [u64; 5] = [1, 2, 5, 20, 100_000];
 
@@ -124,7 +126,7 @@ fn wrong_best(alloc: Global, case: &Case) -> Option<u64> {
 
 #[test]
 fn best_series_of_small_models(rt: HostRuntime) {
-    for case in cases() {
+    for case in cases().iter().chain(windowed_cases()) {
         assert_eq!(rt; wrong_best(rt.alloc(), case), None, "{}", case.model);
     }
 }
@@ -162,7 +164,7 @@ fn wrong_count(alloc: Global, case: &Case, budget: u64) -> Option<u32> {
 
 #[test]
 fn first_series_of_small_models(rt: HostRuntime) {
-    for case in cases() {
+    for case in cases().iter().chain(windowed_cases()) {
         for budget in BUDGETS {
             assert_eq!(rt;
                 wrong_count(rt.alloc(), case, budget),

@@ -1,6 +1,7 @@
 //! What is told at one cell of a box, against the span of the cell and those with each value alone.
 
 ghost use Rattle.std.specs.Prelude.{◌≡◌, None, length};
+ghost use Rattle.ts_bound.specs.TermSpans.{LooksIn, automata_of};
 ghost use Rattle.ts_domain.specs.BoxSeries.{IsCell};
 ghost use Rattle.ts_glue.specs.Machines.{pair_of};
 
@@ -41,6 +42,7 @@ fn bound_holds(
 ) -> Result<bool, Memory>
     requires cell { IsCell p cells.now }
     requires split { pair_of m.now ≡ None → p ≡ length cells.now.present }
+    requires looks { LooksIn (automata_of m.now) cells.now.present }
 {
     for op in OPS {
         let r = Require { term: 0, op, bound };
@@ -59,6 +61,7 @@ fn bound_holds(
 fn cell_holds(alloc: Global, m: &Machine, p: u32, cells: &Boxed, span: Span) -> Result<bool, Memory>
     requires cell { IsCell p cells.now }
     requires split { pair_of m.now ≡ None → p ≡ length cells.now.present }
+    requires looks { LooksIn (automata_of m.now) cells.now.present }
 {
     for bound in BOUNDS {
         if !bound_holds(alloc, m, p, cells, bound, span)? {
@@ -79,6 +82,7 @@ fn value_bound_holds(
 ) -> Result<bool, Memory>
     requires cell { IsCell p cells.now }
     requires split { pair_of m.now ≡ None → p ≡ length cells.now.present }
+    requires looks { LooksIn (automata_of m.now) cells.now.present }
 {
     if !cells.cell(p).contains(v) {
         return Ok(false);
@@ -104,6 +108,7 @@ pub(super) fn value_holds(
 ) -> Result<bool, Memory>
     requires cell { IsCell p cells.now }
     requires split { pair_of m.now ≡ None → p ≡ length cells.now.present }
+    requires looks { LooksIn (automata_of m.now) cells.now.present }
 {
     let (bounds, span) = told;
     for bound in bounds {
@@ -122,7 +127,8 @@ fn are_kept(
     cells: &Boxed,
     kept: (i64, i64),
 ) -> Result<bool, Memory>
-    requires { IsCell p cells.now }
+    requires cell { IsCell p cells.now }
+    requires looks { LooksIn (automata_of m.now) cells.now.present }
 {
     Ok(
         kept_value(alloc, m, Goal::Maximise, p, cells)? == kept.0
@@ -139,6 +145,7 @@ fn values_hold(
 ) -> Result<bool, Memory>
     requires cell { IsCell p cells.now }
     requires split { pair_of m.now ≡ None → p ≡ length cells.now.present }
+    requires looks { LooksIn (automata_of m.now) cells.now.present }
 {
     for &(v, ends) in values {
         if !value_holds(alloc, m, cells, p, v, (&BOUNDS, span(ends)))? {
@@ -157,6 +164,7 @@ pub(super) fn cell_row_holds(
 ) -> Result<bool, Memory>
     requires cell { IsCell p cells.now }
     requires split { pair_of m.now ≡ None → p ≡ length cells.now.present }
+    requires looks { LooksIn (automata_of m.now) cells.now.present }
 {
     let (ends, kept, values) = row;
     Ok(

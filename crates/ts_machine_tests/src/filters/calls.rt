@@ -1,6 +1,7 @@
 //! The calls on machines that can't be split, on small boxes, against spans and drops that are known from outside.
 
-ghost use Rattle.std.specs.Prelude.{◌<◌, ◌≤◌, IfSome, length};
+ghost use Rattle.std.specs.Prelude.{◌<◌, ◌≤◌, ℤ, IfSome, List, length};
+ghost use Rattle.ts_bound.specs.TermSpans.{LooksIn, automata_of};
 ghost use Rattle.ts_model.specs.declared.model.Require.{Require};
 ghost use Rattle.std.specs.List.{AllByRecursion};
 
@@ -40,7 +41,8 @@ fn is_refuted_so(
     r: &Require,
     span: Span,
 ) -> Result<bool, Memory>
-    requires { 1 ≤ length cells.now.present }
+    requires some { 1 ≤ length cells.now.present }
+    requires looks { LooksIn (automata_of m.now) cells.now.present }
 {
     let told = refuted(alloc, m, r, cells.cells(), cells)?;
     let below = first_refuted(alloc, m, r, cells)?;
@@ -55,7 +57,8 @@ fn is_cut_so(
     bar: Bar,
     span: Span,
 ) -> Result<bool, Memory>
-    requires { 1 ≤ length cells.now.present }
+    requires some { 1 ≤ length cells.now.present }
+    requires looks { LooksIn (automata_of m.now) cells.now.present }
 {
     let told = cut_at_end(alloc, m, goal, cells, bar)?;
     let below = first_cut(alloc, m, goal, cells, bar)?;
@@ -71,7 +74,8 @@ fn goal_holds(
     bound: Ext,
     span: Span,
 ) -> Result<bool, Memory>
-    requires { 1 ≤ length cells.now.present }
+    requires some { 1 ≤ length cells.now.present }
+    requires looks { LooksIn (automata_of m.now) cells.now.present }
 {
     let told = worse(alloc, m, goal, cells.cells(), cells, bound)?;
     Ok(
@@ -89,7 +93,8 @@ fn bound_holds(
     bound: Ext,
     span: Span,
 ) -> Result<bool, Memory>
-    requires { 1 ≤ length cells.now.present }
+    requires some { 1 ≤ length cells.now.present }
+    requires looks { LooksIn (automata_of m.now) cells.now.present }
 {
     for op in OPS {
         let r = Require { term: 0, op, bound };
@@ -104,7 +109,8 @@ fn bound_holds(
 }
 
 fn span_holds(alloc: Global, m: &Machine, cells: &Boxed, span: Span) -> Result<bool, Memory>
-    requires { 1 ≤ length cells.now.present }
+    requires some { 1 ≤ length cells.now.present }
+    requires looks { LooksIn (automata_of m.now) cells.now.present }
 {
     for bound in BOUNDS {
         if !bound_holds(alloc, m, cells, bound, span)? {
@@ -139,7 +145,8 @@ fn last_value_holds(
     v: i64,
     span: Span,
 ) -> Result<bool, Memory>
-    requires { 1 ≤ length cells.now.present }
+    requires some { 1 ≤ length cells.now.present }
+    requires looks { LooksIn (automata_of m.now) cells.now.present }
 {
     value_holds(alloc, m, cells, cells.cells(), v, (&BOUNDS, span))
 }
@@ -166,7 +173,8 @@ fn values_of_the_last_cell(rt: HostRuntime) {
 
 /// Whether the least value of the first cell is kept for both goals.
 fn least_is_kept(alloc: Global, m: &Machine, cells: &Boxed, least: i64) -> Result<bool, Memory>
-    requires { 1 ≤ length cells.now.present }
+    requires some { 1 ≤ length cells.now.present }
+    requires looks { LooksIn (automata_of m.now) cells.now.present }
 {
     Ok(
         kept_value(alloc, m, Goal::Maximise, 1, cells)? == least
@@ -212,7 +220,9 @@ fn requirements_of(alloc: Global, wanted: &[(u32, Op, i64)]) -> Option<Vec<Requi
     }
 }
 
-fn machines(alloc: Global) -> Option<[Machine; 3]> {
+fn machines(alloc: Global) -> Option<[Machine; 3]>
+    ensures { IfSome result (λ all. (cells : List (List ℤ)) → AllByRecursion (λ m. LooksIn (automata_of m) cells) all) }
+{
     Some([machine(alloc, 0)?, machine(alloc, 1)?, machine(alloc, 2)?])
 }
 

@@ -17,7 +17,7 @@ pub type DropRow = (&'static [(Op, i64)], Option<(u32, i64, u32)>);
 /// A model of one term, its cells, and drops.
 pub type Row = (&'static str, &'static [CellRow], &'static [DropRow]);
 
-static ROWS: [Row; 6] = [
+static ROWS: [Row; 10] = [
     (
         "cells 5\ncell 1 0..1\ncell 2 0..1\ncell 3 1\ncell 4 0..2\ncell 5 0..1\nterm t = sum width peak\n",
         &[
@@ -214,6 +214,182 @@ static ROWS: [Row; 6] = [
             (&[(Op::AtLeast, 3), (Op::AtMost, 1)], Some((1, 0, 2))),
             (&[(Op::AtLeast, 4)], Some((1, 1, 1))),
             (&[(Op::Unequal, 0), (Op::Equal, 3)], None),
+        ],
+    ),
+    // the same boxes behind and before cells that aren't looked at: there each value has the span of the last cell that
+    // is, and the least value is kept
+    (
+        "cells 8\ncell 1 0..1\ncell 2 2\ncell 3 0..1\ncell 4 0..1\ncell 5 1\ncell 6 0..2\n\
+         cell 7 0..1\ncell 8 0 3\nterm t = sum width peak in 3..7\n",
+        &[
+            (
+                (Int(0), Int(3)),
+                (0, 0),
+                &[(0, (Int(0), Int(3))), (1, (Int(0), Int(3)))],
+            ),
+            ((Int(0), Int(3)), (2, 2), &[(2, (Int(0), Int(3)))]),
+            (
+                (Int(0), Int(3)),
+                (0, 0),
+                &[(0, (Int(0), Int(3))), (1, (Int(0), Int(2)))],
+            ),
+            (
+                (Int(0), Int(3)),
+                (1, 0),
+                &[(0, (Int(0), Int(2))), (1, (Int(0), Int(3)))],
+            ),
+            ((Int(0), Int(3)), (1, 1), &[(1, (Int(0), Int(3)))]),
+            (
+                (Int(0), Int(3)),
+                (1, 0),
+                &[
+                    (0, (Int(0), Int(2))),
+                    (1, (Int(0), Int(3))),
+                    (2, (Int(1), Int(3))),
+                ],
+            ),
+            (
+                (Int(0), Int(3)),
+                (0, 0),
+                &[(0, (Int(0), Int(3))), (1, (Int(0), Int(3)))],
+            ),
+            (
+                (Int(0), Int(3)),
+                (0, 0),
+                &[(0, (Int(0), Int(3))), (3, (Int(0), Int(3)))],
+            ),
+        ],
+        &[
+            (&[(Op::Below, 1), (Op::Above, 1)], Some((6, 2, 1))),
+            (&[(Op::AtLeast, 3), (Op::AtMost, 1)], Some((3, 1, 1))),
+            (&[(Op::AtLeast, 2)], None),
+            (&[(Op::AtLeast, 9)], Some((1, 0, 1))),
+        ],
+    ),
+    (
+        "cells 7\ncell 1 0\ncell 2 1..3\ncell 3 1..2\ncell 4 0..2\ncell 5 1\ncell 6 0..2\n\
+         cell 7 1\nterm t = max width peak in 1..5\n",
+        &[
+            ((Int(0), Int(4)), (0, 0), &[(0, (Int(0), Int(4)))]),
+            (
+                (Int(0), Int(4)),
+                (1, 1),
+                &[
+                    (1, (Int(0), Int(4))),
+                    (2, (Int(1), Int(3))),
+                    (3, (Int(1), Int(3))),
+                ],
+            ),
+            (
+                (Int(0), Int(3)),
+                (1, 1),
+                &[(1, (Int(0), Int(3))), (2, (Int(2), Int(3)))],
+            ),
+            (
+                (Int(0), Int(3)),
+                (2, 1),
+                &[
+                    (0, (Int(2), Int(2))),
+                    (1, (Int(0), Int(2))),
+                    (2, (Int(1), Int(3))),
+                ],
+            ),
+            ((Int(0), Int(3)), (1, 1), &[(1, (Int(0), Int(3)))]),
+            (
+                (Int(0), Int(3)),
+                (0, 0),
+                &[
+                    (0, (Int(0), Int(3))),
+                    (1, (Int(0), Int(3))),
+                    (2, (Int(0), Int(3))),
+                ],
+            ),
+            ((Int(0), Int(3)), (1, 1), &[(1, (Int(0), Int(3)))]),
+        ],
+        &[
+            (&[(Op::Equal, 1)], Some((3, 2, 1))),
+            (&[(Op::Unequal, 0), (Op::Equal, 3)], Some((4, 0, 2))),
+            (&[(Op::AtLeast, 3), (Op::AtMost, 1)], Some((3, 2, 2))),
+        ],
+    ),
+    (
+        "cells 5\ncell 1 1..2\ncell 2 1..2\ncell 3 2..3\ncell 4 0..1\ncell 5 1..3\n\
+         term t = min max peak in 2..5\n",
+        &[
+            (
+                (Int(2), PosInf),
+                (1, 1),
+                &[(1, (Int(2), PosInf)), (2, (Int(2), PosInf))],
+            ),
+            (
+                (Int(2), PosInf),
+                (2, 1),
+                &[(1, (Int(2), Int(3))), (2, (Int(3), PosInf))],
+            ),
+            (
+                (Int(2), PosInf),
+                (2, 2),
+                &[(2, (Int(2), PosInf)), (3, (Int(3), Int(3)))],
+            ),
+            (
+                (Int(2), PosInf),
+                (0, 0),
+                &[(0, (Int(2), PosInf)), (1, (Int(2), PosInf))],
+            ),
+            (
+                (Int(2), PosInf),
+                (1, 1),
+                &[
+                    (1, (Int(2), PosInf)),
+                    (2, (Int(2), PosInf)),
+                    (3, (Int(2), PosInf)),
+                ],
+            ),
+        ],
+        &[
+            (&[(Op::AtMost, 2)], Some((2, 2, 1))),
+            (&[(Op::AtMost, 3)], None),
+        ],
+    ),
+    (
+        "cells 7\ncell 1 5\ncell 2 0..1\ncell 3 1..2\ncell 4 1..3\ncell 5 2..3\ncell 6 0\n\
+         cell 7 0 7\nterm t = sum surf steady_sequence in 2..5\n",
+        &[
+            ((Int(0), Int(8)), (5, 5), &[(5, (Int(0), Int(8)))]),
+            (
+                (Int(0), Int(9)),
+                (1, 0),
+                &[(0, (Int(0), Int(6))), (1, (Int(0), Int(9)))],
+            ),
+            (
+                (Int(0), Int(8)),
+                (1, 1),
+                &[(1, (Int(0), Int(8))), (2, (Int(0), Int(6)))],
+            ),
+            (
+                (Int(0), Int(8)),
+                (3, 1),
+                &[
+                    (1, (Int(0), Int(3))),
+                    (2, (Int(0), Int(6))),
+                    (3, (Int(0), Int(8))),
+                ],
+            ),
+            (
+                (Int(0), Int(8)),
+                (2, 2),
+                &[(2, (Int(0), Int(8))), (3, (Int(0), Int(8)))],
+            ),
+            ((Int(0), Int(8)), (0, 0), &[(0, (Int(0), Int(8)))]),
+            (
+                (Int(0), Int(8)),
+                (0, 0),
+                &[(0, (Int(0), Int(8))), (7, (Int(0), Int(8)))],
+            ),
+        ],
+        &[
+            (&[(Op::Equal, 5)], Some((4, 1, 1))),
+            (&[(Op::AtLeast, 4)], Some((4, 1, 1))),
         ],
     ),
 ];

@@ -1,15 +1,20 @@
 //! The calls on the machine of one term, which can be split, at every cell of small boxes.
 
 ghost use Rattle.std.specs.List.{AllByRecursion};
-ghost use Rattle.std.specs.Prelude.{◌≡◌, ◌<◌, ◌≤◌, IfSome, IsSome, length};
+ghost use Rattle.std.specs.Prelude.{◌≡◌, ◌<◌, ◌≤◌, IfSome, IsSome, IsTrue, length};
+ghost use Rattle.ts_bound.specs.TermSpans.{LooksIn, automata_of};
 ghost use Rattle.ts_glue.specs.Machines.{pair_of};
+ghost use Rattle.ts_model.specs.Promise.{IsWhole};
+ghost use Rattle.ts_model.specs.Views.{model_parts};
 ghost use Rattle.ts_model.specs.declared.model.Require.{Require};
 
 use super::OPS;
 use super::at_cells::{BOUNDS, cell_row_holds, span};
 use super::cell_rows::{CellRow, DropRow, Row, cell_rows};
+use super::samples::looks_in;
 use Ext::Int;
 use std::alloc::Global;
+use std::slice;
 use ts_base::{Ext, Goal, Memory};
 use ts_compile::compile_model;
 use ts_domain::Boxed;
@@ -51,7 +56,8 @@ fn first_cut_so(
     goal: Goal,
     bar: Bar,
 ) -> Result<bool, Memory>
-    requires { length rows.now ≤ 9 }
+    requires few { length rows.now ≤ 9 }
+    requires looks { LooksIn (automata_of m.now) cells.now.present }
 {
     Ok(first_cut(alloc, m, goal, cells, bar)? == first_cutting(rows, goal, bar))
 }
@@ -63,7 +69,8 @@ fn first_bound_holds(
     rows: &[CellRow],
     bound: Ext,
 ) -> Result<bool, Memory>
-    requires { length rows.now ≤ 9 }
+    requires few { length rows.now ≤ 9 }
+    requires looks { LooksIn (automata_of m.now) cells.now.present }
 {
     for op in OPS {
         let r = Require { term: 0, op, bound };
@@ -81,7 +88,8 @@ fn first_bound_holds(
 
 /// Whether the first cells below the last are told.
 fn first_holds(alloc: Global, m: &Machine, cells: &Boxed, rows: &[CellRow]) -> Result<bool, Memory>
-    requires { length rows.now ≤ 9 }
+    requires few { length rows.now ≤ 9 }
+    requires looks { LooksIn (automata_of m.now) cells.now.present }
 {
     for bound in BOUNDS {
         if !first_bound_holds(alloc, m, cells, rows, bound)? {
@@ -96,6 +104,7 @@ fn cells_hold(alloc: Global, m: &Machine, cells: &Boxed, rows: &[CellRow]) -> Re
     requires few { length rows.now ≤ 9 }
     requires each { length rows.now ≡ length cells.now.present }
     requires split { IsSome (pair_of m.now) }
+    requires looks { LooksIn (automata_of m.now) cells.now.present }
 {
     for at in 0..rows.len() {
         if !cell_row_holds(alloc, m, at as u32 + 1, cells, &rows[at])? {
@@ -105,15 +114,10 @@ fn cells_hold(alloc: Global, m: &Machine, cells: &Boxed, rows: &[CellRow]) -> Re
     first_holds(alloc, m, cells, rows)
 }
 
-/// The requirements on the first term.
-fn requirements_of(
-    alloc: Global,
-    wanted: &[(Op, i64)],
-    machines: &[Machine],
-) -> Option<Vec<Require>>
-    requires { 0 < length machines.now }
+/// The requirements, all on the first term.
+fn requirements_of(alloc: Global, wanted: &[(Op, i64)]) -> Option<Vec<Require>>
     ensures few { IfSome result (λ v. length v.items < 4000000000) }
-    ensures terms { IfSome result (λ v. AllByRecursion (λ (r : Require). r.term < length machines.now) v.items) }
+    ensures terms { IfSome result (λ v. AllByRecursion (λ (r : Require). r.term < 1) v.items) }
 {
     let mut requirements = Vec::new(alloc);
     for at in 0..wanted.len() {
@@ -131,15 +135,14 @@ fn requirements_of(
 /// The first drop; the outer None is want of memory.
 fn drop_of(
     alloc: Global,
-    machines: &[Machine],
+    m: &Machine,
     cells: &Boxed,
     wanted: &[(Op, i64)],
-) -> Option<Option<Removal>> {
-    if machines.len() != 1 {
-        return None;
-    }
-    let requirements = requirements_of(alloc, wanted, machines)?;
-    next_drop(alloc, machines, &requirements, cells).ok()
+) -> Option<Option<Removal>>
+    requires { LooksIn (automata_of m.now) cells.now.present }
+{
+    let requirements = requirements_of(alloc, wanted)?;
+    next_drop(alloc, slice::from_ref(m), &requirements, cells).ok()
 }
 
 fn removal((cell, value, require): (u32, i64, u32)) -> Removal {
@@ -150,23 +153,40 @@ fn removal((cell, value, require): (u32, i64, u32)) -> Removal {
     }
 }
 
-fn drops_hold(alloc: Global, machines: &[Machine], cells: &Boxed, drops: &[DropRow]) -> bool {
+fn drops_hold(alloc: Global, m: &Machine, cells: &Boxed, drops: &[DropRow]) -> bool
+    requires { LooksIn (automata_of m.now) cells.now.present }
+{
     for &(wanted, first) in drops {
-        if drop_of(alloc, machines, cells, wanted) != Some(first.map(removal)) {
+        if drop_of(alloc, m, cells, wanted) != Some(first.map(removal)) {
             return false;
         }
     }
     true
 }
 
-fn model_of(alloc: Global, text: &str) -> Option<Model> {
+fn model_of(alloc: Global, text: &str) -> Option<Model>
+    ensures { IfSome result (λ m. IsWhole (model_parts m)) }
+{
     if 1000 < text.len() {
         return None;
     }
     read_model(alloc, text.as_bytes(), Need::List).ok()
 }
 
-/// Whether the one machine of a program is told so; it can be split.
+/// Whether the machine can be split and looks at cells of the box, and each of these has its row.
+fn is_tried(m: &Machine, cells: &Boxed, rows: &[CellRow]) -> bool
+    ensures split { IsTrue result → IsSome (pair_of m.now) }
+    ensures looks { IsTrue result → LooksIn (automata_of m.now) cells.now.present }
+    ensures few { IsTrue result → length rows.now ≤ 9 }
+    ensures each { IsTrue result → length rows.now ≡ length cells.now.present }
+{
+    m.reverse().is_some()
+        && looks_in(m, cells)
+        && rows.len() == cells.cells() as usize
+        && rows.len() <= 9
+}
+
+/// Whether the one machine of a program is told so.
 fn machines_hold(
     alloc: Global,
     machines: &[Machine],
@@ -175,8 +195,8 @@ fn machines_hold(
 ) -> Result<bool, Memory> {
     let (_, rows, drops) = row;
     match machines {
-        [m] if m.reverse().is_some() && rows.len() == cells.cells() as usize && rows.len() <= 9 => {
-            Ok(drops_hold(alloc, machines, cells, drops) && cells_hold(alloc, m, cells, rows)?)
+        [m] if is_tried(m, cells, rows) => {
+            Ok(drops_hold(alloc, m, cells, drops) && cells_hold(alloc, m, cells, rows)?)
         }
         _ => Ok(false),
     }

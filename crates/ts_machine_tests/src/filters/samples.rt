@@ -1,7 +1,8 @@
 //! The automata of peaks and the small boxes on which the calls are tried.
 
-ghost use Rattle.std.specs.Prelude.{◌≡◌, ◌≤◌, ◌&&◌, IfSome, int_le, length, neg_ℤ, pos};
+ghost use Rattle.std.specs.Prelude.{◌≡◌, ◌≤◌, ◌&&◌, ℤ, IfSome, IsTrue, List, int_le, length, neg_ℤ, pos};
 ghost use Rattle.std.specs.List.{list_all};
+ghost use Rattle.ts_bound.specs.TermSpans.{LooksIn, automata_of};
 
 use super::rows::{Spans, boxes};
 use Ext::Int;
@@ -29,9 +30,23 @@ fn text_of(alloc: Global, (none, op, mark): (&str, &str, &str)) -> Result<String
     )
 }
 
-pub(super) fn machine(alloc: Global, at: usize) -> Option<Machine> {
+pub(super) fn machine(alloc: Global, at: usize) -> Option<Machine>
+    ensures { IfSome result (λ m. (cells : List (List ℤ)) → LooksIn (automata_of m) cells) }
+{
     let text = text_of(alloc, *WIDTHS.get(at)?).ok()?;
     Some(Machine::plain(read(alloc, text.as_bytes()).ok()?))
+}
+
+/// Whether the machine looks at cells of the box.
+pub(super) fn looks_in(m: &Machine, cells: &Boxed) -> bool
+    ensures { IsTrue result → LooksIn (automata_of m.now) cells.now.present }
+{
+    match m.window() {
+        None => true,
+        Some(window) => {
+            1 <= window.first && window.first <= window.last && window.last <= cells.cells()
+        }
+    }
 }
 
 fn within(values: &[i64]) -> bool

@@ -129,6 +129,43 @@ ok|cells 512/domain 0..128/
 3 UnknownName|cells 3/term m = count peak/term m = sum one peaks/
 2 BadPair|cells 3/term m = max one peak/
 3 BadPair|cells 3/term m = count peak/term m = min one peak/
+-- windows, each kind in its order
+ok|cells 7/term w = sum width peak in 1..4/
+ok|cells 7/term w = count peak in 7/
+ok|cells 7/term in = count peak in 1..7/
+ok|cells 7/term w = count peak in 3..3/term v = count peak/
+1 NoCells|term w = count peak in 0..4/
+1 Shape|term w = count peak in/
+1 Shape|term w = sum width peak in/
+1 Shape|term w = sum width peak at 1..4/
+1 Shape|term w = count peak at 1..4/
+1 Shape|term w = sum width peak in 1..4 x/
+1 Shape|term w = sum width in 1..4/
+1 Shape|term w = count sum peak in 1..4/
+1 Shape|term w = sum width peak IN 1..4/
+1 Shape|term W = count peak in x/
+1 Number|term w = sum width peak in x/
+1 Number|term w = sum in peak in x/
+1 Number|term w = count peak in 1-4/
+1 Number|term w = count peak in 1.4/
+1 Number|term w = count peak in 01/
+1 Shape|term w = count peak in 1 ..4/cells 7/
+1 Number|term w = count peak in 11111111112222222222333333333344444444445555555555666666666677777777778/
+2 CellRange|cells 7/term w = sum width peak in 0..4/
+2 CellRange|cells 7/term w = sum width peak in 4..9/
+2 CellRange|cells 7/term w = sum width peak in -1..4/
+2 CellRange|cells 7/term w = sum width peak in 9..4/
+2 CellRange|cells 7/term w = sum width peak in 4..0/
+2 CellRange|cells 7/term w = sum width peak in 8/
+2 CellRange|cells 7/term w = count hill in 0..4/
+2 CellRange|cells 512/term w = count peak in 1..9223372036854775807/
+2 CellRange|cells 512/term w = count peak in 4294967297/
+2 Empty|cells 7/term w = sum width peak in 5..4/
+2 Empty|cells 7/term w = max one hill in 5..4/
+2 UnknownName|cells 7/term w = count hill in 1..4/
+2 BadPair|cells 7/term w = max one peak in 1..4/
+3 TermTwice|cells 7/term w = count peak/term w = count peak in 1..4/
+3 CellRange|cells 7/term w = count peak/term w = count peak in 1..8/
 -- terms
 2 UnknownTerm|cells 2/require a = 1/term a = count peak/
 3 UnknownTerm|cells 2/term a = count peak/require b = 2000000000000/
