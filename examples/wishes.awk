@@ -66,9 +66,9 @@ function longest_climb(up,    i, j, k, most) {
             if (x[i] != x[i + 1] && x[j] != x[j - 1] && j - i + 1 > most) most = j - i + 1
     return most
 }
-function turns(    i, n, way, now) {
+function turns(until,    i, n, way, now) {
     n = way = 0
-    for (i = 1; i < cells; i++) {
+    for (i = 1; i < until; i++) {
         now = (x[i + 1] > x[i]) - (x[i + 1] < x[i])
         if (now) { n += way && now != way; way = now }
     }
@@ -85,6 +85,13 @@ function in_turn(    i, n, most, way, now) {
     }
     return most
 }
+# The hours of the parts that lie in these hours whole.
+function hours_within(a, b,    k, n) {
+    n = 0
+    for (k = 1; k <= parts; k++) if (first[k] >= a && last[k] <= b) n += hours(k)
+    return n
+}
+function rises_from(a,    i) { for (i = a; i < cells; i++) if (x[i + 1] > x[i]) return 1; return 0 }
 function total(    i, n) { n = 0; for (i = 1; i <= cells; i++) n += x[i]; return n }
 function level_hours(    i, n) {
     n = 0
@@ -125,8 +132,15 @@ function wanted() {
     if (is("at least one level kept for four hours")) { all_stretches(); return longest() >= 4 }
     if (is("at least five hours at levels kept for two hours or more")) return level_hours() >= 5
     if (is("a landing on the way up lasts at least three hours")) { landings(1); return shortest() >= 3 }
-    if (is("at most two turns between up and down")) return turns() <= 2
+    if (is("at most two turns between up and down")) return turns(cells) <= 2
     if (is("at most three changes running, up and down in turn")) return in_turn() <= 3
+    if (is("a run within hours 2 to 5")) { runs(1); return hours_within(2, 5) > 0 }
+    if (is("the top of a hill within hours 3 to 5")) { runs(1); return hours_within(3, 5) > 0 }
+    if (is("at most two hours of whole runs within hours 3 to 6")) { runs(1); return hours_within(3, 6) <= 2 }
+    if (is("no rise after hour 4")) return !rises_from(4)
+    if (is("one level from hour 2 to hour 5")) return x[2] == x[3] && x[3] == x[4] && x[4] == x[5]
+    if (is("more in hour 4 than in hour 3")) return x[4] > x[3]
+    if (is("at most one turn between up and down in the first five hours")) return turns(5) <= 1
     if (is("each level but the first and the last is kept for at least two hours")) return inner_shortest() >= 2
     if (is("each level but the first and the last is kept for at least three hours")) return inner_shortest() >= 3
     if (is("no run shorter than three hours, at the ends too")) { runs(1, 1); return shortest() >= 3 }

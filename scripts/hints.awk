@@ -74,6 +74,17 @@ function first_bad_number(from, ranges,    i, part) {
     return ""
 }
 
+# Why the words from the pattern on don't fit; nothing where they may.
+function why_tail(    pattern) {
+    pattern = word[4] == "count" ? 5 : 6
+    if (count < pattern) return ""
+    if (word[pattern] == "in" && count > pattern) return "a pattern stands before in"
+    if (count > pattern && word[pattern + 1] != "in")
+        return "behind " (pattern == 5 ? "count stands a pattern alone" : "the pattern nothing stands") ", or in and a range of cells"
+    if (count == pattern + 1) return "behind in stands a range of cells, such as 1..4"
+    return count > pattern + 2 ? "one range of cells stands behind in" : ""
+}
+
 function why_shape(    i, glued) {
     for (i = 2; i <= count; i++)
         if (word[i] ~ /^#/) return "a comment has a line of its own"
@@ -81,7 +92,7 @@ function why_shape(    i, glued) {
         if (count > 1 && word[2] ~ /=/) return "blanks stand around the ="
         if (count > 1 && !is_name(word[2])) return why_no_name(word[2])
         if (count > 2 && word[3] != "=") return "an = with blanks around it stands behind the name"
-        if (word[4] == "count") return "behind count stands a pattern alone"
+        if (why_tail() != "") return why_tail()
         if (count == 5) return "an aggregator, a feature and a pattern stand behind the =, or count and a pattern"
     }
     if (word[1] == "require") {
@@ -146,6 +157,7 @@ function why(kind,    bad) {
     if (kind == "shape") return why_shape()
     if (kind == "number") {
         if (word[1] == "require") return why_no_number(word[4])
+        if (word[1] == "term") return why_no_number(word[count])
         if (word[1] == "cell" && !is_number(word[2])) return "behind cell stands the number of one cell"
         bad = first_bad_number(word[1] == "cell" ? 3 : 2, word[1] != "cells")
         return bad == "" ? "a number is out of reach" : why_no_number(bad)
@@ -194,7 +206,7 @@ BEGIN {
     form["cells"] = "cells N"
     form["domain"] = "domain R .., where R is a number or a range such as 0..9"
     form["cell"] = "cell K R .., where R is a number or a range such as 0..9"
-    form["term"] = "term NAME = AGGREGATOR FEATURE PATTERN, or term NAME = count PATTERN"
+    form["term"] = "term NAME = AGGREGATOR FEATURE PATTERN, or term NAME = count PATTERN; behind either, in A..B"
     form["require"] = "require NAME <= B, where B is a number; also = != >= < >"
     form["objective"] = "objective NAME"
     split(answer, told, " ")
