@@ -240,12 +240,6 @@ pub row_stands_there : (b : Body) (cells : List (List ℤ)) (rows : List (List H
     IsRow k rows
 row_stands_there b cells rows k is some few = let l = ap length is ∙ length-forward b [] cells in (some, omega (arith, l, few))
 
-pub rows_ahead : (b : Body) (cells : List (List ℤ)) (rows : List (List Hull)) (n : ℕ) → rows ≡ forward_rows b cells → n ≡ length cells → n ≤ length rows
-rows_ahead b cells rows n is few = let l = ap length is ∙ length-forward b [] cells in omega (arith, l, few)
-
-pub rows_back : (b : Body) (cells : List (List ℤ)) (rows : List (List Hull)) (n : ℕ) → rows ≡ backward_rows b cells → n ≡ length cells → n ≤ length rows
-rows_back b cells rows n is few = let l = ap length is ∙ length-backward b cells in omega (arith, l, few)
-
 -- lists
 
 take_set : {X : Type 0} (t : List X) (k : ℕ) (x : X) → k < length t → take (suc k) (set t k x) ≡ take k t ++ x ∷ []

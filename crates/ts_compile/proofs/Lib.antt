@@ -1,6 +1,7 @@
 mod Facts
 mod Forms
 mod Instances
+mod JoinStates
 mod JudgeLaws
 mod Local
 pub mod Over

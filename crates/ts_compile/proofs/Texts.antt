@@ -89,11 +89,6 @@ letter_there [] q = refl
 letter_there (s ∷ ss) zero = refl
 letter_there (s ∷ ss) (suc q) = letter_there ss q
 
-pub no_letter_there : (states : List Node) (q : ℕ) → length states ≤ q → 0 ≡ name_at (state_lines states) q
-no_letter_there [] q h = refl
-no_letter_there (s ∷ ss) zero h = absurd (omega arith)
-no_letter_there (s ∷ ss) (suc q) h = no_letter_there ss q (omega arith)
-
 -- what is said of the machine at a place is said of the term there
 pub same_at : {X Y B : Type 0} (f : X → B) (g : Y → B) (xs : List X) (ys : List Y) (k : ℕ) (x : X) (y : Y) → map f xs ≡ map g ys →
     slice_get xs k ≡ Some x → slice_get ys k ≡ Some y → f x ≡ g y

@@ -1,6 +1,6 @@
 -- The text of a program: for each term a line with its name and what it is, its forward block, and either the line that
 -- there is no reverse one, or the reverse block and how the two are glued.
-use Rattle.std.specs.Prelude.{ℕ, codes, ◌==◌, if◌then◌else◌, List, [], ◌∷◌, ◌++◌, map, Option, Some, None}
+use Rattle.std.specs.Prelude.{ℕ, codes, ◌==◌, ◌<◌, length, if◌then◌else◌, List, [], ◌∷◌, ◌++◌, map, Option, Some, None}
 use Rattle.std.specs.Prelude.{String, string_bytes}
 use Rattle.std.specs.Fmt.{decimal}
 use Rattle.std.specs.Global.{Global}
@@ -50,7 +50,11 @@ unit_word ValueCell = codes "x"
 abbrev pub glue_words : Table → List (List ℕ)
 glue_words t = codes "glue" ∷ trim_word t.a ∷ fold_word t.op ∷ unit_word t.unit ∷ []
 
--- the letters of both states of a Join pair
+-- both states of a Join pair are there
+abbrev pub IsBetween : Body → Body → Join → Type 0
+IsBetween forward reverse j = (j.forward < length forward.states) × (j.reverse < length reverse.states)
+
+-- their letters
 abbrev pub join_words : Body → Body → Join → List (List ℕ)
 join_words forward reverse j =
     codes "join" ∷ (name_at (state_lines forward.states) j.forward ∷ [])

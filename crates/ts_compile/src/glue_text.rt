@@ -1,10 +1,11 @@
 //! What stands in the text of a program behind a forward block.
 
-ghost use Rattle.std.specs.Prelude.{◌≡◌, ◌++◌, map, Some, OnOk};
+ghost use Rattle.std.specs.Prelude.{◌≡◌, ◌<◌, ◌++◌, length, map, Some, All, IsTrue, OnOk};
 ghost use Rattle.ts_automaton.specs.AutomatonText.{lines_text, name_at, state_lines, words_text};
-ghost use Rattle.ts_compile.specs.ProgramText.{fold_word, glue_words, join_words, reverse_text, trim_word, unit_word};
+ghost use Rattle.ts_compile.specs.ProgramText.{IsBetween, fold_word, glue_words, join_words, reverse_text, trim_word, unit_word};
 ghost use Rattle.ts_glue.specs.Machines.{pair_of};
 ghost use Rattle.ts_glue.specs.Pairs.{pair, table_view};
+ghost use Rattle.ts_glue.specs.Rules.{has_join_states};
 
 use crate::words::push_word;
 use ts_automaton::{Automaton, Way, write, write_head};
@@ -29,6 +30,7 @@ fn push_glued(
     reverse: &Automaton,
     table: &GlueTable,
 ) -> Result<(), Memory>
+    requires { IsTrue (has_join_states (pair forward.now reverse.now (table_view table.now))) }
     ensures { let split = Some (pair forward.now reverse.now (table_view table.now)) in
         OnOk result (text.new.items ≡ text.old.items ++ reverse_text split) }
 {
@@ -59,6 +61,7 @@ fn push_joins(
     reverse: &Automaton,
     joins: &[Join],
 ) -> Result<(), Memory>
+    requires { All (IsBetween forward.now reverse.now) joins.now }
     ensures { let lines = map (join_words forward.now reverse.now) joins.now in
         OnOk result (text.new.items ≡ text.old.items ++ lines_text lines) }
 {
@@ -75,6 +78,8 @@ fn push_join(
     reverse: &Automaton,
     join: Join,
 ) -> Result<(), Memory>
+    requires forward { join.forward < length forward.now.states }
+    requires reverse { join.reverse < length reverse.now.states }
     ensures { let line = join_words forward.now reverse.now join in
         OnOk result (text.new.items ≡ text.old.items ++ words_text line) }
 {
@@ -86,15 +91,12 @@ fn push_join(
     Ok(())
 }
 
-/// The letter of the state at a place, or 0 where there is none.
+/// The letter of the state at a place.
 fn name_at(automaton: &Automaton, q: u8) -> u8
+    requires { q < length automaton.now.states }
     ensures { result ≡ name_at (state_lines automaton.now.states) q }
 {
-    if q < automaton.states() {
-        automaton.state(q).name
-    } else {
-        0
-    }
+    automaton.state(q).name
 }
 
 /// The word of a trim, which is 0 or 1.

@@ -6,4 +6,3 @@ pub mod TwoForms
 pub mod Locality
 pub mod Calls
 pub mod CallerLemmas
-pub mod Whole

@@ -3,6 +3,7 @@ use Rattle.ts_automaton.specs.declared.draft.Way.TheVariants.{Reverse}
 use Rattle.ts_automaton.specs.AutomatonText.{words_text, lines_text, head_text, body_text}
 use Rattle.ts_glue.specs.Pairs.{table_view}
 use Rattle.ts_compile.specs.ProgramText.{glue_words, join_words}
+use Rattle.ts_compile.proofs.JoinStates.{all_between}
 use Rattle.ts_compile.proofs.Texts.{more_pushed}
 use Rattle.ts_compile.proofs.glue_text.push_glued.Goals as goal
 
@@ -17,3 +18,7 @@ returns c =
     c.in_ok-write_head.ensures.ok c.in_ok-write.ensures.ok c.in_ok-push_glue.ensures
     (c.in_ok-push_joins.ensures ∙ ap (λ js. c.push_glue.new.text.items ++ lines_text (map (join_words f r) js)) c.deref.ensures.value)
     c.in_ok-extend_from_slice.ensures.items
+
+pub push_joins-requires : goal.push_joins-requires
+push_joins-requires c =
+    all_between c.args.forward.now c.args.reverse.now (table_view c.args.table.now) c.deref.result.now c.deref.ensures.value c.requires
