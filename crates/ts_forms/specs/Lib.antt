@@ -1,0 +1,4 @@
+pub mod Nodes
+pub mod Tables
+pub mod Orders
+pub mod Joins
