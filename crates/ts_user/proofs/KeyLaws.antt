@@ -1,5 +1,5 @@
--- Different expressions and different configurations have different keys, and a key is found where it stands.
-use Rattle.std.specs.Prelude.{◌≡◌, ℕ, zero, suc, ◌+◌, ◌<◌, ◌==◌, Bool, true, false, not, ◌||◌, if◌then◌else◌, List, [], ◌∷◌, ◌++◌, None, Some, map, slice_get, get_or, length, nat_eq, take, refl}
+-- Different configurations have different keys, and a key is found where it stands.
+use Rattle.std.specs.Prelude.{◌≡◌, ℕ, zero, suc, ◌+◌, ◌<◌, Bool, true, false, not, ◌||◌, if◌then◌else◌, List, [], ◌∷◌, ◌++◌, None, Some, map, slice_get, get_or, length, nat_eq, take, refl}
 use Rattle.std.specs.List.{list_any}
 use Rattle.std.specs.Cmp.Lexicographic.{pointwise, bytes_decides}
 use Rattle.std.proofs.Common.{Vec, Global, sym, ◌∙◌, ap, arith}
@@ -7,62 +7,14 @@ use Rattle.std.proofs.lemmas.Bool.{false≢true}
 use Rattle.std.proofs.lemmas.List.{append_assoc, map-append, take_more}
 use Rattle.std.proofs.lemmas.Option.{none-some, same_Some}
 use Rattle.indexmap.specs.IndexSet.{insert_key}
-use Rattle.ts_base.specs.declared.letter.Letter.TheVariants.{Less, Equal, Greater}
-use Rattle.ts_regex.specs.Shape.{Shape, Empty, Eps, One, Cat, Alt, Star}
 use Rattle.ts_pattern.specs.declared.plan.Tag.{Tag}
 use Rattle.ts_pattern.specs.declared.plan.Tag.TheVariants.{Young, Due, InD, InC, Loose}
 use Rattle.ts_pattern.specs.declared.plan.Live.{Live}
 use Rattle.ts_pattern.specs.declared.plan.Configuration.{Configuration}
-use Rattle.ts_user.specs.Keys.{regex_key, tag_number, entry_keys, configuration_key, IsPlaced}
+use Rattle.ts_user.specs.Keys.{tag_number, entry_keys, configuration_key, IsPlaced}
 use Rattle.ts_user.specs.Listings.{AreSame}
 
--- an expression is read back from its key: those that are complete, the last first
-
-abbrev join : (Shape → Shape → Shape) → List Shape → List Shape
-join f [] = []
-join f (s ∷ []) = []
-join f (s ∷ r ∷ rs) = f r s ∷ rs
-
-abbrev repeat : List Shape → List Shape
-repeat [] = []
-repeat (r ∷ rs) = Star r ∷ rs
-
-abbrev node : ℕ → List Shape → List Shape
-node n rs =
-    if n == 0 then Empty ∷ rs
-    else (if n == 1 then Eps ∷ rs
-    else (if n == 2 then One Less ∷ rs
-    else (if n == 3 then One Equal ∷ rs
-    else (if n == 4 then One Greater ∷ rs
-    else (if n == 5 then join (λ r s. Cat r s) rs
-    else (if n == 6 then join (λ r s. Alt r s) rs
-    else repeat rs))))))
-
-abbrev built : List ℕ → List Shape → List Shape
-built [] rs = rs
-built (n ∷ ns) rs = built ns (node n rs)
-
-both_parts : (r s : Shape) (n : ℕ) (ns : List ℕ) → ((regex_key r ++ regex_key s) ++ n ∷ []) ++ ns ≡ regex_key r ++ (regex_key s ++ n ∷ ns)
-both_parts r s n ns =
-    append_assoc (regex_key r ++ regex_key s) (n ∷ []) ns ∙ append_assoc (regex_key r) (regex_key s) (n ∷ ns)
-
-built_back : (r : Shape) (ns : List ℕ) (rs : List Shape) → built (regex_key r ++ ns) rs ≡ built ns (r ∷ rs)
-built_back Empty ns rs = refl
-built_back Eps ns rs = refl
-built_back (One Less) ns rs = refl
-built_back (One Equal) ns rs = refl
-built_back (One Greater) ns rs = refl
-built_back (Cat r s) ns rs =
-    ap (λ z. built z rs) (both_parts r s 5 ns) ∙ built_back r (regex_key s ++ 5 ∷ ns) rs ∙ built_back s (5 ∷ ns) (r ∷ rs)
-built_back (Alt r s) ns rs =
-    ap (λ z. built z rs) (both_parts r s 6 ns) ∙ built_back r (regex_key s ++ 6 ∷ ns) rs ∙ built_back s (6 ∷ ns) (r ∷ rs)
-built_back (Star r) ns rs = ap (λ z. built z rs) (append_assoc (regex_key r) (7 ∷ []) ns) ∙ built_back r (7 ∷ ns) rs
-
-pub same_regex : (r s : Shape) → regex_key r ≡ regex_key s → r ≡ s
-same_regex r s e =
-    ap (λ z. get_or z 0 Empty) (sym (built_back r [] []) ∙ ap (λ z. built (z ++ []) []) e ∙ built_back s [] [])
-
--- so are the entries of a configuration
+-- the entries of a configuration are read back from its key
 
 abbrev tag_of : ℕ → Tag
 tag_of zero = Due

@@ -6,7 +6,7 @@ use Rattle.std.proofs.lemmas.List.{length-map, length-append, map-append}
 use Rattle.std.proofs.lemmas.Option.{slice_get_read, slice_get_within, none-some, same_Some}
 use Rattle.ts_base.specs.declared.letter.Letter.{Letter}
 use Rattle.ts_base.specs.declared.letter.Letter.TheVariants.{Less, Greater}
-use Rattle.ts_regex.specs.Shape.{Shape, shape_of}
+use Rattle.ts_regex.specs.Shape.{Shape}
 use Rattle.ts_pattern.specs.declared.plan.Tag.{Tag}
 use Rattle.ts_pattern.specs.declared.plan.Live.{Live}
 use Rattle.ts_pattern.specs.declared.plan.Configuration.{Configuration}
@@ -27,7 +27,7 @@ use Rattle.ts_user.specs.Books.{residuals_of, IsBook, Grows, AreListed, values, 
 use Rattle.ts_user.specs.Listings.{IsTaken, IsReady, signatures_of, IsListed, AreSame, IsNew, IsFull}
 use Rattle.ts_user.proofs.Places.{place_push}
 use Rattle.ts_user.proofs.KeyLaws.{key_at, key_there, same_configuration, configuration_keys_same}
-use Rattle.ts_user.proofs.Books.{push_length, get_push, get_there}
+use Rattle.ts_user.proofs.Books.{book_length, push_length, get_push, get_there}
 use Rattle.ts_user.proofs.Steps.{listed_grow, values_grow}
 use Rattle.ts_user.proofs.Taking.{reached_push, at_old, at_new, pass_more, take_old, take_new, ready_next, signatures_are}
 
@@ -126,7 +126,7 @@ pub room_for : (s : Subject Shape) (p : Shape) (t : Listing) (k : ℕ) (here : C
     here ≡ get_or t.configurations.items k here → length t.book.residuals.items + length here.live.items < 4000000000
 room_for s p t k here h q e =
     let most = residuals_few s p t h in
-    let size = length-map t.book.residuals.items (λ s. shape_of s) in
+    let size = book_length t.book in
     let own = h.few_entries k here (slice_get_read t.configurations.items _ k here refl q e) in
     let few = h.few in
     omega (arith, most, size, own, few, q)

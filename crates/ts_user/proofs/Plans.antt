@@ -44,11 +44,11 @@ same_lists f g (x ∷ xs) (w ∷ ws) n h =
 -- the plan's configurations are those of the signatures
 
 pub values_are : (rows : List Row) (p : Pattern) (plan : Plan) (t : Listing) → IsListed (unplanned_of rows p) (shape_of p.regex) t →
-    plan.residuals.items ≡ t.book.residuals.items → plan.configurations.items ≡ t.configurations.items →
+    map (λ s. shape_of s) plan.residuals.items ≡ residuals_of t.book → plan.configurations.items ≡ t.configurations.items →
     values_of rows p plan ≡ map (λ w. reached (unplanned_of rows p) w) (signatures_of t)
 values_are rows p plan t h r c =
     let rs : List Shape = residuals_of t.book in
-    ap (λ z. map (λ x. configuration_value (map (λ s. shape_of s) z) x) (map (λ x. plain_configuration x) plan.configurations.items)) r
+    ap (λ z. map (λ x. configuration_value z x) (map (λ x. plain_configuration x) plan.configurations.items)) r
     ∙ ap (λ z. map (λ x. configuration_value rs x) (map (λ x. plain_configuration x) z)) c
     ∙ map-map (λ x. configuration_value rs x) (λ x. plain_configuration x) t.configurations.items
     ∙ same_lists (λ x. value_of rs x) (λ w. reached (unplanned_of rows p) w) t.configurations.items (signatures_of t) h.size h.values
@@ -109,15 +109,15 @@ plan_listing rows p plan t h k e =
     }
 
 pub plan_numbered : (rows : List Row) (p : Pattern) (plan : Plan) (t : Listing) → IsListed (unplanned_of rows p) (shape_of p.regex) t →
-    plan.residuals.items ≡ t.book.residuals.items → plan.configurations.items ≡ t.configurations.items → IsNumbered plan
+    map (λ s. shape_of s) plan.residuals.items ≡ residuals_of t.book → plan.configurations.items ≡ t.configurations.items → IsNumbered plan
 plan_numbered rows p plan t h r c =
     subst (λ z. AreNumbered 1 (entry_numbers z) (length plan.residuals.items)) (sym c)
-    (subst (λ z. AreNumbered 1 (entry_numbers t.configurations.items) (length z)) (sym r)
-    (subst (λ z. AreNumbered 1 (entry_numbers t.configurations.items) z) (length-map t.book.residuals.items (λ s. shape_of s)) h.numbered))
+    (subst (λ z. AreNumbered 1 (entry_numbers t.configurations.items) z) (length-map plan.residuals.items (λ s. shape_of s))
+    (subst (λ z. AreNumbered 1 (entry_numbers t.configurations.items) (length z)) (sym r) h.numbered))
 
 pub plan_once : (rows : List Row) (p : Pattern) (plan : Plan) (t : Listing) → IsListed (unplanned_of rows p) (shape_of p.regex) t →
-    plan.residuals.items ≡ t.book.residuals.items → HasResidualsOnce plan
-plan_once rows p plan t h r = subst (λ z. AreDifferent (map (λ s. shape_of s) z)) (sym r) h.book.once
+    map (λ s. shape_of s) plan.residuals.items ≡ residuals_of t.book → HasResidualsOnce plan
+plan_once rows p plan t h r = subst (λ z. AreDifferent z) (sym r) h.book.once
 
 -- it is a plan of the pattern
 
@@ -174,13 +174,13 @@ is_of p rs xs a b c =
     (list_all (λ (x : PlainConfiguration ℕ). list_all (λ (e : Entry (Unit {0}) ℕ Tag). nat_lt e.residual (length rs)) x.live) (map (λ x. plain_configuration x) xs)) b c)
 
 pub plan_fits : (rows : List Row) (p : Pattern) (plan : Plan) (t : Listing) → IsListed (unplanned_of rows p) (shape_of p.regex) t →
-    IsWhole (unplanned_of rows p) (signatures_of t) → plan.residuals.items ≡ t.book.residuals.items → plan.configurations.items ≡ t.configurations.items →
+    IsWhole (unplanned_of rows p) (signatures_of t) → map (λ s. shape_of s) plan.residuals.items ≡ residuals_of t.book → plan.configurations.items ≡ t.configurations.items →
     is_plan_of (shape_of p.regex) (plain_plan plan) ≡ true
 plan_fits rows p plan t h k r c =
     let rs : List Shape = residuals_of t.book in
     let f = first_word (unplanned_of rows p) (signatures_of t) k in
     let size = h.size in
-    ap (λ z. is_plan_of (shape_of p.regex) (record { residuals = map (λ s. shape_of s) z; configurations = map (λ x. plain_configuration x) plan.configurations.items })) r
+    ap (λ z. is_plan_of (shape_of p.regex) (record { residuals = z; configurations = map (λ x. plain_configuration x) plan.configurations.items })) r
     ∙ ap (λ z. is_plan_of (shape_of p.regex) (record { residuals = rs; configurations = map (λ x. plain_configuration x) z })) c
     ∙ is_of p rs t.configurations.items (first_whole rs (normal_form (shape_of p.regex)) (h.book).some (h.book).whole)
     (first_blank rs t.configurations.items (subst (λ z. 0 < z) (sym size) f.0)
@@ -188,22 +188,22 @@ plan_fits rows p plan t h k r c =
     (all_known (length rs) t.configurations.items h.listed)
 
 pub plan_few : (rows : List Row) (p : Pattern) (plan : Plan) (t : Listing) → IsListed (unplanned_of rows p) (shape_of p.regex) t →
-    plan.residuals.items ≡ t.book.residuals.items → length plan.residuals.items ≤ 262145
+    map (λ s. shape_of s) plan.residuals.items ≡ residuals_of t.book → length plan.residuals.items ≤ 262145
 plan_few rows p plan t h r =
     let few = residuals_few (unplanned_of rows p) (shape_of p.regex) t h in
-    let size = length-map t.book.residuals.items (λ s. shape_of s) in
+    let size = length-map plan.residuals.items (λ s. shape_of s) in
     let same = ap (λ z. length z) r in omega (arith, few, size, same)
 
 -- over rows that were lent
 
 pub closed_lent : (lent rows : List Row) (p : Pattern) (plan : Plan) (t : Listing) → lent ≡ rows → IsListed (unplanned_of lent p) (shape_of p.regex) t →
-    IsWhole (unplanned_of lent p) (signatures_of t) → plan.residuals.items ≡ t.book.residuals.items → plan.configurations.items ≡ t.configurations.items →
+    IsWhole (unplanned_of lent p) (signatures_of t) → map (λ s. shape_of s) plan.residuals.items ≡ residuals_of t.book → plan.configurations.items ≡ t.configurations.items →
     IsClosed (against rows p plan)
 closed_lent lent rows p plan t e h k r c =
     subst (λ z. IsClosed (against z p plan)) e (plan_closed lent p plan (signatures_of t) k (values_are lent p plan t h r c))
 
 pub listing_lent : (lent rows : List Row) (p : Pattern) (plan : Plan) (t : Listing) → lent ≡ rows → IsListed (unplanned_of lent p) (shape_of p.regex) t →
-    IsWhole (unplanned_of lent p) (signatures_of t) → plan.residuals.items ≡ t.book.residuals.items → plan.configurations.items ≡ t.configurations.items →
+    IsWhole (unplanned_of lent p) (signatures_of t) → map (λ s. shape_of s) plan.residuals.items ≡ residuals_of t.book → plan.configurations.items ≡ t.configurations.items →
     IsListing (unplanned_of rows p) (values_of rows p plan)
 listing_lent lent rows p plan t e h k r c =
     subst (λ z. IsListing (unplanned_of z p) (values_of z p plan)) e (plan_listing lent p plan t h k (values_are lent p plan t h r c))

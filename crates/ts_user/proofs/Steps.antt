@@ -6,7 +6,7 @@ use Rattle.std.proofs.Common.{sym, ◌∙◌, ap, subst, inl, inr, arith, ⊎_el
 use Rattle.std.proofs.lemmas.Bool.{false≢true, eqb-true, eq-eqb}
 use Rattle.std.proofs.lemmas.List.{length-map, map-append, take_more}
 use Rattle.ts_base.specs.declared.letter.Letter.{Letter}
-use Rattle.ts_regex.specs.Shape.{Shape, shape_of}
+use Rattle.ts_regex.specs.Shape.{Shape}
 use Rattle.ts_regex.specs.Derivative.{has_word, nullable, has_longer}
 use Rattle.ts_regex.specs.NormalForm.{residual, normal_form, same_shape}
 use Rattle.ts_regex.proofs.Laws.{same_law}
@@ -32,7 +32,7 @@ use Rattle.ts_user.specs.declared.book.Book.{Book}
 use Rattle.ts_user.specs.FirstReached.{unplanned}
 use Rattle.ts_user.specs.Numbered.{AreNumbered, live_numbers}
 use Rattle.ts_user.specs.Books.{residuals_of, IsNumberOf, IsBook, Grows, IsAfter, AreListed, values, IsAdded, IsLeft, with_new, value_of, IsStep}
-use Rattle.ts_user.proofs.Books.{push_length, shape_old, found_grows}
+use Rattle.ts_user.proofs.Books.{book_length, push_length, shape_old, found_grows}
 
 -- more residuals
 
@@ -300,7 +300,7 @@ left_last old mid new whole b l live i g before after some first q t k a =
 pub room_at : (old : List Shape) (book : Book) (l : Letter) (live kept : List Live) (i n : ℕ) → IsLeftTo old (residuals_of book) l (take i live) kept →
     length old ≡ n → n + length live < 4000000000 → length book.residuals.items < 4000000000
 room_at old book l live kept i n h e q =
-    let few = h.few_residuals in let size = length-map book.residuals.items (λ s. shape_of s) in let part = take_short live i in
+    let few = h.few_residuals in let size = book_length book in let part = take_short live i in
     omega (arith, few, size, e, q, part)
   where
     take_short : {A : Type 0} (xs : List A) (i : ℕ) → length (take i xs) ≤ length xs

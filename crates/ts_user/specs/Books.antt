@@ -4,9 +4,10 @@ use Rattle.std.specs.Prelude.{◌≡◌, ◌⊎◌, ℕ, ◌+◌, ◌<◌, ◌�
 use Rattle.std.specs.List.{AllByRecursion, list_any}
 use Rattle.ts_base.specs.declared.letter.Letter.{Letter}
 use Rattle.ts_base.specs.declared.letter.Letter.TheVariants.{Less, Equal, Greater}
-use Rattle.ts_regex.specs.Shape.{Shape, shape_of}
+use Rattle.ts_regex.specs.Shape.{Shape}
 use Rattle.ts_regex.specs.Derivative.{has_word}
 use Rattle.ts_regex.specs.NormalForm.{residual, normal_form}
+use Rattle.ts_forms.specs.Tables.{shapes as shapes_in, IsTable, AreThere, forms_at}
 use Rattle.ts_pattern.specs.declared.plan.Tag.{Tag}
 use Rattle.ts_pattern.specs.declared.plan.Live.{Live}
 use Rattle.ts_pattern.specs.declared.plan.Configuration.{Configuration}
@@ -20,12 +21,11 @@ use Rattle.ts_user.specs.declared.book.Next.TheVariants.{Unread, NoWord, Number}
 use Rattle.ts_user.specs.declared.book.Nexts.{Nexts}
 use Rattle.ts_user.specs.declared.book.Book.{Book}
 use Rattle.ts_user.specs.declared.step.KeptEntries.{KeptEntries}
-use Rattle.ts_user.specs.Keys.{key_lists, regex_key}
 use Rattle.ts_user.specs.FirstReached.{agrees}
 use Rattle.ts_user.specs.Numbered.{AreDifferent, AreNumbered, live_numbers}
 
 abbrev pub residuals_of : Book → List Shape
-residuals_of b = map (λ r. shape_of r) b.residuals.items
+residuals_of b = forms_at (shapes_in b.forms) b.residuals.items
 
 abbrev pub next_on : Letter → Nexts → Next
 next_on Less n = n.less
@@ -56,7 +56,9 @@ NextsSay rs r n = (l : Letter) → NextSays rs (residual r l) (next_on l n)
 pub record IsBook (p : Shape) (b : Book) : Type 0 where
   pub some : 0 < length (residuals_of b)
   pub whole : shape_at (residuals_of b) 0 ≡ normal_form p
-  pub keys : key_lists b.keys ≡ map regex_key (residuals_of b)
+  pub forms : IsTable b.forms
+  pub there : AreThere (shapes_in b.forms) b.residuals.items
+  pub places : b.places.keys ≡ b.residuals.items
   pub words : b.words.items ≡ map (λ r. words_of r) (residuals_of b)
   pub as_many_nexts : length b.nexts.items ≡ length (residuals_of b)
   pub once : AreDifferent (residuals_of b)

@@ -1,23 +1,10 @@
--- The lists of numbers that stand for residuals and configurations, so that these are found by their hashes.
+-- The lists of numbers that stand for configurations, so that these are found by their hashes.
 use Rattle.std.specs.Prelude.{◌≡◌, ℕ, ◌+◌, List, [], ◌∷◌, ◌++◌, Option, None, Some, map, slice_get}
-use Rattle.ts_base.specs.declared.letter.Letter.TheVariants.{Less, Equal, Greater}
-use Rattle.ts_regex.specs.Shape.{Shape, Empty, Eps, One, Cat, Alt, Star}
 use Rattle.ts_pattern.specs.declared.plan.Tag.{Tag}
 use Rattle.ts_pattern.specs.declared.plan.Tag.TheVariants.{Young, Due, InD, InC, Loose}
 use Rattle.ts_pattern.specs.declared.plan.Live.{Live}
 use Rattle.ts_pattern.specs.declared.plan.Configuration.{Configuration}
 use Rattle.ts_user.specs.declared.keys.Keys.{Keys}
-
--- each node of an expression behind its parts
-abbrev pub regex_key : Shape → List ℕ
-regex_key Empty = 0 ∷ []
-regex_key Eps = 1 ∷ []
-regex_key (One Less) = 2 ∷ []
-regex_key (One Equal) = 3 ∷ []
-regex_key (One Greater) = 4 ∷ []
-regex_key (Cat r s) = (regex_key r ++ regex_key s) ++ 5 ∷ []
-regex_key (Alt r s) = (regex_key r ++ regex_key s) ++ 6 ∷ []
-regex_key (Star r) = regex_key r ++ 7 ∷ []
 
 abbrev pub tag_number : Tag → ℕ
 tag_number Due = 0

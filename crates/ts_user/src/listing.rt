@@ -1,8 +1,9 @@
 //! The configurations that are listed, each with the signature by which it was first reached.
 
-ghost use Rattle.std.specs.Prelude.{◌≡◌, ◌+◌, ◌<◌, ◌≤◌, ◌++◌, [], ◌∷◌, IfOk, IfErr, length};
+ghost use Rattle.std.specs.Prelude.{◌≡◌, ◌+◌, ◌<◌, ◌≤◌, ◌++◌, [], ◌∷◌, IfOk, IfErr, map, length};
 ghost use Rattle.ts_regex.specs.Shape.{shape_of};
 ghost use Rattle.ts_user.specs.SignatureOrder.{place, signature_at};
+ghost use Rattle.ts_user.specs.Books.{residuals_of, IsBook};
 ghost use Rattle.ts_user.specs.BuildAnswers.{unplanned_of, IsStop};
 ghost use Rattle.ts_user.specs.Listings.{IsTaken, IsReady, IsListed, IsFull, signatures_of};
 
@@ -147,10 +148,13 @@ impl Listing {
         Ok(())
     }
 
-    /// The plan of what is listed.
-    pub fn into_plan(self) -> Plan
-        ensures residuals { result.residuals.items ≡ self.book.residuals.items }
-        ensures configurations { result.configurations.items ≡ self.configurations.items }
+    /// The plan of what is listed. `p` is the pattern that the listing was begun with.
+    pub fn into_plan(self, alloc: Global, p: &Pattern) -> Result<Plan, Memory>
+        requires { IsBook (shape_of p.now.regex) self.book }
+        ensures residuals { IfOk result (λ plan.
+            map (λ r. shape_of r) plan.residuals.items ≡ residuals_of self.book) }
+        ensures configurations { IfOk result (λ plan.
+            plan.configurations.items ≡ self.configurations.items) }
     {
         let Listing {
             book,
@@ -158,16 +162,11 @@ impl Listing {
             signatures: _,
             keys: _,
         } = self;
-        let Book {
-            residuals,
-            keys: _,
-            words: _,
-            nexts: _,
-        } = book;
-        Plan {
+        let residuals = book.regexes(alloc)?;
+        Ok(Plan {
             residuals,
             configurations,
-        }
+        })
     }
 }
 

@@ -1,6 +1,6 @@
 //! The whole plan.
 
-ghost use Rattle.std.specs.Prelude.{◌≡◌, ◌<◌, ◌≤◌, IfOk, IfErr, IsTrue, length};
+ghost use Rattle.std.specs.Prelude.{◌<◌, ◌≤◌, IfOk, IfErr, IsTrue, length};
 ghost use Rattle.ts_regex.specs.Shape.{shape_of};
 ghost use Rattle.ts_transducer.specs.Rows.{rows_of};
 ghost use Rattle.ts_pattern.specs.Closed.{IsClosed};
@@ -50,5 +50,5 @@ pub fn build_plan(alloc: Global, t: &Transducer, p: &Pattern) -> Result<Plan, Bu
     ensures stop { IfErr result (λ e. IsStop (unplanned_of (rows_of t.now) p.now) e) }
 {
     let listing = list_all(alloc, t.rows(), p)?;
-    Ok(listing.into_plan())
+    Ok(listing.into_plan(alloc, p)?)
 }

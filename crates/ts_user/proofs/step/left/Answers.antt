@@ -1,5 +1,5 @@
 use Rattle.std.proofs.Common.{◌<◌, subst, sym, take}
-use Rattle.std.proofs.lemmas.List.{length-map}
+use Rattle.ts_user.proofs.Books.{book_length}
 use Rattle.ts_regex.specs.Shape.{shape_of}
 use Rattle.ts_regex.specs.NormalForm.{normal_form}
 use Rattle.ts_user.specs.Books.{residuals_of}
@@ -18,12 +18,12 @@ loop-entry-init c =
 pub add_left-requires-clause-there : goal.add_left-requires-clause-there
 add_left-requires-clause-there c =
     entry_listed (residuals_of c.args.book.now) (residuals_of c.loop-entry.book) c.args.live.now c.loop-entry.entry-index _ c.requires.listed
-    c.loop-entry-test.true c.loop-entry.invariant.left.grows _ (length-map c.loop-entry.book.residuals.items (λ r. shape_of r))
+    c.loop-entry-test.true c.loop-entry.invariant.left.grows _ (book_length c.loop-entry.book)
 
 pub add_left-requires-clause-room : goal.add_left-requires-clause-room
 add_left-requires-clause-room c =
     room_at (residuals_of c.args.book.now) c.loop-entry.book c.args.letter c.args.live.now c.loop-entry.kept.live.items c.loop-entry.entry-index _
-    c.loop-entry.invariant.left (length-map c.args.book.now.residuals.items (λ r. shape_of r)) c.requires.room
+    c.loop-entry.invariant.left (book_length c.args.book.now) c.requires.room
 
 pub loop-entry-preserved : goal.loop-entry-preserved
 loop-entry-preserved c =
@@ -38,13 +38,13 @@ loop-entry-preserved c =
 pub add_left-requires-2-clause-there : goal.add_left-requires-2-clause-there
 add_left-requires-2-clause-there c =
     let some = c.loop-entry.invariant.book.some in
-    let size = length-map c.loop-entry.book.residuals.items (λ r. shape_of r) in
+    let size = book_length c.loop-entry.book in
     subst (λ z. 0 < z) size some
 
 pub add_left-requires-2-clause-room : goal.add_left-requires-2-clause-room
 add_left-requires-2-clause-room c =
     room_at (residuals_of c.args.book.now) c.loop-entry.book c.args.letter c.args.live.now c.loop-entry.kept.live.items c.loop-entry.entry-index _
-    c.loop-entry.invariant.left (length-map c.args.book.now.residuals.items (λ r. shape_of r)) c.requires.room
+    c.loop-entry.invariant.left (book_length c.args.book.now) c.requires.room
 
 pub returns-clause-left : goal.returns-clause-left
 returns-clause-left c =

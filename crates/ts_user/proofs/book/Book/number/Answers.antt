@@ -1,22 +1,42 @@
-use Rattle.std.proofs.Common.{◌∙◌, ap}
+use Rattle.std.specs.Prelude.{refl}
+use Rattle.std.proofs.Common.{sym, ap, subst}
 use Rattle.ts_regex.specs.Shape.{shape_of}
-use Rattle.ts_user.specs.Keys.{key_lists}
-use Rattle.ts_user.proofs.Books.{number_some, number_none, book_added, found_added}
+use Rattle.ts_forms.specs.Nodes.{form_at}
+use Rattle.ts_forms.specs.Tables.{shapes as shapes_in}
+use Rattle.ts_user.specs.declared.book.Book.{Book}
+use Rattle.ts_user.specs.Books.{residuals_of, IsBook, IsFound}
+use Rattle.ts_user.proofs.Books.{number_new_book, number_new_found, number_old_book, number_old_found}
+use Rattle.ts_user.proofs.book.Book.number.Goals.{then-is_new+in_ok-add, else-is_new}
 use Rattle.ts_user.proofs.book.Book.number.Goals as goal
 
-pub returns-in-Some-clause-found : goal.returns-in-Some-clause-found
-returns-in-Some-clause-found c =
-    number_some (shape_of c.args.p.now.regex) c.args.self.now (key_lists c.place.new.self) (shape_of c.args.r) c.in_ok-regex_key.field-0.items c.in_ok-i.field-0
-    c.in-Some.i c.requires.book c.in_ok-regex_key.ensures c.in_ok-i.ensures c.in-Some.is
+pub returns-clause-book : goal.returns-clause-book
+returns-clause-book c =
+    let e = c.in_ok-place.ensures in
+    elim c.if-is_new.branch [
+      | then-is_new+in_ok-add w ↦
+          let a = w.in_ok-add.ensures in
+          subst (λ (z : Book). IsBook (shape_of c.args.p.now.regex) z) (sym w.self-is)
+          (number_new_book (shape_of c.args.p.now.regex) c.args.self.now w.add.new.self c.insert_full.new.self.keys c.args.form c.in_ok-place.is_new
+          c.requires.book c.requires.there e.added e.keys w.if-is_new.true (ap (λ z. z.keys) a.places) a.forms a.residuals a.words a.nexts)
+      | else-is_new w ↦
+          subst (λ (z : Book). IsBook (shape_of c.args.p.now.regex) z) (sym w.self-is)
+          (number_old_book (shape_of c.args.p.now.regex) c.args.self.now (record c.args.self.now { places = c.insert_full.new.self })
+          c.insert_full.new.self.keys c.args.form c.in_ok-place.is_new c.requires.book e.added e.keys w.if-is_new.false refl refl refl refl refl)
+    ]
 
-pub returns-in_ok-last-in-None-clause-book : goal.returns-in_ok-last-in-None-clause-book
-returns-in_ok-last-in-None-clause-book c =
-    let e = c.in_ok-last-in-None.ensures in
-    let none = number_none (shape_of c.args.p.now.regex) c.args.self.now (key_lists c.place.new.self) (shape_of c.args.r) c.in_ok-regex_key.field-0.items
-    c.in_ok-i.field-0 c.requires.book c.in_ok-regex_key.ensures c.in_ok-i.ensures c.in-None.is in
-    book_added (shape_of c.args.p.now.regex) c.args.self.now c.add.new.self c.args.r c.requires.book none.1 e.residuals (ap key_lists e.keys ∙ none.0) e.words
-    e.nexts
-
-pub returns-in_ok-last-in-None-clause-found : goal.returns-in_ok-last-in-None-clause-found
-returns-in_ok-last-in-None-clause-found c =
-    found_added c.args.self.now c.add.new.self c.args.r c.in_ok-last-in-None.last c.in_ok-last-in-None.ensures.residuals c.in_ok-last-in-None.ensures.number
+pub returns-clause-found : goal.returns-clause-found
+returns-clause-found c =
+    let e = c.in_ok-place.ensures in
+    elim c.if-is_new.branch [
+      | then-is_new+in_ok-add w ↦
+          let a = w.in_ok-add.ensures in
+          subst (λ (z : Book). IsFound (residuals_of c.args.self.now) (residuals_of z) (form_at (shapes_in c.args.self.now.forms) c.args.form) c.in_ok-place.place)
+          (sym w.self-is)
+          (number_new_found (shape_of c.args.p.now.regex) c.args.self.now w.add.new.self c.insert_full.new.self.keys c.args.form c.in_ok-place.place
+          c.in_ok-place.is_new c.requires.book e.added e.keys w.if-is_new.true e.stored a.forms a.residuals)
+      | else-is_new w ↦
+          subst (λ (z : Book). IsFound (residuals_of c.args.self.now) (residuals_of z) (form_at (shapes_in c.args.self.now.forms) c.args.form) c.in_ok-place.place)
+          (sym w.self-is)
+          (number_old_found (shape_of c.args.p.now.regex) c.args.self.now (record c.args.self.now { places = c.insert_full.new.self })
+          c.insert_full.new.self.keys c.args.form c.in_ok-place.place c.in_ok-place.is_new c.requires.book e.added e.keys w.if-is_new.false e.stored refl refl)
+    ]
