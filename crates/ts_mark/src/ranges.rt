@@ -13,9 +13,13 @@ use ts_occurrence::signature;
 use ts_transducer::decoded;
 use ts_validate::Validated;
 
-/// The e-ranges of the occurrences of the pattern in the series, in cells counted from 1 (Global Constraint Catalog,
-/// Volume II): no more of them than cells, each of which begins and ends after the one before. `a` is the pattern's trim
-/// after, 0 or 1; the series has at least one value.
+/// The cells of each occurrence of the validated pattern in a series, counted from 1 (the e-ranges of the Global
+/// Constraint Catalog, Volume II). The signs between neighbouring cells are searched: an occurrence is a match that
+/// lies in no other one, and its range is the cells beside its signs without the pattern's `b` first and `a` last ones.
+/// The ranges come by rising starts, and each ends after the one before too, so there are no more of them than cells.
+///
+/// `a` is given beside the pattern's own, which it equals, and is 0 or 1; the series has at least one value, and fewer
+/// than 4,000,000,000. It takes one step of the transducer for each sign. `Memory` where none is left.
 pub fn marks(alloc: Global, v: &Validated, a: u8, series: &[i64]) -> Result<Vec<Range>, Memory>
     requires trim { a ≡ (pattern_of v.now).a }
     requires small { a ≤ 1 }

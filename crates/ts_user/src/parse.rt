@@ -3,7 +3,7 @@
 ghost use Rattle.std.specs.Prelude.{◌≡◌};
 ghost use Rattle.ts_user.specs.declared.words.Form.{Form};
 ghost use Rattle.ts_user.specs.Words.{pattern_of};
-ghost use Rattle.ts_user.specs.Statement.{word_at, parsed_by, meaning_in};
+ghost use Rattle.ts_user.specs.Statement.{parsed_by, meaning_in};
 ghost use Rattle.ts_user.specs.Views.{texts, meaning_of, Gives};
 
 use crate::expression::expression_of;

@@ -4,7 +4,7 @@ ghost use Rattle.std.specs.Prelude.{◌≡◌, ◌<◌, IfOk};
 ghost use Rattle.ts_token.specs.Views.{rows, cut_view};
 ghost use Rattle.ts_user.specs.Stated.{nothing};
 ghost use Rattle.ts_user.specs.PatternReading.{is_alone, read_rows, pattern_in};
-ghost use Rattle.ts_user.specs.Views.{stated_of, at_line, Drafts, Reads, Tells, IsFit, IsSound};
+ghost use Rattle.ts_user.specs.Views.{at_line, Drafts, Reads, Tells, IsFit, IsSound};
 
 use crate::draft::Draft;
 use crate::user_pattern::UserPattern;
@@ -34,9 +34,14 @@ fn is_alone(tokens: &Tokens) -> bool
     tokens.lines.len() == 1 && tokens.not_text.is_none()
 }
 
-/// The pattern that a text states with its transducer, or its first bad line, counted from 1, with the first kind that
-/// holds of it; what the whole text lacks is told at the number of its lines plus 1. Each word of the pattern has at
-/// least `b + a` letters, and at least one.
+/// The pattern that a text of fewer than 4,000,000,000 lines states, and the transducer beside it: one of the
+/// catalogue, or the expression, the trims and the states of its lines. Each word of the pattern has at least `b + a`
+/// letters, and at least one, and the moves fit the kinds of their states; that the transducer finds the occurrences
+/// isn't known yet.
+///
+/// Else it is refused: at its first bad line, counted from 1, with the first kind that holds of it; where no line is
+/// bad, at the number of its lines plus 1, with the first of `Missing`, `ShortWord` and `Typing` that holds. `Memory`
+/// may come in the place of any answer.
 pub fn read_pattern(alloc: Global, tokens: &Tokens<'_>) -> Result<UserPattern, UserStop>
     requires { tokens.now.count < 4000000000 }
     ensures exact { Reads result (pattern_in (cut_view tokens.now)) }

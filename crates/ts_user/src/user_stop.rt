@@ -8,31 +8,38 @@ use std::alloc::AllocFailed;
 use thiserror::Error;
 use ts_base::Memory;
 
-/// What may be wrong with a line of a pattern text; of one line, the first kind that holds is told. The last three are
-/// told of a text without a bad line, at the number of its lines plus 1.
+/// What may be wrong with a pattern text. Of its first bad line the first kind that holds is told; "before" means by
+/// the lines before it. `Missing`, `ShortWord` and `Typing` are looked at in a text without a bad line, and told at the
+/// number of its lines plus 1. A line without words, or whose first word begins with `#`, is skipped.
 #[derive(Clone, Copy, Debug, PartialEq, Eq)]
 pub enum UserKind {
-    /// A byte is neither printable ASCII nor a tab.
+    /// A byte of the line is neither printable ASCII nor a tab.
     NotText,
-    /// The first word begins no form.
+    /// Its first word is none of `catalogue`, `pattern`, `trim`, `state` and `move`.
     UnknownLine,
-    /// The words don't fit the form of the first one, or a state's name isn't one letter.
+    /// There are more or fewer words than that form has, or a state's name isn't one letter from `a` to `z`.
     Shape,
-    /// The expression isn't in the grammar.
+    /// The word of the pattern isn't in the grammar of expressions.
     Expression,
-    /// A trim isn't a number in its range.
+    /// The trim before isn't a number from 0 to 2, or the trim after isn't 0 or 1.
     Number,
-    /// What the line states stands so far, or a `catalogue` line isn't alone.
+    /// What the line states is stated before: the pattern, the trims, a state of that name, or a move of that state on
+    /// that sign. Or it is a `catalogue` line, and not the only line that isn't skipped.
     Twice,
-    /// No pattern, kind, sign or phase has that name, or no state so far.
+    /// There is no such pattern in the catalogue, no such kind, sign or phase, or no state of that name before.
     UnknownName,
-    /// There would be more than eight states, or the expression is too long.
+    /// There are eight states before a `state` line; or the expression has more than 64 bytes, or more than 256 nodes,
+    /// where `r+` is `r` followed by `r*`.
     Limit,
-    /// The text doesn't state all of a pattern.
+    /// There is no `catalogue` line, and either no `pattern`, no `trim` or no `state` line, or a state without a move
+    /// on each sign.
     Missing,
-    /// The language has the empty word, or a word of fewer letters than the trims together.
+    /// A word of the pattern is empty, or has fewer letters than both trims together.
     ShortWord,
-    /// The moves don't fit the kinds of their states.
+    /// The first state isn't idle, or the phase of a move isn't one between the kinds of its two states: from an idle
+    /// one `out`, from a pending one `out_r`, from a held one `out_a`, to an idle or pending one; from an idle or
+    /// pending one `maybe_b` to a pending one, `found` to a held one, `found_e` to an idle or pending one; from a held
+    /// one `maybe_a` and `in` to a held one.
     Typing,
 }
 
