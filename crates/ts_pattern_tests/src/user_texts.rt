@@ -8,7 +8,7 @@ ghost use Rattle.std.specs.Prelude.{◌<◌, length};
 use std::alloc::{AllocError, Global};
 use std::test::Fail;
 use ts_token::cut_tokens;
-use ts_user::{UserPattern, UserStop, read_pattern};
+use ts_user::{UserPattern, UserStop, read_pattern, read_pattern_text};
 
 static TEXTS: &str = "\
 -- taken
@@ -123,6 +123,8 @@ fn pattern_texts(rt: HostRuntime) -> Result<(), Fail> {
             let tokens = cut_tokens(alloc, text.as_bytes())?;
             let told = outcome(alloc, read_pattern(alloc, &tokens))?;
             assert_eq!(rt; told.as_str(), want, "{row}");
+            let told = outcome(alloc, read_pattern_text(alloc, text.as_bytes()))?;
+            assert_eq!(rt; told.as_str(), want, "{row}, line by line");
         }
     }
     Ok(())

@@ -18,7 +18,7 @@ use crate::reply::Stop;
 use std::alloc::Global;
 use ts_model::{Model, ModelStop, Need, read_any_series, read_model, read_series};
 use ts_token::cut_tokens;
-use ts_user::{UserPattern, UserStop, read_pattern};
+use ts_user::{UserPattern, UserStop, read_pattern_text};
 
 /// The model that the text states, in the limits of the need, or its refusal: the first step of each command that has
 /// a model.
@@ -44,8 +44,7 @@ pub fn pattern_of(alloc: Global, text: &[u8]) -> Result<UserPattern, Stop>
     ensures gives { GivesPattern (pattern_reading text.now) result }
     ensures fit { IfOk result IsFit }
 {
-    let tokens = cut_tokens(alloc, text)?;
-    match read_pattern(alloc, &tokens) {
+    match read_pattern_text(alloc, text) {
         Ok(user) => Ok(user),
         Err(UserStop::Refused { line, kind }) => {
             Err(Stop::Refused(refused_pattern(alloc, line, kind)?))

@@ -14,5 +14,7 @@ pub mod TableNames
 pub mod ReadingLaws
 pub mod OnlyLaws
 pub mod LineLaws
+pub mod TextLines
+pub mod FewWords
 pub mod Told
 pub mod EndLaws

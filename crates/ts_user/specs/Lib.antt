@@ -14,4 +14,5 @@ pub mod Words
 pub mod Statement
 pub mod Stated
 pub mod PatternReading
+pub mod LineByLine
 pub mod Views

@@ -6,12 +6,13 @@
 //! plan that it gives is closed, so `validate` takes it; else it says by which signature a check fails, or that there
 //! are more than 512 configurations.
 //!
-//! `read_pattern` reads a pattern text, line by line, as models are read. An expression of at most 64 bytes is read by
-//! a recursive descent from its last byte to its first: a sequence or a union nests to the right by itself, and a
-//! repeat sign is met before what it repeats. Of a longer one only the outline is read, which takes no recursion.
+//! `read_pattern_text` reads a pattern text, line by line, as models are read; `read_pattern` reads the words of one. An
+//! expression of at most 64 bytes is read by a recursive descent from its last byte to its first: a sequence or a union
+//! nests to the right by itself, and a repeat sign is met before what it repeats. Of a longer one only the outline is
+//! read, which takes no recursion.
 //!
 //! ```text
-//! let user = read_pattern(alloc, &cut_tokens(alloc, text)?)?;
+//! let user = read_pattern_text(alloc, text)?;
 //! let plan = build_plan(alloc, &user.transducer, &user.pattern)?;
 //! let validated = validate(alloc, user.transducer, &user.pattern, &plan)?;
 //! ```
@@ -36,6 +37,7 @@ mod stated;
 mod statement;
 mod step;
 mod symbol;
+mod text;
 pub mod text_laws;
 mod user_pattern;
 mod user_stop;
@@ -44,5 +46,6 @@ mod words;
 pub use build_stop::BuildStop;
 pub use plan::build_plan;
 pub use read::read_pattern;
+pub use text::read_pattern_text;
 pub use user_pattern::UserPattern;
 pub use user_stop::{UserKind, UserStop};
