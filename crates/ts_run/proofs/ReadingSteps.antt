@@ -36,11 +36,11 @@ use Rattle.ts_model.proofs.ModelTexts.{ended_line, one_line}
 use Rattle.ts_monitor.specs.Monitors.{StandsFor as Stands, Watched}
 use Rattle.ts_run.specs.Reply.{Reply}
 use Rattle.ts_run.specs.Streams.{AddsDue, AddsReply, Due}
-use Rattle.ts_run.specs.Watch.{Readings as ReadingsOf, after_values, bad_at, end_of, line_gives, line_onto, lines_due, only_value, readings_due, readings_from, readings_of, readings_reply, refused_reading, values_due, values_line, values_lines, values_reply, words_give}
+use Rattle.ts_run.specs.Watch.{Readings, after_values, bad_at, end_of, line_gives, line_onto, lines_due, only_value, readings_due, readings_from, readings_of, readings_reply, refused_reading, values_due, values_line, values_lines, values_reply, words_give}
 use Rattle.ts_run.specs.Watching.{AreReadings, EndsLine, HasTaken, HasTerms, IsNext, MayRead, ReadsLine}
 use Rattle.ts_run.specs.declared.readings.Reading.{Reading}
 use Rattle.ts_run.specs.declared.readings.Reading.TheVariants.{Skipped, Value, Bad}
-use Rattle.ts_run.specs.declared.readings.Readings.{Readings}
+use Rattle.ts_run.specs.declared.readings.ReadingsText.{ReadingsText}
 use Rattle.ts_run.specs.declared.status.Status.{Status}
 use Rattle.ts_run.specs.declared.status.Status.TheVariants.{Done, Refused}
 use Rattle.ts_run.proofs.WatchReadings.{joined_by, more_text, more_values}
@@ -111,14 +111,14 @@ next_past count v gives e many = λ number next.
 
 -- the readings of a text with a line more
 
-abbrev none_more : ℕ → ReadingsOf
+abbrev none_more : ℕ → Readings
 none_more n = record { values = []; bad = None }
 
 line_more : (text line : List ℕ) (values : List ℤ) → AreEnded text → IsLine line → readings_of text ≡ record { values = values; bad = None } →
     readings_of (text ++ line) ≡ after_values values (line_onto (length values) (1 + length (lines_of text)) (line_gives (without_end line)) none_more)
 line_more text line values ended is good =
     more_text text line ended
-    ∙ ap (λ (r : ReadingsOf). joined_by r.bad r (readings_from (0 + length r.values) (1 + length (lines_of text)) (lines_of line))) good
+    ∙ ap (λ (r : Readings). joined_by r.bad r (readings_from (0 + length r.values) (1 + length (lines_of text)) (lines_of line))) good
     ∙ ap (λ (ls : List (List ℕ)). after_values values (readings_from (0 + length values) (1 + length (lines_of text)) ls)) is
     ∙ ap (λ (n : ℕ). after_values values (line_onto n (1 + length (lines_of text)) (line_gives (without_end line)) none_more)) (omega arith)
 
@@ -132,7 +132,7 @@ count_more text line ended is =
 
 -- the line is read
 
-module _ (old : Readings) (given : List ℕ) (stands : (l : List ℕ) → IsShort l old.line → StandsFor given l) (m : ModelParts) (text line : List ℕ)
+module _ (old : ReadingsText) (given : List ℕ) (stands : (l : List ℕ) → IsShort l old.line → StandsFor given l) (m : ModelParts) (text line : List ℕ)
     (values : List ℤ) (ended : AreEnded text) (is : IsLine line) (short : IsShort line old.line) (h : HasTaken m text values old) where
   gives_is : (gives : Option (List ℤ)) → line_gives (without_end given) ≡ gives → line_gives (without_end line) ≡ gives
   gives_is gives e = sym (same_gives given line (stands line short) is) ∙ e
@@ -143,7 +143,7 @@ module _ (old : Readings) (given : List ℕ) (stands : (l : List ℕ) → IsShor
       line_more text line values ended is h.good
       ∙ ap (λ g. after_values values (line_onto (length values) (1 + length (lines_of text)) g none_more)) (gives_is gives e)
 
-  taken_more : (new : Readings) (more : List ℤ) → readings_of (text ++ line) ≡ record { values = values ++ more; bad = None } →
+  taken_more : (new : ReadingsText) (more : List ℤ) → readings_of (text ++ line) ≡ record { values = values ++ more; bad = None } →
       new.lines ≡ old.lines + 1 → Stands new.monitor (values ++ more) → HasTerms m new.monitor → HasTaken m (text ++ line) (values ++ more) new
   taken_more new more good one stands_now terms = record {
     good = good;
@@ -152,7 +152,7 @@ module _ (old : Readings) (given : List ℕ) (stands : (l : List ℕ) → IsShor
     terms = terms;
   }
 
-  pub line_skipped : (new : Readings) (before after : List ℕ) → line_gives (without_end given) ≡ Some [] → after ≡ before → new.lines ≡ old.lines + 1 →
+  pub line_skipped : (new : ReadingsText) (before after : List ℕ) → line_gives (without_end given) ≡ Some [] → after ≡ before → new.lines ≡ old.lines + 1 →
       new.monitor ≡ old.monitor → IsShort [] new.line → EndsLine m (text ++ line) values before after None new
   line_skipped new before after gives same one monitor cleared = (
     [],
@@ -163,7 +163,7 @@ module _ (old : Readings) (given : List ℕ) (stands : (l : List ℕ) → IsShor
     cleared,
   )
 
-  pub line_read : (v : ℤ) (new : Readings) (before after : List ℕ) → line_gives (without_end given) ≡ Some (v ∷ []) → nat_lt (length values) longest ≡ true →
+  pub line_read : (v : ℤ) (new : ReadingsText) (before after : List ℕ) → line_gives (without_end given) ≡ Some (v ∷ []) → nat_lt (length values) longest ≡ true →
       after ≡ before ++ values_line m (values ++ v ∷ []) → new.lines ≡ old.lines + 1 → Stands new.monitor (values ++ v ∷ []) → HasTerms m new.monitor →
       IsShort [] new.line → EndsLine m (text ++ line) values before after None new
   line_read v new before after gives room put one stands_now terms cleared = (
@@ -176,8 +176,8 @@ module _ (old : Readings) (given : List ℕ) (stands : (l : List ℕ) → IsShor
     cleared,
   )
 
-  pub line_bad : (new : Readings) (before after : List ℕ) (number : ℕ) (status : Status) →
-      ((n : ℕ) (next : ℕ → ReadingsOf) → line_onto (length values) n (line_gives (without_end given)) next ≡ bad_at n) → number ≡ old.lines + 1 →
+  pub line_bad : (new : ReadingsText) (before after : List ℕ) (number : ℕ) (status : Status) →
+      ((n : ℕ) (next : ℕ → Readings) → line_onto (length values) n (line_gives (without_end given)) next ≡ bad_at n) → number ≡ old.lines + 1 →
       after ≡ before ++ (refused_reading number).text → status ≡ Refused → EndsLine m (text ++ line) values before after (Some status) new
   line_bad new before after number status bad one put same = (
     number,
@@ -193,7 +193,7 @@ module _ (old : Readings) (given : List ℕ) (stands : (l : List ℕ) → IsShor
 
 -- a part of a line
 
-module _ (m : ModelParts) (bytes part : List ℕ) (old : Readings) (h : AreReadings m bytes old) where
+module _ (m : ModelParts) (bytes part : List ℕ) (old : ReadingsText) (h : AreReadings m bytes old) where
   whole_is : whole_lines bytes ≡ h.text
   whole_is =
       ap whole_lines h.parts ∙ h.whole h.line ∙ ap (λ (x : List ℕ). h.text ++ x) (whole_unfinished h.line h.free) ∙ append-nil h.text
@@ -208,7 +208,7 @@ module _ (m : ModelParts) (bytes part : List ℕ) (old : Readings) (h : AreReadi
 
   -- without an LF
 
-  module _ (new : Readings) (lines : new.lines ≡ old.lines) (monitor : new.monitor ≡ old.monitor) (pushed : TakesIn old.line part new.line)
+  module _ (new : ReadingsText) (lines : new.lines ≡ old.lines) (monitor : new.monitor ≡ old.monitor) (pushed : TakesIn old.line part new.line)
       (none : without_lf part ≡ None) (is : IsPart part) where
     pub on_line : AreReadings m (bytes ++ part) new
     on_line = record {
@@ -239,10 +239,10 @@ module _ (m : ModelParts) (bytes part : List ℕ) (old : Readings) (h : AreReadi
         ap whole_lines (parts_more ∙ sym (append-nil (h.text ++ (h.line ++ part))))
         ∙ whole_append h.text (h.line ++ part) h.whole (whole_finished (h.line ++ part) line_is) [] ∙ append-nil (h.text ++ (h.line ++ part))
 
-    due_now : (r : ReadingsOf) → readings_of (h.text ++ (h.line ++ part)) ≡ r → readings_due m (bytes ++ part) ≡ values_due m r
+    due_now : (r : Readings) → readings_of (h.text ++ (h.line ++ part)) ≡ r → readings_due m (bytes ++ part) ≡ values_due m r
     due_now r e = ap (lines_due m) whole_now ∙ ap (values_due m) e
 
-    pub line_adds : (before after : List ℕ) (ended : Option Status) (new : Readings) → EndsLine m (h.text ++ (h.line ++ part)) h.values before after ended new →
+    pub line_adds : (before after : List ℕ) (ended : Option Status) (new : ReadingsText) → EndsLine m (h.text ++ (h.line ++ part)) h.values before after ended new →
         AddsDue (readings_due m) bytes part before after
     line_adds before after None new e = (
       values_lines m h.values e.0,
@@ -257,13 +257,13 @@ module _ (m : ModelParts) (bytes part : List ℕ) (old : Readings) (h : AreReadi
           ∙ ap (λ (d : Due). d.text ++ (refused_reading e.0).text) (sym due_is),
     )
 
-    pub line_ends : (before after : List ℕ) (ended : Option Status) (new : Readings) → EndsLine m (h.text ++ (h.line ++ part)) h.values before after ended new →
+    pub line_ends : (before after : List ℕ) (ended : Option Status) (new : ReadingsText) → EndsLine m (h.text ++ (h.line ++ part)) h.values before after ended new →
         (readings_due m (bytes ++ part)).ended ≡ ended
     line_ends before after None new e = ap (λ (d : Due). d.ended) (due_now (record { values = h.values ++ e.0; bad = None }) e.2.good)
     line_ends before after (Some status) new e =
         ap (λ (d : Due). d.ended) (due_now (record { values = h.values; bad = Some e.0 }) e.1) ∙ ap (λ (s : Status). Some s) (sym e.2)
 
-    pub line_on : (before after : List ℕ) (new : Readings) → EndsLine m (h.text ++ (h.line ++ part)) h.values before after None new →
+    pub line_on : (before after : List ℕ) (new : ReadingsText) → EndsLine m (h.text ++ (h.line ++ part)) h.values before after None new →
         AreReadings m (bytes ++ part) new
     line_on before after new e = record {
       text = h.text ++ (h.line ++ part);
@@ -278,7 +278,7 @@ module _ (m : ModelParts) (bytes part : List ℕ) (old : Readings) (h : AreReadi
     }
 
 -- a part without an LF adds nothing
-module _ (m : ModelParts) (bytes part : List ℕ) (old new : Readings) (h : AreReadings m bytes old) (lines : new.lines ≡ old.lines)
+module _ (m : ModelParts) (bytes part : List ℕ) (old new : ReadingsText) (h : AreReadings m bytes old) (lines : new.lines ≡ old.lines)
     (monitor : new.monitor ≡ old.monitor) (pushed : TakesIn old.line part new.line) (none : without_lf part ≡ None) (is : IsPart part) where
   then_on_line : AreReadings m (bytes ++ part) new
   then_on_line = on_line m bytes part old h new lines monitor pushed none is
@@ -295,7 +295,7 @@ module _ (m : ModelParts) (bytes part : List ℕ) (old new : Readings) (h : AreR
   on_line_open = ap (λ (d : Due). d.ended) (due_is m (bytes ++ part) [] new then_on_line)
 
 -- the line of a part with its LF is read
-module _ (m : ModelParts) (bytes part : List ℕ) (old mid new : Readings) (h : AreReadings m bytes old) (lines : mid.lines ≡ old.lines)
+module _ (m : ModelParts) (bytes part : List ℕ) (old mid new : ReadingsText) (h : AreReadings m bytes old) (lines : mid.lines ≡ old.lines)
     (monitor : mid.monitor ≡ old.monitor) (pushed : TakesIn old.line part mid.line) (bare : List ℕ)
     (some : without_lf part ≡ Some bare) (is : IsPart part) where
   pub mid_taken : HasTaken m h.text h.values mid
@@ -327,7 +327,7 @@ module _ (m : ModelParts) (bytes part : List ℕ) (old mid new : Readings) (h : 
       reads m h.text (h.line ++ part) h.values h.ended (one_line (h.line ++ part) f) (pushed h.line h.short) mid_taken
 
 -- behind a last line without an LF
-pub may_end_last : (m : ModelParts) (bytes : List ℕ) (old : Readings) → AreReadings m bytes old → length bytes < too_many → MayRead old
+pub may_end_last : (m : ModelParts) (bytes : List ℕ) (old : ReadingsText) → AreReadings m bytes old → length bytes < too_many → MayRead old
 may_end_last m bytes old h few =
     let long = ap (λ (x : List ℕ). length x) h.parts ∙ length-append h.text h.line in
     record {
@@ -348,7 +348,7 @@ same_terms m old new same h = record {
 }
 
 -- the lines are as few as the bytes
-pub few_lines : (r : Readings) → MayRead r → r.lines < too_many
+pub few_lines : (r : ReadingsText) → MayRead r → r.lines < too_many
 few_lines r h =
     let count = h.taken.count in
     let lines = text_lines_few h.text in
@@ -356,7 +356,7 @@ few_lines r h =
     omega (arith, count, lines, few)
 
 -- what is kept of the line is no longer than the line
-pub few_kept : (r : Readings) (kept : List ℕ) (h : MayRead r) → ((line : List ℕ) → IsShort line r.line → length kept ≤ length line) → length kept < too_many
+pub few_kept : (r : ReadingsText) (kept : List ℕ) (h : MayRead r) → ((line : List ℕ) → IsShort line r.line → length kept ≤ length line) → length kept < too_many
 few_kept r kept h short =
     let long = short h.line h.short in
     let few = h.few in
@@ -364,8 +364,8 @@ few_kept r kept h short =
 
 -- the input ends
 
-module _ (m : ModelParts) (bytes : List ℕ) (old : Readings) (h : AreReadings m bytes old) where
-  replies : (r : ReadingsOf) (before after more : List ℕ) (status : Status) → readings_of bytes ≡ r → after ≡ before ++ more →
+module _ (m : ModelParts) (bytes : List ℕ) (old : ReadingsText) (h : AreReadings m bytes old) where
+  replies : (r : Readings) (before after more : List ℕ) (status : Status) → readings_of bytes ≡ r → after ≡ before ++ more →
       values_reply m r ≡ record { text = values_lines m [] h.values ++ more; status = status } →
       AddsReply (readings_due m bytes) (readings_reply m bytes) before after status
   replies r before after more status e put is = (
@@ -384,7 +384,7 @@ module _ (m : ModelParts) (bytes : List ℕ) (old : Readings) (h : AreReadings m
       (ap (λ (n : ℕ). record { text = values_lines m [] h.values ++ (end_of n).text; status = Done }) (sym long)
       ∙ ap (λ (s : Status). record { text = values_lines m [] h.values ++ (end_of count).text; status = s }) (sym same))
 
-  module _ (new : Readings) (some : (l : List ℕ) → IsShort l old.line → 0 < length l) (before mid : List ℕ) where
+  module _ (new : ReadingsText) (some : (l : List ℕ) → IsShort l old.line → 0 < length l) (before mid : List ℕ) where
     last_line_come : (ended : Option Status) → ReadsLine old before mid ended new → EndsLine m (h.text ++ h.line) h.values before mid ended new
     last_line_come ended reads =
         reads m h.text h.line h.values h.ended (unfinished_line h.line h.free (some h.line h.short)) h.short h.taken
@@ -430,7 +430,7 @@ few_first es ts is few =
     let all = length-map es term_of in
     omega (arith, same, firsts, all, few)
 
-pub first_readings : (model : Model) (r : Readings) → length (model_parts model).terms ≤ most_terms → has_window (model_parts model) ≡ false → r.lines ≡ 0 → Stands r.monitor [] →
+pub first_readings : (model : Model) (r : ReadingsText) → length (model_parts model).terms ≤ most_terms → has_window (model_parts model) ≡ false → r.lines ≡ 0 → Stands r.monitor [] →
     r.monitor.terms ≡ terms_of model → IsShort [] r.line → AreReadings (model_parts model) [] r
 first_readings model r few windowless none stands terms short = record {
   text = [];

@@ -24,7 +24,7 @@ use Rattle.ts_run.specs.Refusals.{refused_model, refused_window}
 use Rattle.ts_run.specs.Streams.{AddsDue, AddsLines, AddsReply, Due, IsFront, IsLines, nothing_due}
 use Rattle.ts_run.specs.Watch.{due_in, due_on, end_of, lines_due, readings_due, readings_reply, refused_due, reply_on, watch_due, watch_reply}
 use Rattle.ts_run.specs.Watching.{AreReadings, EndsIn, HasCome, IsBehindModel, IsOwed, IsPut, IsRefusedBy}
-use Rattle.ts_run.specs.declared.readings.Readings.{Readings}
+use Rattle.ts_run.specs.declared.readings.ReadingsText.{ReadingsText}
 use Rattle.ts_run.specs.declared.status.Status.{Status}
 use Rattle.ts_run.specs.declared.status.Status.TheVariants.{Refused}
 use Rattle.ts_run.specs.declared.watch.Stage.{Stage}
@@ -67,7 +67,7 @@ module _ (m : ModelParts) (before after : List ℕ) (status : Status) where
 
 -- behind it
 
-module _ (bytes : List ℕ) (r : Readings) (h : IsBehindModel bytes r) where
+module _ (bytes : List ℕ) (r : ReadingsText) (h : IsBehindModel bytes r) where
   pub behind_due : watch_due bytes ≡ readings_due h.model h.rest
   behind_due =
       ap watch_due h.parts ∙ due_behind_model h.text h.front h.ends h.whole h.rest ∙ ap (λ f. due_on f (whole_lines h.rest)) h.reads
@@ -94,7 +94,7 @@ module _ (bytes : List ℕ) (r : Readings) (h : IsBehindModel bytes r) where
   pub behind_ends : (part : List ℕ) (ended : Option Status) → (readings_due h.model (h.rest ++ part)).ended ≡ ended → (watch_due (bytes ++ part)).ended ≡ ended
   behind_ends part ended e = ap (λ (d : Due). d.ended) (behind_later part) ∙ e
 
-  pub behind_on : (part : List ℕ) (new : Readings) → AreReadings h.model (h.rest ++ part) new → IsBehindModel (bytes ++ part) new
+  pub behind_on : (part : List ℕ) (new : ReadingsText) → AreReadings h.model (h.rest ++ part) new → IsBehindModel (bytes ++ part) new
   behind_on part new k = record {
     text = h.text;
     front = h.front;
@@ -117,12 +117,12 @@ module _ (bytes : List ℕ) (r : Readings) (h : IsBehindModel bytes r) where
   )
 
 -- the rest is no longer than all bytes
-pub rest_few : (bytes part : List ℕ) (r : Readings) (h : IsBehindModel bytes r) → length bytes + length part < too_many → length h.rest + length part < too_many
+pub rest_few : (bytes part : List ℕ) (r : ReadingsText) (h : IsBehindModel bytes r) → length bytes + length part < too_many → length h.rest + length part < too_many
 rest_few bytes part r h few =
     let long = ap (λ (x : List ℕ). length x) h.parts ∙ length-append h.front h.rest in
     omega (arith, long, few)
 
-pub rest_short : (bytes : List ℕ) (r : Readings) (h : IsBehindModel bytes r) → length bytes < too_many → length h.rest < too_many
+pub rest_short : (bytes : List ℕ) (r : ReadingsText) (h : IsBehindModel bytes r) → length bytes < too_many → length h.rest < too_many
 rest_short bytes r h few =
     let long = ap (λ (x : List ℕ). length x) h.parts ∙ length-append h.front h.rest in
     omega (arith, long, few)
@@ -142,7 +142,7 @@ module _ (bytes : List ℕ) (need : Need) (is : need ≡ Values) where
       ap watch_due (sym (append-nil bytes)) ∙ due_behind_model text bytes ends whole []
       ∙ ap (λ f. due_on f []) (ap (λ n. model_reading n text) (sym is) ∙ reads)
 
-  pub model_opens : (model : Model) (r : Readings) → EndsSo need bytes (Ok model) → has_window (model_parts model) ≡ false →
+  pub model_opens : (model : Model) (r : ReadingsText) → EndsSo need bytes (Ok model) → has_window (model_parts model) ≡ false →
       AreReadings (model_parts model) [] r → IsBehindModel bytes r
   model_opens model r e windowless k = record {
     text = e.text;

@@ -18,10 +18,10 @@ use Rattle.ts_monitor.specs.Monitors.{StandsFor, Watched}
 use Rattle.ts_run.specs.Refusals.{refused_model}
 use Rattle.ts_run.specs.Reply.{Reply}
 use Rattle.ts_run.specs.Streams.{Due}
-use Rattle.ts_run.specs.Watch.{Readings as ReadingsOf, bad_at, line_onto, readings_of, refused_reading, values_lines}
+use Rattle.ts_run.specs.Watch.{Readings, bad_at, line_onto, readings_of, refused_reading, values_lines}
 use Rattle.ts_run.specs.declared.readings.Reading.{Reading}
 use Rattle.ts_run.specs.declared.readings.Reading.TheVariants.{Skipped, Value, Bad}
-use Rattle.ts_run.specs.declared.readings.Readings.{Readings}
+use Rattle.ts_run.specs.declared.readings.ReadingsText.{ReadingsText}
 use Rattle.ts_run.specs.declared.status.Status.{Status}
 use Rattle.ts_run.specs.declared.status.Status.TheVariants.{Refused}
 use Rattle.ts_run.specs.declared.watch.Stage.{Stage}
@@ -42,7 +42,7 @@ IsCellReading _ = Unit {0}
 abbrev pub IsNext : ℕ → Option (List ℤ) → Reading → Type 0
 IsNext count gives Skipped = gives ≡ Some []
 IsNext count gives (Value v) = (gives ≡ Some (v ∷ [])) × (count < longest) × IsCellValue v
-IsNext count gives Bad = (number : ℕ) (next : ℕ → ReadingsOf) → line_onto count number gives next ≡ bad_at number
+IsNext count gives Bad = (number : ℕ) (next : ℕ → Readings) → line_onto count number gives next ≡ bad_at number
 
 -- the terms of a monitor are those of the model, no more than a model may have
 pub record HasTerms (m : ModelParts) (w : Watched) : Type 0 where
@@ -50,14 +50,14 @@ pub record HasTerms (m : ModelParts) (w : Watched) : Type 0 where
   pub few : length w.terms ≤ most_terms
 
 -- the text is whole lines, none of which is bad, and the monitor stands for their readings
-pub record HasTaken (m : ModelParts) (text : List ℕ) (values : List ℤ) (r : Readings) : Type 0 where
+pub record HasTaken (m : ModelParts) (text : List ℕ) (values : List ℤ) (r : ReadingsText) : Type 0 where
   pub good : readings_of text ≡ record { values = values; bad = None }
   pub count : r.lines ≡ length (lines_of text)
   pub stands : StandsFor r.monitor values
   pub terms : HasTerms m r.monitor
 
 -- the bytes are such a text and a line without an LF, which what is kept stands for
-pub record AreReadings (m : ModelParts) (bytes : List ℕ) (r : Readings) : Type 0 where
+pub record AreReadings (m : ModelParts) (bytes : List ℕ) (r : ReadingsText) : Type 0 where
   pub text : List ℕ
   pub line : List ℕ
   pub values : List ℤ
@@ -69,7 +69,7 @@ pub record AreReadings (m : ModelParts) (bytes : List ℕ) (r : Readings) : Type
   pub short : IsShort line r.line
 
 -- readings of whole lines were taken, and what is kept stands for the line behind them
-pub record MayRead (r : Readings) : Type 0 where
+pub record MayRead (r : ReadingsText) : Type 0 where
   pub model : ModelParts
   pub text : List ℕ
   pub line : List ℕ
@@ -79,7 +79,7 @@ pub record MayRead (r : Readings) : Type 0 where
   pub few : length text + length line < too_many
 
 -- one line more of the text was read: its reading, where it has one, adds a line of values; or it is bad
-abbrev pub EndsLine : ModelParts → List ℕ → List ℤ → List ℕ → List ℕ → Option Status → Readings → Type 0
+abbrev pub EndsLine : ModelParts → List ℕ → List ℤ → List ℕ → List ℕ → Option Status → ReadingsText → Type 0
 EndsLine m text values before after None new =
     (more : List ℤ) × (after ≡ before ++ values_lines m values more) × HasTaken m text (values ++ more) new
     × IsShort [] new.line
@@ -88,13 +88,13 @@ EndsLine m text values before after (Some status) new =
     × (after ≡ before ++ (refused_reading number).text)
 
 -- whatever whole lines came before, with a line that what is kept stands for
-abbrev pub ReadsLine : Readings → List ℕ → List ℕ → Option Status → Readings → Type 0
+abbrev pub ReadsLine : ReadingsText → List ℕ → List ℕ → Option Status → ReadingsText → Type 0
 ReadsLine old before after ended new =
     (m : ModelParts) (text line : List ℕ) (values : List ℤ) → AreEnded text → IsLine line → IsShort line old.line →
     HasTaken m text values old → EndsLine m (text ++ line) values before after ended new
 
 -- the model in front was read, each of its terms looks at all cells, and readings came behind it
-pub record IsBehindModel (bytes : List ℕ) (r : Readings) : Type 0 where
+pub record IsBehindModel (bytes : List ℕ) (r : ReadingsText) : Type 0 where
   pub text : List ℕ
   pub front : List ℕ
   pub rest : List ℕ

@@ -41,22 +41,22 @@ pub(crate) enum Reading {
 /// The readings so far: a monitor has taken those of the whole lines, and of the line that has no LF yet a short form
 /// is kept.
 #[derive(Drop)]
-pub(crate) struct Readings {
+pub(crate) struct ReadingsText {
     pub alloc: Global,
     pub monitor: Monitor,
     pub lines: u32,
     pub line: ShortLine,
 }
 
-impl Readings {
+impl ReadingsText {
     /// Before the first reading. No term looks at some of the cells alone.
-    pub(crate) fn new(alloc: Global, model: &Model) -> Result<Readings, Memory>
+    pub(crate) fn new(alloc: Global, model: &Model) -> Result<ReadingsText, Memory>
         requires few { length (model_parts model.now).terms ≤ most_terms }
         requires whole { IsWhole (model_parts model.now) }
         requires windowless { has_window (model_parts model.now) ≡ false }
         ensures stand { IfOk result (λ r. AreReadings (model_parts model.now) [] r) }
     {
-        Ok(Readings {
+        Ok(ReadingsText {
             alloc,
             monitor: Monitor::new(alloc, compile_model(alloc, model)?)?,
             lines: 0,

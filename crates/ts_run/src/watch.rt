@@ -10,7 +10,7 @@ ghost use Rattle.ts_run.specs.Watch.{reply_on, watch_due};
 ghost use Rattle.ts_run.specs.Watching.{EndsIn, HasCome, IsOwed, IsPut, IsRefusedBy};
 
 use crate::live::Live;
-use crate::readings::{Readings, push_end};
+use crate::readings::{ReadingsText, push_end};
 use crate::refusal::{refused_model, refused_window};
 use crate::reply::push_reply;
 use crate::status::Status;
@@ -24,7 +24,7 @@ pub(crate) enum Stage {
     /// Its model hasn't ended.
     InModel(ModelText),
     /// Behind the line `%%`.
-    InReadings(Readings),
+    InReadings(ReadingsText),
 }
 
 /// Takes a model, a line `%%` and readings, one a line, and answers each with the values of the model's terms on all
@@ -89,7 +89,7 @@ impl Watching {
                     let status = push_window(self.alloc, text)?;
                     return Ok(Some(status));
                 }
-                self.stage = Stage::InReadings(Readings::new(self.alloc, &model)?);
+                self.stage = Stage::InReadings(ReadingsText::new(self.alloc, &model)?);
                 Ok(None)
             }
             Err(stop) => {

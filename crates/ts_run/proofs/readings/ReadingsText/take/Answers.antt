@@ -2,7 +2,7 @@ use Rattle.std.proofs.Common.{None, refl, subst}
 use Rattle.std.proofs.lemmas.Result.{IfOk-weaker}
 use Rattle.ts_run.proofs.ReadingSteps.{line_adds, line_come, line_ends, line_on, may_end, on_line, on_line_adds, on_line_open, on_ok_of}
 use Rattle.ts_run.specs.Watching.{ReadsLine}
-use Rattle.ts_run.proofs.readings.Readings.take.Goals as goal
+use Rattle.ts_run.proofs.readings.ReadingsText.take.Goals as goal
 
 pub returns-in-None-clause-put : goal.returns-in-None-clause-put
 returns-in-None-clause-put c = λ m bytes h.

@@ -1,13 +1,13 @@
 use Rattle.std.proofs.Common.{◌≡◌, ℕ, Option, Some, None, List, refl, subst}
 use Rattle.std.proofs.lemmas.Result.{IfOk-weaker}
 use Rattle.ts_run.specs.Watching.{ReadsLine}
-use Rattle.ts_run.specs.declared.readings.Readings.{Readings}
+use Rattle.ts_run.specs.declared.readings.ReadingsText.{ReadingsText}
 use Rattle.ts_run.specs.declared.status.Status.{Status}
 use Rattle.ts_run.proofs.ReadingSteps.{ends_bad, ends_good, ends_none, may_end_last}
-use Rattle.ts_run.proofs.readings.Readings.end.Goals as goal
+use Rattle.ts_run.proofs.readings.ReadingsText.end.Goals as goal
 
 -- the same of the status that is known
-reads_as : (old new : Readings) (before after : List ℕ) (told ended : Option Status) → told ≡ ended → ReadsLine old before after told new →
+reads_as : (old new : ReadingsText) (before after : List ℕ) (told ended : Option Status) → told ≡ ended → ReadsLine old before after told new →
     ReadsLine old before after ended new
 reads_as old new before after told ended is reads = subst (λ (e : Option Status). ReadsLine old before after e new) is reads
 

@@ -1,7 +1,7 @@
 use Rattle.std.proofs.Common.{refl, ◌∙◌}
 use Rattle.ts_compile.proofs.Over.{looks_at_all}
 use Rattle.ts_run.proofs.ReadingSteps.{first_readings}
-use Rattle.ts_run.proofs.readings.Readings.new.Goals as goal
+use Rattle.ts_run.proofs.readings.ReadingsText.new.Goals as goal
 
 pub new-requires : goal.new-requires
 new-requires c = looks_at_all c.in_ok-compile_model.field-0 c.args.model.now c.in_ok-compile_model.ensures c.requires.windowless

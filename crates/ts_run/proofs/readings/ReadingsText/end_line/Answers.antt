@@ -7,7 +7,7 @@ use Rattle.ts_run.specs.Watch.{line_gives}
 use Rattle.ts_run.specs.Watching.{HasTerms, IsNext}
 use Rattle.ts_run.specs.declared.readings.Reading.TheVariants.{Bad}
 use Rattle.ts_run.proofs.ReadingSteps.{few_kept, few_lines, line_bad, line_read, line_skipped, room_for, same_terms}
-use Rattle.ts_run.proofs.readings.Readings.end_line.Goals as goal
+use Rattle.ts_run.proofs.readings.ReadingsText.end_line.Goals as goal
 
 pub returns-in-Skipped-clause-reads : goal.returns-in-Skipped-clause-reads
 returns-in-Skipped-clause-reads c = λ m text line values ended is short h.
