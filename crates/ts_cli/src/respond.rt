@@ -5,7 +5,7 @@ ghost use Rattle.std.specs.Prelude.{◌≡◌, ◌≢◌, ◌↔◌, Ok, Err, dr
 ghost use Rattle.std.specs.Vec.Iter.{into_iter_items};
 ghost use Rattle.ts_cli.specs.Ends.{no_words_code};
 ghost use Rattle.ts_run.specs.Commands.{command_of, words_in};
-ghost use Rattle.ts_run.specs.Endings.{RunEnds};
+ghost use Rattle.ts_run.specs.Endings.{RunEnds, sink_tells, source_tells};
 ghost use Rattle.ts_run.specs.Reply.{status_code};
 ghost use Rattle.ts_run.specs.declared.status.Status.{Status};
 
@@ -69,20 +69,9 @@ pub fn respond<S: Source, K: Sink>(
     sink: &mut K,
 ) -> u8
     ensures answer { MatchResult words
-        (λ given. (status : Status) × (result ≡ status_code status) × RunEnds
-        (record {
-          left = S.left;
-          faults = S.source_faults;
-          is_broken = S.source_broken;
-          ends = S.source_ends;
-        })
-        (record {
-          taken = K.taken;
-          faults = K.sink_faults;
-          is_broken = K.sink_broken;
-          is_finished = K.finished;
-          finishes = K.finishes;
-        })
+        (λ given. (status : Status) × (result ≡ status_code status)
+        × RunEnds (source_tells S.left S.source_faults S.source_broken S.source_ends)
+        (sink_tells K.taken K.sink_faults K.sink_broken K.finished K.finishes)
         (command_of (words_in given.items)) source.old source.new sink.old sink.new status)
         (λ none. result ≡ no_words_code none) }
     ensures silent { IsErr words → (source.new ≡ source.old) × (sink.new ≡ sink.old) }

@@ -102,6 +102,21 @@ pub record SinkTells (K : Type 0) : Type 0 where
   pub is_finished : K → Bool
   pub finishes : K → ℕ
 
+-- both by the members of a type that is a source, or a sink
+abbrev pub source_tells : {S : Type 0} → (S → Option (List ℕ)) → (S → ℕ) → (S → Bool) → (S → ℕ) → SourceTells S
+source_tells left faults is_broken ends =
+    record { left = left; faults = faults; is_broken = is_broken; ends = ends }
+
+abbrev pub sink_tells :
+    {K : Type 0} → (K → Option (List ℕ)) → (K → ℕ) → (K → Bool) → (K → Bool) → (K → ℕ) → SinkTells K
+sink_tells taken faults is_broken is_finished finishes = record {
+  taken = taken;
+  faults = faults;
+  is_broken = is_broken;
+  is_finished = is_finished;
+  finishes = finishes;
+}
+
 -- what a call without memory leaves of its sink: nothing was written, or of a stream what its end tells; then nothing
 -- was finished, and no fault was counted
 abbrev pub InputSpares : Input → {K : Type 0} → SinkTells K → K → K → Type 0

@@ -4,7 +4,7 @@ ghost use Rattle.std.specs.Prelude.{◌≡◌, ◌≢◌, ◌<◌, []};
 ghost use Rattle.ts_base.specs.Limits.{too_many};
 ghost use Rattle.ts_run.specs.AnswerTexts.{IsReply};
 ghost use Rattle.ts_run.specs.Commands.{RepliesAtOnce, command_of, input_of, words_in};
-ghost use Rattle.ts_run.specs.Endings.{RunEnds, WholeEnds, WholeTakes, due_of};
+ghost use Rattle.ts_run.specs.Endings.{RunEnds, WholeEnds, WholeTakes, due_of, sink_tells, source_tells};
 ghost use Rattle.ts_run.specs.LiveEndings.{LiveEnds};
 ghost use Rattle.ts_run.specs.Reply.{EndsWith, TellsNoFault};
 ghost use Rattle.ts_run.specs.Well.{ReadsWell, WritesWell};
@@ -39,20 +39,8 @@ pub fn run<S: Source, K: Sink>(
     source: &mut S,
     sink: &mut K,
 ) -> Status
-    ensures { RunEnds
-        (record {
-          left = S.left;
-          faults = S.source_faults;
-          is_broken = S.source_broken;
-          ends = S.source_ends;
-        })
-        (record {
-          taken = K.taken;
-          faults = K.sink_faults;
-          is_broken = K.sink_broken;
-          is_finished = K.finished;
-          finishes = K.finishes;
-        })
+    ensures { RunEnds (source_tells S.left S.source_faults S.source_broken S.source_ends)
+        (sink_tells K.taken K.sink_faults K.sink_broken K.finished K.finishes)
         (command_of (words_in words.now.items)) source.old source.new sink.old sink.new result }
 {
     let Some(command) = Command::of(words) else {
