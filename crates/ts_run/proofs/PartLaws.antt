@@ -11,7 +11,7 @@ use Rattle.ts_compile.proofs.Over.{answers_over, glues_over}
 use Rattle.ts_compile.specs.Compiled.{machine_body, machine_pair, pair_with}
 use Rattle.ts_compile.specs.ProgramText.{part_text, program_text, reverse_text}
 use Rattle.ts_compile.proofs.Tables.{body_automaton, compiled_answers, glued_value}
-use Rattle.ts_run.specs.CompiledValue.{HasParts, IsPart, IsTail}
+use Rattle.ts_run.specs.CompiledValue.{HasParts, IsTail, IsTermPart}
 
 tail_of : (t : ModelTerm) (partner : Option PatternId) → (seed_table t.term.pattern).partner ≡ partner →
     IsTail partner t (machine_body t.term) (reverse_text (option_map (pair_with t.term) partner))
@@ -27,7 +27,7 @@ tail_of t (Some partner) has = record {
 
 -- the part of each term
 
-part_of : (name : List ℕ) (t : ModelTerm) → IsPart name t (part_text name t (machine_body t.term) (machine_pair t.term))
+part_of : (name : List ℕ) (t : ModelTerm) → IsTermPart name t (part_text name t (machine_body t.term) (machine_pair t.term))
 part_of name t = record {
   lines = body_text (machine_body t.term);
   tail = reverse_text (machine_pair t.term);

@@ -42,7 +42,7 @@ IsTail None t forward tail = tail ≡ codes "no reverse\n"
 
 -- the part of a term: its line, a forward block, and what follows the block. The block is read as an automaton, whose
 -- answer on the cells that the term looks at, of each series of 1 to 100,000 cells, is the value of the term.
-pub record IsPart (name : List ℕ) (t : ModelTerm) (part : List ℕ) : Type 0 where
+pub record IsTermPart (name : List ℕ) (t : ModelTerm) (part : List ℕ) : Type 0 where
   pub lines : List ℕ
   pub tail : List ℕ
   pub part_is : part ≡ words_text (term_words name t) ++ (head_text Forward ++ (lines ++ tail))
@@ -55,7 +55,7 @@ pub record IsPart (name : List ℕ) (t : ModelTerm) (part : List ℕ) : Type 0 w
 abbrev pub HasParts : List (String Global × ModelTerm) → List ℕ → Type 0
 HasParts [] text = text ≡ []
 HasParts (t ∷ ts) text =
-    (part rest : List ℕ) × (text ≡ part ++ rest) × IsPart (string_bytes t.0) t.1 part × HasParts ts rest
+    (part rest : List ℕ) × (text ≡ part ++ rest) × IsTermPart (string_bytes t.0) t.1 part × HasParts ts rest
 
 -- the text is the program text of what is stated, and has a part for each term
 pub record IsCompiled (m : ModelParts) (text : List ℕ) : Type 0 where
