@@ -1,5 +1,5 @@
 -- The text of `compile`: there is one, and it has a part for each term.
-use Rattle.std.proofs.Common.{◌≡◌, ℕ, true, Option, Ok, Err, List, [], ◌∷◌, ◌++◌, map, refl, sym, ◌∙◌, ap, subst, String}
+use Rattle.std.proofs.Common.{◌≡◌, ℕ, true, Ok, Err, List, [], ◌∷◌, ◌++◌, map, refl, sym, ◌∙◌, ap, subst, String}
 use Rattle.std.specs.Prelude.{Result}
 use Rattle.std.specs.Global.{Global}
 use Rattle.std.proofs.Math.Bool.{Bool-set}

@@ -1,5 +1,5 @@
 -- A line of readings more: what it gives, and what it adds.
-use Rattle.std.proofs.Common.{◌≡◌, ℕ, ◌+◌, ◌<◌, ◌≤◌, ℤ, inl, inr, Bool, true, false, cond, nat_lt, Option, Some, None, Ok, List, [], ◌∷◌, ◌++◌, length, map, take, refl, sym, ◌∙◌, ap, subst, arith, append_assoc, append-nil, length-append}
+use Rattle.std.proofs.Common.{◌≡◌, ℕ, ◌+◌, ◌<◌, ◌≤◌, ℤ, Bool, true, false, cond, nat_lt, Option, Some, None, Ok, List, [], ◌∷◌, ◌++◌, length, map, refl, sym, ◌∙◌, ap, subst, arith, append_assoc, append-nil, length-append}
 use Rattle.std.specs.Prelude.{IfOk, OnErr, OnOk, Result, Err, String, option_map}
 use Rattle.std.specs.Global.{Global}
 use Rattle.std.proofs.lemmas.Bool.Decides.{nat_tests}
@@ -18,7 +18,7 @@ use Rattle.ts_model.specs.TermValue.{has_window, stated_value}
 use Rattle.ts_model.specs.Views.{model_parts, stated_of, term_of, terms_in}
 use Rattle.ts_model.proofs.TermWindows.{any_window, none_windowed}
 use Rattle.ts_decorate.specs.Answers.{longest}
-use Rattle.ts_token.specs.Gist.{AreEnded, IsLine, StandsFor, first_of, gist, heads, without_end}
+use Rattle.ts_token.specs.Gist.{AreEnded, IsLine, StandsFor, gist, heads, without_end}
 use Rattle.ts_token.specs.Short.{IsShort, TakesIn}
 use Rattle.ts_token.specs.Singles.{IsSingle}
 use Rattle.ts_token.specs.declared.single.Single.{Single}
@@ -29,17 +29,15 @@ use Rattle.ts_token.proofs.GistLaws.{ended_append, ended_none, same_gist, unfini
 use Rattle.ts_model.specs.Meets.{values_on}
 use Rattle.ts_model.specs.Series.{value_of}
 use Rattle.ts_model.specs.ModelParts.{ModelParts}
-use Rattle.ts_model.specs.ModelTexts.{IsFinished, IsPart, IsUnfinished, whole_lines}
+use Rattle.ts_model.specs.ModelTexts.{IsFinished, IsPart, whole_lines}
 use Rattle.ts_model.proofs.LinePieces.{joins, part_ends, part_open, whole_append, whole_finished, whole_none, whole_unfinished}
 use Rattle.ts_model.proofs.LongWords.{value_kept}
 use Rattle.ts_model.proofs.ModelTexts.{ended_line, one_line}
 use Rattle.ts_monitor.specs.Monitors.{StandsFor as Stands, Watched}
-use Rattle.ts_run.specs.Reply.{Reply}
 use Rattle.ts_run.specs.Streams.{AddsDue, AddsReply, Due}
 use Rattle.ts_run.specs.Watch.{Readings, after_values, bad_at, end_of, line_gives, line_onto, lines_due, only_value, readings_due, readings_from, readings_of, readings_reply, refused_reading, values_due, values_line, values_lines, values_reply, words_give}
 use Rattle.ts_run.specs.Watching.{AreReadings, EndsLine, HasTaken, HasTerms, IsNext, MayRead, ReadsLine}
-use Rattle.ts_run.specs.declared.readings.Reading.{Reading}
-use Rattle.ts_run.specs.declared.readings.Reading.TheVariants.{Skipped, Value, Bad}
+use Rattle.ts_run.specs.declared.readings.Reading.TheVariants.{Bad}
 use Rattle.ts_run.specs.declared.readings.ReadingsText.{ReadingsText}
 use Rattle.ts_run.specs.declared.status.Status.{Status}
 use Rattle.ts_run.specs.declared.status.Status.TheVariants.{Done, Refused}

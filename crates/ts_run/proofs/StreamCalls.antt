@@ -6,13 +6,13 @@ use Rattle.std.proofs.Math.Seq.{take-add, take-append_seam}
 use Rattle.ts_base.specs.Outside.{AtEnd, Rose, put_back, taken_more}
 use Rattle.ts_base.proofs.Pieces.{given_after, put_back-twice, taken_more-twice}
 use Rattle.ts_run.specs.Refusals.{fault_read, refused_length}
-use Rattle.ts_run.specs.LiveEndings.{EndsInLines, IsOver, LiveEnds, ReadOn, StreamBroken, StreamGiven, StreamReplies}
-use Rattle.ts_run.specs.LiveSteps.{EndsBehind, Serves, Stops, TakesDue}
+use Rattle.ts_run.specs.LiveEndings.{EndsInLines, LiveEnds, StreamBroken, StreamGiven}
+use Rattle.ts_run.specs.LiveSteps.{EndsBehind, Serves, Stops}
 use Rattle.ts_run.specs.Reply.{EndsWritten, Reply, behind_text}
 use Rattle.ts_run.specs.Streams.{Due, IsFront, IsLines, IsStream, nothing_due}
 use Rattle.ts_run.specs.declared.status.Status.{Status}
 use Rattle.ts_run.specs.declared.status.Status.TheVariants.{Done, No, Refused, Budget, ReadFault, WriteFault, Memory}
-use Rattle.ts_run.proofs.StreamLaws.{ends_behind, given_is, given_reply, lines_behind, stop_given}
+use Rattle.ts_run.proofs.StreamLaws.{ends_behind, given_is, given_reply, stop_given}
 
 -- these bytes came of the source and were taken, and so many more may come; what they owe was written
 pub record Going {T : Type 0} (Came : List ℕ → T → Type 0) (due : List ℕ → Due) (limit spare : ℕ) (left left_now before now : Option (List ℕ)) (live : T) :

@@ -9,9 +9,9 @@ use Rattle.ts_base.specs.declared.error.Failed.{Failed}
 use Rattle.ts_base.specs.Outside.{Prefix, taken_more}
 use Rattle.ts_base.proofs.Pieces.{taken_more-twice}
 use Rattle.ts_run.specs.Refusals.{refused_length}
-use Rattle.ts_run.specs.LiveEndings.{EndsInLines, IsOver, StreamGiven, StreamReplies}
-use Rattle.ts_run.specs.LiveSteps.{IsAny, Stops, TakesDue, TakesFront}
-use Rattle.ts_run.specs.Reply.{ComesOfInput, EndsWritten, Reply, behind_text}
+use Rattle.ts_run.specs.LiveEndings.{EndsInLines, StreamGiven, StreamReplies}
+use Rattle.ts_run.specs.LiveSteps.{Stops, TakesDue}
+use Rattle.ts_run.specs.Reply.{ComesOfInput, Reply, behind_text}
 use Rattle.ts_run.specs.Streams.{Due, IsFront, IsLines, IsStream}
 use Rattle.ts_run.specs.declared.status.Status.{Status}
 use Rattle.ts_run.specs.declared.status.Status.TheVariants.{Done, No, Refused, Budget, ReadFault, WriteFault, Memory}

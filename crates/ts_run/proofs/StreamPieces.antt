@@ -1,13 +1,13 @@
 -- What a piece of a stream leads to, by what was put behind the text and what was written of it.
-use Rattle.std.proofs.Common.{◌≡◌, ℕ, ◌≤◌, inl, inr, Option, Some, None, List, [], ◌++◌, length, take, refl, sym, ◌∙◌, ap, subst, append-nil}
+use Rattle.std.proofs.Common.{◌≡◌, ℕ, inl, Option, Some, None, List, [], ◌++◌, take, refl, sym, ◌∙◌, ap, subst, append-nil}
 use Rattle.ts_base.specs.Outside.{Prefix, taken_more}
 use Rattle.ts_run.specs.LiveEndings.{EndsInLines}
 use Rattle.ts_run.specs.LiveSteps.{EndsBehind, Serves, Stops, TakesDue}
 use Rattle.ts_run.specs.Reply.{ComesOfInput, Ends, EndsWritten, Reply}
-use Rattle.ts_run.specs.Streams.{AddsDue, AddsLines, AddsReply, Due, IsFront, IsLines, IsStream}
+use Rattle.ts_run.specs.Streams.{AddsDue, AddsLines, AddsReply, Due, IsFront, IsLines}
 use Rattle.ts_run.specs.declared.status.Status.{Status}
 use Rattle.ts_run.specs.declared.status.Status.TheVariants.{Done, No, Refused, Budget, ReadFault, WriteFault, Memory}
-use Rattle.ts_run.proofs.StreamLaws.{ended_input, front_behind, front_of, front_on}
+use Rattle.ts_run.proofs.StreamLaws.{front_behind, front_of, front_on}
 
 pub in_lines : (r : Reply) (before after : Option (List ℕ)) (status : Status) → Ends r before after status → (status ≡ Memory → ⊥) →
     EndsInLines r before after status

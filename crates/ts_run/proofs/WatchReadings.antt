@@ -13,7 +13,7 @@ use Rattle.ts_model.specs.ModelParts.{ModelParts}
 use Rattle.ts_model.specs.TermValue.{has_window}
 use Rattle.ts_run.specs.Refusals.{kind_word, refused_model, refused_window}
 use Rattle.ts_run.specs.Reply.{ComesOfInput, Reply}
-use Rattle.ts_run.specs.Streams.{Due, IsFront, IsLines}
+use Rattle.ts_run.specs.Streams.{IsFront, IsLines}
 use Rattle.ts_run.specs.Watch.{Readings, after_values, bad_at, due_on, end_due, last_line, line_gives, line_onto, lines_due, readings_from, readings_of, readings_reply, refusal_due, refused_due, reply_on, values_due, values_line, values_lines, values_reply}
 use Rattle.ts_run.specs.declared.status.Status.{Status}
 use Rattle.ts_run.specs.declared.status.Status.TheVariants.{Refused}

@@ -1,5 +1,5 @@
 -- What `watch` replies to an input whose model was read.
-use Rattle.std.proofs.Common.{◌≡◌, ℕ, cond, Option, Some, None, Ok, Err, List, [], ◌++◌, length, refl, sym, ◌∙◌, ap, subst}
+use Rattle.std.proofs.Common.{◌≡◌, ℕ, cond, Option, Some, None, Ok, List, length, refl, sym, ◌∙◌, ap, subst}
 use Rattle.std.specs.Prelude.{◌↔◌, IsSome, Result}
 use Rattle.ts_checker.specs.Verified.{model_part, rest_part}
 use Rattle.ts_model.specs.declared.error.ModelKind.{ModelKind}
@@ -9,8 +9,7 @@ use Rattle.ts_model.specs.ModelReading.{model_reading}
 use Rattle.ts_run.specs.Headline.{SaysValues, SaysWatched}
 use Rattle.ts_run.specs.Refusals.{refused_window}
 use Rattle.ts_run.specs.Reply.{Reply}
-use Rattle.ts_run.specs.Watch.{Readings, last_line, readings_of, readings_reply, reply_on, values_reply, watch_reply}
-use Rattle.ts_run.specs.declared.status.Status.{Status}
+use Rattle.ts_run.specs.Watch.{last_line, readings_of, readings_reply, reply_on, values_reply, watch_reply}
 use Rattle.ts_run.specs.declared.status.Status.TheVariants.{Done, Refused}
 
 done_is : (bad : Option ℕ) (count : ℕ) → ((last_line bad count).status ≡ Done) ↔ (bad ≡ None)

@@ -1,6 +1,6 @@
 -- A stream of `watch` that comes part by part: its model, and what stands behind it.
-use Rattle.std.proofs.Common.{◌≡◌, ℕ, inl, inr, Bool, true, false, cond, Option, Some, None, Ok, Err, List, [], ◌++◌, length, refl, sym, ◌∙◌, ap, subst, append_assoc, append-nil, length-append, ◌+◌, ◌<◌, ◌≤◌, arith}
-use Rattle.std.specs.Prelude.{Result, unwrap_or}
+use Rattle.std.proofs.Common.{◌≡◌, ℕ, Bool, true, false, cond, Option, Some, None, Ok, Err, List, [], ◌++◌, length, refl, sym, ◌∙◌, ap, subst, append_assoc, append-nil, length-append, ◌+◌, ◌<◌, ◌≤◌, arith}
+use Rattle.std.specs.Prelude.{Result}
 use Rattle.std.proofs.lemmas.List.{nil_from_length}
 use Rattle.ts_base.specs.Limits.{most_terms, too_many}
 use Rattle.ts_token.specs.Text.{cut_of}
@@ -22,7 +22,7 @@ use Rattle.ts_model.proofs.FitLaws.{limits_stated, whole_stated}
 use Rattle.ts_model.proofs.ModelTexts.{none_marked, nothing_behind}
 use Rattle.ts_run.specs.Refusals.{refused_model, refused_window}
 use Rattle.ts_run.specs.Streams.{AddsDue, AddsLines, AddsReply, Due, IsFront, IsLines, nothing_due}
-use Rattle.ts_run.specs.Watch.{due_in, due_on, end_of, lines_due, readings_due, readings_reply, refused_due, reply_on, watch_due, watch_reply}
+use Rattle.ts_run.specs.Watch.{due_on, end_of, lines_due, readings_due, readings_reply, refused_due, reply_on, watch_due, watch_reply}
 use Rattle.ts_run.specs.Watching.{AreReadings, EndsIn, HasCome, IsBehindModel, IsOwed, IsPut, IsRefusedBy}
 use Rattle.ts_run.specs.declared.readings.ReadingsText.{ReadingsText}
 use Rattle.ts_run.specs.declared.status.Status.{Status}
@@ -30,7 +30,6 @@ use Rattle.ts_run.specs.declared.status.Status.TheVariants.{Refused}
 use Rattle.ts_run.specs.declared.watch.Stage.{Stage}
 use Rattle.ts_run.specs.declared.watch.Stage.TheVariants.{InModel, InReadings}
 use Rattle.ts_run.proofs.ReadingSteps.{due_is}
-use Rattle.ts_run.proofs.StreamLaws.{front_on}
 use Rattle.ts_run.proofs.WatchStream.{due_behind_model, due_none, reply_behind_model, watch_stream}
 
 -- in the model nothing is owed

@@ -1,10 +1,10 @@
 -- What `watch` owes is that of a stream: what was owed stays owed, whatever comes.
-use Rattle.std.proofs.Common.{◌≡◌, ◌⊎◌, ℕ, inl, inr, Bool, true, false, not, cond, Option, Some, None, Ok, Err, List, [], ◌∷◌, ◌++◌, refl, sym, ◌∙◌, ap, subst, append_assoc, append-nil}
-use Rattle.std.specs.Prelude.{◌==◌, unwrap_or}
+use Rattle.std.proofs.Common.{◌≡◌, ◌⊎◌, ℕ, inl, inr, Bool, true, false, not, cond, Some, None, List, [], ◌∷◌, ◌++◌, refl, sym, ◌∙◌, ap, subst, append_assoc, append-nil}
+use Rattle.std.specs.Prelude.{unwrap_or}
 use Rattle.std.specs.Option.{option_map}
 use Rattle.std.specs.Cmp.Derive.{both_true}
 use Rattle.std.specs.List.{AllByRecursion, concat}
-use Rattle.ts_base.specs.Words.{is_lf, strict_lines, without_lf}
+use Rattle.ts_base.specs.Words.{is_lf, strict_lines}
 use Rattle.ts_base.proofs.WordLaws.{lines_are}
 use Rattle.ts_token.specs.Gist.{AreEnded}
 use Rattle.ts_token.specs.Halves.{Halves, after_front, halves, halves_of, is_separator}
@@ -14,7 +14,6 @@ use Rattle.ts_model.specs.ModelReading.{model_reading}
 use Rattle.ts_model.specs.ModelTexts.{AreWhole, EndsModel, IsFinished, IsUnfinished, whole_lines}
 use Rattle.ts_model.proofs.LinePieces.{finished_first, lf_test, whole_append, whole_finished, whole_none, whole_unfinished}
 use Rattle.ts_model.proofs.ModelTexts.{ended_line}
-use Rattle.ts_run.specs.Reply.{ComesOfInput}
 use Rattle.ts_run.specs.Streams.{Due, IsFront, IsLines, IsStream, nothing_due}
 use Rattle.ts_run.specs.Watch.{due_in, due_on, reply_on, watch_due, watch_reply}
 use Rattle.ts_run.specs.declared.status.Status.{Status}

@@ -18,7 +18,7 @@ use Rattle.ts_checker.specs.Verified.{certificate_lines, model_part, rest_part}
 use Rattle.ts_run.specs.Certified.{IsBest, IsListing}
 use Rattle.ts_run.specs.CompiledValue.{IsProgramText}
 use Rattle.ts_run.specs.MarkReply.{MarkReply}
-use Rattle.ts_run.specs.Refusals.{OnModel, OnSeries, refused_model, refused_series}
+use Rattle.ts_run.specs.Refusals.{OnModel, OnSeries, refused_model}
 use Rattle.ts_run.specs.Reply.{Reply}
 use Rattle.ts_run.specs.Sample.{SampleReply}
 use Rattle.ts_run.specs.Verdict.{verdict}

@@ -1,5 +1,5 @@
 -- How a call ends that reads pieces and writes what they owe before it reads on.
-use Rattle.std.specs.Prelude.{ℕ, ◌≡◌, ◌<◌, ◌≤◌, ◌+◌, ◌⊎◌, IsSome, List, ◌++◌, length, take, Option, None, Some, IfSome}
+use Rattle.std.specs.Prelude.{ℕ, ◌≡◌, ◌<◌, ◌≤◌, ◌+◌, ◌⊎◌, IsSome, List, ◌++◌, length, take, Option, None, IfSome}
 use Rattle.ts_base.specs.Outside.{Prefix, Rose, left_after, taken_more}
 use Rattle.ts_run.specs.Refusals.{fault_read, refused_length}
 use Rattle.ts_run.specs.Reply.{Reply, behind_text}

@@ -1,6 +1,6 @@
 //! `mark`: where a pattern occurs in a series.
 
-ghost use Rattle.std.specs.Prelude.{◌≡◌, ◌<◌, ◌≤◌, length};
+ghost use Rattle.std.specs.Prelude.{◌<◌, ◌≤◌, length};
 ghost use Rattle.ts_base.specs.Limits.{too_many};
 ghost use Rattle.ts_user.specs.Views.{described_of};
 ghost use Rattle.ts_run.specs.MarkReply.{MarkReply, PlannedReply};

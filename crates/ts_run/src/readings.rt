@@ -15,7 +15,7 @@ ghost use Rattle.ts_token.specs.Short.{IsShort};
 ghost use Rattle.ts_run.specs.Reply.{reply_of};
 ghost use Rattle.ts_run.specs.Streams.{AddsDue, AddsReply};
 ghost use Rattle.ts_run.specs.Watch.{end_of, line_gives, readings_due, readings_reply, refused_reading, values_line};
-ghost use Rattle.ts_run.specs.Watching.{AreReadings, HasTaken, HasTerms, IsCellReading, IsNext, MayRead, ReadsLine, given};
+ghost use Rattle.ts_run.specs.Watching.{AreReadings, HasTerms, IsCellReading, IsNext, MayRead, ReadsLine, given};
 
 use crate::reply::{Reply, push_reply};
 use crate::status::Status;

@@ -6,7 +6,6 @@ ghost use Rattle.ts_base.specs.Limits.{too_many};
 ghost use Rattle.ts_base.specs.Outside.{AtEnd, Rose, one_more, put_back};
 ghost use Rattle.ts_run.specs.LiveEndings.{LiveEnds};
 ghost use Rattle.ts_run.specs.LiveSteps.{EndsBehind, PieceWell, Serves};
-ghost use Rattle.ts_run.specs.Reply.{EndsWritten};
 ghost use Rattle.ts_run.specs.Streams.{IsStream};
 ghost use Rattle.ts_run.specs.Well.{ReadsWell, WritesWell};
 

@@ -1,6 +1,6 @@
 //! Inputs of `watch`, what is written of them and the statuses, worked by hand; and when it is written.
 
-use super::{Case, first_wrong, outcome, outcome_in_steps, source_of, words_of};
+use super::{Case, first_wrong, outcome, outcome_in_steps, words_of};
 use std::alloc::{AllocError, Global};
 use ts_base::{MemorySink, MemorySource, read_all};
 use ts_run::{Status, run};

@@ -1,4 +1,4 @@
-use Rattle.std.proofs.Common.{Some, refl, sym, ◌∙◌, ap, subst, ◌++◌, ◌≡◌, [], append-nil, map, length, arith, List, ℕ}
+use Rattle.std.proofs.Common.{Some, sym, ◌∙◌, subst, ◌≡◌, [], append-nil, length, arith, List}
 use Rattle.std.specs.Prelude.{slice_get}
 use Rattle.ts_base.specs.declared.ext.Ext.{Ext}
 use Rattle.ts_pattern.specs.TermValue.{term_value}

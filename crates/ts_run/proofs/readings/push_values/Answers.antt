@@ -1,4 +1,4 @@
-use Rattle.std.proofs.Common.{arith, length}
+use Rattle.std.proofs.Common.{arith}
 use Rattle.ts_run.proofs.ReadingTexts.{cut_back}
 use Rattle.ts_run.proofs.readings.push_values.Goals as goal
 

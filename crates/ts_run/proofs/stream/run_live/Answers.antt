@@ -1,7 +1,6 @@
 use Rattle.std.proofs.lemmas.List.{length-take-le, take_at}
 use Rattle.std.proofs.Common.{rules, refl, None, ◌++◌, subst, ◌≡◌, ℕ, List, length, take, arith, ◌∙◌, ap, Some}
 use Rattle.ts_base.specs.Outside.{Rose, put_back}
-use Rattle.ts_run.specs.LiveEndings.{EndsInLines}
 use Rattle.ts_run.specs.LiveSteps.{Serves, Stops}
 use Rattle.ts_run.proofs.StreamCalls.{ends_end, ends_fault, ends_over, ends_start, ends_stop, going_none, going_on, not_read}
 use Rattle.ts_run.proofs.StreamPieces.{in_lines}

@@ -1,4 +1,4 @@
-use Rattle.std.proofs.Common.{◌≡◌, subst, List, ℕ, sym, ◌∙◌, ap}
+use Rattle.std.proofs.Common.{◌≡◌, subst, List, ℕ, sym, ◌∙◌}
 use Rattle.std.specs.Prelude.{OnErr}
 use Rattle.ts_base.specs.Outside.{Prefix}
 use Rattle.ts_run.specs.Reply.{Ends}

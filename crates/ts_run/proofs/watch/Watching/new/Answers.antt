@@ -1,4 +1,3 @@
-use Rattle.std.proofs.Common.{refl}
 use Rattle.ts_run.proofs.watch.Watching.new.Goals as goal
 
 pub returns : goal.returns

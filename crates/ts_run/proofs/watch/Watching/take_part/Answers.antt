@@ -1,4 +1,4 @@
-use Rattle.std.proofs.Common.{Some, None, ◌++◌, ap, refl, subst, sym, ◌∙◌, length, arith, length-append}
+use Rattle.std.proofs.Common.{◌++◌, refl, subst}
 use Rattle.std.proofs.lemmas.Result.{IfOk-weaker, on_ok_weaker}
 use Rattle.ts_run.specs.Watching.{HasCome}
 use Rattle.ts_run.proofs.ReadingSteps.{on_ok_of}

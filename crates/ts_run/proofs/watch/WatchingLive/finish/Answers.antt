@@ -1,4 +1,4 @@
-use Rattle.std.proofs.Common.{refl, subst}
+use Rattle.std.proofs.Common.{subst}
 use Rattle.std.proofs.lemmas.Result.{IfOk-weaker}
 use Rattle.ts_run.specs.Watching.{HasCome}
 use Rattle.ts_run.proofs.WatchSteps.{behind_replies, none_replied, rest_short, stop_replied}
