@@ -67,8 +67,8 @@ holding_counted cell n (r ∷ rs) h =
     by false y false p q s behind = absurd (grind arith)
     by true true false p q s behind =
         behind
-        ∙ same_counted (ended cell rs + (n + 1)) (suc (ended cell rs) + n) (begun cell rs - ended cell rs) (suc (begun cell rs) - suc (ended cell rs)) (omega arith)
-        (omega arith)
+        ∙ same_counted (ended cell rs + (n + 1)) (suc (ended cell rs) + n) (begun cell rs - ended cell rs) (suc (begun cell rs) - suc (ended cell rs))
+        (omega arith) (omega arith)
     by true false false p q s behind =
         let none = none_begun cell r rs h q in
         behind ∙ none_counted (ended cell rs + (n + 1)) (begun cell rs - ended cell rs) (omega (arith, none))

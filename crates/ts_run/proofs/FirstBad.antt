@@ -96,7 +96,8 @@ module _ (count number : ℕ) (line : List ℕ) (lines : List (List ℕ)) where
     good_first (inl e) = inl (record {
       place = suc e.place;
       first = record { bad = later e.place e.first.bad; first = none_before e.place e.first.first };
-      reads = is ∙ ap (after_values values) e.reads ∙ ap (λ (xs : List ℤ). record { values = xs; bad = Some (number + 1 + e.place) }) (sym (with_line (take e.place lines)))
+      reads = is ∙ ap (after_values values) e.reads
+          ∙ ap (λ (xs : List ℤ). record { values = xs; bad = Some (number + 1 + e.place) }) (sym (with_line (take e.place lines)))
           ∙ ap (λ (n : ℕ). record { values = readings_in (line ∷ take e.place lines); bad = Some n }) (omega arith);
     })
     good_first (inr e) = inr (record {
@@ -115,7 +116,8 @@ module _ (count number : ℕ) (line : List ℕ) (lines : List (List ℕ)) where
   no_values [] h = refl
   no_values (v ∷ vs) h = absurd (omega (arith, h))
 
-  by_room : (t : Bool) (v : ℤ) → ltb count longest ≡ t → line_gives line ≡ Some (v ∷ []) → ((n : ℕ) → IsReadSo n (number + 1) lines) → IsReadSo count number (line ∷ lines)
+  by_room : (t : Bool) (v : ℤ) → ltb count longest ≡ t → line_gives line ≡ Some (v ∷ []) → ((n : ℕ) → IsReadSo n (number + 1) lines) →
+      IsReadSo count number (line ∷ lines)
   by_room true v room e later =
       let less = ltb-true count longest room in
       good_first (v ∷ []) e (λ h. omega (arith, less, h.1))
@@ -128,7 +130,8 @@ module _ (count number : ℕ) (line : List ℕ) (lines : List (List ℕ)) where
   by_line : (g : Option (List ℤ)) → line_gives line ≡ g → AtMostOne g → ((n : ℕ) → IsReadSo n (number + 1) lines) → IsReadSo count number (line ∷ lines)
   by_line None e one later = bad_first (subst (IsBadBehind count) (sym e) tt) (ap Onto e)
   by_line (Some []) e one later =
-      good_first [] e (λ h. omega (arith, h.0)) (ap Onto e ∙ ap (λ (n : ℕ). readings_from n (number + 1) lines) (omega arith)) (later (count + length {A = ℤ} []))
+      good_first [] e (λ h. omega (arith, h.0)) (ap Onto e ∙ ap (λ (n : ℕ). readings_from n (number + 1) lines) (omega arith))
+      (later (count + length {A = ℤ} []))
   by_line (Some (v ∷ vs)) e one later =
       let alone = no_values vs (omega (arith, one)) in
       by_room (ltb count longest) v refl (e ∙ ap (λ (xs : List ℤ). Some (v ∷ xs)) alone) later

@@ -56,7 +56,8 @@ compiled bytes m r states h =
     let read : model_reading Values bytes ≡ Ok m = cc in
     says_program m r (subst (λ (x : Result ModelParts (ℕ × ModelKind)). OnReading x ProgramReply r) read h)
 
-module _ (command : Command) (bytes : List ℕ) (r : Reply) (ranges : KeepsRanges command) (fits : FitsIn bytes (input_of command)) (is : IsReply command bytes r) where
+module _ (command : Command) (bytes : List ℕ) (r : Reply) (ranges : KeepsRanges command) (fits : FitsIn bytes (input_of command))
+    (is : IsReply command bytes r) where
   reply_as : (other : Command) → command ≡ other → IsReply other bytes r
   reply_as other e = subst (λ z. IsReply z bytes r) e is
 

@@ -40,4 +40,10 @@ part_of name t = record {
 
 pub parts_in : (terms : List (String Global × ModelTerm)) → HasParts terms (program_text terms)
 parts_in [] = refl
-parts_in (t ∷ ts) = (part_text (string_bytes t.0) t.1 (machine_body t.1.term) (machine_pair t.1.term), program_text ts, refl, part_of (string_bytes t.0) t.1, parts_in ts)
+parts_in (t ∷ ts) = (
+  part_text (string_bytes t.0) t.1 (machine_body t.1.term) (machine_pair t.1.term),
+  program_text ts,
+  refl,
+  part_of (string_bytes t.0) t.1,
+  parts_in ts,
+)

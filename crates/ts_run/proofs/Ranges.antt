@@ -50,7 +50,8 @@ alone command h (word ∷ words) = tt
 best : (goal : Goal) (words : List (List ℕ)) → IfSome (option_map (λ lines. Best goal lines) (budget_of words)) KeepsRanges
 best goal words = mapped (IsWithin 1 most_checked) (λ lines. Best goal lines) (λ lines h. h) (budget_of words) (budget words)
 
-generate : (count lines : Option ℕ) → IfSome count (IsWithin 1 most_listed) → IfSome lines (IsWithin 1 most_checked) → IfSome (generate_by count lines) KeepsRanges
+generate : (count lines : Option ℕ) → IfSome count (IsWithin 1 most_listed) → IfSome lines (IsWithin 1 most_checked) →
+    IfSome (generate_by count lines) KeepsRanges
 generate None lines h k = tt
 generate (Some count) lines h k = mapped (IsWithin 1 most_checked) (λ n. Generate count n) (λ n within_lines. (h, within_lines)) lines k
 

@@ -161,9 +161,9 @@ module _ (old : ReadingsText) (given : List ℕ) (stands : (l : List ℕ) → Is
     cleared,
   )
 
-  pub line_read : (v : ℤ) (new : ReadingsText) (before after : List ℕ) → line_gives (without_end given) ≡ Some (v ∷ []) → nat_lt (length values) longest ≡ true →
-      after ≡ before ++ values_line m (values ++ v ∷ []) → new.lines ≡ old.lines + 1 → Stands new.monitor (values ++ v ∷ []) → HasTerms m new.monitor →
-      IsShort [] new.line → EndsLine m (text ++ line) values before after None new
+  pub line_read : (v : ℤ) (new : ReadingsText) (before after : List ℕ) → line_gives (without_end given) ≡ Some (v ∷ []) →
+      nat_lt (length values) longest ≡ true → after ≡ before ++ values_line m (values ++ v ∷ []) → new.lines ≡ old.lines + 1 →
+      Stands new.monitor (values ++ v ∷ []) → HasTerms m new.monitor → IsShort [] new.line → EndsLine m (text ++ line) values before after None new
   line_read v new before after gives room put one stands_now terms cleared = (
     v ∷ [],
     put ∙ ap (λ (t : List ℕ). before ++ t) (sym (append-nil (values_line m (values ++ v ∷ [])))),
@@ -240,8 +240,8 @@ module _ (m : ModelParts) (bytes part : List ℕ) (old : ReadingsText) (h : AreR
     due_now : (r : Readings) → readings_of (h.text ++ (h.line ++ part)) ≡ r → readings_due m (bytes ++ part) ≡ values_due m r
     due_now r e = ap (lines_due m) whole_now ∙ ap (values_due m) e
 
-    pub line_adds : (before after : List ℕ) (ended : Option Status) (new : ReadingsText) → EndsLine m (h.text ++ (h.line ++ part)) h.values before after ended new →
-        AddsDue (readings_due m) bytes part before after
+    pub line_adds : (before after : List ℕ) (ended : Option Status) (new : ReadingsText) →
+        EndsLine m (h.text ++ (h.line ++ part)) h.values before after ended new → AddsDue (readings_due m) bytes part before after
     line_adds before after None new e = (
       values_lines m h.values e.0,
       e.1,
@@ -255,8 +255,8 @@ module _ (m : ModelParts) (bytes part : List ℕ) (old : ReadingsText) (h : AreR
           ∙ ap (λ (d : Due). d.text ++ (refused_reading e.0).text) (sym due_is),
     )
 
-    pub line_ends : (before after : List ℕ) (ended : Option Status) (new : ReadingsText) → EndsLine m (h.text ++ (h.line ++ part)) h.values before after ended new →
-        (readings_due m (bytes ++ part)).ended ≡ ended
+    pub line_ends : (before after : List ℕ) (ended : Option Status) (new : ReadingsText) →
+        EndsLine m (h.text ++ (h.line ++ part)) h.values before after ended new → (readings_due m (bytes ++ part)).ended ≡ ended
     line_ends before after None new e = ap (λ (d : Due). d.ended) (due_now (record { values = h.values ++ e.0; bad = None }) e.2.good)
     line_ends before after (Some status) new e =
         ap (λ (d : Due). d.ended) (due_now (record { values = h.values; bad = Some e.0 }) e.1) ∙ ap (λ (s : Status). Some s) (sym e.2)
@@ -428,8 +428,9 @@ few_first es ts is few =
     let all = length-map es term_of in
     omega (arith, same, firsts, all, few)
 
-pub first_readings : (model : Model) (r : ReadingsText) → length (model_parts model).terms ≤ most_terms → has_window (model_parts model) ≡ false → r.lines ≡ 0 → Stands r.monitor [] →
-    r.monitor.terms ≡ terms_of model → IsShort [] r.line → AreReadings (model_parts model) [] r
+pub first_readings : (model : Model) (r : ReadingsText) → length (model_parts model).terms ≤ most_terms →
+    has_window (model_parts model) ≡ false → r.lines ≡ 0 → Stands r.monitor [] → r.monitor.terms ≡ terms_of model →
+    IsShort [] r.line → AreReadings (model_parts model) [] r
 first_readings model r few windowless none stands terms short = record {
   text = [];
   line = [];

@@ -201,8 +201,8 @@ module _ {S K : Type 0} (s : SourceTells S) (k : SinkTells K) (given : Option Co
         let says = λ (r : Reply) (h : IsReply command [] r). headline command [] r (kept given command is ranges) (subst (FitsIn []) (sym input) tt) h in
         let told = ends_as (k.taken sink) (k.taken sink_now) status (IsReply command []) (Headline command []) says ends in
         record {
-          answers = subst (λ g. CallEnds g (s.left source) (s.left source) (s.faults source) (s.faults source) (k.taken sink) (k.taken sink_now) status) (sym is)
-              (subst (λ i. InputEnds i (Headline command) (due_of command) (s.left source) (s.left source) (s.faults source) (s.faults source) (k.taken sink)
+          answers = subst (λ g. CallEnds g (s.left source) (s.left source) (s.faults source) (s.faults source) (k.taken sink) (k.taken sink_now) status)
+              (sym is) (subst (λ i. InputEnds i (Headline command) (due_of command) (s.left source) (s.left source) (s.faults source) (s.faults source) (k.taken sink)
               (k.taken sink_now) status) (sym input) (refl, told));
           takes = subst (λ g. CallTakes g s.left source source status) (sym is)
               (subst (λ i. InputTakes i s.left source source status) (sym input) refl);

@@ -116,7 +116,8 @@ module _ (bytes : List ℕ) (r : ReadingsText) (h : IsBehindModel bytes r) where
   )
 
 -- the rest is no longer than all bytes
-pub rest_few : (bytes part : List ℕ) (r : ReadingsText) (h : IsBehindModel bytes r) → length bytes + length part < too_many → length h.rest + length part < too_many
+pub rest_few : (bytes part : List ℕ) (r : ReadingsText) (h : IsBehindModel bytes r) → length bytes + length part < too_many →
+    length h.rest + length part < too_many
 rest_few bytes part r h few =
     let long = ap (λ (x : List ℕ). length x) h.parts ∙ length-append h.front h.rest in
     omega (arith, long, few)

@@ -25,8 +25,8 @@ pub record IsProgramText (m : ModelParts) (text : List ℕ) : Type 0 where
   pub text_is : text ≡ program_text terms
 
 -- a reverse block and a glue part. The block is read as an automaton and the part is the text of a table, by which the
--- forward automaton and this one are glued to the value of the term, at every cell that the term looks at of a series of
--- 1 to 100,000 cells.
+-- forward automaton and this one are glued to the value of the term, at every cell that the term looks at of a series
+-- of 1 to 100,000 cells.
 pub record IsSplit (t : ModelTerm) (forward : Body) (tail : List ℕ) : Type 0 where
   pub lines : List ℕ
   pub body : Body

@@ -129,9 +129,9 @@ abbrev pub CallSpares : Option Command → {K : Type 0} → SinkTells K → K �
 CallSpares None k old new = ⊥
 CallSpares (Some command) k old new = InputSpares (input_of command) k old new
 
--- all that is promised of a call with these words: the sink took the answer of the theorem, or a fault or want of memory
--- is told; no more was read than that asked for; a fault is told only where one was counted; and without memory, which
--- no refusal of the words is for want of, nothing was written, or the first lines of a stream's answer
+-- all that is promised of a call with these words: the sink took the answer of the theorem, or a fault or want of
+-- memory is told; no more was read than that asked for; a fault is told only where one was counted; and without memory,
+-- which no refusal of the words is for want of, nothing was written, or the first lines of a stream's answer
 pub record RunEnds {S K : Type 0} (s : SourceTells S) (k : SinkTells K) (given : Option Command) (source source_now : S)
     (sink sink_now : K) (status : Status) : Type 0 where
   pub answers : CallEnds given (s.left source) (s.left source_now) (s.faults source) (s.faults source_now)

@@ -1,6 +1,6 @@
 -- The theorem: what each command answers to the bytes of its input. `run` writes such an answer and no other
--- (`Endings`), unless memory is wanting, or reading or writing fails. The words mean what their definitions say: a series
--- meets a model (`Meets`) by occurrences, ranges and plain sums alone.
+-- (`Endings`), unless memory is wanting, or reading or writing fails. The words mean what their definitions say: a
+-- series meets a model (`Meets`) by occurrences, ranges and plain sums alone.
 use Rattle.std.specs.Prelude.{ℕ, ◌≡◌, ◌<◌, ◌≤◌, ◌+◌, ◌*◌, ◌↔◌, ℤ, List, [], ◌∷◌, length, Option, Some, None, Result, Ok, Err, ◌++◌, IsSome, true, false}
 use Rattle.ts_base.specs.declared.ext.Ext.{Ext}
 use Rattle.ts_base.specs.declared.letter.Letter.{Letter}
@@ -169,7 +169,8 @@ pub record Headline (command : Command) (bytes : List ℕ) (answer : Reply) : Ty
   -- a text is read as its lines state, or refused at its first bad line with the first reason
   pub refuses : (line : ℕ) (kind : ModelKind) → reading_of command bytes ≡ Some (Err (line, kind)) →
       answer ≡ refused_model line kind
-  -- `check` refuses a series by the first reason, says `meets` exactly where it meets the model, and the value of each term
+  -- `check` refuses a series by the first reason, says `meets` exactly where it meets the model, and the value of each
+  -- term
   pub checks : (m : ModelParts) → command ≡ Check → States command bytes m →
       OnSeries (series_in m (rest_part bytes)) (SaysMeets m) answer
   -- `maximise` and `minimise`: the first best series, or that there is none, or that so many lines were spent
