@@ -1,6 +1,6 @@
 -- What is read is within the limits: the parts of an input are no longer than it, and a series that was read has cells
 -- from -1,000,000 to 1,000,000.
-use Rattle.std.proofs.Common.{◌≡◌, ℕ, ◌≤◌, ℤ, Bool, true, false, cond, Option, Some, None, Ok, Err, List, [], ◌∷◌, ◌++◌, length, refl, subst, arith, length-append}
+use Rattle.std.proofs.Common.{◌≡◌, ℕ, ◌<◌, ◌≤◌, ℤ, Bool, true, false, cond, Option, Some, None, Ok, Err, List, [], ◌∷◌, ◌++◌, length, refl, subst, arith, length-append}
 use Rattle.std.specs.Prelude.{◌&&◌, nat_le, unwrap_or}
 use Rattle.std.specs.Option.{option_map}
 use Rattle.std.specs.Borrow.{Bor}
@@ -9,7 +9,7 @@ use Rattle.std.proofs.lemmas.Bool.{and_parts, leb-true}
 use Rattle.std.proofs.lemmas.Int.{ints}
 use Rattle.std.proofs.lemmas.List.Elements.{All-from_recursion}
 use Rattle.ts_pattern.specs.Limits.{IsSeries}
-use Rattle.ts_base.specs.Limits.{IsCellValue, most_cells}
+use Rattle.ts_base.specs.Limits.{IsCellValue, most_cells, too_many}
 use Rattle.ts_token.specs.Text.{Cut}
 use Rattle.ts_token.specs.Number.{number_of}
 use Rattle.ts_base.specs.Words.{strict_lines}
@@ -43,6 +43,13 @@ halves_within (c ∷ cs) = cut_here (is_separator c) c cs (halves cs) (halves_wi
 
 pub parts_within : (text : List ℕ) → AreWithin (length text) (halves_of text)
 parts_within text = subst (λ (bytes : List ℕ). AreWithin (length bytes) (halves_of text)) (lines_are text) (halves_within (strict_lines text))
+
+-- so either part of a short input is short
+pub model_short : (bytes model : List ℕ) → length model ≡ length (halves_of bytes).model → length bytes < too_many → length model < too_many
+model_short bytes model same few = let within = (parts_within bytes).model in omega (arith, within, same, few)
+
+pub rest_short : (bytes rest : List ℕ) → length rest ≡ length (unwrap_or (halves_of bytes).rest []) → length bytes < too_many → length rest < too_many
+rest_short bytes rest same few = let within = (parts_within bytes).rest in omega (arith, within, same, few)
 
 -- the second part as it is lent, empty where there is none
 pub rest_now : (rest : Option (Bor (List ℕ))) (none : Bor (List ℕ)) → none.now ≡ [] → (unwrap_or rest none).now ≡ unwrap_or (option_map (λ r. r.now) rest) []

@@ -47,11 +47,15 @@ kind_word ObjectiveTwice = codes "objectivetwice"
 kind_word Limit = codes "limit"
 kind_word NoObjective = codes "noobjective"
 
-abbrev pub refused_model : ℕ → ModelKind → Reply
-refused_model number kind = record {
-  text = line (codes "refused model line " ++ decimal number ++ codes " " ++ kind_word kind);
+-- a text is refused at a line, by these words, its number and the word of its kind
+abbrev pub refused_line : List ℕ → ℕ → List ℕ → Reply
+refused_line words number kind = record {
+  text = line (words ++ decimal number ++ codes " " ++ kind);
   status = Refused;
 }
+
+abbrev pub refused_model : ℕ → ModelKind → Reply
+refused_model number kind = refused_line (codes "refused model line ") number (kind_word kind)
 
 abbrev pub refused_series : List ℕ → Reply
 refused_series word = record { text = line (codes "refused series " ++ word); status = Refused }
@@ -71,10 +75,7 @@ user_kind_word ShortWord = codes "shortword"
 user_kind_word Typing = codes "typing"
 
 abbrev pub refused_pattern : ℕ → UserKind → Reply
-refused_pattern number kind = record {
-  text = line (codes "refused pattern line " ++ decimal number ++ codes " " ++ user_kind_word kind);
-  status = Refused;
-}
+refused_pattern number kind = refused_line (codes "refused pattern line ") number (user_kind_word kind)
 
 -- a letter as its sign
 abbrev pub sign_of : Letter → ℕ

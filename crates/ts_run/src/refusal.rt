@@ -1,7 +1,7 @@
 //! The texts of the refusals.
 
 ghost use Rattle.std.specs.Prelude.{◌≡◌, ◌++◌, Err, IfOk, OnOk, map};
-ghost use Rattle.ts_run.specs.Refusals.{OnSeries, kind_word, refused_model, refused_series, refused_window};
+ghost use Rattle.ts_run.specs.Refusals.{OnSeries, kind_word, refused_line, refused_model, refused_series, refused_window};
 ghost use Rattle.ts_run.specs.Refusals.{refused_closure, refused_pattern, refused_toomany, sign_of, user_kind_word};
 ghost use Rattle.ts_run.specs.Replies.{NoMore, TellsStop};
 ghost use Rattle.ts_run.specs.Reply.{ComesOfInput, reply_of};
@@ -40,10 +40,17 @@ fn kind_word(kind: ModelKind) -> &'static [u8]
 pub fn refused_model(alloc: Global, line: u32, kind: ModelKind) -> Result<Reply, Memory>
     ensures { IfOk result (λ r. reply_of r ≡ refused_model line kind) }
 {
-    let mut text = Vec::from_slice(alloc, b"refused model line ")?;
+    refused_line(alloc, b"refused model line ", line, kind_word(kind))
+}
+
+/// The refusal of a text at a line, by these words, its number and the word of its kind.
+fn refused_line(alloc: Global, words: &[u8], line: u32, kind: &[u8]) -> Result<Reply, Memory>
+    ensures { IfOk result (λ r. reply_of r ≡ refused_line words.now line kind.now) }
+{
+    let mut text = Vec::from_slice(alloc, words)?;
     push_number(&mut text, i64::from(line))?;
     text.push(b' ')?;
-    text.extend_from_slice(kind_word(kind))?;
+    text.extend_from_slice(kind)?;
     text.push(b'\n')?;
     let status = Status::Refused;
     Ok(Reply { text, status })
@@ -105,13 +112,7 @@ fn user_kind_word(kind: UserKind) -> &'static [u8]
 pub fn refused_pattern(alloc: Global, line: u32, kind: UserKind) -> Result<Reply, Memory>
     ensures { IfOk result (λ r. reply_of r ≡ refused_pattern line kind) }
 {
-    let mut text = Vec::from_slice(alloc, b"refused pattern line ")?;
-    push_number(&mut text, i64::from(line))?;
-    text.push(b' ')?;
-    text.extend_from_slice(user_kind_word(kind))?;
-    text.push(b'\n')?;
-    let status = Status::Refused;
-    Ok(Reply { text, status })
+    refused_line(alloc, b"refused pattern line ", line, user_kind_word(kind))
 }
 
 /// A letter as its sign.

@@ -1,17 +1,14 @@
-use Rattle.std.proofs.Common.{◌∙◌, ap, arith, length, refl, []}
+use Rattle.std.proofs.Common.{◌∙◌, ap, length, refl, []}
 use Rattle.std.specs.Prelude.{unwrap_or}
 use Rattle.ts_token.specs.Halves.{Halves}
 use Rattle.ts_user.specs.Views.{described_of}
-use Rattle.ts_run.proofs.Inputs.{parts_within, rest_now}
+use Rattle.ts_run.proofs.Inputs.{model_short, rest_now, rest_short}
 use Rattle.ts_run.proofs.MarkSteps.{pattern_fails, pattern_replies}
 use Rattle.ts_run.proofs.mark.mark.Goals as goal
 
 pub pattern_of-requires : goal.pattern_of-requires
 pattern_of-requires c =
-    let within = (parts_within c.args.bytes.now).model in
-    let same = ap (λ (h : Halves). length h.model) c.cut_parts-parts.ensures in
-    let few = c.requires in
-    omega (arith, same)
+    model_short c.args.bytes.now c.cut_parts-parts.result.model.now (ap (λ (h : Halves). length h.model) c.cut_parts-parts.ensures) c.requires
 
 pub returns-in_err-user : goal.returns-in_err-user
 returns-in_err-user c =
@@ -21,11 +18,10 @@ returns-in_err-user c =
 
 pub mark_series-requires-clause-few : goal.mark_series-requires-clause-few
 mark_series-requires-clause-few c =
-    let within = (parts_within c.args.bytes.now).rest in
-    let lent = ap (λ r. length r.now) c.unwrap_or.ensures ∙ ap length (rest_now c.cut_parts-parts.result.rest _ refl) in
-    let same = ap (λ (h : Halves). length (unwrap_or h.rest [])) c.cut_parts-parts.ensures in
-    let few = c.requires in
-    omega (arith, lent, same)
+    rest_short c.args.bytes.now c.unwrap_or.result.now
+    (ap (λ r. length r.now) c.unwrap_or.ensures ∙ ap length (rest_now c.cut_parts-parts.result.rest _ refl)
+    ∙ ap (λ (h : Halves). length (unwrap_or h.rest [])) c.cut_parts-parts.ensures)
+    c.requires
 
 pub returns : goal.returns
 returns c =
