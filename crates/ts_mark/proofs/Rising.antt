@@ -1,6 +1,6 @@
 -- The occurrences of a pattern rise in both ends: of two matches, where the later start had no later end, one would contain
 -- the other.
-use Rattle.std.proofs.Common.{◌≡◌, ℕ, ◌+◌, ◌-◌, ◌<◌, ◌≤◌, Bool, true, false, Ok, Err, List, Vec, [], ◌∷◌, map, refl, sym, subst, arith}
+use Rattle.std.proofs.Common.{◌≡◌, ℕ, ◌+◌, ◌<◌, ◌≤◌, Bool, true, false, Ok, Err, List, Vec, [], ◌∷◌, map, refl, sym, subst, arith}
 use Rattle.std.specs.Prelude.{IfOk, Result, nat_lt}
 use Rattle.std.specs.Global.{Global}
 use Rattle.std.specs.List.{AllByRecursion}
