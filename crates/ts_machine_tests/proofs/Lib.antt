@@ -1,3 +1,4 @@
 mod Numbers
+mod SeriesLimits
 mod Splits
 mod TableRows

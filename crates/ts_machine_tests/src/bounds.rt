@@ -37,7 +37,7 @@ fn machine_of(alloc: Global, text: &str) -> Result<Machine, Fail>
     Ok(Machine::plain(automaton(alloc, text)?))
 }
 
-fn within(values: &[i64]) -> bool
+pub(crate) fn within(values: &[i64]) -> bool
     ensures { result ≡ list_all (λ v. int_le (neg_ℤ (pos 1000000)) v && int_le v (pos 1000000)) values.now }
 {
     values
@@ -94,11 +94,11 @@ fn domain_with_gaps(alloc: Global, place: usize) -> Result<Domain, Fail> {
 }
 
 /// A word of a text, counted from 0.
-fn word(text: &str, place: usize) -> &str {
+pub(crate) fn word(text: &str, place: usize) -> &str {
     text.split_whitespace().nth(place).unwrap_or("")
 }
 
-fn end(written: &str, e: Ext) -> Option<Ext> {
+pub(crate) fn end(written: &str, e: Ext) -> Option<Ext> {
     match written {
         "e" => Some(e),
         "-inf" => Some(Ext::NegInf),
@@ -107,7 +107,7 @@ fn end(written: &str, e: Ext) -> Option<Ext> {
     }
 }
 
-fn span(written: &str, e: Ext) -> Option<Span> {
+pub(crate) fn span(written: &str, e: Ext) -> Option<Span> {
     let (lo, hi) = written.split_once(':').unwrap_or((written, written));
     Some(Span {
         lo: end(lo, e)?,
@@ -127,7 +127,7 @@ fn hull(written: &str, e: Ext) -> Option<Hull> {
 }
 
 /// The hulls of a row as it is written.
-fn row_of(alloc: Global, written: &str, e: Ext) -> Result<Vec<Hull>, Fail> {
+pub(crate) fn row_of(alloc: Global, written: &str, e: Ext) -> Result<Vec<Hull>, Fail> {
     let mut row = Vec::new(alloc);
     for part in written.split('|') {
         row.push(hull(part, e).ok_or("no hull")?)?;

@@ -9,6 +9,8 @@ mod rows;
 mod samples;
 
 use Ext::{Int, NegInf, PosInf};
+pub(crate) use cells::model_of;
+pub(crate) use samples::looks_in;
 use ts_base::{Ext, Goal, Span};
 use ts_filter::{Bar, cuts, refutes};
 use ts_model::Op;

@@ -28,3 +28,5 @@ mod last_values;
 mod terms;
 #[cfg(test)]
 mod waiting;
+#[cfg(test)]
+mod windows;

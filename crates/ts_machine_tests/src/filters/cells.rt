@@ -164,7 +164,7 @@ fn drops_hold(alloc: Global, m: &Machine, cells: &Boxed, drops: &[DropRow]) -> b
     true
 }
 
-fn model_of(alloc: Global, text: &str) -> Option<Model>
+pub(crate) fn model_of(alloc: Global, text: &str) -> Option<Model>
     ensures { IfSome result (λ m. IsWhole (model_parts m)) }
 {
     if 1000 < text.len() {

@@ -38,7 +38,7 @@ pub(super) fn machine(alloc: Global, at: usize) -> Option<Machine>
 }
 
 /// Whether the machine looks at cells of the box.
-pub(super) fn looks_in(m: &Machine, cells: &Boxed) -> bool
+pub(crate) fn looks_in(m: &Machine, cells: &Boxed) -> bool
     ensures { IsTrue result → LooksIn (automata_of m.now) cells.now.present }
 {
     match m.window() {
