@@ -18,7 +18,7 @@ use Rattle.ts_filter.specs.Boxes.{Box}
 use Rattle.ts_filter.specs.Lines.{Stand, KeepsLine, KeepsTreeRule}
 use Rattle.ts_filter.specs.RefutedWorseDrop.{Spans}
 use Rattle.ts_filter.specs.Rules.{Head, KeepsRule}
-use Rattle.ts_frontier.specs.Follow.{MayFollow}
+use Rattle.ts_frontier.specs.Follow.{MakesBoxes}
 use Rattle.ts_frontier.specs.Waiting.{first, rest}
 use Rattle.ts_checker.specs.declared.standing.Standing.{Standing}
 use Rattle.ts_checker.specs.Standings.{MayStep, MayTake, stand_of}
@@ -47,14 +47,14 @@ tree_answered m s aim claim items listed boxes told l a c b now (Ok t) is_aim is
 -- boxes of which none can be told to be first
 -- what follows a tree line: the boxes that it makes in place of the first
 -- a line that keeps its rule on the present box may be followed there
-pub may_step : (t : Standing) (line : TreeLine) (b : Box) → IsTrue t.frontier.ready → t.frontier.boxes ≡ b ∷ rest t.frontier.boxes → MayFollow line b →
+pub may_step : (t : Standing) (line : TreeLine) (b : Box) → IsTrue t.frontier.ready → t.frontier.boxes ≡ b ∷ rest t.frontier.boxes → MakesBoxes line b →
     (line ≡ Yes → t.told < length t.series.items) → MayStep t line
 may_step t line b ready front may told =
     let one : first t.frontier.boxes ≡ b = ap first front in
     record {
       ready = ready;
       front = front ∙ ap (λ z. z ∷ rest t.frontier.boxes) (sym one);
-      fits = subst (MayFollow line) (sym one) may;
+      fits = subst (MakesBoxes line) (sym one) may;
       told = told;
     }
 
@@ -67,7 +67,7 @@ yes_below m s h told b l k is =
 pub tree_may : (m : ModelParts) (s : Spans) (a : Aim) (c : Claim) (listed : List (Vec ℤ)) (b : Box) (t : Standing) (l : TreeLine) (r : Result Bool Memory) →
     IsTrue t.frontier.ready → t.frontier.boxes ≡ b ∷ rest t.frontier.boxes → listed ≡ t.series.items →
     IfOk r (λ keeps. IsTrue keeps ↔ KeepsRule m s (record { aim = a; claim = c; series = series_of listed }) t.told b l) →
-    IfOk r (λ keeps. IsTrue keeps → MayFollow l b) → IfOk r (λ keeps. IsTrue keeps → MayStep t l)
+    IfOk r (λ keeps. IsTrue keeps → MakesBoxes l b) → IfOk r (λ keeps. IsTrue keeps → MayStep t l)
 tree_may m s a c listed b t l (Err e) ready front lent keeps may = tt
 tree_may m s a c listed b t l (Ok k) ready front lent keeps may = λ kept.
     may_step t l b ready front (may kept) (λ is.

@@ -6,7 +6,7 @@ use Rattle.ts_certificate.specs.declared.certificate.Parsed.{Parsed}
 use Rattle.ts_certificate.specs.declared.certificate.Parsed.TheVariants.{Aim, Claim, Series, Tree, End}
 use Rattle.ts_certificate.specs.declared.certificate.TreeLine.{TreeLine}
 use Rattle.ts_certificate.specs.declared.certificate.TreeLine.TheVariants.{Yes}
-use Rattle.ts_frontier.specs.Follow.{MayFollow}
+use Rattle.ts_frontier.specs.Follow.{MakesBoxes}
 use Rattle.ts_frontier.specs.Waiting.{first, rest}
 use Rattle.ts_filter.specs.Lines.{Stand}
 use Rattle.ts_checker.specs.declared.standing.Standing.{Standing}
@@ -29,7 +29,7 @@ without_boxes t = record t { waiting = [] }
 pub record MayStep (t : Standing) (line : TreeLine) : Type 0 where
   pub ready : IsTrue t.frontier.ready
   pub front : t.frontier.boxes ≡ first t.frontier.boxes ∷ rest t.frontier.boxes
-  pub fits : MayFollow line (first t.frontier.boxes)
+  pub fits : MakesBoxes line (first t.frontier.boxes)
   pub told : line ≡ Yes → t.told < length t.series.items
 
 abbrev pub MayTake : Standing → Parsed → Type 0

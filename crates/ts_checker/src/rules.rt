@@ -6,7 +6,7 @@ ghost use Rattle.ts_domain.specs.Kept.{values_above, values_up_to};
 ghost use Rattle.ts_filter.specs.Boxes.{HasCell, box_of};
 ghost use Rattle.ts_filter.specs.RefutedWorseDrop.{IsDrop, IsRefuted};
 ghost use Rattle.ts_filter.specs.Rules.{IsNext, IsSplit, KeepsRule, MayBeWorse, MayStayOpen};
-ghost use Rattle.ts_frontier.specs.Follow.{MayFollow};
+ghost use Rattle.ts_frontier.specs.Follow.{MakesBoxes};
 ghost use Rattle.ts_model.specs.Views.{model_parts};
 ghost use Rattle.ts_spans.specs.Machines.{spans_in};
 ghost use Rattle.ts_checker.specs.Subjects.{AreTables, head_in};
@@ -34,7 +34,7 @@ pub(crate) fn keeps_rule(
     ensures keeps { IfOk result
         (λ keeps. IsTrue keeps ↔ KeepsRule (model_parts model.now) (spans_in (model_parts model.now))
         (head_in head.now) head.now.told b.now.present line) }
-    ensures may { IfOk result (λ keeps. IsTrue keeps → MayFollow line b.now.present) }
+    ensures may { IfOk result (λ keeps. IsTrue keeps → MakesBoxes line b.now.present) }
 {
     match line {
         TreeLine::Split { k, t } => Ok(is_split(b, k, t)),
@@ -68,7 +68,7 @@ fn is_drop(
     ensures same { tables.new ≡ tables.old }
     ensures keeps { IfOk result (λ keeps. IsTrue keeps
         ↔ IsDrop (model_parts model.now).requirements (spans_in (model_parts model.now)) k v j b.now.present) }
-    ensures may { IfOk result (λ keeps. IsTrue keeps → MayFollow (TreeLine.Remove k v j) b.now.present) }
+    ensures may { IfOk result (λ keeps. IsTrue keeps → MakesBoxes (TreeLine.Remove k v j) b.now.present) }
 {
     if !has_cell(b, k) {
         return Ok(false);

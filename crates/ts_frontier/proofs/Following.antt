@@ -5,28 +5,28 @@ use Rattle.ts_certificate.specs.declared.certificate.TreeLine.TheVariants.{Split
 use Rattle.ts_domain.specs.Kept.{values_up_to, values_above, values_without}
 use Rattle.ts_filter.specs.Boxes.{Box, HasCell, values_at}
 use Rattle.ts_filter.specs.Steps.{made_by}
-use Rattle.ts_frontier.specs.Follow.{MayFollow, makes_some}
+use Rattle.ts_frontier.specs.Follow.{MakesBoxes, makes_some}
 use Rattle.ts_frontier.specs.Waiting.{Waiting, first, rest, after_split, after_remove}
 
 -- the line is told, and its number in a form of its own
-pub split_cell : (l : TreeLine) (k : ℕ) (t : ℤ) (b : Box) → l ≡ Split k t → MayFollow l b → HasCell k b
-split_cell l k t b is may = (subst (λ l. MayFollow l b) is may).cell
+pub split_cell : (l : TreeLine) (k : ℕ) (t : ℤ) (b : Box) → l ≡ Split k t → MakesBoxes l b → HasCell k b
+split_cell l k t b is may = (subst (λ l. MakesBoxes l b) is may).cell
 
-pub low_asked : (l : TreeLine) (k : ℕ) (t t' : ℤ) (b : Box) → l ≡ Split k t → MayFollow l b → t' ≡ t → values_up_to t' (values_at k b) ≡ [] → ⊥
+pub low_asked : (l : TreeLine) (k : ℕ) (t t' : ℤ) (b : Box) → l ≡ Split k t → MakesBoxes l b → t' ≡ t → values_up_to t' (values_at k b) ≡ [] → ⊥
 low_asked l k t t' b is may same none =
-    (subst (λ l. MayFollow l b) is may).below (ap (λ z. values_up_to z (values_at k b)) (sym same) ∙ none)
+    (subst (λ l. MakesBoxes l b) is may).below (ap (λ z. values_up_to z (values_at k b)) (sym same) ∙ none)
 
-pub high_asked : (l : TreeLine) (k : ℕ) (t t' : ℤ) (b : Box) → l ≡ Split k t → MayFollow l b → t' ≡ t → values_above t' (values_at k b) ≡ [] → ⊥
+pub high_asked : (l : TreeLine) (k : ℕ) (t t' : ℤ) (b : Box) → l ≡ Split k t → MakesBoxes l b → t' ≡ t → values_above t' (values_at k b) ≡ [] → ⊥
 high_asked l k t t' b is may same none =
-    (subst (λ l. MayFollow l b) is may).above (ap (λ z. values_above z (values_at k b)) (sym same) ∙ none)
+    (subst (λ l. MakesBoxes l b) is may).above (ap (λ z. values_above z (values_at k b)) (sym same) ∙ none)
 
-pub remove_cell : (l : TreeLine) (k : ℕ) (v : ℤ) (j : ℕ) (b : Box) → l ≡ Remove k v j → MayFollow l b → HasCell k b
-remove_cell l k v j b is may = (subst (λ l. MayFollow l b) is may).cell
+pub remove_cell : (l : TreeLine) (k : ℕ) (v : ℤ) (j : ℕ) (b : Box) → l ≡ Remove k v j → MakesBoxes l b → HasCell k b
+remove_cell l k v j b is may = (subst (λ l. MakesBoxes l b) is may).cell
 
-pub other_asked : (l : TreeLine) (k : ℕ) (v v' : ℤ) (j : ℕ) (b : Box) → l ≡ Remove k v j → MayFollow l b → v' ≡ v →
+pub other_asked : (l : TreeLine) (k : ℕ) (v v' : ℤ) (j : ℕ) (b : Box) → l ≡ Remove k v j → MakesBoxes l b → v' ≡ v →
     values_without v' (values_at k b) ≡ [] → ⊥
 other_asked l k v v' j b is may same none =
-    (subst (λ l. MayFollow l b) is may).leaves (ap (λ z. values_without z (values_at k b)) (sym same) ∙ none)
+    (subst (λ l. MakesBoxes l b) is may).leaves (ap (λ z. values_without z (values_at k b)) (sym same) ∙ none)
 
 pub split_told : (l : TreeLine) (k : ℕ) (t t' : ℤ) (w w' : Waiting) → l ≡ Split k t → t' ≡ t → w' ≡ after_split k t' w →
     w'.boxes ≡ made_by l (first w.boxes) ++ rest w.boxes

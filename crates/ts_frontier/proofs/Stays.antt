@@ -9,7 +9,7 @@ use Rattle.ts_domain.proofs.BoxLaws.{low_stays, high_stays, other_stays}
 use Rattle.ts_filter.specs.Boxes.{HasCell}
 use Rattle.ts_filter.specs.Rules.{IsSplit}
 use Rattle.ts_filter.specs.Tree.{Removes}
-use Rattle.ts_frontier.specs.Follow.{MayFollow}
+use Rattle.ts_frontier.specs.Follow.{MakesBoxes}
 
 cell_there : (b : Boxes) (k n : ℕ) → 1 ≤ k → k ≤ n → n ≡ length b.present → HasCell k b.present
 cell_there b k n from to count = (from, omega (arith, to, count))
@@ -31,11 +31,11 @@ removal_fits b k d low high gone cell is has_low has_high rise has = record {
 }
 
 pub split_may : (l : TreeLine) (b : Boxes) (k n : ℕ) (d : List ℤ) (low high t : ℤ) → l ≡ Split k t → 1 ≤ k → k ≤ n → n ≡ length b.present →
-    d ≡ cell_of k b → Contains d low → Contains d high → low ≤ℤ t → t <ℤ high → MayFollow l b.present
+    d ≡ cell_of k b → Contains d low → Contains d high → low ≤ℤ t → t <ℤ high → MakesBoxes l b.present
 split_may l b k n d low high t line from to count is has_low has_high below above =
-    subst (λ x. MayFollow x b.present) (sym line) (split_fits b k d low high t (cell_there b k n from to count) is has_low has_high below above)
+    subst (λ x. MakesBoxes x b.present) (sym line) (split_fits b k d low high t (cell_there b k n from to count) is has_low has_high below above)
 
 pub removal_may : (l : TreeLine) (b : Boxes) (k n j : ℕ) (d : List ℤ) (low high gone : ℤ) → l ≡ Remove k gone j → 1 ≤ k → k ≤ n →
-    n ≡ length b.present → d ≡ cell_of k b → Contains d low → Contains d high → low <ℤ high → Contains d gone → MayFollow l b.present
+    n ≡ length b.present → d ≡ cell_of k b → Contains d low → Contains d high → low <ℤ high → Contains d gone → MakesBoxes l b.present
 removal_may l b k n j d low high gone line from to count is has_low has_high rise has =
-    subst (λ x. MayFollow x b.present) (sym line) (removal_fits b k d low high gone (cell_there b k n from to count) is has_low has_high rise has)
+    subst (λ x. MakesBoxes x b.present) (sym line) (removal_fits b k d low high gone (cell_there b k n from to count) is has_low has_high rise has)

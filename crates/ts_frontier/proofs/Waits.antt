@@ -13,7 +13,7 @@ use Rattle.ts_filter.specs.Lines.{Stand, first_stand, KeepsTreeRule, KeepsLine, 
 use Rattle.ts_filter.specs.RefutedWorseDrop.{Spans}
 use Rattle.ts_filter.specs.Steps.{made_by}
 use Rattle.ts_filter.proofs.BoxParts.{inside_length, low_part, high_part, without_part, others_stay, part_self, box_total, low_total, high_total, without_total}
-use Rattle.ts_frontier.specs.Follow.{MayFollow, LeadTo}
+use Rattle.ts_frontier.specs.Follow.{MakesBoxes, LeadTo}
 use Rattle.ts_frontier.specs.Laws.{RulesFollow, FewWait, FewWaitAfter}
 
 pub rules_follow : RulesFollow
@@ -38,7 +38,7 @@ record Bounded (top : ℕ) (m : Box) (w : List Box) : Type 0 where
   parts : AllByRecursion (λ c. IsPart c m) w
   few : Few top w
 
-parts_made : (m : Box) (l : TreeLine) (b : Box) (w : List Box) → AllByRecursion (λ c. IsPart c m) (b ∷ w) → MayFollow l b →
+parts_made : (m : Box) (l : TreeLine) (b : Box) (w : List Box) → AllByRecursion (λ c. IsPart c m) (b ∷ w) → MakesBoxes l b →
     AllByRecursion (λ c. IsPart c m) (made_by l b ++ w)
 parts_made m (Split k t) b w e f = (low_part k t b m e.0 f.cell f.below, (high_part k t b m e.0 f.cell f.above, e.1))
 parts_made m (Remove k v j) b w e f = (without_part k v b m e.0 f.cell f.leaves, e.1)
@@ -47,7 +47,7 @@ parts_made m (Worse p) b w e f = e.1
 parts_made m Yes b w e f = e.1
 parts_made m Unsearched b w e f = e.1
 
-few_made : (top : ℕ) (l : TreeLine) (b : Box) (w : List Box) → IsBox b → Few top (b ∷ w) → MayFollow l b → Few top (made_by l b ++ w)
+few_made : (top : ℕ) (l : TreeLine) (b : Box) (w : List Box) → IsBox b → Few top (b ∷ w) → MakesBoxes l b → Few top (made_by l b ++ w)
 few_made top (Split k t) b w i e f =
     let n = e.0 in let low = low_total k t b f.cell f.above in let high = high_total k t b f.cell in ((omega arith), ((omega arith), e.1))
 few_made top (Remove k v j) b w i e f = let n = e.0 in let less = without_total k v b i f.cell f.there in ((omega arith), e.1)
@@ -56,7 +56,7 @@ few_made top (Worse p) b w i e f = e.1
 few_made top Yes b w i e f = e.1
 few_made top Unsearched b w i e f = e.1
 
-one_more : (top : ℕ) (m : Box) (l : TreeLine) (b : Box) (w : List Box) → Bounded top m (b ∷ w) → MayFollow l b → Bounded top m (made_by l b ++ w)
+one_more : (top : ℕ) (m : Box) (l : TreeLine) (b : Box) (w : List Box) → Bounded top m (b ∷ w) → MakesBoxes l b → Bounded top m (made_by l b ++ w)
 one_more top m l b w h f = record { parts = parts_made m l b w h.parts f; few = few_made top l b w h.parts.0.box h.few f }
 
 led : (top : ℕ) (m : Box) (ls : List TreeLine) (w left : List Box) → Bounded top m w → LeadTo w ls left → Bounded top m left

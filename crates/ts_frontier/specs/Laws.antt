@@ -8,7 +8,7 @@ use Rattle.ts_filter.specs.Boxes.{Box, box_of}
 use Rattle.ts_filter.specs.Lines.{Stand, IsOutcome}
 use Rattle.ts_filter.specs.RefutedWorseDrop.{Spans}
 use Rattle.ts_filter.specs.Rules.{Head, KeepsRule}
-use Rattle.ts_frontier.specs.Follow.{MayFollow, LeadTo, WaitAfter}
+use Rattle.ts_frontier.specs.Follow.{MakesBoxes, LeadTo, WaitAfter}
 use Rattle.ts_frontier.specs.Forms.{Alone, Wide, form}
 use Rattle.ts_frontier.specs.Halve.{IsHalving}
 
@@ -24,7 +24,7 @@ FormsTell = (b : Box) → IsBox b → FormTells b
 abbrev pub RulesFollow : Type 0
 RulesFollow =
     (m : ModelParts) (s : Spans) (h : Head) (told : ℕ) (b : Box) (l : TreeLine) → IsBox b → KeepsRule m s h told b l →
-    MayFollow l b
+    MakesBoxes l b
 
 -- with V values in all n cells together, at most V + 1 - n boxes wait, whatever lines are followed
 abbrev pub FewWait : Type 0

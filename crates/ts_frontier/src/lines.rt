@@ -2,7 +2,7 @@
 
 ghost use Rattle.std.specs.Prelude.{◌≡◌, ◌++◌, IsTrue, OnOk, OnErr};
 ghost use Rattle.ts_filter.specs.Steps.{made_by};
-ghost use Rattle.ts_frontier.specs.Follow.{MayFollow, makes_some};
+ghost use Rattle.ts_frontier.specs.Follow.{MakesBoxes, makes_some};
 ghost use Rattle.ts_frontier.specs.Waiting.{first, rest};
 
 use crate::frontier::Frontier;
@@ -14,7 +14,7 @@ use ts_certificate::TreeLine;
 /// changed.
 pub fn follow(frontier: &mut Frontier, line: &TreeLine) -> Result<(), Memory>
     requires ready { IsTrue frontier.old.ready }
-    requires fits { MayFollow line.now (first frontier.old.boxes) }
+    requires fits { MakesBoxes line.now (first frontier.old.boxes) }
     ensures ok { OnOk result (frontier.new.boxes
         ≡ made_by line.now (first frontier.old.boxes) ++ rest frontier.old.boxes) }
     ensures ready { OnOk result (frontier.new.ready ≡ makes_some line.now) }

@@ -2,7 +2,7 @@
 
 ghost use Rattle.std.specs.Prelude.{IsTrue, pos, neg_ℤ, int_le, ◌&&◌, ◌≡◌};
 ghost use Rattle.std.specs.List.{list_all};
-ghost use Rattle.ts_frontier.specs.Follow.{MayFollow};
+ghost use Rattle.ts_frontier.specs.Follow.{MakesBoxes};
 
 use TreeLine::{No, Remove, Split, Unsearched, Worse, Yes};
 use std::alloc::Global;
@@ -81,7 +81,7 @@ fn box_of(rt: &impl Abort, alloc: Global, cells: &[&[i64]]) -> Result<Boxed, Fai
 
 /// Whether the line's cell is there, and has values on both sides of a split, or one that is taken and another one.
 fn fits(present: &Boxed, line: &TreeLine) -> bool
-    ensures { IsTrue result → MayFollow line.now present.now.present }
+    ensures { IsTrue result → MakesBoxes line.now present.now.present }
 {
     match *line {
         Split { k, t } => {

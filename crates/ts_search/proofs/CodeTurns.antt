@@ -10,7 +10,7 @@ use Rattle.ts_domain.specs.BoxSeries.{IsBox}
 use Rattle.ts_filter.specs.Boxes.{Box, IsPart}
 use Rattle.ts_filter.specs.Steps.{made_by}
 use Rattle.ts_filter.proofs.BoxParts.{low_part, high_part, without_part, others_stay, part_self}
-use Rattle.ts_frontier.specs.Follow.{MayFollow}
+use Rattle.ts_frontier.specs.Follow.{MakesBoxes}
 use Rattle.ts_frontier.specs.Waiting.{Waiting, first, rest}
 use Rattle.ts_frontier.specs.Forms.{form}
 use Rattle.ts_search.specs.Dive.{Find}
@@ -21,32 +21,32 @@ use Rattle.ts_search.proofs.ListSolves.{done_stop}
 use Rattle.ts_search.proofs.Parts.{AreParts, wide_split}
 use Rattle.ts_search.proofs.Solves.{turns_stop}
 
--- the line of a box may be followed, and makes boxes inside the model's
+-- the boxes that the line of a box makes have series, inside the model's
 
-choice_follows : (c : Search) (aim : Aim) (found : Option Find) (b : Box) (l : TreeLine) → IsPart b c.model.cells → Choice c aim found b l → MayFollow l b
-choice_follows c aim found b (No j p) i (by_refuted r) = tt
-choice_follows c aim found b (Worse p) i (by_cut a e) = tt
-choice_follows c aim found b (Worse p) i (by_new a e f n k) = tt
-choice_follows c aim found b Yes i (by_yes a f n) = tt
-choice_follows c aim found b (Remove k v j) i (by_drop d) =
+choice_makes : (c : Search) (aim : Aim) (found : Option Find) (b : Box) (l : TreeLine) → IsPart b c.model.cells → Choice c aim found b l → MakesBoxes l b
+choice_makes c aim found b (No j p) i (by_refuted r) = tt
+choice_makes c aim found b (Worse p) i (by_cut a e) = tt
+choice_makes c aim found b (Worse p) i (by_new a e f n k) = tt
+choice_makes c aim found b Yes i (by_yes a f n) = tt
+choice_makes c aim found b (Remove k v j) i (by_drop d) =
     record { cell = d.cell; there = d.there; leaves = others_stay k v b i.box d.cell d.many d.there }
-choice_follows c aim found b (Split k t) i (by_split f) = wide_split c.model.cells b k t i f
-choice_follows c aim found b Unsearched i h = elim h [ ]
+choice_makes c aim found b (Split k t) i (by_split f) = wide_split c.model.cells b k t i f
+choice_makes c aim found b Unsearched i h = elim h [ ]
 
-pub line_follows : (c : Search) (aim : Aim) (found : Option Find) (b : Box) → IsPart b c.model.cells → MayFollow (line_of c aim found b) b
-line_follows c aim found b i = choice_follows c aim found b (line_of c aim found b) i (line_choice c aim found b)
+pub line_makes : (c : Search) (aim : Aim) (found : Option Find) (b : Box) → IsPart b c.model.cells → MakesBoxes (line_of c aim found b) b
+line_makes c aim found b i = choice_makes c aim found b (line_of c aim found b) i (line_choice c aim found b)
 
 -- as the code has the waiting boxes: after `advance`, and the first of them present
-pub may_follow : (c : Search) (aim : Aim) (found : Option Find) (old bs : List Box) (b : Box) (l : TreeLine) → AreParts c.model.cells old → bs ≡ old →
-    bs ≡ b ∷ rest bs → l ≡ line_of c aim found b → MayFollow l (first bs)
-may_follow c aim found old bs b l parts same front is =
+pub first_makes : (c : Search) (aim : Aim) (found : Option Find) (old bs : List Box) (b : Box) (l : TreeLine) → AreParts c.model.cells old → bs ≡ old →
+    bs ≡ b ∷ rest bs → l ≡ line_of c aim found b → MakesBoxes l (first bs)
+first_makes c aim found old bs b l parts same front is =
     let here = subst (AreParts c.model.cells) (sym same ∙ front) parts in
-    subst (λ x. MayFollow l x) (sym (ap first front)) (subst (λ z. MayFollow z b) (sym is) (line_follows c aim found b here.0))
+    subst (λ x. MakesBoxes l x) (sym (ap first front)) (subst (λ z. MakesBoxes z b) (sym is) (line_makes c aim found b here.0))
 
 pub present_part : (cells : Box) (old bs : List Box) (b : Box) → AreParts cells old → bs ≡ old → bs ≡ b ∷ rest bs → IsPart b cells
 present_part cells old bs b parts same front = (subst (AreParts cells) (sym same ∙ front) parts).0
 
-parts_after : (cells : Box) (l : TreeLine) (b : Box) (w : List Box) → MayFollow l b → AreParts cells (b ∷ w) → AreParts cells (made_by l b ++ w)
+parts_after : (cells : Box) (l : TreeLine) (b : Box) (w : List Box) → MakesBoxes l b → AreParts cells (b ∷ w) → AreParts cells (made_by l b ++ w)
 parts_after cells (Split k t) b w f e = (low_part k t b cells e.0 f.cell f.below, (high_part k t b cells e.0 f.cell f.above, e.1))
 parts_after cells (Remove k v j) b w f e = (without_part k v b cells e.0 f.cell f.leaves, e.1)
 parts_after cells (No j p) b w f e = e.1
@@ -60,7 +60,7 @@ turn_parts c aim s h = go s.pending refl h
   where
     go : (w : List Box) → s.pending ≡ w → AreParts c.model.cells w → AreParts c.model.cells (turn_on c aim s w).pending
     go [] e h = subst (AreParts c.model.cells) (sym e) h
-    go (b ∷ u) e h = parts_after c.model.cells (line_of c aim s.found b) b u (line_follows c aim s.found b h.0) h
+    go (b ∷ u) e h = parts_after c.model.cells (line_of c aim s.found b) b u (line_makes c aim s.found b h.0) h
 
 list_turn_parts : (c : Search) (count : ℕ) (s : ListState) → AreParts c.model.cells s.pending → AreParts c.model.cells (list_turn c count s).pending
 list_turn_parts c count s h =
@@ -71,7 +71,7 @@ list_turn_parts c count s h =
   where
     go : (w : List Box) → s.pending ≡ w → AreParts c.model.cells w → AreParts c.model.cells (list_turn_on c count s w).pending
     go [] e h = subst (AreParts c.model.cells) (sym e) h
-    go (b ∷ u) e h = parts_after c.model.cells (line_of c (ListOf count) None b) b u (line_follows c (ListOf count) None b h.0) h
+    go (b ∷ u) e h = parts_after c.model.cells (line_of c (ListOf count) None b) b u (line_makes c (ListOf count) None b h.0) h
 
 pub list_parts : (c : Search) (count : ℕ) (s s' : ListState) → s' ≡ list_turn c count s → AreParts c.model.cells s.pending → AreParts c.model.cells s'.pending
 list_parts c count s s' e h = subst (λ (z : ListState). AreParts c.model.cells z.pending) (sym e) (list_turn_parts c count s h)

@@ -18,7 +18,7 @@ use Rattle.ts_search.proofs.Known.{Known}
 use Rattle.ts_search.proofs.ListGood.{head_so_far, GoodList, list_good_start, list_good_turn, list_good_turns}
 use Rattle.ts_search.proofs.Parts.{AreParts}
 use Rattle.ts_search.proofs.Reason.{free_of_no, GivesReason, reason_first_no, by_reason, branch_lean}
-use Rattle.ts_search.proofs.Unique.{lean_append, may_follow, lean_left}
+use Rattle.ts_search.proofs.Unique.{lean_append, stands_now, lean_left}
 
 module _ (c : Search) (count : ℕ) (f found : Option Find) (b : Box) (i : IsPart b c.model.cells) where
   list_free : refuted_last c b ≡ None → first_no c b (requirements c) 1 ≡ None → IsFree c (ListOf count) f b
@@ -67,7 +67,7 @@ module _ (c : Search) (count : ℕ) where
           let here = subst (λ z. AreParts c.model.cells z) at g.boxes in
           let l = line_of c (ListOf count) None b in
           lean_append c (ListOf count) (Some count) (head_so_far count s.listed) false s.lines (l ∷ []) None 0 all (b ∷ u) told g.all_checked st n
-          (may_follow (Some count) told l room, list_has c count (tally c None all s.lines) None b here.0, tt)
+          (stands_now (Some count) told l room, list_has c count (tally c None all s.lines) None b here.0, tt)
 
   list_lean_turns : Known c → (n : ℕ) (s : ListState) → GoodList c count s → IsLeanSoFar s.lines → IsLeanSoFar (list_turns c count n s).lines
   list_lean_turns k zero s g l = l

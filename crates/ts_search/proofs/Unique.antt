@@ -62,13 +62,13 @@ lean_append c aim most h o (l ∷ ls) ms f y (b ∷ w) left after a st n m =
           (subst (λ z. AreLean c aim most next z (told_by l y) (made_by l b ++ w) ls) same n.2) m),
     )
 
-pub may_follow : (most : Option ℕ) (y : ℕ) (l : TreeLine) → MatchOption most (Unit {0}) (λ m. y < m) → StandsInTime most false y l
-may_follow most y (Split k t) h = (refl, h)
-may_follow most y (Remove k v j) h = (refl, h)
-may_follow most y (No j p) h = (refl, h)
-may_follow most y (Worse p) h = (refl, h)
-may_follow most y Yes h = (refl, h)
-may_follow most y Unsearched h = tt
+pub stands_now : (most : Option ℕ) (y : ℕ) (l : TreeLine) → MatchOption most (Unit {0}) (λ m. y < m) → StandsInTime most false y l
+stands_now most y (Split k t) h = (refl, h)
+stands_now most y (Remove k v j) h = (refl, h)
+stands_now most y (No j p) h = (refl, h)
+stands_now most y (Worse p) h = (refl, h)
+stands_now most y Yes h = (refl, h)
+stands_now most y Unsearched h = tt
 
 pub lean_left : (c : Search) (aim : Aim) (most : Option ℕ) (f : Option Find) (o : Bool) (y : ℕ) (w : List Box) → AreLean c aim most f o y w (left_open w)
 lean_left c aim most f o y [] = tt
@@ -87,7 +87,7 @@ module _ (c : Search) (e : KnownBest c) where
       let f = tally c None all s.lines in
       let l = line_of c (BestOf c.goal) s.found b in
       lean_append c (BestOf c.goal) None (head_now c s.found) false s.lines (l ∷ []) None 0 all (b ∷ u) 0 g.all_checked st n (
-        may_follow None 0 l tt,
+        stands_now None 0 l tt,
         subst (λ z. IsLeanLine c (BestOf c.goal) f b (line_of c (BestOf c.goal) z b)) (sym g.found_is) (lean_has c f b here.0),
         tt,
       )

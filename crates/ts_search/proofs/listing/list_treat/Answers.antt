@@ -5,7 +5,7 @@ use Rattle.ts_filter.specs.Steps.{made_by}
 use Rattle.ts_frontier.specs.Waiting.{first, rest}
 use Rattle.ts_search.specs.Turns.{ListState, list_turn}
 use Rattle.ts_search.specs.Views.{list_state_of, search_of}
-use Rattle.ts_search.proofs.CodeTurns.{list_turned, may_follow, present_part, room_for}
+use Rattle.ts_search.proofs.CodeTurns.{list_turned, first_makes, present_part, room_for}
 use Rattle.ts_search.proofs.listing.list_treat.Goals as goal
 
 pub listing_line-requires : goal.listing_line-requires
@@ -18,7 +18,7 @@ listing_line-requires c = record {
 
 pub follow-requires-clause-fits : goal.follow-requires-clause-fits
 follow-requires-clause-fits c =
-    may_follow (search_of c.args.problem.now) (ListOf 0) None c.args.tree.now.frontier.boxes c.advance.new.self.boxes
+    first_makes (search_of c.args.problem.now) (ListOf 0) None c.args.tree.now.frontier.boxes c.advance.new.self.boxes
     c.present.result.now.present c.in_ok-line.line c.requires.parts c.in_ok-advance.ensures.same c.present.ensures (c.in_ok-line.ensures.line 0)
 
 pub returns-clause-turn : goal.returns-clause-turn

@@ -1,6 +1,6 @@
 use Rattle.ts_certificate.specs.declared.certificate.Aim.TheVariants.{Best as BestOf}
 use Rattle.ts_search.specs.Views.{find_of, search_of}
-use Rattle.ts_search.proofs.CodeTurns.{may_follow, present_part}
+use Rattle.ts_search.proofs.CodeTurns.{first_makes, present_part}
 use Rattle.ts_search.proofs.tree.treat.Goals as goal
 
 -- the present box is the first that waits, which is inside the model's
@@ -19,6 +19,6 @@ found_now-requires-clause-part c =
 
 pub follow-requires-clause-fits : goal.follow-requires-clause-fits
 follow-requires-clause-fits c =
-    may_follow (search_of c.args.problem.now) (BestOf c.args.problem.now.goal) (find_of c.args.tree.now.found) c.args.tree.now.frontier.boxes
+    first_makes (search_of c.args.problem.now) (BestOf c.args.problem.now.goal) (find_of c.args.tree.now.found) c.args.tree.now.frontier.boxes
     c.advance.new.self.boxes c.present.result.now.present c.in_ok-line.line c.requires.parts c.in_ok-advance.ensures.same c.present.ensures
     c.in_ok-line.ensures.line
