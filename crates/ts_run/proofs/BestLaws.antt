@@ -4,7 +4,6 @@ use Rattle.std.specs.Prelude.{◌==◌, Result}
 use Rattle.ts_base.specs.declared.goal.Goal.{Goal}
 use Rattle.ts_base.specs.Limits.{most_checked, most_listed, most_model_bytes}
 use Rattle.ts_token.specs.Text.{cut_of}
-use Rattle.ts_certificate.specs.declared.certificate.Aim.TheVariants.{Best as BestOf}
 use Rattle.ts_certificate.specs.declared.certificate.Claim.{Claim}
 use Rattle.ts_certificate.specs.declared.certificate.Claim.TheVariants.{Best as BestIs, Infeasible, BudgetBest, BudgetNone, Full, All, BudgetList}
 use Rattle.ts_certificate.specs.declared.certificate.TreeLine.{TreeLine}
@@ -16,7 +15,7 @@ use Rattle.ts_model.specs.ModelParts.{ModelParts}
 use Rattle.ts_model.proofs.FitLaws.{limits_stated, whole_stated}
 use Rattle.ts_spans.specs.Machines.{spans_in}
 use Rattle.ts_search.specs.Laws.{IsBudget}
-use Rattle.ts_search.specs.LineOf.{Search, search_for}
+use Rattle.ts_search.specs.LineOf.{Contest, contest_for}
 use Rattle.ts_search.specs.Listed.{IsListedBy}
 use Rattle.ts_search.specs.Solved.{IsSolvedBy}
 use Rattle.ts_search.proofs.Closing.{budget_is_enough, list_budget_is_enough, one_listed, one_solved}
@@ -80,7 +79,7 @@ spent (BudgetList n) e = tt
 abbrev IsSpent : ℕ → List TreeLine → Type 0
 IsSpent lines tree = (checked_count tree ≡ lines) × (0 < open_count tree)
 
-solved_spent : (c : Search) (lines : ℕ) (claim : Claim) (series : List (List ℤ)) (tree : List TreeLine) → IsSolvedBy c lines claim series tree →
+solved_spent : (c : Contest) (lines : ℕ) (claim : Claim) (series : List (List ℤ)) (tree : List TreeLine) → IsSolvedBy c lines claim series tree →
     claim_status claim ≡ Budget → IsSpent lines tree
 solved_spent c lines (BestIs v) series tree h e = absurd (spent (BestIs v) e)
 solved_spent c lines Infeasible series tree h e = absurd (spent Infeasible e)
@@ -107,7 +106,7 @@ pub says_best : (goal : Goal) (lines : ℕ) (bytes : List ℕ) (m : ModelParts) 
 says_best goal lines bytes m r range small read h =
     let b : IsBest goal lines m r = subst (λ (x : Result ModelParts (ℕ × ModelKind)). OnReading x (IsBest goal lines) r) read h in
     let c = b.certificate in
-    let sought = search_for m (spans_in m) (BestOf goal) in
+    let sought = contest_for m (spans_in m) goal in
     let whole = whole_stated NeedsBest (cut_of bytes) m read in
     let limits = limits_stated NeedsBest (cut_of bytes) m read in
     let right = are_right m whole limits.box in

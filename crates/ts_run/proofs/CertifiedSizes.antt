@@ -40,7 +40,7 @@ use Rattle.ts_filter.proofs.SoundLaws.{values_are_sound, series_length}
 use Rattle.ts_filter.proofs.TreeLaws.{to_steps}
 use Rattle.ts_spans.specs.Machines.{spans_in}
 use Rattle.ts_spans.proofs.OfTerms.{spans_hold_values}
-use Rattle.ts_search.specs.LineOf.{search_for}
+use Rattle.ts_search.specs.LineOf.{contest_for}
 use Rattle.ts_search.specs.Listed.{IsListedBy, IsListAnswer}
 use Rattle.ts_search.specs.Solved.{IsSolvedBy, IsSolution}
 use Rattle.ts_search.proofs.OfProgram.{are_right}
@@ -106,17 +106,17 @@ objective_fits m x v whole box meets is =
 module _ (m : ModelParts) (goal : Goal) (budget : ℕ) (whole : IsWhole m) (box : IsBox m.cells) (c : Cert) (h : IsSolution m (spans_in m) goal budget c) where
   by_claim : (claim : Claim) → c.claim ≡ claim → is_claim (BestOf goal) claim ≡ true
   by_claim (Best v) e =
-      let k = subst (λ z. IsSolvedBy (search_for m (spans_in m) (BestOf goal)) budget z c.series c.tree) e h.claim in
+      let k = subst (λ z. IsSolvedBy (contest_for m (spans_in m) goal) budget z c.series c.tree) e h.claim in
       objective_fits m k.0 v whole box k.2.meets k.3
   by_claim Infeasible e = refl
   by_claim (BudgetBest v) e =
-      let k = subst (λ z. IsSolvedBy (search_for m (spans_in m) (BestOf goal)) budget z c.series c.tree) e h.claim in
+      let k = subst (λ z. IsSolvedBy (contest_for m (spans_in m) goal) budget z c.series c.tree) e h.claim in
       let fit = (subst (λ xs. AllFit m c.claim [] xs) k.1 h.accepts.series).0 in
       objective_fits m k.0 v whole box fit.meets (subst (λ z. IsAsClaimed m z [] k.0) e fit.claimed)
   by_claim BudgetNone e = refl
-  by_claim (Full count) e = absurd (subst (λ z. IsSolvedBy (search_for m (spans_in m) (BestOf goal)) budget z c.series c.tree) e h.claim)
-  by_claim (All count) e = absurd (subst (λ z. IsSolvedBy (search_for m (spans_in m) (BestOf goal)) budget z c.series c.tree) e h.claim)
-  by_claim (BudgetList count) e = absurd (subst (λ z. IsSolvedBy (search_for m (spans_in m) (BestOf goal)) budget z c.series c.tree) e h.claim)
+  by_claim (Full count) e = absurd (subst (λ z. IsSolvedBy (contest_for m (spans_in m) goal) budget z c.series c.tree) e h.claim)
+  by_claim (All count) e = absurd (subst (λ z. IsSolvedBy (contest_for m (spans_in m) goal) budget z c.series c.tree) e h.claim)
+  by_claim (BudgetList count) e = absurd (subst (λ z. IsSolvedBy (contest_for m (spans_in m) goal) budget z c.series c.tree) e h.claim)
 
   best_claim : is_claim c.aim c.claim ≡ true
   best_claim = ap (λ a. is_claim a c.claim) h.aim ∙ by_claim c.claim refl
@@ -198,7 +198,7 @@ module _ (m : ModelParts) (need : Need) (whole : IsWhole m) (limits : KeepsLimit
 one_series : (goal : Goal) (budget : ℕ) (m : ModelParts) (c : Cert) → IsSolution m (spans_in m) goal budget c → series_count c.claim ≤ 1
 one_series goal budget m c h = go c.claim h.claim
   where
-    go : (claim : Claim) → IsSolvedBy (search_for m (spans_in m) (BestOf goal)) budget claim c.series c.tree → series_count claim ≤ 1
+    go : (claim : Claim) → IsSolvedBy (contest_for m (spans_in m) goal) budget claim c.series c.tree → series_count claim ≤ 1
     go (Best v) k = omega arith
     go Infeasible k = omega arith
     go (BudgetBest v) k = omega arith

@@ -7,7 +7,6 @@ use Rattle.ts_base.specs.Limits.{most_cells, too_many}
 use Rattle.ts_base.specs.Words.{strict_lines}
 use Rattle.ts_base.proofs.WordLaws.{lines_few}
 use Rattle.ts_automaton.specs.AutomatonRun.{AreCellValues}
-use Rattle.ts_certificate.specs.declared.certificate.Aim.TheVariants.{Best as BestOf}
 use Rattle.ts_certificate.specs.declared.certificate.Claim.{Claim}
 use Rattle.ts_certificate.specs.declared.certificate.Claim.TheVariants.{Best, Infeasible, BudgetBest, BudgetNone, Full, All, BudgetList}
 use Rattle.ts_certificate.specs.declared.certificate.TreeLine.{TreeLine}
@@ -16,7 +15,7 @@ use Rattle.ts_certificate.proofs.CallerLemmas.{text_fits}
 use Rattle.ts_model.specs.ModelParts.{ModelParts}
 use Rattle.ts_spans.specs.Machines.{spans_in}
 use Rattle.ts_search.specs.Laws.{IsBudget}
-use Rattle.ts_search.specs.LineOf.{search_for}
+use Rattle.ts_search.specs.LineOf.{contest_for}
 use Rattle.ts_search.specs.Solved.{IsSolvedBy, IsSolution}
 use Rattle.ts_search.proofs.Closing.{budget_is_enough}
 use Rattle.ts_search.proofs.OfProgram.{are_right}
@@ -44,7 +43,7 @@ module _ (n : ℕ) (asked : IsWithin 1 most_cells n) where
 
   -- a claim that isn't of a best value is one of a spent budget
   no_other : (claim : Claim) (series : List (List ℤ)) (tree : List TreeLine) →
-      IsSolvedBy (search_for m (spans_in m) (BestOf Minimise)) usual_lines claim series tree → ((v : Ext) → claim ≡ Best v → ⊥) →
+      IsSolvedBy (contest_for m (spans_in m) Minimise) usual_lines claim series tree → ((v : Ext) → claim ≡ Best v → ⊥) →
       IsTold n claim series tree (three_lines n)
   no_other (Best v) series tree h f = absurd (f v refl)
   no_other Infeasible series tree h f = absurd (h.1 _ (sample_meets n asked))
@@ -88,7 +87,7 @@ module _ (n : ℕ) (asked : IsWithin 1 most_cells n) where
 
       pub has_best : HasBest
       has_best =
-          let k = subst (λ z. IsSolvedBy (search_for m (spans_in m) (BestOf Minimise)) usual_lines z c.series c.tree) best solved.claim in
+          let k = subst (λ z. IsSolvedBy (contest_for m (spans_in m) Minimise) usual_lines z c.series c.tree) best solved.claim in
           let inside = k.2.meets.inside in
           let long = series_length k.0 m.cells inside in
           let count = cells_count 1 n in

@@ -28,7 +28,7 @@ use Rattle.ts_filter.proofs.SoundLaws.{series_length}
 use Rattle.ts_search.specs.RightSpans.{AreRight}
 use Rattle.ts_search.specs.Dive.{Find, value_of, dive}
 use Rattle.ts_search.specs.Listed.{IsListAnswer}
-use Rattle.ts_search.specs.LineOf.{Search, search_for}
+use Rattle.ts_search.specs.LineOf.{Search, Contest, search_for, contest_for}
 use Rattle.ts_search.specs.Solved.{IsSolution}
 use Rattle.ts_search.specs.Turns.{State, start, turns, left_open, found_or_warm, series_of, done_claim, budget_claim, solve_head, under_head, solve_certificate, ListState, list_start, list_turns, list_claim, list_certificate}
 use Rattle.ts_search.specs.Views.{find_of}
@@ -62,9 +62,6 @@ pub value_is : (m : ModelParts) (x : List ℤ) (term : ℕ) (v : Ext) → m.obje
 value_is m x term v objective told =
     sym (ap (λ o. unwrap_or (value_of_term m x o) NegInf) objective ∙ ap (λ o. unwrap_or o NegInf) told)
 
-pub value_none : (m : ModelParts) (x : List ℤ) → m.objective ≡ None → NegInf ≡ value_of m x
-value_none m x objective = sym (ap (λ o. unwrap_or (value_of_term m x o) NegInf) objective)
-
 -- open lines
 
 pub open_lines : (w : List Box) → left_open w ≡ replicate (length w) Unsearched
@@ -92,7 +89,7 @@ or_warm None w = refl
 
 -- the certificate of a search
 
-module _ (c : Search) (ls : List TreeLine) (w : List Box) (found : Option Find) (n : ℕ) (size : n ≡ length w) where
+module _ (c : Contest) (ls : List TreeLine) (w : List Box) (found : Option Find) (n : ℕ) (size : n ≡ length w) where
   abbrev now : State
   now = record { lines = ls; pending = w; found = found }
 
@@ -125,17 +122,17 @@ module _ (c : Search) (ls : List TreeLine) (w : List Box) (found : Option Find) 
       ∙ ap (λ h. under_head h (ls ++ left_open w)) (sym (head_left w (λ e. some (size ∙ e))))
 
 -- and it is solved
-pub solved : (m : ModelParts) (s : Spans) (goal : Goal) (n : ℕ) (c : Search) (state : State) (cert : Cert) → AreRight m s → IsSome m.objective →
-    c ≡ search_for m s (BestOf goal) → state ≡ turns c (BestOf goal) n (start c) → cert ≡ solve_certificate c state → IsSolution m s goal n cert
+pub solved : (m : ModelParts) (s : Spans) (goal : Goal) (n : ℕ) (c : Contest) (state : State) (cert : Cert) → AreRight m s → IsSome m.objective →
+    c ≡ contest_for m s goal → state ≡ turns c n (start c) → cert ≡ solve_certificate c state → IsSolution m s goal n cert
 solved m s goal n c state cert right some is turned made =
     subst (IsSolution m s goal n)
-    (sym (made ∙ ap (solve_certificate c) turned ∙ ap (λ z. solve_certificate z (turns z (BestOf goal) n (start z))) is))
+    (sym (made ∙ ap (solve_certificate c) turned ∙ ap (λ z. solve_certificate z (turns z n (start z))) is))
     (search_solves m s goal n right some)
 
 -- the search with the dive's series
 pub with_dive : (m : ModelParts) (s : Spans) (goal : Goal) (w : Option Find) → w ≡ dive m s goal →
-    let c : Search = record { model = m; spans = s; goal = goal; warm = w } in c ≡ search_for m s (BestOf goal)
-with_dive m s goal w is = (λ i. record { model = m; spans = s; goal = goal; warm = is i })
+    let c : Contest = record { search = search_for m s; goal = goal; warm = w } in c ≡ contest_for m s goal
+with_dive m s goal w is = (λ i. record { search = search_for m s; goal = goal; warm = is i })
 
 -- the claim of a listing
 
@@ -164,7 +161,7 @@ listed_certificate count ls w xs n listed claim tree size many is_claim is_tree 
       tree = opened ls w n tree size is_tree i;
     })
 
-pub listed : (m : ModelParts) (s : Spans) (count n : ℕ) (state : ListState) (cert : Cert) (c : Search) → AreRight m s → c ≡ search_for m s (ListOf count) →
+pub listed : (m : ModelParts) (s : Spans) (count n : ℕ) (state : ListState) (cert : Cert) (c : Search) → AreRight m s → c ≡ search_for m s →
     state ≡ list_turns c count n (list_start c) → cert ≡ list_certificate count state → IsListAnswer m s count n cert
 listed m s count n state cert c right is turned made =
     subst (IsListAnswer m s count n)

@@ -1,7 +1,5 @@
 -- Why a line is the line of its box.
-use Rattle.std.proofs.Common.{◌≡◌, ℕ, zero, suc, ◌+◌, ◌<◌, ◌≤◌, ℤ, Bool, true, false, cond, List, [], ◌∷◌, length, Option, Some, None, option_map, unwrap_or, refl, sym, subst, ⊎_elim, arith, eq-or-lt_of_le}
-use Rattle.ts_certificate.specs.declared.certificate.Aim.{Aim}
-use Rattle.ts_certificate.specs.declared.certificate.Aim.TheVariants.{Best as BestOf, List as ListOf}
+use Rattle.std.proofs.Common.{◌≡◌, ℕ, zero, suc, ◌+◌, ◌<◌, ◌≤◌, ℤ, Bool, true, false, cond, List, [], ◌∷◌, length, Option, Some, None, option_map, unwrap_or, refl, subst, ⊎_elim, arith, eq-or-lt_of_le}
 use Rattle.ts_certificate.specs.declared.certificate.TreeLine.{TreeLine}
 use Rattle.ts_certificate.specs.declared.certificate.TreeLine.TheVariants.{Split, Remove, No, Worse, Yes}
 use Rattle.ts_model.specs.ModelParts.{ModelParts}
@@ -13,8 +11,7 @@ use Rattle.ts_search.specs.Dive.{Find}
 use Rattle.ts_filter.specs.declared.drops.Removal.{Removal}
 use Rattle.ts_search.specs.Drops.{least, or_later, drop_of, drop_at, drop_from, next_drop}
 use Rattle.ts_frontier.specs.Forms.{Form, Alone, Wide, form}
-use Rattle.ts_search.specs.Lean.{has_goal}
-use Rattle.ts_search.specs.LineOf.{Search, last, requirements, inner, is_refuted_at, bar_of, cut_by, refuted_last, no_line, first_no, removal_line, branch_line, inner_worse, wide_line, form_line, line_of}
+use Rattle.ts_search.specs.LineOf.{Search, Contest, Sought, TheBest, TheFirst, search_in, last, requirements, inner, is_refuted_at, bar_of, cut_by, refuted_last, no_line, first_no, removal_line, branch_line, inner_worse, wide_line, form_line, line_of}
 use Rattle.ts_search.proofs.Known.{to_refuted}
 
 pub record IsLeast (q : ℕ → Bool) (f j i : ℕ) : Type 0 where
@@ -78,38 +75,47 @@ module _ (m : ModelParts) (s : Spans) (b : Box) where
   pub drop_fits : DropFits m s b (next_drop m s b)
   drop_fits = from_fits (length b) 1
 
--- why a line is the box's line
-pub data Choice (c : Search) (aim : Aim) (found : Option Find) (b : Box) : TreeLine → Type 0 where
-  by_refuted : {j p : ℕ} → IsRefuted c.model.requirements c.spans j p b → Choice c aim found b (No j p)
-  by_cut : {p : ℕ} → has_goal aim ≡ true → cut_by c (bar_of found c.warm) p b ≡ true → Choice c aim found b (Worse p)
-  by_new : {p : ℕ} {x : List ℤ} → has_goal aim ≡ true → p ≡ last c → form b ≡ Alone x →
-      ((j : ℕ) → 1 ≤ j → j ≤ requirements c → is_refuted_at c j (last c) b ≡ false) → cut_by c (bar_of found c.warm) (last c) b ≡ false →
-      Choice c aim found b (Worse p)
-  by_yes : {x : List ℤ} → has_goal aim ≡ false → form b ≡ Alone x →
-      ((j : ℕ) → 1 ≤ j → j ≤ requirements c → is_refuted_at c j (last c) b ≡ false) → Choice c aim found b Yes
-  by_drop : {k : ℕ} {v : ℤ} {j : ℕ} → IsDrop c.model.requirements c.spans k v j b → Choice c aim found b (Remove k v j)
-  by_split : {k : ℕ} {t : ℤ} → form b ≡ Wide k t → Choice c aim found b (Split k t)
+-- whether the best is sought
+abbrev pub seeks_best : Sought → Bool
+seeks_best (TheBest c found) = true
+seeks_best (TheFirst c) = false
 
-module _ (c : Search) (aim : Aim) (found : Option Find) (b : Box) where
+-- whether the objective is cut at p by what a series has to reach
+abbrev pub is_cut_off : Sought → ℕ → Box → Bool
+is_cut_off (TheBest c found) p b = cut_by c (bar_of found c.warm) p b
+is_cut_off (TheFirst c) p b = false
+
+-- no requirement is refuted at the last cell
+abbrev pub NoneRefuted : Sought → Box → Type 0
+NoneRefuted q b = (j : ℕ) → 1 ≤ j → j ≤ requirements (search_in q) → is_refuted_at (search_in q) j (last (search_in q)) b ≡ false
+
+-- why a line is the box's line
+pub data Choice (q : Sought) (b : Box) : TreeLine → Type 0 where
+  by_refuted : {j p : ℕ} → IsRefuted (search_in q).model.requirements (search_in q).spans j p b → Choice q b (No j p)
+  by_cut : {p : ℕ} → is_cut_off q p b ≡ true → Choice q b (Worse p)
+  by_new : {p : ℕ} {x : List ℤ} → seeks_best q ≡ true → p ≡ last (search_in q) → form b ≡ Alone x → NoneRefuted q b →
+      is_cut_off q (last (search_in q)) b ≡ false → Choice q b (Worse p)
+  by_yes : {x : List ℤ} → seeks_best q ≡ false → form b ≡ Alone x → NoneRefuted q b → Choice q b Yes
+  by_drop : {k : ℕ} {v : ℤ} {j : ℕ} → IsDrop (search_in q).model.requirements (search_in q).spans k v j b → Choice q b (Remove k v j)
+  by_split : {k : ℕ} {t : ℤ} → form b ≡ Wide k t → Choice q b (Split k t)
+
+module _ (q : Sought) (b : Box) where
+  abbrev c : Search
+  c = search_in q
+
   refuted_first : (o : Option ℕ) → LeastFits (λ j. is_refuted_at c j (last c) b) (requirements c) 1 o → (rest : TreeLine) →
-      (((j : ℕ) → 1 ≤ j → j ≤ requirements c → is_refuted_at c j (last c) b ≡ false) → Choice c aim found b rest) →
-      Choice c aim found b (unwrap_or (option_map (λ j. No j (last c)) o) rest)
+      (NoneRefuted q b → Choice q b rest) → Choice q b (unwrap_or (option_map (λ j. No j (last c)) o) rest)
   refuted_first None h rest g = g (λ j r s. h j r (omega arith))
   refuted_first (Some j) h rest g = by_refuted (to_refuted c j (last c) b h.holds)
 
-  drop_first : (o : Option Removal) → DropFits c.model c.spans b o → (rest : TreeLine) → Choice c aim found b rest →
-      Choice c aim found b (unwrap_or (option_map removal_line o) rest)
+  drop_first : (o : Option Removal) → DropFits c.model c.spans b o → (rest : TreeLine) → Choice q b rest →
+      Choice q b (unwrap_or (option_map removal_line o) rest)
   drop_first None h rest g = g
   drop_first (Some r) h rest g = by_drop h
 
-  worse_first : (o : Option ℕ) → LeastFits (λ p. cut_by c (bar_of found c.warm) p b) (inner c) 1 o → has_goal aim ≡ true → (rest : TreeLine) →
-      Choice c aim found b rest → Choice c aim found b (unwrap_or (option_map (λ p. Worse p) o) rest)
-  worse_first None h a rest g = g
-  worse_first (Some p) h a rest g = by_cut a h.holds
-
   abbrev NoFits : Option TreeLine → Type 0
   NoFits None = Unit {0}
-  NoFits (Some l) = Choice c aim found b l
+  NoFits (Some l) = Choice q b l
 
   no_line_fits : (j : ℕ) (o : Option ℕ) → LeastFits (λ p. is_refuted_at c j p b) (inner c) 1 o → (rest : Option TreeLine) → NoFits rest →
       NoFits (no_line j o rest)
@@ -122,41 +128,47 @@ module _ (c : Search) (aim : Aim) (found : Option Find) (b : Box) where
       no_line_fits j (least (λ p. is_refuted_at c j p b) (inner c) 1) (least_fits (λ p. is_refuted_at c j p b) (inner c) 1) (first_no c b f (suc j))
       (first_no_fits f (suc j))
 
-  no_first : (o : Option TreeLine) → NoFits o → (rest : TreeLine) → Choice c aim found b rest → Choice c aim found b (unwrap_or o rest)
+  no_first : (o : Option TreeLine) → NoFits o → (rest : TreeLine) → Choice q b rest → Choice q b (unwrap_or o rest)
   no_first None h rest g = g
   no_first (Some l) h rest g = h
 
-  branch_choice : (k : ℕ) (t : ℤ) → form b ≡ Wide k t → Choice c aim found b (branch_line c b k t)
+  branch_choice : (k : ℕ) (t : ℤ) → form b ≡ Wide k t → Choice q b (branch_line c b k t)
   branch_choice k t f = drop_first (next_drop c.model c.spans b) (drop_fits c.model c.spans b) (Split k t) (by_split f)
 
-  inner_choice : (a : Aim) → aim ≡ a → (rest : TreeLine) → Choice c aim found b rest → Choice c aim found b (inner_worse c a found b rest)
-  inner_choice (BestOf goal) q rest g =
-      worse_first (least (λ p. cut_by c (bar_of found c.warm) p b) (inner c) 1) (least_fits (λ p. cut_by c (bar_of found c.warm) p b) (inner c) 1)
-      (subst (λ z. has_goal z ≡ true) (sym q) refl) rest g
-  inner_choice (ListOf count) q rest g = g
+worse_first : (c : Contest) (found : Option Find) (b : Box) (o : Option ℕ) → LeastFits (λ p. cut_by c (bar_of found c.warm) p b) (inner c.search) 1 o →
+    (rest : TreeLine) → Choice (TheBest c found) b rest → Choice (TheBest c found) b (unwrap_or (option_map (λ p. Worse p) o) rest)
+worse_first c found b None h rest g = g
+worse_first c found b (Some p) h rest g = by_cut h.holds
 
-  wide_choice : (k : ℕ) (t : ℤ) → form b ≡ Wide k t → (a : Aim) → aim ≡ a → Choice c aim found b (wide_line c a found b k t)
-  wide_choice k t f a q =
-      no_first (first_no c b (requirements c) 1) (first_no_fits (requirements c) 1) (inner_worse c a found b (branch_line c b k t))
-      (inner_choice a q (branch_line c b k t) (branch_choice k t f))
+inner_choice : (q : Sought) (b : Box) (rest : TreeLine) → Choice q b rest → Choice q b (inner_worse q b rest)
+inner_choice (TheBest c found) b rest g =
+    worse_first c found b (least (λ p. cut_by c (bar_of found c.warm) p b) (inner c.search) 1)
+    (least_fits (λ p. cut_by c (bar_of found c.warm) p b) (inner c.search) 1) rest g
+inner_choice (TheFirst c) b rest g = g
 
-  form_choice : (f : Form) → form b ≡ f → (a : Aim) → aim ≡ a → ((j : ℕ) → 1 ≤ j → j ≤ requirements c → is_refuted_at c j (last c) b ≡ false) →
-      Choice c aim found b (form_line c a found b f)
-  form_choice (Alone x) f (BestOf goal) q n =
-      elim (cut_by c (bar_of found c.warm) (last c) b) as (λ z. cut_by c (bar_of found c.warm) (last c) b ≡ z → Choice c aim found b (Worse (last c))) [
-        | true ↦ λ z. by_cut (subst (λ z. has_goal z ≡ true) (sym q) refl) z
-        | false ↦ λ z. by_new (subst (λ z. has_goal z ≡ true) (sym q) refl) refl f n z
-      ] refl
-  form_choice (Wide k t) f (BestOf goal) q n =
-      elim (cut_by c (bar_of found c.warm) (last c) b) as (λ z. cut_by c (bar_of found c.warm) (last c) b ≡ z →
-      Choice c aim found b (cond z (Worse (last c)) (wide_line c (BestOf goal) found b k t))) [
-        | true ↦ λ z. by_cut (subst (λ z. has_goal z ≡ true) (sym q) refl) z
-        | false ↦ λ z. wide_choice k t f (BestOf goal) q
-      ] refl
-  form_choice (Alone x) f (ListOf count) q n = by_yes (subst (λ z. has_goal z ≡ false) (sym q) refl) f n
-  form_choice (Wide k t) f (ListOf count) q n = wide_choice k t f (ListOf count) q
+wide_choice : (q : Sought) (b : Box) (k : ℕ) (t : ℤ) → form b ≡ Wide k t → Choice q b (wide_line q b k t)
+wide_choice q b k t f =
+    no_first q b (first_no (search_in q) b (requirements (search_in q)) 1) (first_no_fits q b (requirements (search_in q)) 1)
+    (inner_worse q b (branch_line (search_in q) b k t)) (inner_choice q b (branch_line (search_in q) b k t) (branch_choice q b k t f))
 
-  pub line_choice : Choice c aim found b (line_of c aim found b)
-  line_choice =
-      refuted_first (refuted_last c b) (least_fits (λ j. is_refuted_at c j (last c) b) (requirements c) 1) (form_line c aim found b (form b))
-      (λ n. form_choice (form b) refl aim refl n)
+form_choice : (q : Sought) (b : Box) (f : Form) → form b ≡ f → NoneRefuted q b → Choice q b (form_line q b f)
+form_choice (TheBest c found) b (Alone x) f n =
+    elim (cut_by c (bar_of found c.warm) (last c.search) b) as (λ z. cut_by c (bar_of found c.warm) (last c.search) b ≡ z →
+    Choice (TheBest c found) b (Worse (last c.search))) [
+      | true ↦ λ z. by_cut z
+      | false ↦ λ z. by_new refl refl f n z
+    ] refl
+form_choice (TheBest c found) b (Wide k t) f n =
+    elim (cut_by c (bar_of found c.warm) (last c.search) b) as (λ z. cut_by c (bar_of found c.warm) (last c.search) b ≡ z →
+    Choice (TheBest c found) b (cond z (Worse (last c.search)) (wide_line (TheBest c found) b k t))) [
+      | true ↦ λ z. by_cut z
+      | false ↦ λ z. wide_choice (TheBest c found) b k t f
+    ] refl
+form_choice (TheFirst c) b (Alone x) f n = by_yes refl f n
+form_choice (TheFirst c) b (Wide k t) f n = wide_choice (TheFirst c) b k t f
+
+pub line_choice : (q : Sought) (b : Box) → Choice q b (line_of q b)
+line_choice q b =
+    refuted_first q b (refuted_last (search_in q) b)
+    (least_fits (λ j. is_refuted_at (search_in q) j (last (search_in q)) b) (requirements (search_in q)) 1) (form_line q b (form b))
+    (λ n. form_choice q b (form b) refl n)

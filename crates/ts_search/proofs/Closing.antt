@@ -13,7 +13,7 @@ use Rattle.ts_frontier.specs.Forms.{Form, Alone, Wide, form}
 use Rattle.ts_search.specs.Laws.{SearchSolves, SearchLists, OneSolved, OneListed, BudgetIsEnough, ListBudgetIsEnough, DropsEnd, DiveEnds, DiveMeets, DiveEndsEarly}
 use Rattle.ts_search.specs.Lean.{AreLean, most_told, Lean}
 use Rattle.ts_search.specs.Listed.{IsListAnswer}
-use Rattle.ts_search.specs.LineOf.{search_for}
+use Rattle.ts_search.specs.LineOf.{TheBest, TheFirst, search_for, contest_for, sought_for}
 use Rattle.ts_search.specs.Solved.{IsSolution}
 use Rattle.ts_search.specs.Turns.{start, turns, solve_certificate, list_start, list_turns, list_certificate}
 use Rattle.ts_search.proofs.DiveLaws.{IsAlone, dive_alone, dive_fits, dive_early}
@@ -27,15 +27,15 @@ use Rattle.ts_search.proofs.Solves.{HasClaim, solve_solves}
 use Rattle.ts_search.proofs.Unique.{solve_lean, one_certificate, no_budget}
 
 to_lean : (m : ModelParts) (s : Spans) (a : Cert) (aim : Aim) → a.aim ≡ aim →
-    AreLean (search_for m s aim) aim (most_told a.claim) None false 0 (m.cells ∷ []) a.tree → Lean m s a
-to_lean m s a aim e h = subst (λ z. AreLean (search_for m s z) z (most_told a.claim) None false 0 (m.cells ∷ []) a.tree) (sym e) h
+    AreLean (sought_for m s aim) (most_told a.claim) false 0 (m.cells ∷ []) a.tree → Lean m s a
+to_lean m s a aim e h = subst (λ z. AreLean (sought_for m s z) (most_told a.claim) false 0 (m.cells ∷ []) a.tree) (sym e) h
 
 pub search_solves : SearchSolves
 search_solves m s goal n right some =
-    let c = search_for m s (BestOf goal) in
+    let c = contest_for m s goal in
     let e = best_known m s goal right some in
     let r = solve_solves c n e some in
-    let a = solve_certificate c (turns c (BestOf goal) n (start c)) in
+    let a = solve_certificate c (turns c n (start c)) in
     record {
       aim = r.aim;
       accepts = r.accepts;
@@ -46,7 +46,7 @@ search_solves m s goal n right some =
 
 pub search_lists : SearchLists
 search_lists m s count n right =
-    let c = search_for m s (ListOf count) in
+    let c = search_for m s in
     let k = known c right in
     let r = list_lists c count n k in
     let a = list_certificate count (list_turns c count n (list_start c)) in
@@ -60,38 +60,38 @@ search_lists m s count n right =
     }
 
 module _ (m : ModelParts) (s : Spans) where
-  has_claim : (goal : Goal) (n : ℕ) (a : Cert) → IsSolution m s goal n a → HasClaim (search_for m s (BestOf goal)) n a
+  has_claim : (goal : Goal) (n : ℕ) (a : Cert) → IsSolution m s goal n a → HasClaim (contest_for m s goal) n a
   has_claim goal n a h = record { aim = h.aim; accepts = h.accepts; within = h.within; claim = h.claim }
 
   lean_for : (goal : Goal) (n : ℕ) (a : Cert) → IsSolution m s goal n a →
-      AreLean (search_for m s (BestOf goal)) (BestOf goal) (most_told a.claim) None false 0 (m.cells ∷ []) a.tree
-  lean_for goal n a h = subst (λ z. AreLean (search_for m s z) z (most_told a.claim) None false 0 (m.cells ∷ []) a.tree) h.aim h.lean
+      AreLean (TheBest (contest_for m s goal) None) (most_told a.claim) false 0 (m.cells ∷ []) a.tree
+  lean_for goal n a h = subst (λ z. AreLean (sought_for m s z) (most_told a.claim) false 0 (m.cells ∷ []) a.tree) h.aim h.lean
 
-  has_list : (count n : ℕ) (a : Cert) → IsListAnswer m s count n a → HasList (search_for m s (ListOf count)) count n a
+  has_list : (count n : ℕ) (a : Cert) → IsListAnswer m s count n a → HasList (search_for m s) count n a
   has_list count n a h = record { aim = h.aim; accepts = h.accepts; within = h.within; first = h.first; claim = h.claim }
 
   list_lean_for : (count n : ℕ) (a : Cert) → IsListAnswer m s count n a →
-      AreLean (search_for m s (ListOf count)) (ListOf count) (most_told a.claim) None false 0 (m.cells ∷ []) a.tree
-  list_lean_for count n a h = subst (λ z. AreLean (search_for m s z) z (most_told a.claim) None false 0 (m.cells ∷ []) a.tree) h.aim h.lean
+      AreLean (TheFirst (search_for m s)) (most_told a.claim) false 0 (m.cells ∷ []) a.tree
+  list_lean_for count n a h = subst (λ z. AreLean (sought_for m s z) (most_told a.claim) false 0 (m.cells ∷ []) a.tree) h.aim h.lean
 
 pub one_solved : OneSolved
 one_solved m s goal n a b right some p q =
-    let c = search_for m s (BestOf goal) in
-    one_certificate c (known c right) n a b (has_claim m s goal n a p) (lean_for m s goal n a p) (has_claim m s goal n b q) (lean_for m s goal n b q)
+    let c = contest_for m s goal in
+    one_certificate c (known c.search right) n a b (has_claim m s goal n a p) (lean_for m s goal n a p) (has_claim m s goal n b q) (lean_for m s goal n b q)
 
 pub one_listed : OneListed
 one_listed m s count n a b right p q =
-    let c = search_for m s (ListOf count) in
+    let c = search_for m s in
     one_listing c (known c right) count n a b (has_list m s count n a p) (list_lean_for m s count n a p) (has_list m s count n b q)
     (list_lean_for m s count n b q)
 
 pub budget_is_enough : BudgetIsEnough
 budget_is_enough m s goal n a right l h b =
-    let c = search_for m s (BestOf goal) in no_budget c (known c right) n a h.accepts.tree h.claim l b
+    let c = contest_for m s goal in no_budget c (known c.search right) n a h.accepts.tree h.claim l b
 
 pub list_budget_is_enough : ListBudgetIsEnough
 list_budget_is_enough m s count n a right l h b =
-    let c = search_for m s (ListOf count) in list_no_budget c (known c right) count n a (has_list m s count n a h) l b
+    let c = search_for m s in list_no_budget c (known c right) count n a (has_list m s count n a h) l b
 
 -- drops
 

@@ -10,19 +10,20 @@ use Rattle.ts_search.specs.Dive.{Find, value_of, find}
 use Rattle.ts_frontier.specs.declared.halve.Form.{Form as FoundForm}
 use Rattle.ts_frontier.specs.declared.halve.Form.TheVariants.{Alone as FoundAlone, Wide as FoundWide}
 use Rattle.ts_frontier.specs.Forms.{Form, Alone, Wide, form, form_seen}
-use Rattle.ts_search.specs.LineOf.{Search, bar_of, counts_for}
+use Rattle.ts_search.specs.LineOf.{Contest, bar_of, counts_for}
 use Rattle.ts_search.specs.Turns.{found_after, listed_after}
 use Rattle.ts_search.proofs.Parts.{alone_within}
 
-module _ (c : Search) (f : Option Find) (b : Box) where
+module _ (c : Contest) (f : Option Find) (b : Box) where
   -- of several series nothing is found
   pub found_wide : (k : ℕ) (t : ℤ) → form b ≡ Wide k t → (p : ℕ) → f ≡ found_after c f (form b) (Worse p)
   found_wide k t wide p = ap (λ g. found_after c f g (Worse p)) (sym wide)
 
-  module _ (x : List ℤ) (v : Ext) (r : Bool) (alone : form b ≡ Alone x) (value : v ≡ value_of c.model x) (is : r ≡ counts_for c (bar_of f c.warm) v) where
-    counted : (t : Bool) → r ≡ t → (p : ℕ) → cond t (Some (find c.model x)) f ≡ found_after c f (form b) (Worse p)
+  module _ (x : List ℤ) (v : Ext) (r : Bool) (alone : form b ≡ Alone x) (value : v ≡ value_of c.search.model x)
+      (is : r ≡ counts_for c (bar_of f c.warm) v) where
+    counted : (t : Bool) → r ≡ t → (p : ℕ) → cond t (Some (find c.search.model x)) f ≡ found_after c f (form b) (Worse p)
     counted t e p =
-        ap (λ z. cond z (Some (find c.model x)) f) (sym e ∙ is ∙ ap (counts_for c (bar_of f c.warm)) value)
+        ap (λ z. cond z (Some (find c.search.model x)) f) (sym e ∙ is ∙ ap (counts_for c (bar_of f c.warm)) value)
         ∙ ap (λ g. found_after c f g (Worse p)) (sym alone)
 
     -- a series that reaches more is found

@@ -1,9 +1,7 @@
 -- The loop of a search and of a listing, over plain variables.
-use Rattle.std.proofs.Common.{◌≡◌, ℕ, suc, ◌+◌, ◌-◌, ◌<◌, ◌≤◌, ℤ, true, false, cond, nat_lt, List, [], ◌∷◌, ◌++◌, length, map, Vec, Global, inl, inr, Option, None, refl, sym, ap, ◌∙◌, subst, arith}
+use Rattle.std.proofs.Common.{◌≡◌, ℕ, suc, ◌+◌, ◌-◌, ◌<◌, ◌≤◌, ℤ, true, false, cond, nat_lt, List, [], ◌∷◌, ◌++◌, length, map, Vec, Global, inl, inr, None, refl, sym, ap, ◌∙◌, subst, arith}
 use Rattle.std.proofs.lemmas.Bool.{lt-ltb, le-ltb}
 use Rattle.std.proofs.lemmas.List.{length-map}
-use Rattle.ts_certificate.specs.declared.certificate.Aim.{Aim}
-use Rattle.ts_certificate.specs.declared.certificate.Aim.TheVariants.{List as ListOf}
 use Rattle.ts_certificate.specs.declared.certificate.TreeLine.{TreeLine}
 use Rattle.ts_certificate.specs.declared.certificate.TreeLine.TheVariants.{Split, Remove, No, Worse, Yes, Unsearched}
 use Rattle.ts_domain.specs.BoxSeries.{IsBox}
@@ -13,8 +11,7 @@ use Rattle.ts_filter.proofs.BoxParts.{low_part, high_part, without_part, others_
 use Rattle.ts_frontier.specs.Follow.{MakesBoxes}
 use Rattle.ts_frontier.specs.Waiting.{Waiting, first, rest}
 use Rattle.ts_frontier.specs.Forms.{form}
-use Rattle.ts_search.specs.Dive.{Find}
-use Rattle.ts_search.specs.LineOf.{Search, line_of}
+use Rattle.ts_search.specs.LineOf.{Search, Contest, Sought, TheBest, TheFirst, search_in, line_of}
 use Rattle.ts_search.specs.Turns.{State, start, turn_on, turn, turns, ListState, list_start, listed_after, list_after, list_turn_on, list_turn, list_turns}
 use Rattle.ts_search.proofs.Choice.{Choice, by_refuted, by_cut, by_new, by_yes, by_drop, by_split, line_choice}
 use Rattle.ts_search.proofs.ListSolves.{done_stop}
@@ -23,25 +20,25 @@ use Rattle.ts_search.proofs.Solves.{turns_stop}
 
 -- the boxes that the line of a box makes have series, inside the model's
 
-choice_makes : (c : Search) (aim : Aim) (found : Option Find) (b : Box) (l : TreeLine) → IsPart b c.model.cells → Choice c aim found b l → MakesBoxes l b
-choice_makes c aim found b (No j p) i (by_refuted r) = tt
-choice_makes c aim found b (Worse p) i (by_cut a e) = tt
-choice_makes c aim found b (Worse p) i (by_new a e f n k) = tt
-choice_makes c aim found b Yes i (by_yes a f n) = tt
-choice_makes c aim found b (Remove k v j) i (by_drop d) =
+choice_makes : (q : Sought) (b : Box) (l : TreeLine) → IsPart b (search_in q).model.cells → Choice q b l → MakesBoxes l b
+choice_makes q b (No j p) i (by_refuted r) = tt
+choice_makes q b (Worse p) i (by_cut e) = tt
+choice_makes q b (Worse p) i (by_new a e f n k) = tt
+choice_makes q b Yes i (by_yes a f n) = tt
+choice_makes q b (Remove k v j) i (by_drop d) =
     record { cell = d.cell; there = d.there; leaves = others_stay k v b i.box d.cell d.many d.there }
-choice_makes c aim found b (Split k t) i (by_split f) = wide_split c.model.cells b k t i f
-choice_makes c aim found b Unsearched i h = elim h [ ]
+choice_makes q b (Split k t) i (by_split f) = wide_split (search_in q).model.cells b k t i f
+choice_makes q b Unsearched i h = elim h [ ]
 
-pub line_makes : (c : Search) (aim : Aim) (found : Option Find) (b : Box) → IsPart b c.model.cells → MakesBoxes (line_of c aim found b) b
-line_makes c aim found b i = choice_makes c aim found b (line_of c aim found b) i (line_choice c aim found b)
+pub line_makes : (q : Sought) (b : Box) → IsPart b (search_in q).model.cells → MakesBoxes (line_of q b) b
+line_makes q b i = choice_makes q b (line_of q b) i (line_choice q b)
 
 -- as the code has the waiting boxes: after `advance`, and the first of them present
-pub first_makes : (c : Search) (aim : Aim) (found : Option Find) (old bs : List Box) (b : Box) (l : TreeLine) → AreParts c.model.cells old → bs ≡ old →
-    bs ≡ b ∷ rest bs → l ≡ line_of c aim found b → MakesBoxes l (first bs)
-first_makes c aim found old bs b l parts same front is =
-    let here = subst (AreParts c.model.cells) (sym same ∙ front) parts in
-    subst (λ x. MakesBoxes l x) (sym (ap first front)) (subst (λ z. MakesBoxes z b) (sym is) (line_makes c aim found b here.0))
+pub first_makes : (q : Sought) (old bs : List Box) (b : Box) (l : TreeLine) → AreParts (search_in q).model.cells old → bs ≡ old →
+    bs ≡ b ∷ rest bs → l ≡ line_of q b → MakesBoxes l (first bs)
+first_makes q old bs b l parts same front is =
+    let here = subst (AreParts (search_in q).model.cells) (sym same ∙ front) parts in
+    subst (λ x. MakesBoxes l x) (sym (ap first front)) (subst (λ z. MakesBoxes z b) (sym is) (line_makes q b here.0))
 
 pub present_part : (cells : Box) (old bs : List Box) (b : Box) → AreParts cells old → bs ≡ old → bs ≡ b ∷ rest bs → IsPart b cells
 present_part cells old bs b parts same front = (subst (AreParts cells) (sym same ∙ front) parts).0
@@ -55,49 +52,49 @@ parts_after cells Yes b w f e = e.1
 parts_after cells Unsearched b w f e = e.1
 
 -- a turn keeps that
-pub turn_parts : (c : Search) (aim : Aim) (s : State) → AreParts c.model.cells s.pending → AreParts c.model.cells (turn c aim s).pending
-turn_parts c aim s h = go s.pending refl h
+pub turn_parts : (c : Contest) (s : State) → AreParts c.search.model.cells s.pending → AreParts c.search.model.cells (turn c s).pending
+turn_parts c s h = go s.pending refl h
   where
-    go : (w : List Box) → s.pending ≡ w → AreParts c.model.cells w → AreParts c.model.cells (turn_on c aim s w).pending
-    go [] e h = subst (AreParts c.model.cells) (sym e) h
-    go (b ∷ u) e h = parts_after c.model.cells (line_of c aim s.found b) b u (line_makes c aim s.found b h.0) h
+    go : (w : List Box) → s.pending ≡ w → AreParts c.search.model.cells w → AreParts c.search.model.cells (turn_on c s w).pending
+    go [] e h = subst (AreParts c.search.model.cells) (sym e) h
+    go (b ∷ u) e h = parts_after c.search.model.cells (line_of (TheBest c s.found) b) b u (line_makes (TheBest c s.found) b h.0) h
 
 list_turn_parts : (c : Search) (count : ℕ) (s : ListState) → AreParts c.model.cells s.pending → AreParts c.model.cells (list_turn c count s).pending
 list_turn_parts c count s h =
-    elim (nat_lt (length s.listed) count) as (λ t. AreParts c.model.cells (cond t (list_turn_on c count s s.pending) s).pending) [
+    elim (nat_lt (length s.listed) count) as (λ t. AreParts c.model.cells (cond t (list_turn_on c s s.pending) s).pending) [
       | true ↦ go s.pending refl h
       | false ↦ h
     ]
   where
-    go : (w : List Box) → s.pending ≡ w → AreParts c.model.cells w → AreParts c.model.cells (list_turn_on c count s w).pending
+    go : (w : List Box) → s.pending ≡ w → AreParts c.model.cells w → AreParts c.model.cells (list_turn_on c s w).pending
     go [] e h = subst (AreParts c.model.cells) (sym e) h
-    go (b ∷ u) e h = parts_after c.model.cells (line_of c (ListOf count) None b) b u (line_makes c (ListOf count) None b h.0) h
+    go (b ∷ u) e h = parts_after c.model.cells (line_of (TheFirst c) b) b u (line_makes (TheFirst c) b h.0) h
 
 pub list_parts : (c : Search) (count : ℕ) (s s' : ListState) → s' ≡ list_turn c count s → AreParts c.model.cells s.pending → AreParts c.model.cells s'.pending
 list_parts c count s s' e h = subst (λ (z : ListState). AreParts c.model.cells z.pending) (sym e) (list_turn_parts c count s h)
 
 -- the loop of a search
 
-module _ (c : Search) (aim : Aim) where
-  pub grow_more : (n i : ℕ) (s s' z : State) → i < n → s' ≡ turn c aim s → turns c aim (n - i) s ≡ z → turns c aim (n - (i + 1)) s' ≡ z
+module _ (c : Contest) where
+  pub grow_more : (n i : ℕ) (s s' z : State) → i < n → s' ≡ turn c s → turns c (n - i) s ≡ z → turns c (n - (i + 1)) s' ≡ z
   grow_more n i s s' z l e f =
       let more : suc (n - (i + 1)) ≡ n - i = omega (arith, l) in
-      ap (λ t. turns c aim (n - (i + 1)) t) e ∙ ap (λ m. turns c aim m s) more ∙ f
+      ap (λ t. turns c (n - (i + 1)) t) e ∙ ap (λ m. turns c m s) more ∙ f
 
-  pub grow_stop : (n i : ℕ) (s z : State) → s.pending ≡ [] → turns c aim (n - i) s ≡ z → s ≡ z
-  grow_stop n i s z e f = sym (turns_stop c aim (n - i) s e) ∙ f
+  pub grow_stop : (n i : ℕ) (s z : State) → s.pending ≡ [] → turns c (n - i) s ≡ z → s ≡ z
+  grow_stop n i s z e f = sym (turns_stop c (n - i) s e) ∙ f
 
-  pub grow_end : (n i : ℕ) (s z : State) → n ≤ i → turns c aim (n - i) s ≡ z → s ≡ z
-  grow_end n i s z l f = let none : 0 ≡ n - i = omega (arith, l) in ap (λ m. turns c aim m s) none ∙ f
+  pub grow_end : (n i : ℕ) (s z : State) → n ≤ i → turns c (n - i) s ≡ z → s ≡ z
+  grow_end n i s z l f = let none : 0 ≡ n - i = omega (arith, l) in ap (λ m. turns c m s) none ∙ f
 
-  pub grow_parts : (s s' : State) → s' ≡ turn c aim s → AreParts c.model.cells s.pending → AreParts c.model.cells s'.pending
-  grow_parts s s' e h = subst (λ (z : State). AreParts c.model.cells z.pending) (sym e) (turn_parts c aim s h)
+  pub grow_parts : (s s' : State) → s' ≡ turn c s → AreParts c.search.model.cells s.pending → AreParts c.search.model.cells s'.pending
+  grow_parts s s' e h = subst (λ (z : State). AreParts c.search.model.cells z.pending) (sym e) (turn_parts c s h)
 
-  pub grow_none : (n : ℕ) (s : State) → s ≡ start c → turns c aim (n - 0) s ≡ turns c aim n (start c)
-  grow_none n s e = let none : n - 0 ≡ n = omega arith in ap (λ m. turns c aim m s) none ∙ ap (turns c aim n) e
+  pub grow_none : (n : ℕ) (s : State) → s ≡ start c → turns c (n - 0) s ≡ turns c n (start c)
+  grow_none n s e = let none : n - 0 ≡ n = omega arith in ap (λ m. turns c m s) none ∙ ap (turns c n) e
 
 -- the first state: no line, and the model's box alone waits
-pub grow_first : (c : Search) (ls : List TreeLine) (w : Waiting) (b : Box) → ls ≡ [] → w ≡ record { ready = true; boxes = b ∷ [] } → b ≡ c.model.cells →
+pub grow_first : (c : Contest) (ls : List TreeLine) (w : Waiting) (b : Box) → ls ≡ [] → w ≡ record { ready = true; boxes = b ∷ [] } → b ≡ c.search.model.cells →
     let s : State = record { lines = ls; pending = w.boxes; found = None } in s ≡ start c
 grow_first c ls w b none alone same =
     ap (λ l. state l w.boxes) none ∙ ap (λ (w : Waiting). state [] w.boxes) alone ∙ ap (λ b. state [] (b ∷ [])) same
@@ -140,16 +137,15 @@ list_first c ls w b xs none alone same empty =
     state : List TreeLine → List Box → List (List ℤ) → ListState
     state l p x = record { lines = l; pending = p; listed = x }
 
--- a turn as the code makes it, with room for one more series: the first box that waits gets its line
-pub list_turned : (c : Search) (count : ℕ) (old : ListState) (ls : List TreeLine) (w after : List Box) (xs : List (List ℤ)) (b here : Box) (l : TreeLine) →
-    length old.listed < count → w ≡ old.pending → w ≡ b ∷ rest w → l ≡ line_of c (ListOf count) None b → ls ≡ old.lines ++ l ∷ [] →
+-- a turn as the code makes it: the first box that waits gets its line
+pub list_turned : (c : Search) (old : ListState) (ls : List TreeLine) (w after : List Box) (xs : List (List ℤ)) (b here : Box) (l : TreeLine) →
+    w ≡ old.pending → w ≡ b ∷ rest w → l ≡ line_of (TheFirst c) b → ls ≡ old.lines ++ l ∷ [] →
     w ≡ here ∷ rest w → xs ≡ listed_after old.listed (form here) l → after ≡ made_by l (first w) ++ rest w →
-    let new : ListState = record { lines = ls; pending = after; listed = xs } in new ≡ list_turn c count old
-list_turned c count old ls w after xs b here l room same front is lines again listed boxes =
+    let new : ListState = record { lines = ls; pending = after; listed = xs } in new ≡ list_turn_on c old old.pending
+list_turned c old ls w after xs b here l same front is lines again listed boxes =
     made
     ∙ ap (list_after old b (rest w)) is
-    ∙ ap (list_turn_on c count old) (sym front ∙ same)
-    ∙ ap (λ t. cond t (list_turn_on c count old old.pending) old) (sym (lt-ltb (length old.listed) count room))
+    ∙ ap (list_turn_on c old) (sym front ∙ same)
   where
     pending : after ≡ made_by l b ++ rest w
     pending = boxes ∙ ap (λ z. made_by l z ++ rest w) (ap first front)
@@ -159,6 +155,12 @@ list_turned c count old ls w after xs b here l room same front is lines again li
 
     made : let new : ListState = record { lines = ls; pending = after; listed = xs } in new ≡ list_after old b (rest w) l
     made = λ i. record { lines = lines i; pending = pending i; listed = all i }
+
+-- with room for one more series
+pub list_room : (c : Search) (count : ℕ) (old new : ListState) → new ≡ list_turn_on c old old.pending → length old.listed < count →
+    new ≡ list_turn c count old
+list_room c count old new e room =
+    e ∙ ap (λ t. cond t (list_turn_on c old old.pending) old) (sym (lt-ltb (length old.listed) count room))
 
 -- of the list that the code has
 pub room_for : (m : ℕ) (xs : List (Vec ℤ Global)) → length xs < m → length (map (λ x. x.items) xs) < m

@@ -19,7 +19,7 @@ use Rattle.ts_filter.proofs.SoundLaws.{higher_bar, clash}
 use Rattle.ts_filter.proofs.TestLaws.{tests_tell}
 use Rattle.ts_search.specs.Dive.{value_of}
 use Rattle.ts_frontier.specs.Forms.{Alone, form}
-use Rattle.ts_search.specs.LineOf.{Search, last, requirements, is_refuted_at, is_cut_at}
+use Rattle.ts_search.specs.LineOf.{Search, Contest, last, requirements, is_refuted_at, is_cut_at}
 
 -- what is better under a goal
 
@@ -53,12 +53,12 @@ pub record Known (c : Search) : Type 0 where
   pub single : (b : Box) (x : List ℤ) → IsPart b c.model.cells → form b ≡ Alone x →
       ((j : ℕ) → 1 ≤ j → j ≤ requirements c → is_refuted_at c j (last c) b ≡ false) → Meets c.model x
 
-pub record KnownBest (c : Search) : Type 0 where
-  pub known : Known c
-  pub valued : (x : List ℤ) → InBox x c.model.cells → objective_of c.model x ≡ Some (value_of c.model x)
-  pub cut_single : (b : Box) (bar : Bar) (x : List ℤ) → IsPart b c.model.cells → form b ≡ Alone x → is_cut_at c (last c) b bar ≡ false →
-      counts c.goal bar (value_of c.model x) ≡ true
-  pub warm : MatchOption c.warm (Unit {0}) (λ w. Meets c.model w.series × (w.value ≡ value_of c.model w.series))
+pub record KnownBest (c : Contest) : Type 0 where
+  pub known : Known c.search
+  pub valued : (x : List ℤ) → InBox x c.search.model.cells → objective_of c.search.model x ≡ Some (value_of c.search.model x)
+  pub cut_single : (b : Box) (bar : Bar) (x : List ℤ) → IsPart b c.search.model.cells → form b ≡ Alone x → is_cut_at c (last c.search) b bar ≡ false →
+      counts c.goal bar (value_of c.search.model x) ≡ true
+  pub warm : MatchOption c.warm (Unit {0}) (λ w. Meets c.search.model w.series × (w.value ≡ value_of c.search.model w.series))
 
 module _ (c : Search) where
   pub to_refuted : (j p : ℕ) (b : Box) → is_refuted_at c j p b ≡ true → IsRefuted c.model.requirements c.spans j p b
@@ -67,29 +67,30 @@ module _ (c : Search) where
   pub from_refuted : (j p : ℕ) (b : Box) → IsRefuted c.model.requirements c.spans j p b → is_refuted_at c j p b ≡ true
   from_refuted j p b h = ((tests_tell c.spans).refuted c.model.requirements j p b).1 h
 
-  pub to_cut : (p : ℕ) (b : Box) (bar : Bar) → is_cut_at c p b bar ≡ true → IsCut c.model c.spans c.goal p b bar
-  to_cut p b bar h = ((tests_tell c.spans).cut c.model c.goal p b bar).0 h
+  pub no_series : Known c → (j p : ℕ) (b : Box) (y : List ℤ) → IsPart b c.model.cells → InBox y b → Meets c.model y →
+      IsRefuted c.model.requirements c.spans j p b → ⊥
+  no_series k j p b y i a m r = k.sound.refuted j p b y i r a m
 
-  pub from_cut : (p : ℕ) (b : Box) (bar : Bar) → IsCut c.model c.spans c.goal p b bar → is_cut_at c p b bar ≡ true
-  from_cut p b bar h = ((tests_tell c.spans).cut c.model c.goal p b bar).1 h
+  pub part_length : (b : Box) → IsPart b c.model.cells → length b ≡ last c
+  part_length b i = inside_length b c.model.cells i.inside
+
+module _ (c : Contest) where
+  pub to_cut : (p : ℕ) (b : Box) (bar : Bar) → is_cut_at c p b bar ≡ true → IsCut c.search.model c.search.spans c.goal p b bar
+  to_cut p b bar h = ((tests_tell c.search.spans).cut c.search.model c.goal p b bar).0 h
+
+  pub from_cut : (p : ℕ) (b : Box) (bar : Bar) → IsCut c.search.model c.search.spans c.goal p b bar → is_cut_at c p b bar ≡ true
+  from_cut p b bar h = ((tests_tell c.search.spans).cut c.search.model c.goal p b bar).1 h
 
   -- where fewer values count, more is cut
   pub more_cut : (p : ℕ) (b : Box) (lower higher : Bar) → ((v : Ext) → counts c.goal higher v ≡ true → counts c.goal lower v ≡ true) →
-      IsCut c.model c.spans c.goal p b lower → IsCut c.model c.spans c.goal p b higher
-  more_cut p b lower higher f k = higher_bar c.model c.spans c.goal p b lower higher f k
+      IsCut c.search.model c.search.spans c.goal p b lower → IsCut c.search.model c.search.spans c.goal p b higher
+  more_cut p b lower higher f k = higher_bar c.search.model c.search.spans c.goal p b lower higher f k
 
   pub cut_more : (p : ℕ) (b : Box) (lower higher : Bar) → ((v : Ext) → counts c.goal higher v ≡ true → counts c.goal lower v ≡ true) →
       is_cut_at c p b lower ≡ true → is_cut_at c p b higher ≡ true
   cut_more p b lower higher f k = from_cut p b higher (more_cut p b lower higher f (to_cut p b lower k))
 
-  pub no_series : Known c → (j p : ℕ) (b : Box) (y : List ℤ) → IsPart b c.model.cells → InBox y b → Meets c.model y →
-      IsRefuted c.model.requirements c.spans j p b → ⊥
-  no_series k j p b y i a m r = k.sound.refuted j p b y i r a m
-
-  pub cut_counts : KnownBest c → (p : ℕ) (b : Box) (bar : Bar) (y : List ℤ) → IsPart b c.model.cells → InBox y b → is_cut_at c p b bar ≡ true →
-      counts c.goal bar (value_of c.model y) ≡ false
+  pub cut_counts : KnownBest c → (p : ℕ) (b : Box) (bar : Bar) (y : List ℤ) → IsPart b c.search.model.cells → InBox y b → is_cut_at c p b bar ≡ true →
+      counts c.goal bar (value_of c.search.model y) ≡ false
   cut_counts k p b bar y i a h =
-      k.known.sound.cut c.goal p b bar y (value_of c.model y) i (to_cut p b bar h) a (k.valued y (in_box_inside b c.model.cells y i.inside a))
-
-  pub part_length : (b : Box) → IsPart b c.model.cells → length b ≡ last c
-  part_length b i = inside_length b c.model.cells i.inside
+      k.known.sound.cut c.goal p b bar y (value_of c.search.model y) i (to_cut p b bar h) a (k.valued y (in_box_inside b c.search.model.cells y i.inside a))

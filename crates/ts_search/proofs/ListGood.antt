@@ -16,7 +16,7 @@ use Rattle.ts_filter.specs.Tree.{told_by}
 use Rattle.ts_filter.proofs.BoxParts.{from_without, in_a_side, only_or_without, only_part, part_self}
 use Rattle.ts_filter.proofs.TreeLaws.{parts_made, steps_go_on}
 use Rattle.ts_frontier.specs.Forms.{Alone, form}
-use Rattle.ts_search.specs.LineOf.{Search, last, requirements, is_refuted_at, line_of}
+use Rattle.ts_search.specs.LineOf.{Search, TheFirst, last, requirements, is_refuted_at, line_of}
 use Rattle.ts_search.specs.Turns.{ListState, list_start, listed_after, list_after, list_turn_on, list_turn, list_turns}
 use Rattle.ts_search.proofs.Choice.{Choice, by_refuted, by_cut, by_new, by_yes, by_drop, by_split, line_choice}
 use Rattle.ts_search.proofs.Known.{Known, no_series}
@@ -147,7 +147,7 @@ list_yes c e count s b u x g at room alone free =
     more y d Unsearched ch r = absurd ch
 
 list_choice : (c : Search) → Known c → (count : ℕ) (s : ListState) (b : Box) (u : List Box) (l : TreeLine) → GoodList c count s → s.pending ≡ b ∷ u →
-    length s.listed < count → Choice c (ListOf count) None b l → GoodList c count (list_after s b u l)
+    length s.listed < count → Choice (TheFirst c) b l → GoodList c count (list_after s b u l)
 list_choice c e count s b u (No j p) g at room (by_refuted r) =
     let here = subst (λ z. AreParts c.model.cells z) at g.boxes in
     list_same c count s b u (No j p) g at (λ y. refl) tt r (subst (λ z. InOrder z) at g.ordered).1 (λ y k a. absurd (no_series c e j p b y here.0 a k r))
@@ -164,7 +164,7 @@ list_choice c e count s b u (Split k t) g at room (by_split w) =
     list_same c count s b u (Split k t) g at (λ y. refl) tt fit
     (ordered_split k t b u fit.cell (wide_order c.model.cells b k t here.0 w) (subst (λ z. InOrder z) at g.ordered))
     (λ y n a. ⊎_elim (λ i. inl i) (λ i. inr (inl i)) (in_a_side k t b y fit.cell a))
-list_choice c e count s b u (Worse p) g at room (by_cut q h) = absurd (let k : ◌≡◌ {A = Bool} false true = q in cc)
+list_choice c e count s b u (Worse p) g at room (by_cut h) = absurd (let k : ◌≡◌ {A = Bool} false true = h in cc)
 list_choice c e count s b u (Worse p) g at room (by_new q z w n h) = absurd (let k : ◌≡◌ {A = Bool} false true = q in cc)
 list_choice c e count s b u Yes g at room (by_yes {x = x} q w free) =
     subst (λ z. GoodList c count (list_put s b u Yes z)) (ap (λ z. listed_after s.listed z Yes) (sym w)) (list_yes c e count s b u x g at room w free)
@@ -172,14 +172,14 @@ list_choice c e count s b u Unsearched g at room x = elim x [ ]
 
 pub list_good_turn : (c : Search) → Known c → (count : ℕ) (s : ListState) → GoodList c count s → GoodList c count (list_turn c count s)
 list_good_turn c e count s g =
-    elim (nat_lt (length s.listed) count) as (λ t. nat_lt (length s.listed) count ≡ t → GoodList c count (cond t (list_turn_on c count s s.pending) s)) [
+    elim (nat_lt (length s.listed) count) as (λ t. nat_lt (length s.listed) count ≡ t → GoodList c count (cond t (list_turn_on c s s.pending) s)) [
       | true ↦ λ q. go (ltb-true (length s.listed) count q) s.pending refl
       | false ↦ λ q. g
     ] refl
   where
-    go : length s.listed < count → (w : List Box) → s.pending ≡ w → GoodList c count (list_turn_on c count s w)
+    go : length s.listed < count → (w : List Box) → s.pending ≡ w → GoodList c count (list_turn_on c s w)
     go room [] at = g
-    go room (b ∷ u) at = list_choice c e count s b u (line_of c (ListOf count) None b) g at room (line_choice c (ListOf count) None b)
+    go room (b ∷ u) at = list_choice c e count s b u (line_of (TheFirst c) b) g at room (line_choice (TheFirst c) b)
 
 pub list_good_turns : (c : Search) → Known c → (count n : ℕ) (s : ListState) → GoodList c count s → GoodList c count (list_turns c count n s)
 list_good_turns c e count zero s g = g

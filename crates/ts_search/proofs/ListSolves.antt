@@ -1,5 +1,5 @@
 -- At its end a listing has a certificate that is listed.
-use Rattle.std.proofs.Common.{◌≡◌, ◌⊎◌, ℕ, zero, suc, ◌+◌, ◌<◌, ◌≤◌, ℤ, Bool, true, false, cond, nat_lt, List, [], ◌∷◌, ◌++◌, length, None, refl, sym, ◌∙◌, ap, subst, inl, inr, ⊎_elim, arith, append-nil, ltb-true, ltb-false}
+use Rattle.std.proofs.Common.{◌≡◌, ◌⊎◌, ℕ, zero, suc, ◌+◌, ◌<◌, ◌≤◌, ℤ, Bool, true, false, cond, nat_lt, List, [], ◌∷◌, ◌++◌, length, refl, sym, ◌∙◌, ap, subst, inl, inr, ⊎_elim, arith, append-nil, ltb-true, ltb-false}
 use Rattle.std.proofs.lemmas.List.{length_push}
 use Rattle.std.specs.List.{AllByRecursion}
 use Rattle.ts_certificate.specs.declared.certificate.Aim.TheVariants.{List as ListOf}
@@ -18,7 +18,7 @@ use Rattle.ts_filter.specs.Holds.{IsListed}
 use Rattle.ts_filter.specs.Rules.{Head, KeepsRule, MayStayOpen}
 use Rattle.ts_filter.specs.Steps.{Steps}
 use Rattle.ts_filter.proofs.TreeLaws.{tree_is_steps, steps_go_on}
-use Rattle.ts_search.specs.LineOf.{Search, line_of}
+use Rattle.ts_search.specs.LineOf.{Search, TheFirst, line_of}
 use Rattle.ts_search.specs.Listed.{AreFirst, IsListedBy}
 use Rattle.ts_search.specs.Turns.{ListState, list_start, list_turn_on, list_turn, list_turns, left_open, list_claim, list_certificate}
 use Rattle.ts_search.proofs.Known.{Known}
@@ -31,8 +31,8 @@ IsDone count s = (nat_lt (length s.listed) count ≡ false) ⊎ (s.pending ≡ [
 done_still : (c : Search) (count : ℕ) (s : ListState) → IsDone count s → list_turn c count s ≡ s
 done_still c count s d =
     ⊎_elim
-    (λ e. ap (λ t. cond t (list_turn_on c count s s.pending) s) e)
-    (λ e. ap (λ w. cond (nat_lt (length s.listed) count) (list_turn_on c count s w) s) e
+    (λ e. ap (λ t. cond t (list_turn_on c s s.pending) s) e)
+    (λ e. ap (λ w. cond (nat_lt (length s.listed) count) (list_turn_on c s w) s) e
     ∙ (elim (nat_lt (length s.listed) count) as (λ t. cond t s s ≡ s) [ true ↦ refl | false ↦ refl ]))
     d
 
@@ -44,15 +44,15 @@ done_stop c count (suc n) s d = ap (λ t. list_turns c count n t) (done_still c 
 one_turn : (c : Search) (count : ℕ) (s : ListState) → IsDone count s ⊎ (length (list_turn c count s).lines ≡ length s.lines + 1)
 one_turn c count s =
     elim (nat_lt (length s.listed) count) as (λ t. nat_lt (length s.listed) count ≡ t →
-    IsDone count s ⊎ (length (cond t (list_turn_on c count s s.pending) s).lines ≡ length s.lines + 1)) [
+    IsDone count s ⊎ (length (cond t (list_turn_on c s s.pending) s).lines ≡ length s.lines + 1)) [
       | true ↦ λ e. go s.pending refl
       | false ↦ λ e. inl (inl e)
     ] refl
   where
-    go : (w : List Box) → s.pending ≡ w → IsDone count s ⊎ (length (list_turn_on c count s s.pending).lines ≡ length s.lines + 1)
+    go : (w : List Box) → s.pending ≡ w → IsDone count s ⊎ (length (list_turn_on c s s.pending).lines ≡ length s.lines + 1)
     go [] at = inl (inr at)
     go (b ∷ u) at =
-        inr (ap (λ w. length (list_turn_on c count s w).lines) at ∙ length_push s.lines (line_of c (ListOf count) None b))
+        inr (ap (λ w. length (list_turn_on c s w).lines) at ∙ length_push s.lines (line_of (TheFirst c) b))
 
 pub list_turns_end : (c : Search) (count n : ℕ) (s : ListState) → (length (list_turns c count n s).lines ≤ length s.lines + n) ×
     (IsDone count (list_turns c count n s) ⊎ (length (list_turns c count n s).lines ≡ length s.lines + n))

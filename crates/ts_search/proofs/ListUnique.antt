@@ -1,8 +1,6 @@
 -- There is one listed certificate, and a large budget is never spent.
 use Rattle.std.proofs.Common.{◌≡◌, ◌⊎◌, ℕ, zero, suc, ◌+◌, ◌-◌, ◌*◌, ◌<◌, ◌≤◌, ℤ, Bool, true, false, List, [], ◌∷◌, ◌++◌, length, slice_get, Option, Some, None, MatchOption, option_map, unwrap_or, refl, sym, ◌∙◌, ap, subst, inl, inr, ⊎_elim, arith, eq-or-lt_of_le}
 use Rattle.std.specs.List.{AllByRecursion}
-use Rattle.ts_certificate.specs.declared.certificate.Aim.{Aim}
-use Rattle.ts_certificate.specs.declared.certificate.Aim.TheVariants.{List as ListOf}
 use Rattle.ts_certificate.specs.declared.certificate.Claim.{Claim}
 use Rattle.ts_certificate.specs.declared.certificate.Claim.TheVariants.{Best, Infeasible, BudgetBest, BudgetNone}
 use Rattle.ts_certificate.specs.declared.certificate.Claim.TheVariants.{Full, All, BudgetList}
@@ -21,13 +19,11 @@ use Rattle.ts_filter.specs.Tree.{told_by, told_after}
 use Rattle.ts_filter.proofs.BoxParts.{only_series, part_self}
 use Rattle.ts_filter.proofs.TreeLaws.{parts_made}
 use Rattle.ts_filter.proofs.Answered.{told_more}
-use Rattle.ts_search.specs.Dive.{Find}
 use Rattle.ts_search.specs.Drops.{or_later}
 use Rattle.ts_frontier.specs.Forms.{Form, Alone, Wide, form}
-use Rattle.ts_search.specs.Found.{tally_after}
 use Rattle.ts_search.specs.Laws.{IsBudget}
-use Rattle.ts_search.specs.Lean.{IsFree, IsLeanLine, InTime, StandsInTime, AreLean, most_told}
-use Rattle.ts_search.specs.LineOf.{Search, last, requirements, is_refuted_at, refuted_last, first_no, removal_line, branch_line, form_line, line_of}
+use Rattle.ts_search.specs.Lean.{IsFree, IsLeanLine, InTime, StandsInTime, sought_after, AreLean, most_told}
+use Rattle.ts_search.specs.LineOf.{Search, Sought, TheFirst, last, requirements, is_refuted_at, refuted_last, first_no, removal_line, branch_line, form_line, line_of}
 use Rattle.ts_search.specs.Listed.{IsListedBy}
 use Rattle.ts_search.proofs.Choice.{LeastFits, least_fits}
 use Rattle.ts_search.proofs.Known.{Known, no_series, to_refuted}
@@ -47,25 +43,25 @@ or_last : (o : Option TreeLine) → or_later o None ≡ o
 or_last None = refl
 or_last (Some l) = refl
 
-module _ (c : Search) (e : Known c) (count : ℕ) (f found : Option Find) (b : Box) (i : IsPart b c.model.cells) where
-  list_line : (g : Form) → form b ≡ g → refuted_last c b ≡ None → line_of c (ListOf count) found b ≡ form_line c (ListOf count) found b g
+module _ (c : Search) (e : Known c) (b : Box) (i : IsPart b c.model.cells) where
+  list_line : (g : Form) → form b ≡ g → refuted_last c b ≡ None → line_of (TheFirst c) b ≡ form_line (TheFirst c) b g
   list_line g w p =
-      ap (λ o. unwrap_or (option_map (λ j. No j (last c)) o) (form_line c (ListOf count) found b (form b))) p ∙ ap (λ z. form_line c (ListOf count) found b z) w
+      ap (λ o. unwrap_or (option_map (λ j. No j (last c)) o) (form_line (TheFirst c) b (form b))) p ∙ ap (λ z. form_line (TheFirst c) b z) w
 
-  free_end : IsFree c (ListOf count) f b → refuted_last c b ≡ None
+  free_end : IsFree (TheFirst c) b → refuted_last c b ≡ None
   free_end h = least_none (λ j. is_refuted_at c j (last c) b) (requirements c) 1 (λ j a k. never_refuted c b h.refuted j (last c))
 
-  free_line : (k : ℕ) (t : ℤ) → form b ≡ Wide k t → IsFree c (ListOf count) f b → line_of c (ListOf count) found b ≡ branch_line c b k t
+  free_line : (k : ℕ) (t : ℤ) → form b ≡ Wide k t → IsFree (TheFirst c) b → line_of (TheFirst c) b ≡ branch_line c b k t
   free_line k t w h =
       list_line (Wide k t) w (free_end h)
       ∙ ap (λ o. unwrap_or o (branch_line c b k t)) (none_first_no c b (requirements c) 1 (never_refuted c b h.refuted))
 
   list_fixes : (h : Head) (y : ℕ) (l : TreeLine) → claimed_value h.claim ≡ None → AllByRecursion (Meets c.model) h.series → IsChecked l →
-      KeepsRule c.model c.spans h y b l → IsLeanLine c (ListOf count) f b l → l ≡ line_of c (ListOf count) found b
+      KeepsRule c.model c.spans h y b l → IsLeanLine (TheFirst c) b l → l ≡ line_of (TheFirst c) b
   list_fixes h y (Split k t) a q ch r n = sym (free_line k t n.2 n.0 ∙ ap (λ o. unwrap_or (option_map removal_line o) (Split k t)) n.1)
   list_fixes h y (Remove k v j) a q ch r n = sym (go (form b) refl)
     where
-      go : (g : Form) → form b ≡ g → line_of c (ListOf count) found b ≡ Remove k v j
+      go : (g : Form) → form b ≡ g → line_of (TheFirst c) b ≡ Remove k v j
       go (Alone x) w = absurd (drop_not_alone c.model c.spans k v j b x i r w)
       go (Wide first t) w = free_line first t w n.0 ∙ ap (λ o. unwrap_or (option_map removal_line o) (Split first t)) n.1
   list_fixes h y (No j p) a q ch r n = sym (at_end (refuted_last c b) refl)
@@ -74,7 +70,7 @@ module _ (c : Search) (e : Known c) (count : ℕ) (f found : Option Find) (b : B
           (or_later (first_no c b (requirements c) 1) None) ≡ Some (No j p)
       reason o z = ap (λ o. or_later (option_map (λ j. No j (last c)) o) (or_later (first_no c b (requirements c) 1) None)) (sym z) ∙ n
 
-      by_form : refuted_last c b ≡ None → (g : Form) → form b ≡ g → line_of c (ListOf count) found b ≡ No j p
+      by_form : refuted_last c b ≡ None → (g : Form) → form b ≡ g → line_of (TheFirst c) b ≡ No j p
       by_form z (Alone x) w =
           let free = none_least (λ j. is_refuted_at c j (last c) b) (requirements c) 1 z in
           let meets = e.single b x i w (λ k u v. free k u (omega (arith, v))) in
@@ -83,16 +79,16 @@ module _ (c : Search) (e : Known c) (count : ℕ) (f found : Option Find) (b : B
           list_line (Wide k t) w z
           ∙ ap (λ o. unwrap_or o (branch_line c b k t)) (sym (or_last (first_no c b (requirements c) 1)) ∙ reason None z)
 
-      at_end : (o : Option ℕ) → refuted_last c b ≡ o → line_of c (ListOf count) found b ≡ No j p
+      at_end : (o : Option ℕ) → refuted_last c b ≡ o → line_of (TheFirst c) b ≡ No j p
       at_end None z = by_form z (form b) refl
       at_end (Some first) z =
-          ap (λ o. unwrap_or (option_map (λ j. No j (last c)) o) (form_line c (ListOf count) found b (form b))) z
+          ap (λ o. unwrap_or (option_map (λ j. No j (last c)) o) (form_line (TheFirst c) b (form b))) z
           ∙ (let s : ◌≡◌ {A = Option TreeLine} (Some (No first (last c))) (Some (No j p)) = reason (Some first) z in cc)
   list_fixes h y (Worse p) a q ch r n = absurd (subst (λ o. MatchOption o ⊥ (λ v. IsWorseFor c.model c.spans h.aim v p b)) a r)
   list_fixes h y Yes a q ch r n = sym (at_end (refuted_last c b) refl (least_fits (λ j. is_refuted_at c j (last c) b) (requirements c) 1))
     where
       at_end : (o : Option ℕ) → refuted_last c b ≡ o → LeastFits (λ j. is_refuted_at c j (last c) b) (requirements c) 1 o →
-          line_of c (ListOf count) found b ≡ Yes
+          line_of (TheFirst c) b ≡ Yes
       at_end None z k = list_line (Alone r.series) (is_alone b r.series r.alone) z
       at_end (Some j) z k =
           absurd (no_series c e j (last c) b r.series i (alone_within c.model.cells b r.series i (is_alone b r.series r.alone))
@@ -100,28 +96,28 @@ module _ (c : Search) (e : Known c) (count : ℕ) (f found : Option Find) (b : B
   list_fixes h y Unsearched a q ch r n = absurd ch
 
 -- what is known of the rest of a tree; spare: the lines that the budget leaves
-pub record ListRest (c : Search) (count : ℕ) (h : Head) (most : Option ℕ) (f : Option Find) (o : Bool) (y z spare : ℕ) (w : List Box)
+pub record ListRest (c : Search) (count : ℕ) (h : Head) (most : Option ℕ) (o : Bool) (y z spare : ℕ) (w : List Box)
     (ls : List TreeLine) : Type 0 where
   pub claim : claimed_value h.claim ≡ None
   pub meet : AllByRecursion (Meets c.model) h.series
   pub steps : Steps c.model c.spans h w y ls [] z
-  pub lean : AreLean c (ListOf count) most f o y w ls
+  pub lean : AreLean (TheFirst c) most o y w ls
   pub few : checked_count ls ≤ spare
   pub all : 0 < open_count ls → (checked_count ls ≡ spare) ⊎ (z ≡ count)
   pub room : (most ≡ Some count) ⊎ (z < count)
 
 -- no yes line after an open one
-none_told_after : (c : Search) (aim : Aim) (most : Option ℕ) (h : Head) (ls : List TreeLine) (f : Option Find) (y : ℕ) (w left : List Box) (z : ℕ) →
-    AreLean c aim most f true y w ls → Steps c.model c.spans h w y ls left z → y ≡ z
-none_told_after c aim most h [] f y w left z n s = s.1
-none_told_after c aim most h (l ∷ ls) f y [] left z n s = absurd n
-none_told_after c aim most h (Split k t ∷ ls) f y (b ∷ w) left z n s = absurd (let e = n.0.0 in cc)
-none_told_after c aim most h (Remove k v j ∷ ls) f y (b ∷ w) left z n s = absurd (let e = n.0.0 in cc)
-none_told_after c aim most h (No j p ∷ ls) f y (b ∷ w) left z n s = absurd (let e = n.0.0 in cc)
-none_told_after c aim most h (Worse p ∷ ls) f y (b ∷ w) left z n s = absurd (let e = n.0.0 in cc)
-none_told_after c aim most h (Yes ∷ ls) f y (b ∷ w) left z n s = absurd (let e = n.0.0 in cc)
-none_told_after c aim most h (Unsearched ∷ ls) f y (b ∷ w) left z n s =
-    none_told_after c aim most h ls (tally_after c f (form b) Unsearched) y w left z n.2 s.1
+none_told_after : (m : ModelParts) (s : Spans) (q : Sought) (most : Option ℕ) (h : Head) (ls : List TreeLine) (y : ℕ) (w left : List Box) (z : ℕ) →
+    AreLean q most true y w ls → Steps m s h w y ls left z → y ≡ z
+none_told_after m s q most h [] y w left z n st = st.1
+none_told_after m s q most h (l ∷ ls) y [] left z n st = absurd n
+none_told_after m s q most h (Split k t ∷ ls) y (b ∷ w) left z n st = absurd (let e = n.0.0 in cc)
+none_told_after m s q most h (Remove k v j ∷ ls) y (b ∷ w) left z n st = absurd (let e = n.0.0 in cc)
+none_told_after m s q most h (No j p ∷ ls) y (b ∷ w) left z n st = absurd (let e = n.0.0 in cc)
+none_told_after m s q most h (Worse p ∷ ls) y (b ∷ w) left z n st = absurd (let e = n.0.0 in cc)
+none_told_after m s q most h (Yes ∷ ls) y (b ∷ w) left z n st = absurd (let e = n.0.0 in cc)
+none_told_after m s q most h (Unsearched ∷ ls) y (b ∷ w) left z n st =
+    none_told_after m s (sought_after q (form b) Unsearched) most h ls y w left z n.2 st.1
 
 in_time : (most : Option ℕ) (o : Bool) (y : ℕ) (l : TreeLine) → IsChecked l → StandsInTime most o y l → InTime most o y
 in_time most o y (Split k t) h n = n
@@ -132,9 +128,9 @@ in_time most o y Yes h n = n
 in_time most o y Unsearched h n = absurd h
 
 module _ (c : Search) (count : ℕ) where
-  list_rest_open : (h : Head) (most : Option ℕ) (f : Option Find) (o : Bool) (y z spare : ℕ) (b : Box) (w : List Box) (ls : List TreeLine) →
-      ListRest c count h most f o y z spare (b ∷ w) (Unsearched ∷ ls) → ListRest c count h most f true y z spare w ls
-  list_rest_open h most f o y z spare b w ls r = record {
+  list_rest_open : (h : Head) (most : Option ℕ) (o : Bool) (y z spare : ℕ) (b : Box) (w : List Box) (ls : List TreeLine) →
+      ListRest c count h most o y z spare (b ∷ w) (Unsearched ∷ ls) → ListRest c count h most true y z spare w ls
+  list_rest_open h most o y z spare b w ls r = record {
     claim = r.claim;
     meet = r.meet;
     steps = r.steps.1;
@@ -144,28 +140,28 @@ module _ (c : Search) (count : ℕ) where
     room = r.room;
   }
 
-  list_rest_checked : (h : Head) (most : Option ℕ) (f : Option Find) (o : Bool) (y z spare : ℕ) (b : Box) (w : List Box) (l : TreeLine) (ls : List TreeLine) →
-      IsChecked l → ListRest c count h most f o y z spare (b ∷ w) (l ∷ ls) →
-      ListRest c count h most (tally_after c f (form b) l) o (told_by l y) z (spare - 1) (made_by l b ++ w) ls
-  list_rest_checked h most f o y z spare b w l ls k r =
+  list_rest_checked : (h : Head) (most : Option ℕ) (o : Bool) (y z spare : ℕ) (b : Box) (w : List Box) (l : TreeLine) (ls : List TreeLine) →
+      IsChecked l → ListRest c count h most o y z spare (b ∷ w) (l ∷ ls) →
+      ListRest c count h most o (told_by l y) z (spare - 1) (made_by l b ++ w) ls
+  list_rest_checked h most o y z spare b w l ls k r =
       let one = checked_one l ls k in
       let few = r.few in
       record {
         claim = r.claim;
         meet = r.meet;
         steps = r.steps.1;
-        lean = subst (λ t. AreLean c (ListOf count) most (tally_after c f (form b) l) t (told_by l y) (made_by l b ++ w) ls) (opens_same o l k) r.lean.2;
+        lean = subst (λ t. AreLean (TheFirst c) most t (told_by l y) (made_by l b ++ w) ls) (opens_same o l k) r.lean.2;
         few = omega (arith, one.0);
         all = λ p. ⊎_elim (λ q. inl (omega (arith, one.0))) (λ q. inr q) (r.all (omega (arith, one.1)));
         room = r.room;
       }
 
-  list_too_early : (h g : Head) (most other : Option ℕ) (f : Option Find) (o : Bool) (y z z' spare : ℕ) (b : Box) (w : List Box) (l : TreeLine)
-      (ls ms : List TreeLine) → ListRest c count h most f o y z spare (b ∷ w) (Unsearched ∷ ls) → IsChecked l →
-      ListRest c count g other f o y z' spare (b ∷ w) (l ∷ ms) → ⊥
-  list_too_early h g most other f o y z z' spare b w l ls ms r k s =
-      let none = none_after c (ListOf count) most ls f y w r.lean.2 in
-      let same = none_told_after c (ListOf count) most h ls f y w [] z r.lean.2 r.steps.1 in
+  list_too_early : (h g : Head) (most other : Option ℕ) (o : Bool) (y z z' spare : ℕ) (b : Box) (w : List Box) (l : TreeLine)
+      (ls ms : List TreeLine) → ListRest c count h most o y z spare (b ∷ w) (Unsearched ∷ ls) → IsChecked l →
+      ListRest c count g other o y z' spare (b ∷ w) (l ∷ ms) → ⊥
+  list_too_early h g most other o y z z' spare b w l ls ms r k s =
+      let none = none_after (TheFirst c) most ls y w r.lean.2 in
+      let same = none_told_after c.model c.spans (TheFirst c) most h ls y w [] z r.lean.2 r.steps.1 in
       let more = told_more c.model c.spans g (l ∷ ms) y (b ∷ w) [] z' s.steps in
       let few = s.few in
       ⊎_elim
@@ -177,35 +173,35 @@ module _ (c : Search) (count : ℕ) where
       (r.all (omega arith))
 
   module _ (e : Known c) (h g : Head) (most other : Option ℕ) (z z' : ℕ) where
-    same_lists : (ls ms : List TreeLine) (f : Option Find) (o : Bool) (y spare : ℕ) (w : List Box) → AreParts c.model.cells w →
-        ListRest c count h most f o y z spare w ls → ListRest c count g other f o y z' spare w ms → ls ≡ ms
-    same_lists [] [] f o y spare w bs r s = refl
-    same_lists [] (k ∷ ms) f o y spare [] bs r s = absurd s.steps
-    same_lists [] (k ∷ ms) f o y spare (b ∷ w) bs r s = absurd (let q = r.steps.0 in cc)
-    same_lists (l ∷ ls) [] f o y spare [] bs r s = absurd r.steps
-    same_lists (l ∷ ls) [] f o y spare (b ∷ w) bs r s = absurd (let q = s.steps.0 in cc)
-    same_lists (l ∷ ls) (k ∷ ms) f o y spare [] bs r s = absurd r.steps
-    same_lists (l ∷ ls) (d ∷ ms) f o y spare (b ∷ w) bs r s =
+    same_lists : (ls ms : List TreeLine) (o : Bool) (y spare : ℕ) (w : List Box) → AreParts c.model.cells w →
+        ListRest c count h most o y z spare w ls → ListRest c count g other o y z' spare w ms → ls ≡ ms
+    same_lists [] [] o y spare w bs r s = refl
+    same_lists [] (k ∷ ms) o y spare [] bs r s = absurd s.steps
+    same_lists [] (k ∷ ms) o y spare (b ∷ w) bs r s = absurd (let q = r.steps.0 in cc)
+    same_lists (l ∷ ls) [] o y spare [] bs r s = absurd r.steps
+    same_lists (l ∷ ls) [] o y spare (b ∷ w) bs r s = absurd (let q = s.steps.0 in cc)
+    same_lists (l ∷ ls) (k ∷ ms) o y spare [] bs r s = absurd r.steps
+    same_lists (l ∷ ls) (d ∷ ms) o y spare (b ∷ w) bs r s =
         ⊎_elim
         (λ k. ⊎_elim
         (λ k'.
-        let p : l ≡ d = list_fixes c e count f None b bs.0 h y l r.claim r.meet k r.steps.0 r.lean.1
-        ∙ sym (list_fixes c e count f None b bs.0 g y d s.claim s.meet k' s.steps.0 s.lean.1) in
-        let rest = list_rest_checked h most f o y z spare b w l ls k r in
-        let also = list_rest_checked g other f o y z' spare b w l ms k (subst (λ t. ListRest c count g other f o y z' spare (b ∷ w) (t ∷ ms)) (sym p) s) in
+        let p : l ≡ d = list_fixes c e b bs.0 h y l r.claim r.meet k r.steps.0 r.lean.1
+        ∙ sym (list_fixes c e b bs.0 g y d s.claim s.meet k' s.steps.0 s.lean.1) in
+        let rest = list_rest_checked h most o y z spare b w l ls k r in
+        let also = list_rest_checked g other o y z' spare b w l ms k (subst (λ t. ListRest c count g other o y z' spare (b ∷ w) (t ∷ ms)) (sym p) s) in
         ap (λ t. l ∷ t)
-        (same_lists ls ms (tally_after c f (form b) l) o (told_by l y) (spare - 1) (made_by l b ++ w)
+        (same_lists ls ms o (told_by l y) (spare - 1) (made_by l b ++ w)
         (parts_made c.model c.spans h y l b w bs r.steps.0) rest also)
         ∙ ap (λ t. t ∷ ms) p)
-        (λ q. absurd (list_too_early g h other most f o y z' z spare b w l ms ls
-        (subst (λ t. ListRest c count g other f o y z' spare (b ∷ w) (t ∷ ms)) q s) k r))
+        (λ q. absurd (list_too_early g h other most o y z' z spare b w l ms ls
+        (subst (λ t. ListRest c count g other o y z' spare (b ∷ w) (t ∷ ms)) q s) k r))
         (checked_or d))
         (λ q. ⊎_elim
-        (λ k. absurd (list_too_early h g most other f o y z z' spare b w d ls ms (subst (λ t. ListRest c count h most f o y z spare (b ∷ w) (t ∷ ls)) q r) k s))
+        (λ k. absurd (list_too_early h g most other o y z z' spare b w d ls ms (subst (λ t. ListRest c count h most o y z spare (b ∷ w) (t ∷ ls)) q r) k s))
         (λ q'.
-        let rest = list_rest_open h most f o y z spare b w ls (subst (λ t. ListRest c count h most f o y z spare (b ∷ w) (t ∷ ls)) q r) in
-        let also = list_rest_open g other f o y z' spare b w ms (subst (λ t. ListRest c count g other f o y z' spare (b ∷ w) (t ∷ ms)) q' s) in
-        ap (λ t. t ∷ ls) q ∙ ap (λ t. Unsearched ∷ t) (same_lists ls ms f true y spare w bs.1 rest also) ∙ ap (λ t. t ∷ ms) (sym q'))
+        let rest = list_rest_open h most o y z spare b w ls (subst (λ t. ListRest c count h most o y z spare (b ∷ w) (t ∷ ls)) q r) in
+        let also = list_rest_open g other o y z' spare b w ms (subst (λ t. ListRest c count g other o y z' spare (b ∷ w) (t ∷ ms)) q' s) in
+        ap (λ t. t ∷ ls) q ∙ ap (λ t. Unsearched ∷ t) (same_lists ls ms true y spare w bs.1 rest also) ∙ ap (λ t. t ∷ ms) (sym q'))
         (checked_or d))
         (checked_or l)
 
@@ -313,10 +309,10 @@ module _ (c : Search) (e : Known c) (count n : ℕ) where
       subst (λ z. Steps c.model c.spans (head_of a) (c.model.cells ∷ []) 0 a.tree [] z) all (steps_of c.model c.spans a t)
 
   abbrev IsLean : Cert → Type 0
-  IsLean a = AreLean c (ListOf count) (most_told a.claim) None false 0 (c.model.cells ∷ []) a.tree
+  IsLean a = AreLean (TheFirst c) (most_told a.claim) false 0 (c.model.cells ∷ []) a.tree
 
   list_rest : (a : Cert) → HasList c count n a → IsLean a →
-      ListRest c count (head_of a) (most_told a.claim) None false 0 (length a.series) n (c.model.cells ∷ []) a.tree
+      ListRest c count (head_of a) (most_told a.claim) false 0 (length a.series) n (c.model.cells ∷ []) a.tree
   list_rest a l lean = record {
     claim = list_claimed c.model count n a.claim a.series a.tree l.claim;
     meet = l.first.meet;
@@ -337,7 +333,7 @@ module _ (c : Search) (e : Known c) (count n : ℕ) where
       let lb = length b.series in
       let sa = list_steps a p in
       let sb = list_steps b q in
-      let trees = same_lists c count e h g (most_told a.claim) (most_told b.claim) la lb a.tree b.tree None false 0 n all (part_self c.model.cells e.box, tt)
+      let trees = same_lists c count e h g (most_told a.claim) (most_told b.claim) la lb a.tree b.tree false 0 n all (part_self c.model.cells e.box, tt)
       (list_rest a p lean) (list_rest b q also) in
       let sc = subst (λ z. Steps c.model c.spans h all 0 z [] la) trees sa in
       let long = same_count c.model c.spans h g b.tree 0 all [] [] la lb sc sb in

@@ -1,11 +1,10 @@
 -- Few lines of a tree are `open`: those of the boxes that wait at the end.
 use Rattle.std.proofs.Common.{ap, ◌∙◌, arith}
 use Rattle.std.specs.Prelude.{length}
-use Rattle.ts_certificate.specs.declared.certificate.Aim.TheVariants.{Best as BestOf, List as ListOf}
 use Rattle.ts_certificate.specs.Certificate.{Cert, open_count}
 use Rattle.ts_filter.proofs.TreeLaws.{few}
 use Rattle.ts_search.specs.Laws.{SolvedOpensFew, ListedOpensFew}
-use Rattle.ts_search.specs.LineOf.{search_for}
+use Rattle.ts_search.specs.LineOf.{search_for, contest_for}
 use Rattle.ts_search.specs.Turns.{State, ListState, start, turns, solve_certificate, list_start, list_turns, list_certificate}
 use Rattle.ts_search.proofs.Closing.{search_solves, search_lists, one_solved, one_listed}
 use Rattle.ts_search.proofs.Good.{Good, good_start, good_turns, head_now}
@@ -15,9 +14,9 @@ use Rattle.ts_search.proofs.Walk.{opens_open}
 
 pub solved_opens_few : SolvedOpensFew
 solved_opens_few m s goal n a right some h =
-    let c = search_for m s (BestOf goal) in
+    let c = contest_for m s goal in
     let e = best_known m s goal right some in
-    let now : State = turns c (BestOf goal) n (start c) in
+    let now : State = turns c n (start c) in
     let good : Good c now = good_turns c e n (start c) (good_start c e.known) in
     let same = one_solved m s goal n a (solve_certificate c now) right some h (search_solves m s goal n right some) in
     let opened = ap (λ (z : Cert). open_count z.tree) same ∙ opens_open now.lines now.pending good.all_checked in
@@ -26,7 +25,7 @@ solved_opens_few m s goal n a right some h =
 
 pub listed_opens_few : ListedOpensFew
 listed_opens_few m s count n a right h =
-    let c = search_for m s (ListOf count) in
+    let c = search_for m s in
     let k = known c right in
     let now : ListState = list_turns c count n (list_start c) in
     let good : GoodList c count now = list_good_turns c k count n (list_start c) (list_good_start c count k) in

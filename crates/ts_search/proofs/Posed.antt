@@ -20,16 +20,16 @@ use Rattle.ts_filter.specs.Excluded.{Refutes, Cuts}
 use Rattle.ts_filter.specs.FirstCell.{IsFirstCell}
 use Rattle.ts_filter.specs.KeptValue.{IsKept, end_with}
 use Rattle.ts_filter.specs.OfTerm.{OfTerm}
-use Rattle.ts_filter.specs.Tests.{cut_by as cut_by_term}
 use Rattle.ts_filter.proofs.BoxParts.{domain_at, inside_length, place}
 use Rattle.ts_filter.proofs.SoundLaws.{each_at}
 use Rattle.ts_search.specs.Dive.{kept_for, kept_value}
 use Rattle.ts_search.specs.Drops.{least, next_drop}
-use Rattle.ts_search.specs.LineOf.{is_cut_at, cut_by, inner, last, is_refuted_at}
-use Rattle.ts_search.specs.Posed.{AreTablesOf, IsPosed}
-use Rattle.ts_search.specs.Views.{search_of}
+use Rattle.ts_search.specs.LineOf.{Contest, is_cut_at, cut_by, inner, last, is_refuted_at}
+use Rattle.ts_search.specs.Posed.{AreTablesOf, HasObjective, IsPosed}
+use Rattle.ts_search.specs.Views.{contest_of, search_of}
+use Rattle.ts_search.specs.declared.contest.Contest.{Contest as GivenContest}
 use Rattle.ts_search.specs.declared.problem.Problem.{Problem}
-use Rattle.ts_search.proofs.CallLaws.{least_is, refuted_is, first_refuted_is, cut_is, first_cut_is, never_least, drop_is}
+use Rattle.ts_search.proofs.CallLaws.{refuted_is, first_refuted_is, cut_is, first_cut_is, never_least, drop_is}
 use Rattle.ts_search.proofs.DiveLaws.{best_there}
 use Rattle.ts_search.proofs.KeptLaws.{kept_is}
 
@@ -116,53 +116,45 @@ module _ (q : Problem) (posed : IsPosed q) where
     next_drop_told found h =
         drop_is (search_of q).model (search_of q).spans b i.box found h
 
-    -- the objective with its machine, where there is a bar
-    module _ (term : ℕ) (a : Automata) (objective : q.model.now.objective ≡ Some term)
-        (machine : slice_get (automata_in (model_parts q.model.now)) term ≡ Some a) where
+module _ (q : GivenContest) (posed : IsPosed q.problem) (objective : HasObjective q) where
+  -- the objective's machine
+  pub objective_long : (tables : List Automata) → AreTablesOf q.problem tables → q.objective < length tables
+  objective_long tables t = tables_long q.problem posed tables q.objective t (objective_there q.problem posed q.objective objective)
+
+  module _ (b : Box) (i : IsPart b (search_of q.problem).model.cells) where
+    module _ (a : Automata) (machine : slice_get (automata_in (model_parts q.problem.model.now)) q.objective ≡ Some a) where
       pub cut_told : (bar : Bar) (told : Bool) → IsTrue told ↔ Cuts q.goal bar (term_span a (length b) b) →
-          told ≡ is_cut_at (search_of q) (last (search_of q)) b bar
+          told ≡ is_cut_at (contest_of q) (last (search_of q.problem)) b bar
       cut_told bar told h =
-          cut_is (automata_in (model_parts q.model.now)) term a machine (search_of q).model objective q.goal bar b
-          (last (search_of q)) (part_size b i) some_cells told h
+          cut_is (automata_in (model_parts q.problem.model.now)) q.objective a machine (search_of q.problem).model objective q.goal bar b
+          (last (search_of q.problem)) (part_size q.problem posed b i) (some_cells q.problem posed) told h
 
       pub first_cut_told : (bar : Bar) (found : Option ℕ) → IsFirstCell a (Cuts q.goal bar) b found →
-          found ≡ least (λ p. is_cut_at (search_of q) p b bar) (inner (search_of q)) 1
+          found ≡ least (λ p. is_cut_at (contest_of q) p b bar) (inner (search_of q.problem)) 1
       first_cut_told bar found h =
-          first_cut_is (automata_in (model_parts q.model.now)) term a machine (search_of q).model objective q.goal bar b
-          (last (search_of q)) (part_size b i) found h
+          first_cut_is (automata_in (model_parts q.problem.model.now)) q.objective a machine (search_of q.problem).model objective q.goal bar b
+          (last (search_of q.problem)) (part_size q.problem posed b i) found h
 
       pub kept_told : (k : ℕ) (v : ℤ) → HasCell k b → IsKept a q.goal k b v →
-          v ≡ kept_value (search_of q).model (search_of q).spans q.goal k b
+          v ≡ kept_value (search_of q.problem).model (search_of q.problem).spans q.goal k b
       kept_told k v cell h =
           let d : IsDomain (values_at k b) = domain_at b (k - 1) i.box (place k b cell) in
-          kept_is (automata_in (model_parts q.model.now)) term a machine q.goal k b
+          kept_is (automata_in (model_parts q.problem.model.now)) q.objective a machine q.goal k b
           v d (best_there (end_with a q.goal k b) q.goal (values_at k b) d.some) h
-          ∙ ap (kept_for (search_of q).spans q.goal k b) (sym objective)
+          ∙ ap (kept_for (search_of q.problem).spans q.goal k b) (sym objective)
 
-    -- by a bar that there is
-    pub cut_by_bar : (o : Option Bar) (bar : Bar) (told : Bool) → o ≡ Some bar → told ≡ is_cut_at (search_of q) (last (search_of q)) b bar →
-        told ≡ cut_by (search_of q) o (last (search_of q)) b
-    cut_by_bar o bar told some h = h ∙ ap (λ z. cut_by (search_of q) z (last (search_of q)) b) (sym some)
+-- by a bar that there is, or none
+module _ (c : Contest) (o : Option Bar) (b : Box) where
+  pub cut_by_bar : (bar : Bar) (told : Bool) → o ≡ Some bar → told ≡ is_cut_at c (last c.search) b bar → told ≡ cut_by c o (last c.search) b
+  cut_by_bar bar told some h = h ∙ ap (λ z. cut_by c z (last c.search) b) (sym some)
 
-    pub first_cut_by_bar : (o : Option Bar) (bar : Bar) (found : Option ℕ) → o ≡ Some bar →
-        found ≡ least (λ p. is_cut_at (search_of q) p b bar) (inner (search_of q)) 1 → found ≡ least (λ p. cut_by (search_of q) o p b) (inner (search_of q)) 1
-    first_cut_by_bar o bar found some h = h ∙ ap (λ z. least (λ p. cut_by (search_of q) z p b) (inner (search_of q)) 1) (sym some)
+  pub first_cut_by_bar : (bar : Bar) (found : Option ℕ) → o ≡ Some bar → found ≡ least (λ p. is_cut_at c p b bar) (inner c.search) 1 →
+      found ≡ least (λ p. cut_by c o p b) (inner c.search) 1
+  first_cut_by_bar bar found some h = h ∙ ap (λ z. least (λ p. cut_by c z p b) (inner c.search) 1) (sym some)
 
-    -- without a bar nothing is cut
-    pub uncut : (o : Option Bar) → o ≡ None → false ≡ cut_by (search_of q) o (last (search_of q)) b
-    uncut o none = ap (λ z. cut_by (search_of q) z (last (search_of q)) b) (sym none)
+  -- without a bar nothing is cut
+  pub uncut : o ≡ None → false ≡ cut_by c o (last c.search) b
+  uncut none = ap (λ z. cut_by c z (last c.search) b) (sym none)
 
-    pub none_cut : (o : Option Bar) → o ≡ None → None ≡ least (λ p. cut_by (search_of q) o p b) (inner (search_of q)) 1
-    none_cut o none =
-        sym (never_least (inner (search_of q)) 1) ∙ ap (λ z. least (λ p. cut_by (search_of q) z p b) (inner (search_of q)) 1) (sym none)
-
-    -- nor without an objective
-    no_term : (bar : Bar) (p : ℕ) → q.model.now.objective ≡ None → false ≡ is_cut_at (search_of q) p b bar
-    no_term bar p none = ap (cut_by_term (search_of q).spans q.goal p b bar) (sym none)
-
-    pub uncut_without : (bar : Bar) → q.model.now.objective ≡ None → false ≡ is_cut_at (search_of q) (last (search_of q)) b bar
-    uncut_without bar none = no_term bar (last (search_of q)) none
-
-    pub none_cut_without : (bar : Bar) → q.model.now.objective ≡ None → None ≡ least (λ p. is_cut_at (search_of q) p b bar) (inner (search_of q)) 1
-    none_cut_without bar none =
-        least_is (λ p. is_cut_at (search_of q) p b bar) (inner (search_of q)) 1 None (λ p from to. sym (no_term bar p none))
+  pub none_cut : o ≡ None → None ≡ least (λ p. cut_by c o p b) (inner c.search) 1
+  none_cut none = sym (never_least (inner c.search) 1) ∙ ap (λ z. least (λ p. cut_by c z p b) (inner c.search) 1) (sym none)

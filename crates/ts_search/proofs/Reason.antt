@@ -1,12 +1,12 @@
 -- A lean line is the line of its box, and the line of a box is lean.
 use Rattle.std.proofs.Common.{◌≡◌, ◌⊎◌, ℕ, zero, suc, ◌+◌, ◌-◌, ◌<◌, ◌≤◌, ℤ, Bool, true, false, not, cond, ◌||◌, Option, Some, None, option_map, unwrap_or, refl, sym, ◌∙◌, ap, subst, inl, inr, ⊎_elim, arith, eq-or-lt_of_le}
-use Rattle.std.proofs.lemmas.Bool.{not-true, false_from_ne_true, or_parts}
+use Rattle.std.proofs.lemmas.Bool.{not-true, false_from_ne_true}
 use Rattle.std.proofs.lemmas.Option.{slice_get_within}
-use Rattle.ts_certificate.specs.declared.certificate.Aim.{Aim}
 use Rattle.ts_certificate.specs.declared.certificate.Aim.TheVariants.{Best as BestOf}
 use Rattle.ts_certificate.specs.declared.certificate.TreeLine.{TreeLine}
 use Rattle.ts_certificate.specs.declared.certificate.TreeLine.TheVariants.{Split, Remove, No, Worse, Yes, Unsearched}
 use Rattle.ts_model.specs.FirstBest.{is_better}
+use Rattle.ts_filter.specs.declared.bar.Bar.{Bar}
 use Rattle.ts_filter.specs.declared.bar.Bar.TheVariants.{Better, AsGood}
 use Rattle.ts_filter.specs.Boxes.{Box, HasCell, IsPart}
 use Rattle.ts_filter.specs.RefutedWorseDrop.{IsRefuted}
@@ -18,7 +18,7 @@ use Rattle.ts_filter.specs.declared.drops.Removal.{Removal}
 use Rattle.ts_search.specs.Drops.{least, or_later, next_drop}
 use Rattle.ts_frontier.specs.Forms.{Form, Alone, Wide, form}
 use Rattle.ts_search.specs.Lean.{below_told, below_warm, below, worse_line, last_worse, inner_reason, first_reason, IsFree, IsLeanLine}
-use Rattle.ts_search.specs.LineOf.{Search, last, requirements, inner, is_refuted_at, is_cut_at, bar_of, cut_by, refuted_last, no_line, first_no, removal_line, branch_line, wide_line, form_line, line_of}
+use Rattle.ts_search.specs.LineOf.{Search, Contest, Sought, TheBest, search_in, last, requirements, inner, is_refuted_at, is_cut_at, bar_of, cut_by, refuted_last, no_line, first_no, removal_line, branch_line, wide_line, form_line, line_of}
 use Rattle.ts_search.proofs.Choice.{LeastFits, least_fits}
 use Rattle.ts_search.proofs.Good.{kept}
 use Rattle.ts_search.proofs.Known.{apart, cut_more, to_refuted, from_refuted, to_cut, part_length}
@@ -35,7 +35,8 @@ implies true y h = sym (h refl)
 implies false y h = refl
 
 -- one bar says what the told value and the warm value say together
-pub one_bar : (c : Search) (p : ℕ) (b : Box) (f warm : Option Find) → (below_told c f p b || below_warm c warm p b) ≡ cut_by c (bar_of (kept c f warm) warm) p b
+pub one_bar : (c : Contest) (p : ℕ) (b : Box) (f warm : Option Find) →
+    (below_told c f p b || below_warm c warm p b) ≡ cut_by c (bar_of (kept c f warm) warm) p b
 one_bar c p b None None = refl
 one_bar c p b None (Some w) = refl
 one_bar c p b (Some f) None = implied (is_cut_at c p b (Better f.value)) false (λ e. absurd (let k : ◌≡◌ {A = Bool} false true = e in cc))
@@ -121,13 +122,10 @@ nowhere c b q i at end below p = false_from_ne_true (q p) (λ e. go e (at p e))
         ⊎_elim (λ z. clash (q p) e (subst (λ y. q y ≡ false) (sym z) end)) (λ l. clash (q p) e (below p cell.0 l))
         (at_last_or_inner p (last c) cell.0 (omega (arith, n, cell.1)))
 
-cut_cell : (c : Search) (o : Option Find) (b : Box) (p : ℕ) → below_told c o p b ≡ true → HasCell p b
+-- where the objective is below what is known there is a cell
+cut_cell : (c : Contest) (bar : Option Bar) (b : Box) (p : ℕ) → cut_by c bar p b ≡ true → HasCell p b
 cut_cell c None b p e = absurd (let k : ◌≡◌ {A = Bool} false true = e in cc)
-cut_cell c (Some f) b p e = (to_cut c p b (Better f.value) e).usable.cell
-
-warm_cell : (c : Search) (o : Option Find) (b : Box) (p : ℕ) → below_warm c o p b ≡ true → HasCell p b
-warm_cell c None b p e = absurd (let k : ◌≡◌ {A = Bool} false true = e in cc)
-warm_cell c (Some w) b p e = (to_cut c p b (AsGood w.value) e).usable.cell
+cut_cell c (Some bar) b p e = (to_cut c p b bar e).usable.cell
 
 -- no requirement is refuted, from what the two `no` lines ask
 pub free_of_no : (c : Search) (b : Box) → IsPart b c.model.cells → refuted_last c b ≡ None → first_no c b (requirements c) 1 ≡ None →
@@ -143,71 +141,68 @@ free_of_no c b i end below j p r =
     (λ l. clash (is_refuted_at c j p b) t (first_no_none c b (requirements c) 1 below j p r.is.0 (omega (arith, many)) r.usable.cell.0 l))
     (at_last_or_inner p (last c) r.usable.cell.0 (omega (arith, n, r.usable.cell.1)))
 
-abbrev pub goal_aim : Search → Aim
-goal_aim c = BestOf c.goal
-
-module _ (c : Search) (f : Option Find) (b : Box) where
+module _ (c : Contest) (f : Option Find) (b : Box) where
   abbrev inner_part : Option TreeLine
-  inner_part = or_later (first_no c b (requirements c) 1) (inner_reason c (goal_aim c) f b)
+  inner_part = or_later (first_no c.search b (requirements c.search) 1) (inner_reason (TheBest c f) b)
 
-  bar_is : (p : ℕ) → cut_by c (bar_of (kept c f c.warm) c.warm) p b ≡ below c f p b
+  bar_is : (p : ℕ) → cut_by c (bar_of (kept c f c.warm) c.warm) p b ≡ below (TheBest c f) p b
   bar_is p = sym (one_bar c p b f c.warm)
 
-  wide_is : (k : ℕ) (t : ℤ) → wide_line c (goal_aim c) (kept c f c.warm) b k t ≡ unwrap_or inner_part (branch_line c b k t)
+  wide_is : (k : ℕ) (t : ℤ) → wide_line (TheBest c (kept c f c.warm)) b k t ≡ unwrap_or inner_part (branch_line c.search b k t)
   wide_is k t =
-      ap (λ o. unwrap_or (first_no c b (requirements c) 1) (unwrap_or (option_map (λ p. Worse p) o) (branch_line c b k t)))
-      (least_same (λ p. cut_by c (bar_of (kept c f c.warm) c.warm) p b) (λ p. below c f p b) bar_is (inner c) 1)
-      ∙ or_unwrap (first_no c b (requirements c) 1) (inner_reason c (goal_aim c) f b) (branch_line c b k t)
+      ap (λ o. unwrap_or (first_no c.search b (requirements c.search) 1) (unwrap_or (option_map (λ p. Worse p) o) (branch_line c.search b k t)))
+      (least_same (λ p. cut_by c (bar_of (kept c f c.warm) c.warm) p b) (λ p. below (TheBest c f) p b) bar_is (inner c.search) 1)
+      ∙ or_unwrap (first_no c.search b (requirements c.search) 1) (inner_reason (TheBest c f) b) (branch_line c.search b k t)
 
-  form_is : (g : Form) → form_line c (goal_aim c) (kept c f c.warm) b g ≡ unwrap_or (or_later (last_worse c (goal_aim c) f b g) inner_part) (branch_at c b g)
+  form_is : (g : Form) → form_line (TheBest c (kept c f c.warm)) b g ≡ unwrap_or (or_later (last_worse (TheBest c f) b g) inner_part) (branch_at c.search b g)
   form_is (Alone x) = refl
   form_is (Wide k t) =
-      ap (λ z. cond z (Worse (last c)) (wide_line c (goal_aim c) (kept c f c.warm) b k t)) (bar_is (last c))
-      ∙ (elim (below c f (last c) b) as (λ z. cond z (Worse (last c)) (wide_line c (goal_aim c) (kept c f c.warm) b k t) ≡
-      unwrap_or (or_later (worse_line (last c) z) inner_part) (branch_line c b k t)) [
+      ap (λ z. cond z (Worse (last c.search)) (wide_line (TheBest c (kept c f c.warm)) b k t)) (bar_is (last c.search))
+      ∙ (elim (below (TheBest c f) (last c.search) b) as (λ z. cond z (Worse (last c.search)) (wide_line (TheBest c (kept c f c.warm)) b k t) ≡
+      unwrap_or (or_later (worse_line (last c.search) z) inner_part) (branch_line c.search b k t)) [
         | true ↦ refl
         | false ↦ wide_is k t
       ])
 
-  line_is : line_of c (goal_aim c) (kept c f c.warm) b ≡ unwrap_or (first_reason c (goal_aim c) f b) (branch_at c b (form b))
+  line_is : line_of (TheBest c (kept c f c.warm)) b ≡ unwrap_or (first_reason (TheBest c f) b) (branch_at c.search b (form b))
   line_is =
-      let o = option_map (λ j. No j (last c)) (refuted_last c b) in
-      let r = or_later (last_worse c (goal_aim c) f b (form b)) inner_part in
-      ap (λ z. unwrap_or o z) (form_is (form b)) ∙ or_unwrap o r (branch_at c b (form b))
+      let o = option_map (λ j. No j (last c.search)) (refuted_last c.search b) in
+      let r = or_later (last_worse (TheBest c f) b (form b)) inner_part in
+      ap (λ z. unwrap_or o z) (form_is (form b)) ∙ or_unwrap o r (branch_at c.search b (form b))
 
   -- no reason on a box that is free and has two series
-  no_reason : (k : ℕ) (t : ℤ) → form b ≡ Wide k t → IsFree c (goal_aim c) f b → first_reason c (goal_aim c) f b ≡ None
+  no_reason : (k : ℕ) (t : ℤ) → form b ≡ Wide k t → IsFree (TheBest c f) b → first_reason (TheBest c f) b ≡ None
   no_reason k t w h =
-      let never = never_refuted c b h.refuted in
-      let end = least_none (λ j. is_refuted_at c j (last c) b) (requirements c) 1 (λ j i m. never j (last c)) in
-      let not_below = λ (p : ℕ). ap (λ z. z || below_warm c c.warm p b) (h.told p refl) ∙ h.warm p refl in
-      let below_end : below c f (last c) b ≡ false = not_below (last c) in
-      let inside = none_first_no c b (requirements c) 1 never in
-      let worse = least_none (λ p. below c f p b) (inner c) 1 (λ p i m. not_below p) in
-      ap (λ o. or_later (option_map (λ j. No j (last c)) o) (or_later (last_worse c (goal_aim c) f b (form b)) inner_part)) end
-      ∙ ap (λ g. or_later (last_worse c (goal_aim c) f b g) inner_part) w
-      ∙ ap (λ z. or_later (worse_line (last c) z) inner_part) below_end
-      ∙ ap (λ o. or_later o (inner_reason c (goal_aim c) f b)) inside
+      let never = never_refuted c.search b h.refuted in
+      let end = least_none (λ j. is_refuted_at c.search j (last c.search) b) (requirements c.search) 1 (λ j i m. never j (last c.search)) in
+      let below_end = h.above (last c.search) in
+      let inside = none_first_no c.search b (requirements c.search) 1 never in
+      let worse = least_none (λ p. below (TheBest c f) p b) (inner c.search) 1 (λ p i m. h.above p) in
+      ap (λ o. or_later (option_map (λ j. No j (last c.search)) o) (or_later (last_worse (TheBest c f) b (form b)) inner_part)) end
+      ∙ ap (λ g. or_later (last_worse (TheBest c f) b g) inner_part) w
+      ∙ ap (λ z. or_later (worse_line (last c.search) z) inner_part) below_end
+      ∙ ap (λ o. or_later o (inner_reason (TheBest c f) b)) inside
       ∙ ap (λ o. option_map (λ p. Worse p) o) worse
 
   -- a lean line is the box's line
-  pub lean_fixes : (h : Head) (y : ℕ) (l : TreeLine) → IsPart b c.model.cells → h.aim ≡ goal_aim c → IsChecked l → KeepsRule c.model c.spans h y b l →
-      IsLeanLine c (goal_aim c) f b l → l ≡ line_of c (goal_aim c) (kept c f c.warm) b
+  pub lean_fixes : (h : Head) (y : ℕ) (l : TreeLine) → IsPart b c.search.model.cells → h.aim ≡ BestOf c.goal → IsChecked l →
+      KeepsRule c.search.model c.search.spans h y b l →
+      IsLeanLine (TheBest c f) b l → l ≡ line_of (TheBest c (kept c f c.warm)) b
   lean_fixes h y (Split k t) i a ch r n =
       sym (line_is
-      ∙ ap (λ o. unwrap_or o (branch_at c b (form b))) (no_reason k t n.2 n.0)
-      ∙ ap (λ g. branch_at c b g) n.2
+      ∙ ap (λ o. unwrap_or o (branch_at c.search b (form b))) (no_reason k t n.2 n.0)
+      ∙ ap (λ g. branch_at c.search b g) n.2
       ∙ ap (λ o. unwrap_or (option_map removal_line o) (Split k t)) n.1)
   lean_fixes h y (Remove k v j) i a ch r n = sym (line_is ∙ go (form b) refl)
     where
-      go : (g : Form) → form b ≡ g → unwrap_or (first_reason c (goal_aim c) f b) (branch_at c b (form b)) ≡ Remove k v j
-      go (Alone x) w = absurd (drop_not_alone c.model c.spans k v j b x i r w)
+      go : (g : Form) → form b ≡ g → unwrap_or (first_reason (TheBest c f) b) (branch_at c.search b (form b)) ≡ Remove k v j
+      go (Alone x) w = absurd (drop_not_alone c.search.model c.search.spans k v j b x i r w)
       go (Wide first t) w =
-          ap (λ o. unwrap_or o (branch_at c b (form b))) (no_reason first t w n.0)
-          ∙ ap (λ g. branch_at c b g) w
+          ap (λ o. unwrap_or o (branch_at c.search b (form b))) (no_reason first t w n.0)
+          ∙ ap (λ g. branch_at c.search b g) w
           ∙ ap (λ o. unwrap_or (option_map removal_line o) (Split first t)) n.1
-  lean_fixes h y (No j p) i a ch r n = sym (line_is ∙ ap (λ o. unwrap_or o (branch_at c b (form b))) n)
-  lean_fixes h y (Worse p) i a ch r n = sym (line_is ∙ ap (λ o. unwrap_or o (branch_at c b (form b))) n)
+  lean_fixes h y (No j p) i a ch r n = sym (line_is ∙ ap (λ o. unwrap_or o (branch_at c.search b (form b))) n)
+  lean_fixes h y (Worse p) i a ch r n = sym (line_is ∙ ap (λ o. unwrap_or o (branch_at c.search b (form b))) n)
   lean_fixes h y Yes i a ch r n = absurd (subst (λ z. IsListing z) a r.listing)
   lean_fixes h y Unsearched i a ch r n = absurd ch
 
@@ -243,68 +238,72 @@ reason_first_no c b (suc n) j = go (least (λ p. is_refuted_at c j p b) (inner c
     go None r h = h
     go (Some p) r h = tt
 
-reason_end : (c : Search) (f : Option Find) (b : Box) (g : Form) → GivesReason (last_worse c (BestOf c.goal) f b g)
+reason_end : (c : Contest) (f : Option Find) (b : Box) (g : Form) → GivesReason (last_worse (TheBest c f) b g)
 reason_end c f b (Alone x) = tt
-reason_end c f b (Wide k t) = elim (below c f (last c) b) as (λ z. GivesReason (worse_line (last c) z)) [ true ↦ tt | false ↦ tt ]
+reason_end c f b (Wide k t) =
+    elim (below (TheBest c f) (last c.search) b) as (λ z. GivesReason (worse_line (last c.search) z)) [ true ↦ tt | false ↦ tt ]
 
 worse_none : (p : ℕ) (t : Bool) → worse_line p t ≡ None → t ≡ false
 worse_none p true e = absurd (let k : ◌≡◌ {A = Option TreeLine} (Some (Worse p)) None = e in cc)
 worse_none p false e = refl
 
-pub by_reason : (c : Search) (aim : Aim) (f : Option Find) (b : Box) (l : TreeLine) → IsReason l → first_reason c aim f b ≡ Some l → IsLeanLine c aim f b l
-by_reason c aim f b (Split k t) r q = absurd r
-by_reason c aim f b (Remove k v j) r q = absurd r
-by_reason c aim f b (No j p) r q = q
-by_reason c aim f b (Worse p) r q = q
-by_reason c aim f b Yes r q = absurd r
-by_reason c aim f b Unsearched r q = absurd r
+pub by_reason : (q : Sought) (b : Box) (l : TreeLine) → IsReason l → first_reason q b ≡ Some l → IsLeanLine q b l
+by_reason q b (Split k t) r e = absurd r
+by_reason q b (Remove k v j) r e = absurd r
+by_reason q b (No j p) r e = e
+by_reason q b (Worse p) r e = e
+by_reason q b Yes r e = absurd r
+by_reason q b Unsearched r e = absurd r
 
-pub branch_lean : (c : Search) (aim : Aim) (f : Option Find) (b : Box) (k : ℕ) (t : ℤ) → form b ≡ Wide k t → IsFree c aim f b → (o : Option Removal) →
-    next_drop c.model c.spans b ≡ o → IsLeanLine c aim f b (unwrap_or (option_map removal_line o) (Split k t))
-branch_lean c aim f b k t w h None q = (h, q, w)
-branch_lean c aim f b k t w h (Some r) q = (h, q)
+pub branch_lean : (q : Sought) (b : Box) (k : ℕ) (t : ℤ) → form b ≡ Wide k t → IsFree q b → (o : Option Removal) →
+    next_drop (search_in q).model (search_in q).spans b ≡ o → IsLeanLine q b (unwrap_or (option_map removal_line o) (Split k t))
+branch_lean q b k t w h None e = (h, e, w)
+branch_lean q b k t w h (Some r) e = (h, e)
 
-module _ (c : Search) (f : Option Find) (b : Box) (i : IsPart b c.model.cells) where
+module _ (c : Contest) (f : Option Find) (b : Box) (i : IsPart b c.search.model.cells) where
   abbrev no_last : Option TreeLine
-  no_last = option_map (λ j. No j (last c)) (refuted_last c b)
+  no_last = option_map (λ j. No j (last c.search)) (refuted_last c.search b)
 
   abbrev inner_lines : Option TreeLine
-  inner_lines = or_later (first_no c b (requirements c) 1) (inner_reason c (goal_aim c) f b)
+  inner_lines = or_later (first_no c.search b (requirements c.search) 1) (inner_reason (TheBest c f) b)
 
-  gives_reason : GivesReason (first_reason c (goal_aim c) f b)
+  gives_reason : GivesReason (first_reason (TheBest c f) b)
   gives_reason =
-      reason_later no_last (or_later (last_worse c (goal_aim c) f b (form b)) inner_lines) (reason_no (refuted_last c b) (last c))
-      (reason_later (last_worse c (goal_aim c) f b (form b)) inner_lines (reason_end c f b (form b))
-      (reason_later (first_no c b (requirements c) 1) (inner_reason c (goal_aim c) f b) (reason_first_no c b (requirements c) 1)
-      (reason_worse (least (λ p. below c f p b) (inner c) 1))))
+      reason_later no_last (or_later (last_worse (TheBest c f) b (form b)) inner_lines) (reason_no (refuted_last c.search b) (last c.search))
+      (reason_later (last_worse (TheBest c f) b (form b)) inner_lines (reason_end c f b (form b))
+      (reason_later (first_no c.search b (requirements c.search) 1) (inner_reason (TheBest c f) b) (reason_first_no c.search b (requirements c.search) 1)
+      (reason_worse (least (λ p. below (TheBest c f) p b) (inner c.search) 1))))
 
-  free_if_none : (k : ℕ) (t : ℤ) → form b ≡ Wide k t → first_reason c (goal_aim c) f b ≡ None → IsFree c (goal_aim c) f b
+  below_cell : (p : ℕ) → below (TheBest c f) p b ≡ true → HasCell p b
+  below_cell p e = cut_cell c (bar_of (kept c f c.warm) c.warm) b p (sym (one_bar c p b f c.warm) ∙ e)
+
+  free_if_none : (k : ℕ) (t : ℤ) → form b ≡ Wide k t → first_reason (TheBest c f) b ≡ None → IsFree (TheBest c f) b
   free_if_none k t w q =
-      let a = or_none no_last (or_later (last_worse c (goal_aim c) f b (form b)) inner_lines) q in
-      let d = or_none (last_worse c (goal_aim c) f b (form b)) inner_lines a.1 in
-      let g = or_none (first_no c b (requirements c) 1) (inner_reason c (goal_aim c) f b) d.1 in
-      let end = map_none (λ j. No j (last c)) (refuted_last c b) a.0 in
-      let below_end = or_parts (below_told c f (last c) b) (below_warm c c.warm (last c) b)
-      (worse_none (last c) (below c f (last c) b) (subst (λ z. last_worse c (goal_aim c) f b z ≡ None) w d.0)) in
-      let worse = none_least (λ p. below c f p b) (inner c) 1 (map_none (λ p. Worse p) (least (λ p. below c f p b) (inner c) 1) g.1) in
-      let parts = λ (p : ℕ) (o : 1 ≤ p) (m : p ≤ inner c). or_parts (below_told c f p b) (below_warm c c.warm p b) (worse p o (omega (arith, m))) in
+      let a = or_none no_last (or_later (last_worse (TheBest c f) b (form b)) inner_lines) q in
+      let d = or_none (last_worse (TheBest c f) b (form b)) inner_lines a.1 in
+      let g = or_none (first_no c.search b (requirements c.search) 1) (inner_reason (TheBest c f) b) d.1 in
+      let end = map_none (λ j. No j (last c.search)) (refuted_last c.search b) a.0 in
+      let below_end =
+      worse_none (last c.search) (below (TheBest c f) (last c.search) b) (subst (λ z. last_worse (TheBest c f) b z ≡ None) w d.0) in
+      let worse = none_least (λ p. below (TheBest c f) p b) (inner c.search) 1
+      (map_none (λ p. Worse p) (least (λ p. below (TheBest c f) p b) (inner c.search) 1) g.1) in
       record {
-        refuted = free_of_no c b i end g.0;
-        told = λ p z. nowhere c b (λ p. below_told c f p b) i (λ p e. cut_cell c f b p e) below_end.0 (λ p o m. (parts p o m).0) p;
-        warm = λ p z. nowhere c b (λ p. below_warm c c.warm p b) i (λ p e. warm_cell c c.warm b p e) below_end.1 (λ p o m. (parts p o m).1) p;
+        refuted = free_of_no c.search b i end g.0;
+        above = λ p. nowhere c.search b (λ p. below (TheBest c f) p b) i below_cell below_end (λ p o m. worse p o (omega (arith, m))) p;
       }
 
   -- the box's line is lean
-  pub lean_has : IsLeanLine c (goal_aim c) f b (line_of c (goal_aim c) (kept c f c.warm) b)
-  lean_has = subst (λ z. IsLeanLine c (goal_aim c) f b z) (sym (line_is c f b)) (go (first_reason c (goal_aim c) f b) refl gives_reason)
+  pub lean_has : IsLeanLine (TheBest c f) b (line_of (TheBest c (kept c f c.warm)) b)
+  lean_has = subst (λ z. IsLeanLine (TheBest c f) b z) (sym (line_is c f b)) (go (first_reason (TheBest c f) b) refl gives_reason)
     where
-      wide : (g : Form) → form b ≡ g → first_reason c (goal_aim c) f b ≡ None → IsLeanLine c (goal_aim c) f b (branch_at c b g)
+      wide : (g : Form) → form b ≡ g → first_reason (TheBest c f) b ≡ None → IsLeanLine (TheBest c f) b (branch_at c.search b g)
       wide (Alone x) w q =
-          absurd (let a = or_none no_last (or_later (last_worse c (goal_aim c) f b (form b)) inner_lines) q in
-          let d = or_none (last_worse c (goal_aim c) f b (form b)) inner_lines a.1 in
-          let k : ◌≡◌ {A = Option TreeLine} (Some (Worse (last c))) None = subst (λ z. last_worse c (goal_aim c) f b z ≡ None) w d.0 in cc)
-      wide (Wide k t) w q = branch_lean c (goal_aim c) f b k t w (free_if_none k t w q) (next_drop c.model c.spans b) refl
+          absurd (let a = or_none no_last (or_later (last_worse (TheBest c f) b (form b)) inner_lines) q in
+          let d = or_none (last_worse (TheBest c f) b (form b)) inner_lines a.1 in
+          let k : ◌≡◌ {A = Option TreeLine} (Some (Worse (last c.search))) None = subst (λ z. last_worse (TheBest c f) b z ≡ None) w d.0 in cc)
+      wide (Wide k t) w q =
+          branch_lean (TheBest c f) b k t w (free_if_none k t w q) (next_drop c.search.model c.search.spans b) refl
 
-      go : (o : Option TreeLine) → first_reason c (goal_aim c) f b ≡ o → GivesReason o → IsLeanLine c (goal_aim c) f b (unwrap_or o (branch_at c b (form b)))
+      go : (o : Option TreeLine) → first_reason (TheBest c f) b ≡ o → GivesReason o → IsLeanLine (TheBest c f) b (unwrap_or o (branch_at c.search b (form b)))
       go None q r = wide (form b) refl q
-      go (Some l) q r = by_reason c (goal_aim c) f b l r q
+      go (Some l) q r = by_reason (TheBest c f) b l r q

@@ -7,7 +7,6 @@ use Rattle.std.specs.List.{AllByRecursion}
 use Rattle.ts_base.specs.declared.ext.Ext.{Ext}
 use Rattle.ts_base.specs.declared.ext.Ext.TheVariants.{NegInf}
 use Rattle.ts_base.specs.declared.goal.Goal.{Goal}
-use Rattle.ts_certificate.specs.declared.certificate.Aim.TheVariants.{Best as BestOf}
 use Rattle.ts_domain.specs.BoxSeries.{InBox}
 use Rattle.ts_model.specs.TermValue.{stated_value}
 use Rattle.ts_model.specs.declared.model.Require.{Require}
@@ -24,7 +23,7 @@ use Rattle.ts_filter.proofs.SoundLaws.{values_are_sound, singles_are_exact, clas
 use Rattle.ts_search.specs.RightSpans.{AreRight}
 use Rattle.ts_search.specs.Dive.{value_of}
 use Rattle.ts_frontier.specs.Forms.{Alone, form}
-use Rattle.ts_search.specs.LineOf.{Search, search_for, last, requirements, is_refuted_at, is_cut_at}
+use Rattle.ts_search.specs.LineOf.{Search, Contest, contest_for, last, requirements, is_refuted_at, is_cut_at}
 use Rattle.ts_search.proofs.DiveLaws.{dive_fits}
 use Rattle.ts_search.proofs.Known.{Known, KnownBest, from_refuted, from_cut}
 use Rattle.ts_search.proofs.Parts.{alone_is, alone_within}
@@ -93,31 +92,34 @@ module _ (c : Search) (right : AreRight c.model c.spans) where
   pub known : Known c
   known = record { box = right.box; sound = values_are_sound c.model c.spans right.holds; single = single }
 
-  cut_single : IsSome c.model.objective → (b : Box) (bar : Bar) (x : List ℤ) → IsPart b c.model.cells → form b ≡ Alone x → is_cut_at c (last c) b bar ≡ false →
-      counts c.goal bar (value_of c.model x) ≡ true
-  cut_single some b bar x i e k = go (counts c.goal bar (value_of c.model x)) refl
+module _ (c : Contest) (right : AreRight c.search.model c.search.spans) where
+  cut_single : IsSome c.search.model.objective → (b : Box) (bar : Bar) (x : List ℤ) → IsPart b c.search.model.cells → form b ≡ Alone x →
+      is_cut_at c (last c.search) b bar ≡ false →
+      counts c.goal bar (value_of c.search.model x) ≡ true
+  cut_single some b bar x i e k = go (counts c.goal bar (value_of c.search.model x)) refl
     where
-      within : InBox x c.model.cells
-      within = in_box_inside b c.model.cells x i.inside (alone_within c.model.cells b x i e)
+      within : InBox x c.search.model.cells
+      within = in_box_inside b c.search.model.cells x i.inside (alone_within c.search.model.cells b x i e)
 
-      go : (t : Bool) → counts c.goal bar (value_of c.model x) ≡ t → counts c.goal bar (value_of c.model x) ≡ true
+      go : (t : Bool) → counts c.goal bar (value_of c.search.model x) ≡ t → counts c.goal bar (value_of c.search.model x) ≡ true
       go true q = q
       go false q =
-          let n : length x ≡ last c = series_length x c.model.cells within in
-          let is = ((singles_are_exact c.model c.spans right.whole right.single).cut c.goal bar x (value_of c.model x) within
-          (valued c.model c.spans right x some)).1 q in
-          absurd (clash (is_cut_at c (last c) b bar)
-          (subst (λ z. is_cut_at c (last c) z bar ≡ true) (sym (alone_is c.model.cells b x i e))
+          let n : length x ≡ last c.search = series_length x c.search.model.cells within in
+          let is = ((singles_are_exact c.search.model c.search.spans right.whole right.single).cut c.goal bar x (value_of c.search.model x) within
+          (valued c.search.model c.search.spans right x some)).1 q in
+          absurd (clash (is_cut_at c (last c.search) b bar)
+          (subst (λ z. is_cut_at c (last c.search) z bar ≡ true) (sym (alone_is c.search.model.cells b x i e))
           (subst (λ z. is_cut_at c z (box_of x) bar ≡ true) n (from_cut c (length x) (box_of x) bar is))) k)
 
-  pub known_best : IsSome c.model.objective → MatchOption c.warm (Unit {0}) (λ w. Meets c.model w.series × (w.value ≡ value_of c.model w.series)) → KnownBest c
+  pub known_best : IsSome c.search.model.objective →
+      MatchOption c.warm (Unit {0}) (λ w. Meets c.search.model w.series × (w.value ≡ value_of c.search.model w.series)) → KnownBest c
   known_best some warm = record {
-    known = known;
-    valued = λ x h. valued c.model c.spans right x some;
+    known = known c.search right;
+    valued = λ x h. valued c.search.model c.search.spans right x some;
     cut_single = cut_single some;
     warm = warm;
   }
 
 -- of the search for the best, with the dive's series
-pub best_known : (m : ModelParts) (s : Spans) (goal : Goal) → AreRight m s → IsSome m.objective → KnownBest (search_for m s (BestOf goal))
-best_known m s goal right some = known_best (search_for m s (BestOf goal)) right some (dive_fits m s goal right.box)
+pub best_known : (m : ModelParts) (s : Spans) (goal : Goal) → AreRight m s → IsSome m.objective → KnownBest (contest_for m s goal)
+best_known m s goal right some = known_best (contest_for m s goal) right some (dive_fits m s goal right.box)

@@ -3,7 +3,6 @@ use Rattle.std.proofs.Common.{◌≡◌, ◌⊎◌, ℕ, zero, suc, ◌+◌, ◌
 use Rattle.std.proofs.lemmas.List.{length_push}
 use Rattle.std.specs.Prelude.{IsSome}
 use Rattle.ts_base.specs.declared.ext.Ext.{Ext}
-use Rattle.ts_certificate.specs.declared.certificate.Aim.{Aim}
 use Rattle.ts_certificate.specs.declared.certificate.Aim.TheVariants.{Best as BestOf}
 use Rattle.ts_certificate.specs.declared.certificate.Claim.{Claim}
 use Rattle.ts_certificate.specs.declared.certificate.Claim.TheVariants.{Best, Infeasible, BudgetBest, BudgetNone}
@@ -19,7 +18,7 @@ use Rattle.ts_filter.specs.Steps.{Steps}
 use Rattle.ts_filter.proofs.TreeLaws.{tree_is_steps, steps_go_on}
 use Rattle.ts_search.specs.Dive.{Find, value_of}
 use Rattle.ts_search.specs.Found.{tally, told_or_warm, found_in}
-use Rattle.ts_search.specs.LineOf.{Search, line_of}
+use Rattle.ts_search.specs.LineOf.{Contest, TheBest, line_of}
 use Rattle.ts_search.specs.Solved.{IsSolvedBy}
 use Rattle.ts_search.specs.Turns.{State, turn_on, turn, turns, start, left_open, found_or_warm, series_of, budget_claim, solve_certificate}
 use Rattle.ts_search.proofs.Good.{Good, FoundOk, Settled, head_now, found_is_best, good_start, good_turns}
@@ -28,61 +27,63 @@ use Rattle.ts_search.proofs.Walk.{IsChecked, steps_under, tally_open, open_steps
 
 -- the turns end with nothing pending, or with a line for each
 
-pub turns_stop : (c : Search) (aim : Aim) (n : ℕ) (s : State) → s.pending ≡ [] → turns c aim n s ≡ s
-turns_stop c aim zero s at = refl
-turns_stop c aim (suc n) s at =
-    turns_stop c aim n (turn c aim s) (ap (λ z. (turn_on c aim s z).pending) at ∙ at) ∙ ap (λ z. turn_on c aim s z) at
+pub turns_stop : (c : Contest) (n : ℕ) (s : State) → s.pending ≡ [] → turns c n s ≡ s
+turns_stop c zero s at = refl
+turns_stop c (suc n) s at =
+    turns_stop c n (turn c s) (ap (λ z. (turn_on c s z).pending) at ∙ at) ∙ ap (λ z. turn_on c s z) at
 
-pub turns_end : (c : Search) (aim : Aim) (n : ℕ) (s : State) → ((turns c aim n s).pending ≡ []) ⊎ (length (turns c aim n s).lines ≡ length s.lines + n)
-turns_end c aim zero s = inr (omega arith)
-turns_end c aim (suc n) s = go (turns_end c aim n (turn c aim s)) s.pending refl
+pub turns_end : (c : Contest) (n : ℕ) (s : State) → ((turns c n s).pending ≡ []) ⊎ (length (turns c n s).lines ≡ length s.lines + n)
+turns_end c zero s = inr (omega arith)
+turns_end c (suc n) s = go (turns_end c n (turn c s)) s.pending refl
   where
-    go : ((turns c aim n (turn c aim s)).pending ≡ []) ⊎ (length (turns c aim n (turn c aim s)).lines ≡ length (turn c aim s).lines + n) → (w : List Box) →
-        s.pending ≡ w → ((turns c aim (suc n) s).pending ≡ []) ⊎ (length (turns c aim (suc n) s).lines ≡ length s.lines + suc n)
+    go : ((turns c n (turn c s)).pending ≡ []) ⊎ (length (turns c n (turn c s)).lines ≡ length (turn c s).lines + n) → (w : List Box) →
+        s.pending ≡ w → ((turns c (suc n) s).pending ≡ []) ⊎ (length (turns c (suc n) s).lines ≡ length s.lines + suc n)
     go r [] at =
-        let stay : (turn c aim s).pending ≡ [] = ap (λ z. (turn_on c aim s z).pending) at ∙ at in
-        inl (ap (λ (z : State). z.pending) (turns_stop c aim n (turn c aim s) stay) ∙ stay)
+        let stay : (turn c s).pending ≡ [] = ap (λ z. (turn_on c s z).pending) at ∙ at in
+        inl (ap (λ (z : State). z.pending) (turns_stop c n (turn c s) stay) ∙ stay)
     go r (b ∷ u) at =
-        let more : length (turn c aim s).lines ≡ length s.lines + 1 =
-        ap (λ z. length (turn_on c aim s z).lines) at ∙ length_push s.lines (line_of c aim s.found b) in
+        let more : length (turn c s).lines ≡ length s.lines + 1 =
+        ap (λ z. length (turn_on c s z).lines) at ∙ length_push s.lines (line_of (TheBest c s.found) b) in
         ⊎_elim (λ e. inl e) (λ e. inr (omega arith)) r
 
-pub turns_few : (c : Search) (aim : Aim) (n : ℕ) (s : State) → length (turns c aim n s).lines ≤ length s.lines + n
-turns_few c aim zero s = omega arith
-turns_few c aim (suc n) s = go (turns_few c aim n (turn c aim s)) s.pending refl
+pub turns_few : (c : Contest) (n : ℕ) (s : State) → length (turns c n s).lines ≤ length s.lines + n
+turns_few c zero s = omega arith
+turns_few c (suc n) s = go (turns_few c n (turn c s)) s.pending refl
   where
-    go : length (turns c aim n (turn c aim s)).lines ≤ length (turn c aim s).lines + n → (w : List Box) → s.pending ≡ w →
-        length (turns c aim (suc n) s).lines ≤ length s.lines + suc n
+    go : length (turns c n (turn c s)).lines ≤ length (turn c s).lines + n → (w : List Box) → s.pending ≡ w →
+        length (turns c (suc n) s).lines ≤ length s.lines + suc n
     go r [] at =
-        let stay : (turn c aim s).pending ≡ [] = ap (λ z. (turn_on c aim s z).pending) at ∙ at in
-        let e = ap (λ (z : State). length z.lines) (turns_stop c aim n (turn c aim s) stay) in
-        let d : length (turn c aim s).lines ≡ length s.lines = ap (λ z. length (turn_on c aim s z).lines) at in
+        let stay : (turn c s).pending ≡ [] = ap (λ z. (turn_on c s z).pending) at ∙ at in
+        let e = ap (λ (z : State). length z.lines) (turns_stop c n (turn c s) stay) in
+        let d : length (turn c s).lines ≡ length s.lines = ap (λ z. length (turn_on c s z).lines) at in
         omega arith
     go r (b ∷ u) at =
-        let more : length (turn c aim s).lines ≡ length s.lines + 1 =
-        ap (λ z. length (turn_on c aim s z).lines) at ∙ length_push s.lines (line_of c aim s.found b) in
+        let more : length (turn c s).lines ≡ length s.lines + 1 =
+        ap (λ z. length (turn_on c s z).lines) at ∙ length_push s.lines (line_of (TheBest c s.found) b) in
         omega arith
 
 -- the parts of a certificate
 
-abbrev solve_cert : Search → Claim → List (List ℤ) → List TreeLine → Cert
+abbrev solve_cert : Contest → Claim → List (List ℤ) → List TreeLine → Cert
 solve_cert c claim series ls = record { aim = BestOf c.goal; claim = claim; series = series; tree = ls }
 
-abbrev head : Search → Claim → List (List ℤ) → Head
+abbrev head : Contest → Claim → List (List ℤ) → Head
 head c claim series = record { aim = BestOf c.goal; claim = claim; series = series }
 
-module _ (c : Search) where
-  to_tree : (claim : Claim) (xs : List (List ℤ)) (ls : List TreeLine) → Steps c.model c.spans (head c claim xs) (c.model.cells ∷ []) 0 ls [] 0 →
-      HasTree c.model c.spans (solve_cert c claim xs ls)
+module _ (c : Contest) where
+  to_tree : (claim : Claim) (xs : List (List ℤ)) (ls : List TreeLine) →
+      Steps c.search.model c.search.spans (head c claim xs) (c.search.model.cells ∷ []) 0 ls [] 0 →
+      HasTree c.search.model c.search.spans (solve_cert c claim xs ls)
   to_tree claim xs ls f =
-      let t = (tree_is_steps c.model c.spans (head c claim xs) c.model.cells ls 0).1 f in
+      let t = (tree_is_steps c.search.model c.search.spans (head c claim xs) c.search.model.cells ls 0).1 f in
       record { tree = t.0; lines = t.1; fits = t.2; told = tt }
 
   -- the rules of checked lines ask the claim's value alone
   same_value : (claim other : Claim) (xs ys : List (List ℤ)) →
-      ((p : ℕ) (b : Box) → MatchOption (claimed_value claim) ⊥ (λ v. IsWorseFor c.model c.spans (BestOf c.goal) v p b) →
-      MatchOption (claimed_value other) ⊥ (λ v. IsWorseFor c.model c.spans (BestOf c.goal) v p b)) →
-      (y : ℕ) (b : Box) (l : TreeLine) → IsChecked l → KeepsRule c.model c.spans (head c claim xs) y b l → KeepsRule c.model c.spans (head c other ys) y b l
+      ((p : ℕ) (b : Box) → MatchOption (claimed_value claim) ⊥ (λ v. IsWorseFor c.search.model c.search.spans (BestOf c.goal) v p b) →
+      MatchOption (claimed_value other) ⊥ (λ v. IsWorseFor c.search.model c.search.spans (BestOf c.goal) v p b)) →
+      (y : ℕ) (b : Box) (l : TreeLine) → IsChecked l → KeepsRule c.search.model c.search.spans (head c claim xs) y b l →
+      KeepsRule c.search.model c.search.spans (head c other ys) y b l
   same_value claim other xs ys g y b (Split k t) ch f = f
   same_value claim other xs ys g y b (Remove k v j) ch f = f
   same_value claim other xs ys g y b (No j p) ch f = f
@@ -91,16 +92,16 @@ module _ (c : Search) where
   same_value claim other xs ys g y b Unsearched ch f = absurd ch
 
   abbrev WarmFits : Option Find → Type 0
-  WarmFits warm = MatchOption warm (Unit {0}) (λ w. Meets c.model w.series × (w.value ≡ value_of c.model w.series))
+  WarmFits warm = MatchOption warm (Unit {0}) (λ w. Meets c.search.model w.series × (w.value ≡ value_of c.search.model w.series))
 
   -- with a warm series something is found
-  none_left : (warm : Option Find) → WarmFits warm → ((y : List ℤ) → Meets c.model y → Settled c None warm y) → (y : List ℤ) → Meets c.model y → ⊥
+  none_left : (warm : Option Find) → WarmFits warm → ((y : List ℤ) → Meets c.search.model y → Settled c None warm y) → (y : List ℤ) → Meets c.search.model y → ⊥
   none_left None h g y m = g y m
   none_left (Some w) h g y m =
       never_itself c.goal w.value (subst (λ z. is_better c.goal w.value z ≡ true) (sym h.1) (g w.series h.0))
 
-  none_worse : (warm : Option Find) → WarmFits warm → ((y : List ℤ) → Meets c.model y → Settled c None warm y) → (p : ℕ) (b : Box) →
-      MatchOption (claimed_value (budget_claim warm)) ⊥ (λ v. IsWorseFor c.model c.spans (BestOf c.goal) v p b) → ⊥
+  none_worse : (warm : Option Find) → WarmFits warm → ((y : List ℤ) → Meets c.search.model y → Settled c None warm y) → (p : ℕ) (b : Box) →
+      MatchOption (claimed_value (budget_claim warm)) ⊥ (λ v. IsWorseFor c.search.model c.search.spans (BestOf c.goal) v p b) → ⊥
   none_worse None h g p b k = k
   none_worse (Some w) h g p b k = none_left (Some w) h g w.series h.0
 
@@ -113,18 +114,18 @@ module _ (c : Search) where
   budget_open (Some f) = tt
 
   -- the values of the objective
-  is_value : KnownBest c → (x : List ℤ) (v : Ext) → Meets c.model x → objective_of c.model x ≡ Some v → value_of c.model x ≡ v
-  is_value e x v m h = let k : ◌≡◌ {A = Option Ext} (Some (value_of c.model x)) (Some v) = sym (e.valued x m.inside) ∙ h in cc
+  is_value : KnownBest c → (x : List ℤ) (v : Ext) → Meets c.search.model x → objective_of c.search.model x ≡ Some v → value_of c.search.model x ≡ v
+  is_value e x v m h = let k : ◌≡◌ {A = Option Ext} (Some (value_of c.search.model x)) (Some v) = sym (e.valued x m.inside) ∙ h in cc
 
 -- what a certificate has, but for being lean
-pub record HasClaim (c : Search) (n : ℕ) (cert : Cert) : Type 0 where
+pub record HasClaim (c : Contest) (n : ℕ) (cert : Cert) : Type 0 where
   pub aim : cert.aim ≡ BestOf c.goal
-  pub accepts : Accepts c.model c.spans cert
+  pub accepts : Accepts c.search.model c.search.spans cert
   pub within : checked_count cert.tree ≤ n
   pub claim : IsSolvedBy c n cert.claim cert.series cert.tree
 
-solved_budget : (c : Search) → KnownBest c → IsSome c.model.objective → (n : ℕ) (o : Option Find) (ls : List TreeLine) →
-    Steps c.model c.spans (head c (budget_claim o) (series_of o)) (c.model.cells ∷ []) 0 ls [] 0 →
+solved_budget : (c : Contest) → KnownBest c → IsSome c.search.model.objective → (n : ℕ) (o : Option Find) (ls : List TreeLine) →
+    Steps c.search.model c.search.spans (head c (budget_claim o) (series_of o)) (c.search.model.cells ∷ []) 0 ls [] 0 →
     WarmFits c o → checked_count ls ≡ n → 0 < open_count ls → found_in c ls ≡ o → HasClaim c n (solve_cert c (budget_claim o) (series_of o) ls)
 solved_budget c e some n None ls st h k p f = record {
   aim = refl;
@@ -145,14 +146,14 @@ solved_budget c e some n (Some w) ls st h k p f = record {
   claim = (w.series, refl, k, p, f);
 }
 
-found_end : (c : Search) → KnownBest c → IsSome c.model.objective → (n : ℕ) (ls : List TreeLine) (f : Find) →
+found_end : (c : Contest) → KnownBest c → IsSome c.search.model.objective → (n : ℕ) (ls : List TreeLine) (f : Find) →
     Good c (record { lines = ls; pending = []; found = Some f }) →
     length ls ≤ n → HasClaim c n (solve_cert c (Best f.value) (f.series ∷ []) (ls ++ []))
 found_end c e some n ls f g few =
-    let all = c.model.cells ∷ [] in
+    let all = c.search.model.cells ∷ [] in
     let here = g.found_ok in
     let h = head c (Best f.value) (f.series ∷ []) in
-    let st = steps_under c.model c.spans (head_now c (Some f)) h
+    let st = steps_under c.search.model c.search.spans (head_now c (Some f)) h
     (same_value c (BudgetBest f.value) (Best f.value) [] (f.series ∷ []) (λ p b k. k)) ls 0 all [] 0 g.all_checked g.stepped in
     let checked : checked_count (ls ++ []) ≡ length ls = checked_open ls [] g.all_checked in
     let value = e.valued f.series here.meets.inside ∙ ap Some (sym here.value) in
@@ -163,16 +164,16 @@ found_end c e some n ls f g few =
         claim = tt;
         count = refl;
         series = (record { meets = here.meets; claimed = value }, tt);
-        tree = to_tree c (Best f.value) (f.series ∷ []) (ls ++ []) (subst (λ z. Steps c.model c.spans h all 0 z [] 0) (sym (append-nil ls)) st);
+        tree = to_tree c (Best f.value) (f.series ∷ []) (ls ++ []) (subst (λ z. Steps c.search.model c.search.spans h all 0 z [] 0) (sym (append-nil ls)) st);
       };
       within = omega arith;
       claim = (f.series, refl, first, value, opens_open ls [] g.all_checked);
     }
   where
-    treated : (y : List ℤ) → Meets c.model y → Settled c (Some f) c.warm y
+    treated : (y : List ℤ) → Meets c.search.model y → Settled c (Some f) c.warm y
     treated y m = ⊎_elim (λ i. absurd i) (λ z. z) (g.settled y m)
 
-    first : FirstBest c.model c.goal f.series
+    first : FirstBest c.search.model c.goal f.series
     first = record {
       meets = g.found_ok.meets;
       value = f.value;
@@ -181,12 +182,13 @@ found_end c e some n ls f g few =
       first = λ y m h. (treated y m).1 (is_value c e y f.value m h);
     }
 
-none_end : (c : Search) → KnownBest c → IsSome c.model.objective → (n : ℕ) (ls : List TreeLine) → Good c (record { lines = ls; pending = []; found = None }) →
+none_end : (c : Contest) → KnownBest c → IsSome c.search.model.objective → (n : ℕ) (ls : List TreeLine) →
+    Good c (record { lines = ls; pending = []; found = None }) →
     length ls ≤ n → HasClaim c n (solve_cert c Infeasible [] (ls ++ []))
 none_end c e some n ls g few =
-    let all = c.model.cells ∷ [] in
+    let all = c.search.model.cells ∷ [] in
     let h = head c Infeasible [] in
-    let st = steps_under c.model c.spans (head_now c None) h
+    let st = steps_under c.search.model c.search.spans (head_now c None) h
     (same_value c (budget_claim c.warm) Infeasible [] [] (λ p b k. none_worse c c.warm e.warm treated p b k)) ls 0 all [] 0 g.all_checked g.stepped in
     let checked : checked_count (ls ++ []) ≡ length ls = checked_open ls [] g.all_checked in
     record {
@@ -196,30 +198,32 @@ none_end c e some n ls g few =
         claim = tt;
         count = refl;
         series = tt;
-        tree = to_tree c Infeasible [] (ls ++ []) (subst (λ z. Steps c.model c.spans h all 0 z [] 0) (sym (append-nil ls)) st);
+        tree = to_tree c Infeasible [] (ls ++ []) (subst (λ z. Steps c.search.model c.search.spans h all 0 z [] 0) (sym (append-nil ls)) st);
       };
       within = omega arith;
       claim = (refl, λ y m. none_left c c.warm e.warm treated y m);
     }
   where
-    treated : (y : List ℤ) → Meets c.model y → Settled c None c.warm y
+    treated : (y : List ℤ) → Meets c.search.model y → Settled c None c.warm y
     treated y m = ⊎_elim (λ i. absurd i) (λ z. z) (g.settled y m)
 
-solved_end : (c : Search) → KnownBest c → IsSome c.model.objective → (n : ℕ) (ls : List TreeLine) (w : List Box) (found : Option Find) →
+solved_end : (c : Contest) → KnownBest c → IsSome c.search.model.objective → (n : ℕ) (ls : List TreeLine) (w : List Box) (found : Option Find) →
     Good c (record { lines = ls; pending = w; found = found }) → length ls ≤ n → ((w ≡ []) ⊎ (length ls ≡ n)) →
     HasClaim c n (solve_certificate c (record { lines = ls; pending = w; found = found }))
 solved_end c e some n ls [] (Some f) g few end = found_end c e some n ls f g few
 solved_end c e some n ls [] None g few end = none_end c e some n ls g few
 solved_end c e some n ls (b ∷ u) found g few end =
-    let all = c.model.cells ∷ [] in
+    let all = c.search.model.cells ∷ [] in
     let o = found_or_warm found c.warm in
     let h = head c (budget_claim o) (series_of o) in
-    let st = steps_under c.model c.spans (head_now c found) h (same_value c (budget_claim o) (budget_claim o) [] (series_of o) (λ p d k. k)) ls 0 all
+    let st = steps_under c.search.model c.search.spans (head_now c found) h
+    (same_value c (budget_claim o) (budget_claim o) [] (series_of o) (λ p d k. k)) ls 0 all
     (b ∷ u) 0 g.all_checked g.stepped in
     let full : length ls ≡ n = ⊎_elim (λ q. absurd (let z : ◌≡◌ {A = List Box} (b ∷ u) [] = q in cc)) (λ q. q) end in
     let long : open_count (ls ++ left_open (b ∷ u)) ≡ suc (length u) = opens_open ls (b ∷ u) g.all_checked in
     solved_budget c e some n o (ls ++ left_open (b ∷ u))
-    (steps_go_on c.model c.spans h ls (left_open (b ∷ u)) all (b ∷ u) [] 0 0 0 st (open_steps c.model c.spans h (budget_open c o) (b ∷ u) 0))
+    (steps_go_on c.search.model c.search.spans h ls (left_open (b ∷ u)) all (b ∷ u) [] 0 0 0 st
+    (open_steps c.search.model c.search.spans h (budget_open c o) (b ∷ u) 0))
     (best_fits c e found (b ∷ u) g.found_ok)
     (checked_open ls (b ∷ u) g.all_checked ∙ full)
     (omega arith)
@@ -227,10 +231,10 @@ solved_end c e some n ls (b ∷ u) found g few end =
     ∙ found_is_best c (tally c None all ls) c.warm
     ∙ ap (λ z. found_or_warm z c.warm) (sym g.found_is))
 
-pub solve_solves : (c : Search) (n : ℕ) → KnownBest c → IsSome c.model.objective → HasClaim c n (solve_certificate c (turns c (BestOf c.goal) n (start c)))
+pub solve_solves : (c : Contest) (n : ℕ) → KnownBest c → IsSome c.search.model.objective → HasClaim c n (solve_certificate c (turns c n (start c)))
 solve_solves c n e some =
-    let s = turns c (BestOf c.goal) n (start c) in
-    let few = turns_few c (BestOf c.goal) n (start c) in
-    let end = turns_end c (BestOf c.goal) n (start c) in
+    let s = turns c n (start c) in
+    let few = turns_few c n (start c) in
+    let end = turns_end c n (start c) in
     solved_end c e some n s.lines s.pending s.found (good_turns c e n (start c) (good_start c e.known)) (omega arith)
     (⊎_elim (λ q. inl q) (λ q. inr (omega arith)) end)

@@ -12,7 +12,7 @@ use Rattle.ts_filter.specs.Tree.{told_by}
 use Rattle.ts_search.specs.Dive.{Find}
 use Rattle.ts_frontier.specs.Forms.{form}
 use Rattle.ts_search.specs.Found.{tally_after, tally}
-use Rattle.ts_search.specs.LineOf.{Search}
+use Rattle.ts_search.specs.LineOf.{Contest}
 use Rattle.ts_search.specs.Turns.{left_open}
 
 abbrev pub IsChecked : TreeLine → Type 0
@@ -45,9 +45,9 @@ module _ (m : ModelParts) (s : Spans) where
 
 -- the best told over one more line, and over open lines
 
-module _ (c : Search) where
+module _ (c : Contest) where
   pub tally_snoc : (h : Head) (l : TreeLine) (b : Box) (u : List Box) (ls : List TreeLine) (f : Option Find) (y : ℕ) (w : List Box) (after : ℕ) →
-      Steps c.model c.spans h w y ls (b ∷ u) after → tally c f w (ls ++ l ∷ []) ≡ tally_after c (tally c f w ls) (form b) l
+      Steps c.search.model c.search.spans h w y ls (b ∷ u) after → tally c f w (ls ++ l ∷ []) ≡ tally_after c (tally c f w ls) (form b) l
   tally_snoc h l b u [] f y w after p = ap (λ z. tally c f z (l ∷ [])) p.0
   tally_snoc h l b u (m ∷ ls) f y [] after p = absurd p
   tally_snoc h l b u (m ∷ ls) f y (d ∷ w) after p = tally_snoc h l b u ls (tally_after c f (form d) m) (told_by m y) (made_by m d ++ w) after p.1

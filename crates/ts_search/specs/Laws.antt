@@ -2,7 +2,6 @@
 use Rattle.std.specs.Prelude.{◌≡◌, ◌⊎◌, ℕ, ◌+◌, ◌*◌, ◌<◌, ◌≤◌, ℤ, true, List, Contains, length}
 use Rattle.std.specs.Prelude.{IsSome, Some, None}
 use Rattle.ts_base.specs.declared.goal.Goal.{Goal}
-use Rattle.ts_certificate.specs.declared.certificate.Aim.TheVariants.{Best as BestOf, List as ListOf}
 use Rattle.ts_certificate.specs.declared.certificate.Claim.{Claim}
 use Rattle.ts_certificate.specs.declared.certificate.Claim.TheVariants.{Best, Infeasible, BudgetBest, BudgetNone}
 use Rattle.ts_certificate.specs.declared.certificate.Claim.TheVariants.{Full, All, BudgetList}
@@ -21,7 +20,7 @@ use Rattle.ts_search.specs.RightSpans.{AreRight}
 use Rattle.ts_search.specs.Dive.{Find, promise, kept_value, keep_from, dive_box, dive_end, dive}
 use Rattle.ts_search.specs.Drops.{next_drop, after_drops}
 use Rattle.ts_frontier.specs.Forms.{Alone, form}
-use Rattle.ts_search.specs.LineOf.{Search, search_for, last, requirements, first_no}
+use Rattle.ts_search.specs.LineOf.{Search, search_for, contest_for, last, requirements, first_no}
 use Rattle.ts_search.specs.Listed.{IsListAnswer}
 use Rattle.ts_search.specs.Solved.{IsSolution}
 use Rattle.ts_search.specs.Turns.{start, turns, solve_certificate, list_start, list_turns, list_certificate}
@@ -30,15 +29,15 @@ use Rattle.ts_search.specs.Turns.{start, turns, solve_certificate, list_start, l
 abbrev pub SearchSolves : Type 0
 SearchSolves =
     (m : ModelParts) (s : Spans) (goal : Goal) (n : ℕ) → AreRight m s → IsSome m.objective →
-    IsSolution m s goal n (solve_certificate (search_for m s (BestOf goal))
-    (turns (search_for m s (BestOf goal)) (BestOf goal) n (start (search_for m s (BestOf goal)))))
+    IsSolution m s goal n (solve_certificate (contest_for m s goal)
+    (turns (contest_for m s goal) n (start (contest_for m s goal))))
 
 -- and that of a listing is listed
 abbrev pub SearchLists : Type 0
 SearchLists =
     (m : ModelParts) (s : Spans) (count n : ℕ) → AreRight m s →
     IsListAnswer m s count n (list_certificate count
-    (list_turns (search_for m s (ListOf count)) count n (list_start (search_for m s (ListOf count)))))
+    (list_turns (search_for m s) count n (list_start (search_for m s))))
 
 -- there is one such certificate
 abbrev pub OneSolved : Type 0

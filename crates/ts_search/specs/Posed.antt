@@ -1,11 +1,12 @@
 -- A problem that may be asked.
-use Rattle.std.specs.Prelude.{◌≡◌, ◌≤◌, List, length}
+use Rattle.std.specs.Prelude.{◌≡◌, ◌≤◌, List, Some, length}
 use Rattle.ts_base.specs.Limits.{most_requirements, most_terms}
 use Rattle.ts_bound.specs.TermSpans.{Automata}
 use Rattle.ts_filter.specs.Boxes.{Box, IsPart}
 use Rattle.ts_model.specs.Views.{model_parts}
 use Rattle.ts_spans.specs.Machines.{automata_in, spans_in}
 use Rattle.ts_search.specs.RightSpans.{AreRight}
+use Rattle.ts_search.specs.declared.contest.Contest.{Contest}
 use Rattle.ts_search.specs.declared.problem.Problem.{Problem}
 
 -- the model's terms and requirements are few, and its spans are right
@@ -23,3 +24,7 @@ pub record MayAsk (q : Problem) (machines : List Automata) (b : Box) : Type 0 wh
   pub posed : IsPosed q
   pub part : IsPart b (model_parts q.model.now).cells
   pub tables : AreTablesOf q machines
+
+-- the objective of a contest is the model's
+abbrev pub HasObjective : Contest → Type 0
+HasObjective q = q.problem.model.now.objective ≡ Some q.objective

@@ -14,13 +14,13 @@ use Rattle.ts_filter.specs.Accepts.{Accepts}
 use Rattle.ts_filter.specs.RefutedWorseDrop.{Spans}
 use Rattle.ts_search.specs.Found.{found_in}
 use Rattle.ts_search.specs.Lean.{Lean}
-use Rattle.ts_search.specs.LineOf.{Search, search_for}
+use Rattle.ts_search.specs.LineOf.{Contest, contest_for}
 
-abbrev pub IsSolvedBy : Search → ℕ → Claim → List (List ℤ) → List TreeLine → Type 0
+abbrev pub IsSolvedBy : Contest → ℕ → Claim → List (List ℤ) → List TreeLine → Type 0
 IsSolvedBy c n (Best v) series ls =
-    (x : List ℤ) × (series ≡ x ∷ []) × FirstBest c.model c.goal x × (objective_of c.model x ≡ Some v)
+    (x : List ℤ) × (series ≡ x ∷ []) × FirstBest c.search.model c.goal x × (objective_of c.search.model x ≡ Some v)
     × (open_count ls ≡ 0)
-IsSolvedBy c n Infeasible series ls = (series ≡ []) × ((x : List ℤ) → Meets c.model x → ⊥)
+IsSolvedBy c n Infeasible series ls = (series ≡ []) × ((x : List ℤ) → Meets c.search.model x → ⊥)
 IsSolvedBy c n (BudgetBest v) series ls =
     (x : List ℤ) × (series ≡ x ∷ []) × (checked_count ls ≡ n) × (0 < open_count ls)
     × (found_in c ls ≡ Some (record { series = x; value = v }))
@@ -35,4 +35,4 @@ pub record IsSolution (m : ModelParts) (s : Spans) (goal : Goal) (n : ℕ) (c : 
   pub accepts : Accepts m s c
   pub lean : Lean m s c
   pub within : checked_count c.tree ≤ n
-  pub claim : IsSolvedBy (search_for m s (BestOf goal)) n c.claim c.series c.tree
+  pub claim : IsSolvedBy (contest_for m s goal) n c.claim c.series c.tree

@@ -2,7 +2,6 @@
 -- stands in `Solved` and `Listed`.
 use Rattle.std.specs.Prelude.{ℕ, zero, suc, ℤ, Bool, true, false, cond, nat_lt, List, [], ◌∷◌, ◌++◌, length}
 use Rattle.std.specs.Prelude.{Option, Some, None}
-use Rattle.ts_certificate.specs.declared.certificate.Aim.{Aim}
 use Rattle.ts_certificate.specs.declared.certificate.Aim.TheVariants.{Best as BestOf, List as ListOf}
 use Rattle.ts_certificate.specs.declared.certificate.Claim.{Claim}
 use Rattle.ts_certificate.specs.declared.certificate.Claim.TheVariants.{Best, Infeasible, BudgetBest, BudgetNone}
@@ -15,7 +14,7 @@ use Rattle.ts_filter.specs.Rules.{Head}
 use Rattle.ts_filter.specs.Steps.{made_by}
 use Rattle.ts_search.specs.Dive.{Find, value_of, find}
 use Rattle.ts_frontier.specs.Forms.{Form, Alone, Wide, form}
-use Rattle.ts_search.specs.LineOf.{Search, bar_of, counts_for, line_of}
+use Rattle.ts_search.specs.LineOf.{Search, Contest, TheBest, TheFirst, bar_of, counts_for, line_of}
 
 -- Of the best series.
 
@@ -25,38 +24,38 @@ pub record State : Type 0 where
   pub pending : List Box
   pub found : Option Find
 
-abbrev pub start : Search → State
-start c = record { lines = []; pending = c.model.cells ∷ []; found = None }
+abbrev pub start : Contest → State
+start c = record { lines = []; pending = c.search.model.cells ∷ []; found = None }
 
 -- a box of one series makes it the found one where it counts for the bar
-abbrev pub found_after : Search → Option Find → Form → TreeLine → Option Find
+abbrev pub found_after : Contest → Option Find → Form → TreeLine → Option Find
 found_after c found form (Split k t) = found
 found_after c found form (Remove k v j) = found
 found_after c found form (No j p) = found
 found_after c found (Alone x) (Worse p) =
-    cond (counts_for c (bar_of found c.warm) (value_of c.model x)) (Some (find c.model x)) found
+    cond (counts_for c (bar_of found c.warm) (value_of c.search.model x)) (Some (find c.search.model x)) found
 found_after c found (Wide k t) (Worse p) = found
 found_after c found form Yes = found
 found_after c found form Unsearched = found
 
 -- after a line on the box b, before those behind it
-abbrev pub after : Search → State → Box → List Box → TreeLine → State
+abbrev pub after : Contest → State → Box → List Box → TreeLine → State
 after c s b behind l = record {
   lines = s.lines ++ l ∷ [];
   pending = made_by l b ++ behind;
   found = found_after c s.found (form b) l;
 }
 
-abbrev pub turn_on : Search → Aim → State → List Box → State
-turn_on c aim s [] = s
-turn_on c aim s (b ∷ behind) = after c s b behind (line_of c aim s.found b)
+abbrev pub turn_on : Contest → State → List Box → State
+turn_on c s [] = s
+turn_on c s (b ∷ behind) = after c s b behind (line_of (TheBest c s.found) b)
 
-abbrev pub turn : Search → Aim → State → State
-turn c aim s = turn_on c aim s s.pending
+abbrev pub turn : Contest → State → State
+turn c s = turn_on c s s.pending
 
-abbrev pub turns : Search → Aim → ℕ → State → State
-turns c aim zero s = s
-turns c aim (suc n) s = turns c aim n (turn c aim s)
+abbrev pub turns : Contest → ℕ → State → State
+turns c zero s = s
+turns c (suc n) s = turns c n (turn c s)
 
 -- each box that still waits is `open`
 abbrev pub left_open : List Box → List TreeLine
@@ -79,7 +78,7 @@ abbrev pub budget_claim : Option Find → Claim
 budget_claim None = BudgetNone
 budget_claim (Some f) = BudgetBest f.value
 
-abbrev pub solve_head : Search → Option Find → List Box → Head
+abbrev pub solve_head : Contest → Option Find → List Box → Head
 solve_head c found [] = record { aim = BestOf c.goal; claim = done_claim found; series = series_of found }
 solve_head c found (b ∷ waiting) = record {
   aim = BestOf c.goal;
@@ -90,7 +89,7 @@ solve_head c found (b ∷ waiting) = record {
 abbrev pub under_head : Head → List TreeLine → Cert
 under_head h ls = record { aim = h.aim; claim = h.claim; series = h.series; tree = ls }
 
-abbrev pub solve_certificate : Search → State → Cert
+abbrev pub solve_certificate : Contest → State → Cert
 solve_certificate c s = under_head (solve_head c s.found s.pending) (s.lines ++ left_open s.pending)
 
 -- Of a listing.
@@ -119,13 +118,13 @@ list_after s b behind l = record {
   listed = listed_after s.listed (form b) l;
 }
 
-abbrev pub list_turn_on : Search → ℕ → ListState → List Box → ListState
-list_turn_on c count s [] = s
-list_turn_on c count s (b ∷ behind) = list_after s b behind (line_of c (ListOf count) None b)
+abbrev pub list_turn_on : Search → ListState → List Box → ListState
+list_turn_on c s [] = s
+list_turn_on c s (b ∷ behind) = list_after s b behind (line_of (TheFirst c) b)
 
 -- nothing more as soon as so many series are listed
 abbrev pub list_turn : Search → ℕ → ListState → ListState
-list_turn c count s = cond (nat_lt (length s.listed) count) (list_turn_on c count s s.pending) s
+list_turn c count s = cond (nat_lt (length s.listed) count) (list_turn_on c s s.pending) s
 
 abbrev pub list_turns : Search → ℕ → ℕ → ListState → ListState
 list_turns c count zero s = s

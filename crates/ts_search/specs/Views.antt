@@ -6,10 +6,11 @@ use Rattle.ts_filter.specs.Boxes.{Box, IsPart}
 use Rattle.ts_filter.specs.RefutedWorseDrop.{IsRefuted}
 use Rattle.ts_search.specs.Dive.{Find}
 use Rattle.ts_search.specs.Drops.{after_drops, next_drop}
-use Rattle.ts_search.specs.LineOf.{Search}
+use Rattle.ts_search.specs.LineOf.{Search, Contest}
 use Rattle.ts_search.specs.Turns.{State, ListState}
 use Rattle.ts_search.specs.declared.found.FoundSeries.{FoundSeries}
 use Rattle.ts_search.specs.declared.listing.ListTree.{ListTree}
+use Rattle.ts_search.specs.declared.contest.Contest.{Contest as GivenContest}
 use Rattle.ts_search.specs.declared.problem.Problem.{Problem}
 use Rattle.ts_search.specs.declared.tree.Tree.{Tree}
 
@@ -21,9 +22,10 @@ abbrev pub search_of : Problem → Search
 search_of q = record {
   model = model_parts q.model.now;
   spans = spans_in (model_parts q.model.now);
-  goal = q.goal;
-  warm = find_of q.warm;
 }
+
+abbrev pub contest_of : GivenContest → Contest
+contest_of q = record { search = search_of q.problem; goal = q.goal; warm = find_of q.warm }
 
 abbrev pub state_of : Tree → State
 state_of t = record { lines = t.lines.items; pending = t.frontier.boxes; found = find_of t.found }

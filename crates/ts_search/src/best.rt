@@ -10,8 +10,9 @@ ghost use Rattle.ts_model.specs.Views.{model_parts};
 ghost use Rattle.ts_spans.specs.Machines.{spans_in};
 ghost use Rattle.ts_search.specs.Solved.{IsSolution};
 ghost use Rattle.ts_search.specs.Turns.{budget_claim, done_claim, series_of, solve_certificate};
-ghost use Rattle.ts_search.specs.Views.{find_of, search_of, state_of};
+ghost use Rattle.ts_search.specs.Views.{contest_of, find_of, state_of};
 
+use crate::contest::Contest;
 use crate::dive::dive;
 use crate::found::FoundSeries;
 use crate::problem::{Problem, tables_of};
@@ -41,22 +42,23 @@ pub fn solve(
     ensures { IfOk result
         (λ c. IsSolution (model_parts m.now) (spans_in (model_parts m.now)) goal budget (cert_seen c)) }
 {
-    let mut problem = Problem {
-        model: m,
+    let mut contest = Contest {
+        problem: Problem { model: m },
         goal,
+        objective: m.objective.unwrap(),
         warm: None,
     };
     let mut tables = tables_of(alloc, m, p)?;
-    problem.warm = dive(alloc, &problem, &mut tables)?;
-    let tree = grow(alloc, &problem, &mut tables, budget)?;
-    certificate(alloc, problem, tree)
+    contest.warm = dive(alloc, &contest, &mut tables)?;
+    let tree = grow(alloc, &contest, &mut tables, budget)?;
+    certificate(alloc, contest, tree)
 }
 
 /// The certificate of a tree, each box that still waits being `open`.
-fn certificate(alloc: Global, problem: Problem<'_>, tree: Tree) -> Result<Certificate, Memory>
-    ensures { IfOk result (λ c. cert_seen c ≡ solve_certificate (search_of problem.entry) (state_of tree)) }
+fn certificate(alloc: Global, contest: Contest<'_>, tree: Tree) -> Result<Certificate, Memory>
+    ensures { IfOk result (λ c. cert_seen c ≡ solve_certificate (contest_of contest.entry) (state_of tree)) }
 {
-    let aim = Aim::Best(problem.goal);
+    let aim = Aim::Best(contest.goal);
     let waiting = tree.frontier.waiting();
     let mut lines = tree.lines;
     push_open(&mut lines, waiting)?;
@@ -69,7 +71,7 @@ fn certificate(alloc: Global, problem: Problem<'_>, tree: Tree) -> Result<Certif
             tree: lines,
         });
     }
-    let found = tree.found.or(problem.warm);
+    let found = tree.found.or(contest.warm);
     let claim = budget_claim(&found);
     Ok(Certificate {
         aim,

@@ -6,9 +6,10 @@ ghost use Rattle.ts_filter.specs.Boxes.{IsPart, only};
 ghost use Rattle.ts_search.specs.Dive.{dive, dive_end, kept_value};
 ghost use Rattle.ts_search.specs.Drops.{next_drop};
 ghost use Rattle.ts_frontier.specs.Forms.{form};
-ghost use Rattle.ts_search.specs.Posed.{AreTablesOf, IsPosed, MayAsk};
+ghost use Rattle.ts_search.specs.Posed.{AreTablesOf, HasObjective, IsPosed, MayAsk};
 ghost use Rattle.ts_search.specs.Views.{IsSettled, find_of, search_of};
 
+use crate::contest::Contest;
 use crate::found::FoundSeries;
 use crate::line::refuted_requirement;
 use crate::problem::Problem;
@@ -23,26 +24,27 @@ use ts_frontier::{Form, form_of};
 /// series that is left meets then.
 pub(crate) fn dive(
     alloc: Global,
-    problem: &Problem<'_>,
+    contest: &Contest<'_>,
     tables: &mut AllTables<'_>,
 ) -> Result<Option<FoundSeries>, Memory>
-    requires posed { IsPosed problem.now }
-    requires tables { AreTablesOf problem.now tables.old }
+    requires objective { HasObjective contest.now }
+    requires posed { IsPosed contest.now.problem }
+    requires tables { AreTablesOf contest.now.problem tables.old }
     ensures same { tables.new ≡ tables.old }
-    ensures found { IfOk result (λ found.
-        find_of found ≡ dive (search_of problem.now).model (search_of problem.now).spans problem.now.goal) }
+    ensures found { let s = search_of contest.now.problem in
+        IfOk result (λ found. find_of found ≡ dive s.model s.spans contest.now.goal) }
 {
-    let mut cells = Boxed::new(alloc, &problem.model.cells)?;
-    if !settle(alloc, problem, tables, &mut cells)? {
+    let mut cells = Boxed::new(alloc, &contest.problem.model.cells)?;
+    if !settle(alloc, &contest.problem, tables, &mut cells)? {
         return Ok(None);
     }
     for k in 1..cells.cells() + 1 {
-        keep_one(alloc, problem, tables, k, &mut cells)?;
-        if !settle(alloc, problem, tables, &mut cells)? {
+        keep_one(alloc, contest, tables, k, &mut cells)?;
+        if !settle(alloc, &contest.problem, tables, &mut cells)? {
             return Ok(None);
         }
     }
-    series_left(alloc, problem, &cells)
+    series_left(alloc, contest, &cells)
 }
 
 /// Makes the possible drops, one after the other, and answers whether none is left. It stops before where a
@@ -69,19 +71,19 @@ fn settle(
 /// Leaves cell `k` one value: the one that leaves the objective the best number open.
 fn keep_one(
     alloc: Global,
-    problem: &Problem<'_>,
+    contest: &Contest<'_>,
     tables: &mut AllTables<'_>,
     k: u32,
     cells: &mut Boxed,
 ) -> Result<(), Memory>
-    requires asked { MayAsk problem.now tables.old cells.old.present }
+    requires objective { HasObjective contest.now }
+    requires asked { MayAsk contest.now.problem tables.old cells.old.present }
     requires cell { IsCell k cells.old }
     ensures same { tables.new ≡ tables.old }
-    ensures kept { OnOk result (cells.new.present ≡ only k
-        (kept_value (search_of problem.now).model (search_of problem.now).spans problem.now.goal k cells.old.present)
-        cells.old.present) }
+    ensures kept { let s = search_of contest.now.problem in OnOk result (cells.new.present
+        ≡ only k (kept_value s.model s.spans contest.now.goal k cells.old.present) cells.old.present) }
 {
-    let v = problem.kept_value(alloc, tables, k, cells)?;
+    let v = contest.kept_value(alloc, tables, k, cells)?;
     cells.keep_low(k, v)?;
     cells.keep_high(k, v - 1)?;
     Ok(())
@@ -90,20 +92,21 @@ fn keep_one(
 /// The one series of the box, where it meets.
 fn series_left(
     alloc: Global,
-    problem: &Problem<'_>,
+    contest: &Contest<'_>,
     cells: &Boxed,
 ) -> Result<Option<FoundSeries>, Memory>
-    requires posed { IsPosed problem.now }
-    requires part { IsPart cells.now.present (search_of problem.now).model.cells }
+    requires objective { HasObjective contest.now }
+    requires posed { IsPosed contest.now.problem }
+    requires part { IsPart cells.now.present (search_of contest.now.problem).model.cells }
     ensures { IfOk result
-        (λ found. find_of found ≡ dive_end (search_of problem.now).model (form cells.now.present)) }
+        (λ found. find_of found ≡ dive_end (search_of contest.now.problem).model (form cells.now.present)) }
 {
     let Form::Alone(series) = form_of(alloc, cells)? else {
         return Ok(None);
     };
-    if !judge(alloc, problem.model, &series)?.meets() {
+    if !judge(alloc, contest.problem.model, &series)?.meets() {
         return Ok(None);
     }
-    let value = problem.value(alloc, &series)?;
+    let value = contest.value(alloc, &series)?;
     Ok(Some(FoundSeries { series, value }))
 }

@@ -17,12 +17,12 @@
 #![tactic(auto)]
 
 mod best;
+mod contest;
 mod dive;
 mod found;
 pub mod laws;
 mod line;
 mod listing;
-mod objective;
 mod problem;
 mod tree;
 

@@ -1,11 +1,12 @@
 //! The line of a box: the first of its rules that holds, each asked of the box as it is.
 
-ghost use Rattle.std.specs.Prelude.{◌≡◌, ℕ, IfOk, None};
-ghost use Rattle.ts_certificate.specs.declared.certificate.Aim.TheVariants.{Best as BestOf, List as ListOf};
-ghost use Rattle.ts_search.specs.LineOf.{branch_line, first_no, line_of, refuted_last, requirements, wide_line};
-ghost use Rattle.ts_search.specs.Posed.{MayAsk};
-ghost use Rattle.ts_search.specs.Views.{find_of, search_of};
+ghost use Rattle.std.specs.Prelude.{◌≡◌, IfOk};
+ghost use Rattle.ts_search.specs.LineOf.{TheBest, TheFirst, branch_line, first_no, line_of, refuted_last};
+ghost use Rattle.ts_search.specs.LineOf.{requirements, wide_line};
+ghost use Rattle.ts_search.specs.Posed.{HasObjective, MayAsk};
+ghost use Rattle.ts_search.specs.Views.{contest_of, find_of, search_of};
 
+use crate::contest::Contest;
 use crate::found::FoundSeries;
 use crate::problem::Problem;
 use std::alloc::Global;
@@ -18,32 +19,33 @@ use ts_frontier::{Halving, first_halving};
 /// The line of a box in the search for the best series, where this one was found before.
 pub(crate) fn solve_line(
     alloc: Global,
-    problem: &Problem<'_>,
+    contest: &Contest<'_>,
     tables: &mut AllTables<'_>,
     cells: &Boxed,
     found: &Option<FoundSeries>,
 ) -> Result<TreeLine, Memory>
-    requires { MayAsk problem.now tables.old cells.now.present }
+    requires objective { HasObjective contest.now }
+    requires asked { MayAsk contest.now.problem tables.old cells.now.present }
     ensures same { tables.new ≡ tables.old }
-    ensures line { IfOk result (λ l.
-        l ≡ line_of (search_of problem.now) (BestOf problem.now.goal) (find_of found.now) cells.now.present) }
+    ensures line { IfOk result
+        (λ l. l ≡ line_of (TheBest (contest_of contest.now) (find_of found.now)) cells.now.present) }
 {
-    if let Some(j) = refuted_requirement(alloc, problem, tables, cells)? {
-        let p = problem.last();
+    if let Some(j) = refuted_requirement(alloc, &contest.problem, tables, cells)? {
+        let p = contest.problem.last();
         return Ok(TreeLine::No { j, p });
     }
     let Some(halving) = first_halving(cells) else {
-        let p = problem.last();
+        let p = contest.problem.last();
         return Ok(TreeLine::Worse { p });
     };
-    if problem.is_cut(alloc, tables, found, cells)? {
-        let p = problem.last();
+    if contest.is_cut(alloc, tables, found, cells)? {
+        let p = contest.problem.last();
         return Ok(TreeLine::Worse { p });
     }
-    inner_line(alloc, problem, tables, cells, found, halving)
+    inner_line(alloc, contest, tables, cells, found, halving)
 }
 
-/// The line of a box in a listing, of however many series.
+/// The line of a box in a listing.
 pub(crate) fn listing_line(
     alloc: Global,
     problem: &Problem<'_>,
@@ -52,8 +54,7 @@ pub(crate) fn listing_line(
 ) -> Result<TreeLine, Memory>
     requires { MayAsk problem.now tables.old cells.now.present }
     ensures same { tables.new ≡ tables.old }
-    ensures line { IfOk result (λ l. (count : ℕ) →
-        l ≡ line_of (search_of problem.now) (ListOf count) None cells.now.present) }
+    ensures line { IfOk result (λ l. l ≡ line_of (TheFirst (search_of problem.now)) cells.now.present) }
 {
     if let Some(j) = refuted_requirement(alloc, problem, tables, cells)? {
         let p = problem.last();
@@ -90,24 +91,25 @@ pub(crate) fn refuted_requirement(
 /// The line of a box of several series that is neither refuted nor cut at the last cell.
 fn inner_line(
     alloc: Global,
-    problem: &Problem<'_>,
+    contest: &Contest<'_>,
     tables: &mut AllTables<'_>,
     cells: &Boxed,
     found: &Option<FoundSeries>,
     halving: Halving,
 ) -> Result<TreeLine, Memory>
-    requires { MayAsk problem.now tables.old cells.now.present }
+    requires objective { HasObjective contest.now }
+    requires asked { MayAsk contest.now.problem tables.old cells.now.present }
     ensures same { tables.new ≡ tables.old }
-    ensures line { IfOk result (λ l. l ≡ wide_line (search_of problem.now) (BestOf problem.now.goal) (find_of found.now)
+    ensures line { IfOk result (λ l. l ≡ wide_line (TheBest (contest_of contest.now) (find_of found.now))
         cells.now.present halving.cell halving.at) }
 {
-    if let Some(line) = inner_no(alloc, problem, tables, cells)? {
+    if let Some(line) = inner_no(alloc, &contest.problem, tables, cells)? {
         return Ok(line);
     }
-    if let Some(p) = problem.first_cut(alloc, tables, found, cells)? {
+    if let Some(p) = contest.first_cut(alloc, tables, found, cells)? {
         return Ok(TreeLine::Worse { p });
     }
-    branch(alloc, problem, tables, cells, halving)
+    branch(alloc, &contest.problem, tables, cells, halving)
 }
 
 /// The least requirement that is refuted at a cell below the last, and the least such cell.

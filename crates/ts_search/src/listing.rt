@@ -1,6 +1,6 @@
 //! The first series of a model in lexicographic order, and their certificate.
 
-ghost use Rattle.std.specs.Prelude.{◌≡◌, ℕ, ◌<◌, ◌≤◌, IfOk, List, OnOk, length, map, nat_lt};
+ghost use Rattle.std.specs.Prelude.{◌≡◌, ◌≤◌, IfOk, List, OnOk, length, map, nat_lt};
 ghost use Rattle.std.specs.List.{AllByRecursion};
 ghost use Rattle.ts_certificate.specs.Certificate.{cert_seen};
 ghost use Rattle.ts_certificate.specs.declared.certificate.TreeLine.TheVariants.{Yes as YesLine};
@@ -13,14 +13,15 @@ ghost use Rattle.ts_frontier.specs.Forms.{form};
 ghost use Rattle.ts_search.specs.Listed.{IsListAnswer};
 ghost use Rattle.ts_search.specs.Posed.{AreTablesOf, IsPosed};
 ghost use Rattle.ts_spans.specs.Machines.{spans_in};
-ghost use Rattle.ts_search.specs.Turns.{list_certificate, list_claim, list_start, list_turn, list_turns, listed_after};
+ghost use Rattle.ts_search.specs.Turns.{list_certificate, list_claim, list_start, list_turn_on};
+ghost use Rattle.ts_search.specs.Turns.{list_turns, listed_after};
 ghost use Rattle.ts_search.specs.Views.{list_state_of, search_of};
 
 use crate::best::push_open;
 use crate::line::listing_line;
 use crate::problem::{Problem, tables_of};
 use std::alloc::Global;
-use ts_base::{Goal, Memory};
+use ts_base::Memory;
 use ts_certificate::{Aim, Certificate, Claim, TreeLine};
 use ts_compile::Program;
 use ts_domain::Boxed;
@@ -52,11 +53,7 @@ pub fn list(
     ensures { IfOk result
         (λ c. IsListAnswer (model_parts m.now) (spans_in (model_parts m.now)) count budget (cert_seen c)) }
 {
-    let problem = Problem {
-        model: m,
-        goal: Goal::Maximise,
-        warm: None,
-    };
+    let problem = Problem { model: m };
     let mut tables = tables_of(alloc, m, p)?;
     let tree = list_grow(alloc, &problem, &mut tables, count, budget)?;
     certificate(count, tree)
@@ -95,7 +92,7 @@ fn list_grow(
     Ok(tree)
 }
 
-/// One turn, where fewer series are listed than are asked for: the next box gets its line.
+/// One turn: the next box gets its line.
 fn list_treat(
     alloc: Global,
     problem: &Problem<'_>,
@@ -106,8 +103,8 @@ fn list_treat(
     requires parts { AllByRecursion (λ b. IsPart b (search_of problem.now).model.cells) tree.old.frontier.boxes }
     requires tables { AreTablesOf problem.now tables.old }
     ensures same { tables.new ≡ tables.old }
-    ensures turn { OnOk result ((count : ℕ) → length tree.old.listed.items < count →
-        list_state_of tree.new ≡ list_turn (search_of problem.now) count (list_state_of tree.old)) }
+    ensures turn { OnOk result (list_state_of tree.new
+        ≡ list_turn_on (search_of problem.now) (list_state_of tree.old) tree.old.frontier.boxes) }
 {
     if !tree.frontier.advance()? {
         return Ok(());

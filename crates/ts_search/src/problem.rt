@@ -10,21 +10,17 @@ ghost use Rattle.ts_search.specs.Posed.{IsPosed, MayAsk};
 ghost use Rattle.ts_search.specs.Views.{search_of};
 ghost use Rattle.ts_spans.specs.Machines.{automata_in};
 
-use crate::found::FoundSeries;
 use std::alloc::Global;
-use ts_base::{Goal, Memory};
+use ts_base::Memory;
 use ts_compile::Program;
 use ts_domain::Boxed;
 use ts_filter::{AllTables, Removal};
 use ts_model::Model;
 
-/// A model and a goal; and the series of the dive, where there is one. A listing has neither goal nor dive, and its
-/// goal is never asked.
+/// A model whose boxes are searched.
 #[derive(Drop)]
 pub(crate) struct Problem<'a> {
     pub(crate) model: &'a Model,
-    pub(crate) goal: Goal,
-    pub(crate) warm: Option<FoundSeries>,
 }
 
 impl<'a> Problem<'a> {

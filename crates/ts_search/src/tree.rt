@@ -2,17 +2,16 @@
 
 ghost use Rattle.std.specs.Prelude.{◌≡◌, ℕ, IfOk, OnOk};
 ghost use Rattle.std.specs.List.{AllByRecursion};
-ghost use Rattle.ts_certificate.specs.declared.certificate.Aim.TheVariants.{Best as BestOf};
 ghost use Rattle.ts_certificate.specs.declared.certificate.TreeLine.TheVariants.{Worse as WorseLine};
 ghost use Rattle.ts_filter.specs.Boxes.{IsPart};
 ghost use Rattle.ts_frontier.specs.Forms.{form};
-ghost use Rattle.ts_search.specs.Posed.{AreTablesOf, IsPosed};
+ghost use Rattle.ts_search.specs.Posed.{AreTablesOf, HasObjective, IsPosed};
 ghost use Rattle.ts_search.specs.Turns.{found_after, start, turn, turns};
-ghost use Rattle.ts_search.specs.Views.{find_of, search_of, state_of};
+ghost use Rattle.ts_search.specs.Views.{contest_of, find_of, search_of, state_of};
 
+use crate::contest::Contest;
 use crate::found::FoundSeries;
 use crate::line::solve_line;
-use crate::problem::Problem;
 use std::alloc::Global;
 use ts_base::Memory;
 use ts_certificate::TreeLine;
@@ -31,17 +30,18 @@ pub(crate) struct Tree {
 /// The tree after at most `budget` lines, or when no box waits any more.
 pub(crate) fn grow(
     alloc: Global,
-    problem: &Problem<'_>,
+    contest: &Contest<'_>,
     tables: &mut AllTables<'_>,
     budget: u64,
 ) -> Result<Tree, Memory>
-    requires posed { IsPosed problem.now }
-    requires tables { AreTablesOf problem.now tables.old }
+    requires objective { HasObjective contest.now }
+    requires posed { IsPosed contest.now.problem }
+    requires tables { AreTablesOf contest.now.problem tables.old }
     ensures same { tables.new ≡ tables.old }
     ensures turns { IfOk result (λ t. state_of t
-        ≡ turns (search_of problem.now) (BestOf problem.now.goal) budget (start (search_of problem.now))) }
+        ≡ turns (contest_of contest.now) budget (start (contest_of contest.now))) }
 {
-    let root = Boxed::new(alloc, &problem.model.cells)?;
+    let root = Boxed::new(alloc, &contest.problem.model.cells)?;
     let mut tree = Tree {
         lines: Vec::new(alloc),
         frontier: Frontier::new(alloc, root),
@@ -51,7 +51,7 @@ pub(crate) fn grow(
         if tree.frontier.is_empty() {
             return Ok(tree);
         }
-        treat(alloc, problem, tables, &mut tree)?;
+        treat(alloc, contest, tables, &mut tree)?;
     }
     Ok(tree)
 }
@@ -59,42 +59,45 @@ pub(crate) fn grow(
 /// One turn: the next box gets its line.
 fn treat(
     alloc: Global,
-    problem: &Problem<'_>,
+    contest: &Contest<'_>,
     tables: &mut AllTables<'_>,
     tree: &mut Tree,
 ) -> Result<(), Memory>
-    requires posed { IsPosed problem.now }
-    requires parts { AllByRecursion (λ b. IsPart b (search_of problem.now).model.cells) tree.old.frontier.boxes }
-    requires tables { AreTablesOf problem.now tables.old }
+    requires objective { HasObjective contest.now }
+    requires posed { IsPosed contest.now.problem }
+    requires parts { AllByRecursion (λ b. IsPart b (search_of contest.now.problem).model.cells)
+        tree.old.frontier.boxes }
+    requires tables { AreTablesOf contest.now.problem tables.old }
     ensures same { tables.new ≡ tables.old }
     ensures turn { OnOk result
-        (state_of tree.new ≡ turn (search_of problem.now) (BestOf problem.now.goal) (state_of tree.old)) }
+        (state_of tree.new ≡ turn (contest_of contest.now) (state_of tree.old)) }
 {
     if !tree.frontier.advance()? {
         return Ok(());
     }
-    let line = solve_line(alloc, problem, tables, tree.frontier.present(), &tree.found)?;
+    let line = solve_line(alloc, contest, tables, tree.frontier.present(), &tree.found)?;
     tree.lines.push(line)?;
     let found = tree.found.take();
-    tree.found = found_now(alloc, problem, tree.frontier.present(), line, found)?;
+    tree.found = found_now(alloc, contest, tree.frontier.present(), line, found)?;
     follow(&mut tree.frontier, &line)
 }
 
 /// The found series after a line: the one series of a box that reaches more, where the line is `worse`.
 fn found_now(
     alloc: Global,
-    problem: &Problem<'_>,
+    contest: &Contest<'_>,
     cells: &Boxed,
     line: TreeLine,
     found: Option<FoundSeries>,
 ) -> Result<Option<FoundSeries>, Memory>
-    requires posed { IsPosed problem.now }
-    requires part { IsPart cells.now.present (search_of problem.now).model.cells }
+    requires objective { HasObjective contest.now }
+    requires posed { IsPosed contest.now.problem }
+    requires part { IsPart cells.now.present (search_of contest.now.problem).model.cells }
     ensures { IfOk result (λ f.
-        find_of f ≡ found_after (search_of problem.now) (find_of found) (form cells.now.present) line) }
+        find_of f ≡ found_after (contest_of contest.now) (find_of found) (form cells.now.present) line) }
 {
     match line {
-        TreeLine::Worse { .. } => found_at(alloc, problem, cells, found),
+        TreeLine::Worse { .. } => found_at(alloc, contest, cells, found),
         _ => Ok(found),
     }
 }
@@ -102,20 +105,21 @@ fn found_now(
 /// The same for a line `worse`.
 fn found_at(
     alloc: Global,
-    problem: &Problem<'_>,
+    contest: &Contest<'_>,
     cells: &Boxed,
     found: Option<FoundSeries>,
 ) -> Result<Option<FoundSeries>, Memory>
-    requires posed { IsPosed problem.now }
-    requires part { IsPart cells.now.present (search_of problem.now).model.cells }
+    requires objective { HasObjective contest.now }
+    requires posed { IsPosed contest.now.problem }
+    requires part { IsPart cells.now.present (search_of contest.now.problem).model.cells }
     ensures { IfOk result (λ f. (p : ℕ) →
-        find_of f ≡ found_after (search_of problem.now) (find_of found) (form cells.now.present) (WorseLine p)) }
+        find_of f ≡ found_after (contest_of contest.now) (find_of found) (form cells.now.present) (WorseLine p)) }
 {
     let Form::Alone(series) = form_of(alloc, cells)? else {
         return Ok(found);
     };
-    let value = problem.value(alloc, &series)?;
-    if problem.counts(&found, value) {
+    let value = contest.value(alloc, &series)?;
+    if contest.counts(&found, value) {
         return Ok(Some(FoundSeries { series, value }));
     }
     Ok(found)

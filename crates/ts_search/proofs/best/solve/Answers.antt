@@ -20,7 +20,7 @@ pub returns : goal.returns
 returns c =
     let m = model_parts c.args.m.now in
     let s = spans_in m in
-    let q = with_dive m s c.args.goal _ c.in_ok-problem.ensures.found in
+    let q = with_dive m s c.args.goal _ c.in_ok-contest.ensures.found in
     IfOk-weaker c.certificate.result _
     (λ z. IsSolution m s c.args.goal c.args.budget (cert_seen z))
     (λ z made. solved m s c.args.goal c.args.budget _ (state_of c.in_ok-tree.tree) (cert_seen z)

@@ -15,7 +15,7 @@ new-requires c = let few = c.requires.posed.right.whole.few in let same = ap len
 -- the first box is the model's
 pub settle-requires : goal.settle-requires
 settle-requires c =
-    let s = search_of c.args.problem.now in
+    let s = search_of c.args.contest.now.problem in
     record {
       posed = c.requires.posed;
       part = subst (λ b. IsPart b s.model.cells) (sym (ap (λ z. z.present) c.in_ok-cells.ensures ∙ c.deref.ensures.value))
@@ -26,28 +26,28 @@ settle-requires c =
 -- a requirement is refuted before any cell has kept its value
 pub returns-then-not-branch-clause-found : goal.returns-then-not-branch-clause-found
 returns-then-not-branch-clause-found c =
-    let s = search_of c.args.problem.now in
-    settled_early s s.goal (values_are_sound s.model s.spans c.requires.posed.right.holds) s.model.cells c.settle.new.cells.present (length s.model.cells) 1
-    (omega arith) (omega arith)
+    let s = search_of c.args.contest.now.problem in
+    settled_early s c.args.contest.now.goal (values_are_sound s.model s.spans c.requires.posed.right.holds) s.model.cells c.settle.new.cells.present
+    (length s.model.cells) 1 (omega arith) (omega arith)
     (subst (λ b. IsSettled s b c.settle.new.cells.present false) (ap (λ z. z.present) c.in_ok-cells.ensures ∙ c.deref.ensures.value)
     (subst (IsSettled s _ c.settle.new.cells.present) c.if-not-branch.true c.in_ok-settle.ensures.settled))
 
 pub loop-k-init : goal.loop-k-init
 loop-k-init c =
-    let s = search_of c.args.problem.now in
+    let s = search_of c.args.contest.now.problem in
     let settled = subst (λ b. IsSettled s b c.settle.new.cells.present true) (ap (λ z. z.present) c.in_ok-cells.ensures ∙ c.deref.ensures.value)
     (subst (IsSettled s _ c.settle.new.cells.present) c.if-not-branch.false c.in_ok-settle.ensures.settled) in
     record {
       same = c.settle.ensures.same;
       part = settled.part;
-      ends = ends_first s.model s.spans s.goal c.settle.new.cells.present (length s.model.cells)
+      ends = ends_first s.model s.spans c.args.contest.now.goal c.settle.new.cells.present (length s.model.cells)
           (settled_all s s.model.cells c.settle.new.cells.present settled) refl;
     }
 
 -- a model has few cells
 pub overflow_add-k-end : goal.overflow_add-k-end
 overflow_add-k-end c =
-    let s = search_of c.args.problem.now in
+    let s = search_of c.args.contest.now.problem in
     let end = end_is s c.settle.new.cells.present c.cells-k-end.result (settled_part s _ c.settle.new.cells.present _ c.in_ok-settle.ensures.settled)
     c.cells-k-end.ensures.count in
     let few = c.requires.posed.right.whole.few in omega (arith, end, few)
@@ -62,19 +62,19 @@ keep_one-requires-clause-asked c = record {
 
 pub keep_one-requires-clause-cell : goal.keep_one-requires-clause-cell
 keep_one-requires-clause-cell c =
-    let s = search_of c.args.problem.now in
+    let s = search_of c.args.contest.now.problem in
     let end = end_is s c.settle.new.cells.present c.cells-k-end.result (settled_part s _ c.settle.new.cells.present _ c.in_ok-settle.ensures.settled)
     c.cells-k-end.ensures.count in
     cell_there s c.loop-k.cells.present c.loop-k.k c.cells-k-end.result c.loop-k.invariant.part (omega arith) c.loop-k-test.true end
 
 pub settle-requires-in-loop-k : goal.settle-requires-in-loop-k
 settle-requires-in-loop-k c =
-    let s = search_of c.args.problem.now in
+    let s = search_of c.args.contest.now.problem in
     let end = end_is s c.settle.new.cells.present c.cells-k-end.result (settled_part s _ c.settle.new.cells.present _ c.in_ok-settle.ensures.settled)
     c.cells-k-end.ensures.count in
     record {
       posed = c.requires.posed;
-      part = kept_inside s s.goal c.loop-k.k c.loop-k.cells.present c.keep_one.new.cells.present c.loop-k.invariant.part
+      part = kept_inside s c.args.contest.now.goal c.loop-k.k c.loop-k.cells.present c.keep_one.new.cells.present c.loop-k.invariant.part
           (cell_there s c.loop-k.cells.present c.loop-k.k c.cells-k-end.result c.loop-k.invariant.part (omega arith) c.loop-k-test.true end)
           c.in_ok-keep_one.ensures.kept;
       tables = c.keep_one.ensures.same ∙ c.loop-k.invariant.same ∙ c.requires.tables;
@@ -83,32 +83,34 @@ settle-requires-in-loop-k c =
 -- a requirement is refuted once a cell has kept its value
 pub returns-then-not-branch-2-clause-found : goal.returns-then-not-branch-2-clause-found
 returns-then-not-branch-2-clause-found c =
-    let s = search_of c.args.problem.now in
+    let s = search_of c.args.contest.now.problem in
     let n = length s.model.cells in
     let k = c.loop-k.k in
     let end = end_is s c.settle.new.cells.present c.cells-k-end.result (settled_part s _ c.settle.new.cells.present _ c.in_ok-settle.ensures.settled)
     c.cells-k-end.ensures.count in
     let below = within_cells k c.cells-k-end.result n c.loop-k-test.true end in
-    ends_early s.model s.spans s.goal c.loop-k.cells.present c.keep_one.new.cells.present n k _ below c.in_ok-keep_one.ensures.kept
+    ends_early s.model s.spans c.args.contest.now.goal c.loop-k.cells.present c.keep_one.new.cells.present n k _ below c.in_ok-keep_one.ensures.kept
     c.loop-k.invariant.ends
-    (settled_early s s.goal (values_are_sound s.model s.spans c.requires.posed.right.holds) c.keep_one.new.cells.present c.settle-in-loop-k.new.cells.present
-    (n + 1 - (k + 1)) (suc k) (omega arith) (omega (arith, below)) (subst (IsSettled s _ _) c.if-not-branch-2.true c.in_ok-settle-2.ensures.settled))
+    (settled_early s c.args.contest.now.goal (values_are_sound s.model s.spans c.requires.posed.right.holds) c.keep_one.new.cells.present
+    c.settle-in-loop-k.new.cells.present (n + 1 - (k + 1)) (suc k) (omega arith) (omega (arith, below))
+    (subst (IsSettled s _ _) c.if-not-branch-2.true c.in_ok-settle-2.ensures.settled))
 
 -- the series that is left
 pub returns-clause-found : goal.returns-clause-found
 returns-clause-found c =
-    let s = search_of c.args.problem.now in
+    let s = search_of c.args.contest.now.problem in
     let end = end_is s c.settle.new.cells.present c.cells-k-end.result (settled_part s _ c.settle.new.cells.present _ c.in_ok-settle.ensures.settled)
     c.cells-k-end.ensures.count in
     let above = c.loop-k-test.false in
-    IfOk-weaker c.series_left.result (λ f. find_of f ≡ dive_end s.model (form c.loop-k.cells.present)) (λ f. find_of f ≡ dive s.model s.spans s.goal)
-    (λ f is. ends_now s.model s.spans s.goal c.loop-k.cells.present (length s.model.cells) c.loop-k.k _ (find_of f) (omega (arith, end, above))
+    IfOk-weaker c.series_left.result (λ f. find_of f ≡ dive_end s.model (form c.loop-k.cells.present))
+    (λ f. find_of f ≡ dive s.model s.spans c.args.contest.now.goal)
+    (λ f is. ends_now s.model s.spans c.args.contest.now.goal c.loop-k.cells.present (length s.model.cells) c.loop-k.k _ (find_of f) (omega (arith, end, above))
     c.loop-k.invariant.ends is)
     c.series_left.ensures
 
 pub loop-k-preserved : goal.loop-k-preserved
 loop-k-preserved c =
-    let s = search_of c.args.problem.now in
+    let s = search_of c.args.contest.now.problem in
     let n = length s.model.cells in
     let k = c.loop-k.k in
     let end = end_is s c.settle.new.cells.present c.cells-k-end.result (settled_part s _ c.settle.new.cells.present _ c.in_ok-settle.ensures.settled)
@@ -118,7 +120,7 @@ loop-k-preserved c =
     record {
       same = c.settle-in-loop-k.ensures.same ∙ c.keep_one.ensures.same ∙ c.loop-k.invariant.same;
       part = settled.part;
-      ends = ends_next s.model s.spans s.goal c.loop-k.cells.present c.keep_one.new.cells.present c.settle-in-loop-k.new.cells.present
+      ends = ends_next s.model s.spans c.args.contest.now.goal c.loop-k.cells.present c.keep_one.new.cells.present c.settle-in-loop-k.new.cells.present
           n k _ below c.in_ok-keep_one.ensures.kept
           (settled_all s c.keep_one.new.cells.present c.settle-in-loop-k.new.cells.present settled) c.loop-k.invariant.ends;
     }

@@ -8,7 +8,8 @@ use Rattle.ts_search.proofs.dive.dive.Given as goal
 abbrev pub invariant-loop-k : goal.invariant-loop-k
 invariant-loop-k l = record {
   same : l.tables ≡ l.fn.tables;
-  part : IsPart l.cells.present (search_of l.problem).model.cells;
-  ends : EndsAs (search_of l.problem).model (search_of l.problem).spans l.problem.goal (length (search_of l.problem).model.cells + 1 - l.k) l.k
-      l.cells.present (dive (search_of l.problem).model (search_of l.problem).spans l.problem.goal);
+  part : IsPart l.cells.present (search_of l.contest.problem).model.cells;
+  ends : EndsAs (search_of l.contest.problem).model (search_of l.contest.problem).spans l.contest.goal
+      (length (search_of l.contest.problem).model.cells + 1 - l.k) l.k
+      l.cells.present (dive (search_of l.contest.problem).model (search_of l.contest.problem).spans l.contest.goal);
 }

@@ -11,7 +11,8 @@ pub keep_low-requires-clause-stays : goal.keep_low-requires-clause-stays
 keep_low-requires-clause-stays c =
     let b = c.args.cells.now.present in
     let v = c.in_ok-v.v in
-    let there = kept_there (search_of c.args.problem.now) c.args.problem.now.goal c.args.k b v c.requires.asked.part c.requires.cell c.in_ok-v.ensures.kept in
+    let there = kept_there (search_of c.args.contest.now.problem) c.args.contest.now.goal c.args.k b v c.requires.asked.part c.requires.cell
+    c.in_ok-v.ensures.kept in
     let within = kept_value_within b c.args.k v c.requires.asked.part.box c.requires.cell there in
     λ none. low_stays v (values_at c.args.k b) there (ap (λ t. values_up_to t (values_at c.args.k b)) (sym (kept_is v within)) ∙ none)
 
@@ -20,14 +21,16 @@ pub overflow_sub-v : goal.overflow_sub-v
 overflow_sub-v c =
     let b = c.args.cells.now.present in
     let v = c.in_ok-v.v in
-    let there = kept_there (search_of c.args.problem.now) c.args.problem.now.goal c.args.k b v c.requires.asked.part c.requires.cell c.in_ok-v.ensures.kept in
+    let there = kept_there (search_of c.args.contest.now.problem) c.args.contest.now.goal c.args.k b v c.requires.asked.part c.requires.cell
+    c.in_ok-v.ensures.kept in
     sub_fits v (kept_value_within b c.args.k v c.requires.asked.part.box c.requires.cell there)
 
 pub keep_high-requires-clause-stays : goal.keep_high-requires-clause-stays
 keep_high-requires-clause-stays c =
     let b = c.args.cells.now.present in
     let v = c.in_ok-v.v in
-    let there = kept_there (search_of c.args.problem.now) c.args.problem.now.goal c.args.k b v c.requires.asked.part c.requires.cell c.in_ok-v.ensures.kept in
+    let there = kept_there (search_of c.args.contest.now.problem) c.args.contest.now.goal c.args.k b v c.requires.asked.part c.requires.cell
+    c.in_ok-v.ensures.kept in
     let within = kept_value_within b c.args.k v c.requires.asked.part.box c.requires.cell there in
     let at = place c.args.k b c.requires.cell in
     let low = ap (λ z. get_or z.present (c.args.k - 1) []) c.in_ok-keep_low.ensures.ok
@@ -40,7 +43,8 @@ pub returns-clause-kept : goal.returns-clause-kept
 returns-clause-kept c =
     let b = c.args.cells.now.present in
     let v = c.in_ok-v.v in
-    let there = kept_there (search_of c.args.problem.now) c.args.problem.now.goal c.args.k b v c.requires.asked.part c.requires.cell c.in_ok-v.ensures.kept in
+    let there = kept_there (search_of c.args.contest.now.problem) c.args.contest.now.goal c.args.k b v c.requires.asked.part c.requires.cell
+    c.in_ok-v.ensures.kept in
     let within = kept_value_within b c.args.k v c.requires.asked.part.box c.requires.cell there in
     kept_box c.args.k v b c.keep_low.new.self.present c.keep_high.new.self.present c.requires.asked.part.box c.requires.cell there
     (ap (λ z. z.present) c.in_ok-keep_low.ensures.ok ∙ ap (λ t. low_side c.args.k t b) (kept_is v within))

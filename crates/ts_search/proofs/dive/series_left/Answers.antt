@@ -13,7 +13,7 @@ pub returns-in_default : goal.returns-in_default
 returns-in_default c =
     let b = c.args.cells.now.present in
     let w = wide_told c.in_ok-series.field-0 (form b) c.in_ok-series.ensures c.in_default.not-Alone in
-    left_wide (search_of c.args.problem.now).model b w.0 w.1 w.2
+    left_wide (search_of c.args.contest.now.problem).model b w.0 w.1 w.2
 
 pub judge-requires-clause-whole : goal.judge-requires-clause-whole
 judge-requires-clause-whole c = c.requires.posed.right.whole
@@ -21,7 +21,7 @@ judge-requires-clause-whole c = c.requires.posed.right.whole
 -- the box is that of the one series
 pub judge-requires-clause-series : goal.judge-requires-clause-series
 judge-requires-clause-series c =
-    let s = search_of c.args.problem.now in
+    let s = search_of c.args.contest.now.problem in
     let b = c.args.cells.now.present in
     let alone = alone_told c.in_ok-series.field-0 (form b) c.in-Alone.series c.in_ok-series.ensures c.in-Alone.is in
     is_series s.model c.deref.result.now c.requires.posed.right.whole c.requires.posed.right.box
@@ -29,7 +29,7 @@ judge-requires-clause-series c =
 
 pub judge-requires-clause-cells : goal.judge-requires-clause-cells
 judge-requires-clause-cells c =
-    let s = search_of c.args.problem.now in
+    let s = search_of c.args.contest.now.problem in
     let b = c.args.cells.now.present in
     let alone = alone_told c.in_ok-series.field-0 (form b) c.in-Alone.series c.in_ok-series.ensures c.in-Alone.is in
     series_length c.deref.result.now s.model.cells
@@ -37,7 +37,7 @@ judge-requires-clause-cells c =
 
 pub value-requires-clause-series : goal.value-requires-clause-series
 value-requires-clause-series c =
-    let s = search_of c.args.problem.now in
+    let s = search_of c.args.contest.now.problem in
     let b = c.args.cells.now.present in
     let alone = alone_told c.in_ok-series.field-0 (form b) c.in-Alone.series c.in_ok-series.ensures c.in-Alone.is in
     left_within s.model.cells b c.deref-2.result.now c.requires.part (alone ∙ ap Alone (sym c.deref-2.ensures.value))
@@ -45,7 +45,7 @@ value-requires-clause-series c =
 -- `meets` answers whether the series meets: the judgement's lists are those of the definition
 pub returns-then-not-meets : goal.returns-then-not-meets
 returns-then-not-meets c =
-    let m = (search_of c.args.problem.now).model in
+    let m = (search_of c.args.contest.now.problem).model in
     let b = c.args.cells.now.present in
     let x = c.in-Alone.series.items in
     left_fails m b x c.meets.result (alone_told c.in_ok-series.field-0 (form b) c.in-Alone.series c.in_ok-series.ensures c.in-Alone.is)
@@ -55,7 +55,7 @@ returns-then-not-meets c =
 
 pub returns : goal.returns
 returns c =
-    let m = (search_of c.args.problem.now).model in
+    let m = (search_of c.args.contest.now.problem).model in
     let b = c.args.cells.now.present in
     let x = c.in-Alone.series.items in
     left_meets m b x c.meets.result c.in_ok-value.value

@@ -1,7 +1,7 @@
 use Rattle.std.proofs.Common.{[], ◌∷◌, refl, ap, arith, length, map, ◌∙◌}
 use Rattle.ts_search.specs.Views.{list_state_of, search_of}
 use Rattle.ts_search.proofs.Certified.{few_from}
-use Rattle.ts_search.proofs.CodeTurns.{at_most, first_parts, list_end, list_first, list_full, list_more, list_none, list_out, list_parts}
+use Rattle.ts_search.proofs.CodeTurns.{at_most, first_parts, list_end, list_first, list_full, list_more, list_none, list_out, list_parts, list_room, room_for}
 use Rattle.ts_search.proofs.listing.list_grow.Goals as goal
 
 pub new-requires : goal.new-requires
@@ -35,7 +35,8 @@ loop-preserved c =
     let out = c.if-len-count.false in
     let is = c.len.ensures in
     let long = c.loop.tree.listed.ok.0 in
-    let turn = c.in_ok-list_treat.ensures.turn c.args.count (omega (arith, out, is, long)) in
+    let turn = list_room s c.args.count (list_state_of c.loop.tree) (list_state_of c.list_treat.new.tree) c.in_ok-list_treat.ensures.turn
+    (room_for c.args.count c.loop.tree.listed.items (omega (arith, out, is, long))) in
     record {
       same = c.list_treat.ensures.same ∙ c.loop.invariant.same;
       turned = list_more s c.args.count c.args.budget c.loop.counter (list_state_of c.loop.tree) (list_state_of c.list_treat.new.tree) _

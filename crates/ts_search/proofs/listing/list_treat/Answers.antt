@@ -1,11 +1,11 @@
-use Rattle.std.proofs.Common.{◌≡◌, ℕ, ◌<◌, ℤ, ◌++◌, length, map, Vec, Global, None}
+use Rattle.std.proofs.Common.{◌≡◌, ℤ, ◌++◌, map, Vec, Global}
 use Rattle.std.proofs.lemmas.Result.{IfOk-weaker}
-use Rattle.ts_certificate.specs.declared.certificate.Aim.TheVariants.{List as ListOf}
 use Rattle.ts_filter.specs.Steps.{made_by}
 use Rattle.ts_frontier.specs.Waiting.{first, rest}
-use Rattle.ts_search.specs.Turns.{ListState, list_turn}
+use Rattle.ts_search.specs.LineOf.{TheFirst}
+use Rattle.ts_search.specs.Turns.{ListState, list_turn_on}
 use Rattle.ts_search.specs.Views.{list_state_of, search_of}
-use Rattle.ts_search.proofs.CodeTurns.{list_turned, first_makes, present_part, room_for}
+use Rattle.ts_search.proofs.CodeTurns.{list_turned, first_makes, present_part}
 use Rattle.ts_search.proofs.listing.list_treat.Goals as goal
 
 pub listing_line-requires : goal.listing_line-requires
@@ -18,8 +18,8 @@ listing_line-requires c = record {
 
 pub follow-requires-clause-fits : goal.follow-requires-clause-fits
 follow-requires-clause-fits c =
-    first_makes (search_of c.args.problem.now) (ListOf 0) None c.args.tree.now.frontier.boxes c.advance.new.self.boxes
-    c.present.result.now.present c.in_ok-line.line c.requires.parts c.in_ok-advance.ensures.same c.present.ensures (c.in_ok-line.ensures.line 0)
+    first_makes (TheFirst (search_of c.args.problem.now)) c.args.tree.now.frontier.boxes c.advance.new.self.boxes
+    c.present.result.now.present c.in_ok-line.line c.requires.parts c.in_ok-advance.ensures.same c.present.ensures c.in_ok-line.ensures.line
 
 pub returns-clause-turn : goal.returns-clause-turn
 returns-clause-turn c =
@@ -32,8 +32,8 @@ returns-clause-turn c =
     } in
     IfOk-weaker c.follow.result
     (λ z. c.follow.new.frontier.boxes ≡ made_by c.in_ok-line.line (first c.advance.new.self.boxes) ++ rest c.advance.new.self.boxes)
-    (λ z. (count : ℕ) → length c.args.tree.now.listed.items < count → new ≡ list_turn s count old)
-    (λ z boxes count room. list_turned s count old new.lines c.advance.new.self.boxes new.pending new.listed c.present.result.now.present
-    c.present-2.result.now.present c.in_ok-line.line (room_for count c.args.tree.now.listed.items room) c.in_ok-advance.ensures.same c.present.ensures
-    (c.in_ok-line.ensures.line count) c.in_ok-push.ensures.items c.present-2.ensures c.in_ok-listed_now.ensures boxes)
+    (λ z. new ≡ list_turn_on s old old.pending)
+    (λ z boxes. list_turned s old new.lines c.advance.new.self.boxes new.pending new.listed c.present.result.now.present
+    c.present-2.result.now.present c.in_ok-line.line c.in_ok-advance.ensures.same c.present.ensures
+    c.in_ok-line.ensures.line c.in_ok-push.ensures.items c.present-2.ensures c.in_ok-listed_now.ensures boxes)
     c.follow.ensures.ok

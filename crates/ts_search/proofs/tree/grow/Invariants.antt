@@ -1,16 +1,15 @@
 use Rattle.std.proofs.Common.{◌≡◌, ◌-◌}
 use Rattle.std.specs.List.{AllByRecursion}
-use Rattle.ts_certificate.specs.declared.certificate.Aim.TheVariants.{Best as BestOf}
 use Rattle.ts_filter.specs.Boxes.{IsPart}
 use Rattle.ts_search.specs.Turns.{start, turns}
-use Rattle.ts_search.specs.Views.{search_of, state_of}
+use Rattle.ts_search.specs.Views.{contest_of, search_of, state_of}
 use Rattle.ts_search.proofs.tree.grow.Given as goal
 
 -- the turns that are left lead where all lead
 abbrev pub invariant-loop : goal.invariant-loop
 invariant-loop l = record {
   same : l.tables ≡ l.fn.tables;
-  turned : turns (search_of l.problem) (BestOf l.problem.goal) (l.budget - l.counter) (state_of l.tree)
-      ≡ turns (search_of l.problem) (BestOf l.problem.goal) l.budget (start (search_of l.problem));
-  parts : AllByRecursion (λ b. IsPart b (search_of l.problem).model.cells) l.tree.frontier.boxes;
+  turned : turns (contest_of l.contest) (l.budget - l.counter) (state_of l.tree)
+      ≡ turns (contest_of l.contest) l.budget (start (contest_of l.contest));
+  parts : AllByRecursion (λ b. IsPart b (search_of l.contest.problem).model.cells) l.tree.frontier.boxes;
 }
