@@ -1,7 +1,7 @@
-//! Random boxes under a term that looks at some of their cells: its values, the rows of both tables, the spans, and what
-//! a requirement leaves out. All numbers are by a program that knows no Rattle and makes its automata from the tables of
-//! seeds. It goes over all series: a value is by the occurrences in the cells that are looked at, a row is the hull,
-//! register by register, of the runs over these cells, and each value was seen to lie in the spans.
+//! Random boxes under a term that looks at some of their cells: its values, the rows of both tables, the spans, and
+//! what a requirement leaves out. All numbers are by a program that knows no Rattle and makes its automata from the
+//! tables of seeds. It goes over all series: a value is by the occurrences in the cells that are looked at, a row is
+//! the hull, register by register, of the runs over these cells, and each value was seen to lie in the spans.
 //!
 //! A box is a model and, behind a line `/`, lines about it; a line `%` stands between two boxes. `bounds` says how rows
 //! and spans are written.
@@ -11,7 +11,7 @@
 //! | `value V: X ..` | the term's value on this series |
 //! | `first K V`, `first none` | the first drop by the requirement |
 //! | `ahead K ROW`, `back K ROW` | the row of cell K in each table: none at a cell that isn't looked at |
-//! | `at K SPAN\|V SPAN\|V SPAN drop` | the span at cell K, and with each of its values alone; which of them may be dropped |
+//! | `at K SPAN\|V SPAN\|V SPAN drop` | the span at cell K, and with each of its values alone; which may be dropped |
 
 ghost use Rattle.std.specs.Prelude.{◌≡◌, Contains, IfOk, IsTrue, None, length};
 ghost use Rattle.ts_bound.specs.Rows.{IsRow};

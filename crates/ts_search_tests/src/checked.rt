@@ -3,6 +3,8 @@
 mod certificates;
 mod inputs;
 
+pub(crate) use inputs::end_behind;
+
 /// A model: three cells of 0 and 1, and the peaks counted.
 const PEAKS: &str = "cells 3\ndomain 0..1\nterm c = count peak\nobjective c\n";
 

@@ -13,6 +13,7 @@ use ts_search::{list, solve};
 
 mod rows;
 mod small_models;
+mod windowed_calls;
 mod windowed_models;
 
 use rows::{Asked, Row, rows};

@@ -258,7 +258,11 @@ fn first_wrong_long(alloc: Global) -> Result<Option<usize>, Memory> {
 }
 
 /// How a model ends with this certificate behind it.
-fn end_behind(alloc: Global, model: &[u8], certificate: &[u8]) -> Result<VerifyEnd, Memory>
+pub(crate) fn end_behind(
+    alloc: Global,
+    model: &[u8],
+    certificate: &[u8],
+) -> Result<VerifyEnd, Memory>
     requires model { length model.now < 2000000 }
     requires certificate { length certificate.now < 2000000 }
 {
