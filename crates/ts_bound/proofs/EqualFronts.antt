@@ -3,14 +3,14 @@ use Rattle.std.proofs.Common.{◌≡◌, ℕ, ◌+◌, ◌*◌, ◌<◌, ◌≤�
 use Rattle.ts_base.specs.declared.letter.Letter.TheVariants.{Less, Equal}
 use Rattle.ts_automaton.specs.declared.regs.Hull.{Hull}
 use Rattle.ts_automaton.specs.Body.{Move}
-use Rattle.ts_bound.specs.Hulls.{none, hull_of_both}
+use Rattle.ts_hull.specs.Hulls.{none, hull_of_both}
 use Rattle.ts_bound.specs.declared.packed.PackedHull.{PackedHull}
 use Rattle.ts_bound.specs.Packs.{IsRunning}
-use Rattle.ts_bound.specs.Sealed.{after_move}
-use Rattle.ts_bound.specs.Cuts.{Cut, cut_of, all_swept, front_hull, closed_hull}
-use Rattle.ts_bound.specs.Sweeps.{IsSweepable, hull_in, fits, move_entry, equal_front}
-use Rattle.ts_bound.proofs.HullLaws.{none_takes_none}
-use Rattle.ts_bound.proofs.SplitLaws.{closed_hull_none, closed_hull_through, moved_is, hull_small, small_within}
+use Rattle.ts_hull.specs.Sealed.{after_move}
+use Rattle.ts_hull.specs.Cuts.{Cut, cut_of, all_swept, front_hull, closed_hull}
+use Rattle.ts_hull.specs.Sweeps.{IsSweepable, hull_in, fits, move_entry, equal_front}
+use Rattle.ts_hull.proofs.HullLaws.{none_takes_none}
+use Rattle.ts_hull.proofs.SplitLaws.{closed_hull_none, closed_hull_through, moved_is, hull_small, small_within}
 use Rattle.ts_bound.proofs.SweepLaws.{equal_one, equal_none}
 
 below_or_not : (a b : ℕ) → (a < b) ⊎ (b ≤ a)

@@ -16,11 +16,11 @@ use Rattle.ts_automaton.specs.Body.{Body}
 use Rattle.ts_automaton.specs.AutomatonRun.{Standing}
 use Rattle.ts_automaton.specs.SpanRun.{HullStands, span_step, hull_standing, one_hull}
 use Rattle.ts_base.specs.declared.span.Span.{Span}
-use Rattle.ts_bound.specs.Hulls.{hull_of, none, hull_of_both}
+use Rattle.ts_hull.specs.Hulls.{hull_of, none, hull_of_both}
 use Rattle.ts_bound.specs.NextRow.{Source, standing_at, sources_from, sources, hull_from, next_hull, next_hulls, next_row}
 use Rattle.ts_bound.specs.Filling.{over, taken_in}
 use Rattle.ts_bound.specs.HullTables.{start_hull, hull_at, hulls_at, row_of}
-use Rattle.ts_bound.proofs.HullLaws.{TakesNone, both_takes_none, none_takes_none}
+use Rattle.ts_hull.proofs.HullLaws.{TakesNone, both_takes_none, none_takes_none}
 use Rattle.ts_bound.proofs.SpanRuns.{length-hulls_at}
 
 -- lists: ws over xs from place i on

@@ -6,10 +6,10 @@ use Rattle.ts_base.specs.declared.letter.Letter.{Letter}
 use Rattle.ts_base.specs.declared.letter.Letter.TheVariants.{Equal}
 use Rattle.ts_automaton.specs.declared.regs.Hull.{Hull}
 use Rattle.ts_automaton.specs.Body.{Move}
-use Rattle.ts_bound.specs.Hulls.{none, hull_of_both}
-use Rattle.ts_bound.specs.Cuts.{Cut, cut_of, all_swept, closed_hull}
-use Rattle.ts_bound.specs.Sweeps.{AllTakeNone, IsReached, IsSweepable, Leads, total, fronts, puts, same_letter, step_place, sweep_entry}
-use Rattle.ts_bound.proofs.SplitLaws.{closed_hull_none}
+use Rattle.ts_hull.specs.Hulls.{none, hull_of_both}
+use Rattle.ts_hull.specs.Cuts.{Cut, cut_of, all_swept, closed_hull}
+use Rattle.ts_hull.specs.Sweeps.{AllTakeNone, IsReached, IsSweepable, Leads, total, fronts, puts, same_letter, step_place, sweep_entry}
+use Rattle.ts_hull.proofs.SplitLaws.{closed_hull_none}
 use Rattle.ts_bound.proofs.SweepLaws.{entry_is}
 
 -- where there is nothing to put, the row stays

@@ -23,7 +23,7 @@ use Rattle.ts_domain.proofs.Sets.{contains_cons, all_append}
 use Rattle.ts_glue.specs.Pairs.{Pair}
 use Rattle.ts_glue.specs.Glued.{glued_span}
 use Rattle.ts_glue.proofs.SpanGlue.{unmarked_spans_grow, wider_registers, same_grows}
-use Rattle.ts_bound.specs.Hulls.{hull_of, none, hull_of_both, hull_of_all}
+use Rattle.ts_hull.specs.Hulls.{hull_of, none, hull_of_both, hull_of_all}
 use Rattle.ts_bound.specs.NextRow.{Source, source, hull_from, next_hull, states_of}
 use Rattle.ts_bound.specs.HullTables.{hull_at, cells_before, cells_after, values_at}
 use Rattle.ts_bound.specs.Looks.{place_in}

@@ -14,9 +14,10 @@ use Rattle.ts_bound.specs.declared.sweep_parts.Part.{Part}
 use Rattle.ts_bound.specs.declared.sweep_parts.Part.TheVariants.{KeepR, Word, Two, Three}
 use Rattle.ts_bound.specs.declared.sweep_parts.Parts.{Parts}
 use Rattle.ts_bound.specs.Packs.{unpack_span, unpack_hull, IsPackOf}
-use Rattle.ts_bound.specs.Sealed.{by_ends, some_hull, span_in}
-use Rattle.ts_bound.specs.Cuts.{front_hull, part_split, parts_cut, parts_of, kept_parts, longer_parts}
-use Rattle.ts_bound.specs.Splits.{front_span}
+use Rattle.ts_hull.specs.Sealed.{by_ends, some_hull, span_in}
+use Rattle.ts_hull.specs.Cuts.{front_hull}
+use Rattle.ts_bound.specs.PartCuts.{part_split, parts_cut, parts_of, kept_parts, longer_parts}
+use Rattle.ts_hull.specs.Splits.{front_span}
 use Rattle.ts_bound.proofs.PackLaws.{hull_some, front_packs}
 
 pub kept_packs : (k : Parts) (p : PackedHull) (x : ℤ) → k ≡ kept_parts → some_hull (unpack_hull p) ≡ true →

@@ -4,9 +4,9 @@ use Rattle.std.specs.Ordering.{int_eq}
 use Rattle.std.proofs.lemmas.Int.{ints}
 use Rattle.ts_base.specs.declared.letter.Letter.{Letter}
 use Rattle.ts_base.specs.declared.letter.Letter.TheVariants.{Less, Equal, Greater}
-use Rattle.ts_bound.specs.Smalls.{IsRunFrom, small_int}
-use Rattle.ts_bound.specs.Sweeps.{Leads, IsLead, IsWide, ahead, IsReached, takes, fits, same_letter, step_place}
-use Rattle.ts_bound.proofs.SweepLaws.{less_is, greater_is, equal_is}
+use Rattle.ts_hull.specs.Smalls.{IsRunFrom, small_int}
+use Rattle.ts_hull.specs.Sweeps.{Leads, IsLead, IsWide, ahead, IsReached, takes, fits, same_letter, step_place}
+use Rattle.ts_hull.proofs.Letters.{less_is, greater_is, equal_is}
 
 below_or_not : (a b : ℕ) → (a < b) ⊎ (b ≤ a)
 below_or_not a b = grind arith

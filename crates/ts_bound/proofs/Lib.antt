@@ -1,5 +1,4 @@
 pub mod Looking
-pub mod HullLaws
 mod Filled
 pub mod RowLaws
 mod Emptied
@@ -12,9 +11,6 @@ pub mod SpanRuns
 pub mod SpanEnds
 pub mod Singles
 pub mod Growth
-mod SpanHulls
-mod Sums
-mod SplitLaws
 pub mod KnownFronts
 pub mod PackLaws
 mod SweepLaws

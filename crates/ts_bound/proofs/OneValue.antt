@@ -5,14 +5,14 @@ use Rattle.ts_base.specs.declared.letter.Letter.TheVariants.{Less, Equal, Greate
 use Rattle.ts_base.specs.Signature.{letter_of}
 use Rattle.ts_automaton.specs.declared.regs.Hull.{Hull}
 use Rattle.ts_automaton.specs.Body.{Body, Move}
-use Rattle.ts_bound.specs.Hulls.{none, hull_of_both}
-use Rattle.ts_bound.specs.Sealed.{after_move, move_at, some_hull}
+use Rattle.ts_hull.specs.Hulls.{none, hull_of_both}
+use Rattle.ts_hull.specs.Sealed.{after_move, move_at, some_hull}
 use Rattle.ts_bound.specs.Packs.{IsPackOf, unpack_hull}
 use Rattle.ts_bound.specs.declared.packed.PackedHull.{PackedHull}
-use Rattle.ts_bound.specs.Sweeps.{AllTakeNone, hull_in, step_place, fits, same_letter, total, pair_gives, move_entry, puts, with_hull_at, with_move, with_state}
-use Rattle.ts_bound.proofs.HullLaws.{TakesNone}
+use Rattle.ts_hull.specs.Sweeps.{AllTakeNone, hull_in, step_place, fits, same_letter, total, pair_gives, move_entry, puts, with_hull_at, with_move, with_state}
+use Rattle.ts_hull.proofs.HullLaws.{TakesNone}
 use Rattle.ts_bound.proofs.PackLaws.{some_canonical}
-use Rattle.ts_bound.proofs.Sums.{none_left}
+use Rattle.ts_hull.proofs.Sums.{none_left}
 use Rattle.ts_bound.proofs.SweepLaws.{with_move_canonical}
 use Rattle.ts_bound.proofs.Passed.{move_unpaired, state_unreached}
 

@@ -18,15 +18,15 @@ use Rattle.ts_automaton.proofs.KindLaws.{op_mono}
 use Rattle.ts_bound.specs.declared.packed.End.{End}
 use Rattle.ts_bound.specs.declared.packed.Ends.{Ends}
 use Rattle.ts_bound.specs.declared.packed.PackedHull.{PackedHull}
-use Rattle.ts_bound.specs.Hulls.{none, hull_of_both}
-use Rattle.ts_bound.specs.Packs.{unpack, IsPlain, ArePlain, span_from, unpack_span, unpack_hull, IsPackOf, IsSomeOrNone, IsRunning}
-use Rattle.ts_bound.specs.Sealed.{least_span, by_ends, span_in, hull_with, some_hull, after_move}
-use Rattle.ts_bound.specs.Splits.{front_span, closed_span}
-use Rattle.ts_bound.specs.Cuts.{Cut, front_hull, closed_hull}
-use Rattle.ts_bound.specs.Smalls.{small_int}
-use Rattle.ts_bound.proofs.HullLaws.{same_hull, none_takes_none}
-use Rattle.ts_bound.proofs.SpanHulls.{both_is, both_some, hull_both, hull_first, hull_second, hull_neither, lifted_both, lifted_some}
-use Rattle.ts_bound.proofs.SplitLaws.{after_is}
+use Rattle.ts_hull.specs.Hulls.{none, hull_of_both}
+use Rattle.ts_hull.specs.Sealed.{span_from, least_span, by_ends, span_in, hull_with, some_hull, after_move}
+use Rattle.ts_bound.specs.Packs.{unpack, IsPlain, ArePlain, unpack_span, unpack_hull, IsPackOf, IsSomeOrNone, IsRunning}
+use Rattle.ts_hull.specs.Splits.{front_span, closed_span}
+use Rattle.ts_hull.specs.Cuts.{Cut, front_hull, closed_hull}
+use Rattle.ts_hull.specs.Smalls.{small_int}
+use Rattle.ts_hull.proofs.HullLaws.{same_hull, none_takes_none}
+use Rattle.ts_hull.proofs.SpanHulls.{both_is, both_some, hull_both, hull_first, hull_second, hull_neither, lifted_both, lifted_some}
+use Rattle.ts_hull.proofs.SplitLaws.{after_is}
 
 abbrev pub end : ℤ → End
 end z = record { at = z }

@@ -7,13 +7,14 @@ use Rattle.ts_base.specs.declared.letter.Letter.TheVariants.{Less, Equal, Greate
 use Rattle.ts_base.specs.Signature.{letter_of}
 use Rattle.ts_automaton.specs.declared.regs.Hull.{Hull}
 use Rattle.ts_automaton.specs.Body.{Body, Move}
-use Rattle.ts_bound.specs.Hulls.{none, hull_of_both}
-use Rattle.ts_bound.specs.Sealed.{after_move, move_at, some_hull}
-use Rattle.ts_bound.specs.Sweeps.{AllTakeNone, hull_in, step_place, fits, same_letter, may_fit, pair_gives, move_entry, puts, with_move, with_state}
+use Rattle.ts_hull.specs.Hulls.{none, hull_of_both}
+use Rattle.ts_hull.specs.Sealed.{after_move, move_at, some_hull}
+use Rattle.ts_hull.specs.Sweeps.{AllTakeNone, hull_in, step_place, fits, same_letter, may_fit, pair_gives, move_entry, puts, with_move, with_state}
 use Rattle.ts_bound.proofs.PackLaws.{moved_none}
-use Rattle.ts_bound.proofs.Sums.{total_same, total_none}
-use Rattle.ts_bound.proofs.SweepLaws.{less_is, greater_is, less_not_equal, greater_not_equal}
-use Rattle.ts_bound.proofs.SweptRows.{place_below, cond_none}
+use Rattle.ts_hull.proofs.Sums.{total_same, total_none}
+use Rattle.ts_hull.proofs.Letters.{less_is, greater_is, less_not_equal, greater_not_equal}
+use Rattle.ts_hull.proofs.Puts.{place_below}
+use Rattle.ts_bound.proofs.SweptRows.{cond_none}
 
 puts_nothing : (s r : ℕ) (order : ℕ → ℕ) (f : ℕ → Hull) (next : List Hull) (n : ℕ) → AllTakeNone next → ((k : ℕ) → k < n → f (order k) ≡ none) →
     puts s r order f next n ≡ next

@@ -27,13 +27,13 @@ use Rattle.ts_glue.specs.Pairs.{Pair}
 use Rattle.ts_glue.specs.Glued.{glued_value, glued_span}
 use Rattle.ts_glue.proofs.SpanGlue.{marked_spans_hold}
 use Rattle.ts_glue.proofs.CallerLemmas.{after_back, after_stands, cut_at, answers_at_cuts}
-use Rattle.ts_bound.specs.Hulls.{hull_of, none, hull_of_both}
+use Rattle.ts_hull.specs.Hulls.{hull_of, none, hull_of_both}
 use Rattle.ts_bound.specs.NextRow.{Source, source, standing_at, hull_from, next_hull, states_of}
 use Rattle.ts_bound.specs.HullTables.{start_hull, hull_at, cells_before, values_at}
 use Rattle.ts_bound.specs.TermSpans.{Automata, LooksIn, standing_in, span_of_all, finish_spans, glued_spans, spans_at, inner_value_span, inner_span, value_span, term_span, IsUsable}
 use Rattle.ts_bound.specs.Laws.{Splits, AreAutomata, SpansHold, ValueSpansAreNarrowed, ValueSpansAreWithin}
 use Rattle.ts_bound.specs.Looks.{is_looked, place_in}
-use Rattle.ts_bound.proofs.HullLaws.{IsCanonical, hull_canonical}
+use Rattle.ts_hull.proofs.HullLaws.{IsCanonical, hull_canonical}
 use Rattle.ts_bound.proofs.Looking.{looked_length, place_bounds, place_usable, looked_get, looked_set, looked_miss}
 
 -- some element has it

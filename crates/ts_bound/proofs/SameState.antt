@@ -6,7 +6,7 @@ use Rattle.ts_automaton.specs.Body.{Move, move_of}
 use Rattle.ts_base.specs.declared.letter.Letter.{Letter}
 use Rattle.ts_base.specs.declared.letter.Letter.TheVariants.{Equal}
 use Rattle.ts_bound.specs.declared.swept_move.SweptMove.{SweptMove}
-use Rattle.ts_bound.specs.Sweeps.{with_move, with_sweep}
+use Rattle.ts_hull.specs.Sweeps.{with_move, with_sweep}
 use Rattle.ts_bound.specs.SweptMoves.{AreOfOneState, IsNextRow, with_move_of, with_swept_move, with_taken_move}
 use Rattle.ts_bound.proofs.SweepLaws.{with_move_canonical}
 use Rattle.ts_bound.proofs.SweptRows.{length-with_move}

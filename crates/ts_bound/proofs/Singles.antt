@@ -17,14 +17,14 @@ use Rattle.ts_automaton.specs.AutomatonRun.{Standing, step_of, after, answer, fi
 use Rattle.ts_automaton.specs.SpanRun.{one_hull, span_step, finish_span_of}
 use Rattle.ts_automaton.proofs.RunLaws.{steps_stay_single, finishes_stay_single, nones_stay}
 use Rattle.ts_glue.proofs.CallerLemmas.{after_back, after_stands, cut_at}
-use Rattle.ts_bound.specs.Hulls.{hull_of, none, hull_of_both, hull_of_all}
+use Rattle.ts_hull.specs.Hulls.{hull_of, none, hull_of_both, hull_of_all}
 use Rattle.ts_bound.specs.NextRow.{Source, source, standing_at, hull_from, next_hull, states_of}
 use Rattle.ts_bound.specs.HullTables.{start_hull, hull_at, cells_before, values_at}
 use Rattle.ts_bound.specs.Looks.{place_in}
 use Rattle.ts_bound.specs.TermSpans.{Automata, standing_in, span_of_all, finish_spans, inner_value_span, inner_span, term_span}
 use Rattle.ts_bound.specs.Blocks.{last_at}
 use Rattle.ts_bound.specs.Laws.{AreAutomata, SpansStaySingle}
-use Rattle.ts_bound.proofs.HullLaws.{IsCanonical, some_canonical, same_hull}
+use Rattle.ts_hull.proofs.HullLaws.{IsCanonical, some_canonical, same_hull}
 use Rattle.ts_bound.proofs.Looking.{looked_length, looked_map, place_end}
 use Rattle.ts_bound.proofs.Reached.{run, turned}
 use Rattle.ts_bound.proofs.SpanEnds.{last_value_ends, finishes_are}

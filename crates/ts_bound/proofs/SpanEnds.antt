@@ -26,14 +26,14 @@ use Rattle.ts_glue.specs.Glued.{glued_span}
 use Rattle.ts_glue.specs.Rules.{keeps_rules}
 use Rattle.ts_glue.proofs.SpanGlue.{none_glues_to_none}
 use Rattle.ts_glue.proofs.TwoForms.{two_forms_agree}
-use Rattle.ts_bound.specs.Hulls.{hull_of, none}
+use Rattle.ts_hull.specs.Hulls.{hull_of, none}
 use Rattle.ts_bound.specs.NextRow.{states_of}
 use Rattle.ts_bound.specs.HullTables.{start_hull, hull_at, hulls_at, cells_before, cells_after, values_at}
 use Rattle.ts_bound.specs.TermSpans.{Automata, LooksIn, automata_of, standing_in, span_of_all, finish_spans, glued_spans, spans_at, inner_value_span, inner_span, value_span, term_span}
 use Rattle.ts_bound.specs.Laws.{Splits, AreAutomata}
 use Rattle.ts_bound.specs.Blocks.{standing_of, HullsStand, finishes, glued_with, glued_all, OfReverse, back_hulls, back_states, split_at, last_at}
 use Rattle.ts_bound.specs.Looks.{is_looked, read_at, place_in}
-use Rattle.ts_bound.proofs.HullLaws.{IsCanonical, hull_canonical}
+use Rattle.ts_hull.proofs.HullLaws.{IsCanonical, hull_canonical}
 use Rattle.ts_bound.proofs.Looking.{looked_length, looked_get, place_end, place_read, read_inside_box}
 use Rattle.ts_bound.proofs.SpanRuns.{length-hulls_at, hulls_stand}
 

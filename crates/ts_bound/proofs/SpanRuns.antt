@@ -16,7 +16,7 @@ use Rattle.ts_automaton.specs.AutomatonRun.{Standing}
 use Rattle.ts_automaton.specs.SpanRun.{HullStands, finish_span_of}
 use Rattle.ts_glue.specs.Pairs.{Pair}
 use Rattle.ts_glue.specs.Glued.{glued_span}
-use Rattle.ts_bound.specs.Hulls.{none}
+use Rattle.ts_hull.specs.Hulls.{none}
 use Rattle.ts_bound.specs.HullTables.{hull_at, hulls_at, row_of, cells_before, cells_after, values_at, rows_behind, forward_rows, backward_rows, forward_table}
 use Rattle.ts_bound.specs.TermSpans.{span_of_all}
 use Rattle.ts_bound.specs.Blocks.{standing_of, HullsStand, glued_by, finishes, glued_with, glued_all, OfReverse, AreBackRows, back_hulls}

@@ -1,6 +1,5 @@
 -- The steps of the loops of a sweep.
 use Rattle.std.proofs.Common.{◌≡◌, ℕ, zero, suc, ◌+◌, ◌-◌, ◌*◌, ◌<◌, ◌≤◌, Bool, true, false, cond, ◌||◌, ℤ, pos, List, [], ◌∷◌, length, get_or, set, refl, sym, ◌∙◌, ap, subst, arith, int_lt, ◌⊎◌, inl, inr}
-use Rattle.std.specs.Ordering.{int_eq}
 use Rattle.std.proofs.lemmas.Bool.Decides.{Decides-int_eq}
 use Rattle.std.proofs.lemmas.Bool.{or_cases, or_parts, cases_lt}
 use Rattle.std.proofs.lemmas.Int.{ints}
@@ -12,17 +11,18 @@ use Rattle.ts_base.specs.Signature.{letter_of}
 use Rattle.ts_automaton.specs.declared.regs.Hull.{Hull}
 use Rattle.ts_automaton.specs.Body.{Move}
 use Rattle.ts_bound.specs.declared.packed.PackedHull.{PackedHull}
-use Rattle.ts_bound.specs.Hulls.{none, hull_of_both}
+use Rattle.ts_hull.specs.Hulls.{none, hull_of_both}
 use Rattle.ts_bound.specs.Packs.{IsRunning, unpack_hull}
-use Rattle.ts_bound.specs.Sealed.{after_move, some_hull}
-use Rattle.ts_bound.specs.Cuts.{Cut, cut_of, all_swept, front_hull, closed_hull}
-use Rattle.ts_bound.specs.Smalls.{Rises, small_int}
-use Rattle.ts_bound.specs.Sweeps.{AllTakeNone, IsSweepable, total, hull_in, step_place, fronts, compares, fits, takes, same_letter, pair_gives, move_entry, sweep_entry, puts, with_move, with_sweep}
-use Rattle.ts_bound.proofs.HullLaws.{TakesNone, both_takes_none, none_takes_none}
-use Rattle.ts_bound.proofs.SpanHulls.{both_comm, both_assoc}
-use Rattle.ts_bound.proofs.Sums.{total_nothing, total_same, total_join, total_canon, total_cut, total_first, total_canonical}
-use Rattle.ts_bound.proofs.SplitLaws.{closed_hull_none, total_closed, moved_is, hull_small, small_within}
+use Rattle.ts_hull.specs.Sealed.{after_move, some_hull}
+use Rattle.ts_hull.specs.Cuts.{Cut, cut_of, all_swept, front_hull, closed_hull}
+use Rattle.ts_hull.specs.Smalls.{Rises, small_int}
+use Rattle.ts_hull.specs.Sweeps.{AllTakeNone, IsSweepable, total, hull_in, step_place, fronts, compares, fits, takes, same_letter, pair_gives, move_entry, sweep_entry, puts, with_move, with_sweep}
+use Rattle.ts_hull.proofs.HullLaws.{TakesNone, both_takes_none, none_takes_none}
+use Rattle.ts_hull.proofs.SpanHulls.{both_comm, both_assoc}
+use Rattle.ts_hull.proofs.Sums.{total_nothing, total_same, total_join, total_canon, total_cut, total_first, total_canonical}
+use Rattle.ts_hull.proofs.SplitLaws.{closed_hull_none, total_closed, moved_is, hull_small, small_within}
 use Rattle.ts_bound.proofs.PackLaws.{runs_past, runs_empty, running_nothing}
+use Rattle.ts_hull.proofs.Letters.{less_is, greater_is, equal_is, less_not_equal, greater_not_equal}
 
 pub fronts_more : (k : Cut) (l : Letter) (s q : ℕ) (vs : List ℤ) (row : List Hull) (n n' i : ℕ) (x : ℤ) (p p' : PackedHull) →
     x ≡ get_or vs i (pos 0) → i ≡ step_place l (length vs) n → n' ≡ n + 1 → IsRunning p (fronts k l s q vs row n) →
@@ -80,57 +80,6 @@ with_move_canonical m l s q vs row ws next next' e h =
 pub puts_are_canonical : (s r : ℕ) (order : ℕ → ℕ) (f : ℕ → Hull) (first next : List Hull) (n : ℕ) → next ≡ puts s r order f first n →
     AllTakeNone first → AllTakeNone next
 puts_are_canonical s r order f first next n e h = subst (λ (z : List Hull). AllTakeNone z) (sym e) (puts_canonical s r order f first n h)
-
--- letters as orders
-
-pub less_is : (v w : ℤ) → same_letter (letter_of v w) Less ≡ int_lt v w
-less_is v w = go (int_lt v w) (int_lt w v)
-  where
-    go : (a b : Bool) → same_letter (cond a Less (cond b Greater Equal)) Less ≡ a
-    go true b = refl
-    go false true = refl
-    go false false = refl
-
-not_both : (v w : ℤ) → int_lt v w ≡ true → int_lt w v ≡ false
-not_both v w h = grind (arith, ints)
-
-pub greater_is : (v w : ℤ) → same_letter (letter_of v w) Greater ≡ int_lt w v
-greater_is v w = go (int_lt v w) (int_lt w v) (not_both v w)
-  where
-    go : (a b : Bool) → (a ≡ true → b ≡ false) → same_letter (cond a Less (cond b Greater Equal)) Greater ≡ b
-    go true b h = sym (h refl)
-    go false true h = refl
-    go false false h = refl
-
-not_equal : (v w : ℤ) → (v ≡ w → ⊥) → int_eq v w ≡ false
-not_equal v w h = go (int_eq v w) refl
-  where
-    go : (b : Bool) → int_eq v w ≡ b → int_eq v w ≡ false
-    go true e = absurd (h ((Decides-int_eq v w).0 e))
-    go false e = e
-
-below_apart : (v w : ℤ) → int_lt v w ≡ true → v ≡ w → ⊥
-below_apart v w h e = grind (arith, ints)
-
-neither_is : (v w : ℤ) → int_lt v w ≡ false → int_lt w v ≡ false → v ≡ w
-neither_is v w h k = grind (arith, ints)
-
-pub equal_is : (v w : ℤ) → same_letter (letter_of v w) Equal ≡ int_eq v w
-equal_is v w = go (int_lt v w) (int_lt w v) refl refl
-  where
-    go : (a b : Bool) → int_lt v w ≡ a → int_lt w v ≡ b → same_letter (cond a Less (cond b Greater Equal)) Equal ≡ int_eq v w
-    go true b e f = sym (not_equal v w (below_apart v w e))
-    go false true e f = sym (not_equal v w (λ s. below_apart w v f (sym s)))
-    go false false e f = sym ((Decides-int_eq v w).1 (neither_is v w e f))
-
-pub less_not_equal : (v w : ℤ) → int_lt v w ≡ true → same_letter (letter_of v w) Equal ≡ false
-less_not_equal v w h = ap (λ a. same_letter (cond a Less (cond (int_lt w v) Greater Equal)) Equal) h
-
-pub greater_not_equal : (v w : ℤ) → int_lt w v ≡ true → same_letter (letter_of v w) Equal ≡ false
-greater_not_equal v w h =
-    ap (λ a. same_letter (cond a Less (cond (int_lt w v) Greater Equal)) Equal) (not_both w v h) ∙ ap (λ a. same_letter (cond a Greater Equal) Equal) h
-
-pub ruleset letters_are = (less_is, equal_is, greater_is)
 
 lt_trans : (a b c : ℤ) → int_lt a b ≡ true → int_lt b c ≡ true → int_lt a c ≡ true
 lt_trans a b c h k = grind (arith, ints)

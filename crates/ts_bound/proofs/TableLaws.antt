@@ -22,7 +22,7 @@ use Rattle.ts_automaton.specs.SpanRun.{none_hull, has_registers, one_hull, HullS
 use Rattle.ts_automaton.proofs.KindLaws.{spans_typed}
 use Rattle.ts_automaton.proofs.StepLaws.{start_stands, spans_have, move_keeps}
 use Rattle.ts_base.specs.Signature.{letter_of}
-use Rattle.ts_bound.specs.Hulls.{hull_of, none, hull_of_both}
+use Rattle.ts_hull.specs.Hulls.{hull_of, none, hull_of_both}
 use Rattle.ts_bound.specs.NextRow.{Source, source, standing_at, sources_from, sources, hull_from, next_hull, next_hulls, next_row, states_of, RowStands}
 use Rattle.ts_bound.specs.Rows.{IsRow, row_at, concat_rows, place, with_written}
 use Rattle.ts_bound.proofs.RowLaws.{row_written, next_written, both_written, row_before, row_after, row_after_at}

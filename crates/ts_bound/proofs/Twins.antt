@@ -6,12 +6,13 @@ use Rattle.ts_base.specs.declared.letter.Letter.{Letter}
 use Rattle.ts_base.specs.declared.letter.Letter.TheVariants.{Less, Equal, Greater}
 use Rattle.ts_automaton.specs.declared.regs.Hull.{Hull}
 use Rattle.ts_automaton.specs.Body.{Body, Move}
-use Rattle.ts_bound.specs.Hulls.{none, hull_of_both}
-use Rattle.ts_bound.specs.Sealed.{move_at}
-use Rattle.ts_bound.specs.Sweeps.{AllTakeNone, step_place, move_entry, sweep_entry, with_move, with_sweep, with_state}
-use Rattle.ts_bound.proofs.HullLaws.{TakesNone, both_takes_none}
-use Rattle.ts_bound.proofs.SpanHulls.{both_comm, both_assoc}
-use Rattle.ts_bound.proofs.SweptRows.{gift, puts_at, length-puts, length-with_move, with_move_at, state_done}
+use Rattle.ts_hull.specs.Hulls.{none, hull_of_both}
+use Rattle.ts_hull.specs.Sealed.{move_at}
+use Rattle.ts_hull.specs.Sweeps.{AllTakeNone, step_place, move_entry, sweep_entry, with_move, with_sweep, with_state}
+use Rattle.ts_hull.proofs.HullLaws.{TakesNone, both_takes_none}
+use Rattle.ts_hull.proofs.SpanHulls.{both_comm, both_assoc}
+use Rattle.ts_hull.proofs.Puts.{puts_at, length-puts}
+use Rattle.ts_bound.proofs.SweptRows.{gift, length-with_move, with_move_at, state_done}
 
 -- rows are equal that are equal at each place and state
 

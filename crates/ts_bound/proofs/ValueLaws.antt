@@ -6,7 +6,7 @@ use Rattle.std.proofs.lemmas.List.Elements.{Contains-get_or}
 use Rattle.std.proofs.lemmas.Int.{ints}
 use Rattle.std.specs.List.{AllByRecursion}
 use Rattle.ts_domain.specs.Values.{WithinLimits, IsRising, IsDomain}
-use Rattle.ts_bound.specs.Smalls.{Rises, small_int, AreValues, AreRead}
+use Rattle.ts_hull.specs.Smalls.{Rises, small_int, AreValues, AreRead}
 
 above_at : (v : ℤ) (vs : List ℤ) (j : ℕ) → AllByRecursion (λ y. v <ℤ y) vs → j < length vs → IsTrue (int_lt v (get_or vs j (pos 0)))
 above_at v [] j h lt = absurd (omega arith)

@@ -6,7 +6,8 @@ use Rattle.ts_base.specs.declared.ext.Ext.TheVariants.{Int}
 use Rattle.ts_base.specs.Numbers.{ext_max, ext_min}
 use Rattle.ts_base.specs.Spans.{has_some}
 use Rattle.ts_bound.specs.declared.packed.Ends.{Ends}
-use Rattle.ts_bound.specs.Packs.{unpack, span_from, unpack_span}
+use Rattle.ts_hull.specs.Sealed.{span_from}
+use Rattle.ts_bound.specs.Packs.{unpack, unpack_span}
 use Rattle.ts_bound.proofs.PackLaws.{order_is, unpack_between}
 
 -- both ends are numbers where neither is the one of 64 bits at its side

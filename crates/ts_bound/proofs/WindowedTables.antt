@@ -6,7 +6,7 @@ use Rattle.ts_base.specs.Windows.{LooksInside, looked_at}
 use Rattle.ts_automaton.specs.declared.regs.Hull.{Hull}
 use Rattle.ts_automaton.specs.Typing.{is_automaton}
 use Rattle.ts_automaton.specs.Body.{Body}
-use Rattle.ts_bound.specs.Hulls.{none}
+use Rattle.ts_hull.specs.Hulls.{none}
 use Rattle.ts_bound.specs.HullTables.{row_of, only_looked, forward_rows, forward_table, backward_rows, backward_table}
 use Rattle.ts_bound.specs.Looks.{is_looked, first_looked, last_looked, count_looked}
 use Rattle.ts_bound.specs.NextRow.{RowStands, next_row}

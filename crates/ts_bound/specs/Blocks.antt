@@ -11,7 +11,7 @@ use Rattle.ts_automaton.specs.AutomatonRun.{Standing}
 use Rattle.ts_automaton.specs.SpanRun.{HullStands, finish_span_of}
 use Rattle.ts_glue.specs.Pairs.{Pair}
 use Rattle.ts_glue.specs.Glued.{glued_span}
-use Rattle.ts_bound.specs.Hulls.{none}
+use Rattle.ts_hull.specs.Hulls.{none}
 use Rattle.ts_bound.specs.HullTables.{hulls_at, cells_before, cells_after, backward_table}
 use Rattle.ts_bound.specs.TermSpans.{span_of_all}
 

@@ -7,7 +7,7 @@ use Rattle.ts_base.specs.Windows.{looked_at}
 use Rattle.ts_automaton.specs.declared.regs.Hull.{Hull}
 use Rattle.ts_automaton.specs.Body.{Body}
 use Rattle.ts_automaton.specs.SpanRun.{one_hull}
-use Rattle.ts_bound.specs.Hulls.{hull_of, none}
+use Rattle.ts_hull.specs.Hulls.{hull_of, none}
 use Rattle.ts_bound.specs.NextRow.{source, states_of, next_hull}
 use Rattle.ts_bound.specs.Rows.{windowed}
 

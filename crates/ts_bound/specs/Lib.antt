@@ -1,4 +1,3 @@
-pub mod Hulls
 pub mod NextRow
 pub mod Filling
 pub mod Rows
@@ -8,10 +7,6 @@ pub mod LendsRows
 pub mod TermSpans
 pub mod Laws
 pub mod Blocks
-pub mod Sealed
-pub mod Splits
-pub mod Cuts
-pub mod Smalls
+pub mod PartCuts
 pub mod Packs
-pub mod Sweeps
 pub mod SweptMoves

@@ -8,7 +8,7 @@ use Rattle.ts_automaton.specs.Registers.{spans_of}
 use Rattle.ts_automaton.specs.Body.{Body}
 use Rattle.ts_automaton.specs.AutomatonRun.{Standing}
 use Rattle.ts_automaton.specs.SpanRun.{HullStands, span_step}
-use Rattle.ts_bound.specs.Hulls.{hull_of, none, hull_of_all}
+use Rattle.ts_hull.specs.Hulls.{hull_of, none, hull_of_all}
 
 -- the places of the states
 abbrev pub states_of : Body → List ℕ

@@ -7,8 +7,8 @@ use Rattle.ts_automaton.specs.declared.regs.Hull.{Hull}
 use Rattle.ts_bound.specs.declared.packed.End.{End}
 use Rattle.ts_bound.specs.declared.packed.Ends.{Ends}
 use Rattle.ts_bound.specs.declared.packed.PackedHull.{PackedHull}
-use Rattle.ts_bound.specs.Hulls.{none}
-use Rattle.ts_bound.specs.Sealed.{hull_with, some_hull}
+use Rattle.ts_hull.specs.Hulls.{none}
+use Rattle.ts_hull.specs.Sealed.{hull_with, some_hull, span_from}
 
 -- the least and the greatest number of 64 bits stand for the infinities
 unfoldable pub unpack : End → Ext
@@ -24,9 +24,6 @@ pub record IsPlain (x : ℤ) : Type 0 where
 pub record ArePlain (e : Ends) : Type 0 where
   pub lo : IsPlain e.lo.at
   pub hi : IsPlain e.hi.at
-
-abbrev pub span_from : Ext → Ext → Span
-span_from lo hi = record { lo = lo; hi = hi }
 
 abbrev pub unpack_span : Ends → Span
 unpack_span e = span_from (unpack e.lo) (unpack e.hi)

@@ -5,8 +5,9 @@ use Rattle.ts_automaton.specs.Body.{Move, move_of}
 use Rattle.ts_base.specs.declared.letter.Letter.{Letter}
 use Rattle.ts_bound.specs.declared.sweep_parts.Parts.{Parts}
 use Rattle.ts_bound.specs.declared.swept_move.SweptMove.{SweptMove}
-use Rattle.ts_bound.specs.Cuts.{cut_of, parts_cut, all_swept}
-use Rattle.ts_bound.specs.Sweeps.{AllTakeNone, move_entry, with_move, with_sweep}
+use Rattle.ts_hull.specs.Cuts.{cut_of, all_swept}
+use Rattle.ts_bound.specs.PartCuts.{parts_cut}
+use Rattle.ts_hull.specs.Sweeps.{AllTakeNone, move_entry, with_move, with_sweep}
 
 -- the row with the move taken in, and on `=` too where it has a twin
 abbrev pub with_swept_move : SweptMove → Letter → List Hull → List Hull

@@ -1,12 +1,12 @@
 //! One row of hulls from the row before, over all pairs of neighbouring values.
 
 ghost use Rattle.std.specs.Prelude.{◌≡◌, ◌+◌, ◌*◌, ◌≤◌, length, fold, slice_range};
-ghost use Rattle.std.specs.List.{AllByRecursion};
 ghost use Rattle.std.proofs.Common.{replicate};
+ghost use Rattle.std.specs.List.{AllByRecursion};
 ghost use Rattle.ts_automaton.specs.SpanRun.{HullStands, hull_standing};
-ghost use Rattle.ts_bound.specs.Hulls.{hull_of_both, none};
-ghost use Rattle.ts_bound.specs.NextRow.{RowStands, next_hulls, next_row, sources, sources_from, standing_at};
 ghost use Rattle.ts_bound.specs.Filling.{over, taken_in};
+ghost use Rattle.ts_bound.specs.NextRow.{RowStands, next_hulls, next_row, sources, sources_from, standing_at};
+ghost use Rattle.ts_hull.specs.Hulls.{hull_of_both, none};
 
 use ts_automaton::{Automaton, Hull, HullAt};
 use ts_domain::Domain;
@@ -93,7 +93,7 @@ fn take_in(a: &Automaton, from: HullAt, earlier: i64, value: i64, next: &mut [Hu
 }
 
 /// The hull of two, register by register.
-#[tactic(auto, unfolding(crate::specs::Hulls::hull_of_both))]
+#[tactic(auto, unfolding(ts_hull::specs::Hulls::hull_of_both))]
 fn hull_of_both(first: &Hull, second: &Hull) -> Hull
     ensures { result ≡ hull_of_both first.now second.now }
 {

@@ -5,10 +5,10 @@ ghost use Rattle.std.specs.Prelude.{◌≡◌, true};
 ghost use Rattle.ts_base.specs.Numbers.{ext_max, ext_min};
 ghost use Rattle.ts_base.specs.Spans.{has_some, none_span, one_span, span_hull};
 ghost use Rattle.ts_base.specs.declared.ext.Ext.TheVariants.{Int, NegInf, PosInf};
-ghost use Rattle.ts_bound.specs.Hulls.{hull_of_both, none};
 ghost use Rattle.ts_bound.specs.Packs.{IsSomeOrNone, unpack, unpack_hull, unpack_span};
-ghost use Rattle.ts_bound.specs.Sealed.{some_hull};
-ghost use Rattle.ts_bound.specs.Smalls.{small, small_hull, small_int, small_span};
+ghost use Rattle.ts_hull.specs.Hulls.{hull_of_both, none};
+ghost use Rattle.ts_hull.specs.Sealed.{some_hull};
+ghost use Rattle.ts_hull.specs.Smalls.{small, small_hull, small_int, small_span};
 
 use ts_automaton::Hull;
 use ts_base::{Ext, Span};

@@ -6,8 +6,8 @@ ghost use Rattle.ts_automaton.specs.Formula.{formula};
 ghost use Rattle.ts_automaton.specs.Registers.{ext_op};
 ghost use Rattle.ts_base.specs.Spans.{has_some};
 ghost use Rattle.ts_bound.specs.Packs.{IsPackOf, unpack_hull, unpack_span};
-ghost use Rattle.ts_bound.specs.Sealed.{after_move, by_ends, some_hull, span_in};
-ghost use Rattle.ts_bound.specs.Smalls.{small_int};
+ghost use Rattle.ts_hull.specs.Sealed.{after_move, by_ends, some_hull, span_in};
+ghost use Rattle.ts_hull.specs.Smalls.{small_int};
 
 use crate::packed::{Ends, PackedHull};
 use ts_automaton::{Expr, Op, Turn};

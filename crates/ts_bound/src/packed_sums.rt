@@ -4,7 +4,7 @@ ghost use Rattle.std.specs.Prelude.{◌≡◌, true, ◌+ℤ◌};
 ghost use Rattle.ts_base.specs.Numbers.{clamp, ext_plus};
 ghost use Rattle.ts_base.specs.Spans.{has_some};
 ghost use Rattle.ts_bound.specs.Packs.{ArePlain, IsPlain, unpack, unpack_span};
-ghost use Rattle.ts_bound.specs.Sealed.{by_ends};
+ghost use Rattle.ts_hull.specs.Sealed.{by_ends};
 
 use crate::packed::{End, Ends};
 

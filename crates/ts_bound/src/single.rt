@@ -2,7 +2,7 @@
 
 ghost use Rattle.std.specs.Prelude.{◌≡◌, ◌*◌, ◌<◌, pos, length, get_or};
 ghost use Rattle.ts_base.specs.Signature.{letter_of};
-ghost use Rattle.ts_bound.specs.Sweeps.{AllTakeNone, IsSweepable, with_state};
+ghost use Rattle.ts_hull.specs.Sweeps.{AllTakeNone, IsSweepable, with_state};
 
 use crate::sweep::turn;
 use crate::sweep_pairs::moved_of;

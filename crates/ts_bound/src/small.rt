@@ -2,7 +2,7 @@
 
 ghost use Rattle.std.specs.Prelude.{◌≡◌};
 ghost use Rattle.std.specs.List.{list_all};
-ghost use Rattle.ts_bound.specs.Smalls.{small, small_hull, small_span};
+ghost use Rattle.ts_hull.specs.Smalls.{small, small_hull, small_span};
 
 use ts_automaton::Hull;
 use ts_base::{Ext, Span};

@@ -4,7 +4,7 @@ ghost use Rattle.std.specs.Prelude.{◌≡◌, ◌+◌, ◌*◌, ◌≤◌, [], 
 ghost use Rattle.std.proofs.Common.{replicate};
 ghost use Rattle.ts_bound.specs.Filling.{over};
 ghost use Rattle.ts_bound.specs.HullTables.{row_of};
-ghost use Rattle.ts_bound.specs.Hulls.{none};
+ghost use Rattle.ts_hull.specs.Hulls.{none};
 
 use crate::fill::clear;
 use ts_automaton::{Automaton, Hull};

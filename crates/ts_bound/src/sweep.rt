@@ -4,12 +4,12 @@ ghost use Rattle.std.specs.Prelude.{◌≡◌, ℕ, ◌*◌, ◌<◌, true, fals
 ghost use Rattle.std.specs.List.{list_all};
 ghost use Rattle.ts_automaton.specs.Body.{move_of, move_on, node_of};
 ghost use Rattle.ts_base.specs.declared.letter.Letter.TheVariants.{Equal};
-ghost use Rattle.ts_bound.specs.Hulls.{none};
 ghost use Rattle.ts_bound.specs.NextRow.{next_row};
-ghost use Rattle.ts_bound.specs.Sealed.{move_at};
-ghost use Rattle.ts_bound.specs.Smalls.{small_hull};
-ghost use Rattle.ts_bound.specs.Sweeps.{fits, may_fit, same_letter};
 ghost use Rattle.ts_bound.specs.SweptMoves.{IsNextRow, with_taken_move};
+ghost use Rattle.ts_hull.specs.Hulls.{none};
+ghost use Rattle.ts_hull.specs.Sealed.{move_at};
+ghost use Rattle.ts_hull.specs.Smalls.{small_hull};
+ghost use Rattle.ts_hull.specs.Sweeps.{fits, may_fit, same_letter};
 
 use crate::fill::clear;
 use crate::sweep_equal::equal_move;

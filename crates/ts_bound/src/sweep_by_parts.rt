@@ -4,10 +4,10 @@
 ghost use Rattle.std.specs.Prelude.{◌≡◌};
 ghost use Rattle.ts_automaton.specs.declared.expr.Atom.TheVariants.{C, D, R};
 ghost use Rattle.ts_base.specs.declared.op.Op.TheVariants.{Add};
-ghost use Rattle.ts_bound.specs.declared.sweep_parts.Part.TheVariants.{KeepC, KeepR, Tail, Three, Two, Word};
-ghost use Rattle.ts_bound.specs.Cuts.{kept_parts, longer_parts, parts_of};
-ghost use Rattle.ts_bound.specs.Sweeps.{letter_for};
+ghost use Rattle.ts_bound.specs.PartCuts.{kept_parts, longer_parts, parts_of};
 ghost use Rattle.ts_bound.specs.SweptMoves.{AreSweptParts, IsNextRow, with_swept_move};
+ghost use Rattle.ts_bound.specs.declared.sweep_parts.Part.TheVariants.{KeepC, KeepR, Tail, Three, Two, Word};
+ghost use Rattle.ts_hull.specs.Sweeps.{letter_for};
 
 use crate::sweep_by_words::{
     added_tail_move, counted_inside_move, counted_move, greatest_move, higher_move,

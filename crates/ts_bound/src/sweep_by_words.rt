@@ -3,10 +3,10 @@
 ghost use Rattle.std.specs.Prelude.{◌≡◌};
 ghost use Rattle.ts_automaton.specs.declared.expr.Atom.TheVariants.{C, D, NegInf, R, This, Unit, Zero};
 ghost use Rattle.ts_base.specs.declared.op.Op.TheVariants.{Add, Max};
-ghost use Rattle.ts_bound.specs.declared.sweep_parts.Part.TheVariants.{KeepC, KeepR, Tail, Three, Two, Word};
-ghost use Rattle.ts_bound.specs.Cuts.{parts_of};
-ghost use Rattle.ts_bound.specs.Sweeps.{letter_for};
+ghost use Rattle.ts_bound.specs.PartCuts.{parts_of};
 ghost use Rattle.ts_bound.specs.SweptMoves.{AreSweptParts, IsNextRow, with_swept_move};
+ghost use Rattle.ts_bound.specs.declared.sweep_parts.Part.TheVariants.{KeepC, KeepR, Tail, Three, Two, Word};
+ghost use Rattle.ts_hull.specs.Sweeps.{letter_for};
 
 use crate::sweep_kept::{sweep_gapless, sweep_lent};
 use crate::sweep_parts::Part::{KeepC, KeepR, Tail, Three, Two, Word};

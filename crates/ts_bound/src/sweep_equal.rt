@@ -3,8 +3,8 @@
 ghost use Rattle.std.specs.Prelude.{◌≡◌, ℕ, ◌<◌, ◌≤◌, pos, true, false, length, get_or};
 ghost use Rattle.ts_base.specs.declared.letter.Letter.TheVariants.{Equal, Less};
 ghost use Rattle.ts_bound.specs.Packs.{IsRunning};
-ghost use Rattle.ts_bound.specs.Sweeps.{IsReached, IsWide, Leads, fits};
 ghost use Rattle.ts_bound.specs.SweptMoves.{IsNextRow, taken_entry, with_taken_move};
+ghost use Rattle.ts_hull.specs.Sweeps.{IsReached, IsWide, Leads, fits};
 
 use crate::sweep_equal_parts::equal_parts;
 use crate::sweep_pairs::{put_packed, with_pair};

@@ -2,10 +2,11 @@
 
 ghost use Rattle.std.specs.Prelude.{◌≡◌, ◌<◌, ◌&&◌, nat_lt, true, false, length};
 ghost use Rattle.ts_base.specs.declared.letter.Letter.TheVariants.{Equal, Less};
-ghost use Rattle.ts_bound.specs.Cuts.{all_swept, kept_parts, longer_parts, parts_cut};
 ghost use Rattle.ts_bound.specs.Packs.{IsRunning};
-ghost use Rattle.ts_bound.specs.Sweeps.{IsWide, Leads, equal_front, fits};
+ghost use Rattle.ts_bound.specs.PartCuts.{kept_parts, longer_parts, parts_cut};
 ghost use Rattle.ts_bound.specs.SweptMoves.{AreSweptParts, IsNextRow, with_taken_move};
+ghost use Rattle.ts_hull.specs.Cuts.{all_swept};
+ghost use Rattle.ts_hull.specs.Sweeps.{IsWide, Leads, equal_front, fits};
 
 use crate::packed::PackedHull;
 use crate::sweep_equal::{equal_gaps, reached_at};

@@ -3,15 +3,16 @@
 ghost use Rattle.std.specs.Prelude.{◌≡◌, pos, true};
 ghost use Rattle.ts_automaton.specs.Formula.{Leaf, formula};
 ghost use Rattle.ts_automaton.specs.declared.expr.Atom.TheVariants.{C, D, R};
-ghost use Rattle.ts_base.specs.declared.op.Op.TheVariants.{Add};
 ghost use Rattle.ts_base.specs.Spans.{has_some};
-ghost use Rattle.ts_bound.specs.declared.sweep_parts.Part.TheVariants.{KeepR, Tail, Three, Two, Word};
-ghost use Rattle.ts_bound.specs.Cuts.{closed_hull, front_hull, kept_parts, longer_parts, part_split, parts_cut};
-ghost use Rattle.ts_bound.specs.Cuts.{parts_of, all_swept};
+ghost use Rattle.ts_base.specs.declared.op.Op.TheVariants.{Add};
 ghost use Rattle.ts_bound.specs.Packs.{IsPackOf, unpack_hull, unpack_span};
-ghost use Rattle.ts_bound.specs.Sealed.{some_hull, span_in};
-ghost use Rattle.ts_bound.specs.Smalls.{small_int};
-ghost use Rattle.ts_bound.specs.Splits.{closed_span, front_span, is_swept};
+ghost use Rattle.ts_bound.specs.PartCuts.{kept_parts, longer_parts, part_split, parts_cut};
+ghost use Rattle.ts_bound.specs.PartCuts.{parts_of};
+ghost use Rattle.ts_bound.specs.declared.sweep_parts.Part.TheVariants.{KeepR, Tail, Three, Two, Word};
+ghost use Rattle.ts_hull.specs.Cuts.{closed_hull, front_hull, all_swept};
+ghost use Rattle.ts_hull.specs.Sealed.{some_hull, span_in};
+ghost use Rattle.ts_hull.specs.Smalls.{small_int};
+ghost use Rattle.ts_hull.specs.Splits.{closed_span, front_span, is_swept};
 
 use crate::packed::{Ends, PackedHull};
 use crate::packed_exprs::{joined_ends, register_ends};

@@ -3,8 +3,8 @@
 
 ghost use Rattle.std.specs.Prelude.{◌≡◌, false};
 ghost use Rattle.ts_base.specs.declared.letter.Letter.TheVariants.{Equal};
-ghost use Rattle.ts_bound.specs.Sweeps.{letter_for, same_letter};
 ghost use Rattle.ts_bound.specs.SweptMoves.{AreSweptParts, IsNextRow, with_swept_move};
+ghost use Rattle.ts_hull.specs.Sweeps.{letter_for, same_letter};
 
 use crate::sweep_by_parts::sweep_by_parts;
 use crate::sweep_move::sweep_move;

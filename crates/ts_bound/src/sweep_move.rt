@@ -3,13 +3,14 @@
 ghost use Rattle.std.specs.Prelude.{◌≡◌, ℕ, ◌+◌, ◌*◌, ◌<◌, ◌≤◌, pos, true, false, length, get_or};
 ghost use Rattle.ts_automaton.specs.declared.regs.Hull.{Hull};
 ghost use Rattle.ts_base.specs.declared.letter.Letter.TheVariants.{Equal};
-ghost use Rattle.ts_bound.specs.Cuts.{closed_hull, front_hull, parts_cut, all_swept};
-ghost use Rattle.ts_bound.specs.Hulls.{hull_of_both, none};
 ghost use Rattle.ts_bound.specs.Packs.{IsPackOf, IsRunning, IsSomeOrNone, unpack_hull};
-ghost use Rattle.ts_bound.specs.Sealed.{some_hull};
-ghost use Rattle.ts_bound.specs.Smalls.{small_hull, small_int};
-ghost use Rattle.ts_bound.specs.Sweeps.{fronts, hull_in, same_letter, step_place, takes, with_hull_at};
+ghost use Rattle.ts_bound.specs.PartCuts.{parts_cut};
 ghost use Rattle.ts_bound.specs.SweptMoves.{AreSweptParts, IsNextRow, with_swept_move};
+ghost use Rattle.ts_hull.specs.Cuts.{closed_hull, front_hull, all_swept};
+ghost use Rattle.ts_hull.specs.Hulls.{hull_of_both, none};
+ghost use Rattle.ts_hull.specs.Sealed.{some_hull};
+ghost use Rattle.ts_hull.specs.Smalls.{small_hull, small_int};
+ghost use Rattle.ts_hull.specs.Sweeps.{fronts, hull_in, same_letter, step_place, takes, with_hull_at};
 
 use crate::packed::PackedHull;
 use crate::sweep_parts::Parts;

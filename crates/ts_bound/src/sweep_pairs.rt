@@ -3,12 +3,12 @@
 ghost use Rattle.std.specs.Prelude.{◌≡◌, ◌+◌, ◌*◌, ◌<◌, pos, true, length, get_or};
 ghost use Rattle.ts_automaton.specs.Body.{move_of};
 ghost use Rattle.ts_automaton.specs.declared.regs.Hull.{Hull};
-ghost use Rattle.ts_bound.specs.Hulls.{hull_of_both, none};
 ghost use Rattle.ts_bound.specs.Packs.{IsPackOf, IsRunning, IsSomeOrNone, unpack_hull};
-ghost use Rattle.ts_bound.specs.Sealed.{after_move, some_hull};
-ghost use Rattle.ts_bound.specs.Smalls.{small_hull, small_int};
-ghost use Rattle.ts_bound.specs.Sweeps.{hull_in, pair_gives, with_hull_at};
 ghost use Rattle.ts_bound.specs.SweptMoves.{IsNextRow, taken_entry, with_taken_move};
+ghost use Rattle.ts_hull.specs.Hulls.{hull_of_both, none};
+ghost use Rattle.ts_hull.specs.Sealed.{after_move, some_hull};
+ghost use Rattle.ts_hull.specs.Smalls.{small_hull, small_int};
+ghost use Rattle.ts_hull.specs.Sweeps.{hull_in, pair_gives, with_hull_at};
 
 use crate::packed::PackedHull;
 use crate::packed_exprs::moved_packed;

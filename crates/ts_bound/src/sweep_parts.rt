@@ -3,9 +3,10 @@
 ghost use Rattle.std.specs.Prelude.{◌≡◌, IfSome, false};
 ghost use Rattle.ts_automaton.specs.Body.{move_of};
 ghost use Rattle.ts_automaton.specs.Formula.{Join, Leaf, formula};
-ghost use Rattle.ts_bound.specs.Cuts.{cut_of, kept_parts, longer_parts, part_split, parts_cut, all_swept};
-ghost use Rattle.ts_bound.specs.Splits.{is_double, is_front, is_next, is_next_word, is_swept, operands, split_formula, tail_of};
+ghost use Rattle.ts_bound.specs.PartCuts.{kept_parts, longer_parts, part_split, parts_cut};
 ghost use Rattle.ts_glue.specs.Rules.{is_same_op};
+ghost use Rattle.ts_hull.specs.Cuts.{cut_of, all_swept};
+ghost use Rattle.ts_hull.specs.Splits.{is_double, is_front, is_next, is_next_word, is_swept, operands, split_formula, tail_of};
 
 use ts_automaton::{Atom, Expr, Op, Turn};
 

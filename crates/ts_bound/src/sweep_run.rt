@@ -3,11 +3,11 @@
 ghost use Rattle.std.specs.Prelude.{◌≡◌, ◌+◌, ◌*◌, ◌<◌, true, length, get_or};
 ghost use Rattle.ts_automaton.specs.declared.regs.Hull.{Hull};
 ghost use Rattle.ts_base.specs.Signature.{letter_of};
-ghost use Rattle.ts_bound.specs.Hulls.{hull_of_both, none};
 ghost use Rattle.ts_bound.specs.Packs.{IsPackOf, IsRunning, IsSomeOrNone, unpack_hull};
-ghost use Rattle.ts_bound.specs.Sealed.{some_hull};
-ghost use Rattle.ts_bound.specs.Smalls.{small_hull};
-ghost use Rattle.ts_bound.specs.Sweeps.{compares, fits, hull_in, same_letter, step_place, with_hull_at};
+ghost use Rattle.ts_hull.specs.Hulls.{hull_of_both, none};
+ghost use Rattle.ts_hull.specs.Sealed.{some_hull};
+ghost use Rattle.ts_hull.specs.Smalls.{small_hull};
+ghost use Rattle.ts_hull.specs.Sweeps.{compares, fits, hull_in, same_letter, step_place, with_hull_at};
 
 use crate::packed::PackedHull;
 use crate::sweep_values::{Places, value_at};
@@ -47,7 +47,7 @@ pub(crate) fn step_place(l: Letter, n: usize, k: usize) -> usize
 }
 
 /// Whether a value compares with the next one as the letter says.
-#[tactic(auto, using(crate::proofs::SweepLaws::letters_are))]
+#[tactic(auto, using(ts_hull::proofs::Letters::letters_are))]
 #[inline(always)]
 fn stands(l: Letter, this: i64, next: i64) -> bool
     ensures { result ≡ same_letter (letter_of this next) l }

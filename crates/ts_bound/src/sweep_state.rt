@@ -4,9 +4,9 @@
 ghost use Rattle.std.specs.Prelude.{◌≡◌, ℕ, ◌*◌, ◌<◌, true, false, length};
 ghost use Rattle.ts_automaton.specs.Body.{move_of};
 ghost use Rattle.ts_base.specs.declared.letter.Letter.TheVariants.{Equal};
-ghost use Rattle.ts_bound.specs.Sealed.{some_hull};
-ghost use Rattle.ts_bound.specs.Sweeps.{AllTakeNone, IsSweepable, hull_in, same_letter, with_state};
 ghost use Rattle.ts_bound.specs.SweptMoves.{IsNextRow, with_move_of, with_taken_move};
+ghost use Rattle.ts_hull.specs.Sealed.{some_hull};
+ghost use Rattle.ts_hull.specs.Sweeps.{AllTakeNone, IsSweepable, hull_in, same_letter, with_state};
 
 use crate::same_moves::is_same_turn;
 use crate::single::step_state;

@@ -4,12 +4,12 @@ ghost use Rattle.std.specs.Prelude.{◌≡◌, ℕ, ◌*◌, ◌<◌, ◌≤◌,
 ghost use Rattle.std.specs.Prelude.{false, ◌&&◌, int_lt, int_le, ◌+ℤ◌, ◌-ℤ◌, ◌<ℤ◌, ◌≤ℤ◌, length, get_or};
 ghost use Rattle.ts_automaton.specs.Body.{move_of};
 ghost use Rattle.ts_base.specs.declared.letter.Letter.TheVariants.{Equal};
-ghost use Rattle.ts_bound.specs.Cuts.{cut_of, parts_cut, all_swept};
-ghost use Rattle.ts_bound.specs.Hulls.{none};
 ghost use Rattle.ts_bound.specs.Packs.{IsRunning};
-ghost use Rattle.ts_bound.specs.Smalls.{small_hull, small_int};
-ghost use Rattle.ts_bound.specs.Sweeps.{AllTakeNone, IsWide, IsReached, IsSweepable};
-ghost use Rattle.ts_bound.specs.Sweeps.{Leads, fronts, same_letter, with_sweep};
+ghost use Rattle.ts_bound.specs.PartCuts.{parts_cut};
+ghost use Rattle.ts_hull.specs.Cuts.{cut_of, all_swept};
+ghost use Rattle.ts_hull.specs.Hulls.{none};
+ghost use Rattle.ts_hull.specs.Smalls.{small_hull, small_int};
+ghost use Rattle.ts_hull.specs.Sweeps.{AllTakeNone, IsWide, IsReached, IsSweepable, Leads, fronts, same_letter, with_sweep};
 
 use crate::packed::PackedHull;
 use crate::sweep_move::{put_run, with_place};

@@ -3,8 +3,8 @@
 ghost use Rattle.std.specs.Prelude.{◌≡◌, IfSome, ℕ, ◌<◌, ◌≤◌, pos, true, false, cond, ◌+ℤ◌, ◌-ℤ◌, ◌≤ℤ◌, length, get_or};
 ghost use Rattle.ts_base.specs.Limits.{IsCellValue};
 ghost use Rattle.ts_base.specs.declared.letter.Letter.TheVariants.{Equal};
-ghost use Rattle.ts_bound.specs.Smalls.{AreValues, small_int};
-ghost use Rattle.ts_bound.specs.Sweeps.{IsLead, IsWide, Leads, ahead, same_letter};
+ghost use Rattle.ts_hull.specs.Smalls.{AreValues, small_int};
+ghost use Rattle.ts_hull.specs.Sweeps.{IsLead, IsWide, Leads, ahead, same_letter};
 
 use std::marker::Model;
 use ts_base::Letter;
@@ -23,7 +23,7 @@ pub(crate) struct Places<'a> {
 
 impl<'a> Model for Places<'a> {
     ghost use Rattle.std.specs.Prelude.{ℤ, List};
-    ghost use Rattle.ts_bound.specs.Smalls.{AreRead};
+    ghost use Rattle.ts_hull.specs.Smalls.{AreRead};
 
     ghost Value = { List ℤ };
 

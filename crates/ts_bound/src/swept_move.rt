@@ -1,7 +1,7 @@
 //! What a move of a state between two cells reads.
 
 ghost use Rattle.std.specs.Prelude.{◌≡◌, ◌*◌, ◌<◌, length};
-ghost use Rattle.ts_bound.specs.Sweeps.{IsSweepable};
+ghost use Rattle.ts_hull.specs.Sweeps.{IsSweepable};
 
 use crate::sweep_values::Places;
 use ts_automaton::{Hull, Turn};

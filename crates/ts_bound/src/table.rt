@@ -1,15 +1,15 @@
 //! A table of hulls in one vector.
 
 ghost use Rattle.std.specs.Prelude.{◌≡◌, ◌+◌, ◌*◌, ◌-◌, ◌≤◌, if◌then◌else◌, IfOk, length, map, take, drop, slice_range};
-ghost use Rattle.std.specs.Borrow.{sem};
 ghost use Rattle.std.proofs.Common.{replicate};
+ghost use Rattle.std.specs.Borrow.{sem};
 ghost use Rattle.ts_base.specs.Windows.{LooksInside};
 ghost use Rattle.ts_bound.specs.HullTables.{only_looked};
-ghost use Rattle.ts_bound.specs.Hulls.{none};
 ghost use Rattle.ts_bound.specs.LendsRows.{LendsParts, LendsRow, LendsTwo};
 ghost use Rattle.ts_bound.specs.Looks.{is_looked};
 ghost use Rattle.ts_bound.specs.Rows.{IsRow, concat_rows, place, row_at};
 ghost use Rattle.ts_domain.specs.BoxSeries.{IsCell, cell_of};
+ghost use Rattle.ts_hull.specs.Hulls.{none};
 
 use crate::looks::is_looked;
 use std::alloc::Global;

@@ -4,9 +4,9 @@ ghost use Rattle.std.specs.Prelude.{◌≡◌, true};
 ghost use Rattle.ts_base.specs.Numbers.{ext_max, ext_min};
 ghost use Rattle.ts_base.specs.Spans.{has_some, none_span, span_hull};
 ghost use Rattle.ts_base.specs.declared.ext.Ext.TheVariants.{Int};
-ghost use Rattle.ts_bound.specs.Hulls.{hull_of_both, none};
-ghost use Rattle.ts_bound.specs.Packs.{span_from, unpack, unpack_hull, unpack_span};
-ghost use Rattle.ts_bound.specs.Sealed.{some_hull};
+ghost use Rattle.ts_bound.specs.Packs.{unpack, unpack_hull, unpack_span};
+ghost use Rattle.ts_hull.specs.Hulls.{hull_of_both, none};
+ghost use Rattle.ts_hull.specs.Sealed.{span_from, some_hull};
 
 use crate::packed::{End, Ends, PackedHull};
 use ts_automaton::Hull;

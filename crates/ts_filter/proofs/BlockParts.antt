@@ -16,7 +16,7 @@ use Rattle.ts_glue.specs.Pairs.{Pair}
 use Rattle.ts_glue.specs.Glued.{glued_span}
 use Rattle.ts_glue.proofs.SpanGlue.{none_glues_to_none}
 use Rattle.ts_bound.specs.Blocks.{standing_of, finishes, glued_by, glued_with, glued_all}
-use Rattle.ts_bound.specs.Hulls.{none}
+use Rattle.ts_hull.specs.Hulls.{none}
 use Rattle.ts_filter.specs.declared.so_far.SoFar.{SoFar}
 use Rattle.ts_filter.specs.SoFar.{IsSoFar, WithParts}
 use Rattle.ts_filter.proofs.SoFarLaws.{begun, passed, stopped, with_more}

@@ -16,7 +16,7 @@ use Rattle.ts_automaton.specs.Registers.{spans_of}
 use Rattle.ts_automaton.specs.SpanRun.{none_hull, one_hull}
 use Rattle.ts_domain.specs.BoxSeries.{IsBox}
 use Rattle.ts_bound.specs.Blocks.{OfReverse, back_hulls, back_states}
-use Rattle.ts_bound.specs.Hulls.{hull_of, none}
+use Rattle.ts_hull.specs.Hulls.{hull_of, none}
 use Rattle.ts_bound.specs.HullTables.{start_hull, hull_at, hulls_at, row_of, values_at}
 use Rattle.ts_bound.specs.NextRow.{states_of}
 use Rattle.ts_bound.specs.TermSpans.{span_of_all}

@@ -13,7 +13,7 @@ use Rattle.ts_base.specs.Windows.{looked_at}
 use Rattle.ts_bound.specs.HullTables.{values_at as bound_values_at}
 use Rattle.ts_bound.specs.Looks.{is_looked, place_in}
 use Rattle.ts_bound.specs.TermSpans.{Automata, inner_span, inner_value_span, span_of_all, spans_at, term_span, value_span}
-use Rattle.ts_bound.proofs.HullLaws.{IsCanonical, hull_canonical}
+use Rattle.ts_hull.proofs.HullLaws.{IsCanonical, hull_canonical}
 use Rattle.ts_filter.specs.declared.question.Question.{Question}
 use Rattle.ts_filter.specs.declared.question.Question.TheVariants.{Compares, MeetsEach, Counts, Nothing}
 use Rattle.ts_filter.specs.declared.so_far.SoFar.{SoFar}

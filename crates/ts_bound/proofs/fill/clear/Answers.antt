@@ -1,5 +1,5 @@
 use Rattle.std.proofs.Common.{ap, ◌∙◌, set}
-use Rattle.ts_bound.specs.Hulls.{hull_of}
+use Rattle.ts_hull.specs.Hulls.{hull_of}
 use Rattle.ts_bound.proofs.Filled.{cleared_more}
 use Rattle.ts_bound.proofs.fill.clear.Goals as goal
 

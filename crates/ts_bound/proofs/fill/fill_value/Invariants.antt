@@ -1,5 +1,5 @@
 use Rattle.std.proofs.Common.{length, replicate}
-use Rattle.ts_bound.specs.Hulls.{none}
+use Rattle.ts_hull.specs.Hulls.{none}
 use Rattle.ts_bound.specs.Filling.{over}
 use Rattle.ts_bound.proofs.Filled.{LeftOfRow}
 use Rattle.ts_bound.proofs.fill.fill_value.Given as goal

@@ -1,6 +1,6 @@
 use Rattle.std.proofs.Common.{[], ap, ◌∙◌}
 use Rattle.ts_automaton.specs.SpanRun.{one_hull}
-use Rattle.ts_bound.specs.Hulls.{hull_of}
+use Rattle.ts_hull.specs.Hulls.{hull_of}
 use Rattle.ts_bound.specs.HullTables.{hulls_at}
 use Rattle.ts_bound.proofs.Filled.{left_fits, start_more, start_done}
 use Rattle.ts_bound.proofs.start.fill_start.Goals as goal

@@ -1,5 +1,5 @@
 use Rattle.std.proofs.Common.{◌≡◌}
-use Rattle.ts_bound.specs.Sweeps.{with_states}
+use Rattle.ts_hull.specs.Sweeps.{with_states}
 use Rattle.ts_bound.proofs.sweep.sweep_row.Given as goal
 
 abbrev pub invariant-loop-q : goal.invariant-loop-q

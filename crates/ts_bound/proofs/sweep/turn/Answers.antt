@@ -1,7 +1,7 @@
 use Rattle.std.proofs.Common.{ap, ◌∙◌}
 use Rattle.ts_automaton.specs.Body.{move_of, move_on}
 use Rattle.ts_automaton.proofs.StepLaws.{next_exists}
-use Rattle.ts_bound.specs.Sealed.{move_at}
+use Rattle.ts_hull.specs.Sealed.{move_at}
 use Rattle.ts_bound.proofs.sweep.turn.Goals as goal
 
 pub returns-clause-value : goal.returns-clause-value

@@ -1,8 +1,8 @@
 use Rattle.std.proofs.Common.{arith, refl, pos, get_or}
 use Rattle.ts_base.specs.declared.letter.Letter.TheVariants.{Equal}
-use Rattle.ts_bound.specs.Hulls.{none, hull_of_both}
+use Rattle.ts_hull.specs.Hulls.{none, hull_of_both}
 use Rattle.ts_automaton.specs.Body.{move_of}
-use Rattle.ts_bound.specs.Sweeps.{pair_gives, move_entry}
+use Rattle.ts_hull.specs.Sweeps.{pair_gives, move_entry}
 use Rattle.ts_bound.proofs.PackLaws.{runs_as, running_begun}
 use Rattle.ts_bound.proofs.SweepLaws.{equal_one, equal_none}
 use Rattle.ts_bound.proofs.sweep_equal.equal_entry.Goals as goal

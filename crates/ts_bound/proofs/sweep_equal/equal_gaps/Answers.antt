@@ -1,7 +1,7 @@
 use Rattle.std.proofs.Common.{false, refl, ◌+◌, ◌*◌, pos, length, get_or, arith}
 use Rattle.ts_base.specs.declared.letter.Letter.TheVariants.{Less, Equal}
 use Rattle.ts_automaton.specs.Body.{move_of}
-use Rattle.ts_bound.specs.Sweeps.{step_place, move_entry}
+use Rattle.ts_hull.specs.Sweeps.{step_place, move_entry}
 use Rattle.ts_bound.proofs.PackLaws.{running_begun}
 use Rattle.ts_bound.proofs.SweepLaws.{puts_begun, puts_more, puts_done, puts_are_canonical, all_passed, later_passed}
 use Rattle.ts_bound.proofs.sweep_equal.equal_gaps.Goals as goal

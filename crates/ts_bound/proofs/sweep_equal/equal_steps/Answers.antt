@@ -2,7 +2,7 @@ use Rattle.std.proofs.Common.{false, refl, ap, ◌∙◌, ◌+ℤ◌, ◌+◌, �
 use Rattle.std.proofs.lemmas.Int.{to_z-of_z}
 use Rattle.ts_base.specs.declared.letter.Letter.TheVariants.{Less, Equal}
 use Rattle.ts_automaton.specs.Body.{move_of}
-use Rattle.ts_bound.specs.Sweeps.{step_place, move_entry}
+use Rattle.ts_hull.specs.Sweeps.{step_place, move_entry}
 use Rattle.ts_bound.proofs.LeadLaws.{reached_passed, reached_rest}
 use Rattle.ts_bound.proofs.PackLaws.{running_begun}
 use Rattle.ts_bound.proofs.SweepLaws.{puts_begun, puts_more, puts_done, puts_are_canonical}

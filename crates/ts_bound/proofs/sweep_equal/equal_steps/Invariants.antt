@@ -1,7 +1,7 @@
 use Rattle.std.proofs.Common.{◌≡◌, pos, length, get_or}
 use Rattle.ts_base.specs.declared.letter.Letter.TheVariants.{Equal}
 use Rattle.ts_automaton.specs.Body.{move_of}
-use Rattle.ts_bound.specs.Sweeps.{step_place, puts, move_entry}
+use Rattle.ts_hull.specs.Sweeps.{step_place, puts, move_entry}
 use Rattle.ts_bound.proofs.sweep_equal.equal_steps.Given as goal
 
 abbrev pub invariant-loop-j : goal.invariant-loop-j

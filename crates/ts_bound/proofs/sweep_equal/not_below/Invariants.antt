@@ -1,6 +1,6 @@
 use Rattle.std.proofs.Common.{◌≡◌, ℕ, ◌<◌, ◌≤◌, ◌-◌, true, length}
 use Rattle.ts_base.specs.declared.letter.Letter.TheVariants.{Less}
-use Rattle.ts_bound.specs.Sweeps.{fits}
+use Rattle.ts_hull.specs.Sweeps.{fits}
 use Rattle.ts_bound.proofs.sweep_equal.not_below.Given as goal
 
 abbrev pub invariant-loop-at : goal.invariant-loop-at

@@ -2,10 +2,10 @@ use mir.Val.{SFits}
 use Rattle.std.proofs.Common.{ap, ◌∙◌, ◌+◌, ◌*◌, length, w64, rules}
 use Rattle.std.proofs.lemmas.Int.{to_z-of_z}
 use Rattle.ts_base.specs.declared.letter.Letter.TheVariants.{Equal}
-use Rattle.ts_bound.specs.Hulls.{none}
-use Rattle.ts_bound.specs.Cuts.{parts_cut}
-use Rattle.ts_bound.specs.Smalls.{small_int}
-use Rattle.ts_bound.specs.Sweeps.{fits}
+use Rattle.ts_hull.specs.Hulls.{none}
+use Rattle.ts_bound.specs.PartCuts.{parts_cut}
+use Rattle.ts_hull.specs.Smalls.{small_int}
+use Rattle.ts_hull.specs.Sweeps.{fits}
 use Rattle.ts_bound.proofs.EqualFronts.{no_equal, an_equal, equal_inside}
 use Rattle.ts_bound.proofs.PackLaws.{running_begun, runs_empty}
 use Rattle.ts_bound.proofs.sweep_equal_parts.equal_front.Goals as goal

@@ -3,9 +3,10 @@ use Rattle.std.proofs.Common.{false, refl, ap, ◌∙◌, ◌+◌, ◌*◌, ◌<
 use Rattle.std.proofs.lemmas.Int.{to_z-of_z}
 use Rattle.ts_base.specs.declared.letter.Letter.TheVariants.{Less, Equal}
 use Rattle.ts_automaton.specs.Body.{move_of}
-use Rattle.ts_bound.specs.Cuts.{parts_cut, closed_hull}
-use Rattle.ts_bound.specs.Smalls.{small_int}
-use Rattle.ts_bound.specs.Sweeps.{step_place, move_entry, equal_front}
+use Rattle.ts_hull.specs.Cuts.{closed_hull}
+use Rattle.ts_bound.specs.PartCuts.{parts_cut}
+use Rattle.ts_hull.specs.Smalls.{small_int}
+use Rattle.ts_hull.specs.Sweeps.{step_place, move_entry, equal_front}
 use Rattle.ts_bound.proofs.EqualFronts.{equal_closed}
 use Rattle.ts_bound.proofs.LeadLaws.{reached_passed, reached_rest}
 use Rattle.ts_bound.proofs.PackLaws.{running_begun}

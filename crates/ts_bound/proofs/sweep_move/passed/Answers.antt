@@ -1,9 +1,9 @@
 use mir.Val.{SFits}
 use Rattle.std.proofs.Common.{ap, ◌∙◌, sym, refl, ◌+◌, ◌*◌, length, pos, get_or, w64, to_z, of_z, rules, arith}
 use Rattle.std.proofs.lemmas.Int.{to_z-of_z}
-use Rattle.ts_bound.specs.Cuts.{parts_cut}
-use Rattle.ts_bound.specs.Smalls.{small_int}
-use Rattle.ts_bound.specs.Sweeps.{fronts, step_place, takes}
+use Rattle.ts_bound.specs.PartCuts.{parts_cut}
+use Rattle.ts_hull.specs.Smalls.{small_int}
+use Rattle.ts_hull.specs.Sweeps.{fronts, step_place, takes}
 use Rattle.ts_bound.proofs.PackLaws.{running_begun}
 use Rattle.ts_bound.proofs.SweepLaws.{compares_is, fronts_more, passed_more}
 use Rattle.ts_bound.proofs.sweep_move.passed.Goals as goal

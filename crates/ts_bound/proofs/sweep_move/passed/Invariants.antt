@@ -1,7 +1,7 @@
 use Rattle.std.proofs.Common.{◌≡◌, ℕ, ◌<◌, ◌≤◌, ◌-◌, true, length}
-use Rattle.ts_bound.specs.Cuts.{parts_cut}
+use Rattle.ts_bound.specs.PartCuts.{parts_cut}
 use Rattle.ts_bound.specs.Packs.{IsRunning}
-use Rattle.ts_bound.specs.Sweeps.{step_place, fronts, takes}
+use Rattle.ts_hull.specs.Sweeps.{step_place, fronts, takes}
 use Rattle.ts_bound.proofs.sweep_move.passed.Given as goal
 
 abbrev pub invariant-loop-run : goal.invariant-loop-run

@@ -1,5 +1,5 @@
 use Rattle.std.proofs.Common.{◌+◌, ◌*◌}
-use Rattle.ts_bound.specs.Cuts.{parts_cut}
+use Rattle.ts_bound.specs.PartCuts.{parts_cut}
 use Rattle.ts_bound.proofs.SweepLaws.{put_skipped}
 use Rattle.ts_bound.proofs.sweep_move.put_run.Goals as goal
 

@@ -2,9 +2,9 @@ use mir.Val.{SFits}
 use Rattle.std.proofs.Common.{ap, ◌∙◌, ℤ, w64, to_z, of_z, rules, ◌+◌, ◌*◌, pos, length, get_or, arith}
 use Rattle.std.proofs.lemmas.Int.{to_z-of_z}
 use Rattle.ts_automaton.specs.Body.{move_of}
-use Rattle.ts_bound.specs.Cuts.{parts_cut}
-use Rattle.ts_bound.specs.Smalls.{small_int}
-use Rattle.ts_bound.specs.Sweeps.{step_place, sweep_entry, fronts}
+use Rattle.ts_bound.specs.PartCuts.{parts_cut}
+use Rattle.ts_hull.specs.Smalls.{small_int}
+use Rattle.ts_hull.specs.Sweeps.{step_place, sweep_entry, fronts}
 use Rattle.ts_bound.proofs.PackLaws.{running_begun}
 use Rattle.ts_bound.proofs.SweepLaws.{parts_swept, puts_begun, fronts_begun, all_passed, later_passed, puts_more, put_is, sweep_done, puts_are_canonical}
 use Rattle.ts_bound.proofs.sweep_move.sweep_move.Goals as goal

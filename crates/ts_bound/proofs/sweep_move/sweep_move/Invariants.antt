@@ -1,8 +1,8 @@
 use Rattle.std.proofs.Common.{◌≡◌, ℕ, ◌<◌, ◌≤◌, pos, true, length, get_or}
 use Rattle.ts_automaton.specs.Body.{move_of}
-use Rattle.ts_bound.specs.Cuts.{parts_cut}
+use Rattle.ts_bound.specs.PartCuts.{parts_cut}
 use Rattle.ts_bound.specs.Packs.{IsRunning}
-use Rattle.ts_bound.specs.Sweeps.{step_place, puts, sweep_entry, fronts, takes}
+use Rattle.ts_hull.specs.Sweeps.{step_place, puts, sweep_entry, fronts, takes}
 use Rattle.ts_bound.proofs.sweep_move.sweep_move.Given as goal
 
 abbrev pub invariant-loop-k : goal.invariant-loop-k

@@ -1,7 +1,8 @@
 use Rattle.std.proofs.lemmas.Int.{to_z-of_z}
 use Rattle.std.proofs.Common.{sym, ◌∙◌, w64}
-use Rattle.ts_bound.specs.Cuts.{parts_cut, front_hull}
-use Rattle.ts_bound.specs.Hulls.{hull_of_both}
+use Rattle.ts_hull.specs.Cuts.{front_hull}
+use Rattle.ts_bound.specs.PartCuts.{parts_cut}
+use Rattle.ts_hull.specs.Hulls.{hull_of_both}
 use Rattle.ts_bound.specs.Packs.{unpack_hull}
 use Rattle.ts_bound.proofs.PackLaws.{front_at, front_none, runs_on, runs_past}
 use Rattle.ts_bound.proofs.sweep_move.with_hull.Goals as goal

@@ -1,8 +1,8 @@
 use Rattle.std.proofs.Common.{w64}
 use Rattle.std.proofs.lemmas.Int.{to_z-of_z}
-use Rattle.ts_bound.specs.Cuts.{parts_cut}
+use Rattle.ts_bound.specs.PartCuts.{parts_cut}
 use Rattle.ts_bound.specs.Packs.{unpack_hull}
-use Rattle.ts_bound.specs.Sweeps.{hull_in}
+use Rattle.ts_hull.specs.Sweeps.{hull_in}
 use Rattle.ts_bound.proofs.PackLaws.{front_steps}
 use Rattle.ts_bound.proofs.sweep_move.with_place.Goals as goal
 

@@ -1,6 +1,6 @@
 use Rattle.std.proofs.Common.{arith, pos, get_or}
 use Rattle.ts_automaton.specs.Body.{move_of}
-use Rattle.ts_bound.specs.Sweeps.{total, pair_gives}
+use Rattle.ts_hull.specs.Sweeps.{total, pair_gives}
 use Rattle.ts_bound.proofs.PackLaws.{running_begun}
 use Rattle.ts_bound.proofs.SweepLaws.{run_begun, run_more, run_done}
 use Rattle.ts_bound.proofs.sweep_pairs.pair_entry.Goals as goal

@@ -1,7 +1,7 @@
 use Rattle.std.proofs.Common.{pos, get_or}
 use Rattle.ts_automaton.specs.Body.{move_of}
 use Rattle.ts_bound.specs.Packs.{IsRunning}
-use Rattle.ts_bound.specs.Sweeps.{total, pair_gives}
+use Rattle.ts_hull.specs.Sweeps.{total, pair_gives}
 use Rattle.ts_bound.proofs.sweep_pairs.pair_entry.Given as goal
 
 abbrev pub invariant-loop-i : goal.invariant-loop-i

@@ -1,6 +1,6 @@
 use Rattle.std.proofs.Common.{ap, ◌∙◌, arith, refl, ◌+◌, ◌*◌, length, pos, get_or}
 use Rattle.ts_automaton.specs.Body.{move_of}
-use Rattle.ts_bound.specs.Sweeps.{step_place, move_entry}
+use Rattle.ts_hull.specs.Sweeps.{step_place, move_entry}
 use Rattle.ts_bound.proofs.PackLaws.{running_begun}
 use Rattle.ts_bound.proofs.SweepLaws.{puts_begun, puts_more, puts_done, puts_are_canonical}
 use Rattle.ts_bound.proofs.sweep_pairs.pair_move.Goals as goal

@@ -1,6 +1,6 @@
 use Rattle.std.proofs.Common.{◌≡◌, pos, length, get_or}
 use Rattle.ts_automaton.specs.Body.{move_of}
-use Rattle.ts_bound.specs.Sweeps.{step_place, puts, move_entry}
+use Rattle.ts_hull.specs.Sweeps.{step_place, puts, move_entry}
 use Rattle.ts_bound.proofs.sweep_pairs.pair_move.Given as goal
 
 abbrev pub invariant-loop-k : goal.invariant-loop-k

@@ -1,7 +1,7 @@
 use Rattle.std.proofs.Common.{pos, get_or}
 use Rattle.ts_automaton.specs.Body.{move_of}
 use Rattle.ts_bound.specs.Packs.{unpack_hull}
-use Rattle.ts_bound.specs.Sweeps.{hull_in}
+use Rattle.ts_hull.specs.Sweeps.{hull_in}
 use Rattle.ts_bound.proofs.PackLaws.{move_steps}
 use Rattle.ts_bound.proofs.sweep_pairs.with_moved.Goals as goal
 

@@ -1,7 +1,7 @@
 use Rattle.std.proofs.Common.{sym, ◌∙◌, pos, get_or}
 use Rattle.ts_automaton.specs.Body.{move_of}
 use Rattle.ts_bound.specs.Packs.{unpack_hull}
-use Rattle.ts_bound.specs.Sealed.{after_move}
+use Rattle.ts_hull.specs.Sealed.{after_move}
 use Rattle.ts_bound.proofs.PackLaws.{moved_none, runs_past}
 use Rattle.ts_bound.proofs.sweep_pairs.with_moved_hull.Goals as goal
 

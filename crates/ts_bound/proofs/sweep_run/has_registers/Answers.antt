@@ -1,5 +1,5 @@
 use Rattle.std.proofs.Common.{ap, ◌∙◌, not}
-use Rattle.ts_bound.specs.Sealed.{some_hull}
+use Rattle.ts_hull.specs.Sealed.{some_hull}
 use Rattle.ts_bound.proofs.PackLaws.{not_not}
 use Rattle.ts_bound.proofs.sweep_run.has_registers.Goals as goal
 

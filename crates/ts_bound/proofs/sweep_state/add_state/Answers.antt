@@ -1,7 +1,7 @@
 use Rattle.std.proofs.Common.{refl, length, ◌≡◌, ◌*◌, ◌∙◌, ap, arith}
 use Rattle.ts_automaton.specs.Body.{move_of}
 use Rattle.ts_base.specs.declared.letter.Letter.TheVariants.{Less, Greater}
-use Rattle.ts_bound.specs.Sweeps.{with_move}
+use Rattle.ts_hull.specs.Sweeps.{with_move}
 use Rattle.ts_bound.proofs.Passed.{state_unreached}
 use Rattle.ts_bound.proofs.SameState.{both_as, row_after, row_after_both, taken_as}
 use Rattle.ts_bound.proofs.SweepLaws.{with_move_canonical}

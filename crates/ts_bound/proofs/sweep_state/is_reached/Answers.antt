@@ -1,7 +1,7 @@
 use Rattle.std.proofs.Common.{◌≡◌, false, sym, ◌∙◌, arith}
 use borrow.Author.Count.{below_more}
-use Rattle.ts_bound.specs.Sealed.{some_hull}
-use Rattle.ts_bound.specs.Sweeps.{hull_in}
+use Rattle.ts_hull.specs.Sealed.{some_hull}
+use Rattle.ts_hull.specs.Sweeps.{hull_in}
 use Rattle.ts_bound.proofs.sweep_state.is_reached.Goals as goal
 
 pub loop-i-preserved : goal.loop-i-preserved

@@ -1,6 +1,6 @@
 use Rattle.std.proofs.Common.{◌≡◌, ℕ, ◌<◌, false}
-use Rattle.ts_bound.specs.Sealed.{some_hull}
-use Rattle.ts_bound.specs.Sweeps.{hull_in}
+use Rattle.ts_hull.specs.Sealed.{some_hull}
+use Rattle.ts_hull.specs.Sweeps.{hull_in}
 use Rattle.ts_bound.proofs.sweep_state.is_reached.Given as goal
 
 abbrev pub invariant-loop-i : goal.invariant-loop-i

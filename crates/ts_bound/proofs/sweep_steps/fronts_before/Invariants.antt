@@ -1,7 +1,7 @@
 use Rattle.std.proofs.Common.{ℕ, ◌<◌, ◌≤◌, ◌-◌, pos, ◌<ℤ◌, length}
-use Rattle.ts_bound.specs.Cuts.{parts_cut}
+use Rattle.ts_bound.specs.PartCuts.{parts_cut}
 use Rattle.ts_bound.specs.Packs.{IsRunning}
-use Rattle.ts_bound.specs.Sweeps.{fronts}
+use Rattle.ts_hull.specs.Sweeps.{fronts}
 use Rattle.ts_bound.proofs.sweep_steps.fronts_before.Given as goal
 
 abbrev pub invariant-loop-run : goal.invariant-loop-run

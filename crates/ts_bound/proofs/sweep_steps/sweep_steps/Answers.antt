@@ -2,13 +2,13 @@ use mir.Val.{SFits}
 use Rattle.std.proofs.Common.{ap, sym, subst, ◌∙◌, ◌-ℤ◌, ℕ, ℤ, ◌≤ℤ◌, w64, to_z, of_z, rules, ◌+◌, ◌*◌, ◌<◌, ◌+ℤ◌, pos, length, get_or, arith}
 use Rattle.std.proofs.lemmas.Int.{to_z-of_z, ints}
 use Rattle.ts_automaton.specs.Body.{move_of}
-use Rattle.ts_bound.specs.Cuts.{parts_cut}
-use Rattle.ts_bound.specs.Smalls.{small_int}
-use Rattle.ts_bound.specs.Sweeps.{step_place, sweep_entry, fronts, IsReached, takes}
+use Rattle.ts_bound.specs.PartCuts.{parts_cut}
+use Rattle.ts_hull.specs.Smalls.{small_int}
+use Rattle.ts_hull.specs.Sweeps.{step_place, sweep_entry, fronts, IsReached, takes}
 use Rattle.ts_bound.proofs.FirstSteps.{nothing_before, reached_first}
 use Rattle.ts_bound.proofs.LeadLaws.{reached_passed, reached_rest, inside_row}
 use Rattle.ts_bound.proofs.PackLaws.{running_begun}
-use Rattle.ts_bound.proofs.SweptRows.{length-puts}
+use Rattle.ts_hull.proofs.Puts.{length-puts}
 use Rattle.ts_bound.proofs.SweepLaws.{parts_swept, puts_more, put_is, sweep_done, puts_are_canonical}
 use Rattle.ts_bound.proofs.sweep_steps.sweep_steps.Goals as goal
 

@@ -1,9 +1,9 @@
 use mir.Val.{SFits}
 use Rattle.std.proofs.Common.{◌&&◌, int_lt, int_le, ◌-ℤ◌, ap, ◌∙◌, ◌+◌, ◌*◌, length, pos, w64, to_z, of_z, rules}
 use Rattle.std.proofs.lemmas.Int.{to_z-of_z}
-use Rattle.ts_bound.specs.Cuts.{parts_cut}
-use Rattle.ts_bound.specs.Smalls.{small_int}
-use Rattle.ts_bound.specs.Sweeps.{fronts, step_place}
+use Rattle.ts_bound.specs.PartCuts.{parts_cut}
+use Rattle.ts_hull.specs.Smalls.{small_int}
+use Rattle.ts_hull.specs.Sweeps.{fronts, step_place}
 use Rattle.ts_bound.proofs.LeadLaws.{step_passed, step_is, step_begins, step_inside, step_skipped}
 use Rattle.ts_bound.proofs.PackLaws.{running_begun}
 use Rattle.ts_bound.proofs.SweepLaws.{fronts_more}

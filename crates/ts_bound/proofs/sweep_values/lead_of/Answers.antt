@@ -1,7 +1,7 @@
 use mir.Val.{SFits}
 use Rattle.std.proofs.Common.{w64, to_z, of_z, rules, sym, ◌∙◌, ap}
 use Rattle.std.proofs.lemmas.Int.{to_z-of_z}
-use Rattle.ts_bound.specs.Sweeps.{ahead}
+use Rattle.ts_hull.specs.Sweeps.{ahead}
 use Rattle.ts_bound.proofs.LeadLaws.{lead_found}
 use Rattle.ts_bound.proofs.sweep_values.lead_of.Goals as goal
 

@@ -4,7 +4,7 @@ use Rattle.std.proofs.lemmas.Int.{to_z-of_z}
 use Rattle.ts_base.specs.declared.ext.Ext.TheVariants.{Int}
 use Rattle.ts_base.specs.Numbers.{ext_max, ext_min}
 use Rattle.ts_base.specs.Spans.{has_some, span_hull}
-use Rattle.ts_bound.specs.Packs.{span_from}
+use Rattle.ts_hull.specs.Sealed.{span_from}
 use Rattle.ts_bound.proofs.PackLaws.{widened_is}
 use Rattle.ts_bound.proofs.packed.Ends.widen.Goals as goal
 

@@ -1,4 +1,4 @@
-use Rattle.ts_bound.specs.Smalls.{small_span}
+use Rattle.ts_hull.specs.Smalls.{small_span}
 use Rattle.std.proofs.Common.{◌&&◌}
 use Rattle.std.proofs.lemmas.Bool.{and_parts}
 use Rattle.ts_bound.proofs.packed.PackedHull.of.Goals as goal

@@ -1,6 +1,6 @@
 use Rattle.std.proofs.Common.{w64}
 use Rattle.std.proofs.lemmas.Int.{to_z-of_z}
-use Rattle.ts_bound.specs.Cuts.{parts_cut}
+use Rattle.ts_bound.specs.PartCuts.{parts_cut}
 use Rattle.ts_bound.specs.Packs.{unpack_hull, unpack_span}
 use Rattle.ts_bound.proofs.PackLaws.{hull_some, packed_some, closed_packs_at}
 use Rattle.ts_bound.proofs.sweep_parts.Parts.closed_packed.Goals as goal

@@ -1,6 +1,6 @@
 use Rattle.std.proofs.Common.{w64}
 use Rattle.std.proofs.lemmas.Int.{to_z-of_z}
-use Rattle.ts_bound.specs.Cuts.{parts_cut}
+use Rattle.ts_bound.specs.PartCuts.{parts_cut}
 use Rattle.ts_bound.specs.Packs.{unpack_hull}
 use Rattle.ts_bound.proofs.PackLaws.{front_packs_at}
 use Rattle.ts_bound.proofs.sweep_parts.Parts.mixed_fronts.Goals as goal

@@ -6,10 +6,10 @@ use Rattle.ts_base.specs.declared.letter.Letter.TheVariants.{Less, Equal, Greate
 use Rattle.ts_base.specs.Signature.{letter_of}
 use Rattle.ts_automaton.specs.declared.regs.Hull.{Hull}
 use Rattle.ts_automaton.specs.Body.{Body, Move}
-use Rattle.ts_bound.specs.Hulls.{none, hull_of_both}
-use Rattle.ts_bound.specs.Sealed.{after_move, move_at}
-use Rattle.ts_bound.specs.Cuts.{Cut, front_hull}
-use Rattle.ts_bound.specs.Smalls.{Rises, small_int, small_hull}
+use Rattle.ts_hull.specs.Hulls.{none, hull_of_both}
+use Rattle.ts_hull.specs.Sealed.{after_move, move_at}
+use Rattle.ts_hull.specs.Cuts.{Cut, front_hull}
+use Rattle.ts_hull.specs.Smalls.{Rises, small_int, small_hull}
 
 -- the hull of f 0, .., f (n - 1)
 unfoldable pub total : ℕ → (ℕ → Hull) → Hull

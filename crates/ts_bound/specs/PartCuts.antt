@@ -1,38 +1,15 @@
--- The three expressions of a move, each split.
-use Rattle.std.specs.Prelude.{Bool, cond, ◌&&◌, ℤ}
-use Rattle.ts_automaton.specs.declared.regs.Hull.{Hull}
+-- The three expressions of a move as the code lends them.
 use Rattle.ts_automaton.specs.declared.expr.Atom.TheVariants.{C, D, R, Unit}
 use Rattle.ts_base.specs.declared.op.Op.TheVariants.{Add}
 use Rattle.ts_automaton.specs.Formula.{Leaf, Join, formula}
-use Rattle.ts_automaton.specs.Body.{Move}
 use Rattle.ts_bound.specs.declared.sweep_parts.Part.{Part}
 use Rattle.ts_bound.specs.declared.sweep_parts.Part.TheVariants.{KeepC, KeepD, KeepR, Word, Two, Three, Front}
 use Rattle.ts_bound.specs.declared.sweep_parts.Part.TheVariants.{Tail, Double, Pairs}
 use Rattle.ts_bound.specs.declared.sweep_parts.Parts.{Parts}
-use Rattle.ts_bound.specs.Hulls.{none}
-use Rattle.ts_bound.specs.Sealed.{hull_with, some_hull}
-use Rattle.ts_bound.specs.Splits.{Split, FrontOf, TailOf, ByPairs, split_formula, is_swept, front_span, closed_span}
+use Rattle.ts_hull.specs.Splits.{Split, FrontOf, TailOf, ByPairs}
+use Rattle.ts_hull.specs.Cuts.{Cut}
 
-pub record Cut : Type 0 where
-  pub c : Split
-  pub d : Split
-  pub r : Split
-
-abbrev pub cut_of : Move → Cut
-cut_of m = record { c = split_formula m.to.c; d = split_formula m.to.d; r = split_formula m.to.r }
-
-abbrev pub all_swept : Cut → Bool
-all_swept k = is_swept k.c && (is_swept k.d && is_swept k.r)
-
--- the fronts on a hull, and what the next cell y makes of the hull of fronts
-unfoldable pub front_hull : Cut → Hull → ℤ → Hull
-front_hull k h x =
-    cond (some_hull h) (hull_with (front_span k.c h x) (front_span k.d h x) (front_span k.r h x)) none
-
-unfoldable pub closed_hull : Cut → Hull → ℤ → Hull
-closed_hull k h y = hull_with (closed_span k.c h.c y) (closed_span k.d h.d y) (closed_span k.r h.r y)
-
--- the same of what the code lends
+-- how each part is split
 abbrev pub part_split : Part → Split
 part_split KeepC = FrontOf (Leaf C)
 part_split KeepD = FrontOf (Leaf D)

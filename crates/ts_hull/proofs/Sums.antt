@@ -3,10 +3,10 @@ use Rattle.std.proofs.Common.{◌≡◌, ℕ, zero, suc, ◌+◌, ◌<◌, ◌�
 use Rattle.std.specs.Prelude.{fold}
 use Rattle.std.proofs.lemmas.List.Sums.{fold-append}
 use Rattle.ts_automaton.specs.declared.regs.Hull.{Hull}
-use Rattle.ts_bound.specs.Hulls.{none, hull_of_both}
-use Rattle.ts_bound.specs.Sweeps.{total}
-use Rattle.ts_bound.proofs.HullLaws.{TakesNone, both_takes_none, none_takes_none}
-use Rattle.ts_bound.proofs.SpanHulls.{both_comm, both_assoc}
+use Rattle.ts_hull.specs.Hulls.{none, hull_of_both}
+use Rattle.ts_hull.specs.Sweeps.{total}
+use Rattle.ts_hull.proofs.HullLaws.{TakesNone, both_takes_none, none_takes_none}
+use Rattle.ts_hull.proofs.SpanHulls.{both_comm, both_assoc}
 
 pub none_left : (h : Hull) → TakesNone h → hull_of_both none h ≡ h
 none_left h e = both_comm none h ∙ e

@@ -21,17 +21,16 @@ use Rattle.ts_automaton.specs.Body.{Move}
 use Rattle.ts_automaton.specs.AutomatonRun.{registers_after}
 use Rattle.ts_automaton.specs.SpanRun.{none_hull}
 use Rattle.ts_automaton.proofs.KindLaws.{op_mono}
-use Rattle.ts_bound.specs.Hulls.{hull_of, none, hull_of_both}
-use Rattle.ts_bound.specs.Packs.{span_from}
-use Rattle.ts_bound.specs.Sealed.{least_span, by_ends, sealed_spans, span_in, hull_with, some_hull, after_move}
+use Rattle.ts_hull.specs.Hulls.{hull_of, none, hull_of_both}
+use Rattle.ts_hull.specs.Sealed.{span_from, least_span, by_ends, sealed_spans, span_in, hull_with, some_hull, after_move}
 use Rattle.ts_glue.specs.Rules.{is_same_op}
 use Rattle.ts_glue.proofs.CallerLemmas.{same_op_is}
-use Rattle.ts_bound.specs.Splits.{is_next_word, is_front, operands, Split, FrontOf, TailOf, ByPairs, is_double, tail_of, split_formula, is_swept, front_span, closed_span}
-use Rattle.ts_bound.specs.Cuts.{Cut, cut_of, all_swept, front_hull, closed_hull}
-use Rattle.ts_bound.specs.Smalls.{small_int, small, small_span, small_hull}
-use Rattle.ts_bound.specs.Sweeps.{total}
-use Rattle.ts_bound.proofs.HullLaws.{same_hull}
-use Rattle.ts_bound.proofs.SpanHulls.{both_is, max_assoc, min_assoc, lifted_both, lifted_none_left, lifted_none_right, hull_through, hull_neither}
+use Rattle.ts_hull.specs.Splits.{is_next_word, is_front, operands, Split, FrontOf, TailOf, ByPairs, is_double, tail_of, split_formula, is_swept, front_span, closed_span}
+use Rattle.ts_hull.specs.Cuts.{Cut, cut_of, all_swept, front_hull, closed_hull}
+use Rattle.ts_hull.specs.Smalls.{small_int, small, small_span, small_hull}
+use Rattle.ts_hull.specs.Sweeps.{total}
+use Rattle.ts_hull.proofs.HullLaws.{same_hull}
+use Rattle.ts_hull.proofs.SpanHulls.{both_is, max_assoc, min_assoc, lifted_both, lifted_none_left, lifted_none_right, hull_through, hull_neither}
 
 -- sizes in steps of 10^16
 

@@ -10,7 +10,7 @@ use Rattle.ts_automaton.specs.Formula.{Formula}
 use Rattle.ts_automaton.specs.Registers.{Values, ext_op, spans_of, value_in}
 use Rattle.ts_automaton.specs.Body.{Move, Body, move_on, node_at}
 use Rattle.ts_automaton.specs.SpanRun.{has_registers, moved_hull}
-use Rattle.ts_bound.specs.Hulls.{hull_of}
+use Rattle.ts_hull.specs.Hulls.{hull_of}
 
 -- the hull of two spans
 unfoldable pub least_span : Span → Span → Span
@@ -43,3 +43,7 @@ after_move m h x y = hull_of (moved_hull (spans_of h) x y m)
 -- the move of state q on a letter
 unfoldable pub move_at : Body → ℕ → Letter → Move
 move_at b q l = move_on l (node_at b.states q)
+
+-- the span from one end to another
+abbrev pub span_from : Ext → Ext → Span
+span_from lo hi = record { lo = lo; hi = hi }

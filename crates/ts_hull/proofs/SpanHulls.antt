@@ -8,10 +8,9 @@ use Rattle.ts_base.specs.Spans.{none_span, one_span, has_some}
 use Rattle.ts_base.proofs.Order.{le_refl, le_trans, le_antisym, le_other, max_left, max_right, max_least, min_left, min_right, min_greatest}
 use Rattle.ts_base.proofs.SpanLaws.{one_some}
 use Rattle.ts_automaton.specs.declared.regs.Hull.{Hull}
-use Rattle.ts_bound.specs.Hulls.{hull_of_both}
-use Rattle.ts_bound.specs.Packs.{span_from}
-use Rattle.ts_bound.specs.Sealed.{least_span, by_ends, hull_with}
-use Rattle.ts_bound.proofs.HullLaws.{same_hull}
+use Rattle.ts_hull.specs.Hulls.{hull_of_both}
+use Rattle.ts_hull.specs.Sealed.{span_from, least_span, by_ends, hull_with}
+use Rattle.ts_hull.proofs.HullLaws.{same_hull}
 
 max_comm : (a b : Ext) → ext_max a b ≡ ext_max b a
 max_comm a b = le_antisym _ _ (max_least a b _ (max_right b a) (max_left b a)) (max_least b a _ (max_right a b) (max_left a b))

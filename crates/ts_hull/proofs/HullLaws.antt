@@ -6,7 +6,7 @@ use Rattle.ts_base.specs.Spans.{none_span, has_some, span_hull}
 use Rattle.ts_base.proofs.Order.{le_trans, min_left, max_left}
 use Rattle.ts_automaton.specs.declared.regs.Hull.{Hull}
 use Rattle.ts_automaton.specs.Registers.{each}
-use Rattle.ts_bound.specs.Hulls.{hull_of, none, hull_of_both}
+use Rattle.ts_hull.specs.Hulls.{hull_of, none, hull_of_both}
 
 -- a span that is no number, or one in its only form: it takes none in unchanged
 abbrev pub IsCanonical : Span → Type 0

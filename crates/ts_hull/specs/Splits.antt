@@ -10,7 +10,7 @@ use Rattle.ts_automaton.specs.declared.regs.Hull.{Hull}
 use Rattle.ts_automaton.specs.Formula.{Formula, Leaf, Join}
 use Rattle.ts_automaton.specs.Registers.{ext_op}
 use Rattle.ts_glue.specs.Rules.{is_same_op}
-use Rattle.ts_bound.specs.Sealed.{by_ends, span_in}
+use Rattle.ts_hull.specs.Sealed.{by_ends, span_in}
 
 -- the word is the next cell
 abbrev pub is_next_word : Atom → Bool

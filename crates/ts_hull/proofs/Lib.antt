@@ -1,0 +1,6 @@
+pub mod HullLaws
+pub mod SpanHulls
+pub mod Sums
+pub mod SplitLaws
+pub mod Letters
+pub mod Puts
