@@ -1,0 +1,16 @@
+pub mod Gathered
+pub mod LeadLaws
+pub mod RunSteps
+pub mod Merges
+pub mod Greater
+pub mod EqualSteps
+pub mod Entries
+pub mod CoverSteps
+pub mod Closable
+pub mod Taken
+pub mod HullLanes
+pub mod Places
+pub mod Seam
+pub mod Kept
+pub mod TreeSums
+pub mod PlainSums

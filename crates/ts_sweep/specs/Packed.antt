@@ -1,0 +1,88 @@
+-- Hulls in packed form: what their lanes stand for.
+use Rattle.std.specs.Prelude.{◌≡◌, ◌⊎◌, ◌<◌, ◌≤◌, ◌+◌, ◌*◌, ℕ, ◌<ℤ◌, ◌≤ℤ◌, ◌+ℤ◌, ℤ, pos, negsuc, neg_ℤ, true, cond, if◌then◌else◌, int_le, List, [], ◌∷◌, length, get_or, set}
+use Rattle.std.specs.Int.{int_max, int_min}
+use Rattle.ts_base.specs.declared.ext.Ext.{Ext}
+use Rattle.ts_base.specs.declared.ext.Ext.TheVariants.{NegInf, Int, PosInf}
+use Rattle.ts_base.specs.declared.span.Span.{Span}
+use Rattle.ts_base.specs.Spans.{has_some}
+use Rattle.ts_automaton.specs.declared.regs.Hull.{Hull}
+use Rattle.ts_sweep.specs.declared.packed.Ends.{Ends}
+use Rattle.ts_sweep.specs.Lanes.{least, no_lanes, some_lanes}
+
+-- a lane as an upper end: the greatest number stands for +∞, the greatest negated for -∞, as does nothing
+abbrev pub upper : ℤ → Ext
+upper x = if int_le x (negsuc 9223372036854775806) then NegInf else if int_le (pos 9223372036854775807) x then PosInf else Int x
+
+abbrev pub negated : Ext → Ext
+negated NegInf = PosInf
+negated (Int x) = Int (neg_ℤ x)
+negated PosInf = NegInf
+
+-- two lanes as a span: the lower end is negated
+abbrev pub span_of : ℤ → ℤ → Span
+span_of x y = record { lo = negated (upper x); hi = upper y }
+
+abbrev pub ends_span : Ends → Span
+ends_span e = span_of e.below e.above
+
+abbrev pub ends : ℤ → ℤ → Ends
+ends below above = record { below = below; above = above }
+
+-- the ends of a number
+abbrev pub number_ends : ℤ → Ends
+number_ends x = ends (neg_ℤ x) x
+
+-- the ends of a register, and its span
+abbrev pub ends_at : List ℤ → ℕ → Ends
+ends_at xs register = ends (get_or xs (2 * register) (pos 0)) (get_or xs (2 * register + 1) (pos 0))
+
+abbrev pub register_span : List ℤ → ℕ → Span
+register_span xs register = ends_span (ends_at xs register)
+
+-- the same lanes with other ends of a register
+abbrev pub with_ends_at : List ℤ → ℕ → Ends → List ℤ
+with_ends_at xs register e = set (set xs (2 * register) e.below) (2 * register + 1) e.above
+
+-- the hull of the first three registers
+abbrev pub unpacked : List ℤ → Hull
+unpacked xs = record { c = register_span xs 0; d = register_span xs 1; r = register_span xs 2 }
+
+-- a register lies between the ends
+pub record IsSomeEnds (e : Ends) : Type 0 where
+  pub below : least <ℤ e.below
+  pub above : least <ℤ e.above
+  pub some : has_some (ends_span e) ≡ true
+
+-- registers lie in all n lanes
+pub record AreSome (n : ℕ) (xs : List ℤ) : Type 0 where
+  pub len : length xs ≡ n
+  pub above : (k : ℕ) → k < n → least <ℤ get_or xs k (pos 0)
+  pub some : (register : ℕ) → 2 * register + 1 < n → has_some (register_span xs register) ≡ true
+
+-- registers lie in all of them, or there is nothing in each
+abbrev pub IsPacked : ℕ → List ℤ → Type 0
+IsPacked n xs = (xs ≡ no_lanes n) ⊎ AreSome n xs
+
+-- so many hulls, each packed
+abbrev pub ArePacked : {X : Type 0} → (X → List ℤ) → X → ℕ → ℕ → List X → Type 0
+ArePacked lanes none n count hulls = (length hulls ≡ count) × ((i : ℕ) → i < count → IsPacked n (lanes (get_or hulls i none)))
+
+-- registers lie between ends that stand for a span
+pub record IsPackOf (e : Ends) (s : Span) : Type 0 where
+  pub some : IsSomeEnds e
+  pub span : ends_span e ≡ s
+
+-- end by end the greater
+abbrev pub max_ends : Ends → Ends → Ends
+max_ends a b = ends (int_max a.below b.below) (int_max a.above b.above)
+
+-- each lane is at most that of the cover
+abbrev pub IsUnder : List ℤ → List ℤ → Type 0
+IsUnder xs cover = (k : ℕ) → get_or xs k (pos 0) ≤ℤ get_or cover k (pos 0)
+
+-- a number of at most k steps of 10^16 in size, and ends that are
+abbrev pub IsWithin : ℕ → ℤ → Type 0
+IsWithin k x = (neg_ℤ (pos (k * 10000000000000000)) ≤ℤ x) × (x ≤ℤ pos (k * 10000000000000000))
+
+abbrev pub AreWithin : ℕ → Ends → Type 0
+AreWithin k e = IsWithin k e.below × IsWithin k e.above

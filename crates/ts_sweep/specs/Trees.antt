@@ -1,0 +1,47 @@
+-- Ends of expressions in lanes, with sums that are clamped.
+use Rattle.std.specs.Prelude.{ℤ, pos, negsuc, neg_ℤ, List}
+use Rattle.ts_base.specs.declared.ext.Ext.{Ext}
+use Rattle.ts_base.specs.declared.ext.Ext.TheVariants.{NegInf, Int, PosInf}
+use Rattle.ts_base.specs.Numbers.{ext_plus}
+use Rattle.ts_automaton.specs.declared.expr.Atom.{Atom}
+use Rattle.ts_automaton.specs.declared.expr.Atom.TheVariants.{C, D, R, This, Next, Zero, Unit as UnitAtom, NegInf as LowAtom, PosInf as HighAtom}
+use Rattle.ts_base.specs.declared.op.Op.{Op}
+use Rattle.ts_base.specs.declared.op.Op.TheVariants.{Add, Max, Min}
+use Rattle.ts_automaton.specs.Formula.{Formula, Leaf, Join}
+use Rattle.ts_sweep.specs.declared.packed.Ends.{Ends}
+use Rattle.ts_sweep.specs.Packed.{upper, negated, ends, ends_at, number_ends}
+use Rattle.ts_sweep.specs.Operators.{greater_of_ends, lesser_of_ends}
+
+-- a number or infinity as a lane
+abbrev pub lane_of : Ext → ℤ
+lane_of NegInf = negsuc 9223372036854775806
+lane_of (Int x) = x
+lane_of PosInf = pos 9223372036854775807
+
+-- the sum of what two lanes stand for, as upper ends and as lower ones
+abbrev pub sum_above : ℤ → ℤ → ℤ
+sum_above x y = lane_of (ext_plus (upper x) (upper y))
+
+abbrev pub sum_below : ℤ → ℤ → ℤ
+sum_below x y = lane_of (negated (ext_plus (negated (upper x)) (negated (upper y))))
+
+abbrev pub joined_by : Op → Ends → Ends → Ends
+joined_by Add a b = ends (sum_below a.below b.below) (sum_above a.above b.above)
+joined_by Max a b = greater_of_ends a b
+joined_by Min a b = lesser_of_ends a b
+
+-- the ends of a word; the next cell, which doesn't stand in a front, would be zero
+abbrev pub word_ends : Atom → List ℤ → ℤ → Ends
+word_ends C xs x = ends_at xs 0
+word_ends D xs x = ends_at xs 1
+word_ends R xs x = ends_at xs 2
+word_ends This xs x = number_ends x
+word_ends Next xs x = number_ends (pos 0)
+word_ends Zero xs x = number_ends (pos 0)
+word_ends UnitAtom xs x = number_ends (pos 1)
+word_ends LowAtom xs x = ends (pos 9223372036854775807) (negsuc 9223372036854775806)
+word_ends HighAtom xs x = ends (negsuc 9223372036854775806) (pos 9223372036854775807)
+
+abbrev pub tree_value : Formula → List ℤ → ℤ → Ends
+tree_value (Leaf a) xs x = word_ends a xs x
+tree_value (Join o f g) xs x = joined_by o (tree_value f xs x) (tree_value g xs x)

@@ -1,0 +1,8 @@
+-- The values of a cell without gaps are small.
+use Rattle.std.proofs.Common.{◌≡◌, ℕ, ◌<◌, ◌≤◌, ℤ, pos, neg_ℤ, ◌+ℤ◌, ◌≤ℤ◌, arith}
+use Rattle.std.proofs.lemmas.Int.{ints}
+use Rattle.ts_sweep.specs.Small.{IsCell, IsSmall}
+
+pub run_small : (first : ℤ) (count i : ℕ) → IsCell first → count ≤ 2000001 → i < count → IsSmall (first +ℤ pos i)
+run_small first count i cell few inside =
+    let low = cell.0 in let high = cell.1 in (omega (arith, ints, low), omega (arith, ints, high, few, inside))

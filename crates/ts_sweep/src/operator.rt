@@ -1,0 +1,143 @@
+//! Operators on ends, as types.
+
+ghost use Rattle.std.specs.Prelude.{◌≡◌, true};
+ghost use Rattle.ts_sweep.specs.Packed.{AreWithin};
+
+use crate::packed::Ends;
+
+/// An operator, as a type: what it makes of two ends is then a constant of a sweep.
+pub trait Operator: Copy {
+    ghost use Rattle.std.specs.Prelude.{◌≡◌, ℕ, ◌+◌, ◌≤◌, Bool, true};
+    ghost use Rattle.ts_base.specs.declared.span.Span.{Span};
+    ghost use Rattle.ts_base.specs.declared.op.Op.{Op};
+    ghost use Rattle.ts_automaton.specs.Registers.{ext_op};
+    ghost use Rattle.ts_hull.specs.Sealed.{by_ends};
+    ghost use Rattle.ts_sweep.specs.declared.packed.Ends.{Ends};
+    ghost use Rattle.ts_sweep.specs.Packed.{AreWithin, IsPackOf};
+
+    /// The operator.
+    ghost op: { Self → Op };
+
+    /// It adds, so its operands have to be small numbers.
+    ghost adds: { Self → Bool };
+
+    /// What it makes of ends.
+    ghost joined: { Self → Ends → Ends → Ends };
+
+    /// Whether it adds.
+    fn is_sum(self) -> bool
+        ensures { result ≡ adds self };
+
+    /// Of both.
+    fn of(self, a: Ends, b: Ends) -> Ends
+        requires first { adds self ≡ true → AreWithin 9 a }
+        requires second { adds self ≡ true → AreWithin 9 b }
+        ensures { result ≡ joined self a b };
+
+    ghost packs: { (k : Self) (i j : ℕ) (a b : Ends) (s t : Span) → i + j ≤ 10 → (adds k ≡ true → AreWithin i a × AreWithin j b) →
+        IsPackOf a s → IsPackOf b t → IsPackOf (joined k a b) (by_ends (ext_op (op k)) s t) };
+
+    ghost within: { (k : Self) (i j : ℕ) (a b : Ends) → i + j ≤ 10 → AreWithin i a → AreWithin j b → AreWithin (i + j) (joined k a b) };
+}
+
+/// The sum.
+#[derive(Clone, Copy)]
+pub struct Plus;
+
+/// The greater.
+#[derive(Clone, Copy)]
+pub struct Greater;
+
+/// The lesser.
+#[derive(Clone, Copy)]
+pub struct Lesser;
+
+impl Operator for Plus {
+    ghost use Rattle.std.specs.Prelude.{true};
+    ghost use Rattle.ts_base.specs.declared.op.Op.TheVariants.{Add};
+    ghost use Rattle.ts_sweep.specs.Operators.{sum_of_ends};
+    ghost use Rattle.ts_sweep.specs.OperatorLaws.{sum_packs, sum_within};
+
+    ghost op = { λ k. Add };
+
+    ghost adds = { λ k. true };
+
+    ghost joined = { λ k a b. sum_of_ends a b };
+
+    ghost packs = { λ k i j a b s t few small p q. sum_packs i j a b s t few small p q };
+
+    ghost within = { λ k i j a b few p q. sum_within i j a b p q };
+
+    #[inline(always)]
+    fn is_sum(self) -> bool {
+        true
+    }
+
+    #[inline(always)]
+    fn of(self, a: Ends, b: Ends) -> Ends {
+        Ends {
+            below: a.below + b.below,
+            above: a.above + b.above,
+        }
+    }
+}
+
+impl Operator for Greater {
+    ghost use Rattle.std.specs.Prelude.{false};
+    ghost use Rattle.ts_base.specs.declared.op.Op.TheVariants.{Max};
+    ghost use Rattle.ts_sweep.specs.Operators.{greater_of_ends};
+    ghost use Rattle.ts_sweep.specs.OperatorLaws.{greater_packs, greater_within};
+
+    ghost op = { λ k. Max };
+
+    ghost adds = { λ k. false };
+
+    ghost joined = { λ k a b. greater_of_ends a b };
+
+    ghost packs = { λ k i j a b s t few small p q. greater_packs a b s t p q };
+
+    ghost within = { λ k i j a b few p q. greater_within i j a b p q };
+
+    #[inline(always)]
+    fn is_sum(self) -> bool {
+        false
+    }
+
+    #[inline(always)]
+    fn of(self, a: Ends, b: Ends) -> Ends {
+        Ends {
+            below: a.below.min(b.below),
+            above: a.above.max(b.above),
+        }
+    }
+}
+
+impl Operator for Lesser {
+    ghost use Rattle.std.specs.Prelude.{false};
+    ghost use Rattle.ts_base.specs.declared.op.Op.TheVariants.{Min};
+    ghost use Rattle.ts_sweep.specs.Operators.{lesser_of_ends};
+    ghost use Rattle.ts_sweep.specs.OperatorLaws.{lesser_packs, lesser_within};
+
+    ghost op = { λ k. Min };
+
+    ghost adds = { λ k. false };
+
+    ghost joined = { λ k a b. lesser_of_ends a b };
+
+    ghost packs = { λ k i j a b s t few small p q. lesser_packs a b s t p q };
+
+    ghost within = { λ k i j a b few p q. lesser_within i j a b p q };
+
+    #[inline(always)]
+    fn is_sum(self) -> bool {
+        false
+    }
+
+    #[inline(always)]
+    fn of(self, a: Ends, b: Ends) -> Ends {
+        Ends {
+            below: a.below.max(b.below),
+            above: a.above.min(b.above),
+        }
+    }
+}

@@ -1,0 +1,196 @@
+//! Hulls in packed form: a number for each end of a register.
+//!
+//! A lower end stands negated, so that hulls are joined by the greater number in each lane, whatever end it is:
+//!
+//! ```text
+//!   register      C          D          R
+//!   lane        0    1     2    3     4    5          a lower end is negated: the span -2 .. 7 is 2, 7
+//!              -lo   hi   -lo   hi   -lo   hi
+//! ```
+//!
+//! The greatest number stands for an infinity, and the least one in each lane for a hull of nothing, which changes
+//! nothing where it is joined to another.
+
+ghost use Rattle.std.specs.Prelude.{◌≡◌, ◌<◌, ◌≤◌, ◌+◌, ◌*◌};
+ghost use Rattle.ts_sweep.specs.Lanes.{greater_of, some_lanes};
+ghost use Rattle.ts_sweep.specs.Packed.{ends_at, number_ends, with_ends_at};
+ghost use Rattle.ts_sweep.specs.Small.{IsSmall};
+
+use crate::hull::Hull;
+
+/// Both ends of a register, the lower one negated.
+#[derive(Clone, Copy, Debug, PartialEq, Eq)]
+pub struct Ends {
+    pub below: i64,
+    pub above: i64,
+}
+
+/// A hull of N lanes: two for each register.
+#[derive(Clone, Copy, Debug, PartialEq, Eq)]
+pub struct PackedHull<const N: usize> {
+    pub at: [i64; N],
+}
+
+/// Hulls of registers, which stand in lanes of two.
+pub trait Packed: Hull {
+    ghost use Rattle.std.specs.Prelude.{ℕ, ℤ, List};
+    ghost use Rattle.ts_sweep.specs.declared.packed.Ends.{Ends};
+    ghost use Rattle.ts_sweep.specs.Lanes.{greater_of, no_lanes, some_lanes};
+    ghost use Rattle.ts_sweep.specs.Packed.{ends_at, with_ends_at, IsPacked};
+
+    /// How many lanes there are.
+    ghost count: { ℕ };
+
+    /// The lanes.
+    ghost lanes: { Self → List ℤ };
+
+    /// The hull with other ends of a register.
+    ghost replaced: { Self → ℕ → Ends → Self };
+
+    /// Whether registers lie in it.
+    fn is_some(&self) -> bool
+        ensures { result ≡ some_lanes (lanes self.now) };
+
+    /// The ends of a register.
+    fn ends(&self, register: usize) -> Ends
+        requires inside { 2 * register + 1 < count }
+        requires few { register ≤ 10 }
+        ensures { result ≡ ends_at (lanes self.now) register };
+
+    /// The hull with other ends of a register.
+    fn with(self, register: usize, e: Ends) -> Self
+        requires inside { 2 * register + 1 < count }
+        requires few { register ≤ 10 }
+        ensures { result ≡ replaced self register e };
+
+    ghost both_lanes: { (a b : Self) → lanes (Self.both a b) ≡ greater_of (lanes a) (lanes b) };
+
+    ghost none_lanes: { lanes Self.none ≡ no_lanes count };
+
+    ghost takes_none: { (h : Self) → IsPacked count (lanes h) → Self.both h Self.none ≡ h };
+
+    ghost replaced_lanes: { (h : Self) (register : ℕ) (e : Ends) → lanes (replaced h register e) ≡ with_ends_at (lanes h) register e };
+}
+
+/// The ends of a number.
+#[inline(always)]
+pub(crate) fn number(x: i64) -> Ends
+    requires { IsSmall x }
+    ensures { result ≡ number_ends x }
+{
+    Ends {
+        below: -x,
+        above: x,
+    }
+}
+
+/// Lane by lane the greater.
+#[inline(always)]
+fn greater<const N: usize>(a: [i64; N], b: [i64; N]) -> [i64; N]
+    ensures { result ≡ greater_of a.entry b.entry }
+{
+    let mut out = a;
+    for k in 0..N {
+        out[k] = out[k].max(b[k]);
+    }
+    out
+}
+
+/// Whether registers lie in lanes: the first tells it.
+#[inline(always)]
+fn has_some<const N: usize>(at: [i64; N]) -> bool
+    ensures { result ≡ some_lanes at.entry }
+{
+    N > 0 && at[0] != i64::MIN
+}
+
+/// The ends of a register in lanes.
+#[inline(always)]
+fn ends_of<const N: usize>(at: &[i64; N], register: usize) -> Ends
+    requires inside { 2 * register + 1 < N }
+    requires few { register ≤ 10 }
+    ensures { result ≡ ends_at at.now register }
+{
+    Ends {
+        below: at[2 * register],
+        above: at[2 * register + 1],
+    }
+}
+
+/// Lanes with other ends of a register.
+#[inline(always)]
+fn with_ends<const N: usize>(lanes: [i64; N], register: usize, e: Ends) -> [i64; N]
+    requires inside { 2 * register + 1 < N }
+    requires few { register ≤ 10 }
+    ensures { result ≡ with_ends_at lanes.entry register e }
+{
+    let mut at = lanes;
+    at[2 * register] = e.below;
+    at[2 * register + 1] = e.above;
+    at
+}
+
+impl<const N: usize> Hull for PackedHull<N> {
+    ghost use Rattle.std.proofs.Common.{ap};
+    ghost use Rattle.ts_sweep.specs.Lanes.{greater_of, no_lanes};
+    ghost use Rattle.ts_sweep.specs.LaneLaws.{lanes_associative, lanes_commutative, lanes_idempotent};
+
+    ghost both = { λ a b. record { at = greater_of a.at b.at } };
+
+    ghost none = { record { at = no_lanes N } };
+
+    ghost associative = { λ a b c. ap (λ xs. record { at = xs }) (lanes_associative a.at b.at c.at) };
+
+    ghost commutative = { λ a b. ap (λ xs. record { at = xs }) (lanes_commutative a.at b.at) };
+
+    ghost idempotent = { λ a. ap (λ xs. record { at = xs }) (lanes_idempotent a.at) };
+
+    #[inline(always)]
+    fn nothing() -> PackedHull<N> {
+        PackedHull { at: [i64::MIN; N] }
+    }
+
+    #[inline(always)]
+    fn joined(self, other: PackedHull<N>) -> PackedHull<N> {
+        PackedHull {
+            at: greater::<N>(self.at, other.at),
+        }
+    }
+}
+
+impl<const N: usize> Packed for PackedHull<N> {
+    ghost use Rattle.std.proofs.Common.{ap, refl};
+    ghost use Rattle.ts_sweep.specs.Packed.{with_ends_at};
+    ghost use Rattle.ts_sweep.specs.PackedLaws.{packed_lanes};
+
+    ghost count = { N };
+
+    ghost lanes = { λ h. h.at };
+
+    ghost replaced = { λ h register e. record { at = with_ends_at h.at register e } };
+
+    ghost both_lanes = { λ a b. refl };
+
+    ghost none_lanes = { refl };
+
+    ghost takes_none = { λ h p. ap (λ xs. record { at = xs }) (packed_lanes N h.at p) };
+
+    ghost replaced_lanes = { λ h register e. refl };
+
+    #[inline(always)]
+    fn is_some(&self) -> bool {
+        has_some::<N>(self.at)
+    }
+
+    #[inline(always)]
+    fn ends(&self, register: usize) -> Ends {
+        ends_of::<N>(&self.at, register)
+    }
+
+    #[inline(always)]
+    fn with(self, register: usize, e: Ends) -> PackedHull<N> {
+        PackedHull {
+            at: with_ends::<N>(self.at, register, e),
+        }
+    }
+}

@@ -1,0 +1,173 @@
+//! A move on a letter: which sweep takes it in.
+
+ghost use Rattle.std.specs.Prelude.{◌≡◌, ℕ, ◌<◌, ◌≤◌, length, get_or, true, false};
+ghost use Rattle.ts_base.specs.declared.letter.Letter.TheVariants.{Equal};
+ghost use Rattle.ts_sweep.specs.Packed.{ArePacked};
+ghost use Rattle.ts_sweep.specs.Sweeps.{IsTakenIn, met_hull, passed_hull, total};
+
+use crate::column::{Column, Dense};
+use crate::equal::sweep_equal;
+use crate::hull::Hull;
+use crate::moves::Moves;
+use crate::packed::Packed;
+use crate::runs::sweep_runs;
+use crate::source::Fronts;
+use crate::sweep::sweep;
+use crate::values::Values;
+use ts_base::Letter;
+
+/// A move on `<`, or else on `>`, is taken in: by the counted loop where neither cell has gaps.
+#[inline(always)]
+fn sweep_cells<const UP: bool, H: Hull, F: Fronts<H>, V: Values, W: Values, C: Column<H>>(
+    by: F,
+    twin: bool,
+    values: V,
+    from: C,
+    before: &[C::Item],
+    next_values: W,
+    to: C,
+    next: &mut [C::Item],
+)
+    requires ok { V.ok values }
+    requires whole { C.whole from before.now }
+    requires readable { C.readable from before.now }
+    requires same { length (C.column from before.now) ≡ V.len values }
+    requires fit { (i : ℕ) → i < V.len values → F.fit by (get_or (C.hulls from before.now) i H.none) }
+    requires next_ok { W.ok next_values }
+    requires next_whole { C.whole to next.old }
+    requires next_same { length (C.column to next.old) ≡ W.len next_values }
+    ensures taken { IsTakenIn C.taking H.none C.blank
+        (λ j. F.closing by
+        (passed_hull H.both H.none UP twin (F.front by) (C.hulls from before.now) (V.value values) (W.value next_values j))
+        (W.value next_values j))
+        (C.column to next.old) (C.column to next.new) }
+    ensures whole { C.whole to next.new }
+    ensures beside { C.beside to next.old next.new }
+{
+    match (values.run(), next_values.run()) {
+        (Some(run), Some(next_run)) => sweep_runs::<UP, H, F, C>(
+            by, twin, run, from, before, next_run, to, next,
+        ),
+        _ => sweep::<UP, H, F, V, W, C>(by, twin, values, from, before, next_values, to, next),
+    }
+}
+
+/// A move on a letter is taken in, and on `=` too where it has a twin. Each item of the next values takes in the closed
+/// hull of the fronts of the values that compare with it so.
+#[inline(always)]
+pub fn take<H: Hull, F: Fronts<H>, V: Values, W: Values, C: Column<H>>(
+    by: F,
+    letter: Letter,
+    twin: bool,
+    values: V,
+    from: C,
+    before: &[C::Item],
+    next_values: W,
+    to: C,
+    next: &mut [C::Item],
+)
+    requires ok { V.ok values }
+    requires whole { C.whole from before.now }
+    requires readable { C.readable from before.now }
+    requires same { length (C.column from before.now) ≡ V.len values }
+    requires fit { (i : ℕ) → i < V.len values → F.fit by (get_or (C.hulls from before.now) i H.none) }
+    requires next_ok { W.ok next_values }
+    requires next_whole { C.whole to next.old }
+    requires next_same { length (C.column to next.old) ≡ W.len next_values }
+    requires alone { letter ≡ Equal → twin ≡ false }
+    ensures taken { IsTakenIn C.taking H.none C.blank
+        (λ j. F.closing by
+        (met_hull H.both H.none letter twin (F.front by) (C.hulls from before.now) (V.value values) (W.value next_values j))
+        (W.value next_values j))
+        (C.column to next.old) (C.column to next.new) }
+    ensures whole { C.whole to next.new }
+    ensures beside { C.beside to next.old next.new }
+{
+    match letter {
+        Letter::Less => sweep_cells::<true, H, F, V, W, C>(
+            by,
+            twin,
+            values,
+            from,
+            before,
+            next_values,
+            to,
+            next,
+        ),
+        Letter::Greater => sweep_cells::<false, H, F, V, W, C>(
+            by,
+            twin,
+            values,
+            from,
+            before,
+            next_values,
+            to,
+            next,
+        ),
+        Letter::Equal => sweep_equal::<H, F, V, W, C>(
+            by,
+            values,
+            from,
+            before,
+            next_values,
+            to,
+            next,
+        ),
+    }
+}
+
+/// Whether all hulls of a column can be taken: whether those under its cover can.
+#[inline(always)]
+fn all_fit<H: Packed, F: Moves<H>>(by: F, cover: H, hulls: &[H]) -> bool
+    requires registers { 6 ≤ H.count }
+    requires packed { ArePacked H.lanes H.none H.count (length hulls.now) hulls.now }
+    requires covers { cover ≡ total H.both H.none (λ i. true) (λ i. get_or hulls.now i H.none) (length hulls.now) }
+    ensures { result ≡ true → (i : ℕ) → i < length hulls.now → F.fit by (get_or hulls.now i H.none) }
+{
+    let _hulls = hulls;
+    by.is_fit(cover)
+}
+
+/// A move of hulls in columns of their own is taken in if its sums stay small.
+#[inline(always)]
+pub fn take_fit<H: Packed, F: Moves<H>, V: Values, W: Values>(
+    by: F,
+    letter: Letter,
+    twin: bool,
+    cover: H,
+    values: V,
+    before: &[H],
+    next_values: W,
+    next: &mut [H],
+) -> bool
+    requires registers { 6 ≤ H.count }
+    requires ok { V.ok values }
+    requires next_ok { W.ok next_values }
+    requires packed { ArePacked H.lanes H.none H.count (V.len values) before.now }
+    requires covers { cover ≡ total H.both H.none (λ i. true) (λ i. get_or before.now i H.none) (V.len values) }
+    requires next_packed { ArePacked H.lanes H.none H.count (W.len next_values) next.old }
+    requires alone { letter ≡ Equal → twin ≡ false }
+    ensures packed { ArePacked H.lanes H.none H.count (W.len next_values) next.new }
+    ensures taken { result ≡ true → IsTakenIn H.both H.none H.none
+        (λ j. F.closing by
+        (met_hull H.both H.none letter twin (F.front by) before.now (V.value values) (W.value next_values j))
+        (W.value next_values j))
+        next.old next.new }
+    ensures kept { result ≡ false → next.new ≡ next.old }
+{
+    if !all_fit(by, cover, before) {
+        return false;
+    }
+    take::<H, F, V, W, Dense>(
+        by,
+        letter,
+        twin,
+        values,
+        Dense,
+        before,
+        next_values,
+        Dense,
+        next,
+    );
+    true
+}

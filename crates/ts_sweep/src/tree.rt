@@ -1,0 +1,163 @@
+//! Expressions and operators that are known only when the program runs. Their sums are clamped and know infinities, so
+//! they serve all hulls.
+
+ghost use Rattle.std.specs.Prelude.{◌≡◌, ◌≤◌};
+ghost use Rattle.ts_automaton.specs.Formula.{formula};
+ghost use Rattle.ts_sweep.specs.Small.{IsSmall};
+ghost use Rattle.ts_sweep.specs.Trees.{joined_by, sum_above, sum_below, tree_value};
+
+use crate::front::Front;
+use crate::operator::Operator;
+use crate::packed::{Ends, Packed, number};
+use ts_automaton::{Expr, Op};
+
+/// An operator.
+#[derive(Clone, Copy)]
+pub struct AnyOperator {
+    pub op: Op,
+}
+
+/// An expression that doesn't read the next cell.
+#[derive(Clone, Copy)]
+pub struct Tree<'a> {
+    pub expr: &'a Expr,
+}
+
+/// The sum of two upper ends, clamped.
+fn above_both(x: i64, y: i64) -> i64
+    ensures { result ≡ sum_above x y }
+{
+    if x <= -i64::MAX || y <= -i64::MAX {
+        -i64::MAX
+    } else if x == i64::MAX || y == i64::MAX {
+        i64::MAX
+    } else {
+        x.saturating_add(y)
+            .clamp(-100_000_000_000_000_000, 100_000_000_000_000_000)
+    }
+}
+
+/// The sum of two lower ends, which are negated, clamped.
+fn below_both(x: i64, y: i64) -> i64
+    ensures { result ≡ sum_below x y }
+{
+    if x == i64::MAX || y == i64::MAX {
+        i64::MAX
+    } else if x <= -i64::MAX || y <= -i64::MAX {
+        -i64::MAX
+    } else {
+        x.saturating_add(y)
+            .clamp(-100_000_000_000_000_000, 100_000_000_000_000_000)
+    }
+}
+
+/// An operator on ends.
+fn joined_ends(op: Op, a: Ends, b: Ends) -> Ends
+    ensures { result ≡ joined_by op a b }
+{
+    match op {
+        Op::Add => Ends {
+            below: below_both(a.below, b.below),
+            above: above_both(a.above, b.above),
+        },
+        Op::Max => Ends {
+            below: a.below.min(b.below),
+            above: a.above.max(b.above),
+        },
+        Op::Min => Ends {
+            below: a.below.max(b.below),
+            above: a.above.min(b.above),
+        },
+    }
+}
+
+/// The ends of an expression in lanes. The next cell, which doesn't stand in it, would be zero.
+fn tree_ends<H: Packed>(e: &Expr, h: H, x: i64) -> Ends
+    requires registers { 6 ≤ H.count }
+    requires small { IsSmall x }
+    ensures { result ≡ tree_value (formula e.now) (H.lanes h) x }
+{
+    match e {
+        Expr::C => h.ends(0),
+        Expr::D => h.ends(1),
+        Expr::R => h.ends(2),
+        Expr::This => number(x),
+        Expr::Next | Expr::Zero => number(0),
+        Expr::Unit => number(1),
+        Expr::NegInf => Ends {
+            below: i64::MAX,
+            above: -i64::MAX,
+        },
+        Expr::PosInf => Ends {
+            below: -i64::MAX,
+            above: i64::MAX,
+        },
+        Expr::Add(a, b) => joined_ends(Op::Add, tree_ends::<H>(a, h, x), tree_ends::<H>(b, h, x)),
+        Expr::Max(a, b) => joined_ends(Op::Max, tree_ends::<H>(a, h, x), tree_ends::<H>(b, h, x)),
+        Expr::Min(a, b) => joined_ends(Op::Min, tree_ends::<H>(a, h, x), tree_ends::<H>(b, h, x)),
+    }
+}
+
+impl Operator for AnyOperator {
+    ghost use Rattle.std.specs.Prelude.{false};
+    ghost use Rattle.ts_sweep.specs.Trees.{joined_by};
+    ghost use Rattle.ts_sweep.specs.TreeLaws.{any_packs, any_within};
+
+    ghost op = { λ k. k.op };
+
+    ghost adds = { λ k. false };
+
+    ghost joined = { λ k a b. joined_by k.op a b };
+
+    ghost packs = { λ k i j a b s t few small p q. any_packs k.op a b s t p q };
+
+    ghost within = { λ k i j a b few p q. any_within k.op i j a b few p q };
+
+    #[inline(always)]
+    fn is_sum(self) -> bool {
+        false
+    }
+
+    #[inline(always)]
+    fn of(self, a: Ends, b: Ends) -> Ends {
+        joined_ends(self.op, a, b)
+    }
+}
+
+impl<'a> Front for Tree<'a> {
+    ghost use Rattle.std.specs.Prelude.{◌≡◌, false};
+    ghost use Rattle.std.proofs.Common.{refl};
+    ghost use Rattle.ts_automaton.specs.Formula.{formula};
+    ghost use Rattle.ts_sweep.specs.FrontLaws.{never_added};
+    ghost use Rattle.ts_sweep.specs.Trees.{tree_value};
+    ghost use Rattle.ts_sweep.specs.TreeLaws.{tree_packs};
+
+    ghost formula = { λ k. formula k.expr.now };
+
+    ghost words = { λ k. 1 };
+
+    ghost fit = { λ k added xs. added ≡ false };
+
+    ghost value = { λ k xs x. tree_value (formula k.expr.now) xs x };
+
+    ghost looser = { λ k xs h. refl };
+
+    ghost within = { λ k xs x few h small. never_added h };
+
+    ghost packs = { λ k n xs x big some h small. tree_packs (formula k.expr.now) n xs x big some small };
+
+    #[inline(always)]
+    fn words(self) -> u8 {
+        1
+    }
+
+    #[inline(always)]
+    fn is_fit<H: Packed>(self, added: bool, _cover: H) -> bool {
+        !added
+    }
+
+    #[inline(always)]
+    fn ends<H: Packed>(self, h: H, x: i64) -> Ends {
+        tree_ends::<H>(self.expr, h, x)
+    }
+}
