@@ -2,6 +2,7 @@
 use Rattle.std.proofs.Common.{◌≡◌, ◌&&◌, ◌⊎◌, inl, inr, ℕ, zero, suc, ◌+◌, ◌*◌, ◌<◌, ◌≤◌, ◌≤ℤ◌, ◌<ℤ◌, ℤ, pos, negsuc, neg_ℤ, Bool, true, false, cond, List, [], ◌∷◌, length, get_or, refl, sym, ap, subst, ◌∙◌, arith}
 use Rattle.std.proofs.lemmas.Bool.{and_parts}
 use Rattle.std.proofs.lemmas.Int.{ints}
+use Rattle.std.proofs.lemmas.List.{get_or-replicate, length-replicate}
 use Rattle.ts_base.specs.declared.ext.Ext.{Ext}
 use Rattle.ts_base.specs.declared.ext.Ext.TheVariants.{NegInf, Int, PosInf}
 use Rattle.ts_base.specs.declared.span.Span.{Span}
@@ -15,11 +16,11 @@ use Rattle.ts_hull.specs.Splits.{front_span}
 use Rattle.ts_hull.proofs.HullLaws.{same_hull}
 use Rattle.ts_sweep.specs.Small.{IsSmall}
 use Rattle.ts_sweep.specs.Lanes.{least, no_lanes}
-use Rattle.ts_sweep.specs.Packed.{upper, negated, ends, ends_span, register_span, unpacked, AreSome, IsPacked, IsWithin}
-use Rattle.ts_sweep.specs.PackedLaws.{none_unpacked}
+use Rattle.ts_sweep.specs.Packed.{upper, negated, ends, ends_span, register_span, unpacked, AreSome, IsPacked, IsUnder, IsWithin}
+use Rattle.ts_sweep.specs.PackedLaws.{none_unpacked, beyond}
 use Rattle.ts_sweep.specs.FrontLaws.{upper_small, neg_small, neg_neg, above_least}
 use Rattle.ts_sweep.specs.MoveLaws.{front_none}
-use Rattle.ts_sweep.specs.Strided.{lanes_of}
+use Rattle.ts_sweep.specs.Strided.{lanes_of, greatest_lanes}
 use Rattle.ts_sweep.specs.Trees.{lane_of}
 
 pub small_bounds : (x : ℤ) → small_int x ≡ true → IsWithin 1 x
@@ -128,3 +129,55 @@ front_same k h v small = go (some_hull h) refl
     go false e =
         ap (λ z. front_hull k z v) (ap unpacked (lanes_none h e) ∙ none_unpacked 6 (omega arith)) ∙ front_none k v
         ∙ sym (ap (λ b. cond b (hull_with (front_span k.c h v) (front_span k.d h v) (front_span k.r h v)) none_hull) e)
+
+-- no lane is above the greatest number
+
+lane_below : (e : Ext) → small e ≡ true → lane_of e ≤ℤ pos 9223372036854775807
+lane_below NegInf h = grind (arith, ints)
+lane_below (Int x) h = let b = (small_bounds x h).1 in omega (arith, ints, b)
+lane_below PosInf h = grind (arith, ints)
+
+low_lane_below : (e : Ext) → small e ≡ true → lane_of (negated e) ≤ℤ pos 9223372036854775807
+low_lane_below NegInf h = grind (arith, ints)
+low_lane_below (Int x) h = let b = (neg_small x (small_bounds x h)).1 in omega (arith, ints, b)
+low_lane_below PosInf h = grind (arith, ints)
+
+same_below : (x y z : ℤ) → x ≡ y → y ≤ℤ z → x ≤ℤ z
+same_below x y z e h = omega (arith, ints, e, h)
+
+least_below : least ≤ℤ pos 9223372036854775807
+least_below = grind (arith, ints)
+
+zero_below : pos 0 ≤ℤ pos 0
+zero_below = grind (arith, ints)
+
+six_below : (h : Hull) → AreSmallSpans h → IsUnder (six_of h) greatest_lanes
+six_below h s zero = low_lane_below h.c.lo (and_parts (small h.c.lo) (small h.c.hi) s.c).0
+six_below h s (suc zero) = lane_below h.c.hi (and_parts (small h.c.lo) (small h.c.hi) s.c).1
+six_below h s (suc (suc zero)) = low_lane_below h.d.lo (and_parts (small h.d.lo) (small h.d.hi) s.d).0
+six_below h s (suc (suc (suc zero))) = lane_below h.d.hi (and_parts (small h.d.lo) (small h.d.hi) s.d).1
+six_below h s (suc (suc (suc (suc zero)))) = low_lane_below h.r.lo (and_parts (small h.r.lo) (small h.r.hi) s.r).0
+six_below h s (suc (suc (suc (suc (suc zero))))) = lane_below h.r.hi (and_parts (small h.r.lo) (small h.r.hi) s.r).1
+six_below h s (suc (suc (suc (suc (suc (suc k)))))) = zero_below
+
+-- the same of nothing
+nothing_at : (k : ℕ) → k < 6 → get_or (no_lanes 6) k (pos 0) ≤ℤ pos 9223372036854775807
+nothing_at k lt = same_below _ least _ (get_or-replicate 6 k least (pos 0) lt) least_below
+
+nothing_below : IsUnder (no_lanes 6) greatest_lanes
+nothing_below zero = nothing_at 0 (omega arith)
+nothing_below (suc zero) = nothing_at 1 (omega arith)
+nothing_below (suc (suc zero)) = nothing_at 2 (omega arith)
+nothing_below (suc (suc (suc zero))) = nothing_at 3 (omega arith)
+nothing_below (suc (suc (suc (suc zero)))) = nothing_at 4 (omega arith)
+nothing_below (suc (suc (suc (suc (suc zero))))) = nothing_at 5 (omega arith)
+nothing_below (suc (suc (suc (suc (suc (suc k)))))) =
+    let long : length (no_lanes 6) ≡ 6 = length-replicate 6 least in
+    same_below _ (pos 0) _ (beyond (no_lanes 6) (suc (suc (suc (suc (suc (suc k)))))) (omega (arith, long))) zero_below
+
+pub under_greatest : (h : Hull) → small_hull h ≡ true → IsUnder (lanes_of h) greatest_lanes
+under_greatest h small = go (some_hull h) refl
+  where
+    go : (b : Bool) → some_hull h ≡ b → IsUnder (lanes_of h) greatest_lanes
+    go true e = subst (λ xs. IsUnder xs greatest_lanes) (sym (lanes_some h e)) (six_below h (spans_of_small h small))
+    go false e = subst (λ xs. IsUnder xs greatest_lanes) (sym (lanes_none h e)) nothing_below

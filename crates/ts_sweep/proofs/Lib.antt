@@ -14,3 +14,4 @@ pub mod Seam
 pub mod Kept
 pub mod TreeSums
 pub mod PlainSums
+pub mod Rows

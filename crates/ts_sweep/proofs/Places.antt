@@ -67,7 +67,7 @@ column_at s r n row j lt = get_or-map-range_with_len (hull_in s r row) 0 n j j n
 pub inside_row : (s n r i : ℕ) → r < s → i < n → i * s + r < n * s
 inside_row s n r i b lt = let m : suc i * s ≤ n * s = mul-le-mul_right s lt in let w : suc i * s ≡ i * s + s = omega arith in omega (arith, b)
 
-columns_long : (s r n : ℕ) (row : List Hull) → length (map (hull_in s r row) (range_with_len 0 n)) ≡ n
+pub columns_long : (s r n : ℕ) (row : List Hull) → length (map (hull_in s r row) (range_with_len 0 n)) ≡ n
 columns_long s r n row = length-map-range_with_len (hull_in s r row) 0 n
 
 pub in_column : (s r n i : ℕ) (row : List Hull) → i < length (map (hull_in s r row) (range_with_len 0 n)) → i < n

@@ -247,7 +247,7 @@ joined_is n xs ys big (inr p) (inr q) =
 
 -- lanes that change nothing where they are joined to a cover are under it
 
-beyond : (xs : List ℤ) (k : ℕ) → length xs ≤ k → get_or xs k (pos 0) ≡ pos 0
+pub beyond : (xs : List ℤ) (k : ℕ) → length xs ≤ k → get_or xs k (pos 0) ≡ pos 0
 beyond [] k h = refl
 beyond (x ∷ xs) zero h = absurd (omega (arith, h))
 beyond (x ∷ xs) (suc k) h = beyond xs k (omega (arith, h))

@@ -31,6 +31,7 @@ pub mod moves;
 pub mod operator;
 pub mod packed;
 pub mod part;
+pub mod row;
 pub mod runs;
 pub mod source;
 mod steps;

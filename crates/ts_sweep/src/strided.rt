@@ -186,7 +186,7 @@ impl Column<PackedHull<6>> for Strided {
     ghost use Rattle.ts_hull.specs.Smalls.{small_hull};
     ghost use Rattle.ts_hull.specs.Sweeps.{hull_in};
     ghost use Rattle.ts_sweep.specs.Packed.{unpacked};
-    ghost use Rattle.ts_sweep.specs.Strided.{lanes_of, AreBeside};
+    ghost use Rattle.ts_sweep.specs.Strided.{packed_at, AreBeside};
     ghost use Rattle.ts_sweep.specs.StridedLaws.{same_count, beside_itself, beside_both};
 
     type Item = Hull;
@@ -195,7 +195,7 @@ impl Column<PackedHull<6>> for Strided {
 
     ghost column = { λ c row. map (hull_in c.states c.state row) (range_with_len 0 c.count) };
 
-    ghost hulls = { λ c row. map (λ i. record { at = lanes_of (hull_in c.states c.state row i) }) (range_with_len 0 c.count) };
+    ghost hulls = { λ c row. map (packed_at c.states c.state row) (range_with_len 0 c.count) };
 
     ghost taking = { λ y h. hull_of_both y (unpacked h.at) };
 

@@ -1,7 +1,6 @@
 use Rattle.std.proofs.Common.{sym, ap, ◌∙◌, arith}
 use Rattle.std.proofs.lemmas.List.FromFn.{get_or-map-range_with_len}
-use Rattle.ts_hull.specs.Sweeps.{hull_in}
-use Rattle.ts_sweep.specs.Strided.{lanes_of}
+use Rattle.ts_sweep.specs.Strided.{packed_at}
 use Rattle.ts_sweep.proofs.Places.{in_column}
 use Rattle.ts_sweep.proofs.strided.StridedColumnPackedHull6.hull.Goals as goal
 
@@ -12,5 +11,5 @@ hull_at-requires-clause-inside c =
 pub returns : goal.returns
 returns c =
     ap (λ xs. record { at = xs }) c.hull_at.ensures
-    ∙ sym (get_or-map-range_with_len (λ i. record { at = lanes_of (hull_in c.args.self.states c.args.self.state c.args.row.now i) }) 0 c.args.self.count
+    ∙ sym (get_or-map-range_with_len (packed_at c.args.self.states c.args.self.state c.args.row.now) 0 c.args.self.count
     c.args.i c.args.i _ (in_column c.args.self.states c.args.self.state c.args.self.count c.args.i c.args.row.now c.requires.inside) (omega arith))
