@@ -4,3 +4,4 @@ pub mod Sums
 pub mod SplitLaws
 pub mod Letters
 pub mod Puts
+pub mod Wholes

@@ -183,7 +183,7 @@ next_word LowAtom h = cc
 next_word HighAtom h = cc
 
 -- a front doesn't read the next cell
-front_word : (a : Atom) (h : Hull) (x y : ℤ) → not (is_next_word a) ≡ true → span_in (Leaf a) h x y ≡ span_in (Leaf a) h x (pos 0)
+pub front_word : (a : Atom) (h : Hull) (x y : ℤ) → not (is_next_word a) ≡ true → span_in (Leaf a) h x y ≡ span_in (Leaf a) h x (pos 0)
 front_word C h x y f = refl
 front_word D h x y f = refl
 front_word R h x y f = refl
@@ -194,7 +194,7 @@ front_word UnitAtom h x y f = refl
 front_word LowAtom h x y f = refl
 front_word HighAtom h x y f = refl
 
-front_same : (e : Formula) (h : Hull) (x y : ℤ) → is_front e ≡ true → span_in e h x y ≡ span_in e h x (pos 0)
+pub front_same : (e : Formula) (h : Hull) (x y : ℤ) → is_front e ≡ true → span_in e h x y ≡ span_in e h x (pos 0)
 front_same (Leaf a) h x y f = front_word a h x y f
 front_same (Join o a b) h x y f =
     let both = and_parts (is_front a) (is_front b) f in

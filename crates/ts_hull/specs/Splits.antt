@@ -62,6 +62,12 @@ is_swept (FrontOf e) = true
 is_swept (TailOf o e) = true
 is_swept ByPairs = false
 
+-- the next cell doesn't come in
+abbrev pub is_whole : Split → Bool
+is_whole (FrontOf e) = true
+is_whole (TailOf o e) = false
+is_whole ByPairs = false
+
 -- the span of the front; and what the next cell y makes of the hull of fronts
 abbrev pub front_span : Split → Hull → ℤ → Span
 front_span (FrontOf e) h x = span_in e h x (pos 0)

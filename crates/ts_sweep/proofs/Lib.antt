@@ -15,3 +15,5 @@ pub mod Kept
 pub mod TreeSums
 pub mod PlainSums
 pub mod Rows
+pub mod Columns
+pub mod PairSteps

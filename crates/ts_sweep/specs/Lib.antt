@@ -17,3 +17,4 @@ pub mod Trees
 pub mod TreeLaws
 pub mod Strided
 pub mod StridedLaws
+pub mod Columns

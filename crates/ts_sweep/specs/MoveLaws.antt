@@ -121,7 +121,7 @@ parts_fit n C D R xs big c d r (inr s) = inr (big, s, c s, d s, r s)
 
 -- whether registers lie in lanes
 
-first_is : (n : ℕ) (xs : List ℤ) → 6 ≤ n → AreSome n xs → some_lanes xs ≡ true
+pub first_is : (n : ℕ) (xs : List ℤ) → 6 ≤ n → AreSome n xs → some_lanes xs ≡ true
 first_is n [] big h = let e = h.len in absurd (omega (arith, e, big))
 first_is n (x ∷ xs) big h = above_is x (h.above 0 (omega (arith, big)))
   where
@@ -140,7 +140,7 @@ not_nothing n xs some (inr a) = a
 and_true : (a b c : Bool) → a ≡ true → b ≡ true → c ≡ true → (a && b && c) ≡ true
 and_true a b c p q r = ap (λ z. z && b && c) p ∙ ap (λ z. z && c) q ∙ r
 
-some_unpacked : (n : ℕ) (xs : List ℤ) → 6 ≤ n → AreSome n xs → some_hull (unpacked xs) ≡ true
+pub some_unpacked : (n : ℕ) (xs : List ℤ) → 6 ≤ n → AreSome n xs → some_hull (unpacked xs) ≡ true
 some_unpacked n xs big h =
     and_true (has_some (register_span xs 0)) (has_some (register_span xs 1)) (has_some (register_span xs 2))
     (h.some 0 (omega (arith, big))) (h.some 1 (omega (arith, big))) (h.some 2 (omega (arith, big)))
@@ -222,7 +222,7 @@ parts_none lanes n none e true x = ap (λ b. cond b x none) (ap some_lanes e ∙
 parts_none lanes n none e false x = refl
 
 module _ {X : Type 0} (lanes : X → List ℤ) (replaced : X → ℕ → Ends → X) (n : ℕ) (none : X) (none_lanes : lanes none ≡ no_lanes n) (replaced_lanes : (h : X) (r : ℕ) (e : Ends) → lanes (replaced h r e) ≡ with_ends_at (lanes h) r e) where
-  all_lanes : (h : X) (c d r : Ends) → lanes (replaced_all replaced h c d r) ≡ three (lanes h) c d r
+  pub all_lanes : (h : X) (c d r : Ends) → lanes (replaced_all replaced h c d r) ≡ three (lanes h) c d r
   all_lanes h c d r =
       replaced_lanes (replaced (replaced h 0 c) 1 d) 2 r
       ∙ ap (λ zs. with_ends_at zs 2 r) (replaced_lanes (replaced h 0 c) 1 d ∙ ap (λ zs. with_ends_at zs 1 d) (replaced_lanes h 0 c))

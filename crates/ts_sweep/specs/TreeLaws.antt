@@ -115,20 +115,27 @@ any_packs Max a b s t p q = greater_packs a b s t p q
 any_packs Min a b s t p q = lesser_packs a b s t p q
 
 -- the word of a register, a number or an infinity
-word_packs : (w : Atom) (n : ℕ) (xs : List ℤ) (x : ℤ) → 6 ≤ n → AreSome n xs → IsSmall x → IsPackOf (word_ends w xs x) (span_in (Leaf w) (unpacked xs) x (pos 0))
-word_packs C n xs x big h small = record { some = some_ends n 0 xs (omega (arith, big)) h; span = refl }
-word_packs D n xs x big h small = record { some = some_ends n 1 xs (omega (arith, big)) h; span = refl }
-word_packs R n xs x big h small = record { some = some_ends n 2 xs (omega (arith, big)) h; span = refl }
-word_packs This n xs x big h small = number_packs x (small_number x small)
-word_packs Next n xs x big h small = number_packs (pos 0) zero_is_small
-word_packs Zero n xs x big h small = number_packs (pos 0) zero_is_small
-word_packs UnitAtom n xs x big h small = number_packs (pos 1) one_is_small
-word_packs LowAtom n xs x big h small = low_packs
-word_packs HighAtom n xs x big h small = high_packs
+word_packs : (w : Atom) (n : ℕ) (xs : List ℤ) (x y : ℤ) → 6 ≤ n → AreSome n xs → IsSmall x → IsSmall y →
+    IsPackOf (word_ends w xs x y) (span_in (Leaf w) (unpacked xs) x y)
+word_packs C n xs x y big h small next = record { some = some_ends n 0 xs (omega (arith, big)) h; span = refl }
+word_packs D n xs x y big h small next = record { some = some_ends n 1 xs (omega (arith, big)) h; span = refl }
+word_packs R n xs x y big h small next = record { some = some_ends n 2 xs (omega (arith, big)) h; span = refl }
+word_packs This n xs x y big h small next = number_packs x (small_number x small)
+word_packs Next n xs x y big h small next = number_packs y (small_number y next)
+word_packs Zero n xs x y big h small next = number_packs (pos 0) zero_is_small
+word_packs UnitAtom n xs x y big h small next = number_packs (pos 1) one_is_small
+word_packs LowAtom n xs x y big h small next = low_packs
+word_packs HighAtom n xs x y big h small next = high_packs
 
-pub tree_packs : (f : Formula) (n : ℕ) (xs : List ℤ) (x : ℤ) → 6 ≤ n → AreSome n xs → IsSmall x → IsPackOf (tree_value f xs x) (span_in f (unpacked xs) x (pos 0))
-tree_packs (Leaf w) n xs x big h small = word_packs w n xs x big h small
-tree_packs (Join o f g) n xs x big h small = any_packs o _ _ _ _ (tree_packs f n xs x big h small) (tree_packs g n xs x big h small)
+pub tree_packs : (f : Formula) (n : ℕ) (xs : List ℤ) (x y : ℤ) → 6 ≤ n → AreSome n xs → IsSmall x → IsSmall y →
+    IsPackOf (tree_value f xs x y) (span_in f (unpacked xs) x y)
+tree_packs (Leaf w) n xs x y big h small next = word_packs w n xs x y big h small next
+tree_packs (Join o f g) n xs x y big h small next =
+    any_packs o _ _ _ _ (tree_packs f n xs x y big h small next) (tree_packs g n xs x y big h small next)
+
+-- at no next cell, as it were
+pub zero_small : IsSmall (pos 0)
+zero_small = (grind (arith, ints), grind (arith, ints))
 
 -- small ends give small ones
 

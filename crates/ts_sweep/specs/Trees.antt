@@ -30,18 +30,18 @@ joined_by Add a b = ends (sum_below a.below b.below) (sum_above a.above b.above)
 joined_by Max a b = greater_of_ends a b
 joined_by Min a b = lesser_of_ends a b
 
--- the ends of a word; the next cell, which doesn't stand in a front, would be zero
-abbrev pub word_ends : Atom → List ℤ → ℤ → Ends
-word_ends C xs x = ends_at xs 0
-word_ends D xs x = ends_at xs 1
-word_ends R xs x = ends_at xs 2
-word_ends This xs x = number_ends x
-word_ends Next xs x = number_ends (pos 0)
-word_ends Zero xs x = number_ends (pos 0)
-word_ends UnitAtom xs x = number_ends (pos 1)
-word_ends LowAtom xs x = ends (pos 9223372036854775807) (negsuc 9223372036854775806)
-word_ends HighAtom xs x = ends (negsuc 9223372036854775806) (pos 9223372036854775807)
+-- the ends of a word, at the cell x and the next cell y
+abbrev pub word_ends : Atom → List ℤ → ℤ → ℤ → Ends
+word_ends C xs x y = ends_at xs 0
+word_ends D xs x y = ends_at xs 1
+word_ends R xs x y = ends_at xs 2
+word_ends This xs x y = number_ends x
+word_ends Next xs x y = number_ends y
+word_ends Zero xs x y = number_ends (pos 0)
+word_ends UnitAtom xs x y = number_ends (pos 1)
+word_ends LowAtom xs x y = ends (pos 9223372036854775807) (negsuc 9223372036854775806)
+word_ends HighAtom xs x y = ends (negsuc 9223372036854775806) (pos 9223372036854775807)
 
-abbrev pub tree_value : Formula → List ℤ → ℤ → Ends
-tree_value (Leaf a) xs x = word_ends a xs x
-tree_value (Join o f g) xs x = joined_by o (tree_value f xs x) (tree_value g xs x)
+abbrev pub tree_value : Formula → List ℤ → ℤ → ℤ → Ends
+tree_value (Leaf a) xs x y = word_ends a xs x y
+tree_value (Join o f g) xs x y = joined_by o (tree_value f xs x y) (tree_value g xs x y)

@@ -79,6 +79,16 @@ pub fn take_row<F: Moves<PackedHull<6>>, V: Values, W: Values>(
     if !row_fits(by, from, before) {
         return false;
     }
-    take::<PackedHull<6>, F, V, W, Strided>(by, letter, twin, values, from, before, next_values, to, next);
+    take::<PackedHull<6>, F, V, W, Strided>(
+        by,
+        letter,
+        twin,
+        values,
+        from,
+        before,
+        next_values,
+        to,
+        next,
+    );
     true
 }

@@ -1,7 +1,10 @@
 //! A move on a letter: which sweep takes it in.
 
 ghost use Rattle.std.specs.Prelude.{◌≡◌, ℕ, ◌<◌, ◌≤◌, length, get_or, true, false};
+ghost use Rattle.ts_automaton.specs.Body.{Move};
 ghost use Rattle.ts_base.specs.declared.letter.Letter.TheVariants.{Equal};
+ghost use Rattle.ts_hull.specs.Cuts.{all_whole, cut_of};
+ghost use Rattle.ts_sweep.specs.Columns.{IsMoved};
 ghost use Rattle.ts_sweep.specs.Packed.{ArePacked};
 ghost use Rattle.ts_sweep.specs.Sweeps.{IsTakenIn, met_hull, passed_hull, total};
 
@@ -153,6 +156,7 @@ pub fn take_fit<H: Packed, F: Moves<H>, V: Values, W: Values>(
         (met_hull H.both H.none letter twin (F.front by) before.now (V.value values) (W.value next_values j))
         (W.value next_values j))
         next.old next.new }
+    ensures fit { result ≡ true → (i : ℕ) → i < V.len values → F.fit by (get_or before.now i H.none) }
     ensures kept { result ≡ false → next.new ≡ next.old }
 {
     if !all_fit(by, cover, before) {
@@ -170,4 +174,33 @@ pub fn take_fit<H: Packed, F: Moves<H>, V: Values, W: Values>(
         next,
     );
     true
+}
+
+/// The same of a move that doesn't read the next cell, told by what the hulls stand for: each next hull takes in what the
+/// move gives to its value. This is how a row that stays packed is made from the row before.
+#[inline(always)]
+pub fn take_column<H: Packed, F: Moves<H>, V: Values, W: Values>(
+    by: F,
+    letter: Letter,
+    twin: bool,
+    cover: H,
+    values: V,
+    before: &[H],
+    next_values: W,
+    next: &mut [H],
+) -> bool
+    requires registers { 6 ≤ H.count }
+    requires whole { all_whole (F.cut by) ≡ true }
+    requires ok { V.ok values }
+    requires next_ok { W.ok next_values }
+    requires packed { ArePacked H.lanes H.none H.count (V.len values) before.now }
+    requires covers { cover ≡ total H.both H.none (λ i. true) (λ i. get_or before.now i H.none) (V.len values) }
+    requires next_packed { ArePacked H.lanes H.none H.count (W.len next_values) next.old }
+    requires alone { letter ≡ Equal → twin ≡ false }
+    ensures packed { ArePacked H.lanes H.none H.count (W.len next_values) next.new }
+    ensures taken { result ≡ true → (m : Move) → cut_of m ≡ F.cut by → IsMoved H.lanes H.none m letter twin (V.len values)
+        (V.value values) before.now (W.len next_values) (W.value next_values) next.old next.new }
+    ensures kept { result ≡ false → next.new ≡ next.old }
+{
+    take_fit::<H, F, V, W>(by, letter, twin, cover, values, before, next_values, next)
 }

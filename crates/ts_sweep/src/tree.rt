@@ -71,18 +71,20 @@ fn joined_ends(op: Op, a: Ends, b: Ends) -> Ends
     }
 }
 
-/// The ends of an expression in lanes. The next cell, which doesn't stand in it, would be zero.
-fn tree_ends<H: Packed>(e: &Expr, h: H, x: i64) -> Ends
+/// The ends of an expression in lanes, at a value and the next one.
+pub(crate) fn tree_ends<H: Packed>(e: &Expr, h: H, x: i64, y: i64) -> Ends
     requires registers { 6 ≤ H.count }
     requires small { IsSmall x }
-    ensures { result ≡ tree_value (formula e.now) (H.lanes h) x }
+    requires next { IsSmall y }
+    ensures { result ≡ tree_value (formula e.now) (H.lanes h) x y }
 {
     match e {
         Expr::C => h.ends(0),
         Expr::D => h.ends(1),
         Expr::R => h.ends(2),
         Expr::This => number(x),
-        Expr::Next | Expr::Zero => number(0),
+        Expr::Next => number(y),
+        Expr::Zero => number(0),
         Expr::Unit => number(1),
         Expr::NegInf => Ends {
             below: i64::MAX,
@@ -92,9 +94,21 @@ fn tree_ends<H: Packed>(e: &Expr, h: H, x: i64) -> Ends
             below: -i64::MAX,
             above: i64::MAX,
         },
-        Expr::Add(a, b) => joined_ends(Op::Add, tree_ends::<H>(a, h, x), tree_ends::<H>(b, h, x)),
-        Expr::Max(a, b) => joined_ends(Op::Max, tree_ends::<H>(a, h, x), tree_ends::<H>(b, h, x)),
-        Expr::Min(a, b) => joined_ends(Op::Min, tree_ends::<H>(a, h, x), tree_ends::<H>(b, h, x)),
+        Expr::Add(a, b) => joined_ends(
+            Op::Add,
+            tree_ends::<H>(a, h, x, y),
+            tree_ends::<H>(b, h, x, y),
+        ),
+        Expr::Max(a, b) => joined_ends(
+            Op::Max,
+            tree_ends::<H>(a, h, x, y),
+            tree_ends::<H>(b, h, x, y),
+        ),
+        Expr::Min(a, b) => joined_ends(
+            Op::Min,
+            tree_ends::<H>(a, h, x, y),
+            tree_ends::<H>(b, h, x, y),
+        ),
     }
 }
 
@@ -125,12 +139,12 @@ impl Operator for AnyOperator {
 }
 
 impl<'a> Front for Tree<'a> {
-    ghost use Rattle.std.specs.Prelude.{◌≡◌, false};
+    ghost use Rattle.std.specs.Prelude.{◌≡◌, false, pos};
     ghost use Rattle.std.proofs.Common.{refl};
     ghost use Rattle.ts_automaton.specs.Formula.{formula};
     ghost use Rattle.ts_sweep.specs.FrontLaws.{never_added};
     ghost use Rattle.ts_sweep.specs.Trees.{tree_value};
-    ghost use Rattle.ts_sweep.specs.TreeLaws.{tree_packs};
+    ghost use Rattle.ts_sweep.specs.TreeLaws.{tree_packs, zero_small};
 
     ghost formula = { λ k. formula k.expr.now };
 
@@ -138,13 +152,13 @@ impl<'a> Front for Tree<'a> {
 
     ghost fit = { λ k added xs. added ≡ false };
 
-    ghost value = { λ k xs x. tree_value (formula k.expr.now) xs x };
+    ghost value = { λ k xs x. tree_value (formula k.expr.now) xs x (pos 0) };
 
     ghost looser = { λ k xs h. refl };
 
     ghost within = { λ k xs x few h small. never_added h };
 
-    ghost packs = { λ k n xs x big some h small. tree_packs (formula k.expr.now) n xs x big some small };
+    ghost packs = { λ k n xs x big some h small. tree_packs (formula k.expr.now) n xs x (pos 0) big some small zero_small };
 
     #[inline(always)]
     fn words(self) -> u8 {
@@ -158,6 +172,6 @@ impl<'a> Front for Tree<'a> {
 
     #[inline(always)]
     fn ends<H: Packed>(self, h: H, x: i64) -> Ends {
-        tree_ends::<H>(self.expr, h, x)
+        tree_ends::<H>(self.expr, h, x, 0)
     }
 }

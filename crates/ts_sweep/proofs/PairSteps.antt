@@ -1,0 +1,147 @@
+-- A move over pairs of values.
+use Rattle.std.proofs.Common.{◌≡◌, ◌⊎◌, inl, inr, ℕ, suc, ◌+◌, ◌<◌, ◌≤◌, Bool, true, false, cond, nat_eq, ℤ, List, length, get_or, set, refl, sym, ap, subst, ◌∙◌, arith}
+use Rattle.std.proofs.lemmas.Bool.{eqb-true, eqb-false}
+use Rattle.std.proofs.lemmas.List.{length-set, get_or-set_same, get_or-set_other}
+use Rattle.ts_base.specs.declared.letter.Letter.{Letter}
+use Rattle.ts_automaton.specs.declared.regs.Hull.{Hull}
+use Rattle.ts_automaton.specs.Body.{Move}
+use Rattle.ts_hull.specs.Hulls.{none, hull_of_both}
+use Rattle.ts_hull.specs.Sealed.{some_hull, span_in, after_move}
+use Rattle.ts_hull.specs.Sweeps.{compares, total}
+use Rattle.ts_hull.proofs.HullLaws.{same_hull}
+use Rattle.ts_hull.proofs.SplitLaws.{after_is}
+use Rattle.ts_sweep.specs.declared.packed.Ends.{Ends}
+use Rattle.ts_sweep.specs.Columns.{gives, hull_at, IsGift}
+use Rattle.ts_sweep.specs.FrontLaws.{never_added}
+use Rattle.ts_sweep.specs.Lanes.{no_lanes, some_lanes, greater_of}
+use Rattle.ts_sweep.specs.MoveLaws.{three, three_are_some, three_unpacked, first_is, some_unpacked, not_nothing}
+use Rattle.ts_sweep.specs.Packed.{unpacked, AreSome, IsPacked, IsPackOf, ArePacked}
+use Rattle.ts_sweep.specs.PackedLaws.{joined_packed, joined_is, none_unpacked, packed_takes_none}
+use Rattle.ts_sweep.specs.Small.{IsSmall}
+use Rattle.ts_sweep.specs.Trees.{tree_value}
+use Rattle.ts_sweep.specs.TreeLaws.{tree_packs}
+use Rattle.ts_sweep.proofs.RunSteps.{as_passed}
+use mir.Syntax.{w64}
+use mir.Val.{of_z, to_z}
+
+-- numbers that were passed on
+pub as_both_passed : (P : ℤ → ℤ → Type 0) (x y : ℤ) → IsSmall x → IsSmall y → P (to_z w64 (of_z w64 x)) (to_z w64 (of_z w64 y)) → P x y
+as_both_passed P x y a b h = as_passed (λ z. P x z) y b (as_passed (λ z. P z (to_z w64 (of_z w64 y))) x a h)
+
+pub nothing_lanes : (n : ℕ) (xs : List ℤ) → 6 ≤ n → IsPacked n xs → some_lanes xs ≡ false → xs ≡ no_lanes n
+nothing_lanes n xs big (inl e) f = e
+nothing_lanes n xs big (inr s) f = never_added (sym (first_is n xs big s) ∙ f)
+
+-- a move makes nothing of nothing
+pub moved_nothing : (m : Move) (n : ℕ) (xs : List ℤ) (x y : ℤ) → 6 ≤ n → IsPacked n xs → some_lanes xs ≡ false →
+    unpacked xs ≡ after_move m (unpacked xs) x y
+moved_nothing m n xs x y big p f =
+    let e : unpacked xs ≡ none = ap unpacked (nothing_lanes n xs big p f) ∙ none_unpacked n big in
+    e ∙ sym (after_is m (unpacked xs) x y false (ap some_hull e))
+
+-- and of a hull in lanes what its expressions make of it
+pub moved_some : (m : Move) (n : ℕ) (xs zs : List ℤ) (x y : ℤ) (c d r : Ends) → 6 ≤ n → IsPacked n xs → some_lanes xs ≡ true → IsSmall x → IsSmall y →
+    c ≡ tree_value m.to.c xs x y → d ≡ tree_value m.to.d xs x y → r ≡ tree_value m.to.r xs x y → zs ≡ three xs c d r →
+    IsPacked n zs × (unpacked zs ≡ after_move m (unpacked xs) x y)
+moved_some m n xs zs x y c d r big p some this next ec ed er is =
+    let s = not_nothing n xs some p in
+    let pc = subst (λ e. IsPackOf e (span_in m.to.c (unpacked xs) x y)) (sym ec) (tree_packs m.to.c n xs x y big s this next) in
+    let pd = subst (λ e. IsPackOf e (span_in m.to.d (unpacked xs) x y)) (sym ed) (tree_packs m.to.d n xs x y big s this next) in
+    let pr = subst (λ e. IsPackOf e (span_in m.to.r (unpacked xs) x y)) (sym er) (tree_packs m.to.r n xs x y big s this next) in (
+      subst (IsPacked n) (sym is) (inr (three_are_some n xs c d r big s pc.some pd.some pr.some)),
+      ap unpacked is ∙ three_unpacked n xs c d r big s ∙ same_hull _ _ _ _ _ _ pc.span pd.span pr.span
+          ∙ sym (after_is m (unpacked xs) x y true (some_unpacked n xs big s)),
+    )
+
+module _ {X : Type 0} (both : X → X → X) (nothing : X) (lanes : X → List ℤ) (n : ℕ) (both_lanes : (a b : X) → lanes (both a b) ≡ greater_of (lanes a) (lanes b)) (none_lanes : lanes nothing ≡ no_lanes n) (big : 6 ≤ n) where
+  -- a hull that one more joins
+  pub with_joined : (a h z : X) (k : Hull) → IsPacked n (lanes a) → IsPacked n (lanes h) → unpacked (lanes h) ≡ k → z ≡ both a h →
+      IsPacked n (lanes z) × (unpacked (lanes z) ≡ hull_of_both (unpacked (lanes a)) k)
+  with_joined a h z k p q is e = (
+    subst (IsPacked n) (sym (ap lanes e ∙ both_lanes a h)) (joined_packed n (lanes a) (lanes h) p q),
+    ap (λ t. unpacked (lanes t)) e ∙ ap unpacked (both_lanes a h) ∙ joined_is n (lanes a) (lanes h) big p q ∙ ap (hull_of_both (unpacked (lanes a))) is,
+  )
+
+-- what is given so far, by the first i of the values
+pub record IsGiven {X : Type 0} (lanes : X → List ℤ) (nothing : X) (n : ℕ) (m : Move) (l : Letter) (twin : Bool) (i : ℕ) (v : ℕ → ℤ) (before : List X) (w : ℤ) (all : X) : Type 0 where
+  pub packed : IsPacked n (lanes all)
+  pub value : unpacked (lanes all) ≡ gives m l twin i v (hull_at lanes nothing before) w
+
+gives_none : (m : Move) (l : Letter) (twin : Bool) (v : ℕ → ℤ) (h : ℕ → Hull) (w : ℤ) → none ≡ gives m l twin 0 v h w
+unfolding gives total
+gives_none m l twin v h w = refl
+
+gives_more : (m : Move) (l : Letter) (twin : Bool) (i : ℕ) (v : ℕ → ℤ) (h : ℕ → Hull) (w : ℤ) →
+    hull_of_both (gives m l twin i v h w) (cond (compares l twin (v i) w) (after_move m (h i) (v i) w) none) ≡ gives m l twin (suc i) v h w
+unfolding gives total
+gives_more m l twin i v h w = refl
+
+-- the first j next hulls have taken in what is given to them
+pub record ArePaired {X : Type 0} (lanes : X → List ℤ) (nothing : X) (n : ℕ) (m : Move) (l : Letter) (twin : Bool) (count : ℕ) (v : ℕ → ℤ) (before : List X) (k : ℕ) (w : ℕ → ℤ) (j : ℕ) (old new : List X) : Type 0 where
+  pub packed : ArePacked lanes nothing n k new
+  pub done : (i : ℕ) → i < j → hull_at lanes nothing new i ≡ hull_of_both (hull_at lanes nothing old i) (gives m l twin count v (hull_at lanes nothing before) (w i))
+  pub rest : (i : ℕ) → j ≤ i → get_or new i nothing ≡ get_or old i nothing
+
+before_or : (i j : ℕ) → i < suc j → (i < j) ⊎ (i ≡ j)
+before_or i j h = grind arith
+
+same_or : (i j : ℕ) → (i ≡ j) ⊎ (i ≡ j → ⊥)
+same_or i j = go (nat_eq i j) refl
+  where
+    go : (b : Bool) → nat_eq i j ≡ b → (i ≡ j) ⊎ (i ≡ j → ⊥)
+    go true e = inl (eqb-true i j e)
+    go false e = inr (eqb-false i j e)
+
+module _ {X : Type 0} (both : X → X → X) (nothing : X) (lanes : X → List ℤ) (n : ℕ) (both_lanes : (a b : X) → lanes (both a b) ≡ greater_of (lanes a) (lanes b)) (none_lanes : lanes nothing ≡ no_lanes n) (big : 6 ≤ n) (m : Move) (l : Letter) (twin : Bool) (v : ℕ → ℤ) (before : List X) where
+  pub given_begun : (w : ℤ) (all : X) → all ≡ nothing → IsGiven lanes nothing n m l twin 0 v before w all
+  given_begun w all e = record {
+    packed = inl (ap lanes e ∙ none_lanes);
+    value = ap (λ z. unpacked (lanes z)) e ∙ ap unpacked none_lanes ∙ none_unpacked n big ∙ gives_none m l twin v (hull_at lanes nothing before) w;
+  }
+
+  pub given_more : (i : ℕ) (w : ℤ) (all more : X) → IsGiven lanes nothing n m l twin i v before w all → IsPacked n (lanes more) →
+      unpacked (lanes more) ≡ hull_of_both (unpacked (lanes all))
+      (cond (compares l twin (v i) w) (after_move m (hull_at lanes nothing before i) (v i) w) none) →
+      IsGiven lanes nothing n m l twin (i + 1) v before w more
+  given_more i w all more given packed is =
+      let next : suc i ≡ i + 1 = omega arith in
+      record {
+        packed = packed;
+        value = is
+            ∙ ap (λ z. hull_of_both z (cond (compares l twin (v i) w) (after_move m (hull_at lanes nothing before i) (v i) w) none)) given.value
+            ∙ gives_more m l twin i v (hull_at lanes nothing before) w
+            ∙ ap (λ z. gives m l twin z v (hull_at lanes nothing before) w) next;
+      }
+
+  pub paired_more : (count k : ℕ) (w : ℕ → ℤ) (j : ℕ) (old new new' : List X) → ArePaired lanes nothing n m l twin count v before k w j old new →
+      j < k → IsGift both lanes nothing n (gives m l twin count v (hull_at lanes nothing before) (w j)) j new new' →
+      ArePaired lanes nothing n m l twin count v before k w (j + 1) old new'
+  paired_more count k w j old new new' so_far inside given =
+      let gift = given.gift in
+      let here = both (get_or new j nothing) gift in
+      let long = so_far.packed.0 in
+      let joined = with_joined both nothing lanes n both_lanes none_lanes big (get_or new j nothing) gift here _ (so_far.packed.1 j inside) given.packed given.value refl in
+      let here_is : get_or new' j nothing ≡ here =
+      ap (λ z. get_or z j nothing) given.joined ∙ get_or-set_same new j here nothing (omega (arith, inside, long)) in
+      let other : (i : ℕ) → (i ≡ j → ⊥) → get_or new' i nothing ≡ get_or new i nothing =
+      (λ i apart. ap (λ z. get_or z i nothing) given.joined ∙ get_or-set_other new j i here nothing apart) in
+      record {
+        packed = (
+          ap length given.joined ∙ length-set new j here ∙ long,
+          λ i lt. elim (same_or i j) [
+            | inl same ↦ subst (λ z. IsPacked n (lanes (get_or new' z nothing))) (sym same) (subst (λ z. IsPacked n (lanes z)) (sym here_is) joined.0)
+            | inr apart ↦ subst (λ z. IsPacked n (lanes z)) (sym (other i apart)) (so_far.packed.1 i lt)
+          ],
+        );
+        done = λ i lt. elim (before_or i j (omega (arith, lt))) [
+          | inl less ↦ ap (λ z. unpacked (lanes z)) (other i (λ e. omega (arith, e, less))) ∙ so_far.done i less
+          | inr same ↦ subst (λ z. hull_at lanes nothing new' z ≡ hull_of_both (hull_at lanes nothing old z) (gives m l twin count v (hull_at lanes nothing before) (w z)))
+              (sym same) (ap (λ z. unpacked (lanes z)) here_is ∙ joined.1
+              ∙ ap (λ z. hull_of_both (unpacked (lanes z)) (gives m l twin count v (hull_at lanes nothing before) (w j))) (so_far.rest j (omega arith)))
+        ];
+        rest = λ i less. other i (λ e. omega (arith, e, less)) ∙ so_far.rest i (omega (arith, less));
+      }
+
+  pub paired_begun : (count k : ℕ) (w : ℕ → ℤ) (old : List X) → ArePacked lanes nothing n k old →
+      ArePaired lanes nothing n m l twin count v before k w 0 old old
+  paired_begun count k w old packed = record { packed = packed; done = λ i lt. absurd (omega (arith, lt)); rest = λ i less. refl }
