@@ -1,0 +1,10 @@
+pub mod Places
+pub mod Twins
+pub mod Steps
+pub mod Reached
+pub mod ShapeLaws
+pub mod PlanLaws
+pub mod Flat
+pub mod StartLaws
+pub mod Moves
+pub mod Resets

@@ -1,0 +1,25 @@
+-- A plan is made state by state.
+use Rattle.std.proofs.Common.{◌≡◌, ℕ, ◌+◌, ◌<◌, List, length, get_or, set, ap, subst, ◌∙◌, arith}
+use Rattle.std.proofs.lemmas.List.{length-set}
+use Rattle.ts_automaton.specs.Body.{Body, Move}
+use Rattle.ts_hull.specs.Cuts.{cut_of}
+use Rattle.ts_row.specs.declared.plan.Shape.{Shape}
+use Rattle.ts_row.specs.declared.plan.StatePlan.{StatePlan}
+use Rattle.ts_row.specs.Plans.{IsShapeOf, IsStatePlan, unplanned}
+use Rattle.ts_row.proofs.Places.{at_each}
+
+-- the shape of one move is that of another that is the same
+pub same_shape : (s : Shape) (m n : Move) → m ≡ n → IsShapeOf s (cut_of m) → IsShapeOf s (cut_of n)
+same_shape s m n same shape = subst (λ z. IsShapeOf s (cut_of z)) same shape
+
+-- the plans of the first q states
+abbrev pub ArePlanned : Body → ℕ → List StatePlan → Type 0
+ArePlanned b q states = (length states ≡ 8) × ((p : ℕ) → p < q → IsStatePlan b p (get_or states p unplanned))
+
+pub planned_more : (b : Body) (q : ℕ) (old : List StatePlan) (plan : StatePlan) (new : List StatePlan) → q < 8 → ArePlanned b q old →
+    IsStatePlan b q plan → new ≡ set old q plan → ArePlanned b (q + 1) new
+planned_more b q old plan new few before is set_is = (
+  ap length set_is ∙ length-set old q plan ∙ before.0,
+  λ p lt. at_each (λ p z. IsStatePlan b p z) old q plan unplanned new (let long = before.0 in omega (arith, few, long)) set_is is p
+      (λ apart. before.1 p (omega (arith, lt, apart))),
+)

@@ -1,0 +1,29 @@
+//! Rows of hulls that stay packed: for each cell of a box and each state of an automaton a column, with a hull for each
+//! value of the cell.
+//!
+//! A row is made from the row before, state by state: the moves of a state are taken in from its column into the columns
+//! that they lead to. How each move is taken in is found once for an automaton, its `Plan`.
+//!
+//! ```text
+//!   row before                 plan of state 1             next row
+//!   state 0   . . . .                                      state 0   . . .
+//!   state 1   h h h h   ---->  <  Longer(Width)   ---->    state 1   . . .
+//!   state 2   . . . .          =  with `<`                 state 2   . . .
+//!                              >  Found(Width)    ---->
+//! ```
+#![tactic(auto)]
+
+mod between;
+mod cell;
+mod packed_row;
+mod plan;
+mod row_steps;
+mod shapes;
+mod start;
+mod words;
+
+pub use cell::Cell;
+pub use packed_row::PackedRow;
+pub use plan::Plan;
+pub use row_steps::next_row;
+pub use start::start_row;

@@ -1,0 +1,106 @@
+//! A row of hulls in packed form.
+
+ghost use Rattle.std.specs.Prelude.{◌≡◌, ℕ, ◌<◌, ◌≤◌, [], IfOk, length, get_or};
+ghost use Rattle.ts_row.specs.Rows.{AreAll, IsRow, nothing};
+ghost use Rattle.ts_sweep.specs.declared.packed.PackedHull.{PackedHull};
+
+use std::alloc::Global;
+use std::marker::Model;
+use ts_base::Memory;
+use ts_sweep::hull::Hull;
+use ts_sweep::packed::PackedHull;
+
+/// The hulls of a state, one for each value of the cell in rising order.
+#[derive(Drop)]
+pub(crate) struct Column<const N: usize> {
+    pub(crate) hulls: Vec<PackedHull<N>>,
+}
+
+impl<const N: usize> Model for Column<N> {
+    ghost use Rattle.std.specs.Prelude.{List};
+    ghost use Rattle.ts_sweep.specs.declared.packed.PackedHull.{PackedHull};
+
+    ghost Value = { List (PackedHull N) };
+
+    ghost view = { λ c. c.hulls.items };
+}
+
+/// The hulls of a cell: a column for each state of an automaton.
+#[derive(Drop)]
+pub struct PackedRow<const N: usize> {
+    pub(crate) columns: Vec<Column<N>>,
+}
+
+impl<const N: usize> Model for PackedRow<N> {
+    ghost use Rattle.std.specs.Prelude.{List};
+    ghost use Rattle.ts_sweep.specs.declared.packed.PackedHull.{PackedHull};
+
+    ghost Value = { List (List (PackedHull N)) };
+
+    ghost view = { λ r. r.columns.items };
+}
+
+impl<const N: usize> Column<N> {
+    /// No hull.
+    fn empty(alloc: Global) -> Column<N>
+        ensures { length result ≡ 0 }
+    {
+        Column {
+            hulls: Vec::new(alloc),
+        }
+    }
+
+    /// One hull so many times. The memory is used again.
+    pub(crate) fn fill(&mut self, count: usize, hull: PackedHull<N>) -> Result<(), Memory>
+        requires lanes { N ≤ 64 }
+        ensures { IfOk result (λ u. AreAll N hull.entry count self.new) }
+    {
+        self.hulls.clear();
+        self.hulls.resize(count, hull)?;
+        Ok(())
+    }
+}
+
+impl<const N: usize> PackedRow<N> {
+    /// A row of no state.
+    pub fn empty(alloc: Global) -> PackedRow<N>
+        ensures { length result ≡ 0 }
+    {
+        PackedRow {
+            columns: Vec::new(alloc),
+        }
+    }
+
+    /// The hulls of a state.
+    #[inline(always)]
+    pub fn column(&self, q: u8) -> &[PackedHull<N>]
+        requires { q < length self.now }
+        ensures { result.now ≡ get_or self.now q [] }
+    {
+        &self.columns[q as usize].hulls
+    }
+
+    /// So many columns, with whatever hulls.
+    fn with_columns(&mut self, alloc: Global, states: u8) -> Result<(), Memory>
+        ensures { IfOk result (λ u. length self.new ≡ states) }
+    {
+        self.columns.truncate(states as usize);
+        while self.columns.len() < states as usize {
+            self.columns.push(Column::empty(alloc))?;
+        }
+        Ok(())
+    }
+
+    /// So many columns of so many hulls of nothing. The memory of the row is used again.
+    pub(crate) fn reset(&mut self, alloc: Global, states: u8, count: usize) -> Result<(), Memory>
+        requires lanes { N ≤ 64 }
+        ensures { IfOk result (λ u. (length self.new ≡ states)
+            × ((q : ℕ) → q < states → AreAll N (nothing N) count (get_or self.new q []))) }
+    {
+        self.with_columns(alloc, states)?;
+        for q in 0..states {
+            self.columns[q as usize].fill(count, PackedHull::nothing())?;
+        }
+        Ok(())
+    }
+}

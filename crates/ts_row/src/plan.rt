@@ -1,0 +1,317 @@
+//! The plan of an automaton: how each of its moves is taken in.
+//!
+//! The moves of decorated machines have few shapes. Each fold of cells, as of the widths or of the values of a range, has
+//! its own operator and words, so that the sweep of a shape is compiled with nothing left to decide.
+
+ghost use Rattle.std.specs.Prelude.{◌≡◌, ◌<◌, IfSome, length};
+ghost use Rattle.ts_automaton.specs.Body.{move_of, move_on, node_of};
+ghost use Rattle.ts_automaton.specs.Formula.{Join, Leaf, formula};
+ghost use Rattle.ts_automaton.specs.declared.expr.Atom.TheVariants.{C, D, R};
+ghost use Rattle.ts_hull.specs.Cuts.{cut_of, is_front_move};
+ghost use Rattle.ts_hull.specs.Sealed.{move_at};
+ghost use Rattle.ts_row.specs.declared.plan.Equals.TheVariants.{WithGreater, WithLess};
+ghost use Rattle.ts_row.specs.Plans.{
+  IsPlanOf,
+  IsShapeOf,
+  IsStatePlan,
+  cell_op,
+  cell_start,
+  cell_word,
+  fronts,
+  range_op,
+  range_start,
+  words_formula,
+};
+
+use crate::words::{Words, is_same_turn, words_of};
+use ts_automaton::{Atom, Automaton, Op, State, Turn};
+use ts_base::Letter;
+use ts_sweep::whole_tree::is_front;
+
+/// What the cells of a range are folded to: 1, their number, their sum, their greatest or their least value.
+#[derive(Clone, Copy)]
+pub(crate) enum CellFold {
+    Ones,
+    Width,
+    Surf,
+    Greatest,
+    Least,
+}
+
+/// What ranges are folded to: their sum, or the highest or lowest.
+#[derive(Clone, Copy)]
+pub(crate) enum RangeFold {
+    Sum,
+    Highest,
+    Lowest,
+}
+
+/// What a move makes of the registers: nothing changes; D goes on, or begins anew; C becomes of D and the cell, or of C, D
+/// and the cell, and D begins anew; R becomes of R and C, and both begin anew; or else something.
+#[derive(Clone, Copy)]
+pub(crate) enum Shape {
+    Kept,
+    Longer(CellFold),
+    Begun(CellFold),
+    Found(CellFold),
+    Inside(CellFold),
+    Anew(RangeFold, CellFold),
+    Other,
+}
+
+/// Where the move on `=` is taken in: alone, or with the one on `<` or on `>`, which is the same.
+#[derive(Clone, Copy)]
+pub(crate) enum Equals {
+    Alone,
+    WithLess,
+    WithGreater,
+}
+
+/// How the moves of a state are taken in.
+#[derive(Clone, Copy)]
+pub(crate) struct StatePlan {
+    pub(crate) less: Shape,
+    pub(crate) equal: Shape,
+    pub(crate) greater: Shape,
+    pub(crate) equals: Equals,
+}
+
+/// How the moves of an automaton are taken in.
+#[derive(Clone, Copy)]
+pub struct Plan {
+    pub(crate) states: [StatePlan; 8],
+}
+
+/// The fold of cells with an operator and a word.
+fn fold_of(o: Op, word: Atom) -> Option<CellFold>
+    ensures { IfSome result (λ f. (cell_op f ≡ o) × (cell_word f ≡ Leaf word)) }
+{
+    match (o, word) {
+        (Op::Max, Atom::Unit) => Some(CellFold::Ones),
+        (Op::Add, Atom::Unit) => Some(CellFold::Width),
+        (Op::Add, Atom::This) => Some(CellFold::Surf),
+        (Op::Max, Atom::This) => Some(CellFold::Greatest),
+        (Op::Min, Atom::This) => Some(CellFold::Least),
+        _ => None,
+    }
+}
+
+/// A fold of cells that begins with a word.
+fn fold_from(start: Atom) -> Option<CellFold>
+    ensures { IfSome result (λ f. cell_start f ≡ Leaf start) }
+{
+    match start {
+        Atom::Unit => Some(CellFold::Ones),
+        Atom::Zero => Some(CellFold::Width),
+        Atom::NegInf => Some(CellFold::Greatest),
+        Atom::PosInf => Some(CellFold::Least),
+        _ => None,
+    }
+}
+
+/// The word that a fold of cells begins with.
+fn start_of(f: CellFold) -> Atom
+    ensures { cell_start f ≡ Leaf result }
+{
+    match f {
+        CellFold::Ones => Atom::Unit,
+        CellFold::Width | CellFold::Surf => Atom::Zero,
+        CellFold::Greatest => Atom::NegInf,
+        CellFold::Least => Atom::PosInf,
+    }
+}
+
+/// The fold of cells with an operator and a word, if it begins with another word.
+fn whole_fold(o: Op, word: Atom, start: Atom) -> Option<CellFold>
+    ensures { IfSome result (λ f. (cell_op f ≡ o) × (cell_word f ≡ Leaf word) × (cell_start f ≡ Leaf start)) }
+{
+    let f = fold_of(o, word)?;
+    if start_of(f) == start { Some(f) } else { None }
+}
+
+/// The fold of ranges with an operator, from a word on.
+fn range_of(o: Op, start: Atom) -> Option<RangeFold>
+    ensures { IfSome result (λ g. (range_op g ≡ o) × (range_start g ≡ Leaf start)) }
+{
+    match (o, start) {
+        (Op::Add, Atom::Zero) => Some(RangeFold::Sum),
+        (Op::Max, Atom::NegInf) => Some(RangeFold::Highest),
+        (Op::Min, Atom::PosInf) => Some(RangeFold::Lowest),
+        _ => None,
+    }
+}
+
+/// The shape of a move that keeps R and C, if it is known.
+fn going_shape(d: Words) -> Option<Shape>
+    ensures { IfSome result (λ s. IsShapeOf s (fronts (Leaf C) (words_formula d) (Leaf R))) }
+{
+    match d {
+        Words::Word(Atom::D) => Some(Shape::Kept),
+        Words::Word(w) => Some(Shape::Begun(fold_from(w)?)),
+        Words::Two(o, Atom::D, b) => Some(Shape::Longer(fold_of(o, b)?)),
+        _ => None,
+    }
+}
+
+/// The shape where C becomes of D and a word.
+fn found_shape(o: Op, word: Atom, d: Words) -> Option<Shape>
+    ensures { IfSome result (λ s. IsShapeOf s (fronts (Join o (Leaf D) (Leaf word)) (words_formula d) (Leaf R))) }
+{
+    match d {
+        Words::Word(w) => Some(Shape::Found(whole_fold(o, word, w)?)),
+        _ => None,
+    }
+}
+
+/// The shape where C becomes of C, D and a word, if both operators are one.
+fn inside_shape(o: Op, p: Op, word: Atom, d: Words) -> Option<Shape>
+    ensures { IfSome result (λ s. IsShapeOf s
+        (fronts (Join o (Leaf C) (Join p (Leaf D) (Leaf word))) (words_formula d) (Leaf R))) }
+{
+    match d {
+        Words::Word(w) => {
+            if o == p {
+                Some(Shape::Inside(whole_fold(o, word, w)?))
+            } else {
+                None
+            }
+        }
+        _ => None,
+    }
+}
+
+/// The shape of a move that keeps R.
+fn cell_shape(c: Words, d: Words) -> Option<Shape>
+    ensures { IfSome result (λ s. IsShapeOf s (fronts (words_formula c) (words_formula d) (Leaf R))) }
+{
+    match c {
+        Words::Word(Atom::C) => going_shape(d),
+        Words::Two(o, Atom::D, b) => found_shape(o, b, d),
+        Words::Three(o, Atom::C, p, Atom::D, b) => inside_shape(o, p, b, d),
+        _ => None,
+    }
+}
+
+/// The shape where R becomes of R and C.
+fn anew_shape(o: Op, c: Words, d: Words) -> Option<Shape>
+    ensures { IfSome result (λ s. IsShapeOf s
+        (fronts (words_formula c) (words_formula d) (Join o (Leaf R) (Leaf C)))) }
+{
+    match (c, d) {
+        (Words::Word(v), Words::Word(w)) => Some(Shape::Anew(range_of(o, v)?, fold_from(w)?)),
+        _ => None,
+    }
+}
+
+/// The shape of a move by its words.
+fn shape_of(c: Words, d: Words, r: Words) -> Option<Shape>
+    ensures { IfSome result (λ s. IsShapeOf s (fronts (words_formula c) (words_formula d) (words_formula r))) }
+{
+    match r {
+        Words::Word(Atom::R) => cell_shape(c, d),
+        Words::Two(o, Atom::R, Atom::C) => anew_shape(o, c, d),
+        _ => None,
+    }
+}
+
+/// The shape of a move of few words.
+fn known_shape(t: &Turn) -> Option<Shape>
+    ensures { IfSome result (λ s. IsShapeOf s (fronts (formula t.now.c) (formula t.now.d) (formula t.now.r))) }
+{
+    shape_of(words_of(&t.c)?, words_of(&t.d)?, words_of(&t.r)?)
+}
+
+/// Whether the next cell stands in no expression of a move.
+fn is_front_move(t: &Turn) -> bool
+    ensures { result ≡ is_front_move (move_of t.now) }
+{
+    is_front(&t.c) && is_front(&t.d) && is_front(&t.r)
+}
+
+impl Shape {
+    /// The shape of a move.
+    #[tactic(auto, using(crate::proofs::ShapeLaws::shape_is))]
+    fn of(t: &Turn) -> Shape
+        ensures { IsShapeOf result (cut_of (move_of t.now)) }
+    {
+        if !is_front_move(t) {
+            return Shape::Other;
+        }
+        match known_shape(t) {
+            Some(shape) => shape,
+            None => Shape::Other,
+        }
+    }
+}
+
+/// The move on a letter.
+fn turn_on(state: &State, l: Letter) -> &Turn
+    ensures { move_of result.now ≡ move_on l (node_of state.now) }
+{
+    match l {
+        Letter::Less => &state.less,
+        Letter::Equal => &state.equal,
+        Letter::Greater => &state.greater,
+    }
+}
+
+/// The move of a state on a letter.
+pub(crate) fn turn(a: &Automaton, q: u8, l: Letter) -> &Turn
+    requires { q < length a.now.states }
+    ensures value { move_of result.now ≡ move_at a.now q l }
+    ensures exists { result.now.next < length a.now.states }
+{
+    turn_on(a.state(q), l)
+}
+
+/// With which other move the one on `=` is taken in.
+fn equals_of(less: &Turn, equal: &Turn, greater: &Turn) -> Equals
+    ensures less { result ≡ WithLess → move_of equal.now ≡ move_of less.now }
+    ensures greater { result ≡ WithGreater → move_of equal.now ≡ move_of greater.now }
+{
+    if is_same_turn(equal, less) {
+        Equals::WithLess
+    } else if is_same_turn(equal, greater) {
+        Equals::WithGreater
+    } else {
+        Equals::Alone
+    }
+}
+
+impl StatePlan {
+    /// The plan of a state.
+    fn of(a: &Automaton, q: u8) -> StatePlan
+        requires { q < length a.now.states }
+        ensures { IsStatePlan a.now q result }
+    {
+        let less = turn(a, q, Letter::Less);
+        let equal = turn(a, q, Letter::Equal);
+        let greater = turn(a, q, Letter::Greater);
+        let equals = equals_of(less, equal, greater);
+        StatePlan {
+            less: Shape::of(less),
+            equal: Shape::of(equal),
+            greater: Shape::of(greater),
+            equals,
+        }
+    }
+}
+
+impl Plan {
+    /// The plan of an automaton. It takes no memory.
+    pub fn of(a: &Automaton) -> Plan
+        ensures { IsPlanOf a.now result }
+    {
+        let rest = StatePlan {
+            less: Shape::Other,
+            equal: Shape::Other,
+            greater: Shape::Other,
+            equals: Equals::Alone,
+        };
+        let mut states = [rest; 8];
+        for q in 0..a.states() {
+            states[q as usize] = StatePlan::of(a, q);
+        }
+        Plan { states }
+    }
+}

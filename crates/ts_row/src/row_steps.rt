@@ -1,0 +1,241 @@
+//! A row from the row before, state by state.
+
+ghost use Rattle.std.specs.Prelude.{◌≡◌, ℕ, ◌<◌, ◌≤◌, IfOk, false, true, get_or, length};
+ghost use Rattle.ts_automaton.specs.Body.{move_of};
+ghost use Rattle.ts_base.specs.declared.letter.Letter.TheVariants.{Equal};
+ghost use Rattle.ts_hull.specs.Cuts.{cut_of};
+ghost use Rattle.ts_hull.specs.Sealed.{move_at};
+ghost use Rattle.ts_row.specs.Plans.{IsPlanOf, IsShapeOf, IsStatePlan};
+ghost use Rattle.ts_row.specs.Rows.{HasTaken, IsColumn, IsRow, hull_in, lanes_of, next_hull, nothing, state_gives};
+ghost use Rattle.ts_row.specs.Takings.{HasMoved, IsCovered, both_hulls, count_in, taken_to, two_taken_to, value_in};
+ghost use Rattle.ts_sweep.specs.Columns.{hull_at};
+ghost use Rattle.ts_sweep.specs.Sweeps.{total};
+
+use crate::between::{Between, On};
+use crate::cell::Cell;
+use crate::packed_row::PackedRow;
+use crate::plan::{Equals, Plan, Shape, StatePlan, turn};
+use crate::shapes::take_shape;
+use std::alloc::Global;
+use ts_automaton::{Automaton, Turn};
+use ts_base::{Letter, Memory};
+use ts_sweep::column::Dense;
+use ts_sweep::cover::cover;
+use ts_sweep::packed::{Packed, PackedHull};
+use ts_sweep::pairs::take_pairs;
+use ts_sweep::whole_tree::take_tree;
+
+/// A move, with its shape and the letter on which it is taken in.
+#[derive(Clone, Copy)]
+struct Planned<'a> {
+    turn: &'a Turn,
+    shape: Shape,
+    on: On,
+}
+
+/// The move of a state on a letter, as it is planned.
+fn planned_move<'a>(
+    a: &'a Automaton,
+    q: u8,
+    letter: Letter,
+    twin: bool,
+    shape: Shape,
+) -> Planned<'a>
+    requires state { q < length a.now.states }
+    requires alone { letter ≡ Equal → twin ≡ false }
+    requires shape { IsShapeOf shape (cut_of (move_at a.now q letter)) }
+    ensures value { move_of result.turn.now ≡ move_at a.now q letter }
+    ensures leads { result.turn.now.next < length a.now.states }
+    ensures shape { IsShapeOf result.shape (cut_of (move_of result.turn.now)) }
+    ensures letter { result.on.letter ≡ letter }
+    ensures twin { result.on.twin ≡ twin }
+{
+    Planned {
+        turn: turn(a, q, letter),
+        shape,
+        on: On { letter, twin },
+    }
+}
+
+/// A move is taken in into a column: by the sweep of its shape, or by its expressions, or by pairs.
+fn take_turn<const N: usize>(m: Planned<'_>, t: &Between<'_, N>, next: &mut [PackedHull<N>])
+    requires covered { IsCovered N t.now }
+    requires shape { IsShapeOf m.shape (cut_of (move_of m.turn.now)) }
+    requires next_packed { IsColumn N (count_in t.now.next_values) next.old }
+    ensures packed { IsColumn N (count_in t.now.next_values) next.new }
+    ensures moved { HasMoved N t.now m.entry.on (move_of m.entry.turn.now) next.old next.new }
+{
+    if take_shape(m.shape, m.on, t, next) {
+        return;
+    }
+    if take_tree::<PackedHull<N>, Cell<'_>, Cell<'_>>(
+        m.turn,
+        m.on.letter,
+        m.on.twin,
+        *t.cover,
+        t.values,
+        t.before,
+        t.next_values,
+        next,
+    ) {
+        return;
+    }
+    take_pairs::<PackedHull<N>, Cell<'_>, Cell<'_>>(
+        m.turn,
+        m.on.letter,
+        m.on.twin,
+        t.values,
+        t.before,
+        t.next_values,
+        next,
+    );
+}
+
+/// A move is taken in into the row, at the state that it leads to.
+fn take_move<const N: usize>(m: Planned<'_>, t: &Between<'_, N>, next: &mut PackedRow<N>)
+    requires covered { IsCovered N t.now }
+    requires shape { IsShapeOf m.shape (cut_of (move_of m.turn.now)) }
+    requires leads { m.turn.now.next < length next.old }
+    requires row { IsRow N (length next.old) (count_in t.now.next_values) next.old }
+    ensures row { IsRow N (length next.old) (count_in t.now.next_values) next.new }
+    ensures taken { HasTaken N (length next.old) (count_in t.now.next_values) (value_in t.now.next_values)
+        (taken_to N t.now m.entry.on (move_of m.entry.turn.now)) next.old next.new }
+{
+    take_turn(m, t, &mut next.columns[m.turn.next as usize].hulls);
+}
+
+/// Two moves are taken in.
+fn take_two<const N: usize>(
+    m: Planned<'_>,
+    k: Planned<'_>,
+    t: &Between<'_, N>,
+    next: &mut PackedRow<N>,
+)
+    requires covered { IsCovered N t.now }
+    requires shape { IsShapeOf m.shape (cut_of (move_of m.turn.now)) }
+    requires other_shape { IsShapeOf k.shape (cut_of (move_of k.turn.now)) }
+    requires leads { m.turn.now.next < length next.old }
+    requires other_leads { k.turn.now.next < length next.old }
+    requires row { IsRow N (length next.old) (count_in t.now.next_values) next.old }
+    ensures row { IsRow N (length next.old) (count_in t.now.next_values) next.new }
+    ensures taken { HasTaken N (length next.old) (count_in t.now.next_values) (value_in t.now.next_values)
+        (two_taken_to N t.now m.entry.on (move_of m.entry.turn.now) k.entry.on (move_of k.entry.turn.now)) next.old next.new }
+{
+    take_move(m, t, next);
+    take_move(k, t, next);
+}
+
+/// All moves of a state are taken in. The one on `=` is taken in with another that is the same, as in most states.
+fn take_moves<const N: usize>(
+    a: &Automaton,
+    q: u8,
+    plan: StatePlan,
+    t: &Between<'_, N>,
+    next: &mut PackedRow<N>,
+)
+    requires state { q < length a.now.states }
+    requires plan { IsStatePlan a.now q plan }
+    requires covered { IsCovered N t.now }
+    requires states { length next.old ≡ length a.now.states }
+    requires row { IsRow N (length next.old) (count_in t.now.next_values) next.old }
+    ensures row { IsRow N (length next.old) (count_in t.now.next_values) next.new }
+    ensures taken { HasTaken N (length next.old) (count_in t.now.next_values) (value_in t.now.next_values)
+        (state_gives a.now q (count_in t.now.values) (value_in t.now.values) (hull_at (lanes_of N) (nothing N) t.now.before.now))
+        next.old next.new }
+{
+    match plan.equals {
+        Equals::WithLess => {
+            let less = planned_move(a, q, Letter::Less, true, plan.less);
+            let greater = planned_move(a, q, Letter::Greater, false, plan.greater);
+            take_two(less, greater, t, next);
+        }
+        Equals::WithGreater => {
+            let less = planned_move(a, q, Letter::Less, false, plan.less);
+            let greater = planned_move(a, q, Letter::Greater, true, plan.greater);
+            take_two(less, greater, t, next);
+        }
+        Equals::Alone => {
+            let less = planned_move(a, q, Letter::Less, false, plan.less);
+            let equal = planned_move(a, q, Letter::Equal, false, plan.equal);
+            let greater = planned_move(a, q, Letter::Greater, false, plan.greater);
+            take_two(less, equal, t, next);
+            take_move(greater, t, next);
+        }
+    }
+}
+
+/// The join of all hulls of a column.
+fn cover_of<const N: usize>(column: &[PackedHull<N>], count: usize) -> PackedHull<N>
+    requires { length column.now ≡ count }
+    ensures { result ≡ total (both_hulls N) (nothing N) (λ i. true) (λ i. get_or column.now i (nothing N)) count }
+{
+    cover::<PackedHull<N>, Dense>(Dense, column, count)
+}
+
+/// All moves of a state are taken in, if any series reaches it.
+fn take_state<const N: usize>(
+    a: &Automaton,
+    q: u8,
+    plan: StatePlan,
+    values: Cell<'_>,
+    column: &[PackedHull<N>],
+    next_values: Cell<'_>,
+    next: &mut PackedRow<N>,
+)
+    requires registers { 6 ≤ N }
+    requires lanes { N ≤ 64 }
+    requires state { q < length a.now.states }
+    requires plan { IsStatePlan a.now q plan }
+    requires column { IsColumn N (count_in values) column.now }
+    requires states { length next.old ≡ length a.now.states }
+    requires row { IsRow N (length next.old) (count_in next_values) next.old }
+    ensures row { IsRow N (length next.old) (count_in next_values.entry) next.new }
+    ensures taken { HasTaken N (length next.old) (count_in next_values.entry) (value_in next_values.entry)
+        (state_gives a.now q (count_in values.entry) (value_in values.entry) (hull_at (lanes_of N) (nothing N) column.now)) next.old next.new }
+{
+    let cover = cover_of(column, values.values.len());
+    if !cover.is_some() {
+        return;
+    }
+    let t = Between {
+        values,
+        before: column,
+        cover: &cover,
+        next_values,
+    };
+    take_moves(a, q, plan, &t, next);
+}
+
+/// The row of a cell, from the row of the cell before: the hull of each state and value is that of what all states and
+/// values before give. The memory of the row is used again.
+pub fn next_row<const N: usize>(
+    alloc: Global,
+    a: &Automaton,
+    plan: &Plan,
+    values: Cell<'_>,
+    before: &PackedRow<N>,
+    next_values: Cell<'_>,
+    next: &mut PackedRow<N>,
+) -> Result<(), Memory>
+    requires registers { 6 ≤ N }
+    requires lanes { N ≤ 64 }
+    requires plan { IsPlanOf a.now plan.now }
+    requires row { IsRow N (length a.now.states) (count_in values) before.now }
+    ensures { IfOk result (λ u. IsRow N (length a.now.states) (count_in next_values.entry) next.new
+        × ((t j : ℕ) → t < length a.now.states → j < count_in next_values.entry → hull_in N next.new t j
+        ≡ next_hull a.now (count_in values.entry) (value_in values.entry) (hull_in N before.now) (value_in next_values.entry j) t)) }
+{
+    next.reset(alloc, a.states(), next_values.values.len())?;
+    for q in 0..a.states() {
+        take_state(
+            a,
+            q,
+            plan.states[q as usize],
+            values,
+            before.column(q),
+            next_values,
+            next,
+        );
+    }
+    Ok(())
+}

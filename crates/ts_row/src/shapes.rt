@@ -1,0 +1,373 @@
+//! Which sweep takes in a move of a shape: a type for each.
+
+ghost use Rattle.std.specs.Prelude.{◌≡◌, true, false};
+ghost use Rattle.ts_hull.specs.Cuts.{all_whole};
+ghost use Rattle.ts_row.specs.Plans.{
+  IsShapeOf,
+  anew_fronts,
+  begun_fronts,
+  cell_op,
+  cell_start,
+  cell_word,
+  found_fronts,
+  inside_fronts,
+  longer_fronts,
+  range_op,
+  range_start,
+};
+ghost use Rattle.ts_row.specs.Rows.{IsColumn};
+ghost use Rattle.ts_row.specs.Takings.{IsCovered, IsShapeTaken, MovesBy, count_in};
+
+use crate::between::{Between, On};
+use crate::cell::Cell;
+use crate::plan::{CellFold, RangeFold, Shape};
+use ts_sweep::front::{Front, High, Join, Low, One, Register, This, Zero};
+use ts_sweep::moves::{Keep, Moves, Parts};
+use ts_sweep::operator::{Greater, Lesser, Operator, Plus};
+use ts_sweep::packed::PackedHull;
+use ts_sweep::part::Whole;
+use ts_sweep::take::take_column;
+
+/// A move is swept, if its sums stay small.
+#[inline(always)]
+pub(crate) fn sweep_as<const N: usize, F: Moves<PackedHull<N>>>(
+    by: F,
+    on: On,
+    t: &Between<'_, N>,
+    next: &mut [PackedHull<N>],
+) -> bool
+    requires whole { all_whole (F.cut by) ≡ true }
+    requires covered { IsCovered N t.now }
+    requires next_packed { IsColumn N (count_in t.now.next_values) next.old }
+    ensures packed { IsColumn N (count_in t.now.next_values) next.new }
+    ensures taken { result ≡ true → MovesBy N t.now on (F.cut by) next.old next.new }
+    ensures kept { result ≡ false → next.new ≡ next.old }
+{
+    take_column::<PackedHull<N>, F, Cell<'_>, Cell<'_>>(
+        by,
+        on.letter,
+        on.twin,
+        *t.cover,
+        t.values,
+        t.before,
+        t.next_values,
+        next,
+    )
+}
+
+/// `D` of `D` and a word.
+#[inline(never)]
+fn longer_as<const N: usize, O: Operator, W: Front>(
+    by: O,
+    word: W,
+    on: On,
+    t: &Between<'_, N>,
+    next: &mut [PackedHull<N>],
+) -> bool
+    requires covered { IsCovered N t.now }
+    requires next_packed { IsColumn N (count_in t.now.next_values) next.old }
+    ensures packed { IsColumn N (count_in t.now.next_values) next.new }
+    ensures taken { result ≡ true → MovesBy N t.now on (longer_fronts (O.op by) (W.formula word)) next.old next.new }
+    ensures kept { result ≡ false → next.new ≡ next.old }
+{
+    let parts = Parts {
+        c: Whole {
+            front: Register::<0>,
+        },
+        d: Whole {
+            front: Join {
+                by,
+                left: Register::<1>,
+                right: word,
+            },
+        },
+        r: Whole {
+            front: Register::<2>,
+        },
+    };
+    sweep_as(parts, on, t, next)
+}
+
+/// `D` begins anew.
+#[inline(never)]
+fn begun_as<const N: usize, V: Front>(
+    start: V,
+    on: On,
+    t: &Between<'_, N>,
+    next: &mut [PackedHull<N>],
+) -> bool
+    requires covered { IsCovered N t.now }
+    requires next_packed { IsColumn N (count_in t.now.next_values) next.old }
+    ensures packed { IsColumn N (count_in t.now.next_values) next.new }
+    ensures taken { result ≡ true → MovesBy N t.now on (begun_fronts (V.formula start)) next.old next.new }
+    ensures kept { result ≡ false → next.new ≡ next.old }
+{
+    let parts = Parts {
+        c: Whole {
+            front: Register::<0>,
+        },
+        d: Whole { front: start },
+        r: Whole {
+            front: Register::<2>,
+        },
+    };
+    sweep_as(parts, on, t, next)
+}
+
+/// `C` of `D` and a word; `D` begins anew.
+#[inline(never)]
+fn found_as<const N: usize, O: Operator, W: Front, V: Front>(
+    by: O,
+    word: W,
+    start: V,
+    on: On,
+    t: &Between<'_, N>,
+    next: &mut [PackedHull<N>],
+) -> bool
+    requires covered { IsCovered N t.now }
+    requires next_packed { IsColumn N (count_in t.now.next_values) next.old }
+    ensures packed { IsColumn N (count_in t.now.next_values) next.new }
+    ensures taken { result ≡ true → MovesBy N t.now on (found_fronts (O.op by) (W.formula word) (V.formula start)) next.old next.new }
+    ensures kept { result ≡ false → next.new ≡ next.old }
+{
+    let parts = Parts {
+        c: Whole {
+            front: Join {
+                by,
+                left: Register::<1>,
+                right: word,
+            },
+        },
+        d: Whole { front: start },
+        r: Whole {
+            front: Register::<2>,
+        },
+    };
+    sweep_as(parts, on, t, next)
+}
+
+/// `C` of `C`, `D` and a word; `D` begins anew.
+#[inline(never)]
+fn inside_as<const N: usize, O: Operator, W: Front, V: Front>(
+    by: O,
+    word: W,
+    start: V,
+    on: On,
+    t: &Between<'_, N>,
+    next: &mut [PackedHull<N>],
+) -> bool
+    requires covered { IsCovered N t.now }
+    requires next_packed { IsColumn N (count_in t.now.next_values) next.old }
+    ensures packed { IsColumn N (count_in t.now.next_values) next.new }
+    ensures taken { result ≡ true → MovesBy N t.now on (inside_fronts (O.op by) (W.formula word) (V.formula start)) next.old next.new }
+    ensures kept { result ≡ false → next.new ≡ next.old }
+{
+    let parts = Parts {
+        c: Whole {
+            front: Join {
+                by,
+                left: Register::<0>,
+                right: Join {
+                    by,
+                    left: Register::<1>,
+                    right: word,
+                },
+            },
+        },
+        d: Whole { front: start },
+        r: Whole {
+            front: Register::<2>,
+        },
+    };
+    sweep_as(parts, on, t, next)
+}
+
+/// `R` of `R` and `C`, which begins anew as `D` does.
+#[inline(never)]
+fn anew_as<const N: usize, O: Operator, U: Front, V: Front>(
+    by: O,
+    range_start: U,
+    start: V,
+    on: On,
+    t: &Between<'_, N>,
+    next: &mut [PackedHull<N>],
+) -> bool
+    requires covered { IsCovered N t.now }
+    requires next_packed { IsColumn N (count_in t.now.next_values) next.old }
+    ensures packed { IsColumn N (count_in t.now.next_values) next.new }
+    ensures taken { result ≡ true → MovesBy N t.now on (anew_fronts (O.op by) (U.formula range_start) (V.formula start)) next.old next.new }
+    ensures kept { result ≡ false → next.new ≡ next.old }
+{
+    let parts = Parts {
+        c: Whole { front: range_start },
+        d: Whole { front: start },
+        r: Whole {
+            front: Join {
+                by,
+                left: Register::<2>,
+                right: Register::<0>,
+            },
+        },
+    };
+    sweep_as(parts, on, t, next)
+}
+
+/// The fold of cells goes on.
+#[inline(always)]
+fn longer<const N: usize>(
+    f: CellFold,
+    on: On,
+    t: &Between<'_, N>,
+    next: &mut [PackedHull<N>],
+) -> bool
+    requires covered { IsCovered N t.now }
+    requires next_packed { IsColumn N (count_in t.now.next_values) next.old }
+    ensures packed { IsColumn N (count_in t.now.next_values) next.new }
+    ensures taken { result ≡ true → MovesBy N t.now on (longer_fronts (cell_op f) (cell_word f)) next.old next.new }
+    ensures kept { result ≡ false → next.new ≡ next.old }
+{
+    match f {
+        CellFold::Ones => longer_as(Greater, One, on, t, next),
+        CellFold::Width => longer_as(Plus, One, on, t, next),
+        CellFold::Surf => longer_as(Plus, This, on, t, next),
+        CellFold::Greatest => longer_as(Greater, This, on, t, next),
+        CellFold::Least => longer_as(Lesser, This, on, t, next),
+    }
+}
+
+/// It begins anew.
+#[inline(always)]
+fn begun<const N: usize>(
+    f: CellFold,
+    on: On,
+    t: &Between<'_, N>,
+    next: &mut [PackedHull<N>],
+) -> bool
+    requires covered { IsCovered N t.now }
+    requires next_packed { IsColumn N (count_in t.now.next_values) next.old }
+    ensures packed { IsColumn N (count_in t.now.next_values) next.new }
+    ensures taken { result ≡ true → MovesBy N t.now on (begun_fronts (cell_start f)) next.old next.new }
+    ensures kept { result ≡ false → next.new ≡ next.old }
+{
+    match f {
+        CellFold::Ones => begun_as(One, on, t, next),
+        CellFold::Width | CellFold::Surf => begun_as(Zero, on, t, next),
+        CellFold::Greatest => begun_as(Low, on, t, next),
+        CellFold::Least => begun_as(High, on, t, next),
+    }
+}
+
+/// It ends, and a range is found.
+#[inline(always)]
+fn found<const N: usize>(
+    f: CellFold,
+    on: On,
+    t: &Between<'_, N>,
+    next: &mut [PackedHull<N>],
+) -> bool
+    requires covered { IsCovered N t.now }
+    requires next_packed { IsColumn N (count_in t.now.next_values) next.old }
+    ensures packed { IsColumn N (count_in t.now.next_values) next.new }
+    ensures taken { result ≡ true → MovesBy N t.now on (found_fronts (cell_op f) (cell_word f) (cell_start f)) next.old next.new }
+    ensures kept { result ≡ false → next.new ≡ next.old }
+{
+    match f {
+        CellFold::Ones => found_as(Greater, One, One, on, t, next),
+        CellFold::Width => found_as(Plus, One, Zero, on, t, next),
+        CellFold::Surf => found_as(Plus, This, Zero, on, t, next),
+        CellFold::Greatest => found_as(Greater, This, Low, on, t, next),
+        CellFold::Least => found_as(Lesser, This, High, on, t, next),
+    }
+}
+
+/// It goes on in the range that was found.
+#[inline(always)]
+fn inside<const N: usize>(
+    f: CellFold,
+    on: On,
+    t: &Between<'_, N>,
+    next: &mut [PackedHull<N>],
+) -> bool
+    requires covered { IsCovered N t.now }
+    requires next_packed { IsColumn N (count_in t.now.next_values) next.old }
+    ensures packed { IsColumn N (count_in t.now.next_values) next.new }
+    ensures taken { result ≡ true → MovesBy N t.now on (inside_fronts (cell_op f) (cell_word f) (cell_start f)) next.old next.new }
+    ensures kept { result ≡ false → next.new ≡ next.old }
+{
+    match f {
+        CellFold::Ones => inside_as(Greater, One, One, on, t, next),
+        CellFold::Width => inside_as(Plus, One, Zero, on, t, next),
+        CellFold::Surf => inside_as(Plus, This, Zero, on, t, next),
+        CellFold::Greatest => inside_as(Greater, This, Low, on, t, next),
+        CellFold::Least => inside_as(Lesser, This, High, on, t, next),
+    }
+}
+
+/// A range is folded in, whatever the fold of ranges; both folds begin anew.
+#[inline(always)]
+fn anew_from<const N: usize, V: Front>(
+    g: RangeFold,
+    start: V,
+    on: On,
+    t: &Between<'_, N>,
+    next: &mut [PackedHull<N>],
+) -> bool
+    requires covered { IsCovered N t.now }
+    requires next_packed { IsColumn N (count_in t.now.next_values) next.old }
+    ensures packed { IsColumn N (count_in t.now.next_values) next.new }
+    ensures taken { result ≡ true → MovesBy N t.now on (anew_fronts (range_op g) (range_start g) (V.formula start)) next.old next.new }
+    ensures kept { result ≡ false → next.new ≡ next.old }
+{
+    match g {
+        RangeFold::Sum => anew_as(Plus, Zero, start, on, t, next),
+        RangeFold::Highest => anew_as(Greater, Low, start, on, t, next),
+        RangeFold::Lowest => anew_as(Lesser, High, start, on, t, next),
+    }
+}
+
+/// A range is folded in; both folds begin anew.
+#[inline(always)]
+fn anew<const N: usize>(
+    g: RangeFold,
+    f: CellFold,
+    on: On,
+    t: &Between<'_, N>,
+    next: &mut [PackedHull<N>],
+) -> bool
+    requires covered { IsCovered N t.now }
+    requires next_packed { IsColumn N (count_in t.now.next_values) next.old }
+    ensures packed { IsColumn N (count_in t.now.next_values) next.new }
+    ensures taken { result ≡ true → MovesBy N t.now on (anew_fronts (range_op g) (range_start g) (cell_start f)) next.old next.new }
+    ensures kept { result ≡ false → next.new ≡ next.old }
+{
+    match f {
+        CellFold::Ones => anew_from(g, One, on, t, next),
+        CellFold::Width | CellFold::Surf => anew_from(g, Zero, on, t, next),
+        CellFold::Greatest => anew_from(g, Low, on, t, next),
+        CellFold::Least => anew_from(g, High, on, t, next),
+    }
+}
+
+/// A move of a shape is swept, if its sums stay small.
+pub(crate) fn take_shape<const N: usize>(
+    shape: Shape,
+    on: On,
+    t: &Between<'_, N>,
+    next: &mut [PackedHull<N>],
+) -> bool
+    requires covered { IsCovered N t.now }
+    requires next_packed { IsColumn N (count_in t.now.next_values) next.old }
+    ensures packed { IsColumn N (count_in t.now.next_values) next.new }
+    ensures taken { result ≡ true → IsShapeTaken N t.now on shape next.old next.new }
+    ensures kept { result ≡ false → next.new ≡ next.old }
+{
+    match shape {
+        Shape::Kept => sweep_as(Keep, on, t, next),
+        Shape::Longer(f) => longer(f, on, t, next),
+        Shape::Begun(f) => begun(f, on, t, next),
+        Shape::Found(f) => found(f, on, t, next),
+        Shape::Inside(f) => inside(f, on, t, next),
+        Shape::Anew(g, f) => anew(g, f, on, t, next),
+        Shape::Other => false,
+    }
+}

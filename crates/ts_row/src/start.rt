@@ -1,0 +1,70 @@
+//! The row of the cell at which runs start.
+
+ghost use Rattle.std.specs.Prelude.{◌≡◌, ℕ, ◌<◌, ◌≤◌, IfOk, true, length};
+ghost use Rattle.ts_automaton.specs.Registers.{regs_of};
+ghost use Rattle.ts_automaton.specs.SpanRun.{one_hull};
+ghost use Rattle.ts_automaton.specs.Typing.{each_is, is_constant};
+ghost use Rattle.ts_base.specs.Spans.{one_span};
+ghost use Rattle.ts_hull.specs.Hulls.{hull_of};
+ghost use Rattle.ts_row.specs.Rows.{IsHull, IsRow, hull_in, start_hull};
+ghost use Rattle.ts_sweep.specs.Packed.{IsPackOf};
+
+use crate::packed_row::PackedRow;
+use std::alloc::Global;
+use ts_automaton::{Automaton, Regs};
+use ts_base::{Ext, Memory};
+use ts_sweep::packed::{Ends, Packed, PackedHull};
+
+/// The ends of a start constant.
+fn constant_ends(e: Ext) -> Ends
+    requires { is_constant e ≡ true }
+    ensures { IsPackOf result (one_span e) }
+{
+    match e {
+        Ext::NegInf => Ends {
+            below: i64::MAX,
+            above: -i64::MAX,
+        },
+        Ext::Int(x) => Ends {
+            below: -x,
+            above: x,
+        },
+        Ext::PosInf => Ends {
+            below: -i64::MAX,
+            above: i64::MAX,
+        },
+    }
+}
+
+/// The start registers. Of lanes that no register stands in each is 0.
+fn packed_start<const N: usize>(regs: Regs) -> PackedHull<N>
+    requires registers { 6 ≤ N }
+    requires constants { each_is is_constant (regs_of regs) ≡ true }
+    ensures { IsHull N (hull_of (one_hull (regs_of regs))) result }
+{
+    let zeros = PackedHull::<N> { at: [0; N] };
+    let c = constant_ends(regs.c);
+    let d = constant_ends(regs.d);
+    let r = constant_ends(regs.r);
+    zeros.with(0, c).with(1, d).with(2, r)
+}
+
+/// The row of a cell with so many values at which runs start: the start registers in the start state, and nothing in the
+/// others. The memory of the row is used again.
+pub fn start_row<const N: usize>(
+    alloc: Global,
+    a: &Automaton,
+    count: usize,
+    row: &mut PackedRow<N>,
+) -> Result<(), Memory>
+    requires registers { 6 ≤ N }
+    requires lanes { N ≤ 64 }
+    ensures { IfOk result (λ u. IsRow N (length a.now.states) count row.new
+        × ((t j : ℕ) → t < length a.now.states → j < count → hull_in N row.new t j ≡ start_hull a.now t)) }
+{
+    let states = a.states();
+    let hull = packed_start::<N>(a.start().regs);
+    row.reset(alloc, states, count)?;
+    row.columns[0].fill(count, hull)?;
+    Ok(())
+}
