@@ -19,6 +19,7 @@ pub mod FirstSteps
 pub mod EqualFronts
 pub mod WidenLaws
 pub mod SweptRows
+pub mod PackedRows
 pub mod ValueLaws
 pub mod Passed
 pub mod OneValue

@@ -42,7 +42,7 @@ with_move_at m l s q vs row ws next j t lt a b long x is c =
     puts_at m l s ws (λ i. move_entry m l s q vs row (get_or ws i (pos 0))) next j t lt a b long x is c
 
 -- all moves of a state
-abbrev gifts : Body → List ℤ → List Hull → ℤ → ℕ → ℕ → Hull
+abbrev pub gifts : Body → List ℤ → List Hull → ℤ → ℕ → ℕ → Hull
 gifts a vs row w t q =
     hull_of_both (hull_of_both (gift (move_at a q Less) Less (length a.states) q vs row w t) (gift (move_at a q Equal) Equal (length a.states) q vs row w t))
     (gift (move_at a q Greater) Greater (length a.states) q vs row w t)
@@ -196,7 +196,7 @@ sources_total G s (v ∷ vs) row long =
     ∙ sym (total_first (length vs) F)
 
 -- one entry of the row
-entry_total : (a : Body) (vs : List ℤ) (row : List Hull) (w : ℤ) (t : ℕ) → length row ≡ length vs * length a.states →
+pub entry_total : (a : Body) (vs : List ℤ) (row : List Hull) (w : ℤ) (t : ℕ) → length row ≡ length vs * length a.states →
     total (length a.states) (λ q. gifts a vs row w t q) ≡ next_hull a (sources (length a.states) vs row) w t
 unfolding next_hull hull_from after_move move_at
 entry_total a vs row w t long =
@@ -207,7 +207,7 @@ entry_total a vs row w t long =
     ∙ sym (sources_total (hull_from a w t) s vs row long)
 
 -- a flat list by its places
-row_by_places : (s : ℕ) (g : ℤ → ℕ → Hull) (ws : List ℤ) (xs : List Hull) → length xs ≡ length ws * s →
+pub row_by_places : (s : ℕ) (g : ℤ → ℕ → Hull) (ws : List ℤ) (xs : List Hull) → length xs ≡ length ws * s →
     ((j t : ℕ) → j < length ws → t < s → get_or xs (j * s + t) none ≡ g (get_or ws j (pos 0)) t) → xs ≡ flat_map (λ w. map (g w) (range_with_len 0 s)) ws
 row_by_places s g [] [] long h = refl
 row_by_places s g [] (x ∷ xs) long h = absurd (omega arith)

@@ -10,3 +10,4 @@ pub mod Blocks
 pub mod PartCuts
 pub mod Packs
 pub mod SweptMoves
+pub mod PackedRows

@@ -20,6 +20,7 @@ mod looks;
 mod other_moves;
 mod packed;
 mod packed_exprs;
+mod packed_rows;
 mod packed_sums;
 mod row;
 mod same_moves;
@@ -47,6 +48,7 @@ mod tables;
 mod widen;
 
 pub use looks::{ends, is_looked, looked_count, read_at};
+pub use packed_rows::{first_packed_row, next_packed_row};
 pub use row::fill_row;
 pub use spans::{term_span, value_span};
 pub use table::HullTable;

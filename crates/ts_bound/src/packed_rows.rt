@@ -1,0 +1,49 @@
+//! Rows of hulls that stay packed: that of a cell from that of the cell before.
+
+ghost use Rattle.std.specs.Prelude.{◌≡◌, ◌≤◌, ℤ, List, [], ◌∷◌, IfOk, length};
+ghost use Rattle.ts_bound.specs.PackedRows.{IsPackedRow};
+ghost use Rattle.ts_row.specs.Plans.{IsPlanOf};
+ghost use Rattle.ts_row.specs.Rows.{IsRow};
+ghost use Rattle.ts_row.specs.Takings.{count_in};
+
+use std::alloc::Global;
+use ts_automaton::Automaton;
+use ts_base::Memory;
+use ts_row::{Cell, PackedRow, Plan, next_row, start_row};
+
+/// The row of the cell at which runs start. The memory of the row is used again.
+pub fn first_packed_row<const N: usize>(
+    alloc: Global,
+    a: &Automaton,
+    values: Cell<'_>,
+    row: &mut PackedRow<N>,
+) -> Result<(), Memory>
+    requires registers { 6 ≤ N }
+    requires lanes { N ≤ 64 }
+    ensures { IfOk result (λ u. IsPackedRow N a.now [] values.entry.values.now row.new) }
+{
+    start_row(alloc, a, values.values.len(), row)?;
+    Ok(())
+}
+
+/// The row of a cell, from that of the cell before, whatever cells are before that one. The memory of the row is used
+/// again.
+pub fn next_packed_row<const N: usize>(
+    alloc: Global,
+    a: &Automaton,
+    plan: &Plan,
+    values: Cell<'_>,
+    before: &PackedRow<N>,
+    next_values: Cell<'_>,
+    next: &mut PackedRow<N>,
+) -> Result<(), Memory>
+    requires registers { 6 ≤ N }
+    requires lanes { N ≤ 64 }
+    requires plan { IsPlanOf a.now plan.now }
+    requires row { IsRow N (length a.now.states) (count_in values) before.now }
+    ensures { IfOk result (λ u. (cells : List (List ℤ)) → IsPackedRow N a.now cells values.entry.values.now before.now →
+        IsPackedRow N a.now (values.entry.values.now ∷ cells) next_values.entry.values.now next.new) }
+{
+    next_row(alloc, a, plan, values, before, next_values, next)?;
+    Ok(())
+}
