@@ -21,6 +21,7 @@ pub mod WidenLaws
 pub mod SweptRows
 pub mod PackedRows
 pub mod ValueLaws
+mod CellLists
 pub mod Passed
 pub mod OneValue
 mod Twins

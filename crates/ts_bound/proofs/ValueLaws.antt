@@ -33,7 +33,7 @@ domain_values vs d = record { rises = rise vs d.rising; small = all_small vs d.w
 
 -- values that are read by place
 
-within_at : (vs : List ℤ) → AllByRecursion WithinLimits vs → (i : ℕ) → i < length vs → WithinLimits (get_or vs i (pos 0))
+pub within_at : (vs : List ℤ) → AllByRecursion WithinLimits vs → (i : ℕ) → i < length vs → WithinLimits (get_or vs i (pos 0))
 within_at [] h i lt = absurd (omega (arith, lt))
 within_at (v ∷ vs) h zero lt = h.0
 within_at (v ∷ vs) h (suc i) lt = within_at vs h.1 i (omega (arith, lt))
@@ -45,7 +45,7 @@ place_of vs x (k, lt, e) = (k, lt, get_or_from_slice_get vs k (get_or vs k x) (p
 pub domain_end : (vs : List ℤ) (x : ℤ) → IsDomain vs → Contains vs x → WithinLimits x
 domain_end vs x d has = let p = place_of vs x has in subst WithinLimits p.2 (within_at vs d.within p.0 p.1)
 
-below : (x y : ℤ) → IsTrue (int_lt x y) → x <ℤ y
+pub below : (x y : ℤ) → IsTrue (int_lt x y) → x <ℤ y
 below x y h = grind (arith, ints)
 
 -- a value that comes d places later is at least d greater

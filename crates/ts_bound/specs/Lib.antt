@@ -11,3 +11,4 @@ pub mod PartCuts
 pub mod Packs
 pub mod SweptMoves
 pub mod PackedRows
+pub mod CellLists

@@ -14,6 +14,7 @@
 #![tactic(auto)]
 
 mod block;
+mod cell_values;
 mod fill;
 pub mod laws;
 mod looks;
@@ -47,6 +48,7 @@ mod table;
 mod tables;
 mod widen;
 
+pub use cell_values::CellValues;
 pub use looks::{ends, is_looked, looked_count, read_at};
 pub use packed_rows::{first_packed_row, next_packed_row};
 pub use row::fill_row;

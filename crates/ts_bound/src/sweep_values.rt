@@ -69,7 +69,7 @@ impl<'a> Places<'a> {
 }
 
 /// Whether so many rising values from a first to a last one have no gap.
-fn is_run(first: i64, last: i64, count: usize) -> bool
+pub(crate) fn is_run(first: i64, last: i64, count: usize) -> bool
     requires first { IsCellValue first }
     requires last { IsCellValue last }
     requires few { count ≤ 2000001 }
