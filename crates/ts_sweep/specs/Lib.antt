@@ -18,3 +18,5 @@ pub mod TreeLaws
 pub mod Strided
 pub mod StridedLaws
 pub mod Columns
+pub mod AnyParts
+pub mod AnyPartLaws

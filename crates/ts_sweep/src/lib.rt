@@ -15,13 +15,15 @@
 //! What is swept is told by types alone, so that the loop over the values is compiled with nothing left to decide:
 //! - `Values`: the values of a cell, a `Run` without gaps or `Listed` ones; two runs are swept by a counted loop;
 //! - `Fronts`: what a move makes of a hull, and what the next value makes of the running one; `Moves` says of which move;
-//! - `Parts` of a `Front` for each register, with words (`One`, `This`, `Zero` ..) and operators as types; `Tree` is any;
+//! - `Parts` of a `Front` for each register, with words (`One`, `This`, `Zero` ..) and operators as types; `Tree` and
+//!   `AnyPart` are what is known only when the program runs;
 //! - `Hull`: what is joined; `PackedHull` is two numbers a register;
 //! - `Column`: where the hulls of a state are, `Dense` in a column of their own or `Strided` in a row of plain hulls.
 //!
 //! A move `take`n in is exactly the join over all pairs of values that the letter names.
 #![tactic(auto)]
 
+pub mod any_part;
 pub mod column;
 pub mod cover;
 pub mod equal;
@@ -34,11 +36,12 @@ pub mod pairs;
 pub mod part;
 pub mod row;
 pub mod runs;
+mod small;
 pub mod source;
 mod steps;
 pub mod strided;
 pub mod sweep;
+pub mod swept;
 pub mod take;
 pub mod tree;
 pub mod values;
-pub mod whole_tree;

@@ -44,7 +44,7 @@ pub struct Parts<C, D, R> {
 
 /// Whether the next cell stands in any part.
 #[inline(always)]
-fn has_tail<C: Part, D: Part, R: Part>(parts: Parts<C, D, R>) -> bool
+pub(crate) fn has_tail<C: Part, D: Part, R: Part>(parts: Parts<C, D, R>) -> bool
     ensures { result ≡ (C.tails parts.c || (D.tails parts.d || R.tails parts.r)) }
 {
     parts.c.has_tail() || parts.d.has_tail() || parts.r.has_tail()

@@ -133,7 +133,7 @@ fn packed(h: &Hull) -> PackedHull<6>
 }
 
 /// The hull that it stands for.
-fn unpacked(h: &PackedHull<6>) -> Hull
+pub fn unpacked(h: &PackedHull<6>) -> Hull
     ensures { result ≡ unpacked h.now.at }
 {
     Hull {

@@ -3,8 +3,9 @@
 ghost use Rattle.std.specs.Prelude.{◌≡◌, ℕ, ◌<◌, ◌≤◌, length, get_or, true, false};
 ghost use Rattle.ts_automaton.specs.Body.{Move};
 ghost use Rattle.ts_base.specs.declared.letter.Letter.TheVariants.{Equal};
-ghost use Rattle.ts_hull.specs.Cuts.{all_whole, cut_of};
-ghost use Rattle.ts_sweep.specs.Columns.{IsMoved};
+ghost use Rattle.ts_hull.specs.Cuts.{all_swept, all_whole, cut_of};
+ghost use Rattle.ts_hull.specs.Smalls.{small_hull};
+ghost use Rattle.ts_sweep.specs.Columns.{IsMoved, hull_at};
 ghost use Rattle.ts_sweep.specs.Packed.{ArePacked};
 ghost use Rattle.ts_sweep.specs.Sweeps.{IsTakenIn, met_hull, passed_hull, total};
 
@@ -194,6 +195,35 @@ pub fn take_column<H: Packed, F: Moves<H>, V: Values, W: Values>(
     requires ok { V.ok values }
     requires next_ok { W.ok next_values }
     requires packed { ArePacked H.lanes H.none H.count (V.len values) before.now }
+    requires covers { cover ≡ total H.both H.none (λ i. true) (λ i. get_or before.now i H.none) (V.len values) }
+    requires next_packed { ArePacked H.lanes H.none H.count (W.len next_values) next.old }
+    requires alone { letter ≡ Equal → twin ≡ false }
+    ensures packed { ArePacked H.lanes H.none H.count (W.len next_values) next.new }
+    ensures taken { result ≡ true → (m : Move) → cut_of m ≡ F.cut by → IsMoved H.lanes H.none m letter twin (V.len values)
+        (V.value values) before.now (W.len next_values) (W.value next_values) next.old next.new }
+    ensures kept { result ≡ false → next.new ≡ next.old }
+{
+    take_fit::<H, F, V, W>(by, letter, twin, cover, values, before, next_values, next)
+}
+
+/// The same of a move that may read the next cell, of small hulls.
+#[inline(always)]
+pub fn take_small<H: Packed, F: Moves<H>, V: Values, W: Values>(
+    by: F,
+    letter: Letter,
+    twin: bool,
+    cover: H,
+    values: V,
+    before: &[H],
+    next_values: W,
+    next: &mut [H],
+) -> bool
+    requires registers { 6 ≤ H.count }
+    requires swept { all_swept (F.cut by) ≡ true }
+    requires ok { V.ok values }
+    requires next_ok { W.ok next_values }
+    requires packed { ArePacked H.lanes H.none H.count (V.len values) before.now }
+    requires small { (i : ℕ) → i < V.len values → small_hull (hull_at H.lanes H.none before.now i) ≡ true }
     requires covers { cover ≡ total H.both H.none (λ i. true) (λ i. get_or before.now i H.none) (V.len values) }
     requires next_packed { ArePacked H.lanes H.none H.count (W.len next_values) next.old }
     requires alone { letter ≡ Equal → twin ≡ false }

@@ -52,7 +52,7 @@ fn below_both(x: i64, y: i64) -> i64
 }
 
 /// An operator on ends.
-fn joined_ends(op: Op, a: Ends, b: Ends) -> Ends
+pub(crate) fn joined_ends(op: Op, a: Ends, b: Ends) -> Ends
     ensures { result ≡ joined_by op a b }
 {
     match op {

@@ -1,4 +1,4 @@
-use Rattle.std.proofs.Common.{true, refl, subst, sym, ap, ◌∙◌, arith}
+use Rattle.std.proofs.Common.{subst, sym, ap, ◌∙◌}
 use Rattle.ts_hull.specs.Cuts.{all_whole}
 use Rattle.ts_sweep.specs.Moves.{IsFrontOf, IsClosingOf}
 use Rattle.ts_sweep.proofs.Columns.{column_moved}

@@ -1,0 +1,122 @@
+//! A move whose expressions are known only when the program runs, if it can be swept.
+
+ghost use Rattle.std.specs.Prelude.{◌≡◌, ◌≤◌, MatchOption, true, false, get_or};
+ghost use Rattle.ts_automaton.specs.Body.{Move, move_of};
+ghost use Rattle.ts_base.specs.declared.letter.Letter.TheVariants.{Equal};
+ghost use Rattle.ts_hull.specs.Cuts.{all_swept, cut_of};
+ghost use Rattle.ts_sweep.specs.AnyParts.{parts_cut};
+ghost use Rattle.ts_sweep.specs.Columns.{IsMoved};
+ghost use Rattle.ts_sweep.specs.Packed.{ArePacked};
+ghost use Rattle.ts_sweep.specs.Sweeps.{total};
+
+use crate::any_part::AnyPart;
+use crate::moves::{Parts, has_tail};
+use crate::packed::Packed;
+use crate::small::are_small;
+use crate::take::{take_column, take_small};
+use crate::values::Values;
+use ts_automaton::Turn;
+use ts_base::Letter;
+
+/// The expressions of a move.
+pub type AnyParts<'a> = Parts<AnyPart<'a>, AnyPart<'a>, AnyPart<'a>>;
+
+/// The parts of a move that can be swept; none where an expression reads the next cell in another way.
+pub fn swept_parts(t: &Turn) -> Option<AnyParts<'_>>
+    ensures { MatchOption result (all_swept (cut_of (move_of t.now)) ≡ false)
+        (λ parts. (all_swept (cut_of (move_of t.now)) ≡ true) × (parts_cut parts ≡ cut_of (move_of t.now))) }
+{
+    let c = AnyPart::of(&t.c)?;
+    let d = AnyPart::of(&t.d)?;
+    let r = AnyPart::of(&t.r)?;
+    Some(Parts { c, d, r })
+}
+
+/// Parts of a move are taken in by a sweep. Where the next cell stands in one, all hulls have to be small.
+fn take_parts<H: Packed, V: Values, W: Values>(
+    parts: AnyParts<'_>,
+    letter: Letter,
+    twin: bool,
+    cover: H,
+    values: V,
+    before: &[H],
+    next_values: W,
+    next: &mut [H],
+) -> bool
+    requires registers { 6 ≤ H.count }
+    requires swept { all_swept (parts_cut parts) ≡ true }
+    requires ok { V.ok values }
+    requires next_ok { W.ok next_values }
+    requires packed { ArePacked H.lanes H.none H.count (V.len values) before.now }
+    requires covers { cover ≡ total H.both H.none (λ i. true) (λ i. get_or before.now i H.none) (V.len values) }
+    requires next_packed { ArePacked H.lanes H.none H.count (W.len next_values) next.old }
+    requires alone { letter ≡ Equal → twin ≡ false }
+    ensures packed { ArePacked H.lanes H.none H.count (W.len next_values) next.new }
+    ensures taken { result ≡ true → (m : Move) → cut_of m ≡ parts_cut parts.entry → IsMoved H.lanes H.none m letter twin (V.len values)
+        (V.value values) before.now (W.len next_values) (W.value next_values) next.old next.new }
+    ensures kept { result ≡ false → next.new ≡ next.old }
+{
+    if !has_tail(parts) {
+        return take_column::<H, _, V, W>(
+            parts,
+            letter,
+            twin,
+            cover,
+            values,
+            before,
+            next_values,
+            next,
+        );
+    }
+    if !are_small::<H>(before) {
+        return false;
+    }
+    take_small::<H, _, V, W>(
+        parts,
+        letter,
+        twin,
+        cover,
+        values,
+        before,
+        next_values,
+        next,
+    )
+}
+
+/// A move is taken in by a sweep, if it can be: its expressions are evaluated at each value.
+pub fn take_swept<H: Packed, V: Values, W: Values>(
+    t: &Turn,
+    letter: Letter,
+    twin: bool,
+    cover: H,
+    values: V,
+    before: &[H],
+    next_values: W,
+    next: &mut [H],
+) -> bool
+    requires registers { 6 ≤ H.count }
+    requires ok { V.ok values }
+    requires next_ok { W.ok next_values }
+    requires packed { ArePacked H.lanes H.none H.count (V.len values) before.now }
+    requires covers { cover ≡ total H.both H.none (λ i. true) (λ i. get_or before.now i H.none) (V.len values) }
+    requires next_packed { ArePacked H.lanes H.none H.count (W.len next_values) next.old }
+    requires alone { letter ≡ Equal → twin ≡ false }
+    ensures packed { ArePacked H.lanes H.none H.count (W.len next_values) next.new }
+    ensures taken { result ≡ true → IsMoved H.lanes H.none (move_of t.now) letter twin (V.len values)
+        (V.value values) before.now (W.len next_values) (W.value next_values) next.old next.new }
+    ensures kept { result ≡ false → next.new ≡ next.old }
+{
+    match swept_parts(t) {
+        Some(parts) => take_parts::<H, V, W>(
+            parts,
+            letter,
+            twin,
+            cover,
+            values,
+            before,
+            next_values,
+            next,
+        ),
+        None => false,
+    }
+}
