@@ -1,5 +1,5 @@
 -- The cover of a column is the total of its hulls: each of them changes nothing where it is joined to it.
-use Rattle.std.proofs.Common.{◌≡◌, ℕ, zero, suc, ◌+◌, ◌<◌, ◌⊎◌, inl, inr, true, refl, sym, ap, ◌∙◌, arith}
+use Rattle.std.proofs.Common.{◌≡◌, ℕ, zero, suc, ◌+◌, ◌<◌, ◌⊎◌, inl, inr, true, sym, ap, ◌∙◌, arith}
 use Rattle.ts_sweep.specs.Sweeps.{total}
 
 below_same_or : (a b : ℕ) → a < b + 1 → (a < b) ⊎ (a ≡ b)

@@ -1,9 +1,8 @@
 -- What a sweep gives to a next value stands for what the move gives to it from all values.
-use Rattle.std.proofs.Common.{◌≡◌, inl, ℕ, zero, suc, ◌+◌, ◌<◌, ◌≤◌, Bool, true, false, cond, ◌||◌, int_lt, int_le, ℤ, pos, List, length, get_or, refl, sym, ap, subst, ◌∙◌, arith}
+use Rattle.std.proofs.Common.{◌≡◌, inl, ℕ, zero, suc, ◌<◌, ◌≤◌, Bool, true, false, cond, ◌||◌, int_lt, int_le, ℤ, List, length, get_or, sym, ap, subst, ◌∙◌, arith}
 use Rattle.std.specs.Ordering.{int_eq}
 use Rattle.std.proofs.lemmas.Int.{ints}
-use Rattle.ts_base.specs.declared.letter.Letter.{Letter}
-use Rattle.ts_base.specs.declared.letter.Letter.TheVariants.{Less, Equal, Greater}
+use Rattle.ts_base.specs.declared.letter.Letter.TheVariants.{Equal}
 use Rattle.ts_base.specs.Signature.{letter_of}
 use Rattle.ts_automaton.specs.declared.regs.Hull.{Hull}
 use Rattle.ts_automaton.specs.Body.{Move}
@@ -11,7 +10,7 @@ use Rattle.ts_hull.specs.Hulls.{none as none_hull, hull_of_both}
 use Rattle.ts_hull.specs.Sealed.{after_move}
 use Rattle.ts_hull.specs.Cuts.{Cut, cut_of, all_swept, front_hull, closed_hull}
 use Rattle.ts_hull.specs.Smalls.{small_int, small_hull}
-use Rattle.ts_hull.specs.Sweeps.{total as hull_total, same_letter, letter_for, compares, takes, hull_in, sweep_entry}
+use Rattle.ts_hull.specs.Sweeps.{total as hull_total, same_letter, letter_for, compares}
 use Rattle.ts_hull.proofs.SplitLaws.{moved_is, hull_small, small_within, total_closed, closed_hull_none}
 use Rattle.ts_hull.proofs.Letters.{less_is, greater_is, equal_is}
 use Rattle.ts_hull.proofs.Sums.{total_same}
@@ -20,7 +19,7 @@ use Rattle.ts_sweep.specs.Lanes.{no_lanes, greater_of}
 use Rattle.ts_sweep.specs.Packed.{unpacked, IsPacked}
 use Rattle.ts_sweep.specs.PackedLaws.{joined_packed, joined_is, packed_takes_none, none_unpacked}
 use Rattle.ts_sweep.specs.Moves.{IsFrontOf, IsClosingOf}
-use Rattle.ts_sweep.specs.Sweeps.{total, passes, passed_hull}
+use Rattle.ts_sweep.specs.Sweeps.{total, passes}
 
 -- a value is passed where it compares as the letter says
 

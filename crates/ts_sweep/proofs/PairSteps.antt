@@ -1,5 +1,5 @@
 -- A move over pairs of values.
-use Rattle.std.proofs.Common.{◌≡◌, ◌⊎◌, inl, inr, ℕ, suc, ◌+◌, ◌<◌, ◌≤◌, Bool, true, false, cond, nat_eq, ℤ, List, length, get_or, set, refl, sym, ap, subst, ◌∙◌, arith}
+use Rattle.std.proofs.Common.{◌≡◌, ◌⊎◌, inl, inr, ℕ, suc, ◌+◌, ◌<◌, ◌≤◌, Bool, true, false, cond, nat_eq, ℤ, List, length, get_or, refl, sym, ap, subst, ◌∙◌, arith}
 use Rattle.std.proofs.lemmas.Bool.{eqb-true, eqb-false}
 use Rattle.std.proofs.lemmas.List.{length-set, get_or-set_same, get_or-set_other}
 use Rattle.ts_base.specs.declared.letter.Letter.{Letter}
@@ -15,8 +15,8 @@ use Rattle.ts_sweep.specs.Columns.{gives, hull_at, IsGift}
 use Rattle.ts_sweep.specs.FrontLaws.{never_added}
 use Rattle.ts_sweep.specs.Lanes.{no_lanes, some_lanes, greater_of}
 use Rattle.ts_sweep.specs.MoveLaws.{three, three_are_some, three_unpacked, first_is, some_unpacked, not_nothing}
-use Rattle.ts_sweep.specs.Packed.{unpacked, AreSome, IsPacked, IsPackOf, ArePacked}
-use Rattle.ts_sweep.specs.PackedLaws.{joined_packed, joined_is, none_unpacked, packed_takes_none}
+use Rattle.ts_sweep.specs.Packed.{unpacked, IsPacked, IsPackOf, ArePacked}
+use Rattle.ts_sweep.specs.PackedLaws.{joined_packed, joined_is, none_unpacked}
 use Rattle.ts_sweep.specs.Small.{IsSmall}
 use Rattle.ts_sweep.specs.Trees.{tree_value}
 use Rattle.ts_sweep.specs.TreeLaws.{tree_packs}

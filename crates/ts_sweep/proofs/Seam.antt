@@ -1,9 +1,8 @@
 -- From what a sweep makes of the hulls of a state to the row with the move taken in.
-use Rattle.std.proofs.Common.{◌≡◌, ◌≢◌, ℕ, zero, suc, ◌+◌, ◌-◌, ◌*◌, ◌<◌, ◌≤◌, Bool, true, false, cond, nat_eq, ℤ, List, length, map, get_or, refl, sym, ap, subst, ◌∙◌, arith}
+use Rattle.std.proofs.Common.{◌≡◌, ℕ, ◌+◌, ◌*◌, ◌<◌, Bool, true, false, cond, nat_eq, ℤ, List, length, map, get_or, refl, sym, ap, ◌∙◌, arith}
 use Rattle.std.specs.List.{range_with_len}
-use Rattle.std.proofs.lemmas.Bool.{eqb-true, eqb-false, cases_lt}
-use Rattle.std.proofs.lemmas.List.FromFn.{fill_by_all, length-map-range_with_len, get_or-map-range_with_len}
-use Rattle.std.proofs.Math.Nat.{mul-le-mul_right}
+use Rattle.std.proofs.lemmas.Bool.{eqb-true, eqb-false}
+use Rattle.std.proofs.lemmas.List.FromFn.{length-map-range_with_len}
 use Rattle.ts_base.specs.declared.letter.Letter.{Letter}
 use Rattle.ts_automaton.specs.declared.regs.Hull.{Hull}
 use Rattle.ts_automaton.specs.Body.{Move}
@@ -13,7 +12,7 @@ use Rattle.ts_hull.specs.Cuts.{cut_of, all_swept, front_hull, closed_hull}
 use Rattle.ts_hull.specs.Smalls.{small_hull}
 use Rattle.ts_hull.specs.Sweeps.{AllTakeNone, hull_in, step_place, puts, compares, total as hull_total}
 use Rattle.ts_hull.proofs.Sums.{total_same}
-use Rattle.ts_hull.proofs.Puts.{puts_at, length-puts}
+use Rattle.ts_hull.proofs.Puts.{length-puts}
 use Rattle.ts_sweep.specs.Lanes.{no_lanes, greater_of}
 use Rattle.ts_sweep.specs.Moves.{IsFrontOf, IsClosingOf}
 use Rattle.ts_sweep.specs.Packed.{unpacked}

@@ -1,5 +1,5 @@
 -- The laws of fronts.
-use Rattle.std.proofs.Common.{◌≡◌, ℕ, zero, suc, ◌+◌, ◌*◌, ◌<◌, ◌≤◌, ◌≤ℤ◌, ◌<ℤ◌, ℤ, pos, negsuc, neg_ℤ, Bool, true, false, cond, ◌||◌, min, List, get_or, int_le, ◌⊎◌, inl, inr, refl, sym, ap, subst, ◌∙◌, arith}
+use Rattle.std.proofs.Common.{◌≡◌, ℕ, zero, suc, ◌+◌, ◌*◌, ◌<◌, ◌≤◌, ◌≤ℤ◌, ◌<ℤ◌, ℤ, pos, negsuc, neg_ℤ, Bool, true, false, ◌||◌, min, List, int_le, inl, inr, refl, sym, ap, subst, ◌∙◌, arith}
 use Rattle.std.proofs.lemmas.Int.{ints}
 use Rattle.ts_base.specs.declared.ext.Ext.{Ext}
 use Rattle.ts_base.specs.declared.ext.Ext.TheVariants.{NegInf, Int, PosInf}
@@ -14,7 +14,7 @@ use Rattle.ts_hull.specs.Sealed.{by_ends, span_in}
 use Rattle.ts_sweep.specs.declared.packed.Ends.{Ends}
 use Rattle.ts_sweep.specs.Small.{IsSmall}
 use Rattle.ts_sweep.specs.Lanes.{least}
-use Rattle.ts_sweep.specs.Packed.{upper, negated, ends, ends_span, ends_at, unpacked, register_span, IsSomeEnds, AreSome, IsPackOf, IsWithin, AreWithin, IsUnder}
+use Rattle.ts_sweep.specs.Packed.{upper, negated, ends, ends_span, ends_at, unpacked, IsSomeEnds, AreSome, IsPackOf, IsWithin, AreWithin, IsUnder}
 use Rattle.ts_sweep.specs.Fronts.{register_word, IsFitRegister, ArePlain}
 use Rattle.ts_sweep.specs.UpperLaws.{upper_low, upper_mid, low_or_not}
 

@@ -1,11 +1,9 @@
 -- The laws of moves on lanes.
-use Rattle.std.proofs.Common.{◌≡◌, ◌⊎◌, inl, inr, ℕ, zero, suc, ◌+◌, ◌*◌, ◌<◌, ◌≤◌, ◌<ℤ◌, ℤ, pos, Bool, true, false, cond, ◌&&◌, ◌||◌, not, List, [], ◌∷◌, length, get_or, set, refl, sym, ap, subst, ◌∙◌, arith}
+use Rattle.std.proofs.Common.{◌≡◌, ◌⊎◌, inl, inr, ℕ, zero, suc, ◌+◌, ◌*◌, ◌<◌, ◌≤◌, ◌<ℤ◌, ℤ, pos, Bool, true, false, cond, ◌&&◌, ◌||◌, not, List, [], ◌∷◌, length, get_or, refl, sym, ap, subst, ◌∙◌, arith}
 use Rattle.std.specs.Ordering.{int_eq}
-use Rattle.std.specs.Int.{int_max}
 use Rattle.std.proofs.lemmas.Int.{ints}
 use Rattle.ts_base.specs.declared.span.Span.{Span}
 use Rattle.ts_base.specs.Spans.{has_some}
-use Rattle.ts_automaton.specs.declared.regs.Hull.{Hull}
 use Rattle.ts_hull.specs.Hulls.{none as none_hull}
 use Rattle.ts_hull.specs.Sealed.{some_hull, hull_with}
 use Rattle.ts_hull.specs.Splits.{Split, front_span, closed_span}
@@ -13,7 +11,6 @@ use Rattle.ts_hull.specs.Cuts.{Cut, front_hull, closed_hull}
 use Rattle.ts_hull.proofs.HullLaws.{same_hull}
 use Rattle.ts_hull.proofs.SplitLaws.{closed_hull_none}
 use Rattle.ts_sweep.specs.declared.packed.Ends.{Ends}
-use Rattle.ts_sweep.specs.Small.{IsSmall}
 use Rattle.ts_sweep.specs.Lanes.{least, no_lanes, some_lanes, greater_of}
 use Rattle.ts_sweep.specs.LaneLaws.{lanes_neutral, lanes_commutative, lanes_idempotent}
 use Rattle.ts_sweep.specs.Packed.{ends, ends_at, ends_span, register_span, unpacked, with_ends_at, max_ends, IsSomeEnds, AreSome, IsPacked, IsPackOf}

@@ -6,7 +6,7 @@ use Rattle.ts_hull.specs.Cuts.{Cut, front_hull, closed_hull}
 use Rattle.ts_hull.specs.Splits.{FrontOf}
 use Rattle.ts_sweep.specs.declared.packed.Ends.{Ends}
 use Rattle.ts_sweep.specs.Lanes.{no_lanes}
-use Rattle.ts_sweep.specs.Packed.{ends_at, unpacked, AreSome, IsPacked, with_ends_at}
+use Rattle.ts_sweep.specs.Packed.{ends_at, unpacked, AreSome, IsPacked}
 
 -- the split expressions of a move that keeps all registers
 abbrev pub kept_cut : Cut

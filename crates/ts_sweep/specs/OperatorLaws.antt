@@ -1,10 +1,10 @@
 -- What operators make of ends stands for what they make of spans.
-use Rattle.std.proofs.Common.{◌≡◌, ◌⊎◌, inl, inr, ℕ, ◌+◌, ◌*◌, ◌≤◌, ◌≤ℤ◌, ◌<ℤ◌, ◌+ℤ◌, ℤ, pos, negsuc, neg_ℤ, Bool, true, false, cond, refl, sym, ap, subst, ◌∙◌, arith}
+use Rattle.std.proofs.Common.{◌≡◌, ◌⊎◌, inl, inr, ℕ, ◌+◌, ◌≤◌, ◌<ℤ◌, ◌+ℤ◌, ℤ, neg_ℤ, true, refl, sym, ap, subst, ◌∙◌, arith}
 use Rattle.std.specs.Int.{int_max, int_min}
 use Rattle.std.proofs.lemmas.Int.{ints, clamps}
-use Rattle.ts_base.specs.Numbers.{ext_le, ext_max, ext_min, ext_plus, clamp}
+use Rattle.ts_base.specs.Numbers.{ext_max, ext_min, ext_plus, clamp}
 use Rattle.ts_base.specs.declared.ext.Ext.{Ext}
-use Rattle.ts_base.specs.declared.ext.Ext.TheVariants.{NegInf, Int, PosInf}
+use Rattle.ts_base.specs.declared.ext.Ext.TheVariants.{Int}
 use Rattle.ts_base.specs.declared.span.Span.{Span}
 use Rattle.ts_base.specs.Spans.{has_some}
 use Rattle.ts_base.specs.declared.op.Op.TheVariants.{Add, Max, Min}
@@ -14,7 +14,7 @@ use Rattle.ts_hull.specs.Sealed.{by_ends}
 use Rattle.ts_hull.proofs.SpanHulls.{lifted_both, lifted_some}
 use Rattle.ts_sweep.specs.declared.packed.Ends.{Ends}
 use Rattle.ts_sweep.specs.Lanes.{least}
-use Rattle.ts_sweep.specs.Packed.{upper, negated, ends, ends_span, IsSomeEnds, IsPackOf, IsWithin, AreWithin}
+use Rattle.ts_sweep.specs.Packed.{upper, negated, ends_span, IsPackOf, IsWithin, AreWithin}
 use Rattle.ts_sweep.specs.Operators.{sum_of_ends, greater_of_ends, lesser_of_ends}
 use Rattle.ts_sweep.specs.UpperLaws.{upper_mid, upper_max, upper_min, lower_max, lower_min}
 

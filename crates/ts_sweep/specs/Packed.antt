@@ -1,13 +1,13 @@
 -- Hulls in packed form: what their lanes stand for.
-use Rattle.std.specs.Prelude.{◌≡◌, ◌⊎◌, ◌<◌, ◌≤◌, ◌+◌, ◌*◌, ℕ, ◌<ℤ◌, ◌≤ℤ◌, ◌+ℤ◌, ℤ, pos, negsuc, neg_ℤ, true, cond, if◌then◌else◌, int_le, List, [], ◌∷◌, length, get_or, set}
-use Rattle.std.specs.Int.{int_max, int_min}
+use Rattle.std.specs.Prelude.{◌≡◌, ◌⊎◌, ◌<◌, ◌+◌, ◌*◌, ℕ, ◌<ℤ◌, ◌≤ℤ◌, ℤ, pos, negsuc, neg_ℤ, true, if◌then◌else◌, int_le, List, length, get_or, set}
+use Rattle.std.specs.Int.{int_max}
 use Rattle.ts_base.specs.declared.ext.Ext.{Ext}
 use Rattle.ts_base.specs.declared.ext.Ext.TheVariants.{NegInf, Int, PosInf}
 use Rattle.ts_base.specs.declared.span.Span.{Span}
 use Rattle.ts_base.specs.Spans.{has_some}
 use Rattle.ts_automaton.specs.declared.regs.Hull.{Hull}
 use Rattle.ts_sweep.specs.declared.packed.Ends.{Ends}
-use Rattle.ts_sweep.specs.Lanes.{least, no_lanes, some_lanes}
+use Rattle.ts_sweep.specs.Lanes.{least, no_lanes}
 
 -- a lane as an upper end: the greatest number stands for +∞, the greatest negated for -∞, as does nothing
 abbrev pub upper : ℤ → Ext

@@ -1,7 +1,6 @@
 -- The laws of what lanes stand for.
-use Rattle.std.proofs.Common.{◌≡◌, ◌⊎◌, inl, inr, ℕ, zero, suc, ◌+◌, ◌*◌, ◌<◌, ◌≤◌, ◌≤ℤ◌, ◌<ℤ◌, ℤ, pos, negsuc, neg_ℤ, Bool, true, false, cond, int_le, not, List, [], ◌∷◌, length, get_or, replicate, refl, sym, ap, subst, ◌∙◌, arith}
+use Rattle.std.proofs.Common.{◌≡◌, ◌⊎◌, inl, inr, ℕ, zero, suc, ◌+◌, ◌*◌, ◌<◌, ◌≤◌, ◌≤ℤ◌, ◌<ℤ◌, ℤ, pos, true, cond, List, [], ◌∷◌, length, get_or, refl, sym, ap, subst, ◌∙◌, arith}
 use Rattle.std.specs.Int.{int_max}
-use Rattle.std.specs.Ordering.{int_eq}
 use Rattle.std.proofs.lemmas.Int.{ints}
 use Rattle.std.proofs.lemmas.List.{length-replicate}
 use Rattle.ts_base.proofs.Order.{le_trans, min_left, max_left as ts_max_left}
@@ -10,12 +9,9 @@ use Rattle.ts_base.specs.declared.ext.Ext.{Ext}
 use Rattle.ts_base.specs.declared.ext.Ext.TheVariants.{NegInf, Int, PosInf}
 use Rattle.ts_base.specs.declared.span.Span.{Span}
 use Rattle.ts_base.specs.Spans.{has_some, none_span, span_hull}
-use Rattle.ts_automaton.specs.declared.regs.Hull.{Hull}
 use Rattle.ts_hull.specs.Hulls.{none as none_hull, hull_of_both}
-use Rattle.ts_hull.specs.Sealed.{hull_with}
 use Rattle.ts_hull.proofs.HullLaws.{same_hull}
-use Rattle.ts_sweep.specs.declared.packed.Ends.{Ends}
-use Rattle.ts_sweep.specs.Lanes.{least, no_lanes, some_lanes, greater_of, AreLanes}
+use Rattle.ts_sweep.specs.Lanes.{least, no_lanes, greater_of, AreLanes}
 use Rattle.ts_sweep.specs.LaneLaws.{lanes_neutral, lanes_commutative, lanes_idempotent}
 use Rattle.ts_sweep.specs.UpperLaws.{upper_max, lower_max}
 use Rattle.ts_sweep.specs.Packed.{upper, negated, span_of, ends, ends_span, ends_at, register_span, unpacked, AreSome, IsPacked, IsUnder, max_ends}

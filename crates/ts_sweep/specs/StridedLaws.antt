@@ -1,9 +1,8 @@
 -- The laws of hulls of a state in a row.
-use Rattle.std.proofs.Common.{◌≡◌, ◌≢◌, ℕ, ◌+◌, ◌*◌, ◌<◌, List, length, get_or, map, refl, sym, ◌∙◌}
+use Rattle.std.proofs.Common.{◌≡◌, ℕ, List, length, map, refl, sym, ◌∙◌}
 use Rattle.std.specs.List.{range_with_len}
 use Rattle.std.proofs.lemmas.List.FromFn.{length-map-range_with_len}
 use Rattle.ts_automaton.specs.declared.regs.Hull.{Hull}
-use Rattle.ts_hull.specs.Hulls.{none}
 use Rattle.ts_sweep.specs.Strided.{AreBeside}
 
 pub same_count : {A B : Type 0} (n : ℕ) (f : ℕ → A) (g : ℕ → B) → length (map f (range_with_len 0 n)) ≡ length (map g (range_with_len 0 n))

@@ -1,6 +1,5 @@
 -- The laws of expressions that are known only when the program runs.
-use Rattle.std.proofs.Common.{◌≡◌, ◌⊎◌, inl, inr, ℕ, ◌+◌, ◌*◌, ◌≤◌, ◌≤ℤ◌, ◌<ℤ◌, ◌+ℤ◌, ℤ, pos, negsuc, neg_ℤ, Bool, true, false, cond, List, refl, sym, ap, subst, ◌∙◌, arith}
-use Rattle.std.specs.Int.{int_max, int_min}
+use Rattle.std.proofs.Common.{◌≡◌, ℕ, ◌+◌, ◌≤◌, ◌<ℤ◌, ◌+ℤ◌, ℤ, pos, negsuc, neg_ℤ, true, List, refl, sym, ap, subst, ◌∙◌, arith}
 use Rattle.std.proofs.lemmas.Int.{ints, clamps}
 use Rattle.ts_base.specs.Numbers.{ext_plus, clamp}
 use Rattle.ts_base.specs.declared.ext.Ext.{Ext}
@@ -19,8 +18,8 @@ use Rattle.ts_hull.proofs.SpanHulls.{lifted_both, lifted_some}
 use Rattle.ts_sweep.specs.declared.packed.Ends.{Ends}
 use Rattle.ts_sweep.specs.Small.{IsSmall}
 use Rattle.ts_sweep.specs.Lanes.{least}
-use Rattle.ts_sweep.specs.Packed.{upper, negated, ends, ends_span, ends_at, unpacked, IsSomeEnds, AreSome, IsPackOf, IsWithin, AreWithin}
-use Rattle.ts_sweep.specs.UpperLaws.{upper_low, upper_high, upper_mid, low_or_not, high_or_not}
+use Rattle.ts_sweep.specs.Packed.{upper, negated, ends_span, unpacked, AreSome, IsPackOf, IsWithin, AreWithin}
+use Rattle.ts_sweep.specs.UpperLaws.{upper_mid}
 use Rattle.ts_sweep.specs.OperatorLaws.{upper_within, greater_packs, greater_within, lesser_packs, lesser_within}
 use Rattle.ts_sweep.specs.FrontLaws.{some_ends, number_packs, small_number, one_is_small, zero_is_small, low_packs, high_packs}
 use Rattle.ts_sweep.specs.Trees.{lane_of, sum_above, sum_below, joined_by, word_ends, tree_value}

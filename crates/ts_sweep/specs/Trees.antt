@@ -1,5 +1,5 @@
 -- Ends of expressions in lanes, with sums that are clamped.
-use Rattle.std.specs.Prelude.{ℤ, pos, negsuc, neg_ℤ, List}
+use Rattle.std.specs.Prelude.{ℤ, pos, negsuc, List}
 use Rattle.ts_base.specs.declared.ext.Ext.{Ext}
 use Rattle.ts_base.specs.declared.ext.Ext.TheVariants.{NegInf, Int, PosInf}
 use Rattle.ts_base.specs.Numbers.{ext_plus}

@@ -1,4 +1,4 @@
-use Rattle.std.proofs.Common.{◌≡◌, get_or, ap, ◌∙◌, arith}
+use Rattle.std.proofs.Common.{ap, ◌∙◌, arith}
 use Rattle.ts_sweep.proofs.CoverSteps.{covers_nothing, covers_more, covers_all}
 use Rattle.ts_sweep.proofs.cover.cover.Goals as goal
 

@@ -1,4 +1,4 @@
-use Rattle.std.proofs.Common.{◌≡◌, sym, ap, ◌∙◌, arith}
+use Rattle.std.proofs.Common.{sym, ◌∙◌, arith}
 use Rattle.std.proofs.lemmas.Int.{ints}
 use Rattle.ts_sweep.proofs.EqualSteps.{equal_begin, equal_less, equal_more, equal_same, equal_end}
 use Rattle.ts_sweep.proofs.equal.sweep_equal.Goals as goal

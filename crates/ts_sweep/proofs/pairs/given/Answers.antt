@@ -1,4 +1,3 @@
-use Rattle.std.proofs.Common.{arith}
 use Rattle.ts_automaton.specs.Body.{move_of}
 use Rattle.ts_sweep.proofs.PairSteps.{given_begun, given_more}
 use Rattle.ts_sweep.proofs.pairs.given.Goals as goal

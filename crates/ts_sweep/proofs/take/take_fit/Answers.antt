@@ -1,4 +1,4 @@
-use Rattle.std.proofs.Common.{refl, arith}
+use Rattle.std.proofs.Common.{arith}
 use Rattle.ts_sweep.proofs.Kept.{kept_packed, gives_packed}
 use Rattle.ts_sweep.proofs.take.take_fit.Goals as goal
 

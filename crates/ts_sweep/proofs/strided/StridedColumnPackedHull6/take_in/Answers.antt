@@ -1,6 +1,6 @@
-use Rattle.std.proofs.Common.{◌≡◌, ◌+◌, ◌*◌, get_or, map, sym, ap, subst, ◌∙◌}
+use Rattle.std.proofs.Common.{get_or, map, sym, ap, subst, ◌∙◌}
 use Rattle.std.specs.List.{range_with_len}
-use Rattle.ts_hull.specs.Hulls.{none, hull_of_both}
+use Rattle.ts_hull.specs.Hulls.{none}
 use Rattle.ts_hull.specs.Sweeps.{hull_in}
 use Rattle.ts_sweep.specs.Packed.{unpacked}
 use Rattle.ts_sweep.specs.Strided.{AreBeside}
