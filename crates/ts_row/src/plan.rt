@@ -26,7 +26,7 @@ ghost use Rattle.ts_row.specs.Plans.{
 use crate::words::{Words, is_same_turn, words_of};
 use ts_automaton::{Atom, Automaton, Op, State, Turn};
 use ts_base::Letter;
-use ts_sweep::whole_tree::is_front;
+use ts_sweep::any_part::is_front;
 
 /// What the cells of a range are folded to: 1, their number, their sum, their greatest or their least value.
 #[derive(Clone, Copy)]

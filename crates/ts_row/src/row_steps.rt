@@ -23,7 +23,7 @@ use ts_sweep::column::Dense;
 use ts_sweep::cover::cover;
 use ts_sweep::packed::{Packed, PackedHull};
 use ts_sweep::pairs::take_pairs;
-use ts_sweep::whole_tree::take_tree;
+use ts_sweep::swept::take_swept;
 
 /// A move, with its shape and the letter on which it is taken in.
 #[derive(Clone, Copy)]
@@ -68,7 +68,7 @@ fn take_turn<const N: usize>(m: Planned<'_>, t: &Between<'_, N>, next: &mut [Pac
     if take_shape(m.shape, m.on, t, next) {
         return;
     }
-    if take_tree::<PackedHull<N>, Cell<'_>, Cell<'_>>(
+    if take_swept::<PackedHull<N>, Cell<'_>, Cell<'_>>(
         m.turn,
         m.on.letter,
         m.on.twin,
