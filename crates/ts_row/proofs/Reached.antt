@@ -50,7 +50,8 @@ not_reached n count column cover big packed is empty i lt =
     (λ a b c. ap (hull_with_lanes n) (lanes_associative a.at b.at c.at)) (λ a b. ap (hull_with_lanes n) (lanes_commutative a.at b.at))
     (λ a. ap (hull_with_lanes n) (lanes_idempotent a.at)) f count i cover is packed.1 lt)
 
-gives_nothing : (m : Move) (l : Letter) (twin : Bool) (n : ℕ) (v : ℕ → ℤ) (h : ℕ → Hull) (w : ℤ) → ((i : ℕ) → i < n → h i ≡ none) → gives m l twin n v h w ≡ none
+gives_nothing : (m : Move) (l : Letter) (twin : Bool) (n : ℕ) (v : ℕ → ℤ) (h : ℕ → Hull) (w : ℤ) → ((i : ℕ) → i < n → h i ≡ none) →
+    gives m l twin n v h w ≡ none
 unfolding gives
 gives_nothing m l twin n v h w empty =
     total_same n (λ i. cond (compares l twin (v i) w) (after_move m (h i) (v i) w) none) (λ i. none)
@@ -69,7 +70,8 @@ unfolding state_gives
 state_nothing b q n v h w t empty =
     ap (λ z. hull_of_both (hull_of_both z (gives_to (move_at b q Equal) Equal false n v h w t)) (gives_to (move_at b q Greater) Greater false n v h w t))
     (to_nothing (move_at b q Less) Less n v h w t empty)
-    ∙ ap (λ z. hull_of_both (hull_of_both none z) (gives_to (move_at b q Greater) Greater false n v h w t)) (to_nothing (move_at b q Equal) Equal n v h w t empty)
+    ∙ ap (λ z. hull_of_both (hull_of_both none z) (gives_to (move_at b q Greater) Greater false n v h w t)) (to_nothing (move_at b q Equal) Equal
+    n v h w t empty)
     ∙ ap (λ z. hull_of_both z (gives_to (move_at b q Greater) Greater false n v h w t)) none_takes_none
     ∙ ap (hull_of_both none) (to_nothing (move_at b q Greater) Greater n v h w t empty) ∙ none_takes_none
 

@@ -64,8 +64,8 @@ range_start Lowest = Leaf HighAtom
 abbrev pub fronts : Formula → Formula → Formula → Cut
 fronts c d r = record { c = FrontOf c; d = FrontOf d; r = FrontOf r }
 
--- nothing changes; D goes on; D begins anew; C becomes of D and a word, and D begins anew; C becomes of C, D and a word,
--- and D begins anew; R becomes of R and C, and both begin anew
+-- nothing changes; D goes on; D begins anew; C becomes of D and a word, and D begins anew; C becomes of C, D and a
+-- word, and D begins anew; R becomes of R and C, and both begin anew
 abbrev pub kept_fronts : Cut
 kept_fronts = fronts (Leaf C) (Leaf D) (Leaf R)
 

@@ -29,7 +29,8 @@ both_hulls n a b = record { at = greater_of a.at b.at }
 -- there is a packed hull for each value before, and their join is the cover
 pub record IsCovered (n : ℕ) (t : Between n) : Type 0 where
   pub packed : IsColumn n (count_in t.values) t.before.now
-  pub cover : t.cover.now ≡ total (both_hulls n) (nothing n) (λ i. true) (λ i. get_or t.before.now i (nothing n)) (count_in t.values)
+  pub cover : t.cover.now ≡ total (both_hulls n) (nothing n) (λ i. true) (λ i. get_or t.before.now i (nothing n))
+      (count_in t.values)
 
 -- a column of the next cell has taken in a move, or any move with these split expressions, or of this shape
 abbrev pub HasMoved : (n : ℕ) → Between n → On → Move → List (PackedHull n) → List (PackedHull n) → Type 0
@@ -46,7 +47,8 @@ IsShapeTaken n t on s old new = (m : Move) → IsShapeOf s (cut_of m) → HasMov
 -- what a move gives to state u of the next value w
 abbrev pub taken_to : (n : ℕ) → Between n → On → Move → ℤ → ℕ → Hull
 taken_to n t on m w u =
-    gives_to m on.letter on.twin (count_in t.values) (value_in t.values) (hull_at (lanes_of n) (nothing n) t.before.now) w u
+    gives_to m on.letter on.twin (count_in t.values) (value_in t.values)
+    (hull_at (lanes_of n) (nothing n) t.before.now) w u
 
 -- what two moves give to it
 abbrev pub two_taken_to : (n : ℕ) → Between n → On → Move → On → Move → ℤ → ℕ → Hull

@@ -1,8 +1,8 @@
 //! Rows of hulls that stay packed: for each cell of a box and each state of an automaton a column, with a hull for each
 //! value of the cell.
 //!
-//! A row is made from the row before, state by state: the moves of a state are taken in from its column into the columns
-//! that they lead to. How each move is taken in is found once for an automaton, its `Plan`.
+//! A row is made from the row before, state by state: the moves of a state are taken in from its column into the
+//! columns that they lead to. How each move is taken in is found once for an automaton, its `Plan`.
 //!
 //! ```text
 //!   row before                 plan of state 1             next row

@@ -1,7 +1,7 @@
 //! The plan of an automaton: how each of its moves is taken in.
 //!
-//! The moves of decorated machines have few shapes. Each fold of cells, as of the widths or of the values of a range, has
-//! its own operator and words, so that the sweep of a shape is compiled with nothing left to decide.
+//! The moves of decorated machines have few shapes. Each fold of cells, as of the widths or of the values of a range,
+//! has its own operator and words, so that the sweep of a shape is compiled with nothing left to decide.
 
 ghost use Rattle.std.specs.Prelude.{◌≡◌, ◌<◌, IfSome, length};
 ghost use Rattle.ts_automaton.specs.Body.{move_of, move_on, node_of};
@@ -46,8 +46,8 @@ pub(crate) enum RangeFold {
     Lowest,
 }
 
-/// What a move makes of the registers: nothing changes; D goes on, or begins anew; C becomes of D and the cell, or of C, D
-/// and the cell, and D begins anew; R becomes of R and C, and both begin anew; or else something.
+/// What a move makes of the registers: nothing changes; D goes on, or begins anew; C becomes of D and the cell, or of
+/// C, D and the cell, and D begins anew; R becomes of R and C, and both begin anew; or else something.
 #[derive(Clone, Copy)]
 pub(crate) enum Shape {
     Kept,

@@ -119,7 +119,8 @@ fn take_two<const N: usize>(
     requires row { IsRow N (length next.old) (count_in t.now.next_values) next.old }
     ensures row { IsRow N (length next.old) (count_in t.now.next_values) next.new }
     ensures taken { HasTaken N (length next.old) (count_in t.now.next_values) (value_in t.now.next_values)
-        (two_taken_to N t.now m.entry.on (move_of m.entry.turn.now) k.entry.on (move_of k.entry.turn.now)) next.old next.new }
+        (two_taken_to N t.now m.entry.on (move_of m.entry.turn.now) k.entry.on (move_of k.entry.turn.now))
+        next.old next.new }
 {
     take_move(m, t, next);
     take_move(k, t, next);
@@ -140,7 +141,8 @@ fn take_moves<const N: usize>(
     requires row { IsRow N (length next.old) (count_in t.now.next_values) next.old }
     ensures row { IsRow N (length next.old) (count_in t.now.next_values) next.new }
     ensures taken { HasTaken N (length next.old) (count_in t.now.next_values) (value_in t.now.next_values)
-        (state_gives a.now q (count_in t.now.values) (value_in t.now.values) (hull_at (lanes_of N) (nothing N) t.now.before.now))
+        (state_gives a.now q (count_in t.now.values) (value_in t.now.values)
+        (hull_at (lanes_of N) (nothing N) t.now.before.now))
         next.old next.new }
 {
     match plan.equals {
@@ -191,7 +193,8 @@ fn take_state<const N: usize>(
     requires row { IsRow N (length next.old) (count_in next_values) next.old }
     ensures row { IsRow N (length next.old) (count_in next_values.entry) next.new }
     ensures taken { HasTaken N (length next.old) (count_in next_values.entry) (value_in next_values.entry)
-        (state_gives a.now q (count_in values.entry) (value_in values.entry) (hull_at (lanes_of N) (nothing N) column.now)) next.old next.new }
+        (state_gives a.now q (count_in values.entry) (value_in values.entry)
+        (hull_at (lanes_of N) (nothing N) column.now)) next.old next.new }
 {
     let cover = cover_of(column, values.values.len());
     if !cover.is_some() {
@@ -223,7 +226,8 @@ pub fn next_row<const N: usize>(
     requires row { IsRow N (length a.now.states) (count_in values) before.now }
     ensures { IfOk result (λ u. IsRow N (length a.now.states) (count_in next_values.entry) next.new
         × ((t j : ℕ) → t < length a.now.states → j < count_in next_values.entry → hull_in N next.new t j
-        ≡ next_hull a.now (count_in values.entry) (value_in values.entry) (hull_in N before.now) (value_in next_values.entry j) t)) }
+        ≡ next_hull a.now (count_in values.entry) (value_in values.entry) (hull_in N before.now)
+        (value_in next_values.entry j) t)) }
 {
     next.reset(alloc, a.states(), next_values.values.len())?;
     for q in 0..a.states() {

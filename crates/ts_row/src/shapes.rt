@@ -127,7 +127,8 @@ fn found_as<const N: usize, O: Operator, W: Front, V: Front>(
     requires covered { IsCovered N t.now }
     requires next_packed { IsColumn N (count_in t.now.next_values) next.old }
     ensures packed { IsColumn N (count_in t.now.next_values) next.new }
-    ensures taken { result ≡ true → MovesBy N t.now on (found_fronts (O.op by) (W.formula word) (V.formula start)) next.old next.new }
+    ensures taken { result ≡ true → MovesBy N t.now on (found_fronts (O.op by) (W.formula word) (V.formula start))
+        next.old next.new }
     ensures kept { result ≡ false → next.new ≡ next.old }
 {
     let parts = Parts {
@@ -159,7 +160,8 @@ fn inside_as<const N: usize, O: Operator, W: Front, V: Front>(
     requires covered { IsCovered N t.now }
     requires next_packed { IsColumn N (count_in t.now.next_values) next.old }
     ensures packed { IsColumn N (count_in t.now.next_values) next.new }
-    ensures taken { result ≡ true → MovesBy N t.now on (inside_fronts (O.op by) (W.formula word) (V.formula start)) next.old next.new }
+    ensures taken { result ≡ true → MovesBy N t.now on (inside_fronts (O.op by) (W.formula word) (V.formula start))
+        next.old next.new }
     ensures kept { result ≡ false → next.new ≡ next.old }
 {
     let parts = Parts {
@@ -195,7 +197,8 @@ fn anew_as<const N: usize, O: Operator, U: Front, V: Front>(
     requires covered { IsCovered N t.now }
     requires next_packed { IsColumn N (count_in t.now.next_values) next.old }
     ensures packed { IsColumn N (count_in t.now.next_values) next.new }
-    ensures taken { result ≡ true → MovesBy N t.now on (anew_fronts (O.op by) (U.formula range_start) (V.formula start)) next.old next.new }
+    ensures taken { result ≡ true → MovesBy N t.now on (anew_fronts (O.op by) (U.formula range_start) (V.formula start))
+        next.old next.new }
     ensures kept { result ≡ false → next.new ≡ next.old }
 {
     let parts = Parts {
@@ -268,7 +271,8 @@ fn found<const N: usize>(
     requires covered { IsCovered N t.now }
     requires next_packed { IsColumn N (count_in t.now.next_values) next.old }
     ensures packed { IsColumn N (count_in t.now.next_values) next.new }
-    ensures taken { result ≡ true → MovesBy N t.now on (found_fronts (cell_op f) (cell_word f) (cell_start f)) next.old next.new }
+    ensures taken { result ≡ true → MovesBy N t.now on (found_fronts (cell_op f) (cell_word f) (cell_start f))
+        next.old next.new }
     ensures kept { result ≡ false → next.new ≡ next.old }
 {
     match f {
@@ -291,7 +295,8 @@ fn inside<const N: usize>(
     requires covered { IsCovered N t.now }
     requires next_packed { IsColumn N (count_in t.now.next_values) next.old }
     ensures packed { IsColumn N (count_in t.now.next_values) next.new }
-    ensures taken { result ≡ true → MovesBy N t.now on (inside_fronts (cell_op f) (cell_word f) (cell_start f)) next.old next.new }
+    ensures taken { result ≡ true → MovesBy N t.now on (inside_fronts (cell_op f) (cell_word f) (cell_start f))
+        next.old next.new }
     ensures kept { result ≡ false → next.new ≡ next.old }
 {
     match f {
@@ -315,7 +320,8 @@ fn anew_from<const N: usize, V: Front>(
     requires covered { IsCovered N t.now }
     requires next_packed { IsColumn N (count_in t.now.next_values) next.old }
     ensures packed { IsColumn N (count_in t.now.next_values) next.new }
-    ensures taken { result ≡ true → MovesBy N t.now on (anew_fronts (range_op g) (range_start g) (V.formula start)) next.old next.new }
+    ensures taken { result ≡ true → MovesBy N t.now on (anew_fronts (range_op g) (range_start g) (V.formula start))
+        next.old next.new }
     ensures kept { result ≡ false → next.new ≡ next.old }
 {
     match g {
@@ -337,7 +343,8 @@ fn anew<const N: usize>(
     requires covered { IsCovered N t.now }
     requires next_packed { IsColumn N (count_in t.now.next_values) next.old }
     ensures packed { IsColumn N (count_in t.now.next_values) next.new }
-    ensures taken { result ≡ true → MovesBy N t.now on (anew_fronts (range_op g) (range_start g) (cell_start f)) next.old next.new }
+    ensures taken { result ≡ true → MovesBy N t.now on (anew_fronts (range_op g) (range_start g) (cell_start f))
+        next.old next.new }
     ensures kept { result ≡ false → next.new ≡ next.old }
 {
     match f {

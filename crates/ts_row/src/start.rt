@@ -49,8 +49,8 @@ fn packed_start<const N: usize>(regs: Regs) -> PackedHull<N>
     zeros.with(0, c).with(1, d).with(2, r)
 }
 
-/// The row of a cell with so many values at which runs start: the start registers in the start state, and nothing in the
-/// others. The memory of the row is used again.
+/// The row of a cell with so many values at which runs start: the start registers in the start state, and nothing in
+/// the others. The memory of the row is used again.
 pub fn start_row<const N: usize>(
     alloc: Global,
     a: &Automaton,

@@ -63,7 +63,8 @@ module _ {X : Type 0} (both : X → X → X) (nothing : X) (lanes : X → List �
   )
 
 -- what is given so far, by the first i of the values
-pub record IsGiven {X : Type 0} (lanes : X → List ℤ) (nothing : X) (n : ℕ) (m : Move) (l : Letter) (twin : Bool) (i : ℕ) (v : ℕ → ℤ) (before : List X) (w : ℤ) (all : X) : Type 0 where
+pub record IsGiven {X : Type 0} (lanes : X → List ℤ) (nothing : X) (n : ℕ) (m : Move) (l : Letter) (twin : Bool) (i : ℕ) (v : ℕ → ℤ) (before : List X) (w : ℤ)
+    (all : X) : Type 0 where
   pub packed : IsPacked n (lanes all)
   pub value : unpacked (lanes all) ≡ gives m l twin i v (hull_at lanes nothing before) w
 
@@ -77,9 +78,11 @@ unfolding gives total
 gives_more m l twin i v h w = refl
 
 -- the first j next hulls have taken in what is given to them
-pub record ArePaired {X : Type 0} (lanes : X → List ℤ) (nothing : X) (n : ℕ) (m : Move) (l : Letter) (twin : Bool) (count : ℕ) (v : ℕ → ℤ) (before : List X) (k : ℕ) (w : ℕ → ℤ) (j : ℕ) (old new : List X) : Type 0 where
+pub record ArePaired {X : Type 0} (lanes : X → List ℤ) (nothing : X) (n : ℕ) (m : Move) (l : Letter) (twin : Bool) (count : ℕ) (v : ℕ →
+    ℤ) (before : List X) (k : ℕ) (w : ℕ → ℤ) (j : ℕ) (old new : List X) : Type 0 where
   pub packed : ArePacked lanes nothing n k new
-  pub done : (i : ℕ) → i < j → hull_at lanes nothing new i ≡ hull_of_both (hull_at lanes nothing old i) (gives m l twin count v (hull_at lanes nothing before) (w i))
+  pub done : (i : ℕ) → i < j → hull_at lanes nothing new i ≡ hull_of_both (hull_at lanes nothing old i)
+      (gives m l twin count v (hull_at lanes nothing before) (w i))
   pub rest : (i : ℕ) → j ≤ i → get_or new i nothing ≡ get_or old i nothing
 
 before_or : (i j : ℕ) → i < suc j → (i < j) ⊎ (i ≡ j)
@@ -120,7 +123,8 @@ module _ {X : Type 0} (both : X → X → X) (nothing : X) (lanes : X → List �
       let gift = given.gift in
       let here = both (get_or new j nothing) gift in
       let long = so_far.packed.0 in
-      let joined = with_joined both nothing lanes n both_lanes none_lanes big (get_or new j nothing) gift here _ (so_far.packed.1 j inside) given.packed given.value refl in
+      let joined = with_joined both nothing lanes n both_lanes none_lanes big (get_or new j nothing) gift here _ (so_far.packed.1 j inside) given.packed
+      given.value refl in
       let here_is : get_or new' j nothing ≡ here =
       ap (λ z. get_or z j nothing) given.joined ∙ get_or-set_same new j here nothing (omega (arith, inside, long)) in
       let other : (i : ℕ) → (i ≡ j → ⊥) → get_or new' i nothing ≡ get_or new i nothing =
@@ -135,7 +139,8 @@ module _ {X : Type 0} (both : X → X → X) (nothing : X) (lanes : X → List �
         );
         done = λ i lt. elim (before_or i j (omega (arith, lt))) [
           | inl less ↦ ap (λ z. unpacked (lanes z)) (other i (λ e. omega (arith, e, less))) ∙ so_far.done i less
-          | inr same ↦ subst (λ z. hull_at lanes nothing new' z ≡ hull_of_both (hull_at lanes nothing old z) (gives m l twin count v (hull_at lanes nothing before) (w z)))
+          | inr same ↦ subst (λ z. hull_at lanes nothing new' z ≡ hull_of_both (hull_at lanes nothing old z)
+              (gives m l twin count v (hull_at lanes nothing before) (w z)))
               (sym same) (ap (λ z. unpacked (lanes z)) here_is ∙ joined.1
               ∙ ap (λ z. hull_of_both (unpacked (lanes z)) (gives m l twin count v (hull_at lanes nothing before) (w j))) (so_far.rest j (omega arith)))
         ];

@@ -83,7 +83,8 @@ module _ (fit closable : PackedHull 6 → Type 0) (front closing : PackedHull 6 
       IsTakenIn (λ y x. hull_of_both y (unpacked (lanes_six x))) none_six none_hull
       (λ j. closing (met_hull both_six none_six l twin front (column s q n before) value (next j)) (next j))
       (map (hull_in t r old) (range_with_len 0 k)) (map (hull_in t r new) (range_with_len 0 k)) → AreBeside r t k old new →
-      ((j : ℕ) → j < k → g j ≡ hull_total n (λ i. cond (compares l twin (value i) (next j)) (after_move m (hull_in s q before i) (value i) (next j)) none_hull)) →
+      ((j : ℕ) → j < k → g j
+      ≡ hull_total n (λ i. cond (compares l twin (value i) (next j)) (after_move m (hull_in s q before i) (value i) (next j)) none_hull)) →
       new ≡ puts t r (step_place l k) g old k
   row_is m l twin s q n r t k before old new value next g cut_is swept to leads long canonical small fits small_values small_next taken beside g_is =
       let ws : List ℤ = replicate k (pos 0) in

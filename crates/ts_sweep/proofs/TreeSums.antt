@@ -35,7 +35,8 @@ above_second x y k h =
       | inr below ↦ ap (λ a. lane_of (ext_plus a PosInf)) (upper_mid x k below)
     ])
 
-pub above_numbers : (x y : ℤ) → negsuc 9223372036854775806 <ℤ x → x <ℤ pos 9223372036854775807 → negsuc 9223372036854775806 <ℤ y → y <ℤ pos 9223372036854775807 → clamp (x +ℤ y) ≡ sum_above x y
+pub above_numbers : (x y : ℤ) → negsuc 9223372036854775806 <ℤ x → x <ℤ pos 9223372036854775807 → negsuc 9223372036854775806 <ℤ y →
+    y <ℤ pos 9223372036854775807 → clamp (x +ℤ y) ≡ sum_above x y
 above_numbers x y a b c d =
     sym (ap (λ e. lane_of (ext_plus e (upper y))) (upper_mid x a b) ∙ ap (λ e. lane_of (ext_plus (Int x) e)) (upper_mid y c d))
 
@@ -66,7 +67,8 @@ below_second x y k h =
 turned : (x y : ℤ) → clamp (x +ℤ y) ≡ neg_ℤ (clamp (neg_ℤ x +ℤ neg_ℤ y))
 turned x y = omega (arith, ints, clamps)
 
-pub below_numbers : (x y : ℤ) → negsuc 9223372036854775806 <ℤ x → x <ℤ pos 9223372036854775807 → negsuc 9223372036854775806 <ℤ y → y <ℤ pos 9223372036854775807 → clamp (x +ℤ y) ≡ sum_below x y
+pub below_numbers : (x y : ℤ) → negsuc 9223372036854775806 <ℤ x → x <ℤ pos 9223372036854775807 → negsuc 9223372036854775806 <ℤ y →
+    y <ℤ pos 9223372036854775807 → clamp (x +ℤ y) ≡ sum_below x y
 below_numbers x y a b c d =
     turned x y
     ∙ sym (ap (λ e. lane_of (negated (ext_plus (negated e) (negated (upper y))))) (upper_mid x a b)

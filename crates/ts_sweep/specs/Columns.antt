@@ -25,7 +25,8 @@ IsMoved lanes nothing m l twin n v before k w old new =
     ≡ hull_of_both (hull_at lanes nothing old j) (gives m l twin n v (hull_at lanes nothing before) (w j))
 
 -- the hull at a place of a column is joined with one that stands for h
-pub record IsGift {X : Type 0} (both : X → X → X) (lanes : X → List ℤ) (nothing : X) (n : ℕ) (h : Hull) (j : ℕ) (old new : List X) : Type 0 where
+pub record IsGift {X : Type 0} (both : X → X → X) (lanes : X → List ℤ) (nothing : X) (n : ℕ) (h : Hull) (j : ℕ)
+    (old new : List X) : Type 0 where
   pub gift : X
   pub packed : IsPacked n (lanes gift)
   pub value : unpacked (lanes gift) ≡ h

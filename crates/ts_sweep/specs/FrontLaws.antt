@@ -87,7 +87,8 @@ pub register_within : (k : ℕ) (xs : List ℤ) → IsFitRegister k true xs → 
 register_within k xs h = h.1 refl
 
 pub some_ends : (n k : ℕ) (xs : List ℤ) → 2 * k + 1 < n → AreSome n xs → IsSomeEnds (ends_at xs k)
-some_ends n k xs lt h = record { below = h.above (2 * k) (omega (arith, lt)); above = h.above (2 * k + 1) lt; some = h.some k lt }
+some_ends n k xs lt h =
+    record { below = h.above (2 * k) (omega (arith, lt)); above = h.above (2 * k + 1) lt; some = h.some k lt }
 
 pub register_packs : (n k : ℕ) (xs : List ℤ) (x : ℤ) → 6 ≤ n → AreSome n xs → IsFitRegister k false xs →
     IsPackOf (ends_at xs k) (span_in (Leaf (register_word k)) (unpacked xs) x (pos 0))
@@ -113,7 +114,8 @@ within_of x y le px py = (
   (omega (arith, ints, le, px), omega (arith, ints, py)),
 )
 
-plain_within : (x y : ℤ) → has_some (ends_span (ends x y)) ≡ true → x ≤ℤ pos 10000000000000000 → y ≤ℤ pos 10000000000000000 → AreWithin 1 (ends x y)
+plain_within : (x y : ℤ) → has_some (ends_span (ends x y)) ≡ true → x ≤ℤ pos 10000000000000000 →
+    y ≤ℤ pos 10000000000000000 → AreWithin 1 (ends x y)
 plain_within x y some px py = elim (low_or_not x) [
   | inl low ↦ never_added (sym some ∙ ap (λ a. ext_le (negated a) (upper y)) (upper_low x low) ∙ no_top y py)
   | inr ax ↦ elim (low_or_not y) [
@@ -126,7 +128,8 @@ plain_within x y some px py = elim (low_or_not x) [
   ]
 ]
 
-pub plain_register : (n k : ℕ) (cover xs : List ℤ) → 2 * k + 1 < n → AreSome n xs → IsUnder xs cover → ArePlain (ends_at cover k) → AreWithin 1 (ends_at xs k)
+pub plain_register : (n k : ℕ) (cover xs : List ℤ) → 2 * k + 1 < n → AreSome n xs → IsUnder xs cover →
+    ArePlain (ends_at cover k) → AreWithin 1 (ends_at xs k)
 plain_register n k cover xs lt h under plain =
     let a = under (2 * k) in
     let b = under (2 * k + 1) in
@@ -134,7 +137,8 @@ plain_register n k cover xs lt h under plain =
     let d = plain.1 in
     plain_within _ _ (h.some k lt) (omega (arith, ints, a, c)) (omega (arith, ints, b, d))
 
-pub register_fit : (k : ℕ) (added : Bool) (xs : List ℤ) → k ≤ 2 → (added ≡ true → AreWithin 1 (ends_at xs k)) → IsFitRegister k added xs
+pub register_fit : (k : ℕ) (added : Bool) (xs : List ℤ) → k ≤ 2 → (added ≡ true → AreWithin 1 (ends_at xs k)) →
+    IsFitRegister k added xs
 register_fit k added xs few small = (few, small)
 
 -- joins
@@ -158,12 +162,16 @@ pub join_within : (adds : Bool) (joined : Ends → Ends → Ends) (i j : ℕ) (F
 join_within adds joined i j FA FB a b within wa wb h =
     let few = h.0 in
     let same : i + j ≡ min (i + j) 255 = omega (arith, few) in
-    subst (λ k. AreWithin k (joined a b)) same (within i j a b (omega (arith, few)) (wa (omega (arith, few)) h.1) (wb (omega (arith, few)) h.2))
+    subst (λ k. AreWithin k (joined a b)) same (within i j a b (omega (arith, few)) (wa (omega (arith, few)) h.1)
+    (wb (omega (arith, few)) h.2))
 
-pub join_packs : (adds : Bool) (joined : Ends → Ends → Ends) (op : Op) (i j : ℕ) (FA FB : Bool → Type 0) (a b : Ends) (s t : Span) →
-    ((i j : ℕ) (a b : Ends) (s t : Span) → i + j ≤ 10 → (adds ≡ true → AreWithin i a × AreWithin j b) → IsPackOf a s → IsPackOf b t →
+pub join_packs : (adds : Bool) (joined : Ends → Ends → Ends) (op : Op) (i j : ℕ) (FA FB : Bool →
+    Type 0) (a b : Ends) (s t : Span) →
+    ((i j : ℕ) (a b : Ends) (s t : Span) → i + j ≤ 10 → (adds ≡ true → AreWithin i a × AreWithin j b) →
+    IsPackOf a s → IsPackOf b t →
     IsPackOf (joined a b) (by_ends (ext_op op) s t)) → (FA true → FA false) → (FB true → FB false) →
-    (i ≤ 9 → FA true → AreWithin i a) → (j ≤ 9 → FB true → AreWithin j b) → (FA false → IsPackOf a s) → (FB false → IsPackOf b t) →
+    (i ≤ 9 → FA true → AreWithin i a) → (j ≤ 9 → FB true → AreWithin j b) → (FA false → IsPackOf a s) →
+    (FB false → IsPackOf b t) →
     (i + j ≤ 9) × FA (false || adds) × FB (false || adds) → IsPackOf (joined a b) (by_ends (ext_op op) s t)
 join_packs adds joined op i j FA FB a b s t packs la lb wa wb pa pb h =
     let few = h.0 in

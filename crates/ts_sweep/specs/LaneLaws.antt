@@ -42,7 +42,8 @@ tail_least : (x : ℤ) (xs : List ℤ) → ((k : ℕ) → k < length (x ∷ xs) 
     (k : ℕ) → k < length xs → least ≤ℤ get_or xs k (pos 0)
 tail_least x xs h k lt = h (suc k) (omega arith)
 
-at_least : (xs : List ℤ) → ((k : ℕ) → k < length xs → least ≤ℤ get_or xs k (pos 0)) → greater_of (replicate (length xs) least) xs ≡ xs
+at_least : (xs : List ℤ) → ((k : ℕ) → k < length xs → least ≤ℤ get_or xs k (pos 0)) →
+    greater_of (replicate (length xs) least) xs ≡ xs
 unfolding greater_of
 at_least [] h = refl
 at_least (x ∷ xs) h = cons_same _ _ _ _ (max_least x (h 0 (omega arith))) (at_least xs (tail_least x xs h))

@@ -47,7 +47,8 @@ later : (xs ys : List ℤ) (a b c d e f : ℤ) (rest : List ℤ) (k : ℕ) →
     get_or (a ∷ b ∷ c ∷ d ∷ e ∷ f ∷ rest) (suc (suc (suc (suc (suc (suc k)))))) (pos 0) ≡ get_or rest k (pos 0)
 later xs ys a b c d e f rest k = refl
 
-three_above : (n : ℕ) (a b c d e f : ℤ) (rest : List ℤ) (x y z : Ends) → AreSome n (a ∷ b ∷ c ∷ d ∷ e ∷ f ∷ rest) → IsSomeEnds x → IsSomeEnds y → IsSomeEnds z →
+three_above : (n : ℕ) (a b c d e f : ℤ) (rest : List ℤ) (x y z : Ends) → AreSome n (a ∷ b ∷ c ∷ d ∷ e ∷ f ∷ rest) →
+    IsSomeEnds x → IsSomeEnds y → IsSomeEnds z →
     (k : ℕ) → k < n → least <ℤ get_or (x.below ∷ x.above ∷ y.below ∷ y.above ∷ z.below ∷ z.above ∷ rest) k (pos 0)
 three_above n a b c d e f rest x y z h p q s zero lt = p.below
 three_above n a b c d e f rest x y z h p q s (suc zero) lt = p.above
@@ -55,7 +56,8 @@ three_above n a b c d e f rest x y z h p q s (suc (suc zero)) lt = q.below
 three_above n a b c d e f rest x y z h p q s (suc (suc (suc zero))) lt = q.above
 three_above n a b c d e f rest x y z h p q s (suc (suc (suc (suc zero)))) lt = s.below
 three_above n a b c d e f rest x y z h p q s (suc (suc (suc (suc (suc zero))))) lt = s.above
-three_above n a b c d e f rest x y z h p q s (suc (suc (suc (suc (suc (suc k)))))) lt = h.above (suc (suc (suc (suc (suc (suc k)))))) lt
+three_above n a b c d e f rest x y z h p q s (suc (suc (suc (suc (suc (suc k)))))) lt =
+    h.above (suc (suc (suc (suc (suc (suc k)))))) lt
 
 rest_span : (a b c d e f : ℤ) (rest : List ℤ) (x y z : Ends) (k : ℕ) →
     register_span (x.below ∷ x.above ∷ y.below ∷ y.above ∷ z.below ∷ z.above ∷ rest) (suc (suc (suc k)))
@@ -70,8 +72,10 @@ rest_span a b c d e f rest x y z k =
     ∙ sym (ap (λ m. ends_span (ends (get_or old m (pos 0)) (get_or old (2 * suc (suc (suc k)) + 1) (pos 0)))) i
     ∙ ap (λ m. ends_span (ends (get_or rest (2 * k) (pos 0)) (get_or old m (pos 0)))) j)
 
-three_some : (n : ℕ) (a b c d e f : ℤ) (rest : List ℤ) (x y z : Ends) → AreSome n (a ∷ b ∷ c ∷ d ∷ e ∷ f ∷ rest) → IsSomeEnds x → IsSomeEnds y → IsSomeEnds z →
-    (r : ℕ) → 2 * r + 1 < n → has_some (register_span (x.below ∷ x.above ∷ y.below ∷ y.above ∷ z.below ∷ z.above ∷ rest) r) ≡ true
+three_some : (n : ℕ) (a b c d e f : ℤ) (rest : List ℤ) (x y z : Ends) → AreSome n (a ∷ b ∷ c ∷ d ∷ e ∷ f ∷ rest) →
+    IsSomeEnds x → IsSomeEnds y → IsSomeEnds z →
+    (r : ℕ) → 2 * r + 1 < n → has_some (register_span (x.below ∷ x.above ∷ y.below ∷ y.above ∷ z.below ∷ z.above
+    ∷ rest) r) ≡ true
 three_some n a b c d e f rest x y z h p q s zero lt = p.some
 three_some n a b c d e f rest x y z h p q s (suc zero) lt = q.some
 three_some n a b c d e f rest x y z h p q s (suc (suc zero)) lt = s.some
@@ -82,7 +86,8 @@ three_is : (a b c d e f : ℤ) (rest : List ℤ) (x y z : Ends) →
     three (a ∷ b ∷ c ∷ d ∷ e ∷ f ∷ rest) x y z ≡ x.below ∷ x.above ∷ y.below ∷ y.above ∷ z.below ∷ z.above ∷ rest
 three_is a b c d e f rest x y z = refl
 
-pub three_are_some : (n : ℕ) (xs : List ℤ) (x y z : Ends) → 6 ≤ n → AreSome n xs → IsSomeEnds x → IsSomeEnds y → IsSomeEnds z → AreSome n (three xs x y z)
+pub three_are_some : (n : ℕ) (xs : List ℤ) (x y z : Ends) → 6 ≤ n → AreSome n xs → IsSomeEnds x → IsSomeEnds y →
+    IsSomeEnds z → AreSome n (three xs x y z)
 three_are_some n xs x y z big h p q s =
     let e = h.len in
     let l = long xs (omega (arith, e, big)) in
@@ -103,15 +108,18 @@ three_second xs x y z big = let l = long xs big in subst (λ zs. ends_at (three 
 three_third : (xs : List ℤ) (x y z : Ends) → 6 ≤ length xs → ends_at (three xs x y z) 2 ≡ z
 three_third xs x y z big = let l = long xs big in subst (λ zs. ends_at (three zs x y z) 2 ≡ z) (sym l.is) refl
 
-pub three_unpacked : (n : ℕ) (xs : List ℤ) (x y z : Ends) → 6 ≤ n → AreSome n xs → unpacked (three xs x y z) ≡ hull_with (ends_span x) (ends_span y) (ends_span z)
+pub three_unpacked : (n : ℕ) (xs : List ℤ) (x y z : Ends) → 6 ≤ n → AreSome n xs → unpacked (three xs x y z)
+    ≡ hull_with (ends_span x) (ends_span y) (ends_span z)
 three_unpacked n xs x y z big h =
     let e = h.len in
     let long_enough : 6 ≤ length xs = omega (arith, e, big) in
-    same_hull _ _ _ _ _ _ (ap ends_span (three_first xs x y z long_enough)) (ap ends_span (three_second xs x y z long_enough))
+    same_hull _ _ _ _ _ _ (ap ends_span (three_first xs x y z long_enough))
+    (ap ends_span (three_second xs x y z long_enough))
     (ap ends_span (three_third xs x y z long_enough))
 
 -- lanes under a cover are fit where each part says so
-pub parts_fit : (n : ℕ) (C D R : List ℤ → Type 0) (xs : List ℤ) → 6 ≤ n → (AreSome n xs → C xs) → (AreSome n xs → D xs) → (AreSome n xs → R xs) →
+pub parts_fit : (n : ℕ) (C D R : List ℤ → Type 0) (xs : List ℤ) → 6 ≤ n → (AreSome n xs → C xs) →
+    (AreSome n xs → D xs) → (AreSome n xs → R xs) →
     IsPacked n xs → IsFitFor n C D R xs
 parts_fit n C D R xs big c d r (inl e) = inl e
 parts_fit n C D R xs big c d r (inr s) = inr (big, s, c s, d s, r s)
@@ -156,19 +164,24 @@ pub nothing_closing : (k : Cut) (n : ℕ) (w : ℤ) → 6 ≤ n → IsClosingOf 
 nothing_closing k n w big =
     (inl refl, none_unpacked n big ∙ sym (ap (λ h. closed_hull k h w) (none_unpacked n big) ∙ closed_hull_none k w))
 
-pub some_front : (k : Cut) (n : ℕ) (xs : List ℤ) (v : ℤ) (x y z : Ends) → 6 ≤ n → AreSome n xs → IsPackOf x (front_span k.c (unpacked xs) v) →
-    IsPackOf y (front_span k.d (unpacked xs) v) → IsPackOf z (front_span k.r (unpacked xs) v) → IsFrontOf k n xs v (three xs x y z)
+pub some_front : (k : Cut) (n : ℕ) (xs : List ℤ) (v : ℤ) (x y z : Ends) → 6 ≤ n → AreSome n xs →
+    IsPackOf x (front_span k.c (unpacked xs) v) →
+    IsPackOf y (front_span k.d (unpacked xs) v) → IsPackOf z (front_span k.r (unpacked xs) v) →
+    IsFrontOf k n xs v (three xs x y z)
 unfolding front_hull
 some_front k n xs v x y z big h p q s = (
   inr (three_are_some n xs x y z big h p.some q.some s.some),
   three_unpacked n xs x y z big h
       ∙ same_hull _ _ _ _ _ _ p.span q.span s.span
-      ∙ sym (ap (λ b. cond b (hull_with (front_span k.c (unpacked xs) v) (front_span k.d (unpacked xs) v) (front_span k.r (unpacked xs) v)) none_hull)
+      ∙ sym (ap (λ b. cond b (hull_with (front_span k.c (unpacked xs) v) (front_span k.d (unpacked xs) v)
+      (front_span k.r (unpacked xs) v)) none_hull)
       (some_unpacked n xs big h)),
 )
 
-pub some_closing : (k : Cut) (n : ℕ) (xs : List ℤ) (w : ℤ) (x y z : Ends) → 6 ≤ n → AreSome n xs → IsPackOf x (closed_span k.c (register_span xs 0) w) →
-    IsPackOf y (closed_span k.d (register_span xs 1) w) → IsPackOf z (closed_span k.r (register_span xs 2) w) → IsClosingOf k n xs w (three xs x y z)
+pub some_closing : (k : Cut) (n : ℕ) (xs : List ℤ) (w : ℤ) (x y z : Ends) → 6 ≤ n → AreSome n xs →
+    IsPackOf x (closed_span k.c (register_span xs 0) w) →
+    IsPackOf y (closed_span k.d (register_span xs 1) w) → IsPackOf z (closed_span k.r (register_span xs 2) w) →
+    IsClosingOf k n xs w (three xs x y z)
 unfolding closed_hull
 some_closing k n xs w x y z big h p q s = (
   inr (three_are_some n xs x y z big h p.some q.some s.some),
@@ -190,16 +203,21 @@ module _ {X : Type 0} (both : X → X → X) (lanes : X → List ℤ) (n : ℕ) 
   pub packed_both : (a b : X) → IsPacked n (lanes a) → IsPacked n (lanes b) → IsPacked n (lanes (both a b))
   packed_both a b p q = subst (IsPacked n) (sym (both_lanes a b)) (joined_packed n (lanes a) (lanes b) p q)
 
-  pub parts_both : (C D R : Ends → Type 0) → ((a b : Ends) → C a → C b → C (max_ends a b)) → ((a b : Ends) → D a → D b → D (max_ends a b)) →
-      ((a b : Ends) → R a → R b → R (max_ends a b)) → (a b : X) → IsClosableBy n C D R (lanes a) → IsClosableBy n C D R (lanes b) →
+  pub parts_both : (C D R : Ends → Type 0) → ((a b : Ends) → C a → C b → C (max_ends a b)) →
+      ((a b : Ends) → D a → D b → D (max_ends a b)) →
+      ((a b : Ends) → R a → R b → R (max_ends a b)) → (a b : X) → IsClosableBy n C D R (lanes a) →
+      IsClosableBy n C D R (lanes b) →
       IsClosableBy n C D R (lanes (both a b))
   parts_both C D R c d r a b p q = subst (IsClosableBy n C D R) (sym (both_lanes a b)) (go p q)
     where
-      go : IsClosableBy n C D R (lanes a) → IsClosableBy n C D R (lanes b) → IsClosableBy n C D R (greater_of (lanes a) (lanes b))
-      go (inl e) (inl f) = inl (ap (λ zs. greater_of zs (lanes b)) e ∙ ap (greater_of (no_lanes n)) f ∙ lanes_idempotent (no_lanes n))
+      go : IsClosableBy n C D R (lanes a) → IsClosableBy n C D R (lanes b) →
+          IsClosableBy n C D R (greater_of (lanes a) (lanes b))
+      go (inl e) (inl f) = inl (ap (λ zs. greater_of zs (lanes b)) e ∙ ap (greater_of (no_lanes n)) f
+          ∙ lanes_idempotent (no_lanes n))
       go (inl e) (inr q) =
           subst (IsClosableBy n C D R)
-          (sym (ap (λ zs. greater_of zs (lanes b)) e ∙ lanes_neutral n (lanes b) (some_lanes_are n (lanes b) q.1))) (inr q)
+          (sym (ap (λ zs. greater_of zs (lanes b)) e ∙ lanes_neutral n (lanes b) (some_lanes_are n (lanes b) q.1)))
+          (inr q)
       go (inr p) (inl f) =
           subst (IsClosableBy n C D R)
           (sym (lanes_commutative (lanes a) (lanes b) ∙ ap (λ zs. greater_of zs (lanes a)) f
@@ -222,11 +240,13 @@ module _ {X : Type 0} (lanes : X → List ℤ) (replaced : X → ℕ → Ends �
   pub all_lanes : (h : X) (c d r : Ends) → lanes (replaced_all replaced h c d r) ≡ three (lanes h) c d r
   all_lanes h c d r =
       replaced_lanes (replaced (replaced h 0 c) 1 d) 2 r
-      ∙ ap (λ zs. with_ends_at zs 2 r) (replaced_lanes (replaced h 0 c) 1 d ∙ ap (λ zs. with_ends_at zs 1 d) (replaced_lanes h 0 c))
+      ∙ ap (λ zs. with_ends_at zs 2 r) (replaced_lanes (replaced h 0 c) 1 d
+      ∙ ap (λ zs. with_ends_at zs 1 d) (replaced_lanes h 0 c))
 
   chosen_some : (h : X) (c d r : Ends) → 6 ≤ n → AreSome n (lanes h) →
       lanes (cond (some_lanes (lanes h)) (replaced_all replaced h c d r) none) ≡ three (lanes h) c d r
-  chosen_some h c d r big s = ap (λ b. lanes (cond b (replaced_all replaced h c d r) none)) (first_is n (lanes h) big s) ∙ all_lanes h c d r
+  chosen_some h c d r big s = ap (λ b. lanes (cond b (replaced_all replaced h c d r) none)) (first_is n (lanes h) big s)
+      ∙ all_lanes h c d r
 
   chosen_none : (h : X) (x : X) → lanes h ≡ no_lanes n → lanes (cond (some_lanes (lanes h)) x none) ≡ no_lanes n
   chosen_none h x e = ap (λ b. lanes (cond b x none)) (ap some_lanes e ∙ none_is n) ∙ none_lanes
@@ -240,19 +260,24 @@ module _ {X : Type 0} (lanes : X → List ℤ) (replaced : X → ℕ → Ends �
       (lanes (cond (some_lanes (lanes h)) (replaced_all replaced h (c (lanes h)) (d (lanes h)) (r (lanes h))) none))
   parts_front_is FC FD FR sc sd sr c d r v pc pd pr h big (inl e) =
       subst (IsFrontOf (record { c = sc; d = sd; r = sr }) n (lanes h) v) (sym (chosen_none h _ e))
-      (subst (λ zs. IsFrontOf (record { c = sc; d = sd; r = sr }) n zs v (no_lanes n)) (sym e) (nothing_front (record { c = sc; d = sd; r = sr }) n v big))
+      (subst (λ zs. IsFrontOf (record { c = sc; d = sd; r = sr }) n zs v (no_lanes n)) (sym e)
+      (nothing_front (record { c = sc; d = sd; r = sr }) n v big))
   parts_front_is FC FD FR sc sd sr c d r v pc pd pr h big (inr p) =
-      subst (IsFrontOf (record { c = sc; d = sd; r = sr }) n (lanes h) v) (sym (chosen_some h (c (lanes h)) (d (lanes h)) (r (lanes h)) big p.1))
-      (some_front (record { c = sc; d = sd; r = sr }) n (lanes h) v (c (lanes h)) (d (lanes h)) (r (lanes h)) big p.1 (pc (lanes h) big p.1 p.2)
+      subst (IsFrontOf (record { c = sc; d = sd; r = sr }) n (lanes h) v)
+      (sym (chosen_some h (c (lanes h)) (d (lanes h)) (r (lanes h)) big p.1))
+      (some_front (record { c = sc; d = sd; r = sr }) n (lanes h) v (c (lanes h)) (d (lanes h)) (r (lanes h)) big p.1
+      (pc (lanes h) big p.1 p.2)
       (pd (lanes h) big p.1 p.3) (pr (lanes h) big p.1 p.4))
 
-  pub parts_front : (FC FD FR : List ℤ → Type 0) (CC CD CR : Ends → Type 0) (sc sd sr : Split) (c d r : List ℤ → Ends) (v : ℤ) →
+  pub parts_front : (FC FD FR : List ℤ → Type 0) (CC CD CR : Ends → Type 0) (sc sd sr : Split)
+      (c d r : List ℤ → Ends) (v : ℤ) →
       ((xs : List ℤ) → FC xs → CC (c xs)) → ((xs : List ℤ) → FD xs → CD (d xs)) → ((xs : List ℤ) → FR xs → CR (r xs)) →
       ((xs : List ℤ) → 6 ≤ n → AreSome n xs → FC xs → IsPackOf (c xs) (front_span sc (unpacked xs) v)) →
       ((xs : List ℤ) → 6 ≤ n → AreSome n xs → FD xs → IsPackOf (d xs) (front_span sd (unpacked xs) v)) →
       ((xs : List ℤ) → 6 ≤ n → AreSome n xs → FR xs → IsPackOf (r xs) (front_span sr (unpacked xs) v)) →
       (h : X) → IsFitFor n FC FD FR (lanes h) →
-      IsClosableBy n CC CD CR (lanes (cond (some_lanes (lanes h)) (replaced_all replaced h (c (lanes h)) (d (lanes h)) (r (lanes h))) none))
+      IsClosableBy n CC CD CR
+      (lanes (cond (some_lanes (lanes h)) (replaced_all replaced h (c (lanes h)) (d (lanes h)) (r (lanes h))) none))
   parts_front FC FD FR CC CD CR sc sd sr c d r v kc kd kr pc pd pr h (inl e) = inl (chosen_none h _ e)
   parts_front FC FD FR CC CD CR sc sd sr c d r v kc kd kr pc pd pr h (inr p) =
       let big = p.0 in
@@ -262,7 +287,8 @@ module _ {X : Type 0} (lanes : X → List ℤ) (replaced : X → ℕ → Ends �
       subst (IsClosableBy n CC CD CR) (sym (chosen_some h (c xs) (d xs) (r xs) big p.1))
       (inr (
         big,
-        three_are_some n xs (c xs) (d xs) (r xs) big p.1 (pc xs big p.1 p.2).some (pd xs big p.1 p.3).some (pr xs big p.1 p.4).some,
+        three_are_some n xs (c xs) (d xs) (r xs) big p.1 (pc xs big p.1 p.2).some (pd xs big p.1 p.3).some
+            (pr xs big p.1 p.4).some,
         subst CC (sym (three_first xs (c xs) (d xs) (r xs) enough)) (kc xs p.2),
         subst CD (sym (three_second xs (c xs) (d xs) (r xs) enough)) (kd xs p.3),
         subst CR (sym (three_third xs (c xs) (d xs) (r xs) enough)) (kr xs p.4),
@@ -285,7 +311,8 @@ module _ {X : Type 0} (lanes : X → List ℤ) (replaced : X → ℕ → Ends �
       (tr ≡ false → (s : Span) → closed_span sr s w ≡ s) →
       (h : X) → 6 ≤ n → IsClosableBy n CC CD CR (lanes h) →
       IsClosingOf (record { c = sc; d = sd; r = sr }) n (lanes h) w
-      (lanes (cond (tc || (td || tr)) (cond (some_lanes (lanes h)) (replaced_all replaced h (c (ends_at (lanes h) 0)) (d (ends_at (lanes h) 1))
+      (lanes (cond (tc || (td || tr)) (cond (some_lanes (lanes h)) (replaced_all replaced h (c (ends_at (lanes h) 0))
+      (d (ends_at (lanes h) 1))
       (r (ends_at (lanes h) 2))) none) h))
   unfolding closed_hull
   parts_closing_is CC CD CR sc sd sr tc td tr c d r w pc pd pr nc nd nr h big can = go (tc || (td || tr)) refl can
@@ -299,11 +326,14 @@ module _ {X : Type 0} (lanes : X → List ℤ) (replaced : X → ℕ → Ends �
       new : X
       new = replaced_all replaced h (c (ends_at xs 0)) (d (ends_at xs 1)) (r (ends_at xs 2))
 
-      go : (t : Bool) → (tc || (td || tr)) ≡ t → IsClosableBy n CC CD CR xs → IsClosingOf k n xs w (lanes (cond t (cond (some_lanes xs) new none) h))
+      go : (t : Bool) → (tc || (td || tr)) ≡ t → IsClosableBy n CC CD CR xs →
+          IsClosingOf k n xs w (lanes (cond t (cond (some_lanes xs) new none) h))
       go true e (inl f) =
-          subst (IsClosingOf k n xs w) (sym (chosen_none h new f)) (subst (λ zs. IsClosingOf k n zs w (no_lanes n)) (sym f) (nothing_closing k n w big))
+          subst (IsClosingOf k n xs w) (sym (chosen_none h new f)) (subst (λ zs. IsClosingOf k n zs w (no_lanes n))
+          (sym f) (nothing_closing k n w big))
       go true e (inr p) =
-          subst (IsClosingOf k n xs w) (sym (chosen_some h (c (ends_at xs 0)) (d (ends_at xs 1)) (r (ends_at xs 2)) big p.1))
+          subst (IsClosingOf k n xs w)
+          (sym (chosen_some h (c (ends_at xs 0)) (d (ends_at xs 1)) (r (ends_at xs 2)) big p.1))
           (some_closing k n xs w (c (ends_at xs 0)) (d (ends_at xs 1)) (r (ends_at xs 2)) big p.1
           (pc (ends_at xs 0) (register_span xs 0) (register_pack xs 0 (omega (arith, big)) p.1) p.2)
           (pd (ends_at xs 1) (register_span xs 1) (register_pack xs 1 (omega (arith, big)) p.1) p.3)
@@ -313,5 +343,6 @@ module _ {X : Type 0} (lanes : X → List ℤ) (replaced : X → ℕ → Ends �
       go false e (inr p) =
           let none_of = or_false tc td tr e in (
             inr p.1,
-            sym (same_hull _ _ _ _ _ _ (nc none_of.0 (register_span xs 0)) (nd none_of.1 (register_span xs 1)) (nr none_of.2 (register_span xs 2))),
+            sym (same_hull _ _ _ _ _ _ (nc none_of.0 (register_span xs 0)) (nd none_of.1 (register_span xs 1))
+                (nr none_of.2 (register_span xs 2))),
           )

@@ -30,4 +30,5 @@ IsFitFor n FC FD FR xs = (xs ≡ no_lanes n) ⊎ ((6 ≤ n) × AreSome n xs × F
 
 -- nothing, or lanes in which registers lie that each part may close
 abbrev pub IsClosableBy : ℕ → (Ends → Type 0) → (Ends → Type 0) → (Ends → Type 0) → List ℤ → Type 0
-IsClosableBy n CC CD CR xs = (xs ≡ no_lanes n) ⊎ ((6 ≤ n) × AreSome n xs × CC (ends_at xs 0) × CD (ends_at xs 1) × CR (ends_at xs 2))
+IsClosableBy n CC CD CR xs = (xs ≡ no_lanes n) ⊎ ((6 ≤ n) × AreSome n xs × CC (ends_at xs 0) × CD (ends_at xs 1)
+    × CR (ends_at xs 2))

@@ -30,7 +30,8 @@ upper_within i x few h =
     upper_mid x (omega (arith, ints, few, low, high)) (omega (arith, ints, few, low, high))
 
 -- small ends stand for numbers
-pub within_span : (i : ℕ) (a : Ends) → i ≤ 10 → AreWithin i a → ends_span a ≡ span_from (Int (neg_ℤ a.below)) (Int a.above)
+pub within_span : (i : ℕ) (a : Ends) → i ≤ 10 → AreWithin i a →
+    ends_span a ≡ span_from (Int (neg_ℤ a.below)) (Int a.above)
 within_span i a few h =
     both_ends _ _ _ _ (ap negated (upper_within i a.below few h.0)) (upper_within i a.above few h.1)
 
@@ -55,15 +56,19 @@ least_sized i x few h = let low = h.0 in omega (arith, ints)
 some_of : (a : Ends) (s : Span) → IsPackOf a s → has_some s ≡ true
 some_of a s p = ap has_some (sym p.span) ∙ p.some.some
 
-pub sum_packs : (i j : ℕ) (a b : Ends) (s t : Span) → i + j ≤ 10 → (true ≡ true → AreWithin i a × AreWithin j b) → IsPackOf a s → IsPackOf b t →
+pub sum_packs : (i j : ℕ) (a b : Ends) (s t : Span) → i + j ≤ 10 → (true ≡ true → AreWithin i a × AreWithin j b) →
+    IsPackOf a s → IsPackOf b t →
     IsPackOf (sum_of_ends a b) (by_ends (ext_op Add) s t)
 sum_packs i j a b s t few small p q =
     let w = small refl in
     let sum = sum_within i j a b w.0 w.1 in
-    let si : s ≡ span_from (Int (neg_ℤ a.below)) (Int a.above) = sym p.span ∙ within_span i a (omega (arith, few)) w.0 in
-    let ti : t ≡ span_from (Int (neg_ℤ b.below)) (Int b.above) = sym q.span ∙ within_span j b (omega (arith, few)) w.1 in
+    let si : s ≡ span_from (Int (neg_ℤ a.below)) (Int a.above) = sym p.span
+    ∙ within_span i a (omega (arith, few)) w.0 in
+    let ti : t ≡ span_from (Int (neg_ℤ b.below)) (Int b.above) = sym q.span
+    ∙ within_span j b (omega (arith, few)) w.1 in
     let low : clamp (neg_ℤ a.below +ℤ neg_ℤ b.below) ≡ neg_ℤ (a.below +ℤ b.below) =
-    clamp_same (i + j) (neg_ℤ a.below +ℤ neg_ℤ b.below) few (sum_sized i j _ _ (neg_sized i a.below w.0.0) (neg_sized j b.below w.1.0))
+    clamp_same (i + j) (neg_ℤ a.below +ℤ neg_ℤ b.below) few (sum_sized i j _ _ (neg_sized i a.below w.0.0)
+    (neg_sized j b.below w.1.0))
     ∙ sym (neg_sum a.below b.below) in
     let high : clamp (a.above +ℤ b.above) ≡ (a.above +ℤ b.above) = clamp_same (i + j) (a.above +ℤ b.above) few sum.1 in
     let is : ends_span (sum_of_ends a b) ≡ by_ends (ext_op Add) s t =
@@ -87,7 +92,8 @@ min_above x y h k = grind (arith, ints)
 max_above : (x y : ℤ) → least <ℤ x → least <ℤ int_max x y
 max_above x y h = grind (arith, ints)
 
-pub greater_packs : (a b : Ends) (s t : Span) → IsPackOf a s → IsPackOf b t → IsPackOf (greater_of_ends a b) (by_ends (ext_op Max) s t)
+pub greater_packs : (a b : Ends) (s t : Span) → IsPackOf a s → IsPackOf b t →
+    IsPackOf (greater_of_ends a b) (by_ends (ext_op Max) s t)
 greater_packs a b s t p q =
     let is : ends_span (greater_of_ends a b) ≡ by_ends (ext_op Max) s t =
     both_ends _ _ _ _ (lower_min a.below b.below) (upper_max a.above b.above)
@@ -103,7 +109,8 @@ greater_packs a b s t p q =
       span = is;
     }
 
-pub lesser_packs : (a b : Ends) (s t : Span) → IsPackOf a s → IsPackOf b t → IsPackOf (lesser_of_ends a b) (by_ends (ext_op Min) s t)
+pub lesser_packs : (a b : Ends) (s t : Span) → IsPackOf a s → IsPackOf b t →
+    IsPackOf (lesser_of_ends a b) (by_ends (ext_op Min) s t)
 lesser_packs a b s t p q =
     let is : ends_span (lesser_of_ends a b) ≡ by_ends (ext_op Min) s t =
     both_ends _ _ _ _ (lower_max a.below b.below) (upper_min a.above b.above)

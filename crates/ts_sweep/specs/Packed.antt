@@ -11,7 +11,8 @@ use Rattle.ts_sweep.specs.Lanes.{least, no_lanes}
 
 -- a lane as an upper end: the greatest number stands for +∞, the greatest negated for -∞, as does nothing
 abbrev pub upper : ℤ → Ext
-upper x = if int_le x (negsuc 9223372036854775806) then NegInf else if int_le (pos 9223372036854775807) x then PosInf else Int x
+upper x = if int_le x (negsuc 9223372036854775806) then NegInf else if int_le (pos 9223372036854775807) x then
+    PosInf else Int x
 
 abbrev pub negated : Ext → Ext
 negated NegInf = PosInf
@@ -65,7 +66,8 @@ IsPacked n xs = (xs ≡ no_lanes n) ⊎ AreSome n xs
 
 -- so many hulls, each packed
 abbrev pub ArePacked : {X : Type 0} → (X → List ℤ) → X → ℕ → ℕ → List X → Type 0
-ArePacked lanes none n count hulls = (length hulls ≡ count) × ((i : ℕ) → i < count → IsPacked n (lanes (get_or hulls i none)))
+ArePacked lanes none n count hulls = (length hulls ≡ count) × ((i : ℕ) → i < count →
+    IsPacked n (lanes (get_or hulls i none)))
 
 -- registers lie between ends that stand for a span
 pub record IsPackOf (e : Ends) (s : Span) : Type 0 where

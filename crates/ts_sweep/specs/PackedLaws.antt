@@ -46,13 +46,15 @@ hull_ends s t (inl p) (inl q) =
     sym (ap (λ b. cond b (cond (has_some t) ends s) (cond (has_some t) t none_span)) p ∙ ap (λ b. cond b ends s) q)
 hull_ends s t (inl p) (inr q) =
     subst (λ u. span_with (ext_min s.lo u.lo) (ext_max s.hi u.hi) ≡ span_hull s u) (sym q)
-    (ap (λ e. span_with e (ext_max s.hi NegInf)) (top_min s.lo) ∙ ap (span_with s.lo) (max_bottom s.hi) ∙ sym (ap (λ b. cond b s none_span) p))
+    (ap (λ e. span_with e (ext_max s.hi NegInf)) (top_min s.lo) ∙ ap (span_with s.lo) (max_bottom s.hi)
+    ∙ sym (ap (λ b. cond b s none_span) p))
 hull_ends s t (inr p) (inl q) =
     subst (λ u. span_with (ext_min u.lo t.lo) (ext_max u.hi t.hi) ≡ span_hull u t) (sym p)
     (ap (λ e. span_with e t.hi) (min_top t.lo) ∙ sym (ap (λ b. cond b t none_span) q))
 hull_ends s t (inr p) (inr q) =
     subst (λ u. span_with (ext_min u.lo t.lo) (ext_max u.hi t.hi) ≡ span_hull u t) (sym p)
-    (subst (λ u. span_with (ext_min none_span.lo u.lo) (ext_max none_span.hi u.hi) ≡ span_hull none_span u) (sym q) refl)
+    (subst (λ u. span_with (ext_min none_span.lo u.lo) (ext_max none_span.hi u.hi)
+    ≡ span_hull none_span u) (sym q) refl)
 
 none_pair : (x y : ℤ) → x ≡ least → y ≡ least → span_of x y ≡ none_span
 none_pair x y p q = ap (λ z. span_of z y) p ∙ ap (span_of least) q
@@ -61,7 +63,8 @@ span_is : (x y : ℤ) → IsPair x y → (has_some (span_of x y) ≡ true) ⊎ (
 span_is x y (inl p) = inl p.1
 span_is x y (inr p) = inr (none_pair x y p.0 p.1)
 
-span_max : (x y z w : ℤ) → IsPair x y → IsPair z w → span_of (int_max x z) (int_max y w) ≡ span_hull (span_of x y) (span_of z w)
+span_max : (x y z w : ℤ) → IsPair x y → IsPair z w → span_of (int_max x z) (int_max y w)
+    ≡ span_hull (span_of x y) (span_of z w)
 span_max x y z w p q =
     ap (λ a. span_with a (upper (int_max y w))) (lower_max x z)
     ∙ ap (span_with (ext_min (negated (upper x)) (negated (upper z)))) (upper_max y w)
@@ -107,12 +110,16 @@ pair_max x y z w (inr p) (inl q) =
           ∙ holds_some (negated (upper z)) (upper w) q.1 (negated (upper x)) (upper y),
     )
 pair_max x y z w (inr p) (inr q) =
-    inr
-    (ap (λ u. int_max u z) p.0 ∙ ap (int_max least) q.0 ∙ max_same least, ap (λ u. int_max u w) p.1 ∙ ap (int_max least) q.1 ∙ max_same least)
+    inr (
+      ap (λ u. int_max u z) p.0 ∙ ap (int_max least) q.0 ∙ max_same least,
+      ap (λ u. int_max u w) p.1
+          ∙ ap (int_max least) q.1 ∙ max_same least,
+    )
 
 -- places
 
-get_greater : (xs ys : List ℤ) (k : ℕ) → k < length xs → k < length ys → get_or (greater_of xs ys) k (pos 0) ≡ int_max (get_or xs k (pos 0)) (get_or ys k (pos 0))
+get_greater : (xs ys : List ℤ) (k : ℕ) → k < length xs → k < length ys → get_or (greater_of xs ys) k (pos 0)
+    ≡ int_max (get_or xs k (pos 0)) (get_or ys k (pos 0))
 unfolding greater_of
 get_greater [] ys k p q = absurd (omega (arith, p))
 get_greater (x ∷ xs) [] k p q = absurd (omega (arith, q))
@@ -134,7 +141,11 @@ least_is : (x : ℤ) → least <ℤ x → least ≤ℤ x
 least_is x h = grind (arith, ints)
 
 pub some_lanes_are : (n : ℕ) (xs : List ℤ) → AreSome n xs → AreLanes n xs
-some_lanes_are n xs h = (h.len, λ k lt. (let inside : k < n = let e = h.len in omega (arith, lt, e) in least_is (get_or xs k (pos 0)) (h.above k inside)))
+some_lanes_are n xs h = (
+  h.len,
+  λ k lt. (let inside : k < n = let e = h.len in omega (arith, lt, e) in
+      least_is (get_or xs k (pos 0)) (h.above k inside)),
+)
 
 same_ends : (a b c d : ℤ) → a ≡ b → c ≡ d → ends a c ≡ ends b d
 same_ends a b c d p q = ap (λ u. ends u c) p ∙ ap (ends b) q
@@ -146,7 +157,8 @@ greater_ends n xs ys r p q lt =
     (get_greater xs ys (2 * r + 1) (omega (arith, p, lt)) (omega (arith, q, lt)))
 
 -- a register of lanes in which registers lie
-pair_at : (n : ℕ) (xs : List ℤ) (r : ℕ) → AreSome n xs → 2 * r + 1 < n → IsPair (get_or xs (2 * r) (pos 0)) (get_or xs (2 * r + 1) (pos 0))
+pair_at : (n : ℕ) (xs : List ℤ) (r : ℕ) → AreSome n xs → 2 * r + 1 < n →
+    IsPair (get_or xs (2 * r) (pos 0)) (get_or xs (2 * r + 1) (pos 0))
 pair_at n xs r h lt = inl (h.above (2 * r) (omega (arith, lt)), h.some r lt)
 
 register_greater : (n : ℕ) (xs ys : List ℤ) (r : ℕ) → AreSome n xs → AreSome n ys → 2 * r + 1 < n →
@@ -154,7 +166,8 @@ register_greater : (n : ℕ) (xs ys : List ℤ) (r : ℕ) → AreSome n xs → A
 register_greater n xs ys r p q lt =
     ap ends_span (greater_ends n xs ys r p.len q.len lt) ∙ span_max _ _ _ _ (pair_at n xs r p lt) (pair_at n ys r q lt)
 
-some_pair : (x y z w : ℤ) → IsPair x y → IsPair z w → has_some (span_of x y) ≡ true → has_some (span_of (int_max x z) (int_max y w)) ≡ true
+some_pair : (x y z w : ℤ) → IsPair x y → IsPair z w → has_some (span_of x y) ≡ true →
+    has_some (span_of (int_max x z) (int_max y w)) ≡ true
 some_pair x y z w p q h =
     ap has_some (span_max x y z w p q)
     ∙ sym (ap has_some (hull_ends (span_of x y) (span_of z w) (inl h) (span_is z w q)))
@@ -172,11 +185,13 @@ some_greater n xs ys p q =
     }
 
 pub none_register : (n r : ℕ) → 2 * r + 1 < n → register_span (no_lanes n) r ≡ none_span
-none_register n r lt = none_pair _ _ (get_none n (2 * r) (omega (arith, lt))) (get_none n (2 * r + 1) (omega (arith, lt)))
+none_register n r lt =
+    none_pair _ _ (get_none n (2 * r) (omega (arith, lt))) (get_none n (2 * r + 1) (omega (arith, lt)))
 
 pub none_unpacked : (n : ℕ) → 6 ≤ n → unpacked (no_lanes n) ≡ none_hull
 none_unpacked n h =
-    same_hull _ _ _ _ _ _ (none_register n 0 (omega (arith, h))) (none_register n 1 (omega (arith, h))) (none_register n 2 (omega (arith, h)))
+    same_hull _ _ _ _ _ _ (none_register n 0 (omega (arith, h))) (none_register n 1 (omega (arith, h)))
+    (none_register n 2 (omega (arith, h)))
 
 -- beside none
 hull_none : (s : Span) → has_some s ≡ true → span_hull s none_span ≡ s
@@ -188,31 +203,37 @@ none_hull_of s h = ap (λ b. cond b s none_span) h
 hulls_none : (n : ℕ) (xs : List ℤ) → 6 ≤ n → AreSome n xs → hull_of_both (unpacked xs) none_hull ≡ unpacked xs
 unfolding hull_of_both
 hulls_none n xs big h =
-    same_hull _ _ _ _ _ _ (hull_none (register_span xs 0) (h.some 0 (omega (arith, big)))) (hull_none (register_span xs 1) (h.some 1 (omega (arith, big))))
+    same_hull _ _ _ _ _ _ (hull_none (register_span xs 0) (h.some 0 (omega (arith, big))))
+    (hull_none (register_span xs 1) (h.some 1 (omega (arith, big))))
     (hull_none (register_span xs 2) (h.some 2 (omega (arith, big))))
 
 none_hulls : (n : ℕ) (xs : List ℤ) → 6 ≤ n → AreSome n xs → hull_of_both none_hull (unpacked xs) ≡ unpacked xs
 unfolding hull_of_both
 none_hulls n xs big h =
-    same_hull _ _ _ _ _ _ (none_hull_of (register_span xs 0) (h.some 0 (omega (arith, big)))) (none_hull_of (register_span xs 1) (h.some 1 (omega (arith, big))))
+    same_hull _ _ _ _ _ _ (none_hull_of (register_span xs 0) (h.some 0 (omega (arith, big))))
+    (none_hull_of (register_span xs 1) (h.some 1 (omega (arith, big))))
     (none_hull_of (register_span xs 2) (h.some 2 (omega (arith, big))))
 
 none_both : hull_of_both none_hull none_hull ≡ none_hull
 unfolding hull_of_both
 none_both = refl
 
-pub packed_takes_none : (n : ℕ) (xs : List ℤ) → 6 ≤ n → IsPacked n xs → hull_of_both (unpacked xs) none_hull ≡ unpacked xs
+pub packed_takes_none : (n : ℕ) (xs : List ℤ) → 6 ≤ n → IsPacked n xs →
+    hull_of_both (unpacked xs) none_hull ≡ unpacked xs
 packed_takes_none n xs big (inl e) =
     subst (λ zs. hull_of_both (unpacked zs) none_hull ≡ unpacked zs) (sym e)
     (ap (λ h. hull_of_both h none_hull) (none_unpacked n big) ∙ none_both ∙ sym (none_unpacked n big))
 packed_takes_none n xs big (inr h) = hulls_none n xs big h
 
 pub joined_packed : (n : ℕ) (xs ys : List ℤ) → IsPacked n xs → IsPacked n ys → IsPacked n (greater_of xs ys)
-joined_packed n xs ys (inl e) (inl f) = inl (ap (λ zs. greater_of zs ys) e ∙ ap (greater_of (no_lanes n)) f ∙ lanes_idempotent (no_lanes n))
+joined_packed n xs ys (inl e) (inl f) = inl (ap (λ zs. greater_of zs ys) e ∙ ap (greater_of (no_lanes n)) f
+    ∙ lanes_idempotent (no_lanes n))
 joined_packed n xs ys (inl e) (inr q) =
-    inr (subst (λ zs. AreSome n zs) (sym (ap (λ zs. greater_of zs ys) e ∙ lanes_neutral n ys (some_lanes_are n ys q))) q)
+    inr (subst (λ zs. AreSome n zs) (sym (ap (λ zs. greater_of zs ys) e
+    ∙ lanes_neutral n ys (some_lanes_are n ys q))) q)
 joined_packed n xs ys (inr p) (inl f) =
-    inr (subst (λ zs. AreSome n zs) (sym (lanes_commutative xs ys ∙ ap (λ zs. greater_of zs xs) f ∙ lanes_neutral n xs (some_lanes_are n xs p))) p)
+    inr (subst (λ zs. AreSome n zs) (sym (lanes_commutative xs ys ∙ ap (λ zs. greater_of zs xs) f
+    ∙ lanes_neutral n xs (some_lanes_are n xs p))) p)
 joined_packed n xs ys (inr p) (inr q) = inr (some_greater n xs ys p q)
 
 -- nothing joined to packed lanes changes nothing
@@ -225,11 +246,14 @@ packed_length n xs (inl e) = ap length e ∙ length-replicate n least
 packed_length n xs (inr h) = h.len
 
 -- the join stands for the hull of both
-pub joined_is : (n : ℕ) (xs ys : List ℤ) → 6 ≤ n → IsPacked n xs → IsPacked n ys → unpacked (greater_of xs ys) ≡ hull_of_both (unpacked xs) (unpacked ys)
+pub joined_is : (n : ℕ) (xs ys : List ℤ) → 6 ≤ n → IsPacked n xs → IsPacked n ys → unpacked (greater_of xs ys)
+    ≡ hull_of_both (unpacked xs) (unpacked ys)
 unfolding hull_of_both
 joined_is n xs ys big (inl e) (inl f) =
-    ap (λ zs. unpacked (greater_of zs ys)) e ∙ ap (λ zs. unpacked (greater_of (no_lanes n) zs)) f ∙ ap unpacked (lanes_idempotent (no_lanes n))
-    ∙ none_unpacked n big ∙ sym none_both ∙ sym (ap (λ h. hull_of_both h none_hull) (ap unpacked e ∙ none_unpacked n big))
+    ap (λ zs. unpacked (greater_of zs ys)) e ∙ ap (λ zs. unpacked (greater_of (no_lanes n) zs)) f
+    ∙ ap unpacked (lanes_idempotent (no_lanes n))
+    ∙ none_unpacked n big ∙ sym none_both
+    ∙ sym (ap (λ h. hull_of_both h none_hull) (ap unpacked e ∙ none_unpacked n big))
     ∙ sym (ap (hull_of_both (unpacked xs)) (ap unpacked f ∙ none_unpacked n big))
 joined_is n xs ys big (inl e) (inr q) =
     ap (λ zs. unpacked (greater_of zs ys)) e ∙ ap unpacked (lanes_neutral n ys (some_lanes_are n ys q))
@@ -238,7 +262,8 @@ joined_is n xs ys big (inr p) (inl f) =
     ap unpacked (lanes_commutative xs ys ∙ ap (λ zs. greater_of zs xs) f ∙ lanes_neutral n xs (some_lanes_are n xs p))
     ∙ sym (hulls_none n xs big p) ∙ sym (ap (hull_of_both (unpacked xs)) (ap unpacked f ∙ none_unpacked n big))
 joined_is n xs ys big (inr p) (inr q) =
-    same_hull _ _ _ _ _ _ (register_greater n xs ys 0 p q (omega (arith, big))) (register_greater n xs ys 1 p q (omega (arith, big)))
+    same_hull _ _ _ _ _ _ (register_greater n xs ys 0 p q (omega (arith, big)))
+    (register_greater n xs ys 1 p q (omega (arith, big)))
     (register_greater n xs ys 2 p q (omega (arith, big)))
 
 -- lanes that change nothing where they are joined to a cover are under it
@@ -257,7 +282,8 @@ max_at_most x y h = grind (arith, ints)
 same_at_most : (x y : ℤ) → y ≡ x → y ≤ℤ x
 same_at_most x y h = omega (arith, ints, h)
 
-pub covered_is_under : (n : ℕ) (cover xs : List ℤ) → length cover ≡ n → length xs ≡ n → greater_of cover xs ≡ cover → IsUnder xs cover
+pub covered_is_under : (n : ℕ) (cover xs : List ℤ) → length cover ≡ n → length xs ≡ n → greater_of cover xs ≡ cover →
+    IsUnder xs cover
 covered_is_under n cover xs p q e k = elim (inside_or k n) [
   | inl lt ↦ max_at_most (get_or cover k (pos 0)) (get_or xs k (pos 0))
       (sym (get_greater cover xs k (omega (arith, p, lt)) (omega (arith, q, lt))) ∙ ap (λ zs. get_or zs k (pos 0)) e)

@@ -13,13 +13,15 @@ use Rattle.ts_sweep.specs.Trees.{lane_of}
 abbrev pub lanes_of : Hull → List ℤ
 lanes_of h =
     cond (some_hull h)
-    (lane_of (negated h.c.lo) ∷ lane_of h.c.hi ∷ lane_of (negated h.d.lo) ∷ lane_of h.d.hi ∷ lane_of (negated h.r.lo) ∷ lane_of h.r.hi ∷ [])
+    (lane_of (negated h.c.lo) ∷ lane_of h.c.hi ∷ lane_of (negated h.d.lo) ∷ lane_of h.d.hi ∷ lane_of (negated h.r.lo)
+    ∷ lane_of h.r.hi ∷ [])
     (no_lanes 6)
 
 -- the greatest number in each lane
 abbrev pub greatest_lanes : List ℤ
 greatest_lanes =
-    pos 9223372036854775807 ∷ pos 9223372036854775807 ∷ pos 9223372036854775807 ∷ pos 9223372036854775807 ∷ pos 9223372036854775807
+    pos 9223372036854775807 ∷ pos 9223372036854775807 ∷ pos 9223372036854775807 ∷ pos 9223372036854775807
+    ∷ pos 9223372036854775807
     ∷ pos 9223372036854775807 ∷ []
 
 -- the hull of a state, one of so many, at a place

@@ -33,13 +33,15 @@ abbrev pub equal_hull : {X : Type 0} → (X → X → X) → X → (X → ℤ �
 equal_hull both none front hulls value w =
     total both none (λ i. int_eq (value i) w) (λ i. front (get_or hulls i none) (value i)) (length hulls)
 
--- the hull of the fronts of the values that compare with a next value w as a letter says, or are equal to it where there is a twin
+-- the hull of the fronts of the values that compare with a next value w as a letter says, or are equal to it where
+-- there is a twin
 abbrev pub met_hull : {X : Type 0} → (X → X → X) → X → Letter → Bool → (X → ℤ → X) → List X → (ℕ → ℤ) → ℤ → X
 met_hull both none l twin front hulls value w =
     total both none (λ i. compares l twin (value i) w) (λ i. front (get_or hulls i none) (value i)) (length hulls)
 
 -- each item of a column has taken in what there is for its place (an item that stays as it is with nothing, as all do)
-pub record IsTakenIn {X Y : Type 0} (taking : Y → X → Y) (none : X) (blank : Y) (h : ℕ → X) (old new : List Y) : Type 0 where
+pub record IsTakenIn {X Y : Type 0} (taking : Y → X → Y) (none : X) (blank : Y) (h : ℕ →
+    X) (old new : List Y) : Type 0 where
   pub len : length new ≡ length old
   pub each : (j : ℕ) → j < length old → taking (get_or old j blank) none ≡ get_or old j blank →
       get_or new j blank ≡ taking (get_or old j blank) (h j)
@@ -57,11 +59,15 @@ gathered both none up f n (suc k) = both (gathered both none up f n k) (f (place
 -- at step k of the next values so many of the values are passed: those whose step is below k + ahead - behind
 abbrev pub Leads : Bool → Bool → (ℕ → ℤ) → ℕ → (ℕ → ℤ) → ℕ → ℕ → ℕ → Type 0
 Leads up twin value n next_value m ahead behind =
-    (i k : ℕ) → i < n → k < m → passes up twin (value (place up n i)) (next_value (place up m k)) ≡ nat_lt (i + behind) (k + ahead)
+    (i k : ℕ) → i < n → k < m → passes up twin (value (place up n i)) (next_value (place up m k))
+    ≡ nat_lt (i + behind) (k + ahead)
 
 -- so far those of the m items have taken in what there is for their steps whose step is before step t
-pub record IsSteppedTo {X Y : Type 0} (taking : Y → X → Y) (none : X) (blank : Y) (up : Bool) (h : ℕ → X) (m ahead behind t : ℕ) (old new : List Y) : Type 0 where
+pub record IsSteppedTo {X Y : Type 0} (taking : Y → X → Y) (none : X) (blank : Y) (up : Bool) (h : ℕ →
+    X) (m ahead behind t : ℕ) (old new : List Y) : Type 0 where
   pub len : length new ≡ length old
-  pub done : (k : ℕ) → k < m → k + ahead < t + behind → taking (get_or old (place up m k) blank) none ≡ get_or old (place up m k) blank →
+  pub done : (k : ℕ) → k < m → k + ahead < t + behind → taking (get_or old (place up m k) blank) none
+      ≡ get_or old (place up m k) blank →
       get_or new (place up m k) blank ≡ taking (get_or old (place up m k) blank) (h k)
-  pub rest : (k : ℕ) → k < m → t + behind ≤ k + ahead → get_or new (place up m k) blank ≡ get_or old (place up m k) blank
+  pub rest : (k : ℕ) → k < m → t + behind ≤ k + ahead → get_or new (place up m k) blank
+      ≡ get_or old (place up m k) blank

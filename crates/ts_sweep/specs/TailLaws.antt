@@ -14,7 +14,8 @@ use Rattle.ts_sweep.specs.Packed.{ends, IsPackOf, IsWithin, AreWithin, max_ends}
 use Rattle.ts_sweep.specs.FrontLaws.{small_number, number_packs, number_within}
 
 max_same : (i : ℕ) (x y : ℤ) → IsWithin i x → IsWithin i y → IsWithin i (int_max x y)
-max_same i x y h k = let a = h.0 in let b = h.1 in let c = k.0 in let d = k.1 in (grind (arith, ints), grind (arith, ints))
+max_same i x y h k = let a = h.0 in let b = h.1 in let c = k.0 in let d =
+    k.1 in (grind (arith, ints), grind (arith, ints))
 
 pub tail_both : (a b : Ends) → AreWithin 9 a → AreWithin 9 b → AreWithin 9 (max_ends a b)
 tail_both a b p q = (max_same 9 a.below b.below p.0 q.0, max_same 9 a.above b.above p.1 q.1)
@@ -25,7 +26,8 @@ wider i x le h = let a = h.0 in let b = h.1 in (omega (arith, ints, le, a), omeg
 pub ends_wider : (i : ℕ) (e : Ends) → i ≤ 9 → AreWithin i e → AreWithin 9 e
 ends_wider i e le h = (wider i e.below le h.0, wider i e.above le h.1)
 
-pub tail_front : (adds : Bool) (i : ℕ) (F : Bool → Type 0) (e : Ends) → (i ≤ 9 → F true → AreWithin i e) → i ≤ 9 → F adds → adds ≡ true → AreWithin 9 e
+pub tail_front : (adds : Bool) (i : ℕ) (F : Bool → Type 0) (e : Ends) → (i ≤ 9 → F true → AreWithin i e) → i ≤ 9 →
+    F adds → adds ≡ true → AreWithin 9 e
 tail_front adds i F e within le h added = ends_wider i e le (within le (subst F added h))
 
 pub tail_loose : (adds : Bool) (F : Bool → Type 0) → (F true → F false) → F adds → F false
@@ -33,9 +35,11 @@ tail_loose true F l h = l h
 tail_loose false F l h = h
 
 pub tail_packs : (adds : Bool) (joined : Ends → Ends → Ends) (op : Op) (e : Ends) (s : Span) (y : ℤ) →
-    ((i j : ℕ) (a b : Ends) (s t : Span) → i + j ≤ 10 → (adds ≡ true → AreWithin i a × AreWithin j b) → IsPackOf a s → IsPackOf b t →
+    ((i j : ℕ) (a b : Ends) (s t : Span) → i + j ≤ 10 → (adds ≡ true → AreWithin i a × AreWithin j b) →
+    IsPackOf a s → IsPackOf b t →
     IsPackOf (joined a b) (by_ends (ext_op op) s t)) → IsPackOf e s → (adds ≡ true → AreWithin 9 e) → IsSmall y →
     IsPackOf (joined e (ends (neg_ℤ y) y)) (by_ends (ext_op op) s (one_span (Int y)))
 tail_packs adds joined op e s y packs p h small =
-    packs 9 1 e (ends (neg_ℤ y) y) s (one_span (Int y)) (omega arith) (λ added. (h added, number_within y (small_number y small))) p
+    packs 9 1 e (ends (neg_ℤ y) y) s (one_span (Int y)) (omega arith)
+    (λ added. (h added, number_within y (small_number y small))) p
     (number_packs y (small_number y small))

@@ -45,7 +45,8 @@ lane_plus PosInf PosInf = refl
 
 neg_clamped : (x : ℤ) → negated (upper (neg_ℤ (clamp x))) ≡ Int (clamp x)
 neg_clamped x =
-    ap negated (upper_mid (neg_ℤ (clamp x)) (omega (arith, ints, clamps)) (omega (arith, ints, clamps))) ∙ ap Int (twice (clamp x))
+    ap negated (upper_mid (neg_ℤ (clamp x)) (omega (arith, ints, clamps)) (omega (arith, ints, clamps)))
+    ∙ ap Int (twice (clamp x))
   where
     twice : (z : ℤ) → neg_ℤ (neg_ℤ z) ≡ z
     twice z = grind (arith, ints)
@@ -92,10 +93,12 @@ lane_below PosInf PosInf = low_above
 some_of : (a : Ends) (s : Span) → IsPackOf a s → has_some s ≡ true
 some_of a s p = ap has_some (sym p.span) ∙ p.some.some
 
-clamped_packs : (a b : Ends) (s t : Span) → IsPackOf a s → IsPackOf b t → IsPackOf (joined_by Add a b) (by_ends (ext_op Add) s t)
+clamped_packs : (a b : Ends) (s t : Span) → IsPackOf a s → IsPackOf b t →
+    IsPackOf (joined_by Add a b) (by_ends (ext_op Add) s t)
 clamped_packs a b s t p q =
     let is : ends_span (joined_by Add a b) ≡ by_ends (ext_op Add) s t =
-    both_ends _ _ _ _ (lane_plus_low (negated (upper a.below)) (negated (upper b.below))) (lane_plus (upper a.above) (upper b.above))
+    both_ends _ _ _ _ (lane_plus_low (negated (upper a.below)) (negated (upper b.below)))
+    (lane_plus (upper a.above) (upper b.above))
     ∙ sym (lifted_both (ext_op Add) s t (some_of a s p) (some_of b t q)
     ∙ ap (λ u. span_from (ext_plus u.lo t.lo) (ext_plus u.hi t.hi)) (sym p.span)
     ∙ ap (λ u. span_from (ext_plus (negated (upper a.below)) u.lo) (ext_plus (upper a.above) u.hi)) (sym q.span)) in
@@ -108,7 +111,8 @@ clamped_packs a b s t p q =
       span = is;
     }
 
-pub any_packs : (o : Op) (a b : Ends) (s t : Span) → IsPackOf a s → IsPackOf b t → IsPackOf (joined_by o a b) (by_ends (ext_op o) s t)
+pub any_packs : (o : Op) (a b : Ends) (s t : Span) → IsPackOf a s → IsPackOf b t →
+    IsPackOf (joined_by o a b) (by_ends (ext_op o) s t)
 any_packs Add a b s t p q = clamped_packs a b s t p q
 any_packs Max a b s t p q = greater_packs a b s t p q
 any_packs Min a b s t p q = lesser_packs a b s t p q
@@ -151,7 +155,8 @@ above_within : (i j : ℕ) (x y : ℤ) → i + j ≤ 10 → IsWithin i x → IsW
 above_within i j x y few h k =
     let a = upper_within i x (omega (arith, few)) h in
     let b = upper_within j y (omega (arith, few)) k in
-    subst (IsWithin (i + j)) (sym (ap (λ e. lane_of (ext_plus e (upper y))) a ∙ ap (λ e. lane_of (ext_plus (Int x) e)) b))
+    subst (IsWithin (i + j)) (sym (ap (λ e. lane_of (ext_plus e (upper y))) a
+    ∙ ap (λ e. lane_of (ext_plus (Int x) e)) b))
     (clamp_within (i + j) (x +ℤ y) (sum_sized i j x y h k))
 
 below_within : (i j : ℕ) (x y : ℤ) → i + j ≤ 10 → IsWithin i x → IsWithin j y → IsWithin (i + j) (sum_below x y)
@@ -159,11 +164,15 @@ below_within i j x y few h k =
     let a = upper_within i x (omega (arith, few)) h in
     let b = upper_within j y (omega (arith, few)) k in
     subst (IsWithin (i + j))
-    (sym (ap (λ e. lane_of (negated (ext_plus (negated e) (negated (upper y))))) a ∙ ap (λ e. lane_of (negated (ext_plus (Int (neg_ℤ x)) (negated e)))) b))
+    (sym (ap (λ e. lane_of (negated (ext_plus (negated e) (negated (upper y))))) a
+    ∙ ap (λ e. lane_of (negated (ext_plus (Int (neg_ℤ x)) (negated e)))) b))
     (neg_within (i + j) (clamp (neg_ℤ x +ℤ neg_ℤ y))
-    (clamp_within (i + j) (neg_ℤ x +ℤ neg_ℤ y) (sum_sized i j (neg_ℤ x) (neg_ℤ y) (neg_within i x h) (neg_within j y k))))
+    (clamp_within (i + j) (neg_ℤ x +ℤ neg_ℤ y) (sum_sized i j (neg_ℤ x) (neg_ℤ y) (neg_within i x h)
+    (neg_within j y k))))
 
-pub any_within : (o : Op) (i j : ℕ) (a b : Ends) → i + j ≤ 10 → AreWithin i a → AreWithin j b → AreWithin (i + j) (joined_by o a b)
-any_within Add i j a b few p q = (below_within i j a.below b.below few p.0 q.0, above_within i j a.above b.above few p.1 q.1)
+pub any_within : (o : Op) (i j : ℕ) (a b : Ends) → i + j ≤ 10 → AreWithin i a → AreWithin j b →
+    AreWithin (i + j) (joined_by o a b)
+any_within Add i j a b few p q =
+    (below_within i j a.below b.below few p.0 q.0, above_within i j a.above b.above few p.1 q.1)
 any_within Max i j a b few p q = greater_within i j a b p q
 any_within Min i j a b few p q = lesser_within i j a b p q

@@ -35,17 +35,20 @@ min_left : (x y : ℤ) → x ≤ℤ y → int_min x y ≡ x
 min_left x y h = grind (arith, ints)
 
 pub upper_low : (x : ℤ) → x ≤ℤ negsuc 9223372036854775806 → upper x ≡ NegInf
-upper_low x h = ap (λ b. cond b NegInf (cond (int_le (pos 9223372036854775807) x) PosInf (Int x))) (le_true x (negsuc 9223372036854775806) h)
+upper_low x h = ap (λ b. cond b NegInf (cond (int_le (pos 9223372036854775807) x) PosInf (Int x)))
+    (le_true x (negsuc 9223372036854775806) h)
 
 pub upper_high : (x : ℤ) → pos 9223372036854775807 ≤ℤ x → upper x ≡ PosInf
 upper_high x h =
     let above : negsuc 9223372036854775806 <ℤ x = omega (arith, ints, h) in
-    ap (λ b. cond b NegInf (cond (int_le (pos 9223372036854775807) x) PosInf (Int x))) (le_false x (negsuc 9223372036854775806) above)
+    ap (λ b. cond b NegInf (cond (int_le (pos 9223372036854775807) x) PosInf (Int x)))
+    (le_false x (negsuc 9223372036854775806) above)
     ∙ ap (λ b. cond b PosInf (Int x)) (le_true (pos 9223372036854775807) x h)
 
 pub upper_mid : (x : ℤ) → negsuc 9223372036854775806 <ℤ x → x <ℤ pos 9223372036854775807 → upper x ≡ Int x
 upper_mid x low high =
-    ap (λ b. cond b NegInf (cond (int_le (pos 9223372036854775807) x) PosInf (Int x))) (le_false x (negsuc 9223372036854775806) low)
+    ap (λ b. cond b NegInf (cond (int_le (pos 9223372036854775807) x) PosInf (Int x)))
+    (le_false x (negsuc 9223372036854775806) low)
     ∙ ap (λ b. cond b PosInf (Int x)) (le_false (pos 9223372036854775807) x high)
 
 top_of : (a : Ext) → ext_le a PosInf ≡ true
@@ -68,7 +71,8 @@ upper_mono x y h = elim (low_or_not x) [
 negated_mono : (a b : Ext) → ext_le a b ≡ true → ext_le (negated b) (negated a) ≡ true
 negated_mono NegInf b h = top_of (negated b)
 negated_mono (Int x) NegInf h = cc
-negated_mono (Int x) (Int y) h = let le : x ≤ℤ y = grind (arith, ints) in le_true (neg_ℤ y) (neg_ℤ x) (omega (arith, ints, le))
+negated_mono (Int x) (Int y) h = let le : x ≤ℤ y = grind (arith, ints) in
+    le_true (neg_ℤ y) (neg_ℤ x) (omega (arith, ints, le))
 negated_mono (Int x) PosInf h = refl
 negated_mono PosInf NegInf h = cc
 negated_mono PosInf (Int y) h = cc
@@ -123,12 +127,16 @@ upper_min x y = elim (le_or_not x y) [
 -- the greater lane of lower ends stands for the lesser end, the lesser for the greater
 pub lower_max : (x y : ℤ) → negated (upper (int_max x y)) ≡ ext_min (negated (upper x)) (negated (upper y))
 lower_max x y = elim (le_or_not x y) [
-  | inl le ↦ ap (λ z. negated (upper z)) (max_right x y le) ∙ sym (pick_min_right (negated (upper x)) (negated (upper y)) (lower_mono x y le))
-  | inr ge ↦ ap (λ z. negated (upper z)) (max_left x y ge) ∙ sym (pick_min (negated (upper x)) (negated (upper y)) (lower_mono y x ge))
+  | inl le ↦ ap (λ z. negated (upper z)) (max_right x y le)
+      ∙ sym (pick_min_right (negated (upper x)) (negated (upper y)) (lower_mono x y le))
+  | inr ge ↦ ap (λ z. negated (upper z)) (max_left x y ge)
+      ∙ sym (pick_min (negated (upper x)) (negated (upper y)) (lower_mono y x ge))
 ]
 
 pub lower_min : (x y : ℤ) → negated (upper (int_min x y)) ≡ ext_max (negated (upper x)) (negated (upper y))
 lower_min x y = elim (le_or_not x y) [
-  | inl le ↦ ap (λ z. negated (upper z)) (min_left x y le) ∙ sym (pick_max_left (negated (upper x)) (negated (upper y)) (lower_mono x y le))
-  | inr ge ↦ ap (λ z. negated (upper z)) (min_right x y ge) ∙ sym (pick_max (negated (upper x)) (negated (upper y)) (lower_mono y x ge))
+  | inl le ↦ ap (λ z. negated (upper z)) (min_left x y le)
+      ∙ sym (pick_max_left (negated (upper x)) (negated (upper y)) (lower_mono x y le))
+  | inr ge ↦ ap (λ z. negated (upper z)) (min_right x y ge)
+      ∙ sym (pick_max (negated (upper x)) (negated (upper y)) (lower_mono y x ge))
 ]

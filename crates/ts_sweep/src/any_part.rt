@@ -11,8 +11,8 @@ use crate::part::Part;
 use crate::tree::{joined_ends, tree_ends};
 use ts_automaton::{Expr, Op};
 
-/// An expression that doesn't read the next cell; an operator over one that doesn't and the next cell; or an operator over
-/// two that don't and the next cell, `o e (o f y)`, which is taken as `o (o e f) y`.
+/// An expression that doesn't read the next cell; an operator over one that doesn't and the next cell; or an operator
+/// over two that don't and the next cell, `o e (o f y)`, which is taken as `o (o e f) y`.
 #[derive(Clone, Copy)]
 pub enum AnyPart<'a> {
     Front(&'a Expr),

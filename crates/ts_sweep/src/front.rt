@@ -1,6 +1,6 @@
-//! Expressions that don't read the next cell, as types: a word is a type of its own, and an operator over two expressions
-//! is `Join`. So `add C add D x` is `Join<Plus, Register<0>, Join<Plus, Register<1>, This>>`, and a sweep of it is compiled
-//! with nothing left to decide.
+//! Expressions that don't read the next cell, as types: a word is a type of its own, and an operator over two
+//! expressions is `Join`. So `add C add D x` is `Join<Plus, Register<0>, Join<Plus, Register<1>, This>>`, and a sweep
+//! of it is compiled with nothing left to decide.
 
 ghost use Rattle.std.specs.Prelude.{◌≡◌, ℤ, List, ◌≤◌, ◌<◌, ◌+◌, ◌*◌, true, false};
 ghost use Rattle.ts_sweep.specs.Fronts.{ArePlain};
@@ -25,7 +25,8 @@ pub trait Front: Copy {
     /// How many words stand in it, counted up to 255.
     ghost words: { Self → ℕ };
 
-    /// That lanes are such that it may be evaluated; where it is added to something, that its registers are small numbers.
+    /// That lanes are such that it may be evaluated; where it is added to something, that its registers are small
+    /// numbers.
     ghost fit: { Self → Bool → List ℤ → Type 0 };
 
     /// Its ends in lanes, at a value.
@@ -49,7 +50,8 @@ pub trait Front: Copy {
 
     ghost looser: { (k : Self) (xs : List ℤ) → fit k true xs → fit k false xs };
 
-    ghost within: { (k : Self) (xs : List ℤ) (x : ℤ) → words k ≤ 9 → fit k true xs → IsSmall x → AreWithin (words k) (value k xs x) };
+    ghost within: { (k : Self) (xs : List ℤ) (x : ℤ) → words k ≤ 9 → fit k true xs → IsSmall x →
+        AreWithin (words k) (value k xs x) };
 
     ghost packs: { (k : Self) (n : ℕ) (xs : List ℤ) (x : ℤ) → 6 ≤ n → AreSome n xs → fit k false xs → IsSmall x →
         IsPackOf (value k xs x) (span_in (formula k) (unpacked xs) x (pos 0)) };
@@ -137,7 +139,8 @@ fn are_plain(e: Ends) -> bool
 fn is_small_under<H: Packed>(cover: H, register: usize) -> bool
     requires inside { 2 * register + 1 < H.count }
     requires few { register ≤ 10 }
-    ensures { result ≡ true → (xs : List ℤ) → AreSome H.count xs → IsUnder xs (H.lanes cover) → AreWithin 1 (ends_at xs register) }
+    ensures { result ≡ true → (xs : List ℤ) → AreSome H.count xs → IsUnder xs (H.lanes cover) →
+        AreWithin 1 (ends_at xs register) }
 {
     are_plain(cover.ends(register))
 }
@@ -362,9 +365,12 @@ impl<O: Operator, A: Front, B: Front> Front for Join<O, A, B> {
         (λ b. A.fit k.left b xs) (λ b. B.fit k.right b xs) (A.value k.left xs x) (B.value k.right xs x) (O.within k.by)
         (λ le g. A.within k.left xs x le g small) (λ le g. B.within k.right xs x le g small) h };
 
-    ghost packs = { λ k n xs x big some h small. join_packs (O.adds k.by) (O.joined k.by) (O.op k.by) (A.words k.left) (B.words k.right)
-        (λ b. A.fit k.left b xs) (λ b. B.fit k.right b xs) (A.value k.left xs x) (B.value k.right xs x) _ _ (O.packs k.by)
-        (A.looser k.left xs) (B.looser k.right xs) (λ le g. A.within k.left xs x le g small) (λ le g. B.within k.right xs x le g small)
+    ghost packs = { λ k n xs x big some h small. join_packs (O.adds k.by) (O.joined k.by) (O.op k.by) (A.words k.left)
+        (B.words k.right)
+        (λ b. A.fit k.left b xs) (λ b. B.fit k.right b xs) (A.value k.left xs x) (B.value k.right xs x) _
+        _ (O.packs k.by)
+        (A.looser k.left xs) (B.looser k.right xs) (λ le g. A.within k.left xs x le g small)
+        (λ le g. B.within k.right xs x le g small)
         (λ g. A.packs k.left n xs x big some g small) (λ g. B.packs k.right n xs x big some g small) h };
 
     #[inline(always)]

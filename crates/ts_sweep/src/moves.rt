@@ -21,7 +21,8 @@ pub trait Moves<H: Packed>: Fronts<H> {
     /// Whether all hulls under a cover can be taken.
     fn is_fit(self, cover: H) -> bool
         requires registers { 6 ≤ H.count }
-        ensures { result ≡ true → (h : H) → IsPacked H.count (H.lanes h) → IsUnder (H.lanes h) (H.lanes cover) → Self.fit self h };
+        ensures { result ≡ true → (h : H) → IsPacked H.count (H.lanes h) → IsUnder (H.lanes h) (H.lanes cover) →
+            Self.fit self h };
 
     ghost front_is: { (k : Self) (h : H) (v : ℤ) → 6 ≤ H.count → Self.fit k h → IsSmall v →
         IsFrontOf (cut k) H.count (H.lanes h) v (H.lanes (Self.front k h v)) };
@@ -111,14 +112,16 @@ impl<H: Packed, C: Part, D: Part, R: Part> Fronts<H> for Parts<C, D, R> {
     ghost closable = { λ k h. IsClosableBy H.count (C.closable k.c) (D.closable k.d) (R.closable k.r) (H.lanes h) };
 
     ghost front = { λ k h v. cond (some_lanes (H.lanes h))
-        (replaced_all H.replaced h (C.front k.c (H.lanes h) v) (D.front k.d (H.lanes h) v) (R.front k.r (H.lanes h) v)) H.none };
+        (replaced_all H.replaced h (C.front k.c (H.lanes h) v) (D.front k.d (H.lanes h) v) (R.front k.r (H.lanes h) v))
+        H.none };
 
     ghost closing = { λ k h w. cond (C.tails k.c || (D.tails k.d || R.tails k.r))
         (cond (some_lanes (H.lanes h))
         (replaced_all H.replaced h (C.closing k.c (ends_at (H.lanes h) 0) w) (D.closing k.d (ends_at (H.lanes h) 1) w)
         (R.closing k.r (ends_at (H.lanes h) 2) w)) H.none) h };
 
-    ghost closes_none = { λ k w. parts_none H.lanes H.count H.none H.none_lanes (C.tails k.c || (D.tails k.d || R.tails k.r)) _ };
+    ghost closes_none = { λ k w. parts_none H.lanes H.count H.none H.none_lanes
+        (C.tails k.c || (D.tails k.d || R.tails k.r)) _ };
 
     ghost closable_none = { λ k. inl H.none_lanes };
 
@@ -126,10 +129,13 @@ impl<H: Packed, C: Part, D: Part, R: Part> Fronts<H> for Parts<C, D, R> {
         (C.closable_both k.c) (D.closable_both k.d) (R.closable_both k.r) a b p q };
 
     ghost closable_front = { λ k h v p small. parts_front H.lanes H.replaced H.count H.none H.none_lanes H.replaced_lanes
-        (C.fit k.c) (D.fit k.d) (R.fit k.r) (C.closable k.c) (D.closable k.d) (R.closable k.r) (C.split k.c) (D.split k.d) (R.split k.r)
+        (C.fit k.c) (D.fit k.d) (R.fit k.r) (C.closable k.c) (D.closable k.d) (R.closable k.r) (C.split k.c)
+        (D.split k.d) (R.split k.r)
         (λ xs. C.front k.c xs v) (λ xs. D.front k.d xs v) (λ xs. R.front k.r xs v) v
-        (λ xs g. C.closable_front k.c xs v g small) (λ xs g. D.closable_front k.d xs v g small) (λ xs g. R.closable_front k.r xs v g small)
-        (λ xs big some g. C.front_packs k.c H.count xs v big some g small) (λ xs big some g. D.front_packs k.d H.count xs v big some g small)
+        (λ xs g. C.closable_front k.c xs v g small) (λ xs g. D.closable_front k.d xs v g small)
+        (λ xs g. R.closable_front k.r xs v g small)
+        (λ xs big some g. C.front_packs k.c H.count xs v big some g small)
+        (λ xs big some g. D.front_packs k.d H.count xs v big some g small)
         (λ xs big some g. R.front_packs k.r H.count xs v big some g small) h p };
 
     #[inline(always)]
@@ -164,14 +170,18 @@ impl<H: Packed, C: Part, D: Part, R: Part> Moves<H> for Parts<C, D, R> {
 
     ghost cut = { λ k. record { c = C.split k.c; d = D.split k.d; r = R.split k.r } };
 
-    ghost front_is = { λ k h v big p small. parts_front_is H.lanes H.replaced H.count H.none H.none_lanes H.replaced_lanes
+    ghost front_is = { λ k h v big p small. parts_front_is H.lanes H.replaced H.count H.none H.none_lanes
+        H.replaced_lanes
         (C.fit k.c) (D.fit k.d) (R.fit k.r) (C.split k.c) (D.split k.d) (R.split k.r)
         (λ xs. C.front k.c xs v) (λ xs. D.front k.d xs v) (λ xs. R.front k.r xs v) v
-        (λ xs big some g. C.front_packs k.c H.count xs v big some g small) (λ xs big some g. D.front_packs k.d H.count xs v big some g small)
+        (λ xs big some g. C.front_packs k.c H.count xs v big some g small)
+        (λ xs big some g. D.front_packs k.d H.count xs v big some g small)
         (λ xs big some g. R.front_packs k.r H.count xs v big some g small) h big p };
 
-    ghost closing_is = { λ k run w big p small. parts_closing_is H.lanes H.replaced H.count H.none H.none_lanes H.replaced_lanes
-        (C.closable k.c) (D.closable k.d) (R.closable k.r) (C.split k.c) (D.split k.d) (R.split k.r) (C.tails k.c) (D.tails k.d) (R.tails k.r)
+    ghost closing_is = { λ k run w big p small. parts_closing_is H.lanes H.replaced H.count H.none H.none_lanes
+        H.replaced_lanes
+        (C.closable k.c) (D.closable k.d) (R.closable k.r) (C.split k.c) (D.split k.d) (R.split k.r) (C.tails k.c)
+        (D.tails k.d) (R.tails k.r)
         (λ e. C.closing k.c e w) (λ e. D.closing k.d e w) (λ e. R.closing k.r e w) w
         (λ e s g h. C.closing_packs k.c e s w g h small) (λ e s g h. D.closing_packs k.d e s w g h small)
         (λ e s g h. R.closing_packs k.r e s w g h small) (λ t s. C.no_tail k.c t s w) (λ t s. D.no_tail k.d t s w)

@@ -34,10 +34,12 @@ pub trait Operator: Copy {
         requires second { adds self ≡ true → AreWithin 9 b }
         ensures { result ≡ joined self a b };
 
-    ghost packs: { (k : Self) (i j : ℕ) (a b : Ends) (s t : Span) → i + j ≤ 10 → (adds k ≡ true → AreWithin i a × AreWithin j b) →
+    ghost packs: { (k : Self) (i j : ℕ) (a b : Ends) (s t : Span) → i + j ≤ 10 →
+        (adds k ≡ true → AreWithin i a × AreWithin j b) →
         IsPackOf a s → IsPackOf b t → IsPackOf (joined k a b) (by_ends (ext_op (op k)) s t) };
 
-    ghost within: { (k : Self) (i j : ℕ) (a b : Ends) → i + j ≤ 10 → AreWithin i a → AreWithin j b → AreWithin (i + j) (joined k a b) };
+    ghost within: { (k : Self) (i j : ℕ) (a b : Ends) → i + j ≤ 10 → AreWithin i a → AreWithin j b →
+        AreWithin (i + j) (joined k a b) };
 }
 
 /// The sum.

@@ -69,7 +69,8 @@ pub trait Packed: Hull {
 
     ghost takes_none: { (h : Self) → IsPacked count (lanes h) → Self.both h Self.none ≡ h };
 
-    ghost replaced_lanes: { (h : Self) (register : ℕ) (e : Ends) → lanes (replaced h register e) ≡ with_ends_at (lanes h) register e };
+    ghost replaced_lanes: { (h : Self) (register : ℕ) (e : Ends) → lanes (replaced h register e)
+        ≡ with_ends_at (lanes h) register e };
 }
 
 /// The ends of a number.

@@ -102,7 +102,8 @@ fn with_moved<H: Packed, V: Values, W: Values>(
     ensures packed { IsPacked H.count (H.lanes result) }
     ensures value { unpacked (H.lanes result) ≡ hull_of_both (unpacked (H.lanes all))
         (cond (compares letter twin (V.value values i) (W.value next_values j))
-        (after_move (move_of t.now) (hull_at H.lanes H.none before.now i) (V.value values i) (W.value next_values j)) none) }
+        (after_move (move_of t.now) (hull_at H.lanes H.none before.now i) (V.value values i)
+        (W.value next_values j)) none) }
 {
     let h = hull_of(before, i);
     let v = values.at(i);

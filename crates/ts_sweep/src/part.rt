@@ -8,8 +8,8 @@ use crate::front::Front;
 use crate::operator::Operator;
 use crate::packed::{Ends, Packed, number};
 
-/// The expression of a register: its front, which doesn't read the next cell, and what the next cell makes of the hull of
-/// fronts.
+/// The expression of a register: its front, which doesn't read the next cell, and what the next cell makes of the hull
+/// of fronts.
 pub trait Part: Copy {
     ghost use Rattle.std.specs.Prelude.{◌≡◌, ℕ, ◌≤◌, Bool, true, false, ℤ, List};
     ghost use Rattle.ts_base.specs.declared.span.Span.{Span};

@@ -30,8 +30,8 @@ fn greatest() -> PackedHull<6>
     }
 }
 
-/// Whether all hulls of a state can be taken: whether any can, which is known of a move that adds nothing, or else those
-/// under their cover.
+/// Whether all hulls of a state can be taken: whether any can, which is known of a move that adds nothing, or else
+/// those under their cover.
 #[inline(always)]
 fn row_fits<F: Moves<PackedHull<6>>>(by: F, from: Strided, before: &[Hull]) -> bool
     requires state { from.state < from.states }

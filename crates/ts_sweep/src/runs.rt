@@ -78,7 +78,8 @@ fn whole_lead<const UP: bool>(twin: bool, values: Run, next_values: Run) -> i64
     requires few { values.count ≤ 2000001 }
     requires next_first { IsCell next_values.first }
     requires next_few { next_values.count ≤ 2000001 }
-    ensures value { result ≡ with_twin twin (ahead_of UP values.first values.count next_values.first next_values.count) }
+    ensures value { result
+        ≡ with_twin twin (ahead_of UP values.first values.count next_values.first next_values.count) }
     ensures small { IsSmall result }
 {
     with_twin(ahead::<UP>(values, next_values), twin)
@@ -110,7 +111,8 @@ fn lead_of<const UP: bool>(twin: bool, values: Run, next_values: Run) -> Lead
     requires next_few { next_values.count ≤ 2000001 }
     ensures ahead { result.ahead ≤ values.count }
     ensures behind { result.behind ≤ next_values.count }
-    ensures leads { Leads UP twin (λ i. values.first +ℤ pos i) values.count (λ k. next_values.first +ℤ pos k) next_values.count result.ahead
+    ensures leads { Leads UP twin (λ i. values.first +ℤ pos i) values.count (λ k. next_values.first +ℤ pos k)
+        next_values.count result.ahead
         result.behind }
 {
     let lead = whole_lead::<UP>(twin, values, next_values);
@@ -135,7 +137,8 @@ fn taken_at<const UP: bool, H: Hull, F: Fronts<H>, C: Column<H>>(
     requires fit { (i : ℕ) → i < values.count → F.fit by (get_or (C.hulls from before.now) i H.none) }
     requires takes { H.both run H.none ≡ run }
     ensures there { t < values.count → result ≡ H.both run
-        (F.front by (get_or (C.hulls from before.now) (place UP values.count t) H.none) (values.first +ℤ pos (place UP values.count t))) }
+        (F.front by (get_or (C.hulls from before.now) (place UP values.count t) H.none)
+        (values.first +ℤ pos (place UP values.count t))) }
     ensures beyond { values.count ≤ t → result ≡ run }
     ensures closable { F.closable by run → F.closable by result }
 {
@@ -182,8 +185,8 @@ fn put_at<const UP: bool, H: Hull, F: Fronts<H>, C: Column<H>>(
     }
 }
 
-/// A move is taken in by a sweep: each item of the next values takes in the closed hull of the fronts of the values that
-/// are passed there.
+/// A move is taken in by a sweep: each item of the next values takes in the closed hull of the fronts of the values
+/// that are passed there.
 #[inline(never)]
 pub fn sweep_runs<const UP: bool, H: Hull, F: Fronts<H>, C: Column<H>>(
     by: F,

@@ -47,7 +47,8 @@ fn is_passed<const UP: bool, V: Values>(values: V, at: usize, w: i64, twin: bool
     requires small { IsSmall w }
     ensures there { result ≡ true → at < V.len values }
     ensures passed { result ≡ true → passes UP twin (V.value values (place UP (V.len values) at)) w ≡ true }
-    ensures rest { result ≡ false → at < V.len values → passes UP twin (V.value values (place UP (V.len values) at)) w ≡ false }
+    ensures rest { result ≡ false → at < V.len values →
+        passes UP twin (V.value values (place UP (V.len values) at)) w ≡ false }
 {
     let n = values.count();
     at < n && passes::<UP>(values.at(place::<UP>(n, at)), w, twin)
@@ -76,7 +77,8 @@ pub fn sweep<const UP: bool, H: Hull, F: Fronts<H>, V: Values, W: Values, C: Col
     requires next_same { length (C.column to next.old) ≡ W.len next_values }
     ensures taken { IsTakenIn C.taking H.none C.blank
         (λ j. F.closing by
-        (passed_hull H.both H.none UP twin (F.front by) (C.hulls from before.now) (V.value values) (W.value next_values j))
+        (passed_hull H.both H.none UP twin (F.front by) (C.hulls from before.now) (V.value values)
+        (W.value next_values j))
         (W.value next_values j))
         (C.column to next.old) (C.column to next.new) }
     ensures whole { C.whole to next.new }

@@ -52,7 +52,8 @@ fn take_parts<H: Packed, V: Values, W: Values>(
     requires next_packed { ArePacked H.lanes H.none H.count (W.len next_values) next.old }
     requires alone { letter ≡ Equal → twin ≡ false }
     ensures packed { ArePacked H.lanes H.none H.count (W.len next_values) next.new }
-    ensures taken { result ≡ true → (m : Move) → cut_of m ≡ parts_cut parts.entry → IsMoved H.lanes H.none m letter twin (V.len values)
+    ensures taken { result ≡ true → (m : Move) → cut_of m ≡ parts_cut parts.entry →
+        IsMoved H.lanes H.none m letter twin (V.len values)
         (V.value values) before.now (W.len next_values) (W.value next_values) next.old next.new }
     ensures kept { result ≡ false → next.new ≡ next.old }
 {

@@ -42,7 +42,8 @@ fn sweep_cells<const UP: bool, H: Hull, F: Fronts<H>, V: Values, W: Values, C: C
     requires next_same { length (C.column to next.old) ≡ W.len next_values }
     ensures taken { IsTakenIn C.taking H.none C.blank
         (λ j. F.closing by
-        (passed_hull H.both H.none UP twin (F.front by) (C.hulls from before.now) (V.value values) (W.value next_values j))
+        (passed_hull H.both H.none UP twin (F.front by) (C.hulls from before.now) (V.value values)
+        (W.value next_values j))
         (W.value next_values j))
         (C.column to next.old) (C.column to next.new) }
     ensures whole { C.whole to next.new }
@@ -81,7 +82,8 @@ pub fn take<H: Hull, F: Fronts<H>, V: Values, W: Values, C: Column<H>>(
     requires alone { letter ≡ Equal → twin ≡ false }
     ensures taken { IsTakenIn C.taking H.none C.blank
         (λ j. F.closing by
-        (met_hull H.both H.none letter twin (F.front by) (C.hulls from before.now) (V.value values) (W.value next_values j))
+        (met_hull H.both H.none letter twin (F.front by) (C.hulls from before.now) (V.value values)
+        (W.value next_values j))
         (W.value next_values j))
         (C.column to next.old) (C.column to next.new) }
     ensures whole { C.whole to next.new }
@@ -177,8 +179,8 @@ pub fn take_fit<H: Packed, F: Moves<H>, V: Values, W: Values>(
     true
 }
 
-/// The same of a move that doesn't read the next cell, told by what the hulls stand for: each next hull takes in what the
-/// move gives to its value. This is how a row that stays packed is made from the row before.
+/// The same of a move that doesn't read the next cell, told by what the hulls stand for: each next hull takes in what
+/// the move gives to its value. This is how a row that stays packed is made from the row before.
 #[inline(always)]
 pub fn take_column<H: Packed, F: Moves<H>, V: Values, W: Values>(
     by: F,
@@ -199,7 +201,8 @@ pub fn take_column<H: Packed, F: Moves<H>, V: Values, W: Values>(
     requires next_packed { ArePacked H.lanes H.none H.count (W.len next_values) next.old }
     requires alone { letter ≡ Equal → twin ≡ false }
     ensures packed { ArePacked H.lanes H.none H.count (W.len next_values) next.new }
-    ensures taken { result ≡ true → (m : Move) → cut_of m ≡ F.cut by → IsMoved H.lanes H.none m letter twin (V.len values)
+    ensures taken { result ≡ true → (m : Move) → cut_of m ≡ F.cut by →
+        IsMoved H.lanes H.none m letter twin (V.len values)
         (V.value values) before.now (W.len next_values) (W.value next_values) next.old next.new }
     ensures kept { result ≡ false → next.new ≡ next.old }
 {
@@ -228,7 +231,8 @@ pub fn take_small<H: Packed, F: Moves<H>, V: Values, W: Values>(
     requires next_packed { ArePacked H.lanes H.none H.count (W.len next_values) next.old }
     requires alone { letter ≡ Equal → twin ≡ false }
     ensures packed { ArePacked H.lanes H.none H.count (W.len next_values) next.new }
-    ensures taken { result ≡ true → (m : Move) → cut_of m ≡ F.cut by → IsMoved H.lanes H.none m letter twin (V.len values)
+    ensures taken { result ≡ true → (m : Move) → cut_of m ≡ F.cut by →
+        IsMoved H.lanes H.none m letter twin (V.len values)
         (V.value values) before.now (W.len next_values) (W.value next_values) next.old next.new }
     ensures kept { result ≡ false → next.new ≡ next.old }
 {

@@ -158,7 +158,8 @@ impl<'a> Front for Tree<'a> {
 
     ghost within = { λ k xs x few h small. never_added h };
 
-    ghost packs = { λ k n xs x big some h small. tree_packs (formula k.expr.now) n xs x (pos 0) big some small zero_small };
+    ghost packs = { λ k n xs x big some h small. tree_packs (formula k.expr.now) n xs x (pos 0) big some
+        small zero_small };
 
     #[inline(always)]
     fn words(self) -> u8 {

@@ -24,4 +24,5 @@ returns-clause-others c k apart =
 pub returns-clause-beside : goal.returns-clause-beside
 returns-clause-beside c =
     subst (AreBeside c.args.self.state c.args.self.states c.args.self.count c.args.row.now) (sym c.join_at.ensures)
-    (joined_beside c.args.self.states c.args.self.state c.args.self.count c.args.i c.args.row.now (unpacked c.args.h.at) (in_column c.args.self.states c.args.self.state c.args.self.count c.args.i c.args.row.now c.requires.inside))
+    (joined_beside c.args.self.states c.args.self.state c.args.self.count c.args.i c.args.row.now (unpacked c.args.h.at)
+    (in_column c.args.self.states c.args.self.state c.args.self.count c.args.i c.args.row.now c.requires.inside))
