@@ -1,5 +1,4 @@
 pub mod Looking
-mod Filled
 pub mod RowLaws
 mod Emptied
 pub mod TableLaws
@@ -11,18 +10,9 @@ pub mod SpanRuns
 pub mod SpanEnds
 pub mod Singles
 pub mod Growth
-pub mod KnownFronts
-pub mod PackLaws
-mod SweepLaws
-pub mod LeadLaws
-pub mod FirstSteps
-pub mod EqualFronts
-pub mod WidenLaws
+mod PutLaws
 pub mod SweptRows
+mod Starts
 pub mod PackedRows
 pub mod ValueLaws
 mod CellLists
-pub mod Passed
-pub mod OneValue
-mod Twins
-pub mod SameState

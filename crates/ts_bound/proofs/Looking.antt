@@ -1,11 +1,10 @@
 -- The cells that are looked at: where each of them stands, and the rows of all cells where these have rows.
-use Rattle.std.proofs.Common.{◌≡◌, ℕ, zero, suc, ◌+◌, ◌-◌, ◌*◌, ◌<◌, ◌≤◌, ◌⊎◌, inl, inr, ⊎_elim, ℤ, Bool, true, false, cond, ◌&&◌, nat_le, Option, Some, None, List, [], ◌∷◌, ◌++◌, length, map, take, drop, set, get_or, replicate, refl, sym, ap, ◌∙◌, subst, arith}
-use Rattle.std.specs.Prelude.{IsTrue}
+use Rattle.std.proofs.Common.{◌≡◌, ℕ, zero, suc, ◌+◌, ◌-◌, ◌<◌, ◌≤◌, ◌⊎◌, inl, inr, ⊎_elim, ℤ, Bool, true, false, cond, ◌&&◌, nat_le, Option, Some, None, List, [], ◌∷◌, ◌++◌, length, map, take, drop, set, get_or, replicate, refl, sym, ap, ◌∙◌, subst, arith}
 use Rattle.std.proofs.lemmas.Bool.{leb-true, leb-false, le-leb}
-use Rattle.std.proofs.lemmas.List.{length-append, length-replicate, take-set-le, drop-set-lt, drop-set-add, get_or-take, get_or-drop, get_or_append_left, get_or-append-add, get_or-replicate, set-append_left, set-append_right, length-set, map-append, take-map, drop-map}
-use Rattle.std.proofs.Math.Seq.{take-set-lt, get_or-append_right}
+use Rattle.std.proofs.lemmas.List.{length-append, length-replicate, take-set-le, drop-set-lt, drop-set-add, get_or-take, get_or-drop, get_or_append_left, get_or-append-add, get_or-replicate, set-append_left, set-append_right, map-append, take-map, drop-map}
+use Rattle.std.proofs.Math.Seq.{take-set-lt}
 use Rattle.ts_base.specs.declared.range.Range.{Range}
-use Rattle.ts_base.specs.Windows.{IsInside, LooksInside, cells_of, looked_at}
+use Rattle.ts_base.specs.Windows.{LooksInside, cells_of, looked_at}
 use Rattle.ts_base.proofs.WindowLaws.{cells_count}
 use Rattle.ts_bound.specs.Looks.{is_looked, first_looked, last_looked, count_looked, read_at, place_in}
 use Rattle.ts_bound.specs.Rows.{row_at, windowed}

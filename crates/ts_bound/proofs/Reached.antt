@@ -8,7 +8,7 @@ use Rattle.ts_base.specs.declared.ext.Ext.{Ext}
 use Rattle.ts_base.specs.declared.span.Span.{Span}
 use Rattle.ts_base.specs.declared.range.Range.{Range}
 use Rattle.ts_base.specs.Limits.{most_cells}
-use Rattle.ts_base.specs.Windows.{LooksInside, looked_at}
+use Rattle.ts_base.specs.Windows.{looked_at}
 use Rattle.ts_base.specs.SpanLayer.{IsWithin}
 use Rattle.ts_base.specs.Spans.{none_span, has_some, Holds, span_hull}
 use Rattle.ts_base.proofs.SpanLaws.{holds_one, hull_left, hull_right}
@@ -30,7 +30,7 @@ use Rattle.ts_glue.proofs.CallerLemmas.{after_back, after_stands, cut_at, answer
 use Rattle.ts_hull.specs.Hulls.{hull_of, none, hull_of_both}
 use Rattle.ts_bound.specs.NextRow.{Source, source, standing_at, hull_from, next_hull, states_of}
 use Rattle.ts_bound.specs.HullTables.{start_hull, hull_at, cells_before, values_at}
-use Rattle.ts_bound.specs.TermSpans.{Automata, LooksIn, standing_in, span_of_all, finish_spans, glued_spans, spans_at, inner_value_span, inner_span, value_span, term_span, IsUsable}
+use Rattle.ts_bound.specs.TermSpans.{Automata, standing_in, span_of_all, finish_spans, glued_spans, spans_at, inner_value_span, inner_span, value_span, term_span, IsUsable}
 use Rattle.ts_bound.specs.Laws.{Splits, AreAutomata, SpansHold, ValueSpansAreNarrowed, ValueSpansAreWithin}
 use Rattle.ts_bound.specs.Looks.{is_looked, place_in}
 use Rattle.ts_hull.proofs.HullLaws.{IsCanonical, hull_canonical}

@@ -1,7 +1,7 @@
 -- Rows in one list: where they begin, and what they are after one was written.
 use Rattle.std.proofs.Common.{◌≡◌, ℕ, zero, suc, ◌+◌, ◌-◌, ◌<◌, ◌≤◌, List, [], ◌∷◌, ◌++◌, length, take, drop, set, get_or, slice_get, Some, refl, sym, ap, ◌∙◌, arith}
 use Rattle.std.specs.Prelude.{slice_range}
-use Rattle.std.proofs.lemmas.List.{take-append-le, take_all, append_assoc, length-append, drop_all, length-drop, length-take-le, drop-take, length-set, set-get_or, take-take}
+use Rattle.std.proofs.lemmas.List.{take-append-le, take_all, append_assoc, length-append, drop_all, length-drop, length-take-le, drop-take, set-get_or, take-take}
 use Rattle.std.proofs.lemmas.Option.{get_or_from_slice_get}
 use Rattle.std.proofs.lemmas.List.Folds.{drop_split}
 use Rattle.std.proofs.Math.Seq.{drop-append_seam, drop-append-add, take-append_seam, take-append-add}
@@ -276,14 +276,6 @@ second_row v k n r a first last wide is_r is_a =
     let all : place v (k + 1) - place v (k - 1) ≡ n + left = omega (arith, wide, f, more) in
     row_got v k (omega (arith, last)) ∙ ap Some (sym (is_a ∙ ap (drop n) is_r ∙ ap (λ w. drop n (take w D)) all ∙ drop-take n left D ∙
     ap (λ t. take left (drop t D)) m ∙ ap (take left) (drop_drop (concat_rows v) (place v (k - 1)) (place v k) (omega (arith, wide)))))
-
--- what a caller of `row_mut` needs: the row that was lent, and that its length stayed
-pub put_written : {X : Type 0} (v : List (List X)) (k i : ℕ) (row : List X) (h : X) → 1 ≤ k → k ≤ length v → slice_get v (k - 1) ≡ Some row →
-    with_written v (k - 1) (set row i h) ≡ set v (k - 1) (set (get_or v (k - 1) []) i h)
-put_written v k i row h first last is =
-    let same : get_or v (k - 1) [] ≡ row = get_or_from_slice_get v (k - 1) row [] is in
-    row_written v (k - 1) (set row i h) (omega (arith, first, last)) (length-set row i h ∙ ap length (sym same))
-    ∙ ap (λ r. set v (k - 1) (set r i h)) (sym same)
 
 -- what was lent as one and cut at n: the row of cell k as it was, and that of cell k + 1 written
 pub next_written : {X : Type 0} (v : List (List X)) (k n : ℕ) (r a b b' : List X) → 1 ≤ k → k + 1 ≤ length v → place v (k - 1) + n ≡ place v k →

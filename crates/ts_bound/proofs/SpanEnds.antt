@@ -195,10 +195,6 @@ machine_splits m r = go m.half refl r
     go None e r = tt
     go (Some h) e r = record { forward = refl; reverse = r; rules = m.rules h e; local = m.local h e }
 
-pub back_some : (o : Option Pair) → OfReverse o (λ b. IsTrue (is_automaton b)) → 1 ≤ back_states o
-back_some None h = absurd h
-back_some (Some p) h = let r = rules_of p.reverse h in omega (arith, r.some)
-
 pub back_length : (o : Option Pair) (behind : List (List ℤ)) (v : ℤ) → length (back_hulls o behind v) ≡ back_states o
 back_length None behind v = refl
 back_length (Some p) behind v = length-hulls_at p.reverse behind v
@@ -305,9 +301,6 @@ first_within left left' v is h = subst (AllByRecursion IsCellValue) is h
 
 pub still_there : (left left' : List ℤ) (v w : ℤ) → left ≡ w ∷ left' → (w ≡ v → ⊥) → Contains left v → Contains left' v
 still_there left left' v w is ne c = ⊎_elim (λ e. absurd (ne e)) (λ r. r) ((contains_cons w left' v).0 (subst (λ l. Contains l v) is c))
-
-pub nothing_there : (left : List ℤ) (v : ℤ) → left ≡ [] → Contains left v → ⊥
-nothing_there left v is c = let d = (subst (λ l. Contains l v) is c).1 in omega (arith, d)
 
 -- what the reverse body tells, seen through the machine
 

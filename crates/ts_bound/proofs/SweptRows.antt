@@ -1,27 +1,30 @@
 -- The row that sweeps make is the row over all pairs.
-use Rattle.std.proofs.Common.{◌≡◌, ℕ, zero, suc, ◌+◌, ◌*◌, ◌<◌, ◌≤◌, ◌⊎◌, inl, inr, Bool, true, false, cond, nat_eq, ℤ, pos, List, [], ◌∷◌, ◌++◌, length, map, take, drop, get_or, replicate, refl, sym, ◌∙◌, ap, subst, arith}
+use Rattle.std.proofs.Common.{◌≡◌, ℕ, zero, suc, ◌+◌, ◌*◌, ◌<◌, ◌≤◌, Bool, true, false, cond, nat_eq, ℤ, pos, List, [], ◌∷◌, ◌++◌, length, map, take, drop, get_or, refl, sym, ◌∙◌, ap, subst, arith}
 use Rattle.std.specs.Prelude.{IsTrue, fold, flat_map}
-use Rattle.std.specs.List.{range_with_len, list_all}
-use Rattle.std.proofs.lemmas.Bool.{and_parts, cases_lt}
-use Rattle.std.proofs.lemmas.List.{get_or-take, get_or-drop, get_or_append_left, get_or-replicate, length-replicate, take-append-drop, length-take-le, length-drop, map-append, get_or_past}
+use Rattle.std.specs.List.{AllByRecursion, range_with_len, list_all}
+use Rattle.std.proofs.lemmas.Bool.{and_parts}
+use Rattle.std.proofs.lemmas.List.{get_or-take, get_or-drop, take-append-drop, length-take-le, length-drop, map-append}
 use Rattle.std.proofs.lemmas.List.FromFn.{fill_by_all}
 use Rattle.ts_base.specs.declared.letter.Letter.{Letter}
 use Rattle.ts_base.specs.declared.letter.Letter.TheVariants.{Less, Equal, Greater}
 use Rattle.ts_base.specs.Signature.{letter_of}
 use Rattle.ts_automaton.specs.declared.regs.Hull.{Hull}
-use Rattle.ts_automaton.specs.Body.{Body, Move}
+use Rattle.ts_automaton.specs.declared.regs.HullAt.{HullAt}
+use Rattle.ts_automaton.specs.Body.{Body, Move, move_on, node_at}
 use Rattle.ts_automaton.specs.Typing.{is_automaton}
 use Rattle.ts_automaton.proofs.Rules.{rules_of, target_exists}
-use Rattle.ts_hull.specs.Hulls.{none, hull_of_both}
-use Rattle.ts_bound.specs.Filling.{over}
-use Rattle.ts_bound.specs.NextRow.{Source, sources_from, sources, hull_from, next_hull, next_hulls, next_row}
+use Rattle.ts_hull.specs.Hulls.{hull_of, none, hull_of_both}
+use Rattle.ts_automaton.specs.Registers.{spans_of}
+use Rattle.ts_automaton.specs.SpanRun.{HullStands, hull_standing, span_step}
+use Rattle.ts_bound.specs.NextRow.{RowStands, Source, standing_at, sources_from, sources, hull_from, next_hull, next_hulls, next_row}
 use Rattle.ts_hull.specs.Sealed.{after_move, move_at}
-use Rattle.ts_hull.specs.Smalls.{AreValues, small_hull}
-use Rattle.ts_hull.specs.Sweeps.{AllTakeNone, IsSweepable, total, same_letter, hull_in, pair_gives, move_entry, step_place, with_move, with_state, with_states}
+use Rattle.ts_hull.specs.Smalls.{small_hull}
+use Rattle.ts_hull.specs.Sweeps.{AllTakeNone, total, same_letter, hull_in, pair_gives, move_entry, step_place, with_move, with_state, with_states}
 use Rattle.ts_hull.proofs.HullLaws.{TakesNone, both_takes_none, none_takes_none}
 use Rattle.ts_hull.proofs.SpanHulls.{both_comm, both_assoc}
 use Rattle.ts_hull.proofs.Sums.{none_left, total_same, total_canonical, total_join, total_swap, total_canon, total_cond, total_first, fold_out, fold_both}
-use Rattle.ts_bound.proofs.SweepLaws.{with_move_canonical}
+use Rattle.ts_sweep.specs.FrontLaws.{never_added as never}
+use Rattle.ts_bound.proofs.PutLaws.{with_move_canonical}
 use Rattle.ts_hull.proofs.Puts.{place_inside, length-puts, puts_at}
 
 pub length-with_move : (m : Move) (l : Letter) (s q : ℕ) (vs : List ℤ) (row : List Hull) (ws : List ℤ) (next : List Hull) →
@@ -262,36 +265,17 @@ unfolding move_at
 leads_from a h q lt l = target_exists a (rules_of a h) q l lt
 
 pub states_done : (a : Body) (vs : List ℤ) (row : List Hull) (ws : List ℤ) (q : ℕ) (first next : List Hull) → IsTrue (is_automaton a) →
-    length row ≡ length vs * length a.states → length first ≡ length ws * length a.states →
-    ((p : ℕ) → p < length first → get_or first p none ≡ none) → length a.states ≤ q → q ≤ length a.states → next ≡ with_states a vs row ws q first →
-    next ≡ next_row a vs row ws
-states_done a vs row ws q first next leads long long' clear low high e =
-    let same : q ≡ length a.states = omega arith in e ∙ ap (λ n. with_states a vs row ws n first) same
-    ∙ row_is a vs row ws first (leads_from a leads) long long' clear
+    length row ≡ length vs * length a.states → length first ≡ length ws * length a.states → ((p : ℕ) → get_or first p none ≡ none) →
+    q ≡ length a.states → next ≡ with_states a vs row ws q first → next ≡ next_row a vs row ws
+states_done a vs row ws q first next leads long long' clear same e =
+    e ∙ ap (λ n. with_states a vs row ws n first) same ∙ row_is a vs row ws first (leads_from a leads) long long' (λ p lt. clear p)
 
-small_at : (row : List Hull) → list_all small_hull row ≡ true → (i : ℕ) → small_hull (get_or row i none) ≡ true
+pub small_at : (row : List Hull) → list_all small_hull row ≡ true → (i : ℕ) → small_hull (get_or row i none) ≡ true
 small_at [] h i = refl
 small_at (x ∷ row) h zero = (and_parts (small_hull x) (list_all small_hull row) h).0
 small_at (x ∷ row) h (suc i) = small_at row (and_parts (small_hull x) (list_all small_hull row) h).1 i
 
-pub able : (vs ws : List ℤ) (row : List Hull) → list_all small_hull row ≡ true → AreValues vs → AreValues ws → IsSweepable vs ws row
-able vs ws row h v w = record {
-  rises = v.rises;
-  next_rises = w.rises;
-  small = small_at row h;
-  small_values = v.small;
-  small_next = w.small;
-}
-
--- where every hull was cleared
-pub cleared_all : (xs next : List Hull) (n : ℕ) → n ≡ length xs → next ≡ over xs 0 (replicate n none) → (p : ℕ) → p < length xs → get_or next p none ≡ none
-cleared_all xs next n long is p lt =
-    let l = length-replicate n none in
-    ap (λ t. get_or t p none) is
-    ∙ get_or_append_left (replicate n none) (drop (0 + length (replicate n none)) xs) none p (omega (arith, l, lt, long))
-    ∙ get_or-replicate n p none none (omega (arith, lt, long))
-
-pub with_states_canonical : (a : Body) (vs : List ℤ) (row : List Hull) (ws : List ℤ) (n : ℕ) (next : List Hull) → AllTakeNone next →
+with_states_canonical : (a : Body) (vs : List ℤ) (row : List Hull) (ws : List ℤ) (n : ℕ) (next : List Hull) → AllTakeNone next →
     AllTakeNone (with_states a vs row ws n next)
 unfolding with_states with_state
 with_states_canonical a vs row ws zero next h = h
@@ -304,14 +288,87 @@ with_states_canonical a vs row ws (suc n) next h =
     (with_move_canonical (move_at a n Equal) Equal s n vs row ws n1 n2 refl
     (with_move_canonical (move_at a n Less) Less s n vs row ws n0 n1 refl (with_states_canonical a vs row ws n next h)))
 
-pub states_canonical : (a : Body) (vs : List ℤ) (row : List Hull) (ws : List ℤ) (n : ℕ) (first next : List Hull) →
-    next ≡ with_states a vs row ws n first → ((p : ℕ) → p < length first → get_or first p none ≡ none) → AllTakeNone next
-states_canonical a vs row ws n first next e clear = subst (λ (z : List Hull). AllTakeNone z) (sym e)
-    (with_states_canonical a vs row ws n first (λ p. go p (cases_lt p (length first))))
-  where
-    none_is : (h : Hull) → h ≡ none → TakesNone h
-    none_is h e = subst (λ (z : Hull). TakesNone z) (sym e) none_takes_none
+-- so far it is a row of the next cell, into which moves can be taken
+pub states_next : (a : Body) (vs : List ℤ) (row : List Hull) (ws : List ℤ) (n : ℕ) (first next : List Hull) → length first ≡ length ws * length a.states →
+    ((p : ℕ) → get_or first p none ≡ none) → next ≡ with_states a vs row ws n first → AllTakeNone next × (length next ≡ length ws * length a.states)
+states_next a vs row ws n first next long clear e = (
+  subst (λ (z : List Hull). AllTakeNone z) (sym e)
+      (with_states_canonical a vs row ws n first (λ p. subst (λ (z : Hull). TakesNone z) (sym (clear p)) none_takes_none)),
+  ap length e ∙ length-with_states a vs row ws n first ∙ long,
+)
 
-    go : (p : ℕ) → (p < length first) ⊎ (length first ≤ p) → TakesNone (get_or first p none)
-    go p (inl l) = none_is (get_or first p none) (clear p l)
-    go p (inr l) = none_is (get_or first p none) (get_or_past first p none l)
+-- with one more move it stays so
+pub move_next : (m : Move) (l : Letter) (s q : ℕ) (vs : List ℤ) (row : List Hull) (ws : List ℤ) (first next : List Hull) →
+    AllTakeNone first × (length first ≡ length ws * s) → next ≡ with_move m l s q vs row ws first → AllTakeNone next × (length next ≡ length ws * s)
+move_next m l s q vs row ws first next h e = (
+  with_move_canonical m l s q vs row ws first next e h.0,
+  ap length e ∙ length-with_move m l s q vs row ws first ∙ h.1,
+)
+
+-- all hulls of a row that stands stand at their places
+
+AllStand : Body → List Source → Type 0
+AllStand b ss = AllByRecursion (λ s. HullStands b (standing_at s)) ss
+
+all_parts : {A : Type 0} (P : A → Type 0) (xs ys : List A) → AllByRecursion P (xs ++ ys) → AllByRecursion P xs × AllByRecursion P ys
+all_parts P [] ys h = (tt, h)
+all_parts P (x ∷ xs) ys h = let t = all_parts P xs ys h.1 in ((h.0, t.0), t.1)
+
+stands_from : (b : Body) (v : ℤ) (p : ℕ) (hs : List Hull) (q : ℕ) → AllStand b (sources_from v p hs) → q < length hs →
+    HullStands b (record { state = p + q; regs = spans_of (get_or hs q none) })
+unfolding sources_from AllStand
+stands_from b v p [] q h lt = absurd (omega (arith, lt))
+stands_from b v p (x ∷ hs) zero h lt =
+    let e : p ≡ p + 0 = omega arith in subst (λ z. HullStands b (record { state = z; regs = spans_of x })) e h.0
+stands_from b v p (x ∷ hs) (suc q) h lt =
+    let e : suc p + q ≡ p + suc q = omega arith in
+    subst (λ z. HullStands b (record { state = z; regs = spans_of (get_or hs q none) })) e (stands_from b v (suc p) hs q h.1 (omega (arith, lt)))
+
+pub stands_at : (b : Body) (vs : List ℤ) (row : List Hull) (i q : ℕ) → RowStands b vs row → length row ≡ length vs * length b.states → i < length vs →
+    q < length b.states → HullStands b (record { state = q; regs = spans_of (hull_in (length b.states) q row i) })
+unfolding sources AllStand
+stands_at b [] row i q h long inside lt = absurd (omega (arith, inside))
+stands_at b (v ∷ vs) row zero q h long inside lt =
+    let s = length b.states in
+    let enough : s ≤ length row = omega (arith, long) in
+    let wide = length-take-le s row enough in
+    let here = stands_from b v 0 (take s row) q (all_parts (λ s. HullStands b (standing_at s)) _ _ h).0 (omega (arith, wide, lt)) in
+    let e : 0 + q ≡ q = omega arith in
+    let place : q ≡ 0 * s + q = omega arith in
+    subst (λ z. HullStands b (record { state = q; regs = spans_of z })) (get_or-take s row q none lt ∙ ap (λ n. get_or row n none) place)
+    (subst (λ z. HullStands b (record { state = z; regs = spans_of (get_or (take s row) q none) })) e here)
+stands_at b (v ∷ vs) row (suc i) q h long inside lt =
+    let s = length b.states in
+    let left : length (drop s row) ≡ length vs * s = let d = length-drop s row in omega (arith, d, long) in
+    let place : s + (i * s + q) ≡ suc i * s + q = omega arith in
+    subst (λ z. HullStands b (record { state = q; regs = spans_of z })) (get_or-drop s row (i * s + q) none ∙ ap (λ n. get_or row n none) place)
+    (stands_at b vs (drop s row) i q (all_parts (λ s. HullStands b (standing_at s)) _ _ h).1 left (omega (arith, inside)) lt)
+
+-- what one hull gives to a next value
+
+same_letters : (a l : Letter) → same_letter a l ≡ true → a ≡ l
+same_letters Less Less e = refl
+same_letters Less Equal e = never (sym e)
+same_letters Less Greater e = never (sym e)
+same_letters Equal Less e = never (sym e)
+same_letters Equal Equal e = refl
+same_letters Equal Greater e = never (sym e)
+same_letters Greater Less e = never (sym e)
+same_letters Greater Equal e = never (sym e)
+same_letters Greater Greater e = refl
+
+pub given_is : (b : Body) (q : ℕ) (l : Letter) (s i : ℕ) (vs : List ℤ) (row : List Hull) (v v' w w' : ℤ) (from to : HullAt) → v' ≡ v → w' ≡ w →
+    v ≡ get_or vs i (pos 0) → from ≡ record { state = q; hull = hull_in s q row i } → true ≡ same_letter (letter_of v' w') l →
+    hull_standing to ≡ span_step b (hull_standing from) v' w' → to.hull ≡ pair_gives (move_at b q l) l s q vs row w i
+unfolding move_at after_move
+given_is b q l s i vs row v v' w w' from to is_v is_w v_is from_is fit step =
+    let h = hull_in s q row i in
+    let x = get_or vs i (pos 0) in
+    let ev = is_v ∙ v_is in
+    let fits : same_letter (letter_of x w) l ≡ true = sym (fit ∙ ap (λ z. same_letter (letter_of z w') l) ev ∙ ap (λ z. same_letter (letter_of x z) l) is_w) in
+    let at : hull_standing to ≡ span_step b (record { state = q; regs = spans_of h }) x w =
+    step ∙ ap (λ z. span_step b (hull_standing z) v' w') from_is ∙ ap (λ z. span_step b (record { state = q; regs = spans_of h }) z w') ev
+    ∙ ap (λ z. span_step b (record { state = q; regs = spans_of h }) x z) is_w in
+    ap (λ z. hull_of z.regs) at
+    ∙ ap (λ z. after_move (move_on z (node_at b.states q)) h x w) (same_letters (letter_of x w) l fits)
+    ∙ ap (λ z. cond z (after_move (move_at b q l) h x w) none) (sym fits)

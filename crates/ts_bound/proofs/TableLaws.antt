@@ -235,11 +235,6 @@ unfolding backward_rows
 length-backward b [] = refl
 length-backward b (v ∷ cells) = ap suc (length-backward b cells)
 
--- each cell of the box has a row
-pub row_stands_there : (b : Body) (cells : List (List ℤ)) (rows : List (List Hull)) (k : ℕ) → rows ≡ forward_rows b cells → 1 ≤ k → k ≤ length cells →
-    IsRow k rows
-row_stands_there b cells rows k is some few = let l = ap length is ∙ length-forward b [] cells in (some, omega (arith, l, few))
-
 -- lists
 
 take_set : {X : Type 0} (t : List X) (k : ℕ) (x : X) → k < length t → take (suc k) (set t k x) ≡ take k t ++ x ∷ []
@@ -372,10 +367,6 @@ pub from_stands : (b : Body) → IsTrue (is_automaton b) → (cells : List (List
 from_stands b rules cells k t f =
     subst (RowStands b (get_or cells (k - 1) [])) (sym (from_row b cells k t f))
     (rows_back_stand b rules cells (k - 1) (let p = f.2 in let q = f.3 in omega (arith, p, q)))
-
-pub from_stands_at : (b : Body) → IsTrue (is_automaton b) → (cells : List (List ℤ)) (k i : ℕ) (t : List (List Hull)) → i ≡ k - 1 → FilledFrom b cells k t →
-    RowStands b (get_or cells i []) (get_or t i [])
-from_stands_at b rules cells k i t e f = subst (λ j. RowStands b (get_or cells j []) (get_or t j [])) (sym e) (from_stands b rules cells k t f)
 
 pub from_more : (b : Body) (cells : List (List ℤ)) (k j : ℕ) (t t' : List (List Hull)) → FilledFrom b cells k t → 1 < k → j ≡ k - 1 →
     t' ≡ set t (j - 1) (next_row b (get_or cells ((j + 1) - 1) []) (get_or t ((j + 1) - 1) []) (get_or cells (j - 1) [])) → FilledFrom b cells j t'

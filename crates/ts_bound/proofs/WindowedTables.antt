@@ -1,5 +1,5 @@
 -- Tables of all cells in which the cells that are looked at have rows: what the loops over these cells keep.
-use Rattle.std.proofs.Common.{◌≡◌, ℕ, zero, suc, ◌+◌, ◌-◌, ◌*◌, ◌<◌, ◌≤◌, ℤ, Bool, true, Option, Some, None, List, [], ◌∷◌, length, map, set, get_or, replicate, refl, sym, ap, ◌∙◌, subst, arith}
+use Rattle.std.proofs.Common.{◌≡◌, ℕ, ◌+◌, ◌-◌, ◌*◌, ◌<◌, ◌≤◌, ℤ, true, Option, Some, None, List, [], length, map, set, get_or, replicate, refl, sym, ap, ◌∙◌, subst, arith}
 use Rattle.std.specs.Prelude.{IsTrue}
 use Rattle.ts_base.specs.declared.range.Range.{Range}
 use Rattle.ts_base.specs.Windows.{LooksInside, looked_at}
@@ -7,7 +7,7 @@ use Rattle.ts_automaton.specs.declared.regs.Hull.{Hull}
 use Rattle.ts_automaton.specs.Typing.{is_automaton}
 use Rattle.ts_automaton.specs.Body.{Body}
 use Rattle.ts_hull.specs.Hulls.{none}
-use Rattle.ts_bound.specs.HullTables.{row_of, only_looked, forward_rows, forward_table, backward_rows, backward_table}
+use Rattle.ts_bound.specs.HullTables.{row_of, only_looked, forward_table, backward_table}
 use Rattle.ts_bound.specs.Looks.{is_looked, first_looked, last_looked, count_looked}
 use Rattle.ts_bound.specs.NextRow.{RowStands, next_row}
 use Rattle.ts_bound.specs.Rows.{IsRow, row_at, windowed}

@@ -1,5 +1,4 @@
 pub mod NextRow
-pub mod Filling
 pub mod Rows
 pub mod HullTables
 pub mod Looks
@@ -7,8 +6,6 @@ pub mod LendsRows
 pub mod TermSpans
 pub mod Laws
 pub mod Blocks
-pub mod PartCuts
-pub mod Packs
-pub mod SweptMoves
+pub mod Moves
 pub mod PackedRows
 pub mod CellLists

@@ -1,8 +1,8 @@
 //! The values of a cell in a list of their own, as rows that stay packed read them.
 
-ghost use Rattle.std.specs.Prelude.{◌≡◌, IfOk};
+ghost use Rattle.std.specs.Prelude.{◌≡◌, [], IfOk, OnErr};
 
-use crate::sweep_values::is_run;
+use crate::places::is_run;
 use std::alloc::Global;
 use std::marker::Model;
 use ts_base::Memory;
@@ -27,19 +27,54 @@ impl Model for CellValues {
     ghost invariant = { λ c. AreLent c.values.items c.is_run };
 }
 
+/// A list takes the values of a domain. Its memory is used again; where there is too little, it is empty.
+fn take_values(values: &mut Vec<i64>, domain: &Domain) -> Result<(), Memory>
+    ensures taken { IfOk result (λ u. values.new.items ≡ domain.now) }
+    ensures emptied { OnErr result (values.new.items ≡ []) }
+{
+    values.clear();
+    match values.extend(domain.values()) {
+        Ok(()) => Ok(()),
+        Err(_) => {
+            values.clear();
+            Err(Memory)
+        }
+    }
+}
+
 impl CellValues {
+    /// No value.
+    pub fn empty(alloc: Global) -> CellValues
+        ensures { result ≡ [] }
+    {
+        CellValues {
+            values: Vec::new(alloc),
+            is_run: false,
+        }
+    }
+
     /// The values of a domain.
     pub fn of(alloc: Global, domain: &Domain) -> Result<CellValues, Memory>
         ensures { IfOk result (λ c. c ≡ domain.now) }
     {
+        let mut cell = CellValues::empty(alloc);
+        cell.reset(domain)?;
+        Ok(cell)
+    }
+
+    /// The values of another domain, in the same memory. Where there is too little, it has no value.
+    #[tactic(auto, using(crate::proofs::ValueLaws::domain_end, crate::proofs::ValueLaws::domain_few))]
+    pub fn reset(&mut self, domain: &Domain) -> Result<(), Memory>
+        ensures values { IfOk result (λ u. self.new ≡ domain.now) }
+        ensures emptied { OnErr result (self.new ≡ []) }
+    {
         let count = domain.size() as usize;
         let ends = domain.ends();
         let gapless = is_run(ends.low, ends.high, count);
-        let list: Vec<i64> = domain.values().collect(alloc)?;
-        Ok(CellValues {
-            values: list,
-            is_run: gapless,
-        })
+        self.is_run = false;
+        take_values(&mut self.values, domain)?;
+        self.is_run = gapless;
+        Ok(())
     }
 
     /// They are lent to a row.

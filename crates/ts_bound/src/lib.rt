@@ -13,40 +13,21 @@
 //! ```
 #![tactic(auto)]
 
+mod between;
 mod block;
 mod cell_values;
-mod fill;
 pub mod laws;
 mod looks;
-mod other_moves;
-mod packed;
-mod packed_exprs;
+mod moves;
 mod packed_rows;
-mod packed_sums;
+mod pairs;
+mod places;
 mod row;
-mod same_moves;
-mod single;
 mod small;
 mod spans;
 mod start;
-mod sweep;
-mod sweep_by_parts;
-mod sweep_by_words;
-mod sweep_equal;
-mod sweep_equal_parts;
-mod sweep_fronts;
-mod sweep_kept;
-mod sweep_move;
-mod sweep_pairs;
-mod sweep_parts;
-mod sweep_run;
-mod sweep_state;
-mod sweep_steps;
-mod sweep_values;
-mod swept_move;
 mod table;
 mod tables;
-mod widen;
 
 pub use cell_values::CellValues;
 pub use looks::{ends, is_looked, looked_count, read_at};

@@ -1,21 +1,22 @@
 //! One row of hulls from the row before.
 
-ghost use Rattle.std.specs.Prelude.{◌≡◌, ◌*◌, length};
+ghost use Rattle.std.specs.Prelude.{◌≡◌, ◌*◌, ℕ, length, get_or};
 ghost use Rattle.ts_bound.specs.NextRow.{RowStands, next_row};
+ghost use Rattle.ts_hull.specs.Hulls.{none};
 
-use crate::fill::fill_by_pairs;
+use crate::between::Between;
+use crate::moves::take_state;
+use crate::places::Places;
 use crate::small::are_small;
-use crate::sweep::sweep_row;
-use crate::sweep_values::Places;
 use ts_automaton::{Automaton, Hull};
 use ts_domain::Domain;
 
 /// One row from the row before it: for each value of the cell and each state the hull of the moves of all values of the
 /// cell before and all states. Both rows have a hull for each value and state, value by value in rising order, and the
 /// hulls of `before` are none or have the kinds of their states. It takes no memory. The steps are in proportion to the
-/// values of both cells for each move of which no expression reads the next cell but in its last operand, and to their
-/// pairs for the others, and to all pairs where a hull of `before` has a number above 10^16 in size; a cell whose values have
-/// gaps costs a search by halving for each value beside that.
+/// values of both cells for each move that sweeps take in (`swept_parts`: the next cell is at most the last operand of an
+/// expression), and to their pairs for the others, and for all where a hull of `before` has a number above 10^16 in size;
+/// a cell whose values have gaps costs a search by halving for each value beside that.
 pub fn fill_row(
     a: &Automaton,
     before_values: &Domain,
@@ -28,15 +29,25 @@ pub fn fill_row(
     requires kinds { RowStands a.now before_values.now before.now }
     ensures { next.new ≡ next_row a.now before_values.now before.now values.now }
 {
-    if are_small(before) {
-        sweep_row(
-            a,
-            &Places::of(before_values),
-            before,
-            &Places::of(values),
-            next,
-        );
-    } else {
-        fill_by_pairs(a, before_values, before, values, next);
+    let m = Between {
+        automaton: a,
+        values: Places::of(before_values),
+        before,
+        is_small: are_small(before),
+        next_values: Places::of(values),
+    };
+    clear(next);
+    for q in 0..a.states() {
+        take_state(&m, q, next);
+    }
+}
+
+/// Every hull becomes none.
+pub(crate) fn clear(row: &mut [Hull])
+    ensures len { length row.new ≡ length row.old }
+    ensures each { (p : ℕ) → get_or row.new p none ≡ none }
+{
+    for p in 0..row.len() {
+        row[p] = Hull::none();
     }
 }

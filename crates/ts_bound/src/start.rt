@@ -1,12 +1,9 @@
 //! The row of the cell at which runs start.
 
-ghost use Rattle.std.specs.Prelude.{◌≡◌, ◌+◌, ◌*◌, ◌≤◌, [], length, set};
-ghost use Rattle.std.proofs.Common.{replicate};
-ghost use Rattle.ts_bound.specs.Filling.{over};
+ghost use Rattle.std.specs.Prelude.{◌≡◌, ◌*◌, [], length};
 ghost use Rattle.ts_bound.specs.HullTables.{row_of};
-ghost use Rattle.ts_hull.specs.Hulls.{none};
 
-use crate::fill::clear;
+use crate::row::clear;
 use ts_automaton::{Automaton, Hull};
 use ts_domain::Domain;
 
@@ -17,19 +14,8 @@ pub(crate) fn fill_start(a: &Automaton, values: &Domain, row: &mut [Hull])
 {
     let states = a.states() as usize;
     let hull = Hull::one(a.start().regs);
-    let mut at = 0;
-    for _value in values.values() {
-        start_value(hull, row, at, states);
-        at += states;
+    clear(row);
+    for i in 0..values.size() as usize {
+        row[i * states] = hull;
     }
-}
-
-/// The hulls of one value, from place `at` on: this one in the first of so many states.
-fn start_value(hull: Hull, row: &mut [Hull], at: usize, states: usize)
-    requires some { 1 ≤ states }
-    requires inside { at + states ≤ length row.old }
-    ensures { row.new ≡ over row.old at (set (replicate states none) 0 hull) }
-{
-    clear(row, at, states);
-    row[at] = hull;
 }

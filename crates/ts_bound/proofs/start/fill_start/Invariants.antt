@@ -1,5 +1,6 @@
-use Rattle.ts_bound.proofs.Filled.{LeftOfStart}
+use Rattle.std.proofs.Common.{length}
+use Rattle.ts_bound.proofs.Starts.{IsStarted}
 use Rattle.ts_bound.proofs.start.fill_start.Given as goal
 
-abbrev pub invariant-loop-value : goal.invariant-loop-value
-invariant-loop-value l = LeftOfStart l.a l.values l._value-iterator l.at l.row
+abbrev pub invariant-loop-i : goal.invariant-loop-i
+invariant-loop-i l = IsStarted l.a (length l.values) l.i l.row

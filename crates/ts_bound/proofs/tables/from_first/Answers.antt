@@ -1,7 +1,5 @@
-use Rattle.std.proofs.Common.{refl, sym, ap, ◌∙◌, ◌-◌, ◌+◌, length, arith}
-use Rattle.ts_base.specs.Windows.{looked_at}
+use Rattle.std.proofs.Common.{sym, ap, ◌∙◌, ◌+◌, length, arith}
 use Rattle.ts_bound.specs.Looks.{last_looked}
-use Rattle.ts_bound.proofs.TableLaws.{FilledTo}
 use Rattle.ts_bound.proofs.WindowedTables.{all_empty, none_over, over_length, row_inside, row_size, start_over, stands_over, step_over, all_over, are_ends}
 use Rattle.ts_bound.proofs.tables.from_first.Goals as goal
 

@@ -1,5 +1,4 @@
 use Rattle.std.proofs.Common.{refl, sym, ap, ◌∙◌, ◌-◌, ◌+◌, length, arith}
-use Rattle.ts_base.specs.Windows.{looked_at}
 use Rattle.ts_bound.specs.Looks.{last_looked}
 use Rattle.ts_bound.proofs.WindowedTables.{all_empty, none_under, over_length, row_inside, row_size, end_over, from_high, stands_back, step_under, all_under, are_ends}
 use Rattle.ts_bound.proofs.tables.from_last.Goals as goal

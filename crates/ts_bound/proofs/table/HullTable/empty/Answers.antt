@@ -1,4 +1,4 @@
-use Rattle.std.proofs.Common.{◌+◌, refl, sym, ap, ◌∙◌, length, replicate, arith}
+use Rattle.std.proofs.Common.{◌+◌, refl, ap, ◌∙◌, replicate, arith}
 use Rattle.ts_bound.specs.HullTables.{only_looked}
 use Rattle.ts_hull.specs.Hulls.{hull_of}
 use Rattle.ts_bound.proofs.Emptied.{box_more, box_starts, box_rows, only_length, only_size}

@@ -1,6 +1,0 @@
-use Rattle.std.proofs.Common.{◌≡◌}
-use Rattle.ts_hull.specs.Sweeps.{with_states}
-use Rattle.ts_bound.proofs.sweep.sweep_row.Given as goal
-
-abbrev pub invariant-loop-q : goal.invariant-loop-q
-invariant-loop-q l = l.next ≡ with_states l.a l.values l.before l.next_values l.q l.initial.next
