@@ -1,15 +1,16 @@
-//! Rows of hulls that stay packed: that of a cell from that of the cell before.
+//! Rows of hulls that stay packed: that of a cell from that of the cell before, and the hulls of a value out of it.
 
-ghost use Rattle.std.specs.Prelude.{◌≡◌, ◌≤◌, ℤ, List, [], ◌∷◌, IfOk, length};
+ghost use Rattle.std.specs.Prelude.{◌≡◌, ◌+◌, ◌*◌, ◌<◌, ◌≤◌, ℤ, List, [], ◌∷◌, IfOk, get_or, length, slice_range};
 ghost use Rattle.ts_bound.specs.PackedRows.{IsPackedRow};
 ghost use Rattle.ts_row.specs.Plans.{IsPlanOf};
-ghost use Rattle.ts_row.specs.Rows.{IsRow};
+ghost use Rattle.ts_row.specs.Rows.{IsRow, flat_row, hull_in};
 ghost use Rattle.ts_row.specs.Takings.{count_in};
 
 use std::alloc::Global;
-use ts_automaton::Automaton;
+use ts_automaton::{Automaton, Hull};
 use ts_base::Memory;
 use ts_row::{Cell, PackedRow, Plan, next_row, start_row};
+use ts_sweep::strided::unpacked;
 
 /// The row of the cell at which runs start. The memory of the row is used again.
 pub fn first_packed_row<const N: usize>(
@@ -46,4 +47,25 @@ pub fn next_packed_row<const N: usize>(
 {
     next_row(alloc, a, plan, values, before, next_values, next)?;
     Ok(())
+}
+
+/// The hull of a state at a place, out of a row.
+fn unpacked_hull(row: &PackedRow<6>, q: u8, i: usize) -> Hull
+    requires state { q < length row.now }
+    requires inside { i < length (get_or row.now q []) }
+    ensures { result ≡ hull_in 6 row.now q i }
+{
+    unpacked(&row.column(q)[i])
+}
+
+/// The hulls of the value at place `i` out of a row of so many states at so many values: one for each state.
+pub fn unpack_block(row: &PackedRow<6>, states: u8, count: usize, i: usize, block: &mut [Hull])
+    requires row { IsRow 6 states count row.now }
+    requires inside { i < count }
+    requires block { length block.old ≡ states }
+    ensures { block.new ≡ slice_range (flat_row 6 states count row.now) (i * states) (i * states + states) }
+{
+    for q in 0..states {
+        block[q as usize] = unpacked_hull(row, q, i);
+    }
 }
