@@ -1,15 +1,12 @@
 -- Rows that are known of a box: one more of them, what a change leaves of them, and which hulls they have.
-use Rattle.std.proofs.Common.{◌≡◌, ℕ, min, zero, suc, ◌+◌, ◌*◌, ◌-◌, ◌<◌, ◌≤◌, ℤ, List, [], ◌∷◌, ◌++◌, length, take, drop, reverse, get_or, Option, Some, None, refl, sym, ap, ◌∙◌, subst, arith}
-use Rattle.std.specs.Prelude.{IsTrue}
+use Rattle.std.proofs.Common.{◌≡◌, ℕ, min, zero, suc, ◌+◌, ◌-◌, ◌<◌, ◌≤◌, ℤ, List, [], ◌∷◌, ◌++◌, length, take, drop, reverse, get_or, Option, Some, None, refl, sym, ap, ◌∙◌, arith}
 use Rattle.std.proofs.lemmas.List.{append-nil, take_more, take_at, drop_at, length-append, length-take, length-drop, take_min, take-take, take-append-drop, reverse-append, length-reverse, reverse-reverse, get_or-take, get_or-reverse, get_or_default}
 use Rattle.ts_automaton.specs.declared.regs.Hull.{Hull}
 use Rattle.ts_automaton.specs.Body.{Body}
-use Rattle.ts_automaton.specs.Typing.{is_automaton}
 use Rattle.ts_bound.specs.Blocks.{OfReverse}
 use Rattle.ts_bound.specs.HullTables.{row_of, rows_behind, forward_rows, cells_before, cells_after, values_at}
-use Rattle.ts_bound.specs.NextRow.{RowStands, next_row}
 use Rattle.ts_bound.proofs.SpanRuns.{forward_row}
-use Rattle.ts_bound.proofs.TableLaws.{length-forward, length-row_of, row_on, rows_stand}
+use Rattle.ts_bound.proofs.TableLaws.{length-forward}
 use Rattle.ts_glue.specs.Pairs.{Pair}
 use Rattle.ts_filter.specs.Boxes.{Box}
 use Rattle.ts_filter.specs.declared.reading.Way.{Way}
@@ -62,7 +59,7 @@ pub known_at : (a : Body) (cells : Box) (rows : Rows) (i : ℕ) → AreFirst a c
     get_or rows i [] ≡ get_or (forward_rows a cells) i []
 known_at a cells rows i h lt = ap (λ l. get_or l i []) h ∙ get_or-take (length rows) (forward_rows a cells) i [] lt
 
-row_at_place : (a : Body) (cells : Box) (i : ℕ) → i < length cells → get_or (forward_rows a cells) i [] ≡ row_of a (reverse (take i cells)) (get_or cells i [])
+pub row_at_place : (a : Body) (cells : Box) (i : ℕ) → i < length cells → get_or (forward_rows a cells) i [] ≡ row_of a (reverse (take i cells)) (get_or cells i [])
 row_at_place a cells i lt = forward_row a [] cells i lt ∙ ap (λ z. row_of a z (get_or cells i [])) (append-nil (reverse (take i cells)))
 
 -- what a change leaves
@@ -100,24 +97,6 @@ first_behind a cells rows row values none lt is_values is =
 pub before_is : (a : Body) (cells : Box) (rows : Rows) (before d : List Hull) (i : ℕ) → AreFirst a cells rows → i < length rows →
     before ≡ get_or rows i d → before ≡ get_or (forward_rows a cells) i []
 before_is a cells rows before d i h lt is = is ∙ get_or_default rows i d [] lt ∙ known_at a cells rows i h lt
-
-pub before_long : (a : Body) (cells : Box) (before : List Hull) (values : List ℤ) (i : ℕ) → i < length cells → before ≡ get_or (forward_rows a cells) i [] →
-    values ≡ get_or cells i [] → length before ≡ length values * length a.states
-before_long a cells before values i lt is is_values =
-    ap length (is ∙ row_at_place a cells i lt ∙ ap (row_of a (reverse (take i cells))) (sym is_values)) ∙ length-row_of a (reverse (take i cells)) values
-
-pub before_stands : (a : Body) → IsTrue (is_automaton a) → (cells : Box) (before : List Hull) (values : List ℤ) (i : ℕ) → i < length cells →
-    before ≡ get_or (forward_rows a cells) i [] → values ≡ get_or cells i [] → RowStands a values before
-before_stands a rules cells before values i lt is is_values =
-    subst (λ vs. RowStands a vs before) (sym is_values) (subst (RowStands a (get_or cells i [])) (sym is) (rows_stand a rules [] cells i lt))
-
-pub next_behind : (a : Body) (cells : Box) (rows : Rows) (row before : List Hull) (before_values values : List ℤ) (i : ℕ) → suc i ≡ length rows →
-    length rows < length cells → before ≡ get_or (forward_rows a cells) i [] → before_values ≡ get_or cells i [] → values ≡ get_or cells (length rows) [] →
-    row ≡ next_row a before_values before values → row ≡ get_or (forward_rows a cells) (length rows) []
-next_behind a cells rows row before before_values values i at lt is is_before is_values made =
-    made ∙ ap (λ u. next_row a u before values) is_before ∙ ap (λ r. next_row a (get_or cells i []) r values) is
-    ∙ ap (next_row a (get_or cells i []) (get_or (forward_rows a cells) i [])) (is_values ∙ ap (λ j. get_or cells j []) (sym at))
-    ∙ sym (row_on a [] cells i (omega (arith, at, lt))) ∙ ap (λ j. get_or (forward_rows a cells) j []) at
 
 -- the rows of a cell
 

@@ -11,9 +11,10 @@ use Rattle.ts_bound.specs.HullTables.{forward_rows}
 use Rattle.ts_bound.specs.NextRow.{next_row}
 use Rattle.ts_bound.specs.TermSpans.{Automata}
 use Rattle.ts_bound.proofs.TableLaws.{row_on}
+use Rattle.ts_filter.specs.declared.planned.Planned.{Planned}
 use Rattle.ts_filter.specs.Boxes.{Box}
 use Rattle.ts_filter.specs.KnownRows.{AreFirst, AreKnown, AreRows, AreRowsOf, AreBehind, GoOnBehind, KnownRows, StayKnown, StillKnown}
-use Rattle.ts_filter.specs.RowStacks.{Rows, Laid, Stack, IsFollowed, GoOn, Stands, IsOneMore, IsCut, no_rows, nothing_laid, with_row}
+use Rattle.ts_filter.specs.RowStacks.{Rows, Laid, Stack, IsFollowed, GoOn, IsPlanned, Stands, IsOneMore, IsCut, no_rows, nothing_laid, with_row}
 use Rattle.ts_domain.proofs.Sets.{nothing_in}
 use Rattle.ts_glue.specs.Pairs.{Pair}
 use Rattle.ts_model.specs.declared.model.Require.{Require}
@@ -67,7 +68,7 @@ laid_stay a b later end known old new h g (inr le) is to count same =
 
 -- a row that is known, in the place of one that lay there before
 
-pub put_within : (rows : Rows) (at : ℕ) (row : List Hull) → at < length rows → set rows at row ≡ with_row at row rows
+pub put_within : {X : Type 0} (rows : List X) (at : ℕ) (row : X) → at < length rows → set rows at row ≡ with_row at row rows
 put_within rows at row lt = let on : suc at ≡ at + 1 = omega arith in set_split rows at row lt ∙ ap (λ n. take at rows ++ row ∷ drop n rows) on
 
 above_row : (rows : Rows) (at : ℕ) (row : List Hull) (i : ℕ) → at ≤ length rows → at < i → get_or (with_row at row rows) i [] ≡ get_or rows i []
@@ -146,14 +147,17 @@ all_known a cells rows from k g le lt h is =
 pub one_more_row : (a : Body) (cells : Box) (old new : Stack) (row : List Hull) → AreRows a cells old → length old.known < length cells →
     row ≡ get_or (forward_rows a cells) (length old.known) [] → IsOneMore row old new → AreRows a cells new
 one_more_row a cells old new row h lt is more = record {
+  planned = subst (IsPlanned a) (sym more.planned) h.planned;
   known = subst (AreFirst a cells) (sym more.known) (one_more a cells old.known row h.known lt is);
   laid = subst (λ r. GoOn a cells r new.laid.from) (sym more.rows)
       (with_row_go_on a cells old.laid.rows (length old.known) row old.laid.from new.laid.from h.laid more.within lt more.from more.above);
 }
 
 pub all_rows_stand : (a : Body) (cells : Box) (old new : Stack) (row : List Hull) → AreRows a cells old → Stands row old →
-    row ≡ get_or (forward_rows a cells) (length old.known) [] → new.known ≡ old.laid.rows → new.laid ≡ old.laid → AreRows a cells new
-all_rows_stand a cells old new row h s is all same = record {
+    row ≡ get_or (forward_rows a cells) (length old.known) [] → new.planned ≡ old.planned → new.known ≡ old.laid.rows → new.laid ≡ old.laid →
+    AreRows a cells new
+all_rows_stand a cells old new row h s is plan all same = record {
+  planned = subst (IsPlanned a) (sym plan) h.planned;
   known = subst (AreFirst a cells) (sym all)
       (all_known a cells old.laid.rows old.laid.from (length old.known) h.laid s.from s.there (subst (AreFirst a cells) s.known h.known) (s.same ∙ is));
   laid = subst (λ (l : Laid). GoOn a cells l.rows l.from) (sym same) h.laid;
@@ -161,10 +165,10 @@ all_rows_stand a cells old new row h s is all same = record {
 
 -- the same, as the code holds the rows
 
-pub standing : (rows : Rows) (k from n : ℕ) (row here d : List Hull) (s : Stack) →
-    record { known = take k rows; laid = record { rows = rows; from = from } } ≡ s → k ≤ length rows → n ≡ length rows → (k ≡ n → ⊥) → from ≤ k →
+pub standing : (p : Planned) (rows : Rows) (k from n : ℕ) (row here d : List Hull) (s : Stack) →
+    record { planned = p; known = take k rows; laid = record { rows = rows; from = from } } ≡ s → k ≤ length rows → n ≡ length rows → (k ≡ n → ⊥) → from ≤ k →
     here ≡ get_or rows k d → here ≡ row → Stands row s
-standing rows k from n row here d s is le count ne to at same =
+standing p rows k from n row here d s is le count ne to at same =
     let lt : k < length rows = below k n (length rows) le count ne in
     let long : length (take k rows) ≡ k = omega (arith, length-take k rows, le) in
     subst (Stands row) is (record {
@@ -177,14 +181,15 @@ standing rows k from n row here d s is le count ne to at same =
     below : (k n m : ℕ) → k ≤ m → n ≡ m → (k ≡ n → ⊥) → k < m
     below k n m le e ne = grind (arith, le, e, ne)
 
-pub pushed : (rows new : Rows) (k from next : ℕ) (row : List Hull) (old : Stack) →
-    record { known = take k rows; laid = record { rows = rows; from = from } } ≡ old → k ≤ length rows → new ≡ with_row k row rows →
+pub pushed : (p : Planned) (rows new : Rows) (k from next : ℕ) (row : List Hull) (old : Stack) →
+    record { planned = p; known = take k rows; laid = record { rows = rows; from = from } } ≡ old → k ≤ length rows → new ≡ with_row k row rows →
     from ≤ next → k + 1 ≤ next →
-    IsOneMore row old (record { known = take (k + 1) new; laid = record { rows = new; from = next } })
-pushed rows new k from next row old is le now to above =
+    IsOneMore row old (record { planned = p; known = take (k + 1) new; laid = record { rows = new; from = next } })
+pushed p rows new k from next row old is le now to above =
     let long : length (take k rows) ≡ k = omega (arith, length-take k rows, le) in
     let one : length (take k rows ++ row ∷ []) ≡ k + 1 = omega (arith, length-append (take k rows) (row ∷ []), long) in
-    subst (λ (o : Stack). IsOneMore row o (record { known = take (k + 1) new; laid = record { rows = new; from = next } })) is (record {
+    subst (λ (o : Stack). IsOneMore row o (record { planned = p; known = take (k + 1) new; laid = record { rows = new; from = next } })) is (record {
+      planned = refl;
       known = ap (take (k + 1)) (now ∙ sym (append_assoc (take k rows) (row ∷ []) (drop (k + 1) rows)))
           ∙ take_at (take k rows ++ row ∷ []) (drop (k + 1) rows) (k + 1) one;
       within = omega (arith, long, le);
@@ -244,10 +249,10 @@ no_behind : (p : Option Pair) (cells : Box) → AreBehind p cells [] × GoOnBehi
 no_behind None cells = (tt, tt)
 no_behind (Some p) cells = (refl, record { few = omega arith; each = λ i le lt. absurd (omega (arith, lt)) })
 
-pub nothing_known : (a : Automata) (x y : Stack) (quiet : List Require) (t : KnownRows) (cells : Box) → x ≡ no_rows → y ≡ no_rows → quiet ≡ [] →
-    tables a x y quiet ≡ t → AreRowsOf cells t
-nothing_known a x y quiet t cells is is' none now =
-    let empty : AreRowsOf cells (tables a no_rows no_rows []) = record {
+pub nothing_known : (a : Automata) (p q : Planned) (x y : Stack) (quiet : List Require) (t : KnownRows) (cells : Box) → x ≡ no_rows p → y ≡ no_rows q →
+    quiet ≡ [] → tables a x y quiet ≡ t → AreRowsOf cells t
+nothing_known a p q x y quiet t cells is is' none now =
+    let empty : AreRowsOf cells (tables a (no_rows p) (no_rows q) []) = record {
       ahead = refl;
       behind = (no_behind a.pair cells).0;
       laid_ahead = record { few = omega arith; each = λ i le lt. absurd (omega (arith, lt)) };
@@ -255,7 +260,7 @@ nothing_known a x y quiet t cells is is' none now =
       quiet = λ r c. absurd (nothing_in r c);
     } in
     subst (AreRowsOf cells)
-    (ap (λ z. tables a z no_rows []) (sym is) ∙ ap (λ z. tables a x z []) (sym is') ∙ ap (tables a x y) (sym none) ∙ now) empty
+    (ap (λ z. tables a z (no_rows q) []) (sym is) ∙ ap (λ z. tables a x z []) (sym is') ∙ ap (tables a x y) (sym none) ∙ now) empty
 
 -- tables with more rows
 

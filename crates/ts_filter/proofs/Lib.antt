@@ -17,7 +17,7 @@ pub mod CallLaws
 mod AnswerLaws
 mod Refuting
 mod Removals
-mod SameHulls
+mod PackedStacks
 mod DropLaws
 mod EarlyCells
 pub mod KeptLaws

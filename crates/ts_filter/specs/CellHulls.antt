@@ -1,12 +1,13 @@
 -- The hulls of one cell: its row of the forward automaton, and that of the reverse one.
-use Rattle.std.specs.Prelude.{◌≡◌, ◌≤◌, ℕ, List, length, Option, None, MatchOption}
+use Rattle.std.specs.Prelude.{◌≡◌, ◌≤◌, ℕ, length, Option, None, MatchOption}
 use Rattle.ts_base.specs.Windows.{looked_at}
-use Rattle.ts_automaton.specs.declared.regs.Hull.{Hull}
 use Rattle.ts_bound.specs.Blocks.{OfReverse}
-use Rattle.ts_bound.specs.HullTables.{row_of, cells_before, cells_after}
+use Rattle.ts_bound.specs.HullTables.{cells_before, cells_after}
 use Rattle.ts_bound.specs.Looks.{first_looked, last_looked, place_in}
+use Rattle.ts_bound.specs.PackedRows.{IsPackedRow}
 use Rattle.ts_bound.specs.TermSpans.{Automata, LooksIn}
 use Rattle.ts_filter.specs.Boxes.{Box, values_at}
+use Rattle.ts_filter.specs.RowStacks.{Columns}
 
 -- what contracts see of them: whose they are, and where
 pub record AtCell : Type 0 where
@@ -31,16 +32,16 @@ seen_before a k b = cells_before (place_in a.window k) (looked_at a.window b)
 abbrev pub seen_after : Automata → ℕ → Box → Box
 seen_after a k b = cells_after (place_in a.window k) (looked_at a.window b)
 
--- the row of cell k of the forward automaton, which reads the cells before it
-abbrev pub ahead_row : Automata → ℕ → Box → List Hull
-ahead_row a k b = row_of a.forward (seen_before a k b) (values_at k b)
+-- the row is that of cell k of the forward automaton, which reads the cells before it
+abbrev pub IsAheadRow : Automata → ℕ → Box → Columns → Type 0
+IsAheadRow a k b row = IsPackedRow 6 a.forward (seen_before a k b) (values_at k b) row
 
--- the row is that of the reverse automaton, which reads the cells after it
-abbrev pub IsBackRow : Automata → ℕ → Box → List Hull → Type 0
-IsBackRow a k b row = OfReverse a.pair (λ r. row ≡ row_of r (seen_after a k b) (values_at k b))
+-- it is that of the reverse automaton, which reads the cells after it
+abbrev pub IsBackRow : Automata → ℕ → Box → Columns → Type 0
+IsBackRow a k b row = OfReverse a.pair (λ r. IsPackedRow 6 r (seen_after a k b) (values_at k b) row)
 
 -- the rows are those of the cell; the last cell that is looked at needs none of the reverse automaton
-pub record AreHulls (a : Automata) (b : Box) (k : ℕ) (row : List Hull) (back : Option (List Hull)) : Type 0 where
+pub record AreHulls (a : Automata) (b : Box) (k : ℕ) (row : Columns) (back : Option Columns) : Type 0 where
   pub there : HasHulls a k b
-  pub ahead : row ≡ ahead_row a k b
+  pub ahead : IsAheadRow a k b row
   pub behind : MatchOption back (k ≡ last_looked a.window (length b)) (IsBackRow a k b)

@@ -12,15 +12,17 @@ use Rattle.ts_filter.specs.declared.reading.Way.TheVariants.{FromFirst, FromLast
 use Rattle.ts_filter.specs.Boxes.{Box}
 use Rattle.ts_filter.specs.Drops.{IsFirstOf}
 use Rattle.ts_filter.specs.Reading.{in_order}
-use Rattle.ts_filter.specs.RowStacks.{Rows, Laid, GoOn, Stack}
+use Rattle.ts_filter.specs.declared.planned.Planned.{Planned}
+use Rattle.ts_filter.specs.RowStacks.{Rows, Laid, GoOn, IsPlanned, Stack}
 use Rattle.ts_filter.specs.TermDrops.{IsQuiet, IsTermDrop}
 
 -- these are the rows of the cells that the automaton reads first
 abbrev pub AreFirst : Body → Box → Rows → Type 0
 AreFirst a cells rows = rows ≡ take (length rows) (forward_rows a cells)
 
--- the known ones are, and the others go on
+-- they are made by the plan of the automaton; the known ones are, and the others go on
 pub record AreRows (a : Body) (cells : Box) (s : Stack) : Type 0 where
+  pub planned : IsPlanned a s.planned
   pub known : AreFirst a cells s.known
   pub laid : GoOn a cells s.laid.rows s.laid.from
 
@@ -33,6 +35,16 @@ pub record KnownRows : Type 0 where
   pub laid_ahead : Laid
   pub laid_behind : Laid
   pub quiet : List Require
+
+-- the plan is that of the reverse automaton, where there is one
+abbrev pub IsPlannedBack : Option Pair → Planned → Type 0
+IsPlannedBack None p = Unit {0}
+IsPlannedBack (Some m) p = IsPlanned m.reverse p
+
+-- the rows of a machine are made by the plans of its automata
+pub record AreTables (a : Automata) (ahead behind : Planned) : Type 0 where
+  pub forward : IsPlanned a.forward ahead
+  pub reverse : IsPlannedBack a.pair behind
 
 -- these are backward rows; a machine that can't be split has none
 abbrev pub AreBehind : Option Pair → Box → Rows → Type 0

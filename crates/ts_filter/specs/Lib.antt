@@ -18,7 +18,6 @@ pub mod Reading
 pub mod RefutedWorseDrop
 pub mod RowStacks
 pub mod Rules
-pub mod SameHulls
 pub mod SoFar
 pub mod Steps
 pub mod TermDrops

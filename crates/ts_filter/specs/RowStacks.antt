@@ -1,12 +1,42 @@
 -- Rows on top of one another, of which the first are known.
-use Rattle.std.specs.Prelude.{◌≡◌, ℕ, ◌+◌, ◌<◌, ◌≤◌, ◌⊎◌, List, [], ◌∷◌, ◌++◌, length, take, drop, get_or}
+use Rattle.std.specs.Prelude.{◌≡◌, ℕ, ◌+◌, ◌<◌, ◌≤◌, ◌⊎◌, List, [], ◌∷◌, ◌++◌, length, map, take, drop, get_or}
 use Rattle.ts_automaton.specs.declared.regs.Hull.{Hull}
 use Rattle.ts_automaton.specs.Body.{Body}
+use Rattle.ts_sweep.specs.declared.packed.PackedHull.{PackedHull}
+use Rattle.ts_row.specs.Plans.{IsPlanOf}
+use Rattle.ts_row.specs.Rows.{IsRow, flat_row}
 use Rattle.ts_bound.specs.NextRow.{next_row}
+use Rattle.ts_filter.specs.declared.planned.Planned.{Planned}
+use Rattle.ts_filter.specs.declared.row_stack.HullRow.{HullRow}
 use Rattle.ts_filter.specs.Boxes.{Box}
+
+-- the plan is that of the automaton, and so is the number of states
+pub record IsPlanned (a : Body) (p : Planned) : Type 0 where
+  pub plan : IsPlanOf a p.plan
+  pub states : p.states ≡ length a.states
+  pub some : 0 < p.states
+
+-- a packed row: a column for each state
+abbrev pub Columns : Type 0
+Columns = List (List (PackedHull 6))
+
+-- of how many values it is, where it has a state
+abbrev pub values_in : Columns → ℕ
+values_in row = length (get_or row 0 [])
+
+-- it has so many states
+abbrev pub HasStates : ℕ → Columns → Type 0
+HasStates states row = IsRow 6 states (values_in row) row
+
+-- its hulls in a list, value by value
+abbrev pub hulls_in : ℕ → Columns → List Hull
+hulls_in states row = flat_row 6 states (values_in row) row
 
 abbrev pub Rows : Type 0
 Rows = List (List Hull)
+
+abbrev pub all_hulls : ℕ → List HullRow → Rows
+all_hulls states rows = map (λ (r : HullRow). hulls_in states r.packed) rows
 
 -- rows that may be of other boxes; from place `from` on each is the next row after the one before
 pub record Laid : Type 0 where
@@ -23,19 +53,20 @@ pub record GoOn (a : Body) (cells : Box) (rows : Rows) (from : ℕ) : Type 0 whe
   pub few : length rows ≤ length cells
   pub each : (i : ℕ) → from ≤ i → i + 1 < length rows → IsFollowed a cells rows i
 
--- the known rows, and all that lie there
+-- what the rows are made by, the known rows, and all that lie there
 pub record Stack : Type 0 where
+  pub planned : Planned
   pub known : Rows
   pub laid : Laid
 
 abbrev pub nothing_laid : Laid
 nothing_laid = record { rows = []; from = 0 }
 
-abbrev pub no_rows : Stack
-no_rows = record { known = []; laid = nothing_laid }
+abbrev pub no_rows : Planned → Stack
+no_rows p = record { planned = p; known = []; laid = nothing_laid }
 
 -- a row at a place, above the last one or in the place of another
-abbrev pub with_row : ℕ → List Hull → Rows → Rows
+abbrev pub with_row : {X : Type 0} → ℕ → X → List X → List X
 with_row at row rows = take at rows ++ row ∷ drop (at + 1) rows
 
 -- the row lies on top of the known ones, and the rows above go on from it
@@ -47,6 +78,7 @@ pub record Stands (row : List Hull) (s : Stack) : Type 0 where
 
 -- the row is known too
 pub record IsOneMore (row : List Hull) (old new : Stack) : Type 0 where
+  pub planned : new.planned ≡ old.planned
   pub known : new.known ≡ old.known ++ row ∷ []
   pub within : length old.known ≤ length old.laid.rows
   pub rows : new.laid.rows ≡ with_row (length old.known) row old.laid.rows
@@ -55,6 +87,7 @@ pub record IsOneMore (row : List Hull) (old new : Stack) : Type 0 where
 
 -- only the first `count` are known still; from `end` on the rows go on as before
 pub record IsCut (count end : ℕ) (old new : Stack) : Type 0 where
+  pub planned : new.planned ≡ old.planned
   pub known : new.known ≡ take count old.known
   pub rows : new.laid.rows ≡ old.laid.rows
   pub above : end ≤ new.laid.from

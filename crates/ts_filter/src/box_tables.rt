@@ -8,10 +8,12 @@ ghost use Rattle.ts_bound.specs.TermSpans.{LooksIn, automata_of};
 ghost use Rattle.ts_filter.specs.Boxes.{Box, HasCell};
 ghost use Rattle.ts_filter.specs.CellHulls.{HasHulls, IsBackRow, at_cell};
 ghost use Rattle.ts_filter.specs.HeldMachine.{machine_in};
-ghost use Rattle.ts_filter.specs.KnownRows.{AreKnown, AreRowsOf, HasRows, KnownWhereNone, StayKnown, StillKnown};
+ghost use Rattle.ts_filter.specs.KnownRows.{AreKnown, AreRowsOf, HasRows, IsPlannedBack};
+ghost use Rattle.ts_filter.specs.KnownRows.{KnownWhereNone, StayKnown, StillKnown};
 ghost use Rattle.ts_filter.specs.Reading.{cells_read};
-ghost use Rattle.ts_filter.specs.RowStacks.{nothing_laid};
+ghost use Rattle.ts_filter.specs.RowStacks.{no_rows, nothing_laid};
 ghost use Rattle.ts_filter.specs.TermDrops.{AreAmong};
+ghost use Rattle.ts_glue.specs.Machines.{pair_of};
 
 use crate::cell_hulls::CellHulls;
 use crate::held_machine::HeldMachine;
@@ -22,11 +24,12 @@ use crate::term_requirements::TermRequirements;
 use std::alloc::Global;
 use std::marker::Model;
 use std::mem;
-use ts_automaton::Hull;
 use ts_base::Memory;
 use ts_bound::{ends, is_looked, read_at};
 use ts_domain::Boxed;
+use ts_glue::Machine;
 use ts_model::Require;
+use ts_row::PackedRow;
 
 /// What one machine tells of a box and of the boxes that it becomes: rows of hulls are made when a question first asks
 /// for them, for the cells that the machine looks at alone, and after a change those that it doesn't reach stay. The
@@ -48,7 +51,7 @@ impl<'a> Model for BoxTables<'a> {
     ghost use Rattle.ts_automaton.specs.Codes.{formula_code};
     ghost use Rattle.ts_bound.specs.TermSpans.{automata_of};
     ghost use Rattle.ts_filter.specs.HeldMachine.{machine_in};
-    ghost use Rattle.ts_filter.specs.KnownRows.{KnownRows};
+    ghost use Rattle.ts_filter.specs.KnownRows.{AreTables, KnownRows};
 
     ghost Value = { KnownRows };
 
@@ -62,6 +65,8 @@ impl<'a> Model for BoxTables<'a> {
       laid_behind = t.behind.laid;
       quiet = t.quiet.items;
     } };
+
+    ghost invariant = { λ t. AreTables (automata_of (machine_in t.machine)) t.ahead.planned t.behind.planned };
 }
 
 impl<'a> BoxTables<'a> {
@@ -77,10 +82,12 @@ impl<'a> BoxTables<'a> {
         } }
         ensures known { (cells : Box) → AreRowsOf cells result }
     {
+        let ahead = RowStack::new(alloc, machine.get().forward());
+        let behind = rows_behind(alloc, machine.get());
         BoxTables {
             machine,
-            ahead: RowStack::new(alloc),
-            behind: RowStack::new(alloc),
+            ahead,
+            behind,
             quiet: Vec::new(alloc),
         }
     }
@@ -212,7 +219,7 @@ impl<'a> BoxTables<'a> {
     }
 
     /// The backward row of cell `k`; none at the last cell that is looked at.
-    fn back_row(&self, k: u32, last: u32, cells: &Boxed) -> Option<&[Hull]>
+    fn back_row(&self, k: u32, last: u32, cells: &Boxed) -> Option<&PackedRow<6>>
         requires hulls { HasHulls self.now.machine k cells.now.present }
         requires last { last ≡ last_looked self.now.machine.window (length cells.now.present) }
         requires known { AreKnown cells.now.present self.now }
@@ -265,5 +272,16 @@ impl<'a> BoxTables<'a> {
             Some(reverse) => make_rows(alloc, &mut self.behind, reverse, reading, count),
             None => unreachable!(),
         }
+    }
+}
+
+/// No row of the reverse automaton. A machine without one will have none.
+fn rows_behind(alloc: Global, m: &Machine) -> RowStack
+    ensures planned { IsPlannedBack (pair_of m.now) result.planned }
+    ensures none { result ≡ no_rows result.planned }
+{
+    match m.reverse() {
+        Some(reverse) => RowStack::new(alloc, reverse),
+        None => RowStack::new(alloc, m.forward()),
     }
 }

@@ -1,7 +1,6 @@
 //! The spans at a cell, from the hulls that stand there, as far as what is asked of them needs.
 
-ghost use Rattle.std.specs.Prelude.{◌≡◌, ◌↔◌, ◌+◌, ◌*◌, ◌≤◌, [], ◌∷◌, Contains, IsSome, IsTrue, Some, length};
-ghost use Rattle.std.specs.Prelude.{slice_get, slice_range};
+ghost use Rattle.std.specs.Prelude.{◌≡◌, ◌↔◌, ◌≤◌, [], ◌∷◌, Contains, IsSome, IsTrue, Some, length, slice_get};
 ghost use Rattle.ts_automaton.specs.Typing.{is_automaton};
 ghost use Rattle.ts_base.specs.Windows.{looked_at};
 ghost use Rattle.ts_bound.specs.Blocks.{OfReverse, back_states, last_at, split_at};
@@ -9,7 +8,7 @@ ghost use Rattle.ts_bound.specs.Looks.{place_in};
 ghost use Rattle.ts_bound.specs.TermSpans.{automata_of, term_span, value_span};
 ghost use Rattle.ts_filter.specs.Question.{Excludes};
 ghost use Rattle.ts_filter.specs.Boxes.{values_at};
-ghost use Rattle.ts_filter.specs.CellHulls.{HasHulls, IsBackRow, ahead_row, at_cell};
+ghost use Rattle.ts_filter.specs.CellHulls.{HasHulls, IsAheadRow, IsBackRow, at_cell};
 ghost use Rattle.ts_filter.specs.SoFar.{IsSoFar, IsWholeSpan, WithParts};
 ghost use Rattle.ts_filter.specs.TermDrops.{IsFirstRefuting};
 ghost use Rattle.ts_glue.specs.Machines.{forward_of, pair_of, window_of};
@@ -19,12 +18,13 @@ use crate::question::Question;
 use crate::so_far::SoFar;
 use crate::term_requirements::TermRequirements;
 use std::marker::Model;
-use ts_automaton::{Automaton, Hull};
+use ts_automaton::Hull;
 use ts_base::Span;
 use ts_bound::laws::machine_is_whole;
-use ts_bound::looked_count;
+use ts_bound::{looked_count, unpack_block};
 use ts_domain::{Boxed, Domain};
 use ts_glue::Machine;
+use ts_row::PackedRow;
 
 /// The rows of one cell of a box that the machine looks at: that of the forward automaton, and that of the reverse one,
 /// which the last of these cells can do without. Contracts see the machine, the box and the cell.
@@ -33,8 +33,8 @@ pub(crate) struct CellHulls<'a> {
     pub(crate) machine: &'a Machine,
     pub(crate) cells: &'a Boxed,
     pub(crate) cell: u32,
-    pub(crate) row: &'a [Hull],
-    pub(crate) back: Option<&'a [Hull]>,
+    pub(crate) row: &'a PackedRow<6>,
+    pub(crate) back: Option<&'a PackedRow<6>>,
 }
 
 impl<'a> Model for CellHulls<'a> {
@@ -187,7 +187,7 @@ fn place_of(values: &Domain, v: i64) -> u64
 fn last_value<'a>(
     so_far: SoFar<'a>,
     m: &Machine,
-    row: &[Hull],
+    row: &PackedRow<6>,
     cells: &Boxed,
     k: u32,
     i: u64,
@@ -195,7 +195,7 @@ fn last_value<'a>(
 ) -> Option<SoFar<'a>>
     requires known { IsSoFar so_far }
     requires hulls { HasHulls (automata_of m.now) k cells.now.present }
-    requires row { row.now ≡ ahead_row (automata_of m.now) k cells.now.present }
+    requires row { IsAheadRow (automata_of m.now) k cells.now.present row.now }
     requires value { slice_get (values_at k cells.now.present) i ≡ Some v }
     ensures { WithParts so_far.entry (last_at (forward_of m.now)
         (place_in (window_of m.now) k) (looked_at (window_of m.now) cells.now.present) v ∷ []) result }
@@ -203,15 +203,19 @@ fn last_value<'a>(
     let n = looked_count(m.window(), cells.cells());
     let a = m.forward();
     let states = a.states();
-    finish_block(so_far, a, block(row, states, i), n)
+    let count = cells.cell(k).size() as usize;
+    let mut eight = [Hull::none(); 8];
+    let hulls = &mut eight[..states as usize];
+    unpack_block(row, states, count, i as usize, hulls);
+    finish_block(so_far, a, hulls, n)
 }
 
 /// With the glued span at the value.
 fn split_value<'a>(
     so_far: SoFar<'a>,
     m: &Machine,
-    row: &[Hull],
-    back: &[Hull],
+    row: &PackedRow<6>,
+    back: &PackedRow<6>,
     cells: &Boxed,
     k: u32,
     i: u64,
@@ -219,7 +223,7 @@ fn split_value<'a>(
 ) -> Option<SoFar<'a>>
     requires known { IsSoFar so_far }
     requires hulls { HasHulls (automata_of m.now) k cells.now.present }
-    requires row { row.now ≡ ahead_row (automata_of m.now) k cells.now.present }
+    requires row { IsAheadRow (automata_of m.now) k cells.now.present row.now }
     requires back { IsBackRow (automata_of m.now) k cells.now.present back.now }
     requires value { slice_get (values_at k cells.now.present) i ≡ Some v }
     ensures { WithParts so_far.entry (split_at (forward_of m.now) (pair_of m.now)
@@ -228,8 +232,13 @@ fn split_value<'a>(
     let n = looked_count(m.window(), cells.cells());
     let states = m.forward().states();
     let back_states = reverse_states(m);
-    let left = block(row, states, i);
-    let right = block(back, back_states, i);
+    let count = cells.cell(k).size() as usize;
+    let mut eight_left = [Hull::none(); 8];
+    let left = &mut eight_left[..states as usize];
+    unpack_block(row, states, count, i as usize, left);
+    let mut eight_right = [Hull::none(); 8];
+    let right = &mut eight_right[..back_states as usize];
+    unpack_block(back, back_states, count, i as usize, right);
     glue_block(so_far, m, left, right, back_states, v, n)
 }
 
@@ -237,19 +246,11 @@ fn split_value<'a>(
 fn reverse_states(m: &Machine) -> u8
     requires { IsSome (pair_of m.now) }
     ensures count { result ≡ back_states (pair_of m.now) }
+    ensures few { result ≤ 8 }
     ensures rules { OfReverse (pair_of m.now) (λ b. IsTrue (is_automaton b)) }
 {
     match m.reverse() {
         Some(reverse) => reverse.states(),
         None => unreachable!(),
     }
-}
-
-/// The hulls of the value at place `i`, one for each state.
-fn block(row: &[Hull], states: u8, i: u64) -> &[Hull]
-    requires { i * states + states ≤ length row.now }
-    ensures { result.now ≡ slice_range row.now (i * states) (i * states + states) }
-{
-    let from = i as usize * states as usize;
-    &row[from..from + states as usize]
 }

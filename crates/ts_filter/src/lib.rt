@@ -38,6 +38,7 @@ mod kept;
 pub mod laws;
 mod live_tables;
 mod meeting;
+mod planned;
 mod question;
 mod reading;
 mod room;
@@ -46,6 +47,7 @@ mod rows;
 mod same_rows;
 mod so_far;
 mod term_requirements;
+mod two_cells;
 
 pub use all_tables::AllTables;
 pub use at_cell::{cut_at_end, refuted, refuted_value, worse};

@@ -5,11 +5,11 @@ use ts_bound::is_looked;
 use ts_domain::Domain;
 use ts_glue::Machine;
 
-/// What a hull of a row takes, in bytes.
-const HULL: u64 = 96;
+/// What a packed hull of a row takes, in bytes.
+const HULL: u64 = 48;
 
-/// How many bytes the rows of all machines may take, but for one row a direction that is held beside them. Each row may
-/// have memory for twice its hulls.
+/// How many bytes the rows of all machines may take, but for one row a direction, and the values of its cell and of the
+/// cell before, that are held beside them. Each row may have memory for twice its hulls.
 const MOST: u64 = 200_000_000;
 
 /// Whether the rows of these machines, of a box with at most these values in its cells, take no more. A machine with a
@@ -22,12 +22,13 @@ pub(crate) fn has_room(machines: &[Machine], cells: &[Domain]) -> bool {
     hulls <= MOST / HULL / 2
 }
 
-/// How many values the cells have together that are looked at.
+/// How many values the cells have together that are looked at. One value counts as two: each list has memory for four
+/// hulls or more.
 fn values_of(window: Option<Range>, cells: &[Domain]) -> u64 {
     let mut values = 0u64;
     for i in 0..cells.len() {
         if is_inside(window, i) {
-            values = values.saturating_add(cells[i].size());
+            values = values.saturating_add(cells[i].size().max(2));
         }
     }
     values

@@ -1,83 +1,105 @@
 //! Rows of hulls on top of one another. Those that a change reaches stay lying there: they may turn out right again.
 
-ghost use Rattle.std.specs.Prelude.{◌≡◌, ◌<◌, ◌≤◌, [], IsTrue, OnErr, OnOk, get_or, length};
-ghost use Rattle.ts_filter.specs.RowStacks.{IsCut, IsOneMore, Stands, no_rows, with_row};
+ghost use Rattle.std.specs.Prelude.{◌≡◌, ◌<◌, ◌≤◌, IsTrue, OnErr, OnOk, [], get_or, length};
+ghost use Rattle.ts_filter.specs.RowStacks.{
+  HasStates,
+  IsCut,
+  IsOneMore,
+  IsPlanned,
+  Stands,
+  hulls_in,
+  no_rows,
+  with_row,
+};
 
+use crate::planned::Planned;
 use crate::same_rows::are_same;
+use crate::two_cells::TwoCells;
 use std::alloc::Global;
 use std::marker::Model;
 use std::mem;
-use ts_automaton::Hull;
+use ts_automaton::Automaton;
 use ts_base::Memory;
+use ts_row::{PackedRow, Plan};
 
-/// One hull for each value of a cell and each state: those of a value stand together, in the order of the states.
+/// One hull for each value of a cell and each state, packed. `room` is for how many values there is memory.
 #[derive(Drop)]
 pub(crate) struct HullRow {
-    pub(crate) hulls: Vec<Hull>,
-}
-
-impl Model for HullRow {
-    ghost use Rattle.std.specs.Prelude.{List};
-    ghost use Rattle.ts_automaton.specs.declared.regs.Hull.{Hull};
-
-    ghost Value = { List Hull };
-
-    ghost view = { λ r. r.hulls.items };
+    pub(crate) packed: PackedRow<6>,
+    room: usize,
 }
 
 impl HullRow {
-    /// No hull yet.
-    pub(crate) fn empty(alloc: Global) -> HullRow
-        ensures { length result ≡ 0 }
-    {
+    /// No hull yet. There will be memory for so many values.
+    fn empty(alloc: Global, room: usize) -> HullRow {
         HullRow {
-            hulls: Vec::new(alloc),
+            packed: PackedRow::empty(alloc),
+            room,
         }
     }
 
-    /// The hulls.
-    pub(crate) fn hulls(&self) -> &[Hull]
-        ensures { result.now ≡ self.now }
-    {
-        self.hulls.as_slice()
+    /// The row, or an empty one where its memory is for fewer values or for more than twice as many: rows of cells with
+    /// few values never keep the memory of one with many.
+    pub(crate) fn with_room(self, alloc: Global, count: usize) -> HullRow {
+        if count <= self.room && self.room / 2 <= count {
+            self
+        } else {
+            HullRow::empty(alloc, count)
+        }
     }
 }
 
-/// Rows of which the first are known. Those above were known of an earlier box. From place `from` on each is still the
-/// next row after the one below: where one is right, all above it are. `spare` has memory for the next row.
+/// Rows of an automaton, of which the first are known. Those above were known of an earlier box. From place `from` on
+/// each is still the next row after the one below: where one is right, all above it are. `spare` and `lists` have memory
+/// for the next row and the values that it is made of. All rows have the states of the automaton, which are counted here
+/// alone.
 #[derive(Drop)]
 pub(crate) struct RowStack {
+    planned: Planned,
     rows: Vec<HullRow>,
     known: usize,
     from: usize,
     spare: Option<HullRow>,
+    lists: Option<TwoCells>,
 }
 
 impl Model for RowStack {
-    ghost use Rattle.std.specs.Prelude.{◌≤◌, length, take};
-    ghost use Rattle.ts_filter.specs.RowStacks.{Stack};
+    ghost use Rattle.std.specs.Prelude.{◌≤◌, All, length, take};
+    ghost use Rattle.ts_filter.specs.RowStacks.{HasStates, Stack, all_hulls};
 
     ghost Value = { Stack };
 
     ghost view = { λ s. record {
-      known = take s.known s.rows.items;
-      laid = record { rows = s.rows.items; from = s.from };
+      planned = s.planned;
+      known = take s.known (all_hulls s.planned.states s.rows.items);
+      laid = record { rows = all_hulls s.planned.states s.rows.items; from = s.from };
     } };
 
-    ghost invariant = { λ s. s.known ≤ length s.rows.items };
+    ghost invariant = { λ s. (s.known ≤ length s.rows.items)
+        × All (λ r. HasStates s.planned.states r.packed) s.rows.items };
 }
 
 impl RowStack {
-    /// No row.
-    pub(crate) fn new(alloc: Global) -> RowStack
-        ensures { result ≡ no_rows }
+    /// No row of the automaton.
+    pub(crate) fn new(alloc: Global, a: &Automaton) -> RowStack
+        ensures planned { IsPlanned a.now result.planned }
+        ensures none { result ≡ no_rows result.planned }
     {
         RowStack {
+            planned: Planned::of(a),
             rows: Vec::new(alloc),
             known: 0,
             from: 0,
             spare: None,
+            lists: None,
         }
+    }
+
+    /// The plan of the automaton.
+    pub(crate) fn plan(&self) -> &Plan
+        ensures { result.now ≡ self.now.planned.plan }
+    {
+        &self.planned.plan
     }
 
     /// How many rows are known.
@@ -87,12 +109,13 @@ impl RowStack {
         self.known
     }
 
-    /// The hulls of the known row at place `i`, counted from 0.
-    pub(crate) fn row(&self, i: usize) -> &[Hull]
+    /// The known row at place `i`, counted from 0.
+    pub(crate) fn row(&self, i: usize) -> &PackedRow<6>
         requires { i < length self.now.known }
-        ensures { result.now ≡ get_or self.now.known i [] }
+        ensures states { HasStates self.now.planned.states result.now }
+        ensures hulls { hulls_in self.now.planned.states result.now ≡ get_or self.now.known i [] }
     {
-        self.rows[i].hulls()
+        &self.rows[i].packed
     }
 
     /// Only the first `count` rows stay known. From place `end` on rows go on as they did.
@@ -108,12 +131,13 @@ impl RowStack {
 
     /// No row any more; the memory is freed.
     pub(crate) fn clear(&mut self)
-        ensures { self.new ≡ no_rows }
+        ensures { self.new ≡ no_rows self.old.planned }
     {
         self.rows.clear();
         self.known = 0;
         self.from = 0;
         drop(self.spare.take());
+        drop(self.lists.take());
     }
 }
 
@@ -124,22 +148,45 @@ impl RowStack {
     {
         match self.spare.take() {
             Some(row) => row,
-            None => HullRow::empty(alloc),
+            None => HullRow::empty(alloc, 0),
         }
+    }
+
+    /// Lists for the values of the next row's cell, and of the cell before.
+    pub(crate) fn take_lists(&mut self, alloc: Global) -> TwoCells
+        ensures { self.new ≡ self.old }
+    {
+        match self.lists.take() {
+            Some(lists) => lists,
+            None => TwoCells::empty(alloc),
+        }
+    }
+
+    /// They are given back.
+    pub(crate) fn keep_lists(&mut self, lists: TwoCells)
+        ensures { self.new ≡ self.old }
+    {
+        drop(mem::replace(&mut self.lists, Some(lists)));
     }
 
     /// Whether the row lies on top of the known ones, and the rows above go on from it.
     pub(crate) fn stands(&self, row: &HullRow) -> bool
-        ensures { IsTrue result → Stands row.now self.now }
+        requires { HasStates self.now.planned.states row.now.packed }
+        ensures { IsTrue result → Stands (hulls_in self.now.planned.states row.now.packed) self.now }
     {
         if self.known == self.rows.len() || self.known < self.from {
             return false;
         }
-        are_same(self.rows[self.known].hulls(), row.hulls())
+        are_same(
+            &self.rows[self.known].packed,
+            &row.packed,
+            self.planned.states,
+        )
     }
 
     /// All rows become known. `row` is given back.
     pub(crate) fn know_all(&mut self, row: HullRow)
+        ensures planned { self.new.planned ≡ self.old.planned }
         ensures known { self.new.known ≡ self.old.laid.rows }
         ensures laid { self.new.laid ≡ self.old.laid }
     {
@@ -149,7 +196,8 @@ impl RowStack {
 
     /// One more known row.
     pub(crate) fn push(&mut self, row: HullRow) -> Result<(), Memory>
-        ensures ok { OnOk result (IsOneMore row self.old self.new) }
+        requires { HasStates self.old.planned.states row.packed }
+        ensures ok { OnOk result (IsOneMore (hulls_in self.old.planned.states row.packed) self.old self.new) }
         ensures err { OnErr result (self.new ≡ self.old) }
     {
         put(&mut self.rows, self.known, row, &mut self.spare)?;

@@ -1,44 +1,35 @@
-//! Whether two rows of hulls are one.
+//! Whether two packed rows are one.
 
-ghost use Rattle.std.specs.Prelude.{◌≡◌, IsTrue};
-ghost use Rattle.ts_filter.specs.SameHulls.{same_end, same_hull, same_span};
+ghost use Rattle.std.specs.Prelude.{◌≡◌, IsTrue, length};
 
-use ts_automaton::Hull;
-use ts_base::{Ext, Span};
+use ts_row::PackedRow;
+use ts_sweep::packed::PackedHull;
 
-/// Whether both have the same hulls in the same order.
-pub(crate) fn are_same(a: &[Hull], b: &[Hull]) -> bool
+/// Whether both, of so many states, have the same hulls.
+pub(crate) fn are_same(a: &PackedRow<6>, b: &PackedRow<6>, states: u8) -> bool
+    requires first { length a.now ≡ states }
+    requires second { length b.now ≡ states }
     ensures { IsTrue result → a.now ≡ b.now }
 {
-    if a.len() != b.len() {
-        return false;
-    }
-    for i in 0..a.len() {
-        if !same_hull(&a[i], &b[i]) {
+    for q in 0..states {
+        if !are_same_hulls(a.column(q), b.column(q)) {
             return false;
         }
     }
     true
 }
 
-fn same_hull(a: &Hull, b: &Hull) -> bool
-    ensures { result ≡ same_hull a.now b.now }
+/// Whether both have the same hulls in the same order.
+fn are_same_hulls(a: &[PackedHull<6>], b: &[PackedHull<6>]) -> bool
+    ensures { IsTrue result → a.now ≡ b.now }
 {
-    same_span(a.c, b.c) && same_span(a.d, b.d) && same_span(a.r, b.r)
-}
-
-fn same_span(a: Span, b: Span) -> bool
-    ensures { result ≡ same_span a b }
-{
-    same_end(a.lo, b.lo) && same_end(a.hi, b.hi)
-}
-
-fn same_end(a: Ext, b: Ext) -> bool
-    ensures { result ≡ same_end a b }
-{
-    match (a, b) {
-        (Ext::NegInf, Ext::NegInf) | (Ext::PosInf, Ext::PosInf) => true,
-        (Ext::Int(x), Ext::Int(y)) => x == y,
-        _ => false,
+    if a.len() != b.len() {
+        return false;
     }
+    for i in 0..a.len() {
+        if a[i] != b[i] {
+            return false;
+        }
+    }
+    true
 }

@@ -13,53 +13,28 @@ use Rattle.ts_bound.specs.TermSpans.{automata_of, span_of_all}
 use Rattle.ts_glue.specs.Machines.{forward_of, pair_of, window_of}
 use Rattle.ts_filter.specs.Boxes.{values_at}
 use Rattle.ts_filter.specs.CellHulls.{seen_after, seen_before}
-use Rattle.ts_filter.proofs.CellLaws.{row_holds, row_block, back_holds, back_block, ahead_long, back_long, cell_value}
+use Rattle.ts_filter.proofs.CellLaws.{ahead_block, back_block, cell_value}
 use Rattle.ts_filter.proofs.Looked.{cell_there, counted}
 use Rattle.ts_filter.proofs.SoFarLaws.{as_one}
 use Rattle.ts_filter.proofs.cell_hulls.split_value.Goals as goal
-
-pub block-left-requires : goal.block-left-requires
-block-left-requires c =
-    let b = c.args.cells.now.present in let m = c.args.m.now in
-    row_holds (forward_of m) (seen_before (automata_of m) c.args.k b) (values_at c.args.k b) c.args.i c.args.v c.args.row.now c.states-states.result
-    (c.states-states.ensures.count ∙ ap (λ a. length a.states) c.forward.ensures) c.requires.row c.requires.value
-
-pub block-right-requires : goal.block-right-requires
-block-right-requires c =
-    let b = c.args.cells.now.present in let m = c.args.m.now in
-    back_holds (pair_of m) (seen_after (automata_of m) c.args.k b) (values_at c.args.k b) c.args.i c.args.v c.args.back.now
-    c.reverse_states-back_states.result c.reverse_states-back_states.ensures.count c.requires.back c.requires.value
-
-pub glue_block-requires-clause-left_states : goal.glue_block-requires-clause-left_states
-glue_block-requires-clause-left_states c =
-    let b = c.args.cells.now.present in let m = c.args.m.now in let before = seen_before (automata_of m) c.args.k b in
-    ahead_long (forward_of m) before c.args.v c.block-left.result.now
-    (row_block (forward_of m) before (values_at c.args.k b) c.args.i c.args.v c.args.row.now c.block-left.result.now c.states-states.result
-    (c.states-states.ensures.count ∙ ap (λ a. length a.states) c.forward.ensures) c.requires.row c.requires.value c.block-left.ensures)
 
 pub glue_block-requires-clause-left_kinds : goal.glue_block-requires-clause-left_kinds
 glue_block-requires-clause-left_kinds c =
     let b = c.args.cells.now.present in let m = c.args.m.now in let before = seen_before (automata_of m) c.args.k b in
     hulls_stand (forward_of m) (subst (λ a. IsTrue (is_automaton a)) c.forward.ensures c.states-states.ensures.rules) before c.args.v
-    c.block-left.result.now
-    (row_block (forward_of m) before (values_at c.args.k b) c.args.i c.args.v c.args.row.now c.block-left.result.now c.states-states.result
-    (c.states-states.ensures.count ∙ ap (λ a. length a.states) c.forward.ensures) c.requires.row c.requires.value c.block-left.ensures)
-
-pub glue_block-requires-clause-right_states : goal.glue_block-requires-clause-right_states
-glue_block-requires-clause-right_states c =
-    let b = c.args.cells.now.present in let m = c.args.m.now in let behind = seen_after (automata_of m) c.args.k b in
-    back_long (pair_of m) behind c.args.v c.block-right.result.now c.reverse_states-back_states.result
-    c.reverse_states-back_states.ensures.count
-    (back_block (pair_of m) behind (values_at c.args.k b) c.args.i c.args.v c.args.back.now c.block-right.result.now c.reverse_states-back_states.result
-    c.reverse_states-back_states.ensures.count c.requires.back c.requires.value c.block-right.ensures)
+    c.unpack_block.new.block
+    (ahead_block (forward_of m) before (values_at c.args.k b) c.args.i c.args.v c.args.row.now c.unpack_block.new.block c.states-states.result
+    c.size-count.result (c.states-states.ensures.count ∙ ap (λ a. length a.states) c.forward.ensures)
+    (c.size-count.ensures.size ∙ ap length c.cell.ensures) c.requires.row c.requires.value c.unpack_block.ensures)
 
 pub glue_block-requires-clause-right_kinds : goal.glue_block-requires-clause-right_kinds
 glue_block-requires-clause-right_kinds c =
     let b = c.args.cells.now.present in let m = c.args.m.now in let behind = seen_after (automata_of m) c.args.k b in
-    right_kinds (pair_of m) c.reverse_states-back_states.result behind c.args.v c.block-right.result.now
+    right_kinds (pair_of m) c.reverse_states-back_states.result behind c.args.v c.unpack_block-2.new.block
     c.reverse_states-back_states.ensures.rules c.reverse_states-back_states.ensures.count
-    (back_block (pair_of m) behind (values_at c.args.k b) c.args.i c.args.v c.args.back.now c.block-right.result.now c.reverse_states-back_states.result
-    c.reverse_states-back_states.ensures.count c.requires.back c.requires.value c.block-right.ensures)
+    (back_block (pair_of m) behind (values_at c.args.k b) c.args.i c.args.v c.args.back.now c.unpack_block-2.new.block c.reverse_states-back_states.result
+    c.size-count.result c.reverse_states-back_states.ensures.count (c.size-count.ensures.size ∙ ap length c.cell.ensures) c.requires.back c.requires.value
+    c.unpack_block-2.ensures)
 
 pub glue_block-requires-clause-cell : goal.glue_block-requires-clause-cell
 glue_block-requires-clause-cell c =
@@ -71,19 +46,19 @@ pub returns : goal.returns
 returns c =
     let b = c.args.cells.now.present in let m = c.args.m.now in let states = c.reverse_states-back_states.result in
     let before = seen_before (automata_of m) c.args.k b in let behind = seen_after (automata_of m) c.args.k b in
+    let left = c.unpack_block.new.block in let right = c.unpack_block-2.new.block in
     let place = place_in (window_of m) c.args.k in let cells = looked_at (window_of m) b in
     let count : c.looked_count-n.result ≡ length cells =
     counted c.args.m.now b c.window.result c.cells.result c.looked_count-n.result c.requires.hulls.looks c.window.ensures c.cells.ensures.count
     c.looked_count-n.ensures in
-    let parts : List Span =
-    glued_all (pair_of m) c.block-left.result.now c.block-right.result.now (to_z w64 (of_z w64 c.args.v)) c.looked_count-n.result states
-    (length (forward_of m).states) in
+    let long = c.size-count.ensures.size ∙ ap length c.cell.ensures in
+    let parts : List Span = glued_all (pair_of m) left right (to_z w64 (of_z w64 c.args.v)) c.looked_count-n.result states (length (forward_of m).states) in
     as_one c.args.so_far parts (split_at (forward_of m) (pair_of m) place cells c.args.v) c.glue_block.result c.requires.known
-    (sym (split_one (forward_of m) (pair_of m) place cells c.args.v _ c.block-left.result.now c.block-right.result.now c.looked_count-n.result states
+    (sym (split_one (forward_of m) (pair_of m) place cells c.args.v _ left right c.looked_count-n.result states
     (span_of_all parts) (to_z-of_z w64 c.args.v c.ranges.v)
-    (row_block (forward_of m) before (values_at c.args.k b) c.args.i c.args.v c.args.row.now c.block-left.result.now c.states-states.result
-    (c.states-states.ensures.count ∙ ap (λ a. length a.states) c.forward.ensures) c.requires.row c.requires.value c.block-left.ensures)
-    (back_block (pair_of m) behind (values_at c.args.k b) c.args.i c.args.v c.args.back.now c.block-right.result.now states
-    c.reverse_states-back_states.ensures.count c.requires.back c.requires.value c.block-right.ensures)
+    (ahead_block (forward_of m) before (values_at c.args.k b) c.args.i c.args.v c.args.row.now left c.states-states.result c.size-count.result
+    (c.states-states.ensures.count ∙ ap (λ a. length a.states) c.forward.ensures) long c.requires.row c.requires.value c.unpack_block.ensures)
+    (back_block (pair_of m) behind (values_at c.args.k b) c.args.i c.args.v c.args.back.now right states c.size-count.result
+    c.reverse_states-back_states.ensures.count long c.requires.back c.requires.value c.unpack_block-2.ensures)
     count c.reverse_states-back_states.ensures.count refl))
     c.glue_block.ensures

@@ -1,16 +1,14 @@
-use Rattle.std.proofs.Common.{◌≡◌, ◌<◌, ◌≤◌, length, rules}
-use Rattle.ts_filter.proofs.SameHulls.{hulls_same_on, rows_same}
+use Rattle.std.proofs.Common.{◌<◌, ◌∙◌, sym, [], length, arith}
+use Rattle.ts_filter.proofs.PackedStacks.{all_same, same_on}
 use Rattle.ts_filter.proofs.same_rows.are_same.Goals as goal
 
-pub loop-i-preserved : goal.loop-i-preserved
-loop-i-preserved c =
-    let below : c.loop-i.i < length c.args.a.now = search rules in
-    let long : length c.args.a.now ≡ length c.args.b.now = search rules in
-    hulls_same_on c.args.a.now c.args.b.now c.loop-i.i _ _ c.same_hull.result c.loop-i.invariant below long c.same_hull.ensures
-    c.if-not-same_hull.false
+pub loop-q-preserved : goal.loop-q-preserved
+loop-q-preserved c =
+    let below : c.loop-q.q < length c.args.a.now = omega (arith, c.requires.first, c.loop-q-test.true) in
+    same_on c.args.a.now c.args.b.now c.loop-q.q [] [] c.loop-q.invariant below (c.requires.first ∙ sym c.requires.second)
+    (sym c.column.ensures ∙ c.are_same_hulls.ensures c.if-not-are_same_hulls.false ∙ c.column-in-loop-q.ensures)
 
 pub returns : goal.returns
 returns c = λ t.
-    let end : length c.args.a.now ≤ c.loop-i.i = search rules in
-    let long : length c.args.a.now ≡ length c.args.b.now = search rules in
-    rows_same c.args.a.now c.args.b.now c.loop-i.i c.loop-i.invariant end long
+    all_same c.args.a.now c.args.b.now c.loop-q.q c.loop-q.invariant (omega (arith, c.requires.first, c.loop-q-test.false))
+    (c.requires.first ∙ sym c.requires.second)

@@ -1,5 +1,5 @@
 use Rattle.std.proofs.Common.{◌≡◌, take}
 use Rattle.ts_filter.proofs.same_rows.are_same.Given as goal
 
-abbrev pub invariant-loop-i : goal.invariant-loop-i
-invariant-loop-i l = take l.i l.a ≡ take l.i l.b
+abbrev pub invariant-loop-q : goal.invariant-loop-q
+invariant-loop-q l = take l.q l.a ≡ take l.q l.b

@@ -1,12 +1,13 @@
-use Rattle.std.proofs.Common.{ap, ◌∙◌, sym, [], get_or, ◌-◌}
-use Rattle.ts_filter.specs.KnownRows.{KnownRows}
+use Rattle.std.proofs.Common.{ap, ◌∙◌, sym, subst, [], get_or, ◌-◌}
+use Rattle.ts_filter.specs.KnownRows.{IsPlannedBack, KnownRows}
 use Rattle.ts_filter.proofs.TableSteps.{back_row_of}
 use Rattle.ts_filter.proofs.box_tables.BoxTables.back_row.Goals as goal
 
 pub returns : goal.returns
 returns c =
-    let t = c.args.self.now in
-    back_row_of c.args.cells.now.present t c.args.k c.requires.hulls c.requires.known c.requires.there c.row.result.now []
+    let t = c.args.self.now in let p = c.self.inside.behind.planned in
+    back_row_of c.args.cells.now.present t c.args.k c.requires.hulls c.requires.known c.requires.there p c.row.result.now
+    (subst (λ (u : KnownRows). IsPlannedBack u.machine.pair p) c.self.view_is c.self.invariant.reverse) c.row.ensures.states
     (λ e. c.if-k-last.false (e ∙ sym c.requires.last))
-    (c.row.ensures ∙ ap (λ (u : KnownRows). get_or u.behind (c.args.last - c.args.k) []) c.self.view_is
+    (c.row.ensures.hulls ∙ ap (λ (u : KnownRows). get_or u.behind (c.args.last - c.args.k) []) c.self.view_is
     ∙ ap (λ n. get_or t.behind (n - c.args.k) []) c.requires.last)

@@ -1,0 +1,25 @@
+//! What the rows of an automaton are made by.
+
+ghost use Rattle.ts_filter.specs.RowStacks.{IsPlanned};
+
+use ts_automaton::Automaton;
+use ts_row::Plan;
+
+/// How the moves of an automaton are taken in, and how many states it has. It takes no memory.
+#[derive(Clone, Copy)]
+pub(crate) struct Planned {
+    pub(crate) plan: Plan,
+    pub(crate) states: u8,
+}
+
+impl Planned {
+    /// Those of an automaton.
+    pub(crate) fn of(a: &Automaton) -> Planned
+        ensures { IsPlanned a.now result }
+    {
+        Planned {
+            plan: Plan::of(a),
+            states: a.states(),
+        }
+    }
+}
