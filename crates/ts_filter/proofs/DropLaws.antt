@@ -1,5 +1,5 @@
 -- The drops by the requirements of one term, value by value and cell by cell, and those of all terms.
-use Rattle.std.proofs.Common.{◌≡◌, ◌⊎◌, ℕ, zero, suc, ◌+◌, ◌-◌, ◌<◌, ◌≤◌, ℤ, ◌<ℤ◌, Bool, true, false, List, [], ◌∷◌, length, map}
+use Rattle.std.proofs.Common.{◌≡◌, ◌⊎◌, ℕ, min, zero, suc, ◌+◌, ◌-◌, ◌<◌, ◌≤◌, ℤ, ◌<ℤ◌, Bool, true, false, List, [], ◌∷◌, length, map}
 use Rattle.std.proofs.Common.{Option, Some, None, option_map, slice_get, get_or, refl, sym, ◌∙◌, ap, subst, inl, inr, ⊎_elim, arith}
 use Rattle.std.proofs.lemmas.Option.{slice_get-map, slice_get_read}
 use Rattle.std.specs.Prelude.{Contains}
@@ -18,11 +18,11 @@ use Rattle.ts_filter.specs.Drops.{MayDrop, IsNoLater, IsFirstOf, IsFirstDrop}
 use Rattle.ts_filter.specs.Excluded.{Refutes}
 use Rattle.ts_filter.specs.MachineSpans.{spans_of}
 use Rattle.ts_filter.specs.RefutedWorseDrop.{IsUsable}
-use Rattle.ts_filter.specs.TermDrops.{IsRefuting, IsFirstRefuting, IsRefutedOutside, MayHaveDrop, IsTermDrop, IsDropAt, earlier_of, least_drop}
+use Rattle.ts_filter.specs.TermDrops.{IsRefuting, IsFirstRefuting, IsRefutedOutside, MayHaveDrop, IsTermDrop, IsDropAt, IsDropUpTo, cell_up_to, earlier_of, least_drop}
 use Rattle.ts_filter.proofs.CallLaws.{usable_only, usable_whole}
 use Rattle.ts_filter.proofs.Looked.{value_outside}
 use Rattle.ts_filter.proofs.MachineLaws.{spans_are_of_machines}
-use Rattle.ts_filter.proofs.Removals.{first_of_both, first_same}
+use Rattle.ts_filter.proofs.Removals.{first_of_near, first_same}
 use Rattle.ts_filter.proofs.SoundLaws.{each_at}
 
 -- the first of a rising list is below the others
@@ -134,10 +134,12 @@ module _ (rs : List Require) (term : ℕ) (a : Automata) (b : Box) where
       ((k : ℕ) → IsUsableOf a k b → MayHaveDrop a outside k → first < k) → NoneUpTo first
   none_up_to_first outside first refuted all t h = all t.cell h.usable (may_have outside refuted t h)
 
-  pub none_behind_last : (outside : Option ℕ) (last n : ℕ) → IsRefutedOutside rs term a b outside →
-      ((k : ℕ) → IsUsableOf a k b → MayHaveDrop a outside k → k ≤ last) → last ≤ n → NoneUpTo n → IsFirstOf (IsTermDrop rs term a b) None
-  none_behind_last outside last n refuted all le none t h =
-      let from = none t h in let to = all t.cell h.usable (may_have outside refuted t h) in omega (arith, from, to, le)
+  pub none_behind_last : (outside : Option ℕ) (last to m n : ℕ) → IsRefutedOutside rs term a b outside →
+      ((k : ℕ) → IsUsableOf a k b → MayHaveDrop a outside k → k ≤ last) → m ≡ min last to → m ≤ n → NoneUpTo n →
+      IsFirstOf (IsDropUpTo rs term a b to) None
+  none_behind_last outside last to m n refuted all is le none t h =
+      let from = none t h.0 in let within = all t.cell h.0.usable (may_have outside refuted t h.0) in let up = h.1 in
+      omega (arith, from, within, up, is, le)
 
 module _ (rs : List Require) (ms : List Automata) (b : Box) where
   -- a drop by a requirement of the first terms
@@ -197,11 +199,11 @@ module _ (rs : List Require) (ms : List Automata) (b : Box) where
     apart : (t : Removal) → DropBelow (term + 1) t → DropBelow term t ⊎ IsTermDrop rs term a b t
     apart t h = ⊎_elim (λ l. inl (h.0, l)) (λ e. inr (from_drop t h.0 e)) (below_or_same h.0.refuted.require.term h.1)
 
-    pub first_below_more : (x y : Option Removal) → IsFirstOf (DropBelow term) x → IsFirstOf (IsTermDrop rs term a b) y →
-        IsFirstOf (DropBelow (term + 1)) (earlier_of x y)
-    first_below_more x y p q =
+    pub first_below_more : (x y : Option Removal) (to : ℕ) → to ≡ cell_up_to x (length b) → IsFirstOf (DropBelow term) x →
+        IsFirstOf (IsDropUpTo rs term a b to) y → IsFirstOf (DropBelow (term + 1)) (earlier_of x y)
+    first_below_more x y to is p q =
         first_same (λ r. DropBelow term r ⊎ IsTermDrop rs term a b r) (DropBelow (term + 1)) (earlier_of x y) joined apart
-        (first_of_both (DropBelow term) (IsTermDrop rs term a b) x y p q)
+        (first_of_near (DropBelow term) (IsTermDrop rs term a b) (length b) (λ t h. h.usable.to) x y to is p q)
 
   pub first_of_all : (last n : ℕ) (x : Option Removal) → AllByRecursion (λ (r : Require). r.term < n) rs → n ≤ last → IsFirstOf (DropBelow last) x →
       IsFirstDrop rs (spans_of ms) b x

@@ -10,7 +10,7 @@ use Rattle.ts_filter.specs.declared.drops.Removal.{Removal}
 use Rattle.ts_filter.specs.Boxes.{Box}
 use Rattle.ts_filter.specs.Drops.{IsFirstOf}
 use Rattle.ts_filter.specs.OfTerm.{OfTerm}
-use Rattle.ts_filter.specs.TermDrops.{IsTermDrop, earlier_of}
+use Rattle.ts_filter.specs.TermDrops.{IsDropUpTo, cell_up_to, earlier_of}
 use Rattle.ts_filter.proofs.DropLaws.{DropBelow, first_below_more}
 
 -- what is told of the machine that is read is told of the term's
@@ -26,11 +26,11 @@ looks_of b (d ∷ all) zero h a e = subst (λ x. LooksIn x b) (same_Some d a e) 
 looks_of b (d ∷ all) (suc term) h a e = looks_of b all term h.1 a e
 
 -- one more term whose drops are known
-pub drops_more : (rs : List Require) (all : List Automata) (b : Box) (term : ℕ) (first found both : Option Removal) → term < length all →
-    AllByRecursion (λ a. LooksIn a b) all → IsFirstOf (DropBelow rs all b term) first → OfTerm all term (λ a. IsFirstOf (IsTermDrop rs term a b) found) →
-    both ≡ earlier_of first found → IsFirstOf (DropBelow rs all b (term + 1)) both
-drops_more rs [] b term first found both lt looks h f e = absurd (omega (arith, lt))
-drops_more rs (d ∷ all) b term first found both lt looks h f e =
+pub drops_more : (rs : List Require) (all : List Automata) (b : Box) (term to : ℕ) (first found both : Option Removal) → term < length all →
+    AllByRecursion (λ a. LooksIn a b) all → to ≡ cell_up_to first (length b) → IsFirstOf (DropBelow rs all b term) first →
+    OfTerm all term (λ a. IsFirstOf (IsDropUpTo rs term a b to) found) → both ≡ earlier_of first found → IsFirstOf (DropBelow rs all b (term + 1)) both
+drops_more rs [] b term to first found both lt looks is h f e = absurd (omega (arith, lt))
+drops_more rs (d ∷ all) b term to first found both lt looks is h f e =
     let a = get_or (d ∷ all) term d in let there = slice_get-get_or (d ∷ all) term d lt in
     subst (IsFirstOf (DropBelow rs (d ∷ all) b (term + 1))) (sym e)
-    (first_below_more rs (d ∷ all) b term a there (looks_of b (d ∷ all) term looks a there) first found h (f a there))
+    (first_below_more rs (d ∷ all) b term a there (looks_of b (d ∷ all) term looks a there) first found to is h (f a there))

@@ -45,6 +45,15 @@ pub record IsTermDrop (requirements : List Require) (term : ℕ) (a : Automata) 
 abbrev pub IsDropAt : List Require → ℕ → Automata → Box → ℕ → Removal → Type 0
 IsDropAt requirements term a b k r = (r.cell ≡ k) × IsTermDrop requirements term a b r
 
+-- the same at the cells up to one
+abbrev pub IsDropUpTo : List Require → ℕ → Automata → Box → ℕ → Removal → Type 0
+IsDropUpTo requirements term a b to r = IsTermDrop requirements term a b r × (r.cell ≤ to)
+
+-- the cell up to which another drop may come before the first of some, or the last cell
+abbrev pub cell_up_to : Option Removal → ℕ → ℕ
+cell_up_to None n = n
+cell_up_to (Some r) n = r.cell
+
 -- the first requirement of the term that the span of the cells outside the window refutes, where one may be used
 abbrev pub IsRefutedOutside : List Require → ℕ → Automata → Box → Option ℕ → Type 0
 IsRefutedOutside requirements term a b found =

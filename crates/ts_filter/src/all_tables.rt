@@ -11,11 +11,11 @@ ghost use Rattle.ts_filter.specs.FirstCell.{IsFirstCell};
 ghost use Rattle.ts_filter.specs.KeptValue.{IsKept};
 ghost use Rattle.ts_filter.specs.MachineSpans.{spans_of};
 ghost use Rattle.ts_filter.specs.OfTerm.{OfTerm};
-ghost use Rattle.ts_filter.specs.TermDrops.{IsTermDrop};
+ghost use Rattle.ts_filter.specs.TermDrops.{IsDropUpTo};
 ghost use Rattle.ts_filter.specs.declared.bar.Bar.TheVariants.{Better};
 
 use crate::bar::Bar;
-use crate::drops::{Removal, earlier};
+use crate::drops::{Removal, earlier, last_asked};
 use crate::held_machine::HeldMachine;
 use crate::live_tables::LiveTables;
 use crate::question::Question;
@@ -266,7 +266,8 @@ impl<'a> AllTables<'a> {
     {
         let mut first = None;
         for term in 0..self.each.len() {
-            let found = self.first_drop(alloc, term as u32, requirements, cells)?;
+            let last = last_asked(first, cells);
+            let found = self.first_drop(alloc, term as u32, requirements, last, cells)?;
             first = earlier(first, found);
         }
         Ok(first)
@@ -274,12 +275,13 @@ impl<'a> AllTables<'a> {
 }
 
 impl<'a> AllTables<'a> {
-    /// The first of the drops by the requirements of the term.
+    /// The first of the drops by the requirements of the term, up to cell `last`.
     fn first_drop(
         &mut self,
         alloc: Global,
         term: u32,
         requirements: &[Require],
+        last: u32,
         cells: &Boxed,
     ) -> Result<Option<Removal>, Memory>
         requires there { term < length self.old }
@@ -287,9 +289,9 @@ impl<'a> AllTables<'a> {
         requires looks { OfTerm self.old term (λ a. LooksIn a cells.now.present) }
         ensures same { self.new ≡ self.old }
         ensures found { IfOk result (λ found. OfTerm self.old term
-            (λ a. IsFirstOf (IsTermDrop requirements.now term a cells.now.present) found)) }
+            (λ a. IsFirstOf (IsDropUpTo requirements.now term a cells.now.present last) found)) }
     {
-        let found = self.each[term as usize].first_drop(alloc, term, requirements, cells);
+        let found = self.each[term as usize].first_drop(alloc, term, requirements, last, cells);
         self.after_question(term);
         found
     }

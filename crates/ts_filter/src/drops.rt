@@ -8,8 +8,8 @@ ghost use Rattle.ts_filter.specs.Drops.{IsFirstDrop, IsFirstOf};
 ghost use Rattle.ts_filter.specs.Boxes.{HasCell, values_at};
 ghost use Rattle.ts_filter.specs.KnownRows.{AreKnown, StillKnown};
 ghost use Rattle.ts_filter.specs.MachineSpans.{spans_of};
-ghost use Rattle.ts_filter.specs.TermDrops.{IsDropAt, IsRefutedOutside, IsTermDrop, MayHaveDrop};
-ghost use Rattle.ts_filter.specs.TermDrops.{comes_before, earlier_of, least_drop};
+ghost use Rattle.ts_filter.specs.TermDrops.{IsDropAt, IsDropUpTo, IsRefutedOutside, MayHaveDrop};
+ghost use Rattle.ts_filter.specs.TermDrops.{cell_up_to, comes_before, earlier_of, least_drop};
 
 use crate::box_tables::BoxTables;
 use crate::cell_hulls::CellHulls;
@@ -48,53 +48,96 @@ pub fn next_drop(
 {
     let mut first = None;
     for term in 0..machines.len() {
-        let mut tables = BoxTables::new(alloc, HeldMachine::Lent(&machines[term]));
-        let found = tables.first_drop(alloc, term as u32, requirements, cells)?;
+        let last = last_asked(first, cells);
+        let found = drop_of_term(
+            alloc,
+            &machines[term],
+            term as u32,
+            requirements,
+            last,
+            cells,
+        )?;
         first = earlier(first, found);
     }
     Ok(first)
 }
 
+/// The first of the drops by the requirements of the term whose machine this is, up to cell `last`. No table is made
+/// where it has none.
+fn drop_of_term(
+    alloc: Global,
+    machine: &Machine,
+    term: u32,
+    requirements: &[Require],
+    last: u32,
+    cells: &Boxed,
+) -> Result<Option<Removal>, Memory>
+    requires requirements { length requirements.now < 4000000000 }
+    requires looks { LooksIn (automata_of machine.now) cells.now.present }
+    ensures { IfOk result (λ found. IsFirstOf
+        (IsDropUpTo requirements.now term (automata_of machine.now) cells.now.present last) found) }
+{
+    match TermRequirements::among(requirements, term) {
+        Some(own) => {
+            BoxTables::new(alloc, HeldMachine::Lent(machine)).first_drop(alloc, own, last, cells)
+        }
+        None => Ok(None),
+    }
+}
+
 impl<'a> BoxTables<'a> {
-    /// The first of the drops by the requirements of the term whose machine this is: that with the least cell, then the
-    /// least value, then the least requirement. None exactly where none is possible. Where there was none, the
-    /// cells that are looked at aren't asked again before one of them changes.
+    /// The first of the drops by these requirements of the term whose machine this is, up to cell `last`: that with the
+    /// least cell, then the least value, then the least requirement. None exactly where none is possible. Where there
+    /// was none in any cell, the cells that are looked at aren't asked again before one of them changes.
     pub(crate) fn first_drop(
         &mut self,
         alloc: Global,
-        term: u32,
-        requirements: &[Require],
+        own: TermRequirements<'_>,
+        last: u32,
         cells: &Boxed,
     ) -> Result<Option<Removal>, Memory>
-        requires requirements { length requirements.now < 4000000000 }
         requires looks { LooksIn self.old.machine cells.now.present }
         requires known { AreKnown cells.now.present self.old }
         ensures known { StillKnown cells.now.present self.old self.new }
-        ensures found { IfOk result
-            (λ found. IsFirstOf (IsTermDrop requirements.now term self.old.machine cells.now.present) found) }
+        ensures found { IfOk result (λ found. IsFirstOf
+            (IsDropUpTo own.entry.all.now own.entry.term self.old.machine cells.now.present last) found) }
     {
-        let own = match TermRequirements::among(requirements, term) {
-            Some(own) => own,
-            None => return Ok(None),
-        };
         let outside = self.refuted_outside(alloc, own, cells)?;
         if outside.is_none() && self.is_quiet(own) {
             return Ok(None);
         }
-        let found = self.drop_in_cells(alloc, own, outside, cells)?;
-        if found.is_some() {
-            return Ok(found);
-        }
-        self.found_nothing(alloc, own)?;
-        Ok(None)
+        let found = self.drop_in_cells(alloc, own, outside, last, cells)?;
+        self.remember(alloc, own, found, last, cells)?;
+        Ok(found)
     }
 
-    /// The first of the drops by these requirements, where `outside` is refuted outside the window.
+    /// Remembers that there is no drop, where none was found and `last` is the last cell.
+    fn remember(
+        &mut self,
+        alloc: Global,
+        own: TermRequirements<'_>,
+        found: Option<Removal>,
+        last: u32,
+        cells: &Boxed,
+    ) -> Result<(), Memory>
+        requires found { IsFirstOf (IsDropUpTo own.all.now own.term self.old.machine cells.now.present last) found }
+        requires looks { LooksIn self.old.machine cells.now.present }
+        requires known { AreKnown cells.now.present self.old }
+        ensures known { StillKnown cells.now.present self.old self.new }
+    {
+        if found.is_some() || last < cells.cells() {
+            return Ok(());
+        }
+        self.found_nothing(alloc, own)
+    }
+
+    /// The first of the drops by these requirements up to cell `last`, where `outside` is refuted outside the window.
     fn drop_in_cells(
         &mut self,
         alloc: Global,
         own: TermRequirements<'_>,
         outside: Option<u32>,
+        last: u32,
         cells: &Boxed,
     ) -> Result<Option<Removal>, Memory>
         requires outside { IsRefutedOutside own.all.now own.term self.old.machine cells.now.present outside }
@@ -102,10 +145,10 @@ impl<'a> BoxTables<'a> {
         requires known { AreKnown cells.now.present self.old }
         ensures known { StillKnown cells.now.present self.old self.new }
         ensures found { IfOk result (λ found. IsFirstOf
-            (IsTermDrop own.entry.all.now own.entry.term self.old.machine cells.now.present) found) }
+            (IsDropUpTo own.entry.all.now own.entry.term self.old.machine cells.now.present last) found) }
     {
         let (from, to) = self.asked_for_drops(outside, cells);
-        for before in from..to {
+        for before in from..to.min(last) {
             let found = self.drop_at(alloc, before + 1, own, outside, cells)?;
             if found.is_some() {
                 return Ok(found);
@@ -230,6 +273,16 @@ fn drop_outside(k: u32, cells: &Boxed, refuted: Option<u32>) -> Option<Removal>
             require,
         }),
         _ => None,
+    }
+}
+
+/// The last cell in which a drop may come before this one: in cells behind it none is looked for.
+pub(crate) fn last_asked(first: Option<Removal>, cells: &Boxed) -> u32
+    ensures { result ≡ cell_up_to first (length cells.now.present) }
+{
+    match first {
+        Some(drop) => drop.cell,
+        None => cells.cells(),
     }
 }
 

@@ -9,13 +9,14 @@ ghost use Rattle.ts_filter.specs.Drops.{IsFirstOf};
 ghost use Rattle.ts_filter.specs.FirstCell.{IsFirstCell};
 ghost use Rattle.ts_filter.specs.HeldMachine.{machine_in};
 ghost use Rattle.ts_filter.specs.KeptValue.{IsKept};
-ghost use Rattle.ts_filter.specs.TermDrops.{IsTermDrop};
+ghost use Rattle.ts_filter.specs.TermDrops.{IsDropUpTo};
 
 use crate::box_tables::BoxTables;
 use crate::drops::Removal;
 use crate::held_machine::HeldMachine;
 use crate::meeting::meet;
 use crate::question::Question;
+use crate::term_requirements::TermRequirements;
 use std::alloc::Global;
 use std::marker::Model;
 use ts_base::{Goal, Memory};
@@ -148,22 +149,43 @@ impl<'a> LiveTables<'a> {
         self.tables.kept_value(alloc, goal, k, cells)
     }
 
-    /// The first of the drops by the requirements of the term whose machine this is: that with the least cell, then the
-    /// least value, then the least requirement. None exactly where none is possible.
+    /// The first of the drops by the requirements of the term whose machine this is, up to cell `last`: that with the
+    /// least cell, then the least value, then the least requirement. None exactly where none is possible. Where the
+    /// term has no requirement, nothing is compared.
     pub(crate) fn first_drop(
         &mut self,
         alloc: Global,
         term: u32,
         requirements: &[Require],
+        last: u32,
         cells: &Boxed,
     ) -> Result<Option<Removal>, Memory>
         requires requirements { length requirements.now < 4000000000 }
         requires looks { LooksIn self.old cells.now.present }
         ensures same { self.new ≡ self.old }
         ensures found { IfOk result
-            (λ found. IsFirstOf (IsTermDrop requirements.now term self.old cells.now.present) found) }
+            (λ found. IsFirstOf (IsDropUpTo requirements.now term self.old cells.now.present last) found) }
+    {
+        match TermRequirements::among(requirements, term) {
+            Some(own) => self.drop_by(alloc, own, last, cells),
+            None => Ok(None),
+        }
+    }
+
+    /// The same by these requirements.
+    fn drop_by(
+        &mut self,
+        alloc: Global,
+        own: TermRequirements<'_>,
+        last: u32,
+        cells: &Boxed,
+    ) -> Result<Option<Removal>, Memory>
+        requires { LooksIn self.old cells.now.present }
+        ensures same { self.new ≡ self.old }
+        ensures found { IfOk result (λ found. IsFirstOf
+            (IsDropUpTo own.entry.all.now own.entry.term self.old cells.now.present last) found) }
     {
         meet(alloc, &mut self.tables, &mut self.seen, cells)?;
-        self.tables.first_drop(alloc, term, requirements, cells)
+        self.tables.first_drop(alloc, own, last, cells)
     }
 }

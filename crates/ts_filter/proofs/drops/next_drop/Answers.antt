@@ -1,16 +1,13 @@
 use Rattle.std.proofs.Common.{map, sym, subst, arith, ◌+◌}
 use Rattle.ts_bound.specs.TermSpans.{LooksIn, automata_of}
 use Rattle.ts_filter.specs.Drops.{IsFirstOf}
-use Rattle.ts_filter.specs.KnownRows.{KnownRows}
-use Rattle.ts_filter.specs.TermDrops.{IsTermDrop}
 use Rattle.ts_filter.proofs.DropLaws.{DropBelow, first_below_more, first_of_all, machine_looks, machine_there}
 use Rattle.ts_filter.proofs.drops.next_drop.Goals as goal
 
-pub first_drop-requires-clause-looks : goal.first_drop-requires-clause-looks
-first_drop-requires-clause-looks c =
+pub drop_of_term-requires-clause-looks : goal.drop_of_term-requires-clause-looks
+drop_of_term-requires-clause-looks c =
     let ms = c.args.machines.now in let b = c.args.cells.now.present in
-    subst (λ (t : KnownRows). LooksIn t.machine b) (sym c.new-tables.ensures.value)
-    (machine_looks b ms c.loop-term.term c.index-machines-term.result c.requires.looks c.loop-term-test.true c.index-machines-term.is)
+    machine_looks b ms c.loop-term.term c.index-machines-term.result c.requires.looks c.loop-term-test.true c.index-machines-term.is
 
 pub loop-term-preserved : goal.loop-term-preserved
 loop-term-preserved c =
@@ -19,9 +16,7 @@ loop-term-preserved c =
     (first_below_more rs (map automata_of ms) b c.loop-term.term (automata_of c.index-machines-term.result)
     (machine_there ms c.loop-term.term c.index-machines-term.result c.loop-term-test.true c.index-machines-term.is)
     (machine_looks b ms c.loop-term.term c.index-machines-term.result c.requires.looks c.loop-term-test.true c.index-machines-term.is)
-    c.loop-term.first c.in_ok-found.found c.loop-term.invariant
-    (subst (λ (t : KnownRows). IsFirstOf (IsTermDrop rs c.loop-term.term t.machine b) c.in_ok-found.found) c.new-tables.ensures.value
-    c.in_ok-found.ensures.found))
+    c.loop-term.first c.in_ok-found.found c.last_asked-last.result c.last_asked-last.ensures c.loop-term.invariant c.in_ok-found.ensures)
 
 pub returns : goal.returns
 returns c =

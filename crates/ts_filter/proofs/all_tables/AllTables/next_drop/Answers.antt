@@ -2,7 +2,7 @@ use Rattle.std.proofs.Common.{rules, ◌<◌, ◌≤◌, ◌∙◌, length, subs
 use Rattle.ts_bound.specs.TermSpans.{LooksIn}
 use Rattle.ts_filter.specs.Drops.{IsFirstOf}
 use Rattle.ts_filter.specs.OfTerm.{OfTerm}
-use Rattle.ts_filter.specs.TermDrops.{IsTermDrop}
+use Rattle.ts_filter.specs.TermDrops.{IsDropUpTo}
 use Rattle.ts_filter.proofs.DropLaws.{first_of_all}
 use Rattle.ts_filter.proofs.TermsAsked.{drops_more, looks_of}
 use Rattle.ts_filter.proofs.all_tables.AllTables.next_drop.Goals as goal
@@ -19,9 +19,9 @@ loop-term-preserved c =
     let below : term < length c.args.self.now = search rules in
     record {
       same = c.first_drop.ensures.same ∙ c.loop-term.invariant.same;
-      first = drops_more rs c.args.self.now b term c.loop-term.first c.in_ok-found.found c.earlier-first.result below
-          c.requires.looks c.loop-term.invariant.first
-          (subst (λ all. OfTerm all term (λ a. IsFirstOf (IsTermDrop rs term a b) c.in_ok-found.found)) c.loop-term.invariant.same c.in_ok-found.ensures.found)
+      first = drops_more rs c.args.self.now b term c.last_asked-last.result c.loop-term.first c.in_ok-found.found c.earlier-first.result below
+          c.requires.looks c.last_asked-last.ensures c.loop-term.invariant.first
+          (subst (λ all. OfTerm all term (λ a. IsFirstOf (IsDropUpTo rs term a b c.last_asked-last.result) c.in_ok-found.found)) c.loop-term.invariant.same c.in_ok-found.ensures.found)
           c.earlier-first.ensures;
     }
 

@@ -14,5 +14,5 @@ pub returns-clause-found : goal.returns-clause-found
 returns-clause-found c =
     let a = c.args.self.now.machine in let b = c.args.cells.now.present in let own = c.args.own in
     let all = c.asked_for_drops-from.ensures.all in
-    none_behind_last own.all.now own.term a b c.args.outside c.asked_for_drops-from.result.1 c.loop-before.before c.requires.outside
-    (λ k u may. (all k u may).1) (omega (arith, c.loop-before-test.false)) c.loop-before.invariant.1
+    none_behind_last own.all.now own.term a b c.args.outside c.asked_for_drops-from.result.1 c.args.last _ c.loop-before.before c.requires.outside
+    (λ k u may. (all k u may).1) c.min-before-end.ensures (omega (arith, c.loop-before-test.false)) c.loop-before.invariant.1

@@ -1,0 +1,19 @@
+use Rattle.std.proofs.Common.{IfOk, subst}
+use Rattle.ts_bound.specs.TermSpans.{automata_of, value_span}
+use Rattle.ts_filter.specs.Drops.{IsFirstOf}
+use Rattle.ts_filter.specs.KnownRows.{KnownRows}
+use Rattle.ts_filter.specs.TermDrops.{IsDropUpTo}
+use Rattle.ts_filter.proofs.Refuting.{none_of_term}
+use Rattle.ts_filter.proofs.drops.drop_of_term.Goals as goal
+
+pub returns-in-Some : goal.returns-in-Some
+returns-in-Some c =
+    let rs = c.args.requirements.now in let b = c.args.cells.now.present in let a = c.new.result.machine in
+    subst (λ (t : KnownRows). IfOk c.first_drop.result (IsFirstOf (IsDropUpTo rs c.args.term t.machine b c.args.last))) c.new.ensures.value
+    (subst (λ z. IfOk c.first_drop.result (IsFirstOf (IsDropUpTo rs z a b c.args.last))) c.in-Some.ensures.1
+    (subst (λ z. IfOk c.first_drop.result (IsFirstOf (IsDropUpTo z c.in-Some.own.term a b c.args.last))) c.in-Some.ensures.0 c.first_drop.ensures.found))
+
+pub returns-in-None : goal.returns-in-None
+returns-in-None c = λ t h.
+    none_of_term c.args.requirements.now c.args.term (value_span (automata_of c.args.machine.now) t.cell c.args.cells.now.present t.value) t.require
+    c.in-None.ensures h.0.refuting
