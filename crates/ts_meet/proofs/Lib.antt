@@ -1,0 +1,5 @@
+pub mod Gluings
+pub mod Marks
+pub mod Meeting
+pub mod Asking
+pub mod CallerLemmas

@@ -1,0 +1,224 @@
+-- The loops over the states of both sides.
+use Rattle.std.proofs.Common.{◌≡◌, ℕ, zero, suc, ◌+◌, ◌≤◌, ◌<◌, ℤ, pos, Bool, true, false, cond, ◌&&◌, List, [], ◌∷◌, ◌++◌, length, map, get_or, refl, sym, ap, subst, ◌∙◌, arith}
+use Rattle.std.specs.Prelude.{flat_map, fold}
+use Rattle.std.specs.List.{range_with_len}
+use Rattle.std.proofs.lemmas.List.{flat_map_more, get_or_default}
+use Rattle.std.proofs.lemmas.List.FromFn.{map-range_with_len_more}
+use Rattle.std.proofs.lemmas.List.Sums.{fold-append, fold_push}
+use Rattle.ts_base.specs.declared.span.Span.{Span}
+use Rattle.ts_base.specs.Spans.{has_some, none_span, span_hull}
+use Rattle.ts_automaton.specs.Formula.{Formula}
+use Rattle.ts_automaton.specs.AutomatonRun.{Standing}
+use Rattle.ts_automaton.specs.Body.{Body}
+use Rattle.ts_automaton.specs.Registers.{EachOf, map_each, spans, spans_of, value_in}
+use Rattle.ts_automaton.specs.SpanRun.{has_registers, finish_span_of, marked_span}
+use Rattle.ts_automaton.specs.declared.state.Mark.{Mark}
+use Rattle.ts_glue.specs.Glue.{Glue, glue_in, glue_of}
+use Rattle.ts_glue.specs.Glued.{glued_span}
+use Rattle.ts_glue.specs.Pairs.{Pair}
+use Rattle.ts_hull.specs.Sealed.{by_ends, sealed_spans, span_in}
+use Rattle.ts_row.specs.Rows.{IsRow, nothing}
+use Rattle.ts_sweep.specs.declared.packed.Ends.{Ends}
+use Rattle.ts_sweep.specs.declared.packed.PackedHull.{PackedHull}
+use Rattle.ts_sweep.specs.FrontLaws.{some_ends}
+use Rattle.ts_sweep.specs.Lanes.{some_lanes}
+use Rattle.ts_sweep.specs.MoveLaws.{some_unpacked}
+use Rattle.ts_sweep.specs.Packed.{AreSome, IsPacked, IsPackOf, IsSomeEnds, ends_span, unpacked}
+use Rattle.ts_sweep.specs.PackedLaws.{none_unpacked}
+use Rattle.ts_sweep.specs.TreeLaws.{tree_packs, zero_small}
+use Rattle.ts_sweep.specs.Trees.{tree_value}
+use Rattle.ts_sweep.proofs.PairSteps.{nothing_lanes}
+use Rattle.ts_meet.specs.Joints.{AreJoints}
+use Rattle.ts_meet.specs.declared.joints.Joints.{Joints}
+use Rattle.ts_meet.specs.Meets.{HasPlace, finishes_in, spans_between, spans_with, standing, standing_in}
+use Rattle.ts_meet.specs.Sides.{AreSomeEnds, ArePackOf, StandFor, side_of}
+use Rattle.ts_meet.proofs.Marks.{with_nothing}
+
+-- hulls in lanes
+
+pub lanes_some : (n : ℕ) (xs : List ℤ) → 6 ≤ n → AreSome n xs → AreSomeEnds (side_of xs)
+lanes_some n xs big h = (some_ends n 0 xs (omega (arith, big)) h, some_ends n 1 xs (omega (arith, big)) h, some_ends n 2 xs (omega (arith, big)) h)
+
+pub lanes_pack : (n : ℕ) (xs : List ℤ) → 6 ≤ n → AreSome n xs → ArePackOf (side_of xs) (spans_of (unpacked xs))
+lanes_pack n xs big h =
+    let s = lanes_some n xs big h in
+    (record { some = s.0; span = refl }, record { some = s.1; span = refl }, record { some = s.2; span = refl })
+
+pub none_there : (n : ℕ) (xs : List ℤ) → 6 ≤ n → IsPacked n xs → some_lanes xs ≡ false → has_registers (spans_of (unpacked xs)) ≡ false
+none_there n xs big p none = ap (λ h. has_registers (spans_of h)) (ap unpacked (nothing_lanes n xs big p none) ∙ none_unpacked n big)
+
+packed_span : (e : Ends) (s : Span) → IsPackOf e s → has_some s ≡ true
+packed_span e s p = ap has_some (sym p.span) ∙ p.some.some
+
+pack_registers : (a : EachOf Ends) (s : EachOf Span) → ArePackOf a s → has_registers s ≡ true
+pack_registers a s p =
+    ap (λ b. (b && has_some s.d) && has_some s.r) (packed_span a.c s.c p.0) ∙ ap (λ b. b && has_some s.r) (packed_span a.d s.d p.1) ∙ packed_span a.r s.r p.2
+
+-- the hull that was read at a place of a row
+pub standing_there : (n : ℕ) (row : List (List (PackedHull n))) (q i : ℕ) (column : List (PackedHull n)) (h : PackedHull n) →
+    column ≡ get_or row q [] → i < length (get_or row q []) → h ≡ get_or column i h → standing q (spans_of (unpacked h.at)) ≡ standing_in n row q i
+standing_there n row q i column h e inside is =
+    ap (λ (z : PackedHull n). standing q (spans_of (unpacked z.at)))
+    (is ∙ ap (λ z. get_or z i h) e ∙ get_or_default (get_or row q []) i h (nothing n) inside)
+
+-- a pair of states
+
+value_sealed : (u : Glue) (s t : EachOf Span) → glue_in sealed_spans s t u ≡ glue_in spans s t u
+unfolding by_ends
+value_sealed u s t = refl
+
+some_both : (a b : Bool) → a ≡ true → b ≡ true → (a && b) ≡ true
+some_both a b p q = ap (λ z. z && b) p ∙ q
+
+second_none : (a b : Bool) → b ≡ false → (a && b) ≡ false
+second_none true b e = e
+second_none false b e = refl
+
+module _ (p : Pair) (q r : ℕ) (regs others : EachOf Span) (x : ℤ) (cells : ℕ) where
+  pub part_none : has_registers others ≡ false → glued_span p (standing q regs) (standing r others) x cells ≡ none_span
+  part_none h =
+      ap (λ b. marked_span p.forward.mark cells (cond b (glue_in spans regs others (glue_of p q r x)) none_span))
+      (second_none (has_registers regs) (has_registers others) h)
+
+  pub part_is : has_registers regs ≡ true → has_registers others ≡ true →
+      glued_span p (standing q regs) (standing r others) x cells ≡ marked_span p.forward.mark cells (glue_in sealed_spans regs others (glue_of p q r x))
+  part_is h k =
+      ap (λ b. marked_span p.forward.mark cells (cond b (glue_in spans regs others (glue_of p q r x)) none_span))
+      (some_both (has_registers regs) (has_registers others) h k)
+      ∙ ap (marked_span p.forward.mark cells) (sym (value_sealed (glue_of p q r x) regs others))
+
+-- the glued ends of a pair of states are taken in
+pub pair_taken : (p : Pair) (j : Joints) (q r : ℕ) (a b : EachOf Ends) (regs others : EachOf Span) (x : ℤ) (cells : ℕ) (u : Glue)
+    (hull e m result : Ends) (s : Span) → AreJoints p j → ArePackOf a regs → ArePackOf b others → u ≡ glue_of p q r x →
+    ((s t : EachOf Span) → ArePackOf a s → ArePackOf b t → IsPackOf e (glue_in sealed_spans s t u)) →
+    ((t : Span) → IsPackOf e t → IsPackOf m (marked_span j.mark cells t)) →
+    ((s t : Span) → StandFor hull s → IsPackOf m t → StandFor result (span_hull s t)) → StandFor hull s →
+    StandFor result (span_hull s (glued_span p (standing q regs) (standing r others) x cells))
+pair_taken p j q r a b regs others x cells u hull e m result s h pa pb is glued marked joined stands =
+    let value = glue_in sealed_spans regs others u in
+    subst (λ z. StandFor result (span_hull s z))
+    (ap (λ k. marked_span k cells value) h.mark ∙ ap (λ v. marked_span p.forward.mark cells (glue_in sealed_spans regs others v)) is
+    ∙ sym (part_is p q r regs others x cells (pack_registers a regs pa) (pack_registers b others pb)))
+    (joined s (marked_span j.mark cells value) stands (marked value (glued regs others pa pb)))
+
+-- one state more on the other side
+
+pub with_none : (n : ℕ) (p : Pair) (left : Standing Span) (right : List (List (PackedHull n))) (i : ℕ) (x : ℤ) (cells : ℕ) →
+    spans_with n p left right i x cells 0 ≡ []
+unfolding spans_with
+with_none n p left right i x cells = refl
+
+pub with_more : (n : ℕ) (p : Pair) (left : Standing Span) (right : List (List (PackedHull n))) (i : ℕ) (x : ℤ) (cells m : ℕ) (s : Span) →
+    fold span_hull s (spans_with n p left right i x cells (m + 1))
+    ≡ span_hull (fold span_hull s (spans_with n p left right i x cells m)) (glued_span p left (standing_in n right m i) x cells)
+unfolding spans_with
+with_more n p left right i x cells m s =
+    let f : ℕ → Span = λ r. glued_span p left (standing_in n right r i) x cells in
+    ap (fold span_hull s) (map-range_with_len_more f 0 m m (omega arith)) ∙ fold_push span_hull s (map f (range_with_len 0 m)) (f m)
+
+-- one state more on the left
+
+pub between_none : (n : ℕ) (p : Pair) (left right : List (List (PackedHull n))) (i : ℕ) (x : ℤ) (cells m : ℕ) →
+    spans_between n p left right i x cells m 0 ≡ []
+unfolding spans_between
+between_none n p left right i x cells m = refl
+
+range_more : (a n j : ℕ) → a + n ≡ j → range_with_len a (n + 1) ≡ range_with_len a n ++ j ∷ []
+range_more a zero j e = ap (λ z. z ∷ []) (let f : a ≡ j = omega (arith, e) in f)
+range_more a (suc n) j e =
+    let f : suc n + 1 ≡ suc (n + 1) = omega arith in ap (range_with_len a) f ∙ ap (λ l. a ∷ l) (range_more (a + 1) n j (omega (arith, e)))
+
+pub between_more : (n : ℕ) (p : Pair) (left right : List (List (PackedHull n))) (i : ℕ) (x : ℤ) (cells m k : ℕ) (s : Span) →
+    fold span_hull s (spans_between n p left right i x cells m (k + 1))
+    ≡ fold span_hull (fold span_hull s (spans_between n p left right i x cells m k)) (spans_with n p (standing_in n left k i) right i x cells m)
+unfolding spans_between
+between_more n p left right i x cells m k s =
+    let f : ℕ → List Span = λ q. spans_with n p (standing_in n left q i) right i x cells m in
+    ap (λ l. fold span_hull s (flat_map f l)) (range_more 0 k k (omega arith))
+    ∙ ap (fold span_hull s) (sym (flat_map_more f [] (range_with_len 0 k) k))
+    ∙ fold-append span_hull s (flat_map f (range_with_len 0 k)) (f k)
+
+-- a state on the left that isn't reached adds nothing
+nones : (s : Span) (f : ℕ → Span) (rs : List ℕ) → span_hull s none_span ≡ s → ((r : ℕ) → f r ≡ none_span) → fold span_hull s (map f rs) ≡ s
+nones s f [] e none = refl
+nones s f (r ∷ rs) e none = ap (λ z. fold span_hull z (map f rs)) (ap (span_hull s) (none r) ∙ e) ∙ nones s f rs e none
+
+first_none : (a b : Bool) → a ≡ false → (a && b) ≡ false
+first_none a b e = ap (λ z. z && b) e
+
+pub left_same : (n : ℕ) (p : Pair) (left : Standing Span) (right : List (List (PackedHull n))) (i : ℕ) (x : ℤ) (cells m : ℕ) (s : Span) (a : Ends) →
+    has_registers left.regs ≡ false → StandFor a s → fold span_hull s (spans_with n p left right i x cells m) ≡ s
+unfolding spans_with
+left_same n p left right i x cells m s a none h =
+    nones s (λ r. glued_span p left (standing_in n right r i) x cells) (range_with_len 0 m) (with_nothing a s h)
+    (λ r. ap (λ b. marked_span p.forward.mark cells (cond b (glue_in spans left.regs (standing_in n right r i).regs (glue_of p left.state r x)) none_span))
+    (first_none (has_registers left.regs) (has_registers (standing_in n right r i).regs) none))
+
+pub left_none : (n : ℕ) (p : Pair) (left : Standing Span) (right : List (List (PackedHull n))) (i : ℕ) (x : ℤ) (cells m : ℕ) (s : Span) (a : Ends) →
+    has_registers left.regs ≡ false → StandFor a s → StandFor a (fold span_hull s (spans_with n p left right i x cells m))
+left_none n p left right i x cells m s a none h = subst (StandFor a) (sym (left_same n p left right i x cells m s a none h)) h
+
+-- the last cell
+
+pub finishes_none : (n : ℕ) (b : Body) (row : List (List (PackedHull n))) (i cells : ℕ) → finishes_in n b row i cells 0 ≡ []
+unfolding finishes_in
+finishes_none n b row i cells = refl
+
+pub finishes_more : (n : ℕ) (b : Body) (row : List (List (PackedHull n))) (i cells k : ℕ) (s : Span) →
+    fold span_hull s (finishes_in n b row i cells (k + 1))
+    ≡ span_hull (fold span_hull s (finishes_in n b row i cells k)) (finish_span_of b (standing_in n row k i) cells)
+unfolding finishes_in
+finishes_more n b row i cells k s =
+    let f : ℕ → Span = λ q. finish_span_of b (standing_in n row q i) cells in
+    ap (fold span_hull s) (map-range_with_len_more f 0 k k (omega arith)) ∙ fold_push span_hull s (map f (range_with_len 0 k)) (f k)
+
+finish_sealed : (f : Formula) (s : EachOf Span) (x y : ℤ) → value_in spans s x y f ≡ value_in sealed_spans s x y f
+unfolding by_ends
+finish_sealed f s x y = refl
+
+pub finish_none : (b : Body) (q : ℕ) (regs : EachOf Span) (cells : ℕ) → has_registers regs ≡ false → finish_span_of b (standing q regs) cells ≡ none_span
+finish_none b q regs cells h = ap (λ t. marked_span b.mark cells (cond t (value_in spans regs (pos 0) (pos 0) b.finish) none_span)) h
+
+finish_is : (b : Body) (q : ℕ) (regs : EachOf Span) (cells : ℕ) → has_registers regs ≡ true →
+    finish_span_of b (standing q regs) cells ≡ marked_span b.mark cells (value_in sealed_spans regs (pos 0) (pos 0) b.finish)
+finish_is b q regs cells h =
+    ap (λ t. marked_span b.mark cells (cond t (value_in spans regs (pos 0) (pos 0) b.finish) none_span)) h
+    ∙ ap (marked_span b.mark cells) (finish_sealed b.finish regs (pos 0) (pos 0))
+
+pub finish_taken : (n : ℕ) (b : Body) (q : ℕ) (xs : List ℤ) (cells : ℕ) (f : Formula) (k : Mark) (hull e m result : Ends) (s : Span) →
+    6 ≤ n → AreSome n xs → f ≡ b.finish → k ≡ b.mark → e ≡ tree_value f xs (pos 0) (pos 0) →
+    ((t : Span) → IsPackOf e t → IsPackOf m (marked_span k cells t)) →
+    ((s t : Span) → StandFor hull s → IsPackOf m t → StandFor result (span_hull s t)) → StandFor hull s →
+    StandFor result (span_hull s (finish_span_of b (standing q (spans_of (unpacked xs))) cells))
+finish_taken n b q xs cells f k hull e m result s big some ef ek is marked joined stands =
+    let value = span_in b.finish (unpacked xs) (pos 0) (pos 0) in
+    let packs : IsPackOf e value =
+    subst (λ z. IsPackOf z value) (sym (is ∙ ap (λ g. tree_value g xs (pos 0) (pos 0)) ef))
+    (tree_packs b.finish n xs (pos 0) (pos 0) big some zero_small zero_small) in
+    subst (λ z. StandFor result (span_hull s z))
+    (ap (λ z. marked_span z cells value) ek ∙ sym (finish_is b q (spans_of (unpacked xs)) cells (some_unpacked n xs big some)))
+    (joined s (marked_span k cells value) stands (marked value packs))
+
+-- so registers lie between the ends of a finish expression
+pub finish_some : (n : ℕ) (f : Formula) (xs : List ℤ) (e : Ends) → 6 ≤ n → AreSome n xs → e ≡ tree_value f xs (pos 0) (pos 0) → IsSomeEnds e
+finish_some n f xs e big some is = subst IsSomeEnds (sym is) (tree_packs f n xs (pos 0) (pos 0) big some zero_small zero_small).some
+
+-- a row has each of its places
+pub row_place : (n states count i : ℕ) (row : List (List (PackedHull n))) → IsRow n states count row → i < count → HasPlace n states i row
+row_place n states count i row h inside = record {
+  len = h.len;
+  inside = λ q lt. let e = (h.columns q lt).0 in omega (arith, e, inside);
+  packed = λ q lt. (h.columns q lt).1 i inside;
+}
+
+-- ends stand for their own spans
+abbrev own_spans : EachOf Ends → EachOf Span
+own_spans a = map_each ends_span a
+
+pub own_packs : (a : EachOf Ends) → AreSomeEnds a → ArePackOf a (own_spans a)
+own_packs a h = (record { some = h.0; span = refl }, record { some = h.1; span = refl }, record { some = h.2; span = refl })
+
+-- so registers lie between glued ends
+pub glued_some : (a b : EachOf Ends) (e : Ends) (u : Glue) → AreSomeEnds a → AreSomeEnds b →
+    ((s t : EachOf Span) → ArePackOf a s → ArePackOf b t → IsPackOf e (glue_in sealed_spans s t u)) → IsSomeEnds e
+glued_some a b e u h k glued = (glued (own_spans a) (own_spans b) (own_packs a h) (own_packs b k)).some

@@ -1,0 +1,17 @@
+use Rattle.std.specs.Prelude.{fold, Some}
+use Rattle.ts_automaton.specs.Registers.{EachOf}
+use Rattle.ts_base.specs.declared.span.Span.{Span}
+use Rattle.ts_base.specs.Spans.{span_hull}
+use Rattle.ts_glue.specs.Pairs.{Pair}
+use Rattle.ts_meet.specs.Asked.{IsTaken}
+use Rattle.ts_meet.specs.Joints.{AreJoints}
+use Rattle.ts_meet.specs.Meets.{spans_with, standing}
+use Rattle.ts_meet.specs.Sides.{ArePackOf, StandFor, ends_in}
+use Rattle.ts_meet.proofs.asked.asked_state.Given as goal
+
+abbrev pub invariant-loop-r : goal.invariant-loop-r
+invariant-loop-r g l =
+    (p : Pair) (regs : EachOf Span) (s : Span) → AreJoints p l.joints → ArePackOf (ends_in l.left) regs → StandFor l.fn.hull s →
+    g.Q.Asked.excluded l.asked (span_hull l.so_far s) →
+    IsTaken (g.Q.Asked.excluded l.asked) l.so_far
+    (fold span_hull s (spans_with g.row.N p (standing l.q regs) l.right l.spot.place l.spot.value l.spot.cells l.r)) (Some l.all)

@@ -1,0 +1,67 @@
+-- How the two runs of a machine are glued, found once for a machine.
+use Rattle.std.specs.Prelude.{◌≡◌, ◌<◌, ℕ, zero, suc, Bool, true, false, ◌||◌, List, [], get_or, length, if◌then◌else◌}
+use Rattle.ts_base.specs.declared.op.Op.{Op}
+use Rattle.ts_base.specs.declared.op.Op.TheVariants.{Add, Max, Min}
+use Rattle.ts_automaton.specs.Body.{node_at}
+use Rattle.ts_automaton.specs.Registers.{EachOf}
+use Rattle.ts_glue.specs.Glue.{Glue, apart, join_of, folded_between, folded_both, fold_op, is_join, result_op}
+use Rattle.ts_glue.specs.Pairs.{Pair}
+use Rattle.ts_sweep.specs.declared.packed.Ends.{Ends}
+use Rattle.ts_sweep.specs.Fronts.{ArePlain}
+use Rattle.ts_meet.specs.declared.gluing.Gluing.{Gluing}
+use Rattle.ts_meet.specs.declared.joints.Joints.{Joints}
+
+-- the expression of a pair of states, where the cell has a worth
+abbrev pub expression : Gluing → Glue
+expression g =
+    if g.joins
+    then join_of g.result
+    (if g.trims then folded_between g.fold g.held_left g.held_right g.worth else folded_both g.fold g.worth)
+    else apart g.result
+
+-- the operator adds
+abbrev pub is_add : Op → Bool
+is_add Add = true
+is_add Max = false
+is_add Min = false
+
+-- C is folded: where it is held, or both sides have folded the cell
+abbrev pub folds_held : Bool → Bool → Bool
+folds_held trims held = if trims then held else true
+
+-- no end of a number that is folded is above 10^16
+pub record IsFoldPlain (g : Gluing) (left right : EachOf Ends) : Type 0 where
+  pub left_d : ArePlain left.d
+  pub right_d : ArePlain right.d
+  pub left_c : folds_held g.trims g.held_left ≡ true → ArePlain left.c
+  pub right_c : folds_held g.trims g.held_right ≡ true → ArePlain right.c
+
+-- nor of one that is added
+pub record IsPlain (g : Gluing) (left right : EachOf Ends) : Type 0 where
+  pub results : is_add g.result ≡ true → ArePlain left.r × ArePlain right.r
+  pub apart : is_add g.result ≡ true → g.joins ≡ false → ArePlain left.c × ArePlain right.c
+  pub folded : (is_add g.result || is_add g.fold) ≡ true → g.joins ≡ true → IsFoldPlain g left right
+
+-- an occurrence leaves a cell out at its end
+abbrev pub leaves_out : ℕ → Bool
+leaves_out zero = false
+leaves_out (suc a) = true
+
+-- the row has, for the forward state q, whether one occurrence goes on to each reverse state
+abbrev pub AreJoinsOf : Pair → ℕ → List Bool → Type 0
+AreJoinsOf p q row = (r : ℕ) → r < length p.reverse.states → get_or row r false ≡ is_join p.table q r
+
+-- what is kept of a pair
+pub record AreJoints (p : Pair) (j : Joints) : Type 0 where
+  pub result : j.result ≡ result_op p
+  pub fold : j.fold ≡ fold_op p.table.op
+  pub unit : j.unit ≡ p.table.unit
+  pub trims : j.trims ≡ leaves_out p.table.a
+  pub mark : j.mark ≡ p.forward.mark
+  pub left_states : j.left_states ≡ length p.forward.states
+  pub right_states : j.right_states ≡ length p.reverse.states
+  pub joins : (q : ℕ) → q < length p.forward.states → AreJoinsOf p q (get_or j.joins q [])
+  pub held_left : (q : ℕ) → q < length p.forward.states →
+      get_or j.held_left q false ≡ (node_at p.forward.states q).held
+  pub held_right : (r : ℕ) → r < length p.reverse.states →
+      get_or j.held_right r false ≡ (node_at p.reverse.states r).held

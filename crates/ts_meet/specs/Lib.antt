@@ -1,0 +1,5 @@
+pub mod Sides
+pub mod SideLaws
+pub mod Joints
+pub mod Meets
+pub mod Asked

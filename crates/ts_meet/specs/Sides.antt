@@ -1,0 +1,84 @@
+-- The registers on both sides of a cell, by their ends, and what operators and a mark make of ends.
+use Rattle.std.specs.Prelude.{◌≡◌, ◌⊎◌, ℕ, ℤ, pos, negsuc, neg_ℤ, int_le, if◌then◌else◌, List}
+use Rattle.std.specs.Int.{int_max}
+use Rattle.ts_base.specs.declared.ext.Ext.{Ext}
+use Rattle.ts_base.specs.declared.span.Span.{Span}
+use Rattle.ts_base.specs.declared.op.Op.{Op}
+use Rattle.ts_base.specs.declared.op.Op.TheVariants.{Add, Max, Min}
+use Rattle.ts_base.specs.Spans.{none_span}
+use Rattle.ts_automaton.specs.declared.state.Mark.{Mark}
+use Rattle.ts_automaton.specs.declared.state.Mark.TheVariants.{Same, Zero, Cells}
+use Rattle.ts_automaton.specs.Registers.{EachOf, each, Each, Values}
+use Rattle.ts_sweep.specs.declared.packed.Ends.{Ends}
+use Rattle.ts_sweep.specs.Lanes.{least}
+use Rattle.ts_sweep.specs.Operators.{sum_of_ends, greater_of_ends, lesser_of_ends}
+use Rattle.ts_sweep.specs.Packed.{ends, ends_at, negated, AreWithin, IsPackOf, IsSomeEnds}
+use Rattle.ts_sweep.specs.Trees.{joined_by, lane_of}
+use Rattle.ts_meet.specs.declared.side.Side.{Side}
+
+-- what contracts see of the registers on one side; those in lanes
+abbrev pub ends_in : Side → EachOf Ends
+ends_in s = each s.c s.d s.r
+
+abbrev pub side_of : List ℤ → EachOf Ends
+side_of xs = each (ends_at xs 0) (ends_at xs 1) (ends_at xs 2)
+
+-- a register lies between the ends of each
+abbrev pub AreSomeEnds : EachOf Ends → Type 0
+AreSomeEnds s = IsSomeEnds s.c × IsSomeEnds s.d × IsSomeEnds s.r
+
+-- they stand for these spans
+abbrev pub ArePackOf : EachOf Ends → EachOf Span → Type 0
+ArePackOf = Each IsPackOf
+
+-- operators whose sums are those of the lanes
+abbrev pub plain_by : Op → Ends → Ends → Ends
+plain_by Add a b = sum_of_ends a b
+plain_by Max a b = greater_of_ends a b
+plain_by Min a b = lesser_of_ends a b
+
+-- they are right of small numbers alone
+abbrev pub TakesPlain : Op → Ends → Ends → Type 0
+TakesPlain Add a b = AreWithin 5 a × AreWithin 5 b
+TakesPlain Max a b = Unit {0}
+TakesPlain Min a b = Unit {0}
+
+abbrev pub TakesAny : Op → Ends → Ends → Type 0
+TakesAny o a b = Unit {0}
+
+abbrev pub constant_ends : Ext → Ends
+constant_ends e = ends (lane_of (negated e)) (lane_of e)
+
+-- expressions by plain sums, and by sums that are clamped and know infinities
+abbrev pub plain_values : Values Ends
+plain_values = record { constant = constant_ends; join = plain_by }
+
+abbrev pub clamped_values : Values Ends
+clamped_values = record { constant = constant_ends; join = joined_by }
+
+-- a mark on a lane: as an upper end, and as a lower one, which is negated
+abbrev pub marked_above : Mark → ℕ → ℤ → ℤ
+marked_above Same n x = x
+marked_above Zero n x = if int_le x (negsuc 9223372036854775806) then pos 0 else x
+marked_above Cells n x = if int_le (pos 9223372036854775807) x then pos n else x
+
+abbrev pub marked_below : Mark → ℕ → ℤ → ℤ
+marked_below Same n x = x
+marked_below Zero n x = if int_le (pos 9223372036854775807) x then pos 0 else x
+marked_below Cells n x = if int_le x (negsuc 9223372036854775806) then neg_ℤ (pos n) else x
+
+-- the hull of the numbers in two lanes, the first as a lower end
+abbrev pub hull_of_lanes : ℤ → ℤ → Ends
+hull_of_lanes below above = ends (int_max below (neg_ℤ above)) (int_max (neg_ℤ below) above)
+
+-- a mark on both ends, and the hull of the two
+abbrev pub marked_ends : Mark → ℕ → Ends → Ends
+marked_ends k n e = hull_of_lanes (marked_below k n e.below) (marked_above k n e.above)
+
+-- the ends of a span that holds nothing
+abbrev pub no_ends : Ends
+no_ends = ends least least
+
+-- ends that stand for a span, which may hold nothing
+abbrev pub StandFor : Ends → Span → Type 0
+StandFor e s = ((e ≡ no_ends) × (s ≡ none_span)) ⊎ IsPackOf e s

@@ -1,0 +1,134 @@
+//! How the runs of a machine are glued is found once.
+
+ghost use Rattle.std.specs.Prelude.{◌≡◌, ℕ, ◌<◌, false, [], IfSome, IsSome, get_or, length};
+ghost use Rattle.ts_automaton.specs.Body.{node_at};
+ghost use Rattle.ts_automaton.specs.Formula.{formula};
+ghost use Rattle.ts_base.specs.Limits.{IsCellValue};
+ghost use Rattle.ts_glue.specs.Glue.{first_op, fold_op, glue_of, is_join};
+ghost use Rattle.ts_glue.specs.Machines.{pair_of};
+ghost use Rattle.ts_glue.specs.Pairs.{Pair, pair, table_view};
+ghost use Rattle.ts_meet.specs.Joints.{AreJoints, AreJoinsOf, expression};
+
+use crate::gluing::Gluing;
+use crate::joints::{Joints, STATES};
+use crate::spot::Spot;
+use ts_automaton::{Automaton, Expr, Op};
+use ts_glue::{FoldOp, GlueTable, Machine};
+
+impl Joints {
+    /// Those of a machine that can be split.
+    pub fn of(m: &Machine) -> Joints
+        requires split { IsSome (pair_of m.now) }
+        ensures { IfSome (pair_of m.now) (λ p. AreJoints p result) }
+    {
+        match (m.reverse(), m.table()) {
+            (Some(reverse), Some(table)) => joints_of(m.forward(), reverse, table),
+            _ => unreachable!(),
+        }
+    }
+
+    /// How the registers are glued where the forward run stands in the state `left`, the reverse one in `right`.
+    #[inline(always)]
+    pub(crate) fn gluing(&self, left: u8, right: u8, spot: Spot) -> Gluing
+        requires left { left < self.now.left_states }
+        requires right { right < self.now.right_states }
+        requires value { IsCellValue spot.value }
+        ensures value { (p : Pair) → AreJoints p self.now → expression result ≡ glue_of p left right spot.value }
+        ensures worth { IsCellValue result.worth }
+    {
+        Gluing {
+            result: self.result,
+            fold: self.fold,
+            worth: self.unit.worth(spot.value),
+            joins: self.joins[left as usize][right as usize],
+            trims: self.trims,
+            held_left: self.held_left[left as usize],
+            held_right: self.held_right[right as usize],
+        }
+    }
+}
+
+/// Those of two automata and a glue table.
+fn joints_of(forward: &Automaton, reverse: &Automaton, table: &GlueTable) -> Joints
+    ensures { AreJoints (pair forward.now reverse.now (table_view table.now)) result }
+{
+    Joints {
+        result: first_op(forward.finish_expr()),
+        fold: op_of(table.op),
+        unit: table.unit,
+        trims: table.a > 0,
+        mark: forward.mark(),
+        left_states: forward.states(),
+        right_states: reverse.states(),
+        joins: joins_of(forward, reverse, table),
+        held_left: held_in(forward),
+        held_right: held_in(reverse),
+    }
+}
+
+/// Whether one occurrence goes on from each state to each on the other side.
+fn joins_of(forward: &Automaton, reverse: &Automaton, table: &GlueTable) -> [[bool; STATES]; STATES]
+    ensures { (q : ℕ) → q < length forward.now.states →
+        AreJoinsOf (pair forward.now reverse.now (table_view table.now)) q (get_or result q []) }
+{
+    let mut rows = [[false; STATES]; STATES];
+    for q in 0..forward.states() {
+        rows[q as usize] = row_of(forward, reverse, table, q);
+    }
+    rows
+}
+
+/// Whether one goes on from the state `q`.
+fn row_of(forward: &Automaton, reverse: &Automaton, table: &GlueTable, q: u8) -> [bool; STATES]
+    ensures length { length result ≡ 8 }
+    ensures joins { AreJoinsOf (pair forward.now reverse.now (table_view table.now)) q result }
+{
+    let mut row = [false; STATES];
+    for r in 0..reverse.states() {
+        row[r as usize] = is_join(table, q, r);
+    }
+    row
+}
+
+/// Whether one goes on from a state to another.
+fn is_join(table: &GlueTable, forward: u8, reverse: u8) -> bool
+    ensures { result ≡ is_join (table_view table.now) forward reverse }
+{
+    table
+        .joins
+        .iter()
+        .any(|join| join.forward == forward && join.reverse == reverse)
+}
+
+/// In which states C is held.
+fn held_in(a: &Automaton) -> [bool; STATES]
+    ensures { (q : ℕ) → q < length a.now.states → get_or result q false ≡ (node_at a.now.states q).held }
+{
+    let mut held = [false; STATES];
+    for q in 0..a.states() {
+        held[q as usize] = a.state(q).held;
+    }
+    held
+}
+
+/// The operator that folds.
+fn op_of(fold: FoldOp) -> Op
+    ensures { result ≡ fold_op fold }
+{
+    match fold {
+        FoldOp::Add => Op::Add,
+        FoldOp::Max => Op::Max,
+        FoldOp::Min => Op::Min,
+    }
+}
+
+/// The operator with which a finish expression begins.
+fn first_op(finish: &Expr) -> Op
+    ensures { result ≡ first_op (formula finish.now) }
+{
+    match finish {
+        Expr::Max(_, _) => Op::Max,
+        Expr::Min(_, _) => Op::Min,
+        _ => Op::Add,
+    }
+}

@@ -1,0 +1,165 @@
+//! The span at a value of a cell, from the rows on both sides.
+
+ghost use Rattle.std.specs.Prelude.{◌≡◌, ℕ, ◌<◌, ◌≤◌, fold, length};
+ghost use Rattle.ts_automaton.specs.Registers.{EachOf, spans_of};
+ghost use Rattle.ts_automaton.specs.SpanRun.{finish_span_of};
+ghost use Rattle.ts_base.specs.declared.span.Span.{Span};
+ghost use Rattle.ts_base.specs.Limits.{IsCellValue};
+ghost use Rattle.ts_base.specs.Spans.{span_hull};
+ghost use Rattle.ts_glue.specs.Glued.{glued_span};
+ghost use Rattle.ts_glue.specs.Pairs.{Pair};
+ghost use Rattle.ts_meet.specs.Joints.{AreJoints};
+ghost use Rattle.ts_meet.specs.Meets.{HasPlace, finish_hull, glued_hull, spans_with, standing};
+ghost use Rattle.ts_meet.specs.Sides.{ArePackOf, AreSomeEnds, StandFor, ends_in};
+ghost use Rattle.ts_sweep.specs.Packed.{IsPacked, unpacked};
+
+use crate::joints::Joints;
+use crate::marked::{joined, marked, nothing, span_of};
+use crate::side::Side;
+use crate::spot::Spot;
+use ts_automaton::Automaton;
+use ts_base::Span;
+use ts_row::PackedRow;
+use ts_sweep::front::Front;
+use ts_sweep::packed::{Ends, Packed, PackedHull};
+use ts_sweep::tree::Tree;
+
+/// The hull of the glued spans of all pairs of states, at a value of a cell: the forward row is on
+/// the left, the reverse one on the right. States that no series reaches add nothing.
+pub fn glued_at<const N: usize>(
+    joints: &Joints,
+    left: &PackedRow<N>,
+    right: &PackedRow<N>,
+    spot: Spot,
+) -> Span
+    requires registers { 6 ≤ N }
+    requires lanes { N ≤ 64 }
+    requires left { HasPlace N joints.now.left_states spot.place left.now }
+    requires right { HasPlace N joints.now.right_states spot.place right.now }
+    requires value { IsCellValue spot.value }
+    ensures { (p : Pair) → AreJoints p joints.now →
+        result ≡ glued_hull N p left.now right.now spot.place spot.value spot.cells }
+{
+    let mut hull = nothing();
+    for q in 0..joints.left_states {
+        hull = with_reached(hull, joints, q, &left.column(q)[spot.place], right, spot);
+    }
+    span_of(hull)
+}
+
+/// With those of one state on the left, if any series reaches it.
+#[inline(always)]
+fn with_reached<const N: usize>(
+    hull: Ends,
+    joints: &Joints,
+    q: u8,
+    left: &PackedHull<N>,
+    right: &PackedRow<N>,
+    spot: Spot,
+) -> Ends
+    requires registers { 6 ≤ N }
+    requires lanes { N ≤ 64 }
+    requires state { q < joints.now.left_states }
+    requires left { IsPacked N left.now.at }
+    requires right { HasPlace N joints.now.right_states spot.place right.now }
+    requires value { IsCellValue spot.value }
+    ensures { (p : Pair) (s : Span) → AreJoints p joints.now → StandFor hull s → StandFor result (fold span_hull s
+        (spans_with N p (standing q (spans_of (unpacked left.now.at))) right.now spot.place spot.value spot.cells
+        (length p.reverse.states))) }
+{
+    if !left.is_some() {
+        return hull;
+    }
+    with_state(hull, joints, q, Side::of(left), right, spot)
+}
+
+/// With those of one state that is reached.
+#[inline(always)]
+fn with_state<const N: usize>(
+    hull: Ends,
+    joints: &Joints,
+    q: u8,
+    left: Side,
+    right: &PackedRow<N>,
+    spot: Spot,
+) -> Ends
+    requires registers { 6 ≤ N }
+    requires lanes { N ≤ 64 }
+    requires state { q < joints.now.left_states }
+    requires left { AreSomeEnds (ends_in left) }
+    requires right { HasPlace N joints.now.right_states spot.place right.now }
+    requires value { IsCellValue spot.value }
+    ensures { (p : Pair) (regs : EachOf Span) (s : Span) → AreJoints p joints.now → ArePackOf (ends_in left) regs →
+        StandFor hull s → StandFor result (fold span_hull s
+        (spans_with N p (standing q regs) right.now spot.place spot.value spot.cells (length p.reverse.states))) }
+{
+    let mut all = hull;
+    for r in 0..joints.right_states {
+        all = with_pair(all, joints, q, r, left, &right.column(r)[spot.place], spot);
+    }
+    all
+}
+
+/// With that of one pair of states.
+#[inline(always)]
+pub(crate) fn with_pair<const N: usize>(
+    hull: Ends,
+    joints: &Joints,
+    q: u8,
+    r: u8,
+    left: Side,
+    right: &PackedHull<N>,
+    spot: Spot,
+) -> Ends
+    requires registers { 6 ≤ N }
+    requires lanes { N ≤ 64 }
+    requires state { q < joints.now.left_states }
+    requires other { r < joints.now.right_states }
+    requires left { AreSomeEnds (ends_in left) }
+    requires right { IsPacked N right.now.at }
+    requires value { IsCellValue spot.value }
+    ensures { (p : Pair) (regs : EachOf Span) (s : Span) → AreJoints p joints.now → ArePackOf (ends_in left) regs →
+        StandFor hull s → StandFor result (span_hull s
+        (glued_span p (standing q regs) (standing r (spans_of (unpacked right.now.at))) spot.value spot.cells)) }
+{
+    if !right.is_some() {
+        return hull;
+    }
+    let gluing = joints.gluing(q, r, spot);
+    let glued = gluing.glued(left, Side::of(right));
+    joined(hull, marked(joints.mark, glued, spot.cells))
+}
+
+/// The hull of the finish spans of all states, at place `i` of the values of the last cell, of a series of `n` cells.
+pub fn finish_at<const N: usize>(a: &Automaton, row: &PackedRow<N>, i: usize, n: u32) -> Span
+    requires registers { 6 ≤ N }
+    requires lanes { N ≤ 64 }
+    requires row { HasPlace N (length a.now.states) i row.now }
+    ensures { result ≡ finish_hull N a.now row.now i n }
+{
+    let mut hull = nothing();
+    for q in 0..a.states() {
+        hull = with_finish(hull, a, &row.column(q)[i], n);
+    }
+    span_of(hull)
+}
+
+/// With that of one state.
+fn with_finish<const N: usize>(hull: Ends, a: &Automaton, h: &PackedHull<N>, n: u32) -> Ends
+    requires registers { 6 ≤ N }
+    requires lanes { N ≤ 64 }
+    requires packed { IsPacked N h.now.at }
+    ensures { (q : ℕ) (s : Span) → StandFor hull s → StandFor result (span_hull s
+        (finish_span_of a.now (standing q (spans_of (unpacked h.now.at))) n)) }
+{
+    if !h.is_some() {
+        return hull;
+    }
+    let finish = Tree {
+        expr: a.finish_expr(),
+    };
+    joined(
+        hull,
+        marked(a.mark(), finish.ends::<PackedHull<N>>(*h, 0), n),
+    )
+}

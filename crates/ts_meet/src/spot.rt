@@ -1,0 +1,10 @@
+//! Where spans are asked for.
+
+/// A value of a cell: the place where it stands among the cell's values, counted from 0, the value itself, and how many
+/// cells the series has.
+#[derive(Clone, Copy, Debug, PartialEq, Eq)]
+pub struct Spot {
+    pub place: usize,
+    pub value: i64,
+    pub cells: u32,
+}

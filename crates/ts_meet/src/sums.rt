@@ -1,0 +1,114 @@
+//! Operators on ends: with sums that are those of the lanes, where the numbers are small, or with any.
+
+ghost use Rattle.std.specs.Prelude.{◌≡◌};
+ghost use Rattle.ts_base.specs.Limits.{IsCellValue};
+ghost use Rattle.ts_sweep.specs.Packed.{number_ends};
+
+use ts_automaton::Op;
+use ts_sweep::operator::{Greater, Lesser, Operator, Plus};
+use ts_sweep::packed::Ends;
+use ts_sweep::tree::AnyOperator;
+
+/// What the operators of expressions make of ends.
+pub(crate) trait Sums: Copy {
+    ghost use Rattle.std.specs.Prelude.{◌≡◌, ℤ};
+    ghost use Rattle.ts_base.specs.declared.ext.Ext.TheVariants.{Int};
+    ghost use Rattle.ts_base.specs.declared.op.Op.{Op};
+    ghost use Rattle.ts_base.specs.declared.span.Span.{Span};
+    ghost use Rattle.ts_base.specs.Limits.{IsCellValue};
+    ghost use Rattle.ts_base.specs.Spans.{one_span};
+    ghost use Rattle.ts_automaton.specs.Registers.{Values, ext_op};
+    ghost use Rattle.ts_hull.specs.Sealed.{by_ends};
+    ghost use Rattle.ts_sweep.specs.declared.packed.Ends.{Ends};
+    ghost use Rattle.ts_sweep.specs.Packed.{IsPackOf};
+
+    ghost values: { Values Ends };
+
+    ghost takes: { Op → Ends → Ends → Type 0 };
+
+    /// What an operator makes of ends that it takes.
+    fn joined(op: Op, first: Ends, second: Ends) -> Ends
+        requires { takes op first second }
+        ensures { result ≡ values.join op first second };
+
+    /// The ends of a number.
+    fn number(x: i64) -> Ends
+        requires { IsCellValue x }
+        ensures { result ≡ values.constant (Int x) };
+
+    ghost number_packs: { (x : ℤ) → IsCellValue x → IsPackOf (values.constant (Int x)) (one_span (Int x)) };
+
+    ghost packs: { (o : Op) (a b : Ends) (s t : Span) → takes o a b → IsPackOf a s → IsPackOf b t →
+        IsPackOf (values.join o a b) (by_ends (ext_op o) s t) };
+}
+
+/// Sums of small numbers.
+#[derive(Clone, Copy)]
+pub(crate) struct Plain;
+
+/// Sums of any, which are clamped and know infinities.
+#[derive(Clone, Copy)]
+pub(crate) struct Clamped;
+
+/// The ends of a number.
+#[inline(always)]
+fn number(x: i64) -> Ends
+    requires { IsCellValue x }
+    ensures { result ≡ number_ends x }
+{
+    Ends {
+        below: -x,
+        above: x,
+    }
+}
+
+impl Sums for Plain {
+    ghost use Rattle.ts_meet.specs.Sides.{TakesPlain, plain_values};
+    ghost use Rattle.ts_meet.specs.SideLaws.{cell_packs, plain_packs};
+
+    ghost values = { plain_values };
+
+    ghost takes = { TakesPlain };
+
+    ghost number_packs = { λ x h. cell_packs x h };
+
+    ghost packs = { λ o a b s t h p q. plain_packs o a b s t h p q };
+
+    #[inline(always)]
+    fn joined(op: Op, first: Ends, second: Ends) -> Ends {
+        match op {
+            Op::Add => Plus.of(first, second),
+            Op::Max => Greater.of(first, second),
+            Op::Min => Lesser.of(first, second),
+        }
+    }
+
+    #[inline(always)]
+    fn number(x: i64) -> Ends {
+        number(x)
+    }
+}
+
+impl Sums for Clamped {
+    ghost use Rattle.ts_sweep.specs.TreeLaws.{any_packs};
+    ghost use Rattle.ts_meet.specs.Sides.{TakesAny, clamped_values};
+    ghost use Rattle.ts_meet.specs.SideLaws.{cell_packs};
+
+    ghost values = { clamped_values };
+
+    ghost takes = { TakesAny };
+
+    ghost number_packs = { λ x h. cell_packs x h };
+
+    ghost packs = { λ o a b s t h p q. any_packs o a b s t p q };
+
+    #[inline(always)]
+    fn joined(op: Op, first: Ends, second: Ends) -> Ends {
+        AnyOperator { op }.of(first, second)
+    }
+
+    #[inline(always)]
+    fn number(x: i64) -> Ends {
+        number(x)
+    }
+}
