@@ -25,6 +25,8 @@ mod glued_values;
 #[cfg(test)]
 mod last_values;
 #[cfg(test)]
+mod met;
+#[cfg(test)]
 mod terms;
 #[cfg(test)]
 mod waiting;
