@@ -1,5 +1,5 @@
 -- The spans of a cell from its rows: the hulls of one value, and the hull of the spans of all values.
-use Rattle.std.proofs.Common.{◌≡◌, ℕ, zero, suc, ◌+◌, ◌*◌, ◌-◌, ◌<◌, ◌≤◌, ℤ, List, [], ◌∷◌, ◌++◌, length, map, take, drop, slice_get, Option, Some, None, refl, sym, ap, ◌∙◌, subst, arith}
+use Rattle.std.proofs.Common.{◌≡◌, ℕ, zero, suc, ◌+◌, ◌*◌, ◌-◌, ◌<◌, ◌≤◌, ℤ, List, [], ◌∷◌, ◌++◌, length, map, take, drop, slice_get, Some, refl, sym, ap, ◌∙◌, subst, arith}
 use Rattle.std.specs.Prelude.{Contains, flat_map, slice_range}
 use Rattle.std.specs.List.{AllByRecursion}
 use Rattle.std.proofs.lemmas.List.{take_at, drop_at, drop-drop, take_more, drop_more, map-append}
@@ -11,14 +11,12 @@ use Rattle.ts_base.specs.Spans.{none_span, span_hull}
 use Rattle.ts_automaton.specs.declared.regs.Hull.{Hull}
 use Rattle.ts_automaton.specs.Body.{Body}
 use Rattle.ts_domain.specs.BoxSeries.{IsBox}
-use Rattle.ts_bound.specs.Blocks.{OfReverse, back_hulls, back_states}
 use Rattle.ts_row.specs.Rows.{flat_row}
 use Rattle.ts_bound.specs.HullTables.{hulls_at, row_of, values_at}
 use Rattle.ts_bound.specs.PackedRows.{IsPackedRow}
 use Rattle.ts_bound.specs.TermSpans.{span_of_all}
 use Rattle.ts_bound.proofs.SpanEnds.{still_there, within_of}
 use Rattle.ts_bound.proofs.SpanRuns.{length-hulls_at}
-use Rattle.ts_glue.specs.Pairs.{Pair}
 use Rattle.ts_filter.specs.Boxes.{Box}
 use Rattle.ts_filter.specs.RowStacks.{Columns}
 
@@ -51,12 +49,6 @@ pub ahead_block : (a : Body) (before : Box) (values : List ℤ) (i : ℕ) (v : �
 ahead_block a before values i v row hs s n is_s is_n is e is_hs =
     row_block a before values i v (flat_row 6 s n row) hs s is_s
     (ap (λ m. flat_row 6 m n row) is_s ∙ ap (λ m. flat_row 6 (length a.states) m row) is_n ∙ is.is_flat) e is_hs
-
-pub back_block : (p : Option Pair) (behind : Box) (values : List ℤ) (i : ℕ) (v : ℤ) (row : Columns) (hs : List Hull) (s n : ℕ) → s ≡ back_states p →
-    n ≡ length values → OfReverse p (λ r. IsPackedRow 6 r behind values row) → slice_get values i ≡ Some v →
-    hs ≡ slice_range (flat_row 6 s n row) (i * s) (i * s + s) → hs ≡ back_hulls p behind v
-back_block None behind values i v row hs s n is_s is_n is e is_hs = absurd is
-back_block (Some p) behind values i v row hs s n is_s is_n is e is_hs = ahead_block p.reverse behind values i v row hs s n is_s is_n is e is_hs
 
 value_fits : (vs : List ℤ) (i : ℕ) (v : ℤ) → AllByRecursion IsCellValue vs → slice_get vs i ≡ Some v → IsCellValue v
 value_fits [] i v h e = absurd (none-some v e)

@@ -1,4 +1,3 @@
-mod BlockParts
 pub mod BoxParts
 mod SoFarLaws
 pub mod SpanEnds
@@ -26,3 +25,4 @@ mod LaidRows
 mod Quiet
 mod CellLaws
 mod TableSteps
+mod MeetLaws

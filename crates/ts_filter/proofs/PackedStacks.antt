@@ -1,6 +1,6 @@
 -- Packed rows on top of one another: which rows they are, and what stays so of their states.
 use lib.Pointwise.{pointwise}
-use Rattle.std.proofs.Common.{◌≡◌, ℕ, suc, ◌+◌, ◌-◌, ◌*◌, ◌/◌, ◌<◌, ◌≤◌, ℤ, List, [], ◌∷◌, ◌++◌, length, map, take, drop, reverse, get_or, Bool, true, false, not, Option, None, Some, refl, sym, ap, ◌∙◌, subst, arith}
+use Rattle.std.proofs.Common.{◌≡◌, ℕ, suc, ◌+◌, ◌-◌, ◌*◌, ◌/◌, ◌<◌, ◌≤◌, ℤ, List, [], ◌∷◌, ◌++◌, length, map, take, drop, reverse, get_or, Bool, true, false, not, refl, sym, ap, ◌∙◌, subst, arith}
 use Rattle.std.specs.Ordering.{int_eq}
 use Rattle.std.specs.Prelude.{All}
 use Rattle.std.proofs.lemmas.Bool.Decides.{Decides-int_eq}
@@ -13,15 +13,13 @@ use Rattle.ts_automaton.specs.Body.{Body}
 use Rattle.ts_sweep.specs.declared.packed.PackedHull.{PackedHull}
 use Rattle.ts_row.specs.Rows.{IsRow, flat_row}
 use Rattle.ts_row.proofs.Flat.{flat_length}
-use Rattle.ts_bound.specs.Blocks.{OfReverse}
 use Rattle.ts_bound.specs.HullTables.{row_of, forward_rows}
 use Rattle.ts_bound.specs.PackedRows.{IsPackedRow}
 use Rattle.ts_bound.proofs.TableLaws.{length-row_of}
-use Rattle.ts_glue.specs.Pairs.{Pair}
 use Rattle.ts_filter.specs.declared.planned.Planned.{Planned}
 use Rattle.ts_filter.specs.declared.row_stack.HullRow.{HullRow}
 use Rattle.ts_filter.specs.Boxes.{Box}
-use Rattle.ts_filter.specs.KnownRows.{AreFirst, IsPlannedBack}
+use Rattle.ts_filter.specs.KnownRows.{AreFirst}
 use Rattle.ts_filter.specs.RowStacks.{Columns, HasStates, IsPlanned, Rows, all_hulls, hulls_in, values_in, with_row}
 use Rattle.ts_filter.proofs.KnownRows.{first_behind, known_at, row_at_place}
 
@@ -53,11 +51,6 @@ packed_row a p before values row is states hulls =
       is_row = subst (λ s. IsRow 6 s (length values) row) is.states here;
       is_flat = ap (λ s. flat_row 6 s (length values) row) (sym is.states) ∙ ap (λ z. flat_row 6 p.states z row) (sym long) ∙ hulls;
     }
-
-pub back_packed : (m : Option Pair) (p : Planned) (behind : Box) (values : List ℤ) (row : Columns) → IsPlannedBack m p → HasStates p.states row →
-    OfReverse m (λ r. hulls_in p.states row ≡ row_of r behind values) → OfReverse m (λ r. IsPackedRow 6 r behind values row)
-back_packed None p behind values row is states hulls = absurd hulls
-back_packed (Some m) p behind values row is states hulls = packed_row m.reverse p behind values row is states hulls
 
 -- the row that comes behind
 

@@ -18,6 +18,7 @@ use Rattle.ts_filter.specs.declared.question.Question.{Question}
 use Rattle.ts_filter.specs.declared.question.Question.TheVariants.{Compares, MeetsEach, Counts, Nothing}
 use Rattle.ts_filter.specs.declared.so_far.SoFar.{SoFar}
 use Rattle.ts_filter.specs.declared.term_requirements.TermRequirements.{TermRequirements}
+use Rattle.ts_filter.specs.PartLaws.{part_excludes}
 use Rattle.ts_filter.specs.Question.{Excludes}
 use Rattle.ts_filter.specs.Boxes.{Box}
 use Rattle.ts_filter.specs.SoFar.{IsSoFar, IsWholeSpan, WithParts}
@@ -25,15 +26,6 @@ use Rattle.ts_filter.specs.TermDrops.{IsFirstRefuting, RefutesSome}
 use Rattle.ts_filter.proofs.CellLaws.{span_more}
 use Rattle.ts_filter.proofs.Refuting.{first_of_none}
 use Rattle.ts_filter.proofs.SoundLaws.{clash}
-
--- what a span excludes, each part of it does
-
-pub part_excludes : (asked : Question) (s t : Span) → IsWithin s t → Excludes asked t → Excludes asked s
-part_excludes (Compares op bound) s t within none = λ v held. none v (within v held)
-part_excludes (MeetsEach own) s t within none =
-    let h = none.1 in (none.0, record { require = h.require; is = h.is; of_term = h.of_term; refutes = λ v held. h.refutes v (within v held) })
-part_excludes (Counts goal bar) s t within none = λ v held. none v (within v held)
-part_excludes Nothing s t within none = tt
 
 -- a span without numbers has nothing that is asked
 pub none_excludes : (asked : Question) → Excludes asked none_span
@@ -96,41 +88,6 @@ hull_before s t [] = refl
 hull_before s t (u ∷ us) = hull_before s (span_hull t u) us ∙ ap (λ z. fold span_hull z us) (sym (hull_assoc s t u))
 
 -- more parts
-
-pub begun : (s : SoFar) (ps : List Span) → IsSoFar s → ps ≡ [] → WithParts s ps (Some s)
-begun s ps known e = (refl, sym (ap (fold span_hull s.span) e), known)
-
-pub with_more : (s t : SoFar) (ps qs rs : List Span) (o : Option SoFar) → rs ≡ ps ++ qs → WithParts s ps (Some t) → WithParts t qs o → WithParts s rs o
-with_more s t ps qs rs None is so_far stop = λ none.
-    stop (subst (λ a. Excludes a (fold span_hull t.span qs)) (sym so_far.0)
-    (subst (Excludes s.asked) (ap (fold span_hull s.span) is ∙ fold-append span_hull s.span ps qs ∙ ap (λ z. fold span_hull z qs) (sym so_far.1)) none))
-with_more s t ps qs rs (Some u) is so_far more = (
-  more.0 ∙ so_far.0,
-  more.1 ∙ ap (λ z. fold span_hull z qs) so_far.1 ∙ sym (ap (fold span_hull s.span) is ∙ fold-append span_hull s.span ps qs),
-  more.2,
-)
-
--- where a front of the parts has what is asked, all parts have
-pub stopped : (s : SoFar) (ps qs rs : List Span) → rs ≡ ps ++ qs → WithParts s ps None → WithParts s rs None
-stopped s ps qs rs is stop none =
-    stop (part_excludes s.asked _ _ (front_within s.span ps qs) (subst (λ l. Excludes s.asked (fold span_hull s.span l)) is none))
-
--- parts that are none
-pub passed : (s t : SoFar) (ps qs rs : List Span) (f : ℕ → Span) (ns : List ℕ) → rs ≡ ps ++ qs → qs ≡ map f ns → ((n : ℕ) → f n ≡ none_span) →
-    WithParts s ps (Some t) → WithParts s rs (Some t)
-passed s t ps qs rs f ns is are none so_far =
-    with_more s t ps qs rs (Some t) is so_far (refl, sym (fold_nones qs t.span so_far.2.form f ns are none), so_far.2)
-
--- the hull of parts as one part
-pub as_one : (s : SoFar) (ps : List Span) (one : Span) (o : Option SoFar) → IsSoFar s → one ≡ span_of_all ps → WithParts s ps o → WithParts s (one ∷ []) o
-as_one s ps one o known is = by_answer o
-  where
-    whole : span_hull s.span one ≡ fold span_hull s.span ps
-    whole = ap (span_hull s.span) is ∙ hull_before s.span none_span ps ∙ ap (λ z. fold span_hull z ps) known.form
-
-    by_answer : (o : Option SoFar) → WithParts s ps o → WithParts s (one ∷ []) o
-    by_answer None stop = λ none. stop (subst (Excludes s.asked) whole none)
-    by_answer (Some t) h = (h.0, h.1 ∙ sym whole, h.2)
 
 -- one part more by its hull
 pub one_told : (s : SoFar) (part both : Span) (told : Bool) → both ≡ span_hull s.span part → (told ≡ true) ↔ Excludes s.asked both →

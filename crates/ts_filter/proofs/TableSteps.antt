@@ -1,19 +1,33 @@
 -- The hulls of a cell, from the rows that are known.
-use Rattle.std.proofs.Common.{◌≡◌, ℕ, ◌+◌, ◌-◌, ◌<◌, ◌≤◌, length, [], get_or, Option, Some, None, option_map, sym, ap, ◌∙◌, subst, arith}
+use Rattle.std.proofs.Common.{◌≡◌, ℕ, ℤ, List, ◌+◌, ◌-◌, ◌<◌, ◌≤◌, length, [], get_or, Option, Some, None, refl, sym, ap, ◌∙◌, subst, arith}
 use Rattle.std.specs.Prelude.{MatchOption}
 use Rattle.ts_base.specs.Windows.{looked_at}
 use Rattle.ts_bound.specs.Blocks.{OfReverse}
 use Rattle.ts_bound.specs.HullTables.{row_of}
 use Rattle.ts_bound.specs.Looks.{first_looked, last_looked, place_in}
 use Rattle.ts_bound.proofs.Looking.{ends_inside}
+use Rattle.ts_glue.specs.Pairs.{Pair}
+use Rattle.ts_filter.specs.declared.cell_hulls.BackSide.{BackSide}
 use Rattle.ts_filter.specs.declared.planned.Planned.{Planned}
 use Rattle.ts_filter.specs.Boxes.{Box, values_at}
-use Rattle.ts_filter.specs.CellHulls.{AreHulls, HasHulls, IsBackRow, seen_after, seen_before}
-use Rattle.ts_filter.specs.KnownRows.{KnownRows, AreKnown, HasRows, IsPlannedBack}
+use Rattle.ts_filter.specs.CellHulls.{AreHulls, HasHulls, IsBackSide, IsSide, seen_after, seen_before}
+use Rattle.ts_filter.specs.KnownRows.{KnownRows, AreKnown, HasJoints, HasRows, IsPlannedBack}
 use Rattle.ts_filter.specs.RowStacks.{Columns, HasStates, IsPlanned, hulls_in}
 use Rattle.ts_filter.proofs.KnownRows.{ahead_there, behind_there}
 use Rattle.ts_filter.proofs.Looked.{inner_values, place_behind, place_from, place_is, place_to}
-use Rattle.ts_filter.proofs.PackedStacks.{back_packed, packed_row}
+use Rattle.ts_filter.proofs.PackedStacks.{packed_row}
+
+-- a row that is known, with how it is glued
+packed_side : (o : Option Pair) (p : Planned) (behind : Box) (values : List ℤ) (side : BackSide) → IsPlannedBack o p → HasJoints o (Some side.joints.now) →
+    HasStates p.states side.row.now → OfReverse o (λ r. hulls_in p.states side.row.now ≡ row_of r behind values) → IsSide o behind values side
+packed_side None p behind values side is joints states hulls = absurd hulls
+packed_side (Some m) p behind values side is joints states hulls =
+    (joints, packed_row m.reverse p behind values side.row.now is states hulls)
+
+-- where it isn't known how the automata are glued, there is only one
+pub one_automaton : (o : Option Pair) → HasJoints o None → o ≡ None
+one_automaton None h = refl
+one_automaton (Some p) h = absurd h
 
 lower : (m n : ℕ) → m ≤ n → (m ≡ n → ⊥) → m < n
 lower m n l ne = grind (arith, l, ne)
@@ -57,21 +71,22 @@ module _ (b : Box) (t : KnownRows) (k : ℕ) (h : HasHulls t.machine k b) where
         let lt = lower k (last_looked t.machine.window (length b)) h.to below in
         let there = rows.behind (omega (arith, lt, rest)) in omega (arith, there, rest)
 
-    pub back_row_of : (p : Planned) (row : Columns) → IsPlannedBack t.machine.pair p → HasStates p.states row →
-        (k ≡ last_looked t.machine.window (length b) → ⊥) →
-        hulls_in p.states row ≡ get_or t.behind (last_looked t.machine.window (length b) - k) [] → IsBackRow t.machine k b row
-    back_row_of p row planned states below is =
+    pub back_side_of : (p : Planned) (side : BackSide) → IsPlannedBack t.machine.pair p → HasJoints t.machine.pair (Some side.joints.now) →
+        HasStates p.states side.row.now → (k ≡ last_looked t.machine.window (length b) → ⊥) →
+        hulls_in p.states side.row.now ≡ get_or t.behind (last_looked t.machine.window (length b) - k) [] → IsBackSide t.machine k b side
+    back_side_of p side planned joints states below is =
         let rest = place_behind t.machine k b h in
         let place = place_in t.machine.window k in let cells = looked_at t.machine.window b in
         let there = behind_inside below in
-        back_packed t.machine.pair p (seen_after t.machine k b) (values_at k b) row planned states
-        (subst (λ vs. OfReverse t.machine.pair (λ r. hulls_in p.states row ≡ row_of r (seen_after t.machine k b) vs)) (inner_values t.machine k b h)
-        (behind_there t.machine.pair cells t.behind (hulls_in p.states row) [] place (λ e. below (h.last e)) known.behind (place_from t.machine k b h)
+        packed_side t.machine.pair p (seen_after t.machine k b) (values_at k b) side planned joints states
+        (subst (λ vs. OfReverse t.machine.pair (λ r. hulls_in p.states side.row.now ≡ row_of r (seen_after t.machine k b) vs))
+        (inner_values t.machine k b h)
+        (behind_there t.machine.pair cells t.behind (hulls_in p.states side.row.now) [] place (λ e. below (h.last e)) known.behind (place_from t.machine k b h)
         (place_to t.machine k b h) (omega (arith, there, rest)) (is ∙ sym (ap (λ i. get_or t.behind i []) rest))))
 
-    pub hulls_are : (p : Planned) (row : Columns) (back : Option Columns) → IsPlanned t.machine.forward p → HasStates p.states row →
+    pub hulls_are : (p : Planned) (row : Columns) (back : Option BackSide) → IsPlanned t.machine.forward p → HasStates p.states row →
         hulls_in p.states row ≡ get_or t.ahead (k - first_looked t.machine.window) [] →
-        MatchOption back (k ≡ last_looked t.machine.window (length b)) (IsBackRow t.machine k b) → AreHulls t.machine b k row back
+        MatchOption back (k ≡ last_looked t.machine.window (length b)) (IsBackSide t.machine k b) → AreHulls t.machine b k row back
     hulls_are p row back planned states is behind =
         let at = place_is t.machine k b h in let first = (ends_inside t.machine.window (length b) h.looks).0 in let from = h.from in
         let same : k - first_looked t.machine.window ≡ place_in t.machine.window k - 1 = omega (arith, at, first, from) in
@@ -83,9 +98,3 @@ module _ (b : Box) (t : KnownRows) (k : ℕ) (h : HasHulls t.machine k b) where
               ∙ ap (row_of t.machine.forward (seen_before t.machine k b)) (inner_values t.machine k b h));
           behind = behind;
         }
-
--- an option of what lends rows, as the rows
-pub match_seen : {X : Type 0} (f : X → Columns) (o : Option X) (N : Type 0) (P : Columns → Type 0) → MatchOption o N (λ x. P (f x)) →
-    MatchOption (option_map f o) N P
-match_seen f None N P h = h
-match_seen f (Some x) N P h = h

@@ -7,6 +7,8 @@ use Rattle.ts_bound.specs.HullTables.{forward_rows}
 use Rattle.ts_bound.specs.Looks.{place_in}
 use Rattle.ts_bound.specs.TermSpans.{Automata, LooksIn}
 use Rattle.ts_glue.specs.Pairs.{Pair}
+use Rattle.ts_meet.specs.declared.joints.Joints.{Joints}
+use Rattle.ts_meet.specs.Joints.{AreJoints}
 use Rattle.ts_model.specs.declared.model.Require.{Require}
 use Rattle.ts_filter.specs.declared.reading.Way.TheVariants.{FromFirst, FromLast}
 use Rattle.ts_filter.specs.Boxes.{Box}
@@ -41,10 +43,17 @@ abbrev pub IsPlannedBack : Option Pair → Planned → Type 0
 IsPlannedBack None p = Unit {0}
 IsPlannedBack (Some m) p = IsPlanned m.reverse p
 
--- the rows of a machine are made by the plans of its automata
-pub record AreTables (a : Automata) (ahead behind : Planned) : Type 0 where
+-- it is known how the automata are glued, where there are two
+abbrev pub HasJoints : Option Pair → Option Joints → Type 0
+HasJoints None joints = Unit {0}
+HasJoints (Some p) None = ⊥
+HasJoints (Some p) (Some joints) = AreJoints p joints
+
+-- the rows of a machine are made by the plans of its automata, and meet as these are glued
+pub record AreTables (a : Automata) (ahead behind : Planned) (joints : Option Joints) : Type 0 where
   pub forward : IsPlanned a.forward ahead
   pub reverse : IsPlannedBack a.pair behind
+  pub meets : HasJoints a.pair joints
 
 -- these are backward rows; a machine that can't be split has none
 abbrev pub AreBehind : Option Pair → Box → Rows → Type 0

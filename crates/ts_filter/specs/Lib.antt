@@ -13,6 +13,7 @@ pub mod Laws
 pub mod Lines
 pub mod MachineSpans
 pub mod OfTerm
+pub mod PartLaws
 pub mod Question
 pub mod Reading
 pub mod RefutedWorseDrop

@@ -6,16 +6,16 @@ ghost use Rattle.ts_base.specs.Windows.{looked_at};
 ghost use Rattle.ts_bound.specs.Looks.{first_looked, is_looked, last_looked, read_at};
 ghost use Rattle.ts_bound.specs.TermSpans.{LooksIn, automata_of};
 ghost use Rattle.ts_filter.specs.Boxes.{Box, HasCell};
-ghost use Rattle.ts_filter.specs.CellHulls.{HasHulls, IsBackRow, at_cell};
+ghost use Rattle.ts_filter.specs.CellHulls.{HasHulls, IsBackSide, at_cell};
 ghost use Rattle.ts_filter.specs.HeldMachine.{machine_in};
-ghost use Rattle.ts_filter.specs.KnownRows.{AreKnown, AreRowsOf, HasRows, IsPlannedBack};
+ghost use Rattle.ts_filter.specs.KnownRows.{AreKnown, AreRowsOf, HasJoints, HasRows, IsPlannedBack};
 ghost use Rattle.ts_filter.specs.KnownRows.{KnownWhereNone, StayKnown, StillKnown};
 ghost use Rattle.ts_filter.specs.Reading.{cells_read};
 ghost use Rattle.ts_filter.specs.RowStacks.{no_rows, nothing_laid};
 ghost use Rattle.ts_filter.specs.TermDrops.{AreAmong};
 ghost use Rattle.ts_glue.specs.Machines.{pair_of};
 
-use crate::cell_hulls::CellHulls;
+use crate::cell_hulls::{BackSide, CellHulls};
 use crate::held_machine::HeldMachine;
 use crate::reading::{Reading, Way};
 use crate::row_stack::RowStack;
@@ -28,8 +28,8 @@ use ts_base::Memory;
 use ts_bound::{ends, is_looked, read_at};
 use ts_domain::Boxed;
 use ts_glue::Machine;
+use ts_meet::Joints;
 use ts_model::Require;
-use ts_row::PackedRow;
 
 /// What one machine tells of a box and of the boxes that it becomes: rows of hulls are made when a question first asks
 /// for them, for the cells that the machine looks at alone, and after a change those that it doesn't reach stay. The
@@ -43,6 +43,7 @@ pub(crate) struct BoxTables<'a> {
     machine: HeldMachine<'a>,
     ahead: RowStack,
     behind: RowStack,
+    joints: Option<Joints>,
     quiet: Vec<Require>,
 }
 
@@ -66,7 +67,8 @@ impl<'a> Model for BoxTables<'a> {
       quiet = t.quiet.items;
     } };
 
-    ghost invariant = { λ t. AreTables (automata_of (machine_in t.machine)) t.ahead.planned t.behind.planned };
+    ghost invariant = { λ t. AreTables (automata_of (machine_in t.machine)) t.ahead.planned t.behind.planned
+        t.joints };
 }
 
 impl<'a> BoxTables<'a> {
@@ -84,10 +86,12 @@ impl<'a> BoxTables<'a> {
     {
         let ahead = RowStack::new(alloc, machine.get().forward());
         let behind = rows_behind(alloc, machine.get());
+        let joints = joints_of(machine.get());
         BoxTables {
             machine,
             ahead,
             behind,
+            joints,
             quiet: Vec::new(alloc),
         }
     }
@@ -214,23 +218,29 @@ impl<'a> BoxTables<'a> {
             cells,
             cell: k,
             row: self.ahead.row((k - first) as usize),
-            back: self.back_row(k, last, cells),
+            back: self.back_side(k, last, cells),
         }
     }
 
-    /// The backward row of cell `k`; none at the last cell that is looked at.
-    fn back_row(&self, k: u32, last: u32, cells: &Boxed) -> Option<&PackedRow<6>>
+    /// The backward row of cell `k`, and how it is glued; none at the last cell that is looked at.
+    fn back_side(&self, k: u32, last: u32, cells: &Boxed) -> Option<BackSide<'_>>
         requires hulls { HasHulls self.now.machine k cells.now.present }
         requires last { last ≡ last_looked self.now.machine.window (length cells.now.present) }
         requires known { AreKnown cells.now.present self.now }
         requires there { HasRows k cells.now.present self.now }
         ensures { MatchOption result (k ≡ last_looked self.now.machine.window (length cells.now.present))
-            (λ r. IsBackRow self.now.machine k cells.now.present r.now) }
+            (IsBackSide self.now.machine k cells.now.present) }
     {
         if k == last {
             return None;
         }
-        Some(self.behind.row((last - k) as usize))
+        match &self.joints {
+            Some(joints) => Some(BackSide {
+                row: self.behind.row((last - k) as usize),
+                joints,
+            }),
+            None => unreachable!(),
+        }
     }
 
     /// Makes the forward rows that are wanting of the first `count` cells that are looked at.
@@ -283,5 +293,15 @@ fn rows_behind(alloc: Global, m: &Machine) -> RowStack
     match m.reverse() {
         Some(reverse) => RowStack::new(alloc, reverse),
         None => RowStack::new(alloc, m.forward()),
+    }
+}
+
+/// How the automata of the machine are glued, where it can be split.
+fn joints_of(m: &Machine) -> Option<Joints>
+    ensures { HasJoints (pair_of m.now) result }
+{
+    match m.reverse() {
+        Some(_) => Some(Joints::of(m)),
+        None => None,
     }
 }

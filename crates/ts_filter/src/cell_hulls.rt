@@ -1,30 +1,35 @@
 //! The spans at a cell, from the hulls that stand there, as far as what is asked of them needs.
 
-ghost use Rattle.std.specs.Prelude.{◌≡◌, ◌↔◌, ◌≤◌, [], ◌∷◌, Contains, IsSome, IsTrue, Some, length, slice_get};
-ghost use Rattle.ts_automaton.specs.Typing.{is_automaton};
+ghost use Rattle.std.specs.Prelude.{◌≡◌, ◌↔◌, [], ◌∷◌, Contains, IsTrue, Some, slice_get};
 ghost use Rattle.ts_base.specs.Windows.{looked_at};
-ghost use Rattle.ts_bound.specs.Blocks.{OfReverse, back_states, last_at, split_at};
+ghost use Rattle.ts_bound.specs.Blocks.{last_at, split_at};
 ghost use Rattle.ts_bound.specs.Looks.{place_in};
 ghost use Rattle.ts_bound.specs.TermSpans.{automata_of, term_span, value_span};
 ghost use Rattle.ts_filter.specs.Question.{Excludes};
 ghost use Rattle.ts_filter.specs.Boxes.{values_at};
-ghost use Rattle.ts_filter.specs.CellHulls.{HasHulls, IsAheadRow, IsBackRow, at_cell};
+ghost use Rattle.ts_filter.specs.CellHulls.{HasHulls, IsAheadRow, IsBackSide, at_cell};
 ghost use Rattle.ts_filter.specs.SoFar.{IsSoFar, IsWholeSpan, WithParts};
 ghost use Rattle.ts_filter.specs.TermDrops.{IsFirstRefuting};
 ghost use Rattle.ts_glue.specs.Machines.{forward_of, pair_of, window_of};
 
-use crate::blocks::{finish_block, glue_block};
 use crate::question::Question;
 use crate::so_far::SoFar;
 use crate::term_requirements::TermRequirements;
 use std::marker::Model;
-use ts_automaton::Hull;
 use ts_base::Span;
 use ts_bound::laws::machine_is_whole;
-use ts_bound::{looked_count, unpack_block};
+use ts_bound::looked_count;
 use ts_domain::{Boxed, Domain};
 use ts_glue::Machine;
+use ts_meet::{Joints, Spot, asked_at, finish_at};
 use ts_row::PackedRow;
+
+/// The row of a cell of the reverse automaton, and how it is glued to the forward one.
+#[derive(Clone, Copy)]
+pub(crate) struct BackSide<'a> {
+    pub(crate) row: &'a PackedRow<6>,
+    pub(crate) joints: &'a Joints,
+}
 
 /// The rows of one cell of a box that the machine looks at: that of the forward automaton, and that of the reverse one,
 /// which the last of these cells can do without. Contracts see the machine, the box and the cell.
@@ -34,12 +39,11 @@ pub(crate) struct CellHulls<'a> {
     pub(crate) cells: &'a Boxed,
     pub(crate) cell: u32,
     pub(crate) row: &'a PackedRow<6>,
-    pub(crate) back: Option<&'a PackedRow<6>>,
+    pub(crate) back: Option<BackSide<'a>>,
 }
 
 impl<'a> Model for CellHulls<'a> {
     ghost use Rattle.std.specs.Coded.{codes};
-    ghost use Rattle.std.specs.Prelude.{option_map};
     ghost use Rattle.ts_automaton.specs.Codes.{formula_code};
     ghost use Rattle.ts_bound.specs.TermSpans.{automata_of};
     ghost use Rattle.ts_filter.specs.CellHulls.{AreHulls, AtCell, at_cell};
@@ -51,7 +55,7 @@ impl<'a> Model for CellHulls<'a> {
     ghost view = { λ h. at_cell (automata_of h.machine.now) h.cells.now.present h.cell };
 
     ghost invariant = { λ h. AreHulls (automata_of h.machine.now) h.cells.now.present h.cell h.row.now
-        (option_map (λ r. r.now) h.back) };
+        h.back };
 }
 
 impl<'a> CellHulls<'a> {
@@ -201,13 +205,7 @@ fn last_value<'a>(
         (place_in (window_of m.now) k) (looked_at (window_of m.now) cells.now.present) v ∷ []) result }
 {
     let n = looked_count(m.window(), cells.cells());
-    let a = m.forward();
-    let states = a.states();
-    let count = cells.cell(k).size() as usize;
-    let mut eight = [Hull::none(); 8];
-    let hulls = &mut eight[..states as usize];
-    unpack_block(row, states, count, i as usize, hulls);
-    finish_block(so_far, a, hulls, n)
+    so_far.with(finish_at(m.forward(), row, i as usize, n))
 }
 
 /// With the glued span at the value.
@@ -215,7 +213,7 @@ fn split_value<'a>(
     so_far: SoFar<'a>,
     m: &Machine,
     row: &PackedRow<6>,
-    back: &PackedRow<6>,
+    back: BackSide<'_>,
     cells: &Boxed,
     k: u32,
     i: u64,
@@ -224,33 +222,22 @@ fn split_value<'a>(
     requires known { IsSoFar so_far }
     requires hulls { HasHulls (automata_of m.now) k cells.now.present }
     requires row { IsAheadRow (automata_of m.now) k cells.now.present row.now }
-    requires back { IsBackRow (automata_of m.now) k cells.now.present back.now }
+    requires back { IsBackSide (automata_of m.now) k cells.now.present back }
     requires value { slice_get (values_at k cells.now.present) i ≡ Some v }
     ensures { WithParts so_far.entry (split_at (forward_of m.now) (pair_of m.now)
         (place_in (window_of m.now) k) (looked_at (window_of m.now) cells.now.present) v ∷ []) result }
 {
     let n = looked_count(m.window(), cells.cells());
-    let states = m.forward().states();
-    let back_states = reverse_states(m);
-    let count = cells.cell(k).size() as usize;
-    let mut eight_left = [Hull::none(); 8];
-    let left = &mut eight_left[..states as usize];
-    unpack_block(row, states, count, i as usize, left);
-    let mut eight_right = [Hull::none(); 8];
-    let right = &mut eight_right[..back_states as usize];
-    unpack_block(back, back_states, count, i as usize, right);
-    glue_block(so_far, m, left, right, back_states, v, n)
-}
-
-/// The number of states of the reverse automaton.
-fn reverse_states(m: &Machine) -> u8
-    requires { IsSome (pair_of m.now) }
-    ensures count { result ≡ back_states (pair_of m.now) }
-    ensures few { result ≤ 8 }
-    ensures rules { OfReverse (pair_of m.now) (λ b. IsTrue (is_automaton b)) }
-{
-    match m.reverse() {
-        Some(reverse) => reverse.states(),
-        None => unreachable!(),
+    let spot = Spot {
+        place: i as usize,
+        value: v,
+        cells: n,
+    };
+    match asked_at(so_far.asked, so_far.span, back.joints, row, back.row, spot) {
+        Some(span) => Some(SoFar {
+            asked: so_far.asked,
+            span,
+        }),
+        None => None,
     }
 }

@@ -27,7 +27,6 @@
 mod all_tables;
 mod at_cell;
 mod bar;
-mod blocks;
 mod box_tables;
 mod cell_hulls;
 mod drops;

@@ -1,6 +1,6 @@
 //! What is asked of the numbers of a span.
 
-ghost use Rattle.std.specs.Prelude.{◌↔◌, IsTrue};
+ghost use Rattle.std.specs.Prelude.{◌↔◌};
 ghost use Rattle.ts_base.specs.declared.span.Span.{Span};
 ghost use Rattle.ts_filter.specs.Question.{Excludes};
 ghost use Rattle.ts_filter.specs.TermDrops.{RefutesSome};
@@ -9,6 +9,7 @@ use crate::bar::Bar;
 use crate::excluded::{cuts, refutes};
 use crate::term_requirements::TermRequirements;
 use ts_base::{Ext, Goal, Span};
+use ts_meet::Asked;
 use ts_model::Op;
 
 /// What is asked of the numbers of a span: one that compares so with a bound, for each requirement of a term one that
@@ -31,11 +32,17 @@ impl<'a> Question<'a> {
             None => Question::MeetsEach(requirements),
         }
     }
+}
 
-    /// Whether the span doesn't have what is asked.
-    pub(crate) fn excludes(self, span: Span) -> bool
-        ensures { IsTrue result ↔ Excludes self.entry span }
-    {
+impl<'a> Asked for Question<'a> {
+    ghost use Rattle.ts_filter.specs.PartLaws.{part_excludes};
+    ghost use Rattle.ts_filter.specs.Question.{Excludes};
+
+    ghost excluded = { λ a s. Excludes a s };
+
+    ghost of_part = { λ a s t within none. part_excludes a s t within none };
+
+    fn excludes(self, span: Span) -> bool {
         match self {
             Question::Compares(op, bound) => refutes(op, bound, span),
             Question::MeetsEach(requirements) => requirements.first_refuted(span).is_some(),

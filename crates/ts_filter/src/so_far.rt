@@ -6,6 +6,7 @@ ghost use Rattle.ts_filter.specs.SoFar.{IsSoFar, WithParts};
 
 use crate::question::Question;
 use ts_base::Span;
+use ts_meet::Asked;
 
 /// The hull of the parts that were taken in so far, which doesn't have what is asked.
 #[derive(Clone, Copy)]

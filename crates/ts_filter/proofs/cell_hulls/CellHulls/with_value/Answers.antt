@@ -5,23 +5,23 @@ use Rattle.ts_base.specs.Windows.{looked_at}
 use Rattle.ts_bound.specs.Blocks.{last_at, split_at}
 use Rattle.ts_bound.specs.Looks.{last_looked, place_in}
 use Rattle.ts_bound.specs.TermSpans.{automata_of, value_span}
-use Rattle.ts_bound.proofs.SpanRuns.{split_some}
 use Rattle.ts_bound.proofs.SpanEnds.{pair_is, split_value_ends, last_value_ends}
 use Rattle.ts_glue.specs.Machines.{forward_of, pair_of, window_of}
-use Rattle.ts_filter.specs.CellHulls.{AtCell, HasHulls, IsBackRow}
+use Rattle.ts_filter.specs.CellHulls.{AtCell, HasHulls, IsBackSide}
 use Rattle.ts_filter.specs.SoFar.{WithParts}
 use Rattle.ts_filter.proofs.Looked.{place_last, value_inside}
+use Rattle.ts_filter.proofs.MeetLaws.{side_there}
 use Rattle.ts_filter.proofs.cell_hulls.CellHulls.with_value.Goals as goal
 
 pub returns-in-Some : goal.returns-in-Some
 returns-in-Some c =
     let m = c.self.inside.machine.now in let b = c.self.inside.cells.now.present in let k = c.self.inside.cell in
     let there : HasHulls (automata_of m) k b = search rules in
-    let back : IsBackRow (automata_of m) k b c.in-Some.back.now = search rules in
+    let back : IsBackSide (automata_of m) k b c.in-Some.back = search rules in
     let place = place_in (window_of m) k in let cells = looked_at (window_of m) b in
     subst (λ (s : Span). WithParts c.args.so_far (s ∷ []) c.split_value.result)
     (ap (split_at (forward_of m) (pair_of m) place cells) (to_z-of_z w64 c.args.v c.ranges.v)
-    ∙ split_value_ends (automata_of m) place cells c.args.v (split_some (pair_of m) _ back) (pair_is m)
+    ∙ split_value_ends (automata_of m) place cells c.args.v (side_there (pair_of m) _ _ c.in-Some.back back) (pair_is m)
     ∙ sym (value_inside (automata_of m) k b there c.args.v)
     ∙ ap (λ (t : AtCell). value_span t.machine t.cell t.cells c.args.v) c.self.view_is)
     c.split_value.ensures

@@ -2,7 +2,7 @@ use Rattle.std.proofs.Common.{◌↔◌, IsTrue, sym, subst}
 use Rattle.ts_filter.specs.declared.question.Question.{Question}
 use Rattle.ts_filter.specs.Question.{Excludes}
 use Rattle.ts_filter.proofs.Refuting.{some_told}
-use Rattle.ts_filter.proofs.question.Question.excludes.Goals as goal
+use Rattle.ts_filter.proofs.question.QuestionAsked.excludes.Goals as goal
 
 pub returns-in-MeetsEach : goal.returns-in-MeetsEach
 returns-in-MeetsEach c =

@@ -1,0 +1,15 @@
+use Rattle.std.proofs.Common.{ap, ◌∙◌, sym, subst, [], get_or, ◌-◌}
+use Rattle.ts_filter.specs.KnownRows.{HasJoints, IsPlannedBack, KnownRows}
+use Rattle.ts_filter.proofs.TableSteps.{back_side_of}
+use Rattle.ts_filter.proofs.box_tables.BoxTables.back_side.Goals as goal
+
+pub returns : goal.returns
+returns c =
+    let t = c.args.self.now in let p = c.self.inside.behind.planned in
+    let joints = subst (λ (u : KnownRows). HasJoints u.machine.pair c.self.inside.joints) c.self.view_is c.self.invariant.meets in
+    back_side_of c.args.cells.now.present t c.args.k c.requires.hulls c.requires.known c.requires.there p _
+    (subst (λ (u : KnownRows). IsPlannedBack u.machine.pair p) c.self.view_is c.self.invariant.reverse)
+    (subst (HasJoints t.machine.pair) c.in-Some.is joints) c.row.ensures.states
+    (λ e. c.if-k-last.false (e ∙ sym c.requires.last))
+    (c.row.ensures.hulls ∙ ap (λ (u : KnownRows). get_or u.behind (c.args.last - c.args.k) []) c.self.view_is
+    ∙ ap (λ n. get_or t.behind (n - c.args.k) []) c.requires.last)
