@@ -6,9 +6,8 @@ use Rattle.std.proofs.lemmas.List.Sums.{fold-append}
 use Rattle.ts_base.specs.declared.ext.Ext.{Ext}
 use Rattle.ts_base.specs.declared.span.Span.{Span}
 use Rattle.ts_base.specs.SpanLayer.{IsWithin}
-use Rattle.ts_base.specs.Spans.{Holds, has_some, none_span, span_hull}
-use Rattle.ts_base.proofs.Order.{le_antisym, le_refl}
-use Rattle.ts_base.proofs.SpanLaws.{holds_some, hull_left, hull_right, hull_least, none_empty}
+use Rattle.ts_base.specs.Spans.{Holds, none_span, span_hull}
+use Rattle.ts_base.proofs.SpanLaws.{hull_left, hull_right, hull_least, none_empty}
 use Rattle.ts_base.specs.Windows.{looked_at}
 use Rattle.ts_bound.specs.HullTables.{values_at as bound_values_at}
 use Rattle.ts_bound.specs.Looks.{is_looked, place_in}
@@ -41,51 +40,11 @@ still_held e (t ∷ ss) s h = still_held e ss (span_hull s t) (hull_left s t e h
 front_within : (s : Span) (ps qs : List Span) → IsWithin (fold span_hull s ps) (fold span_hull s (ps ++ qs))
 front_within s ps qs e h = subst (λ t. Holds t e) (sym (fold-append span_hull s ps qs)) (still_held e qs (fold span_hull s ps) h)
 
--- the hull of spans takes none in unchanged
+-- a hull of spans has its one form
 
 fold_canonical : (ss : List Span) (s : Span) → IsCanonical s → IsCanonical (fold span_hull s ss)
 fold_canonical [] s h = h
 fold_canonical (t ∷ ss) s h = fold_canonical ss (span_hull s t) (hull_canonical s t)
-
-fold_nones : (ss : List Span) (s : Span) → IsCanonical s → (f : ℕ → Span) (rs : List ℕ) → ss ≡ map f rs → ((r : ℕ) → f r ≡ none_span) →
-    fold span_hull s ss ≡ s
-fold_nones ss s can f rs is h = ap (fold span_hull s) is ∙ go rs
-  where
-    go : (rs : List ℕ) → fold span_hull s (map f rs) ≡ s
-    go [] = refl
-    go (r ∷ rs) = ap (λ t. fold span_hull t (map f rs)) (ap (span_hull s) (h r) ∙ can) ∙ go rs
-
--- spans in their one form that hold the same numbers are one
-same_numbers : (s t : Span) → IsCanonical s → IsCanonical t → IsWithin s t → IsWithin t s → s ≡ t
-same_numbers s t can_s can_t p q = go (has_some s) (has_some t) refl refl
-  where
-    none_is : (z : Span) → IsCanonical z → has_some z ≡ false → none_span ≡ z
-    none_is z can e = sym (ap (λ b. cond b z none_span) e) ∙ can
-
-    go : (a b : Bool) → has_some s ≡ a → has_some t ≡ b → s ≡ t
-    go true true i j =
-        let first = p s.lo (le_refl s.lo, i) in let last = p s.hi (i, le_refl s.hi) in
-        let low = le_antisym s.lo t.lo (q t.lo (le_refl t.lo, j)).0 first.0 in
-        let high = le_antisym s.hi t.hi last.1 (q t.hi (j, le_refl t.hi)).1 in
-        let ends : Ext → Ext → Span = λ lo hi. record { lo = lo; hi = hi } in
-        ap (λ e. ends e s.hi) low ∙ ap (ends t.lo) high
-    go true false i j = absurd (clash (has_some t) (holds_some t s.lo (p s.lo (le_refl s.lo, i))) j)
-    go false true i j = absurd (clash (has_some s) (holds_some s t.lo (q t.lo (le_refl t.lo, j))) i)
-    go false false i j = sym (none_is s can_s i) ∙ none_is t can_t j
-
-hull_assoc : (s t u : Span) → span_hull (span_hull s t) u ≡ span_hull s (span_hull t u)
-hull_assoc s t u =
-    let l = span_hull (span_hull s t) u in let r = span_hull s (span_hull t u) in
-    same_numbers l r (hull_canonical (span_hull s t) u) (hull_canonical s (span_hull t u))
-    (hull_least (span_hull s t) u r
-    (hull_least s t r (hull_left s (span_hull t u)) (λ e h. hull_right s (span_hull t u) e (hull_left t u e h)))
-    (λ e h. hull_right s (span_hull t u) e (hull_right t u e h)))
-    (hull_least s (span_hull t u) l (λ e h. hull_left (span_hull s t) u e (hull_left s t e h))
-    (hull_least t u l (λ e h. hull_left (span_hull s t) u e (hull_right s t e h)) (hull_right (span_hull s t) u)))
-
-hull_before : (s t : Span) (us : List Span) → span_hull s (fold span_hull t us) ≡ fold span_hull (span_hull s t) us
-hull_before s t [] = refl
-hull_before s t (u ∷ us) = hull_before s (span_hull t u) us ∙ ap (λ z. fold span_hull z us) (sym (hull_assoc s t u))
 
 -- more parts
 
