@@ -14,7 +14,7 @@ use Rattle.ts_automaton.specs.declared.draft.StateLine.{StateLine}
 use Rattle.ts_automaton.specs.declared.state.State.{State}
 use Rattle.ts_automaton.specs.declared.state.Turn.{Turn}
 use Rattle.ts_automaton.specs.Body.{Move, Node, Body, move_of, node_of}
-use Rattle.ts_automaton.specs.Typing.{each_is, is_name, is_short, are_different, leads_below, has_short_moves, has_few_states, has_names, has_constants, has_targets, has_short_expressions, is_formed}
+use Rattle.ts_automaton.specs.Typing.{is_name, is_expression, are_expressions, are_different, leads_below, has_expressions_in, has_few_states, has_names, has_constants, has_targets, has_expressions, is_formed}
 use Rattle.ts_automaton.specs.AutomatonText.{Sheet, state_lines, all_moves, sheet_of}
 use Rattle.ts_automaton.specs.Grammar.{is_named, is_new, are_new, is_move, IsSheet}
 use Rattle.ts_automaton.proofs.LineLaws.{three_parts, three_true}
@@ -29,7 +29,7 @@ grouped (n ∷ ns) (a ∷ b ∷ c ∷ ts) = record { name = n.name; held = n.hel
 
 -- the automaton of a block
 abbrev pub sheet_body : Sheet → Body
-sheet_body b = record { states = grouped b.states b.moves; start = b.start; finish = b.finish; mark = b.mark }
+sheet_body b = record { states = grouped b.states b.moves; start = b.start; finish = b.finish; mark = b.mark; wide = b.wide }
 
 grouped_again : (ss : List Node) → grouped (state_lines ss) (all_moves ss) ≡ ss
 grouped_again [] = refl
@@ -124,34 +124,36 @@ none_before [] = refl
 none_before (s ∷ ss) = none_before ss
 
 -- moves of states
-abbrev AreMoves : List StateLine → List Move → Type 0
-AreMoves states ts = list_all (is_move states) ts ≡ true
+abbrev AreMoves : Bool → List StateLine → List Move → Type 0
+AreMoves wide states ts = list_all (is_move wide states) ts ≡ true
 
-move_parts : (states : List StateLine) (t : Move) → is_move states t ≡ true → (nat_lt t.next (length states) ≡ true) × (each_is is_short t.to ≡ true)
-move_parts states t h = and_parts (nat_lt t.next (length states)) (each_is is_short t.to) h
+move_parts : (wide : Bool) (states : List StateLine) (t : Move) → is_move wide states t ≡ true →
+    (nat_lt t.next (length states) ≡ true) × (are_expressions wide t.to ≡ true)
+move_parts wide states t h = and_parts (nat_lt t.next (length states)) (are_expressions wide t.to) h
 
-pub moves_only : (states : List StateLine) (ss : List Node) → AreMoves states (all_moves ss) →
-    (list_all (leads_below (length states)) ss ≡ true) × (list_all has_short_moves ss ≡ true)
-moves_only states [] h = (refl, refl)
-moves_only states (s ∷ ss) h =
-    let first = and_parts (is_move states s.less) (is_move states s.equal && (is_move states s.greater && list_all (is_move states) (all_moves ss))) h in
-    let second = and_parts (is_move states s.equal) (is_move states s.greater && list_all (is_move states) (all_moves ss)) first.1 in
-    let third = and_parts (is_move states s.greater) (list_all (is_move states) (all_moves ss)) second.1 in
-    let l = move_parts states s.less first.0 in
-    let e = move_parts states s.equal second.0 in
-    let g = move_parts states s.greater third.0 in
-    let rest = moves_only states ss third.1 in
+pub moves_only : (wide : Bool) (states : List StateLine) (ss : List Node) → AreMoves wide states (all_moves ss) →
+    (list_all (leads_below (length states)) ss ≡ true) × (list_all (has_expressions_in wide) ss ≡ true)
+moves_only wide states [] h = (refl, refl)
+moves_only wide states (s ∷ ss) h =
+    let first = and_parts (is_move wide states s.less)
+    (is_move wide states s.equal && (is_move wide states s.greater && list_all (is_move wide states) (all_moves ss))) h in
+    let second = and_parts (is_move wide states s.equal) (is_move wide states s.greater && list_all (is_move wide states) (all_moves ss)) first.1 in
+    let third = and_parts (is_move wide states s.greater) (list_all (is_move wide states) (all_moves ss)) second.1 in
+    let l = move_parts wide states s.less first.0 in
+    let e = move_parts wide states s.equal second.0 in
+    let g = move_parts wide states s.greater third.0 in
+    let rest = moves_only wide states ss third.1 in
     (both_true (three_true _ _ _ l.0 e.0 g.0) rest.0, both_true (three_true _ _ _ l.1 e.1 g.1) rest.1)
 
-pub moves_again : (states : List StateLine) (ss : List Node) → list_all (leads_below (length states)) ss ≡ true → list_all has_short_moves ss ≡ true →
-    AreMoves states (all_moves ss)
-moves_again states [] h k = refl
-moves_again states (s ∷ ss) h k =
+pub moves_again : (wide : Bool) (states : List StateLine) (ss : List Node) → list_all (leads_below (length states)) ss ≡ true →
+    list_all (has_expressions_in wide) ss ≡ true → AreMoves wide states (all_moves ss)
+moves_again wide states [] h k = refl
+moves_again wide states (s ∷ ss) h k =
     let targets = and_parts (leads_below (length states) s) (list_all (leads_below (length states)) ss) h in
-    let short = and_parts (has_short_moves s) (list_all has_short_moves ss) k in
+    let short = and_parts (has_expressions_in wide s) (list_all (has_expressions_in wide) ss) k in
     let to = three_parts (nat_lt s.less.next (length states)) (nat_lt s.equal.next (length states)) (nat_lt s.greater.next (length states)) targets.0 in
-    let of = three_parts (each_is is_short s.less.to) (each_is is_short s.equal.to) (each_is is_short s.greater.to) short.0 in
-    let rest = moves_again states ss targets.1 short.1 in
+    let of = three_parts (are_expressions wide s.less.to) (are_expressions wide s.equal.to) (are_expressions wide s.greater.to) short.0 in
+    let rest = moves_again wide states ss targets.1 short.1 in
     both_true (both_true to.0 of.0) (both_true (both_true to.1 of.1) (both_true (both_true to.2 of.2) rest))
 
 -- the rules on how an automaton looks are the grammar of its block
@@ -160,7 +162,7 @@ record Formed (m : Body) : Type 0 where
   pub names : has_names m ≡ true
   pub constants : has_constants m ≡ true
   pub targets : has_targets m ≡ true
-  pub short : has_short_expressions m ≡ true
+  pub short : has_expressions m ≡ true
 
 formed_parts : (m : Body) → is_formed m ≡ true → Formed m
 formed_parts m h =
@@ -168,7 +170,7 @@ formed_parts m h =
     let b = has_names m in
     let c = has_constants m in
     let d = has_targets m in
-    let e = has_short_expressions m in
+    let e = has_expressions m in
     let last = and_parts (((a && b) && c) && d) e h in
     let fourth = and_parts ((a && b) && c) d last.0 in
     let third = and_parts (a && b) c fourth.0 in
@@ -184,7 +186,7 @@ formed_sheet way m h =
     let size = as_many_lines m.states in
     let moves = as_many_moves m.states in
     let names = and_parts (list_all (λ (s : Node). is_name s.name) m.states) (are_different m.states) is.names in
-    let short = and_parts (list_all has_short_moves m.states) (is_short m.finish) is.short in
+    let short = and_parts (list_all (has_expressions_in m.wide) m.states) (is_expression m.wide m.finish) is.short in
     let targets = subst (λ (n : ℕ). list_all (leads_below n) m.states ≡ true) (sym size) is.targets in
     record {
       front = record {
@@ -192,7 +194,7 @@ formed_sheet way m h =
         few = omega (arith, few, size);
         names = names_again m.states [] names.0 names.1 (none_before m.states);
         constants = is.constants;
-        turns = moves_again (state_lines m.states) m.states targets short.0;
+        turns = moves_again m.wide (state_lines m.states) m.states targets short.0;
       };
       count = omega (arith, moves, size);
       finish = short.1;
@@ -204,7 +206,7 @@ sheet_formed way m is =
     let some = is.front.some in
     let few = is.front.few in
     let named = names_only m.states [] is.front.names in
-    let moved = moves_only (state_lines m.states) m.states is.front.turns in
+    let moved = moves_only m.wide (state_lines m.states) m.states is.front.turns in
     let targets = subst (λ (n : ℕ). list_all (leads_below n) m.states ≡ true) size moved.0 in
     let counts : has_few_states m ≡ true = both_true (small 1 (length m.states) (omega (arith, some, size)))
     (small (length m.states) 8 (omega (arith, few, size))) in

@@ -9,7 +9,7 @@ use Rattle.ts_base.specs.Words.{behind, full_line}
 use Rattle.ts_automaton.specs.AutomatonText.{words_text, lines_text}
 use Rattle.ts_automaton.specs.Lines.{is_semi, onto_cut, cut_of}
 use Rattle.ts_automaton.specs.Formula.{Formula}
-use Rattle.ts_automaton.specs.FormulaText.{stack_word, onto_stack, stack_of, only_one, formula_of, texts}
+use Rattle.ts_automaton.specs.FormulaText.{stack_word, onto_stack, stack_of, only_one, any_formula_of, texts}
 
 pub behind-append : (xs ys : List (List ℕ)) → behind (xs ++ ys) ≡ behind xs ++ behind ys
 behind-append [] ys = refl
@@ -31,7 +31,7 @@ stuck (suc i) [] h = h
 stuck (suc i) (w ∷ ws) h = ap (onto_stack w.now) (stuck i ws h)
 
 pub refused : (ws : List (Bor (List ℕ))) (left : ℕ) (d : Bor (List ℕ)) (fs : List Formula) → 0 < left → left ≤ length ws →
-    stack_of (texts (drop left ws)) ≡ Some fs → stack_word (get_or ws (left - 1) d).now fs ≡ None → None ≡ formula_of (texts ws)
+    stack_of (texts (drop left ws)) ≡ Some fs → stack_word (get_or ws (left - 1) d).now fs ≡ None → None ≡ any_formula_of (texts ws)
 refused ws left d fs some within read none =
     let back : suc (left - 1) ≡ left = omega arith in
     let here : stack_of (texts (drop (left - 1) ws)) ≡ None =
@@ -59,17 +59,6 @@ line_pushed old word fs gs t1 t2 t3 t4 e f g h =
 pub move_pushed : (old word : List ℕ) (fs gs : List (List ℕ)) (t2 t3 t4 : List ℕ) → t2 ≡ old ++ (word ++ behind fs) → t3 ≡ t2 ++ behind gs →
     t4 ≡ t3 ++ (10 ∷ []) → t4 ≡ old ++ full_line (record { first = word; more = fs ++ gs })
 move_pushed old word fs gs t2 t3 t4 f g h = line_pushed old word fs gs (old ++ word) t2 t3 t4 refl (f ∙ sym (append_assoc old word (behind fs))) g h
-
-pub three_pushed : (old semi : List ℕ) (fs gs hs : List (List ℕ)) (t1 t2 t3 t4 t5 : List ℕ) → t1 ≡ old ++ behind fs → t2 ≡ t1 ++ (32 ∷ semi) →
-    t3 ≡ t2 ++ behind gs → t4 ≡ t3 ++ (32 ∷ semi) → t5 ≡ t4 ++ behind hs → t5 ≡ old ++ behind (fs ++ (semi ∷ (gs ++ (semi ∷ hs))))
-three_pushed old semi fs gs hs t1 t2 t3 t4 t5 a b c d e =
-    let last : t5 ≡ t3 ++ behind (semi ∷ hs) = e ∙ ap (λ (t : List ℕ). t ++ behind hs) d ∙ append_assoc t3 (32 ∷ semi) (behind hs) in
-    let next : t5 ≡ t2 ++ behind (gs ++ (semi ∷ hs)) = last ∙ ap (λ (t : List ℕ). t ++ behind (semi ∷ hs)) c
-    ∙ append_assoc t2 (behind gs) (behind (semi ∷ hs)) ∙ ap (λ (t : List ℕ). t2 ++ t) (sym (behind-append gs (semi ∷ hs))) in
-    let more : t5 ≡ t1 ++ behind (semi ∷ (gs ++ (semi ∷ hs))) = next ∙ ap (λ (t : List ℕ). t ++ behind (gs ++ (semi ∷ hs))) b
-    ∙ append_assoc t1 (32 ∷ semi) (behind (gs ++ (semi ∷ hs))) in
-    more ∙ ap (λ (t : List ℕ). t ++ behind (semi ∷ (gs ++ (semi ∷ hs)))) a ∙ append_assoc old (behind fs) (behind (semi ∷ (gs ++ (semi ∷ hs))))
-    ∙ ap (λ (t : List ℕ). old ++ t) (sym (behind-append fs (semi ∷ (gs ++ (semi ∷ hs)))))
 
 pub lines_append : (xs ys : List (List (List ℕ))) → lines_text (xs ++ ys) ≡ lines_text xs ++ lines_text ys
 lines_append [] ys = refl

@@ -1,3 +1,5 @@
+pub mod Five
+pub mod OperatorLaws
 pub mod FormulaLaws
 mod FrontLaws
 mod LineLaws
@@ -7,6 +9,7 @@ mod GrowLaws
 mod FollowLaws
 mod ReadLaws
 mod BodyLaws
+mod WidthLaws
 mod WriteLaws
 pub mod TextLaws
 pub mod Lists
@@ -17,3 +20,4 @@ pub mod Tables
 pub mod KindLaws
 pub mod StepLaws
 pub mod RunLaws
+mod NarrowLaws

@@ -1,7 +1,7 @@
 -- The words of a line are read as what they spell, and what is read from words is spelled by them.
 use Rattle.std.proofs.Common.{◌≡◌, ℕ, ◌≤◌, Bool, true, false, cond, Option, Some, None, List, [], ◌∷◌, length, drop}
 use Rattle.std.proofs.Common.{refl, sym, ap, subst, ◌∙◌, ◌&&◌, codes, arith}
-use Rattle.std.specs.Prelude.{ℤ, pos, ◌==◌, ◌||◌}
+use Rattle.std.specs.Prelude.{ℤ, pos, ◌+◌, ◌*◌, ◌==◌, ◌||◌}
 use Rattle.std.specs.Ordering.{int_eq}
 use Rattle.std.specs.Str.{bytes_eq}
 use Rattle.std.proofs.lemmas.Slice.Eq.{bytes_eq-Decides}
@@ -13,11 +13,12 @@ use Rattle.ts_base.proofs.WordLaws.{keyword_or}
 use Rattle.ts_automaton.specs.declared.draft.Way.{Way}
 use Rattle.ts_automaton.specs.declared.draft.Way.TheVariants.{Forward, Reverse}
 use Rattle.ts_automaton.specs.declared.draft.StateLine.{StateLine}
-use Rattle.ts_automaton.specs.Registers.{EachOf, each}
-use Rattle.ts_automaton.specs.Typing.{each_is, is_constant}
-use Rattle.ts_automaton.specs.AutomatonText.{way_word, held_word, state_words, constant_word, start_words}
+use Rattle.ts_automaton.specs.Registers.{EachOf}
+use Rattle.ts_automaton.specs.Typing.{each_is, is_constant, is_number_zero, are_constants}
+use Rattle.ts_automaton.specs.AutomatonText.{way_word, head_words, held_word, state_words, constant_word, start_words}
 use Rattle.ts_automaton.specs.Grammar.{is_new}
-use Rattle.ts_automaton.specs.Lines.{word_at, way_of, read_way, held_of, only_byte, new_name, state_made, read_state, constant_of, all_three, read_start, is_end}
+use Rattle.ts_automaton.specs.Lines.{word_at, way_of, head_made, read_head, held_of, only_byte, new_name, state_made, read_state, constant_of, constant_at, constants_of, stride, read_start, is_end}
+use Rattle.ts_automaton.proofs.Five.{five_parts, all_parts, all_again, read_tests}
 
 -- a list of words
 abbrev pub W : Type 0
@@ -35,6 +36,12 @@ one_word [] h = cc
 one_word (a ∷ []) h = refl
 one_word (a ∷ b ∷ ws) h = let e = eqb-true (length (a ∷ b ∷ ws)) 1 h in absurd (omega (arith, e))
 
+two : (ws : W) → length ws == 2 ≡ true → ws ≡ word_at ws 0 ∷ word_at ws 1 ∷ []
+two [] h = cc
+two (a ∷ []) h = cc
+two (a ∷ b ∷ []) h = refl
+two (a ∷ b ∷ c ∷ ws) h = let e = eqb-true (length (a ∷ b ∷ c ∷ ws)) 2 h in absurd (omega (arith, e))
+
 three : (ws : W) → length ws == 3 ≡ true → ws ≡ word_at ws 0 ∷ word_at ws 1 ∷ word_at ws 2 ∷ []
 three [] h = cc
 three (a ∷ []) h = cc
@@ -49,6 +56,16 @@ four (a ∷ b ∷ []) h = cc
 four (a ∷ b ∷ c ∷ []) h = cc
 four (a ∷ b ∷ c ∷ d ∷ []) h = refl
 four (a ∷ b ∷ c ∷ d ∷ e ∷ ws) h = let k = eqb-true (length (a ∷ b ∷ c ∷ d ∷ e ∷ ws)) 4 h in absurd (omega (arith, k))
+
+six : (ws : W) → length ws == 6 ≡ true → ws ≡ word_at ws 0 ∷ word_at ws 1 ∷ word_at ws 2 ∷ word_at ws 3 ∷ word_at ws 4 ∷ word_at ws 5 ∷ []
+six [] h = cc
+six (a ∷ []) h = cc
+six (a ∷ b ∷ []) h = cc
+six (a ∷ b ∷ c ∷ []) h = cc
+six (a ∷ b ∷ c ∷ d ∷ []) h = cc
+six (a ∷ b ∷ c ∷ d ∷ e ∷ []) h = cc
+six (a ∷ b ∷ c ∷ d ∷ e ∷ f ∷ []) h = refl
+six (a ∷ b ∷ c ∷ d ∷ e ∷ f ∷ g ∷ ws) h = let k = eqb-true (length (a ∷ b ∷ c ∷ d ∷ e ∷ f ∷ g ∷ ws)) 6 h in absurd (omega (arith, k))
 
 pub five : (ws : W) → 5 ≤ length ws → ws ≡ word_at ws 0 ∷ word_at ws 1 ∷ word_at ws 2 ∷ word_at ws 3 ∷ word_at ws 4 ∷ drop 5 ws
 five [] h = absurd (omega arith)
@@ -86,14 +103,36 @@ way_word_only w x h =
     (λ k. cc))
     h
 
-pub way_only : (ws : W) (x : Way) → read_way ws ≡ Some x → ws ≡ way_word x ∷ []
-way_only ws x h =
-    let p = pass (length ws == 1) (way_of (word_at ws 0)) x h in
-    one_word ws p.0 ∙ ap (λ (w : List ℕ). w ∷ []) (way_word_only (word_at ws 0) x p.1)
+made_only : (wide : Bool) (w : List ℕ) (o : Option Way) (h : Way × Bool) → way_of w ≡ o → head_made wide o ≡ Some h → (w ≡ way_word h.0) × (wide ≡ h.1)
+made_only wide w None h e k = cc
+made_only wide w (Some x) h e k =
+    let is : ◌≡◌ {A = Way × Bool} (x, wide) h = cc in
+    subst (λ (y : Way × Bool). (w ≡ way_word y.0) × (wide ≡ y.1)) is (way_word_only w x e, refl)
 
-pub way_again : (x : Way) → read_way (way_word x ∷ []) ≡ Some x
-way_again Forward = refl
-way_again Reverse = refl
+-- the way, and `wide`
+pub head_only : (ws : W) (h : Way × Bool) → read_head ws ≡ Some h → ws ≡ head_words h.0 h.1
+head_only ws h k = go (length ws == 1) refl k where
+  marked : Option (Way × Bool)
+  marked = cond (bytes_eq (word_at ws 1) (codes "wide")) (head_made true (way_of (word_at ws 0))) None
+
+  go : (t : Bool) → length ws == 1 ≡ t → cond t (head_made false (way_of (word_at ws 0))) (cond (length ws == 2) marked None) ≡ Some h → ws ≡ head_words h.0 h.1
+  go true e k =
+      let s = made_only false (word_at ws 0) (way_of (word_at ws 0)) h refl k in
+      one_word ws e ∙ ap (λ (w : List ℕ). w ∷ []) s.0 ∙ ap (head_words h.0) s.1
+  go false e k =
+      let p = pass (length ws == 2) marked h k in
+      let q = pass (bytes_eq (word_at ws 1) (codes "wide")) (head_made true (way_of (word_at ws 0))) h p.1 in
+      let s = made_only true (word_at ws 0) (way_of (word_at ws 0)) h refl q.1 in
+      two ws p.0
+      ∙ ap (λ (w : List ℕ). w ∷ word_at ws 1 ∷ []) s.0
+      ∙ ap (λ (w : List ℕ). way_word h.0 ∷ w ∷ []) (equal (word_at ws 1) (codes "wide") q.0)
+      ∙ ap (head_words h.0) s.1
+
+pub head_again : (way : Way) (wide : Bool) → read_head (head_words way wide) ≡ Some (way, wide)
+head_again Forward false = refl
+head_again Forward true = refl
+head_again Reverse false = refl
+head_again Reverse true = refl
 
 -- states
 held_only : (w : List ℕ) (h : Bool) → held_of w ≡ Some h → w ≡ held_word h
@@ -180,40 +219,61 @@ constants_four P a b c d (Int x) h = go (int_eq x (pos 0)) (int_eq x (pos 1)) re
 constant_again : (e : Ext) → is_constant e ≡ true → constant_of (constant_word e) ≡ Some e
 constant_again e h = constants_four (λ (x : Ext). constant_of (constant_word x) ≡ Some x) refl refl refl refl e h
 
-abbrev AreConstants : List ℕ → List ℕ → List ℕ → EachOf Ext → Type 0
-AreConstants u v w r = (u ≡ constant_word r.c) × (v ≡ constant_word r.d) × (w ≡ constant_word r.r) × (each_is is_constant r ≡ true)
+constant_passes : (w : List ℕ) (e : Ext) → constant_of w ≡ Some e → is_constant e ≡ true
+constant_passes w e h = (constant_only w e h).1
 
-start_parts : (u v w : List ℕ) (c d e : Option Ext) (r : EachOf Ext) → constant_of u ≡ c → constant_of v ≡ d → constant_of w ≡ e →
-    all_three c d e ≡ Some r → AreConstants u v w r
-start_parts u v w None d e r f g h k = cc
-start_parts u v w (Some c) None e r f g h k = cc
-start_parts u v w (Some c) (Some d) None r f g h k = cc
-start_parts u v w (Some c) (Some d) (Some e) r f g h k =
-    let is : each c d e ≡ r = cc in
-    let first = constant_only u c f in
-    let second = constant_only v d g in
-    let third = constant_only w e h in
-    let all = three_true (is_constant c) (is_constant d) (is_constant e) first.1 second.1 third.1 in
-    let here : AreConstants u v w (each c d e) = (first.0, second.0, third.0, all) in
-    subst (AreConstants u v w) is here
+spelled : (w : List ℕ) (e : Ext) → constant_of w ≡ Some e → w ≡ constant_word e
+spelled w e h = (constant_only w e h).0
 
-pub start_only : (ws : W) (r : EachOf Ext) → read_start ws ≡ Some r → (ws ≡ start_words r) × (each_is is_constant r ≡ true)
-start_only ws r h =
-    let c = constant_of (word_at ws 1) in
-    let d = constant_of (word_at ws 2) in
-    let e = constant_of (word_at ws 3) in
-    let p = pass (length ws == 4) (cond (bytes_eq (word_at ws 0) (codes "start")) (all_three c d e) None) r h in
-    let q = pass (bytes_eq (word_at ws 0) (codes "start")) (all_three c d e) r p.1 in
-    let s = start_parts (word_at ws 1) (word_at ws 2) (word_at ws 3) c d e r refl refl refl q.1 in
-    let keyword = equal (word_at ws 0) (codes "start") q.0 in
-    (cc (four ws p.0, keyword, s.0, s.1, s.2), s.3)
+start_words_are : (wide : Bool) (ws : W) (r : EachOf Ext) → length ws == (2 + 2 * stride wide) ≡ true → word_at ws 0 ≡ codes "start" →
+    constants_of wide ws ≡ Some r → ws ≡ start_words wide r
+start_words_are false ws r size keyword h =
+    let p = all_parts (constant_at ws 1) (Some (Int (pos 0))) (constant_at ws 2) (Some (Int (pos 0))) (constant_at ws 3) r h in
+    let c = spelled (word_at ws 1) r.c p.0 in
+    let d = spelled (word_at ws 2) r.d p.2 in
+    let e = spelled (word_at ws 3) r.r p.4 in
+    let is : ws ≡ codes "start" ∷ constant_word r.c ∷ constant_word r.d ∷ constant_word r.r ∷ [] = cc (four ws size, keyword, c, d, e) in
+    is
+start_words_are true ws r size keyword h =
+    let p = all_parts (constant_at ws 1) (constant_at ws 2) (constant_at ws 3) (constant_at ws 4) (constant_at ws 5) r h in
+    let c = spelled (word_at ws 1) r.c p.0 in
+    let d = spelled (word_at ws 2) r.e p.1 in
+    let e = spelled (word_at ws 3) r.d p.2 in
+    let f = spelled (word_at ws 4) r.f p.3 in
+    let g = spelled (word_at ws 5) r.r p.4 in
+    let is : ws ≡ codes "start" ∷ constant_word r.c ∷ constant_word r.e ∷ constant_word r.d ∷ constant_word r.f ∷ constant_word r.r ∷ [] =
+    cc (six ws size, keyword, c, d, e, f, g) in
+    is
 
-pub start_again : (r : EachOf Ext) → each_is is_constant r ≡ true → read_start (start_words r) ≡ Some r
-start_again r h =
-    let all = three_parts (is_constant r.c) (is_constant r.d) (is_constant r.r) h in
-    ap (λ o. all_three o (constant_of (constant_word r.d)) (constant_of (constant_word r.r))) (constant_again r.c all.0)
-    ∙ ap (λ o. all_three (Some r.c) o (constant_of (constant_word r.r))) (constant_again r.d all.1)
-    ∙ ap (λ o. all_three (Some r.c) (Some r.d) o) (constant_again r.r all.2)
+pub start_only : (wide : Bool) (ws : W) (r : EachOf Ext) → read_start wide ws ≡ Some r → (ws ≡ start_words wide r) × (are_constants wide r ≡ true)
+start_only wide ws r h =
+    let p = pass (length ws == (2 + 2 * stride wide)) (cond (bytes_eq (word_at ws 0) (codes "start")) (constants_of wide ws) None) r h in
+    let q = pass (bytes_eq (word_at ws 0) (codes "start")) (constants_of wide ws) r p.1 in
+    let tests = read_tests is_constant is_number_zero (Int (pos 0)) refl refl wide
+    (constant_at ws 1) (constant_at ws 2) (constant_at ws (1 + stride wide)) (constant_at ws 4) (constant_at ws (1 + 2 * stride wide)) r
+    (λ x k. constant_passes (word_at ws 1) x k) (λ x k. constant_passes (word_at ws 2) x k) (λ x k. constant_passes (word_at ws (1 + stride wide)) x k)
+    (λ x k. constant_passes (word_at ws 4) x k) (λ x k. constant_passes (word_at ws (1 + 2 * stride wide)) x k) q.1 in
+    (start_words_are wide ws r p.0 (equal (word_at ws 0) (codes "start") q.0) q.1, tests)
+
+pub number_zero : (e : Ext) → is_number_zero e ≡ true → Int (pos 0) ≡ e
+number_zero NegInf h = cc
+number_zero (Int x) h = ap Int (sym ((Decides-int_eq x (pos 0)).0 h))
+number_zero PosInf h = cc
+
+pub start_again : (wide : Bool) (r : EachOf Ext) → are_constants wide r ≡ true → read_start wide (start_words wide r) ≡ Some r
+start_again false r h =
+    let p = and_parts (each_is is_constant r) (is_number_zero r.e && is_number_zero r.f) h in
+    let all = five_parts (is_constant r.c) (is_constant r.e) (is_constant r.d) (is_constant r.f) (is_constant r.r) p.0 in
+    let rest = and_parts (is_number_zero r.e) (is_number_zero r.f) p.1 in
+    all_again (constant_of (constant_word r.c)) (Some (Int (pos 0))) (constant_of (constant_word r.d)) (Some (Int (pos 0)))
+    (constant_of (constant_word r.r)) r
+    (constant_again r.c all.0, ap Some (number_zero r.e rest.0), constant_again r.d all.2, ap Some (number_zero r.f rest.1), constant_again r.r all.4)
+start_again true r h =
+    let p = and_parts (each_is is_constant r) true h in
+    let all = five_parts (is_constant r.c) (is_constant r.e) (is_constant r.d) (is_constant r.f) (is_constant r.r) p.0 in
+    all_again (constant_of (constant_word r.c)) (constant_of (constant_word r.e)) (constant_of (constant_word r.d)) (constant_of (constant_word r.f))
+    (constant_of (constant_word r.r)) r
+    (constant_again r.c all.0, constant_again r.e all.1, constant_again r.d all.2, constant_again r.f all.3, constant_again r.r all.4)
 
 -- end lines
 pub end_only : (ws : W) → is_end ws ≡ true → ws ≡ codes "end" ∷ []

@@ -10,7 +10,7 @@ use Rattle.ts_automaton.specs.declared.state.State.{State}
 use Rattle.ts_automaton.specs.declared.typing.Place.{Place}
 use Rattle.ts_automaton.specs.declared.typing.Place.TheVariants.{Start, Moving, Finish}
 use Rattle.ts_automaton.specs.Body.{Body, node_of, node_at}
-use Rattle.ts_automaton.specs.Typing.{leads_below, are_different, has_few_states, has_names, has_constants, has_targets, has_short_expressions, is_formed, is_typed, is_typed_at, is_finish_typed, moves_from, places, move_fault, typing_fault}
+use Rattle.ts_automaton.specs.Typing.{leads_below, are_different, has_few_states, has_names, has_constants, has_targets, has_expressions, is_formed, is_typed, is_typed_at, is_finish_typed, moves_from, places, move_fault, typing_fault}
 use Rattle.ts_automaton.proofs.Lists.{list_any_map}
 use Rattle.std.proofs.lemmas.Bool.{and_parts, leb-true}
 
@@ -97,7 +97,7 @@ none_told (Some x) false h = refl
 
 pub few_formed : (b : Body) (n : ℕ) → n ≡ length b.states → is_formed b ≡ true → n ≤ 256
 few_formed b n k h =
-    let q = and_parts (has_few_states b && has_names b && has_constants b && has_targets b) (has_short_expressions b) h in
+    let q = and_parts (has_few_states b && has_names b && has_constants b && has_targets b) (has_expressions b) h in
     let r = and_parts (has_few_states b && has_names b && has_constants b) (has_targets b) q.0 in
     let s = and_parts (has_few_states b && has_names b) (has_constants b) r.0 in
     let t = and_parts (has_few_states b) (has_names b) s.0 in

@@ -1,11 +1,11 @@
 -- The words of a move and of the finish line are read as what they spell, and what is read from words is spelled by them.
 use Rattle.std.proofs.Common.{◌≡◌, ℕ, zero, suc, ◌<◌, ◌≤◌, ◌-◌, ◌/◌, ◌%◌, Bool, true, false, cond, Option, Some, None, List, [], ◌∷◌, ◌++◌, length, take, drop}
-use Rattle.std.proofs.Common.{refl, sym, ap, subst, ◌∙◌, ◌&&◌, codes, arith, nat_le, nat_lt}
+use Rattle.std.proofs.Common.{refl, sym, ap, subst, ◌∙◌, ◌&&◌, codes, arith, nat_le, nat_lt, append-nil}
 use Rattle.std.specs.Prelude.{◌==◌}
 use Rattle.std.specs.Cmp.Derive.{both_true}
 use Rattle.std.specs.List.{position, AllByRecursion}
 use Rattle.std.specs.Str.{bytes_eq}
-use Rattle.std.proofs.lemmas.Bool.{eqb-true, and_parts, leb-true, lt-ltb, le-leb}
+use Rattle.std.proofs.lemmas.Bool.{eqb-true, and_parts, leb-true, lt-ltb}
 use Rattle.std.proofs.lemmas.Bool.Decides.{nat_tests}
 use Rattle.std.proofs.lemmas.List.Quantifiers.{position-Some}
 use Rattle.ts_base.proofs.WordLaws.{keyword_or}
@@ -13,19 +13,21 @@ use Rattle.ts_automaton.specs.declared.draft.StateLine.{StateLine}
 use Rattle.ts_automaton.specs.declared.state.Mark.{Mark}
 use Rattle.ts_automaton.specs.declared.state.Mark.TheVariants.{Same, Zero as ZeroMark, Cells}
 use Rattle.ts_automaton.specs.declared.expr.Atom.{Atom}
-use Rattle.ts_automaton.specs.declared.expr.Atom.TheVariants.{C as AtomC, D as AtomD, R as AtomR, This as AtomThis, Next as AtomNext, Zero as AtomZero, Unit as AtomUnit, NegInf as AtomNegInf, PosInf as AtomPosInf}
-use Rattle.ts_base.specs.declared.op.Op.{Op}
+use Rattle.ts_automaton.specs.declared.expr.Atom.TheVariants.{C as AtomC, E as AtomE, D as AtomD, F as AtomF, R as AtomR, This as AtomThis, Next as AtomNext, Zero as AtomZero, Unit as AtomUnit, NegInf as AtomNegInf, PosInf as AtomPosInf}
+use Rattle.ts_automaton.specs.declared.expr.Operator.{Operator}
+use Rattle.ts_automaton.specs.declared.expr.Operator.TheVariants.{Fold, Sub}
 use Rattle.ts_base.specs.declared.op.Op.TheVariants.{Add as OpAdd, Max as OpMax, Min as OpMin}
-use Rattle.ts_automaton.specs.Formula.{Formula, Leaf, Join, words_in}
+use Rattle.ts_automaton.specs.Formula.{Formula, Leaf, Join, is_zero}
 use Rattle.ts_automaton.specs.Registers.{EachOf, each}
 use Rattle.ts_automaton.specs.Body.{Move}
-use Rattle.ts_automaton.specs.Typing.{each_is, is_short}
+use Rattle.ts_automaton.specs.Typing.{each_is, is_expression, are_expressions}
 use Rattle.ts_automaton.specs.FormulaText.{atom_word, op_word, formula_words, formula_of}
-use Rattle.ts_automaton.specs.AutomatonText.{no_state, name_at, mark_word, sign_word, semi, three_words, move_words, finish_words}
+use Rattle.ts_automaton.specs.AutomatonText.{no_state, name_at, mark_word, sign_word, semi, each_words, behind_semi, move_words, finish_words}
 use Rattle.ts_automaton.specs.Grammar.{is_move}
-use Rattle.ts_automaton.specs.Lines.{word_at, only_byte, all_three, is_semi, onto_cut, cut_of, place_by, place_of, move_made, last_two, three_of, is_move_head, read_move, mark_of, finish_made, expression_and_mark, read_finish}
-use Rattle.ts_automaton.proofs.FormulaLaws.{formula_only, formula_again, words_count}
-use Rattle.ts_automaton.proofs.LineLaws.{W, letter_only, equal, same, five, pass, go_on, three_parts, three_true}
+use Rattle.ts_automaton.specs.Lines.{word_at, only_byte, is_semi, onto_cut, cut_of, place_by, place_of, move_made, cut_extra, with_last, from_d, from_e, from_c, pieces_of, formulas_of, is_move_head, read_move, mark_of, finish_made, expression_and_mark, read_finish}
+use Rattle.ts_automaton.proofs.Five.{five_parts, all_parts, all_again, read_tests}
+use Rattle.ts_automaton.proofs.FormulaLaws.{formula_only, formula_again}
+use Rattle.ts_automaton.proofs.LineLaws.{W, letter_only, equal, same, five, pass, go_on}
 
 -- words cut at the first `;`
 cut_step : (w : List ℕ) (ws : W) (t : Bool) (o : Option (W × W)) (p : W × W) → is_semi w ≡ t → ((q : W × W) → o ≡ Some q → ws ≡ q.0 ++ (semi ∷ q.1)) →
@@ -53,7 +55,9 @@ no_semi_append (x ∷ xs) ys h k = (h.0, no_semi_append xs ys h.1 k)
 
 atom_no_semi : (a : Atom) → is_semi (atom_word a) ≡ false
 atom_no_semi AtomC = refl
+atom_no_semi AtomE = refl
 atom_no_semi AtomD = refl
+atom_no_semi AtomF = refl
 atom_no_semi AtomR = refl
 atom_no_semi AtomThis = refl
 atom_no_semi AtomNext = refl
@@ -62,10 +66,11 @@ atom_no_semi AtomUnit = refl
 atom_no_semi AtomNegInf = refl
 atom_no_semi AtomPosInf = refl
 
-op_no_semi : (o : Op) → is_semi (op_word o) ≡ false
-op_no_semi OpAdd = refl
-op_no_semi OpMax = refl
-op_no_semi OpMin = refl
+op_no_semi : (o : Operator) → is_semi (op_word o) ≡ false
+op_no_semi (Fold OpAdd) = refl
+op_no_semi (Fold OpMax) = refl
+op_no_semi (Fold OpMin) = refl
+op_no_semi Sub = refl
 
 formula_no_semi : (f : Formula) → AreNoSemi (formula_words f)
 unfolding AreNoSemi
@@ -90,62 +95,123 @@ place_only states w (Some b) k e h =
     let p = named_at states b k h in
     (p.0, letter_only w b e ∙ ap (λ (x : ℕ). x ∷ []) (sym p.1))
 
--- the three expressions of a move
-short : (ws : W) (f : Formula) → formula_of ws ≡ Some f → (ws ≡ formula_words f) × (is_short f ≡ true)
-short ws f h =
-    let read = formula_only ws f h in
-    let count = ap length read.0 ∙ words_count f in
-    (read.0, le-leb (words_in f) 15 (omega (arith, count, read)))
+-- the words for E or F with the `;` behind them and what follows, or what follows alone
+abbrev extra_then : Bool → W → W → W
+extra_then false e rest = rest
+extra_then true e rest = e ++ (semi ∷ rest)
 
-short_again : (f : Formula) → is_short f ≡ true → formula_of (formula_words f) ≡ Some f
-short_again f h = let count = words_count f in let most = leb-true (words_in f) 15 h in formula_again f (formula_words f) refl (omega (arith, count, most))
+-- the pieces of a move, `;` between them
+abbrev pieces_joined : Bool → EachOf W → W
+pieces_joined wide a = a.c ++ (semi ∷ extra_then wide a.e (a.d ++ (semi ∷ extra_then wide a.f a.r)))
 
-abbrev AreThree : W → EachOf Formula → Type 0
-AreThree rest to = (rest ≡ three_words to) × (each_is is_short to ≡ true)
+extra_cut_only : (wide : Bool) (ws : W) (p : W × W) → cut_extra wide ws ≡ Some p → ws ≡ extra_then wide p.0 p.1
+extra_cut_only false ws p h =
+    let is : ◌≡◌ {A = W × W} ([], ws) p = cc in
+    ap (λ (q : W × W). q.1) is
+extra_cut_only true ws p h = cut_only ws p h
 
-made_parts : (u v w : W) (c d r : Option Formula) (to : EachOf Formula) → formula_of u ≡ c → formula_of v ≡ d → formula_of w ≡ r →
-    all_three c d r ≡ Some to → AreThree (u ++ (semi ∷ (v ++ (semi ∷ w)))) to
-made_parts u v w None d r to e f g h = cc
-made_parts u v w (Some c) None r to e f g h = cc
-made_parts u v w (Some c) (Some d) None to e f g h = cc
-made_parts u v w (Some c) (Some d) (Some r) to e f g h =
-    let is : each c d r ≡ to = cc in
-    let first = short u c e in
-    let second = short v d f in
-    let third = short w r g in
-    let words : u ++ (semi ∷ (v ++ (semi ∷ w))) ≡ three_words (each c d r) = cc (first.0, second.0, third.0) in
-    let here : AreThree (u ++ (semi ∷ (v ++ (semi ∷ w)))) (each c d r) =
-    (words, three_true (is_short c) (is_short d) (is_short r) first.1 second.1 third.1) in
-    subst (AreThree (u ++ (semi ∷ (v ++ (semi ∷ w))))) is here
+last_only : (wide : Bool) (c e d ws : W) (o : Option (W × W)) (a : EachOf W) → cut_extra wide ws ≡ o → with_last c e d o ≡ Some a →
+    (c ≡ a.c) × (e ≡ a.e) × (d ≡ a.d) × (ws ≡ extra_then wide a.f a.r)
+last_only wide c e d ws None a k h = cc
+last_only wide c e d ws (Some p) a k h =
+    let is : each c e d p.0 p.1 ≡ a = cc in
+    subst (λ (x : EachOf W). (c ≡ x.c) × (e ≡ x.e) × (d ≡ x.d) × (ws ≡ extra_then wide x.f x.r)) is (refl, refl, refl, extra_cut_only wide ws p k)
 
-last_parts : (u rest : W) (o : Option (W × W)) (to : EachOf Formula) → cut_of rest ≡ o → last_two u o ≡ Some to → AreThree (u ++ (semi ∷ rest)) to
-last_parts u rest None to e h = cc
-last_parts u rest (Some p) to e h =
-    subst (λ (x : W). AreThree (u ++ (semi ∷ x)) to) (sym (cut_only rest p e))
-    (made_parts u p.0 p.1 (formula_of u) (formula_of p.0) (formula_of p.1) to refl refl refl h)
+d_only : (wide : Bool) (c e ws : W) (o : Option (W × W)) (a : EachOf W) → cut_of ws ≡ o → from_d wide c e o ≡ Some a →
+    (c ≡ a.c) × (e ≡ a.e) × (ws ≡ a.d ++ (semi ∷ extra_then wide a.f a.r))
+d_only wide c e ws None a k h = cc
+d_only wide c e ws (Some p) a k h =
+    let s = last_only wide c e p.0 p.1 (cut_extra wide p.1) a refl h in
+    (s.0, s.1, cut_only ws p k ∙ ap (λ (x : W). x ++ (semi ∷ p.1)) s.2 ∙ ap (λ (x : W). a.d ++ (semi ∷ x)) s.3)
 
-three_only : (rest : W) (o : Option (W × W)) (to : EachOf Formula) → cut_of rest ≡ o → three_of o ≡ Some to → AreThree rest to
-three_only rest None to e h = cc
-three_only rest (Some p) to e h = subst (λ (x : W). AreThree x to) (sym (cut_only rest p e)) (last_parts p.0 p.1 (cut_of p.1) to refl h)
+e_only : (wide : Bool) (c ws : W) (o : Option (W × W)) (a : EachOf W) → cut_extra wide ws ≡ o → from_e wide c o ≡ Some a →
+    (c ≡ a.c) × (ws ≡ extra_then wide a.e (a.d ++ (semi ∷ extra_then wide a.f a.r)))
+e_only wide c ws None a k h = cc
+e_only wide c ws (Some p) a k h =
+    let s = d_only wide c p.0 p.1 (cut_of p.1) a refl h in
+    (s.0, extra_cut_only wide ws p k ∙ ap (λ (x : W). extra_then wide x p.1) s.1 ∙ ap (λ (x : W). extra_then wide a.e x) s.2)
 
-abbrev IsTurn : List StateLine → List ℕ → W → Move → Type 0
-IsTurn states w rest t = (w ≡ name_at states t.next ∷ []) × (rest ≡ three_words t.to) × (is_move states t ≡ true)
+c_only : (wide : Bool) (ws : W) (o : Option (W × W)) (a : EachOf W) → cut_of ws ≡ o → from_c wide o ≡ Some a → ws ≡ pieces_joined wide a
+c_only wide ws None a k h = cc
+c_only wide ws (Some p) a k h =
+    let s = e_only wide p.0 p.1 (cut_extra wide p.1) a refl h in
+    cut_only ws p k ∙ ap (λ (x : W). x ++ (semi ∷ p.1)) s.0 ∙ ap (λ (x : W). a.c ++ (semi ∷ x)) s.1
 
-turn_only : (states : List StateLine) (w : List ℕ) (rest : W) (o : Option ℕ) (p : Option (EachOf Formula)) (t : Move) →
-    place_of states w ≡ o → three_of (cut_of rest) ≡ p → move_made o p ≡ Some t → IsTurn states w rest t
-turn_only states w rest None p t e f h = cc
-turn_only states w rest (Some n) None t e f h = cc
-turn_only states w rest (Some n) (Some to) t e f h =
+-- the words of expressions, in pieces: there are none for E and F in a narrow block
+abbrev extra_piece : Bool → Formula → W
+extra_piece false f = []
+extra_piece true f = formula_words f
+
+abbrev pieces : Bool → EachOf Formula → EachOf W
+pieces wide to = each (formula_words to.c) (extra_piece wide to.e) (formula_words to.d) (extra_piece wide to.f) (formula_words to.r)
+
+joined_words : (wide : Bool) (to : EachOf Formula) → semi ∷ pieces_joined wide (pieces wide to) ≡ each_words behind_semi wide to
+joined_words false to =
+    ap (λ (x : W). semi ∷ (formula_words to.c ++ (semi ∷ (formula_words to.d ++ (semi ∷ x))))) (sym (append-nil (formula_words to.r)))
+joined_words true to =
+    ap (λ (x : W). semi ∷ (formula_words to.c ++ (semi ∷ (formula_words to.e ++ (semi ∷ (formula_words to.d ++ (semi ∷
+    (formula_words to.f ++ (semi ∷ x)))))))))
+    (sym (append-nil (formula_words to.r)))
+
+-- pieces that are read as expressions are their words
+spelled : (wide : Bool) (ws : W) (f : Formula) → formula_of wide ws ≡ Some f → ws ≡ formula_words f
+spelled wide ws f h = (formula_only wide ws f h).0
+
+passes : (wide : Bool) (ws : W) (f : Formula) → formula_of wide ws ≡ Some f → is_expression wide f ≡ true
+passes wide ws f h = (formula_only wide ws f h).1
+
+pieces_spelled : (wide : Bool) (a : EachOf W) (to : EachOf Formula) → formulas_of wide (Some a) ≡ Some to →
+    pieces_joined wide a ≡ pieces_joined wide (pieces wide to)
+pieces_spelled false a to h =
+    let p = all_parts (formula_of false a.c) (Some (Leaf AtomZero)) (formula_of false a.d) (Some (Leaf AtomZero)) (formula_of false a.r) to h in
+    ap (λ (x : W). x ++ (semi ∷ (a.d ++ (semi ∷ a.r)))) (spelled false a.c to.c p.0)
+    ∙ ap (λ (x : W). formula_words to.c ++ (semi ∷ (x ++ (semi ∷ a.r)))) (spelled false a.d to.d p.2)
+    ∙ ap (λ (x : W). formula_words to.c ++ (semi ∷ (formula_words to.d ++ (semi ∷ x)))) (spelled false a.r to.r p.4)
+pieces_spelled true a to h =
+    let p = all_parts (formula_of true a.c) (formula_of true a.e) (formula_of true a.d) (formula_of true a.f) (formula_of true a.r) to h in
+    ap (λ (x : W). x ++ (semi ∷ (a.e ++ (semi ∷ (a.d ++ (semi ∷ (a.f ++ (semi ∷ a.r)))))))) (spelled true a.c to.c p.0)
+    ∙ ap (λ (x : W). formula_words to.c ++ (semi ∷ (x ++ (semi ∷ (a.d ++ (semi ∷ (a.f ++ (semi ∷ a.r)))))))) (spelled true a.e to.e p.1)
+    ∙ ap (λ (x : W). formula_words to.c ++ (semi ∷ (formula_words to.e ++ (semi ∷ (x ++ (semi ∷ (a.f ++ (semi ∷ a.r)))))))) (spelled true a.d to.d p.2)
+    ∙ ap (λ (x : W). formula_words to.c ++ (semi ∷ (formula_words to.e ++ (semi ∷ (formula_words to.d ++ (semi ∷ (x ++ (semi ∷ a.r))))))))
+    (spelled true a.f to.f p.3)
+    ∙ ap (λ (x : W). formula_words to.c ++ (semi ∷ (formula_words to.e ++ (semi ∷ (formula_words to.d ++ (semi ∷ (formula_words to.f ++ (semi ∷ x))))))))
+    (spelled true a.r to.r p.4)
+
+-- the expressions of a move
+abbrev AreFormulas : Bool → W → EachOf Formula → Type 0
+AreFormulas wide rest to = (semi ∷ rest ≡ each_words behind_semi wide to) × (are_expressions wide to ≡ true)
+
+formulas_only : (wide : Bool) (rest : W) (o : Option (EachOf W)) (to : EachOf Formula) → pieces_of wide rest ≡ o → formulas_of wide o ≡ Some to →
+    AreFormulas wide rest to
+formulas_only wide rest None to k h = cc
+formulas_only wide rest (Some a) to k h =
+    let tests = read_tests (is_expression wide) is_zero (Leaf AtomZero) (zero_passes wide) refl wide
+    (formula_of wide a.c) (formula_of wide a.e) (formula_of wide a.d) (formula_of wide a.f) (formula_of wide a.r) to
+    (λ x e. passes wide a.c x e) (λ x e. passes wide a.e x e) (λ x e. passes wide a.d x e) (λ x e. passes wide a.f x e) (λ x e. passes wide a.r x e) h in
+    (ap (λ (x : W). semi ∷ x) (c_only wide rest (cut_of rest) a refl k ∙ pieces_spelled wide a to h) ∙ joined_words wide to, tests)
+  where
+    zero_passes : (wide : Bool) → is_expression wide (Leaf AtomZero) ≡ true
+    zero_passes false = refl
+    zero_passes true = refl
+
+abbrev IsTurn : Bool → List StateLine → List ℕ → W → Move → Type 0
+IsTurn wide states w rest t = (w ≡ name_at states t.next ∷ []) × (semi ∷ rest ≡ each_words behind_semi wide t.to) × (is_move wide states t ≡ true)
+
+turn_only : (wide : Bool) (states : List StateLine) (w : List ℕ) (rest : W) (o : Option ℕ) (p : Option (EachOf Formula)) (t : Move) →
+    place_of states w ≡ o → formulas_of wide (pieces_of wide rest) ≡ p → move_made o p ≡ Some t → IsTurn wide states w rest t
+turn_only wide states w rest None p t e f h = cc
+turn_only wide states w rest (Some n) None t e f h = cc
+turn_only wide states w rest (Some n) (Some to) t e f h =
     let is : record { next = n; to = to } ≡ t = cc in
     let target = place_only states w (only_byte w) n refl e in
-    let read = three_only rest (cut_of rest) to refl f in
-    let here : IsTurn states w rest (record { next = n; to = to }) = (target.1, read.0, both_true (lt-ltb n (length states) target.0) read.1) in
-    subst (IsTurn states w rest) is here
+    let read = formulas_only wide rest (pieces_of wide rest) to refl f in
+    let here : IsTurn wide states w rest (record { next = n; to = to }) = (target.1, read.0, both_true (lt-ltb n (length states) target.0) read.1) in
+    subst (IsTurn wide states w rest) is here
 
-pub move_only : (states : List StateLine) (k : ℕ) (ws : W) (t : Move) → read_move states k ws ≡ Some t →
-    (ws ≡ move_words states k t) × (is_move states t ≡ true)
-move_only states k ws t h =
-    let made = move_made (place_of states (word_at ws 3)) (three_of (cut_of (drop 5 ws))) in
+pub move_only : (wide : Bool) (states : List StateLine) (k : ℕ) (ws : W) (t : Move) → read_move wide states k ws ≡ Some t →
+    (ws ≡ move_words wide states k t) × (is_move wide states t ≡ true)
+move_only wide states k ws t h =
+    let made = move_made (place_of states (word_at ws 3)) (formulas_of wide (pieces_of wide (drop 5 ws))) in
     let from = bytes_eq (word_at ws 1) (name_at states (k / 3) ∷ []) in
     let sign = bytes_eq (word_at ws 2) (sign_word (k % 3)) in
     let p = pass (nat_le 5 (length ws)) (cond (is_move_head states k ws) made None) t h in
@@ -153,38 +219,83 @@ move_only states k ws t h =
     let a = and_parts (bytes_eq (word_at ws 0) (codes "move")) (from && (sign && is_semi (word_at ws 4))) q.0 in
     let b = and_parts from (sign && is_semi (word_at ws 4)) a.1 in
     let c = and_parts sign (is_semi (word_at ws 4)) b.1 in
-    let s = turn_only states (word_at ws 3) (drop 5 ws) (place_of states (word_at ws 3)) (three_of (cut_of (drop 5 ws))) t refl refl q.1 in
+    let s = turn_only wide states (word_at ws 3) (drop 5 ws) (place_of states (word_at ws 3)) (formulas_of wide (pieces_of wide (drop 5 ws))) t refl refl q.1 in
     let first = equal (word_at ws 0) (codes "move") a.0 in
     let second = equal (word_at ws 1) (name_at states (k / 3) ∷ []) b.0 in
     let third = equal (word_at ws 2) (sign_word (k % 3)) c.0 in
-    let fifth = equal (word_at ws 4) (codes ";") c.1 in (
-      all_words (word_at ws 0) (word_at ws 1) (word_at ws 2) (word_at ws 3) (word_at ws 4) (drop 5 ws)
-          (five ws (leb-true 5 (length ws) p.0)) first second third s.0 fifth s.1,
+    let fifth = ap (λ (x : List ℕ). x ∷ drop 5 ws) (equal (word_at ws 4) (codes ";") c.1) ∙ s.1 in (
+      all_words (word_at ws 0) (word_at ws 1) (word_at ws 2) (word_at ws 3) (word_at ws 4 ∷ drop 5 ws) (each_words behind_semi wide t.to)
+          (five ws (leb-true 5 (length ws) p.0)) first second third s.0 fifth,
       s.2,
     )
   where
-    all_words : (u v w x y : List ℕ) (rest : W) → ws ≡ u ∷ v ∷ w ∷ x ∷ y ∷ rest → u ≡ codes "move" → v ≡ name_at states (k / 3) ∷ [] →
-        w ≡ sign_word (k % 3) → x ≡ name_at states t.next ∷ [] → y ≡ codes ";" → rest ≡ three_words t.to → ws ≡ move_words states k t
-    all_words u v w x y rest e f g h i j l = cc
+    all_words : (u v w x : List ℕ) (rest more : W) → ws ≡ u ∷ v ∷ w ∷ x ∷ rest → u ≡ codes "move" → v ≡ name_at states (k / 3) ∷ [] →
+        w ≡ sign_word (k % 3) → x ≡ name_at states t.next ∷ [] → rest ≡ more →
+        ws ≡ codes "move" ∷ (name_at states (k / 3) ∷ []) ∷ sign_word (k % 3) ∷ (name_at states t.next ∷ []) ∷ more
+    all_words u v w x rest more e f g h i j = cc
 
-three_again : (to : EachOf Formula) → each_is is_short to ≡ true → three_of (cut_of (three_words to)) ≡ Some to
-three_again to h =
-    let all = three_parts (is_short to.c) (is_short to.d) (is_short to.r) h in
-    ap three_of (cut_again (formula_words to.c) (formula_words to.d ++ (semi ∷ formula_words to.r)) (formula_no_semi to.c))
-    ∙ ap (last_two (formula_words to.c)) (cut_again (formula_words to.d) (formula_words to.r) (formula_no_semi to.d))
-    ∙ ap (λ o. all_three o (formula_of (formula_words to.d)) (formula_of (formula_words to.r))) (short_again to.c all.0)
-    ∙ ap (λ o. all_three (Some to.c) o (formula_of (formula_words to.r))) (short_again to.d all.1)
-    ∙ ap (λ o. all_three (Some to.c) (Some to.d) o) (short_again to.r all.2)
+-- and back
+pieces_again : (wide : Bool) (to : EachOf Formula) → pieces_of wide (pieces_joined wide (pieces wide to)) ≡ Some (pieces wide to)
+pieces_again false to =
+    ap (from_c false) (cut_again (formula_words to.c) (formula_words to.d ++ (semi ∷ formula_words to.r)) (formula_no_semi to.c))
+    ∙ ap (from_d false (formula_words to.c) []) (cut_again (formula_words to.d) (formula_words to.r) (formula_no_semi to.d))
+pieces_again true to =
+    let r = formula_words to.r in
+    let from_f = formula_words to.f ++ (semi ∷ r) in
+    let rest = formula_words to.d ++ (semi ∷ from_f) in
+    ap (from_c true) (cut_again (formula_words to.c) (formula_words to.e ++ (semi ∷ rest)) (formula_no_semi to.c))
+    ∙ ap (from_e true (formula_words to.c)) (cut_again (formula_words to.e) rest (formula_no_semi to.e))
+    ∙ ap (from_d true (formula_words to.c) (formula_words to.e)) (cut_again (formula_words to.d) from_f (formula_no_semi to.d))
+    ∙ ap (with_last (formula_words to.c) (formula_words to.e) (formula_words to.d)) (cut_again (formula_words to.f) r (formula_no_semi to.f))
+
+pub zero_only : (f : Formula) → is_zero f ≡ true → Leaf AtomZero ≡ f
+zero_only (Leaf AtomC) h = cc
+zero_only (Leaf AtomE) h = cc
+zero_only (Leaf AtomD) h = cc
+zero_only (Leaf AtomF) h = cc
+zero_only (Leaf AtomR) h = cc
+zero_only (Leaf AtomThis) h = cc
+zero_only (Leaf AtomNext) h = cc
+zero_only (Leaf AtomZero) h = refl
+zero_only (Leaf AtomUnit) h = cc
+zero_only (Leaf AtomNegInf) h = cc
+zero_only (Leaf AtomPosInf) h = cc
+zero_only (Join o f g) h = cc
+
+read_again : (wide : Bool) (f : Formula) → is_expression wide f ≡ true → formula_of wide (formula_words f) ≡ Some f
+read_again wide f h = formula_again wide f (formula_words f) refl h
+
+formulas_again : (wide : Bool) (to : EachOf Formula) → are_expressions wide to ≡ true → formulas_of wide (Some (pieces wide to)) ≡ Some to
+formulas_again false to h =
+    let p = and_parts (each_is (is_expression false) to) (is_zero to.e && is_zero to.f) h in
+    let all = five_parts (is_expression false to.c) (is_expression false to.e) (is_expression false to.d) (is_expression false to.f)
+    (is_expression false to.r) p.0 in
+    let rest = and_parts (is_zero to.e) (is_zero to.f) p.1 in
+    all_again (formula_of false (formula_words to.c)) (Some (Leaf AtomZero)) (formula_of false (formula_words to.d)) (Some (Leaf AtomZero))
+    (formula_of false (formula_words to.r)) to
+    (read_again false to.c all.0, ap Some (zero_only to.e rest.0), read_again false to.d all.2, ap Some (zero_only to.f rest.1), read_again false to.r all.4)
+formulas_again true to h =
+    let p = and_parts (each_is (is_expression true) to) true h in
+    let all = five_parts (is_expression true to.c) (is_expression true to.e) (is_expression true to.d) (is_expression true to.f)
+    (is_expression true to.r) p.0 in
+    all_again (formula_of true (formula_words to.c)) (formula_of true (formula_words to.e)) (formula_of true (formula_words to.d))
+    (formula_of true (formula_words to.f)) (formula_of true (formula_words to.r)) to
+    (read_again true to.c all.0, read_again true to.e all.1, read_again true to.d all.2, read_again true to.f all.3, read_again true to.r all.4)
 
 -- where the letters differ, the place of a state is found by its letter
-pub move_again : (states : List StateLine) (k : ℕ) (t : Move) → place_by states (Some (name_at states t.next)) ≡ Some t.next → is_move states t ≡ true →
-    read_move states k (move_words states k t) ≡ Some t
-move_again states k t place h =
-    let a = and_parts (nat_lt t.next (length states)) (each_is is_short t.to) h in
+pub move_again : (wide : Bool) (states : List StateLine) (k : ℕ) (t : Move) → place_by states (Some (name_at states t.next)) ≡ Some t.next →
+    is_move wide states t ≡ true → read_move wide states k (move_words wide states k t) ≡ Some t
+move_again wide states k t place h =
+    let a = and_parts (nat_lt t.next (length states)) (are_expressions wide t.to) h in
+    let rest = pieces_joined wide (pieces wide t.to) in
+    let head : W = codes "move" ∷ (name_at states (k / 3) ∷ []) ∷ sign_word (k % 3) ∷ (name_at states t.next ∷ []) ∷ [] in
     let ends = both_true {t = true} (same (sign_word (k % 3))) refl in
-    go_on (nat_le 5 (length (move_words states k t))) _ t (long (length (three_words t.to))) (
-    go_on (is_move_head states k (move_words states k t)) _ t (both_true (same (name_at states (k / 3) ∷ [])) ends) (
-    ap (λ o. move_made o (three_of (cut_of (three_words t.to)))) place ∙ ap (move_made (Some t.next)) (three_again t.to a.1)))
+    ap (λ (x : W). read_move wide states k (head ++ x)) (sym (joined_words wide t.to))
+    ∙ go_on (nat_le 5 (length (head ++ (semi ∷ rest)))) _ t (long (length rest)) (
+    go_on (is_move_head states k (head ++ (semi ∷ rest))) _ t (both_true (same (name_at states (k / 3) ∷ [])) ends) (
+    ap (λ o. move_made o (formulas_of wide (pieces_of wide rest))) place
+    ∙ ap (λ o. move_made (Some t.next) (formulas_of wide o)) (pieces_again wide t.to)
+    ∙ ap (move_made (Some t.next)) (formulas_again wide t.to a.1)))
   where
     long : (n : ℕ) → nat_le 5 (suc (suc (suc (suc (suc n))))) ≡ true
     long n = grind (arith, nat_tests)
@@ -210,14 +321,14 @@ ends zero (w ∷ v ∷ ws) h = absurd (omega arith)
 ends (suc n) [] h = absurd (omega arith)
 ends (suc n) (w ∷ ws) h = ap (λ (x : W). w ∷ x) (ends n ws (omega arith))
 
-finish_parts : (u : W) (w : List ℕ) (f : Option Formula) (m : Option Mark) (x : Formula × Mark) → formula_of u ≡ f → mark_of w ≡ m →
-    finish_made f m ≡ Some x → (u ++ (w ∷ []) ≡ formula_words x.0 ++ (mark_word x.1 ∷ [])) × (is_short x.0 ≡ true)
-finish_parts u w None m x e g h = cc
-finish_parts u w (Some f) None x e g h = cc
-finish_parts u w (Some f) (Some m) x e g h =
+finish_parts : (wide : Bool) (u : W) (w : List ℕ) (f : Option Formula) (m : Option Mark) (x : Formula × Mark) → formula_of wide u ≡ f → mark_of w ≡ m →
+    finish_made f m ≡ Some x → (u ++ (w ∷ []) ≡ formula_words x.0 ++ (mark_word x.1 ∷ [])) × (is_expression wide x.0 ≡ true)
+finish_parts wide u w None m x e g h = cc
+finish_parts wide u w (Some f) None x e g h = cc
+finish_parts wide u w (Some f) (Some m) x e g h =
     let is : ◌≡◌ {A = Formula × Mark} (f, m) x = cc in
-    let read = short u f e in
-    subst (λ (y : Formula × Mark). (u ++ (w ∷ []) ≡ formula_words y.0 ++ (mark_word y.1 ∷ [])) × (is_short y.0 ≡ true)) is
+    let read = formula_only wide u f e in
+    subst (λ (y : Formula × Mark). (u ++ (w ∷ []) ≡ formula_words y.0 ++ (mark_word y.1 ∷ [])) × (is_expression wide y.0 ≡ true)) is
     (ap (λ (y : W). y ++ (w ∷ [])) read.0 ∙ ap (λ (y : List ℕ). formula_words f ++ (y ∷ [])) (mark_only w m g), read.1)
 
 head_tail : (ws : W) → 2 ≤ length ws → (ws ≡ word_at ws 0 ∷ drop 1 ws) × (length (drop 1 ws) ≡ suc (length (drop 1 ws) - 1))
@@ -227,14 +338,14 @@ head_tail (w ∷ v ∷ ws) h = (refl, back (length ws)) where
   back : (n : ℕ) → suc n ≡ suc (suc n - 1)
   back n = omega arith
 
-pub finish_only : (ws : W) (x : Formula × Mark) → read_finish ws ≡ Some x → (ws ≡ finish_words x.0 x.1) × (is_short x.0 ≡ true)
-finish_only ws x h =
-    let p = pass (nat_le 2 (length ws)) (cond (bytes_eq (word_at ws 0) (codes "finish")) (expression_and_mark (drop 1 ws)) None) x h in
-    let q = pass (bytes_eq (word_at ws 0) (codes "finish")) (expression_and_mark (drop 1 ws)) x p.1 in
+pub finish_only : (wide : Bool) (ws : W) (x : Formula × Mark) → read_finish wide ws ≡ Some x → (ws ≡ finish_words x.0 x.1) × (is_expression wide x.0 ≡ true)
+finish_only wide ws x h =
+    let p = pass (nat_le 2 (length ws)) (cond (bytes_eq (word_at ws 0) (codes "finish")) (expression_and_mark wide (drop 1 ws)) None) x h in
+    let q = pass (bytes_eq (word_at ws 0) (codes "finish")) (expression_and_mark wide (drop 1 ws)) x p.1 in
     let cut = head_tail ws (leb-true 2 (length ws) p.0) in
     let rest = drop 1 ws in
     let n = length (drop 1 ws) - 1 in
-    let s = finish_parts (take n rest) (word_at rest n) (formula_of (take n rest)) (mark_of (word_at rest n)) x refl refl q.1 in
+    let s = finish_parts wide (take n rest) (word_at rest n) (formula_of wide (take n rest)) (mark_of (word_at rest n)) x refl refl q.1 in
     (cut.0 ∙ ap (λ (w : List ℕ). w ∷ drop 1 ws) (equal (word_at ws 0) (codes "finish") q.0) ∙ ap (λ (y : W). codes "finish" ∷ y) (ends n rest cut.1 ∙ s.0), s.1)
 
 last_of : (u : W) (w : List ℕ) → (length (u ++ (w ∷ [])) - 1 ≡ length u) × (take (length u) (u ++ (w ∷ [])) ≡ u) × (word_at (u ++ (w ∷ [])) (length u) ≡ w)
@@ -250,15 +361,15 @@ last_of (x ∷ u) w =
     some [] w = omega arith
     some (x ∷ u) w = omega arith
 
-pub finish_again : (f : Formula) (m : Mark) → is_short f ≡ true → read_finish (finish_words f m) ≡ Some (f, m)
-finish_again f m h =
+pub finish_again : (wide : Bool) (f : Formula) (m : Mark) → is_expression wide f ≡ true → read_finish wide (finish_words f m) ≡ Some (f, m)
+finish_again wide f m h =
     let rest = formula_words f ++ (mark_word m ∷ []) in
     let last = last_of (formula_words f) (mark_word m) in
     go_on (nat_le 2 (length (finish_words f m))) _ (f, m) (long (length rest) (some (formula_words f))) (
-    ap (λ (n : ℕ). finish_made (formula_of (take n rest)) (mark_of (word_at rest n))) last.0
-    ∙ ap (λ (x : W). finish_made (formula_of x) (mark_of (word_at rest (length (formula_words f))))) last.1
-    ∙ ap (λ (w : List ℕ). finish_made (formula_of (formula_words f)) (mark_of w)) last.2
-    ∙ ap (λ o. finish_made o (mark_of (mark_word m))) (short_again f h)
+    ap (λ (n : ℕ). finish_made (formula_of wide (take n rest)) (mark_of (word_at rest n))) last.0
+    ∙ ap (λ (x : W). finish_made (formula_of wide x) (mark_of (word_at rest (length (formula_words f))))) last.1
+    ∙ ap (λ (w : List ℕ). finish_made (formula_of wide (formula_words f)) (mark_of w)) last.2
+    ∙ ap (λ o. finish_made o (mark_of (mark_word m))) (read_again wide f h)
     ∙ ap (λ o. finish_made (Some f) o) (mark_again m))
   where
     some : (u : W) → 0 < length (u ++ (mark_word m ∷ []))

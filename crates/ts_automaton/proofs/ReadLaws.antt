@@ -19,7 +19,7 @@ line_read d e (w ∷ ws) h solid =
     let words : Words = record { first = w; more = ws } in
     ap (with_text d) (text_again words) ∙ ap (λ (x : Words). with_words d (all_words x)) (words_again words solid) ∙ h
 
-follows_read : (d e : Prefix) (n : ℕ) (ls : List W) → Follows d ls e → with_lines d n (map words_text ls) ≡ Ok e
+pub follows_read : (d e : Prefix) (n : ℕ) (ls : List W) → Follows d ls e → with_lines d n (map words_text ls) ≡ Ok e
 follows_read d e n [] h = ap (λ (x : Prefix). Ok x) h
 follows_read d e n (l ∷ ls) h =
     ap (λ o. onward n o (λ f. with_lines f (n + 1) (map words_text ls))) (line_read d h.0 l h.1 h.2) ∙ follows_read h.0 e (n + 1) ls h.3
@@ -28,7 +28,7 @@ follows_read d e n (l ∷ ls) h =
 pub text_read : (e : Prefix) → IsPrefix e → with_lines AtHead 1 (map words_text (prefix_words e)) ≡ Ok e
 text_read e is = follows_read AtHead e 1 (prefix_words e) (follow e is)
 
-follows_chunks : (d e : Prefix) (ls : List W) → Follows d ls e → strict_lines (lines_text ls) ≡ map words_text ls
+pub follows_chunks : (d e : Prefix) (ls : List W) → Follows d ls e → strict_lines (lines_text ls) ≡ map words_text ls
 follows_chunks d e [] h = refl
 follows_chunks d e ([] ∷ ls) h = absurd (no_words d h.0 h.1)
 follows_chunks d e ((w ∷ ws) ∷ ls) h =
@@ -170,8 +170,8 @@ written_read b is =
 ended_only : (n : ℕ) (r : Result Prefix ℕ) (b : Sheet) → end_sheet n r ≡ Ok b → r ≡ Ok (Whole b)
 ended_only n (Err k) b h = cc
 ended_only n (Ok AtHead) b h = cc
-ended_only n (Ok (AtStates way states)) b h = cc
-ended_only n (Ok (AtMoves way states start moves)) b h = cc
+ended_only n (Ok (AtStates way wide states)) b h = cc
+ended_only n (Ok (AtMoves way wide states start moves)) b h = cc
 ended_only n (Ok (AtEnd c)) b h = cc
 ended_only n (Ok (Whole c)) b h = let same : c ≡ b = cc in ap (λ (x : Sheet). Ok (Whole x)) same
 
@@ -198,8 +198,8 @@ ended_refused : (texts : List (List ℕ)) (r : Result Prefix ℕ) (k : ℕ) → 
     IsAgainstGrammar texts k
 ended_refused texts (Err j) k e h = let same : j ≡ k = cc in inl (first_bad texts k (e ∙ ap (λ (x : ℕ). Err x) same))
 ended_refused texts (Ok AtHead) k e h = cut_short texts AtHead _ k tt e h refl
-ended_refused texts (Ok (AtStates way states)) k e h = cut_short texts (AtStates way states) _ k tt e h refl
-ended_refused texts (Ok (AtMoves way states start moves)) k e h = cut_short texts (AtMoves way states start moves) _ k tt e h refl
+ended_refused texts (Ok (AtStates way wide states)) k e h = cut_short texts (AtStates way wide states) _ k tt e h refl
+ended_refused texts (Ok (AtMoves way wide states start moves)) k e h = cut_short texts (AtMoves way wide states start moves) _ k tt e h refl
 ended_refused texts (Ok (AtEnd b)) k e h = cut_short texts (AtEnd b) _ k tt e h refl
 ended_refused texts (Ok (Whole b)) k e h = cc
 
@@ -242,8 +242,8 @@ bad_told texts k bad =
 
 open_told : (n : ℕ) (d : Prefix) → IsOpen d → end_sheet n (Ok d) ≡ Err n
 open_told n AtHead h = refl
-open_told n (AtStates way states) h = refl
-open_told n (AtMoves way states start moves) h = refl
+open_told n (AtStates way wide states) h = refl
+open_told n (AtMoves way wide states start moves) h = refl
 open_told n (AtEnd b) h = refl
 open_told n (Whole b) h = absurd h
 

@@ -9,7 +9,7 @@ use Rattle.ts_base.specs.declared.letter.Letter.TheVariants.{Less, Equal, Greate
 use Rattle.ts_automaton.specs.declared.typing.Place.TheVariants.{Start, Moving, Finish}
 use Rattle.ts_automaton.specs.Kinds.{formula_kind}
 use Rattle.ts_automaton.specs.Body.{Node, Body, move_on, node_at, rest_node}
-use Rattle.ts_automaton.specs.Typing.{has_few_states, has_names, has_constants, has_targets, has_short_expressions, is_formed, is_typed, is_automaton, leads_below, moves_from, is_typed_at, is_move_typed, is_finish_typed, is_finish_typed_where_held, reads_registers, kinds_where, kinds_at}
+use Rattle.ts_automaton.specs.Typing.{has_few_states, has_names, has_constants, has_targets, has_expressions, is_formed, is_typed, is_automaton, leads_below, moves_from, is_typed_at, is_move_typed, is_finish_typed, is_finish_typed_where_held, reads_registers, kinds_where, kinds_at}
 
 -- the rules as facts
 pub record Rules (b : Body) : Type 0 where
@@ -21,7 +21,7 @@ pub record Rules (b : Body) : Type 0 where
 pub rules_of : (b : Body) → IsTrue (is_automaton b) → Rules b
 rules_of b h =
     let p = and_parts (is_formed b) (is_typed b) h in
-    let q = and_parts (has_few_states b && has_names b && has_constants b && has_targets b) (has_short_expressions b) p.0 in
+    let q = and_parts (has_few_states b && has_names b && has_constants b && has_targets b) (has_expressions b) p.0 in
     let r = and_parts (has_few_states b && has_names b && has_constants b) (has_targets b) q.0 in
     let s = and_parts (has_few_states b && has_names b) (has_constants b) r.0 in
     let t = and_parts (has_few_states b) (has_names b) s.0 in

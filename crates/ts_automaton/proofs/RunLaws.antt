@@ -1,20 +1,20 @@
 -- Laws of runs over numbers and over spans, for the layers above.
-use Rattle.std.proofs.Common.{◌≡◌, ℕ, true, false, not, cond, ◌&&◌, ℤ, pos, refl, sym, ◌∙◌, ap, subst, inr}
+use Rattle.std.proofs.Common.{◌≡◌, ℕ, true, false, cond, ℤ, pos, refl, sym, ◌∙◌, ap, subst, inr}
 use Rattle.std.specs.Prelude.{IsTrue}
-use Rattle.std.proofs.lemmas.Bool.{and_from}
 use Rattle.ts_base.specs.declared.ext.Ext.{Ext}
 use Rattle.ts_base.specs.declared.ext.Ext.TheVariants.{NegInf, Int as Number, PosInf}
 use Rattle.ts_base.specs.declared.span.Span.{Span}
 use Rattle.ts_base.specs.Numbers.{ext_le, ext_max, ext_min}
-use Rattle.ts_base.specs.Spans.{none_span, one_span, Holds, has_some, end_by_end, span_hull}
+use Rattle.ts_base.specs.Spans.{none_span, one_span, Holds, span_hull}
 use Rattle.ts_base.proofs.Order.{le_trans, max_right, min_left}
-use Rattle.ts_base.proofs.SpanLaws.{holds_some, holds_one, one_some, lifted_holds, lifted_one, hull_left, hull_right}
+use Rattle.ts_base.proofs.SpanLaws.{holds_some, holds_one, one_some, hull_left, hull_right}
 use Rattle.ts_base.specs.Signature.{letter_of}
 use Rattle.ts_automaton.specs.declared.kind.RegKind.{RegKind}
 use Rattle.ts_automaton.specs.declared.state.Mark.{Mark}
 use Rattle.ts_automaton.specs.declared.state.Mark.TheVariants.{Same, Zero, Cells}
+use Rattle.ts_automaton.specs.Differences.{span_op}
 use Rattle.ts_automaton.specs.Formula.{Formula}
-use Rattle.ts_automaton.specs.Registers.{EachOf, each, Each, numbers, spans, ext_op, value_in}
+use Rattle.ts_automaton.specs.Registers.{EachOf, each, Each, numbers, spans, value_in}
 use Rattle.ts_automaton.specs.Kinds.{HasKind, SpanHasKind, Fits}
 use Rattle.ts_automaton.specs.Body.{Body, Move}
 use Rattle.ts_automaton.specs.Typing.{kinds_at}
@@ -22,24 +22,31 @@ use Rattle.ts_automaton.specs.AutomatonRun.{Standing, Stands, registers_after, f
 use Rattle.ts_automaton.specs.SpanRun.{none_hull, has_registers, one_hull, HoldsRegs, HullStands, moved_hull, marked_span}
 use Rattle.ts_automaton.specs.Laws.{StepsHold, FinishesHold, MarksHold, StepsStaySingle, FinishesStaySingle, NonesStay, KindsAreKept, OperandsFit}
 use Rattle.ts_automaton.proofs.Evaluation.{value_related}
-use Rattle.ts_automaton.proofs.KindLaws.{op_mono, numbers_typed}
+use Rattle.ts_automaton.proofs.Five.{some_registers}
+use Rattle.ts_automaton.proofs.OperatorLaws.{op_holds, op_one}
+use Rattle.ts_automaton.proofs.KindLaws.{numbers_typed}
 use Rattle.ts_automaton.proofs.StepLaws.{start_stands, stands_after, hull_stands_after, move_takes, finish_takes, hull_takes, hull_finish_takes}
 
 -- the span of an expression holds its value
 pub value_holds : (f : Formula) (s : EachOf Ext) (h : EachOf Span) (x y : ℤ) → HoldsRegs h s → Holds (value_in spans h x y f) (value_in numbers s x y f)
 value_holds f s h x y k =
-    value_related numbers spans (λ e t. Holds t e) holds_one (λ o a a' t t' p q. lifted_holds (ext_op o) (op_mono o) t t' a a' p q) f s h x y x y
-    (holds_one (Number x)) (holds_one (Number y)) (k.0, k.1, k.2)
+    value_related numbers spans (λ e t. Holds t e) holds_one (λ o a a' t t' p q. op_holds o t t' a a' p q) f s h x y x y
+    (holds_one (Number x)) (holds_one (Number y)) (k.0, k.1, k.2, k.3, k.4)
 
 pub holds_registers : (h : EachOf Span) (s : EachOf Ext) → HoldsRegs h s → has_registers h ≡ true
 holds_registers h s k =
-    and_from (has_some h.c && has_some h.d) (has_some h.r) (and_from (has_some h.c) (has_some h.d) (holds_some h.c s.c k.0) (holds_some h.d s.d k.1))
-    (holds_some h.r s.r k.2)
+    some_registers h
+    (holds_some h.c s.c k.0, holds_some h.e s.e k.1, holds_some h.d s.d k.2, holds_some h.f s.f k.3, holds_some h.r s.r k.4)
 
 moved_holds : (m : Move) (s : EachOf Ext) (h : EachOf Span) (x y : ℤ) → HoldsRegs h s → HoldsRegs (moved_hull h x y m) (registers_after numbers s x y m)
 moved_holds m s h x y k =
-    subst (λ v. HoldsRegs (cond v (registers_after spans h x y m) none_hull) (registers_after numbers s x y m)) (sym (holds_registers h s k))
-    (value_holds m.to.c s h x y k, value_holds m.to.d s h x y k, value_holds m.to.r s h x y k)
+    subst (λ v. HoldsRegs (cond v (registers_after spans h x y m) none_hull) (registers_after numbers s x y m)) (sym (holds_registers h s k)) (
+      value_holds m.to.c s h x y k,
+      value_holds m.to.e s h x y k,
+      value_holds m.to.d s h x y k,
+      value_holds m.to.f s h x y k,
+      value_holds m.to.r s h x y k,
+    )
 
 pub steps_hold : StepsHold
 steps_hold b q s h x y k = (refl, moved_holds (move_between b q x y) s h x y k)
@@ -53,20 +60,24 @@ finishes_hold b s h k =
 pub value_single : (f : Formula) (s : EachOf Ext) (x y : ℤ) → value_in spans (one_hull s) x y f ≡ one_span (value_in numbers s x y f)
 value_single f s x y =
     value_related numbers spans (λ e t. t ≡ one_span e) (λ e. refl)
-    (λ o a a' t t' p q. ap (λ z. end_by_end (ext_op o) z t') p ∙ ap (end_by_end (ext_op o) (one_span a)) q ∙ lifted_one (ext_op o) a a')
-    f s (one_hull s) x y x y refl refl (refl, refl, refl)
+    (λ o a a' t t' p q. ap (λ z. span_op o z t') p ∙ ap (span_op o (one_span a)) q ∙ op_one o a a')
+    f s (one_hull s) x y x y refl refl (refl, refl, refl, refl, refl)
 
 pub one_registers : (s : EachOf Ext) → has_registers (one_hull s) ≡ true
-one_registers s = holds_registers (one_hull s) s (holds_one s.c, holds_one s.d, holds_one s.r)
+one_registers s = holds_registers (one_hull s) s (holds_one s.c, holds_one s.e, holds_one s.d, holds_one s.f, holds_one s.r)
 
-each_same : (c d r c' d' r' : Span) → c ≡ c' → d ≡ d' → r ≡ r' → each c d r ≡ each c' d' r'
-each_same c d r c' d' r' p q t = ap (λ z. each z d r) p ∙ ap (λ z. each c' z r) q ∙ ap (each c' d') t
+each_same : (s t : EachOf Span) → s.c ≡ t.c → s.e ≡ t.e → s.d ≡ t.d → s.f ≡ t.f → s.r ≡ t.r → s ≡ t
+each_same s t p q u v w =
+    ap (λ z. each z s.e s.d s.f s.r) p ∙ ap (λ z. each t.c z s.d s.f s.r) q ∙ ap (λ z. each t.c t.e z s.f s.r) u ∙ ap (λ z. each t.c t.e t.d z s.r) v
+    ∙ ap (each t.c t.e t.d t.f) w
 
 pub steps_stay_single : StepsStaySingle
 steps_stay_single b q s x y =
     let m = move_between b q x y in
     ap (λ v. record { state = m.next; regs = cond v (registers_after spans (one_hull s) x y m) none_hull }) (one_registers s)
-    ∙ ap (λ g. record { state = m.next; regs = g }) (each_same _ _ _ _ _ _ (value_single m.to.c s x y) (value_single m.to.d s x y) (value_single m.to.r s x y))
+    ∙ ap (λ g. record { state = m.next; regs = g })
+    (each_same (registers_after spans (one_hull s) x y m) (one_hull (registers_after numbers s x y m)) (value_single m.to.c s x y)
+    (value_single m.to.e s x y) (value_single m.to.d s x y) (value_single m.to.f s x y) (value_single m.to.r s x y))
 
 hull_single : (e : Ext) → span_hull (one_span e) (one_span e) ≡ one_span e
 hull_single e =
@@ -89,7 +100,13 @@ nones_stay b q h e = (
 )
 
 one_kinds : (k : EachOf RegKind) (s : EachOf Ext) → Each HasKind k s → Each SpanHasKind k (one_hull s)
-one_kinds k s h = ((one_some s.c, h.0, h.0), (one_some s.d, h.1, h.1), (one_some s.r, h.2, h.2))
+one_kinds k s h = (
+  (one_some s.c, h.0, h.0),
+  (one_some s.e, h.1, h.1),
+  (one_some s.d, h.2, h.2),
+  (one_some s.f, h.3, h.3),
+  (one_some s.r, h.4, h.4),
+)
 
 pub single_stands : (b : Body) (s : Standing Ext) → Stands b s → HullStands b (record { state = s.state; regs = one_hull s.regs })
 single_stands b s h = record { exists = h.exists; kinds = inr (one_kinds (kinds_at b s.state) s.regs h.kinds) }
@@ -107,7 +124,7 @@ operands_fit b a = record {
   step = λ s h x y. move_takes numbers HasKind Fits numbers_typed b a s.state (letter_of x y) h.exists s.regs h.kinds (move_between b s.state x y) refl x y;
   finish = λ s h. finish_takes numbers HasKind Fits numbers_typed b a s.state s.regs h.kinds b.finish refl;
   span_step = λ s h t x y. hull_takes b a s h (letter_of x y) (move_between b s.state x y) refl x y t;
-  finish_span = λ s h t. hull_finish_takes b a s h false (sym (ap not t)) refl b.finish refl;
+  finish_span = λ s h t. hull_finish_takes b a s h t b.finish refl;
 }
 
 -- marks

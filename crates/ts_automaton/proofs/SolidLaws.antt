@@ -13,17 +13,19 @@ use Rattle.ts_automaton.specs.declared.draft.StateLine.{StateLine}
 use Rattle.ts_automaton.specs.declared.state.Mark.{Mark}
 use Rattle.ts_automaton.specs.declared.state.Mark.TheVariants.{Same, Zero as ZeroMark, Cells}
 use Rattle.ts_automaton.specs.declared.expr.Atom.{Atom}
-use Rattle.ts_automaton.specs.declared.expr.Atom.TheVariants.{C as AtomC, D as AtomD, R as AtomR, This as AtomThis, Next as AtomNext, Zero as AtomZero, Unit as AtomUnit, NegInf as AtomNegInf, PosInf as AtomPosInf}
-use Rattle.ts_base.specs.declared.op.Op.{Op}
+use Rattle.ts_automaton.specs.declared.expr.Atom.TheVariants.{C as AtomC, E as AtomE, D as AtomD, F as AtomF, R as AtomR, This as AtomThis, Next as AtomNext, Zero as AtomZero, Unit as AtomUnit, NegInf as AtomNegInf, PosInf as AtomPosInf}
+use Rattle.ts_automaton.specs.declared.expr.Operator.{Operator}
+use Rattle.ts_automaton.specs.declared.expr.Operator.TheVariants.{Fold, Sub}
 use Rattle.ts_base.specs.declared.op.Op.TheVariants.{Add as OpAdd, Max as OpMax, Min as OpMin}
 use Rattle.ts_automaton.specs.Formula.{Formula, Leaf, Join}
-use Rattle.ts_automaton.specs.Registers.{EachOf}
+use Rattle.ts_automaton.specs.Registers.{EachOf, rests}
 use Rattle.ts_automaton.specs.Body.{Move}
-use Rattle.ts_automaton.specs.Typing.{each_is, is_name, is_constant}
+use Rattle.ts_automaton.specs.Typing.{each_is, is_name, is_constant, is_number_zero, are_constants}
 use Rattle.ts_automaton.specs.FormulaText.{atom_word, op_word, formula_words}
-use Rattle.ts_automaton.specs.AutomatonText.{name_at, way_word, held_word, mark_word, sign_word, semi, state_words, constant_word, start_words, three_words, move_words, finish_words}
+use Rattle.ts_automaton.specs.AutomatonText.{name_at, head_words, held_word, mark_word, sign_word, semi, state_words, constant_word, constant_words, start_words, each_words, behind_semi, move_words, finish_words}
 use Rattle.ts_base.specs.Words.{is_space, is_lf}
-use Rattle.ts_automaton.proofs.LineLaws.{W, three_parts, constants_four}
+use Rattle.ts_automaton.proofs.Five.{five_parts}
+use Rattle.ts_automaton.proofs.LineLaws.{W, constants_four}
 
 letter_inner : (b : ℕ) → is_name b ≡ true → is_inner b ≡ true
 unfolding is_space is_lf
@@ -43,7 +45,9 @@ letter_solid b h = both_true {t = true} (letter_inner b h) refl
 atom_solid : (a : Atom) → is_solid (atom_word a) ≡ true
 unfolding is_space is_lf
 atom_solid AtomC = refl
+atom_solid AtomE = refl
 atom_solid AtomD = refl
+atom_solid AtomF = refl
 atom_solid AtomR = refl
 atom_solid AtomThis = refl
 atom_solid AtomNext = refl
@@ -52,11 +56,12 @@ atom_solid AtomUnit = refl
 atom_solid AtomNegInf = refl
 atom_solid AtomPosInf = refl
 
-op_solid : (o : Op) → is_solid (op_word o) ≡ true
+op_solid : (o : Operator) → is_solid (op_word o) ≡ true
 unfolding is_space is_lf
-op_solid OpAdd = refl
-op_solid OpMax = refl
-op_solid OpMin = refl
+op_solid (Fold OpAdd) = refl
+op_solid (Fold OpMax) = refl
+op_solid (Fold OpMin) = refl
+op_solid Sub = refl
 
 solid_append : (xs ys : W) → AreSolid xs → AreSolid ys → AreSolid (xs ++ ys)
 solid_append [] ys h k = k
@@ -66,10 +71,23 @@ formula_solid : (f : Formula) → AreSolid (formula_words f)
 formula_solid (Leaf a) = (atom_solid a, tt)
 formula_solid (Join o f g) = (op_solid o, solid_append (formula_words f) (formula_words g) (formula_solid f) (formula_solid g))
 
-pub way_solid : (w : Way) → AreSolid (way_word w ∷ [])
+-- the words of each register of a width
+each_solid : {A : Type 0} (words : A → W) (wide : Bool) (a : EachOf A) → AreSolid (words a.c) → AreSolid (words a.e) → AreSolid (words a.d) →
+    AreSolid (words a.f) → AreSolid (words a.r) → AreSolid (each_words words wide a)
+each_solid words false a c e d f r =
+    solid_append (words a.c) (words a.d ++ (words a.r ++ [])) c (solid_append (words a.d) (words a.r ++ []) d (solid_append (words a.r) [] r tt))
+each_solid words true a c e d f r =
+    solid_append (words a.c) (words a.e ++ (words a.d ++ (words a.f ++ (words a.r ++ [])))) c
+    (solid_append (words a.e) (words a.d ++ (words a.f ++ (words a.r ++ []))) e
+    (solid_append (words a.d) (words a.f ++ (words a.r ++ [])) d
+    (solid_append (words a.f) (words a.r ++ []) f (solid_append (words a.r) [] r tt))))
+
+pub head_solid : (way : Way) (wide : Bool) → AreSolid (head_words way wide)
 unfolding is_space is_lf
-way_solid Forward = (refl, tt)
-way_solid Reverse = (refl, tt)
+head_solid Forward false = (refl, tt)
+head_solid Reverse false = (refl, tt)
+head_solid Forward true = (refl, (refl, tt))
+head_solid Reverse true = (refl, (refl, tt))
 
 held_solid : (h : Bool) → is_solid (held_word h) ≡ true
 unfolding is_space is_lf
@@ -106,24 +124,29 @@ constant_solid : (e : Ext) → is_constant e ≡ true → is_solid (constant_wor
 unfolding is_space is_lf
 constant_solid e h = constants_four (λ (x : Ext). is_solid (constant_word x) ≡ true) refl refl refl refl e h
 
-pub start_solid : (r : EachOf Ext) → each_is is_constant r ≡ true → AreSolid (start_words r)
-start_solid r h =
-    let all = three_parts (is_constant r.c) (is_constant r.d) (is_constant r.r) h in
-    (word_solid.1, (constant_solid r.c all.0, (constant_solid r.d all.1, (constant_solid r.r all.2, tt))))
+pub start_solid : (wide : Bool) (r : EachOf Ext) → are_constants wide r ≡ true → AreSolid (start_words wide r)
+start_solid wide r h =
+    let p = and_parts (each_is is_constant r) (rests is_number_zero wide r) h in
+    let all = five_parts (is_constant r.c) (is_constant r.e) (is_constant r.d) (is_constant r.f) (is_constant r.r) p.0 in (
+      word_solid.1,
+      each_solid constant_words wide r (constant_solid r.c all.0, tt) (constant_solid r.e all.1, tt) (constant_solid r.d all.2, tt)
+          (constant_solid r.f all.3, tt) (constant_solid r.r all.4, tt),
+    )
 
-three_solid : (to : EachOf Formula) → AreSolid (three_words to)
-three_solid to =
-    let last : AreSolid (semi ∷ formula_words to.r) = (word_solid.3, formula_solid to.r) in
-    let second = solid_append (formula_words to.d) (semi ∷ formula_words to.r) (formula_solid to.d) last in
-    let rest : AreSolid (semi ∷ (formula_words to.d ++ (semi ∷ formula_words to.r))) = (word_solid.3, second) in
-    solid_append (formula_words to.c) (semi ∷ (formula_words to.d ++ (semi ∷ formula_words to.r))) (formula_solid to.c) rest
+behind_semi_solid : (f : Formula) → AreSolid (behind_semi f)
+behind_semi_solid f = (word_solid.3, formula_solid f)
 
-pub move_solid : (states : List StateLine) (k : ℕ) (t : Move) → is_name (name_at states (k / 3)) ≡ true → is_name (name_at states t.next) ≡ true →
-    AreSolid (move_words states k t)
-move_solid states k t h e =
+expressions_solid : (wide : Bool) (to : EachOf Formula) → AreSolid (each_words behind_semi wide to)
+expressions_solid wide to =
+    each_solid behind_semi wide to (behind_semi_solid to.c) (behind_semi_solid to.e) (behind_semi_solid to.d) (behind_semi_solid to.f)
+    (behind_semi_solid to.r)
+
+pub move_solid : (wide : Bool) (states : List StateLine) (k : ℕ) (t : Move) → is_name (name_at states (k / 3)) ≡ true →
+    is_name (name_at states t.next) ≡ true → AreSolid (move_words wide states k t)
+move_solid wide states k t h e =
     let from = letter_solid (name_at states (k / 3)) h in
     let to = letter_solid (name_at states t.next) e in
-    (word_solid.2, (from, (sign_solid (k % 3), (to, (word_solid.3, three_solid t.to)))))
+    (word_solid.2, (from, (sign_solid (k % 3), (to, expressions_solid wide t.to))))
 
 pub finish_solid : (f : Formula) (m : Mark) → AreSolid (finish_words f m)
 finish_solid f m = (last_solid.0, solid_append (formula_words f) (mark_word m ∷ []) (formula_solid f) (mark_solid m, tt))

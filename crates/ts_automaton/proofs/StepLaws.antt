@@ -1,12 +1,12 @@
 -- In an automaton each operator meets operands that it takes, and a move gives the registers the kinds of the state that it reaches.
-use Rattle.std.proofs.Common.{◌≡◌, ◌<◌, ℕ, Bool, true, false, not, cond, ℤ, length, inl, inr, refl, sym, ◌∙◌, subst, arith}
+use Rattle.std.proofs.Common.{◌≡◌, ◌<◌, ℕ, Bool, true, false, cond, ℤ, length, inl, inr, refl, sym, subst, arith}
 use Rattle.std.specs.Prelude.{IsTrue, is_some, pos, Option, None, Some}
-use Rattle.std.proofs.lemmas.Bool.{and_parts, not-false, both_ways}
+use Rattle.std.proofs.lemmas.Bool.{both_ways}
 use Rattle.ts_base.specs.declared.ext.Ext.{Ext}
 use Rattle.ts_base.specs.declared.span.Span.{Span}
 use Rattle.ts_base.specs.declared.letter.Letter.{Letter}
 use Rattle.ts_automaton.specs.declared.kind.RegKind.{RegKind}
-use Rattle.ts_base.specs.declared.op.Op.{Op}
+use Rattle.ts_automaton.specs.declared.expr.Operator.{Operator}
 use Rattle.ts_automaton.specs.Formula.{Formula}
 use Rattle.ts_automaton.specs.Registers.{EachOf, Each, Values, numbers, spans, value_in, Takes, TakesAll}
 use Rattle.ts_automaton.specs.Kinds.{kind_of, HasKind, SpanHasKind, Fits, SpansFit, formula_kind}
@@ -18,12 +18,13 @@ use Rattle.ts_automaton.proofs.Evaluation.{HasIfSome, value_has, takes_typed}
 use Rattle.ts_automaton.proofs.KindLaws.{TypedValues, numbers_typed, spans_typed}
 use Rattle.ts_automaton.proofs.Rules.{rules_of, target_exists, move_typed, finish_typed, starts_free}
 use Rattle.ts_automaton.proofs.Tables.{within_refl}
+use Rattle.ts_automaton.proofs.Five.{five_parts, none_registers}
 
 fitted : (u : Option RegKind) (k : RegKind) → IsTrue (fits_kind u k) → IsTrue (is_some u)
 fitted None k h = h
 fitted (Some j) k h = refl
 
-module _ {A : Type 0} (m : Values A) (Has : RegKind → A → Type 0) (P : Op → A → A → Type 0) (t : TypedValues m Has P) where
+module _ {A : Type 0} (m : Values A) (Has : RegKind → A → Type 0) (P : Operator → A → A → Type 0) (t : TypedValues m Has P) where
   within : (u : Option RegKind) (k : RegKind) (a : A) → IsTrue (fits_kind u k) → HasIfSome m Has P t.constant t.taken t.made a u → Has k a
   within None k a h g = cc
   within (Some j) k a h g = t.widened j k a h g
@@ -40,16 +41,14 @@ module _ {A : Type 0} (m : Values A) (Has : RegKind → A → Type 0) (P : Op �
   pub move_takes : (b : Body) → IsTrue (is_automaton b) → (q : ℕ) (l : Letter) → q < length b.states → (s : EachOf A) → Each Has (kinds_at b q) s →
       (u : Move) → u ≡ move_on l (node_at b.states q) → (x y : ℤ) → TakesAll P m s x y u.to
   move_takes b r q l h s k u e x y =
-      let v = and_parts _ _ (subst (λ w. IsTrue (is_move_typed b q w)) (sym e) (move_typed b (rules_of b r) q l h)) in
-      let w = and_parts _ _ v.0 in
-      (takes_one _ _ _ s x y k w.0, takes_one _ _ _ s x y k w.1, takes_one _ _ _ s x y k v.1)
+      let w = five_parts _ _ _ _ _ (subst (λ w. IsTrue (is_move_typed b q w)) (sym e) (move_typed b (rules_of b r) q l h)) in
+      (takes_one u.to.c _ _ s x y k w.0, takes_one u.to.e _ _ s x y k w.1, takes_one u.to.d _ _ s x y k w.2, takes_one u.to.f _ _ s x y k w.3, takes_one u.to.r _ _ s x y k w.4)
 
   pub move_keeps : (b : Body) → IsTrue (is_automaton b) → (q : ℕ) (l : Letter) → q < length b.states → (s : EachOf A) → Each Has (kinds_at b q) s →
       (u : Move) → u ≡ move_on l (node_at b.states q) → (x y : ℤ) → Each Has (kinds_at b u.next) (registers_after m s x y u)
   move_keeps b r q l h s k u e x y =
-      let v = and_parts _ _ (subst (λ w. IsTrue (is_move_typed b q w)) (sym e) (move_typed b (rules_of b r) q l h)) in
-      let w = and_parts _ _ v.0 in
-      (has_one _ _ _ s x y k w.0, has_one _ _ _ s x y k w.1, has_one _ _ _ s x y k v.1)
+      let w = five_parts _ _ _ _ _ (subst (λ w. IsTrue (is_move_typed b q w)) (sym e) (move_typed b (rules_of b r) q l h)) in
+      (has_one u.to.c _ _ s x y k w.0, has_one u.to.e _ _ s x y k w.1, has_one u.to.d _ _ s x y k w.2, has_one u.to.f _ _ s x y k w.3, has_one u.to.r _ _ s x y k w.4)
 
   pub finish_takes : (b : Body) → IsTrue (is_automaton b) → (q : ℕ) (s : EachOf A) → Each Has (kinds_at b q) s → (f : Formula) → f ≡ b.finish →
       Takes P m s (pos 0) (pos 0) f
@@ -80,11 +79,10 @@ pub hull_takes : (b : Body) → IsTrue (is_automaton b) → (s : Standing Span) 
 hull_takes b a s h l u e x y t =
     move_takes spans SpanHasKind SpansFit spans_typed b a s.state l h.exists s.regs (spans_have (kinds_at b s.state) s.regs h.kinds t) u e x y
 
-pub hull_finish_takes : (b : Body) → IsTrue (is_automaton b) → (s : Standing Span) → HullStands b s → (v : Bool) → v ≡ not (has_registers s.regs) → v ≡ false →
+pub hull_finish_takes : (b : Body) → IsTrue (is_automaton b) → (s : Standing Span) → HullStands b s → IsTrue (has_registers s.regs) →
     (f : Formula) → f ≡ b.finish → Takes SpansFit spans s.regs (pos 0) (pos 0) f
-hull_finish_takes b a s h v e i f g =
-    finish_takes spans SpanHasKind SpansFit spans_typed b a s.state s.regs
-    (spans_have (kinds_at b s.state) s.regs h.kinds (not-false (has_registers s.regs) (sym e ∙ i))) f g
+hull_finish_takes b a s h t f g =
+    finish_takes spans SpanHasKind SpansFit spans_typed b a s.state s.regs (spans_have (kinds_at b s.state) s.regs h.kinds t) f g
 
 pub hull_stands_after : (b : Body) → IsTrue (is_automaton b) → (s : Standing Span) → HullStands b s → (l : Letter) (u : Move) →
     u ≡ move_on l (node_at b.states s.state) →
@@ -95,7 +93,7 @@ hull_stands_after b a s h l u e x y r i = record {
 }
   where
     go : (v : Bool) → has_registers s.regs ≡ v → HullHasKinds (kinds_at b u.next) (cond v (registers_after spans s.regs x y u) none_hull)
-    go false t = inl refl
+    go false t = inl none_registers
     go true t = inr (move_keeps spans SpanHasKind SpansFit spans_typed b a s.state l h.exists s.regs (spans_have (kinds_at b s.state) s.regs h.kinds t) u e x y)
 
 -- the start constants have the kinds of a free state
@@ -105,6 +103,11 @@ start_stands b a =
     record {
       exists = omega (arith, r.some);
       kinds =
-          subst (λ v. Each HasKind (kinds_where b v) b.start) (sym (starts_free b r))
-          (within_refl (kind_of b.start.c), within_refl (kind_of b.start.d), within_refl (kind_of b.start.r));
+          subst (λ v. Each HasKind (kinds_where b v) b.start) (sym (starts_free b r)) (
+            within_refl (kind_of b.start.c),
+            within_refl (kind_of b.start.e),
+            within_refl (kind_of b.start.d),
+            within_refl (kind_of b.start.f),
+            within_refl (kind_of b.start.r),
+          );
     }

@@ -1,5 +1,5 @@
 -- What a text is read as is determined, and is the automaton whose block it is.
-use Rattle.std.proofs.Common.{◌≡◌, ◌≢◌, ℕ, ◌≤◌, ◌*◌, length, map, arith, true, Option, Some, None, List, ◌++◌, refl, sym, ap, subst, ◌∙◌}
+use Rattle.std.proofs.Common.{◌≡◌, ◌≢◌, ℕ, ◌≤◌, ◌*◌, length, map, arith, Bool, true, false, Option, Some, None, List, ◌++◌, refl, sym, ap, subst, ◌∙◌}
 use Rattle.std.specs.Prelude.{Result, Ok, Err, IsTrue, is_none}
 use Rattle.std.specs.Cmp.Derive.{both_true}
 use Rattle.std.proofs.lemmas.Bool.{and_parts}
@@ -20,6 +20,7 @@ use Rattle.ts_automaton.specs.TextReading.{line_at, line_of, Judges, Reads}
 use Rattle.ts_automaton.proofs.Listed.{typed_or_fault}
 use Rattle.ts_automaton.proofs.BodyLaws.{sheet_body, body_again, as_many_lines, formed_sheet, sheet_formed}
 use Rattle.ts_automaton.proofs.ReadLaws.{written_read, read_written, refused, refused_again}
+use Rattle.ts_automaton.proofs.WidthLaws.{widths_differ}
 
 -- the block of an automaton is read as its lines
 block_read : (text : List ℕ) (m : Body) → is_formed m ≡ true → (is : IsBlockOf text m) → sheet_reading text ≡ Ok (sheet_of is.0 m)
@@ -114,13 +115,25 @@ moves_by b moves is e =
 answered : (m : Body) → ◌≢◌ {A = Result Body AutoStop} (Ok m) (Err Memory)
 answered m h = cc
 
-pub written_again : (m : Body) (way : Way) (r : Result Body AutoStop) → IsTrue (is_automaton m) → Reads (head_text way ++ body_text m) r → r ≢ Err Memory →
-    r ≡ Ok m
-written_again m way r rules is more = one_reading (head_text way ++ body_text m) r (Ok m) is (rules, (way, refl)) more (answered m)
+pub written_again : (m : Body) (way : Way) (r : Result Body AutoStop) → IsTrue (is_automaton m) → Reads (head_text way m.wide ++ body_text m) r →
+    r ≢ Err Memory → r ≡ Ok m
+written_again m way r rules is more = one_reading (head_text way m.wide ++ body_text m) r (Ok m) is (rules, (way, refl)) more (answered m)
 
-pub one_automaton : (m n : Body) → IsTrue (is_automaton m) → IsTrue (is_automaton n) → body_text m ≡ body_text n → m ≡ n
-one_automaton m n rules also same =
-    let text = head_text Forward ++ body_text m in
-    let second : Reads text (Ok n) = (also, (Forward, ap (λ (t : List ℕ). head_text Forward ++ t) same)) in
+of_one_width : (m n : Body) → IsTrue (is_automaton m) → IsTrue (is_automaton n) → m.wide ≡ n.wide → body_text m ≡ body_text n → m ≡ n
+of_one_width m n rules also width same =
+    let text = head_text Forward m.wide ++ body_text m in
+    let block = ap (λ (w : Bool). head_text Forward w ++ body_text m) width ∙ ap (λ (t : List ℕ). head_text Forward n.wide ++ t) same in
+    let second : Reads text (Ok n) = (also, (Forward, block)) in
     let are : ◌≡◌ {A = Result Body AutoStop} (Ok m) (Ok n) = one_reading text (Ok m) (Ok n) (rules, (Forward, refl)) second (answered m) (answered n) in
     cc
+
+pub one_automaton : (m n : Body) → IsTrue (is_automaton m) → IsTrue (is_automaton n) → body_text m ≡ body_text n → m ≡ n
+one_automaton m n rules also same = go m.wide n.wide refl refl where
+  formed : (b : Body) → IsTrue (is_automaton b) → is_formed b ≡ true
+  formed b h = (and_parts (is_formed b) (is_typed b) h).0
+
+  go : (v w : Bool) → m.wide ≡ v → n.wide ≡ w → m ≡ n
+  go true true e f = of_one_width m n rules also (e ∙ sym f) same
+  go false false e f = of_one_width m n rules also (e ∙ sym f) same
+  go false true e f = absurd (widths_differ m n (formed m rules) (formed n also) e f same)
+  go true false e f = absurd (widths_differ n m (formed n also) (formed m rules) f e (sym same))

@@ -1,10 +1,11 @@
 -- The lines of a block, written one after the other.
-use Rattle.std.proofs.Common.{◌≡◌, ℕ, zero, suc, ◌+◌, ◌<◌, ◌≤◌, List, [], ◌∷◌, ◌++◌, length, map, get_or, refl, sym, ap, ◌∙◌, append_assoc, append-nil, arith}
+use Rattle.std.proofs.Common.{◌≡◌, ℕ, Bool, true, false, zero, suc, ◌+◌, ◌<◌, ◌≤◌, List, [], ◌∷◌, ◌++◌, length, map, get_or, refl, sym, ap, ◌∙◌, append_assoc, append-nil, arith}
 use Rattle.ts_base.specs.Words.{behind, full_line}
 use Rattle.ts_automaton.specs.declared.draft.StateLine.{StateLine}
 use Rattle.ts_automaton.specs.declared.state.State.{State}
+use Rattle.ts_automaton.specs.Registers.{EachOf}
 use Rattle.ts_automaton.specs.Body.{Node, node_of}
-use Rattle.ts_automaton.specs.AutomatonText.{state_lines, all_moves, name_at, move_words, moves_words, words_text, lines_text}
+use Rattle.ts_automaton.specs.AutomatonText.{state_lines, all_moves, name_at, part_words, each_words, move_words, moves_words, words_text, lines_text}
 use Rattle.ts_automaton.proofs.FrontLaws.{behind-append}
 
 -- the letter of a state
@@ -19,14 +20,29 @@ no_name_there (s ∷ states) zero h = absurd (omega arith)
 no_name_there (s ∷ states) (suc k) h = no_name_there states k (omega arith)
 
 -- words and a line of them
-pub three_behind : (t1 t2 t3 t4 c d r : List ℕ) → t2 ≡ t1 ++ behind (c ∷ []) → t3 ≡ t2 ++ behind (d ∷ []) → t4 ≡ t3 ++ behind (r ∷ []) →
-    t4 ≡ t1 ++ behind (c ∷ d ∷ r ∷ [])
-three_behind t1 t2 t3 t4 c d r f g h =
-    h ∙ ap (λ (t : List ℕ). t ++ behind (r ∷ [])) (g ∙ ap (λ (t : List ℕ). t ++ behind (d ∷ [])) f)
-    ∙ append_assoc (t1 ++ behind (c ∷ [])) (behind (d ∷ [])) (behind (r ∷ []))
-    ∙ ap (λ (t : List ℕ). (t1 ++ behind (c ∷ [])) ++ t) (sym (behind-append (d ∷ []) (r ∷ [])))
-    ∙ append_assoc t1 (behind (c ∷ [])) (behind (d ∷ r ∷ []))
-    ∙ ap (λ (t : List ℕ). t1 ++ t) (sym (behind-append (c ∷ []) (d ∷ r ∷ [])))
+pub each_behind : {A : Type 0} (words : A → List (List ℕ)) (wide : Bool) (a : EachOf A) (old t1 t2 t3 t4 t5 : List ℕ) →
+    t1 ≡ old ++ behind (words a.c) → t2 ≡ t1 ++ behind (part_words words wide a.e) → t3 ≡ t2 ++ behind (words a.d) →
+    t4 ≡ t3 ++ behind (part_words words wide a.f) → t5 ≡ t4 ++ behind (words a.r) → t5 ≡ old ++ behind (each_words words wide a)
+each_behind words wide a old t1 t2 t3 t4 t5 h i j k l =
+    parts (words a.c) (part_words words wide a.e) (words a.d) (part_words words wide a.f) (words a.r) h i j k l
+    ∙ ap (λ (ws : List (List ℕ)). old ++ behind ws) (together wide)
+  where
+    two : (t : List ℕ) (xs ys : List (List ℕ)) (s r : List ℕ) → s ≡ t ++ behind xs → r ≡ s ++ behind ys → r ≡ t ++ behind (xs ++ ys)
+    two t xs ys s r e f =
+        f ∙ ap (λ (v : List ℕ). v ++ behind ys) e ∙ append_assoc t (behind xs) (behind ys) ∙ ap (λ (v : List ℕ). t ++ v) (sym (behind-append xs ys))
+
+    parts : (u v w x y : List (List ℕ)) → t1 ≡ old ++ behind u → t2 ≡ t1 ++ behind v → t3 ≡ t2 ++ behind w → t4 ≡ t3 ++ behind x → t5 ≡ t4 ++ behind y →
+        t5 ≡ old ++ behind (u ++ (v ++ (w ++ (x ++ y))))
+    parts u v w x y h i j k l =
+        let fifth : t5 ≡ t3 ++ behind (x ++ y) = two t3 x y t4 t5 k l in
+        let fourth : t5 ≡ t2 ++ behind (w ++ (x ++ y)) = two t2 w (x ++ y) t3 t5 j fifth in
+        let third : t5 ≡ t1 ++ behind (v ++ (w ++ (x ++ y))) = two t1 v (w ++ (x ++ y)) t2 t5 i fourth in
+        two old u (v ++ (w ++ (x ++ y))) t1 t5 h third
+
+    together : (wide : Bool) →
+        words a.c ++ (part_words words wide a.e ++ (words a.d ++ (part_words words wide a.f ++ words a.r))) ≡ each_words words wide a
+    together false = ap (λ (ws : List (List ℕ)). words a.c ++ (words a.d ++ ws)) (sym (append-nil (words a.r)))
+    together true = ap (λ (ws : List (List ℕ)). words a.c ++ (words a.e ++ (words a.d ++ (words a.f ++ ws)))) (sym (append-nil (words a.r)))
 
 pub line_of_words : (old word : List ℕ) (ws : List (List ℕ)) (t1 t2 t3 : List ℕ) → t1 ≡ old ++ word → t2 ≡ t1 ++ behind ws → t3 ≡ t2 ++ (10 ∷ []) →
     t3 ≡ old ++ full_line (record { first = word; more = ws })
@@ -35,12 +51,13 @@ line_of_words old word ws t1 t2 t3 e f g =
     ∙ append_assoc old (word ++ behind ws) (10 ∷ [])
 
 -- moves
-pub three_lines : (names : List StateLine) (k : ℕ) (s : Node) (old t1 t2 t3 : List ℕ) → t1 ≡ old ++ words_text (move_words names k s.less) →
-    t2 ≡ t1 ++ words_text (move_words names (k + 1) s.equal) → t3 ≡ t2 ++ words_text (move_words names (k + 2) s.greater) →
-    t3 ≡ old ++ lines_text (moves_words names k (all_moves (s ∷ [])))
-three_lines names k s old t1 t2 t3 e f g =
-    joins (words_text (move_words names k s.less)) (words_text (move_words names (k + 1) s.equal)) (words_text (move_words names (k + 1 + 1) s.greater)) e f
-    (g ∙ ap (λ (n : ℕ). t2 ++ words_text (move_words names n s.greater)) (place k))
+pub three_lines : (wide : Bool) (names : List StateLine) (k : ℕ) (s : Node) (old t1 t2 t3 : List ℕ) → t1 ≡ old ++ words_text (move_words wide names k s.less) →
+    t2 ≡ t1 ++ words_text (move_words wide names (k + 1) s.equal) → t3 ≡ t2 ++ words_text (move_words wide names (k + 2) s.greater) →
+    t3 ≡ old ++ lines_text (moves_words wide names k (all_moves (s ∷ [])))
+three_lines wide names k s old t1 t2 t3 e f g =
+    joins (words_text (move_words wide names k s.less)) (words_text (move_words wide names (k + 1) s.equal))
+    (words_text (move_words wide names (k + 1 + 1) s.greater)) e f
+    (g ∙ ap (λ (n : ℕ). t2 ++ words_text (move_words wide names n s.greater)) (place k))
   where
     place : (k : ℕ) → k + 2 ≡ k + 1 + 1
     place k = omega arith

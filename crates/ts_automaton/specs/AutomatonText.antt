@@ -1,6 +1,7 @@
 -- The text of an automaton: the words of each line of its block, and the lines in order.
 use Rattle.std.specs.Prelude.{◌≡◌, ℕ, codes, ◌+◌, ◌/◌, ◌%◌, ◌==◌, Bool, true, false, List, [], ◌∷◌, ◌++◌}
 use Rattle.std.specs.Prelude.{pos, map, slice_index_or, if◌then◌else◌}
+use Rattle.std.specs.List.{flat_map}
 use Rattle.std.specs.Ordering.{int_eq}
 use Rattle.ts_automaton.specs.declared.draft.Way.{Way}
 use Rattle.ts_automaton.specs.declared.draft.Way.TheVariants.{Forward, Reverse}
@@ -10,7 +11,7 @@ use Rattle.ts_automaton.specs.declared.state.Mark.TheVariants.{Same, Zero as Zer
 use Rattle.ts_base.specs.declared.ext.Ext.{Ext}
 use Rattle.ts_base.specs.declared.ext.Ext.TheVariants.{NegInf, Int, PosInf}
 use Rattle.ts_base.specs.Words.{full_line}
-use Rattle.ts_automaton.specs.Registers.{EachOf}
+use Rattle.ts_automaton.specs.Registers.{EachOf, in_order}
 use Rattle.ts_automaton.specs.Formula.{Formula}
 use Rattle.ts_automaton.specs.FormulaText.{formula_words}
 use Rattle.ts_automaton.specs.Body.{Move, Node, Body}
@@ -18,6 +19,7 @@ use Rattle.ts_automaton.specs.Body.{Move, Node, Body}
 -- the lines of a block: the moves stand for each state in order, on `<`, `=` and `>`
 pub record Sheet : Type 0 where
   pub way : Way
+  pub wide : Bool
   pub states : List StateLine
   pub start : EachOf Ext
   pub moves : List Move
@@ -38,6 +40,7 @@ all_moves (s ∷ ss) = s.less ∷ s.equal ∷ s.greater ∷ all_moves ss
 abbrev pub sheet_of : Way → Body → Sheet
 sheet_of way m = record {
   way = way;
+  wide = m.wide;
   states = state_lines m.states;
   start = m.start;
   moves = all_moves m.states;
@@ -81,40 +84,55 @@ constant_word NegInf = codes "-inf"
 constant_word (Int n) = if int_eq n (pos 0) then codes "0" else codes "1"
 constant_word PosInf = codes "+inf"
 
-abbrev pub start_words : EachOf Ext → List (List ℕ)
-start_words r = codes "start" ∷ constant_word r.c ∷ constant_word r.d ∷ constant_word r.r ∷ []
+-- those for E or F, which stand where it is of the width
+abbrev pub part_words : {A : Type 0} → (A → List (List ℕ)) → Bool → A → List (List ℕ)
+part_words words false a = []
+part_words words true a = words a
 
--- the expressions of a move, `;` between them
-abbrev pub three_words : EachOf Formula → List (List ℕ)
-three_words t = formula_words t.c ++ (semi ∷ (formula_words t.d ++ (semi ∷ formula_words t.r)))
+-- the words of what there is for each register of a width
+abbrev pub each_words : {A : Type 0} → (A → List (List ℕ)) → Bool → EachOf A → List (List ℕ)
+each_words words wide a = flat_map words (in_order wide a)
+
+abbrev pub constant_words : Ext → List (List ℕ)
+constant_words e = constant_word e ∷ []
+
+abbrev pub start_words : Bool → EachOf Ext → List (List ℕ)
+start_words wide r = codes "start" ∷ each_words constant_words wide r
+
+-- an expression of a move, with the `;` before it
+abbrev pub behind_semi : Formula → List (List ℕ)
+behind_semi f = semi ∷ formula_words f
 
 -- the first words of move k, counted from 0, which leads to the state at place `next`
 abbrev pub turn_words : List StateLine → ℕ → ℕ → List (List ℕ)
 turn_words states k next =
-    (name_at states (k / 3) ∷ []) ∷ sign_word (k % 3) ∷ (name_at states next ∷ []) ∷ semi ∷ []
+    (name_at states (k / 3) ∷ []) ∷ sign_word (k % 3) ∷ (name_at states next ∷ []) ∷ []
 
-abbrev pub move_words : List StateLine → ℕ → Move → List (List ℕ)
-move_words states k t = codes "move" ∷ (turn_words states k t.next ++ three_words t.to)
+abbrev pub move_words : Bool → List StateLine → ℕ → Move → List (List ℕ)
+move_words wide states k t = codes "move" ∷ (turn_words states k t.next ++ each_words behind_semi wide t.to)
 
 abbrev pub finish_words : Formula → Mark → List (List ℕ)
 finish_words f m = codes "finish" ∷ (formula_words f ++ (mark_word m ∷ []))
 
 -- the moves from move k on
-abbrev pub moves_words : List StateLine → ℕ → List Move → List (List (List ℕ))
-moves_words states k [] = []
-moves_words states k (t ∷ ts) = move_words states k t ∷ moves_words states (k + 1) ts
+abbrev pub moves_words : Bool → List StateLine → ℕ → List Move → List (List (List ℕ))
+moves_words wide states k [] = []
+moves_words wide states k (t ∷ ts) = move_words wide states k t ∷ moves_words wide states (k + 1) ts
 
 -- the lines behind the head, up to the moves
-abbrev pub lines_to_moves : List StateLine → EachOf Ext → List Move → List (List (List ℕ))
-lines_to_moves states start moves = map state_words states ++ (start_words start ∷ moves_words states 0 moves)
+abbrev pub lines_to_moves : Bool → List StateLine → EachOf Ext → List Move → List (List (List ℕ))
+lines_to_moves wide states start moves =
+    map state_words states ++ (start_words wide start ∷ moves_words wide states 0 moves)
 
 -- up to the finish line
-abbrev pub lines_to_finish : List StateLine → EachOf Ext → List Move → Formula → Mark → List (List (List ℕ))
-lines_to_finish states start moves finish mark = lines_to_moves states start moves ++ (finish_words finish mark ∷ [])
+abbrev pub lines_to_finish : Bool → List StateLine → EachOf Ext → List Move → Formula → Mark → List (List (List ℕ))
+lines_to_finish wide states start moves finish mark =
+    lines_to_moves wide states start moves ++ (finish_words finish mark ∷ [])
 
 -- and all
-abbrev pub body_lines : List StateLine → EachOf Ext → List Move → Formula → Mark → List (List (List ℕ))
-body_lines states start moves finish mark = lines_to_finish states start moves finish mark ++ ((codes "end" ∷ []) ∷ [])
+abbrev pub body_lines : Bool → List StateLine → EachOf Ext → List Move → Formula → Mark → List (List (List ℕ))
+body_lines wide states start moves finish mark =
+    lines_to_finish wide states start moves finish mark ++ ((codes "end" ∷ []) ∷ [])
 
 -- the text of the words of a line: single spaces between them, and an LF behind
 abbrev pub words_text : List (List ℕ) → List ℕ
@@ -125,13 +143,18 @@ abbrev pub lines_text : List (List (List ℕ)) → List ℕ
 lines_text [] = []
 lines_text (l ∷ ls) = words_text l ++ lines_text ls
 
-abbrev pub head_text : Way → List ℕ
-head_text way = words_text (way_word way ∷ [])
+-- the way, and the width where it is wide
+abbrev pub head_words : Way → Bool → List (List ℕ)
+head_words way false = way_word way ∷ []
+head_words way true = way_word way ∷ codes "wide" ∷ []
+
+abbrev pub head_text : Way → Bool → List ℕ
+head_text way wide = words_text (head_words way wide)
 
 -- the one body of an automaton
 abbrev pub body_text : Body → List ℕ
-body_text m = lines_text (body_lines (state_lines m.states) m.start (all_moves m.states) m.finish m.mark)
+body_text m = lines_text (body_lines m.wide (state_lines m.states) m.start (all_moves m.states) m.finish m.mark)
 
--- the text is the block of this automaton, under either head
+-- the text is the block of this automaton, under the head of either way
 abbrev pub IsBlockOf : List ℕ → Body → Type 0
-IsBlockOf text m = (way : Way) × (text ≡ head_text way ++ body_text m)
+IsBlockOf text m = (way : Way) × (text ≡ head_text way m.wide ++ body_text m)

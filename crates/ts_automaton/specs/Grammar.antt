@@ -7,8 +7,8 @@ use Rattle.ts_automaton.specs.declared.draft.Way.{Way}
 use Rattle.ts_automaton.specs.declared.draft.StateLine.{StateLine}
 use Rattle.ts_automaton.specs.Registers.{EachOf}
 use Rattle.ts_automaton.specs.Body.{Move}
-use Rattle.ts_automaton.specs.Typing.{each_is, is_name, is_constant, is_short}
-use Rattle.ts_automaton.specs.AutomatonText.{Sheet, way_word, state_words, lines_to_moves, lines_to_finish, body_lines, words_text}
+use Rattle.ts_automaton.specs.Typing.{is_name, are_constants, is_expression, are_expressions}
+use Rattle.ts_automaton.specs.AutomatonText.{Sheet, head_words, state_words, lines_to_moves, lines_to_finish, body_lines, words_text}
 
 -- some state has this letter
 abbrev pub is_named : List StateLine → ℕ → Bool
@@ -23,60 +23,60 @@ abbrev pub are_new : List StateLine → List StateLine → Bool
 are_new before [] = true
 are_new before (n ∷ ns) = is_new before n.name && are_new (before ++ n ∷ []) ns
 
--- a move leads to a state, by expressions of at most 15 words
-abbrev pub is_move : List StateLine → Move → Bool
-is_move states t = nat_lt t.next (length states) && each_is is_short t.to
+-- a move leads to a state, by expressions of at most 15 words that a block of this width may have
+abbrev pub is_move : Bool → List StateLine → Move → Bool
+is_move wide states t = nat_lt t.next (length states) && are_expressions wide t.to
 
 -- the state lines, the start line and the moves up to one
-pub record IsFront (states : List StateLine) (start : EachOf Ext) (moves : List Move) : Type 0 where
+pub record IsFront (wide : Bool) (states : List StateLine) (start : EachOf Ext) (moves : List Move) : Type 0 where
   pub some : 0 < length states
   pub few : length states ≤ 8
   pub names : are_new [] states ≡ true
-  pub constants : each_is is_constant start ≡ true
-  pub turns : list_all (is_move states) moves ≡ true
+  pub constants : are_constants wide start ≡ true
+  pub turns : list_all (is_move wide states) moves ≡ true
 
 -- a block in the grammar
 pub record IsSheet (b : Sheet) : Type 0 where
-  pub front : IsFront b.states b.start b.moves
+  pub front : IsFront b.wide b.states b.start b.moves
   pub count : length b.moves ≡ 3 * length b.states
-  pub finish : is_short b.finish ≡ true
+  pub finish : is_expression b.wide b.finish ≡ true
 
 -- the lines of a block up to some line, by what comes next: the head, a state or the start, a move or the finish,
 -- the end, or nothing
 pub data Prefix : Type 0 where
   AtHead : Prefix
-  AtStates : Way → List StateLine → Prefix
-  AtMoves : Way → List StateLine → EachOf Ext → List Move → Prefix
+  AtStates : Way → Bool → List StateLine → Prefix
+  AtMoves : Way → Bool → List StateLine → EachOf Ext → List Move → Prefix
   AtEnd : Sheet → Prefix
   Whole : Sheet → Prefix
 
 -- these lines, from the head on
-abbrev pub front_words : Way → List StateLine → EachOf Ext → List Move → List (List (List ℕ))
-front_words way states start moves = (way_word way ∷ []) ∷ lines_to_moves states start moves
+abbrev pub front_words : Way → Bool → List StateLine → EachOf Ext → List Move → List (List (List ℕ))
+front_words way wide states start moves = head_words way wide ∷ lines_to_moves wide states start moves
 
 abbrev pub open_words : Sheet → List (List (List ℕ))
-open_words b = (way_word b.way ∷ []) ∷ lines_to_finish b.states b.start b.moves b.finish b.mark
+open_words b = head_words b.way b.wide ∷ lines_to_finish b.wide b.states b.start b.moves b.finish b.mark
 
 abbrev pub prefix_words : Prefix → List (List (List ℕ))
 prefix_words AtHead = []
-prefix_words (AtStates way states) = (way_word way ∷ []) ∷ map state_words states
-prefix_words (AtMoves way states start moves) = front_words way states start moves
+prefix_words (AtStates way wide states) = head_words way wide ∷ map state_words states
+prefix_words (AtMoves way wide states start moves) = front_words way wide states start moves
 prefix_words (AtEnd b) = open_words b
-prefix_words (Whole b) = (way_word b.way ∷ []) ∷ body_lines b.states b.start b.moves b.finish b.mark
+prefix_words (Whole b) = head_words b.way b.wide ∷ body_lines b.wide b.states b.start b.moves b.finish b.mark
 
 pub record IsStates (states : List StateLine) : Type 0 where
   pub few : length states ≤ 8
   pub names : are_new [] states ≡ true
 
-pub record IsMoves (states : List StateLine) (start : EachOf Ext) (moves : List Move) : Type 0 where
-  pub front : IsFront states start moves
+pub record IsMoves (wide : Bool) (states : List StateLine) (start : EachOf Ext) (moves : List Move) : Type 0 where
+  pub front : IsFront wide states start moves
   pub count : length moves ≤ 3 * length states
 
 -- these lines are in the grammar
 abbrev pub IsPrefix : Prefix → Type 0
 IsPrefix AtHead = Unit {0}
-IsPrefix (AtStates way states) = IsStates states
-IsPrefix (AtMoves way states start moves) = IsMoves states start moves
+IsPrefix (AtStates way wide states) = IsStates states
+IsPrefix (AtMoves way wide states start moves) = IsMoves wide states start moves
 IsPrefix (AtEnd b) = IsSheet b
 IsPrefix (Whole b) = IsSheet b
 
@@ -93,8 +93,8 @@ pub record IsFirstBad (texts : List (List ℕ)) (number : ℕ) : Type 0 where
 
 abbrev pub IsOpen : Prefix → Type 0
 IsOpen AtHead = Unit {0}
-IsOpen (AtStates way states) = Unit {0}
-IsOpen (AtMoves way states start moves) = Unit {0}
+IsOpen (AtStates way wide states) = Unit {0}
+IsOpen (AtMoves way wide states start moves) = Unit {0}
 IsOpen (AtEnd b) = Unit {0}
 IsOpen (Whole b) = ⊥
 

@@ -7,8 +7,9 @@ use Rattle.ts_base.specs.Spans.{has_some}
 use Rattle.ts_automaton.specs.declared.kind.Kinds.{Kinds}
 use Rattle.ts_automaton.specs.declared.kind.RegKind.{RegKind}
 use Rattle.ts_automaton.specs.declared.kind.RegKind.TheVariants.{Int, Low, High}
-use Rattle.ts_base.specs.declared.op.Op.{Op}
 use Rattle.ts_base.specs.declared.op.Op.TheVariants.{Add, Max, Min}
+use Rattle.ts_automaton.specs.declared.expr.Operator.{Operator}
+use Rattle.ts_automaton.specs.declared.expr.Operator.TheVariants.{Fold, Sub}
 use Rattle.ts_automaton.specs.Formula.{Formula}
 use Rattle.ts_automaton.specs.Registers.{EachOf, each, map_each, Values, value_in}
 
@@ -20,7 +21,7 @@ kind_of PosInf = High
 
 -- what contracts see of the kinds of all registers
 abbrev pub kinds_of : Kinds → EachOf RegKind
-kinds_of k = each k.c k.d k.r
+kinds_of k = each k.c k.e k.d k.f k.r
 
 -- each value of the first kind is one of the second
 abbrev pub is_within : RegKind → RegKind → Bool
@@ -41,20 +42,23 @@ abbrev pub SpanHasKind : RegKind → Span → Type 0
 SpanHasKind k s = IsTrue (has_some s) × HasKind k s.lo × HasKind k s.hi
 
 -- what an operator makes of two kinds; none where it doesn't take them
-abbrev pub op_kind : Op → RegKind → RegKind → Option RegKind
-op_kind Add Int Int = Some Int
-op_kind Max Int Int = Some Int
-op_kind Max Low Int = Some Int
-op_kind Max Int Low = Some Int
-op_kind Max Low Low = Some Low
-op_kind Min Int Int = Some Int
-op_kind Min High Int = Some Int
-op_kind Min Int High = Some Int
-op_kind Min High High = Some High
+abbrev pub op_kind : Operator → RegKind → RegKind → Option RegKind
+op_kind (Fold Add) Int Int = Some Int
+op_kind (Fold Max) Int Int = Some Int
+op_kind (Fold Max) Low Int = Some Int
+op_kind (Fold Max) Int Low = Some Int
+op_kind (Fold Max) Low Low = Some Low
+op_kind (Fold Min) Int Int = Some Int
+op_kind (Fold Min) High Int = Some Int
+op_kind (Fold Min) Int High = Some Int
+op_kind (Fold Min) High High = Some High
+op_kind Sub Int Int = Some Int
+op_kind Sub Low Int = Some Low
+op_kind Sub High Int = Some High
 op_kind o a b = None
 
 -- of expressions that may be against the typing
-abbrev pub join_kind : Op → Option RegKind → Option RegKind → Option RegKind
+abbrev pub join_kind : Operator → Option RegKind → Option RegKind → Option RegKind
 join_kind o None b = None
 join_kind o (Some a) None = None
 join_kind o (Some a) (Some b) = op_kind o a b
@@ -63,12 +67,22 @@ abbrev pub kinds : Values (Option RegKind)
 kinds = record { constant = λ e. Some (kind_of e); join = join_kind }
 
 -- an operator takes two values where it takes their kinds
-abbrev pub Fits : Op → Ext → Ext → Type 0
+abbrev pub Fits : Operator → Ext → Ext → Type 0
 Fits o a b = IsTrue (is_some (op_kind o (kind_of a) (kind_of b)))
 
--- two spans that aren't none, where it takes their lower and their upper ends
-abbrev pub SpansFit : Op → Span → Span → Type 0
-SpansFit o s t = IsTrue (has_some s) × IsTrue (has_some t) × Fits o s.lo t.lo × Fits o s.hi t.hi
+-- the ends of the second span that it joins with the lower and with the upper end of the first
+abbrev pub beside_low : Operator → Span → Ext
+beside_low (Fold o) t = t.lo
+beside_low Sub t = t.hi
+
+abbrev pub beside_high : Operator → Span → Ext
+beside_high (Fold o) t = t.hi
+beside_high Sub t = t.lo
+
+-- two spans that aren't none, where it takes the ends that it joins
+abbrev pub SpansFit : Operator → Span → Span → Type 0
+SpansFit o s t =
+    IsTrue (has_some s) × IsTrue (has_some t) × Fits o s.lo (beside_low o t) × Fits o s.hi (beside_high o t)
 
 -- the kind of an expression where the registers have these kinds; none where it is against the typing
 abbrev pub formula_kind : EachOf RegKind → Formula → Option RegKind

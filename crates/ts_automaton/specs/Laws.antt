@@ -1,6 +1,7 @@
 -- What the layers above know of runs over numbers and over spans.
-use Rattle.std.specs.Prelude.{◌≡◌, ℕ, ℤ, pos, IsTrue, false}
+use Rattle.std.specs.Prelude.{◌≡◌, ◌<◌, ℕ, ℤ, pos, IsTrue, false, length}
 use Rattle.ts_base.specs.declared.ext.Ext.{Ext}
+use Rattle.ts_base.specs.declared.ext.Ext.TheVariants.{Int}
 use Rattle.ts_base.specs.declared.span.Span.{Span}
 use Rattle.ts_base.specs.Spans.{none_span, one_span, Holds}
 use Rattle.ts_automaton.specs.declared.state.Mark.{Mark}
@@ -70,3 +71,21 @@ pub record MeetsOperands (b : Body) : Type 0 where
 
 abbrev pub OperandsFit : Type 0
 OperandsFit = (b : Body) → IsTrue (is_automaton b) → MeetsOperands b
+
+-- E and F are 0, and hold 0 alone
+abbrev pub AreZero : EachOf Ext → Type 0
+AreZero s = (s.e ≡ Int (pos 0)) × (s.f ≡ Int (pos 0))
+
+abbrev pub HoldZero : EachOf Span → Type 0
+HoldZero h = (h.e ≡ one_span (Int (pos 0))) × (h.f ≡ one_span (Int (pos 0)))
+
+-- in a narrow automaton they are 0 at the start and after each step, and hold 0 alone after a step on a hull that isn't
+-- none
+pub record KeepsZero (b : Body) : Type 0 where
+  pub start : AreZero b.start
+  pub step : (s : Standing Ext) → s.state < length b.states → (x y : ℤ) → AreZero (step_of b s x y).regs
+  pub span_step : (s : Standing Span) → s.state < length b.states → IsTrue (has_registers s.regs) → (x y : ℤ) →
+      HoldZero (span_step b s x y).regs
+
+abbrev pub NarrowRests : Type 0
+NarrowRests = (b : Body) → IsTrue (is_automaton b) → b.wide ≡ false → KeepsZero b

@@ -1,4 +1,5 @@
 pub mod Formula
+pub mod Differences
 pub mod Registers
 pub mod Codes
 pub mod Kinds

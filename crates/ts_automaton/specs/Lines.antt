@@ -1,5 +1,5 @@
 -- What the words of a line say where it stands.
-use Rattle.std.specs.Prelude.{ℕ, codes, ◌/◌, ◌%◌, ◌-◌, ◌==◌, pos, Bool, true, false, ◌&&◌, List, [], ◌∷◌, length, take, drop}
+use Rattle.std.specs.Prelude.{ℕ, codes, ◌+◌, ◌*◌, ◌/◌, ◌%◌, ◌-◌, ◌==◌, pos, Bool, true, false, ◌&&◌, List, [], ◌∷◌, length, take, drop}
 use Rattle.std.specs.Prelude.{slice_index_or, if◌then◌else◌, nat_le, Option, Some, None}
 use Rattle.std.specs.List.{position}
 use Rattle.std.specs.Str.{bytes_eq}
@@ -10,7 +10,8 @@ use Rattle.ts_automaton.specs.declared.draft.Way.TheVariants.{Forward, Reverse}
 use Rattle.ts_automaton.specs.declared.draft.StateLine.{StateLine}
 use Rattle.ts_automaton.specs.declared.state.Mark.{Mark}
 use Rattle.ts_automaton.specs.declared.state.Mark.TheVariants.{Same, Zero as ZeroMark, Cells}
-use Rattle.ts_automaton.specs.Formula.{Formula}
+use Rattle.ts_automaton.specs.declared.expr.Atom.TheVariants.{Zero as ZeroAtom}
+use Rattle.ts_automaton.specs.Formula.{Formula, Leaf}
 use Rattle.ts_automaton.specs.Registers.{EachOf, each}
 use Rattle.ts_automaton.specs.FormulaText.{formula_of}
 use Rattle.ts_automaton.specs.Body.{Move}
@@ -27,8 +28,17 @@ way_of w =
     else (if bytes_eq w (codes "reverse") then Some Reverse
     else None)
 
-abbrev pub read_way : List (List ℕ) → Option Way
-read_way ws = if length ws == 1 then way_of (word_at ws 0) else None
+abbrev pub head_made : Bool → Option Way → Option (Way × Bool)
+head_made wide None = None
+head_made wide (Some way) = Some (way, wide)
+
+-- the way that a head names, and whether the block is wide
+abbrev pub read_head : List (List ℕ) → Option (Way × Bool)
+read_head ws =
+    if length ws == 1 then head_made false (way_of (word_at ws 0))
+    else (if length ws == 2
+    then (if bytes_eq (word_at ws 1) (codes "wide") then head_made true (way_of (word_at ws 0)) else None)
+    else None)
 
 abbrev pub held_of : List ℕ → Option Bool
 held_of w =
@@ -69,18 +79,36 @@ constant_of w =
     else None)))
 
 -- one of a thing for each register, where there are all
-abbrev pub all_three : {A : Type 0} → Option A → Option A → Option A → Option (EachOf A)
-all_three None d r = None
-all_three (Some c) None r = None
-all_three (Some c) (Some d) None = None
-all_three (Some c) (Some d) (Some r) = Some (each c d r)
+abbrev pub all_five : {A : Type 0} → Option A → Option A → Option A → Option A → Option A → Option (EachOf A)
+all_five None e d f r = None
+all_five (Some c) None d f r = None
+all_five (Some c) (Some e) None f r = None
+all_five (Some c) (Some e) (Some d) None r = None
+all_five (Some c) (Some e) (Some d) (Some f) None = None
+all_five (Some c) (Some e) (Some d) (Some f) (Some r) = Some (each c e d f r)
 
-abbrev pub read_start : List (List ℕ) → Option (EachOf Ext)
-read_start ws =
-    if length ws == 4
-    then (if bytes_eq (word_at ws 0) (codes "start")
-    then all_three (constant_of (word_at ws 1)) (constant_of (word_at ws 2)) (constant_of (word_at ws 3))
-    else None)
+-- what is read for E or F: it is at rest where it isn't of the width
+abbrev pub extra : {A : Type 0} → Bool → A → Option A → Option A
+extra false rest read = Some rest
+extra true rest read = read
+
+-- how far the words of C, D and R stand apart in a start line: those of E and F stand between them
+abbrev pub stride : Bool → ℕ
+stride false = 1
+stride true = 2
+
+abbrev pub constant_at : List (List ℕ) → ℕ → Option Ext
+constant_at ws k = constant_of (word_at ws k)
+
+abbrev pub constants_of : Bool → List (List ℕ) → Option (EachOf Ext)
+constants_of wide ws =
+    all_five (constant_at ws 1) (extra wide (Int (pos 0)) (constant_at ws 2)) (constant_at ws (1 + stride wide))
+    (extra wide (Int (pos 0)) (constant_at ws 4)) (constant_at ws (1 + 2 * stride wide))
+
+abbrev pub read_start : Bool → List (List ℕ) → Option (EachOf Ext)
+read_start wide ws =
+    if length ws == (2 + 2 * stride wide)
+    then (if bytes_eq (word_at ws 0) (codes "start") then constants_of wide ws else None)
     else None
 
 abbrev pub is_semi : List ℕ → Bool
@@ -108,14 +136,41 @@ move_made None to = None
 move_made (Some n) None = None
 move_made (Some n) (Some to) = Some (record { next = n; to = to })
 
-abbrev pub last_two : List (List ℕ) → Option (List (List ℕ) × List (List ℕ)) → Option (EachOf Formula)
-last_two c None = None
-last_two c (Some p) = all_three (formula_of c) (formula_of p.0) (formula_of p.1)
+-- the words for E or F, and those behind them; none where it isn't of the width
+abbrev pub cut_extra : Bool → List (List ℕ) → Option (List (List ℕ) × List (List ℕ))
+cut_extra false ws = Some ([], ws)
+cut_extra true ws = cut_of ws
 
--- three expressions, `;` between them
-abbrev pub three_of : Option (List (List ℕ) × List (List ℕ)) → Option (EachOf Formula)
-three_of None = None
-three_of (Some p) = last_two p.0 (cut_of p.1)
+-- the words of each expression, `;` between them, from the words of some on
+abbrev pub with_last :
+    List (List ℕ) → List (List ℕ) → List (List ℕ) → Option (List (List ℕ) × List (List ℕ)) →
+    Option (EachOf (List (List ℕ)))
+with_last c e d None = None
+with_last c e d (Some p) = Some (each c e d p.0 p.1)
+
+abbrev pub from_d :
+    Bool → List (List ℕ) → List (List ℕ) → Option (List (List ℕ) × List (List ℕ)) → Option (EachOf (List (List ℕ)))
+from_d wide c e None = None
+from_d wide c e (Some p) = with_last c e p.0 (cut_extra wide p.1)
+
+abbrev pub from_e :
+    Bool → List (List ℕ) → Option (List (List ℕ) × List (List ℕ)) → Option (EachOf (List (List ℕ)))
+from_e wide c None = None
+from_e wide c (Some p) = from_d wide c p.0 (cut_of p.1)
+
+abbrev pub from_c : Bool → Option (List (List ℕ) × List (List ℕ)) → Option (EachOf (List (List ℕ)))
+from_c wide None = None
+from_c wide (Some p) = from_e wide p.0 (cut_extra wide p.1)
+
+abbrev pub pieces_of : Bool → List (List ℕ) → Option (EachOf (List (List ℕ)))
+pieces_of wide ws = from_c wide (cut_of ws)
+
+-- the expressions of these pieces
+abbrev pub formulas_of : Bool → Option (EachOf (List (List ℕ))) → Option (EachOf Formula)
+formulas_of wide None = None
+formulas_of wide (Some p) =
+    all_five (formula_of wide p.c) (extra wide (Leaf ZeroAtom) (formula_of wide p.e)) (formula_of wide p.d)
+    (extra wide (Leaf ZeroAtom) (formula_of wide p.f)) (formula_of wide p.r)
 
 -- the first five words of move k, but the target
 abbrev pub is_move_head : List StateLine → ℕ → List (List ℕ) → Bool
@@ -124,11 +179,11 @@ is_move_head states k ws =
     && (bytes_eq (word_at ws 1) (name_at states (k / 3) ∷ [])
     && (bytes_eq (word_at ws 2) (sign_word (k % 3)) && is_semi (word_at ws 4)))
 
-abbrev pub read_move : List StateLine → ℕ → List (List ℕ) → Option Move
-read_move states k ws =
+abbrev pub read_move : Bool → List StateLine → ℕ → List (List ℕ) → Option Move
+read_move wide states k ws =
     if nat_le 5 (length ws)
     then (if is_move_head states k ws
-    then move_made (place_of states (word_at ws 3)) (three_of (cut_of (drop 5 ws)))
+    then move_made (place_of states (word_at ws 3)) (formulas_of wide (pieces_of wide (drop 5 ws)))
     else None)
     else None
 
@@ -145,13 +200,14 @@ finish_made (Some f) None = None
 finish_made (Some f) (Some m) = Some (f, m)
 
 -- an expression, and the mark as the last word
-abbrev pub expression_and_mark : List (List ℕ) → Option (Formula × Mark)
-expression_and_mark ws = finish_made (formula_of (take (length ws - 1) ws)) (mark_of (word_at ws (length ws - 1)))
+abbrev pub expression_and_mark : Bool → List (List ℕ) → Option (Formula × Mark)
+expression_and_mark wide ws =
+    finish_made (formula_of wide (take (length ws - 1) ws)) (mark_of (word_at ws (length ws - 1)))
 
-abbrev pub read_finish : List (List ℕ) → Option (Formula × Mark)
-read_finish ws =
+abbrev pub read_finish : Bool → List (List ℕ) → Option (Formula × Mark)
+read_finish wide ws =
     if nat_le 2 (length ws)
-    then (if bytes_eq (word_at ws 0) (codes "finish") then expression_and_mark (drop 1 ws) else None)
+    then (if bytes_eq (word_at ws 0) (codes "finish") then expression_and_mark wide (drop 1 ws) else None)
     else None
 
 abbrev pub is_end : List (List ℕ) → Bool

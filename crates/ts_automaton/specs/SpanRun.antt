@@ -14,13 +14,13 @@ use Rattle.ts_automaton.specs.AutomatonRun.{Standing, move_between, registers_af
 
 -- the one form of a hull that holds no registers
 abbrev pub none_hull : EachOf Span
-none_hull = each none_span none_span none_span
+none_hull = each none_span none_span none_span none_span none_span
 
 -- each of its spans holds a number
-abbrev pub has_registers : EachOf Span → Bool
-has_registers h = has_some h.c && has_some h.d && has_some h.r
+unfoldable pub has_registers : EachOf Span → Bool
+has_registers h = has_some h.c && has_some h.e && has_some h.d && has_some h.f && has_some h.r
 
--- the hull of one triple of registers
+-- the hull of one list of registers
 abbrev pub one_hull : EachOf Ext → EachOf Span
 one_hull s = map_each one_span s
 

@@ -7,17 +7,17 @@ use Rattle.ts_base.specs.declared.ext.Ext.TheVariants.{NegInf, Int as Number, Po
 use Rattle.ts_base.specs.declared.letter.Letter.TheVariants.{Less, Equal, Greater}
 use Rattle.ts_automaton.specs.declared.kind.RegKind.{RegKind}
 use Rattle.ts_automaton.specs.declared.kind.RegKind.TheVariants.{Int}
-use Rattle.ts_automaton.specs.declared.expr.Atom.TheVariants.{C, D, R, This, Next, Zero, Unit as UnitAtom, NegInf as LowAtom, PosInf as HighAtom}
+use Rattle.ts_automaton.specs.declared.expr.Atom.TheVariants.{C, E, D, F, R, This, Next, Zero, Unit as UnitAtom, NegInf as LowAtom, PosInf as HighAtom}
 use Rattle.ts_automaton.specs.declared.typing.Place.{Place}
 use Rattle.ts_automaton.specs.declared.typing.Place.TheVariants.{Start, Moving, Finish}
-use Rattle.ts_automaton.specs.Formula.{Formula, Leaf, Join, words_in}
-use Rattle.ts_automaton.specs.Registers.{EachOf, each}
+use Rattle.ts_automaton.specs.Formula.{Formula, Leaf, Join, words_in, is_of, is_zero}
+use Rattle.ts_automaton.specs.Registers.{EachOf, each, rests}
 use Rattle.ts_automaton.specs.Kinds.{kind_of, is_within, formula_kind}
 use Rattle.ts_automaton.specs.Body.{Move, Node, Body, move_on, node_at}
 
 -- a test holds for each register
 abbrev pub each_is : {A : Type 0} → (A → Bool) → EachOf A → Bool
-each_is test a = test a.c && test a.d && test a.r
+each_is test a = test a.c && test a.e && test a.d && test a.f && test a.r
 
 -- there are one to eight states
 abbrev pub has_few_states : Body → Bool
@@ -42,8 +42,17 @@ is_constant NegInf = true
 is_constant (Number x) = int_eq x (pos 0) || int_eq x (pos 1)
 is_constant PosInf = true
 
+abbrev pub is_number_zero : Ext → Bool
+is_number_zero NegInf = false
+is_number_zero (Number x) = int_eq x (pos 0)
+is_number_zero PosInf = false
+
+-- the start constants that an automaton of this width may have: E and F of a narrow one are 0
+abbrev pub are_constants : Bool → EachOf Ext → Bool
+are_constants wide a = each_is is_constant a && rests is_number_zero wide a
+
 abbrev pub has_constants : Body → Bool
-has_constants b = each_is is_constant b.start
+has_constants b = are_constants b.wide b.start
 
 -- a test holds for each move of a state
 abbrev pub each_move_is : (Move → Bool) → Node → Bool
@@ -60,15 +69,25 @@ has_targets b = list_all (leads_below (length b.states)) b.states
 abbrev pub is_short : Formula → Bool
 is_short f = nat_le (words_in f) 15
 
-abbrev pub has_short_moves : Node → Bool
-has_short_moves s = each_move_is (λ m. each_is is_short m.to) s
+-- one that an automaton of this width may have
+abbrev pub is_expression : Bool → Formula → Bool
+is_expression wide f = is_short f && is_of wide f
 
-abbrev pub has_short_expressions : Body → Bool
-has_short_expressions b = list_all has_short_moves b.states && is_short b.finish
+-- those of a move: E and F of a narrow one are 0
+abbrev pub are_expressions : Bool → EachOf Formula → Bool
+are_expressions wide a = each_is (is_expression wide) a && rests is_zero wide a
+
+abbrev pub has_expressions_in : Bool → Node → Bool
+has_expressions_in wide s = each_move_is (λ m. are_expressions wide m.to) s
+
+abbrev pub has_expressions : Body → Bool
+has_expressions b = list_all (has_expressions_in b.wide) b.states && is_expression b.wide b.finish
 
 -- the kinds of the registers: those of the start constants, but for C in a held state, which is a number
 abbrev pub kinds_where : Body → Bool → EachOf RegKind
-kinds_where b held = each (if held then Int else kind_of b.start.c) (kind_of b.start.d) (kind_of b.start.r)
+kinds_where b held =
+    each (if held then Int else kind_of b.start.c) (kind_of b.start.e) (kind_of b.start.d) (kind_of b.start.f)
+    (kind_of b.start.r)
 
 abbrev pub kinds_at : Body → ℕ → EachOf RegKind
 kinds_at b q = kinds_where b (node_at b.states q).held
@@ -81,7 +100,9 @@ fits_kind (Some j) k = is_within j k
 abbrev pub fits_kinds : EachOf RegKind → EachOf Formula → EachOf RegKind → Bool
 fits_kinds old to new =
     fits_kind (formula_kind old to.c) new.c
+    && fits_kind (formula_kind old to.e) new.e
     && fits_kind (formula_kind old to.d) new.d
+    && fits_kind (formula_kind old to.f) new.f
     && fits_kind (formula_kind old to.r) new.r
 
 -- with the kinds of the state that is left, the new values have those of the state that is reached
@@ -91,7 +112,9 @@ is_move_typed b q m = fits_kinds (kinds_at b q) m.to (kinds_at b m.next)
 -- neither the cell nor the next one
 abbrev pub reads_registers : Formula → Bool
 reads_registers (Leaf C) = true
+reads_registers (Leaf E) = true
 reads_registers (Leaf D) = true
+reads_registers (Leaf F) = true
 reads_registers (Leaf R) = true
 reads_registers (Leaf This) = false
 reads_registers (Leaf Next) = false
@@ -137,7 +160,7 @@ typing_fault b = find (λ p. not (is_typed_at b p)) (places b)
 
 -- the parts look as they may, whatever their types
 abbrev pub is_formed : Body → Bool
-is_formed b = has_few_states b && has_names b && has_constants b && has_targets b && has_short_expressions b
+is_formed b = has_few_states b && has_names b && has_constants b && has_targets b && has_expressions b
 
 abbrev pub is_typed : Body → Bool
 is_typed b = list_all (is_typed_at b) (places b)

@@ -14,7 +14,7 @@ use std::marker::Model;
 use ts_base::Letter;
 
 /// One to eight states, of which the first is the start, with the start constants, the finish expression and the mark
-/// of the answer. Every rule on them is kept.
+/// of the answer; narrow, with the registers C, D and R, or wide, with E and F too. Every rule on them is kept.
 #[derive(Drop)]
 pub struct Automaton {
     parts: Parts,
@@ -39,16 +39,24 @@ impl Model for Automaton {
 impl Automaton {
     /// The automaton of these parts. None exactly where a rule is broken: there are one to eight states with
     /// different names, each a letter `a` to `z`; moves lead to states; a start constant is 0, 1, -inf or +inf; an
-    /// expression has at most 15 words; the first state is free; moves and the finish expression are well typed.
-    pub fn new(states: Vec<State>, start: Regs, finish: Expr, mark: Mark) -> Option<Automaton>
-        ensures exactly { IsSome result ↔ IsTrue (is_automaton (body_of states.items start finish mark)) }
-        ensures same { IfSome result (λ m. m ≡ body_of states.items start finish mark) }
+    /// expression has at most 15 words; in a narrow one the start constants of E and F and their expressions are 0, and
+    /// E, F and `Sub` stand nowhere; the first state is free; moves and the finish expression are well typed.
+    pub fn new(
+        states: Vec<State>,
+        start: Regs,
+        finish: Expr,
+        mark: Mark,
+        wide: bool,
+    ) -> Option<Automaton>
+        ensures exactly { IsSome result ↔ IsTrue (is_automaton (body_of states.items start finish mark wide)) }
+        ensures same { IfSome result (λ m. m ≡ body_of states.items start finish mark wide) }
     {
         let parts = Parts {
             states,
             start,
             finish,
             mark,
+            wide,
         };
         if parts.keep_rules() {
             Some(Automaton { parts })
@@ -107,6 +115,13 @@ impl Automaton {
         ensures { result ≡ self.now.mark }
     {
         self.parts.mark
+    }
+
+    /// Whether it has the registers E and F too: what it was made with.
+    pub fn wide(&self) -> bool
+        ensures { result ≡ self.now.wide }
+    {
+        self.parts.wide
     }
 
     /// The start constants.

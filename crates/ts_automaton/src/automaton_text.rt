@@ -18,8 +18,8 @@ use std::alloc::Global;
 use std::collections::VecDeque;
 use ts_base::{Letter, Memory};
 
-/// The automaton of a text, which is its whole block under either head. `Text` tells the first line against the
-/// grammar, and else `Typing` the first line against the typing; lines are counted from 1.
+/// The automaton of a text, which is its whole block; the head says whether it is wide. `Text` tells the first line
+/// against the grammar, and else `Typing` the first line against the typing; lines are counted from 1.
 pub fn read(alloc: Global, text: &[u8]) -> Result<Automaton, AutoStop>
     ensures { Reads text.now result }
 {
@@ -48,6 +48,7 @@ fn parts_in(alloc: Global, block: Block) -> Result<Parts, Memory>
 {
     let Block {
         way: _,
+        wide,
         states: lines,
         start,
         moves,
@@ -60,6 +61,7 @@ fn parts_in(alloc: Global, block: Block) -> Result<Parts, Memory>
         start,
         finish,
         mark,
+        wide,
     })
 }
 

@@ -23,6 +23,7 @@ pub struct StateLine {
 #[derive(Drop)]
 pub(crate) struct Block {
     pub(crate) way: Way,
+    pub(crate) wide: bool,
     pub(crate) states: Vec<StateLine>,
     pub(crate) start: Regs,
     pub(crate) moves: VecDeque<Turn>,
@@ -37,10 +38,12 @@ pub(crate) enum Prefix {
     AtHead,
     AtStates {
         way: Way,
+        wide: bool,
         states: Vec<StateLine>,
     },
     AtMoves {
         way: Way,
+        wide: bool,
         states: Vec<StateLine>,
         start: Regs,
         moves: VecDeque<Turn>,

@@ -3,9 +3,9 @@
 ghost use Rattle.std.specs.Prelude.{◌≡◌, ◌++◌, true, false, Some, None, IfOk, OnOk, option_map};
 ghost use Rattle.ts_base.specs.Words.{behind};
 ghost use Rattle.ts_automaton.specs.Formula.{Leaf, formula};
-ghost use Rattle.ts_automaton.specs.FormulaText.{atom_of, op_of, formula_words, stack_word, only_one, formula_of, texts, stack_seen};
+ghost use Rattle.ts_automaton.specs.FormulaText.{atom_of, op_of, formula_words, stack_word, only_one, any_formula_of, formula_of, texts, stack_seen};
 
-use crate::expr::{Atom, Expr};
+use crate::expr::{Atom, Expr, Operator};
 use std::alloc::Global;
 use ts_base::{Memory, Op};
 
@@ -16,8 +16,12 @@ fn atom_of(word: &[u8]) -> Option<Atom>
 {
     if word == b"C".as_slice() {
         Some(Atom::C)
+    } else if word == b"E".as_slice() {
+        Some(Atom::E)
     } else if word == b"D".as_slice() {
         Some(Atom::D)
+    } else if word == b"F".as_slice() {
+        Some(Atom::F)
     } else if word == b"R".as_slice() {
         Some(Atom::R)
     } else if word == b"x".as_slice() {
@@ -39,15 +43,17 @@ fn atom_of(word: &[u8]) -> Option<Atom>
 
 /// The operator that a word is.
 #[tactic(auto, unfolding(crate::specs::FormulaText::op_of))]
-fn op_of(word: &[u8]) -> Option<Op>
+fn op_of(word: &[u8]) -> Option<Operator>
     ensures { result ≡ op_of word.now }
 {
     if word == b"add".as_slice() {
-        Some(Op::Add)
+        Some(Operator::Fold(Op::Add))
     } else if word == b"max".as_slice() {
-        Some(Op::Max)
+        Some(Operator::Fold(Op::Max))
     } else if word == b"min".as_slice() {
-        Some(Op::Min)
+        Some(Operator::Fold(Op::Min))
+    } else if word == b"sub".as_slice() {
+        Some(Operator::Sub)
     } else {
         None
     }
@@ -59,7 +65,9 @@ fn leaf(atom: Atom) -> Expr
 {
     match atom {
         Atom::C => Expr::C,
+        Atom::E => Expr::E,
         Atom::D => Expr::D,
+        Atom::F => Expr::F,
         Atom::R => Expr::R,
         Atom::This => Expr::This,
         Atom::Next => Expr::Next,
@@ -105,9 +113,19 @@ fn only_one(mut stack: Vec<Expr>) -> Option<Expr>
     }
 }
 
+/// The expression that these words are, if they are one that an automaton of this width may have.
+pub(crate) fn read_expr(alloc: Global, words: &[&[u8]], wide: bool) -> Result<Option<Expr>, Memory>
+    ensures { IfOk result (λ e. option_map formula e ≡ formula_of wide (texts words.now)) }
+{
+    match read_any(alloc, words)? {
+        None => Ok(None),
+        Some(e) => { if e.is_of(wide) { Ok(Some(e)) } else { Ok(None) } }
+    }
+}
+
 /// The expression that these words are, if they are one and at most 15. They are read from the last to the first.
-pub(crate) fn read_expr(alloc: Global, words: &[&[u8]]) -> Result<Option<Expr>, Memory>
-    ensures { IfOk result (λ e. option_map formula e ≡ formula_of (texts words.now)) }
+fn read_any(alloc: Global, words: &[&[u8]]) -> Result<Option<Expr>, Memory>
+    ensures { IfOk result (λ e. option_map formula e ≡ any_formula_of (texts words.now)) }
 {
     if words.len() > 15 {
         return Ok(None);
@@ -129,7 +147,9 @@ pub(crate) fn push_expr(text: &mut Vec<u8>, e: &Expr) -> Result<(), Memory>
 {
     match e {
         Expr::C => text.extend_from_slice(b" C")?,
+        Expr::E => text.extend_from_slice(b" E")?,
         Expr::D => text.extend_from_slice(b" D")?,
+        Expr::F => text.extend_from_slice(b" F")?,
         Expr::R => text.extend_from_slice(b" R")?,
         Expr::This => text.extend_from_slice(b" x")?,
         Expr::Next => text.extend_from_slice(b" y")?,
@@ -139,6 +159,11 @@ pub(crate) fn push_expr(text: &mut Vec<u8>, e: &Expr) -> Result<(), Memory>
         Expr::PosInf => text.extend_from_slice(b" +inf")?,
         Expr::Add(f, g) => {
             text.extend_from_slice(b" add")?;
+            push_expr(text, f)?;
+            push_expr(text, g)?;
+        }
+        Expr::Sub(f, g) => {
+            text.extend_from_slice(b" sub")?;
             push_expr(text, f)?;
             push_expr(text, g)?;
         }

@@ -3,6 +3,7 @@
 ghost use Rattle.std.specs.Prelude.{◌≡◌};
 ghost use Rattle.ts_automaton.specs.Kinds.{is_within, kind_of, op_kind};
 
+use crate::expr::Operator;
 use ts_base::{Ext, Op};
 
 /// What a register or an expression may be: numbers; numbers and -inf; numbers and +inf.
@@ -17,7 +18,9 @@ pub enum RegKind {
 #[derive(Clone, Copy, Debug, PartialEq, Eq)]
 pub(crate) struct Kinds {
     pub(crate) c: RegKind,
+    pub(crate) e: RegKind,
     pub(crate) d: RegKind,
+    pub(crate) f: RegKind,
     pub(crate) r: RegKind,
 }
 
@@ -41,19 +44,19 @@ impl RegKind {
     }
 
     /// The kind of what an operator makes of two kinds. None where it doesn't take them.
-    pub(crate) fn joined(op: Op, a: RegKind, b: RegKind) -> Option<RegKind>
-        ensures { result ≡ op_kind op a b }
+    pub(crate) fn joined(operator: Operator, a: RegKind, b: RegKind) -> Option<RegKind>
+        ensures { result ≡ op_kind operator a b }
     {
-        match (op, a, b) {
+        match (operator, a, b) {
             (_, RegKind::Int, RegKind::Int) => Some(RegKind::Int),
-            (Op::Max, RegKind::Low, RegKind::Low) => Some(RegKind::Low),
-            (Op::Max, RegKind::Int, RegKind::Low) | (Op::Max, RegKind::Low, RegKind::Int) => Some(
-                RegKind::Int,
-            ),
-            (Op::Min, RegKind::High, RegKind::High) => Some(RegKind::High),
-            (Op::Min, RegKind::Int, RegKind::High) | (Op::Min, RegKind::High, RegKind::Int) => Some(
-                RegKind::Int,
-            ),
+            (Operator::Fold(Op::Max), RegKind::Low, RegKind::Low) => Some(RegKind::Low),
+            (Operator::Fold(Op::Max), RegKind::Int, RegKind::Low)
+            | (Operator::Fold(Op::Max), RegKind::Low, RegKind::Int) => Some(RegKind::Int),
+            (Operator::Fold(Op::Min), RegKind::High, RegKind::High) => Some(RegKind::High),
+            (Operator::Fold(Op::Min), RegKind::Int, RegKind::High)
+            | (Operator::Fold(Op::Min), RegKind::High, RegKind::Int) => Some(RegKind::Int),
+            (Operator::Sub, RegKind::Low, RegKind::Int) => Some(RegKind::Low),
+            (Operator::Sub, RegKind::High, RegKind::Int) => Some(RegKind::High),
             _ => None,
         }
     }

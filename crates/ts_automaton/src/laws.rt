@@ -1,6 +1,6 @@
 //! Laws of runs, for the layers above. Each is a statement of `specs/Laws` that the checker has proved.
 
-ghost use Rattle.ts_automaton.specs.Laws.{StepsHold, FinishesHold, MarksHold, StepsStaySingle, FinishesStaySingle, NonesStay, KindsAreKept, OperandsFit};
+ghost use Rattle.ts_automaton.specs.Laws.{StepsHold, FinishesHold, MarksHold, StepsStaySingle, FinishesStaySingle, NonesStay, KindsAreKept, OperandsFit, NarrowRests};
 
 /// A step on a hull holds the steps of all registers in it.
 pub fn steps_hold()
@@ -40,4 +40,9 @@ pub fn kinds_are_kept()
 /// In an automaton no operator meets an operand that it doesn't take.
 pub fn operands_fit()
     ensures { OperandsFit }
+{}
+
+/// In a narrow automaton E and F are 0 in all registers, and hold 0 alone in each hull that isn't none.
+pub fn narrow_rests()
+    ensures { NarrowRests }
 {}

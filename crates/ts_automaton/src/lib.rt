@@ -1,12 +1,13 @@
-//! Automata with three typed registers over a series of cells, and their runs on numbers and on spans.
+//! Automata with typed registers over a series of cells, and their runs on numbers and on spans.
 //!
-//! An automaton reads a series two neighbouring cells at a time. Each move gives the registers C, D and R new values
-//! by expressions over the old ones and the two cells, and at the end the finish expression gives the answer. The
-//! layer above may rely on this: the states and expressions of an `Automaton` are well typed, so no operator ever
-//! meets an operand that it doesn't take; a run over spans holds every run over numbers within them.
+//! An automaton reads a series two neighbouring cells at a time. Each move gives the registers new values by
+//! expressions over the old ones and the two cells, and at the end the finish expression gives the answer. A narrow
+//! automaton has the registers C, D and R, a wide one E and F too. The layer above may rely on this: the states and
+//! expressions of an `Automaton` are well typed, so no operator ever meets an operand that it doesn't take; a run over
+//! spans holds every run over numbers within them.
 //!
 //! ```text
-//! let peak = Automaton::new(states, start, finish, Mark::Same)?;
+//! let peak = Automaton::new(states, start, finish, Mark::Same, false)?;
 //! let mut at = peak.start();
 //! for pair in series.windows(2) {
 //!     at = peak.step(at, pair[0], pair[1]);
@@ -17,6 +18,7 @@
 
 mod automaton;
 mod automaton_text;
+mod differences;
 mod draft;
 mod expr;
 mod expr_text;
@@ -38,8 +40,9 @@ mod writer;
 
 pub use automaton::Automaton;
 pub use automaton_text::read;
+pub use differences::{difference, difference_span};
 pub use draft::{StateLine, Way};
-pub use expr::{Atom, Expr};
+pub use expr::{Atom, Expr, Operator};
 pub use kind::RegKind;
 pub use regs::{At, Hull, HullAt, Regs};
 pub use state::{Mark, State, Turn};

@@ -1,12 +1,13 @@
 //! What the words of a head, state, start or end line say.
 
-ghost use Rattle.std.specs.Prelude.{◌≡◌, ◌==◌, option_map};
+ghost use Rattle.std.specs.Prelude.{◌≡◌, ◌<◌, ◌≤◌, ◌==◌, true, length, pos, option_map};
+ghost use Rattle.ts_base.specs.declared.ext.Ext.TheVariants.{Int};
 ghost use Rattle.ts_automaton.specs.FormulaText.{texts};
 ghost use Rattle.ts_automaton.specs.Registers.{regs_of};
 ghost use Rattle.ts_automaton.specs.Typing.{is_name};
 ghost use Rattle.ts_automaton.specs.AutomatonText.{name_at};
 ghost use Rattle.ts_automaton.specs.Grammar.{is_named};
-ghost use Rattle.ts_automaton.specs.Lines.{way_of, read_way, held_of, only_byte, new_name, read_state, constant_of, read_start, is_end};
+ghost use Rattle.ts_automaton.specs.Lines.{way_of, head_made, read_head, held_of, only_byte, new_name, read_state, constant_of, constant_at, stride, extra, all_five, read_start, is_end};
 
 use crate::draft::{StateLine, Way};
 use crate::line_words::{word_at, word_count};
@@ -26,15 +27,30 @@ fn way_of(word: &[u8]) -> Option<Way>
     }
 }
 
-/// The way that a head line names.
-pub(crate) fn read_way(words: &[&[u8]]) -> Option<Way>
-    ensures { result ≡ read_way (texts words.now) }
+/// The way, if there is one, with the width.
+fn head_made(wide: bool, way: Option<Way>) -> Option<(Way, bool)>
+    ensures { result ≡ head_made wide way }
+{
+    match way {
+        None => None,
+        Some(way) => Some((way, wide)),
+    }
+}
+
+/// The way that a head line names, and whether the block is wide.
+pub(crate) fn read_head(words: &[&[u8]]) -> Option<(Way, bool)>
+    ensures { result ≡ read_head (texts words.now) }
 {
     if word_count(words) == 1 {
-        way_of(word_at(words, 0))
-    } else {
-        None
+        return head_made(false, way_of(word_at(words, 0)));
     }
+    if word_count(words) != 2 {
+        return None;
+    }
+    if word_at(words, 1) != b"wide".as_slice() {
+        return None;
+    }
+    head_made(true, way_of(word_at(words, 0)))
 }
 
 /// Whether a state is held, by the last word of its line.
@@ -120,24 +136,69 @@ fn constant_of(word: &[u8]) -> Option<Ext>
     }
 }
 
-/// The constants of a start line, for C, D and R.
-pub(crate) fn read_start(words: &[&[u8]]) -> Option<Regs>
-    ensures { option_map regs_of result ≡ read_start (texts words.now) }
+/// The constant at a place of the words.
+fn constant_at(words: &[&[u8]], k: usize) -> Option<Ext>
+    requires { k < length (texts words.now) }
+    ensures { result ≡ constant_at (texts words.now) k }
 {
-    if word_count(words) != 4 {
+    constant_of(word_at(words, k))
+}
+
+/// How far the words of C, D and R stand apart: in a wide block those of E and F stand between them.
+fn stride(wide: bool) -> usize
+    ensures value { result ≡ stride wide }
+    ensures few { result ≤ 2 }
+    ensures extras { wide ≡ true → result ≡ 2 }
+{
+    if wide { 2 } else { 1 }
+}
+
+/// The constant of E or F, at a place of the words of a wide block; 0 in a narrow one.
+fn extra_constant(words: &[&[u8]], k: usize, wide: bool) -> Option<Ext>
+    requires { wide ≡ true → k < length (texts words.now) }
+    ensures { result ≡ extra wide (Int (pos 0)) (constant_at (texts words.now) k) }
+{
+    if wide {
+        constant_at(words, k)
+    } else {
+        Some(Ext::Int(0))
+    }
+}
+
+/// Registers with these constants, if there are all.
+fn regs_made(
+    c: Option<Ext>,
+    e: Option<Ext>,
+    d: Option<Ext>,
+    f: Option<Ext>,
+    r: Option<Ext>,
+) -> Option<Regs>
+    ensures { option_map regs_of result ≡ all_five c e d f r }
+{
+    match (c, e, d, f, r) {
+        (Some(c), Some(e), Some(d), Some(f), Some(r)) => Some(Regs { c, e, d, f, r }),
+        _ => None,
+    }
+}
+
+/// The constants of a start line, in the order of the registers.
+pub(crate) fn read_start(words: &[&[u8]], wide: bool) -> Option<Regs>
+    ensures { option_map regs_of result ≡ read_start wide (texts words.now) }
+{
+    let step = stride(wide);
+    if word_count(words) != 2 + 2 * step {
         return None;
     }
     if word_at(words, 0) != b"start".as_slice() {
         return None;
     }
-    match (
-        constant_of(word_at(words, 1)),
-        constant_of(word_at(words, 2)),
-        constant_of(word_at(words, 3)),
-    ) {
-        (Some(c), Some(d), Some(r)) => Some(Regs { c, d, r }),
-        _ => None,
-    }
+    regs_made(
+        constant_at(words, 1),
+        extra_constant(words, 2, wide),
+        constant_at(words, 1 + step),
+        extra_constant(words, 4, wide),
+        constant_at(words, 1 + 2 * step),
+    )
 }
 
 /// The letter of the state at a place, or 0 where there is none.

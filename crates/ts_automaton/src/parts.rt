@@ -3,8 +3,9 @@
 ghost use Rattle.std.specs.Prelude.{◌≡◌, length, map, min, nat_eq};
 ghost use Rattle.std.specs.List.{list_all, list_any};
 ghost use Rattle.ts_automaton.specs.Body.{move_of, node_of, parts_of};
-ghost use Rattle.ts_automaton.specs.Formula.{formula, words_in};
-ghost use Rattle.ts_automaton.specs.Typing.{is_constant, is_name, is_short, each_is, are_different, leads_below, has_short_moves, has_few_states, has_names, has_constants, has_targets, has_short_expressions, is_formed};
+ghost use Rattle.ts_automaton.specs.Formula.{formula, is_zero, words_in};
+ghost use Rattle.ts_automaton.specs.Registers.{regs_of};
+ghost use Rattle.ts_automaton.specs.Typing.{is_constant, is_name, is_number_zero, is_short, is_expression, are_constants, are_expressions, are_different, leads_below, has_expressions_in, has_few_states, has_names, has_constants, has_targets, has_expressions, is_formed};
 
 use crate::expr::Expr;
 use crate::regs::Regs;
@@ -18,6 +19,7 @@ pub(crate) struct Parts {
     pub(crate) start: Regs,
     pub(crate) finish: Expr,
     pub(crate) mark: Mark,
+    pub(crate) wide: bool,
 }
 
 impl Parts {
@@ -29,7 +31,7 @@ impl Parts {
             && self.has_names()
             && self.has_constants()
             && self.has_targets()
-            && self.has_short_expressions()
+            && self.has_expressions()
     }
 
     /// Whether there are one to eight states.
@@ -47,11 +49,11 @@ impl Parts {
         all_named(&self.states) && are_different(&self.states)
     }
 
-    /// Whether each start constant is 0, 1, -inf or +inf.
+    /// Whether each start constant is 0, 1, -inf or +inf, and those of E and F are 0 in a narrow automaton.
     fn has_constants(&self) -> bool
         ensures { result ≡ has_constants (parts_of self.now) }
     {
-        is_constant(self.start.c) && is_constant(self.start.d) && is_constant(self.start.r)
+        are_constants(self.start, self.wide)
     }
 
     /// Whether each move leads to a state.
@@ -62,12 +64,12 @@ impl Parts {
         all_lead_within(&self.states)
     }
 
-    /// Whether each expression has at most 15 words.
+    /// Whether each expression may stand in an automaton of this width.
     #[tactic(auto, using(crate::proofs::Lists::mapped))]
-    fn has_short_expressions(&self) -> bool
-        ensures { result ≡ has_short_expressions (parts_of self.now) }
+    fn has_expressions(&self) -> bool
+        ensures { result ≡ has_expressions (parts_of self.now) }
     {
-        all_have_short_moves(&self.states) && is_short(&self.finish)
+        all_have_expressions(&self.states, self.wide) && is_expression(&self.finish, self.wide)
     }
 }
 
@@ -98,6 +100,28 @@ fn has_name(states: &[State], name: u8) -> bool
     states.iter().any(|state| state.name == name)
 }
 
+/// Whether an automaton of this width may have these start constants.
+fn are_constants(start: Regs, wide: bool) -> bool
+    ensures { result ≡ are_constants wide (regs_of start) }
+{
+    is_constant(start.c)
+        && is_constant(start.e)
+        && is_constant(start.d)
+        && is_constant(start.f)
+        && is_constant(start.r)
+        && (wide || (is_number_zero(start.e) && is_number_zero(start.f)))
+}
+
+/// Whether it is the number 0.
+fn is_number_zero(e: Ext) -> bool
+    ensures { result ≡ is_number_zero e }
+{
+    match e {
+        Ext::Int(x) => x == 0,
+        Ext::NegInf | Ext::PosInf => false,
+    }
+}
+
 /// Whether it is 0, 1, -inf or +inf.
 fn is_constant(e: Ext) -> bool
     ensures { result ≡ is_constant e }
@@ -122,7 +146,7 @@ fn words(e: &Expr) -> usize
     ensures { result ≡ min (words_in (formula e.now)) usize.MAX }
 {
     match e {
-        Expr::Add(a, b) | Expr::Max(a, b) | Expr::Min(a, b) => words(a)
+        Expr::Add(a, b) | Expr::Sub(a, b) | Expr::Max(a, b) | Expr::Min(a, b) => words(a)
             .saturating_add(words(b))
             .saturating_add(1),
         _ => 1,
@@ -144,23 +168,47 @@ fn all_lead_within(states: &[State]) -> bool
     states.iter().all(|s| leads_below(s, count))
 }
 
-/// Whether each expression of a move has at most 15 words.
-fn all_have_short_moves(states: &[State]) -> bool
-    ensures { result ≡ list_all (λ s. has_short_moves (node_of s)) states.now }
+/// Whether an automaton of this width may have the expression.
+fn is_expression(e: &Expr, wide: bool) -> bool
+    ensures { result ≡ is_expression wide (formula e.now) }
 {
-    states.iter().all(has_short_moves)
+    is_short(e) && e.is_of(wide)
 }
 
-/// Whether the expressions of the moves of a state do.
-fn has_short_moves(state: &State) -> bool
-    ensures { result ≡ has_short_moves (node_of state.now) }
+/// Whether the expression is the constant 0 alone.
+fn is_zero(e: &Expr) -> bool
+    ensures { result ≡ is_zero (formula e.now) }
 {
-    is_short_turn(&state.less) && is_short_turn(&state.equal) && is_short_turn(&state.greater)
+    match e {
+        Expr::Zero => true,
+        _ => false,
+    }
 }
 
-/// Whether the expressions of a move do.
-fn is_short_turn(turn: &Turn) -> bool
-    ensures { result ≡ each_is is_short (move_of turn.now).to }
+/// Whether an automaton of this width may have the expressions of each state's moves.
+fn all_have_expressions(states: &[State], wide: bool) -> bool
+    ensures { result ≡ list_all (λ s. has_expressions_in wide (node_of s)) states.now }
 {
-    is_short(&turn.c) && is_short(&turn.d) && is_short(&turn.r)
+    states.iter().all(|s| has_expressions_in(s, wide))
+}
+
+/// So for the moves of a state.
+fn has_expressions_in(state: &State, wide: bool) -> bool
+    ensures { result ≡ has_expressions_in wide (node_of state.now) }
+{
+    are_expressions(&state.less, wide)
+        && are_expressions(&state.equal, wide)
+        && are_expressions(&state.greater, wide)
+}
+
+/// So for a move.
+fn are_expressions(turn: &Turn, wide: bool) -> bool
+    ensures { result ≡ are_expressions wide (move_of turn.now).to }
+{
+    is_expression(&turn.c, wide)
+        && is_expression(&turn.e, wide)
+        && is_expression(&turn.d, wide)
+        && is_expression(&turn.f, wide)
+        && is_expression(&turn.r, wide)
+        && (wide || (is_zero(&turn.e) && is_zero(&turn.f)))
 }

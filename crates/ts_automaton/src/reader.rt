@@ -9,7 +9,7 @@ ghost use Rattle.ts_automaton.specs.Reading.{is_state_line, with_words, with_lin
 
 use crate::draft::{Block, Prefix, StateLine, Way};
 use crate::line_words::{word_at, word_count, words_in};
-use crate::lines::{is_end, read_start, read_state, read_way};
+use crate::lines::{is_end, read_head, read_start, read_state};
 use crate::move_lines::{read_finish, read_move};
 use crate::regs::Regs;
 use crate::state::Turn;
@@ -29,23 +29,26 @@ fn is_state_line(words: &[&[u8]]) -> bool
 fn named(
     alloc: Global,
     way: Way,
+    wide: bool,
     mut states: Vec<StateLine>,
     words: &[&[u8]],
 ) -> Result<Option<Prefix>, Memory>
-    ensures { IfOk result (λ d. option_map prefix_seen d ≡ with_words (AtStates way states.items) (texts words.now)) }
+    ensures { IfOk result (λ d.
+        option_map prefix_seen d ≡ with_words (AtStates way wide states.items) (texts words.now)) }
 {
     if is_state_line(words) {
         match read_state(&states, words) {
             Some(name) if states.len() < 8 => {
                 states.push(name)?;
-                Ok(Some(Prefix::AtStates { way, states }))
+                Ok(Some(Prefix::AtStates { way, wide, states }))
             }
             _ => Ok(None),
         }
     } else {
-        match read_start(words) {
+        match read_start(words, wide) {
             Some(start) if states.len() > 0 => Ok(Some(Prefix::AtMoves {
                 way,
+                wide,
                 states,
                 start,
                 moves: VecDeque::new(alloc),
@@ -59,22 +62,24 @@ fn named(
 fn moved(
     alloc: Global,
     way: Way,
+    wide: bool,
     states: Vec<StateLine>,
     start: Regs,
     mut moves: VecDeque<Turn>,
     words: &[&[u8]],
 ) -> Result<Option<Prefix>, Memory>
     requires { length states.items ≤ 8 }
-    ensures { let before = AtMoves way states.items (regs_of start) (map move_of moves.items) in
+    ensures { let before = AtMoves way wide states.items (regs_of start) (map move_of moves.items) in
         IfOk result (λ d. option_map prefix_seen d ≡ with_words before (texts words.now)) }
 {
     if moves.len() < 3 * states.len() {
-        match read_move(alloc, &states, moves.len(), words)? {
+        match read_move(alloc, &states, moves.len(), words, wide)? {
             None => Ok(None),
             Some(turn) => {
                 moves.push_back(turn)?;
                 Ok(Some(Prefix::AtMoves {
                     way,
+                    wide,
                     states,
                     start,
                     moves,
@@ -82,10 +87,11 @@ fn moved(
             }
         }
     } else {
-        match read_finish(alloc, words)? {
+        match read_finish(alloc, words, wide)? {
             None => Ok(None),
             Some((finish, mark)) => Ok(Some(Prefix::AtEnd(Block {
                 way,
+                wide,
                 states,
                 start,
                 moves,
@@ -102,20 +108,22 @@ fn with_words(alloc: Global, prefix: Prefix, words: &[&[u8]]) -> Result<Option<P
     ensures { IfOk result (λ d. option_map prefix_seen d ≡ with_words (prefix_seen prefix) (texts words.now)) }
 {
     match prefix {
-        Prefix::AtHead => match read_way(words) {
+        Prefix::AtHead => match read_head(words) {
             None => Ok(None),
-            Some(way) => Ok(Some(Prefix::AtStates {
+            Some((way, wide)) => Ok(Some(Prefix::AtStates {
                 way,
+                wide,
                 states: Vec::new(alloc),
             })),
         },
-        Prefix::AtStates { way, states } => named(alloc, way, states, words),
+        Prefix::AtStates { way, wide, states } => named(alloc, way, wide, states, words),
         Prefix::AtMoves {
             way,
+            wide,
             states,
             start,
             moves,
-        } => moved(alloc, way, states, start, moves, words),
+        } => moved(alloc, way, wide, states, start, moves, words),
         Prefix::AtEnd(block) => {
             if is_end(words) {
                 Ok(Some(Prefix::Whole(block)))

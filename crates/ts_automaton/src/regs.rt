@@ -2,11 +2,13 @@
 
 use ts_base::{Ext, Span};
 
-/// The values of the three registers.
+/// The values of the registers. In a narrow automaton `e` and `f` are always 0.
 #[derive(Clone, Copy, Debug, PartialEq, Eq)]
 pub struct Regs {
     pub c: Ext,
+    pub e: Ext,
     pub d: Ext,
+    pub f: Ext,
     pub r: Ext,
 }
 
@@ -17,11 +19,13 @@ pub struct At {
     pub regs: Regs,
 }
 
-/// A span for each of the three registers.
+/// A span for each register. In a narrow automaton `e` and `f` hold 0 alone, and are none where the hull is none.
 #[derive(Clone, Copy, Debug, PartialEq, Eq)]
 pub struct Hull {
     pub c: Span,
+    pub e: Span,
     pub d: Span,
+    pub f: Span,
     pub r: Span,
 }
 

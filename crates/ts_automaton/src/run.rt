@@ -8,6 +8,7 @@ ghost use Rattle.ts_automaton.specs.Kinds.{Fits};
 ghost use Rattle.ts_automaton.specs.Registers.{Takes, TakesAll, numbers, regs_of, value_in};
 
 use crate::automaton::Automaton;
+use crate::differences::difference;
 use crate::expr::Expr;
 use crate::regs::{At, Regs};
 use crate::state::{Mark, Turn};
@@ -57,7 +58,9 @@ impl Turn {
     {
         Regs {
             c: self.c.value(regs, this, next),
+            e: self.e.value(regs, this, next),
             d: self.d.value(regs, this, next),
+            f: self.f.value(regs, this, next),
             r: self.r.value(regs, this, next),
         }
     }
@@ -71,7 +74,9 @@ impl Expr {
     {
         match self {
             Expr::C => regs.c,
+            Expr::E => regs.e,
             Expr::D => regs.d,
+            Expr::F => regs.f,
             Expr::R => regs.r,
             Expr::This => Ext::Int(this),
             Expr::Next => Ext::Int(next),
@@ -83,6 +88,7 @@ impl Expr {
                 a.value(regs, this, next),
                 b.value(regs, this, next),
             ),
+            Expr::Sub(a, b) => difference(a.value(regs, this, next), b.value(regs, this, next)),
             Expr::Max(a, b) => Op::Max.applied(
                 a.value(regs, this, next),
                 b.value(regs, this, next),

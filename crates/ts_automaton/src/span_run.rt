@@ -1,13 +1,15 @@
 //! Runs over hulls: a span for each register.
 
-ghost use Rattle.std.specs.Prelude.{◌≡◌, IsTrue, not};
+ghost use Rattle.std.specs.Prelude.{◌≡◌, IsTrue, not, pos, if◌then◌else◌};
 ghost use Rattle.ts_automaton.specs.Body.{move_of};
 ghost use Rattle.ts_automaton.specs.Formula.{formula};
 ghost use Rattle.ts_automaton.specs.Kinds.{SpansFit};
 ghost use Rattle.ts_automaton.specs.Registers.{Takes, TakesAll, regs_of, spans, spans_of, value_in};
 ghost use Rattle.ts_automaton.specs.SpanRun.{HullStands, finish_span_of, has_registers, hull_standing, marked_span, moved_hull, none_hull, one_hull, span_step};
+ghost use Rattle.ts_base.specs.Spans.{none_span};
 
 use crate::automaton::Automaton;
+use crate::differences::difference_span;
 use crate::expr::Expr;
 use crate::regs::{Hull, HullAt, Regs};
 use crate::state::{Mark, Turn};
@@ -20,7 +22,9 @@ impl Hull {
     {
         Hull {
             c: Span::none(),
+            e: Span::none(),
             d: Span::none(),
+            f: Span::none(),
             r: Span::none(),
         }
     }
@@ -31,7 +35,9 @@ impl Hull {
     {
         Hull {
             c: Span::one(regs.c),
+            e: Span::one(regs.e),
             d: Span::one(regs.d),
+            f: Span::one(regs.f),
             r: Span::one(regs.r),
         }
     }
@@ -40,7 +46,7 @@ impl Hull {
     pub fn is_none(&self) -> bool
         ensures { result ≡ not (has_registers (spans_of self.now)) }
     {
-        self.c.is_none() || self.d.is_none() || self.r.is_none()
+        self.c.is_none() | self.e.is_none() | self.d.is_none() | self.f.is_none() | self.r.is_none()
     }
 }
 
@@ -65,12 +71,7 @@ impl Automaton {
         ensures { result ≡ finish_span_of self.now (hull_standing at) n }
     {
         let finish = self.finish_expr();
-        let span = if at.hull.is_none() {
-            Span::none()
-        } else {
-            finish.span(&at.hull, 0, 0)
-        };
-        self.mark().applied_to_span(span, n)
+        self.mark().applied_to_span(finish.finished(&at.hull), n)
     }
 }
 
@@ -86,13 +87,28 @@ impl Turn {
         }
         Hull {
             c: self.c.span(hull, this, next),
+            e: self.e.span(hull, this, next),
             d: self.d.span(hull, this, next),
+            f: self.f.span(hull, this, next),
             r: self.r.span(hull, this, next),
         }
     }
 }
 
 impl Expr {
+    /// The span of a finish expression, which reads no cell; none where the hull is none.
+    fn finished(&self, hull: &Hull) -> Span
+        requires { let h = spans_of hull.now in
+            IsTrue (has_registers h) → Takes SpansFit spans h (pos 0) (pos 0) (formula self.now) }
+        ensures { result ≡ (if has_registers (spans_of hull.now)
+            then value_in spans (spans_of hull.now) (pos 0) (pos 0) (formula self.now) else none_span) }
+    {
+        if hull.is_none() {
+            return Span::none();
+        }
+        self.span(hull, 0, 0)
+    }
+
     /// Its span; each operator in it meets two spans that it takes.
     fn span(&self, hull: &Hull, this: i64, next: i64) -> Span
         requires { Takes SpansFit spans (spans_of hull.now) this next (formula self.now) }
@@ -100,7 +116,9 @@ impl Expr {
     {
         match self {
             Expr::C => hull.c,
+            Expr::E => hull.e,
             Expr::D => hull.d,
+            Expr::F => hull.f,
             Expr::R => hull.r,
             Expr::This => Span::one(Ext::Int(this)),
             Expr::Next => Span::one(Ext::Int(next)),
@@ -112,6 +130,9 @@ impl Expr {
                 a.span(hull, this, next),
                 b.span(hull, this, next),
             ),
+            Expr::Sub(a, b) => {
+                difference_span(a.span(hull, this, next), b.span(hull, this, next))
+            }
             Expr::Max(a, b) => Op::Max.applied_to_spans(
                 a.span(hull, this, next),
                 b.span(hull, this, next),

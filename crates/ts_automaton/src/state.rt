@@ -10,12 +10,15 @@ pub enum Mark {
     Cells,
 }
 
-/// A move: the place of the state that it leads to, and an expression for each register's new value.
+/// A move: the place of the state that it leads to, and an expression for each register's new value. In a narrow
+/// automaton `e` and `f` are `Zero`.
 #[derive(Debug, PartialEq, Eq, Drop)]
 pub struct Turn {
     pub next: u8,
     pub c: Expr,
+    pub e: Expr,
     pub d: Expr,
+    pub f: Expr,
     pub r: Expr,
 }
 

@@ -1,20 +1,20 @@
 //! Laws of the text: what was written is read as the same automaton, and nothing else is read as it.
 
-ghost use Rattle.std.specs.Prelude.{◌≡◌, ◌≢◌, ◌≤◌, ◌++◌, ◌↔◌, ℕ, IsTrue, List, Some, Ok, Err, Result};
+ghost use Rattle.std.specs.Prelude.{◌≡◌, ◌≢◌, ◌++◌, ◌↔◌, ℕ, Bool, IsTrue, List, Some, Ok, Err, Result};
 ghost use Rattle.ts_automaton.specs.declared.stop.AutoStop.{AutoStop};
 ghost use Rattle.ts_automaton.specs.declared.stop.AutoStop.TheVariants.{Memory as NoMemory};
 ghost use Rattle.ts_automaton.specs.declared.draft.Way.{Way as TheWay};
 ghost use Rattle.ts_automaton.specs.Body.{Body};
-ghost use Rattle.ts_automaton.specs.Formula.{Formula, words_in};
+ghost use Rattle.ts_automaton.specs.Formula.{Formula};
 ghost use Rattle.ts_automaton.specs.FormulaText.{formula_words, formula_of};
-ghost use Rattle.ts_automaton.specs.Typing.{is_automaton};
+ghost use Rattle.ts_automaton.specs.Typing.{is_automaton, is_expression};
 ghost use Rattle.ts_automaton.specs.AutomatonText.{head_text, body_text};
 ghost use Rattle.ts_automaton.specs.TextReading.{Reads};
 
-/// Words are read as an expression exactly where they are its words, and at most 15.
+/// Words are read as an expression exactly where they are its words, and an automaton of this width may have it.
 pub fn words_are_read()
-    ensures { (f : Formula) (ws : List (List ℕ)) →
-        (formula_of ws ≡ Some f ↔ ((ws ≡ formula_words f) × (words_in f ≤ 15))) }
+    ensures { (wide : Bool) (f : Formula) (ws : List (List ℕ)) →
+        (formula_of wide ws ≡ Some f ↔ ((ws ≡ formula_words f) × IsTrue (is_expression wide f))) }
 {}
 
 /// A text is read in one way alone, want of memory aside: as the automaton whose block it is, or as refused, for one
@@ -27,7 +27,7 @@ pub fn text_has_one_reading()
 /// What was written behind either head is read as the same automaton.
 pub fn written_is_read()
     ensures { (m : Body) (way : TheWay) (r : Result Body AutoStop) → IsTrue (is_automaton m) →
-        Reads (head_text way ++ body_text m) r → r ≢ Err NoMemory → r ≡ Ok m }
+        Reads (head_text way m.wide ++ body_text m) r → r ≢ Err NoMemory → r ≡ Ok m }
 {}
 
 /// An automaton has one body, and a body is that of one automaton.

@@ -7,7 +7,7 @@ ghost use Rattle.ts_automaton.specs.Formula.{formula};
 ghost use Rattle.ts_automaton.specs.Kinds.{formula_kind, kinds_of};
 ghost use Rattle.ts_automaton.specs.Typing.{fits_kind, fits_kinds, kinds_at, kinds_where, reads_registers, is_finish_typed, is_finish_typed_where_held, is_automaton, move_fault, typing_fault};
 
-use crate::expr::Expr;
+use crate::expr::{Expr, Operator};
 use crate::kind::{Kinds, RegKind};
 use crate::parts::Parts;
 use crate::state::{State, Turn};
@@ -114,7 +114,9 @@ impl Parts {
             } else {
                 RegKind::of(self.start.c)
             },
+            e: RegKind::of(self.start.e),
             d: RegKind::of(self.start.d),
+            f: RegKind::of(self.start.f),
             r: RegKind::of(self.start.r),
         }
     }
@@ -150,7 +152,11 @@ impl Turn {
     fn fits(&self, old: Kinds, new: Kinds) -> bool
         ensures { result ≡ fits_kinds (kinds_of old) (move_of self.now).to (kinds_of new) }
     {
-        self.c.fits(old, new.c) && self.d.fits(old, new.d) && self.r.fits(old, new.r)
+        self.c.fits(old, new.c)
+            && self.e.fits(old, new.e)
+            && self.d.fits(old, new.d)
+            && self.f.fits(old, new.f)
+            && self.r.fits(old, new.r)
     }
 }
 
@@ -171,14 +177,17 @@ impl Expr {
     {
         match self {
             Expr::C => Some(of.c),
+            Expr::E => Some(of.e),
             Expr::D => Some(of.d),
+            Expr::F => Some(of.f),
             Expr::R => Some(of.r),
             Expr::This | Expr::Next | Expr::Zero | Expr::Unit => Some(RegKind::Int),
             Expr::NegInf => Some(RegKind::Low),
             Expr::PosInf => Some(RegKind::High),
-            Expr::Add(a, b) => RegKind::joined(Op::Add, a.kind(of)?, b.kind(of)?),
-            Expr::Max(a, b) => RegKind::joined(Op::Max, a.kind(of)?, b.kind(of)?),
-            Expr::Min(a, b) => RegKind::joined(Op::Min, a.kind(of)?, b.kind(of)?),
+            Expr::Add(a, b) => RegKind::joined(Operator::Fold(Op::Add), a.kind(of)?, b.kind(of)?),
+            Expr::Sub(a, b) => RegKind::joined(Operator::Sub, a.kind(of)?, b.kind(of)?),
+            Expr::Max(a, b) => RegKind::joined(Operator::Fold(Op::Max), a.kind(of)?, b.kind(of)?),
+            Expr::Min(a, b) => RegKind::joined(Operator::Fold(Op::Min), a.kind(of)?, b.kind(of)?),
         }
     }
 
@@ -188,8 +197,9 @@ impl Expr {
     {
         match self {
             Expr::This | Expr::Next => false,
-            Expr::Add(a, b) | Expr::Max(a, b) | Expr::Min(a, b) => a.reads_registers()
-                && b.reads_registers(),
+            Expr::Add(a, b) | Expr::Sub(a, b) | Expr::Max(a, b) | Expr::Min(a, b) => {
+                a.reads_registers() && b.reads_registers()
+            }
             _ => true,
         }
     }

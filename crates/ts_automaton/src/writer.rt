@@ -5,8 +5,8 @@ ghost use Rattle.ts_base.specs.Words.{behind};
 ghost use Rattle.ts_automaton.specs.Formula.{formula};
 ghost use Rattle.ts_automaton.specs.Registers.{regs_of};
 ghost use Rattle.ts_automaton.specs.Body.{move_of, node_of, parts_of};
-ghost use Rattle.ts_automaton.specs.AutomatonText.{state_lines, all_moves, name_at, mark_word, constant_word, state_words, start_words, turn_words, three_words};
-ghost use Rattle.ts_automaton.specs.AutomatonText.{move_words, moves_words, finish_words, words_text, lines_text, head_text, body_text};
+ghost use Rattle.ts_automaton.specs.AutomatonText.{state_lines, all_moves, name_at, mark_word, constant_words, state_words, start_words, turn_words, each_words, behind_semi};
+ghost use Rattle.ts_automaton.specs.AutomatonText.{move_words, moves_words, part_words, finish_words, words_text, lines_text, head_text, body_text};
 
 use crate::automaton::Automaton;
 use crate::draft::Way;
@@ -18,14 +18,16 @@ use crate::regs::Regs;
 use crate::state::{Mark, State, Turn};
 use ts_base::{Ext, Memory};
 
-/// Puts the head line of a block behind `text`, which stays as it is after `Memory`.
-pub fn write_head(way: Way, text: &mut Vec<u8>) -> Result<(), Memory>
-    ensures ok { OnOk result (text.new.items ≡ text.old.items ++ head_text way) }
+/// Puts the head line of a block of this width behind `text`, which stays as it is after `Memory`.
+pub fn write_head(way: Way, wide: bool, text: &mut Vec<u8>) -> Result<(), Memory>
+    ensures ok { OnOk result (text.new.items ≡ text.old.items ++ head_text way wide) }
     ensures err { OnErr result (text.new.items ≡ text.old.items) }
 {
-    match way {
-        Way::Forward => text.extend_from_slice(b"forward\n")?,
-        Way::Reverse => text.extend_from_slice(b"reverse\n")?,
+    match (way, wide) {
+        (Way::Forward, false) => text.extend_from_slice(b"forward\n")?,
+        (Way::Reverse, false) => text.extend_from_slice(b"reverse\n")?,
+        (Way::Forward, true) => text.extend_from_slice(b"forward wide\n")?,
+        (Way::Reverse, true) => text.extend_from_slice(b"reverse wide\n")?,
     }
     Ok(())
 }
@@ -48,8 +50,8 @@ fn push_body(text: &mut Vec<u8>, parts: &Parts) -> Result<(), Memory>
     ensures { OnOk result (text.new.items ≡ text.old.items ++ body_text (parts_of parts.now)) }
 {
     push_states(text, &parts.states)?;
-    push_start(text, parts.start)?;
-    push_moves(text, &parts.states)?;
+    push_start(text, parts.start, parts.wide)?;
+    push_moves(text, &parts.states, parts.wide)?;
     push_finish(text, &parts.finish, parts.mark)?;
     text.extend_from_slice(b"end\n")?;
     Ok(())
@@ -83,7 +85,7 @@ fn push_states(text: &mut Vec<u8>, states: &[State]) -> Result<(), Memory>
 
 /// Puts the word of a start constant behind `text`, with a space before it.
 fn push_constant(text: &mut Vec<u8>, e: Ext) -> Result<(), Memory>
-    ensures { OnOk result (text.new.items ≡ text.old.items ++ behind (constant_word e ∷ [])) }
+    ensures { OnOk result (text.new.items ≡ text.old.items ++ behind (constant_words e)) }
 {
     match e {
         Ext::NegInf => text.extend_from_slice(b" -inf")?,
@@ -99,14 +101,35 @@ fn push_constant(text: &mut Vec<u8>, e: Ext) -> Result<(), Memory>
     Ok(())
 }
 
+/// So for E or F, which stand in the text of a wide automaton alone.
+fn push_extra_constant(text: &mut Vec<u8>, e: Ext, wide: bool) -> Result<(), Memory>
+    ensures { OnOk result (text.new.items ≡ text.old.items ++ behind (part_words constant_words wide e)) }
+{
+    if wide {
+        push_constant(text, e)?;
+    }
+    Ok(())
+}
+
+/// Puts the start constants behind `text`.
+fn push_constants(text: &mut Vec<u8>, start: Regs, wide: bool) -> Result<(), Memory>
+    ensures { OnOk result (text.new.items
+        ≡ text.old.items ++ behind (each_words constant_words wide (regs_of start))) }
+{
+    push_constant(text, start.c)?;
+    push_extra_constant(text, start.e, wide)?;
+    push_constant(text, start.d)?;
+    push_extra_constant(text, start.f, wide)?;
+    push_constant(text, start.r)?;
+    Ok(())
+}
+
 /// Puts the start line behind `text`.
-fn push_start(text: &mut Vec<u8>, start: Regs) -> Result<(), Memory>
-    ensures { OnOk result (text.new.items ≡ text.old.items ++ words_text (start_words (regs_of start))) }
+fn push_start(text: &mut Vec<u8>, start: Regs, wide: bool) -> Result<(), Memory>
+    ensures { OnOk result (text.new.items ≡ text.old.items ++ words_text (start_words wide (regs_of start))) }
 {
     text.extend_from_slice(b"start")?;
-    push_constant(text, start.c)?;
-    push_constant(text, start.d)?;
-    push_constant(text, start.r)?;
+    push_constants(text, start, wide)?;
     text.push(b'\n')?;
     Ok(())
 }
@@ -129,29 +152,55 @@ fn push_turn(text: &mut Vec<u8>, states: &[State], k: usize, next: u8) -> Result
     text.extend_from_slice(sign_word(k % 3))?;
     text.push(b' ')?;
     text.push(name_at(states, next as usize))?;
-    text.extend_from_slice(b" ;")?;
     Ok(())
 }
 
-/// Puts the three expressions of a move behind `text`.
-fn push_three(text: &mut Vec<u8>, turn: &Turn) -> Result<(), Memory>
-    ensures { OnOk result (text.new.items ≡ text.old.items ++ behind (three_words (move_of turn.now).to)) }
+/// Puts an expression of a move behind `text`, with the `;` before it.
+fn push_behind_semi(text: &mut Vec<u8>, e: &Expr) -> Result<(), Memory>
+    ensures { OnOk result (text.new.items ≡ text.old.items ++ behind (behind_semi (formula e.now))) }
 {
-    push_expr(text, &turn.c)?;
     text.extend_from_slice(b" ;")?;
-    push_expr(text, &turn.d)?;
-    text.extend_from_slice(b" ;")?;
-    push_expr(text, &turn.r)?;
+    push_expr(text, e)?;
+    Ok(())
+}
+
+/// So for E or F, which stand in the text of a wide automaton alone.
+fn push_extra(text: &mut Vec<u8>, e: &Expr, wide: bool) -> Result<(), Memory>
+    ensures { OnOk result (text.new.items
+        ≡ text.old.items ++ behind (part_words behind_semi wide (formula e.now))) }
+{
+    if wide {
+        push_behind_semi(text, e)?;
+    }
+    Ok(())
+}
+
+/// Puts the expressions of a move behind `text`.
+fn push_expressions(text: &mut Vec<u8>, turn: &Turn, wide: bool) -> Result<(), Memory>
+    ensures { OnOk result (text.new.items
+        ≡ text.old.items ++ behind (each_words behind_semi wide (move_of turn.now).to)) }
+{
+    push_behind_semi(text, &turn.c)?;
+    push_extra(text, &turn.e, wide)?;
+    push_behind_semi(text, &turn.d)?;
+    push_extra(text, &turn.f, wide)?;
+    push_behind_semi(text, &turn.r)?;
     Ok(())
 }
 
 /// Puts the line of move `k` behind `text`.
-fn push_move(text: &mut Vec<u8>, states: &[State], k: usize, turn: &Turn) -> Result<(), Memory>
-    ensures { let line = move_words (state_lines (map node_of states.now)) k (move_of turn.now) in
+fn push_move(
+    text: &mut Vec<u8>,
+    states: &[State],
+    k: usize,
+    turn: &Turn,
+    wide: bool,
+) -> Result<(), Memory>
+    ensures { let line = move_words wide (state_lines (map node_of states.now)) k (move_of turn.now) in
         OnOk result (text.new.items ≡ text.old.items ++ words_text line) }
 {
     push_turn(text, states, k, turn.next)?;
-    push_three(text, turn)?;
+    push_expressions(text, turn, wide)?;
     text.push(b'\n')?;
     Ok(())
 }
@@ -162,27 +211,28 @@ fn push_moves_of(
     states: &[State],
     q: usize,
     state: &State,
+    wide: bool,
 ) -> Result<(), Memory>
     requires { q < 8 }
     ensures { let names = state_lines (map node_of states.now) in
-        let lines = moves_words names (3 * q) (all_moves (node_of state.now ∷ [])) in
+        let lines = moves_words wide names (3 * q) (all_moves (node_of state.now ∷ [])) in
         OnOk result (text.new.items ≡ text.old.items ++ lines_text lines) }
 {
-    push_move(text, states, 3 * q, &state.less)?;
-    push_move(text, states, 3 * q + 1, &state.equal)?;
-    push_move(text, states, 3 * q + 2, &state.greater)?;
+    push_move(text, states, 3 * q, &state.less, wide)?;
+    push_move(text, states, 3 * q + 1, &state.equal, wide)?;
+    push_move(text, states, 3 * q + 2, &state.greater, wide)?;
     Ok(())
 }
 
 /// Puts the lines of all moves behind `text`, those of each state in order.
-fn push_moves(text: &mut Vec<u8>, states: &[State]) -> Result<(), Memory>
+fn push_moves(text: &mut Vec<u8>, states: &[State], wide: bool) -> Result<(), Memory>
     requires { length states.now ≤ 8 }
     ensures { let nodes = map node_of states.now in
-        let lines = moves_words (state_lines nodes) 0 (all_moves nodes) in
+        let lines = moves_words wide (state_lines nodes) 0 (all_moves nodes) in
         OnOk result (text.new.items ≡ text.old.items ++ lines_text lines) }
 {
     for q in 0..states.len() {
-        push_moves_of(text, states, q, &states[q])?;
+        push_moves_of(text, states, q, &states[q], wide)?;
     }
     Ok(())
 }

@@ -14,6 +14,15 @@ returns-in_ok-push_expr-in-Add-2 n c =
     (c.in_ok-push_expr-in-Add-2.ensures ∙ ap (λ e. c.push_expr.new.text.items ++ behind (formula_words (formula e))) c.deref-in-Add.ensures)
     ∙ ap (λ e. c.args.text.now.items ++ behind (formula_words (formula e))) (sym c.in-Add.is)
 
+pub returns-in_ok-push_expr-in-Sub-2 : goal.returns-in_ok-push_expr-in-Sub-2
+returns-in_ok-push_expr-in-Sub-2 n c =
+    two_operands c.args.text.now.items (codes "sub") (formula_words (formula c.in-Sub.f.value)) (formula_words (formula c.in-Sub.g.value))
+    c.extend_from_slice-in-Sub.new.self.items c.push_expr-in-Sub.new.text.items c.push_expr-in-Sub-2.new.text.items
+    c.in_ok-extend_from_slice-in-Sub.ensures.items
+    (c.in_ok-push_expr-in-Sub.ensures ∙ ap (λ e. c.extend_from_slice-in-Sub.new.self.items ++ behind (formula_words (formula e))) c.deref-in-Sub.ensures)
+    (c.in_ok-push_expr-in-Sub-2.ensures ∙ ap (λ e. c.push_expr-in-Sub.new.text.items ++ behind (formula_words (formula e))) c.deref-in-Sub-2.ensures)
+    ∙ ap (λ e. c.args.text.now.items ++ behind (formula_words (formula e))) (sym c.in-Sub.is)
+
 pub returns-in_ok-push_expr-in-Max-2 : goal.returns-in_ok-push_expr-in-Max-2
 returns-in_ok-push_expr-in-Max-2 n c =
     two_operands c.args.text.now.items (codes "max") (formula_words (formula c.in-Max.f.value)) (formula_words (formula c.in-Max.g.value))

@@ -11,9 +11,9 @@ pub returns : goal.returns
 returns c =
     let parts = c.args.parts.now in
     let state_part : List State → _ = λ xs. lines_text (map state_words (state_lines (map node_of xs))) in
-    let move_part : List State → _ = λ xs. lines_text (moves_words (state_lines (map node_of xs)) 0 (all_moves (map node_of xs))) in
-    body_pushed (map state_words (state_lines (map node_of parts.states.items))) (start_words (regs_of parts.start))
-    (moves_words (state_lines (map node_of parts.states.items)) 0 (all_moves (map node_of parts.states.items)))
+    let move_part : List State → _ = λ xs. lines_text (moves_words parts.wide (state_lines (map node_of xs)) 0 (all_moves (map node_of xs))) in
+    body_pushed (map state_words (state_lines (map node_of parts.states.items))) (start_words parts.wide (regs_of parts.start))
+    (moves_words parts.wide (state_lines (map node_of parts.states.items)) 0 (all_moves (map node_of parts.states.items)))
     (finish_words (formula parts.finish) parts.mark) (codes "end" ∷ [])
     c.args.text.now.items c.push_states.new.text.items c.push_start.new.text.items c.push_moves.new.text.items c.push_finish.new.text.items
     c.extend_from_slice.new.self.items

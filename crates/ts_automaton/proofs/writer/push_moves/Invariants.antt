@@ -5,5 +5,5 @@ use Rattle.ts_automaton.proofs.writer.push_moves.Given as goal
 
 abbrev pub invariant-loop-q : goal.invariant-loop-q
 invariant-loop-q l =
-    l.text.items ++ lines_text (moves_words (state_lines (map node_of l.states)) (3 * l.q) (all_moves (map node_of (drop l.q l.states))))
-    ≡ l.fn.text.items ++ lines_text (moves_words (state_lines (map node_of l.states)) 0 (all_moves (map node_of l.states)))
+    l.text.items ++ lines_text (moves_words l.wide (state_lines (map node_of l.states)) (3 * l.q) (all_moves (map node_of (drop l.q l.states))))
+    ≡ l.fn.text.items ++ lines_text (moves_words l.wide (state_lines (map node_of l.states)) 0 (all_moves (map node_of l.states)))

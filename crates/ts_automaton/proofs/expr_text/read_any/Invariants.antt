@@ -1,6 +1,6 @@
 use Rattle.std.proofs.Common.{◌≡◌, ◌≤◌, drop, length, Some}
 use Rattle.ts_automaton.specs.FormulaText.{stack_of, texts, stack_seen}
-use Rattle.ts_automaton.proofs.expr_text.read_expr.Given as goal
+use Rattle.ts_automaton.proofs.expr_text.read_any.Given as goal
 
 abbrev pub invariant-loop-left : goal.invariant-loop-left
 invariant-loop-left l = record {

@@ -1,7 +1,7 @@
 use Rattle.std.proofs.Common.{arith}
 use Rattle.ts_automaton.specs.FormulaText.{stack_seen}
 use Rattle.ts_automaton.proofs.FrontLaws.{refused}
-use Rattle.ts_automaton.proofs.expr_text.read_expr.Goals as goal
+use Rattle.ts_automaton.proofs.expr_text.read_any.Goals as goal
 
 pub returns-then-not-branch : goal.returns-then-not-branch
 returns-then-not-branch c = refused c.args.words.now c.loop-left.left _ (stack_seen c.loop-left.stack.items) (omega arith)
