@@ -1,6 +1,6 @@
 //! The value of a term on a series: its aggregator over the features of the occurrences.
 //!
-//! Sums are whole numbers within 512 * 512 * 1,000,000, far from the ends of an `i64` and from the clamp of
+//! Sums are whole numbers within 512 * 1024 * 1,000,000, far from the ends of an `i64` and from the clamp of
 //! `Ext::plus`.
 
 ghost use Rattle.std.specs.Prelude.{◌≡◌, ◌≤◌, map, length, IfOk, IfSome};
@@ -9,7 +9,8 @@ ghost use Rattle.ts_base.specs.Signature.{signature_of};
 ghost use Rattle.ts_pattern.specs.Limits.{IsSeries};
 ghost use Rattle.ts_base.specs.Limits.{IsCellValue, most_cells};
 ghost use Rattle.ts_base.specs.Operators.{int_op};
-ghost use Rattle.ts_pattern.specs.FeatureValue.{over, feature_of_cells, feature_value};
+ghost use Rattle.ts_pattern.specs.FeatureValue.{over, or_zero, feature_of_cells, feature_value};
+ghost use Rattle.ts_pattern.specs.Folded.{joined_by, taken_away};
 ghost use Rattle.ts_pattern.specs.Arithmetic.{worth_of};
 ghost use Rattle.ts_transducer.specs.Inside.{IsInside};
 ghost use Rattle.ts_occurrence.specs.Total.{IsWithin, with_one};
@@ -19,7 +20,7 @@ use crate::occurrence::occurrences;
 use crate::series::{part, signature};
 use std::alloc::Global;
 use ts_base::{Ext, Letter, Memory, Op, Range};
-use ts_pattern::{Aggregator, Feature, Term, Worth, pattern_by_id};
+use ts_pattern::{Aggregator, CellFold, Feature, Term, Worth, pattern_by_id};
 
 /// The value of the term on a series of 1 to 512 cells from -1,000,000 to 1,000,000.
 pub fn value(alloc: Global, t: &Term, series: &[i64]) -> Result<Ext, Memory>
@@ -77,7 +78,7 @@ fn total(op: Op, f: Feature, ranges: &[Range], series: &[i64]) -> Option<i64>
 /// The total joined with one more number.
 fn join(op: Op, total: Option<i64>, x: i64) -> i64
     requires total { IfSome total (λ t. IsWithin 1000000000000 t) }
-    requires feature { IsWithin 512000000 x }
+    requires feature { IsWithin 1024000000 x }
     ensures { result ≡ with_one (int_op op) total x }
 {
     match (op, total) {
@@ -104,20 +105,44 @@ fn feature_at(f: Feature, r: Range, series: &[i64]) -> i64
     requires series { IsSeries series.now }
     requires inside { IsInside (length series.now) r }
     ensures exact { result ≡ feature_value f r series.now }
-    ensures within { IsWithin 512000000 result }
+    ensures within { IsWithin 1024000000 result }
 {
     feature(f, part(r, series))
 }
 
-/// The feature of an e-range with those cells: its row's operator over what each cell is worth there.
+/// The feature of an e-range with those cells: what its rows make of what each cell is worth there.
 fn feature(f: Feature, cells: &[i64]) -> i64
     requires some { 1 ≤ length cells.now }
     requires few { length cells.now ≤ most_cells }
     requires cells { All IsCellValue cells.now }
     ensures exact { result ≡ feature_of_cells f cells.now }
+    ensures within { IsWithin 1024000000 result }
+{
+    let whole = joined(f.fold(), cells);
+    let less = taken_away(f.less(), cells);
+    whole - less
+}
+
+/// What is taken away from it.
+fn taken_away(row: Option<CellFold>, cells: &[i64]) -> i64
+    requires few { length cells.now ≤ most_cells }
+    requires cells { All IsCellValue cells.now }
+    ensures exact { result ≡ taken_away row cells.now }
     ensures within { IsWithin 512000000 result }
 {
-    let row = f.fold();
+    match row {
+        Some(row) => joined(row, cells),
+        None => 0,
+    }
+}
+
+/// What a row joins of what each cell is worth.
+fn joined(row: CellFold, cells: &[i64]) -> i64
+    requires few { length cells.now ≤ most_cells }
+    requires cells { All IsCellValue cells.now }
+    ensures exact { result ≡ or_zero (joined_by row cells.now) }
+    ensures within { IsWithin 512000000 result }
+{
     over(row.op, row.worth, cells).unwrap_or(0)
 }
 

@@ -1,5 +1,5 @@
 -- How features and aggregators count (Global Constraint Catalog, Volume II: features and aggregators): a row for each.
-use Rattle.std.specs.Prelude.{ℤ, pos}
+use Rattle.std.specs.Prelude.{ℤ, pos, Option, Some, None}
 use Rattle.ts_base.specs.declared.ext.Ext.{Ext}
 use Rattle.ts_base.specs.declared.ext.Ext.TheVariants.{Int}
 use Rattle.ts_base.specs.declared.constant.Constant.{Constant}
@@ -10,7 +10,7 @@ use Rattle.ts_base.specs.Operators.{constant_value}
 use Rattle.ts_pattern.specs.declared.name.Aggregator.{Aggregator}
 use Rattle.ts_pattern.specs.declared.name.Aggregator.TheVariants.{Sum, Max as MaxOf, Min as MinOf}
 use Rattle.ts_pattern.specs.declared.name.Feature.{Feature}
-use Rattle.ts_pattern.specs.declared.name.Feature.TheVariants.{One, Width, Surf, Max as MaxFeature, Min as MinFeature}
+use Rattle.ts_pattern.specs.declared.name.Feature.TheVariants.{One, Width, Surf, Max as MaxFeature, Min as MinFeature, Range}
 use Rattle.ts_pattern.specs.declared.arithmetic.CellFold.{CellFold}
 use Rattle.ts_pattern.specs.declared.arithmetic.RangeFold.{RangeFold}
 use Rattle.ts_pattern.specs.declared.arithmetic.Worth.{Worth}
@@ -19,13 +19,23 @@ use Rattle.ts_pattern.specs.declared.arithmetic.Worth.TheVariants.{Unit as UnitW
 abbrev pub cells_by : Op → Constant → Worth → CellFold
 cells_by op neutral worth = record { op = op; neutral = neutral; worth = worth }
 
--- what joins the cells of an e-range, what stands for no cell, and what a cell is worth
+-- what joins the cells of an e-range, what stands for no cell, and what a cell is worth; a range is the greatest cell,
+-- less the least one
 abbrev pub cell_fold : Feature → CellFold
 cell_fold One = cells_by Max UnitConstant UnitWorth
 cell_fold Width = cells_by Add Zero UnitWorth
 cell_fold Surf = cells_by Add Zero Cell
 cell_fold MaxFeature = cells_by Max NegInf Cell
 cell_fold MinFeature = cells_by Min PosInf Cell
+cell_fold Range = cells_by Max NegInf Cell
+
+abbrev pub less_fold : Feature → Option CellFold
+less_fold One = None
+less_fold Width = None
+less_fold Surf = None
+less_fold MaxFeature = None
+less_fold MinFeature = None
+less_fold Range = Some (cells_by Min PosInf Cell)
 
 abbrev pub ranges_by : Op → Constant → RangeFold
 ranges_by op default = record { op = op; default = default }

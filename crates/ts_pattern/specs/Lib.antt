@@ -8,6 +8,7 @@ pub mod AllOccurrences
 pub mod Limits
 pub mod Arithmetic
 pub mod FeatureValue
+pub mod Folded
 pub mod TermValue
 pub mod Entries
 pub mod Closed

@@ -4,7 +4,7 @@ use Rattle.std.specs.Prelude.{ℕ, List, [], ◌∷◌, Bool, true, false, codes
 use Rattle.ts_pattern.specs.declared.name.PatternId.{PatternId}
 use Rattle.ts_pattern.specs.declared.name.PatternId.TheVariants.{Increasing, Decreasing, Steady, IncreasingSequence, DecreasingSequence, StrictlyIncreasingSequence, StrictlyDecreasingSequence, SteadySequence, IncreasingTerrace, DecreasingTerrace, Inflexion, Peak, Valley, Plateau, Plain, ProperPlateau, ProperPlain, Summit, Gorge, Zigzag, DipOnIncreasingSequence, BumpOnDecreasingSequence}
 use Rattle.ts_pattern.specs.declared.name.Feature.{Feature}
-use Rattle.ts_pattern.specs.declared.name.Feature.TheVariants.{One, Width, Surf, Max as MaxFeature, Min as MinFeature}
+use Rattle.ts_pattern.specs.declared.name.Feature.TheVariants.{One, Width, Surf, Max as MaxFeature, Min as MinFeature, Range}
 use Rattle.ts_pattern.specs.declared.name.Aggregator.{Aggregator}
 use Rattle.ts_pattern.specs.declared.name.Aggregator.TheVariants.{Sum, Max, Min}
 
@@ -46,6 +46,7 @@ feature_name Width = codes "width"
 feature_name Surf = codes "surf"
 feature_name MaxFeature = codes "max"
 feature_name MinFeature = codes "min"
+feature_name Range = codes "range"
 
 abbrev pub aggregator_name : Aggregator → List ℕ
 aggregator_name Sum = codes "sum"
@@ -54,7 +55,7 @@ aggregator_name Min = codes "min"
 
 -- the features in their order
 abbrev pub all_features : List Feature
-all_features = One ∷ Width ∷ Surf ∷ MaxFeature ∷ MinFeature ∷ []
+all_features = One ∷ Width ∷ Surf ∷ MaxFeature ∷ MinFeature ∷ Range ∷ []
 
 -- the aggregators in their order
 abbrev pub all_aggregators : List Aggregator

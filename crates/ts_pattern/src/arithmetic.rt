@@ -1,7 +1,7 @@
 //! How features and aggregators count: a row for each.
 
 ghost use Rattle.std.specs.Prelude.{◌≡◌};
-ghost use Rattle.ts_pattern.specs.Arithmetic.{cell_fold, range_fold};
+ghost use Rattle.ts_pattern.specs.Arithmetic.{cell_fold, less_fold, range_fold};
 
 use crate::name::{Aggregator, Feature};
 use ts_base::{Constant, Op};
@@ -30,7 +30,7 @@ pub struct RangeFold {
 }
 
 impl Feature {
-    /// How the cells of an e-range make this feature.
+    /// How the cells of an e-range make this feature, or that from which `less` is taken away.
     pub fn fold(self) -> CellFold
         ensures { result ≡ cell_fold self }
     {
@@ -38,10 +38,20 @@ impl Feature {
             Feature::One => (Op::Max, Constant::Unit, Worth::Unit),
             Feature::Width => (Op::Add, Constant::Zero, Worth::Unit),
             Feature::Surf => (Op::Add, Constant::Zero, Worth::Cell),
-            Feature::Max => (Op::Max, Constant::NegInf, Worth::Cell),
+            Feature::Max | Feature::Range => (Op::Max, Constant::NegInf, Worth::Cell),
             Feature::Min => (Op::Min, Constant::PosInf, Worth::Cell),
         };
         CellFold { op, neutral, worth }
+    }
+
+    /// How the cells make what is taken away: for `range` the least of them.
+    pub fn less(self) -> Option<CellFold>
+        ensures { result ≡ less_fold self }
+    {
+        match self {
+            Feature::Range => Some(Feature::Min.fold()),
+            Feature::One | Feature::Width | Feature::Surf | Feature::Max | Feature::Min => None,
+        }
     }
 }
 

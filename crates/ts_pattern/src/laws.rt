@@ -1,14 +1,13 @@
 //! Laws of the definitions: what the list of occurrences holds, how features count, and what the test of a plan shows.
 
-ghost use Rattle.std.specs.Prelude.{◌≡◌, ℕ, ℤ, ◌∷◌, List, map, IsTrue, Some};
+ghost use Rattle.std.specs.Prelude.{◌≡◌, ℕ, ℤ, ◌∷◌, List, IsTrue, Some};
 ghost use Rattle.ts_base.specs.declared.letter.Letter.{Letter};
 ghost use Rattle.ts_base.specs.declared.range.Range.{Range};
-ghost use Rattle.ts_base.specs.Operators.{int_op};
 ghost use Rattle.ts_regex.specs.Shape.{Shape};
 ghost use Rattle.ts_transducer.specs.declared.row.Row.{Row};
 ghost use Rattle.ts_pattern.specs.declared.name.Feature.{Feature as AnyFeature};
-ghost use Rattle.ts_pattern.specs.Arithmetic.{cell_fold, cell_op, worth_of};
-ghost use Rattle.ts_pattern.specs.FeatureValue.{feature_of_cells, over};
+ghost use Rattle.ts_pattern.specs.FeatureValue.{feature_of_cells};
+ghost use Rattle.ts_pattern.specs.Folded.{folded_by};
 ghost use Rattle.ts_pattern.specs.OccurrenceList.{AreRanges};
 ghost use Rattle.ts_pattern.specs.AllOccurrences.{occurrence_ranges};
 ghost use Rattle.ts_pattern.specs.Closed.{IsClosed};
@@ -22,11 +21,11 @@ pub fn all_occurrences()
         AreRanges p b a w ranges → ranges ≡ occurrence_ranges p b a w }
 {}
 
-/// The feature of at least one cell is what its row joins of what the cells are worth.
+/// The feature of at least one cell is what its rows make of what the cells are worth.
 #[tactic(auto, using(crate::proofs::FeatureFolds::features_are_folds))]
 pub fn features_are_folds()
     ensures { (f : AnyFeature) (x : ℤ) (xs : List ℤ) →
-        over (int_op (cell_op f)) (map (worth_of (cell_fold f).worth) (x ∷ xs)) ≡ Some (feature_of_cells f (x ∷ xs)) }
+        folded_by f (x ∷ xs) ≡ Some (feature_of_cells f (x ∷ xs)) }
 {}
 
 /// Where the test that computes is true, the plan is closed.

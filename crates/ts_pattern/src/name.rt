@@ -32,7 +32,8 @@ pub enum PatternId {
     BumpOnDecreasingSequence,
 }
 
-/// What an occurrence is worth: 1, the number of its cells, or the sum, greatest or least of their values.
+/// What an occurrence is worth: 1, the number of its cells, the sum, greatest or least of their values, or the greatest
+/// less the least.
 #[derive(Clone, Copy, Debug, PartialEq, Eq)]
 pub enum Feature {
     One,
@@ -40,6 +41,7 @@ pub enum Feature {
     Surf,
     Max,
     Min,
+    Range,
 }
 
 /// How the features of all occurrences make one value.
@@ -135,6 +137,7 @@ pub fn feature_name(f: Feature) -> &'static [u8]
         Feature::Surf => b"surf",
         Feature::Max => b"max",
         Feature::Min => b"min",
+        Feature::Range => b"range",
     }
 }
 
@@ -148,6 +151,7 @@ pub fn feature_of(word: &[u8]) -> Option<Feature>
         b"surf" => Some(Feature::Surf),
         b"max" => Some(Feature::Max),
         b"min" => Some(Feature::Min),
+        b"range" => Some(Feature::Range),
         _ => None,
     }
 }

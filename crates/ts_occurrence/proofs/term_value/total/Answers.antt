@@ -19,7 +19,7 @@ loop-k-preserved c =
           (over_map_more (int_op c.args.op) (λ r. feature_value c.args.f r c.args.series.now) c.args.ranges.now c.loop-k.k _
           (to_z w64 (of_z w64 c.feature_at-x.result)) c.join.result c.loop-k.total c.loop-k-test.true (feature ∙ c.feature_at-x.ensures.exact)
           c.loop-k.invariant.so_far c.join.ensures);
-      within = subst (λ z. IsWithin (512000000 * (c.loop-k.k + 1)) z) (sym back)
-          (within_more c.args.op 512000000 c.loop-k.k (to_z w64 (of_z w64 c.feature_at-x.result)) c.join.result c.loop-k.total c.loop-k.invariant.within
-          (subst (λ z. IsWithin 512000000 z) (sym feature) c.feature_at-x.ensures.within) c.join.ensures);
+      within = subst (λ z. IsWithin (1024000000 * (c.loop-k.k + 1)) z) (sym back)
+          (within_more c.args.op 1024000000 c.loop-k.k (to_z w64 (of_z w64 c.feature_at-x.result)) c.join.result c.loop-k.total c.loop-k.invariant.within
+          (subst (λ z. IsWithin 1024000000 z) (sym feature) c.feature_at-x.ensures.within) c.join.ensures);
     }

@@ -9,5 +9,5 @@ abbrev pub invariant-loop-k : goal.invariant-loop-k
 invariant-loop-k l =
     record {
       so_far : l.total ≡ over (int_op l.op) (map (λ r. feature_value l.f r l.series) (take l.k l.ranges));
-      within : IfSome l.total (λ t. IsWithin (512000000 * l.k) t);
+      within : IfSome l.total (λ t. IsWithin (1024000000 * l.k) t);
     }
