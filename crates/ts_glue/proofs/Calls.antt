@@ -1,12 +1,14 @@
 -- What the calls of a machine that can be split need: the shapes are those of its pair, a shape with its operators and its worth is the expression
 -- of the pair, and each operator in it meets values that it takes.
-use Rattle.std.proofs.Common.{◌≡◌, ◌<◌, ◌⊎◌, ℕ, zero, suc, ◌+◌, Bool, true, false, cond, ℤ, List, length, set, get_or, refl, sym, ◌∙◌, ap, subst, ⊎_elim, inl, inr, arith}
+use Rattle.std.proofs.Common.{◌≡◌, ◌<◌, ◌⊎◌, ℕ, zero, suc, ◌+◌, Bool, true, false, cond, ℤ, List, length, set, get_or, refl, sym, ◌∙◌, ap, subst, ⊎_elim, arith}
 use Rattle.std.proofs.lemmas.List.{get_or-set_same, get_or-set_other}
 use Rattle.std.specs.Prelude.{IsTrue, IfSome, IsSome, ◌&&◌, Option, None, Some, option_map}
 use Rattle.ts_base.specs.declared.ext.Ext.{Ext}
 use Rattle.ts_base.specs.declared.span.Span.{Span}
 use Rattle.ts_base.specs.declared.op.Op.{Op}
+use Rattle.ts_base.specs.declared.op.Op.TheVariants.{Min}
 use Rattle.ts_base.specs.Spans.{none_span}
+use Rattle.ts_automaton.specs.declared.expr.Operator.TheVariants.{Sub}
 use Rattle.ts_automaton.specs.Registers.{numbers, spans}
 use Rattle.ts_automaton.specs.Kinds.{Fits, SpansFit}
 use Rattle.ts_automaton.specs.Body.{Body, node_at}
@@ -17,15 +19,15 @@ use Rattle.ts_automaton.specs.SpanRun.{has_registers, HullStands, marked_span}
 use Rattle.ts_glue.specs.declared.machine.Half.{Half}
 use Rattle.ts_glue.specs.declared.machine.Machine.{Machine}
 use Rattle.ts_glue.specs.declared.gluing.Gluing.{Gluing}
-use Rattle.ts_glue.specs.declared.shape.Shape.{Shape}
-use Rattle.ts_glue.specs.declared.shape.Shape.TheVariants.{Apart}
+use Rattle.ts_glue.specs.declared.operand.Part.{Part}
+use Rattle.ts_glue.specs.declared.operand.Part.TheVariants.{Whole, Away}
+use Rattle.ts_glue.specs.declared.shape.Shape.TheVariants.{Apart, Through}
 use Rattle.ts_glue.specs.declared.shape.Shapes.{Shapes}
 use Rattle.ts_glue.specs.Pairs.{Pair, pair, table_view}
 use Rattle.ts_glue.specs.Machines.{forward_of, reverse_of, pair_of}
 use Rattle.ts_glue.specs.Glued.{glued_span}
-use Rattle.ts_glue.specs.Glue.{Glue, GlueTakes, glue_in, fold_op, worth, is_join, apart, fold_of, join_of, result_op, glue_of}
-use Rattle.ts_glue.specs.Rules.{keeps_rules}
-use Rattle.ts_glue.specs.Shapes.{glue_by, expression, join_shape, shape_of, shape_at, AreShapes}
+use Rattle.ts_glue.specs.Glue.{Glue, With, GlueTakes, glue_in, fold_op, worth, is_join, is_wide, apart, fold_of, join_of, part_of, result_op, glue_of}
+use Rattle.ts_glue.specs.Shapes.{glue_by, expression, part_by, seam_of, shape_of, shape_at, AreShapes}
 use Rattle.ts_glue.proofs.Facts.{facts_of}
 use Rattle.ts_glue.proofs.Typed.{glue_fits, hulls_fit}
 
@@ -44,10 +46,15 @@ filled_more Is xs k x d within before here i l =
     (λ e. subst (λ j. Is j (get_or (set xs k x) j d)) (sym e) (subst (Is k) (sym (get_or-set_same xs k x d within)) here))
     (below_or_same i k l)
 
--- the shape where one occurrence goes on is its fold
-join_shape_is : (a : ℕ) (g o : Op) (u v : Bool) (d : ℤ) → glue_by g o d (join_shape a u v) ≡ join_of g (fold_of a o u v d)
-join_shape_is zero g o u v d = refl
-join_shape_is (suc a) g o u v d = refl
+-- the seam of an occurrence is its fold
+part_is : (a : ℕ) (u v : Bool) (d : ℤ) (o : Op) (p : Part) → part_by (seam_of a u v) d o p ≡ part_of a u v d o p
+part_is zero u v d o p = refl
+part_is (suc a) u v d o p = refl
+
+seam_is : (wide : Bool) (a : ℕ) (u v : Bool) (d : ℤ) (o : Op) → fold_of wide o (part_by (seam_of a u v) d) ≡ fold_of wide o (part_of a u v d)
+seam_is false a u v d o = part_is a u v d o Whole
+seam_is true a u v d o =
+    ap (λ z. With Sub z (part_by (seam_of a u v) d Min Away)) (part_is a u v d o Whole) ∙ ap (With Sub (part_of a u v d o Whole)) (part_is a u v d Min Away)
 
 module _ (p : Pair) (q r : ℕ) (x : ℤ) where
   abbrev held_left : Bool
@@ -57,13 +64,16 @@ module _ (p : Pair) (q r : ℕ) (x : ℤ) where
   held_right = (node_at p.reverse.states r).held
 
   -- the shape of a pair of states is its expression
-  pub shape_is : glue_by (result_op p) (fold_op p.table.op) (worth p.table.unit x) (shape_of p q r) ≡ glue_of p q r x
+  pub shape_is : glue_by (result_op p) p.table.op (worth p.table.unit x) (shape_of p q r) ≡ glue_of p q r x
   shape_is = go (is_join p.table q r)
     where
       go : (b : Bool) →
-          glue_by (result_op p) (fold_op p.table.op) (worth p.table.unit x) (cond b (join_shape p.table.a held_left held_right) Apart)
-          ≡ cond b (join_of (result_op p) (fold_of p.table.a (fold_op p.table.op) held_left held_right (worth p.table.unit x))) (apart (result_op p))
-      go true = join_shape_is p.table.a (result_op p) (fold_op p.table.op) held_left held_right (worth p.table.unit x)
+          glue_by (result_op p) p.table.op (worth p.table.unit x) (cond b (Through (seam_of p.table.a held_left held_right)) Apart)
+          ≡ cond b
+          (join_of (result_op p)
+          (fold_of (is_wide p) (fold_op p.table.op) (part_of p.table.a held_left held_right (worth p.table.unit x))))
+          (apart (is_wide p) (result_op p))
+      go true = ap (join_of (result_op p)) (seam_is (is_wide p) p.table.a held_left held_right (worth p.table.unit x) (fold_op p.table.op))
       go false = refl
 
 -- what a table of shapes tells of a pair of states
@@ -73,8 +83,8 @@ pub gluing_is : (t : Shapes) (g : Gluing) (left right : ℕ) (x : ℤ) → g.res
 gluing_is t g left right x er ef ew es p h l r =
     ap (λ z. glue_by z g.fold g.worth g.shape) (er ∙ h.0)
     ∙ ap (λ z. glue_by (result_op p) z g.worth g.shape) (ef ∙ h.1)
-    ∙ ap (λ z. glue_by (result_op p) (fold_op p.table.op) z g.shape) (ew ∙ ap (λ u. worth u x) h.2)
-    ∙ ap (glue_by (result_op p) (fold_op p.table.op) (worth p.table.unit x)) (es ∙ h.3 left l right r)
+    ∙ ap (λ z. glue_by (result_op p) p.table.op z g.shape) (ew ∙ ap (λ u. worth u x) h.2)
+    ∙ ap (glue_by (result_op p) p.table.op (worth p.table.unit x)) (es ∙ h.3 left l right r)
     ∙ shape_is p left right x
 
 -- the expression is that of the machine's pair in the states where the two runs stand

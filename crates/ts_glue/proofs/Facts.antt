@@ -1,20 +1,23 @@
 -- What the rules of a pair say, as facts.
-use Rattle.std.proofs.Common.{◌≡◌, ℕ, Bool, true, false, not, ◌&&◌, ◌||◌, List, [], ◌∷◌, ℤ, pos, refl, sym, ap, subst, arith}
+use Rattle.std.proofs.Common.{◌≡◌, ℕ, Bool, true, false, not, ◌&&◌, ◌||◌, List, [], ◌∷◌, ℤ, pos, refl, sym, ◌∙◌, ap, subst, arith}
 use Rattle.std.specs.Prelude.{IsTrue, is_some, nat_eq}
 use Rattle.std.specs.List.{list_all, list_any}
 use Rattle.std.specs.Ordering.{int_eq}
-use Rattle.std.proofs.lemmas.Bool.{and_parts, eqb-true}
+use Rattle.std.proofs.lemmas.Bool.{and_parts, eqb-true, not-true}
 use Rattle.std.proofs.lemmas.Int.{ints}
 use Rattle.ts_base.specs.declared.ext.Ext.{Ext}
 use Rattle.ts_base.specs.declared.ext.Ext.TheVariants.{NegInf, Int, PosInf}
 use Rattle.ts_base.specs.declared.range.Join.{Join}
-use Rattle.ts_automaton.specs.declared.expr.Atom.TheVariants.{C, D, R, This, Next, Zero, Unit as UnitAtom, NegInf as LowAtom, PosInf as HighAtom}
+use Rattle.ts_automaton.specs.declared.expr.Atom.TheVariants.{C, E, D, F, R, This, Next, Zero, Unit as UnitAtom, NegInf as LowAtom, PosInf as HighAtom}
 use Rattle.ts_base.specs.declared.op.Op.{Op}
+use Rattle.ts_automaton.specs.declared.expr.Operator.TheVariants.{Fold, Sub}
 use Rattle.ts_base.specs.declared.op.Op.TheVariants.{Add, Max, Min}
 use Rattle.ts_automaton.specs.Formula.{Formula, Leaf, Join as Joined}
 use Rattle.ts_glue.specs.Pairs.{Pair}
-use Rattle.ts_glue.specs.Glue.{is_join, result_op}
-use Rattle.ts_glue.specs.Rules.{has_trim, is_same_op, gives_result, has_results, is_neutral, starts_neutral, has_join_states, starts_apart, glue_kind, has_typed_joins, keeps_rules}
+use Rattle.ts_automaton.specs.Body.{Body}
+use Rattle.ts_automaton.specs.Typing.{is_number_zero}
+use Rattle.ts_glue.specs.Glue.{held_of, is_join, is_wide, result_of, result_op}
+use Rattle.ts_glue.specs.Rules.{has_trim, has_width, has_widths, is_same_op, is_held, gives_result, has_results, is_neutral, starts_neutral, has_join_states, starts_apart, glue_kind, has_typed_joins, keeps_rules}
 
 pub same_op_is : (o p : Op) → is_same_op o p ≡ true → o ≡ p
 same_op_is Add Add h = refl
@@ -27,31 +30,67 @@ same_op_is Min Add h = cc
 same_op_is Min Max h = cc
 same_op_is Min Min h = refl
 
--- the expression `o R C`
-abbrev pub result_of : Op → Formula
-result_of o = Joined o (Leaf R) (Leaf C)
+pub width_is : (wide : Bool) (b : Body) → has_width wide b ≡ true → b.wide ≡ wide
+width_is true b h = h
+width_is false b h = not-true b.wide h
 
-pub result_is : (o : Op) (f : Formula) → gives_result o f ≡ true → f ≡ result_of o
-result_is o (Leaf a) h = cc
-result_is o (Joined p (Leaf C) g) h = cc
-result_is o (Joined p (Leaf D) g) h = cc
-result_is o (Joined p (Leaf This) g) h = cc
-result_is o (Joined p (Leaf Next) g) h = cc
-result_is o (Joined p (Leaf Zero) g) h = cc
-result_is o (Joined p (Leaf UnitAtom) g) h = cc
-result_is o (Joined p (Leaf LowAtom) g) h = cc
-result_is o (Joined p (Leaf HighAtom) g) h = cc
-result_is o (Joined p (Joined q f g) k) h = cc
-result_is o (Joined p (Leaf R) (Leaf C)) h = ap (λ z. Joined z (Leaf R) (Leaf C)) (sym (same_op_is o p h))
-result_is o (Joined p (Leaf R) (Leaf D)) h = cc
-result_is o (Joined p (Leaf R) (Leaf R)) h = cc
-result_is o (Joined p (Leaf R) (Leaf This)) h = cc
-result_is o (Joined p (Leaf R) (Leaf Next)) h = cc
-result_is o (Joined p (Leaf R) (Leaf Zero)) h = cc
-result_is o (Joined p (Leaf R) (Leaf UnitAtom)) h = cc
-result_is o (Joined p (Leaf R) (Leaf LowAtom)) h = cc
-result_is o (Joined p (Leaf R) (Leaf HighAtom)) h = cc
-result_is o (Joined p (Leaf R) (Joined q f g)) h = cc
+-- C, of a wide automaton `sub C E`
+held_is : (wide : Bool) (f : Formula) → is_held wide f ≡ true → f ≡ held_of wide
+held_is false (Leaf C) h = refl
+held_is false (Leaf E) h = cc
+held_is false (Leaf D) h = cc
+held_is false (Leaf F) h = cc
+held_is false (Leaf R) h = cc
+held_is false (Leaf This) h = cc
+held_is false (Leaf Next) h = cc
+held_is false (Leaf Zero) h = cc
+held_is false (Leaf UnitAtom) h = cc
+held_is false (Leaf LowAtom) h = cc
+held_is false (Leaf HighAtom) h = cc
+held_is false (Joined o f g) h = cc
+held_is true (Leaf a) h = cc
+held_is true (Joined (Fold o) f g) h = cc
+held_is true (Joined Sub (Leaf C) (Leaf C)) h = cc
+held_is true (Joined Sub (Leaf C) (Leaf E)) h = refl
+held_is true (Joined Sub (Leaf C) (Leaf D)) h = cc
+held_is true (Joined Sub (Leaf C) (Leaf F)) h = cc
+held_is true (Joined Sub (Leaf C) (Leaf R)) h = cc
+held_is true (Joined Sub (Leaf C) (Leaf This)) h = cc
+held_is true (Joined Sub (Leaf C) (Leaf Next)) h = cc
+held_is true (Joined Sub (Leaf C) (Leaf Zero)) h = cc
+held_is true (Joined Sub (Leaf C) (Leaf UnitAtom)) h = cc
+held_is true (Joined Sub (Leaf C) (Leaf LowAtom)) h = cc
+held_is true (Joined Sub (Leaf C) (Leaf HighAtom)) h = cc
+held_is true (Joined Sub (Leaf C) (Joined o f g)) h = cc
+held_is true (Joined Sub (Leaf E) g) h = cc
+held_is true (Joined Sub (Leaf D) g) h = cc
+held_is true (Joined Sub (Leaf F) g) h = cc
+held_is true (Joined Sub (Leaf R) g) h = cc
+held_is true (Joined Sub (Leaf This) g) h = cc
+held_is true (Joined Sub (Leaf Next) g) h = cc
+held_is true (Joined Sub (Leaf Zero) g) h = cc
+held_is true (Joined Sub (Leaf UnitAtom) g) h = cc
+held_is true (Joined Sub (Leaf LowAtom) g) h = cc
+held_is true (Joined Sub (Leaf HighAtom) g) h = cc
+held_is true (Joined Sub (Joined o e f) g) h = cc
+
+pub result_is : (wide : Bool) (o : Op) (f : Formula) → gives_result wide o f ≡ true → f ≡ result_of wide o
+result_is wide o (Leaf a) h = cc
+result_is wide o (Joined Sub f g) h = cc
+result_is wide o (Joined (Fold p) (Leaf C) g) h = cc
+result_is wide o (Joined (Fold p) (Leaf E) g) h = cc
+result_is wide o (Joined (Fold p) (Leaf D) g) h = cc
+result_is wide o (Joined (Fold p) (Leaf F) g) h = cc
+result_is wide o (Joined (Fold p) (Leaf R) g) h =
+    let p_is = and_parts (is_same_op o p) (is_held wide g) h in
+    ap (λ z. Joined (Fold z) (Leaf R) g) (sym (same_op_is o p p_is.0)) ∙ ap (Joined (Fold o) (Leaf R)) (held_is wide g p_is.1)
+result_is wide o (Joined (Fold p) (Leaf This) g) h = cc
+result_is wide o (Joined (Fold p) (Leaf Next) g) h = cc
+result_is wide o (Joined (Fold p) (Leaf Zero) g) h = cc
+result_is wide o (Joined (Fold p) (Leaf UnitAtom) g) h = cc
+result_is wide o (Joined (Fold p) (Leaf LowAtom) g) h = cc
+result_is wide o (Joined (Fold p) (Leaf HighAtom) g) h = cc
+result_is wide o (Joined (Fold p) (Joined q f g) k) h = cc
 
 -- what the operator leaves as it is
 abbrev pub neutral_of : Op → Ext
@@ -73,6 +112,16 @@ neutral_is Min NegInf h = cc
 neutral_is Min (Int x) h = cc
 neutral_is Min PosInf h = refl
 
+number_zero_is : (e : Ext) → is_number_zero e ≡ true → e ≡ Int (pos 0)
+number_zero_is NegInf h = cc
+number_zero_is (Int x) h = zero_is x h
+number_zero_is PosInf h = cc
+
+-- a test that is asked of wide automata alone holds of these
+of_wide : (wide b : Bool) → (not wide || b) ≡ true → wide ≡ true → b ≡ true
+of_wide true b h e = h
+of_wide false b h e = cc
+
 -- a test of two states that all pairs of a list pass is passed by those that stand in it
 pub join_passes : (test : ℕ → ℕ → Bool) (js : List Join) (q r : ℕ) → list_any (λ j. nat_eq j.forward q && nat_eq j.reverse r) js ≡ true →
     list_all (λ j. test j.forward j.reverse) js ≡ true → test q r ≡ true
@@ -90,29 +139,41 @@ join_passes test (j ∷ js) q r e h =
 
 pub record Facts (p : Pair) : Type 0 where
   pub trim : IsTrue (has_trim p)
-  pub forward_finish : p.forward.finish ≡ result_of (result_op p)
-  pub reverse_finish : p.reverse.finish ≡ result_of (result_op p)
+  pub forward_width : p.forward.wide ≡ is_wide p
+  pub reverse_width : p.reverse.wide ≡ is_wide p
+  pub forward_finish : p.forward.finish ≡ result_of (is_wide p) (result_op p)
+  pub reverse_finish : p.reverse.finish ≡ result_of (is_wide p) (result_op p)
   pub start_c : p.reverse.start.c ≡ neutral_of (result_op p)
   pub start_r : p.reverse.start.r ≡ neutral_of (result_op p)
+  pub start_e : is_wide p ≡ true → p.reverse.start.e ≡ Int (pos 0)
   pub join_states : IsTrue (has_join_states p)
   pub starts : IsTrue (starts_apart p)
   pub typed : IsTrue (has_typed_joins p)
 
 pub facts_of : (p : Pair) → IsTrue (keeps_rules p) → Facts p
 facts_of p h =
-    let a = and_parts (has_trim p && has_results p && starts_neutral p && has_join_states p && starts_apart p) (has_typed_joins p) h in
-    let b = and_parts (has_trim p && has_results p && starts_neutral p && has_join_states p) (starts_apart p) a.0 in
-    let c = and_parts (has_trim p && has_results p && starts_neutral p) (has_join_states p) b.0 in
-    let d = and_parts (has_trim p && has_results p) (starts_neutral p) c.0 in
-    let e = and_parts (has_trim p) (has_results p) d.0 in
-    let f = and_parts (gives_result (result_op p) p.forward.finish) (gives_result (result_op p) p.reverse.finish) e.1 in
-    let g = and_parts (is_neutral (result_op p) p.reverse.start.c) (is_neutral (result_op p) p.reverse.start.r) d.1 in
+    let o = result_op p in
+    let start = p.reverse.start in
+    let a =
+    and_parts (has_trim p && has_widths p && has_results p && starts_neutral p && has_join_states p && starts_apart p) (has_typed_joins p) h in
+    let b = and_parts (has_trim p && has_widths p && has_results p && starts_neutral p && has_join_states p) (starts_apart p) a.0 in
+    let c = and_parts (has_trim p && has_widths p && has_results p && starts_neutral p) (has_join_states p) b.0 in
+    let d = and_parts (has_trim p && has_widths p && has_results p) (starts_neutral p) c.0 in
+    let e = and_parts (has_trim p && has_widths p) (has_results p) d.0 in
+    let f = and_parts (has_trim p) (has_widths p) e.0 in
+    let widths = and_parts (has_width (is_wide p) p.forward) (has_width (is_wide p) p.reverse) f.1 in
+    let results = and_parts (gives_result (is_wide p) o p.forward.finish) (gives_result (is_wide p) o p.reverse.finish) e.1 in
+    let starts = and_parts (is_neutral o start.c && is_neutral o start.r) (not (is_wide p) || is_number_zero start.e) d.1 in
+    let neutral = and_parts (is_neutral o start.c) (is_neutral o start.r) starts.0 in
     record {
-      trim = e.0;
-      forward_finish = result_is (result_op p) p.forward.finish f.0;
-      reverse_finish = result_is (result_op p) p.reverse.finish f.1;
-      start_c = neutral_is (result_op p) p.reverse.start.c g.0;
-      start_r = neutral_is (result_op p) p.reverse.start.r g.1;
+      trim = f.0;
+      forward_width = width_is (is_wide p) p.forward widths.0;
+      reverse_width = width_is (is_wide p) p.reverse widths.1;
+      forward_finish = result_is (is_wide p) o p.forward.finish results.0;
+      reverse_finish = result_is (is_wide p) o p.reverse.finish results.1;
+      start_c = neutral_is o start.c neutral.0;
+      start_r = neutral_is o start.r neutral.1;
+      start_e = λ wide. number_zero_is start.e (of_wide (is_wide p) (is_number_zero start.e) starts.1 wide);
       join_states = c.1;
       starts = b.1;
       typed = a.1;

@@ -4,14 +4,16 @@ use Rattle.std.proofs.lemmas.Bool.{and_parts, and_from}
 use Rattle.ts_base.specs.declared.ext.Ext.{Ext}
 use Rattle.ts_base.specs.declared.span.Span.{Span}
 use Rattle.ts_base.specs.SpanLayer.{IsWithin}
-use Rattle.ts_base.specs.Spans.{none_span, one_span, Holds, has_some, end_by_end, span_hull}
+use Rattle.ts_base.specs.Spans.{none_span, one_span, Holds, has_some, span_hull}
 use Rattle.ts_base.proofs.Order.{le_refl, le_trans}
-use Rattle.ts_base.proofs.SpanLaws.{holds_some, holds_one, none_empty, hull_least, lifted_holds, lifted_one, lifted_within}
+use Rattle.ts_base.proofs.SpanLaws.{holds_some, holds_one, none_empty, hull_least}
 use Rattle.ts_automaton.specs.declared.state.Mark.TheVariants.{Same}
-use Rattle.ts_automaton.specs.Registers.{EachOf, Each, numbers, spans, ext_op}
+use Rattle.ts_automaton.specs.Registers.{EachOf, Each, numbers, spans}
+use Rattle.ts_automaton.specs.Differences.{span_op}
 use Rattle.ts_automaton.specs.SpanRun.{has_registers, one_hull, HoldsRegs, marked_span}
 use Rattle.ts_automaton.specs.Laws.{standing_with}
-use Rattle.ts_automaton.proofs.KindLaws.{op_mono}
+use Rattle.ts_automaton.proofs.Five.{registers_parts, some_registers}
+use Rattle.ts_automaton.proofs.OperatorLaws.{op_holds, op_one, op_within}
 use Rattle.ts_automaton.proofs.RunLaws.{holds_registers, one_registers, mark_single, marks_hold}
 use Rattle.ts_glue.specs.Glue.{Glue, glue_in, glue_of}
 use Rattle.ts_glue.specs.Glued.{glue_at, glue_span_at}
@@ -20,8 +22,8 @@ use Rattle.ts_glue.proofs.Expressions.{glue_related}
 
 glue_holds : (u : Glue) (s t : EachOf Ext) (h i : EachOf Span) → HoldsRegs h s → HoldsRegs i t → Holds (glue_in spans h i u) (glue_in numbers s t u)
 glue_holds u s t h i k l =
-    glue_related numbers spans (λ e v. Holds v e) holds_one (λ o a a' v v' p q. lifted_holds (ext_op o) (op_mono o) v v' a a' p q)
-    u s t h i (k.0, k.1, k.2) (l.0, l.1, l.2)
+    glue_related numbers spans (λ e v. Holds v e) holds_one (λ o a a' v v' p q. op_holds o v v' a a' p q)
+    u s t h i (k.0, k.1, k.2, k.3, k.4) (l.0, l.1, l.2, l.3, l.4)
 
 pub glued_spans_hold : GluedSpansHold
 glued_spans_hold p q r h i s t x k l =
@@ -51,8 +53,8 @@ none_glues_to_none p left right x n (inr e) =
 glue_single : (u : Glue) (s t : EachOf Ext) → glue_in spans (one_hull s) (one_hull t) u ≡ one_span (glue_in numbers s t u)
 glue_single u s t =
     glue_related numbers spans (λ e v. v ≡ one_span e) (λ e. refl)
-    (λ o a a' v v' p q. ap (λ z. end_by_end (ext_op o) z v') p ∙ ap (end_by_end (ext_op o) (one_span a)) q ∙ lifted_one (ext_op o) a a')
-    u s t (one_hull s) (one_hull t) (refl, refl, refl) (refl, refl, refl)
+    (λ o a a' v v' p q. ap (λ z. span_op o z v') p ∙ ap (span_op o (one_span a)) q ∙ op_one o a a')
+    u s t (one_hull s) (one_hull t) (refl, refl, refl, refl, refl) (refl, refl, refl, refl, refl)
 
 pub glued_stays_single : GluedStaysSingle
 glued_stays_single p q r s t x n =
@@ -66,18 +68,17 @@ glued_stays_single p q r s t x n =
 
 glue_grows : (u : Glue) (h i h' i' : EachOf Span) → Each IsWithin h h' → Each IsWithin i i' → IsWithin (glue_in spans h i u) (glue_in spans h' i' u)
 glue_grows u h i h' i' k l =
-    glue_related spans spans IsWithin (λ e f g. g) (λ o a a' v v' p q. lifted_within (ext_op o) (op_mono o) a a' v v' p q) u h i h' i'
-    (k.0, k.1, k.2) (l.0, l.1, l.2)
+    glue_related spans spans IsWithin (λ e f g. g) (λ o a a' v v' p q. op_within o a a' v v' p q) u h i h' i'
+    (k.0, k.1, k.2, k.3, k.4) (l.0, l.1, l.2, l.3, l.4)
 
 wider_some : (s t : Span) → IsWithin s t → has_some s ≡ true → has_some t ≡ true
 wider_some s t w e = holds_some t s.lo (w s.lo (le_refl s.lo, e))
 
 pub wider_registers : (h h' : EachOf Span) → Each IsWithin h h' → has_registers h ≡ true → has_registers h' ≡ true
 wider_registers h h' w e =
-    let a = and_parts (has_some h.c && has_some h.d) (has_some h.r) e in
-    let b = and_parts (has_some h.c) (has_some h.d) a.0 in
-    and_from (has_some h'.c && has_some h'.d) (has_some h'.r)
-    (and_from (has_some h'.c) (has_some h'.d) (wider_some h.c h'.c w.0 b.0) (wider_some h.d h'.d w.1 b.1)) (wider_some h.r h'.r w.2 a.1)
+    let a = registers_parts h e in
+    some_registers h'
+    (wider_some h.c h'.c w.0 a.0, wider_some h.e h'.e w.1 a.1, wider_some h.d h'.d w.2 a.2, wider_some h.f h'.f w.3 a.3, wider_some h.r h'.r w.4 a.4)
 
 pub glued_spans_grow : GluedSpansGrow
 glued_spans_grow p q r h i h' i' x k l e = go (has_registers h && has_registers i) refl

@@ -1,5 +1,5 @@
 -- What is asked of a pair of automata and a glue table, each rule as a test.
-use Rattle.std.specs.Prelude.{ℕ, pos, Bool, true, false, not, ◌&&◌, nat_eq, nat_le, nat_lt, is_some, length, IsTrue, Option, Some}
+use Rattle.std.specs.Prelude.{ℕ, pos, Bool, true, false, not, ◌&&◌, ◌||◌, nat_eq, nat_le, nat_lt, is_some, length, IsTrue, Option, Some}
 use Rattle.std.specs.List.{list_all}
 use Rattle.std.specs.Ordering.{int_eq}
 use Rattle.ts_base.specs.declared.ext.Ext.{Ext}
@@ -7,20 +7,29 @@ use Rattle.ts_base.specs.declared.ext.Ext.TheVariants.{NegInf, Int, PosInf}
 use Rattle.ts_base.specs.declared.range.Join.{Join}
 use Rattle.ts_base.specs.declared.op.Op.{Op}
 use Rattle.ts_base.specs.declared.op.Op.TheVariants.{Add, Max, Min}
-use Rattle.ts_automaton.specs.declared.expr.Atom.TheVariants.{C, R}
+use Rattle.ts_automaton.specs.declared.expr.Atom.TheVariants.{C, E, R}
+use Rattle.ts_automaton.specs.declared.expr.Operator.TheVariants.{Fold, Sub}
 use Rattle.ts_automaton.specs.declared.kind.RegKind.{RegKind}
 use Rattle.ts_automaton.specs.Formula.{Formula, Leaf, Join as Joined}
 use Rattle.ts_automaton.specs.Registers.{EachOf, map_each}
 use Rattle.ts_automaton.specs.Kinds.{kinds}
 use Rattle.ts_automaton.specs.Body.{Body}
-use Rattle.ts_automaton.specs.Typing.{kinds_at}
+use Rattle.ts_automaton.specs.Typing.{kinds_at, is_number_zero}
 use Rattle.ts_glue.specs.Pairs.{Pair}
-use Rattle.ts_glue.specs.Glue.{glue_in, glue_of, result_op}
+use Rattle.ts_glue.specs.Glue.{glue_in, glue_of, is_wide, result_op}
 use Rattle.ts_glue.specs.Glued.{Local}
 
 -- an occurrence leaves one cell or none at its end
 abbrev pub has_trim : Pair → Bool
 has_trim p = nat_le p.table.a 1
+
+-- both automata are wide where the table folds a pair, and both are narrow where it doesn't
+abbrev pub has_width : Bool → Body → Bool
+has_width true b = b.wide
+has_width false b = not b.wide
+
+abbrev pub has_widths : Pair → Bool
+has_widths p = has_width (is_wide p) p.forward && has_width (is_wide p) p.reverse
 
 abbrev pub is_same_op : Op → Op → Bool
 is_same_op Add Add = true
@@ -28,14 +37,21 @@ is_same_op Max Max = true
 is_same_op Min Min = true
 is_same_op o p = false
 
--- the expression is `o R C`
-abbrev pub gives_result : Op → Formula → Bool
-gives_result o (Joined p (Leaf R) (Leaf C)) = is_same_op o p
-gives_result o f = false
+-- the expression is C, of a wide automaton `sub C E`
+abbrev pub is_held : Bool → Formula → Bool
+is_held false (Leaf C) = true
+is_held true (Joined Sub (Leaf C) (Leaf E)) = true
+is_held wide f = false
 
--- both finish expressions are `o R C` with one operator
+-- it is `o R C`, of a wide automaton `o R sub C E`
+abbrev pub gives_result : Bool → Op → Formula → Bool
+gives_result wide o (Joined (Fold p) (Leaf R) f) = is_same_op o p && is_held wide f
+gives_result wide o f = false
+
+-- both finish expressions are so with one operator
 abbrev pub has_results : Pair → Bool
-has_results p = gives_result (result_op p) p.forward.finish && gives_result (result_op p) p.reverse.finish
+has_results p =
+    gives_result (is_wide p) (result_op p) p.forward.finish && gives_result (is_wide p) (result_op p) p.reverse.finish
 
 -- the operator leaves each value as it is beside this one
 abbrev pub is_neutral : Op → Ext → Bool
@@ -44,9 +60,12 @@ is_neutral Max NegInf = true
 is_neutral Min PosInf = true
 is_neutral o e = false
 
--- the reverse run starts without a result
+-- the reverse run starts without a result, a wide one with E at 0
 abbrev pub starts_neutral : Pair → Bool
-starts_neutral p = is_neutral (result_op p) p.reverse.start.c && is_neutral (result_op p) p.reverse.start.r
+starts_neutral p =
+    is_neutral (result_op p) p.reverse.start.c
+    && is_neutral (result_op p) p.reverse.start.r
+    && (not (is_wide p) || is_number_zero p.reverse.start.e)
 
 -- both states of each Join pair exist
 abbrev pub has_join_states : Pair → Bool
@@ -77,7 +96,13 @@ has_typed_joins p = list_all (is_typed_at p) p.table.joins
 -- all rules hold
 abbrev pub keeps_rules : Pair → Bool
 keeps_rules p =
-    has_trim p && has_results p && starts_neutral p && has_join_states p && starts_apart p && has_typed_joins p
+    has_trim p
+    && has_widths p
+    && has_results p
+    && starts_neutral p
+    && has_join_states p
+    && starts_apart p
+    && has_typed_joins p
 
 -- the pair may stand for its forward automaton at every cell
 abbrev pub IsGluing : Pair → Type 0

@@ -4,31 +4,39 @@ use Rattle.std.specs.Prelude.{◌≡◌, ◌<◌, ℕ, ℤ, zero, suc, Bool, if�
 use Rattle.ts_base.specs.declared.op.Op.{Op}
 use Rattle.ts_automaton.specs.Body.{node_at}
 use Rattle.ts_glue.specs.declared.gluing.Gluing.{Gluing}
+use Rattle.ts_glue.specs.declared.operand.Part.{Part}
+use Rattle.ts_glue.specs.declared.shape.Seam.{Seam}
+use Rattle.ts_glue.specs.declared.shape.Seam.TheVariants.{Between, Both}
 use Rattle.ts_glue.specs.declared.shape.Shape.{Shape}
-use Rattle.ts_glue.specs.declared.shape.Shape.TheVariants.{Apart, Between, Both}
+use Rattle.ts_glue.specs.declared.shape.Shape.TheVariants.{Apart, Through}
 use Rattle.ts_glue.specs.declared.shape.Shapes.{Shapes}
-use Rattle.ts_glue.specs.Glue.{Glue, apart, join_of, folded_between, folded_both, fold_op, is_join, result_op}
+use Rattle.ts_glue.specs.declared.table.FoldOp.{FoldOp}
+use Rattle.ts_glue.specs.Glue.{Glue, apart, join_of, folded_between, folded_both, fold_of, fold_op, is_join, is_pair, result_op}
 use Rattle.ts_glue.specs.Pairs.{Pair}
 
--- the expression of a shape, where g joins results, o folds, and the cell is worth d
-abbrev pub glue_by : Op → Op → ℤ → Shape → Glue
-glue_by g o d Apart = apart g
-glue_by g o d (Between held_left held_right) = join_of g (folded_between o held_left held_right d)
-glue_by g o d Both = join_of g (folded_both o d)
+-- a part of what is folded through a seam, where the cell is worth d
+abbrev pub part_by : Seam → ℤ → Op → Part → Glue
+part_by (Between held_left held_right) d o p = folded_between o p held_left held_right d
+part_by Both d o p = folded_both o p d
+
+-- the expression of a shape, where g joins results and f folds
+abbrev pub glue_by : Op → FoldOp → ℤ → Shape → Glue
+glue_by g f d Apart = apart (is_pair f) g
+glue_by g f d (Through seam) = join_of g (fold_of (is_pair f) (fold_op f) (part_by seam d))
 
 abbrev pub expression : Gluing → Glue
 expression g = glue_by g.result g.fold g.worth g.shape
 
--- the shape where one occurrence goes on: by what it leaves out at its end, and whether C is held on each side
-abbrev pub join_shape : ℕ → Bool → Bool → Shape
-join_shape zero held_left held_right = Both
-join_shape (suc a) held_left held_right = Between held_left held_right
+-- how one occurrence goes on: by what it leaves out at its end, and whether something is held on each side
+abbrev pub seam_of : ℕ → Bool → Bool → Seam
+seam_of zero held_left held_right = Both
+seam_of (suc a) held_left held_right = Between held_left held_right
 
 -- the shape of a forward and a reverse state
 abbrev pub shape_of : Pair → ℕ → ℕ → Shape
 shape_of p q r =
     if is_join p.table q r
-    then join_shape p.table.a (node_at p.forward.states q).held (node_at p.reverse.states r).held
+    then Through (seam_of p.table.a (node_at p.forward.states q).held (node_at p.reverse.states r).held)
     else Apart
 
 abbrev pub shape_at : Shapes → ℕ → ℕ → Shape
@@ -42,6 +50,6 @@ AreShapesOf p q row = (r : ℕ) → r < length p.reverse.states → get_or row r
 abbrev pub AreShapes : Pair → Shapes → Type 0
 AreShapes p t =
     (t.result ≡ result_op p)
-    × (t.fold ≡ fold_op p.table.op)
+    × (t.fold ≡ p.table.op)
     × (t.unit ≡ p.table.unit)
     × ((q : ℕ) → q < length p.forward.states → AreShapesOf p q (get_or t.rows q []))

@@ -1,20 +1,22 @@
 //! What is made of the registers on both sides of a cell.
 
-ghost use Rattle.std.specs.Prelude.{◌≡◌, neg_ℤ};
-ghost use Rattle.ts_automaton.specs.Registers.{each};
+ghost use Rattle.std.specs.Prelude.{◌≡◌, neg_ℤ, pos};
+ghost use Rattle.ts_automaton.specs.Registers.{Takes, each, value_in};
 ghost use Rattle.ts_base.specs.Limits.{IsCellValue};
-ghost use Rattle.ts_glue.specs.Glue.{GlueTakes, folded_between, folded_both, glue_in};
-ghost use Rattle.ts_glue.specs.Shapes.{expression};
+ghost use Rattle.ts_glue.specs.Glue.{GlueTakes, fold_of, fold_op, folded_between, folded_both, glue_in, held_of, is_pair, result_of};
+ghost use Rattle.ts_glue.specs.Shapes.{expression, part_by};
 
-use crate::operand::{Operand, Side};
-use crate::shape::Shape;
-use ts_automaton::Op;
+use crate::operand::{Operand, Part, Side};
+use crate::shape::{Seam, Shape};
+use crate::table::FoldOp;
+use ts_automaton::{Op, Operator};
 
-/// The shape of a glued value with the two operators in it, and what the cell is worth.
+/// The shape of a glued value, with the operator that joins results, how the cells of an occurrence are folded, and what
+/// the cell is worth.
 #[derive(Clone, Copy)]
 pub(crate) struct Gluing {
     pub(crate) result: Op,
-    pub(crate) fold: Op,
+    pub(crate) fold: FoldOp,
     pub(crate) worth: i64,
     pub(crate) shape: Shape,
 }
@@ -23,71 +25,134 @@ impl Gluing {
     /// The glued value before the mark; each operator in it meets two values that it takes.
     pub(crate) fn glued<V: Operand>(self, left: Side<V>, right: Side<V>) -> V
         requires fits { GlueTakes V.takes V.values
-            (each left.c left.d left.r) (each right.c right.d right.r) (expression self) }
+            (each left.c left.e left.d left.f left.r) (each right.c right.e right.d right.f right.r) (expression self) }
         requires worth { IsCellValue self.worth }
         ensures { result
-            ≡ glue_in V.values (each left.c left.d left.r) (each right.c right.d right.r) (expression self) }
+            ≡ glue_in V.values (each left.c left.e left.d left.f left.r)
+            (each right.c right.e right.d right.f right.r) (expression self) }
     {
+        let join = Operator::Fold(self.result);
         let (first, second) = match self.shape {
-            Shape::Apart => (
-                V::joined(self.result, left.r, left.c),
-                V::joined(self.result, right.r, right.c),
-            ),
-            Shape::Between {
-                held_left,
-                held_right,
-            } => (
-                V::joined(self.result, left.r, right.r),
-                self.folded_between(held_left, held_right, left, right),
-            ),
-            Shape::Both => (
-                V::joined(self.result, left.r, right.r),
-                self.folded_both(left, right),
+            Shape::Apart => (self.answer(left), self.answer(right)),
+            Shape::Through(seam) => (
+                V::joined(join, left.r, right.r),
+                self.folded(seam, left, right),
             ),
         };
-        V::joined(self.result, first, second)
+        V::joined(join, first, second)
+    }
+
+    /// The answer of a run, before the mark.
+    fn answer<V: Operand>(self, side: Side<V>) -> V
+        requires { Takes V.takes V.values (each side.c side.e side.d side.f side.r) (pos 0) (pos 0)
+            (result_of (is_pair self.fold) self.result) }
+        ensures { result ≡ value_in V.values (each side.c side.e side.d side.f side.r) (pos 0) (pos 0)
+            (result_of (is_pair self.fold) self.result) }
+    {
+        V::joined(Operator::Fold(self.result), side.r, self.held(side))
+    }
+
+    /// What a run has complete or held: where a pair is folded, the greatest less the least.
+    fn held<V: Operand>(self, side: Side<V>) -> V
+        requires { Takes V.takes V.values (each side.c side.e side.d side.f side.r) (pos 0) (pos 0)
+            (held_of (is_pair self.fold)) }
+        ensures { result ≡ value_in V.values (each side.c side.e side.d side.f side.r) (pos 0) (pos 0)
+            (held_of (is_pair self.fold)) }
+    {
+        if self.fold.is_pair() {
+            V::joined(Operator::Sub, side.c, side.e)
+        } else {
+            side.c
+        }
+    }
+
+    /// The fold of the occurrence that goes on: where a pair is folded, the greatest of its cells less the least.
+    fn folded<V: Operand>(self, seam: Seam, left: Side<V>, right: Side<V>) -> V
+        requires fits { GlueTakes V.takes V.values
+            (each left.c left.e left.d left.f left.r) (each right.c right.e right.d right.f right.r)
+            (fold_of (is_pair self.fold) (fold_op self.fold) (part_by seam self.worth)) }
+        requires worth { IsCellValue self.worth }
+        ensures { result ≡ glue_in V.values
+            (each left.c left.e left.d left.f left.r) (each right.c right.e right.d right.f right.r)
+            (fold_of (is_pair self.fold) (fold_op self.fold) (part_by seam self.worth)) }
+    {
+        let o = self.fold.op();
+        if self.fold.is_pair() {
+            V::joined(
+                Operator::Sub,
+                self.part(seam, o, Part::Whole, left, right),
+                self.part(seam, Op::Min, Part::Away, left, right),
+            )
+        } else {
+            self.part(seam, o, Part::Whole, left, right)
+        }
+    }
+
+    /// A part of it, folded by an operator.
+    fn part<V: Operand>(self, seam: Seam, o: Op, part: Part, left: Side<V>, right: Side<V>) -> V
+        requires fits { GlueTakes V.takes V.values
+            (each left.c left.e left.d left.f left.r) (each right.c right.e right.d right.f right.r)
+            (part_by seam self.worth o part) }
+        requires worth { IsCellValue self.worth }
+        ensures { result ≡ glue_in V.values
+            (each left.c left.e left.d left.f left.r) (each right.c right.e right.d right.f right.r)
+            (part_by seam self.worth o part) }
+    {
+        match seam {
+            Seam::Between {
+                held_left,
+                held_right,
+            } => self.folded_between(o, part, held_left, held_right, left, right),
+            Seam::Both => self.folded_both(o, part, left, right),
+        }
     }
 
     /// What the left side has open, the cell, and what the right side has open, folded in this order.
     fn folded_between<V: Operand>(
         self,
+        o: Op,
+        part: Part,
         held_left: bool,
         held_right: bool,
         left: Side<V>,
         right: Side<V>,
     ) -> V
-        requires { GlueTakes V.takes V.values (each left.c left.d left.r) (each right.c right.d right.r)
-            (folded_between self.fold held_left held_right self.worth) }
-        ensures { result ≡ glue_in V.values (each left.c left.d left.r) (each right.c right.d right.r)
-            (folded_between self.fold held_left held_right self.worth) }
+        requires { GlueTakes V.takes V.values
+            (each left.c left.e left.d left.f left.r) (each right.c right.e right.d right.f right.r)
+            (folded_between o part held_left held_right self.worth) }
+        ensures { result ≡ glue_in V.values
+            (each left.c left.e left.d left.f left.r) (each right.c right.e right.d right.f right.r)
+            (folded_between o part held_left held_right self.worth) }
     {
         let opened = if held_left {
-            V::joined(self.fold, left.c, left.d)
+            V::joined(Operator::Fold(o), left.held(part), left.open(part))
         } else {
-            left.d
+            left.open(part)
         };
-        let with_cell = V::joined(self.fold, opened, V::number(self.worth));
+        let with_cell = V::joined(Operator::Fold(o), opened, V::number(self.worth));
         let with_held = if held_right {
-            V::joined(self.fold, with_cell, right.c)
+            V::joined(Operator::Fold(o), with_cell, right.held(part))
         } else {
             with_cell
         };
-        V::joined(self.fold, with_held, right.d)
+        V::joined(Operator::Fold(o), with_held, right.open(part))
     }
 
     /// What both sides have folded, less the cell where it would count twice.
-    fn folded_both<V: Operand>(self, left: Side<V>, right: Side<V>) -> V
-        requires fits { GlueTakes V.takes V.values (each left.c left.d left.r) (each right.c right.d right.r)
-            (folded_both self.fold self.worth) }
+    fn folded_both<V: Operand>(self, o: Op, part: Part, left: Side<V>, right: Side<V>) -> V
+        requires fits { GlueTakes V.takes V.values
+            (each left.c left.e left.d left.f left.r) (each right.c right.e right.d right.f right.r)
+            (folded_both o part self.worth) }
         requires worth { IsCellValue self.worth }
-        ensures { result ≡ glue_in V.values (each left.c left.d left.r) (each right.c right.d right.r)
-            (folded_both self.fold self.worth) }
+        ensures { result ≡ glue_in V.values
+            (each left.c left.e left.d left.f left.r) (each right.c right.e right.d right.f right.r)
+            (folded_both o part self.worth) }
     {
-        let before = V::joined(self.fold, left.c, left.d);
-        let after = V::joined(self.fold, right.c, right.d);
-        let both = V::joined(self.fold, before, after);
-        match self.fold {
-            Op::Add => V::joined(self.fold, both, V::number(opposite(self.worth))),
+        let before = V::joined(Operator::Fold(o), left.held(part), left.open(part));
+        let after = V::joined(Operator::Fold(o), right.held(part), right.open(part));
+        let both = V::joined(Operator::Fold(o), before, after);
+        match o {
+            Op::Add => V::joined(Operator::Fold(o), both, V::number(opposite(self.worth))),
             Op::Max | Op::Min => both,
         }
     }

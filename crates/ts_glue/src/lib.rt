@@ -21,4 +21,5 @@ mod table;
 
 pub use glue::{glue_span, glue_value};
 pub use machine::Machine;
+pub use operand::Part;
 pub use table::{CellUnit, FoldOp, GlueTable};

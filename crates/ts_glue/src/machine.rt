@@ -58,10 +58,12 @@ impl Machine {
         }
     }
 
-    /// The machine of a forward and a reverse automaton. They have to fit: both finish expressions are `o R C` with one
-    /// operator `o`, to which the reverse start constants of C and R are neutral; `a` is 0 or 1; both states of each
-    /// pair in the table exist, the second is never the reverse start state, and there the glued value is well typed;
-    /// and the glued value is the same at all cells of a series, at the last one the forward answer.
+    /// The machine of a forward and a reverse automaton. They have to fit: `a` is 0 or 1; both are wide where the table
+    /// folds a pair, and both narrow where it doesn't; both finish expressions are `o R C`, of wide automata
+    /// `o R sub C E`, with one operator `o`, to which the reverse start constants of C and R are neutral, while that of
+    /// E is 0; both states of each pair in the table exist, the second is never the reverse start state, and there the
+    /// glued value is well typed; and the glued value is the same at all cells of a series, at the last one the forward
+    /// answer.
     pub fn glued(forward: Automaton, reverse: Automaton, table: GlueTable) -> Machine
         requires rules { IsTrue (keeps_rules (pair forward reverse (table_view table))) }
         requires local { Local (pair forward reverse (table_view table)) }

@@ -4,7 +4,7 @@
 ghost use Rattle.std.specs.Prelude.{◌≡◌, ◌<◌, ◌≤◌, [], get_or, length};
 ghost use Rattle.ts_automaton.specs.Formula.{formula};
 ghost use Rattle.ts_base.specs.Limits.{IsCellValue};
-ghost use Rattle.ts_glue.specs.Glue.{first_op, fold_op, glue_of, is_join, worth};
+ghost use Rattle.ts_glue.specs.Glue.{first_op, fold_op, glue_of, is_join, is_pair, worth};
 ghost use Rattle.ts_glue.specs.Pairs.{Pair, pair, table_view};
 ghost use Rattle.ts_glue.specs.Shapes.{AreShapes, AreShapesOf, expression, shape_at, shape_of};
 ghost use Rattle.ts_glue.specs.declared.shape.Shape.TheVariants.{Apart as NoJoin};
@@ -21,18 +21,25 @@ const STATES: usize = 8;
 pub enum Shape {
     /// No occurrence has a sign before the cell and one after it.
     Apart,
-    /// One occurrence goes on, and neither side has folded the cell: it stands between what the two have open.
+    /// One occurrence goes on through the cell.
+    Through(Seam),
+}
+
+/// How an occurrence goes on through a cell.
+#[derive(Clone, Copy, Debug, PartialEq, Eq)]
+pub enum Seam {
+    /// Neither side has folded the cell: it stands between what the two have open.
     Between { held_left: bool, held_right: bool },
-    /// One occurrence goes on, and both sides have folded the cell.
+    /// Both sides have folded the cell.
     Both,
 }
 
-/// How the two runs of a machine are glued: the operator that joins results, the one that folds the cells of an
-/// occurrence, what a cell is worth in it, and the shape of each pair of states.
+/// How the two runs of a machine are glued: the operator that joins results, how the cells of an occurrence are folded,
+/// what a cell is worth in it, and the shape of each pair of states.
 #[derive(Drop)]
 pub struct Shapes {
     pub result: Op,
-    pub fold: Op,
+    pub fold: FoldOp,
     pub unit: CellUnit,
     pub(crate) rows: [[Shape; STATES]; STATES],
 }
@@ -48,7 +55,7 @@ impl Shapes {
         }
         Shapes {
             result: first_op(forward.finish_expr()),
-            fold: table.op.op(),
+            fold: table.op,
             unit: table.unit,
             rows,
         }
@@ -104,12 +111,12 @@ fn shape_of(forward: &Automaton, reverse: &Automaton, table: &GlueTable, q: u8, 
         return Shape::Apart;
     }
     if table.a == 0 {
-        return Shape::Both;
+        return Shape::Through(Seam::Both);
     }
-    Shape::Between {
+    Shape::Through(Seam::Between {
         held_left: forward.state(q).held,
         held_right: reverse.state(r).held,
-    }
+    })
 }
 
 impl GlueTable {
@@ -124,14 +131,24 @@ impl GlueTable {
 }
 
 impl FoldOp {
-    /// The operator of expressions that it is.
+    /// The operator that folds the whole of an occurrence.
     pub(crate) fn op(self) -> Op
         ensures { result ≡ fold_op self }
     {
         match self {
             FoldOp::Add => Op::Add,
-            FoldOp::Max => Op::Max,
+            FoldOp::Max | FoldOp::Pair => Op::Max,
             FoldOp::Min => Op::Min,
+        }
+    }
+
+    /// Whether the least cell is folded beside the greatest.
+    pub(crate) fn is_pair(self) -> bool
+        ensures { result ≡ is_pair self }
+    {
+        match self {
+            FoldOp::Pair => true,
+            FoldOp::Add | FoldOp::Max | FoldOp::Min => false,
         }
     }
 }

@@ -2,12 +2,14 @@
 
 use ts_base::Join;
 
-/// The operator that joins the cells of an occurrence: their sum, the greatest or the least of them.
+/// How the cells of an occurrence are joined: their sum, the greatest or the least of them; or the greatest and the
+/// least apart, of which the first less the second counts. Then both automata are wide.
 #[derive(Clone, Copy, Debug, PartialEq, Eq)]
 pub enum FoldOp {
     Add,
     Max,
     Min,
+    Pair,
 }
 
 /// What a cell is worth in an occurrence: 1, or its value.
