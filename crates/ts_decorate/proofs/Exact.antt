@@ -1,5 +1,5 @@
 -- The operators of a term, with held and with exact sums, and the laws of the exact ones.
-use Rattle.std.specs.Prelude.{ℤ, pos, ◌+ℤ◌}
+use Rattle.std.specs.Prelude.{ℤ, pos, ◌+ℤ◌, ◌-ℤ◌, Option, None, Some}
 use Rattle.std.proofs.Common.{◌≡◌, refl, sym, ◌∙◌, ap, arith}
 use Rattle.std.proofs.lemmas.Int.{ints}
 use Rattle.ts_base.specs.declared.ext.Ext.{Ext}
@@ -9,12 +9,17 @@ use Rattle.ts_base.proofs.Order.{le_trans, le_antisym, max_left, max_right, max_
 use Rattle.ts_pattern.specs.declared.name.Aggregator.{Aggregator}
 use Rattle.ts_pattern.specs.declared.name.Aggregator.TheVariants.{Sum, Max as MaxOf, Min as MinOf}
 use Rattle.ts_pattern.specs.declared.name.Feature.{Feature}
-use Rattle.ts_pattern.specs.declared.name.Feature.TheVariants.{One, Width, Surf, Max as MaxFeature, Min as MinFeature}
-use Rattle.ts_pattern.specs.Arithmetic.{cell_op, cell_value, neutral_value, range_op, default_value}
+use Rattle.ts_pattern.specs.declared.name.Feature.TheVariants.{One, Width, Surf, Max as MaxFeature, Min as MinFeature, Range}
+use Rattle.ts_pattern.specs.declared.arithmetic.CellFold.{CellFold}
+use Rattle.ts_pattern.specs.Arithmetic.{cell_op, cell_value, neutral_value, less_fold, range_op, default_value}
 use Rattle.ts_base.specs.declared.op.Op.{Op}
 use Rattle.ts_base.specs.declared.op.Op.TheVariants.{Add, Max, Min}
-use Rattle.ts_base.specs.Operators.{ext_op}
+use Rattle.ts_base.specs.Operators.{constant_value}
+use Rattle.ts_automaton.specs.declared.expr.Operator.{Operator}
+use Rattle.ts_automaton.specs.declared.expr.Operator.TheVariants.{Fold, Sub}
 use Rattle.ts_decorate.specs.Operators.{Operators}
+use Rattle.ts_decorate.specs.Rows.{phi_by, neutral_by, read_by, operators_by}
+use Rattle.ts_decorate.specs.Decoration.{number_operators}
 use Rattle.ts_decorate.proofs.Folds.{FoldLaws}
 
 -- the sum of numbers as it is
@@ -32,16 +37,27 @@ exact_op Add a b = exact_plus a b
 exact_op Max a b = ext_max a b
 exact_op Min a b = ext_min a b
 
--- the operators of a term
-abbrev pub operators_by : (Op → Ext → Ext → Ext) → Aggregator → Feature → Operators Ext
-operators_by op g f = record { phi = op (cell_op f); neutral = neutral_value f; g = op (range_op g); default = default_value g }
+-- the difference of numbers as it is
+abbrev pub exact_difference : Ext → Ext → Ext
+exact_difference NegInf b = NegInf
+exact_difference (Int x) NegInf = PosInf
+exact_difference (Int x) (Int y) = Int (x -ℤ y)
+exact_difference (Int x) PosInf = NegInf
+exact_difference PosInf NegInf = PosInf
+exact_difference PosInf (Int y) = PosInf
+exact_difference PosInf PosInf = NegInf
 
+abbrev pub exact_operator : Operator → Ext → Ext → Ext
+exact_operator (Fold o) a b = exact_op o a b
+exact_operator Sub a b = exact_difference a b
+
+-- the operators of a term
 abbrev pub exact : Aggregator → Feature → Operators Ext
-exact g f = operators_by exact_op g f
+exact g f = operators_by constant_value exact_operator g f
 
 -- as the automaton computes them
 abbrev pub held_at_limit : Aggregator → Feature → Operators Ext
-held_at_limit g f = operators_by ext_op g f
+held_at_limit g f = number_operators g f
 
 -- the values that the feature joins: those of `one` are 1, all others may be any
 abbrev pub IsGood : Feature → Ext → Type 0
@@ -50,6 +66,11 @@ IsGood Width u = Unit {0}
 IsGood Surf u = Unit {0}
 IsGood MaxFeature u = Unit {0}
 IsGood MinFeature u = Unit {0}
+IsGood Range u = Unit {0}
+
+-- those that are taken away may be any
+abbrev pub IsAny : Ext → Type 0
+IsAny u = Unit {0}
 
 pub cell_good : (f : Feature) (x : ℤ) → IsGood f (cell_value f x)
 cell_good One x = refl
@@ -57,6 +78,7 @@ cell_good Width x = tt
 cell_good Surf x = tt
 cell_good MaxFeature x = tt
 cell_good MinFeature x = tt
+cell_good Range x = tt
 
 pub max_assoc : (a b c : Ext) → ext_max (ext_max a b) c ≡ ext_max a (ext_max b c)
 max_assoc a b c =
@@ -127,9 +149,36 @@ cell_laws MaxFeature =
     record { closed = λ x y p q. tt; neutral_good = tt; assoc = λ x y z p q r. max_assoc x y z; right = λ x p. max_low x }
 cell_laws MinFeature =
     record { closed = λ x y p q. tt; neutral_good = tt; assoc = λ x y z p q r. min_assoc x y z; right = λ x p. min_high x }
+cell_laws Range =
+    record { closed = λ x y p q. tt; neutral_good = tt; assoc = λ x y z p q r. max_assoc x y z; right = λ x p. max_low x }
+
+-- a half at rest stays as it is
+rest_laws : FoldLaws (λ u v. phi_by exact_operator None u v) (Int (pos 0)) IsAny
+rest_laws = record { closed = λ x y p q. tt; neutral_good = tt; assoc = λ x y z p q r. refl; right = λ x p. refl }
+
+pub less_laws : (f : Feature) → FoldLaws (λ u v. phi_by exact_operator (less_fold f) u v) (constant_value (neutral_by (less_fold f))) IsAny
+less_laws One = rest_laws
+less_laws Width = rest_laws
+less_laws Surf = rest_laws
+less_laws MaxFeature = rest_laws
+less_laws MinFeature = rest_laws
+less_laws Range =
+    record { closed = λ x y p q. tt; neutral_good = tt; assoc = λ x y z p q r. min_assoc x y z; right = λ x p. min_high x }
+
+-- no range is worth the default, whatever is taken away
+pub idle_read : (g : Aggregator) (row : Option CellFold) → read_by exact_operator row (default_value g) (Int (pos 0)) ≡ default_value g
+idle_read Sum None = refl
+idle_read Sum (Some row) = refl
+idle_read MaxOf None = refl
+idle_read MaxOf (Some row) = refl
+idle_read MinOf None = refl
+idle_read MinOf (Some row) = refl
 
 -- where there is no range, g leaves the others as they are
 pub range_right : (g : Aggregator) (y : Ext) → exact_op (range_op g) y (default_value g) ≡ y
 range_right Sum y = plus_zero y
 range_right MaxOf y = max_low y
 range_right MinOf y = min_high y
+
+pub idle_right : (g : Aggregator) (f : Feature) (y : Ext) → (exact g f).g y ((exact g f).read (exact g f).whole.idle (exact g f).less.idle) ≡ y
+idle_right g f y = ap (exact_op (range_op g) y) (idle_read g (less_fold f)) ∙ range_right g y

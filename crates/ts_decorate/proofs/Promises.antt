@@ -7,7 +7,7 @@ use Rattle.ts_base.specs.declared.range.Range.{Range}
 use Rattle.ts_pattern.specs.declared.name.Aggregator.{Aggregator}
 use Rattle.ts_pattern.specs.declared.name.Aggregator.TheVariants.{Sum, Max as MaxOf, Min as MinOf}
 use Rattle.ts_pattern.specs.declared.name.Feature.{Feature}
-use Rattle.ts_pattern.specs.declared.name.Feature.TheVariants.{One, Width, Surf, Max as MaxFeature, Min as MinFeature}
+use Rattle.ts_pattern.specs.declared.name.Feature.TheVariants.{One, Width, Surf, Max as MaxFeature, Min as MinFeature, Range as RangeFeature}
 use Rattle.ts_pattern.specs.FeatureValue.{cells_of, feature_value}
 use Rattle.ts_pattern.specs.TermValue.{combine, aggregate_of_ranges}
 use Rattle.ts_transducer.specs.Inside.{IsInside}
@@ -57,13 +57,16 @@ aggregate_in_mark Sum Width rs xs h = tt
 aggregate_in_mark Sum Surf rs xs h = tt
 aggregate_in_mark Sum MaxFeature rs xs h = tt
 aggregate_in_mark Sum MinFeature rs xs h = tt
+aggregate_in_mark Sum RangeFeature rs xs h = tt
 aggregate_in_mark MaxOf One rs xs h = tt
 aggregate_in_mark MaxOf Width rs xs h = greatest_width rs xs
 aggregate_in_mark MaxOf Surf rs xs h = tt
 aggregate_in_mark MaxOf MaxFeature rs xs h = tt
 aggregate_in_mark MaxOf MinFeature rs xs h = tt
+aggregate_in_mark MaxOf RangeFeature rs xs h = tt
 aggregate_in_mark MinOf One rs xs h = tt
 aggregate_in_mark MinOf Width rs xs h = least_width rs xs h
 aggregate_in_mark MinOf Surf rs xs h = tt
 aggregate_in_mark MinOf MaxFeature rs xs h = tt
 aggregate_in_mark MinOf MinFeature rs xs h = tt
+aggregate_in_mark MinOf RangeFeature rs xs h = tt

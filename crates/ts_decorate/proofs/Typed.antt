@@ -20,12 +20,11 @@ use Rattle.ts_transducer.proofs.Moves.{next_exists}
 use Rattle.ts_pattern.specs.declared.name.Aggregator.{Aggregator}
 use Rattle.ts_pattern.specs.declared.name.Aggregator.TheVariants.{Sum, Max as MaxOf, Min as MinOf}
 use Rattle.ts_pattern.specs.declared.name.Feature.{Feature}
-use Rattle.ts_pattern.specs.declared.name.Feature.TheVariants.{One, Width, Surf, Max as MaxFeature, Min as MinFeature}
-use Rattle.ts_pattern.specs.Arithmetic.{neutral_value, default_value}
+use Rattle.ts_pattern.specs.declared.name.Feature.TheVariants.{One, Width, Surf, Max as MaxFeature, Min as MinFeature, Range}
 use Rattle.ts_automaton.specs.Kinds.{formula_kind}
 use Rattle.ts_automaton.specs.Body.{Node, Body, move_on, node_at}
-use Rattle.ts_automaton.specs.Typing.{has_names, has_short_moves, each_is, is_short, is_constant, leads_below, is_formed, is_typed as is_body_typed, is_typed_at, is_move_typed, is_finish_typed, fits_kinds, kinds_where, moves_from, is_automaton, has_few_states, has_constants, has_targets, has_short_expressions}
-use Rattle.ts_decorate.specs.Decoration.{move_made, node_made, nodes_made, state_names, decorated_body}
+use Rattle.ts_automaton.specs.Typing.{has_names, has_expressions_in, is_expression, are_expressions, reads_registers, leads_below, is_formed, is_typed as is_body_typed, is_typed_at, is_move_typed, is_finish_typed, fits_kinds, kinds_where, moves_from, is_automaton, has_few_states, has_constants, has_targets, has_expressions}
+use Rattle.ts_decorate.specs.Decoration.{is_wide, move_made, node_made, nodes_made, state_names, decorated_body}
 use Rattle.ts_decorate.proofs.Evaluation.{node_is, move_on_is}
 
 -- a test of all aggregators and features
@@ -41,23 +40,25 @@ at_aggregator test h g =
     go MaxOf x y z = y
     go MinOf x y z = z
 
-at_feature : (test : Feature → Bool) → test One && test Width && test Surf && test MaxFeature && test MinFeature ≡ true → (f : Feature) → test f ≡ true
+abbrev all_features : (Feature → Bool) → Bool
+all_features test = test One && test Width && test Surf && test MaxFeature && test MinFeature && test Range
+
+at_feature : (test : Feature → Bool) → all_features test ≡ true → (f : Feature) → test f ≡ true
 at_feature test h f =
-    let p = and_parts (test One && test Width && test Surf && test MaxFeature) (test MinFeature) h in
+    let o = and_parts (test One && test Width && test Surf && test MaxFeature && test MinFeature) (test Range) h in
+    let p = and_parts (test One && test Width && test Surf && test MaxFeature) (test MinFeature) o.0 in
     let q = and_parts (test One && test Width && test Surf) (test MaxFeature) p.0 in
     let r = and_parts (test One && test Width) (test Surf) q.0 in
     let s = and_parts (test One) (test Width) r.0 in
-    go f s.0 s.1 r.1 q.1 p.1
+    go f s.0 s.1 r.1 q.1 p.1 o.1
   where
-    go : (f : Feature) → test One ≡ true → test Width ≡ true → test Surf ≡ true → test MaxFeature ≡ true → test MinFeature ≡ true → test f ≡ true
-    go One v w x y z = v
-    go Width v w x y z = w
-    go Surf v w x y z = x
-    go MaxFeature v w x y z = y
-    go MinFeature v w x y z = z
-
-abbrev all_features : (Feature → Bool) → Bool
-all_features test = test One && test Width && test Surf && test MaxFeature && test MinFeature
+    go : (f : Feature) → test One ≡ true → test Width ≡ true → test Surf ≡ true → test MaxFeature ≡ true → test MinFeature ≡ true → test Range ≡ true → test f ≡ true
+    go One u v w x y z = u
+    go Width u v w x y z = v
+    go Surf u v w x y z = w
+    go MaxFeature u v w x y z = x
+    go MinFeature u v w x y z = y
+    go Range u v w x y z = z
 
 at_term : (test : Aggregator → Feature → Bool) → all_features (test Sum) && all_features (test MaxOf) && all_features (test MinOf) ≡ true →
     (g : Aggregator) (f : Feature) → test g f ≡ true
@@ -121,20 +122,23 @@ phase_typed (suc a) FoundE n rows g f = at_term (is_phase_typed (suc a) FoundE n
 phase_typed zero Inside n rows g f = at_term (is_phase_typed 0 Inside n rows) refl g f
 phase_typed (suc a) Inside n rows g f = at_term (is_phase_typed (suc a) Inside n rows) refl g f
 
-short_move : (a : ℕ) (g : Aggregator) (f : Feature) (p : Phase) (n : ℕ) →
-    each_is is_short (move_made a g f (record { phase = p; next = n })).to ≡ true
-short_move a g f Out n = refl
-short_move a g f OutR n = refl
-short_move a g f OutA n = refl
-short_move a g f MaybeB n = refl
-short_move zero g f MaybeA n = refl
-short_move (suc a) g f MaybeA n = refl
-short_move zero g f Found n = refl
-short_move (suc a) g f Found n = refl
-short_move zero g f FoundE n = refl
-short_move (suc a) g f FoundE n = refl
-short_move zero g f Inside n = refl
-short_move (suc a) g f Inside n = refl
+-- its expressions are those of an automaton of its width
+abbrev is_phase_fit : ℕ → Phase → ℕ → Aggregator → Feature → Bool
+is_phase_fit a p n g f = are_expressions (is_wide f) (move_made a g f (record { phase = p; next = n })).to
+
+phase_fit : (a : ℕ) (p : Phase) (n : ℕ) (g : Aggregator) (f : Feature) → is_phase_fit a p n g f ≡ true
+phase_fit a Out n g f = at_term (is_phase_fit a Out n) refl g f
+phase_fit a OutR n g f = at_term (is_phase_fit a OutR n) refl g f
+phase_fit a OutA n g f = at_term (is_phase_fit a OutA n) refl g f
+phase_fit a MaybeB n g f = at_term (is_phase_fit a MaybeB n) refl g f
+phase_fit zero MaybeA n g f = at_term (is_phase_fit 0 MaybeA n) refl g f
+phase_fit (suc a) MaybeA n g f = at_term (is_phase_fit (suc a) MaybeA n) refl g f
+phase_fit zero Found n g f = at_term (is_phase_fit 0 Found n) refl g f
+phase_fit (suc a) Found n g f = at_term (is_phase_fit (suc a) Found n) refl g f
+phase_fit zero FoundE n g f = at_term (is_phase_fit 0 FoundE n) refl g f
+phase_fit (suc a) FoundE n g f = at_term (is_phase_fit (suc a) FoundE n) refl g f
+phase_fit zero Inside n g f = at_term (is_phase_fit 0 Inside n) refl g f
+phase_fit (suc a) Inside n g f = at_term (is_phase_fit (suc a) Inside n) refl g f
 
 -- the states
 
@@ -154,10 +158,10 @@ all_nodes test a g f good each (n ∷ names) (r ∷ rows) h =
     let p = and_parts (good r) (list_all good rows) h in
     both_true (each n r p.0) (all_nodes test a g f good each names rows p.1)
 
-short_node : (a : ℕ) (g : Aggregator) (f : Feature) (name : ℕ) (r : Row) → has_short_moves (node_made a g f name r) ≡ true
-short_node a g f name r =
-    both_true (both_true (short_move a g f r.less.phase r.less.next) (short_move a g f r.equal.phase r.equal.next))
-    (short_move a g f r.greater.phase r.greater.next)
+fit_node : (a : ℕ) (g : Aggregator) (f : Feature) (name : ℕ) (r : Row) → has_expressions_in (is_wide f) (node_made a g f name r) ≡ true
+fit_node a g f name r =
+    both_true (both_true (phase_fit a r.less.phase r.less.next g f) (phase_fit a r.equal.phase r.equal.next g f))
+    (phase_fit a r.greater.phase r.greater.next g f)
 
 always : (rows : List Row) → list_all (λ r. true) rows ≡ true
 always [] = refl
@@ -175,15 +179,18 @@ names_good a g f (r1 ∷ r2 ∷ r3 ∷ r4 ∷ r5 ∷ r6 ∷ r7 ∷ []) h = refl
 names_good a g f (r1 ∷ r2 ∷ r3 ∷ r4 ∷ r5 ∷ r6 ∷ r7 ∷ r8 ∷ []) h = refl
 names_good a g f (r1 ∷ r2 ∷ r3 ∷ r4 ∷ r5 ∷ r6 ∷ r7 ∷ r8 ∷ r9 ∷ rows) h = absurd (omega (arith, h))
 
-neutral_constant : (f : Feature) → is_constant (neutral_value f) ≡ true
-neutral_constant f = at_feature (λ k. is_constant (neutral_value k)) refl f
+start_good : (rows : List Row) (a : ℕ) (g : Aggregator) (f : Feature) → has_constants (decorated_body rows a g f) ≡ true
+start_good rows a g f = at_term (λ g f. has_constants (decorated_body rows a g f)) refl g f
 
-default_constant : (g : Aggregator) → is_constant (default_value g) ≡ true
-default_constant g = at_aggregator (λ k. is_constant (default_value k)) refl g
+finish_fit : (rows : List Row) (a : ℕ) (g : Aggregator) (f : Feature) → is_expression (is_wide f) (decorated_body rows a g f).finish ≡ true
+finish_fit rows a g f = at_term (λ g f. is_expression (is_wide f) (decorated_body rows a g f).finish) refl g f
 
 finish_good : (a : ℕ) (g : Aggregator) (f : Feature) (rows : List Row) → is_finish_typed (decorated_body rows a g f) ≡ true
-finish_good a g f rows = both_true (both_true refl (kind_known false)) (held_known (list_any (λ s. s.held) (decorated_body rows a g f).states))
+finish_good a g f rows = both_true (both_true reads (kind_known false)) (held_known (list_any (λ s. s.held) (decorated_body rows a g f).states))
   where
+    reads : reads_registers (decorated_body rows a g f).finish ≡ true
+    reads = at_term (λ g f. reads_registers (decorated_body rows a g f).finish) refl g f
+
     kind_known : (held : Bool) → is_some (formula_kind (kinds_where (decorated_body rows a g f) held) (decorated_body rows a g f).finish) ≡ true
     kind_known false = at_term (λ g f. let b = decorated_body rows a g f in is_some (formula_kind (kinds_where b false) b.finish)) refl g f
     kind_known true = at_term (λ g f. let b = decorated_body rows a g f in is_some (formula_kind (kinds_where b true) b.finish)) refl g f
@@ -251,15 +258,17 @@ module _ (rows : List Row) (typed : is_typed rows ≡ true) (few : length rows �
       both_true (le-leb 1 (length b.states) (omega (arith, same, one))) (le-leb (length b.states) 8 (omega (arith, same, few)))
 
   constants : has_constants b ≡ true
-  constants = both_true (both_true (default_constant g) (neutral_constant f)) (default_constant g)
+  constants = start_good rows a g f
 
   targets : has_targets b ≡ true
   targets =
       let rows_typed = (and_parts (starts_idle rows) (list_all (λ r. row_is_typed rows r) rows) typed).1 in
       all_nodes (leads_below (length b.states)) a g f (λ r. row_is_typed rows r) row_leads state_names rows rows_typed
 
-  short : has_short_expressions b ≡ true
-  short = both_true (all_nodes has_short_moves a g f (λ r. true) (λ name r h. short_node a g f name r) state_names rows (always rows)) refl
+  short : has_expressions b ≡ true
+  short =
+      both_true (all_nodes (has_expressions_in (is_wide f)) a g f (λ r. true) (λ name r h. fit_node a g f name r) state_names rows (always rows))
+      (finish_fit rows a g f)
 
   body_formed : is_formed b ≡ true
   body_formed = both_true (both_true (both_true (both_true few_states (names_good a g f rows few)) constants) targets) short

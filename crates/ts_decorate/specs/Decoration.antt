@@ -1,6 +1,9 @@
 -- The automaton that a transducer becomes, with the registers of an aggregator and a feature
 -- (Global Constraint Catalog, Volume II: decoration of transducers).
-use Rattle.std.specs.Prelude.{ℕ, codes, List, [], ◌∷◌}
+use Rattle.std.specs.Prelude.{ℕ, codes, Bool, is_some, List, [], ◌∷◌, Option, None, Some}
+use Rattle.ts_base.specs.declared.constant.Constant.{Constant}
+use Rattle.ts_base.specs.declared.ext.Ext.{Ext}
+use Rattle.ts_base.specs.Operators.{constant_value}
 use Rattle.ts_transducer.specs.declared.row.Arrow.{Arrow}
 use Rattle.ts_transducer.specs.declared.row.Row.{Row}
 use Rattle.ts_transducer.specs.Typing.{is_held}
@@ -8,17 +11,20 @@ use Rattle.ts_pattern.specs.declared.name.Aggregator.{Aggregator}
 use Rattle.ts_pattern.specs.declared.name.Aggregator.TheVariants.{Max as MaxOf, Min as MinOf}
 use Rattle.ts_pattern.specs.declared.name.Feature.{Feature}
 use Rattle.ts_pattern.specs.declared.name.Feature.TheVariants.{Width}
+use Rattle.ts_pattern.specs.declared.arithmetic.CellFold.{CellFold}
 use Rattle.ts_pattern.specs.declared.arithmetic.Worth.{Worth}
 use Rattle.ts_pattern.specs.declared.arithmetic.Worth.TheVariants.{Unit as UnitWorth, Cell as CellWorth}
-use Rattle.ts_pattern.specs.Arithmetic.{cell_fold, cell_op, neutral_value, range_fold, range_op, default_value}
+use Rattle.ts_pattern.specs.Arithmetic.{cell_fold, less_fold}
 use Rattle.ts_automaton.specs.declared.expr.Atom.{Atom}
-use Rattle.ts_automaton.specs.declared.expr.Atom.TheVariants.{C, D, R, This, Next, Unit as UnitAtom}
+use Rattle.ts_automaton.specs.declared.expr.Atom.TheVariants.{C, E, D, F, R, This, Next, Zero as ZeroAtom, Unit as UnitAtom}
 use Rattle.ts_automaton.specs.declared.state.Mark.{Mark}
 use Rattle.ts_automaton.specs.declared.state.Mark.TheVariants.{Same, Zero as ZeroMark, Cells}
+use Rattle.ts_automaton.specs.Differences.{number_op}
 use Rattle.ts_automaton.specs.Formula.{Formula, Leaf, Join, constant_atom}
 use Rattle.ts_automaton.specs.Registers.{EachOf, each}
 use Rattle.ts_automaton.specs.Body.{Move, Node, Body}
-use Rattle.ts_decorate.specs.Operators.{Operators, after_phase}
+use Rattle.ts_decorate.specs.Operators.{Operators, after_phase, at_start, total_of}
+use Rattle.ts_decorate.specs.Rows.{operators_by}
 
 -- what a cell is worth, as a word of an expression
 abbrev pub worth_atom : Worth → Atom → Atom
@@ -39,21 +45,31 @@ mark_of MinOf Width = Cells
 mark_of g f = Same
 
 -- expressions as the values of the registers
-abbrev pub expression_operators : Aggregator → Feature → Operators Formula
-expression_operators g f =
-    record {
-      phi = Join (cell_op f);
-      neutral = Leaf (constant_atom (cell_fold f).neutral);
-      g = Join (range_op g);
-      default = Leaf (constant_atom (range_fold g).default);
-    }
+abbrev pub constant_formula : Constant → Formula
+constant_formula k = Leaf (constant_atom k)
 
-abbrev pub registers : EachOf Formula
-registers = each (Leaf C) (Leaf D) (Leaf R)
+abbrev pub expression_operators : Aggregator → Feature → Operators Formula
+expression_operators g f = operators_by constant_formula Join g f
+
+-- and numbers
+abbrev pub number_operators : Aggregator → Feature → Operators Ext
+number_operators g f = operators_by constant_value number_op g f
+
+-- the automaton is wide where something is taken away
+abbrev pub is_wide : Feature → Bool
+is_wide f = is_some (less_fold f)
+
+-- the register of a half, where it has a row
+abbrev pub register_by : Option CellFold → Atom → Formula
+register_by None a = Leaf ZeroAtom
+register_by (Some row) a = Leaf a
+
+abbrev pub registers : Feature → EachOf Formula
+registers f = each (Leaf C) (register_by (less_fold f) E) (Leaf D) (register_by (less_fold f) F) (Leaf R)
 
 abbrev pub move_made : ℕ → Aggregator → Feature → Arrow → Move
 move_made a g f m =
-    record { next = m.next; to = after_phase (expression_operators g f) a m.phase registers (here f) (next f) }
+    record { next = m.next; to = after_phase (expression_operators g f) a m.phase (registers f) (here f) (next f) }
 
 abbrev pub node_made : ℕ → Aggregator → Feature → ℕ → Row → Node
 node_made a g f name r = record {
@@ -77,7 +93,8 @@ state_names = codes "srtuvwxy"
 abbrev pub decorated_body : List Row → ℕ → Aggregator → Feature → Body
 decorated_body rows a g f = record {
   states = nodes_made a g f state_names rows;
-  start = each (default_value g) (neutral_value f) (default_value g);
-  finish = Join (range_op g) (Leaf R) (Leaf C);
+  start = at_start (number_operators g f);
+  finish = total_of (expression_operators g f) (registers f);
   mark = mark_of g f;
+  wide = is_wide f;
 }

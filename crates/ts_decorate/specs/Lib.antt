@@ -1,3 +1,4 @@
 pub mod Operators
+pub mod Rows
 pub mod Decoration
 pub mod Answers

@@ -11,7 +11,7 @@ use crate::builder::Builder;
 use crate::table;
 use std::alloc::Global;
 use ts_automaton::{Automaton, Expr, Regs, State};
-use ts_base::Memory;
+use ts_base::{Ext, Memory};
 use ts_pattern::{Aggregator, Feature};
 use ts_transducer::{Row, Transducer};
 
@@ -40,13 +40,25 @@ pub fn decorate(
     };
     let states = states_of(&builder, t.rows())?;
     let none = aggregator.fold().default.value();
+    let neutral = builder.whole().neutral().value();
+    let low = builder.less().neutral().value();
     let start = Regs {
         c: none,
-        d: feature.fold().neutral.value(),
+        e: Ext::Int(0),
+        d: neutral,
+        f: low,
         r: none,
     };
-    let finish = builder.g(Expr::R, Expr::C)?;
-    Ok(Automaton::new(states, start, finish, table::mark(aggregator, feature)).unwrap())
+    let finish = builder.total()?;
+    let wide = feature.less().is_some();
+    Ok(Automaton::new(
+        states,
+        start,
+        finish,
+        table::mark(aggregator, feature),
+        wide,
+    )
+    .unwrap())
 }
 
 /// The states of the rows, at most eight.
