@@ -1,7 +1,8 @@
 -- The exact operators of each term keep the laws.
-use Rattle.std.specs.Prelude.{◌≡◌, refl, ℤ, pos, neg_ℤ}
+use Rattle.std.specs.Prelude.{◌≡◌, refl, ℤ, pos, Option, None, Some}
 use Rattle.std.proofs.Common.{sym, ◌∙◌, ap, arith}
 use Rattle.std.proofs.lemmas.Int.{ints}
+use Rattle.ts_base.specs.declared.constant.Constant.TheVariants.{Zero}
 use Rattle.ts_base.specs.declared.ext.Ext.{Ext}
 use Rattle.ts_base.specs.declared.ext.Ext.TheVariants.{NegInf, Int, PosInf}
 use Rattle.ts_base.specs.Numbers.{ext_max, ext_min}
@@ -9,17 +10,18 @@ use Rattle.ts_base.proofs.Order.{le_refl, le_antisym, max_left, max_right, max_l
 use Rattle.ts_pattern.specs.declared.name.Aggregator.{Aggregator}
 use Rattle.ts_pattern.specs.declared.name.Aggregator.TheVariants.{Sum, Max as MaxOf, Min as MinOf}
 use Rattle.ts_pattern.specs.declared.name.Feature.{Feature}
-use Rattle.ts_pattern.specs.declared.name.Feature.TheVariants.{One, Width, Surf, Max as MaxFeature, Min as MinFeature}
-use Rattle.ts_pattern.specs.Arithmetic.{cell_op, range_op, default_value, cell_value}
+use Rattle.ts_pattern.specs.declared.name.Feature.TheVariants.{One, Width, Surf, Max as MaxFeature, Min as MinFeature, Range}
+use Rattle.ts_pattern.specs.declared.arithmetic.CellFold.{CellFold}
+use Rattle.ts_pattern.specs.Arithmetic.{cell_op, less_fold, range_op, default_value, cell_value}
+use Rattle.ts_base.specs.Operators.{constant_value}
 use Rattle.ts_base.specs.declared.op.Op.{Op}
 use Rattle.ts_base.specs.declared.op.Op.TheVariants.{Add, Max, Min}
-use Rattle.ts_decorate.proofs.Exact.{exact_plus, exact_op, exact, max_assoc, min_assoc, plus_assoc, range_right}
-use Rattle.ts_compile.proofs.Facts.{GlueLaws}
-
-abbrev pub negated : Ext → Ext
-negated NegInf = PosInf
-negated (Int x) = Int (neg_ℤ x)
-negated PosInf = NegInf
+use Rattle.ts_automaton.proofs.OperatorLaws.{negated}
+use Rattle.ts_decorate.specs.Operators.{Half}
+use Rattle.ts_decorate.specs.Rows.{phi_by, half_by}
+use Rattle.ts_decorate.proofs.Exact.{exact_plus, exact_op, exact_operator, exact, max_assoc, min_assoc, plus_assoc, range_right, idle_read}
+use Rattle.ts_compile.proofs.Facts.{Ops, half_of, HalfLaws, GlueLaws}
+use Rattle.ts_compile.proofs.Halves.{pair_same, pair_is, paired}
 
 -- u with v where the cell value d stands in both
 abbrev pub exact_joined : Op → Ext → Ext → Ext → Ext
@@ -39,6 +41,7 @@ PartOf Width u = IsNumber u
 PartOf Surf u = IsNumber u
 PartOf MaxFeature u = Unit {0}
 PartOf MinFeature u = Unit {0}
+PartOf Range u = Unit {0}
 
 -- d stands in u
 abbrev pub FoldedOf : Op → Ext → Ext → Type 0
@@ -46,12 +49,58 @@ FoldedOf Add u d = Unit {0}
 FoldedOf Max u d = ext_max u d ≡ u
 FoldedOf Min u d = ext_min u d ≡ u
 
+-- the same of what is taken away, which stays at 0 where nothing is
+abbrev pub joined_by : Option CellFold → Ext → Ext → Ext → Ext
+joined_by None u v d = u
+joined_by (Some row) u v d = exact_joined row.op u v d
+
+abbrev pub PartBy : Option CellFold → Ext → Type 0
+PartBy None u = u ≡ Int (pos 0)
+PartBy (Some row) u = Unit {0}
+
+abbrev pub FoldedBy : Option CellFold → Ext → Ext → Type 0
+FoldedBy None u d = Unit {0}
+FoldedBy (Some row) u d = FoldedOf row.op u d
+
+abbrev pub away_by : Option CellFold → Ext → Ext
+away_by None v = Int (pos 0)
+away_by (Some row) v = v
+
+-- what a cell counts for there
+abbrev pub away : Feature → ℤ → Ext
+away f x = away_by (less_fold f) (cell_value f x)
+
+same_by : (row : Option CellFold) (u v : Ext) → phi_by exact_operator row u v ≡ phi_by exact_operator row u (away_by row v)
+same_by None u v = refl
+same_by (Some row) u v = refl
+
+pub same_away : (g : Aggregator) (f : Feature) (u : Ext) (x : ℤ) → (exact g f).less.phi u (cell_value f x) ≡ (exact g f).less.phi u (away f x)
+same_away g f u x = same_by (less_fold f) u (cell_value f x)
+
+-- of both halves
+abbrev pub both_joined : Feature → Ext × Ext → Ext × Ext → Ext × Ext → Ext × Ext
+both_joined f u v d = (exact_joined (cell_op f) u.0 v.0 d.0, joined_by (less_fold f) u.1 v.1 d.1)
+
+abbrev pub BothParts : Feature → Ext × Ext → Type 0
+BothParts f u = PartOf f u.0 × PartBy (less_fold f) u.1
+
+abbrev pub BothFolded : Feature → Ext × Ext → Ext × Ext → Type 0
+BothFolded f u d = FoldedOf (cell_op f) u.0 d.0 × FoldedBy (less_fold f) u.1 d.1
+
 pub cell_part : (f : Feature) (x : ℤ) → PartOf f (cell_value f x)
 cell_part One x = refl
 cell_part Width x = tt
 cell_part Surf x = tt
 cell_part MaxFeature x = tt
 cell_part MinFeature x = tt
+cell_part Range x = tt
+
+away_part : (row : Option CellFold) (v : Ext) → PartBy row (away_by row v)
+away_part None v = refl
+away_part (Some row) v = tt
+
+pub cell_parts : (f : Feature) (x : ℤ) → BothParts f (cell_value f x, away f x)
+cell_parts f x = (cell_part f x, away_part (less_fold f) (cell_value f x))
 
 max_swap : (a b : Ext) → ext_max a b ≡ ext_max b a
 max_swap a b =
@@ -140,62 +189,110 @@ module _ (op : Ext → Ext → Ext) (assoc : (u v w : Ext) → op (op u v) w ≡
   is_given : (u v d : Ext) → op u d ≡ u → op u (op v d) ≡ op u v
   is_given u v d h = ap (op u) (swap v d) ∙ sym (assoc u d v) ∙ ap (λ z. op z v) h
 
+abbrev half_with : (Ext → Ext → Ext) → Ext → Ext → Half Ext
+half_with op n i = record { phi = λ u v. op u v; neutral = n; idle = i }
+
 -- parts are numbers, and the cell value that stands in both is taken off
-sum_laws : (g : Aggregator) → GlueLaws (exact g Surf) (exact_joined Add) IsNumber (FoldedOf Add)
-sum_laws g = record {
+sum_half : (i : Ext) → HalfLaws (half_with exact_plus (Int (pos 0)) i) (λ u v d. exact_joined Add u v d) IsNumber
+    (λ u d. Unit {0})
+sum_half i = record {
   neutral_part = tt;
   phi_part = number_sum;
-  assoc = λ u v w i j k. plus_assoc u v w;
-  comm = λ u v i j. plus_swap u v;
-  left = λ u i. plus_left u;
-  g_assoc = g_assoc g;
-  g_comm = g_swap g;
-  g_left = g_left g;
-  folds = λ u d i j. tt;
-  takes = λ u v d i j k h. sum_takes u v d i j k;
-  gives = λ u v d i j k h. sum_gives u v d i j k;
+  assoc = λ u v w j k l. plus_assoc u v w;
+  comm = λ u v j k. plus_swap u v;
+  left = λ u j. plus_left u;
+  folds = λ u d j k. tt;
+  takes = λ u v d j k l h. sum_takes u v d j k l;
+  gives = λ u v d j k l h. sum_gives u v d j k l;
 }
 
-pub laws_of : (g : Aggregator) (f : Feature) →
-    GlueLaws (exact g f) (exact_joined (cell_op f)) (PartOf f) (FoldedOf (cell_op f))
-laws_of g One = record {
+-- parts are those that the operator leaves as they are beside n
+module _ (op : Ext → Ext → Ext) (assoc : (u v w : Ext) → op (op u v) w ≡ op u (op v w)) (swap : (u v : Ext) → op u v ≡ op v u)
+    (twice : (u : Ext) → op u u ≡ u) (n i : Ext) (Part : Ext → Type 0) (neutral_part : Part n)
+    (op_part : (u v : Ext) → Part u → Part v → Part (op u v)) (op_left : (u : Ext) → Part u → op n u ≡ u) where
+  lattice_half : HalfLaws (half_with op n i) (λ u v d. op u v) Part (λ u d. op u d ≡ u)
+  lattice_half = record {
+    neutral_part = neutral_part;
+    phi_part = op_part;
+    assoc = λ u v w j k l. assoc u v w;
+    comm = λ u v j k. swap u v;
+    left = op_left;
+    folds = λ u d j k. stands_in op assoc swap twice u d;
+    takes = λ u v d j k l h. is_taken op assoc swap twice u v d h;
+    gives = λ u v d j k l h. is_given op assoc swap twice u v d h;
+  }
+
+-- any parts
+abbrev AnyPart : Ext → Type 0
+AnyPart u = Unit {0}
+
+max_half : (i : Ext) → HalfLaws (half_with ext_max NegInf i) (λ u v d. ext_max u v) AnyPart (λ u d. ext_max u d ≡ u)
+max_half i = lattice_half ext_max max_assoc max_swap max_twice NegInf i AnyPart tt (λ u v j k. tt) (λ u j. refl)
+
+min_half : (i : Ext) → HalfLaws (half_with ext_min PosInf i) (λ u v d. ext_min u v) AnyPart (λ u d. ext_min u d ≡ u)
+min_half i = lattice_half ext_min min_assoc min_swap min_twice PosInf i AnyPart tt (λ u v j k. tt) (λ u j. min_from_high u)
+
+whole_laws : (g : Aggregator) (f : Feature) → HalfLaws (exact g f).whole (exact_joined (cell_op f)) (PartOf f) (FoldedOf (cell_op f))
+whole_laws g One =
+    lattice_half ext_max max_assoc max_swap max_twice (Int (pos 1)) (default_value g) (PartOf One) refl
+    (λ u v j k. ap (λ z. ext_max z v) j ∙ ap (ext_max (Int (pos 1))) k) (λ u j. ap (ext_max (Int (pos 1))) j ∙ sym j)
+whole_laws g Width = sum_half (default_value g)
+whole_laws g Surf = sum_half (default_value g)
+whole_laws g MaxFeature = max_half (default_value g)
+whole_laws g MinFeature = min_half (default_value g)
+whole_laws g Range = max_half (default_value g)
+
+-- a half at rest: every part is 0
+rest_half : HalfLaws (half_by constant_value exact_operator None Zero) (joined_by None) (PartBy None) (FoldedBy None)
+rest_half = record {
   neutral_part = refl;
-  phi_part = λ u v i j. ap (λ z. ext_max z v) i ∙ ap (ext_max (Int (pos 1))) j;
-  assoc = λ u v w i j k. max_assoc u v w;
-  comm = λ u v i j. max_swap u v;
-  left = λ u i. ap (ext_max (Int (pos 1))) i ∙ sym i;
-  g_assoc = g_assoc g;
-  g_comm = g_swap g;
-  g_left = g_left g;
-  folds = λ u d i j. stands_in ext_max max_assoc max_swap max_twice u d;
-  takes = λ u v d i j k h. is_taken ext_max max_assoc max_swap max_twice u v d h;
-  gives = λ u v d i j k h. is_given ext_max max_assoc max_swap max_twice u v d h;
+  phi_part = λ u v j k. j;
+  assoc = λ u v w j k l. refl;
+  comm = λ u v j k. j ∙ sym k;
+  left = λ u j. sym j;
+  folds = λ u d j k. tt;
+  takes = λ u v d j k l h. refl;
+  gives = λ u v d j k l h. refl;
 }
-laws_of g Width = sum_laws g
-laws_of g Surf = sum_laws g
-laws_of g MaxFeature = record {
-  neutral_part = tt;
-  phi_part = λ u v i j. tt;
-  assoc = λ u v w i j k. max_assoc u v w;
-  comm = λ u v i j. max_swap u v;
-  left = λ u i. refl;
-  g_assoc = g_assoc g;
-  g_comm = g_swap g;
-  g_left = g_left g;
-  folds = λ u d i j. stands_in ext_max max_assoc max_swap max_twice u d;
-  takes = λ u v d i j k h. is_taken ext_max max_assoc max_swap max_twice u v d h;
-  gives = λ u v d i j k h. is_given ext_max max_assoc max_swap max_twice u v d h;
-}
-laws_of g MinFeature = record {
-  neutral_part = tt;
-  phi_part = λ u v i j. tt;
-  assoc = λ u v w i j k. min_assoc u v w;
-  comm = λ u v i j. min_swap u v;
-  left = λ u i. min_from_high u;
-  g_assoc = g_assoc g;
-  g_comm = g_swap g;
-  g_left = g_left g;
-  folds = λ u d i j. stands_in ext_min min_assoc min_swap min_twice u d;
-  takes = λ u v d i j k h. is_taken ext_min min_assoc min_swap min_twice u v d h;
-  gives = λ u v d i j k h. is_given ext_min min_assoc min_swap min_twice u v d h;
-}
+
+away_laws : (g : Aggregator) (f : Feature) → HalfLaws (exact g f).less (joined_by (less_fold f)) (PartBy (less_fold f)) (FoldedBy (less_fold f))
+away_laws g One = rest_half
+away_laws g Width = rest_half
+away_laws g Surf = rest_half
+away_laws g MaxFeature = rest_half
+away_laws g MinFeature = rest_half
+away_laws g Range = min_half (Int (pos 0))
+
+-- two halves that keep the laws keep them together
+module _ (g : Aggregator) (f : Feature) where
+  abbrev o : Ops (Ext × Ext) Ext
+  o = paired (exact g f)
+
+  abbrev first : HalfLaws (exact g f).whole (exact_joined (cell_op f)) (PartOf f) (FoldedOf (cell_op f))
+  first = whole_laws g f
+
+  abbrev second : HalfLaws (exact g f).less (joined_by (less_fold f)) (PartBy (less_fold f)) (FoldedBy (less_fold f))
+  second = away_laws g f
+
+  both_laws : HalfLaws (half_of o) (both_joined f) (BothParts f) (BothFolded f)
+  both_laws = record {
+    neutral_part = (first.neutral_part, second.neutral_part);
+    phi_part = λ u v j k. (first.phi_part u.0 v.0 j.0 k.0, second.phi_part u.1 v.1 j.1 k.1);
+    assoc = λ u v w j k l. pair_same (first.assoc u.0 v.0 w.0 j.0 k.0 l.0) (second.assoc u.1 v.1 w.1 j.1 k.1 l.1);
+    comm = λ u v j k. pair_same (first.comm u.0 v.0 j.0 k.0) (second.comm u.1 v.1 j.1 k.1);
+    left = λ u j. pair_same (first.left u.0 j.0) (second.left u.1 j.1) ∙ pair_is u;
+    folds = λ u d j k. (first.folds u.0 d.0 j.0 k.0, second.folds u.1 d.1 j.1 k.1);
+    takes = λ u v d j k l h.
+        pair_same (first.takes u.0 v.0 d.0 j.0 k.0 l.0 h.0) (second.takes u.1 v.1 d.1 j.1 k.1 l.1 h.1);
+    gives = λ u v d j k l h.
+        pair_same (first.gives u.0 v.0 d.0 j.0 k.0 l.0 h.0) (second.gives u.1 v.1 d.1 j.1 k.1 l.1 h.1);
+  }
+
+  pub laws_of : GlueLaws o (both_joined f) (BothParts f) (BothFolded f)
+  laws_of = record {
+    half = both_laws;
+    idle_read = idle_read g (less_fold f);
+    g_assoc = g_assoc g;
+    g_comm = g_swap g;
+    g_left = g_left g;
+  }

@@ -1,5 +1,6 @@
 mod Facts
 mod Forms
+mod Halves
 mod Instances
 mod JoinStates
 mod JudgeLaws

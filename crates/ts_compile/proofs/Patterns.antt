@@ -7,7 +7,7 @@ use Rattle.ts_base.specs.declared.range.Join.{Join}
 use Rattle.ts_pattern.specs.declared.name.Aggregator.{Aggregator}
 use Rattle.ts_pattern.specs.declared.name.Aggregator.TheVariants.{Sum, Max as MaxOf, Min as MinOf}
 use Rattle.ts_pattern.specs.declared.name.Feature.{Feature}
-use Rattle.ts_pattern.specs.declared.name.Feature.TheVariants.{One, Width, Surf, Max as MaxFeature, Min as MinFeature}
+use Rattle.ts_pattern.specs.declared.name.Feature.TheVariants.{One, Width, Surf, Max as MaxFeature, Min as MinFeature, Range}
 use Rattle.ts_pattern.specs.declared.name.PatternId.{PatternId}
 use Rattle.ts_pattern.specs.declared.name.PatternId.TheVariants.{Increasing, Decreasing, Steady, IncreasingSequence, DecreasingSequence, StrictlyIncreasingSequence, StrictlyDecreasingSequence, SteadySequence, IncreasingTerrace, DecreasingTerrace, Inflexion, Peak, Valley, Plateau, Plain, ProperPlateau, ProperPlain, Summit, Gorge, Zigzag, DipOnIncreasingSequence, BumpOnDecreasingSequence}
 use Rattle.ts_pattern.specs.PatternTable.{pattern_a}
@@ -22,7 +22,7 @@ is_pair js q r = list_any (λ j. nat_eq j.forward q && nat_eq j.reverse r) js
 
 -- a test of all terms
 abbrev pub on_features : (Feature → Bool) → Bool
-on_features p = p One && (p Width && (p Surf && (p MaxFeature && p MinFeature)))
+on_features p = p One && (p Width && (p Surf && (p MaxFeature && (p MinFeature && p Range))))
 
 abbrev pub on_terms : (Aggregator → Feature → Bool) → Bool
 on_terms p = on_features (p Sum) && (on_features (p MaxOf) && on_features (p MinOf))
@@ -88,7 +88,8 @@ feature_is p h f =
     let y = and_parts _ _ x.1 in
     let z = and_parts _ _ y.1 in
     let w = and_parts _ _ z.1 in
-    elim f as (λ f. p f ≡ true) [ One ↦ x.0 | Width ↦ y.0 | Surf ↦ z.0 | MaxFeature ↦ w.0 | MinFeature ↦ w.1 ]
+    let v = and_parts _ _ w.1 in
+    elim f as (λ f. p f ≡ true) [ One ↦ x.0 | Width ↦ y.0 | Surf ↦ z.0 | MaxFeature ↦ w.0 | MinFeature ↦ v.0 | Range ↦ v.1 ]
 
 pub term_is : (p : Aggregator → Feature → Bool) → on_terms p ≡ true → (g : Aggregator) (f : Feature) → p g f ≡ true
 term_is p h g f =

@@ -12,7 +12,7 @@ use Rattle.ts_decorate.specs.Operators.{Operators}
 use Rattle.ts_decorate.specs.Decoration.{decorated_body}
 use Rattle.ts_decorate.proofs.Exact.{exact}
 use Rattle.ts_pattern.specs.Arithmetic.{cell_value}
-use Rattle.ts_decorate.proofs.Evaluation.{after_is}
+use Rattle.ts_decorate.proofs.Evaluation.{start_rests, after_is}
 use Rattle.ts_decorate.proofs.Runs.{table_start, table_step, table_after}
 use Rattle.ts_decorate.proofs.Sizes.{size_of_all, neutral_size, default_size, after_same, cost_small}
 use Rattle.ts_compile.proofs.Whole.{some_row, table_back}
@@ -70,7 +70,7 @@ module _ (rows : List Row) (typed : is_typed rows ≡ true) (few : length rows �
   start_size = let n = neutral_size f in let d = default_size g in omega (arith, n, d)
 
   pub run_is : (xs : List ℤ) → length xs ≤ 100000 → AreCellValues xs →
-      (after (decorated_body rows a g f) xs ≡ exact_run xs) × (size_of_all (exact_run xs).regs ≤ 1 + length xs * 2000001)
+      (after (decorated_body rows a g f) xs ≡ exact_run xs) × (size_of_all (exact_run xs).regs ≤ 1 + length xs * 4000001)
   run_is [] short h = (refl, let n = start_size in omega (arith, n))
   run_is (x ∷ xs) short h =
       let o = exact g f in
@@ -78,4 +78,4 @@ module _ (rows : List Row) (typed : is_typed rows ≡ true) (few : length rows �
       let c = cost_small f xs x h.0 h.1 in
       let same = after_same g f a rows xs x (table_start o) (omega (arith, n, c, short)) in
       let size = same.1 in
-      (after_is rows typed few a g f xs x (table_start o) (some_row rows typed) ∙ same.0, omega (arith, n, c, size))
+      (after_is rows typed few a g f xs x (table_start o) (some_row rows typed) (start_rests g f) ∙ same.0, omega (arith, n, c, size))

@@ -12,7 +12,7 @@ use Rattle.ts_automaton.specs.Body.{Body}
 use Rattle.ts_automaton.specs.declared.draft.Way.TheVariants.{Forward, Reverse}
 use Rattle.ts_automaton.specs.AutomatonText.{state_lines, name_at, words_text, lines_text, head_text, body_text}
 use Rattle.ts_glue.specs.declared.table.FoldOp.{FoldOp}
-use Rattle.ts_glue.specs.declared.table.FoldOp.TheVariants.{Add, Max, Min}
+use Rattle.ts_glue.specs.declared.table.FoldOp.TheVariants.{Add, Max, Min, Pair as Apart}
 use Rattle.ts_glue.specs.declared.table.CellUnit.{CellUnit}
 use Rattle.ts_glue.specs.declared.table.CellUnit.TheVariants.{Unit as UnitCell, Value as ValueCell}
 use Rattle.ts_glue.specs.Pairs.{Table, Pair}
@@ -41,6 +41,7 @@ abbrev pub fold_word : FoldOp → List ℕ
 fold_word Add = codes "add"
 fold_word Max = codes "max"
 fold_word Min = codes "min"
+fold_word Apart = codes "range"
 
 abbrev pub unit_word : CellUnit → List ℕ
 unit_word UnitCell = codes "1"
@@ -68,12 +69,12 @@ glue_text p =
 -- what stands behind the forward block
 abbrev pub reverse_text : Option Pair → List ℕ
 reverse_text None = codes "no reverse\n"
-reverse_text (Some p) = head_text Reverse ++ (body_text p.reverse ++ glue_text p)
+reverse_text (Some p) = head_text Reverse p.reverse.wide ++ (body_text p.reverse ++ glue_text p)
 
 -- the part of a term with this machine
 abbrev pub part_text : List ℕ → ModelTerm → Body → Option Pair → List ℕ
 part_text name t body split =
-    words_text (term_words name t) ++ (head_text Forward ++ (body_text body ++ reverse_text split))
+    words_text (term_words name t) ++ (head_text Forward body.wide ++ (body_text body ++ reverse_text split))
 
 -- the parts of the terms, in order
 abbrev pub program_text : List (String Global × ModelTerm) → List ℕ

@@ -1,20 +1,21 @@
 -- The automata and the glue table of a term whose pattern has a partner.
-use Rattle.std.specs.Prelude.{◌≡◌, ℕ, List, Some}
+use Rattle.std.specs.Prelude.{◌≡◌, ℕ, List, Option, None, Some}
 use Rattle.ts_base.specs.declared.op.Op.{Op}
 use Rattle.ts_base.specs.declared.op.Op.TheVariants.{Add, Max, Min}
 use Rattle.ts_base.specs.declared.range.Join.{Join}
 use Rattle.ts_pattern.specs.declared.name.Aggregator.{Aggregator}
 use Rattle.ts_pattern.specs.declared.name.Feature.{Feature}
 use Rattle.ts_pattern.specs.declared.name.PatternId.{PatternId}
+use Rattle.ts_pattern.specs.declared.arithmetic.CellFold.{CellFold}
 use Rattle.ts_pattern.specs.declared.arithmetic.Worth.{Worth}
 use Rattle.ts_pattern.specs.declared.arithmetic.Worth.TheVariants.{Unit as UnitWorth, Cell as CellWorth}
-use Rattle.ts_pattern.specs.Arithmetic.{cell_fold}
+use Rattle.ts_pattern.specs.Arithmetic.{cell_fold, less_fold}
 use Rattle.ts_pattern.specs.PatternTable.{pattern_a}
 use Rattle.ts_automaton.specs.Body.{Body}
 use Rattle.ts_decorate.specs.Decoration.{decorated_body}
 use Rattle.ts_seed.specs.SeedTable.{seed_table}
 use Rattle.ts_glue.specs.declared.table.FoldOp.{FoldOp}
-use Rattle.ts_glue.specs.declared.table.FoldOp.TheVariants.{Add as FoldAdd, Max as FoldMax, Min as FoldMin}
+use Rattle.ts_glue.specs.declared.table.FoldOp.TheVariants.{Add as FoldAdd, Max as FoldMax, Min as FoldMin, Pair as FoldPair}
 use Rattle.ts_glue.specs.declared.table.CellUnit.{CellUnit}
 use Rattle.ts_glue.specs.declared.table.CellUnit.TheVariants.{Unit as UnitCell, Value as ValueCell}
 use Rattle.ts_glue.specs.Pairs.{Table, Pair, pair}
@@ -25,6 +26,11 @@ fold_op_of Add = FoldAdd
 fold_op_of Max = FoldMax
 fold_op_of Min = FoldMin
 
+-- where something is taken away from a range, the greatest and the least cell are folded apart
+abbrev pub folding_of : Option CellFold → Op → FoldOp
+folding_of None o = fold_op_of o
+folding_of (Some less) o = FoldPair
+
 abbrev pub cell_unit_of : Worth → CellUnit
 cell_unit_of UnitWorth = UnitCell
 cell_unit_of CellWorth = ValueCell
@@ -33,7 +39,7 @@ cell_unit_of CellWorth = ValueCell
 abbrev pub glue_table_by : ℕ → Feature → List Join → Table
 glue_table_by a f js =
     let cells = cell_fold f in
-    record { a = a; op = fold_op_of cells.op; unit = cell_unit_of cells.worth; joins = js }
+    record { a = a; op = folding_of (less_fold f) cells.op; unit = cell_unit_of cells.worth; joins = js }
 
 abbrev pub glue_table_of : PatternId → Feature → Table
 glue_table_of id f = glue_table_by (pattern_a id) f (seed_table id).joins

@@ -34,7 +34,7 @@ fn push_glued(
     ensures { let split = Some (pair forward.now reverse.now (table_view table.now)) in
         OnOk result (text.new.items ≡ text.old.items ++ reverse_text split) }
 {
-    write_head(Way::Reverse, text)?;
+    write_head(Way::Reverse, reverse.wide(), text)?;
     write(reverse, text)?;
     push_glue(text, table)?;
     push_joins(text, forward, reverse, &table.joins)?;
@@ -114,6 +114,7 @@ fn fold_word(op: FoldOp) -> &'static [u8]
         FoldOp::Add => b"add",
         FoldOp::Max => b"max",
         FoldOp::Min => b"min",
+        FoldOp::Pair => b"range",
     }
 }
 

@@ -1,8 +1,9 @@
 //! The glue table of a term.
 
 ghost use Rattle.std.specs.Prelude.{◌≡◌};
+ghost use Rattle.ts_pattern.specs.Arithmetic.{less_fold};
 ghost use Rattle.ts_glue.specs.Pairs.{table_view};
-ghost use Rattle.ts_compile.specs.TermPairs.{cell_unit_of, fold_op_of, glue_table_by};
+ghost use Rattle.ts_compile.specs.TermPairs.{cell_unit_of, fold_op_of, folding_of, glue_table_by};
 
 use ts_base::{Join, Op};
 use ts_glue::{CellUnit, FoldOp, GlueTable};
@@ -16,9 +17,20 @@ pub(crate) fn glue_table(a: u8, feature: Feature, joins: Vec<Join>) -> GlueTable
     let cells = feature.fold();
     GlueTable {
         a,
-        op: fold_op(cells.op),
+        op: folding(feature, cells.op),
         unit: cell_unit(cells.worth),
         joins,
+    }
+}
+
+/// How the cells of a feature are joined: by the operator, or the greatest and the least apart, where the least is
+/// taken away.
+fn folding(feature: Feature, op: Op) -> FoldOp
+    ensures { result ≡ folding_of (less_fold feature) op }
+{
+    match feature.less() {
+        Some(_) => FoldOp::Pair,
+        None => fold_op(op),
     }
 }
 

@@ -45,8 +45,9 @@ fn push_part(
         OnOk result (text.new.items ≡ text.old.items ++ part) }
 {
     push_term(text, name, t)?;
-    write_head(Way::Forward, text)?;
-    write(machine.forward(), text)?;
+    let forward = machine.forward();
+    write_head(Way::Forward, forward.wide(), text)?;
+    write(forward, text)?;
     push_reverse(text, machine)?;
     Ok(())
 }

@@ -5,7 +5,7 @@ use Rattle.std.specs.Str.{bytes_eq}
 use Rattle.ts_pattern.specs.declared.name.Aggregator.{Aggregator}
 use Rattle.ts_pattern.specs.declared.name.Aggregator.TheVariants.{Sum, Max, Min}
 use Rattle.ts_pattern.specs.declared.name.Feature.{Feature}
-use Rattle.ts_pattern.specs.declared.name.Feature.TheVariants.{One, Width, Surf, Max as MaxFeature, Min as MinFeature}
+use Rattle.ts_pattern.specs.declared.name.Feature.TheVariants.{One, Width, Surf, Max as MaxFeature, Min as MinFeature, Range}
 use Rattle.ts_pattern.specs.declared.name.PatternId.{PatternId}
 use Rattle.ts_pattern.specs.Names.{aggregator_name, all_aggregators, feature_name, all_features, pattern_name}
 use Rattle.ts_pattern.proofs.CallerLemmas.{found_name, found_by_name}
@@ -28,6 +28,7 @@ own_feature Width = refl
 own_feature Surf = refl
 own_feature MaxFeature = refl
 own_feature MinFeature = refl
+own_feature Range = refl
 
 pub aggregator_is : (word : List ℕ) (r : Option Aggregator) → ((x : Aggregator) → (r ≡ Some x) ↔ (aggregator_name x ≡ word)) → r ≡ aggregator_of word
 unfolding aggregator_of
