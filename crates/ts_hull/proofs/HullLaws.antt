@@ -27,8 +27,9 @@ hull_canonical s t = go (has_some s) (has_some t) refl refl
     go false true e f = some_canonical t f
     go false false e f = refl
 
-pub same_hull : (c d r c' d' r' : Span) → c ≡ c' → d ≡ d' → r ≡ r' → hull_of (each c d r) ≡ hull_of (each c' d' r')
-same_hull c d r c' d' r' p q s = cc
+pub same_hull : {c e d f r c' e' d' f' r' : Span} → c ≡ c' → e ≡ e' → d ≡ d' → f ≡ f' → r ≡ r' →
+    hull_of (each c e d f r) ≡ hull_of (each c' e' d' f' r')
+same_hull p q s t u = cc
 
 -- the same of hulls
 abbrev pub TakesNone : Hull → Type 0
@@ -36,7 +37,8 @@ TakesNone h = hull_of_both h none ≡ h
 
 pub both_takes_none : (h k : Hull) → TakesNone (hull_of_both h k)
 unfolding hull_of_both
-both_takes_none h k = same_hull _ _ _ _ _ _ (hull_canonical h.c k.c) (hull_canonical h.d k.d) (hull_canonical h.r k.r)
+both_takes_none h k =
+    same_hull (hull_canonical h.c k.c) (hull_canonical h.e k.e) (hull_canonical h.d k.d) (hull_canonical h.f k.f) (hull_canonical h.r k.r)
 
 pub none_takes_none : TakesNone none
 unfolding hull_of_both

@@ -1,5 +1,5 @@
 -- Letters as orders.
-use Rattle.std.proofs.Common.{◌≡◌, ◌-◌, Bool, true, false, cond, ℤ, refl, sym, ◌∙◌, ap, arith, int_lt}
+use Rattle.std.proofs.Common.{◌≡◌, Bool, true, false, cond, ℤ, refl, sym, ◌∙◌, ap, arith, int_lt}
 use Rattle.std.specs.Ordering.{int_eq}
 use Rattle.std.proofs.lemmas.Bool.Decides.{Decides-int_eq}
 use Rattle.std.proofs.lemmas.Int.{ints}

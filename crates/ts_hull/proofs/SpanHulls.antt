@@ -96,19 +96,21 @@ hull_assoc s t u = go (has_some s) (has_some t) (has_some u) refl refl refl
 
 -- the same of hulls
 
-pub both_is : (h k : Hull) → hull_of_both h k ≡ hull_with (least_span h.c k.c) (least_span h.d k.d) (least_span h.r k.r)
+pub both_is : (h k : Hull) →
+    hull_of_both h k ≡ hull_with (least_span h.c k.c) (least_span h.e k.e) (least_span h.d k.d) (least_span h.f k.f) (least_span h.r k.r)
 unfolding hull_of_both least_span
 both_is h k = refl
 
 pub both_comm : (h k : Hull) → hull_of_both h k ≡ hull_of_both k h
-both_comm h k = both_is h k ∙ same_hull _ _ _ _ _ _ (hull_comm h.c k.c) (hull_comm h.d k.d) (hull_comm h.r k.r) ∙ sym (both_is k h)
+both_comm h k =
+    both_is h k ∙ same_hull (hull_comm h.c k.c) (hull_comm h.e k.e) (hull_comm h.d k.d) (hull_comm h.f k.f) (hull_comm h.r k.r) ∙ sym (both_is k h)
 
 pub both_assoc : (h k l : Hull) → hull_of_both (hull_of_both h k) l ≡ hull_of_both h (hull_of_both k l)
 both_assoc h k l =
-    let left = hull_with (least_span h.c k.c) (least_span h.d k.d) (least_span h.r k.r) in
-    let right = hull_with (least_span k.c l.c) (least_span k.d l.d) (least_span k.r l.r) in
+    let left = hull_with (least_span h.c k.c) (least_span h.e k.e) (least_span h.d k.d) (least_span h.f k.f) (least_span h.r k.r) in
+    let right = hull_with (least_span k.c l.c) (least_span k.e l.e) (least_span k.d l.d) (least_span k.f l.f) (least_span k.r l.r) in
     ap (λ z. hull_of_both z l) (both_is h k) ∙ both_is left l
-    ∙ same_hull _ _ _ _ _ _ (hull_assoc h.c k.c l.c) (hull_assoc h.d k.d l.d) (hull_assoc h.r k.r l.r)
+    ∙ same_hull (hull_assoc h.c k.c l.c) (hull_assoc h.e k.e l.e) (hull_assoc h.d k.d l.d) (hull_assoc h.f k.f l.f) (hull_assoc h.r k.r l.r)
     ∙ sym (ap (hull_of_both h) (both_is k l) ∙ both_is h right)
 
 -- an operator on spans

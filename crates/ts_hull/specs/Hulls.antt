@@ -8,13 +8,14 @@ use Rattle.ts_automaton.specs.SpanRun.{none_hull}
 
 -- the hull with these spans
 abbrev pub hull_of : EachOf Span → Hull
-hull_of s = record { c = s.c; d = s.d; r = s.r }
+hull_of s = record { c = s.c; e = s.e; d = s.d; f = s.f; r = s.r }
 
 abbrev pub none : Hull
 none = hull_of none_hull
 
 abbrev pub both_spans : EachOf Span → EachOf Span → EachOf Span
-both_spans s t = each (span_hull s.c t.c) (span_hull s.d t.d) (span_hull s.r t.r)
+both_spans s t =
+    each (span_hull s.c t.c) (span_hull s.e t.e) (span_hull s.d t.d) (span_hull s.f t.f) (span_hull s.r t.r)
 
 -- the hull of two, register by register
 unfoldable pub hull_of_both : Hull → Hull → Hull

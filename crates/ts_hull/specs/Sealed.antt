@@ -7,6 +7,9 @@ use Rattle.ts_base.specs.declared.span.Span.{Span}
 use Rattle.ts_base.specs.Spans.{one_span, span_hull, end_by_end}
 use Rattle.ts_automaton.specs.declared.regs.Hull.{Hull}
 use Rattle.ts_automaton.specs.Formula.{Formula}
+use Rattle.ts_automaton.specs.declared.expr.Operator.{Operator}
+use Rattle.ts_automaton.specs.declared.expr.Operator.TheVariants.{Fold, Sub}
+use Rattle.ts_automaton.specs.Differences.{difference_span}
 use Rattle.ts_automaton.specs.Registers.{Values, ext_op, spans_of, value_in}
 use Rattle.ts_automaton.specs.Body.{Move, Body, move_on, node_at}
 use Rattle.ts_automaton.specs.SpanRun.{has_registers, moved_hull}
@@ -20,17 +23,25 @@ least_span s t = span_hull s t
 unfoldable pub by_ends : (Ext → Ext → Ext) → Span → Span → Span
 by_ends op s t = end_by_end op s t
 
+-- the first less the second
+unfoldable pub less_span : Span → Span → Span
+less_span s t = difference_span s t
+
 -- the operators on spans
+abbrev pub sealed_op : Operator → Span → Span → Span
+sealed_op (Fold o) s t = by_ends (ext_op o) s t
+sealed_op Sub s t = less_span s t
+
 abbrev pub sealed_spans : Values Span
-sealed_spans = record { constant = one_span; join = λ o. by_ends (ext_op o) }
+sealed_spans = record { constant = one_span; join = sealed_op }
 
 -- the span of an expression on a hull, at the cell x and the next cell y
 abbrev pub span_in : Formula → Hull → ℤ → ℤ → Span
 span_in f h x y = value_in sealed_spans (spans_of h) x y f
 
 -- the hull of these spans
-abbrev pub hull_with : Span → Span → Span → Hull
-hull_with c d r = record { c = c; d = d; r = r }
+abbrev pub hull_with : Span → Span → Span → Span → Span → Hull
+hull_with c e d f r = record { c = c; e = e; d = d; f = f; r = r }
 
 -- registers lie in the hull
 abbrev pub some_hull : Hull → Bool

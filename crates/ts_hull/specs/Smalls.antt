@@ -4,6 +4,8 @@ use Rattle.ts_base.specs.declared.ext.Ext.{Ext}
 use Rattle.ts_base.specs.declared.ext.Ext.TheVariants.{NegInf, Int, PosInf}
 use Rattle.ts_base.specs.declared.span.Span.{Span}
 use Rattle.ts_automaton.specs.declared.regs.Hull.{Hull}
+use Rattle.ts_automaton.specs.Registers.{spans_of}
+use Rattle.ts_automaton.specs.Typing.{each_is}
 
 abbrev pub Rises : List ℤ → Type 0
 Rises vs = (i j : ℕ) → i < j → j < length vs → IsTrue (int_lt (get_or vs i (pos 0)) (get_or vs j (pos 0)))
@@ -41,8 +43,8 @@ small PosInf = true
 abbrev pub small_span : Span → Bool
 small_span s = small s.lo && small s.hi
 
-abbrev pub small_hull : Hull → Bool
-small_hull h = small_span h.c && (small_span h.d && small_span h.r)
+unfoldable pub small_hull : Hull → Bool
+small_hull h = each_is small_span (spans_of h)
 
 -- from a first one on there is no gap
 abbrev pub IsRunFrom : ℤ → List ℤ → Type 0

@@ -4,7 +4,8 @@ use Rattle.ts_base.specs.declared.ext.Ext.TheVariants.{Int}
 use Rattle.ts_base.specs.declared.span.Span.{Span}
 use Rattle.ts_base.specs.Spans.{none_span, one_span}
 use Rattle.ts_automaton.specs.declared.expr.Atom.{Atom}
-use Rattle.ts_automaton.specs.declared.expr.Atom.TheVariants.{C, D, R, This, Next, Zero, Unit as UnitAtom, NegInf as LowAtom, PosInf as HighAtom}
+use Rattle.ts_automaton.specs.declared.expr.Atom.TheVariants.{C, E, D, F, R, This, Next, Zero, Unit as UnitAtom, NegInf as LowAtom, PosInf as HighAtom}
+use Rattle.ts_automaton.specs.declared.expr.Operator.TheVariants.{Fold, Sub}
 use Rattle.ts_base.specs.declared.op.Op.{Op}
 use Rattle.ts_automaton.specs.declared.regs.Hull.{Hull}
 use Rattle.ts_automaton.specs.Formula.{Formula, Leaf, Join}
@@ -15,7 +16,9 @@ use Rattle.ts_hull.specs.Sealed.{by_ends, span_in}
 -- the word is the next cell
 abbrev pub is_next_word : Atom → Bool
 is_next_word C = false
+is_next_word E = false
 is_next_word D = false
+is_next_word F = false
 is_next_word R = false
 is_next_word This = false
 is_next_word Next = true
@@ -38,7 +41,7 @@ abbrev pub operands : Formula → ℕ
 operands (Leaf a) = 1
 operands (Join o f g) = min (operands f + operands g) 255
 
--- a front; an operator with a front before the next cell; or neither
+-- a front; an operator with a front before the next cell, which is no difference; or neither
 pub data Split : Type 0 where
   FrontOf : Formula → Split
   TailOf : Op → Formula → Split
@@ -51,11 +54,13 @@ is_double o p e f r =
 
 abbrev pub tail_of : Op → Formula → Formula → Split
 tail_of o e (Leaf a) = cond (is_next_word a && is_front e) (TailOf o e) ByPairs
-tail_of o e (Join p f r) = cond (is_double o p e f r) (TailOf o (Join o e f)) ByPairs
+tail_of o e (Join (Fold p) f r) = cond (is_double o p e f r) (TailOf o (Join (Fold o) e f)) ByPairs
+tail_of o e (Join Sub f r) = ByPairs
 
 abbrev pub split_formula : Formula → Split
 split_formula (Leaf a) = cond (is_next_word a) ByPairs (FrontOf (Leaf a))
-split_formula (Join o e r) = cond (is_front e && is_front r) (FrontOf (Join o e r)) (tail_of o e r)
+split_formula (Join (Fold o) e r) = cond (is_front e && is_front r) (FrontOf (Join (Fold o) e r)) (tail_of o e r)
+split_formula (Join Sub e r) = cond (is_front e && is_front r) (FrontOf (Join Sub e r)) ByPairs
 
 abbrev pub is_swept : Split → Bool
 is_swept (FrontOf e) = true
