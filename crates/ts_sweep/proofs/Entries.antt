@@ -64,10 +64,7 @@ module _ {X : Type 0} (both : X → X → X) (none : X) (lanes : X → List ℤ)
         | false ↦ sym (packed_takes_none n (lanes t) big (total_packed test f m before)) ∙ ap (λ z. hull_of_both z none_hull) rest
       ]
 
-  module _ (fit closable : X → Type 0) (front closing : X → ℤ → X) (cut : Cut) (closable_none : closable none) (closable_both : (a b : X) → closable a →
-      closable b → closable (both a b)) (closable_front : (h : X) (v : ℤ) → fit h → IsSmall v → closable (front h v)) (front_is : (h : X) (v : ℤ) → fit h →
-      IsSmall v → IsFrontOf cut n (lanes h) v (lanes (front h v))) (closing_is : (h : X) (w : ℤ) → closable h → IsSmall w →
-      IsClosingOf cut n (lanes h) w (lanes (closing h w))) where
+  module _ (fit closable : X → Type 0) (front closing : X → ℤ → X) (cut : Cut) (closable_none : closable none) (closable_both : (a b : X) → closable a → closable b → closable (both a b)) (closable_front : (h : X) (v : ℤ) → fit h → IsSmall v → closable (front h v)) (front_is : (h : X) (v : ℤ) → fit h → IsSmall v → IsFrontOf cut n (lanes h) v (lanes (front h v))) (closing_is : (h : X) (w : ℤ) → closable h → IsSmall w → IsClosingOf cut n (lanes h) w (lanes (closing h w))) where
     total_closable : (test : ℕ → Bool) (f : ℕ → X) (m : ℕ) → ((i : ℕ) → i < m → closable (f i)) → closable (total both none test f m)
     unfolding total
     total_closable test f zero h = closable_none

@@ -47,8 +47,8 @@ module _ {X : Type 0} (both : X → X → X) (none : X) (f : ℕ → X) where
   ]
 
 -- where a move on `=` is that has left `at` values and k next ones behind
-pub record IsEqualTo {X Y : Type 0} (both : X → X → X) (taking : Y → X → Y) (none : X) (blank : Y) (front closing : X → ℤ →
-    X) (hulls : List X) (value next_value : ℕ → ℤ) (n m at k : ℕ) (old new : List Y) : Type 0 where
+pub record IsEqualTo {X Y : Type 0} (both : X → X → X) (taking : Y → X → Y) (none : X) (blank : Y) (front closing : X → ℤ → X) (hulls : List X)
+    (value next_value : ℕ → ℤ) (n m at k : ℕ) (old new : List Y) : Type 0 where
   pub inside : at ≤ n
   pub within : k ≤ m
   pub passed : (i j : ℕ) → i < at → k ≤ j → j < m → value i <ℤ next_value j

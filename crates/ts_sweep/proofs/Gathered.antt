@@ -48,8 +48,8 @@ module _ {X : Type 0} (both : X → X → X) (none : X) (assoc : (a b c : X) →
           (ih n (omega arith) (λ i lt. t i (omega (arith, lt)) ∙ is_below i c (omega (arith, e, lt)) ∙ sym (is_below i n lt)) ∙ up_same n (suc n) n)
           ∙ ap (gathered both none true f (suc n)) (sym e)
 
-  down_total : (test : ℕ → Bool) (n c : ℕ) → c ≤ n → ((i : ℕ) → i < n → test (n - suc i) ≡ nat_lt i c) → total both none test f n
-      ≡ gathered both none false f n c
+  down_total : (test : ℕ → Bool) (n c : ℕ) → c ≤ n → ((i : ℕ) → i < n → test (n - suc i) ≡ nat_lt i c) →
+      total both none test f n ≡ gathered both none false f n c
   unfolding total gathered
   down_total test zero zero h t = refl
   down_total test zero (suc c) h t = absurd (omega (arith, h))

@@ -1,6 +1,6 @@
 -- Small hulls in lanes: they stand for themselves, and are packed.
-use Rattle.std.proofs.Common.{◌≡◌, ◌&&◌, inl, inr, ℕ, zero, suc, ◌+◌, ◌*◌, ◌<◌, ◌≤ℤ◌, ◌<ℤ◌, ℤ, pos, negsuc, neg_ℤ, Bool, true, false, cond, List, [], ◌∷◌, length, get_or, refl, sym, ap, subst, ◌∙◌, arith}
-use Rattle.std.proofs.lemmas.Bool.{and_parts}
+use Rattle.std.proofs.Common.{◌≡◌, ◌⊎◌, inl, inr, ℕ, ◌+◌, ◌*◌, ◌<◌, ◌≤◌, ◌≤ℤ◌, ◌<ℤ◌, ℤ, pos, negsuc, neg_ℤ, Bool, true, false, cond, Option, None, Some, List, length, get_or, set, replicate, refl, sym, ap, subst, ◌∙◌, arith}
+use Rattle.std.proofs.lemmas.Bool.{and_parts, cases_lt}
 use Rattle.std.proofs.lemmas.Int.{ints}
 use Rattle.std.proofs.lemmas.List.{get_or-replicate, length-replicate}
 use Rattle.ts_base.specs.declared.ext.Ext.{Ext}
@@ -8,20 +8,27 @@ use Rattle.ts_base.specs.declared.ext.Ext.TheVariants.{NegInf, Int, PosInf}
 use Rattle.ts_base.specs.declared.span.Span.{Span}
 use Rattle.ts_base.specs.Spans.{has_some}
 use Rattle.ts_automaton.specs.declared.regs.Hull.{Hull}
+use Rattle.ts_automaton.specs.Registers.{EachOf, each, spans_of, map_each}
+use Rattle.ts_automaton.proofs.Five.{registers_parts}
 use Rattle.ts_hull.specs.Cuts.{Cut, front_hull}
-use Rattle.ts_hull.specs.Hulls.{none as none_hull}
-use Rattle.ts_hull.specs.Sealed.{some_hull, hull_with}
+use Rattle.ts_hull.specs.Hulls.{hull_of, none as none_hull}
+use Rattle.ts_hull.specs.Sealed.{some_hull}
 use Rattle.ts_hull.specs.Smalls.{small_int, small, small_span, small_hull}
 use Rattle.ts_hull.specs.Splits.{front_span}
-use Rattle.ts_hull.proofs.HullLaws.{same_hull}
+use Rattle.ts_hull.proofs.SplitLaws.{small_spans}
+use Rattle.ts_sweep.specs.declared.packed.Ends.{Ends}
+use Rattle.ts_sweep.specs.declared.packed.Name.{Name}
+use Rattle.ts_sweep.specs.declared.packed.Name.TheVariants.{C, E, D, F, R}
 use Rattle.ts_sweep.specs.Small.{IsSmall}
 use Rattle.ts_sweep.specs.Lanes.{least, no_lanes}
-use Rattle.ts_sweep.specs.Packed.{upper, negated, ends, ends_span, register_span, unpacked, AreSome, IsPacked, IsUnder, IsWithin}
-use Rattle.ts_sweep.specs.PackedLaws.{none_unpacked, beyond}
+use Rattle.ts_sweep.specs.Packed.{upper, negated, ends, ends_span, is_wide, place_in, place, with_ends_in, unpacked, AreSome, IsPacked, IsPackOf, IsUnder, IsWithin}
+use Rattle.ts_sweep.specs.PackedLaws.{same_ends, none_unpacked, beyond}
 use Rattle.ts_sweep.specs.FrontLaws.{upper_small, neg_small, neg_neg, above_least}
-use Rattle.ts_sweep.specs.MoveLaws.{front_none}
-use Rattle.ts_sweep.specs.Strided.{lanes_of, greatest_lanes}
+use Rattle.ts_sweep.specs.Moves.{of_name, with_all}
+use Rattle.ts_sweep.specs.MoveLaws.{IsPackAt, all_packed, all_unpacked, front_none, set_at}
+use Rattle.ts_sweep.specs.Strided.{span_ends, lanes_of, greatest_lanes, IsPackable}
 use Rattle.ts_sweep.specs.Trees.{lane_of}
+use Rattle.ts_sweep.proofs.Replaced.{same_each}
 
 pub small_bounds : (x : ℤ) → small_int x ≡ true → IsWithin 1 x
 small_bounds x h = (grind (arith, ints), grind (arith, ints))
@@ -66,69 +73,93 @@ span_lanes s h =
     let p = and_parts (small s.lo) (small s.hi) h in
     both_ends _ _ _ _ (low_lane_is s.lo p.0) (lane_is s.hi p.1)
 
--- the lanes of a hull in which registers lie
-abbrev six_of : Hull → List ℤ
-six_of h = lane_of (negated h.c.lo) ∷ lane_of h.c.hi ∷ lane_of (negated h.d.lo) ∷ lane_of h.d.hi ∷ lane_of (negated h.r.lo) ∷ lane_of h.r.hi ∷ []
+-- lanes of 0 hold a register at each place
 
-pub record AreSmallSpans (h : Hull) : Type 0 where
-  pub c : small_span h.c ≡ true
-  pub d : small_span h.d ≡ true
-  pub r : small_span h.r ≡ true
+zero_above : least <ℤ pos 0
+zero_above = grind (arith, ints)
 
-pub spans_of_small : (h : Hull) → small_hull h ≡ true → AreSmallSpans h
-spans_of_small h e =
-    let p = and_parts (small_span h.c) _ e in
-    let q = and_parts (small_span h.d) (small_span h.r) p.1 in
-    record { c = p.0; d = q.0; r = q.1 }
+pub zeros_some : (n : ℕ) → AreSome n (replicate n (pos 0))
+zeros_some n = record {
+  len = length-replicate n (pos 0);
+  above = λ k lt. subst (λ z. least <ℤ z) (sym (get_or-replicate n k (pos 0) (pos 0) lt)) zero_above;
+  some = λ r lt. ap (λ e. has_some (ends_span e))
+      (same_ends _ _ _ _ (get_or-replicate n (2 * r) (pos 0) (pos 0) (omega (arith, lt))) (get_or-replicate n (2 * r + 1) (pos 0) (pos 0) lt));
+}
 
-six_is : (h : Hull) → AreSmallSpans h → unpacked (six_of h) ≡ h
-six_is h s = same_hull _ _ _ _ _ _ (span_lanes h.c s.c) (span_lanes h.d s.d) (span_lanes h.r s.r)
+-- the ends of a small span stand for it
+span_packs : (s : Span) → small_span s ≡ true → has_some s ≡ true → IsPackOf (span_ends s) s
+span_packs s h some =
+    let p = and_parts (small s.lo) (small s.hi) h in
+    record {
+      some = record { below = low_lane_above s.lo p.0; above = lane_above s.hi p.1; some = ap has_some (span_lanes s h) ∙ some };
+      span = span_lanes s h;
+    }
 
-six_above : (h : Hull) → AreSmallSpans h → (k : ℕ) → k < 6 → least <ℤ get_or (six_of h) k (pos 0)
-six_above h s zero lt = low_lane_above h.c.lo (and_parts (small h.c.lo) (small h.c.hi) s.c).0
-six_above h s (suc zero) lt = lane_above h.c.hi (and_parts (small h.c.lo) (small h.c.hi) s.c).1
-six_above h s (suc (suc zero)) lt = low_lane_above h.d.lo (and_parts (small h.d.lo) (small h.d.hi) s.d).0
-six_above h s (suc (suc (suc zero))) lt = lane_above h.d.hi (and_parts (small h.d.lo) (small h.d.hi) s.d).1
-six_above h s (suc (suc (suc (suc zero)))) lt = low_lane_above h.r.lo (and_parts (small h.r.lo) (small h.r.hi) s.r).0
-six_above h s (suc (suc (suc (suc (suc zero))))) lt = lane_above h.r.hi (and_parts (small h.r.lo) (small h.r.hi) s.r).1
-six_above h s (suc (suc (suc (suc (suc (suc k)))))) lt = absurd (omega (arith, lt))
+-- a hull in which registers lie, by its ends
 
-six_some : (h : Hull) → AreSmallSpans h → has_some h.c ≡ true → has_some h.d ≡ true → has_some h.r ≡ true → (k : ℕ) → 2 * k + 1 < 6 →
-    has_some (register_span (six_of h) k) ≡ true
-six_some h s c d r zero lt = ap has_some (span_lanes h.c s.c) ∙ c
-six_some h s c d r (suc zero) lt = ap has_some (span_lanes h.d s.d) ∙ d
-six_some h s c d r (suc (suc zero)) lt = ap has_some (span_lanes h.r s.r) ∙ r
-six_some h s c d r (suc (suc (suc k))) lt = absurd (omega (arith, lt))
+abbrev hull_ends : Hull → Name → Ends
+hull_ends h k = span_ends (of_name (spans_of h) k)
 
-six_packed : (h : Hull) → AreSmallSpans h → some_hull h ≡ true → AreSome 6 (six_of h)
-six_packed h s e =
-    let p = and_parts (has_some h.c && has_some h.d) (has_some h.r) e in
-    let q = and_parts (has_some h.c) (has_some h.d) p.0 in
-    record { len = refl; above = six_above h s; some = six_some h s q.0 q.1 p.1 }
-
-lanes_some : (h : Hull) → some_hull h ≡ true → lanes_of h ≡ six_of h
-lanes_some h e = ap (λ b. cond b (six_of h) (no_lanes 6)) e
-
-lanes_none : (h : Hull) → some_hull h ≡ false → lanes_of h ≡ no_lanes 6
-lanes_none h e = ap (λ b. cond b (six_of h) (no_lanes 6)) e
-
-pub hull_packed : (h : Hull) → small_hull h ≡ true → IsPacked 6 (lanes_of h)
-hull_packed h small = go (some_hull h) refl
+hull_packs : (n : ℕ) (h : Hull) → IsPackable n h → some_hull h ≡ true → (k : Name) → IsPackAt (place n k) (hull_ends h k) (of_name (spans_of h) k)
+hull_packs n h p some C = span_packs h.c (small_spans h p.small).0 (registers_parts (spans_of h) some).0
+hull_packs n h p some E = go (is_wide n) refl
   where
-    go : (b : Bool) → some_hull h ≡ b → IsPacked 6 (lanes_of h)
-    go true e = inr (subst (AreSome 6) (sym (lanes_some h e)) (six_packed h (spans_of_small h small) e))
-    go false e = inl (lanes_none h e)
+    go : (b : Bool) → is_wide n ≡ b → IsPackAt (place_in b E) (span_ends h.e) h.e
+    go true e = span_packs h.e (small_spans h p.small).1 (registers_parts (spans_of h) some).1
+    go false e = (p.rests e some).0
+hull_packs n h p some D = span_packs h.d (small_spans h p.small).2 (registers_parts (spans_of h) some).2
+hull_packs n h p some F = go (is_wide n) refl
+  where
+    go : (b : Bool) → is_wide n ≡ b → IsPackAt (place_in b F) (span_ends h.f) h.f
+    go true e = span_packs h.f (small_spans h p.small).3 (registers_parts (spans_of h) some).3
+    go false e = (p.rests e some).1
+hull_packs n h p some R = span_packs h.r (small_spans h p.small).4 (registers_parts (spans_of h) some).4
+
+-- its lanes
+abbrev some_of : ℕ → Hull → List ℤ
+some_of n h = with_all n (replicate n (pos 0)) (hull_ends h)
+
+lanes_some : (n : ℕ) (h : Hull) → some_hull h ≡ true → lanes_of n h ≡ some_of n h
+unfolding lanes_of
+lanes_some n h e = ap (λ b. cond b (some_of n h) (no_lanes n)) e
+
+pub lanes_none : (n : ℕ) (h : Hull) → some_hull h ≡ false → lanes_of n h ≡ no_lanes n
+unfolding lanes_of
+lanes_none n h e = ap (λ b. cond b (some_of n h) (no_lanes n)) e
+
+some_packed : (n : ℕ) (h : Hull) → 6 ≤ n → IsPackable n h → some_hull h ≡ true → AreSome n (some_of n h)
+some_packed n h big p e =
+    all_packed n (replicate n (pos 0)) (hull_ends h) (of_name (spans_of h)) big (zeros_some n) (hull_packs n h p e)
+
+some_is : (n : ℕ) (h : Hull) → 6 ≤ n → IsPackable n h → some_hull h ≡ true → unpacked (some_of n h) ≡ h
+some_is n h big p e =
+    all_unpacked n (replicate n (pos 0)) (hull_ends h) (of_name (spans_of h)) big (zeros_some n) (hull_packs n h p e)
+
+pub hull_packed : (n : ℕ) (h : Hull) → 6 ≤ n → IsPackable n h → IsPacked n (lanes_of n h)
+hull_packed n h big p = go (some_hull h) refl
+  where
+    go : (b : Bool) → some_hull h ≡ b → IsPacked n (lanes_of n h)
+    go true e = inr (subst (AreSome n) (sym (lanes_some n h e)) (some_packed n h big p e))
+    go false e = inl (lanes_none n h e)
+
+-- lanes that are made register by register
+pub packed_lanes_of : (n : ℕ) (h : Hull) (x : EachOf Ends) (xs : List ℤ) → some_hull h ≡ true → x.c ≡ span_ends h.c → x.e ≡ span_ends h.e →
+    x.d ≡ span_ends h.d →
+    x.f ≡ span_ends h.f → x.r ≡ span_ends h.r → xs ≡ with_all n (replicate n (pos 0)) (of_name x) → xs ≡ lanes_of n h
+packed_lanes_of n h x xs some c e d f r is =
+    let same : x ≡ each (span_ends h.c) (span_ends h.e) (span_ends h.d) (span_ends h.f) (span_ends h.r) = same_each c e d f r in
+    is ∙ ap (λ z. with_all n (replicate n (pos 0)) (of_name z)) same ∙ sym (lanes_some n h some)
 
 -- what a move makes of a hull is what it makes of its lanes
-pub front_same : (k : Cut) (h : Hull) (v : ℤ) → small_hull h ≡ true → front_hull k (unpacked (lanes_of h)) v ≡ front_hull k h v
+pub front_same : (k : Cut) (n : ℕ) (h : Hull) (v : ℤ) → 6 ≤ n → IsPackable n h → front_hull k (unpacked (lanes_of n h)) v ≡ front_hull k h v
 unfolding front_hull
-front_same k h v small = go (some_hull h) refl
+front_same k n h v big p = go (some_hull h) refl
   where
-    go : (b : Bool) → some_hull h ≡ b → front_hull k (unpacked (lanes_of h)) v ≡ front_hull k h v
-    go true e = ap (λ z. front_hull k z v) (ap unpacked (lanes_some h e) ∙ six_is h (spans_of_small h small))
+    go : (b : Bool) → some_hull h ≡ b → front_hull k (unpacked (lanes_of n h)) v ≡ front_hull k h v
+    go true e = ap (λ z. front_hull k z v) (ap unpacked (lanes_some n h e) ∙ some_is n h big p e)
     go false e =
-        ap (λ z. front_hull k z v) (ap unpacked (lanes_none h e) ∙ none_unpacked 6 (omega arith)) ∙ front_none k v
-        ∙ sym (ap (λ b. cond b (hull_with (front_span k.c h v) (front_span k.d h v) (front_span k.r h v)) none_hull) e)
+        ap (λ z. front_hull k z v) (ap unpacked (lanes_none n h e) ∙ none_unpacked n big) ∙ front_none k v
+        ∙ sym (ap (λ b. cond b (hull_of (map_each (λ q. front_span q h v) k)) none_hull) e)
 
 -- no lane is above the greatest number
 
@@ -151,33 +182,64 @@ least_below = grind (arith, ints)
 zero_below : pos 0 ≤ℤ pos 0
 zero_below = grind (arith, ints)
 
-six_below : (h : Hull) → AreSmallSpans h → IsUnder (six_of h) greatest_lanes
-six_below h s zero = low_lane_below h.c.lo (and_parts (small h.c.lo) (small h.c.hi) s.c).0
-six_below h s (suc zero) = lane_below h.c.hi (and_parts (small h.c.lo) (small h.c.hi) s.c).1
-six_below h s (suc (suc zero)) = low_lane_below h.d.lo (and_parts (small h.d.lo) (small h.d.hi) s.d).0
-six_below h s (suc (suc (suc zero))) = lane_below h.d.hi (and_parts (small h.d.lo) (small h.d.hi) s.d).1
-six_below h s (suc (suc (suc (suc zero)))) = low_lane_below h.r.lo (and_parts (small h.r.lo) (small h.r.hi) s.r).0
-six_below h s (suc (suc (suc (suc (suc zero))))) = lane_below h.r.hi (and_parts (small h.r.lo) (small h.r.hi) s.r).1
-six_below h s (suc (suc (suc (suc (suc (suc k)))))) = zero_below
+zero_most : pos 0 ≤ℤ pos 9223372036854775807
+zero_most = grind (arith, ints)
 
--- the same of nothing
-nothing_at : (k : ℕ) → k < 6 → get_or (no_lanes 6) k (pos 0) ≤ℤ pos 9223372036854775807
-nothing_at k lt = same_below _ least _ (get_or-replicate 6 k least (pos 0) lt) least_below
+-- no lane is above it
+abbrev AreBelow : List ℤ → Type 0
+AreBelow xs = (k : ℕ) → get_or xs k (pos 0) ≤ℤ pos 9223372036854775807
 
-nothing_below : IsUnder (no_lanes 6) greatest_lanes
-nothing_below zero = nothing_at 0 (omega arith)
-nothing_below (suc zero) = nothing_at 1 (omega arith)
-nothing_below (suc (suc zero)) = nothing_at 2 (omega arith)
-nothing_below (suc (suc (suc zero))) = nothing_at 3 (omega arith)
-nothing_below (suc (suc (suc (suc zero)))) = nothing_at 4 (omega arith)
-nothing_below (suc (suc (suc (suc (suc zero))))) = nothing_at 5 (omega arith)
-nothing_below (suc (suc (suc (suc (suc (suc k)))))) =
-    let long : length (no_lanes 6) ≡ 6 = length-replicate 6 least in
-    same_below _ (pos 0) _ (beyond (no_lanes 6) (suc (suc (suc (suc (suc (suc k)))))) (omega (arith, long))) zero_below
+with_below : (n : ℕ) (xs : List ℤ) (o : Option ℕ) (e : Ends) → e.below ≤ℤ pos 9223372036854775807 → e.above ≤ℤ pos 9223372036854775807 → AreBelow xs →
+    AreBelow (with_ends_in xs o e)
+with_below n xs None e p q h k = h k
+with_below n xs (Some r) e p q h k =
+    set_at (λ z. z ≤ℤ pos 9223372036854775807) (set xs (2 * r) e.below) (2 * r + 1) k e.above q
+    (set_at (λ z. z ≤ℤ pos 9223372036854775807) xs (2 * r) k e.below p (h k))
 
-pub under_greatest : (h : Hull) → small_hull h ≡ true → IsUnder (lanes_of h) greatest_lanes
-under_greatest h small = go (some_hull h) refl
+name_below : (s : Span) → small_span s ≡ true → ((span_ends s).below ≤ℤ pos 9223372036854775807) × ((span_ends s).above ≤ℤ pos 9223372036854775807)
+name_below s h = let p = and_parts (small s.lo) (small s.hi) h in (low_lane_below s.lo p.0, lane_below s.hi p.1)
+
+all_below : (n : ℕ) (xs : List ℤ) (h : Hull) → small_hull h ≡ true → AreBelow xs → AreBelow (with_all n xs (hull_ends h))
+all_below n xs h small below =
+    let s = small_spans h small in
+    let c = name_below h.c s.0 in
+    let e = name_below h.e s.1 in
+    let d = name_below h.d s.2 in
+    let f = name_below h.f s.3 in
+    let r = name_below h.r s.4 in
+    with_below n _ (place n R) (hull_ends h R) r.0 r.1 (with_below n _ (place n F) (hull_ends h F) f.0 f.1
+    (with_below n _ (place n D) (hull_ends h D) d.0 d.1 (with_below n _ (place n E) (hull_ends h E) e.0 e.1
+    (with_below n xs (place n C) (hull_ends h C) c.0 c.1 below))))
+
+below_greatest : (n : ℕ) (xs : List ℤ) → length xs ≡ n → AreBelow xs → IsUnder xs (greatest_lanes n)
+below_greatest n xs len below k = go (cases_lt k n)
   where
-    go : (b : Bool) → some_hull h ≡ b → IsUnder (lanes_of h) greatest_lanes
-    go true e = subst (λ xs. IsUnder xs greatest_lanes) (sym (lanes_some h e)) (six_below h (spans_of_small h small))
-    go false e = subst (λ xs. IsUnder xs greatest_lanes) (sym (lanes_none h e)) nothing_below
+    long : length (greatest_lanes n) ≡ n
+    long = length-replicate n (pos 9223372036854775807)
+
+    go : (k < n) ⊎ (n ≤ k) → get_or xs k (pos 0) ≤ℤ get_or (greatest_lanes n) k (pos 0)
+    go (inl lt) = subst (λ z. get_or xs k (pos 0) ≤ℤ z) (sym (get_or-replicate n k (pos 9223372036854775807) (pos 0) lt)) (below k)
+    go (inr le) =
+        same_below _ (pos 0) _ (beyond xs k (omega (arith, len, le)))
+        (subst (λ z. pos 0 ≤ℤ z) (sym (beyond (greatest_lanes n) k (omega (arith, long, le)))) zero_below)
+
+same_lanes : (n : ℕ) (x : ℤ) → x ≤ℤ pos 9223372036854775807 → AreBelow (replicate n x)
+same_lanes n x h k = go (cases_lt k n)
+  where
+    long : length (replicate n x) ≡ n
+    long = length-replicate n x
+
+    go : (k < n) ⊎ (n ≤ k) → get_or (replicate n x) k (pos 0) ≤ℤ pos 9223372036854775807
+    go (inl lt) = same_below _ x _ (get_or-replicate n k x (pos 0) lt) h
+    go (inr le) = same_below _ (pos 0) _ (beyond (replicate n x) k (omega (arith, long, le))) zero_most
+
+pub under_greatest : (n : ℕ) (h : Hull) → 6 ≤ n → IsPackable n h → IsUnder (lanes_of n h) (greatest_lanes n)
+under_greatest n h big p = go (some_hull h) refl
+  where
+    go : (b : Bool) → some_hull h ≡ b → IsUnder (lanes_of n h) (greatest_lanes n)
+    go true e =
+        subst (λ xs. IsUnder xs (greatest_lanes n)) (sym (lanes_some n h e))
+        (below_greatest n (some_of n h) (some_packed n h big p e).len (all_below n (replicate n (pos 0)) h p.small (same_lanes n (pos 0) zero_most)))
+    go false e =
+        subst (λ xs. IsUnder xs (greatest_lanes n)) (sym (lanes_none n h e))
+        (below_greatest n (no_lanes n) (length-replicate n least) (same_lanes n least least_below))

@@ -8,6 +8,7 @@ pub mod Entries
 pub mod CoverSteps
 pub mod Closable
 pub mod Taken
+pub mod Replaced
 pub mod HullLanes
 pub mod Places
 pub mod Seam
@@ -16,4 +17,7 @@ pub mod TreeSums
 pub mod PlainSums
 pub mod Rows
 pub mod Columns
+pub mod Widths
+pub mod SmallLanes
+pub mod Unpacked
 pub mod PairSteps

@@ -65,8 +65,8 @@ not_both true h k = cc
 not_both false h k = cc
 
 -- where a sweep is that has passed `at` values and given to k next ones
-pub record IsMergedTo {X Y : Type 0} (both : X → X → X) (taking : Y → X → Y) (none : X) (blank : Y) (up twin : Bool) (front closing : X → ℤ →
-    X) (hulls : List X) (value next_value : ℕ → ℤ) (n m at k : ℕ) (run : X) (old new : List Y) : Type 0 where
+pub record IsMergedTo {X Y : Type 0} (both : X → X → X) (taking : Y → X → Y) (none : X) (blank : Y) (up twin : Bool) (front closing : X → ℤ → X)
+    (hulls : List X) (value next_value : ℕ → ℤ) (n m at k : ℕ) (run : X) (old new : List Y) : Type 0 where
   pub inside : at ≤ n
   pub run_is : run ≡ gathered both none up (λ i. front (get_or hulls i none) (value i)) n at
   pub passed : (i : ℕ) → i < at → k < m → passes up twin (value (place up n i)) (next_value (place up m k)) ≡ true
@@ -83,8 +83,8 @@ module _ {X Y : Type 0} (both : X → X → X) (taking : Y → X → Y) (none : 
     column = begins taking none blank up _ m 0 0 old (λ k lt before. absurd (omega (arith, before)));
   }
 
-  pub merge_takes : (at k : ℕ) (run : X) (old new : List Y) → IsMergedTo both taking none blank up twin front closing hulls value next_value n m at
-      k run old new →
+  pub merge_takes : (at k : ℕ) (run : X) (old new : List Y) →
+      IsMergedTo both taking none blank up twin front closing hulls value next_value n m at k run old new →
       both run none ≡ run
   merge_takes at k run old new is =
       subst (λ x. both x none ≡ x) (sym is.run_is)
@@ -195,8 +195,8 @@ module _ {X Y : Type 0} (both : X → X → X) (taking : Y → X → Y) (none : 
       (λ less. subst (λ z. passes up twin (value (place up z at)) w ≡ false) (sym same)
       (as_passed (λ z. passes up twin (value (place up len at)) z ≡ false) w small (stop (omega (arith, same, less)))))
 
-  pub merge_end : (at k : ℕ) (run : X) (old new : List Y) → IsMergedTo both taking none blank up twin front closing hulls value next_value n m at
-      k run old new →
+  pub merge_end : (at k : ℕ) (run : X) (old new : List Y) →
+      IsMergedTo both taking none blank up twin front closing hulls value next_value n m at k run old new →
       m ≤ k → length old ≡ m →
       IsTakenIn taking none blank (λ j. closing (passed_hull both none up twin front hulls value (next_value j)) (next_value j)) old new
   merge_end at k run old new is all len =

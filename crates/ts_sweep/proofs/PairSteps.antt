@@ -1,26 +1,33 @@
 -- A move over pairs of values.
-use Rattle.std.proofs.Common.{◌≡◌, ◌⊎◌, inl, inr, ℕ, suc, ◌+◌, ◌<◌, ◌≤◌, Bool, true, false, cond, nat_eq, ℤ, List, length, get_or, refl, sym, ap, subst, ◌∙◌, arith}
+use Rattle.std.proofs.Common.{◌≡◌, ◌⊎◌, inl, inr, ℕ, suc, ◌+◌, ◌<◌, ◌≤◌, Bool, true, false, cond, None, Some, nat_eq, ℤ, List, length, get_or, refl, sym, ap, subst, ◌∙◌, arith}
 use Rattle.std.proofs.lemmas.Bool.{eqb-true, eqb-false}
 use Rattle.std.proofs.lemmas.List.{length-set, get_or-set_same, get_or-set_other}
 use Rattle.ts_base.specs.declared.letter.Letter.{Letter}
 use Rattle.ts_automaton.specs.declared.regs.Hull.{Hull}
+use Rattle.ts_base.specs.declared.span.Span.{Span}
 use Rattle.ts_automaton.specs.Body.{Move}
+use Rattle.ts_automaton.specs.Formula.{Formula, is_zero}
+use Rattle.ts_automaton.specs.Registers.{each, rests}
+use Rattle.ts_automaton.proofs.Five.{none_registers}
 use Rattle.ts_hull.specs.Hulls.{none, hull_of_both}
 use Rattle.ts_hull.specs.Sealed.{some_hull, span_in, after_move}
 use Rattle.ts_hull.specs.Sweeps.{compares, total}
-use Rattle.ts_hull.proofs.HullLaws.{same_hull}
 use Rattle.ts_hull.proofs.SplitLaws.{after_is}
 use Rattle.ts_sweep.specs.declared.packed.Ends.{Ends}
 use Rattle.ts_sweep.specs.Columns.{gives, hull_at, IsGift}
 use Rattle.ts_sweep.specs.FrontLaws.{never_added}
 use Rattle.ts_sweep.specs.Lanes.{no_lanes, some_lanes, greater_of}
-use Rattle.ts_sweep.specs.MoveLaws.{three, three_are_some, three_unpacked, first_is, some_unpacked, not_nothing}
-use Rattle.ts_sweep.specs.Packed.{unpacked, IsPacked, IsPackOf, ArePacked}
+use Rattle.ts_sweep.specs.declared.packed.Name.{Name}
+use Rattle.ts_sweep.specs.declared.packed.Name.TheVariants.{C, E, D, F, R}
+use Rattle.ts_sweep.specs.Moves.{of_name, with_all, beside}
+use Rattle.ts_sweep.specs.MoveLaws.{IsPackAt, by_names, all_packed, all_unpacked, first_is, some_unpacked, not_nothing}
+use Rattle.ts_sweep.specs.Packed.{is_wide, place, unpacked, IsPacked, IsPackOf, ArePacked}
 use Rattle.ts_sweep.specs.PackedLaws.{joined_packed, joined_is, none_unpacked}
 use Rattle.ts_sweep.specs.Small.{IsSmall}
 use Rattle.ts_sweep.specs.Trees.{tree_value}
 use Rattle.ts_sweep.specs.TreeLaws.{tree_packs}
 use Rattle.ts_sweep.proofs.RunSteps.{as_passed}
+use Rattle.ts_sweep.proofs.Widths.{both_zero, zero_only}
 use mir.Syntax.{w64}
 use mir.Val.{of_z, to_z}
 
@@ -37,20 +44,34 @@ pub moved_nothing : (m : Move) (n : ℕ) (xs : List ℤ) (x y : ℤ) → 6 ≤ n
     unpacked xs ≡ after_move m (unpacked xs) x y
 moved_nothing m n xs x y big p f =
     let e : unpacked xs ≡ none = ap unpacked (nothing_lanes n xs big p f) ∙ none_unpacked n big in
-    e ∙ sym (after_is m (unpacked xs) x y false (ap some_hull e))
+    e ∙ sym (after_is m (unpacked xs) x y false (ap some_hull e ∙ none_registers))
+
+-- E and F of a narrow move are 0
+beside_packs : (wide : Bool) (p : ℕ) (f : Formula) (e : Ends) (h : Hull) (x y : ℤ) → IsPackOf e (span_in f h x y) → (wide ≡ false → is_zero f ≡ true) →
+    IsPackAt (cond wide (Some p) None) (beside wide e) (span_in f h x y)
+beside_packs true p f e h x y pack zero = pack
+beside_packs false p f e h x y pack zero = sym (ap (λ g. span_in g h x y) (zero_only f (zero refl)))
 
 -- and of a hull in lanes what its expressions make of it
-pub moved_some : (m : Move) (n : ℕ) (xs zs : List ℤ) (x y : ℤ) (c d r : Ends) → 6 ≤ n → IsPacked n xs → some_lanes xs ≡ true → IsSmall x → IsSmall y →
-    c ≡ tree_value m.to.c xs x y → d ≡ tree_value m.to.d xs x y → r ≡ tree_value m.to.r xs x y → zs ≡ three xs c d r →
-    IsPacked n zs × (unpacked zs ≡ after_move m (unpacked xs) x y)
-moved_some m n xs zs x y c d r big p some this next ec ed er is =
+pub moved_some : (m : Move) (n : ℕ) (xs zs : List ℤ) (x y : ℤ) (c e d f r : Ends) → 6 ≤ n → rests is_zero (is_wide n) m.to ≡ true → IsPacked n xs →
+    some_lanes xs ≡ true → IsSmall x → IsSmall y → c ≡ tree_value m.to.c xs x y → e ≡ beside (is_wide n) (tree_value m.to.e xs x y) →
+    d ≡ tree_value m.to.d xs x y → f ≡ beside (is_wide n) (tree_value m.to.f xs x y) → r ≡ tree_value m.to.r xs x y →
+    zs ≡ with_all n xs (of_name (each c e d f r)) → IsPacked n zs × (unpacked zs ≡ after_move m (unpacked xs) x y)
+moved_some m n xs zs x y c e d f r big width p some this next ec ee ed ef er is =
     let s = not_nothing n xs some p in
-    let pc = subst (λ e. IsPackOf e (span_in m.to.c (unpacked xs) x y)) (sym ec) (tree_packs m.to.c n xs x y big s this next) in
-    let pd = subst (λ e. IsPackOf e (span_in m.to.d (unpacked xs) x y)) (sym ed) (tree_packs m.to.d n xs x y big s this next) in
-    let pr = subst (λ e. IsPackOf e (span_in m.to.r (unpacked xs) x y)) (sym er) (tree_packs m.to.r n xs x y big s this next) in (
-      subst (IsPacked n) (sym is) (inr (three_are_some n xs c d r big s pc.some pd.some pr.some)),
-      ap unpacked is ∙ three_unpacked n xs c d r big s ∙ same_hull _ _ _ _ _ _ pc.span pd.span pr.span
-          ∙ sym (after_is m (unpacked xs) x y true (some_unpacked n xs big s)),
+    let h = unpacked xs in
+    let value : Name → Span = λ k. span_in (of_name m.to k) h x y in
+    let tree : (g : Formula) → IsPackOf (tree_value g xs x y) (span_in g h x y) = λ g. tree_packs g n xs x y big s this next in
+    let zero : is_wide n ≡ false → (is_zero m.to.e ≡ true) × (is_zero m.to.f ≡ true) = both_zero (is_wide n) (is_zero m.to.e) (is_zero m.to.f) width in
+    let packs : (k : Name) → IsPackAt (place n k) (of_name (each c e d f r) k) (value k) =
+    by_names (λ k. IsPackAt (place n k) (of_name (each c e d f r) k) (value k))
+    (subst (λ z. IsPackOf z (value C)) (sym ec) (tree m.to.c))
+    (subst (λ z. IsPackAt (place n E) z (value E)) (sym ee) (beside_packs (is_wide n) 1 m.to.e _ h x y (tree m.to.e) (λ w. (zero w).0)))
+    (subst (λ z. IsPackOf z (value D)) (sym ed) (tree m.to.d))
+    (subst (λ z. IsPackAt (place n F) z (value F)) (sym ef) (beside_packs (is_wide n) 3 m.to.f _ h x y (tree m.to.f) (λ w. (zero w).1)))
+    (subst (λ z. IsPackOf z (value R)) (sym er) (tree m.to.r)) in (
+      subst (IsPacked n) (sym is) (inr (all_packed n xs (of_name (each c e d f r)) value big s packs)),
+      ap unpacked is ∙ all_unpacked n xs (of_name (each c e d f r)) value big s packs ∙ sym (after_is m h x y true (some_unpacked n xs big s)),
     )
 
 module _ {X : Type 0} (both : X → X → X) (nothing : X) (lanes : X → List ℤ) (n : ℕ) (both_lanes : (a b : X) → lanes (both a b) ≡ greater_of (lanes a) (lanes b)) (none_lanes : lanes nothing ≡ no_lanes n) (big : 6 ≤ n) where
@@ -78,8 +99,8 @@ unfolding gives total
 gives_more m l twin i v h w = refl
 
 -- the first j next hulls have taken in what is given to them
-pub record ArePaired {X : Type 0} (lanes : X → List ℤ) (nothing : X) (n : ℕ) (m : Move) (l : Letter) (twin : Bool) (count : ℕ) (v : ℕ →
-    ℤ) (before : List X) (k : ℕ) (w : ℕ → ℤ) (j : ℕ) (old new : List X) : Type 0 where
+pub record ArePaired {X : Type 0} (lanes : X → List ℤ) (nothing : X) (n : ℕ) (m : Move) (l : Letter) (twin : Bool) (count : ℕ) (v : ℕ → ℤ) (before : List X)
+    (k : ℕ) (w : ℕ → ℤ) (j : ℕ) (old new : List X) : Type 0 where
   pub packed : ArePacked lanes nothing n k new
   pub done : (i : ℕ) → i < j → hull_at lanes nothing new i ≡ hull_of_both (hull_at lanes nothing old i)
       (gives m l twin count v (hull_at lanes nothing before) (w i))
@@ -123,8 +144,8 @@ module _ {X : Type 0} (both : X → X → X) (nothing : X) (lanes : X → List �
       let gift = given.gift in
       let here = both (get_or new j nothing) gift in
       let long = so_far.packed.0 in
-      let joined = with_joined both nothing lanes n both_lanes none_lanes big (get_or new j nothing) gift here _ (so_far.packed.1 j inside) given.packed
-      given.value refl in
+      let joined = with_joined both nothing lanes n both_lanes none_lanes big (get_or new j nothing) gift here _
+      (so_far.packed.1 j inside) given.packed given.value refl in
       let here_is : get_or new' j nothing ≡ here =
       ap (λ z. get_or z j nothing) given.joined ∙ get_or-set_same new j here nothing (omega (arith, inside, long)) in
       let other : (i : ℕ) → (i ≡ j → ⊥) → get_or new' i nothing ≡ get_or new i nothing =

@@ -116,8 +116,8 @@ module _ {X : Type 0} (both : X → X → X) (none : X) where
   same_step up f n k a b t run is e = let same : min t n ≡ min (k + a - b) n = grind arith in is ∙ ap (gathered both none up f n) same
 
 -- where a sweep is at step t: what its running hull and its column are
-pub record IsAt {X Y : Type 0} (both : X → X → X) (taking : Y → X → Y) (none : X) (blank : Y) (up : Bool) (front closing : X → ℤ →
-    X) (hulls : List X) (value next_value : ℕ → ℤ) (n m a b t : ℕ) (run : X) (old new : List Y) : Type 0 where
+pub record IsAt {X Y : Type 0} (both : X → X → X) (taking : Y → X → Y) (none : X) (blank : Y) (up : Bool) (front closing : X → ℤ → X) (hulls : List X)
+    (value next_value : ℕ → ℤ) (n m a b t : ℕ) (run : X) (old new : List Y) : Type 0 where
   pub run_is : run ≡ gathered both none up (λ i. front (get_or hulls i none) (value i)) n (min t n)
   pub column : IsSteppedTo taking none blank up
       (λ k. closing (gathered both none up (λ i. front (get_or hulls i none) (value i)) n (min (k + a - b) n)) (next_value (place up m k))) m a b t old new

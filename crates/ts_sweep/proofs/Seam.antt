@@ -1,5 +1,5 @@
 -- From what a sweep makes of the hulls of a state to the row with the move taken in.
-use Rattle.std.proofs.Common.{◌≡◌, ℕ, ◌+◌, ◌*◌, ◌<◌, Bool, true, false, cond, nat_eq, ℤ, List, length, map, get_or, refl, sym, ap, ◌∙◌, arith}
+use Rattle.std.proofs.Common.{◌≡◌, ℕ, ◌+◌, ◌*◌, ◌<◌, ◌≤◌, Bool, true, false, cond, nat_eq, ℤ, List, length, map, get_or, refl, sym, ap, ◌∙◌, arith}
 use Rattle.std.specs.List.{range_with_len}
 use Rattle.std.proofs.lemmas.Bool.{eqb-true, eqb-false}
 use Rattle.std.proofs.lemmas.List.FromFn.{length-map-range_with_len}
@@ -9,7 +9,6 @@ use Rattle.ts_automaton.specs.Body.{Move}
 use Rattle.ts_hull.specs.Hulls.{none, hull_of_both}
 use Rattle.ts_hull.specs.Sealed.{after_move}
 use Rattle.ts_hull.specs.Cuts.{cut_of, all_swept, front_hull, closed_hull}
-use Rattle.ts_hull.specs.Smalls.{small_hull}
 use Rattle.ts_hull.specs.Sweeps.{AllTakeNone, hull_in, step_place, puts, compares, total as hull_total}
 use Rattle.ts_hull.proofs.Sums.{total_same}
 use Rattle.ts_hull.proofs.Puts.{length-puts}
@@ -17,7 +16,7 @@ use Rattle.ts_sweep.specs.Lanes.{no_lanes, greater_of}
 use Rattle.ts_sweep.specs.Moves.{IsFrontOf, IsClosingOf}
 use Rattle.ts_sweep.specs.Packed.{unpacked}
 use Rattle.ts_sweep.specs.Small.{IsSmall}
-use Rattle.ts_sweep.specs.Strided.{AreBeside, lanes_of}
+use Rattle.ts_sweep.specs.Strided.{AreBeside, IsPackable, lanes_of}
 use Rattle.ts_sweep.specs.Sweeps.{IsTakenIn, met_hull}
 use Rattle.ts_sweep.proofs.Entries.{given_is, gives_closed}
 use Rattle.ts_sweep.proofs.HullLanes.{front_same, small_value}
@@ -54,20 +53,22 @@ row_taken unpack nothing h m l s n g old new leads long canonical empty taken be
         ∙ sym (canonical (j * s + t)) ∙ sym (ap (λ e. hull_of_both (get_or old (j * s + t) none) (cond e (g j) none)) is)
 
 -- what a sweep gives to a next value is what the move gives to it from all values that compare with it as the letter says
-module _ {X : Type 0} (both : X → X → X) (nothing : X) (lanes : X → List ℤ) (both_lanes : (a b : X) → lanes (both a b) ≡ greater_of (lanes a) (lanes b)) (none_lanes : lanes nothing ≡ no_lanes 6) (fit closable : X → Type 0) (front closing : X → ℤ → X) (m : Move) (closable_none : closable nothing) (closable_both : (a b : X) → closable a → closable b → closable (both a b)) (closable_front : (h : X) (v : ℤ) → fit h → IsSmall v → closable (front h v)) (front_is : (h : X) (v : ℤ) → fit h → IsSmall v → IsFrontOf (cut_of m) 6 (lanes h) v (lanes (front h v))) (closing_is : (h : X) (w : ℤ) → closable h → IsSmall w → IsClosingOf (cut_of m) 6 (lanes h) w (lanes (closing h w))) where
-  pub gives_entry : (l : Letter) (twin : Bool) (n : ℕ) (hulls : List X) (h : ℕ → Hull) (value : ℕ → ℤ) (w : ℤ) → length hulls ≡ n →
-      ((i : ℕ) → i < n → lanes (get_or hulls i nothing) ≡ lanes_of (h i)) → all_swept (cut_of m) ≡ true → ((i : ℕ) → i < n → small_hull (h i) ≡ true) →
-      ((i : ℕ) → i < n → fit (get_or hulls i nothing)) → ((i : ℕ) → i < n → IsSmall (value i)) → IsSmall w →
+module _ {X : Type 0} (both : X → X → X) (nothing : X) (lanes : X → List ℤ) (n : ℕ) (big : 6 ≤ n) (both_lanes : (a b : X) → lanes (both a b) ≡ greater_of (lanes a) (lanes b)) (none_lanes : lanes nothing ≡ no_lanes n) (fit closable : X → Type 0) (front closing : X → ℤ → X) (m : Move) (closable_none : closable nothing) (closable_both : (a b : X) → closable a → closable b → closable (both a b)) (closable_front : (h : X) (v : ℤ) → fit h → IsSmall v → closable (front h v)) (front_is : (h : X) (v : ℤ) → fit h → IsSmall v → IsFrontOf (cut_of m) n (lanes h) v (lanes (front h v))) (closing_is : (h : X) (w : ℤ) → closable h → IsSmall w → IsClosingOf (cut_of m) n (lanes h) w (lanes (closing h w))) where
+  pub gives_entry : (l : Letter) (twin : Bool) (count : ℕ) (hulls : List X) (h : ℕ → Hull) (value : ℕ → ℤ) (w : ℤ) → length hulls ≡ count →
+      ((i : ℕ) → i < count → lanes (get_or hulls i nothing) ≡ lanes_of n (h i)) → all_swept (cut_of m) ≡ true →
+      ((i : ℕ) → i < count → IsPackable n (h i)) → ((i : ℕ) → i < count → fit (get_or hulls i nothing)) →
+      ((i : ℕ) → i < count → IsSmall (value i)) → IsSmall w →
       unpacked (lanes (closing (met_hull both nothing l twin front hulls value w) w))
-      ≡ hull_total n (λ i. cond (compares l twin (value i) w) (after_move m (h i) (value i) w) none)
-  gives_entry l twin n hulls h value w long lanes_are swept small fits small_values small_next =
+      ≡ hull_total count (λ i. cond (compares l twin (value i) w) (after_move m (h i) (value i) w) none)
+  gives_entry l twin count hulls h value w long lanes_are swept packs fits small_values small_next =
       let test : ℕ → Bool = λ i. compares l twin (value i) w in
       let fronts : (i : ℕ) → Hull = λ i. cond (test i) (front_hull (cut_of m) (unpacked (lanes (get_or hulls i nothing))) (value i)) none in
-      (given_is both nothing lanes 6 both_lanes none_lanes (omega arith) fit closable front closing (cut_of m) closable_none closable_both closable_front
+      (given_is both nothing lanes n both_lanes none_lanes big fit closable front closing (cut_of m) closable_none closable_both closable_front
       front_is closing_is test hulls value w (λ i lt. fits i (omega (arith, lt, long))) (λ i lt. small_values i (omega (arith, lt, long))) small_next).1
       ∙ ap (λ k. closed_hull (cut_of m) (hull_total k fronts) w) long
       ∙ ap (λ z. closed_hull (cut_of m) z w)
-      (total_same n fronts (λ i. cond (test i) (front_hull (cut_of m) (h i) (value i)) none)
+      (total_same count fronts (λ i. cond (test i) (front_hull (cut_of m) (h i) (value i)) none)
       (λ i lt. ap (λ z. cond (test i) z none)
-      (ap (λ xs. front_hull (cut_of m) (unpacked xs) (value i)) (lanes_are i lt) ∙ front_same (cut_of m) (h i) (value i) (small i lt))))
-      ∙ sym (gives_closed m test n h value w swept small (λ i lt. small_value (value i) (small_values i lt)) (small_value w small_next))
+      (ap (λ xs. front_hull (cut_of m) (unpacked xs) (value i)) (lanes_are i lt) ∙ front_same (cut_of m) n (h i) (value i) big (packs i lt))))
+      ∙ sym (gives_closed m test count h value w swept (λ i lt. (packs i lt).small) (λ i lt. small_value (value i) (small_values i lt))
+      (small_value w small_next))

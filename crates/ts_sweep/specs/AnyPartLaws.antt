@@ -20,8 +20,8 @@ pub part_packs : (k : AnyPart) (n : ℕ) (xs : List ℤ) (x : ℤ) → 6 ≤ n �
 part_packs (Front e) n xs x big some small = tree_packs (part_front (Front e)) n xs x (pos 0) big some small zero_small
 part_packs (Tail o e) n xs x big some small =
     tree_packs (part_front (Tail o e)) n xs x (pos 0) big some small zero_small
-part_packs (Double o e f) n xs x big some small = tree_packs (part_front (Double o e f)) n xs x (pos 0) big some
-    small zero_small
+part_packs (Double o e f) n xs x big some small =
+    tree_packs (part_front (Double o e f)) n xs x (pos 0) big some small zero_small
 
 -- without a tail the next cell makes nothing more of it
 pub part_no_tail : (k : AnyPart) (s : Span) (y : ℤ) → part_tails k ≡ false → closed_span (part_split k) s y ≡ s

@@ -1,5 +1,5 @@
 -- The laws of fronts.
-use Rattle.std.proofs.Common.{◌≡◌, ℕ, zero, suc, ◌+◌, ◌*◌, ◌<◌, ◌≤◌, ◌≤ℤ◌, ◌<ℤ◌, ℤ, pos, negsuc, neg_ℤ, Bool, true, false, ◌||◌, min, List, int_le, inl, inr, refl, sym, ap, subst, ◌∙◌, arith}
+use Rattle.std.proofs.Common.{◌≡◌, ℕ, ◌+◌, ◌*◌, ◌<◌, ◌≤◌, ◌≤ℤ◌, ◌<ℤ◌, ℤ, pos, negsuc, neg_ℤ, Bool, true, false, ◌||◌, min, Option, None, Some, List, length, int_le, inl, inr, refl, sym, ap, subst, ◌∙◌, arith}
 use Rattle.std.proofs.lemmas.Int.{ints}
 use Rattle.ts_base.specs.declared.ext.Ext.{Ext}
 use Rattle.ts_base.specs.declared.ext.Ext.TheVariants.{NegInf, Int, PosInf}
@@ -7,15 +7,17 @@ use Rattle.ts_base.specs.declared.span.Span.{Span}
 use Rattle.ts_base.specs.Numbers.{ext_le}
 use Rattle.ts_base.specs.Spans.{has_some, one_span}
 use Rattle.ts_base.proofs.SpanLaws.{one_some}
-use Rattle.ts_base.specs.declared.op.Op.{Op}
+use Rattle.ts_automaton.specs.declared.expr.Operator.{Operator}
 use Rattle.ts_automaton.specs.Formula.{Leaf}
-use Rattle.ts_automaton.specs.Registers.{ext_op}
-use Rattle.ts_hull.specs.Sealed.{by_ends, span_in}
+use Rattle.ts_hull.specs.Sealed.{sealed_op, span_in}
 use Rattle.ts_sweep.specs.declared.packed.Ends.{Ends}
+use Rattle.ts_sweep.specs.declared.packed.Name.{Name}
+use Rattle.ts_sweep.specs.declared.packed.Name.TheVariants.{C, E, D, F, R}
 use Rattle.ts_sweep.specs.Small.{IsSmall}
 use Rattle.ts_sweep.specs.Lanes.{least}
-use Rattle.ts_sweep.specs.Packed.{upper, negated, ends, ends_span, ends_at, unpacked, IsSomeEnds, AreSome, IsPackOf, IsWithin, AreWithin, IsUnder}
-use Rattle.ts_sweep.specs.Fronts.{register_word, IsFitRegister, ArePlain}
+use Rattle.ts_sweep.specs.Packed.{upper, negated, ends, ends_span, ends_at, number_ends, place, ends_in, name_ends, span_in_lanes, name_span, unpacked, IsPlace, IsSomeEnds, AreSome, IsPackOf, IsWithin, AreWithin, IsUnder}
+use Rattle.ts_sweep.specs.PackedLaws.{placed, placed_by, rests_at}
+use Rattle.ts_sweep.specs.Fronts.{word_of, IsFitRegister, ArePlain}
 use Rattle.ts_sweep.specs.UpperLaws.{upper_low, upper_mid, low_or_not}
 
 -- numbers
@@ -80,22 +82,34 @@ never_added h = cc
 
 -- registers
 
-pub register_looser : (k : ℕ) (xs : List ℤ) → IsFitRegister k true xs → IsFitRegister k false xs
-register_looser k xs h = (h.0, λ e. h.1 refl)
+pub register_looser : (k : Name) (xs : List ℤ) → IsFitRegister k true xs → IsFitRegister k false xs
+register_looser k xs h = λ e. h refl
 
-pub register_within : (k : ℕ) (xs : List ℤ) → IsFitRegister k true xs → AreWithin 1 (ends_at xs k)
-register_within k xs h = h.1 refl
+pub register_within : (k : Name) (xs : List ℤ) → IsFitRegister k true xs → AreWithin 1 (name_ends xs k)
+register_within k xs h = h refl
 
 pub some_ends : (n k : ℕ) (xs : List ℤ) → 2 * k + 1 < n → AreSome n xs → IsSomeEnds (ends_at xs k)
 some_ends n k xs lt h =
     record { below = h.above (2 * k) (omega (arith, lt)); above = h.above (2 * k + 1) lt; some = h.some k lt }
 
-pub register_packs : (n k : ℕ) (xs : List ℤ) (x : ℤ) → 6 ≤ n → AreSome n xs → IsFitRegister k false xs →
-    IsPackOf (ends_at xs k) (span_in (Leaf (register_word k)) (unpacked xs) x (pos 0))
-register_packs n zero xs x big h f = record { some = some_ends n 0 xs (omega (arith, big)) h; span = refl }
-register_packs n (suc zero) xs x big h f = record { some = some_ends n 1 xs (omega (arith, big)) h; span = refl }
-register_packs n (suc (suc zero)) xs x big h f = record { some = some_ends n 2 xs (omega (arith, big)) h; span = refl }
-register_packs n (suc (suc (suc k))) xs x big h f = let le = f.0 in absurd (omega (arith, le))
+-- a register stands for its span, by its place and by its name
+pub pack_at : (n : ℕ) (xs : List ℤ) (o : Option ℕ) → IsPlace n o → AreSome n xs →
+    IsPackOf (ends_in xs o) (span_in_lanes xs o)
+pack_at n xs None lt h =
+    subst (IsPackOf (number_ends (pos 0))) (sym (rests_at n xs lt h)) (number_packs (pos 0) zero_is_small)
+pack_at n xs (Some p) lt h = record { some = some_ends n p xs lt h; span = refl }
+
+pub name_packs : (n : ℕ) (xs : List ℤ) (k : Name) → 6 ≤ n → AreSome n xs → IsPackOf (name_ends xs k) (name_span xs k)
+name_packs n xs k big h = pack_at n xs (place (length xs) k) (placed_by n xs k big h.len) h
+
+pub register_packs : (n : ℕ) (k : Name) (xs : List ℤ) (x y : ℤ) → 6 ≤ n → AreSome n xs →
+    IsPackOf (name_ends xs k) (span_in (Leaf (word_of k)) (unpacked xs) x y)
+unfolding unpacked
+register_packs n C xs x y big h = name_packs n xs C big h
+register_packs n E xs x y big h = name_packs n xs E big h
+register_packs n D xs x y big h = name_packs n xs D big h
+register_packs n F xs x y big h = name_packs n xs F big h
+register_packs n R xs x y big h = name_packs n xs R big h
 
 -- a register that is no more than 10^16 in a cover is a small number in all lanes under it
 
@@ -128,28 +142,32 @@ plain_within x y some px py = elim (low_or_not x) [
   ]
 ]
 
-pub plain_register : (n k : ℕ) (cover xs : List ℤ) → 2 * k + 1 < n → AreSome n xs → IsUnder xs cover →
-    ArePlain (ends_at cover k) → AreWithin 1 (ends_at xs k)
-plain_register n k cover xs lt h under plain =
-    let a = under (2 * k) in
-    let b = under (2 * k + 1) in
+plain_at : (n : ℕ) (o : Option ℕ) (cover xs : List ℤ) → IsPlace n o → AreSome n xs → IsUnder xs cover →
+    ArePlain (ends_in cover o) → AreWithin 1 (ends_in xs o)
+plain_at n None cover xs lt h under plain = number_within (pos 0) zero_is_small
+plain_at n (Some p) cover xs lt h under plain =
+    let a = under (2 * p) in
+    let b = under (2 * p + 1) in
     let c = plain.0 in
     let d = plain.1 in
-    plain_within _ _ (h.some k lt) (omega (arith, ints, a, c)) (omega (arith, ints, b, d))
+    plain_within _ _ (h.some p lt) (omega (arith, ints, a, c)) (omega (arith, ints, b, d))
 
-pub register_fit : (k : ℕ) (added : Bool) (xs : List ℤ) → k ≤ 2 → (added ≡ true → AreWithin 1 (ends_at xs k)) →
-    IsFitRegister k added xs
-register_fit k added xs few small = (few, small)
+pub plain_register : (n : ℕ) (k : Name) (cover xs : List ℤ) → 6 ≤ n → AreSome n xs → IsUnder xs cover →
+    ArePlain (ends_in cover (place n k)) →
+    AreWithin 1 (name_ends xs k)
+plain_register n k cover xs big h under plain =
+    subst (λ m. AreWithin 1 (ends_in xs (place m k))) (sym h.len)
+    (plain_at n (place n k) cover xs (placed n k big) h under plain)
 
 -- joins
 
-any_looser : (b : Bool) (F : Bool → Type 0) → (F true → F false) → F true → F b
-any_looser true F l h = h
-any_looser false F l h = l h
+any_looser : (b : Bool) (P : Bool → Type 0) → (P true → P false) → P true → P b
+any_looser true P l h = h
+any_looser false P l h = l h
 
-pub to_loose : (b : Bool) (F : Bool → Type 0) → (F true → F false) → F b → F false
-to_loose true F l h = l h
-to_loose false F l h = h
+pub to_loose : (b : Bool) (P : Bool → Type 0) → (P true → P false) → P b → P false
+to_loose true P l h = l h
+to_loose false P l h = h
 
 pub join_looser : (adds : Bool) (i j : ℕ) (FA FB : Bool → Type 0) → (FA true → FA false) → (FB true → FB false) →
     (i + j ≤ 9) × FA (true || adds) × FB (true || adds) → (i + j ≤ 9) × FA (false || adds) × FB (false || adds)
@@ -165,14 +183,14 @@ join_within adds joined i j FA FB a b within wa wb h =
     subst (λ k. AreWithin k (joined a b)) same (within i j a b (omega (arith, few)) (wa (omega (arith, few)) h.1)
     (wb (omega (arith, few)) h.2))
 
-pub join_packs : (adds : Bool) (joined : Ends → Ends → Ends) (op : Op) (i j : ℕ) (FA FB : Bool →
-    Type 0) (a b : Ends) (s t : Span) →
-    ((i j : ℕ) (a b : Ends) (s t : Span) → i + j ≤ 10 → (adds ≡ true → AreWithin i a × AreWithin j b) →
-    IsPackOf a s → IsPackOf b t →
-    IsPackOf (joined a b) (by_ends (ext_op op) s t)) → (FA true → FA false) → (FB true → FB false) →
+pub join_packs : (adds : Bool) (joined : Ends → Ends → Ends) (op : Operator) (i j : ℕ) (FA FB : Bool → Type 0)
+    (a b : Ends) (s t : Span) →
+    ((i j : ℕ) (a b : Ends) (s t : Span) → i + j ≤ 10 → (adds ≡ true → AreWithin i a × AreWithin j b) → IsPackOf a s →
+    IsPackOf b t →
+    IsPackOf (joined a b) (sealed_op op s t)) → (FA true → FA false) → (FB true → FB false) →
     (i ≤ 9 → FA true → AreWithin i a) → (j ≤ 9 → FB true → AreWithin j b) → (FA false → IsPackOf a s) →
     (FB false → IsPackOf b t) →
-    (i + j ≤ 9) × FA (false || adds) × FB (false || adds) → IsPackOf (joined a b) (by_ends (ext_op op) s t)
+    (i + j ≤ 9) × FA (false || adds) × FB (false || adds) → IsPackOf (joined a b) (sealed_op op s t)
 join_packs adds joined op i j FA FB a b s t packs la lb wa wb pa pb h =
     let few = h.0 in
     packs i j a b s t (omega (arith, few))

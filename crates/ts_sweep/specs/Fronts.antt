@@ -1,19 +1,27 @@
 -- Registers in fronts.
-use Rattle.std.specs.Prelude.{◌≡◌, ◌≤◌, ◌≤ℤ◌, ℕ, zero, suc, ℤ, pos, Bool, true, List}
+use Rattle.std.specs.Prelude.{◌≡◌, ◌≤ℤ◌, ℕ, ℤ, pos, Bool, true, nat_eq, if◌then◌else◌, List}
 use Rattle.ts_automaton.specs.declared.expr.Atom.{Atom}
-use Rattle.ts_automaton.specs.declared.expr.Atom.TheVariants.{C, D, R}
+use Rattle.ts_automaton.specs.declared.expr.Atom.TheVariants.{C as AtomC, E as AtomE, D as AtomD, F as AtomF, R as AtomR}
 use Rattle.ts_sweep.specs.declared.packed.Ends.{Ends}
-use Rattle.ts_sweep.specs.Packed.{ends_at, AreWithin}
+use Rattle.ts_sweep.specs.declared.packed.Name.{Name}
+use Rattle.ts_sweep.specs.declared.packed.Name.TheVariants.{C, E, D, F, R}
+use Rattle.ts_sweep.specs.Packed.{name_ends, AreWithin}
 
--- the word of the register at a place
-abbrev pub register_word : ℕ → Atom
-register_word zero = C
-register_word (suc zero) = D
-register_word (suc (suc k)) = R
+-- the registers in the order of texts
+abbrev pub name_of : ℕ → Name
+name_of k = if nat_eq k 0 then C else if nat_eq k 1 then E else if nat_eq k 2 then D else if nat_eq k 3 then F else R
 
--- there is such a register, and where it is added to something it is a small number
-abbrev pub IsFitRegister : ℕ → Bool → List ℤ → Type 0
-IsFitRegister k added xs = (k ≤ 2) × (added ≡ true → AreWithin 1 (ends_at xs k))
+-- the word of a register
+abbrev pub word_of : Name → Atom
+word_of C = AtomC
+word_of E = AtomE
+word_of D = AtomD
+word_of F = AtomF
+word_of R = AtomR
+
+-- where a register is added to something it is a small number
+abbrev pub IsFitRegister : Name → Bool → List ℤ → Type 0
+IsFitRegister k added xs = added ≡ true → AreWithin 1 (name_ends xs k)
 
 -- neither end is above 10^16
 abbrev pub ArePlain : Ends → Type 0

@@ -1,128 +1,217 @@
 -- The laws of moves on lanes.
-use Rattle.std.proofs.Common.{◌≡◌, ◌⊎◌, inl, inr, ℕ, zero, suc, ◌+◌, ◌*◌, ◌<◌, ◌≤◌, ◌<ℤ◌, ℤ, pos, Bool, true, false, cond, ◌&&◌, ◌||◌, not, List, [], ◌∷◌, length, get_or, refl, sym, ap, subst, ◌∙◌, arith}
+use Rattle.std.proofs.Common.{◌≡◌, ◌⊎◌, inl, inr, ℕ, zero, suc, ◌+◌, ◌*◌, ◌<◌, ◌≤◌, ◌<ℤ◌, ℤ, pos, Bool, true, false, cond, ◌||◌, not, Option, None, Some, nat_eq, List, [], ◌∷◌, length, get_or, set, refl, sym, ap, subst, ◌∙◌, arith}
 use Rattle.std.specs.Ordering.{int_eq}
+use Rattle.std.proofs.lemmas.Bool.{eqb-true, eqb-false, leb-true}
 use Rattle.std.proofs.lemmas.Int.{ints}
+use Rattle.std.proofs.lemmas.List.{get_or-set_same, get_or-set_other, length-set}
+use Rattle.ts_base.specs.declared.ext.Ext.TheVariants.{Int}
 use Rattle.ts_base.specs.declared.span.Span.{Span}
-use Rattle.ts_base.specs.Spans.{has_some}
-use Rattle.ts_hull.specs.Hulls.{none as none_hull}
-use Rattle.ts_hull.specs.Sealed.{some_hull, hull_with}
-use Rattle.ts_hull.specs.Splits.{Split, front_span, closed_span}
+use Rattle.ts_base.specs.Spans.{has_some, one_span}
+use Rattle.ts_automaton.specs.declared.expr.Atom.TheVariants.{E as AtomE, F as AtomF}
+use Rattle.ts_automaton.specs.Formula.{Leaf}
+use Rattle.ts_automaton.specs.Registers.{map_each, spans_of}
+use Rattle.ts_automaton.proofs.Five.{some_registers, none_registers}
+use Rattle.ts_hull.specs.Hulls.{hull_of, none as none_hull}
+use Rattle.ts_hull.specs.Sealed.{some_hull}
+use Rattle.ts_hull.specs.Splits.{Split, FrontOf, front_span, closed_span}
 use Rattle.ts_hull.specs.Cuts.{Cut, front_hull, closed_hull}
 use Rattle.ts_hull.proofs.HullLaws.{same_hull}
 use Rattle.ts_hull.proofs.SplitLaws.{closed_hull_none}
 use Rattle.ts_sweep.specs.declared.packed.Ends.{Ends}
+use Rattle.ts_sweep.specs.declared.packed.Name.{Name}
+use Rattle.ts_sweep.specs.declared.packed.Name.TheVariants.{C, E, D, F, R}
 use Rattle.ts_sweep.specs.Lanes.{least, no_lanes, some_lanes, greater_of}
 use Rattle.ts_sweep.specs.LaneLaws.{lanes_neutral, lanes_commutative, lanes_idempotent}
-use Rattle.ts_sweep.specs.Packed.{ends, ends_at, ends_span, register_span, unpacked, with_ends_at, max_ends, IsSomeEnds, AreSome, IsPacked, IsPackOf}
-use Rattle.ts_sweep.specs.PackedLaws.{some_lanes_are, some_greater, greater_ends, none_unpacked, joined_packed}
-use Rattle.ts_sweep.specs.FrontLaws.{some_ends, never_added}
-use Rattle.ts_sweep.specs.Moves.{IsFrontOf, IsClosingOf, IsFitFor, IsClosableBy, replaced_all, kept_cut}
+use Rattle.ts_sweep.specs.Packed.{ends_at, ends_span, register_span, is_wide, place_in, place, ends_in, with_ends_at, with_ends_in, span_in_lanes, name_span, hull_by, unpacked, max_ends, IsPlace, IsSomeEnds, AreSome, IsPacked, IsPackOf}
+use Rattle.ts_sweep.specs.PackedLaws.{some_lanes_are, same_ends, some_greater, greater_ends, placed, rests_at, name_some, same_by, none_unpacked, joined_packed}
+use Rattle.ts_sweep.specs.FrontLaws.{pack_at, never_added}
+use Rattle.ts_sweep.specs.Moves.{of_name, rest_split, of_width, kept_cut, IsFrontOf, IsClosingOf, replaced_all, with_all, beside, ends_by, IfPlaced, IsFitFor, IsClosableBy}
 
--- at least six lanes
+-- lanes with other ends at a place
 
-pub record IsLong (xs : List ℤ) : Type 0 where
-  pub a : ℤ
-  pub b : ℤ
-  pub c : ℤ
-  pub d : ℤ
-  pub e : ℤ
-  pub f : ℤ
-  pub rest : List ℤ
-  pub is : xs ≡ a ∷ b ∷ c ∷ d ∷ e ∷ f ∷ rest
+same_or : (i j : ℕ) → (i ≡ j) ⊎ (i ≡ j → ⊥)
+same_or i j = go (nat_eq i j) refl
+  where
+    go : (b : Bool) → nat_eq i j ≡ b → (i ≡ j) ⊎ (i ≡ j → ⊥)
+    go true e = inl (eqb-true i j e)
+    go false e = inr (eqb-false i j e)
 
-long : (xs : List ℤ) → 6 ≤ length xs → IsLong xs
-long [] h = absurd (omega (arith, h))
-long (a ∷ []) h = absurd (omega (arith, h))
-long (a ∷ b ∷ []) h = absurd (omega (arith, h))
-long (a ∷ b ∷ c ∷ []) h = absurd (omega (arith, h))
-long (a ∷ b ∷ c ∷ d ∷ []) h = absurd (omega (arith, h))
-long (a ∷ b ∷ c ∷ d ∷ e ∷ []) h = absurd (omega (arith, h))
-long (a ∷ b ∷ c ∷ d ∷ e ∷ f ∷ rest) h = record { a = a; b = b; c = c; d = d; e = e; f = f; rest = rest; is = refl }
+pub with_length : (xs : List ℤ) (q : ℕ) (e : Ends) → length (with_ends_at xs q e) ≡ length xs
+with_length xs q e = length-set (set xs (2 * q) e.below) (2 * q + 1) e.above ∙ length-set xs (2 * q) e.below
 
--- lanes with other ends of the first three registers
-abbrev pub three : List ℤ → Ends → Ends → Ends → List ℤ
-three xs c d r = with_ends_at (with_ends_at (with_ends_at xs 0 c) 1 d) 2 r
+ends_here : (xs : List ℤ) (q : ℕ) (e : Ends) → 2 * q + 1 < length xs → ends_at (with_ends_at xs q e) q ≡ e
+ends_here xs q e lt =
+    let ys = set xs (2 * q) e.below in
+    let long = length-set xs (2 * q) e.below in
+    same_ends _ _ _ _
+    (get_or-set_other ys (2 * q + 1) (2 * q) e.above (pos 0) (λ s. omega (arith, s))
+    ∙ get_or-set_same xs (2 * q) e.below (pos 0) (omega (arith, lt)))
+    (get_or-set_same ys (2 * q + 1) e.above (pos 0) (omega (arith, lt, long)))
 
-later : (xs ys : List ℤ) (a b c d e f : ℤ) (rest : List ℤ) (k : ℕ) →
-    get_or (a ∷ b ∷ c ∷ d ∷ e ∷ f ∷ rest) (suc (suc (suc (suc (suc (suc k)))))) (pos 0) ≡ get_or rest k (pos 0)
-later xs ys a b c d e f rest k = refl
+ends_other : (xs : List ℤ) (p q : ℕ) (e : Ends) → (p ≡ q → ⊥) → ends_at (with_ends_at xs q e) p ≡ ends_at xs p
+ends_other xs p q e apart =
+    let ys = set xs (2 * q) e.below in
+    same_ends _ _ _ _
+    (get_or-set_other ys (2 * q + 1) (2 * p) e.above (pos 0) (λ s. omega (arith, s))
+    ∙ get_or-set_other xs (2 * q) (2 * p) e.below (pos 0) (λ s. apart (omega (arith, s))))
+    (get_or-set_other ys (2 * q + 1) (2 * p + 1) e.above (pos 0) (λ s. apart (omega (arith, s)))
+    ∙ get_or-set_other xs (2 * q) (2 * p + 1) e.below (pos 0) (λ s. omega (arith, s)))
 
-three_above : (n : ℕ) (a b c d e f : ℤ) (rest : List ℤ) (x y z : Ends) → AreSome n (a ∷ b ∷ c ∷ d ∷ e ∷ f ∷ rest) →
-    IsSomeEnds x → IsSomeEnds y → IsSomeEnds z →
-    (k : ℕ) → k < n → least <ℤ get_or (x.below ∷ x.above ∷ y.below ∷ y.above ∷ z.below ∷ z.above ∷ rest) k (pos 0)
-three_above n a b c d e f rest x y z h p q s zero lt = p.below
-three_above n a b c d e f rest x y z h p q s (suc zero) lt = p.above
-three_above n a b c d e f rest x y z h p q s (suc (suc zero)) lt = q.below
-three_above n a b c d e f rest x y z h p q s (suc (suc (suc zero))) lt = q.above
-three_above n a b c d e f rest x y z h p q s (suc (suc (suc (suc zero)))) lt = s.below
-three_above n a b c d e f rest x y z h p q s (suc (suc (suc (suc (suc zero))))) lt = s.above
-three_above n a b c d e f rest x y z h p q s (suc (suc (suc (suc (suc (suc k)))))) lt =
-    h.above (suc (suc (suc (suc (suc (suc k)))))) lt
+-- what holds of the new number and of the old one at a place holds of the one there
+pub set_at : (P : ℤ → Type 0) (xs : List ℤ) (i k : ℕ) (x : ℤ) → P x → P (get_or xs k (pos 0)) →
+    P (get_or (set xs i x) k (pos 0))
+set_at P [] i k x new old = old
+set_at P (y ∷ ys) zero zero x new old = new
+set_at P (y ∷ ys) zero (suc k) x new old = old
+set_at P (y ∷ ys) (suc i) zero x new old = old
+set_at P (y ∷ ys) (suc i) (suc k) x new old = set_at P ys i k x new old
 
-rest_span : (a b c d e f : ℤ) (rest : List ℤ) (x y z : Ends) (k : ℕ) →
-    register_span (x.below ∷ x.above ∷ y.below ∷ y.above ∷ z.below ∷ z.above ∷ rest) (suc (suc (suc k)))
-    ≡ register_span (a ∷ b ∷ c ∷ d ∷ e ∷ f ∷ rest) (suc (suc (suc k)))
-rest_span a b c d e f rest x y z k =
-    let i : 2 * suc (suc (suc k)) ≡ suc (suc (suc (suc (suc (suc (2 * k)))))) = omega arith in
-    let j : 2 * suc (suc (suc k)) + 1 ≡ suc (suc (suc (suc (suc (suc (2 * k + 1)))))) = omega arith in
-    let new : List ℤ = x.below ∷ x.above ∷ y.below ∷ y.above ∷ z.below ∷ z.above ∷ rest in
-    let old : List ℤ = a ∷ b ∷ c ∷ d ∷ e ∷ f ∷ rest in
-    ap (λ m. ends_span (ends (get_or new m (pos 0)) (get_or new (2 * suc (suc (suc k)) + 1) (pos 0)))) i
-    ∙ ap (λ m. ends_span (ends (get_or rest (2 * k) (pos 0)) (get_or new m (pos 0)))) j
-    ∙ sym (ap (λ m. ends_span (ends (get_or old m (pos 0)) (get_or old (2 * suc (suc (suc k)) + 1) (pos 0)))) i
-    ∙ ap (λ m. ends_span (ends (get_or rest (2 * k) (pos 0)) (get_or old m (pos 0)))) j)
+with_above : (n : ℕ) (xs : List ℤ) (q : ℕ) (e : Ends) → AreSome n xs → IsSomeEnds e → (k : ℕ) → k < n →
+    least <ℤ get_or (with_ends_at xs q e) k (pos 0)
+with_above n xs q e h s k inside =
+    set_at (λ z. least <ℤ z) (set xs (2 * q) e.below) (2 * q + 1) k e.above s.above
+    (set_at (λ z. least <ℤ z) xs (2 * q) k e.below s.below (h.above k inside))
 
-three_some : (n : ℕ) (a b c d e f : ℤ) (rest : List ℤ) (x y z : Ends) → AreSome n (a ∷ b ∷ c ∷ d ∷ e ∷ f ∷ rest) →
-    IsSomeEnds x → IsSomeEnds y → IsSomeEnds z →
-    (r : ℕ) → 2 * r + 1 < n → has_some (register_span (x.below ∷ x.above ∷ y.below ∷ y.above ∷ z.below ∷ z.above
-    ∷ rest) r) ≡ true
-three_some n a b c d e f rest x y z h p q s zero lt = p.some
-three_some n a b c d e f rest x y z h p q s (suc zero) lt = q.some
-three_some n a b c d e f rest x y z h p q s (suc (suc zero)) lt = s.some
-three_some n a b c d e f rest x y z h p q s (suc (suc (suc k))) lt =
-    ap has_some (rest_span a b c d e f rest x y z k) ∙ h.some (suc (suc (suc k))) lt
+with_some : (n : ℕ) (xs : List ℤ) (o : Option ℕ) (e : Ends) → IsPlace n o → AreSome n xs → IfPlaced o (IsSomeEnds e) →
+    AreSome n (with_ends_in xs o e)
+with_some n xs None e lt h s = h
+with_some n xs (Some q) e lt h s = record {
+  len = with_length xs q e ∙ h.len;
+  above = with_above n xs q e h s;
+  some = λ r inside. elim (same_or r q) [
+    | inl same ↦ ap (λ z. has_some (register_span (with_ends_at xs q e) z)) same
+        ∙ ap (λ z. has_some (ends_span z)) (ends_here xs q e (let l = h.len in omega (arith, lt, l))) ∙ s.some
+    | inr apart ↦ ap (λ z. has_some (ends_span z)) (ends_other xs r q e apart) ∙ h.some r inside
+  ];
+}
 
-three_is : (a b c d e f : ℤ) (rest : List ℤ) (x y z : Ends) →
-    three (a ∷ b ∷ c ∷ d ∷ e ∷ f ∷ rest) x y z ≡ x.below ∷ x.above ∷ y.below ∷ y.above ∷ z.below ∷ z.above ∷ rest
-three_is a b c d e f rest x y z = refl
+-- lanes with other ends of all registers
 
-pub three_are_some : (n : ℕ) (xs : List ℤ) (x y z : Ends) → 6 ≤ n → AreSome n xs → IsSomeEnds x → IsSomeEnds y →
-    IsSomeEnds z → AreSome n (three xs x y z)
-three_are_some n xs x y z big h p q s =
-    let e = h.len in
-    let l = long xs (omega (arith, e, big)) in
-    let h' : AreSome n (l.a ∷ l.b ∷ l.c ∷ l.d ∷ l.e ∷ l.f ∷ l.rest) = subst (AreSome n) l.is h in
-    subst (λ zs. AreSome n (three zs x y z)) (sym l.is)
-    (record {
-      len = h'.len;
-      above = three_above n l.a l.b l.c l.d l.e l.f l.rest x y z h' p q s;
-      some = three_some n l.a l.b l.c l.d l.e l.f l.rest x y z h' p q s;
-    })
+pub all_some : (n : ℕ) (xs : List ℤ) (e : Name → Ends) → 6 ≤ n → AreSome n xs →
+    ((k : Name) → IfPlaced (place n k) (IsSomeEnds (e k))) →
+    AreSome n (with_all n xs e)
+all_some n xs e big h s =
+    with_some n _ (place n R) (e R) (placed n R big)
+    (with_some n _ (place n F) (e F) (placed n F big) (with_some n _ (place n D) (e D) (placed n D big)
+    (with_some n _ (place n E) (e E) (placed n E big) (with_some n xs (place n C) (e C) (placed n C big) h (s C)) (s E))
+    (s D)) (s F)) (s R)
 
-three_first : (xs : List ℤ) (x y z : Ends) → 6 ≤ length xs → ends_at (three xs x y z) 0 ≡ x
-three_first xs x y z big = let l = long xs big in subst (λ zs. ends_at (three zs x y z) 0 ≡ x) (sym l.is) refl
+-- the same by the width
+abbrev all_in : Bool → List ℤ → (Name → Ends) → List ℤ
+all_in wide xs e =
+    with_ends_in
+    (with_ends_in
+    (with_ends_in (with_ends_in (with_ends_in xs (place_in wide C) (e C)) (place_in wide E) (e E)) (place_in wide D)
+    (e D))
+    (place_in wide F) (e F))
+    (place_in wide R) (e R)
 
-three_second : (xs : List ℤ) (x y z : Ends) → 6 ≤ length xs → ends_at (three xs x y z) 1 ≡ y
-three_second xs x y z big = let l = long xs big in subst (λ zs. ends_at (three zs x y z) 1 ≡ y) (sym l.is) refl
+abbrev HasEnds : Option ℕ → List ℤ → Ends → Type 0
+HasEnds o ys e = IfPlaced o (ends_in ys o ≡ e)
 
-three_third : (xs : List ℤ) (x y z : Ends) → 6 ≤ length xs → ends_at (three xs x y z) 2 ≡ z
-three_third xs x y z big = let l = long xs big in subst (λ zs. ends_at (three zs x y z) 2 ≡ z) (sym l.is) refl
+module _ (xs : List ℤ) (e : Name → Ends) where
+  abbrev n0 : List ℤ
+  n0 = with_ends_at xs 0 (e C)
 
-pub three_unpacked : (n : ℕ) (xs : List ℤ) (x y z : Ends) → 6 ≤ n → AreSome n xs → unpacked (three xs x y z)
-    ≡ hull_with (ends_span x) (ends_span y) (ends_span z)
-three_unpacked n xs x y z big h =
-    let e = h.len in
-    let long_enough : 6 ≤ length xs = omega (arith, e, big) in
-    same_hull _ _ _ _ _ _ (ap ends_span (three_first xs x y z long_enough))
-    (ap ends_span (three_second xs x y z long_enough))
-    (ap ends_span (three_third xs x y z long_enough))
+  abbrev n1 : List ℤ
+  n1 = with_ends_at n0 1 (e D)
+
+  narrow_here : 6 ≤ length xs → (k : Name) → HasEnds (place_in false k) (all_in false xs e) (e k)
+  narrow_here long C =
+      ends_other n1 0 2 (e R) (λ s. omega (arith, s)) ∙ ends_other n0 0 1 (e D) (λ s. omega (arith, s))
+      ∙ ends_here xs 0 (e C) (omega (arith, long))
+  narrow_here long E = tt
+  narrow_here long D =
+      let l = with_length xs 0 (e C) in
+      ends_other n1 1 2 (e R) (λ s. omega (arith, s)) ∙ ends_here n0 1 (e D) (omega (arith, long, l))
+  narrow_here long F = tt
+  narrow_here long R =
+      let l = with_length n0 1 (e D) ∙ with_length xs 0 (e C) in ends_here n1 2 (e R) (omega (arith, long, l))
+
+  abbrev w1 : List ℤ
+  w1 = with_ends_at n0 1 (e E)
+
+  abbrev w2 : List ℤ
+  w2 = with_ends_at w1 2 (e D)
+
+  abbrev w3 : List ℤ
+  w3 = with_ends_at w2 3 (e F)
+
+  l1 : length w1 ≡ length xs
+  l1 = with_length n0 1 (e E) ∙ with_length xs 0 (e C)
+
+  l2 : length w2 ≡ length xs
+  l2 = with_length w1 2 (e D) ∙ l1
+
+  l3 : length w3 ≡ length xs
+  l3 = with_length w2 3 (e F) ∙ l2
+
+  wide_here : 10 ≤ length xs → (k : Name) → HasEnds (place_in true k) (all_in true xs e) (e k)
+  wide_here long C =
+      ends_other w3 0 4 (e R) (λ s. omega (arith, s)) ∙ ends_other w2 0 3 (e F) (λ s. omega (arith, s))
+      ∙ ends_other w1 0 2 (e D) (λ s. omega (arith, s))
+      ∙ ends_other n0 0 1 (e E) (λ s. omega (arith, s)) ∙ ends_here xs 0 (e C) (omega (arith, long))
+  wide_here long E =
+      let l = with_length xs 0 (e C) in
+      ends_other w3 1 4 (e R) (λ s. omega (arith, s)) ∙ ends_other w2 1 3 (e F) (λ s. omega (arith, s))
+      ∙ ends_other w1 1 2 (e D) (λ s. omega (arith, s))
+      ∙ ends_here n0 1 (e E) (omega (arith, long, l))
+  wide_here long D =
+      let l = l1 in
+      ends_other w3 2 4 (e R) (λ s. omega (arith, s)) ∙ ends_other w2 2 3 (e F) (λ s. omega (arith, s))
+      ∙ ends_here w1 2 (e D) (omega (arith, long, l))
+  wide_here long F =
+      let l = l2 in ends_other w3 3 4 (e R) (λ s. omega (arith, s)) ∙ ends_here w2 3 (e F) (omega (arith, long, l))
+  wide_here long R = let l = l3 in ends_here w3 4 (e R) (omega (arith, long, l))
+
+pub all_here : (n : ℕ) (xs : List ℤ) (e : Name → Ends) → 6 ≤ n → length xs ≡ n → (k : Name) →
+    HasEnds (place n k) (with_all n xs e) (e k)
+all_here n xs e big len k = go (is_wide n) refl
+  where
+    go : (b : Bool) → is_wide n ≡ b → HasEnds (place_in b k) (all_in b xs e) (e k)
+    go true w = wide_here xs e (let long = leb-true 10 n w in omega (arith, long, len)) k
+    go false w = narrow_here xs e (omega (arith, big, len)) k
+
+-- ends stand for the span of a register; one that has no place holds 0
+abbrev pub IsPackAt : Option ℕ → Ends → Span → Type 0
+IsPackAt None e s = s ≡ one_span (Int (pos 0))
+IsPackAt (Some p) e s = IsPackOf e s
+
+pack_some : (o : Option ℕ) (e : Ends) (s : Span) → IsPackAt o e s → IfPlaced o (IsSomeEnds e)
+pack_some None e s p = tt
+pack_some (Some q) e s p = p.some
+
+pack_span : (n : ℕ) (ys : List ℤ) (o : Option ℕ) (e : Ends) (s : Span) → IsPlace n o → AreSome n ys → HasEnds o ys e →
+    IsPackAt o e s →
+    span_in_lanes ys o ≡ s
+pack_span n ys None e s lt h here p = rests_at n ys lt h ∙ sym p
+pack_span n ys (Some q) e s lt h here p = ap ends_span here ∙ p.span
+
+pub all_packed : (n : ℕ) (xs : List ℤ) (e : Name → Ends) (s : Name → Span) → 6 ≤ n → AreSome n xs →
+    ((k : Name) → IsPackAt (place n k) (e k) (s k)) →
+    AreSome n (with_all n xs e)
+all_packed n xs e s big h p = all_some n xs e big h (λ k. pack_some (place n k) (e k) (s k) (p k))
+
+pub all_unpacked : (n : ℕ) (xs : List ℤ) (e : Name → Ends) (s : Name → Span) → 6 ≤ n → AreSome n xs →
+    ((k : Name) → IsPackAt (place n k) (e k) (s k)) → unpacked (with_all n xs e) ≡ hull_by s
+unfolding unpacked
+all_unpacked n xs e s big h p =
+    let ys = with_all n xs e in
+    let some = all_packed n xs e s big h p in
+    same_by (name_span ys) s
+    (λ k. ap (λ m. span_in_lanes ys (place m k)) some.len
+    ∙ pack_span n ys (place n k) (e k) (s k) (placed n k big) some (all_here n xs e big h.len k) (p k))
 
 -- lanes under a cover are fit where each part says so
-pub parts_fit : (n : ℕ) (C D R : List ℤ → Type 0) (xs : List ℤ) → 6 ≤ n → (AreSome n xs → C xs) →
-    (AreSome n xs → D xs) → (AreSome n xs → R xs) →
-    IsPacked n xs → IsFitFor n C D R xs
-parts_fit n C D R xs big c d r (inl e) = inl e
-parts_fit n C D R xs big c d r (inr s) = inr (big, s, c s, d s, r s)
+
+placed_fit : (o : Option ℕ) (P : Type 0) → P → IfPlaced o P
+placed_fit None P p = tt
+placed_fit (Some q) P p = p
+
+pub parts_fit : (n : ℕ) (fit : Name → List ℤ → Type 0) (xs : List ℤ) → 6 ≤ n → ((k : Name) → AreSome n xs → fit k xs) →
+    IsPacked n xs → IsFitFor n fit xs
+parts_fit n fit xs big f (inl e) = inl e
+parts_fit n fit xs big f (inr s) = inr (big, s, λ k. placed_fit (place n k) (fit k xs) (f k s))
 
 -- whether registers lie in lanes
 
@@ -142,19 +231,22 @@ pub not_nothing : {A : Type 0} (n : ℕ) (xs : List ℤ) → some_lanes xs ≡ t
 not_nothing n xs some (inl e) = never_added (sym some ∙ ap some_lanes e ∙ none_is n)
 not_nothing n xs some (inr a) = a
 
-and_true : (a b c : Bool) → a ≡ true → b ≡ true → c ≡ true → (a && b && c) ≡ true
-and_true a b c p q r = ap (λ z. z && b && c) p ∙ ap (λ z. z && c) q ∙ r
-
 pub some_unpacked : (n : ℕ) (xs : List ℤ) → 6 ≤ n → AreSome n xs → some_hull (unpacked xs) ≡ true
+unfolding unpacked
 some_unpacked n xs big h =
-    and_true (has_some (register_span xs 0)) (has_some (register_span xs 1)) (has_some (register_span xs 2))
-    (h.some 0 (omega (arith, big))) (h.some 1 (omega (arith, big))) (h.some 2 (omega (arith, big)))
+    some_registers (spans_of (unpacked xs)) (
+      name_some n xs C big h,
+      name_some n xs E big h,
+      name_some n xs D big h,
+      name_some n xs F big h,
+      name_some n xs R big h,
+    )
 
 -- fronts and closings of nothing
 
 pub front_none : (k : Cut) (v : ℤ) → front_hull k none_hull v ≡ none_hull
 unfolding front_hull
-front_none k v = refl
+front_none k v = ap (λ b. cond b (hull_of (map_each (λ p. front_span p none_hull v) k)) none_hull) none_registers
 
 pub nothing_front : (k : Cut) (n : ℕ) (v : ℤ) → 6 ≤ n → IsFrontOf k n (no_lanes n) v (no_lanes n)
 nothing_front k n v big =
@@ -164,185 +256,317 @@ pub nothing_closing : (k : Cut) (n : ℕ) (w : ℤ) → 6 ≤ n → IsClosingOf 
 nothing_closing k n w big =
     (inl refl, none_unpacked n big ∙ sym (ap (λ h. closed_hull k h w) (none_unpacked n big) ∙ closed_hull_none k w))
 
-pub some_front : (k : Cut) (n : ℕ) (xs : List ℤ) (v : ℤ) (x y z : Ends) → 6 ≤ n → AreSome n xs →
-    IsPackOf x (front_span k.c (unpacked xs) v) →
-    IsPackOf y (front_span k.d (unpacked xs) v) → IsPackOf z (front_span k.r (unpacked xs) v) →
-    IsFrontOf k n xs v (three xs x y z)
+pub some_front : (k : Cut) (n : ℕ) (xs : List ℤ) (v : ℤ) (e : Name → Ends) → 6 ≤ n → AreSome n xs →
+    ((m : Name) → IsPackAt (place n m) (e m) (front_span (of_name k m) (unpacked xs) v)) →
+    IsFrontOf k n xs v (with_all n xs e)
 unfolding front_hull
-some_front k n xs v x y z big h p q s = (
-  inr (three_are_some n xs x y z big h p.some q.some s.some),
-  three_unpacked n xs x y z big h
-      ∙ same_hull _ _ _ _ _ _ p.span q.span s.span
-      ∙ sym (ap (λ b. cond b (hull_with (front_span k.c (unpacked xs) v) (front_span k.d (unpacked xs) v)
-      (front_span k.r (unpacked xs) v)) none_hull)
+some_front k n xs v e big h p = (
+  inr (all_packed n xs e (λ m. front_span (of_name k m) (unpacked xs) v) big h p),
+  all_unpacked n xs e (λ m. front_span (of_name k m) (unpacked xs) v) big h p
+      ∙ sym (ap (λ b. cond b (hull_of (map_each (λ q. front_span q (unpacked xs) v) k)) none_hull)
       (some_unpacked n xs big h)),
 )
 
-pub some_closing : (k : Cut) (n : ℕ) (xs : List ℤ) (w : ℤ) (x y z : Ends) → 6 ≤ n → AreSome n xs →
-    IsPackOf x (closed_span k.c (register_span xs 0) w) →
-    IsPackOf y (closed_span k.d (register_span xs 1) w) → IsPackOf z (closed_span k.r (register_span xs 2) w) →
-    IsClosingOf k n xs w (three xs x y z)
-unfolding closed_hull
-some_closing k n xs w x y z big h p q s = (
-  inr (three_are_some n xs x y z big h p.some q.some s.some),
-  three_unpacked n xs x y z big h ∙ same_hull _ _ _ _ _ _ p.span q.span s.span,
+pub some_closing : (k : Cut) (n : ℕ) (xs : List ℤ) (w : ℤ) (e : Name → Ends) → 6 ≤ n → AreSome n xs →
+    ((m : Name) → IsPackAt (place n m) (e m) (closed_span (of_name k m) (name_span xs m) w)) →
+    IsClosingOf k n xs w (with_all n xs e)
+unfolding closed_hull unpacked
+some_closing k n xs w e big h p = (
+  inr (all_packed n xs e (λ m. closed_span (of_name k m) (name_span xs m) w) big h p),
+  all_unpacked n xs e (λ m. closed_span (of_name k m) (name_span xs m) w) big h p,
 )
+
+-- a register of a width by its name
+
+pub name_at : (n : ℕ) (xs : List ℤ) (k : Name) → length xs ≡ n → name_span xs k ≡ span_in_lanes xs (place n k)
+name_at n xs k len = ap (λ m. span_in_lanes xs (place m k)) len
+
+pub pack_name : (n : ℕ) (xs : List ℤ) (k : Name) → 6 ≤ n → AreSome n xs →
+    IsPackOf (ends_in xs (place n k)) (name_span xs k)
+pack_name n xs k big h =
+    subst (IsPackOf (ends_in xs (place n k))) (sym (name_at n xs k h.len)) (pack_at n xs (place n k) (placed n k big) h)
+
+-- E and F of narrow lanes
+module _ (n : ℕ) (xs : List ℤ) (big : 6 ≤ n) (h : AreSome n xs) (narrow : is_wide n ≡ false) where
+  pub e_rests : name_span xs E ≡ one_span (Int (pos 0))
+  e_rests =
+      name_at n xs E h.len ∙ ap (λ b. span_in_lanes xs (place_in b E)) narrow ∙ rests_at n xs (omega (arith, big)) h
+
+  pub f_rests : name_span xs F ≡ one_span (Int (pos 0))
+  f_rests =
+      name_at n xs F h.len ∙ ap (λ b. span_in_lanes xs (place_in b F)) narrow ∙ rests_at n xs (omega (arith, big)) h
+
+rest_closed : (wide : Bool) (p : Split) (s : Span) (w : ℤ) → (wide ≡ true → closed_span p s w ≡ s) →
+    closed_span (rest_split wide p) s w ≡ s
+rest_closed true p s w h = h refl
+rest_closed false p s w h = refl
 
 -- keeping
 
-pub kept_front : (n : ℕ) (xs : List ℤ) (v : ℤ) → 6 ≤ n → IsPacked n xs → IsFrontOf (kept_cut) n xs v xs
-unfolding front_hull
-kept_front n xs v big (inl e) = subst (λ zs. IsFrontOf (kept_cut) n zs v zs) (sym e) (nothing_front (kept_cut) n v big)
-kept_front n xs v big (inr h) = (inr h, sym (ap (λ b. cond b (unpacked xs) none_hull) (some_unpacked n xs big h)))
+kept_some : (n : ℕ) (xs : List ℤ) (v : ℤ) → 6 ≤ n → AreSome n xs → unpacked xs
+    ≡ hull_of (map_each (λ q. front_span q (unpacked xs) v) (kept_cut (is_wide n)))
+unfolding unpacked
+kept_some n xs v big h = same_hull refl (at_e (is_wide n) refl) refl (at_f (is_wide n) refl) refl
+  where
+    at_e : (b : Bool) → is_wide n ≡ b → name_span xs E ≡ front_span (rest_split b (FrontOf (Leaf AtomE)))
+        (unpacked xs) v
+    at_e true w = refl
+    at_e false w = e_rests n xs big h w
 
-pub kept_closing : (n : ℕ) (xs : List ℤ) (w : ℤ) → 6 ≤ n → IsPacked n xs → IsClosingOf (kept_cut) n xs w xs
-unfolding closed_hull
-kept_closing n xs w big p = (p, refl)
+    at_f : (b : Bool) → is_wide n ≡ b → name_span xs F ≡ front_span (rest_split b (FrontOf (Leaf AtomF)))
+        (unpacked xs) v
+    at_f true w = refl
+    at_f false w = f_rests n xs big h w
+
+pub kept_front : (n : ℕ) (xs : List ℤ) (v : ℤ) → 6 ≤ n → IsPacked n xs → IsFrontOf (kept_cut (is_wide n)) n xs v xs
+unfolding front_hull
+kept_front n xs v big (inl e) =
+    subst (λ zs. IsFrontOf (kept_cut (is_wide n)) n zs v zs) (sym e) (nothing_front (kept_cut (is_wide n)) n v big)
+kept_front n xs v big (inr h) = (
+  inr h,
+  kept_some n xs v big h
+      ∙ sym (ap (λ b. cond b (hull_of (map_each (λ q. front_span q (unpacked xs) v) (kept_cut (is_wide n)))) none_hull)
+      (some_unpacked n xs big h)),
+)
+
+pub kept_closing : (n : ℕ) (xs : List ℤ) (w : ℤ) → 6 ≤ n → IsPacked n xs → IsClosingOf (kept_cut (is_wide n)) n xs w xs
+unfolding closed_hull unpacked
+kept_closing n xs w big p = (
+  p,
+  sym (same_hull refl (rest_closed (is_wide n) (FrontOf (Leaf AtomE)) (name_span xs E) w (λ t. refl)) refl
+      (rest_closed (is_wide n) (FrontOf (Leaf AtomF)) (name_span xs F) w (λ t. refl)) refl),
+)
 
 module _ {X : Type 0} (both : X → X → X) (lanes : X → List ℤ) (n : ℕ) (both_lanes : (a b : X) → lanes (both a b) ≡ greater_of (lanes a) (lanes b)) where
   pub packed_both : (a b : X) → IsPacked n (lanes a) → IsPacked n (lanes b) → IsPacked n (lanes (both a b))
   packed_both a b p q = subst (IsPacked n) (sym (both_lanes a b)) (joined_packed n (lanes a) (lanes b) p q)
 
-  pub parts_both : (C D R : Ends → Type 0) → ((a b : Ends) → C a → C b → C (max_ends a b)) →
-      ((a b : Ends) → D a → D b → D (max_ends a b)) →
-      ((a b : Ends) → R a → R b → R (max_ends a b)) → (a b : X) → IsClosableBy n C D R (lanes a) →
-      IsClosableBy n C D R (lanes b) →
-      IsClosableBy n C D R (lanes (both a b))
-  parts_both C D R c d r a b p q = subst (IsClosableBy n C D R) (sym (both_lanes a b)) (go p q)
+  pub parts_both : (can : Name → Ends → Type 0) → ((k : Name) (a b : Ends) → can k a → can k b → can k (max_ends a b)) →
+      (a b : X) →
+      IsClosableBy n can (lanes a) → IsClosableBy n can (lanes b) → IsClosableBy n can (lanes (both a b))
+  parts_both can c a b p q = subst (IsClosableBy n can) (sym (both_lanes a b)) (go p q)
     where
-      go : IsClosableBy n C D R (lanes a) → IsClosableBy n C D R (lanes b) →
-          IsClosableBy n C D R (greater_of (lanes a) (lanes b))
-      go (inl e) (inl f) = inl (ap (λ zs. greater_of zs (lanes b)) e ∙ ap (greater_of (no_lanes n)) f
-          ∙ lanes_idempotent (no_lanes n))
+      xs : List ℤ
+      xs = lanes a
+
+      ys : List ℤ
+      ys = lanes b
+
+      both_at : (o : Option ℕ) (k : Name) → IsPlace n o → AreSome n xs → AreSome n ys →
+          IfPlaced o (can k (ends_in xs o)) → IfPlaced o (can k (ends_in ys o)) →
+          IfPlaced o (can k (ends_in (greater_of xs ys) o))
+      both_at None k lt h i p q = tt
+      both_at (Some r) k lt h i p q =
+          subst (can k) (sym (greater_ends n xs ys r h.len i.len lt)) (c k (ends_at xs r) (ends_at ys r) p q)
+
+      go : IsClosableBy n can xs → IsClosableBy n can ys → IsClosableBy n can (greater_of xs ys)
+      go (inl e) (inl f) =
+          inl (ap (λ zs. greater_of zs ys) e ∙ ap (greater_of (no_lanes n)) f ∙ lanes_idempotent (no_lanes n))
       go (inl e) (inr q) =
-          subst (IsClosableBy n C D R)
-          (sym (ap (λ zs. greater_of zs (lanes b)) e ∙ lanes_neutral n (lanes b) (some_lanes_are n (lanes b) q.1)))
-          (inr q)
+          subst (IsClosableBy n can) (sym (ap (λ zs. greater_of zs ys) e
+          ∙ lanes_neutral n ys (some_lanes_are n ys q.1))) (inr q)
       go (inr p) (inl f) =
-          subst (IsClosableBy n C D R)
-          (sym (lanes_commutative (lanes a) (lanes b) ∙ ap (λ zs. greater_of zs (lanes a)) f
-          ∙ lanes_neutral n (lanes a) (some_lanes_are n (lanes a) p.1))) (inr p)
+          subst (IsClosableBy n can)
+          (sym (lanes_commutative xs ys ∙ ap (λ zs. greater_of zs xs) f ∙ lanes_neutral n xs (some_lanes_are n xs p.1)))
+          (inr p)
       go (inr p) (inr q) =
-          let big = p.0 in inr (
-            big,
-            some_greater n (lanes a) (lanes b) p.1 q.1,
-            subst C (sym (greater_ends n (lanes a) (lanes b) 0 p.1.len q.1.len (omega (arith, big)))) (c _ _ p.2 q.2),
-            subst D (sym (greater_ends n (lanes a) (lanes b) 1 p.1.len q.1.len (omega (arith, big)))) (d _ _ p.3 q.3),
-            subst R (sym (greater_ends n (lanes a) (lanes b) 2 p.1.len q.1.len (omega (arith, big)))) (r _ _ p.4 q.4),
-          )
+          inr (p.0, some_greater n xs ys p.1 q.1, λ k. both_at (place n k) k (placed n k p.0) p.1 q.1 (p.2 k) (q.2 k))
 
 pub parts_none : {X : Type 0} (lanes : X → List ℤ) (n : ℕ) (none : X) → lanes none ≡ no_lanes n → (t : Bool) (x : X) →
     cond t (cond (some_lanes (lanes none)) x none) none ≡ none
 parts_none lanes n none e true x = ap (λ b. cond b x none) (ap some_lanes e ∙ none_is n)
 parts_none lanes n none e false x = refl
 
-module _ {X : Type 0} (lanes : X → List ℤ) (replaced : X → ℕ → Ends → X) (n : ℕ) (none : X) (none_lanes : lanes none ≡ no_lanes n) (replaced_lanes : (h : X) (r : ℕ) (e : Ends) → lanes (replaced h r e) ≡ with_ends_at (lanes h) r e) where
-  pub all_lanes : (h : X) (c d r : Ends) → lanes (replaced_all replaced h c d r) ≡ three (lanes h) c d r
-  all_lanes h c d r =
-      replaced_lanes (replaced (replaced h 0 c) 1 d) 2 r
-      ∙ ap (λ zs. with_ends_at zs 2 r) (replaced_lanes (replaced h 0 c) 1 d
-      ∙ ap (λ zs. with_ends_at zs 1 d) (replaced_lanes h 0 c))
+-- what there is of each register there is of all
+pub by_names : (P : Name → Type 0) → P C → P E → P D → P F → P R → (k : Name) → P k
+by_names P c e d f r C = c
+by_names P c e d f r E = e
+by_names P c e d f r D = d
+by_names P c e d f r F = f
+by_names P c e d f r R = r
 
-  chosen_some : (h : X) (c d r : Ends) → 6 ≤ n → AreSome n (lanes h) →
-      lanes (cond (some_lanes (lanes h)) (replaced_all replaced h c d r) none) ≡ three (lanes h) c d r
-  chosen_some h c d r big s = ap (λ b. lanes (cond b (replaced_all replaced h c d r) none)) (first_is n (lanes h) big s)
-      ∙ all_lanes h c d r
+-- the ends of all registers, by what is made of lanes
+abbrev pub begun_by : Bool → (Name → List ℤ → Ends) → List ℤ → Name → Ends
+begun_by wide front xs = ends_by wide (front C xs) (front E xs) (front D xs) (front F xs) (front R xs)
+
+-- and of the ends of registers
+abbrev pub closed_by : ℕ → (Name → Ends → Ends) → List ℤ → Name → Ends
+closed_by n close xs =
+    ends_by (is_wide n) (close C (ends_in xs (place n C))) (close E (ends_in xs (place n E)))
+    (close D (ends_in xs (place n D)))
+    (close F (ends_in xs (place n F))) (close R (ends_in xs (place n R)))
+
+-- whether any part has a tail
+abbrev pub any_tail : (Name → Bool) → Bool
+any_tail tail = tail C || (tail E || (tail D || (tail F || tail R)))
+
+pub or_false : (a b c d e : Bool) → (a || (b || (c || (d || e)))) ≡ false → (a ≡ false) × (b ≡ false) × (c ≡ false) ×
+    (d ≡ false) × (e ≡ false)
+or_false true b c d e h = cc
+or_false false true c d e h = cc
+or_false false false true d e h = cc
+or_false false false false true e h = cc
+or_false false false false false e h = (refl, refl, refl, refl, h)
+
+module _ {X : Type 0} (lanes : X → List ℤ) (replaced : X → Name → Ends → X) (n : ℕ) (none : X) (none_lanes : lanes none ≡ no_lanes n) (replaced_lanes : (h : X) (k : Name) (e : Ends) → lanes (replaced h k e) ≡ with_ends_in (lanes h) (place n k) e) where
+  one_lanes : (h : X) (zs : List ℤ) (k : Name) (e : Ends) → lanes h ≡ zs →
+      lanes (replaced h k e) ≡ with_ends_in zs (place n k) e
+  one_lanes h zs k e is = replaced_lanes h k e ∙ ap (λ ys. with_ends_in ys (place n k) e) is
+
+  pub all_lanes : (h : X) (e : Name → Ends) → lanes (replaced_all replaced h e) ≡ with_all n (lanes h) e
+  all_lanes h e =
+      one_lanes _ _ R (e R) (one_lanes _ _ F (e F)
+      (one_lanes _ _ D (e D) (one_lanes _ _ E (e E) (replaced_lanes h C (e C)))))
+
+  chosen_some : (h : X) (e : Name → Ends) → 6 ≤ n → AreSome n (lanes h) →
+      lanes (cond (some_lanes (lanes h)) (replaced_all replaced h e) none) ≡ with_all n (lanes h) e
+  chosen_some h e big s =
+      ap (λ b. lanes (cond b (replaced_all replaced h e) none)) (first_is n (lanes h) big s) ∙ all_lanes h e
 
   chosen_none : (h : X) (x : X) → lanes h ≡ no_lanes n → lanes (cond (some_lanes (lanes h)) x none) ≡ no_lanes n
   chosen_none h x e = ap (λ b. lanes (cond b x none)) (ap some_lanes e ∙ none_is n) ∙ none_lanes
 
-  pub parts_front_is : (FC FD FR : List ℤ → Type 0) (sc sd sr : Split) (c d r : List ℤ → Ends) (v : ℤ) →
-      ((xs : List ℤ) → 6 ≤ n → AreSome n xs → FC xs → IsPackOf (c xs) (front_span sc (unpacked xs) v)) →
-      ((xs : List ℤ) → 6 ≤ n → AreSome n xs → FD xs → IsPackOf (d xs) (front_span sd (unpacked xs) v)) →
-      ((xs : List ℤ) → 6 ≤ n → AreSome n xs → FR xs → IsPackOf (r xs) (front_span sr (unpacked xs) v)) →
-      (h : X) → 6 ≤ n → IsFitFor n FC FD FR (lanes h) →
-      IsFrontOf (record { c = sc; d = sd; r = sr }) n (lanes h) v
-      (lanes (cond (some_lanes (lanes h)) (replaced_all replaced h (c (lanes h)) (d (lanes h)) (r (lanes h))) none))
-  parts_front_is FC FD FR sc sd sr c d r v pc pd pr h big (inl e) =
-      subst (IsFrontOf (record { c = sc; d = sd; r = sr }) n (lanes h) v) (sym (chosen_none h _ e))
-      (subst (λ zs. IsFrontOf (record { c = sc; d = sd; r = sr }) n zs v (no_lanes n)) (sym e)
-      (nothing_front (record { c = sc; d = sd; r = sr }) n v big))
-  parts_front_is FC FD FR sc sd sr c d r v pc pd pr h big (inr p) =
-      subst (IsFrontOf (record { c = sc; d = sd; r = sr }) n (lanes h) v)
-      (sym (chosen_some h (c (lanes h)) (d (lanes h)) (r (lanes h)) big p.1))
-      (some_front (record { c = sc; d = sd; r = sr }) n (lanes h) v (c (lanes h)) (d (lanes h)) (r (lanes h)) big p.1
-      (pc (lanes h) big p.1 p.2)
-      (pd (lanes h) big p.1 p.3) (pr (lanes h) big p.1 p.4))
+  module _ (fit : Name → List ℤ → Type 0) (k : Cut) (front : Name → List ℤ → Ends) (v : ℤ) (packs : (m : Name) (xs : List ℤ) → 6 ≤ n → AreSome n xs → fit m xs → IsPackOf (front m xs) (front_span (of_name k m) (unpacked xs) v)) where
+    -- the front of each register of the width
+    begun_packs : (xs : List ℤ) → 6 ≤ n → AreSome n xs → ((m : Name) → IfPlaced (place n m) (fit m xs)) → (m : Name) →
+        IsPackAt (place n m) (begun_by (is_wide n) front xs m)
+        (front_span (of_name (of_width (is_wide n) k) m) (unpacked xs) v)
+    begun_packs xs big s fits C = packs C xs big s (fits C)
+    begun_packs xs big s fits E = go (is_wide n) (fits E)
+      where
+        go : (b : Bool) → IfPlaced (place_in b E) (fit E xs) →
+            IsPackAt (place_in b E) (beside b (front E xs)) (front_span (rest_split b k.e) (unpacked xs) v)
+        go true f = packs E xs big s f
+        go false f = refl
+    begun_packs xs big s fits D = packs D xs big s (fits D)
+    begun_packs xs big s fits F = go (is_wide n) (fits F)
+      where
+        go : (b : Bool) → IfPlaced (place_in b F) (fit F xs) →
+            IsPackAt (place_in b F) (beside b (front F xs)) (front_span (rest_split b k.f) (unpacked xs) v)
+        go true f = packs F xs big s f
+        go false f = refl
+    begun_packs xs big s fits R = packs R xs big s (fits R)
 
-  pub parts_front : (FC FD FR : List ℤ → Type 0) (CC CD CR : Ends → Type 0) (sc sd sr : Split)
-      (c d r : List ℤ → Ends) (v : ℤ) →
-      ((xs : List ℤ) → FC xs → CC (c xs)) → ((xs : List ℤ) → FD xs → CD (d xs)) → ((xs : List ℤ) → FR xs → CR (r xs)) →
-      ((xs : List ℤ) → 6 ≤ n → AreSome n xs → FC xs → IsPackOf (c xs) (front_span sc (unpacked xs) v)) →
-      ((xs : List ℤ) → 6 ≤ n → AreSome n xs → FD xs → IsPackOf (d xs) (front_span sd (unpacked xs) v)) →
-      ((xs : List ℤ) → 6 ≤ n → AreSome n xs → FR xs → IsPackOf (r xs) (front_span sr (unpacked xs) v)) →
-      (h : X) → IsFitFor n FC FD FR (lanes h) →
-      IsClosableBy n CC CD CR
-      (lanes (cond (some_lanes (lanes h)) (replaced_all replaced h (c (lanes h)) (d (lanes h)) (r (lanes h))) none))
-  parts_front FC FD FR CC CD CR sc sd sr c d r v kc kd kr pc pd pr h (inl e) = inl (chosen_none h _ e)
-  parts_front FC FD FR CC CD CR sc sd sr c d r v kc kd kr pc pd pr h (inr p) =
-      let big = p.0 in
-      let xs = lanes h in
-      let len = p.1.len in
-      let enough : 6 ≤ length xs = omega (arith, len, big) in
-      subst (IsClosableBy n CC CD CR) (sym (chosen_some h (c xs) (d xs) (r xs) big p.1))
-      (inr (
-        big,
-        three_are_some n xs (c xs) (d xs) (r xs) big p.1 (pc xs big p.1 p.2).some (pd xs big p.1 p.3).some
-            (pr xs big p.1 p.4).some,
-        subst CC (sym (three_first xs (c xs) (d xs) (r xs) enough)) (kc xs p.2),
-        subst CD (sym (three_second xs (c xs) (d xs) (r xs) enough)) (kd xs p.3),
-        subst CR (sym (three_third xs (c xs) (d xs) (r xs) enough)) (kr xs p.4),
-      ))
+    pub parts_front_is : (h : X) → 6 ≤ n → IsFitFor n fit (lanes h) →
+        IsFrontOf (of_width (is_wide n) k) n (lanes h) v
+        (lanes (cond (some_lanes (lanes h)) (replaced_all replaced h (begun_by (is_wide n) front (lanes h))) none))
+    parts_front_is h big (inl e) =
+        subst (IsFrontOf (of_width (is_wide n) k) n (lanes h) v) (sym (chosen_none h _ e))
+        (subst (λ zs. IsFrontOf (of_width (is_wide n) k) n zs v (no_lanes n)) (sym e)
+        (nothing_front (of_width (is_wide n) k) n v big))
+    parts_front_is h big (inr p) =
+        subst (IsFrontOf (of_width (is_wide n) k) n (lanes h) v)
+        (sym (chosen_some h (begun_by (is_wide n) front (lanes h)) big p.1))
+        (some_front (of_width (is_wide n) k) n (lanes h) v (begun_by (is_wide n) front (lanes h)) big p.1
+        (begun_packs (lanes h) big p.1 p.2))
 
-  or_false : (a b c : Bool) → (a || (b || c)) ≡ false → (a ≡ false) × (b ≡ false) × (c ≡ false)
-  or_false true b c h = cc
-  or_false false true c h = cc
-  or_false false false true h = cc
-  or_false false false false h = (refl, refl, refl)
+    closable_at : (can : Name → Ends → Type 0) (o : Option ℕ) (m : Name) (ys : List ℤ) (e : Ends) → HasEnds o ys e →
+        IfPlaced o (can m e) →
+        IfPlaced o (can m (ends_in ys o))
+    closable_at can None m ys e here c = tt
+    closable_at can (Some p) m ys e here c = subst (can m) (sym here) c
 
-  register_pack : (xs : List ℤ) (r : ℕ) → 2 * r + 1 < n → AreSome n xs → IsPackOf (ends_at xs r) (register_span xs r)
-  register_pack xs r lt h = record { some = some_ends n r xs lt h; span = refl }
+    begun_closable : (can : Name → Ends → Type 0) → ((m : Name) (xs : List ℤ) → fit m xs → can m (front m xs)) →
+        (xs : List ℤ) →
+        ((m : Name) → IfPlaced (place n m) (fit m xs)) → (m : Name) →
+        IfPlaced (place n m) (can m (begun_by (is_wide n) front xs m))
+    begun_closable can keeps xs fits C = keeps C xs (fits C)
+    begun_closable can keeps xs fits E = go (is_wide n) (fits E)
+      where
+        go : (b : Bool) → IfPlaced (place_in b E) (fit E xs) → IfPlaced (place_in b E) (can E (beside b (front E xs)))
+        go true f = keeps E xs f
+        go false f = tt
+    begun_closable can keeps xs fits D = keeps D xs (fits D)
+    begun_closable can keeps xs fits F = go (is_wide n) (fits F)
+      where
+        go : (b : Bool) → IfPlaced (place_in b F) (fit F xs) → IfPlaced (place_in b F) (can F (beside b (front F xs)))
+        go true f = keeps F xs f
+        go false f = tt
+    begun_closable can keeps xs fits R = keeps R xs (fits R)
 
-  pub parts_closing_is : (CC CD CR : Ends → Type 0) (sc sd sr : Split) (tc td tr : Bool) (c d r : Ends → Ends) (w : ℤ) →
-      ((e : Ends) (s : Span) → IsPackOf e s → CC e → IsPackOf (c e) (closed_span sc s w)) →
-      ((e : Ends) (s : Span) → IsPackOf e s → CD e → IsPackOf (d e) (closed_span sd s w)) →
-      ((e : Ends) (s : Span) → IsPackOf e s → CR e → IsPackOf (r e) (closed_span sr s w)) →
-      (tc ≡ false → (s : Span) → closed_span sc s w ≡ s) → (td ≡ false → (s : Span) → closed_span sd s w ≡ s) →
-      (tr ≡ false → (s : Span) → closed_span sr s w ≡ s) →
-      (h : X) → 6 ≤ n → IsClosableBy n CC CD CR (lanes h) →
-      IsClosingOf (record { c = sc; d = sd; r = sr }) n (lanes h) w
-      (lanes (cond (tc || (td || tr)) (cond (some_lanes (lanes h)) (replaced_all replaced h (c (ends_at (lanes h) 0))
-      (d (ends_at (lanes h) 1))
-      (r (ends_at (lanes h) 2))) none) h))
-  unfolding closed_hull
-  parts_closing_is CC CD CR sc sd sr tc td tr c d r w pc pd pr nc nd nr h big can = go (tc || (td || tr)) refl can
-    where
-      k : Cut
-      k = record { c = sc; d = sd; r = sr }
+    pub parts_front : (can : Name → Ends → Type 0) → ((m : Name) (xs : List ℤ) → fit m xs → can m (front m xs)) →
+        (h : X) → IsFitFor n fit (lanes h) →
+        IsClosableBy n can
+        (lanes (cond (some_lanes (lanes h)) (replaced_all replaced h (begun_by (is_wide n) front (lanes h))) none))
+    parts_front can keeps h (inl e) = inl (chosen_none h _ e)
+    parts_front can keeps h (inr p) =
+        let xs = lanes h in
+        let e = begun_by (is_wide n) front xs in
+        let whole = of_width (is_wide n) k in
+        subst (IsClosableBy n can) (sym (chosen_some h e p.0 p.1))
+        (inr (
+          p.0,
+          all_packed n xs e (λ m. front_span (of_name whole m) (unpacked xs) v) p.0 p.1 (begun_packs xs p.0 p.1 p.2),
+          λ m. closable_at can (place n m) m (with_all n xs e) (e m) (all_here n xs e p.0 p.1.len m)
+              (begun_closable can keeps xs p.2 m),
+        ))
 
-      xs : List ℤ
-      xs = lanes h
+  module _ (can : Name → Ends → Type 0) (k : Cut) (tail : Name → Bool) (close : Name → Ends → Ends) (w : ℤ) (packs : (m : Name) (e : Ends) (s : Span) → IsPackOf e s → can m e → IsPackOf (close m e) (closed_span (of_name k m) s w)) (same : (m : Name) → tail m ≡ false → (s : Span) → closed_span (of_name k m) s w ≡ s) where
+    closed_packs : (xs : List ℤ) → 6 ≤ n → AreSome n xs →
+        ((m : Name) → IfPlaced (place n m) (can m (ends_in xs (place n m)))) → (m : Name) →
+        IsPackAt (place n m) (closed_by n close xs m)
+        (closed_span (of_name (of_width (is_wide n) k) m) (name_span xs m) w)
+    closed_packs xs big s cans C = packs C (ends_in xs (place n C)) (name_span xs C) (pack_name n xs C big s) (cans C)
+    closed_packs xs big s cans E = go (is_wide n) refl (pack_name n xs E big s) (cans E)
+      where
+        go : (b : Bool) → is_wide n ≡ b → IsPackOf (ends_in xs (place_in b E)) (name_span xs E) →
+            IfPlaced (place_in b E) (can E (ends_in xs (place_in b E))) →
+            IsPackAt (place_in b E) (beside b (close E (ends_in xs (place_in b E))))
+            (closed_span (rest_split b k.e) (name_span xs E) w)
+        go true t p c = packs E (ends_in xs (place_in true E)) (name_span xs E) p c
+        go false t p c = e_rests n xs big s t
+    closed_packs xs big s cans D = packs D (ends_in xs (place n D)) (name_span xs D) (pack_name n xs D big s) (cans D)
+    closed_packs xs big s cans F = go (is_wide n) refl (pack_name n xs F big s) (cans F)
+      where
+        go : (b : Bool) → is_wide n ≡ b → IsPackOf (ends_in xs (place_in b F)) (name_span xs F) →
+            IfPlaced (place_in b F) (can F (ends_in xs (place_in b F))) →
+            IsPackAt (place_in b F) (beside b (close F (ends_in xs (place_in b F))))
+            (closed_span (rest_split b k.f) (name_span xs F) w)
+        go true t p c = packs F (ends_in xs (place_in true F)) (name_span xs F) p c
+        go false t p c = f_rests n xs big s t
+    closed_packs xs big s cans R = packs R (ends_in xs (place n R)) (name_span xs R) (pack_name n xs R big s) (cans R)
 
-      new : X
-      new = replaced_all replaced h (c (ends_at xs 0)) (d (ends_at xs 1)) (r (ends_at xs 2))
+    closed_same : (xs : List ℤ) → any_tail tail ≡ false →
+        unpacked xs ≡ closed_hull (of_width (is_wide n) k) (unpacked xs) w
+    unfolding closed_hull unpacked
+    closed_same xs e =
+        let no = or_false (tail C) (tail E) (tail D) (tail F) (tail R) e in
+        sym (same_hull (same C no.0 (name_span xs C))
+        (rest_closed (is_wide n) k.e (name_span xs E) w (λ t. same E no.1 (name_span xs E)))
+        (same D no.2 (name_span xs D)) (rest_closed (is_wide n) k.f (name_span xs F) w
+        (λ t. same F no.3 (name_span xs F))) (same R no.4 (name_span xs R)))
 
-      go : (t : Bool) → (tc || (td || tr)) ≡ t → IsClosableBy n CC CD CR xs →
-          IsClosingOf k n xs w (lanes (cond t (cond (some_lanes xs) new none) h))
-      go true e (inl f) =
-          subst (IsClosingOf k n xs w) (sym (chosen_none h new f)) (subst (λ zs. IsClosingOf k n zs w (no_lanes n))
-          (sym f) (nothing_closing k n w big))
-      go true e (inr p) =
-          subst (IsClosingOf k n xs w)
-          (sym (chosen_some h (c (ends_at xs 0)) (d (ends_at xs 1)) (r (ends_at xs 2)) big p.1))
-          (some_closing k n xs w (c (ends_at xs 0)) (d (ends_at xs 1)) (r (ends_at xs 2)) big p.1
-          (pc (ends_at xs 0) (register_span xs 0) (register_pack xs 0 (omega (arith, big)) p.1) p.2)
-          (pd (ends_at xs 1) (register_span xs 1) (register_pack xs 1 (omega (arith, big)) p.1) p.3)
-          (pr (ends_at xs 2) (register_span xs 2) (register_pack xs 2 (omega (arith, big)) p.1) p.4))
-      go false e (inl f) =
-          subst (λ zs. IsClosingOf k n zs w zs) (sym f) (nothing_closing k n w big)
-      go false e (inr p) =
-          let none_of = or_false tc td tr e in (
-            inr p.1,
-            sym (same_hull _ _ _ _ _ _ (nc none_of.0 (register_span xs 0)) (nd none_of.1 (register_span xs 1))
-                (nr none_of.2 (register_span xs 2))),
-          )
+    pub parts_closing_is : (h : X) → 6 ≤ n → IsClosableBy n can (lanes h) →
+        IsClosingOf (of_width (is_wide n) k) n (lanes h) w
+        (lanes (cond (any_tail tail) (cond (some_lanes (lanes h))
+        (replaced_all replaced h (closed_by n close (lanes h))) none) h))
+    parts_closing_is h big can_close = go (any_tail tail) refl can_close
+      where
+        whole : Cut
+        whole = of_width (is_wide n) k
+
+        xs : List ℤ
+        xs = lanes h
+
+        new : X
+        new = replaced_all replaced h (closed_by n close xs)
+
+        go : (t : Bool) → any_tail tail ≡ t → IsClosableBy n can xs →
+            IsClosingOf whole n xs w (lanes (cond t (cond (some_lanes xs) new none) h))
+        go true e (inl f) =
+            subst (IsClosingOf whole n xs w) (sym (chosen_none h new f))
+            (subst (λ zs. IsClosingOf whole n zs w (no_lanes n)) (sym f) (nothing_closing whole n w big))
+        go true e (inr p) =
+            subst (IsClosingOf whole n xs w) (sym (chosen_some h (closed_by n close xs) big p.1))
+            (some_closing whole n xs w (closed_by n close xs) big p.1 (closed_packs xs big p.1 p.2))
+        go false e (inl f) = subst (λ zs. IsClosingOf whole n zs w zs) (sym f) (nothing_closing whole n w big)
+        go false e (inr p) = (inr p.1, closed_same xs e)
+
+-- what is placed for E and F where lanes are wide
+pub wide_of : (wide : Bool) (P : Type 0) → IfPlaced (place_in wide E) P → wide ≡ true → P
+wide_of true P p e = p
+wide_of false P p e = cc
+
+pub wide_of_f : (wide : Bool) (P : Type 0) → IfPlaced (place_in wide F) P → wide ≡ true → P
+wide_of_f true P p e = p
+wide_of_f false P p e = cc

@@ -1,16 +1,37 @@
 -- What a move makes of hulls in lanes.
-use Rattle.std.specs.Prelude.{◌≡◌, ◌⊎◌, ℕ, ◌≤◌, ℤ, List}
-use Rattle.ts_automaton.specs.declared.expr.Atom.TheVariants.{C, D, R}
+use Rattle.std.specs.Prelude.{◌≡◌, ◌⊎◌, ℕ, ◌≤◌, ℤ, pos, Bool, if◌then◌else◌, Option, None, Some, List}
+use Rattle.ts_automaton.specs.declared.expr.Atom.TheVariants.{C as AtomC, E as AtomE, D as AtomD, F as AtomF, R as AtomR, Zero as AtomZero}
 use Rattle.ts_automaton.specs.Formula.{Leaf}
+use Rattle.ts_automaton.specs.Registers.{EachOf, each}
 use Rattle.ts_hull.specs.Cuts.{Cut, front_hull, closed_hull}
-use Rattle.ts_hull.specs.Splits.{FrontOf}
+use Rattle.ts_hull.specs.Splits.{Split, FrontOf}
 use Rattle.ts_sweep.specs.declared.packed.Ends.{Ends}
+use Rattle.ts_sweep.specs.declared.packed.Name.{Name}
+use Rattle.ts_sweep.specs.declared.packed.Name.TheVariants.{C, E, D, F, R}
 use Rattle.ts_sweep.specs.Lanes.{no_lanes}
-use Rattle.ts_sweep.specs.Packed.{ends_at, unpacked, AreSome, IsPacked}
+use Rattle.ts_sweep.specs.Packed.{number_ends, place, ends_in, with_ends_in, unpacked, AreSome, IsPacked}
 
--- the split expressions of a move that keeps all registers
-abbrev pub kept_cut : Cut
-kept_cut = record { c = FrontOf (Leaf C); d = FrontOf (Leaf D); r = FrontOf (Leaf R) }
+-- what there is for a register
+abbrev pub of_name : {A : Type 0} → EachOf A → Name → A
+of_name a C = a.c
+of_name a E = a.e
+of_name a D = a.d
+of_name a F = a.f
+of_name a R = a.r
+
+-- the split expressions of a move, for hulls of a width: E and F of narrow ones stay 0
+abbrev pub rest_split : Bool → Split → Split
+rest_split wide p = if wide then p else FrontOf (Leaf AtomZero)
+
+abbrev pub of_width : Bool → Cut → Cut
+of_width wide k = each k.c (rest_split wide k.e) k.d (rest_split wide k.f) k.r
+
+-- those of a move that keeps all registers
+abbrev pub kept_cut : Bool → Cut
+kept_cut wide =
+    of_width wide
+    (each (FrontOf (Leaf AtomC)) (FrontOf (Leaf AtomE)) (FrontOf (Leaf AtomD)) (FrontOf (Leaf AtomF))
+    (FrontOf (Leaf AtomR)))
 
 -- lanes ys stand for the fronts of the hull in lanes xs at a value
 abbrev pub IsFrontOf : Cut → ℕ → List ℤ → ℤ → List ℤ → Type 0
@@ -20,15 +41,75 @@ IsFrontOf k n xs v ys = IsPacked n ys × (unpacked ys ≡ front_hull k (unpacked
 abbrev pub IsClosingOf : Cut → ℕ → List ℤ → ℤ → List ℤ → Type 0
 IsClosingOf k n xs w ys = IsPacked n ys × (unpacked ys ≡ closed_hull k (unpacked xs) w)
 
--- the ends of the first three registers are replaced
-abbrev pub replaced_all : {X : Type 0} → (X → ℕ → Ends → X) → X → Ends → Ends → Ends → X
-replaced_all replaced h c d r = replaced (replaced (replaced h 0 c) 1 d) 2 r
+-- the ends of all registers are replaced
+abbrev pub replaced_all : {X : Type 0} → (X → Name → Ends → X) → X → (Name → Ends) → X
+replaced_all replaced h e =
+    replaced (replaced (replaced (replaced (replaced h C (e C)) E (e E)) D (e D)) F (e F)) R (e R)
+
+-- the same of n lanes
+abbrev pub with_all : ℕ → List ℤ → (Name → Ends) → List ℤ
+with_all n xs e =
+    with_ends_in
+    (with_ends_in
+    (with_ends_in (with_ends_in (with_ends_in xs (place n C) (e C)) (place n E) (e E)) (place n D) (e D))
+    (place n F) (e F))
+    (place n R) (e R)
+
+-- the ends of a register for which narrow hulls have no lanes, and of all registers
+abbrev pub beside : Bool → Ends → Ends
+beside wide e = if wide then e else number_ends (pos 0)
+
+abbrev pub ends_by : Bool → Ends → Ends → Ends → Ends → Ends → Name → Ends
+ends_by wide c e d f r C = c
+ends_by wide c e d f r E = beside wide e
+ends_by wide c e d f r D = d
+ends_by wide c e d f r F = beside wide f
+ends_by wide c e d f r R = r
+
+-- what five functions make of lanes and of ends, by register
+abbrev pub fronts_by : (List ℤ → Ends) → (List ℤ → Ends) → (List ℤ → Ends) → (List ℤ → Ends) → (List ℤ → Ends) →
+    Name → List ℤ → Ends
+fronts_by c e d f r C = c
+fronts_by c e d f r E = e
+fronts_by c e d f r D = d
+fronts_by c e d f r F = f
+fronts_by c e d f r R = r
+
+abbrev pub closings_by : (Ends → Ends) → (Ends → Ends) → (Ends → Ends) → (Ends → Ends) → (Ends → Ends) → Name → Ends →
+    Ends
+closings_by c e d f r C = c
+closings_by c e d f r E = e
+closings_by c e d f r D = d
+closings_by c e d f r F = f
+closings_by c e d f r R = r
+
+-- and what five parts ask of them
+abbrev pub fits_by : (List ℤ → Type 0) → (List ℤ → Type 0) → (List ℤ → Type 0) → (List ℤ → Type 0) → (List ℤ → Type 0) →
+    Name → List ℤ → Type 0
+fits_by c e d f r C = c
+fits_by c e d f r E = e
+fits_by c e d f r D = d
+fits_by c e d f r F = f
+fits_by c e d f r R = r
+
+abbrev pub closes_by : (Ends → Type 0) → (Ends → Type 0) → (Ends → Type 0) → (Ends → Type 0) → (Ends → Type 0) → Name →
+    Ends → Type 0
+closes_by c e d f r C = c
+closes_by c e d f r E = e
+closes_by c e d f r D = d
+closes_by c e d f r F = f
+closes_by c e d f r R = r
+
+-- of a register that has a place
+abbrev pub IfPlaced : Option ℕ → Type 0 → Type 0
+IfPlaced None P = Unit {0}
+IfPlaced (Some p) P = P
 
 -- nothing, or lanes in which registers lie and that are fit for each part
-abbrev pub IsFitFor : ℕ → (List ℤ → Type 0) → (List ℤ → Type 0) → (List ℤ → Type 0) → List ℤ → Type 0
-IsFitFor n FC FD FR xs = (xs ≡ no_lanes n) ⊎ ((6 ≤ n) × AreSome n xs × FC xs × FD xs × FR xs)
+abbrev pub IsFitFor : ℕ → (Name → List ℤ → Type 0) → List ℤ → Type 0
+IsFitFor n fit xs = (xs ≡ no_lanes n) ⊎ ((6 ≤ n) × AreSome n xs × ((k : Name) → IfPlaced (place n k) (fit k xs)))
 
 -- nothing, or lanes in which registers lie that each part may close
-abbrev pub IsClosableBy : ℕ → (Ends → Type 0) → (Ends → Type 0) → (Ends → Type 0) → List ℤ → Type 0
-IsClosableBy n CC CD CR xs = (xs ≡ no_lanes n) ⊎ ((6 ≤ n) × AreSome n xs × CC (ends_at xs 0) × CD (ends_at xs 1)
-    × CR (ends_at xs 2))
+abbrev pub IsClosableBy : ℕ → (Name → Ends → Type 0) → List ℤ → Type 0
+IsClosableBy n can xs =
+    (xs ≡ no_lanes n) ⊎ ((6 ≤ n) × AreSome n xs × ((k : Name) → IfPlaced (place n k) (can k (ends_in xs (place n k)))))

@@ -1,6 +1,7 @@
 -- The laws of what lanes stand for.
-use Rattle.std.proofs.Common.{◌≡◌, ◌⊎◌, inl, inr, ℕ, zero, suc, ◌+◌, ◌*◌, ◌<◌, ◌≤◌, ◌≤ℤ◌, ◌<ℤ◌, ℤ, pos, true, cond, List, [], ◌∷◌, length, get_or, refl, sym, ap, subst, ◌∙◌, arith}
+use Rattle.std.proofs.Common.{◌≡◌, ◌⊎◌, inl, inr, ℕ, zero, suc, ◌+◌, ◌*◌, ◌<◌, ◌≤◌, ◌≤ℤ◌, ◌<ℤ◌, ℤ, pos, Bool, true, false, cond, Option, None, Some, List, [], ◌∷◌, length, get_or, refl, sym, ap, subst, ◌∙◌, arith}
 use Rattle.std.specs.Int.{int_max}
+use Rattle.std.proofs.lemmas.Bool.{leb-true}
 use Rattle.std.proofs.lemmas.Int.{ints}
 use Rattle.std.proofs.lemmas.List.{length-replicate}
 use Rattle.ts_base.proofs.Order.{le_trans, min_left, max_left as ts_max_left}
@@ -8,13 +9,15 @@ use Rattle.ts_base.specs.Numbers.{ext_le, ext_max, ext_min}
 use Rattle.ts_base.specs.declared.ext.Ext.{Ext}
 use Rattle.ts_base.specs.declared.ext.Ext.TheVariants.{NegInf, Int, PosInf}
 use Rattle.ts_base.specs.declared.span.Span.{Span}
-use Rattle.ts_base.specs.Spans.{has_some, none_span, span_hull}
+use Rattle.ts_base.specs.Spans.{has_some, none_span, one_span, span_hull}
 use Rattle.ts_hull.specs.Hulls.{none as none_hull, hull_of_both}
 use Rattle.ts_hull.proofs.HullLaws.{same_hull}
+use Rattle.ts_sweep.specs.declared.packed.Name.{Name}
+use Rattle.ts_sweep.specs.declared.packed.Name.TheVariants.{C, E, D, F, R}
 use Rattle.ts_sweep.specs.Lanes.{least, no_lanes, greater_of, AreLanes}
 use Rattle.ts_sweep.specs.LaneLaws.{lanes_neutral, lanes_commutative, lanes_idempotent}
 use Rattle.ts_sweep.specs.UpperLaws.{upper_max, lower_max}
-use Rattle.ts_sweep.specs.Packed.{upper, negated, span_of, ends, ends_span, ends_at, register_span, unpacked, AreSome, IsPacked, IsUnder, max_ends}
+use Rattle.ts_sweep.specs.Packed.{upper, negated, span_of, ends, ends_span, ends_at, register_span, is_wide, place_in, place, span_in_lanes, name_span, hull_by, unpacked, IsPlace, AreSome, IsPacked, IsUnder, max_ends}
 
 -- two lanes in which a register lies, or there is nothing in both
 abbrev pub IsPair : ℤ → ℤ → Type 0
@@ -53,8 +56,8 @@ hull_ends s t (inr p) (inl q) =
     (ap (λ e. span_with e t.hi) (min_top t.lo) ∙ sym (ap (λ b. cond b t none_span) q))
 hull_ends s t (inr p) (inr q) =
     subst (λ u. span_with (ext_min u.lo t.lo) (ext_max u.hi t.hi) ≡ span_hull u t) (sym p)
-    (subst (λ u. span_with (ext_min none_span.lo u.lo) (ext_max none_span.hi u.hi)
-    ≡ span_hull none_span u) (sym q) refl)
+    (subst (λ u. span_with (ext_min none_span.lo u.lo) (ext_max none_span.hi u.hi) ≡ span_hull none_span u)
+    (sym q) refl)
 
 none_pair : (x y : ℤ) → x ≡ least → y ≡ least → span_of x y ≡ none_span
 none_pair x y p q = ap (λ z. span_of z y) p ∙ ap (span_of least) q
@@ -118,8 +121,8 @@ pair_max x y z w (inr p) (inr q) =
 
 -- places
 
-get_greater : (xs ys : List ℤ) (k : ℕ) → k < length xs → k < length ys → get_or (greater_of xs ys) k (pos 0)
-    ≡ int_max (get_or xs k (pos 0)) (get_or ys k (pos 0))
+get_greater : (xs ys : List ℤ) (k : ℕ) → k < length xs → k < length ys →
+    get_or (greater_of xs ys) k (pos 0) ≡ int_max (get_or xs k (pos 0)) (get_or ys k (pos 0))
 unfolding greater_of
 get_greater [] ys k p q = absurd (omega (arith, p))
 get_greater (x ∷ xs) [] k p q = absurd (omega (arith, q))
@@ -143,11 +146,11 @@ least_is x h = grind (arith, ints)
 pub some_lanes_are : (n : ℕ) (xs : List ℤ) → AreSome n xs → AreLanes n xs
 some_lanes_are n xs h = (
   h.len,
-  λ k lt. (let inside : k < n = let e = h.len in omega (arith, lt, e) in
-      least_is (get_or xs k (pos 0)) (h.above k inside)),
+  λ k lt. (let inside : k < n = let e = h.len in omega (arith, lt, e) in least_is
+      (get_or xs k (pos 0)) (h.above k inside)),
 )
 
-same_ends : (a b c d : ℤ) → a ≡ b → c ≡ d → ends a c ≡ ends b d
+pub same_ends : (a b c d : ℤ) → a ≡ b → c ≡ d → ends a c ≡ ends b d
 same_ends a b c d p q = ap (λ u. ends u c) p ∙ ap (ends b) q
 
 pub greater_ends : (n : ℕ) (xs ys : List ℤ) (r : ℕ) → length xs ≡ n → length ys ≡ n → 2 * r + 1 < n →
@@ -188,10 +191,79 @@ pub none_register : (n r : ℕ) → 2 * r + 1 < n → register_span (no_lanes n)
 none_register n r lt =
     none_pair _ _ (get_none n (2 * r) (omega (arith, lt))) (get_none n (2 * r + 1) (omega (arith, lt)))
 
+-- a register by its place
+
+wide_place : (n : ℕ) (k : Name) → 10 ≤ n → IsPlace n (place_in true k)
+wide_place n C big = omega (arith, big)
+wide_place n E big = omega (arith, big)
+wide_place n D big = omega (arith, big)
+wide_place n F big = omega (arith, big)
+wide_place n R big = omega (arith, big)
+
+narrow_place : (n : ℕ) (k : Name) → 6 ≤ n → IsPlace n (place_in false k)
+narrow_place n C big = omega (arith, big)
+narrow_place n E big = omega (arith, big)
+narrow_place n D big = omega (arith, big)
+narrow_place n F big = omega (arith, big)
+narrow_place n R big = omega (arith, big)
+
+pub placed : (n : ℕ) (k : Name) → 6 ≤ n → IsPlace n (place n k)
+placed n k big = go (is_wide n) refl
+  where
+    go : (b : Bool) → is_wide n ≡ b → IsPlace n (place_in b k)
+    go true e = wide_place n k (leb-true 10 n e)
+    go false e = narrow_place n k big
+
+pub placed_by : (n : ℕ) (xs : List ℤ) (k : Name) → 6 ≤ n → length xs ≡ n → IsPlace n (place (length xs) k)
+placed_by n xs k big e = subst (λ m. IsPlace n (place m k)) (sym e) (placed n k big)
+
+-- 0 where registers lie in lanes
+abbrev at_rest : Bool → Span
+at_rest some = cond some (one_span (Int (pos 0))) none_span
+
+pub rests_at : (n : ℕ) (xs : List ℤ) → 2 * 0 + 1 < n → AreSome n xs → span_in_lanes xs None ≡ one_span (Int (pos 0))
+rests_at n xs lt h = ap at_rest (h.some 0 lt)
+
+some_at : (n : ℕ) (xs : List ℤ) (o : Option ℕ) → IsPlace n o → AreSome n xs → has_some (span_in_lanes xs o) ≡ true
+some_at n xs None lt h = ap has_some (rests_at n xs lt h)
+some_at n xs (Some p) lt h = h.some p lt
+
+none_at : (n : ℕ) (o : Option ℕ) → IsPlace n o → span_in_lanes (no_lanes n) o ≡ none_span
+none_at n None lt = ap (λ s. at_rest (has_some s)) (none_register n 0 lt)
+none_at n (Some p) lt = none_register n p lt
+
+joined_at : (n : ℕ) (xs ys : List ℤ) (o : Option ℕ) → AreSome n xs → AreSome n ys → IsPlace n o →
+    span_in_lanes (greater_of xs ys) o ≡ span_hull (span_in_lanes xs o) (span_in_lanes ys o)
+joined_at n xs ys None p q lt =
+    ap at_rest ((some_greater n xs ys p q).some 0 lt)
+    ∙ sym (ap (λ b. span_hull (at_rest b) (span_in_lanes ys None)) (p.some 0 lt)
+    ∙ ap (λ b. span_hull (at_rest true) (at_rest b)) (q.some 0 lt))
+joined_at n xs ys (Some r) p q lt = register_greater n xs ys r p q lt
+
+-- a register by its name
+
+pub name_some : (n : ℕ) (xs : List ℤ) (k : Name) → 6 ≤ n → AreSome n xs → has_some (name_span xs k) ≡ true
+name_some n xs k big h = some_at n xs (place (length xs) k) (placed_by n xs k big h.len) h
+
+name_none : (n : ℕ) (k : Name) → 6 ≤ n → name_span (no_lanes n) k ≡ none_span
+name_none n k big =
+    none_at n (place (length (no_lanes n)) k) (placed_by n (no_lanes n) k big (length-replicate n least))
+
+name_joined : (n : ℕ) (xs ys : List ℤ) (k : Name) → 6 ≤ n → AreSome n xs → AreSome n ys →
+    name_span (greater_of xs ys) k ≡ span_hull (name_span xs k) (name_span ys k)
+name_joined n xs ys k big p q =
+    ap (λ m. span_in_lanes (greater_of xs ys) (place m k)) (some_greater n xs ys p q).len
+    ∙ joined_at n xs ys (place n k) p q (placed n k big)
+    ∙ sym (ap (λ m. span_hull (span_in_lanes xs (place m k)) (name_span ys k)) p.len
+    ∙ ap (λ m. span_hull (span_in_lanes xs (place n k)) (span_in_lanes ys (place m k))) q.len)
+
+-- what holds of each register holds of the hull
+pub same_by : (g h : Name → Span) → ((k : Name) → g k ≡ h k) → hull_by g ≡ hull_by h
+same_by g h e = same_hull (e C) (e E) (e D) (e F) (e R)
+
 pub none_unpacked : (n : ℕ) → 6 ≤ n → unpacked (no_lanes n) ≡ none_hull
-none_unpacked n h =
-    same_hull _ _ _ _ _ _ (none_register n 0 (omega (arith, h))) (none_register n 1 (omega (arith, h)))
-    (none_register n 2 (omega (arith, h)))
+unfolding unpacked
+none_unpacked n big = same_by (name_span (no_lanes n)) (λ k. none_span) (λ k. name_none n k big)
 
 -- beside none
 hull_none : (s : Span) → has_some s ≡ true → span_hull s none_span ≡ s
@@ -201,36 +273,34 @@ none_hull_of : (s : Span) → has_some s ≡ true → span_hull none_span s ≡ 
 none_hull_of s h = ap (λ b. cond b s none_span) h
 
 hulls_none : (n : ℕ) (xs : List ℤ) → 6 ≤ n → AreSome n xs → hull_of_both (unpacked xs) none_hull ≡ unpacked xs
-unfolding hull_of_both
+unfolding hull_of_both unpacked
 hulls_none n xs big h =
-    same_hull _ _ _ _ _ _ (hull_none (register_span xs 0) (h.some 0 (omega (arith, big))))
-    (hull_none (register_span xs 1) (h.some 1 (omega (arith, big))))
-    (hull_none (register_span xs 2) (h.some 2 (omega (arith, big))))
+    same_by (λ k. span_hull (name_span xs k) none_span) (name_span xs)
+    (λ k. hull_none (name_span xs k) (name_some n xs k big h))
 
 none_hulls : (n : ℕ) (xs : List ℤ) → 6 ≤ n → AreSome n xs → hull_of_both none_hull (unpacked xs) ≡ unpacked xs
-unfolding hull_of_both
+unfolding hull_of_both unpacked
 none_hulls n xs big h =
-    same_hull _ _ _ _ _ _ (none_hull_of (register_span xs 0) (h.some 0 (omega (arith, big))))
-    (none_hull_of (register_span xs 1) (h.some 1 (omega (arith, big))))
-    (none_hull_of (register_span xs 2) (h.some 2 (omega (arith, big))))
+    same_by (λ k. span_hull none_span (name_span xs k)) (name_span xs)
+    (λ k. none_hull_of (name_span xs k) (name_some n xs k big h))
 
 none_both : hull_of_both none_hull none_hull ≡ none_hull
 unfolding hull_of_both
 none_both = refl
 
-pub packed_takes_none : (n : ℕ) (xs : List ℤ) → 6 ≤ n → IsPacked n xs →
-    hull_of_both (unpacked xs) none_hull ≡ unpacked xs
+pub packed_takes_none : (n : ℕ) (xs : List ℤ) → 6 ≤ n → IsPacked n xs → hull_of_both (unpacked xs) none_hull
+    ≡ unpacked xs
 packed_takes_none n xs big (inl e) =
     subst (λ zs. hull_of_both (unpacked zs) none_hull ≡ unpacked zs) (sym e)
     (ap (λ h. hull_of_both h none_hull) (none_unpacked n big) ∙ none_both ∙ sym (none_unpacked n big))
 packed_takes_none n xs big (inr h) = hulls_none n xs big h
 
 pub joined_packed : (n : ℕ) (xs ys : List ℤ) → IsPacked n xs → IsPacked n ys → IsPacked n (greater_of xs ys)
-joined_packed n xs ys (inl e) (inl f) = inl (ap (λ zs. greater_of zs ys) e ∙ ap (greater_of (no_lanes n)) f
-    ∙ lanes_idempotent (no_lanes n))
+joined_packed n xs ys (inl e) (inl f) =
+    inl (ap (λ zs. greater_of zs ys) e ∙ ap (greater_of (no_lanes n)) f ∙ lanes_idempotent (no_lanes n))
 joined_packed n xs ys (inl e) (inr q) =
-    inr (subst (λ zs. AreSome n zs) (sym (ap (λ zs. greater_of zs ys) e
-    ∙ lanes_neutral n ys (some_lanes_are n ys q))) q)
+    inr (subst (λ zs. AreSome n zs) (sym (ap (λ zs. greater_of zs ys) e ∙ lanes_neutral n ys (some_lanes_are n ys q)))
+    q)
 joined_packed n xs ys (inr p) (inl f) =
     inr (subst (λ zs. AreSome n zs) (sym (lanes_commutative xs ys ∙ ap (λ zs. greater_of zs xs) f
     ∙ lanes_neutral n xs (some_lanes_are n xs p))) p)
@@ -246,14 +316,20 @@ packed_length n xs (inl e) = ap length e ∙ length-replicate n least
 packed_length n xs (inr h) = h.len
 
 -- the join stands for the hull of both
-pub joined_is : (n : ℕ) (xs ys : List ℤ) → 6 ≤ n → IsPacked n xs → IsPacked n ys → unpacked (greater_of xs ys)
-    ≡ hull_of_both (unpacked xs) (unpacked ys)
-unfolding hull_of_both
+both_joined : (n : ℕ) (xs ys : List ℤ) → 6 ≤ n → AreSome n xs → AreSome n ys →
+    unpacked (greater_of xs ys) ≡ hull_of_both (unpacked xs) (unpacked ys)
+unfolding hull_of_both unpacked
+both_joined n xs ys big p q =
+    same_by (name_span (greater_of xs ys)) (λ k. span_hull (name_span xs k) (name_span ys k))
+    (λ k. name_joined n xs ys k big p q)
+
+pub joined_is : (n : ℕ) (xs ys : List ℤ) → 6 ≤ n → IsPacked n xs → IsPacked n ys →
+    unpacked (greater_of xs ys) ≡ hull_of_both (unpacked xs) (unpacked ys)
 joined_is n xs ys big (inl e) (inl f) =
     ap (λ zs. unpacked (greater_of zs ys)) e ∙ ap (λ zs. unpacked (greater_of (no_lanes n) zs)) f
     ∙ ap unpacked (lanes_idempotent (no_lanes n))
-    ∙ none_unpacked n big ∙ sym none_both
-    ∙ sym (ap (λ h. hull_of_both h none_hull) (ap unpacked e ∙ none_unpacked n big))
+    ∙ none_unpacked n big ∙ sym none_both ∙ sym (ap (λ h. hull_of_both h none_hull) (ap unpacked e
+    ∙ none_unpacked n big))
     ∙ sym (ap (hull_of_both (unpacked xs)) (ap unpacked f ∙ none_unpacked n big))
 joined_is n xs ys big (inl e) (inr q) =
     ap (λ zs. unpacked (greater_of zs ys)) e ∙ ap unpacked (lanes_neutral n ys (some_lanes_are n ys q))
@@ -261,10 +337,7 @@ joined_is n xs ys big (inl e) (inr q) =
 joined_is n xs ys big (inr p) (inl f) =
     ap unpacked (lanes_commutative xs ys ∙ ap (λ zs. greater_of zs xs) f ∙ lanes_neutral n xs (some_lanes_are n xs p))
     ∙ sym (hulls_none n xs big p) ∙ sym (ap (hull_of_both (unpacked xs)) (ap unpacked f ∙ none_unpacked n big))
-joined_is n xs ys big (inr p) (inr q) =
-    same_hull _ _ _ _ _ _ (register_greater n xs ys 0 p q (omega (arith, big)))
-    (register_greater n xs ys 1 p q (omega (arith, big)))
-    (register_greater n xs ys 2 p q (omega (arith, big)))
+joined_is n xs ys big (inr p) (inr q) = both_joined n xs ys big p q
 
 -- lanes that change nothing where they are joined to a cover are under it
 

@@ -15,8 +15,5 @@ beside_itself state states count row = record { len = refl; same = λ p apart. r
 pub beside_both : (state states count : ℕ) (a b d : List Hull) → AreBeside state states count a b →
     AreBeside state states count b d →
     AreBeside state states count a d
-beside_both state states count a b d p q = record {
-  len = q.len ∙ p.len;
-  same = λ i apart. q.same i apart
-      ∙ p.same i apart;
-}
+beside_both state states count a b d p q =
+    record { len = q.len ∙ p.len; same = λ i apart. q.same i apart ∙ p.same i apart }

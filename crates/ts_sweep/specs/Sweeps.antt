@@ -40,8 +40,8 @@ met_hull both none l twin front hulls value w =
     total both none (λ i. compares l twin (value i) w) (λ i. front (get_or hulls i none) (value i)) (length hulls)
 
 -- each item of a column has taken in what there is for its place (an item that stays as it is with nothing, as all do)
-pub record IsTakenIn {X Y : Type 0} (taking : Y → X → Y) (none : X) (blank : Y) (h : ℕ →
-    X) (old new : List Y) : Type 0 where
+pub record IsTakenIn {X Y : Type 0} (taking : Y → X → Y) (none : X) (blank : Y) (h : ℕ → X)
+    (old new : List Y) : Type 0 where
   pub len : length new ≡ length old
   pub each : (j : ℕ) → j < length old → taking (get_or old j blank) none ≡ get_or old j blank →
       get_or new j blank ≡ taking (get_or old j blank) (h j)
@@ -63,8 +63,8 @@ Leads up twin value n next_value m ahead behind =
     ≡ nat_lt (i + behind) (k + ahead)
 
 -- so far those of the m items have taken in what there is for their steps whose step is before step t
-pub record IsSteppedTo {X Y : Type 0} (taking : Y → X → Y) (none : X) (blank : Y) (up : Bool) (h : ℕ →
-    X) (m ahead behind t : ℕ) (old new : List Y) : Type 0 where
+pub record IsSteppedTo {X Y : Type 0} (taking : Y → X → Y) (none : X) (blank : Y) (up : Bool) (h : ℕ → X)
+    (m ahead behind t : ℕ) (old new : List Y) : Type 0 where
   pub len : length new ≡ length old
   pub done : (k : ℕ) → k < m → k + ahead < t + behind → taking (get_or old (place up m k) blank) none
       ≡ get_or old (place up m k) blank →

@@ -6,16 +6,18 @@ use Rattle.ts_base.specs.declared.ext.Ext.TheVariants.{Int}
 use Rattle.ts_base.specs.declared.span.Span.{Span}
 use Rattle.ts_base.specs.Spans.{one_span}
 use Rattle.ts_base.specs.declared.op.Op.{Op}
+use Rattle.ts_automaton.specs.declared.expr.Operator.{Operator}
+use Rattle.ts_automaton.specs.declared.expr.Operator.TheVariants.{Fold}
 use Rattle.ts_automaton.specs.Registers.{ext_op}
-use Rattle.ts_hull.specs.Sealed.{by_ends}
+use Rattle.ts_hull.specs.Sealed.{by_ends, sealed_op}
 use Rattle.ts_sweep.specs.declared.packed.Ends.{Ends}
 use Rattle.ts_sweep.specs.Small.{IsSmall}
 use Rattle.ts_sweep.specs.Packed.{ends, IsPackOf, IsWithin, AreWithin, max_ends}
 use Rattle.ts_sweep.specs.FrontLaws.{small_number, number_packs, number_within}
 
 max_same : (i : ℕ) (x y : ℤ) → IsWithin i x → IsWithin i y → IsWithin i (int_max x y)
-max_same i x y h k = let a = h.0 in let b = h.1 in let c = k.0 in let d =
-    k.1 in (grind (arith, ints), grind (arith, ints))
+max_same i x y h k =
+    let a = h.0 in let b = h.1 in let c = k.0 in let d = k.1 in (grind (arith, ints), grind (arith, ints))
 
 pub tail_both : (a b : Ends) → AreWithin 9 a → AreWithin 9 b → AreWithin 9 (max_ends a b)
 tail_both a b p q = (max_same 9 a.below b.below p.0 q.0, max_same 9 a.above b.above p.1 q.1)
@@ -34,12 +36,14 @@ pub tail_loose : (adds : Bool) (F : Bool → Type 0) → (F true → F false) �
 tail_loose true F l h = l h
 tail_loose false F l h = h
 
-pub tail_packs : (adds : Bool) (joined : Ends → Ends → Ends) (op : Op) (e : Ends) (s : Span) (y : ℤ) →
-    ((i j : ℕ) (a b : Ends) (s t : Span) → i + j ≤ 10 → (adds ≡ true → AreWithin i a × AreWithin j b) →
-    IsPackOf a s → IsPackOf b t →
-    IsPackOf (joined a b) (by_ends (ext_op op) s t)) → IsPackOf e s → (adds ≡ true → AreWithin 9 e) → IsSmall y →
-    IsPackOf (joined e (ends (neg_ℤ y) y)) (by_ends (ext_op op) s (one_span (Int y)))
-tail_packs adds joined op e s y packs p h small =
-    packs 9 1 e (ends (neg_ℤ y) y) s (one_span (Int y)) (omega arith)
+pub tail_packs : (adds : Bool) (joined : Ends → Ends → Ends) (op : Operator) (fold : Op) (e : Ends) (s : Span) (y : ℤ) →
+    op ≡ Fold fold →
+    ((i j : ℕ) (a b : Ends) (s t : Span) → i + j ≤ 10 → (adds ≡ true → AreWithin i a × AreWithin j b) → IsPackOf a s →
+    IsPackOf b t →
+    IsPackOf (joined a b) (sealed_op op s t)) → IsPackOf e s → (adds ≡ true → AreWithin 9 e) → IsSmall y →
+    IsPackOf (joined e (ends (neg_ℤ y) y)) (by_ends (ext_op fold) s (one_span (Int y)))
+tail_packs adds joined op fold e s y is packs p h small =
+    subst (λ o. IsPackOf (joined e (ends (neg_ℤ y) y)) (sealed_op o s (one_span (Int y)))) is
+    (packs 9 1 e (ends (neg_ℤ y) y) s (one_span (Int y)) (omega arith)
     (λ added. (h added, number_within y (small_number y small))) p
-    (number_packs y (small_number y small))
+    (number_packs y (small_number y small)))

@@ -1,5 +1,5 @@
 -- The laws of expressions that are known only when the program runs.
-use Rattle.std.proofs.Common.{◌≡◌, ℕ, ◌+◌, ◌≤◌, ◌<ℤ◌, ◌+ℤ◌, ℤ, pos, negsuc, neg_ℤ, true, List, refl, sym, ap, subst, ◌∙◌, arith}
+use Rattle.std.proofs.Common.{◌≡◌, ℕ, ◌+◌, ◌≤◌, ◌<ℤ◌, ◌+ℤ◌, ℤ, pos, negsuc, neg_ℤ, List, refl, sym, ap, subst, ◌∙◌, arith}
 use Rattle.std.proofs.lemmas.Int.{ints, clamps}
 use Rattle.ts_base.specs.Numbers.{ext_plus, clamp}
 use Rattle.ts_base.specs.declared.ext.Ext.{Ext}
@@ -7,22 +7,26 @@ use Rattle.ts_base.specs.declared.ext.Ext.TheVariants.{NegInf, Int, PosInf}
 use Rattle.ts_base.specs.declared.span.Span.{Span}
 use Rattle.ts_base.specs.Spans.{has_some}
 use Rattle.ts_automaton.specs.declared.expr.Atom.{Atom}
-use Rattle.ts_automaton.specs.declared.expr.Atom.TheVariants.{C, D, R, This, Next, Zero, Unit as UnitAtom, NegInf as LowAtom, PosInf as HighAtom}
+use Rattle.ts_automaton.specs.declared.expr.Atom.TheVariants.{C, E, D, F, R, This, Next, Zero, Unit as UnitAtom, NegInf as LowAtom, PosInf as HighAtom}
+use Rattle.ts_automaton.specs.declared.expr.Operator.{Operator}
+use Rattle.ts_automaton.specs.declared.expr.Operator.TheVariants.{Fold, Sub}
 use Rattle.ts_base.specs.declared.op.Op.{Op}
 use Rattle.ts_base.specs.declared.op.Op.TheVariants.{Add, Max, Min}
 use Rattle.ts_automaton.specs.Formula.{Formula, Leaf, Join}
 use Rattle.ts_automaton.specs.Registers.{ext_op}
 use Rattle.ts_automaton.proofs.KindLaws.{op_mono}
-use Rattle.ts_hull.specs.Sealed.{by_ends, span_in}
+use Rattle.ts_hull.specs.Sealed.{by_ends, sealed_op, span_in}
 use Rattle.ts_hull.proofs.SpanHulls.{lifted_both, lifted_some}
 use Rattle.ts_sweep.specs.declared.packed.Ends.{Ends}
+use Rattle.ts_sweep.specs.declared.packed.Name.TheVariants.{C as NameC, E as NameE, D as NameD, F as NameF, R as NameR}
 use Rattle.ts_sweep.specs.Small.{IsSmall}
 use Rattle.ts_sweep.specs.Lanes.{least}
 use Rattle.ts_sweep.specs.Packed.{upper, negated, ends_span, unpacked, AreSome, IsPackOf, IsWithin, AreWithin}
+use Rattle.ts_sweep.specs.Operators.{crossed}
 use Rattle.ts_sweep.specs.UpperLaws.{upper_mid}
-use Rattle.ts_sweep.specs.OperatorLaws.{upper_within, greater_packs, greater_within, lesser_packs, lesser_within}
-use Rattle.ts_sweep.specs.FrontLaws.{some_ends, number_packs, small_number, one_is_small, zero_is_small, low_packs, high_packs}
-use Rattle.ts_sweep.specs.Trees.{lane_of, sum_above, sum_below, joined_by, word_ends, tree_value}
+use Rattle.ts_sweep.specs.OperatorLaws.{upper_within, some_of, crossed_packs, negated_span, less_is_sum, greater_packs, greater_within, lesser_packs, lesser_within}
+use Rattle.ts_sweep.specs.FrontLaws.{register_packs, number_packs, small_number, one_is_small, zero_is_small, low_packs, high_packs}
+use Rattle.ts_sweep.specs.Trees.{lane_of, sum_above, sum_below, folded_by, joined_by, word_ends, tree_value}
 
 abbrev pub span_from : Ext → Ext → Span
 span_from lo hi = record { lo = lo; hi = hi }
@@ -90,13 +94,10 @@ lane_below PosInf NegInf = high_above
 lane_below PosInf (Int y) = low_above
 lane_below PosInf PosInf = low_above
 
-some_of : (a : Ends) (s : Span) → IsPackOf a s → has_some s ≡ true
-some_of a s p = ap has_some (sym p.span) ∙ p.some.some
-
 clamped_packs : (a b : Ends) (s t : Span) → IsPackOf a s → IsPackOf b t →
-    IsPackOf (joined_by Add a b) (by_ends (ext_op Add) s t)
+    IsPackOf (folded_by Add a b) (by_ends (ext_op Add) s t)
 clamped_packs a b s t p q =
-    let is : ends_span (joined_by Add a b) ≡ by_ends (ext_op Add) s t =
+    let is : ends_span (folded_by Add a b) ≡ by_ends (ext_op Add) s t =
     both_ends _ _ _ _ (lane_plus_low (negated (upper a.below)) (negated (upper b.below)))
     (lane_plus (upper a.above) (upper b.above))
     ∙ sym (lifted_both (ext_op Add) s t (some_of a s p) (some_of b t q)
@@ -112,17 +113,26 @@ clamped_packs a b s t p q =
     }
 
 pub any_packs : (o : Op) (a b : Ends) (s t : Span) → IsPackOf a s → IsPackOf b t →
-    IsPackOf (joined_by o a b) (by_ends (ext_op o) s t)
+    IsPackOf (folded_by o a b) (by_ends (ext_op o) s t)
 any_packs Add a b s t p q = clamped_packs a b s t p q
 any_packs Max a b s t p q = greater_packs a b s t p q
 any_packs Min a b s t p q = lesser_packs a b s t p q
 
+joined_packs : (o : Operator) (a b : Ends) (s t : Span) → IsPackOf a s → IsPackOf b t →
+    IsPackOf (joined_by o a b) (sealed_op o s t)
+joined_packs (Fold o) a b s t p q = any_packs o a b s t p q
+joined_packs Sub a b s t p q =
+    subst (IsPackOf (folded_by Add a (crossed b))) (sym (less_is_sum s t (some_of a s p) (some_of b t q)))
+    (clamped_packs a (crossed b) s (negated_span t) p (crossed_packs b t q))
+
 -- the word of a register, a number or an infinity
 word_packs : (w : Atom) (n : ℕ) (xs : List ℤ) (x y : ℤ) → 6 ≤ n → AreSome n xs → IsSmall x → IsSmall y →
     IsPackOf (word_ends w xs x y) (span_in (Leaf w) (unpacked xs) x y)
-word_packs C n xs x y big h small next = record { some = some_ends n 0 xs (omega (arith, big)) h; span = refl }
-word_packs D n xs x y big h small next = record { some = some_ends n 1 xs (omega (arith, big)) h; span = refl }
-word_packs R n xs x y big h small next = record { some = some_ends n 2 xs (omega (arith, big)) h; span = refl }
+word_packs C n xs x y big h small next = register_packs n NameC xs x y big h
+word_packs E n xs x y big h small next = register_packs n NameE xs x y big h
+word_packs D n xs x y big h small next = register_packs n NameD xs x y big h
+word_packs F n xs x y big h small next = register_packs n NameF xs x y big h
+word_packs R n xs x y big h small next = register_packs n NameR xs x y big h
 word_packs This n xs x y big h small next = number_packs x (small_number x small)
 word_packs Next n xs x y big h small next = number_packs y (small_number y next)
 word_packs Zero n xs x y big h small next = number_packs (pos 0) zero_is_small
@@ -134,7 +144,7 @@ pub tree_packs : (f : Formula) (n : ℕ) (xs : List ℤ) (x y : ℤ) → 6 ≤ n
     IsPackOf (tree_value f xs x y) (span_in f (unpacked xs) x y)
 tree_packs (Leaf w) n xs x y big h small next = word_packs w n xs x y big h small next
 tree_packs (Join o f g) n xs x y big h small next =
-    any_packs o _ _ _ _ (tree_packs f n xs x y big h small next) (tree_packs g n xs x y big h small next)
+    joined_packs o _ _ _ _ (tree_packs f n xs x y big h small next) (tree_packs g n xs x y big h small next)
 
 -- at no next cell, as it were
 pub zero_small : IsSmall (pos 0)
@@ -171,7 +181,7 @@ below_within i j x y few h k =
     (neg_within j y k))))
 
 pub any_within : (o : Op) (i j : ℕ) (a b : Ends) → i + j ≤ 10 → AreWithin i a → AreWithin j b →
-    AreWithin (i + j) (joined_by o a b)
+    AreWithin (i + j) (folded_by o a b)
 any_within Add i j a b few p q =
     (below_within i j a.below b.below few p.0 q.0, above_within i j a.above b.above few p.1 q.1)
 any_within Max i j a b few p q = greater_within i j a b p q

@@ -4,13 +4,16 @@ use Rattle.ts_base.specs.declared.ext.Ext.{Ext}
 use Rattle.ts_base.specs.declared.ext.Ext.TheVariants.{NegInf, Int, PosInf}
 use Rattle.ts_base.specs.Numbers.{ext_plus}
 use Rattle.ts_automaton.specs.declared.expr.Atom.{Atom}
-use Rattle.ts_automaton.specs.declared.expr.Atom.TheVariants.{C, D, R, This, Next, Zero, Unit as UnitAtom, NegInf as LowAtom, PosInf as HighAtom}
+use Rattle.ts_automaton.specs.declared.expr.Atom.TheVariants.{C, E, D, F, R, This, Next, Zero, Unit as UnitAtom, NegInf as LowAtom, PosInf as HighAtom}
+use Rattle.ts_automaton.specs.declared.expr.Operator.{Operator}
+use Rattle.ts_automaton.specs.declared.expr.Operator.TheVariants.{Fold, Sub}
 use Rattle.ts_base.specs.declared.op.Op.{Op}
 use Rattle.ts_base.specs.declared.op.Op.TheVariants.{Add, Max, Min}
 use Rattle.ts_automaton.specs.Formula.{Formula, Leaf, Join}
 use Rattle.ts_sweep.specs.declared.packed.Ends.{Ends}
-use Rattle.ts_sweep.specs.Packed.{upper, negated, ends, ends_at, number_ends}
-use Rattle.ts_sweep.specs.Operators.{greater_of_ends, lesser_of_ends}
+use Rattle.ts_sweep.specs.declared.packed.Name.TheVariants.{C as NameC, E as NameE, D as NameD, F as NameF, R as NameR}
+use Rattle.ts_sweep.specs.Packed.{upper, negated, ends, name_ends, number_ends}
+use Rattle.ts_sweep.specs.Operators.{crossed, greater_of_ends, lesser_of_ends}
 
 -- a number or infinity as a lane
 abbrev pub lane_of : Ext → ℤ
@@ -25,16 +28,22 @@ sum_above x y = lane_of (ext_plus (upper x) (upper y))
 abbrev pub sum_below : ℤ → ℤ → ℤ
 sum_below x y = lane_of (negated (ext_plus (negated (upper x)) (negated (upper y))))
 
-abbrev pub joined_by : Op → Ends → Ends → Ends
-joined_by Add a b = ends (sum_below a.below b.below) (sum_above a.above b.above)
-joined_by Max a b = greater_of_ends a b
-joined_by Min a b = lesser_of_ends a b
+abbrev pub folded_by : Op → Ends → Ends → Ends
+folded_by Add a b = ends (sum_below a.below b.below) (sum_above a.above b.above)
+folded_by Max a b = greater_of_ends a b
+folded_by Min a b = lesser_of_ends a b
+
+abbrev pub joined_by : Operator → Ends → Ends → Ends
+joined_by (Fold o) a b = folded_by o a b
+joined_by Sub a b = folded_by Add a (crossed b)
 
 -- the ends of a word, at the cell x and the next cell y
 abbrev pub word_ends : Atom → List ℤ → ℤ → ℤ → Ends
-word_ends C xs x y = ends_at xs 0
-word_ends D xs x y = ends_at xs 1
-word_ends R xs x y = ends_at xs 2
+word_ends C xs x y = name_ends xs NameC
+word_ends E xs x y = name_ends xs NameE
+word_ends D xs x y = name_ends xs NameD
+word_ends F xs x y = name_ends xs NameF
+word_ends R xs x y = name_ends xs NameR
 word_ends This xs x y = number_ends x
 word_ends Next xs x y = number_ends y
 word_ends Zero xs x y = number_ends (pos 0)

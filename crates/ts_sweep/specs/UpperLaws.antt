@@ -68,11 +68,11 @@ upper_mono x y h = elim (low_or_not x) [
 ]
 
 -- the same of lower ends
-negated_mono : (a b : Ext) → ext_le a b ≡ true → ext_le (negated b) (negated a) ≡ true
+pub negated_mono : (a b : Ext) → ext_le a b ≡ true → ext_le (negated b) (negated a) ≡ true
 negated_mono NegInf b h = top_of (negated b)
 negated_mono (Int x) NegInf h = cc
-negated_mono (Int x) (Int y) h = let le : x ≤ℤ y = grind (arith, ints) in
-    le_true (neg_ℤ y) (neg_ℤ x) (omega (arith, ints, le))
+negated_mono (Int x) (Int y) h =
+    let le : x ≤ℤ y = grind (arith, ints) in le_true (neg_ℤ y) (neg_ℤ x) (omega (arith, ints, le))
 negated_mono (Int x) PosInf h = refl
 negated_mono PosInf NegInf h = cc
 negated_mono PosInf (Int y) h = cc

@@ -2,13 +2,14 @@
 
 ghost use Rattle.std.specs.Prelude.{◌≡◌, ◌≤◌};
 ghost use Rattle.ts_automaton.specs.Formula.{Join, formula};
+ghost use Rattle.ts_automaton.specs.declared.expr.Operator.TheVariants.{Fold, Sub};
 ghost use Rattle.ts_hull.specs.Splits.{is_double, is_front, is_next, operands, split_formula, tail_of};
 ghost use Rattle.ts_sweep.specs.AnyParts.{split_by};
 ghost use Rattle.ts_sweep.specs.Small.{IsSmall};
 
 use crate::packed::{Ends, Packed, number};
 use crate::part::Part;
-use crate::tree::{joined_ends, tree_ends};
+use crate::tree::{folded_ends, tree_ends};
 use ts_automaton::{Expr, Op};
 
 /// An expression that doesn't read the next cell; an operator over one that doesn't and the next cell; or an operator
@@ -26,7 +27,9 @@ pub fn is_front(e: &Expr) -> bool
 {
     match e {
         Expr::Next => false,
-        Expr::Add(a, b) | Expr::Max(a, b) | Expr::Min(a, b) => is_front(a) && is_front(b),
+        Expr::Add(a, b) | Expr::Sub(a, b) | Expr::Max(a, b) | Expr::Min(a, b) => {
+            is_front(a) && is_front(b)
+        }
         _ => true,
     }
 }
@@ -46,7 +49,7 @@ fn operands(e: &Expr) -> u8
     ensures { result ≡ operands (formula e.now) }
 {
     match e {
-        Expr::Add(a, b) | Expr::Max(a, b) | Expr::Min(a, b) => {
+        Expr::Add(a, b) | Expr::Sub(a, b) | Expr::Max(a, b) | Expr::Min(a, b) => {
             operands(a).saturating_add(operands(b))
         }
         _ => 1,
@@ -68,7 +71,7 @@ fn is_double(o: Op, p: Op, e: &Expr, f: &Expr, r: &Expr) -> bool
 
 /// The part that `o e (p f r)` is.
 fn double_part<'a>(o: Op, p: Op, e: &'a Expr, f: &'a Expr, r: &Expr) -> Option<AnyPart<'a>>
-    ensures { split_by result ≡ tail_of o (formula e.now) (Join p (formula f.now) (formula r.now)) }
+    ensures { split_by result ≡ tail_of o (formula e.now) (Join (Fold p) (formula f.now) (formula r.now)) }
 {
     if is_double(o, p, e, f, r) {
         Some(AnyPart::Double(o, e, f))
@@ -98,13 +101,25 @@ fn tail_part<'a>(o: Op, a: &'a Expr, b: &'a Expr) -> Option<AnyPart<'a>>
 
 /// The part that an operator over two expressions is.
 fn joined_part<'a>(whole: &'a Expr, o: Op, a: &'a Expr, b: &'a Expr) -> Option<AnyPart<'a>>
-    requires { formula whole.now ≡ Join o (formula a.now) (formula b.now) }
-    ensures { split_by result ≡ split_formula (Join o (formula a.now) (formula b.now)) }
+    requires { formula whole.now ≡ Join (Fold o) (formula a.now) (formula b.now) }
+    ensures { split_by result ≡ split_formula (Join (Fold o) (formula a.now) (formula b.now)) }
 {
     if is_front(a) && is_front(b) {
         Some(AnyPart::Front(whole))
     } else {
         tail_part(o, a, b)
+    }
+}
+
+/// The part that a difference is: the next cell may not come in by it.
+fn less_part<'a>(whole: &'a Expr, a: &Expr, b: &Expr) -> Option<AnyPart<'a>>
+    requires { formula whole.now ≡ Join Sub (formula a.now) (formula b.now) }
+    ensures { split_by result ≡ split_formula (Join Sub (formula a.now) (formula b.now)) }
+{
+    if is_front(a) && is_front(b) {
+        Some(AnyPart::Front(whole))
+    } else {
+        None
     }
 }
 
@@ -116,6 +131,7 @@ impl<'a> AnyPart<'a> {
         match e {
             Expr::Next => None,
             Expr::Add(a, b) => joined_part(e, Op::Add, a, b),
+            Expr::Sub(a, b) => less_part(e, a, b),
             Expr::Max(a, b) => joined_part(e, Op::Max, a, b),
             Expr::Min(a, b) => joined_part(e, Op::Min, a, b),
             _ => Some(AnyPart::Front(e)),
@@ -168,7 +184,7 @@ impl<'a> Part for AnyPart<'a> {
     fn begun<H: Packed>(self, h: H, x: i64) -> Ends {
         match self {
             AnyPart::Front(e) | AnyPart::Tail(_, e) => tree_ends::<H>(e, h, x, 0),
-            AnyPart::Double(o, e, f) => joined_ends(
+            AnyPart::Double(o, e, f) => folded_ends(
                 o,
                 tree_ends::<H>(e, h, x, 0),
                 tree_ends::<H>(f, h, x, 0),
@@ -180,7 +196,7 @@ impl<'a> Part for AnyPart<'a> {
     fn closed(self, e: Ends, y: i64) -> Ends {
         match self {
             AnyPart::Front(_) => e,
-            AnyPart::Tail(o, _) | AnyPart::Double(o, _, _) => joined_ends(o, e, number(y)),
+            AnyPart::Tail(o, _) | AnyPart::Double(o, _, _) => folded_ends(o, e, number(y)),
         }
     }
 }

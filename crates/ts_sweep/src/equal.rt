@@ -24,8 +24,8 @@ fn closed_from<H: Hull, F: Fronts<H>, V: Values, C: Column<H>>(
     requires same { length (C.column from before.now) ≡ V.len values }
     requires fit { (i : ℕ) → i < V.len values → F.fit by (get_or (C.hulls from before.now) i H.none) }
     requires inside { i < V.len values }
-    ensures { result ≡ F.closing by (H.both H.none (F.front by (get_or (C.hulls from before.now) i H.none)
-        (V.value values i))) (V.value values i) }
+    ensures { result ≡ F.closing by (H.both H.none
+        (F.front by (get_or (C.hulls from before.now) i H.none) (V.value values i))) (V.value values i) }
 {
     let v = values.at(i);
     let front = taken_from::<H, F, V, C>(by, values, from, before, i, H::nothing());

@@ -1,14 +1,14 @@
 //! Expressions that don't read the next cell, as types: a word is a type of its own, and an operator over two
-//! expressions is `Join`. So `add C add D x` is `Join<Plus, Register<0>, Join<Plus, Register<1>, This>>`, and a sweep
+//! expressions is `Join`. So `add C add D x` is `Join<Plus, Register<0>, Join<Plus, Register<2>, This>>`, and a sweep
 //! of it is compiled with nothing left to decide.
 
-ghost use Rattle.std.specs.Prelude.{◌≡◌, ℤ, List, ◌≤◌, ◌<◌, ◌+◌, ◌*◌, true, false};
-ghost use Rattle.ts_sweep.specs.Fronts.{ArePlain};
-ghost use Rattle.ts_sweep.specs.Packed.{AreSome, AreWithin, IsUnder, ends_at};
+ghost use Rattle.std.specs.Prelude.{◌≡◌, ℤ, List, ◌≤◌, true, false};
+ghost use Rattle.ts_sweep.specs.Fronts.{ArePlain, name_of};
+ghost use Rattle.ts_sweep.specs.Packed.{AreSome, AreWithin, IsUnder, name_ends};
 ghost use Rattle.ts_sweep.specs.Small.{IsSmall};
 
 use crate::operator::Operator;
-use crate::packed::{Ends, Packed};
+use crate::packed::{Ends, Name, Packed};
 
 /// An expression that doesn't read the next cell.
 pub trait Front: Copy {
@@ -57,7 +57,7 @@ pub trait Front: Copy {
         IsPackOf (value k xs x) (span_in (formula k) (unpacked xs) x (pos 0)) };
 }
 
-/// The register at a place.
+/// A register: of the numbers from 0 to 4 those of C, E, D, F and R.
 #[derive(Clone, Copy)]
 pub struct Register<const K: usize>;
 
@@ -89,26 +89,44 @@ pub struct Join<O, A, B> {
     pub right: B,
 }
 
+/// The register of a number.
+#[inline(always)]
+fn name_of(k: usize) -> Name
+    ensures { result ≡ name_of k }
+{
+    if k == 0 {
+        Name::C
+    } else if k == 1 {
+        Name::E
+    } else if k == 2 {
+        Name::D
+    } else if k == 3 {
+        Name::F
+    } else {
+        Name::R
+    }
+}
+
 impl<const K: usize> Front for Register<K> {
-    ghost use Rattle.std.specs.Prelude.{◌≡◌, ◌≤◌, true};
+    ghost use Rattle.std.specs.Prelude.{◌≡◌, pos, true};
     ghost use Rattle.ts_automaton.specs.Formula.{Leaf};
-    ghost use Rattle.ts_sweep.specs.Packed.{ends_at, AreWithin};
-    ghost use Rattle.ts_sweep.specs.Fronts.{register_word, IsFitRegister};
+    ghost use Rattle.ts_sweep.specs.Packed.{name_ends, AreWithin};
+    ghost use Rattle.ts_sweep.specs.Fronts.{name_of, word_of, IsFitRegister};
     ghost use Rattle.ts_sweep.specs.FrontLaws.{register_looser, register_within, register_packs};
 
-    ghost formula = { λ k. Leaf (register_word K) };
+    ghost formula = { λ k. Leaf (word_of (name_of K)) };
 
     ghost words = { λ k. 1 };
 
-    ghost fit = { λ k added xs. IsFitRegister K added xs };
+    ghost fit = { λ k added xs. IsFitRegister (name_of K) added xs };
 
-    ghost value = { λ k xs x. ends_at xs K };
+    ghost value = { λ k xs x. name_ends xs (name_of K) };
 
-    ghost looser = { λ k xs h. register_looser K xs h };
+    ghost looser = { λ k xs h. register_looser (name_of K) xs h };
 
-    ghost within = { λ k xs x few h small. register_within K xs h };
+    ghost within = { λ k xs x few h small. register_within (name_of K) xs h };
 
-    ghost packs = { λ k n xs x big some h small. register_packs n K xs x big some h };
+    ghost packs = { λ k n xs x big some h small. register_packs n (name_of K) xs x (pos 0) big some };
 
     #[inline(always)]
     fn words(self) -> u8 {
@@ -117,12 +135,12 @@ impl<const K: usize> Front for Register<K> {
 
     #[inline(always)]
     fn is_fit<H: Packed>(self, added: bool, cover: H) -> bool {
-        K <= 2 && (!added || is_small_under(cover, K))
+        !added || is_small_under(cover, name_of(K))
     }
 
     #[inline(always)]
     fn ends<H: Packed>(self, h: H, _x: i64) -> Ends {
-        h.ends(K)
+        h.ends(name_of(K))
     }
 }
 
@@ -136,11 +154,10 @@ fn are_plain(e: Ends) -> bool
 
 /// Whether a register is a small number in all lanes under a cover.
 #[inline(always)]
-fn is_small_under<H: Packed>(cover: H, register: usize) -> bool
-    requires inside { 2 * register + 1 < H.count }
-    requires few { register ≤ 10 }
+fn is_small_under<H: Packed>(cover: H, register: Name) -> bool
+    requires registers { 6 ≤ H.count }
     ensures { result ≡ true → (xs : List ℤ) → AreSome H.count xs → IsUnder xs (H.lanes cover) →
-        AreWithin 1 (ends_at xs register) }
+        AreWithin 1 (name_ends xs register) }
 {
     are_plain(cover.ends(register))
 }
@@ -367,8 +384,8 @@ impl<O: Operator, A: Front, B: Front> Front for Join<O, A, B> {
 
     ghost packs = { λ k n xs x big some h small. join_packs (O.adds k.by) (O.joined k.by) (O.op k.by) (A.words k.left)
         (B.words k.right)
-        (λ b. A.fit k.left b xs) (λ b. B.fit k.right b xs) (A.value k.left xs x) (B.value k.right xs x) _
-        _ (O.packs k.by)
+        (λ b. A.fit k.left b xs) (λ b. B.fit k.right b xs) (A.value k.left xs x) (B.value k.right xs x) _ _
+        (O.packs k.by)
         (A.looser k.left xs) (B.looser k.right xs) (λ le g. A.within k.left xs x le g small)
         (λ le g. B.within k.right xs x le g small)
         (λ g. A.packs k.left n xs x big some g small) (λ g. B.packs k.right n xs x big some g small) h };

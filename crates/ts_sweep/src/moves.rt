@@ -1,10 +1,11 @@
-//! Moves as sweeps take them in: what becomes of each of the three registers, or that all are kept.
+//! Moves as sweeps take them in: what becomes of each register, or that all are kept.
 
 ghost use Rattle.std.specs.Prelude.{◌≡◌, ℤ, ◌≤◌, ◌||◌, true};
-ghost use Rattle.ts_sweep.specs.Packed.{IsPacked, IsUnder};
+ghost use Rattle.ts_sweep.specs.Moves.{beside};
+ghost use Rattle.ts_sweep.specs.Packed.{IsPacked, IsUnder, ends_in, is_wide, place};
 ghost use Rattle.ts_sweep.specs.Small.{IsSmall};
 
-use crate::packed::Packed;
+use crate::packed::{Ends, Name, Packed};
 use crate::part::Part;
 use crate::source::Fronts;
 
@@ -35,20 +36,60 @@ pub trait Moves<H: Packed>: Fronts<H> {
 #[derive(Clone, Copy)]
 pub struct Keep;
 
-/// What becomes of each register.
+/// What becomes of each register. Narrow hulls have no lanes for E and F, so what is said of these is not looked at
+/// there.
 #[derive(Clone, Copy)]
-pub struct Parts<C, D, R> {
+pub struct Parts<C, E, D, F, R> {
     pub c: C,
+    pub e: E,
     pub d: D,
+    pub f: F,
     pub r: R,
 }
 
 /// Whether the next cell stands in any part.
 #[inline(always)]
-pub(crate) fn has_tail<C: Part, D: Part, R: Part>(parts: Parts<C, D, R>) -> bool
-    ensures { result ≡ (C.tails parts.c || (D.tails parts.d || R.tails parts.r)) }
+pub(crate) fn has_tail<C: Part, E: Part, D: Part, F: Part, R: Part>(
+    parts: Parts<C, E, D, F, R>,
+) -> bool
+    ensures { result
+        ≡ (C.tails parts.c || (E.tails parts.e || (D.tails parts.d || (F.tails parts.f || R.tails parts.r)))) }
 {
-    parts.c.has_tail() || parts.d.has_tail() || parts.r.has_tail()
+    parts.c.has_tail()
+        || parts.e.has_tail()
+        || parts.d.has_tail()
+        || parts.f.has_tail()
+        || parts.r.has_tail()
+}
+
+/// The front of a register for which narrow hulls have no lanes.
+#[inline(always)]
+fn begun_beside<H: Packed, P: Part>(part: P, h: H, x: i64) -> Ends
+    requires registers { 6 ≤ H.count }
+    requires fit { is_wide H.count ≡ true → P.fit part (H.lanes h) }
+    requires small { IsSmall x }
+    ensures { result ≡ beside (is_wide H.count) (P.front part (H.lanes h) x) }
+{
+    if H::is_wide() {
+        part.begun(h, x)
+    } else {
+        Ends { below: 0, above: 0 }
+    }
+}
+
+/// What the next value makes of it.
+#[inline(always)]
+fn closed_beside<H: Packed, P: Part>(part: P, run: H, register: Name, y: i64) -> Ends
+    requires registers { 6 ≤ H.count }
+    requires closable { is_wide H.count ≡ true → P.closable part (ends_in (H.lanes run) (place H.count register)) }
+    requires small { IsSmall y }
+    ensures { result ≡ beside (is_wide H.count) (P.closing part (ends_in (H.lanes run) (place H.count register)) y) }
+{
+    if H::is_wide() {
+        part.closed(run.ends(register), y)
+    } else {
+        Ends { below: 0, above: 0 }
+    }
 }
 
 impl<H: Packed> Fronts<H> for Keep {
@@ -86,8 +127,9 @@ impl<H: Packed> Fronts<H> for Keep {
 impl<H: Packed> Moves<H> for Keep {
     ghost use Rattle.ts_sweep.specs.Moves.{kept_cut};
     ghost use Rattle.ts_sweep.specs.MoveLaws.{kept_front, kept_closing};
+    ghost use Rattle.ts_sweep.specs.Packed.{is_wide};
 
-    ghost cut = { λ k. kept_cut };
+    ghost cut = { λ k. kept_cut (is_wide H.count) };
 
     ghost front_is = { λ k h v big p small. kept_front H.count (H.lanes h) v big p };
 
@@ -99,44 +141,61 @@ impl<H: Packed> Moves<H> for Keep {
     }
 }
 
-impl<H: Packed, C: Part, D: Part, R: Part> Fronts<H> for Parts<C, D, R> {
+impl<H: Packed, C: Part, E: Part, D: Part, F: Part, R: Part> Fronts<H> for Parts<C, E, D, F, R> {
     ghost use Rattle.std.specs.Prelude.{◌||◌, cond};
     ghost use Rattle.std.proofs.Common.{inl};
+    ghost use Rattle.ts_automaton.specs.Registers.{each};
+    ghost use Rattle.ts_sweep.specs.declared.packed.Name.TheVariants.{C as NameC, E as NameE, D as NameD, F as NameF, R as NameR};
     ghost use Rattle.ts_sweep.specs.Lanes.{some_lanes};
-    ghost use Rattle.ts_sweep.specs.Packed.{ends_at};
-    ghost use Rattle.ts_sweep.specs.Moves.{IsFitFor, IsClosableBy, replaced_all};
-    ghost use Rattle.ts_sweep.specs.MoveLaws.{parts_none, parts_both, parts_front};
+    ghost use Rattle.ts_sweep.specs.Packed.{ends_in, is_wide, place};
+    ghost use Rattle.ts_sweep.specs.Moves.{IsFitFor, IsClosableBy, closes_by, ends_by, fits_by, fronts_by, replaced_all};
+    ghost use Rattle.ts_sweep.specs.MoveLaws.{by_names, parts_none, parts_both, parts_front};
 
-    ghost fit = { λ k h. IsFitFor H.count (C.fit k.c) (D.fit k.d) (R.fit k.r) (H.lanes h) };
+    ghost fit = { λ k h. IsFitFor H.count (fits_by (C.fit k.c) (E.fit k.e) (D.fit k.d) (F.fit k.f) (R.fit k.r))
+        (H.lanes h) };
 
-    ghost closable = { λ k h. IsClosableBy H.count (C.closable k.c) (D.closable k.d) (R.closable k.r) (H.lanes h) };
+    ghost closable = { λ k h. IsClosableBy H.count
+        (closes_by (C.closable k.c) (E.closable k.e) (D.closable k.d) (F.closable k.f) (R.closable k.r)) (H.lanes h) };
 
     ghost front = { λ k h v. cond (some_lanes (H.lanes h))
-        (replaced_all H.replaced h (C.front k.c (H.lanes h) v) (D.front k.d (H.lanes h) v) (R.front k.r (H.lanes h) v))
-        H.none };
+        (replaced_all H.replaced h (ends_by (is_wide H.count) (C.front k.c (H.lanes h) v) (E.front k.e (H.lanes h) v)
+        (D.front k.d (H.lanes h) v) (F.front k.f (H.lanes h) v) (R.front k.r (H.lanes h) v))) H.none };
 
-    ghost closing = { λ k h w. cond (C.tails k.c || (D.tails k.d || R.tails k.r))
+    ghost closing = { λ k h w. cond (C.tails k.c || (E.tails k.e || (D.tails k.d || (F.tails k.f || R.tails k.r))))
         (cond (some_lanes (H.lanes h))
-        (replaced_all H.replaced h (C.closing k.c (ends_at (H.lanes h) 0) w) (D.closing k.d (ends_at (H.lanes h) 1) w)
-        (R.closing k.r (ends_at (H.lanes h) 2) w)) H.none) h };
+        (replaced_all H.replaced h (ends_by (is_wide H.count)
+        (C.closing k.c (ends_in (H.lanes h) (place H.count NameC)) w)
+        (E.closing k.e (ends_in (H.lanes h) (place H.count NameE)) w)
+        (D.closing k.d (ends_in (H.lanes h) (place H.count NameD)) w)
+        (F.closing k.f (ends_in (H.lanes h) (place H.count NameF)) w)
+        (R.closing k.r (ends_in (H.lanes h) (place H.count NameR)) w)))
+        H.none) h };
 
     ghost closes_none = { λ k w. parts_none H.lanes H.count H.none H.none_lanes
-        (C.tails k.c || (D.tails k.d || R.tails k.r)) _ };
+        (C.tails k.c || (E.tails k.e || (D.tails k.d || (F.tails k.f || R.tails k.r)))) _ };
 
     ghost closable_none = { λ k. inl H.none_lanes };
 
-    ghost closable_both = { λ k a b p q. parts_both H.both H.lanes H.count H.both_lanes (C.closable k.c) (D.closable k.d) (R.closable k.r)
-        (C.closable_both k.c) (D.closable_both k.d) (R.closable_both k.r) a b p q };
+    ghost closable_both = { λ k a b p q. parts_both H.both H.lanes H.count H.both_lanes
+        (closes_by (C.closable k.c) (E.closable k.e) (D.closable k.d) (F.closable k.f) (R.closable k.r))
+        (by_names _ (C.closable_both k.c) (E.closable_both k.e) (D.closable_both k.d) (F.closable_both k.f)
+        (R.closable_both k.r)) a b p q };
 
-    ghost closable_front = { λ k h v p small. parts_front H.lanes H.replaced H.count H.none H.none_lanes H.replaced_lanes
-        (C.fit k.c) (D.fit k.d) (R.fit k.r) (C.closable k.c) (D.closable k.d) (R.closable k.r) (C.split k.c)
-        (D.split k.d) (R.split k.r)
-        (λ xs. C.front k.c xs v) (λ xs. D.front k.d xs v) (λ xs. R.front k.r xs v) v
-        (λ xs g. C.closable_front k.c xs v g small) (λ xs g. D.closable_front k.d xs v g small)
-        (λ xs g. R.closable_front k.r xs v g small)
-        (λ xs big some g. C.front_packs k.c H.count xs v big some g small)
+    ghost closable_front = { λ k h v p small. parts_front H.lanes H.replaced H.count H.none H.none_lanes
+        H.replaced_lanes
+        (fits_by (C.fit k.c) (E.fit k.e) (D.fit k.d) (F.fit k.f) (R.fit k.r))
+        (each (C.split k.c) (E.split k.e) (D.split k.d) (F.split k.f) (R.split k.r))
+        (fronts_by (λ xs. C.front k.c xs v) (λ xs. E.front k.e xs v) (λ xs. D.front k.d xs v) (λ xs. F.front k.f xs v)
+        (λ xs. R.front k.r xs v)) v
+        (by_names _ (λ xs big some g. C.front_packs k.c H.count xs v big some g small)
+        (λ xs big some g. E.front_packs k.e H.count xs v big some g small)
         (λ xs big some g. D.front_packs k.d H.count xs v big some g small)
-        (λ xs big some g. R.front_packs k.r H.count xs v big some g small) h p };
+        (λ xs big some g. F.front_packs k.f H.count xs v big some g small)
+        (λ xs big some g. R.front_packs k.r H.count xs v big some g small))
+        (closes_by (C.closable k.c) (E.closable k.e) (D.closable k.d) (F.closable k.f) (R.closable k.r))
+        (by_names _ (λ xs g. C.closable_front k.c xs v g small) (λ xs g. E.closable_front k.e xs v g small)
+        (λ xs g. D.closable_front k.d xs v g small) (λ xs g. F.closable_front k.f xs v g small)
+        (λ xs g. R.closable_front k.r xs v g small)) h p };
 
     #[inline(always)]
     fn taken(self, run: H, h: H, value: i64) -> H {
@@ -144,9 +203,17 @@ impl<H: Packed, C: Part, D: Part, R: Part> Fronts<H> for Parts<C, D, R> {
             return run;
         }
         let c = self.c.begun(h, value);
+        let e = begun_beside::<H, E>(self.e, h, value);
         let d = self.d.begun(h, value);
+        let f = begun_beside::<H, F>(self.f, h, value);
         let r = self.r.begun(h, value);
-        run.joined(h.with(0, c).with(1, d).with(2, r))
+        run.joined(
+            h.with(Name::C, c)
+                .with(Name::E, e)
+                .with(Name::D, d)
+                .with(Name::F, f)
+                .with(Name::R, r),
+        )
     }
 
     #[inline(always)]
@@ -157,38 +224,60 @@ impl<H: Packed, C: Part, D: Part, R: Part> Fronts<H> for Parts<C, D, R> {
         if !run.is_some() {
             return H::nothing();
         }
-        let c = self.c.closed(run.ends(0), next_value);
-        let d = self.d.closed(run.ends(1), next_value);
-        let r = self.r.closed(run.ends(2), next_value);
-        run.with(0, c).with(1, d).with(2, r)
+        let c = self.c.closed(run.ends(Name::C), next_value);
+        let e = closed_beside::<H, E>(self.e, run, Name::E, next_value);
+        let d = self.d.closed(run.ends(Name::D), next_value);
+        let f = closed_beside::<H, F>(self.f, run, Name::F, next_value);
+        let r = self.r.closed(run.ends(Name::R), next_value);
+        run.with(Name::C, c)
+            .with(Name::E, e)
+            .with(Name::D, d)
+            .with(Name::F, f)
+            .with(Name::R, r)
     }
 }
 
-impl<H: Packed, C: Part, D: Part, R: Part> Moves<H> for Parts<C, D, R> {
-    ghost use Rattle.std.specs.Prelude.{◌||◌};
-    ghost use Rattle.ts_sweep.specs.MoveLaws.{parts_front_is, parts_closing_is};
+impl<H: Packed, C: Part, E: Part, D: Part, F: Part, R: Part> Moves<H> for Parts<C, E, D, F, R> {
+    ghost use Rattle.ts_automaton.specs.Registers.{each};
+    ghost use Rattle.ts_sweep.specs.Packed.{is_wide};
+    ghost use Rattle.ts_sweep.specs.Moves.{closes_by, closings_by, fits_by, fronts_by, of_name, of_width};
+    ghost use Rattle.ts_sweep.specs.MoveLaws.{by_names, parts_front_is, parts_closing_is};
 
-    ghost cut = { λ k. record { c = C.split k.c; d = D.split k.d; r = R.split k.r } };
+    ghost cut = { λ k. of_width (is_wide H.count)
+        (each (C.split k.c) (E.split k.e) (D.split k.d) (F.split k.f) (R.split k.r)) };
 
     ghost front_is = { λ k h v big p small. parts_front_is H.lanes H.replaced H.count H.none H.none_lanes
         H.replaced_lanes
-        (C.fit k.c) (D.fit k.d) (R.fit k.r) (C.split k.c) (D.split k.d) (R.split k.r)
-        (λ xs. C.front k.c xs v) (λ xs. D.front k.d xs v) (λ xs. R.front k.r xs v) v
-        (λ xs big some g. C.front_packs k.c H.count xs v big some g small)
+        (fits_by (C.fit k.c) (E.fit k.e) (D.fit k.d) (F.fit k.f) (R.fit k.r))
+        (each (C.split k.c) (E.split k.e) (D.split k.d) (F.split k.f) (R.split k.r))
+        (fronts_by (λ xs. C.front k.c xs v) (λ xs. E.front k.e xs v) (λ xs. D.front k.d xs v) (λ xs. F.front k.f xs v)
+        (λ xs. R.front k.r xs v)) v
+        (by_names _ (λ xs big some g. C.front_packs k.c H.count xs v big some g small)
+        (λ xs big some g. E.front_packs k.e H.count xs v big some g small)
         (λ xs big some g. D.front_packs k.d H.count xs v big some g small)
-        (λ xs big some g. R.front_packs k.r H.count xs v big some g small) h big p };
+        (λ xs big some g. F.front_packs k.f H.count xs v big some g small)
+        (λ xs big some g. R.front_packs k.r H.count xs v big some g small)) h big p };
 
     ghost closing_is = { λ k run w big p small. parts_closing_is H.lanes H.replaced H.count H.none H.none_lanes
         H.replaced_lanes
-        (C.closable k.c) (D.closable k.d) (R.closable k.r) (C.split k.c) (D.split k.d) (R.split k.r) (C.tails k.c)
-        (D.tails k.d) (R.tails k.r)
-        (λ e. C.closing k.c e w) (λ e. D.closing k.d e w) (λ e. R.closing k.r e w) w
-        (λ e s g h. C.closing_packs k.c e s w g h small) (λ e s g h. D.closing_packs k.d e s w g h small)
-        (λ e s g h. R.closing_packs k.r e s w g h small) (λ t s. C.no_tail k.c t s w) (λ t s. D.no_tail k.d t s w)
-        (λ t s. R.no_tail k.r t s w) run big p };
+        (closes_by (C.closable k.c) (E.closable k.e) (D.closable k.d) (F.closable k.f) (R.closable k.r))
+        (each (C.split k.c) (E.split k.e) (D.split k.d) (F.split k.f) (R.split k.r))
+        (of_name (each (C.tails k.c) (E.tails k.e) (D.tails k.d) (F.tails k.f) (R.tails k.r)))
+        (closings_by (λ e. C.closing k.c e w) (λ e. E.closing k.e e w) (λ e. D.closing k.d e w) (λ e. F.closing k.f e w)
+        (λ e. R.closing k.r e w)) w
+        (by_names _ (λ e s g h. C.closing_packs k.c e s w g h small) (λ e s g h. E.closing_packs k.e e s w g h small)
+        (λ e s g h. D.closing_packs k.d e s w g h small) (λ e s g h. F.closing_packs k.f e s w g h small)
+        (λ e s g h. R.closing_packs k.r e s w g h small))
+        (by_names _ (λ t s. C.no_tail k.c t s w) (λ t s. E.no_tail k.e t s w) (λ t s. D.no_tail k.d t s w)
+        (λ t s. F.no_tail k.f t s w)
+        (λ t s. R.no_tail k.r t s w)) run big p };
 
     #[inline(always)]
     fn is_fit(self, cover: H) -> bool {
-        self.c.is_fit(cover) && self.d.is_fit(cover) && self.r.is_fit(cover)
+        self.c.is_fit(cover)
+            && self.e.is_fit(cover)
+            && self.d.is_fit(cover)
+            && self.f.is_fit(cover)
+            && self.r.is_fit(cover)
     }
 }

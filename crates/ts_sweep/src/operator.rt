@@ -1,6 +1,7 @@
 //! Operators on ends, as types.
 
 ghost use Rattle.std.specs.Prelude.{◌≡◌, true};
+ghost use Rattle.ts_sweep.specs.Operators.{crossed};
 ghost use Rattle.ts_sweep.specs.Packed.{AreWithin};
 
 use crate::packed::Ends;
@@ -9,14 +10,13 @@ use crate::packed::Ends;
 pub trait Operator: Copy {
     ghost use Rattle.std.specs.Prelude.{◌≡◌, ℕ, ◌+◌, ◌≤◌, Bool, true};
     ghost use Rattle.ts_base.specs.declared.span.Span.{Span};
-    ghost use Rattle.ts_base.specs.declared.op.Op.{Op};
-    ghost use Rattle.ts_automaton.specs.Registers.{ext_op};
-    ghost use Rattle.ts_hull.specs.Sealed.{by_ends};
+    ghost use Rattle.ts_automaton.specs.declared.expr.Operator.{Operator};
+    ghost use Rattle.ts_hull.specs.Sealed.{sealed_op};
     ghost use Rattle.ts_sweep.specs.declared.packed.Ends.{Ends};
     ghost use Rattle.ts_sweep.specs.Packed.{AreWithin, IsPackOf};
 
     /// The operator.
-    ghost op: { Self → Op };
+    ghost op: { Self → Operator };
 
     /// It adds, so its operands have to be small numbers.
     ghost adds: { Self → Bool };
@@ -36,15 +36,31 @@ pub trait Operator: Copy {
 
     ghost packs: { (k : Self) (i j : ℕ) (a b : Ends) (s t : Span) → i + j ≤ 10 →
         (adds k ≡ true → AreWithin i a × AreWithin j b) →
-        IsPackOf a s → IsPackOf b t → IsPackOf (joined k a b) (by_ends (ext_op (op k)) s t) };
+        IsPackOf a s → IsPackOf b t → IsPackOf (joined k a b) (sealed_op (op k) s t) };
 
     ghost within: { (k : Self) (i j : ℕ) (a b : Ends) → i + j ≤ 10 → AreWithin i a → AreWithin j b →
         AreWithin (i + j) (joined k a b) };
 }
 
+/// An operator that may stand before the next cell: no difference.
+pub trait Folds: Operator {
+    ghost use Rattle.std.specs.Prelude.{◌≡◌};
+    ghost use Rattle.ts_base.specs.declared.op.Op.{Op};
+    ghost use Rattle.ts_automaton.specs.declared.expr.Operator.TheVariants.{Fold};
+
+    /// The operator.
+    ghost fold: { Self → Op };
+
+    ghost folds: { (k : Self) → Self.op k ≡ Fold (fold k) };
+}
+
 /// The sum.
 #[derive(Clone, Copy)]
 pub struct Plus;
+
+/// The first less the second.
+#[derive(Clone, Copy)]
+pub struct Minus;
 
 /// The greater.
 #[derive(Clone, Copy)]
@@ -56,11 +72,12 @@ pub struct Lesser;
 
 impl Operator for Plus {
     ghost use Rattle.std.specs.Prelude.{true};
+    ghost use Rattle.ts_automaton.specs.declared.expr.Operator.TheVariants.{Fold};
     ghost use Rattle.ts_base.specs.declared.op.Op.TheVariants.{Add};
     ghost use Rattle.ts_sweep.specs.Operators.{sum_of_ends};
     ghost use Rattle.ts_sweep.specs.OperatorLaws.{sum_packs, sum_within};
 
-    ghost op = { λ k. Add };
+    ghost op = { λ k. Fold Add };
 
     ghost adds = { λ k. true };
 
@@ -84,13 +101,61 @@ impl Operator for Plus {
     }
 }
 
+impl Folds for Plus {
+    ghost use Rattle.std.proofs.Common.{refl};
+    ghost use Rattle.ts_base.specs.declared.op.Op.TheVariants.{Add};
+
+    ghost fold = { λ k. Add };
+
+    ghost folds = { λ k. refl };
+}
+
+/// Ends with lower and upper exchanged: those of the negated span.
+#[inline(always)]
+pub(crate) fn crossed(e: Ends) -> Ends
+    ensures { result ≡ crossed e }
+{
+    Ends {
+        below: e.above,
+        above: e.below,
+    }
+}
+
+impl Operator for Minus {
+    ghost use Rattle.std.specs.Prelude.{true};
+    ghost use Rattle.ts_automaton.specs.declared.expr.Operator.TheVariants.{Sub};
+    ghost use Rattle.ts_sweep.specs.Operators.{crossed, sum_of_ends};
+    ghost use Rattle.ts_sweep.specs.OperatorLaws.{less_packs, less_within};
+
+    ghost op = { λ k. Sub };
+
+    ghost adds = { λ k. true };
+
+    ghost joined = { λ k a b. sum_of_ends a (crossed b) };
+
+    ghost packs = { λ k i j a b s t few small p q. less_packs i j a b s t few small p q };
+
+    ghost within = { λ k i j a b few p q. less_within i j a b p q };
+
+    #[inline(always)]
+    fn is_sum(self) -> bool {
+        true
+    }
+
+    #[inline(always)]
+    fn of(self, a: Ends, b: Ends) -> Ends {
+        Plus.of(a, crossed(b))
+    }
+}
+
 impl Operator for Greater {
     ghost use Rattle.std.specs.Prelude.{false};
+    ghost use Rattle.ts_automaton.specs.declared.expr.Operator.TheVariants.{Fold};
     ghost use Rattle.ts_base.specs.declared.op.Op.TheVariants.{Max};
     ghost use Rattle.ts_sweep.specs.Operators.{greater_of_ends};
     ghost use Rattle.ts_sweep.specs.OperatorLaws.{greater_packs, greater_within};
 
-    ghost op = { λ k. Max };
+    ghost op = { λ k. Fold Max };
 
     ghost adds = { λ k. false };
 
@@ -114,13 +179,23 @@ impl Operator for Greater {
     }
 }
 
+impl Folds for Greater {
+    ghost use Rattle.std.proofs.Common.{refl};
+    ghost use Rattle.ts_base.specs.declared.op.Op.TheVariants.{Max};
+
+    ghost fold = { λ k. Max };
+
+    ghost folds = { λ k. refl };
+}
+
 impl Operator for Lesser {
     ghost use Rattle.std.specs.Prelude.{false};
+    ghost use Rattle.ts_automaton.specs.declared.expr.Operator.TheVariants.{Fold};
     ghost use Rattle.ts_base.specs.declared.op.Op.TheVariants.{Min};
     ghost use Rattle.ts_sweep.specs.Operators.{lesser_of_ends};
     ghost use Rattle.ts_sweep.specs.OperatorLaws.{lesser_packs, lesser_within};
 
-    ghost op = { λ k. Min };
+    ghost op = { λ k. Fold Min };
 
     ghost adds = { λ k. false };
 
@@ -142,4 +217,13 @@ impl Operator for Lesser {
             above: a.above.min(b.above),
         }
     }
+}
+
+impl Folds for Lesser {
+    ghost use Rattle.std.proofs.Common.{refl};
+    ghost use Rattle.ts_base.specs.declared.op.Op.TheVariants.{Min};
+
+    ghost fold = { λ k. Min };
+
+    ghost folds = { λ k. refl };
 }

@@ -8,12 +8,14 @@
 //!              -lo   hi   -lo   hi   -lo   hi
 //! ```
 //!
+//! A wide hull has ten lanes, in the order C, E, D, F, R. A narrow one has none for E and F, which hold 0.
+//!
 //! The greatest number stands for an infinity, and the least one in each lane for a hull of nothing, which changes
 //! nothing where it is joined to another.
 
-ghost use Rattle.std.specs.Prelude.{◌≡◌, ◌<◌, ◌≤◌, ◌+◌, ◌*◌};
+ghost use Rattle.std.specs.Prelude.{◌≡◌, ◌≤◌, IfSome};
 ghost use Rattle.ts_sweep.specs.Lanes.{greater_of, some_lanes};
-ghost use Rattle.ts_sweep.specs.Packed.{ends_at, number_ends, with_ends_at};
+ghost use Rattle.ts_sweep.specs.Packed.{IsPlace, ends_in, is_wide, name_ends, number_ends, place, with_ends_in};
 ghost use Rattle.ts_sweep.specs.Small.{IsSmall};
 
 use crate::hull::Hull;
@@ -23,6 +25,16 @@ use crate::hull::Hull;
 pub struct Ends {
     pub below: i64,
     pub above: i64,
+}
+
+/// A register.
+#[derive(Clone, Copy, Debug, PartialEq, Eq)]
+pub enum Name {
+    C,
+    E,
+    D,
+    F,
+    R,
 }
 
 /// A hull of N lanes: two for each register.
@@ -35,8 +47,9 @@ pub struct PackedHull<const N: usize> {
 pub trait Packed: Hull {
     ghost use Rattle.std.specs.Prelude.{ℕ, ℤ, List};
     ghost use Rattle.ts_sweep.specs.declared.packed.Ends.{Ends};
+    ghost use Rattle.ts_sweep.specs.declared.packed.Name.{Name};
     ghost use Rattle.ts_sweep.specs.Lanes.{greater_of, no_lanes, some_lanes};
-    ghost use Rattle.ts_sweep.specs.Packed.{ends_at, with_ends_at, IsPacked};
+    ghost use Rattle.ts_sweep.specs.Packed.{IsPacked, ends_in, is_wide, name_ends, place, with_ends_in};
 
     /// How many lanes there are.
     ghost count: { ℕ };
@@ -44,23 +57,26 @@ pub trait Packed: Hull {
     /// The lanes.
     ghost lanes: { Self → List ℤ };
 
-    /// The hull with other ends of a register.
-    ghost replaced: { Self → ℕ → Ends → Self };
+    /// The hull with other ends of a register, if it has lanes for it.
+    ghost replaced: { Self → Name → Ends → Self };
+
+    /// Whether there are lanes for E and F.
+    fn is_wide() -> bool
+        ensures { result ≡ is_wide count };
 
     /// Whether registers lie in it.
     fn is_some(&self) -> bool
         ensures { result ≡ some_lanes (lanes self.now) };
 
     /// The ends of a register.
-    fn ends(&self, register: usize) -> Ends
-        requires inside { 2 * register + 1 < count }
-        requires few { register ≤ 10 }
-        ensures { result ≡ ends_at (lanes self.now) register };
+    fn ends(&self, register: Name) -> Ends
+        requires registers { 6 ≤ count }
+        ensures placed { result ≡ ends_in (lanes self.now) (place count register) }
+        ensures value { result ≡ name_ends (lanes self.now) register };
 
-    /// The hull with other ends of a register.
-    fn with(self, register: usize, e: Ends) -> Self
-        requires inside { 2 * register + 1 < count }
-        requires few { register ≤ 10 }
+    /// The hull with other ends of a register, if it has lanes for it.
+    fn with(self, register: Name, e: Ends) -> Self
+        requires registers { 6 ≤ count }
         ensures { result ≡ replaced self register e };
 
     ghost both_lanes: { (a b : Self) → lanes (Self.both a b) ≡ greater_of (lanes a) (lanes b) };
@@ -69,8 +85,8 @@ pub trait Packed: Hull {
 
     ghost takes_none: { (h : Self) → IsPacked count (lanes h) → Self.both h Self.none ≡ h };
 
-    ghost replaced_lanes: { (h : Self) (register : ℕ) (e : Ends) → lanes (replaced h register e)
-        ≡ with_ends_at (lanes h) register e };
+    ghost replaced_lanes: { (h : Self) (register : Name) (e : Ends) → lanes (replaced h register e)
+        ≡ with_ends_in (lanes h) (place count register) e };
 }
 
 /// The ends of a number.
@@ -105,29 +121,52 @@ fn has_some<const N: usize>(at: [i64; N]) -> bool
     N > 0 && at[0] != i64::MIN
 }
 
-/// The ends of a register in lanes.
+/// The place of a register, if it has one.
 #[inline(always)]
-fn ends_of<const N: usize>(at: &[i64; N], register: usize) -> Ends
-    requires inside { 2 * register + 1 < N }
-    requires few { register ≤ 10 }
-    ensures { result ≡ ends_at at.now register }
+fn place<const N: usize>(register: Name) -> Option<usize>
+    requires registers { 6 ≤ N }
+    ensures value { result ≡ place N register }
+    ensures inside { IsPlace N result }
+    ensures few { IfSome result (λ p. p ≤ 4) }
 {
-    Ends {
-        below: at[2 * register],
-        above: at[2 * register + 1],
+    let wide = 10 <= N;
+    match register {
+        Name::C => Some(0),
+        Name::E => if wide { Some(1) } else { None },
+        Name::D => Some(if wide { 2 } else { 1 }),
+        Name::F => if wide { Some(3) } else { None },
+        Name::R => Some(if wide { 4 } else { 2 }),
     }
 }
 
-/// Lanes with other ends of a register.
+/// The ends at a place in lanes.
 #[inline(always)]
-fn with_ends<const N: usize>(lanes: [i64; N], register: usize, e: Ends) -> [i64; N]
-    requires inside { 2 * register + 1 < N }
-    requires few { register ≤ 10 }
-    ensures { result ≡ with_ends_at lanes.entry register e }
+fn ends_of<const N: usize>(at: &[i64; N], place: Option<usize>) -> Ends
+    requires inside { IsPlace N place }
+    requires few { IfSome place (λ p. p ≤ 4) }
+    ensures { result ≡ ends_in at.now place }
+{
+    match place {
+        Some(p) => Ends {
+            below: at[2 * p],
+            above: at[2 * p + 1],
+        },
+        None => Ends { below: 0, above: 0 },
+    }
+}
+
+/// Lanes with other ends at a place.
+#[inline(always)]
+fn with_ends<const N: usize>(lanes: [i64; N], place: Option<usize>, e: Ends) -> [i64; N]
+    requires inside { IsPlace N place }
+    requires few { IfSome place (λ p. p ≤ 4) }
+    ensures { result ≡ with_ends_in lanes.entry place e }
 {
     let mut at = lanes;
-    at[2 * register] = e.below;
-    at[2 * register + 1] = e.above;
+    if let Some(p) = place {
+        at[2 * p] = e.below;
+        at[2 * p + 1] = e.above;
+    }
     at
 }
 
@@ -161,14 +200,14 @@ impl<const N: usize> Hull for PackedHull<N> {
 
 impl<const N: usize> Packed for PackedHull<N> {
     ghost use Rattle.std.proofs.Common.{ap, refl};
-    ghost use Rattle.ts_sweep.specs.Packed.{with_ends_at};
+    ghost use Rattle.ts_sweep.specs.Packed.{place, with_ends_in};
     ghost use Rattle.ts_sweep.specs.PackedLaws.{packed_lanes};
 
     ghost count = { N };
 
     ghost lanes = { λ h. h.at };
 
-    ghost replaced = { λ h register e. record { at = with_ends_at h.at register e } };
+    ghost replaced = { λ h register e. record { at = with_ends_in h.at (place N register) e } };
 
     ghost both_lanes = { λ a b. refl };
 
@@ -179,19 +218,24 @@ impl<const N: usize> Packed for PackedHull<N> {
     ghost replaced_lanes = { λ h register e. refl };
 
     #[inline(always)]
+    fn is_wide() -> bool {
+        10 <= N
+    }
+
+    #[inline(always)]
     fn is_some(&self) -> bool {
         has_some::<N>(self.at)
     }
 
     #[inline(always)]
-    fn ends(&self, register: usize) -> Ends {
-        ends_of::<N>(&self.at, register)
+    fn ends(&self, register: Name) -> Ends {
+        ends_of::<N>(&self.at, place::<N>(register))
     }
 
     #[inline(always)]
-    fn with(self, register: usize, e: Ends) -> PackedHull<N> {
+    fn with(self, register: Name, e: Ends) -> PackedHull<N> {
         PackedHull {
-            at: with_ends::<N>(self.at, register, e),
+            at: with_ends::<N>(self.at, place::<N>(register), e),
         }
     }
 }

@@ -1,23 +1,42 @@
 //! A move over pairs of values: for what can't be swept.
 
-ghost use Rattle.std.specs.Prelude.{◌≡◌, ◌<◌, ◌≤◌, cond, get_or, length, set};
+ghost use Rattle.std.specs.Prelude.{◌≡◌, ◌<◌, ◌≤◌, cond, get_or, length, set, true};
 ghost use Rattle.ts_automaton.specs.Body.{move_of};
+ghost use Rattle.ts_automaton.specs.Formula.{formula, is_zero};
+ghost use Rattle.ts_automaton.specs.Registers.{rests};
 ghost use Rattle.ts_hull.specs.Hulls.{hull_of_both, none};
 ghost use Rattle.ts_hull.specs.Sealed.{after_move};
 ghost use Rattle.ts_hull.specs.Sweeps.{compares};
 ghost use Rattle.ts_sweep.specs.Columns.{IsGift, IsMoved, gives, hull_at};
-ghost use Rattle.ts_sweep.specs.Packed.{ArePacked, IsPacked, unpacked};
+ghost use Rattle.ts_sweep.specs.Moves.{beside};
+ghost use Rattle.ts_sweep.specs.Packed.{ArePacked, IsPacked, is_wide, unpacked};
 ghost use Rattle.ts_sweep.specs.Small.{IsSmall};
+ghost use Rattle.ts_sweep.specs.Trees.{tree_value};
 
-use crate::packed::Packed;
+use crate::packed::{Ends, Name, Packed};
 use crate::tree::tree_ends;
 use crate::values::Values;
-use ts_automaton::Turn;
+use ts_automaton::{Expr, Turn};
 use ts_base::Letter;
+
+/// The ends of the expression of a register for which narrow hulls have no lanes.
+fn ends_beside<H: Packed>(e: &Expr, h: H, x: i64, y: i64) -> Ends
+    requires registers { 6 ≤ H.count }
+    requires this { IsSmall x }
+    requires next { IsSmall y }
+    ensures { result ≡ beside (is_wide H.count) (tree_value (formula e.now) (H.lanes h) x y) }
+{
+    if H::is_wide() {
+        tree_ends::<H>(e, h, x, y)
+    } else {
+        Ends { below: 0, above: 0 }
+    }
+}
 
 /// What a move makes of a hull between two values.
 fn moved<H: Packed>(t: &Turn, h: H, x: i64, y: i64) -> H
     requires registers { 6 ≤ H.count }
+    requires width { rests is_zero (is_wide H.count) (move_of t.now).to ≡ true }
     requires packed { IsPacked H.count (H.lanes h) }
     requires this { IsSmall x }
     requires next { IsSmall y }
@@ -28,9 +47,15 @@ fn moved<H: Packed>(t: &Turn, h: H, x: i64, y: i64) -> H
         return h;
     }
     let c = tree_ends::<H>(&t.c, h, x, y);
+    let e = ends_beside::<H>(&t.e, h, x, y);
     let d = tree_ends::<H>(&t.d, h, x, y);
+    let f = ends_beside::<H>(&t.f, h, x, y);
     let r = tree_ends::<H>(&t.r, h, x, y);
-    h.with(0, c).with(1, d).with(2, r)
+    h.with(Name::C, c)
+        .with(Name::E, e)
+        .with(Name::D, d)
+        .with(Name::F, f)
+        .with(Name::R, r)
 }
 
 /// Whether a value compares with the next one as a letter says, or is equal to it where there is a twin.
@@ -47,6 +72,7 @@ fn compares(letter: Letter, twin: bool, v: i64, w: i64) -> bool
 /// A hull, joined with what a move makes of another one, if their values compare so.
 fn with_pair<H: Packed>(t: &Turn, letter: Letter, twin: bool, h: H, v: i64, w: i64, all: H) -> H
     requires registers { 6 ≤ H.count }
+    requires width { rests is_zero (is_wide H.count) (move_of t.now).to ≡ true }
     requires packed { IsPacked H.count (H.lanes h) }
     requires all { IsPacked H.count (H.lanes all) }
     requires this { IsSmall v }
@@ -93,6 +119,7 @@ fn with_moved<H: Packed, V: Values, W: Values>(
     all: H,
 ) -> H
     requires registers { 6 ≤ H.count }
+    requires width { rests is_zero (is_wide H.count) (move_of t.now).to ≡ true }
     requires ok { V.ok values }
     requires next_ok { W.ok next_values }
     requires before { ArePacked H.lanes H.none H.count (V.len values) before.now }
@@ -122,6 +149,7 @@ fn given<H: Packed, V: Values, W: Values>(
     j: usize,
 ) -> H
     requires registers { 6 ≤ H.count }
+    requires width { rests is_zero (is_wide H.count) (move_of t.now).to ≡ true }
     requires ok { V.ok values }
     requires next_ok { W.ok next_values }
     requires before { ArePacked H.lanes H.none H.count (V.len values) before.now }
@@ -149,6 +177,7 @@ fn take_given<H: Packed, V: Values, W: Values>(
     j: usize,
 )
     requires registers { 6 ≤ H.count }
+    requires width { rests is_zero (is_wide H.count) (move_of t.now).to ≡ true }
     requires ok { V.ok values }
     requires next_ok { W.ok next_values }
     requires packed { ArePacked H.lanes H.none H.count (V.len values) before.now }
@@ -172,6 +201,7 @@ pub fn take_pairs<H: Packed, V: Values, W: Values>(
     next: &mut [H],
 )
     requires registers { 6 ≤ H.count }
+    requires width { rests is_zero (is_wide H.count) (move_of t.now).to ≡ true }
     requires ok { V.ok values }
     requires next_ok { W.ok next_values }
     requires packed { ArePacked H.lanes H.none H.count (V.len values) before.now }

@@ -5,7 +5,7 @@ ghost use Rattle.ts_sweep.specs.Packed.{AreSome, IsUnder};
 ghost use Rattle.ts_sweep.specs.Small.{IsSmall};
 
 use crate::front::Front;
-use crate::operator::Operator;
+use crate::operator::Folds;
 use crate::packed::{Ends, Packed, number};
 
 /// The expression of a register: its front, which doesn't read the next cell, and what the next cell makes of the hull
@@ -77,7 +77,7 @@ pub struct Whole<E> {
     pub front: E,
 }
 
-/// An operator over one that doesn't and the next cell.
+/// An operator over one that doesn't and the next cell. It is no difference.
 #[derive(Clone, Copy)]
 pub struct Tail<O, E> {
     pub by: O,
@@ -132,14 +132,14 @@ impl<E: Front> Part for Whole<E> {
     }
 }
 
-impl<O: Operator, E: Front> Part for Tail<O, E> {
+impl<O: Folds, E: Front> Part for Tail<O, E> {
     ghost use Rattle.std.specs.Prelude.{◌≡◌, ◌≤◌, true, neg_ℤ};
     ghost use Rattle.ts_hull.specs.Splits.{TailOf};
     ghost use Rattle.ts_sweep.specs.Packed.{ends, AreWithin};
     ghost use Rattle.ts_sweep.specs.FrontLaws.{never_added};
     ghost use Rattle.ts_sweep.specs.TailLaws.{tail_both, tail_front, tail_loose, tail_packs};
 
-    ghost split = { λ k. TailOf (O.op k.by) (E.formula k.front) };
+    ghost split = { λ k. TailOf (O.fold k.by) (E.formula k.front) };
 
     ghost tails = { λ k. true };
 
@@ -153,7 +153,8 @@ impl<O: Operator, E: Front> Part for Tail<O, E> {
 
     ghost closable_both = { λ k a b p q added. tail_both a b (p added) (q added) };
 
-    ghost closable_front = { λ k xs x h small added. tail_front (O.adds k.by) (E.words k.front) (λ b. E.fit k.front b xs)
+    ghost closable_front = { λ k xs x h small added. tail_front (O.adds k.by) (E.words k.front)
+        (λ b. E.fit k.front b xs)
         (E.value k.front xs x) (λ le g. E.within k.front xs x le g small) h.0 h.1 added };
 
     ghost front_packs = { λ k n xs x big some h small. E.packs k.front n xs x big some
@@ -161,7 +162,8 @@ impl<O: Operator, E: Front> Part for Tail<O, E> {
 
     ghost no_tail = { λ k t s y. never_added t };
 
-    ghost closing_packs = { λ k e s y p h small. tail_packs (O.adds k.by) (O.joined k.by) (O.op k.by) e s y (O.packs k.by) p h small };
+    ghost closing_packs = { λ k e s y p h small. tail_packs (O.adds k.by) (O.joined k.by) (O.op k.by)
+        (O.fold k.by) e s y (O.folds k.by) (O.packs k.by) p h small };
 
     #[inline(always)]
     fn has_tail(self) -> bool {

@@ -1,15 +1,14 @@
 //! A move of a state, taken in from a row of hulls into the next row.
 
-ghost use Rattle.std.specs.Prelude.{◌≡◌, ℕ, ◌<◌, ◌*◌, cond, length, get_or, true, false};
+ghost use Rattle.std.specs.Prelude.{◌≡◌, ℕ, ◌<◌, ◌≤◌, ◌*◌, cond, length, get_or, true, false};
 ghost use Rattle.ts_automaton.specs.Body.{Move};
 ghost use Rattle.ts_automaton.specs.declared.regs.Hull.{Hull};
 ghost use Rattle.ts_base.specs.declared.letter.Letter.TheVariants.{Equal};
 ghost use Rattle.ts_hull.specs.Cuts.{all_swept, cut_of};
 ghost use Rattle.ts_hull.specs.Hulls.{none};
 ghost use Rattle.ts_hull.specs.Sealed.{after_move};
-ghost use Rattle.ts_hull.specs.Smalls.{small_hull};
 ghost use Rattle.ts_hull.specs.Sweeps.{AllTakeNone, compares, hull_in, puts, step_place, total};
-ghost use Rattle.ts_sweep.specs.Strided.{greatest_lanes, packed_at};
+ghost use Rattle.ts_sweep.specs.Strided.{IsPackable, greatest_lanes, packed_at};
 
 use crate::cover::cover;
 use crate::moves::Moves;
@@ -22,32 +21,33 @@ use ts_base::Letter;
 
 /// A hull that all others are under.
 #[inline(always)]
-fn greatest() -> PackedHull<6>
-    ensures { result.at ≡ greatest_lanes }
+fn greatest<const N: usize>() -> PackedHull<N>
+    requires lanes { N ≤ 64 }
+    ensures { result.at ≡ greatest_lanes N }
 {
-    PackedHull {
-        at: [i64::MAX, i64::MAX, i64::MAX, i64::MAX, i64::MAX, i64::MAX],
-    }
+    PackedHull { at: [i64::MAX; N] }
 }
 
 /// Whether all hulls of a state can be taken: whether any can, which is known of a move that adds nothing, or else
 /// those under their cover.
 #[inline(always)]
-fn row_fits<F: Moves<PackedHull<6>>>(by: F, from: Strided, before: &[Hull]) -> bool
+fn row_fits<const N: usize, F: Moves<PackedHull<N>>>(by: F, from: Strided, before: &[Hull]) -> bool
+    requires registers { 6 ≤ N }
+    requires lanes { N ≤ 64 }
     requires state { from.state < from.states }
     requires whole { length before.now ≡ from.count * from.states }
-    requires small { (p : ℕ) → small_hull (get_or before.now p none) ≡ true }
-    ensures { result ≡ true → (i : ℕ) → i < from.count → F.fit by (packed_at from.states from.state before.now i) }
+    requires packable { (p : ℕ) → IsPackable N (get_or before.now p none) }
+    ensures { result ≡ true → (i : ℕ) → i < from.count → F.fit by (packed_at N from.states from.state before.now i) }
 {
-    if by.is_fit(greatest()) {
+    if by.is_fit(greatest::<N>()) {
         return true;
     }
-    by.is_fit(cover::<PackedHull<6>, Strided>(from, before, from.count))
+    by.is_fit(cover::<PackedHull<N>, Strided>(from, before, from.count))
 }
 
 /// A move of a state is taken in, into a state of the next row, if its sums stay small.
 #[inline(always)]
-pub fn take_row<F: Moves<PackedHull<6>>, V: Values, W: Values>(
+pub fn take_row<const N: usize, F: Moves<PackedHull<N>>, V: Values, W: Values>(
     by: F,
     letter: Letter,
     twin: bool,
@@ -58,12 +58,14 @@ pub fn take_row<F: Moves<PackedHull<6>>, V: Values, W: Values>(
     to: Strided,
     next: &mut [Hull],
 ) -> bool
+    requires registers { 6 ≤ N }
+    requires lanes { N ≤ 64 }
     requires ok { V.ok values }
     requires next_ok { W.ok next_values }
     requires state { from.state < from.states }
     requires whole { length before.now ≡ from.count * from.states }
     requires count { from.count ≡ V.len values }
-    requires small { (p : ℕ) → small_hull (get_or before.now p none) ≡ true }
+    requires packable { (p : ℕ) → IsPackable N (get_or before.now p none) }
     requires next_state { to.state < to.states }
     requires next_whole { length next.old ≡ to.count * to.states }
     requires next_count { to.count ≡ W.len next_values }
@@ -76,10 +78,10 @@ pub fn take_row<F: Moves<PackedHull<6>>, V: Values, W: Values>(
         next.new ≡ puts to.states to.state (step_place letter to.count) g next.old to.count }
     ensures kept { result ≡ false → next.new ≡ next.old }
 {
-    if !row_fits(by, from, before) {
+    if !row_fits::<N, F>(by, from, before) {
         return false;
     }
-    take::<PackedHull<6>, F, V, W, Strided>(
+    take::<PackedHull<N>, F, V, W, Strided>(
         by,
         letter,
         twin,

@@ -111,8 +111,8 @@ fn lead_of<const UP: bool>(twin: bool, values: Run, next_values: Run) -> Lead
     requires next_few { next_values.count ≤ 2000001 }
     ensures ahead { result.ahead ≤ values.count }
     ensures behind { result.behind ≤ next_values.count }
-    ensures leads { Leads UP twin (λ i. values.first +ℤ pos i) values.count (λ k. next_values.first +ℤ pos k)
-        next_values.count result.ahead
+    ensures leads { Leads UP twin (λ i. values.first +ℤ pos i) values.count
+        (λ k. next_values.first +ℤ pos k) next_values.count result.ahead
         result.behind }
 {
     let lead = whole_lead::<UP>(twin, values, next_values);

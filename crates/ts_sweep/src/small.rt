@@ -5,7 +5,7 @@ ghost use Rattle.std.specs.List.{list_all};
 ghost use Rattle.ts_hull.specs.Smalls.{small, small_hull, small_span};
 ghost use Rattle.ts_sweep.specs.Packed.{ends_span, unpacked, upper};
 
-use crate::packed::{Ends, Packed};
+use crate::packed::{Ends, Name, Packed};
 
 /// Sums of a few numbers up to this size aren't clamped.
 const SMALL: i64 = 10_000_000_000_000_000;
@@ -32,7 +32,11 @@ fn is_small<H: Packed>(h: &H) -> bool
     requires { 6 ≤ H.count }
     ensures { result ≡ small_hull (unpacked (H.lanes h.now)) }
 {
-    are_small_ends(h.ends(0)) && are_small_ends(h.ends(1)) && are_small_ends(h.ends(2))
+    are_small_ends(h.ends(Name::C))
+        & are_small_ends(h.ends(Name::E))
+        & are_small_ends(h.ends(Name::D))
+        & are_small_ends(h.ends(Name::F))
+        & are_small_ends(h.ends(Name::R))
 }
 
 /// Whether all hulls of a column are. The cover doesn't tell: an infinity in it may hide a large number.

@@ -1,18 +1,20 @@
 //! The hulls of a state in a row of hulls that aren't packed, one for each value and state: they are packed as they are
 //! read.
 
-ghost use Rattle.std.specs.Prelude.{◌≡◌, ◌<◌, ◌+◌, ◌*◌, true, length};
+ghost use Rattle.std.specs.Prelude.{◌≡◌, ◌<◌, ◌≤◌, ◌+◌, ◌*◌, true, cond, pos, length};
+ghost use Rattle.ts_base.specs.Spans.{has_some, none_span, one_span};
+ghost use Rattle.ts_base.specs.declared.ext.Ext.TheVariants.{Int};
 ghost use Rattle.ts_hull.specs.Hulls.{hull_of_both};
 ghost use Rattle.ts_hull.specs.Sealed.{some_hull};
 ghost use Rattle.ts_hull.specs.Smalls.{small, small_hull, small_span};
 ghost use Rattle.ts_hull.specs.Sweeps.{hull_in, with_hull_at};
-ghost use Rattle.ts_sweep.specs.Packed.{ends, ends_span, negated, unpacked, upper};
-ghost use Rattle.ts_sweep.specs.Strided.{lanes_of};
+ghost use Rattle.ts_sweep.specs.Packed.{ends_span, negated, unpacked, upper};
+ghost use Rattle.ts_sweep.specs.Strided.{lanes_of, span_ends};
 ghost use Rattle.ts_sweep.specs.Trees.{lane_of};
 
 use crate::column::Column;
 use crate::hull::Hull as Joined;
-use crate::packed::{Ends, PackedHull};
+use crate::packed::{Ends, Name, Packed, PackedHull};
 use ts_automaton::Hull;
 use ts_base::{Ext, Span};
 
@@ -99,7 +101,9 @@ fn hull_of_both(first: &Hull, second: &Hull) -> Hull
 {
     Hull {
         c: first.c.hull(second.c),
+        e: first.e.hull(second.e),
         d: first.d.hull(second.d),
+        f: first.f.hull(second.f),
         r: first.r.hull(second.r),
     }
 }
@@ -108,7 +112,7 @@ fn hull_of_both(first: &Hull, second: &Hull) -> Hull
 #[inline(always)]
 fn ends_of(s: Span) -> Ends
     requires { small_span s ≡ true }
-    ensures { result ≡ ends (lane_of (negated s.lo)) (lane_of s.hi) }
+    ensures { result ≡ span_ends s }
 {
     Ends {
         below: negated_lane(s.lo),
@@ -116,60 +120,100 @@ fn ends_of(s: Span) -> Ends
     }
 }
 
-/// A small hull in packed form.
-fn packed(h: &Hull) -> PackedHull<6>
-    requires { small_hull h.now ≡ true }
-    ensures { result.at ≡ lanes_of h.now }
+/// A small hull in packed form. Of lanes that no register stands in each is 0.
+#[inline(always)]
+fn packed<const N: usize>(h: &Hull) -> PackedHull<N>
+    requires registers { 6 ≤ N }
+    requires lanes { N ≤ 64 }
+    requires small { small_hull h.now ≡ true }
+    ensures { result.at ≡ lanes_of N h.now }
 {
     if !has_registers(h) {
-        return PackedHull { at: [i64::MIN; 6] };
+        return PackedHull { at: [i64::MIN; N] };
     }
     let c = ends_of(h.c);
+    let e = ends_of(h.e);
     let d = ends_of(h.d);
+    let f = ends_of(h.f);
     let r = ends_of(h.r);
-    PackedHull {
-        at: [c.below, c.above, d.below, d.above, r.below, r.above],
+    let zeros = PackedHull::<N> { at: [0; N] };
+    zeros
+        .with(Name::C, c)
+        .with(Name::E, e)
+        .with(Name::D, d)
+        .with(Name::F, f)
+        .with(Name::R, r)
+}
+
+/// What E and F of a narrow hull are, beside C.
+#[inline(always)]
+fn at_rest(c: Span) -> Span
+    ensures { result ≡ cond (has_some c) (one_span (Int (pos 0))) none_span }
+{
+    if c.is_none() {
+        Span::none()
+    } else {
+        Span::one(Ext::Int(0))
     }
 }
 
-/// The hull that it stands for.
-pub fn unpacked(h: &PackedHull<6>) -> Hull
+/// The hull that lanes stand for.
+pub fn unpacked<const N: usize>(h: &PackedHull<N>) -> Hull
+    requires registers { 6 ≤ N }
+    requires lanes { N ≤ 64 }
     ensures { result ≡ unpacked h.now.at }
 {
-    Hull {
-        c: Ends {
-            below: h.at[0],
-            above: h.at[1],
+    let c = h.ends(Name::C).span();
+    let d = h.ends(Name::D).span();
+    let r = h.ends(Name::R).span();
+    if PackedHull::<N>::is_wide() {
+        let e = h.ends(Name::E).span();
+        let f = h.ends(Name::F).span();
+        Hull { c, e, d, f, r }
+    } else {
+        let rest = at_rest(c);
+        Hull {
+            c,
+            e: rest,
+            d,
+            f: rest,
+            r,
         }
-        .span(),
-        d: Ends {
-            below: h.at[2],
-            above: h.at[3],
-        }
-        .span(),
-        r: Ends {
-            below: h.at[4],
-            above: h.at[5],
-        }
-        .span(),
     }
 }
 
 /// The hull of a state at a place, in packed form.
 #[inline(always)]
-fn hull_at(row: &[Hull], count: usize, states: usize, state: usize, i: usize) -> PackedHull<6>
+fn hull_at<const N: usize>(
+    row: &[Hull],
+    count: usize,
+    states: usize,
+    state: usize,
+    i: usize,
+) -> PackedHull<N>
+    requires registers { 6 ≤ N }
+    requires lanes { N ≤ 64 }
     requires inside { i < count }
     requires state { state < states }
     requires row { length row.now ≡ count * states }
     requires small { small_hull (hull_in states state row.now i) ≡ true }
-    ensures { result.at ≡ lanes_of (hull_in states state row.now i) }
+    ensures { result.at ≡ lanes_of N (hull_in states state row.now i) }
 {
     packed(&row[i * states + state])
 }
 
 /// The hull of a state at a place takes in another.
 #[inline(always)]
-fn join_at(row: &mut [Hull], count: usize, states: usize, state: usize, i: usize, h: &PackedHull<6>)
+fn join_at<const N: usize>(
+    row: &mut [Hull],
+    count: usize,
+    states: usize,
+    state: usize,
+    i: usize,
+    h: &PackedHull<N>,
+)
+    requires registers { 6 ≤ N }
+    requires lanes { N ≤ 64 }
     requires inside { i < count }
     requires state { state < states }
     requires row { length row.old ≡ count * states }
@@ -179,14 +223,13 @@ fn join_at(row: &mut [Hull], count: usize, states: usize, state: usize, i: usize
     row[p] = hull_of_both(&row[p], &unpacked(h));
 }
 
-impl Column<PackedHull<6>> for Strided {
-    ghost use Rattle.std.specs.Prelude.{◌≡◌, ◌≢◌, ◌<◌, ◌+◌, ◌*◌, ℕ, true, length, get_or, map};
+impl<const N: usize> Column<PackedHull<N>> for Strided {
+    ghost use Rattle.std.specs.Prelude.{◌≡◌, ◌≢◌, ◌<◌, ◌≤◌, ◌+◌, ◌*◌, ℕ, length, get_or, map};
     ghost use Rattle.std.specs.List.{range_with_len};
     ghost use Rattle.ts_hull.specs.Hulls.{none as none_hull, hull_of_both};
-    ghost use Rattle.ts_hull.specs.Smalls.{small_hull};
     ghost use Rattle.ts_hull.specs.Sweeps.{hull_in};
     ghost use Rattle.ts_sweep.specs.Packed.{unpacked};
-    ghost use Rattle.ts_sweep.specs.Strided.{packed_at, AreBeside};
+    ghost use Rattle.ts_sweep.specs.Strided.{packed_at, AreBeside, IsPackable};
     ghost use Rattle.ts_sweep.specs.StridedLaws.{same_count, beside_itself, beside_both};
 
     type Item = Hull;
@@ -195,15 +238,15 @@ impl Column<PackedHull<6>> for Strided {
 
     ghost column = { λ c row. map (hull_in c.states c.state row) (range_with_len 0 c.count) };
 
-    ghost hulls = { λ c row. map (packed_at c.states c.state row) (range_with_len 0 c.count) };
+    ghost hulls = { λ c row. map (packed_at N c.states c.state row) (range_with_len 0 c.count) };
 
     ghost taking = { λ y h. hull_of_both y (unpacked h.at) };
 
     ghost beside = { λ c a b. AreBeside c.state c.states c.count a b };
 
-    ghost whole = { λ c row. (c.state < c.states) × (length row ≡ c.count * c.states) };
+    ghost whole = { λ c row. (6 ≤ N) × (N ≤ 64) × (c.state < c.states) × (length row ≡ c.count * c.states) };
 
-    ghost readable = { λ c row. (p : ℕ) → small_hull (get_or row p none_hull) ≡ true };
+    ghost readable = { λ c row. (p : ℕ) → IsPackable N (get_or row p none_hull) };
 
     ghost same_length = { λ c row. same_count c.count _ _ };
 
@@ -212,12 +255,12 @@ impl Column<PackedHull<6>> for Strided {
     ghost beside_both = { λ c a b d p q. beside_both c.state c.states c.count a b d p q };
 
     #[inline(always)]
-    fn hull(self, row: &[Hull], i: usize) -> PackedHull<6> {
+    fn hull(self, row: &[Hull], i: usize) -> PackedHull<N> {
         hull_at(row, self.count, self.states, self.state, i)
     }
 
     #[inline(always)]
-    fn take_in(self, row: &mut [Hull], i: usize, h: PackedHull<6>) {
+    fn take_in(self, row: &mut [Hull], i: usize, h: PackedHull<N>) {
         join_at(row, self.count, self.states, self.state, i, &h);
     }
 }

@@ -47,8 +47,8 @@ fn is_passed<const UP: bool, V: Values>(values: V, at: usize, w: i64, twin: bool
     requires small { IsSmall w }
     ensures there { result ≡ true → at < V.len values }
     ensures passed { result ≡ true → passes UP twin (V.value values (place UP (V.len values) at)) w ≡ true }
-    ensures rest { result ≡ false → at < V.len values →
-        passes UP twin (V.value values (place UP (V.len values) at)) w ≡ false }
+    ensures rest { result ≡ false → at < V.len values → passes UP twin (V.value values (place UP (V.len values) at)) w
+        ≡ false }
 {
     let n = values.count();
     at < n && passes::<UP>(values.at(place::<UP>(n, at)), w, twin)

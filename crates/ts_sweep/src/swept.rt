@@ -2,11 +2,13 @@
 
 ghost use Rattle.std.specs.Prelude.{◌≡◌, ◌≤◌, MatchOption, true, false, get_or};
 ghost use Rattle.ts_automaton.specs.Body.{Move, move_of};
+ghost use Rattle.ts_automaton.specs.Formula.{is_zero};
+ghost use Rattle.ts_automaton.specs.Registers.{rests};
 ghost use Rattle.ts_base.specs.declared.letter.Letter.TheVariants.{Equal};
 ghost use Rattle.ts_hull.specs.Cuts.{all_swept, cut_of};
 ghost use Rattle.ts_sweep.specs.AnyParts.{parts_cut};
 ghost use Rattle.ts_sweep.specs.Columns.{IsMoved};
-ghost use Rattle.ts_sweep.specs.Packed.{ArePacked};
+ghost use Rattle.ts_sweep.specs.Packed.{ArePacked, is_wide};
 ghost use Rattle.ts_sweep.specs.Sweeps.{total};
 
 use crate::any_part::AnyPart;
@@ -19,7 +21,7 @@ use ts_automaton::Turn;
 use ts_base::Letter;
 
 /// The expressions of a move.
-pub type AnyParts<'a> = Parts<AnyPart<'a>, AnyPart<'a>, AnyPart<'a>>;
+pub type AnyParts<'a> = Parts<AnyPart<'a>, AnyPart<'a>, AnyPart<'a>, AnyPart<'a>, AnyPart<'a>>;
 
 /// The parts of a move that can be swept; none where an expression reads the next cell in another way.
 pub fn swept_parts(t: &Turn) -> Option<AnyParts<'_>>
@@ -27,9 +29,11 @@ pub fn swept_parts(t: &Turn) -> Option<AnyParts<'_>>
         (λ parts. (all_swept (cut_of (move_of t.now)) ≡ true) × (parts_cut parts ≡ cut_of (move_of t.now))) }
 {
     let c = AnyPart::of(&t.c)?;
+    let e = AnyPart::of(&t.e)?;
     let d = AnyPart::of(&t.d)?;
+    let f = AnyPart::of(&t.f)?;
     let r = AnyPart::of(&t.r)?;
-    Some(Parts { c, d, r })
+    Some(Parts { c, e, d, f, r })
 }
 
 /// Parts of a move are taken in by a sweep. Where the next cell stands in one, all hulls have to be small.
@@ -52,8 +56,8 @@ fn take_parts<H: Packed, V: Values, W: Values>(
     requires next_packed { ArePacked H.lanes H.none H.count (W.len next_values) next.old }
     requires alone { letter ≡ Equal → twin ≡ false }
     ensures packed { ArePacked H.lanes H.none H.count (W.len next_values) next.new }
-    ensures taken { result ≡ true → (m : Move) → cut_of m ≡ parts_cut parts.entry →
-        IsMoved H.lanes H.none m letter twin (V.len values)
+    ensures taken { result ≡ true → (m : Move) → rests is_zero (is_wide H.count) m.to ≡ true →
+        cut_of m ≡ parts_cut parts.entry → IsMoved H.lanes H.none m letter twin (V.len values)
         (V.value values) before.now (W.len next_values) (W.value next_values) next.old next.new }
     ensures kept { result ≡ false → next.new ≡ next.old }
 {
@@ -96,6 +100,7 @@ pub fn take_swept<H: Packed, V: Values, W: Values>(
     next: &mut [H],
 ) -> bool
     requires registers { 6 ≤ H.count }
+    requires width { rests is_zero (is_wide H.count) (move_of t.now).to ≡ true }
     requires ok { V.ok values }
     requires next_ok { W.ok next_values }
     requires packed { ArePacked H.lanes H.none H.count (V.len values) before.now }

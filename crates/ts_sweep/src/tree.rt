@@ -4,14 +4,14 @@
 ghost use Rattle.std.specs.Prelude.{◌≡◌, ◌≤◌};
 ghost use Rattle.ts_automaton.specs.Formula.{formula};
 ghost use Rattle.ts_sweep.specs.Small.{IsSmall};
-ghost use Rattle.ts_sweep.specs.Trees.{joined_by, sum_above, sum_below, tree_value};
+ghost use Rattle.ts_sweep.specs.Trees.{folded_by, sum_above, sum_below, tree_value};
 
 use crate::front::Front;
-use crate::operator::Operator;
-use crate::packed::{Ends, Packed, number};
+use crate::operator::{Folds, Operator, crossed};
+use crate::packed::{Ends, Name, Packed, number};
 use ts_automaton::{Expr, Op};
 
-/// An operator.
+/// An operator that may stand before the next cell.
 #[derive(Clone, Copy)]
 pub struct AnyOperator {
     pub op: Op,
@@ -52,8 +52,8 @@ fn below_both(x: i64, y: i64) -> i64
 }
 
 /// An operator on ends.
-pub(crate) fn joined_ends(op: Op, a: Ends, b: Ends) -> Ends
-    ensures { result ≡ joined_by op a b }
+pub(crate) fn folded_ends(op: Op, a: Ends, b: Ends) -> Ends
+    ensures { result ≡ folded_by op a b }
 {
     match op {
         Op::Add => Ends {
@@ -79,9 +79,11 @@ pub(crate) fn tree_ends<H: Packed>(e: &Expr, h: H, x: i64, y: i64) -> Ends
     ensures { result ≡ tree_value (formula e.now) (H.lanes h) x y }
 {
     match e {
-        Expr::C => h.ends(0),
-        Expr::D => h.ends(1),
-        Expr::R => h.ends(2),
+        Expr::C => h.ends(Name::C),
+        Expr::E => h.ends(Name::E),
+        Expr::D => h.ends(Name::D),
+        Expr::F => h.ends(Name::F),
+        Expr::R => h.ends(Name::R),
         Expr::This => number(x),
         Expr::Next => number(y),
         Expr::Zero => number(0),
@@ -94,17 +96,22 @@ pub(crate) fn tree_ends<H: Packed>(e: &Expr, h: H, x: i64, y: i64) -> Ends
             below: -i64::MAX,
             above: i64::MAX,
         },
-        Expr::Add(a, b) => joined_ends(
+        Expr::Add(a, b) => folded_ends(
             Op::Add,
             tree_ends::<H>(a, h, x, y),
             tree_ends::<H>(b, h, x, y),
         ),
-        Expr::Max(a, b) => joined_ends(
+        Expr::Sub(a, b) => folded_ends(
+            Op::Add,
+            tree_ends::<H>(a, h, x, y),
+            crossed(tree_ends::<H>(b, h, x, y)),
+        ),
+        Expr::Max(a, b) => folded_ends(
             Op::Max,
             tree_ends::<H>(a, h, x, y),
             tree_ends::<H>(b, h, x, y),
         ),
-        Expr::Min(a, b) => joined_ends(
+        Expr::Min(a, b) => folded_ends(
             Op::Min,
             tree_ends::<H>(a, h, x, y),
             tree_ends::<H>(b, h, x, y),
@@ -114,14 +121,15 @@ pub(crate) fn tree_ends<H: Packed>(e: &Expr, h: H, x: i64, y: i64) -> Ends
 
 impl Operator for AnyOperator {
     ghost use Rattle.std.specs.Prelude.{false};
-    ghost use Rattle.ts_sweep.specs.Trees.{joined_by};
+    ghost use Rattle.ts_automaton.specs.declared.expr.Operator.TheVariants.{Fold};
+    ghost use Rattle.ts_sweep.specs.Trees.{folded_by};
     ghost use Rattle.ts_sweep.specs.TreeLaws.{any_packs, any_within};
 
-    ghost op = { λ k. k.op };
+    ghost op = { λ k. Fold k.op };
 
     ghost adds = { λ k. false };
 
-    ghost joined = { λ k a b. joined_by k.op a b };
+    ghost joined = { λ k a b. folded_by k.op a b };
 
     ghost packs = { λ k i j a b s t few small p q. any_packs k.op a b s t p q };
 
@@ -134,8 +142,16 @@ impl Operator for AnyOperator {
 
     #[inline(always)]
     fn of(self, a: Ends, b: Ends) -> Ends {
-        joined_ends(self.op, a, b)
+        folded_ends(self.op, a, b)
     }
+}
+
+impl Folds for AnyOperator {
+    ghost use Rattle.std.proofs.Common.{refl};
+
+    ghost fold = { λ k. k.op };
+
+    ghost folds = { λ k. refl };
 }
 
 impl<'a> Front for Tree<'a> {
@@ -158,8 +174,8 @@ impl<'a> Front for Tree<'a> {
 
     ghost within = { λ k xs x few h small. never_added h };
 
-    ghost packs = { λ k n xs x big some h small. tree_packs (formula k.expr.now) n xs x (pos 0) big some
-        small zero_small };
+    ghost packs = { λ k n xs x big some h small. tree_packs (formula k.expr.now) n xs x
+        (pos 0) big some small zero_small };
 
     #[inline(always)]
     fn words(self) -> u8 {

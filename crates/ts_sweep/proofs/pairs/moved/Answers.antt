@@ -1,7 +1,12 @@
 use Rattle.std.proofs.Common.{◌≡◌, sym, ap, ◌∙◌}
 use Rattle.ts_automaton.specs.Body.{move_of}
 use Rattle.ts_automaton.specs.Formula.{formula}
+use Rattle.ts_automaton.specs.Registers.{EachOf, each}
+use Rattle.ts_sweep.specs.declared.packed.Ends.{Ends}
+use Rattle.ts_sweep.specs.declared.packed.Name.TheVariants.{E, D, F, R}
+use Rattle.ts_sweep.specs.Moves.{beside, of_name}
 use Rattle.ts_sweep.specs.MoveLaws.{all_lanes}
+use Rattle.ts_sweep.specs.Packed.{is_wide}
 use Rattle.ts_sweep.specs.Trees.{tree_value}
 use Rattle.ts_sweep.proofs.PairSteps.{as_both_passed, moved_nothing, moved_some}
 use Rattle.ts_sweep.proofs.pairs.moved.Goals as goal
@@ -14,31 +19,39 @@ returns-then-not-is_some-clause-value g c =
 pub returns-clause-packed : goal.returns-clause-packed
 returns-clause-packed g c =
     let replaced = g.H.Packed.replaced in
-    let is = c.with-3.ensures ∙ ap (λ z. replaced z 2 c.tree_ends-r.result) (c.with-2.ensures ∙ ap (λ z. replaced z 1 c.tree_ends-d.result) c.with.ensures) in
-    (moved_some (move_of c.args.t.now) g.H.Packed.count (g.H.Packed.lanes c.args.h) (g.H.Packed.lanes c.with-3.result) c.args.x c.args.y
-    c.tree_ends-c.result c.tree_ends-d.result c.tree_ends-r.result c.requires.registers c.requires.packed
-    (sym c.is_some.ensures ∙ c.if-not-is_some.false) c.requires.this c.requires.next
-    (as_both_passed (λ x y. c.tree_ends-c.result ≡ tree_value (formula c.args.t.now.c) (g.H.Packed.lanes c.args.h) x y) c.args.x c.args.y c.requires.this
-    c.requires.next c.tree_ends-c.ensures)
-    (as_both_passed (λ x y. c.tree_ends-d.result ≡ tree_value (formula c.args.t.now.d) (g.H.Packed.lanes c.args.h) x y) c.args.x c.args.y c.requires.this
-    c.requires.next c.tree_ends-d.ensures)
-    (as_both_passed (λ x y. c.tree_ends-r.result ≡ tree_value (formula c.args.t.now.r) (g.H.Packed.lanes c.args.h) x y) c.args.x c.args.y c.requires.this
-    c.requires.next c.tree_ends-r.ensures)
-    (ap g.H.Packed.lanes is ∙ all_lanes g.H.Packed.lanes replaced g.H.Packed.count g.H.Hull.none g.met.H.Packed.none_lanes
-    g.met.H.Packed.replaced_lanes c.args.h c.tree_ends-c.result c.tree_ends-d.result c.tree_ends-r.result)).0
+    let lanes = g.H.Packed.lanes in
+    let n = g.H.Packed.count in
+    let t = c.args.t.now in
+    let e : EachOf Ends = each c.tree_ends-c.result c.ends_beside-e.result c.tree_ends-d.result c.ends_beside-f.result c.tree_ends-r.result in
+    let is = c.with-5.ensures ∙ ap (λ z. replaced z R e.r) (c.with-4.ensures ∙ ap (λ z. replaced z F e.f)
+    (c.with-3.ensures ∙ ap (λ z. replaced z D e.d) (c.with-2.ensures ∙ ap (λ z. replaced z E e.e) c.with.ensures))) in
+    (moved_some (move_of t) n (lanes c.args.h) (lanes c.with-5.result) c.args.x c.args.y e.c e.e e.d e.f e.r c.requires.registers c.requires.width
+    c.requires.packed (sym c.is_some.ensures ∙ c.if-not-is_some.false) c.requires.this c.requires.next
+    (as_both_passed (λ x y. e.c ≡ tree_value (formula t.c) (lanes c.args.h) x y) c.args.x c.args.y c.requires.this c.requires.next c.tree_ends-c.ensures)
+    (as_both_passed (λ x y. e.e ≡ beside (is_wide n) (tree_value (formula t.e) (lanes c.args.h) x y)) c.args.x c.args.y c.requires.this c.requires.next
+    c.ends_beside-e.ensures)
+    (as_both_passed (λ x y. e.d ≡ tree_value (formula t.d) (lanes c.args.h) x y) c.args.x c.args.y c.requires.this c.requires.next c.tree_ends-d.ensures)
+    (as_both_passed (λ x y. e.f ≡ beside (is_wide n) (tree_value (formula t.f) (lanes c.args.h) x y)) c.args.x c.args.y c.requires.this c.requires.next
+    c.ends_beside-f.ensures)
+    (as_both_passed (λ x y. e.r ≡ tree_value (formula t.r) (lanes c.args.h) x y) c.args.x c.args.y c.requires.this c.requires.next c.tree_ends-r.ensures)
+    (ap lanes is ∙ all_lanes lanes replaced n g.H.Hull.none g.met.H.Packed.none_lanes g.met.H.Packed.replaced_lanes c.args.h (of_name e))).0
 
 pub returns-clause-value : goal.returns-clause-value
 returns-clause-value g c =
     let replaced = g.H.Packed.replaced in
-    let is = c.with-3.ensures ∙ ap (λ z. replaced z 2 c.tree_ends-r.result) (c.with-2.ensures ∙ ap (λ z. replaced z 1 c.tree_ends-d.result) c.with.ensures) in
-    (moved_some (move_of c.args.t.now) g.H.Packed.count (g.H.Packed.lanes c.args.h) (g.H.Packed.lanes c.with-3.result) c.args.x c.args.y
-    c.tree_ends-c.result c.tree_ends-d.result c.tree_ends-r.result c.requires.registers c.requires.packed
-    (sym c.is_some.ensures ∙ c.if-not-is_some.false) c.requires.this c.requires.next
-    (as_both_passed (λ x y. c.tree_ends-c.result ≡ tree_value (formula c.args.t.now.c) (g.H.Packed.lanes c.args.h) x y) c.args.x c.args.y c.requires.this
-    c.requires.next c.tree_ends-c.ensures)
-    (as_both_passed (λ x y. c.tree_ends-d.result ≡ tree_value (formula c.args.t.now.d) (g.H.Packed.lanes c.args.h) x y) c.args.x c.args.y c.requires.this
-    c.requires.next c.tree_ends-d.ensures)
-    (as_both_passed (λ x y. c.tree_ends-r.result ≡ tree_value (formula c.args.t.now.r) (g.H.Packed.lanes c.args.h) x y) c.args.x c.args.y c.requires.this
-    c.requires.next c.tree_ends-r.ensures)
-    (ap g.H.Packed.lanes is ∙ all_lanes g.H.Packed.lanes replaced g.H.Packed.count g.H.Hull.none g.met.H.Packed.none_lanes
-    g.met.H.Packed.replaced_lanes c.args.h c.tree_ends-c.result c.tree_ends-d.result c.tree_ends-r.result)).1
+    let lanes = g.H.Packed.lanes in
+    let n = g.H.Packed.count in
+    let t = c.args.t.now in
+    let e : EachOf Ends = each c.tree_ends-c.result c.ends_beside-e.result c.tree_ends-d.result c.ends_beside-f.result c.tree_ends-r.result in
+    let is = c.with-5.ensures ∙ ap (λ z. replaced z R e.r) (c.with-4.ensures ∙ ap (λ z. replaced z F e.f)
+    (c.with-3.ensures ∙ ap (λ z. replaced z D e.d) (c.with-2.ensures ∙ ap (λ z. replaced z E e.e) c.with.ensures))) in
+    (moved_some (move_of t) n (lanes c.args.h) (lanes c.with-5.result) c.args.x c.args.y e.c e.e e.d e.f e.r c.requires.registers c.requires.width
+    c.requires.packed (sym c.is_some.ensures ∙ c.if-not-is_some.false) c.requires.this c.requires.next
+    (as_both_passed (λ x y. e.c ≡ tree_value (formula t.c) (lanes c.args.h) x y) c.args.x c.args.y c.requires.this c.requires.next c.tree_ends-c.ensures)
+    (as_both_passed (λ x y. e.e ≡ beside (is_wide n) (tree_value (formula t.e) (lanes c.args.h) x y)) c.args.x c.args.y c.requires.this c.requires.next
+    c.ends_beside-e.ensures)
+    (as_both_passed (λ x y. e.d ≡ tree_value (formula t.d) (lanes c.args.h) x y) c.args.x c.args.y c.requires.this c.requires.next c.tree_ends-d.ensures)
+    (as_both_passed (λ x y. e.f ≡ beside (is_wide n) (tree_value (formula t.f) (lanes c.args.h) x y)) c.args.x c.args.y c.requires.this c.requires.next
+    c.ends_beside-f.ensures)
+    (as_both_passed (λ x y. e.r ≡ tree_value (formula t.r) (lanes c.args.h) x y) c.args.x c.args.y c.requires.this c.requires.next c.tree_ends-r.ensures)
+    (ap lanes is ∙ all_lanes lanes replaced n g.H.Hull.none g.met.H.Packed.none_lanes g.met.H.Packed.replaced_lanes c.args.h (of_name e))).1

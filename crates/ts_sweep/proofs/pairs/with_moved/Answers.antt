@@ -12,8 +12,8 @@ pub returns-clause-value : goal.returns-clause-value
 returns-clause-value g c =
     let lanes = g.H.Packed.lanes in
     let m = move_of c.args.t.now in
-    let given : Hull → ℤ → ℤ → Hull = λ h x y. hull_of_both (unpacked (lanes c.args.all)) (cond (compares c.args.letter c.args.twin x y)
-    (after_move m h x y) none) in
+    let given : Hull → ℤ → ℤ → Hull = λ h x y. hull_of_both (unpacked (lanes c.args.all))
+    (cond (compares c.args.letter c.args.twin x y) (after_move m h x y) none) in
     as_both_passed (λ x y. unpacked (lanes c.with_pair.result) ≡ given (unpacked (lanes c.hull_of-h.result)) x y) c.at-v.result c.at-w.result
     c.at-v.ensures.small c.at-w.ensures.small c.with_pair.ensures.value
     ∙ ap (λ h. given (unpacked (lanes h)) c.at-v.result c.at-w.result) c.hull_of-h.ensures

@@ -23,8 +23,8 @@ returns-then-compares-clause-value g c =
     c.args.v c.args.w c.requires.this c.requires.next c.moved.ensures.value) c.joined.ensures).1
     ∙ ap (λ b. hull_of_both (unpacked (g.H.Packed.lanes c.args.all)) (cond b
     (after_move (move_of c.args.t.now) (unpacked (g.H.Packed.lanes c.args.h)) c.args.v c.args.w) none))
-    (sym c.if-compares.true ∙ (as_both_passed (λ x y. c.compares.result ≡ compares c.args.letter c.args.twin x y) c.args.v c.args.w c.requires.this
-    c.requires.next
+    (sym c.if-compares.true
+    ∙ (as_both_passed (λ x y. c.compares.result ≡ compares c.args.letter c.args.twin x y) c.args.v c.args.w c.requires.this c.requires.next
     c.compares.ensures))
 
 pub returns-else-compares-clause-value : goal.returns-else-compares-clause-value
@@ -32,6 +32,6 @@ returns-else-compares-clause-value g c =
     sym (packed_takes_none g.H.Packed.count (g.H.Packed.lanes c.args.all) c.requires.registers c.requires.all)
     ∙ ap (λ b. hull_of_both (unpacked (g.H.Packed.lanes c.args.all)) (cond b
     (after_move (move_of c.args.t.now) (unpacked (g.H.Packed.lanes c.args.h)) c.args.v c.args.w) none))
-    (sym c.if-compares.false ∙ (as_both_passed (λ x y. c.compares.result ≡ compares c.args.letter c.args.twin x y) c.args.v c.args.w c.requires.this
-    c.requires.next
+    (sym c.if-compares.false
+    ∙ (as_both_passed (λ x y. c.compares.result ≡ compares c.args.letter c.args.twin x y) c.args.v c.args.w c.requires.this c.requires.next
     c.compares.ensures))

@@ -12,7 +12,7 @@ pub take-requires-clause-fit : goal.take-requires-clause-fit
 take-requires-clause-fit g c =
     let from = c.args.from in
     let counted = c.requires.count in
-    λ i lt. column_fit (g.F.Fronts.fit c.args.by) from.states from.state from.count c.args.before.now
+    λ i lt. column_fit g.row.N c.requires.registers (g.F.Fronts.fit c.args.by) from.states from.state from.count c.args.before.now
     (c.row_fits.ensures c.if-not-row_fits.false) i (omega (arith, lt, counted))
 
 pub take-requires-clause-next_same : goal.take-requires-clause-next_same
@@ -28,12 +28,12 @@ returns-clause-taken g c =
     let counted = c.requires.count in
     let next_counted = c.requires.next_count in
     λ is m gives leads cut_is swept gives_is.
-    row_is (g.F.Fronts.fit by) (g.F.Fronts.closable by) (g.F.Fronts.front by) (g.F.Fronts.closing by) (g.F.Moves.cut by)
+    row_is g.row.N c.requires.registers (g.F.Fronts.fit by) (g.F.Fronts.closable by) (g.F.Fronts.front by) (g.F.Fronts.closing by) (g.F.Moves.cut by)
     (g.met.F.Fronts.closable_none by) (g.met.F.Fronts.closable_both by) (g.met.F.Fronts.closable_front by)
-    (λ h v f s. g.met.F.Moves.front_is by h v (omega arith) f s) (λ h w f s. g.met.F.Moves.closing_is by h w (omega arith) f s)
+    (λ h v f s. g.met.F.Moves.front_is by h v c.requires.registers f s) (λ h w f s. g.met.F.Moves.closing_is by h w c.requires.registers f s)
     m c.args.letter c.args.twin from.states from.state from.count to.state to.states to.count c.args.before.now c.args.next.now _
     (g.V.Values.value c.args.values) (g.W.Values.value c.args.next_values) gives cut_is swept leads c.requires.next_state c.requires.next_whole
-    c.requires.canonical c.requires.small (c.row_fits.ensures c.if-not-row_fits.false)
+    c.requires.canonical c.requires.packable (c.row_fits.ensures c.if-not-row_fits.false)
     (λ i lt. g.met.V.Values.is_small c.args.values c.requires.ok i (omega (arith, lt, counted)))
     (λ j lt. g.met.W.Values.is_small c.args.next_values c.requires.next_ok j (omega (arith, lt, next_counted)))
     c.take.ensures.taken c.take.ensures.beside gives_is

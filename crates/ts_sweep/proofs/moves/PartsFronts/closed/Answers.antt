@@ -1,67 +1,146 @@
-use Rattle.std.proofs.Common.{◌≡◌, sym, ◌∙◌, true, subst, arith}
+use Rattle.std.proofs.Common.{◌≡◌, sym, ap, ◌∙◌, true, subst}
+use Rattle.ts_automaton.specs.Registers.{EachOf, each}
+use Rattle.ts_sweep.specs.declared.packed.Ends.{Ends}
+use Rattle.ts_sweep.specs.declared.packed.Name.{Name}
+use Rattle.ts_sweep.specs.declared.packed.Name.TheVariants.{C, E, D, F, R}
 use Rattle.ts_sweep.specs.Lanes.{some_lanes}
-use Rattle.ts_sweep.specs.MoveLaws.{not_nothing}
+use Rattle.ts_sweep.specs.MoveLaws.{not_nothing, wide_of, wide_of_f}
+use Rattle.ts_sweep.specs.Moves.{beside}
+use Rattle.ts_sweep.specs.Packed.{ends_in, is_wide, place}
+use Rattle.ts_sweep.proofs.Replaced.{same_each, same_replaced, closed_chosen}
+use Rattle.ts_sweep.proofs.RunSteps.{as_passed}
 use Rattle.ts_sweep.proofs.moves.PartsFronts.closed.Goals as goal
 
-pub ends-requires-clause-inside : goal.ends-requires-clause-inside
-ends-requires-clause-inside g c =
+pub ends-requires : goal.ends-requires
+ends-requires g c =
     let xs = g.H.Packed.lanes c.args.run in
     let some : some_lanes xs ≡ true = sym c.is_some.ensures ∙ c.if-not-is_some.false in
     let all = not_nothing g.H.Packed.count xs some c.requires.closable in
-    let big = all.0 in omega (arith, big)
+    record { registers = all.0 }
 
-pub ends-requires-2-clause-inside : goal.ends-requires-2-clause-inside
-ends-requires-2-clause-inside g c =
+pub ends-requires-2 : goal.ends-requires-2
+ends-requires-2 g c =
     let xs = g.H.Packed.lanes c.args.run in
     let some : some_lanes xs ≡ true = sym c.is_some.ensures ∙ c.if-not-is_some.false in
     let all = not_nothing g.H.Packed.count xs some c.requires.closable in
-    let big = all.0 in omega (arith, big)
+    record { registers = all.0 }
 
-pub ends-requires-3-clause-inside : goal.ends-requires-3-clause-inside
-ends-requires-3-clause-inside g c =
+pub ends-requires-3 : goal.ends-requires-3
+ends-requires-3 g c =
     let xs = g.H.Packed.lanes c.args.run in
     let some : some_lanes xs ≡ true = sym c.is_some.ensures ∙ c.if-not-is_some.false in
     let all = not_nothing g.H.Packed.count xs some c.requires.closable in
-    let big = all.0 in omega (arith, big)
+    record { registers = all.0 }
 
-pub with-requires-clause-inside : goal.with-requires-clause-inside
-with-requires-clause-inside g c =
+pub with-requires : goal.with-requires
+with-requires g c =
     let xs = g.H.Packed.lanes c.args.run in
     let some : some_lanes xs ≡ true = sym c.is_some.ensures ∙ c.if-not-is_some.false in
     let all = not_nothing g.H.Packed.count xs some c.requires.closable in
-    let big = all.0 in omega (arith, big)
+    record { registers = all.0 }
 
-pub with-requires-2-clause-inside : goal.with-requires-2-clause-inside
-with-requires-2-clause-inside g c =
+pub with-requires-2 : goal.with-requires-2
+with-requires-2 g c =
     let xs = g.H.Packed.lanes c.args.run in
     let some : some_lanes xs ≡ true = sym c.is_some.ensures ∙ c.if-not-is_some.false in
     let all = not_nothing g.H.Packed.count xs some c.requires.closable in
-    let big = all.0 in omega (arith, big)
+    record { registers = all.0 }
 
-pub with-requires-3-clause-inside : goal.with-requires-3-clause-inside
-with-requires-3-clause-inside g c =
+pub with-requires-3 : goal.with-requires-3
+with-requires-3 g c =
     let xs = g.H.Packed.lanes c.args.run in
     let some : some_lanes xs ≡ true = sym c.is_some.ensures ∙ c.if-not-is_some.false in
     let all = not_nothing g.H.Packed.count xs some c.requires.closable in
-    let big = all.0 in omega (arith, big)
+    record { registers = all.0 }
+
+pub with-requires-4 : goal.with-requires-4
+with-requires-4 g c =
+    let xs = g.H.Packed.lanes c.args.run in
+    let some : some_lanes xs ≡ true = sym c.is_some.ensures ∙ c.if-not-is_some.false in
+    let all = not_nothing g.H.Packed.count xs some c.requires.closable in
+    record { registers = all.0 }
+
+pub with-requires-5 : goal.with-requires-5
+with-requires-5 g c =
+    let xs = g.H.Packed.lanes c.args.run in
+    let some : some_lanes xs ≡ true = sym c.is_some.ensures ∙ c.if-not-is_some.false in
+    let all = not_nothing g.H.Packed.count xs some c.requires.closable in
+    record { registers = all.0 }
 
 pub closed-c-requires-clause-closable : goal.closed-c-requires-clause-closable
 closed-c-requires-clause-closable g c =
     let xs = g.H.Packed.lanes c.args.run in
     let some : some_lanes xs ≡ true = sym c.is_some.ensures ∙ c.if-not-is_some.false in
     let all = not_nothing g.H.Packed.count xs some c.requires.closable in
-    subst (g.C.Part.closable c.args.self.c) (sym c.ends.ensures) all.2
+    subst (g.C.Part.closable c.args.self.c) (sym c.ends.ensures.placed) (all.2 C)
 
 pub closed-d-requires-clause-closable : goal.closed-d-requires-clause-closable
 closed-d-requires-clause-closable g c =
     let xs = g.H.Packed.lanes c.args.run in
     let some : some_lanes xs ≡ true = sym c.is_some.ensures ∙ c.if-not-is_some.false in
     let all = not_nothing g.H.Packed.count xs some c.requires.closable in
-    subst (g.D.Part.closable c.args.self.d) (sym c.ends-2.ensures) all.3
+    subst (g.D.Part.closable c.args.self.d) (sym c.ends-2.ensures.placed) (all.2 D)
 
 pub closed-r-requires-clause-closable : goal.closed-r-requires-clause-closable
 closed-r-requires-clause-closable g c =
     let xs = g.H.Packed.lanes c.args.run in
     let some : some_lanes xs ≡ true = sym c.is_some.ensures ∙ c.if-not-is_some.false in
     let all = not_nothing g.H.Packed.count xs some c.requires.closable in
-    subst (g.R.Part.closable c.args.self.r) (sym c.ends-3.ensures) all.4
+    subst (g.R.Part.closable c.args.self.r) (sym c.ends-3.ensures.placed) (all.2 R)
+
+pub closed_beside-e-requires-clause-registers : goal.closed_beside-e-requires-clause-registers
+closed_beside-e-requires-clause-registers g c =
+    let xs = g.H.Packed.lanes c.args.run in
+    let some : some_lanes xs ≡ true = sym c.is_some.ensures ∙ c.if-not-is_some.false in
+    let all = not_nothing g.H.Packed.count xs some c.requires.closable in
+    all.0
+
+pub closed_beside-e-requires-clause-closable : goal.closed_beside-e-requires-clause-closable
+closed_beside-e-requires-clause-closable g c =
+    let xs = g.H.Packed.lanes c.args.run in
+    let some : some_lanes xs ≡ true = sym c.is_some.ensures ∙ c.if-not-is_some.false in
+    let all = not_nothing g.H.Packed.count xs some c.requires.closable in
+    wide_of (is_wide g.H.Packed.count) _ (all.2 E)
+
+pub closed_beside-f-requires-clause-registers : goal.closed_beside-f-requires-clause-registers
+closed_beside-f-requires-clause-registers g c =
+    let xs = g.H.Packed.lanes c.args.run in
+    let some : some_lanes xs ≡ true = sym c.is_some.ensures ∙ c.if-not-is_some.false in
+    let all = not_nothing g.H.Packed.count xs some c.requires.closable in
+    all.0
+
+pub closed_beside-f-requires-clause-closable : goal.closed_beside-f-requires-clause-closable
+closed_beside-f-requires-clause-closable g c =
+    let xs = g.H.Packed.lanes c.args.run in
+    let some : some_lanes xs ≡ true = sym c.is_some.ensures ∙ c.if-not-is_some.false in
+    let all = not_nothing g.H.Packed.count xs some c.requires.closable in
+    wide_of_f (is_wide g.H.Packed.count) _ (all.2 F)
+
+pub returns : goal.returns
+returns g c =
+    let n = g.H.Packed.count in
+    let replaced = g.H.Packed.replaced in
+    let xs = g.H.Packed.lanes c.args.run in
+    let parts = c.args.self in
+    let w = c.args.next_value in
+    let small = c.requires.small in
+    let wide = is_wide n in
+    let at : Name → Ends = λ k. ends_in xs (place n k) in
+    let made : EachOf Ends =
+    each c.closed-c.result c.closed_beside-e.result c.closed-d.result c.closed_beside-f.result c.closed-r.result in
+    let closed : EachOf Ends =
+    each (g.C.Part.closing parts.c (at C) w) (beside wide (g.E.Part.closing parts.e (at E) w)) (g.D.Part.closing parts.d (at D) w)
+    (beside wide (g.F.Part.closing parts.f (at F) w)) (g.R.Part.closing parts.r (at R) w) in
+    let is = c.with-5.ensures ∙ ap (λ z. replaced z R made.r) (c.with-4.ensures ∙ ap (λ z. replaced z F made.f)
+    (c.with-3.ensures ∙ ap (λ z. replaced z D made.d) (c.with-2.ensures ∙ ap (λ z. replaced z E made.e) c.with.ensures))) in
+    let same : made ≡ closed =
+    same_each
+    (as_passed (λ z. made.c ≡ g.C.Part.closing parts.c c.ends.result z) w small c.closed-c.ensures ∙ ap (λ e. g.C.Part.closing parts.c e w) c.ends.ensures.placed)
+    (as_passed (λ z. made.e ≡ beside wide (g.E.Part.closing parts.e (at E) z)) w small c.closed_beside-e.ensures)
+    (as_passed (λ z. made.d ≡ g.D.Part.closing parts.d c.ends-2.result z) w small c.closed-d.ensures
+    ∙ ap (λ e. g.D.Part.closing parts.d e w) c.ends-2.ensures.placed)
+    (as_passed (λ z. made.f ≡ beside wide (g.F.Part.closing parts.f (at F) z)) w small c.closed_beside-f.ensures)
+    (as_passed (λ z. made.r ≡ g.R.Part.closing parts.r c.ends-3.result z) w small c.closed-r.ensures
+    ∙ ap (λ e. g.R.Part.closing parts.r e w) c.ends-3.ensures.placed) in
+    closed_chosen _ _ _ _ _ _ (sym c.has_tail.ensures ∙ c.if-not-has_tail.false) (sym c.is_some.ensures ∙ c.if-not-is_some.false)
+    (is ∙ same_replaced replaced c.args.run made closed same)
