@@ -1,3 +1,4 @@
+pub mod WidthLaws
 pub mod Places
 pub mod Twins
 pub mod Steps

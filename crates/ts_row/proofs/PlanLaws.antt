@@ -1,5 +1,5 @@
 -- A plan is made state by state.
-use Rattle.std.proofs.Common.{◌≡◌, ℕ, ◌+◌, ◌<◌, List, length, get_or, set, ap, subst, ◌∙◌, arith}
+use Rattle.std.proofs.Common.{◌≡◌, ℕ, ◌+◌, ◌<◌, Bool, List, length, get_or, set, ap, subst, ◌∙◌, arith}
 use Rattle.std.proofs.lemmas.List.{length-set}
 use Rattle.ts_automaton.specs.Body.{Body, Move}
 use Rattle.ts_hull.specs.Cuts.{cut_of}
@@ -9,8 +9,8 @@ use Rattle.ts_row.specs.Plans.{IsShapeOf, IsStatePlan, unplanned}
 use Rattle.ts_row.proofs.Places.{at_each}
 
 -- the shape of one move is that of another that is the same
-pub same_shape : (s : Shape) (m n : Move) → m ≡ n → IsShapeOf s (cut_of m) → IsShapeOf s (cut_of n)
-same_shape s m n same shape = subst (λ z. IsShapeOf s (cut_of z)) same shape
+pub same_shape : (wide : Bool) (s : Shape) (m n : Move) → m ≡ n → IsShapeOf wide s (cut_of m) → IsShapeOf wide s (cut_of n)
+same_shape wide s m n same shape = subst (λ z. IsShapeOf wide s (cut_of z)) same shape
 
 -- the plans of the first q states
 abbrev pub ArePlanned : Body → ℕ → List StatePlan → Type 0

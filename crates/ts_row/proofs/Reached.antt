@@ -6,6 +6,7 @@ use Rattle.ts_base.specs.declared.letter.Letter.{Letter}
 use Rattle.ts_base.specs.declared.letter.Letter.TheVariants.{Less, Equal, Greater}
 use Rattle.ts_automaton.specs.declared.regs.Hull.{Hull}
 use Rattle.ts_automaton.specs.Body.{Body, Move}
+use Rattle.ts_automaton.proofs.Five.{none_registers}
 use Rattle.ts_hull.specs.Hulls.{none, hull_of_both}
 use Rattle.ts_hull.specs.Sealed.{some_hull, after_move, move_at}
 use Rattle.ts_hull.specs.Sweeps.{compares}
@@ -56,7 +57,7 @@ unfolding gives
 gives_nothing m l twin n v h w empty =
     total_same n (λ i. cond (compares l twin (v i) w) (after_move m (h i) (v i) w) none) (λ i. none)
     (λ i lt. elim (compares l twin (v i) w) as (λ b. cond b (after_move m (h i) (v i) w) none ≡ none) [
-      | true ↦ after_is m (h i) (v i) w false (ap some_hull (empty i lt))
+      | true ↦ after_is m (h i) (v i) w false (ap some_hull (empty i lt) ∙ none_registers)
       | false ↦ refl
     ])
     ∙ total_none n
@@ -70,8 +71,8 @@ unfolding state_gives
 state_nothing b q n v h w t empty =
     ap (λ z. hull_of_both (hull_of_both z (gives_to (move_at b q Equal) Equal false n v h w t)) (gives_to (move_at b q Greater) Greater false n v h w t))
     (to_nothing (move_at b q Less) Less n v h w t empty)
-    ∙ ap (λ z. hull_of_both (hull_of_both none z) (gives_to (move_at b q Greater) Greater false n v h w t)) (to_nothing (move_at b q Equal) Equal
-    n v h w t empty)
+    ∙ ap (λ z. hull_of_both (hull_of_both none z) (gives_to (move_at b q Greater) Greater false n v h w t))
+    (to_nothing (move_at b q Equal) Equal n v h w t empty)
     ∙ ap (λ z. hull_of_both z (gives_to (move_at b q Greater) Greater false n v h w t)) none_takes_none
     ∙ ap (hull_of_both none) (to_nothing (move_at b q Greater) Greater n v h w t empty) ∙ none_takes_none
 

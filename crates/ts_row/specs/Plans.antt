@@ -1,14 +1,18 @@
 -- How the moves of an automaton are taken in, found once for an automaton.
-use Rattle.std.specs.Prelude.{◌≡◌, ℕ, ◌<◌, length, get_or}
+use Rattle.std.specs.Prelude.{◌≡◌, ℕ, ◌<◌, Bool, true, if◌then◌else◌, length, get_or}
 use Rattle.ts_base.specs.declared.letter.Letter.TheVariants.{Less, Equal, Greater}
 use Rattle.ts_base.specs.declared.op.Op.{Op}
 use Rattle.ts_base.specs.declared.op.Op.TheVariants.{Add, Max, Min}
-use Rattle.ts_automaton.specs.declared.expr.Atom.TheVariants.{C, D, R, This, Zero, Unit as UnitAtom, NegInf as LowAtom, PosInf as HighAtom}
+use Rattle.ts_automaton.specs.declared.expr.Atom.TheVariants.{C, E, D, F, R, This, Zero, Unit as UnitAtom, NegInf as LowAtom, PosInf as HighAtom}
+use Rattle.ts_automaton.specs.declared.expr.Operator.{Operator}
+use Rattle.ts_automaton.specs.declared.expr.Operator.TheVariants.{Fold, Sub}
 use Rattle.ts_automaton.specs.Formula.{Formula, Leaf, Join}
+use Rattle.ts_automaton.specs.Registers.{each}
 use Rattle.ts_automaton.specs.Body.{Body}
 use Rattle.ts_hull.specs.Sealed.{move_at}
 use Rattle.ts_hull.specs.Splits.{FrontOf}
 use Rattle.ts_hull.specs.Cuts.{Cut, cut_of}
+use Rattle.ts_sweep.specs.Moves.{of_width}
 use Rattle.ts_row.specs.declared.words.Words.{Words}
 use Rattle.ts_row.specs.declared.words.Words.TheVariants.{Word, Two, Three}
 use Rattle.ts_row.specs.declared.plan.CellFold.{CellFold}
@@ -24,8 +28,8 @@ use Rattle.ts_row.specs.declared.plan.Plan.{Plan}
 -- an expression of few words
 abbrev pub words_formula : Words → Formula
 words_formula (Word a) = Leaf a
-words_formula (Two o a b) = Join o (Leaf a) (Leaf b)
-words_formula (Three o a p b c) = Join o (Leaf a) (Join p (Leaf b) (Leaf c))
+words_formula (Two o a b) = Join (Fold o) (Leaf a) (Leaf b)
+words_formula (Three o a p b c) = Join (Fold o) (Leaf a) (Join (Fold p) (Leaf b) (Leaf c))
 
 -- of a fold of cells: the operator, what a cell is worth, and the word that it begins with
 abbrev pub cell_op : CellFold → Op
@@ -60,45 +64,87 @@ range_start Sum = Leaf Zero
 range_start Highest = Leaf LowAtom
 range_start Lowest = Leaf HighAtom
 
--- a move whose expressions don't read the next cell
-abbrev pub fronts : Formula → Formula → Formula → Cut
-fronts c d r = record { c = FrontOf c; d = FrontOf d; r = FrontOf r }
+-- a move whose expressions don't read the next cell, and such a one of a narrow automaton
+abbrev pub fronts : Formula → Formula → Formula → Formula → Formula → Cut
+fronts c e d f r = each (FrontOf c) (FrontOf e) (FrontOf d) (FrontOf f) (FrontOf r)
+
+abbrev pub narrow_fronts : Formula → Formula → Formula → Cut
+narrow_fronts c d r = fronts c (Leaf Zero) d (Leaf Zero) r
+
+-- what a wide automaton takes away is folded by the lesser
+abbrev pub least : Formula → Formula
+least e = Join (Fold Min) e (Leaf This)
 
 -- nothing changes; D goes on; D begins anew; C becomes of D and a word, and D begins anew; C becomes of C, D and a
--- word, and D begins anew; R becomes of R and C, and both begin anew
+-- word, and D begins anew; R becomes of R and what is held, and both begin anew. The same becomes of E and F, which a
+-- narrow automaton hasn't.
 abbrev pub kept_fronts : Cut
-kept_fronts = fronts (Leaf C) (Leaf D) (Leaf R)
+kept_fronts = fronts (Leaf C) (Leaf E) (Leaf D) (Leaf F) (Leaf R)
 
-abbrev pub longer_fronts : Op → Formula → Cut
-longer_fronts o w = fronts (Leaf C) (Join o (Leaf D) w) (Leaf R)
+abbrev pub longer_fronts : Operator → Formula → Cut
+longer_fronts o w = fronts (Leaf C) (Leaf E) (Join o (Leaf D) w) (least (Leaf F)) (Leaf R)
 
 abbrev pub begun_fronts : Formula → Cut
-begun_fronts d = fronts (Leaf C) d (Leaf R)
+begun_fronts d = fronts (Leaf C) (Leaf E) d (Leaf HighAtom) (Leaf R)
 
-abbrev pub found_fronts : Op → Formula → Formula → Cut
-found_fronts o w d = fronts (Join o (Leaf D) w) d (Leaf R)
+abbrev pub found_fronts : Operator → Formula → Formula → Cut
+found_fronts o w d = fronts (Join o (Leaf D) w) (least (Leaf F)) d (Leaf HighAtom) (Leaf R)
 
-abbrev pub inside_fronts : Op → Formula → Formula → Cut
-inside_fronts o w d = fronts (Join o (Leaf C) (Join o (Leaf D) w)) d (Leaf R)
+abbrev pub inside_fronts : Operator → Formula → Formula → Cut
+inside_fronts o w d =
+    fronts (Join o (Leaf C) (Join o (Leaf D) w)) (Join (Fold Min) (Leaf E) (least (Leaf F))) d (Leaf HighAtom) (Leaf R)
 
-abbrev pub anew_fronts : Op → Formula → Formula → Cut
-anew_fronts o c d = fronts c d (Join o (Leaf R) (Leaf C))
+abbrev pub anew_fronts : Operator → Formula → Formula → Formula → Cut
+anew_fronts o c held d = fronts c (Leaf Zero) d (Leaf HighAtom) (Join o (Leaf R) held)
+
+-- what is held: in a wide automaton C less E
+abbrev pub held_of : Bool → Formula
+held_of wide = if wide then Join Sub (Leaf C) (Leaf E) else Leaf C
 
 -- what a shape says of the split expressions of a move
-abbrev pub IsShapeOf : Shape → Cut → Type 0
-IsShapeOf Kept k = k ≡ kept_fronts
-IsShapeOf (Longer f) k = k ≡ longer_fronts (cell_op f) (cell_word f)
-IsShapeOf (Begun f) k = k ≡ begun_fronts (cell_start f)
-IsShapeOf (Found f) k = k ≡ found_fronts (cell_op f) (cell_word f) (cell_start f)
-IsShapeOf (Inside f) k = k ≡ inside_fronts (cell_op f) (cell_word f) (cell_start f)
-IsShapeOf (Anew g f) k = k ≡ anew_fronts (range_op g) (range_start g) (cell_start f)
-IsShapeOf Other k = Unit {0}
+abbrev pub IsShapeOf : Bool → Shape → Cut → Type 0
+IsShapeOf wide Kept k = k ≡ of_width wide kept_fronts
+IsShapeOf wide (Longer f) k = k ≡ of_width wide (longer_fronts (Fold (cell_op f)) (cell_word f))
+IsShapeOf wide (Begun f) k = k ≡ of_width wide (begun_fronts (cell_start f))
+IsShapeOf wide (Found f) k = k ≡ of_width wide (found_fronts (Fold (cell_op f)) (cell_word f) (cell_start f))
+IsShapeOf wide (Inside f) k = k ≡ of_width wide (inside_fronts (Fold (cell_op f)) (cell_word f) (cell_start f))
+IsShapeOf wide (Anew g f) k =
+    k ≡ of_width wide (anew_fronts (Fold (range_op g)) (range_start g) (held_of wide) (cell_start f))
+IsShapeOf wide Other k = Unit {0}
+
+-- what it says of E, F and R of a wide automaton
+abbrev pub beside_held : Shape → Formula
+beside_held Kept = Leaf E
+beside_held (Longer f) = Leaf E
+beside_held (Begun f) = Leaf E
+beside_held (Found f) = least (Leaf F)
+beside_held (Inside f) = Join (Fold Min) (Leaf E) (least (Leaf F))
+beside_held (Anew g f) = Leaf Zero
+beside_held Other = Leaf Zero
+
+abbrev pub beside_open : Shape → Formula
+beside_open Kept = Leaf F
+beside_open (Longer f) = least (Leaf F)
+beside_open (Begun f) = Leaf HighAtom
+beside_open (Found f) = Leaf HighAtom
+beside_open (Inside f) = Leaf HighAtom
+beside_open (Anew g f) = Leaf HighAtom
+beside_open Other = Leaf Zero
+
+abbrev pub wide_result : Shape → Formula
+wide_result Kept = Leaf R
+wide_result (Longer f) = Leaf R
+wide_result (Begun f) = Leaf R
+wide_result (Found f) = Leaf R
+wide_result (Inside f) = Leaf R
+wide_result (Anew g f) = Join (Fold (range_op g)) (Leaf R) (held_of true)
+wide_result Other = Leaf R
 
 -- what is planned of a state: the shape of each move, and that the move on `=` is the same as another only if it is
 pub record IsStatePlan (b : Body) (q : ℕ) (p : StatePlan) : Type 0 where
-  pub less : IsShapeOf p.less (cut_of (move_at b q Less))
-  pub equal : IsShapeOf p.equal (cut_of (move_at b q Equal))
-  pub greater : IsShapeOf p.greater (cut_of (move_at b q Greater))
+  pub less : IsShapeOf b.wide p.less (cut_of (move_at b q Less))
+  pub equal : IsShapeOf b.wide p.equal (cut_of (move_at b q Equal))
+  pub greater : IsShapeOf b.wide p.greater (cut_of (move_at b q Greater))
   pub with_less : p.equals ≡ WithLess → move_at b q Equal ≡ move_at b q Less
   pub with_greater : p.equals ≡ WithGreater → move_at b q Equal ≡ move_at b q Greater
 

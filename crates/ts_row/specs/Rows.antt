@@ -45,8 +45,8 @@ hull_in n row q i = unpacked (get_or (get_or row q []) i (nothing n)).at
 
 -- all of them in a list, value by value, for each a hull of each state
 unfoldable pub flat_row : (n states count : ℕ) → List (List (PackedHull n)) → List Hull
-flat_row n states count row = flat_map (λ i. map (λ q. hull_in n row q i) (range_with_len 0 states))
-    (range_with_len 0 count)
+flat_row n states count row =
+    flat_map (λ i. map (λ q. hull_in n row q i) (range_with_len 0 states)) (range_with_len 0 count)
 
 -- where runs start: the start registers in the start state alone
 unfoldable pub start_hull : Body → ℕ → Hull
@@ -60,8 +60,8 @@ gives_to m l twin n v h w t = cond (nat_eq m.next t) (gives m l twin n v h w) no
 unfoldable pub state_gives : Body → ℕ → ℕ → (ℕ → ℤ) → (ℕ → Hull) → ℤ → ℕ → Hull
 state_gives b q n v h w t =
     hull_of_both
-    (hull_of_both (gives_to (move_at b q Less) Less false n v h w t) (gives_to (move_at b q Equal) Equal
-    false n v h w t))
+    (hull_of_both (gives_to (move_at b q Less) Less false n v h w t)
+    (gives_to (move_at b q Equal) Equal false n v h w t))
     (gives_to (move_at b q Greater) Greater false n v h w t)
 
 -- the hull of state t of the next value w: of what all states give

@@ -13,6 +13,8 @@ use Rattle.ts_row.specs.Rows.{gives_to, lanes_of, nothing, IsColumn}
 use Rattle.ts_sweep.specs.declared.packed.PackedHull.{PackedHull}
 use Rattle.ts_sweep.specs.Columns.{IsMoved, hull_at}
 use Rattle.ts_sweep.specs.Lanes.{greater_of}
+use Rattle.ts_sweep.specs.Moves.{of_width}
+use Rattle.ts_sweep.specs.Packed.{is_wide}
 use Rattle.ts_sweep.specs.Sweeps.{total}
 
 -- how many values a cell has, and the value at a place
@@ -41,8 +43,12 @@ HasMoved n t on m old new =
 abbrev pub MovesBy : (n : ℕ) → Between n → On → Cut → List (PackedHull n) → List (PackedHull n) → Type 0
 MovesBy n t on k old new = (m : Move) → cut_of m ≡ k → HasMoved n t on m old new
 
+-- with these where registers have lanes
+abbrev pub MovesAs : (n : ℕ) → Between n → On → Cut → List (PackedHull n) → List (PackedHull n) → Type 0
+MovesAs n t on k old new = MovesBy n t on (of_width (is_wide n) k) old new
+
 abbrev pub IsShapeTaken : (n : ℕ) → Between n → On → Shape → List (PackedHull n) → List (PackedHull n) → Type 0
-IsShapeTaken n t on s old new = (m : Move) → IsShapeOf s (cut_of m) → HasMoved n t on m old new
+IsShapeTaken n t on s old new = (m : Move) → IsShapeOf (is_wide n) s (cut_of m) → HasMoved n t on m old new
 
 -- what a move gives to state u of the next value w
 abbrev pub taken_to : (n : ℕ) → Between n → On → Move → ℤ → ℕ → Hull

@@ -3,10 +3,12 @@
 //! The moves of decorated machines have few shapes. Each fold of cells, as of the widths or of the values of a range,
 //! has its own operator and words, so that the sweep of a shape is compiled with nothing left to decide.
 
-ghost use Rattle.std.specs.Prelude.{◌≡◌, ◌<◌, IfSome, length};
+ghost use Rattle.std.specs.Prelude.{◌≡◌, ◌<◌, IfSome, false, length, true};
 ghost use Rattle.ts_automaton.specs.Body.{move_of, move_on, node_of};
-ghost use Rattle.ts_automaton.specs.Formula.{Join, Leaf, formula};
+ghost use Rattle.ts_automaton.specs.Formula.{Join, Leaf, formula, is_zero};
+ghost use Rattle.ts_automaton.specs.Registers.{rests};
 ghost use Rattle.ts_automaton.specs.declared.expr.Atom.TheVariants.{C, D, R};
+ghost use Rattle.ts_automaton.specs.declared.expr.Operator.TheVariants.{Fold};
 ghost use Rattle.ts_hull.specs.Cuts.{cut_of, is_front_move};
 ghost use Rattle.ts_hull.specs.Sealed.{move_at};
 ghost use Rattle.ts_row.specs.declared.plan.Equals.TheVariants.{WithGreater, WithLess};
@@ -14,17 +16,22 @@ ghost use Rattle.ts_row.specs.Plans.{
   IsPlanOf,
   IsShapeOf,
   IsStatePlan,
+  beside_held,
+  beside_open,
   cell_op,
   cell_start,
   cell_word,
   fronts,
+  held_of,
+  narrow_fronts,
   range_op,
   range_start,
+  wide_result,
   words_formula,
 };
 
-use crate::words::{Words, is_same_turn, words_of};
-use ts_automaton::{Atom, Automaton, Op, State, Turn};
+use crate::words::{Words, is_same_turn, word_of, words_of};
+use ts_automaton::{Atom, Automaton, Expr, Op, State, Turn};
 use ts_base::Letter;
 use ts_sweep::any_part::is_front;
 
@@ -143,7 +150,7 @@ fn range_of(o: Op, start: Atom) -> Option<RangeFold>
 
 /// The shape of a move that keeps R and C, if it is known.
 fn going_shape(d: Words) -> Option<Shape>
-    ensures { IfSome result (λ s. IsShapeOf s (fronts (Leaf C) (words_formula d) (Leaf R))) }
+    ensures { IfSome result (λ s. IsShapeOf false s (narrow_fronts (Leaf C) (words_formula d) (Leaf R))) }
 {
     match d {
         Words::Word(Atom::D) => Some(Shape::Kept),
@@ -155,7 +162,8 @@ fn going_shape(d: Words) -> Option<Shape>
 
 /// The shape where C becomes of D and a word.
 fn found_shape(o: Op, word: Atom, d: Words) -> Option<Shape>
-    ensures { IfSome result (λ s. IsShapeOf s (fronts (Join o (Leaf D) (Leaf word)) (words_formula d) (Leaf R))) }
+    ensures { IfSome result (λ s. IsShapeOf false s
+        (narrow_fronts (Join (Fold o) (Leaf D) (Leaf word)) (words_formula d) (Leaf R))) }
 {
     match d {
         Words::Word(w) => Some(Shape::Found(whole_fold(o, word, w)?)),
@@ -165,8 +173,8 @@ fn found_shape(o: Op, word: Atom, d: Words) -> Option<Shape>
 
 /// The shape where C becomes of C, D and a word, if both operators are one.
 fn inside_shape(o: Op, p: Op, word: Atom, d: Words) -> Option<Shape>
-    ensures { IfSome result (λ s. IsShapeOf s
-        (fronts (Join o (Leaf C) (Join p (Leaf D) (Leaf word))) (words_formula d) (Leaf R))) }
+    ensures { IfSome result (λ s. IsShapeOf false s
+        (narrow_fronts (Join (Fold o) (Leaf C) (Join (Fold p) (Leaf D) (Leaf word))) (words_formula d) (Leaf R))) }
 {
     match d {
         Words::Word(w) => {
@@ -182,7 +190,7 @@ fn inside_shape(o: Op, p: Op, word: Atom, d: Words) -> Option<Shape>
 
 /// The shape of a move that keeps R.
 fn cell_shape(c: Words, d: Words) -> Option<Shape>
-    ensures { IfSome result (λ s. IsShapeOf s (fronts (words_formula c) (words_formula d) (Leaf R))) }
+    ensures { IfSome result (λ s. IsShapeOf false s (narrow_fronts (words_formula c) (words_formula d) (Leaf R))) }
 {
     match c {
         Words::Word(Atom::C) => going_shape(d),
@@ -194,8 +202,8 @@ fn cell_shape(c: Words, d: Words) -> Option<Shape>
 
 /// The shape where R becomes of R and C.
 fn anew_shape(o: Op, c: Words, d: Words) -> Option<Shape>
-    ensures { IfSome result (λ s. IsShapeOf s
-        (fronts (words_formula c) (words_formula d) (Join o (Leaf R) (Leaf C)))) }
+    ensures { IfSome result (λ s. IsShapeOf false s
+        (narrow_fronts (words_formula c) (words_formula d) (Join (Fold o) (Leaf R) (Leaf C)))) }
 {
     match (c, d) {
         (Words::Word(v), Words::Word(w)) => Some(Shape::Anew(range_of(o, v)?, fold_from(w)?)),
@@ -205,7 +213,8 @@ fn anew_shape(o: Op, c: Words, d: Words) -> Option<Shape>
 
 /// The shape of a move by its words.
 fn shape_of(c: Words, d: Words, r: Words) -> Option<Shape>
-    ensures { IfSome result (λ s. IsShapeOf s (fronts (words_formula c) (words_formula d) (words_formula r))) }
+    ensures { IfSome result (λ s. IsShapeOf false s
+        (narrow_fronts (words_formula c) (words_formula d) (words_formula r))) }
 {
     match r {
         Words::Word(Atom::R) => cell_shape(c, d),
@@ -214,30 +223,163 @@ fn shape_of(c: Words, d: Words, r: Words) -> Option<Shape>
     }
 }
 
-/// The shape of a move of few words.
-fn known_shape(t: &Turn) -> Option<Shape>
-    ensures { IfSome result (λ s. IsShapeOf s (fronts (formula t.now.c) (formula t.now.d) (formula t.now.r))) }
+/// The shape of a move of few words, of a narrow automaton.
+fn narrow_shape(t: &Turn) -> Option<Shape>
+    ensures { IfSome result (λ s. IsShapeOf false s
+        (narrow_fronts (formula t.now.c) (formula t.now.d) (formula t.now.r))) }
 {
     shape_of(words_of(&t.c)?, words_of(&t.d)?, words_of(&t.r)?)
+}
+
+/// What a shape says of E and F.
+fn beside(s: Shape) -> (Words, Words)
+    ensures held { words_formula result.0 ≡ beside_held s }
+    ensures open { words_formula result.1 ≡ beside_open s }
+{
+    let least = Words::Two(Op::Min, Atom::F, Atom::This);
+    match s {
+        Shape::Kept => (Words::Word(Atom::E), Words::Word(Atom::F)),
+        Shape::Longer(_) => (Words::Word(Atom::E), least),
+        Shape::Begun(_) => (Words::Word(Atom::E), Words::Word(Atom::PosInf)),
+        Shape::Found(_) => (least, Words::Word(Atom::PosInf)),
+        Shape::Inside(_) => (
+            Words::Three(Op::Min, Atom::E, Op::Min, Atom::F, Atom::This),
+            Words::Word(Atom::PosInf),
+        ),
+        Shape::Anew(_, _) => (Words::Word(Atom::Zero), Words::Word(Atom::PosInf)),
+        Shape::Other => (Words::Word(Atom::Zero), Words::Word(Atom::Zero)),
+    }
+}
+
+/// Whether an expression is a word.
+fn is_word(e: &Expr, word: Atom) -> bool
+    ensures { result ≡ true → formula e.now ≡ Leaf word }
+{
+    match word_of(e) {
+        Some(w) => w == word,
+        None => false,
+    }
+}
+
+/// Whether an expression is what a wide automaton holds, C less E.
+fn is_held(e: &Expr) -> bool
+    ensures { result ≡ true → formula e.now ≡ held_of true }
+{
+    match e {
+        Expr::Sub(a, b) => is_word(a, Atom::C) && is_word(b, Atom::E),
+        _ => false,
+    }
+}
+
+/// Whether it folds that in with R.
+fn is_anew(g: RangeFold, e: &Expr) -> bool
+    ensures { result ≡ true → formula e.now ≡ Join (Fold (range_op g)) (Leaf R) (held_of true) }
+{
+    match (g, e) {
+        (RangeFold::Sum, Expr::Add(a, b)) => is_word(a, Atom::R) && is_held(b),
+        (RangeFold::Highest, Expr::Max(a, b)) => is_word(a, Atom::R) && is_held(b),
+        (RangeFold::Lowest, Expr::Min(a, b)) => is_word(a, Atom::R) && is_held(b),
+        _ => false,
+    }
+}
+
+/// Whether R becomes what a shape says in a wide automaton.
+fn is_wide_result(s: Shape, e: &Expr) -> bool
+    ensures { result ≡ true → formula e.now ≡ wide_result s }
+{
+    match s {
+        Shape::Anew(g, _) => is_anew(g, e),
+        _ => is_word(e, Atom::R),
+    }
+}
+
+/// What R would become in a narrow automaton, which holds C alone.
+fn narrow_result(e: &Expr) -> Option<Words> {
+    match e {
+        Expr::R => Some(Words::Word(Atom::R)),
+        Expr::Add(_, _) => Some(Words::Two(Op::Add, Atom::R, Atom::C)),
+        Expr::Max(_, _) => Some(Words::Two(Op::Max, Atom::R, Atom::C)),
+        Expr::Min(_, _) => Some(Words::Two(Op::Min, Atom::R, Atom::C)),
+        _ => None,
+    }
+}
+
+/// Whether an expression is an operator over two words.
+fn is_two(e: &Expr, o: Op, first: Atom, second: Atom) -> bool
+    ensures { result ≡ true → formula e.now ≡ Join (Fold o) (Leaf first) (Leaf second) }
+{
+    match (o, e) {
+        (Op::Add, Expr::Add(a, b)) => is_word(a, first) && is_word(b, second),
+        (Op::Max, Expr::Max(a, b)) => is_word(a, first) && is_word(b, second),
+        (Op::Min, Expr::Min(a, b)) => is_word(a, first) && is_word(b, second),
+        _ => false,
+    }
+}
+
+/// Whether it is one over a word and an operator over two more.
+fn is_three(e: &Expr, o: Op, first: Atom, p: Op, second: Atom, third: Atom) -> bool
+    ensures { result ≡ true → formula e.now
+        ≡ Join (Fold o) (Leaf first) (Join (Fold p) (Leaf second) (Leaf third)) }
+{
+    match (o, e) {
+        (Op::Add, Expr::Add(a, b)) => is_word(a, first) && is_two(b, p, second, third),
+        (Op::Max, Expr::Max(a, b)) => is_word(a, first) && is_two(b, p, second, third),
+        (Op::Min, Expr::Min(a, b)) => is_word(a, first) && is_two(b, p, second, third),
+        _ => false,
+    }
+}
+
+/// Whether an expression is that of the words.
+fn is_words(e: &Expr, w: Words) -> bool
+    ensures { result ≡ true → formula e.now ≡ words_formula w }
+{
+    match w {
+        Words::Word(a) => is_word(e, a),
+        Words::Two(o, a, b) => is_two(e, o, a, b),
+        Words::Three(o, a, p, b, c) => is_three(e, o, a, p, b, c),
+    }
+}
+
+/// The shape of a move of few words, of a wide automaton.
+fn wide_shape(t: &Turn) -> Option<Shape>
+    ensures { IfSome result (λ s. IsShapeOf true s
+        (fronts (formula t.now.c) (formula t.now.e) (formula t.now.d) (formula t.now.f) (formula t.now.r))) }
+{
+    let s = shape_of(words_of(&t.c)?, words_of(&t.d)?, narrow_result(&t.r)?)?;
+    let (held, open) = beside(s);
+    if is_words(&t.e, held) && is_words(&t.f, open) && is_wide_result(s, &t.r) {
+        Some(s)
+    } else {
+        None
+    }
 }
 
 /// Whether the next cell stands in no expression of a move.
 fn is_front_move(t: &Turn) -> bool
     ensures { result ≡ is_front_move (move_of t.now) }
 {
-    is_front(&t.c) && is_front(&t.d) && is_front(&t.r)
+    is_front(&t.c) & is_front(&t.e) & is_front(&t.d) & is_front(&t.f) & is_front(&t.r)
+}
+
+/// The shape of a move of an automaton of a width whose expressions don't read the next cell, if it is known.
+fn known_shape(t: &Turn, wide: bool) -> Option<Shape>
+    requires front { is_front_move (move_of t.now) ≡ true }
+    requires rests { rests is_zero wide (move_of t.now).to ≡ true }
+    ensures { IfSome result (λ s. IsShapeOf wide s (cut_of (move_of t.now))) }
+{
+    if wide { wide_shape(t) } else { narrow_shape(t) }
 }
 
 impl Shape {
-    /// The shape of a move.
-    #[tactic(auto, using(crate::proofs::ShapeLaws::shape_is))]
-    fn of(t: &Turn) -> Shape
-        ensures { IsShapeOf result (cut_of (move_of t.now)) }
+    /// The shape of a move of an automaton of a width.
+    fn of(t: &Turn, wide: bool) -> Shape
+        requires { rests is_zero wide (move_of t.now).to ≡ true }
+        ensures { IsShapeOf wide result (cut_of (move_of t.now)) }
     {
         if !is_front_move(t) {
             return Shape::Other;
         }
-        match known_shape(t) {
+        match known_shape(t, wide) {
             Some(shape) => shape,
             None => Shape::Other,
         }
@@ -260,6 +402,7 @@ pub(crate) fn turn(a: &Automaton, q: u8, l: Letter) -> &Turn
     requires { q < length a.now.states }
     ensures value { move_of result.now ≡ move_at a.now q l }
     ensures exists { result.now.next < length a.now.states }
+    ensures rests { rests is_zero a.now.wide (move_of result.now).to ≡ true }
 {
     turn_on(a.state(q), l)
 }
@@ -289,9 +432,9 @@ impl StatePlan {
         let greater = turn(a, q, Letter::Greater);
         let equals = equals_of(less, equal, greater);
         StatePlan {
-            less: Shape::of(less),
-            equal: Shape::of(equal),
-            greater: Shape::of(greater),
+            less: Shape::of(less, a.wide()),
+            equal: Shape::of(equal, a.wide()),
+            greater: Shape::of(greater, a.wide()),
             equals,
         }
     }

@@ -2,6 +2,8 @@
 
 ghost use Rattle.std.specs.Prelude.{◌≡◌, ℕ, ◌<◌, ◌≤◌, IfOk, false, true, get_or, length};
 ghost use Rattle.ts_automaton.specs.Body.{move_of};
+ghost use Rattle.ts_automaton.specs.Formula.{is_zero};
+ghost use Rattle.ts_automaton.specs.Registers.{rests};
 ghost use Rattle.ts_base.specs.declared.letter.Letter.TheVariants.{Equal};
 ghost use Rattle.ts_hull.specs.Cuts.{cut_of};
 ghost use Rattle.ts_hull.specs.Sealed.{move_at};
@@ -9,6 +11,7 @@ ghost use Rattle.ts_row.specs.Plans.{IsPlanOf, IsShapeOf, IsStatePlan};
 ghost use Rattle.ts_row.specs.Rows.{HasTaken, IsColumn, IsRow, hull_in, lanes_of, next_hull, nothing, state_gives};
 ghost use Rattle.ts_row.specs.Takings.{HasMoved, IsCovered, both_hulls, count_in, taken_to, two_taken_to, value_in};
 ghost use Rattle.ts_sweep.specs.Columns.{hull_at};
+ghost use Rattle.ts_sweep.specs.Packed.{is_wide};
 ghost use Rattle.ts_sweep.specs.Sweeps.{total};
 
 use crate::between::{Between, On};
@@ -34,19 +37,21 @@ struct Planned<'a> {
 }
 
 /// The move of a state on a letter, as it is planned.
-fn planned_move<'a>(
+fn planned_move<'a, const N: usize>(
     a: &'a Automaton,
     q: u8,
     letter: Letter,
     twin: bool,
     shape: Shape,
 ) -> Planned<'a>
+    requires width { a.now.wide ≡ is_wide N }
     requires state { q < length a.now.states }
     requires alone { letter ≡ Equal → twin ≡ false }
-    requires shape { IsShapeOf shape (cut_of (move_at a.now q letter)) }
+    requires shape { IsShapeOf a.now.wide shape (cut_of (move_at a.now q letter)) }
     ensures value { move_of result.turn.now ≡ move_at a.now q letter }
     ensures leads { result.turn.now.next < length a.now.states }
-    ensures shape { IsShapeOf result.shape (cut_of (move_of result.turn.now)) }
+    ensures rests { rests is_zero (is_wide N) (move_of result.turn.now).to ≡ true }
+    ensures shape { IsShapeOf (is_wide N) result.shape (cut_of (move_of result.turn.now)) }
     ensures letter { result.on.letter ≡ letter }
     ensures twin { result.on.twin ≡ twin }
 {
@@ -60,7 +65,8 @@ fn planned_move<'a>(
 /// A move is taken in into a column: by the sweep of its shape, or by its expressions, or by pairs.
 fn take_turn<const N: usize>(m: Planned<'_>, t: &Between<'_, N>, next: &mut [PackedHull<N>])
     requires covered { IsCovered N t.now }
-    requires shape { IsShapeOf m.shape (cut_of (move_of m.turn.now)) }
+    requires width { rests is_zero (is_wide N) (move_of m.turn.now).to ≡ true }
+    requires shape { IsShapeOf (is_wide N) m.shape (cut_of (move_of m.turn.now)) }
     requires next_packed { IsColumn N (count_in t.now.next_values) next.old }
     ensures packed { IsColumn N (count_in t.now.next_values) next.new }
     ensures moved { HasMoved N t.now m.entry.on (move_of m.entry.turn.now) next.old next.new }
@@ -94,7 +100,8 @@ fn take_turn<const N: usize>(m: Planned<'_>, t: &Between<'_, N>, next: &mut [Pac
 /// A move is taken in into the row, at the state that it leads to.
 fn take_move<const N: usize>(m: Planned<'_>, t: &Between<'_, N>, next: &mut PackedRow<N>)
     requires covered { IsCovered N t.now }
-    requires shape { IsShapeOf m.shape (cut_of (move_of m.turn.now)) }
+    requires width { rests is_zero (is_wide N) (move_of m.turn.now).to ≡ true }
+    requires shape { IsShapeOf (is_wide N) m.shape (cut_of (move_of m.turn.now)) }
     requires leads { m.turn.now.next < length next.old }
     requires row { IsRow N (length next.old) (count_in t.now.next_values) next.old }
     ensures row { IsRow N (length next.old) (count_in t.now.next_values) next.new }
@@ -112,15 +119,17 @@ fn take_two<const N: usize>(
     next: &mut PackedRow<N>,
 )
     requires covered { IsCovered N t.now }
-    requires shape { IsShapeOf m.shape (cut_of (move_of m.turn.now)) }
-    requires other_shape { IsShapeOf k.shape (cut_of (move_of k.turn.now)) }
+    requires width { rests is_zero (is_wide N) (move_of m.turn.now).to ≡ true }
+    requires shape { IsShapeOf (is_wide N) m.shape (cut_of (move_of m.turn.now)) }
+    requires other_width { rests is_zero (is_wide N) (move_of k.turn.now).to ≡ true }
+    requires other_shape { IsShapeOf (is_wide N) k.shape (cut_of (move_of k.turn.now)) }
     requires leads { m.turn.now.next < length next.old }
     requires other_leads { k.turn.now.next < length next.old }
     requires row { IsRow N (length next.old) (count_in t.now.next_values) next.old }
     ensures row { IsRow N (length next.old) (count_in t.now.next_values) next.new }
     ensures taken { HasTaken N (length next.old) (count_in t.now.next_values) (value_in t.now.next_values)
-        (two_taken_to N t.now m.entry.on (move_of m.entry.turn.now) k.entry.on (move_of k.entry.turn.now))
-        next.old next.new }
+        (two_taken_to N t.now m.entry.on (move_of m.entry.turn.now) k.entry.on
+        (move_of k.entry.turn.now)) next.old next.new }
 {
     take_move(m, t, next);
     take_move(k, t, next);
@@ -134,6 +143,7 @@ fn take_moves<const N: usize>(
     t: &Between<'_, N>,
     next: &mut PackedRow<N>,
 )
+    requires width { a.now.wide ≡ is_wide N }
     requires state { q < length a.now.states }
     requires plan { IsStatePlan a.now q plan }
     requires covered { IsCovered N t.now }
@@ -147,19 +157,19 @@ fn take_moves<const N: usize>(
 {
     match plan.equals {
         Equals::WithLess => {
-            let less = planned_move(a, q, Letter::Less, true, plan.less);
-            let greater = planned_move(a, q, Letter::Greater, false, plan.greater);
+            let less = planned_move::<N>(a, q, Letter::Less, true, plan.less);
+            let greater = planned_move::<N>(a, q, Letter::Greater, false, plan.greater);
             take_two(less, greater, t, next);
         }
         Equals::WithGreater => {
-            let less = planned_move(a, q, Letter::Less, false, plan.less);
-            let greater = planned_move(a, q, Letter::Greater, true, plan.greater);
+            let less = planned_move::<N>(a, q, Letter::Less, false, plan.less);
+            let greater = planned_move::<N>(a, q, Letter::Greater, true, plan.greater);
             take_two(less, greater, t, next);
         }
         Equals::Alone => {
-            let less = planned_move(a, q, Letter::Less, false, plan.less);
-            let equal = planned_move(a, q, Letter::Equal, false, plan.equal);
-            let greater = planned_move(a, q, Letter::Greater, false, plan.greater);
+            let less = planned_move::<N>(a, q, Letter::Less, false, plan.less);
+            let equal = planned_move::<N>(a, q, Letter::Equal, false, plan.equal);
+            let greater = planned_move::<N>(a, q, Letter::Greater, false, plan.greater);
             take_two(less, equal, t, next);
             take_move(greater, t, next);
         }
@@ -184,6 +194,7 @@ fn take_state<const N: usize>(
     next_values: Cell<'_>,
     next: &mut PackedRow<N>,
 )
+    requires width { a.now.wide ≡ is_wide N }
     requires registers { 6 ≤ N }
     requires lanes { N ≤ 64 }
     requires state { q < length a.now.states }
@@ -220,6 +231,7 @@ pub fn next_row<const N: usize>(
     next_values: Cell<'_>,
     next: &mut PackedRow<N>,
 ) -> Result<(), Memory>
+    requires width { a.now.wide ≡ is_wide N }
     requires registers { 6 ≤ N }
     requires lanes { N ≤ 64 }
     requires plan { IsPlanOf a.now plan.now }

@@ -1,6 +1,7 @@
-//! Which sweep takes in a move of a shape: a type for each.
+//! Which sweep takes in a move of a shape: a type for each. What is said of E and F is looked at in wide rows alone.
 
 ghost use Rattle.std.specs.Prelude.{◌≡◌, true, false};
+ghost use Rattle.ts_automaton.specs.declared.expr.Operator.TheVariants.{Fold};
 ghost use Rattle.ts_hull.specs.Cuts.{all_whole};
 ghost use Rattle.ts_row.specs.Plans.{
   IsShapeOf,
@@ -10,21 +11,23 @@ ghost use Rattle.ts_row.specs.Plans.{
   cell_start,
   cell_word,
   found_fronts,
+  held_of,
   inside_fronts,
   longer_fronts,
   range_op,
   range_start,
 };
 ghost use Rattle.ts_row.specs.Rows.{IsColumn};
-ghost use Rattle.ts_row.specs.Takings.{IsCovered, IsShapeTaken, MovesBy, count_in};
+ghost use Rattle.ts_row.specs.Takings.{IsCovered, IsShapeTaken, MovesAs, MovesBy, count_in};
+ghost use Rattle.ts_sweep.specs.Packed.{is_wide};
 
 use crate::between::{Between, On};
 use crate::cell::Cell;
 use crate::plan::{CellFold, RangeFold, Shape};
 use ts_sweep::front::{Front, High, Join, Low, One, Register, This, Zero};
 use ts_sweep::moves::{Keep, Moves, Parts};
-use ts_sweep::operator::{Greater, Lesser, Operator, Plus};
-use ts_sweep::packed::PackedHull;
+use ts_sweep::operator::{Greater, Lesser, Minus, Operator, Plus};
+use ts_sweep::packed::{Packed, PackedHull};
 use ts_sweep::part::Whole;
 use ts_sweep::take::take_column;
 
@@ -55,6 +58,16 @@ pub(crate) fn sweep_as<const N: usize, F: Moves<PackedHull<N>>>(
     )
 }
 
+/// The least of a register and the cell.
+#[inline(always)]
+fn least<const K: usize>(register: Register<K>) -> Join<Lesser, Register<K>, This> {
+    Join {
+        by: Lesser,
+        left: register,
+        right: This,
+    }
+}
+
 /// `D` of `D` and a word.
 #[inline(never)]
 fn longer_as<const N: usize, O: Operator, W: Front>(
@@ -67,22 +80,28 @@ fn longer_as<const N: usize, O: Operator, W: Front>(
     requires covered { IsCovered N t.now }
     requires next_packed { IsColumn N (count_in t.now.next_values) next.old }
     ensures packed { IsColumn N (count_in t.now.next_values) next.new }
-    ensures taken { result ≡ true → MovesBy N t.now on (longer_fronts (O.op by) (W.formula word)) next.old next.new }
+    ensures taken { result ≡ true → MovesAs N t.now on (longer_fronts (O.op by) (W.formula word)) next.old next.new }
     ensures kept { result ≡ false → next.new ≡ next.old }
 {
     let parts = Parts {
         c: Whole {
             front: Register::<0>,
         },
+        e: Whole {
+            front: Register::<1>,
+        },
         d: Whole {
             front: Join {
                 by,
-                left: Register::<1>,
+                left: Register::<2>,
                 right: word,
             },
         },
+        f: Whole {
+            front: least(Register::<3>),
+        },
         r: Whole {
-            front: Register::<2>,
+            front: Register::<4>,
         },
     };
     sweep_as(parts, on, t, next)
@@ -99,16 +118,20 @@ fn begun_as<const N: usize, V: Front>(
     requires covered { IsCovered N t.now }
     requires next_packed { IsColumn N (count_in t.now.next_values) next.old }
     ensures packed { IsColumn N (count_in t.now.next_values) next.new }
-    ensures taken { result ≡ true → MovesBy N t.now on (begun_fronts (V.formula start)) next.old next.new }
+    ensures taken { result ≡ true → MovesAs N t.now on (begun_fronts (V.formula start)) next.old next.new }
     ensures kept { result ≡ false → next.new ≡ next.old }
 {
     let parts = Parts {
         c: Whole {
             front: Register::<0>,
         },
+        e: Whole {
+            front: Register::<1>,
+        },
         d: Whole { front: start },
+        f: Whole { front: High },
         r: Whole {
-            front: Register::<2>,
+            front: Register::<4>,
         },
     };
     sweep_as(parts, on, t, next)
@@ -127,21 +150,25 @@ fn found_as<const N: usize, O: Operator, W: Front, V: Front>(
     requires covered { IsCovered N t.now }
     requires next_packed { IsColumn N (count_in t.now.next_values) next.old }
     ensures packed { IsColumn N (count_in t.now.next_values) next.new }
-    ensures taken { result ≡ true → MovesBy N t.now on (found_fronts (O.op by) (W.formula word) (V.formula start))
-        next.old next.new }
+    ensures taken { result ≡ true → MovesAs N t.now on
+        (found_fronts (O.op by) (W.formula word) (V.formula start)) next.old next.new }
     ensures kept { result ≡ false → next.new ≡ next.old }
 {
     let parts = Parts {
         c: Whole {
             front: Join {
                 by,
-                left: Register::<1>,
+                left: Register::<2>,
                 right: word,
             },
         },
+        e: Whole {
+            front: least(Register::<3>),
+        },
         d: Whole { front: start },
+        f: Whole { front: High },
         r: Whole {
-            front: Register::<2>,
+            front: Register::<4>,
         },
     };
     sweep_as(parts, on, t, next)
@@ -160,8 +187,8 @@ fn inside_as<const N: usize, O: Operator, W: Front, V: Front>(
     requires covered { IsCovered N t.now }
     requires next_packed { IsColumn N (count_in t.now.next_values) next.old }
     ensures packed { IsColumn N (count_in t.now.next_values) next.new }
-    ensures taken { result ≡ true → MovesBy N t.now on (inside_fronts (O.op by) (W.formula word) (V.formula start))
-        next.old next.new }
+    ensures taken { result ≡ true → MovesAs N t.now on
+        (inside_fronts (O.op by) (W.formula word) (V.formula start)) next.old next.new }
     ensures kept { result ≡ false → next.new ≡ next.old }
 {
     let parts = Parts {
@@ -171,22 +198,64 @@ fn inside_as<const N: usize, O: Operator, W: Front, V: Front>(
                 left: Register::<0>,
                 right: Join {
                     by,
-                    left: Register::<1>,
+                    left: Register::<2>,
                     right: word,
                 },
             },
         },
+        e: Whole {
+            front: Join {
+                by: Lesser,
+                left: Register::<1>,
+                right: least(Register::<3>),
+            },
+        },
         d: Whole { front: start },
+        f: Whole { front: High },
         r: Whole {
-            front: Register::<2>,
+            front: Register::<4>,
         },
     };
     sweep_as(parts, on, t, next)
 }
 
-/// `R` of `R` and `C`, which begins anew as `D` does.
+/// `R` of `R` and what is held, which begins anew as `D` does.
 #[inline(never)]
-fn anew_as<const N: usize, O: Operator, U: Front, V: Front>(
+fn anew_as<const N: usize, O: Operator, U: Front, X: Front, V: Front>(
+    by: O,
+    range_start: U,
+    held: X,
+    start: V,
+    on: On,
+    t: &Between<'_, N>,
+    next: &mut [PackedHull<N>],
+) -> bool
+    requires covered { IsCovered N t.now }
+    requires next_packed { IsColumn N (count_in t.now.next_values) next.old }
+    ensures packed { IsColumn N (count_in t.now.next_values) next.new }
+    ensures taken { result ≡ true → MovesAs N t.now on
+        (anew_fronts (O.op by) (U.formula range_start) (X.formula held) (V.formula start)) next.old next.new }
+    ensures kept { result ≡ false → next.new ≡ next.old }
+{
+    let parts = Parts {
+        c: Whole { front: range_start },
+        e: Whole { front: Zero },
+        d: Whole { front: start },
+        f: Whole { front: High },
+        r: Whole {
+            front: Join {
+                by,
+                left: Register::<4>,
+                right: held,
+            },
+        },
+    };
+    sweep_as(parts, on, t, next)
+}
+
+/// The same of what is held in a row of the width: C, or C less E.
+#[inline(always)]
+fn anew_by<const N: usize, O: Operator, U: Front, V: Front>(
     by: O,
     range_start: U,
     start: V,
@@ -197,22 +266,20 @@ fn anew_as<const N: usize, O: Operator, U: Front, V: Front>(
     requires covered { IsCovered N t.now }
     requires next_packed { IsColumn N (count_in t.now.next_values) next.old }
     ensures packed { IsColumn N (count_in t.now.next_values) next.new }
-    ensures taken { result ≡ true → MovesBy N t.now on (anew_fronts (O.op by) (U.formula range_start) (V.formula start))
-        next.old next.new }
+    ensures taken { result ≡ true → MovesAs N t.now on
+        (anew_fronts (O.op by) (U.formula range_start) (held_of (is_wide N)) (V.formula start)) next.old next.new }
     ensures kept { result ≡ false → next.new ≡ next.old }
 {
-    let parts = Parts {
-        c: Whole { front: range_start },
-        d: Whole { front: start },
-        r: Whole {
-            front: Join {
-                by,
-                left: Register::<2>,
-                right: Register::<0>,
-            },
-        },
-    };
-    sweep_as(parts, on, t, next)
+    if PackedHull::<N>::is_wide() {
+        let less = Join {
+            by: Minus,
+            left: Register::<0>,
+            right: Register::<1>,
+        };
+        anew_as(by, range_start, less, start, on, t, next)
+    } else {
+        anew_as(by, range_start, Register::<0>, start, on, t, next)
+    }
 }
 
 /// The fold of cells goes on.
@@ -226,7 +293,8 @@ fn longer<const N: usize>(
     requires covered { IsCovered N t.now }
     requires next_packed { IsColumn N (count_in t.now.next_values) next.old }
     ensures packed { IsColumn N (count_in t.now.next_values) next.new }
-    ensures taken { result ≡ true → MovesBy N t.now on (longer_fronts (cell_op f) (cell_word f)) next.old next.new }
+    ensures taken { result ≡ true → MovesAs N t.now on
+        (longer_fronts (Fold (cell_op f)) (cell_word f)) next.old next.new }
     ensures kept { result ≡ false → next.new ≡ next.old }
 {
     match f {
@@ -249,7 +317,7 @@ fn begun<const N: usize>(
     requires covered { IsCovered N t.now }
     requires next_packed { IsColumn N (count_in t.now.next_values) next.old }
     ensures packed { IsColumn N (count_in t.now.next_values) next.new }
-    ensures taken { result ≡ true → MovesBy N t.now on (begun_fronts (cell_start f)) next.old next.new }
+    ensures taken { result ≡ true → MovesAs N t.now on (begun_fronts (cell_start f)) next.old next.new }
     ensures kept { result ≡ false → next.new ≡ next.old }
 {
     match f {
@@ -271,8 +339,8 @@ fn found<const N: usize>(
     requires covered { IsCovered N t.now }
     requires next_packed { IsColumn N (count_in t.now.next_values) next.old }
     ensures packed { IsColumn N (count_in t.now.next_values) next.new }
-    ensures taken { result ≡ true → MovesBy N t.now on (found_fronts (cell_op f) (cell_word f) (cell_start f))
-        next.old next.new }
+    ensures taken { result ≡ true → MovesAs N t.now on
+        (found_fronts (Fold (cell_op f)) (cell_word f) (cell_start f)) next.old next.new }
     ensures kept { result ≡ false → next.new ≡ next.old }
 {
     match f {
@@ -295,8 +363,8 @@ fn inside<const N: usize>(
     requires covered { IsCovered N t.now }
     requires next_packed { IsColumn N (count_in t.now.next_values) next.old }
     ensures packed { IsColumn N (count_in t.now.next_values) next.new }
-    ensures taken { result ≡ true → MovesBy N t.now on (inside_fronts (cell_op f) (cell_word f) (cell_start f))
-        next.old next.new }
+    ensures taken { result ≡ true → MovesAs N t.now on
+        (inside_fronts (Fold (cell_op f)) (cell_word f) (cell_start f)) next.old next.new }
     ensures kept { result ≡ false → next.new ≡ next.old }
 {
     match f {
@@ -320,14 +388,14 @@ fn anew_from<const N: usize, V: Front>(
     requires covered { IsCovered N t.now }
     requires next_packed { IsColumn N (count_in t.now.next_values) next.old }
     ensures packed { IsColumn N (count_in t.now.next_values) next.new }
-    ensures taken { result ≡ true → MovesBy N t.now on (anew_fronts (range_op g) (range_start g) (V.formula start))
-        next.old next.new }
+    ensures taken { result ≡ true → MovesAs N t.now on
+        (anew_fronts (Fold (range_op g)) (range_start g) (held_of (is_wide N)) (V.formula start)) next.old next.new }
     ensures kept { result ≡ false → next.new ≡ next.old }
 {
     match g {
-        RangeFold::Sum => anew_as(Plus, Zero, start, on, t, next),
-        RangeFold::Highest => anew_as(Greater, Low, start, on, t, next),
-        RangeFold::Lowest => anew_as(Lesser, High, start, on, t, next),
+        RangeFold::Sum => anew_by(Plus, Zero, start, on, t, next),
+        RangeFold::Highest => anew_by(Greater, Low, start, on, t, next),
+        RangeFold::Lowest => anew_by(Lesser, High, start, on, t, next),
     }
 }
 
@@ -343,8 +411,8 @@ fn anew<const N: usize>(
     requires covered { IsCovered N t.now }
     requires next_packed { IsColumn N (count_in t.now.next_values) next.old }
     ensures packed { IsColumn N (count_in t.now.next_values) next.new }
-    ensures taken { result ≡ true → MovesBy N t.now on (anew_fronts (range_op g) (range_start g) (cell_start f))
-        next.old next.new }
+    ensures taken { result ≡ true → MovesAs N t.now on
+        (anew_fronts (Fold (range_op g)) (range_start g) (held_of (is_wide N)) (cell_start f)) next.old next.new }
     ensures kept { result ≡ false → next.new ≡ next.old }
 {
     match f {

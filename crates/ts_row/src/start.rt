@@ -1,19 +1,19 @@
 //! The row of the cell at which runs start.
 
 ghost use Rattle.std.specs.Prelude.{◌≡◌, ℕ, ◌<◌, ◌≤◌, IfOk, true, length};
-ghost use Rattle.ts_automaton.specs.Registers.{regs_of};
+ghost use Rattle.ts_automaton.specs.Registers.{regs_of, rests};
 ghost use Rattle.ts_automaton.specs.SpanRun.{one_hull};
-ghost use Rattle.ts_automaton.specs.Typing.{each_is, is_constant};
+ghost use Rattle.ts_automaton.specs.Typing.{each_is, is_constant, is_number_zero};
 ghost use Rattle.ts_base.specs.Spans.{one_span};
 ghost use Rattle.ts_hull.specs.Hulls.{hull_of};
 ghost use Rattle.ts_row.specs.Rows.{IsHull, IsRow, hull_in, start_hull};
-ghost use Rattle.ts_sweep.specs.Packed.{IsPackOf};
+ghost use Rattle.ts_sweep.specs.Packed.{IsPackOf, is_wide};
 
 use crate::packed_row::PackedRow;
 use std::alloc::Global;
 use ts_automaton::{Automaton, Regs};
 use ts_base::{Ext, Memory};
-use ts_sweep::packed::{Ends, Packed, PackedHull};
+use ts_sweep::packed::{Ends, Name, Packed, PackedHull};
 
 /// The ends of a start constant.
 fn constant_ends(e: Ext) -> Ends
@@ -40,13 +40,21 @@ fn constant_ends(e: Ext) -> Ends
 fn packed_start<const N: usize>(regs: Regs) -> PackedHull<N>
     requires registers { 6 ≤ N }
     requires constants { each_is is_constant (regs_of regs) ≡ true }
+    requires width { rests is_number_zero (is_wide N) (regs_of regs) ≡ true }
     ensures { IsHull N (hull_of (one_hull (regs_of regs))) result }
 {
     let zeros = PackedHull::<N> { at: [0; N] };
     let c = constant_ends(regs.c);
+    let e = constant_ends(regs.e);
     let d = constant_ends(regs.d);
+    let f = constant_ends(regs.f);
     let r = constant_ends(regs.r);
-    zeros.with(0, c).with(1, d).with(2, r)
+    zeros
+        .with(Name::C, c)
+        .with(Name::E, e)
+        .with(Name::D, d)
+        .with(Name::F, f)
+        .with(Name::R, r)
 }
 
 /// The row of a cell with so many values at which runs start: the start registers in the start state, and nothing in
@@ -57,6 +65,7 @@ pub fn start_row<const N: usize>(
     count: usize,
     row: &mut PackedRow<N>,
 ) -> Result<(), Memory>
+    requires width { a.now.wide ≡ is_wide N }
     requires registers { 6 ≤ N }
     requires lanes { N ≤ 64 }
     ensures { IfOk result (λ u. IsRow N (length a.now.states) count row.new

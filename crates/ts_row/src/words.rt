@@ -3,6 +3,7 @@
 ghost use Rattle.std.specs.Prelude.{◌≡◌, IfSome, true};
 ghost use Rattle.ts_automaton.specs.Body.{move_of};
 ghost use Rattle.ts_automaton.specs.Formula.{Join, Leaf, formula};
+ghost use Rattle.ts_automaton.specs.declared.expr.Operator.TheVariants.{Fold};
 ghost use Rattle.ts_row.specs.Plans.{words_formula};
 
 use ts_automaton::{Atom, Expr, Op, Turn};
@@ -16,12 +17,14 @@ pub(crate) enum Words {
 }
 
 /// The word that an expression is.
-fn word_of(e: &Expr) -> Option<Atom>
+pub(crate) fn word_of(e: &Expr) -> Option<Atom>
     ensures { IfSome result (λ a. formula e.now ≡ Leaf a) }
 {
     match e {
         Expr::C => Some(Atom::C),
+        Expr::E => Some(Atom::E),
         Expr::D => Some(Atom::D),
+        Expr::F => Some(Atom::F),
         Expr::R => Some(Atom::R),
         Expr::This => Some(Atom::This),
         Expr::Next => Some(Atom::Next),
@@ -33,9 +36,9 @@ fn word_of(e: &Expr) -> Option<Atom>
     }
 }
 
-/// The operator and the two words that an expression is.
+/// The operator and the two words that an expression is. It is no difference.
 fn two_of(e: &Expr) -> Option<(Op, Atom, Atom)>
-    ensures { IfSome result (λ p. formula e.now ≡ Join p.0 (Leaf p.1) (Leaf p.2)) }
+    ensures { IfSome result (λ p. formula e.now ≡ Join (Fold p.0) (Leaf p.1) (Leaf p.2)) }
 {
     match e {
         Expr::Add(a, b) => Some((Op::Add, word_of(a)?, word_of(b)?)),
@@ -47,7 +50,7 @@ fn two_of(e: &Expr) -> Option<(Op, Atom, Atom)>
 
 /// The words of an operator over a word and one or two more.
 fn joined_words(o: Op, a: &Expr, b: &Expr) -> Option<Words>
-    ensures { IfSome result (λ p. Join o (formula a.now) (formula b.now) ≡ words_formula p) }
+    ensures { IfSome result (λ p. Join (Fold o) (formula a.now) (formula b.now) ≡ words_formula p) }
 {
     let first = word_of(a)?;
     match word_of(b) {
@@ -77,9 +80,11 @@ fn is_same(e: &Expr, f: &Expr) -> bool
 {
     match (e, f) {
         (Expr::Add(a, b), Expr::Add(c, d)) => is_same(a, c) && is_same(b, d),
+        (Expr::Sub(a, b), Expr::Sub(c, d)) => is_same(a, c) && is_same(b, d),
         (Expr::Max(a, b), Expr::Max(c, d)) => is_same(a, c) && is_same(b, d),
         (Expr::Min(a, b), Expr::Min(c, d)) => is_same(a, c) && is_same(b, d),
-        (Expr::C, Expr::C) | (Expr::D, Expr::D) | (Expr::R, Expr::R) => true,
+        (Expr::C, Expr::C) | (Expr::E, Expr::E) | (Expr::D, Expr::D) => true,
+        (Expr::F, Expr::F) | (Expr::R, Expr::R) => true,
         (Expr::This, Expr::This) | (Expr::Next, Expr::Next) => true,
         (Expr::Zero, Expr::Zero) | (Expr::Unit, Expr::Unit) => true,
         (Expr::NegInf, Expr::NegInf) | (Expr::PosInf, Expr::PosInf) => true,
@@ -87,9 +92,20 @@ fn is_same(e: &Expr, f: &Expr) -> bool
     }
 }
 
+/// Whether all expressions of two moves are the same.
+fn are_same(t: &Turn, u: &Turn) -> bool
+    ensures { result ≡ true → (move_of t.now).to ≡ (move_of u.now).to }
+{
+    is_same(&t.c, &u.c)
+        && is_same(&t.e, &u.e)
+        && is_same(&t.d, &u.d)
+        && is_same(&t.f, &u.f)
+        && is_same(&t.r, &u.r)
+}
+
 /// Whether two moves lead to the same state by the same expressions.
 pub(crate) fn is_same_turn(t: &Turn, u: &Turn) -> bool
     ensures { result ≡ true → move_of t.now ≡ move_of u.now }
 {
-    t.next == u.next && is_same(&t.c, &u.c) && is_same(&t.d, &u.d) && is_same(&t.r, &u.r)
+    t.next == u.next && are_same(t, u)
 }

@@ -1,9 +1,12 @@
 use Rattle.std.proofs.Common.{◌≡◌, ℕ, ◌<◌, true, set, ap, sym, subst, rules}
 use Rattle.ts_automaton.specs.SpanRun.{one_hull}
-use Rattle.ts_automaton.specs.Typing.{each_is, is_constant}
+use Rattle.ts_automaton.specs.Registers.{rests}
+use Rattle.ts_automaton.specs.Typing.{each_is, is_constant, is_number_zero}
 use Rattle.ts_hull.specs.Hulls.{hull_of}
 use Rattle.ts_row.specs.Rows.{IsHull, IsRow, hull_in, start_hull}
-use Rattle.ts_row.proofs.StartLaws.{start_constants, started}
+use Rattle.ts_row.proofs.StartLaws.{started}
+use Rattle.ts_row.proofs.WidthLaws.{start_constants, start_rests}
+use Rattle.ts_sweep.specs.Packed.{is_wide}
 use Rattle.ts_row.proofs.start.start_row.Goals as goal
 
 pub packed_start-hull-requires : goal.packed_start-hull-requires
@@ -11,7 +14,11 @@ packed_start-hull-requires g c = (
   search rules,
   (
     c.requires.registers,
-    subst (λ z. each_is is_constant z ≡ true) (sym (ap (λ z. z.regs) c.start.ensures.value)) (start_constants c.args.a.now c.states-states.ensures.rules),
+    (
+      subst (λ z. each_is is_constant z ≡ true) (sym (ap (λ z. z.regs) c.start.ensures.value)) (start_constants c.args.a.now c.states-states.ensures.rules),
+      subst (λ z. rests is_number_zero (is_wide g.row.N) z ≡ true) (sym (ap (λ z. z.regs) c.start.ensures.value))
+          (subst (λ w. rests is_number_zero w c.args.a.now.start ≡ true) c.requires.width (start_rests c.args.a.now c.states-states.ensures.rules)),
+    ),
   ),
 )
 

@@ -1,0 +1,18 @@
+use Rattle.std.proofs.Common.{false, sym, subst, ◌∙◌}
+use Rattle.ts_automaton.specs.Formula.{formula}
+use Rattle.ts_row.specs.Plans.{IsShapeOf, narrow_fronts, words_formula}
+use Rattle.ts_row.proofs.ShapeLaws.{wide_is}
+use Rattle.ts_row.proofs.plan.wide_shape.Goals as goal
+
+pub returns-then-is_wide_result : goal.returns-then-is_wide_result
+returns-then-is_wide_result c =
+    let t = c.args.t.now in
+    let s = c.in_ok-s.s in
+    let r = words_formula c.in_ok-narrow_result.field-0 in
+    let d = words_formula c.in_ok-words_of-2.field-0 in
+    let short = subst (λ z. IsShapeOf false s (narrow_fronts (formula t.c) z r)) (sym c.in_ok-words_of-2.ensures)
+    (subst (λ z. IsShapeOf false s (narrow_fronts z d r)) (sym c.in_ok-words_of.ensures) c.in_ok-s.ensures) in
+    wide_is s (formula t.c) (formula t.e) (formula t.d) (formula t.f) (formula t.r) r short
+    (c.is_words.ensures c.if-is_words.true ∙ c.beside-held.ensures.held)
+    (c.is_words-then-is_words.ensures c.if-is_words-2.true ∙ c.beside-held.ensures.open)
+    (c.is_wide_result.ensures c.if-is_wide_result.true)

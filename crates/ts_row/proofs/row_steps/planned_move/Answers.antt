@@ -1,0 +1,17 @@
+use Rattle.std.proofs.Common.{◌≡◌, true, sym, subst}
+use Rattle.ts_automaton.specs.Body.{move_of}
+use Rattle.ts_automaton.specs.Formula.{is_zero}
+use Rattle.ts_automaton.specs.Registers.{rests}
+use Rattle.ts_hull.specs.Cuts.{cut_of}
+use Rattle.ts_row.specs.Plans.{IsShapeOf}
+use Rattle.ts_row.proofs.PlanLaws.{same_shape}
+use Rattle.ts_row.proofs.row_steps.planned_move.Goals as goal
+
+pub returns-clause-rests : goal.returns-clause-rests
+returns-clause-rests g c =
+    subst (λ w. rests is_zero w (move_of c.turn.result.now).to ≡ true) c.requires.width c.turn.ensures.rests
+
+pub returns-clause-shape : goal.returns-clause-shape
+returns-clause-shape g c =
+    subst (λ w. IsShapeOf w c.args.shape (cut_of (move_of c.turn.result.now))) c.requires.width
+    (same_shape c.args.a.now.wide c.args.shape _ _ (sym c.turn.ensures.value) c.requires.shape)
