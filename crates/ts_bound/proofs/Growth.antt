@@ -9,16 +9,16 @@ use Rattle.ts_base.specs.declared.span.Span.{Span}
 use Rattle.ts_base.specs.SpanLayer.{IsWithin}
 use Rattle.ts_base.specs.Spans.{none_span, one_span, Holds, span_hull}
 use Rattle.ts_base.specs.Windows.{looked_at}
-use Rattle.ts_base.proofs.SpanLaws.{none_empty, hull_left, hull_right, hull_least, lifted_within}
+use Rattle.ts_base.proofs.SpanLaws.{none_empty, hull_left, hull_right, hull_least}
 use Rattle.ts_automaton.specs.declared.state.Mark.TheVariants.{Same}
 use Rattle.ts_automaton.specs.declared.regs.Hull.{Hull}
 use Rattle.ts_automaton.specs.Formula.{Formula}
-use Rattle.ts_automaton.specs.Registers.{EachOf, Each, spans_of, spans, ext_op, value_in}
+use Rattle.ts_automaton.specs.Registers.{EachOf, Each, spans_of, spans, value_in}
 use Rattle.ts_automaton.specs.Body.{Body, Move}
 use Rattle.ts_automaton.specs.AutomatonRun.{move_between, registers_after, finish_value}
 use Rattle.ts_automaton.specs.SpanRun.{none_hull, has_registers, moved_hull, finished_span, marked_span, finish_span_of}
 use Rattle.ts_automaton.proofs.Evaluation.{value_related}
-use Rattle.ts_automaton.proofs.KindLaws.{op_mono}
+use Rattle.ts_automaton.proofs.OperatorLaws.{op_within}
 use Rattle.ts_domain.proofs.Sets.{contains_cons, all_append}
 use Rattle.ts_glue.specs.Pairs.{Pair}
 use Rattle.ts_glue.specs.Glued.{glued_span}
@@ -39,12 +39,18 @@ within_self : (s : Span) → IsWithin s s
 within_self s e h = h
 
 none_within : (k : EachOf Span) → HullWithin none_hull k
-none_within k = (λ e h. absurd (none_empty e h), λ e h. absurd (none_empty e h), λ e h. absurd (none_empty e h))
+none_within k = (
+  λ e h. absurd (none_empty e h),
+  λ e h. absurd (none_empty e h),
+  λ e h. absurd (none_empty e h),
+  λ e h. absurd (none_empty e h),
+  λ e h. absurd (none_empty e h),
+)
 
 value_within : (f : Formula) (h k : EachOf Span) (x y : ℤ) → HullWithin h k → IsWithin (value_in spans h x y f) (value_in spans k x y f)
 value_within f h k x y w =
-    value_related spans spans IsWithin (λ e. within_self (one_span e)) (λ o a a' b b' p q. lifted_within (ext_op o) (op_mono o) a a' b b' p q) f h k x y x y
-    (within_self (one_span (Number x))) (within_self (one_span (Number y))) (w.0, w.1, w.2)
+    value_related spans spans IsWithin (λ e. within_self (one_span e)) (λ o a a' b b' p q. op_within o a a' b b' p q) f h k x y x y
+    (within_self (one_span (Number x))) (within_self (one_span (Number y))) (w.0, w.1, w.2, w.3, w.4)
 
 moved_within : (m : Move) (h k : EachOf Span) (x y : ℤ) → HullWithin h k → HullWithin (moved_hull h x y m) (moved_hull k x y m)
 moved_within m h k x y w = go (has_registers h) refl
@@ -52,8 +58,13 @@ moved_within m h k x y w = go (has_registers h) refl
     go : (t : Bool) → has_registers h ≡ t → HullWithin (cond t (registers_after spans h x y m) none_hull) (moved_hull k x y m)
     go false e = none_within (moved_hull k x y m)
     go true e =
-        subst (λ t. HullWithin (registers_after spans h x y m) (cond t (registers_after spans k x y m) none_hull)) (sym (wider_registers h k w e))
-        (value_within m.to.c h k x y w, value_within m.to.d h k x y w, value_within m.to.r h k x y w)
+        subst (λ t. HullWithin (registers_after spans h x y m) (cond t (registers_after spans k x y m) none_hull)) (sym (wider_registers h k w e)) (
+          value_within m.to.c h k x y w,
+          value_within m.to.e h k x y w,
+          value_within m.to.d h k x y w,
+          value_within m.to.f h k x y w,
+          value_within m.to.r h k x y w,
+        )
 
 given_within : (b : Body) (v : ℤ) (q : ℕ) (u : ℤ) (p : ℕ) (h k : Hull) → HullWithin (spans_of h) (spans_of k) →
     HullWithin (spans_of (hull_from b v q (source u p h))) (spans_of (hull_from b v q (source u p k)))
@@ -68,7 +79,13 @@ given_within b v q u p h k w = go (nat_eq (move_between b p u v).next q)
 both_within : (h k x : Hull) → HullWithin (spans_of h) (spans_of x) → HullWithin (spans_of k) (spans_of x) →
     HullWithin (spans_of (hull_of_both h k)) (spans_of x)
 unfolding hull_of_both
-both_within h k x p q = (hull_least h.c k.c x.c p.0 q.0, hull_least h.d k.d x.d p.1 q.1, hull_least h.r k.r x.r p.2 q.2)
+both_within h k x p q = (
+  hull_least h.c k.c x.c p.0 q.0,
+  hull_least h.e k.e x.e p.1 q.1,
+  hull_least h.d k.d x.d p.2 q.2,
+  hull_least h.f k.f x.f p.3 q.3,
+  hull_least h.r k.r x.r p.4 q.4,
+)
 
 fold_within : (x : Hull) (hs : List Hull) (h : Hull) → HullWithin (spans_of h) (spans_of x) → AllByRecursion (λ k. HullWithin (spans_of k) (spans_of x)) hs →
     HullWithin (spans_of (fold hull_of_both h hs)) (spans_of x)
@@ -77,11 +94,23 @@ fold_within x (k ∷ hs) h p a = fold_within x hs (hull_of_both h k) (both_withi
 
 first_in : (s h k : Hull) → HullWithin (spans_of s) (spans_of h) → HullWithin (spans_of s) (spans_of (hull_of_both h k))
 unfolding hull_of_both
-first_in s h k w = (λ e p. hull_left h.c k.c e (w.0 e p), λ e p. hull_left h.d k.d e (w.1 e p), λ e p. hull_left h.r k.r e (w.2 e p))
+first_in s h k w = (
+  λ e p. hull_left h.c k.c e (w.0 e p),
+  λ e p. hull_left h.e k.e e (w.1 e p),
+  λ e p. hull_left h.d k.d e (w.2 e p),
+  λ e p. hull_left h.f k.f e (w.3 e p),
+  λ e p. hull_left h.r k.r e (w.4 e p),
+)
 
 second_in : (s h k : Hull) → HullWithin (spans_of s) (spans_of k) → HullWithin (spans_of s) (spans_of (hull_of_both h k))
 unfolding hull_of_both
-second_in s h k w = (λ e p. hull_right h.c k.c e (w.0 e p), λ e p. hull_right h.d k.d e (w.1 e p), λ e p. hull_right h.r k.r e (w.2 e p))
+second_in s h k w = (
+  λ e p. hull_right h.c k.c e (w.0 e p),
+  λ e p. hull_right h.e k.e e (w.1 e p),
+  λ e p. hull_right h.d k.d e (w.2 e p),
+  λ e p. hull_right h.f k.f e (w.3 e p),
+  λ e p. hull_right h.r k.r e (w.4 e p),
+)
 
 stays_in : (s : Hull) (hs : List Hull) (h : Hull) → HullWithin (spans_of s) (spans_of h) → HullWithin (spans_of s) (spans_of (fold hull_of_both h hs))
 stays_in s [] h w = w
@@ -137,7 +166,7 @@ next_within b v q us ws h k sub w =
 pub hull_grows : (b : Body) (before wider : List (List ℤ)) (v : ℤ) (q : ℕ) → AreWithin before wider →
     HullWithin (spans_of (hull_at b before v q)) (spans_of (hull_at b wider v q))
 unfolding hull_at
-hull_grows b [] [] v q a = (λ e h. h, λ e h. h, λ e h. h)
+hull_grows b [] [] v q a = (λ e h. h, λ e h. h, λ e h. h, λ e h. h, λ e h. h)
 hull_grows b [] (w ∷ wider) v q a = absurd a
 hull_grows b (u ∷ before) [] v q a = absurd a
 hull_grows b (us ∷ before) (ws ∷ wider) v q a = next_within b v q us ws (hull_at b before) (hull_at b wider) a.0 (λ u p. hull_grows b before wider u p a.1)

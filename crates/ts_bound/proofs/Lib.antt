@@ -10,6 +10,7 @@ pub mod SpanRuns
 pub mod SpanEnds
 pub mod Singles
 pub mod Growth
+mod PackableLaws
 mod PutLaws
 pub mod SweptRows
 mod Starts

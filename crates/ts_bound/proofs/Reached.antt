@@ -87,11 +87,13 @@ any_of_map P f (x ∷ xs) h = ⊎_elim (λ p. inl p) (λ q. inr (any_of_map P f 
 
 both_left : (h k : Hull) (s : EachOf Ext) → HoldsRegs (spans_of h) s → HoldsRegs (spans_of (hull_of_both h k)) s
 unfolding hull_of_both
-both_left h k s p = (hull_left h.c k.c s.c p.0, hull_left h.d k.d s.d p.1, hull_left h.r k.r s.r p.2)
+both_left h k s p =
+    (hull_left h.c k.c s.c p.0, hull_left h.e k.e s.e p.1, hull_left h.d k.d s.d p.2, hull_left h.f k.f s.f p.3, hull_left h.r k.r s.r p.4)
 
 both_right : (h k : Hull) (s : EachOf Ext) → HoldsRegs (spans_of k) s → HoldsRegs (spans_of (hull_of_both h k)) s
 unfolding hull_of_both
-both_right h k s p = (hull_right h.c k.c s.c p.0, hull_right h.d k.d s.d p.1, hull_right h.r k.r s.r p.2)
+both_right h k s p =
+    (hull_right h.c k.c s.c p.0, hull_right h.e k.e s.e p.1, hull_right h.d k.d s.d p.2, hull_right h.f k.f s.f p.3, hull_right h.r k.r s.r p.4)
 
 fold_keeps : (s : EachOf Ext) (hs : List Hull) (h : Hull) → HoldsRegs (spans_of h) s → HoldsRegs (spans_of (fold hull_of_both h hs)) s
 fold_keeps s [] h p = p
@@ -132,7 +134,7 @@ all_hold b v to ss h = fold_takes to.regs (map (hull_from b v to.state) ss) none
 pub hulls_hold : (b : Body) → IsTrue (is_automaton b) → (before : List (List ℤ)) (vs : List ℤ) (v : ℤ) → InBox vs before →
     HoldsRegs (spans_of (hull_at b before v (run b v vs).state)) (run b v vs).regs
 unfolding hull_at start_hull
-hulls_hold b rules [] [] v h = (holds_one b.start.c, holds_one b.start.d, holds_one b.start.r)
+hulls_hold b rules [] [] v h = (holds_one b.start.c, holds_one b.start.e, holds_one b.start.d, holds_one b.start.f, holds_one b.start.r)
 hulls_hold b rules [] (u ∷ vs) v h = absurd h
 hulls_hold b rules (us ∷ before) [] v h = absurd h
 hulls_hold b rules (us ∷ before) (u ∷ vs) v h =

@@ -10,15 +10,16 @@ use Rattle.ts_base.specs.Windows.{LooksInside, looked_at}
 use Rattle.ts_base.proofs.SpanLaws.{one_some}
 use Rattle.ts_base.proofs.WindowLaws.{some_looked}
 use Rattle.ts_automaton.specs.declared.regs.Hull.{Hull}
-use Rattle.ts_automaton.specs.Registers.{EachOf, spans_of}
+use Rattle.ts_automaton.specs.Registers.{EachOf, spans, spans_of}
 use Rattle.ts_automaton.specs.Typing.{is_automaton}
 use Rattle.ts_automaton.specs.Body.{Body}
-use Rattle.ts_automaton.specs.AutomatonRun.{Standing, step_of, after, answer, finish_of}
-use Rattle.ts_automaton.specs.SpanRun.{one_hull, span_step, finish_span_of}
+use Rattle.ts_automaton.specs.AutomatonRun.{Standing, move_between, registers_after, step_of, after, answer, finish_of}
+use Rattle.ts_automaton.specs.SpanRun.{none_hull, one_hull, finish_span_of}
+use Rattle.ts_automaton.proofs.Five.{none_registers}
 use Rattle.ts_automaton.proofs.RunLaws.{steps_stay_single, finishes_stay_single, nones_stay}
 use Rattle.ts_glue.proofs.CallerLemmas.{after_back, after_stands, cut_at}
 use Rattle.ts_hull.specs.Hulls.{hull_of, none, hull_of_both, hull_of_all}
-use Rattle.ts_bound.specs.NextRow.{Source, source, standing_at, hull_from, next_hull, states_of}
+use Rattle.ts_bound.specs.NextRow.{Source, source, hull_from, next_hull, states_of}
 use Rattle.ts_bound.specs.HullTables.{start_hull, hull_at, cells_before, values_at}
 use Rattle.ts_bound.specs.Looks.{place_in}
 use Rattle.ts_bound.specs.TermSpans.{Automata, standing_in, span_of_all, finish_spans, inner_value_span, inner_span, term_span}
@@ -67,12 +68,12 @@ only_where t s = cond t (hull_of (one_hull s)) none
 
 both_none : (t : Bool) (s : EachOf Ext) → hull_of_both none (only_where t s) ≡ only_where t s
 unfolding hull_of_both
-both_none true s = same_hull _ _ _ _ _ _ (none_one s.c) (none_one s.d) (none_one s.r)
+both_none true s = same_hull (none_one s.c) (none_one s.e) (none_one s.d) (none_one s.f) (none_one s.r)
 both_none false s = refl
 
 none_both : (t : Bool) (s : EachOf Ext) → hull_of_both (only_where t s) none ≡ only_where t s
 unfolding hull_of_both
-none_both true s = same_hull _ _ _ _ _ _ (one_canonical s.c) (one_canonical s.d) (one_canonical s.r)
+none_both true s = same_hull (one_canonical s.c) (one_canonical s.e) (one_canonical s.d) (one_canonical s.f) (one_canonical s.r)
 none_both false s = refl
 
 nones : hull_of_both none none ≡ none
@@ -89,7 +90,10 @@ cond_none false = refl
 
 given_none : (b : Body) (v : ℤ) (q : ℕ) (u : ℤ) (p : ℕ) → hull_from b v q (source u p none) ≡ none
 unfolding hull_from
-given_none b v q u p = cond_none (nat_eq (span_step b (standing_at (source u p none)) u v).state q)
+given_none b v q u p =
+    let m = move_between b p u v in
+    ap (λ t. cond (nat_eq m.next q) (hull_of (cond t (registers_after spans (spans_of none) u v m) none_hull)) none) none_registers
+    ∙ cond_none (nat_eq m.next q)
 
 given_one : (b : Body) (v : ℤ) (q : ℕ) (u : ℤ) (s : Standing Ext) →
     hull_from b v q (source u s.state (hull_of (one_hull s.regs))) ≡ only_where (nat_eq (step_of b s u v).state q) (step_of b s u v).regs
@@ -177,7 +181,7 @@ finishes_single b rules n vs v =
     ∙ finishes_stay_single b s.state s.regs n)
     (λ p ne. ap (λ h. finish_span_of b (record { state = p; regs = spans_of h }) n)
     (single_hull b rules vs v p ∙ ap (λ t. only_where t s.regs) (not_place s.state p ne))
-    ∙ (nones_stay b p (spans_of none) refl).1 n)
+    ∙ (nones_stay b p (spans_of none) none_registers).1 n)
     0 (length b.states) (omega arith) (let e = (after_stands b rules (reverse (v ∷ vs))).exists in omega (arith, e))
 
 pub inner_single : (m : Automata) → AreAutomata m → (xs : List ℤ) → 1 ≤ length xs → inner_span m (length xs) (alone xs) ≡ one_span (answer m.forward xs)

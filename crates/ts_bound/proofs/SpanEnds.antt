@@ -15,6 +15,7 @@ use Rattle.ts_automaton.specs.Registers.{spans_of}
 use Rattle.ts_automaton.specs.Typing.{is_automaton}
 use Rattle.ts_automaton.specs.Body.{Body}
 use Rattle.ts_automaton.specs.SpanRun.{has_registers, finish_span_of, one_hull}
+use Rattle.ts_automaton.proofs.Five.{none_registers}
 use Rattle.ts_automaton.proofs.Rules.{rules_of}
 use Rattle.ts_domain.proofs.Sets.{contains_cons}
 use Rattle.ts_domain.specs.BoxSeries.{IsBox}
@@ -146,7 +147,7 @@ two_forms p rules some n before v =
 
     others : (q r : ℕ) → 1 ≤ r → glued_span p (standing_in p.forward before v q) (standing_in p.reverse [] v r) v n ≡ none_span
     others q r h = none_glues_to_none p (standing_in p.forward before v q) (standing_in p.reverse [] v r) v n
-        (inr (ap (λ x. has_registers (spans_of x)) (not_start r h)))
+        (inr (ap (λ x. has_registers (spans_of x)) (not_start r h) ∙ none_registers))
 
 last_is : (m : Automata) → AreAutomata m → (k : ℕ) (cells : List (List ℤ)) → k ≡ length cells → (v : ℤ) →
     last_at m.forward k cells v ≡ inner_value_span m k cells v

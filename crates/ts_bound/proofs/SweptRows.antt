@@ -1,8 +1,7 @@
 -- The row that sweeps make is the row over all pairs.
 use Rattle.std.proofs.Common.{◌≡◌, ℕ, zero, suc, ◌+◌, ◌*◌, ◌<◌, ◌≤◌, Bool, true, false, cond, nat_eq, ℤ, pos, List, [], ◌∷◌, ◌++◌, length, map, take, drop, get_or, refl, sym, ◌∙◌, ap, subst, arith}
 use Rattle.std.specs.Prelude.{IsTrue, fold, flat_map}
-use Rattle.std.specs.List.{AllByRecursion, range_with_len, list_all}
-use Rattle.std.proofs.lemmas.Bool.{and_parts}
+use Rattle.std.specs.List.{AllByRecursion, range_with_len}
 use Rattle.std.proofs.lemmas.List.{get_or-take, get_or-drop, take-append-drop, length-take-le, length-drop, map-append}
 use Rattle.std.proofs.lemmas.List.FromFn.{fill_by_all}
 use Rattle.ts_base.specs.declared.letter.Letter.{Letter}
@@ -18,7 +17,6 @@ use Rattle.ts_automaton.specs.Registers.{spans_of}
 use Rattle.ts_automaton.specs.SpanRun.{HullStands, hull_standing, span_step}
 use Rattle.ts_bound.specs.NextRow.{RowStands, Source, standing_at, sources_from, sources, hull_from, next_hull, next_hulls, next_row}
 use Rattle.ts_hull.specs.Sealed.{after_move, move_at}
-use Rattle.ts_hull.specs.Smalls.{small_hull}
 use Rattle.ts_hull.specs.Sweeps.{AllTakeNone, total, same_letter, hull_in, pair_gives, move_entry, step_place, with_move, with_state, with_states}
 use Rattle.ts_hull.proofs.HullLaws.{TakesNone, both_takes_none, none_takes_none}
 use Rattle.ts_hull.proofs.SpanHulls.{both_comm, both_assoc}
@@ -269,11 +267,6 @@ pub states_done : (a : Body) (vs : List ℤ) (row : List Hull) (ws : List ℤ) (
     q ≡ length a.states → next ≡ with_states a vs row ws q first → next ≡ next_row a vs row ws
 states_done a vs row ws q first next leads long long' clear same e =
     e ∙ ap (λ n. with_states a vs row ws n first) same ∙ row_is a vs row ws first (leads_from a leads) long long' (λ p lt. clear p)
-
-pub small_at : (row : List Hull) → list_all small_hull row ≡ true → (i : ℕ) → small_hull (get_or row i none) ≡ true
-small_at [] h i = refl
-small_at (x ∷ row) h zero = (and_parts (small_hull x) (list_all small_hull row) h).0
-small_at (x ∷ row) h (suc i) = small_at row (and_parts (small_hull x) (list_all small_hull row) h).1 i
 
 with_states_canonical : (a : Body) (vs : List ℤ) (row : List Hull) (ws : List ℤ) (n : ℕ) (next : List Hull) → AllTakeNone next →
     AllTakeNone (with_states a vs row ws n next)

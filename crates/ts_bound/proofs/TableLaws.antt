@@ -19,6 +19,7 @@ use Rattle.ts_automaton.specs.Typing.{kinds_at, is_automaton}
 use Rattle.ts_automaton.specs.Body.{Body, Move}
 use Rattle.ts_automaton.specs.AutomatonRun.{Standing, move_between, registers_after}
 use Rattle.ts_automaton.specs.SpanRun.{none_hull, has_registers, one_hull, HullStands, span_step}
+use Rattle.ts_automaton.proofs.Five.{none_registers}
 use Rattle.ts_automaton.proofs.KindLaws.{spans_typed}
 use Rattle.ts_automaton.proofs.StepLaws.{start_stands, spans_have, move_keeps}
 use Rattle.ts_base.specs.Signature.{letter_of}
@@ -77,7 +78,7 @@ abbrev pub IsKept : Body → ℕ → Hull → Type 0
 IsKept b q h = (h ≡ none) ⊎ Each SpanHasKind (kinds_at b q) (spans_of h)
 
 pub kept_stands : (b : Body) (q : ℕ) (h : Hull) → q < length b.states → IsKept b q h → HullStands b (record { state = q; regs = spans_of h })
-kept_stands b q h lt (inl e) = record { exists = lt; kinds = inl (ap (λ k. has_registers (spans_of k)) e) }
+kept_stands b q h lt (inl e) = record { exists = lt; kinds = inl (ap (λ k. has_registers (spans_of k)) e ∙ none_registers) }
 kept_stands b q h lt (inr k) = record { exists = lt; kinds = inr k }
 
 kept_span : (k : RegKind) (s t : Span) → SpanHasKind k s → SpanHasKind k t → SpanHasKind k (span_hull s t)
@@ -104,18 +105,29 @@ kept_both b q h k (inl e) (inr g) =
     let n = kinds_at b q in
     inr (subst (λ x. Each SpanHasKind n (spans_of (hull_of_both x k))) (sym e) (
       subst (SpanHasKind n.c) (sym (none_first n.c k.c g.0)) g.0,
-      subst (SpanHasKind n.d) (sym (none_first n.d k.d g.1)) g.1,
-      subst (SpanHasKind n.r) (sym (none_first n.r k.r g.2)) g.2,
+      subst (SpanHasKind n.e) (sym (none_first n.e k.e g.1)) g.1,
+      subst (SpanHasKind n.d) (sym (none_first n.d k.d g.2)) g.2,
+      subst (SpanHasKind n.f) (sym (none_first n.f k.f g.3)) g.3,
+      subst (SpanHasKind n.r) (sym (none_first n.r k.r g.4)) g.4,
     ))
 kept_both b q h k (inr g) (inl f) =
     let n = kinds_at b q in
     inr (subst (λ x. Each SpanHasKind n (spans_of (hull_of_both h x))) (sym f) (
       subst (SpanHasKind n.c) (sym (none_second n.c h.c g.0)) g.0,
-      subst (SpanHasKind n.d) (sym (none_second n.d h.d g.1)) g.1,
-      subst (SpanHasKind n.r) (sym (none_second n.r h.r g.2)) g.2,
+      subst (SpanHasKind n.e) (sym (none_second n.e h.e g.1)) g.1,
+      subst (SpanHasKind n.d) (sym (none_second n.d h.d g.2)) g.2,
+      subst (SpanHasKind n.f) (sym (none_second n.f h.f g.3)) g.3,
+      subst (SpanHasKind n.r) (sym (none_second n.r h.r g.4)) g.4,
     ))
 kept_both b q h k (inr g) (inr i) =
-    let n = kinds_at b q in inr (kept_span n.c h.c k.c g.0 i.0, kept_span n.d h.d k.d g.1 i.1, kept_span n.r h.r k.r g.2 i.2)
+    let n = kinds_at b q in
+    inr (
+      kept_span n.c h.c k.c g.0 i.0,
+      kept_span n.e h.e k.e g.1 i.1,
+      kept_span n.d h.d k.d g.2 i.2,
+      kept_span n.f h.f k.f g.3 i.3,
+      kept_span n.r h.r k.r g.4 i.4,
+    )
 
 kept_all : (b : Body) (q : ℕ) (h : Hull) (hs : List Hull) → IsKept b q h → AllByRecursion (IsKept b q) hs → IsKept b q (fold hull_of_both h hs)
 kept_all b q h [] k ks = k
@@ -171,7 +183,13 @@ module _ (b : Body) (rules : IsTrue (is_automaton b)) where
       go true e =
           let k = (start_stands b rules).kinds in
           subst (λ p. IsKept b p (hull_of (one_hull b.start))) (sym (eqb-true q 0 e))
-          (inr ((one_some b.start.c, k.0, k.0), (one_some b.start.d, k.1, k.1), (one_some b.start.r, k.2, k.2)))
+          (inr (
+            (one_some b.start.c, k.0, k.0),
+            (one_some b.start.e, k.1, k.1),
+            (one_some b.start.d, k.2, k.2),
+            (one_some b.start.f, k.3, k.3),
+            (one_some b.start.r, k.4, k.4),
+          ))
       go false e = inl refl
   hull_kept (us ∷ before) v q = kept_all b q none _ (inl refl) (kept_givens _ (all_stand before us (hull_kept before)) v q)
 

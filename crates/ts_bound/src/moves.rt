@@ -1,17 +1,21 @@
 //! The moves of a state: each is taken in by a sweep over both cells, where that is exact, else by pairs of values.
 
-ghost use Rattle.std.specs.Prelude.{◌≡◌, ◌<◌, true, false, length};
+ghost use Rattle.std.specs.Prelude.{◌≡◌, ◌<◌, ◌≤◌, true, false, length};
 ghost use Rattle.ts_automaton.specs.Body.{move_of, move_on, node_of};
+ghost use Rattle.ts_automaton.specs.Formula.{is_zero};
+ghost use Rattle.ts_automaton.specs.Registers.{rests};
 ghost use Rattle.ts_bound.specs.Moves.{IsNextRow, Stands, states_in, with_all, with_turn};
 ghost use Rattle.ts_hull.specs.Sealed.{move_at};
+ghost use Rattle.ts_sweep.specs.Packed.{is_wide};
 
 use crate::between::Between;
 use crate::pairs::pair_move;
+use crate::places::Places;
 use ts_automaton::{Automaton, Hull, State, Turn};
 use ts_base::Letter;
 use ts_sweep::row::take_row;
 use ts_sweep::strided::Strided;
-use ts_sweep::swept::swept_parts;
+use ts_sweep::swept::{AnyParts, swept_parts};
 
 /// The move on a letter.
 fn turn_on(state: &State, l: Letter) -> &Turn
@@ -29,19 +33,31 @@ fn turn(a: &Automaton, q: u8, l: Letter) -> &Turn
     requires { q < length a.now.states }
     ensures value { move_of result.now ≡ move_at a.now q l }
     ensures exists { result.now.next < length a.now.states }
+    ensures rests { rests is_zero a.now.wide (move_of result.now).to ≡ true }
 {
     turn_on(a.state(q), l)
 }
 
-/// A move of a state is taken in by a sweep, if it can be swept and no number is so large that its sums are clamped.
-fn sweep_move(m: &Between<'_>, t: &Turn, q: u8, l: Letter, next: &mut [Hull]) -> bool
+/// A move of a state is taken in by a sweep over lanes of the automaton's width, if it can be swept and no number is so
+/// large that its sums are clamped.
+fn sweep_lanes<const N: usize>(
+    m: &Between<'_>,
+    t: &Turn,
+    q: u8,
+    l: Letter,
+    next: &mut [Hull],
+) -> bool
+    requires registers { 6 ≤ N }
+    requires lanes { N ≤ 64 }
+    requires width { is_wide N ≡ m.now.automaton.now.wide }
     requires state { q < states_in m.now }
     requires leads { t.now.next < states_in m.now }
+    requires rests { rests is_zero m.now.automaton.now.wide (move_of t.now).to ≡ true }
     requires next { IsNextRow m.now next.old }
     ensures taken { result ≡ true → next.new ≡ with_turn m.now (move_of t.now) q l next.old }
     ensures kept { result ≡ false → next.new ≡ next.old }
 {
-    if !m.is_small {
+    if !m.is_packable {
         return false;
     }
     let Some(by) = swept_parts(t) else {
@@ -58,7 +74,7 @@ fn sweep_move(m: &Between<'_>, t: &Turn, q: u8, l: Letter, next: &mut [Hull]) ->
         states,
         count: m.next_values.count,
     };
-    take_row(
+    take_row::<N, AnyParts<'_>, Places<'_>, Places<'_>>(
         by,
         l,
         false,
@@ -69,6 +85,22 @@ fn sweep_move(m: &Between<'_>, t: &Turn, q: u8, l: Letter, next: &mut [Hull]) ->
         to,
         next,
     )
+}
+
+/// The same, in as many lanes as the automaton needs.
+fn sweep_move(m: &Between<'_>, t: &Turn, q: u8, l: Letter, next: &mut [Hull]) -> bool
+    requires state { q < states_in m.now }
+    requires leads { t.now.next < states_in m.now }
+    requires rests { rests is_zero m.now.automaton.now.wide (move_of t.now).to ≡ true }
+    requires next { IsNextRow m.now next.old }
+    ensures taken { result ≡ true → next.new ≡ with_turn m.now (move_of t.now) q l next.old }
+    ensures kept { result ≡ false → next.new ≡ next.old }
+{
+    if m.automaton.wide() {
+        sweep_lanes::<10>(m, t, q, l, next)
+    } else {
+        sweep_lanes::<6>(m, t, q, l, next)
+    }
 }
 
 /// The move of a state on a letter is taken in.

@@ -5,6 +5,7 @@ ghost use Rattle.ts_bound.specs.PackedRows.{IsPackedRow};
 ghost use Rattle.ts_row.specs.Plans.{IsPlanOf};
 ghost use Rattle.ts_row.specs.Rows.{IsRow, flat_row, hull_in};
 ghost use Rattle.ts_row.specs.Takings.{count_in};
+ghost use Rattle.ts_sweep.specs.Packed.{is_wide};
 
 use std::alloc::Global;
 use ts_automaton::{Automaton, Hull};
@@ -19,6 +20,7 @@ pub fn first_packed_row<const N: usize>(
     values: Cell<'_>,
     row: &mut PackedRow<N>,
 ) -> Result<(), Memory>
+    requires width { a.now.wide ≡ is_wide N }
     requires registers { 6 ≤ N }
     requires lanes { N ≤ 64 }
     ensures { IfOk result (λ u. IsPackedRow N a.now [] values.entry.values.now row.new) }
@@ -38,6 +40,7 @@ pub fn next_packed_row<const N: usize>(
     next_values: Cell<'_>,
     next: &mut PackedRow<N>,
 ) -> Result<(), Memory>
+    requires width { a.now.wide ≡ is_wide N }
     requires registers { 6 ≤ N }
     requires lanes { N ≤ 64 }
     requires plan { IsPlanOf a.now plan.now }
@@ -50,20 +53,30 @@ pub fn next_packed_row<const N: usize>(
 }
 
 /// The hull of a state at a place, out of a row.
-fn unpacked_hull(row: &PackedRow<6>, q: u8, i: usize) -> Hull
+fn unpacked_hull<const N: usize>(row: &PackedRow<N>, q: u8, i: usize) -> Hull
+    requires registers { 6 ≤ N }
+    requires lanes { N ≤ 64 }
     requires state { q < length row.now }
     requires inside { i < length (get_or row.now q []) }
-    ensures { result ≡ hull_in 6 row.now q i }
+    ensures { result ≡ hull_in N row.now q i }
 {
     unpacked(&row.column(q)[i])
 }
 
 /// The hulls of the value at place `i` out of a row of so many states at so many values: one for each state.
-pub fn unpack_block(row: &PackedRow<6>, states: u8, count: usize, i: usize, block: &mut [Hull])
-    requires row { IsRow 6 states count row.now }
+pub fn unpack_block<const N: usize>(
+    row: &PackedRow<N>,
+    states: u8,
+    count: usize,
+    i: usize,
+    block: &mut [Hull],
+)
+    requires registers { 6 ≤ N }
+    requires lanes { N ≤ 64 }
+    requires row { IsRow N states count row.now }
     requires inside { i < count }
     requires block { length block.old ≡ states }
-    ensures { block.new ≡ slice_range (flat_row 6 states count row.now) (i * states) (i * states + states) }
+    ensures { block.new ≡ slice_range (flat_row N states count row.now) (i * states) (i * states + states) }
 {
     for q in 0..states {
         block[q as usize] = unpacked_hull(row, q, i);

@@ -44,7 +44,9 @@ fn hull_of_both(first: &Hull, second: &Hull) -> Hull
 {
     Hull {
         c: first.c.hull(second.c),
+        e: first.e.hull(second.e),
         d: first.d.hull(second.d),
+        f: first.f.hull(second.f),
         r: first.r.hull(second.r),
     }
 }

@@ -1,5 +1,5 @@
 -- What is glued of ends stands for what is glued of spans; where sums are plain, they meet small numbers.
-use Rattle.std.proofs.Common.{◌≡◌, ℕ, zero, suc, ◌+◌, ◌*◌, ◌≤◌, ◌<◌, ◌≤ℤ◌, ◌<ℤ◌, ℤ, pos, neg_ℤ, Bool, true, false, cond, ◌||◌, nat_lt, List, [], ◌∷◌, get_or, refl, sym, ap, subst, arith, rules}
+use Rattle.std.proofs.Common.{◌≡◌, ℕ, zero, suc, ◌+◌, ◌*◌, ◌≤◌, ◌<◌, ◌≤ℤ◌, ◌<ℤ◌, ℤ, pos, neg_ℤ, Bool, true, false, cond, ◌||◌, nat_lt, List, [], ◌∷◌, get_or, refl, sym, ap, subst, ◌∙◌, arith, rules}
 use Rattle.std.proofs.lemmas.Int.{ints}
 use Rattle.ts_base.specs.declared.ext.Ext.TheVariants.{Int}
 use Rattle.ts_base.specs.declared.op.Op.{Op}
@@ -7,42 +7,73 @@ use Rattle.ts_base.specs.declared.op.Op.TheVariants.{Add, Max, Min}
 use Rattle.ts_base.specs.declared.span.Span.{Span}
 use Rattle.ts_base.specs.Limits.{IsCellValue}
 use Rattle.ts_base.specs.Spans.{has_some, one_span}
-use Rattle.ts_automaton.specs.Registers.{EachOf, Values, ext_op}
-use Rattle.ts_glue.specs.Glue.{Glue, LeftC, LeftD, LeftR, RightC, RightD, RightR, Number, With, glue_in, GlueTakes, apart, join_of, folded_between, folded_both}
-use Rattle.ts_hull.specs.Sealed.{by_ends, sealed_spans}
+use Rattle.ts_automaton.specs.declared.expr.Atom.TheVariants.{C, E, D, F, R, This, Next, Zero, Unit as UnitAtom, NegInf as LowAtom, PosInf as HighAtom}
+use Rattle.ts_automaton.specs.declared.expr.Operator.{Operator}
+use Rattle.ts_automaton.specs.declared.expr.Operator.TheVariants.{Fold, Sub}
+use Rattle.ts_automaton.specs.Body.{node_at}
+use Rattle.ts_automaton.specs.Formula.{Formula, Leaf, Join}
+use Rattle.ts_automaton.specs.Registers.{EachOf, Takes, Values, value_in}
+use Rattle.ts_glue.specs.declared.operand.Part.{Part}
+use Rattle.ts_glue.specs.declared.operand.Part.TheVariants.{Whole, Away}
+use Rattle.ts_glue.specs.Glue.{Glue, Left, Right, Number, With, GlueTakes, apart, fold_of, fold_op, folded_between, folded_both, glue_in, glue_of, held_in, is_join, is_wide, join_of, open_in, part_of, result_op, worth}
+use Rattle.ts_glue.specs.Pairs.{Pair}
+use Rattle.ts_hull.specs.Sealed.{sealed_op, sealed_spans}
 use Rattle.ts_sweep.specs.declared.packed.Ends.{Ends}
-use Rattle.ts_sweep.specs.FrontLaws.{number_within, plain_register}
+use Rattle.ts_sweep.specs.declared.packed.Name.TheVariants.{C as NameC}
+use Rattle.ts_sweep.specs.FrontLaws.{never_added, number_within, plain_register}
 use Rattle.ts_sweep.specs.Fronts.{ArePlain}
 use Rattle.ts_sweep.specs.Lanes.{least}
-use Rattle.ts_sweep.specs.OperatorLaws.{sum_within, greater_within, lesser_within}
+use Rattle.ts_sweep.specs.OperatorLaws.{sum_within, greater_within, less_within, lesser_within}
 use Rattle.ts_sweep.specs.Packed.{AreSome, AreWithin, IsPackOf, IsSomeEnds, IsWithin, register_span}
 use Rattle.ts_meet.specs.declared.gluing.Gluing.{Gluing}
-use Rattle.ts_meet.specs.Joints.{IsFoldPlain, IsPlain, expression, folds_held, is_add, leaves_out}
+use Rattle.ts_meet.specs.Joints.{IsFoldPlain, IsPlain, expression, folds_held, is_add, leaves_out, part_by}
 use Rattle.ts_meet.specs.SideLaws.{cell_within}
 use Rattle.ts_meet.specs.Sides.{AreSomeEnds, ArePackOf, TakesAny, TakesPlain, plain_by, plain_values}
 
--- the numbers in it are values of cells
+-- registers alone stand in it
+abbrev OfRegisters : Formula → Type 0
+OfRegisters (Leaf C) = Unit {0}
+OfRegisters (Leaf E) = Unit {0}
+OfRegisters (Leaf D) = Unit {0}
+OfRegisters (Leaf F) = Unit {0}
+OfRegisters (Leaf R) = Unit {0}
+OfRegisters (Leaf This) = ⊥
+OfRegisters (Leaf Next) = ⊥
+OfRegisters (Leaf Zero) = ⊥
+OfRegisters (Leaf UnitAtom) = ⊥
+OfRegisters (Leaf LowAtom) = ⊥
+OfRegisters (Leaf HighAtom) = ⊥
+OfRegisters (Join o f g) = OfRegisters f × OfRegisters g
+
+-- beside these the numbers in it are values of cells
 abbrev AreCells : Glue → Type 0
-AreCells LeftC = Unit {0}
-AreCells LeftD = Unit {0}
-AreCells LeftR = Unit {0}
-AreCells RightC = Unit {0}
-AreCells RightD = Unit {0}
-AreCells RightR = Unit {0}
+AreCells (Left f) = OfRegisters f
+AreCells (Right f) = OfRegisters f
 AreCells (Number x) = IsCellValue x
 AreCells (With o u v) = AreCells u × AreCells v
 
-module _ (m : Values Ends) (P : Op → Ends → Ends → Type 0)
+module _ (m : Values Ends) (P : Operator → Ends → Ends → Type 0)
     (number : (x : ℤ) → IsCellValue x → IsPackOf (m.constant (Int x)) (one_span (Int x)))
-    (packs : (o : Op) (a b : Ends) (s t : Span) → P o a b → IsPackOf a s → IsPackOf b t → IsPackOf (m.join o a b) (by_ends (ext_op o) s t)) where
+    (packs : (o : Operator) (a b : Ends) (s t : Span) → P o a b → IsPackOf a s → IsPackOf b t → IsPackOf (m.join o a b) (sealed_op o s t)) where
+  value_packs : (f : Formula) (a : EachOf Ends) (s : EachOf Span) → OfRegisters f → Takes P m a (pos 0) (pos 0) f → ArePackOf a s →
+      IsPackOf (value_in m a (pos 0) (pos 0) f) (value_in sealed_spans s (pos 0) (pos 0) f)
+  value_packs (Leaf C) a s r h p = p.0
+  value_packs (Leaf E) a s r h p = p.1
+  value_packs (Leaf D) a s r h p = p.2
+  value_packs (Leaf F) a s r h p = p.3
+  value_packs (Leaf R) a s r h p = p.4
+  value_packs (Leaf This) a s r h p = absurd r
+  value_packs (Leaf Next) a s r h p = absurd r
+  value_packs (Leaf Zero) a s r h p = absurd r
+  value_packs (Leaf UnitAtom) a s r h p = absurd r
+  value_packs (Leaf LowAtom) a s r h p = absurd r
+  value_packs (Leaf HighAtom) a s r h p = absurd r
+  value_packs (Join o f g) a s r h p = packs o _ _ _ _ h.2 (value_packs f a s r.0 h.0 p) (value_packs g a s r.1 h.1 p)
+
   glue_packs : (u : Glue) (a b : EachOf Ends) (s t : EachOf Span) → AreCells u → GlueTakes P m a b u → ArePackOf a s → ArePackOf b t →
       IsPackOf (glue_in m a b u) (glue_in sealed_spans s t u)
-  glue_packs LeftC a b s t cells h p q = p.0
-  glue_packs LeftD a b s t cells h p q = p.1
-  glue_packs LeftR a b s t cells h p q = p.2
-  glue_packs RightC a b s t cells h p q = q.0
-  glue_packs RightD a b s t cells h p q = q.1
-  glue_packs RightR a b s t cells h p q = q.2
+  glue_packs (Left f) a b s t cells h p q = value_packs f a s cells h p
+  glue_packs (Right f) a b s t cells h p q = value_packs f b t cells h q
   glue_packs (Number x) a b s t cells h p q = number x cells
   glue_packs (With o u v) a b s t cells h p q =
       packs o _ _ _ _ h.2 (glue_packs u a b s t cells.0 h.0 p q) (glue_packs v a b s t cells.1 h.1 p q)
@@ -50,28 +81,45 @@ module _ (m : Values Ends) (P : Op → Ends → Ends → Type 0)
 cell_neg : (x : ℤ) → IsCellValue x → IsCellValue (neg_ℤ x)
 cell_neg x h = let a = h.0 in let b = h.1 in (omega (arith, ints, a, b), omega (arith, ints, a, b))
 
--- the fold of the one occurrence
-abbrev folded : Op → ℤ → Bool → Bool → Bool → Glue
-folded o d trims l r = cond trims (folded_between o l r d) (folded_both o d)
+held_register : (p : Part) → OfRegisters (held_in p)
+held_register Whole = tt
+held_register Away = tt
 
-fold_cells : (o : Op) (d : ℤ) (trims l r : Bool) → IsCellValue d → AreCells (folded o d trims l r)
-fold_cells o d true true true h = ((((tt, tt), h), tt), tt)
-fold_cells o d true true false h = (((tt, tt), h), tt)
-fold_cells o d true false true h = (((tt, h), tt), tt)
-fold_cells o d true false false h = ((tt, h), tt)
-fold_cells Add d false l r h = (((tt, tt), (tt, tt)), cell_neg d h)
-fold_cells Max d false l r h = ((tt, tt), (tt, tt))
-fold_cells Min d false l r h = ((tt, tt), (tt, tt))
+open_register : (p : Part) → OfRegisters (open_in p)
+open_register Whole = tt
+open_register Away = tt
+
+-- a part of the one occurrence
+abbrev folded : Op → Part → ℤ → Bool → Bool → Bool → Glue
+folded o p d trims l r = cond trims (folded_between o p l r d) (folded_both o p d)
+
+fold_cells : (o : Op) (p : Part) (d : ℤ) (trims l r : Bool) → IsCellValue d → AreCells (folded o p d trims l r)
+fold_cells o p d true true true h = ((((held_register p, open_register p), h), held_register p), open_register p)
+fold_cells o p d true true false h = (((held_register p, open_register p), h), open_register p)
+fold_cells o p d true false true h = (((open_register p, h), held_register p), open_register p)
+fold_cells o p d true false false h = ((open_register p, h), open_register p)
+fold_cells Add p d false l r h = (((held_register p, open_register p), (held_register p, open_register p)), cell_neg d h)
+fold_cells Max p d false l r h = ((held_register p, open_register p), (held_register p, open_register p))
+fold_cells Min p d false l r h = ((held_register p, open_register p), (held_register p, open_register p))
+
+parts_cells : (g : Gluing) (wide : Bool) → IsCellValue g.worth → AreCells (fold_of wide g.fold (part_by g))
+parts_cells g false h = fold_cells g.fold Whole g.worth g.trims g.held_left g.held_right h
+parts_cells g true h =
+    (fold_cells g.fold Whole g.worth g.trims g.held_left g.held_right h, fold_cells Min Away g.worth g.trims g.held_left g.held_right h)
+
+apart_cells : (wide : Bool) (o : Op) → AreCells (apart wide o)
+apart_cells false o = ((tt, tt), (tt, tt))
+apart_cells true o = ((tt, (tt, tt)), (tt, (tt, tt)))
 
 cells_by : (g : Gluing) (joins : Bool) → IsCellValue g.worth →
-    AreCells (cond joins (join_of g.result (folded g.fold g.worth g.trims g.held_left g.held_right)) (apart g.result))
-cells_by g true h = ((tt, tt), fold_cells g.fold g.worth g.trims g.held_left g.held_right h)
-cells_by g false h = ((tt, tt), (tt, tt))
+    AreCells (cond joins (join_of g.result (fold_of g.wide g.fold (part_by g))) (apart g.wide g.result))
+cells_by g true h = ((tt, tt), parts_cells g g.wide h)
+cells_by g false h = apart_cells g.wide g.result
 
 -- ends that are glued so stand for the glued span
-pub glued_packs : (m : Values Ends) (P : Op → Ends → Ends → Type 0) →
+pub glued_packs : (m : Values Ends) (P : Operator → Ends → Ends → Type 0) →
     ((x : ℤ) → IsCellValue x → IsPackOf (m.constant (Int x)) (one_span (Int x))) →
-    ((o : Op) (a b : Ends) (s t : Span) → P o a b → IsPackOf a s → IsPackOf b t → IsPackOf (m.join o a b) (by_ends (ext_op o) s t)) →
+    ((o : Operator) (a b : Ends) (s t : Span) → P o a b → IsPackOf a s → IsPackOf b t → IsPackOf (m.join o a b) (sealed_op o s t)) →
     (g : Gluing) (a b : EachOf Ends) → IsCellValue g.worth → GlueTakes P m a b (expression g) → (e : Ends) → e ≡ glue_in m a b (expression g) →
     (s t : EachOf Span) → ArePackOf a s → ArePackOf b t → IsPackOf e (glue_in sealed_spans s t (expression g))
 glued_packs m P number packs g a b cell takes e is s t p q =
@@ -80,13 +128,13 @@ glued_packs m P number packs g a b cell takes e is s t p q =
 
 -- sums of any numbers take all
 
+any_value : (m : Values Ends) (a : EachOf Ends) (f : Formula) → Takes TakesAny m a (pos 0) (pos 0) f
+any_value m a (Leaf w) = tt
+any_value m a (Join o f g) = (any_value m a f, any_value m a g, tt)
+
 pub any_takes : (m : Values Ends) (a b : EachOf Ends) (u : Glue) → GlueTakes TakesAny m a b u
-any_takes m a b LeftC = tt
-any_takes m a b LeftD = tt
-any_takes m a b LeftR = tt
-any_takes m a b RightC = tt
-any_takes m a b RightD = tt
-any_takes m a b RightR = tt
+any_takes m a b (Left f) = any_value m a f
+any_takes m a b (Right f) = any_value m b f
 any_takes m a b (Number x) = tt
 any_takes m a b (With o u v) = (any_takes m a b u, any_takes m a b v, tt)
 
@@ -98,52 +146,55 @@ more_within i x few h = let a = h.0 in let b = h.1 in (omega (arith, ints, few, 
 are_within : (i : ℕ) (e : Ends) → i ≤ 5 → AreWithin i e → AreWithin 5 e
 are_within i e few h = (more_within i e.below few h.0, more_within i e.above few h.1)
 
-both_within : (o : Op) (i j : ℕ) (a b : Ends) → AreWithin i a → AreWithin j b → AreWithin (i + j) (plain_by o a b)
-both_within Add i j a b p q = sum_within i j a b p q
-both_within Max i j a b p q = greater_within i j a b p q
-both_within Min i j a b p q = lesser_within i j a b p q
+both_within : (o : Operator) (i j : ℕ) (a b : Ends) → AreWithin i a → AreWithin j b → AreWithin (i + j) (plain_by o a b)
+both_within (Fold Add) i j a b p q = sum_within i j a b p q
+both_within (Fold Max) i j a b p q = greater_within i j a b p q
+both_within (Fold Min) i j a b p q = lesser_within i j a b p q
+both_within Sub i j a b p q = less_within i j a b p q
 
-both_taken : (o : Op) (i j : ℕ) (a b : Ends) → i ≤ 5 → j ≤ 5 → AreWithin i a → AreWithin j b → TakesPlain o a b
-both_taken Add i j a b few less p q = (are_within i a few p, are_within j b less q)
-both_taken Max i j a b few less p q = tt
-both_taken Min i j a b few less p q = tt
+both_taken : (o : Operator) (i j : ℕ) (a b : Ends) → i ≤ 5 → j ≤ 5 → AreWithin i a → AreWithin j b → TakesPlain o a b
+both_taken (Fold Add) i j a b few less p q = (are_within i a few p, are_within j b less q)
+both_taken (Fold Max) i j a b few less p q = tt
+both_taken (Fold Min) i j a b few less p q = tt
+both_taken Sub i j a b few less p q = (are_within i a few p, are_within j b less q)
 
--- how many registers and numbers stand in it; that no operand has more than five
+-- how many registers and numbers stand in it; that no operand has more than five, where each register stands alone
 abbrev words : Glue → ℕ
-words LeftC = 1
-words LeftD = 1
-words LeftR = 1
-words RightC = 1
-words RightD = 1
-words RightR = 1
+words (Left f) = 1
+words (Right f) = 1
 words (Number x) = 1
 words (With o u v) = words u + words v
 
+abbrev IsWord : Formula → Type 0
+IsWord (Leaf w) = Unit {0}
+IsWord (Join o f g) = ⊥
+
+word_taken : (f : Formula) (a : EachOf Ends) → IsWord f → Takes TakesPlain plain_values a (pos 0) (pos 0) f
+word_taken (Leaf w) a h = tt
+word_taken (Join o f g) a h = absurd h
+
 abbrev IsNarrow : Glue → Type 0
-IsNarrow LeftC = Unit {0}
-IsNarrow LeftD = Unit {0}
-IsNarrow LeftR = Unit {0}
-IsNarrow RightC = Unit {0}
-IsNarrow RightD = Unit {0}
-IsNarrow RightR = Unit {0}
+IsNarrow (Left f) = IsWord f
+IsNarrow (Right f) = IsWord f
 IsNarrow (Number x) = Unit {0}
 IsNarrow (With o u v) = (words u ≤ 5) × (words v ≤ 5) × IsNarrow u × IsNarrow v
 
 -- no operator in it adds
-abbrev AddsNever : Glue → Type 0
-AddsNever LeftC = Unit {0}
-AddsNever LeftD = Unit {0}
-AddsNever LeftR = Unit {0}
-AddsNever RightC = Unit {0}
-AddsNever RightD = Unit {0}
-AddsNever RightR = Unit {0}
-AddsNever (Number x) = Unit {0}
-AddsNever (With o u v) = (is_add o ≡ false) × AddsNever u × AddsNever v
+abbrev adds : Operator → Bool
+adds (Fold o) = is_add o
+adds Sub = true
 
-free_taken : (o : Op) (a b : Ends) → is_add o ≡ false → TakesPlain o a b
-free_taken Add a b e = cc
-free_taken Max a b e = tt
-free_taken Min a b e = tt
+abbrev AddsNever : Glue → Type 0
+AddsNever (Left f) = IsWord f
+AddsNever (Right f) = IsWord f
+AddsNever (Number x) = Unit {0}
+AddsNever (With o u v) = (adds o ≡ false) × AddsNever u × AddsNever v
+
+free_taken : (o : Operator) (a b : Ends) → adds o ≡ false → TakesPlain o a b
+free_taken (Fold Add) a b e = never_added e
+free_taken (Fold Max) a b e = tt
+free_taken (Fold Min) a b e = tt
+free_taken Sub a b e = never_added e
 
 -- ends that are plain are small numbers
 
@@ -151,52 +202,46 @@ at_most_self : (x : ℤ) → x ≤ℤ x
 at_most_self x = grind (arith, ints)
 
 small : (e : Ends) → IsSomeEnds e → ArePlain e → AreWithin 1 e
-small e some plain = plain_register 2 0 lanes lanes (omega arith) are_some (λ k. at_most_self (get_or lanes k (pos 0))) plain
+small e some plain = plain_register 6 NameC lanes lanes (omega arith) are_some (λ k. at_most_self (get_or lanes k (pos 0))) plain
   where
     lanes : List ℤ
-    lanes = e.below ∷ e.above ∷ []
+    lanes = e.below ∷ e.above ∷ e.below ∷ e.above ∷ e.below ∷ e.above ∷ []
 
-    above : (k : ℕ) → k < 2 → least <ℤ get_or lanes k (pos 0)
+    above : (k : ℕ) → k < 6 → least <ℤ get_or lanes k (pos 0)
     above zero lt = some.below
     above (suc zero) lt = some.above
-    above (suc (suc k)) lt = absurd (omega (arith, lt))
+    above (suc (suc zero)) lt = some.below
+    above (suc (suc (suc zero))) lt = some.above
+    above (suc (suc (suc (suc zero)))) lt = some.below
+    above (suc (suc (suc (suc (suc zero))))) lt = some.above
+    above (suc (suc (suc (suc (suc (suc k)))))) lt = absurd (omega (arith, lt))
 
-    holds : (r : ℕ) → 2 * r + 1 < 2 → has_some (register_span lanes r) ≡ true
+    holds : (r : ℕ) → 2 * r + 1 < 6 → has_some (register_span lanes r) ≡ true
     holds zero lt = some.some
-    holds (suc r) lt = absurd (omega (arith, lt))
+    holds (suc zero) lt = some.some
+    holds (suc (suc zero)) lt = some.some
+    holds (suc (suc (suc r))) lt = absurd (omega (arith, lt))
 
-    are_some : AreSome 2 lanes
+    are_some : AreSome 6 lanes
     are_some = record { len = refl; above = above; some = holds }
 
 module _ (a b : EachOf Ends) where
   -- each register and number in it is small
   abbrev AreSmallIn : Glue → Type 0
-  AreSmallIn LeftC = AreWithin 1 a.c
-  AreSmallIn LeftD = AreWithin 1 a.d
-  AreSmallIn LeftR = AreWithin 1 a.r
-  AreSmallIn RightC = AreWithin 1 b.c
-  AreSmallIn RightD = AreWithin 1 b.d
-  AreSmallIn RightR = AreWithin 1 b.r
+  AreSmallIn (Left f) = AreWithin 1 (value_in plain_values a (pos 0) (pos 0) f)
+  AreSmallIn (Right f) = AreWithin 1 (value_in plain_values b (pos 0) (pos 0) f)
   AreSmallIn (Number x) = IsWithin 1 x
   AreSmallIn (With o u v) = AreSmallIn u × AreSmallIn v
 
   within_words : (u : Glue) → AreSmallIn u → AreWithin (words u) (glue_in plain_values a b u)
-  within_words LeftC h = h
-  within_words LeftD h = h
-  within_words LeftR h = h
-  within_words RightC h = h
-  within_words RightD h = h
-  within_words RightR h = h
+  within_words (Left f) h = h
+  within_words (Right f) h = h
   within_words (Number x) h = number_within x h
   within_words (With o u v) h = both_within o (words u) (words v) _ _ (within_words u h.0) (within_words v h.1)
 
   small_takes : (u : Glue) → IsNarrow u → AreSmallIn u → GlueTakes TakesPlain plain_values a b u
-  small_takes LeftC n h = tt
-  small_takes LeftD n h = tt
-  small_takes LeftR n h = tt
-  small_takes RightC n h = tt
-  small_takes RightD n h = tt
-  small_takes RightR n h = tt
+  small_takes (Left f) n h = word_taken f a n
+  small_takes (Right f) n h = word_taken f b n
   small_takes (Number x) n h = tt
   small_takes (With o u v) n h = (
     small_takes u n.2 h.0,
@@ -205,28 +250,24 @@ module _ (a b : EachOf Ends) where
   )
 
   free_takes : (u : Glue) → AddsNever u → GlueTakes TakesPlain plain_values a b u
-  free_takes LeftC h = tt
-  free_takes LeftD h = tt
-  free_takes LeftR h = tt
-  free_takes RightC h = tt
-  free_takes RightD h = tt
-  free_takes RightR h = tt
+  free_takes (Left f) h = word_taken f a h
+  free_takes (Right f) h = word_taken f b h
   free_takes (Number x) h = tt
   free_takes (With o u v) h = (free_takes u h.1, free_takes v h.2, free_taken o _ _ h.0)
 
   module _ (some_a : AreSomeEnds a) (some_b : AreSomeEnds b) where
     fold_small : (o : Op) (d : ℤ) (trims l r : Bool) → IsWithin 1 d → IsWithin 1 (neg_ℤ d) → ArePlain a.d → ArePlain b.d →
-        (folds_held trims l ≡ true → ArePlain a.c) → (folds_held trims r ≡ true → ArePlain b.c) → AreSmallIn (folded o d trims l r)
-    fold_small o d true true true w n p q s t = ((((small a.c some_a.0 (s refl), small a.d some_a.1 p), w), small b.c some_b.0 (t refl)), small b.d some_b.1 q)
-    fold_small o d true true false w n p q s t = (((small a.c some_a.0 (s refl), small a.d some_a.1 p), w), small b.d some_b.1 q)
-    fold_small o d true false true w n p q s t = (((small a.d some_a.1 p, w), small b.c some_b.0 (t refl)), small b.d some_b.1 q)
-    fold_small o d true false false w n p q s t = ((small a.d some_a.1 p, w), small b.d some_b.1 q)
+        (folds_held trims l ≡ true → ArePlain a.c) → (folds_held trims r ≡ true → ArePlain b.c) → AreSmallIn (folded o Whole d trims l r)
+    fold_small o d true true true w n p q s t = ((((small a.c some_a.0 (s refl), small a.d some_a.2 p), w), small b.c some_b.0 (t refl)), small b.d some_b.2 q)
+    fold_small o d true true false w n p q s t = (((small a.c some_a.0 (s refl), small a.d some_a.2 p), w), small b.d some_b.2 q)
+    fold_small o d true false true w n p q s t = (((small a.d some_a.2 p, w), small b.c some_b.0 (t refl)), small b.d some_b.2 q)
+    fold_small o d true false false w n p q s t = ((small a.d some_a.2 p, w), small b.d some_b.2 q)
     fold_small Add d false l r w n p q s t =
-        (((small a.c some_a.0 (s refl), small a.d some_a.1 p), (small b.c some_b.0 (t refl), small b.d some_b.1 q)), n)
-    fold_small Max d false l r w n p q s t = ((small a.c some_a.0 (s refl), small a.d some_a.1 p), (small b.c some_b.0 (t refl), small b.d some_b.1 q))
-    fold_small Min d false l r w n p q s t = ((small a.c some_a.0 (s refl), small a.d some_a.1 p), (small b.c some_b.0 (t refl), small b.d some_b.1 q))
+        (((small a.c some_a.0 (s refl), small a.d some_a.2 p), (small b.c some_b.0 (t refl), small b.d some_b.2 q)), n)
+    fold_small Max d false l r w n p q s t = ((small a.c some_a.0 (s refl), small a.d some_a.2 p), (small b.c some_b.0 (t refl), small b.d some_b.2 q))
+    fold_small Min d false l r w n p q s t = ((small a.c some_a.0 (s refl), small a.d some_a.2 p), (small b.c some_b.0 (t refl), small b.d some_b.2 q))
 
-    fold_narrow : (o : Op) (d : ℤ) (trims l r : Bool) → IsNarrow (folded o d trims l r)
+    fold_narrow : (o : Op) (d : ℤ) (trims l r : Bool) → IsNarrow (folded o Whole d trims l r)
     fold_narrow o d true true true = search rules
     fold_narrow o d true true false = search rules
     fold_narrow o d true false true = search rules
@@ -235,7 +276,7 @@ module _ (a b : EachOf Ends) where
     fold_narrow Max d false l r = search rules
     fold_narrow Min d false l r = search rules
 
-    fold_words : (o : Op) (d : ℤ) (trims l r : Bool) → words (folded o d trims l r) ≤ 5
+    fold_words : (o : Op) (d : ℤ) (trims l r : Bool) → words (folded o Whole d trims l r) ≤ 5
     fold_words o d true true true = omega arith
     fold_words o d true true false = omega arith
     fold_words o d true false true = omega arith
@@ -244,12 +285,12 @@ module _ (a b : EachOf Ends) where
     fold_words Max d false l r = omega arith
     fold_words Min d false l r = omega arith
 
-    fold_free : (o : Op) (d : ℤ) (trims l r : Bool) → is_add o ≡ false → AddsNever (folded o d trims l r)
+    fold_free : (o : Op) (d : ℤ) (trims l r : Bool) → is_add o ≡ false → AddsNever (folded o Whole d trims l r)
     fold_free o d true true true e = search rules
     fold_free o d true true false e = search rules
     fold_free o d true false true e = search rules
     fold_free o d true false false e = search rules
-    fold_free Add d false l r e = cc
+    fold_free Add d false l r e = never_added e
     fold_free Max d false l r e = search rules
     fold_free Min d false l r e = search rules
 
@@ -257,13 +298,13 @@ module _ (a b : EachOf Ends) where
     worth_small x h = (cell_within x h, cell_within (neg_ℤ x) (cell_neg x h))
 
     folds_taken : (g : Gluing) (h : IsCellValue g.worth) → (is_add g.fold ≡ true → IsFoldPlain g a b) → (v : Bool) → is_add g.fold ≡ v →
-        GlueTakes TakesPlain plain_values a b (folded g.fold g.worth g.trims g.held_left g.held_right)
+        GlueTakes TakesPlain plain_values a b (folded g.fold Whole g.worth g.trims g.held_left g.held_right)
     folds_taken g h plain true e =
         let f = plain e in let w = worth_small g.worth h in
-        small_takes (folded g.fold g.worth g.trims g.held_left g.held_right) (fold_narrow g.fold g.worth g.trims g.held_left g.held_right)
+        small_takes (folded g.fold Whole g.worth g.trims g.held_left g.held_right) (fold_narrow g.fold g.worth g.trims g.held_left g.held_right)
         (fold_small g.fold g.worth g.trims g.held_left g.held_right w.0 w.1 f.left_d f.right_d f.left_c f.right_c)
     folds_taken g h plain false e =
-        free_takes (folded g.fold g.worth g.trims g.held_left g.held_right) (fold_free g.fold g.worth g.trims g.held_left g.held_right e)
+        free_takes (folded g.fold Whole g.worth g.trims g.held_left g.held_right) (fold_free g.fold g.worth g.trims g.held_left g.held_right e)
 
     left_or : (u v : Bool) → u ≡ true → (u || v) ≡ true
     left_or u v e = ap (λ z. z || v) e
@@ -273,40 +314,93 @@ module _ (a b : EachOf Ends) where
     right_or false v e = e
 
     joined_taken : (g : Gluing) → IsCellValue g.worth → IsPlain g a b → g.joins ≡ true → (v : Bool) → is_add g.result ≡ v →
-        GlueTakes TakesPlain plain_values a b (join_of g.result (folded g.fold g.worth g.trims g.held_left g.held_right))
+        GlueTakes TakesPlain plain_values a b (join_of g.result (folded g.fold Whole g.worth g.trims g.held_left g.held_right))
     joined_taken g h plain j true e =
         let rs = plain.results e in
         let f = plain.folded (left_or (is_add g.result) (is_add g.fold) e) j in let w = worth_small g.worth h in
-        small_takes (join_of g.result (folded g.fold g.worth g.trims g.held_left g.held_right)) (
+        small_takes (join_of g.result (folded g.fold Whole g.worth g.trims g.held_left g.held_right)) (
           omega arith,
           fold_words g.fold g.worth g.trims g.held_left g.held_right,
           (omega arith, omega arith, tt, tt),
           fold_narrow g.fold g.worth g.trims g.held_left g.held_right,
         ) (
-          (small a.r some_a.2 rs.0, small b.r some_b.2 rs.1),
+          (small a.r some_a.4 rs.0, small b.r some_b.4 rs.1),
           fold_small g.fold g.worth g.trims g.held_left g.held_right w.0 w.1 f.left_d f.right_d f.left_c f.right_c,
         )
     joined_taken g h plain j false e = (
-      (tt, tt, free_taken g.result a.r b.r e),
+      (tt, tt, free_taken (Fold g.result) a.r b.r e),
       folds_taken g h (λ z. plain.folded (right_or (is_add g.result) (is_add g.fold) z) j) (is_add g.fold) refl,
-      free_taken g.result _ _ e,
+      free_taken (Fold g.result) _ _ e,
     )
 
-    apart_taken : (g : Gluing) → IsPlain g a b → g.joins ≡ false → (v : Bool) → is_add g.result ≡ v → GlueTakes TakesPlain plain_values a b (apart g.result)
+    apart_taken : (g : Gluing) → IsPlain g a b → g.joins ≡ false → (v : Bool) → is_add g.result ≡ v →
+        GlueTakes TakesPlain plain_values a b (apart false g.result)
     apart_taken g plain j true e =
-        let rs = plain.results e in let cs = plain.apart e j in
-        small_takes (apart g.result) (omega arith, omega arith, (omega arith, omega arith, tt, tt), (omega arith, omega arith, tt, tt))
-        ((small a.r some_a.2 rs.0, small a.c some_a.0 cs.0), (small b.r some_b.2 rs.1, small b.c some_b.0 cs.1))
-    apart_taken g plain j false e = ((tt, tt, free_taken g.result _ _ e), (tt, tt, free_taken g.result _ _ e), free_taken g.result _ _ e)
+        let rs = plain.results e in let cs = plain.apart e j in let o = Fold g.result in
+        let ar = small a.r some_a.4 rs.0 in let ac = small a.c some_a.0 cs.0 in
+        let br = small b.r some_b.4 rs.1 in let bc = small b.c some_b.0 cs.1 in (
+          (tt, tt, both_taken o 1 1 a.r a.c (omega arith) (omega arith) ar ac),
+          (tt, tt, both_taken o 1 1 b.r b.c (omega arith) (omega arith) br bc),
+          both_taken o 2 2 (plain_by o a.r a.c) (plain_by o b.r b.c) (omega arith) (omega arith) (both_within o 1 1 a.r a.c ar ac)
+              (both_within o 1 1 b.r b.c br bc),
+        )
+    apart_taken g plain j false e = (
+      (tt, tt, free_taken (Fold g.result) _ _ e),
+      (tt, tt, free_taken (Fold g.result) _ _ e),
+      free_taken (Fold g.result) _ _ e,
+    )
 
     plain_by_joins : (g : Gluing) → IsCellValue g.worth → IsPlain g a b → (v : Bool) → g.joins ≡ v →
-        GlueTakes TakesPlain plain_values a b (cond v (join_of g.result (folded g.fold g.worth g.trims g.held_left g.held_right)) (apart g.result))
+        GlueTakes TakesPlain plain_values a b (cond v (join_of g.result (fold_of false g.fold (part_by g))) (apart false g.result))
     plain_by_joins g h plain true e = joined_taken g h plain e (is_add g.result) refl
     plain_by_joins g h plain false e = apart_taken g plain e (is_add g.result) refl
 
     pub plain_takes : (g : Gluing) → IsCellValue g.worth → IsPlain g a b → GlueTakes TakesPlain plain_values a b (expression g)
-    plain_takes g h plain = plain_by_joins g h plain g.joins refl
+    plain_takes g h plain =
+        subst
+        (λ w. GlueTakes TakesPlain plain_values a b (cond g.joins (join_of g.result (fold_of w g.fold (part_by g))) (apart w g.result)))
+        (sym plain.narrow) (plain_by_joins g h plain g.joins refl)
 
 pub trims_is : (a : ℕ) → nat_lt 0 a ≡ leaves_out a
 trims_is zero = refl
 trims_is (suc a) = grind arith
+
+-- how a pair of states is glued is its expression
+
+part_is : (a : ℕ) (l r : Bool) (d : ℤ) (o : Op) (p : Part) → folded o p d (leaves_out a) l r ≡ part_of a l r d o p
+part_is zero l r d o p = refl
+part_is (suc a) l r d o p = refl
+
+parts_are : (wide : Bool) (a : ℕ) (l r : Bool) (d : ℤ) (o : Op) →
+    fold_of wide o (λ z p. folded z p d (leaves_out a) l r) ≡ fold_of wide o (part_of a l r d)
+parts_are false a l r d o = part_is a l r d o Whole
+parts_are true a l r d o =
+    ap (λ z. With Sub z (folded Min Away d (leaves_out a) l r)) (part_is a l r d o Whole) ∙ ap (With Sub (part_of a l r d o Whole)) (part_is a l r d Min Away)
+
+abbrev expression_of : (g o : Op) (wide joins trims l r : Bool) (d : ℤ) → Glue
+expression_of g o wide joins trims l r d = cond joins (join_of g (fold_of wide o (λ z p. folded z p d trims l r))) (apart wide g)
+
+pub gluing_is : (p : Pair) (q r : ℕ) (x : ℤ) (g : Gluing) → g.result ≡ result_op p → g.fold ≡ fold_op p.table.op → g.wide ≡ is_wide p →
+    g.worth ≡ worth p.table.unit x → g.joins ≡ is_join p.table q r → g.trims ≡ leaves_out p.table.a → g.held_left ≡ (node_at p.forward.states q).held →
+    g.held_right ≡ (node_at p.reverse.states r).held → expression g ≡ glue_of p q r x
+gluing_is p q r x g e1 e2 e3 e4 e5 e6 e7 e8 =
+    let l = (node_at p.forward.states q).held in let h = (node_at p.reverse.states r).held in
+    let d = worth p.table.unit x in let o = fold_op p.table.op in
+    expression_is g
+    ∙ ap (λ z. expression_of z g.fold g.wide g.joins g.trims g.held_left g.held_right g.worth) e1
+    ∙ ap (λ z. expression_of (result_op p) z g.wide g.joins g.trims g.held_left g.held_right g.worth) e2
+    ∙ ap (λ z. expression_of (result_op p) o z g.joins g.trims g.held_left g.held_right g.worth) e3
+    ∙ ap (λ z. expression_of (result_op p) o (is_wide p) z g.trims g.held_left g.held_right g.worth) e5
+    ∙ ap (λ z. expression_of (result_op p) o (is_wide p) (is_join p.table q r) z g.held_left g.held_right g.worth) e6
+    ∙ ap (λ z. expression_of (result_op p) o (is_wide p) (is_join p.table q r) (leaves_out p.table.a) z g.held_right g.worth) e7
+    ∙ ap (λ z. expression_of (result_op p) o (is_wide p) (is_join p.table q r) (leaves_out p.table.a) l z g.worth) e8
+    ∙ ap (λ z. expression_of (result_op p) o (is_wide p) (is_join p.table q r) (leaves_out p.table.a) l h z) e4
+    ∙ ap (λ z. cond (is_join p.table q r) (join_of (result_op p) z) (apart (is_wide p) (result_op p))) (parts_are (is_wide p) p.table.a l h d o)
+  where
+    by_width : (g : Gluing) (wide : Bool) → fold_of wide g.fold (part_by g)
+        ≡ fold_of wide g.fold (λ z p. folded z p g.worth g.trims g.held_left g.held_right)
+    by_width g true = refl
+    by_width g false = refl
+
+    expression_is : (g : Gluing) → expression g ≡ expression_of g.result g.fold g.wide g.joins g.trims g.held_left g.held_right g.worth
+    expression_is g = ap (λ z. cond g.joins (join_of g.result z) (apart g.wide g.result)) (by_width g g.wide)

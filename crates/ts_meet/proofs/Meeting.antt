@@ -7,7 +7,12 @@ use Rattle.std.proofs.lemmas.List.FromFn.{map-range_with_len_more}
 use Rattle.std.proofs.lemmas.List.Sums.{fold-append, fold_push}
 use Rattle.ts_base.specs.declared.span.Span.{Span}
 use Rattle.ts_base.specs.Spans.{has_some, none_span, span_hull}
+use Rattle.ts_automaton.specs.declared.expr.Operator.{Operator}
+use Rattle.ts_automaton.specs.declared.expr.Operator.TheVariants.{Fold, Sub}
+use Rattle.ts_automaton.specs.Differences.{span_op}
 use Rattle.ts_automaton.specs.Formula.{Formula}
+use Rattle.ts_automaton.proofs.Evaluation.{value_related}
+use Rattle.ts_automaton.proofs.Five.{none_registers, some_registers}
 use Rattle.ts_automaton.specs.AutomatonRun.{Standing}
 use Rattle.ts_automaton.specs.Body.{Body}
 use Rattle.ts_automaton.specs.Registers.{EachOf, map_each, spans, spans_of, value_in}
@@ -16,11 +21,13 @@ use Rattle.ts_automaton.specs.declared.state.Mark.{Mark}
 use Rattle.ts_glue.specs.Glue.{Glue, glue_in, glue_of}
 use Rattle.ts_glue.specs.Glued.{glued_span}
 use Rattle.ts_glue.specs.Pairs.{Pair}
-use Rattle.ts_hull.specs.Sealed.{by_ends, sealed_spans, span_in}
+use Rattle.ts_glue.proofs.Expressions.{glue_related}
+use Rattle.ts_hull.specs.Sealed.{by_ends, less_span, sealed_op, sealed_spans, span_in}
 use Rattle.ts_row.specs.Rows.{IsRow, nothing}
 use Rattle.ts_sweep.specs.declared.packed.Ends.{Ends}
+use Rattle.ts_sweep.specs.declared.packed.Name.TheVariants.{C, E, D, F, R}
 use Rattle.ts_sweep.specs.declared.packed.PackedHull.{PackedHull}
-use Rattle.ts_sweep.specs.FrontLaws.{some_ends}
+use Rattle.ts_sweep.specs.FrontLaws.{name_packs}
 use Rattle.ts_sweep.specs.Lanes.{some_lanes}
 use Rattle.ts_sweep.specs.MoveLaws.{some_unpacked}
 use Rattle.ts_sweep.specs.Packed.{AreSome, IsPacked, IsPackOf, IsSomeEnds, ends_span, unpacked}
@@ -37,22 +44,28 @@ use Rattle.ts_meet.proofs.Marks.{with_nothing}
 -- hulls in lanes
 
 pub lanes_some : (n : ℕ) (xs : List ℤ) → 6 ≤ n → AreSome n xs → AreSomeEnds (side_of xs)
-lanes_some n xs big h = (some_ends n 0 xs (omega (arith, big)) h, some_ends n 1 xs (omega (arith, big)) h, some_ends n 2 xs (omega (arith, big)) h)
+lanes_some n xs big h = (
+  (name_packs n xs C big h).some,
+  (name_packs n xs E big h).some,
+  (name_packs n xs D big h).some,
+  (name_packs n xs F big h).some,
+  (name_packs n xs R big h).some,
+)
 
 pub lanes_pack : (n : ℕ) (xs : List ℤ) → 6 ≤ n → AreSome n xs → ArePackOf (side_of xs) (spans_of (unpacked xs))
-lanes_pack n xs big h =
-    let s = lanes_some n xs big h in
-    (record { some = s.0; span = refl }, record { some = s.1; span = refl }, record { some = s.2; span = refl })
+unfolding unpacked
+lanes_pack n xs big h = (name_packs n xs C big h, name_packs n xs E big h, name_packs n xs D big h, name_packs n xs F big h, name_packs n xs R big h)
 
 pub none_there : (n : ℕ) (xs : List ℤ) → 6 ≤ n → IsPacked n xs → some_lanes xs ≡ false → has_registers (spans_of (unpacked xs)) ≡ false
-none_there n xs big p none = ap (λ h. has_registers (spans_of h)) (ap unpacked (nothing_lanes n xs big p none) ∙ none_unpacked n big)
+none_there n xs big p none = ap (λ h. has_registers (spans_of h)) (ap unpacked (nothing_lanes n xs big p none) ∙ none_unpacked n big) ∙ none_registers
 
 packed_span : (e : Ends) (s : Span) → IsPackOf e s → has_some s ≡ true
 packed_span e s p = ap has_some (sym p.span) ∙ p.some.some
 
 pack_registers : (a : EachOf Ends) (s : EachOf Span) → ArePackOf a s → has_registers s ≡ true
 pack_registers a s p =
-    ap (λ b. (b && has_some s.d) && has_some s.r) (packed_span a.c s.c p.0) ∙ ap (λ b. b && has_some s.r) (packed_span a.d s.d p.1) ∙ packed_span a.r s.r p.2
+    some_registers s
+    (packed_span a.c s.c p.0, packed_span a.e s.e p.1, packed_span a.d s.d p.2, packed_span a.f s.f p.3, packed_span a.r s.r p.4)
 
 -- the hull that was read at a place of a row
 pub standing_there : (n : ℕ) (row : List (List (PackedHull n))) (q i : ℕ) (column : List (PackedHull n)) (h : PackedHull n) →
@@ -63,9 +76,17 @@ standing_there n row q i column h e inside is =
 
 -- a pair of states
 
+op_sealed : (o : Operator) (s t : Span) → sealed_op o s t ≡ span_op o s t
+unfolding by_ends less_span
+op_sealed (Fold o) s t = refl
+op_sealed Sub s t = refl
+
+join_sealed : (o : Operator) (s s' t t' : Span) → s ≡ t → s' ≡ t' → sealed_op o s s' ≡ span_op o t t'
+join_sealed o s s' t t' p q = ap (λ z. sealed_op o z s') p ∙ ap (sealed_op o t) q ∙ op_sealed o t t'
+
 value_sealed : (u : Glue) (s t : EachOf Span) → glue_in sealed_spans s t u ≡ glue_in spans s t u
-unfolding by_ends
-value_sealed u s t = refl
+value_sealed u s t =
+    glue_related sealed_spans spans (λ v w. v ≡ w) (λ e. refl) join_sealed u s t s t (refl, refl, refl, refl, refl) (refl, refl, refl, refl, refl)
 
 some_both : (a b : Bool) → a ≡ true → b ≡ true → (a && b) ≡ true
 some_both a b p q = ap (λ z. z && b) p ∙ q
@@ -173,8 +194,8 @@ finishes_more n b row i cells k s =
     ap (fold span_hull s) (map-range_with_len_more f 0 k k (omega arith)) ∙ fold_push span_hull s (map f (range_with_len 0 k)) (f k)
 
 finish_sealed : (f : Formula) (s : EachOf Span) (x y : ℤ) → value_in spans s x y f ≡ value_in sealed_spans s x y f
-unfolding by_ends
-finish_sealed f s x y = refl
+finish_sealed f s x y =
+    sym (value_related sealed_spans spans (λ v w. v ≡ w) (λ e. refl) join_sealed f s s x y x y refl refl (refl, refl, refl, refl, refl))
 
 pub finish_none : (b : Body) (q : ℕ) (regs : EachOf Span) (cells : ℕ) → has_registers regs ≡ false → finish_span_of b (standing q regs) cells ≡ none_span
 finish_none b q regs cells h = ap (λ t. marked_span b.mark cells (cond t (value_in spans regs (pos 0) (pos 0) b.finish) none_span)) h
@@ -216,7 +237,13 @@ abbrev own_spans : EachOf Ends → EachOf Span
 own_spans a = map_each ends_span a
 
 pub own_packs : (a : EachOf Ends) → AreSomeEnds a → ArePackOf a (own_spans a)
-own_packs a h = (record { some = h.0; span = refl }, record { some = h.1; span = refl }, record { some = h.2; span = refl })
+own_packs a h = (
+  record { some = h.0; span = refl },
+  record { some = h.1; span = refl },
+  record { some = h.2; span = refl },
+  record { some = h.3; span = refl },
+  record { some = h.4; span = refl },
+)
 
 -- so registers lie between glued ends
 pub glued_some : (a b : EachOf Ends) (e : Ends) (u : Glue) → AreSomeEnds a → AreSomeEnds b →

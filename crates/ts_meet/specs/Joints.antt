@@ -4,20 +4,21 @@ use Rattle.ts_base.specs.declared.op.Op.{Op}
 use Rattle.ts_base.specs.declared.op.Op.TheVariants.{Add, Max, Min}
 use Rattle.ts_automaton.specs.Body.{node_at}
 use Rattle.ts_automaton.specs.Registers.{EachOf}
-use Rattle.ts_glue.specs.Glue.{Glue, apart, join_of, folded_between, folded_both, fold_op, is_join, result_op}
+use Rattle.ts_glue.specs.Glue.{Glue, apart, fold_of, folded_between, folded_both, fold_op, is_join, is_wide, join_of, result_op}
+use Rattle.ts_glue.specs.declared.operand.Part.{Part}
 use Rattle.ts_glue.specs.Pairs.{Pair}
 use Rattle.ts_sweep.specs.declared.packed.Ends.{Ends}
 use Rattle.ts_sweep.specs.Fronts.{ArePlain}
 use Rattle.ts_meet.specs.declared.gluing.Gluing.{Gluing}
 use Rattle.ts_meet.specs.declared.joints.Joints.{Joints}
 
--- the expression of a pair of states, where the cell has a worth
+-- a part of the one occurrence, folded by an operator, where the cell has a worth
+abbrev pub part_by : Gluing → Op → Part → Glue
+part_by g o p = if g.trims then folded_between o p g.held_left g.held_right g.worth else folded_both o p g.worth
+
+-- the expression of a pair of states
 abbrev pub expression : Gluing → Glue
-expression g =
-    if g.joins
-    then join_of g.result
-    (if g.trims then folded_between g.fold g.held_left g.held_right g.worth else folded_both g.fold g.worth)
-    else apart g.result
+expression g = if g.joins then join_of g.result (fold_of g.wide g.fold (part_by g)) else apart g.wide g.result
 
 -- the operator adds
 abbrev pub is_add : Op → Bool
@@ -36,8 +37,9 @@ pub record IsFoldPlain (g : Gluing) (left right : EachOf Ends) : Type 0 where
   pub left_c : folds_held g.trims g.held_left ≡ true → ArePlain left.c
   pub right_c : folds_held g.trims g.held_right ≡ true → ArePlain right.c
 
--- nor of one that is added
+-- nor of one that is added; nothing is taken away
 pub record IsPlain (g : Gluing) (left right : EachOf Ends) : Type 0 where
+  pub narrow : g.wide ≡ false
   pub results : is_add g.result ≡ true → ArePlain left.r × ArePlain right.r
   pub apart : is_add g.result ≡ true → g.joins ≡ false → ArePlain left.c × ArePlain right.c
   pub folded : (is_add g.result || is_add g.fold) ≡ true → g.joins ≡ true → IsFoldPlain g left right
@@ -56,6 +58,7 @@ pub record AreJoints (p : Pair) (j : Joints) : Type 0 where
   pub result : j.result ≡ result_op p
   pub fold : j.fold ≡ fold_op p.table.op
   pub unit : j.unit ≡ p.table.unit
+  pub wide : j.wide ≡ is_wide p
   pub trims : j.trims ≡ leaves_out p.table.a
   pub mark : j.mark ≡ p.forward.mark
   pub left_states : j.left_states ≡ length p.forward.states

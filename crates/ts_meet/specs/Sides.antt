@@ -3,47 +3,51 @@ use Rattle.std.specs.Prelude.{◌≡◌, ◌⊎◌, ℕ, ℤ, pos, negsuc, neg_�
 use Rattle.std.specs.Int.{int_max}
 use Rattle.ts_base.specs.declared.ext.Ext.{Ext}
 use Rattle.ts_base.specs.declared.span.Span.{Span}
-use Rattle.ts_base.specs.declared.op.Op.{Op}
 use Rattle.ts_base.specs.declared.op.Op.TheVariants.{Add, Max, Min}
 use Rattle.ts_base.specs.Spans.{none_span}
 use Rattle.ts_automaton.specs.declared.state.Mark.{Mark}
 use Rattle.ts_automaton.specs.declared.state.Mark.TheVariants.{Same, Zero, Cells}
+use Rattle.ts_automaton.specs.declared.expr.Operator.{Operator}
+use Rattle.ts_automaton.specs.declared.expr.Operator.TheVariants.{Fold, Sub}
 use Rattle.ts_automaton.specs.Registers.{EachOf, each, Each, Values}
 use Rattle.ts_sweep.specs.declared.packed.Ends.{Ends}
+use Rattle.ts_sweep.specs.declared.packed.Name.TheVariants.{C, E, D, F, R}
 use Rattle.ts_sweep.specs.Lanes.{least}
-use Rattle.ts_sweep.specs.Operators.{sum_of_ends, greater_of_ends, lesser_of_ends}
-use Rattle.ts_sweep.specs.Packed.{ends, ends_at, negated, AreWithin, IsPackOf, IsSomeEnds}
+use Rattle.ts_sweep.specs.Operators.{crossed, sum_of_ends, greater_of_ends, lesser_of_ends}
+use Rattle.ts_sweep.specs.Packed.{ends, name_ends, negated, AreWithin, IsPackOf, IsSomeEnds}
 use Rattle.ts_sweep.specs.Trees.{joined_by, lane_of}
 use Rattle.ts_meet.specs.declared.side.Side.{Side}
 
 -- what contracts see of the registers on one side; those in lanes
 abbrev pub ends_in : Side → EachOf Ends
-ends_in s = each s.c s.d s.r
+ends_in s = each s.c s.e s.d s.f s.r
 
 abbrev pub side_of : List ℤ → EachOf Ends
-side_of xs = each (ends_at xs 0) (ends_at xs 1) (ends_at xs 2)
+side_of xs = each (name_ends xs C) (name_ends xs E) (name_ends xs D) (name_ends xs F) (name_ends xs R)
 
 -- a register lies between the ends of each
 abbrev pub AreSomeEnds : EachOf Ends → Type 0
-AreSomeEnds s = IsSomeEnds s.c × IsSomeEnds s.d × IsSomeEnds s.r
+AreSomeEnds s = IsSomeEnds s.c × IsSomeEnds s.e × IsSomeEnds s.d × IsSomeEnds s.f × IsSomeEnds s.r
 
 -- they stand for these spans
 abbrev pub ArePackOf : EachOf Ends → EachOf Span → Type 0
 ArePackOf = Each IsPackOf
 
 -- operators whose sums are those of the lanes
-abbrev pub plain_by : Op → Ends → Ends → Ends
-plain_by Add a b = sum_of_ends a b
-plain_by Max a b = greater_of_ends a b
-plain_by Min a b = lesser_of_ends a b
+abbrev pub plain_by : Operator → Ends → Ends → Ends
+plain_by (Fold Add) a b = sum_of_ends a b
+plain_by (Fold Max) a b = greater_of_ends a b
+plain_by (Fold Min) a b = lesser_of_ends a b
+plain_by Sub a b = sum_of_ends a (crossed b)
 
 -- they are right of small numbers alone
-abbrev pub TakesPlain : Op → Ends → Ends → Type 0
-TakesPlain Add a b = AreWithin 5 a × AreWithin 5 b
-TakesPlain Max a b = Unit {0}
-TakesPlain Min a b = Unit {0}
+abbrev pub TakesPlain : Operator → Ends → Ends → Type 0
+TakesPlain (Fold Add) a b = AreWithin 5 a × AreWithin 5 b
+TakesPlain (Fold Max) a b = Unit {0}
+TakesPlain (Fold Min) a b = Unit {0}
+TakesPlain Sub a b = AreWithin 5 a × AreWithin 5 b
 
-abbrev pub TakesAny : Op → Ends → Ends → Type 0
+abbrev pub TakesAny : Operator → Ends → Ends → Type 0
 TakesAny o a b = Unit {0}
 
 abbrev pub constant_ends : Ext → Ends

@@ -4,7 +4,7 @@ ghost use Rattle.std.specs.Prelude.{◌≡◌, ℕ, ◌<◌, false, [], IfSome, 
 ghost use Rattle.ts_automaton.specs.Body.{node_at};
 ghost use Rattle.ts_automaton.specs.Formula.{formula};
 ghost use Rattle.ts_base.specs.Limits.{IsCellValue};
-ghost use Rattle.ts_glue.specs.Glue.{first_op, fold_op, glue_of, is_join};
+ghost use Rattle.ts_glue.specs.Glue.{first_op, fold_op, glue_of, is_join, is_pair};
 ghost use Rattle.ts_glue.specs.Machines.{pair_of};
 ghost use Rattle.ts_glue.specs.Pairs.{Pair, pair, table_view};
 ghost use Rattle.ts_meet.specs.Joints.{AreJoints, AreJoinsOf, expression};
@@ -40,6 +40,7 @@ impl Joints {
             result: self.result,
             fold: self.fold,
             worth: self.unit.worth(spot.value),
+            wide: self.wide,
             joins: self.joins[left as usize][right as usize],
             trims: self.trims,
             held_left: self.held_left[left as usize],
@@ -56,6 +57,7 @@ fn joints_of(forward: &Automaton, reverse: &Automaton, table: &GlueTable) -> Joi
         result: first_op(forward.finish_expr()),
         fold: op_of(table.op),
         unit: table.unit,
+        wide: is_pair(table.op),
         trims: table.a > 0,
         mark: forward.mark(),
         left_states: forward.states(),
@@ -111,14 +113,24 @@ fn held_in(a: &Automaton) -> [bool; STATES]
     held
 }
 
-/// The operator that folds.
+/// The operator that folds the whole of an occurrence.
 fn op_of(fold: FoldOp) -> Op
     ensures { result ≡ fold_op fold }
 {
     match fold {
         FoldOp::Add => Op::Add,
-        FoldOp::Max => Op::Max,
+        FoldOp::Max | FoldOp::Pair => Op::Max,
         FoldOp::Min => Op::Min,
+    }
+}
+
+/// Whether the least cell is folded beside the greatest: then both automata are wide.
+fn is_pair(fold: FoldOp) -> bool
+    ensures { result ≡ is_pair fold }
+{
+    match fold {
+        FoldOp::Pair => true,
+        FoldOp::Add | FoldOp::Max | FoldOp::Min => false,
     }
 }
 

@@ -1,29 +1,31 @@
 //! What is made of the registers on both sides of a cell.
 
-ghost use Rattle.std.specs.Prelude.{◌≡◌, true, neg_ℤ};
-ghost use Rattle.ts_automaton.specs.Registers.{EachOf};
+ghost use Rattle.std.specs.Prelude.{◌≡◌, true, neg_ℤ, pos};
+ghost use Rattle.ts_automaton.specs.Registers.{EachOf, Takes, value_in};
 ghost use Rattle.ts_base.specs.declared.ext.Ext.TheVariants.{Int};
 ghost use Rattle.ts_base.specs.declared.span.Span.{Span};
 ghost use Rattle.ts_base.specs.Limits.{IsCellValue};
-ghost use Rattle.ts_glue.specs.Glue.{GlueTakes, folded_between, folded_both, glue_in};
+ghost use Rattle.ts_glue.specs.Glue.{GlueTakes, fold_of, folded_between, folded_both, glue_in, held_of, result_of};
 ghost use Rattle.ts_hull.specs.Sealed.{sealed_spans};
-ghost use Rattle.ts_meet.specs.Joints.{IsFoldPlain, IsPlain, expression, folds_held, is_add};
+ghost use Rattle.ts_meet.specs.Joints.{IsFoldPlain, IsPlain, expression, folds_held, is_add, part_by};
 ghost use Rattle.ts_meet.specs.Sides.{ArePackOf, AreSomeEnds, ends_in};
 ghost use Rattle.ts_sweep.specs.Packed.{IsPackOf};
 
 use crate::side::{Side, are_plain};
 use crate::sums::{Clamped, Plain, Sums};
-use ts_automaton::Op;
+use ts_automaton::{Op, Operator};
+use ts_glue::Part;
 use ts_sweep::packed::Ends;
 
 /// How the registers of a pair of states are glued: the operators that join results and fold cells, what the cell is
-/// worth, whether one occurrence goes on through it, whether an occurrence leaves a cell out at its end, and whether C
-/// is held on each side.
+/// worth, whether something is taken away from the whole, whether one occurrence goes on through the cell, whether an
+/// occurrence leaves a cell out at its end, and whether C is held on each side.
 #[derive(Clone, Copy)]
 pub(crate) struct Gluing {
     pub(crate) result: Op,
     pub(crate) fold: Op,
     pub(crate) worth: i64,
+    pub(crate) wide: bool,
     pub(crate) joins: bool,
     pub(crate) trims: bool,
     pub(crate) held_left: bool,
@@ -64,58 +66,121 @@ impl Gluing {
         requires worth { IsCellValue self.worth }
         ensures { result ≡ glue_in S.values (ends_in left) (ends_in right) (expression self) }
     {
-        if !self.joins {
-            return S::joined(
-                self.result,
-                S::joined(self.result, left.r, left.c),
-                S::joined(self.result, right.r, right.c),
-            );
-        }
-        let results = S::joined(self.result, left.r, right.r);
-        let folded = if self.trims {
-            self.folded_between::<S>(left, right)
+        let join = Operator::Fold(self.result);
+        let (first, second) = if self.joins {
+            (
+                S::joined(join, left.r, right.r),
+                self.folded::<S>(left, right),
+            )
         } else {
-            self.folded_both::<S>(left, right)
+            (self.answer::<S>(left), self.answer::<S>(right))
         };
-        S::joined(self.result, results, folded)
+        S::joined(join, first, second)
+    }
+
+    /// The answer of a run, before the mark.
+    #[inline(always)]
+    fn answer<S: Sums>(self, side: Side) -> Ends
+        requires { Takes S.takes S.values (ends_in side) (pos 0) (pos 0) (result_of self.wide self.result) }
+        ensures { result ≡ value_in S.values (ends_in side) (pos 0) (pos 0) (result_of self.wide self.result) }
+    {
+        S::joined(Operator::Fold(self.result), side.r, self.held::<S>(side))
+    }
+
+    /// What a run has complete or held: of a wide automaton the greatest less the least.
+    #[inline(always)]
+    fn held<S: Sums>(self, side: Side) -> Ends
+        requires { Takes S.takes S.values (ends_in side) (pos 0) (pos 0) (held_of self.wide) }
+        ensures { result ≡ value_in S.values (ends_in side) (pos 0) (pos 0) (held_of self.wide) }
+    {
+        if self.wide {
+            S::joined(Operator::Sub, side.c, side.e)
+        } else {
+            side.c
+        }
+    }
+
+    /// The fold of the occurrence that goes on: of wide automata the greatest of its cells less the least.
+    #[inline(always)]
+    fn folded<S: Sums>(self, left: Side, right: Side) -> Ends
+        requires fits { GlueTakes S.takes S.values (ends_in left) (ends_in right)
+            (fold_of self.wide self.fold (part_by self)) }
+        requires worth { IsCellValue self.worth }
+        ensures { result
+            ≡ glue_in S.values (ends_in left) (ends_in right) (fold_of self.wide self.fold (part_by self)) }
+    {
+        if self.wide {
+            S::joined(
+                Operator::Sub,
+                self.part::<S>(self.fold, Part::Whole, left, right),
+                self.part::<S>(Op::Min, Part::Away, left, right),
+            )
+        } else {
+            self.part::<S>(self.fold, Part::Whole, left, right)
+        }
+    }
+
+    /// A part of it, folded by an operator.
+    #[inline(always)]
+    fn part<S: Sums>(self, o: Op, part: Part, left: Side, right: Side) -> Ends
+        requires fits { GlueTakes S.takes S.values (ends_in left) (ends_in right) (part_by self o part) }
+        requires worth { IsCellValue self.worth }
+        ensures { result ≡ glue_in S.values (ends_in left) (ends_in right) (part_by self o part) }
+    {
+        if self.trims {
+            self.folded_between::<S>(o, part, left, right)
+        } else {
+            self.folded_both::<S>(o, part, left, right)
+        }
     }
 
     /// What the left side has open, the cell, and what the right side has open, folded in this order.
     #[inline(always)]
-    fn folded_between<S: Sums>(self, left: Side, right: Side) -> Ends
+    fn folded_between<S: Sums>(self, o: Op, part: Part, left: Side, right: Side) -> Ends
         requires fits { GlueTakes S.takes S.values (ends_in left) (ends_in right)
-            (folded_between self.fold self.held_left self.held_right self.worth) }
+            (folded_between o part self.held_left self.held_right self.worth) }
         requires worth { IsCellValue self.worth }
         ensures { result ≡ glue_in S.values (ends_in left) (ends_in right)
-            (folded_between self.fold self.held_left self.held_right self.worth) }
+            (folded_between o part self.held_left self.held_right self.worth) }
     {
         let opened = if self.held_left {
-            S::joined(self.fold, left.c, left.d)
+            S::joined(
+                Operator::Fold(o),
+                left.held::<S>(part),
+                left.open::<S>(part),
+            )
         } else {
-            left.d
+            left.open::<S>(part)
         };
-        let with_cell = S::joined(self.fold, opened, self.cell::<S>());
+        let with_cell = S::joined(Operator::Fold(o), opened, self.cell::<S>());
         let with_held = if self.held_right {
-            S::joined(self.fold, with_cell, right.c)
+            S::joined(Operator::Fold(o), with_cell, right.held::<S>(part))
         } else {
             with_cell
         };
-        S::joined(self.fold, with_held, right.d)
+        S::joined(Operator::Fold(o), with_held, right.open::<S>(part))
     }
 
     /// What both sides have folded, less the cell where it would count twice.
     #[inline(always)]
-    fn folded_both<S: Sums>(self, left: Side, right: Side) -> Ends
-        requires fits { GlueTakes S.takes S.values (ends_in left) (ends_in right) (folded_both self.fold self.worth) }
+    fn folded_both<S: Sums>(self, o: Op, part: Part, left: Side, right: Side) -> Ends
+        requires fits { GlueTakes S.takes S.values (ends_in left) (ends_in right) (folded_both o part self.worth) }
         requires worth { IsCellValue self.worth }
-        ensures { result
-            ≡ glue_in S.values (ends_in left) (ends_in right) (folded_both self.fold self.worth) }
+        ensures { result ≡ glue_in S.values (ends_in left) (ends_in right) (folded_both o part self.worth) }
     {
-        let before = S::joined(self.fold, left.c, left.d);
-        let after = S::joined(self.fold, right.c, right.d);
-        let both = S::joined(self.fold, before, after);
-        match self.fold {
-            Op::Add => S::joined(self.fold, both, self.less_cell::<S>()),
+        let before = S::joined(
+            Operator::Fold(o),
+            left.held::<S>(part),
+            left.open::<S>(part),
+        );
+        let after = S::joined(
+            Operator::Fold(o),
+            right.held::<S>(part),
+            right.open::<S>(part),
+        );
+        let both = S::joined(Operator::Fold(o), before, after);
+        match o {
+            Op::Add => S::joined(Operator::Fold(o), both, self.less_cell::<S>()),
             Op::Max | Op::Min => both,
         }
     }
@@ -138,11 +203,15 @@ impl Gluing {
         S::number(opposite(self.worth))
     }
 
-    /// Whether all numbers that are added are small.
+    /// Whether all numbers that are added are small. In wide automata what is open is infinite in most states, so it
+    /// isn't asked there.
     #[inline(always)]
     fn is_plain(self, left: Side, right: Side) -> bool
         ensures { result ≡ true → IsPlain self (ends_in left) (ends_in right) }
     {
+        if self.wide {
+            return false;
+        }
         let adds = is_add(self.result);
         if adds && !(are_plain(left.r) && are_plain(right.r)) {
             return false;

@@ -1,10 +1,14 @@
-//! The registers on one side of a cell. How they lie in lanes is said here alone.
+//! The registers on one side of a cell.
 
-ghost use Rattle.std.specs.Prelude.{◌≡◌, ◌≤◌, true};
+ghost use Rattle.std.specs.Prelude.{◌≡◌, ◌≤◌, pos, true};
+ghost use Rattle.ts_automaton.specs.Registers.{value_in};
+ghost use Rattle.ts_glue.specs.Glue.{held_in, open_in};
 ghost use Rattle.ts_meet.specs.Sides.{ends_in, side_of};
 ghost use Rattle.ts_sweep.specs.Fronts.{ArePlain};
 
-use ts_sweep::packed::{Ends, Packed, PackedHull};
+use crate::sums::Sums;
+use ts_glue::Part;
+use ts_sweep::packed::{Ends, Name, Packed, PackedHull};
 
 /// The most that a number is in ends that are added as they are.
 const PLAIN: i64 = 10_000_000_000_000_000;
@@ -13,7 +17,9 @@ const PLAIN: i64 = 10_000_000_000_000_000;
 #[derive(Clone, Copy)]
 pub(crate) struct Side {
     pub(crate) c: Ends,
+    pub(crate) e: Ends,
     pub(crate) d: Ends,
+    pub(crate) f: Ends,
     pub(crate) r: Ends,
 }
 
@@ -25,9 +31,33 @@ impl Side {
         ensures { ends_in result ≡ side_of h.now.at }
     {
         Side {
-            c: h.ends(0),
-            d: h.ends(1),
-            r: h.ends(2),
+            c: h.ends(Name::C),
+            e: h.ends(Name::E),
+            d: h.ends(Name::D),
+            f: h.ends(Name::F),
+            r: h.ends(Name::R),
+        }
+    }
+
+    /// What is held of a part of an occurrence.
+    #[inline(always)]
+    pub(crate) fn held<S: Sums>(self, part: Part) -> Ends
+        ensures { result ≡ value_in S.values (ends_in self) (pos 0) (pos 0) (held_in part) }
+    {
+        match part {
+            Part::Whole => self.c,
+            Part::Away => self.e,
+        }
+    }
+
+    /// What may come to it.
+    #[inline(always)]
+    pub(crate) fn open<S: Sums>(self, part: Part) -> Ends
+        ensures { result ≡ value_in S.values (ends_in self) (pos 0) (pos 0) (open_in part) }
+    {
+        match part {
+            Part::Whole => self.d,
+            Part::Away => self.f,
         }
     }
 }

@@ -2,10 +2,11 @@
 
 ghost use Rattle.std.specs.Prelude.{◌≡◌};
 ghost use Rattle.ts_base.specs.Limits.{IsCellValue};
+ghost use Rattle.ts_sweep.specs.Operators.{crossed};
 ghost use Rattle.ts_sweep.specs.Packed.{number_ends};
 
-use ts_automaton::Op;
-use ts_sweep::operator::{Greater, Lesser, Operator, Plus};
+use ts_automaton::{Op, Operator};
+use ts_sweep::operator::{Greater, Lesser, Minus, Operator as OnEnds, Plus};
 use ts_sweep::packed::Ends;
 use ts_sweep::tree::AnyOperator;
 
@@ -13,23 +14,23 @@ use ts_sweep::tree::AnyOperator;
 pub(crate) trait Sums: Copy {
     ghost use Rattle.std.specs.Prelude.{◌≡◌, ℤ};
     ghost use Rattle.ts_base.specs.declared.ext.Ext.TheVariants.{Int};
-    ghost use Rattle.ts_base.specs.declared.op.Op.{Op};
     ghost use Rattle.ts_base.specs.declared.span.Span.{Span};
     ghost use Rattle.ts_base.specs.Limits.{IsCellValue};
     ghost use Rattle.ts_base.specs.Spans.{one_span};
-    ghost use Rattle.ts_automaton.specs.Registers.{Values, ext_op};
-    ghost use Rattle.ts_hull.specs.Sealed.{by_ends};
+    ghost use Rattle.ts_automaton.specs.declared.expr.Operator.{Operator};
+    ghost use Rattle.ts_automaton.specs.Registers.{Values};
+    ghost use Rattle.ts_hull.specs.Sealed.{sealed_op};
     ghost use Rattle.ts_sweep.specs.declared.packed.Ends.{Ends};
     ghost use Rattle.ts_sweep.specs.Packed.{IsPackOf};
 
     ghost values: { Values Ends };
 
-    ghost takes: { Op → Ends → Ends → Type 0 };
+    ghost takes: { Operator → Ends → Ends → Type 0 };
 
     /// What an operator makes of ends that it takes.
-    fn joined(op: Op, first: Ends, second: Ends) -> Ends
-        requires { takes op first second }
-        ensures { result ≡ values.join op first second };
+    fn joined(operator: Operator, first: Ends, second: Ends) -> Ends
+        requires { takes operator first second }
+        ensures { result ≡ values.join operator first second };
 
     /// The ends of a number.
     fn number(x: i64) -> Ends
@@ -38,8 +39,8 @@ pub(crate) trait Sums: Copy {
 
     ghost number_packs: { (x : ℤ) → IsCellValue x → IsPackOf (values.constant (Int x)) (one_span (Int x)) };
 
-    ghost packs: { (o : Op) (a b : Ends) (s t : Span) → takes o a b → IsPackOf a s → IsPackOf b t →
-        IsPackOf (values.join o a b) (by_ends (ext_op o) s t) };
+    ghost packs: { (o : Operator) (a b : Ends) (s t : Span) → takes o a b → IsPackOf a s → IsPackOf b t →
+        IsPackOf (values.join o a b) (sealed_op o s t) };
 }
 
 /// Sums of small numbers.
@@ -62,6 +63,17 @@ fn number(x: i64) -> Ends
     }
 }
 
+/// Ends with lower and upper exchanged: those of what is taken away.
+#[inline(always)]
+fn crossed(e: Ends) -> Ends
+    ensures { result ≡ crossed e }
+{
+    Ends {
+        below: e.above,
+        above: e.below,
+    }
+}
+
 impl Sums for Plain {
     ghost use Rattle.ts_meet.specs.Sides.{TakesPlain, plain_values};
     ghost use Rattle.ts_meet.specs.SideLaws.{cell_packs, plain_packs};
@@ -75,11 +87,12 @@ impl Sums for Plain {
     ghost packs = { λ o a b s t h p q. plain_packs o a b s t h p q };
 
     #[inline(always)]
-    fn joined(op: Op, first: Ends, second: Ends) -> Ends {
-        match op {
-            Op::Add => Plus.of(first, second),
-            Op::Max => Greater.of(first, second),
-            Op::Min => Lesser.of(first, second),
+    fn joined(operator: Operator, first: Ends, second: Ends) -> Ends {
+        match operator {
+            Operator::Fold(Op::Add) => Plus.of(first, second),
+            Operator::Fold(Op::Max) => Greater.of(first, second),
+            Operator::Fold(Op::Min) => Lesser.of(first, second),
+            Operator::Sub => Minus.of(first, second),
         }
     }
 
@@ -90,9 +103,8 @@ impl Sums for Plain {
 }
 
 impl Sums for Clamped {
-    ghost use Rattle.ts_sweep.specs.TreeLaws.{any_packs};
     ghost use Rattle.ts_meet.specs.Sides.{TakesAny, clamped_values};
-    ghost use Rattle.ts_meet.specs.SideLaws.{cell_packs};
+    ghost use Rattle.ts_meet.specs.SideLaws.{cell_packs, clamped_packs};
 
     ghost values = { clamped_values };
 
@@ -100,11 +112,14 @@ impl Sums for Clamped {
 
     ghost number_packs = { λ x h. cell_packs x h };
 
-    ghost packs = { λ o a b s t h p q. any_packs o a b s t p q };
+    ghost packs = { λ o a b s t h p q. clamped_packs o a b s t p q };
 
     #[inline(always)]
-    fn joined(op: Op, first: Ends, second: Ends) -> Ends {
-        AnyOperator { op }.of(first, second)
+    fn joined(operator: Operator, first: Ends, second: Ends) -> Ends {
+        match operator {
+            Operator::Fold(op) => AnyOperator { op }.of(first, second),
+            Operator::Sub => AnyOperator { op: Op::Add }.of(first, crossed(second)),
+        }
     }
 
     #[inline(always)]

@@ -8,6 +8,7 @@ returns c = record {
   result = c.first_op.ensures ∙ ap first_op c.finish_expr.ensures.value;
   fold = c.op_of.ensures;
   unit = refl;
+  wide = c.is_pair.ensures;
   trims = trims_is c.args.table.now.a;
   mark = c.mark.ensures;
   left_states = c.states.ensures.count;
