@@ -18,7 +18,7 @@ use Rattle.ts_bound.specs.TermSpans.{span_of_all}
 use Rattle.ts_bound.proofs.SpanEnds.{still_there, within_of}
 use Rattle.ts_bound.proofs.SpanRuns.{length-hulls_at}
 use Rattle.ts_filter.specs.Boxes.{Box}
-use Rattle.ts_filter.specs.RowStacks.{Columns}
+use Rattle.ts_filter.specs.AnyRows.{Columns}
 
 -- the hulls of one value in a row
 
@@ -43,12 +43,12 @@ row_block a before values i v row hs s is_s is e is_hs =
 
 -- the same of a packed row, out of which the hulls were read
 
-pub ahead_block : (a : Body) (before : Box) (values : List ℤ) (i : ℕ) (v : ℤ) (row : Columns) (hs : List Hull) (s n : ℕ) → s ≡ length a.states →
-    n ≡ length values → IsPackedRow 6 a before values row → slice_get values i ≡ Some v →
-    hs ≡ slice_range (flat_row 6 s n row) (i * s) (i * s + s) → hs ≡ hulls_at a before v
-ahead_block a before values i v row hs s n is_s is_n is e is_hs =
-    row_block a before values i v (flat_row 6 s n row) hs s is_s
-    (ap (λ m. flat_row 6 m n row) is_s ∙ ap (λ m. flat_row 6 (length a.states) m row) is_n ∙ is.is_flat) e is_hs
+pub ahead_block : (lanes : ℕ) (a : Body) (before : Box) (values : List ℤ) (i : ℕ) (v : ℤ) (row : Columns lanes) (hs : List Hull) (s n : ℕ) →
+    s ≡ length a.states → n ≡ length values → IsPackedRow lanes a before values row → slice_get values i ≡ Some v →
+    hs ≡ slice_range (flat_row lanes s n row) (i * s) (i * s + s) → hs ≡ hulls_at a before v
+ahead_block lanes a before values i v row hs s n is_s is_n is e is_hs =
+    row_block a before values i v (flat_row lanes s n row) hs s is_s
+    (ap (λ m. flat_row lanes m n row) is_s ∙ ap (λ m. flat_row lanes (length a.states) m row) is_n ∙ is.is_flat) e is_hs
 
 value_fits : (vs : List ℤ) (i : ℕ) (v : ℤ) → AllByRecursion IsCellValue vs → slice_get vs i ≡ Some v → IsCellValue v
 value_fits [] i v h e = absurd (none-some v e)

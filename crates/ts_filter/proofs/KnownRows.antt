@@ -59,7 +59,8 @@ pub known_at : (a : Body) (cells : Box) (rows : Rows) (i : ℕ) → AreFirst a c
     get_or rows i [] ≡ get_or (forward_rows a cells) i []
 known_at a cells rows i h lt = ap (λ l. get_or l i []) h ∙ get_or-take (length rows) (forward_rows a cells) i [] lt
 
-pub row_at_place : (a : Body) (cells : Box) (i : ℕ) → i < length cells → get_or (forward_rows a cells) i [] ≡ row_of a (reverse (take i cells)) (get_or cells i [])
+pub row_at_place : (a : Body) (cells : Box) (i : ℕ) → i < length cells →
+    get_or (forward_rows a cells) i [] ≡ row_of a (reverse (take i cells)) (get_or cells i [])
 row_at_place a cells i lt = forward_row a [] cells i lt ∙ ap (λ z. row_of a z (get_or cells i [])) (append-nil (reverse (take i cells)))
 
 -- what a change leaves

@@ -7,49 +7,55 @@ use Rattle.std.proofs.lemmas.Bool.Decides.{Decides-int_eq}
 use Rattle.std.proofs.lemmas.Slice.Eq.{slice_eq-Decides}
 use Rattle.std.proofs.Math.Nat.{mul-div_cancel}
 use Rattle.std.proofs.Math.ListN.{get_or-map}
-use Rattle.std.proofs.lemmas.List.{take_more, take_all, take-map, drop-map, map-append, reverse-append, length-map}
+use Rattle.std.proofs.lemmas.List.{take_more, take_all, take-map, drop-map, map-append, reverse-append, length-append, length-map, length-take}
 use Rattle.std.proofs.lemmas.List.Elements.{All-append, All-cons, All-take, All-drop}
 use Rattle.ts_automaton.specs.Body.{Body}
 use Rattle.ts_sweep.specs.declared.packed.PackedHull.{PackedHull}
 use Rattle.ts_row.specs.Rows.{IsRow, flat_row}
 use Rattle.ts_row.proofs.Flat.{flat_length}
 use Rattle.ts_bound.specs.HullTables.{row_of, forward_rows}
-use Rattle.ts_bound.specs.PackedRows.{IsPackedRow}
 use Rattle.ts_bound.proofs.TableLaws.{length-row_of}
+use Rattle.ts_filter.specs.declared.any_row.AnyRow.{AnyRow}
 use Rattle.ts_filter.specs.declared.planned.Planned.{Planned}
 use Rattle.ts_filter.specs.declared.row_stack.HullRow.{HullRow}
+use Rattle.ts_filter.specs.AnyRows.{IsRowOf, columns, lanes_of}
 use Rattle.ts_filter.specs.Boxes.{Box}
 use Rattle.ts_filter.specs.KnownRows.{AreFirst}
-use Rattle.ts_filter.specs.RowStacks.{Columns, HasStates, IsPlanned, Rows, all_hulls, hulls_in, values_in, with_row}
+use Rattle.ts_filter.specs.RowStacks.{HasStates, IsPlanned, Rows, all_hulls, hulls_in, values_in, with_row}
 use Rattle.ts_filter.proofs.KnownRows.{first_behind, known_at, row_at_place}
 
 -- a packed row of an automaton has its states, and its values are as many as the cell's
 
-values_long : (s k : ℕ) (row : Columns) → 0 < s → IsRow 6 s k row → values_in row ≡ k
+values_long : (s k : ℕ) (row : AnyRow) → 0 < s → IsRow (lanes_of row) s k (columns row) → values_in row ≡ k
 values_long s k row some h = (h.columns 0 some).0
 
 cancelled : (x y s : ℕ) → 0 < s → x * s ≡ y * s → x ≡ y
 cancelled x y s some e = sym (mul-div_cancel x some) ∙ ap (λ z. z / s) e ∙ mul-div_cancel y some
 
-made_row : (a : Body) (p : Planned) (before : Box) (values : List ℤ) (row : Columns) → IsPlanned a p → IsPackedRow 6 a before values row →
-    HasStates p.states row × (hulls_in p.states row ≡ row_of a before values)
+made_row : (a : Body) (p : Planned) (before : Box) (values : List ℤ) (row : AnyRow) → IsPlanned a p → IsRowOf a before values row →
+    HasStates p row × (hulls_in p.states row ≡ row_of a before values)
 made_row a p before values row is made =
-    let here : IsRow 6 p.states (length values) row = subst (λ s. IsRow 6 s (length values) row) (sym is.states) made.is_row in
+    let n = lanes_of row in let hulls = columns row in
+    let here : IsRow n p.states (length values) hulls = subst (λ s. IsRow n s (length values) hulls) (sym is.states) made.packed.is_row in
     let long : values_in row ≡ length values = values_long p.states (length values) row is.some here in (
-      subst (λ z. IsRow 6 p.states z row) (sym long) here,
-      ap (λ z. flat_row 6 p.states z row) long ∙ ap (λ s. flat_row 6 s (length values) row) is.states ∙ made.is_flat,
+      record { width = is.wide ∙ made.width; is_row = subst (λ z. IsRow n p.states z hulls) (sym long) here },
+      ap (λ z. flat_row n p.states z hulls) long ∙ ap (λ s. flat_row n s (length values) hulls) is.states ∙ made.packed.is_flat,
     )
 
-pub packed_row : (a : Body) (p : Planned) (before : Box) (values : List ℤ) (row : Columns) → IsPlanned a p → HasStates p.states row →
-    hulls_in p.states row ≡ row_of a before values → IsPackedRow 6 a before values row
-packed_row a p before values row is states hulls =
+pub packed_row : (a : Body) (p : Planned) (before : Box) (values : List ℤ) (row : AnyRow) → IsPlanned a p → HasStates p row →
+    hulls_in p.states row ≡ row_of a before values → IsRowOf a before values row
+packed_row a p before values row is states told =
+    let n = lanes_of row in let hulls = columns row in
     let count : values_in row * p.states ≡ length values * p.states =
-    sym (flat_length 6 p.states (values_in row) row) ∙ ap length hulls ∙ length-row_of a before values ∙ ap (λ s. length values * s) (sym is.states) in
+    sym (flat_length n p.states (values_in row) hulls) ∙ ap length told ∙ length-row_of a before values ∙ ap (λ s. length values * s) (sym is.states) in
     let long : values_in row ≡ length values = cancelled (values_in row) (length values) p.states is.some count in
-    let here : IsRow 6 p.states (length values) row = subst (λ z. IsRow 6 p.states z row) long states in
+    let here : IsRow n p.states (length values) hulls = subst (λ z. IsRow n p.states z hulls) long states.is_row in
     record {
-      is_row = subst (λ s. IsRow 6 s (length values) row) is.states here;
-      is_flat = ap (λ s. flat_row 6 s (length values) row) (sym is.states) ∙ ap (λ z. flat_row 6 p.states z row) (sym long) ∙ hulls;
+      width = sym is.wide ∙ states.width;
+      packed = record {
+        is_row = subst (λ s. IsRow n s (length values) hulls) is.states here;
+        is_flat = ap (λ s. flat_row n s (length values) hulls) (sym is.states) ∙ ap (λ z. flat_row n p.states z hulls) (sym long) ∙ told;
+      };
     }
 
 -- the row that comes behind
@@ -59,26 +65,26 @@ turned_more cells i lt =
     let on : suc i ≡ i + 1 = omega arith in
     ap (λ m. reverse (take m cells)) on ∙ ap reverse (take_more cells i [] lt) ∙ reverse-append (take i cells) (get_or cells i [] ∷ [])
 
-pub first_made : (a : Body) (cells : Box) (rows : Rows) (p : Planned) (values : List ℤ) (row : Columns) → IsPlanned a p → length rows ≡ 0 →
-    length rows < length cells → values ≡ get_or cells (length rows) [] → IsPackedRow 6 a [] values row →
-    HasStates p.states row × (hulls_in p.states row ≡ get_or (forward_rows a cells) (length rows) [])
+pub first_made : (a : Body) (cells : Box) (rows : Rows) (p : Planned) (values : List ℤ) (row : AnyRow) → IsPlanned a p → length rows ≡ 0 →
+    length rows < length cells → values ≡ get_or cells (length rows) [] → IsRowOf a [] values row →
+    HasStates p row × (hulls_in p.states row ≡ get_or (forward_rows a cells) (length rows) [])
 first_made a cells rows p values row is none lt is_values made =
     let m = made_row a p [] values row is made in
     (m.0, first_behind a cells rows (hulls_in p.states row) values none lt is_values m.1)
 
-module _ (a : Body) (cells : Box) (rows : Rows) (p : Planned) (i : ℕ) (before_values : List ℤ) (before : Columns) (is : IsPlanned a p)
-    (h : AreFirst a cells rows) (at : suc i ≡ length rows) (lt : length rows < length cells) (states : HasStates p.states before)
+module _ (a : Body) (cells : Box) (rows : Rows) (p : Planned) (i : ℕ) (before_values : List ℤ) (before : AnyRow) (is : IsPlanned a p)
+    (h : AreFirst a cells rows) (at : suc i ≡ length rows) (lt : length rows < length cells) (states : HasStates p before)
     (hulls : hulls_in p.states before ≡ get_or rows i []) (is_before : before_values ≡ get_or cells i []) where
   -- the row before it
-  pub packed_before : IsPackedRow 6 a (reverse (take i cells)) before_values before
+  pub packed_before : IsRowOf a (reverse (take i cells)) before_values before
   packed_before =
       packed_row a p (reverse (take i cells)) before_values before is states
       (hulls ∙ known_at a cells rows i h (omega (arith, at)) ∙ row_at_place a cells i (omega (arith, at, lt))
       ∙ ap (row_of a (reverse (take i cells))) (sym is_before))
 
-  pub next_made : (values : List ℤ) (row : Columns) → values ≡ get_or cells (length rows) [] →
-      ((b : Box) → IsPackedRow 6 a b before_values before → IsPackedRow 6 a (before_values ∷ b) values row) →
-      HasStates p.states row × (hulls_in p.states row ≡ get_or (forward_rows a cells) (length rows) [])
+  pub next_made : (values : List ℤ) (row : AnyRow) → values ≡ get_or cells (length rows) [] →
+      ((b : Box) → IsRowOf a b before_values before → IsRowOf a (before_values ∷ b) values row) →
+      HasStates p row × (hulls_in p.states row ≡ get_or (forward_rows a cells) (length rows) [])
   next_made values row is_values made =
       let m = made_row a p (before_values ∷ reverse (take i cells)) values row is (made (reverse (take i cells)) packed_before) in (
         m.0,
@@ -92,9 +98,18 @@ module _ (a : Body) (cells : Box) (rows : Rows) (p : Planned) (i : ℕ) (before_
 pub long_hulls : (s k : ℕ) (rows : List HullRow) → k ≤ length rows → k ≤ length (all_hulls s rows)
 long_hulls s k rows le = let l = length-map rows (λ (r : HullRow). hulls_in s r.packed) in omega (arith, l, le)
 
-pub all_with_row : {X : Type 0} (P : X → Type 0) (at : ℕ) (x : X) (xs : List X) → All P xs → P x → All P (with_row at x xs)
+all_with_row : {X : Type 0} (P : X → Type 0) (at : ℕ) (x : X) (xs : List X) → All P xs → P x → All P (with_row at x xs)
 all_with_row P at x xs h is =
     All-append P (take at xs) (x ∷ drop (at + 1) xs) (All-take P at xs h) (All-cons P x (drop (at + 1) xs) is (All-drop P (at + 1) xs h))
+
+-- the stack holds one more
+pub stacked : (p : Planned) (k : ℕ) (row : HullRow) (rows new : List HullRow) → k ≤ length rows → All (λ (r : HullRow). HasStates p r.packed) rows →
+    HasStates p row.packed → new ≡ with_row k row rows → (k + 1 ≤ length new) × All (λ (r : HullRow). HasStates p r.packed) new
+stacked p k row rows new le all states is =
+    let more = length-append (take k rows) (row ∷ drop (k + 1) rows) in let front = length-take k rows in let long = ap length is in (
+      omega (arith, long, more, front, le),
+      subst (All (λ (r : HullRow). HasStates p r.packed)) (sym is) (all_with_row (λ (r : HullRow). HasStates p r.packed) k row rows all states),
+    )
 
 pub hulls_with_row : (s at : ℕ) (row : HullRow) (rows : List HullRow) →
     all_hulls s (with_row at row rows) ≡ with_row at (hulls_in s row.packed) (all_hulls s rows)
@@ -116,19 +131,20 @@ pub same_on : {X : Type 0} (xs ys : List X) (i : ℕ) (d e : X) → take i xs �
 same_on xs ys i d e front lt long is =
     take_more xs i d lt ∙ ap (λ l. l ++ get_or xs i d ∷ []) front ∙ ap (λ x. take i ys ++ x ∷ []) is ∙ sym (take_more ys i e (omega (arith, lt, long)))
 
-lanes_same : (x y : PackedHull 6) (told : Bool) → told ≡ not (pointwise int_eq x.at y.at) → told ≡ false → x ≡ y
-lanes_same x y told is isnt =
-    ap (λ xs. record { at = xs }) ((slice_eq-Decides Decides-int_eq x.at y.at (pointwise int_eq x.at y.at) refl).0 (yes (pointwise int_eq x.at y.at) (sym is ∙ isnt)))
+lanes_same : (n : ℕ) (x y : PackedHull n) (told : Bool) → told ≡ not (pointwise int_eq x.at y.at) → told ≡ false → x ≡ y
+lanes_same n x y told is isnt =
+    ap (λ xs. record { at = xs })
+    ((slice_eq-Decides Decides-int_eq x.at y.at (pointwise int_eq x.at y.at) refl).0 (yes (pointwise int_eq x.at y.at) (sym is ∙ isnt)))
   where
     yes : (b : Bool) → not b ≡ false → b ≡ true
     yes true e = refl
     yes false e = sym e
 
-pub same_hulls_on : (xs ys : List (PackedHull 6)) (i : ℕ) (d e : PackedHull 6) (told : Bool) → take i xs ≡ take i ys → i < length xs →
-    length xs ≡ length ys → told ≡ not (pointwise int_eq (get_or xs i d).at (get_or ys i e).at) → told ≡ false →
+pub same_hulls_on : (n : ℕ) (xs ys : List (PackedHull n)) (i : ℕ) (x y : PackedHull n) (told : Bool) → take i xs ≡ take i ys → i < length xs →
+    length xs ≡ length ys → x ≡ get_or xs i x → y ≡ get_or ys i y → told ≡ not (pointwise int_eq x.at y.at) → told ≡ false →
     take (i + 1) xs ≡ take (i + 1) ys
-same_hulls_on xs ys i d e told front lt long is isnt =
-    same_on xs ys i d e front lt long (lanes_same (get_or xs i d) (get_or ys i e) told is isnt)
+same_hulls_on n xs ys i x y told front lt long is_x is_y is isnt =
+    same_on xs ys i x y front lt long (sym is_x ∙ lanes_same n x y told is isnt ∙ is_y)
 
 pub all_same : {X : Type 0} (xs ys : List X) (i : ℕ) → take i xs ≡ take i ys → length xs ≤ i → length xs ≡ length ys → xs ≡ ys
 all_same xs ys i e l long = sym (take_all i xs l) ∙ e ∙ take_all i ys (omega (arith, l, long))

@@ -7,19 +7,20 @@ use Rattle.ts_bound.specs.HullTables.{row_of}
 use Rattle.ts_bound.specs.Looks.{first_looked, last_looked, place_in}
 use Rattle.ts_bound.proofs.Looking.{ends_inside}
 use Rattle.ts_glue.specs.Pairs.{Pair}
+use Rattle.ts_filter.specs.declared.any_row.AnyRow.{AnyRow}
 use Rattle.ts_filter.specs.declared.cell_hulls.BackSide.{BackSide}
 use Rattle.ts_filter.specs.declared.planned.Planned.{Planned}
 use Rattle.ts_filter.specs.Boxes.{Box, values_at}
 use Rattle.ts_filter.specs.CellHulls.{AreHulls, HasHulls, IsBackSide, IsSide, seen_after, seen_before}
 use Rattle.ts_filter.specs.KnownRows.{KnownRows, AreKnown, HasJoints, HasRows, IsPlannedBack}
-use Rattle.ts_filter.specs.RowStacks.{Columns, HasStates, IsPlanned, hulls_in}
+use Rattle.ts_filter.specs.RowStacks.{HasStates, IsPlanned, hulls_in}
 use Rattle.ts_filter.proofs.KnownRows.{ahead_there, behind_there}
 use Rattle.ts_filter.proofs.Looked.{inner_values, place_behind, place_from, place_is, place_to}
 use Rattle.ts_filter.proofs.PackedStacks.{packed_row}
 
 -- a row that is known, with how it is glued
 packed_side : (o : Option Pair) (p : Planned) (behind : Box) (values : List ℤ) (side : BackSide) → IsPlannedBack o p → HasJoints o (Some side.joints.now) →
-    HasStates p.states side.row.now → OfReverse o (λ r. hulls_in p.states side.row.now ≡ row_of r behind values) → IsSide o behind values side
+    HasStates p side.row.now → OfReverse o (λ r. hulls_in p.states side.row.now ≡ row_of r behind values) → IsSide o behind values side
 packed_side None p behind values side is joints states hulls = absurd hulls
 packed_side (Some m) p behind values side is joints states hulls =
     (joints, packed_row m.reverse p behind values side.row.now is states hulls)
@@ -72,7 +73,7 @@ module _ (b : Box) (t : KnownRows) (k : ℕ) (h : HasHulls t.machine k b) where
         let there = rows.behind (omega (arith, lt, rest)) in omega (arith, there, rest)
 
     pub back_side_of : (p : Planned) (side : BackSide) → IsPlannedBack t.machine.pair p → HasJoints t.machine.pair (Some side.joints.now) →
-        HasStates p.states side.row.now → (k ≡ last_looked t.machine.window (length b) → ⊥) →
+        HasStates p side.row.now → (k ≡ last_looked t.machine.window (length b) → ⊥) →
         hulls_in p.states side.row.now ≡ get_or t.behind (last_looked t.machine.window (length b) - k) [] → IsBackSide t.machine k b side
     back_side_of p side planned joints states below is =
         let rest = place_behind t.machine k b h in
@@ -84,7 +85,7 @@ module _ (b : Box) (t : KnownRows) (k : ℕ) (h : HasHulls t.machine k b) where
         (behind_there t.machine.pair cells t.behind (hulls_in p.states side.row.now) [] place (λ e. below (h.last e)) known.behind (place_from t.machine k b h)
         (place_to t.machine k b h) (omega (arith, there, rest)) (is ∙ sym (ap (λ i. get_or t.behind i []) rest))))
 
-    pub hulls_are : (p : Planned) (row : Columns) (back : Option BackSide) → IsPlanned t.machine.forward p → HasStates p.states row →
+    pub hulls_are : (p : Planned) (row : AnyRow) (back : Option BackSide) → IsPlanned t.machine.forward p → HasStates p row →
         hulls_in p.states row ≡ get_or t.ahead (k - first_looked t.machine.window) [] →
         MatchOption back (k ≡ last_looked t.machine.window (length b)) (IsBackSide t.machine k b) → AreHulls t.machine b k row back
     hulls_are p row back planned states is behind =

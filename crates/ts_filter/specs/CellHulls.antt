@@ -3,13 +3,13 @@ use Rattle.std.specs.Prelude.{◌≡◌, ◌≤◌, ℕ, ℤ, List, length, Opti
 use Rattle.ts_base.specs.Windows.{looked_at}
 use Rattle.ts_bound.specs.HullTables.{cells_before, cells_after}
 use Rattle.ts_bound.specs.Looks.{first_looked, last_looked, place_in}
-use Rattle.ts_bound.specs.PackedRows.{IsPackedRow}
 use Rattle.ts_bound.specs.TermSpans.{Automata, LooksIn}
 use Rattle.ts_glue.specs.Pairs.{Pair}
 use Rattle.ts_meet.specs.Joints.{AreJoints}
+use Rattle.ts_filter.specs.declared.any_row.AnyRow.{AnyRow}
 use Rattle.ts_filter.specs.declared.cell_hulls.BackSide.{BackSide}
+use Rattle.ts_filter.specs.AnyRows.{IsRowOf}
 use Rattle.ts_filter.specs.Boxes.{Box, values_at}
-use Rattle.ts_filter.specs.RowStacks.{Columns}
 
 -- what contracts see of them: whose they are, and where
 pub record AtCell : Type 0 where
@@ -35,21 +35,21 @@ abbrev pub seen_after : Automata → ℕ → Box → Box
 seen_after a k b = cells_after (place_in a.window k) (looked_at a.window b)
 
 -- the row is that of cell k of the forward automaton, which reads the cells before it
-abbrev pub IsAheadRow : Automata → ℕ → Box → Columns → Type 0
-IsAheadRow a k b row = IsPackedRow 6 a.forward (seen_before a k b) (values_at k b) row
+abbrev pub IsAheadRow : Automata → ℕ → Box → AnyRow → Type 0
+IsAheadRow a k b row = IsRowOf a.forward (seen_before a k b) (values_at k b) row
 
 -- a row of the reverse automaton of a pair, of a cell with these values before which it reads these cells, with how the
 -- pair is glued
 abbrev pub IsSide : Option Pair → Box → List ℤ → BackSide → Type 0
 IsSide None behind values side = ⊥
-IsSide (Some p) behind values side = AreJoints p side.joints.now × IsPackedRow 6 p.reverse behind values side.row.now
+IsSide (Some p) behind values side = AreJoints p side.joints.now × IsRowOf p.reverse behind values side.row.now
 
 -- that of cell k, which reads the cells after it
 abbrev pub IsBackSide : Automata → ℕ → Box → BackSide → Type 0
 IsBackSide a k b side = IsSide a.pair (seen_after a k b) (values_at k b) side
 
 -- the rows are those of the cell; the last cell that is looked at needs none of the reverse automaton
-pub record AreHulls (a : Automata) (b : Box) (k : ℕ) (row : Columns) (back : Option BackSide) : Type 0 where
+pub record AreHulls (a : Automata) (b : Box) (k : ℕ) (row : AnyRow) (back : Option BackSide) : Type 0 where
   pub there : HasHulls a k b
   pub ahead : IsAheadRow a k b row
   pub behind : MatchOption back (k ≡ last_looked a.window (length b)) (IsBackSide a k b)

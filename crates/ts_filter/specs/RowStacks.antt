@@ -2,35 +2,35 @@
 use Rattle.std.specs.Prelude.{◌≡◌, ℕ, ◌+◌, ◌<◌, ◌≤◌, ◌⊎◌, List, [], ◌∷◌, ◌++◌, length, map, take, drop, get_or}
 use Rattle.ts_automaton.specs.declared.regs.Hull.{Hull}
 use Rattle.ts_automaton.specs.Body.{Body}
-use Rattle.ts_sweep.specs.declared.packed.PackedHull.{PackedHull}
+use Rattle.ts_sweep.specs.Packed.{is_wide}
 use Rattle.ts_row.specs.Plans.{IsPlanOf}
 use Rattle.ts_row.specs.Rows.{IsRow, flat_row}
 use Rattle.ts_bound.specs.NextRow.{next_row}
 use Rattle.ts_filter.specs.declared.planned.Planned.{Planned}
 use Rattle.ts_filter.specs.declared.row_stack.HullRow.{HullRow}
+use Rattle.ts_filter.specs.declared.any_row.AnyRow.{AnyRow}
+use Rattle.ts_filter.specs.AnyRows.{columns, lanes_of}
 use Rattle.ts_filter.specs.Boxes.{Box}
 
--- the plan is that of the automaton, and so is the number of states
+-- the plan is that of the automaton, and so are the number of states and the width
 pub record IsPlanned (a : Body) (p : Planned) : Type 0 where
   pub plan : IsPlanOf a p.plan
   pub states : p.states ≡ length a.states
   pub some : 0 < p.states
+  pub wide : p.wide ≡ a.wide
 
--- a packed row: a column for each state
-abbrev pub Columns : Type 0
-Columns = List (List (PackedHull 6))
+-- of how many values a row is, where it has a state
+abbrev pub values_in : AnyRow → ℕ
+values_in row = length (get_or (columns row) 0 [])
 
--- of how many values it is, where it has a state
-abbrev pub values_in : Columns → ℕ
-values_in row = length (get_or row 0 [])
+-- it has the states and the width that are planned
+pub record HasStates (p : Planned) (row : AnyRow) : Type 0 where
+  pub width : p.wide ≡ is_wide (lanes_of row)
+  pub is_row : IsRow (lanes_of row) p.states (values_in row) (columns row)
 
--- it has so many states
-abbrev pub HasStates : ℕ → Columns → Type 0
-HasStates states row = IsRow 6 states (values_in row) row
-
--- its hulls in a list, value by value
-abbrev pub hulls_in : ℕ → Columns → List Hull
-hulls_in states row = flat_row 6 states (values_in row) row
+-- its hulls in a list, value by value, where it has so many states
+abbrev pub hulls_in : ℕ → AnyRow → List Hull
+hulls_in states row = flat_row (lanes_of row) states (values_in row) (columns row)
 
 abbrev pub Rows : Type 0
 Rows = List (List Hull)

@@ -12,6 +12,7 @@ ghost use Rattle.ts_filter.specs.SoFar.{IsSoFar, IsWholeSpan, WithParts};
 ghost use Rattle.ts_filter.specs.TermDrops.{IsFirstRefuting};
 ghost use Rattle.ts_glue.specs.Machines.{forward_of, pair_of, window_of};
 
+use crate::any_row::{AnyRow, asked_between};
 use crate::question::Question;
 use crate::so_far::SoFar;
 use crate::term_requirements::TermRequirements;
@@ -21,13 +22,12 @@ use ts_bound::laws::machine_is_whole;
 use ts_bound::looked_count;
 use ts_domain::{Boxed, Domain};
 use ts_glue::Machine;
-use ts_meet::{Joints, Spot, asked_at, finish_at};
-use ts_row::PackedRow;
+use ts_meet::{Joints, Spot};
 
 /// The row of a cell of the reverse automaton, and how it is glued to the forward one.
 #[derive(Clone, Copy)]
 pub(crate) struct BackSide<'a> {
-    pub(crate) row: &'a PackedRow<6>,
+    pub(crate) row: &'a AnyRow,
     pub(crate) joints: &'a Joints,
 }
 
@@ -38,7 +38,7 @@ pub(crate) struct CellHulls<'a> {
     pub(crate) machine: &'a Machine,
     pub(crate) cells: &'a Boxed,
     pub(crate) cell: u32,
-    pub(crate) row: &'a PackedRow<6>,
+    pub(crate) row: &'a AnyRow,
     pub(crate) back: Option<BackSide<'a>>,
 }
 
@@ -191,7 +191,7 @@ fn place_of(values: &Domain, v: i64) -> u64
 fn last_value<'a>(
     so_far: SoFar<'a>,
     m: &Machine,
-    row: &PackedRow<6>,
+    row: &AnyRow,
     cells: &Boxed,
     k: u32,
     i: u64,
@@ -205,14 +205,14 @@ fn last_value<'a>(
         (place_in (window_of m.now) k) (looked_at (window_of m.now) cells.now.present) v ∷ []) result }
 {
     let n = looked_count(m.window(), cells.cells());
-    so_far.with(finish_at(m.forward(), row, i as usize, n))
+    so_far.with(row.finish(m.forward(), i as usize, n))
 }
 
 /// With the glued span at the value.
 fn split_value<'a>(
     so_far: SoFar<'a>,
     m: &Machine,
-    row: &PackedRow<6>,
+    row: &AnyRow,
     back: BackSide<'_>,
     cells: &Boxed,
     k: u32,
@@ -233,7 +233,7 @@ fn split_value<'a>(
         value: v,
         cells: n,
     };
-    match asked_at(so_far.asked, so_far.span, back.joints, row, back.row, spot) {
+    match asked_between(so_far.asked, so_far.span, back.joints, row, back.row, spot) {
         Some(span) => Some(SoFar {
             asked: so_far.asked,
             span,

@@ -6,7 +6,8 @@ ghost use Rattle.ts_filter.specs.Laws.{AcceptedHolds, AcceptedIsKept, FailingIsR
 ghost use Rattle.ts_filter.specs.Laws.{LinesGoOn, WholeIsJudged};
 ghost use Rattle.ts_filter.specs.Laws.{DropLeavesOthers, LowerSideFirst, SplitCutsInTwo, ValuesAreSound};
 ghost use Rattle.ts_filter.specs.Laws.{DropLosesNone, HigherBarCutsMore, SinglesAreExact, TestsTell};
-ghost use Rattle.ts_filter.specs.Laws.{FewWait, FitIsFormed, FormedIsShort, LinesInRange, StepsGoOn, TreeIsSteps, WaitingAreParts};
+ghost use Rattle.ts_filter.specs.Laws.{FewWait, FitIsFormed, FormedIsShort, LinesInRange, StepsGoOn};
+ghost use Rattle.ts_filter.specs.Laws.{TreeIsSteps, WaitingAreParts};
 
 /// A split cuts the series of a box in two; the lower side's come first where the cells before have one value each.
 pub fn split_cuts_in_two()

@@ -25,6 +25,7 @@
 #![tactic(auto)]
 
 mod all_tables;
+mod any_row;
 mod at_cell;
 mod bar;
 mod box_tables;

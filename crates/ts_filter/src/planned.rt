@@ -5,11 +5,12 @@ ghost use Rattle.ts_filter.specs.RowStacks.{IsPlanned};
 use ts_automaton::Automaton;
 use ts_row::Plan;
 
-/// How the moves of an automaton are taken in, and how many states it has. It takes no memory.
+/// How the moves of an automaton are taken in, how many states it has, and whether it is wide. It takes no memory.
 #[derive(Clone, Copy)]
 pub(crate) struct Planned {
     pub(crate) plan: Plan,
     pub(crate) states: u8,
+    pub(crate) wide: bool,
 }
 
 impl Planned {
@@ -20,6 +21,7 @@ impl Planned {
         Planned {
             plan: Plan::of(a),
             states: a.states(),
+            wide: a.wide(),
         }
     }
 }

@@ -5,8 +5,10 @@ use ts_bound::is_looked;
 use ts_domain::Domain;
 use ts_glue::Machine;
 
-/// What a packed hull of a row takes, in bytes.
-const HULL: u64 = 48;
+/// What a packed hull of a row takes, in bytes, and one of a wide automaton.
+const NARROW_HULL: u64 = 48;
+
+const WIDE_HULL: u64 = 80;
 
 /// How many bytes the rows of all machines may take, but for one row a direction, and the values of its cell and of the
 /// cell before, that are held beside them. Each row may have memory for twice its hulls.
@@ -15,11 +17,12 @@ const MOST: u64 = 200_000_000;
 /// Whether the rows of these machines, of a box with at most these values in its cells, take no more. A machine with a
 /// window has rows of the cells of it alone.
 pub(crate) fn has_room(machines: &[Machine], cells: &[Domain]) -> bool {
-    let mut hulls = 0u64;
+    let mut bytes = 0u64;
     for m in machines {
-        hulls = hulls.saturating_add(values_of(m.window(), cells).saturating_mul(states_of(m)));
+        let hulls = values_of(m.window(), cells).saturating_mul(states_of(m));
+        bytes = bytes.saturating_add(hulls.saturating_mul(hull_of(m)));
     }
-    hulls <= MOST / HULL / 2
+    bytes <= MOST / 2
 }
 
 /// How many values the cells have together that are looked at. One value counts as two: each list has memory for four
@@ -39,6 +42,15 @@ fn is_inside(window: Option<Range>, i: usize) -> bool {
     match u32::try_from(i.saturating_add(1)) {
         Ok(k) => is_looked(window, k),
         Err(_) => true,
+    }
+}
+
+/// What a hull of the machine takes: both automata have one width.
+fn hull_of(m: &Machine) -> u64 {
+    if m.forward().wide() {
+        WIDE_HULL
+    } else {
+        NARROW_HULL
     }
 }
 

@@ -1,6 +1,7 @@
 //! Rows of hulls on top of one another. Those that a change reaches stay lying there: they may turn out right again.
 
-ghost use Rattle.std.specs.Prelude.{◌≡◌, ◌<◌, ◌≤◌, IsTrue, OnErr, OnOk, [], get_or, length};
+ghost use Rattle.std.specs.Prelude.{◌≡◌, ◌<◌, ◌≤◌, ℤ, List, [], ◌∷◌, IfOk, IsTrue, OnErr, OnOk, get_or, length};
+ghost use Rattle.ts_filter.specs.AnyRows.{IsRowOf, columns, lanes_of};
 ghost use Rattle.ts_filter.specs.RowStacks.{
   HasStates,
   IsCut,
@@ -11,48 +12,99 @@ ghost use Rattle.ts_filter.specs.RowStacks.{
   no_rows,
   with_row,
 };
+ghost use Rattle.ts_row.specs.Plans.{IsPlanOf};
+ghost use Rattle.ts_row.specs.Rows.{IsRow};
+ghost use Rattle.ts_row.specs.Takings.{count_in};
+ghost use Rattle.ts_sweep.specs.Packed.{is_wide};
 
+use crate::any_row::{AnyRow, are_same};
 use crate::planned::Planned;
-use crate::same_rows::are_same;
 use crate::two_cells::TwoCells;
 use std::alloc::Global;
 use std::marker::Model;
 use std::mem;
 use ts_automaton::Automaton;
 use ts_base::Memory;
-use ts_row::{PackedRow, Plan};
+use ts_row::{Cell, Plan};
 
 /// One hull for each value of a cell and each state, packed. `room` is for how many values there is memory.
 #[derive(Drop)]
 pub(crate) struct HullRow {
-    pub(crate) packed: PackedRow<6>,
+    pub(crate) packed: AnyRow,
     room: usize,
 }
 
 impl HullRow {
     /// No hull yet. There will be memory for so many values.
-    fn empty(alloc: Global, room: usize) -> HullRow {
+    fn empty(alloc: Global, wide: bool, room: usize) -> HullRow
+        ensures { wide ≡ is_wide (lanes_of result.packed) }
+    {
         HullRow {
-            packed: PackedRow::empty(alloc),
+            packed: AnyRow::empty(alloc, wide),
             room,
         }
     }
 
     /// The row, or an empty one where its memory is for fewer values or for more than twice as many: rows of cells with
-    /// few values never keep the memory of one with many.
-    pub(crate) fn with_room(self, alloc: Global, count: usize) -> HullRow {
-        if count <= self.room && self.room / 2 <= count {
+    /// few values never keep the memory of one with many. It is one of an automaton of the width.
+    pub(crate) fn with_room(self, alloc: Global, wide: bool, count: usize) -> HullRow
+        ensures { wide ≡ is_wide (lanes_of result.packed) }
+    {
+        if self.packed.is_wide() == wide && count <= self.room && self.room / 2 <= count {
             self
         } else {
-            HullRow::empty(alloc, count)
+            HullRow::empty(alloc, wide, count)
         }
+    }
+
+    /// The row of the cell at which runs start, in the same memory.
+    pub(crate) fn started(
+        self,
+        alloc: Global,
+        a: &Automaton,
+        values: Cell<'_>,
+    ) -> Result<HullRow, Memory>
+        requires { a.now.wide ≡ is_wide (lanes_of self.packed) }
+        ensures { IfOk result (λ row. IsRowOf a.now [] values.entry.values.now row.packed) }
+    {
+        let packed = self.packed.started(alloc, a, values)?;
+        Ok(HullRow {
+            packed,
+            room: self.room,
+        })
+    }
+
+    /// The row of a cell, from that of the cell before, in the same memory.
+    pub(crate) fn stepped(
+        self,
+        alloc: Global,
+        a: &Automaton,
+        plan: &Plan,
+        values: Cell<'_>,
+        before: &AnyRow,
+        next_values: Cell<'_>,
+    ) -> Result<HullRow, Memory>
+        requires width { a.now.wide ≡ is_wide (lanes_of self.packed) }
+        requires width_before { a.now.wide ≡ is_wide (lanes_of before.now) }
+        requires plan { IsPlanOf a.now plan.now }
+        requires row { IsRow (lanes_of before.now) (length a.now.states) (count_in values) (columns before.now) }
+        ensures { IfOk result (λ row. (cells : List (List ℤ)) → IsRowOf a.now cells values.entry.values.now before.now →
+            IsRowOf a.now (values.entry.values.now ∷ cells) next_values.entry.values.now row.packed) }
+    {
+        let packed = self
+            .packed
+            .stepped(alloc, a, plan, values, before, next_values)?;
+        Ok(HullRow {
+            packed,
+            room: self.room,
+        })
     }
 }
 
 /// Rows of an automaton, of which the first are known. Those above were known of an earlier box. From place `from` on
-/// each is still the next row after the one below: where one is right, all above it are. `spare` and `lists` have memory
-/// for the next row and the values that it is made of. All rows have the states of the automaton, which are counted here
-/// alone.
+/// each is still the next row after the one below: where one is right, all above it are. `spare` and `lists` have
+/// memory for the next row and the values that it is made of. All rows have the states and the width of the automaton,
+/// which are kept here alone.
 #[derive(Drop)]
 pub(crate) struct RowStack {
     planned: Planned,
@@ -76,7 +128,7 @@ impl Model for RowStack {
     } };
 
     ghost invariant = { λ s. (s.known ≤ length s.rows.items)
-        × All (λ r. HasStates s.planned.states r.packed) s.rows.items };
+        × All (λ r. HasStates s.planned r.packed) s.rows.items };
 }
 
 impl RowStack {
@@ -110,9 +162,9 @@ impl RowStack {
     }
 
     /// The known row at place `i`, counted from 0.
-    pub(crate) fn row(&self, i: usize) -> &PackedRow<6>
+    pub(crate) fn row(&self, i: usize) -> &AnyRow
         requires { i < length self.now.known }
-        ensures states { HasStates self.now.planned.states result.now }
+        ensures states { HasStates self.now.planned result.now }
         ensures hulls { hulls_in self.now.planned.states result.now ≡ get_or self.now.known i [] }
     {
         &self.rows[i].packed
@@ -148,7 +200,7 @@ impl RowStack {
     {
         match self.spare.take() {
             Some(row) => row,
-            None => HullRow::empty(alloc, 0),
+            None => HullRow::empty(alloc, self.planned.wide, 0),
         }
     }
 
@@ -171,7 +223,7 @@ impl RowStack {
 
     /// Whether the row lies on top of the known ones, and the rows above go on from it.
     pub(crate) fn stands(&self, row: &HullRow) -> bool
-        requires { HasStates self.now.planned.states row.now.packed }
+        requires { HasStates self.now.planned row.now.packed }
         ensures { IsTrue result → Stands (hulls_in self.now.planned.states row.now.packed) self.now }
     {
         if self.known == self.rows.len() || self.known < self.from {
@@ -196,7 +248,7 @@ impl RowStack {
 
     /// One more known row.
     pub(crate) fn push(&mut self, row: HullRow) -> Result<(), Memory>
-        requires { HasStates self.old.planned.states row.packed }
+        requires { HasStates self.old.planned row.packed }
         ensures ok { OnOk result (IsOneMore (hulls_in self.old.planned.states row.packed) self.old self.new) }
         ensures err { OnErr result (self.new ≡ self.old) }
     {

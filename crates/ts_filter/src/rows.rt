@@ -12,7 +12,6 @@ use crate::two_cells::TwoCells;
 use std::alloc::Global;
 use ts_automaton::Automaton;
 use ts_base::Memory;
-use ts_bound::{first_packed_row, next_packed_row};
 
 /// Makes the rows that are wanting of the `count` cells that the automaton reads first.
 pub(crate) fn make_rows(
@@ -67,27 +66,26 @@ fn next_row(
 ) -> Result<HullRow, Memory>
     requires more { length rows.now.known < length (cells_read reading) }
     requires known { AreRows a.now (cells_read reading) rows.now }
-    ensures states { IfOk result (λ row. HasStates rows.now.planned.states row.packed) }
+    ensures states { IfOk result (λ row. HasStates rows.now.planned row.packed) }
     ensures hulls { IfOk result (λ row. hulls_in rows.now.planned.states row.packed
         ≡ get_or (forward_rows a.now (cells_read reading.entry)) (length rows.now.known) []) }
 {
     let i = rows.len();
     let values = reading.at(i);
-    let mut row = spare.with_room(alloc, values.size() as usize);
+    let spare = spare.with_room(alloc, a.wide(), values.size() as usize);
     lists.here.reset(values)?;
     if i == 0 {
-        first_packed_row(alloc, a, lists.here.lend(), &mut row.packed)?;
-        return Ok(row);
+        let first = spare.started(alloc, a, lists.here.lend())?;
+        return Ok(first);
     }
     lists.before.reset(reading.at(i - 1))?;
-    next_packed_row(
+    let row = spare.stepped(
         alloc,
         a,
         rows.plan(),
         lists.before.lend(),
         rows.row(i - 1),
         lists.here.lend(),
-        &mut row.packed,
     )?;
     Ok(row)
 }

@@ -1,12 +1,17 @@
 //! Whether two packed rows are one.
 
-ghost use Rattle.std.specs.Prelude.{◌≡◌, IsTrue, length};
+ghost use Rattle.std.specs.Prelude.{◌≡◌, ◌≤◌, IsTrue, length};
 
 use ts_row::PackedRow;
 use ts_sweep::packed::PackedHull;
 
 /// Whether both, of so many states, have the same hulls.
-pub(crate) fn are_same(a: &PackedRow<6>, b: &PackedRow<6>, states: u8) -> bool
+pub(crate) fn are_same_columns<const N: usize>(
+    a: &PackedRow<N>,
+    b: &PackedRow<N>,
+    states: u8,
+) -> bool
+    requires lanes { N ≤ 64 }
     requires first { length a.now ≡ states }
     requires second { length b.now ≡ states }
     ensures { IsTrue result → a.now ≡ b.now }
@@ -20,7 +25,8 @@ pub(crate) fn are_same(a: &PackedRow<6>, b: &PackedRow<6>, states: u8) -> bool
 }
 
 /// Whether both have the same hulls in the same order.
-fn are_same_hulls(a: &[PackedHull<6>], b: &[PackedHull<6>]) -> bool
+fn are_same_hulls<const N: usize>(a: &[PackedHull<N>], b: &[PackedHull<N>]) -> bool
+    requires lanes { N ≤ 64 }
     ensures { IsTrue result → a.now ≡ b.now }
 {
     if a.len() != b.len() {

@@ -21,7 +21,8 @@ loop-term-preserved c =
       same = c.first_drop.ensures.same ∙ c.loop-term.invariant.same;
       first = drops_more rs c.args.self.now b term c.last_asked-last.result c.loop-term.first c.in_ok-found.found c.earlier-first.result below
           c.requires.looks c.last_asked-last.ensures c.loop-term.invariant.first
-          (subst (λ all. OfTerm all term (λ a. IsFirstOf (IsDropUpTo rs term a b c.last_asked-last.result) c.in_ok-found.found)) c.loop-term.invariant.same c.in_ok-found.ensures.found)
+          (subst (λ all. OfTerm all term (λ a. IsFirstOf (IsDropUpTo rs term a b c.last_asked-last.result) c.in_ok-found.found)) c.loop-term.invariant.same
+          c.in_ok-found.ensures.found)
           c.earlier-first.ensures;
     }
 

@@ -1,0 +1,173 @@
+//! Packed rows of automata of either width: here alone the two are told apart, once a row and once a value of a cell.
+
+ghost use Rattle.std.specs.Prelude.{◌≡◌, ℤ, List, [], ◌∷◌, IfOk, IsTrue, length};
+ghost use Rattle.ts_base.specs.Limits.{IsCellValue};
+ghost use Rattle.ts_base.specs.Spans.{none_span, span_hull};
+ghost use Rattle.ts_filter.specs.AnyRows.{IsRowOf, columns, glued_between, lanes_of};
+ghost use Rattle.ts_filter.specs.Question.{Excludes};
+ghost use Rattle.ts_glue.specs.Pairs.{Pair};
+ghost use Rattle.ts_meet.specs.Asked.{IsAnswer};
+ghost use Rattle.ts_meet.specs.Joints.{AreJoints};
+ghost use Rattle.ts_meet.specs.Meets.{HasPlace, finish_hull};
+ghost use Rattle.ts_row.specs.Plans.{IsPlanOf};
+ghost use Rattle.ts_row.specs.Rows.{IsRow};
+ghost use Rattle.ts_row.specs.Takings.{count_in};
+ghost use Rattle.ts_sweep.specs.Packed.{is_wide};
+
+use crate::question::Question;
+use crate::same_rows::are_same_columns;
+use std::alloc::Global;
+use ts_automaton::Automaton;
+use ts_base::{Memory, Span};
+use ts_bound::{first_packed_row, next_packed_row};
+use ts_meet::{Joints, Spot, asked_at, finish_at};
+use ts_row::{Cell, PackedRow, Plan};
+
+/// A packed row: that of a narrow automaton, or of a wide one.
+#[derive(Drop)]
+pub(crate) enum AnyRow {
+    Narrow(PackedRow<6>),
+    Wide(PackedRow<10>),
+}
+
+impl AnyRow {
+    /// No hull yet.
+    pub(crate) fn empty(alloc: Global, wide: bool) -> AnyRow
+        ensures { wide ≡ is_wide (lanes_of result) }
+    {
+        if wide {
+            AnyRow::Wide(PackedRow::empty(alloc))
+        } else {
+            AnyRow::Narrow(PackedRow::empty(alloc))
+        }
+    }
+
+    /// Whether it is that of a wide automaton.
+    pub(crate) fn is_wide(&self) -> bool
+        ensures { result ≡ is_wide (lanes_of self.now) }
+    {
+        match self {
+            AnyRow::Narrow(_) => false,
+            AnyRow::Wide(_) => true,
+        }
+    }
+
+    /// The row of the cell at which runs start, in the same memory.
+    pub(crate) fn started(
+        self,
+        alloc: Global,
+        a: &Automaton,
+        values: Cell<'_>,
+    ) -> Result<AnyRow, Memory>
+        requires { a.now.wide ≡ is_wide (lanes_of self) }
+        ensures { IfOk result (λ row. IsRowOf a.now [] values.entry.values.now row) }
+    {
+        match self {
+            AnyRow::Narrow(mut row) => {
+                first_packed_row(alloc, a, values, &mut row)?;
+                Ok(AnyRow::Narrow(row))
+            }
+            AnyRow::Wide(mut row) => {
+                first_packed_row(alloc, a, values, &mut row)?;
+                Ok(AnyRow::Wide(row))
+            }
+        }
+    }
+
+    /// The row of a cell, from that of the cell before, whatever cells are before that one. It is made in this row's
+    /// memory.
+    pub(crate) fn stepped(
+        self,
+        alloc: Global,
+        a: &Automaton,
+        plan: &Plan,
+        values: Cell<'_>,
+        before: &AnyRow,
+        next_values: Cell<'_>,
+    ) -> Result<AnyRow, Memory>
+        requires width { a.now.wide ≡ is_wide (lanes_of self) }
+        requires width_before { a.now.wide ≡ is_wide (lanes_of before.now) }
+        requires plan { IsPlanOf a.now plan.now }
+        requires row { IsRow (lanes_of before.now) (length a.now.states) (count_in values) (columns before.now) }
+        ensures { IfOk result (λ row. (cells : List (List ℤ)) → IsRowOf a.now cells values.entry.values.now before.now →
+            IsRowOf a.now (values.entry.values.now ∷ cells) next_values.entry.values.now row) }
+    {
+        match self {
+            AnyRow::Narrow(mut row) => match before {
+                AnyRow::Narrow(before) => {
+                    next_packed_row(alloc, a, plan, values, before, next_values, &mut row)?;
+                    Ok(AnyRow::Narrow(row))
+                }
+                AnyRow::Wide(_) => unreachable!(),
+            },
+            AnyRow::Wide(mut row) => match before {
+                AnyRow::Wide(before) => {
+                    next_packed_row(alloc, a, plan, values, before, next_values, &mut row)?;
+                    Ok(AnyRow::Wide(row))
+                }
+                AnyRow::Narrow(_) => unreachable!(),
+            },
+        }
+    }
+
+    /// The hull of the finish spans of all states, at place `i` of the values of the last cell, of a series of `n`
+    /// cells.
+    pub(crate) fn finish(&self, a: &Automaton, i: usize, n: u32) -> Span
+        requires { HasPlace (lanes_of self.now) (length a.now.states) i (columns self.now) }
+        ensures { result ≡ finish_hull (lanes_of self.now) a.now (columns self.now) i n }
+    {
+        match self {
+            AnyRow::Narrow(row) => finish_at(a, row, i, n),
+            AnyRow::Wide(row) => finish_at(a, row, i, n),
+        }
+    }
+}
+
+/// Whether two rows of so many states have the same hulls.
+pub(crate) fn are_same(a: &AnyRow, b: &AnyRow, states: u8) -> bool
+    requires first { length (columns a.now) ≡ states }
+    requires second { length (columns b.now) ≡ states }
+    ensures { IsTrue result → a.now ≡ b.now }
+{
+    match a {
+        AnyRow::Narrow(a) => match b {
+            AnyRow::Narrow(b) => are_same_columns(a, b, states),
+            AnyRow::Wide(_) => false,
+        },
+        AnyRow::Wide(a) => match b {
+            AnyRow::Wide(b) => are_same_columns(a, b, states),
+            AnyRow::Narrow(_) => false,
+        },
+    }
+}
+
+/// The hull of a span that is known so far and of the glued spans where two rows of one width meet; none where it has
+/// what is asked.
+pub(crate) fn asked_between(
+    asked: Question<'_>,
+    so_far: Span,
+    joints: &Joints,
+    left: &AnyRow,
+    right: &AnyRow,
+    spot: Spot,
+) -> Option<Span>
+    requires width { lanes_of right.now ≡ lanes_of left.now }
+    requires form { span_hull so_far none_span ≡ so_far }
+    requires known { Excludes asked so_far }
+    requires left { HasPlace (lanes_of left.now) joints.now.left_states spot.place (columns left.now) }
+    requires right { HasPlace (lanes_of right.now) joints.now.right_states spot.place (columns right.now) }
+    requires value { IsCellValue spot.value }
+    ensures { (p : Pair) → AreJoints p joints.now → IsAnswer (Excludes asked.entry)
+        (span_hull so_far (glued_between p left.now right.now spot.place spot.value spot.cells)) result }
+{
+    match left {
+        AnyRow::Narrow(left) => match right {
+            AnyRow::Narrow(right) => asked_at(asked, so_far, joints, left, right, spot),
+            AnyRow::Wide(_) => unreachable!(),
+        },
+        AnyRow::Wide(left) => match right {
+            AnyRow::Wide(right) => asked_at(asked, so_far, joints, left, right, spot),
+            AnyRow::Narrow(_) => unreachable!(),
+        },
+    }
+}
