@@ -31,8 +31,8 @@ part_of : (name : List ℕ) (t : ModelTerm) → IsTermPart name t (part_text nam
 part_of name t = record {
   lines = body_text (machine_body t.term);
   tail = reverse_text (machine_pair t.term);
-  part_is = refl;
   body = machine_body t.term;
+  part_is = refl;
   reads = (body_automaton t.term.pattern t.term.pattern t.term.aggregator t.term.feature, (Forward, refl));
   answers = answers_over (machine_body t.term) t (compiled_answers t.term);
   tail_is = tail_of t (seed_table t.term.pattern).partner refl;

@@ -1,5 +1,5 @@
 -- The value of a term is far within 64 bits: on a series within the limits no sum reaches the size at which sums are held.
-use Rattle.std.proofs.Common.{◌≡◌, ℕ, zero, suc, ◌+◌, ◌≤◌, ℤ, pos, negsuc, true, List, [], ◌∷◌, length, map, Option, Some, None, slice_get, refl, ◌∙◌, ap, subst, arith}
+use Rattle.std.proofs.Common.{◌≡◌, ℕ, zero, suc, ◌+◌, ◌≤◌, ℤ, pos, negsuc, true, List, [], ◌∷◌, length, map, Option, Some, None, slice_get, refl, sym, ◌∙◌, ap, subst, arith}
 use Rattle.std.proofs.lemmas.Bool.{lt-ltb}
 use Rattle.std.proofs.lemmas.Option.{same_Some}
 use Rattle.ts_base.specs.declared.ext.Ext.{Ext}
@@ -25,9 +25,10 @@ use Rattle.ts_automaton.specs.AutomatonRun.{AreCellValues, after_from, answer, u
 use Rattle.ts_seed.specs.SeedTable.{seed_table, table_of}
 use Rattle.ts_seed.proofs.Closed.{rows_closed}
 use Rattle.ts_decorate.specs.Decoration.{decorated_body, mark_of}
-use Rattle.ts_decorate.proofs.CallerLemmas.{answers_ranges, total_exact}
+use Rattle.ts_decorate.proofs.CallerLemmas.{answers_ranges, total_exact, finish_is}
 use Rattle.ts_decorate.proofs.Exact.{exact, held_at_limit}
-use Rattle.ts_decorate.proofs.Runs.{table_start, total_of}
+use Rattle.ts_decorate.specs.Operators.{total_of}
+use Rattle.ts_decorate.proofs.Runs.{table_start}
 use Rattle.ts_decorate.proofs.Sizes.{limit, size_of}
 use Rattle.ts_domain.specs.BoxSeries.{InBox, IsBox}
 use Rattle.ts_domain.proofs.Sets.{each_contains}
@@ -57,8 +58,9 @@ module _ (rows : List Row) (typed : is_typed rows ≡ true) (few : length rows �
   answer_small [] some short h = absurd (omega (arith, some))
   answer_small (x ∷ ys) some short h =
       let total = total_of (held_at_limit g f) (after_from (decorated_body rows a g f) (table_start (exact g f)) x ys).regs in
-      within_size _ (size_of total) (length (x ∷ ys)) (mark_size (mark_of g f) (length (x ∷ ys)) total)
-      (total_exact rows typed few a g f x ys (omega (arith, short)) h.0 h.1).1 short
+      subst (λ v. size_of (under_mark (mark_of g f) (length (x ∷ ys)) v) ≤ most_size) (sym (finish_is rows typed few a g f x ys))
+      (within_size _ (size_of total) (length (x ∷ ys)) (mark_size (mark_of g f) (length (x ∷ ys)) total)
+      (total_exact rows typed few a g f x ys (omega (arith, short)) h.0 h.1).1 short)
 
 -- the automaton of a pattern by the rows of its seed answers the value of the term
 pub answers : (id : PatternId) (g : Aggregator) (f : Feature) (xs : List ℤ) → 1 ≤ length xs → length xs ≤ 512 → AreCellValues xs →

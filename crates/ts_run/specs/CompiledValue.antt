@@ -31,8 +31,8 @@ pub record IsSplit (t : ModelTerm) (forward : Body) (tail : List ℕ) : Type 0 w
   pub lines : List ℕ
   pub body : Body
   pub table : Table
-  pub tail_is : tail ≡ head_text Reverse ++ (lines ++ glue_text (pair forward body table))
-  pub reads : Reads (head_text Reverse ++ lines) (Ok body)
+  pub tail_is : tail ≡ head_text Reverse body.wide ++ (lines ++ glue_text (pair forward body table))
+  pub reads : Reads (head_text Reverse body.wide ++ lines) (Ok body)
   pub glues : GluesOver (pair forward body table) t
 
 -- what follows the forward block of a term: with a partner of its pattern, and without one
@@ -45,9 +45,9 @@ IsTail None t forward tail = tail ≡ codes "no reverse\n"
 pub record IsTermPart (name : List ℕ) (t : ModelTerm) (part : List ℕ) : Type 0 where
   pub lines : List ℕ
   pub tail : List ℕ
-  pub part_is : part ≡ words_text (term_words name t) ++ (head_text Forward ++ (lines ++ tail))
   pub body : Body
-  pub reads : Reads (head_text Forward ++ lines) (Ok body)
+  pub part_is : part ≡ words_text (term_words name t) ++ (head_text Forward body.wide ++ (lines ++ tail))
+  pub reads : Reads (head_text Forward body.wide ++ lines) (Ok body)
   pub answers : AnswersOver body t
   pub tail_is : IsTail (seed_table t.term.pattern).partner t body tail
 
