@@ -12,8 +12,9 @@ use Rattle.ts_automaton.specs.Kinds.{HasKind, SpanHasKind}
 use Rattle.ts_automaton.specs.Registers.{each}
 use Rattle.ts_automaton.specs.SpanRun.{HullStands}
 
-pub numbers_stand : (b : Body) (q : ℕ) (c d r : ℤ) → q < length b.states → Stands b (record { state = q; regs = each (Int c) (Int d) (Int r) })
-numbers_stand b q c d r is = record { exists = is; kinds = (search rules, search rules, search rules) }
+pub numbers_stand : (b : Body) (q : ℕ) (c e d f r : ℤ) → q < length b.states →
+    Stands b (record { state = q; regs = each (Int c) (Int e) (Int d) (Int f) (Int r) })
+numbers_stand b q c e d f r is = record { exists = is; kinds = (search rules, search rules, search rules, search rules, search rules) }
 
 any_kind : (k : RegKind) (e : Ext) → HasKind Whole e → HasKind k e
 any_kind k NegInf p = cc
@@ -23,6 +24,7 @@ any_kind k PosInf p = cc
 span_kind : (k : RegKind) (s : Span) → SpanHasKind Whole s → SpanHasKind k s
 span_kind k s p = (p.0, any_kind k s.lo p.1, any_kind k s.hi p.2)
 
-pub spans_stand : (b : Body) (q : ℕ) (c d r : Span) → q < length b.states → SpanHasKind Whole c → SpanHasKind Whole d → SpanHasKind Whole r →
-    HullStands b (record { state = q; regs = each c d r })
-spans_stand b q c d r is hc hd hr = record { exists = is; kinds = inr (span_kind _ c hc, span_kind _ d hd, span_kind _ r hr) }
+pub spans_stand : (b : Body) (q : ℕ) (c e d f r : Span) → q < length b.states → SpanHasKind Whole c → SpanHasKind Whole e → SpanHasKind Whole d →
+    SpanHasKind Whole f → SpanHasKind Whole r → HullStands b (record { state = q; regs = each c e d f r })
+spans_stand b q c e d f r is hc he hd hf hr =
+    record { exists = is; kinds = inr (span_kind _ c hc, span_kind _ e he, span_kind _ d hd, span_kind _ f hf, span_kind _ r hr) }

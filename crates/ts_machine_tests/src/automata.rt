@@ -1,9 +1,10 @@
 //! The rules, each broken once in the automaton of peaks, and runs of that automaton with answers worked out by hand.
 
 mod runs;
+mod wide;
 
 use std::alloc::{AllocError, Global};
-use ts_automaton::{Automaton, Expr, Mark, Regs, State, Turn};
+use ts_automaton::{Automaton, Expr, Mark, Operator, Regs, State, Turn};
 use ts_base::Letter::{Equal, Greater, Less};
 use ts_base::{Ext, Letter, Memory, Op};
 
@@ -30,10 +31,15 @@ enum Change {
     LowC,
     LowCIntoHeld,
     LowCOutOfHeld,
+    EMoves,
+    FStartsAtOne,
+    SubInFinish,
+    WideSubInFinish,
+    WideSubOfLow,
 }
 
 /// The automaton of a change is taken exactly where the second part is true.
-static CHANGES: [(Change, bool); 20] = [
+static CHANGES: [(Change, bool); 25] = [
     (Change::Nothing, true),
     (Change::NoState, false),
     // its moves lead to three states
@@ -55,6 +61,12 @@ static CHANGES: [(Change, bool); 20] = [
     (Change::LowC, true),
     (Change::LowCIntoHeld, false),
     (Change::LowCOutOfHeld, true),
+    // E and F are at rest in a narrow automaton, and nothing is taken away
+    (Change::EMoves, false),
+    (Change::FStartsAtOne, false),
+    (Change::SubInFinish, false),
+    (Change::WideSubInFinish, true),
+    (Change::WideSubOfLow, false),
 ];
 
 // The table behind a function, so that the proof of the test doesn't read it.
@@ -77,6 +89,11 @@ fn max(alloc: Global, a: Expr, b: Expr) -> Result<Expr, AllocError> {
 /// The lesser of two.
 fn min(alloc: Global, a: Expr, b: Expr) -> Result<Expr, AllocError> {
     Ok(Expr::Min(Box::new(alloc, a)?, Box::new(alloc, b)?))
+}
+
+/// The first less the second.
+fn sub(alloc: Global, a: Expr, b: Expr) -> Result<Expr, AllocError> {
+    Ok(Expr::Sub(Box::new(alloc, a)?, Box::new(alloc, b)?))
 }
 
 /// `x` added to itself this many times: an expression of twice as many words and one.
@@ -134,8 +151,18 @@ fn turn(alloc: Global, change: Change, place: u8, letter: Letter) -> Result<Turn
     let c = c_after(alloc, change, place, letter)?;
     let d = d_after(alloc, change, place, letter)?;
     let r = r_after(alloc, place, letter)?;
-    let next = next_after(change, place, letter);
-    Ok(Turn { next, c, d, r })
+    let e = match change {
+        Change::EMoves => Expr::Unit,
+        _ => Expr::Zero,
+    };
+    Ok(Turn {
+        next: next_after(change, place, letter),
+        c,
+        e,
+        d,
+        f: Expr::Zero,
+        r,
+    })
 }
 
 fn name_of(change: Change, place: u8) -> u8 {
@@ -168,6 +195,9 @@ fn changed_finish(alloc: Global, change: Change) -> Result<Expr, AllocError> {
         Change::CellInFinish => add(alloc, Expr::R, Expr::This),
         Change::HighInFinish => max(alloc, Expr::R, Expr::PosInf),
         Change::LowC | Change::LowCIntoHeld | Change::LowCOutOfHeld => max(alloc, Expr::R, Expr::C),
+        Change::SubInFinish | Change::WideSubInFinish | Change::WideSubOfLow => {
+            sub(alloc, Expr::R, Expr::C)
+        }
         _ => add(alloc, Expr::R, Expr::C),
     }
 }
@@ -176,7 +206,9 @@ fn changed_finish(alloc: Global, change: Change) -> Result<Expr, AllocError> {
 fn changed_start(change: Change) -> Regs {
     let zeros = Regs {
         c: ZERO,
+        e: ZERO,
         d: ZERO,
+        f: ZERO,
         r: ZERO,
     };
     match change {
@@ -188,8 +220,12 @@ fn changed_start(change: Change) -> Regs {
             d: Ext::NegInf,
             ..zeros
         },
-        Change::LowC | Change::LowCIntoHeld | Change::LowCOutOfHeld => Regs {
+        Change::LowC | Change::LowCIntoHeld | Change::LowCOutOfHeld | Change::WideSubOfLow => Regs {
             c: Ext::NegInf,
+            ..zeros
+        },
+        Change::FStartsAtOne => Regs {
+            f: Ext::Int(1),
             ..zeros
         },
         _ => zeros,
@@ -218,7 +254,8 @@ fn changed_states(alloc: Global, change: Change) -> Result<Vec<State>, AllocErro
 fn changed(alloc: Global, change: Change) -> Result<Option<Automaton>, AllocError> {
     let states = changed_states(alloc, change)?;
     let finish = changed_finish(alloc, change)?;
-    Ok(Automaton::new(states, changed_start(change), finish, Mark::Same))
+    let wide = matches!(change, Change::WideSubInFinish | Change::WideSubOfLow);
+    Ok(Automaton::new(states, changed_start(change), finish, Mark::Same, wide))
 }
 
 fn is_taken(alloc: Global, change: Change) -> Result<bool, AllocError> {
@@ -236,12 +273,14 @@ fn broken_rules(rt: HostRuntime) -> Result<(), AllocError> {
 #[test]
 fn operators_over_two(rt: HostRuntime) -> Result<(), Memory> {
     let alloc = rt.alloc();
+    let plus = Operator::Fold(Op::Add);
+    let greatest = Operator::Fold(Op::Max);
+    let least = Operator::Fold(Op::Min);
+    assert!(rt; Expr::over(alloc, plus, Expr::D, Expr::This)? == add(alloc, Expr::D, Expr::This)?);
+    assert!(rt; Expr::over(alloc, greatest, Expr::R, Expr::C)? == max(alloc, Expr::R, Expr::C)?);
+    assert!(rt; Expr::over(alloc, least, Expr::C, Expr::Next)? == min(alloc, Expr::C, Expr::Next)?);
     assert!(rt;
-        Expr::over(alloc, Op::Add, Expr::D, Expr::This)? == add(alloc, Expr::D, Expr::This)?
-    );
-    assert!(rt; Expr::over(alloc, Op::Max, Expr::R, Expr::C)? == max(alloc, Expr::R, Expr::C)?);
-    assert!(rt;
-        Expr::over(alloc, Op::Min, Expr::C, Expr::Next)? == min(alloc, Expr::C, Expr::Next)?
+        Expr::over(alloc, Operator::Sub, Expr::C, Expr::E)? == sub(alloc, Expr::C, Expr::E)?
     );
     Ok(())
 }

@@ -5,15 +5,20 @@ use ts_automaton::{AutoStop, Automaton, Way, read, write, write_head};
 use ts_base::Memory;
 
 /// The first is the automaton that adds up the widths of peaks.
-static TAKEN: [&str; 4] = [
+static TAKEN: [&str; 7] = [
     "forward\nstate s free\nstate r free\nstate t held\nstart 0 0 0\nmove s < r ; C ; D ; R\nmove s = s ; C ; D ; R\nmove s > s ; C ; D ; R\nmove r < r ; C ; add D 1 ; R\nmove r = r ; C ; add D 1 ; R\nmove r > t ; add D 1 ; 0 ; R\nmove t < r ; 0 ; 0 ; add R C\nmove t = t ; C ; add D 1 ; R\nmove t > t ; add C add D 1 ; 0 ; R\nfinish add R C same\nend\n",
     "reverse\nstate s free\nstart -inf +inf 1\nmove s < s ; max min x y C ; y ; add R 1\nmove s = s ; max max max max max max max C C C C C C C C ; D ; R\nmove s > s ; C ; min D x ; 0\nfinish max C R zero\nend\n",
     "reverse\nstate b free\nstate a held\nstart +inf 0 0\nmove b < a ; min C x ; 0 ; R\nmove b = b ; C ; D ; R\nmove b > b ; +inf ; D ; R\nmove a < b ; C ; D ; R\nmove a = b ; +inf ; D ; R\nmove a > a ; x ; D ; R\nfinish min C R cells\nend\n",
     "forward\nstate b free\nstate a held\nstart -inf 0 0\nmove b < a ; max C x ; 0 ; R\nmove b = a ; max y C ; 0 ; R\nmove b > b ; max C C ; D ; R\nmove a < b ; C ; D ; R\nmove a = b ; -inf ; D ; R\nmove a > a ; x ; D ; R\nfinish max C R zero\nend\n",
+    // wide ones
+    "forward wide\nstate s free\nstart 0 0 -inf +inf 0\nmove s < s ; C ; E ; D ; F ; R\nmove s = s ; C ; E ; D ; F ; R\nmove s > s ; C ; E ; -inf ; +inf ; add R sub max max D x y min min F x y\nfinish add R sub C E same\nend\n",
+    "reverse wide\nstate s free\nstate r held\nstart -inf 0 -inf +inf -inf\nmove s < s ; C ; E ; D ; F ; R\nmove s = s ; C ; E ; D ; F ; R\nmove s > r ; max max D x y ; min min F x y ; -inf ; +inf ; R\nmove r < s ; -inf ; 0 ; -inf ; +inf ; max R sub C E\nmove r = s ; -inf ; 0 ; -inf ; +inf ; max R sub C E\nmove r > r ; max C max D y ; min E min F y ; -inf ; +inf ; R\nfinish max R sub C E same\nend\n",
+    // a difference of each pair of kinds that it takes
+    "forward wide\nstate s free\nstart -inf +inf 0 1 0\nmove s < s ; sub C D ; sub E F ; sub x y ; F ; R\nmove s = s ; C ; E ; D ; F ; R\nmove s > s ; C ; E ; D ; F ; R\nfinish sub C R same\nend\n",
 ];
 
 /// The stop, its line, and behind a colon the text.
-static REFUSED: [&str; 58] = [
+static REFUSED: [&str; 72] = [
     // nothing
     "text 1:",
     // head lines
@@ -88,6 +93,25 @@ static REFUSED: [&str; 58] = [
     "typing 7:forward\nstate s free\nstart +inf 0 -inf\nmove s < s ; C ; D ; R\nmove s = s ; C ; D ; R\nmove s > s ; C ; D ; R\nfinish max R C zero\nend\n",
     // the grammar comes before the typing
     "text 7:forward\nstate s held\nstart 0 0 0\nmove s < s ; C ; D ; R\nmove s = s ; C ; D ; R\nmove s > s ; C ; D ; R\nfinish same\nend\n",
+    // heads of wide blocks
+    "text 1:wide forward\nstate s free\n",
+    "text 1:forward  wide\nstate s free\n",
+    "text 1:forward wide wide\nstate s free\n",
+    "text 1:forward narrow\nstate s free\n",
+    // as many constants and expressions as the block has registers
+    "text 3:forward wide\nstate s free\nstart 0 0 0\nmove s < s ; C ; E ; D ; F ; R\nmove s = s ; C ; E ; D ; F ; R\nmove s > s ; C ; E ; D ; F ; R\nfinish R same\nend\n",
+    "text 3:forward\nstate s free\nstart 0 0 0 0 0\nmove s < s ; C ; D ; R\nmove s = s ; C ; D ; R\nmove s > s ; C ; D ; R\nfinish R same\nend\n",
+    "text 4:forward wide\nstate s free\nstart 0 0 0 0 0\nmove s < s ; C ; D ; R\nmove s = s ; C ; D ; R\nmove s > s ; C ; D ; R\nfinish R same\nend\n",
+    "text 4:forward\nstate s free\nstart 0 0 0\nmove s < s ; C ; E ; D ; F ; R\nmove s = s ; C ; E ; D ; F ; R\nmove s > s ; C ; E ; D ; F ; R\nfinish R same\nend\n",
+    // E, F and sub in a narrow block
+    "text 5:forward\nstate s free\nstart 0 0 0\nmove s < s ; C ; D ; R\nmove s = s ; E ; D ; R\nmove s > s ; C ; D ; R\nfinish R same\nend\n",
+    "text 6:forward\nstate s free\nstart 0 0 0\nmove s < s ; C ; D ; R\nmove s = s ; C ; D ; R\nmove s > s ; C ; max D F ; R\nfinish R same\nend\n",
+    "text 7:forward\nstate s free\nstart 0 0 0\nmove s < s ; C ; D ; R\nmove s = s ; C ; D ; R\nmove s > s ; C ; D ; R\nfinish sub R C same\nend\n",
+    // sixteen words with a difference
+    "text 4:forward wide\nstate s free\nstart 0 0 0 0 0\nmove s < s ; sub sub sub sub sub sub sub sub C C C C C C C C ; E ; D ; F ; R\nmove s = s ; C ; E ; D ; F ; R\nmove s > s ; C ; E ; D ; F ; R\nfinish R same\nend\n",
+    // a difference of kinds that it does not take: Int and Low, High and Low
+    "typing 7:forward wide\nstate s free\nstart -inf 0 0 0 0\nmove s < s ; C ; E ; D ; F ; R\nmove s = s ; C ; E ; D ; F ; R\nmove s > s ; C ; E ; D ; F ; R\nfinish sub R C same\nend\n",
+    "typing 7:forward wide\nstate s free\nstart -inf 0 0 0 +inf\nmove s < s ; C ; E ; D ; F ; R\nmove s = s ; C ; E ; D ; F ; R\nmove s > s ; C ; E ; D ; F ; R\nfinish sub R C same\nend\n",
 ];
 
 // The tables behind functions, so that the proofs of the tests don't read them.
@@ -102,7 +126,7 @@ fn refused_rows() -> &'static [&'static str] {
 /// The text of an automaton.
 fn written(alloc: Global, way: Way, automaton: &Automaton) -> Result<Vec<u8>, Memory> {
     let mut text = Vec::new(alloc);
-    write_head(way, &mut text)?;
+    write_head(way, automaton.wide(), &mut text)?;
     write(automaton, &mut text)?;
     Ok(text)
 }

@@ -1,9 +1,9 @@
 //! Rows, spans and boxes of one series, with values from a program that follows the definitions over all pairs of
 //! values and knows no Rattle.
 //!
-//! A row of hulls is written as text, a `|` between two hulls: a hull as its spans of C, D and R, `-` where it is none;
-//! a span as its two ends with a `:` between them, or as its only number. An `e` stands for the constant of the machine
-//! that results begin with.
+//! A row of hulls is written as text, a `|` between two hulls: a hull as its spans of C, D and R (E and F hold 0), `-`
+//! where it is none; a span as its two ends with a `:` between them, or as its only number. An `e` stands for the
+//! constant of the machine that results begin with.
 
 ghost use Rattle.std.specs.Prelude.{◌≤◌, ◌&&◌, ◌≡◌, IfOk, None, int_le, length, neg_ℤ, pos};
 ghost use Rattle.std.specs.List.{list_all};
@@ -45,7 +45,7 @@ pub(crate) fn within(values: &[i64]) -> bool
         .all(|value| -1_000_000 <= *value && *value <= 1_000_000)
 }
 
-pub(crate) fn domain(alloc: Global, lows: &[i64], highs: &[i64]) -> Result<Domain, Fail> {
+fn domain(alloc: Global, lows: &[i64], highs: &[i64]) -> Result<Domain, Fail> {
     if !within(lows) || !within(highs) || lows.len() != highs.len() {
         Err("a value past the limits")?
     }
@@ -66,7 +66,7 @@ fn cells_of(alloc: Global, ranges: &[(i64, i64)]) -> Result<Boxed, Fail>
     boxed(alloc, &domains)
 }
 
-pub(crate) fn boxed(alloc: Global, domains: &[Domain]) -> Result<Boxed, Fail>
+fn boxed(alloc: Global, domains: &[Domain]) -> Result<Boxed, Fail>
     ensures { IfOk result (λ b. 1 ≤ length b.present) }
 {
     if domains.len() == 0 || 99 < domains.len() {
@@ -121,7 +121,9 @@ fn hull(written: &str, e: Ext) -> Option<Hull> {
     }
     Some(Hull {
         c: span(word(written, 0), e)?,
+        e: Span::one(Ext::Int(0)),
         d: span(word(written, 1), e)?,
+        f: Span::one(Ext::Int(0)),
         r: span(word(written, 2), e)?,
     })
 }

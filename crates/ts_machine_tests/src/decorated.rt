@@ -3,6 +3,8 @@
 
 ghost use Rattle.std.specs.Prelude.{◌<◌};
 
+mod ranges;
+
 use super::terms::{HIGH, LOW, PAIRS, answer, value};
 use arrayvec::ArrayVec;
 use std::alloc::Global;

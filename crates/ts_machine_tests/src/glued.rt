@@ -1,5 +1,5 @@
 //! Glued values at every cell: the machine of each pattern that has a partner gives the value of the series wherever
-//! it is split, under all thirteen pairs of aggregator and feature, on the ten series of `terms`.
+//! it is split, under all sixteen pairs of aggregator and feature, on the ten series of `terms`.
 
 ghost use Rattle.std.specs.Prelude.{◌≤◌, ◌<◌, length};
 ghost use Rattle.ts_automaton.specs.AutomatonRun.{Stands, standing_of};
@@ -58,7 +58,7 @@ fn glued_at(machine: &Machine, series: &[i64], k: usize) -> Option<Ext>
 }
 
 /// Whether a pattern, itself or another one, has the same e-ranges where the series is read from its end.
-fn has_partner(pattern: PatternId) -> bool {
+pub fn has_partner(pattern: PatternId) -> bool {
     !matches!(
         pattern,
         PatternId::Inflexion
@@ -68,7 +68,7 @@ fn has_partner(pattern: PatternId) -> bool {
 }
 
 /// Whether the value is glued at each cell.
-fn is_glued(machine: &Machine, series: &[i64], wanted: Ext) -> bool
+pub fn is_glued(machine: &Machine, series: &[i64], wanted: Ext) -> bool
     requires { length series.now ≤ 100000 }
 {
     for cell in 1..series.len() + 1 {
@@ -81,7 +81,7 @@ fn is_glued(machine: &Machine, series: &[i64], wanted: Ext) -> bool
 
 /// Whether the values of a pair on all series are glued at each cell.
 fn are_glued(machine: &Machine, values: &Values, pair: usize) -> bool
-    requires { pair < 13 }
+    requires { pair < 16 }
 {
     for (series, wanted) in all_series().iter().zip(values) {
         if 100_000 < series.len() || !is_glued(machine, series, value(wanted[pair])) {
@@ -93,7 +93,7 @@ fn are_glued(machine: &Machine, values: &Values, pair: usize) -> bool
 
 /// Whether the machine can be split where the pattern has a partner, and is glued to the values.
 fn splits_as_told(machine: &Machine, pattern: PatternId, values: &Values, pair: usize) -> bool
-    requires { pair < 13 }
+    requires { pair < 16 }
 {
     if machine.reverse().is_some() {
         has_partner(pattern) && are_glued(machine, values, pair)
@@ -108,7 +108,7 @@ fn term_holds(
     values: &Values,
     pair: usize,
 ) -> Result<bool, Memory>
-    requires { pair < 13 }
+    requires { pair < 16 }
 {
     match term_of(pattern, pair) {
         Some(term) => Ok(splits_as_told(&compile_term(alloc, &term)?, pattern, values, pair)),
@@ -122,7 +122,7 @@ fn first_wrong(
     pattern: PatternId,
     values: &Values,
 ) -> Result<Option<usize>, Memory> {
-    for pair in 0..13 {
+    for pair in 0..16 {
         if !term_holds(alloc, pattern, values, pair)? {
             return Ok(Some(pair));
         }
@@ -156,7 +156,9 @@ fn standing(state: u8, c: i64, d: i64, r: i64) -> At {
         state,
         regs: Regs {
             c: Ext::Int(c),
+            e: Ext::Int(0),
             d: Ext::Int(d),
+            f: Ext::Int(0),
             r: Ext::Int(r),
         },
     }

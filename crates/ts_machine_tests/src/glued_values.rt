@@ -52,7 +52,7 @@ fn spans() -> &'static str {
     SPANS
 }
 
-/// What C, D and R are.
+/// What C, D and R are, of automata in which E and F are 0.
 type Numbers = (i64, i64, i64);
 
 const LEFT: Numbers = (20, 3, 100);
@@ -98,7 +98,9 @@ fn standing(automaton: &Automaton, state: u8, registers: Numbers) -> Option<At>
         state,
         regs: Regs {
             c: Ext::Int(c),
+            e: Ext::Int(0),
             d: Ext::Int(d),
+            f: Ext::Int(0),
             r: Ext::Int(r),
         },
     })
@@ -131,9 +133,16 @@ fn standing_hull(automaton: &Automaton, state: u8, lower: Numbers, upper: Number
         span(lower.1, upper.1)?,
         span(lower.2, upper.2)?,
     );
+    let zero = span(0, 0)?;
     Some(HullAt {
         state,
-        hull: Hull { c, d, r },
+        hull: Hull {
+            c,
+            e: zero,
+            d,
+            f: zero,
+            r,
+        },
     })
 }
 

@@ -27,6 +27,8 @@ mod last_values;
 #[cfg(test)]
 mod met;
 #[cfg(test)]
+mod ranges;
+#[cfg(test)]
 mod terms;
 #[cfg(test)]
 mod waiting;

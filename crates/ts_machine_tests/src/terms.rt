@@ -1,4 +1,4 @@
-//! The machine of each of the 22 patterns under all thirteen pairs of aggregator and feature, on ten series that use
+//! The machine of each of the 22 patterns under all sixteen pairs of aggregator and feature, on ten series that use
 //! each move of each seed. The values were found by trying the expressions on all parts of the signatures.
 
 ghost use Rattle.std.specs.Prelude.{◌≤◌, ◌<◌, length};
@@ -11,7 +11,7 @@ use ts_compile::compile_term;
 use ts_pattern::{Aggregator, Feature, PatternId, Term};
 
 /// The value on each series, under each pair in the order of `PAIRS`.
-pub type Values = [[i64; 13]; 10];
+pub type Values = [[i64; 16]; 10];
 
 // These stand for -inf and +inf in the tables.
 pub const LOW: i64 = i64::MIN;
@@ -19,7 +19,7 @@ pub const LOW: i64 = i64::MIN;
 pub const HIGH: i64 = i64::MAX;
 
 /// The aggregators and features that make a term.
-pub const PAIRS: [(Aggregator, Feature); 13] = [
+pub const PAIRS: [(Aggregator, Feature); 16] = [
     (Aggregator::Sum, Feature::One),
     (Aggregator::Sum, Feature::Width),
     (Aggregator::Sum, Feature::Surf),
@@ -33,6 +33,9 @@ pub const PAIRS: [(Aggregator, Feature); 13] = [
     (Aggregator::Min, Feature::Surf),
     (Aggregator::Min, Feature::Max),
     (Aggregator::Min, Feature::Min),
+    (Aggregator::Sum, Feature::Range),
+    (Aggregator::Max, Feature::Range),
+    (Aggregator::Min, Feature::Range),
 ];
 
 static SERIES: [&[i64]; 10] = [
@@ -80,7 +83,7 @@ pub fn term_of(pattern: PatternId, pair: usize) -> Option<Term> {
 
 /// Whether the automaton has the values of a pair on all series.
 fn answers(automaton: &Automaton, values: &Values, pair: usize) -> bool
-    requires { pair < 13 }
+    requires { pair < 16 }
 {
     for (series, wanted) in all_series().iter().zip(values) {
         if 100_000 < series.len() || answer(automaton, series) != value(wanted[pair]) {
@@ -96,7 +99,7 @@ fn term_holds(
     values: &Values,
     pair: usize,
 ) -> Result<bool, Memory>
-    requires { pair < 13 }
+    requires { pair < 16 }
 {
     match term_of(pattern, pair) {
         Some(term) => Ok(answers(compile_term(alloc, &term)?.forward(), values, pair)),
@@ -110,7 +113,7 @@ fn first_wrong(
     pattern: PatternId,
     values: &Values,
 ) -> Result<Option<usize>, Memory> {
-    for pair in 0..13 {
+    for pair in 0..16 {
         if !term_holds(alloc, pattern, values, pair)? {
             return Ok(Some(pair));
         }

@@ -22,6 +22,7 @@ fn names_terms_and_patterns(rt: HostRuntime) -> Result<(), Memory> {
     assert!(rt; feature_of(b"surf") == Some(Feature::Surf));
     assert!(rt; feature_of(b"max") == Some(Feature::Max));
     assert!(rt; feature_of(b"min") == Some(Feature::Min));
+    assert!(rt; feature_of(b"range") == Some(Feature::Range));
     assert!(rt; feature_of(b"surface").is_none());
     assert!(rt; aggregator_of(b"max") == Some(Aggregator::Max));
     assert!(rt; aggregator_of(b"min") == Some(Aggregator::Min));
@@ -31,6 +32,9 @@ fn names_terms_and_patterns(rt: HostRuntime) -> Result<(), Memory> {
     assert!(rt; Term::new(Aggregator::Max, Feature::One, PatternId::Peak).is_none());
     assert!(rt; Term::new(Aggregator::Min, Feature::One, PatternId::Peak).is_none());
     assert!(rt; Term::new(Aggregator::Sum, Feature::One, PatternId::Peak).is_some());
+    for aggregator in [Aggregator::Sum, Aggregator::Max, Aggregator::Min] {
+        assert!(rt; Term::new(aggregator, Feature::Range, PatternId::Peak).is_some());
+    }
     let dip = pattern_by_id(alloc, PatternId::DipOnIncreasingSequence)?;
     assert!(rt; dip.b == 2 && dip.a == 1);
     let word = [

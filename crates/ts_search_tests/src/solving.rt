@@ -11,11 +11,13 @@ use ts_compile::compile_model;
 use ts_model::{Model, Need, read_model};
 use ts_search::{list, solve};
 
+mod range_models;
 mod rows;
 mod small_models;
 mod windowed_calls;
 mod windowed_models;
 
+use range_models::range_cases;
 use rows::{Asked, Row, rows};
 use small_models::{Answer, Case, cases};
 use windowed_models::windowed_cases;
@@ -127,7 +129,7 @@ fn wrong_best(alloc: Global, case: &Case) -> Option<u64> {
 
 #[test]
 fn best_series_of_small_models(rt: HostRuntime) {
-    for case in cases().iter().chain(windowed_cases()) {
+    for case in cases().iter().chain(windowed_cases()).chain(range_cases()) {
         assert_eq!(rt; wrong_best(rt.alloc(), case), None, "{}", case.model);
     }
 }
@@ -165,7 +167,7 @@ fn wrong_count(alloc: Global, case: &Case, budget: u64) -> Option<u32> {
 
 #[test]
 fn first_series_of_small_models(rt: HostRuntime) {
-    for case in cases().iter().chain(windowed_cases()) {
+    for case in cases().iter().chain(windowed_cases()).chain(range_cases()) {
         for budget in BUDGETS {
             assert_eq!(rt;
                 wrong_count(rt.alloc(), case, budget),

@@ -4,7 +4,32 @@ use super::{Case, first_wrong};
 use std::alloc::AllocError;
 use ts_run::Status;
 
-static CASES: [Case; 41] = [
+static CASES: [Case; 46] = [
+    Case {
+        input: b"cells 7\nterm r = sum range peak\nterm m = max range peak\n%%\nseries 1 3 3 2 2 1 4\n",
+        taken: b"meets\nvalue r 1\nvalue m 1\n",
+        status: Status::Done,
+    },
+    Case {
+        input: b"cells 3\nterm s = sum range decreasing\nterm k = min range peak\n%%\nseries 5 3 1\n",
+        taken: b"meets\nvalue s 4\nvalue k +inf\n",
+        status: Status::Done,
+    },
+    Case {
+        input: b"cells 2\nterm s = sum range peak\nterm m = max range peak\nterm k = min range steady\n%%\nseries -7 -7\n",
+        taken: b"meets\nvalue s 0\nvalue m -inf\nvalue k 0\n",
+        status: Status::Done,
+    },
+    Case {
+        input: b"cells 3\nterm r = count range peak\n",
+        taken: b"refused model line 2 shape\n",
+        status: Status::Refused,
+    },
+    Case {
+        input: b"cells 3\nterm r = sum range hill\n",
+        taken: b"refused model line 2 unknownname\n",
+        status: Status::Refused,
+    },
     Case {
         input: b"cells 7\ndomain 0..9\nterm w = sum width peak\n%%\nseries 1 3 3 2 2 1 4\n",
         taken: b"meets\nvalue w 4\n",

@@ -4,7 +4,18 @@ use super::{Case, first_wrong};
 use std::alloc::AllocError;
 use ts_run::Status;
 
-static CASES: [Case; 24] = [
+static CASES: [Case; 25] = [
+    Case {
+        input: b"cells 2\nterm r = sum range decreasing\n",
+        taken: b"term r sum range decreasing\nforward wide\nstate s free\nstart 0 0 -inf +inf 0\n\
+            move s < s ; C ; E ; D ; F ; R\nmove s = s ; C ; E ; D ; F ; R\n\
+            move s > s ; C ; E ; -inf ; +inf ; add R sub max max D x y min min F x y\n\
+            finish add R sub C E same\nend\nreverse wide\nstate s free\nstart 0 0 -inf +inf 0\n\
+            move s < s ; C ; E ; -inf ; +inf ; add R sub max max D x y min min F x y\n\
+            move s = s ; C ; E ; D ; F ; R\nmove s > s ; C ; E ; D ; F ; R\n\
+            finish add R sub C E same\nend\nglue 0 range x\nend\n",
+        status: Status::Done,
+    },
     Case {
         input: b"cells 3\nterm c = count decreasing\n",
         taken: b"term c sum one decreasing\nforward\nstate s free\nstart 0 1 0\nmove s < s ; C ; D ; R\n\

@@ -58,9 +58,10 @@ fn is_of_peaks(alloc: Global, peak: &Automaton) -> Result<bool, AllocError> {
     )
 }
 
-fn answers(peak: &Automaton, series: &[i64], width: i64) -> bool {
-    peak.finish(after(peak, series), 9) == Ext::Int(width)
-        && span_of(peak, series) == Span::one(Ext::Int(width))
+/// Whether the automaton answers this number, on numbers and on spans.
+pub(super) fn answers(automaton: &Automaton, series: &[i64], number: i64) -> bool {
+    automaton.finish(after(automaton, series), 9) == Ext::Int(number)
+        && span_of(automaton, series) == Span::one(Ext::Int(number))
 }
 
 /// The first series that has another answer.
@@ -132,13 +133,30 @@ fn spans_under_marks(rt: HostRuntime) {
     }
 }
 
-fn is_none(c: Span, d: Span, r: Span) -> bool {
-    Hull { c, d, r }.is_none()
+/// The span of 0, or none for the register at a place.
+fn span_at(register: u8, place: u8) -> Span {
+    if register == place {
+        Span::none()
+    } else {
+        Span::one(ZERO)
+    }
+}
+
+/// The hull of zeros, but that the register at a place has none.
+fn hull_without(place: u8) -> Hull {
+    Hull {
+        c: span_at(0, place),
+        e: span_at(1, place),
+        d: span_at(2, place),
+        f: span_at(3, place),
+        r: span_at(4, place),
+    }
 }
 
 #[test]
 fn hulls_without_registers(rt: HostRuntime) {
-    let (none, one) = (Span::none(), Span::one(ZERO));
-    assert!(rt; Hull::none().is_none() && !is_none(one, one, one));
-    assert!(rt; is_none(none, one, one) && is_none(one, none, one) && is_none(one, one, none));
+    assert!(rt; Hull::none().is_none() && !hull_without(5).is_none());
+    for place in 0..5 {
+        assert!(rt; hull_without(place).is_none(), "register {place}");
+    }
 }
