@@ -46,7 +46,7 @@ pub use never::{NeverSink, NeverSource};
 pub use op::Op;
 pub use outside::{Sink, Source};
 pub use range::{Join, Kind, Range};
-pub use read_write::{ReadStop, read_all, take_all, write_all};
+pub use read_write::{PIECE, ReadStop, read_all, read_front, take_all, write_all, zeros};
 pub use span::Span;
 pub use standard::{StdIn, StdOut};
 pub use text::{push_ext, push_number};

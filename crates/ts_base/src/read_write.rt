@@ -42,8 +42,8 @@ impl From<Memory> for ReadStop {
     }
 }
 
-/// A read asks for at most this many bytes.
-const PIECE: usize = 65_536;
+/// How many bytes a read asks for at most.
+pub const PIECE: usize = 65_536;
 
 /// All bytes that `source` has left, where they are at most `limit`.
 ///
@@ -117,8 +117,13 @@ pub fn take_all<S: Source, I: Intake>(
     }
 }
 
-/// Reads at most `room` bytes into the front of the buffer.
-fn read_front<S: Source>(source: &mut S, buffer: &mut [u8], room: usize) -> Result<usize, Failed>
+/// Reads at most `room` bytes into the front of the buffer, and says how many came: none exactly where the source has
+/// ended. `Failed` comes only where the read failed, and then the source has given nothing.
+pub fn read_front<S: Source>(
+    source: &mut S,
+    buffer: &mut [u8],
+    room: usize,
+) -> Result<usize, Failed>
     requires { (0 < room) × (room ≤ length buffer.old) }
     ensures size { length buffer.new ≡ length buffer.old }
     ensures within { IfOk result (λ m. m ≤ room) }
@@ -136,8 +141,8 @@ fn read_front<S: Source>(source: &mut S, buffer: &mut [u8], room: usize) -> Resu
     source.read(&mut buffer[..room])
 }
 
-/// A buffer of this length.
-fn zeros(alloc: Global, length: usize) -> Result<Vec<u8>, Memory>
+/// A buffer of `length` bytes, each 0. `Memory` is the only refusal.
+pub fn zeros(alloc: Global, length: usize) -> Result<Vec<u8>, Memory>
     ensures { IfOk result (λ buffer. vec_len buffer ≡ length) }
 {
     let mut buffer = Vec::new(alloc);

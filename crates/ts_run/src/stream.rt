@@ -13,10 +13,7 @@ use crate::live::Live;
 use crate::status::Status;
 use crate::write::write_reply;
 use std::alloc::Global;
-use ts_base::{Failed, Memory, Sink, Source, write_all};
-
-/// A read asks for at most this many bytes.
-const PIECE: usize = 65_536;
+use ts_base::{Memory, PIECE, Sink, Source, read_front, write_all, zeros};
 
 /// Answers a stream as it comes: reads a piece, writes what it owes, and reads on, up to the end, to the first piece
 /// that ends the stream, or to one byte more than `limit`. Nothing is kept but the piece and what it owes.
@@ -115,32 +112,4 @@ fn end_stream<L: Live, K: Sink>(live: &mut L, text: &mut Vec<u8>, sink: &mut K) 
         Ok(status) => write_reply(sink, text, status),
         Err(Memory) => Status::Memory,
     }
-}
-
-/// Reads at most `room` bytes into the front of the buffer.
-fn read_front<S: Source>(source: &mut S, buffer: &mut [u8], room: usize) -> Result<usize, Failed>
-    requires { (0 < room) × (room ≤ length buffer.old) }
-    ensures size { length buffer.new ≡ length buffer.old }
-    ensures within { IfOk result (λ m. m ≤ room) }
-    ensures gave { IfOk result (λ m. S.left source.old ≡ put_back (take m buffer.new) (S.left source.new)) }
-    ensures end { IfOk result (λ m. m ≡ 0 → AtEnd (S.left source.old)) }
-    ensures found { IfOk result (λ m. m ≡ 0 → S.source_ends source.new ≡ one_more (S.source_ends source.old)) }
-    ensures before { MatchResult result (λ m. 0 < m → S.source_ends source.new ≡ S.source_ends source.old)
-        (λ _. S.source_ends source.new ≡ S.source_ends source.old) }
-    ensures kept { OnErr result (S.left source.new ≡ S.left source.old) }
-    ensures cause { OnErr result (Rose (S.source_faults source.old) (S.source_faults source.new)) }
-    ensures broken { OnErr result (IsTrue (S.source_broken source.new)) }
-    ensures calm { OnOk result (S.source_faults source.new ≡ S.source_faults source.old) }
-    ensures later { S.source_faults source.old ≤ S.source_faults source.new }
-{
-    source.read(&mut buffer[..room])
-}
-
-/// A buffer of this length.
-fn zeros(alloc: Global, length: usize) -> Result<Vec<u8>, Memory>
-    ensures { IfOk result (λ buffer. vec_len buffer ≡ length) }
-{
-    let mut buffer = Vec::new(alloc);
-    buffer.resize(length, 0)?;
-    Ok(buffer)
 }
