@@ -42,7 +42,7 @@ impl Hull {
         }
     }
 
-    /// Whether no registers lie in the hull.
+    /// Whether no registers lie in the hull. All five spans are read, without a branch: this is asked of every hull.
     pub fn is_none(&self) -> bool
         ensures { result ≡ not (has_registers (spans_of self.now)) }
     {
