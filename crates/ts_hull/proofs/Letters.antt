@@ -1,5 +1,5 @@
 -- Letters as orders.
-use Rattle.std.proofs.Common.{◌≡◌, Bool, true, false, cond, ℤ, refl, sym, ◌∙◌, ap, arith, int_lt}
+use Rattle.std.proofs.Common.{◌≡◌, Bool, true, false, cond, ℤ, refl, sym, arith, int_lt}
 use Rattle.std.specs.Ordering.{int_eq}
 use Rattle.std.proofs.lemmas.Bool.Decides.{Decides-int_eq}
 use Rattle.std.proofs.lemmas.Int.{ints}
@@ -46,12 +46,5 @@ equal_is v w = go (int_lt v w) (int_lt w v) refl refl
     go true b e f = sym (not_equal v w (below_apart v w e))
     go false true e f = sym (not_equal v w (λ s. below_apart w v f (sym s)))
     go false false e f = sym ((Decides-int_eq v w).1 (neither_is v w e f))
-
-pub less_not_equal : (v w : ℤ) → int_lt v w ≡ true → same_letter (letter_of v w) Equal ≡ false
-less_not_equal v w h = ap (λ a. same_letter (cond a Less (cond (int_lt w v) Greater Equal)) Equal) h
-
-pub greater_not_equal : (v w : ℤ) → int_lt w v ≡ true → same_letter (letter_of v w) Equal ≡ false
-greater_not_equal v w h =
-    ap (λ a. same_letter (cond a Less (cond (int_lt w v) Greater Equal)) Equal) (not_both w v h) ∙ ap (λ a. same_letter (cond a Greater Equal) Equal) h
 
 pub ruleset letters_are = (less_is, equal_is, greater_is)

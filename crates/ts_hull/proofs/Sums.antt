@@ -1,5 +1,5 @@
 -- Hulls of many: in any order, cut in two, with what gives nothing left out.
-use Rattle.std.proofs.Common.{◌≡◌, ℕ, zero, suc, ◌+◌, ◌<◌, ◌≤◌, Bool, true, false, cond, List, [], ◌∷◌, ◌++◌, refl, sym, ◌∙◌, ap, arith}
+use Rattle.std.proofs.Common.{◌≡◌, ℕ, zero, suc, ◌<◌, Bool, true, false, cond, List, [], ◌∷◌, ◌++◌, refl, sym, ◌∙◌, ap, arith}
 use Rattle.std.specs.Prelude.{fold}
 use Rattle.std.proofs.lemmas.List.Sums.{fold-append}
 use Rattle.ts_automaton.specs.declared.regs.Hull.{Hull}
@@ -50,23 +50,6 @@ total_canon (suc n) f = ap (λ z. hull_of_both z (hull_of_both (f n) none)) (tot
 pub total_cond : (b : Bool) (n : ℕ) (f : ℕ → Hull) → total n (λ i. cond b (f i) none) ≡ cond b (total n f) none
 total_cond true n f = refl
 total_cond false n f = total_none n
-
--- only the first k count
-pub total_cut : (n d k : ℕ) (b : ℕ → Bool) (g : ℕ → Hull) → n ≡ k + d → ((i : ℕ) → i < k → b i ≡ true) → ((i : ℕ) → k ≤ i → i < n → b i ≡ false) →
-    total n (λ i. cond (b i) (g i) none) ≡ total k g
-unfolding total
-total_cut n zero k b g e t f =
-    let same : n ≡ k = omega arith in
-    ap (λ z. total z (λ i. cond (b i) (g i) none)) same ∙ total_same k (λ i. cond (b i) (g i) none) g (λ i l. ap (λ v. cond v (g i) none) (t i l))
-total_cut zero (suc d) k b g e t f = absurd (omega arith)
-total_cut (suc n) (suc d) k b g e t f =
-    ap (λ v. hull_of_both (total n (λ i. cond (b i) (g i) none)) (cond v (g n) none)) (f n (omega arith) (omega arith))
-    ∙ total_canonical n (λ i. cond (b i) (g i) none)
-    ∙ total_cut n d k b g (omega arith) t (λ i l m. f i l (omega arith))
-
--- where none counts
-pub total_nothing : (n : ℕ) (b : ℕ → Bool) (g : ℕ → Hull) → ((i : ℕ) → i < n → b i ≡ false) → total n (λ i. cond (b i) (g i) none) ≡ none
-total_nothing n b g f = total_same n (λ i. cond (b i) (g i) none) (λ i. none) (λ i l. ap (λ v. cond v (g i) none) (f i l)) ∙ total_none n
 
 -- the first one apart
 pub total_first : (n : ℕ) (f : ℕ → Hull) → total (suc n) f ≡ hull_of_both (hull_of_both none (f 0)) (total n (λ i. f (suc i)))

@@ -1,6 +1,6 @@
 -- How sweeps make a row: move by move, each over the values in the order of its letter.
-use Rattle.std.specs.Prelude.{◌≡◌, ℕ, zero, suc, ◌+◌, ◌-◌, ◌*◌, ◌<◌, ◌≤◌, Bool, true, false, cond}
-use Rattle.std.specs.Prelude.{◌&&◌, ◌||◌, nat_lt, int_lt, int_le, ℤ, pos, neg_ℤ, ◌+ℤ◌, ◌-ℤ◌, ◌<ℤ◌, ◌≤ℤ◌, List, length, get_or, set}
+use Rattle.std.specs.Prelude.{◌≡◌, ℕ, zero, suc, ◌+◌, ◌-◌, ◌*◌, Bool, true, false, cond}
+use Rattle.std.specs.Prelude.{◌||◌, ℤ, pos, List, length, get_or, set}
 use Rattle.ts_base.specs.declared.letter.Letter.{Letter}
 use Rattle.ts_base.specs.declared.letter.Letter.TheVariants.{Less, Equal, Greater}
 use Rattle.ts_base.specs.Signature.{letter_of}
@@ -8,8 +8,6 @@ use Rattle.ts_automaton.specs.declared.regs.Hull.{Hull}
 use Rattle.ts_automaton.specs.Body.{Body, Move}
 use Rattle.ts_hull.specs.Hulls.{none, hull_of_both}
 use Rattle.ts_hull.specs.Sealed.{after_move, move_at}
-use Rattle.ts_hull.specs.Cuts.{Cut, front_hull}
-use Rattle.ts_hull.specs.Smalls.{Rises, small_int, small_hull}
 
 -- the hull of f 0, .., f (n - 1)
 unfoldable pub total : ℕ → (ℕ → Hull) → Hull
@@ -65,24 +63,6 @@ unfoldable pub with_move : Move → Letter → ℕ → ℕ → List ℤ → List
 with_move m l s q vs row ws next =
     puts s m.next (step_place l (length ws)) (λ j. move_entry m l s q vs row (get_or ws j (pos 0))) next (length ws)
 
--- what a move gives to the next value w on a letter, and on `=` too where it is the same there
-unfoldable pub sweep_entry : Move → Letter → Bool → ℕ → ℕ → List ℤ → List Hull → ℤ → Hull
-sweep_entry m l twin s q vs row w =
-    let here = move_entry m l s q vs row w in
-    cond twin (hull_of_both here (move_entry m Equal s q vs row w)) here
-
--- a move is taken in on a letter, and on `=` too where it is the same there
-unfoldable pub with_sweep : Move → Letter → Bool → ℕ → ℕ → List ℤ → List Hull → List ℤ → List Hull → List Hull
-with_sweep m l twin s q vs row ws next =
-    puts s m.next (step_place l (length ws)) (λ j. sweep_entry m l twin s q vs row (get_or ws j (pos 0))) next
-    (length ws)
-
--- the running hull: the fronts of the first n values in the order of the letter
-unfoldable pub fronts : Cut → Letter → ℕ → ℕ → List ℤ → List Hull → ℕ → Hull
-fronts k l s q vs row n =
-    let at = step_place l (length vs) in
-    total n (λ i. front_hull k (hull_in s q row (at i)) (get_or vs (at i) (pos 0)))
-
 -- the moves of state q, and of the first n states
 unfoldable pub with_state : Body → List ℤ → List Hull → List ℤ → ℕ → List Hull → List Hull
 with_state b vs row ws q next =
@@ -94,62 +74,10 @@ unfoldable pub with_states : Body → List ℤ → List Hull → List ℤ → �
 with_states b vs row ws zero next = next
 with_states b vs row ws (suc n) next = with_state b vs row ws n (with_states b vs row ws n next)
 
--- both places compare as the letter says
-abbrev pub fits : Letter → List ℤ → ℕ → List ℤ → ℕ → Bool
-fits l vs i ws j = same_letter (letter_of (get_or vs i (pos 0)) (get_or ws j (pos 0))) l
-
 -- a value compares with the next one as the letter says, or is equal where a twin is taken in too
 abbrev pub compares : Letter → Bool → ℤ → ℤ → Bool
 compares l twin v w =
     cond twin (same_letter (letter_of v w) l || same_letter (letter_of v w) Equal) (same_letter (letter_of v w) l)
-
-abbrev pub takes : Letter → Bool → List ℤ → ℕ → ℤ → Bool
-takes l twin vs i w = compares l twin (get_or vs i (pos 0)) w
-
--- at step k of a sweep so many values are passed as k and the lead are together
-abbrev pub Leads : Letter → Bool → List ℤ → List ℤ → ℤ → Type 0
-Leads l twin vs ws lead =
-    (i k : ℕ) → i < length vs → k < length ws →
-    takes l twin vs (step_place l (length vs) i) (get_or ws (step_place l (length ws) k) (pos 0))
-    ≡ int_lt (pos i) (pos k +ℤ lead)
-
--- without a twin, of n values from a on and m next ones from b on
-abbrev pub ahead : Letter → ℤ → ℕ → ℤ → ℕ → ℤ
-ahead Less a n b m = b -ℤ a
-ahead Equal a n b m = b -ℤ a
-ahead Greater a n b m = (a +ℤ pos n) -ℤ (b +ℤ pos m)
-
-abbrev pub IsLead : ℤ → Type 0
-IsLead x = (neg_ℤ (pos 30000000000000000) ≤ℤ x) × (x ≤ℤ pos 30000000000000000)
-
-abbrev pub IsWide : ℤ → Type 0
-IsWide x = (neg_ℤ (pos 40000000000000000) ≤ℤ x) × (x ≤ℤ pos 40000000000000000)
-
--- of n values those before place `at` are passed, which are those before `to`
-pub record IsReached (n : ℕ) (to : ℤ) (at : ℕ) : Type 0 where
-  pub inside : at ≤ n
-  pub passed : (i : ℕ) → i < at → pos i <ℤ to
-  pub rest : at < n → to ≤ℤ pos at
-
--- the front of the value at place `at`, where it is equal to the next one at place j
-unfoldable pub equal_front : Cut → ℕ → ℕ → List ℤ → List Hull → List ℤ → ℕ → ℕ → Hull
-equal_front k s q vs row ws j at =
-    let there = nat_lt at (length vs) && fits Equal vs at ws j in
-    hull_of_both none (cond there (front_hull k (hull_in s q row at) (get_or vs at (pos 0))) none)
-
--- a value from low to high may compare so with a next one from low' to high'
-abbrev pub may_fit : Letter → ℤ → ℤ → ℤ → ℤ → Bool
-may_fit Less low high low' high' = int_lt low high'
-may_fit Equal low high low' high' = int_le low high' && int_le low' high
-may_fit Greater low high low' high' = int_lt low' high
-
--- what a sweep needs of the two cells and of the row before
-pub record IsSweepable (vs ws : List ℤ) (row : List Hull) : Type 0 where
-  pub rises : Rises vs
-  pub next_rises : Rises ws
-  pub small : (i : ℕ) → small_hull (get_or row i none) ≡ true
-  pub small_values : (i : ℕ) → small_int (get_or vs i (pos 0)) ≡ true
-  pub small_next : (i : ℕ) → small_int (get_or ws i (pos 0)) ≡ true
 
 -- each hull of the row stays as it is beside none
 abbrev pub AllTakeNone : List Hull → Type 0
