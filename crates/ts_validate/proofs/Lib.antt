@@ -10,6 +10,7 @@ pub mod FactsOf
 pub mod LeftOver
 pub mod Looking
 pub mod Numbering
+pub mod Knowing
 pub mod Transfer
 pub mod Values
 pub mod Seeing

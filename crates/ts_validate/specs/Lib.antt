@@ -1,4 +1,5 @@
 pub mod Numbers
+pub mod ResidualTables
 pub mod Facts
 pub mod Looks
 pub mod Reaches

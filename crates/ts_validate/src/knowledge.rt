@@ -1,15 +1,16 @@
 //! What is known of a plan's residuals, by their numbers, so that a step compares numbers alone.
 
 ghost use Rattle.std.specs.Prelude.{◌≡◌, ◌<◌, length, map, IfOk};
-ghost use Rattle.std.specs.List.{position};
-ghost use Rattle.ts_regex.specs.NormalForm.{same_shape};
 ghost use Rattle.ts_regex.specs.Shape.{shape_of};
-ghost use Rattle.ts_validate.specs.Numbers.{number_of, next_number, known_of, table_of, known_at, next_on};
+ghost use Rattle.ts_forms.specs.Nodes.{form_at};
+ghost use Rattle.ts_validate.specs.Numbers.{known_of, table_of, known_at, next_on};
+ghost use Rattle.ts_validate.specs.ResidualTables.{residuals_of, IsSound};
 
+use crate::residuals::Residuals;
 use crate::words::Words;
 use std::alloc::Global;
 use ts_base::{Letter, Memory};
-use ts_regex::{Regex, has_word, residual};
+use ts_regex::Regex;
 
 /// A residual: the numbers of the residuals after each letter, the least number with its value, and which words it
 /// has.
@@ -57,46 +58,26 @@ pub fn look_up(table: &[Knowledge], i: u32) -> Knowledge
     }
 }
 
-fn place(residuals: &[Regex], r: &Regex) -> Option<usize>
-    ensures { result ≡ position (λ s. same_shape (shape_of s) (shape_of r.now)) residuals.now }
+fn know(alloc: Global, residuals: &mut Residuals, i: usize) -> Result<Knowledge, Memory>
+    requires sound { IsSound residuals.old }
+    requires there { i < length residuals.old.numbers.items }
+    requires room { length residuals.old.numbers.items < 4000000000 }
+    ensures sound { IfOk result (λ _. IsSound residuals.new) }
+    ensures numbers { IfOk result (λ _. residuals.new.numbers.items ≡ residuals.old.numbers.items) }
+    ensures residuals { IfOk result (λ _. residuals_of residuals.new ≡ residuals_of residuals.old) }
+    ensures known { IfOk result (λ k. k
+        ≡ known_of (residuals_of residuals.old) (form_at (residuals_of residuals.old) i)) }
 {
-    residuals.iter().position(|s| s.same(r))
-}
-
-/// The least number of a residual, or the number of all residuals plus 1.
-fn number(residuals: &[Regex], r: &Regex) -> u32
-    requires { length residuals.now < 4000000000 }
-    ensures { result ≡ number_of (map (λ s. shape_of s) residuals.now) (shape_of r.now) }
-{
-    match place(residuals, r) {
-        Some(i) => i as u32,
-        None => residuals.len() as u32 + 1,
-    }
-}
-
-/// The number after a letter; the number of all residuals where no word is left.
-fn next(alloc: Global, residuals: &[Regex], r: &Regex, letter: Letter) -> Result<u32, Memory>
-    requires { length residuals.now < 4000000000 }
-    ensures { IfOk result (λ n. n ≡ next_number (map (λ s. shape_of s) residuals.now) (shape_of r.now) letter) }
-{
-    let rest = residual(alloc, r, letter)?;
-    if has_word(&rest) {
-        Ok(number(residuals, &rest))
-    } else {
-        Ok(residuals.len() as u32)
-    }
-}
-
-fn know(alloc: Global, residuals: &[Regex], r: &Regex) -> Result<Knowledge, Memory>
-    requires { length residuals.now < 4000000000 }
-    ensures { IfOk result (λ k. k ≡ known_of (map (λ s. shape_of s) residuals.now) (shape_of r.now)) }
-{
+    let less = residuals.next(alloc, i, Letter::Less)?;
+    let equal = residuals.next(alloc, i, Letter::Equal)?;
+    let greater = residuals.next(alloc, i, Letter::Greater)?;
+    let form = residuals.form(i);
     Ok(Knowledge {
-        less: next(alloc, residuals, r, Letter::Less)?,
-        equal: next(alloc, residuals, r, Letter::Equal)?,
-        greater: next(alloc, residuals, r, Letter::Greater)?,
-        own: number(residuals, r),
-        words: Words::of(r),
+        less,
+        equal,
+        greater,
+        own: residuals.number(form),
+        words: residuals.words(form),
     })
 }
 
@@ -105,9 +86,10 @@ pub fn know_all(alloc: Global, residuals: &[Regex]) -> Result<Vec<Knowledge>, Me
     requires { length residuals.now < 4000000000 }
     ensures { IfOk result (λ table. table.items ≡ table_of (map (λ s. shape_of s) residuals.now)) }
 {
+    let mut listed = Residuals::of(alloc, residuals)?;
     let mut table = Vec::new(alloc);
-    for r in residuals {
-        table.push(know(alloc, residuals, r)?)?;
+    for i in 0..residuals.len() {
+        table.push(know(alloc, &mut listed, i)?)?;
     }
     Ok(table)
 }

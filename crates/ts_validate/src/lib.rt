@@ -5,8 +5,9 @@
 //! the plan is closed, and that is proof enough: for every signature the ranges that the transducer decodes are the
 //! e-ranges of the occurrences, in their order. `Validated` carries that fact to the layers above.
 //!
-//! The plan's residuals are compared once, when their numbers are looked up; each step then compares numbers alone,
-//! so that a plan takes as many comparisons of entries as it has configurations times steps.
+//! The plan's residuals are looked up once, in a table of expressions in which what a letter leaves of a part is worked
+//! out once. Each step then compares numbers alone, so that a plan takes as many comparisons of entries as it has
+//! configurations times steps.
 //!
 //! ```text
 //! let validated = validate(alloc, seed.transducer, &peak, &seed.plan)?;
@@ -20,6 +21,7 @@ mod facts;
 mod failure;
 mod knowledge;
 pub mod laws;
+mod residuals;
 mod step;
 mod stop;
 mod tags;
