@@ -26,19 +26,19 @@ ends_small rs p a is =
     let l = value_within rs p.low a is.1 in let h = value_within rs p.high a is.2 in (small_is p.low l.0 l.1, small_is p.high h.0 h.1)
 
 -- what two machine tests tell
-le_is : (x y a b : ℤ) → x ≡ a → y ≡ b → int_le x y ≡ true → a ≤ℤ b
+pub le_is : (x y a b : ℤ) → x ≡ a → y ≡ b → int_le x y ≡ true → a ≤ℤ b
 le_is x y a b e f h = true_le a b (sym (ap (λ x. int_le x y) e ∙ ap (int_le a) f) ∙ h)
 
-lt_is : (x y a b : ℤ) → x ≡ a → y ≡ b → int_lt x y ≡ true → a <ℤ b
+pub lt_is : (x y a b : ℤ) → x ≡ a → y ≡ b → int_lt x y ≡ true → a <ℤ b
 lt_is x y a b e f h = true_lt a b (sym (ap (λ x. int_lt x y) e ∙ ap (int_lt a) f) ∙ h)
 
-not_le : (x y a b : ℤ) → x ≡ a → y ≡ b → int_le x y ≡ false → b <ℤ a
+pub not_le : (x y a b : ℤ) → x ≡ a → y ≡ b → int_le x y ≡ false → b <ℤ a
 not_le x y a b e f h = turn a b (sym (ap (λ x. int_le x y) e ∙ ap (int_le a) f) ∙ h)
   where
     turn : (a b : ℤ) → int_le a b ≡ false → b <ℤ a
     turn a b h = grind (arith, ints)
 
-not_lt : (x y a b : ℤ) → x ≡ a → y ≡ b → int_lt x y ≡ false → b ≤ℤ a
+pub not_lt : (x y a b : ℤ) → x ≡ a → y ≡ b → int_lt x y ≡ false → b ≤ℤ a
 not_lt x y a b e f h = turn a b (sym (ap (λ x. int_lt x y) e ∙ ap (int_lt a) f) ∙ h)
   where
     turn : (a b : ℤ) → int_lt a b ≡ false → b ≤ℤ a

@@ -17,6 +17,8 @@ pub mod MarkedSets
 pub mod MarkKept
 pub mod Wholes
 pub mod SameSets
+pub mod Stretches
+pub mod PlaceLaws
 pub mod Unions
 pub mod Joins
 pub mod Trails

@@ -100,13 +100,13 @@ pub one_before : (m : Mark) (self a b c : List Mark) → MarksFrom bottom self �
 one_before m self a b c h cut from to = marks_back bottom a (m ∷ c) (with_mark m self a b c h cut from to)
 
 -- the marks that pass a test
-passing : (test : Mark → Bool) (P : Mark → Type 0) → ((m : Mark) → P m → test m ≡ true) → (xs ys : List Mark) → AllByRecursion P xs →
+pub passing : (test : Mark → Bool) (P : Mark → Type 0) → ((m : Mark) → P m → test m ≡ true) → (xs ys : List Mark) → AllByRecursion P xs →
     filter test (xs ++ ys) ≡ xs ++ filter test ys
 passing test P passes [] ys h = refl
 passing test P passes (x ∷ xs) ys h =
     ap (λ b. cond b (x ∷ filter test (xs ++ ys)) (filter test (xs ++ ys))) (passes x h.0) ∙ ap (λ l. x ∷ l) (passing test P passes xs ys h.1)
 
-failing : (test : Mark → Bool) (P : Mark → Type 0) → ((m : Mark) → P m → test m ≡ false) → (xs ys : List Mark) → AllByRecursion P xs →
+pub failing : (test : Mark → Bool) (P : Mark → Type 0) → ((m : Mark) → P m → test m ≡ false) → (xs ys : List Mark) → AllByRecursion P xs →
     filter test (xs ++ ys) ≡ filter test ys
 failing test P fails [] ys h = refl
 failing test P fails (x ∷ xs) ys h =

@@ -1,5 +1,6 @@
 -- Sets of numbers as their rising lists, and the ranges that keep them.
-use Rattle.std.specs.Prelude.{◌≢◌, ℕ, zero, suc, ℤ, pos, negsuc, neg_ℤ, ◌+ℤ◌, ◌-ℤ◌, ◌≤ℤ◌, ◌<ℤ◌, List, [], ◌∷◌, ◌++◌, get_or}
+use Rattle.std.specs.Prelude.{◌≡◌, ◌≢◌, ℕ, zero, suc, ◌+◌, Some, slice_get}
+use Rattle.std.specs.Prelude.{ℤ, pos, negsuc, neg_ℤ, ◌+ℤ◌, ◌-ℤ◌, ◌≤ℤ◌, ◌<ℤ◌, List, [], ◌∷◌, ◌++◌, get_or}
 use Rattle.std.specs.List.{AllByRecursion}
 use Rattle.ts_base.specs.Limits.{greatest_value, IsCellValue}
 use Rattle.ts_domain.specs.declared.interval.Interval.{Interval}
@@ -36,6 +37,25 @@ run low (suc n) = low ∷ run (low +ℤ pos 1) n
 -- the numbers from `low` to `high`
 unfoldable pub values_between : ℤ → ℤ → List ℤ
 values_between low high = run low (to_natural ((high +ℤ pos 1) -ℤ low))
+
+-- the set is one range within the limits
+pub record IsRange (values : List ℤ) (r : Interval) : Type 0 where
+  pub same : values ≡ values_between r.low r.high
+  pub from : neg_ℤ greatest_value ≤ℤ r.low
+  pub ordered : r.low ≤ℤ r.high
+  pub to : r.high ≤ℤ greatest_value
+
+-- the numbers from `next` to `last` stand one behind the other from a place on
+abbrev pub StandFrom : List ℤ → ℕ → ℤ → ℤ → Type 0
+StandFrom values place next last =
+    (w : ℤ) → next ≤ℤ w → w ≤ℤ last → slice_get values (place + to_natural (w -ℤ next)) ≡ Some w
+
+-- the numbers from `next` to `last`, if there are any, stand from a place on, and are within the limits
+pub record AreNext (values : List ℤ) (place : ℕ) (next last : ℤ) : Type 0 where
+  pub from : neg_ℤ greatest_value ≤ℤ next
+  pub ordered : next ≤ℤ (last +ℤ pos 1)
+  pub to : last ≤ℤ greatest_value
+  pub stand : StandFrom values place next last
 
 -- the numbers of the ranges, one range after the other
 unfoldable pub values_of : List Interval → List ℤ

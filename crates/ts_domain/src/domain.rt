@@ -1,11 +1,12 @@
 //! Non-empty finite sets of numbers.
 
-ghost use Rattle.std.specs.Prelude.{◌≡◌, ◌≢◌, ◌<◌, ◌≤ℤ◌, ◌↔◌, ℤ, ◌⊎◌};
-ghost use Rattle.std.specs.Prelude.{[], length, slice_get, Some, IsTrue, IfOk, All, Contains};
+ghost use Rattle.std.specs.Prelude.{◌≡◌, ◌≢◌, ◌<◌, ◌≤ℤ◌, ◌↔◌, ℤ, neg_ℤ, ◌⊎◌};
+ghost use Rattle.std.specs.Prelude.{[], length, slice_get, Some, IsTrue, IfOk, IfSome, All, Contains};
+ghost use Rattle.ts_base.specs.Limits.{greatest_value};
 ghost use Rattle.ts_domain.specs.Kept.{values_kept, values_up_to, values_above, values_without};
 ghost use Rattle.ts_domain.specs.Marks.{put_back};
 ghost use Rattle.ts_domain.specs.Union.{InSome, InSomeRange, IsUsable, SomeEmpty};
-ghost use Rattle.ts_domain.specs.Values.{IsDomain, WithinLimits, least_of, values_of, AreRanges};
+ghost use Rattle.ts_domain.specs.Values.{IsDomain, IsRange, StandFrom, WithinLimits, least_of, values_of, AreRanges};
 
 use crate::counted::CountedRanges;
 use crate::cut::{above, up_to};
@@ -13,7 +14,7 @@ use crate::interval::Interval;
 use crate::keep::{Keep, singles};
 use crate::marks::{Mark, Marks, Node};
 use crate::merge::{has_no_union, joined, ranges_of, union_of};
-use crate::pieces::{count_in, has_in, with_more};
+use crate::pieces::{count_in, count_up_to, end_in, has_in, with_more};
 use crate::stop::DomainStop;
 use crate::values::{Values, walk};
 use smallvec::SmallVec;
@@ -111,7 +112,21 @@ impl Domain {
         ensures size { result ≡ length self.now }
         ensures domain { IsDomain self.now }
     {
+        if let Some(range) = self.as_range() {
+            return range.count();
+        }
         with_more(count_in(&*self.ranges, self.piece), self.marks.more())
+    }
+
+    /// The set as one range, where no number has to be looked for: most sets are one.
+    fn as_range(&self) -> Option<Interval>
+        ensures { IfSome result (IsRange self.now) }
+    {
+        if self.marks.is_empty() && self.ranges.items.len() == 1 {
+            Some(self.piece)
+        } else {
+            None
+        }
     }
 
     /// The number at place `i` in rising order, counted from 0.
@@ -119,8 +134,50 @@ impl Domain {
         requires { i < length self.now }
         ensures { slice_get self.now i ≡ Some result }
     {
+        if let Some(range) = self.as_range() {
+            return range.low + i as i64;
+        }
         self.marks
             .nth_above(&*self.ranges, self.piece, BELOW_ALL, i)
+    }
+
+    /// The place of one of the numbers, counted from 0.
+    pub fn place_of(&self, v: i64) -> u64
+        requires { Contains self.now v }
+        ensures { slice_get self.now result ≡ Some v }
+    {
+        if let Some(range) = self.as_range() {
+            return (v - range.low) as u64;
+        }
+        let count = count_up_to(&*self.ranges, self.piece, v);
+        with_more(count, self.marks.more_up_to(v)) - 1
+    }
+
+    /// The number at place `i`, and how far the numbers follow one another from there without a gap.
+    pub(crate) fn run_from(&self, i: u64) -> Interval
+        requires { i < length self.now }
+        ensures from { neg_ℤ greatest_value ≤ℤ result.low }
+        ensures ordered { result.low ≤ℤ result.high }
+        ensures to { result.high ≤ℤ greatest_value }
+        ensures stand { StandFrom self.now i result.low result.high }
+    {
+        let low = self.nth(i);
+        Interval {
+            low,
+            high: self.run_end(low),
+        }
+    }
+
+    /// How far the numbers from one of them on follow one another without a gap: to the end of its range, the end of
+    /// the piece or the next mark.
+    fn run_end(&self, v: i64) -> i64
+        requires { Contains self.now v }
+        ensures from { v ≤ℤ result }
+        ensures all { (w : ℤ) → v ≤ℤ w → w ≤ℤ result → Contains self.now w }
+        ensures domain { IsDomain self.now }
+    {
+        let end = end_in(self.ranges.items.as_slice(), self.piece, v);
+        self.marks.free_to(v, end)
     }
 
     /// Whether both have the same ranges, piece and marks, and so the same numbers. It compares no numbers: of sets
@@ -141,8 +198,9 @@ impl Domain {
         ensures least { (v : ℤ) → Contains self.now v → result ≤ℤ v }
         ensures domain { IsDomain self.now }
     {
-        // a set has a number
-        self.size();
+        if self.marks.is_empty() {
+            return self.piece.low;
+        }
         self.nth(0)
     }
 
@@ -161,7 +219,7 @@ impl Domain {
         }
     }
 
-    /// The numbers in rising order, each at the cost of a search by halving.
+    /// The numbers in rising order; of those that follow one another without a gap only the first is searched for.
     pub fn values<'a>(&'a self) -> Values<'a>
         ensures { result ≡ self.now }
     {

@@ -1,6 +1,6 @@
 //! Where a number lies among the ranges of a set, found by halving.
 
-ghost use Rattle.std.specs.Prelude.{◌≡◌, ◌≤◌, neg_ℤ, IsTrue, ◌↔◌, length, int_le, int_lt, Contains};
+ghost use Rattle.std.specs.Prelude.{◌≡◌, ◌≤◌, ◌<ℤ◌, ◌≤ℤ◌, ℤ, neg_ℤ, IsTrue, ◌↔◌, length, int_le, int_lt, Contains};
 ghost use Rattle.ts_base.specs.Limits.{greatest_value};
 ghost use Rattle.ts_domain.specs.Values.{RangesFrom, values_of};
 ghost use Rattle.ts_domain.specs.Pieces.{leading_count, IsLastUpTo, IsFirstFrom, SomeUpTo, SomeFrom};
@@ -52,4 +52,18 @@ pub(crate) fn first_from(ranges: &[Interval], t: i64) -> i64
 {
     let ended = ended_below(ranges, t);
     ranges[ended].low.max(t)
+}
+
+/// The end of the range that has `t`, and `t` itself where none has it.
+pub(crate) fn range_end(ranges: &[Interval], t: i64) -> i64
+    requires { RangesFrom (neg_ℤ greatest_value) ranges.now }
+    ensures from { t ≤ℤ result }
+    ensures all { (w : ℤ) → t <ℤ w → w ≤ℤ result → Contains (values_of ranges.now) w }
+{
+    let at = ended_below(ranges, t);
+    if at < ranges.len() && ranges[at].low <= t {
+        ranges[at].high
+    } else {
+        t
+    }
 }

@@ -1,6 +1,6 @@
 //! A piece of ranges: how many numbers are in it, and which stands where.
 
-ghost use Rattle.std.specs.Prelude.{◌≡◌, ◌<◌, ◌≤◌, ◌<ℤ◌, ◌≤ℤ◌, ◌+ℤ◌, ◌↔◌, IsTrue, Contains, pos, neg_ℤ, filter};
+ghost use Rattle.std.specs.Prelude.{◌≡◌, ◌<◌, ◌≤◌, ◌<ℤ◌, ◌≤ℤ◌, ◌+ℤ◌, ◌↔◌, ℤ, IsTrue, Contains, pos, neg_ℤ, filter};
 ghost use Rattle.std.specs.Prelude.{int_lt, length, slice_get, Some};
 ghost use Rattle.ts_base.specs.Limits.{greatest_value};
 ghost use Rattle.ts_domain.specs.Kept.{values_up_to, values_above};
@@ -10,7 +10,7 @@ ghost use Rattle.ts_domain.specs.Pieces.{IsPiece, values_in};
 use crate::counted::CountedRanges;
 use crate::cut::up_to;
 use crate::interval::Interval;
-use crate::lookup::has;
+use crate::lookup::{has, range_end};
 
 /// Whether a piece has the number.
 pub(crate) fn has_in(ranges: &[Interval], piece: Interval, v: i64) -> bool
@@ -74,4 +74,17 @@ pub(crate) fn nth_in(ranges: &CountedRanges, piece: Interval, i: u64) -> i64
 {
     let at = ranges.place_of(piece.low) + i;
     ranges.at_place(at)
+}
+
+/// How far the numbers above `v` lie in a piece without a gap: to the end of the range of `v`, or of the piece.
+pub(crate) fn end_in(ranges: &[Interval], piece: Interval, v: i64) -> i64
+    requires apart { RangesFrom (neg_ℤ greatest_value) ranges.now }
+    requires piece { IsPiece (values_of ranges.now) piece }
+    ensures from { v ≤ℤ result }
+    ensures all { (w : ℤ) → v <ℤ w → w ≤ℤ result → Contains (values_in (values_of ranges.now) piece) w }
+{
+    if v < piece.low || piece.high < v {
+        return v;
+    }
+    range_end(ranges, v).min(piece.high)
 }

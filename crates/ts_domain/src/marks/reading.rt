@@ -1,10 +1,11 @@
 //! What is read of marks, and of a set that differs from a piece of ranges at them.
 
-ghost use Rattle.std.specs.Prelude.{◌≡◌, ◌<◌, ◌<ℤ◌, neg_ℤ, IsTrue, length, slice_get, Some};
+ghost use Rattle.std.specs.Prelude.{◌≡◌, ◌<◌, ◌<ℤ◌, ◌≤ℤ◌, ℤ, neg_ℤ, IsTrue};
+ghost use Rattle.std.specs.Prelude.{filter, int_le, length, slice_get, Some, None};
 ghost use Rattle.std.specs.List.{AllByRecursion};
 ghost use Rattle.ts_base.specs.Limits.{greatest_value};
 ghost use Rattle.ts_domain.specs.Kept.{values_above};
-ghost use Rattle.ts_domain.specs.Marks.{mark_at, AreTold, numbers};
+ghost use Rattle.ts_domain.specs.Marks.{gain, mark_at, AreTold, numbers};
 ghost use Rattle.ts_domain.specs.Pieces.{IsPiece, values_in};
 ghost use Rattle.ts_domain.specs.Values.{RangesFrom, values_of};
 
@@ -38,6 +39,39 @@ impl Marks {
                 }
             }
         }
+    }
+
+    /// How many numbers the set has more by the marks up to `t`.
+    pub(crate) fn more_up_to(&self, t: i64) -> i64
+        ensures { result ≡ gain (filter (λ m. int_le m.value t) self.now) }
+    {
+        let node = match &self.root {
+            Root::Empty => return 0,
+            Root::Full(node) => node,
+        };
+        if t < node.mark.value {
+            return node.before.more_up_to(t);
+        }
+        node.before.more() + node.mark.more() + node.behind.more_up_to(t)
+    }
+
+    /// How far above `v`, and not above `end`, no number is marked.
+    pub(crate) fn free_to(&self, v: i64, end: i64) -> i64
+        requires { v ≤ℤ end }
+        ensures from { v ≤ℤ result }
+        ensures to { result ≤ℤ end }
+        ensures free { (w : ℤ) → v <ℤ w → w ≤ℤ result → mark_at w self.now ≡ None }
+    {
+        let node = match &self.root {
+            Root::Empty => return end,
+            Root::Full(node) => node,
+        };
+        let here = node.mark.value;
+        if here <= v {
+            return node.behind.free_to(v, end);
+        }
+        let sooner = end.min(here - 1);
+        node.before.free_to(v, sooner)
     }
 
     /// The number at place `i` of those above `t`, in the set that differs from a piece of ranges at the marks, which

@@ -2,7 +2,23 @@ use Rattle.std.proofs.Common.{pos, neg_ℤ, Some, arith, sym, ap, ◌∙◌}
 use Rattle.std.proofs.lemmas.Int.{ints, to_z-of_z}
 use mir.Syntax.{w64}
 use Rattle.ts_domain.proofs.MarkedSets.{marks_over, place_below, place_is}
+use Rattle.ts_domain.proofs.Stretches.{range_place, range_few}
 use Rattle.ts_domain.proofs.domain.Domain.nth.Goals as goal
+
+pub overflow_cast-result : goal.overflow_cast-result
+overflow_cast-result c =
+    let r = c.in-Some.ensures in let few = range_few c.args.self.now c.in-Some.range c.args.i r c.requires in
+    omega (arith, ints, few, r.from, r.to)
+
+pub overflow_add-result : goal.overflow_add-result
+overflow_add-result c =
+    let r = c.in-Some.ensures in let few = range_few c.args.self.now c.in-Some.range c.args.i r c.requires in
+    omega (arith, ints, few, r.from, r.to)
+
+pub returns-in-Some : goal.returns-in-Some
+returns-in-Some c =
+    let r = c.in-Some.ensures in let few = range_few c.args.self.now c.in-Some.range c.args.i r c.requires in
+    range_place c.args.self.now c.in-Some.range c.args.i r c.requires ∙ ap (λ v. Some v) (omega (arith, ints, few, r.from, r.to))
 
 pub nth_above-requires-clause-above : goal.nth_above-requires-clause-above
 nth_above-requires-clause-above c =

@@ -2,7 +2,11 @@ use Rattle.std.proofs.Common.{ap}
 use Rattle.std.proofs.lemmas.Int.{to_z-of_z}
 use mir.Syntax.{w64}
 use Rattle.ts_domain.proofs.MarkedSets.{marked_domain, count_small, gain_from, gain_to, size_is}
+use Rattle.ts_domain.proofs.Stretches.{range_domain}
 use Rattle.ts_domain.proofs.domain.Domain.size.Goals as goal
+
+pub returns-in-Some-clause-domain : goal.returns-in-Some-clause-domain
+returns-in-Some-clause-domain c = range_domain c.args.self.now c.in-Some.range c.in-Some.ensures
 
 pub with_more-requires-clause-small : goal.with_more-requires-clause-small
 with_more-requires-clause-small c =

@@ -1,19 +1,56 @@
-use mir.Val.{SFits}
-use Rattle.std.proofs.Common.{◌≡◌, ◌+◌, ℕ, suc, ℤ, List, ◌∷◌, sym, ap, ◌∙◌, Some, drop, get_or, arith, rules, w64}
-use Rattle.std.proofs.Math.Seq.{drop-cons}
-use Rattle.std.proofs.lemmas.Int.{to_z-of_z}
-use Rattle.std.proofs.lemmas.Option.{slice_get_within, get_or_from_slice_get}
-use Rattle.std.specs.List.{slice_get}
+use Rattle.std.proofs.Common.{arith, sym, ◌∙◌, subst, ◌+◌, pos, ◌+ℤ◌}
+use Rattle.std.proofs.lemmas.Int.{ints}
+use Rattle.ts_domain.specs.Values.{AreNext}
+use Rattle.ts_domain.proofs.CutLaws.{m}
+use Rattle.ts_domain.proofs.Places.{small_is}
+use Rattle.ts_domain.proofs.Stretches.{more_next, first_next, step_next, run_next, went_on}
 use Rattle.ts_domain.proofs.values.ValuesIterator.next.Goals as goal
 
-first_left : (values : List ℤ) (i : ℕ) (v : ℤ) → slice_get values i ≡ Some v → drop i values ≡ v ∷ drop (i + 1) values
-first_left values i v is =
-    let next : suc i ≡ i + 1 = omega arith in
-    drop-cons values i v (slice_get_within values i v is) ∙ ap (λ n. get_or values i v ∷ drop n values) next ∙
-    ap (λ w. w ∷ drop (i + 1) values) (get_or_from_slice_get values i v v is)
+pub invariant_of-self : goal.invariant_of-self
+invariant_of-self c =
+    let d = c.self.inside.domain.now in let r = c.run_from-run.result in let e = c.run_from-run.ensures in
+    let from = e.from in let ordered = e.ordered in
+    let are = run_next d c.self.inside.passed r.low r.high from ordered e.to e.stand in
+    let below = (first_next d c.self.inside.passed r.low r.high are ordered).0 in let size = c.self.invariant.0 in (
+      size,
+      omega (arith, size, below),
+      subst (AreNext d (c.self.inside.passed + 1) (m (m r.low +ℤ pos 1))) (sym (small_is r.high (omega (arith, ints, from, ordered)) e.to))
+          (step_next d c.self.inside.passed r.low r.high are ordered),
+    )
+
+pub returns-then-self-clause-steps : goal.returns-then-self-clause-steps
+returns-then-self-clause-steps c =
+    let d = c.self.inside.domain.now in let r = c.run_from-run.result in let e = c.run_from-run.ensures in
+    sym c.self.view_is ∙ (first_next d c.self.inside.passed r.low r.high
+    (run_next d c.self.inside.passed r.low r.high e.from e.ordered e.to e.stand) e.ordered).1
+
+pub overflow_add-self-2 : goal.overflow_add-self-2
+overflow_add-self-2 c =
+    let s = c.self.inside in let are = c.self.invariant.2 in
+    let below = (first_next s.domain.now s.passed s.next s.last are (more_next s.domain.now s.passed s.next s.last are c.if-self.false)).0 in
+    let size = c.self.invariant.0 in omega (arith, size, below)
+
+pub overflow_add-self-3 : goal.overflow_add-self-3
+overflow_add-self-3 c =
+    let s = c.self.inside in let are = c.self.invariant.2 in
+    let le = more_next s.domain.now s.passed s.next s.last are c.if-self.false in
+    let from = are.from in let to = are.to in omega (arith, ints, le, from, to)
+
+pub invariant_of-self-2 : goal.invariant_of-self-2
+invariant_of-self-2 c =
+    let s = c.self.inside in let are = c.self.invariant.2 in
+    let le = more_next s.domain.now s.passed s.next s.last are c.if-self.false in
+    let below = (first_next s.domain.now s.passed s.next s.last are le).0 in let size = c.self.invariant.0 in
+    (size, omega (arith, size, below), step_next s.domain.now s.passed s.next s.last are le)
 
 pub returns-clause-steps : goal.returns-clause-steps
 returns-clause-steps c =
-    let fits : SFits w64 c.nth-value.result = search rules in
-    sym c.self.view_is ∙ first_left c.self.inside.domain.now c.self.inside.passed c.nth-value.result c.nth-value.ensures ∙
-    ap (λ w. w ∷ drop (c.self.inside.passed + 1) c.self.inside.domain.now) (sym (to_z-of_z w64 c.nth-value.result fits))
+    let s = c.self.inside in let are = c.self.invariant.2 in
+    sym c.self.view_is ∙ (first_next s.domain.now s.passed s.next s.last are (more_next s.domain.now s.passed s.next s.last are c.if-self.false)).1
+
+pub returns-clause-goes : goal.returns-clause-goes
+returns-clause-goes c =
+    let s = c.self.inside in let are = c.self.invariant.2 in
+    let left = went_on _ _ _ (sym c.self.view_is ∙
+    (first_next s.domain.now s.passed s.next s.last are (more_next s.domain.now s.passed s.next s.last are c.if-self.false)).1) in
+    record { on = λ _. (tt, tt, left); keeps = tt; rests = λ _. tt }
