@@ -2,7 +2,6 @@
 
 use std::alloc::Global;
 use std::io;
-use std::process::Abort;
 use std::test::Fail;
 use ts_base::{
     Ext, Failed, Letter, MemorySink, MemorySource, NeverSink, NeverSource, ReadStop, Sink, Source,
@@ -109,28 +108,59 @@ fn spans() -> &'static [[(i64, i64); 6]] {
     &SPANS
 }
 
-fn expect_letters_and_sums(rt: &impl Abort) {
-    for (x, y, letter) in letters() {
-        assert_eq!(rt; letter_of(*x, *y), *letter, "{x} {y}");
-        assert_eq!(rt; letter_of(*y, *x), flip(*letter), "{x} {y}");
+fn letters_hold() -> bool {
+    for &(x, y, letter) in letters() {
+        if letter_of(x, y) != letter || letter_of(y, x) != flip(letter) {
+            return false;
+        }
     }
-    for (a, b, sum) in sums() {
-        assert_eq!(rt; a.plus(*b), *sum, "{a:?} {b:?}");
-    }
+    true
 }
 
-fn expect_spans(rt: &impl Abort) {
-    for row in spans() {
-        let [s, t, hull, sum, greatest, least] = row.map(span);
-        assert_eq!(rt; s.hull(t), hull);
-        assert_eq!(rt; s.plus(t), sum);
-        assert_eq!(rt; s.greatest(t), greatest);
-        assert_eq!(rt; s.least(t), least);
-        assert_eq!(rt; hull.is_none(), hull == Span::none());
+fn sums_hold() -> bool {
+    for &(a, b, sum) in sums() {
+        if a.plus(b) != sum {
+            return false;
+        }
     }
+    true
+}
+
+/// Whether two spans have this hull, sum, greatest and least.
+fn spans_hold(row: [Span; 6]) -> bool {
+    let [s, t, hull, sum, greatest, least] = row;
+    s.hull(t) == hull
+        && s.plus(t) == sum
+        && s.greatest(t) == greatest
+        && s.least(t) == least
+        && hull.is_none() == (hull == Span::none())
+}
+
+/// The first row with another span.
+fn first_wrong_span() -> Option<usize> {
+    let rows = spans();
+    for k in 0..rows.len() {
+        if !spans_hold(rows[k].map(span)) {
+            return Some(k);
+        }
+    }
+    None
+}
+
+fn one_number_is_held() -> bool {
     let four = Span::one(Ext::Int(4));
-    assert!(rt; four.contains(Ext::Int(4)) && !four.contains(Ext::Int(5)));
-    assert!(rt; !Span::none().contains(Ext::PosInf) && !Span::none().contains(Ext::NegInf));
+    four.contains(Ext::Int(4))
+        && !four.contains(Ext::Int(5))
+        && !Span::none().contains(Ext::PosInf)
+        && !Span::none().contains(Ext::NegInf)
+}
+
+#[test]
+fn values_are_meant(rt: HostRuntime) {
+    assert!(rt; letters_hold());
+    assert!(rt; sums_hold());
+    assert_eq!(rt; first_wrong_span(), None);
+    assert!(rt; one_number_is_held());
 }
 
 /// The text that numbers write.
@@ -143,80 +173,97 @@ fn written(alloc: Global) -> Result<Vec<u8>, Fail> {
     Ok(text)
 }
 
-#[test]
-fn values_are_meant(rt: HostRuntime) -> Result<(), Fail> {
-    let text = written(rt.alloc())?;
-    assert_eq!(rt; text.as_slice(), b"x -120-inf2+inf".as_slice());
-    expect_letters_and_sums(&rt);
-    expect_spans(&rt);
-    Ok(())
+/// A source that fails at its second call has given four bytes by then.
+fn reads_behind_a_fault(alloc: Global) -> Result<bool, Fail> {
+    let mut source = MemorySource::new(written(alloc)?, 4, vec![in alloc; 2]?);
+    let failed = read_all(alloc, &mut source, 99) == Err(ReadStop::ReadFault);
+    let rest = read_all(alloc, &mut source, 99)?;
+    Ok(failed && rest.as_slice() == b"20-inf2+inf".as_slice())
+}
+
+/// Three bytes, three more, which are one too many, and the others up to the limit; then the seventh call fails.
+fn reads_behind_a_limit(alloc: Global) -> Result<bool, Fail> {
+    let mut source = MemorySource::new(written(alloc)?, 4, vec![in alloc; 7]?);
+    let mut into = [0; 3];
+    let three = source.read(&mut into) == Ok(3);
+    let too_long = read_all(alloc, &mut source, 2) == Err(ReadStop::TooLong);
+    let rest = read_all(alloc, &mut source, 9)?;
+    let failed = source.read(&mut into) == Err(Failed);
+    Ok(three && too_long && rest.as_slice() == b"-inf2+inf".as_slice() && failed)
+}
+
+fn reads_without_faults(alloc: Global) -> Result<bool, Fail> {
+    let text = b"-inf2+inf".as_slice();
+    let mut never = NeverSource::new(Vec::from_slice(alloc, text)?);
+    let all = read_all(alloc, &mut never, 9)?;
+    let mut into = [0; 3];
+    let mut input = StdIn::new(text);
+    let three = input.read(&mut into) == Ok(3);
+    Ok(all.as_slice() == text && three && into.as_slice() == b"-in".as_slice())
 }
 
 #[test]
 fn reads_succeed(rt: HostRuntime) -> Result<(), Fail> {
-    let alloc = rt.alloc();
-    let text = written(alloc)?;
-    let mut source = MemorySource::new(text.clone()?, 4, vec![in alloc; 2]?);
-    assert_eq!(rt; read_all(alloc, &mut source, 99), Err(ReadStop::ReadFault));
-    let rest = read_all(alloc, &mut source, 99)?;
-    assert_eq!(rt; rest.as_slice(), b"20-inf2+inf".as_slice());
-
-    let mut source = MemorySource::new(text, 4, vec![in alloc; 7]?);
-    let mut into = [0; 3];
-    assert_eq!(rt; source.read(&mut into), Ok(3));
-    assert_eq!(rt; read_all(alloc, &mut source, 2), Err(ReadStop::TooLong));
-    let rest = read_all(alloc, &mut source, 9)?;
-    assert_eq!(rt; rest.as_slice(), b"-inf2+inf".as_slice());
-    assert_eq!(rt; source.read(&mut into), Err(Failed));
-
-    let mut never = NeverSource::new(rest.clone()?);
-    let all = read_all(alloc, &mut never, 9)?;
-    assert_eq!(rt; all.as_slice(), rest.as_slice());
-
-    let mut input = StdIn::new(rest.as_slice());
-    assert_eq!(rt; input.read(&mut into), Ok(3));
-    assert_eq!(rt; into.as_slice(), b"-in".as_slice());
+    let text = written(rt.alloc())?;
+    assert_eq!(rt; text.as_slice(), b"x -120-inf2+inf".as_slice());
+    assert!(rt; reads_behind_a_fault(rt.alloc())?);
+    assert!(rt; reads_behind_a_limit(rt.alloc())?);
+    assert!(rt; reads_without_faults(rt.alloc())?);
     Ok(())
+}
+
+/// A sink that fails at its third and at its fifth call has taken eight bytes by then, and was finished once.
+fn writes_before_a_fault(alloc: Global) -> Result<bool, Fail> {
+    let mut sink = MemorySink::new(alloc, 4, vec![in alloc; 3, 5]?);
+    let failed = write_all(&mut sink, b"-inf2+inf") == Err(Failed);
+    let taken = sink.bytes() == b"-inf2+in".as_slice();
+    Ok(failed && taken && sink.finish() == Ok(()) && sink.finish() == Err(Failed))
+}
+
+fn writes_without_faults(alloc: Global) -> Result<bool, Fail> {
+    let mut kept = NeverSink::new(Vec::with_capacity(alloc, 4)?);
+    let whole = write_all(&mut kept, b"-inf2+inf") == Ok(()) && kept.finish() == Ok(());
+    Ok(whole && kept.kept() == b"-inf".as_slice())
+}
+
+fn writes_in_two_pieces(alloc: Global) -> Result<bool, Fail> {
+    let mut large = Vec::new(alloc);
+    large.resize(5_000, b'x')?;
+    let mut sink = MemorySink::new(alloc, 4_999, Vec::new(alloc));
+    Ok(write_all(&mut sink, &large) == Ok(()) && sink.bytes() == large.as_slice())
+}
+
+fn writes_to_the_system() -> bool {
+    let mut output = StdOut::new(io::sink());
+    output.write(b"text") == Ok(4) && output.finish() == Ok(())
 }
 
 #[test]
 fn writes_succeed(rt: HostRuntime) -> Result<(), Fail> {
-    let alloc = rt.alloc();
-    let text = b"-inf2+inf".as_slice();
-    let mut sink = MemorySink::new(alloc, 4, vec![in alloc; 3, 5]?);
-    assert_eq!(rt; write_all(&mut sink, text), Err(Failed));
-    assert_eq!(rt; sink.bytes(), b"-inf2+in".as_slice());
-    assert_eq!(rt; sink.finish(), Ok(()));
-    assert_eq!(rt; sink.finish(), Err(Failed));
-
-    let mut kept = NeverSink::new(Vec::with_capacity(alloc, 4)?);
-    assert_eq!(rt; write_all(&mut kept, text), Ok(()));
-    assert_eq!(rt; kept.finish(), Ok(()));
-    assert_eq!(rt; kept.kept(), b"-inf".as_slice());
-
-    let mut large = Vec::new(alloc);
-    large.resize(5_000, b'x')?;
-    let mut sink = MemorySink::new(alloc, 4_999, Vec::new(alloc));
-    assert_eq!(rt; write_all(&mut sink, &large), Ok(()));
-    assert_eq!(rt; sink.bytes(), large.as_slice());
-
-    let mut output = StdOut::new(io::sink());
-    assert_eq!(rt; output.write(b"text"), Ok(4));
-    assert_eq!(rt; output.finish(), Ok(()));
+    assert!(rt; writes_before_a_fault(rt.alloc())?);
+    assert!(rt; writes_without_faults(rt.alloc())?);
+    assert!(rt; writes_in_two_pieces(rt.alloc())?);
+    assert!(rt; writes_to_the_system());
     Ok(())
 }
 
-#[test]
-fn lines_and_words_are_strict(rt: HostRuntime) -> Result<(), Fail> {
+fn lines_are_strict() -> bool {
     let (line, rest) = first_line(b"no  1\nyes");
-    assert_eq!(rt; line, b"no  1\n".as_slice());
-    assert_eq!(rt; without_lf(line), Some(b"no  1".as_slice()));
-    assert_eq!(rt; without_lf(rest), None);
-    assert_eq!(rt; without_lf(b"no\r\n"), Some(b"no\r".as_slice()));
+    line == b"no  1\n".as_slice()
+        && without_lf(line) == Some(b"no  1".as_slice())
+        && without_lf(rest).is_none()
+        && without_lf(b"no\r\n") == Some(b"no\r".as_slice())
+}
 
+fn words_are_strict() -> bool {
     let words = words_of(b"no  1");
-    assert_eq!(rt; words.first, b"no".as_slice());
-    assert_eq!(rt; words.rest, Some(b" 1".as_slice()));
-    assert_eq!(rt; words_of(rest).rest, None);
-    Ok(())
+    words.first == b"no".as_slice()
+        && words.rest == Some(b" 1".as_slice())
+        && words_of(b"yes").rest.is_none()
+}
+
+#[test]
+fn lines_and_words_are_strict(rt: HostRuntime) {
+    assert!(rt; lines_are_strict());
+    assert!(rt; words_are_strict());
 }

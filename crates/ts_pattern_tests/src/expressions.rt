@@ -3,29 +3,12 @@
 //! Expressions are written with the operator behind its parts: `.` for Cat, `|` for Alt, `*` for Star, `e` for Eps
 //! and `0` for Empty.
 
-mod tables;
+pub(super) mod tables;
 
+use super::rows::word;
 use std::alloc::Global;
-use tables::rows;
 use ts_base::{Letter, Memory};
 use ts_regex::{Regex, alt, cat, derive, has_longer, has_word, member, normal, nullable, star};
-
-/// What the rows of a table say.
-#[derive(Clone, Copy)]
-enum Claim {
-    /// A pattern and its normal form.
-    Pattern,
-    /// Another expression and its normal form.
-    Form,
-    /// An expression, and what is left of it after `<`, `=` and `>`, in normal form.
-    Residual,
-    /// An expression, and its derivatives by `<`, `=` and `>` as they come.
-    Derivative,
-    /// An expression, and whether it has the empty word, a word, and a longer word.
-    Kind,
-    /// An expression, a word, and whether it is one of the expression's.
-    Word,
-}
 
 fn pop(stack: &mut Vec<Regex>) -> Regex {
     stack.pop().unwrap_or(Regex::Empty)
@@ -54,18 +37,18 @@ fn made(alloc: Global, sign: u8, stack: &mut Vec<Regex>) -> Result<Regex, Memory
     }
 }
 
-pub(super) fn regex(alloc: Global, text: &str) -> Result<Regex, Memory> {
+pub(super) fn regex(alloc: Global, text: &[u8]) -> Result<Regex, Memory> {
     let mut stack: Vec<Regex> = Vec::new(alloc);
-    for sign in text.as_bytes() {
+    for sign in text {
         let top = made(alloc, *sign, &mut stack)?;
         stack.push(top)?;
     }
     Ok(pop(&mut stack))
 }
 
-pub(super) fn letters(alloc: Global, text: &str) -> Result<Vec<Letter>, Memory> {
+pub(super) fn letters(alloc: Global, text: &[u8]) -> Result<Vec<Letter>, Memory> {
     let mut letters = Vec::new(alloc);
-    for sign in text.as_bytes() {
+    for sign in text {
         match *sign {
             b'<' => letters.push(Letter::Less)?,
             b'=' => letters.push(Letter::Equal)?,
@@ -76,34 +59,35 @@ pub(super) fn letters(alloc: Global, text: &str) -> Result<Vec<Letter>, Memory> 
     Ok(letters)
 }
 
-/// A word of a row, counted from 0.
-pub(super) fn word(row: &str, place: usize) -> &str {
-    row.split_whitespace().nth(place).unwrap_or("")
-}
-
 /// Whether a word of a row says this.
-fn says(row: &str, place: usize, holds: bool) -> bool {
-    word(row, place) == if holds { "yes" } else { "no" }
+fn says(row: &[u8], place: usize, holds: bool) -> bool {
+    if holds {
+        word(row, place) == b"yes".as_slice()
+    } else {
+        word(row, place) == b"no".as_slice()
+    }
 }
 
 /// Whether a word of a row is this expression.
-fn shows(alloc: Global, row: &str, place: usize, found: Regex) -> Result<bool, Memory> {
+fn shows(alloc: Global, row: &[u8], place: usize, found: Regex) -> Result<bool, Memory> {
     Ok(found.same(&regex(alloc, word(row, place))?))
 }
 
-fn normal_form(alloc: Global, row: &str) -> Result<Regex, Memory> {
-    normal(alloc, &regex(alloc, word(row, 0))?)
+/// An expression, and its normal form.
+pub(super) fn has_normal_form(alloc: Global, row: &[u8]) -> Result<bool, Memory> {
+    shows(alloc, row, 1, normal(alloc, &regex(alloc, word(row, 0))?)?)
 }
 
-fn derivative(alloc: Global, row: &str, l: Letter) -> Result<Regex, Memory> {
+fn derivative(alloc: Global, row: &[u8], l: Letter) -> Result<Regex, Memory> {
     derive(alloc, &regex(alloc, word(row, 0))?, l)
 }
 
-fn residual(alloc: Global, row: &str, l: Letter) -> Result<Regex, Memory> {
+fn residual(alloc: Global, row: &[u8], l: Letter) -> Result<Regex, Memory> {
     normal(alloc, &derivative(alloc, row, l)?)
 }
 
-fn has_residuals(alloc: Global, row: &str) -> Result<bool, Memory> {
+/// An expression, and what is left of it after `<`, `=` and `>`, in normal form.
+pub(super) fn has_residuals(alloc: Global, row: &[u8]) -> Result<bool, Memory> {
     Ok(
         shows(alloc, row, 1, residual(alloc, row, Letter::Less)?)?
             && shows(alloc, row, 2, residual(alloc, row, Letter::Equal)?)?
@@ -111,7 +95,8 @@ fn has_residuals(alloc: Global, row: &str) -> Result<bool, Memory> {
     )
 }
 
-fn has_derivatives(alloc: Global, row: &str) -> Result<bool, Memory> {
+/// An expression, and its derivatives by `<`, `=` and `>` as they come.
+pub(super) fn has_derivatives(alloc: Global, row: &[u8]) -> Result<bool, Memory> {
     Ok(
         shows(alloc, row, 1, derivative(alloc, row, Letter::Less)?)?
             && shows(alloc, row, 2, derivative(alloc, row, Letter::Equal)?)?
@@ -119,56 +104,23 @@ fn has_derivatives(alloc: Global, row: &str) -> Result<bool, Memory> {
     )
 }
 
-fn has_kind(alloc: Global, row: &str) -> Result<bool, Memory> {
+/// An expression, and whether it has the empty word, a word, and a longer word.
+pub(super) fn has_kind(alloc: Global, row: &[u8]) -> Result<bool, Memory> {
     let r = regex(alloc, word(row, 0))?;
     Ok(says(row, 1, nullable(&r)) && says(row, 2, has_word(&r)) && says(row, 3, has_longer(&r)))
 }
 
-fn is_word(alloc: Global, text: &str, word: &[Letter]) -> Result<bool, Memory> {
+fn is_word(alloc: Global, text: &[u8], word: &[Letter]) -> Result<bool, Memory> {
     member(alloc, &regex(alloc, text)?, word)
 }
 
-fn has_word_told(alloc: Global, row: &str) -> Result<bool, Memory> {
+/// An expression, a word, and whether it is one of the expression's.
+pub(super) fn has_word_told(alloc: Global, row: &[u8]) -> Result<bool, Memory> {
     Ok(says(
         row,
         2,
         is_word(alloc, word(row, 0), &letters(alloc, word(row, 1))?)?,
     ))
-}
-
-fn holds(alloc: Global, claim: Claim, row: &str) -> Result<bool, Memory> {
-    match claim {
-        Claim::Pattern | Claim::Form => shows(alloc, row, 1, normal_form(alloc, row)?),
-        Claim::Residual => has_residuals(alloc, row),
-        Claim::Derivative => has_derivatives(alloc, row),
-        Claim::Kind => has_kind(alloc, row),
-        Claim::Word => has_word_told(alloc, row),
-    }
-}
-
-/// The first row that doesn't hold.
-fn first_wrong(alloc: Global, claim: Claim) -> Result<Option<&'static str>, Memory> {
-    for row in rows(claim).lines() {
-        if !holds(alloc, claim, row)? {
-            return Ok(Some(row));
-        }
-    }
-    Ok(None)
-}
-
-#[test]
-fn rows_of_the_catalogue(rt: HostRuntime) -> Result<(), Memory> {
-    for claim in [
-        Claim::Pattern,
-        Claim::Form,
-        Claim::Residual,
-        Claim::Derivative,
-        Claim::Kind,
-        Claim::Word,
-    ] {
-        assert_eq!(rt; first_wrong(rt.alloc(), claim)?, None);
-    }
-    Ok(())
 }
 
 /// Rises, as many falls, and rises again, as far as the length goes.
@@ -182,7 +134,7 @@ fn slopes(alloc: Global, length: usize) -> Result<Vec<Letter>, Memory> {
 }
 
 fn is_summit(alloc: Global, length: usize) -> Result<bool, Memory> {
-    is_word(alloc, "<<=<|*.<.|>>=>|*.>.|.", &slopes(alloc, length)?)
+    is_word(alloc, b"<<=<|*.<.|>>=>|*.>.|.", &slopes(alloc, length)?)
 }
 
 #[test]

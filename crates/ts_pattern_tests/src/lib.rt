@@ -21,11 +21,15 @@ mod patterns;
 #[cfg(test)]
 mod planned;
 #[cfg(test)]
+mod rows;
+#[cfg(test)]
 mod seed_tables;
 #[cfg(test)]
 mod seeds;
 #[cfg(test)]
 mod standard;
+#[cfg(test)]
+mod tables;
 #[cfg(test)]
 mod tokens;
 #[cfg(test)]
@@ -34,5 +38,3 @@ mod transducers;
 mod user_texts;
 #[cfg(test)]
 mod validated;
-#[cfg(test)]
-mod validation;

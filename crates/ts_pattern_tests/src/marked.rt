@@ -4,11 +4,11 @@
 //! The table is one literal of rows: a name, how many occurrences all those series have together, a `|`, and the text,
 //! in which `/` stands for LF. The numbers were found by trying the expressions on all parts of the signatures.
 
-use std::alloc::{AllocError, Global};
-use std::test::Fail;
+use super::rows::{halves, text_of, word};
+use std::alloc::Global;
 use ts_base::{Memory, Range};
 use ts_mark::marks;
-use ts_token::cut_tokens;
+use ts_token::{cut_tokens, number};
 use ts_user::{build_plan, read_pattern};
 use ts_validate::{Validated, validate};
 
@@ -73,16 +73,16 @@ state d pending/move s < out s/move s = out s/move s > out a/move a < out s/move
 move b < maybe_b c/move b = out s/move b > out b/move c < out_r s/move c = out_r s/move c > maybe_b d/\
 move d < out_r s/move d = out_r s/move d > found_e b";
 
-fn patterns() -> &'static str {
+pub(super) fn patterns() -> &'static str {
     PATTERNS
 }
 
 /// The transducer that a text states, known to find the occurrences of its pattern; None where it isn't.
-fn validated(alloc: Global, text: &str) -> Option<Validated> {
+fn validated(alloc: Global, text: &[u8]) -> Option<Validated> {
     if text.len() > 10_000 {
         return None;
     }
-    let tokens = cut_tokens(alloc, text.as_bytes()).ok()?;
+    let tokens = cut_tokens(alloc, text).ok()?;
     let user = read_pattern(alloc, &tokens).ok()?;
     let plan = build_plan(alloc, &user.transducer, &user.pattern).ok()?;
     validate(alloc, user.transducer, &user.pattern, &plan).ok()
@@ -123,29 +123,35 @@ fn occurrences(alloc: Global, v: &Validated, w: &Validated) -> Result<Option<usi
     Ok(Some(count))
 }
 
-/// The name with the number of occurrences, or without it where the text and the name mark differently.
-fn told(alloc: Global, name: &str, text: &str) -> Result<String, AllocError> {
-    let line = format!(in alloc; "catalogue {name}")?;
-    let found = match (validated(alloc, text), validated(alloc, &line)) {
-        (Some(v), Some(w)) => occurrences(alloc, &v, &w),
-        _ => Ok(None),
-    };
-    match found {
-        Ok(Some(count)) => format!(in alloc; "{name} {count}"),
-        _ => String::from_str(alloc, name),
+/// The line that names a pattern of the catalogue.
+fn catalogue_line(alloc: Global, name: &[u8]) -> Result<Vec<u8>, Memory> {
+    let mut line = Vec::from_slice(alloc, b"catalogue ")?;
+    line.extend_from_slice(name)?;
+    Ok(line)
+}
+
+/// Whether both mark the same ranges in all series, and so many.
+fn are_so_many(
+    alloc: Global,
+    v: &Validated,
+    w: &Validated,
+    wanted: Option<i64>,
+) -> Result<bool, Memory> {
+    match occurrences(alloc, v, w)? {
+        Some(count) => Ok(wanted == Some(count as i64)),
+        None => Ok(false),
     }
 }
 
-#[test]
-fn patterns_of_the_catalogue(rt: HostRuntime) -> Result<(), Fail> {
-    let alloc = rt.alloc();
-    for row in patterns().split('\n') {
-        if let Some((head, text)) = row.split_once('|') {
-            let (name, _) = head.split_once(' ').unwrap_or((head, ""));
-            let text = text.replace(alloc, '/', "\n")?;
-            let told = told(alloc, name, &text)?;
-            assert_eq!(rt; told.as_str(), head);
-        }
+/// Whether a pattern written out and its name mark the same ranges in all series, and as many as the row says.
+pub(super) fn marks_as_named(alloc: Global, row: &[u8]) -> Result<bool, Memory> {
+    let Some((head, written)) = halves(row) else {
+        return Ok(false);
+    };
+    let text = text_of(alloc, written)?;
+    let line = catalogue_line(alloc, word(head, 0))?;
+    match (validated(alloc, &text), validated(alloc, &line)) {
+        (Some(v), Some(w)) => are_so_many(alloc, &v, &w, number(word(head, 1))),
+        _ => Ok(false),
     }
-    Ok(())
 }

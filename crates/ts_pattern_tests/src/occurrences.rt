@@ -2,18 +2,19 @@
 //!
 //! A cell is written as a digit, as a small letter from `a` for 10, or as a capital letter from `A` for -1.
 
-mod tables;
+pub(super) mod tables;
 
 ghost use Rattle.std.specs.Prelude.{IsTrue};
 ghost use Rattle.ts_pattern.specs.Limits.{IsSeries};
 
-use super::expressions::{letters, word};
+use super::expressions::letters;
+use super::rows::word;
 use std::alloc::Global;
-use tables::{peaks, ranges, values};
-use ts_base::{Ext, Letter, Memory, Range};
+use ts_base::{Letter, Memory, Range, push_number};
 use ts_occurrence::{occurrences, part, signature, value};
 use ts_pattern::{Pattern, PatternId, Term, aggregator_of, feature_of, pattern_by_id, pattern_of};
 use ts_regex::{Regex, star};
+use ts_token::ext_of;
 
 fn cell(written: u8) -> i64 {
     match written {
@@ -23,9 +24,9 @@ fn cell(written: u8) -> i64 {
     }
 }
 
-fn cells(alloc: Global, text: &str) -> Result<Vec<i64>, Memory> {
+fn cells(alloc: Global, text: &[u8]) -> Result<Vec<i64>, Memory> {
     let mut cells = Vec::new(alloc);
-    for written in text.as_bytes() {
+    for written in text {
         cells.push(cell(*written))?;
     }
     Ok(cells)
@@ -47,40 +48,33 @@ fn ranges_of(alloc: Global, id: PatternId, w: &[Letter]) -> Result<Vec<Range>, M
     occurrences(alloc, &pattern, w)
 }
 
-fn push_range(text: &mut String, range: Range) -> Result<(), Memory> {
-    let between = if text.is_empty() { "" } else { "," };
-    write!(text, "{between}{}-{}", range.first, range.last)?;
-    Ok(())
+fn push_range(text: &mut Vec<u8>, range: Range) -> Result<(), Memory> {
+    if !text.is_empty() {
+        text.push(b',')?;
+    }
+    push_number(text, i64::from(range.first))?;
+    text.push(b'-')?;
+    push_number(text, i64::from(range.last))
 }
 
 /// Whether a word of a row lists these ranges.
-fn lists(alloc: Global, row: &str, place: usize, ranges: &[Range]) -> Result<bool, Memory> {
-    let mut text = String::new(alloc);
+fn lists(alloc: Global, row: &[u8], place: usize, ranges: &[Range]) -> Result<bool, Memory> {
+    let mut text = Vec::new(alloc);
     for range in ranges {
         push_range(&mut text, *range)?;
     }
-    Ok(
-        word(row, place)
-            == if text.is_empty() {
-                "none"
-            } else {
-                text.as_str()
-            },
-    )
+    if text.is_empty() {
+        Ok(word(row, place) == b"none".as_slice())
+    } else {
+        Ok(word(row, place) == text.as_slice())
+    }
 }
 
-fn has_peaks(alloc: Global, row: &str) -> Result<bool, Memory> {
+/// Signs and the e-ranges of peak in them.
+pub(super) fn has_peaks(alloc: Global, row: &[u8]) -> Result<bool, Memory> {
     let signs = letters(alloc, word(row, 0))?;
     let found = ranges_of(alloc, PatternId::Peak, &signs)?;
     lists(alloc, row, 1, &found)
-}
-
-#[test]
-fn peaks_in_signatures(rt: HostRuntime) -> Result<(), Memory> {
-    for row in peaks().lines() {
-        assert!(rt; has_peaks(rt.alloc(), row)?, "{row}");
-    }
-    Ok(())
 }
 
 // Any number of `=`, without the first cell: the empty word is one of its words, and yet no match.
@@ -96,7 +90,7 @@ fn levels_of(alloc: Global, w: &[Letter]) -> Result<Vec<Range>, Memory> {
     occurrences(alloc, &pattern, w)
 }
 
-fn has_levels(alloc: Global, row: &str) -> Result<bool, Memory> {
+fn has_levels(alloc: Global, row: &[u8]) -> Result<bool, Memory> {
     let signs = letters(alloc, word(row, 0))?;
     lists(alloc, row, 1, &levels_of(alloc, &signs)?)
 }
@@ -122,15 +116,16 @@ fn long_signatures(rt: HostRuntime) -> Result<(), Memory> {
         first: 510,
         last: 510,
     };
-    assert!(rt; has_levels(rt.alloc(), "<==<= 3-4,6-6")?);
+    assert!(rt; has_levels(rt.alloc(), b"<==<= 3-4,6-6")?);
     assert!(rt; long_peaks(rt.alloc(), Letter::Equal, Letter::Equal)? == (0, None));
     assert!(rt; long_peaks(rt.alloc(), Letter::Less, Letter::Greater)? == (255, Some(last)));
     Ok(())
 }
 
-fn has_ranges(alloc: Global, row: &str) -> Result<bool, Memory> {
+/// A pattern, a series and its e-ranges.
+pub(super) fn has_ranges(alloc: Global, row: &[u8]) -> Result<bool, Memory> {
     let series = cells(alloc, word(row, 1))?;
-    match pattern_of(word(row, 0).as_bytes()) {
+    match pattern_of(word(row, 0)) {
         Some(id) if !series.is_empty() => {
             let signs = signature(alloc, &series)?;
             lists(alloc, row, 2, &ranges_of(alloc, id, &signs)?)
@@ -139,47 +134,24 @@ fn has_ranges(alloc: Global, row: &str) -> Result<bool, Memory> {
     }
 }
 
-#[test]
-fn ranges_of_all_patterns(rt: HostRuntime) -> Result<(), Memory> {
-    for row in ranges().lines() {
-        assert!(rt; has_ranges(rt.alloc(), row)?, "{row}");
-    }
-    Ok(())
-}
-
 /// The term of a row.
-fn term(row: &str) -> Option<Term> {
+fn term(row: &[u8]) -> Option<Term> {
     Term::new(
-        aggregator_of(word(row, 0).as_bytes())?,
-        feature_of(word(row, 1).as_bytes())?,
-        pattern_of(word(row, 2).as_bytes())?,
+        aggregator_of(word(row, 0))?,
+        feature_of(word(row, 1))?,
+        pattern_of(word(row, 2))?,
     )
 }
 
-fn told(text: &str) -> Option<Ext> {
-    match text {
-        "-inf" => Some(Ext::NegInf),
-        "+inf" => Some(Ext::PosInf),
-        _ => text.parse::<i64>().ok().map(Ext::Int),
-    }
-}
-
-fn has_value(alloc: Global, row: &str) -> Result<bool, Memory> {
+/// A term, a series and its value.
+pub(super) fn has_value(alloc: Global, row: &[u8]) -> Result<bool, Memory> {
     let series = cells(alloc, word(row, 3))?;
     match term(row) {
         Some(term) if is_series(&series) => {
-            Ok(Some(value(alloc, &term, &series)?) == told(word(row, 4)))
+            Ok(Some(value(alloc, &term, &series)?) == ext_of(word(row, 4)))
         }
         _ => Ok(false),
     }
-}
-
-#[test]
-fn values_of_terms(rt: HostRuntime) -> Result<(), Memory> {
-    for row in values().lines() {
-        assert!(rt; has_value(rt.alloc(), row)?, "{row}");
-    }
-    Ok(())
 }
 
 #[test]

@@ -1,24 +1,18 @@
-//! Plans that are built: of the catalogue's seeds, of a table that is wrong in one move, and at the limit of 512
-//! configurations.
+//! Plans that are built: of peak, of a table that is wrong in one move, and at the limit of 512 configurations.
 
 use super::expressions::{letters, regex};
-use arrayvec::ArrayVec;
+use super::validated::{Listed, State, live_of, transducer};
 use std::alloc::Global;
 use ts_base::{Kind, Memory};
-use ts_pattern::{Configuration, Live, Pattern, PatternId, Plan, Tag, pattern_by_id};
-use ts_seed::seed_by_id;
-use ts_transducer::{Arrow, Phase, Row, Transducer};
+use ts_pattern::{Configuration, Pattern, Plan, Tag};
+use ts_transducer::Phase;
 use ts_user::{BuildStop, build_plan};
-use ts_validate::validate;
-
-/// The kind of a state, and its moves on `<`, `=` and `>`.
-type State = (Kind, (Phase, u8), (Phase, u8), (Phase, u8));
 
 /// What there is of a transducer and a pattern.
 #[derive(Clone, Copy)]
 enum Answer {
     /// A plan with so many residuals and with these configurations.
-    Listed(usize, &'static [(u8, &'static [(u32, Tag)])]),
+    Listed(usize, &'static [Listed]),
     /// A check fails at the end of this signature.
     Refused(&'static str),
     /// More than 512 configurations are reached.
@@ -120,46 +114,26 @@ const BUILT: [Built; 4] = [
     },
 ];
 
-fn arrow(written: (Phase, u8)) -> Arrow {
-    let (phase, next) = written;
-    Arrow { phase, next }
+fn is_configuration(alloc: Global, found: &Configuration, wanted: Listed) -> Result<bool, Memory> {
+    let (state, entries) = wanted;
+    Ok(found.state == state && found.live.as_slice() == live_of(alloc, entries)?.as_slice())
 }
 
-fn transducer(states: &[State]) -> Option<Transducer> {
-    let mut rows: ArrayVec<Row, 8> = ArrayVec::new();
-    for &(kind, less, equal, greater) in states {
-        if !rows.is_full() {
-            rows.push(Row {
-                kind,
-                less: arrow(less),
-                equal: arrow(equal),
-                greater: arrow(greater),
-            });
+fn are_configurations(
+    alloc: Global,
+    found: &[Configuration],
+    wanted: &[Listed],
+) -> Result<bool, Memory> {
+    for k in 0..wanted.len() {
+        let holds = match found.get(k) {
+            Some(configuration) => is_configuration(alloc, configuration, wanted[k])?,
+            None => false,
+        };
+        if !holds {
+            return Ok(false);
         }
     }
-    Transducer::new(rows)
-}
-
-fn is_entry(live: &Live, entry: (u32, Tag)) -> bool {
-    live.residual == entry.0 && live.tag == entry.1
-}
-
-fn is_configuration(x: &Configuration, state: u8, entries: &[(u32, Tag)]) -> bool {
-    x.state == state
-        && x.live.len() == entries.len()
-        && x.live
-            .iter()
-            .zip(entries)
-            .all(|(live, entry)| is_entry(live, *entry))
-}
-
-fn is_plan(plan: &Plan, residuals: usize, configurations: &[(u8, &[(u32, Tag)])]) -> bool {
-    plan.residuals.len() == residuals
-        && plan.configurations.len() == configurations.len()
-        && plan.configurations.iter().zip(configurations).all(|(
-            x,
-            (state, entries),
-        )| is_configuration(x, *state, entries))
+    Ok(found.len() == wanted.len())
 }
 
 fn is_answer(
@@ -168,11 +142,12 @@ fn is_answer(
     answer: Answer,
 ) -> Result<bool, Memory> {
     match (found, answer) {
-        (Ok(plan), Answer::Listed(residuals, configurations)) => {
-            Ok(is_plan(&plan, residuals, configurations))
-        }
+        (Ok(plan), Answer::Listed(residuals, configurations)) => Ok(
+            plan.residuals.len() == residuals
+                && are_configurations(alloc, &plan.configurations, configurations)?,
+        ),
         (Err(BuildStop::Refused { signature }), Answer::Refused(signs)) => {
-            Ok(signature.as_slice() == letters(alloc, signs)?.as_slice())
+            Ok(signature.as_slice() == letters(alloc, signs.as_bytes())?.as_slice())
         }
         (Err(BuildStop::TooMany), Answer::TooMany) => Ok(true),
         _ => Ok(false),
@@ -181,7 +156,7 @@ fn is_answer(
 
 fn built_holds(alloc: Global, built: &Built) -> Result<bool, Memory> {
     let pattern = Pattern {
-        regex: regex(alloc, built.pattern)?,
+        regex: regex(alloc, built.pattern.as_bytes())?,
         b: built.b,
         a: built.a,
     };
@@ -191,36 +166,10 @@ fn built_holds(alloc: Global, built: &Built) -> Result<bool, Memory> {
     }
 }
 
-/// Whether the seed's transducer has a plan of as many residuals and configurations as the seed's own, which `validate`
-/// takes.
-fn seed_has_plan(alloc: Global, id: PatternId) -> Result<bool, Memory> {
-    let pattern = pattern_by_id(alloc, id)?;
-    let seed = seed_by_id(alloc, id)?;
-    let Ok(plan) = build_plan(alloc, &seed.transducer, &pattern) else {
-        return Ok(false);
-    };
-    let is_as_large = has_size_of(&plan, &seed.plan);
-    let is_taken = validate(alloc, seed.transducer, &pattern, &plan).is_ok();
-    Ok(is_as_large && is_taken)
-}
-
-fn has_size_of(plan: &Plan, other: &Plan) -> bool {
-    plan.residuals.len() == other.residuals.len()
-        && plan.configurations.len() == other.configurations.len()
-}
-
 #[test]
 fn plans_are_as_worked_out(rt: HostRuntime) -> Result<(), Memory> {
     for built in &BUILT {
         assert!(rt; built_holds(rt.alloc(), built)?, "{}", built.pattern);
-    }
-    Ok(())
-}
-
-#[test]
-fn seeds_have_plans(rt: HostRuntime) -> Result<(), Memory> {
-    for id in PatternId::ALL {
-        assert!(rt; seed_has_plan(rt.alloc(), id)?, "{id:?}");
     }
     Ok(())
 }

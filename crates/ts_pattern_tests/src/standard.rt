@@ -5,7 +5,6 @@
 use std::alloc::{AllocError, Global};
 use std::cell::Cell;
 use std::io::{self, ErrorKind, Read, Write};
-use std::test::Fail;
 use ts_base::{Failed, ReadStop, Sink, Source, StdIn, StdOut, read_all};
 
 /// How often a device was called, and how often it was flushed.
@@ -74,50 +73,56 @@ fn zeros(alloc: Global, count: usize) -> Result<Vec<u8>, AllocError> {
     Ok(bytes)
 }
 
-#[test]
-fn one_call_inside(rt: HostRuntime) -> Result<(), Fail> {
+/// A device that fails at this call, and counts its calls.
+fn failing_device(fails_at: u64, counts: &Counts) -> Device<'_> {
+    Device { fails_at, counts }
+}
+
+fn each_read_is_one_call(alloc: Global) -> Result<bool, AllocError> {
+    let counts = Counts::new();
+    let mut input = StdIn::new(failing_device(3, &counts));
     let mut small = [0];
-    let mut large = zeros(rt.alloc(), 5_000)?;
+    let mut large = zeros(alloc, 5_000)?;
+    let one = input.read(&mut small) == Ok(1);
+    let all = input.read(&mut large) == Ok(5_000);
+    let failed = input.read(&mut small) == Err(Failed);
+    Ok(one && all && failed && counts.told() == (3, 0))
+}
 
+fn each_write_is_one_call(alloc: Global) -> Result<bool, AllocError> {
     let counts = Counts::new();
-    let mut input = StdIn::new(Device {
-        fails_at: 3,
-        counts: &counts,
-    });
-    assert_eq!(rt; input.read(&mut small), Ok(1));
-    assert_eq!(rt; input.read(&mut large), Ok(5_000));
-    assert_eq!(rt; input.read(&mut small), Err(Failed));
-    assert_eq!(rt; counts.told(), (3, 0));
+    let mut output = StdOut::new(failing_device(3, &counts));
+    let large = zeros(alloc, 5_000)?;
+    let one = output.write(b"x") == Ok(1);
+    let all = output.write(&large) == Ok(5_000);
+    let failed = output.write(b"x") == Err(Failed);
+    let written = counts.told() == (3, 0);
+    let finished = output.finish() == Ok(());
+    Ok(one && all && failed && written && finished && counts.told() == (4, 1))
+}
 
+fn a_flush_fails() -> bool {
     let counts = Counts::new();
-    let mut output = StdOut::new(Device {
-        fails_at: 3,
-        counts: &counts,
-    });
-    assert_eq!(rt; output.write(b"x"), Ok(1));
-    assert_eq!(rt; output.write(&large), Ok(5_000));
-    assert_eq!(rt; output.write(b"x"), Err(Failed));
-    assert_eq!(rt; counts.told(), (3, 0));
-    assert_eq!(rt; output.finish(), Ok(()));
-    assert_eq!(rt; counts.told(), (4, 1));
+    let mut output = StdOut::new(failing_device(2, &counts));
+    let one = output.write(b"x") == Ok(1);
+    let failed = output.finish() == Err(Failed);
+    one && failed && counts.told() == (2, 1)
+}
 
+fn a_second_flush_fails() -> bool {
     let counts = Counts::new();
-    let mut unflushed = StdOut::new(Device {
-        fails_at: 2,
-        counts: &counts,
-    });
-    assert_eq!(rt; unflushed.write(b"x"), Ok(1));
-    assert_eq!(rt; unflushed.finish(), Err(Failed));
-    assert_eq!(rt; counts.told(), (2, 1));
+    let mut output = StdOut::new(failing_device(2, &counts));
+    let finished = output.finish() == Ok(());
+    let failed = output.finish() == Err(Failed);
+    finished && failed && counts.told() == (2, 2)
+}
 
-    let counts = Counts::new();
-    let mut again = StdOut::new(Device {
-        fails_at: 2,
-        counts: &counts,
-    });
-    assert_eq!(rt; again.finish(), Ok(()));
-    assert_eq!(rt; again.finish(), Err(Failed));
-    assert_eq!(rt; counts.told(), (2, 2));
+#[test]
+fn one_call_inside(rt: HostRuntime) -> Result<(), AllocError> {
+    assert!(rt; each_read_is_one_call(rt.alloc())?);
+    assert!(rt; each_write_is_one_call(rt.alloc())?);
+    assert!(rt; a_flush_fails());
+    assert!(rt; a_second_flush_fails());
     Ok(())
 }
 
@@ -142,8 +147,22 @@ impl Read for Terminal<'_> {
     }
 }
 
+/// How many bytes are read of so many pieces under this limit, or why none, and by how many calls.
+fn read_of(alloc: Global, pieces: u64, limit: u8) -> (Result<usize, ReadStop>, u64) {
+    let calls = Cell::new(0);
+    let mut input = StdIn::new(Terminal {
+        pieces,
+        calls: &calls,
+    });
+    let got = match read_all(alloc, &mut input, usize::from(limit)) {
+        Ok(bytes) => Ok(bytes.len()),
+        Err(stop) => Err(stop),
+    };
+    (got, calls.get())
+}
+
 #[test]
-fn nothing_is_read_behind_the_end(rt: HostRuntime) -> Result<(), Fail> {
+fn nothing_is_read_behind_the_end(rt: HostRuntime) {
     for (pieces, limit, taken, called) in [
         (0, 0, Ok(0), 1),
         (0, 9, Ok(0), 1),
@@ -152,14 +171,9 @@ fn nothing_is_read_behind_the_end(rt: HostRuntime) -> Result<(), Fail> {
         (3, 5, Err(ReadStop::TooLong), 3),
         (3, 0, Err(ReadStop::TooLong), 1),
     ] {
-        let calls = Cell::new(0);
-        let mut input = StdIn::new(Terminal {
-            pieces,
-            calls: &calls,
-        });
-        let got = read_all(rt.alloc(), &mut input, limit);
-        assert_eq!(rt; got.map(|bytes| bytes.len()), taken, "{pieces} {limit}");
-        assert_eq!(rt; calls.get(), called, "{pieces} {limit}");
+        assert!(rt;
+            read_of(rt.alloc(), pieces, limit) == (taken, called),
+            "{pieces} {limit}"
+        );
     }
-    Ok(())
 }

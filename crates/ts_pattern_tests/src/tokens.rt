@@ -3,8 +3,7 @@
 ghost use Rattle.std.specs.Prelude.{◌<◌, [], length};
 ghost use Rattle.ts_token.specs.Short.{IsShort};
 
-use std::process::Abort;
-use std::test::Fail;
+use std::alloc::Global;
 use ts_base::{Ext, Memory};
 use ts_token::{
     Content, Parts, ShortLine, Tokens, count_words, cut_parts, cut_tokens, ext_of, line_content,
@@ -174,17 +173,17 @@ static SHORT_LINES: [(&str, &str, bool); 24] = [
     ),
 ];
 
-/// A line, and how many words it has; none where it is skipped or isn't text.
-static CONTENTS: [(&str, &str); 9] = [
-    ("", "skipped"),
-    (" \t\r\n", "skipped"),
-    (" # a b", "skipped"),
-    ("a\0b\n", "not text"),
-    ("#\r", "not text"),
-    ("a\n", "1"),
-    (" a b\r\n", "2"),
-    ("a #b", "2"),
-    ("a b c \n", "3"),
+/// A line, whether it is text, and how many words it has; none where it is skipped.
+static CONTENTS: [(&str, bool, usize); 9] = [
+    ("", true, 0),
+    (" \t\r\n", true, 0),
+    (" # a b", true, 0),
+    ("a\0b\n", false, 0),
+    ("#\r", false, 0),
+    ("a\n", true, 1),
+    (" a b\r\n", true, 2),
+    ("a #b", true, 2),
+    ("a b c \n", true, 3),
 ];
 
 // Each table behind a function, so that the proof of the test doesn't read it.
@@ -208,50 +207,77 @@ fn short_lines() -> &'static [(&'static str, &'static str, bool)] {
     &SHORT_LINES
 }
 
-fn contents() -> &'static [(&'static str, &'static str)] {
+fn contents() -> &'static [(&'static str, bool, usize)] {
     &CONTENTS
 }
 
-/// The words of the tokens are these, in order.
-fn compare_words(rt: &impl Abort, text: &str, tokens: &Tokens, words: &[Place]) {
+/// Whether the words of the tokens are these, in order.
+fn are_words(tokens: &Tokens, words: &[Place]) -> bool {
     let mut done = 0;
     for line in &tokens.lines {
         for word in &line.words {
-            assert!(rt; done < words.len(), "a word too many in {text:?}");
+            if done >= words.len() {
+                return false;
+            }
             let (number, column, bytes) = words[done];
-            assert_eq!(rt; (line.number, word.column), (number, column), "in {text:?}");
-            assert_eq!(rt; word.text, bytes.as_bytes(), "in {text:?}");
+            if line.number != number || word.column != column || word.text != bytes.as_bytes() {
+                return false;
+            }
             done += 1;
         }
     }
-    assert_eq!(rt; done, words.len(), "words of {text:?}");
+    done == words.len()
+}
+
+fn text_holds(
+    alloc: Global,
+    text: &str,
+    words: &[Place],
+    count: u32,
+    not_text: Option<u32>,
+) -> Result<bool, Memory> {
+    if 1000 < text.len() {
+        return Ok(false);
+    }
+    let tokens = cut_tokens(alloc, text.as_bytes())?;
+    Ok(are_words(&tokens, words) && tokens.count == count && tokens.not_text == not_text)
+}
+
+fn parts_hold(text: &str, before: &str, after: Option<&str>) -> bool {
+    if 1000 < text.len() {
+        return false;
+    }
+    let Parts { model, rest } = cut_parts(text.as_bytes());
+    let behind = match (rest, after) {
+        (Some(rest), Some(after)) => rest == after.as_bytes(),
+        (None, None) => true,
+        _ => false,
+    };
+    behind && model == before.as_bytes()
 }
 
 #[test]
-fn texts_and_numbers(rt: HostRuntime) -> Result<(), Fail> {
+fn texts_and_their_parts(rt: HostRuntime) -> Result<(), Memory> {
     for (text, words, count, not_text) in texts() {
-        assert!(rt; text.len() < 1000);
-        let tokens = cut_tokens(rt.alloc(), text.as_bytes())?;
-        compare_words(&rt, text, &tokens, words);
-        assert_eq!(rt;
-            (tokens.count, tokens.not_text),
-            (*count, *not_text),
-            "in {text:?}"
+        assert!(rt;
+            text_holds(rt.alloc(), text, words, *count, *not_text)?,
+            "{text:?}"
         );
     }
     for (text, before, after) in parts() {
-        assert!(rt; text.len() < 1000);
-        let Parts { model, rest } = cut_parts(text.as_bytes());
-        assert_eq!(rt; model, before.as_bytes(), "in {text:?}");
-        assert_eq!(rt; rest, after.map(|after| after.as_bytes()), "in {text:?}");
-    }
-    for (word, value) in numbers() {
-        assert_eq!(rt; number(word.as_bytes()), *value, "at {word:?}");
-    }
-    for (word, value) in exts() {
-        assert_eq!(rt; ext_of(word.as_bytes()), *value, "at {word:?}");
+        assert!(rt; parts_hold(text, before, *after), "{text:?}");
     }
     Ok(())
+}
+
+#[test]
+fn words_and_their_numbers(rt: HostRuntime) {
+    for (word, value) in numbers() {
+        assert!(rt; number(word.as_bytes()) == *value, "{word:?}");
+    }
+    for (word, value) in exts() {
+        assert!(rt; ext_of(word.as_bytes()) == *value, "{word:?}");
+    }
 }
 
 /// Gives the line in two parts, and tells whether `%%` is its only word.
@@ -265,30 +291,50 @@ fn feed_halves(short: &mut ShortLine, line: &[u8]) -> Result<bool, Memory>
     Ok(short.is_separator())
 }
 
-#[test]
-fn single_lines(rt: HostRuntime) -> Result<(), Fail> {
-    let alloc = rt.alloc();
-    let mut short = ShortLine::new(alloc);
-    for (line, kept, separator) in short_lines() {
-        assert!(rt; line.len() < 1000);
-        short.clear();
-        assert!(rt; short.is_empty());
-        let found = feed_halves(&mut short, line.as_bytes())?;
-        assert_eq!(rt; short.bytes(), kept.as_bytes(), "of {line:?}");
-        assert_eq!(rt; short.is_empty(), line.is_empty(), "of {line:?}");
-        assert_eq!(rt; found, *separator, "of {line:?}");
+/// Whether this is kept of a line, and whether it is found to be the separator where it is.
+fn is_kept(short: &mut ShortLine, line: &str, kept: &str, separator: bool) -> Result<bool, Memory> {
+    if 1000 <= line.len() {
+        return Ok(false);
     }
-    for (line, want) in contents() {
-        assert!(rt; line.len() < 1000);
-        let told = match line_content(line.as_bytes()) {
-            Content::NotText => format!(in alloc; "not text")?,
-            Content::Skipped => format!(in alloc; "skipped")?,
-            Content::Words(bytes) if bytes.len() < 1000 => {
-                format!(in alloc; "{}", count_words(bytes, 1))?
-            }
-            Content::Words(_) => format!(in alloc; "long")?,
-        };
-        assert_eq!(rt; told.as_str(), *want, "of {line:?}");
+    short.clear();
+    let was_empty = short.is_empty();
+    let found = feed_halves(short, line.as_bytes())?;
+    Ok(
+        was_empty
+            && found == separator
+            && short.bytes() == kept.as_bytes()
+            && short.is_empty() == line.is_empty(),
+    )
+}
+
+#[test]
+fn short_lines_keep_what_is_read(rt: HostRuntime) -> Result<(), Memory> {
+    let mut short = ShortLine::new(rt.alloc());
+    for (line, kept, separator) in short_lines() {
+        assert!(rt; is_kept(&mut short, line, kept, *separator)?, "{line:?}");
     }
     Ok(())
+}
+
+/// Whether a line is text, and how many words it has.
+fn count_told(line: &[u8]) -> (bool, usize)
+    requires { length line.now < 1000 }
+{
+    match line_content(line) {
+        Content::NotText => (false, 0),
+        Content::Skipped => (true, 0),
+        Content::Words(bytes) if bytes.len() < 1000 => (true, count_words(bytes, 1)),
+        Content::Words(_) => (true, 1000),
+    }
+}
+
+#[test]
+fn contents_of_lines(rt: HostRuntime) {
+    for (line, is_text, count) in contents() {
+        assert!(rt; line.len() < 1000);
+        assert!(rt;
+            count_told(line.as_bytes()) == (*is_text, *count),
+            "{line:?}"
+        );
+    }
 }

@@ -3,10 +3,9 @@
 //! The table is one literal of rows: what is told, a `|`, and the text of which it is told, in which `/` stands for LF.
 //! A row without `|` is a heading.
 
-ghost use Rattle.std.specs.Prelude.{◌<◌, length};
-
+use super::rows::{halves, text_of};
 use std::alloc::{AllocError, Global};
-use std::test::Fail;
+use ts_base::Memory;
 use ts_token::cut_tokens;
 use ts_user::{UserPattern, UserStop, read_pattern, read_pattern_text};
 
@@ -100,7 +99,7 @@ move r < maybe_b r/move r = maybe_b r/move r > found t/move t < out_a r/move t =
 7 Typing|pattern </trim 0 0/state s idle/move s < found s/move s = out s/move s > out s
 7 Typing|pattern </trim 0 0/state s held/move s < in s/move s = in s/move s > in s";
 
-fn texts() -> &'static str {
+pub(super) fn texts() -> &'static str {
     TEXTS
 }
 
@@ -113,19 +112,17 @@ fn outcome(alloc: Global, read: Result<UserPattern, UserStop>) -> Result<String,
     }
 }
 
-#[test]
-fn pattern_texts(rt: HostRuntime) -> Result<(), Fail> {
-    let alloc = rt.alloc();
-    for row in texts().split('\n') {
-        if let Some((want, text)) = row.split_once('|') {
-            let text = text.replace(alloc, '/', "\n")?;
-            assert!(rt; text.len() < 10_000);
-            let tokens = cut_tokens(alloc, text.as_bytes())?;
-            let told = outcome(alloc, read_pattern(alloc, &tokens))?;
-            assert_eq!(rt; told.as_str(), want, "{row}");
-            let told = outcome(alloc, read_pattern_text(alloc, text.as_bytes()))?;
-            assert_eq!(rt; told.as_str(), want, "{row}, line by line");
-        }
+/// What is told of the text of a row, read as a whole and line by line.
+pub(super) fn is_told(alloc: Global, row: &[u8]) -> Result<bool, Memory> {
+    let Some((want, written)) = halves(row) else {
+        return Ok(true);
+    };
+    let text = text_of(alloc, written)?;
+    if text.len() > 10_000 {
+        return Ok(false);
     }
-    Ok(())
+    let tokens = cut_tokens(alloc, &text)?;
+    let together = outcome(alloc, read_pattern(alloc, &tokens))?;
+    let by_lines = outcome(alloc, read_pattern_text(alloc, &text))?;
+    Ok(together.as_bytes() == want && by_lines.as_bytes() == want)
 }
