@@ -50,19 +50,32 @@ fn gives(
     Ok(found.as_slice() == taken && told == status)
 }
 
-/// The first input, counted from 0, that has another answer or another status.
-fn first_wrong(alloc: Global, words: &str, cases: &[Case]) -> Result<Option<usize>, AllocError> {
+/// Whether the call takes what a case says of its answer, and has its status, where a read gives at most so many bytes.
+fn is_answered(alloc: Global, words: &str, case: &Case, step: usize) -> Result<bool, AllocError> {
+    let (taken, status) = outcome_in_steps(alloc, words, case.input, step)?;
+    Ok(taken.as_slice() == case.taken && status == case.status)
+}
+
+/// The first input, counted from 0, that has another answer or another status under one of the steps.
+fn first_wrong_in_steps(
+    alloc: Global,
+    words: &str,
+    cases: &[Case],
+    steps: &[usize],
+) -> Result<Option<usize>, AllocError> {
     for row in 0..cases.len() {
-        let Case {
-            input,
-            taken,
-            status,
-        } = cases[row];
-        if !gives(alloc, words, input, taken, status)? {
-            return Ok(Some(row));
+        for step in steps {
+            if !is_answered(alloc, words, &cases[row], *step)? {
+                return Ok(Some(row));
+            }
         }
     }
     Ok(None)
+}
+
+/// The first input, counted from 0, that has another answer or another status.
+fn first_wrong(alloc: Global, words: &str, cases: &[Case]) -> Result<Option<usize>, AllocError> {
+    first_wrong_in_steps(alloc, words, cases, &[4096])
 }
 
 /// What a call with these words takes of its answer to the input, and its status.

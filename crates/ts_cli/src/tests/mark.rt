@@ -197,6 +197,5 @@ fn cells_of_mark(rt: HostRuntime) -> Result<(), AllocError> {
             Status::Refused
         )?
     );
-    assert!(rt; gives(alloc, "mark 1", b"", b"refused words\n", Status::Refused)?);
     Ok(())
 }

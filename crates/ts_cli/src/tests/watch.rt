@@ -1,6 +1,6 @@
 //! Inputs of `watch`, what is written of them and the statuses, worked by hand; and when it is written.
 
-use super::{Case, first_wrong, outcome, outcome_in_steps, words_of};
+use super::{Case, first_wrong_in_steps, outcome, words_of};
 use std::alloc::{AllocError, Global};
 use ts_base::{MemorySink, MemorySource, read_all};
 use ts_run::{Status, run};
@@ -131,43 +131,19 @@ static STREAMS: [Case; 23] = [
     },
 ];
 
-/// Another word behind `watch` is no command.
-static WORDS: [Case; 1] = [Case {
-    input: b"cells 1\n%%\n1\n",
-    taken: b"refused words\n",
-    status: Status::Refused,
-}];
-
-// The tables behind functions, so that the proof of the test doesn't read them.
+// The table behind a function, so that the proof of the test doesn't read it.
 fn streams() -> &'static [Case] {
     &STREAMS
 }
 
-fn other_words() -> &'static [Case] {
-    &WORDS
-}
-
+/// A byte at a time, or all at once.
 #[test]
 fn values_of_streams(rt: HostRuntime) -> Result<(), AllocError> {
-    assert_eq!(rt; first_wrong(rt.alloc(), "watch", streams())?, None);
-    assert_eq!(rt; first_wrong(rt.alloc(), "watch 1", other_words())?, None);
-    Ok(())
-}
-
-/// Whether the input has its answer where a read gives at most so many bytes.
-fn is_answered(alloc: Global, case: &Case, step: usize) -> Result<bool, AllocError> {
-    let (taken, status) = outcome_in_steps(alloc, "watch", case.input, step)?;
-    Ok(taken.as_slice() == case.taken && status == case.status)
-}
-
-/// One byte at a time, or all at once.
-#[test]
-fn streams_in_steps(rt: HostRuntime) -> Result<(), AllocError> {
-    for case in streams() {
-        for step in [1, 2, 7, 65_536] {
-            assert!(rt; is_answered(rt.alloc(), case, step)?, "step {step}");
-        }
-    }
+    let steps = [1, 2, 7, 65_536];
+    assert_eq!(rt;
+        first_wrong_in_steps(rt.alloc(), "watch", streams(), &steps)?,
+        None
+    );
     Ok(())
 }
 
