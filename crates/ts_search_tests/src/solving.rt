@@ -1,4 +1,5 @@
-//! Certificates against what was found outside: by hand, and by going through all series of small models.
+//! Certificates against what was found by going through all series of small models. Whole ones, line by line, are tried
+//! by `ts_cli`.
 
 ghost use Rattle.std.specs.Prelude.{IfSome};
 ghost use Rattle.ts_model.specs.Promise.{IsWhole, KeepsLimits};
@@ -6,26 +7,24 @@ ghost use Rattle.ts_model.specs.Views.{model_parts};
 
 use std::alloc::Global;
 use ts_base::Goal;
-use ts_certificate::{Certificate, Claim, TreeLine, write_certificate};
+use ts_certificate::{Certificate, Claim, TreeLine};
 use ts_compile::compile_model;
 use ts_model::{Model, Need, read_model};
 use ts_search::{list, solve};
 
 mod range_models;
-mod rows;
 mod small_models;
 mod windowed_calls;
 mod windowed_models;
 
 use range_models::range_cases;
-use rows::{Asked, Row, rows};
 use small_models::{Answer, Case, cases};
 use windowed_models::windowed_cases;
 
 const BUDGETS: [u64; 5] = [1, 2, 5, 20, 100_000];
 
 /// The model of a text; in the tests each is short.
-fn model_of(alloc: Global, text: &str, need: Need) -> Option<Model>
+pub(crate) fn model_of(alloc: Global, text: &str, need: Need) -> Option<Model>
     ensures whole { IfSome result (λ m. IsWhole (model_parts m)) }
     ensures limits { IfSome result (λ m. KeepsLimits need (model_parts m)) }
 {
@@ -49,37 +48,15 @@ fn first(alloc: Global, text: &str, count: u32, budget: u64) -> Option<Certifica
     list(alloc, &model, &program, count, budget).ok()
 }
 
-fn asked(alloc: Global, asked: Asked, budget: u64, text: &str) -> Option<Certificate> {
-    match asked {
-        Asked::Maximise => best(alloc, text, Goal::Maximise, budget),
-        Asked::Minimise => best(alloc, text, Goal::Minimise, budget),
-        Asked::Generate(count) => first(alloc, text, count, budget),
-    }
-}
-
-/// The certificate of a row as a text.
-fn written(alloc: Global, row: &Row) -> Option<Vec<u8>> {
-    let &(what, budget, model, _) = row;
-    let certificate = asked(alloc, what, budget, model)?;
-    write_certificate(alloc, &certificate).ok()
-}
-
-fn row_holds(alloc: Global, row: &Row) -> bool {
-    written(alloc, row).is_some_and(|text| text.as_slice() == row.3.as_bytes())
-}
-
-#[test]
-fn rows_by_hand(rt: HostRuntime) {
-    for (place, row) in rows().iter().enumerate() {
-        assert!(rt; row_holds(rt.alloc(), row), "row {place}");
-    }
-}
-
 /// How many of the lines are `open`.
 fn open_lines(tree: &[TreeLine]) -> usize {
-    tree.iter()
-        .filter(|line| **line == TreeLine::Unsearched)
-        .count()
+    let mut open: usize = 0;
+    for line in tree {
+        if *line == TreeLine::Unsearched {
+            open = open.saturating_add(1);
+        }
+    }
+    open
 }
 
 /// A spent budget has as many other lines, some `open` ones, and is below twice the number of series, less one.
