@@ -1,9 +1,8 @@
-//! The tests of what is read and told of texts, letters, words and patterns.
+//! The tests of what is read and told of texts, letters, words, patterns, models and certificates.
 //!
 //! A crate with tests is proved twice, once without them and once with them. So tests of public calls stand in crates
-//! where nothing else is proved: here, in `ts_machine_tests` those of automata, boxes and spans, in `ts_model_tests`
-//! those of models and their values, in `ts_search_tests` those of searches and verdicts, in `ts_tests` those of
-//! `ts_run`. Whole runs stand in `ts_cli`.
+//! where nothing else is proved: here, in `ts_machine_tests` those of automata, boxes and spans, in `ts_search_tests`
+//! those of values of models, searches and verdicts, in `ts_tests` those of `ts_run`. Whole runs stand in `ts_cli`.
 //! Each module is named for what it tries, and each expected value comes from outside the program: from a definition
 //! worked out by hand, or by enumeration.
 #![tactic(auto)]
@@ -11,9 +10,13 @@
 #[cfg(test)]
 mod base;
 #[cfg(test)]
+mod certificates;
+#[cfg(test)]
 mod expressions;
 #[cfg(test)]
 mod marked;
+#[cfg(test)]
+mod models;
 #[cfg(test)]
 mod occurrences;
 #[cfg(test)]

@@ -1,4 +1,5 @@
-//! The tests of searches, and of what checks their certificates.
+//! The tests of the values of models, of readings that come one by one, of searches, and of what checks their
+//! certificates.
 //!
 //! Why tests stand in crates of their own is told in `ts_pattern_tests`. Each module is named for what it tries, and
 //! each expected value comes from outside the program: from a definition worked out by hand, or by enumeration.
@@ -6,5 +7,11 @@
 
 #[cfg(test)]
 mod checked;
+#[cfg(test)]
+mod judged;
+#[cfg(test)]
+mod programs;
+#[cfg(test)]
+mod readings;
 #[cfg(test)]
 mod solving;

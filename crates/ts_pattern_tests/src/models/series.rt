@@ -1,10 +1,8 @@
 //! Series texts, and what is told of them.
 
-ghost use Rattle.std.specs.Prelude.{◌<◌, length};
-
-use super::{Asked, expect_rows};
+use crate::rows::{halves, text_of};
 use std::alloc::Global;
-use std::test::Fail;
+use ts_base::Memory;
 use ts_model::read_series;
 use ts_token::cut_tokens;
 
@@ -30,23 +28,21 @@ Err(Shape)|series 1 2/\u{1}/
 Err(Shape)|series 1 x/# \u{1}/";
 
 // The table behind a function, so that the proof of a test doesn't read it.
-fn two() -> &'static str {
+pub(crate) fn two() -> &'static str {
     TWO
 }
 
-/// What is read for so many cells.
-pub(super) fn series_told(alloc: Global, text: &[u8], cells: u32) -> Result<String, Fail>
-    requires { length text.now < 10000 }
-{
-    let tokens = cut_tokens(alloc, text)?;
+/// Whether of the text of a row is read what the row says, for so many cells.
+pub(crate) fn is_read(alloc: Global, cells: u32, row: &[u8]) -> Result<bool, Memory> {
+    let Some((want, written)) = halves(row) else {
+        return Ok(false);
+    };
+    let text = text_of(alloc, written)?;
+    if text.len() >= 10_000 {
+        return Ok(false);
+    }
+    let tokens = cut_tokens(alloc, &text)?;
     let found = read_series(alloc, &tokens, cells);
-    Ok(format!(in alloc; "{found:?}")?)
-}
-
-#[test]
-fn series(rt: HostRuntime) -> Result<(), Fail> {
-    let alloc = rt.alloc();
-    expect_rows(&rt, alloc, Asked::Series(2), two())?;
-    expect_rows(&rt, alloc, Asked::Series(0), "Ok([])|series/")?;
-    expect_rows(&rt, alloc, Asked::Series(1), "Err(Length)|series/")
+    let told = format!(in alloc; "{found:?}")?;
+    Ok(told.as_bytes() == want)
 }

@@ -6,28 +6,16 @@
 ghost use Rattle.std.specs.Prelude.{◌+◌, ◌<◌, ◌≤◌, length};
 ghost use Rattle.ts_model.specs.LineByLine.{HasRoom, lines_read};
 
+use super::rows::{halves, text_of};
 use std::alloc::{AllocError, Global};
-use std::process::Abort;
-use std::test::Fail;
 use ts_base::{Memory, first_line};
 use ts_model::{Model, ModelReader, ModelStop, Need, read_model};
 use ts_token::ShortLine;
 
 mod comparisons;
-mod held;
-mod series;
-mod texts;
-
-/// What is told of a text.
-#[derive(Clone, Copy)]
-enum Asked {
-    /// Whether a model is read, for this need, or why not.
-    Model(Need, Way),
-    /// What a model holds.
-    Held,
-    /// The series for so many cells.
-    Series(u32),
-}
+pub(super) mod held;
+pub(super) mod series;
+pub(super) mod texts;
 
 /// How the lines of a model are read.
 #[derive(Clone, Copy)]
@@ -38,37 +26,6 @@ enum Way {
     Shortened,
 }
 
-/// Of each row's text is told what the row says.
-fn expect_rows(rt: &impl Abort, alloc: Global, asked: Asked, rows: &str) -> Result<(), Fail> {
-    for row in rows.split('\n') {
-        if let Some((want, text)) = row.split_once('|') {
-            let text = text.replace(alloc, '/', "\n")?;
-            assert!(rt; text.len() < 10_000);
-            let told = told(alloc, asked, text.as_bytes())?;
-            assert_eq!(rt; told.as_str(), want, "{row}");
-        }
-    }
-    Ok(())
-}
-
-/// The same of models, in whatever way their lines are read.
-fn expect_models(rt: &impl Abort, alloc: Global, need: Need, rows: &str) -> Result<(), Fail> {
-    for way in [Way::Together, Way::OneByOne, Way::Shortened] {
-        expect_rows(rt, alloc, Asked::Model(need, way), rows)?;
-    }
-    Ok(())
-}
-
-fn told(alloc: Global, asked: Asked, text: &[u8]) -> Result<String, Fail>
-    requires { length text.now < 10000 }
-{
-    match asked {
-        Asked::Model(need, way) => Ok(outcome(alloc, read_by(alloc, need, text, way))?),
-        Asked::Held => held::held_told(alloc, text),
-        Asked::Series(cells) => series::series_told(alloc, text, cells),
-    }
-}
-
 /// `ok`, or why no model was read.
 fn outcome(alloc: Global, read: Result<Model, ModelStop>) -> Result<String, AllocError> {
     match read {
@@ -76,6 +33,30 @@ fn outcome(alloc: Global, read: Result<Model, ModelStop>) -> Result<String, Allo
         Err(ModelStop::Refused { line, kind }) => format!(in alloc; "{line} {kind:?}"),
         Err(ModelStop::Memory) => String::from_str(alloc, "memory"),
     }
+}
+
+/// Whether this is told of a text, in whatever way its lines are read.
+fn is_outcome(alloc: Global, need: Need, text: &[u8], want: &[u8]) -> Result<bool, Memory>
+    requires { length text.now < 10000 }
+{
+    for way in [Way::Together, Way::OneByOne, Way::Shortened] {
+        if outcome(alloc, read_by(alloc, need, text, way))?.as_bytes() != want {
+            return Ok(false);
+        }
+    }
+    Ok(true)
+}
+
+/// Whether a model is read of the text of a row, for this need, or why not.
+pub(super) fn is_told(alloc: Global, need: Need, row: &[u8]) -> Result<bool, Memory> {
+    let Some((want, written)) = halves(row) else {
+        return Ok(true);
+    };
+    let text = text_of(alloc, written)?;
+    if text.len() >= 10_000 {
+        return Ok(false);
+    }
+    is_outcome(alloc, need, &text, want)
 }
 
 fn read_by(alloc: Global, need: Need, text: &[u8], way: Way) -> Result<Model, ModelStop>

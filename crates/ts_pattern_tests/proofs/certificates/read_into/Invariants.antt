@@ -1,5 +1,5 @@
 use Rattle.std.proofs.Common.{length}
-use Rattle.ts_model_tests.proofs.certificates.read_into.Given as goal
+use Rattle.ts_pattern_tests.proofs.certificates.read_into.Given as goal
 
 abbrev pub decreases-loop-reader : goal.decreases-loop-reader
 decreases-loop-reader l = length l.rest

@@ -1,13 +1,13 @@
 //! The texts of programs, worked out from the tables alone, and values of their terms.
 
-ghost use Rattle.std.specs.Prelude.{IfSome};
 ghost use Rattle.ts_model.specs.Promise.{IsWhole};
 ghost use Rattle.ts_model.specs.Views.{model_parts};
 
+use crate::solving::model_of;
 use std::alloc::Global;
 use ts_base::{Ext, Memory, Range};
 use ts_compile::{compile_model, value_of, write_program};
-use ts_model::{Model, Need, read_model};
+use ts_model::{Model, Need};
 
 /// A model, the text of its program, and the values of its terms on 1 3 3 2 2 1 4.
 type Case = (&'static str, &'static str, &'static [Ext]);
@@ -81,16 +81,6 @@ fn cases() -> &'static [Case] {
     &CASES
 }
 
-/// The model of a text; in the tests each is short.
-pub fn model_of(alloc: Global, text: &[u8]) -> Option<Model>
-    ensures { IfSome result (λ m. IsWhole (model_parts m)) }
-{
-    if 1000 < text.len() {
-        return None;
-    }
-    read_model(alloc, text, Need::Values).ok()
-}
-
 fn has_program(alloc: Global, model: &Model, wanted: &str, terms: usize) -> Result<bool, Memory>
     requires { IsWhole (model_parts model.now) }
 {
@@ -118,7 +108,7 @@ fn has_values(alloc: Global, model: &Model, values: &[Ext]) -> Result<bool, Memo
 
 fn case_holds(alloc: Global, case: &Case) -> Result<bool, Memory> {
     let (text, wanted, values) = case;
-    match model_of(alloc, text.as_bytes()) {
+    match model_of(alloc, text, Need::Values) {
         Some(model) => Ok(
             has_program(alloc, &model, wanted, values.len())? && has_values(alloc, &model, values)?,
         ),
@@ -134,11 +124,11 @@ fn programs(rt: HostRuntime) -> Result<(), Memory> {
     Ok(())
 }
 
-static WINDOWS: &[u8] =
-    b"cells 7\nterm a = count peak\nterm b = count peak in 2..5\nterm c = count zigzag in 7\n";
+static WINDOWS: &str =
+    "cells 7\nterm a = count peak\nterm b = count peak in 2..5\nterm c = count zigzag in 7\n";
 
 fn has_windows(alloc: Global) -> Result<bool, Memory> {
-    let Some(model) = model_of(alloc, WINDOWS) else {
+    let Some(model) = model_of(alloc, WINDOWS, Need::Values) else {
         return Ok(false);
     };
     let program = compile_model(alloc, &model)?;

@@ -1,10 +1,8 @@
 //! What models hold.
 
-ghost use Rattle.std.specs.Prelude.{◌<◌, length};
-
-use super::{Asked, expect_rows};
+use crate::rows::{halves, text_of};
 use std::alloc::{AllocError, Global};
-use std::test::Fail;
+use ts_base::Memory;
 use ts_model::{Model, Need, read_model};
 
 /// The number of cells, the values of each behind a colon, the objective, the requirements and the terms.
@@ -26,15 +24,23 @@ static HELD: &str = "\
     require c <= -inf/require w > 4/objective c/";
 
 // The table behind a function, so that the proof of a test doesn't read it.
-fn held() -> &'static str {
+pub(crate) fn held() -> &'static str {
     HELD
 }
 
-pub(super) fn held_told(alloc: Global, text: &[u8]) -> Result<String, Fail>
-    requires { length text.now < 10000 }
-{
-    let model = read_model(alloc, text, Need::Values)?;
-    Ok(parts_of(alloc, &model)?)
+/// Whether a model is read of the text of a row, and holds what the row says.
+pub(crate) fn is_held(alloc: Global, row: &[u8]) -> Result<bool, Memory> {
+    let Some((want, written)) = halves(row) else {
+        return Ok(false);
+    };
+    let text = text_of(alloc, written)?;
+    if text.len() >= 10_000 {
+        return Ok(false);
+    }
+    match read_model(alloc, &text, Need::Values) {
+        Ok(model) => Ok(parts_of(alloc, &model)?.as_bytes() == want),
+        Err(_) => Ok(false),
+    }
 }
 
 fn parts_of(alloc: Global, model: &Model) -> Result<String, AllocError> {
@@ -59,9 +65,4 @@ fn values_of(alloc: Global, model: &Model) -> Result<String, AllocError> {
         }
     }
     Ok(text)
-}
-
-#[test]
-fn models_hold(rt: HostRuntime) -> Result<(), Fail> {
-    expect_rows(&rt, rt.alloc(), Asked::Held, held())
 }

@@ -1,14 +1,14 @@
 //! Certificates written and read, texts that are refused, and a stop that stays.
 
-mod tables;
+pub(super) mod tables;
 
+use super::rows::{halves, text_of, word};
 use std::alloc::Global;
-use std::test::Fail;
-use tables::{refused_rows, taken_rows};
 use ts_base::{Ext, Goal, Memory, first_line};
 use ts_certificate::{
     Aim, CertStop, Certificate, Claim, LineReader, Parsed, TreeLine, write_certificate,
 };
+use ts_token::number;
 
 /// Takes the next line into a certificate.
 fn take(certificate: &mut Certificate, parsed: Parsed) -> Result<(), Memory> {
@@ -48,62 +48,39 @@ fn read(alloc: Global, text: &[u8]) -> Result<Certificate, CertStop> {
     Ok(certificate)
 }
 
-/// The text that a row stands for.
-fn text_of(alloc: Global, row: &str) -> Result<Vec<u8>, Memory> {
-    let mut text = Vec::new(alloc);
-    for byte in row.as_bytes() {
-        text.push(if *byte == b'|' { b'\n' } else { *byte })?;
-    }
-    Ok(text)
-}
-
-/// Whether a text is taken, and written again as it was.
-fn is_taken(alloc: Global, text: &[u8]) -> Result<bool, Memory> {
-    match read(alloc, text) {
-        Ok(certificate) => Ok(write_certificate(alloc, &certificate)?.as_slice() == text),
+/// Whether the text of a row is taken, and written again as it was.
+pub(super) fn is_taken(alloc: Global, row: &[u8]) -> Result<bool, Memory> {
+    let text = text_of(alloc, row)?;
+    match read(alloc, &text) {
+        Ok(certificate) => Ok(
+            write_certificate(alloc, &certificate)?.as_slice() == text.as_slice(),
+        ),
         Err(_) => Ok(false),
     }
 }
 
-#[test]
-fn taken(rt: HostRuntime) -> Result<(), Memory> {
-    for row in taken_rows().lines() {
-        let text = text_of(rt.alloc(), row.trim_start())?;
-        assert!(rt; is_taken(rt.alloc(), &text)?, "{row}");
-    }
-    Ok(())
-}
-
-fn number(head: &str, place: usize) -> Option<u64> {
-    head.split_whitespace().nth(place)?.parse::<u64>().ok()
-}
-
 /// The stop that the head of a row tells.
-fn stop_of(head: &str) -> Option<CertStop> {
-    let line = head.split_whitespace().next()?.parse::<u32>().ok()?;
-    match (number(head, 1), number(head, 2)) {
-        (Some(said), Some(found)) => Some(CertStop::CountDiffers { line, said, found }),
+fn stop_of(head: &[u8]) -> Option<CertStop> {
+    let line = number(word(head, 0))? as u32;
+    match (number(word(head, 1)), number(word(head, 2))) {
+        (Some(said), Some(found)) => Some(CertStop::CountDiffers {
+            line,
+            said: said as u64,
+            found: found as u64,
+        }),
         _ => Some(CertStop::Text { line }),
     }
 }
 
 /// Whether the text of a row is refused as its head tells.
-fn is_refused(alloc: Global, row: &str) -> Result<bool, Memory> {
-    match row.trim_start().split_once(':') {
-        Some((head, text)) => {
-            let found = read(alloc, &text_of(alloc, text)?).err();
-            Ok(found.is_some() && found == stop_of(head))
-        }
-        None => Ok(false),
+pub(super) fn is_refused(alloc: Global, row: &[u8]) -> Result<bool, Memory> {
+    let Some((head, written)) = halves(row) else {
+        return Ok(false);
+    };
+    match read(alloc, &text_of(alloc, written)?) {
+        Ok(_) => Ok(false),
+        Err(stop) => Ok(Some(stop) == stop_of(head)),
     }
-}
-
-#[test]
-fn refused(rt: HostRuntime) -> Result<(), Memory> {
-    for row in refused_rows().lines() {
-        assert!(rt; is_refused(rt.alloc(), row)?, "{row}");
-    }
-    Ok(())
 }
 
 fn unfinished(alloc: Global) -> Result<Certificate, Memory> {
@@ -119,13 +96,17 @@ fn unfinished(alloc: Global) -> Result<Certificate, Memory> {
     })
 }
 
+fn is_written(alloc: Global) -> Result<bool, Memory> {
+    let text = write_certificate(alloc, &unfinished(alloc)?)?;
+    Ok(
+        text.as_slice()
+            == b"maximise\nbudget 1\nseries 0 1 0\nsplit 1 0\nopen\nopen\nend 1 2\n".as_slice(),
+    )
+}
+
 #[test]
-fn written(rt: HostRuntime) -> Result<(), Fail> {
-    let text = write_certificate(rt.alloc(), &unfinished(rt.alloc())?)?;
-    assert_eq!(rt;
-        text.as_slice(),
-        b"maximise\nbudget 1\nseries 0 1 0\nsplit 1 0\nopen\nopen\nend 1 2\n".as_slice()
-    );
+fn written(rt: HostRuntime) -> Result<(), Memory> {
+    assert!(rt; is_written(rt.alloc())?);
     Ok(())
 }
 
@@ -137,14 +118,19 @@ fn told(alloc: Global, reader: &mut LineReader, line: &[u8]) -> Result<Parsed, C
     reader.line(alloc, line)
 }
 
+/// Whether a second line that is refused is told again and again.
+fn keeps_its_stop(alloc: Global) -> bool {
+    let mut reader = LineReader::new();
+    let first = told(alloc, &mut reader, b"generate 2\n");
+    let second = told(alloc, &mut reader, b"best 1\n").err();
+    let third = told(alloc, &mut reader, b"full 1\n").err();
+    let stop = Some(CertStop::Text { line: 2 });
+    first == Ok(Parsed::Aim(Aim::List(2)))
+        && [second, third, reader.finish().err()] == [stop, stop, stop]
+        && reader.next_line() == 2
+}
+
 #[test]
 fn stop_stays(rt: HostRuntime) {
-    let mut reader = LineReader::new();
-    let first = told(rt.alloc(), &mut reader, b"generate 2\n");
-    assert!(rt; first == Ok(Parsed::Aim(Aim::List(2))));
-    let second = told(rt.alloc(), &mut reader, b"best 1\n").err();
-    let third = told(rt.alloc(), &mut reader, b"full 1\n").err();
-    let stop = Some(CertStop::Text { line: 2 });
-    assert!(rt; [second, third, reader.finish().err()] == [stop, stop, stop]);
-    assert!(rt; reader.next_line() == 2);
+    assert!(rt; keeps_its_stop(rt.alloc()));
 }

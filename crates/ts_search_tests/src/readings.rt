@@ -2,14 +2,15 @@
 
 ghost use Rattle.std.specs.Prelude.{◌≤◌};
 
-use crate::programs::model_of;
+use crate::solving::model_of;
 use std::alloc::Global;
 use ts_base::{Ext, Memory};
 use ts_compile::compile_model;
+use ts_model::Need;
 use ts_monitor::Monitor;
 
-static TEXT: &[u8] =
-    b"cells 1\nterm w = sum width peak\nterm c = count peak\nterm m = min width peak\nterm t = max max peak\n";
+static TEXT: &str =
+    "cells 1\nterm w = sum width peak\nterm c = count peak\nterm m = min width peak\nterm t = max max peak\n";
 
 /// A reading, and the values of the four terms from then on.
 type Row = (i64, &'static [Ext]);
@@ -44,7 +45,7 @@ fn values(alloc: Global, monitor: &Monitor) -> Result<Vec<Ext>, Memory>
 /// The number of readings up to which all values are as they should be.
 #[tactic(auto, using(ts_compile::proofs::Over::looks_at_all))]
 fn right_readings(alloc: Global) -> Result<Option<u32>, Memory> {
-    let Some(model) = model_of(alloc, TEXT) else {
+    let Some(model) = model_of(alloc, TEXT, Need::Values) else {
         return Ok(None);
     };
     if model.has_window() {

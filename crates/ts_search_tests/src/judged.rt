@@ -1,9 +1,10 @@
 //! Series judged by a model; what is said of them was worked out by hand.
 
-use crate::programs::model_of;
+use crate::solving::model_of;
 use std::alloc::Global;
 use ts_base::{Ext, Memory};
 use ts_compile::judge;
+use ts_model::Need;
 
 /// A model, and what it says of 1 3 3 2 2 1 4: which cells lie in their domains, which requirements hold, what the
 /// terms are worth, and whether the series meets it.
@@ -89,7 +90,7 @@ fn cases() -> &'static [Case] {
 
 fn case_holds(alloc: Global, case: &Case) -> Result<bool, Memory> {
     let (text, inside, holding, values, meets) = *case;
-    let Some(model) = model_of(alloc, text.as_bytes()) else {
+    let Some(model) = model_of(alloc, text, Need::Values) else {
         return Ok(false);
     };
     if model.cells.len() != 7 {

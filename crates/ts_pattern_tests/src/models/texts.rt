@@ -1,9 +1,5 @@
 //! Model texts, and what is told of them.
 
-use super::expect_models;
-use std::test::Fail;
-use ts_model::Need;
-
 /// No objective is needed, and no limit on all domains together.
 static VALUES: &str = "\
 -- by the lines that are told by their first bytes
@@ -278,27 +274,18 @@ ok|cells 1/\
     require a = 1/";
 
 // Each table behind a function, so that the proof of a test doesn't read it.
-fn values() -> &'static str {
+pub(crate) fn values() -> &'static str {
     VALUES
 }
 
-fn list() -> &'static str {
+pub(crate) fn list() -> &'static str {
     LIST
 }
 
-fn best() -> &'static str {
+pub(crate) fn best() -> &'static str {
     BEST
 }
 
-fn many() -> &'static str {
+pub(crate) fn many() -> &'static str {
     MANY
-}
-
-#[test]
-fn models(rt: HostRuntime) -> Result<(), Fail> {
-    let alloc = rt.alloc();
-    expect_models(&rt, alloc, Need::Values, values())?;
-    expect_models(&rt, alloc, Need::Values, many())?;
-    expect_models(&rt, alloc, Need::List, list())?;
-    expect_models(&rt, alloc, Need::Best, best())
 }

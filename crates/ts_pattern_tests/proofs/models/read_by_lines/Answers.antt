@@ -4,7 +4,7 @@ use Rattle.ts_model.specs.declared.error.ModelStop.{ModelStop}
 use Rattle.ts_model.specs.declared.error.ModelStop.TheVariants.{Refused, Memory}
 use Rattle.ts_model.specs.declared.model.Need.{Need}
 use Rattle.ts_model.specs.LineByLine.{HasRead, SoFar, lines_read}
-use Rattle.ts_model_tests.proofs.models.read_by_lines.Goals as goal
+use Rattle.ts_pattern_tests.proofs.models.read_by_lines.Goals as goal
 
 none_counted : (need : Need) (r : Result SoFar ModelStop) → HasRead need [] r → lines_read r ≡ 0
 none_counted need (Ok s) h = h.1
