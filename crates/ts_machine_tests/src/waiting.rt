@@ -1,9 +1,9 @@
 //! A small tree walked line by line, places to split at, and many boxes that wait at once.
 
-ghost use Rattle.std.specs.Prelude.{IsTrue, pos, neg_ℤ, int_le, ◌&&◌, ◌≡◌};
-ghost use Rattle.std.specs.List.{list_all};
+ghost use Rattle.std.specs.Prelude.{IsTrue};
 ghost use Rattle.ts_frontier.specs.Follow.{MakesBoxes};
 
+use crate::bounds::within;
 use TreeLine::{No, Remove, Split, Unsearched, Worse, Yes};
 use std::alloc::Global;
 use std::process::Abort;
@@ -54,14 +54,6 @@ fn forms() -> &'static [(
     &'static [i64],
 )] {
     &FORMS
-}
-
-fn within(values: &[i64]) -> bool
-    ensures { result ≡ list_all (λ v. int_le (neg_ℤ (pos 1000000)) v && int_le v (pos 1000000)) values.now }
-{
-    values
-        .iter()
-        .all(|value| -1_000_000 <= *value && *value <= 1_000_000)
 }
 
 /// These numbers, and no others.

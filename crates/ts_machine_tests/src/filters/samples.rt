@@ -1,10 +1,10 @@
 //! The automata of peaks and the small boxes on which the calls are tried.
 
-ghost use Rattle.std.specs.Prelude.{◌≡◌, ◌≤◌, ◌&&◌, ℤ, IfSome, IsTrue, List, int_le, length, neg_ℤ, pos};
-ghost use Rattle.std.specs.List.{list_all};
+ghost use Rattle.std.specs.Prelude.{◌≤◌, ℤ, IfSome, IsTrue, List, length};
 ghost use Rattle.ts_bound.specs.TermSpans.{LooksIn, automata_of};
 
 use super::rows::{Spans, boxes};
+use crate::bounds::within;
 use Ext::Int;
 use std::alloc::{AllocError, Global};
 use ts_automaton::read;
@@ -47,14 +47,6 @@ pub(crate) fn looks_in(m: &Machine, cells: &Boxed) -> bool
             1 <= window.first && window.first <= window.last && window.last <= cells.cells()
         }
     }
-}
-
-fn within(values: &[i64]) -> bool
-    ensures { result ≡ list_all (λ v. int_le (neg_ℤ (pos 1000000)) v && int_le v (pos 1000000)) values.now }
-{
-    values
-        .iter()
-        .all(|value| -1_000_000 <= *value && *value <= 1_000_000)
 }
 
 fn domain(alloc: Global, low: i64, high: i64) -> Option<Domain> {
