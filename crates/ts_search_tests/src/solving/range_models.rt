@@ -70,7 +70,11 @@ static CASES: [Case; 20] = [
         meeting: 81,
         maximise: Some((Int(1), &[-1, 0, -1, 0, 1])),
         minimise: Some((Int(0), &[-1, -1, -1, -1, 1])),
-        first: &[&[-1, -1, -1, -1, 1], &[-1, -1, -1, 0, 1], &[-1, -1, -1, 1, 1]],
+        first: &[
+            &[-1, -1, -1, -1, 1],
+            &[-1, -1, -1, 0, 1],
+            &[-1, -1, -1, 1, 1],
+        ],
     },
     Case {
         model: "cells 5\ndomain -1..1\ncell 2 0\nterm a = max range plain\nterm b = min surf summit\n\
@@ -79,7 +83,11 @@ static CASES: [Case; 20] = [
         meeting: 49,
         maximise: Some((PosInf, &[-1, 0, 0, -1, 0])),
         minimise: Some((Int(0), &[-1, 0, -1, -1, 0])),
-        first: &[&[-1, 0, -1, -1, 0], &[-1, 0, -1, -1, 1], &[-1, 0, -1, 0, -1]],
+        first: &[
+            &[-1, 0, -1, -1, 0],
+            &[-1, 0, -1, -1, 1],
+            &[-1, 0, -1, 0, -1],
+        ],
     },
     Case {
         model: "cells 5\ndomain -1..1\nterm a = sum range strictly_increasing_sequence\n\
@@ -88,7 +96,11 @@ static CASES: [Case; 20] = [
         meeting: 243,
         maximise: Some((Int(4), &[-1, -1, 1, -1, 1])),
         minimise: Some((Int(0), &[-1, -1, -1, -1, -1])),
-        first: &[&[-1, -1, -1, -1, -1], &[-1, -1, -1, -1, 0], &[-1, -1, -1, -1, 1]],
+        first: &[
+            &[-1, -1, -1, -1, -1],
+            &[-1, -1, -1, -1, 0],
+            &[-1, -1, -1, -1, 1],
+        ],
     },
     Case {
         model: "cells 6\ndomain -1..0\nterm a = max range increasing_sequence\n\
@@ -127,7 +139,11 @@ static CASES: [Case; 20] = [
         meeting: 72,
         maximise: Some((PosInf, &[-1, -1, -1, -1, -1])),
         minimise: Some((Int(0), &[-1, -1, -1, 0, -1])),
-        first: &[&[-1, -1, -1, -1, -1], &[-1, -1, -1, -1, 0], &[-1, -1, -1, -1, 1]],
+        first: &[
+            &[-1, -1, -1, -1, -1],
+            &[-1, -1, -1, -1, 0],
+            &[-1, -1, -1, -1, 1],
+        ],
     },
     Case {
         model: "cells 6\ndomain -1..0\nterm a = sum range decreasing_sequence\nterm b = min max zigzag\n\
@@ -158,7 +174,11 @@ static CASES: [Case; 20] = [
         meeting: 81,
         maximise: Some((Int(4), &[1, -1, -1, 1, -1])),
         minimise: Some((Int(0), &[1, 1, 1, 1, 1])),
-        first: &[&[1, -1, -1, -1, -1], &[1, -1, -1, -1, 0], &[1, -1, -1, -1, 1]],
+        first: &[
+            &[1, -1, -1, -1, -1],
+            &[1, -1, -1, -1, 0],
+            &[1, -1, -1, -1, 1],
+        ],
     },
     Case {
         model: "cells 5\ndomain 0..2\nterm a = min range decreasing\n\

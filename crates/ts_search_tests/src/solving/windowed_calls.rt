@@ -1,5 +1,6 @@
 //! The windowed models in the commands that don't search: what `check` says of a series, what the automata of `compile`
-//! answer on it, and what `verify` says of the certificates of searches, as they are and with a false claim.
+//! answer on it, and what `verify` says of the certificates of searches, as they are and with a false claim; and what it
+//! says of those of models with ranges.
 //!
 //! The values are by the definition of a window, as in the table of the models. The lines are by a literal checker over
 //! the spans of the definitions, which has its automata from the tables of seeds.
@@ -7,6 +8,7 @@
 ghost use Rattle.std.specs.Prelude.{◌≤◌, IfSome, length};
 ghost use Rattle.ts_pattern.specs.Limits.{IsSeries};
 
+use super::range_models::range_cases;
 use super::small_models::Case;
 use super::windowed_models::windowed_cases;
 use super::{best, first, model_of};
@@ -325,6 +327,20 @@ fn certificates_of_windowed_models(rt: HostRuntime) {
         for which in 0..3_usize {
             assert_eq!(rt;
                 is_judged(rt.alloc(), case, which, lines[which]),
+                Some(true),
+                "{}",
+                case.model
+            );
+        }
+    }
+}
+
+#[test]
+fn certificates_of_models_with_ranges(rt: HostRuntime) {
+    for case in range_cases() {
+        for which in 0..3_usize {
+            assert_eq!(rt;
+                is_judged(rt.alloc(), case, which, 0),
                 Some(true),
                 "{}",
                 case.model
