@@ -1,9 +1,9 @@
 //! Rows, spans and boxes of one series, with values from a program that follows the definitions over all pairs of
 //! values and knows no Rattle.
 //!
-//! A row of hulls is written as text, a `|` between two hulls: a hull as its spans of C, D and R (E and F hold 0), `-`
-//! where it is none; a span as its two ends with a `:` between them, or as its only number. An `e` stands for the
-//! constant of the machine that results begin with.
+//! A row of hulls is written as text, a `|` between two hulls: a hull as its spans of C, E, D, F and R, or of C, D and R
+//! where E and F hold 0, and `-` where it is none; a span as its two ends with a `:` between them, or as its only number.
+//! An `e` stands for the constant of the machine that results begin with.
 
 ghost use Rattle.std.specs.Prelude.{◌≤◌, ◌&&◌, ◌≡◌, IfOk, None, int_le, length, neg_ℤ, pos};
 ghost use Rattle.std.specs.List.{list_all};
@@ -115,16 +115,29 @@ pub(crate) fn span(written: &str, e: Ext) -> Option<Span> {
     })
 }
 
-fn hull(written: &str, e: Ext) -> Option<Hull> {
+/// The span at a place of a hull, and that of 0 where there is none.
+fn span_at(written: &str, place: usize, e: Ext) -> Option<Span> {
+    match word(written, place) {
+        "" => Some(Span::one(Ext::Int(0))),
+        written => span(written, e),
+    }
+}
+
+fn hull(written: &str, first: Ext) -> Option<Hull> {
     if word(written, 0) == "-" {
         return Some(Hull::none());
     }
+    let [c, e, d, f, r] = if word(written, 3).is_empty() {
+        [0, 9, 1, 9, 2]
+    } else {
+        [0, 1, 2, 3, 4]
+    };
     Some(Hull {
-        c: span(word(written, 0), e)?,
-        e: Span::one(Ext::Int(0)),
-        d: span(word(written, 1), e)?,
-        f: Span::one(Ext::Int(0)),
-        r: span(word(written, 2), e)?,
+        c: span_at(written, c, first)?,
+        e: span_at(written, e, first)?,
+        d: span_at(written, d, first)?,
+        f: span_at(written, f, first)?,
+        r: span_at(written, r, first)?,
     })
 }
 

@@ -3,8 +3,6 @@
 
 ghost use Rattle.std.specs.Prelude.{◌<◌};
 
-mod ranges;
-
 use super::terms::{HIGH, LOW, PAIRS, answer, value};
 use arrayvec::ArrayVec;
 use std::alloc::Global;
@@ -21,7 +19,7 @@ use ts_transducer::{Arrow, Row, Transducer};
 type Line = (Kind, (Phase, u8), (Phase, u8), (Phase, u8));
 
 /// A series, and its value under each pair, in the order of `terms`.
-type Values = (&'static [i64], [i64; 13]);
+type Values = (&'static [i64], [i64; 16]);
 
 /// Rows, how many cells an occurrence leaves out at its end, and values.
 type Case = (&'static [Line], u8, &'static [Values]);
@@ -36,22 +34,29 @@ static CASES: [Case; 5] = [
         ],
         1,
         &[
-            (&[4], [0, 0, 0, 0, 0, 0, LOW, LOW, LOW, 1, HIGH, HIGH, HIGH]),
+            (
+                &[4],
+                [
+                    0, 0, 0, 0, 0, 0, LOW, LOW, LOW, 1, HIGH, HIGH, HIGH, 0, LOW, HIGH,
+                ],
+            ),
             (
                 &[2, 2, 1],
-                [0, 0, 0, 0, 0, 0, LOW, LOW, LOW, 3, HIGH, HIGH, HIGH],
+                [
+                    0, 0, 0, 0, 0, 0, LOW, LOW, LOW, 3, HIGH, HIGH, HIGH, 0, LOW, HIGH,
+                ],
             ),
             (
                 &[1, 3, 3, 2, 2, 1, 4],
-                [1, 4, 10, 3, 2, 4, 10, 3, 2, 4, 10, 3, 2],
+                [1, 4, 10, 3, 2, 4, 10, 3, 2, 4, 10, 3, 2, 1, 1, 1],
             ),
             (
                 &[0, 3, 5, 5, 2, 1, 1, 4, 6, 2, 2, 1],
-                [2, 8, 29, 11, 4, 4, 15, 6, 2, 4, 14, 5, 2],
+                [2, 8, 29, 11, 4, 4, 15, 6, 2, 4, 14, 5, 2, 7, 4, 3],
             ),
             (
                 &[-5, -2, -3, -1, -1, -9, -9, -8, 7],
-                [2, 3, -4, -3, -3, 2, -2, -1, -1, 1, -2, -2, -2],
+                [2, 3, -4, -3, -3, 2, -2, -1, -1, 1, -2, -2, -2, 0, 0, 0],
             ),
         ],
     ),
@@ -63,18 +68,25 @@ static CASES: [Case; 5] = [
         ],
         0,
         &[
-            (&[9], [0, 0, 0, 0, 0, 0, LOW, LOW, LOW, 1, HIGH, HIGH, HIGH]),
+            (
+                &[9],
+                [
+                    0, 0, 0, 0, 0, 0, LOW, LOW, LOW, 1, HIGH, HIGH, HIGH, 0, LOW, HIGH,
+                ],
+            ),
             (
                 &[3, 2, 2],
-                [0, 0, 0, 0, 0, 0, LOW, LOW, LOW, 3, HIGH, HIGH, HIGH],
+                [
+                    0, 0, 0, 0, 0, 0, LOW, LOW, LOW, 3, HIGH, HIGH, HIGH, 0, LOW, HIGH,
+                ],
             ),
             (
                 &[1, 2, 2, 3, 3, 1, 0, 5],
-                [2, 6, 13, 8, 1, 4, 8, 5, 1, 2, 5, 3, 0],
+                [2, 6, 13, 8, 1, 4, 8, 5, 1, 2, 5, 3, 0, 7, 5, 2],
             ),
             (
                 &[-4, -4, -1, -1, -1, 2, 2, -7, -3, -3, -3],
-                [2, 7, -15, -1, -11, 5, -5, 2, -4, 2, -10, -3, -7],
+                [2, 7, -15, -1, -11, 5, -5, 2, -4, 2, -10, -3, -7, 10, 6, 4],
             ),
         ],
     ),
@@ -85,16 +97,19 @@ static CASES: [Case; 5] = [
         &[
             (
                 &[0, 1, 1],
-                [0, 0, 0, 0, 0, 0, LOW, LOW, LOW, 3, HIGH, HIGH, HIGH],
+                [
+                    0, 0, 0, 0, 0, 0, LOW, LOW, LOW, 3, HIGH, HIGH, HIGH, 0, LOW, HIGH,
+                ],
             ),
             (
                 &[5, 3, 3, -2, 8, 8, 1],
-                [3, 6, 18, 16, 2, 2, 9, 8, 3, 2, 1, 3, -2],
+                [3, 6, 18, 16, 2, 2, 9, 8, 3, 2, 1, 3, -2, 14, 7, 2],
             ),
             (
                 &[1000000, -1000000, 1000000, -1000000],
                 [
                     2, 4, 0, 2000000, -2000000, 2, 0, 1000000, -1000000, 2, 0, 1000000, -1000000,
+                    4000000, 2000000, 2000000,
                 ],
             ),
         ],
@@ -114,19 +129,21 @@ static CASES: [Case; 5] = [
         &[
             (
                 &[1, 2, 3],
-                [0, 0, 0, 0, 0, 0, LOW, LOW, LOW, 3, HIGH, HIGH, HIGH],
+                [
+                    0, 0, 0, 0, 0, 0, LOW, LOW, LOW, 3, HIGH, HIGH, HIGH, 0, LOW, HIGH,
+                ],
             ),
             (
                 &[1, 4, 2, 6, 6, 3, 5, -1, 0, 0],
-                [2, 5, 13, 9, 1, 3, 7, 5, 2, 2, 6, 4, -1],
+                [2, 5, 13, 9, 1, 3, 7, 5, 2, 2, 6, 4, -1, 8, 6, 2],
             ),
             (
                 &[4, 1, 3, 0, 2, 2, 5, -3, 9, -7, 1, 8],
-                [2, 7, 8, 12, -7, 4, 4, 9, 0, 3, 4, 3, -7],
+                [2, 7, 8, 12, -7, 4, 4, 9, 0, 3, 4, 3, -7, 19, 16, 3],
             ),
             (
                 &[1, 3, 2, 2, 4, 1, 3, 2, 1, 2, 1],
-                [2, 5, 11, 6, 2, 3, 8, 4, 1, 2, 3, 2, 1],
+                [2, 5, 11, 6, 2, 3, 8, 4, 1, 2, 3, 2, 1, 4, 3, 1],
             ),
         ],
     ),
@@ -141,15 +158,17 @@ static CASES: [Case; 5] = [
         &[
             (
                 &[7, 7, 8, 8],
-                [0, 0, 0, 0, 0, 0, LOW, LOW, LOW, 4, HIGH, HIGH, HIGH],
+                [
+                    0, 0, 0, 0, 0, 0, LOW, LOW, LOW, 4, HIGH, HIGH, HIGH, 0, LOW, HIGH,
+                ],
             ),
             (
                 &[0, 1, 1, 0, 0, 1, 0, 0, 2],
-                [4, 7, 3, 2, 2, 2, 2, 1, 1, 1, 0, 0, 0],
+                [4, 7, 3, 2, 2, 2, 2, 1, 1, 1, 0, 0, 0, 0, 0, 0],
             ),
             (
                 &[3, -1, -1, -4, 6, 6, 9, 9, 2, -8, -8, -8, 1],
-                [3, 11, 2, 10, -6, 4, 30, 9, 6, 3, -22, -1, -8],
+                [3, 11, 2, 10, -6, 4, 30, 9, 6, 3, -22, -1, -8, 16, 10, 3],
             ),
         ],
     ),
@@ -194,7 +213,7 @@ fn transducer(lines: &[Line]) -> Option<Transducer> {
 
 /// Whether the automaton has the values of a pair on the series.
 fn answers(automaton: &Automaton, tests: &[Values], pair: usize) -> bool
-    requires { pair < 13 }
+    requires { pair < 16 }
 {
     for (series, values) in tests {
         if 100_000 < series.len() || answer(automaton, series) != value(values[pair]) {
@@ -206,7 +225,7 @@ fn answers(automaton: &Automaton, tests: &[Values], pair: usize) -> bool
 
 fn pair_holds(alloc: Global, seed: &Transducer, case: &Case, pair: usize) -> Result<bool, Memory> {
     let (_, a, tests) = case;
-    if 13 <= pair || 1 < *a {
+    if 16 <= pair || 1 < *a {
         return Ok(false);
     }
     let (aggregator, feature) = PAIRS[pair];
@@ -219,7 +238,7 @@ fn pair_holds(alloc: Global, seed: &Transducer, case: &Case, pair: usize) -> Res
 
 /// The first pair under which the transducer of a case has another value.
 fn first_wrong(alloc: Global, seed: &Transducer, case: &Case) -> Result<Option<usize>, Memory> {
-    for pair in 0..13 {
+    for pair in 0..16 {
         if !pair_holds(alloc, seed, case, pair)? {
             return Ok(Some(pair));
         }

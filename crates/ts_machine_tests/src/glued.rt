@@ -1,10 +1,10 @@
-//! Glued values at every cell: the machine of each pattern that has a partner gives the value of the series wherever
-//! it is split, under all sixteen pairs of aggregator and feature, on the ten series of `terms`.
+//! The machine of each of the 22 patterns answers the value of each series of `terms`, under all sixteen pairs of
+//! aggregator and feature; and that of a pattern that has a partner gives it wherever the series is split.
 
 ghost use Rattle.std.specs.Prelude.{◌≤◌, ◌<◌, length};
 ghost use Rattle.ts_automaton.specs.AutomatonRun.{Stands, standing_of};
 
-use super::terms::{Values, all_series, term_of, value};
+use super::terms::{Values, all_series, answer, term_of, value};
 use super::{first_values, last_values};
 use std::alloc::Global;
 use std::test::Fail;
@@ -79,27 +79,31 @@ pub fn is_glued(machine: &Machine, series: &[i64], wanted: Ext) -> bool
     true
 }
 
-/// Whether the values of a pair on all series are glued at each cell.
-fn are_glued(machine: &Machine, values: &Values, pair: usize) -> bool
+/// Whether the machine answers the value, and where it can be split it is glued at each cell.
+fn has_value(machine: &Machine, splits: bool, series: &[i64], wanted: Ext) -> bool
+    requires { length series.now ≤ 100000 }
+{
+    answer(machine.forward(), series) == wanted && (!splits || is_glued(machine, series, wanted))
+}
+
+/// Whether it has the values of a pair on all series.
+fn has_values(machine: &Machine, splits: bool, values: &Values, pair: usize) -> bool
     requires { pair < 16 }
 {
     for (series, wanted) in all_series().iter().zip(values) {
-        if 100_000 < series.len() || !is_glued(machine, series, value(wanted[pair])) {
+        if 100_000 < series.len() || !has_value(machine, splits, series, value(wanted[pair])) {
             return false;
         }
     }
     true
 }
 
-/// Whether the machine can be split where the pattern has a partner, and is glued to the values.
+/// Whether the machine can be split where the pattern has a partner, and has the values.
 fn splits_as_told(machine: &Machine, pattern: PatternId, values: &Values, pair: usize) -> bool
     requires { pair < 16 }
 {
-    if machine.reverse().is_some() {
-        has_partner(pattern) && are_glued(machine, values, pair)
-    } else {
-        !has_partner(pattern)
-    }
+    let splits = has_partner(pattern);
+    machine.reverse().is_some() == splits && has_values(machine, splits, values, pair)
 }
 
 fn term_holds(
@@ -116,7 +120,7 @@ fn term_holds(
     }
 }
 
-/// The first pair under which a pattern has another value at some cell.
+/// The first pair under which a pattern has another value.
 fn first_wrong(
     alloc: Global,
     pattern: PatternId,
@@ -131,7 +135,7 @@ fn first_wrong(
 }
 
 #[test]
-fn glued_values_are_the_values_of_terms(rt: HostRuntime) -> Result<(), Memory> {
+fn machines_have_the_values_of_terms(rt: HostRuntime) -> Result<(), Memory> {
     for (pattern, values) in first_values::values().iter().chain(last_values::values()) {
         assert_eq!(rt;
             first_wrong(rt.alloc(), *pattern, values)?,

@@ -1,13 +1,10 @@
-//! The machine of each of the 22 patterns under all sixteen pairs of aggregator and feature, on ten series that use
-//! each move of each seed. The values were found by trying the expressions on all parts of the signatures.
+//! The sixteen pairs of aggregator and feature, and ten series that use each move of each seed. The values of terms on
+//! them, in `first_values` and `last_values`, were found by trying the expressions on all parts of the signatures.
 
-ghost use Rattle.std.specs.Prelude.{◌≤◌, ◌<◌, length};
+ghost use Rattle.std.specs.Prelude.{◌≤◌, length};
 
-use super::{first_values, last_values};
-use std::alloc::Global;
 use ts_automaton::Automaton;
-use ts_base::{Ext, Memory};
-use ts_compile::compile_term;
+use ts_base::Ext;
 use ts_pattern::{Aggregator, Feature, PatternId, Term};
 
 /// The value on each series, under each pair in the order of `PAIRS`.
@@ -79,56 +76,4 @@ pub fn value(written: i64) -> Ext {
 pub fn term_of(pattern: PatternId, pair: usize) -> Option<Term> {
     let (aggregator, feature) = *PAIRS.get(pair)?;
     Term::new(aggregator, feature, pattern)
-}
-
-/// Whether the automaton has the values of a pair on all series.
-fn answers(automaton: &Automaton, values: &Values, pair: usize) -> bool
-    requires { pair < 16 }
-{
-    for (series, wanted) in all_series().iter().zip(values) {
-        if 100_000 < series.len() || answer(automaton, series) != value(wanted[pair]) {
-            return false;
-        }
-    }
-    true
-}
-
-fn term_holds(
-    alloc: Global,
-    pattern: PatternId,
-    values: &Values,
-    pair: usize,
-) -> Result<bool, Memory>
-    requires { pair < 16 }
-{
-    match term_of(pattern, pair) {
-        Some(term) => Ok(answers(compile_term(alloc, &term)?.forward(), values, pair)),
-        None => Ok(false),
-    }
-}
-
-/// The first pair under which a pattern has another value.
-fn first_wrong(
-    alloc: Global,
-    pattern: PatternId,
-    values: &Values,
-) -> Result<Option<usize>, Memory> {
-    for pair in 0..16 {
-        if !term_holds(alloc, pattern, values, pair)? {
-            return Ok(Some(pair));
-        }
-    }
-    Ok(None)
-}
-
-#[test]
-fn machines_answer_the_values_of_terms(rt: HostRuntime) -> Result<(), Memory> {
-    for (pattern, values) in first_values::values().iter().chain(last_values::values()) {
-        assert_eq!(rt;
-            first_wrong(rt.alloc(), *pattern, values)?,
-            None,
-            "{pattern:?}"
-        );
-    }
-    Ok(())
 }

@@ -72,6 +72,21 @@ finish max R C zero
 end
 ";
 
+/// The greatest cell less the least one of each falling stretch, the greatest of these.
+static MAX_RANGE_FALLING: &str = "forward wide
+state s free
+state r held
+start -inf 0 -inf +inf -inf
+move s < s ; C ; E ; D ; F ; R
+move s = s ; C ; E ; D ; F ; R
+move s > r ; max max D x y ; min min F x y ; -inf ; +inf ; R
+move r < s ; -inf ; 0 ; -inf ; +inf ; max R sub C E
+move r = s ; -inf ; 0 ; -inf ; +inf ; max R sub C E
+move r > r ; max C max D y ; min E min F y ; -inf ; +inf ; R
+finish max R sub C E same
+end
+";
+
 /// Each expression is a front, a tail, or a tail behind two fronts.
 static TAILS: &str = "forward
 state s free
@@ -129,6 +144,10 @@ pub(super) fn min_width_peak() -> &'static str {
 
 pub(super) fn max_surf_rising() -> &'static str {
     MAX_SURF_RISING
+}
+
+pub(super) fn max_range_falling() -> &'static str {
+    MAX_RANGE_FALLING
 }
 
 pub(super) fn tails() -> &'static str {

@@ -3,7 +3,7 @@
 ghost use Rattle.std.specs.Prelude.{◌≡◌, ◌≤◌, None, length};
 ghost use Rattle.ts_glue.specs.Machines.{window_of};
 
-use super::machines::{large, max_surf_rising, pairs, tails};
+use super::machines::{large, max_range_falling, max_surf_rising, pairs, tails};
 use super::spans::span_at_end;
 use super::{boxed, cells_of, domains_with_gaps, expect_ahead, expect_row, machine_of, span};
 use std::alloc::Global;
@@ -14,7 +14,7 @@ use ts_bound::forward;
 use ts_domain::Boxed;
 use ts_glue::Machine;
 
-// Results begin with -inf in the first, with 0 in the others.
+// Results begin with 0 in those by pairs and in those of large numbers, with -inf in the others.
 
 static TAILS_ROWS: &str = "\
 0 0 e | - | 0 0 e | - | 0 0 e | -
@@ -28,6 +28,12 @@ static PAIRS_ROWS: &str = "\
 0:2 -1:0 -1:2 | 2:5 2:5 -1:2 | 3:6 3:6 -1:2
 0:6 0:1 -1:3 | 1:6 1:2 -1:4 | 2:8 2:3 -1:5";
 
+static WIDE_ROWS: &str = "\
+e 0 e +inf e | - | e 0 e +inf e | - | e 0 e +inf e | -
+- | 0:5 -1 e +inf e | e 0 e +inf e | 1:5 0 e +inf e | e 0 e +inf e | 5 1 e +inf e | e 0 e +inf e | 5 2 e +inf e
+e 0 e +inf e:6 | 1:5 0 e +inf e | e 0 e +inf e:6 | - | e 0 e +inf e:6 | -
+e 0 e +inf e:6 | 3:4 1 e +inf e:6 | e 0 e +inf e:6 | 3:4 2 e +inf e:6 | e 0 e +inf e:6 | 4 3 e +inf e:6";
+
 static LARGE_ROW: &str = "- | -100000000000000000 100000000000000000 0";
 
 // The texts behind functions, so that the proofs of the tests don't read them.
@@ -38,6 +44,10 @@ fn tails_rows() -> &'static str {
 
 fn pairs_rows() -> &'static str {
     PAIRS_ROWS
+}
+
+fn wide_rows() -> &'static str {
+    WIDE_ROWS
 }
 
 fn large_row() -> &'static str {
@@ -57,7 +67,14 @@ fn expect_rows_of(
 
 #[test]
 fn moves_that_are_swept(rt: HostRuntime) -> Result<(), Fail> {
-    expect_rows_of(&rt, rt.alloc(), tails(), tails_rows(), Ext::NegInf)
+    expect_rows_of(&rt, rt.alloc(), tails(), tails_rows(), Ext::NegInf)?;
+    expect_rows_of(
+        &rt,
+        rt.alloc(),
+        max_range_falling(),
+        wide_rows(),
+        Ext::NegInf,
+    )
 }
 
 #[test]

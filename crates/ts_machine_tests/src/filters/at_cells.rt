@@ -15,8 +15,9 @@ use ts_filter::{Bar, cuts, kept_value, refuted, refuted_value, refutes, worse};
 use ts_glue::Machine;
 use ts_model::Require;
 
-pub(super) const BOUNDS: [Ext; 9] = [
+pub(super) const BOUNDS: [Ext; 10] = [
     NegInf,
+    Int(-1),
     Int(0),
     Int(1),
     Int(2),
@@ -58,7 +59,13 @@ fn bound_holds(
     )
 }
 
-fn cell_holds(alloc: Global, m: &Machine, p: u32, cells: &Boxed, span: Span) -> Result<bool, Memory>
+pub(super) fn cell_holds(
+    alloc: Global,
+    m: &Machine,
+    p: u32,
+    cells: &Boxed,
+    span: Span,
+) -> Result<bool, Memory>
     requires cell { IsCell p cells.now }
     requires split { pair_of m.now ≡ None → p ≡ length cells.now.present }
     requires looks { LooksIn (automata_of m.now) cells.now.present }
@@ -104,15 +111,14 @@ pub(super) fn value_holds(
     cells: &Boxed,
     p: u32,
     v: i64,
-    told: (&[Ext; 9], Span),
+    span: Span,
 ) -> Result<bool, Memory>
     requires cell { IsCell p cells.now }
     requires split { pair_of m.now ≡ None → p ≡ length cells.now.present }
     requires looks { LooksIn (automata_of m.now) cells.now.present }
 {
-    let (bounds, span) = told;
-    for bound in bounds {
-        if !value_bound_holds(alloc, m, cells, p, v, (*bound, span))? {
+    for bound in BOUNDS {
+        if !value_bound_holds(alloc, m, cells, p, v, (bound, span))? {
             return Ok(false);
         }
     }
@@ -120,7 +126,7 @@ pub(super) fn value_holds(
 }
 
 /// Whether these values are kept for the greatest and for the least objective.
-fn are_kept(
+pub(super) fn are_kept(
     alloc: Global,
     m: &Machine,
     p: u32,
@@ -148,7 +154,7 @@ fn values_hold(
     requires looks { LooksIn (automata_of m.now) cells.now.present }
 {
     for &(v, ends) in values {
-        if !value_holds(alloc, m, cells, p, v, (&BOUNDS, span(ends)))? {
+        if !value_holds(alloc, m, cells, p, v, span(ends))? {
             return Ok(false);
         }
     }

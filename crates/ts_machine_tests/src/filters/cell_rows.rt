@@ -11,8 +11,8 @@ pub type Ends = (Ext, Ext);
 /// each value alone.
 pub type CellRow = (Ends, (i64, i64), &'static [(i64, Ends)]);
 
-/// Requirements on the term, and the cell, the value and the requirement of the first drop.
-pub type DropRow = (&'static [(Op, i64)], Option<(u32, i64, u32)>);
+/// Requirements on terms by their places, and the cell, the value and the requirement of the first drop.
+pub type DropRow = (&'static [(u32, Op, i64)], Option<(u32, i64, u32)>);
 
 /// A model of one term, its cells, and drops.
 pub type Row = (&'static str, &'static [CellRow], &'static [DropRow]);
@@ -48,9 +48,9 @@ static ROWS: [Row; 10] = [
             ),
         ],
         &[
-            (&[(Op::Below, 1), (Op::Above, 1)], Some((4, 2, 1))),
-            (&[(Op::AtLeast, 3), (Op::AtMost, 1)], Some((1, 1, 1))),
-            (&[(Op::AtLeast, 2)], None),
+            (&[(0, Op::Below, 1), (0, Op::Above, 1)], Some((4, 2, 1))),
+            (&[(0, Op::AtLeast, 3), (0, Op::AtMost, 1)], Some((1, 1, 1))),
+            (&[(0, Op::AtLeast, 2)], None),
         ],
     ),
     (
@@ -83,9 +83,9 @@ static ROWS: [Row; 10] = [
             ((Int(0), Int(3)), (1, 1), &[(1, (Int(0), Int(3)))]),
         ],
         &[
-            (&[(Op::Equal, 1)], Some((3, 2, 1))),
-            (&[(Op::Unequal, 0), (Op::Equal, 3)], Some((4, 0, 2))),
-            (&[(Op::AtLeast, 3), (Op::AtMost, 1)], Some((3, 2, 2))),
+            (&[(0, Op::Equal, 1)], Some((3, 2, 1))),
+            (&[(0, Op::Unequal, 0), (0, Op::Equal, 3)], Some((4, 0, 2))),
+            (&[(0, Op::AtLeast, 3), (0, Op::AtMost, 1)], Some((3, 2, 2))),
         ],
     ),
     (
@@ -117,8 +117,8 @@ static ROWS: [Row; 10] = [
             ),
         ],
         &[
-            (&[(Op::AtMost, 2)], Some((1, 2, 1))),
-            (&[(Op::AtMost, 3)], None),
+            (&[(0, Op::AtMost, 2)], Some((1, 2, 1))),
+            (&[(0, Op::AtMost, 3)], None),
         ],
     ),
     (
@@ -150,8 +150,8 @@ static ROWS: [Row; 10] = [
             ),
         ],
         &[
-            (&[(Op::Equal, 5)], Some((3, 1, 1))),
-            (&[(Op::AtLeast, 4)], Some((3, 1, 1))),
+            (&[(0, Op::Equal, 5)], Some((3, 1, 1))),
+            (&[(0, Op::AtLeast, 4)], Some((3, 1, 1))),
         ],
     ),
     (
@@ -178,8 +178,8 @@ static ROWS: [Row; 10] = [
             ),
         ],
         &[
-            (&[(Op::Equal, 1)], Some((1, 0, 1))),
-            (&[(Op::Unequal, 1)], None),
+            (&[(0, Op::Equal, 1)], Some((1, 0, 1))),
+            (&[(0, Op::Unequal, 1)], None),
         ],
     ),
     (
@@ -211,9 +211,9 @@ static ROWS: [Row; 10] = [
             ),
         ],
         &[
-            (&[(Op::AtLeast, 3), (Op::AtMost, 1)], Some((1, 0, 2))),
-            (&[(Op::AtLeast, 4)], Some((1, 1, 1))),
-            (&[(Op::Unequal, 0), (Op::Equal, 3)], None),
+            (&[(0, Op::AtLeast, 3), (0, Op::AtMost, 1)], Some((1, 0, 2))),
+            (&[(0, Op::AtLeast, 4)], Some((1, 1, 1))),
+            (&[(0, Op::Unequal, 0), (0, Op::Equal, 3)], None),
         ],
     ),
     // the same boxes behind and before cells that aren't looked at: there each value has the span of the last cell that
@@ -260,10 +260,10 @@ static ROWS: [Row; 10] = [
             ),
         ],
         &[
-            (&[(Op::Below, 1), (Op::Above, 1)], Some((6, 2, 1))),
-            (&[(Op::AtLeast, 3), (Op::AtMost, 1)], Some((3, 1, 1))),
-            (&[(Op::AtLeast, 2)], None),
-            (&[(Op::AtLeast, 9)], Some((1, 0, 1))),
+            (&[(0, Op::Below, 1), (0, Op::Above, 1)], Some((6, 2, 1))),
+            (&[(0, Op::AtLeast, 3), (0, Op::AtMost, 1)], Some((3, 1, 1))),
+            (&[(0, Op::AtLeast, 2)], None),
+            (&[(0, Op::AtLeast, 9)], Some((1, 0, 1))),
         ],
     ),
     (
@@ -307,9 +307,9 @@ static ROWS: [Row; 10] = [
             ((Int(0), Int(3)), (1, 1), &[(1, (Int(0), Int(3)))]),
         ],
         &[
-            (&[(Op::Equal, 1)], Some((3, 2, 1))),
-            (&[(Op::Unequal, 0), (Op::Equal, 3)], Some((4, 0, 2))),
-            (&[(Op::AtLeast, 3), (Op::AtMost, 1)], Some((3, 2, 2))),
+            (&[(0, Op::Equal, 1)], Some((3, 2, 1))),
+            (&[(0, Op::Unequal, 0), (0, Op::Equal, 3)], Some((4, 0, 2))),
+            (&[(0, Op::AtLeast, 3), (0, Op::AtMost, 1)], Some((3, 2, 2))),
         ],
     ),
     (
@@ -347,8 +347,8 @@ static ROWS: [Row; 10] = [
             ),
         ],
         &[
-            (&[(Op::AtMost, 2)], Some((2, 2, 1))),
-            (&[(Op::AtMost, 3)], None),
+            (&[(0, Op::AtMost, 2)], Some((2, 2, 1))),
+            (&[(0, Op::AtMost, 3)], None),
         ],
     ),
     (
@@ -388,8 +388,8 @@ static ROWS: [Row; 10] = [
             ),
         ],
         &[
-            (&[(Op::Equal, 5)], Some((4, 1, 1))),
-            (&[(Op::AtLeast, 4)], Some((4, 1, 1))),
+            (&[(0, Op::Equal, 5)], Some((4, 1, 1))),
+            (&[(0, Op::AtLeast, 4)], Some((4, 1, 1))),
         ],
     ),
 ];

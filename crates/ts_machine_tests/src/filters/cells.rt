@@ -1,18 +1,16 @@
 //! The calls on the machine of one term, which can be split, at every cell of small boxes.
 
-ghost use Rattle.std.specs.List.{AllByRecursion};
-ghost use Rattle.std.specs.Prelude.{◌≡◌, ◌<◌, ◌≤◌, IfSome, IsSome, IsTrue, length};
+ghost use Rattle.std.specs.Prelude.{◌≡◌, ◌≤◌, IfSome, IsSome, IsTrue, length};
 ghost use Rattle.ts_bound.specs.TermSpans.{LooksIn, automata_of};
 ghost use Rattle.ts_glue.specs.Machines.{pair_of};
 ghost use Rattle.ts_model.specs.Promise.{IsWhole};
 ghost use Rattle.ts_model.specs.Views.{model_parts};
-ghost use Rattle.ts_model.specs.declared.model.Require.{Require};
 
 use super::OPS;
 use super::at_cells::{BOUNDS, cell_row_holds, span};
+use super::calls::{removal, requirements_of};
 use super::cell_rows::{CellRow, DropRow, Row, cell_rows};
 use super::samples::looks_in;
-use Ext::Int;
 use std::alloc::Global;
 use std::slice;
 use ts_base::{Ext, Goal, Memory};
@@ -87,7 +85,12 @@ fn first_bound_holds(
 }
 
 /// Whether the first cells below the last are told.
-fn first_holds(alloc: Global, m: &Machine, cells: &Boxed, rows: &[CellRow]) -> Result<bool, Memory>
+pub(super) fn first_holds(
+    alloc: Global,
+    m: &Machine,
+    cells: &Boxed,
+    rows: &[CellRow],
+) -> Result<bool, Memory>
     requires few { length rows.now ≤ 9 }
     requires looks { LooksIn (automata_of m.now) cells.now.present }
 {
@@ -114,43 +117,17 @@ fn cells_hold(alloc: Global, m: &Machine, cells: &Boxed, rows: &[CellRow]) -> Re
     first_holds(alloc, m, cells, rows)
 }
 
-/// The requirements, all on the first term.
-fn requirements_of(alloc: Global, wanted: &[(Op, i64)]) -> Option<Vec<Require>>
-    ensures few { IfSome result (λ v. length v.items < 4000000000) }
-    ensures terms { IfSome result (λ v. AllByRecursion (λ (r : Require). r.term < 1) v.items) }
-{
-    let mut requirements = Vec::new(alloc);
-    for at in 0..wanted.len() {
-        let (op, bound) = wanted[at];
-        let bound = Int(bound);
-        requirements.push(Require { term: 0, op, bound }).ok()?;
-    }
-    if requirements.len() < 9 {
-        Some(requirements)
-    } else {
-        None
-    }
-}
-
 /// The first drop; the outer None is want of memory.
 fn drop_of(
     alloc: Global,
     m: &Machine,
     cells: &Boxed,
-    wanted: &[(Op, i64)],
+    wanted: &[(u32, Op, i64)],
 ) -> Option<Option<Removal>>
     requires { LooksIn (automata_of m.now) cells.now.present }
 {
-    let requirements = requirements_of(alloc, wanted)?;
+    let requirements = requirements_of(alloc, wanted, 1)?;
     next_drop(alloc, slice::from_ref(m), &requirements, cells).ok()
-}
-
-fn removal((cell, value, require): (u32, i64, u32)) -> Removal {
-    Removal {
-        cell,
-        value,
-        require,
-    }
 }
 
 fn drops_hold(alloc: Global, m: &Machine, cells: &Boxed, drops: &[DropRow]) -> bool
