@@ -45,7 +45,7 @@ pub(crate) fn within(values: &[i64]) -> bool
         .all(|value| -1_000_000 <= *value && *value <= 1_000_000)
 }
 
-fn domain(alloc: Global, lows: &[i64], highs: &[i64]) -> Result<Domain, Fail> {
+pub(crate) fn domain(alloc: Global, lows: &[i64], highs: &[i64]) -> Result<Domain, Fail> {
     if !within(lows) || !within(highs) || lows.len() != highs.len() {
         Err("a value past the limits")?
     }
@@ -66,7 +66,7 @@ fn cells_of(alloc: Global, ranges: &[(i64, i64)]) -> Result<Boxed, Fail>
     boxed(alloc, &domains)
 }
 
-fn boxed(alloc: Global, domains: &[Domain]) -> Result<Boxed, Fail>
+pub(crate) fn boxed(alloc: Global, domains: &[Domain]) -> Result<Boxed, Fail>
     ensures { IfOk result (λ b. 1 ≤ length b.present) }
 {
     if domains.len() == 0 || 99 < domains.len() {

@@ -1,89 +1,140 @@
-//! Packed rows that meet at a cell tell the same spans as tables of plain hulls: at each value of each cell of a box, under
-//! all sixteen pairs of aggregator and feature.
+//! Packed rows that meet at a cell tell the spans that tables of plain hulls tell: at each value of each cell of a box,
+//! under all sixteen pairs of aggregator and feature.
 
-ghost use Rattle.std.specs.Prelude.{◌≡◌, ◌≤◌};
+ghost use Rattle.std.specs.Prelude.{◌≡◌, ◌<◌, ◌≤◌, IfOk, IsSome, Some, length};
+ghost use Rattle.ts_base.specs.Limits.{IsCellValue};
+ghost use Rattle.ts_bound.specs.TermSpans.{LooksIn, automata_of};
+ghost use Rattle.ts_domain.specs.BoxSeries.{IsCell, cell_of};
+ghost use Rattle.ts_glue.specs.Machines.{forward_of, pair_of, reverse_of};
+ghost use Rattle.ts_meet.specs.Meets.{HasPlace};
+ghost use Rattle.ts_row.specs.Rows.{IsRow};
 ghost use Rattle.ts_sweep.specs.Packed.{is_wide};
 
+use super::bounds::{boxed, domain};
+use super::filters::looks_in;
 use super::terms::{PAIRS, term_of};
+use super::windows::spans_at;
 use std::alloc::Global;
 use std::test::Fail;
 use ts_automaton::Automaton;
 use ts_base::{Memory, Span};
-use ts_bound::{CellValues, backward, first_packed_row, forward, next_packed_row, value_span};
+use ts_bound::CellValues;
 use ts_compile::compile_term;
 use ts_domain::{Boxed, Domain};
 use ts_glue::Machine;
 use ts_meet::{Asked, Joints, Spot, asked_at, finish_at, glued_at};
 use ts_pattern::PatternId;
-use ts_row::{PackedRow, Plan};
+use ts_row::{PackedRow, Plan, next_row, start_row};
 
-/// The cells: ranges of values, two with gaps.
-static LOWS: [&[i64]; 7] = [&[0], &[1, 4], &[-2], &[3], &[0, 2, 6], &[1], &[-1]];
+/// The cells: ranges of values, two of them with gaps.
+static CELLS: [(&[i64], &[i64]); 6] = [
+    (&[0], &[2]),
+    (&[1, 4], &[2, 4]),
+    (&[-2], &[1]),
+    (&[3], &[3]),
+    (&[0, 6], &[1, 6]),
+    (&[1], &[3]),
+];
 
-static HIGHS: [&[i64]; 7] = [&[2], &[2, 4], &[1], &[3], &[0, 3, 6], &[4], &[1]];
-
-fn domains(alloc: Global) -> Result<Vec<Domain>, Fail> {
-    let mut all = Vec::new(alloc);
-    for k in 0..7 {
-        match Domain::from_ranges(alloc, LOWS[k], HIGHS[k]) {
-            Ok(domain) => all.push(domain)?,
-            Err(_) => Err("no domain")?,
-        }
-    }
-    Ok(all)
+// The table behind a function, so that no proof reads it.
+fn ranges() -> &'static [(&'static [i64], &'static [i64])] {
+    &CELLS
 }
 
-/// The row of a cell from the one before it in the order of reading.
-fn row_after<const N: usize>(
+fn cells_of(alloc: Global) -> Result<Boxed, Fail>
+    ensures { IfOk result (λ b. 1 ≤ length b.present) }
+{
+    let mut domains = Vec::new(alloc);
+    for (lows, highs) in ranges() {
+        domains.push(domain(alloc, lows, highs)?)?;
+    }
+    boxed(alloc, &domains)
+}
+
+/// The row of the cell at which runs start.
+fn first_row<const N: usize>(
     alloc: Global,
     a: &Automaton,
-    before: Option<(&PackedRow<N>, &Domain)>,
-    domain: &Domain,
+    cell: &Domain,
 ) -> Result<PackedRow<N>, Memory>
     requires width { a.now.wide ≡ is_wide N }
     requires registers { 6 ≤ N }
     requires lanes { N ≤ 64 }
+    ensures { IfOk result (λ r. IsRow N (length a.now.states) (length cell.now) r) }
 {
-    let plan = Plan::of(a);
-    let values = CellValues::of(alloc, domain)?;
     let mut row = PackedRow::empty(alloc);
-    match before {
-        None => first_packed_row(alloc, a, values.lend(), &mut row)?,
-        Some((last, last_domain)) => {
-            let last_values = CellValues::of(alloc, last_domain)?;
-            next_packed_row(
-                alloc,
-                a,
-                &plan,
-                last_values.lend(),
-                last,
-                values.lend(),
-                &mut row,
-            )?;
-        }
-    }
+    start_row(alloc, a, cell.size() as usize, &mut row)?;
     Ok(row)
 }
 
-/// The rows of an automaton that reads the cells up to `k`, counted from 0; or from the last one down to it.
-fn row_at<const N: usize>(
+/// That of the next cell.
+fn row_after<const N: usize>(
+    alloc: Global,
+    a: &Automaton,
+    row: &PackedRow<N>,
+    cell: &Domain,
+    next_cell: &Domain,
+) -> Result<PackedRow<N>, Memory>
+    requires width { a.now.wide ≡ is_wide N }
+    requires registers { 6 ≤ N }
+    requires lanes { N ≤ 64 }
+    requires row { IsRow N (length a.now.states) (length cell.now) row.now }
+    ensures { IfOk result (λ r. IsRow N (length a.now.states) (length next_cell.now) r) }
+{
+    let plan = Plan::of(a);
+    let values = CellValues::of(alloc, cell)?;
+    let next_values = CellValues::of(alloc, next_cell)?;
+    let mut next = PackedRow::empty(alloc);
+    next_row(
+        alloc,
+        a,
+        &plan,
+        values.lend(),
+        row,
+        next_values.lend(),
+        &mut next,
+    )?;
+    Ok(next)
+}
+
+/// The row of cell `k`, read from the first cell on.
+fn ahead_row<const N: usize>(
     alloc: Global,
     a: &Automaton,
     cells: &Boxed,
     k: u32,
-    back: bool,
 ) -> Result<PackedRow<N>, Memory>
     requires width { a.now.wide ≡ is_wide N }
     requires registers { 6 ≤ N }
     requires lanes { N ≤ 64 }
+    requires cell { IsCell k cells.now }
+    ensures { IfOk result (λ r. IsRow N (length a.now.states) (length (cell_of k cells.now)) r) }
+{
+    let mut row = first_row(alloc, a, cells.cell(1))?;
+    for cell in 1..k {
+        row = row_after(alloc, a, &row, cells.cell(cell), cells.cell(cell + 1))?;
+    }
+    Ok(row)
+}
+
+/// The same, read from the last cell back.
+fn back_row<const N: usize>(
+    alloc: Global,
+    a: &Automaton,
+    cells: &Boxed,
+    k: u32,
+) -> Result<PackedRow<N>, Memory>
+    requires width { a.now.wide ≡ is_wide N }
+    requires registers { 6 ≤ N }
+    requires lanes { N ≤ 64 }
+    requires cell { IsCell k cells.now }
+    ensures { IfOk result (λ r. IsRow N (length a.now.states) (length (cell_of k cells.now)) r) }
 {
     let n = cells.cells();
-    let mut cell = if back { n } else { 1 };
-    let mut row = row_after(alloc, a, None, cells.cell(cell))?;
-    while cell != k {
-        let next = if back { cell - 1 } else { cell + 1 };
-        row = row_after(alloc, a, Some((&row, cells.cell(cell))), cells.cell(next))?;
-        cell = next;
+    let mut row = first_row(alloc, a, cells.cell(n))?;
+    for read in 0..n - k {
+        let cell = n - read;
+        row = row_after(alloc, a, &row, cells.cell(cell), cells.cell(cell - 1))?;
     }
     Ok(row)
 }
@@ -102,62 +153,155 @@ impl Asked for Nothing {
     }
 }
 
-/// Whether the spans at all values of a cell are the same, by packed rows and by tables.
-fn is_same_at<const N: usize>(
+/// The span where two rows meet, told and asked.
+fn met<const N: usize>(
+    joints: &Joints,
+    left: &PackedRow<N>,
+    right: &PackedRow<N>,
+    spot: Spot,
+) -> Option<Span>
+    requires registers { 6 ≤ N }
+    requires lanes { N ≤ 64 }
+    requires left { HasPlace N joints.now.left_states spot.place left.now }
+    requires right { HasPlace N joints.now.right_states spot.place right.now }
+    requires value { IsCellValue spot.value }
+{
+    let span = glued_at(joints, left, right, spot);
+    let asked = asked_at(Nothing, Span::none(), joints, left, right, spot)?;
+    if asked == span { Some(span) } else { None }
+}
+
+/// The span at a value of a cell, by packed rows.
+fn span_by_rows(
+    alloc: Global,
+    m: &Machine,
+    cells: &Boxed,
+    k: u32,
+    i: u64,
+) -> Result<Option<Span>, Fail>
+    requires cell { IsCell k cells.now }
+    requires place { i < length (cell_of k cells.now) }
+{
+    let reverse = m.reverse().ok_or("no reverse automaton")?;
+    if reverse.wide() != m.forward().wide() {
+        Err("two widths")?
+    }
+    if reverse.wide() {
+        span_in_lanes::<10>(alloc, m, reverse, cells, k, i)
+    } else {
+        span_in_lanes::<6>(alloc, m, reverse, cells, k, i)
+    }
+}
+
+/// The same, in lanes of the width of both automata.
+#[tactic(auto, using(crate::proofs::Splits::split_is))]
+fn span_in_lanes<const N: usize>(
     alloc: Global,
     m: &Machine,
     reverse: &Automaton,
     cells: &Boxed,
     k: u32,
-) -> Result<bool, Memory> {
-    let ahead = forward(alloc, m, cells)?;
-    let behind = backward(alloc, m, cells)?;
+    i: u64,
+) -> Result<Option<Span>, Fail>
+    requires registers { 6 ≤ N }
+    requires lanes { N ≤ 64 }
+    requires forward { (forward_of m.now).wide ≡ is_wide N }
+    requires reverse { reverse_of m.now ≡ Some reverse.now }
+    requires backward { reverse.now.wide ≡ is_wide N }
+    requires cell { IsCell k cells.now }
+    requires place { i < length (cell_of k cells.now) }
+{
+    let value = cells.cell(k).nth(i);
+    if value < -1_000_000 || 1_000_000 < value {
+        return Ok(None);
+    }
     let joints = Joints::of(m);
-    let left = row_at::<N>(alloc, m.forward(), cells, k, false)?;
-    let right = row_at::<N>(alloc, reverse, cells, k, true)?;
-    let domain = cells.cell(k);
-    for i in 0..domain.size() {
-        let v = domain.nth(i);
-        let spot = Spot {
-            place: i as usize,
-            value: v,
-            cells: cells.cells(),
-        };
-        let span = value_span(m, &ahead, Some(&behind), cells, k, v);
-        let asked = asked_at(Nothing, Span::none(), &joints, &left, &right, spot);
-        if glued_at(&joints, &left, &right, spot) != span || asked != Some(span) {
+    let left = ahead_row::<N>(alloc, m.forward(), cells, k)?;
+    let right = back_row::<N>(alloc, reverse, cells, k)?;
+    let spot = Spot {
+        place: i as usize,
+        value,
+        cells: cells.cells(),
+    };
+    Ok(met(&joints, &left, &right, spot))
+}
+
+/// The span at a value of the last cell, by finish spans.
+fn span_at_end(alloc: Global, a: &Automaton, cells: &Boxed, i: u64) -> Result<Span, Memory>
+    requires cell { IsCell (length cells.now.present) cells.now }
+    requires place { i < length (cell_of (length cells.now.present) cells.now) }
+{
+    if a.wide() {
+        end_in_lanes::<10>(alloc, a, cells, i)
+    } else {
+        end_in_lanes::<6>(alloc, a, cells, i)
+    }
+}
+
+/// The same, in lanes of the automaton's width.
+fn end_in_lanes<const N: usize>(
+    alloc: Global,
+    a: &Automaton,
+    cells: &Boxed,
+    i: u64,
+) -> Result<Span, Memory>
+    requires width { a.now.wide ≡ is_wide N }
+    requires registers { 6 ≤ N }
+    requires lanes { N ≤ 64 }
+    requires cell { IsCell (length cells.now.present) cells.now }
+    requires place { i < length (cell_of (length cells.now.present) cells.now) }
+{
+    let n = cells.cells();
+    let row = ahead_row::<N>(alloc, a, cells, n)?;
+    Ok(finish_at(a, &row, i as usize, n))
+}
+
+/// Whether both ways tell the same at all values of a cell.
+fn is_same_at(alloc: Global, m: &Machine, cells: &Boxed, k: u32) -> Result<bool, Fail>
+    requires split { IsSome (pair_of m.now) }
+    requires cell { IsCell k cells.now }
+    requires looks { LooksIn (automata_of m.now) cells.now.present }
+{
+    for i in 0..cells.cell(k).size() {
+        let v = cells.cell(k).nth(i);
+        if !cells.cell(k).contains(v) {
             return Ok(false);
         }
-        if k == cells.cells() && finish_at(m.forward(), &left, i as usize, cells.cells()) != span {
+        let (_, span) = spans_at(alloc, m, cells, k, v)?;
+        if span_by_rows(alloc, m, cells, k, i)? != Some(span) {
+            return Ok(false);
+        }
+        if k == cells.cells() && span_at_end(alloc, m.forward(), cells, i)? != span {
             return Ok(false);
         }
     }
     Ok(true)
 }
 
-/// The first pair of aggregator and feature, and cell, with another span.
-fn first_wrong(
-    alloc: Global,
-    pattern: PatternId,
-    cells: &Boxed,
-) -> Result<Option<(usize, u32)>, Memory> {
+/// The first cell at which they differ, of a machine that can be split.
+#[tactic(auto, using(crate::proofs::Splits::split_is))]
+fn first_other(alloc: Global, m: &Machine, cells: &Boxed) -> Result<Option<u32>, Fail>
+    requires cells { 1 ≤ length cells.now.present }
+    requires looks { LooksIn (automata_of m.now) cells.now.present }
+{
+    m.reverse().ok_or("no reverse automaton")?;
+    for k in 0..cells.cells() {
+        if !is_same_at(alloc, m, cells, k + 1)? {
+            return Ok(Some(k + 1));
+        }
+    }
+    Ok(None)
+}
+
+/// The first pair of aggregator and feature under which they differ.
+fn first_wrong(alloc: Global, pattern: PatternId, cells: &Boxed) -> Result<Option<usize>, Fail>
+    requires { 1 ≤ length cells.now.present }
+{
     for pair in 0..PAIRS.len() {
-        let term = match term_of(pattern, pair) {
-            Some(term) => term,
-            None => return Ok(Some((pair, 0))),
-        };
+        let term = term_of(pattern, pair).ok_or("no term")?;
         let m = compile_term(alloc, &term)?;
-        if let Some(reverse) = m.reverse() {
-            for k in 1..cells.cells() + 1 {
-                let same = if m.forward().wide() {
-                    is_same_at::<10>(alloc, &m, reverse, cells, k)?
-                } else {
-                    is_same_at::<6>(alloc, &m, reverse, cells, k)?
-                };
-                if !same {
-                    return Ok(Some((pair, k)));
-                }
-            }
+        if !looks_in(&m, cells) || first_other(alloc, &m, cells)?.is_some() {
+            return Ok(Some(pair));
         }
     }
     Ok(None)
@@ -166,8 +310,7 @@ fn first_wrong(
 #[test]
 fn packed_rows_meet_as_tables_do(rt: HostRuntime) -> Result<(), Fail> {
     let alloc = rt.alloc();
-    let domains = domains(alloc)?;
-    let cells = Boxed::new(alloc, &domains)?;
+    let cells = cells_of(alloc)?;
     for pattern in [
         PatternId::Peak,
         PatternId::DecreasingTerrace,

@@ -148,7 +148,13 @@ fn back_holds(
 
 /// The span at a cell, and with a value of it alone.
 #[tactic(auto, using(crate::proofs::Splits::split_is, crate::proofs::Splits::back_rows))]
-fn spans_at(alloc: Global, m: &Machine, cells: &Boxed, k: u32, v: i64) -> Result<(Span, Span), Fail>
+pub(crate) fn spans_at(
+    alloc: Global,
+    m: &Machine,
+    cells: &Boxed,
+    k: u32,
+    v: i64,
+) -> Result<(Span, Span), Fail>
     requires cell { IsCell k cells.now }
     requires usable { pair_of m.now ≡ None → k ≡ length cells.now.present }
     requires looks { LooksIn (automata_of m.now) cells.now.present }
