@@ -52,6 +52,68 @@ function lowest_top(    k, n) { n = 999; for (k = 1; k <= parts; k++) if (top(k)
 function lowest_floor(    k, n) { n = 999; for (k = 1; k <= parts; k++) if (floor(k) < n) n = floor(k); return n }
 function all_tops(    k, n) { n = 0; for (k = 1; k <= parts; k++) n += top(k); return n }
 
+# Differences from one cell to the next, those one way.
+function greatest_step(up,    i, n) {
+    n = 0
+    for (i = 1; i < cells; i++) if (up * (x[i + 1] - x[i]) > n) n = up * (x[i + 1] - x[i])
+    return n
+}
+function least_step(up,    i, n, step) {
+    n = 999
+    for (i = 1; i < cells; i++) {
+        step = up * (x[i + 1] - x[i])
+        if (step > 0 && step < n) n = step
+    }
+    return n
+}
+function all_steps(up, a, b,    i, n) {
+    n = 0
+    for (i = a; i < b; i++) if (up * (x[i + 1] - x[i]) > 0) n += up * (x[i + 1] - x[i])
+    return n
+}
+# How far it goes one way at most, between two cells, without a step back; and how far at least, from turn to turn.
+function farthest_climb(up,    i, j, n) {
+    n = 0
+    for (i = 1; i < cells; i++)
+        for (j = i + 1; j <= cells && up * (x[j] - x[j - 1]) >= 0; j++)
+            if (up * (x[j] - x[i]) > n) n = up * (x[j] - x[i])
+    return n
+}
+function shortest_climb(up,    i, n, now) {
+    n = 999
+    now = 0
+    for (i = 1; i <= cells; i++) {
+        if (i < cells && up * (x[i + 1] - x[i]) >= 0) { now += up * (x[i + 1] - x[i]); continue }
+        if (now > 0 && now < n) n = now
+        now = 0
+    }
+    return n
+}
+function widest_part(    k, n) {
+    n = 0
+    for (k = 1; k <= parts; k++) if (top(k) - floor(k) > n) n = top(k) - floor(k)
+    return n
+}
+# How high a hill is above the lower one of its feet; and a climb to the last hour, or a descent from the first one.
+function highest_hill(    k, n, foot) {
+    hills(1)
+    n = 0
+    for (k = 1; k <= parts; k++) {
+        foot = x[first[k] - 1] < x[last[k] + 1] ? x[first[k] - 1] : x[last[k] + 1]
+        if (top(k) - foot > n) n = top(k) - foot
+    }
+    return n
+}
+function end_climb(    i, j) {
+    for (i = 1; i < cells && x[i + 1] <= x[i];) i++
+    for (j = cells; j > 1 && x[j - 1] <= x[j];) j--
+    return x[1] - x[i] > x[cells] - x[j] ? x[1] - x[i] : x[cells] - x[j]
+}
+function drifts_one_way(a, b, by,    i, up, down) {
+    for (i = a; i < b; i++) { up += x[i + 1] > x[i]; down += x[i + 1] < x[i] }
+    return !(up && down) && x[b] - x[a] <= by && x[a] - x[b] <= by
+}
+
 function steps(up,    i, n) { n = 0; for (i = 1; i < cells; i++) n += up * (x[i + 1] - x[i]) > 0; return n }
 function steps_running(up,    i, n, most) {
     n = most = 0
@@ -141,6 +203,20 @@ function wanted() {
     if (is("one level from hour 2 to hour 5")) return x[2] == x[3] && x[3] == x[4] && x[4] == x[5]
     if (is("more in hour 4 than in hour 3")) return x[4] > x[3]
     if (is("at most one turn between up and down in the first five hours")) return turns(5) <= 1
+    if (is("no rise of more than 15 from one hour to the next, and no fall of more than 10"))
+        return greatest_step(1) <= 15 && greatest_step(-1) <= 10
+    if (is("no change of less than 10 from one hour to the next")) return least_step(1) >= 10 && least_step(-1) >= 10
+    if (is("each rise is by 10")) return least_step(1) >= 10 && greatest_step(1) <= 10
+    if (is("at most 100 of rises in all")) return all_steps(1, 1, cells) <= 100
+    if (is("as little charged as possible, over all hours")) return all_steps(1, 1, cells)
+    if (is("no climb of more than 40, with its level hours")) return farthest_climb(1) <= 40
+    if (is("no ripple: each climb and each descent is of at least 20"))
+        return shortest_climb(1) >= 20 && shortest_climb(-1) >= 20
+    if (is("no hill higher than 40 above one of its feet, and no climb or descent at an end either"))
+        return highest_hill() <= 40 && end_climb() <= 40
+    if (is("the hours of a hill, its feet aside, differ by at most 2")) { hills(1); return widest_part() <= 2 }
+    if (is("from hour 2 to hour 5 the level drifts by at most 2, all one way")) return drifts_one_way(2, 5, 2)
+    if (is("at most 30 charged from hour 3 to hour 6")) return all_steps(1, 3, 6) <= 30
     if (is("each level but the first and the last is kept for at least two hours")) return inner_shortest() >= 2
     if (is("each level but the first and the last is kept for at least three hours")) return inner_shortest() >= 3
     if (is("no run shorter than three hours, at the ends too")) { runs(1, 1); return shortest() >= 3 }
