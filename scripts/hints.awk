@@ -129,7 +129,8 @@ function why_unknown_name(    feature, pattern) {
     if (!is_listed(word[4], aggregators))
         return "there is no aggregator \"" shown(word[4]) "\": it is sum, max or min" meant(word[4], aggregators)
     if (!is_listed(word[5], features))
-        return "there is no feature \"" shown(word[5]) "\": it is one, width, surf, max or min" meant(word[5], features)
+        return "there is no feature \"" shown(word[5]) "\": it is one, width, surf, max, min or range" \
+            meant(word[5], features)
     return "there is no pattern \"" shown(word[6]) "\"" meant(word[6], patterns)
 }
 
@@ -195,7 +196,7 @@ function why_certificate(number) {
 
 BEGIN {
     aggregators = "sum max min"
-    features = "one width surf max min"
+    features = "one width surf max min range"
     patterns = "increasing decreasing steady increasing_sequence decreasing_sequence strictly_increasing_sequence " \
         "strictly_decreasing_sequence steady_sequence increasing_terrace decreasing_terrace inflexion peak valley " \
         "plateau plain proper_plateau proper_plain summit gorge zigzag dip_on_increasing_sequence " \
