@@ -47,13 +47,21 @@ make_scratch() {
 
 # [FILE]: the file, or standard input where none is named, in $scratch/input, without the CR in front of a line's end.
 read_input() {
+    [ ! -d "${1:-}" ] || fail 66 "$1 is a folder"
     [ -z "${1:-}" ] || [ -f "$1" ] || [ -p "$1" ] || fail 66 "there is no file $1"
     if [ -n "${1:-}" ]; then
         [ -r "$1" ] || fail 66 "the file $1 can't be read"
         exec <"$1"
     fi
-    cat >"$scratch/whole" 2>"$scratch/error" || fail 74 "the input can't be read: $(sed 's/.*: //' "$scratch/error")"
-    tr -d '\r' <"$scratch/whole" >"$scratch/input" || fail 74 "there is no room for the input in ${TMPDIR:-/tmp}"
+    no_room="there is no room for the input in ${TMPDIR:-/tmp}"
+    if ! cat >"$scratch/whole" 2>"$scratch/error"; then
+        reason=$(sed 's/.*: //' "$scratch/error")
+        case $(cat "$scratch/error") in
+            '' | *'write error'* | *'standard output'*) fail 74 "$no_room" ;;
+        esac
+        fail 74 "the input can't be read: $reason"
+    fi
+    tr -d '\r' <"$scratch/whole" >"$scratch/input" 2>/dev/null || fail 74 "$no_room"
     rm -f "$scratch/whole"
 }
 

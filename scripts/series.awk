@@ -6,7 +6,7 @@ function floor(x) { return x < int(x) ? int(x) - 1 : int(x) }
 function emit(text) { drawing[++drawn_lines] = text }
 
 function give_up(status, text) {
-    print "draw: " text > "/dev/stderr"
+    print self ": " text > "/dev/stderr"
     ended = status
     exit status
 }
