@@ -32,7 +32,7 @@ function measure(    number, i, k, part, one, many, lowest, highest, room) {
             if (high == "" || value[i] > high) high = value[i]
         }
     }
-    lowest = low
+    lowest = least = low
     highest = high
     if (has_model)
         for (i = 1; i <= cells; i++) {
@@ -144,22 +144,23 @@ function draw_labels(    i, apart, x, bottom) {
         if (!is_round(i, apart) && !(i == 1 && from == "" && apart * width > 30)) continue
         x = across(i) + (is_clock ? 0 : width / 2)
         if (is_clock) emit("<path stroke=\"#444\" d=\"M" x " " bottom "v4\"/>")
-        text_at(x, bottom + 16, "middle", label(i))
+        text_at(x, bottom + hang + 16, "middle", label(i))
     }
 }
 
 # The ranges of an answer of mark below the labels, each with its number where it has room.
-function draw_marks(    k, y, wide, path) {
+function draw_marks(    k, y, wide, path, y_of_number) {
     path = ""
+    y_of_number = top + plot + hang + 19
     for (k = 1; k <= marks; k++) {
-        y = top + plot + 10 + 14 * mark_row[k]
+        y = top + plot + hang + 10 + 14 * mark_row[k]
         wide = (mark_last[k] - mark_first[k] + 1) * width
         path = path "M" across(mark_first[k]) " " y "h" wide "v11h-" wide "z"
     }
     emit("<path fill=\"#e0b040\" stroke=\"#fff\" d=\"" path "\"/>")
     for (k = 1; k <= marks; k++)
         if (6 * length(k) + 2 <= (mark_last[k] - mark_first[k] + 1) * width)
-            text_at((across(mark_first[k]) + across(mark_last[k] + 1)) / 2, top + plot + 19 + 14 * mark_row[k], "middle", k)
+            text_at((across(mark_first[k]) + across(mark_last[k] + 1)) / 2, y_of_number + 14 * mark_row[k], "middle", k)
 }
 
 function draw_all(    number, i, heading, picture_width, picture_height, panel, head) {
@@ -170,7 +171,9 @@ function draw_all(    number, i, heading, picture_width, picture_height, panel, 
     left = 14 + 7 * (length(low) > length(high) ? length(low) : length(high))
     plot = count > 1 ? 110 : 170
     head = title() == "" ? 18 : 36
-    panel = plot + head + 24 + 14 * mark_rows
+    # room for the values of bars that hang down to the labels
+    hang = least < base && plot * (least - low) < 14 * (high - low) ? 12 : 0
+    panel = plot + head + hang + 24 + 14 * mark_rows
     picture_width = left + cells * width + 26
     if (picture_width < 240) picture_width = 240
     picture_height = count * panel + 8
