@@ -1,5 +1,6 @@
 # Read by `wishes`: goes through all series of some cells and says of each whether a wish means it, by the wish's own
 # words. A line for each series, in order: 1 or 0, or the amount that a wish wants great or small, a tab, the series.
+# Where `free` names cells, these alone have all values, those that `on` names are 1, and the others have the first value.
 # Level stretches: the greatest parts of the series with one value.
 function stretch(    i) {
     stretches = 0
@@ -153,6 +154,12 @@ function hours_within(a, b,    k, n) {
     for (k = 1; k <= parts; k++) if (first[k] >= a && last[k] <= b) n += hours(k)
     return n
 }
+function parts_within(a, b,    k, n) {
+    n = 0
+    for (k = 1; k <= parts; k++) if (first[k] >= a && last[k] <= b) n++
+    return n
+}
+function rises_into(a, b,    i) { for (i = a; i <= b; i++) if (x[i] > x[i - 1]) return 1; return 0 }
 function rises_from(a,    i) { for (i = a; i < cells; i++) if (x[i + 1] > x[i]) return 1; return 0 }
 function total(    i, n) { n = 0; for (i = 1; i <= cells; i++) n += x[i]; return n }
 function level_hours(    i, n) {
@@ -217,6 +224,13 @@ function wanted() {
     if (is("the hours of a hill, its feet aside, differ by at most 2")) { hills(1); return widest_part() <= 2 }
     if (is("from hour 2 to hour 5 the level drifts by at most 2, all one way")) return drifts_one_way(2, 5, 2)
     if (is("at most 30 charged from hour 3 to hour 6")) return all_steps(1, 3, 6) <= 30
+    if (is("a hill with its top between six and nine o'clock")) { runs(1); return hours_within(25, 36) > 0 }
+    if (is("a shift between 5:00 and 13:00, one between 15:00 and 23:00, and no other")) {
+        runs(1)
+        return parts == 2 && parts_within(21, 52) == 1 && parts_within(61, 92) == 1
+    }
+    if (is("no start between 17:00 and 20:00, while electricity is dear")) return !rises_into(69, 80)
+    if (is("at most three hours of whole runs in the night, until 6:00")) { runs(1); return hours_within(1, 24) <= 12 }
     if (is("each level but the first and the last is kept for at least two hours")) return inner_shortest() >= 2
     if (is("each level but the first and the last is kept for at least three hours")) return inner_shortest() >= 3
     if (is("no run shorter than three hours, at the ends too")) { runs(1, 1); return shortest() >= 3 }
@@ -252,16 +266,20 @@ function all_on_stretches(    i) {
 BEGIN {
     if (wish == "?") { wanted(); exit }
     choices = split(values, value, " ")
-    for (i = 1; i <= cells; i++) at[i] = 1
+    for (i = 1; i <= cells; i++) x[i] = value[1]
+    for (i = split(on, fixed, " "); i > 0; i--) x[fixed[i]] = 1
+    many = split(free, place, " ")
+    if (!many) for (many = 0; many < cells;) { many++; place[many] = many }
+    for (i = 1; i <= many; i++) at[i] = 1
     do {
-        for (i = 1; i <= cells; i++) x[i] = value[at[i]]
+        for (i = 1; i <= many; i++) x[place[i]] = value[at[i]]
         stretch()
         is_meant = wanted()
         if (is_meant == "unknown") { print is_meant; exit }
         printf "%s\tseries", is_meant
         for (i = 1; i <= cells; i++) printf " %d", x[i]
         print ""
-        for (i = cells; i > 0 && at[i] == choices; i--) at[i] = 1
+        for (i = many; i > 0 && at[i] == choices; i--) at[i] = 1
         at[i]++
     } while (i > 0)
 }
