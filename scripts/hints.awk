@@ -202,7 +202,11 @@ BEGIN {
         "plateau plain proper_plateau proper_plain summit gorge zigzag dip_on_increasing_sequence " \
         "bump_on_decreasing_sequence"
     planners["hill"] = "peak"; planners["run"] = "plateau"; planners["pause"] = "plain"; planners["hollow"] = "valley"
-    planners["surface"] = "surf"; planners["length"] = "width"; planners["duration"] = "width"
+    planners["rise"] = "increasing"; planners["fall"] = "decreasing"; planners["turn"] = "inflexion"
+    planners["climb"] = "increasing_sequence"; planners["descent"] = "decreasing_sequence"
+    planners["landing"] = "increasing_terrace"; planners["level"] = "steady_sequence"
+    planners["surface"] = "surf"; planners["length"] = planners["duration"] = "width"
+    planners["height"] = planners["step"] = planners["swing"] = "range"
     signs["=>"] = ">="; signs["=<"] = "<="; signs["=="] = "="; signs["<>"] = signs["=!"] = signs["/="] = "!="
     form["cells"] = "cells N"
     form["domain"] = "domain R .., where R is a number or a range such as 0..9"
