@@ -16,7 +16,7 @@ static CASES: [Case; 46] = [
         status: Status::Done,
     },
     Case {
-        input: b"cells 2\nterm s = sum range peak\nterm m = max range peak\nterm k = min range steady\n%%\nseries -7 -7\n",
+        input: b"cells 2\ndomain -9..9\nterm s = sum range peak\nterm m = max range peak\nterm k = min range steady\n%%\nseries -7 -7\n",
         taken: b"meets\nvalue s 0\nvalue m -inf\nvalue k 0\n",
         status: Status::Done,
     },
