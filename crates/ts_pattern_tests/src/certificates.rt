@@ -61,12 +61,12 @@ pub(super) fn is_taken(alloc: Global, row: &[u8]) -> Result<bool, Memory> {
 
 /// The stop that the head of a row tells.
 fn stop_of(head: &[u8]) -> Option<CertStop> {
-    let line = number(word(head, 0))? as u32;
+    let line = u32::try_from(number(word(head, 0))?).ok()?;
     match (number(word(head, 1)), number(word(head, 2))) {
         (Some(said), Some(found)) => Some(CertStop::CountDiffers {
             line,
-            said: said as u64,
-            found: found as u64,
+            said: u64::try_from(said).ok()?,
+            found: u64::try_from(found).ok()?,
         }),
         _ => Some(CertStop::Text { line }),
     }

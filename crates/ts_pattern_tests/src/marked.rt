@@ -137,9 +137,9 @@ fn are_so_many(
     w: &Validated,
     wanted: Option<i64>,
 ) -> Result<bool, Memory> {
-    match occurrences(alloc, v, w)? {
-        Some(count) => Ok(wanted == Some(count as i64)),
-        None => Ok(false),
+    match (occurrences(alloc, v, w)?, wanted) {
+        (Some(count), Some(wanted)) => Ok(i64::try_from(count).ok() == Some(wanted)),
+        _ => Ok(false),
     }
 }
 
