@@ -14,6 +14,7 @@ NR == 1 { parted = /;/ ? ";" : /\t/ ? "\t" : "," }
 /^[ \t]*$/ { next }
 {
     fields = split($0, field, parted)
+    if (column > fields) give_up("line " NR " has no column " column)
     text = column ? field[column] : field[fields]
     gsub(/^[ "]+|[ "]+$/, "", text)
     if (parted != ",") sub(/,/, ".", text)
@@ -29,6 +30,7 @@ NR == 1 { parted = /;/ ? ";" : /\t/ ? "\t" : "," }
 }
 END {
     if (ended) exit ended
+    if (!NR) give_up("the input is empty; it takes lines of CSV")
     if (!cells) give_up("there is no number in the input")
     if (cells > 512) give_up("there are " cells " values, and a series has at most 512")
     print "series" series
