@@ -1,6 +1,6 @@
 -- The spans of a cell from its rows: the hulls of one value, and the hull of the spans of all values.
 use Rattle.std.proofs.Common.{◌≡◌, ℕ, zero, suc, ◌+◌, ◌*◌, ◌-◌, ◌<◌, ◌≤◌, ℤ, List, [], ◌∷◌, ◌++◌, length, map, take, drop, slice_get, Some, refl, sym, ap, ◌∙◌, subst, arith}
-use Rattle.std.specs.Prelude.{Contains, flat_map, slice_range}
+use Rattle.std.specs.Prelude.{flat_map, slice_range}
 use Rattle.std.specs.List.{AllByRecursion}
 use Rattle.std.proofs.lemmas.List.{take_at, drop_at, drop-drop, take_more, drop_more, map-append}
 use Rattle.std.proofs.lemmas.List.Sums.{fold-append}
@@ -15,7 +15,7 @@ use Rattle.ts_row.specs.Rows.{flat_row}
 use Rattle.ts_bound.specs.HullTables.{hulls_at, row_of, values_at}
 use Rattle.ts_bound.specs.PackedRows.{IsPackedRow}
 use Rattle.ts_bound.specs.TermSpans.{span_of_all}
-use Rattle.ts_bound.proofs.SpanEnds.{still_there, within_of}
+use Rattle.ts_bound.proofs.SpanEnds.{within_of}
 use Rattle.ts_bound.proofs.SpanRuns.{length-hulls_at}
 use Rattle.ts_filter.specs.Boxes.{Box}
 use Rattle.ts_filter.specs.AnyRows.{Columns}
@@ -71,12 +71,7 @@ span_more f values i v span one both lt e is_one is_both inv =
     ∙ sym (ap (λ l. span_of_all (map f l)) (take_more values i v lt ∙ ap (λ x. take i values ++ x ∷ []) (get_or_from_slice_get values i v v e))
     ∙ ap span_of_all (map-append f (take i values) (v ∷ [])) ∙ fold-append span_hull none_span (map f (take i values)) (f v ∷ []))
 
--- the place of a value
+-- the values from a place on
 
 pub left_is : (values : List ℤ) (i : ℕ) (x : ℤ) → i < length values → slice_get values i ≡ Some x → drop i values ≡ x ∷ drop (i + 1) values
 left_is values i x lt e = drop_more values i x lt ∙ ap (λ y. y ∷ drop (i + 1) values) (get_or_from_slice_get values i x x e)
-
-pub still_left : (values : List ℤ) (i : ℕ) (x v : ℤ) → i < length values → slice_get values i ≡ Some x → (x ≡ v → ⊥) → Contains (drop i values) v →
-    Contains (drop (i + 1) values) v
-still_left values i x v lt e ne c =
-    still_there (drop i values) (drop (i + 1) values) v x (left_is values i x lt e) ne c

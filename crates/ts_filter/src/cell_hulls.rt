@@ -109,7 +109,8 @@ impl<'a> CellHulls<'a> {
         requires { Contains (values_at self.now.cell self.now.cells) v }
         ensures { IsTrue result ↔ Excludes asked.entry (value_span self.now.machine self.now.cell self.now.cells v) }
     {
-        self.excludes_at(asked, place_of(self.values(), v), v)
+        let place = self.values().place_of(v);
+        self.excludes_at(asked, place, v)
     }
 
     /// The same of the value that stands at place `i`, counted from 0.
@@ -171,20 +172,6 @@ impl<'a> CellHulls<'a> {
             }
         }
     }
-}
-
-/// The place of a value, counted from 0.
-fn place_of(values: &Domain, v: i64) -> u64
-    requires { Contains values.now v }
-    ensures { slice_get values.now result ≡ Some v }
-{
-    for i in 0..values.size() {
-        let value = values.nth(i);
-        if value == v {
-            return i;
-        }
-    }
-    unreachable!()
 }
 
 /// With the finish span at the value `v` of cell `k`, which stands at place `i`.
