@@ -6,6 +6,7 @@ use Rattle.ts_row.specs.Rows.{IsRow, flat_row}
 use Rattle.ts_bound.specs.HullTables.{row_of}
 
 -- a packed row is that of a cell with these values, behind these cells
-pub record IsPackedRow (n : ℕ) (b : Body) (before : List (List ℤ)) (values : List ℤ) (row : List (List (PackedHull n))) : Type 0 where
+pub record IsPackedRow (n : ℕ) (b : Body) (before : List (List ℤ)) (values : List ℤ)
+    (row : List (List (PackedHull n))) : Type 0 where
   pub is_row : IsRow n (length b.states) (length values) row
   pub is_flat : flat_row n (length b.states) (length values) row ≡ row_of b before values

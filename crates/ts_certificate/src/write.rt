@@ -190,8 +190,8 @@ fn push_end(text: &mut Vec<u8>, tree: &[TreeLine]) -> Result<(), Memory>
     Ok(())
 }
 
-/// No fewer bytes than the text of a certificate has whose numbers are within their ranges: 21 for each line of its tree,
-/// 9 for each number of a series and 7 for the rest of its line, and 60 for the three other lines.
+/// No fewer bytes than the text of a certificate has whose numbers are within their ranges: 21 for each line of its
+/// tree, 9 for each number of a series and 7 for the rest of its line, and 60 for the three other lines.
 fn room_for(c: &Certificate) -> usize {
     let mut room = c.tree.len().saturating_mul(21).saturating_add(60);
     for values in &c.series {

@@ -79,4 +79,5 @@ part_text name t body split =
 -- the parts of the terms, in order
 abbrev pub program_text : List (String Global × ModelTerm) → List ℕ
 program_text [] = []
-program_text (e ∷ es) = part_text (string_bytes e.0) e.1 (machine_body e.1.term) (machine_pair e.1.term) ++ program_text es
+program_text (e ∷ es) =
+    part_text (string_bytes e.0) e.1 (machine_body e.1.term) (machine_pair e.1.term) ++ program_text es

@@ -19,8 +19,8 @@ terms_of m = map (λ e. e.1.term) (terms_in m)
 abbrev pub windows_of : Model → List (Option Range)
 windows_of m = map (λ e. e.1.window) (terms_in m)
 
--- the terms are those of the model, and the machines have their windows; that the machines are those of the terms is kept
--- by the type
+-- the terms are those of the model, and the machines have their windows; that the machines are those of the terms is
+-- kept by the type
 pub record IsProgramOf (p : Program) (m : Model) : Type 0 where
   pub terms : p.terms.items ≡ terms_of m
   pub windows : map window_of (machines_of p) ≡ windows_of m

@@ -81,7 +81,8 @@ impl Builder {
 
     /// Ranges joined with further ones.
     fn g(&self, left: Expr, right: Expr) -> Result<Expr, Memory>
-        ensures { IfOk result (λ e. formula e ≡ Join (Fold (range_op self.now.aggregator)) (formula left) (formula right)) }
+        ensures { IfOk result (λ e.
+            formula e ≡ Join (Fold (range_op self.now.aggregator)) (formula left) (formula right)) }
     {
         Expr::over(
             self.alloc,
@@ -93,7 +94,8 @@ impl Builder {
 
     /// What both halves make of a range.
     fn read(&self, whole: Expr, less: Expr) -> Result<Expr, Memory>
-        ensures { IfOk result (λ e. formula e ≡ read_by Join (less_fold self.now.feature) (formula whole) (formula less)) }
+        ensures { IfOk result (λ e.
+            formula e ≡ read_by Join (less_fold self.now.feature) (formula whole) (formula less)) }
     {
         match self.feature.less() {
             None => Ok(whole),

@@ -47,7 +47,8 @@ left_with k Greater j = record k { greater = Some j }
 
 -- these words, and nothing asked for
 abbrev pub words_alone : Bool → Bool → Bool → Known
-words_alone n w l = record { nullable = n; some = w; longer = l; normal = None; less = None; equal = None; greater = None }
+words_alone n w l =
+    record { nullable = n; some = w; longer = l; normal = None; less = None; equal = None; greater = None }
 
 abbrev pub words_cat : Known → Known → Known
 words_cat k m = words_alone (k.nullable && m.nullable) (k.some && m.some) ((k.longer && m.some) || (k.some && m.longer))

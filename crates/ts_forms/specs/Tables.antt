@@ -35,13 +35,14 @@ pub record IsKnown (ss : List Shape) (r : Shape) (k : Known) : Type 0 where
 abbrev pub AreDifferent : List Shape → Type 0
 AreDifferent ss = (i j : ℕ) → i < length ss → j < length ss → form_at ss i ≡ form_at ss j → i ≡ j
 
--- each node is found by its place, has its parts before it, and is an expression that stands here once, of which what is
--- known is so
+-- each node is found by its place, has its parts before it, and is an expression that stands here once, of which what
+-- is known is so
 pub record IsTable (f : Forms) : Type 0 where
   pub places : f.places.keys ≡ f.nodes.items
   pub as_many_nodes : length f.nodes.items ≡ length (shapes f)
   pub as_many_known : length f.known.items ≡ length (shapes f)
-  pub nodes : (i : ℕ) (n : Node) → slice_get f.nodes.items i ≡ Some n → HasParts i n × (form_at (shapes f) i ≡ shape_by (shapes f) n)
+  pub nodes : (i : ℕ) (n : Node) → slice_get f.nodes.items i ≡ Some n →
+      HasParts i n × (form_at (shapes f) i ≡ shape_by (shapes f) n)
   pub known : (i : ℕ) (k : Known) → slice_get f.known.items i ≡ Some k → IsKnown (shapes f) (form_at (shapes f) i) k
   pub once : AreDifferent (shapes f)
 

@@ -13,8 +13,8 @@ use std::alloc::Global;
 use ts_base::{Letter, Memory};
 
 impl Forms {
-    /// The number of the derivative of expression `i` by a letter: the words that begin with it, without it. It is worked
-    /// out at the first call alone, and noted.
+    /// The number of the derivative of expression `i` by a letter: the words that begin with it, without it. It is
+    /// worked out at the first call alone, and noted.
     #[cycle(derivative)]
     pub fn derive(&mut self, i: usize, letter: Letter) -> Result<usize, Memory>
         requires table { IsTable self.old }

@@ -11,8 +11,8 @@ use crate::shape::{Seam, Shape};
 use crate::table::FoldOp;
 use ts_automaton::{Op, Operator};
 
-/// The shape of a glued value, with the operator that joins results, how the cells of an occurrence are folded, and what
-/// the cell is worth.
+/// The shape of a glued value, with the operator that joins results, how the cells of an occurrence are folded, and
+/// what the cell is worth.
 #[derive(Clone, Copy)]
 pub(crate) struct Gluing {
     pub(crate) result: Op,

@@ -19,8 +19,8 @@ pub enum CellUnit {
     Value,
 }
 
-/// How many cells an occurrence leaves out at its end, 0 or 1; how its cells are joined, and what each of them is worth;
-/// and the pairs of states, the first of the forward and the second of the reverse automaton, between which one
+/// How many cells an occurrence leaves out at its end, 0 or 1; how its cells are joined, and what each of them is
+/// worth; and the pairs of states, the first of the forward and the second of the reverse automaton, between which one
 /// occurrence goes on.
 #[derive(Debug, PartialEq, Eq, Drop)]
 pub struct GlueTable {

@@ -1,6 +1,6 @@
-//! The feature `range` on all series of five cells from 0 to 2: a digest of the 243 values of each pattern and aggregator,
-//! which a program outside worked out by the definition, from all parts of each signature. The machine answers them, and
-//! where it can be split they are glued at each cell.
+//! The feature `range` on all series of five cells from 0 to 2: a digest of the 243 values of each pattern and
+//! aggregator, which a program outside worked out by the definition, from all parts of each signature. The machine
+//! answers them, and where it can be split they are glued at each cell.
 
 ghost use Rattle.std.specs.Prelude.{◌<◌};
 
@@ -78,8 +78,8 @@ fn series_at(place: i64) -> [i64; 5] {
     ]
 }
 
-/// The digest of the values of a machine. None where another value is glued at a cell, or the machine can be split where
-/// it may not.
+/// The digest of the values of a machine. None where another value is glued at a cell, or the machine can be split
+/// where it may not.
 fn digest_of(machine: &Machine, splits: bool) -> Option<u64> {
     if machine.reverse().is_some() != splits {
         return None;

@@ -18,8 +18,8 @@ use Rattle.ts_model.specs.declared.error.ModelKind.TheVariants.{UnknownLine, Sha
 use Rattle.ts_model.specs.Words.{form_of, op_of, is_equals, is_count, is_in, is_name, range_of, ranges_of, aggregator_of, feature_of, pattern_of}
 
 -- what a line says: `cells`, `domain`, `cell`, `term`, `require` or `objective` with their arguments. A term may have a
--- range of cells that it looks at; it has no parts where its aggregator, its feature or its pattern has a name that isn't
--- in the tables.
+-- range of cells that it looks at; it has no parts where its aggregator, its feature or its pattern has a name that
+-- isn't in the tables.
 pub data Meaning : Type 0 where
   SaysCells : ℤ → Meaning
   SaysDomain : List Interval → Meaning

@@ -1,5 +1,5 @@
--- The value of a term of a model on a series: that of its three names on the cells that it looks at. Where nothing occurs
--- in them, it is they that are counted.
+-- The value of a term of a model on a series: that of its three names on the cells that it looks at. Where nothing
+-- occurs in them, it is they that are counted.
 use Rattle.std.specs.Prelude.{ℤ, Bool, is_some, List}
 use Rattle.std.specs.List.{list_any}
 use Rattle.ts_base.specs.declared.ext.Ext.{Ext}

@@ -16,8 +16,8 @@ use std::alloc::Global;
 use ts_base::{Memory, without_lf};
 use ts_token::ShortLine;
 
-/// Takes the lines of a model in parts, and keeps what the whole ones state, and a short form of the line that has no LF
-/// yet. The model ends with the line `%%`, or with the text.
+/// Takes the lines of a model in parts, and keeps what the whole ones state, and a short form of the line that has no
+/// LF yet. The model ends with the line `%%`, or with the text.
 #[derive(Drop)]
 pub struct ModelText {
     alloc: Global,

@@ -112,8 +112,8 @@ fn parse_cell<'a>(alloc: Global, bytes: &'a [u8], column: u32) -> Result<Stateme
     }
 }
 
-/// The parts of a term, whose words reach up to the name of the pattern; `count` stands for `sum one`. None where a name
-/// is unknown.
+/// The parts of a term, whose words reach up to the name of the pattern; `count` stands for `sum one`. None where a
+/// name is unknown.
 #[tactic(auto, using(crate::proofs::TermLines::names_there, crate::proofs::TermLines::last_there))]
 fn parts_said(words: &[Word]) -> Option<TermParts>
     requires { term_length (texts words.now) ≤ length (texts words.now) }

@@ -125,8 +125,8 @@ impl ShortLine {
         }
     }
 
-    /// Takes more bytes of the line, whose LF may be the last of them. After `Memory` some first bytes of these have come,
-    /// and the line can be cleared.
+    /// Takes more bytes of the line, whose LF may be the last of them. After `Memory` some first bytes of these have
+    /// come, and the line can be cleared.
     pub fn feed(&mut self, bytes: &[u8]) -> Result<(), Memory>
         ensures taken { OnOk result (TakesIn self.old bytes.now self.new) }
         ensures first { OnErr result (TakesFirst self.old bytes.now self.new) }

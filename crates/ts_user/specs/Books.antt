@@ -118,8 +118,8 @@ abbrev pub value_of : List Shape → Configuration → PlainConfiguration Shape
 value_of rs x = configuration_value rs (plain_configuration x)
 
 -- the step of a configuration, and whether its checks hold
-pub record IsStep (s : Subject Shape) (old new : List Shape) (here : Configuration) (l : Letter) (to : Configuration) (ok : Bool)
-    : Type 0 where
+pub record IsStep (s : Subject Shape) (old new : List Shape) (here : Configuration) (l : Letter) (to : Configuration)
+    (ok : Bool) : Type 0 where
   pub grows : Grows old new
   pub few : length to.live.items ≤ length here.live.items + 1
   pub value : value_of new to ≡ step_of s (value_of old here) l

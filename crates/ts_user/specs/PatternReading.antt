@@ -122,7 +122,8 @@ abbrev pub line_gives : Bool → Stated → List (List ℕ) → Result Stated Us
 line_gives alone m words = taken_as alone m (meaning_in words)
 
 -- the line's number beside its kind, or on with what is stated after it
-abbrev pub onward : {A : Type 0} → ℕ → Result Stated UserKind → (Stated → Result A (ℕ × UserKind)) → Result A (ℕ × UserKind)
+abbrev pub onward : {A : Type 0} → ℕ → Result Stated UserKind → (Stated → Result A (ℕ × UserKind)) →
+    Result A (ℕ × UserKind)
 onward number (Err k) next = Err (number, k)
 onward number (Ok m) next = next m
 

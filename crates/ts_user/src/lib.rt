@@ -6,10 +6,10 @@
 //! plan that it gives is closed, so `validate` takes it; else it says by which signature a check fails, or that there
 //! are more than 512 configurations.
 //!
-//! `read_pattern_text` reads a pattern text, line by line, as models are read; `read_pattern` reads the words of one. An
-//! expression of at most 64 bytes is read by a recursive descent from its last byte to its first: a sequence or a union
-//! nests to the right by itself, and a repeat sign is met before what it repeats. Of a longer one only the outline is
-//! read, which takes no recursion.
+//! `read_pattern_text` reads a pattern text, line by line, as models are read; `read_pattern` reads the words of one.
+//! An expression of at most 64 bytes is read by a recursive descent from its last byte to its first: a sequence or a
+//! union nests to the right by itself, and a repeat sign is met before what it repeats. Of a longer one only the
+//! outline is read, which takes no recursion.
 //!
 //! ```text
 //! let user = read_pattern_text(alloc, text)?;

@@ -72,7 +72,8 @@ impl Listing {
         ensures listed { IfOk result (λ _. IsListed (unplanned_of rows.now p.now) (shape_of p.now.regex) self.new) }
         ensures taken { IfOk result (λ _. IsTaken (unplanned_of rows.now p.now) (signatures_of self.new)
             (place (signature_at (signatures_of self.old) from ++ letter ∷ []) + 1)) }
-        ensures same { IfOk result (λ _. signature_at (signatures_of self.new) from ≡ signature_at (signatures_of self.old) from) }
+        ensures same { IfOk result (λ _.
+            signature_at (signatures_of self.new) from ≡ signature_at (signatures_of self.old) from) }
         ensures longer { IfOk result (λ _.
             length self.old.configurations.items ≤ length self.new.configurations.items) }
         ensures stop { IfErr result (λ e. IsStop (unplanned_of rows.now p.now) e) }

@@ -36,8 +36,8 @@ fn list_all(alloc: Global, rows: &[Row], p: &Pattern) -> Result<Listing, BuildSt
 /// and `>`, and the residuals, each once, in the order in which they first stand. It is closed, so `validate` takes it.
 ///
 /// Each step is checked before its configuration is listed. `Refused` comes exactly where a check fails before a 513th
-/// configuration would be listed, and has the signature of the first such step; `TooMany` comes exactly where none fails
-/// before (`laws::one_answer`). What a step is and what is checked, `validate` defines.
+/// configuration would be listed, and has the signature of the first such step; `TooMany` comes exactly where none
+/// fails before (`laws::one_answer`). What a step is and what is checked, `validate` defines.
 pub fn build_plan(alloc: Global, t: &Transducer, p: &Pattern) -> Result<Plan, BuildStop>
     ensures fits { IfOk result (λ plan. IsTrue (is_plan_of (shape_of p.now.regex) (plain_plan plan))) }
     ensures residuals { IfOk result (λ plan. length plan.residuals.items ≤ 262145) }

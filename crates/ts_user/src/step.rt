@@ -140,8 +140,8 @@ pub fn make_step(
     requires listed { AreListed (residuals_of book.old) here.now.live.items }
     requires room { length book.old.residuals.items + length here.now.live.items < 4000000000 }
     ensures book { IfOk result (λ _. IsBook (shape_of p.now.regex) book.new) }
-    ensures step { IfOk result (λ k. IsStep (unplanned_of rows.now p.now) (residuals_of book.old) (residuals_of book.new)
-        here.now letter k.to k.agrees) }
+    ensures step { IfOk result (λ k. IsStep (unplanned_of rows.now p.now) (residuals_of book.old)
+        (residuals_of book.new) here.now letter k.to k.agrees) }
 {
     let live = here.live.as_slice();
     let arrow = row(rows, here.state).arrow(letter);

@@ -20,7 +20,8 @@ words_of r = record { nullable = nullable r; longer = has_longer r }
 -- entries as the checks see them
 abbrev pub kept_by : {X R : Type 0} → Residuals R → List (Entry X R Tag) → List Kept
 kept_by t es =
-    map (λ e. record { words = record { nullable = t.nullable e.residual; longer = t.has_longer e.residual }; tag = e.tag })
+    map
+    (λ e. record { words = record { nullable = t.nullable e.residual; longer = t.has_longer e.residual }; tag = e.tag })
     es
 
 abbrev pub facts_of : Phase → Bool → List Kept → Facts

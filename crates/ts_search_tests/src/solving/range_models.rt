@@ -1,5 +1,5 @@
-//! Small models whose terms have the feature `range`, with their best and their first series, found by going through all
-//! series by the definition. Each has another answer where the feature is `max`.
+//! Small models whose terms have the feature `range`, with their best and their first series, found by going through
+//! all series by the definition. Each has another answer where the feature is `max`.
 
 use super::small_models::Case;
 use Ext::{Int, NegInf, PosInf};

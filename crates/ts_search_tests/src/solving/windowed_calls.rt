@@ -1,6 +1,6 @@
 //! The windowed models in the commands that don't search: what `check` says of a series, what the automata of `compile`
-//! answer on it, and what `verify` says of the certificates of searches, as they are and with a false claim; and what it
-//! says of those of models with ranges.
+//! answer on it, and what `verify` says of the certificates of searches, as they are and with a false claim; and what
+//! it says of those of models with ranges.
 //!
 //! The values are by the definition of a window, as in the table of the models. The lines are by a literal checker over
 //! the spans of the definitions, which has its automata from the tables of seeds.
