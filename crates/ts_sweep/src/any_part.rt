@@ -21,7 +21,7 @@ pub enum AnyPart<'a> {
     Double(Op, &'a Expr, &'a Expr),
 }
 
-/// Whether the next cell doesn't stand in an expression.
+/// Whether an expression doesn't read the next cell.
 pub fn is_front(e: &Expr) -> bool
     ensures { result ≡ is_front (formula e.now) }
 {
@@ -34,7 +34,7 @@ pub fn is_front(e: &Expr) -> bool
     }
 }
 
-/// Whether it is the next cell.
+/// Whether an expression is the next cell itself.
 fn is_next(e: &Expr) -> bool
     ensures { result ≡ is_next (formula e.now) }
 {
@@ -44,7 +44,7 @@ fn is_next(e: &Expr) -> bool
     }
 }
 
-/// How many operands it has, counted up to 255.
+/// How many operands an expression has, counted up to 255.
 fn operands(e: &Expr) -> u8
     ensures { result ≡ operands (formula e.now) }
 {
@@ -80,7 +80,7 @@ fn double_part<'a>(o: Op, p: Op, e: &'a Expr, f: &'a Expr, r: &Expr) -> Option<A
     }
 }
 
-/// The part that an operator over two expressions is in which the next cell stands.
+/// The part that an operator over two expressions is, if the next cell is read in one of them.
 fn tail_part<'a>(o: Op, a: &'a Expr, b: &'a Expr) -> Option<AnyPart<'a>>
     ensures { split_by result ≡ tail_of o (formula a.now) (formula b.now) }
 {
@@ -111,7 +111,7 @@ fn joined_part<'a>(whole: &'a Expr, o: Op, a: &'a Expr, b: &'a Expr) -> Option<A
     }
 }
 
-/// The part that a difference is: the next cell may not come in by it.
+/// The part that a difference is: neither of its expressions may read the next cell.
 fn less_part<'a>(whole: &'a Expr, a: &Expr, b: &Expr) -> Option<AnyPart<'a>>
     requires { formula whole.now ≡ Join Sub (formula a.now) (formula b.now) }
     ensures { split_by result ≡ split_formula (Join Sub (formula a.now) (formula b.now)) }

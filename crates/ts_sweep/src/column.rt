@@ -1,4 +1,4 @@
-//! Where the hulls of a state lie in a row.
+//! Where the hulls of a state are in a row.
 
 ghost use Rattle.std.specs.Prelude.{◌≡◌, ◌≢◌, ℕ, ◌<◌, List, length, get_or};
 
@@ -9,19 +9,19 @@ pub trait Column<H: Hull>: Copy {
     /// What a row holds.
     type Item;
 
-    /// What stands for no item.
+    /// The item at a place that there isn't.
     ghost blank: { Self.Item };
 
     /// The items of the state.
     ghost column: { Self → List Self.Item → List Self.Item };
 
-    /// Its hulls.
+    /// The hulls of the state.
     ghost hulls: { Self → List Self.Item → List H };
 
-    /// What an item becomes that takes in a hull.
+    /// What an item becomes when it takes in a hull.
     ghost taking: { Self.Item → H → Self.Item };
 
-    /// That rows are the same beside the state.
+    /// That two rows differ in the items of the state at most.
     ghost beside: { Self → List Self.Item → List Self.Item → Type 0 };
 
     /// That a row has the places of the state.
@@ -37,7 +37,7 @@ pub trait Column<H: Hull>: Copy {
         requires inside { i < length (column self row.now) }
         ensures { result ≡ get_or (hulls self row.now) i H.none };
 
-    /// A hull is taken in at a place.
+    /// The item at a place takes in a hull.
     fn take_in(self, row: &mut [Self::Item], i: usize, h: H)
         requires whole { whole self row.old }
         requires inside { i < length (column self row.old) }
@@ -54,7 +54,7 @@ pub trait Column<H: Hull>: Copy {
     ghost beside_both: { (c : Self) (a b d : List Self.Item) → beside c a b → beside c b d → beside c a d };
 }
 
-/// Hulls that stand in a column of their own.
+/// The hulls of a state in a column of their own.
 #[derive(Clone, Copy)]
 pub struct Dense;
 

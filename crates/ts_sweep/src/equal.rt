@@ -9,7 +9,7 @@ use crate::source::Fronts;
 use crate::steps::taken_from;
 use crate::values::Values;
 
-/// The closed front of the hull at a place, for the next value, which is equal.
+/// The front of the hull at a place, closed by the next value, which is equal to the value there.
 #[inline(always)]
 fn closed_from<H: Hull, F: Fronts<H>, V: Values, C: Column<H>>(
     by: F,
@@ -32,8 +32,8 @@ fn closed_from<H: Hull, F: Fronts<H>, V: Values, C: Column<H>>(
     by.closed(front, v)
 }
 
-/// A move on `=` is taken in: each step leaves the lesser of two values behind, or both where they are equal. Each item
-/// of the next values takes in the closed front of the value that is equal, if there is one.
+/// Takes in a move on `=`: each step passes the lesser of two values, or both if they are equal. Each item of the next
+/// values takes in the closed front of the value that is equal, if there is one.
 #[inline(never)]
 pub fn sweep_equal<H: Hull, F: Fronts<H>, V: Values, W: Values, C: Column<H>>(
     by: F,

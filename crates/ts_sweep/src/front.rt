@@ -22,26 +22,26 @@ pub trait Front: Copy {
     /// The expression.
     ghost formula: { Self → Formula };
 
-    /// How many words stand in it, counted up to 255.
+    /// The number of its words, counted up to 255.
     ghost words: { Self → ℕ };
 
-    /// That lanes are such that it may be evaluated; where it is added to something, that its registers are small
+    /// That the expression may be evaluated on these lanes; if it is added to something, that its registers are small
     /// numbers.
     ghost fit: { Self → Bool → List ℤ → Type 0 };
 
     /// Its ends in lanes, at a value.
     ghost value: { Self → List ℤ → ℤ → Ends };
 
-    /// How many words stand in it.
+    /// The number of its words.
     fn words(self) -> u8
         ensures { result ≡ words self };
 
-    /// Whether all lanes under a cover are such.
+    /// Whether the expression may be evaluated on all lanes under a cover.
     fn is_fit<H: Packed>(self, added: bool, cover: H) -> bool
         requires registers { 6 ≤ H.count }
         ensures { result ≡ true → (xs : List ℤ) → AreSome H.count xs → IsUnder xs (H.lanes cover) → fit self added xs };
 
-    /// Its ends.
+    /// The ends of the expression on a hull, at a value.
     fn ends<H: Packed>(self, h: H, x: i64) -> Ends
         requires registers { 6 ≤ H.count }
         requires fit { fit self false (H.lanes h) }
@@ -57,7 +57,7 @@ pub trait Front: Copy {
         IsPackOf (value k xs x) (span_in (formula k) (unpacked xs) x (pos 0)) };
 }
 
-/// A register: of the numbers from 0 to 4 those of C, E, D, F and R.
+/// A register by its number: C, E, D, F and R are 0 to 4.
 #[derive(Clone, Copy)]
 pub struct Register<const K: usize>;
 
@@ -89,7 +89,7 @@ pub struct Join<O, A, B> {
     pub right: B,
 }
 
-/// The register of a number.
+/// The register with a number.
 #[inline(always)]
 fn name_of(k: usize) -> Name
     ensures { result ≡ name_of k }

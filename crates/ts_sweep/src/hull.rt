@@ -2,7 +2,7 @@
 
 ghost use Rattle.std.specs.Prelude.{◌≡◌};
 
-/// What a sweep joins: by a join that is associative, commutative and idempotent, from nothing on.
+/// What a sweep joins. The join is associative, commutative and idempotent; a running hull begins with nothing.
 pub trait Hull: Copy {
     /// The join.
     ghost both: { Self → Self → Self };
@@ -10,11 +10,11 @@ pub trait Hull: Copy {
     /// Nothing.
     ghost none: { Self };
 
-    /// Joins nothing to another.
+    /// The hull that changes no other one.
     fn nothing() -> Self
         ensures { result ≡ none };
 
-    /// Of both.
+    /// The join of both hulls.
     fn joined(self, other: Self) -> Self
         ensures { result ≡ both self other };
 

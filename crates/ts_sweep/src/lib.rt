@@ -12,12 +12,12 @@
 //!   next values           4           7  8            each joins the running hull, closed by it
 //! ```
 //!
-//! What is swept is told by types alone, so that the loop over the values is compiled with nothing left to decide:
+//! What is swept is a matter of types, so the compiler makes a loop over the values that decides nothing:
 //! - `Values`: the values of a cell, a `Run` without gaps or `Listed` ones; two runs are swept by a counted loop;
 //! - `Fronts`: what a move makes of a hull, and what the next value makes of the running one; `Moves` says of which
 //! move;
 //! - `Parts` of a `Front` for each register, with words (`One`, `This`, `Zero` ..) and operators as types; `Tree` and
-//!   `AnyPart` are what is known only when the program runs;
+//! `AnyPart` are what is known only when the program runs;
 //! - `Hull`: what is joined; `PackedHull` is two numbers a register, six lanes for a narrow hull and ten for a wide
 //! one;
 //! - `Column`: where the hulls of a state are, `Dense` in a column of their own or `Strided` in a row of plain hulls.

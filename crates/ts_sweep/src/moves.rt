@@ -9,7 +9,7 @@ use crate::packed::{Ends, Name, Packed};
 use crate::part::Part;
 use crate::source::Fronts;
 
-/// Fronts of a move: what they make of lanes stands for what the move makes of hulls.
+/// The fronts of a move: what they make of lanes represents what the move makes of hulls.
 pub trait Moves<H: Packed>: Fronts<H> {
     ghost use Rattle.std.specs.Prelude.{◌≤◌, ℤ};
     ghost use Rattle.ts_hull.specs.Cuts.{Cut};
@@ -19,7 +19,7 @@ pub trait Moves<H: Packed>: Fronts<H> {
     /// The split expressions of the move.
     ghost cut: { Self → Cut };
 
-    /// Whether all hulls under a cover can be taken.
+    /// Whether the sums of the move stay small on all hulls under a cover.
     fn is_fit(self, cover: H) -> bool
         requires registers { 6 ≤ H.count }
         ensures { result ≡ true → (h : H) → IsPacked H.count (H.lanes h) → IsUnder (H.lanes h) (H.lanes cover) →
@@ -36,8 +36,7 @@ pub trait Moves<H: Packed>: Fronts<H> {
 #[derive(Clone, Copy)]
 pub struct Keep;
 
-/// What becomes of each register. Narrow hulls have no lanes for E and F, so what is said of these is not looked at
-/// there.
+/// What becomes of each register. Narrow hulls have no lanes for E and F, so the parts for these are ignored there.
 #[derive(Clone, Copy)]
 pub struct Parts<C, E, D, F, R> {
     pub c: C,
@@ -47,7 +46,7 @@ pub struct Parts<C, E, D, F, R> {
     pub r: R,
 }
 
-/// Whether the next cell stands in any part.
+/// Whether any part reads the next cell.
 #[inline(always)]
 pub(crate) fn has_tail<C: Part, E: Part, D: Part, F: Part, R: Part>(
     parts: Parts<C, E, D, F, R>,
@@ -62,7 +61,7 @@ pub(crate) fn has_tail<C: Part, E: Part, D: Part, F: Part, R: Part>(
         || parts.r.has_tail()
 }
 
-/// The front of a register for which narrow hulls have no lanes.
+/// The front of E or F; in a narrow hull, which has no lanes for them, it is 0.
 #[inline(always)]
 fn begun_beside<H: Packed, P: Part>(part: P, h: H, x: i64) -> Ends
     requires registers { 6 ≤ H.count }
@@ -77,7 +76,7 @@ fn begun_beside<H: Packed, P: Part>(part: P, h: H, x: i64) -> Ends
     }
 }
 
-/// What the next value makes of it.
+/// What the next value makes of the front of E or F; in a narrow hull it is 0.
 #[inline(always)]
 fn closed_beside<H: Packed, P: Part>(part: P, run: H, register: Name, y: i64) -> Ends
     requires registers { 6 ≤ H.count }

@@ -18,7 +18,7 @@ pub trait Operator: Copy {
     /// The operator.
     ghost op: { Self → Operator };
 
-    /// It adds, so its operands have to be small numbers.
+    /// That it adds: then its operands have to be small numbers.
     ghost adds: { Self → Bool };
 
     /// What it makes of ends.
@@ -28,7 +28,7 @@ pub trait Operator: Copy {
     fn is_sum(self) -> bool
         ensures { result ≡ adds self };
 
-    /// Of both.
+    /// The operator on two ends.
     fn of(self, a: Ends, b: Ends) -> Ends
         requires first { adds self ≡ true → AreWithin 9 a }
         requires second { adds self ≡ true → AreWithin 9 b }
@@ -42,7 +42,7 @@ pub trait Operator: Copy {
         AreWithin (i + j) (joined k a b) };
 }
 
-/// An operator that may stand before the next cell: no difference.
+/// An operator that may take the next cell as its last operand: any but the difference.
 pub trait Folds: Operator {
     ghost use Rattle.std.specs.Prelude.{◌≡◌};
     ghost use Rattle.ts_base.specs.declared.op.Op.{Op};

@@ -1,6 +1,6 @@
 //! Hulls in packed form: a number for each end of a register.
 //!
-//! A lower end stands negated, so that hulls are joined by the greater number in each lane, whatever end it is:
+//! A lower end is negated, so that hulls are joined by the greater number in each lane, whichever end it is:
 //!
 //! ```text
 //!   register      C          D          R
@@ -10,8 +10,8 @@
 //!
 //! A wide hull has ten lanes, in the order C, E, D, F, R. A narrow one has none for E and F, which hold 0.
 //!
-//! The greatest number stands for an infinity, and the least one in each lane for a hull of nothing, which changes
-//! nothing where it is joined to another.
+//! The greatest number represents an infinity. The least one in each lane represents a hull of nothing, which changes
+//! no hull that it is joined to.
 
 ghost use Rattle.std.specs.Prelude.{◌≡◌, ◌≤◌, IfSome};
 ghost use Rattle.ts_sweep.specs.Lanes.{greater_of, some_lanes};
@@ -43,7 +43,7 @@ pub struct PackedHull<const N: usize> {
     pub at: [i64; N],
 }
 
-/// Hulls of registers, which stand in lanes of two.
+/// Hulls of registers, two lanes for each register.
 pub trait Packed: Hull {
     ghost use Rattle.std.specs.Prelude.{ℕ, ℤ, List};
     ghost use Rattle.ts_sweep.specs.declared.packed.Ends.{Ends};
@@ -113,7 +113,7 @@ fn greater<const N: usize>(a: [i64; N], b: [i64; N]) -> [i64; N]
     out
 }
 
-/// Whether registers lie in lanes: the first tells it.
+/// Whether lanes hold registers: the first lane shows it.
 #[inline(always)]
 fn has_some<const N: usize>(at: [i64; N]) -> bool
     ensures { result ≡ some_lanes at.entry }

@@ -19,7 +19,7 @@ use crate::values::Values;
 use ts_automaton::{Expr, Turn};
 use ts_base::Letter;
 
-/// The ends of the expression of a register for which narrow hulls have no lanes.
+/// The ends of the expression of E or F; in a narrow hull, which has no lanes for them, those of 0.
 fn ends_beside<H: Packed>(e: &Expr, h: H, x: i64, y: i64) -> Ends
     requires registers { 6 ≤ H.count }
     requires this { IsSmall x }
@@ -69,7 +69,7 @@ fn compares(letter: Letter, twin: bool, v: i64, w: i64) -> bool
     }
 }
 
-/// A hull, joined with what a move makes of another one, if their values compare so.
+/// A hull, joined with what a move makes of another one, if the values of both compare as the letter says.
 fn with_pair<H: Packed>(t: &Turn, letter: Letter, twin: bool, h: H, v: i64, w: i64, all: H) -> H
     requires registers { 6 ≤ H.count }
     requires width { rests is_zero (is_wide H.count) (move_of t.now).to ≡ true }
@@ -97,7 +97,7 @@ fn hull_of<H: Packed>(before: &[H], i: usize) -> H
     before[i]
 }
 
-/// A hull is joined at a place.
+/// Joins a hull to that at a place.
 #[inline(always)]
 fn join_at<H: Packed>(next: &mut [H], j: usize, h: H)
     requires { j < length next.old }
@@ -106,7 +106,8 @@ fn join_at<H: Packed>(next: &mut [H], j: usize, h: H)
     next[j] = next[j].joined(h);
 }
 
-/// The same at places of both cells.
+/// A hull, joined with what a move makes of the hull at a place, if the values at the places of both cells compare as
+/// the letter says.
 fn with_moved<H: Packed, V: Values, W: Values>(
     t: &Turn,
     letter: Letter,
@@ -190,7 +191,7 @@ fn take_given<H: Packed, V: Values, W: Values>(
     join_at(next, j, gift);
 }
 
-/// A move is taken in, by pairs: each next hull takes in what the move gives to its value.
+/// Takes in a move by pairs of values: each next hull takes in what the move gives to its value.
 pub fn take_pairs<H: Packed, V: Values, W: Values>(
     t: &Turn,
     letter: Letter,

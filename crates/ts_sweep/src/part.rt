@@ -24,7 +24,7 @@ pub trait Part: Copy {
     /// Whether there is a tail.
     ghost tails: { Self → Bool };
 
-    /// That lanes are such that the front may be evaluated, and closed.
+    /// That the front may be evaluated on these lanes, and closed.
     ghost fit: { Self → List ℤ → Type 0 };
 
     /// The ends of the front in lanes, at a value.
@@ -40,7 +40,7 @@ pub trait Part: Copy {
     fn has_tail(self) -> bool
         ensures { result ≡ tails self };
 
-    /// Whether all lanes under a cover are such.
+    /// Whether the front may be evaluated and closed on all lanes under a cover.
     fn is_fit<H: Packed>(self, cover: H) -> bool
         requires registers { 6 ≤ H.count }
         ensures { result ≡ true → (xs : List ℤ) → AreSome H.count xs → IsUnder xs (H.lanes cover) → fit self xs };
@@ -77,7 +77,7 @@ pub struct Whole<E> {
     pub front: E,
 }
 
-/// An operator over one that doesn't and the next cell. It is no difference.
+/// An operator, any but the difference, over an expression that doesn't read the next cell, and the next cell.
 #[derive(Clone, Copy)]
 pub struct Tail<O, E> {
     pub by: O,

@@ -1,4 +1,4 @@
-//! A move of a state, taken in from a row of hulls into the next row.
+//! A move of a state, taken from a row of plain hulls into the next row.
 
 ghost use Rattle.std.specs.Prelude.{◌≡◌, ℕ, ◌<◌, ◌≤◌, ◌*◌, cond, length, get_or, true, false};
 ghost use Rattle.ts_automaton.specs.Body.{Move};
@@ -28,8 +28,8 @@ fn greatest<const N: usize>() -> PackedHull<N>
     PackedHull { at: [i64::MAX; N] }
 }
 
-/// Whether all hulls of a state can be taken: whether any can, which is known of a move that adds nothing, or else
-/// those under their cover.
+/// Whether the sums of a move stay small on all hulls of a state: they do if the move adds nothing, or if they do on
+/// all hulls under the cover.
 #[inline(always)]
 fn row_fits<const N: usize, F: Moves<PackedHull<N>>>(by: F, from: Strided, before: &[Hull]) -> bool
     requires registers { 6 ≤ N }
@@ -45,7 +45,7 @@ fn row_fits<const N: usize, F: Moves<PackedHull<N>>>(by: F, from: Strided, befor
     by.is_fit(cover::<PackedHull<N>, Strided>(from, before, from.count))
 }
 
-/// A move of a state is taken in, into a state of the next row, if its sums stay small.
+/// Takes a move of a state into a state of the next row, if its sums stay small.
 #[inline(always)]
 pub fn take_row<const N: usize, F: Moves<PackedHull<N>>, V: Values, W: Values>(
     by: F,

@@ -27,7 +27,7 @@ fn ahead<const UP: bool>(values: Run, next_values: Run) -> i64
     }
 }
 
-/// Where a cell ends.
+/// The value after the last one of a cell.
 #[inline(always)]
 fn end_of(values: Run) -> i64
     requires first { IsCell values.first }
@@ -37,7 +37,7 @@ fn end_of(values: Run) -> i64
     values.first + values.count as i64
 }
 
-/// One more where the move has a twin: an equal value is passed too.
+/// One more if the move has a twin: then an equal value is passed too.
 #[inline(always)]
 fn with_twin(ahead: i64, twin: bool) -> i64
     requires { IsAhead ahead }
@@ -47,7 +47,7 @@ fn with_twin(ahead: i64, twin: bool) -> i64
     if twin { ahead + 1 } else { ahead }
 }
 
-/// A number as a count up to another.
+/// A number as a count, from 0 to the most.
 #[inline(always)]
 fn count_to(x: i64, most: usize) -> usize
     requires { most ≤ 2000001 }
@@ -71,7 +71,7 @@ struct Lead {
     behind: usize,
 }
 
-/// How many values are passed at the first step, or less than 0.
+/// How many values are passed at the first step; below 0 if the first value is passed at a later one.
 #[inline(always)]
 fn whole_lead<const UP: bool>(twin: bool, values: Run, next_values: Run) -> i64
     requires first { IsCell values.first }
@@ -85,7 +85,7 @@ fn whole_lead<const UP: bool>(twin: bool, values: Run, next_values: Run) -> i64
     with_twin(ahead::<UP>(values, next_values), twin)
 }
 
-/// Cut to the counts of both.
+/// The lead, cut to the counts of both cells.
 #[inline(always)]
 fn cut_lead(lead: i64, count: usize, next_count: usize) -> Lead
     requires lead { IsSmall lead }
@@ -185,8 +185,8 @@ fn put_at<const UP: bool, H: Hull, F: Fronts<H>, C: Column<H>>(
     }
 }
 
-/// A move is taken in by a sweep: each item of the next values takes in the closed hull of the fronts of the values
-/// that are passed there.
+/// Takes in a move by a sweep: each item of the next values takes in the closed hull of the fronts of the values that
+/// are passed there.
 #[inline(never)]
 pub fn sweep_runs<const UP: bool, H: Hull, F: Fronts<H>, C: Column<H>>(
     by: F,

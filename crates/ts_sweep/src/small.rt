@@ -18,7 +18,7 @@ fn is_small_lane(x: i64) -> bool
     x <= -i64::MAX || i64::MAX <= x || -SMALL <= x && x <= SMALL
 }
 
-/// Whether both ends of a register are.
+/// Whether neither end of a register is a number above 10^16 in size.
 #[inline(always)]
 fn are_small_ends(e: Ends) -> bool
     ensures { result ≡ small_span (ends_span e) }
@@ -26,7 +26,7 @@ fn are_small_ends(e: Ends) -> bool
     is_small_lane(e.below) && is_small_lane(e.above)
 }
 
-/// Whether all registers of a hull are.
+/// Whether no register of a hull has a number above 10^16 in size.
 #[inline(always)]
 fn is_small<H: Packed>(h: &H) -> bool
     requires { 6 ≤ H.count }
@@ -39,7 +39,8 @@ fn is_small<H: Packed>(h: &H) -> bool
         & are_small_ends(h.ends(Name::R))
 }
 
-/// Whether all hulls of a column are. The cover doesn't tell: an infinity in it may hide a large number.
+/// Whether no hull of a column has a number above 10^16 in size. The cover doesn't show it: an infinity there may hide
+/// a large number.
 #[inline(never)]
 pub(crate) fn are_small<H: Packed>(hulls: &[H]) -> bool
     requires { 6 ≤ H.count }

@@ -13,7 +13,7 @@ pub trait Fronts<H: Hull>: Copy {
     /// That a hull of fronts may be closed.
     ghost closable: { Self → H → Type 0 };
 
-    /// What it makes of the hull of a value.
+    /// What the move makes of the hull of a value.
     ghost front: { Self → H → ℤ → H };
 
     /// What the next value makes of the hull of fronts.

@@ -18,7 +18,7 @@ use crate::packed::{Ends, Name, Packed, PackedHull};
 use ts_automaton::Hull;
 use ts_base::{Ext, Span};
 
-/// The hulls of a state, one of so many, of so many values.
+/// Which hulls of a row are those of a state: it has a hull for each of `count` values and `states` states.
 #[derive(Clone, Copy)]
 pub struct Strided {
     pub state: usize,
@@ -37,7 +37,7 @@ fn lane(e: Ext) -> i64
     }
 }
 
-/// The same of one that is small, negated.
+/// A small number or an infinity, negated, in a lane.
 fn negated_lane(e: Ext) -> i64
     requires { small e ≡ true }
     ensures { result ≡ lane_of (negated e) }
@@ -49,7 +49,7 @@ fn negated_lane(e: Ext) -> i64
     }
 }
 
-/// What a lane stands for as an upper end.
+/// The upper end that a lane represents.
 fn upper(x: i64) -> Ext
     ensures { result ≡ upper x }
 {
@@ -62,7 +62,7 @@ fn upper(x: i64) -> Ext
     }
 }
 
-/// And as a lower one.
+/// The lower end that a lane represents, negated there.
 fn lower(x: i64) -> Ext
     ensures { result ≡ negated (upper x) }
 {
@@ -76,7 +76,7 @@ fn lower(x: i64) -> Ext
 }
 
 impl Ends {
-    /// The span between them.
+    /// The span between both ends.
     fn span(self) -> Span
         ensures { result ≡ ends_span self }
     {
@@ -87,7 +87,7 @@ impl Ends {
     }
 }
 
-/// Whether registers lie in a hull.
+/// Whether a hull holds registers.
 fn has_registers(h: &Hull) -> bool
     ensures { result ≡ some_hull h.now }
 {
@@ -120,7 +120,7 @@ fn ends_of(s: Span) -> Ends
     }
 }
 
-/// A small hull in packed form. Of lanes that no register stands in each is 0.
+/// A small hull in packed form. Lanes that belong to no register are 0.
 #[inline(always)]
 fn packed<const N: usize>(h: &Hull) -> PackedHull<N>
     requires registers { 6 ≤ N }
@@ -145,7 +145,7 @@ fn packed<const N: usize>(h: &Hull) -> PackedHull<N>
         .with(Name::R, r)
 }
 
-/// What E and F of a narrow hull are, beside C.
+/// The span of E and F of a narrow hull: 0, or none where C is none.
 #[inline(always)]
 fn at_rest(c: Span) -> Span
     ensures { result ≡ cond (has_some c) (one_span (Int (pos 0))) none_span }
@@ -157,7 +157,7 @@ fn at_rest(c: Span) -> Span
     }
 }
 
-/// The hull that lanes stand for.
+/// The hull that lanes represent.
 pub fn unpacked<const N: usize>(h: &PackedHull<N>) -> Hull
     requires registers { 6 ≤ N }
     requires lanes { N ≤ 64 }

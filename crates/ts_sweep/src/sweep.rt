@@ -54,8 +54,9 @@ fn is_passed<const UP: bool, V: Values>(values: V, at: usize, w: i64, twin: bool
     at < n && passes::<UP>(values.at(place::<UP>(n, at)), w, twin)
 }
 
-/// A move is taken in by a sweep: each step takes in the value that comes next, or else gives to the next value. Each
-/// item of the next values takes in the closed hull of the fronts of the values that are passed there.
+/// Takes in a move by a sweep: each step takes the next value into the running hull, or gives the hull to the next
+/// value of the other cell. Each item of the next values takes in the closed hull of the fronts of the values that are
+/// passed there.
 #[inline(never)]
 pub fn sweep<const UP: bool, H: Hull, F: Fronts<H>, V: Values, W: Values, C: Column<H>>(
     by: F,

@@ -36,7 +36,7 @@ pub fn swept_parts(t: &Turn) -> Option<AnyParts<'_>>
     Some(Parts { c, e, d, f, r })
 }
 
-/// Parts of a move are taken in by a sweep. Where the next cell stands in one, all hulls have to be small.
+/// Takes in the parts of a move by a sweep. If one of them reads the next cell, all hulls have to be small.
 fn take_parts<H: Packed, V: Values, W: Values>(
     parts: AnyParts<'_>,
     letter: Letter,
@@ -88,7 +88,7 @@ fn take_parts<H: Packed, V: Values, W: Values>(
     )
 }
 
-/// A move is taken in by a sweep, if it can be: its expressions are evaluated at each value.
+/// Takes in a move by a sweep, if it can be swept: its expressions are evaluated at each value.
 pub fn take_swept<H: Packed, V: Values, W: Values>(
     t: &Turn,
     letter: Letter,

@@ -20,7 +20,7 @@ use crate::sweep::sweep;
 use crate::values::Values;
 use ts_base::Letter;
 
-/// A move on `<`, or else on `>`, is taken in: by the counted loop where neither cell has gaps.
+/// Takes in a move on `<` or on `>`, by the counted loop if neither cell has gaps.
 #[inline(always)]
 fn sweep_cells<const UP: bool, H: Hull, F: Fronts<H>, V: Values, W: Values, C: Column<H>>(
     by: F,
@@ -57,8 +57,8 @@ fn sweep_cells<const UP: bool, H: Hull, F: Fronts<H>, V: Values, W: Values, C: C
     }
 }
 
-/// A move on a letter is taken in, and on `=` too where it has a twin. Each item of the next values takes in the closed
-/// hull of the fronts of the values that compare with it so.
+/// Takes in a move on a letter, and on `=` too if it has a twin. Each item of the next values takes in the hull of the
+/// fronts of all values that compare with its value as the letter says, closed by its value.
 #[inline(always)]
 pub fn take<H: Hull, F: Fronts<H>, V: Values, W: Values, C: Column<H>>(
     by: F,
@@ -122,7 +122,7 @@ pub fn take<H: Hull, F: Fronts<H>, V: Values, W: Values, C: Column<H>>(
     }
 }
 
-/// Whether all hulls of a column can be taken: whether those under its cover can.
+/// Whether the sums of a move stay small on all hulls of a column: whether they do under its cover.
 #[inline(always)]
 fn all_fit<H: Packed, F: Moves<H>>(by: F, cover: H, hulls: &[H]) -> bool
     requires registers { 6 ≤ H.count }
@@ -134,7 +134,7 @@ fn all_fit<H: Packed, F: Moves<H>>(by: F, cover: H, hulls: &[H]) -> bool
     by.is_fit(cover)
 }
 
-/// A move of hulls in columns of their own is taken in if its sums stay small.
+/// Takes in a move of hulls in columns of their own, if its sums stay small.
 #[inline(always)]
 pub fn take_fit<H: Packed, F: Moves<H>, V: Values, W: Values>(
     by: F,
@@ -179,8 +179,8 @@ pub fn take_fit<H: Packed, F: Moves<H>, V: Values, W: Values>(
     true
 }
 
-/// The same of a move that doesn't read the next cell, told by what the hulls stand for: each next hull takes in what
-/// the move gives to its value. This is how a row that stays packed is made from the row before.
+/// Takes in a move that doesn't read the next cell, if its sums stay small: each next hull takes in what the move gives
+/// to its value. This is how a packed row is made from the row before.
 #[inline(always)]
 pub fn take_column<H: Packed, F: Moves<H>, V: Values, W: Values>(
     by: F,
@@ -209,7 +209,8 @@ pub fn take_column<H: Packed, F: Moves<H>, V: Values, W: Values>(
     take_fit::<H, F, V, W>(by, letter, twin, cover, values, before, next_values, next)
 }
 
-/// The same of a move that may read the next cell, of small hulls.
+/// Takes in a move of small hulls that may read the next cell, if its sums stay small: each next hull takes in what the
+/// move gives to its value.
 #[inline(always)]
 pub fn take_small<H: Packed, F: Moves<H>, V: Values, W: Values>(
     by: F,

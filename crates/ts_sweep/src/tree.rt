@@ -11,7 +11,7 @@ use crate::operator::{Folds, Operator, crossed};
 use crate::packed::{Ends, Name, Packed, number};
 use ts_automaton::{Expr, Op};
 
-/// An operator that may stand before the next cell.
+/// An operator that may take the next cell as its last operand.
 #[derive(Clone, Copy)]
 pub struct AnyOperator {
     pub op: Op,

@@ -15,7 +15,7 @@ pub trait Values: Copy {
     fn count(&self) -> usize
         ensures { result ≡ len self.now };
 
-    /// The same where there is no gap.
+    /// The values as a run, if they have no gap.
     fn run(&self) -> Option<Run>
         requires { ok self.now }
         ensures { IfSome result (λ r. (r.count ≡ len self.now) × IsCell r.first × (r.count ≤ 2000001)
