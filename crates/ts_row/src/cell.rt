@@ -5,7 +5,8 @@ ghost use Rattle.ts_sweep.specs.Small.{AreSmall, IsCell, Rises};
 
 use ts_sweep::values::{Run, Values};
 
-/// The values in rising order, lent, and whether they have no gap. A cell without gaps is swept without reading them.
+/// The values in rising order, borrowed, and whether they have no gap. A cell without gaps is swept without reading
+/// them.
 #[derive(Clone, Copy)]
 pub struct Cell<'a> {
     pub values: &'a [i64],

@@ -2,7 +2,7 @@
 //! value of the cell.
 //!
 //! A row is made from the row before, state by state: the moves of a state are taken in from its column into the
-//! columns that they lead to. How each move is taken in is found once for an automaton, its `Plan`.
+//! columns that they lead to. How each move is taken in is worked out once for an automaton, its `Plan`.
 //!
 //! ```text
 //!   row before                 plan of state 1             next row

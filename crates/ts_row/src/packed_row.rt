@@ -41,7 +41,7 @@ impl<const N: usize> Model for PackedRow<N> {
 }
 
 impl<const N: usize> Column<N> {
-    /// No hull.
+    /// A column without hulls.
     fn empty(alloc: Global) -> Column<N>
         ensures { length result ≡ 0 }
     {
@@ -50,7 +50,7 @@ impl<const N: usize> Column<N> {
         }
     }
 
-    /// One hull so many times. The memory is used again.
+    /// Fills the column with `count` copies of a hull, in the same memory. After `Memory` it holds whatever hulls.
     pub(crate) fn fill(&mut self, count: usize, hull: PackedHull<N>) -> Result<(), Memory>
         requires lanes { N ≤ 64 }
         ensures { IfOk result (λ u. AreAll N hull.entry count self.new) }
@@ -80,7 +80,7 @@ impl<const N: usize> PackedRow<N> {
         &self.columns[q as usize].hulls
     }
 
-    /// So many columns, with whatever hulls.
+    /// Gives the row as many columns as there are states, with whatever hulls. After `Memory` it may have fewer.
     fn with_columns(&mut self, alloc: Global, states: u8) -> Result<(), Memory>
         ensures { IfOk result (λ u. length self.new ≡ states) }
     {
@@ -91,7 +91,8 @@ impl<const N: usize> PackedRow<N> {
         Ok(())
     }
 
-    /// So many columns of so many hulls of nothing. The memory of the row is used again.
+    /// Makes of the row a column of `count` hulls of nothing for each state, in the same memory. After `Memory` it
+    /// holds whatever hulls.
     pub(crate) fn reset(&mut self, alloc: Global, states: u8, count: usize) -> Result<(), Memory>
         requires lanes { N ≤ 64 }
         ensures { IfOk result (λ u. (length self.new ≡ states)

@@ -1,7 +1,7 @@
 //! The plan of an automaton: how each of its moves is taken in.
 //!
 //! The moves of decorated machines have few shapes. Each fold of cells, as of the widths or of the values of a range,
-//! has its own operator and words, so that the sweep of a shape is compiled with nothing left to decide.
+//! has its own operator and words, so the compiler makes a sweep for each shape that decides nothing.
 
 ghost use Rattle.std.specs.Prelude.{◌≡◌, ◌<◌, IfSome, false, length, true};
 ghost use Rattle.ts_automaton.specs.Body.{move_of, move_on, node_of};
@@ -53,8 +53,9 @@ pub(crate) enum RangeFold {
     Lowest,
 }
 
-/// What a move makes of the registers: nothing changes; D goes on, or begins anew; C becomes of D and the cell, or of
-/// C, D and the cell, and D begins anew; R becomes of R and C, and both begin anew; or else something.
+/// What a move makes of the registers: `Kept` changes nothing; in `Longer` D takes in the cell; in `Begun` D is reset;
+/// in `Found` C is made of D and the cell, in `Inside` of C, D and the cell, and D is reset; in `Anew` R takes in C,
+/// and C and D are reset; `Other` is anything else.
 #[derive(Clone, Copy)]
 pub(crate) enum Shape {
     Kept,
@@ -160,7 +161,7 @@ fn going_shape(d: Words) -> Option<Shape>
     }
 }
 
-/// The shape where C becomes of D and a word.
+/// The shape of a move that makes C of D and a word.
 fn found_shape(o: Op, word: Atom, d: Words) -> Option<Shape>
     ensures { IfSome result (λ s. IsShapeOf false s
         (narrow_fronts (Join (Fold o) (Leaf D) (Leaf word)) (words_formula d) (Leaf R))) }
@@ -171,7 +172,7 @@ fn found_shape(o: Op, word: Atom, d: Words) -> Option<Shape>
     }
 }
 
-/// The shape where C becomes of C, D and a word, if both operators are one.
+/// The shape of a move that makes C of C, D and a word, if both operators are the same.
 fn inside_shape(o: Op, p: Op, word: Atom, d: Words) -> Option<Shape>
     ensures { IfSome result (λ s. IsShapeOf false s
         (narrow_fronts (Join (Fold o) (Leaf C) (Join (Fold p) (Leaf D) (Leaf word))) (words_formula d) (Leaf R))) }
@@ -200,7 +201,7 @@ fn cell_shape(c: Words, d: Words) -> Option<Shape>
     }
 }
 
-/// The shape where R becomes of R and C.
+/// The shape of a move that makes R of R and C.
 fn anew_shape(o: Op, c: Words, d: Words) -> Option<Shape>
     ensures { IfSome result (λ s. IsShapeOf false s
         (narrow_fronts (words_formula c) (words_formula d) (Join (Fold o) (Leaf R) (Leaf C)))) }
@@ -231,7 +232,7 @@ fn narrow_shape(t: &Turn) -> Option<Shape>
     shape_of(words_of(&t.c)?, words_of(&t.d)?, words_of(&t.r)?)
 }
 
-/// What a shape says of E and F.
+/// The expressions of E and F in a move of a shape.
 fn beside(s: Shape) -> (Words, Words)
     ensures held { words_formula result.0 ≡ beside_held s }
     ensures open { words_formula result.1 ≡ beside_open s }
@@ -271,7 +272,7 @@ fn is_held(e: &Expr) -> bool
     }
 }
 
-/// Whether it folds that in with R.
+/// Whether an expression joins R by the fold of ranges with what a wide automaton holds, C less E.
 fn is_anew(g: RangeFold, e: &Expr) -> bool
     ensures { result ≡ true → formula e.now ≡ Join (Fold (range_op g)) (Leaf R) (held_of true) }
 {
@@ -283,7 +284,7 @@ fn is_anew(g: RangeFold, e: &Expr) -> bool
     }
 }
 
-/// Whether R becomes what a shape says in a wide automaton.
+/// Whether an expression is that of R in a move of a shape, in a wide automaton.
 fn is_wide_result(s: Shape, e: &Expr) -> bool
     ensures { result ≡ true → formula e.now ≡ wide_result s }
 {
@@ -293,7 +294,7 @@ fn is_wide_result(s: Shape, e: &Expr) -> bool
     }
 }
 
-/// What R would become in a narrow automaton, which holds C alone.
+/// The expression of R in a narrow automaton that has the same operator: it joins R with C alone.
 fn narrow_result(e: &Expr) -> Option<Words> {
     match e {
         Expr::R => Some(Words::Word(Atom::R)),
@@ -316,7 +317,7 @@ fn is_two(e: &Expr, o: Op, first: Atom, second: Atom) -> bool
     }
 }
 
-/// Whether it is one over a word and an operator over two more.
+/// Whether an expression is an operator over a word and an operator over two more.
 fn is_three(e: &Expr, o: Op, first: Atom, p: Op, second: Atom, third: Atom) -> bool
     ensures { result ≡ true → formula e.now
         ≡ Join (Fold o) (Leaf first) (Join (Fold p) (Leaf second) (Leaf third)) }
@@ -354,7 +355,7 @@ fn wide_shape(t: &Turn) -> Option<Shape>
     }
 }
 
-/// Whether the next cell stands in no expression of a move.
+/// Whether no expression of a move reads the next cell.
 fn is_front_move(t: &Turn) -> bool
     ensures { result ≡ is_front_move (move_of t.now) }
 {
@@ -407,7 +408,7 @@ pub(crate) fn turn(a: &Automaton, q: u8, l: Letter) -> &Turn
     turn_on(a.state(q), l)
 }
 
-/// With which other move the one on `=` is taken in.
+/// Whether the move on `=` is the same as the one on `<` or on `>`, and so is taken in with it.
 fn equals_of(less: &Turn, equal: &Turn, greater: &Turn) -> Equals
     ensures less { result ≡ WithLess → move_of equal.now ≡ move_of less.now }
     ensures greater { result ≡ WithGreater → move_of equal.now ≡ move_of greater.now }

@@ -62,7 +62,7 @@ fn planned_move<'a, const N: usize>(
     }
 }
 
-/// A move is taken in into a column: by the sweep of its shape, or by its expressions, or by pairs.
+/// Takes a move into a column: by the sweep of its shape, or else by that of its expressions, or else by pairs.
 fn take_turn<const N: usize>(m: Planned<'_>, t: &Between<'_, N>, next: &mut [PackedHull<N>])
     requires covered { IsCovered N t.now }
     requires width { rests is_zero (is_wide N) (move_of m.turn.now).to ≡ true }
@@ -97,7 +97,7 @@ fn take_turn<const N: usize>(m: Planned<'_>, t: &Between<'_, N>, next: &mut [Pac
     );
 }
 
-/// A move is taken in into the row, at the state that it leads to.
+/// Takes a move into the row, at the state that it leads to.
 fn take_move<const N: usize>(m: Planned<'_>, t: &Between<'_, N>, next: &mut PackedRow<N>)
     requires covered { IsCovered N t.now }
     requires width { rests is_zero (is_wide N) (move_of m.turn.now).to ≡ true }
@@ -111,7 +111,7 @@ fn take_move<const N: usize>(m: Planned<'_>, t: &Between<'_, N>, next: &mut Pack
     take_turn(m, t, &mut next.columns[m.turn.next as usize].hulls);
 }
 
-/// Two moves are taken in.
+/// Takes two moves into the row.
 fn take_two<const N: usize>(
     m: Planned<'_>,
     k: Planned<'_>,
@@ -135,7 +135,8 @@ fn take_two<const N: usize>(
     take_move(k, t, next);
 }
 
-/// All moves of a state are taken in. The one on `=` is taken in with another that is the same, as in most states.
+/// Takes all moves of a state into the row. In most states the move on `=` is the same as another, and is taken in with
+/// it.
 fn take_moves<const N: usize>(
     a: &Automaton,
     q: u8,
@@ -184,7 +185,7 @@ fn cover_of<const N: usize>(column: &[PackedHull<N>], count: usize) -> PackedHul
     cover::<PackedHull<N>, Dense>(Dense, column, count)
 }
 
-/// All moves of a state are taken in, if any series reaches it.
+/// Takes all moves of a state into the row, if any series reaches the state.
 fn take_state<const N: usize>(
     a: &Automaton,
     q: u8,
@@ -220,8 +221,8 @@ fn take_state<const N: usize>(
     take_moves(a, q, plan, &t, next);
 }
 
-/// The row of a cell, from the row of the cell before: the hull of each state and value is that of what all states and
-/// values before give. The memory of the row is used again.
+/// The row of a cell, made from the row of the cell before in the memory of `next`: the hull of each state and value is
+/// that of what all states and values before give. After `Memory` the row `next` holds whatever hulls.
 pub fn next_row<const N: usize>(
     alloc: Global,
     a: &Automaton,

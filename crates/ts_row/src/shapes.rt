@@ -1,4 +1,4 @@
-//! Which sweep takes in a move of a shape: a type for each. What is said of E and F is looked at in wide rows alone.
+//! Which sweep takes in a move of a shape: a type for each. The parts for E and F are used in wide rows alone.
 
 ghost use Rattle.std.specs.Prelude.{◌≡◌, true, false};
 ghost use Rattle.ts_automaton.specs.declared.expr.Operator.TheVariants.{Fold};
@@ -31,7 +31,7 @@ use ts_sweep::packed::{Packed, PackedHull};
 use ts_sweep::part::Whole;
 use ts_sweep::take::take_column;
 
-/// A move is swept, if its sums stay small.
+/// Takes in a move by a sweep, if its sums stay small.
 #[inline(always)]
 pub(crate) fn sweep_as<const N: usize, F: Moves<PackedHull<N>>>(
     by: F,
@@ -68,7 +68,7 @@ fn least<const K: usize>(register: Register<K>) -> Join<Lesser, Register<K>, Thi
     }
 }
 
-/// `D` of `D` and a word.
+/// A move that makes `D` of `D` and a word.
 #[inline(never)]
 fn longer_as<const N: usize, O: Operator, W: Front>(
     by: O,
@@ -107,7 +107,7 @@ fn longer_as<const N: usize, O: Operator, W: Front>(
     sweep_as(parts, on, t, next)
 }
 
-/// `D` begins anew.
+/// A move that resets `D`.
 #[inline(never)]
 fn begun_as<const N: usize, V: Front>(
     start: V,
@@ -137,7 +137,7 @@ fn begun_as<const N: usize, V: Front>(
     sweep_as(parts, on, t, next)
 }
 
-/// `C` of `D` and a word; `D` begins anew.
+/// A move that makes `C` of `D` and a word, and resets `D`.
 #[inline(never)]
 fn found_as<const N: usize, O: Operator, W: Front, V: Front>(
     by: O,
@@ -174,7 +174,7 @@ fn found_as<const N: usize, O: Operator, W: Front, V: Front>(
     sweep_as(parts, on, t, next)
 }
 
-/// `C` of `C`, `D` and a word; `D` begins anew.
+/// A move that makes `C` of `C`, `D` and a word, and resets `D`.
 #[inline(never)]
 fn inside_as<const N: usize, O: Operator, W: Front, V: Front>(
     by: O,
@@ -219,7 +219,7 @@ fn inside_as<const N: usize, O: Operator, W: Front, V: Front>(
     sweep_as(parts, on, t, next)
 }
 
-/// `R` of `R` and what is held, which begins anew as `D` does.
+/// A move that joins `R` with what is held, and resets that and `D`.
 #[inline(never)]
 fn anew_as<const N: usize, O: Operator, U: Front, X: Front, V: Front>(
     by: O,
@@ -253,7 +253,7 @@ fn anew_as<const N: usize, O: Operator, U: Front, X: Front, V: Front>(
     sweep_as(parts, on, t, next)
 }
 
-/// The same of what is held in a row of the width: C, or C less E.
+/// A move that joins `R` with what a row of the width holds, C or C less E, and resets that and `D`.
 #[inline(always)]
 fn anew_by<const N: usize, O: Operator, U: Front, V: Front>(
     by: O,
@@ -282,7 +282,7 @@ fn anew_by<const N: usize, O: Operator, U: Front, V: Front>(
     }
 }
 
-/// The fold of cells goes on.
+/// Takes in a move of the shape `Longer`.
 #[inline(always)]
 fn longer<const N: usize>(
     f: CellFold,
@@ -306,7 +306,7 @@ fn longer<const N: usize>(
     }
 }
 
-/// It begins anew.
+/// Takes in a move of the shape `Begun`.
 #[inline(always)]
 fn begun<const N: usize>(
     f: CellFold,
@@ -328,7 +328,7 @@ fn begun<const N: usize>(
     }
 }
 
-/// It ends, and a range is found.
+/// Takes in a move of the shape `Found`.
 #[inline(always)]
 fn found<const N: usize>(
     f: CellFold,
@@ -352,7 +352,7 @@ fn found<const N: usize>(
     }
 }
 
-/// It goes on in the range that was found.
+/// Takes in a move of the shape `Inside`.
 #[inline(always)]
 fn inside<const N: usize>(
     f: CellFold,
@@ -376,7 +376,7 @@ fn inside<const N: usize>(
     }
 }
 
-/// A range is folded in, whatever the fold of ranges; both folds begin anew.
+/// Takes in a move of the shape `Anew`, with any operator for the ranges.
 #[inline(always)]
 fn anew_from<const N: usize, V: Front>(
     g: RangeFold,
@@ -399,7 +399,7 @@ fn anew_from<const N: usize, V: Front>(
     }
 }
 
-/// A range is folded in; both folds begin anew.
+/// Takes in a move of the shape `Anew`.
 #[inline(always)]
 fn anew<const N: usize>(
     g: RangeFold,
@@ -423,7 +423,7 @@ fn anew<const N: usize>(
     }
 }
 
-/// A move of a shape is swept, if its sums stay small.
+/// Takes in a move by the sweep of its shape, if its sums stay small.
 pub(crate) fn take_shape<const N: usize>(
     shape: Shape,
     on: On,

@@ -36,7 +36,7 @@ fn constant_ends(e: Ext) -> Ends
     }
 }
 
-/// The start registers. Of lanes that no register stands in each is 0.
+/// The start registers in packed form. Lanes that belong to no register are 0.
 fn packed_start<const N: usize>(regs: Regs) -> PackedHull<N>
     requires registers { 6 ≤ N }
     requires constants { each_is is_constant (regs_of regs) ≡ true }
@@ -57,8 +57,8 @@ fn packed_start<const N: usize>(regs: Regs) -> PackedHull<N>
         .with(Name::R, r)
 }
 
-/// The row of a cell with so many values at which runs start: the start registers in the start state, and nothing in
-/// the others. The memory of the row is used again.
+/// Makes of `row` that of a cell with `count` values at which runs start, in the same memory: the start registers in
+/// the start state, and nothing in the others. After `Memory` it holds whatever hulls.
 pub fn start_row<const N: usize>(
     alloc: Global,
     a: &Automaton,
