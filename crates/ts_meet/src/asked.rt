@@ -1,4 +1,4 @@
-//! The span of a value as far as what is asked of it needs: the first pairs of states often settle it.
+//! The span of a value, as far as a question needs it: the first pairs of states often settle it.
 
 ghost use Rattle.std.specs.Prelude.{◌≡◌, ◌<◌, ◌≤◌, fold, length};
 ghost use Rattle.ts_automaton.specs.Registers.{EachOf, spans_of};
@@ -22,25 +22,25 @@ use ts_base::Span;
 use ts_row::PackedRow;
 use ts_sweep::packed::{Ends, Packed, PackedHull};
 
-/// What is asked of the numbers of a span.
+/// A question about the numbers of a span: does any of them have a property?
 pub trait Asked: Copy {
     ghost use Rattle.std.specs.Prelude.{◌↔◌, IsTrue};
     ghost use Rattle.ts_base.specs.declared.span.Span.{Span};
     ghost use Rattle.ts_base.specs.SpanLayer.{IsWithin};
 
-    /// That a span doesn't have it.
+    /// That no number of a span has the property.
     ghost excluded: { Self → Span → Type 0 };
 
-    /// Whether the span doesn't have it.
+    /// Whether no number of the span has the property.
     fn excludes(self, span: Span) -> bool
         ensures { IsTrue result ↔ excluded self span };
 
-    /// What a span doesn't have, no part of it has.
+    /// If no number of a span has it, none of a part of the span has it.
     ghost of_part: { (a : Self) (s t : Span) → IsWithin s t → excluded a t → excluded a s };
 }
 
-/// The hull of a span that is known so far, and of the glued spans that `glued_at` takes in. None where it has what is
-/// asked: then so has the hull of the first of them, which is where this ends.
+/// The hull of the span that is known so far and of the glued spans of all pairs of states at a value, if none of its
+/// numbers has the property. None if one has: then one in the hull of the first pairs has it, and the rest is left out.
 pub fn asked_at<Q: Asked, const N: usize>(
     asked: Q,
     so_far: Span,
@@ -76,7 +76,8 @@ pub fn asked_at<Q: Asked, const N: usize>(
     Some(so_far.hull(span_of(hull)))
 }
 
-/// With the spans of one state on the left, if any series reaches it.
+/// A hull with the glued spans of one state on the left added, if any series reaches that state; none once a number has
+/// the property.
 #[inline(always)]
 fn asked_reached<Q: Asked, const N: usize>(
     asked: Q,
@@ -105,7 +106,8 @@ fn asked_reached<Q: Asked, const N: usize>(
     asked_state(asked, so_far, hull, joints, q, Side::of(left), right, spot)
 }
 
-/// With those of one state that is reached.
+/// A hull with the glued spans of one state on the left added, which some series reaches; none once a number has the
+/// property.
 #[inline(always)]
 fn asked_state<Q: Asked, const N: usize>(
     asked: Q,
@@ -145,7 +147,7 @@ fn asked_state<Q: Asked, const N: usize>(
     Some(all)
 }
 
-/// With that of one pair of states.
+/// A hull with the glued span of one pair of states added; none if then a number has the property.
 #[inline(always)]
 fn asked_pair<Q: Asked, const N: usize>(
     asked: Q,

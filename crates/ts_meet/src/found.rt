@@ -1,4 +1,4 @@
-//! How the runs of a machine are glued is found once.
+//! How the runs of a machine are glued, worked out once for a machine.
 
 ghost use Rattle.std.specs.Prelude.{◌≡◌, ℕ, ◌<◌, false, [], IfSome, IsSome, get_or, length};
 ghost use Rattle.ts_automaton.specs.Body.{node_at};
@@ -16,7 +16,7 @@ use ts_automaton::{Automaton, Expr, Op};
 use ts_glue::{FoldOp, GlueTable, Machine};
 
 impl Joints {
-    /// Those of a machine that can be split.
+    /// The joints of a machine that can be split.
     pub fn of(m: &Machine) -> Joints
         requires split { IsSome (pair_of m.now) }
         ensures { IfSome (pair_of m.now) (λ p. AreJoints p result) }
@@ -27,7 +27,7 @@ impl Joints {
         }
     }
 
-    /// How the registers are glued where the forward run stands in the state `left`, the reverse one in `right`.
+    /// How the registers are glued if the forward run is in the state `left` and the reverse one in `right`.
     #[inline(always)]
     pub(crate) fn gluing(&self, left: u8, right: u8, spot: Spot) -> Gluing
         requires left { left < self.now.left_states }
@@ -49,7 +49,7 @@ impl Joints {
     }
 }
 
-/// Those of two automata and a glue table.
+/// The joints of two automata with a glue table.
 fn joints_of(forward: &Automaton, reverse: &Automaton, table: &GlueTable) -> Joints
     ensures { AreJoints (pair forward.now reverse.now (table_view table.now)) result }
 {
@@ -68,7 +68,7 @@ fn joints_of(forward: &Automaton, reverse: &Automaton, table: &GlueTable) -> Joi
     }
 }
 
-/// Whether one occurrence goes on from each state to each on the other side.
+/// For each state on both sides, whether one occurrence goes on between them.
 fn joins_of(forward: &Automaton, reverse: &Automaton, table: &GlueTable) -> [[bool; STATES]; STATES]
     ensures { (q : ℕ) → q < length forward.now.states →
         AreJoinsOf (pair forward.now reverse.now (table_view table.now)) q (get_or result q []) }
@@ -80,7 +80,7 @@ fn joins_of(forward: &Automaton, reverse: &Automaton, table: &GlueTable) -> [[bo
     rows
 }
 
-/// Whether one goes on from the state `q`.
+/// For each state of the reverse automaton, whether one occurrence goes on between `q` and it.
 fn row_of(forward: &Automaton, reverse: &Automaton, table: &GlueTable, q: u8) -> [bool; STATES]
     ensures length { length result ≡ 8 }
     ensures joins { AreJoinsOf (pair forward.now reverse.now (table_view table.now)) q result }
@@ -92,7 +92,7 @@ fn row_of(forward: &Automaton, reverse: &Automaton, table: &GlueTable, q: u8) ->
     row
 }
 
-/// Whether one goes on from a state to another.
+/// Whether one occurrence goes on between a forward and a reverse state.
 fn is_join(table: &GlueTable, forward: u8, reverse: u8) -> bool
     ensures { result ≡ is_join (table_view table.now) forward reverse }
 {
@@ -102,7 +102,7 @@ fn is_join(table: &GlueTable, forward: u8, reverse: u8) -> bool
         .any(|join| join.forward == forward && join.reverse == reverse)
 }
 
-/// In which states C is held.
+/// For each state, whether C is held there.
 fn held_in(a: &Automaton) -> [bool; STATES]
     ensures { (q : ℕ) → q < length a.now.states → get_or result q false ≡ (node_at a.now.states q).held }
 {

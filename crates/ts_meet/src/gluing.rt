@@ -33,7 +33,8 @@ pub(crate) struct Gluing {
 }
 
 impl Gluing {
-    /// The glued ends before the mark. Sums are plain where the numbers that are added are small.
+    /// The glued ends before the mark. If all numbers that are added are small, sums are those of the lanes; otherwise
+    /// they are clamped.
     #[inline(always)]
     pub(crate) fn glued(self, left: Side, right: Side) -> Ends
         requires left { AreSomeEnds (ends_in left) }
@@ -49,7 +50,7 @@ impl Gluing {
         }
     }
 
-    /// With sums of any numbers.
+    /// The glued ends before the mark, with clamped sums.
     #[inline(never)]
     fn clamped(self, left: Side, right: Side) -> Ends
         requires worth { IsCellValue self.worth }
@@ -59,7 +60,7 @@ impl Gluing {
         self.glued_by::<Clamped>(left, right)
     }
 
-    /// Each operator meets ends that it takes.
+    /// The glued ends before the mark, with the sums `S`. Each operator meets ends that it takes.
     #[inline(always)]
     fn glued_by<S: Sums>(self, left: Side, right: Side) -> Ends
         requires fits { GlueTakes S.takes S.values (ends_in left) (ends_in right) (expression self) }
@@ -120,7 +121,7 @@ impl Gluing {
         }
     }
 
-    /// A part of it, folded by an operator.
+    /// The whole of the occurrence that goes on, or what is taken away from it, folded by an operator.
     #[inline(always)]
     fn part<S: Sums>(self, o: Op, part: Part, left: Side, right: Side) -> Ends
         requires fits { GlueTakes S.takes S.values (ends_in left) (ends_in right) (part_by self o part) }
@@ -134,7 +135,7 @@ impl Gluing {
         }
     }
 
-    /// What the left side has open, the cell, and what the right side has open, folded in this order.
+    /// What the left side has held and open, the cell, and what the right side has held and open, folded in this order.
     #[inline(always)]
     fn folded_between<S: Sums>(self, o: Op, part: Part, left: Side, right: Side) -> Ends
         requires fits { GlueTakes S.takes S.values (ends_in left) (ends_in right)
@@ -194,7 +195,7 @@ impl Gluing {
         S::number(self.worth)
     }
 
-    /// What takes it away again where it is added.
+    /// What takes the worth of the cell away again, if it was added twice: its opposite.
     #[inline(always)]
     fn less_cell<S: Sums>(self) -> Ends
         requires { IsCellValue self.worth }
@@ -203,8 +204,8 @@ impl Gluing {
         S::number(opposite(self.worth))
     }
 
-    /// Whether all numbers that are added are small. In wide automata what is open is infinite in most states, so it
-    /// isn't asked there.
+    /// Whether all numbers that are added are small. It is false for wide automata, where what is open is infinite in
+    /// most states.
     #[inline(always)]
     fn is_plain(self, left: Side, right: Side) -> bool
         ensures { result ≡ true → IsPlain self (ends_in left) (ends_in right) }
@@ -235,7 +236,7 @@ impl Gluing {
     }
 }
 
-/// Whether it adds.
+/// Whether an operator adds.
 #[inline(always)]
 fn is_add(op: Op) -> bool
     ensures { result ≡ is_add op }

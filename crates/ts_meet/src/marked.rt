@@ -24,7 +24,7 @@ pub(crate) fn marked(mark: Mark, e: Ends, n: u32) -> Ends
     }
 }
 
-/// The same of any mark.
+/// A mark that may change a number, on both ends, and the hull of the two.
 fn marked_ends(mark: Mark, e: Ends, n: u32) -> Ends
     requires below { least <ℤ e.below }
     requires above { least <ℤ e.above }
@@ -73,7 +73,7 @@ fn marked_below(mark: Mark, x: i64, n: u32) -> i64
     }
 }
 
-/// And on an upper one.
+/// A mark on an upper end.
 fn marked_above(mark: Mark, x: i64, n: u32) -> i64
     requires { least <ℤ x }
     ensures value { result ≡ marked_above mark n x }
@@ -97,7 +97,7 @@ pub(crate) fn nothing() -> Ends
     }
 }
 
-/// The hull with one span more.
+/// A hull with one more span joined to it.
 #[inline(always)]
 pub(crate) fn joined(hull: Ends, e: Ends) -> Ends
     ensures { (s t : Span) → StandFor hull s → IsPackOf e t → StandFor result (span_hull s t) }
@@ -116,7 +116,7 @@ fn greater(a: Ends, b: Ends) -> Ends
     }
 }
 
-/// The span of a hull.
+/// The span that the ends of a hull represent, none if nothing was taken in.
 pub(crate) fn span_of(hull: Ends) -> Span
     ensures { (s : Span) → StandFor hull s → result ≡ s }
 {
@@ -126,7 +126,7 @@ pub(crate) fn span_of(hull: Ends) -> Span
     }
 }
 
-/// What a lane stands for as an upper end.
+/// The upper end that a lane represents.
 fn upper(x: i64) -> Ext
     ensures { result ≡ upper x }
 {
@@ -139,7 +139,7 @@ fn upper(x: i64) -> Ext
     }
 }
 
-/// And as a lower one.
+/// The lower end that a lane represents, negated there.
 fn lower(x: i64) -> Ext
     ensures { result ≡ negated (upper x) }
 {

@@ -47,7 +47,7 @@ pub fn glued_at<const N: usize>(
     span_of(hull)
 }
 
-/// With those of one state on the left, if any series reaches it.
+/// A hull with the glued spans of one state on the left added, if any series reaches that state.
 #[inline(always)]
 fn with_reached<const N: usize>(
     hull: Ends,
@@ -73,7 +73,7 @@ fn with_reached<const N: usize>(
     with_state(hull, joints, q, Side::of(left), right, spot)
 }
 
-/// With those of one state that is reached.
+/// A hull with the glued spans of one state on the left added, which some series reaches.
 #[inline(always)]
 fn with_state<const N: usize>(
     hull: Ends,
@@ -100,7 +100,7 @@ fn with_state<const N: usize>(
     all
 }
 
-/// With that of one pair of states.
+/// A hull with the glued span of one pair of states added, if any series reaches the state on the right.
 #[inline(always)]
 pub(crate) fn with_pair<const N: usize>(
     hull: Ends,
@@ -144,7 +144,7 @@ pub fn finish_at<const N: usize>(a: &Automaton, row: &PackedRow<N>, i: usize, n:
     span_of(hull)
 }
 
-/// With that of one state.
+/// A hull with the finish span of one state added, if any series reaches it.
 fn with_finish<const N: usize>(hull: Ends, a: &Automaton, h: &PackedHull<N>, n: u32) -> Ends
     requires registers { 6 ≤ N }
     requires lanes { N ≤ 64 }

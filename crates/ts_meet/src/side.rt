@@ -10,7 +10,7 @@ use crate::sums::Sums;
 use ts_glue::Part;
 use ts_sweep::packed::{Ends, Name, Packed, PackedHull};
 
-/// The most that a number is in ends that are added as they are.
+/// The greatest number in ends that are added without a clamp.
 const PLAIN: i64 = 10_000_000_000_000_000;
 
 /// The ends of each register.
@@ -24,7 +24,7 @@ pub(crate) struct Side {
 }
 
 impl Side {
-    /// Those in a hull.
+    /// The ends of the registers in a packed hull.
     #[inline(always)]
     pub(crate) fn of<const N: usize>(h: &PackedHull<N>) -> Side
         requires registers { 6 ≤ N }
@@ -39,7 +39,7 @@ impl Side {
         }
     }
 
-    /// What is held of a part of an occurrence.
+    /// The register that holds a part of an occurrence: C of the whole, E of what is taken away.
     #[inline(always)]
     pub(crate) fn held<S: Sums>(self, part: Part) -> Ends
         ensures { result ≡ value_in S.values (ends_in self) (pos 0) (pos 0) (held_in part) }
@@ -50,7 +50,7 @@ impl Side {
         }
     }
 
-    /// What may come to it.
+    /// The register of the cells that may still come to a part: D of the whole, F of what is taken away.
     #[inline(always)]
     pub(crate) fn open<S: Sums>(self, part: Part) -> Ends
         ensures { result ≡ value_in S.values (ends_in self) (pos 0) (pos 0) (open_in part) }

@@ -1,4 +1,4 @@
-//! Operators on ends: with sums that are those of the lanes, where the numbers are small, or with any.
+//! Operators on ends: with the sums of the lanes, which small numbers allow, or with clamped sums of any numbers.
 
 ghost use Rattle.std.specs.Prelude.{◌≡◌};
 ghost use Rattle.ts_base.specs.Limits.{IsCellValue};
@@ -47,7 +47,7 @@ pub(crate) trait Sums: Copy {
 #[derive(Clone, Copy)]
 pub(crate) struct Plain;
 
-/// Sums of any, which are clamped and know infinities.
+/// Sums of any numbers, which are clamped and know infinities.
 #[derive(Clone, Copy)]
 pub(crate) struct Clamped;
 
