@@ -59,7 +59,7 @@ pub(crate) fn glue_block(
     span
 }
 
-/// The same of one state on the left, taken into a span.
+/// A span with the glued spans of one state on the left, and of all states on the right, joined to it.
 fn glue_state(
     m: &Machine,
     left: HullAt,

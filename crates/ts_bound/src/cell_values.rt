@@ -1,4 +1,4 @@
-//! The values of a cell in a list of their own, as rows that stay packed read them.
+//! The values of a cell in a list of their own, as packed rows read them.
 
 ghost use Rattle.std.specs.Prelude.{◌≡◌, [], IfOk, OnErr};
 
@@ -27,7 +27,7 @@ impl Model for CellValues {
     ghost invariant = { λ c. AreLent c.values.items c.is_run };
 }
 
-/// A list takes the values of a domain. Its memory is used again; where there is too little, it is empty.
+/// Puts the values of a domain into a list, in its memory. After `Memory` the list is empty.
 fn take_values(values: &mut Vec<i64>, domain: &Domain) -> Result<(), Memory>
     ensures taken { IfOk result (λ u. values.new.items ≡ domain.now) }
     ensures emptied { OnErr result (values.new.items ≡ []) }
@@ -43,7 +43,7 @@ fn take_values(values: &mut Vec<i64>, domain: &Domain) -> Result<(), Memory>
 }
 
 impl CellValues {
-    /// No value.
+    /// A list without values.
     pub fn empty(alloc: Global) -> CellValues
         ensures { result ≡ [] }
     {
@@ -62,7 +62,7 @@ impl CellValues {
         Ok(cell)
     }
 
-    /// The values of another domain, in the same memory. Where there is too little, it has no value.
+    /// Takes the values of another domain, in the same memory. After `Memory` there is no value.
     #[tactic(auto, using(crate::proofs::ValueLaws::domain_end, crate::proofs::ValueLaws::domain_few))]
     pub fn reset(&mut self, domain: &Domain) -> Result<(), Memory>
         ensures values { IfOk result (λ u. self.new ≡ domain.now) }
@@ -77,7 +77,7 @@ impl CellValues {
         Ok(())
     }
 
-    /// They are lent to a row.
+    /// The values, borrowed by a row.
     pub fn lend(&self) -> Cell<'_>
         ensures { result.values.now ≡ self.now }
     {

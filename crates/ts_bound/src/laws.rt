@@ -25,12 +25,12 @@ pub fn value_spans_are_narrowed()
     ensures { ValueSpansAreNarrowed }
 {}
 
-/// It lies in the span of the whole box.
+/// The span of the box with one value alone at a cell lies in that of the whole box.
 pub fn value_spans_are_within()
     ensures { ValueSpansAreWithin }
 {}
 
-/// What the type of a machine keeps, as the laws ask it.
+/// The rules that the type of a machine keeps, in the form that the laws require.
 pub fn machine_is_whole(m: &Machine)
     ensures { AreAutomata (automata_of m.now) }
 {

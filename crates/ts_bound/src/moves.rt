@@ -38,7 +38,7 @@ fn turn(a: &Automaton, q: u8, l: Letter) -> &Turn
     turn_on(a.state(q), l)
 }
 
-/// A move of a state is taken in by a sweep over lanes of the automaton's width, if it can be swept and no number is so
+/// Takes in a move of a state by a sweep over lanes of the automaton's width, if it can be swept and no number is so
 /// large that its sums are clamped.
 fn sweep_lanes<const N: usize>(
     m: &Between<'_>,
@@ -87,7 +87,8 @@ fn sweep_lanes<const N: usize>(
     )
 }
 
-/// The same, in as many lanes as the automaton needs.
+/// Takes in a move of a state by a sweep over as many lanes as the automaton needs, if it can be swept and no sum is
+/// clamped.
 fn sweep_move(m: &Between<'_>, t: &Turn, q: u8, l: Letter, next: &mut [Hull]) -> bool
     requires state { q < states_in m.now }
     requires leads { t.now.next < states_in m.now }
@@ -103,7 +104,7 @@ fn sweep_move(m: &Between<'_>, t: &Turn, q: u8, l: Letter, next: &mut [Hull]) ->
     }
 }
 
-/// The move of a state on a letter is taken in.
+/// Takes in the move of a state on a letter.
 fn take_move(m: &Between<'_>, q: u8, l: Letter, next: &mut [Hull])
     requires state { q < states_in m.now }
     requires kinds { Stands m.now }
@@ -116,7 +117,7 @@ fn take_move(m: &Between<'_>, q: u8, l: Letter, next: &mut [Hull])
     }
 }
 
-/// All moves of a state are taken in.
+/// Takes in all moves of a state.
 pub(crate) fn take_state(m: &Between<'_>, q: u8, next: &mut [Hull])
     requires state { q < states_in m.now }
     requires kinds { Stands m.now }

@@ -59,14 +59,14 @@ fn is_zero(s: Span) -> bool
     is_zero_end(s.lo) && is_zero_end(s.hi)
 }
 
-/// Whether registers lie in a hull.
+/// Whether a hull holds registers.
 fn has_registers(h: &Hull) -> bool
     ensures { result ≡ some_hull h.now }
 {
     !h.is_none()
 }
 
-/// Whether E and F of a hull hold 0 alone, as in every hull of a narrow automaton in which registers lie.
+/// Whether E and F of a hull hold 0 alone, as in every hull of a narrow automaton that holds registers.
 fn is_at_rest(h: &Hull) -> bool
     ensures { result ≡ at_rest h.now }
 {
@@ -84,7 +84,7 @@ fn are_small(row: &[Hull]) -> bool
     row.iter().all(|h| is_small(h))
 }
 
-/// Whether E and F of all its hulls hold 0 alone.
+/// Whether E and F of all hulls of a row hold 0 alone.
 fn are_at_rest(row: &[Hull]) -> bool
     ensures { result ≡ list_all at_rest row.now }
 {

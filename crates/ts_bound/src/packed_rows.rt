@@ -1,4 +1,5 @@
-//! Rows of hulls that stay packed: that of a cell from that of the cell before, and the hulls of a value out of it.
+//! Packed rows of hulls: that of a cell made from that of the cell before, and the plain hulls of a value taken from
+//! it.
 
 ghost use Rattle.std.specs.Prelude.{◌≡◌, ◌+◌, ◌*◌, ◌<◌, ◌≤◌, ℤ, List, [], ◌∷◌, IfOk, get_or, length, slice_range};
 ghost use Rattle.ts_bound.specs.PackedRows.{IsPackedRow};
@@ -13,7 +14,7 @@ use ts_base::Memory;
 use ts_row::{Cell, PackedRow, Plan, next_row, start_row};
 use ts_sweep::strided::unpacked;
 
-/// The row of the cell at which runs start. The memory of the row is used again.
+/// Makes of `row` that of the cell at which runs start, in the same memory. After `Memory` it holds whatever hulls.
 pub fn first_packed_row<const N: usize>(
     alloc: Global,
     a: &Automaton,
@@ -29,8 +30,8 @@ pub fn first_packed_row<const N: usize>(
     Ok(())
 }
 
-/// The row of a cell, from that of the cell before, whatever cells are before that one. The memory of the row is used
-/// again.
+/// Makes of `next` the row of a cell, from that of the cell before, whatever cells came before that one, in the same
+/// memory. After `Memory` it holds whatever hulls.
 pub fn next_packed_row<const N: usize>(
     alloc: Global,
     a: &Automaton,
@@ -52,7 +53,7 @@ pub fn next_packed_row<const N: usize>(
     Ok(())
 }
 
-/// The hull of a state at a place, out of a row.
+/// The hull of a state at a place of a packed row.
 fn unpacked_hull<const N: usize>(row: &PackedRow<N>, q: u8, i: usize) -> Hull
     requires registers { 6 ≤ N }
     requires lanes { N ≤ 64 }
@@ -63,7 +64,7 @@ fn unpacked_hull<const N: usize>(row: &PackedRow<N>, q: u8, i: usize) -> Hull
     unpacked(&row.column(q)[i])
 }
 
-/// The hulls of the value at place `i` out of a row of so many states at so many values: one for each state.
+/// The hulls of the value at place `i` of a packed row, one for each state.
 pub fn unpack_block<const N: usize>(
     row: &PackedRow<N>,
     states: u8,

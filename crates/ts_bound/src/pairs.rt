@@ -51,7 +51,7 @@ fn hull_of_both(first: &Hull, second: &Hull) -> Hull
     }
 }
 
-/// The hull of a state at a place, with the state.
+/// The hull of a state at a place, together with the state.
 fn hull_at(m: &Between<'_>, q: u8, i: usize) -> HullAt
     requires inside { i < length m.now.values.domain.now }
     requires state { q < states_in m.now }
@@ -82,7 +82,7 @@ fn given(m: &Between<'_>, q: u8, l: Letter, i: usize, j: usize) -> Hull
     }
 }
 
-/// What it gives from all places to a place.
+/// What the move of a state on a letter gives from all places to a place.
 fn all_given(m: &Between<'_>, q: u8, l: Letter, j: usize) -> Hull
     requires next_inside { j < length m.now.next_values.domain.now }
     requires state { q < states_in m.now }
@@ -97,7 +97,7 @@ fn all_given(m: &Between<'_>, q: u8, l: Letter, j: usize) -> Hull
     all
 }
 
-/// A hull is taken in at a place.
+/// Joins a hull to that at a place.
 fn join_at(next: &mut [Hull], place: usize, h: &Hull)
     requires { place < length next.old }
     ensures { next.new ≡ with_hull_at next.old place h.now }
@@ -105,7 +105,7 @@ fn join_at(next: &mut [Hull], place: usize, h: &Hull)
     next[place] = hull_of_both(&next[place], h);
 }
 
-/// The move of a state on a letter is taken in.
+/// Takes in the move of a state on a letter, over all pairs of values.
 pub(crate) fn pair_move(m: &Between<'_>, t: &Turn, q: u8, l: Letter, next: &mut [Hull])
     requires state { q < states_in m.now }
     requires turn { move_of t.now ≡ move_at m.now.automaton.now q l }

@@ -7,8 +7,7 @@ ghost use Rattle.ts_sweep.specs.Small.{AreSmall, IsCell, Rises};
 use ts_domain::Domain;
 use ts_sweep::values::{Run, Values};
 
-/// The values of a cell in rising order. Where they follow one another without a gap, as most sets do, none has to be
-/// searched for.
+/// The values of a cell in rising order. If they have no gap, as most sets haven't, none has to be searched for.
 #[derive(Clone, Copy)]
 pub(crate) struct Places<'a> {
     pub(crate) domain: &'a Domain,
@@ -41,7 +40,7 @@ impl<'a> Places<'a> {
     }
 }
 
-/// Whether so many rising values from a first to a last one have no gap.
+/// Whether `count` rising values from a first to a last one have no gap.
 pub(crate) fn is_run(first: i64, last: i64, count: usize) -> bool
     requires first { IsCellValue first }
     requires last { IsCellValue last }

@@ -44,7 +44,8 @@ pub fn term_span(
     }
 }
 
-/// The same of the box with the value `v` alone at cell `p`, from the tables of the whole box.
+/// The span at cell `p` of the box with the value `v` alone there, from the tables of the whole box; at a cell outside
+/// the machine's window that of the window's last cell.
 pub fn value_span(
     m: &Machine,
     ahead: &HullTable,

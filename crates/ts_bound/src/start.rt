@@ -7,7 +7,8 @@ use crate::row::clear;
 use ts_automaton::{Automaton, Hull};
 use ts_domain::Domain;
 
-/// At each value the start registers in the start state, and nothing in the others.
+/// Fills the row of the cell at which runs start: at each value the start registers in the start state, and nothing in
+/// the others.
 pub(crate) fn fill_start(a: &Automaton, values: &Domain, row: &mut [Hull])
     requires { length row.old ≡ length values.now * length a.now.states }
     ensures { row.new ≡ row_of a.now [] values.now }

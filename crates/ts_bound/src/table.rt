@@ -19,9 +19,9 @@ use ts_base::{Memory, Range};
 use ts_domain::Boxed;
 
 /// One hull per cell, value and state, in one vector: that of the value at place `i` in rising order and of the state
-/// `q`, both counted from 0, stands in the row of its cell at place `i` times the number of states plus `q`. Contracts
-/// see the rows, one after the other. What no series reaches has a hull that is none. A cell that isn't looked at has
-/// an empty row.
+/// `q`, both counted from 0, is in the row of its cell at place `i` times the number of states plus `q`. Contracts see
+/// the rows, one after the other. What no series reaches has a hull that is none. A cell that isn't looked at has an
+/// empty row.
 #[derive(Drop)]
 pub struct HullTable {
     hulls: Vec<Hull>,
@@ -42,8 +42,8 @@ impl Model for HullTable {
 }
 
 impl HullTable {
-    /// The rows of a box for so many states, in which every hull is none; the rows of the cells that aren't looked at
-    /// are empty.
+    /// The rows of a box for an automaton with `states` states, in which every hull is none; the rows of the cells that
+    /// aren't looked at are empty.
     pub(crate) fn empty(
         alloc: Global,
         cells: &Boxed,
@@ -67,7 +67,7 @@ impl HullTable {
         })
     }
 
-    /// Where the rows of so many cells from cell `k` on begin and end: the one place where cells become places.
+    /// Where the rows of `count` cells from cell `k` on begin and end: the one function that turns cells into places.
     fn bounds(&self, k: u32, count: u32) -> (usize, usize)
         requires first { 1 ≤ k }
         requires last { k - 1 + count ≤ length self.now }
@@ -87,7 +87,8 @@ impl HullTable {
         part(&self.hulls, from, to)
     }
 
-    /// The row of cell `k`, lent for change. What is written stands in the table, and every other row stays.
+    /// The row of cell `k`, borrowed for change. What is written to it is in the table afterwards; every other row
+    /// stays.
     pub fn row_mut(&mut self, k: u32) -> &mut [Hull]
         requires { IsRow k self.old }
         ensures* writes_back { sem 𝓛 (LendsRow self.entry k result) }
@@ -109,8 +110,8 @@ impl HullTable {
         self.hulls.slice_mut(from..to)
     }
 
-    /// The rows of cells `k` and `k + 1`, lent for change. What is written through them stands in the table, and every
-    /// other row stays.
+    /// The rows of cells `k` and `k + 1`, borrowed for change. What is written to them is in the table afterwards;
+    /// every other row stays.
     pub fn rows(&mut self, k: u32) -> (&mut [Hull], &mut [Hull])
         requires first { 1 ≤ k }
         requires last { k + 1 ≤ length self.old }
@@ -154,7 +155,7 @@ fn looked_size(cells: &Boxed, window: Option<Range>, k: u32) -> u64
     }
 }
 
-/// Where a row of so many values ends. A table whose places can't be counted has no memory.
+/// Where a row of `values` values ends. A table whose places can't be counted has no memory.
 fn end_of(begin: usize, values: u64, states: u8) -> Result<usize, Memory>
     ensures { IfOk result (λ end. end ≡ begin + values * states) }
 {
