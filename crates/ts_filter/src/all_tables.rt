@@ -27,8 +27,8 @@ use ts_domain::{Boxed, Domain};
 use ts_glue::Machine;
 use ts_model::Require;
 
-/// The machines of the terms, in their order, each with the rows of hulls of the box that it was asked of last. Where
-/// the rows of all might take too much memory, a question leaves none behind. Contracts see the machines alone. The
+/// The machines of the terms, in their order, each with the rows of hulls of the box that it was asked about last. If
+/// the rows of all might take too much memory, none are kept after a question. Contracts see the machines alone. The
 /// window of each machine that a question is put to has to end at a cell of the box.
 #[derive(Drop)]
 pub struct AllTables<'a> {
@@ -51,7 +51,7 @@ impl<'a> Model for AllTables<'a> {
 
 impl<'a> AllTables<'a> {
     /// The tables of these machines, of which nothing is known yet. The boxes that will be asked have no more values
-    /// than `cells`: by that their rows are kept or made for each question anew.
+    /// than `cells`: that decides whether rows are kept, or made again for each question.
     pub fn new(
         alloc: Global,
         machines: &'a [Machine],
@@ -67,7 +67,8 @@ impl<'a> AllTables<'a> {
         Ok(AllTables { each, keeps })
     }
 
-    /// The same of machines of their own.
+    /// The tables of these machines, which they own, of which nothing is known yet. The boxes that will be asked about
+    /// have no more values than `cells`.
     pub fn owning(
         alloc: Global,
         machines: Vec<Machine>,
@@ -91,8 +92,8 @@ impl<'a> AllTables<'a> {
         self.each[term as usize].is_plain()
     }
 
-    /// Whether the requirement is refuted at cell `p`, as the machine of its term tells. Where that can't be split,
-    /// only the last cell may be asked.
+    /// Whether the requirement is refuted at cell `p`, by the span of its term's machine there. For a machine that
+    /// can't be split only the last cell may be asked about.
     pub fn refuted(
         &mut self,
         alloc: Global,
@@ -114,8 +115,8 @@ impl<'a> AllTables<'a> {
         told
     }
 
-    /// Whether `term`, the objective, isn't better than `bar` at cell `p`, as its machine tells. Where that can't be
-    /// split, only the last cell may be asked.
+    /// Whether `term`, the objective, isn't better than `bar` at cell `p`, by the span of its machine there. For a
+    /// machine that can't be split only the last cell may be asked about.
     pub fn worse(
         &mut self,
         alloc: Global,
@@ -139,8 +140,8 @@ impl<'a> AllTables<'a> {
         told
     }
 
-    /// Whether the requirement is refuted at cell `k` on the box with the value `v` alone there. Where the machine of
-    /// its term can't be split, only the last cell may be asked.
+    /// Whether the requirement is refuted at cell `k` on the box with the value `v` alone there. For a machine that
+    /// can't be split only the last cell may be asked about.
     pub fn refuted_value(
         &mut self,
         alloc: Global,
@@ -296,7 +297,7 @@ impl<'a> AllTables<'a> {
         found
     }
 
-    /// After a question of the term: where no rows are kept, those that it made go.
+    /// Drops the rows that a question about the term made, if rows aren't kept.
     fn after_question(&mut self, term: u32)
         requires { term < length self.old }
         ensures { self.new ≡ self.old }

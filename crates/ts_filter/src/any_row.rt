@@ -1,4 +1,5 @@
-//! Packed rows of automata of either width: here alone the two are told apart, once a row and once a value of a cell.
+//! Packed rows of automata of either width: the one module that tells the two apart, once a row and once a value of a
+//! cell.
 
 ghost use Rattle.std.specs.Prelude.{◌≡◌, ℤ, List, [], ◌∷◌, IfOk, IsTrue, length};
 ghost use Rattle.ts_base.specs.Limits.{IsCellValue};
@@ -23,7 +24,7 @@ use ts_bound::{first_packed_row, next_packed_row};
 use ts_meet::{Joints, Spot, asked_at, finish_at};
 use ts_row::{Cell, PackedRow, Plan};
 
-/// A packed row: that of a narrow automaton, or of a wide one.
+/// A packed row of a narrow automaton, or of a wide one.
 #[derive(Drop)]
 pub(crate) enum AnyRow {
     Narrow(PackedRow<6>),
@@ -31,7 +32,7 @@ pub(crate) enum AnyRow {
 }
 
 impl AnyRow {
-    /// No hull yet.
+    /// A row without hulls, for automata of a width.
     pub(crate) fn empty(alloc: Global, wide: bool) -> AnyRow
         ensures { wide ≡ is_wide (lanes_of result) }
     {
@@ -42,7 +43,7 @@ impl AnyRow {
         }
     }
 
-    /// Whether it is that of a wide automaton.
+    /// Whether this is a row of a wide automaton.
     pub(crate) fn is_wide(&self) -> bool
         ensures { result ≡ is_wide (lanes_of self.now) }
     {
@@ -74,8 +75,8 @@ impl AnyRow {
         }
     }
 
-    /// The row of a cell, from that of the cell before, whatever cells are before that one. It is made in this row's
-    /// memory.
+    /// The row of a cell, from that of the cell before, whatever cells came before that one. It is made in the memory
+    /// of `self`.
     pub(crate) fn stepped(
         self,
         alloc: Global,
@@ -123,7 +124,7 @@ impl AnyRow {
     }
 }
 
-/// Whether two rows of so many states have the same hulls.
+/// Whether two rows of automata with `states` states have the same hulls.
 pub(crate) fn are_same(a: &AnyRow, b: &AnyRow, states: u8) -> bool
     requires first { length (columns a.now) ≡ states }
     requires second { length (columns b.now) ≡ states }
@@ -141,8 +142,8 @@ pub(crate) fn are_same(a: &AnyRow, b: &AnyRow, states: u8) -> bool
     }
 }
 
-/// The hull of a span that is known so far and of the glued spans where two rows of one width meet; none where it has
-/// what is asked.
+/// The hull of a span that is known so far and of the glued spans where two rows of one width meet; none if a number of
+/// it does what is asked.
 pub(crate) fn asked_between(
     asked: Question<'_>,
     so_far: Span,

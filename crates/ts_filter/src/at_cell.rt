@@ -21,8 +21,8 @@ use ts_glue::Machine;
 use ts_model::Require;
 
 impl<'a> BoxTables<'a> {
-    /// Whether the span at cell `p` doesn't have what is asked. Where the machine can't be split, only the last cell
-    /// may be asked.
+    /// Whether no number of the span at cell `p` does what is asked. For a machine that can't be split only the last
+    /// cell may be asked about.
     pub(crate) fn excluded_at(
         &mut self,
         alloc: Global,
@@ -43,7 +43,7 @@ impl<'a> BoxTables<'a> {
         Ok(self.hulls_at(k, cells).excludes(asked))
     }
 
-    /// The same of cell `k` on the box with the value `v` alone there.
+    /// Whether no number of the span at cell `k` does what is asked, on the box with the value `v` alone there.
     pub(crate) fn value_excluded_at(
         &mut self,
         alloc: Global,
@@ -70,8 +70,8 @@ impl<'a> BoxTables<'a> {
 }
 
 /// Whether the requirement is refuted at cell `p`: no number of its term's span there compares with the bound as it
-/// says. `m` is taken as the machine of the term; where it can't be split, only the last cell may be asked. Here, as in
-/// every question, its window has to end at a cell of the box.
+/// says. `m` is taken as the machine of the term; if it can't be split, only the last cell may be asked about. Here, as
+/// in every question, its window has to end at a cell of the box.
 pub fn refuted(
     alloc: Global,
     m: &Machine,
@@ -90,7 +90,7 @@ pub fn refuted(
 }
 
 /// Whether the objective isn't better at cell `p`: no number of its span there is better than `bar`. `m` is taken as
-/// the machine of the objective; where it can't be split, only the last cell may be asked.
+/// the machine of the objective; if it can't be split, only the last cell may be asked about.
 pub fn worse(
     alloc: Global,
     m: &Machine,

@@ -1,5 +1,5 @@
-//! The hulls of a machine that are known of a box while the box changes.
-//! What is asked of them stands in `at_cell`, `first_cell`, `drops` and `kept`.
+//! The hulls of a machine that are known of a box while the box changes. The questions that they answer are in
+//! `at_cell`, `first_cell`, `drops` and `kept`.
 
 ghost use Rattle.std.specs.Prelude.{◌≡◌, ◌↔◌, ◌-◌, ◌≤◌, [], IsTrue, MatchOption, OnOk, None, length, take};
 ghost use Rattle.ts_base.specs.Windows.{looked_at};
@@ -31,13 +31,13 @@ use ts_glue::Machine;
 use ts_meet::Joints;
 use ts_model::Require;
 
-/// What one machine tells of a box and of the boxes that it becomes: rows of hulls are made when a question first asks
-/// for them, for the cells that the machine looks at alone, and after a change those that it doesn't reach stay. The
-/// others aren't known then, but are kept: as soon as a row behind the changed cells is made again as it was, those
-/// behind it are known too. The box isn't inside: each question takes it, and each change of it has to be told by
-/// `changed`. Contracts see the machine and the rows that are known, forward ones from the first cell on that is looked
-/// at, backward ones from the last one back; those that are kept; and requirements by which no drop was found at a cell
-/// that is looked at, nor is any there before one of these cells changes.
+/// What one machine says of a box and of the boxes that it becomes. Rows of hulls are made when a question first needs
+/// them, only for the cells that the machine looks at; after a change those that it doesn't reach stay. The others
+/// aren't known then, but are kept: once a row after the changed cells comes out as it was, those after it are known
+/// too. The box isn't inside: each question takes it, and each change of it has to be reported by `changed`. Contracts
+/// see the machine and the rows that are known, forward ones from the first cell on that is looked at, backward ones
+/// from the last one back; those that are kept; and requirements by which no drop was found at a cell that is looked
+/// at, nor is any there before one of these cells changes.
 #[derive(Drop)]
 pub(crate) struct BoxTables<'a> {
     machine: HeldMachine<'a>,
@@ -96,8 +96,8 @@ impl<'a> BoxTables<'a> {
         }
     }
 
-    /// Forgets what a change reaches: that of the places from `first` up to `last`, counted from 0, of the `count`
-    /// cells that are looked at.
+    /// Forgets the rows that a change reaches, of the places from `first` up to `last`, counted from 0, among the
+    /// `count` cells that are looked at.
     pub(crate) fn changed(&mut self, first: usize, last: usize, count: usize)
         requires order { first ≤ last }
         requires within { last ≤ count }
@@ -130,8 +130,8 @@ impl<'a> BoxTables<'a> {
         own.are_among(self.quiet.as_slice())
     }
 
-    /// Remembers that there is no drop by these requirements. A machine that can't be split is asked of the last cell
-    /// alone: nothing is known of the others, and asking one cell again costs little.
+    /// Remembers that there is no drop by these requirements. A machine that can't be split is asked about the last
+    /// cell alone: nothing is known of the others, and asking about one cell again costs little.
     pub(crate) fn found_nothing(
         &mut self,
         alloc: Global,
@@ -161,7 +161,7 @@ impl<'a> BoxTables<'a> {
         is_looked(self.machine.get().window(), k)
     }
 
-    /// The cell whose hulls tell what is asked of cell `p`: that cell, or the last one that the machine looks at.
+    /// The cell whose hulls answer a question about cell `p`: that cell, or the last one that the machine looks at.
     pub(crate) fn read_at(&self, p: u32) -> u32
         ensures { result ≡ read_at self.now.machine.window p }
     {
@@ -190,7 +190,7 @@ impl<'a> BoxTables<'a> {
 }
 
 impl<'a> BoxTables<'a> {
-    /// Makes the rows of cell `k` that are wanting. At the last cell that is looked at no backward row is asked for.
+    /// Makes the rows of cell `k` that are missing. At the last cell that is looked at no backward row is needed.
     pub(crate) fn make_at(&mut self, alloc: Global, k: u32, cells: &Boxed) -> Result<(), Memory>
         requires hulls { HasHulls self.old.machine k cells.now.present }
         requires known { AreKnown cells.now.present self.old }
@@ -243,7 +243,7 @@ impl<'a> BoxTables<'a> {
         }
     }
 
-    /// Makes the forward rows that are wanting of the first `count` cells that are looked at.
+    /// Makes the missing forward rows of the first `count` cells that are looked at.
     fn make_ahead(&mut self, alloc: Global, count: usize, cells: &Boxed) -> Result<(), Memory>
         requires looks { LooksIn self.old.machine cells.now.present }
         requires cells { count ≤ length (looked_at self.old.machine.window cells.now.present) }
@@ -261,8 +261,8 @@ impl<'a> BoxTables<'a> {
         make_rows(alloc, &mut self.ahead, machine.forward(), reading, count)
     }
 
-    /// Makes the backward rows that are wanting of the last `count` cells that are looked at. A machine that can't be
-    /// split has none.
+    /// Makes the missing backward rows of the last `count` cells that are looked at. A machine that can't be split has
+    /// none.
     fn make_behind(&mut self, alloc: Global, count: usize, cells: &Boxed) -> Result<(), Memory>
         requires looks { LooksIn self.old.machine cells.now.present }
         requires cells { count ≤ length (looked_at self.old.machine.window cells.now.present) }
@@ -285,7 +285,7 @@ impl<'a> BoxTables<'a> {
     }
 }
 
-/// No row of the reverse automaton. A machine without one will have none.
+/// A stack without rows, for the reverse automaton. A machine without one will have none.
 fn rows_behind(alloc: Global, m: &Machine) -> RowStack
     ensures planned { IsPlannedBack (pair_of m.now) result.planned }
     ensures none { result ≡ no_rows result.planned }

@@ -1,4 +1,4 @@
-//! The spans at a cell, from the hulls that stand there, as far as what is asked of them needs.
+//! The spans at a cell, from the hulls there, as far as a question needs them.
 
 ghost use Rattle.std.specs.Prelude.{◌≡◌, ◌↔◌, [], ◌∷◌, Contains, IsTrue, Some, slice_get};
 ghost use Rattle.ts_base.specs.Windows.{looked_at};
@@ -74,14 +74,14 @@ impl<'a> CellHulls<'a> {
         self.cells.cell(self.cell)
     }
 
-    /// Whether the span there doesn't have what is asked.
+    /// Whether no number of the span at the cell does what is asked.
     pub(crate) fn excludes(&self, asked: Question<'_>) -> bool
         ensures { IsTrue result ↔ Excludes asked.entry (term_span self.now.machine self.now.cell self.now.cells) }
     {
         self.with_all(asked).is_some()
     }
 
-    /// The number of the first of these requirements that the span there refutes.
+    /// The number of the first of these requirements that the span at the cell refutes.
     pub(crate) fn first_refuted_by_all(&self, requirements: TermRequirements<'_>) -> Option<u32>
         ensures { IsFirstRefuting requirements.entry.all.now requirements.entry.term
             (term_span self.now.machine self.now.cell self.now.cells) result }
@@ -90,8 +90,8 @@ impl<'a> CellHulls<'a> {
         requirements.first_refuted(known.span)
     }
 
-    /// The span there, where it doesn't have what is asked. It is the hull of those of the values, and the first part
-    /// of it that has this tells: in most cells that is the first of all.
+    /// The span at the cell, if no number of it does what is asked. It is the hull of the spans of the values, and the
+    /// first of these that has such a number settles the question: in most cells that is the first of all.
     fn with_all<'b>(&self, asked: Question<'b>) -> Option<SoFar<'b>>
         ensures { IsWholeSpan asked.entry (term_span self.now.machine self.now.cell self.now.cells) result }
     {
@@ -104,7 +104,7 @@ impl<'a> CellHulls<'a> {
         Some(known)
     }
 
-    /// The same of the span on the box with the value `v` alone there.
+    /// Whether no number of the span does what is asked, on the box with the value `v` alone at the cell.
     pub(crate) fn value_excludes(&self, asked: Question<'_>, v: i64) -> bool
         requires { Contains (values_at self.now.cell self.now.cells) v }
         ensures { IsTrue result ↔ Excludes asked.entry (value_span self.now.machine self.now.cell self.now.cells v) }
@@ -113,7 +113,7 @@ impl<'a> CellHulls<'a> {
         self.excludes_at(asked, place, v)
     }
 
-    /// The same of the value that stands at place `i`, counted from 0.
+    /// Whether no number of the span of the value `v` does what is asked, which is at place `i`, counted from 0.
     fn excludes_at(&self, asked: Question<'_>, i: u64, v: i64) -> bool
         requires { slice_get (values_at self.now.cell self.now.cells) i ≡ Some v }
         ensures { IsTrue result ↔ Excludes asked.entry (value_span self.now.machine self.now.cell self.now.cells v) }
@@ -121,8 +121,8 @@ impl<'a> CellHulls<'a> {
         self.with_value(SoFar::none(asked), i, v).is_some()
     }
 
-    /// The number of the first of these requirements that the span of this value refutes. As soon as some pairs of
-    /// states leave none refuted, there is none.
+    /// The number of the first of these requirements that the span of the value `v` at place `i` refutes. Once some
+    /// pairs of states leave none refuted, there is none.
     pub(crate) fn first_refuted(
         &self,
         requirements: TermRequirements<'_>,
@@ -138,7 +138,7 @@ impl<'a> CellHulls<'a> {
         requirements.first_refuted(known.span)
     }
 
-    /// The span of this value.
+    /// The span of the value `v` at place `i`.
     pub(crate) fn span_at(&self, i: u64, v: i64) -> Span
         requires { slice_get (values_at self.now.cell self.now.cells) i ≡ Some v }
         ensures { result ≡ value_span self.now.machine self.now.cell self.now.cells v }
@@ -149,7 +149,7 @@ impl<'a> CellHulls<'a> {
         }
     }
 
-    /// With the span of this value.
+    /// A span with that of the value `v` at place `i` added; none once a number does what is asked.
     fn with_value<'b>(&self, so_far: SoFar<'b>, i: u64, v: i64) -> Option<SoFar<'b>>
         requires known { IsSoFar so_far }
         requires value { slice_get (values_at self.now.cell self.now.cells) i ≡ Some v }
@@ -174,7 +174,8 @@ impl<'a> CellHulls<'a> {
     }
 }
 
-/// With the finish span at the value `v` of cell `k`, which stands at place `i`.
+/// A span with the finish span at the value `v` of cell `k` added, which is at place `i`; none once a number does what
+/// is asked.
 fn last_value<'a>(
     so_far: SoFar<'a>,
     m: &Machine,
@@ -195,7 +196,8 @@ fn last_value<'a>(
     so_far.with(row.finish(m.forward(), i as usize, n))
 }
 
-/// With the glued span at the value.
+/// A span with the glued span at the value `v` of cell `k` added, which is at place `i`; none once a number does what
+/// is asked.
 fn split_value<'a>(
     so_far: SoFar<'a>,
     m: &Machine,

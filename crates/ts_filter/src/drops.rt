@@ -31,8 +31,8 @@ pub struct Removal {
 }
 
 /// The possible drop with the least cell, then the least value, then the least requirement; none exactly where none is
-/// possible. The machines stand in the order of the terms. The tables of a machine are made once, one machine's at a
-/// time, and each value of each cell is looked at once for all requirements of a term, as far as tells.
+/// possible. The machines are in the order of the terms. The tables of a machine are made once, one machine's at a
+/// time, and each value of each cell is looked at once for all requirements of a term, as far as the answer needs it.
 pub fn next_drop(
     alloc: Global,
     machines: &[Machine],
@@ -63,7 +63,7 @@ pub fn next_drop(
 }
 
 /// The first of the drops by the requirements of the term whose machine this is, up to cell `last`. No table is made
-/// where it has none.
+/// for a term without requirements.
 fn drop_of_term(
     alloc: Global,
     machine: &Machine,
@@ -87,8 +87,8 @@ fn drop_of_term(
 
 impl<'a> BoxTables<'a> {
     /// The first of the drops by these requirements of the term whose machine this is, up to cell `last`: that with the
-    /// least cell, then the least value, then the least requirement. None exactly where none is possible. Where there
-    /// was none in any cell, the cells that are looked at aren't asked again before one of them changes.
+    /// least cell, then the least value, then the least requirement. None exactly where none is possible. If there was
+    /// none in any cell, the cells that are looked at aren't asked about again before one of them changes.
     pub(crate) fn first_drop(
         &mut self,
         alloc: Global,
@@ -111,7 +111,7 @@ impl<'a> BoxTables<'a> {
         Ok(found)
     }
 
-    /// Remembers that there is no drop, where none was found and `last` is the last cell.
+    /// Remembers that there is no drop, if none was found and `last` is the last cell.
     fn remember(
         &mut self,
         alloc: Global,
@@ -158,7 +158,7 @@ impl<'a> BoxTables<'a> {
     }
 
     /// The first requirement that is refuted at each cell outside the window, whatever value it has: all these cells
-    /// have one span. Where none of them may be used, none is looked for.
+    /// have one span. If none of them may be used, none is looked for.
     fn refuted_outside(
         &mut self,
         alloc: Global,
@@ -179,8 +179,8 @@ impl<'a> BoxTables<'a> {
         Ok(self.hulls_at(last, cells).first_refuted_by_all(own))
     }
 
-    /// The cells at which drops are looked for: those behind the first number, up to the second. They are all that may
-    /// be used, or where no drop can be outside the window those inside.
+    /// The cells at which drops are looked for: those after the first number, up to the second. They are all that may
+    /// be used, or only those inside the window if no drop can be outside it.
     fn asked_for_drops(&self, outside: Option<u32>, cells: &Boxed) -> (u32, u32)
         requires { LooksIn self.now.machine cells.now.present }
         ensures each { (k : ℕ) → result.0 < k → k ≤ result.1 → IsUsable self.now.machine k cells.now.present }
@@ -276,7 +276,7 @@ fn drop_outside(k: u32, cells: &Boxed, refuted: Option<u32>) -> Option<Removal>
     }
 }
 
-/// The last cell in which a drop may come before this one: in cells behind it none is looked for.
+/// The last cell in which a drop may come before this one: in later cells none is looked for.
 pub(crate) fn last_asked(first: Option<Removal>, cells: &Boxed) -> u32
     ensures { result ≡ cell_up_to first (length cells.now.present) }
 {

@@ -19,8 +19,8 @@ use ts_glue::Machine;
 use ts_model::Require;
 
 impl<'a> BoxTables<'a> {
-    /// The least cell below the last at which the span doesn't have what is asked. None exactly where there is no such
-    /// cell, as for every machine that can't be split.
+    /// The least cell below the last at which no number of the span does what is asked. None exactly where there is no
+    /// such cell, as for every machine that can't be split.
     pub(crate) fn first_excluded(
         &mut self,
         alloc: Global,
@@ -49,7 +49,7 @@ impl<'a> BoxTables<'a> {
         Ok(None)
     }
 
-    /// Whether the cells before the window are excluded: each of them says what the last cell of the window says.
+    /// Whether the cells before the window are excluded: each of them has the span of the window's last cell.
     fn excluded_before(
         &mut self,
         alloc: Global,
@@ -73,7 +73,8 @@ impl<'a> BoxTables<'a> {
     }
 }
 
-/// The cell behind those that are asked one by one: they end with the last one that is looked at, or before the last.
+/// The cell after those that are asked about one by one: these end with the last cell that is looked at, or before the
+/// last of the box.
 fn end_of_walk(last: u32, n: u32) -> u32
     ensures within { result ≤ n }
     ensures far { (n ≤ result) ⊎ (last + 1 ≤ result) }

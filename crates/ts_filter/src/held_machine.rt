@@ -1,11 +1,11 @@
-//! A machine that is lent, or one's own.
+//! A machine that is borrowed, or owned.
 
 ghost use Rattle.std.specs.Prelude.{◌≡◌};
 ghost use Rattle.ts_filter.specs.HeldMachine.{machine_in};
 
 use ts_glue::Machine;
 
-/// The machine of tables. A search lends its own; a checker, which outlives what it was made of, gives them away.
+/// The machine of tables. A search lends its machines; a checker, which outlives what it was made of, hands them over.
 #[derive(Drop)]
 pub(crate) enum HeldMachine<'a> {
     Lent(&'a Machine),

@@ -65,27 +65,27 @@ pub fn drop_loses_none()
     ensures { DropLosesNone }
 {}
 
-/// The spans of a term are those of its machine, and so are the cells that may be used. Where each machine's spans hold
-/// the value of its term, and tell that of a single series, so do the spans of all.
+/// The spans of a term are those of its machine, and so are the cells that may be used. If each machine's spans hold
+/// the value of its term, and are that of a single series, so do the spans of all.
 pub fn spans_are_of_machines()
     ensures same { SpansAreOfMachines }
     ensures hold { MachinesHold }
     ensures tell { MachinesTell }
 {}
 
-/// Where each machine's answer is the value of its term, the spans hold the values, and tell that of a single series:
-/// so what is refuted has no series that meets, what is cut none that counts, and both are exact on a single series.
+/// If each machine's answer is the value of its term, the spans hold the values, and are that of a single series: so
+/// what is refuted has no series that meets, what is cut none that counts, and both are exact on a single series.
 pub fn answers_are_enough()
     ensures { AnswersAreEnough }
 {}
 
-/// What the calls tell of the machine of a requirement's term, or of the objective, is what is defined of the spans of
-/// all machines.
+/// What the calls answer about the machine of a requirement's term, or of the objective, is what is defined of the
+/// spans of all machines.
 pub fn calls_tell()
     ensures { CallsTell }
 {}
 
-/// The tests that compute tell what is refuted, cut and may be dropped.
+/// The tests that compute answer exactly what is refuted, cut and may be dropped.
 pub fn tests_tell()
     ensures { TestsTell }
 {}

@@ -5,7 +5,7 @@
 //! the first cell, the first drop and the value to keep; each makes the rows of a machine once, however many cells
 //! there are, and looks at no further pair of states once some number of a span does what is asked. `AllTables` answers
 //! the same questions for the machines of all terms and keeps the rows: those that a change of the box doesn't reach
-//! serve the next box, and so do those behind a row that comes out as it was. It finds out by itself what has changed.
+//! serve the next box, and so do those after a row that comes out as it was. It finds out by itself what has changed.
 //! The definitions state the rule of each line of a certificate, when a certificate is accepted, its first failing line
 //! and what its claim means; by the laws an accepted certificate means what it claims, whoever wrote it, wherever spans
 //! hold the values of their terms.

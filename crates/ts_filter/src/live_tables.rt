@@ -23,9 +23,9 @@ use ts_base::{Goal, Memory};
 use ts_domain::{Boxed, Domain};
 use ts_model::Require;
 
-/// A machine with the rows of hulls of the box that was asked last, and with the cells of it that the machine looks at.
-/// A question on another box makes anew only the rows that depend on a cell that differs; callers need not tell what
-/// changed. Contracts see the machine alone.
+/// A machine with the rows of hulls of the box that was asked about last, and with the cells of it that the machine
+/// looks at. A question about another box rebuilds only the rows that depend on a cell that differs; callers need not
+/// report what changed. Contracts see the machine alone.
 #[derive(Drop)]
 pub(crate) struct LiveTables<'a> {
     tables: BoxTables<'a>,
@@ -72,8 +72,8 @@ impl<'a> LiveTables<'a> {
         self.tables.forget();
     }
 
-    /// Whether the span at cell `p` doesn't have what is asked. Where the machine can't be split, only the last cell
-    /// may be asked.
+    /// Whether no number of the span at cell `p` does what is asked. For a machine that can't be split only the last
+    /// cell may be asked about.
     pub(crate) fn excluded_at(
         &mut self,
         alloc: Global,
@@ -92,7 +92,7 @@ impl<'a> LiveTables<'a> {
         self.tables.excluded_at(alloc, asked, p, cells)
     }
 
-    /// The same of cell `k` on the box with the value `v` alone there.
+    /// Whether no number of the span at cell `k` does what is asked, on the box with the value `v` alone there.
     pub(crate) fn value_excluded_at(
         &mut self,
         alloc: Global,
@@ -113,8 +113,8 @@ impl<'a> LiveTables<'a> {
         self.tables.value_excluded_at(alloc, asked, k, v, cells)
     }
 
-    /// The least cell below the last at which the span doesn't have what is asked. None exactly where there is no such
-    /// cell, as for every machine that can't be split.
+    /// The least cell below the last at which no number of the span does what is asked. None exactly where there is no
+    /// such cell, as for every machine that can't be split.
     pub(crate) fn first_excluded(
         &mut self,
         alloc: Global,
@@ -150,8 +150,8 @@ impl<'a> LiveTables<'a> {
     }
 
     /// The first of the drops by the requirements of the term whose machine this is, up to cell `last`: that with the
-    /// least cell, then the least value, then the least requirement. None exactly where none is possible. Where the
-    /// term has no requirement, nothing is compared.
+    /// least cell, then the least value, then the least requirement. None exactly where none is possible. For a term
+    /// without requirements no cell is compared.
     pub(crate) fn first_drop(
         &mut self,
         alloc: Global,
@@ -172,7 +172,7 @@ impl<'a> LiveTables<'a> {
         }
     }
 
-    /// The same by these requirements.
+    /// The first of the drops by these requirements, up to cell `last`.
     fn drop_by(
         &mut self,
         alloc: Global,

@@ -13,8 +13,9 @@ use std::mem;
 use ts_base::Memory;
 use ts_domain::{Boxed, Domain};
 
-/// Makes the tables, which are those of the cells that were seen, the tables of `cells`. Of these the ones that the
-/// machine looks at are seen then: no other is compared. After `Memory` they are those of what is seen all the same.
+/// Makes the tables, which are those of the cells that were seen, the tables of `cells`. Afterwards those of these
+/// cells that the machine looks at are the ones seen; no other is compared. After `Memory` the tables still are those
+/// of the cells seen.
 pub(crate) fn meet(
     alloc: Global,
     tables: &mut BoxTables<'_>,
@@ -70,7 +71,7 @@ fn first_other(seen: &[Domain], looked: Reading<'_>) -> usize
     seen.len()
 }
 
-/// The place behind the last cell that may not be as it was seen, `first` at the least.
+/// The place after the last cell that may not be as it was seen, `first` at the least.
 fn last_other(seen: &[Domain], looked: Reading<'_>, first: usize) -> usize
     requires count { length seen.now ≡ length (cells_read looked) }
     requires first { first ≤ length seen.now }
@@ -88,8 +89,8 @@ fn last_other(seen: &[Domain], looked: Reading<'_>, first: usize) -> usize
     last
 }
 
-/// Puts the domains of the places from `first` up to `last` in place of those that were seen. After `Memory` some of
-/// them are there.
+/// Replaces the domains seen at the places from `first` up to `last` by those of the box. After `Memory` some of them
+/// are replaced.
 fn take_over(
     seen: &mut Vec<Domain>,
     looked: Reading<'_>,

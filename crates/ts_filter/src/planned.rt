@@ -1,4 +1,4 @@
-//! What the rows of an automaton are made by.
+//! What is kept of an automaton to make its rows.
 
 ghost use Rattle.ts_filter.specs.RowStacks.{IsPlanned};
 
@@ -14,7 +14,7 @@ pub(crate) struct Planned {
 }
 
 impl Planned {
-    /// Those of an automaton.
+    /// The plan, the states and the width of an automaton.
     pub(crate) fn of(a: &Automaton) -> Planned
         ensures { IsPlanned a.now result }
     {

@@ -12,8 +12,8 @@ use ts_base::{Ext, Goal, Span};
 use ts_meet::Asked;
 use ts_model::Op;
 
-/// What is asked of the numbers of a span: one that compares so with a bound, for each requirement of a term one that
-/// meets it, one that counts for a bar, or what no span has.
+/// What is asked of the numbers of a span: whether one compares so with a bound; whether for each requirement of a term
+/// one meets it; whether one counts for a bar; or what no number does.
 #[derive(Clone, Copy)]
 pub(crate) enum Question<'a> {
     Compares(Op, Ext),
@@ -23,7 +23,8 @@ pub(crate) enum Question<'a> {
 }
 
 impl<'a> Question<'a> {
-    /// That each of these requirements is met by some number: where there is only one of them, that is one comparison.
+    /// The question whether each of these requirements is met by some number: if there is only one of them, one
+    /// comparison.
     pub(crate) fn each_met(requirements: TermRequirements<'a>) -> Question<'a>
         ensures { (s : Span) → Excludes result s ↔ RefutesSome requirements.entry.all.now requirements.entry.term s }
     {

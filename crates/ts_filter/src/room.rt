@@ -10,8 +10,8 @@ const NARROW_HULL: u64 = 48;
 
 const WIDE_HULL: u64 = 80;
 
-/// How many bytes the rows of all machines may take, but for one row a direction, and the values of its cell and of the
-/// cell before, that are held beside them. Each row may have memory for twice its hulls.
+/// How many bytes the rows of all machines may take, except for one spare row per direction with the values of its cell
+/// and of the cell before. Each row may have memory for twice its hulls.
 const MOST: u64 = 200_000_000;
 
 /// Whether the rows of these machines, of a box with at most these values in its cells, take no more. A machine with a

@@ -1,4 +1,4 @@
-//! Rows of hulls on top of one another. Those that a change reaches stay lying there: they may turn out right again.
+//! A stack of rows of hulls. Those that a change reaches aren't thrown away: they may turn out right again.
 
 ghost use Rattle.std.specs.Prelude.{◌≡◌, ◌<◌, ◌≤◌, ℤ, List, [], ◌∷◌, IfOk, IsTrue, OnErr, OnOk, get_or, length};
 ghost use Rattle.ts_filter.specs.AnyRows.{IsRowOf, columns, lanes_of};
@@ -35,7 +35,7 @@ pub(crate) struct HullRow {
 }
 
 impl HullRow {
-    /// No hull yet. There will be memory for so many values.
+    /// A row without hulls, with room for the values of a cell.
     fn empty(alloc: Global, wide: bool, room: usize) -> HullRow
         ensures { wide ≡ is_wide (lanes_of result.packed) }
     {
@@ -170,7 +170,7 @@ impl RowStack {
         &self.rows[i].packed
     }
 
-    /// Only the first `count` rows stay known. From place `end` on rows go on as they did.
+    /// Only the first `count` rows stay known. From place `end` on each row still follows from the one before.
     pub(crate) fn truncate(&mut self, count: usize, end: usize)
         ensures { IsCut count end self.old self.new }
     {
@@ -181,7 +181,7 @@ impl RowStack {
         self.known = self.known.min(count);
     }
 
-    /// No row any more; the memory is freed.
+    /// Removes all rows, and frees their memory.
     pub(crate) fn clear(&mut self)
         ensures { self.new ≡ no_rows self.old.planned }
     {
@@ -214,14 +214,14 @@ impl RowStack {
         }
     }
 
-    /// They are given back.
+    /// Gives the lists of values back, to be used again.
     pub(crate) fn keep_lists(&mut self, lists: TwoCells)
         ensures { self.new ≡ self.old }
     {
         drop(mem::replace(&mut self.lists, Some(lists)));
     }
 
-    /// Whether the row lies on top of the known ones, and the rows above go on from it.
+    /// Whether the row is the same as the one above the known rows, and the rows above that follow from it.
     pub(crate) fn stands(&self, row: &HullRow) -> bool
         requires { HasStates self.now.planned row.now.packed }
         ensures { IsTrue result → Stands (hulls_in self.now.planned.states row.now.packed) self.now }
@@ -236,7 +236,7 @@ impl RowStack {
         )
     }
 
-    /// All rows become known. `row` is given back.
+    /// Makes all rows known. The memory of `row` is kept.
     pub(crate) fn know_all(&mut self, row: HullRow)
         ensures planned { self.new.planned ≡ self.old.planned }
         ensures known { self.new.known ≡ self.old.laid.rows }
@@ -246,7 +246,7 @@ impl RowStack {
         drop(mem::replace(&mut self.spare, Some(row)));
     }
 
-    /// One more known row.
+    /// Adds a known row.
     pub(crate) fn push(&mut self, row: HullRow) -> Result<(), Memory>
         requires { HasStates self.old.planned row.packed }
         ensures ok { OnOk result (IsOneMore (hulls_in self.old.planned.states row.packed) self.old self.new) }
@@ -268,7 +268,7 @@ fn greater(a: usize, b: usize) -> usize
     a.max(b)
 }
 
-/// A row comes to place `at`. The one that was there becomes `spare`.
+/// Puts a row at place `at`. The one that was there becomes `spare`.
 #[tactic(auto, using(crate::proofs::LaidRows::put_within))]
 fn put(
     rows: &mut Vec<HullRow>,

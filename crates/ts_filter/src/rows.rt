@@ -13,7 +13,7 @@ use std::alloc::Global;
 use ts_automaton::Automaton;
 use ts_base::Memory;
 
-/// Makes the rows that are wanting of the `count` cells that the automaton reads first.
+/// Makes the missing rows of the `count` cells that the automaton reads first.
 pub(crate) fn make_rows(
     alloc: Global,
     rows: &mut RowStack,
@@ -32,7 +32,7 @@ pub(crate) fn make_rows(
     Ok(())
 }
 
-/// Makes the row of the cell that is read next. Where it lay there before, all above it are right too.
+/// Makes the row of the cell that is read next. If it comes out as it was, all above it are right too.
 fn make_row(
     alloc: Global,
     rows: &mut RowStack,

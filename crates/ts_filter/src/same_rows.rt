@@ -1,11 +1,11 @@
-//! Whether two packed rows are one.
+//! Whether two packed rows are the same.
 
 ghost use Rattle.std.specs.Prelude.{◌≡◌, ◌≤◌, IsTrue, length};
 
 use ts_row::PackedRow;
 use ts_sweep::packed::PackedHull;
 
-/// Whether both, of so many states, have the same hulls.
+/// Whether two packed rows of automata with `states` states have the same hulls.
 pub(crate) fn are_same_columns<const N: usize>(
     a: &PackedRow<N>,
     b: &PackedRow<N>,
@@ -24,7 +24,7 @@ pub(crate) fn are_same_columns<const N: usize>(
     true
 }
 
-/// Whether both have the same hulls in the same order.
+/// Whether two columns have the same hulls in the same order.
 fn are_same_hulls<const N: usize>(a: &[PackedHull<N>], b: &[PackedHull<N>]) -> bool
     requires lanes { N ≤ 64 }
     ensures { IsTrue result → a.now ≡ b.now }

@@ -8,7 +8,7 @@ use crate::question::Question;
 use ts_base::Span;
 use ts_meet::Asked;
 
-/// The hull of the parts that were taken in so far, which doesn't have what is asked.
+/// The hull of the parts that were taken in so far, of which no number does what is asked.
 #[derive(Clone, Copy)]
 pub(crate) struct SoFar<'a> {
     pub(crate) asked: Question<'a>,
@@ -16,7 +16,7 @@ pub(crate) struct SoFar<'a> {
 }
 
 impl<'a> SoFar<'a> {
-    /// Nothing was taken in.
+    /// The hull of no parts.
     pub(crate) fn none(asked: Question<'a>) -> SoFar<'a>
         ensures asked { result.asked ≡ asked.entry }
         ensures span { result.span ≡ none_span }
@@ -26,7 +26,7 @@ impl<'a> SoFar<'a> {
         SoFar { asked, span }
     }
 
-    /// One part more. None where the hull has what is asked: whatever parts come, its numbers stay.
+    /// The hull with one more part. None if a number of it does what is asked: whatever parts come, its numbers stay.
     pub(crate) fn with(self, part: Span) -> Option<SoFar<'a>>
         ensures { WithParts self.entry (part ∷ []) result }
     {

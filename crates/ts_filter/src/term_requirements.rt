@@ -12,7 +12,7 @@ use std::alloc::Global;
 use ts_base::{Memory, Span};
 use ts_model::Require;
 
-/// The requirements of a term that has some: the one at place `first`, and those of the term behind it up to `end`.
+/// The requirements of a term that has some: the one at place `first`, and those of the term after it, before `end`.
 #[derive(Clone, Copy)]
 pub(crate) struct TermRequirements<'a> {
     pub(crate) all: &'a [Require],
@@ -81,7 +81,7 @@ impl<'a> TermRequirements<'a> {
         true
     }
 
-    /// They alone.
+    /// A list of these requirements alone.
     pub(crate) fn copied(self, alloc: Global) -> Result<Vec<Require>, Memory>
         ensures { IfOk result
             (λ own. own.items ≡ filter (λ r. nat_eq r.term self.entry.term) self.entry.all.now) }
@@ -104,7 +104,7 @@ fn first_of(all: &[Require], term: u32) -> Option<usize>
     all.iter().position(|r| r.term == term)
 }
 
-/// The place behind the last requirement of the term.
+/// The place after the last requirement of the term.
 fn end_of(all: &[Require], term: u32) -> usize
     ensures within { result ≤ length all.now }
     ensures none_behind { NoneFrom all.now term result }
@@ -126,7 +126,7 @@ fn is_of(r: &Require, term: u32) -> bool
     r.term == term
 }
 
-/// Whether the requirement is of the term, and none of the others.
+/// Whether the requirement is of the term and isn't one of the others.
 fn is_missing(r: &Require, term: u32, others: &[Require]) -> bool
     ensures { result ≡ false → r.now.term ≡ term → Contains others.now r.now }
 {
