@@ -23,8 +23,8 @@ use ts_certificate::{Aim, Certificate, Claim, TreeLine};
 use ts_compile::Program;
 use ts_model::Model;
 
-/// The certificate of the first best series of a model, or of that none meets. Where `budget` lines don't suffice it
-/// has just so many, and the best series that is known. `p` is the program of `m`, which has an objective and keeps
+/// The certificate of the first best series of a model, or of that none meets. If `budget` lines don't suffice, it has
+/// exactly that many, and the best series that is known. `p` is the program of `m`, which has an objective and keeps
 /// the limits of its need.
 ///
 /// It begins with a dive, whose series cuts what can't be as good, and then gives one box after the other its line. Its
@@ -81,7 +81,7 @@ fn certificate(alloc: Global, contest: Contest<'_>, tree: Tree) -> Result<Certif
     })
 }
 
-/// What is claimed where every box had its line.
+/// What is claimed if every box had its line.
 fn done_claim(found: &Option<FoundSeries>) -> Claim
     ensures { result ≡ done_claim (find_of found.now) }
 {
@@ -91,7 +91,7 @@ fn done_claim(found: &Option<FoundSeries>) -> Claim
     }
 }
 
-/// What is claimed where boxes still wait.
+/// What is claimed if boxes still wait.
 fn budget_claim(found: &Option<FoundSeries>) -> Claim
     ensures { result ≡ budget_claim (find_of found.now) }
 {
@@ -112,7 +112,7 @@ fn series_of(alloc: Global, found: Option<FoundSeries>) -> Result<Vec<Vec<i64>>,
     Ok(series)
 }
 
-/// Puts so many `open` lines behind `lines`.
+/// Appends `waiting` lines `open`.
 pub(crate) fn push_open(lines: &mut Vec<TreeLine>, waiting: u64) -> Result<(), Memory>
     ensures { OnOk result (lines.new.items ≡ lines.old.items ++ replicate waiting OpenLine) }
 {

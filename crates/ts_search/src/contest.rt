@@ -27,7 +27,7 @@ pub(crate) struct Contest<'a> {
 }
 
 impl<'a> Contest<'a> {
-    /// What a series has to reach: to be better than the found one, or as good as the dive's where none was found.
+    /// What a series has to reach: to be better than the incumbent, or as good as the dive's series if none was found.
     pub(crate) fn bar(&self, found: &Option<FoundSeries>) -> Option<Bar>
         ensures { result ≡ bar_of (find_of found.now) (contest_of self.now).warm }
     {
@@ -38,7 +38,7 @@ impl<'a> Contest<'a> {
         }
     }
 
-    /// Whether no number of the objective's span at the last cell reaches that.
+    /// Whether no number of the objective's span at the last cell reaches the bar that the incumbent or the dive sets.
     pub(crate) fn is_cut(
         &self,
         alloc: Global,
@@ -58,7 +58,7 @@ impl<'a> Contest<'a> {
         }
     }
 
-    /// Whether none reaches the bar.
+    /// Whether no number of the objective's span at the last cell reaches this bar.
     fn is_cut_by(
         &self,
         alloc: Global,
@@ -75,7 +75,8 @@ impl<'a> Contest<'a> {
         tables.cut_at_end(alloc, self.objective, self.goal, cells, bar)
     }
 
-    /// The least cell below the last at which none reaches it.
+    /// The least cell below the last at which no number of the objective's span reaches the bar that the incumbent or
+    /// the dive sets.
     pub(crate) fn first_cut(
         &self,
         alloc: Global,
@@ -96,7 +97,7 @@ impl<'a> Contest<'a> {
         }
     }
 
-    /// The same for a bar.
+    /// The least cell below the last at which no number of the objective's span reaches this bar.
     fn first_cut_by(
         &self,
         alloc: Global,

@@ -20,8 +20,8 @@ use ts_domain::Boxed;
 use ts_filter::AllTables;
 use ts_frontier::{Form, form_of};
 
-/// The dive's series, where the one that is left meets. It ends early where a requirement is refuted on the way: no
-/// series that is left meets then.
+/// The dive's series, if the one that is left meets. It ends early where a requirement is refuted on the way: no series
+/// that is left meets then.
 pub(crate) fn dive(
     alloc: Global,
     contest: &Contest<'_>,
@@ -47,8 +47,8 @@ pub(crate) fn dive(
     series_left(alloc, contest, &cells)
 }
 
-/// Makes the possible drops, one after the other, and answers whether none is left. It stops before where a
-/// requirement is refuted at the last cell.
+/// Makes the possible drops, one after the other, and answers whether none is left. It stops early if a requirement is
+/// refuted at the last cell.
 fn settle(
     alloc: Global,
     problem: &Problem<'_>,
@@ -89,7 +89,7 @@ fn keep_one(
     Ok(())
 }
 
-/// The one series of the box, where it meets.
+/// The one series of the box, if it meets.
 fn series_left(
     alloc: Global,
     contest: &Contest<'_>,

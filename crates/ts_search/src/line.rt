@@ -16,7 +16,7 @@ use ts_domain::Boxed;
 use ts_filter::AllTables;
 use ts_frontier::{Halving, first_halving};
 
-/// The line of a box in the search for the best series, where this one was found before.
+/// The line of a box in the search for the best series, with the incumbent, if there is one.
 pub(crate) fn solve_line(
     alloc: Global,
     contest: &Contest<'_>,

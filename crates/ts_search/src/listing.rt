@@ -38,7 +38,7 @@ pub(crate) struct ListTree {
 }
 
 /// The certificate of the first `count` series, in lexicographic order, that meet a model, or of all where there are
-/// fewer; where `budget` lines don't suffice it has just so many, and the first series that were listed. `p` is the
+/// fewer; if `budget` lines don't suffice, it has exactly that many, and the first series that were listed. `p` is the
 /// program of `m`, which keeps the limits of its need.
 pub fn list(
     alloc: Global,
@@ -131,7 +131,7 @@ fn listed_now(
     }
 }
 
-/// The same for a line `yes`.
+/// The listed series after a line `yes`: that of the box comes last.
 fn list_only(alloc: Global, cells: &Boxed, listed: &mut Vec<Vec<i64>>) -> Result<(), Memory>
     ensures { OnOk result (map (λ x. x.items) listed.new.items
         ≡ listed_after (map (λ x. x.items) listed.old.items) (form cells.now.present) YesLine) }
@@ -160,7 +160,7 @@ fn certificate(count: u32, tree: ListTree) -> Result<Certificate, Memory>
     })
 }
 
-/// What is claimed where so many series are listed and so many boxes wait.
+/// What is claimed if `listed` series are listed and `waiting` boxes wait.
 fn claim(count: u32, listed: u32, waiting: u64) -> Claim
     ensures { (w : List Box) → length w ≡ waiting → result ≡ list_claim (nat_lt listed count) listed w }
 {

@@ -82,7 +82,7 @@ fn treat(
     follow(&mut tree.frontier, &line)
 }
 
-/// The found series after a line: the one series of a box that reaches more, where the line is `worse`.
+/// The incumbent after a line: after `worse`, the one series of the box if it reaches the bar.
 fn found_now(
     alloc: Global,
     contest: &Contest<'_>,
@@ -102,7 +102,7 @@ fn found_now(
     }
 }
 
-/// The same for a line `worse`.
+/// The incumbent after a line `worse`: the one series of the box if its value reaches the bar, else as before.
 fn found_at(
     alloc: Global,
     contest: &Contest<'_>,
