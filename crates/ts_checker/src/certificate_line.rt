@@ -12,14 +12,15 @@ use ts_base::limits::{CELL_VALUE, CELLS};
 use ts_base::{Memory, words_of};
 use ts_token::number;
 
-/// A longer line is against the grammar, or a series of more numbers than a model has cells.
+/// The most bytes of a line that are kept. A longer line is against the grammar, or a series of more numbers than a
+/// model has cells.
 const LONGEST: usize = 4_615;
 
 /// The most bytes of a number of a series.
 const LONGEST_NUMBER: usize = 8;
 
-/// What is kept of a line before its LF: all bytes, or, where the line is longer than each that may fit a model, few
-/// bytes that are judged as all are, whatever follows.
+/// What is kept of a line before its LF: all bytes, or, if the line is longer than any that may fit a model, a few
+/// bytes that are judged as all of them are, whatever follows.
 #[derive(Drop)]
 pub(crate) struct CertificateLine {
     pub alloc: Global,
@@ -49,7 +50,7 @@ impl CertificateLine {
         Ok(())
     }
 
-    /// The LF of the line.
+    /// Ends the line with its LF.
     pub(crate) fn end(&mut self) -> Result<(), Memory>
         ensures ok { OnOk result (self.new.bytes.items ≡ self.old.bytes.items ++ 10 ∷ []) }
         ensures err { OnErr result (self.new.bytes.items ≡ self.old.bytes.items) }
@@ -58,14 +59,14 @@ impl CertificateLine {
         Ok(())
     }
 
-    /// No byte was taken.
+    /// Whether no byte was taken.
     pub(crate) fn is_empty(&self) -> bool
         ensures { result ≡ (length self.now.bytes.items == 0) }
     {
         self.bytes.is_empty()
     }
 
-    /// The next line begins.
+    /// Begins the next line.
     pub(crate) fn clear(&mut self)
         ensures { self.new.bytes.items ≡ [] }
     {
@@ -73,8 +74,8 @@ impl CertificateLine {
     }
 }
 
-/// Few bytes in place of so many: the number at which a series goes on, behind more numbers than a model has cells; or
-/// a byte with which no line begins.
+/// A few bytes in place of a long line: the number at which a series goes on, after more numbers than a model has
+/// cells; or a byte with which no line begins.
 fn shortened(alloc: Global, line: &[u8]) -> Result<Vec<u8>, Memory>
     requires { 4615 < length line.now }
     ensures shortens { IfOk result (λ short. Shortens line.now short.items) }
@@ -94,7 +95,7 @@ fn shortened(alloc: Global, line: &[u8]) -> Result<Vec<u8>, Memory>
     }
 }
 
-/// A series line of so many zeros, and the space behind the last.
+/// A series line of `count` zeros, with the space after the last.
 fn zeros(alloc: Global, count: usize) -> Result<Vec<u8>, Memory>
     ensures { IfOk result (λ line. line.items ≡ series_of_zeros count) }
 {
@@ -106,7 +107,7 @@ fn zeros(alloc: Global, count: usize) -> Result<Vec<u8>, Memory>
     Ok(line)
 }
 
-/// The number of a series line at which it may go on; none where the line can't be a series any more.
+/// The number of a series line at which it may go on; none if the line can't be a series any more.
 fn open_number<'a>(line: &'a [u8]) -> Option<&'a [u8]>
     ensures { MatchOption result (open_number (words_of line.now) ≡ None)
         (λ word. open_number (words_of line.now) ≡ Some word.now) }

@@ -91,8 +91,8 @@ impl Checker {
         self.reader.next_line()
     }
 
-    /// Takes the next line, given with its LF, where fewer than 4,000,000,000 were fed so far. After `Memory` each
-    /// further line is answered `Memory`, and `broken_line` tells what it told before.
+    /// Takes the next line, given with its LF; fewer than 4,000,000,000 were fed so far. After `Memory` each further
+    /// line is answered `Memory`, and `broken_line` answers as before.
     pub fn feed_line(&mut self, line: &[u8]) -> Result<(), Memory>
         requires { self.old.reading.next ≤ too_many }
         ensures checked { OnOk result (Checks self.old line.now self.new) }

@@ -16,7 +16,7 @@ use ts_certificate::{Aim, Claim};
 use ts_compile::judge;
 use ts_model::Model;
 
-/// After `maximise` and `minimise` the model has an objective.
+/// Whether the aim fits the model: after `maximise` and `minimise` the model has an objective.
 pub(crate) fn aim_fits(model: &Model, aim: Aim) -> bool
     ensures { IsTrue result ↔ AimFits (model_parts model.now) aim }
 {
@@ -26,7 +26,7 @@ pub(crate) fn aim_fits(model: &Model, aim: Aim) -> bool
     }
 }
 
-/// The claim is one of its aim, and its count is what was asked for, or below.
+/// Whether the claim is one of its aim, and its count is what was requested, or below.
 pub(crate) fn claim_fits(aim: Aim, claim: Claim) -> bool
     ensures { IsTrue result ↔ ClaimFits aim claim }
 {
@@ -42,7 +42,7 @@ pub(crate) fn claim_fits(aim: Aim, claim: Claim) -> bool
     }
 }
 
-/// The series meets the model, and is as the claim says after those before.
+/// Whether the series meets the model, and is as the claim says after those before.
 pub(crate) fn series_fits(
     alloc: Global,
     model: &Model,
@@ -62,7 +62,7 @@ pub(crate) fn series_fits(
     Ok(judgement.meets() && is_as_claimed(model, claim, &judgement.values, before, series))
 }
 
-/// The series has the claimed objective, where these are the values of its terms, or comes after those before.
+/// Whether the series has the claimed objective, if these are the values of its terms, or comes after those before.
 fn is_as_claimed(
     model: &Model,
     claim: Claim,
@@ -118,7 +118,7 @@ fn is_before(earlier: &[i64], later: &[i64]) -> bool
     false
 }
 
-/// In a listing each series had its `yes`.
+/// Whether in a listing each series had its `yes`.
 pub(crate) fn all_told(aim: Aim, told: usize, listed: usize) -> bool
     ensures { IsTrue result ↔ AllTold aim told listed }
 {

@@ -18,7 +18,7 @@ use ts_model::{ModelText, Need};
 pub(crate) enum Input {
     /// Its model hasn't ended.
     InModel(ModelText),
-    /// What stands behind the model.
+    /// The part after the model.
     Behind(OpenedModel),
 }
 
@@ -30,7 +30,7 @@ impl Input {
         Input::InModel(ModelText::new(alloc, Need::List))
     }
 
-    /// Takes these bytes; behind a refusal it wants no memory.
+    /// Takes these bytes; after a refusal it needs no memory.
     pub(crate) fn feed(&mut self, alloc: Global, piece: &[u8]) -> Result<(), Memory>
         requires { HasRoomFor self.old (length piece.now) }
         ensures taken { OnOk result (TakesBytes self.old piece.now self.new) }
@@ -55,7 +55,7 @@ impl Input {
         }
     }
 
-    /// The end of the input, behind bytes that may be a last line without an LF.
+    /// The end of the input, whose last line may have no LF.
     pub(crate) fn finish(self, alloc: Global) -> Result<VerifyEnd, Memory>
         requires { HasRoomFor self 0 }
         ensures { IfOk result (λ end. (bytes : List ℕ) → HasTaken bytes self → IsVerifyEnd bytes end) }
@@ -81,7 +81,7 @@ impl Input {
         if ended { self.end_model(alloc) } else { Ok(()) }
     }
 
-    /// The model's line `%%` has come: what the model gives stands in its place.
+    /// The line `%%` after the model has come: the refusal of the model, or a checker for it, takes its place.
     fn end_model(&mut self, alloc: Global) -> Result<(), Memory>
         requires { (bytes : List ℕ) × EndsIn bytes self.old }
         ensures { OnOk result ((bytes : List ℕ) → EndsIn bytes self.old → HasTaken bytes self.new) }
@@ -95,7 +95,7 @@ impl Input {
     }
 }
 
-/// What a model gives whose text has ended with the input.
+/// The refusal of a model whose text ended with the input, or a checker for it.
 fn ended(alloc: Global, text: ModelText) -> Result<OpenedModel, Memory>
     requires need { text.need ≡ Listed }
     requires few { (bytes : List ℕ) × IsInModel bytes text × (length bytes < too_many) }

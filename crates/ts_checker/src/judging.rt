@@ -75,7 +75,7 @@ impl Judging {
         }
     }
 
-    /// The verdict behind the last byte. A last line without an LF is none of a certificate, whatever it says.
+    /// The verdict after the last byte. A last line without an LF is none of a certificate, whatever it says.
     pub(crate) fn finish(self) -> Result<Verdict, Memory>
         requires calm { self.checker.wanting ≡ false }
         requires few { (bytes : List ℕ) × HasRead bytes self × (length bytes + 0 < too_many) }
@@ -91,7 +91,7 @@ impl Judging {
 }
 
 impl Judging {
-    /// The line has its LF.
+    /// Ends the line, and has it judged.
     fn end_line(&mut self) -> Result<(), Memory>
         requires { self.old.checker.reading.next ≤ too_many }
         ensures judged { OnOk result (JudgesLine self.old self.new) }

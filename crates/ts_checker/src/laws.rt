@@ -12,13 +12,12 @@ pub fn one_verdict()
     ensures { OneVerdict }
 {}
 
-/// Whoever tells the end of the same bytes, fewer than 2^62, tells the same: the definition leaves nothing open.
+/// The end of an input of fewer than 2^62 bytes is determined by its bytes: the definition leaves nothing open.
 pub fn one_end()
     ensures { OneEnd }
 {}
 
-/// Whoever tells the first failing line of the same bytes, fewer than 2^62, tells the same line, or that none has
-/// failed.
+/// The first failing line of an input of fewer than 2^62 bytes, or that none has failed, is determined by its bytes.
 pub fn one_failed()
     ensures { OneFailed }
 {}

@@ -2,9 +2,9 @@
 //!
 //! A [`Checker`] is fed the lines of a certificate one by one and keeps none of them. It keeps the boxes that wait for
 //! their line, on one trail, so that a box costs what differs from the one before and never a copy of all domains; and
-//! rows of hulls, of which a line makes anew those that its box changes.
+//! rows of hulls, of which a line rebuilds those that its box changes.
 //!
-//! A [`Verifier`] is fed the whole input of `verify`, a model and behind a line `%%` its certificate, in pieces that
+//! A [`Verifier`] is fed the whole input of `verify`, a model and, after a line `%%`, its certificate, in pieces that
 //! may be cut anywhere. It ends with the refusal of the model or with the checker's verdict, by all bytes together.
 //!
 //! The layer above may rely on this. The verdict is exactly that of the definitions: refused at the first line against

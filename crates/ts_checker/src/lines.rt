@@ -22,7 +22,7 @@ use ts_certificate::{Claim, Parsed, TreeLine};
 use ts_filter::AllTables;
 use ts_model::Model;
 
-/// Whether the line keeps its rule; where it does, it may be taken. The next box that waits is then the present one.
+/// Whether the line keeps its rule; if so, it may be taken. The next box that waits is then the present one.
 pub(crate) fn keeps_line(
     alloc: Global,
     model: &Model,
@@ -49,7 +49,7 @@ pub(crate) fn keeps_line(
     }
 }
 
-/// Whether there is an aim, and the claim is one of it.
+/// Whether there is an aim, and the claim fits it.
 fn keeps_claim(standing: &Standing, claim: Claim) -> bool
     ensures { IsTrue result ↔ MatchOption standing.now.aim ⊥ (λ aim. ClaimFits aim claim) }
 {

@@ -1,4 +1,4 @@
-//! What the model in an input of `verify` gives, once its text has ended.
+//! The refusal of the model in an input of `verify`, or a checker for it, once its text has ended.
 
 ghost use Rattle.std.specs.Prelude.{ℕ, List, length, Err, IfOk, OnErr, OnOk};
 ghost use Rattle.ts_model.specs.ModelReading.{model_reading};
@@ -21,7 +21,7 @@ pub(crate) enum OpenedModel {
 }
 
 impl OpenedModel {
-    /// What a text gives that was read as this.
+    /// The refusal of the model that was read, or a checker for it.
     pub(crate) fn of(alloc: Global, read: Result<Model, ModelStop>) -> Result<OpenedModel, Memory>
         requires { (text : List ℕ) × Reads read (model_reading Listed text) }
         ensures { IfOk result (λ o. (text : List ℕ) → Reads read (model_reading Listed text) → IsOpened text o) }
@@ -32,7 +32,7 @@ impl OpenedModel {
         }
     }
 
-    /// Takes bytes of one line of the certificate, whose last may be its LF; a refusal stays, and wants no memory.
+    /// Takes bytes of one line of the certificate, whose last may be its LF; a refusal stays, and needs no memory.
     pub(crate) fn feed(&mut self, part: &[u8]) -> Result<(), Memory>
         requires part { IsPart part.now }
         requires calm { IsCalm self.old }
@@ -71,7 +71,7 @@ impl OpenedModel {
     }
 }
 
-/// The refusal of a model, unless memory was wanting.
+/// The refusal of a model, unless memory was missing.
 fn refused(stop: ModelStop) -> Result<OpenedModel, Memory>
     ensures { IfOk result (λ o. (text : List ℕ) → Reads (Err stop) (model_reading Listed text) → IsOpened text o) }
 {

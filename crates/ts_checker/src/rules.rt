@@ -19,7 +19,7 @@ use ts_domain::{Boxed, Domain};
 use ts_filter::AllTables;
 use ts_model::Model;
 
-/// Whether the line keeps its rule on the box; where it does, it may be followed there.
+/// Whether the line keeps its rule on the box; if so, it may be followed there.
 pub(crate) fn keeps_rule(
     alloc: Global,
     model: &Model,

@@ -37,7 +37,7 @@ impl Standing {
         }
     }
 
-    /// Where a line that keeps its rule leads.
+    /// Takes a line that keeps its rule: what it says, and what it does to the waiting boxes.
     pub(crate) fn take(&mut self, line: Parsed) -> Result<(), Memory>
         requires { MayTake self.old line }
         ensures ok { OnOk result (stand_of self.new ≡ stand_after (stand_of self.old) (line_seen line)) }
@@ -53,7 +53,7 @@ impl Standing {
         Ok(())
     }
 
-    /// Nothing waits any more.
+    /// Removes all boxes that wait.
     pub(crate) fn clear(&mut self)
         ensures { stand_of self.new ≡ without_boxes (stand_of self.old) }
     {
@@ -62,7 +62,7 @@ impl Standing {
 }
 
 impl Standing {
-    /// The present box gives way to the boxes that the line makes.
+    /// Replaces the present box by the boxes that the line makes of it.
     fn step(&mut self, line: TreeLine) -> Result<(), Memory>
         requires { MayStep self.old line }
         ensures ok { OnOk result (stand_of self.new ≡ stand_after (stand_of self.old) (SaysTree line)) }

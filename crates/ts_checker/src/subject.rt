@@ -1,4 +1,4 @@
-//! What the rules of lines are asked of.
+//! What the rules of lines depend on.
 
 ghost use Rattle.std.specs.Prelude.{◌≡◌, ◌↔◌, ◌<◌, IsTrue, MatchOption, length};
 ghost use Rattle.ts_bound.specs.TermSpans.{IsUsable};

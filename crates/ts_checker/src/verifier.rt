@@ -13,7 +13,7 @@ use ts_base::Memory;
 /// Takes a model, a line `%%` and a certificate, in pieces that may be cut anywhere; what it answers depends on all
 /// bytes together. Of the model it keeps what its whole lines state, from the first bad one on the refusal alone, and
 /// of its unfinished line what a `ShortLine` keeps; then of the unfinished line of the certificate at most 4,615 bytes
-/// and a piece. Contracts see what is kept, and whether memory was wanting.
+/// and a piece. Contracts see what is kept, and whether memory was missing.
 #[derive(Drop)]
 pub struct Verifier {
     alloc: Global,
@@ -58,7 +58,7 @@ impl Verifier {
     }
 
     /// Takes more bytes, all together fewer than 4,000,000,000. After `Memory` each further piece is answered `Memory`,
-    /// and so is the end. Behind a refusal nothing more is kept, so `Memory` doesn't come.
+    /// and so is the end. After a refusal nothing more is kept, so `Memory` doesn't come.
     pub fn feed(&mut self, piece: &[u8]) -> Result<(), Memory>
         requires { self.old.count + length piece.now < too_many }
         ensures fed { OnOk result ((bytes : List ℕ) → HasFed bytes self.old → HasFed (bytes ++ piece.now) self.new) }
@@ -89,7 +89,7 @@ impl Verifier {
         self.input.failed()
     }
 
-    /// The refusal of the model, or the verdict on the certificate behind it. What is accepted is true of the model.
+    /// The refusal of the model, or the verdict on the certificate after it. What is accepted is true of the model.
     pub fn finish(self) -> Result<VerifyEnd, Memory>
         ensures end { IfOk result (λ end. (bytes : List ℕ) → HasFed bytes self → IsVerifyEnd bytes end) }
         ensures calm { IfOk result (λ end. self.wanting ≡ false) }
