@@ -26,7 +26,7 @@ Responds Is faults faults_after before after status =
     ((faults_after ≡ faults) × EndsWith Is before after status)
     ⊎ (Rose faults faults_after × EndsWith (λ r. r ≡ fault_read) before after status)
 
--- what is so of the bytes that were left, or of some bytes where they aren't told
+-- what holds of the bytes that were left, or of some bytes if the source doesn't say which
 abbrev pub OfBytes : Option (List ℕ) → (List ℕ → Type 0) → Type 0
 OfBytes None Is = (bytes : List ℕ) × Is bytes
 OfBytes (Some bytes) Is = Is bytes
@@ -117,8 +117,8 @@ sink_tells taken faults is_broken is_finished finishes = record {
   finishes = finishes;
 }
 
--- what a call without memory leaves of its sink: nothing was written, or of a stream what its end tells; then nothing
--- was finished, and no fault was counted
+-- what a call that ran out of memory leaves of its sink: nothing was written, or of a stream what `LiveEnds` says; then
+-- nothing was finished, and no fault was counted
 abbrev pub InputSpares : Input → {K : Type 0} → SinkTells K → K → K → Type 0
 InputSpares (Whole limit) k old new = new ≡ old
 InputSpares (Live limit) k old new = (k.faults new ≡ k.faults old) × (k.finishes new ≡ k.finishes old)
@@ -129,9 +129,9 @@ abbrev pub CallSpares : Option Command → {K : Type 0} → SinkTells K → K �
 CallSpares None k old new = ⊥
 CallSpares (Some command) k old new = InputSpares (input_of command) k old new
 
--- all that is promised of a call with these words: the sink took the answer of the theorem, or a fault or want of
--- memory is told; no more was read than that asked for; a fault is told only where one was counted; and without memory,
--- which no refusal of the words is for want of, nothing was written, or the first lines of a stream's answer
+-- all that is promised of a call with these words: the sink took the answer of the theorem, or a fault or running out
+-- of memory is reported; no more was read than that needs; a fault is reported only if one was counted; and if memory
+-- ran out, which never keeps bad words from being refused, nothing was written, or the first lines of a stream's answer
 pub record RunEnds {S K : Type 0} (s : SourceTells S) (k : SinkTells K) (given : Option Command) (source source_now : S)
     (sink sink_now : K) (status : Status) : Type 0 where
   pub answers : CallEnds given (s.left source) (s.left source_now) (s.faults source) (s.faults source_now)

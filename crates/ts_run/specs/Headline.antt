@@ -1,6 +1,6 @@
 -- The theorem: what each command answers to the bytes of its input. `run` writes such an answer and no other
--- (`Endings`), unless memory is wanting, or reading or writing fails. The words mean what their definitions say: a
--- series meets a model (`Meets`) by occurrences, ranges and plain sums alone.
+-- (`Endings`), unless memory runs out, or reading or writing fails. The words mean what their definitions say: a series
+-- meets a model (`Meets`) by occurrences, ranges and plain sums alone.
 use Rattle.std.specs.Prelude.{ℕ, ◌≡◌, ◌<◌, ◌≤◌, ◌+◌, ◌*◌, ◌↔◌, ℤ, List, [], ◌∷◌, length, Option, Some, None, Result, Ok, Err, ◌++◌, IsSome, true, false}
 use Rattle.ts_base.specs.declared.ext.Ext.{Ext}
 use Rattle.ts_base.specs.declared.letter.Letter.{Letter}
@@ -67,7 +67,7 @@ reading_of Watch bytes = Some (model_reading Values (model_part bytes))
 abbrev pub States : Command → List ℕ → ModelParts → Type 0
 States command bytes m = reading_of command bytes ≡ Some (Ok m)
 
--- `meets` is said of a series exactly where it meets the model, else `fails`; the value of each term is said too
+-- the answer is `meets` exactly where the series meets the model, else `fails`; it has the value of each term
 pub record SaysMeets (m : ModelParts) (xs : List ℤ) (answer : Reply) : Type 0 where
   pub text : answer ≡ verdict m xs
   pub meets : (answer.status ≡ Done) ↔ Meets m xs
@@ -79,9 +79,9 @@ pub record SaysProgram (m : ModelParts) (answer : Reply) : Type 0 where
   pub compiled : IsCompiled m answer.text
   pub done : answer.status ≡ Done
 
--- a certificate, the only one of its kind, with the status of its claim: `verify` accepts it behind its model, and what
--- it claims is true. The budget is said to be spent only where just so many lines were checked and a box is open, and
--- never of a model with S series where it has 2·S - 1 lines.
+-- a certificate, the only one of its kind, with the status of its claim: `verify` accepts it after its model, and what
+-- it claims is true. It claims that the budget was spent only if exactly that many lines were checked and a box is
+-- open, and never if the budget is at least 2·S - 1 for a model with S series.
 pub record SaysCertificate (Is : Cert → Type 0) (lines : ℕ) (m : ModelParts) (bytes : List ℕ)
     (answer : Reply) : Type 0 where
   pub certificate : Cert
@@ -92,14 +92,15 @@ pub record SaysCertificate (Is : Cert → Type 0) (lines : ℕ) (m : ModelParts)
   pub enough : 2 * series_count m.cells ≤ lines + 1 → answer.status ≡ Budget → ⊥
   pub verified : GoesToVerify m bytes certificate
 
--- `best` is said of the first, in lexicographic order, of the best series that meet; `infeasible` where none meets
+-- `best` has the first, in lexicographic order, of the best series that meet; `infeasible` is claimed only if none
+-- meets
 pub record SaysBest (goal : Goal) (lines : ℕ) (m : ModelParts) (bytes : List ℕ) (answer : Reply) : Type 0 where
   pub says : SaysCertificate (IsSolution m (spans_in m) goal lines) lines m bytes answer
   pub best : (v : Ext) → says.certificate.claim ≡ BestIs v →
       (x : List ℤ) × (says.certificate.series ≡ x ∷ []) × FirstBest m goal x × (objective_of m x ≡ Some v)
   pub infeasible : says.certificate.claim ≡ Infeasible → (x : List ℤ) → Meets m x → ⊥
 
--- the series of a listing are the first that meet, in order; `all` is said where no other one meets
+-- the series of a listing are the first that meet, in order; `all` is claimed only if no other one meets
 pub record SaysList (count lines : ℕ) (m : ModelParts) (bytes : List ℕ) (answer : Reply) : Type 0 where
   pub says : SaysCertificate (IsListAnswer m (spans_in m) count lines) lines m bytes answer
   pub first : AreFirst m says.certificate.series
@@ -114,8 +115,9 @@ pub record IsShown (bytes : List ℕ) : Type 0 where
   pub accepted : Accepts model (spans_in model) certificate
   pub holds : Holds model certificate
 
--- `accepted` is said of a certificate exactly where each line keeps its rule, and only of what is true; else the first
--- line that breaks its rule is named; and of lines that are no certificate, the first that is against the grammar
+-- the answer is `accepted` exactly where each line of the certificate keeps its rule, and then its claim is true;
+-- otherwise the first line that breaks its rule is named; of lines that are no certificate, the first against the
+-- grammar
 pub record SaysVerdict (bytes : List ℕ) (answer : Reply) : Type 0 where
   pub shown : answer.status ≡ Done → IsShown bytes
   pub exact : (m : ModelParts) (c : Cert) → IsOffered bytes m c → (answer.status ≡ Done) ↔ Accepts m (spans_in m) c
@@ -124,7 +126,7 @@ pub record SaysVerdict (bytes : List ℕ) (answer : Reply) : Type 0 where
   pub refuses : (m : ModelParts) (line : ℕ) → States Verify bytes m → IsRefusedAt (certificate_lines bytes) line →
       answer ≡ refused_certificate line
 
--- of a model that was made, minimised and checked; that the lines ran out isn't said where 2·S - 1 are enough
+-- the model of `sample`, minimised and checked; the budget isn't reported as spent if it is at least 2·S - 1
 pub record SaysSample (cells : ℕ) (answer : Reply) : Type 0 where
   pub is : SampleReply cells answer
   pub enough : 2 * series_count (sample_stated cells).cells ≤ usual_lines + 1 → answer.status ≡ Budget → ⊥
@@ -139,8 +141,8 @@ pub record SaysOccurrences (d : Described) (xs : List ℤ) (answer : Reply) : Ty
   pub done : answer.status ≡ Done
 
 -- a pattern text is refused at its first bad line with the first reason; what it describes, by the first signature on
--- whose last letter a check fails, or where more than 512 configurations are reached before; the series behind it, by
--- the first reason; and else the occurrences are told
+-- whose last letter a check fails, or if more than 512 configurations are reached before; the series after it, by the
+-- first reason; otherwise the occurrences are reported
 pub record SaysMarks (bytes : List ℕ) (answer : Reply) : Type 0 where
   pub pattern : (line : ℕ) (kind : UserKind) → pattern_reading (model_part bytes) ≡ Err (line, kind) →
       answer ≡ refused_pattern line kind
@@ -159,12 +161,12 @@ pub record SaysValues (m : ModelParts) (text : List ℕ) (answer : Reply) : Type
   pub done : (answer.status ≡ Done) ↔ ((readings_of text).bad ≡ None)
   pub refused : (answer.status ≡ Refused) ↔ IsSome (readings_of text).bad
 
--- a window is refused, since all readings are asked for; without one the values are said
+-- a window is refused, since a term has to look at all readings; without one the values are reported
 pub record SaysWatched (m : ModelParts) (text : List ℕ) (answer : Reply) : Type 0 where
   pub window : has_window m ≡ true → answer ≡ refused_window
   pub values : has_window m ≡ false → SaysValues m text answer
 
--- The theorem, by the rows of the table of promises: each says what is answered to an input of a command.
+-- The theorem, by the rows of the table of promises: each field says what a command answers to an input.
 pub record Headline (command : Command) (bytes : List ℕ) (answer : Reply) : Type 0 where
   -- a text is read as its lines state, or refused at its first bad line with the first reason
   pub refuses : (line : ℕ) (kind : ModelKind) → reading_of command bytes ≡ Some (Err (line, kind)) →
@@ -173,7 +175,7 @@ pub record Headline (command : Command) (bytes : List ℕ) (answer : Reply) : Ty
   -- term
   pub checks : (m : ModelParts) → command ≡ Check → States command bytes m →
       OnSeries (series_in m (rest_part bytes)) (SaysMeets m) answer
-  -- `maximise` and `minimise`: the first best series, or that there is none, or that so many lines were spent
+  -- `maximise` and `minimise`: the first best series, or that there is none, or that the budget was spent
   pub solves : (goal : Goal) (lines : ℕ) (m : ModelParts) → command ≡ Best goal lines → States command bytes m →
       SaysBest goal lines m bytes answer
   -- `generate`: the first series that meet
@@ -185,9 +187,9 @@ pub record Headline (command : Command) (bytes : List ℕ) (answer : Reply) : Ty
   pub compiles : (m : ModelParts) → command ≡ Compile → States command bytes m → SaysProgram m answer
   -- `sample` solves and checks a model of its own
   pub samples : (cells : ℕ) → command ≡ Sample cells → SaysSample cells answer
-  -- `mark` tells the occurrences of a pattern of the user's own
+  -- `mark` reports the occurrences of a pattern, one of the catalogue or the user's own
   pub marks : command ≡ Mark → SaysMarks bytes answer
-  -- `watch` says the values of the terms on each prefix of the readings, and refuses a window
+  -- `watch` reports the values of the terms on each prefix of the readings, and refuses a window
   pub watches : (m : ModelParts) → command ≡ Watch → States command bytes m → SaysWatched m (rest_part bytes) answer
   -- and the answer is one that the definitions give for the bytes
   pub reply : IsReply command bytes answer
