@@ -1,52 +1,24 @@
--- Spans that are taken in as far as what is asked needs: the hull of the first of them lies in that of all.
-use Rattle.std.proofs.Common.{◌≡◌, ◌↔◌, Bool, true, false, ℕ, zero, suc, ◌+◌, ◌-◌, ◌≤◌, ℤ, List, [], ◌∷◌, sym, ap, subst, ◌∙◌, arith}
-use Rattle.std.specs.Prelude.{fold, None, Some}
+-- What a pair of states tells of the whole span at a value: the pair's span lies in it.
+use Rattle.std.proofs.Common.{◌≡◌, ◌↔◌, ◌⊎◌, Bool, true, false, ℕ, zero, suc, ◌+◌, ◌-◌, ◌<◌, ◌≤◌, ℤ, List, [], ◌∷◌, get_or, length, inl, inr, refl, sym, ap, subst, ◌∙◌, arith}
+use Rattle.std.specs.Prelude.{fold, not, IsTrue, None, Some}
+use Rattle.std.proofs.lemmas.List.{get_or_default}
 use Rattle.ts_base.specs.declared.span.Span.{Span}
 use Rattle.ts_base.specs.SpanLayer.{IsWithin}
-use Rattle.ts_base.specs.Spans.{span_hull}
-use Rattle.ts_base.proofs.SpanLaws.{hull_left, hull_right, hull_least}
+use Rattle.ts_base.specs.Spans.{none_span, span_hull}
+use Rattle.ts_base.proofs.SpanLaws.{hull_left, hull_right}
 use Rattle.ts_automaton.specs.AutomatonRun.{Standing}
 use Rattle.ts_glue.specs.Glued.{glued_span}
 use Rattle.ts_glue.specs.Pairs.{Pair}
-use Rattle.ts_sweep.specs.declared.packed.Ends.{Ends}
+use Rattle.ts_row.specs.Rows.{nothing}
 use Rattle.ts_sweep.specs.declared.packed.PackedHull.{PackedHull}
-use Rattle.ts_meet.specs.Asked.{IsAnswer, IsTaken}
-use Rattle.ts_meet.specs.Meets.{spans_between, spans_with, standing_in}
-use Rattle.ts_meet.specs.Sides.{StandFor}
+use Rattle.ts_meet.specs.Asked.{IsAnswer}
+use Rattle.ts_meet.specs.Meets.{hull_of_spans, spans_between, spans_with, standing_in}
+use Rattle.ts_meet.specs.Settled.{Between, IsSettledBySome}
 use Rattle.ts_meet.proofs.Meeting.{between_more, with_more}
-
-hull_within : (s a b : Span) → IsWithin a b → IsWithin (span_hull s a) (span_hull s b)
-hull_within s a b w = hull_least s a (span_hull s b) (hull_left s b) (λ e h. hull_right s b e (w e h))
 
 fold_within : (ss : List Span) (s : Span) → IsWithin s (fold span_hull s ss)
 fold_within [] s e h = h
 fold_within (t ∷ ss) s e h = fold_within ss (span_hull s t) e (hull_left s t e h)
-
--- where the first of some rising parts have what is asked, all have
-module _ (Excluded : Span → Type 0) (part : (s t : Span) → IsWithin s t → Excluded t → Excluded s) (so_far : Span) where
-  pub stops : (a b : Span) → IsWithin a b → IsTaken Excluded so_far a None → IsTaken Excluded so_far b None
-  stops a b w stop none = stop (part (span_hull so_far a) (span_hull so_far b) (hull_within so_far a b w) none)
-
-  -- parts that change nothing
-  pub still_taken : (a : Ends) (s t : Span) → t ≡ s → StandFor a s → Excluded (span_hull so_far s) → IsTaken Excluded so_far t (Some a)
-  still_taken a s t e stands known = (subst (StandFor a) (sym e) stands, subst (λ z. Excluded (span_hull so_far z)) (sym e) known)
-
-  -- one part more, by what is told of the hull
-  pub taken_told : (a : Ends) (t span both : Span) (told : Bool) → StandFor a t → span ≡ t → both ≡ span_hull so_far span → (told ≡ true) ↔ Excluded both →
-      (told ≡ true → IsTaken Excluded so_far t (Some a)) × (told ≡ false → IsTaken Excluded so_far t None)
-  taken_told a t span both told stands is whole tells =
-      let e : both ≡ span_hull so_far t = whole ∙ ap (span_hull so_far) is in (
-        λ so. (stands, subst Excluded e (tells.0 so)),
-        λ isnt none. clash (sym (tells.1 (subst Excluded (sym e) none)) ∙ isnt),
-      )
-    where
-      clash : true ≡ false → ⊥
-      clash e = cc
-
-  -- all parts
-  pub whole_is : (a : Ends) (t span both : Span) → IsTaken Excluded so_far t (Some a) → ((s : Span) → StandFor a s → span ≡ s) → both ≡ span_hull so_far span →
-      IsAnswer Excluded (span_hull so_far t) (Some both)
-  whole_is a t span both h tells is = (is ∙ ap (span_hull so_far) (tells t h.0), h.1)
 
 rising : (f : ℕ → Span) → ((k : ℕ) → IsWithin (f k) (f (k + 1))) → (k d : ℕ) → IsWithin (f k) (f (k + d))
 rising f h k zero = subst (λ m. IsWithin (f k) (f m)) (let e : k ≡ k + 0 = omega arith in e) (λ e i. i)
@@ -71,3 +43,70 @@ between_rises n p left right i x cells states s k m le =
     up_to f
     (λ j. subst (IsWithin (f j)) (sym (between_more n p left right i x cells states j s))
     (fold_within (spans_with n p (standing_in n left j i) right i x cells states) (f j))) k m le
+
+-- the span of a pair of states lies in the whole
+pair_within : (n : ℕ) (p : Pair) (left right : List (List (PackedHull n))) (i : ℕ) (x : ℤ) (cells states k q r : ℕ) → q < k → r < states →
+    IsWithin (glued_span p (standing_in n left q i) (standing_in n right r i) x cells) (hull_of_spans (spans_between n p left right i x cells states k))
+pair_within n p left right i x cells states k q r lq lr =
+    let here = standing_in n left q i in
+    let pair = glued_span p here (standing_in n right r i) x cells in
+    let before = hull_of_spans (spans_between n p left right i x cells states q) in
+    let with : ℕ → Span = λ m. fold span_hull before (spans_with n p here right i x cells m) in
+    let first : IsWithin pair (with (r + 1)) =
+    subst (IsWithin pair) (sym (with_more n p here right i x cells r before)) (hull_right (with r) pair) in
+    let all : IsWithin (with states) (hull_of_spans (spans_between n p left right i x cells states (q + 1))) =
+    subst (IsWithin (with states)) (sym (between_more n p left right i x cells states q none_span)) (λ e h. h) in
+    λ e h. between_rises n p left right i x cells states none_span (q + 1) k (omega (arith, lq)) e
+    (all e (with_rises n p here right i x cells before (r + 1) states (omega (arith, lr)) e (first e h)))
+
+-- what no part of a span has, the span doesn't have
+pub never_whole : (Excluded : Span → Type 0) (part : (s t : Span) → IsWithin s t → Excluded t → Excluded s) (n : ℕ) (p : Pair)
+    (left right : List (List (PackedHull n))) (i cells k q : ℕ) → q < k → IsSettledBySome n Excluded p q (get_or left q []) right cells i → (x : ℤ) →
+    Excluded (hull_of_spans (spans_between n p left right i x cells (length p.reverse.states) k)) → ⊥
+never_whole Excluded part n p left right i cells k q lq told x whole =
+    told.2 x (part _ _ (pair_within n p left right i x cells (length p.reverse.states) k q told.0 lq told.1) whole)
+
+clash : true ≡ false → ⊥
+clash e = cc
+
+pub denied : (b : Bool) → IsTrue (not b) → b ≡ false
+denied true h = absurd (clash (sym h))
+denied false h = refl
+
+-- by what is told of a span
+pub not_told : (Excluded : Span → Type 0) (told : Bool) (span part : Span) → span ≡ part → (told ≡ true) ↔ Excluded span → told ≡ false → Excluded part → ⊥
+not_told Excluded told span part is tells isnt none = clash (sym (tells.1 (subst Excluded (sym is) none)) ∙ isnt)
+
+-- the whole, by what is told of it
+pub answered : (Excluded : Span → Type 0) (told : Bool) (span both whole so_far : Span) → span ≡ whole → both ≡ span_hull so_far span →
+    (told ≡ true) ↔ Excluded both → (told ≡ true → IsAnswer Excluded (span_hull so_far whole) (Some both)) ×
+    (told ≡ false → IsAnswer Excluded (span_hull so_far whole) None)
+answered Excluded told span both whole so_far is joined tells =
+    let e : both ≡ span_hull so_far whole = joined ∙ ap (span_hull so_far) is in (
+      λ so. (e, subst Excluded e (tells.0 so)),
+      λ isnt. not_told Excluded told both (span_hull so_far whole) e tells isnt,
+    )
+
+-- places that are so, and some more
+
+below_or_not : (a b : ℕ) → (a < b) ⊎ (b ≤ a)
+below_or_not a b = grind arith
+
+pub none_between : (Is : ℕ → Type 0) (a : ℕ) → Between a a Is
+none_between Is a i from to = absurd (omega (arith, from, to))
+
+pub and_between : (Is : ℕ → Type 0) (a b c : ℕ) → Between a b Is → Between b c Is → Between a c Is
+and_between Is a b c first second i from to = elim (below_or_not i b) [
+  | inl below ↦ first i from below
+  | inr above ↦ second i above to
+]
+
+pub one_more : (Is : ℕ → Type 0) (a b : ℕ) → Between a b Is → Is b → Between a (b + 1) Is
+one_more Is a b before last i from to = elim (below_or_not i b) [
+  | inl below ↦ before i from below
+  | inr above ↦ subst Is (let e : b ≡ i = omega (arith, above, to) in e) last
+]
+
+-- the hull that was read at a place
+pub read_there : (n : ℕ) (hulls : List (PackedHull n)) (i : ℕ) (h : PackedHull n) → h ≡ get_or hulls i h → i < length hulls → h ≡ get_or hulls i (nothing n)
+read_there n hulls i h is inside = is ∙ get_or_default hulls i h (nothing n) inside

@@ -13,7 +13,7 @@ use Rattle.ts_glue.specs.Pairs.{Pair}
 use Rattle.ts_row.specs.Rows.{hull_in}
 use Rattle.ts_sweep.specs.declared.packed.PackedHull.{PackedHull}
 use Rattle.ts_meet.specs.Meets.{finishes_in, spans_between, spans_with, standing, standing_in}
-pub use Rattle.ts_meet.proofs.Meeting.{row_place}
+pub use Rattle.ts_meet.proofs.Meeting.{row_place, row_places}
 
 same_cons : {A : Type 0} (x y : A) (xs ys : List A) → x ≡ y → xs ≡ ys → (x ∷ xs) ≡ (y ∷ ys)
 same_cons x y xs ys e f = ap (λ z. z ∷ xs) e ∙ ap (λ zs. y ∷ zs) f

@@ -404,3 +404,13 @@ gluing_is p q r x g e1 e2 e3 e4 e5 e6 e7 e8 =
 
     expression_is : (g : Gluing) → expression g ≡ expression_of g.result g.fold g.wide g.joins g.trims g.held_left g.held_right g.worth
     expression_is g = ap (λ z. cond g.joins (join_of g.result z) (apart g.wide g.result)) (by_width g g.wide)
+
+-- between states from the one of which no occurrence goes on to the other the value isn't in it
+pub apart_is : (p : Pair) (q r : ℕ) (x : ℤ) (g : Gluing) → g.result ≡ result_op p → g.wide ≡ is_wide p → g.joins ≡ false → is_join p.table q r ≡ false →
+    expression g ≡ glue_of p q r x
+apart_is p q r x g e1 e2 e3 none =
+    let l = (node_at p.forward.states q).held in let h = (node_at p.reverse.states r).held in
+    let joined = join_of (result_op p) (fold_of (is_wide p) (fold_op p.table.op) (part_of p.table.a l h (worth p.table.unit x))) in
+    ap (λ z. cond z (join_of g.result (fold_of g.wide g.fold (part_by g))) (apart g.wide g.result)) e3
+    ∙ ap (λ z. apart g.wide z) e1 ∙ ap (λ z. apart z (result_op p)) e2
+    ∙ sym (ap (λ z. cond z joined (apart (is_wide p) (result_op p))) none)

@@ -38,6 +38,7 @@ use Rattle.ts_sweep.proofs.PairSteps.{nothing_lanes}
 use Rattle.ts_meet.specs.Joints.{AreJoints}
 use Rattle.ts_meet.specs.declared.joints.Joints.{Joints}
 use Rattle.ts_meet.specs.Meets.{HasPlace, finishes_in, spans_between, spans_with, standing, standing_in}
+use Rattle.ts_meet.specs.Settled.{HavePlaces}
 use Rattle.ts_meet.specs.Sides.{AreSomeEnds, ArePackOf, StandFor, side_of}
 use Rattle.ts_meet.proofs.Marks.{with_nothing}
 
@@ -108,7 +109,20 @@ module _ (p : Pair) (q r : ℕ) (regs others : EachOf Span) (x : ℤ) (cells : �
       (some_both (has_registers regs) (has_registers others) h k)
       ∙ ap (marked_span p.forward.mark cells) (sym (value_sealed (glue_of p q r x) regs others))
 
--- the glued ends of a pair of states are taken in
+-- the glued ends of a pair of states stand for its span
+pub pair_packs : (p : Pair) (j : Joints) (q r : ℕ) (a b : EachOf Ends) (regs others : EachOf Span) (x : ℤ) (cells : ℕ) (u : Glue) (e m : Ends) →
+    AreJoints p j → ArePackOf a regs → ArePackOf b others → u ≡ glue_of p q r x →
+    ((s t : EachOf Span) → ArePackOf a s → ArePackOf b t → IsPackOf e (glue_in sealed_spans s t u)) →
+    ((t : Span) → IsPackOf e t → IsPackOf m (marked_span j.mark cells t)) →
+    IsPackOf m (glued_span p (standing q regs) (standing r others) x cells)
+pair_packs p j q r a b regs others x cells u e m h pa pb is glued marked =
+    let value = glue_in sealed_spans regs others u in
+    subst (IsPackOf m)
+    (ap (λ k. marked_span k cells value) h.mark ∙ ap (λ v. marked_span p.forward.mark cells (glue_in sealed_spans regs others v)) is
+    ∙ sym (part_is p q r regs others x cells (pack_registers a regs pa) (pack_registers b others pb)))
+    (marked value (glued regs others pa pb))
+
+-- they are taken in
 pub pair_taken : (p : Pair) (j : Joints) (q r : ℕ) (a b : EachOf Ends) (regs others : EachOf Span) (x : ℤ) (cells : ℕ) (u : Glue)
     (hull e m result : Ends) (s : Span) → AreJoints p j → ArePackOf a regs → ArePackOf b others → u ≡ glue_of p q r x →
     ((s t : EachOf Span) → ArePackOf a s → ArePackOf b t → IsPackOf e (glue_in sealed_spans s t u)) →
@@ -116,11 +130,7 @@ pub pair_taken : (p : Pair) (j : Joints) (q r : ℕ) (a b : EachOf Ends) (regs o
     ((s t : Span) → StandFor hull s → IsPackOf m t → StandFor result (span_hull s t)) → StandFor hull s →
     StandFor result (span_hull s (glued_span p (standing q regs) (standing r others) x cells))
 pair_taken p j q r a b regs others x cells u hull e m result s h pa pb is glued marked joined stands =
-    let value = glue_in sealed_spans regs others u in
-    subst (λ z. StandFor result (span_hull s z))
-    (ap (λ k. marked_span k cells value) h.mark ∙ ap (λ v. marked_span p.forward.mark cells (glue_in sealed_spans regs others v)) is
-    ∙ sym (part_is p q r regs others x cells (pack_registers a regs pa) (pack_registers b others pb)))
-    (joined s (marked_span j.mark cells value) stands (marked value (glued regs others pa pb)))
+    joined s _ stands (pair_packs p j q r a b regs others x cells u e m h pa pb is glued marked)
 
 -- one state more on the other side
 
@@ -230,6 +240,16 @@ row_place n states count i row h inside = record {
   len = h.len;
   inside = λ q lt. let e = (h.columns q lt).0 in omega (arith, e, inside);
   packed = λ q lt. (h.columns q lt).1 i inside;
+}
+
+-- and each place before another
+pub row_places : (n states count to : ℕ) (row : List (List (PackedHull n))) → IsRow n states count row → to ≤ count → HavePlaces n states to row
+row_places n states count to row h inside = record {
+  len = h.len;
+  places = λ q lt. (
+    let e = (h.columns q lt).0 in omega (arith, e, inside),
+    λ i before. (h.columns q lt).1 i (omega (arith, before, inside)),
+  );
 }
 
 -- ends stand for their own spans

@@ -3,3 +3,4 @@ pub mod SideLaws
 pub mod Joints
 pub mod Meets
 pub mod Asked
+pub mod Settled

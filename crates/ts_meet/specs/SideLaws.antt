@@ -1,4 +1,5 @@
 -- What operators make of ends stands for what they make of spans.
+-- Lemmas, no definitions: they are here since ghost members of impls cite them.
 use Rattle.std.proofs.Common.{ℤ, neg_ℤ, sym, subst, arith}
 use Rattle.std.proofs.lemmas.Int.{ints}
 use Rattle.ts_base.specs.declared.ext.Ext.TheVariants.{Int}

@@ -1,6 +1,6 @@
 //! How the runs of a machine are glued, worked out once for a machine.
 
-ghost use Rattle.std.specs.Prelude.{◌≡◌, ℕ, ◌<◌, false, [], IfSome, IsSome, get_or, length};
+ghost use Rattle.std.specs.Prelude.{◌≡◌, ℕ, ◌<◌, ℤ, false, [], IfSome, IsSome, get_or, length};
 ghost use Rattle.ts_automaton.specs.Body.{node_at};
 ghost use Rattle.ts_automaton.specs.Formula.{formula};
 ghost use Rattle.ts_base.specs.Limits.{IsCellValue};
@@ -41,11 +41,42 @@ impl Joints {
             fold: self.fold,
             worth: self.unit.worth(spot.value),
             wide: self.wide,
-            joins: self.joins[left as usize][right as usize],
+            joins: self.are_joined(left, right),
             trims: self.trims,
             held_left: self.held_left[left as usize],
             held_right: self.held_right[right as usize],
         }
+    }
+
+    /// How the registers are glued at any value between two states from the one of which no occurrence goes on to the
+    /// other. `operator` is the one that joins results.
+    #[inline(always)]
+    pub(crate) fn apart(&self, operator: Op) -> Gluing
+        requires { operator ≡ self.now.result }
+        ensures value { (p : Pair) (q r : ℕ) (x : ℤ) → AreJoints p self.now → is_join p.table q r ≡ false →
+            expression result ≡ glue_of p q r x }
+        ensures worth { IsCellValue result.worth }
+    {
+        Gluing {
+            result: operator,
+            fold: self.fold,
+            worth: 0,
+            wide: self.wide,
+            joins: false,
+            trims: self.trims,
+            held_left: false,
+            held_right: false,
+        }
+    }
+
+    /// Whether one occurrence goes on from a state to another.
+    #[inline(always)]
+    pub(crate) fn are_joined(&self, left: u8, right: u8) -> bool
+        requires left { left < self.now.left_states }
+        requires right { right < self.now.right_states }
+        ensures { (p : Pair) → AreJoints p self.now → result ≡ is_join p.table left right }
+    {
+        self.joins[left as usize][right as usize]
     }
 }
 
