@@ -1,25 +1,30 @@
 -- The drops by the requirements of one term, value by value and cell by cell, and those of all terms.
-use Rattle.std.proofs.Common.{◌≡◌, ◌⊎◌, ℕ, min, zero, suc, ◌+◌, ◌-◌, ◌<◌, ◌≤◌, ℤ, ◌<ℤ◌, Bool, true, false, List, [], ◌∷◌, length, map}
+use Rattle.std.proofs.Common.{◌≡◌, ◌⊎◌, ℕ, min, zero, suc, ◌+◌, ◌-◌, ◌<◌, ◌≤◌, ℤ, ◌<ℤ◌, pos, ◌↔◌, Bool, true, false, List, [], ◌∷◌, length, map, drop}
 use Rattle.std.proofs.Common.{Option, Some, None, option_map, slice_get, get_or, refl, sym, ◌∙◌, ap, subst, inl, inr, ⊎_elim, arith}
-use Rattle.std.proofs.lemmas.Option.{slice_get-map, slice_get_read}
+use Rattle.std.proofs.lemmas.Option.{slice_get-get_or, slice_get-map, slice_get_read}
 use Rattle.std.specs.Prelude.{Contains}
 use Rattle.std.specs.List.{AllByRecursion}
+use Rattle.ts_base.specs.declared.span.Span.{Span}
 use Rattle.ts_bound.specs.Looks.{is_looked}
 use Rattle.ts_bound.specs.TermSpans.{Automata, LooksIn, automata_of, term_span, value_span, IsUsable as IsUsableOf}
 use Rattle.ts_bound.proofs.Reached.{values_narrowed}
 use Rattle.ts_glue.specs.declared.machine.Machine.{Machine}
 use Rattle.ts_domain.specs.Values.{IsRising}
-use Rattle.ts_domain.proofs.Sets.{contains_cons, each_contains}
+use Rattle.ts_domain.proofs.Sets.{contains_cons, each_contains, nothing_in}
 use Rattle.ts_model.specs.declared.model.Require.{Require}
 use Rattle.ts_filter.specs.declared.drops.Removal.{Removal}
+use Rattle.ts_filter.specs.declared.question.Question.{Question}
 use Rattle.ts_filter.specs.declared.term_requirements.TermRequirements.{TermRequirements}
 use Rattle.ts_filter.specs.Boxes.{Box, values_at, only}
+use Rattle.ts_filter.specs.CellHulls.{AreMet, at_cell}
 use Rattle.ts_filter.specs.Drops.{MayDrop, IsNoLater, IsFirstOf, IsFirstDrop}
 use Rattle.ts_filter.specs.Excluded.{Refutes}
 use Rattle.ts_filter.specs.MachineSpans.{spans_of}
+use Rattle.ts_filter.specs.Question.{Excludes}
 use Rattle.ts_filter.specs.RefutedWorseDrop.{IsUsable}
-use Rattle.ts_filter.specs.TermDrops.{IsRefuting, IsFirstRefuting, IsRefutedOutside, MayHaveDrop, IsTermDrop, IsDropAt, IsDropUpTo, cell_up_to, earlier_of, least_drop}
+use Rattle.ts_filter.specs.TermDrops.{IsRefuting, IsFirstRefuting, IsRefutedOutside, MayHaveDrop, IsTermDrop, IsDropAt, IsDropUpTo, RefutesSome, cell_up_to, earlier_of, least_drop}
 use Rattle.ts_filter.proofs.CallLaws.{usable_only, usable_whole}
+use Rattle.ts_filter.proofs.CellLaws.{left_is}
 use Rattle.ts_filter.proofs.Looked.{value_outside}
 use Rattle.ts_filter.proofs.MachineLaws.{spans_are_of_machines}
 use Rattle.ts_filter.proofs.Removals.{first_of_near, first_same}
@@ -85,6 +90,37 @@ module _ (rs : List Require) (term : ℕ) (a : Automata) (b : Box) (k : ℕ) whe
       IsFirstRefuting rs term (value_span a k b w) None → AreLeft rs term a b k rest
   fewer_left_as left rest v w same h e f =
       fewer_left left rest v h e (subst (λ z. IsFirstRefuting rs term (value_span a k b z) None) same f)
+
+  -- none is left at last
+  pub none_left : (left : List ℤ) → AreLeft rs term a b k left → left ≡ [] → (t : Removal) → IsDropAt rs term a b k t → ⊥
+  none_left left h e t d = nothing_in t.value (subst (λ l. Contains l t.value) e (h.ahead t d))
+
+  -- all are left at first
+  pub all_left : IsRising (values_at k b) → AreLeft rs term a b k (values_at k b)
+  all_left rises = record { inside = λ u c. c; rises = rises; ahead = there }
+
+-- values whose spans have what is asked are passed over
+module _ (rs : List Require) (term : ℕ) (a : Automata) (b : Box) (k : ℕ) (asked : Question) (tells : (s : Span) → Excludes asked s ↔ RefutesSome rs term s)
+  where
+    left_along : (d from : ℕ) → from + d ≤ length (values_at k b) → AreMet asked (at_cell a b k) from (from + d) →
+        AreLeft rs term a b k (drop from (values_at k b)) → AreLeft rs term a b k (drop (from + d) (values_at k b))
+    left_along zero from within met left = subst (λ i. AreLeft rs term a b k (drop i (values_at k b))) (let e : from ≡ from + 0 = omega arith in e) left
+    left_along (suc d) from within met left =
+        let all = values_at k b in let v = get_or all from (pos 0) in
+        let lt : from < length all = omega (arith, within) in
+        let is : slice_get all from ≡ Some v = slice_get-get_or all from (pos 0) lt in
+        let e : (from + 1) + d ≡ from + suc d = omega arith in
+        subst (λ i. AreLeft rs term a b k (drop i all)) e
+        (left_along d (from + 1) (omega (arith, within)) (λ i first last. met i (omega (arith, first)) (omega (arith, last)))
+        (fewer_left rs term a b k (drop from all) (drop (from + 1) all) v left (left_is all from v lt is)
+        (λ j h. met from (omega arith) (omega arith) v is ((tells (value_span a k b v)).1 (j, h)))))
+
+    pub left_met : (from to : ℕ) → from ≤ to → to ≤ length (values_at k b) → AreMet asked (at_cell a b k) from to →
+        AreLeft rs term a b k (drop from (values_at k b)) → AreLeft rs term a b k (drop to (values_at k b))
+    left_met from to le within met left =
+        let e : from + (to - from) ≡ to = omega (arith, le) in
+        subst (λ i. AreLeft rs term a b k (drop i (values_at k b))) e
+        (left_along (to - from) from (omega (arith, e, within)) (subst (AreMet asked (at_cell a b k) from) (sym e) met) left)
 
 module _ (rs : List Require) (term : ℕ) (a : Automata) (b : Box) where
   -- none at the first cells

@@ -1,5 +1,5 @@
 -- What packed rows tell where they meet at a value is the span of the value.
-use Rattle.std.proofs.Common.{◌≡◌, ℕ, ◌+◌, ◌-◌, ◌*◌, ◌<◌, ℤ, List, ◌∷◌, [], length, take, drop, slice_get, get_or, Option, Some, None, refl, sym, ap, ◌∙◌, subst, arith}
+use Rattle.std.proofs.Common.{◌≡◌, ℕ, ◌+◌, ◌-◌, ◌*◌, ◌<◌, ◌≤◌, ℤ, List, ◌∷◌, [], length, take, drop, slice_get, get_or, Option, Some, None, refl, sym, ap, ◌∙◌, subst, arith}
 use Rattle.std.specs.Prelude.{IsSome, IfSome, option_map}
 use Rattle.std.proofs.lemmas.List.{get_or-take, get_or-drop}
 use Rattle.std.proofs.lemmas.Option.{slice_get_within}
@@ -22,7 +22,8 @@ use Rattle.ts_meet.specs.declared.joints.Joints.{Joints}
 use Rattle.ts_meet.specs.Asked.{IsAnswer}
 use Rattle.ts_meet.specs.Joints.{AreJoints}
 use Rattle.ts_meet.specs.Meets.{HasPlace, finish_hull, glued_hull, spans_between}
-use Rattle.ts_meet.proofs.CallerLemmas.{row_place, spans_are, finishes_are}
+use Rattle.ts_meet.specs.Settled.{HavePlaces}
+use Rattle.ts_meet.proofs.CallerLemmas.{row_place, row_places, spans_are, finishes_are}
 use Rattle.ts_bound.specs.Blocks.{finishes, glued_all, glued_with, back_hulls, split_at}
 use Rattle.ts_bound.specs.HullTables.{cells_after, cells_before, hulls_at}
 use Rattle.ts_bound.specs.PackedRows.{IsPackedRow}
@@ -31,6 +32,7 @@ use Rattle.ts_bound.proofs.SpanEnds.{IsPairOf, split_one}
 use Rattle.ts_filter.specs.declared.any_row.AnyRow.{AnyRow}
 use Rattle.ts_filter.specs.declared.any_row.AnyRow.TheVariants.{Narrow, Wide}
 use Rattle.ts_filter.specs.declared.cell_hulls.BackSide.{BackSide}
+use Rattle.ts_filter.specs.declared.question.Question.{Question}
 use Rattle.ts_filter.specs.declared.so_far.SoFar.{SoFar}
 use Rattle.ts_filter.specs.AnyRows.{Columns, IsRowOf, columns, glued_between, lanes_of}
 use Rattle.ts_filter.specs.Boxes.{Box}
@@ -56,6 +58,12 @@ pub place_there : (m : ℕ) (a : Body) (before : Box) (values : List ℤ) (i : �
     IsPackedRow m a before values row → slice_get values i ≡ Some v → HasPlace m s i row
 place_there m a before values i v row s is_s is e =
     subst (λ k. HasPlace m k i row) (sym is_s) (row_place m (length a.states) (length values) i row is.is_row (slice_get_within values i v e))
+
+-- and one at each place before another
+places_there : (m : ℕ) (a : Body) (before : Box) (values : List ℤ) (row : Columns m) (s : ℕ) → s ≡ length a.states → IsPackedRow m a before values row →
+    (to : ℕ) → to ≤ length values → HavePlaces m s to row
+places_there m a before values row s is_s is to inside =
+    subst (λ k. HavePlaces m k to row) (sym is_s) (row_places m (length a.states) (length values) to row is.is_row inside)
 
 -- at the last cell
 pub finish_is : (m : ℕ) (a : Body) (before : Box) (values : List ℤ) (i : ℕ) (v : ℤ) (row : Columns m) (n : ℕ) → IsPackedRow m a before values row →
@@ -103,6 +111,27 @@ lanes_same (Wide left) (Narrow right) e = never_added (sym e)
 pub one_width : (m : Machine) (p : Pair) → pair_of m ≡ Some p → p.reverse.wide ≡ p.forward.wide
 one_width m p e = let f = facts_of p (machines_keep_rules m p e).0 in f.reverse_width ∙ sym f.forward_width
 
+module _ (f : Body) (before behind : Box) (values : List ℤ) (row : AnyRow) (side : BackSide) (ahead : IsRowOf f before values row) where
+  pub lanes_there : (o : Option Pair) → IsPairOf f o → ((p : Pair) → o ≡ Some p → p.reverse.wide ≡ p.forward.wide) → IsSide o behind values side →
+      lanes_of side.row.now ≡ lanes_of row
+  lanes_there None is width h = absurd h
+  lanes_there (Some p) is width h =
+      lanes_same row side.row.now (sym h.1.width ∙ width p refl ∙ ap (λ (a : Body). a.wide) is ∙ ahead.width)
+
+  pub left_places : (to : ℕ) → to ≤ length values → (o : Option Pair) → IsPairOf f o → IsSide o behind values side →
+      HavePlaces (lanes_of row) side.joints.now.left_states to (columns row)
+  left_places to inside None is h = absurd h
+  left_places to inside (Some p) is h =
+      places_there (lanes_of row) f before values (columns row) side.joints.now.left_states (h.0.left_states ∙ ap (λ (a : Body). length a.states) is)
+      ahead.packed to inside
+
+  pub right_places : (to : ℕ) → to ≤ length values → (o : Option Pair) → IsSide o behind values side →
+      HavePlaces (lanes_of side.row.now) side.joints.now.right_states to (columns side.row.now)
+  right_places to inside None h = absurd h
+  right_places to inside (Some p) h =
+      places_there (lanes_of side.row.now) p.reverse behind values (columns side.row.now) side.joints.now.right_states h.0.right_states h.1.packed to
+      inside
+
 module _ (f : Body) (before behind : Box) (values : List ℤ) (i : ℕ) (v : ℤ) (row : AnyRow) (side : BackSide) (ahead : IsRowOf f before values row)
     (e : slice_get values i ≡ Some v) where
   pub left_place : (o : Option Pair) → IsPairOf f o → IsSide o behind values side → HasPlace (lanes_of row) side.joints.now.left_states i (columns row)
@@ -117,13 +146,23 @@ module _ (f : Body) (before behind : Box) (values : List ℤ) (i : ℕ) (v : ℤ
   right_place (Some p) h =
       place_there (lanes_of side.row.now) p.reverse behind values i v (columns side.row.now) side.joints.now.right_states h.0.right_states h.1.packed e
 
-  pub same_lanes : (o : Option Pair) → IsPairOf f o → ((p : Pair) → o ≡ Some p → p.reverse.wide ≡ p.forward.wide) → IsSide o behind values side →
-      lanes_of side.row.now ≡ lanes_of row
-  same_lanes None is width h = absurd h
-  same_lanes (Some p) is width h =
-      lanes_same row side.row.now (sym h.1.width ∙ width p refl ∙ ap (λ (a : Body). a.wide) is ∙ ahead.width)
-
 -- with what is told there
+
+module _ (f : Body) (place : ℕ) (cells : Box) (values : List ℤ) (i : ℕ) (v : ℤ) (row : AnyRow) (side : BackSide) (same : lanes_of side.row.now ≡ lanes_of row)
+    (ahead : IsRowOf f (cells_before place cells) values row) (e : slice_get values i ≡ Some v) (n : ℕ) (is_n : n ≡ length cells) where
+  split_is : (p : Pair) → IsPairOf f (Some p) → IsSide (Some p) (cells_after place cells) values side →
+      glued_between p row side.row.now i v n ≡ split_at f (Some p) place cells v
+  split_is p is h =
+      let ls = hulls_at f (cells_before place cells) v in let rs = back_hulls (Some p) (cells_after place cells) v in
+      let m = length p.reverse.states in
+      glued_by f (cells_before place cells) (cells_after place cells) values i v e p n is row side.row.now same ahead h.1
+      ∙ split_one f (Some p) place cells v v ls rs n m (span_of_all (glued_all (Some p) ls rs v n m (length f.states))) refl refl refl is_n refl refl
+
+  pub never_there : (asked : Question) (o : Option Pair) → IsPairOf f o → IsSide o (cells_after place cells) values side →
+      ((p : Pair) → AreJoints p side.joints.now → (x : ℤ) → Excludes asked (glued_between p row side.row.now i x n) → ⊥) →
+      Excludes asked (split_at f o place cells v) → ⊥
+  never_there asked None is h told nothing_has = absurd h
+  never_there asked (Some p) is h told nothing_has = told p h.0 v (subst (Excludes asked) (sym (split_is p is h)) nothing_has)
 
 module _ (f : Body) (place : ℕ) (cells : Box) (values : List ℤ) (i : ℕ) (v : ℤ) (row : AnyRow) (side : BackSide) (same : lanes_of side.row.now ≡ lanes_of row)
     (ahead : IsRowOf f (cells_before place cells) values row) (e : slice_get values i ≡ Some v) (s : SoFar) (known : IsSoFar s) (n : ℕ)
@@ -133,12 +172,8 @@ module _ (f : Body) (place : ℕ) (cells : Box) (values : List ℤ) (i : ℕ) (v
       IsAnswer (Excludes s.asked) (span_hull s.span (split_at f o place cells v)) answer
   told_is None answer is h told = absurd h
   told_is (Some p) answer is h told =
-      let ls = hulls_at f (cells_before place cells) v in let rs = back_hulls (Some p) (cells_after place cells) v in
-      let m = length p.reverse.states in
       subst (λ z. IsAnswer (Excludes s.asked) (span_hull s.span z) answer)
-      (ap (λ x. glued_between p row side.row.now i x n) is_w
-      ∙ glued_by f (cells_before place cells) (cells_after place cells) values i v e p n is row side.row.now same ahead h.1
-      ∙ split_one f (Some p) place cells v v ls rs n m (span_of_all (glued_all (Some p) ls rs v n m (length f.states))) refl refl refl is_n refl refl)
+      (ap (λ x. glued_between p row side.row.now i x n) is_w ∙ split_is f place cells values i v row side same ahead e n is_n p is h)
       (told p h.0)
 
   pub none_told : (o : Option Pair) → IsPairOf f o → IsSide o (cells_after place cells) values side →

@@ -1,15 +1,18 @@
 -- The hulls of one cell: its row of the forward automaton, and that of the reverse one.
-use Rattle.std.specs.Prelude.{◌≡◌, ◌≤◌, ℕ, ℤ, List, length, Option, None, Some, MatchOption}
+use Rattle.std.specs.Prelude.{◌≡◌, ◌≤◌, ℕ, ℤ, List, length, Option, None, Some, MatchOption, slice_get}
 use Rattle.ts_base.specs.Windows.{looked_at}
 use Rattle.ts_bound.specs.HullTables.{cells_before, cells_after}
 use Rattle.ts_bound.specs.Looks.{first_looked, last_looked, place_in}
-use Rattle.ts_bound.specs.TermSpans.{Automata, LooksIn}
+use Rattle.ts_bound.specs.TermSpans.{Automata, LooksIn, value_span}
 use Rattle.ts_glue.specs.Pairs.{Pair}
 use Rattle.ts_meet.specs.Joints.{AreJoints}
+use Rattle.ts_meet.specs.Settled.{Between}
 use Rattle.ts_filter.specs.declared.any_row.AnyRow.{AnyRow}
 use Rattle.ts_filter.specs.declared.cell_hulls.BackSide.{BackSide}
+use Rattle.ts_filter.specs.declared.question.Question.{Question}
 use Rattle.ts_filter.specs.AnyRows.{IsRowOf}
 use Rattle.ts_filter.specs.Boxes.{Box, values_at}
+use Rattle.ts_filter.specs.Question.{Excludes}
 
 -- what contracts see of them: whose they are, and where
 pub record AtCell : Type 0 where
@@ -53,3 +56,9 @@ pub record AreHulls (a : Automata) (b : Box) (k : ℕ) (row : AnyRow) (back : Op
   pub there : HasHulls a k b
   pub ahead : IsAheadRow a k b row
   pub behind : MatchOption back (k ≡ last_looked a.window (length b)) (IsBackSide a k b)
+
+-- at each place from one on, before another, the span of the value that stands there has what is asked
+abbrev pub AreMet : Question → AtCell → (from to : ℕ) → Type 0
+AreMet asked t from to =
+    Between from to (λ i. (v : ℤ) → slice_get (values_at t.cell t.cells) i ≡ Some v →
+    Excludes asked (value_span t.machine t.cell t.cells v) → ⊥)

@@ -1,7 +1,7 @@
 //! Packed rows of automata of either width: the one module that tells the two apart, once a row and once a value of a
 //! cell.
 
-ghost use Rattle.std.specs.Prelude.{◌≡◌, ℤ, List, [], ◌∷◌, IfOk, IsTrue, length};
+ghost use Rattle.std.specs.Prelude.{◌≡◌, ◌≤◌, ℤ, List, [], ◌∷◌, IfOk, IsTrue, length};
 ghost use Rattle.ts_base.specs.Limits.{IsCellValue};
 ghost use Rattle.ts_base.specs.Spans.{none_span, span_hull};
 ghost use Rattle.ts_filter.specs.AnyRows.{IsRowOf, columns, glued_between, lanes_of};
@@ -10,6 +10,7 @@ ghost use Rattle.ts_glue.specs.Pairs.{Pair};
 ghost use Rattle.ts_meet.specs.Asked.{IsAnswer};
 ghost use Rattle.ts_meet.specs.Joints.{AreJoints};
 ghost use Rattle.ts_meet.specs.Meets.{HasPlace, finish_hull};
+ghost use Rattle.ts_meet.specs.Settled.{Between, HavePlaces};
 ghost use Rattle.ts_row.specs.Plans.{IsPlanOf};
 ghost use Rattle.ts_row.specs.Rows.{IsRow};
 ghost use Rattle.ts_row.specs.Takings.{count_in};
@@ -21,7 +22,7 @@ use std::alloc::Global;
 use ts_automaton::Automaton;
 use ts_base::{Memory, Span};
 use ts_bound::{first_packed_row, next_packed_row};
-use ts_meet::{Joints, Spot, asked_at, finish_at};
+use ts_meet::{Joints, Spot, asked_at, finish_at, settled_to};
 use ts_row::{Cell, PackedRow, Plan};
 
 /// A packed row of a narrow automaton, or of a wide one.
@@ -168,6 +169,38 @@ pub(crate) fn asked_between(
         },
         AnyRow::Wide(left) => match right {
             AnyRow::Wide(right) => asked_at(asked, so_far, joints, left, right, spot),
+            AnyRow::Narrow(_) => unreachable!(),
+        },
+    }
+}
+
+/// The place up to which, from the place `from` on, pairs of states settle that the spans where two rows of one width
+/// meet have what is asked, whatever values are there. Of the places from there up to `to` nothing is known.
+pub(crate) fn settled_between(
+    asked: Question<'_>,
+    joints: &Joints,
+    left: &AnyRow,
+    right: &AnyRow,
+    cells: u32,
+    from: usize,
+    to: usize,
+) -> usize
+    requires width { lanes_of right.now ≡ lanes_of left.now }
+    requires left { HavePlaces (lanes_of left.now) joints.now.left_states to (columns left.now) }
+    requires right { HavePlaces (lanes_of right.now) joints.now.right_states to (columns right.now) }
+    requires order { from ≤ to }
+    ensures from { from ≤ result }
+    ensures to { result ≤ to }
+    ensures settled { (p : Pair) → AreJoints p joints.now → Between from result (λ i. (x : ℤ) →
+        Excludes asked.entry (glued_between p left.now right.now i x cells) → ⊥) }
+{
+    match left {
+        AnyRow::Narrow(left) => match right {
+            AnyRow::Narrow(right) => settled_to(asked, joints, left, right, cells, from, to),
+            AnyRow::Wide(_) => unreachable!(),
+        },
+        AnyRow::Wide(left) => match right {
+            AnyRow::Wide(right) => settled_to(asked, joints, left, right, cells, from, to),
             AnyRow::Narrow(_) => unreachable!(),
         },
     }

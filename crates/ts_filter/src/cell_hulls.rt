@@ -1,18 +1,19 @@
 //! The spans at a cell, from the hulls there, as far as a question needs them.
 
-ghost use Rattle.std.specs.Prelude.{◌≡◌, ◌↔◌, [], ◌∷◌, Contains, IsTrue, Some, slice_get};
+ghost use Rattle.std.specs.Prelude.{◌≡◌, ◌↔◌, ◌≤◌, ℤ, [], ◌∷◌, Contains, IsTrue, Some, length, slice_get};
 ghost use Rattle.ts_base.specs.Windows.{looked_at};
 ghost use Rattle.ts_bound.specs.Blocks.{last_at, split_at};
 ghost use Rattle.ts_bound.specs.Looks.{place_in};
 ghost use Rattle.ts_bound.specs.TermSpans.{automata_of, term_span, value_span};
 ghost use Rattle.ts_filter.specs.Question.{Excludes};
 ghost use Rattle.ts_filter.specs.Boxes.{values_at};
-ghost use Rattle.ts_filter.specs.CellHulls.{HasHulls, IsAheadRow, IsBackSide, at_cell};
+ghost use Rattle.ts_filter.specs.CellHulls.{AreMet, HasHulls, IsAheadRow, IsBackSide, at_cell};
 ghost use Rattle.ts_filter.specs.SoFar.{IsSoFar, IsWholeSpan, WithParts};
 ghost use Rattle.ts_filter.specs.TermDrops.{IsFirstRefuting};
 ghost use Rattle.ts_glue.specs.Machines.{forward_of, pair_of, window_of};
+ghost use Rattle.ts_meet.specs.Settled.{Between};
 
-use crate::any_row::{AnyRow, asked_between};
+use crate::any_row::{AnyRow, asked_between, settled_between};
 use crate::question::Question;
 use crate::so_far::SoFar;
 use crate::term_requirements::TermRequirements;
@@ -98,6 +99,9 @@ impl<'a> CellHulls<'a> {
         let values = self.values();
         let mut known = SoFar::none(asked);
         for i in 0..values.size() {
+            if self.settled_to(asked, i, i + 1) > i {
+                return None;
+            }
             let v = values.nth(i);
             known = self.with_value(known, i, v)?;
         }
@@ -146,6 +150,30 @@ impl<'a> CellHulls<'a> {
         match self.with_value(SoFar::none(Question::Nothing), i, v) {
             Some(known) => known.span,
             None => unreachable!(),
+        }
+    }
+
+    /// The place up to which, from the place `from` on, the spans of the values have what is asked, as pairs of states
+    /// show whatever values are there. Of the places from there up to `to` nothing is known.
+    pub(crate) fn settled_to(&self, asked: Question<'_>, from: u64, to: u64) -> u64
+        requires order { from ≤ to }
+        requires inside { to ≤ length (values_at self.now.cell self.now.cells) }
+        ensures from { from ≤ result }
+        ensures to { result ≤ to }
+        ensures met { AreMet asked.entry self.now from result }
+    {
+        match self.back {
+            Some(back) => met_to(
+                asked,
+                self.machine,
+                self.row,
+                back,
+                self.cells,
+                self.cell,
+                from,
+                to,
+            ),
+            None => from,
         }
     }
 
@@ -229,4 +257,39 @@ fn split_value<'a>(
         }),
         None => None,
     }
+}
+
+/// The place up to which, from the place `from` on, the glued spans of the values have what is asked, as far as pairs
+/// of states settle it at once.
+fn met_to(
+    asked: Question<'_>,
+    m: &Machine,
+    row: &AnyRow,
+    back: BackSide<'_>,
+    cells: &Boxed,
+    k: u32,
+    from: u64,
+    to: u64,
+) -> u64
+    requires hulls { HasHulls (automata_of m.now) k cells.now.present }
+    requires row { IsAheadRow (automata_of m.now) k cells.now.present row.now }
+    requires back { IsBackSide (automata_of m.now) k cells.now.present back }
+    requires order { from ≤ to }
+    requires inside { to ≤ length (values_at k cells.now.present) }
+    ensures from { from ≤ result }
+    ensures to { result ≤ to }
+    ensures met { Between from result (λ i. (v : ℤ) → slice_get (values_at k cells.now.present) i ≡ Some v →
+        Excludes asked.entry (split_at (forward_of m.now) (pair_of m.now)
+        (place_in (window_of m.now) k) (looked_at (window_of m.now) cells.now.present) v) → ⊥) }
+{
+    let n = looked_count(m.window(), cells.cells());
+    settled_between(
+        asked,
+        back.joints,
+        row,
+        back.row,
+        n,
+        from as usize,
+        to as usize,
+    ) as u64
 }

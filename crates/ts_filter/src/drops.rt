@@ -14,6 +14,7 @@ ghost use Rattle.ts_filter.specs.TermDrops.{cell_up_to, comes_before, earlier_of
 use crate::box_tables::BoxTables;
 use crate::cell_hulls::CellHulls;
 use crate::held_machine::HeldMachine;
+use crate::question::Question;
 use crate::term_requirements::TermRequirements;
 use std::alloc::Global;
 use ts_base::Memory;
@@ -234,7 +235,8 @@ impl<'a> BoxTables<'a> {
     }
 }
 
-/// The first of the drops at one cell by these requirements.
+/// The first of the drops at one cell by these requirements. Most values are passed over without being found: pairs of
+/// states settle that none of the requirements is refuted there.
 fn drop_in_cell(hulls: &CellHulls<'_>, own: TermRequirements<'_>) -> Option<Removal>
     requires { IsUsable hulls.now.machine hulls.now.cell hulls.now.cells }
     ensures { IsFirstOf (IsDropAt own.entry.all.now own.entry.term
@@ -245,7 +247,9 @@ fn drop_in_cell(hulls: &CellHulls<'_>, own: TermRequirements<'_>) -> Option<Remo
     if values.size() < 2 {
         return None;
     }
-    for i in 0..values.size() {
+    let asked = Question::each_met(own);
+    let mut i = hulls.settled_to(asked, 0, values.size());
+    while i < values.size() {
         let value = values.nth(i);
         if let Some(require) = hulls.first_refuted(own, i, value) {
             return Some(Removal {
@@ -254,6 +258,7 @@ fn drop_in_cell(hulls: &CellHulls<'_>, own: TermRequirements<'_>) -> Option<Remo
                 require,
             });
         }
+        i = hulls.settled_to(asked, i + 1, values.size());
     }
     None
 }

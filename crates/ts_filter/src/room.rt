@@ -14,6 +14,10 @@ const WIDE_HULL: u64 = 80;
 /// and of the cell before. Each row may have memory for twice its hulls.
 const MOST: u64 = 200_000_000;
 
+/// For how many values each row may have memory, however few it holds: so a cell whose values come and go has its rows
+/// made in the same memory.
+pub(crate) const SMALL_ROW: usize = 16;
+
 /// Whether the rows of these machines, of a box with at most these values in its cells, take no more. A machine with a
 /// window has rows of the cells of it alone.
 pub(crate) fn has_room(machines: &[Machine], cells: &[Domain]) -> bool {
@@ -25,13 +29,12 @@ pub(crate) fn has_room(machines: &[Machine], cells: &[Domain]) -> bool {
     bytes <= MOST / 2
 }
 
-/// How many values the cells have together that are looked at. One value counts as two: each list has memory for four
-/// hulls or more.
+/// How many values the cells have together that are looked at. A cell counts for half of `SMALL_ROW` at least.
 fn values_of(window: Option<Range>, cells: &[Domain]) -> u64 {
     let mut values = 0u64;
     for i in 0..cells.len() {
         if is_inside(window, i) {
-            values = values.saturating_add(cells[i].size().max(2));
+            values = values.saturating_add(cells[i].size().max(SMALL_ROW as u64 / 2));
         }
     }
     values

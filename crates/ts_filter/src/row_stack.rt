@@ -19,6 +19,7 @@ ghost use Rattle.ts_sweep.specs.Packed.{is_wide};
 
 use crate::any_row::{AnyRow, are_same};
 use crate::planned::Planned;
+use crate::room::SMALL_ROW;
 use crate::two_cells::TwoCells;
 use std::alloc::Global;
 use std::marker::Model;
@@ -45,16 +46,21 @@ impl HullRow {
         }
     }
 
-    /// The row, or an empty one where its memory is for fewer values or for more than twice as many: rows of cells with
-    /// few values never keep the memory of one with many. It is one of an automaton of the width.
+    /// The row, or an empty one where its memory doesn't suit so many values. It is one of an automaton of the width.
     pub(crate) fn with_room(self, alloc: Global, wide: bool, count: usize) -> HullRow
         ensures { wide ≡ is_wide (lanes_of result.packed) }
     {
-        if self.packed.is_wide() == wide && count <= self.room && self.room / 2 <= count {
+        if self.packed.is_wide() == wide && self.has_room(count) {
             self
         } else {
-            HullRow::empty(alloc, wide, count)
+            HullRow::empty(alloc, wide, count.max(SMALL_ROW))
         }
+    }
+
+    /// Whether there is memory for `count` values, and for no more than twice as many or `SMALL_ROW`: a row of few
+    /// values never keeps the memory of one with many.
+    fn has_room(&self, count: usize) -> bool {
+        count <= self.room && (self.room <= SMALL_ROW || self.room / 2 <= count)
     }
 
     /// The row of the cell at which runs start, in the same memory.

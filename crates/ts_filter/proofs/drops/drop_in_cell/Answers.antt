@@ -1,32 +1,57 @@
 use mir.Val.{SFits}
 use Rattle.std.proofs.Common.{w64, length, slice_get, drop, sym, ap, ◌∙◌, subst, rules, arith, to_z, of_z, ◌≤◌, ◌+◌, Some}
 use Rattle.std.proofs.lemmas.Int.{to_z-of_z}
+use Rattle.std.proofs.lemmas.List.{drop_all}
+use Rattle.ts_domain.specs.Values.{IsRising}
 use Rattle.ts_filter.specs.Boxes.{values_at}
 use Rattle.ts_filter.specs.Drops.{IsFirstOf}
 use Rattle.ts_filter.specs.TermDrops.{IsDropAt}
 use Rattle.ts_filter.proofs.CellLaws.{left_is}
-use Rattle.ts_filter.proofs.DropLaws.{drop_found_as, fewer_left_as}
+use Rattle.ts_filter.proofs.DropLaws.{all_left, drop_found_as, fewer_left_as, left_met, none_left}
 use Rattle.ts_filter.proofs.drops.drop_in_cell.Goals as goal
+
+pub loop-i-init : goal.loop-i-init
+loop-i-init c =
+    let t = c.args.hulls.now in let own = c.args.own in let all = values_at t.cell t.cells in
+    let long = ap length c.values-values.ensures.values in let to = c.settled_to-i.ensures.to in let size = c.size-2.ensures.size in
+    let within : c.settled_to-i.result ≤ length all = omega (arith, long, to, size) in (
+      within,
+      left_met own.all.now own.term t.machine t.cells t.cell c.each_met-asked.result c.each_met-asked.ensures 0 c.settled_to-i.result (omega arith) within
+          c.settled_to-i.ensures.met
+          (all_left own.all.now own.term t.machine t.cells t.cell (subst IsRising c.values-values.ensures.values c.size-2.ensures.domain.rising)),
+    )
 
 pub returns-in-Some : goal.returns-in-Some
 returns-in-Some c =
     let fits : SFits w64 c.nth-value.result = search rules in
     let t = c.args.hulls.now in let all = values_at t.cell t.cells in let long = ap length c.values-values.ensures.values in
     let many : 2 ≤ length all = search rules in
-    let left = left_is all c.loop-i.i c.nth-value.result (omega (arith, long, c.loop-i-test.true, c.size-i-end.ensures.size))
+    let left = left_is all c.loop-i.i c.nth-value.result (omega (arith, long, c.loop-i-test.true, c.size-in-loop-i.ensures.size))
     (sym (ap (λ l. slice_get l c.loop-i.i) c.values-values.ensures.values) ∙ c.nth-value.ensures) in
     subst (λ k. IsFirstOf (IsDropAt c.args.own.all.now c.args.own.term t.machine t.cells t.cell)
     (Some (record { cell = k; value = to_z w64 (of_z w64 c.nth-value.result); require = c.in-Some.require })))
     (sym c.cell-cell.ensures)
     (drop_found_as c.args.own.all.now c.args.own.term t.machine t.cells t.cell (drop c.loop-i.i all) (drop (c.loop-i.i + 1) all) c.nth-value.result _
-    c.in-Some.require (to_z-of_z w64 c.nth-value.result fits) c.loop-i.invariant left c.requires many
+    c.in-Some.require (to_z-of_z w64 c.nth-value.result fits) c.loop-i.invariant.1 left c.requires many
     c.in-Some.ensures)
 
 pub loop-i-preserved : goal.loop-i-preserved
 loop-i-preserved c =
     let fits : SFits w64 c.nth-value.result = search rules in
-    let t = c.args.hulls.now in let all = values_at t.cell t.cells in let long = ap length c.values-values.ensures.values in
-    let left = left_is all c.loop-i.i c.nth-value.result (omega (arith, long, c.loop-i-test.true, c.size-i-end.ensures.size))
+    let t = c.args.hulls.now in let own = c.args.own in let all = values_at t.cell t.cells in let long = ap length c.values-values.ensures.values in
+    let left = left_is all c.loop-i.i c.nth-value.result (omega (arith, long, c.loop-i-test.true, c.size-in-loop-i.ensures.size))
     (sym (ap (λ l. slice_get l c.loop-i.i) c.values-values.ensures.values) ∙ c.nth-value.ensures) in
-    fewer_left_as c.args.own.all.now c.args.own.term t.machine t.cells t.cell (drop c.loop-i.i all) (drop (c.loop-i.i + 1) all) c.nth-value.result _
-    (to_z-of_z w64 c.nth-value.result fits) c.loop-i.invariant left c.in_default.ensures
+    let rest = fewer_left_as own.all.now own.term t.machine t.cells t.cell (drop c.loop-i.i all) (drop (c.loop-i.i + 1) all) c.nth-value.result _
+    (to_z-of_z w64 c.nth-value.result fits) c.loop-i.invariant.1 left c.in_default.ensures in
+    let to = c.settled_to-i-in-loop-i.ensures.to in let size = c.size-in-loop-i-2.ensures.size in
+    let within : c.settled_to-i-in-loop-i.result ≤ length all = omega (arith, long, to, size) in (
+      within,
+      left_met own.all.now own.term t.machine t.cells t.cell c.each_met-asked.result c.each_met-asked.ensures (c.loop-i.i + 1)
+          c.settled_to-i-in-loop-i.result c.settled_to-i-in-loop-i.ensures.from within c.settled_to-i-in-loop-i.ensures.met rest,
+    )
+
+pub returns : goal.returns
+returns c =
+    let t = c.args.hulls.now in let all = values_at t.cell t.cells in let long = ap length c.values-values.ensures.values in
+    none_left c.args.own.all.now c.args.own.term t.machine t.cells t.cell (drop c.loop-i.i all) c.loop-i.invariant.1
+    (drop_all c.loop-i.i all (omega (arith, long, c.loop-i-test.false, c.size-in-loop-i.ensures.size)))

@@ -1,5 +1,5 @@
 use Rattle.std.proofs.Common.{map, sym, subst, arith, ◌+◌}
-use Rattle.ts_bound.specs.TermSpans.{LooksIn, automata_of}
+use Rattle.ts_bound.specs.TermSpans.{automata_of}
 use Rattle.ts_filter.specs.Drops.{IsFirstOf}
 use Rattle.ts_filter.proofs.DropLaws.{DropBelow, first_below_more, first_of_all, machine_looks, machine_there}
 use Rattle.ts_filter.proofs.drops.next_drop.Goals as goal
