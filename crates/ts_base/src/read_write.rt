@@ -141,7 +141,7 @@ pub fn read_front<S: Source>(
     source.read(&mut buffer[..room])
 }
 
-/// A buffer of `length` bytes, each 0. `Memory` is the only refusal.
+/// A new buffer of `length` bytes, to be read into. `Memory` is the only refusal.
 pub fn zeros(alloc: Global, length: usize) -> Result<Vec<u8>, Memory>
     ensures { IfOk result (λ buffer. vec_len buffer ≡ length) }
 {

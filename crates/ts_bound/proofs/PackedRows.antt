@@ -1,9 +1,5 @@
 -- Rows that stay packed are the rows of the definition.
-use Rattle.std.proofs.Common.{◌≡◌, ◌⊎◌, inl, inr, ℕ, suc, ◌+◌, ◌-◌, ◌*◌, ◌<◌, ◌≤◌, false, cond, nat_eq, ℤ, pos, List, [], ◌∷◌, length, drop, get_or, set, sym, ap, ◌∙◌, arith}
-use Rattle.std.specs.Prelude.{slice_range}
-use Rattle.std.proofs.lemmas.List.{get_or-drop, get_or-set_other, get_or-set_same, get_or-take, length-drop, length-take-le}
-use Rattle.std.proofs.lemmas.List.FromFn.{fill_by_all}
-use Rattle.std.proofs.Math.Nat.{mul-le-mul_right}
+use Rattle.std.proofs.Common.{◌≡◌, ℕ, ◌*◌, ◌<◌, false, cond, nat_eq, ℤ, pos, List, [], ◌∷◌, length, get_or, sym, ap, ◌∙◌}
 use Rattle.ts_base.specs.declared.letter.Letter.{Letter}
 use Rattle.ts_base.specs.declared.letter.Letter.TheVariants.{Less, Equal, Greater}
 use Rattle.ts_automaton.specs.declared.regs.Hull.{Hull}
@@ -80,37 +76,3 @@ packed_first n b ws row started =
     let s = length b.states in
     row_by_places s (λ w t. start_hull b t) ws (flat_row n s (length ws) row) (flat_length n s (length ws) row)
     (λ j t less lt. flat_at n s (length ws) row t j lt less ∙ started t j lt less)
-
--- the hulls of a value out of a row
-pub block_is : (n states count i q : ℕ) (row : List (List (PackedHull n))) (block : List Hull) → q ≡ states → length block ≡ states → i < count →
-    ((t : ℕ) → t < q → get_or block t none ≡ packed_hull_in n row t i) →
-    block ≡ slice_range (flat_row n states count row) (i * states) (i * states + states)
-block_is n states count i q row block all long inside each =
-    let flat = flat_row n states count row in
-    let more : suc i * states ≤ count * states = mul-le-mul_right states inside in
-    let wide : suc i * states ≡ i * states + states = omega arith in
-    let whole = flat_length n states count row in
-    let left = length-drop (i * states) flat in
-    let size : (i * states + states) - i * states ≡ states = omega arith in
-    let part = slice_range flat (i * states) (i * states + states) in
-    let part_long : length part ≡ states =
-    length-take-le ((i * states + states) - i * states) (drop (i * states) flat) (omega (arith, more, wide, whole, left, size)) ∙ size in
-    fill_by_all (λ t. packed_hull_in n row t i) block states none long (λ t lt. each t (omega (arith, lt, all)))
-    ∙ sym (fill_by_all (λ t. packed_hull_in n row t i) part states none part_long
-    (λ t lt. get_or-take ((i * states + states) - i * states) (drop (i * states) flat) t none (omega (arith, lt, size))
-    ∙ get_or-drop (i * states) flat t none ∙ flat_at n states count row t i lt inside))
-
--- one hull more of it
-pub block_more : (n i q : ℕ) (row : List (List (PackedHull n))) (block new : List Hull) (h : Hull) → q < length block → h ≡ packed_hull_in n row q i →
-    new ≡ set block q h → ((t : ℕ) → t < q → get_or block t none ≡ packed_hull_in n row t i) →
-    (t : ℕ) → t < q + 1 → get_or new t none ≡ packed_hull_in n row t i
-block_more n i q row block new h inside is_h is so_far t lt = go (before_or t q lt)
-  where
-    before_or : (t q : ℕ) → t < q + 1 → (t < q) ⊎ (t ≡ q)
-    before_or t q lt = grind arith
-
-    go : (t < q) ⊎ (t ≡ q) → get_or new t none ≡ packed_hull_in n row t i
-    go (inl less) = ap (λ z. get_or z t none) is ∙ get_or-set_other block q t h none (λ e. omega (arith, e, less)) ∙ so_far t less
-    go (inr e) =
-        ap (λ z. get_or z t none) is ∙ ap (λ z. get_or (set block q h) z none) e ∙ get_or-set_same block q h none inside ∙ is_h
-        ∙ ap (λ z. packed_hull_in n row z i) (sym e)

@@ -31,7 +31,7 @@ mod tables;
 
 pub use cell_values::CellValues;
 pub use looks::{ends, is_looked, looked_count, read_at};
-pub use packed_rows::{first_packed_row, next_packed_row, unpack_block};
+pub use packed_rows::{first_packed_row, next_packed_row};
 pub use row::fill_row;
 pub use spans::{term_span, value_span};
 pub use table::HullTable;

@@ -1,18 +1,16 @@
-//! Packed rows of hulls: that of a cell made from that of the cell before, and the plain hulls of a value taken from
-//! it.
+//! Packed rows of hulls: that of a cell made from that of the cell before.
 
-ghost use Rattle.std.specs.Prelude.{◌≡◌, ◌+◌, ◌*◌, ◌<◌, ◌≤◌, ℤ, List, [], ◌∷◌, IfOk, get_or, length, slice_range};
+ghost use Rattle.std.specs.Prelude.{◌≡◌, ◌≤◌, ℤ, List, [], ◌∷◌, IfOk, length};
 ghost use Rattle.ts_bound.specs.PackedRows.{IsPackedRow};
 ghost use Rattle.ts_row.specs.Plans.{IsPlanOf};
-ghost use Rattle.ts_row.specs.Rows.{IsRow, flat_row, hull_in};
+ghost use Rattle.ts_row.specs.Rows.{IsRow};
 ghost use Rattle.ts_row.specs.Takings.{count_in};
 ghost use Rattle.ts_sweep.specs.Packed.{is_wide};
 
 use std::alloc::Global;
-use ts_automaton::{Automaton, Hull};
+use ts_automaton::Automaton;
 use ts_base::Memory;
 use ts_row::{Cell, PackedRow, Plan, next_row, start_row};
-use ts_sweep::strided::unpacked;
 
 /// Makes of `row` that of the cell at which runs start, in the same memory. After `Memory` it holds whatever hulls.
 pub fn first_packed_row<const N: usize>(
@@ -51,35 +49,4 @@ pub fn next_packed_row<const N: usize>(
 {
     next_row(alloc, a, plan, values, before, next_values, next)?;
     Ok(())
-}
-
-/// The hull of a state at a place of a packed row.
-fn unpacked_hull<const N: usize>(row: &PackedRow<N>, q: u8, i: usize) -> Hull
-    requires registers { 6 ≤ N }
-    requires lanes { N ≤ 64 }
-    requires state { q < length row.now }
-    requires inside { i < length (get_or row.now q []) }
-    ensures { result ≡ hull_in N row.now q i }
-{
-    unpacked(&row.column(q)[i])
-}
-
-/// The hulls of the value at place `i` of a packed row, one for each state.
-pub fn unpack_block<const N: usize>(
-    row: &PackedRow<N>,
-    states: u8,
-    count: usize,
-    i: usize,
-    block: &mut [Hull],
-)
-    requires registers { 6 ≤ N }
-    requires lanes { N ≤ 64 }
-    requires row { IsRow N states count row.now }
-    requires inside { i < count }
-    requires block { length block.old ≡ states }
-    ensures { block.new ≡ slice_range (flat_row N states count row.now) (i * states) (i * states + states) }
-{
-    for q in 0..states {
-        block[q as usize] = unpacked_hull(row, q, i);
-    }
 }

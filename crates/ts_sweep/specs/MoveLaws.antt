@@ -1,4 +1,5 @@
 -- The laws of moves on lanes.
+-- Lemmas, no definitions: they are here since ghost members of impls cite them.
 use Rattle.std.proofs.Common.{◌≡◌, ◌⊎◌, inl, inr, ℕ, zero, suc, ◌+◌, ◌*◌, ◌<◌, ◌≤◌, ◌<ℤ◌, ℤ, pos, Bool, true, false, cond, ◌||◌, not, Option, None, Some, nat_eq, List, [], ◌∷◌, length, get_or, set, refl, sym, ap, subst, ◌∙◌, arith}
 use Rattle.std.specs.Ordering.{int_eq}
 use Rattle.std.proofs.lemmas.Bool.{eqb-true, eqb-false, leb-true}
@@ -201,17 +202,6 @@ all_unpacked n xs e s big h p =
     same_by (name_span ys) s
     (λ k. ap (λ m. span_in_lanes ys (place m k)) some.len
     ∙ pack_span n ys (place n k) (e k) (s k) (placed n k big) some (all_here n xs e big h.len k) (p k))
-
--- lanes under a cover are fit where each part says so
-
-placed_fit : (o : Option ℕ) (P : Type 0) → P → IfPlaced o P
-placed_fit None P p = tt
-placed_fit (Some q) P p = p
-
-pub parts_fit : (n : ℕ) (fit : Name → List ℤ → Type 0) (xs : List ℤ) → 6 ≤ n → ((k : Name) → AreSome n xs → fit k xs) →
-    IsPacked n xs → IsFitFor n fit xs
-parts_fit n fit xs big f (inl e) = inl e
-parts_fit n fit xs big f (inr s) = inr (big, s, λ k. placed_fit (place n k) (fit k xs) (f k s))
 
 -- whether registers lie in lanes
 

@@ -1,4 +1,5 @@
 -- The values of a cell without gaps are small.
+-- Lemmas, no definitions: they are here since ghost members of impls cite them.
 use Rattle.std.proofs.Common.{ℕ, ◌<◌, ◌≤◌, ℤ, pos, ◌+ℤ◌, arith}
 use Rattle.std.proofs.lemmas.Int.{ints}
 use Rattle.ts_sweep.specs.Small.{IsCell, IsSmall}
