@@ -1,33 +1,27 @@
-//! Whole runs over a source and a sink in memory: what stands in the sink, and the status.
+//! Whole runs over a source and a sink in memory that fail, or that give and take a few bytes a call: what stands in
+//! the sink, and the status. Runs over devices that don't fail are rows of `examples/rows`, by the built program.
 
 use std::alloc::{AllocError, Global};
-use ts_base::{MemorySink, MemorySource};
+use ts_base::{MemorySink, MemorySource, read_all};
 use ts_run::{Status, run};
 
-mod check;
-mod compile;
-mod faults;
-mod mark;
-mod readings;
-mod rules;
-mod sample;
-mod searches;
-mod verify;
-mod watch;
+mod rows;
 
-/// An input, what is taken of the answer, and the status.
+use rows::{PEAK, pieces, rows};
+
+/// A call, what a read gives at most and which read fails, the same of the sink's writes, and how it ends.
 #[derive(Clone, Copy)]
-struct Case {
+struct Row {
+    words: &'static str,
     input: &'static [u8],
+    /// No call is call 0.
+    source: (usize, u64),
+    /// To finish is the call behind the last write.
+    sink: (usize, u64),
     taken: &'static [u8],
     status: Status,
-}
-
-/// So many spaces, and the input.
-fn behind(alloc: Global, spaces: usize, input: &[u8]) -> Result<Vec<u8>, AllocError> {
-    let mut bytes = vec![in alloc; b' '; spaces]?;
-    bytes.extend_from_slice(input)?;
-    Ok(bytes)
+    /// How many bytes the source still has, where it is asked.
+    left: Option<usize>,
 }
 
 fn words_of(alloc: Global, words: &str) -> Result<Vec<String>, AllocError> {
@@ -38,66 +32,73 @@ fn words_of(alloc: Global, words: &str) -> Result<Vec<String>, AllocError> {
     Ok(all)
 }
 
-/// Whether a call with these words takes this of its answer to the input, and has this status.
-fn gives(
-    alloc: Global,
-    words: &str,
-    input: &[u8],
-    taken: &[u8],
-    status: Status,
-) -> Result<bool, AllocError> {
-    let (found, told) = outcome(alloc, words, input)?;
-    Ok(found.as_slice() == taken && told == status)
+/// Whether the call ends so, where a read gives at most so many bytes.
+fn ends_so(alloc: Global, row: &Row, step: usize) -> Result<bool, AllocError> {
+    let words = words_of(alloc, row.words)?;
+    let bytes = Vec::from_slice(alloc, row.input)?;
+    let mut source = MemorySource::new(bytes, step.max(1), vec![in alloc; row.source.1]?);
+    let mut sink = MemorySink::new(alloc, row.sink.0.max(1), vec![in alloc; row.sink.1]?);
+    let status = run(alloc, &words, &mut source, &mut sink);
+    if sink.bytes() != row.taken || status != row.status {
+        return Ok(false);
+    }
+    match (row.left, read_all(alloc, &mut source, 4096)) {
+        (None, _) => Ok(true),
+        (Some(left), Ok(bytes)) => Ok(left == bytes.len()),
+        (Some(_), Err(_)) => Ok(false),
+    }
 }
 
-/// Whether the call takes what a case says of its answer, and has its status, where a read gives at most so many bytes.
-fn is_answered(alloc: Global, words: &str, case: &Case, step: usize) -> Result<bool, AllocError> {
-    let (taken, status) = outcome_in_steps(alloc, words, case.input, step)?;
-    Ok(taken.as_slice() == case.taken && status == case.status)
+/// The line of a reading is written before the next byte is read: where that write fails, all that comes behind the
+/// reading's LF is still in the source. Where a read fails, the lines that had their LF are told before.
+#[test]
+fn faults_of_devices(rt: HostRuntime) -> Result<(), AllocError> {
+    for (place, row) in rows().iter().enumerate() {
+        assert!(rt; ends_so(rt.alloc(), row, row.source.0)?, "row {place}");
+    }
+    Ok(())
 }
 
-/// The first input, counted from 0, that has another answer or another status under one of the steps.
-fn first_wrong_in_steps(
-    alloc: Global,
-    words: &str,
-    cases: &[Case],
-    steps: &[usize],
-) -> Result<Option<usize>, AllocError> {
-    for row in 0..cases.len() {
-        for step in steps {
-            if !is_answered(alloc, words, &cases[row], *step)? {
-                return Ok(Some(row));
-            }
+/// The answer of `check` to a peak.
+const MEETS: &[u8] = b"meets\nvalue w 4\n";
+
+/// A call of `check` that fails at one of its reads, or at one of its writes of a byte each.
+fn check_of_peak(read: u64, write: u64, taken: &'static [u8], status: Status) -> Row {
+    Row {
+        words: "check",
+        input: PEAK,
+        source: (16, read),
+        sink: (1, write),
+        taken,
+        status,
+        left: None,
+    }
+}
+
+/// Five reads give the bytes and the sixth finds the end. Each is told where it fails, and no seventh is made. A write
+/// that fails leaves the bytes before it, the `finish` behind them all, and nothing comes later.
+#[test]
+fn each_call_fails(rt: HostRuntime) -> Result<(), AllocError> {
+    let alloc = rt.alloc();
+    for call in 1..=6 {
+        let row = check_of_peak(call, 0, b"fault read\n", Status::ReadFault);
+        assert!(rt; ends_so(alloc, &row, 16)?, "read {call}");
+    }
+    for taken in 0..MEETS.len() + 1 {
+        let row = check_of_peak(0, taken as u64 + 1, &MEETS[..taken], Status::WriteFault);
+        assert!(rt; ends_so(alloc, &row, 16)?, "write {taken}");
+    }
+    assert!(rt; ends_so(alloc, &check_of_peak(7, 18, MEETS, Status::Done), 16)?);
+    Ok(())
+}
+
+/// Wherever the input is cut.
+#[test]
+fn input_in_pieces(rt: HostRuntime) -> Result<(), AllocError> {
+    for (place, row) in pieces().iter().enumerate() {
+        for step in [1, 2, 7, 65_536] {
+            assert!(rt; ends_so(rt.alloc(), row, step)?, "row {place} by {step}");
         }
     }
-    Ok(None)
-}
-
-/// The first input, counted from 0, that has another answer or another status.
-fn first_wrong(alloc: Global, words: &str, cases: &[Case]) -> Result<Option<usize>, AllocError> {
-    first_wrong_in_steps(alloc, words, cases, &[4096])
-}
-
-/// What a call with these words takes of its answer to the input, and its status.
-fn outcome(alloc: Global, words: &str, input: &[u8]) -> Result<(Vec<u8>, Status), AllocError> {
-    outcome_in_steps(alloc, words, input, 4096)
-}
-
-/// The same where a read gives at most so many bytes, and at least one.
-fn outcome_in_steps(
-    alloc: Global,
-    words: &str,
-    input: &[u8],
-    step: usize,
-) -> Result<(Vec<u8>, Status), AllocError> {
-    let words = words_of(alloc, words)?;
-    let mut source = source_of(alloc, input, step)?;
-    let mut sink = MemorySink::new(alloc, 4096, Vec::new(alloc));
-    let status = run(alloc, &words, &mut source, &mut sink);
-    Ok((Vec::from_slice(alloc, sink.bytes())?, status))
-}
-
-fn source_of(alloc: Global, input: &[u8], step: usize) -> Result<MemorySource, AllocError> {
-    let bytes = Vec::from_slice(alloc, input)?;
-    Ok(MemorySource::new(bytes, step.max(1), Vec::new(alloc)))
+    Ok(())
 }

@@ -2,9 +2,9 @@
 //!
 //! A crate with tests is proved twice, once without them and once with them. So tests of public calls stand in crates
 //! where nothing else is proved: here, in `ts_machine_tests` those of automata, boxes and spans, in `ts_search_tests`
-//! those of values of models, searches and verdicts, in `ts_tests` those of `ts_run`. Whole runs stand in `ts_cli`.
-//! Each module is named for what it tries, and each expected value comes from outside the program: from a definition
-//! worked out by hand, or by enumeration.
+//! those of values of models, searches and verdicts, in `ts_tests` those of `ts_run`. What a whole run of a command
+//! tells is no test but a row of `examples/rows`. Each module is named for what it tries, and each expected value comes
+//! from outside the program: from a definition worked out by hand, or by enumeration.
 #![tactic(auto)]
 
 #[cfg(test)]
@@ -37,7 +37,5 @@ mod tables;
 mod tokens;
 #[cfg(test)]
 mod transducers;
-#[cfg(test)]
-mod user_texts;
 #[cfg(test)]
 mod validated;

@@ -9,7 +9,7 @@ use std::alloc::Global;
 use ts_base::{Memory, Range};
 use ts_mark::marks;
 use ts_token::{cut_tokens, number};
-use ts_user::{build_plan, read_pattern};
+use ts_user::{build_plan, read_pattern, read_pattern_text};
 use ts_validate::{Validated, validate};
 
 static PATTERNS: &str = "\
@@ -77,13 +77,17 @@ pub(super) fn patterns() -> &'static str {
     PATTERNS
 }
 
-/// The transducer that a text states, known to find the occurrences of its pattern; None where it isn't.
-fn validated(alloc: Global, text: &[u8]) -> Option<Validated> {
+/// The transducer that a text states, known to find the occurrences of its pattern; None where it isn't. The text is
+/// read line by line, or by the words of all lines.
+fn validated(alloc: Global, text: &[u8], by_lines: bool) -> Option<Validated> {
     if text.len() > 10_000 {
         return None;
     }
-    let tokens = cut_tokens(alloc, text).ok()?;
-    let user = read_pattern(alloc, &tokens).ok()?;
+    let user = if by_lines {
+        read_pattern_text(alloc, text).ok()?
+    } else {
+        read_pattern(alloc, &cut_tokens(alloc, text).ok()?).ok()?
+    };
     let plan = build_plan(alloc, &user.transducer, &user.pattern).ok()?;
     validate(alloc, user.transducer, &user.pattern, &plan).ok()
 }
@@ -150,7 +154,10 @@ pub(super) fn marks_as_named(alloc: Global, row: &[u8]) -> Result<bool, Memory> 
     };
     let text = text_of(alloc, written)?;
     let line = catalogue_line(alloc, word(head, 0))?;
-    match (validated(alloc, &text), validated(alloc, &line)) {
+    match (
+        validated(alloc, &text, false),
+        validated(alloc, &line, true),
+    ) {
         (Some(v), Some(w)) => are_so_many(alloc, &v, &w, number(word(head, 1))),
         _ => Ok(false),
     }

@@ -1,7 +1,6 @@
-//! Model and series texts with their answers, worked out by hand.
+//! What models hold that were read of texts, worked out by hand. Texts that are refused are in `examples/rows`.
 //!
-//! A table is one literal of rows: what is told, a `|`, and the text of which it is told, in which `/` stands for LF. A
-//! row without `|` is a heading.
+//! A table is one literal of rows: what is told, a `|`, and the text of which it is told, in which `/` stands for LF.
 
 ghost use Rattle.std.specs.Prelude.{◌+◌, ◌<◌, ◌≤◌, length};
 ghost use Rattle.ts_model.specs.LineByLine.{HasRoom, lines_read};
@@ -9,13 +8,35 @@ ghost use Rattle.ts_model.specs.LineByLine.{HasRoom, lines_read};
 use super::rows::{halves, text_of};
 use std::alloc::{AllocError, Global};
 use ts_base::{Memory, first_line};
-use ts_model::{Model, ModelReader, ModelStop, Need, read_model};
-use ts_token::ShortLine;
+use ts_model::{Model, ModelReader, ModelStop, Need, read_model, read_series};
+use ts_token::{ShortLine, cut_tokens};
 
 mod comparisons;
-pub(super) mod held;
-pub(super) mod series;
-pub(super) mod texts;
+
+/// The number of cells, the values of each behind a colon, the objective, the requirements and the terms; or the line
+/// that is refused, and why.
+static HELD: &str = "\
+2: 0 1 2 3 4 5 6 7 8 9: 0 1 2 3 4 5 6 7 8 9 None [] {}|cells 2/
+3: 5: 0 1 2 3 4 5 6 7 8 9: 0 1 2 3 4 5 6 7 8 9 None [] {}|cells 3/cell 1 5/
+2: 0 1 2 3 4 5 6 7 8 9: -7 -6 0 3 4 5 None [] {}|cells 2/cell 2 0 3..5 -7..-6 4/
+3: 0 1 2 3: 2 3 4 5: 0 1 2 3 None [] {}|cells 3/domain 0..3/cell 2 2..5/
+2: 0 1: 0 1 None [] {}|cells 2/cell 1 5/domain 0 1/
+2: 2: 0 1 2 3 4 5 6 7 8 9 None [] {}|cells 2/cell 1 5/cell 1 2/
+2: 5 6: 5 6 None [] {}|cells 2/domain 0..3/domain 5..6/
+2: 0 1 2 3 4 7 9: 0 1 2 3 4 7 9 None [] {}|cells 2/domain 9 0..2 7 2..4 1 7 3 0 0/
+3: 0 1: 5 6 7: 0 1 Some(1) \
+    [Require { term: 1, op: AtMost, bound: NegInf }, Require { term: 0, op: Above, bound: Int(4) }] \
+    {\"w\": Term { aggregator: Sum, feature: Width, pattern: Peak }, \
+    \"c\": Term { aggregator: Sum, feature: One, pattern: Peak }, \
+    \"a\": Term { aggregator: Max, feature: Min, pattern: Valley }}|\
+    cells 3/domain 0..1/term w = sum width peak/term c = count peak/term a = max min valley/cell 2 7 5..6 6/\
+    require c <= -inf/require w > 4/objective c/
+3 UnknownLine|cells 2/# \t one/foo 1/";
+
+// The table behind a function, so that the proof of a test doesn't read it.
+pub(super) fn held() -> &'static str {
+    HELD
+}
 
 /// How the lines of a model are read.
 #[derive(Clone, Copy)]
@@ -26,58 +47,46 @@ enum Way {
     Shortened,
 }
 
-/// `ok`, or why no model was read.
-fn outcome(alloc: Global, read: Result<Model, ModelStop>) -> Result<String, AllocError> {
+/// What is told of a text.
+fn told(alloc: Global, read: Result<Model, ModelStop>) -> Result<String, AllocError> {
     match read {
-        Ok(_) => String::from_str(alloc, "ok"),
+        Ok(model) => parts_of(alloc, &model),
         Err(ModelStop::Refused { line, kind }) => format!(in alloc; "{line} {kind:?}"),
         Err(ModelStop::Memory) => String::from_str(alloc, "memory"),
     }
 }
 
-/// Whether this is told of a text, in whatever way its lines are read.
-fn is_outcome(alloc: Global, need: Need, text: &[u8], want: &[u8]) -> Result<bool, Memory>
-    requires { length text.now < 10000 }
-{
+/// Whether of the text of a row is told what the row says, in whatever way its lines are read.
+pub(super) fn is_held(alloc: Global, row: &[u8]) -> Result<bool, Memory> {
+    let Some((want, written)) = halves(row) else {
+        return Ok(false);
+    };
+    let text = text_of(alloc, written)?;
+    if text.len() >= 10_000 {
+        return Ok(false);
+    }
     for way in [Way::Together, Way::OneByOne, Way::Shortened] {
-        if outcome(alloc, read_by(alloc, need, text, way))?.as_bytes() != want {
+        if told(alloc, read_by(alloc, &text, way))?.as_bytes() != want {
             return Ok(false);
         }
     }
     Ok(true)
 }
 
-/// Whether a model is read of the text of a row, for this need, or why not.
-pub(super) fn is_told(alloc: Global, need: Need, row: &[u8]) -> Result<bool, Memory> {
-    let Some((want, written)) = halves(row) else {
-        return Ok(true);
-    };
-    let text = text_of(alloc, written)?;
-    if text.len() >= 10_000 {
-        return Ok(false);
-    }
-    is_outcome(alloc, need, &text, want)
-}
-
-fn read_by(alloc: Global, need: Need, text: &[u8], way: Way) -> Result<Model, ModelStop>
+fn read_by(alloc: Global, text: &[u8], way: Way) -> Result<Model, ModelStop>
     requires { length text.now < 10000 }
 {
     match way {
-        Way::Together => read_model(alloc, text, need),
-        Way::OneByOne => read_by_lines(alloc, need, text, false),
-        Way::Shortened => read_by_lines(alloc, need, text, true),
+        Way::Together => read_model(alloc, text, Need::Values),
+        Way::OneByOne => read_by_lines(alloc, text, false),
+        Way::Shortened => read_by_lines(alloc, text, true),
     }
 }
 
-fn read_by_lines(
-    alloc: Global,
-    need: Need,
-    text: &[u8],
-    shortened: bool,
-) -> Result<Model, ModelStop>
+fn read_by_lines(alloc: Global, text: &[u8], shortened: bool) -> Result<Model, ModelStop>
     requires { length text.now < 10000 }
 {
-    let mut reader = ModelReader::new(alloc, need)?;
+    let mut reader = ModelReader::new(alloc, Need::Values)?;
     let mut rest = text;
     while !rest.is_empty() {
         let (line, left) = first_line(rest);
@@ -103,4 +112,43 @@ fn read_line(
     let mut kept = ShortLine::new(alloc);
     kept.feed(line)?;
     reader.line(kept.bytes())
+}
+
+fn parts_of(alloc: Global, model: &Model) -> Result<String, AllocError> {
+    let Model {
+        n,
+        objective,
+        requirements,
+        terms,
+        ..
+    } = model;
+    let values = values_of(alloc, model)?;
+    format!(in alloc; "{n}{values} {objective:?} {requirements:?} {terms:?}")
+}
+
+/// A colon for each cell, and its values behind it.
+fn values_of(alloc: Global, model: &Model) -> Result<String, AllocError> {
+    let mut text = String::new(alloc);
+    for cell in &model.cells {
+        text.push_str(":")?;
+        for value in cell.values() {
+            text.push_str(&format!(in alloc; " {value}")?)?;
+        }
+    }
+    Ok(text)
+}
+
+/// Whether of the text of a row is read the series that the row says, for so many cells.
+pub(super) fn is_read(alloc: Global, cells: u32, row: &[u8]) -> Result<bool, Memory> {
+    let Some((want, written)) = halves(row) else {
+        return Ok(false);
+    };
+    let text = text_of(alloc, written)?;
+    if text.len() >= 10_000 {
+        return Ok(false);
+    }
+    let tokens = cut_tokens(alloc, &text)?;
+    let found = read_series(alloc, &tokens, cells);
+    let told = format!(in alloc; "{found:?}")?;
+    Ok(told.as_bytes() == want)
 }

@@ -1,5 +1,6 @@
 //! The tests of the values of models, of readings that come one by one, of searches, and of what checks their
-//! certificates.
+//! certificates, as far as no command prints what is tried, and each public call once. What commands print of models is
+//! in the tables of `examples/rows`.
 //!
 //! Why tests stand in crates of their own is told in `ts_pattern_tests`. Each module is named for what it tries, and
 //! each expected value comes from outside the program: from a definition worked out by hand, or by enumeration.
@@ -8,10 +9,4 @@
 #[cfg(test)]
 mod checked;
 #[cfg(test)]
-mod judged;
-#[cfg(test)]
-mod programs;
-#[cfg(test)]
-mod readings;
-#[cfg(test)]
-mod solving;
+mod models;

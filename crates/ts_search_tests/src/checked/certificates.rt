@@ -1,8 +1,7 @@
-//! What a checker tells before each line of a certificate, and its verdict. More verdicts are tried by `ts_cli`.
+//! What a checker tells before each line of a certificate, and its verdict. More verdicts are in `examples/rows`.
 
 ghost use Rattle.std.specs.Prelude.{◌≡◌, IfOk, false};
 
-use crate::checked::peaks;
 use Verdict::{Accepted, Refused};
 use std::alloc::Global;
 use ts_base::Memory;
@@ -10,13 +9,16 @@ use ts_checker::{Checker, Verdict};
 use ts_compile::compile_model;
 use ts_model::{Need, read_model};
 
+/// A model: three cells of 0 and 1, and the peaks counted.
+static PEAKS: &str = "cells 3\ndomain 0..1\nterm c = count peak\nobjective c\n";
+
 /// A line of a certificate for `PEAKS`; before it so many boxes wait, and this line was the first that broke its rule.
 type Step = (&'static str, u64, Option<u32>);
 
 /// Lines, how many boxes wait behind them, the first line that broke its rule, and the verdict.
 type Steps = (&'static [Step], u64, Option<u32>, Verdict);
 
-/// The lines of `PROOF`; and a split with an empty side, which breaks its rule and stays the first line that did when a
+/// A proof that the best series has one peak; and a split with an empty side, which breaks its rule and stays the first line that did when a
 /// later one is refused.
 static ALL: [Steps; 2] = [
     (
@@ -54,7 +56,11 @@ static ALL: [Steps; 2] = [
     ),
 ];
 
-// The table behind a function, so that the proof of the test doesn't read it.
+// The text and the table behind functions, so that the proofs of the tests don't read them.
+fn peaks() -> &'static str {
+    PEAKS
+}
+
 fn all_steps() -> &'static [Steps] {
     &ALL
 }

@@ -2,7 +2,6 @@
 
 ghost use Rattle.std.specs.Prelude.{◌≡◌, ◌<◌, IfOk, false, length};
 
-use crate::checked::{peaks, proof};
 use Verdict::{Accepted, Refused, Rejected};
 use std::alloc::Global;
 use std::test::Fail;
@@ -10,51 +9,76 @@ use ts_base::Memory;
 use ts_checker::{Verdict, Verifier, VerifyEnd};
 use ts_model::ModelKind;
 
-/// Inputs of `verify`, how each ends, and the line that has failed before its end.
-static INPUTS: [(&str, VerifyEnd, Option<u32>); 9] = [
+/// What stands before a word that comes 1,500 times, the word, what stands behind it, how the input ends, and the line
+/// that has failed before its end.
+type Input = (
+    &'static str,
+    &'static str,
+    &'static str,
+    VerifyEnd,
+    Option<u32>,
+);
+
+static INPUTS: [Input; 17] = [
     (
         "cells 3\ndomain 0..1\nterm c = count peak\nobjective c\n%%\nmaximise\nbest 1\nseries 0 1 0\n\
          split 1 0\nsplit 2 0\nworse 3\nsplit 3 0\nworse 3\nworse 3\nworse 3\nend 7 0\n",
+        "",
+        "",
         VerifyEnd::Verdict(Accepted),
         None,
     ),
     // a line that breaks its rule, and one against the grammar behind it
     (
         "cells 1\ndomain 0..1\n \t%% \r\ngenerate 1\nbudget 0\nopen\nopen\nend 0 2\n",
+        "",
+        "",
         VerifyEnd::Verdict(Rejected(4)),
         Some(4),
     ),
     (
         "cells 1\ndomain 0..1\n%%\ngenerate 1\nbudget 0\nopen\nopen\nend 0 02\n",
+        "",
+        "",
         VerifyEnd::Verdict(Refused(5)),
         Some(5),
     ),
     // a last line without an LF is no line of a certificate, and none has failed before it
     (
         "cells 1\ndomain 0..1\n%%\ngenerate 1\nbudget 0\nopen\nend 0 1",
+        "",
+        "",
         VerifyEnd::Verdict(Refused(4)),
         None,
     ),
     // the end is missing
     (
         "cells 1\ndomain 0..1\n%%\ngenerate 1\nbudget 0\nopen\n",
+        "",
+        "",
         VerifyEnd::Verdict(Refused(4)),
         None,
     ),
     // the certificate is empty, behind `%%` and without it
     (
         "cells 1\ndomain 0..1\n%%",
+        "",
+        "",
         VerifyEnd::Verdict(Refused(1)),
         None,
     ),
     (
         "cells 1\ndomain 0..1\n# %%",
+        "",
+        "",
         VerifyEnd::Verdict(Refused(1)),
         None,
     ),
     // the model is refused, whatever stands behind it
     (
         "cells 3\ncells 3\n%%\nmaximise\n",
+        "",
+        "",
         VerifyEnd::Model {
             line: 2,
             kind: ModelKind::CellsTwice,
@@ -64,11 +88,77 @@ static INPUTS: [(&str, VerifyEnd, Option<u32>); 9] = [
     // a word that begins like `%%`
     (
         "cells 3\n%%%\n%%\n",
+        "",
+        "",
         VerifyEnd::Model {
             line: 2,
             kind: ModelKind::UnknownLine,
         },
         None,
+    ),
+    // one long line
+    (
+        "cells 1\ndomain 0..1",
+        " 0..1",
+        "\n%%\ngenerate 1\nbudget 0\nopen\nend 0 1\n",
+        VerifyEnd::Verdict(Accepted),
+        None,
+    ),
+    (
+        "cells 1\ndomain 0..1\n#",
+        " \t word",
+        "\n%%\ngenerate 1\nbudget 0\nopen\nend 0 1\n",
+        VerifyEnd::Verdict(Accepted),
+        None,
+    ),
+    (
+        "cells 1\ndomain 0..1\n",
+        " \t  ",
+        "%%\ngenerate 1\nbudget 0\nopen\nend 0 1\n",
+        VerifyEnd::Verdict(Accepted),
+        None,
+    ),
+    (
+        "cells 1\n",
+        "words",
+        " 1\n%%\ngenerate 1\n",
+        VerifyEnd::Model {
+            line: 2,
+            kind: ModelKind::UnknownLine,
+        },
+        None,
+    ),
+    (
+        "cells 1\nword",
+        " word",
+        "\u{1}\n%%\ngenerate 1\n",
+        VerifyEnd::Model {
+            line: 2,
+            kind: ModelKind::NotText,
+        },
+        None,
+    ),
+    // a series of more numbers than there may be cells, and one that is none
+    (
+        "cells 1\ndomain 0..1\n%%\ngenerate 1\nfull 1\nseries",
+        " 0",
+        "\nopen\nend 0 1\n",
+        VerifyEnd::Verdict(Rejected(3)),
+        Some(3),
+    ),
+    (
+        "cells 1\ndomain 0..1\n%%\ngenerate 1\nfull 1\nseries",
+        " 0",
+        "a\nopen\nend 0 1\n",
+        VerifyEnd::Verdict(Refused(3)),
+        Some(3),
+    ),
+    (
+        "cells 1\ndomain 0..1\n%%\ngenerate 1\nfull 1\nseries 0\n",
+        "yes ",
+        "\nend 1 0\n",
+        VerifyEnd::Verdict(Refused(4)),
+        Some(4),
     ),
 ];
 
@@ -85,77 +175,13 @@ static FEEDS: [(&str, Option<u32>); 9] = [
     ("open\n", Some(5)),
 ];
 
-/// Inputs of `verify` with one long line: what stands before, a word that comes 1,500 times, what stands behind it, and
-/// how the input ends.
-static LONG: [(&str, &str, &str, VerifyEnd); 8] = [
-    (
-        "cells 1\ndomain 0..1",
-        " 0..1",
-        "\n%%\ngenerate 1\nbudget 0\nopen\nend 0 1\n",
-        VerifyEnd::Verdict(Accepted),
-    ),
-    (
-        "cells 1\ndomain 0..1\n#",
-        " \t word",
-        "\n%%\ngenerate 1\nbudget 0\nopen\nend 0 1\n",
-        VerifyEnd::Verdict(Accepted),
-    ),
-    (
-        "cells 1\ndomain 0..1\n",
-        " \t  ",
-        "%%\ngenerate 1\nbudget 0\nopen\nend 0 1\n",
-        VerifyEnd::Verdict(Accepted),
-    ),
-    (
-        "cells 1\n",
-        "words",
-        " 1\n%%\ngenerate 1\n",
-        VerifyEnd::Model {
-            line: 2,
-            kind: ModelKind::UnknownLine,
-        },
-    ),
-    (
-        "cells 1\nword",
-        " word",
-        "\u{1}\n%%\ngenerate 1\n",
-        VerifyEnd::Model {
-            line: 2,
-            kind: ModelKind::NotText,
-        },
-    ),
-    // a series of more numbers than there may be cells, and one that is none
-    (
-        "cells 1\ndomain 0..1\n%%\ngenerate 1\nfull 1\nseries",
-        " 0",
-        "\nopen\nend 0 1\n",
-        VerifyEnd::Verdict(Rejected(3)),
-    ),
-    (
-        "cells 1\ndomain 0..1\n%%\ngenerate 1\nfull 1\nseries",
-        " 0",
-        "a\nopen\nend 0 1\n",
-        VerifyEnd::Verdict(Refused(3)),
-    ),
-    (
-        "cells 1\ndomain 0..1\n%%\ngenerate 1\nfull 1\nseries 0\n",
-        "yes ",
-        "\nend 1 0\n",
-        VerifyEnd::Verdict(Refused(4)),
-    ),
-];
-
 // The tables behind functions, so that the proofs of the tests don't read them.
-fn inputs() -> &'static [(&'static str, VerifyEnd, Option<u32>)] {
+fn inputs() -> &'static [Input] {
     &INPUTS
 }
 
 fn feeds() -> &'static [(&'static str, Option<u32>)] {
     &FEEDS
-}
-
-fn long_inputs() -> &'static [(&'static str, &'static str, &'static str, VerifyEnd)] {
-    &LONG
 }
 
 /// Rows have no longer texts, and lists no more rows.
@@ -177,36 +203,38 @@ fn fed(alloc: Global, text: &[u8], size: usize) -> Result<Verifier, Memory>
     Ok(verifier)
 }
 
-/// The text ends so, wherever it is cut.
-fn ends_so(alloc: Global, text: &[u8], end: VerifyEnd) -> Result<bool, Memory>
-    requires { length text.now < 2000000 }
-{
+/// The head, 1,500 times the word, and the tail.
+fn filled(alloc: Global, head: &str, word: &str, tail: &str) -> Result<Vec<u8>, Memory> {
+    let mut text = Vec::new(alloc);
+    text.extend_from_slice(head.as_bytes())?;
+    for _ in 0..1_500 {
+        text.extend_from_slice(word.as_bytes())?;
+    }
+    text.extend_from_slice(tail.as_bytes())?;
+    Ok(text)
+}
+
+/// Whether an input ends so and this line has failed before, wherever it is cut.
+fn ends_so(alloc: Global, input: &Input) -> Result<bool, Memory> {
+    let (head, word, tail, end, failed) = *input;
+    let text = filled(alloc, head, word, tail)?;
+    if text.len() > MOST {
+        return Ok(false);
+    }
     Ok(
-        fed(alloc, text, 1)?.finish()? == end
-            && fed(alloc, text, 7)?.finish()? == end
-            && fed(alloc, text, 4_096)?.finish()? == end,
+        fed(alloc, &text, 1)?.finish()? == end
+            && fed(alloc, &text, 7)?.finish()? == end
+            && fed(alloc, &text, 4_096)?.finish()? == end
+            && fed(alloc, &text, 7)?.failed() == failed,
     )
 }
 
-fn fails_so(alloc: Global, text: &[u8], failed: Option<u32>) -> Result<bool, Memory>
-    requires { length text.now < 2000000 }
-{
-    Ok(fed(alloc, text, 7)?.failed() == failed)
-}
-
-/// The first row that ends or fails otherwise.
-fn first_wrong_input(alloc: Global) -> Result<Option<usize>, Memory> {
-    let rows = inputs();
-    for k in 0..rows.len() {
-        let (text, end, failed) = rows[k];
-        if text.len() > MOST {
-            return Ok(Some(k));
-        }
-        if !ends_so(alloc, text.as_bytes(), end)? || !fails_so(alloc, text.as_bytes(), failed)? {
-            return Ok(Some(k));
-        }
+#[test]
+fn pieces(rt: HostRuntime) -> Result<(), Fail> {
+    for (place, input) in inputs().iter().enumerate() {
+        assert!(rt; ends_so(rt.alloc(), input)?, "row {place}");
     }
-    Ok(None)
+    Ok(())
 }
 
 /// The first row behind whose piece another line has failed.
@@ -226,95 +254,8 @@ fn first_wrong_feed(alloc: Global) -> Result<Option<usize>, Memory> {
     Ok(None)
 }
 
-/// The head, 1,500 times the word, and the tail.
-fn filled(alloc: Global, head: &str, word: &str, tail: &str) -> Result<Vec<u8>, Memory> {
-    let mut text = Vec::new(alloc);
-    text.extend_from_slice(head.as_bytes())?;
-    for _ in 0..1_500 {
-        text.extend_from_slice(word.as_bytes())?;
-    }
-    text.extend_from_slice(tail.as_bytes())?;
-    Ok(text)
-}
-
-fn long_ends_so(alloc: Global, row: &(&str, &str, &str, VerifyEnd)) -> Result<bool, Memory> {
-    let (head, word, tail, end) = *row;
-    let text = filled(alloc, head, word, tail)?;
-    if text.len() > MOST {
-        return Ok(false);
-    }
-    ends_so(alloc, &text, end)
-}
-
-/// The first row with a long line that ends otherwise.
-fn first_wrong_long(alloc: Global) -> Result<Option<usize>, Memory> {
-    let rows = long_inputs();
-    for k in 0..rows.len() {
-        if !long_ends_so(alloc, &rows[k])? {
-            return Ok(Some(k));
-        }
-    }
-    Ok(None)
-}
-
-/// How a model ends with this certificate behind it.
-pub(crate) fn end_behind(
-    alloc: Global,
-    model: &[u8],
-    certificate: &[u8],
-) -> Result<VerifyEnd, Memory>
-    requires model { length model.now < 2000000 }
-    requires certificate { length certificate.now < 2000000 }
-{
-    let mut verifier = Verifier::new(alloc);
-    verifier.feed(model)?;
-    verifier.feed(b"%%\n")?;
-    verifier.feed(certificate)?;
-    verifier.finish()
-}
-
-/// The first length such that the certificate, cut there, isn't refused at its next line.
-fn first_wrong_cut(alloc: Global, model: &[u8], certificate: &[u8]) -> Result<Option<usize>, Memory>
-    requires model { length model.now < 2000000 }
-    requires certificate { length certificate.now < 2000000 }
-{
-    let mut line: u32 = 1;
-    for length in 0..certificate.len() {
-        if end_behind(alloc, model, &certificate[..length])? != VerifyEnd::Verdict(Refused(line)) {
-            return Ok(Some(length));
-        }
-        if certificate[length] == b'\n' {
-            line = line.saturating_add(1);
-        }
-    }
-    Ok(None)
-}
-
-#[test]
-fn pieces(rt: HostRuntime) -> Result<(), Fail> {
-    assert_eq!(rt; first_wrong_input(rt.alloc())?, None);
-    Ok(())
-}
-
 #[test]
 fn failed_between_pieces(rt: HostRuntime) -> Result<(), Fail> {
     assert_eq!(rt; first_wrong_feed(rt.alloc())?, None);
-    Ok(())
-}
-
-#[test]
-fn long_lines(rt: HostRuntime) -> Result<(), Fail> {
-    assert_eq!(rt; first_wrong_long(rt.alloc())?, None);
-    Ok(())
-}
-
-#[test]
-fn cuts(rt: HostRuntime) -> Result<(), Fail> {
-    let (model, certificate) = (peaks(), proof());
-    assert!(rt; model.len() < MOST && certificate.len() < MOST);
-    assert_eq!(rt;
-        first_wrong_cut(rt.alloc(), model.as_bytes(), certificate.as_bytes())?,
-        None
-    );
     Ok(())
 }

@@ -3,6 +3,7 @@ use Rattle.std.specs.Prelude.{Result}
 use Rattle.ts_model.specs.declared.error.ModelStop.{ModelStop}
 use Rattle.ts_model.specs.declared.error.ModelStop.TheVariants.{Refused, Memory}
 use Rattle.ts_model.specs.declared.model.Need.{Need}
+use Rattle.ts_model.specs.declared.model.Need.TheVariants.{Values}
 use Rattle.ts_model.specs.LineByLine.{HasRead, SoFar, lines_read}
 use Rattle.ts_pattern_tests.proofs.models.read_by_lines.Goals as goal
 
@@ -13,7 +14,7 @@ none_counted need (Err Memory) h = absurd h
 
 pub loop-rest-init : goal.loop-rest-init
 loop-rest-init c =
-    let none = none_counted c.args.need c.in_ok-reader.reader c.in_ok-reader.ensures in omega (arith, none, c.requires)
+    let none = none_counted Values c.in_ok-reader.reader c.in_ok-reader.ensures in omega (arith, none, c.requires)
 
 pub read_line-requires-clause-room : goal.read_line-requires-clause-room
 read_line-requires-clause-room c = let few = c.loop-rest.invariant in omega (arith, few)
