@@ -31,6 +31,9 @@ struct Built {
 
 const PEAK: &str = "<=<|*>=|*>...";
 
+/// A rise, eight signs, and another rise.
+const FAR_APART: &str = "<<=|>|<=|>|<=|>|<=|>|<=|>|<=|>|<=|>|<=|>|<.........";
+
 const IDLE: State = (
     Kind::Idle,
     (Phase::Out, 0),
@@ -45,6 +48,14 @@ const RISING: State = (
     (Phase::Out, 0),
 );
 
+/// It goes to the second state on every sign.
+const LEAVING: State = (
+    Kind::Idle,
+    (Phase::Out, 1),
+    (Phase::Out, 1),
+    (Phase::Out, 1),
+);
+
 const PENDING: State = (
     Kind::Pending,
     (Phase::MaybeB, 1),
@@ -53,9 +64,10 @@ const PENDING: State = (
 );
 
 /// The catalogue's table of peak, with its plan; the same where a rise after a peak is taken for no rise; and two
-/// patterns under a transducer that finds nothing. There a configuration says at which of the last signs a match may
-/// have begun: with eight signs between two `<` there are 512 when the first match ends, and with nine there are more.
-const BUILT: [Built; 4] = [
+/// patterns under transducers that find nothing. There a configuration says at which of the last signs a match may
+/// have begun: with eight signs between two `<` there are 512 when the first match ends, one more where the first
+/// state is another one than the state of all others, and with nine signs there are still more.
+const BUILT: [Built; 5] = [
     Built {
         pattern: PEAK,
         b: 1,
@@ -99,11 +111,18 @@ const BUILT: [Built; 4] = [
         answer: Answer::Refused("<><>"),
     },
     Built {
-        pattern: "<<=|>|<=|>|<=|>|<=|>|<=|>|<=|>|<=|>|<=|>|<.........",
+        pattern: FAR_APART,
         b: 0,
         a: 0,
         rows: &[IDLE],
         answer: Answer::Refused("<<<<<<<<<<"),
+    },
+    Built {
+        pattern: FAR_APART,
+        b: 0,
+        a: 0,
+        rows: &[LEAVING, LEAVING],
+        answer: Answer::TooMany,
     },
     Built {
         pattern: "<<>|<>|<>|<>|<>|<>|<>|<>|<>|<..........",
