@@ -1,4 +1,3 @@
 mod Numbers
-mod SeriesLimits
 mod Splits
 mod TableRows

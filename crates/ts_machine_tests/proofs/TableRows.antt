@@ -10,17 +10,6 @@ use Rattle.ts_bound.proofs.TableLaws.{length-forward, length-backward}
 use Rattle.ts_bound.specs.HullTables.{forward_table, backward_table, forward_rows, backward_rows}
 use Rattle.ts_bound.specs.Rows.{IsRow}
 
-pub ahead : (b : Body) (w : Option Range) (cells : List (List ℤ)) (rows : List (List Hull)) (n : ℕ) → rows ≡ forward_table b w cells → w ≡ None →
-    n ≡ length cells → n ≤ length rows
-ahead b None cells rows n is whole count = let l = ap length is ∙ length-forward b _ cells in omega (arith, l, count)
-ahead b (Some r) cells rows n is whole count = cc
-
-pub back : (o : Option Body) (w : Option Range) (cells : List (List ℤ)) (rows : List (List Hull)) (n : ℕ) → IsSome o →
-    IfSome o (λ b. rows ≡ backward_table b w cells) → w ≡ None → n ≡ length cells → n ≤ length rows
-back None w cells rows n some is whole count = cc
-back (Some b) None cells rows n some is whole count = let l = ap length is ∙ length-backward b cells in omega (arith, l, count)
-back (Some b) (Some r) cells rows n some is whole count = cc
-
 pub looked_ahead : (b : Body) (w : Option Range) (cells : List (List ℤ)) (rows : List (List Hull)) (k : ℕ) → rows ≡ forward_table b w cells →
     LooksInside (length cells) w → 1 ≤ k → k ≤ length cells → IsRow k rows
 looked_ahead b w cells rows k is looks some few =

@@ -1,8 +1,10 @@
 //! Unions, changes and ways back, worked out by hand.
 
+ghost use Rattle.std.specs.Prelude.{◌&&◌, ◌≡◌, int_le, neg_ℤ, pos};
+ghost use Rattle.std.specs.List.{list_all};
+
 mod removals;
 
-use crate::bounds::within;
 use std::alloc::Global;
 use std::process::Abort;
 use std::test::Fail;
@@ -67,7 +69,15 @@ fn changes() -> &'static [(Keep, i64, &'static [(i64, i64)])] {
     &CHANGES
 }
 
-fn union(
+fn within(values: &[i64]) -> bool
+    ensures { result ≡ list_all (λ v. int_le (neg_ℤ (pos 1000000)) v && int_le v (pos 1000000)) values.now }
+{
+    values
+        .iter()
+        .all(|value| -1_000_000 <= *value && *value <= 1_000_000)
+}
+
+pub(crate) fn union(
     rt: &impl Abort,
     alloc: Global,
     lows: &[i64],

@@ -1,21 +1,12 @@
 //! Spans that refute, or cut, and spans that don't, found by going over the numbers of each span.
 
-mod at_cells;
-mod calls;
-mod cell_rows;
-mod cells;
-mod drops;
-mod rows;
-mod samples;
-
 use Ext::{Int, NegInf, PosInf};
-pub(crate) use cells::model_of;
-pub(crate) use samples::looks_in;
 use ts_base::{Ext, Goal, Span};
 use ts_filter::{Bar, cuts, refutes};
 use ts_model::Op;
 
-const OPS: [Op; 6] = [
+/// The comparisons.
+pub(super) const OPS: [Op; 6] = [
     Op::Equal,
     Op::Unequal,
     Op::AtMost,

@@ -4,7 +4,7 @@
 ghost use Rattle.std.specs.Prelude.{◌≤◌, ◌<◌, length};
 ghost use Rattle.ts_automaton.specs.AutomatonRun.{Stands, standing_of};
 
-use super::terms::{Values, all_series, answer, term_of, value};
+use super::terms::{Values, all_series, answer, forward_at, term_of, value};
 use super::{first_values, last_values};
 use std::alloc::Global;
 use std::test::Fail;
@@ -13,18 +13,6 @@ use ts_base::{Ext, Memory};
 use ts_compile::compile_term;
 use ts_glue::{Machine, glue_value};
 use ts_pattern::{Aggregator, Feature, PatternId, Term};
-
-/// Where the automaton stands after the first `k` cells.
-fn forward_at(automaton: &Automaton, series: &[i64], k: usize) -> At
-    requires { k ≤ length series.now }
-    ensures { Stands automaton.now (standing_of result) }
-{
-    let mut at = automaton.start();
-    for place in 1..k {
-        at = automaton.step(at, series[place - 1], series[place]);
-    }
-    at
-}
 
 /// Where the automaton stands after the cells from the last one down to cell `k`, counted from 1.
 fn reverse_at(automaton: &Automaton, series: &[i64], k: usize) -> At

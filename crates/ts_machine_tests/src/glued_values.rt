@@ -11,16 +11,19 @@ ghost use Rattle.ts_automaton.specs.Kinds.{SpanHasKind};
 ghost use Rattle.ts_automaton.specs.SpanRun.{HullStands, hull_standing};
 ghost use Rattle.ts_automaton.specs.declared.kind.RegKind.TheVariants.{Int as Whole};
 
+use crate::told::machines::plain;
+use crate::told::written::{self, word};
 use std::alloc::Global;
 use std::test::Fail;
-use ts_automaton::{At, Automaton, Hull, HullAt, Regs, read};
+use ts_automaton::{At, Automaton, Hull, HullAt, Regs};
 use ts_base::{Ext, Span};
 use ts_compile::compile_term;
 use ts_glue::{Machine, glue_span, glue_value};
 use ts_pattern::{Term, aggregator_of, feature_of, pattern_of};
 
-/// The cell is worth 9, or 1. The registers are such that each of them shows in a sum.
-static VALUES: &str = "\
+/// The cell is worth 9, or 1. The registers are such that each of them shows in a sum. Where both ends are written,
+/// what is glued is a span.
+static ROWS: &str = "\
 sum width zigzag|0 1 407120|2 0 407120|1 4 400154|1 5 407154|5 1 400174|5 5 407174
 sum surf zigzag|0 1 407120|2 0 407120|1 4 400162|1 5 407162|5 1 400182|5 5 407182
 sum max zigzag|0 1 407120|2 0 407120|1 4 400150|1 5 407100|5 1 400150|5 5 407100
@@ -34,22 +37,14 @@ min max zigzag|0 1 20|2 0 20|1 4 50|1 5 100|5 1 50|5 5 100
 min min increasing_sequence|0 1 20|1 0 20|1 1 3
 max surf zigzag|0 1 400000|2 0 400000|1 4 400000|1 5 400000|5 1 400000|5 5 400000
 max width increasing_sequence|0 1 400000|1 0 400000|1 1 400000
-max max zigzag|0 1 400000|2 0 400000|1 4 400000|1 5 400000|5 1 400000|5 5 400000";
+max max zigzag|0 1 400000|2 0 400000|1 4 400000|1 5 400000|5 1 400000|5 5 400000
+sum surf zigzag|0 1 407120:417755|2 0 407120:417755|1 4 400162:410201|1 5 407162:417801|5 1 400182:410226|5 5 407182:417826
+sum min zigzag|0 1 407120:417755|2 0 407120:417755|1 4 400103:410134|1 5 400103:410134|5 1 400103:410134|5 5 400103:410134
+sum surf increasing_sequence|0 1 407120:417755|1 0 407120:417755|1 1 407164:417808";
 
-/// The lower and the upper ends of spans.
-static SPANS: &str = "\
-sum surf zigzag|0 1 407120 417755|2 0 407120 417755|1 4 400162 410201|1 5 407162 417801|5 1 400182 410226|5 5 407182 417826
-sum min zigzag|0 1 407120 417755|2 0 407120 417755|1 4 400103 410134|1 5 400103 410134|5 1 400103 410134|5 5 400103 410134
-sum surf increasing_sequence|0 1 407120 417755|1 0 407120 417755|1 1 407164 417808";
-
-// The texts behind functions, so that the proofs of the tests don't read them.
-
-fn values() -> &'static str {
-    VALUES
-}
-
-fn spans() -> &'static str {
-    SPANS
+// The text behind a function, so that the proof of the test doesn't read it.
+fn rows() -> &'static str {
+    ROWS
 }
 
 /// What C, D and R are, of automata in which E and F are 0.
@@ -64,10 +59,6 @@ const UPPER_LEFT: Numbers = (25, 4, 130);
 
 const UPPER_RIGHT: Numbers = (7600, 58, 410_000);
 
-fn word(text: &str, place: usize) -> &str {
-    text.split_whitespace().nth(place).unwrap_or("")
-}
-
 /// The machine of the term that a row begins with.
 fn machine_of(alloc: Global, term: &str) -> Option<Machine> {
     let aggregator = aggregator_of(word(term, 0).as_bytes())?;
@@ -79,10 +70,6 @@ fn machine_of(alloc: Global, term: &str) -> Option<Machine> {
 /// The state that a pair of a row names at a place.
 fn state_at(pair: &str, place: usize) -> Option<u8> {
     word(pair, place).parse::<u8>().ok()
-}
-
-fn number_at(pair: &str, place: usize) -> Option<Ext> {
-    word(pair, place).parse::<i64>().ok().map(Ext::Int)
 }
 
 /// Where the automaton stands in a state with these registers. None where it has no such state.
@@ -163,34 +150,23 @@ fn span_at(machine: &Machine, pair: &str) -> Option<Span> {
     Some(glue_span(machine, left, right, 9, 7))
 }
 
-/// The value that a pair of a row tells.
-fn has_value(machine: &Machine, pair: &str) -> bool {
-    let told = number_at(pair, 2);
-    told.is_some() && value_at(machine, pair) == told
+/// Whether what is written of a pair is glued there.
+fn pair_holds(machine: &Machine, pair: &str) -> bool {
+    let written = word(pair, 2);
+    let told = written::span(written, Ext::Int(0));
+    let found = if written.contains(':') {
+        span_at(machine, pair)
+    } else {
+        value_at(machine, pair).map(Span::one)
+    };
+    told.is_some() && found == told
 }
 
-fn told_span(pair: &str) -> Option<Span> {
-    Some(Span {
-        lo: number_at(pair, 2)?,
-        hi: number_at(pair, 3)?,
-    })
-}
-
-fn has_span(machine: &Machine, pair: &str) -> bool {
-    let told = told_span(pair);
-    told.is_some() && span_at(machine, pair) == told
-}
-
-fn row_holds(alloc: Global, row: &str, with_spans: bool) -> Option<bool> {
+fn row_holds(alloc: Global, row: &str) -> Option<bool> {
     let (term, pairs) = row.split_once('|')?;
     let machine = machine_of(alloc, term)?;
     for pair in pairs.split('|') {
-        let holds = if with_spans {
-            has_span(&machine, pair)
-        } else {
-            has_value(&machine, pair)
-        };
-        if !holds {
+        if !pair_holds(&machine, pair) {
             return Some(false);
         }
     }
@@ -199,25 +175,14 @@ fn row_holds(alloc: Global, row: &str, with_spans: bool) -> Option<bool> {
 
 #[test]
 fn values_and_spans_by_the_definition(rt: HostRuntime) {
-    for row in values().lines() {
-        assert!(rt; row_holds(rt.alloc(), row, false) == Some(true), "{row}");
+    for row in rows().lines() {
+        assert!(rt; row_holds(rt.alloc(), row) == Some(true), "{row}");
     }
-    for row in spans().lines() {
-        assert!(rt; row_holds(rt.alloc(), row, true) == Some(true), "{row}");
-    }
-}
-
-static PLAIN: &str =
-    "forward\nstate s free\nstate r free\nstart 0 1 0\nmove s < r ; C ; D ; R\nmove s = s ; C ; D ; R\n\
-    move s > s ; C ; D ; R\nmove r < r ; C ; D ; R\nmove r = r ; C ; D ; R\nmove r > r ; C ; D ; R\nfinish R same\nend\n";
-
-fn plain() -> &'static str {
-    PLAIN
 }
 
 #[test]
 fn a_plain_machine_has_one_automaton(rt: HostRuntime) -> Result<(), Fail> {
-    let machine = Machine::plain(read(rt.alloc(), plain().as_bytes())?);
+    let machine = plain(rt.alloc(), "max_surf_rising")?;
     assert!(rt; machine.reverse().is_none() && machine.table().is_none());
     assert!(rt; machine.forward().states() == 2);
     Ok(())

@@ -9,8 +9,6 @@ mod automata;
 #[cfg(test)]
 mod automaton_texts;
 #[cfg(test)]
-mod bounds;
-#[cfg(test)]
 mod boxes;
 #[cfg(test)]
 mod decorated;
@@ -31,6 +29,6 @@ mod ranges;
 #[cfg(test)]
 mod terms;
 #[cfg(test)]
-mod waiting;
+mod told;
 #[cfg(test)]
-mod windows;
+mod waiting;

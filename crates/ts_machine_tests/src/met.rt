@@ -10,10 +10,8 @@ ghost use Rattle.ts_meet.specs.Meets.{HasPlace};
 ghost use Rattle.ts_row.specs.Rows.{IsRow};
 ghost use Rattle.ts_sweep.specs.Packed.{is_wide};
 
-use super::bounds::{boxed, domain};
-use super::filters::looks_in;
 use super::terms::{PAIRS, term_of};
-use super::windows::spans_at;
+use super::told::{cells_of, looks_in, spans_at};
 use std::alloc::Global;
 use std::test::Fail;
 use ts_automaton::Automaton;
@@ -26,29 +24,13 @@ use ts_meet::{Asked, Joints, Spot, asked_at, finish_at, glued_at};
 use ts_pattern::PatternId;
 use ts_row::{PackedRow, Plan, next_row, start_row};
 
-/// The cells: ranges of values, two of them with gaps.
-static CELLS: [(&[i64], &[i64]); 6] = [
-    (&[0], &[2]),
-    (&[1, 4], &[2, 4]),
-    (&[-2], &[1]),
-    (&[3], &[3]),
-    (&[0, 6], &[1, 6]),
-    (&[1], &[3]),
-];
+/// Ranges of values, two of them with gaps.
+static CELLS: &str =
+    "cells 6\ncell 1 0..2\ncell 2 1..2 4\ncell 3 -2..1\ncell 4 3\ncell 5 0..1 6\ncell 6 1..3\n";
 
-// The table behind a function, so that no proof reads it.
-fn ranges() -> &'static [(&'static [i64], &'static [i64])] {
-    &CELLS
-}
-
-fn cells_of(alloc: Global) -> Result<Boxed, Fail>
-    ensures { IfOk result (λ b. 1 ≤ length b.present) }
-{
-    let mut domains = Vec::new(alloc);
-    for (lows, highs) in ranges() {
-        domains.push(domain(alloc, lows, highs)?)?;
-    }
-    boxed(alloc, &domains)
+// The text behind a function, so that no proof reads it.
+fn cells() -> &'static str {
+    CELLS
 }
 
 /// The row of the cell at which runs start.
@@ -310,7 +292,7 @@ fn first_wrong(alloc: Global, pattern: PatternId, cells: &Boxed) -> Result<Optio
 #[test]
 fn packed_rows_meet_as_tables_do(rt: HostRuntime) -> Result<(), Fail> {
     let alloc = rt.alloc();
-    let cells = cells_of(alloc)?;
+    let cells = cells_of(alloc, cells())?;
     for pattern in [
         PatternId::Peak,
         PatternId::DecreasingTerrace,

@@ -2,8 +2,9 @@
 //! them, in `first_values` and `last_values`, were found by trying the expressions on all parts of the signatures.
 
 ghost use Rattle.std.specs.Prelude.{◌≤◌, length};
+ghost use Rattle.ts_automaton.specs.AutomatonRun.{Stands, standing_of};
 
-use ts_automaton::Automaton;
+use ts_automaton::{At, Automaton};
 use ts_base::Ext;
 use ts_pattern::{Aggregator, Feature, PatternId, Term};
 
@@ -52,15 +53,26 @@ pub fn all_series() -> &'static [&'static [i64]] {
     &SERIES
 }
 
+/// Where the automaton stands after the first `k` cells.
+pub fn forward_at(automaton: &Automaton, series: &[i64], k: usize) -> At
+    requires { k ≤ length series.now }
+    ensures { Stands automaton.now (standing_of result) }
+{
+    let mut at = automaton.start();
+    for place in 1..k {
+        at = automaton.step(at, series[place - 1], series[place]);
+    }
+    at
+}
+
 /// The answer of the automaton on a series.
 pub fn answer(automaton: &Automaton, series: &[i64]) -> Ext
     requires { length series.now ≤ 100000 }
 {
-    let mut at = automaton.start();
-    for k in 1..series.len() {
-        at = automaton.step(at, series[k - 1], series[k]);
-    }
-    automaton.finish(at, series.len() as u32)
+    automaton.finish(
+        forward_at(automaton, series, series.len()),
+        series.len() as u32,
+    )
 }
 
 /// The value that a table writes so.

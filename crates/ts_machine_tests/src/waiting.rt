@@ -3,13 +3,13 @@
 ghost use Rattle.std.specs.Prelude.{IsTrue};
 ghost use Rattle.ts_frontier.specs.Follow.{MakesBoxes};
 
-use crate::bounds::within;
+use crate::boxes::union;
 use TreeLine::{No, Remove, Split, Unsearched, Worse, Yes};
 use std::alloc::Global;
 use std::process::Abort;
 use std::test::Fail;
 use ts_certificate::TreeLine;
-use ts_domain::{Boxed, Domain, DomainStop};
+use ts_domain::Boxed;
 use ts_frontier::{Form, Frontier, follow, form_of};
 
 /// The first and last values of the next box's cells, a line on that box, and how many boxes wait after it.
@@ -56,16 +56,10 @@ fn forms() -> &'static [(
     &FORMS
 }
 
-/// These numbers, and no others.
-fn numbers(rt: &impl Abort, alloc: Global, values: &[i64]) -> Result<Domain, DomainStop> {
-    assert!(rt; within(values));
-    Domain::from_ranges(alloc, values, values)
-}
-
 fn box_of(rt: &impl Abort, alloc: Global, cells: &[&[i64]]) -> Result<Boxed, Fail> {
     let mut domains = Vec::new(alloc);
     for values in cells {
-        domains.push(numbers(rt, alloc, values)?)?;
+        domains.push(union(rt, alloc, values, values)?)?;
     }
     assert!(rt; domains.len() < 10);
     Ok(Boxed::new(alloc, &domains)?)

@@ -9,7 +9,7 @@ use std::alloc::Global;
 use ts_base::{Memory, Range};
 use ts_mark::marks;
 use ts_token::{cut_tokens, number};
-use ts_user::{build_plan, read_pattern, read_pattern_text};
+use ts_user::{UserKind, UserPattern, UserStop, build_plan, read_pattern, read_pattern_text};
 use ts_validate::{Validated, validate};
 
 static PATTERNS: &str = "\
@@ -161,4 +161,24 @@ pub(super) fn marks_as_named(alloc: Global, row: &[u8]) -> Result<bool, Memory> 
         (Some(v), Some(w)) => are_so_many(alloc, &v, &w, number(word(head, 1))),
         _ => Ok(false),
     }
+}
+
+/// Whether the second line is one of an unknown form.
+fn is_unknown_line(read: Result<UserPattern, UserStop>) -> bool {
+    matches!(
+        read,
+        Err(UserStop::Refused {
+            line: 2,
+            kind: UserKind::UnknownLine
+        })
+    )
+}
+
+/// A line `%%` ends the pattern text of a command, so that no row of `examples/rows` has it.
+#[test]
+fn separator_is_no_line(rt: HostRuntime) -> Result<(), Memory> {
+    let tokens = cut_tokens(rt.alloc(), b"trim 1 1\n%%")?;
+    assert!(rt; is_unknown_line(read_pattern(rt.alloc(), &tokens)));
+    assert!(rt; is_unknown_line(read_pattern_text(rt.alloc(), b"trim 1 1\n%%")));
+    Ok(())
 }

@@ -1,7 +1,7 @@
 //! Each public call once: what is judged of a series, a program with its text, values over readings, and searches. All
 //! was worked out by hand; what the commands print of models is in `examples/rows`.
 
-ghost use Rattle.std.specs.Prelude.{◌≤◌, IfSome};
+ghost use Rattle.std.specs.Prelude.{IfSome};
 ghost use Rattle.ts_model.specs.Promise.{IsWhole, KeepsLimits};
 ghost use Rattle.ts_model.specs.Views.{model_parts};
 

@@ -1,12 +1,10 @@
 //! Runs of the automaton of peaks, on numbers and on spans, and marks on spans.
 
-ghost use Rattle.std.specs.Prelude.{◌≡◌, ◌<◌, length};
-ghost use Rattle.ts_automaton.specs.AutomatonRun.{Stands, standing_of};
-
 use super::{Change, ZERO, changed, changed_finish};
+use crate::terms::forward_at;
 use std::alloc::{AllocError, Global};
 use std::test::Fail;
-use ts_automaton::{At, Automaton, Hull, HullAt, Mark};
+use ts_automaton::{Automaton, Hull, HullAt, Mark};
 use ts_base::{Ext, Span};
 
 /// A series, and the sum of the widths of its peaks.
@@ -23,17 +21,6 @@ static RUNS: [(&[i64], i64); 8] = [
 
 fn runs() -> &'static [(&'static [i64], i64)] {
     &RUNS
-}
-
-/// Where the automaton stands after the series.
-fn after(automaton: &Automaton, series: &[i64]) -> At
-    ensures { Stands automaton.now (standing_of result) }
-{
-    let mut at = automaton.start();
-    for k in 1..series.len() {
-        at = automaton.step(at, series[k - 1], series[k]);
-    }
-    at
 }
 
 /// The span of the answers on this series alone, by steps of hulls.
@@ -60,7 +47,7 @@ fn is_of_peaks(alloc: Global, peak: &Automaton) -> Result<bool, AllocError> {
 
 /// Whether the automaton answers this number, on numbers and on spans.
 pub(super) fn answers(automaton: &Automaton, series: &[i64], number: i64) -> bool {
-    automaton.finish(after(automaton, series), 9) == Ext::Int(number)
+    automaton.finish(forward_at(automaton, series, series.len()), 9) == Ext::Int(number)
         && span_of(automaton, series) == Span::one(Ext::Int(number))
 }
 

@@ -18,8 +18,8 @@ type Step = (&'static str, u64, Option<u32>);
 /// Lines, how many boxes wait behind them, the first line that broke its rule, and the verdict.
 type Steps = (&'static [Step], u64, Option<u32>, Verdict);
 
-/// A proof that the best series has one peak; and a split with an empty side, which breaks its rule and stays the first line that did when a
-/// later one is refused.
+/// A proof that the best series has one peak; and a split with an empty side, which breaks its rule and stays the first
+/// line that did when a later one is refused.
 static ALL: [Steps; 2] = [
     (
         &[

@@ -1,21 +1,26 @@
-//! What is told at one cell of a box, against the span of the cell and those with each value alone.
+//! What the calls of `ts_filter` tell of a box, against its spans: all comparisons with ten bounds, and both goals.
 
-ghost use Rattle.std.specs.Prelude.{◌≡◌, None, length};
+ghost use Rattle.std.specs.Prelude.{◌≡◌, ◌≤◌, None, length};
 ghost use Rattle.ts_bound.specs.TermSpans.{LooksIn, automata_of};
 ghost use Rattle.ts_domain.specs.BoxSeries.{IsCell};
 ghost use Rattle.ts_glue.specs.Machines.{pair_of};
 
-use super::OPS;
-use super::cell_rows::{CellRow, Ends};
+use super::spans_at;
+use super::written::{number, word};
+use crate::filters::OPS;
 use Ext::{Int, NegInf, PosInf};
 use std::alloc::Global;
+use std::test::Fail;
 use ts_base::{Ext, Goal, Memory, Span};
 use ts_domain::Boxed;
-use ts_filter::{Bar, cuts, kept_value, refuted, refuted_value, refutes, worse};
+use ts_filter::{
+    Bar, cut_at_end, cuts, first_cut, first_refuted, kept_value, refuted, refuted_value, refutes,
+    worse,
+};
 use ts_glue::Machine;
-use ts_model::Require;
+use ts_model::{Op, Require};
 
-pub(super) const BOUNDS: [Ext; 10] = [
+const BOUNDS: [Ext; 10] = [
     NegInf,
     Int(-1),
     Int(0),
@@ -28,9 +33,7 @@ pub(super) const BOUNDS: [Ext; 10] = [
     PosInf,
 ];
 
-pub(super) fn span((lo, hi): Ends) -> Span {
-    Span { lo, hi }
-}
+const GOALS: [Goal; 2] = [Goal::Maximise, Goal::Minimise];
 
 /// Whether the requirements and both goals are told at a cell as its span has it.
 fn bound_holds(
@@ -125,57 +128,122 @@ pub(super) fn value_holds(
     Ok(true)
 }
 
-/// Whether these values are kept for the greatest and for the least objective.
+/// Whether nothing better, and nothing as good, is told as the span at the last cell has it.
+pub(super) fn end_holds(
+    alloc: Global,
+    m: &Machine,
+    cells: &Boxed,
+    span: Span,
+) -> Result<bool, Memory>
+    requires some { 1 ≤ length cells.now.present }
+    requires looks { LooksIn (automata_of m.now) cells.now.present }
+{
+    for goal in GOALS {
+        for bound in BOUNDS {
+            for bar in [Bar::Better(bound), Bar::AsGood(bound)] {
+                if cut_at_end(alloc, m, goal, cells, bar)? != cuts(goal, bar, span) {
+                    return Ok(false);
+                }
+            }
+        }
+    }
+    Ok(true)
+}
+
+/// Whether the written values are kept for the greatest and for the least objective.
 pub(super) fn are_kept(
     alloc: Global,
     m: &Machine,
     p: u32,
     cells: &Boxed,
-    kept: (i64, i64),
-) -> Result<bool, Memory>
+    written: &str,
+) -> Result<bool, Fail>
     requires cell { IsCell p cells.now }
     requires looks { LooksIn (automata_of m.now) cells.now.present }
 {
     Ok(
-        kept_value(alloc, m, Goal::Maximise, p, cells)? == kept.0
-            && kept_value(alloc, m, Goal::Minimise, p, cells)? == kept.1,
+        kept_value(alloc, m, Goal::Maximise, p, cells)? == number(word(written, 0))?
+            && kept_value(alloc, m, Goal::Minimise, p, cells)? == number(word(written, 1))?,
     )
 }
 
-fn values_hold(
+/// The spans at the cells below the last one, of a machine that can be split; else none.
+fn spans_below(alloc: Global, m: &Machine, cells: &Boxed) -> Result<Vec<Span>, Fail>
+    requires { LooksIn (automata_of m.now) cells.now.present }
+{
+    let mut spans = Vec::new(alloc);
+    if m.reverse().is_none() {
+        return Ok(spans);
+    }
+    for k in 1..cells.cells() {
+        let least = cells.cell(k).least();
+        spans.push(spans_at(alloc, m, cells, k, least)?.0)?;
+    }
+    Ok(spans)
+}
+
+/// The first cell whose span the requirement refutes.
+fn first_refuting(spans: &[Span], op: Op, bound: Ext) -> Option<u32>
+    requires { length spans.now ≤ 99 }
+{
+    for at in 0..spans.len() {
+        if refutes(op, bound, spans[at]) {
+            return Some(at as u32 + 1);
+        }
+    }
+    None
+}
+
+/// The first cell in whose span no number counts for the bar.
+fn first_cutting(spans: &[Span], goal: Goal, bar: Bar) -> Option<u32>
+    requires { length spans.now ≤ 99 }
+{
+    for at in 0..spans.len() {
+        if cuts(goal, bar, spans[at]) {
+            return Some(at as u32 + 1);
+        }
+    }
+    None
+}
+
+fn first_bound_holds(
     alloc: Global,
     m: &Machine,
-    p: u32,
     cells: &Boxed,
-    values: &[(i64, Ends)],
+    spans: &[Span],
+    bound: Ext,
 ) -> Result<bool, Memory>
-    requires cell { IsCell p cells.now }
-    requires split { pair_of m.now ≡ None → p ≡ length cells.now.present }
+    requires few { length spans.now ≤ 99 }
     requires looks { LooksIn (automata_of m.now) cells.now.present }
 {
-    for &(v, ends) in values {
-        if !value_holds(alloc, m, cells, p, v, span(ends))? {
+    for op in OPS {
+        let r = Require { term: 0, op, bound };
+        if first_refuted(alloc, m, &r, cells)? != first_refuting(spans, op, bound) {
             return Ok(false);
         }
     }
-    Ok(cells.cell(p).size() == values.len() as u64)
+    for goal in GOALS {
+        for bar in [Bar::Better(bound), Bar::AsGood(bound)] {
+            if first_cut(alloc, m, goal, cells, bar)? != first_cutting(spans, goal, bar) {
+                return Ok(false);
+            }
+        }
+    }
+    Ok(true)
 }
 
-pub(super) fn cell_row_holds(
-    alloc: Global,
-    m: &Machine,
-    p: u32,
-    cells: &Boxed,
-    row: &CellRow,
-) -> Result<bool, Memory>
-    requires cell { IsCell p cells.now }
-    requires split { pair_of m.now ≡ None → p ≡ length cells.now.present }
-    requires looks { LooksIn (automata_of m.now) cells.now.present }
+/// Whether the first cells below the last are told as their spans have it.
+pub(super) fn first_cells_hold(alloc: Global, m: &Machine, cells: &Boxed) -> Result<bool, Fail>
+    requires { LooksIn (automata_of m.now) cells.now.present }
 {
-    let (ends, kept, values) = row;
-    Ok(
-        cell_holds(alloc, m, p, cells, span(*ends))?
-            && are_kept(alloc, m, p, cells, *kept)?
-            && values_hold(alloc, m, p, cells, values)?,
-    )
+    let spans = spans_below(alloc, m, cells)?;
+    if 99 < spans.len() {
+        return Ok(false);
+    }
+    for bound in BOUNDS {
+        if !first_bound_holds(alloc, m, cells, &spans, bound)? {
+            return Ok(false);
+        }
+    }
+    Ok(true)
 }

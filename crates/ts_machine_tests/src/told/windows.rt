@@ -1,4 +1,5 @@
-//! Random boxes with what is told of them; `windows` says how they are written.
+//! Random boxes under a term that looks at some of their cells. A row is the hull, register by register, of the runs over
+//! these cells; each value was seen to lie in the spans.
 
 static BOXES: &str = "\
 cells 7
@@ -12,8 +13,7 @@ cell 7 6
 term t = max max decreasing_terrace in 1
 require t >= 0
 /
-value -inf: 1 2 6 3 6 7 6
-first 1 0
+drops 0 >= 0: 1 0 1
 ahead 1 e e e|-|-|e e e|-|-
 ahead 2
 ahead 3
@@ -46,9 +46,7 @@ cell 6 3
 term t = sum max valley in 3..5
 require t != 0
 /
-value 0: 5 -1 0 1 2 3
-value -1: 5 2 0 -1 1 3
-first 4 1
+drops 0 != 0: 4 1 1
 ahead 1
 ahead 2
 ahead 3 e -inf e|-|-
@@ -77,9 +75,7 @@ cell 5 -1 4
 term t = max surf steady_sequence in 2..4
 require t != 0
 /
-value -inf: -1 -1 2 0 -1
-value -2: -1 -1 -1 0 4
-first 3 0
+drops 0 != 0: 3 0 1
 ahead 1
 ahead 2 e 0 e|-|e 0 e|-|e 0 e|-
 ahead 3 e 0 e|-2 0 e|e 0 e|-|e 0 e|4 0 e
@@ -106,9 +102,7 @@ cell 6 4
 term t = sum surf increasing in 4..6
 require t = 5
 /
-value 6: 2 3 1 4 2 4
-value 8: 4 3 1 0 2 4
-first 1 2
+drops 0 = 5: 1 2 1
 ahead 1
 ahead 2
 ahead 3
@@ -138,9 +132,7 @@ cell 6 5
 term t = min max inflexion in 2..5
 require t <= 1
 /
-value -2: 4 -1 1 -2 -1 5
-value 1: 4 -2 1 1 -1 5
-first none
+drops 0 <= 1: none
 ahead 1
 ahead 2 e -inf e|-|-|e -inf e|-|-
 ahead 3 -|e -inf e|-
@@ -158,9 +150,7 @@ cell 5 2
 term t = min width increasing_sequence in 2..5
 require t = 1
 /
-value 2: 6 1 3 2 2
-value 4: 6 4 3 2 2
-first 2 1
+drops 0 = 1: 2 1 1
 ahead 1
 ahead 2 e 0 e|-|e 0 e|-
 ahead 3 e 0 e|2 0 e
@@ -185,8 +175,7 @@ cell 4 2
 term t = sum width decreasing_sequence in 4..4
 require t <= 0
 /
-value 0: 6 1 3 2
-first none
+drops 0 <= 0: none
 ahead 1
 ahead 2
 ahead 3
@@ -211,9 +200,7 @@ cell 7 -1 6
 term t = count plateau in 4..6
 require t <= 1
 /
-value 0: 5 5 -1 1 0 1 -1
-value 1: 5 1 -1 1 2 -1 -1
-first none
+drops 0 <= 1: none
 ahead 1
 ahead 2
 ahead 3
@@ -246,9 +233,7 @@ cell 6 1
 term t = sum max inflexion in 2..4
 require t <= 3
 /
-value 2: 3 3 2 3 5 1
-value 0: 3 3 0 4 6 1
-first none
+drops 0 <= 3: none
 ahead 1
 ahead 2 e -inf e|-|-|e -inf e|-|-
 ahead 3 e -inf e|-|e -inf e|-|e -inf e|e -inf e
@@ -266,8 +251,7 @@ cell 5 -2
 term t = sum surf strictly_decreasing_sequence in 1
 require t < 0
 /
-value 0: 2 0 2 1 -2
-first 4 1
+drops 0 < 0: 4 1 1
 ahead 1 e e e|-
 ahead 2
 ahead 3
@@ -294,9 +278,7 @@ cell 6 3
 term t = count decreasing in 4..6
 require t > 1
 /
-value 0: 4 1 5 0 1 3
-value 1: 2 1 3 3 4 3
-first 1 2
+drops 0 > 1: 1 2 1
 ahead 1
 ahead 2
 ahead 3
@@ -327,9 +309,7 @@ cell 7 -1 1
 term t = sum width bump_on_decreasing_sequence in 2..7
 require t >= -1
 /
-value 3: 4 1 0 -1 2 1 -1
-value 0: 1 1 0 3 2 1 -1
-first none
+drops 0 >= -1: none
 ahead 1
 ahead 2 e e e|-|-|-|-
 ahead 3 -|e e e|-|-|-|-|e e e|-|-|-
@@ -347,9 +327,7 @@ cell 4 0 2
 term t = min surf strictly_increasing_sequence in 1..4
 require t != 3
 /
-value 3: 2 1 2 2
-value +inf: 4 1 1 0
-first 3 2
+drops 0 != 3: 3 2 1
 ahead 1 e 0 e|-|e 0 e|-
 ahead 2 e 0 e|-
 ahead 3 e 0 e|-|-|3 0 e
@@ -374,9 +352,7 @@ cell 7 2..3
 term t = min width bump_on_decreasing_sequence in 1..6
 require t < 3
 /
-value 6: 3 0 0 2 2 3 2
-value 3: 3 1 0 2 1 0 3
-first 7 2
+drops 0 < 3: 7 2 1
 ahead 1 e 0 e|-|-|-|-|e 0 e|-|-|-|-
 ahead 2 e 0 e|e 0 e|-|-|-|e 0 e|e 0 e|-|-|-
 ahead 3 e 0 e|e 0 e|e 0 e|-|-|e 0 e|-|-|-|-
@@ -396,9 +372,7 @@ cell 6 5
 term t = max surf zigzag in 2..5
 require t >= -1
 /
-value -1: 5 1 -2 1 -2 5
-value -inf: 5 1 -2 1 1 5
-first 4 -2
+drops 0 >= -1: 4 -2 1
 ahead 1
 ahead 2 e 0 e|-|-|-|-|-|-|e 0 e|-|-|-|-|-|-
 ahead 3 -|-|e 0 e|-|-|-|-
@@ -427,9 +401,7 @@ cell 5 0
 term t = sum min gorge in 1..5
 require t = -1
 /
-value -1: 0 -1 3 1 0
-value 0: 0 -1 -1 1 0
-first 1 -1
+drops 0 = -1: 1 -1 1
 ahead 1 e +inf e|-|-|-|e +inf e|-|-|-
 ahead 2 e +inf e|e +inf e|-|-
 ahead 3 e +inf e|-|e -1 e|-|e +inf e|-|-|-1 +inf e
@@ -455,9 +427,7 @@ cell 5 1..2
 term t = min min peak in 3..5
 require t <= 3
 /
-value +inf: 6 2 3 2 2
-value 2: 6 2 0 2 1
-first 3 3
+drops 0 <= 3: 3 3 1
 ahead 1
 ahead 2
 ahead 3 e e e|-|-|e e e|-|-
@@ -483,9 +453,7 @@ cell 5 -2
 term t = sum min proper_plateau in 1..4
 require t > 2
 /
-value 0: 0 -1 2 2 -2
-value 2: -2 2 2 -1 -2
-first 1 -2
+drops 0 > 2: 1 -2 1
 ahead 1 e +inf e|-|-|e +inf e|-|-
 ahead 2 e +inf e|e +inf e|-|-|e +inf e|-
 ahead 3 -|e +inf e|e 2 e
@@ -512,9 +480,7 @@ cell 6 4 6
 term t = min surf summit in 2..5
 require t = 2
 /
-value 3: 0 -1 3 0 0 6
-value 4: 0 -1 3 1 0 4
-first 2 -1
+drops 0 = 2: 2 -1 1
 ahead 1
 ahead 2 e 0 e|-|-|-|e 0 e|-|-|-
 ahead 3 -|e 0 e|-|-
@@ -544,9 +510,7 @@ cell 6 7
 term t = min max steady_sequence in 1..3
 require t >= 2
 /
-value 2: 2 2 0 4 6 7
-value +inf: 0 1 0 4 6 7
-first none
+drops 0 >= 2: none
 ahead 1 e -inf e|-|e -inf e|-
 ahead 2 e -inf e|-|e -inf e|2 -inf e|e -inf e|-
 ahead 3 e -inf 2:e|-|e -inf 2:e|-
@@ -574,8 +538,7 @@ cell 4 0 3
 term t = max width peak in 1..1
 require t = 0
 /
-value 0: 3 2 7 0
-first none
+drops 0 = 0: none
 ahead 1 e 0 e|-|-
 ahead 2
 ahead 3
@@ -597,9 +560,7 @@ cell 4 1 3
 term t = max min plain in 1..4
 require t > -1
 /
-value 2: 3 4 2 3
-value 0: 3 0 2 3
-first none
+drops 0 > -1: none
 ahead 1 e +inf e|-|-|e +inf e|-|-
 ahead 2 -|e +inf e|-|e +inf e|-|-
 ahead 3 e +inf 0|e +inf e|-
@@ -621,9 +582,7 @@ cell 4 2
 term t = min min plateau in 1..3
 require t = 4
 /
-value 3: 1 3 2 2
-value 4: 1 4 2 2
-first 1 4
+drops 0 = 4: 1 4 1
 ahead 1 e e e|-|-|e e e|-|-|e e e|-|-
 ahead 2 e e e|-|-|e e e|e e e|-|e e e|e e e|-
 ahead 3 e e 3:e|e e e|-|e e 4:e|e e e|e 3 e|e e e|e e e|e 4 e
@@ -648,9 +607,7 @@ cell 7 2..3
 term t = sum width dip_on_increasing_sequence in 2..7
 require t = 3
 /
-value 0: 1 2 1 3 0 2 2
-value 3: 1 0 1 3 0 2 3
-first 7 2
+drops 0 = 3: 7 2 1
 ahead 1
 ahead 2 e e e|-|-|-|-|e e e|-|-|-|-
 ahead 3 e e e|e e e|-|-|-|-|e e e|-|-|-
@@ -669,9 +626,7 @@ cell 5 4
 term t = count proper_plain in 1..4
 require t != 0
 /
-value 1: 4 0 0 1 4
-value 0: 2 2 0 0 4
-first 2 2
+drops 0 != 0: 2 2 1
 ahead 1 e 1 e|-|-|e 1 e|-|-
 ahead 2 -|e 1 e|-|e 1 e|e 1 e|-
 ahead 3 -|e 1 e|e 1 e
@@ -697,9 +652,7 @@ cell 5 5
 term t = max max increasing_terrace in 1..4
 require t != 0
 /
-value 1: 0 1 1 3 5
-value -inf: 4 1 0 1 5
-first none
+drops 0 != 0: none
 ahead 1 e e e|-|-|e e e|-|-
 ahead 2 e e e|e e e|-
 ahead 3 e e e|-|-|e e e|-|e 1 e
@@ -724,9 +677,7 @@ cell 4 0 4
 term t = max min steady in 1..4
 require t != 5
 /
-value 4: 0 0 4 4
-value 0: 0 0 4 0
-first none
+drops 0 != 5: none
 ahead 1 e +inf e
 ahead 2 e +inf 0
 ahead 3 e +inf 0
@@ -751,9 +702,7 @@ cell 7 2
 term t = max width zigzag in 2..6
 require t < -1
 /
-value 2: 0 2 0 2 1 -1 2
-value 0: 0 2 0 2 2 2 2
-first 2 0
+drops 0 < -1: 2 0 1
 ahead 1
 ahead 2 e 0 e|-|-|-|-|-|-|e 0 e|-|-|-|-|-|-
 ahead 3 e 0 e|-|e 0 e|-|-|-|-|-|e 0 e|-|-|-|-|-
@@ -778,6 +727,6 @@ at 7 0:3|2 0:3 drop
 ";
 
 // The text behind a function, so that the proofs of the tests don't read it.
-pub fn boxes() -> &'static str {
+pub(super) fn boxes() -> &'static str {
     BOXES
 }

@@ -1,7 +1,7 @@
 use Rattle.std.proofs.Common.{rules}
 use Rattle.ts_glue.specs.Machines.{reverse_of, window_of}
 use Rattle.ts_machine_tests.proofs.TableRows.{looked_back}
-use Rattle.ts_machine_tests.proofs.windows.back_holds.Goals as goal
+use Rattle.ts_machine_tests.proofs.told.back_holds.Goals as goal
 
 pub row_holds-requires : goal.row_holds-requires
 row_holds-requires c =

@@ -1,6 +1,6 @@
 use Rattle.ts_glue.specs.Machines.{forward_of, window_of}
 use Rattle.ts_machine_tests.proofs.TableRows.{looked_ahead}
-use Rattle.ts_machine_tests.proofs.windows.ahead_holds.Goals as goal
+use Rattle.ts_machine_tests.proofs.told.ahead_holds.Goals as goal
 
 pub row_holds-requires : goal.row_holds-requires
 row_holds-requires c =

@@ -1,7 +1,0 @@
-use Rattle.std.proofs.Common.{◌<◌}
-use Rattle.std.specs.List.{AllByRecursion}
-use Rattle.ts_model.specs.declared.model.Require.{Require}
-use Rattle.ts_machine_tests.proofs.filters.calls.requirements_of.Given as goal
-
-abbrev pub invariant-loop-at : goal.invariant-loop-at
-invariant-loop-at l = AllByRecursion (λ (r : Require). r.term < l.terms) l.requirements.items
