@@ -26,3 +26,4 @@ mod Quiet
 mod CellLaws
 mod TableSteps
 mod MeetLaws
+mod EnoughEnds

@@ -1,9 +1,8 @@
 -- A span of which the parts are taken in: more parts, and what a front that has what is asked tells of all parts.
-use Rattle.std.proofs.Common.{◌≡◌, ◌↔◌, ℕ, ◌+◌, ◌<◌, ◌≤◌, ℤ, pos, List, [], ◌∷◌, ◌++◌, length, map, take, drop, get_or, slice_get, Bool, true, false, cond, refl, sym, ap, ◌∙◌, subst}
+use Rattle.std.proofs.Common.{◌≡◌, ◌↔◌, ℕ, ◌+◌, ◌<◌, ◌≤◌, ℤ, List, [], ◌∷◌, ◌++◌, length, map, take, drop, slice_get, Bool, true, false, cond, refl, sym, ap, ◌∙◌, subst}
 use Rattle.std.specs.Prelude.{fold, is_some, Option, None, Some}
 use Rattle.std.proofs.lemmas.List.{map-append, take-append-drop, take_all}
 use Rattle.std.proofs.lemmas.List.Sums.{fold-append}
-use Rattle.std.proofs.lemmas.Option.{slice_get-get_or}
 use Rattle.ts_base.specs.declared.ext.Ext.{Ext}
 use Rattle.ts_base.specs.declared.span.Span.{Span}
 use Rattle.ts_base.specs.SpanLayer.{IsWithin}
@@ -128,14 +127,6 @@ module _ (known : SoFar) (asked : Question) (f : ℤ → Span) (values : List �
       subst (λ l. Excludes asked (span_of_all l)) split (subst (Excludes asked) all none) in
       stop (subst (λ a. Excludes a both) (sym same) (subst (Excludes asked) (sym both_is)
       (part_excludes asked (span_of_all front) (span_of_all (front ++ rest)) (front_within none_span front rest) none_here)))
-
-  -- where the span of a value has what is asked
-  pub value_settles : i < length values → ((v : ℤ) → slice_get values i ≡ Some v → Excludes asked (f v) → ⊥) → Excludes asked whole → ⊥
-  value_settles lt met =
-      let v = get_or values i (pos 0) in let is = slice_get-get_or values i (pos 0) lt in
-      value_stops v v lt is refl
-      (λ both. met v is (part_excludes asked (f v) (span_hull known.span (f v)) (hull_right known.span (f v))
-      (subst (λ a. Excludes a (span_hull known.span (f v))) same both)))
 
   pub values_done : IsSoFar known → length values ≤ i → IsWholeSpan asked whole (Some known)
   values_done h done =

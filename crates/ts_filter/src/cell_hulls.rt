@@ -25,6 +25,9 @@ use ts_domain::{Boxed, Domain};
 use ts_glue::Machine;
 use ts_meet::{Joints, Spot};
 
+/// For how many places of a cell or more pairs of states are followed along the places.
+const MANY_PLACES: u64 = 16;
+
 /// The row of a cell of the reverse automaton, and how it is glued to the forward one.
 #[derive(Clone, Copy)]
 pub(crate) struct BackSide<'a> {
@@ -99,9 +102,6 @@ impl<'a> CellHulls<'a> {
         let values = self.values();
         let mut known = SoFar::none(asked);
         for i in 0..values.size() {
-            if self.settled_to(asked, i, i + 1) > i {
-                return None;
-            }
             let v = values.nth(i);
             known = self.with_value(known, i, v)?;
         }
@@ -154,7 +154,8 @@ impl<'a> CellHulls<'a> {
     }
 
     /// The place up to which, from the place `from` on, the spans of the values have what is asked, as pairs of states
-    /// show whatever values are there. Of the places from there up to `to` nothing is known.
+    /// show whatever values are there. Of the places from there up to `to` nothing is known; of a few places nothing is
+    /// found, as it takes less to ask them one by one.
     pub(crate) fn settled_to(&self, asked: Question<'_>, from: u64, to: u64) -> u64
         requires order { from ≤ to }
         requires inside { to ≤ length (values_at self.now.cell self.now.cells) }
@@ -163,7 +164,7 @@ impl<'a> CellHulls<'a> {
         ensures met { AreMet asked.entry self.now from result }
     {
         match self.back {
-            Some(back) => met_to(
+            Some(back) if to - from >= MANY_PLACES => met_to(
                 asked,
                 self.machine,
                 self.row,
@@ -173,7 +174,7 @@ impl<'a> CellHulls<'a> {
                 from,
                 to,
             ),
-            None => from,
+            _ => from,
         }
     }
 

@@ -31,6 +31,7 @@ mod bar;
 mod box_tables;
 mod cell_hulls;
 mod drops;
+mod enough;
 mod excluded;
 mod first_cell;
 mod held_machine;

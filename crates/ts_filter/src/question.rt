@@ -6,11 +6,13 @@ ghost use Rattle.ts_filter.specs.Question.{Excludes};
 ghost use Rattle.ts_filter.specs.TermDrops.{RefutesSome};
 
 use crate::bar::Bar;
+use crate::enough::{enough_to_compare, enough_to_count};
 use crate::excluded::{cuts, refutes};
 use crate::term_requirements::TermRequirements;
 use ts_base::{Ext, Goal, Span};
 use ts_meet::Asked;
 use ts_model::Op;
+use ts_sweep::packed::Ends;
 
 /// What is asked of the numbers of a span: whether one compares so with a bound; whether for each requirement of a term
 /// one meets it; whether one counts for a bar; or what no number does.
@@ -49,6 +51,15 @@ impl<'a> Asked for Question<'a> {
             Question::MeetsEach(requirements) => requirements.first_refuted(span).is_some(),
             Question::Counts(goal, bar) => cuts(goal, bar, span),
             Question::Nothing => true,
+        }
+    }
+
+    fn enough(self) -> Option<Ends> {
+        match self {
+            Question::Compares(op, bound) => enough_to_compare(op, bound),
+            Question::MeetsEach(requirements) => requirements.enough(),
+            Question::Counts(goal, bar) => enough_to_count(goal, bar),
+            Question::Nothing => None,
         }
     }
 }

@@ -1,16 +1,19 @@
 //! The requirements of one term among those of a model.
 
-ghost use Rattle.std.specs.Prelude.{◌≡◌, ◌↔◌, ◌<◌, ◌≤◌, Contains, IfOk, IsTrue, MatchOption, None, Some};
+ghost use Rattle.std.specs.Prelude.{◌≡◌, ◌↔◌, ◌<◌, ◌≤◌, Contains, IfOk, IfSome, IsTrue, MatchOption, None, Some};
 ghost use Rattle.std.specs.Prelude.{false, filter, length, nat_eq};
 ghost use Rattle.std.specs.List.{position};
 ghost use Rattle.ts_base.specs.declared.span.Span.{Span};
 ghost use Rattle.ts_filter.specs.Excluded.{Refutes};
 ghost use Rattle.ts_filter.specs.TermDrops.{AreAmong, IsFirstRefuting, NoneFrom, RefutesSome};
+ghost use Rattle.ts_meet.specs.Asked.{AreEnough};
 
+use crate::enough::{any_ends, enough_to_meet};
 use crate::excluded::refutes;
 use std::alloc::Global;
 use ts_base::{Memory, Span};
 use ts_model::Require;
+use ts_sweep::packed::Ends;
 
 /// The requirements of a term that has some: the one at place `first`, and those of the term after it, before `end`.
 #[derive(Clone, Copy)]
@@ -65,6 +68,17 @@ impl<'a> TermRequirements<'a> {
             }
         }
         None
+    }
+
+    /// Ends of spans that refute none of them.
+    pub(crate) fn enough(self) -> Option<Ends>
+        ensures { IfSome result (AreEnough (RefutesSome self.entry.all.now self.entry.term)) }
+    {
+        let mut ends = any_ends();
+        for k in self.first..self.end {
+            ends = enough_to_meet(ends, &self.all[k], self.term)?;
+        }
+        Some(ends)
     }
 }
 

@@ -23,6 +23,7 @@ use ts_glue::Machine;
 use ts_meet::{Asked, Joints, Spot, asked_at, finish_at, glued_at};
 use ts_pattern::PatternId;
 use ts_row::{PackedRow, Plan, next_row, start_row};
+use ts_sweep::packed::Ends;
 
 /// Ranges of values, two of them with gaps.
 static CELLS: &str =
@@ -132,6 +133,10 @@ impl Asked for Nothing {
 
     fn excludes(self, _span: Span) -> bool {
         true
+    }
+
+    fn enough(self) -> Option<Ends> {
+        None
     }
 }
 

@@ -1,6 +1,6 @@
 -- What a pair of states tells of the whole span at a value: the pair's span lies in it.
-use Rattle.std.proofs.Common.{◌≡◌, ◌↔◌, ◌⊎◌, Bool, true, false, ℕ, zero, suc, ◌+◌, ◌-◌, ◌<◌, ◌≤◌, ℤ, List, [], ◌∷◌, get_or, length, inl, inr, refl, sym, ap, subst, ◌∙◌, arith}
-use Rattle.std.specs.Prelude.{fold, not, IsTrue, None, Some}
+use Rattle.std.proofs.Common.{◌≡◌, ◌↔◌, ◌⊎◌, Bool, true, false, ℕ, zero, suc, ◌+◌, ◌-◌, ◌<◌, ◌≤◌, ◌≤ℤ◌, ℤ, List, [], ◌∷◌, get_or, length, inl, inr, sym, ap, subst, ◌∙◌, arith}
+use Rattle.std.specs.Prelude.{fold, None, Some}
 use Rattle.std.proofs.lemmas.List.{get_or_default}
 use Rattle.ts_base.specs.declared.span.Span.{Span}
 use Rattle.ts_base.specs.SpanLayer.{IsWithin}
@@ -10,10 +10,13 @@ use Rattle.ts_automaton.specs.AutomatonRun.{Standing}
 use Rattle.ts_glue.specs.Glued.{glued_span}
 use Rattle.ts_glue.specs.Pairs.{Pair}
 use Rattle.ts_row.specs.Rows.{nothing}
+use Rattle.ts_sweep.specs.declared.packed.Ends.{Ends}
 use Rattle.ts_sweep.specs.declared.packed.PackedHull.{PackedHull}
-use Rattle.ts_meet.specs.Asked.{IsAnswer}
-use Rattle.ts_meet.specs.Meets.{hull_of_spans, spans_between, spans_with, standing_in}
-use Rattle.ts_meet.specs.Settled.{Between, IsSettledBySome}
+use Rattle.ts_sweep.specs.Lanes.{least}
+use Rattle.ts_meet.specs.Asked.{AreEnough, IsAnswer, Reaches}
+use Rattle.ts_meet.specs.Meets.{glued_hull, hull_of_spans, spans_between, spans_with, standing_in}
+use Rattle.ts_meet.specs.Settled.{Between, IsSettled}
+use Rattle.ts_meet.specs.Sides.{StandFor}
 use Rattle.ts_meet.proofs.Meeting.{between_more, with_more}
 
 fold_within : (ss : List Span) (s : Span) → IsWithin s (fold span_hull s ss)
@@ -59,22 +62,31 @@ pair_within n p left right i x cells states k q r lq lr =
     λ e h. between_rises n p left right i x cells states none_span (q + 1) k (omega (arith, lq)) e
     (all e (with_rises n p here right i x cells before (r + 1) states (omega (arith, lr)) e (first e h)))
 
--- what no part of a span has, the span doesn't have
-pub never_whole : (Excluded : Span → Type 0) (part : (s t : Span) → IsWithin s t → Excluded t → Excluded s) (n : ℕ) (p : Pair)
-    (left right : List (List (PackedHull n))) (i cells k q : ℕ) → q < k → IsSettledBySome n Excluded p q (get_or left q []) right cells i → (x : ℤ) →
-    Excluded (hull_of_spans (spans_between n p left right i x cells (length p.reverse.states) k)) → ⊥
-never_whole Excluded part n p left right i cells k q lq told x whole =
-    told.2 x (part _ _ (pair_within n p left right i x cells (length p.reverse.states) k q told.0 lq told.1) whole)
+-- what no part of a span lacks, the span doesn't lack
+pub settled_has : (Excluded : Span → Type 0) (part : (s t : Span) → IsWithin s t → Excluded t → Excluded s) (n : ℕ) (p : Pair)
+    (left right : List (List (PackedHull n))) (i cells : ℕ) (given : Ends) → AreEnough Excluded given → IsSettled n given p left right cells i → (x : ℤ) →
+    Excluded (glued_hull n p left right i x cells) → ⊥
+settled_has Excluded part n p left right i cells given enough told x whole =
+    let by = told.2 in
+    enough _ (by.2 x)
+    (part _ _ (pair_within n p left right i x cells (length p.reverse.states) (length p.forward.states) told.0 by.0 told.1 by.1) whole)
+
+-- nor does a hull lack it of which a part reaches ends that are enough
+pub part_has : (Excluded : Span → Type 0) (of_part : (s t : Span) → IsWithin s t → Excluded t → Excluded s) (given : Ends) (so_far whole : Span) →
+    AreEnough Excluded given → (part : Span) × IsWithin part whole × Reaches given part → Excluded (span_hull so_far whole) → ⊥
+part_has Excluded of_part given so_far whole enough (part, within, reached) none =
+    enough part reached (of_part part (span_hull so_far whole) (λ e h. hull_right so_far whole e (within e h)) none)
+
+-- ends of a hull that holds something
+pub stands_reaches : (e given : Ends) (s : Span) → StandFor e s → (e.above ≡ least → ⊥) → (given.below ≤ℤ e.below) × (given.above ≤ℤ e.above) → Reaches given s
+stands_reaches e given s (inl none) some reached = absurd (some (ap (λ (z : Ends). z.above) none.0))
+stands_reaches e given s (inr packs) some reached = record { ends = e; packs = packs; below = reached.0; above = reached.1 }
 
 clash : true ≡ false → ⊥
 clash e = cc
 
-pub denied : (b : Bool) → IsTrue (not b) → b ≡ false
-denied true h = absurd (clash (sym h))
-denied false h = refl
-
 -- by what is told of a span
-pub not_told : (Excluded : Span → Type 0) (told : Bool) (span part : Span) → span ≡ part → (told ≡ true) ↔ Excluded span → told ≡ false → Excluded part → ⊥
+not_told : (Excluded : Span → Type 0) (told : Bool) (span part : Span) → span ≡ part → (told ≡ true) ↔ Excluded span → told ≡ false → Excluded part → ⊥
 not_told Excluded told span part is tells isnt none = clash (sym (tells.1 (subst Excluded (sym is) none)) ∙ isnt)
 
 -- the whole, by what is told of it

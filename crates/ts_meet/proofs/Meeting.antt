@@ -6,16 +6,16 @@ use Rattle.std.proofs.lemmas.List.{flat_map_more, get_or_default}
 use Rattle.std.proofs.lemmas.List.FromFn.{map-range_with_len_more}
 use Rattle.std.proofs.lemmas.List.Sums.{fold-append, fold_push}
 use Rattle.ts_base.specs.declared.span.Span.{Span}
-use Rattle.ts_base.specs.Spans.{has_some, none_span, span_hull}
+use Rattle.ts_base.specs.Spans.{none_span, span_hull}
 use Rattle.ts_automaton.specs.declared.expr.Operator.{Operator}
 use Rattle.ts_automaton.specs.declared.expr.Operator.TheVariants.{Fold, Sub}
 use Rattle.ts_automaton.specs.Differences.{span_op}
 use Rattle.ts_automaton.specs.Formula.{Formula}
 use Rattle.ts_automaton.proofs.Evaluation.{value_related}
-use Rattle.ts_automaton.proofs.Five.{none_registers, some_registers}
+use Rattle.ts_automaton.proofs.Five.{none_registers}
 use Rattle.ts_automaton.specs.AutomatonRun.{Standing}
 use Rattle.ts_automaton.specs.Body.{Body}
-use Rattle.ts_automaton.specs.Registers.{EachOf, map_each, spans, spans_of, value_in}
+use Rattle.ts_automaton.specs.Registers.{EachOf, spans, spans_of, value_in}
 use Rattle.ts_automaton.specs.SpanRun.{has_registers, finish_span_of, marked_span}
 use Rattle.ts_automaton.specs.declared.state.Mark.{Mark}
 use Rattle.ts_glue.specs.Glue.{Glue, glue_in, glue_of}
@@ -30,7 +30,7 @@ use Rattle.ts_sweep.specs.declared.packed.PackedHull.{PackedHull}
 use Rattle.ts_sweep.specs.FrontLaws.{name_packs}
 use Rattle.ts_sweep.specs.Lanes.{some_lanes}
 use Rattle.ts_sweep.specs.MoveLaws.{some_unpacked}
-use Rattle.ts_sweep.specs.Packed.{AreSome, IsPacked, IsPackOf, IsSomeEnds, ends_span, unpacked}
+use Rattle.ts_sweep.specs.Packed.{AreSome, IsPacked, IsPackOf, IsSomeEnds, unpacked}
 use Rattle.ts_sweep.specs.PackedLaws.{none_unpacked}
 use Rattle.ts_sweep.specs.TreeLaws.{tree_packs, zero_small}
 use Rattle.ts_sweep.specs.Trees.{tree_value}
@@ -59,14 +59,6 @@ lanes_pack n xs big h = (name_packs n xs C big h, name_packs n xs E big h, name_
 
 pub none_there : (n : ℕ) (xs : List ℤ) → 6 ≤ n → IsPacked n xs → some_lanes xs ≡ false → has_registers (spans_of (unpacked xs)) ≡ false
 none_there n xs big p none = ap (λ h. has_registers (spans_of h)) (ap unpacked (nothing_lanes n xs big p none) ∙ none_unpacked n big) ∙ none_registers
-
-packed_span : (e : Ends) (s : Span) → IsPackOf e s → has_some s ≡ true
-packed_span e s p = ap has_some (sym p.span) ∙ p.some.some
-
-pack_registers : (a : EachOf Ends) (s : EachOf Span) → ArePackOf a s → has_registers s ≡ true
-pack_registers a s p =
-    some_registers s
-    (packed_span a.c s.c p.0, packed_span a.e s.e p.1, packed_span a.d s.d p.2, packed_span a.f s.f p.3, packed_span a.r s.r p.4)
 
 -- the hull that was read at a place of a row
 pub standing_there : (n : ℕ) (row : List (List (PackedHull n))) (q i : ℕ) (column : List (PackedHull n)) (h : PackedHull n) →
@@ -110,27 +102,25 @@ module _ (p : Pair) (q r : ℕ) (regs others : EachOf Span) (x : ℤ) (cells : �
       ∙ ap (marked_span p.forward.mark cells) (sym (value_sealed (glue_of p q r x) regs others))
 
 -- the glued ends of a pair of states stand for its span
-pub pair_packs : (p : Pair) (j : Joints) (q r : ℕ) (a b : EachOf Ends) (regs others : EachOf Span) (x : ℤ) (cells : ℕ) (u : Glue) (e m : Ends) →
-    AreJoints p j → ArePackOf a regs → ArePackOf b others → u ≡ glue_of p q r x →
-    ((s t : EachOf Span) → ArePackOf a s → ArePackOf b t → IsPackOf e (glue_in sealed_spans s t u)) →
+pub pair_packs : (p : Pair) (j : Joints) (q r : ℕ) (regs others : EachOf Span) (x : ℤ) (cells : ℕ) (u : Glue) (e m : Ends) →
+    AreJoints p j → has_registers regs ≡ true → has_registers others ≡ true → u ≡ glue_of p q r x → IsPackOf e (glue_in sealed_spans regs others u) →
     ((t : Span) → IsPackOf e t → IsPackOf m (marked_span j.mark cells t)) →
     IsPackOf m (glued_span p (standing q regs) (standing r others) x cells)
-pair_packs p j q r a b regs others x cells u e m h pa pb is glued marked =
+pair_packs p j q r regs others x cells u e m h some same is glued marked =
     let value = glue_in sealed_spans regs others u in
     subst (IsPackOf m)
     (ap (λ k. marked_span k cells value) h.mark ∙ ap (λ v. marked_span p.forward.mark cells (glue_in sealed_spans regs others v)) is
-    ∙ sym (part_is p q r regs others x cells (pack_registers a regs pa) (pack_registers b others pb)))
-    (marked value (glued regs others pa pb))
+    ∙ sym (part_is p q r regs others x cells some same))
+    (marked value glued)
 
 -- they are taken in
-pub pair_taken : (p : Pair) (j : Joints) (q r : ℕ) (a b : EachOf Ends) (regs others : EachOf Span) (x : ℤ) (cells : ℕ) (u : Glue)
-    (hull e m result : Ends) (s : Span) → AreJoints p j → ArePackOf a regs → ArePackOf b others → u ≡ glue_of p q r x →
-    ((s t : EachOf Span) → ArePackOf a s → ArePackOf b t → IsPackOf e (glue_in sealed_spans s t u)) →
+pub pair_taken : (p : Pair) (j : Joints) (q r : ℕ) (regs others : EachOf Span) (x : ℤ) (cells : ℕ) (u : Glue) (hull e m result : Ends) (s : Span) →
+    AreJoints p j → has_registers regs ≡ true → has_registers others ≡ true → u ≡ glue_of p q r x → IsPackOf e (glue_in sealed_spans regs others u) →
     ((t : Span) → IsPackOf e t → IsPackOf m (marked_span j.mark cells t)) →
     ((s t : Span) → StandFor hull s → IsPackOf m t → StandFor result (span_hull s t)) → StandFor hull s →
     StandFor result (span_hull s (glued_span p (standing q regs) (standing r others) x cells))
-pair_taken p j q r a b regs others x cells u hull e m result s h pa pb is glued marked joined stands =
-    joined s _ stands (pair_packs p j q r a b regs others x cells u e m h pa pb is glued marked)
+pair_taken p j q r regs others x cells u hull e m result s h some same is glued marked joined stands =
+    joined s _ stands (pair_packs p j q r regs others x cells u e m h some same is glued marked)
 
 -- one state more on the other side
 
@@ -251,21 +241,3 @@ row_places n states count to row h inside = record {
     λ i before. (h.columns q lt).1 i (omega (arith, before, inside)),
   );
 }
-
--- ends stand for their own spans
-abbrev own_spans : EachOf Ends → EachOf Span
-own_spans a = map_each ends_span a
-
-pub own_packs : (a : EachOf Ends) → AreSomeEnds a → ArePackOf a (own_spans a)
-own_packs a h = (
-  record { some = h.0; span = refl },
-  record { some = h.1; span = refl },
-  record { some = h.2; span = refl },
-  record { some = h.3; span = refl },
-  record { some = h.4; span = refl },
-)
-
--- so registers lie between glued ends
-pub glued_some : (a b : EachOf Ends) (e : Ends) (u : Glue) → AreSomeEnds a → AreSomeEnds b →
-    ((s t : EachOf Span) → ArePackOf a s → ArePackOf b t → IsPackOf e (glue_in sealed_spans s t u)) → IsSomeEnds e
-glued_some a b e u h k glued = (glued (own_spans a) (own_spans b) (own_packs a h) (own_packs b k)).some

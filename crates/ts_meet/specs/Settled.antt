@@ -1,4 +1,4 @@
--- Places of a cell that a pair of states settles: its span has what is asked, whatever value is at the place.
+-- Places of a cell that a pair of states settles: its span reaches what is asked, whatever value is at the place.
 use Rattle.std.specs.Prelude.{◌≡◌, ◌<◌, ◌≤◌, ℕ, ℤ, List, [], length, get_or}
 use Rattle.ts_base.specs.declared.span.Span.{Span}
 use Rattle.ts_automaton.specs.Registers.{spans_of}
@@ -6,8 +6,10 @@ use Rattle.ts_automaton.specs.AutomatonRun.{Standing}
 use Rattle.ts_glue.specs.Glued.{glued_span}
 use Rattle.ts_glue.specs.Pairs.{Pair}
 use Rattle.ts_row.specs.Rows.{nothing}
+use Rattle.ts_sweep.specs.declared.packed.Ends.{Ends}
 use Rattle.ts_sweep.specs.declared.packed.PackedHull.{PackedHull}
 use Rattle.ts_sweep.specs.Packed.{IsPacked, unpacked}
+use Rattle.ts_meet.specs.Asked.{Reaches}
 use Rattle.ts_meet.specs.Meets.{standing}
 
 -- each place from a on, before b, is so
@@ -30,18 +32,22 @@ with_hull n q h = standing q (spans_of (unpacked h.at))
 abbrev pub with_hull_at : (n q : ℕ) → List (PackedHull n) → ℕ → Standing Span
 with_hull_at n q hulls i = with_hull n q (get_or hulls i (nothing n))
 
--- the span of two states that meet isn't so, whatever the value
-abbrev pub IsNever : (Span → Type 0) → Pair → (left right : Standing Span) → ℕ → Type 0
-IsNever Excluded p left right cells = (x : ℤ) → Excluded (glued_span p left right x cells) → ⊥
+-- the span of two states that meet reaches these ends, whatever the value
+abbrev pub AlwaysReaches : Ends → Pair → (left right : Standing Span) → ℕ → Type 0
+AlwaysReaches given p left right cells = (x : ℤ) → Reaches given (glued_span p left right x cells)
 
--- nor is that of the states q and r at place i of two columns
+-- so does that of the states q and r at place i of two columns
 abbrev pub IsSettledBy :
-    (n : ℕ) → (Span → Type 0) → Pair → (q r : ℕ) → (left right : List (PackedHull n)) → (cells i : ℕ) → Type 0
-IsSettledBy n Excluded p q r left right cells i =
-    IsNever Excluded p (with_hull_at n q left i) (with_hull_at n r right i) cells
+    (n : ℕ) → Ends → Pair → (q r : ℕ) → (left right : List (PackedHull n)) → (cells i : ℕ) → Type 0
+IsSettledBy n given p q r left right cells i =
+    AlwaysReaches given p (with_hull_at n q left i) (with_hull_at n r right i) cells
 
--- so with one of the states on the right
-abbrev pub IsSettledBySome : (n : ℕ) → (Span → Type 0) → Pair → ℕ → List (PackedHull n) → List (List (PackedHull n)) →
-    (cells i : ℕ) → Type 0
-IsSettledBySome n Excluded p q left right cells i =
-    (r : ℕ) × (r < length p.reverse.states) × IsSettledBy n Excluded p q r left (get_or right r []) cells i
+-- so with one of the states on the right, and with one of those on both sides
+abbrev pub IsSettledBySome :
+    (n : ℕ) → Ends → Pair → ℕ → List (PackedHull n) → List (List (PackedHull n)) → (cells i : ℕ) → Type 0
+IsSettledBySome n given p q left right cells i =
+    (r : ℕ) × (r < length p.reverse.states) × IsSettledBy n given p q r left (get_or right r []) cells i
+
+abbrev pub IsSettled : (n : ℕ) → Ends → Pair → (left right : List (List (PackedHull n))) → (cells i : ℕ) → Type 0
+IsSettled n given p left right cells i =
+    (q : ℕ) × (q < length p.forward.states) × IsSettledBySome n given p q (get_or left q []) right cells i

@@ -27,9 +27,11 @@ impl Joints {
         }
     }
 
-    /// How the registers are glued if the forward run is in the state `left` and the reverse one in `right`.
+    /// How the registers are glued if the forward run is in the state `left` and the reverse one in `right`. `operator`
+    /// is the one that joins results.
     #[inline(always)]
-    pub(crate) fn gluing(&self, left: u8, right: u8, spot: Spot) -> Gluing
+    pub(crate) fn gluing(&self, operator: Op, left: u8, right: u8, spot: Spot) -> Gluing
+        requires operator { operator ≡ self.now.result }
         requires left { left < self.now.left_states }
         requires right { right < self.now.right_states }
         requires value { IsCellValue spot.value }
@@ -37,7 +39,7 @@ impl Joints {
         ensures worth { IsCellValue result.worth }
     {
         Gluing {
-            result: self.result,
+            result: operator,
             fold: self.fold,
             worth: self.unit.worth(spot.value),
             wide: self.wide,

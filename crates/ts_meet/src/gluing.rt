@@ -1,21 +1,20 @@
 //! What is made of the registers on both sides of a cell.
 
-ghost use Rattle.std.specs.Prelude.{◌≡◌, true, neg_ℤ, pos};
-ghost use Rattle.ts_automaton.specs.Registers.{EachOf, Takes, value_in};
+ghost use Rattle.std.specs.Prelude.{◌≡◌, ◌≤◌, true, neg_ℤ, pos};
+ghost use Rattle.ts_automaton.specs.Registers.{Takes, spans_of, value_in};
 ghost use Rattle.ts_base.specs.declared.ext.Ext.TheVariants.{Int};
-ghost use Rattle.ts_base.specs.declared.span.Span.{Span};
 ghost use Rattle.ts_base.specs.Limits.{IsCellValue};
 ghost use Rattle.ts_glue.specs.Glue.{GlueTakes, fold_of, folded_between, folded_both, glue_in, held_of, result_of};
 ghost use Rattle.ts_hull.specs.Sealed.{sealed_spans};
 ghost use Rattle.ts_meet.specs.Joints.{IsFoldPlain, IsPlain, expression, folds_held, is_add, part_by};
-ghost use Rattle.ts_meet.specs.Sides.{ArePackOf, AreSomeEnds, ends_in};
-ghost use Rattle.ts_sweep.specs.Packed.{IsPackOf};
+ghost use Rattle.ts_meet.specs.Sides.{ends_in};
+ghost use Rattle.ts_sweep.specs.Packed.{AreSome, IsPackOf, unpacked};
 
 use crate::side::{Side, are_plain};
 use crate::sums::{Clamped, Plain, Sums};
 use ts_automaton::{Op, Operator};
 use ts_glue::Part;
-use ts_sweep::packed::Ends;
+use ts_sweep::packed::{Ends, PackedHull};
 
 /// How the registers of a pair of states are glued: the operators that join results and fold cells, what the cell is
 /// worth, whether something is taken away from the whole, whether one occurrence goes on through the cell, whether an
@@ -33,31 +32,36 @@ pub(crate) struct Gluing {
 }
 
 impl Gluing {
-    /// The glued ends before the mark. If all numbers that are added are small, sums are those of the lanes; otherwise
-    /// they are clamped.
+    /// The glued ends of two hulls before the mark. If all numbers that are added are small, sums are those of the
+    /// lanes; otherwise they are clamped.
     #[inline(always)]
-    pub(crate) fn glued(self, left: Side, right: Side) -> Ends
-        requires left { AreSomeEnds (ends_in left) }
-        requires right { AreSomeEnds (ends_in right) }
+    pub(crate) fn glued<const N: usize>(self, left: &PackedHull<N>, right: &PackedHull<N>) -> Ends
+        requires registers { 6 ≤ N }
+        requires left { AreSome N left.now.at }
+        requires right { AreSome N right.now.at }
         requires worth { IsCellValue self.worth }
-        ensures { (s t : EachOf Span) → ArePackOf (ends_in left) s → ArePackOf (ends_in right) t →
-            IsPackOf result (glue_in sealed_spans s t (expression self)) }
+        ensures { IsPackOf result (glue_in sealed_spans
+            (spans_of (unpacked left.now.at)) (spans_of (unpacked right.now.at)) (expression self)) }
     {
-        if self.is_plain(left, right) {
-            self.glued_by::<Plain>(left, right)
+        let (first, second) = (Side::of(left), Side::of(right));
+        if self.is_plain(first, second) {
+            self.glued_by::<Plain>(first, second)
         } else {
             self.clamped(left, right)
         }
     }
 
-    /// The glued ends before the mark, with clamped sums.
+    /// The glued ends of two hulls before the mark, with clamped sums.
     #[inline(never)]
-    fn clamped(self, left: Side, right: Side) -> Ends
+    fn clamped<const N: usize>(self, left: &PackedHull<N>, right: &PackedHull<N>) -> Ends
+        requires registers { 6 ≤ N }
+        requires left { AreSome N left.now.at }
+        requires right { AreSome N right.now.at }
         requires worth { IsCellValue self.worth }
-        ensures { (s t : EachOf Span) → ArePackOf (ends_in left) s → ArePackOf (ends_in right) t →
-            IsPackOf result (glue_in sealed_spans s t (expression self)) }
+        ensures { IsPackOf result (glue_in sealed_spans
+            (spans_of (unpacked left.now.at)) (spans_of (unpacked right.now.at)) (expression self)) }
     {
-        self.glued_by::<Clamped>(left, right)
+        self.glued_by::<Clamped>(Side::of(left), Side::of(right))
     }
 
     /// The glued ends before the mark, with the sums `S`. Each operator meets ends that it takes.

@@ -1,7 +1,7 @@
 //! The span at a value of a cell, from the rows on both sides.
 
 ghost use Rattle.std.specs.Prelude.{◌≡◌, ℕ, ◌<◌, ◌≤◌, fold, length};
-ghost use Rattle.ts_automaton.specs.Registers.{EachOf, spans_of};
+ghost use Rattle.ts_automaton.specs.Registers.{spans_of};
 ghost use Rattle.ts_automaton.specs.SpanRun.{finish_span_of};
 ghost use Rattle.ts_base.specs.declared.span.Span.{Span};
 ghost use Rattle.ts_base.specs.Limits.{IsCellValue};
@@ -10,14 +10,13 @@ ghost use Rattle.ts_glue.specs.Glued.{glued_span};
 ghost use Rattle.ts_glue.specs.Pairs.{Pair};
 ghost use Rattle.ts_meet.specs.Joints.{AreJoints};
 ghost use Rattle.ts_meet.specs.Meets.{HasPlace, finish_hull, glued_hull, spans_with, standing};
-ghost use Rattle.ts_meet.specs.Sides.{ArePackOf, AreSomeEnds, StandFor, ends_in};
-ghost use Rattle.ts_sweep.specs.Packed.{IsPacked, unpacked};
+ghost use Rattle.ts_meet.specs.Sides.{StandFor};
+ghost use Rattle.ts_sweep.specs.Packed.{AreSome, IsPacked, unpacked};
 
 use crate::joints::Joints;
 use crate::marked::{joined, marked, nothing, span_of};
-use crate::side::Side;
 use crate::spot::Spot;
-use ts_automaton::Automaton;
+use ts_automaton::{Automaton, Op};
 use ts_base::Span;
 use ts_row::PackedRow;
 use ts_sweep::front::Front;
@@ -40,17 +39,51 @@ pub fn glued_at<const N: usize>(
     ensures { (p : Pair) → AreJoints p joints.now →
         result ≡ glued_hull N p left.now right.now spot.place spot.value spot.cells }
 {
+    match joints.result {
+        Op::Add => glued_by(Op::Add, joints, left, right, spot),
+        Op::Max => glued_by(Op::Max, joints, left, right, spot),
+        Op::Min => glued_by(Op::Min, joints, left, right, spot),
+    }
+}
+
+/// The hull of the glued spans of all pairs of states, where `operator` is the one that joins results.
+#[inline(always)]
+fn glued_by<const N: usize>(
+    operator: Op,
+    joints: &Joints,
+    left: &PackedRow<N>,
+    right: &PackedRow<N>,
+    spot: Spot,
+) -> Span
+    requires registers { 6 ≤ N }
+    requires lanes { N ≤ 64 }
+    requires operator { operator ≡ joints.now.result }
+    requires left { HasPlace N joints.now.left_states spot.place left.now }
+    requires right { HasPlace N joints.now.right_states spot.place right.now }
+    requires value { IsCellValue spot.value }
+    ensures { (p : Pair) → AreJoints p joints.now →
+        result ≡ glued_hull N p left.now right.now spot.place spot.value spot.cells }
+{
     let mut hull = nothing();
     for q in 0..joints.left_states {
-        hull = with_reached(hull, joints, q, &left.column(q)[spot.place], right, spot);
+        hull = with_reached(
+            hull,
+            operator,
+            joints,
+            q,
+            &left.column(q)[spot.place],
+            right,
+            spot,
+        );
     }
     span_of(hull)
 }
 
 /// A hull with the glued spans of one state on the left added, if any series reaches that state.
 #[inline(always)]
-fn with_reached<const N: usize>(
+pub(crate) fn with_reached<const N: usize>(
     hull: Ends,
+    operator: Op,
     joints: &Joints,
     q: u8,
     left: &PackedHull<N>,
@@ -59,6 +92,7 @@ fn with_reached<const N: usize>(
 ) -> Ends
     requires registers { 6 ≤ N }
     requires lanes { N ≤ 64 }
+    requires operator { operator ≡ joints.now.result }
     requires state { q < joints.now.left_states }
     requires left { IsPacked N left.now.at }
     requires right { HasPlace N joints.now.right_states spot.place right.now }
@@ -70,63 +104,75 @@ fn with_reached<const N: usize>(
     if !left.is_some() {
         return hull;
     }
-    with_state(hull, joints, q, Side::of(left), right, spot)
+    with_state(hull, operator, joints, q, left, right, spot)
 }
 
 /// A hull with the glued spans of one state on the left added, which some series reaches.
 #[inline(always)]
 fn with_state<const N: usize>(
     hull: Ends,
+    operator: Op,
     joints: &Joints,
     q: u8,
-    left: Side,
+    left: &PackedHull<N>,
     right: &PackedRow<N>,
     spot: Spot,
 ) -> Ends
     requires registers { 6 ≤ N }
     requires lanes { N ≤ 64 }
+    requires operator { operator ≡ joints.now.result }
     requires state { q < joints.now.left_states }
-    requires left { AreSomeEnds (ends_in left) }
+    requires left { AreSome N left.now.at }
     requires right { HasPlace N joints.now.right_states spot.place right.now }
     requires value { IsCellValue spot.value }
-    ensures { (p : Pair) (regs : EachOf Span) (s : Span) → AreJoints p joints.now → ArePackOf (ends_in left) regs →
-        StandFor hull s → StandFor result (fold span_hull s
-        (spans_with N p (standing q regs) right.now spot.place spot.value spot.cells (length p.reverse.states))) }
+    ensures { (p : Pair) (s : Span) → AreJoints p joints.now → StandFor hull s → StandFor result (fold span_hull s
+        (spans_with N p (standing q (spans_of (unpacked left.now.at))) right.now spot.place spot.value spot.cells
+        (length p.reverse.states))) }
 {
     let mut all = hull;
     for r in 0..joints.right_states {
-        all = with_pair(all, joints, q, r, left, &right.column(r)[spot.place], spot);
+        all = with_pair(
+            all,
+            operator,
+            joints,
+            q,
+            r,
+            left,
+            &right.column(r)[spot.place],
+            spot,
+        );
     }
     all
 }
 
 /// A hull with the glued span of one pair of states added, if any series reaches the state on the right.
 #[inline(always)]
-pub(crate) fn with_pair<const N: usize>(
+fn with_pair<const N: usize>(
     hull: Ends,
+    operator: Op,
     joints: &Joints,
     q: u8,
     r: u8,
-    left: Side,
+    left: &PackedHull<N>,
     right: &PackedHull<N>,
     spot: Spot,
 ) -> Ends
     requires registers { 6 ≤ N }
     requires lanes { N ≤ 64 }
+    requires operator { operator ≡ joints.now.result }
     requires state { q < joints.now.left_states }
     requires other { r < joints.now.right_states }
-    requires left { AreSomeEnds (ends_in left) }
+    requires left { AreSome N left.now.at }
     requires right { IsPacked N right.now.at }
     requires value { IsCellValue spot.value }
-    ensures { (p : Pair) (regs : EachOf Span) (s : Span) → AreJoints p joints.now → ArePackOf (ends_in left) regs →
-        StandFor hull s → StandFor result (span_hull s
-        (glued_span p (standing q regs) (standing r (spans_of (unpacked right.now.at))) spot.value spot.cells)) }
+    ensures { (p : Pair) (s : Span) → AreJoints p joints.now → StandFor hull s → StandFor result (span_hull s
+        (glued_span p (standing q (spans_of (unpacked left.now.at))) (standing r (spans_of (unpacked right.now.at)))
+        spot.value spot.cells)) }
 {
     if !right.is_some() {
         return hull;
     }
-    let gluing = joints.gluing(q, r, spot);
-    let glued = gluing.glued(left, Side::of(right));
+    let glued = joints.gluing(operator, q, r, spot).glued(left, right);
     joined(hull, marked(joints.mark, glued, spot.cells))
 }
 

@@ -1,12 +1,8 @@
-use Rattle.ts_meet.proofs.Asking.{answered}
+use Rattle.std.proofs.Common.{subst}
+use Rattle.ts_base.specs.Spans.{span_hull}
+use Rattle.ts_meet.specs.Asked.{IsAnswer}
 use Rattle.ts_meet.proofs.asked.asked_at.Goals as goal
 
-pub returns-then-excludes : goal.returns-then-excludes
-returns-then-excludes g c p h =
-    (answered (g.Q.Asked.excluded c.args.asked) c.excludes.result c.glued_at.result c.hull-span.result _ c.args.so_far (c.glued_at.ensures p h) c.hull-span.ensures
-    c.excludes.ensures).0 c.if-excludes.true
-
-pub returns-else-excludes : goal.returns-else-excludes
-returns-else-excludes g c p h =
-    (answered (g.Q.Asked.excluded c.args.asked) c.excludes.result c.glued_at.result c.hull-span.result _ c.args.so_far (c.glued_at.ensures p h) c.hull-span.ensures
-    c.excludes.ensures).1 c.if-excludes.false
+pub returns-in-None : goal.returns-in-None
+returns-in-None g c p h =
+    subst (λ z. IsAnswer (g.Q.Asked.excluded c.args.asked) (span_hull c.args.so_far z) c.asked_whole.result) (c.glued_at.ensures p h) c.asked_whole.ensures

@@ -1,5 +1,5 @@
-use Rattle.std.proofs.Common.{◌≡◌, ◌<◌, ◌≤◌, sym, ap, subst, ◌∙◌, arith}
-use Rattle.ts_meet.specs.Settled.{IsNever, with_hull, with_hull_at}
+use Rattle.std.proofs.Common.{subst, arith}
+use Rattle.ts_meet.specs.Settled.{AlwaysReaches, with_hull, with_hull_at}
 use Rattle.ts_meet.proofs.Asking.{none_between, one_more, read_there}
 use Rattle.ts_meet.proofs.settled.settled_apart.Goals as goal
 
@@ -9,10 +9,10 @@ loop-i-init g c p q r h apart = none_between _ c.args.from
 pub loop-i-preserved : goal.loop-i-preserved
 loop-i-preserved g c p q r h apart =
     let left = c.args.left.now in let right = c.args.right.now in let i = c.loop-i.i in
-    let never = IsNever (g.Q.Asked.excluded c.args.asked) p in
+    let reaches = AlwaysReaches c.args.enough p in
     let told = c.settles.ensures c.if-not-settles.false p q r h apart in
     one_more _ c.args.from i (c.loop-i.invariant p q r h apart)
-    (subst (λ z. never (with_hull_at g.row.N q left i) (with_hull g.row.N r z) c.args.cells)
+    (subst (λ z. reaches (with_hull_at g.row.N q left i) (with_hull g.row.N r z) c.args.cells)
     (read_there g.row.N right i _ c.index-right-i.is (let e = c.requires.right.0 in let t = c.loop-i-test.true in omega (arith, e, t)))
-    (subst (λ z. never (with_hull g.row.N q z) (with_hull g.row.N r c.index-right-i.result) c.args.cells)
+    (subst (λ z. reaches (with_hull g.row.N q z) (with_hull g.row.N r c.index-right-i.result) c.args.cells)
     (read_there g.row.N left i _ c.index-left-i.is (let e = c.requires.left.0 in let t = c.loop-i-test.true in omega (arith, e, t))) told))

@@ -1,28 +1,8 @@
-use Rattle.std.proofs.Common.{◌≡◌, ◌<◌, ◌≤◌, sym, subst, length, arith, rules}
-use Rattle.ts_meet.specs.Settled.{ArePlaces, IsSettledBySome}
-use Rattle.ts_meet.proofs.Asking.{and_between, never_whole, none_between}
+use Rattle.ts_meet.proofs.Asking.{settled_has}
 use Rattle.ts_meet.proofs.settled.settled_to.Goals as goal
 
-pub loop-q-init : goal.loop-q-init
-loop-q-init g c = (omega arith, c.requires.order, λ p h. none_between _ c.args.from)
-
-pub settled_with-at-requires : goal.settled_with-at-requires
-settled_with-at-requires g c =
-    let below : c.loop-q.q < c.args.joints.now.left_states = omega (arith, c.loop-q-test.true, c.loop-q.auto.q-end) in
-    let places = subst (ArePlaces g.row.N c.args.to) (sym c.column.ensures) (c.requires.left.places c.loop-q.q below) in
-    (search rules, (search rules, (c.requires.registers, (c.requires.lanes, (below, (places, (c.requires.right, c.loop-q.invariant.1)))))))
-
-pub loop-q-preserved : goal.loop-q-preserved
-loop-q-preserved g c =
-    let left = c.args.left.now in let right = c.args.right.now in let cells = c.args.cells in let q = c.loop-q.q in
-    let excluded = g.Q.Asked.excluded c.args.asked in
-    let below : q < c.args.joints.now.left_states = omega (arith, c.loop-q-test.true, c.loop-q.auto.q-end) in
-    let told = c.settled_with-at.ensures in let before = c.loop-q.invariant in
-    let from = told.from in let so_far = before.0 in (
-      omega (arith, so_far, from),
-      told.to,
-      λ p h. and_between _ c.args.from c.loop-q.at c.settled_with-at.result (before.2 p h)
-          (λ i first last. let inside : q < length p.forward.states = (let k = h.left_states in omega (arith, k, below)) in
-          never_whole excluded (g.met.Q.Asked.of_part c.args.asked) g.row.N p left right i cells (length p.forward.states) q inside
-          (subst (λ z. IsSettledBySome g.row.N excluded p q z right cells i) c.column.ensures (told.settled p h i first last))),
-    )
+pub returns-in-Some-clause-settled : goal.returns-in-Some-clause-settled
+returns-in-Some-clause-settled g c p h i first last x =
+    let asked = c.args.asked in
+    settled_has (g.Q.Asked.excluded asked) (g.met.Q.Asked.of_part asked) g.row.N p c.args.left.now c.args.right.now i c.args.cells c.in-Some.enough c.in-Some.ensures
+    (c.settled_by.ensures.settled p h i first last) x

@@ -1,4 +1,4 @@
-use Rattle.std.proofs.Common.{◌≡◌, ◌<◌, ◌≤◌, sym, subst, length, arith, rules}
+use Rattle.std.proofs.Common.{◌<◌, sym, subst, length, arith, rules}
 use Rattle.ts_meet.specs.Settled.{ArePlaces, IsSettledBy}
 use Rattle.ts_meet.proofs.Asking.{and_between, none_between}
 use Rattle.ts_meet.proofs.settled.settled_with.Goals as goal
@@ -15,7 +15,6 @@ settled_between-at-requires g c =
 pub loop-r-preserved : goal.loop-r-preserved
 loop-r-preserved g c =
     let left = c.args.left.now in let r = c.loop-r.r in
-    let excluded = g.Q.Asked.excluded c.args.asked in
     let below : r < c.args.joints.now.right_states = omega (arith, c.loop-r-test.true, c.loop-r.auto.r-end) in
     let told = c.settled_between-at.ensures in let before = c.loop-r.invariant in
     let from = told.from in let so_far = before.0 in (
@@ -23,5 +22,5 @@ loop-r-preserved g c =
       told.to,
       λ p h. and_between _ c.args.from c.loop-r.at c.settled_between-at.result (before.2 p h)
           (λ i first last. let inside : r < length p.reverse.states = (let k = h.right_states in omega (arith, k, below)) in
-          (r, inside, subst (λ z. IsSettledBy g.row.N excluded p c.args.q r left z c.args.cells i) c.column.ensures (told.settled p h i first last))),
+          (r, inside, subst (λ z. IsSettledBy g.row.N c.args.enough p c.args.q r left z c.args.cells i) c.column.ensures (told.settled p h i first last))),
     )

@@ -7,4 +7,4 @@ use Rattle.ts_meet.proofs.settled.settled_with.Given as goal
 abbrev pub invariant-loop-r : goal.invariant-loop-r
 invariant-loop-r g l =
     (l.from ≤ l.at) × (l.at ≤ l.to) × ((p : Pair) → AreJoints p l.joints →
-    Between l.from l.at (IsSettledBySome g.row.N (g.Q.Asked.excluded l.asked) p l.q l.left l.right l.cells))
+    Between l.from l.at (IsSettledBySome g.row.N l.enough p l.q l.left l.right l.cells))

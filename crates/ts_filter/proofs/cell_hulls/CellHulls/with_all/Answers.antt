@@ -6,7 +6,7 @@ use Rattle.ts_filter.specs.Boxes.{values_at}
 use Rattle.ts_filter.specs.SoFar.{IsWholeSpan}
 use Rattle.ts_filter.proofs.CellLaws.{span_begun}
 use Rattle.ts_filter.proofs.Looked.{span_inside}
-use Rattle.ts_filter.proofs.SoFarLaws.{value_more, value_settles, value_stops, values_done}
+use Rattle.ts_filter.proofs.SoFarLaws.{value_more, value_stops, values_done}
 use Rattle.ts_filter.proofs.cell_hulls.CellHulls.with_all.Goals as goal
 
 pub loop-i-init : goal.loop-i-init
@@ -25,14 +25,6 @@ loop-i-preserved c =
     (span_inside t.machine t.cell t.cells c.values-values.ensures.there) c.loop-i.invariant.1 c.in_ok-known.known
     c.nth-v.result _ (omega (arith, long, c.loop-i-test.true, c.size-i-end.ensures.size))
     (sym (ap (λ l. slice_get l c.loop-i.i) c.values-values.ensures.values) ∙ c.nth-v.ensures) (to_z-of_z w64 c.nth-v.result fits) c.in_ok-known.ensures
-
-pub returns-then-settled_to-i : goal.returns-then-settled_to-i
-returns-then-settled_to-i c =
-    let t = c.args.self.now in let all = values_at t.cell t.cells in let long = ap length c.values-values.ensures.values in
-    value_settles c.loop-i.known c.args.asked (value_span t.machine t.cell t.cells) all (term_span t.machine t.cell t.cells) c.loop-i.i c.loop-i.invariant.0
-    (span_inside t.machine t.cell t.cells c.values-values.ensures.there) c.loop-i.invariant.1
-    (omega (arith, long, c.loop-i-test.true, c.size-i-end.ensures.size))
-    (c.settled_to.ensures.met c.loop-i.i (omega arith) (omega (arith, c.if-settled_to-i.true)))
 
 pub returns-in_err-known : goal.returns-in_err-known
 returns-in_err-known c =

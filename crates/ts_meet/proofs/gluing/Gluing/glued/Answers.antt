@@ -1,15 +1,27 @@
+use Rattle.std.proofs.Common.{sym, subst}
+use Rattle.ts_automaton.specs.Registers.{spans_of}
+use Rattle.ts_sweep.specs.Packed.{unpacked}
 use Rattle.ts_meet.specs.SideLaws.{cell_packs, plain_packs}
-use Rattle.ts_meet.specs.Sides.{TakesPlain, ends_in, plain_values}
+use Rattle.ts_meet.specs.Sides.{AreSomeEnds, ArePackOf, TakesPlain, ends_in, plain_values}
 use Rattle.ts_meet.proofs.Gluings.{glued_packs, plain_takes}
+use Rattle.ts_meet.proofs.Meeting.{lanes_pack, lanes_some}
 use Rattle.ts_meet.proofs.gluing.Gluing.glued.Goals as goal
 
 pub glued_by-requires-clause-fits : goal.glued_by-requires-clause-fits
-glued_by-requires-clause-fits c =
-    plain_takes (ends_in c.args.left) (ends_in c.args.right) c.requires.left c.requires.right c.args.self c.requires.worth
+glued_by-requires-clause-fits g c =
+    let xs = c.args.left.now.at in let ys = c.args.right.now.at in
+    plain_takes (ends_in c.of-first.result) (ends_in c.of-second.result)
+    (subst AreSomeEnds (sym c.of-first.ensures) (lanes_some g.row.N xs c.requires.registers c.requires.left))
+    (subst AreSomeEnds (sym c.of-second.ensures) (lanes_some g.row.N ys c.requires.registers c.requires.right)) c.args.self c.requires.worth
     (c.is_plain.ensures c.if-is_plain.true)
 
 pub returns-then-is_plain : goal.returns-then-is_plain
-returns-then-is_plain c =
-    let a = ends_in c.args.left in let b = ends_in c.args.right in
+returns-then-is_plain g c =
+    let xs = c.args.left.now.at in let ys = c.args.right.now.at in
+    let a = ends_in c.of-first.result in let b = ends_in c.of-second.result in
     glued_packs plain_values TakesPlain cell_packs plain_packs c.args.self a b c.requires.worth
-    (plain_takes a b c.requires.left c.requires.right c.args.self c.requires.worth (c.is_plain.ensures c.if-is_plain.true)) c.glued_by.result c.glued_by.ensures
+    (plain_takes a b (subst AreSomeEnds (sym c.of-first.ensures) (lanes_some g.row.N xs c.requires.registers c.requires.left))
+    (subst AreSomeEnds (sym c.of-second.ensures) (lanes_some g.row.N ys c.requires.registers c.requires.right)) c.args.self c.requires.worth
+    (c.is_plain.ensures c.if-is_plain.true)) c.glued_by.result c.glued_by.ensures (spans_of (unpacked xs)) (spans_of (unpacked ys))
+    (subst (λ z. ArePackOf z (spans_of (unpacked xs))) (sym c.of-first.ensures) (lanes_pack g.row.N xs c.requires.registers c.requires.left))
+    (subst (λ z. ArePackOf z (spans_of (unpacked ys))) (sym c.of-second.ensures) (lanes_pack g.row.N ys c.requires.registers c.requires.right))

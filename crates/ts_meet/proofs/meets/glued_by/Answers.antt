@@ -4,7 +4,7 @@ use Rattle.ts_base.specs.Spans.{none_span, span_hull}
 use Rattle.ts_meet.specs.Meets.{hull_of_spans, spans_between, spans_with}
 use Rattle.ts_meet.specs.Sides.{StandFor}
 use Rattle.ts_meet.proofs.Meeting.{between_more, between_none, standing_there}
-use Rattle.ts_meet.proofs.meets.glued_at.Goals as goal
+use Rattle.ts_meet.proofs.meets.glued_by.Goals as goal
 
 pub loop-q-init : goal.loop-q-init
 loop-q-init g c p h =

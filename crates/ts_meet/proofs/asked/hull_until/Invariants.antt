@@ -1,9 +1,9 @@
+use Rattle.std.proofs.Common.{length}
 use Rattle.ts_glue.specs.Pairs.{Pair}
 use Rattle.ts_meet.specs.Joints.{AreJoints}
 use Rattle.ts_meet.specs.Meets.{hull_of_spans, spans_between}
 use Rattle.ts_meet.specs.Sides.{StandFor}
-use Rattle.std.proofs.Common.{length}
-use Rattle.ts_meet.proofs.meets.glued_at.Given as goal
+use Rattle.ts_meet.proofs.asked.hull_until.Given as goal
 
 abbrev pub invariant-loop-q : goal.invariant-loop-q
 invariant-loop-q g l =

@@ -1,0 +1,54 @@
+use Rattle.std.proofs.Common.{◌≡◌, ◌<◌, ◌+◌, ◌≤◌, sym, ap, subst, ◌∙◌, length, arith}
+use Rattle.std.specs.Prelude.{fold}
+use Rattle.ts_base.specs.Spans.{none_span, span_hull}
+use Rattle.ts_meet.specs.Meets.{hull_of_spans, spans_between, spans_with}
+use Rattle.ts_meet.specs.Sides.{StandFor}
+use Rattle.ts_meet.proofs.Asking.{between_rises}
+use Rattle.ts_meet.proofs.Meeting.{between_more, between_none, standing_there}
+use Rattle.ts_meet.proofs.asked.hull_until.Goals as goal
+
+pub loop-q-init : goal.loop-q-init
+loop-q-init g c p h =
+    let at = c.args.spot in
+    subst (λ z. StandFor c.nothing-hull.result (hull_of_spans z))
+    (sym (between_none g.row.N p c.args.left.now c.args.right.now at.place at.value at.cells (length p.reverse.states))) c.nothing-hull.ensures
+
+pub loop-q-preserved : goal.loop-q-preserved
+loop-q-preserved g c p h =
+    let at = c.args.spot in let left = c.args.left.now in let right = c.args.right.now in let q = c.loop-q.q in
+    let states = length p.reverse.states in
+    let below : q < c.args.joints.now.left_states = omega (arith, c.loop-q-test.true, c.loop-q.auto.q-end) in
+    let before = hull_of_spans (spans_between g.row.N p left right at.place at.value at.cells states q) in
+    subst (StandFor c.with_reached-hull.result)
+    (ap (λ z. fold span_hull before (spans_with g.row.N p z right at.place at.value at.cells states))
+    (standing_there g.row.N left q at.place _ c.index-column-spot.result c.column.ensures (c.requires.left.inside q below) c.index-column-spot.is)
+    ∙ sym (between_more g.row.N p left right at.place at.value at.cells states q none_span))
+    (c.with_reached-hull.ensures p before h (c.loop-q.invariant p h))
+
+pub returns-then-has_reached : goal.returns-then-has_reached
+returns-then-has_reached g c p h =
+    let at = c.args.spot in let left = c.args.left.now in let right = c.args.right.now in let q = c.loop-q.q in
+    let states = length p.reverse.states in
+    let below : q < c.args.joints.now.left_states = omega (arith, c.loop-q-test.true, c.loop-q.auto.q-end) in
+    let before = hull_of_spans (spans_between g.row.N p left right at.place at.value at.cells states q) in
+    let part = hull_of_spans (spans_between g.row.N p left right at.place at.value at.cells states (q + 1)) in
+    let few : q + 1 ≤ length p.forward.states = (let k = h.left_states in omega (arith, k, below)) in
+    let stands : StandFor c.with_reached-hull.result part =
+    subst (StandFor c.with_reached-hull.result)
+    (ap (λ z. fold span_hull before (spans_with g.row.N p z right at.place at.value at.cells states))
+    (standing_there g.row.N left q at.place _ c.index-column-spot.result c.column.ensures (c.requires.left.inside q below) c.index-column-spot.is)
+    ∙ sym (between_more g.row.N p left right at.place at.value at.cells states q none_span))
+    (c.with_reached-hull.ensures p before h (c.loop-q.invariant p h)) in (
+      part,
+      between_rises g.row.N p left right at.place at.value at.cells states none_span (q + 1) (length p.forward.states) few,
+      c.has_reached.ensures c.if-has_reached.true part stands,
+    )
+
+pub returns : goal.returns
+returns g c p h =
+    let at = c.args.spot in
+    let e : c.loop-q.q ≡ length p.forward.states = (let k = h.left_states in omega (arith, k, c.loop-q-test.false, c.loop-q.auto.q-end)) in
+    subst
+    (λ m. StandFor c.loop-q.hull
+    (hull_of_spans (spans_between g.row.N p c.args.left.now c.args.right.now at.place at.value at.cells (length p.reverse.states) m))) e
+    (c.loop-q.invariant p h)
