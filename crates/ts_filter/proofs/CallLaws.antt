@@ -30,7 +30,7 @@ module _ (rs : List Require) (ms : List Automata) (term : ℕ) (a : Automata) (h
     span_is : (p : ℕ) (b : Box) → (spans_of ms).span_at r.term p b ≡ term_span a p b
     span_is p b = ap (λ z. (spans_of ms).span_at z p b) t ∙ (spans_are_of_machines ms term a has).span p b
 
-    to_refuted : (p : ℕ) (b : Box) → IsUsableOf a p b → Refutes r.op r.bound (term_span a p b) → IsRefuted rs (spans_of ms) j p b
+    pub to_refuted : (p : ℕ) (b : Box) → IsUsableOf a p b → Refutes r.op r.bound (term_span a p b) → IsRefuted rs (spans_of ms) j p b
     to_refuted p b u h = record {
       require = r;
       is = i;

@@ -188,7 +188,7 @@ module _ (rs : List Require) (ms : List Automata) (b : Box) where
         ap (λ i. (spans_of ms).span_at i k (only k v b)) e ∙ (spans_are_of_machines ms term a has).span k (only k v b)
         ∙ values_narrowed a b looks k u.from u.to v
 
-    to_drop : (t : Removal) → IsTermDrop rs term a b t → MayDrop rs (spans_of ms) b t
+    pub to_drop : (t : Removal) → IsTermDrop rs term a b t → MayDrop rs (spans_of ms) b t
     to_drop t h =
         let r = h.refuting.require in
         record {

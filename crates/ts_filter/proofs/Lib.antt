@@ -19,6 +19,7 @@ mod Removals
 mod PackedStacks
 mod DropLaws
 mod EarlyCells
+pub mod SparedLaws
 pub mod KeptLaws
 mod KnownRows
 mod LaidRows

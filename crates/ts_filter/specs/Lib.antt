@@ -8,6 +8,7 @@ pub mod Excluded
 pub mod FirstCell
 pub mod HeldMachine
 pub mod Holds
+pub mod KeptCells
 pub mod KeptValue
 pub mod KnownRows
 pub mod Laws

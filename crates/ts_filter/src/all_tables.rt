@@ -1,6 +1,6 @@
 //! Tables that follow a box, of the machines of all terms of a model.
 
-ghost use Rattle.std.specs.Prelude.{◌≡◌, ◌↔◌, ◌<◌, ◌≤◌, Contains, IfOk, IsTrue, None, length, map};
+ghost use Rattle.std.specs.Prelude.{◌≡◌, ◌↔◌, ◌<◌, ◌≤◌, Contains, IfOk, IsTrue, None, length, map, option_map};
 ghost use Rattle.std.specs.List.{AllByRecursion};
 ghost use Rattle.ts_bound.specs.TermSpans.{Automata, LooksIn, automata_of, term_span};
 ghost use Rattle.ts_domain.specs.BoxSeries.{IsCell, cell_of};
@@ -8,6 +8,7 @@ ghost use Rattle.ts_filter.specs.Boxes.{only};
 ghost use Rattle.ts_filter.specs.Drops.{IsFirstDrop, IsFirstOf};
 ghost use Rattle.ts_filter.specs.Excluded.{Cuts, Refutes};
 ghost use Rattle.ts_filter.specs.FirstCell.{IsFirstCell};
+ghost use Rattle.ts_filter.specs.KeptCells.{AreKept, IsKeptIfKnown};
 ghost use Rattle.ts_filter.specs.KeptValue.{IsKept};
 ghost use Rattle.ts_filter.specs.MachineSpans.{spans_of};
 ghost use Rattle.ts_filter.specs.OfTerm.{OfTerm};
@@ -17,6 +18,7 @@ ghost use Rattle.ts_filter.specs.declared.bar.Bar.TheVariants.{Better};
 use crate::bar::Bar;
 use crate::drops::{Removal, earlier, last_asked};
 use crate::held_machine::HeldMachine;
+use crate::kept_cells::{KeptCells, KeptTerm};
 use crate::live_tables::LiveTables;
 use crate::question::Question;
 use crate::room::has_room;
@@ -250,17 +252,19 @@ impl<'a> AllTables<'a> {
     }
 
     /// The possible drop with the least cell, then the least value, then the least requirement; none exactly where none
-    /// is possible.
+    /// is possible. Nothing is asked of a machine at the cells that are kept.
     pub fn next_drop(
         &mut self,
         alloc: Global,
         requirements: &[Require],
         cells: &Boxed,
+        kept: &KeptCells,
     ) -> Result<Option<Removal>, Memory>
         requires machines { length self.old < 4000000000 }
         requires requirements { length requirements.now < 4000000000 }
         requires terms { AllByRecursion (λ r. r.term < length self.old) requirements.now }
         requires looks { AllByRecursion (λ a. LooksIn a cells.now.present) self.old }
+        requires kept { AreKept requirements.now (spans_of self.old) cells.now.present kept.now }
         ensures same { self.new ≡ self.old }
         ensures found { IfOk result
             (λ found. IsFirstDrop requirements.now (spans_of self.old) cells.now.present found) }
@@ -268,7 +272,8 @@ impl<'a> AllTables<'a> {
         let mut first = None;
         for term in 0..self.each.len() {
             let last = last_asked(first, cells);
-            let found = self.first_drop(alloc, term as u32, requirements, last, cells)?;
+            let known = kept.of_term(term);
+            let found = self.first_drop(alloc, term as u32, requirements, last, known, cells)?;
             first = earlier(first, found);
         }
         Ok(first)
@@ -283,16 +288,26 @@ impl<'a> AllTables<'a> {
         term: u32,
         requirements: &[Require],
         last: u32,
+        kept: Option<&KeptTerm>,
         cells: &Boxed,
     ) -> Result<Option<Removal>, Memory>
         requires there { term < length self.old }
         requires requirements { length requirements.now < 4000000000 }
         requires looks { OfTerm self.old term (λ a. LooksIn a cells.now.present) }
+        requires kept { OfTerm self.old term
+            (λ a. IsKeptIfKnown requirements.now term a cells.now.present (option_map (λ t. t.now) kept)) }
         ensures same { self.new ≡ self.old }
         ensures found { IfOk result (λ found. OfTerm self.old term
             (λ a. IsFirstOf (IsDropUpTo requirements.now term a cells.now.present last) found)) }
     {
-        let found = self.each[term as usize].first_drop(alloc, term, requirements, last, cells);
+        let found = self.each[term as usize].first_drop(
+            alloc,
+            term,
+            requirements,
+            last,
+            kept,
+            cells,
+        );
         self.after_question(term);
         found
     }

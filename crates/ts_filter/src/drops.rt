@@ -1,11 +1,12 @@
 //! Values that may be taken out of their cells.
 
-ghost use Rattle.std.specs.Prelude.{◌≡◌, ◌+◌, ◌<◌, ◌≤◌, ℕ, IfOk, length, map};
+ghost use Rattle.std.specs.Prelude.{◌≡◌, ◌+◌, ◌<◌, ◌≤◌, ℕ, IfOk, length, map, option_map};
 ghost use Rattle.std.specs.List.{AllByRecursion};
 ghost use Rattle.ts_bound.specs.TermSpans.{IsUsable, LooksIn, automata_of};
 ghost use Rattle.ts_domain.specs.Values.{IsDomain};
 ghost use Rattle.ts_filter.specs.Drops.{IsFirstDrop, IsFirstOf};
 ghost use Rattle.ts_filter.specs.Boxes.{HasCell, values_at};
+ghost use Rattle.ts_filter.specs.KeptCells.{IsKeptIfKnown};
 ghost use Rattle.ts_filter.specs.KnownRows.{AreKnown, StillKnown};
 ghost use Rattle.ts_filter.specs.MachineSpans.{spans_of};
 ghost use Rattle.ts_filter.specs.TermDrops.{IsDropAt, IsDropUpTo, IsRefutedOutside, MayHaveDrop};
@@ -14,6 +15,7 @@ ghost use Rattle.ts_filter.specs.TermDrops.{cell_up_to, comes_before, earlier_of
 use crate::box_tables::BoxTables;
 use crate::cell_hulls::CellHulls;
 use crate::held_machine::HeldMachine;
+use crate::kept_cells::{KeptTerm, is_alive, is_spared};
 use crate::question::Question;
 use crate::term_requirements::TermRequirements;
 use std::alloc::Global;
@@ -80,7 +82,8 @@ fn drop_of_term(
 {
     match TermRequirements::among(requirements, term) {
         Some(own) => {
-            BoxTables::new(alloc, HeldMachine::Lent(machine)).first_drop(alloc, own, last, cells)
+            let mut tables = BoxTables::new(alloc, HeldMachine::Lent(machine));
+            tables.first_drop(alloc, own, last, None, cells)
         }
         None => Ok(None),
     }
@@ -89,25 +92,29 @@ fn drop_of_term(
 impl<'a> BoxTables<'a> {
     /// The first of the drops by these requirements of the term whose machine this is, up to cell `last`: that with the
     /// least cell, then the least value, then the least requirement. None exactly where none is possible. If there was
-    /// none in any cell, the cells that are looked at aren't asked about again before one of them changes.
+    /// none in any cell, the cells that are looked at aren't asked about again before one of them changes. By what is
+    /// kept of the term some needn't be asked about at all.
     pub(crate) fn first_drop(
         &mut self,
         alloc: Global,
         own: TermRequirements<'_>,
         last: u32,
+        kept: Option<&KeptTerm>,
         cells: &Boxed,
     ) -> Result<Option<Removal>, Memory>
         requires looks { LooksIn self.old.machine cells.now.present }
+        requires kept { IsKeptIfKnown own.all.now own.term self.old.machine cells.now.present
+            (option_map (λ t. t.now) kept) }
         requires known { AreKnown cells.now.present self.old }
         ensures known { StillKnown cells.now.present self.old self.new }
         ensures found { IfOk result (λ found. IsFirstOf
             (IsDropUpTo own.entry.all.now own.entry.term self.old.machine cells.now.present last) found) }
     {
-        let outside = self.refuted_outside(alloc, own, cells)?;
+        let outside = self.refuted_outside(alloc, own, kept, cells)?;
         if outside.is_none() && self.is_quiet(own) {
             return Ok(None);
         }
-        let found = self.drop_in_cells(alloc, own, outside, last, cells)?;
+        let found = self.drop_in_cells(alloc, own, outside, last, kept, cells)?;
         self.remember(alloc, own, found, last, cells)?;
         Ok(found)
     }
@@ -133,15 +140,19 @@ impl<'a> BoxTables<'a> {
     }
 
     /// The first of the drops by these requirements up to cell `last`, where `outside` is refuted outside the window.
+    /// Cells that are known to be spared are passed over, so no row is made for them.
     fn drop_in_cells(
         &mut self,
         alloc: Global,
         own: TermRequirements<'_>,
         outside: Option<u32>,
         last: u32,
+        kept: Option<&KeptTerm>,
         cells: &Boxed,
     ) -> Result<Option<Removal>, Memory>
         requires outside { IsRefutedOutside own.all.now own.term self.old.machine cells.now.present outside }
+        requires kept { IsKeptIfKnown own.all.now own.term self.old.machine cells.now.present
+            (option_map (λ t. t.now) kept) }
         requires looks { LooksIn self.old.machine cells.now.present }
         requires known { AreKnown cells.now.present self.old }
         ensures known { StillKnown cells.now.present self.old self.new }
@@ -150,6 +161,9 @@ impl<'a> BoxTables<'a> {
     {
         let (from, to) = self.asked_for_drops(outside, cells);
         for before in from..to.min(last) {
+            if is_spared(kept, before + 1) {
+                continue;
+            }
             let found = self.drop_at(alloc, before + 1, own, outside, cells)?;
             if found.is_some() {
                 return Ok(found);
@@ -159,19 +173,26 @@ impl<'a> BoxTables<'a> {
     }
 
     /// The first requirement that is refuted at each cell outside the window, whatever value it has: all these cells
-    /// have one span. If none of them may be used, none is looked for.
+    /// have one span. None is looked for if none of these cells may be used, or if it is known that no requirement is
+    /// refuted anywhere.
     fn refuted_outside(
         &mut self,
         alloc: Global,
         own: TermRequirements<'_>,
+        kept: Option<&KeptTerm>,
         cells: &Boxed,
     ) -> Result<Option<u32>, Memory>
+        requires kept { IsKeptIfKnown own.all.now own.term self.old.machine cells.now.present
+            (option_map (λ t. t.now) kept) }
         requires looks { LooksIn self.old.machine cells.now.present }
         requires known { AreKnown cells.now.present self.old }
         ensures known { StillKnown cells.now.present self.old self.new }
         ensures found { IfOk result
             (λ found. IsRefutedOutside own.entry.all.now own.entry.term self.old.machine cells.now.present found) }
     {
+        if is_alive(kept) {
+            return Ok(None);
+        }
         let (first, last) = self.ends(cells);
         if first <= self.unusable(cells) + 1 && last == cells.cells() {
             return Ok(None);

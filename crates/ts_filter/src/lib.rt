@@ -6,6 +6,7 @@
 //! there are, and looks at no further pair of states once some number of a span does what is asked. `AllTables` answers
 //! the same questions for the machines of all terms and keeps the rows: those that a change of the box doesn't reach
 //! serve the next box, and so do those after a row that comes out as it was. It finds out by itself what has changed.
+//! At cells of which its user knows that they have no drop (`KeptCells`) nothing is asked.
 //! The definitions state the rule of each line of a certificate, when a certificate is accepted, its first failing line
 //! and what its claim means; by the laws an accepted certificate means what it claims, whoever wrote it, wherever spans
 //! hold the values of their terms.
@@ -36,6 +37,7 @@ mod excluded;
 mod first_cell;
 mod held_machine;
 mod kept;
+mod kept_cells;
 pub mod laws;
 mod live_tables;
 mod meeting;
@@ -57,4 +59,5 @@ pub use drops::{Removal, next_drop};
 pub use excluded::{counts, cuts, refutes};
 pub use first_cell::{first_cut, first_refuted};
 pub use kept::kept_value;
+pub use kept_cells::KeptCells;
 pub use ts_base::Goal;

@@ -1,6 +1,6 @@
 //! Tables that follow a box: each question first looks which cells have changed since the last one.
 
-ghost use Rattle.std.specs.Prelude.{◌≡◌, ◌↔◌, ◌<◌, Contains, IfOk, IsTrue, None, length};
+ghost use Rattle.std.specs.Prelude.{◌≡◌, ◌↔◌, ◌<◌, Contains, IfOk, IsTrue, None, length, option_map};
 ghost use Rattle.ts_bound.specs.TermSpans.{LooksIn, automata_of, term_span};
 ghost use Rattle.ts_domain.specs.BoxSeries.{IsCell, cell_of};
 ghost use Rattle.ts_filter.specs.Question.{Excludes};
@@ -8,12 +8,14 @@ ghost use Rattle.ts_filter.specs.Boxes.{only};
 ghost use Rattle.ts_filter.specs.Drops.{IsFirstOf};
 ghost use Rattle.ts_filter.specs.FirstCell.{IsFirstCell};
 ghost use Rattle.ts_filter.specs.HeldMachine.{machine_in};
+ghost use Rattle.ts_filter.specs.KeptCells.{IsKeptIfKnown};
 ghost use Rattle.ts_filter.specs.KeptValue.{IsKept};
 ghost use Rattle.ts_filter.specs.TermDrops.{IsDropUpTo};
 
 use crate::box_tables::BoxTables;
 use crate::drops::Removal;
 use crate::held_machine::HeldMachine;
+use crate::kept_cells::KeptTerm;
 use crate::meeting::meet;
 use crate::question::Question;
 use crate::term_requirements::TermRequirements;
@@ -151,23 +153,25 @@ impl<'a> LiveTables<'a> {
 
     /// The first of the drops by the requirements of the term whose machine this is, up to cell `last`: that with the
     /// least cell, then the least value, then the least requirement. None exactly where none is possible. For a term
-    /// without requirements no cell is compared.
+    /// without requirements no cell is compared. `kept` is what is known of the term.
     pub(crate) fn first_drop(
         &mut self,
         alloc: Global,
         term: u32,
         requirements: &[Require],
         last: u32,
+        kept: Option<&KeptTerm>,
         cells: &Boxed,
     ) -> Result<Option<Removal>, Memory>
         requires requirements { length requirements.now < 4000000000 }
         requires looks { LooksIn self.old cells.now.present }
+        requires kept { IsKeptIfKnown requirements.now term self.old cells.now.present (option_map (λ t. t.now) kept) }
         ensures same { self.new ≡ self.old }
         ensures found { IfOk result
             (λ found. IsFirstOf (IsDropUpTo requirements.now term self.old cells.now.present last) found) }
     {
         match TermRequirements::among(requirements, term) {
-            Some(own) => self.drop_by(alloc, own, last, cells),
+            Some(own) => self.drop_by(alloc, own, last, kept, cells),
             None => Ok(None),
         }
     }
@@ -178,14 +182,16 @@ impl<'a> LiveTables<'a> {
         alloc: Global,
         own: TermRequirements<'_>,
         last: u32,
+        kept: Option<&KeptTerm>,
         cells: &Boxed,
     ) -> Result<Option<Removal>, Memory>
-        requires { LooksIn self.old cells.now.present }
+        requires looks { LooksIn self.old cells.now.present }
+        requires kept { IsKeptIfKnown own.all.now own.term self.old cells.now.present (option_map (λ t. t.now) kept) }
         ensures same { self.new ≡ self.old }
         ensures found { IfOk result (λ found. IsFirstOf
             (IsDropUpTo own.entry.all.now own.entry.term self.old cells.now.present last) found) }
     {
         meet(alloc, &mut self.tables, &mut self.seen, cells)?;
-        self.tables.first_drop(alloc, own, last, cells)
+        self.tables.first_drop(alloc, own, last, kept, cells)
     }
 }

@@ -1,3 +1,4 @@
 mod Numbers
+mod Singles
 mod Splits
 mod TableRows

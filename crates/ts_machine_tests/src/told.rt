@@ -30,6 +30,7 @@ ghost use Rattle.ts_model.specs.Views.{model_parts};
 
 mod calls;
 mod drops;
+mod kept_cells;
 pub(crate) mod machines;
 mod terms;
 mod widths;

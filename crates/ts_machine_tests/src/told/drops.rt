@@ -5,6 +5,7 @@ ghost use Rattle.std.specs.List.{AllByRecursion};
 ghost use Rattle.ts_bound.specs.TermSpans.{LooksIn, automata_of};
 ghost use Rattle.ts_model.specs.declared.model.Require.{Require};
 
+use super::kept_cells::drop_by_kept;
 use super::machines::plain;
 use super::written::{end, word};
 use std::alloc::Global;
@@ -78,7 +79,7 @@ fn is_drop(found: Option<Removal>, written: &str) -> bool {
     }
 }
 
-/// By requirements on the one term.
+/// By requirements on the one term; also where nothing is asked at some cells without a drop.
 pub(super) fn drop_holds(
     alloc: Global,
     m: &Machine,
@@ -90,7 +91,8 @@ pub(super) fn drop_holds(
     let (wanted, first) = written.split_once(':').ok_or("no drop")?;
     let requirements = requirements_of(alloc, wanted, 1).ok_or("no requirements")?;
     let found = next_drop(alloc, slice::from_ref(m), &requirements, cells)?;
-    Ok(is_drop(found, first))
+    let by_kept = drop_by_kept(alloc, m, &requirements, cells)?;
+    Ok(is_drop(found, first) && is_drop(by_kept, first))
 }
 
 /// The automata of the sum, the greatest and the least of the widths of peaks.

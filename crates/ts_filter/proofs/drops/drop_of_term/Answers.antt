@@ -8,8 +8,8 @@ use Rattle.ts_filter.proofs.drops.drop_of_term.Goals as goal
 
 pub returns-in-Some : goal.returns-in-Some
 returns-in-Some c =
-    let rs = c.args.requirements.now in let b = c.args.cells.now.present in let a = c.new.result.machine in
-    subst (λ (t : KnownRows). IfOk c.first_drop.result (IsFirstOf (IsDropUpTo rs c.args.term t.machine b c.args.last))) c.new.ensures.value
+    let rs = c.args.requirements.now in let b = c.args.cells.now.present in let a = c.new-tables.result.machine in
+    subst (λ (t : KnownRows). IfOk c.first_drop.result (IsFirstOf (IsDropUpTo rs c.args.term t.machine b c.args.last))) c.new-tables.ensures.value
     (subst (λ z. IfOk c.first_drop.result (IsFirstOf (IsDropUpTo rs z a b c.args.last))) c.in-Some.ensures.1
     (subst (λ z. IfOk c.first_drop.result (IsFirstOf (IsDropUpTo z c.in-Some.own.term a b c.args.last))) c.in-Some.ensures.0 c.first_drop.ensures.found))
 

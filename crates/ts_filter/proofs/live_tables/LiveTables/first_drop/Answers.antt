@@ -1,8 +1,15 @@
+use Rattle.std.proofs.Common.{option_map}
 use Rattle.ts_bound.specs.TermSpans.{value_span}
 use Rattle.ts_filter.proofs.Refuting.{none_of_term}
+use Rattle.ts_filter.proofs.SparedLaws.{kept_of_own}
 use Rattle.ts_filter.proofs.live_tables.LiveTables.first_drop.Goals as goal
 
 pub returns-in-None-clause-found : goal.returns-in-None-clause-found
 returns-in-None-clause-found c = λ t h.
     none_of_term c.args.requirements.now c.args.term (value_span c.args.self.now t.cell c.args.cells.now.present t.value) t.require
     c.in-None.ensures h.0.refuting
+
+pub drop_by-requires-clause-kept : goal.drop_by-requires-clause-kept
+drop_by-requires-clause-kept c =
+    kept_of_own c.in-Some.own c.args.requirements.now c.args.term c.args.self.now c.args.cells.now.present (option_map (λ t. t.now) c.args.kept)
+    c.in-Some.ensures.0 c.in-Some.ensures.1 c.requires.kept
