@@ -1,0 +1,178 @@
+-- What is known of the values at each place, wherever the runs have come to the same, and as more values are tried.
+use Rattle.std.proofs.Common.{◌≡◌, ◌⊎◌, inl, inr, ⊎_elim, ℕ, zero, suc, ◌+◌, ◌-◌, ◌<◌, ◌≤◌, ℤ, ◌<ℤ◌, ◌≤ℤ◌, Bool, true, false, cond, List, [], ◌∷◌, ◌++◌, length, take, set, get_or, replicate, reverse, Option, Some, None, slice_get, refl, sym, ◌∙◌, ap, subst, arith}
+use Rattle.std.specs.Prelude.{Contains, IsSome, is_none, is_some, not}
+use Rattle.std.specs.List.{AllByRecursion}
+use Rattle.std.proofs.lemmas.Int.{ints}
+use Rattle.std.proofs.lemmas.List.{length-set}
+use Rattle.std.proofs.lemmas.Option.{same_Some, slice_get-get_or}
+use Rattle.ts_base.specs.Limits.{IsCellValue, most_cells}
+use Rattle.ts_automaton.specs.Body.{Body}
+use Rattle.ts_automaton.specs.AutomatonRun.{AreCellValues, after, answer}
+use Rattle.ts_domain.specs.BoxSeries.{IsBox}
+use Rattle.ts_domain.specs.Values.{IsDomain, IsRising, WithinLimits}
+use Rattle.ts_domain.proofs.Sets.{each_contains}
+use Rattle.ts_domain.proofs.MarkedSets.{at_contains}
+use Rattle.ts_glue.specs.declared.machine.Machine.{Machine}
+use Rattle.ts_glue.specs.Machines.{forward_of, pair_of}
+use Rattle.ts_glue.specs.Pairs.{Pair}
+use Rattle.ts_model.specs.declared.model.Require.{Require}
+use Rattle.ts_model.specs.Compares.{compares}
+use Rattle.ts_witness.specs.declared.spared.Known.{Known}
+use Rattle.ts_witness.specs.declared.spared.Spared.{Spared}
+use Rattle.ts_witness.specs.declared.witness.Sides.{Sides}
+use Rattle.ts_witness.specs.KnownValues.{IsEmpty, IsKnown, IsSpared, MeetsWith}
+use Rattle.ts_witness.specs.Runs.{arrived}
+use Rattle.ts_witness.specs.Witnesses.{AreSides, value_between}
+use Rattle.ts_witness.proofs.Changed.{forward_is, glued_with}
+
+-- nothing is known
+
+pub none_known : (m : Machine) (r : Require) (n : ℕ) (values : List ℤ) (i : ℕ) (e : Known) → IsEmpty e → IsKnown m r n values i e
+none_known m r n values i e none p is v has from to = absurd (omega (arith, ints, none, from, to))
+
+of_replicate : {A : Type 0} (n i : ℕ) (x e : A) → slice_get (replicate n x) i ≡ Some e → e ≡ x
+of_replicate {A} zero i x e h = absurd (let z : ◌≡◌ {A = Option A} None (Some e) = h in cc)
+of_replicate (suc n) zero x e h = sym (same_Some x e h)
+of_replicate (suc n) (suc i) x e h = of_replicate n i x e h
+
+length_replicate : {A : Type 0} (n : ℕ) (x : A) → length (replicate n x) ≡ n
+length_replicate zero x = refl
+length_replicate (suc n) x = ap suc (length_replicate n x)
+
+pub new_spared : (s : Spared) (n : ℕ) (x : Known) → IsEmpty x → s.each.items ≡ replicate n x → n ≡ length s.cells.now → IsBox s.cells.now →
+    (m : Machine) (r : Require) → IsSpared m r s
+new_spared s n x none are count box m r = record {
+  box = box;
+  count = ap length are ∙ length_replicate n x ∙ count;
+  each = λ i e h.
+      none_known m r (length s.cells.now) (get_or s.cells.now i []) i e
+      (subst IsEmpty (sym (of_replicate n i x e (ap (λ z. slice_get z i) (sym are) ∙ h))) none);
+}
+
+-- an entry that is there
+pub entry_there : (xs : List Known) (i : ℕ) (e : Known) → e ≡ get_or xs i e → i < length xs → slice_get xs i ≡ Some e
+entry_there xs i e is below = slice_get-get_or xs i e below ∙ ap Some (sym is)
+
+-- what is left of it beside other states
+pub beside_known : (m : Machine) (r : Require) (n : ℕ) (values : List ℤ) (i : ℕ) (e left : Known) → (left ≡ e) ⊎ IsEmpty left → IsKnown m r n values i e →
+    IsKnown m r n values i left
+beside_known m r n values i e left h known =
+    ⊎_elim (λ same. subst (IsKnown m r n values i) (sym same) known) (λ none. none_known m r n values i left none) h
+
+-- what the runs have beside a place tells the value with each value there
+
+module _ (m : Machine) (y : List ℤ) (i : ℕ) (s : Sides) (inside : i < length y) (few : length y ≤ most_cells) (cells : AreCellValues y) (sides : AreSides m y i s) where
+  value_is : (p : Pair) → pair_of m ≡ Some p → (v : ℤ) → IsCellValue v → value_between p (length y) i s v ≡ answer (forward_of m) (set y i v)
+  value_is p is v c =
+      glued_with m y i (length y - suc i) v inside refl few cells c p is (arrived p.forward i s.left v) (arrived p.reverse (length y - suc i) s.right v)
+      (ap (λ b. arrived b i s.left v) (forward_is m p is) ∙ sides.left v) (sides.right p is v)
+
+  pub known_meets : (r : Require) (values : List ℤ) (e : Known) → e.sides ≡ s → IsDomain values → IsSome (pair_of m) → IsKnown m r (length y) values i e →
+      (v : ℤ) → Contains values v → e.least ≤ℤ v → v ≤ℤ e.greatest → MeetsWith (forward_of m) r y i v
+  known_meets r values e same domain split known v has from to = go (pair_of m) refl split
+    where
+      go : (o : Option Pair) → pair_of m ≡ o → IsSome o → MeetsWith (forward_of m) r y i v
+      go None is some = absurd (let z : ◌≡◌ {A = Bool} false true = some in cc)
+      go (Some p) is some =
+          ap (compares r.op r.bound)
+          (sym (value_is p is v (each_contains WithinLimits values v domain.within has)) ∙ ap (λ z. value_between p (length y) i z v) (sym same))
+          ∙ known p is v has from to
+
+  pub meets_known : (r : Require) (values : List ℤ) (e : Known) → e.sides ≡ s → IsDomain values →
+      ((v : ℤ) → Contains values v → e.least ≤ℤ v → v ≤ℤ e.greatest → MeetsWith (forward_of m) r y i v) → IsKnown m r (length y) values i e
+  meets_known r values e same domain meets p is v has from to =
+      ap (compares r.op r.bound)
+      (ap (λ z. value_between p (length y) i z v) same ∙ value_is p is v (each_contains WithinLimits values v domain.within has))
+      ∙ meets v has from to
+
+-- more is known of one place, or as much
+
+pub known_next : (m : Machine) (r : Require) (n : ℕ) (values : List ℤ) (i : ℕ) (failing : Option ℤ) (low high : ℤ) (e new : Known) → new.sides ≡ e.sides →
+    new.least ≡ cond (is_none failing) low e.least → new.greatest ≡ cond (is_none failing) high e.greatest → IsKnown m r n values i e →
+    (failing ≡ None → new.least ≡ low → new.greatest ≡ high → IsKnown m r n values i new) → IsKnown m r n values i new
+known_next m r n values i None low high e new s l g h tried = tried refl l g
+known_next m r n values i (Some x) low high e new s l g h tried =
+    λ p is v has from to. ap (λ z. compares r.op r.bound (value_between p n i z v)) s
+    ∙ h p is v has (subst (λ z. z ≤ℤ v) l from) (subst (λ z. v ≤ℤ z) g to)
+
+pub nothing_failed : (failing : Option ℤ) (none : Bool) → is_some failing ≡ not none → none ≡ true → failing ≡ None
+nothing_failed None none e t = refl
+nothing_failed (Some x) none e t = absurd (let z : ◌≡◌ {A = Bool} true false = e ∙ ap not t in cc)
+
+get_set : {A : Type 0} (xs : List A) (i k : ℕ) (y s : A) → slice_get (set xs i y) k ≡ Some s →
+    ((k ≡ i) × (s ≡ y)) ⊎ ((k ≡ i → ⊥) × (slice_get xs k ≡ Some s))
+get_set {A} [] i k y s e = absurd (let z : ◌≡◌ {A = Option A} None (Some s) = e in cc)
+get_set (x ∷ xs) zero zero y s e = inl (refl, sym (same_Some y s e))
+get_set (x ∷ xs) zero (suc k) y s e = inr ((λ z. omega (arith, z)), e)
+get_set (x ∷ xs) (suc i) zero y s e = inr ((λ z. omega (arith, z)), e)
+get_set (x ∷ xs) (suc i) (suc k) y s e =
+    ⊎_elim (λ h. inl (ap suc h.0, h.1)) (λ h. inr ((λ z. h.0 (omega (arith, z))), h.1)) (get_set xs i k y s e)
+
+pub put_spared : (m : Machine) (r : Require) (s t : Spared) (i : ℕ) (new : Known) → t.cells ≡ s.cells → t.each.items ≡ set s.each.items i new →
+    IsSpared m r s → IsKnown m r (length s.cells.now) (get_or s.cells.now i []) i new → IsSpared m r t
+put_spared m r s t i new cells change h is = record {
+  box = subst (λ z. IsBox z.now) (sym cells) h.box;
+  count = ap length change ∙ length-set s.each.items i new ∙ h.count ∙ ap (λ z. length z.now) (sym cells);
+  each = λ j e there.
+      subst (λ z. IsKnown m r (length z.now) (get_or z.now j []) j e) (sym cells)
+      (⊎_elim
+      (λ same. subst (λ n. IsKnown m r (length s.cells.now) (get_or s.cells.now n []) n e) (sym same.0)
+      (subst (IsKnown m r (length s.cells.now) (get_or s.cells.now i []) i) (sym same.1) is))
+      (λ other. h.each j e other.1)
+      (get_set s.each.items i j new e (ap (λ z. slice_get z j) (sym change) ∙ there)));
+}
+
+-- the values of a domain are tried one after the other
+
+rising_apart : (d : List ℤ) (i j : ℕ) (u v : ℤ) → IsRising d → slice_get d i ≡ Some u → slice_get d j ≡ Some v → i < j → u <ℤ v
+unfolding IsRising
+rising_apart [] i j u v rise at there l = absurd (let z : ◌≡◌ {A = Option ℤ} None (Some u) = at in cc)
+rising_apart (x ∷ d) i zero u v rise at there l = absurd (omega (arith, l))
+rising_apart (x ∷ d) zero (suc j) u v rise at there l =
+    let e : x ≡ u = same_Some x u at in let lt = each_contains (λ y. x <ℤ y) d v rise.0 (at_contains d j v there) in omega (arith, ints, e, lt)
+rising_apart (x ∷ d) (suc i) (suc j) u v rise at there l = rising_apart d i j u v rise.1 at there (omega (arith, l))
+
+order : (p i : ℕ) → (p < i) ⊎ ((p ≡ i) ⊎ (i < p))
+order zero zero = inr (inl refl)
+order zero (suc i) = inl (omega arith)
+order (suc p) zero = inr (inr (omega arith))
+order (suc p) (suc i) =
+    ⊎_elim (λ l. inl (omega (arith, l))) (λ o. inr (⊎_elim (λ e. inl (ap suc e)) (λ l. inr (omega (arith, l))) o)) (order p i)
+
+module _ (b : Body) (r : Require) (y : List ℤ) (k : ℕ) (values : List ℤ) (low : ℤ) where
+  -- with those from `low` on below a place
+  abbrev pub AreTried : ℕ → Type 0
+  AreTried i = (j : ℕ) (v : ℤ) → j < i → slice_get values j ≡ Some v → low ≤ℤ v → MeetsWith b r y k v
+
+  pub none_tried : (from : ℕ) → IsRising values → slice_get values from ≡ Some low → AreTried from
+  none_tried from rise at j v below there up =
+      let lt = rising_apart values j from v low rise there at below in absurd (omega (arith, ints, lt, up))
+
+  pub one_tried : (i : ℕ) (u : ℤ) → AreTried i → slice_get values i ≡ Some u → MeetsWith b r y k u → AreTried (i + 1)
+  one_tried i u h at meets j v below there up =
+      ⊎_elim (λ l. h j v l there up)
+      (λ o. ⊎_elim (λ e. subst (MeetsWith b r y k) (same_Some u v (sym at ∙ ap (slice_get values) (sym e) ∙ there)) meets)
+      (λ l. absurd (omega (arith, l, below))) o)
+      (order j i)
+
+  place : (v : ℤ) → Contains values v → (p : ℕ) × (p < length values) × (slice_get values p ≡ Some v)
+  place v (p, below, e) = (p, below, slice_get-get_or values p v below ∙ ap Some e)
+
+  pub tried_to : (i : ℕ) (u high : ℤ) → IsRising values → AreTried i → slice_get values i ≡ Some u → high <ℤ u →
+      (v : ℤ) → Contains values v → low ≤ℤ v → v ≤ℤ high → MeetsWith b r y k v
+  tried_to i u high rise h at above v has from to =
+      let p = place v has in
+      ⊎_elim (λ l. h p.0 v l p.2 from)
+      (λ o. absurd (⊎_elim
+      (λ e. let same = same_Some u v (sym at ∙ ap (slice_get values) (sym e) ∙ p.2) in past u v high same above to)
+      (λ l. let lt = rising_apart values i p.0 u v rise at p.2 l in beyond u v high lt above to) o))
+      (order p.0 i)
+    where
+      past : (u v high : ℤ) → u ≡ v → high <ℤ u → v ≤ℤ high → ⊥
+      past u v high e l t = omega (arith, ints, e, l, t)
+
+      beyond : (u v high : ℤ) → u <ℤ v → high <ℤ u → v ≤ℤ high → ⊥
+      beyond u v high e l t = omega (arith, ints, e, l, t)
+
+  pub tried_all : (i : ℕ) → AreTried i → length values ≤ i → (v : ℤ) → Contains values v → low ≤ℤ v → MeetsWith b r y k v
+  tried_all i h few v has from = let p = place v has in let below = p.1 in h p.0 v (omega (arith, below, few)) p.2 from

@@ -1,0 +1,4 @@
+pub mod Alive
+mod KnownValues
+mod Runs
+mod Changed

@@ -1,0 +1,13 @@
+use Rattle.std.proofs.Common.{◌≡◌, ◌-◌}
+use Rattle.ts_glue.specs.Machines.{forward_of}
+use Rattle.ts_witness.specs.Witnesses.{IsWitness, series_of}
+use Rattle.ts_witness.proofs.KnownValues.{AreTried}
+use Rattle.ts_witness.proofs.spared.first_failing.Given as goal
+
+-- with each value from `low` on that stands before place i the series meets
+abbrev pub invariant-loop-i : goal.invariant-loop-i
+invariant-loop-i l = record {
+  witness : IsWitness l.m l.witness;
+  series : series_of l.witness ≡ series_of l.fn.witness;
+  tried : AreTried (forward_of l.m) l.r (series_of l.fn.witness) (l.k - 1) l.domain l.fn.low l.i;
+}

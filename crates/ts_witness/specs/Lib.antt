@@ -1,0 +1,4 @@
+pub mod Runs
+pub mod Witnesses
+pub mod Laws
+pub mod KnownValues

@@ -1,0 +1,15 @@
+//! Witnesses: a series of a box that meets a requirement shows that it excludes nothing of the box.
+//!
+//! The layer above may rely on this: where `holds` is true of a requirement, it is refuted at no cell of any box with
+//! the series; where `keeps` is true of a cell and a value, that value isn't dropped by it there. So neither need be
+//! asked of tables.
+#![tactic(auto)]
+
+mod asked;
+pub mod laws;
+mod run;
+mod spared;
+mod witness;
+
+pub use spared::Spared;
+pub use witness::Witness;

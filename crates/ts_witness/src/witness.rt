@@ -1,0 +1,190 @@
+//! A series with its value, and the value of each series that differs from it in one cell.
+
+ghost use Rattle.std.specs.Prelude.{◌≡◌, ◌<◌, ◌≤◌, ◌-◌, ◌++◌, ◌∷◌, [], IfOk, IfSome, IsSome, IsTrue, Some};
+ghost use Rattle.std.specs.Prelude.{length, reverse, set, slice_get, take};
+ghost use Rattle.ts_automaton.specs.AutomatonRun.{AreCellValues, Stands, after, answer, standing_of};
+ghost use Rattle.ts_base.specs.Limits.{IsCellValue, most_cells};
+ghost use Rattle.ts_glue.specs.declared.machine.Machine.{Machine};
+ghost use Rattle.ts_glue.specs.Machines.{forward_of, pair_of, reverse_of};
+ghost use Rattle.ts_glue.specs.Pairs.{Pair};
+ghost use Rattle.ts_witness.specs.Runs.{IsSide, Runs, cells_in};
+ghost use Rattle.ts_witness.specs.Witnesses.{AreSides, IsWitness, series_of};
+
+use crate::run::{Run, Side};
+use std::alloc::Global;
+use ts_automaton::At;
+use ts_base::{Ext, Memory};
+use ts_glue::{Machine, glue_value};
+
+/// What the two runs of a witness have beside a cell.
+#[derive(Clone, Copy)]
+pub(crate) struct Sides {
+    pub(crate) left: Side,
+    pub(crate) right: Side,
+}
+
+impl Sides {
+    /// Whether both are one.
+    pub(crate) fn are_same(&self, others: &Sides) -> bool
+        ensures { IsTrue result → self.now ≡ others.now }
+    {
+        self.left.is_same(&others.left) && self.right.is_same(&others.right)
+    }
+}
+
+/// A series of up to 512 cells, with where the automata of a machine stand along it, as far as they were asked: the
+/// forward one after the first cells, the reverse one after the last ones. After `new` nothing is allocated.
+#[derive(Drop)]
+pub struct Witness {
+    ahead: Run,
+    behind: Run,
+}
+
+impl Witness {
+    /// The witness of a series. Nothing is run yet.
+    pub fn new(alloc: Global, m: &Machine, series: Vec<i64>) -> Result<Witness, Memory>
+        ensures series { IfOk result (λ w. series_of w ≡ series.items) }
+        ensures witness { IfOk result (λ w. IsWitness m.now w) }
+    {
+        let filler = m.forward().start();
+        let behind = Run::new(alloc, reversed(alloc, &series)?, filler)?;
+        let ahead = Run::new(alloc, series, filler)?;
+        Ok(Witness { ahead, behind })
+    }
+
+    /// The value at cell `k`, counted from 1.
+    pub fn cell(&self, k: u32) -> i64
+        requires from { 1 ≤ k }
+        requires to { k ≤ length (series_of self.now) }
+        ensures { slice_get (series_of self.now) (k - 1) ≡ Some result }
+    {
+        self.ahead.cells[k as usize - 1]
+    }
+
+    /// The value of the series, which has a cell. Where the machine can be split it is read at the first cell that
+    /// isn't known from the first one on, so a change costs what lies between it and the one before.
+    pub fn value(&mut self, m: &Machine) -> Ext
+        requires witness { IsWitness m.now self.old }
+        requires some { 1 ≤ length (series_of self.old) }
+        requires few { length (series_of self.old) ≤ most_cells }
+        requires cells { AreCellValues (series_of self.old) }
+        ensures witness { IsWitness m.now self.new }
+        ensures series { series_of self.new ≡ series_of self.old }
+        ensures value { result ≡ answer (forward_of m.now) (series_of self.old) }
+    {
+        match m.reverse() {
+            Some(_) => {
+                let i = self.ahead.known.min(self.ahead.cells.len() - 1);
+                let cell = self.ahead.cells[i];
+                self.value_with(m, i as u32 + 1, cell)
+            }
+            None => self.value_at_end(m),
+        }
+    }
+
+    /// The value of the series, which has a cell, read at the last one.
+    fn value_at_end(&mut self, m: &Machine) -> Ext
+        requires witness { IsWitness m.now self.old }
+        requires some { 1 ≤ length (series_of self.old) }
+        requires few { length (series_of self.old) ≤ most_cells }
+        ensures witness { IsWitness m.now self.new }
+        ensures series { series_of self.new ≡ series_of self.old }
+        ensures value { result ≡ answer (forward_of m.now) (series_of self.old) }
+    {
+        let n = self.ahead.cells.len();
+        let cell = self.ahead.cells[n - 1];
+        let at = self.ahead.with(m.forward(), n - 1, cell);
+        m.forward().finish(at, n as u32)
+    }
+
+    /// The value of the series with `v`, from -1,000,000 to 1,000,000, at cell `k`, counted from 1. Only for a machine
+    /// that can be split.
+    pub fn value_with(&mut self, m: &Machine, k: u32, v: i64) -> Ext
+        requires split { IsSome (pair_of m.now) }
+        requires witness { IsWitness m.now self.old }
+        requires few { length (series_of self.old) ≤ most_cells }
+        requires cells { AreCellValues (series_of self.old) }
+        requires from { 1 ≤ k }
+        requires to { k ≤ length (series_of self.old) }
+        requires value { IsCellValue v }
+        ensures witness { IsWitness m.now self.new }
+        ensures series { series_of self.new ≡ series_of self.old }
+        ensures value { result ≡ answer (forward_of m.now) (set (series_of self.old) (k - 1) v) }
+    {
+        let n = self.ahead.cells.len();
+        let i = k as usize;
+        let left = self.ahead.with(m.forward(), i - 1, v);
+        let right = arrive_behind(&mut self.behind, m, n - i, v);
+        glue_value(m, left, right, v, n as u32)
+    }
+
+    /// What both runs have beside cell `k`, counted from 1. Only for a machine that can be split.
+    pub(crate) fn sides(&mut self, m: &Machine, k: u32) -> Sides
+        requires split { IsSome (pair_of m.now) }
+        requires witness { IsWitness m.now self.old }
+        requires from { 1 ≤ k }
+        requires to { k ≤ length (series_of self.old) }
+        ensures witness { IsWitness m.now self.new }
+        ensures series { series_of self.new ≡ series_of self.old }
+        ensures sides { AreSides m.now (series_of self.old) (k - 1) result }
+    {
+        let n = self.ahead.cells.len();
+        let i = k as usize;
+        let left = self.ahead.side(m.forward(), i - 1);
+        let right = side_behind(&mut self.behind, m, n - i);
+        Sides { left, right }
+    }
+
+    /// The value of cell `k`, counted from 1, from now on.
+    pub fn set(&mut self, k: u32, v: i64)
+        requires from { 1 ≤ k }
+        requires to { k ≤ length (series_of self.old) }
+        requires mirror { length (cells_in self.old.behind) ≡ length (series_of self.old) }
+        ensures series { series_of self.new ≡ set (series_of self.old) (k - 1) v }
+        ensures witness { (m : Machine) → IsWitness m self.old → IsWitness m self.new }
+    {
+        let n = self.ahead.cells.len();
+        let i = k as usize;
+        self.ahead.set(i - 1, v);
+        self.behind.set(n - i, v);
+    }
+}
+
+/// Where the reverse automaton stands after the last `j` cells and then the value `v`.
+fn arrive_behind(run: &mut Run, m: &Machine, j: usize, v: i64) -> At
+    requires split { IsSome (pair_of m.now) }
+    requires runs { (p : Pair) → pair_of m.now ≡ Some p → Runs p.reverse run.old }
+    requires place { j < length (cells_in run.old) }
+    ensures runs { (p : Pair) → pair_of m.now ≡ Some p → Runs p.reverse run.new }
+    ensures cells { cells_in run.new ≡ cells_in run.old }
+    ensures value { (p : Pair) → pair_of m.now ≡ Some p →
+        standing_of result ≡ after p.reverse (take j (cells_in run.old) ++ v ∷ []) }
+    ensures stands { IfSome (reverse_of m.now) (λ b. Stands b (standing_of result)) }
+{
+    match m.reverse() {
+        Some(reverse) => run.with(reverse, j, v),
+        None => unreachable!(),
+    }
+}
+
+/// What the run of the reverse automaton has beside the cell behind which there are `j` others.
+fn side_behind(run: &mut Run, m: &Machine, j: usize) -> Side
+    requires split { IsSome (pair_of m.now) }
+    requires runs { (p : Pair) → pair_of m.now ≡ Some p → Runs p.reverse run.old }
+    requires place { j < length (cells_in run.old) }
+    ensures runs { (p : Pair) → pair_of m.now ≡ Some p → Runs p.reverse run.new }
+    ensures cells { cells_in run.new ≡ cells_in run.old }
+    ensures side { (p : Pair) → pair_of m.now ≡ Some p → IsSide p.reverse (cells_in run.old) j result }
+{
+    match m.reverse() {
+        Some(reverse) => run.side(reverse, j),
+        None => unreachable!(),
+    }
+}
+
+/// The cells from the last one down to the first.
+fn reversed(alloc: Global, series: &Vec<i64>) -> Result<Vec<i64>, Memory>
+    ensures { IfOk result (λ r. r.items ≡ reverse series.now.items) }
+{
+    Ok(series.iter().rev().copied().collect(alloc)?)
+}
