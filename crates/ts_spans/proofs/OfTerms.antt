@@ -9,7 +9,7 @@ use Rattle.ts_base.specs.Limits.{IsCellValue}
 use Rattle.ts_base.specs.Spans.{Holds as SpanHolds, one_span}
 use Rattle.ts_base.specs.Windows.{LooksInside, looked_at}
 use Rattle.ts_base.proofs.WindowLaws.{each_looked, few_looked, some_looked}
-use Rattle.ts_domain.specs.BoxSeries.{IsBox}
+use Rattle.ts_domain.specs.BoxSeries.{InBox, IsBox}
 use Rattle.ts_automaton.specs.AutomatonRun.{AreCellValues, HoldsMark, answer}
 use Rattle.ts_pattern.specs.declared.name.PatternId.{PatternId}
 use Rattle.ts_seed.specs.SeedTable.{seed_table}
@@ -27,7 +27,7 @@ use Rattle.ts_filter.specs.MachineSpans.{HoldsTerm, TellsTerm}
 use Rattle.ts_filter.proofs.BoxParts.{inside_length}
 use Rattle.ts_filter.proofs.MachineLaws.{machines_hold, machines_tell}
 use Rattle.ts_filter.proofs.SoundLaws.{series_length}
-use Rattle.ts_spans.specs.Laws.{SpansHoldValues, SpansTellSingles}
+use Rattle.ts_spans.specs.Laws.{MachinesAnswer, SpansHoldValues, SpansTellSingles}
 use Rattle.ts_spans.specs.Machines.{forward_for, automata_for, automata_in}
 
 -- the machine of a term is whole
@@ -113,3 +113,20 @@ spans_hold_values m whole = machines_hold m (automata_in m) (holds_term m whole)
 pub spans_tell_singles : SpansTellSingles
 spans_tell_singles m whole box =
     machines_tell m (automata_in m) (length-map m.terms (λ t. automata_for t.1)) (tells_term m whole box)
+
+-- the term at the place of a machine
+answered_at : {T : Type 0} (machine : T → Automata) (value : T → Ext) (ts : List T) (k : ℕ) (a : Automata) → slice_get (map machine ts) k ≡ Some a →
+    (t : T) × (machine t ≡ a) × (slice_get (map value ts) k ≡ Some (value t))
+answered_at machine value [] k a e = absurd (let g : ◌≡◌ {A = Option Automata} None (Some a) = e in cc)
+answered_at machine value (t ∷ ts) zero a e = (t, same_Some (machine t) a e, refl)
+answered_at machine value (t ∷ ts) (suc k) a e = answered_at machine value ts k a e
+
+pub machines_answer : MachinesAnswer
+machines_answer m whole box term a has x h =
+    let t = answered_at (λ t. automata_for t.1) (λ t. stated_value t.1 x) m.terms term a has in
+    let cells = series_length x m.cells h in
+    let machine = subst (λ z. z.window ≡ a.window) (sym t.1) refl in
+    let inside = subst (λ n. LooksInside n a.window) (sym cells) (window_looks m whole term a has) in
+    let looks = subst (λ w. LooksInside (length x) w) (sym machine) inside in
+    t.2 ∙ ap Some (sym (ap (λ (z : Automata). answer z.forward (looked_at z.window x)) (sym t.1)
+    ∙ answered m whole x t.0.1 cells looks (within_limits x m.cells box h)))

@@ -1,6 +1,6 @@
 //! Laws of the definitions: functions that do nothing, each with what it proves as its clause.
 
-ghost use Rattle.ts_spans.specs.Laws.{MachinesAreIn, SpansHoldValues, SpansTellSingles};
+ghost use Rattle.ts_spans.specs.Laws.{MachinesAnswer, MachinesAreIn, SpansHoldValues, SpansTellSingles};
 
 /// At each cell that may be used, the spans of a model's terms hold their values on each series of a box.
 pub fn spans_hold_values()
@@ -15,4 +15,9 @@ pub fn spans_tell_singles()
 /// The machines of a model's program are those by which its terms have their spans.
 pub fn machines_are_in()
     ensures { MachinesAreIn }
+{}
+
+/// Each of these machines answers the value of its term on every series of the model's box.
+pub fn machines_answer()
+    ensures { MachinesAnswer }
 {}
