@@ -16,6 +16,7 @@ pub mod ListGood
 pub mod ListLean
 pub mod ListSolves
 pub mod ListUnique
+mod Marks
 pub mod NextDrop
 pub mod OfProgram
 pub mod OpenLines
@@ -26,3 +27,4 @@ pub mod Right
 pub mod Solves
 pub mod Unique
 pub mod Walk
+mod Witnessed

@@ -7,6 +7,7 @@ pub mod LineOf
 pub mod Listed
 pub mod Posed
 pub mod RightSpans
+pub mod Shown
 pub mod Solved
 pub mod Turns
 pub mod Views

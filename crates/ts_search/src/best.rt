@@ -17,6 +17,7 @@ use crate::dive::dive;
 use crate::found::FoundSeries;
 use crate::problem::{Problem, tables_of};
 use crate::tree::{Tree, grow};
+use crate::witnesses::Witnesses;
 use std::alloc::Global;
 use ts_base::{Goal, Memory};
 use ts_certificate::{Aim, Certificate, Claim, TreeLine};
@@ -50,7 +51,8 @@ pub fn solve(
     };
     let mut tables = tables_of(alloc, m, p)?;
     contest.warm = dive(alloc, &contest, &mut tables)?;
-    let tree = grow(alloc, &contest, &mut tables, budget)?;
+    let mut witnesses = Witnesses::new(alloc, &contest.problem, p.machines())?;
+    let tree = grow(alloc, &contest, &mut tables, &mut witnesses, budget)?;
     certificate(alloc, contest, tree)
 }
 

@@ -7,12 +7,14 @@ ghost use Rattle.ts_search.specs.Dive.{dive, dive_end, kept_value};
 ghost use Rattle.ts_search.specs.Drops.{next_drop};
 ghost use Rattle.ts_frontier.specs.Forms.{form};
 ghost use Rattle.ts_search.specs.Posed.{AreTablesOf, HasObjective, IsPosed, MayAsk};
+ghost use Rattle.ts_search.specs.Shown.{AreNone};
 ghost use Rattle.ts_search.specs.Views.{IsSettled, find_of, search_of};
 
 use crate::contest::Contest;
 use crate::found::FoundSeries;
 use crate::line::refuted_requirement;
 use crate::problem::Problem;
+use crate::witnesses::Witnesses;
 use std::alloc::Global;
 use ts_base::Memory;
 use ts_compile::judge;
@@ -35,12 +37,13 @@ pub(crate) fn dive(
         IfOk result (λ found. find_of found ≡ dive s.model s.spans contest.now.goal) }
 {
     let mut cells = Boxed::new(alloc, &contest.problem.model.cells)?;
-    if !settle(alloc, &contest.problem, tables, &mut cells)? {
+    let none = Witnesses::none(alloc, &contest.problem)?;
+    if !settle(alloc, &contest.problem, tables, &none, &mut cells)? {
         return Ok(None);
     }
     for k in 1..cells.cells() + 1 {
         keep_one(alloc, contest, tables, k, &mut cells)?;
-        if !settle(alloc, &contest.problem, tables, &mut cells)? {
+        if !settle(alloc, &contest.problem, tables, &none, &mut cells)? {
             return Ok(None);
         }
     }
@@ -48,19 +51,21 @@ pub(crate) fn dive(
 }
 
 /// Makes the possible drops, one after the other, and answers whether none is left. It stops early if a requirement is
-/// refuted at the last cell.
+/// refuted at the last cell. `none` are no witnesses and no marks.
 fn settle(
     alloc: Global,
     problem: &Problem<'_>,
     tables: &mut AllTables<'_>,
+    none: &Witnesses<'_>,
     cells: &mut Boxed,
 ) -> Result<bool, Memory>
-    requires { MayAsk problem.now tables.old cells.old.present }
+    requires asked { MayAsk problem.now tables.old cells.old.present }
+    requires none { AreNone problem.now none.now }
     ensures same { tables.new ≡ tables.old }
     ensures settled { IfOk result (λ all. IsSettled (search_of problem.now) cells.old.present cells.new.present all) }
 {
-    while refuted_requirement(alloc, problem, tables, cells)?.is_none() {
-        match problem.next_drop(alloc, tables, cells)? {
+    while refuted_requirement(alloc, problem, tables, none, cells)?.is_none() {
+        match problem.next_drop(alloc, tables, cells, &none.kept)? {
             Some(removal) => cells.remove(removal.cell, removal.value)?,
             None => return Ok(true),
         }

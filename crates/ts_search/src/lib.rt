@@ -23,8 +23,12 @@ mod found;
 pub mod laws;
 mod line;
 mod listing;
+mod marked;
+mod nearest;
 mod problem;
+mod shown;
 mod tree;
+mod witnesses;
 
 pub use best::solve;
 pub use listing::list;

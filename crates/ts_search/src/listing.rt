@@ -12,6 +12,7 @@ ghost use Rattle.ts_model.specs.Views.{model_parts};
 ghost use Rattle.ts_frontier.specs.Forms.{form};
 ghost use Rattle.ts_search.specs.Listed.{IsListAnswer};
 ghost use Rattle.ts_search.specs.Posed.{AreTablesOf, IsPosed};
+ghost use Rattle.ts_search.specs.Shown.{AreHeld};
 ghost use Rattle.ts_spans.specs.Machines.{spans_in};
 ghost use Rattle.ts_search.specs.Turns.{list_certificate, list_claim, list_start, list_turn_on};
 ghost use Rattle.ts_search.specs.Turns.{list_turns, listed_after};
@@ -20,6 +21,7 @@ ghost use Rattle.ts_search.specs.Views.{list_state_of, search_of};
 use crate::best::push_open;
 use crate::line::listing_line;
 use crate::problem::{Problem, tables_of};
+use crate::witnesses::Witnesses;
 use std::alloc::Global;
 use ts_base::Memory;
 use ts_certificate::{Aim, Certificate, Claim, TreeLine};
@@ -55,7 +57,8 @@ pub fn list(
 {
     let problem = Problem { model: m };
     let mut tables = tables_of(alloc, m, p)?;
-    let tree = list_grow(alloc, &problem, &mut tables, count, budget)?;
+    let mut witnesses = Witnesses::new(alloc, &problem, p.machines())?;
+    let tree = list_grow(alloc, &problem, &mut tables, &mut witnesses, count, budget)?;
     certificate(count, tree)
 }
 
@@ -64,11 +67,13 @@ fn list_grow(
     alloc: Global,
     problem: &Problem<'_>,
     tables: &mut AllTables<'_>,
+    witnesses: &mut Witnesses<'_>,
     count: u32,
     budget: u64,
 ) -> Result<ListTree, Memory>
     requires posed { IsPosed problem.now }
     requires tables { AreTablesOf problem.now tables.old }
+    requires held { AreHeld problem.now witnesses.old }
     ensures same { tables.new ≡ tables.old }
     ensures few { IfOk result (λ t. length t.listed.items ≤ count) }
     ensures turns { IfOk result (λ t. list_state_of t
@@ -87,7 +92,7 @@ fn list_grow(
         if tree.frontier.is_empty() {
             return Ok(tree);
         }
-        list_treat(alloc, problem, tables, &mut tree)?;
+        list_treat(alloc, problem, tables, witnesses, &mut tree)?;
     }
     Ok(tree)
 }
@@ -97,19 +102,24 @@ fn list_treat(
     alloc: Global,
     problem: &Problem<'_>,
     tables: &mut AllTables<'_>,
+    witnesses: &mut Witnesses<'_>,
     tree: &mut ListTree,
 ) -> Result<(), Memory>
     requires posed { IsPosed problem.now }
     requires parts { AllByRecursion (λ b. IsPart b (search_of problem.now).model.cells) tree.old.frontier.boxes }
     requires tables { AreTablesOf problem.now tables.old }
+    requires held { AreHeld problem.now witnesses.old }
     ensures same { tables.new ≡ tables.old }
+    ensures held { OnOk result (AreHeld problem.now witnesses.new) }
     ensures turn { OnOk result (list_state_of tree.new
         ≡ list_turn_on (search_of problem.now) (list_state_of tree.old) tree.old.frontier.boxes) }
 {
     if !tree.frontier.advance()? {
         return Ok(());
     }
-    let line = listing_line(alloc, problem, tables, tree.frontier.present())?;
+    let cells = tree.frontier.present();
+    witnesses.bring(problem, cells);
+    let line = listing_line(alloc, problem, tables, witnesses, cells)?;
     tree.lines.push(line)?;
     listed_now(alloc, tree.frontier.present(), line, &mut tree.listed)?;
     follow(&mut tree.frontier, &line)

@@ -3,18 +3,21 @@
 ghost use Rattle.std.specs.Prelude.{◌≡◌, ◌≤◌, IfOk};
 ghost use Rattle.ts_base.specs.Limits.{most_requirements};
 ghost use Rattle.ts_compile.specs.Programs.{IsProgramOf};
+ghost use Rattle.ts_filter.specs.KeptCells.{AreKept};
 ghost use Rattle.ts_model.specs.Views.{model_parts};
 ghost use Rattle.ts_search.specs.Drops.{least, next_drop};
 ghost use Rattle.ts_search.specs.LineOf.{inner, last, is_refuted_at, requirements};
 ghost use Rattle.ts_search.specs.Posed.{IsPosed, MayAsk};
+ghost use Rattle.ts_search.specs.Shown.{AreShown};
 ghost use Rattle.ts_search.specs.Views.{search_of};
 ghost use Rattle.ts_spans.specs.Machines.{automata_in};
 
+use crate::witnesses::Witnesses;
 use std::alloc::Global;
 use ts_base::Memory;
 use ts_compile::Program;
 use ts_domain::Boxed;
-use ts_filter::{AllTables, Removal};
+use ts_filter::{AllTables, KeptCells, Removal};
 use ts_model::Model;
 
 /// A model whose boxes are searched.
@@ -41,57 +44,71 @@ impl<'a> Problem<'a> {
         self.model.requirements.len() as u32
     }
 
-    /// Whether requirement `j`, counted from 1, is refuted at the last cell.
+    /// Whether requirement `j`, counted from 1, is refuted at the last cell. No table is asked where its witness meets
+    /// it.
     pub(crate) fn is_refuted(
         &self,
         alloc: Global,
         tables: &mut AllTables<'_>,
+        witnesses: &Witnesses<'_>,
         j: u32,
         cells: &Boxed,
     ) -> Result<bool, Memory>
         requires asked { MayAsk self.now tables.old cells.now.present }
+        requires shown { AreShown self.now witnesses.now cells.now.present }
         requires from { 1 ≤ j }
         requires to { j ≤ requirements (search_of self.now) }
         ensures same { tables.new ≡ tables.old }
         ensures told { IfOk result
             (λ told. told ≡ is_refuted_at (search_of self.now) j (last (search_of self.now)) cells.now.present) }
     {
+        if witnesses.shows(j) {
+            return Ok(false);
+        }
         let require = &self.model.requirements[j as usize - 1];
         tables.refuted(alloc, require, cells.cells(), cells)
     }
 
-    /// The least cell below the last at which requirement `j` is refuted.
+    /// The least cell below the last at which requirement `j` is refuted. No table is asked where its witness meets it.
     pub(crate) fn first_refuted(
         &self,
         alloc: Global,
         tables: &mut AllTables<'_>,
+        witnesses: &Witnesses<'_>,
         j: u32,
         cells: &Boxed,
     ) -> Result<Option<u32>, Memory>
         requires asked { MayAsk self.now tables.old cells.now.present }
+        requires shown { AreShown self.now witnesses.now cells.now.present }
         requires from { 1 ≤ j }
         requires to { j ≤ requirements (search_of self.now) }
         ensures same { tables.new ≡ tables.old }
         ensures found { IfOk result (λ found. found
             ≡ least (λ p. is_refuted_at (search_of self.now) j p cells.now.present) (inner (search_of self.now)) 1) }
     {
+        if witnesses.shows(j) {
+            return Ok(None);
+        }
         let require = &self.model.requirements[j as usize - 1];
         tables.first_refuted(alloc, require, cells)
     }
 
-    /// The drop that comes next.
+    /// The drop that comes next. Nothing is asked of tables where it is marked as needless.
     pub(crate) fn next_drop(
         &self,
         alloc: Global,
         tables: &mut AllTables<'_>,
         cells: &Boxed,
+        kept: &KeptCells,
     ) -> Result<Option<Removal>, Memory>
-        requires { MayAsk self.now tables.old cells.now.present }
+        requires asked { MayAsk self.now tables.old cells.now.present }
+        requires kept { AreKept self.now.model.now.requirements.items (search_of self.now).spans cells.now.present
+            kept.now }
         ensures same { tables.new ≡ tables.old }
         ensures found { IfOk result (λ found.
             found ≡ next_drop (search_of self.now).model (search_of self.now).spans cells.now.present) }
     {
-        tables.next_drop(alloc, &self.model.requirements, cells)
+        tables.next_drop(alloc, &self.model.requirements, cells, kept)
     }
 }
 

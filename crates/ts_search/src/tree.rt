@@ -6,12 +6,14 @@ ghost use Rattle.ts_certificate.specs.declared.certificate.TreeLine.TheVariants.
 ghost use Rattle.ts_filter.specs.Boxes.{IsPart};
 ghost use Rattle.ts_frontier.specs.Forms.{form};
 ghost use Rattle.ts_search.specs.Posed.{AreTablesOf, HasObjective, IsPosed};
+ghost use Rattle.ts_search.specs.Shown.{AreHeld};
 ghost use Rattle.ts_search.specs.Turns.{found_after, start, turn, turns};
 ghost use Rattle.ts_search.specs.Views.{contest_of, find_of, search_of, state_of};
 
 use crate::contest::Contest;
 use crate::found::FoundSeries;
 use crate::line::solve_line;
+use crate::witnesses::Witnesses;
 use std::alloc::Global;
 use ts_base::Memory;
 use ts_certificate::TreeLine;
@@ -32,11 +34,13 @@ pub(crate) fn grow(
     alloc: Global,
     contest: &Contest<'_>,
     tables: &mut AllTables<'_>,
+    witnesses: &mut Witnesses<'_>,
     budget: u64,
 ) -> Result<Tree, Memory>
     requires objective { HasObjective contest.now }
     requires posed { IsPosed contest.now.problem }
     requires tables { AreTablesOf contest.now.problem tables.old }
+    requires held { AreHeld contest.now.problem witnesses.old }
     ensures same { tables.new ≡ tables.old }
     ensures turns { IfOk result (λ t. state_of t
         ≡ turns (contest_of contest.now) budget (start (contest_of contest.now))) }
@@ -51,7 +55,7 @@ pub(crate) fn grow(
         if tree.frontier.is_empty() {
             return Ok(tree);
         }
-        treat(alloc, contest, tables, &mut tree)?;
+        treat(alloc, contest, tables, witnesses, &mut tree)?;
     }
     Ok(tree)
 }
@@ -61,6 +65,7 @@ fn treat(
     alloc: Global,
     contest: &Contest<'_>,
     tables: &mut AllTables<'_>,
+    witnesses: &mut Witnesses<'_>,
     tree: &mut Tree,
 ) -> Result<(), Memory>
     requires objective { HasObjective contest.now }
@@ -68,14 +73,18 @@ fn treat(
     requires parts { AllByRecursion (λ b. IsPart b (search_of contest.now.problem).model.cells)
         tree.old.frontier.boxes }
     requires tables { AreTablesOf contest.now.problem tables.old }
+    requires held { AreHeld contest.now.problem witnesses.old }
     ensures same { tables.new ≡ tables.old }
+    ensures held { OnOk result (AreHeld contest.now.problem witnesses.new) }
     ensures turn { OnOk result
         (state_of tree.new ≡ turn (contest_of contest.now) (state_of tree.old)) }
 {
     if !tree.frontier.advance()? {
         return Ok(());
     }
-    let line = solve_line(alloc, contest, tables, tree.frontier.present(), &tree.found)?;
+    let cells = tree.frontier.present();
+    witnesses.bring(&contest.problem, cells);
+    let line = solve_line(alloc, contest, tables, witnesses, cells, &tree.found)?;
     tree.lines.push(line)?;
     let found = tree.found.take();
     tree.found = found_now(alloc, contest, tree.frontier.present(), line, found)?;

@@ -13,8 +13,8 @@ pub new-requires : goal.new-requires
 new-requires c = let few = c.requires.posed.right.whole.few in let same = ap length c.deref.ensures.value in omega (arith, few, same)
 
 -- the first box is the model's
-pub settle-requires : goal.settle-requires
-settle-requires c =
+pub settle-requires-clause-asked : goal.settle-requires-clause-asked
+settle-requires-clause-asked c =
     let s = search_of c.args.contest.now.problem in
     record {
       posed = c.requires.posed;
@@ -67,8 +67,8 @@ keep_one-requires-clause-cell c =
     c.cells-k-end.ensures.count in
     cell_there s c.loop-k.cells.present c.loop-k.k c.cells-k-end.result c.loop-k.invariant.part (omega arith) c.loop-k-test.true end
 
-pub settle-requires-in-loop-k : goal.settle-requires-in-loop-k
-settle-requires-in-loop-k c =
+pub settle-requires-in-loop-k-clause-asked : goal.settle-requires-in-loop-k-clause-asked
+settle-requires-in-loop-k-clause-asked c =
     let s = search_of c.args.contest.now.problem in
     let end = end_is s c.settle.new.cells.present c.cells-k-end.result (settled_part s _ c.settle.new.cells.present _ c.in_ok-settle.ensures.settled)
     c.cells-k-end.ensures.count in

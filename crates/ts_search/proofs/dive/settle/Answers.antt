@@ -8,7 +8,16 @@ use Rattle.ts_filter.specs.declared.drops.Removal.{Removal}
 use Rattle.ts_search.specs.Drops.{after_drops, next_drop}
 use Rattle.ts_search.specs.Views.{search_of}
 use Rattle.ts_search.proofs.DiveSteps.{one_more, refuted_some, removal_cell, removal_less, removal_part, removal_stays}
+use Rattle.ts_search.proofs.Witnessed.{none_marked, none_shown}
 use Rattle.ts_search.proofs.dive.settle.Goals as goal
+
+-- no requirement has a witness
+pub refuted_requirement-requires-clause-shown : goal.refuted_requirement-requires-clause-shown
+refuted_requirement-requires-clause-shown c =
+    none_shown c.args.problem.now c.args.none.now c.loop-alloc.cells.present c.requires.none
+
+pub next_drop-requires-clause-kept : goal.next_drop-requires-clause-kept
+next_drop-requires-clause-kept c = none_marked c.args.problem.now c.args.none.now c.loop-alloc.cells.present c.requires.none
 
 -- the drop as the definitions have it: `next_drop` of the problem gave this removal
 pub remove-requires-clause-cell : goal.remove-requires-clause-cell

@@ -1,9 +1,11 @@
-use Rattle.std.proofs.Common.{◌≡◌, refl}
+use Rattle.std.proofs.Common.{◌≡◌, ◌∙◌, ap, map, refl}
 use Rattle.std.proofs.lemmas.Result.{IfOk-weaker}
 use Rattle.ts_certificate.specs.Certificate.{cert_seen}
 use Rattle.ts_model.specs.Views.{model_parts}
 use Rattle.ts_search.specs.Listed.{IsListAnswer}
+use Rattle.ts_bound.specs.TermSpans.{automata_of}
 use Rattle.ts_spans.specs.Machines.{spans_in}
+use Rattle.ts_spans.proofs.OfProgram.{machines_are}
 use Rattle.ts_search.specs.Turns.{list_certificate}
 use Rattle.ts_search.specs.Views.{list_state_of}
 use Rattle.ts_search.proofs.Certified.{listed}
@@ -12,6 +14,13 @@ use Rattle.ts_search.proofs.listing.list.Goals as goal
 
 pub list_grow-requires-clause-posed : goal.list_grow-requires-clause-posed
 list_grow-requires-clause-posed c = posed_list c.args.m.now c.requires.whole c.requires.limits _ refl
+
+pub new-requires-clause-posed : goal.new-requires-clause-posed
+new-requires-clause-posed c = posed_list c.args.m.now c.requires.whole c.requires.limits _ refl
+
+-- the machines of the program are those of the model's terms
+pub new-requires-clause-machines : goal.new-requires-clause-machines
+new-requires-clause-machines c = ap (map automata_of) c.machines.ensures ∙ machines_are c.args.p.now c.args.m.now c.requires.program
 
 pub returns : goal.returns
 returns c =

@@ -16,6 +16,7 @@ loop-init c =
     record {
       same = refl;
       turned = list_none s c.args.count c.args.budget _ first;
+      held = c.requires.held;
       parts = first_parts s.model.cells c.new-3.result.boxes c.requires.posed.right.box (ap (λ w. w.boxes) c.new-3.ensures ∙ ap (λ b. b ∷ []) root);
     }
 
@@ -41,6 +42,7 @@ loop-preserved c =
       same = c.list_treat.ensures.same ∙ c.loop.invariant.same;
       turned = list_more s c.args.count c.args.budget c.loop.counter (list_state_of c.loop.tree) (list_state_of c.list_treat.new.tree) _
           c.loop-test.true turn c.loop.invariant.turned;
+      held = c.in_ok-list_treat.ensures.held;
       parts = list_parts s c.args.count (list_state_of c.loop.tree) (list_state_of c.list_treat.new.tree) turn
           c.loop.invariant.parts;
     }

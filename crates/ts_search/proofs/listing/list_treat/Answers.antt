@@ -8,18 +8,23 @@ use Rattle.ts_search.specs.Views.{list_state_of, search_of}
 use Rattle.ts_search.proofs.CodeTurns.{list_turned, first_makes, present_part}
 use Rattle.ts_search.proofs.listing.list_treat.Goals as goal
 
-pub listing_line-requires : goal.listing_line-requires
-listing_line-requires c = record {
+pub bring-requires-clause-part : goal.bring-requires-clause-part
+bring-requires-clause-part c =
+    present_part (search_of c.args.problem.now).model.cells c.args.tree.now.frontier.boxes c.advance.new.self.boxes c.present-cells.result.now.present
+    c.requires.parts c.in_ok-advance.ensures.same c.present-cells.ensures
+
+pub listing_line-requires-clause-asked : goal.listing_line-requires-clause-asked
+listing_line-requires-clause-asked c = record {
   posed = c.requires.posed;
   part = present_part (search_of c.args.problem.now).model.cells c.args.tree.now.frontier.boxes c.advance.new.self.boxes
-      c.present.result.now.present c.requires.parts c.in_ok-advance.ensures.same c.present.ensures;
+      c.present-cells.result.now.present c.requires.parts c.in_ok-advance.ensures.same c.present-cells.ensures;
   tables = c.requires.tables;
 }
 
 pub follow-requires-clause-fits : goal.follow-requires-clause-fits
 follow-requires-clause-fits c =
     first_makes (TheFirst (search_of c.args.problem.now)) c.args.tree.now.frontier.boxes c.advance.new.self.boxes
-    c.present.result.now.present c.in_ok-line.line c.requires.parts c.in_ok-advance.ensures.same c.present.ensures c.in_ok-line.ensures.line
+    c.present-cells.result.now.present c.in_ok-line.line c.requires.parts c.in_ok-advance.ensures.same c.present-cells.ensures c.in_ok-line.ensures.line
 
 pub returns-clause-turn : goal.returns-clause-turn
 returns-clause-turn c =
@@ -33,7 +38,7 @@ returns-clause-turn c =
     IfOk-weaker c.follow.result
     (λ z. c.follow.new.frontier.boxes ≡ made_by c.in_ok-line.line (first c.advance.new.self.boxes) ++ rest c.advance.new.self.boxes)
     (λ z. new ≡ list_turn_on s old old.pending)
-    (λ z boxes. list_turned s old new.lines c.advance.new.self.boxes new.pending new.listed c.present.result.now.present
-    c.present-2.result.now.present c.in_ok-line.line c.in_ok-advance.ensures.same c.present.ensures
-    c.in_ok-line.ensures.line c.in_ok-push.ensures.items c.present-2.ensures c.in_ok-listed_now.ensures boxes)
+    (λ z boxes. list_turned s old new.lines c.advance.new.self.boxes new.pending new.listed c.present-cells.result.now.present
+    c.present.result.now.present c.in_ok-line.line c.in_ok-advance.ensures.same c.present-cells.ensures
+    c.in_ok-line.ensures.line c.in_ok-push.ensures.items c.present.ensures c.in_ok-listed_now.ensures boxes)
     c.follow.ensures.ok

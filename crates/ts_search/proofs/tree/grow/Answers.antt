@@ -14,6 +14,7 @@ loop-init c =
     record {
       same = refl;
       turned = grow_none s c.args.budget _ first;
+      held = c.requires.held;
       parts = first_parts s.search.model.cells c.new-3.result.boxes c.requires.posed.right.box (ap (λ w. w.boxes) c.new-3.ensures ∙ ap (λ b. b ∷ []) root);
     }
 
@@ -29,6 +30,7 @@ loop-preserved c =
       same = c.treat.ensures.same ∙ c.loop.invariant.same;
       turned = grow_more s c.args.budget c.loop.counter (state_of c.loop.tree) (state_of c.treat.new.tree) _ c.loop-test.true
           c.in_ok-treat.ensures.turn c.loop.invariant.turned;
+      held = c.in_ok-treat.ensures.held;
       parts = grow_parts s (state_of c.loop.tree) (state_of c.treat.new.tree) c.in_ok-treat.ensures.turn c.loop.invariant.parts;
     }
 

@@ -1,6 +1,7 @@
 use Rattle.std.proofs.Common.{◌≡◌, ◌-◌}
 use Rattle.std.specs.List.{AllByRecursion}
 use Rattle.ts_filter.specs.Boxes.{IsPart}
+use Rattle.ts_search.specs.Shown.{AreHeld}
 use Rattle.ts_search.specs.Turns.{start, turns}
 use Rattle.ts_search.specs.Views.{contest_of, search_of, state_of}
 use Rattle.ts_search.proofs.tree.grow.Given as goal
@@ -11,5 +12,6 @@ invariant-loop l = record {
   same : l.tables ≡ l.fn.tables;
   turned : turns (contest_of l.contest) (l.budget - l.counter) (state_of l.tree)
       ≡ turns (contest_of l.contest) l.budget (start (contest_of l.contest));
+  held : AreHeld l.contest.problem l.witnesses;
   parts : AllByRecursion (λ b. IsPart b (search_of l.contest.problem).model.cells) l.tree.frontier.boxes;
 }

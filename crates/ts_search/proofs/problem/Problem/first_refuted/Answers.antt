@@ -7,6 +7,7 @@ use Rattle.ts_search.specs.Drops.{least}
 use Rattle.ts_search.specs.LineOf.{inner, is_refuted_at}
 use Rattle.ts_search.specs.Views.{search_of}
 use Rattle.ts_search.proofs.Posed.{first_refuted_told, looks_of, required_is, required_there, tables_long, told_in}
+use Rattle.ts_search.proofs.Witnessed.{shown_nowhere}
 use Rattle.ts_search.proofs.problem.Problem.first_refuted.Goals as goal
 
 pub first_refuted-requires-clause-there : goal.first_refuted-requires-clause-there
@@ -19,6 +20,12 @@ pub first_refuted-requires-clause-looks : goal.first_refuted-requires-clause-loo
 first_refuted-requires-clause-looks c =
     let q = c.args.self.now in
     looks_of q c.requires.asked.posed c.args.cells.now.present c.requires.asked.part c.args.tables.now c.index-require.result.now.term c.requires.asked.tables
+
+-- its witness meets it
+pub returns-then-shows-clause-found : goal.returns-then-shows-clause-found
+returns-then-shows-clause-found c =
+    shown_nowhere c.args.self.now c.requires.asked.posed c.args.witnesses.now c.args.cells.now.present c.requires.asked.part c.requires.shown c.args.j
+    c.requires.from c.requires.to c.shows.result c.shows.ensures c.if-shows.true
 
 pub returns-clause-found : goal.returns-clause-found
 returns-clause-found c =

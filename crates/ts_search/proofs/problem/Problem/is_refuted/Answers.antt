@@ -2,11 +2,12 @@ use Rattle.std.proofs.lemmas.Result.{IfOk-weaker}
 use Rattle.ts_search.specs.LineOf.{last, is_refuted_at}
 use Rattle.ts_search.specs.Views.{search_of}
 use Rattle.ts_search.proofs.Posed.{looks_of, part_size, refuted_told, required_is, required_there, some_cells, tables_long, told_in}
-use Rattle.std.proofs.Common.{arith, ◌↔◌, ◌≡◌}
+use Rattle.std.proofs.Common.{arith, ◌↔◌, ◌≡◌, sym}
 use Rattle.std.specs.Prelude.{IsTrue}
 use Rattle.ts_bound.specs.TermSpans.{term_span}
 use Rattle.ts_filter.specs.Excluded.{Refutes}
 use Rattle.ts_filter.specs.OfTerm.{OfTerm}
+use Rattle.ts_search.proofs.Witnessed.{shown_alive}
 use Rattle.ts_search.proofs.problem.Problem.is_refuted.Goals as goal
 
 pub refuted-requires-clause-there : goal.refuted-requires-clause-there
@@ -28,6 +29,13 @@ pub refuted-requires-clause-looks : goal.refuted-requires-clause-looks
 refuted-requires-clause-looks c =
     let q = c.args.self.now in
     looks_of q c.requires.asked.posed c.args.cells.now.present c.requires.asked.part c.args.tables.now c.index-require.result.now.term c.requires.asked.tables
+
+-- its witness meets it
+pub returns-then-shows-clause-told : goal.returns-then-shows-clause-told
+returns-then-shows-clause-told c =
+    let q = c.args.self.now in
+    sym (shown_alive q c.requires.asked.posed c.args.witnesses.now c.args.cells.now.present c.requires.asked.part c.requires.shown c.args.j
+    c.requires.from c.requires.to c.shows.result c.shows.ensures c.if-shows.true (last (search_of q)))
 
 pub returns-clause-told : goal.returns-clause-told
 returns-clause-told c =

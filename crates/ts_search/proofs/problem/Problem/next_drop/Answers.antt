@@ -2,6 +2,7 @@ use Rattle.std.proofs.Common.{◌≡◌, ◌<◌, arith, ap, length, subst, sym}
 use Rattle.std.specs.List.{AllByRecursion}
 use Rattle.std.proofs.lemmas.Result.{IfOk-weaker}
 use Rattle.ts_filter.specs.Drops.{IsFirstDrop}
+use Rattle.ts_filter.specs.KeptCells.{AreKept}
 use Rattle.ts_filter.specs.MachineSpans.{spans_of}
 use Rattle.ts_search.specs.Drops.{next_drop}
 use Rattle.ts_search.specs.Views.{search_of}
@@ -12,23 +13,29 @@ use Rattle.ts_search.proofs.problem.Problem.next_drop.Goals as goal
 pub next_drop-requires-clause-machines : goal.next_drop-requires-clause-machines
 next_drop-requires-clause-machines c =
     let q = c.args.self.now in
-    let many = tables_count q c.requires.posed c.args.tables.now c.requires.tables in
-    let entries = term_count q c.requires.posed in
-    let few = c.requires.posed.terms in omega (arith, many, entries, few)
+    let many = tables_count q c.requires.asked.posed c.args.tables.now c.requires.asked.tables in
+    let entries = term_count q c.requires.asked.posed in
+    let few = c.requires.asked.posed.terms in omega (arith, many, entries, few)
 
 pub next_drop-requires-clause-requirements : goal.next_drop-requires-clause-requirements
-next_drop-requires-clause-requirements c = let few = c.requires.posed.requirements in let same = ap length c.deref.ensures.value in omega (arith, few, same)
+next_drop-requires-clause-requirements c = let few = c.requires.asked.posed.requirements in let same = ap length c.deref.ensures.value in omega (arith, few, same)
 
 pub next_drop-requires-clause-terms : goal.next_drop-requires-clause-terms
 next_drop-requires-clause-terms c =
-    subst (λ n. AllByRecursion (λ r. r.term < n) c.deref.result.now) (sym (tables_count c.args.self.now c.requires.posed c.args.tables.now c.requires.tables))
+    subst (λ n. AllByRecursion (λ r. r.term < n) c.deref.result.now) (sym (tables_count c.args.self.now c.requires.asked.posed c.args.tables.now c.requires.asked.tables))
     (subst (AllByRecursion (λ r. r.term < length (search_of c.args.self.now).model.terms)) (sym c.deref.ensures.value)
-    c.requires.posed.right.whole.requirements)
+    c.requires.asked.posed.right.whole.requirements)
 
 pub next_drop-requires-clause-looks : goal.next_drop-requires-clause-looks
 next_drop-requires-clause-looks c =
     let q = c.args.self.now in
-    each_looks q c.requires.posed c.args.cells.now.present c.requires.part c.args.tables.now c.requires.tables
+    each_looks q c.requires.asked.posed c.args.cells.now.present c.requires.asked.part c.args.tables.now c.requires.asked.tables
+
+pub next_drop-requires-clause-kept : goal.next_drop-requires-clause-kept
+next_drop-requires-clause-kept c =
+    let q = c.args.self.now in let b = c.args.cells.now.present in
+    subst (λ rs. AreKept rs (spans_of c.args.tables.now) b c.args.kept.now) (sym c.deref.ensures.value)
+    (subst (λ ms. AreKept q.model.now.requirements.items (spans_of ms) b c.args.kept.now) (sym c.requires.asked.tables) c.requires.kept)
 
 pub returns-clause-found : goal.returns-clause-found
 returns-clause-found c =
@@ -36,7 +43,7 @@ returns-clause-found c =
     IfOk-weaker c.next_drop.result
     (λ found. IsFirstDrop c.deref.result.now (spans_of c.args.tables.now) b found)
     (λ found. found ≡ next_drop (search_of q).model (search_of q).spans b)
-    (λ found h. next_drop_told q c.requires.posed b c.requires.part found
+    (λ found h. next_drop_told q c.requires.asked.posed b c.requires.asked.part found
     (subst (λ rs. IsFirstDrop rs (search_of q).spans b found) c.deref.ensures.value
-    (subst (λ ms. IsFirstDrop c.deref.result.now (spans_of ms) b found) c.requires.tables h)))
+    (subst (λ ms. IsFirstDrop c.deref.result.now (spans_of ms) b found) c.requires.asked.tables h)))
     c.next_drop.ensures.found

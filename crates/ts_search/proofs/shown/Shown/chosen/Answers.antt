@@ -1,0 +1,18 @@
+use Rattle.std.proofs.Common.{◌≡◌, sym, subst}
+use Rattle.ts_automaton.specs.AutomatonRun.{AreCellValues}
+use Rattle.ts_bound.specs.TermSpans.{automata_of}
+use Rattle.ts_witness.specs.Laws.{IsAlive}
+use Rattle.ts_witness.specs.Witnesses.{series_of}
+use Rattle.ts_search.proofs.shown.Shown.chosen.Goals as goal
+
+pub returns-clause-held : goal.returns-clause-held
+returns-clause-held c =
+    let s = c.args.self.now in
+    let r = c.args.r.now in
+    let same = sym c.nearest.ensures.series in
+    record {
+      witness = c.nearest.ensures.witness;
+      cells = subst AreCellValues same c.requires.held.cells;
+      spared = c.requires.held.spared;
+      alive = λ t. subst (IsAlive (automata_of s.machine.now) r) same (c.requires.held.alive t);
+    }

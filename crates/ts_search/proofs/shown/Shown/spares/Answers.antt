@@ -1,0 +1,17 @@
+use Rattle.std.proofs.Common.{◌≡◌, sym, subst}
+use Rattle.ts_automaton.specs.AutomatonRun.{AreCellValues}
+use Rattle.ts_bound.specs.TermSpans.{automata_of}
+use Rattle.ts_witness.specs.Laws.{IsAlive}
+use Rattle.ts_search.proofs.shown.Shown.spares.Goals as goal
+
+pub returns-clause-held : goal.returns-clause-held
+returns-clause-held c =
+    let s = c.args.self.now in
+    let r = c.args.r.now in
+    let same = sym c.keeps_between.ensures.series in
+    record {
+      witness = c.keeps_between.ensures.witness;
+      cells = subst AreCellValues same c.requires.held.cells;
+      spared = c.keeps_between.ensures.spared;
+      alive = λ t. subst (IsAlive (automata_of s.machine.now) r) same (c.requires.held.alive t);
+    }
