@@ -1,6 +1,7 @@
 //! A row of hulls in packed form.
 
-ghost use Rattle.std.specs.Prelude.{◌≡◌, ℕ, ◌<◌, ◌≤◌, [], IfOk, length, get_or};
+ghost use Rattle.std.specs.List.{remove_range};
+ghost use Rattle.std.specs.Prelude.{◌≡◌, ℕ, ◌<◌, ◌≤◌, [], IfOk, length, get_or, map};
 ghost use Rattle.ts_row.specs.Rows.{AreAll, IsRow, nothing};
 ghost use Rattle.ts_sweep.specs.declared.packed.PackedHull.{PackedHull};
 
@@ -59,6 +60,20 @@ impl<const N: usize> Column<N> {
         self.hulls.resize(count, hull)?;
         Ok(())
     }
+
+    /// Takes the hulls at the places from `from` up to `to` out; those behind them move down.
+    fn take_out(&mut self, from: usize, to: usize)
+        requires { from ≤ to }
+        ensures { self.new ≡ remove_range self.old from to }
+    {
+        let count = self.hulls.len();
+        if to < count {
+            self.hulls.copy_within(to.., from);
+            self.hulls.truncate(count - (to - from));
+        } else {
+            self.hulls.truncate(from);
+        }
+    }
 }
 
 impl<const N: usize> PackedRow<N> {
@@ -103,5 +118,16 @@ impl<const N: usize> PackedRow<N> {
             self.columns[q as usize].fill(count, PackedHull::nothing())?;
         }
         Ok(())
+    }
+
+    /// Takes the hulls at the places from `from` up to `to` out of each column: what is left is the row of the other
+    /// values.
+    pub fn take_out(&mut self, from: usize, to: usize)
+        requires { from ≤ to }
+        ensures { self.new ≡ map (λ column. remove_range column from to) self.old }
+    {
+        for q in 0..self.columns.len() {
+            self.columns[q].take_out(from, to);
+        }
     }
 }
