@@ -20,7 +20,7 @@ use Rattle.ts_row.specs.declared.plan.CellFold.TheVariants.{Ones, Width, Surf, G
 use Rattle.ts_row.specs.declared.plan.RangeFold.{RangeFold}
 use Rattle.ts_row.specs.declared.plan.RangeFold.TheVariants.{Sum, Highest, Lowest}
 use Rattle.ts_row.specs.declared.plan.Shape.{Shape}
-use Rattle.ts_row.specs.declared.plan.Shape.TheVariants.{Kept, Longer, Begun, Found, Inside, Anew, Other}
+use Rattle.ts_row.specs.declared.plan.Shape.TheVariants.{Kept, Longer, Begun, Found, Inside, Ended, Anew, Other}
 use Rattle.ts_row.specs.declared.plan.Equals.TheVariants.{Alone, WithLess, WithGreater}
 use Rattle.ts_row.specs.declared.plan.StatePlan.{StatePlan}
 use Rattle.ts_row.specs.declared.plan.Plan.{Plan}
@@ -76,8 +76,8 @@ abbrev pub least : Formula → Formula
 least e = Join (Fold Min) e (Leaf This)
 
 -- nothing changes; D goes on; D begins anew; C becomes of D and a word, and D begins anew; C becomes of C, D and a
--- word, and D begins anew; R becomes of R and what is held, and both begin anew. The same becomes of E and F, which a
--- narrow automaton hasn't.
+-- word, and D begins anew; R becomes of R and of what was found, and D begins anew; R becomes of R and what is held, and
+-- both begin anew. The same becomes of E and F, which a narrow automaton hasn't.
 abbrev pub kept_fronts : Cut
 kept_fronts = fronts (Leaf C) (Leaf E) (Leaf D) (Leaf F) (Leaf R)
 
@@ -94,12 +94,19 @@ abbrev pub inside_fronts : Operator → Formula → Formula → Cut
 inside_fronts o w d =
     fronts (Join o (Leaf C) (Join o (Leaf D) w)) (Join (Fold Min) (Leaf E) (least (Leaf F))) d (Leaf HighAtom) (Leaf R)
 
+abbrev pub ended_fronts : Operator → Formula → Formula → Cut
+ended_fronts o found d = fronts (Leaf C) (Leaf E) d (Leaf HighAtom) (Join o (Leaf R) found)
+
 abbrev pub anew_fronts : Operator → Formula → Formula → Formula → Cut
 anew_fronts o c held d = fronts c (Leaf Zero) d (Leaf HighAtom) (Join o (Leaf R) held)
 
 -- what is held: in a wide automaton C less E
 abbrev pub held_of : Bool → Formula
 held_of wide = if wide then Join Sub (Leaf C) (Leaf E) else Leaf C
+
+-- what is found of D and a word: in a wide automaton less the least
+abbrev pub found_of : Bool → Operator → Formula → Formula
+found_of wide o w = if wide then Join Sub (Join o (Leaf D) w) (least (Leaf F)) else Join o (Leaf D) w
 
 -- what a shape says of the split expressions of a move
 abbrev pub IsShapeOf : Bool → Shape → Cut → Type 0
@@ -108,6 +115,9 @@ IsShapeOf wide (Longer f) k = k ≡ of_width wide (longer_fronts (Fold (cell_op 
 IsShapeOf wide (Begun f) k = k ≡ of_width wide (begun_fronts (cell_start f))
 IsShapeOf wide (Found f) k = k ≡ of_width wide (found_fronts (Fold (cell_op f)) (cell_word f) (cell_start f))
 IsShapeOf wide (Inside f) k = k ≡ of_width wide (inside_fronts (Fold (cell_op f)) (cell_word f) (cell_start f))
+IsShapeOf wide (Ended g f) k =
+    k ≡ of_width wide
+    (ended_fronts (Fold (range_op g)) (found_of wide (Fold (cell_op f)) (cell_word f)) (cell_start f))
 IsShapeOf wide (Anew g f) k =
     k ≡ of_width wide (anew_fronts (Fold (range_op g)) (range_start g) (held_of wide) (cell_start f))
 IsShapeOf wide Other k = Unit {0}
@@ -119,6 +129,7 @@ beside_held (Longer f) = Leaf E
 beside_held (Begun f) = Leaf E
 beside_held (Found f) = least (Leaf F)
 beside_held (Inside f) = Join (Fold Min) (Leaf E) (least (Leaf F))
+beside_held (Ended g f) = Leaf E
 beside_held (Anew g f) = Leaf Zero
 beside_held Other = Leaf Zero
 
@@ -128,8 +139,20 @@ beside_open (Longer f) = least (Leaf F)
 beside_open (Begun f) = Leaf HighAtom
 beside_open (Found f) = Leaf HighAtom
 beside_open (Inside f) = Leaf HighAtom
+beside_open (Ended g f) = Leaf HighAtom
 beside_open (Anew g f) = Leaf HighAtom
 beside_open Other = Leaf Zero
+
+-- what R takes in, in a wide automaton: what was found, or what is held
+abbrev pub taken_in : Shape → Formula
+taken_in Kept = held_of true
+taken_in (Longer f) = held_of true
+taken_in (Begun f) = held_of true
+taken_in (Found f) = held_of true
+taken_in (Inside f) = held_of true
+taken_in (Ended g f) = found_of true (Fold (cell_op f)) (cell_word f)
+taken_in (Anew g f) = held_of true
+taken_in Other = held_of true
 
 abbrev pub wide_result : Shape → Formula
 wide_result Kept = Leaf R
@@ -137,7 +160,8 @@ wide_result (Longer f) = Leaf R
 wide_result (Begun f) = Leaf R
 wide_result (Found f) = Leaf R
 wide_result (Inside f) = Leaf R
-wide_result (Anew g f) = Join (Fold (range_op g)) (Leaf R) (held_of true)
+wide_result (Ended g f) = Join (Fold (range_op g)) (Leaf R) (taken_in (Ended g f))
+wide_result (Anew g f) = Join (Fold (range_op g)) (Leaf R) (taken_in (Anew g f))
 wide_result Other = Leaf R
 
 -- what is planned of a state: the shape of each move, and that the move on `=` is the same as another only if it is

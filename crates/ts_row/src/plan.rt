@@ -21,11 +21,13 @@ ghost use Rattle.ts_row.specs.Plans.{
   cell_op,
   cell_start,
   cell_word,
+  found_of,
   fronts,
   held_of,
   narrow_fronts,
   range_op,
   range_start,
+  taken_in,
   wide_result,
   words_formula,
 };
@@ -54,8 +56,8 @@ pub(crate) enum RangeFold {
 }
 
 /// What a move makes of the registers: `Kept` changes nothing; in `Longer` D takes in the cell; in `Begun` D is reset;
-/// in `Found` C is made of D and the cell, in `Inside` of C, D and the cell, and D is reset; in `Anew` R takes in C,
-/// and C and D are reset; `Other` is anything else.
+/// in `Found` C is made of D and the cell, in `Inside` of C, D and the cell, and D is reset; in `Ended` R takes in D
+/// and the cell, and D is reset; in `Anew` R takes in C, and C and D are reset; `Other` is anything else.
 #[derive(Clone, Copy)]
 pub(crate) enum Shape {
     Kept,
@@ -63,6 +65,7 @@ pub(crate) enum Shape {
     Begun(CellFold),
     Found(CellFold),
     Inside(CellFold),
+    Ended(RangeFold, CellFold),
     Anew(RangeFold, CellFold),
     Other,
 }
@@ -149,6 +152,17 @@ fn range_of(o: Op, start: Atom) -> Option<RangeFold>
     }
 }
 
+/// The fold of ranges with an operator.
+fn range_by(o: Op) -> RangeFold
+    ensures { range_op result ≡ o }
+{
+    match o {
+        Op::Add => RangeFold::Sum,
+        Op::Max => RangeFold::Highest,
+        Op::Min => RangeFold::Lowest,
+    }
+}
+
 /// The shape of a move that keeps R and C, if it is known.
 fn going_shape(d: Words) -> Option<Shape>
     ensures { IfSome result (λ s. IsShapeOf false s (narrow_fronts (Leaf C) (words_formula d) (Leaf R))) }
@@ -212,6 +226,19 @@ fn anew_shape(o: Op, c: Words, d: Words) -> Option<Shape>
     }
 }
 
+/// The shape of a move that makes R of R, D and a word.
+fn ended_shape(o: Op, p: Op, word: Atom, c: Words, d: Words) -> Option<Shape>
+    ensures { IfSome result (λ s. IsShapeOf false s (narrow_fronts (words_formula c) (words_formula d)
+        (Join (Fold o) (Leaf R) (Join (Fold p) (Leaf D) (Leaf word))))) }
+{
+    match (c, d) {
+        (Words::Word(Atom::C), Words::Word(w)) => {
+            Some(Shape::Ended(range_by(o), whole_fold(p, word, w)?))
+        }
+        _ => None,
+    }
+}
+
 /// The shape of a move by its words.
 fn shape_of(c: Words, d: Words, r: Words) -> Option<Shape>
     ensures { IfSome result (λ s. IsShapeOf false s
@@ -220,6 +247,7 @@ fn shape_of(c: Words, d: Words, r: Words) -> Option<Shape>
     match r {
         Words::Word(Atom::R) => cell_shape(c, d),
         Words::Two(o, Atom::R, Atom::C) => anew_shape(o, c, d),
+        Words::Three(o, Atom::R, p, Atom::D, b) => ended_shape(o, p, b, c, d),
         _ => None,
     }
 }
@@ -247,6 +275,7 @@ fn beside(s: Shape) -> (Words, Words)
             Words::Three(Op::Min, Atom::E, Op::Min, Atom::F, Atom::This),
             Words::Word(Atom::PosInf),
         ),
+        Shape::Ended(_, _) => (Words::Word(Atom::E), Words::Word(Atom::PosInf)),
         Shape::Anew(_, _) => (Words::Word(Atom::Zero), Words::Word(Atom::PosInf)),
         Shape::Other => (Words::Word(Atom::Zero), Words::Word(Atom::Zero)),
     }
@@ -272,39 +301,6 @@ fn is_held(e: &Expr) -> bool
     }
 }
 
-/// Whether an expression joins R by the fold of ranges with what a wide automaton holds, C less E.
-fn is_anew(g: RangeFold, e: &Expr) -> bool
-    ensures { result ≡ true → formula e.now ≡ Join (Fold (range_op g)) (Leaf R) (held_of true) }
-{
-    match (g, e) {
-        (RangeFold::Sum, Expr::Add(a, b)) => is_word(a, Atom::R) && is_held(b),
-        (RangeFold::Highest, Expr::Max(a, b)) => is_word(a, Atom::R) && is_held(b),
-        (RangeFold::Lowest, Expr::Min(a, b)) => is_word(a, Atom::R) && is_held(b),
-        _ => false,
-    }
-}
-
-/// Whether an expression is that of R in a move of a shape, in a wide automaton.
-fn is_wide_result(s: Shape, e: &Expr) -> bool
-    ensures { result ≡ true → formula e.now ≡ wide_result s }
-{
-    match s {
-        Shape::Anew(g, _) => is_anew(g, e),
-        _ => is_word(e, Atom::R),
-    }
-}
-
-/// The expression of R in a narrow automaton that has the same operator: it joins R with C alone.
-fn narrow_result(e: &Expr) -> Option<Words> {
-    match e {
-        Expr::R => Some(Words::Word(Atom::R)),
-        Expr::Add(_, _) => Some(Words::Two(Op::Add, Atom::R, Atom::C)),
-        Expr::Max(_, _) => Some(Words::Two(Op::Max, Atom::R, Atom::C)),
-        Expr::Min(_, _) => Some(Words::Two(Op::Min, Atom::R, Atom::C)),
-        _ => None,
-    }
-}
-
 /// Whether an expression is an operator over two words.
 fn is_two(e: &Expr, o: Op, first: Atom, second: Atom) -> bool
     ensures { result ≡ true → formula e.now ≡ Join (Fold o) (Leaf first) (Leaf second) }
@@ -327,6 +323,92 @@ fn is_three(e: &Expr, o: Op, first: Atom, p: Op, second: Atom, third: Atom) -> b
         (Op::Max, Expr::Max(a, b)) => is_word(a, first) && is_two(b, p, second, third),
         (Op::Min, Expr::Min(a, b)) => is_word(a, first) && is_two(b, p, second, third),
         _ => false,
+    }
+}
+
+/// The operator of a fold of cells.
+fn op_of(f: CellFold) -> Op
+    ensures { result ≡ cell_op f }
+{
+    match f {
+        CellFold::Width | CellFold::Surf => Op::Add,
+        CellFold::Ones | CellFold::Greatest => Op::Max,
+        CellFold::Least => Op::Min,
+    }
+}
+
+/// What a cell is worth in a fold of cells, as a word.
+fn worth_of(f: CellFold) -> Atom
+    ensures { cell_word f ≡ Leaf result }
+{
+    match f {
+        CellFold::Ones | CellFold::Width => Atom::Unit,
+        CellFold::Surf | CellFold::Greatest | CellFold::Least => Atom::This,
+    }
+}
+
+/// Whether an expression is what a wide automaton finds of D and a cell, less the least.
+fn is_found(f: CellFold, e: &Expr) -> bool
+    ensures { result ≡ true → formula e.now ≡ found_of true (Fold (cell_op f)) (cell_word f) }
+{
+    match e {
+        Expr::Sub(a, b) => {
+            is_two(a, op_of(f), Atom::D, worth_of(f)) && is_two(b, Op::Min, Atom::F, Atom::This)
+        }
+        _ => false,
+    }
+}
+
+/// Whether an expression is what R takes in by a move of a shape, in a wide automaton.
+fn is_taken_in(s: Shape, e: &Expr) -> bool
+    ensures { result ≡ true → formula e.now ≡ taken_in s }
+{
+    match s {
+        Shape::Ended(_, f) => is_found(f, e),
+        _ => is_held(e),
+    }
+}
+
+/// Whether an expression joins R by the fold of ranges with what it takes in by a move of a shape.
+fn is_joined(g: RangeFold, s: Shape, e: &Expr) -> bool
+    ensures { result ≡ true → formula e.now ≡ Join (Fold (range_op g)) (Leaf R) (taken_in s) }
+{
+    match (g, e) {
+        (RangeFold::Sum, Expr::Add(a, b)) => is_word(a, Atom::R) && is_taken_in(s, b),
+        (RangeFold::Highest, Expr::Max(a, b)) => is_word(a, Atom::R) && is_taken_in(s, b),
+        (RangeFold::Lowest, Expr::Min(a, b)) => is_word(a, Atom::R) && is_taken_in(s, b),
+        _ => false,
+    }
+}
+
+/// Whether an expression is that of R in a move of a shape, in a wide automaton.
+fn is_wide_result(s: Shape, e: &Expr) -> bool
+    ensures { result ≡ true → formula e.now ≡ wide_result s }
+{
+    match s {
+        Shape::Ended(g, _) => is_joined(g, s, e),
+        Shape::Anew(g, _) => is_joined(g, s, e),
+        _ => is_word(e, Atom::R),
+    }
+}
+
+/// The words of R in a narrow automaton, where the wide one joins it with what it holds or finds.
+fn narrow_words(o: Op, taken: &Expr) -> Words {
+    if is_held(taken) {
+        Words::Two(o, Atom::R, Atom::C)
+    } else {
+        Words::Three(o, Atom::R, Op::Max, Atom::D, Atom::This)
+    }
+}
+
+/// The words of R in a narrow automaton that folds the greatest cells as the wide one does.
+fn narrow_result(e: &Expr) -> Option<Words> {
+    match e {
+        Expr::R => Some(Words::Word(Atom::R)),
+        Expr::Add(_, b) => Some(narrow_words(Op::Add, b)),
+        Expr::Max(_, b) => Some(narrow_words(Op::Max, b)),
+        Expr::Min(_, b) => Some(narrow_words(Op::Min, b)),
+        _ => None,
     }
 }
 

@@ -10,7 +10,9 @@ ghost use Rattle.ts_row.specs.Plans.{
   cell_op,
   cell_start,
   cell_word,
+  ended_fronts,
   found_fronts,
+  found_of,
   held_of,
   inside_fronts,
   longer_fronts,
@@ -219,6 +221,78 @@ fn inside_as<const N: usize, O: Operator, W: Front, V: Front>(
     sweep_as(parts, on, t, next)
 }
 
+/// A move that joins `R` with what was found, and resets `D`.
+#[inline(never)]
+fn ended_as<const N: usize, O: Operator, X: Front, V: Front>(
+    by: O,
+    found: X,
+    start: V,
+    on: On,
+    t: &Between<'_, N>,
+    next: &mut [PackedHull<N>],
+) -> bool
+    requires covered { IsCovered N t.now }
+    requires next_packed { IsColumn N (count_in t.now.next_values) next.old }
+    ensures packed { IsColumn N (count_in t.now.next_values) next.new }
+    ensures taken { result ≡ true → MovesAs N t.now on
+        (ended_fronts (O.op by) (X.formula found) (V.formula start)) next.old next.new }
+    ensures kept { result ≡ false → next.new ≡ next.old }
+{
+    let parts = Parts {
+        c: Whole {
+            front: Register::<0>,
+        },
+        e: Whole {
+            front: Register::<1>,
+        },
+        d: Whole { front: start },
+        f: Whole { front: High },
+        r: Whole {
+            front: Join {
+                by,
+                left: Register::<4>,
+                right: found,
+            },
+        },
+    };
+    sweep_as(parts, on, t, next)
+}
+
+/// A move that joins `R` with what a row of the width finds of `D` and a word, in a wide one less the least.
+#[inline(always)]
+fn ended_by<const N: usize, O: Operator, P: Operator, W: Front, V: Front>(
+    by: O,
+    fold: P,
+    word: W,
+    start: V,
+    on: On,
+    t: &Between<'_, N>,
+    next: &mut [PackedHull<N>],
+) -> bool
+    requires covered { IsCovered N t.now }
+    requires next_packed { IsColumn N (count_in t.now.next_values) next.old }
+    ensures packed { IsColumn N (count_in t.now.next_values) next.new }
+    ensures taken { result ≡ true → MovesAs N t.now on (ended_fronts (O.op by)
+        (found_of (is_wide N) (P.op fold) (W.formula word)) (V.formula start)) next.old next.new }
+    ensures kept { result ≡ false → next.new ≡ next.old }
+{
+    let whole = Join {
+        by: fold,
+        left: Register::<2>,
+        right: word,
+    };
+    if PackedHull::<N>::is_wide() {
+        let less = Join {
+            by: Minus,
+            left: whole,
+            right: least(Register::<3>),
+        };
+        ended_as(by, less, start, on, t, next)
+    } else {
+        ended_as(by, whole, start, on, t, next)
+    }
+}
+
 /// A move that joins `R` with what is held, and resets that and `D`.
 #[inline(never)]
 fn anew_as<const N: usize, O: Operator, U: Front, X: Front, V: Front>(
@@ -376,6 +450,56 @@ fn inside<const N: usize>(
     }
 }
 
+/// Takes in a move of the shape `Ended`, with any operator for the ranges.
+#[inline(always)]
+fn ended_from<const N: usize, P: Operator, W: Front, V: Front>(
+    g: RangeFold,
+    fold: P,
+    word: W,
+    start: V,
+    on: On,
+    t: &Between<'_, N>,
+    next: &mut [PackedHull<N>],
+) -> bool
+    requires covered { IsCovered N t.now }
+    requires next_packed { IsColumn N (count_in t.now.next_values) next.old }
+    ensures packed { IsColumn N (count_in t.now.next_values) next.new }
+    ensures taken { result ≡ true → MovesAs N t.now on (ended_fronts (Fold (range_op g))
+        (found_of (is_wide N) (P.op fold) (W.formula word)) (V.formula start)) next.old next.new }
+    ensures kept { result ≡ false → next.new ≡ next.old }
+{
+    match g {
+        RangeFold::Sum => ended_by(Plus, fold, word, start, on, t, next),
+        RangeFold::Highest => ended_by(Greater, fold, word, start, on, t, next),
+        RangeFold::Lowest => ended_by(Lesser, fold, word, start, on, t, next),
+    }
+}
+
+/// Takes in a move of the shape `Ended`.
+#[inline(always)]
+fn ended<const N: usize>(
+    g: RangeFold,
+    f: CellFold,
+    on: On,
+    t: &Between<'_, N>,
+    next: &mut [PackedHull<N>],
+) -> bool
+    requires covered { IsCovered N t.now }
+    requires next_packed { IsColumn N (count_in t.now.next_values) next.old }
+    ensures packed { IsColumn N (count_in t.now.next_values) next.new }
+    ensures taken { result ≡ true → MovesAs N t.now on (ended_fronts (Fold (range_op g))
+        (found_of (is_wide N) (Fold (cell_op f)) (cell_word f)) (cell_start f)) next.old next.new }
+    ensures kept { result ≡ false → next.new ≡ next.old }
+{
+    match f {
+        CellFold::Ones => ended_from(g, Greater, One, One, on, t, next),
+        CellFold::Width => ended_from(g, Plus, One, Zero, on, t, next),
+        CellFold::Surf => ended_from(g, Plus, This, Zero, on, t, next),
+        CellFold::Greatest => ended_from(g, Greater, This, Low, on, t, next),
+        CellFold::Least => ended_from(g, Lesser, This, High, on, t, next),
+    }
+}
+
 /// Takes in a move of the shape `Anew`, with any operator for the ranges.
 #[inline(always)]
 fn anew_from<const N: usize, V: Front>(
@@ -442,6 +566,7 @@ pub(crate) fn take_shape<const N: usize>(
         Shape::Begun(f) => begun(f, on, t, next),
         Shape::Found(f) => found(f, on, t, next),
         Shape::Inside(f) => inside(f, on, t, next),
+        Shape::Ended(g, f) => ended(g, f, on, t, next),
         Shape::Anew(g, f) => anew(g, f, on, t, next),
         Shape::Other => false,
     }
