@@ -333,10 +333,10 @@ module _ (a b : EachOf Ends) where
       free_taken (Fold g.result) _ _ e,
     )
 
-    apart_taken : (g : Gluing) → IsPlain g a b → g.joins ≡ false → (v : Bool) → is_add g.result ≡ v →
+    apart_narrow : (g : Gluing) → IsPlain g a b → g.joins ≡ false → (v : Bool) → is_add g.result ≡ v →
         GlueTakes TakesPlain plain_values a b (apart false g.result)
-    apart_taken g plain j true e =
-        let rs = plain.results e in let cs = plain.apart e j in let o = Fold g.result in
+    apart_narrow g plain j true e =
+        let rs = plain.results e in let cs = plain.apart (right_or g.wide (is_add g.result) e) j in let o = Fold g.result in
         let ar = small a.r some_a.4 rs.0 in let ac = small a.c some_a.0 cs.0 in
         let br = small b.r some_b.4 rs.1 in let bc = small b.c some_b.0 cs.1 in (
           (tt, tt, both_taken o 1 1 a.r a.c (omega arith) (omega arith) ar ac),
@@ -344,22 +344,51 @@ module _ (a b : EachOf Ends) where
           both_taken o 2 2 (plain_by o a.r a.c) (plain_by o b.r b.c) (omega arith) (omega arith) (both_within o 1 1 a.r a.c ar ac)
               (both_within o 1 1 b.r b.c br bc),
         )
-    apart_taken g plain j false e = (
+    apart_narrow g plain j false e = (
       (tt, tt, free_taken (Fold g.result) _ _ e),
       (tt, tt, free_taken (Fold g.result) _ _ e),
       free_taken (Fold g.result) _ _ e,
     )
 
-    plain_by_joins : (g : Gluing) → IsCellValue g.worth → IsPlain g a b → (v : Bool) → g.joins ≡ v →
-        GlueTakes TakesPlain plain_values a b (cond v (join_of g.result (fold_of false g.fold (part_by g))) (apart false g.result))
-    plain_by_joins g h plain true e = joined_taken g h plain e (is_add g.result) refl
-    plain_by_joins g h plain false e = apart_taken g plain e (is_add g.result) refl
+    -- the greatest less the least
+    abbrev spread : EachOf Ends → Ends
+    spread s = plain_by Sub s.c s.e
+
+    spread_taken : (s : EachOf Ends) → AreSomeEnds s → ArePlain s.c → ArePlain s.e → TakesPlain Sub s.c s.e × AreWithin 2 (spread s)
+    spread_taken s some c e =
+        let x = small s.c some.0 c in let y = small s.e some.1 e in
+        (both_taken Sub 1 1 s.c s.e (omega arith) (omega arith) x y, both_within Sub 1 1 s.c s.e x y)
+
+    apart_wide : (g : Gluing) → IsPlain g a b → g.joins ≡ false → g.wide ≡ true → (v : Bool) → is_add g.result ≡ v →
+        GlueTakes TakesPlain plain_values a b (apart true g.result)
+    apart_wide g plain j w v e =
+        let cs = plain.apart (left_or g.wide (is_add g.result) w) j in let es = plain.away w in
+        by_sum v e (spread_taken a some_a cs.0 es.1) (spread_taken b some_b cs.1 es.2)
+      where
+        o : Operator
+        o = Fold g.result
+
+        by_sum : (v : Bool) → is_add g.result ≡ v → TakesPlain Sub a.c a.e × AreWithin 2 (spread a) →
+            TakesPlain Sub b.c b.e × AreWithin 2 (spread b) → GlueTakes TakesPlain plain_values a b (apart true g.result)
+        by_sum true e p q =
+            let rs = plain.results e in let ar = small a.r some_a.4 rs.0 in let br = small b.r some_b.4 rs.1 in (
+              (tt, (tt, tt, p.0), both_taken o 1 2 a.r (spread a) (omega arith) (omega arith) ar p.1),
+              (tt, (tt, tt, q.0), both_taken o 1 2 b.r (spread b) (omega arith) (omega arith) br q.1),
+              both_taken o 3 3 (plain_by o a.r (spread a)) (plain_by o b.r (spread b)) (omega arith) (omega arith)
+                  (both_within o 1 2 a.r (spread a) ar p.1) (both_within o 1 2 b.r (spread b) br q.1),
+            )
+        by_sum false e p q =
+            ((tt, (tt, tt, p.0), free_taken o _ _ e), (tt, (tt, tt, q.0), free_taken o _ _ e), free_taken o _ _ e)
+
+    plain_by_shape : (g : Gluing) → IsCellValue g.worth → IsPlain g a b → (wide joins : Bool) → g.wide ≡ wide → g.joins ≡ joins →
+        GlueTakes TakesPlain plain_values a b (cond joins (join_of g.result (fold_of wide g.fold (part_by g))) (apart wide g.result))
+    plain_by_shape g h plain false true w j = joined_taken g h plain j (is_add g.result) refl
+    plain_by_shape g h plain false false w j = apart_narrow g plain j (is_add g.result) refl
+    plain_by_shape g h plain true true w j = never_added (sym j ∙ (plain.away w).0)
+    plain_by_shape g h plain true false w j = apart_wide g plain j w (is_add g.result) refl
 
     pub plain_takes : (g : Gluing) → IsCellValue g.worth → IsPlain g a b → GlueTakes TakesPlain plain_values a b (expression g)
-    plain_takes g h plain =
-        subst
-        (λ w. GlueTakes TakesPlain plain_values a b (cond g.joins (join_of g.result (fold_of w g.fold (part_by g))) (apart w g.result)))
-        (sym plain.narrow) (plain_by_joins g h plain g.joins refl)
+    plain_takes g h plain = plain_by_shape g h plain g.wide g.joins refl refl
 
 pub trims_is : (a : ℕ) → nat_lt 0 a ≡ leaves_out a
 trims_is zero = refl

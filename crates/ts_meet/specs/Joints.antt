@@ -37,11 +37,11 @@ pub record IsFoldPlain (g : Gluing) (left right : EachOf Ends) : Type 0 where
   pub left_c : folds_held g.trims g.held_left ≡ true → ArePlain left.c
   pub right_c : folds_held g.trims g.held_right ≡ true → ArePlain right.c
 
--- nor of one that is added; nothing is taken away
+-- nor of one that is added or taken away; nothing is taken away from an occurrence that goes on
 pub record IsPlain (g : Gluing) (left right : EachOf Ends) : Type 0 where
-  pub narrow : g.wide ≡ false
   pub results : is_add g.result ≡ true → ArePlain left.r × ArePlain right.r
-  pub apart : is_add g.result ≡ true → g.joins ≡ false → ArePlain left.c × ArePlain right.c
+  pub apart : (g.wide || is_add g.result) ≡ true → g.joins ≡ false → ArePlain left.c × ArePlain right.c
+  pub away : g.wide ≡ true → (g.joins ≡ false) × ArePlain left.e × ArePlain right.e
   pub folded : (is_add g.result || is_add g.fold) ≡ true → g.joins ≡ true → IsFoldPlain g left right
 
 -- an occurrence leaves a cell out at its end

@@ -8,6 +8,7 @@ ghost use Rattle.ts_glue.specs.Glue.{GlueTakes, fold_of, folded_between, folded_
 ghost use Rattle.ts_hull.specs.Sealed.{sealed_spans};
 ghost use Rattle.ts_meet.specs.Joints.{IsFoldPlain, IsPlain, expression, folds_held, is_add, part_by};
 ghost use Rattle.ts_meet.specs.Sides.{ends_in};
+ghost use Rattle.ts_sweep.specs.Fronts.{ArePlain};
 ghost use Rattle.ts_sweep.specs.Packed.{AreSome, IsPackOf, unpacked};
 
 use crate::side::{Side, are_plain};
@@ -32,8 +33,8 @@ pub(crate) struct Gluing {
 }
 
 impl Gluing {
-    /// The glued ends of two hulls before the mark. If all numbers that are added are small, sums are those of the
-    /// lanes; otherwise they are clamped.
+    /// The glued ends of two hulls before the mark. If all numbers that are added or taken away are small, sums are
+    /// those of the lanes; otherwise they are clamped.
     #[inline(always)]
     pub(crate) fn glued<const N: usize>(self, left: &PackedHull<N>, right: &PackedHull<N>) -> Ends
         requires registers { 6 ≤ N }
@@ -208,21 +209,20 @@ impl Gluing {
         S::number(opposite(self.worth))
     }
 
-    /// Whether all numbers that are added are small. It is false for wide automata, where what is open is infinite in
-    /// most states.
+    /// Whether all numbers that are added or taken away are small. It is false where one occurrence goes on between wide
+    /// automata: what is open is infinite in most of their states.
     #[inline(always)]
     fn is_plain(self, left: Side, right: Side) -> bool
         ensures { result ≡ true → IsPlain self (ends_in left) (ends_in right) }
     {
-        if self.wide {
-            return false;
-        }
         let adds = is_add(self.result);
         if adds && !(are_plain(left.r) && are_plain(right.r)) {
             return false;
         }
         if self.joins {
-            !(adds || is_add(self.fold)) || self.is_fold_plain(left, right)
+            !self.wide && (!(adds || is_add(self.fold)) || self.is_fold_plain(left, right))
+        } else if self.wide {
+            is_held_plain(left) && is_held_plain(right)
         } else {
             !adds || are_plain(left.c) && are_plain(right.c)
         }
@@ -238,6 +238,14 @@ impl Gluing {
             && (!folds_held(self.trims, self.held_left) || are_plain(left.c))
             && (!folds_held(self.trims, self.held_right) || are_plain(right.c))
     }
+}
+
+/// Whether what is held of an occurrence lies between small numbers, the greatest and the least of its cells.
+#[inline(always)]
+fn is_held_plain(side: Side) -> bool
+    ensures { result ≡ true → ArePlain side.c × ArePlain side.e }
+{
+    are_plain(side.c) && are_plain(side.e)
 }
 
 /// Whether an operator adds.
