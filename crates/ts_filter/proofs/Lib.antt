@@ -28,3 +28,4 @@ mod CellLaws
 mod TableSteps
 mod MeetLaws
 mod EnoughEnds
+mod RoomLaws

@@ -19,6 +19,7 @@ pub mod PartLaws
 pub mod Question
 pub mod Reading
 pub mod RefutedWorseDrop
+pub mod Room
 pub mod RowStacks
 pub mod Rules
 pub mod SoFar

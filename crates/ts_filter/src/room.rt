@@ -1,5 +1,12 @@
 //! Whether the rows of all machines may be kept from box to box.
 
+ghost use Rattle.std.specs.Prelude.{◌≡◌, ◌<◌, ◌≤◌, ◌+◌, ◌*◌, IsTrue, length, map};
+ghost use Rattle.ts_bound.specs.Blocks.{back_states};
+ghost use Rattle.ts_bound.specs.Looks.{is_looked};
+ghost use Rattle.ts_bound.specs.TermSpans.{automata_of};
+ghost use Rattle.ts_filter.specs.Room.{AtLeast, all_bytes, counted_at, hull_bytes, most_bytes, row_bytes, values_from};
+ghost use Rattle.ts_glue.specs.Machines.{forward_of, pair_of};
+
 use ts_base::Range;
 use ts_bound::is_looked;
 use ts_domain::Domain;
@@ -20,28 +27,64 @@ pub(crate) const SMALL_ROW: usize = 16;
 
 /// Whether the rows of these machines, of a box with at most these values in its cells, take no more. A machine with a
 /// window has rows of the cells of it alone.
-pub(crate) fn has_room(machines: &[Machine], cells: &[Domain]) -> bool {
-    let mut bytes = 0u64;
+pub(crate) fn has_room(machines: &[Machine], cells: &[Domain]) -> bool
+    ensures { IsTrue result → all_bytes (map automata_of machines.now) cells.now ≤ most_bytes }
+{
+    let mut bytes = 0;
     for m in machines {
-        let hulls = values_of(m.window(), cells).saturating_mul(states_of(m));
-        bytes = bytes.saturating_add(hulls.saturating_mul(hull_of(m)));
+        bytes = sum(bytes, bytes_of(m, cells));
     }
     bytes <= MOST / 2
 }
 
+/// How many bytes the rows of a machine take, of a box with these cells.
+fn bytes_of(m: &Machine, cells: &[Domain]) -> u64
+    ensures { AtLeast (row_bytes (automata_of m.now) cells.now) result }
+{
+    let hulls = product(values_of(m.window(), cells), states_of(m));
+    product(hulls, hull_of(m))
+}
+
+/// The sum of two numbers, or the greatest number.
+fn sum(a: u64, b: u64) -> u64
+    ensures { AtLeast (a + b) result }
+{
+    a.saturating_add(b)
+}
+
+/// The product of two numbers, or the greatest number.
+fn product(a: u64, b: u64) -> u64
+    ensures { AtLeast (a * b) result }
+{
+    a.saturating_mul(b)
+}
+
 /// How many values the cells have together that are looked at. A cell counts for half of `SMALL_ROW` at least.
-fn values_of(window: Option<Range>, cells: &[Domain]) -> u64 {
-    let mut values = 0u64;
+fn values_of(window: Option<Range>, cells: &[Domain]) -> u64
+    ensures { AtLeast (values_from window 1 cells.now) result }
+{
+    let mut values = 0;
     for i in 0..cells.len() {
-        if is_inside(window, i) {
-            values = values.saturating_add(cells[i].size().max(SMALL_ROW as u64 / 2));
-        }
+        values = sum(values, counted(window, i, &cells[i]));
     }
     values
 }
 
+/// What the cell at place `i`, counted from 0, counts for, if it is looked at.
+fn counted(window: Option<Range>, i: usize, domain: &Domain) -> u64
+    ensures { counted_at window (i + 1) domain.now ≤ result }
+{
+    if is_inside(window, i) {
+        domain.size().max(SMALL_ROW as u64 / 2)
+    } else {
+        0
+    }
+}
+
 /// Whether the cell at place `i`, counted from 0, is looked at.
-fn is_inside(window: Option<Range>, i: usize) -> bool {
+fn is_inside(window: Option<Range>, i: usize) -> bool
+    ensures { IsTrue (is_looked window (i + 1)) → IsTrue result }
+{
     match u32::try_from(i.saturating_add(1)) {
         Ok(k) => is_looked(window, k),
         Err(_) => true,
@@ -49,7 +92,9 @@ fn is_inside(window: Option<Range>, i: usize) -> bool {
 }
 
 /// What a hull of the machine takes: both automata have one width.
-fn hull_of(m: &Machine) -> u64 {
+fn hull_of(m: &Machine) -> u64
+    ensures { result ≡ hull_bytes (forward_of m.now) }
+{
     if m.forward().wide() {
         WIDE_HULL
     } else {
@@ -58,7 +103,10 @@ fn hull_of(m: &Machine) -> u64 {
 }
 
 /// How many states the automata of the machine have, the forward and the reverse one.
-fn states_of(m: &Machine) -> u64 {
+fn states_of(m: &Machine) -> u64
+    ensures count { result ≡ length (forward_of m.now).states + back_states (pair_of m.now) }
+    ensures some { 0 < result }
+{
     let reverse = match m.reverse() {
         Some(a) => a.states(),
         None => 0,
