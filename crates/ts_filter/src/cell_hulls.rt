@@ -25,7 +25,7 @@ use ts_domain::{Boxed, Domain};
 use ts_glue::Machine;
 use ts_meet::{Joints, Spot};
 
-/// For how many places of a cell or more pairs of states are followed along the places.
+/// After a value that pairs of states don't settle they are followed along the places if so many are left or more.
 const MANY_PLACES: u64 = 16;
 
 /// The row of a cell of the reverse automaton, and how it is glued to the forward one.
@@ -154,8 +154,7 @@ impl<'a> CellHulls<'a> {
     }
 
     /// The place up to which, from the place `from` on, the spans of the values have what is asked, as pairs of states
-    /// show whatever values are there. Of the places from there up to `to` nothing is known; of a few places nothing is
-    /// found, as it takes less to ask them one by one.
+    /// show whatever values are there. Of the places from there up to `to` nothing is known.
     pub(crate) fn settled_to(&self, asked: Question<'_>, from: u64, to: u64) -> u64
         requires order { from ≤ to }
         requires inside { to ≤ length (values_at self.now.cell self.now.cells) }
@@ -164,7 +163,7 @@ impl<'a> CellHulls<'a> {
         ensures met { AreMet asked.entry self.now from result }
     {
         match self.back {
-            Some(back) if to - from >= MANY_PLACES => met_to(
+            Some(back) => met_to(
                 asked,
                 self.machine,
                 self.row,
@@ -174,8 +173,23 @@ impl<'a> CellHulls<'a> {
                 from,
                 to,
             ),
-            _ => from,
+            None => from,
         }
+    }
+
+    /// The place up to which the spans of the values from the place `from` on have what is asked, as far as it pays to
+    /// look: after a value that pairs of states don't settle, few are asked one by one at less cost.
+    pub(crate) fn settled_further(&self, asked: Question<'_>, from: u64, to: u64) -> u64
+        requires order { from ≤ to }
+        requires inside { to ≤ length (values_at self.now.cell self.now.cells) }
+        ensures from { from ≤ result }
+        ensures to { result ≤ to }
+        ensures met { AreMet asked.entry self.now from result }
+    {
+        if to - from < MANY_PLACES {
+            return from;
+        }
+        self.settled_to(asked, from, to)
     }
 
     /// A span with that of the value `v` at place `i` added; none once a number does what is asked.

@@ -279,7 +279,7 @@ fn drop_in_cell(hulls: &CellHulls<'_>, own: TermRequirements<'_>) -> Option<Remo
                 require,
             });
         }
-        i = hulls.settled_to(asked, i + 1, values.size());
+        i = hulls.settled_further(asked, i + 1, values.size());
     }
     None
 }

@@ -43,11 +43,11 @@ loop-i-preserved c =
     (sym (ap (λ l. slice_get l c.loop-i.i) c.values-values.ensures.values) ∙ c.nth-value.ensures) in
     let rest = fewer_left_as own.all.now own.term t.machine t.cells t.cell (drop c.loop-i.i all) (drop (c.loop-i.i + 1) all) c.nth-value.result _
     (to_z-of_z w64 c.nth-value.result fits) c.loop-i.invariant.1 left c.in_default.ensures in
-    let to = c.settled_to-i-in-loop-i.ensures.to in let size = c.size-in-loop-i-2.ensures.size in
-    let within : c.settled_to-i-in-loop-i.result ≤ length all = omega (arith, long, to, size) in (
+    let to = c.settled_further-i.ensures.to in let size = c.size-in-loop-i-2.ensures.size in
+    let within : c.settled_further-i.result ≤ length all = omega (arith, long, to, size) in (
       within,
       left_met own.all.now own.term t.machine t.cells t.cell c.each_met-asked.result c.each_met-asked.ensures (c.loop-i.i + 1)
-          c.settled_to-i-in-loop-i.result c.settled_to-i-in-loop-i.ensures.from within c.settled_to-i-in-loop-i.ensures.met rest,
+          c.settled_further-i.result c.settled_further-i.ensures.from within c.settled_further-i.ensures.met rest,
     )
 
 pub returns : goal.returns
