@@ -1,5 +1,6 @@
 -- The text of lines, part by part.
-use Rattle.std.proofs.Common.{◌≡◌, ℕ, List, [], ◌∷◌, ◌++◌, refl, sym, ap, ◌∙◌, append_assoc, append-nil}
+use Rattle.std.proofs.Common.{◌≡◌, ℕ, ◌+◌, ◌<◌, List, [], ◌∷◌, ◌++◌, length, drop, get_or, refl, sym, ap, ◌∙◌, append_assoc, append-nil}
+use Rattle.std.proofs.lemmas.List.{at_drop_more}
 use Rattle.ts_certificate.specs.Grammar.{CertLine, line_text}
 use Rattle.ts_certificate.specs.Certificate.{lines_text}
 
@@ -7,6 +8,14 @@ pub lines_text-append : (xs ys : List CertLine) → lines_text (xs ++ ys) ≡ li
 lines_text-append [] ys = refl
 lines_text-append (x ∷ xs) ys = ap (λ (t : List ℕ). line_text x ++ t) (lines_text-append xs ys)
     ∙ sym (append_assoc (line_text x) (lines_text xs) (lines_text ys))
+
+-- one more part is behind the text; `all` is the text of all parts
+pub one_more : {A : Type 0} (part : A → List ℕ) (all : List A → List ℕ) → ((x : A) (xs : List A) → all (x ∷ xs) ≡ part x ++ all xs) →
+    (xs : List A) (i : ℕ) (d : A) (old new whole : List ℕ) → i < length xs → new ≡ old ++ part (get_or xs i d) →
+    old ++ all (drop i xs) ≡ whole → new ++ all (drop (i + 1) xs) ≡ whole
+one_more part all law xs i d old new whole low is so_far =
+    ap (λ (t : List ℕ). t ++ all (drop (i + 1) xs)) is ∙ append_assoc old (part (get_or xs i d)) (all (drop (i + 1) xs))
+    ∙ ap (λ (t : List ℕ). old ++ t) (sym (at_drop_more all xs i d low ∙ law (get_or xs i d) (drop (i + 1) xs))) ∙ so_far
 
 pub five_parts : (aim claim : List ℕ) (series tree : List CertLine) (last : CertLine) (t0 t1 t2 t3 t4 t5 : List ℕ) → t0 ≡ [] → t1 ≡ t0 ++ aim →
     t2 ≡ t1 ++ claim → t3 ≡ t2 ++ lines_text series → t4 ≡ t3 ++ lines_text tree → t5 ≡ t4 ++ line_text last →

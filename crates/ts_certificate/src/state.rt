@@ -10,7 +10,7 @@ use crate::certificate::{Aim, Claim, Parsed, TreeLine};
 
 /// What may come next: the aim; the claim on an aim; so many series lines, at least one; the tree, after so many
 /// lines of it, and then its end; nothing.
-#[derive(Clone, Copy, Debug, PartialEq, Eq)]
+#[derive(Clone, Copy)]
 pub enum State {
     Start,
     AfterAim(Aim),

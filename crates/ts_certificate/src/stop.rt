@@ -9,7 +9,7 @@ use thiserror::Error;
 
 /// Why a line is not taken: it is against the grammar, or it is an end line with another count than was found, or
 /// memory was refused.
-#[derive(Clone, Copy, Debug, PartialEq, Eq)]
+#[derive(Clone, Copy)]
 pub enum LineStop {
     Grammar,
     Counts { said: u64, found: u64 },

@@ -1,6 +1,7 @@
 //! The lines of a tree.
 
 ghost use Rattle.std.specs.Prelude.{◌≡◌};
+ghost use Rattle.std.specs.Str.{bytes_eq};
 ghost use Rattle.ts_base.specs.Words.{words_seen, more_seen};
 ghost use Rattle.ts_certificate.specs.TreeLines.{split_of, remove_of, no_of, worse_of, tree_of};
 
@@ -14,10 +15,10 @@ fn split_of(rest: Option<&[u8]>) -> Option<TreeLine>
     ensures { result ≡ split_of (more_seen rest.entry) }
 {
     let (k, t) = two_words(rest)?;
-    Some(TreeLine::Split {
-        k: cell_of(k)?,
-        t: value_of(t)?,
-    })
+    let (Some(k), Some(t)) = (cell_of(k), value_of(t)) else {
+        return None;
+    };
+    Some(TreeLine::Split { k, t })
 }
 
 /// The words behind `drop`: a cell, the value that it loses, and the requirement that refutes it.
@@ -25,11 +26,10 @@ fn remove_of(rest: Option<&[u8]>) -> Option<TreeLine>
     ensures { result ≡ remove_of (more_seen rest.entry) }
 {
     let (k, v, j) = three_words(rest)?;
-    Some(TreeLine::Remove {
-        k: cell_of(k)?,
-        v: value_of(v)?,
-        j: requirement_of(j)?,
-    })
+    let (Some(k), Some(v), Some(j)) = (cell_of(k), value_of(v), requirement_of(j)) else {
+        return None;
+    };
+    Some(TreeLine::Remove { k, v, j })
 }
 
 /// The words behind `no`: a requirement, and the cell at which it is refuted.
@@ -37,10 +37,10 @@ fn no_of(rest: Option<&[u8]>) -> Option<TreeLine>
     ensures { result ≡ no_of (more_seen rest.entry) }
 {
     let (j, p) = two_words(rest)?;
-    Some(TreeLine::No {
-        j: requirement_of(j)?,
-        p: cell_of(p)?,
-    })
+    let (Some(j), Some(p)) = (requirement_of(j), cell_of(p)) else {
+        return None;
+    };
+    Some(TreeLine::No { j, p })
 }
 
 /// The word behind `worse`: the cell at which the objective is no better.
@@ -51,21 +51,28 @@ fn worse_of(rest: Option<&[u8]>) -> Option<TreeLine>
     Some(TreeLine::Worse { p })
 }
 
+/// Whether a word is this one. In a chain of such tests a call has fewer parts to prove than a comparison.
+fn is_word(word: &[u8], this: &[u8]) -> bool
+    ensures { result ≡ bytes_eq word.now this.now }
+{
+    word == this
+}
+
 /// The line of the tree that these words are.
 pub(crate) fn tree_of(words: &Words<'_>) -> Option<TreeLine>
     ensures { result ≡ tree_of (words_seen words.now) }
 {
-    if words.first == b"split".as_slice() {
+    if is_word(words.first, b"split") {
         split_of(words.rest)
-    } else if words.first == b"no".as_slice() {
+    } else if is_word(words.first, b"no") {
         no_of(words.rest)
-    } else if words.first == b"worse".as_slice() {
+    } else if is_word(words.first, b"worse") {
         worse_of(words.rest)
-    } else if words.first == b"drop".as_slice() {
+    } else if is_word(words.first, b"drop") {
         remove_of(words.rest)
-    } else if words.first == b"yes".as_slice() {
+    } else if is_word(words.first, b"yes") {
         alone(words.rest, TreeLine::Yes)
-    } else if words.first == b"open".as_slice() {
+    } else if is_word(words.first, b"open") {
         alone(words.rest, TreeLine::Unsearched)
     } else {
         None

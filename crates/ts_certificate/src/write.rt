@@ -7,7 +7,7 @@ ghost use Rattle.ts_base.specs.Words.{behind, full_line};
 ghost use Rattle.ts_certificate.specs.Certificate.{cert_seen, certificate_text, series_text, tree_text};
 ghost use Rattle.ts_certificate.specs.Certificate.{checked_count, open_count, end_line};
 ghost use Rattle.ts_certificate.specs.Grammar.{line_text};
-ghost use Rattle.ts_certificate.specs.HeadLines.{aim_words, claim_words, series_words};
+ghost use Rattle.ts_certificate.specs.HeadLines.{aim_words, claim_words};
 ghost use Rattle.ts_certificate.specs.Ranges.{count_text};
 ghost use Rattle.ts_certificate.specs.TreeLines.{tree_words};
 
@@ -31,36 +31,29 @@ fn push_count(text: &mut Vec<u8>, n: u32) -> Result<(), Memory>
     push_spaced(text, i64::from(n))
 }
 
+/// Puts the line of a word and numbers behind `text`.
+fn push_line(text: &mut Vec<u8>, first: &[u8], numbers: &[i64]) -> Result<(), Memory>
+    ensures { OnOk result (text.new.items ≡ text.old.items
+        ++ full_line (record { first = first.now; more = map signed_decimal numbers.now })) }
+{
+    text.extend_from_slice(first)?;
+    push_values(text, numbers)?;
+    text.push(b'\n')?;
+    Ok(())
+}
+
 /// Puts a tree line behind `text`.
 fn push_tree_line(text: &mut Vec<u8>, line: TreeLine) -> Result<(), Memory>
     ensures { OnOk result (text.new.items ≡ text.old.items ++ full_line (tree_words line)) }
 {
     match line {
-        TreeLine::Split { k, t } => {
-            text.extend_from_slice(b"split")?;
-            push_count(text, k)?;
-            push_spaced(text, t)?;
-        }
-        TreeLine::Remove { k, v, j } => {
-            text.extend_from_slice(b"drop")?;
-            push_count(text, k)?;
-            push_spaced(text, v)?;
-            push_count(text, j)?;
-        }
-        TreeLine::No { j, p } => {
-            text.extend_from_slice(b"no")?;
-            push_count(text, j)?;
-            push_count(text, p)?;
-        }
-        TreeLine::Worse { p } => {
-            text.extend_from_slice(b"worse")?;
-            push_count(text, p)?;
-        }
-        TreeLine::Yes => text.extend_from_slice(b"yes")?,
-        TreeLine::Unsearched => text.extend_from_slice(b"open")?,
+        TreeLine::Split { k, t } => push_line(text, b"split", &[i64::from(k), t]),
+        TreeLine::Remove { k, v, j } => push_line(text, b"drop", &[i64::from(k), v, i64::from(j)]),
+        TreeLine::No { j, p } => push_line(text, b"no", &[i64::from(j), i64::from(p)]),
+        TreeLine::Worse { p } => push_line(text, b"worse", &[i64::from(p)]),
+        TreeLine::Yes => push_line(text, b"yes", &[]),
+        TreeLine::Unsearched => push_line(text, b"open", &[]),
     }
-    text.push(b'\n')?;
-    Ok(())
 }
 
 /// Puts the aim line behind `text`.
@@ -68,15 +61,10 @@ fn push_aim(text: &mut Vec<u8>, aim: Aim) -> Result<(), Memory>
     ensures { OnOk result (text.new.items ≡ text.old.items ++ full_line (aim_words aim)) }
 {
     match aim {
-        Aim::Best(Goal::Maximise) => text.extend_from_slice(b"maximise")?,
-        Aim::Best(Goal::Minimise) => text.extend_from_slice(b"minimise")?,
-        Aim::List(count) => {
-            text.extend_from_slice(b"generate")?;
-            push_count(text, count)?;
-        }
+        Aim::Best(Goal::Maximise) => push_line(text, b"maximise", &[]),
+        Aim::Best(Goal::Minimise) => push_line(text, b"minimise", &[]),
+        Aim::List(count) => push_line(text, b"generate", &[i64::from(count)]),
     }
-    text.push(b'\n')?;
-    Ok(())
 }
 
 /// Puts a space and a value behind `text`.
@@ -119,16 +107,6 @@ fn push_claim(text: &mut Vec<u8>, claim: Claim) -> Result<(), Memory>
     Ok(())
 }
 
-/// Puts a series line behind `text`.
-fn push_series(text: &mut Vec<u8>, values: &[i64]) -> Result<(), Memory>
-    ensures { OnOk result (text.new.items ≡ text.old.items ++ full_line (series_words values.now)) }
-{
-    text.extend_from_slice(b"series")?;
-    push_values(text, values)?;
-    text.push(b'\n')?;
-    Ok(())
-}
-
 /// Puts numbers behind `text`, each after a space.
 fn push_values(text: &mut Vec<u8>, values: &[i64]) -> Result<(), Memory>
     ensures { OnOk result (text.new.items ≡ text.old.items ++ behind (map signed_decimal values.now)) }
@@ -144,7 +122,7 @@ fn push_all_series(text: &mut Vec<u8>, series: &[Vec<i64>]) -> Result<(), Memory
     ensures { OnOk result (text.new.items ≡ text.old.items ++ series_text (map (λ v. v.items) series.now)) }
 {
     for values in series {
-        push_series(text, values)?;
+        push_line(text, b"series", values)?;
     }
     Ok(())
 }
