@@ -22,7 +22,7 @@ use ts_regex::Regex;
 use ts_validate::{Kept, Words};
 
 /// What is known of a residual after a letter.
-#[derive(Clone, Copy, Debug, PartialEq, Eq)]
+#[derive(Clone, Copy)]
 pub enum Next {
     /// It wasn't asked yet.
     Unread,
@@ -33,7 +33,7 @@ pub enum Next {
 }
 
 /// The same for each letter.
-#[derive(Clone, Copy, Debug, PartialEq, Eq)]
+#[derive(Clone, Copy)]
 pub struct Nexts {
     pub less: Next,
     pub equal: Next,

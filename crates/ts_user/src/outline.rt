@@ -7,7 +7,7 @@ ghost use Rattle.ts_user.specs.Outlines.{blank_outline, outline_read, byte_outli
 use crate::symbol::{Symbol, symbol_of};
 
 /// What stands at the front of what has been read of a bracket level.
-#[derive(Clone, Copy, Debug, PartialEq, Eq)]
+#[derive(Clone, Copy)]
 pub(crate) enum Front {
     /// Nothing yet, or a `|`.
     Blank,
@@ -19,7 +19,7 @@ pub(crate) enum Front {
 
 /// The front of the innermost bracket level, and how many levels are open around it: all that tells whether an
 /// expression that is read from its end is one.
-#[derive(Clone, Copy, Debug, PartialEq, Eq)]
+#[derive(Clone, Copy)]
 pub(crate) struct Outline {
     pub front: Front,
     pub depth: usize,

@@ -7,7 +7,7 @@ use ts_base::{Kind, Letter};
 use ts_transducer::{Arrow, Phase, Row};
 
 /// How many cells an occurrence leaves out before, at most 2, and after, at most 1.
-#[derive(Clone, Copy, Debug, PartialEq, Eq)]
+#[derive(Clone, Copy)]
 pub(crate) struct Trims {
     pub before: u8,
     pub after: u8,
@@ -16,7 +16,7 @@ pub(crate) struct Trims {
 }
 
 /// A state by its letter, with the moves that stand so far.
-#[derive(Clone, Copy, Debug, PartialEq, Eq)]
+#[derive(Clone, Copy)]
 pub(crate) struct StatedState {
     pub name: u8,
     pub kind: Kind,

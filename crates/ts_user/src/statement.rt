@@ -7,7 +7,7 @@ use ts_pattern::PatternId;
 use ts_transducer::Phase;
 
 /// A move: from a state, on a sign, by a phase letter, to a state; the states by their letters.
-#[derive(Clone, Copy, Debug, PartialEq, Eq)]
+#[derive(Clone, Copy)]
 pub(crate) struct MoveParts {
     pub from: u8,
     pub sign: Option<Letter>,

@@ -6,14 +6,14 @@ ghost use Rattle.ts_user.specs.FromTheEnd.{symbol_of};
 use ts_base::Letter;
 
 /// How often what stands before it comes.
-#[derive(Clone, Copy, Debug, PartialEq, Eq)]
+#[derive(Clone, Copy)]
 pub(crate) enum Repeat {
     AnyTimes,
     OnceOrMore,
 }
 
 /// What a byte of an expression is.
-#[derive(Clone, Copy, Debug, PartialEq, Eq)]
+#[derive(Clone, Copy)]
 pub(crate) enum Symbol {
     Sign(Letter),
     Open,

@@ -64,7 +64,7 @@ impl From<Memory> for UserStop {
 }
 
 /// Why a line adds nothing: the first kind that holds of it, or want of memory.
-#[derive(Clone, Copy, Debug, PartialEq, Eq)]
+#[derive(Clone, Copy)]
 pub(crate) enum LineStop {
     Bad(UserKind),
     NoMemory,
