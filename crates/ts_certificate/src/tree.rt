@@ -1,7 +1,6 @@
 //! The lines of a tree.
 
 ghost use Rattle.std.specs.Prelude.{◌≡◌};
-ghost use Rattle.std.specs.Str.{bytes_eq};
 ghost use Rattle.ts_base.specs.Words.{words_seen, more_seen};
 ghost use Rattle.ts_certificate.specs.TreeLines.{split_of, remove_of, no_of, worse_of, tree_of};
 
@@ -9,6 +8,7 @@ use crate::certificate::TreeLine;
 use crate::numbers::{cell_of, requirement_of, value_of};
 use crate::words::{alone, one_word, three_words, two_words};
 use ts_base::Words;
+use ts_token::is_word;
 
 /// The words behind `split`: a cell, and the greatest value of the lower side.
 fn split_of(rest: Option<&[u8]>) -> Option<TreeLine>
@@ -49,13 +49,6 @@ fn worse_of(rest: Option<&[u8]>) -> Option<TreeLine>
 {
     let p = cell_of(one_word(rest)?)?;
     Some(TreeLine::Worse { p })
-}
-
-/// Whether a word is this one. In a chain of such tests a call has fewer parts to prove than a comparison.
-fn is_word(word: &[u8], this: &[u8]) -> bool
-    ensures { result ≡ bytes_eq word.now this.now }
-{
-    word == this
 }
 
 /// The line of the tree that these words are.

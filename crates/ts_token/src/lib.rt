@@ -29,4 +29,4 @@ pub use parts::{Parts, cut_parts};
 pub use short::ShortLine;
 pub use single::{Single, single_word};
 pub use tokens::{Line, Tokens, cut_tokens};
-pub use words::{NextWord, Word, count_words, first_words, next_word};
+pub use words::{NextWord, Word, count_words, first_words, is_word, next_word};

@@ -2,6 +2,7 @@
 
 ghost use Rattle.std.specs.Prelude.{◌≡◌, ◌+◌, ◌<◌, ◌^◌, [], length, take, IfOk, IfNone, IfSome};
 ghost use Rattle.std.specs.List.{position};
+ghost use Rattle.std.specs.Str.{bytes_eq};
 ghost use Rattle.ts_base.specs.Limits.{too_many};
 ghost use Rattle.ts_token.specs.Text.{is_blank, words_of, words_from};
 ghost use Rattle.ts_token.specs.Views.{pieces};
@@ -23,6 +24,14 @@ pub struct NextWord<'a> {
     pub word: Word<'a>,
     pub rest: &'a [u8],
     pub column: u32,
+}
+
+/// Whether a word is the given one, byte for byte. Where words are told apart one after the other, a call takes less to
+/// prove than a comparison.
+pub fn is_word(word: &[u8], given: &[u8]) -> bool
+    ensures { result ≡ bytes_eq word.now given.now }
+{
+    word == given
 }
 
 /// A space or a tab.

@@ -1,13 +1,12 @@
 //! Single words of a pattern text: first words, states' letters, kinds, signs, phases, trims.
 
 ghost use Rattle.std.specs.Prelude.{◌≡◌, ◌<◌, ◌≤◌, length, IfSome};
-ghost use Rattle.std.specs.Str.{bytes_eq};
 ghost use Rattle.ts_user.specs.Words.{form_of, kind_of, sign_of, phase_of, letter_name, trim_of};
 ghost use Rattle.ts_user.specs.Statement.{word_at};
 ghost use Rattle.ts_user.specs.Views.{texts};
 
 use ts_base::{Kind, Letter};
-use ts_token::{Word, number};
+use ts_token::{Word, is_word, number};
 use ts_transducer::Phase;
 
 /// The form of a line, told by its first word.
@@ -18,13 +17,6 @@ pub(crate) enum Form {
     Trim,
     State,
     Move,
-}
-
-/// Whether a word is this one. In a chain of such tests a call has fewer parts to prove than a comparison.
-fn is_word(word: &[u8], this: &[u8]) -> bool
-    ensures { result ≡ bytes_eq word.now this.now }
-{
-    word == this
 }
 
 /// The form of a line that begins with this word.
