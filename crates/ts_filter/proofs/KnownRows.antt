@@ -82,11 +82,6 @@ turned_front n last b later e f same =
     ap (λ m. take (m - last) (reverse later)) (sym f) ∙ sym (reverse_drop last later) ∙ ap reverse same ∙ reverse_drop last b
     ∙ ap (λ m. take (m - last) (reverse b)) e
 
-pub behind_stay : (p : Option Pair) (b later : Box) (k : ℕ) (old left : Rows) → left ≡ take k old → take k (reverse later) ≡ take k (reverse b) →
-    AreBehind p b old → AreBehind p later left
-behind_stay None b later k old left is same h = tt
-behind_stay (Some p) b later k old left is same h = stay_first p.reverse (reverse b) (reverse later) k old left is same h
-
 -- the row that comes behind
 
 pub first_behind : (a : Body) (cells : Box) (rows : Rows) (row : List Hull) (values : List ℤ) → length rows ≡ 0 → length rows < length cells →

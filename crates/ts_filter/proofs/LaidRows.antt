@@ -1,24 +1,29 @@
 -- Rows above those that are known: what a change leaves of them, and when they are known too.
 use Rattle.std.proofs.Common.{◌≡◌, ℕ, zero, suc, ◌+◌, ◌-◌, ◌<◌, ◌≤◌, ◌⊎◌, inl, inr, List, [], ◌∷◌, ◌++◌, length, take, drop, reverse, set, get_or, Option, Some, None, option_map, refl, sym, ap, ◌∙◌, subst, arith}
 use Rattle.std.specs.Prelude.{Result, Ok, Err, OnOk, OnErr}
+use Rattle.std.specs.List.{remove_range}
 use Rattle.std.proofs.lemmas.Option.{same_Some}
-use Rattle.std.proofs.lemmas.List.{append_assoc, get_or_default, take_at, take_more, take_all, set_split, get_or-take, get_or-drop, get_or-append-add, length-append, length-take, length-drop, length-reverse}
+use Rattle.std.proofs.lemmas.List.{append_assoc, get_or_default, take_at, take_more, take_all, set_split, get_or-take, get_or-drop, get_or-append-add, get_or-reverse, length-append, length-take, length-drop, length-reverse}
 use Rattle.ts_automaton.specs.declared.regs.Hull.{Hull}
 use Rattle.ts_automaton.specs.Body.{Body}
 use Rattle.ts_base.specs.declared.range.Range.{Range}
 use Rattle.ts_base.specs.Windows.{looked_at}
-use Rattle.ts_bound.specs.HullTables.{forward_rows}
+use Rattle.ts_bound.specs.HullTables.{forward_rows, row_of}
 use Rattle.ts_bound.specs.NextRow.{next_row}
 use Rattle.ts_bound.specs.TermSpans.{Automata}
 use Rattle.ts_bound.proofs.TableLaws.{row_on}
+use Rattle.ts_filter.specs.declared.gone.Change.{Change}
+use Rattle.ts_filter.specs.declared.gone.Gone.{Gone}
 use Rattle.ts_filter.specs.declared.planned.Planned.{Planned}
 use Rattle.ts_filter.specs.Boxes.{Box}
-use Rattle.ts_filter.specs.KnownRows.{AreFirst, AreKnown, AreRows, AreRowsOf, AreBehind, GoOnBehind, KnownRows, StayKnown, StillKnown}
-use Rattle.ts_filter.specs.RowStacks.{Rows, Laid, Stack, IsFollowed, GoOn, IsPlanned, Stands, IsOneMore, IsCut, no_rows, nothing_laid, with_row}
+use Rattle.ts_filter.specs.Gone.{AreLost}
+use Rattle.ts_filter.specs.KnownRows.{AreFirst, AreKnown, AreRows, AreRowsOf, AreBehind, GoOnBehind, IsChange, IsPlannedBack, KnownRows, StayKnown, StillKnown}
+use Rattle.ts_filter.specs.RowStacks.{Rows, Laid, Stack, IsFollowed, GoOn, IsPlanned, Stands, IsOneMore, IsCut, IsKnownAt, IsLeft, IsSpliced, no_rows, nothing_laid, with_row, without}
 use Rattle.ts_domain.proofs.Sets.{nothing_in}
 use Rattle.ts_glue.specs.Pairs.{Pair}
 use Rattle.ts_model.specs.declared.model.Require.{Require}
-use Rattle.ts_filter.proofs.KnownRows.{few_known, known_at, one_more, reverse_take, stay_first, behind_stay, turned_front}
+use Rattle.ts_filter.proofs.KnownRows.{few_known, known_at, one_more, reverse_take, row_at_place, stay_first, turned_front}
+use Rattle.ts_filter.proofs.WithoutValues.{row_lost}
 
 -- rows that are known
 
@@ -198,19 +203,97 @@ pushed p rows new k from next row old is le now to above =
       above = omega (arith, long, above);
     })
 
+-- a row that was known, without the values that its cell has lost
+
+pub known_inside : (p : Planned) (rows : Rows) (k from at : ℕ) (s : Stack) →
+    record { planned = p; known = take k rows; laid = record { rows = rows; from = from } } ≡ s → k ≤ length rows → at < k → IsKnownAt at s
+known_inside p rows k from at s is le lt =
+    subst (IsKnownAt at) is (record {
+      known = (let l = length-take k rows in omega (arith, l, le, lt));
+      laid = omega (arith, le, lt);
+      same = sym (get_or-take k rows at [] lt);
+    })
+
+module _ (old cut : Stack) (count end : ℕ) (known : IsKnownAt count old) (f : IsCut count end old cut) where
+  are_left : length cut.known ≡ count
+  are_left = let l = ap length f.known ∙ length-take count old.known in let lt = known.known in omega (arith, l, lt)
+
+  pub row_above : length cut.known < length cut.laid.rows
+  row_above = let rest = ap length f.rows in let here = are_left in let more = known.laid in omega (arith, here, rest, more)
+
+  pub spliced : (gone : Gone) (new : Stack) → IsOneMore (without cut.planned.states gone (get_or cut.laid.rows (length cut.known) [])) cut new →
+      IsSpliced count end gone old new
+  spliced gone new more = record {
+    there = known.known;
+    cut = cut;
+    is_cut = f;
+    more = subst (λ row. IsOneMore row cut new)
+        (ap (λ (q : Planned). without q.states gone (get_or cut.laid.rows (length cut.known) [])) f.planned
+        ∙ ap (λ (r : Rows). without old.planned.states gone (get_or r (length cut.known) [])) f.rows
+        ∙ ap (λ n. without old.planned.states gone (get_or old.laid.rows n [])) are_left
+        ∙ ap (without old.planned.states gone) known.same)
+        more;
+  }
+
+pub one_without : (p : Planned) (rows new : Rows) (k from next : ℕ) (gone : Gone) (old : Stack) →
+    record { planned = p; known = take k rows; laid = record { rows = rows; from = from } } ≡ old → k ≤ length rows →
+    new ≡ with_row k (without p.states gone (get_or rows k [])) rows → from ≤ next → k + 1 ≤ next →
+    IsOneMore (without old.planned.states gone (get_or old.laid.rows (length old.known) [])) old
+    (record { planned = p; known = take (k + 1) new; laid = record { rows = new; from = next } })
+one_without p rows new k from next gone old is le now to above =
+    let after : Stack = record { planned = p; known = take (k + 1) new; laid = record { rows = new; from = next } } in
+    let long : length (take k rows) ≡ k = omega (arith, length-take k rows, le) in
+    subst (λ (s : Stack). IsOneMore (without s.planned.states gone (get_or s.laid.rows (length s.known) [])) old after) is
+    (subst (λ n. IsOneMore (without p.states gone (get_or rows n [])) old after) (sym long)
+    (pushed p rows new k from next (without p.states gone (get_or rows k [])) old is le now to above))
+
+pub only_cut : (count end : ℕ) (gone : Option Gone) (old new : Stack) → IsCut count end old new → IsLeft count end gone old new
+only_cut count end None old new f = f
+only_cut count end (Some gone) old new f = inl f
+
 -- a result in either case
 pub either_way : {T E : Type 0} (r : Result T E) (P Q G : Type 0) → OnOk r P → OnErr r Q → (P → G) → (Q → G) → G
 either_way (Ok x) P Q G p q f g = f p
 either_way (Err e) P Q G p q f g = g q
 
--- tables after a change
+-- a row that was known, without the values that its cell has lost, is that of the cell now
 
-laid_behind_stay : (p : Option Pair) (b later : Box) (end : ℕ) (known : Rows) (old new : Laid) → AreBehind p b known → GoOnBehind p b old →
-    (known ≡ old.rows) ⊎ (old.from ≤ new.from) → new.rows ≡ old.rows → end ≤ new.from → length later ≡ length b →
-    drop end (reverse later) ≡ drop end (reverse b) → GoOnBehind p later new
-laid_behind_stay None b later end known old new h g from is to count same = tt
-laid_behind_stay (Some p) b later end known old new h g from is to count same =
-    laid_stay p.reverse (reverse b) (reverse later) end known old new h g from is to (length-reverse later ∙ count ∙ sym (length-reverse b)) same
+module _ (a : Body) (cells later : Box) (count end : ℕ) (old : Stack) (plan : IsPlanned a old.planned) (h : AreFirst a cells old.known)
+    (g : GoOn a cells old.laid.rows old.laid.from) (long : length later ≡ length cells) (before : take count later ≡ take count cells)
+    (behind : drop end later ≡ drop end cells) where
+  cut_stays : (new : Stack) → IsCut count end old new → AreRows a later new
+  cut_stays new f = record {
+    planned = subst (IsPlanned a) (sym f.planned) plan;
+    known = stay_first a cells later count old.known new.known f.known before h;
+    laid = laid_stay a cells later end old.known old.laid new.laid h g f.from f.rows f.above long behind;
+  }
+
+  row_now : (gone : Gone) → count < length old.known → get_or later count [] ≡ remove_range (get_or cells count []) gone.from gone.to →
+      without old.planned.states gone (get_or old.known count []) ≡ get_or (forward_rows a later) count []
+  row_now gone lt lost =
+      let few = few_known a cells old.known h in
+      let back = reverse (take count cells) in
+      ap (λ s. without s gone (get_or old.known count [])) plan.states
+      ∙ ap (without (length a.states) gone) (known_at a cells old.known count h lt ∙ row_at_place a cells count (omega (arith, lt, few)))
+      ∙ row_lost a back (get_or cells count []) gone ∙ ap (row_of a back) (sym lost)
+      ∙ ap (λ l. row_of a (reverse l) (get_or later count [])) (sym before)
+      ∙ sym (row_at_place a later count (omega (arith, lt, few, long)))
+
+  spliced_stays : (gone : Gone) (new : Stack) → IsSpliced count end gone old new →
+      get_or later count [] ≡ remove_range (get_or cells count []) gone.from gone.to → AreRows a later new
+  spliced_stays gone new z lost =
+      let few = few_known a cells old.known h in let lt = z.there in
+      let here : length z.cut.known ≡ count = (let l = ap length z.is_cut.known ∙ length-take count old.known in omega (arith, l, lt)) in
+      one_more_row a later z.cut new (without old.planned.states gone (get_or old.known count [])) (cut_stays z.cut z.is_cut)
+      (omega (arith, here, lt, few, long)) (row_now gone lt lost ∙ ap (λ n. get_or (forward_rows a later) n []) (sym here)) z.more
+
+  pub left_stays : (gone : Option Gone) (new : Stack) → IsLeft count end gone old new → AreLost gone (get_or cells count []) (get_or later count []) →
+      AreRows a later new
+  left_stays None new f lost = cut_stays new f
+  left_stays (Some gone) new (inl f) lost = cut_stays new f
+  left_stays (Some gone) new (inr z) lost = spliced_stays gone new z lost
+
+-- tables after a change
 
 turned_rest : (n before : ℕ) (b later : Box) → length b ≡ n → length later ≡ n → take before later ≡ take before b →
     drop (n - before) (reverse later) ≡ drop (n - before) (reverse b)
@@ -218,30 +301,55 @@ turned_rest n before b later e f same =
     ap (λ m. drop (m - before) (reverse later)) (sym f) ∙ sym (reverse_take before later) ∙ ap reverse same ∙ reverse_take before b
     ∙ ap (λ m. drop (m - before) (reverse b)) e
 
+turned_cell : (n last : ℕ) (b : Box) → length b ≡ n → 0 < last → last ≤ n → get_or (reverse b) (n - last) [] ≡ get_or b (last - 1) []
+turned_cell n last b long some within =
+    let place : length b - 1 - (n - last) ≡ last - 1 = omega (arith, long, some, within) in
+    get_or-reverse b (n - last) [] (omega (arith, long, some, within)) ∙ ap (λ i. get_or b i []) place
+
+module _ (c : Change) (b later : Box) (d : IsChange c b later) where
+  long_later : length later ≡ length b
+  long_later = d.differ.count_later ∙ sym d.differ.count
+
+  behind_left : (p : Option Pair) (old new : Stack) → IsPlannedBack p old.planned → AreBehind p b old.known → GoOnBehind p b old.laid →
+      IsLeft (c.count - c.last) (c.count - c.first) c.gone_last old new → AreBehind p later new.known × GoOnBehind p later new.laid
+  behind_left None old new plan h g f = (tt, tt)
+  behind_left (Some p) old new plan h g f =
+      let some = d.some in
+      let turned = λ (cells : Box) (e : length cells ≡ c.count). turned_cell c.count c.last cells e (omega (arith, some)) d.within in
+      let rows = left_stays p.reverse (reverse b) (reverse later) (c.count - c.last) (c.count - c.first) old plan h g
+      (length-reverse later ∙ long_later ∙ sym (length-reverse b))
+      (turned_front c.count c.last b later d.differ.count d.differ.count_later d.differ.behind)
+      (turned_rest c.count c.first b later d.differ.count d.differ.count_later d.differ.before) c.gone_last new f
+      (subst (AreLost c.gone_last (get_or (reverse b) (c.count - c.last) [])) (sym (turned later d.differ.count_later))
+      (subst (λ z. AreLost c.gone_last z (get_or later (c.last - 1) [])) (sym (turned b d.differ.count)) d.gone_last)) in
+      (rows.known, rows.laid)
+
 -- the tables of a machine with these rows, and these requirements by which nothing is found
 abbrev pub tables : Automata → Stack → Stack → List Require → KnownRows
 tables a x y quiet =
     record { machine = a; ahead = x.known; behind = y.known; laid_ahead = x.laid; laid_behind = y.laid; quiet = quiet }
 
-pub tables_stay : (a : Automata) (first last n : ℕ) (x y x' y' : Stack) (quiet : List Require) → IsCut first last x x' →
-    IsCut (n - last) (n - first) y y' → StayKnown first last n (tables a x y quiet) (tables a x' y' [])
-tables_stay a first last n x y x' y' quiet f g b later d h =
-    let count = d.count_later ∙ sym d.count in
-    record {
-      ahead = stay_first a.forward b later first x.known x'.known f.known d.before h.ahead;
-      behind = behind_stay a.pair b later (n - last) y.known y'.known g.known (turned_front n last b later d.count d.count_later d.behind) h.behind;
-      laid_ahead = laid_stay a.forward b later last x.known x.laid x'.laid h.ahead h.laid_ahead f.from f.rows f.above count d.behind;
-      laid_behind = laid_behind_stay a.pair b later (n - first) y.known y.laid y'.laid h.behind h.laid_behind g.from g.rows g.above count
-          (turned_rest n first b later d.count d.count_later d.before);
-      quiet = λ r c. absurd (nothing_in r c);
-    }
+module _ (a : Automata) (c : Change) (x y x' y' : Stack) (quiet : List Require) (plan : IsPlanned a.forward x.planned)
+    (plan_back : IsPlannedBack a.pair y.planned) (f : IsLeft c.first c.last c.gone_first x x')
+    (g : IsLeft (c.count - c.last) (c.count - c.first) c.gone_last y y') where
+  tables_stay : StayKnown c (tables a x y quiet) (tables a x' y' [])
+  tables_stay b later d h =
+      let rows = left_stays a.forward b later c.first c.last x plan h.ahead h.laid_ahead (long_later c b later d) d.differ.before d.differ.behind
+      c.gone_first x' f d.gone_first in
+      let back = behind_left c b later d a.pair y y' plan_back h.behind h.laid_behind g in
+      record {
+        ahead = rows.known;
+        behind = back.0;
+        laid_ahead = rows.laid;
+        laid_behind = back.1;
+        quiet = λ r in_none. absurd (nothing_in r in_none);
+      }
 
--- the same, as the code makes it
-pub stay_known : (a : Automata) (first last n : ℕ) (x y x' y' : Stack) (quiet quiet' : List Require) (old new : KnownRows) → IsCut first last x x' →
-    IsCut (n - last) (n - first) y y' → quiet' ≡ [] → tables a x y quiet ≡ old → tables a x' y' quiet' ≡ new → StayKnown first last n old new
-stay_known a first last n x y x' y' quiet quiet' old new f g none was now =
-    subst (StayKnown first last n old) (ap (tables a x' y') (sym none) ∙ now)
-    (subst (λ t. StayKnown first last n t (tables a x' y' [])) was (tables_stay a first last n x y x' y' quiet f g))
+  -- the same, as the code makes it
+  pub stay_known : (quiet' : List Require) (old new : KnownRows) → quiet' ≡ [] → tables a x y quiet ≡ old → tables a x' y' quiet' ≡ new →
+      StayKnown c old new
+  stay_known quiet' old new none was now =
+      subst (StayKnown c old) (ap (tables a x' y') (sym none) ∙ now) (subst (λ t. StayKnown c t (tables a x' y' [])) was tables_stay)
 
 -- tables of which nothing is known
 

@@ -16,6 +16,7 @@ pub mod CallLaws
 mod AnswerLaws
 mod Refuting
 mod Removals
+mod WithoutValues
 mod PackedStacks
 mod DropLaws
 mod EarlyCells

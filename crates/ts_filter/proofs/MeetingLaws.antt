@@ -2,7 +2,8 @@
 use Rattle.std.proofs.Common.{◌≡◌, ℕ, ◌+◌, ◌-◌, ◌≤◌, ◌++◌, length, take, drop, sym, ap, ◌∙◌, subst, arith}
 use Rattle.std.proofs.lemmas.List.{take-append-drop, drop-drop}
 use Rattle.ts_filter.specs.Boxes.{Box}
-use Rattle.ts_filter.specs.KnownRows.{KnownRows, AreRowsOf, DifferFrom, StayKnown}
+use Rattle.ts_filter.specs.declared.gone.Change.{Change}
+use Rattle.ts_filter.specs.KnownRows.{KnownRows, AreRowsOf, IsChange, StayKnown}
 
 -- lists from their ends
 
@@ -15,19 +16,18 @@ rest_same xs ys k n le e =
     let sum : n + (k - n) ≡ k = omega (arith, le) in
     ap (λ m. drop m xs) (sym sum) ∙ sym (drop-drop (k - n) n xs) ∙ ap (drop (k - n)) e ∙ drop-drop (k - n) n ys ∙ ap (λ m. drop m ys) sum
 
--- what was seen, while the places from `first` up to `last` are taken over: the first `at` cells are those that are looked
--- at, and the cells outside are as they were
-pub record TakenOver (first last : ℕ) (old seen cells : Box) (at : ℕ) : Type 0 where
-  pub differ : DifferFrom first last (length old) old seen
+-- what was seen, while the places up to `last` are taken over: the first `at` cells are those that are looked at, and
+-- those from `last` on were so before
+pub record TakenOver (last : ℕ) (seen cells : Box) (at : ℕ) : Type 0 where
+  pub count : length seen ≡ length cells
   pub front : take at cells ≡ take at seen
+  pub behind : drop last cells ≡ drop last seen
 
-pub all_taken : (first last : ℕ) (old seen cells : Box) (at : ℕ) → TakenOver first last old seen cells at → last ≤ at →
-    drop last cells ≡ drop last old → seen ≡ cells
-all_taken first last old seen cells at t end rest =
-    sym (whole_same cells seen at t.front (rest_same cells seen at last end (rest ∙ sym t.differ.behind)))
+pub all_taken : (last : ℕ) (seen cells : Box) (at : ℕ) → TakenOver last seen cells at → last ≤ at → seen ≡ cells
+all_taken last seen cells at t end = sym (whole_same cells seen at t.front (rest_same cells seen at last end t.behind))
 
 -- tables of what is seen
 
-pub known_taken : (first last n : ℕ) (old seen : Box) (before after : KnownRows) → StayKnown first last n before after → length old ≡ n →
-    DifferFrom first last (length old) old seen → AreRowsOf old before → AreRowsOf seen after
-known_taken first last n old seen before after stay e d h = stay old seen (subst (λ m. DifferFrom first last m old seen) e d) h
+pub known_taken : (c : Change) (old seen cells : Box) (before after : KnownRows) → StayKnown c before after → IsChange c old cells → seen ≡ cells →
+    AreRowsOf old before → AreRowsOf seen after
+known_taken c old seen cells before after stay d same h = subst (λ z. AreRowsOf z after) (sym same) (stay old cells d h)

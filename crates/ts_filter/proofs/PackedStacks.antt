@@ -1,14 +1,14 @@
 -- Packed rows on top of one another: which rows they are, and what stays so of their states.
 use lib.Pointwise.{pointwise}
-use Rattle.std.proofs.Common.{◌≡◌, ℕ, suc, ◌+◌, ◌-◌, ◌*◌, ◌/◌, ◌<◌, ◌≤◌, ℤ, List, [], ◌∷◌, ◌++◌, length, map, take, drop, reverse, get_or, Bool, true, false, not, refl, sym, ap, ◌∙◌, subst, arith}
+use Rattle.std.proofs.Common.{◌≡◌, ℕ, suc, ◌+◌, ◌-◌, ◌*◌, ◌/◌, ◌<◌, ◌≤◌, ℤ, List, [], ◌∷◌, ◌++◌, length, map, take, drop, reverse, set, get_or, Bool, true, false, not, refl, sym, ap, ◌∙◌, subst, arith}
 use Rattle.std.specs.Ordering.{int_eq}
 use Rattle.std.specs.Prelude.{All}
 use Rattle.std.proofs.lemmas.Bool.Decides.{Decides-int_eq}
 use Rattle.std.proofs.lemmas.Slice.Eq.{slice_eq-Decides}
 use Rattle.std.proofs.Math.Nat.{mul-div_cancel}
 use Rattle.std.proofs.Math.ListN.{get_or-map}
-use Rattle.std.proofs.lemmas.List.{take_more, take_all, take-map, drop-map, map-append, reverse-append, length-append, length-map, length-take}
-use Rattle.std.proofs.lemmas.List.Elements.{All-append, All-cons, All-take, All-drop}
+use Rattle.std.proofs.lemmas.List.{take_more, take_all, take-map, drop-map, get_or-map as get_or_mapped, map-append, reverse-append, length-append, length-map, length-take}
+use Rattle.std.proofs.lemmas.List.Elements.{All-append, All-cons, All-get_or, All-take, All-drop}
 use Rattle.ts_automaton.specs.Body.{Body}
 use Rattle.ts_sweep.specs.declared.packed.PackedHull.{PackedHull}
 use Rattle.ts_row.specs.Rows.{IsRow, flat_row}
@@ -16,13 +16,16 @@ use Rattle.ts_row.proofs.Flat.{flat_length}
 use Rattle.ts_bound.specs.HullTables.{row_of, forward_rows}
 use Rattle.ts_bound.proofs.TableLaws.{length-row_of}
 use Rattle.ts_filter.specs.declared.any_row.AnyRow.{AnyRow}
+use Rattle.ts_filter.specs.declared.gone.Gone.{Gone}
 use Rattle.ts_filter.specs.declared.planned.Planned.{Planned}
 use Rattle.ts_filter.specs.declared.row_stack.HullRow.{HullRow}
-use Rattle.ts_filter.specs.AnyRows.{IsRowOf, columns, lanes_of}
+use Rattle.ts_filter.specs.AnyRows.{IsRowOf, columns, lanes_of, row_without}
 use Rattle.ts_filter.specs.Boxes.{Box}
 use Rattle.ts_filter.specs.KnownRows.{AreFirst}
-use Rattle.ts_filter.specs.RowStacks.{HasStates, IsPlanned, Rows, all_hulls, hulls_in, values_in, with_row}
+use Rattle.ts_filter.specs.RowStacks.{HasStates, IsPlanned, Rows, Stack, all_hulls, hulls_in, values_in, with_row, without}
 use Rattle.ts_filter.proofs.KnownRows.{first_behind, known_at, row_at_place}
+use Rattle.ts_filter.proofs.LaidRows.{put_within}
+use Rattle.ts_filter.proofs.WithoutValues.{made_without}
 
 -- a packed row of an automaton has its states, and its values are as many as the cell's
 
@@ -118,6 +121,33 @@ hulls_with_row s at row rows =
     map-append f (take at rows) (row ∷ drop (at + 1) rows) ∙ ap (λ l. l ++ f row ∷ map f (drop (at + 1) rows)) (sym (take-map f at rows))
     ∙ ap (λ l. take at (map f rows) ++ f row ∷ l) (sym (drop-map f (at + 1) rows))
 
+-- the stack holds a row without the values that its cell has lost
+pub stacked_without : (p : Planned) (g : Gone) (k : ℕ) (row left : HullRow) (rows new : List HullRow) → k < length rows →
+    All (λ (r : HullRow). HasStates p r.packed) rows → row ≡ get_or rows k row → left.packed ≡ row_without g.from g.to row.packed → new ≡ set rows k left →
+    (k + 1 ≤ length new) × All (λ (r : HullRow). HasStates p r.packed) new
+    × (all_hulls p.states new ≡ with_row k (without p.states g (get_or (all_hulls p.states rows) k [])) (all_hulls p.states rows))
+stacked_without p g k row left rows new lt all is_row is_left is_new =
+    let states : HasStates p row.packed = subst (λ (r : HullRow). HasStates p r.packed) (sym is_row) (All-get_or (λ (r : HullRow). HasStates p r.packed) rows k row lt all) in
+    let made = made_without p g row.packed states in
+    let now : new ≡ with_row k left rows = is_new ∙ put_within rows k left lt in
+    let stack = stacked p k left rows new (omega (arith, lt)) all (subst (HasStates p) (sym is_left) made.0) now in
+    let here : hulls_in p.states row.packed ≡ get_or (all_hulls p.states rows) k [] =
+    ap (λ (r : HullRow). hulls_in p.states r.packed) is_row ∙ sym (get_or_mapped (λ (r : HullRow). hulls_in p.states r.packed) rows k row [] lt) in (
+      stack.0,
+      stack.1,
+      ap (all_hulls p.states) now ∙ hulls_with_row p.states k left rows
+          ∙ ap (λ h. with_row k h (all_hulls p.states rows)) (ap (hulls_in p.states) is_left ∙ made.1 ∙ ap (without p.states g) here),
+    )
+
+pub row_inside : (p : Planned) (rows : List HullRow) (k from : ℕ) (s : Stack) →
+    record { planned = p; known = take k (all_hulls p.states rows); laid = record { rows = all_hulls p.states rows; from = from } } ≡ s → k ≤ length rows →
+    length s.known < length s.laid.rows → k < length rows
+row_inside p rows k from s is le lt =
+    let all = all_hulls p.states rows in
+    let here : length (take k all) < length all = subst (λ (t : Stack). length t.known < length t.laid.rows) (sym is) lt in
+    let front = length-take k all in let count = length-map rows (λ (r : HullRow). hulls_in p.states r.packed) in
+    omega (arith, here, front, count, le)
+
 -- a row that has the same hulls as the one at a place
 pub standing_row : (s k : ℕ) (rows : List HullRow) (here d row : HullRow) → here ≡ get_or rows k d → here.packed ≡ row.packed →
     hulls_in s row.packed ≡ get_or (all_hulls s rows) k (hulls_in s d.packed)
@@ -131,20 +161,28 @@ pub same_on : {X : Type 0} (xs ys : List X) (i : ℕ) (d e : X) → take i xs �
 same_on xs ys i d e front lt long is =
     take_more xs i d lt ∙ ap (λ l. l ++ get_or xs i d ∷ []) front ∙ ap (λ x. take i ys ++ x ∷ []) is ∙ sym (take_more ys i e (omega (arith, lt, long)))
 
+yes : (b : Bool) → not b ≡ false → b ≡ true
+yes true e = refl
+yes false e = sym e
+
 lanes_same : (n : ℕ) (x y : PackedHull n) (told : Bool) → told ≡ not (pointwise int_eq x.at y.at) → told ≡ false → x ≡ y
 lanes_same n x y told is isnt =
     ap (λ xs. record { at = xs })
     ((slice_eq-Decides Decides-int_eq x.at y.at (pointwise int_eq x.at y.at) refl).0 (yes (pointwise int_eq x.at y.at) (sym is ∙ isnt)))
-  where
-    yes : (b : Bool) → not b ≡ false → b ≡ true
-    yes true e = refl
-    yes false e = sym e
 
 pub same_hulls_on : (n : ℕ) (xs ys : List (PackedHull n)) (i : ℕ) (x y : PackedHull n) (told : Bool) → take i xs ≡ take i ys → i < length xs →
     length xs ≡ length ys → x ≡ get_or xs i x → y ≡ get_or ys i y → told ≡ not (pointwise int_eq x.at y.at) → told ≡ false →
     take (i + 1) xs ≡ take (i + 1) ys
 same_hulls_on n xs ys i x y told front lt long is_x is_y is isnt =
     same_on xs ys i x y front lt long (sym is_x ∙ lanes_same n x y told is isnt ∙ is_y)
+
+pub rest_same : (xs ys : List ℤ) (n m : ℕ) (told : Bool) → told ≡ not (pointwise int_eq (take n xs) (take m ys)) → told ≡ false → length xs ≤ n → length ys ≤ m →
+    xs ≡ ys
+rest_same xs ys n m told is isnt le le' =
+    sym (take_all n xs le)
+    ∙ (slice_eq-Decides Decides-int_eq (take n xs) (take m ys) (pointwise int_eq (take n xs) (take m ys)) refl).0
+    (yes (pointwise int_eq (take n xs) (take m ys)) (sym is ∙ isnt))
+    ∙ take_all m ys le'
 
 pub all_same : {X : Type 0} (xs ys : List X) (i : ℕ) → take i xs ≡ take i ys → length xs ≤ i → length xs ≡ length ys → xs ≡ ys
 all_same xs ys i e l long = sym (take_all i xs l) ∙ e ∙ take_all i ys (omega (arith, l, long))

@@ -1,5 +1,6 @@
 -- Packed rows of automata of either width.
-use Rattle.std.specs.Prelude.{◌≡◌, ℕ, ℤ, List}
+use Rattle.std.specs.Prelude.{◌≡◌, ℕ, ℤ, List, map}
+use Rattle.std.specs.List.{remove_range}
 use Rattle.ts_base.specs.declared.span.Span.{Span}
 use Rattle.ts_base.specs.Spans.{none_span}
 use Rattle.ts_automaton.specs.Body.{Body}
@@ -24,6 +25,15 @@ lanes_of (Wide row) = 10
 abbrev pub columns : (row : AnyRow) → Columns (lanes_of row)
 columns (Narrow row) = row
 columns (Wide row) = row
+
+-- the columns without the hulls at the places from `from` up to `to`
+abbrev pub columns_without : {X : Type 0} → (from to : ℕ) → List (List X) → List (List X)
+columns_without from to columns = map (λ column. remove_range column from to) columns
+
+-- so is the row
+abbrev pub row_without : (from to : ℕ) → AnyRow → AnyRow
+row_without from to (Narrow row) = Narrow (columns_without from to row)
+row_without from to (Wide row) = Wide (columns_without from to row)
 
 -- the row is that of a cell with these values, behind these cells
 pub record IsRowOf (a : Body) (before : List (List ℤ)) (values : List ℤ) (row : AnyRow) : Type 0 where

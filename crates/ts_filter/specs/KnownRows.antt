@@ -1,6 +1,6 @@
 -- What is known of the hulls of a machine on a box: of the cells that it looks at, the rows of the first ones forward,
 -- of the last ones backward.
-use Rattle.std.specs.Prelude.{◌≡◌, ◌<◌, ◌≤◌, ℕ, ◌-◌, List, Contains, length, take, drop, Option, None, Some}
+use Rattle.std.specs.Prelude.{◌≡◌, ◌<◌, ◌≤◌, ℕ, ◌-◌, List, [], Contains, length, take, drop, get_or, Option, None, Some}
 use Rattle.ts_base.specs.Windows.{looked_at}
 use Rattle.ts_automaton.specs.Body.{Body}
 use Rattle.ts_bound.specs.HullTables.{forward_rows}
@@ -13,6 +13,8 @@ use Rattle.ts_model.specs.declared.model.Require.{Require}
 use Rattle.ts_filter.specs.declared.reading.Way.TheVariants.{FromFirst, FromLast}
 use Rattle.ts_filter.specs.Boxes.{Box}
 use Rattle.ts_filter.specs.Drops.{IsFirstOf}
+use Rattle.ts_filter.specs.Gone.{AreLost}
+use Rattle.ts_filter.specs.declared.gone.Change.{Change}
 use Rattle.ts_filter.specs.Reading.{in_order}
 use Rattle.ts_filter.specs.declared.planned.Planned.{Planned}
 use Rattle.ts_filter.specs.RowStacks.{Rows, Laid, GoOn, IsPlanned, Stack}
@@ -95,10 +97,17 @@ pub record DifferFrom (first last n : ℕ) (cells later : Box) : Type 0 where
   pub before : take first later ≡ take first cells
   pub behind : drop last later ≡ drop last cells
 
--- what was known of cells is, as far as it's left, known of all that differ from them there alone
-abbrev pub StayKnown : ℕ → ℕ → ℕ → KnownRows → KnownRows → Type 0
-StayKnown first last n old new =
-    (cells later : Box) → DifferFrom first last n cells later → AreRowsOf cells old → AreRowsOf later new
+-- the cells change so
+pub record IsChange (c : Change) (cells later : Box) : Type 0 where
+  pub some : c.first < c.last
+  pub within : c.last ≤ c.count
+  pub differ : DifferFrom c.first c.last c.count cells later
+  pub gone_first : AreLost c.gone_first (get_or cells c.first []) (get_or later c.first [])
+  pub gone_last : AreLost c.gone_last (get_or cells (c.last - 1) []) (get_or later (c.last - 1) [])
+
+-- what was known of cells is, as far as it's left, known of all that they may become by the change
+abbrev pub StayKnown : Change → KnownRows → KnownRows → Type 0
+StayKnown c old new = (cells later : Box) → IsChange c cells later → AreRowsOf cells old → AreRowsOf later new
 
 -- the rows of cell k of these are known; of the last cell the forward one is enough
 pub record HasRowsAt (k : ℕ) (cells : Box) (t : KnownRows) : Type 0 where

@@ -6,6 +6,7 @@ pub mod Drops
 pub mod Ends
 pub mod Excluded
 pub mod FirstCell
+pub mod Gone
 pub mod HeldMachine
 pub mod Holds
 pub mod KeptCells

@@ -1,11 +1,14 @@
 -- Rows on top of one another, of which the first are known.
-use Rattle.std.specs.Prelude.{◌≡◌, ℕ, ◌+◌, ◌<◌, ◌≤◌, ◌⊎◌, List, [], ◌∷◌, ◌++◌, length, map, take, drop, get_or}
+use Rattle.std.specs.Prelude.{◌≡◌, ℕ, ◌+◌, ◌*◌, ◌<◌, ◌≤◌, ◌⊎◌, List, [], ◌∷◌, ◌++◌, length, map, take, drop, get_or}
+use Rattle.std.specs.Prelude.{Option, None, Some}
+use Rattle.std.specs.List.{remove_range}
 use Rattle.ts_automaton.specs.declared.regs.Hull.{Hull}
 use Rattle.ts_automaton.specs.Body.{Body}
 use Rattle.ts_sweep.specs.Packed.{is_wide}
 use Rattle.ts_row.specs.Plans.{IsPlanOf}
 use Rattle.ts_row.specs.Rows.{IsRow, flat_row}
 use Rattle.ts_bound.specs.NextRow.{next_row}
+use Rattle.ts_filter.specs.declared.gone.Gone.{Gone}
 use Rattle.ts_filter.specs.declared.planned.Planned.{Planned}
 use Rattle.ts_filter.specs.declared.row_stack.HullRow.{HullRow}
 use Rattle.ts_filter.specs.declared.any_row.AnyRow.{AnyRow}
@@ -92,3 +95,25 @@ pub record IsCut (count end : ℕ) (old new : Stack) : Type 0 where
   pub rows : new.laid.rows ≡ old.laid.rows
   pub above : end ≤ new.laid.from
   pub from : (old.known ≡ old.laid.rows) ⊎ (old.laid.from ≤ new.laid.from)
+
+-- a row with hulls of so many states, without those of the values that are gone
+abbrev pub without : (states : ℕ) → Gone → List Hull → List Hull
+without states g row = remove_range row (g.from * states) (g.to * states)
+
+-- the row at a place is known
+pub record IsKnownAt (at : ℕ) (s : Stack) : Type 0 where
+  pub known : at < length s.known
+  pub laid : at < length s.laid.rows
+  pub same : get_or s.laid.rows at [] ≡ get_or s.known at []
+
+-- one more is known: the row that was known at place `count`, without those values
+pub record IsSpliced (count end : ℕ) (gone : Gone) (old new : Stack) : Type 0 where
+  pub there : count < length old.known
+  pub cut : Stack
+  pub is_cut : IsCut count end old cut
+  pub more : IsOneMore (without old.planned.states gone (get_or old.known count [])) cut new
+
+-- so it may be where the values that are gone are known
+abbrev pub IsLeft : (count end : ℕ) → Option Gone → (old new : Stack) → Type 0
+IsLeft count end None old new = IsCut count end old new
+IsLeft count end (Some gone) old new = IsCut count end old new ⊎ IsSpliced count end gone old new

@@ -4,7 +4,7 @@
 ghost use Rattle.std.specs.Prelude.{◌≡◌, ◌≤◌, ℤ, List, [], ◌∷◌, IfOk, IsTrue, length};
 ghost use Rattle.ts_base.specs.Limits.{IsCellValue};
 ghost use Rattle.ts_base.specs.Spans.{none_span, span_hull};
-ghost use Rattle.ts_filter.specs.AnyRows.{IsRowOf, columns, glued_between, lanes_of};
+ghost use Rattle.ts_filter.specs.AnyRows.{IsRowOf, columns, glued_between, lanes_of, row_without};
 ghost use Rattle.ts_filter.specs.Question.{Excludes};
 ghost use Rattle.ts_glue.specs.Pairs.{Pair};
 ghost use Rattle.ts_meet.specs.Asked.{IsAnswer};
@@ -109,6 +109,17 @@ impl AnyRow {
                 }
                 AnyRow::Narrow(_) => unreachable!(),
             },
+        }
+    }
+
+    /// Takes the hulls at the places from `from` up to `to` out, of all states.
+    pub(crate) fn take_out(&mut self, from: usize, to: usize)
+        requires { from ≤ to }
+        ensures { self.new ≡ row_without from to self.old }
+    {
+        match self {
+            AnyRow::Narrow(row) => row.take_out(from, to),
+            AnyRow::Wide(row) => row.take_out(from, to),
         }
     }
 

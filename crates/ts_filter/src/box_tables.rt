@@ -1,12 +1,13 @@
 //! The hulls of a machine that are known of a box while the box changes. The questions that they answer are in
 //! `at_cell`, `first_cell`, `drops` and `kept`.
 
-ghost use Rattle.std.specs.Prelude.{◌≡◌, ◌↔◌, ◌-◌, ◌≤◌, [], IsTrue, MatchOption, OnOk, None, length, take};
+ghost use Rattle.std.specs.Prelude.{◌≡◌, ◌↔◌, ◌<◌, ◌≤◌, [], IfOk, IsTrue, MatchOption, OnOk, None, length};
 ghost use Rattle.ts_base.specs.Windows.{looked_at};
 ghost use Rattle.ts_bound.specs.Looks.{first_looked, is_looked, last_looked, read_at};
 ghost use Rattle.ts_bound.specs.TermSpans.{LooksIn, automata_of};
 ghost use Rattle.ts_filter.specs.Boxes.{Box, HasCell};
 ghost use Rattle.ts_filter.specs.CellHulls.{HasHulls, IsBackSide, at_cell};
+ghost use Rattle.ts_filter.specs.Gone.{AreLost};
 ghost use Rattle.ts_filter.specs.HeldMachine.{machine_in};
 ghost use Rattle.ts_filter.specs.KnownRows.{AreKnown, AreRowsOf, HasJoints, HasRows, IsPlannedBack};
 ghost use Rattle.ts_filter.specs.KnownRows.{KnownWhereNone, StayKnown, StillKnown};
@@ -16,7 +17,9 @@ ghost use Rattle.ts_filter.specs.TermDrops.{AreAmong};
 ghost use Rattle.ts_glue.specs.Machines.{pair_of};
 
 use crate::cell_hulls::{BackSide, CellHulls};
+use crate::gone::{Change, Gone};
 use crate::held_machine::HeldMachine;
+use crate::lost::gone_between;
 use crate::reading::{Reading, Way};
 use crate::row_stack::RowStack;
 use crate::rows::make_rows;
@@ -26,7 +29,7 @@ use std::marker::Model;
 use std::mem;
 use ts_base::Memory;
 use ts_bound::{ends, is_looked, read_at};
-use ts_domain::Boxed;
+use ts_domain::{Boxed, Domain};
 use ts_glue::Machine;
 use ts_meet::Joints;
 use ts_model::Require;
@@ -96,19 +99,41 @@ impl<'a> BoxTables<'a> {
         }
     }
 
-    /// Forgets the rows that a change reaches, of the places from `first` up to `last`, counted from 0, among the
-    /// `count` cells that are looked at.
-    pub(crate) fn changed(&mut self, first: usize, last: usize, count: usize)
-        requires order { first ≤ last }
-        requires within { last ≤ count }
+    /// Forgets the rows that a change of the cells that are looked at reaches. The forward row of the first cell that
+    /// changes may stay known, without the values that this cell has lost, and so may the backward row of the last one.
+    pub(crate) fn changed(&mut self, change: Change)
+        requires some { change.first < change.last }
+        requires within { change.last ≤ change.count }
         ensures machine { self.new.machine ≡ self.old.machine }
-        ensures ahead { self.new.ahead ≡ take first self.old.ahead }
-        ensures behind { self.new.behind ≡ take (count - last) self.old.behind }
-        ensures known { StayKnown first last count self.old self.new }
+        ensures known { StayKnown change self.old self.new }
     {
-        self.ahead.truncate(first, last);
-        self.behind.truncate(count - last, count - first);
+        let unreached = change.count - change.last;
+        self.ahead
+            .leave(change.first, change.last, change.gone_first);
+        self.behind
+            .leave(unreached, change.count - change.first, change.gone_last);
         self.quiet.clear();
+    }
+
+    /// Which values a cell has lost.
+    pub(crate) fn gone(
+        &mut self,
+        alloc: Global,
+        before: &Domain,
+        now: &Domain,
+    ) -> Result<Option<Gone>, Memory>
+        ensures same { self.new ≡ self.old }
+        ensures lost { IfOk result (λ gone. AreLost gone before.now now.now) }
+    {
+        if before.size() <= now.size() {
+            return Ok(None);
+        }
+        let mut lists = self.ahead.take_lists(alloc);
+        lists.before.reset(before)?;
+        lists.here.reset(now)?;
+        let gone = gone_between(lists.before.lend().values, lists.here.lend().values);
+        self.ahead.keep_lists(lists);
+        Ok(gone)
     }
 }
 

@@ -5,7 +5,8 @@
 //! the first cell, the first drop and the value to keep; each makes the rows of a machine once, however many cells
 //! there are, and looks at no further pair of states once some number of a span does what is asked. `AllTables` answers
 //! the same questions for the machines of all terms and keeps the rows: those that a change of the box doesn't reach
-//! serve the next box, and so do those after a row that comes out as it was. It finds out by itself what has changed.
+//! serve the next box, and so do those after a row that comes out as it was; where a cell only lost values, its row is
+//! cut down to the others. It finds out by itself what has changed.
 //! At cells of which its user knows that they have no drop (`KeptCells`) nothing is asked.
 //! The definitions state the rule of each line of a certificate, when a certificate is accepted, its first failing line
 //! and what its claim means; by the laws an accepted certificate means what it claims, whoever wrote it, wherever spans
@@ -35,11 +36,13 @@ mod drops;
 mod enough;
 mod excluded;
 mod first_cell;
+mod gone;
 mod held_machine;
 mod kept;
 mod kept_cells;
 pub mod laws;
 mod live_tables;
+mod lost;
 mod meeting;
 mod planned;
 mod question;

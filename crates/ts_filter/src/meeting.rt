@@ -1,12 +1,13 @@
 //! Tables of a box become those of another one: what depends on a cell that differs is forgotten.
 
-ghost use Rattle.std.specs.Prelude.{◌≡◌, ◌≤◌, IfOk, OnOk, drop, length, take};
+ghost use Rattle.std.specs.Prelude.{◌≡◌, ◌<◌, ◌≤◌, IfOk, OnOk, drop, length, take};
 ghost use Rattle.ts_base.specs.Windows.{looked_at};
 ghost use Rattle.ts_bound.specs.TermSpans.{LooksIn};
-ghost use Rattle.ts_filter.specs.KnownRows.{AreRowsOf, DifferFrom};
+ghost use Rattle.ts_filter.specs.KnownRows.{AreRowsOf, IsChange};
 ghost use Rattle.ts_filter.specs.Reading.{cells_read};
 
 use crate::box_tables::BoxTables;
+use crate::gone::Change;
 use crate::reading::Reading;
 use std::alloc::Global;
 use std::mem;
@@ -40,9 +41,17 @@ pub(crate) fn meet(
     if first == count {
         return Ok(());
     }
-    let last = last_other(seen.as_slice(), looked, first);
-    tables.changed(first, last, count);
-    take_over(seen, looked, first, last)
+    let change = change_from(alloc, tables, seen.as_slice(), looked, first)?;
+    match take_over(seen, looked, first, change.last) {
+        Ok(()) => {
+            tables.changed(change);
+            Ok(())
+        }
+        Err(stop) => {
+            tables.forget();
+            Err(stop)
+        }
+    }
 }
 
 /// The domains of the cells that are looked at.
@@ -71,16 +80,48 @@ fn first_other(seen: &[Domain], looked: Reading<'_>) -> usize
     seen.len()
 }
 
-/// The place after the last cell that may not be as it was seen, `first` at the least.
+/// How the cells seen become those that are looked at, if the cell at place `first` is the first that may not be as it
+/// was seen.
+fn change_from(
+    alloc: Global,
+    tables: &mut BoxTables<'_>,
+    seen: &[Domain],
+    looked: Reading<'_>,
+    first: usize,
+) -> Result<Change, Memory>
+    requires count { length seen.now ≡ length (cells_read looked) }
+    requires first { first < length seen.now }
+    requires before { take first (cells_read looked) ≡ take first seen.now }
+    ensures same { tables.new ≡ tables.old }
+    ensures first { IfOk result (λ c. c.first ≡ first) }
+    ensures change { IfOk result (λ c. IsChange c seen.now (cells_read looked.entry)) }
+{
+    let last = last_other(seen, looked, first);
+    let gone_first = tables.gone(alloc, &seen[first], looked.at(first))?;
+    let gone_last = if last - 1 == first {
+        gone_first
+    } else {
+        tables.gone(alloc, &seen[last - 1], looked.at(last - 1))?
+    };
+    Ok(Change {
+        first,
+        last,
+        count: seen.len(),
+        gone_first,
+        gone_last,
+    })
+}
+
+/// The place after the last cell that may not be as it was seen, or after the cell at place `first`, which isn't.
 fn last_other(seen: &[Domain], looked: Reading<'_>, first: usize) -> usize
     requires count { length seen.now ≡ length (cells_read looked) }
-    requires first { first ≤ length seen.now }
+    requires first { first < length seen.now }
     ensures same { drop result (cells_read looked.entry) ≡ drop result seen.now }
-    ensures from { first ≤ result }
+    ensures from { first < result }
     ensures to { result ≤ length seen.now }
 {
     let mut last = seen.len();
-    while last > first {
+    while last > first + 1 {
         if !seen[last - 1].is_same(looked.at(last - 1)) {
             return last;
         }
@@ -101,8 +142,7 @@ fn take_over(
     requires within { last ≤ length seen.old.items }
     requires before { take first (cells_read looked) ≡ take first seen.old.items }
     requires behind { drop last (cells_read looked) ≡ drop last seen.old.items }
-    ensures differ { DifferFrom first last (length seen.old.items) seen.old.items seen.new.items }
-    ensures seen { OnOk result (seen.new.items ≡ cells_read looked.entry) }
+    ensures { OnOk result (seen.new.items ≡ cells_read looked.entry) }
 {
     for at in first..last {
         let domain = looked.at(at).try_clone()?;

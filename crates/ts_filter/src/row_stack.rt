@@ -5,12 +5,16 @@ ghost use Rattle.ts_filter.specs.AnyRows.{IsRowOf, columns, lanes_of};
 ghost use Rattle.ts_filter.specs.RowStacks.{
   HasStates,
   IsCut,
+  IsKnownAt,
+  IsLeft,
   IsOneMore,
   IsPlanned,
+  IsSpliced,
   Stands,
   hulls_in,
   no_rows,
   with_row,
+  without,
 };
 ghost use Rattle.ts_row.specs.Plans.{IsPlanOf};
 ghost use Rattle.ts_row.specs.Rows.{IsRow};
@@ -18,6 +22,7 @@ ghost use Rattle.ts_row.specs.Takings.{count_in};
 ghost use Rattle.ts_sweep.specs.Packed.{is_wide};
 
 use crate::any_row::{AnyRow, are_same};
+use crate::gone::Gone;
 use crate::planned::Planned;
 use crate::room::SMALL_ROW;
 use crate::two_cells::TwoCells;
@@ -176,8 +181,47 @@ impl RowStack {
         &self.rows[i].packed
     }
 
+    /// Only the first `count` rows stay known. From place `end` on each row still follows from the one before. If the
+    /// row at place `count` is known, and it's known which values of its cell are `gone`, it may stay known without
+    /// them: the hulls of a value depend on that value and on the cells before alone.
+    pub(crate) fn leave(&mut self, count: usize, end: usize, gone: Option<Gone>)
+        ensures { IsLeft count end gone self.old self.new }
+    {
+        match gone {
+            Some(gone) if self.may_splice(count, gone) => self.splice(count, end, gone),
+            _ => self.truncate(count, end),
+        }
+    }
+
+    /// Whether the row at place `at` is known, and its memory suits the values that are left.
+    fn may_splice(&self, at: usize, gone: Gone) -> bool
+        ensures { IsTrue result → IsKnownAt at self.now }
+    {
+        at < self.known && self.rows[at].has_room(gone.left)
+    }
+
+    /// Only the first `count` rows stay known, and the one above without the values that are gone.
+    fn splice(&mut self, count: usize, end: usize, gone: Gone)
+        requires { IsKnownAt count self.old }
+        ensures { IsSpliced count end gone self.old self.new }
+    {
+        self.truncate(count, end);
+        self.take_out(gone);
+    }
+
+    /// Makes the row above the known ones known, without the values that are gone.
+    fn take_out(&mut self, gone: Gone)
+        requires { length self.old.known < length self.old.laid.rows }
+        ensures { IsOneMore (without self.old.planned.states gone
+            (get_or self.old.laid.rows (length self.old.known) [])) self.old self.new }
+    {
+        self.rows[self.known].packed.take_out(gone.from, gone.to);
+        self.known += 1;
+        self.from = greater(self.from, self.known);
+    }
+
     /// Only the first `count` rows stay known. From place `end` on each row still follows from the one before.
-    pub(crate) fn truncate(&mut self, count: usize, end: usize)
+    fn truncate(&mut self, count: usize, end: usize)
         ensures { IsCut count end self.old self.new }
     {
         if self.known == self.rows.len() {

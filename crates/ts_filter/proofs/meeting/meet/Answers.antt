@@ -1,10 +1,12 @@
-use Rattle.std.proofs.Common.{◌≡◌, ◌∙◌, length, arith}
+use Rattle.std.proofs.Common.{subst}
+use Rattle.ts_filter.specs.KnownRows.{IsChange, KnownRows, StayKnown}
+use Rattle.ts_filter.specs.Reading.{cells_read}
 use Rattle.ts_filter.proofs.MeetingLaws.{known_taken}
 use Rattle.ts_filter.proofs.meeting.meet.Goals as goal
 
-pub returns-clause-known : goal.returns-clause-known
-returns-clause-known c =
-    let long = c.len.ensures ∙ c.args.seen.now.ok.0 in
-    let count : length c.args.seen.now.items ≡ c.count-count.result = omega (arith, long, c.if-len-count.false) in
-    known_taken c.first_other-first.result c.last_other-last.result c.count-count.result c.args.seen.now.items c.take_over.new.seen.items c.args.tables.now
-    c.changed.new.self c.changed.ensures.known count c.take_over.ensures.differ c.requires.known
+pub returns-in-Ok-clause-known : goal.returns-in-Ok-clause-known
+returns-in-Ok-clause-known c =
+    known_taken c.in_ok-change.change c.args.seen.now.items c.take_over.new.seen.items (cells_read c.looked-looked.result) c.args.tables.now c.changed.new.self
+    (subst (λ (t : KnownRows). StayKnown c.in_ok-change.change t c.changed.new.self) c.in_ok-change.ensures.same c.changed.ensures.known)
+    (subst (λ z. IsChange c.in_ok-change.change z (cells_read c.looked-looked.result)) c.as_slice-2.ensures.value c.in_ok-change.ensures.change)
+    c.in-Ok.ensures c.requires.known

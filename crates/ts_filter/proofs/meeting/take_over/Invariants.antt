@@ -3,4 +3,4 @@ use Rattle.ts_filter.proofs.MeetingLaws.{TakenOver}
 use Rattle.ts_filter.proofs.meeting.take_over.Given as goal
 
 abbrev pub invariant-loop-at : goal.invariant-loop-at
-invariant-loop-at l = TakenOver l.first l.last l.fn.seen.items l.seen.items (cells_read l.looked) l.at
+invariant-loop-at l = TakenOver l.last l.seen.items (cells_read l.looked) l.at

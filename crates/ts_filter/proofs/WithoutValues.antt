@@ -1,0 +1,205 @@
+-- Rows without the hulls of some values, as lists and packed.
+use Rattle.std.proofs.Common.{◌≡◌, ◌⊎◌, inl, inr, ℕ, min, zero, suc, ◌+◌, ◌-◌, ◌*◌, ◌<◌, ◌≤◌, ℤ, List, [], ◌∷◌, ◌++◌, length, map, take, drop, get_or, refl, sym, ap, ◌∙◌, subst, arith}
+use Rattle.std.specs.Prelude.{flat_map}
+use Rattle.std.specs.List.{range_with_len, remove_range}
+use Rattle.std.proofs.Math.ListN.{get_or-map}
+use Rattle.std.proofs.Math.Seq.{take-nil, drop-nil, take-append-add, drop-append-add}
+use Rattle.std.proofs.lemmas.Grind.{flat_map-append}
+use Rattle.std.proofs.lemmas.List.{get_or_append_left, get_or-append-add, get_or-take, get_or-drop, length-append, length-drop, length-map, length-take, take-append-drop}
+use Rattle.std.proofs.lemmas.List.FromFn.{length-map-range_with_len}
+use Rattle.ts_automaton.specs.declared.regs.Hull.{Hull}
+use Rattle.ts_automaton.specs.Body.{Body}
+use Rattle.ts_bound.specs.HullTables.{hull_at, hulls_at, row_of}
+use Rattle.ts_row.specs.Rows.{IsColumn, IsRow, flat_row, hull_in, lanes_of, nothing}
+use Rattle.ts_sweep.specs.declared.packed.PackedHull.{PackedHull}
+use Rattle.ts_sweep.specs.Packed.{IsPacked, unpacked}
+use Rattle.ts_filter.specs.declared.any_row.AnyRow.{AnyRow}
+use Rattle.ts_filter.specs.declared.any_row.AnyRow.TheVariants.{Narrow, Wide}
+use Rattle.ts_filter.specs.declared.gone.Gone.{Gone}
+use Rattle.ts_filter.specs.declared.planned.Planned.{Planned}
+use Rattle.ts_filter.specs.AnyRows.{columns_without, row_without}
+use Rattle.ts_filter.specs.Boxes.{Box}
+use Rattle.ts_filter.specs.RowStacks.{HasStates, hulls_in, without}
+
+-- a list that is made of parts of one length
+
+module _ {X Y : Type 0} (f : X → List Y) (s : ℕ) (each : (x : X) → length (f x) ≡ s) where
+  front_of_parts : (k : ℕ) (xs : List X) → take (k * s) (flat_map f xs) ≡ flat_map f (take k xs)
+  front_of_parts zero xs = let start : 0 * s ≡ 0 = omega arith in ap (λ n. take n (flat_map f xs)) start
+  front_of_parts (suc k) [] = take-nil (suc k * s)
+  front_of_parts (suc k) (x ∷ xs) =
+      let long = each x in let place : suc k * s ≡ length (f x) + k * s = omega (arith, long) in
+      ap (λ n. take n (f x ++ flat_map f xs)) place ∙ take-append-add (f x) (flat_map f xs) (k * s) ∙ ap (λ l. f x ++ l) (front_of_parts k xs)
+
+  rest_of_parts : (k : ℕ) (xs : List X) → drop (k * s) (flat_map f xs) ≡ flat_map f (drop k xs)
+  rest_of_parts zero xs = let start : 0 * s ≡ 0 = omega arith in ap (λ n. drop n (flat_map f xs)) start
+  rest_of_parts (suc k) [] = drop-nil (suc k * s)
+  rest_of_parts (suc k) (x ∷ xs) =
+      let long = each x in let place : suc k * s ≡ length (f x) + k * s = omega (arith, long) in
+      ap (λ n. drop n (f x ++ flat_map f xs)) place ∙ drop-append-add (f x) (flat_map f xs) (k * s) ∙ rest_of_parts k xs
+
+  parts_without : (xs : List X) (i j : ℕ) → remove_range (flat_map f xs) (i * s) (j * s) ≡ flat_map f (remove_range xs i j)
+  parts_without xs i j =
+      ap (λ l. l ++ drop (j * s) (flat_map f xs)) (front_of_parts i xs) ∙ ap (λ l. flat_map f (take i xs) ++ l) (rest_of_parts j xs)
+      ∙ sym (flat_map-append f (take i xs) (drop j xs))
+
+-- the values that went stood side by side
+pub lost_between : (before now : List ℤ) (from to : ℕ) → take from now ≡ take from before → drop to before ≡ drop from now →
+    now ≡ remove_range before from to
+lost_between before now from to same rest =
+    sym (take-append-drop from now) ∙ ap (λ l. l ++ drop from now) same ∙ ap (λ l. take from before ++ l) (sym rest)
+
+-- the row of a cell that has lost values: the hulls of the others are as they were
+pub row_lost : (a : Body) (before : Box) (values : List ℤ) (g : Gone) →
+    without (length a.states) g (row_of a before values) ≡ row_of a before (remove_range values g.from g.to)
+unfolding row_of hulls_at
+row_lost a before values g =
+    parts_without (hulls_at a before) (length a.states) (λ v. length-map-range_with_len (hull_at a before v) 0 (length a.states)) values g.from g.to
+
+-- ranges of places
+
+front_places : (p k f : ℕ) → take f (range_with_len p k) ≡ range_with_len p (min f k)
+front_places p k zero = let none : 0 ≡ min 0 k = omega arith in ap (range_with_len p) none
+front_places p zero (suc f) = let none : 0 ≡ min (suc f) 0 = omega arith in ap (range_with_len p) none
+front_places p (suc k) (suc f) =
+    let more : suc (min f k) ≡ min (suc f) (suc k) = omega arith in
+    ap (λ l. p ∷ l) (front_places (p + 1) k f) ∙ ap (range_with_len p) more
+
+rest_places : (p k t : ℕ) → drop t (range_with_len p k) ≡ range_with_len (p + t) (k - t)
+rest_places p k zero = let here : p ≡ p + 0 = omega arith in let all : k ≡ k - 0 = omega arith in ap (λ q. range_with_len q k) here ∙ ap (range_with_len (p + 0)) all
+rest_places p zero (suc t) = let none : 0 ≡ 0 - suc t = omega arith in ap (range_with_len (p + suc t)) none
+rest_places p (suc k) (suc t) =
+    let here : p + 1 + t ≡ p + suc t = omega arith in let left : k - t ≡ suc k - suc t = omega arith in
+    rest_places (p + 1) k t ∙ ap (λ q. range_with_len q (k - t)) here ∙ ap (range_with_len (p + suc t)) left
+
+two_ranges : (p m r : ℕ) → range_with_len p (m + r) ≡ range_with_len p m ++ range_with_len (p + m) r
+two_ranges p zero r =
+    let none : 0 + r ≡ r = omega arith in let here : p ≡ p + 0 = omega arith in ap (range_with_len p) none ∙ ap (λ q. range_with_len q r) here
+two_ranges p (suc m) r =
+    let more : suc m + r ≡ suc (m + r) = omega arith in let here : p + 1 + m ≡ p + suc m = omega arith in
+    ap (range_with_len p) more ∙ ap (λ l. p ∷ l) (two_ranges (p + 1) m r) ∙ ap (λ q. p ∷ (range_with_len (p + 1) m ++ range_with_len q r)) here
+
+-- the hulls at some places of a packed row, one place after the other
+abbrev at_places : (n s : ℕ) → List (List (PackedHull n)) → List ℕ → List Hull
+at_places n s row places = flat_map (λ i. map (λ q. hull_in n row q i) (range_with_len 0 s)) places
+
+same_states : (f g : ℕ → Hull) (p s m : ℕ) → p + s ≤ m → ((q : ℕ) → q < m → f q ≡ g q) → map f (range_with_len p s) ≡ map g (range_with_len p s)
+same_states f g p zero m le h = refl
+same_states f g p (suc s) m le h =
+    ap (λ x. x ∷ map f (range_with_len (p + 1) s)) (h p (omega (arith, le)))
+    ∙ ap (λ l. g p ∷ l) (same_states f g (p + 1) s m (omega (arith, le)) h)
+
+moved_places : (n s : ℕ) (old new : List (List (PackedHull n))) (a b m : ℕ) →
+    ((q i : ℕ) → q < s → i < m → hull_in n new q (a + i) ≡ hull_in n old q (b + i)) →
+    at_places n s new (range_with_len a m) ≡ at_places n s old (range_with_len b m)
+moved_places n s old new a b zero h = refl
+moved_places n s old new a b (suc m) h =
+    ap (λ l. l ++ at_places n s new (range_with_len (a + 1) m))
+    (same_states (λ q. hull_in n new q a) (λ q. hull_in n old q b) 0 s s (omega arith)
+    (λ q lt. ap (hull_in n new q) (first a) ∙ h q 0 lt (omega arith) ∙ sym (ap (hull_in n old q) (first b))))
+    ∙ ap (λ l. map (λ q. hull_in n old q b) (range_with_len 0 s) ++ l)
+    (moved_places n s old new (a + 1) (b + 1) m
+    (λ q i lt less. ap (hull_in n new q) (next a i) ∙ h q (suc i) lt (omega (arith, less)) ∙ sym (ap (hull_in n old q) (next b i))))
+  where
+    first : (p : ℕ) → p ≡ p + 0
+    first p = omega arith
+
+    next : (p i : ℕ) → p + 1 + i ≡ p + suc i
+    next p i = omega arith
+
+-- a list without some places
+
+module _ {X : Type 0} (xs : List X) (k f t : ℕ) (long : length xs ≡ k) where
+  count_without : length (remove_range xs f t) ≡ min f k + (k - t)
+  count_without =
+      let both = length-append (take f xs) (drop t xs) in let front = length-take f xs in let rest = length-drop t xs in
+      omega (arith, both, front, rest, long)
+
+  front_without : (i : ℕ) (d : X) → i < min f k → get_or (remove_range xs f t) i d ≡ get_or xs i d
+  front_without i d lt =
+      let front = length-take f xs in
+      get_or_append_left (take f xs) (drop t xs) d i (omega (arith, front, lt, long)) ∙ get_or-take f xs i d (omega (arith, lt))
+
+  rest_without : (i : ℕ) (d : X) → get_or (remove_range xs f t) (min f k + i) d ≡ get_or xs (t + i) d
+  rest_without i d =
+      let front = length-take f xs in let count : min f k ≡ length (take f xs) = omega (arith, front, long) in
+      ap (λ m. get_or (remove_range xs f t) (m + i) d) count ∙ get_or-append-add (take f xs) (drop t xs) i d ∙ get_or-drop t xs i d
+
+-- a packed row without some places
+
+column_without : {X : Type 0} (f t : ℕ) (columns : List (List X)) (q : ℕ) →
+    get_or (columns_without f t columns) q [] ≡ remove_range (get_or columns q []) f t
+column_without {X} f t columns q =
+    let none : remove_range {X = X} [] f t ≡ [] = ap (λ l. l ++ drop {A = X} t []) (take-nil f) ∙ drop-nil t in
+    ap (λ d. get_or (columns_without f t columns) q d) (sym none) ∙ get_or-map (λ column. remove_range column f t) columns q []
+
+module _ (n s f t k : ℕ) (old : List (List (PackedHull n))) (h : IsRow n s k old) where
+  abbrev new : List (List (PackedHull n))
+  new = columns_without f t old
+
+  packed_column : (q : ℕ) → q < s → IsColumn n (min f k + (k - t)) (get_or new q [])
+  packed_column q lt =
+      let column = get_or old q [] in let c = h.columns q lt in
+      subst (IsColumn n (min f k + (k - t))) (sym (column_without f t old q)) (count_without column k f t c.0, λ i less. packed_at i less column c (split i (min f k)))
+    where
+      split : (i m : ℕ) → (i < m) ⊎ (m ≤ i)
+      split i m = grind arith
+
+      packed_at : (i : ℕ) → i < min f k + (k - t) → (column : List (PackedHull n)) → IsColumn n k column → (i < min f k) ⊎ (min f k ≤ i) →
+          IsPacked n (lanes_of n (get_or (remove_range column f t) i (nothing n)))
+      packed_at i less column c (inl lt) =
+          subst (λ x. IsPacked n (lanes_of n x)) (sym (front_without column k f t c.0 i (nothing n) lt)) (c.1 i (omega (arith, lt)))
+      packed_at i less column c (inr le) =
+          let j = i - min f k in let sum : min f k + j ≡ i = omega (arith, le) in
+          subst (λ x. IsPacked n (lanes_of n x))
+          (sym (ap (λ z. get_or (remove_range column f t) z (nothing n)) (sym sum) ∙ rest_without column k f t c.0 j (nothing n)))
+          (c.1 (t + j) (omega (arith, less, le)))
+
+  row_left : IsRow n s (min f k + (k - t)) new
+  row_left = record { len = length-map old (λ column. remove_range column f t) ∙ h.len; columns = packed_column }
+
+  front_hull : (q i : ℕ) → q < s → i < min f k → hull_in n new q (0 + i) ≡ hull_in n old q (0 + i)
+  front_hull q i lt less =
+      let here : 0 + i ≡ i = omega arith in
+      ap (hull_in n new q) here ∙ ap (λ column. unpacked (get_or column i (nothing n)).at) (column_without f t old q)
+      ∙ ap (λ (x : PackedHull n). unpacked x.at) (front_without (get_or old q []) k f t (h.columns q lt).0 i (nothing n) less)
+      ∙ sym (ap (hull_in n old q) here)
+
+  rest_hull : (q i : ℕ) → q < s → i < k - t → hull_in n new q (0 + min f k + i) ≡ hull_in n old q (0 + t + i)
+  rest_hull q i lt less =
+      let here : 0 + min f k + i ≡ min f k + i = omega arith in let there : 0 + t + i ≡ t + i = omega arith in
+      ap (hull_in n new q) here ∙ ap (λ column. unpacked (get_or column (min f k + i) (nothing n)).at) (column_without f t old q)
+      ∙ ap (λ (x : PackedHull n). unpacked x.at) (rest_without (get_or old q []) k f t (h.columns q lt).0 i (nothing n))
+      ∙ sym (ap (hull_in n old q) there)
+
+  flat_left : flat_row n s (min f k + (k - t)) new ≡ remove_range (flat_row n s k old) (f * s) (t * s)
+  unfolding flat_row
+  flat_left =
+      let at = λ (i : ℕ). map (λ q. hull_in n old q i) (range_with_len 0 s) in
+      ap (at_places n s new) (two_ranges 0 (min f k) (k - t))
+      ∙ flat_map-append (λ i. map (λ q. hull_in n new q i) (range_with_len 0 s)) (range_with_len 0 (min f k)) (range_with_len (0 + min f k) (k - t))
+      ∙ ap (λ l. l ++ at_places n s new (range_with_len (0 + min f k) (k - t))) (moved_places n s old new 0 0 (min f k) front_hull)
+      ∙ ap (λ l. at_places n s old (range_with_len 0 (min f k)) ++ l) (moved_places n s old new (0 + min f k) (0 + t) (k - t) rest_hull)
+      ∙ sym (flat_map-append at (range_with_len 0 (min f k)) (range_with_len (0 + t) (k - t)))
+      ∙ ap (λ l. at_places n s old (l ++ range_with_len (0 + t) (k - t))) (sym (front_places 0 k f))
+      ∙ ap (λ l. at_places n s old (take f (range_with_len 0 k) ++ l)) (sym (rest_places 0 k t))
+      ∙ sym (parts_without at s (λ i. length-map-range_with_len (λ q. hull_in n old q i) 0 s) (range_with_len 0 k) f t)
+
+-- as a stack holds it
+
+left_of : (n s f t : ℕ) (old : List (List (PackedHull n))) → IsRow n s (length (get_or old 0 [])) old →
+    IsRow n s (length (get_or (columns_without f t old) 0 [])) (columns_without f t old)
+    × (flat_row n s (length (get_or (columns_without f t old) 0 [])) (columns_without f t old)
+    ≡ remove_range (flat_row n s (length (get_or old 0 [])) old) (f * s) (t * s))
+left_of n s f t old h =
+    let k = length (get_or old 0 []) in
+    let long : length (get_or (columns_without f t old) 0 []) ≡ min f k + (k - t) =
+    ap length (column_without f t old 0) ∙ count_without (get_or old 0 []) k f t refl in (
+      subst (λ m. IsRow n s m (columns_without f t old)) (sym long) (row_left n s f t k old h),
+      ap (λ m. flat_row n s m (columns_without f t old)) long ∙ flat_left n s f t k old h,
+    )
+
+pub made_without : (p : Planned) (g : Gone) (row : AnyRow) → HasStates p row →
+    HasStates p (row_without g.from g.to row) × (hulls_in p.states (row_without g.from g.to row) ≡ without p.states g (hulls_in p.states row))
+made_without p g (Narrow row) h = let l = left_of 6 p.states g.from g.to row h.is_row in (record { width = h.width; is_row = l.0 }, l.1)
+made_without p g (Wide row) h = let l = left_of 10 p.states g.from g.to row h.is_row in (record { width = h.width; is_row = l.0 }, l.1)

@@ -1,0 +1,24 @@
+//! Values that a cell has lost.
+
+ghost use Rattle.std.specs.Prelude.{◌≤◌};
+
+/// Values that a cell has lost and that stood side by side there: those at the places from `from` up to `to`, counted
+/// from 0. `left` is how many stay.
+#[derive(Clone, Copy)]
+pub(crate) struct Gone {
+    pub(crate) from: usize,
+    pub(crate) to: usize,
+    pub(crate) left: usize,
+    pub(crate) ghost ordered: { from ≤ to },
+}
+
+/// Cells that may not be as they were: those at the places from `first` up to `last` of `count`, counted from 0; and
+/// which values the first and the last of them have lost, where that is known.
+#[derive(Clone, Copy)]
+pub(crate) struct Change {
+    pub(crate) first: usize,
+    pub(crate) last: usize,
+    pub(crate) count: usize,
+    pub(crate) gone_first: Option<Gone>,
+    pub(crate) gone_last: Option<Gone>,
+}
