@@ -46,7 +46,7 @@ pub enum ModelKind {
 }
 
 /// Why a line adds nothing: the first kind that holds of it, or want of memory.
-#[derive(Clone, Copy, Debug, PartialEq, Eq)]
+#[derive(Clone, Copy)]
 pub(crate) enum LineStop {
     Bad(ModelKind),
     NoMemory,

@@ -15,7 +15,7 @@ pub(crate) struct Ranges {
 }
 
 /// The three names of a term; they need not make a pair.
-#[derive(Clone, Copy, Debug, PartialEq, Eq)]
+#[derive(Clone, Copy)]
 pub(crate) struct TermParts {
     pub aggregator: Aggregator,
     pub feature: Feature,

@@ -10,10 +10,10 @@ ghost use Rattle.ts_model.specs.Views.{texts};
 use crate::model::Op;
 use std::str::from_utf8;
 use ts_domain::Interval;
-use ts_token::{Word, number};
+use ts_token::{Word, is_word, number};
 
 /// The form of a line, told by its first word.
-#[derive(Clone, Copy, Debug, PartialEq, Eq)]
+#[derive(Clone, Copy)]
 pub(crate) enum Form {
     Cells,
     Domain,
@@ -28,17 +28,17 @@ pub(crate) enum Form {
 pub(crate) fn form_of(word: &[u8]) -> Option<Form>
     ensures { result ≡ form_of word.now }
 {
-    if word == b"cells".as_slice() {
+    if is_word(word, b"cells") {
         Some(Form::Cells)
-    } else if word == b"domain".as_slice() {
+    } else if is_word(word, b"domain") {
         Some(Form::Domain)
-    } else if word == b"cell".as_slice() {
+    } else if is_word(word, b"cell") {
         Some(Form::Cell)
-    } else if word == b"term".as_slice() {
+    } else if is_word(word, b"term") {
         Some(Form::Term)
-    } else if word == b"require".as_slice() {
+    } else if is_word(word, b"require") {
         Some(Form::Require)
-    } else if word == b"objective".as_slice() {
+    } else if is_word(word, b"objective") {
         Some(Form::Objective)
     } else {
         None
@@ -50,17 +50,17 @@ pub(crate) fn form_of(word: &[u8]) -> Option<Form>
 pub(crate) fn op_of(word: &[u8]) -> Option<Op>
     ensures { result ≡ op_of word.now }
 {
-    if word == b"=".as_slice() {
+    if is_word(word, b"=") {
         Some(Op::Equal)
-    } else if word == b"!=".as_slice() {
+    } else if is_word(word, b"!=") {
         Some(Op::Unequal)
-    } else if word == b"<=".as_slice() {
+    } else if is_word(word, b"<=") {
         Some(Op::AtMost)
-    } else if word == b">=".as_slice() {
+    } else if is_word(word, b">=") {
         Some(Op::AtLeast)
-    } else if word == b"<".as_slice() {
+    } else if is_word(word, b"<") {
         Some(Op::Below)
-    } else if word == b">".as_slice() {
+    } else if is_word(word, b">") {
         Some(Op::Above)
     } else {
         None
