@@ -11,7 +11,7 @@ use std::alloc::Global;
 use ts_base::{Letter, Memory};
 
 /// A configuration, and the arrival from which it was reached on a letter; the first one has none.
-#[derive(Clone, Copy, Debug, PartialEq, Eq)]
+#[derive(Clone, Copy)]
 pub struct Arrival {
     pub configuration: usize,
     pub from: usize,
@@ -20,7 +20,7 @@ pub struct Arrival {
 
 /// The arrivals in their order, of each configuration the place of its arrival, and of each arrival whose steps were
 /// taken the first letter on which a check fails.
-#[derive(Debug, Drop)]
+#[derive(Drop)]
 pub struct Tour {
     pub arrivals: Vec<Arrival>,
     pub places: Vec<Option<usize>>,

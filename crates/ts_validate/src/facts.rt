@@ -27,7 +27,7 @@ pub fn kept_agree(phase: Phase, kind: Kind, free: bool, kept: &[Kept]) -> bool
 }
 
 /// The answers that the checks of one step need. Of an entry the tag before the step counts, unless said.
-#[derive(Clone, Copy, Debug, PartialEq, Eq)]
+#[derive(Clone, Copy)]
 pub struct Facts {
     /// Some residual has the empty word.
     pub some_nullable: bool,

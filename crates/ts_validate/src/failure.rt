@@ -7,7 +7,7 @@ use crate::arrival::Tour;
 use ts_base::Letter;
 
 /// A configuration, the place of its arrival, and the first letter on which a check fails.
-#[derive(Clone, Copy, Debug, PartialEq, Eq)]
+#[derive(Clone, Copy)]
 pub struct Failure {
     pub configuration: usize,
     pub place: usize,

@@ -14,7 +14,7 @@ use ts_regex::Regex;
 
 /// A residual: the numbers of the residuals after each letter, the least number with its value, and which words it
 /// has.
-#[derive(Clone, Copy, Debug, PartialEq, Eq)]
+#[derive(Clone, Copy)]
 pub struct Knowledge {
     pub less: u32,
     pub equal: u32,

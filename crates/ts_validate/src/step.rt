@@ -185,7 +185,7 @@ fn seen(alloc: Global, table: &[Knowledge], kept: &[Live]) -> Result<Vec<Kept>, 
 }
 
 /// What a step shows: the place at which it is listed first, if it is, and whether the six checks hold.
-#[derive(Clone, Copy, Debug, PartialEq, Eq)]
+#[derive(Clone, Copy)]
 pub struct Look {
     pub next: Option<usize>,
     pub meets: bool,
