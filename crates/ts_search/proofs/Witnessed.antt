@@ -18,7 +18,7 @@ use Rattle.ts_domain.proofs.Sets.{each_contains}
 use Rattle.ts_filter.specs.Boxes.{Box, IsPart, values_at}
 use Rattle.ts_filter.specs.KeptCells.{AreKept, AreSized, TermKept, unknown}
 use Rattle.ts_filter.proofs.BoxParts.{inside_length}
-use Rattle.ts_filter.proofs.SparedLaws.{none_kept, none_sized}
+use Rattle.ts_filter.proofs.SparedLaws.{none_sized}
 use Rattle.ts_model.specs.declared.model.Require.{Require}
 use Rattle.ts_model.specs.Views.{model_parts}
 use Rattle.ts_spans.specs.Machines.{automata_in, spans_in}
@@ -32,39 +32,21 @@ use Rattle.ts_search.proofs.Posed.{required_there, tables_long}
 use Rattle.ts_search.specs.LineOf.{inner, is_refuted_at, last, requirements}
 use Rattle.ts_search.specs.Drops.{least}
 use Rattle.ts_search.specs.Posed.{IsPosed}
-use Rattle.ts_search.specs.Shown.{AreHeld, AreNone, AreShown, IsHeld, OfEach, Seats, is_shown}
+use Rattle.ts_search.specs.Shown.{AreHeld, AreShown, IsHeld, OfEach, Seats, is_shown}
 use Rattle.ts_search.specs.Views.{search_of}
 use Rattle.ts_search.specs.declared.problem.Problem.{Problem}
 use Rattle.ts_search.specs.declared.shown.Shown.{Shown}
 use Rattle.ts_search.specs.declared.witnesses.Witnesses.{Witnesses}
 
--- where no requirement has a witness
-
 nothing : (i : ℕ) (s : Shown) (es : List Shown) → es ≡ [] → slice_get es i ≡ Some s → ⊥
 nothing i s es none e = let g : ◌≡◌ {A = Option Shown} None (Some s) = sym (ap (λ z. slice_get z i) none) ∙ e in cc
+
+-- marks that nothing is marked in fit the model
 
 pub unmarked_sized : (q : Problem) (kept : List TermKept) → kept ≡ replicate (length q.model.now.terms.entries) (unknown (last (search_of q))) →
     AreSized (length q.model.now.terms.entries) (last (search_of q)) kept
 unmarked_sized q kept e =
     subst (AreSized (length q.model.now.terms.entries) (last (search_of q))) (sym e) (none_sized (length q.model.now.terms.entries) (last (search_of q)))
-
-pub none_shown : (q : Problem) (w : Witnesses) (b : Box) → AreNone q w → AreShown q w b
-none_shown q w b none = record {
-  held = record {
-    few = let count = ap length none.witnesses in omega (arith, count);
-    machine = λ i s r e f. absurd (nothing i s w.each.items none.witnesses e);
-    each = λ i s r e f. absurd (nothing i s w.each.items none.witnesses e);
-    count = λ i s r e f. absurd (nothing i s w.each.items none.witnesses e);
-    domains = λ i s r e f. absurd (nothing i s w.each.items none.witnesses e);
-    sized = unmarked_sized q w.kept none.marks;
-  };
-  inside = λ i s r e f. absurd (nothing i s w.each.items none.witnesses e);
-}
-
-pub none_marked : (q : Problem) (w : Witnesses) (b : Box) → AreNone q w → AreKept q.model.now.requirements.items (search_of q).spans b w.kept
-none_marked q w b none =
-    subst (AreKept q.model.now.requirements.items (search_of q).spans b) (sym none.marks)
-    (none_kept q.model.now.requirements.items (search_of q).spans b (length q.model.now.terms.entries) (last (search_of q)))
 
 -- a requirement whose witness meets it is refuted nowhere
 

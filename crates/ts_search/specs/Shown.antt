@@ -62,11 +62,6 @@ pub record AreShown (q : Problem) (w : Witnesses) (b : Box) : Type 0 where
 abbrev pub is_shown : Witnesses → ℕ → Bool
 is_shown w j = unwrap_or (option_map (λ (s : Shown). s.met) (slice_get w.each.items (j - 1))) false
 
--- no requirement has a witness, and nothing is marked
-pub record AreNone (q : Problem) (w : Witnesses) : Type 0 where
-  pub witnesses : w.each.items ≡ []
-  pub marks : w.kept ≡ replicate (length q.model.now.terms.entries) (unknown (last (search_of q)))
-
 -- each series is one of the box, and what is marked of terms and cells is so there
 pub record AreMarked (q : Problem) (w : Witnesses) (b : Box) : Type 0 where
   pub shown : AreShown q w b

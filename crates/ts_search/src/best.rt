@@ -50,8 +50,8 @@ pub fn solve(
         warm: None,
     };
     let mut tables = tables_of(alloc, m, p)?;
-    contest.warm = dive(alloc, &contest, &mut tables)?;
     let mut witnesses = Witnesses::new(alloc, &contest.problem, p.machines())?;
+    contest.warm = dive(alloc, &contest, &mut tables, &mut witnesses)?;
     let tree = grow(alloc, &contest, &mut tables, &mut witnesses, budget)?;
     certificate(alloc, contest, tree)
 }

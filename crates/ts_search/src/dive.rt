@@ -7,7 +7,7 @@ ghost use Rattle.ts_search.specs.Dive.{dive, dive_end, kept_value};
 ghost use Rattle.ts_search.specs.Drops.{next_drop};
 ghost use Rattle.ts_frontier.specs.Forms.{form};
 ghost use Rattle.ts_search.specs.Posed.{AreTablesOf, HasObjective, IsPosed, MayAsk};
-ghost use Rattle.ts_search.specs.Shown.{AreNone};
+ghost use Rattle.ts_search.specs.Shown.{AreHeld};
 ghost use Rattle.ts_search.specs.Views.{IsSettled, find_of, search_of};
 
 use crate::contest::Contest;
@@ -28,22 +28,24 @@ pub(crate) fn dive(
     alloc: Global,
     contest: &Contest<'_>,
     tables: &mut AllTables<'_>,
+    witnesses: &mut Witnesses<'_>,
 ) -> Result<Option<FoundSeries>, Memory>
     requires objective { HasObjective contest.now }
     requires posed { IsPosed contest.now.problem }
     requires tables { AreTablesOf contest.now.problem tables.old }
+    requires held { AreHeld contest.now.problem witnesses.old }
     ensures same { tables.new ≡ tables.old }
+    ensures held { OnOk result (AreHeld contest.now.problem witnesses.new) }
     ensures found { let s = search_of contest.now.problem in
         IfOk result (λ found. find_of found ≡ dive s.model s.spans contest.now.goal) }
 {
     let mut cells = Boxed::new(alloc, &contest.problem.model.cells)?;
-    let none = Witnesses::none(alloc, &contest.problem)?;
-    if !settle(alloc, &contest.problem, tables, &none, &mut cells)? {
+    if !settle(alloc, &contest.problem, tables, witnesses, &mut cells)? {
         return Ok(None);
     }
     for k in 1..cells.cells() + 1 {
         keep_one(alloc, contest, tables, k, &mut cells)?;
-        if !settle(alloc, &contest.problem, tables, &none, &mut cells)? {
+        if !settle(alloc, &contest.problem, tables, witnesses, &mut cells)? {
             return Ok(None);
         }
     }
@@ -51,24 +53,28 @@ pub(crate) fn dive(
 }
 
 /// Makes the possible drops, one after the other, and answers whether none is left. It stops early if a requirement is
-/// refuted at the last cell. `none` are no witnesses and no marks.
+/// refuted at the last cell.
 fn settle(
     alloc: Global,
     problem: &Problem<'_>,
     tables: &mut AllTables<'_>,
-    none: &Witnesses<'_>,
+    witnesses: &mut Witnesses<'_>,
     cells: &mut Boxed,
 ) -> Result<bool, Memory>
     requires asked { MayAsk problem.now tables.old cells.old.present }
-    requires none { AreNone problem.now none.now }
+    requires held { AreHeld problem.now witnesses.old }
     ensures same { tables.new ≡ tables.old }
+    ensures held { OnOk result (AreHeld problem.now witnesses.new) }
     ensures settled { IfOk result (λ all. IsSettled (search_of problem.now) cells.old.present cells.new.present all) }
 {
-    while refuted_requirement(alloc, problem, tables, none, cells)?.is_none() {
-        match problem.next_drop(alloc, tables, cells, &none.kept)? {
+    witnesses.bring(problem, cells);
+    while refuted_requirement(alloc, problem, tables, witnesses, cells)?.is_none() {
+        witnesses.mark(problem, cells);
+        match problem.next_drop(alloc, tables, cells, &witnesses.kept)? {
             Some(removal) => cells.remove(removal.cell, removal.value)?,
             None => return Ok(true),
         }
+        witnesses.bring(problem, cells);
     }
     Ok(false)
 }

@@ -24,7 +24,10 @@ use ts_witness::{Spared, Witness};
 /// A series that doesn't meet its requirement is bettered at so many cells of a box, the first that have a choice.
 const FEW: u32 = 4;
 
-/// It is bettered at all of them on the first of so many boxes on which it doesn't.
+/// It is so on the first of so many boxes on which it doesn't, and then on each of so many.
+const SOON: u32 = 8;
+
+/// On the first of so many boxes it is bettered at all cells that have a choice.
 const EACH: u32 = 32;
 
 /// The machine of a requirement's term, a series of the cells that it looks at, what is known of other values of each
@@ -90,12 +93,11 @@ impl<'a> Shown<'a> {
             self.failed = 0;
             return;
         }
-        let most = if self.failed % EACH == 0 {
-            u32::MAX
-        } else {
-            FEW
-        };
+        let most = cells_to_better(self.failed);
         self.failed = self.failed.saturating_add(1);
+        if most == 0 {
+            return;
+        }
         self.climb(r, cells, most);
         self.judge(r);
     }
@@ -267,5 +269,17 @@ fn looked_at<'a>(window: Option<Range>, cells: &'a [Domain]) -> &'a [Domain]
     match window {
         None => cells,
         Some(window) => &cells[window.first as usize - 1..window.last as usize],
+    }
+}
+
+/// At how many cells a series is bettered that hasn't met its requirement on so many boxes: the longer it fails, the
+/// less is spent on it.
+fn cells_to_better(failed: u32) -> u32 {
+    if failed % EACH == 0 {
+        u32::MAX
+    } else if failed < SOON || failed % SOON == 0 {
+        FEW
+    } else {
+        0
     }
 }

@@ -8,7 +8,7 @@ ghost use Rattle.ts_filter.specs.KeptCells.{unknown};
 ghost use Rattle.ts_model.specs.Views.{model_parts};
 ghost use Rattle.ts_search.specs.LineOf.{last};
 ghost use Rattle.ts_search.specs.Posed.{IsPosed};
-ghost use Rattle.ts_search.specs.Shown.{AreHeld, AreNone, AreShown, is_shown};
+ghost use Rattle.ts_search.specs.Shown.{AreHeld, AreShown, is_shown};
 ghost use Rattle.ts_search.specs.Views.{search_of};
 ghost use Rattle.ts_spans.specs.Machines.{automata_in};
 
@@ -29,15 +29,6 @@ pub(crate) struct Witnesses<'a> {
 }
 
 impl<'a> Witnesses<'a> {
-    /// No requirement has one, and nothing is marked.
-    pub(crate) fn none(alloc: Global, problem: &Problem<'_>) -> Result<Witnesses<'a>, Memory>
-        ensures { IfOk result (λ w. AreNone problem.now w) }
-    {
-        let each = Vec::new(alloc);
-        let kept = unmarked(alloc, problem)?;
-        Ok(Witnesses { each, kept })
-    }
-
     /// One of each requirement of the model. These are the machines of its terms.
     pub(crate) fn new(
         alloc: Global,

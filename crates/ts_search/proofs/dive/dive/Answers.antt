@@ -39,6 +39,7 @@ loop-k-init c =
     (subst (IsSettled s _ c.settle.new.cells.present) c.if-not-branch.false c.in_ok-settle.ensures.settled) in
     record {
       same = c.settle.ensures.same;
+      held = c.in_ok-settle.ensures.held;
       part = settled.part;
       ends = ends_first s.model s.spans c.args.contest.now.goal c.settle.new.cells.present (length s.model.cells)
           (settled_all s s.model.cells c.settle.new.cells.present settled) refl;
@@ -118,6 +119,7 @@ loop-k-preserved c =
     let below = within_cells k c.cells-k-end.result n c.loop-k-test.true end in
     let settled = subst (IsSettled s _ _) c.if-not-branch-2.false c.in_ok-settle-2.ensures.settled in
     record {
+      held = c.in_ok-settle-2.ensures.held;
       same = c.settle-in-loop-k.ensures.same ∙ c.keep_one.ensures.same ∙ c.loop-k.invariant.same;
       part = settled.part;
       ends = ends_next s.model s.spans c.args.contest.now.goal c.loop-k.cells.present c.keep_one.new.cells.present c.settle-in-loop-k.new.cells.present

@@ -1,6 +1,7 @@
 use Rattle.std.proofs.Common.{◌≡◌, ◌+◌, ◌-◌, length}
 use Rattle.ts_filter.specs.Boxes.{IsPart}
 use Rattle.ts_search.specs.Dive.{dive}
+use Rattle.ts_search.specs.Shown.{AreHeld}
 use Rattle.ts_search.specs.Views.{search_of}
 use Rattle.ts_search.proofs.DiveSteps.{EndsAs}
 use Rattle.ts_search.proofs.dive.dive.Given as goal
@@ -8,6 +9,7 @@ use Rattle.ts_search.proofs.dive.dive.Given as goal
 abbrev pub invariant-loop-k : goal.invariant-loop-k
 invariant-loop-k l = record {
   same : l.tables ≡ l.fn.tables;
+  held : AreHeld l.contest.problem l.witnesses;
   part : IsPart l.cells.present (search_of l.contest.problem).model.cells;
   ends : EndsAs (search_of l.contest.problem).model (search_of l.contest.problem).spans l.contest.goal
       (length (search_of l.contest.problem).model.cells + 1 - l.k) l.k

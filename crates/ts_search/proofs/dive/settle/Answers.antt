@@ -8,22 +8,24 @@ use Rattle.ts_filter.specs.declared.drops.Removal.{Removal}
 use Rattle.ts_search.specs.Drops.{after_drops, next_drop}
 use Rattle.ts_search.specs.Views.{search_of}
 use Rattle.ts_search.proofs.DiveSteps.{one_more, refuted_some, removal_cell, removal_less, removal_part, removal_stays}
-use Rattle.ts_search.proofs.Witnessed.{none_marked, none_shown}
 use Rattle.ts_search.proofs.dive.settle.Goals as goal
 
--- no requirement has a witness
-pub refuted_requirement-requires-clause-shown : goal.refuted_requirement-requires-clause-shown
-refuted_requirement-requires-clause-shown c =
-    none_shown c.args.problem.now c.args.none.now c.loop-alloc.cells.present c.requires.none
-
-pub next_drop-requires-clause-kept : goal.next_drop-requires-clause-kept
-next_drop-requires-clause-kept c = none_marked c.args.problem.now c.args.none.now c.loop-alloc.cells.present c.requires.none
+-- a drop leaves a part of the model's box
+pub bring-requires-in-loop-witnesses-clause-part : goal.bring-requires-in-loop-witnesses-clause-part
+bring-requires-in-loop-witnesses-clause-part c =
+    let s = search_of c.args.problem.now in
+    let b = c.loop-witnesses.cells.present in
+    let r : Removal = c.in-Some.removal in
+    let next : next_drop s.model s.spans b ≡ Some r = sym c.in_ok-removal.ensures.found ∙ c.in-Some.is in
+    let after : c.remove.new.self.present ≡ without r.cell r.value b =
+    ap (λ z. z.present) c.in_ok-remove-in-Some.ensures.ok ∙ ap (λ v. without r.cell v b) (to_z-of_z w64 r.value (search rules)) in
+    subst (λ z. IsPart z s.model.cells) (sym after) (removal_part s.model s.spans s.model.cells b r c.loop-witnesses.invariant.part next)
 
 -- the drop as the definitions have it: `next_drop` of the problem gave this removal
 pub remove-requires-clause-cell : goal.remove-requires-clause-cell
 remove-requires-clause-cell c =
     let s = search_of c.args.problem.now in
-    removal_cell s.model s.spans c.loop-alloc.cells.present
+    removal_cell s.model s.spans c.loop-witnesses.cells.present
     c.in-Some.removal
     (sym c.in_ok-removal.ensures.found ∙ c.in-Some.is)
 
@@ -31,47 +33,48 @@ pub remove-requires-clause-stays : goal.remove-requires-clause-stays
 remove-requires-clause-stays c =
     let s = search_of c.args.problem.now in
     let r : Removal = c.in-Some.removal in
-    λ none. removal_stays s.model s.spans c.loop-alloc.cells.present r c.loop-alloc.invariant.part.box
+    λ none. removal_stays s.model s.spans c.loop-witnesses.cells.present r c.loop-witnesses.invariant.part.box
     (sym c.in_ok-removal.ensures.found ∙ c.in-Some.is)
-    (ap (λ v. values_without v (values_at r.cell c.loop-alloc.cells.present)) (sym (to_z-of_z w64 r.value (search rules))) ∙ none)
+    (ap (λ v. values_without v (values_at r.cell c.loop-witnesses.cells.present)) (sym (to_z-of_z w64 r.value (search rules))) ∙ none)
 
-pub loop-alloc-preserved : goal.loop-alloc-preserved
-loop-alloc-preserved c =
+pub loop-witnesses-preserved : goal.loop-witnesses-preserved
+loop-witnesses-preserved c =
     let s = search_of c.args.problem.now in
-    let b = c.loop-alloc.cells.present in
+    let b = c.loop-witnesses.cells.present in
     let r : Removal = c.in-Some.removal in
     let next : next_drop s.model s.spans b ≡ Some r = sym c.in_ok-removal.ensures.found ∙ c.in-Some.is in
     let after : c.remove.new.self.present ≡ without r.cell r.value b =
     ap (λ z. z.present) c.in_ok-remove-in-Some.ensures.ok ∙ ap (λ v. without r.cell v b) (to_z-of_z w64 r.value (search rules)) in
     record {
-      tables = c.next_drop.ensures.same ∙ c.refuted_requirement.ensures.same ∙ c.loop-alloc.invariant.tables;
-      part = subst (λ z. IsPart z s.model.cells) (sym after) (removal_part s.model s.spans s.model.cells b r c.loop-alloc.invariant.part next);
-      same = ap (after_drops s.model s.spans) after ∙ one_more s.model s.spans b r c.loop-alloc.invariant.part.box next ∙ c.loop-alloc.invariant.same;
+      shown = c.bring-in-loop-witnesses.ensures;
+      tables = c.next_drop.ensures.same ∙ c.refuted_requirement.ensures.same ∙ c.loop-witnesses.invariant.tables;
+      part = subst (λ z. IsPart z s.model.cells) (sym after) (removal_part s.model s.spans s.model.cells b r c.loop-witnesses.invariant.part next);
+      same = ap (after_drops s.model s.spans) after ∙ one_more s.model s.spans b r c.loop-witnesses.invariant.part.box next ∙ c.loop-witnesses.invariant.same;
     }
 
-pub loop-alloc-smaller : goal.loop-alloc-smaller
-loop-alloc-smaller c =
+pub loop-witnesses-smaller : goal.loop-witnesses-smaller
+loop-witnesses-smaller c =
     let s = search_of c.args.problem.now in
-    let b = c.loop-alloc.cells.present in
+    let b = c.loop-witnesses.cells.present in
     let r : Removal = c.in-Some.removal in
     let after : c.remove.new.self.present ≡ without r.cell r.value b =
     ap (λ z. z.present) c.in_ok-remove-in-Some.ensures.ok ∙ ap (λ v. without r.cell v b) (to_z-of_z w64 r.value (search rules)) in
     subst (λ z. total_of z < total_of b) (sym after)
-    (removal_less s.model s.spans b r c.loop-alloc.invariant.part.box (sym c.in_ok-removal.ensures.found ∙ c.in-Some.is))
+    (removal_less s.model s.spans b r c.loop-witnesses.invariant.part.box (sym c.in_ok-removal.ensures.found ∙ c.in-Some.is))
 
 -- no drop is possible any more
 pub returns-in-None-clause-settled : goal.returns-in-None-clause-settled
 returns-in-None-clause-settled c = record {
-  part = c.loop-alloc.invariant.part;
-  same = c.loop-alloc.invariant.same;
+  part = c.loop-witnesses.invariant.part;
+  same = c.loop-witnesses.invariant.same;
   settled = sym c.in_ok-removal.ensures.found ∙ c.in-None.is;
 }
 
 -- a requirement is refuted at the last cell
 pub returns-clause-settled : goal.returns-clause-settled
 returns-clause-settled c = record {
-  part = c.loop-alloc.invariant.part;
-  same = c.loop-alloc.invariant.same;
-  settled = refuted_some (search_of c.args.problem.now) c.loop-alloc.cells.present c.in_ok-refuted_requirement.field-0
+  part = c.loop-witnesses.invariant.part;
+  same = c.loop-witnesses.invariant.same;
+  settled = refuted_some (search_of c.args.problem.now) c.loop-witnesses.cells.present c.in_ok-refuted_requirement.field-0
       c.in_ok-refuted_requirement.ensures.found c.is_none.result c.is_none.ensures c.if-is_none.false;
 }
