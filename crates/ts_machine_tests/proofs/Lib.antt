@@ -1,3 +1,4 @@
+mod Cells
 mod Numbers
 mod Singles
 mod Splits

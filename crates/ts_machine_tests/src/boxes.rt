@@ -69,7 +69,7 @@ fn changes() -> &'static [(Keep, i64, &'static [(i64, i64)])] {
     &CHANGES
 }
 
-fn within(values: &[i64]) -> bool
+pub(crate) fn within(values: &[i64]) -> bool
     ensures { result ≡ list_all (λ v. int_le (neg_ℤ (pos 1000000)) v && int_le v (pos 1000000)) values.now }
 {
     values

@@ -27,6 +27,8 @@ mod met;
 #[cfg(test)]
 mod ranges;
 #[cfg(test)]
+mod spared;
+#[cfg(test)]
 mod terms;
 #[cfg(test)]
 mod told;
