@@ -299,7 +299,8 @@ module _ (j : Judging) (end : Checking) (v : Verdict) (final : IsFinal end v) wh
 
 -- none was, as none stands there or a line was refused before
 module _ (j : Judging) (v : Verdict) (final : IsFinal j.checker v) where
-  pub shown_at_once : length j.line.bytes.items ≡ 0 → j.checker.reading.stop ≡ None → (bytes : List ℕ) → HasRead bytes j → IsShownBy (strict_lines bytes) j.checker.model v
+  pub shown_at_once : length j.line.bytes.items ≡ 0 → j.checker.reading.stop ≡ None → (bytes : List ℕ) → HasRead bytes j →
+      IsShownBy (strict_lines bytes) j.checker.model v
   shown_at_once empty none bytes h =
       subst (λ (x : List (List ℕ)). IsShownBy x j.checker.model v) (sym (all_lines bytes j h))
       (go h.line (none_kept_of j.line.bytes.items h.line empty (h.kept none)))
@@ -309,7 +310,8 @@ module _ (j : Judging) (v : Verdict) (final : IsFinal j.checker v) where
           (shown j.checker j.checker.model v refl final h.texts h.judged.checked)
       go (b ∷ bs) e = absurd (omega (arith, e))
 
-  pub shown_refused : (stop : CertStop) → j.checker.reading.stop ≡ Some stop → (bytes : List ℕ) → HasRead bytes j → IsShownBy (strict_lines bytes) j.checker.model v
+  pub shown_refused : (stop : CertStop) → j.checker.reading.stop ≡ Some stop → (bytes : List ℕ) → HasRead bytes j →
+      IsShownBy (strict_lines bytes) j.checker.model v
   shown_refused stop is bytes h =
       subst (λ (x : List (List ℕ)). IsShownBy x j.checker.model v) (sym (all_lines bytes j h)) (go h.line)
     where

@@ -408,7 +408,8 @@ module _ (texts : List (List ℕ)) (short : length texts < 2 ^ 62) where
   told n (inl a) = record {
     stop = a.stop;
     is = ap (end_stop_unless (reading_after fresh texts)) (stopped_at n a);
-    at = ap stop_line a.first.is ∙ line_told (1 + length a.first.before) a.first.why (state_after Start a.first.before) a.first.text a.first.line ∙ sym a.number;
+    at =
+        ap stop_line a.first.is ∙ line_told (1 + length a.first.before) a.first.why (state_after Start a.first.before) a.first.text a.first.line ∙ sym a.number;
   }
   told n (inr u) =
       let count = ap length u.are ∙ length-map u.lines line_text in

@@ -86,7 +86,8 @@ module _ (count number : ℕ) (line : List ℕ) (lines : List (List ℕ)) where
     not_first h =
         let same : line ≡ h.0 = cc in
         good (subst (λ (n : ℕ). IsBadBehind n (Some values)) (omega arith)
-        (subst (λ o. IsBadBehind (count + length (readings_in [])) o) gives (subst (λ (l : List ℕ). IsBadBehind (count + length (readings_in [])) (line_gives l)) (sym same) h.2)))
+        (subst (λ o. IsBadBehind (count + length (readings_in [])) o) gives
+        (subst (λ (l : List ℕ). IsBadBehind (count + length (readings_in [])) (line_gives l)) (sym same) h.2)))
 
     none_before : (k : ℕ) → ((j : ℕ) → j < k → IsBadAt (count + length values) lines j → ⊥) → (j : ℕ) → j < suc k → IsBadAt count (line ∷ lines) j → ⊥
     none_before k first zero less h = not_first h
@@ -121,7 +122,8 @@ module _ (count number : ℕ) (line : List ℕ) (lines : List (List ℕ)) where
   by_room true v room e later =
       let less = ltb-true count longest room in
       good_first (v ∷ []) e (λ h. omega (arith, less, h.1))
-      (ap Onto e ∙ ap (λ t. cond t (after_values (v ∷ []) (readings_from (count + 1) (number + 1) lines)) (bad_at number)) room) (later (count + length (v ∷ [])))
+      (ap Onto e ∙ ap (λ t. cond t (after_values (v ∷ []) (readings_from (count + 1) (number + 1) lines)) (bad_at number)) room)
+      (later (count + length (v ∷ [])))
   by_room false v room e later =
       let many = ltb-false count longest room in
       bad_first (subst (IsBadBehind count) (sym e) (omega arith, many))

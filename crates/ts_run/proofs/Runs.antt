@@ -202,7 +202,8 @@ module _ {S K : Type 0} (s : SourceTells S) (k : SinkTells K) (given : Option Co
         let told = ends_as (k.taken sink) (k.taken sink_now) status (IsReply command []) (Headline command []) says ends in
         record {
           answers = subst (λ g. CallEnds g (s.left source) (s.left source) (s.faults source) (s.faults source) (k.taken sink) (k.taken sink_now) status)
-              (sym is) (subst (λ i. InputEnds i (Headline command) (due_of command) (s.left source) (s.left source) (s.faults source) (s.faults source) (k.taken sink)
+              (sym is) (subst (λ i. InputEnds i (Headline command) (due_of command) (s.left source) (s.left source) (s.faults source) (s.faults source)
+              (k.taken sink)
               (k.taken sink_now) status) (sym input) (refl, told));
           takes = subst (λ g. CallTakes g s.left source source status) (sym is)
               (subst (λ i. InputTakes i s.left source source status) (sym input) refl);

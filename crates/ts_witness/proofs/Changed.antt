@@ -72,7 +72,8 @@ module _ (m : Machine) (xs : List ℤ) (i j : ℕ) (v : ℤ) (l : i < length xs)
   cut = take i xs ++ v ∷ drop (suc i) xs
 
   module _ (p : Pair) (has : pair_of m ≡ Some p) where
-    at_cut : glued_value p (after p.forward (take i xs ++ v ∷ [])) (after p.reverse (reverse (v ∷ drop (suc i) xs))) v (length (take i xs ++ v ∷ drop (suc i) xs)) ≡ answer p.forward (take i xs ++ v ∷ drop (suc i) xs)
+    at_cut : glued_value p (after p.forward (take i xs ++ v ∷ [])) (after p.reverse (reverse (v ∷ drop (suc i) xs))) v
+        (length (take i xs ++ v ∷ drop (suc i) xs)) ≡ answer p.forward (take i xs ++ v ∷ drop (suc i) xs)
     at_cut =
         answers_at_cuts most_cells p (machines_keep_rules m p has).1 (take i xs) v (drop (suc i) xs)
         (subst (λ z. length z ≤ most_cells) (set_is_cut xs i v l) (subst (λ z. z ≤ most_cells) (sym (length-set xs i v)) few))

@@ -6,4 +6,5 @@ returns-in-Some c = wide_found c.args.b.now.present c.first_halving.result c.in-
 
 pub returns-in_ok-only_series-in-None : goal.returns-in_ok-only_series-in-None
 returns-in_ok-only_series-in-None c =
-    alone_found c.args.b.now.present c.first_halving.result c.in_ok-only_series-in-None.field-0.items c.first_halving.ensures c.in-None.is c.in_ok-only_series-in-None.ensures
+    alone_found c.args.b.now.present c.first_halving.result c.in_ok-only_series-in-None.field-0.items c.first_halving.ensures c.in-None.is
+    c.in_ok-only_series-in-None.ensures

@@ -11,13 +11,15 @@ use Rattle.ts_monitor.proofs.monitor.move_all.Goals as goal
 
 pub index-requires : goal.index-requires
 index-requires c =
-    let room = has_room c.args.machines.now c.args.runs.now.items c.loop-place.runs.items _ _ c.loop-place.place c.requires c.loop-place.invariant c.loop-place-test.true in
+    let room = has_room c.args.machines.now c.args.runs.now.items c.loop-place.runs.items _ _ c.loop-place.place c.requires c.loop-place.invariant
+    c.loop-place-test.true in
     let ok = c.loop-place.runs.ok in
     omega (arith, room, ok)
 
 pub step-requires : goal.step-requires
 step-requires c =
-    let room = has_room c.args.machines.now c.args.runs.now.items c.loop-place.runs.items _ _ c.loop-place.place c.requires c.loop-place.invariant c.loop-place-test.true in
+    let room = has_room c.args.machines.now c.args.runs.now.items c.loop-place.runs.items _ _ c.loop-place.place c.requires c.loop-place.invariant
+    c.loop-place-test.true in
     subst (λ b. Stands b (standing_of c.index.result.now)) (sym c.forward.ensures)
     (run_stands c.args.machines.now c.args.runs.now.items c.loop-place.runs.items _ _ c.loop-place.place c.index-machines-place.result c.index.result.now
     (slice_get_read c.args.machines.now _ c.loop-place.place c.index-machines-place.result refl c.loop-place-test.true c.index-machines-place.is)
@@ -25,17 +27,20 @@ step-requires c =
 
 pub index_mut-requires : goal.index_mut-requires
 index_mut-requires c =
-    let room = has_room c.args.machines.now c.args.runs.now.items c.loop-place.runs.items _ _ c.loop-place.place c.requires c.loop-place.invariant c.loop-place-test.true in
+    let room = has_room c.args.machines.now c.args.runs.now.items c.loop-place.runs.items _ _ c.loop-place.place c.requires c.loop-place.invariant
+    c.loop-place-test.true in
     let ok = c.loop-place.runs.ok in
     omega (arith, room, ok)
 
 pub loop-place-preserved : goal.loop-place-preserved
 loop-place-preserved c =
-    let room = has_room c.args.machines.now c.args.runs.now.items c.loop-place.runs.items _ _ c.loop-place.place c.requires c.loop-place.invariant c.loop-place-test.true in
+    let room = has_room c.args.machines.now c.args.runs.now.items c.loop-place.runs.items _ _ c.loop-place.place c.requires c.loop-place.invariant
+    c.loop-place-test.true in
     run_moved c.args.machines.now c.args.runs.now.items c.loop-place.runs.items _ _ c.loop-place.place c.index-machines-place.result c.index.result.now
     (slice_get_read c.args.machines.now _ c.loop-place.place c.index-machines-place.result refl c.loop-place-test.true c.index-machines-place.is)
     (slice_get_read c.loop-place.runs.items _ c.loop-place.place c.index.result.now refl room c.index.ensures) c.requires c.loop-place.invariant
-    c.step.result (c.step.ensures.value ∙ ap (λ b. step_of b (standing_of c.index.result.now) (to_z w64 (of_z w64 c.args.this)) (to_z w64 (of_z w64 c.args.next))) c.forward.ensures)
+    c.step.result (c.step.ensures.value ∙ ap (λ b. step_of b (standing_of c.index.result.now) (to_z w64 (of_z w64 c.args.this))
+    (to_z w64 (of_z w64 c.args.next))) c.forward.ensures)
 
 pub returns : goal.returns
 returns c =

@@ -12,12 +12,14 @@ returns-clause-counted c =
 pub returns-clause-whole : goal.returns-clause-whole
 returns-clause-whole c =
     subst IsWhole (sym (model_is c.args.n _ _ c.in_ok-cells.ensures
-    (windows_made c.in_ok-terms.terms.entries c.in_ok-windows.windows.items c.in_ok-windows.ensures c.in_ok-terms.ensures) c.new-requirements.ensures.items c.in_ok-push.ensures.items refl))
+    (windows_made c.in_ok-terms.terms.entries c.in_ok-windows.windows.items c.in_ok-windows.ensures c.in_ok-terms.ensures) c.new-requirements.ensures.items
+    c.in_ok-push.ensures.items refl))
     (sample_whole c.args.n c.requires)
 
 pub returns-clause-limits : goal.returns-clause-limits
 returns-clause-limits c =
     subst (KeepsLimits NeedsBest)
     (sym (model_is c.args.n _ _ c.in_ok-cells.ensures
-    (windows_made c.in_ok-terms.terms.entries c.in_ok-windows.windows.items c.in_ok-windows.ensures c.in_ok-terms.ensures) c.new-requirements.ensures.items c.in_ok-push.ensures.items refl))
+    (windows_made c.in_ok-terms.terms.entries c.in_ok-windows.windows.items c.in_ok-windows.ensures c.in_ok-terms.ensures) c.new-requirements.ensures.items
+    c.in_ok-push.ensures.items refl))
     (sample_limits c.args.n c.requires)

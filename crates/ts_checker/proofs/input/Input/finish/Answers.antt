@@ -16,7 +16,8 @@ ended-requires-clause-few c =
 pub finish-requires-clause-calm : goal.finish-requires-clause-calm
 finish-requires-clause-calm c =
     let some = c.requires in
-    opened_calm (model_part some.0) c.in_ok-ended-in-InModel.field-0 (c.in_ok-ended-in-InModel.ensures some.0 (subst (HasTaken some.0) c.in-InModel.is some.1).0)
+    opened_calm (model_part some.0) c.in_ok-ended-in-InModel.field-0
+    (c.in_ok-ended-in-InModel.ensures some.0 (subst (HasTaken some.0) c.in-InModel.is some.1).0)
 
 pub finish-requires-clause-few : goal.finish-requires-clause-few
 finish-requires-clause-few c =

@@ -8,5 +8,10 @@ use Rattle.ts_monitor.proofs.Moves.{starts_stand}
 use Rattle.ts_monitor.proofs.monitor.Monitor.new.Goals as goal
 
 pub invariant_of-result : goal.invariant_of-result
-invariant_of-result c =
-    (omega arith, (grind (arith, ints), grind (arith, ints)), subst (AllStand (map machine_body c.args.p.terms.items)) (sym (c.in_ok-runs.ensures ∙ ap (λ ms. map start_of (map forward_of ms)) c.machines.ensures ∙ ap (map start_of) c.args.p.bodies)) (starts_stand c.args.p.terms.items))
+invariant_of-result c = (
+  omega arith,
+  (grind (arith, ints), grind (arith, ints)),
+  subst (AllStand (map machine_body c.args.p.terms.items))
+      (sym (c.in_ok-runs.ensures ∙ ap (λ ms. map start_of (map forward_of ms)) c.machines.ensures ∙ ap (map start_of) c.args.p.bodies))
+      (starts_stand c.args.p.terms.items),
+)

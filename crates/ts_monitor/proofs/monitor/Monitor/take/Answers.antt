@@ -13,7 +13,8 @@ use Rattle.ts_monitor.proofs.monitor.Monitor.take.Goals as goal
 -- the automata move as their terms' bodies do
 runs_moved : (c : goal.After-self-2-1) →
     map standing_of c.move_on.new.runs.items
-    ≡ moved_after c.self.inside.count (map machine_body c.self.inside.program.terms.items) (map standing_of c.self.inside.runs.items) c.self.inside.last c.args.v
+    ≡ moved_after c.self.inside.count (map machine_body c.self.inside.program.terms.items)
+    (map standing_of c.self.inside.runs.items) c.self.inside.last c.args.v
 runs_moved c =
     let i = c.self.inside in
     let ss = map standing_of i.runs.items in

@@ -20,7 +20,8 @@ returns-then-high-known-clause-told c =
     let count = c.requires.spared.count in let long = c.requires.count in let to = c.requires.to in let from = c.requires.from in
     let inside : i < length s.cells.now = omega (arith, long, to, from) in
     let there = entry_there s.each.items i c.index.result.now c.index.ensures (omega (arith, count, long, to, from)) in
-    let known = beside_known m c.args.r.now (length s.cells.now) (get_or s.cells.now i []) i c.index.result.now c.beside-known.result c.beside-known.ensures.known
+    let known = beside_known m c.args.r.now (length s.cells.now)
+    (get_or s.cells.now i []) i c.index.result.now c.beside-known.result c.beside-known.ensures.known
     (c.requires.spared.each i c.index.result.now there) in
     let low = c.if-known-low.true in let high = c.if-high-known.true in
     λ t v has least greatest. known_meets m y i c.sides.result (omega (arith, to, from)) c.requires.few c.requires.cells c.sides.ensures.sides c.args.r.now

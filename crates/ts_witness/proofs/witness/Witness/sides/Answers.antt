@@ -14,5 +14,6 @@ returns-clause-sides c =
     record {
       left = subst (λ b. IsSide b y i c.side-left.result) c.forward.ensures c.side-left.ensures.side;
       right = λ p is. subst (λ z. IsSide p.reverse (reverse y) z c.side_behind-right.result) j
-          (subst (λ z. IsSide p.reverse z (c.len-n.result - c.args.k) c.side_behind-right.result) c.requires.witness.mirror (c.side_behind-right.ensures.side p is));
+          (subst (λ z. IsSide p.reverse z (c.len-n.result - c.args.k) c.side_behind-right.result) c.requires.witness.mirror
+          (c.side_behind-right.ensures.side p is));
     }
