@@ -69,7 +69,7 @@ module _ (ms : List Automata) (term : ℕ) (a : Automata) (has : slice_get ms te
   of_machine = spans_are_of_machines ms term a has
 
   module _ (rs : List Require) (j : ℕ) (r : Require) (is : IsRequirement rs j r) (of_term : r.term ≡ term) where
-    to_machine : (p : ℕ) (b : Box) → IsRefuted rs (spans_of ms) j p b → IsUsableOf a p b × Refutes r.op r.bound (term_span a p b)
+    pub to_machine : (p : ℕ) (b : Box) → IsRefuted rs (spans_of ms) j p b → IsUsableOf a p b × Refutes r.op r.bound (term_span a p b)
     to_machine p b d =
         let same : d.require ≡ r = (let e : ◌≡◌ {A = Option Require} (Some d.require) (Some r) = sym d.is.1 ∙ is.1 in cc) in
         let here = ap (λ (q : Require). q.term) same ∙ of_term in (
@@ -78,7 +78,7 @@ module _ (ms : List Automata) (term : ℕ) (a : Automata) (has : slice_get ms te
               (subst (λ (q : Require). Refutes q.op q.bound ((spans_of ms).span_at q.term p b)) same d.refutes),
         )
 
-    from_machine : (p : ℕ) (b : Box) → IsUsableOf a p b → Refutes r.op r.bound (term_span a p b) → IsRefuted rs (spans_of ms) j p b
+    pub from_machine : (p : ℕ) (b : Box) → IsUsableOf a p b → Refutes r.op r.bound (term_span a p b) → IsRefuted rs (spans_of ms) j p b
     from_machine p b u f = record {
       require = r;
       is = is;
@@ -105,7 +105,7 @@ module _ (ms : List Automata) (term : ℕ) (a : Automata) (has : slice_get ms te
         first_is a (Refutes r.op r.bound) b (λ p. is_refuted rs (spans_of ms) j p b) (λ p. test_to p b) (λ p. test_from p b) n size found h
 
   module _ (m : ModelParts) (objective : m.objective ≡ Some term) (goal : Goal) (bar : Bar) where
-    cut_to : (p : ℕ) (b : Box) → is_cut m (spans_of ms) goal p b bar ≡ true → IsUsableOf a p b × Cuts goal bar (term_span a p b)
+    pub cut_to : (p : ℕ) (b : Box) → is_cut m (spans_of ms) goal p b bar ≡ true → IsUsableOf a p b × Cuts goal bar (term_span a p b)
     cut_to p b e =
         let d = ((tests_tell (spans_of ms)).cut m goal p b bar).0 e in
         let same : d.term ≡ term = (let f : ◌≡◌ {A = Option ℕ} (Some d.term) (Some term) = sym d.is ∙ objective in cc) in (
@@ -113,7 +113,7 @@ module _ (ms : List Automata) (term : ℕ) (a : Automata) (has : slice_get ms te
           subst (λ z. Cuts goal bar z) (ap (λ z. (spans_of ms).span_at z p b) same ∙ of_machine.span p b) d.cuts,
         )
 
-    cut_from : (p : ℕ) (b : Box) → IsUsableOf a p b → Cuts goal bar (term_span a p b) → is_cut m (spans_of ms) goal p b bar ≡ true
+    pub cut_from : (p : ℕ) (b : Box) → IsUsableOf a p b → Cuts goal bar (term_span a p b) → is_cut m (spans_of ms) goal p b bar ≡ true
     cut_from p b u f = ((tests_tell (spans_of ms)).cut m goal p b bar).1 (record {
       term = term;
       is = objective;

@@ -3,23 +3,28 @@ mod Certified
 pub mod Choice
 pub mod Closing
 mod CodeFound
+mod CodeLeaps
 mod CodeLines
 mod CodeTurns
 pub mod DiveLaws
 mod DiveSteps
 pub mod DropLaws
 pub mod Good
+mod Growing
 mod KeptLaws
 pub mod Known
+mod Leaps
 pub mod LineParts
 pub mod ListGood
 pub mod ListLean
 pub mod ListSolves
 pub mod ListUnique
 mod Marks
+mod Narrower
 pub mod NextDrop
 pub mod OfProgram
 pub mod OpenLines
+mod Paced
 pub mod Parts
 mod Posed
 pub mod Reason

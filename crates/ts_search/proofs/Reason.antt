@@ -123,7 +123,7 @@ nowhere c b q i at end below p = false_from_ne_true (q p) (λ e. go e (at p e))
         (at_last_or_inner p (last c) cell.0 (omega (arith, n, cell.1)))
 
 -- where the objective is below what is known there is a cell
-cut_cell : (c : Contest) (bar : Option Bar) (b : Box) (p : ℕ) → cut_by c bar p b ≡ true → HasCell p b
+pub cut_cell : (c : Contest) (bar : Option Bar) (b : Box) (p : ℕ) → cut_by c bar p b ≡ true → HasCell p b
 cut_cell c None b p e = absurd (let k : ◌≡◌ {A = Bool} false true = e in cc)
 cut_cell c (Some bar) b p e = (to_cut c p b bar e).usable.cell
 

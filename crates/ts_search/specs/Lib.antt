@@ -3,6 +3,7 @@ pub mod Drops
 pub mod Found
 pub mod Laws
 pub mod Lean
+pub mod Leaps
 pub mod LineOf
 pub mod Listed
 pub mod Posed

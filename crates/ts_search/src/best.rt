@@ -15,6 +15,7 @@ ghost use Rattle.ts_search.specs.Views.{contest_of, find_of, state_of};
 use crate::contest::Contest;
 use crate::dive::dive;
 use crate::found::FoundSeries;
+use crate::inside::excludes_inside;
 use crate::problem::{Problem, tables_of};
 use crate::tree::{Tree, grow};
 use crate::witnesses::Witnesses;
@@ -52,7 +53,8 @@ pub fn solve(
     let mut tables = tables_of(alloc, m, p)?;
     let mut witnesses = Witnesses::new(alloc, &contest.problem, p.machines())?;
     contest.warm = dive(alloc, &contest, &mut tables, &mut witnesses)?;
-    let tree = grow(alloc, &contest, &mut tables, &mut witnesses, budget)?;
+    let leaps = excludes_inside(&contest, p.machines());
+    let tree = grow(alloc, &contest, &mut tables, &mut witnesses, budget, leaps)?;
     certificate(alloc, contest, tree)
 }
 

@@ -7,7 +7,7 @@
 //!
 //! One pure function says the line of a box; the code asks its tests one after the other and stops at the first that
 //! holds. A box that waits is a mark on a trail and one change. The tests share the rows of hulls of a box, and those
-//! that a change doesn't reach serve the next box.
+//! that a change doesn't reach serve the next box. Where splits follow one another, several lines are found at once.
 //!
 //! ```text
 //! let program = compile_model(alloc, &model)?;
@@ -20,11 +20,14 @@ mod best;
 mod contest;
 mod dive;
 mod found;
+mod inside;
 pub mod laws;
+mod leap;
 mod line;
 mod listing;
 mod marked;
 mod nearest;
+mod pace;
 mod problem;
 mod shown;
 mod tree;

@@ -1,6 +1,6 @@
 //! The first series of a model in lexicographic order, and their certificate.
 
-ghost use Rattle.std.specs.Prelude.{◌≡◌, ◌≤◌, IfOk, List, OnOk, length, map, nat_lt};
+ghost use Rattle.std.specs.Prelude.{◌≡◌, ◌≤◌, IfOk, IsTrue, List, OnOk, length, map, nat_lt};
 ghost use Rattle.std.specs.List.{AllByRecursion};
 ghost use Rattle.ts_certificate.specs.Certificate.{cert_seen};
 ghost use Rattle.ts_certificate.specs.declared.certificate.TreeLine.TheVariants.{Yes as YesLine};
@@ -11,7 +11,9 @@ ghost use Rattle.ts_model.specs.Promise.{IsWhole, KeepsLimits};
 ghost use Rattle.ts_model.specs.Views.{model_parts};
 ghost use Rattle.ts_frontier.specs.Forms.{form};
 ghost use Rattle.ts_search.specs.Listed.{IsListAnswer};
-ghost use Rattle.ts_search.specs.Posed.{AreTablesOf, IsPosed};
+ghost use Rattle.ts_search.specs.Leaps.{AreSplits, IsPaced, RefutesInside};
+ghost use Rattle.ts_search.specs.LineOf.{TheFirst, line_of};
+ghost use Rattle.ts_search.specs.Posed.{AreTablesOf, IsPosed, MayAsk};
 ghost use Rattle.ts_search.specs.Shown.{AreHeld};
 ghost use Rattle.ts_spans.specs.Machines.{spans_in};
 ghost use Rattle.ts_search.specs.Turns.{list_certificate, list_claim, list_start, list_turn_on};
@@ -19,7 +21,10 @@ ghost use Rattle.ts_search.specs.Turns.{list_turns, listed_after};
 ghost use Rattle.ts_search.specs.Views.{list_state_of, search_of};
 
 use crate::best::push_open;
+use crate::inside::refutes_inside;
+use crate::leap::listing_leap;
 use crate::line::listing_line;
+use crate::pace::Pace;
 use crate::problem::{Problem, tables_of};
 use crate::witnesses::Witnesses;
 use std::alloc::Global;
@@ -58,11 +63,21 @@ pub fn list(
     let problem = Problem { model: m };
     let mut tables = tables_of(alloc, m, p)?;
     let mut witnesses = Witnesses::new(alloc, &problem, p.machines())?;
-    let tree = list_grow(alloc, &problem, &mut tables, &mut witnesses, count, budget)?;
+    let leaps = refutes_inside(&problem, p.machines());
+    let tree = list_grow(
+        alloc,
+        &problem,
+        &mut tables,
+        &mut witnesses,
+        count,
+        budget,
+        leaps,
+    )?;
     certificate(count, tree)
 }
 
-/// The tree after at most `budget` lines, or when `count` series are listed or no box waits any more.
+/// The tree after at most `budget` lines, or when `count` series are listed or no box waits any more. Leaps may be made
+/// where a requirement that is refuted on a box is refuted on each box inside it.
 fn list_grow(
     alloc: Global,
     problem: &Problem<'_>,
@@ -70,10 +85,12 @@ fn list_grow(
     witnesses: &mut Witnesses<'_>,
     count: u32,
     budget: u64,
+    leaps: bool,
 ) -> Result<ListTree, Memory>
     requires posed { IsPosed problem.now }
     requires tables { AreTablesOf problem.now tables.old }
     requires held { AreHeld problem.now witnesses.old }
+    requires inside { IsTrue leaps → RefutesInside (search_of problem.now) }
     ensures same { tables.new ≡ tables.old }
     ensures few { IfOk result (λ t. length t.listed.items ≤ count) }
     ensures turns { IfOk result (λ t. list_state_of t
@@ -85,6 +102,7 @@ fn list_grow(
         frontier: Frontier::new(alloc, root),
         listed: Vec::new(alloc),
     };
+    let mut pace = Pace::new(leaps);
     for _ in 0..budget {
         if tree.listed.len() >= count as usize {
             return Ok(tree);
@@ -92,7 +110,7 @@ fn list_grow(
         if tree.frontier.is_empty() {
             return Ok(tree);
         }
-        list_treat(alloc, problem, tables, witnesses, &mut tree)?;
+        list_treat(alloc, problem, tables, witnesses, &mut tree, &mut pace)?;
     }
     Ok(tree)
 }
@@ -104,25 +122,58 @@ fn list_treat(
     tables: &mut AllTables<'_>,
     witnesses: &mut Witnesses<'_>,
     tree: &mut ListTree,
+    pace: &mut Pace,
 ) -> Result<(), Memory>
     requires posed { IsPosed problem.now }
     requires parts { AllByRecursion (λ b. IsPart b (search_of problem.now).model.cells) tree.old.frontier.boxes }
     requires tables { AreTablesOf problem.now tables.old }
     requires held { AreHeld problem.now witnesses.old }
+    requires paced { IsPaced (TheFirst (search_of problem.now)) pace.old tree.old.frontier.boxes }
     ensures same { tables.new ≡ tables.old }
     ensures held { OnOk result (AreHeld problem.now witnesses.new) }
     ensures turn { OnOk result (list_state_of tree.new
         ≡ list_turn_on (search_of problem.now) (list_state_of tree.old) tree.old.frontier.boxes) }
+    ensures paced { OnOk result (IsPaced (TheFirst (search_of problem.now)) pace.new tree.new.frontier.boxes) }
 {
     if !tree.frontier.advance()? {
         return Ok(());
     }
     let cells = tree.frontier.present();
-    witnesses.bring(problem, cells);
-    let line = listing_line(alloc, problem, tables, witnesses, cells)?;
+    let line = paced_line(alloc, problem, tables, witnesses, cells, pace)?;
+    pace.pass(&line);
     tree.lines.push(line)?;
     listed_now(alloc, tree.frontier.present(), line, &mut tree.listed)?;
     follow(&mut tree.frontier, &line)
+}
+
+/// The line of the present box: known by a leap, or asked for.
+fn paced_line(
+    alloc: Global,
+    problem: &Problem<'_>,
+    tables: &mut AllTables<'_>,
+    witnesses: &mut Witnesses<'_>,
+    cells: &Boxed,
+    pace: &mut Pace,
+) -> Result<TreeLine, Memory>
+    requires asked { MayAsk problem.now tables.old cells.now.present }
+    requires held { AreHeld problem.now witnesses.old }
+    requires inside { IsTrue pace.old.leaps → RefutesInside (search_of problem.now) }
+    requires ahead { AreSplits (TheFirst (search_of problem.now)) pace.old.ahead cells.now.present }
+    ensures same { tables.new ≡ tables.old }
+    ensures held { OnOk result (AreHeld problem.now witnesses.new) }
+    ensures leaps { pace.new.leaps ≡ pace.old.leaps }
+    ensures ahead { OnOk result (AreSplits (TheFirst (search_of problem.now)) pace.new.ahead cells.now.present) }
+    ensures line { IfOk result (λ l. l ≡ line_of (TheFirst (search_of problem.now)) cells.now.present) }
+{
+    let reach = pace.reach();
+    if reach > 0 {
+        pace.learn(listing_leap(alloc, problem, tables, witnesses, cells, reach)?);
+    }
+    if let Some(line) = pace.known(cells) {
+        return Ok(line);
+    }
+    witnesses.bring(problem, cells);
+    listing_line(alloc, problem, tables, witnesses, cells)
 }
 
 /// The listed series after a line: the one series of a box is the next where the line is `yes`.

@@ -1,8 +1,10 @@
 //! A model, and what its requirements exclude on a box.
 
-ghost use Rattle.std.specs.Prelude.{◌≡◌, ◌≤◌, IfOk};
+ghost use Rattle.std.specs.Prelude.{◌≡◌, ◌≤◌, Contains, IfOk};
 ghost use Rattle.ts_base.specs.Limits.{most_requirements};
 ghost use Rattle.ts_compile.specs.Programs.{IsProgramOf};
+ghost use Rattle.ts_domain.specs.BoxSeries.{IsCell, cell_of};
+ghost use Rattle.ts_filter.specs.Boxes.{only};
 ghost use Rattle.ts_filter.specs.KeptCells.{AreKept};
 ghost use Rattle.ts_model.specs.Views.{model_parts};
 ghost use Rattle.ts_search.specs.Drops.{least, next_drop};
@@ -91,6 +93,32 @@ impl<'a> Problem<'a> {
         }
         let require = &self.model.requirements[j as usize - 1];
         tables.first_refuted(alloc, require, cells)
+    }
+
+    /// Whether requirement `j`, counted from 1, is refuted at cell `k` on the box with the value `v` alone there.
+    pub(crate) fn refutes_value(
+        &self,
+        alloc: Global,
+        tables: &mut AllTables<'_>,
+        j: u32,
+        k: u32,
+        v: i64,
+        cells: &Boxed,
+    ) -> Result<bool, Memory>
+        requires asked { MayAsk self.now tables.old cells.now.present }
+        requires from { 1 ≤ j }
+        requires to { j ≤ requirements (search_of self.now) }
+        requires cell { IsCell k cells.now }
+        requires value { Contains (cell_of k cells.now) v }
+        ensures same { tables.new ≡ tables.old }
+        ensures told { IfOk result
+            (λ told. told ≡ is_refuted_at (search_of self.now) j k (only k v cells.now.present)) }
+    {
+        let require = &self.model.requirements[j as usize - 1];
+        if tables.is_plain(require.term) && k < cells.cells() {
+            return Ok(false);
+        }
+        tables.refuted_value(alloc, require, k, v, cells)
     }
 
     /// The drop that comes next. Nothing is asked of tables where it is marked as needless.

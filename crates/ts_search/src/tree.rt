@@ -1,18 +1,23 @@
 //! The tree of a search as it grows: one box after the other gets its line.
 
-ghost use Rattle.std.specs.Prelude.{◌≡◌, ℕ, IfOk, OnOk};
+ghost use Rattle.std.specs.Prelude.{◌≡◌, ℕ, IfOk, IsTrue, OnOk, Option};
 ghost use Rattle.std.specs.List.{AllByRecursion};
 ghost use Rattle.ts_certificate.specs.declared.certificate.TreeLine.TheVariants.{Worse as WorseLine};
 ghost use Rattle.ts_filter.specs.Boxes.{IsPart};
 ghost use Rattle.ts_frontier.specs.Forms.{form};
-ghost use Rattle.ts_search.specs.Posed.{AreTablesOf, HasObjective, IsPosed};
+ghost use Rattle.ts_search.specs.Dive.{Find};
+ghost use Rattle.ts_search.specs.Leaps.{AreSplits, ExcludesInside, IsPaced};
+ghost use Rattle.ts_search.specs.LineOf.{TheBest, line_of};
+ghost use Rattle.ts_search.specs.Posed.{AreTablesOf, HasObjective, IsPosed, MayAsk};
 ghost use Rattle.ts_search.specs.Shown.{AreHeld};
 ghost use Rattle.ts_search.specs.Turns.{found_after, start, turn, turns};
 ghost use Rattle.ts_search.specs.Views.{contest_of, find_of, search_of, state_of};
 
 use crate::contest::Contest;
 use crate::found::FoundSeries;
+use crate::leap::solve_leap;
 use crate::line::solve_line;
+use crate::pace::Pace;
 use crate::witnesses::Witnesses;
 use std::alloc::Global;
 use ts_base::Memory;
@@ -29,18 +34,21 @@ pub(crate) struct Tree {
     pub(crate) found: Option<FoundSeries>,
 }
 
-/// The tree after at most `budget` lines, or when no box waits any more.
+/// The tree after at most `budget` lines, or when no box waits any more. Leaps may be made where what excludes a box
+/// excludes each box inside it.
 pub(crate) fn grow(
     alloc: Global,
     contest: &Contest<'_>,
     tables: &mut AllTables<'_>,
     witnesses: &mut Witnesses<'_>,
     budget: u64,
+    leaps: bool,
 ) -> Result<Tree, Memory>
     requires objective { HasObjective contest.now }
     requires posed { IsPosed contest.now.problem }
     requires tables { AreTablesOf contest.now.problem tables.old }
     requires held { AreHeld contest.now.problem witnesses.old }
+    requires inside { IsTrue leaps → (found : Option Find) → ExcludesInside (TheBest (contest_of contest.now) found) }
     ensures same { tables.new ≡ tables.old }
     ensures turns { IfOk result (λ t. state_of t
         ≡ turns (contest_of contest.now) budget (start (contest_of contest.now))) }
@@ -51,11 +59,12 @@ pub(crate) fn grow(
         frontier: Frontier::new(alloc, root),
         found: None,
     };
+    let mut pace = Pace::new(leaps);
     for _ in 0..budget {
         if tree.frontier.is_empty() {
             return Ok(tree);
         }
-        treat(alloc, contest, tables, witnesses, &mut tree)?;
+        treat(alloc, contest, tables, witnesses, &mut tree, &mut pace)?;
     }
     Ok(tree)
 }
@@ -67,6 +76,7 @@ fn treat(
     tables: &mut AllTables<'_>,
     witnesses: &mut Witnesses<'_>,
     tree: &mut Tree,
+    pace: &mut Pace,
 ) -> Result<(), Memory>
     requires objective { HasObjective contest.now }
     requires posed { IsPosed contest.now.problem }
@@ -74,21 +84,60 @@ fn treat(
         tree.old.frontier.boxes }
     requires tables { AreTablesOf contest.now.problem tables.old }
     requires held { AreHeld contest.now.problem witnesses.old }
+    requires paced { IsPaced (TheBest (contest_of contest.now) (find_of tree.old.found)) pace.old
+        tree.old.frontier.boxes }
     ensures same { tables.new ≡ tables.old }
     ensures held { OnOk result (AreHeld contest.now.problem witnesses.new) }
     ensures turn { OnOk result
         (state_of tree.new ≡ turn (contest_of contest.now) (state_of tree.old)) }
+    ensures paced { OnOk result (IsPaced (TheBest (contest_of contest.now) (find_of tree.new.found)) pace.new
+        tree.new.frontier.boxes) }
 {
     if !tree.frontier.advance()? {
         return Ok(());
     }
     let cells = tree.frontier.present();
-    witnesses.bring(&contest.problem, cells);
-    let line = solve_line(alloc, contest, tables, witnesses, cells, &tree.found)?;
+    let line = paced_line(alloc, contest, tables, witnesses, cells, &tree.found, pace)?;
+    pace.pass(&line);
     tree.lines.push(line)?;
     let found = tree.found.take();
     tree.found = found_now(alloc, contest, tree.frontier.present(), line, found)?;
     follow(&mut tree.frontier, &line)
+}
+
+/// The line of the present box: known by a leap, or asked for.
+fn paced_line(
+    alloc: Global,
+    contest: &Contest<'_>,
+    tables: &mut AllTables<'_>,
+    witnesses: &mut Witnesses<'_>,
+    cells: &Boxed,
+    found: &Option<FoundSeries>,
+    pace: &mut Pace,
+) -> Result<TreeLine, Memory>
+    requires objective { HasObjective contest.now }
+    requires asked { MayAsk contest.now.problem tables.old cells.now.present }
+    requires held { AreHeld contest.now.problem witnesses.old }
+    requires inside { IsTrue pace.old.leaps → ExcludesInside (TheBest (contest_of contest.now) (find_of found.now)) }
+    requires ahead { AreSplits (TheBest (contest_of contest.now) (find_of found.now)) pace.old.ahead
+        cells.now.present }
+    ensures same { tables.new ≡ tables.old }
+    ensures held { OnOk result (AreHeld contest.now.problem witnesses.new) }
+    ensures leaps { pace.new.leaps ≡ pace.old.leaps }
+    ensures ahead { OnOk result (AreSplits (TheBest (contest_of contest.now) (find_of found.now)) pace.new.ahead
+        cells.now.present) }
+    ensures line { IfOk result
+        (λ l. l ≡ line_of (TheBest (contest_of contest.now) (find_of found.now)) cells.now.present) }
+{
+    let reach = pace.reach();
+    if reach > 0 {
+        pace.learn(solve_leap(alloc, contest, tables, witnesses, cells, found, reach)?);
+    }
+    if let Some(line) = pace.known(cells) {
+        return Ok(line);
+    }
+    witnesses.bring(&contest.problem, cells);
+    solve_line(alloc, contest, tables, witnesses, cells, found)
 }
 
 /// The incumbent after a line: after `worse`, the one series of the box if it reaches the bar.

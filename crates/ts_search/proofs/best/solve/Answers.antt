@@ -36,3 +36,9 @@ returns c =
     (are_right m c.requires.whole c.requires.limits.box) (c.requires.limits.objective refl) q
     c.in_ok-tree.ensures.turns made)
     c.certificate.ensures
+
+pub excludes_inside-leaps-requires-clause-posed : goal.excludes_inside-leaps-requires-clause-posed
+excludes_inside-leaps-requires-clause-posed c = posed_best c.args.m.now c.requires.whole c.requires.limits _ refl
+
+pub excludes_inside-leaps-requires-clause-machines : goal.excludes_inside-leaps-requires-clause-machines
+excludes_inside-leaps-requires-clause-machines c = ap (map automata_of) c.machines-2.ensures ∙ machines_are c.args.p.now c.args.m.now c.requires.program

@@ -1,7 +1,9 @@
 use Rattle.std.proofs.Common.{[], ◌∷◌, refl, ap, arith, length, map, ◌∙◌}
+use Rattle.ts_search.specs.LineOf.{TheFirst}
 use Rattle.ts_search.specs.Views.{list_state_of, search_of}
 use Rattle.ts_search.proofs.Certified.{few_from}
 use Rattle.ts_search.proofs.CodeTurns.{at_most, first_parts, list_end, list_first, list_full, list_more, list_none, list_out, list_parts, list_room, room_for}
+use Rattle.ts_search.proofs.Paced.{paced_first}
 use Rattle.ts_search.proofs.listing.list_grow.Goals as goal
 
 pub new-requires : goal.new-requires
@@ -18,6 +20,7 @@ loop-init c =
       turned = list_none s c.args.count c.args.budget _ first;
       held = c.requires.held;
       parts = first_parts s.model.cells c.new-3.result.boxes c.requires.posed.right.box (ap (λ w. w.boxes) c.new-3.ensures ∙ ap (λ b. b ∷ []) root);
+      paced = paced_first (TheFirst s) c.new-pace.result c.new-3.result.boxes c.args.leaps c.new-pace.ensures.leaps c.new-pace.ensures.ahead c.requires.inside;
     }
 
 pub returns-then-len-count-clause-turns : goal.returns-then-len-count-clause-turns
@@ -45,6 +48,7 @@ loop-preserved c =
       held = c.in_ok-list_treat.ensures.held;
       parts = list_parts s c.args.count (list_state_of c.loop.tree) (list_state_of c.list_treat.new.tree) turn
           c.loop.invariant.parts;
+      paced = c.in_ok-list_treat.ensures.paced;
     }
 
 pub returns-clause-turns : goal.returns-clause-turns

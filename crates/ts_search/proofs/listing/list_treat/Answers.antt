@@ -1,20 +1,16 @@
 use Rattle.std.proofs.Common.{◌≡◌, ℤ, ◌++◌, map, Vec, Global}
-use Rattle.std.proofs.lemmas.Result.{IfOk-weaker}
+use Rattle.std.proofs.lemmas.Result.{IfOk-weaker, on_ok_weaker}
 use Rattle.ts_filter.specs.Steps.{made_by}
 use Rattle.ts_frontier.specs.Waiting.{first, rest}
 use Rattle.ts_search.specs.LineOf.{TheFirst}
 use Rattle.ts_search.specs.Turns.{ListState, list_turn_on}
 use Rattle.ts_search.specs.Views.{list_state_of, search_of}
+use Rattle.ts_search.proofs.Paced.{first_ahead, listing_paced}
 use Rattle.ts_search.proofs.CodeTurns.{list_turned, first_makes, present_part}
 use Rattle.ts_search.proofs.listing.list_treat.Goals as goal
 
-pub bring-requires-clause-part : goal.bring-requires-clause-part
-bring-requires-clause-part c =
-    present_part (search_of c.args.problem.now).model.cells c.args.tree.now.frontier.boxes c.advance.new.self.boxes c.present-cells.result.now.present
-    c.requires.parts c.in_ok-advance.ensures.same c.present-cells.ensures
-
-pub listing_line-requires-clause-asked : goal.listing_line-requires-clause-asked
-listing_line-requires-clause-asked c = record {
+pub paced_line-requires-clause-asked : goal.paced_line-requires-clause-asked
+paced_line-requires-clause-asked c = record {
   posed = c.requires.posed;
   part = present_part (search_of c.args.problem.now).model.cells c.args.tree.now.frontier.boxes c.advance.new.self.boxes
       c.present-cells.result.now.present c.requires.parts c.in_ok-advance.ensures.same c.present-cells.ensures;
@@ -41,4 +37,18 @@ returns-clause-turn c =
     (λ z boxes. list_turned s old new.lines c.advance.new.self.boxes new.pending new.listed c.present-cells.result.now.present
     c.present.result.now.present c.in_ok-line.line c.in_ok-advance.ensures.same c.present-cells.ensures
     c.in_ok-line.ensures.line c.in_ok-push.ensures.items c.present.ensures c.in_ok-listed_now.ensures boxes)
+    c.follow.ensures.ok
+
+pub paced_line-requires-clause-ahead : goal.paced_line-requires-clause-ahead
+paced_line-requires-clause-ahead c =
+    first_ahead (TheFirst (search_of c.args.problem.now)) c.args.pace.now.ahead c.args.tree.now.frontier.boxes c.advance.new.self.boxes
+    c.present-cells.result.now.present c.requires.paced.ahead c.in_ok-advance.ensures.same c.present-cells.ensures
+
+pub returns-clause-paced : goal.returns-clause-paced
+returns-clause-paced c =
+    let s = search_of c.args.problem.now in
+    on_ok_weaker c.follow.result
+    (λ boxes. listing_paced c.present-cells.result.now.present c.present.result.now.present c.advance.new.self.boxes c.follow.new.frontier.boxes
+    c.in_ok-line.line c.present-cells.ensures c.present.ensures boxes s c.args.pace.now c.paced_line.new.pace c.pass.new.self
+    c.requires.paced.inside c.paced_line.ensures.leaps c.pass.ensures.leaps c.in_ok-line.ensures.ahead c.pass.ensures.ahead c.in_ok-line.ensures.line)
     c.follow.ensures.ok

@@ -1,6 +1,8 @@
-use Rattle.std.proofs.Common.{[], ◌∷◌, refl, ap, arith, length, ◌∙◌}
+use Rattle.std.proofs.Common.{[], ◌∷◌, None, refl, ap, arith, length, ◌∙◌}
+use Rattle.ts_search.specs.LineOf.{TheBest}
 use Rattle.ts_search.specs.Views.{contest_of, state_of}
 use Rattle.ts_search.proofs.CodeTurns.{first_parts, grow_end, grow_first, grow_more, grow_none, grow_parts, grow_stop}
+use Rattle.ts_search.proofs.Paced.{paced_first}
 use Rattle.ts_search.proofs.tree.grow.Goals as goal
 
 pub new-requires : goal.new-requires
@@ -16,6 +18,8 @@ loop-init c =
       turned = grow_none s c.args.budget _ first;
       held = c.requires.held;
       parts = first_parts s.search.model.cells c.new-3.result.boxes c.requires.posed.right.box (ap (λ w. w.boxes) c.new-3.ensures ∙ ap (λ b. b ∷ []) root);
+      paced = paced_first (TheBest s None) c.new-pace.result c.new-3.result.boxes c.args.leaps c.new-pace.ensures.leaps c.new-pace.ensures.ahead
+          (λ t. c.requires.inside t None);
     }
 
 pub returns-then-is_empty-clause-turns : goal.returns-then-is_empty-clause-turns
@@ -32,6 +36,7 @@ loop-preserved c =
           c.in_ok-treat.ensures.turn c.loop.invariant.turned;
       held = c.in_ok-treat.ensures.held;
       parts = grow_parts s (state_of c.loop.tree) (state_of c.treat.new.tree) c.in_ok-treat.ensures.turn c.loop.invariant.parts;
+      paced = c.in_ok-treat.ensures.paced;
     }
 
 pub returns-clause-turns : goal.returns-clause-turns

@@ -1,0 +1,168 @@
+-- A leap as the code makes it: the box below, the values that are taken away, and where it ends.
+use Rattle.std.proofs.Common.{◌≡◌, ◌⊎◌, ℕ, zero, suc, ◌+◌, ◌-◌, ◌/◌, ◌<◌, ◌≤◌, ℤ, ◌<ℤ◌, Bool, false, List, [], ◌∷◌, length, get_or, set, Option, Some, None, slice_get, refl, sym, ◌∙◌, ap, subst, inl, inr, ⊎_elim, arith, ◌↔◌}
+use Rattle.std.proofs.lemmas.Bool.{false_from_ne_true}
+use Rattle.std.proofs.lemmas.List.{length-set}
+use Rattle.std.proofs.lemmas.Option.{slice_get-get_or, slice_get_within}
+use Rattle.std.specs.Prelude.{Contains, IsTrue, MatchOption, int_lt}
+use Rattle.ts_bound.specs.TermSpans.{Automata, term_span}
+use Rattle.ts_certificate.specs.declared.certificate.TreeLine.{TreeLine}
+use Rattle.ts_certificate.specs.declared.certificate.TreeLine.TheVariants.{Split}
+use Rattle.ts_domain.specs.BoxSeries.{IsBox}
+use Rattle.ts_domain.specs.Kept.{values_up_to}
+use Rattle.ts_domain.proofs.BoxLaws.{contains_above}
+use Rattle.ts_domain.proofs.Sets.{lt_true}
+use Rattle.ts_filter.specs.Boxes.{Box, HasCell, IsPart, only, values_at}
+use Rattle.ts_filter.specs.Excluded.{Refutes}
+use Rattle.ts_filter.specs.RefutedWorseDrop.{IsRefuted}
+use Rattle.ts_filter.proofs.BoxParts.{part_self}
+use Rattle.ts_filter.proofs.SoundLaws.{clash}
+use Rattle.ts_frontier.specs.declared.halve.Halving.{Halving}
+use Rattle.ts_frontier.specs.Forms.{Wide, form}
+use Rattle.ts_frontier.specs.Halve.{IsHalving, IsSingle}
+use Rattle.ts_frontier.proofs.Halves.{halving_form, single_form}
+use Rattle.ts_model.specs.declared.model.Require.{Require}
+use Rattle.ts_model.specs.Views.{model_parts}
+use Rattle.ts_spans.specs.Machines.{automata_in}
+use Rattle.ts_search.specs.Leaps.{AreSplits, AreTried, ExcludesInside, SplitsIt, TakesFreeValues, after_splits, lower}
+use Rattle.ts_search.specs.LineOf.{Search, Sought, is_refuted_at, line_of, requirements, search_in}
+use Rattle.ts_search.specs.Views.{search_of}
+use Rattle.ts_search.specs.declared.problem.Problem.{Problem}
+use Rattle.ts_search.proofs.CallLaws.{refuted_is, to_machine}
+use Rattle.ts_search.proofs.Known.{from_refuted, to_refuted}
+use Rattle.ts_search.proofs.Leaps.{after_more, after_part, leap_splits, splits_it, tried_less, tried_more}
+use Rattle.ts_search.proofs.Parts.{wide_split}
+
+one_more : (n : ℕ) → suc n ≡ n + 1
+one_more n = omega arith
+
+-- one split further down
+
+module _ (b e : Box) (n : ℕ) (is : e ≡ after_splits n b) where
+  below_is : after_splits (n + 1) b ≡ lower e (form e)
+  below_is = ap (λ m. after_splits m b) (sym (one_more n)) ∙ after_more n b ∙ ap (λ z. lower z (form z)) (sym is)
+
+  pub next_below : (new : Box) (k : ℕ) (t told : ℤ) → told ≡ t → IsHalving k t e → new ≡ set e (k - 1) (values_up_to told (get_or e (k - 1) [])) →
+      new ≡ after_splits (n + 1) b
+  next_below new k t told same h low =
+      low ∙ ap (λ z. set e (k - 1) (values_up_to z (get_or e (k - 1) []))) same ∙ sym (below_is ∙ ap (lower e) (halving_form e k t h))
+
+  pub still_below : IsSingle e → e ≡ after_splits (n + 1) b
+  still_below single = let f = single_form e single in sym (below_is ∙ ap (lower e) f.1)
+
+  pub box_below : IsBox b → IsBox e
+  box_below box = subst IsBox (sym is) (after_part b n b (part_self b box)).box
+
+  pub part_below : (cells : Box) → IsPart b cells → IsPart e cells
+  part_below cells part = subst (λ z. IsPart z cells) (sym is) (after_part cells n b part)
+
+  pub tried_next : (s : Search) (k : ℕ) (t : ℤ) → IsHalving k t e → TakesFreeValues s e (Wide k t) → AreTried s n b → AreTried s (n + 1) b
+  tried_next s k t h takes tried =
+      subst (λ m. AreTried s m b) (one_more n)
+      (tried_more s n b tried (subst (λ z. TakesFreeValues s z (form z)) is (subst (TakesFreeValues s e) (sym (halving_form e k t h)) takes)))
+
+pub low_stays : (e : Box) (k : ℕ) (t told : ℤ) → told ≡ t → IsBox e → IsHalving k t e → values_up_to told (values_at k e) ≡ [] → ⊥
+low_stays e k t told same box h =
+    subst (λ z. values_up_to z (values_at k e) ≡ [] → ⊥) (sym same) (wide_split e e k t (part_self e box) (halving_form e k t h)).below
+
+-- where no cell has a choice
+pub none_single : (e : Box) (o : Option Halving) → MatchOption o (IsSingle e) (λ h. IsHalving h.cell h.at e) → ((h : Halving) → o ≡ Some h → ⊥) → IsSingle e
+none_single e None told never = told
+none_single e (Some h) told never = absurd (never h refl)
+
+-- with the values so far no requirement is refuted
+
+abbrev pub AreFreeUpTo : Search → Box → ℕ → ℤ → ℕ → Type 0
+AreFreeUpTo s b k t n =
+    (i : ℕ) (v : ℤ) (j : ℕ) → i < n → slice_get (values_at k b) i ≡ Some v → t <ℤ v → IsRefuted s.model.requirements s.spans j k (only k v b) → ⊥
+
+which : (i n : ℕ) → i < n + 1 → (i ≡ n) ⊎ (i < n)
+which zero zero h = inl refl
+which zero (suc n) h = inr (omega arith)
+which (suc i) zero h = absurd (omega (arith, h))
+which (suc i) (suc n) h = ⊎_elim (λ e. inl (ap suc e)) (λ l. inr (omega (arith, l))) (which i n (omega (arith, h)))
+
+pub free_next : (s : Search) (b : Box) (k : ℕ) (t : ℤ) (n : ℕ) (v : ℤ) → slice_get (values_at k b) n ≡ Some v →
+    (t <ℤ v → (j : ℕ) → IsRefuted s.model.requirements s.spans j k (only k v b) → ⊥) → AreFreeUpTo s b k t n → AreFreeUpTo s b k t (n + 1)
+free_next s b k t n v is free h i u j l e above r = go (which i n l)
+  where
+    go : (i ≡ n) ⊎ (i < n) → ⊥
+    go (inr below) = h i u j below e above r
+    go (inl same) =
+        let one : v ≡ u = (let z : ◌≡◌ {A = Option ℤ} (Some v) (Some u) = sym is ∙ ap (slice_get (values_at k b)) (sym same) ∙ e in cc) in
+        free (subst (λ z. t <ℤ z) (sym one) above) j (subst (λ z. IsRefuted s.model.requirements s.spans j k (only k z b)) (sym one) r)
+
+-- as the code compares them
+pub not_above : {P : Type 0} (t v told seen : ℤ) → told ≡ t → seen ≡ v → int_lt told seen ≡ false → t <ℤ v → P
+not_above t v told seen e f under above =
+    absurd (clash (int_lt t v) (lt_true t v above) (subst (λ z. int_lt z v ≡ false) e (subst (λ z. int_lt told z ≡ false) f under)))
+
+pub all_free : (s : Search) (b : Box) (k : ℕ) (t : ℤ) (i n : ℕ) → n ≤ i → n ≡ length (values_at k b) → AreFreeUpTo s b k t i → TakesFreeValues s b (Wide k t)
+all_free s b k t i n end count h v j has r =
+    let c = (contains_above t (values_at k b) v).0 has in
+    let place = at (values_at k b) v c.0 in
+    h place.0 v j (let l = slice_get_within (values_at k b) place.0 v place.1 in omega (arith, l, end, count)) place.1 c.1 r
+  where
+    at : (d : List ℤ) (v : ℤ) → Contains d v → (i : ℕ) × (slice_get d i ≡ Some v)
+    at d v h = (h.0, slice_get-get_or d h.0 v h.1 ∙ ap Some h.2)
+
+-- by no requirement so far is the value refuted
+
+abbrev pub NoneRefutes : Search → Box → ℕ → ℤ → ℕ → Type 0
+NoneRefutes s b k v n = (j : ℕ) → 1 ≤ j → j < n → is_refuted_at s j k (only k v b) ≡ false
+
+pub none_first : (s : Search) (b : Box) (k : ℕ) (v : ℤ) → NoneRefutes s b k v 1
+none_first s b k v j from to = absurd (omega (arith, from, to))
+
+pub none_next : (s : Search) (b : Box) (k : ℕ) (v : ℤ) (n : ℕ) (told : Bool) → told ≡ is_refuted_at s n k (only k v b) → told ≡ false →
+    NoneRefutes s b k v n → NoneRefutes s b k v (n + 1)
+none_next s b k v n told is fails h j from to =
+    ⊎_elim (λ e. subst (λ z. is_refuted_at s z k (only k v b) ≡ false) (sym e) (sym is ∙ fails)) (λ l. h j from l) (which j n to)
+
+pub none_at_all : (s : Search) (b : Box) (k : ℕ) (v : ℤ) (n m : ℕ) → m + 1 ≤ n → m ≡ requirements s → NoneRefutes s b k v n → (j : ℕ) →
+    IsRefuted s.model.requirements s.spans j k (only k v b) → ⊥
+none_at_all s b k v n m end count h j r =
+    let within = slice_get_within s.model.requirements (j - 1) r.require r.is.1 in
+    let from = r.is.0 in
+    clash (is_refuted_at s j k (only k v b)) (from_refuted s j k (only k v b) r) (h j from (omega (arith, from, within, end, count)))
+
+-- a value at a cell that may be used, and at one that may not
+module _ (q : Problem) (b : Box) (j : ℕ) (r : Require) (a : Automata) (from : 1 ≤ j) (there : slice_get q.model.now.requirements.items (j - 1) ≡ Some r)
+    (machine : slice_get (automata_in (model_parts q.model.now)) r.term ≡ Some a) (k : ℕ) (v : ℤ) (cell : HasCell k b) where
+  same_size : length (only k v b) ≡ length b
+  same_size = length-set b (k - 1) (v ∷ [])
+
+  pub value_told : (told : Bool) → (a.pair ≡ None → k ≡ length b) → IsTrue told ↔ Refutes r.op r.bound (term_span a k (only k v b)) →
+      told ≡ is_refuted_at (search_of q) j k (only k v b)
+  value_told told usable h =
+      refuted_is (automata_in (model_parts q.model.now)) r.term a machine q.model.now.requirements.items j r (from, there) refl k (only k v b)
+      (record {
+        from = cell.0;
+        to = (let to = cell.1 in let same = same_size in omega (arith, to, same));
+        last = λ n. usable n ∙ sym same_size;
+      }) told h
+
+  pub plain_told : a.pair ≡ None → k < length b → false ≡ is_refuted_at (search_of q) j k (only k v b)
+  plain_told none below =
+      sym (false_from_ne_true (is_refuted_at (search_of q) j k (only k v b))
+      (λ t.
+      let u = to_machine (automata_in (model_parts q.model.now)) r.term a machine q.model.now.requirements.items j r (from, there) refl k (only k v b)
+      (to_refuted (search_of q) j k (only k v b) t) in
+      let last = u.0.last none in let same = same_size in omega (arith, last, same, below)))
+
+-- the end of a leap
+
+pub half_tried : (s : Search) (n : ℕ) (b : Box) → AreTried s n b → AreTried s (n / 2) b
+half_tried s n b h = tried_less s (n / 2) n b (omega arith) h
+
+pub one_less_tried : (s : Search) (n m : ℕ) (b : Box) → m ≡ n - 1 → AreTried s n b → AreTried s m b
+one_less_tried s n m b e h = tried_less s m n b (omega (arith, e)) h
+
+pub leap_done : (q : Sought) → ExcludesInside q → (n : ℕ) (b e : Box) → IsPart b (search_in q).model.cells → AreTried (search_in q) n b → e ≡ after_splits n b →
+    (l : TreeLine) (k : ℕ) (t : ℤ) → l ≡ line_of q e → l ≡ Split k t → AreSplits q (n + 1) b
+leap_done q x n b e part tried is l k t line split =
+    subst (λ m. AreSplits q m b) (one_more n)
+    (leap_splits q x n b part tried
+    (subst (λ z. splits z) is (splits_it q e k t (sym line ∙ split))))
+  where
+    splits : Box → Type 0
+    splits z = SplitsIt (line_of q z) (form z)
