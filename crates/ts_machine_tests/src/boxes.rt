@@ -3,10 +3,9 @@
 ghost use Rattle.std.specs.Prelude.{◌&&◌, ◌≡◌, int_le, neg_ℤ, pos};
 ghost use Rattle.std.specs.List.{list_all};
 
-mod removals;
+pub(crate) mod removals;
 
 use std::alloc::Global;
-use std::process::Abort;
 use std::test::Fail;
 use ts_domain::{Boxed, Domain, DomainStop};
 
@@ -19,7 +18,9 @@ enum Keep {
 }
 
 /// Low ends, high ends, the ranges of the union, and how many numbers it has; none where it is refused.
-static UNIONS: [(&[i64], &[i64], &[(i64, i64)], u64); 13] = [
+type Union = (&'static [i64], &'static [i64], &'static [(i64, i64)], u64);
+
+static UNIONS: [Union; 13] = [
     (&[5], &[4], &[], 0),
     (&[], &[], &[], 0),
     (&[0, 9, 3], &[2, 8, 4], &[], 0),
@@ -61,7 +62,7 @@ static CHANGES: [(Keep, i64, &[(i64, i64)]); 16] = [
 ];
 
 // Each table behind a function, so that the proof of the test doesn't read it.
-fn unions() -> &'static [(&'static [i64], &'static [i64], &'static [(i64, i64)], u64)] {
+fn unions() -> &'static [Union] {
     &UNIONS
 }
 
@@ -77,159 +78,192 @@ pub(crate) fn within(values: &[i64]) -> bool
         .all(|value| -1_000_000 <= *value && *value <= 1_000_000)
 }
 
-pub(crate) fn union(
-    rt: &impl Abort,
-    alloc: Global,
-    lows: &[i64],
-    highs: &[i64],
-) -> Result<Domain, DomainStop> {
-    assert!(rt; lows.len() == highs.len());
-    assert!(rt; within(lows));
-    assert!(rt; within(highs));
-    Domain::from_ranges(alloc, lows, highs)
+/// The union of ranges; None where it is refused.
+fn union(alloc: Global, lows: &[i64], highs: &[i64]) -> Result<Option<Domain>, Fail> {
+    if lows.len() != highs.len() || !within(lows) || !within(highs) {
+        Err("past the limits")?
+    }
+    match Domain::from_ranges(alloc, lows, highs) {
+        Ok(domain) => Ok(Some(domain)),
+        Err(DomainStop::Empty) => Ok(None),
+        Err(DomainStop::Memory) => Err("no memory")?,
+    }
 }
 
-/// The walk gives so many numbers, each of the set and above the one before.
-fn expect_walk(rt: &impl Abort, domain: &Domain, count: u64) {
+/// The numbers of ranges.
+pub(crate) fn numbers(alloc: Global, lows: &[i64], highs: &[i64]) -> Result<Domain, Fail> {
+    Ok(union(alloc, lows, highs)?.ok_or("no number")?)
+}
+
+/// Whether the walk gives so many numbers, each of the set and above the one before.
+fn walks_over(domain: &Domain, count: u64) -> bool {
     let mut seen = 0_u64;
     let mut last = None;
     for value in domain.values() {
-        assert!(rt; domain.contains(value));
-        assert!(rt; last < Some(value));
+        if !domain.contains(value) || Some(value) <= last {
+            return false;
+        }
         last = Some(value);
         seen = seen.saturating_add(1);
     }
-    assert_eq!(rt; seen, count);
+    seen == count
 }
 
-/// The set has the numbers of these ranges, and no other one.
-fn expect_ranges(rt: &impl Abort, domain: &Domain, wanted: &[(i64, i64)]) {
+/// Whether the set has the numbers of these ranges, and no other one.
+fn has_ranges(domain: &Domain, wanted: &[(i64, i64)]) -> bool {
     let mut count = 0_i64;
     for (low, high) in wanted {
-        assert!(rt; domain.contains(*low) && domain.contains(*high));
+        if !domain.contains(*low) || !domain.contains(*high) {
+            return false;
+        }
         count = count.saturating_add(high.saturating_sub(*low).saturating_add(1));
     }
     let mut seen = 0_i64;
     for value in domain.values() {
-        assert!(rt;
-            wanted
-                .iter()
-                .any(|(low, high)| *low <= value && value <= *high)
-        );
+        if !wanted
+            .iter()
+            .any(|(low, high)| *low <= value && value <= *high)
+        {
+            return false;
+        }
         seen = seen.saturating_add(1);
     }
-    assert_eq!(rt; seen, count);
+    seen == count
 }
 
-/// The set has these ranges, so many numbers, and the ends of the ranges as its first and last number.
-fn expect_union(rt: &impl Abort, domain: &Domain, wanted: &[(i64, i64)], count: u64) {
-    expect_ranges(rt, domain, wanted);
-    let size = domain.size();
-    assert_eq!(rt; size, count);
-    assert_eq!(rt; domain.is_single(), count == 1);
-    if count < 10 {
-        expect_walk(rt, domain, count);
-    }
-    assert!(rt; 0 < size);
-    let (first, last) = (domain.nth(0), domain.nth(size - 1));
-    assert_eq!(rt; wanted.first().map(|range| range.0), Some(first));
-    assert_eq!(rt; wanted.last().map(|range| range.1), Some(last));
-    assert!(rt; -2_000_000 < first && last < 2_000_000);
-    assert!(rt; !domain.contains(first - 1) && !domain.contains(last + 1));
-}
-
-/// The ends of the set are those of its first and its last range.
-fn expect_ends(rt: &impl Abort, domain: &Domain, wanted: &[(i64, i64)]) {
+/// Whether the set has these numbers as its first and its last one, and none before and behind them.
+fn has_ends(domain: &Domain, first: i64, last: i64) -> bool {
     let ends = domain.ends();
-    assert_eq!(rt; wanted.first().map(|range| range.0), Some(ends.low));
-    assert_eq!(rt; wanted.last().map(|range| range.1), Some(ends.high));
-    assert_eq!(rt; domain.least(), ends.low);
+    (ends.low, ends.high, domain.least()) == (first, last, first)
+        && !domain.contains(first.saturating_sub(1))
+        && !domain.contains(last.saturating_add(1))
 }
 
-/// Changes cell `k`, where the value `stays`.
-fn change(rt: &impl Abort, cells: &mut Boxed, k: u32, keep: Keep, stays: i64) -> Result<(), Fail> {
-    assert!(rt; 1 <= k && k <= cells.cells());
-    assert!(rt; cells.cell(k).contains(stays));
-    match keep {
-        Keep::UpTo(t) => {
-            assert!(rt; stays <= t);
-            cells.keep_low(k, t)?;
-        }
-        Keep::Above(t) => {
-            assert!(rt; t < stays);
-            cells.keep_high(k, t)?;
-        }
-        Keep::AllBut(gone) => {
-            assert!(rt; stays != gone);
-            cells.remove(k, gone)?;
-        }
+/// Whether the set has these ranges, so many numbers, and the ends of the ranges as its first and last number.
+fn is_union(domain: &Domain, wanted: &[(i64, i64)], count: u64) -> bool {
+    let size = domain.size();
+    if size != count || size < 1 || domain.is_single() != (count == 1) {
+        return false;
     }
-    Ok(())
+    let (first, last) = (domain.nth(0), domain.nth(size - 1));
+    wanted.first().map(|range| range.0) == Some(first)
+        && wanted.last().map(|range| range.1) == Some(last)
+        && has_ends(domain, first, last)
+        && has_ranges(domain, wanted)
+        && (10 <= count || walks_over(domain, count))
 }
 
-fn expect_cells(rt: &impl Abort, cells: &Boxed, first: &[(i64, i64)], second: &[(i64, i64)]) {
-    assert!(rt; cells.cells() == 2);
-    expect_ranges(rt, cells.cell(1), first);
-    expect_ranges(rt, cells.cell(2), second);
-}
-
-fn back(rt: &impl Abort, cells: &mut Boxed, mark: usize) {
-    assert!(rt; mark <= cells.mark());
-    cells.undo(mark);
-    assert_eq!(rt; cells.mark(), mark);
-}
-
-fn changes_and_ways_back(rt: &impl Abort, cells: &mut Boxed) -> Result<(), Fail> {
-    let both = [(3, 3), (5, 5)];
-    let whole = [(0, 4), (7, 9), (12, 12)];
-    for (keep, stays, wanted) in changes() {
-        let mark = cells.mark();
-        change(rt, cells, 2, *keep, *stays)?;
-        expect_cells(rt, cells, &both, wanted);
-        back(rt, cells, mark);
-        expect_cells(rt, cells, &both, &whole);
+fn union_holds(alloc: Global, row: &Union) -> Result<bool, Fail> {
+    let (lows, highs, wanted, count) = row;
+    match union(alloc, lows, highs)? {
+        Some(domain) => Ok(is_union(&domain, wanted, *count)),
+        None => Ok(wanted.is_empty()),
     }
-    change(rt, cells, 2, Keep::UpTo(8), 3)?;
-    change(rt, cells, 1, Keep::AllBut(3), 5)?;
-    change(rt, cells, 2, Keep::AllBut(3), 1)?;
-    let mark = cells.mark();
-    change(rt, cells, 2, Keep::Above(2), 4)?;
-    change(rt, cells, 1, Keep::UpTo(5), 5)?;
-    change(rt, cells, 2, Keep::Above(7), 8)?;
-    expect_cells(rt, cells, &[(5, 5)], &[(8, 8)]);
-    for _ in 0..2 {
-        back(rt, cells, mark);
-        expect_cells(rt, cells, &[(5, 5)], &[(0, 2), (4, 4), (7, 8)]);
-    }
-    back(rt, cells, 1);
-    expect_cells(rt, cells, &both, &[(0, 4), (7, 8)]);
-    back(rt, cells, 0);
-    expect_cells(rt, cells, &both, &whole);
-    Ok(())
 }
 
 #[test]
-fn unions_changes_and_ways_back(rt: HostRuntime) -> Result<(), Fail> {
-    let alloc = rt.alloc();
-    for (lows, highs, wanted, count) in unions() {
-        match union(&rt, alloc, lows, highs) {
-            Ok(domain) => {
-                expect_union(&rt, &domain, wanted, *count);
-                expect_ends(&rt, &domain, wanted);
-            }
-            Err(stop) => {
-                assert_eq!(rt; stop, DomainStop::Empty);
-                assert!(rt; wanted.is_empty());
-            }
-        }
+fn unions_of_ranges(rt: HostRuntime) -> Result<(), Fail> {
+    for (place, row) in unions().iter().enumerate() {
+        assert!(rt; union_holds(rt.alloc(), row)?, "row {place}");
     }
-    let numbers = union(&rt, alloc, &[0, 7, 12], &[4, 9, 12])?;
-    assert_eq!(rt; numbers.size(), 9);
-    assert!(rt; 5 < numbers.size());
-    assert_eq!(rt; numbers.nth(5), 7);
-    assert!(rt; !numbers.contains(6) && !numbers.is_single());
-    let both = union(&rt, alloc, &[3, 5], &[3, 5])?;
-    assert!(rt; both.is_same(&both.try_clone()?) && !both.is_same(&numbers));
-    let mut cells = Boxed::new(alloc, &[both, numbers])?;
-    changes_and_ways_back(&rt, &mut cells)
+    Ok(())
+}
+
+/// Changes cell `k`, where the value `stays`.
+fn change(cells: &mut Boxed, k: u32, keep: Keep, stays: i64) -> Result<(), Fail> {
+    if k < 1 || cells.cells() < k {
+        Err("no cell")?
+    }
+    if !cells.cell(k).contains(stays) {
+        Err("no value of the cell")?
+    }
+    match keep {
+        Keep::UpTo(t) if stays <= t => cells.keep_low(k, t)?,
+        Keep::Above(t) if t < stays => cells.keep_high(k, t)?,
+        Keep::AllBut(gone) if stays != gone => cells.remove(k, gone)?,
+        _ => Err("nothing stays")?,
+    }
+    Ok(())
+}
+
+fn are_cells(cells: &Boxed, first: &[(i64, i64)], second: &[(i64, i64)]) -> bool {
+    cells.cells() == 2 && has_ranges(cells.cell(1), first) && has_ranges(cells.cell(2), second)
+}
+
+/// Goes back to a mark, and tells whether the box is there.
+fn goes_back(cells: &mut Boxed, mark: usize) -> bool {
+    if cells.mark() < mark {
+        return false;
+    }
+    cells.undo(mark);
+    cells.mark() == mark
+}
+
+const BOTH: [(i64, i64); 2] = [(3, 3), (5, 5)];
+
+const WHOLE: [(i64, i64); 3] = [(0, 4), (7, 9), (12, 12)];
+
+/// Changes the second cell and goes back.
+fn change_holds(
+    cells: &mut Boxed,
+    keep: Keep,
+    stays: i64,
+    wanted: &[(i64, i64)],
+) -> Result<bool, Fail> {
+    let mark = cells.mark();
+    change(cells, 2, keep, stays)?;
+    Ok(are_cells(cells, &BOTH, wanted) && goes_back(cells, mark) && are_cells(cells, &BOTH, &WHOLE))
+}
+
+/// Six changes, and ways back to the third, twice, to the first and to none.
+fn changes_hold(cells: &mut Boxed) -> Result<bool, Fail> {
+    change(cells, 2, Keep::UpTo(8), 3)?;
+    change(cells, 1, Keep::AllBut(3), 5)?;
+    change(cells, 2, Keep::AllBut(3), 1)?;
+    let mark = cells.mark();
+    change(cells, 2, Keep::Above(2), 4)?;
+    change(cells, 1, Keep::UpTo(5), 5)?;
+    change(cells, 2, Keep::Above(7), 8)?;
+    let changed = are_cells(cells, &[(5, 5)], &[(8, 8)]);
+    let back = goes_back(cells, mark) && are_cells(cells, &[(5, 5)], &[(0, 2), (4, 4), (7, 8)]);
+    let again = goes_back(cells, mark) && are_cells(cells, &[(5, 5)], &[(0, 2), (4, 4), (7, 8)]);
+    Ok(
+        changed
+            && back
+            && again
+            && goes_back(cells, 1)
+            && are_cells(cells, &BOTH, &[(0, 4), (7, 8)])
+            && goes_back(cells, 0)
+            && are_cells(cells, &BOTH, &WHOLE),
+    )
+}
+
+/// What two sets tell.
+fn are_told(both: &Domain, whole: &Domain) -> Result<bool, Fail> {
+    if whole.size() != 9 {
+        return Ok(false);
+    }
+    Ok(
+        whole.nth(5) == 7
+            && !whole.contains(6)
+            && !whole.is_single()
+            && both.is_same(&both.try_clone()?)
+            && !both.is_same(whole),
+    )
+}
+
+#[test]
+fn changes_and_ways_back(rt: HostRuntime) -> Result<(), Fail> {
+    let both = numbers(rt.alloc(), &[3, 5], &[3, 5])?;
+    let whole = numbers(rt.alloc(), &[0, 7, 12], &[4, 9, 12])?;
+    assert!(rt; are_told(&both, &whole)?);
+    let mut cells = Boxed::new(rt.alloc(), &[both, whole])?;
+    for (place, (keep, stays, wanted)) in changes().iter().enumerate() {
+        assert!(rt;
+            change_holds(&mut cells, *keep, *stays, wanted)?,
+            "row {place}"
+        );
+    }
+    assert!(rt; changes_hold(&mut cells)?);
+    Ok(())
 }

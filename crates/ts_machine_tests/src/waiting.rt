@@ -3,10 +3,10 @@
 ghost use Rattle.std.specs.Prelude.{IsTrue};
 ghost use Rattle.ts_frontier.specs.Follow.{MakesBoxes};
 
-use crate::boxes::union;
+use crate::boxes::numbers;
+use crate::boxes::removals::evens;
 use TreeLine::{No, Remove, Split, Unsearched, Worse, Yes};
 use std::alloc::Global;
-use std::process::Abort;
 use std::test::Fail;
 use ts_certificate::TreeLine;
 use ts_domain::Boxed;
@@ -56,12 +56,14 @@ fn forms() -> &'static [(
     &FORMS
 }
 
-fn box_of(rt: &impl Abort, alloc: Global, cells: &[&[i64]]) -> Result<Boxed, Fail> {
+fn box_of(alloc: Global, cells: &[&[i64]]) -> Result<Boxed, Fail> {
     let mut domains = Vec::new(alloc);
     for values in cells {
-        domains.push(union(rt, alloc, values, values)?)?;
+        domains.push(numbers(alloc, values, values)?)?;
     }
-    assert!(rt; domains.len() < 10);
+    if 10 <= domains.len() {
+        Err("many cells")?
+    }
     Ok(Boxed::new(alloc, &domains)?)
 }
 
@@ -89,62 +91,96 @@ fn fits(present: &Boxed, line: &TreeLine) -> bool
     }
 }
 
-fn expect_ends(rt: &impl Abort, present: &Boxed, wanted: &[(i64, i64)]) {
+/// Whether the cells have these first and last values.
+fn has_ends(present: &Boxed, wanted: &[(i64, i64)]) -> bool {
     let mut k = 0_u32;
-    for ends in wanted {
+    for (low, high) in wanted {
         k = k.saturating_add(1);
-        assert!(rt; 1 <= k && k <= present.cells());
+        if k < 1 || present.cells() < k {
+            return false;
+        }
         let found = present.cell(k).ends();
-        assert_eq!(rt; (found.low, found.high), *ends);
+        if (found.low, found.high) != (*low, *high) {
+            return false;
+        }
     }
-    assert_eq!(rt; present.cells(), k);
+    present.cells() == k
 }
 
-/// The next box has these ends, and the line is followed on it.
-fn step(
-    rt: &impl Abort,
-    frontier: &mut Frontier,
-    ends: &[(i64, i64)],
-    line: &TreeLine,
-) -> Result<(), Fail> {
-    let some = frontier.advance()?;
-    assert!(rt; some);
+/// Whether the next box has these ends; then the line is followed on it.
+fn step(frontier: &mut Frontier, ends: &[(i64, i64)], line: &TreeLine) -> Result<bool, Fail> {
+    if !frontier.advance()? {
+        return Ok(false);
+    }
     let present = frontier.present();
-    expect_ends(rt, present, ends);
-    assert!(rt; fits(present, line));
+    if !has_ends(present, ends) || !fits(present, line) {
+        return Ok(false);
+    }
     follow(frontier, line)?;
-    Ok(())
+    Ok(true)
+}
+
+/// Whether no box waits any more.
+fn is_through(frontier: &mut Frontier) -> Result<bool, Fail> {
+    Ok(!frontier.advance()? && frontier.is_empty())
 }
 
 #[test]
 fn the_lines_of_a_tree(rt: HostRuntime) -> Result<(), Fail> {
     let alloc = rt.alloc();
-    let cells = box_of(&rt, alloc, &[&[0, 1, 2, 3, 4, 5, 6, 7], &[0, 1, 2, 5, 6]])?;
+    let cells = box_of(alloc, &[&[0, 1, 2, 3, 4, 5, 6, 7], &[0, 1, 2, 5, 6]])?;
     let mut frontier = Frontier::new(alloc, cells);
     for (ends, line, waiting) in tree() {
-        assert!(rt; !frontier.is_empty());
-        step(&rt, &mut frontier, ends, line)?;
+        let is_empty = frontier.is_empty();
+        assert!(rt; !is_empty && step(&mut frontier, ends, line)?);
         assert_eq!(rt; frontier.waiting(), *waiting);
     }
-    let some = frontier.advance()?;
-    assert!(rt; !some && frontier.is_empty());
+    assert!(rt; is_through(&mut frontier)?);
     Ok(())
+}
+
+fn form_holds(
+    alloc: Global,
+    cells: &[&[i64]],
+    place: Option<(u32, i64)>,
+    series: &[i64],
+) -> Result<bool, Fail> {
+    match form_of(alloc, &box_of(alloc, cells)?)? {
+        Form::Alone(only) => Ok(place.is_none() && only.as_slice() == series),
+        Form::Wide(halving) => Ok(Some((halving.cell, halving.at)) == place),
+    }
 }
 
 #[test]
 fn places_to_split_at(rt: HostRuntime) -> Result<(), Fail> {
-    let alloc = rt.alloc();
-    for (cells, place, series) in forms() {
-        let present = box_of(&rt, alloc, cells)?;
-        match form_of(alloc, &present)? {
-            Form::Alone(only) => {
-                assert!(rt; place.is_none());
-                assert_eq!(rt; only.as_slice(), *series);
-            }
-            Form::Wide(halving) => assert_eq!(rt; Some((halving.cell, halving.at)), *place),
-        }
+    for (row, (cells, place, series)) in forms().iter().enumerate() {
+        assert!(rt; form_holds(rt.alloc(), cells, *place, series)?, "row {row}");
     }
     Ok(())
+}
+
+/// Splits the greatest value off again and again.
+fn splits_off(frontier: &mut Frontier, evens: &[i64]) -> Result<bool, Fail> {
+    for t in evens.iter().rev().skip(1) {
+        if !step(
+            frontier,
+            &[(0, t.saturating_add(2))],
+            &Split { k: 1, t: *t },
+        )? {
+            return Ok(false);
+        }
+    }
+    Ok(frontier.waiting() == 4096)
+}
+
+/// Takes the first 4,000 of the boxes of one value each.
+fn takes_each(frontier: &mut Frontier, evens: &[i64]) -> Result<bool, Fail> {
+    for value in evens.iter().take(4000) {
+        if !step(frontier, &[(*value, *value)], &Yes)? {
+            return Ok(false);
+        }
+    }
+    Ok(frontier.waiting() == 96)
 }
 
 /// One cell of separate values, of which the greatest one is split off again and again: each then waits in a box of its
@@ -152,26 +188,11 @@ fn places_to_split_at(rt: HostRuntime) -> Result<(), Fail> {
 #[test]
 fn as_many_boxes_as_values(rt: HostRuntime) -> Result<(), Fail> {
     let alloc = rt.alloc();
-    let mut evens = Vec::new(alloc);
-    for half in 0..4096_i64 {
-        evens.push(half.saturating_mul(2))?;
-    }
-    let mut frontier = Frontier::new(alloc, box_of(&rt, alloc, &[&evens])?);
-    for t in evens.iter().rev().skip(1) {
-        step(
-            &rt,
-            &mut frontier,
-            &[(0, t.saturating_add(2))],
-            &Split { k: 1, t: *t },
-        )?;
-    }
-    assert_eq!(rt; frontier.waiting(), 4096);
-    for value in evens.iter().take(4000) {
-        step(&rt, &mut frontier, &[(*value, *value)], &Yes)?;
-    }
-    assert_eq!(rt; frontier.waiting(), 96);
+    let evens = evens(alloc)?;
+    let mut frontier = Frontier::new(alloc, box_of(alloc, &[&evens])?);
+    assert!(rt; splits_off(&mut frontier, &evens)?);
+    assert!(rt; takes_each(&mut frontier, &evens)?);
     frontier.clear();
-    let some = frontier.advance()?;
-    assert!(rt; !some && frontier.is_empty());
+    assert!(rt; is_through(&mut frontier)?);
     Ok(())
 }

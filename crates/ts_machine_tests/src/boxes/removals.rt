@@ -1,8 +1,10 @@
 //! Cells that lose one number after the other, and get them back.
 
-use super::{Keep, back, change, union};
+ghost use Rattle.std.specs.Prelude.{◌≡◌, IsTrue, length};
+ghost use Rattle.ts_domain.specs.BoxSeries.{cell_of};
+
+use super::{Keep, change, goes_back, numbers};
 use std::alloc::Global;
-use std::process::Abort;
 use std::test::Fail;
 use ts_base::Memory;
 use ts_domain::Boxed;
@@ -20,42 +22,54 @@ fn losses() -> &'static [(i64, i64, u32, i64)] {
     &LOSSES
 }
 
+/// Whether the one cell has so many numbers.
+fn has_count(cells: &Boxed, count: u64) -> bool
+    ensures { IsTrue result → (length cells.now.present ≡ 1) × (length (cell_of 1 cells.now) ≡ count) }
+{
+    cells.cells() == 1 && cells.cell(1).size() == count
+}
+
 /// The cell loses one number after the other, and gets them back.
-fn expect_loss(
-    rt: &impl Abort,
+fn loss_holds(
     cells: &mut Boxed,
     first: i64,
     step: i64,
     count: u32,
     stays: i64,
-) -> Result<(), Fail> {
+) -> Result<bool, Fail> {
     let mut gone = first;
     for _ in 0..count {
-        change(rt, cells, 1, Keep::AllBut(gone), stays)?;
+        change(cells, 1, Keep::AllBut(gone), stays)?;
         gone = gone.saturating_add(step);
     }
-    assert!(rt; cells.cells() == 1);
-    assert_eq!(rt; cells.cell(1).size(), 4096_u64.saturating_sub(count as u64));
-    assert_eq!(rt; cells.mark(), count as usize);
-    back(rt, cells, 0);
-    Ok(())
+    Ok(
+        has_count(cells, 4096_u64.saturating_sub(count as u64))
+            && cells.mark() == count as usize
+            && goes_back(cells, 0)
+            && has_count(cells, 4096),
+    )
 }
 
 #[test]
 fn one_number_less_after_the_other(rt: HostRuntime) -> Result<(), Fail> {
-    let alloc = rt.alloc();
-    let mut ends = Vec::new(alloc);
-    for half in 0..4096_i64 {
-        ends.push(half.saturating_mul(2))?;
-    }
-    let numbers = union(&rt, alloc, &ends, &ends)?;
-    let mut cells = Boxed::new(alloc, &[numbers])?;
+    let ends = evens(rt.alloc())?;
+    let mut cells = Boxed::new(rt.alloc(), &[numbers(rt.alloc(), &ends, &ends)?])?;
     for (first, step, count, stays) in losses() {
-        expect_loss(&rt, &mut cells, *first, *step, *count, *stays)?;
-        assert!(rt; cells.cells() == 1);
-        assert_eq!(rt; cells.cell(1).size(), 4096);
+        assert!(rt;
+            loss_holds(&mut cells, *first, *step, *count, *stays)?,
+            "{first}"
+        );
     }
     Ok(())
+}
+
+/// The even numbers up to 8,190.
+pub(crate) fn evens(alloc: Global) -> Result<Vec<i64>, Memory> {
+    let mut evens = Vec::new(alloc);
+    for half in 0..4096_i64 {
+        evens.push(half.saturating_mul(2))?;
+    }
+    Ok(evens)
 }
 
 /// The even numbers up to 7,998, without the second one of each of the first `gone` pairs.
@@ -69,40 +83,38 @@ fn plain_list(alloc: Global, gone: i64) -> Result<Vec<i64>, Memory> {
     Ok(numbers)
 }
 
-/// The cell has the numbers of the list, by their places and on the way over them.
-fn expect_list(rt: &impl Abort, cells: &Boxed, wanted: &[i64]) {
-    assert!(rt; cells.cells() == 1);
+/// Whether the cell has the numbers of the list, by their places and on the way over them.
+fn has_list(cells: &Boxed, wanted: &[i64]) -> bool {
+    if !has_count(cells, wanted.len() as u64) {
+        return false;
+    }
     let cell = cells.cell(1);
-    assert_eq!(rt; cell.size(), wanted.len() as u64);
-    for (i, value) in wanted.iter().enumerate() {
-        assert_eq!(rt; cell.nth(i as u64), *value);
-    }
     let mut walk = cell.values();
-    for value in wanted {
-        assert_eq!(rt; walk.next(), Some(*value));
+    for (i, value) in wanted.iter().enumerate() {
+        if cell.nth(i as u64) != *value || walk.next() != Some(*value) {
+            return false;
+        }
     }
-    assert_eq!(rt; walk.next(), None);
+    walk.next().is_none()
 }
 
 #[test]
 fn each_second_number_less(rt: HostRuntime) -> Result<(), Fail> {
     let alloc = rt.alloc();
     let all = plain_list(alloc, 0)?;
-    let numbers = union(&rt, alloc, &all, &all)?;
-    let mut cells = Boxed::new(alloc, &[numbers])?;
+    let mut cells = Boxed::new(alloc, &[numbers(alloc, &all, &all)?])?;
     for pair in 0..2000_i64 {
         change(
-            &rt,
             &mut cells,
             1,
             Keep::AllBut(pair.saturating_mul(4).saturating_add(2)),
             0,
         )?;
     }
-    expect_list(&rt, &cells, &plain_list(alloc, 2000)?);
+    assert!(rt; has_list(&cells, &plain_list(alloc, 2000)?));
     for mark in [1337, 64, 0] {
-        back(&rt, &mut cells, mark);
-        expect_list(&rt, &cells, &plain_list(alloc, mark as i64)?);
+        assert!(rt; goes_back(&mut cells, mark));
+        assert!(rt; has_list(&cells, &plain_list(alloc, mark as i64)?));
     }
     Ok(())
 }
