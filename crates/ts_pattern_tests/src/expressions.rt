@@ -78,30 +78,24 @@ pub(super) fn has_normal_form(alloc: Global, row: &[u8]) -> Result<bool, Memory>
     shows(alloc, row, 1, normal(alloc, &regex(alloc, word(row, 0))?)?)
 }
 
-fn derivative(alloc: Global, row: &[u8], l: Letter) -> Result<Regex, Memory> {
-    derive(alloc, &regex(alloc, word(row, 0))?, l)
+/// What is left of the expression of a row after a letter, in normal form or as it comes.
+fn left(alloc: Global, row: &[u8], letter: Letter, in_form: bool) -> Result<Regex, Memory> {
+    let found = derive(alloc, &regex(alloc, word(row, 0))?, letter)?;
+    if in_form {
+        normal(alloc, &found)
+    } else {
+        Ok(found)
+    }
 }
 
-fn residual(alloc: Global, row: &[u8], l: Letter) -> Result<Regex, Memory> {
-    normal(alloc, &derivative(alloc, row, l)?)
-}
-
-/// An expression, and what is left of it after `<`, `=` and `>`, in normal form.
-pub(super) fn has_residuals(alloc: Global, row: &[u8]) -> Result<bool, Memory> {
-    Ok(
-        shows(alloc, row, 1, residual(alloc, row, Letter::Less)?)?
-            && shows(alloc, row, 2, residual(alloc, row, Letter::Equal)?)?
-            && shows(alloc, row, 3, residual(alloc, row, Letter::Greater)?)?,
-    )
-}
-
-/// An expression, and its derivatives by `<`, `=` and `>` as they come.
-pub(super) fn has_derivatives(alloc: Global, row: &[u8]) -> Result<bool, Memory> {
-    Ok(
-        shows(alloc, row, 1, derivative(alloc, row, Letter::Less)?)?
-            && shows(alloc, row, 2, derivative(alloc, row, Letter::Equal)?)?
-            && shows(alloc, row, 3, derivative(alloc, row, Letter::Greater)?)?,
-    )
+/// An expression, and what is left of it after `<`, `=` and `>`, in normal form or as it comes.
+pub(super) fn has_left(alloc: Global, row: &[u8], in_form: bool) -> Result<bool, Memory> {
+    for (place, letter) in [(1, Letter::Less), (2, Letter::Equal), (3, Letter::Greater)] {
+        if !shows(alloc, row, place, left(alloc, row, letter, in_form)?)? {
+            return Ok(false);
+        }
+    }
+    Ok(true)
 }
 
 /// An expression, and whether it has the empty word, a word, and a longer word.
@@ -138,10 +132,7 @@ fn is_summit(alloc: Global, length: usize) -> Result<bool, Memory> {
 }
 
 #[test]
-fn long_words_of_summit(rt: HostRuntime) -> Result<(), Memory> {
-    assert_eq!(rt;
-        (is_summit(rt.alloc(), 500)?, is_summit(rt.alloc(), 501)?),
-        (true, false)
-    );
-    Ok(())
+fn long_words_of_summit(rt: HostRuntime) {
+    assert!(rt; is_summit(rt.alloc(), 500) == Ok(true));
+    assert!(rt; is_summit(rt.alloc(), 501) == Ok(false));
 }

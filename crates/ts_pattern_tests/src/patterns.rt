@@ -8,12 +8,24 @@ use ts_pattern::{
 };
 use ts_regex::{Regex, member};
 
+/// Names of no pattern, no feature and no aggregator.
+const UNKNOWN: [&str; 6] = ["hill", "peaks", "Peak", "dip", "surface", "count"];
+
+fn are_unknown() -> bool {
+    for name in UNKNOWN {
+        let name = name.as_bytes();
+        if pattern_of(name).is_some()
+            || feature_of(name).is_some()
+            || aggregator_of(name).is_some()
+        {
+            return false;
+        }
+    }
+    true
+}
+
 fn patterns_are_named() -> bool {
     pattern_of(b"dip_on_increasing_sequence") == Some(PatternId::DipOnIncreasingSequence)
-        && pattern_of(b"hill").is_none()
-        && pattern_of(b"peaks").is_none()
-        && pattern_of(b"Peak").is_none()
-        && pattern_of(b"dip").is_none()
         && pattern_name(PatternId::Gorge) == b"gorge".as_slice()
 }
 
@@ -22,36 +34,31 @@ fn features_are_named() -> bool {
         && feature_of(b"max") == Some(Feature::Max)
         && feature_of(b"min") == Some(Feature::Min)
         && feature_of(b"range") == Some(Feature::Range)
-        && feature_of(b"surface").is_none()
         && feature_name(Feature::Surf) == b"surf".as_slice()
 }
 
 fn aggregators_are_named() -> bool {
     aggregator_of(b"max") == Some(Aggregator::Max)
         && aggregator_of(b"min") == Some(Aggregator::Min)
-        && aggregator_of(b"count").is_none()
         && aggregator_name(Aggregator::Sum) == b"sum".as_slice()
 }
 
-fn ones_are_added_alone() -> bool {
-    Term::new(Aggregator::Max, Feature::One, PatternId::Peak).is_none()
-        && Term::new(Aggregator::Min, Feature::One, PatternId::Peak).is_none()
-        && Term::new(Aggregator::Sum, Feature::One, PatternId::Peak).is_some()
-}
-
-fn ranges_are_added_and_compared() -> bool {
-    Term::new(Aggregator::Sum, Feature::Range, PatternId::Peak).is_some()
-        && Term::new(Aggregator::Max, Feature::Range, PatternId::Peak).is_some()
-        && Term::new(Aggregator::Min, Feature::Range, PatternId::Peak).is_some()
+/// Ones are added alone, ranges are added and compared.
+fn makes_terms(aggregator: Aggregator) -> bool {
+    let ones = Term::new(aggregator, Feature::One, PatternId::Peak).is_some();
+    ones == (aggregator == Aggregator::Sum)
+        && Term::new(aggregator, Feature::Range, PatternId::Peak).is_some()
 }
 
 #[test]
 fn names_and_terms(rt: HostRuntime) {
+    assert!(rt; are_unknown());
     assert!(rt; patterns_are_named());
     assert!(rt; features_are_named());
     assert!(rt; aggregators_are_named());
-    assert!(rt; ones_are_added_alone());
-    assert!(rt; ranges_are_added_and_compared());
+    for aggregator in [Aggregator::Sum, Aggregator::Max, Aggregator::Min] {
+        assert!(rt; makes_terms(aggregator));
+    }
     for id in PatternId::ALL {
         assert!(rt; pattern_of(pattern_name(id)) == Some(id), "{id:?}");
     }
@@ -72,9 +79,8 @@ fn dip_is_read(alloc: Global) -> Result<bool, Memory> {
 }
 
 #[test]
-fn pattern_of_a_dip(rt: HostRuntime) -> Result<(), Memory> {
-    assert!(rt; dip_is_read(rt.alloc())?);
-    Ok(())
+fn pattern_of_a_dip(rt: HostRuntime) {
+    assert!(rt; dip_is_read(rt.alloc()) == Ok(true));
 }
 
 /// A plan of one residual and two configurations, the second with one entry.
@@ -94,13 +100,20 @@ fn plan(alloc: Global, letter: Letter, state: u8, residual: u32) -> Result<Plan,
     })
 }
 
-#[test]
-fn plans_of_a_pattern(rt: HostRuntime) -> Result<(), Memory> {
-    let alloc = rt.alloc();
+/// Whether such a plan is one of the pattern `<`.
+fn is_plan(alloc: Global, letter: Letter, state: u8, residual: u32) -> Result<bool, Memory> {
     let increasing = pattern_by_id(alloc, PatternId::Increasing)?;
-    assert!(rt; plan(alloc, Letter::Less, 0, 0)?.is_of(alloc, &increasing)?);
-    assert!(rt; !plan(alloc, Letter::Equal, 0, 0)?.is_of(alloc, &increasing)?);
-    assert!(rt; !plan(alloc, Letter::Less, 1, 0)?.is_of(alloc, &increasing)?);
-    assert!(rt; !plan(alloc, Letter::Less, 0, 1)?.is_of(alloc, &increasing)?);
-    Ok(())
+    plan(alloc, letter, state, residual)?.is_of(alloc, &increasing)
+}
+
+#[test]
+fn plans_of_a_pattern(rt: HostRuntime) {
+    for (letter, state, residual, wanted) in [
+        (Letter::Less, 0, 0, true),
+        (Letter::Equal, 0, 0, false),
+        (Letter::Less, 1, 0, false),
+        (Letter::Less, 0, 1, false),
+    ] {
+        assert!(rt; is_plan(rt.alloc(), letter, state, residual) == Ok(wanted));
+    }
 }

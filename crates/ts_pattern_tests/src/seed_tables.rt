@@ -2,7 +2,7 @@
 
 use super::rows::word;
 use std::alloc::Global;
-use ts_base::{Join, Kind, Memory, push_number};
+use ts_base::{Join, Kind, Memory};
 use ts_pattern::{PatternId, Plan, pattern_by_id, pattern_name, pattern_of};
 use ts_seed::{joins_by_id, partner_by_id, seed_by_id, transducer_by_id};
 use ts_token::number;
@@ -38,32 +38,46 @@ pub(super) fn seeds() -> &'static str {
     SEEDS
 }
 
-/// The kinds of the states, by their first letters.
-fn kinds(alloc: Global, rows: &[Row]) -> Result<Vec<u8>, Memory> {
-    let mut text = Vec::new(alloc);
-    for row in rows {
-        text.push(match row.kind {
-            Kind::Idle => b'I',
-            Kind::Pending => b'P',
-            Kind::Held => b'H',
-        })?;
+fn first_letter(kind: Kind) -> u8 {
+    match kind {
+        Kind::Idle => b'I',
+        Kind::Pending => b'P',
+        Kind::Held => b'H',
     }
-    Ok(text)
 }
 
-fn pairs(alloc: Global, joins: &[Join]) -> Result<Vec<u8>, Memory> {
-    let mut text = Vec::new(alloc);
-    for join in joins {
-        if !text.is_empty() {
-            text.push(b',')?;
+/// Whether the states have the kinds with these first letters.
+fn are_kinds(rows: &[Row], letters: &[u8]) -> bool {
+    if rows.len() != letters.len() {
+        return false;
+    }
+    for k in 0..rows.len() {
+        if first_letter(rows[k].kind) != letters[k] {
+            return false;
         }
-        push_number(&mut text, i64::from(join.forward))?;
-        push_number(&mut text, i64::from(join.reverse))?;
     }
-    if text.is_empty() {
-        text.extend_from_slice(b"none")?;
+    true
+}
+
+/// The digit at a place of a text.
+fn digit(text: &[u8], place: usize) -> Option<u8> {
+    text.get(place)?.checked_sub(b'0')
+}
+
+/// Whether the joins are these: two digits each, and a comma between two of them.
+fn are_joins(joins: &[Join], written: &[u8]) -> bool {
+    if joins.is_empty() {
+        return written == b"none".as_slice();
     }
-    Ok(text)
+    let mut place: usize = 0;
+    for join in joins {
+        let reverse = digit(written, place.saturating_add(1));
+        if digit(written, place) != Some(join.forward) || reverse != Some(join.reverse) {
+            return false;
+        }
+        place = place.saturating_add(3);
+    }
+    place == written.len().saturating_add(1)
 }
 
 fn name(id: Option<PatternId>) -> &'static [u8] {
@@ -82,10 +96,10 @@ fn has_size(plan: &Plan, row: &[u8]) -> bool {
 fn seed_holds(alloc: Global, id: PatternId, row: &[u8]) -> Result<bool, Memory> {
     let seed = seed_by_id(alloc, id)?;
     Ok(
-        kinds(alloc, seed.transducer.rows())?.as_slice() == word(row, 1)
+        are_kinds(seed.transducer.rows(), word(row, 1))
             && has_size(&seed.plan, row)
             && name(seed.partner) == word(row, 4)
-            && pairs(alloc, &seed.joins)?.as_slice() == word(row, 5),
+            && are_joins(&seed.joins, word(row, 5)),
     )
 }
 
@@ -95,7 +109,7 @@ fn parts_hold(alloc: Global, id: PatternId, row: &[u8]) -> Result<bool, Memory> 
     Ok(
         transducer_by_id(id).rows().len() == word(row, 1).len()
             && name(partner_by_id(id)) == word(row, 4)
-            && pairs(alloc, &joins)?.as_slice() == word(row, 5),
+            && are_joins(&joins, word(row, 5)),
     )
 }
 

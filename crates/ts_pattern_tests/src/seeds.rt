@@ -83,11 +83,13 @@ fn wrong_of(alloc: Global, id: PatternId, length: usize) -> Result<Option<u32>, 
 }
 
 #[test]
-fn seeds_find_the_occurrences(rt: HostRuntime) -> Result<(), Memory> {
+fn seeds_find_the_occurrences(rt: HostRuntime) {
     for id in PatternId::ALL {
         for length in 0..7 {
-            assert_eq!(rt; wrong_of(rt.alloc(), id, length)?, None, "{id:?} {length}");
+            assert!(rt;
+                wrong_of(rt.alloc(), id, length) == Ok(None),
+                "{id:?} {length}"
+            );
         }
     }
-    Ok(())
 }

@@ -2,10 +2,10 @@
 //! and ends as that one did, whatever the size of the piece. Nor does a clause count the reads that give nothing:
 //! whoever reads to the end comes there once.
 
-use std::alloc::{AllocError, Global};
+use std::alloc::Global;
 use std::cell::Cell;
 use std::io::{self, ErrorKind, Read, Write};
-use ts_base::{Failed, ReadStop, Sink, Source, StdIn, StdOut, read_all};
+use ts_base::{Failed, Memory, ReadStop, Sink, Source, StdIn, StdOut, read_all};
 
 /// How often a device was called, and how often it was flushed.
 #[derive(Drop)]
@@ -31,10 +31,13 @@ fn one_more(count: &Cell<u64>) {
     count.set(count.get().saturating_add(1));
 }
 
-/// Fails at one call of all, by its number from 1, and counts its calls.
+/// Fails at one call of all, by its number from 1, and counts its calls. A read gives at most `step` bytes, and so many
+/// reads give some.
 #[derive(Drop)]
 struct Device<'a> {
     fails_at: u64,
+    step: usize,
+    reads: u64,
     counts: &'a Counts,
 }
 
@@ -51,7 +54,10 @@ impl Device<'_> {
 impl Read for Device<'_> {
     fn read(&mut self, buf: &mut [u8]) -> io::Result<usize> {
         self.call()?;
-        Ok(buf.len())
+        if self.reads < self.counts.calls.get() {
+            return Ok(0);
+        }
+        Ok(buf.len().min(self.step))
     }
 }
 
@@ -67,7 +73,7 @@ impl Write for Device<'_> {
     }
 }
 
-fn zeros(alloc: Global, count: usize) -> Result<Vec<u8>, AllocError> {
+fn zeros(alloc: Global, count: usize) -> Result<Vec<u8>, Memory> {
     let mut bytes = Vec::new(alloc);
     bytes.resize(count, 0)?;
     Ok(bytes)
@@ -75,10 +81,15 @@ fn zeros(alloc: Global, count: usize) -> Result<Vec<u8>, AllocError> {
 
 /// A device that fails at this call, and counts its calls.
 fn failing_device(fails_at: u64, counts: &Counts) -> Device<'_> {
-    Device { fails_at, counts }
+    Device {
+        fails_at,
+        step: usize::MAX,
+        reads: u64::MAX,
+        counts,
+    }
 }
 
-fn each_read_is_one_call(alloc: Global) -> Result<bool, AllocError> {
+fn each_read_is_one_call(alloc: Global) -> Result<bool, Memory> {
     let counts = Counts::new();
     let mut input = StdIn::new(failing_device(3, &counts));
     let mut small = [0];
@@ -89,7 +100,7 @@ fn each_read_is_one_call(alloc: Global) -> Result<bool, AllocError> {
     Ok(one && all && failed && counts.told() == (3, 0))
 }
 
-fn each_write_is_one_call(alloc: Global) -> Result<bool, AllocError> {
+fn each_write_is_one_call(alloc: Global) -> Result<bool, Memory> {
     let counts = Counts::new();
     let mut output = StdOut::new(failing_device(3, &counts));
     let large = zeros(alloc, 5_000)?;
@@ -118,52 +129,33 @@ fn a_second_flush_fails() -> bool {
 }
 
 #[test]
-fn one_call_inside(rt: HostRuntime) -> Result<(), AllocError> {
-    assert!(rt; each_read_is_one_call(rt.alloc())?);
-    assert!(rt; each_write_is_one_call(rt.alloc())?);
+fn one_call_inside(rt: HostRuntime) {
+    assert!(rt; each_read_is_one_call(rt.alloc()) == Ok(true));
+    assert!(rt; each_write_is_one_call(rt.alloc()) == Ok(true));
     assert!(rt; a_flush_fails());
     assert!(rt; a_second_flush_fails());
-    Ok(())
 }
 
-/// Gives two bytes a call, so many times, and then the end once: a call behind the end fails.
-#[derive(Drop)]
-struct Terminal<'a> {
-    pieces: u64,
-    calls: &'a Cell<u64>,
-}
-
-impl Read for Terminal<'_> {
-    fn read(&mut self, buf: &mut [u8]) -> io::Result<usize> {
-        one_more(self.calls);
-        let calls = self.calls.get();
-        if calls <= self.pieces {
-            return Ok(buf.len().min(2));
-        }
-        if calls - self.pieces == 1 {
-            return Ok(0);
-        }
-        Err(ErrorKind::Other.into())
-    }
-}
-
-/// How many bytes are read of so many pieces under this limit, or why none, and by how many calls.
-fn read_of(alloc: Global, pieces: u64, limit: u8) -> (Result<usize, ReadStop>, u64) {
-    let calls = Cell::new(0);
-    let mut input = StdIn::new(Terminal {
-        pieces,
-        calls: &calls,
+/// How many bytes are read under this limit, or why none, and by how many calls. So many reads give two bytes each, the
+/// next one gives none, and the one behind it fails.
+fn read_of(alloc: Global, reads: u8, limit: u8) -> (Result<usize, ReadStop>, u64) {
+    let counts = Counts::new();
+    let mut input = StdIn::new(Device {
+        fails_at: u64::from(reads) + 2,
+        step: 2,
+        reads: u64::from(reads),
+        counts: &counts,
     });
     let got = match read_all(alloc, &mut input, usize::from(limit)) {
         Ok(bytes) => Ok(bytes.len()),
         Err(stop) => Err(stop),
     };
-    (got, calls.get())
+    (got, counts.calls.get())
 }
 
 #[test]
 fn nothing_is_read_behind_the_end(rt: HostRuntime) {
-    for (pieces, limit, taken, called) in [
+    for (reads, limit, taken, called) in [
         (0, 0, Ok(0), 1),
         (0, 9, Ok(0), 1),
         (3, 6, Ok(6), 4),
@@ -172,8 +164,8 @@ fn nothing_is_read_behind_the_end(rt: HostRuntime) {
         (3, 0, Err(ReadStop::TooLong), 1),
     ] {
         assert!(rt;
-            read_of(rt.alloc(), pieces, limit) == (taken, called),
-            "{pieces} {limit}"
+            read_of(rt.alloc(), reads, limit) == (taken, called),
+            "{reads} {limit}"
         );
     }
 }

@@ -15,21 +15,19 @@ enum Claim {
     Seed,
     Marks,
     Held,
-    Series(u32),
     Certificate,
 }
 
 fn holds(alloc: Global, claim: Claim, row: &[u8]) -> Result<bool, Memory> {
     match claim {
         Claim::NormalForm => expressions::has_normal_form(alloc, row),
-        Claim::Residuals => expressions::has_residuals(alloc, row),
-        Claim::Derivatives => expressions::has_derivatives(alloc, row),
+        Claim::Residuals => expressions::has_left(alloc, row, true),
+        Claim::Derivatives => expressions::has_left(alloc, row, false),
         Claim::Kind => expressions::has_kind(alloc, row),
         Claim::Word => expressions::has_word_told(alloc, row),
         Claim::Seed => seed_tables::is_counted(alloc, row),
         Claim::Marks => marked::marks_as_named(alloc, row),
         Claim::Held => models::is_held(alloc, row),
-        Claim::Series(cells) => models::is_read(alloc, cells, row),
         Claim::Certificate => certificates::is_told(alloc, row),
     }
 }
@@ -50,7 +48,7 @@ fn first_wrong(alloc: Global, claim: Claim, rows: &str) -> Result<Option<u32>, M
 }
 
 #[test]
-fn all_rows(rt: HostRuntime) -> Result<(), Memory> {
+fn all_rows(rt: HostRuntime) {
     for (claim, name, rows) in [
         (
             Claim::NormalForm,
@@ -77,11 +75,8 @@ fn all_rows(rt: HostRuntime) -> Result<(), Memory> {
         (Claim::Seed, "seeds", seed_tables::seeds()),
         (Claim::Marks, "marks", marked::patterns()),
         (Claim::Held, "models", models::held()),
-        (Claim::Series(0), "no cell", "Ok([])|series/"),
-        (Claim::Series(2), "two cells", "Ok([1, 2])|series 1 2/"),
         (Claim::Certificate, "certificates", certificates::texts()),
     ] {
-        assert_eq!(rt; first_wrong(rt.alloc(), claim, rows)?, None, "{name}");
+        assert!(rt; first_wrong(rt.alloc(), claim, rows) == Ok(None), "{name}");
     }
-    Ok(())
 }

@@ -10,54 +10,47 @@ use ts_token::{
     number,
 };
 
-/// A line's number, a column and the word that stands there.
-type Place = (u32, u32, &'static str);
-
-/// A text, its words, the number of its lines, and the first line that isn't text.
-static TEXTS: [(&str, &[Place], u32, Option<u32>); 38] = [
-    ("", &[], 0, None),
-    ("a", &[(1, 1, "a")], 1, None),
-    ("a\n", &[(1, 1, "a")], 1, None),
-    ("\n", &[], 1, None),
-    ("\n\n", &[], 2, None),
-    ("a\nb", &[(1, 1, "a"), (2, 1, "b")], 2, None),
-    ("ab cd", &[(1, 1, "ab"), (1, 4, "cd")], 1, None),
-    ("ab\tcd\n", &[(1, 1, "ab"), (1, 4, "cd")], 1, None),
-    ("  a \t b  \n", &[(1, 3, "a"), (1, 7, "b")], 1, None),
-    ("~ !", &[(1, 1, "~"), (1, 3, "!")], 1, None),
-    ("a\r\nb\r\n", &[(1, 1, "a"), (2, 1, "b")], 2, None),
-    ("a \r\nb", &[(1, 1, "a"), (2, 1, "b")], 2, None),
-    ("\r\n", &[], 1, None),
-    ("\r", &[], 1, Some(1)),
-    ("a\r", &[], 1, Some(1)),
-    ("a\nb\r", &[(1, 1, "a")], 2, Some(2)),
-    ("a\rb\n", &[], 1, Some(1)),
-    ("a\r\r\n", &[], 1, Some(1)),
-    ("a\n\0\nb\n", &[(1, 1, "a")], 3, Some(2)),
-    ("a\n\nb\x7f\n\0", &[(1, 1, "a")], 4, Some(3)),
-    ("a\n\u{e9}", &[(1, 1, "a")], 2, Some(2)),
-    ("# c\na", &[(2, 1, "a")], 2, None),
-    (" \t#c\na", &[(2, 1, "a")], 2, None),
-    ("#", &[], 1, None),
-    ("#\0\na", &[], 2, Some(1)),
-    ("a #b", &[(1, 1, "a"), (1, 3, "#b")], 1, None),
-    ("a#b", &[(1, 1, "a#b")], 1, None),
-    (";a\n", &[(1, 1, ";a")], 1, None),
-    ("a\n\n \t\nb", &[(1, 1, "a"), (4, 1, "b")], 4, None),
-    ("a\n\r\nb", &[(1, 1, "a"), (3, 1, "b")], 3, None),
-    ("x %%\n", &[(1, 1, "x"), (1, 3, "%%")], 1, None),
-    ("# %%\n", &[], 1, None),
-    ("a\n%%\r", &[(1, 1, "a")], 2, Some(2)),
-    ("%%\0\nb", &[], 2, Some(1)),
-    ("%%", &[(1, 1, "%%")], 1, None),
-    (" \t%% \na", &[(1, 3, "%%"), (2, 1, "a")], 2, None),
-    (
-        "a\n%%\r\nb",
-        &[(1, 1, "a"), (2, 1, "%%"), (3, 1, "b")],
-        3,
-        None,
-    ),
-    ("\0\n%%\n\0", &[], 3, Some(1)),
+/// A text, its words, the number of its lines, and the first line that isn't text. Before each word stand two digits,
+/// its line and its column.
+static TEXTS: [(&str, &str, u32, Option<u32>); 38] = [
+    ("", "", 0, None),
+    ("a", "11a", 1, None),
+    ("a\n", "11a", 1, None),
+    ("\n", "", 1, None),
+    ("\n\n", "", 2, None),
+    ("a\nb", "11a 21b", 2, None),
+    ("ab cd", "11ab 14cd", 1, None),
+    ("ab\tcd\n", "11ab 14cd", 1, None),
+    ("  a \t b  \n", "13a 17b", 1, None),
+    ("~ !", "11~ 13!", 1, None),
+    ("a\r\nb\r\n", "11a 21b", 2, None),
+    ("a \r\nb", "11a 21b", 2, None),
+    ("\r\n", "", 1, None),
+    ("\r", "", 1, Some(1)),
+    ("a\r", "", 1, Some(1)),
+    ("a\nb\r", "11a", 2, Some(2)),
+    ("a\rb\n", "", 1, Some(1)),
+    ("a\r\r\n", "", 1, Some(1)),
+    ("a\n\0\nb\n", "11a", 3, Some(2)),
+    ("a\n\nb\x7f\n\0", "11a", 4, Some(3)),
+    ("a\n\u{e9}", "11a", 2, Some(2)),
+    ("# c\na", "21a", 2, None),
+    (" \t#c\na", "21a", 2, None),
+    ("#", "", 1, None),
+    ("#\0\na", "", 2, Some(1)),
+    ("a #b", "11a 13#b", 1, None),
+    ("a#b", "11a#b", 1, None),
+    (";a\n", "11;a", 1, None),
+    ("a\n\n \t\nb", "11a 41b", 4, None),
+    ("a\n\r\nb", "11a 31b", 3, None),
+    ("x %%\n", "11x 13%%", 1, None),
+    ("# %%\n", "", 1, None),
+    ("a\n%%\r", "11a", 2, Some(2)),
+    ("%%\0\nb", "", 2, Some(1)),
+    ("%%", "11%%", 1, None),
+    (" \t%% \na", "13%% 21a", 2, None),
+    ("a\n%%\r\nb", "11a 21%% 31b", 3, None),
+    ("\0\n%%\n\0", "", 3, Some(1)),
 ];
 
 /// A text, the part before its first line `%%`, and the part after it.
@@ -187,7 +180,7 @@ static CONTENTS: [(&str, bool, usize); 9] = [
 ];
 
 // Each table behind a function, so that the proof of the test doesn't read it.
-fn texts() -> &'static [(&'static str, &'static [Place], u32, Option<u32>)] {
+fn texts() -> &'static [(&'static str, &'static str, u32, Option<u32>)] {
     &TEXTS
 }
 
@@ -211,28 +204,36 @@ fn contents() -> &'static [(&'static str, bool, usize)] {
     &CONTENTS
 }
 
+/// Whether a word with two digits before it says this line, column and word.
+fn is_place(written: &[u8], line: u32, column: u32, text: &[u8]) -> bool {
+    match written {
+        [first, second, word @ ..] => {
+            u32::from(*first) == line.saturating_add(48)
+                && u32::from(*second) == column.saturating_add(48)
+                && word == text
+        }
+        _ => false,
+    }
+}
+
 /// Whether the words of the tokens are these, in order.
-fn are_words(tokens: &Tokens, words: &[Place]) -> bool {
-    let mut done = 0;
+fn are_words(tokens: &Tokens, words: &str) -> bool {
+    let mut places = words.split_whitespace();
     for line in &tokens.lines {
         for word in &line.words {
-            if done >= words.len() {
+            let place = places.next().unwrap_or("");
+            if !is_place(place.as_bytes(), line.number, word.column, word.text) {
                 return false;
             }
-            let (number, column, bytes) = words[done];
-            if line.number != number || word.column != column || word.text != bytes.as_bytes() {
-                return false;
-            }
-            done += 1;
         }
     }
-    done == words.len()
+    places.next().is_none()
 }
 
 fn text_holds(
     alloc: Global,
     text: &str,
-    words: &[Place],
+    words: &str,
     count: u32,
     not_text: Option<u32>,
 ) -> Result<bool, Memory> {
@@ -257,17 +258,16 @@ fn parts_hold(text: &str, before: &str, after: Option<&str>) -> bool {
 }
 
 #[test]
-fn texts_and_their_parts(rt: HostRuntime) -> Result<(), Memory> {
+fn texts_and_their_parts(rt: HostRuntime) {
     for (text, words, count, not_text) in texts() {
         assert!(rt;
-            text_holds(rt.alloc(), text, words, *count, *not_text)?,
+            text_holds(rt.alloc(), text, words, *count, *not_text) == Ok(true),
             "{text:?}"
         );
     }
     for (text, before, after) in parts() {
         assert!(rt; parts_hold(text, before, *after), "{text:?}");
     }
-    Ok(())
 }
 
 #[test]
@@ -308,12 +308,14 @@ fn is_kept(short: &mut ShortLine, line: &str, kept: &str, separator: bool) -> Re
 }
 
 #[test]
-fn short_lines_keep_what_is_read(rt: HostRuntime) -> Result<(), Memory> {
+fn short_lines_keep_what_is_read(rt: HostRuntime) {
     let mut short = ShortLine::new(rt.alloc());
     for (line, kept, separator) in short_lines() {
-        assert!(rt; is_kept(&mut short, line, kept, *separator)?, "{line:?}");
+        assert!(rt;
+            is_kept(&mut short, line, kept, *separator) == Ok(true),
+            "{line:?}"
+        );
     }
-    Ok(())
 }
 
 /// Whether a line is text, and how many words it has.

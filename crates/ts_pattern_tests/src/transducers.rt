@@ -2,13 +2,13 @@
 
 ghost use Rattle.std.specs.Prelude.{◌≤◌, ◌<◌, length};
 
-use arrayvec::ArrayVec;
+use super::validated::{State, transducer};
 use std::alloc::Global;
 use ts_base::Kind::{Held, Idle, Pending};
 use ts_base::Letter::{Equal, Greater, Less};
 use ts_base::{Kind, Letter, Memory, Range};
 use ts_transducer::Phase::{Found, FoundE, Inside, MaybeA, MaybeB, Out, OutA, OutR};
-use ts_transducer::{Arrow, Decoder, Phase, Row, Transducer, decoded};
+use ts_transducer::{Decoder, Phase, decoded};
 
 /// The letter, counted from 1, after which a range is emitted, and its first and last cell. The end of the letters
 /// counts as one letter more.
@@ -85,59 +85,24 @@ fn moves() -> &'static [(Phase, &'static [(Kind, Kind)])] {
     &MOVES
 }
 
-fn to(phase: Phase, next: u8) -> Arrow {
-    Arrow { phase, next }
-}
-
-fn row(kind: Kind, less: Arrow, equal: Arrow, greater: Arrow) -> Row {
-    Row {
-        kind,
-        less,
-        equal,
-        greater,
-    }
-}
-
-/// A row of this kind that goes to the start on each letter.
-fn homing(kind: Kind) -> Row {
+/// A state of this kind that goes to the start on each letter.
+fn homing(kind: Kind) -> State {
     let home = match kind {
-        Idle => to(Out, 0),
-        Pending => to(OutR, 0),
-        Held => to(OutA, 0),
+        Idle => (Out, 0),
+        Pending => (OutR, 0),
+        Held => (OutA, 0),
     };
-    row(kind, home, home, home)
+    (kind, home, home, home)
 }
 
-/// A row of this kind with one move of its own; on the other letters it goes to the start.
-fn moving(kind: Kind, letter: Letter, own: Arrow) -> Row {
-    let home = homing(kind);
+/// A state of this kind with one move of its own; on the other letters it goes to the start.
+fn moving(kind: Kind, letter: Letter, own: (Phase, u8)) -> State {
+    let (_, less, equal, greater) = homing(kind);
     match letter {
-        Less => row(kind, own, home.equal, home.greater),
-        Equal => row(kind, home.less, own, home.greater),
-        Greater => row(kind, home.less, home.equal, own),
+        Less => (kind, own, equal, greater),
+        Equal => (kind, less, own, greater),
+        Greater => (kind, less, equal, own),
     }
-}
-
-fn table(first: Row, second: Row, third: Row) -> ArrayVec<Row, 8> {
-    let mut rows = ArrayVec::new();
-    rows.push(first);
-    rows.push(second);
-    rows.push(third);
-    rows
-}
-
-/// Seven rows that go to the start, and this one.
-fn eighth(last: Row) -> ArrayVec<Row, 8> {
-    let mut rows = ArrayVec::new();
-    for _ in 0..7 {
-        if !rows.is_full() {
-            rows.push(homing(Idle));
-        }
-    }
-    if !rows.is_full() {
-        rows.push(last);
-    }
-    rows
 }
 
 /// What the decoder emits over these letters.
@@ -167,14 +132,13 @@ fn run_holds(alloc: Global, phases: &[Phase], a: u8, wanted: &[Emitted]) -> Resu
 }
 
 #[test]
-fn runs_of_the_decoder(rt: HostRuntime) -> Result<(), Memory> {
+fn runs_of_the_decoder(rt: HostRuntime) {
     for (phases, a, wanted) in runs() {
         assert!(rt;
-            run_holds(rt.alloc(), phases, *a, wanted)?,
+            run_holds(rt.alloc(), phases, *a, wanted) == Ok(true),
             "{phases:?} {a}"
         );
     }
-    Ok(())
 }
 
 /// What a decoder holds after two phases, and whether it is as new at the end.
@@ -195,15 +159,17 @@ fn decoder_after_its_end(rt: HostRuntime) {
 
 /// Whether a table is taken in which a state moves so on the letter.
 fn is_taken(from: Kind, letter: Letter, phase: Phase, end: Kind) -> bool {
-    let moved = moving(from, letter, to(phase, 1));
-    Transducer::new(table(homing(Idle), homing(end), moved)).is_some()
+    is_table(&[homing(Idle), homing(end), moving(from, letter, (phase, 1))])
 }
 
 /// Whether the phase letter is taken between these kinds on all letters, or on none.
 fn is_typed(from: Kind, phase: Phase, end: Kind, wanted: bool) -> bool {
-    LETTERS
-        .iter()
-        .all(|letter| is_taken(from, *letter, phase, end) == wanted)
+    for letter in LETTERS {
+        if is_taken(from, letter, phase, end) != wanted {
+            return false;
+        }
+    }
+    true
 }
 
 #[test]
@@ -219,35 +185,46 @@ fn typed_moves(rt: HostRuntime) {
     }
 }
 
-fn is_table(first: Row, last: Row) -> bool {
-    Transducer::new(table(first, homing(Idle), last)).is_some()
+fn is_table(states: &[State]) -> bool {
+    transducer(states).is_some()
+}
+
+/// Whether seven states that go to the start and this one are a table.
+fn is_eighth(last: State) -> bool {
+    let idle = homing(Idle);
+    is_table(&[idle, idle, idle, idle, idle, idle, idle, last])
 }
 
 /// Whether the moves of a letter to a state that is there are taken, and the others not.
 fn leads_to_a_row(letter: Letter) -> bool {
-    !is_table(homing(Idle), moving(Idle, letter, to(Out, 3)))
-        && Transducer::new(eighth(moving(Idle, letter, to(Out, 7)))).is_some()
-        && Transducer::new(eighth(moving(Idle, letter, to(Out, 8)))).is_none()
+    let idle = homing(Idle);
+    !is_table(&[idle, idle, moving(Idle, letter, (Out, 3))])
+        && is_eighth(moving(Idle, letter, (Out, 7)))
+        && !is_eighth(moving(Idle, letter, (Out, 8)))
 }
 
 #[test]
 fn typed_tables(rt: HostRuntime) {
     let idle = homing(Idle);
-    assert!(rt; LETTERS.iter().all(|letter| leads_to_a_row(*letter)));
-    assert!(rt; Transducer::new(ArrayVec::new()).is_none());
-    assert!(rt; !is_table(homing(Pending), idle) && !is_table(homing(Held), idle));
+    for letter in LETTERS {
+        assert!(rt; leads_to_a_row(letter));
+    }
+    for first in [Pending, Held] {
+        assert!(rt; !is_table(&[homing(first), idle, idle]));
+    }
+    assert!(rt; !is_table(&[]));
 }
 
-fn peaks() -> Option<Transducer> {
-    let start = row(Idle, to(Out, 1), to(Out, 0), to(Out, 0));
-    let up = row(Pending, to(MaybeB, 1), to(MaybeB, 1), to(Found, 2));
-    let down = row(Held, to(OutA, 1), to(MaybeA, 2), to(Inside, 2));
-    Transducer::new(table(start, up, down))
-}
+/// The catalogue's table of peaks.
+const PEAKS: [State; 3] = [
+    (Idle, (Out, 1), (Out, 0), (Out, 0)),
+    (Pending, (MaybeB, 1), (MaybeB, 1), (Found, 2)),
+    (Held, (OutA, 1), (MaybeA, 2), (Inside, 2)),
+];
 
 /// Whether these cells are found in the series 1 2 2 1 0 0 1, or in its beginning.
 fn has_ranges(alloc: Global, signs: &[Letter], a: u8, wanted: &[Range]) -> Result<bool, Memory> {
-    match peaks() {
+    match transducer(&PEAKS) {
         Some(peaks) if signs.len() < 1000 && a <= 1 => {
             Ok(peaks.rows().len() == 3 && decoded(alloc, &peaks, a, signs)?.as_slice() == wanted)
         }
@@ -257,10 +234,9 @@ fn has_ranges(alloc: Global, signs: &[Letter], a: u8, wanted: &[Range]) -> Resul
 
 // The peak of the series has the cells 2 to 4.
 #[test]
-fn peak(rt: HostRuntime) -> Result<(), Memory> {
+fn peak(rt: HostRuntime) {
     let signs = [Less, Equal, Greater, Greater, Equal, Less];
-    assert!(rt; has_ranges(rt.alloc(), &signs, 1, &[Range { first: 2, last: 4 }])?);
-    assert!(rt; has_ranges(rt.alloc(), &signs, 0, &[Range { first: 2, last: 5 }])?);
-    assert!(rt; has_ranges(rt.alloc(), &[Less, Equal], 1, &[])?);
-    Ok(())
+    assert!(rt; has_ranges(rt.alloc(), &signs, 1, &[Range { first: 2, last: 4 }]) == Ok(true));
+    assert!(rt; has_ranges(rt.alloc(), &signs, 0, &[Range { first: 2, last: 5 }]) == Ok(true));
+    assert!(rt; has_ranges(rt.alloc(), &[Less, Equal], 1, &[]) == Ok(true));
 }

@@ -17,11 +17,8 @@ use ts_validate::{ValidateStop, Validated, validate};
 /// The kind of a state, and its moves on `<`, `=` and `>`.
 pub(super) type State = (Kind, (Phase, u8), (Phase, u8), (Phase, u8));
 
-/// The state of a configuration, and its entries.
-pub(super) type Listed = (u8, &'static [(u32, Tag)]);
-
 /// The configuration and the letter at which a check fails, and the shortest signature that leads there.
-type Failure = (u32, Letter, &'static [Letter]);
+type Failure = (u32, Letter, &'static str);
 
 /// A pattern, a transducer, and a plan.
 #[derive(Clone, Copy)]
@@ -33,8 +30,8 @@ struct Small {
     a: u8,
     rows: &'static [State],
     /// For each residual but the first, which is the whole pattern: the earlier one and the letter that leave it.
-    residuals: &'static [(usize, Letter)],
-    configurations: &'static [Listed],
+    residuals: &'static str,
+    configurations: &'static str,
     /// Where a check fails; None where the plan is closed.
     refused: Option<Failure>,
 }
@@ -60,39 +57,91 @@ pub(super) fn transducer(states: &[State]) -> Option<Transducer> {
     Transducer::new(rows)
 }
 
-fn residuals(alloc: Global, whole: &Regex, small: &Small) -> Result<Vec<Regex>, Memory> {
+fn digit(byte: u8) -> u8 {
+    byte.saturating_sub(b'0')
+}
+
+/// The letter of a sign; None for a digit.
+fn letter_of(sign: u8) -> Option<Letter> {
+    match sign {
+        b'<' => Some(Letter::Less),
+        b'=' => Some(Letter::Equal),
+        b'>' => Some(Letter::Greater),
+        _ => None,
+    }
+}
+
+/// Takes in what a letter leaves of an earlier residual.
+fn push_left(
+    residuals: &mut Vec<Regex>,
+    alloc: Global,
+    from: u8,
+    on: Letter,
+) -> Result<(), Memory> {
+    if let Some(earlier) = residuals.get(usize::from(from)) {
+        let left = residual(alloc, earlier, on)?;
+        residuals.push(left)?;
+    }
+    Ok(())
+}
+
+fn residuals(alloc: Global, whole: &Regex, written: &[u8]) -> Result<Vec<Regex>, Memory> {
     let mut residuals = Vec::new(alloc);
     residuals.push(normal(alloc, whole)?)?;
-    for &(from, letter) in small.residuals {
-        if let Some(earlier) = residuals.get(from) {
-            let left = residual(alloc, earlier, letter)?;
-            residuals.push(left)?;
+    let mut from = 0;
+    for byte in written {
+        match letter_of(*byte) {
+            Some(letter) => push_left(&mut residuals, alloc, from, letter)?,
+            None => from = digit(*byte),
         }
     }
     Ok(residuals)
 }
 
-pub(super) fn live_of(alloc: Global, entries: &[(u32, Tag)]) -> Result<Vec<Live>, Memory> {
+/// The tag that stands behind a residual's digit; None for a digit.
+fn tag_of(letter: u8) -> Option<Tag> {
+    match letter {
+        b'y' => Some(Tag::Young(1)),
+        b'u' => Some(Tag::Due),
+        b'd' => Some(Tag::InD),
+        b'c' => Some(Tag::InC),
+        b'l' => Some(Tag::Loose),
+        _ => None,
+    }
+}
+
+/// The entries of a configuration.
+fn live_of(alloc: Global, written: &[u8]) -> Result<Vec<Live>, Memory> {
     let mut live = Vec::new(alloc);
-    for &(residual, tag) in entries {
-        live.push(Live { residual, tag })?;
+    let mut residual: u32 = 0;
+    for byte in written {
+        match tag_of(*byte) {
+            Some(tag) => live.push(Live { residual, tag })?,
+            None => residual = u32::from(digit(*byte)),
+        }
     }
     Ok(live)
 }
 
-fn configurations(alloc: Global, small: &Small) -> Result<Vec<Configuration>, Memory> {
+fn configuration(alloc: Global, written: &[u8]) -> Result<Configuration, Memory> {
+    let live = live_of(alloc, written)?;
+    let state = digit(*written.first().unwrap_or(&b'0'));
+    Ok(Configuration { state, live })
+}
+
+/// The configurations that a text has, each a word: its state, and behind it the residual and the tag of each entry.
+pub(super) fn configurations(alloc: Global, written: &str) -> Result<Vec<Configuration>, Memory> {
     let mut configurations = Vec::new(alloc);
-    for &(state, entries) in small.configurations {
-        let live = live_of(alloc, entries)?;
-        configurations.push(Configuration { state, live })?;
+    for word in written.split_whitespace() {
+        configurations.push(configuration(alloc, word.as_bytes())?)?;
     }
     Ok(configurations)
 }
 
 fn plan(alloc: Global, whole: &Regex, small: &Small) -> Result<Plan, Memory> {
     Ok(Plan {
-        residuals: residuals(alloc, whole, small)?,
-        configurations: configurations(alloc, small)?,
+        residuals: residuals(alloc, whole, small.residuals.as_bytes())?,
+        configurations: configurations(alloc, small.configurations)?,
     })
 }
 
@@ -113,6 +162,18 @@ fn keeps(validated: &Validated, states: usize, pattern: &Pattern) -> bool {
         && kept.a == pattern.a
 }
 
+fn are_signs(signature: &[Letter], signs: &[u8]) -> bool {
+    if signature.len() != signs.len() {
+        return false;
+    }
+    for k in 0..signs.len() {
+        if letter_of(signs[k]) != Some(signature[k]) {
+            return false;
+        }
+    }
+    true
+}
+
 fn is_failure(stop: ValidateStop, failure: Failure) -> bool {
     let (at, on, by) = failure;
     match stop {
@@ -120,7 +181,7 @@ fn is_failure(stop: ValidateStop, failure: Failure) -> bool {
             configuration,
             letter,
             signature,
-        } => configuration == at && letter == on && signature.as_slice() == by,
+        } => configuration == at && letter == on && are_signs(&signature, by.as_bytes()),
         ValidateStop::Memory => false,
     }
 }
@@ -155,13 +216,16 @@ fn small_holds(alloc: Global, small: &Small) -> Result<bool, Memory> {
 }
 
 #[test]
-fn plans_are_refused_where_a_check_fails(rt: HostRuntime) -> Result<(), Memory> {
+fn plans_are_refused_where_a_check_fails(rt: HostRuntime) {
     for plans in [steps::plans(), starts::plans()] {
         for small in plans {
-            assert!(rt; small_holds(rt.alloc(), small)?, "{}", small.pattern);
+            assert!(rt;
+                small_holds(rt.alloc(), small) == Ok(true),
+                "{}",
+                small.pattern
+            );
         }
     }
-    Ok(())
 }
 
 /// Whether the plan of a seed is found closed.
@@ -172,9 +236,8 @@ fn seed_holds(alloc: Global, id: PatternId) -> Result<bool, Memory> {
 }
 
 #[test]
-fn seeds_validate(rt: HostRuntime) -> Result<(), Memory> {
+fn seeds_validate(rt: HostRuntime) {
     for id in PatternId::ALL {
-        assert!(rt; seed_holds(rt.alloc(), id)?, "{id:?}");
+        assert!(rt; seed_holds(rt.alloc(), id) == Ok(true), "{id:?}");
     }
-    Ok(())
 }

@@ -44,7 +44,7 @@ fn comparisons_of_values(rt: HostRuntime) {
                     Ordering::Equal => same,
                     Ordering::Greater => above,
                 };
-                assert_eq!(rt; satisfies(*op, *bound, *value), *want, "{op:?}");
+                assert!(rt; satisfies(*op, *bound, *value) == *want, "{op:?}");
             }
         }
     }

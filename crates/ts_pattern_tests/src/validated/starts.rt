@@ -3,7 +3,6 @@
 use super::Small;
 use ts_base::Kind::{Held, Idle, Pending};
 use ts_base::Letter::{Equal, Greater, Less};
-use ts_pattern::Tag::{Due, InC, InD, Loose};
 use ts_transducer::Phase::{Found, FoundE, Inside, MaybeA, MaybeB, Out, OutA, OutR};
 
 static PLANS: [Small; 12] = [
@@ -13,9 +12,9 @@ static PLANS: [Small; 12] = [
         b: 1,
         a: 0,
         rows: &[(Idle, (Out, 0), (Out, 0), (FoundE, 0))],
-        residuals: &[(0, Greater)],
-        configurations: &[(0, &[]), (0, &[(1, Due)])],
-        refused: Some((0, Greater, &[])),
+        residuals: "0>",
+        configurations: "0 01u",
+        refused: Some((0, Greater, "")),
     },
     // The first start isn't the decoder's, but the second one would be.
     Small {
@@ -27,14 +26,9 @@ static PLANS: [Small; 12] = [
             (Idle, (Out, 0), (Out, 1), (FoundE, 0)),
             (Held, (OutA, 0), (OutA, 1), (Inside, 2)),
         ],
-        residuals: &[(0, Equal), (0, Greater), (1, Greater)],
-        configurations: &[
-            (0, &[]),
-            (1, &[(1, Loose)]),
-            (2, &[(2, InC)]),
-            (0, &[(3, Loose), (2, Loose)]),
-        ],
-        refused: Some((1, Greater, &[Equal])),
+        residuals: "0=0>1>",
+        configurations: "0 11l 22c 03l2l",
+        refused: Some((1, Greater, "=")),
     },
     // The decoder keeps the start of a broken attempt, and the find is another start's.
     Small {
@@ -45,14 +39,9 @@ static PLANS: [Small; 12] = [
             (Idle, (MaybeB, 1), (Out, 0), (FoundE, 0)),
             (Pending, (OutR, 0), (FoundE, 0), (FoundE, 0)),
         ],
-        residuals: &[(0, Less), (1, Equal)],
-        configurations: &[
-            (0, &[]),
-            (1, &[(1, InD)]),
-            (0, &[(1, Loose)]),
-            (0, &[(2, Loose)]),
-        ],
-        refused: Some((1, Greater, &[Less])),
+        residuals: "0<1=",
+        configurations: "0 11d 01l 02l",
+        refused: Some((1, Greater, "<")),
     },
     // The decoder gave its start up while the match could still end.
     Small {
@@ -64,15 +53,9 @@ static PLANS: [Small; 12] = [
             (Idle, (Out, 1), (MaybeB, 2), (FoundE, 0)),
             (Pending, (OutR, 1), (OutR, 2), (FoundE, 0)),
         ],
-        residuals: &[(0, Less), (1, Greater)],
-        configurations: &[
-            (0, &[]),
-            (1, &[(1, Due)]),
-            (2, &[(1, InD)]),
-            (0, &[(2, Loose)]),
-            (2, &[(1, Loose)]),
-        ],
-        refused: Some((4, Greater, &[Less, Equal, Equal])),
+        residuals: "0<1>",
+        configurations: "0 11u 21d 02l 21l",
+        refused: Some((4, Greater, "<==")),
     },
     // What is found at once may still grow.
     Small {
@@ -80,9 +63,9 @@ static PLANS: [Small; 12] = [
         b: 0,
         a: 0,
         rows: &[(Idle, (Out, 0), (Out, 0), (FoundE, 0))],
-        residuals: &[(0, Greater)],
-        configurations: &[(0, &[]), (0, &[(1, Loose)])],
-        refused: Some((0, Greater, &[])),
+        residuals: "0>",
+        configurations: "0 01l",
+        refused: Some((0, Greater, "")),
     },
     // The same, though the match of a later start can't.
     Small {
@@ -93,15 +76,9 @@ static PLANS: [Small; 12] = [
             (Idle, (Out, 0), (MaybeB, 1), (FoundE, 0)),
             (Pending, (OutR, 0), (OutR, 0), (FoundE, 0)),
         ],
-        residuals: &[(0, Equal), (0, Greater), (1, Greater)],
-        configurations: &[
-            (0, &[]),
-            (1, &[(1, InD)]),
-            (0, &[(1, Loose)]),
-            (0, &[(3, Loose), (2, Loose)]),
-            (0, &[(2, Loose)]),
-        ],
-        refused: Some((1, Greater, &[Equal])),
+        residuals: "0=0>1>",
+        configurations: "0 11d 01l 03l2l 02l",
+        refused: Some((1, Greater, "=")),
     },
     // A range is held on, and no start is left.
     Small {
@@ -112,9 +89,9 @@ static PLANS: [Small; 12] = [
             (Idle, (Out, 0), (Out, 0), (Found, 1)),
             (Held, (MaybeA, 1), (OutA, 0), (Inside, 1)),
         ],
-        residuals: &[(0, Greater)],
-        configurations: &[(0, &[]), (1, &[(1, InC)]), (1, &[]), (1, &[(1, Loose)])],
-        refused: Some((1, Less, &[Greater])),
+        residuals: "0>",
+        configurations: "0 11c 1 11l",
+        refused: Some((1, Less, ">")),
     },
     // The held range is released, and its match could still grow.
     Small {
@@ -125,9 +102,9 @@ static PLANS: [Small; 12] = [
             (Idle, (Out, 0), (Out, 0), (Found, 1)),
             (Held, (OutA, 0), (OutA, 0), (OutA, 0)),
         ],
-        residuals: &[(0, Greater), (1, Equal)],
-        configurations: &[(0, &[]), (1, &[(1, InC)]), (0, &[(2, Loose)])],
-        refused: Some((1, Equal, &[Greater])),
+        residuals: "0>1=",
+        configurations: "0 11c 02l",
+        refused: Some((1, Equal, ">")),
     },
     // A start is kept where none is alive.
     Small {
@@ -138,9 +115,9 @@ static PLANS: [Small; 12] = [
             (Idle, (MaybeB, 1), (Out, 0), (FoundE, 0)),
             (Pending, (OutR, 0), (OutR, 0), (FoundE, 0)),
         ],
-        residuals: &[(0, Greater)],
-        configurations: &[(0, &[]), (1, &[]), (0, &[(1, Loose)])],
-        refused: Some((0, Less, &[])),
+        residuals: "0>",
+        configurations: "0 1 01l",
+        refused: Some((0, Less, "")),
     },
     // The start of a broken attempt is kept on in place of the next one.
     Small {
@@ -151,14 +128,9 @@ static PLANS: [Small; 12] = [
             (Idle, (MaybeB, 1), (Out, 0), (Out, 0)),
             (Pending, (MaybeB, 1), (MaybeB, 1), (FoundE, 0)),
         ],
-        residuals: &[(0, Less), (1, Greater)],
-        configurations: &[
-            (0, &[]),
-            (1, &[(1, InD)]),
-            (1, &[(1, Loose)]),
-            (0, &[(2, Loose)]),
-        ],
-        refused: Some((1, Less, &[Less])),
+        residuals: "0<1>",
+        configurations: "0 11d 11l 02l",
+        refused: Some((1, Less, "<")),
     },
     // The second start is kept, which is one, and the first one finds.
     Small {
@@ -170,15 +142,9 @@ static PLANS: [Small; 12] = [
             (Idle, (Out, 0), (MaybeB, 2), (Out, 0)),
             (Pending, (OutR, 0), (MaybeB, 2), (FoundE, 0)),
         ],
-        residuals: &[(0, Equal), (1, Equal), (2, Greater)],
-        configurations: &[
-            (0, &[]),
-            (1, &[(1, Loose)]),
-            (2, &[(2, Loose), (1, InD)]),
-            (2, &[(2, InD), (1, Loose)]),
-            (0, &[(3, Loose)]),
-        ],
-        refused: Some((2, Greater, &[Equal, Equal])),
+        residuals: "0=1=2>",
+        configurations: "0 11l 22l1d 22d1l 03l",
+        refused: Some((2, Greater, "==")),
     },
     // The plateau that keeps its start where a rise breaks the level part: only the last check sees it.
     Small {
@@ -190,14 +156,9 @@ static PLANS: [Small; 12] = [
             (Pending, (OutR, 1), (MaybeB, 2), (FoundE, 0)),
             (Pending, (MaybeB, 1), (MaybeB, 2), (FoundE, 0)),
         ],
-        residuals: &[(0, Less), (1, Greater)],
-        configurations: &[
-            (0, &[]),
-            (1, &[(1, Due)]),
-            (2, &[(1, InD)]),
-            (0, &[(2, Loose)]),
-        ],
-        refused: Some((2, Less, &[Less, Equal])),
+        residuals: "0<1>",
+        configurations: "0 11u 21d 02l",
+        refused: Some((2, Less, "<=")),
     },
 ];
 

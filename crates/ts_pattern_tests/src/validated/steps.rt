@@ -3,7 +3,6 @@
 use super::Small;
 use ts_base::Kind::{Held, Idle, Pending};
 use ts_base::Letter::{Equal, Greater, Less};
-use ts_pattern::Tag::{Due, InC, InD, Loose, Young};
 use ts_transducer::Phase::{Found, FoundE, Inside, MaybeA, MaybeB, Out, OutA, OutR};
 
 static PLANS: [Small; 12] = [
@@ -14,8 +13,8 @@ static PLANS: [Small; 12] = [
         b: 0,
         a: 0,
         rows: &[(Idle, (Out, 0), (Out, 0), (FoundE, 0))],
-        residuals: &[(0, Greater), (0, Greater)],
-        configurations: &[(0, &[]), (0, &[(2, Loose)]), (0, &[(0, InC)])],
+        residuals: "0>0>",
+        configurations: "0 02l 00c",
         refused: None,
     },
     // The step has one entry; the listed ones have another residual, another tag, none, one more, and another state.
@@ -24,15 +23,9 @@ static PLANS: [Small; 12] = [
         b: 0,
         a: 0,
         rows: &[(Idle, (Out, 0), (Out, 0), (Out, 0))],
-        residuals: &[(0, Greater), (1, Equal)],
-        configurations: &[
-            (0, &[]),
-            (0, &[(2, Loose)]),
-            (0, &[(1, Due)]),
-            (0, &[(1, Loose), (2, Loose)]),
-            (1, &[(1, Loose)]),
-        ],
-        refused: Some((0, Greater, &[])),
+        residuals: "0>1=",
+        configurations: "0 02l 01u 01l2l 11l",
+        refused: Some((0, Greater, "")),
     },
     // What the letter leaves isn't among the residuals.
     Small {
@@ -40,9 +33,9 @@ static PLANS: [Small; 12] = [
         b: 0,
         a: 0,
         rows: &[(Idle, (Out, 0), (Out, 0), (Out, 0))],
-        residuals: &[],
-        configurations: &[(0, &[])],
-        refused: Some((0, Greater, &[])),
+        residuals: "",
+        configurations: "0",
+        refused: Some((0, Greater, "")),
     },
     // The entries of the step are listed in another order.
     Small {
@@ -54,14 +47,9 @@ static PLANS: [Small; 12] = [
             (Idle, (Out, 0), (MaybeB, 2), (Out, 1)),
             (Pending, (OutR, 0), (OutR, 0), (FoundE, 1)),
         ],
-        residuals: &[(0, Greater), (1, Equal), (2, Greater)],
-        configurations: &[
-            (0, &[]),
-            (1, &[(1, Due)]),
-            (2, &[(2, InD)]),
-            (1, &[(1, Due), (3, Loose)]),
-        ],
-        refused: Some((2, Greater, &[Greater, Equal])),
+        residuals: "0>1=2>",
+        configurations: "0 11u 22d 11u3l",
+        refused: Some((2, Greater, ">=")),
     },
     // Two signs are still to come, and the plan lists one.
     Small {
@@ -69,9 +57,9 @@ static PLANS: [Small; 12] = [
         b: 3,
         a: 0,
         rows: &[(Idle, (Out, 0), (Out, 0), (Out, 0))],
-        residuals: &[(0, Greater)],
-        configurations: &[(0, &[]), (0, &[(1, Young(1))])],
-        refused: Some((0, Greater, &[])),
+        residuals: "0>",
+        configurations: "0 01y",
+        refused: Some((0, Greater, "")),
     },
     // The peak whose fall ends at the start.
     Small {
@@ -83,16 +71,9 @@ static PLANS: [Small; 12] = [
             (Pending, (MaybeB, 1), (MaybeB, 1), (Found, 2)),
             (Held, (OutA, 0), (MaybeA, 2), (Inside, 2)),
         ],
-        residuals: &[(0, Less), (1, Equal), (1, Greater), (3, Equal)],
-        configurations: &[
-            (0, &[]),
-            (1, &[(1, Due)]),
-            (1, &[(1, InD)]),
-            (1, &[(2, InD)]),
-            (2, &[(3, InC)]),
-            (2, &[(4, InC)]),
-        ],
-        refused: Some((4, Less, &[Less, Greater])),
+        residuals: "0<1=1>3=",
+        configurations: "0 11u 11d 12d 23c 24c",
+        refused: Some((4, Less, "<>")),
     },
     // Two configurations fail: the one with the least number is named, though the other was reached first.
     Small {
@@ -104,14 +85,9 @@ static PLANS: [Small; 12] = [
             (Idle, (Out, 1), (Out, 0), (Out, 2)),
             (Idle, (Out, 1), (Out, 0), (Out, 2)),
         ],
-        residuals: &[(0, Less), (1, Equal)],
-        configurations: &[
-            (0, &[]),
-            (2, &[(1, Loose)]),
-            (1, &[(1, Loose)]),
-            (0, &[(2, Loose)]),
-        ],
-        refused: Some((1, Equal, &[Greater])),
+        residuals: "0<1=",
+        configurations: "0 21l 11l 02l",
+        refused: Some((1, Equal, ">")),
     },
     // A held start that goes on behind the end of its range is Loose: that leads to the one with the least number.
     Small {
@@ -122,9 +98,9 @@ static PLANS: [Small; 12] = [
             (Idle, (Out, 0), (Out, 0), (Found, 1)),
             (Held, (OutA, 0), (OutA, 0), (OutA, 0)),
         ],
-        residuals: &[(0, Greater)],
-        configurations: &[(0, &[]), (0, &[(1, Loose)]), (1, &[(1, InC)])],
-        refused: Some((1, Equal, &[Greater, Equal])),
+        residuals: "0>",
+        configurations: "0 01l 11c",
+        refused: Some((1, Equal, ">=")),
     },
     // A match ends, and nothing is found.
     Small {
@@ -132,9 +108,9 @@ static PLANS: [Small; 12] = [
         b: 0,
         a: 0,
         rows: &[(Idle, (Out, 0), (Out, 0), (Out, 0))],
-        residuals: &[(0, Greater)],
-        configurations: &[(0, &[]), (0, &[(1, Loose)])],
-        refused: Some((0, Greater, &[])),
+        residuals: "0>",
+        configurations: "0 01l",
+        refused: Some((0, Greater, "")),
     },
     // No match ends at the sign by which the held range grows.
     Small {
@@ -145,9 +121,9 @@ static PLANS: [Small; 12] = [
             (Idle, (Out, 0), (Out, 0), (Found, 1)),
             (Held, (OutA, 0), (Inside, 1), (OutA, 0)),
         ],
-        residuals: &[(0, Greater), (1, Equal)],
-        configurations: &[(0, &[]), (1, &[(1, InC)]), (1, &[(2, InC)])],
-        refused: Some((1, Equal, &[Greater])),
+        residuals: "0>1=",
+        configurations: "0 11c 12c",
+        refused: Some((1, Equal, ">")),
     },
     // A match ends, but not one of the first start.
     Small {
@@ -159,14 +135,9 @@ static PLANS: [Small; 12] = [
             (Held, (OutA, 0), (OutA, 0), (Inside, 2)),
             (Held, (OutA, 0), (OutA, 0), (Inside, 1)),
         ],
-        residuals: &[(0, Greater)],
-        configurations: &[
-            (0, &[]),
-            (1, &[(1, InC)]),
-            (2, &[(0, InC), (1, Loose)]),
-            (1, &[(1, InC), (0, Loose)]),
-        ],
-        refused: Some((1, Greater, &[Greater])),
+        residuals: "0>",
+        configurations: "0 11c 20c1l 11c0l",
+        refused: Some((1, Greater, ">")),
     },
     // The same, and the sign is no match's.
     Small {
@@ -178,14 +149,9 @@ static PLANS: [Small; 12] = [
             (Held, (OutA, 0), (OutA, 0), (MaybeA, 2)),
             (Held, (OutA, 0), (OutA, 0), (Inside, 1)),
         ],
-        residuals: &[(0, Greater)],
-        configurations: &[
-            (0, &[]),
-            (1, &[(1, InC)]),
-            (2, &[(0, InC), (1, Loose)]),
-            (1, &[(1, InC), (0, Loose)]),
-        ],
-        refused: Some((1, Greater, &[Greater])),
+        residuals: "0>",
+        configurations: "0 11c 20c1l 11c0l",
+        refused: Some((1, Greater, ">")),
     },
 ];
 
