@@ -6,8 +6,8 @@ ghost use Rattle.std.specs.List.{list_all};
 pub(crate) mod removals;
 
 use std::alloc::Global;
-use std::test::Fail;
-use ts_domain::{Boxed, Domain, DomainStop};
+use ts_base::Memory;
+use ts_domain::{Boxed, Domain};
 
 /// What a change of a cell leaves of its values: those up to a number, those above it, or all but one.
 #[derive(Clone, Copy)]
@@ -78,21 +78,18 @@ pub(crate) fn within(values: &[i64]) -> bool
         .all(|value| -1_000_000 <= *value && *value <= 1_000_000)
 }
 
-/// The union of ranges; None where it is refused.
-fn union(alloc: Global, lows: &[i64], highs: &[i64]) -> Result<Option<Domain>, Fail> {
+/// The union of ranges; None where it is refused, or past the limits.
+pub(crate) fn union(alloc: Global, lows: &[i64], highs: &[i64]) -> Option<Domain> {
     if lows.len() != highs.len() || !within(lows) || !within(highs) {
-        Err("past the limits")?
+        return None;
     }
-    match Domain::from_ranges(alloc, lows, highs) {
-        Ok(domain) => Ok(Some(domain)),
-        Err(DomainStop::Empty) => Ok(None),
-        Err(DomainStop::Memory) => Err("no memory")?,
-    }
+    Domain::from_ranges(alloc, lows, highs).ok()
 }
 
-/// The numbers of ranges.
-pub(crate) fn numbers(alloc: Global, lows: &[i64], highs: &[i64]) -> Result<Domain, Fail> {
-    Ok(union(alloc, lows, highs)?.ok_or("no number")?)
+/// The box of one cell with these numbers.
+pub(crate) fn one_cell(alloc: Global, numbers: &[i64]) -> Option<Boxed> {
+    let domain = union(alloc, numbers, numbers)?;
+    Boxed::new(alloc, &[domain]).ok()
 }
 
 /// Whether the walk gives so many numbers, each of the set and above the one before.
@@ -109,6 +106,15 @@ fn walks_over(domain: &Domain, count: u64) -> bool {
     seen == count
 }
 
+fn is_in(ranges: &[(i64, i64)], value: i64) -> bool {
+    for (low, high) in ranges {
+        if *low <= value && value <= *high {
+            return true;
+        }
+    }
+    false
+}
+
 /// Whether the set has the numbers of these ranges, and no other one.
 fn has_ranges(domain: &Domain, wanted: &[(i64, i64)]) -> bool {
     let mut count = 0_i64;
@@ -120,10 +126,7 @@ fn has_ranges(domain: &Domain, wanted: &[(i64, i64)]) -> bool {
     }
     let mut seen = 0_i64;
     for value in domain.values() {
-        if !wanted
-            .iter()
-            .any(|(low, high)| *low <= value && value <= *high)
-        {
+        if !is_in(wanted, value) {
             return false;
         }
         seen = seen.saturating_add(1);
@@ -139,6 +142,14 @@ fn has_ends(domain: &Domain, first: i64, last: i64) -> bool {
         && !domain.contains(last.saturating_add(1))
 }
 
+/// Whether the ranges begin and end with these.
+fn are_ends(ranges: &[(i64, i64)], first: i64, last: i64) -> bool {
+    match (ranges.first(), ranges.last()) {
+        (Some((low, _)), Some((_, high))) => (*low, *high) == (first, last),
+        _ => false,
+    }
+}
+
 /// Whether the set has these ranges, so many numbers, and the ends of the ranges as its first and last number.
 fn is_union(domain: &Domain, wanted: &[(i64, i64)], count: u64) -> bool {
     let size = domain.size();
@@ -146,44 +157,43 @@ fn is_union(domain: &Domain, wanted: &[(i64, i64)], count: u64) -> bool {
         return false;
     }
     let (first, last) = (domain.nth(0), domain.nth(size - 1));
-    wanted.first().map(|range| range.0) == Some(first)
-        && wanted.last().map(|range| range.1) == Some(last)
+    are_ends(wanted, first, last)
         && has_ends(domain, first, last)
         && has_ranges(domain, wanted)
         && (10 <= count || walks_over(domain, count))
 }
 
-fn union_holds(alloc: Global, row: &Union) -> Result<bool, Fail> {
+fn union_holds(alloc: Global, row: &Union) -> bool {
     let (lows, highs, wanted, count) = row;
-    match union(alloc, lows, highs)? {
-        Some(domain) => Ok(is_union(&domain, wanted, *count)),
-        None => Ok(wanted.is_empty()),
+    match union(alloc, lows, highs) {
+        Some(domain) => is_union(&domain, wanted, *count),
+        None => wanted.is_empty(),
     }
 }
 
 #[test]
-fn unions_of_ranges(rt: HostRuntime) -> Result<(), Fail> {
-    for (place, row) in unions().iter().enumerate() {
-        assert!(rt; union_holds(rt.alloc(), row)?, "row {place}");
+fn unions_of_ranges(rt: HostRuntime) {
+    let rows = unions();
+    for place in 0..rows.len() {
+        assert!(rt; union_holds(rt.alloc(), &rows[place]), "row {place}");
     }
-    Ok(())
 }
 
-/// Changes cell `k`, where the value `stays`.
-fn change(cells: &mut Boxed, k: u32, keep: Keep, stays: i64) -> Result<(), Fail> {
+/// Changes cell `k`, where the value `stays`; no change where it doesn't.
+fn change(cells: &mut Boxed, k: u32, keep: Keep, stays: i64) -> Result<bool, Memory> {
     if k < 1 || cells.cells() < k {
-        Err("no cell")?
+        return Ok(false);
     }
     if !cells.cell(k).contains(stays) {
-        Err("no value of the cell")?
+        return Ok(false);
     }
     match keep {
         Keep::UpTo(t) if stays <= t => cells.keep_low(k, t)?,
         Keep::Above(t) if t < stays => cells.keep_high(k, t)?,
         Keep::AllBut(gone) if stays != gone => cells.remove(k, gone)?,
-        _ => Err("nothing stays")?,
+        _ => return Ok(false),
     }
-    Ok(())
+    Ok(true)
 }
 
 fn are_cells(cells: &Boxed, first: &[(i64, i64)], second: &[(i64, i64)]) -> bool {
@@ -209,37 +219,59 @@ fn change_holds(
     keep: Keep,
     stays: i64,
     wanted: &[(i64, i64)],
-) -> Result<bool, Fail> {
+) -> Result<bool, Memory> {
     let mark = cells.mark();
-    change(cells, 2, keep, stays)?;
-    Ok(are_cells(cells, &BOTH, wanted) && goes_back(cells, mark) && are_cells(cells, &BOTH, &WHOLE))
-}
-
-/// Six changes, and ways back to the third, twice, to the first and to none.
-fn changes_hold(cells: &mut Boxed) -> Result<bool, Fail> {
-    change(cells, 2, Keep::UpTo(8), 3)?;
-    change(cells, 1, Keep::AllBut(3), 5)?;
-    change(cells, 2, Keep::AllBut(3), 1)?;
-    let mark = cells.mark();
-    change(cells, 2, Keep::Above(2), 4)?;
-    change(cells, 1, Keep::UpTo(5), 5)?;
-    change(cells, 2, Keep::Above(7), 8)?;
-    let changed = are_cells(cells, &[(5, 5)], &[(8, 8)]);
-    let back = goes_back(cells, mark) && are_cells(cells, &[(5, 5)], &[(0, 2), (4, 4), (7, 8)]);
-    let again = goes_back(cells, mark) && are_cells(cells, &[(5, 5)], &[(0, 2), (4, 4), (7, 8)]);
     Ok(
-        changed
-            && back
-            && again
-            && goes_back(cells, 1)
-            && are_cells(cells, &BOTH, &[(0, 4), (7, 8)])
-            && goes_back(cells, 0)
+        change(cells, 2, keep, stays)?
+            && are_cells(cells, &BOTH, wanted)
+            && goes_back(cells, mark)
             && are_cells(cells, &BOTH, &WHOLE),
     )
 }
 
+fn each_change_holds(cells: &mut Boxed) -> Result<bool, Memory> {
+    for (keep, stays, wanted) in changes() {
+        if !change_holds(cells, *keep, *stays, wanted)? {
+            return Ok(false);
+        }
+    }
+    Ok(true)
+}
+
+/// Six changes one after the other: a cell, what is kept, and a value that stays.
+const SIX: [(u32, Keep, i64); 6] = [
+    (2, Keep::UpTo(8), 3),
+    (1, Keep::AllBut(3), 5),
+    (2, Keep::AllBut(3), 1),
+    (2, Keep::Above(2), 4),
+    (1, Keep::UpTo(5), 5),
+    (2, Keep::Above(7), 8),
+];
+
+fn makes_six(cells: &mut Boxed) -> Result<bool, Memory> {
+    for (k, keep, stays) in SIX {
+        if !change(cells, k, keep, stays)? {
+            return Ok(false);
+        }
+    }
+    Ok(are_cells(cells, &[(5, 5)], &[(8, 8)]))
+}
+
+/// Ways back from the six changes: to the third, twice, to the first and to none.
+fn ways_back_hold(cells: &mut Boxed) -> bool {
+    for _ in 0..2 {
+        if !goes_back(cells, 3) || !are_cells(cells, &[(5, 5)], &[(0, 2), (4, 4), (7, 8)]) {
+            return false;
+        }
+    }
+    goes_back(cells, 1)
+        && are_cells(cells, &BOTH, &[(0, 4), (7, 8)])
+        && goes_back(cells, 0)
+        && are_cells(cells, &BOTH, &WHOLE)
+}
+
 /// What two sets tell.
-fn are_told(both: &Domain, whole: &Domain) -> Result<bool, Fail> {
+fn are_told(both: &Domain, whole: &Domain) -> Result<bool, Memory> {
     if whole.size() != 9 {
         return Ok(false);
     }
@@ -252,18 +284,26 @@ fn are_told(both: &Domain, whole: &Domain) -> Result<bool, Fail> {
     )
 }
 
-#[test]
-fn changes_and_ways_back(rt: HostRuntime) -> Result<(), Fail> {
-    let both = numbers(rt.alloc(), &[3, 5], &[3, 5])?;
-    let whole = numbers(rt.alloc(), &[0, 7, 12], &[4, 9, 12])?;
-    assert!(rt; are_told(&both, &whole)?);
-    let mut cells = Boxed::new(rt.alloc(), &[both, whole])?;
-    for (place, (keep, stays, wanted)) in changes().iter().enumerate() {
-        assert!(rt;
-            change_holds(&mut cells, *keep, *stays, wanted)?,
-            "row {place}"
-        );
+/// The box of both sets. None where they tell something else.
+fn two_cells(alloc: Global) -> Option<Boxed> {
+    let both = union(alloc, &[3, 5], &[3, 5])?;
+    let whole = union(alloc, &[0, 7, 12], &[4, 9, 12])?;
+    if are_told(&both, &whole) != Ok(true) {
+        return None;
     }
-    assert!(rt; changes_hold(&mut cells)?);
-    Ok(())
+    Boxed::new(alloc, &[both, whole]).ok()
+}
+
+fn changes_hold(alloc: Global) -> Result<bool, Memory> {
+    match two_cells(alloc) {
+        Some(mut cells) => Ok(
+            each_change_holds(&mut cells)? && makes_six(&mut cells)? && ways_back_hold(&mut cells),
+        ),
+        None => Ok(false),
+    }
+}
+
+#[test]
+fn changes_and_ways_back(rt: HostRuntime) {
+    assert!(rt; changes_hold(rt.alloc()) == Ok(true));
 }

@@ -1,16 +1,12 @@
 //! The automaton that the transducer of peaks becomes, as a text. Values of decorated transducers are in
 //! `examples/rows`.
 
-use arrayvec::ArrayVec;
 use std::alloc::Global;
-use std::test::Fail;
 use ts_automaton::write;
-use ts_base::Kind::{self, Held, Idle, Pending};
 use ts_base::Memory;
 use ts_decorate::decorate;
-use ts_pattern::{Aggregator, Feature};
-use ts_transducer::Phase::{self, Found, Inside, MaybeA, MaybeB, Out, OutA};
-use ts_transducer::{Arrow, Row, Transducer};
+use ts_pattern::{Aggregator, Feature, PatternId};
+use ts_seed::transducer_by_id;
 
 /// The body of the automaton that adds up the widths of peaks.
 static WIDTHS_OF_PEAKS: &str =
@@ -21,38 +17,20 @@ fn widths_of_peaks() -> &'static str {
     WIDTHS_OF_PEAKS
 }
 
-fn arrow(phase: Phase, next: u8) -> Arrow {
-    Arrow { phase, next }
-}
-
-fn row(kind: Kind, less: Arrow, equal: Arrow, greater: Arrow) -> Row {
-    Row {
-        kind,
-        less,
-        equal,
-        greater,
-    }
-}
-
-fn peaks() -> Option<Transducer> {
-    let mut rows: ArrayVec<Row, 8> = ArrayVec::new();
-    rows.push(row(Idle, arrow(Out, 1), arrow(Out, 0), arrow(Out, 0)));
-    rows.push(row(Pending, arrow(MaybeB, 1), arrow(MaybeB, 1), arrow(Found, 2)));
-    rows.push(row(Held, arrow(OutA, 1), arrow(MaybeA, 2), arrow(Inside, 2)));
-    Transducer::new(rows)
-}
-
 /// The text of the automaton of the widths.
-fn widths(alloc: Global, seed: &Transducer) -> Result<Vec<u8>, Memory> {
-    let widths = decorate(alloc, seed, 1, Aggregator::Sum, Feature::Width)?;
+fn widths(alloc: Global) -> Result<Vec<u8>, Memory> {
+    let peaks = transducer_by_id(PatternId::Peak);
+    let widths = decorate(alloc, &peaks, 1, Aggregator::Sum, Feature::Width)?;
     let mut text = Vec::new(alloc);
     write(&widths, &mut text)?;
     Ok(text)
 }
 
+fn has_text(alloc: Global) -> Result<bool, Memory> {
+    Ok(widths(alloc)?.as_slice() == widths_of_peaks().as_bytes())
+}
+
 #[test]
-fn text_of_a_decorated_transducer(rt: HostRuntime) -> Result<(), Fail> {
-    let peaks = peaks().ok_or("peaks")?;
-    assert!(rt; widths(rt.alloc(), &peaks)?.as_slice() == widths_of_peaks().as_bytes());
-    Ok(())
+fn text_of_a_decorated_transducer(rt: HostRuntime) {
+    assert!(rt; has_text(rt.alloc()) == Ok(true));
 }

@@ -152,11 +152,20 @@ fn cut_rows() -> &'static [((Ext, Ext), Ext, [bool; 4])] {
     &CUT
 }
 
+/// Whether the comparisons with the bound are refuted so.
+fn refutes_so(span: Span, bound: Ext, told: [bool; 6]) -> bool {
+    for k in 0..6 {
+        if refutes(OPS[k], bound, span) != told[k] {
+            return false;
+        }
+    }
+    true
+}
+
 #[test]
 fn spans_refute(rt: HostRuntime) {
     for &((lo, hi), bound, told) in refuted_rows() {
-        let found = OPS.map(|op| refutes(op, bound, Span { lo, hi }));
-        assert!(rt; found == told, "{lo:?} {hi:?} {bound:?}");
+        assert!(rt; refutes_so(Span { lo, hi }, bound, told), "{lo:?} {hi:?}");
     }
 }
 
@@ -172,6 +181,6 @@ fn cuts_of(v: Ext, span: Span) -> [bool; 4] {
 #[test]
 fn spans_cut(rt: HostRuntime) {
     for &((lo, hi), v, told) in cut_rows() {
-        assert!(rt; cuts_of(v, Span { lo, hi }) == told, "{lo:?} {hi:?} {v:?}");
+        assert!(rt; cuts_of(v, Span { lo, hi }) == told, "{lo:?} {hi:?}");
     }
 }

@@ -154,23 +154,28 @@ fn span_at(machine: &Machine, pair: &str) -> Option<Span> {
 fn pair_holds(machine: &Machine, pair: &str) -> bool {
     let written = word(pair, 2);
     let told = written::span(written, Ext::Int(0));
-    let found = if written.contains(':') {
-        span_at(machine, pair)
-    } else {
-        value_at(machine, pair).map(Span::one)
-    };
-    told.is_some() && found == told
+    if written.contains(':') {
+        return told.is_some() && span_at(machine, pair) == told;
+    }
+    match value_at(machine, pair) {
+        Some(value) => told == Some(Span::one(value)),
+        None => false,
+    }
+}
+
+fn pairs_hold(machine: &Machine, pairs: &str) -> bool {
+    for pair in pairs.split('|') {
+        if !pair_holds(machine, pair) {
+            return false;
+        }
+    }
+    true
 }
 
 fn row_holds(alloc: Global, row: &str) -> Option<bool> {
     let (term, pairs) = row.split_once('|')?;
     let machine = machine_of(alloc, term)?;
-    for pair in pairs.split('|') {
-        if !pair_holds(&machine, pair) {
-            return Some(false);
-        }
-    }
-    Some(true)
+    Some(pairs_hold(&machine, pairs))
 }
 
 #[test]

@@ -125,9 +125,11 @@ fn pattern_holds(alloc: Global, pattern: PatternId, digests: &Digests) -> Result
 }
 
 #[test]
-fn ranges_of_all_short_series(rt: HostRuntime) -> Result<(), Memory> {
+fn ranges_of_all_short_series(rt: HostRuntime) {
     for (pattern, wanted) in digests() {
-        assert!(rt; pattern_holds(rt.alloc(), *pattern, wanted)?, "{pattern:?}");
+        assert!(rt;
+            pattern_holds(rt.alloc(), *pattern, wanted) == Ok(true),
+            "{pattern:?}"
+        );
     }
-    Ok(())
 }

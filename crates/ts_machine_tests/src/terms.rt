@@ -49,7 +49,7 @@ static SERIES: [&[i64]; 10] = [
     &[0, -3, -3, 1, 1, 5, 3, 2, 4, 0, -4, 0, -2, -4],
 ];
 
-pub fn all_series() -> &'static [&'static [i64]] {
+pub fn all_series() -> &'static [&'static [i64]; 10] {
     &SERIES
 }
 

@@ -337,18 +337,42 @@ fn begin_of(model: &Model) -> Ext {
     }
 }
 
-/// The machine over the window that is written, if one is.
-fn over(m: Machine, window: &str) -> Result<Machine, Fail>
-    requires { window_of m ≡ None }
-{
-    if window == "" {
-        return Ok(m);
+/// The first and the last cell of the window that is written, if one is.
+fn written_window(written: &str) -> Result<Option<(u32, u32)>, Fail> {
+    if written == "" {
+        return Ok(None);
     }
-    let (first, last) = (cell(word(window, 0))?, cell(word(window, 1))?);
+    let (first, last) = (cell(word(written, 0))?, cell(word(written, 1))?);
     if first < 1 || last < first || 512 < last {
         Err("no window")?
     }
-    Ok(m.over(first, last))
+    Ok(Some((first, last)))
+}
+
+/// The machine over a window.
+fn over(m: Machine, window: Option<(u32, u32)>) -> Machine
+    requires { window_of m ≡ None }
+{
+    match window {
+        Some((first, last)) if 1 <= first && first <= last && last <= 512 => m.over(first, last),
+        _ => m,
+    }
+}
+
+/// The first line of a box that doesn't hold for a machine, or all where it doesn't look at the box.
+fn first_wrong_of_machine<'a>(
+    alloc: Global,
+    name: &str,
+    window: Option<(u32, u32)>,
+    cells: &Boxed,
+    place: usize,
+    told: &'a str,
+) -> Result<Option<&'a str>, Fail> {
+    let m = over(plain(alloc, name)?, window);
+    if !looks_in(&m, cells) {
+        return Ok(Some(told));
+    }
+    first_wrong(alloc, &m, None, cells, begin_by_name(name), place, told)
 }
 
 /// The first line of a box that doesn't hold for one of its machines.
@@ -359,16 +383,15 @@ fn first_wrong_of_machines<'a>(
 ) -> Result<Option<&'a str>, Fail> {
     let (names, model) = head.split_once('\n').ok_or("no cells")?;
     let (names, window) = names.split_once('|').unwrap_or((names, ""));
+    let window = written_window(window)?;
     let cells = cells_of(alloc, model)?;
-    for (place, name) in names.split_whitespace().enumerate() {
-        let m = over(plain(alloc, name)?, window)?;
-        if !looks_in(&m, &cells) {
-            return Ok(Some(told));
-        }
-        let wrong = first_wrong(alloc, &m, None, &cells, begin_by_name(name), place, told)?;
+    let mut place = 0;
+    for name in names.split_whitespace() {
+        let wrong = first_wrong_of_machine(alloc, name, window, &cells, place, told)?;
         if wrong.is_some() {
             return Ok(wrong);
         }
+        place = place.saturating_add(1);
     }
     Ok(None)
 }
@@ -416,7 +439,8 @@ fn boxes(rt: HostRuntime) -> Result<(), Fail> {
         terms::boxes(),
     ] {
         for text in table.split('%') {
-            assert_eq!(rt; first_wrong_of(rt.alloc(), text)?, None);
+            let wrong = first_wrong_of(rt.alloc(), text)?;
+            assert!(rt; wrong.is_none(), "{text}");
         }
     }
     Ok(())

@@ -3,11 +3,11 @@
 ghost use Rattle.std.specs.Prelude.{IsTrue};
 ghost use Rattle.ts_frontier.specs.Follow.{MakesBoxes};
 
-use crate::boxes::numbers;
 use crate::boxes::removals::evens;
+use crate::boxes::{one_cell, union};
 use TreeLine::{No, Remove, Split, Unsearched, Worse, Yes};
 use std::alloc::Global;
-use std::test::Fail;
+use ts_base::Memory;
 use ts_certificate::TreeLine;
 use ts_domain::Boxed;
 use ts_frontier::{Form, Frontier, follow, form_of};
@@ -56,15 +56,15 @@ fn forms() -> &'static [(
     &FORMS
 }
 
-fn box_of(alloc: Global, cells: &[&[i64]]) -> Result<Boxed, Fail> {
+fn box_of(alloc: Global, cells: &[&[i64]]) -> Option<Boxed> {
     let mut domains = Vec::new(alloc);
     for values in cells {
-        domains.push(numbers(alloc, values, values)?)?;
+        domains.push(union(alloc, values, values)?).ok()?;
     }
     if 10 <= domains.len() {
-        Err("many cells")?
+        return None;
     }
-    Ok(Boxed::new(alloc, &domains)?)
+    Boxed::new(alloc, &domains).ok()
 }
 
 /// Whether the line's cell is there, and has values on both sides of a split, or one that is taken and another one.
@@ -108,7 +108,7 @@ fn has_ends(present: &Boxed, wanted: &[(i64, i64)]) -> bool {
 }
 
 /// Whether the next box has these ends; then the line is followed on it.
-fn step(frontier: &mut Frontier, ends: &[(i64, i64)], line: &TreeLine) -> Result<bool, Fail> {
+fn step(frontier: &mut Frontier, ends: &[(i64, i64)], line: &TreeLine) -> Result<bool, Memory> {
     if !frontier.advance()? {
         return Ok(false);
     }
@@ -121,22 +121,33 @@ fn step(frontier: &mut Frontier, ends: &[(i64, i64)], line: &TreeLine) -> Result
 }
 
 /// Whether no box waits any more.
-fn is_through(frontier: &mut Frontier) -> Result<bool, Fail> {
+fn is_through(frontier: &mut Frontier) -> Result<bool, Memory> {
     Ok(!frontier.advance()? && frontier.is_empty())
 }
 
-#[test]
-fn the_lines_of_a_tree(rt: HostRuntime) -> Result<(), Fail> {
-    let alloc = rt.alloc();
-    let cells = box_of(alloc, &[&[0, 1, 2, 3, 4, 5, 6, 7], &[0, 1, 2, 5, 6]])?;
-    let mut frontier = Frontier::new(alloc, cells);
+fn lines_hold(frontier: &mut Frontier) -> Result<bool, Memory> {
     for (ends, line, waiting) in tree() {
         let is_empty = frontier.is_empty();
-        assert!(rt; !is_empty && step(&mut frontier, ends, line)?);
-        assert_eq!(rt; frontier.waiting(), *waiting);
+        if is_empty || !step(frontier, ends, line)? || frontier.waiting() != *waiting {
+            return Ok(false);
+        }
     }
-    assert!(rt; is_through(&mut frontier)?);
-    Ok(())
+    is_through(frontier)
+}
+
+fn tree_holds(alloc: Global) -> Result<bool, Memory> {
+    match box_of(alloc, &[&[0, 1, 2, 3, 4, 5, 6, 7], &[0, 1, 2, 5, 6]]) {
+        Some(cells) => {
+            let mut frontier = Frontier::new(alloc, cells);
+            lines_hold(&mut frontier)
+        }
+        None => Ok(false),
+    }
+}
+
+#[test]
+fn the_lines_of_a_tree(rt: HostRuntime) {
+    assert!(rt; tree_holds(rt.alloc()) == Ok(true));
 }
 
 fn form_holds(
@@ -144,29 +155,31 @@ fn form_holds(
     cells: &[&[i64]],
     place: Option<(u32, i64)>,
     series: &[i64],
-) -> Result<bool, Fail> {
-    match form_of(alloc, &box_of(alloc, cells)?)? {
-        Form::Alone(only) => Ok(place.is_none() && only.as_slice() == series),
-        Form::Wide(halving) => Ok(Some((halving.cell, halving.at)) == place),
+) -> Option<bool> {
+    let present = box_of(alloc, cells)?;
+    match form_of(alloc, &present).ok()? {
+        Form::Alone(only) => Some(place.is_none() && only.as_slice() == series),
+        Form::Wide(halving) => Some(Some((halving.cell, halving.at)) == place),
     }
 }
 
 #[test]
-fn places_to_split_at(rt: HostRuntime) -> Result<(), Fail> {
-    for (row, (cells, place, series)) in forms().iter().enumerate() {
-        assert!(rt; form_holds(rt.alloc(), cells, *place, series)?, "row {row}");
+fn places_to_split_at(rt: HostRuntime) {
+    let rows = forms();
+    for row in 0..rows.len() {
+        let (cells, place, series) = rows[row];
+        assert!(rt;
+            form_holds(rt.alloc(), cells, place, series) == Some(true),
+            "row {row}"
+        );
     }
-    Ok(())
 }
 
 /// Splits the greatest value off again and again.
-fn splits_off(frontier: &mut Frontier, evens: &[i64]) -> Result<bool, Fail> {
-    for t in evens.iter().rev().skip(1) {
-        if !step(
-            frontier,
-            &[(0, t.saturating_add(2))],
-            &Split { k: 1, t: *t },
-        )? {
+fn splits_off(frontier: &mut Frontier) -> Result<bool, Memory> {
+    for split in 0..4095_i64 {
+        let t = 8188_i64.saturating_sub(split.saturating_mul(2));
+        if !step(frontier, &[(0, t.saturating_add(2))], &Split { k: 1, t })? {
             return Ok(false);
         }
     }
@@ -174,25 +187,37 @@ fn splits_off(frontier: &mut Frontier, evens: &[i64]) -> Result<bool, Fail> {
 }
 
 /// Takes the first 4,000 of the boxes of one value each.
-fn takes_each(frontier: &mut Frontier, evens: &[i64]) -> Result<bool, Fail> {
-    for value in evens.iter().take(4000) {
-        if !step(frontier, &[(*value, *value)], &Yes)? {
+fn takes_each(frontier: &mut Frontier) -> Result<bool, Memory> {
+    for half in 0..4000_i64 {
+        let value = half.saturating_mul(2);
+        if !step(frontier, &[(value, value)], &Yes)? {
             return Ok(false);
         }
     }
     Ok(frontier.waiting() == 96)
 }
 
+fn many_hold(frontier: &mut Frontier) -> Result<bool, Memory> {
+    if !splits_off(frontier)? || !takes_each(frontier)? {
+        return Ok(false);
+    }
+    frontier.clear();
+    is_through(frontier)
+}
+
+fn many_boxes_hold(alloc: Global) -> Result<bool, Memory> {
+    match one_cell(alloc, &evens(alloc)?) {
+        Some(cells) => {
+            let mut frontier = Frontier::new(alloc, cells);
+            many_hold(&mut frontier)
+        }
+        None => Ok(false),
+    }
+}
+
 /// One cell of separate values, of which the greatest one is split off again and again: each then waits in a box of its
 /// own, the least one first.
 #[test]
-fn as_many_boxes_as_values(rt: HostRuntime) -> Result<(), Fail> {
-    let alloc = rt.alloc();
-    let evens = evens(alloc)?;
-    let mut frontier = Frontier::new(alloc, box_of(alloc, &[&evens])?);
-    assert!(rt; splits_off(&mut frontier, &evens)?);
-    assert!(rt; takes_each(&mut frontier, &evens)?);
-    frontier.clear();
-    assert!(rt; is_through(&mut frontier)?);
-    Ok(())
+fn as_many_boxes_as_values(rt: HostRuntime) {
+    assert!(rt; many_boxes_hold(rt.alloc()) == Ok(true));
 }

@@ -2,10 +2,9 @@
 
 use super::{Change, ZERO, changed, changed_finish};
 use crate::terms::forward_at;
-use std::alloc::{AllocError, Global};
-use std::test::Fail;
+use std::alloc::Global;
 use ts_automaton::{Automaton, Hull, HullAt, Mark};
-use ts_base::{Ext, Span};
+use ts_base::{Ext, Memory, Span};
 
 /// A series, and the sum of the widths of its peaks.
 static RUNS: [(&[i64], i64); 8] = [
@@ -37,7 +36,7 @@ fn span_of(automaton: &Automaton, series: &[i64]) -> Span {
     automaton.finish_span(at, 9)
 }
 
-fn is_of_peaks(alloc: Global, peak: &Automaton) -> Result<bool, AllocError> {
+fn is_of_peaks(alloc: Global, peak: &Automaton) -> Result<bool, Memory> {
     Ok(
         peak.states() == 3
             && peak.mark() == Mark::Same
@@ -61,12 +60,17 @@ fn first_wrong(peak: &Automaton) -> Option<&'static [i64]> {
     None
 }
 
+/// Whether the automaton of peaks is as it was made, and answers all series.
+fn has_widths(alloc: Global) -> Result<bool, Memory> {
+    match changed(alloc, Change::Nothing)? {
+        Some(peak) => Ok(is_of_peaks(alloc, &peak)? && first_wrong(&peak).is_none()),
+        None => Ok(false),
+    }
+}
+
 #[test]
-fn widths_of_peaks(rt: HostRuntime) -> Result<(), Fail> {
-    let peak = changed(rt.alloc(), Change::Nothing)?.ok_or("typed")?;
-    assert!(rt; is_of_peaks(rt.alloc(), &peak)?);
-    assert_eq!(rt; first_wrong(&peak), None);
-    Ok(())
+fn widths_of_peaks(rt: HostRuntime) {
+    assert!(rt; has_widths(rt.alloc()) == Ok(true));
 }
 
 /// A mark, the span of the values before it, and that after it; the series has three cells.
@@ -112,11 +116,7 @@ fn marked() -> &'static [(Mark, Ext, Ext, Ext, Ext)] {
 fn spans_under_marks(rt: HostRuntime) {
     for (mark, lo, hi, marked_lo, marked_hi) in marked() {
         let span = mark.applied_to_span(Span { lo: *lo, hi: *hi }, 3);
-        assert_eq!(rt;
-            (span.lo, span.hi),
-            (*marked_lo, *marked_hi),
-            "{mark:?} {lo:?} {hi:?}"
-        );
+        assert!(rt; (span.lo, span.hi) == (*marked_lo, *marked_hi), "{mark:?}");
     }
 }
 

@@ -2,7 +2,7 @@
 
 use super::ZERO;
 use super::runs::answers;
-use std::test::Fail;
+use std::alloc::Global;
 use ts_automaton::{difference, difference_span, read};
 use ts_base::{Ext, Span};
 
@@ -94,16 +94,21 @@ fn spans_are_taken_away() -> bool {
 
 #[test]
 fn the_first_less_the_second(rt: HostRuntime) {
-    assert_eq!(rt; first_wrong_difference(), None);
+    assert!(rt; first_wrong_difference().is_none());
     assert!(rt; spans_are_taken_away());
 }
 
-#[test]
-fn answers_of_wide_automata(rt: HostRuntime) -> Result<(), Fail> {
-    for (text, series, number) in runs() {
-        let automaton = read(rt.alloc(), text.as_bytes())?;
-        assert!(rt; automaton.wide());
-        assert!(rt; answers(&automaton, series, *number), "{series:?}");
+/// Whether a text is a wide automaton that answers this number.
+fn answers_so(alloc: Global, text: &str, series: &[i64], number: i64) -> bool {
+    match read(alloc, text.as_bytes()) {
+        Ok(automaton) => automaton.wide() && answers(&automaton, series, number),
+        Err(_) => false,
     }
-    Ok(())
+}
+
+#[test]
+fn answers_of_wide_automata(rt: HostRuntime) {
+    for (text, series, number) in runs() {
+        assert!(rt; answers_so(rt.alloc(), text, series, *number), "{number}");
+    }
 }

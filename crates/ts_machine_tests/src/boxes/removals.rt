@@ -3,9 +3,8 @@
 ghost use Rattle.std.specs.Prelude.{◌≡◌, IsTrue, length};
 ghost use Rattle.ts_domain.specs.BoxSeries.{cell_of};
 
-use super::{Keep, change, goes_back, numbers};
+use super::{Keep, change, goes_back, one_cell};
 use std::alloc::Global;
-use std::test::Fail;
 use ts_base::Memory;
 use ts_domain::Boxed;
 
@@ -36,10 +35,12 @@ fn loss_holds(
     step: i64,
     count: u32,
     stays: i64,
-) -> Result<bool, Fail> {
+) -> Result<bool, Memory> {
     let mut gone = first;
     for _ in 0..count {
-        change(cells, 1, Keep::AllBut(gone), stays)?;
+        if !change(cells, 1, Keep::AllBut(gone), stays)? {
+            return Ok(false);
+        }
         gone = gone.saturating_add(step);
     }
     Ok(
@@ -50,17 +51,25 @@ fn loss_holds(
     )
 }
 
-#[test]
-fn one_number_less_after_the_other(rt: HostRuntime) -> Result<(), Fail> {
-    let ends = evens(rt.alloc())?;
-    let mut cells = Boxed::new(rt.alloc(), &[numbers(rt.alloc(), &ends, &ends)?])?;
+fn losses_hold(cells: &mut Boxed) -> Result<bool, Memory> {
     for (first, step, count, stays) in losses() {
-        assert!(rt;
-            loss_holds(&mut cells, *first, *step, *count, *stays)?,
-            "{first}"
-        );
+        if !loss_holds(cells, *first, *step, *count, *stays)? {
+            return Ok(false);
+        }
     }
-    Ok(())
+    Ok(true)
+}
+
+fn loses_one_after_the_other(alloc: Global) -> Result<bool, Memory> {
+    match one_cell(alloc, &evens(alloc)?) {
+        Some(mut cells) => losses_hold(&mut cells),
+        None => Ok(false),
+    }
+}
+
+#[test]
+fn one_number_less_after_the_other(rt: HostRuntime) {
+    assert!(rt; loses_one_after_the_other(rt.alloc()) == Ok(true));
 }
 
 /// The even numbers up to 8,190.
@@ -98,23 +107,43 @@ fn has_list(cells: &Boxed, wanted: &[i64]) -> bool {
     walk.next().is_none()
 }
 
-#[test]
-fn each_second_number_less(rt: HostRuntime) -> Result<(), Fail> {
-    let alloc = rt.alloc();
-    let all = plain_list(alloc, 0)?;
-    let mut cells = Boxed::new(alloc, &[numbers(alloc, &all, &all)?])?;
+/// The second number of each pair is taken away.
+fn loses_each_second(cells: &mut Boxed) -> Result<bool, Memory> {
     for pair in 0..2000_i64 {
-        change(
-            &mut cells,
-            1,
-            Keep::AllBut(pair.saturating_mul(4).saturating_add(2)),
-            0,
-        )?;
+        let second = pair.saturating_mul(4).saturating_add(2);
+        if !change(cells, 1, Keep::AllBut(second), 0)? {
+            return Ok(false);
+        }
     }
-    assert!(rt; has_list(&cells, &plain_list(alloc, 2000)?));
-    for mark in [1337, 64, 0] {
-        assert!(rt; goes_back(&mut cells, mark));
-        assert!(rt; has_list(&cells, &plain_list(alloc, mark as i64)?));
+    Ok(true)
+}
+
+/// Goes back to where so many pairs had lost their second number.
+fn comes_back(alloc: Global, cells: &mut Boxed, pairs: u16) -> Result<bool, Memory> {
+    let wanted = plain_list(alloc, i64::from(pairs))?;
+    Ok(goes_back(cells, usize::from(pairs)) && has_list(cells, &wanted))
+}
+
+fn second_numbers_hold(alloc: Global, cells: &mut Boxed) -> Result<bool, Memory> {
+    if !loses_each_second(cells)? {
+        return Ok(false);
     }
-    Ok(())
+    for pairs in [2000, 1337, 64, 0] {
+        if !comes_back(alloc, cells, pairs)? {
+            return Ok(false);
+        }
+    }
+    Ok(true)
+}
+
+fn loses_second_numbers(alloc: Global) -> Result<bool, Memory> {
+    match one_cell(alloc, &plain_list(alloc, 0)?) {
+        Some(mut cells) => second_numbers_hold(alloc, &mut cells),
+        None => Ok(false),
+    }
+}
+
+#[test]
+fn each_second_number_less(rt: HostRuntime) {
+    assert!(rt; loses_second_numbers(rt.alloc()) == Ok(true));
 }

@@ -54,12 +54,13 @@ fn bound_holds(
             return Ok(false);
         }
     }
-    let most = worse(alloc, m, Goal::Maximise, p, cells, bound)?;
-    let least = worse(alloc, m, Goal::Minimise, p, cells, bound)?;
-    Ok(
-        most == cuts(Goal::Maximise, Bar::Better(bound), span)
-            && least == cuts(Goal::Minimise, Bar::Better(bound), span),
-    )
+    for goal in GOALS {
+        let cut = cuts(goal, Bar::Better(bound), span);
+        if worse(alloc, m, goal, p, cells, bound)? != cut {
+            return Ok(false);
+        }
+    }
+    Ok(true)
 }
 
 pub(super) fn cell_holds(
@@ -161,10 +162,13 @@ pub(super) fn are_kept(
     requires cell { IsCell p cells.now }
     requires looks { LooksIn (automata_of m.now) cells.now.present }
 {
-    Ok(
-        kept_value(alloc, m, Goal::Maximise, p, cells)? == number(word(written, 0))?
-            && kept_value(alloc, m, Goal::Minimise, p, cells)? == number(word(written, 1))?,
-    )
+    for (place, goal) in [(0, Goal::Maximise), (1, Goal::Minimise)] {
+        let wanted = number(word(written, place))?;
+        if kept_value(alloc, m, goal, p, cells)? != wanted {
+            return Ok(false);
+        }
+    }
+    Ok(true)
 }
 
 /// The spans at the cells below the last one, of a machine that can be split; else none.

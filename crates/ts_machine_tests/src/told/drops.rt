@@ -79,7 +79,24 @@ fn is_drop(found: Option<Removal>, written: &str) -> bool {
     }
 }
 
-/// By requirements on the one term; also where nothing is asked at some cells without a drop.
+/// Whether this is the first drop, also where nothing is asked at some cells without a drop.
+fn drops_so(
+    alloc: Global,
+    m: &Machine,
+    requirements: &[Require],
+    cells: &Boxed,
+    first: &str,
+) -> Result<bool, Fail>
+    requires looks { LooksIn (automata_of m.now) cells.now.present }
+    requires few { length requirements.now < 4000000000 }
+    requires terms { AllByRecursion (λ r. r.term < 1) requirements.now }
+{
+    let found = next_drop(alloc, slice::from_ref(m), requirements, cells)?;
+    let by_kept = drop_by_kept(alloc, m, requirements, cells)?;
+    Ok(is_drop(found, first) && is_drop(by_kept, first))
+}
+
+/// By requirements on the one term.
 pub(super) fn drop_holds(
     alloc: Global,
     m: &Machine,
@@ -90,9 +107,7 @@ pub(super) fn drop_holds(
 {
     let (wanted, first) = written.split_once(':').ok_or("no drop")?;
     let requirements = requirements_of(alloc, wanted, 1).ok_or("no requirements")?;
-    let found = next_drop(alloc, slice::from_ref(m), &requirements, cells)?;
-    let by_kept = drop_by_kept(alloc, m, &requirements, cells)?;
-    Ok(is_drop(found, first) && is_drop(by_kept, first))
+    drops_so(alloc, m, &requirements, cells, first)
 }
 
 /// The automata of the sum, the greatest and the least of the widths of peaks.

@@ -24,7 +24,7 @@ pub(super) fn end(written: &str, e: Ext) -> Option<Ext> {
         "e" => Some(e),
         "-inf" => Some(Ext::NegInf),
         "+inf" => Some(Ext::PosInf),
-        number => number.parse::<i64>().ok().map(Ext::Int),
+        number => Some(Ext::Int(number.parse::<i64>().ok()?)),
     }
 }
 
